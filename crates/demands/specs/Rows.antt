@@ -1,0 +1,287 @@
+-- Every row of the table of refusals, by computation: on the model and on the calls' definitions where a formatted store can give it, and 3 and 19 on
+-- areas that no run left.
+use mathlib.Core.Path.{_≡_, refl}
+use mathlib.Core.Option.{none, some}
+use mathlib.Core.List.{List, [], _∷_}
+use Prim.Native.Nat.{ℕ}
+use lib.ListN.{replicate}
+use Rattle.tree.specs.Register.{noRecord}
+use Rattle.tree.specs.declared.Record.{Record}
+use Rattle.versions.specs.declared.Store.{Store}
+use Rattle.versions.specs.Answers.{
+  Call,
+  BEGIN,
+  PUT,
+  WRITE,
+  APPEND,
+  WEAVE,
+  PUBLISH,
+  READ,
+  SIZE,
+  RECENT,
+  STAMP,
+  VIEW,
+  Answer,
+  refused,
+  ticketIs,
+  putDone,
+  versionIs,
+  nodeIs,
+  publishedIs,
+  waiting,
+  filled,
+  sizeIs,
+  recentIs,
+  stampIs,
+  partIs,
+  Outcome,
+  says,
+}
+use Rattle.demands.specs.Model.{Limits, Model, noModel, onModel}
+use Rattle.versions.specs.Calls.{Areas, fresh, formatNumber, withTicketPart, withPut}
+use Rattle.demands.specs.Computes.{computes}
+use Rattle.demands.specs.Run.{State, onStore, run, outcomes, formattedState, storeAfter}
+
+abbrev pub page : List ℕ
+page = replicate 16 5
+
+abbrev no : ℕ → Outcome
+no k = says (refused k)
+
+-- READ's refusal leaves the buffer.
+abbrev noRead : ℕ → List ℕ → Outcome
+noRead k buffer = record { answer = refused k; buffer = buffer }
+
+-- ---- rows 1 to 3, FORMAT
+
+-- Areas for a page size and capacities, and what FORMAT of them says.
+abbrev areasFor : ℕ → ℕ → ℕ → Areas
+areasFor bytes numbers records = record { pages = replicate bytes 1; nodes = replicate numbers 1; register = replicate records noRecord }
+
+pub format-rows :
+    (formatNumber (fresh 0 4 8 2) (areasFor 0 16 2) ∷ formatNumber (fresh 17 4 8 2) (areasFor 68 16 2) ∷ formatNumber (fresh 8 4 8 2) (areasFor 32 16 2)
+    ∷ formatNumber (fresh 8192 0 8 2) (areasFor 0 16 2) ∷ formatNumber (fresh 16 0 8 2) (areasFor 0 16 2) ∷ formatNumber (fresh 16 65536 8 2) (areasFor 0 16 2)
+    ∷ formatNumber (fresh 16 4 0 2) (areasFor 64 0 2) ∷ formatNumber (fresh 16 4 131073 2) (areasFor 64 0 2) ∷ formatNumber (fresh 16 4 8 0) (areasFor 64 16 0)
+    ∷ formatNumber (fresh 16 4 8 4097) (areasFor 64 16 2) ∷ formatNumber (fresh 16 4 8 2) (areasFor 63 16 2) ∷ formatNumber (fresh 16 4 8 2) (areasFor 64 15 2)
+    ∷ formatNumber (fresh 16 4 8 2) (areasFor 64 16 3) ∷ formatNumber (fresh 16 4 8 2) (areasFor 64 16 2) ∷ formatNumber (fresh 4096 65535 131072 4096) (areasFor 0 0 0) ∷ [])
+    ≡ (1 ∷ 1 ∷ 1 ∷ 1 ∷ 2 ∷ 2 ∷ 2 ∷ 2 ∷ 2 ∷ 2 ∷ 3 ∷ 3 ∷ 3 ∷ 0 ∷ 3 ∷ [])
+unfolding computes
+format-rows = refl
+
+-- ---- rows 4 to 18, but 14, in one run
+
+unfoldable pub limits : Limits
+limits = record { size = 16; pages = 5; nodes = 6; updates = 3 }
+
+unfoldable pub areas : Areas
+areas = areasFor 80 12 3
+
+unfoldable pub calls : List Call
+calls =
+    BEGIN 0
+    ∷ BEGIN 65
+    ∷ BEGIN 6
+    ∷ PUT 1 0 page
+    ∷ WEAVE 0
+    ∷ WRITE 1 0
+    ∷ BEGIN 2
+    ∷ WEAVE 1
+    ∷ PUT 1 2 page
+    ∷ PUT 1 0 (replicate 15 5)
+    ∷ PUT 1 0 page
+    ∷ PUT 1 0 page
+    ∷ APPEND 1
+    ∷ PUT 1 1 page
+    ∷ WRITE 1 1
+    ∷ APPEND 1
+    ∷ PUT 1 0 page
+    ∷ WRITE 1 0
+    ∷ READ 1 0 1 (9 ∷ [])
+    ∷ SIZE 1
+    ∷ STAMP 1 0
+    ∷ VIEW 1 0
+    ∷ WEAVE 1
+    ∷ WEAVE 1
+    ∷ PUBLISH
+    ∷ WEAVE 1
+    ∷ WEAVE 1
+    ∷ PUBLISH
+    ∷ PUBLISH
+    ∷ READ 1 31 2 (9 ∷ 9 ∷ [])
+    ∷ READ 1 0 3 (9 ∷ 9 ∷ [])
+    ∷ READ 1 31 1 (9 ∷ 9 ∷ [])
+    ∷ STAMP 1 2
+    ∷ VIEW 1 2
+    ∷ READ 0 0 0 (9 ∷ [])
+    ∷ READ 0 1 0 (9 ∷ [])
+    ∷ SIZE 0
+    ∷ BEGIN 1
+    ∷ PUT 2 0 page
+    ∷ WRITE 2 2
+    ∷ BEGIN 1
+    ∷ PUT 3 0 page
+    ∷ APPEND 3
+    ∷ BEGIN 1
+    ∷ RECENT
+    ∷ []
+
+unfoldable pub given : List Outcome
+given =
+    no 4
+    ∷ no 4
+    ∷ no 6
+    ∷ no 7
+    ∷ no 7
+    ∷ no 7
+    ∷ says (ticketIs 1)
+    ∷ no 8
+    ∷ no 9
+    ∷ no 11
+    ∷ says putDone
+    ∷ no 10
+    ∷ no 12
+    ∷ says putDone
+    ∷ no 13
+    ∷ says (versionIs 1 3)
+    ∷ no 8
+    ∷ no 8
+    ∷ noRead 16 (9 ∷ [])
+    ∷ no 16
+    ∷ no 16
+    ∷ says (partIs [])
+    ∷ says (nodeIs 1 0 2 1 1 2)
+    ∷ says (nodeIs 1 0 1 0 0 1)
+    ∷ says waiting
+    ∷ says (nodeIs 1 1 1 1 0 0)
+    ∷ no 8
+    ∷ says (publishedIs 1)
+    ∷ says waiting
+    ∷ noRead 17 (9 ∷ 9 ∷ [])
+    ∷ noRead 18 (9 ∷ 9 ∷ [])
+    ∷ record { answer = filled; buffer = 5 ∷ 9 ∷ [] }
+    ∷ no 17
+    ∷ says (partIs [])
+    ∷ record { answer = filled; buffer = 9 ∷ [] }
+    ∷ noRead 17 (9 ∷ [])
+    ∷ says (sizeIs 0)
+    ∷ says (ticketIs 2)
+    ∷ says putDone
+    ∷ says (versionIs 2 3)
+    ∷ says (ticketIs 3)
+    ∷ says putDone
+    ∷ no 15
+    ∷ no 5
+    ∷ says (recentIs 1)
+    ∷ []
+
+pub rows-by-model : outcomes (onModel limits) noModel calls ≡ given
+unfolding computes limits calls given
+rows-by-model = refl
+
+pub rows-by-calls : outcomes onStore (formattedState limits areas) calls ≡ given
+unfolding computes limits areas calls given
+rows-by-calls = refl
+
+-- ---- row 14: a blob of 4,096 pages, given (64 updates of 64 pages lead there). Ticket 1 has one page, put; version 1 is ticket 2's.
+
+unfoldable pub fullLimits : Limits
+fullLimits = record { size = 16; pages = 5; nodes = 20; updates = 2 }
+
+unfoldable pub fullModel : Model
+fullModel = record {
+  tickets = record { slots = some page ∷ []; woven = 0 } ∷ record { slots = some page ∷ []; woven = 0 } ∷ [];
+  versions = record { ticket = 2; f = 0; size = 4096 } ∷ [];
+  published = 0;
+}
+
+unfoldable pub fullState : State
+fullState = record {
+  store = record {
+    size = 16;
+    pages = 5;
+    nodes = 20;
+    updates = 2;
+    tickets = record { 0 = 2 };
+    taken = 2;
+    assigned = record { 0 = 1 };
+    places = 1;
+    published = record { 0 = 0 };
+    blob = 4096;
+  };
+  areas = record {
+    pages = replicate 80 5;
+    nodes = replicate 40 0;
+    register = withPut (withTicketPart noRecord 1 0) 0 ∷ noRecord ∷ [];
+  };
+}
+
+-- An append and a write past 4,096 pages are refused, a write of the last page has 13 nodes.
+pub row14-by-model : (outcomes (onModel fullLimits) fullModel (APPEND 1 ∷ WRITE 1 4097 ∷ []) ≡ (no 14 ∷ no 13 ∷ []))
+unfolding computes fullLimits fullModel
+row14-by-model = refl
+
+pub row14-by-calls : (outcomes onStore fullState (APPEND 1 ∷ WRITE 1 4097 ∷ WRITE 1 4095 ∷ []) ≡ (no 14 ∷ no 13 ∷ says (versionIs 2 13) ∷ []))
+unfolding computes fullState
+row14-by-calls = refl
+
+-- ---- rows 3 and 19 on areas that no run left
+
+-- The state that `calls` leave, with other areas.
+abbrev damaged : (Areas → Areas) → State
+damaged g = let x = storeAfter limits areas calls in record { store = x .store; areas = g (x .areas) }
+
+-- What every call says where an area's length differs.
+abbrev each : List Call
+each = BEGIN 0 ∷ PUT 9 0 [] ∷ WRITE 9 0 ∷ APPEND 9 ∷ WEAVE 9 ∷ PUBLISH ∷ READ 9 0 1 [] ∷ SIZE 9 ∷ RECENT ∷ STAMP 9 0 ∷ VIEW 9 0 ∷ []
+
+abbrev threes : List Outcome
+threes = no 3 ∷ no 3 ∷ no 3 ∷ no 3 ∷ no 3 ∷ no 3 ∷ no 3 ∷ no 3 ∷ no 3 ∷ no 3 ∷ says (partIs []) ∷ []
+
+pub row3 :
+    outcomes onStore (damaged (λ a. record { pages = 1 ∷ a .pages; nodes = a .nodes; register = a .register })) each ≡ threes
+    × outcomes onStore (damaged (λ a. record { pages = a .pages; nodes = 1 ∷ a .nodes; register = a .register })) each ≡ threes
+    × outcomes onStore (damaged (λ a. record { pages = a .pages; nodes = a .nodes; register = noRecord ∷ a .register })) each ≡ threes
+unfolding computes limits areas calls
+row3 = (refl, refl, refl)
+
+-- The calls that walk version 1's tree, and a READ of no byte, which does not.
+abbrev walks : List Call
+walks = READ 1 16 1 (9 ∷ []) ∷ STAMP 1 1 ∷ VIEW 1 1 ∷ READ 1 16 0 (9 ∷ []) ∷ []
+
+abbrev lost : List Outcome
+lost = noRead 19 (9 ∷ []) ∷ no 19 ∷ says (partIs []) ∷ record { answer = filled; buffer = 9 ∷ [] } ∷ []
+
+-- A node not stored; a child version that has no such node; a page number past the page area.
+pub row19-walks :
+    outcomes onStore (damaged (λ a. record { pages = a .pages; nodes = replicate 12 4294967295; register = a .register })) walks ≡ lost
+    × outcomes onStore (damaged (λ a. record { pages = a .pages; nodes = 1 ∷ 2 ∷ replicate 10 0; register = a .register })) walks ≡ lost
+    × outcomes onStore (damaged (λ a. record { pages = a .pages; nodes = 1 ∷ 1 ∷ 5 ∷ 0 ∷ 5 ∷ 0 ∷ replicate 6 0; register = a .register })) walks ≡ lost
+unfolding computes limits areas calls
+row19-walks = (refl, refl, refl)
+
+-- A store that says more tickets and versions than the register has records.
+unfoldable pub overrun : State
+overrun =
+    let s = storeAfter limits areas calls .store in
+    record {
+      store = record {
+        size = s .size;
+        pages = s .pages;
+        nodes = s .nodes;
+        updates = s .updates;
+        tickets = record { 0 = 9 };
+        taken = s .taken;
+        assigned = record { 0 = 9 };
+        places = s .places;
+        published = record { 0 = 8 };
+        blob = s .blob;
+      };
+      areas = storeAfter limits areas calls .areas;
+    }
+
+-- A record past the register; the rows that need no record still come first.
+pub row19-records :
+    outcomes onStore overrun (PUT 9 0 [] ∷ PUT 9 0 page ∷ WRITE 9 4 ∷ WRITE 9 0 ∷ WRITE 3 0 ∷ WEAVE 9 ∷ PUBLISH ∷ SIZE 8 ∷ READ 8 0 1 [] ∷ READ 8 0 0 [] ∷ STAMP 8 0 ∷ [])
+    ≡ (no 11 ∷ no 19 ∷ no 13 ∷ no 19 ∷ no 15 ∷ no 19 ∷ no 19 ∷ no 19 ∷ no 18 ∷ no 19 ∷ no 19 ∷ [])
+unfolding computes limits areas calls overrun
+row19-records = refl

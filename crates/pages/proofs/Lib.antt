@@ -1,0 +1,5 @@
+pub mod Capped
+pub mod CopyTurn
+pub mod PartLaws
+pub mod Product
+pub mod PutLaws

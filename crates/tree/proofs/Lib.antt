@@ -1,0 +1,17 @@
+pub mod Meets
+pub mod Count
+pub mod At
+pub mod Below
+pub mod First
+pub mod Place
+pub mod Descent
+pub mod Spans
+pub mod Ones
+pub mod Index
+pub mod Root
+pub mod Newest
+pub mod Area
+pub mod Records
+pub mod Walkgen
+pub mod Walk
+pub mod Weaving

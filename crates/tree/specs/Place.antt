@@ -1,0 +1,28 @@
+-- Where a node stands in its version's weaving order, by descent from the root with counts, and which node stands at an index.
+use mathlib.Core.Bool.{Bool, true, false}
+use Prim.Native.Nat.{ℕ, zero, suc, _+_, _-_, _*_, _/_, _^_, min}
+use lib.Dec.{ltb, leb}
+use Rattle.tree.specs.Tree.{Node, node, meets, count}
+
+-- The nodes at and below (a, h) that meet f .. l: the count for the part of f .. l inside, its pages numbered from a.
+unfoldable pub below : ℕ → ℕ → ℕ → ℕ → ℕ
+below f l a h = elim (meets f l a (2 ^ h)) [ true ↦ count (f - a) (min (l - a) (2 ^ h - 1)) h | false ↦ 0 ]
+
+-- The node at an index of the weaving order of (a, h): itself, or one of the left half, or, past those, one of the right half.
+unfoldable pub kth : ℕ → ℕ → ℕ → ℕ → ℕ → Node
+kth f l a zero i = node a 0
+kth f l a (suc h) zero = node a (suc h)
+kth f l a (suc h) (suc i) = elim (ltb i (below f l a h)) [ true ↦ kth f l a h i | false ↦ kth f l (a + 2 ^ h) h (i - below f l a h) ]
+
+-- The first page of the node of height h over page p.
+unfoldable pub first : ℕ → ℕ → ℕ
+first p h = p / 2 ^ h * 2 ^ h
+
+-- The index, in the weaving order of (a, h), of the node of height j over page p.
+unfoldable pub index : ℕ → ℕ → ℕ → ℕ → ℕ → ℕ → ℕ
+index f l a zero p j = 0
+index f l a (suc h) p j =
+    elim (ltb h j) [
+      | true ↦ 0
+      | false ↦ elim (ltb p (a + 2 ^ h)) [ true ↦ suc (index f l a h p j) | false ↦ suc (below f l a h + index f l (a + 2 ^ h) h p j) ]
+    ]

@@ -1,0 +1,370 @@
+// The tree of a version: spans, the nodes that an update makes, the node area, and the register of updates.
+ghost use mathlib.Core.Path.{_≡_};
+ghost use Prim.Native.Nat.{ℕ, _+_, _-_, _*_, _^_, _<_, _≤_, min, max};
+ghost use lib.Count.{ones};
+ghost use lib.ListN.{length, getD};
+ghost use Rattle.tree.specs.Tree.{rootHeight, meets, nth};
+ghost use Rattle.tree.specs.Place.{below};
+ghost use Rattle.tree.specs.NodeArea.{nodeAt, withNode};
+ghost use Rattle.tree.specs.Register.{noRecord, limited, updateOf, extentOf, withRecord, newestIn};
+ghost use Rattle.tree.specs.Contract.{rootSpan, nodesFor, Pages, Counted, Indexed, Part, Spans, Kth};
+
+// A version, a page's index in the blob and a ticket are counters of different sorts, and each has a type of its own.
+pub struct Version(pub u64);
+
+pub struct PageIndex(pub u64);
+
+pub struct Ticket(pub u64);
+
+// A record of the register: the k-th ticket's part and the k-th version's part. Tickets and versions are given in different orders, each up to
+// the number of updates, so both parts fit and each is found in one step.
+#[repr(C)]
+pub struct Record {
+    // The ticket's pages, its first page number, which pages are put (bit i for page i), and its version (0: none yet).
+    pub n: u64,
+    pub number: u64,
+    pub put: u64,
+    pub version: Version,
+    // The version's ticket, first and last page, size in pages after it, first node place, and how many of its nodes are woven.
+    pub ticket: Ticket,
+    pub f: PageIndex,
+    pub last: PageIndex,
+    pub size: u64,
+    pub place: u64,
+    pub woven: u64,
+}
+
+// What stands at a node place: a node's two numbers, or no node.
+pub enum NodeAt {
+    Stored(u32, u32),
+    Missing,
+}
+
+// Where a walk ends: at a leaf, with its version and its page number, or at a node that is not there.
+pub enum Found {
+    Leaf(Version, u64),
+    Lost,
+}
+
+// An update within the limits: its first and last page, and the size in pages after it.
+pub struct Extent {
+    pub f: PageIndex,
+    pub last: PageIndex,
+    pub size: u64,
+}
+
+// The name of a node: its first page and its span.
+pub struct Named {
+    pub first: PageIndex,
+    pub span: u64,
+}
+
+// The number that a place of the node area holds twice where no node is stored.
+const NO_NODE: u32 = 4294967295;
+
+// The most pages that an update has.
+const MOST_UPDATED: u64 = 64;
+
+// The most pages that a blob has, and the last page of such a blob.
+const MOST_PAGES: u64 = 4096;
+
+const LAST_PAGE: u64 = 4095;
+
+// The span of a height.
+fn span_of(height: u64) -> u64
+    requires { ⌜ height < 64 ⌝ }
+    ensures { λ r. ⌜ r ≡ 2 ^ height ⌝ }
+{
+    1u64 << height
+}
+
+// The height of a span, which is a power of two: the number below it has as many one bits.
+pub fn height_of(span: u64) -> u64
+    requires { ⌜ 0 < span ⌝ }
+    ensures { λ r. ⌜ ((h : ℕ) → span ≡ 2 ^ h → r ≡ h) ⌝ }
+{
+    u64::count_ones(span - 1) as u64
+}
+
+// The height of the root for a size in pages: the length in bits of the last page's number.
+pub fn root_height(size: u64) -> u64
+    ensures { λ r. ⌜ r ≡ rootHeight size ⌝ }
+{
+    if size == 0 {
+        0
+    } else {
+        64 - u64::leading_zeros(size - 1) as u64
+    }
+}
+
+// The span of the root for a size in pages: the smallest power of two not below it, or 0 for a size that no tree has.
+pub fn root_span(size: u64) -> u64
+    ensures { λ r. ⌜ r ≡ rootSpan size ⌝ }
+{
+    if size == 0 {
+        0
+    } else if size > MOST_PAGES {
+        0
+    } else {
+        span_of(root_height(size))
+    }
+}
+
+// x + x / 2 + x / 4 + .., for an x that is not too large to double.
+fn halvings(x: u64) -> u64
+    requires { ⌜ x < 2 ^ 63 ⌝ }
+    ensures { λ r. ⌜ r + ones x ≡ 2 * x ⌝ }
+{
+    2 * x - u64::count_ones(x) as u64
+}
+
+// The number of nodes of an update of the pages f .. last, in a tree whose root has this height.
+pub fn node_count(f: PageIndex, last: PageIndex, height: u64) -> u64
+    requires { ⌜ Pages (f .0) (last .0) height ⌝ }
+    ensures { λ r. ⌜ Counted (f .0) (last .0) height r ⌝ }
+{
+    halvings(last.0) - halvings(f.0) + height + 1
+}
+
+// The index, in weaving order, of the node at a first page and height, in an update whose first page is f.
+pub fn node_index(f: PageIndex, height: u64, first: PageIndex, node_height: u64) -> u64
+    requires { ⌜ («node_height» ≤ height) × (height ≤ 64) × (first .0 < 2 ^ 62) ⌝ }
+    ensures { λ r. ⌜ Indexed (f .0) height (first .0) «node_height» r ⌝ }
+{
+    let over = height - node_height;
+    if first.0 <= f.0 {
+        over
+    } else {
+        over + (halvings(first.0) - halvings(f.0))
+    }
+}
+
+// Whether some page of f .. last lies among the span pages from first on.
+pub fn range_meets(f: PageIndex, last: PageIndex, first: PageIndex, span: u64) -> bool
+    requires { ⌜ first .0 + span < 2 ^ 64 ⌝ }
+    ensures { λ r. ⌜ r ≡ meets (f .0) (last .0) (first .0) span ⌝ }
+{
+    f.0 < first.0 + span && first.0 <= last.0
+}
+
+// x - y, or 0 where that is below 0.
+fn saturating_sub(x: u64, y: u64) -> u64
+    ensures { λ r. ⌜ r ≡ x - y ⌝ }
+{
+    if x < y { 0 } else { x - y }
+}
+
+// The smaller of two numbers.
+fn smaller(a: u64, b: u64) -> u64
+    ensures { λ r. ⌜ r ≡ min a b ⌝ }
+{
+    if a < b { a } else { b }
+}
+
+// The larger of two numbers.
+fn larger(a: u64, b: u64) -> u64
+    ensures { λ r. ⌜ r ≡ max a b ⌝ }
+{
+    if a < b { b } else { a }
+}
+
+// The number of nodes of an update of the pages f .. last at and below a node.
+fn count_below(f: PageIndex, last: PageIndex, first: PageIndex, height: u64) -> u64
+    requires { ⌜ Part (f .0) (last .0) (first .0) height ⌝ }
+    ensures { λ r. ⌜ r ≡ below (f .0) (last .0) (first .0) height ⌝ }
+{
+    let span = span_of(height);
+    if range_meets(f, last, first, span) {
+        let from = saturating_sub(f.0, first.0);
+        let to = smaller(last.0 - first.0, span - 1);
+        node_count(PageIndex(from), PageIndex(to), height)
+    } else {
+        0
+    }
+}
+
+// The node of an update of the pages f .. last that stands at index k in the weaving order of the node at first with this span,
+// which halves at each call.
+pub fn kth(f: PageIndex, last: PageIndex, first: PageIndex, span: u64, k: u64) -> Named
+    requires { ⌜ Spans (f .0) (last .0) (first .0) span ⌝ }
+    ensures { λ r. ⌜ Kth (f .0) (last .0) (first .0) span k (r .first .0) (r .span) ⌝ }
+{
+    if span < 2 {
+        Named { first, span }
+    } else if k == 0 {
+        Named { first, span }
+    } else {
+        let half = span / 2;
+        let left = count_below(f, last, first, height_of(half));
+        if k - 1 < left {
+            kth(f, last, first, half, k - 1)
+        } else {
+            let right = first.0 + half;
+            kth(f, last, PageIndex(right), half, k - 1 - left)
+        }
+    }
+}
+
+// What stands at a node place: its two numbers, or no node where both are all ones or the place is past the area's end.
+pub fn node_at(nodes: &[u32], place: u64) -> NodeAt
+    ensures { λ r. ⌜ r ≡ nodeAt (now (nodes .entry)) place ⌝ }
+{
+    let q = place as usize;
+    if q >= nodes.len() / 2 {
+        return NodeAt::Missing;
+    }
+    let left = nodes[2 * q];
+    let right = nodes[2 * q + 1];
+    if left == NO_NODE && right == NO_NODE {
+        NodeAt::Missing
+    } else {
+        NodeAt::Stored(left, right)
+    }
+}
+
+// Stores a node's two numbers at a place; past the area's end it stores nothing.
+pub fn store_node(nodes: &mut [u32], place: u64, left: u32, right: u32)
+    ensures { λ _. ⌜ now (nodes .exit) ≡ withNode (now (nodes .entry)) place left right ⌝ }
+{
+    let q = place as usize;
+    if q >= nodes.len() / 2 {
+        return;
+    }
+    nodes[2 * q] = left;
+    nodes[2 * q + 1] = right;
+}
+
+// Pages and a size brought within the limits: f <= last < size <= 4,096.
+pub fn within_limits(f: PageIndex, last: PageIndex, size: u64) -> Extent
+    ensures { λ e. ⌜ e ≡ extentOf (limited (f .0) (last .0) size) ⌝ }
+{
+    let from = smaller(f.0, LAST_PAGE);
+    let to = larger(from, smaller(last.0, LAST_PAGE));
+    let pages = larger(to + 1, smaller(size, LAST_PAGE + 1));
+    Extent {
+        f: PageIndex(from),
+        last: PageIndex(to),
+        size: pages,
+    }
+}
+
+// What a record says of an update.
+pub fn extent_of(r: Record) -> Extent
+    ensures { λ e. ⌜ e ≡ extentOf (updateOf r) ⌝ }
+{
+    within_limits(r.f, r.last, r.size)
+}
+
+// Whether a record's update meets the `span` pages from `first` on.
+pub fn record_meets(r: Record, first: PageIndex, span: u64) -> bool
+    requires { ⌜ first .0 + span < 2 ^ 64 ⌝ }
+    ensures { λ b. ⌜ b ≡ meets (updateOf r .f) (updateOf r .last) (first .0) span ⌝ }
+{
+    let e = extent_of(r);
+    range_meets(e.f, e.last, first, span)
+}
+
+// The empty record.
+pub fn no_record() -> Record
+    ensures { λ r. ⌜ r ≡ noRecord ⌝ }
+{
+    Record {
+        n: 0,
+        number: 0,
+        put: 0,
+        version: Version(0),
+        ticket: Ticket(0),
+        f: PageIndex(0),
+        last: PageIndex(0),
+        size: 0,
+        place: 0,
+        woven: 0,
+    }
+}
+
+// How many records the register has room for.
+pub fn register_len(register: &[Record]) -> usize
+    ensures { λ r. ⌜ r ≡ length (now (register .entry)) ⌝ }
+{
+    register.len()
+}
+
+// The record at an index, and the empty one past the register's end.
+pub fn record_at(register: &[Record], i: usize) -> Record
+    ensures { λ r. ⌜ r ≡ getD (now (register .entry)) i noRecord ⌝ }
+{
+    if i < register.len() {
+        register[i]
+    } else {
+        no_record()
+    }
+}
+
+// The k-th ticket's record, or the k-th version's, counted from 1; the empty one where there is none.
+pub fn record_of(register: &[Record], k: u64) -> Record
+    ensures { λ r. ⌜ r ≡ nth noRecord (now (register .entry)) k ⌝ }
+{
+    if k == 0 {
+        no_record()
+    } else {
+        record_at(register, (k - 1) as usize)
+    }
+}
+
+// Writes the record at an index; past the register's end nothing changes.
+pub fn set_record(register: &mut [Record], i: usize, r: Record)
+    ensures { λ _. ⌜ now (register .exit) ≡ withRecord (now (register .entry)) i r ⌝ }
+{
+    if i < register.len() {
+        register[i] = r;
+    }
+}
+
+// The newest version up to `below` whose update meets the `span` pages from `first` on, or 0.
+pub fn newest_update(register: &[Record], below: Version, first: PageIndex, span: u64) -> Version
+    requires { ⌜ (below .0 ≤ length (now register)) × (first .0 + span < 2 ^ 64) ⌝ }
+    ensures { λ r. ⌜ r ≡ newestIn (now (register .entry)) below first span ⌝ }
+{
+    let mut v = below.0;
+    while v > 0 {
+        let older = v - 1;
+        if record_meets(record_at(register, older as usize), first, span) {
+            return Version(v);
+        }
+        v = older;
+    }
+    Version(0)
+}
+
+// For C: the span of the root for a size in pages, or 0.
+#[no_mangle]
+pub extern "C" fn pit_root_span(size: u64) -> u64
+    ensures { λ r. ⌜ r ≡ rootSpan size ⌝ }
+{
+    root_span(size)
+}
+
+// For C: the node count of an update of n pages from f on that leaves the blob at a size in pages, or 0 where there is no such update.
+#[no_mangle]
+pub extern "C" fn pit_node_count(f: u64, n: u64, size: u64) -> u64
+    ensures { λ r. ⌜ r ≡ nodesFor f n size ⌝ }
+{
+    if n == 0 {
+        return 0;
+    }
+    if n > MOST_UPDATED {
+        return 0;
+    }
+    if size > MOST_PAGES {
+        return 0;
+    }
+    if n > size {
+        return 0;
+    }
+    let latest = size - n;
+    if f > latest {
+        return 0;
+    }
+    let last = f + n - 1;
+    node_count(PageIndex(f), PageIndex(last), root_height(size))
+}

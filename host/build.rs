@@ -1,0 +1,34 @@
+//! Links the proved static library, `libtree.a`: from the folder that `PIT_LIB_DIR` names, else from
+//! `target/staticlib` at the top of the repository, where `rt staticlib tree` writes it.
+
+use std::env;
+use std::path::{Path, PathBuf};
+
+fn main() {
+    let variable = |name: &str| env::var(name).unwrap_or_else(|e| panic!("{name}: {e}"));
+    let folder = match env::var_os("PIT_LIB_DIR") {
+        Some(named) => PathBuf::from(named),
+        None => Path::new(&variable("CARGO_MANIFEST_DIR")).join("../target/staticlib"),
+    };
+    let library = folder.join("libtree.a");
+    println!("cargo:rerun-if-env-changed=PIT_LIB_DIR");
+    println!("cargo:rerun-if-changed={}", library.display());
+
+    let (processor, system) = (
+        variable("CARGO_CFG_TARGET_ARCH"),
+        variable("CARGO_CFG_TARGET_OS"),
+    );
+    if (processor.as_str(), system.as_str()) != ("x86_64", "linux") {
+        panic!(
+            "libtree.a is compiled for x86-64 Linux, and this build is for {processor} {system}"
+        );
+    }
+    if !library.is_file() {
+        panic!(
+            "{} is missing: run ./test, or `rt staticlib tree`, at the top of the repository",
+            library.display()
+        );
+    }
+    println!("cargo:rustc-link-search=native={}", folder.display());
+    println!("cargo:rustc-link-lib=static=tree");
+}
