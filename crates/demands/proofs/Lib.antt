@@ -1,2 +1,12 @@
 pub mod Image
 pub mod Sound
+pub mod Updates
+pub mod Joined
+pub mod Blob
+pub mod Stay
+pub mod Trees
+pub mod Free
+pub mod Nth
+pub mod Runs
+pub mod Grows
+pub mod Reached

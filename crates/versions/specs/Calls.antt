@@ -7,7 +7,7 @@ use Prim.Native.Nat.{ℕ, zero, suc, pred, _+_, _-_, _*_, _/_, _%_, _^_, min, ma
 use lib.Dec.{ltb, leb, eqb}
 use lib.ListN.{length, getD, replicate, take, drop}
 use Rattle.pages.specs.Pages.{put, part}
-use Rattle.tree.specs.Tree.{Update, Node, node, countOf, nth, update, newest, sizeAt, heightOf, rootHeight}
+use Rattle.tree.specs.Tree.{Update, Node, node, countOf, nth, newest, rootHeight}
 use Rattle.tree.specs.Place.{kth}
 use Rattle.tree.specs.NodeArea.{allOnes, withNode}
 use Rattle.tree.specs.Walk.{walkBy, placeOf}
@@ -70,6 +70,9 @@ pub record Areas : Type 0 where
   pub nodes : List ℕ
   pub register : List Record
 
+abbrev pub areasOf : List ℕ → List ℕ → List Record → Areas
+areasOf pages nodes register = record { pages = pages; nodes = nodes; register = register }
+
 abbrev pub lengthsOf : Areas → Lengths
 lengthsOf a = record { pages = length (a .pages); nodes = length (a .nodes); register = length (a .register) }
 
@@ -108,7 +111,7 @@ formatted zero s = Formatted.Made s
 formatted (suc k) s = Formatted.Refused (suc k)
 
 -- What FORMAT answers of the store that it would make; the areas as it leaves them: pages of 0, nodes of all ones (not stored), empty records.
-unfoldable pub formatAnswer : Store → Areas → Formatted
+abbrev pub formatAnswer : Store → Areas → Formatted
 formatAnswer s a = formatted (formatNumber s a) s
 
 abbrev pub formatAreas : Store → Areas → Areas
@@ -160,13 +163,14 @@ withTicketPart r n number = record {
   woven = r .woven;
 }
 
-unfoldable pub beginOut : Store → Areas → ℕ → BeginOut
-beginOut s a n = record {
-  store = unless (beginNumber s a n) s (withTicket s n);
-  answer = begun (beginNumber s a n) (suc (s .tickets .0));
-}
+-- What BEGIN gives back, by the table's number k.
+abbrev pub begunBy : Store → ℕ → ℕ → BeginOut
+begunBy s n k = record { store = unless k s (withTicket s n); answer = begun k (suc (s .tickets .0)) }
 
-unfoldable pub beginRegister : Store → Areas → ℕ → List Record
+abbrev pub beginOut : Store → Areas → ℕ → BeginOut
+beginOut s a n = begunBy s n (beginNumber s a n)
+
+abbrev pub beginRegister : Store → Areas → ℕ → List Record
 beginRegister s a n =
     unless (beginNumber s a n) (a .register)
     (withRecord (a .register) (s .tickets .0) (withTicketPart (getD (a .register) (s .tickets .0) noRecord) n (s .taken)))
@@ -219,13 +223,13 @@ withPut r i = record {
   woven = r .woven;
 }
 
-unfoldable pub putOut : Store → Areas → ℕ → ℕ → List ℕ → PutIn
+abbrev pub putOut : Store → Areas → ℕ → ℕ → List ℕ → PutIn
 putOut s a t i bytes = putIn (putNumber s a t i bytes)
 
-unfoldable pub putPages : Store → Areas → ℕ → ℕ → List ℕ → List ℕ
+abbrev pub putPages : Store → Areas → ℕ → ℕ → List ℕ → List ℕ
 putPages s a t i bytes = unless (putNumber s a t i bytes) (a .pages) (put (a .pages) (s .size * numberOf a t i) bytes)
 
-unfoldable pub putRegister : Store → Areas → ℕ → ℕ → List ℕ → List Record
+abbrev pub putRegister : Store → Areas → ℕ → ℕ → List ℕ → List Record
 putRegister s a t i bytes = unless (putNumber s a t i bytes) (a .register) (withRecord (a .register) (pred t) (withPut (recordOf a t) i))
 
 -- ---- ASSIGN ticket, as a write at page f; an append is a write at the size of the last assigned version
@@ -322,13 +326,16 @@ assignedRegister s a t f =
     withRecord rs (s .assigned .0)
     (withVersionPart (getD rs (s .assigned .0) noRecord) t f (f + r .n - 1) (sizeAfter s f (r .n)) (s .places))
 
-unfoldable pub assignOut : Store → Areas → ℕ → ℕ → AssignOut
-assignOut s a t f =
-    let k = assignNumber s a t f in
-    let count = countOf (updateAt s f (recordOf a t .n)) in
-    record { store = unless k s (withVersion s count (sizeAfter s f (recordOf a t .n))); answer = assigned k (suc (s .assigned .0)) count }
+-- What ASSIGN gives back for n pages at page f, by the table's number k.
+abbrev pub assignedBy : Store → ℕ → ℕ → ℕ → AssignOut
+assignedBy s f n k =
+    let count = countOf (updateAt s f n) in
+    record { store = unless k s (withVersion s count (sizeAfter s f n)); answer = assigned k (suc (s .assigned .0)) count }
 
-unfoldable pub assignRegister : Store → Areas → ℕ → ℕ → List Record
+abbrev pub assignOut : Store → Areas → ℕ → ℕ → AssignOut
+assignOut s a t f = assignedBy s f (recordOf a t .n) (assignNumber s a t f)
+
+abbrev pub assignRegister : Store → Areas → ℕ → ℕ → List Record
 assignRegister s a t f = unless (assignNumber s a t f) (a .register) (assignedRegister s a t f)
 
 -- ---- WEAVE ticket, with the ticket's record r and its version's record q
@@ -419,14 +426,14 @@ wove (suc k) x = Woven.Refused (suc k)
 abbrev pub nodeOf : Areas → ℕ → WovenNode
 nodeOf a t = wovenNode (a .register) (recordOf a t) (wovenRecord a t) (nextNode (wovenRecord a t))
 
-unfoldable pub weaveOut : Store → Areas → ℕ → Woven
+abbrev pub weaveOut : Store → Areas → ℕ → Woven
 weaveOut s a t = wove (weaveNumber s a t) (nodeOf a t)
 
-unfoldable pub weaveNodes : Store → Areas → ℕ → List ℕ
+abbrev pub weaveNodes : Store → Areas → ℕ → List ℕ
 weaveNodes s a t =
     unless (weaveNumber s a t) (a .nodes) (withNode (a .nodes) (nextPlace (wovenRecord a t)) (nodeOf a t .left) (nodeOf a t .right))
 
-unfoldable pub weaveRegister : Store → Areas → ℕ → List Record
+abbrev pub weaveRegister : Store → Areas → ℕ → List Record
 weaveRegister s a t =
     unless (weaveNumber s a t) (a .register) (withRecord (a .register) (pred (wovenVersion a t)) (withWoven (wovenRecord a t)))
 
@@ -478,19 +485,26 @@ publishOut s a = publishedBy s (lengthsOf a) (recordOf a (suc (s .published .0))
 
 -- ---- READ v, offset, length, and the walk that READ, STAMP and VIEW make
 
--- The size in pages of version v, as its record says; version 0 is empty.
+-- The size in pages of version v, as its record q says; version 0 is empty.
+abbrev pub pagesBy : ℕ → Record → ℕ
+pagesBy zero q = 0
+pagesBy (suc v) q = updateOf q .size
+
 abbrev pub pagesIn : Areas → ℕ → ℕ
-pagesIn a v = sizeAt (updatesOf (a .register)) v
+pagesIn a v = pagesBy v (recordOf a v)
 
 -- In bytes; a product past 64 bits, which no formatted store has, is read as the largest number.
-unfoldable pub bytesIn : Store → Areas → ℕ → ℕ
-bytesIn s a v = min (s .size * pagesIn a v) (2 ^ 64 - 1)
+unfoldable pub bytesBy : Store → ℕ → ℕ
+bytesBy s pages = min (s .size * pages) (2 ^ 64 - 1)
+
+abbrev pub bytesIn : Store → Areas → ℕ → ℕ
+bytesIn s a v = bytesBy s (pagesIn a v)
 
 -- The walk from version v's root to page p, over the versions assigned.
 unfoldable pub findPage : Store → Areas → ℕ → ℕ → Found
 findPage s a v p =
     let us = updatesOf (take (s .assigned .0) (a .register)) in
-    walkBy (placeOf us (λ (c : ℕ). recordOf a c .place)) (a .nodes) (heightOf (updatesOf (a .register)) v) v p
+    walkBy (placeOf us (λ (c : ℕ). recordOf a c .place)) (a .nodes) (rootHeight (updateOf (recordOf a v) .size)) v p
 
 -- Its leaf's page number, where the walk ends at a leaf whose page lies within the page area.
 abbrev pub numberWithin : ℕ → Found → Option ℕ
@@ -539,11 +553,11 @@ abbrev pub filledBy : ℕ → Filled
 filledBy zero = Filled.Done
 filledBy (suc k) = Filled.Refused (suc k)
 
-unfoldable pub readOut : Store → Areas → ℕ → ℕ → ℕ → List ℕ → Filled
+abbrev pub readOut : Store → Areas → ℕ → ℕ → ℕ → List ℕ → Filled
 readOut s a v offset len buffer = filledBy (readNumber s a v offset len buffer)
 
 -- READ fills the front of the buffer; the rest stays.
-unfoldable pub readBuffer : Store → Areas → ℕ → ℕ → ℕ → List ℕ → List ℕ
+abbrev pub readBuffer : Store → Areas → ℕ → ℕ → ℕ → List ℕ → List ℕ
 readBuffer s a v offset len buffer = unless (readNumber s a v offset len buffer) buffer (bytesFrom s a v offset len ++ drop len buffer)
 
 -- ---- SIZE v, RECENT
@@ -555,8 +569,11 @@ abbrev pub sized : ℕ → ℕ → Sized
 sized zero n = Sized.Bytes n
 sized (suc k) n = Sized.Refused (suc k)
 
+unfoldable pub sizedBy : Store → Lengths → Record → ℕ → Sized
+sizedBy s l q v = sized (sizeRefusal s l v) (bytesBy s (pagesBy v q))
+
 abbrev pub sizeOut : Store → Areas → ℕ → Sized
-sizeOut s a v = sized (sizeRefusal s (lengthsOf a) v) (bytesIn s a v)
+sizeOut s a v = sizedBy s (lengthsOf a) (recordOf a v) v
 
 unfoldable pub recentRefusal : Store → Lengths → ℕ
 recentRefusal s l = firstRefusal (everyCall (differ s l) [] never)
@@ -590,9 +607,9 @@ abbrev pub stamped : ℕ → ℕ → Stamped
 stamped zero v = Stamped.Is (record { 0 = v })
 stamped (suc k) v = Stamped.Refused (suc k)
 
-unfoldable pub stampOut : Store → Areas → ℕ → ℕ → Stamped
+abbrev pub stampOut : Store → Areas → ℕ → ℕ → Stamped
 stampOut s a v p = stamped (stampNumber s a v p) (versionFound (findPage s a v p))
 
 -- VIEW refuses as STAMP does, and then is the empty part; else the S bytes of the page, as a part of the page area.
-unfoldable pub viewPart : Store → Areas → ℕ → ℕ → List ℕ
+abbrev pub viewPart : Store → Areas → ℕ → ℕ → List ℕ
 viewPart s a v p = unless (stampNumber s a v p) [] (part (a .pages) (s .size * orZero (pageNumberOf s a v p)) (s .size))
