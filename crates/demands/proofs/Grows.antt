@@ -34,7 +34,7 @@ use Rattle.demands.specs.Model.{
 }
 use Rattle.demands.specs.Run.{run}
 use Rattle.demands.proofs.Sound.{Sound}
-use Rattle.demands.proofs.Free.{put-free, weave-free}
+use Rattle.demands.proofs.Passed.{put-passed, weave-passed}
 use Rattle.demands.proofs.Nth.{nth-append, nth-set-other}
 
 pub record Grown (m m′ : Model) : Type 0 where
@@ -92,9 +92,9 @@ module _ (L : Limits) (m : Model) (S : Sound L m) where
     further = omega arith;
     version = λ v l. refl;
     slots = λ v p l.
-        let free = put-free t _ (versionOf m t) _ i _ _ _ z in
-        let other : versionAt m v .ticket ≢ t = λ e. let b = rw e at (S .versions v p l .back) in omega arith in
-        ap (λ (k : Ticket). k .slots) (nth-set-other noTicket (m .tickets) t (versionAt m v .ticket) _ (free .0) other);
+        let free = put-passed L m t i bytes z in
+        let other : versionAt m v .ticket ≢ t = λ e. let b = rw e at (S .versions v p l .back) in omega (arith, free .unassigned) in
+        ap (λ (k : Ticket). k .slots) (nth-set-other noTicket (m .tickets) t _ (free .from) (versionAt m v .ticket) other);
   }
 
   grown-assigned : (t f : ℕ) → Grown m (assigned L m t f)
@@ -110,7 +110,7 @@ module _ (L : Limits) (m : Model) (S : Sound L m) where
     longer = omega arith;
     further = omega arith;
     version = λ v l. refl;
-    slots = λ v p l. slots-woven (m .tickets) t (versionAt m v .ticket) _ (weave-free t _ _ _ _ z .0);
+    slots = λ v p l. slots-woven (m .tickets) t (versionAt m v .ticket) _ (weave-passed L m t z .from);
   }
 
   grown-published : (b : Bool) → Grown m (either b (published L m) m)

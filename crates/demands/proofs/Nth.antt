@@ -1,20 +1,70 @@
--- The element of a number, which counts from 1, after the list grows or one of its elements is set.
+-- Elements counted from 1, as a list is made longer, or one element changed.
 -- Assumes nothing.
-use mathlib.Core.Path.{_≡_, refl}
-use mathlib.Core.Logic.{_≢_}
-use mathlib.Core.List.{List, _++_}
+use mathlib.Core.Path.{_≡_, refl, ap}
+use mathlib.Core.Logic.{_⊎_, inl, inr, _≢_}
+use native.Mathlib.Decide.{ℕ-discrete}
+use mathlib.Core.List.{List, [], _∷_, _++_, map}
 use Prim.Native.Nat.{ℕ, zero, suc, pred, _≤_, _<_}
 use native.Mathlib.Omega.{arith}
-use lib.ListN.{length, set, List·getD-append}
-use lib.Seq.{getD-set-other}
+use lib.Seq.{getD-append-seam, getD-set-same, getD-set-other}
+use lib.ListN.{length, getD, set, length-append, List·getD-append}
 use Rattle.tree.specs.Tree.{nth}
+
+pub length-snoc : {A : Type 0} (l : List A) (x : A) → length (l ++ x ∷ []) ≡ suc (length l)
+length-snoc l x = omega (arith, length-append l (x ∷ []))
+
+pub map-snoc : {A B : Type 0} (g : A → B) (l : List A) (x : A) → map g (l ++ x ∷ []) ≡ map g l ++ g x ∷ []
+map-snoc g [] x = refl
+map-snoc g (y ∷ l) x = ap (λ z. g y ∷ z) (map-snoc g l x)
+
+pub map-at : {A B : Type 0} (g : A → B) (l : List A) (i : ℕ) (d : B) (c : A) → i < length l → getD (map g l) i d ≡ g (getD l i c)
+map-at g [] i d c h = absurd (omega arith)
+map-at g (x ∷ l) zero d c h = refl
+map-at g (x ∷ l) (suc i) d c h = map-at g l i d c (omega arith)
 
 module _ {A : Type 0} (d : A) where
   pub nth-append : (xs ys : List A) (i : ℕ) → i ≤ length xs → nth d (xs ++ ys) i ≡ nth d xs i
-  nth-append xs ys zero l = refl
-  nth-append xs ys (suc i) l = List·getD-append xs ys d i (omega arith)
+  nth-append xs ys zero h = refl
+  nth-append xs ys (suc i) h = List·getD-append xs ys d i (omega arith)
 
-  pub nth-set-other : (xs : List A) (i j : ℕ) (x : A) → 0 < i → j ≢ i → nth d (set xs (pred i) x) j ≡ nth d xs j
-  nth-set-other xs zero j x p ne = absurd (omega arith)
-  nth-set-other xs (suc i) zero x p ne = refl
-  nth-set-other xs (suc i) (suc j) x p ne = getD-set-other xs i j x d (λ e. ne (cc))
+  pub nth-new : (xs : List A) (x : A) → nth d (xs ++ x ∷ []) (suc (length xs)) ≡ x
+  nth-new xs x = getD-append-seam xs x [] d
+
+  pub nth-past : (xs : List A) (i : ℕ) → length xs < i → nth d xs i ≡ d
+  nth-past xs zero h = refl
+  nth-past [] (suc i) h = refl
+  nth-past (x ∷ xs) (suc zero) h = absurd (omega arith)
+  nth-past (x ∷ xs) (suc (suc i)) h = nth-past xs (suc i) (omega arith)
+
+  pub nth-map : {B : Type 0} (g : A → B) (e : B) (xs : List A) (i : ℕ) → 0 < i → i ≤ length xs → nth e (map g xs) i ≡ g (nth d xs i)
+  nth-map g e xs zero o h = absurd (omega arith)
+  nth-map g e xs (suc i) o h = map-at g xs i e d (omega arith)
+
+  module _ (xs : List A) (t : ℕ) (x : A) (o : 0 < t) where
+    pub nth-set-same : t ≤ length xs → nth d (set xs (pred t) x) t ≡ x
+    nth-set-same h = go t o h
+      where
+        go : (t : ℕ) → 0 < t → t ≤ length xs → nth d (set xs (pred t) x) t ≡ x
+        go zero o h = absurd (omega arith)
+        go (suc t) o h = getD-set-same xs t x d (omega arith)
+
+    pub nth-set-other : (u : ℕ) → u ≢ t → nth d (set xs (pred t) x) u ≡ nth d xs u
+    nth-set-other zero n = refl
+    nth-set-other (suc u) n = getD-set-other xs (pred t) u x d (λ e. n (omega arith))
+
+    pub nth-set-cases : (u : ℕ) → t ≤ length xs
+        → ((u ≡ t) × (nth d (set xs (pred t) x) u ≡ x)) ⊎ ((u ≢ t) × (nth d (set xs (pred t) x) u ≡ nth d xs u))
+    nth-set-cases u h = elim (ℕ-discrete u t) [ yes e ↦ inl (e, rw e (nth-set-same h)) | no n ↦ inr (n, nth-set-other u n) ]
+
+    -- What a change leaves of the element, it leaves of every element.
+    pub nth-set-field : {B : Type 0} (g : A → B) (u : ℕ) → g x ≡ g (nth d xs t) → g (nth d (set xs (pred t) x) u) ≡ g (nth d xs u)
+    nth-set-field g zero e = refl
+    nth-set-field g (suc u) e = go xs t u o e
+      where
+        go : (xs : List A) (t u : ℕ) → 0 < t → g x ≡ g (nth d xs t) → g (getD (set xs (pred t) x) u d) ≡ g (getD xs u d)
+        go xs zero u o e = absurd (omega arith)
+        go [] (suc t) u o e = refl
+        go (y ∷ xs) (suc zero) zero o e = e
+        go (y ∷ xs) (suc zero) (suc u) o e = refl
+        go (y ∷ xs) (suc (suc t)) zero o e = refl
+        go (y ∷ xs) (suc (suc t)) (suc u) o e = go xs (suc t) u (omega arith) e

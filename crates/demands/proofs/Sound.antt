@@ -1,14 +1,13 @@
 -- What every call keeps true of the model.
 -- Assumes nothing.
 use mathlib.Core.Path.{_≡_}
-use mathlib.Core.Bool.{Bool, true, false}
-use mathlib.Core.Option.{Option, none, some}
-use mathlib.Core.List.{List}
-use Prim.Native.Nat.{ℕ, zero, suc, _+_, _*_, _≤_, _<_}
+use mathlib.Core.Bool.{true}
+use mathlib.Core.Option.{none, some}
+use Prim.Native.Nat.{ℕ, _≤_, _<_}
 use lib.ListN.{length, getD}
 use Rattle.tree.specs.Tree.{countOf, update}
 use Rattle.tree.specs.Walk.{Accepted}
-use Rattle.demands.specs.Model.{Limits, Page, Model, noTicket, noVersion, pagesOf, ticketAt, versionAt, taken, versionOf, updates, places, allFilled, complete}
+use Rattle.demands.specs.Model.{Limits, Page, Model, pagesOf, ticketAt, versionAt, taken, versionOf, updates, places, allFilled, complete}
 
 -- FORMAT's limits, as far as the calls rest on them.
 pub record Allowed (L : Limits) : Type 0 where

@@ -1,12 +1,12 @@
 -- The laws by which a chain of tests in the code is read off the table, a row at a time. Assumes nothing.
 use mathlib.Core.Path.{_≡_, refl, sym}
-use mathlib.Core.Bool.{Bool, true, false, cond, not, _&&_, _||_, or-true, and-false}
-use mathlib.Core.List.{List, [], _∷_}
+use mathlib.Core.Bool.{Bool, true, false, cond, _&&_, _||_, or-true, and-false}
+use mathlib.Core.List.{List, [], _∷_, _++_}
 use mathlib.Core.Logic.{_⊎_, inl, inr, ⊎-map}
 use Prim.Native.Nat.{ℕ, zero, suc, _≤_, _<_}
 use native.Mathlib.Omega.{arith}
 use borrow.Author.Tests.{le-leb, lt-leb, lt-ltb, le-ltb, eq-eqb, ne-eqb, leb-false, ltb-false, eqb-false, eqb-true, not-false}
-use Rattle.versions.specs.Table.{Cond, _≤?_, _<?_, _≡?_, _≢?_, _and_, _or_, test, holds, Row, _gives_, firstRefusal, unless}
+use Rattle.versions.specs.Table.{Cond, _≤?_, _<?_, _≡?_, _≢?_, _and_, _or_, test, holds, Row, _gives_, firstRefusal, unless, everyCall}
 
 -- A condition as a statement, and its denial: what `omega` and the code's tests speak of
 abbrev pub Holds : Cond → Type 0
@@ -93,7 +93,7 @@ first (hit-flag e) = rw e
 first (skip-flag e t) = rw e (first t)
 first (rest e) = e
 
--- no row has the number 0, and no row's condition holds
+-- No row has the number 0, and no row's condition holds
 abbrev pub Numbered : List Row → Type 0
 Numbered [] = Unit
 Numbered ((c gives zero) ∷ rows) = ⊥
@@ -107,12 +107,24 @@ one-row : (b : Bool) (k m : ℕ) → cond b (suc k) m ≡ 0 → (b ≡ false) ×
 one-row true k m e = absurd (omega arith)
 one-row false k m e = (refl, e)
 
--- where the rows give 0, what each row asks fails
+-- Where the rows give 0, what each row asks fails
 pub passed : (rows : List Row) → Numbered rows → firstRefusal rows ≡ 0 → AllFail rows
 unfolding firstRefusal
 passed [] t e = tt
 passed ((c gives zero) ∷ rows) t e = absurd t
 passed ((c gives suc k) ∷ rows) t e = let p = one-row (holds c) k (firstRefusal rows) e in (fails c (p .0), passed rows t (p .1))
+
+-- ---- where rows 3 and 19 fail, a call's number is that of its own rows
+
+last-fails : (rows : List Row) (c : Cond) (k : ℕ) → holds c ≡ false → firstRefusal (rows ++ (c gives k) ∷ []) ≡ firstRefusal rows
+unfolding firstRefusal
+last-fails [] c k e = rw e
+last-fails ((d gives r) ∷ rows) c k e = rw (last-fails rows c k e)
+
+pub every-call : (differ : Cond) (rows : List Row) (lost : Cond) → holds differ ≡ false → holds lost ≡ false
+    → firstRefusal (everyCall differ rows lost) ≡ firstRefusal rows
+unfolding firstRefusal
+every-call differ rows lost d l = rw d (last-fails rows lost 19 l)
 
 -- ---- unless: where the table's number is 0 the call is done, else nothing moves
 

@@ -1,0 +1,234 @@
+-- Cells laid out one element after another: where an element's cells begin, which cell stands at a number, and what a change of one cell leaves.
+-- Assumes nothing.
+use mathlib.Core.Path.{_≡_, refl, sym, ap, ap₂, _∙_}
+use mathlib.Core.Logic.{inl, inr, _≢_}
+use mathlib.Core.List.{List, [], _∷_, _++_}
+use Prim.Native.Nat.{ℕ, zero, suc, pred, _+_, _-_, _≤_, _<_}
+use native.Mathlib.Nat.{zero-add, suc-inj, eq-or-lt-of-le}
+use native.Mathlib.Decide.{ℕ-discrete}
+use native.Mathlib.Omega.{arith}
+use borrow.Author.Tests.{lt-ltb, le-ltb}
+use lib.Dec.{ltb}
+use lib.ListN.{length, getD, set, length-set}
+use lib.Seq.{getD-set-same, getD-set-other}
+use Rattle.tree.specs.Tree.{Update, countOf, update}
+use Rattle.tree.specs.Walk.{used}
+use Rattle.tree.proofs.Meets.{lt-or-le}
+use Rattle.demands.specs.Model.{Ticket, pagesOf, taken, either}
+use Rattle.demands.proofs.Image.{cellIn, numbered}
+use Rattle.demands.proofs.Tab.{length-tab, getD-tab, tab-more}
+
+-- The cells of the first t elements.
+unfoldable pub before : {A : Type 0} → (A → ℕ) → List A → ℕ → ℕ
+before size xs zero = 0
+before size [] (suc t) = 0
+before size (x ∷ xs) (suc t) = size x + before size xs t
+
+module _ {A : Type 0} (size : A → ℕ) where
+  pub before-more : (xs : List A) (t : ℕ) (z : A) → t < length xs → before size xs (suc t) ≡ before size xs t + size (getD xs t z)
+  unfolding before
+  before-more [] t z h = absurd (omega arith)
+  before-more (x ∷ xs) zero z h = omega arith
+  before-more (x ∷ xs) (suc t) z h = omega (arith, before-more xs t z (omega arith))
+
+  pub before-append : (xs ys : List A) (t : ℕ) → t ≤ length xs → before size (xs ++ ys) t ≡ before size xs t
+  unfolding before
+  before-append xs ys zero h = refl
+  before-append [] ys (suc t) h = absurd (omega arith)
+  before-append (x ∷ xs) ys (suc t) h = ap (λ n. size x + n) (before-append xs ys t (omega arith))
+
+  pub before-end : (xs : List A) (x : A) → before size (xs ++ x ∷ []) (suc (length xs)) ≡ before size xs (length xs) + size x
+  unfolding before
+  before-end [] x = omega arith
+  before-end (y ∷ xs) x = omega (arith, before-end xs x)
+
+  -- The cells of two elements lie apart.
+  pub before-lt : (xs : List A) (t u : ℕ) (z : A) → t < u → u ≤ length xs → before size xs t + size (getD xs t z) ≤ before size xs u
+  unfolding before
+  before-lt [] t u z h k = absurd (omega arith)
+  before-lt (x ∷ xs) t zero z h k = absurd (omega arith)
+  before-lt (x ∷ xs) zero (suc u) z h k = omega arith
+  before-lt (x ∷ xs) (suc t) (suc u) z h k = omega (arith, before-lt xs t u z (omega arith) (omega arith))
+
+  pub before-le : (xs : List A) (t u : ℕ) → t ≤ u → before size xs t ≤ before size xs u
+  unfolding before
+  before-le xs zero u h = omega arith
+  before-le xs (suc t) zero h = absurd (omega arith)
+  before-le [] (suc t) (suc u) h = omega arith
+  before-le (x ∷ xs) (suc t) (suc u) h = omega (arith, before-le xs t u (omega arith))
+
+  pub before-set : (xs : List A) (t : ℕ) (x z : A) (u : ℕ) → size x ≡ size (getD xs t z) → before size (set xs t x) u ≡ before size xs u
+  unfolding before
+  before-set xs t x z zero e = refl
+  before-set [] t x z (suc u) e = refl
+  before-set (y ∷ xs) zero x z (suc u) e = rw e
+  before-set (y ∷ xs) (suc t) x z (suc u) e = ap (λ n. size y + n) (before-set xs t x z u e)
+
+  -- Different elements, or different cells of one, have different numbers.
+  pub before-apart : (xs : List A) (t i u j : ℕ) (z : A) → t < length xs → i < size (getD xs t z) → u < length xs → j < size (getD xs u z)
+      → before size xs t + i ≡ before size xs u + j → (t ≡ u) × (i ≡ j)
+  before-apart xs t i u j z h k h′ k′ e = elim (lt-or-le t u) [
+    | inl q ↦ absurd (omega (arith, before-lt xs t u z q (omega arith)))
+    | inr q ↦ elim (eq-or-lt-of-le q) [
+      | inl p ↦ (sym p, omega (arith, ap (before size xs) p))
+      | inr p ↦ absurd (omega (arith, before-lt xs u t z p (omega arith)))
+    ]
+  ]
+
+  -- Where number q lies: at cell i of element t, or past the last.
+  pub data Where (xs : List A) (z : A) (q : ℕ) : Type 0 where
+    inside : (t i : ℕ) → t < length xs → i < size (getD xs t z) → q ≡ before size xs t + i → Where xs z q
+    outside : before size xs (length xs) ≤ q → Where xs z q
+
+  pub locate : (xs : List A) (z : A) (q : ℕ) → Where xs z q
+  unfolding before
+  locate [] z q = outside (omega arith)
+  locate (x ∷ xs) z q = elim (lt-or-le q (size x)) [
+    | inl h ↦ inside 0 q (omega arith) h (omega arith)
+    | inr h ↦ elim (locate xs z (q - size x)) [
+      | inside t i l k e ↦ inside (suc t) i (omega arith) k (omega arith)
+      | outside k ↦ outside (omega arith)
+    ]
+  ]
+
+  pub located : (xs : List A) (z : A) (q : ℕ) → q < before size xs (length xs)
+      → (t : ℕ) × (i : ℕ) × (t < length xs) × (i < size (getD xs t z)) × (q ≡ before size xs t + i)
+  located xs z q h = elim (locate xs z q) [ inside t i l k e ↦ (t, i, l, k, e) | outside k ↦ absurd (omega arith) ]
+
+-- The two runs of numbers: the tickets' page numbers, and the versions' node places.
+pub taken-before : (ks : List Ticket) (t : ℕ) → taken ks t ≡ before pagesOf ks t
+unfolding taken before
+taken-before ks zero = refl
+taken-before [] (suc t) = refl
+taken-before (k ∷ ks) (suc t) = ap (λ n. pagesOf k + n) (taken-before ks t)
+
+pub numbered-at : (n t z : ℕ) → t < n → getD (numbered n) t z ≡ suc t
+numbered-at n t z h = getD-tab n suc t z h
+
+pub used-before : (us : List Update) (n v : ℕ) → v ≤ n → used us v ≡ before (λ w. countOf (update us w)) (numbered n) v
+unfolding used before
+used-before us n zero h = refl
+used-before us n (suc v) h =
+    let r = used-before us n v (omega arith) in
+    let m = before-more (λ w. countOf (update us w)) (numbered n) v 0 (rw length-tab h) in
+    omega (arith, rw (numbered-at n v 0 h) at m)
+
+-- Two lists whose elements have as many cells begin their elements at the same numbers.
+pub before-same : {A C : Type 0} (size : A → ℕ) (size′ : C → ℕ) (xs : List A) (ys : List C) (z : A) (w : C) → length xs ≡ length ys
+    → ((t : ℕ) → t < length xs → size (getD xs t z) ≡ size′ (getD ys t w)) → (t : ℕ) → before size xs t ≡ before size′ ys t
+unfolding before
+before-same size size′ [] [] z w e h zero = refl
+before-same size size′ [] [] z w e h (suc t) = refl
+before-same size size′ [] (y ∷ ys) z w e h t = absurd (omega arith)
+before-same size size′ (x ∷ xs) [] z w e h t = absurd (omega arith)
+before-same size size′ (x ∷ xs) (y ∷ ys) z w e h zero = refl
+before-same size size′ (x ∷ xs) (y ∷ ys) z w e h (suc t) =
+    ap₂ (λ a b. a + b) (h 0 (omega arith)) (before-same size size′ xs ys z w (omega arith) (λ u l. h (suc u) (omega arith)) t)
+
+module _ {A B : Type 0} (size : A → ℕ) (get : A → ℕ → B) (d : B) where
+  pub cell-at : (xs : List A) (t i : ℕ) (z : A) → t < length xs → i < size (getD xs t z) → cellIn size get d xs (before size xs t + i) ≡ get (getD xs t z) i
+  unfolding cellIn before
+  cell-at [] t i z h k = absurd (omega arith)
+  cell-at (x ∷ xs) zero i z h k = rw (zero-add i, lt-ltb i (size x) k)
+  cell-at (x ∷ xs) (suc t) i z h k =
+      let e : size x + before size xs t + i - size x ≡ before size xs t + i = omega arith in
+      rw (le-ltb (size x + before size xs t + i) (size x) (omega arith), e) (cell-at xs t i z (omega arith) k)
+
+  pub cell-past : (xs : List A) (q : ℕ) → before size xs (length xs) ≤ q → cellIn size get d xs q ≡ d
+  unfolding cellIn before
+  cell-past [] q h = refl
+  cell-past (x ∷ xs) q h = rw (le-ltb q (size x) (omega arith)) (cell-past xs (q - size x) (omega arith))
+
+  -- An element more whose cells are all d changes no cell.
+  pub cell-append : (xs : List A) (x : A) → ((i : ℕ) → i < size x → get x i ≡ d) → (q : ℕ) → cellIn size get d (xs ++ x ∷ []) q ≡ cellIn size get d xs q
+  unfolding cellIn
+  cell-append [] x h q = elim (lt-or-le q (size x)) [ inl l ↦ rw (lt-ltb q (size x) l) (h q l) | inr l ↦ rw (le-ltb q (size x) l) ]
+  cell-append (y ∷ xs) x h q = ap (either (ltb q (size y)) (get y q)) (cell-append xs x h (q - size y))
+
+-- Two layouts whose elements have as many cells agree wherever their cells do: but at one number, where one cell may differ, and everywhere, where none does.
+module _ {A C B : Type 0} (size : A → ℕ) (get : A → ℕ → B) (size′ : C → ℕ) (get′ : C → ℕ → B) (d : B) (xs : List A) (ys : List C) (z : A) (w : C) (long : length xs ≡ length ys) (sizes : (t : ℕ) → t < length xs → size (getD xs t z) ≡ size′ (getD ys t w)) where
+  pub cell-but : (u j : ℕ) → ((t i : ℕ) → t < length xs → i < size (getD xs t z) → (t ≡ u → i ≡ j → ⊥) → get (getD xs t z) i ≡ get′ (getD ys t w) i)
+      → (q : ℕ) → q ≢ before size xs u + j → cellIn size get d xs q ≡ cellIn size′ get′ d ys q
+  cell-but u j h q n = elim (locate size xs z q) [
+    | inside t i l k e ↦
+        let s = sizes t l in
+        rw e (cell-at size get d xs t i z l k ∙ h t i l k (λ p r. n (rw (← p, ← r) e)) ∙ sym (rw (before-same size size′ xs ys z w long sizes t) (cell-at size′ get′ d ys t i w (omega arith) (omega arith))))
+    | outside k ↦
+        cell-past size get d xs q k ∙ sym (cell-past size′ get′ d ys q (rw (← long, ← before-same size size′ xs ys z w long sizes (length xs)) k))
+  ]
+
+  pub cell-same : ((t i : ℕ) → t < length xs → i < size (getD xs t z) → get (getD xs t z) i ≡ get′ (getD ys t w) i)
+      → (q : ℕ) → cellIn size get d xs q ≡ cellIn size′ get′ d ys q
+  cell-same h q = cell-but 0 (suc q) (λ t i l k n. h t i l k) q (λ e. omega arith)
+
+-- One list, two rules.
+pub cell-get : {A B : Type 0} (size : A → ℕ) (get : A → ℕ → B) (size′ : A → ℕ) (get′ : A → ℕ → B) (d : B) (xs : List A) (z : A)
+    → ((t : ℕ) → t < length xs → size (getD xs t z) ≡ size′ (getD xs t z))
+    → ((t i : ℕ) → t < length xs → i < size (getD xs t z) → get (getD xs t z) i ≡ get′ (getD xs t z) i)
+    → (q : ℕ) → cellIn size get d xs q ≡ cellIn size′ get′ d xs q
+cell-get size get size′ get′ d xs z h k q = cell-same size get size′ get′ d xs xs z z refl h k q
+
+-- Element t becomes x, as long, and differs from what it was at most at its cell i.
+module _ {A B : Type 0} (size : A → ℕ) (get : A → ℕ → B) (d : B) (xs : List A) (t i : ℕ) (x z : A) (there : t < length xs) (long : size x ≡ size (getD xs t z)) where
+  pub cell-changed : i < size x → cellIn size get d (set xs t x) (before size xs t + i) ≡ get x i
+  cell-changed h =
+      let s = getD-set-same xs t x z there in
+      rw (← before-set size xs t x z t long) (cell-at size get d (set xs t x) t i z (rw length-set there) (rw s h) ∙ rw s)
+
+  pub cell-unchanged : ((j : ℕ) → j < size x → j ≢ i → get x j ≡ get (getD xs t z) j) → (q : ℕ) → q ≢ before size xs t + i
+      → cellIn size get d (set xs t x) q ≡ cellIn size get d xs q
+  cell-unchanged h q n = sym (cell-but size get size get d xs (set xs t x) z z (sym (length-set xs t x)) sizes t i gets q n)
+    where
+      sizes : (u : ℕ) → u < length xs → size (getD xs u z) ≡ size (getD (set xs t x) u z)
+      sizes u l = elim (ℕ-discrete u t) [ yes e ↦ rw (e, getD-set-same xs t x z there) (sym long) | no k ↦ rw (getD-set-other xs t u x z k) ]
+
+      gets : (u j : ℕ) → u < length xs → j < size (getD xs u z) → (u ≡ t → j ≡ i → ⊥) → get (getD xs u z) j ≡ get (getD (set xs t x) u z) j
+      gets u j l m k = elim (ℕ-discrete u t) [
+        | yes e ↦ rw (e, getD-set-same xs t x z there) (sym (h j (rw (long, ← e) m) (k e)))
+        | no r ↦ rw (getD-set-other xs t u x z r)
+      ]
+
+-- ---- the elements 1 .. n, as the versions are
+
+pub length-numbered : (n : ℕ) → length (numbered n) ≡ n
+length-numbered n = length-tab n suc
+
+module _ {B : Type 0} (size : ℕ → ℕ) (get : ℕ → ℕ → B) (d : B) (n : ℕ) where
+  pub numbered-cell : (v i : ℕ) → 0 < v → v ≤ n → i < size v → cellIn size get d (numbered n) (before size (numbered n) (pred v) + i) ≡ get v i
+  numbered-cell zero i o h k = absurd (omega arith)
+  numbered-cell (suc v) i o h k =
+      let e = numbered-at n v 0 h in
+      cell-at size get d (numbered n) v i 0 (rw length-tab h) (rw e k) ∙ rw e
+
+  -- One number more, whose cells are all d.
+  pub numbered-more : ((i : ℕ) → i < size (suc n) → get (suc n) i ≡ d) → (q : ℕ) → cellIn size get d (numbered (suc n)) q ≡ cellIn size get d (numbered n) q
+  numbered-more h q = rw (tab-more n suc) (cell-append size get d (numbered n) (suc n) h q)
+
+-- Two rules that agree: but at one cell, and everywhere.
+module _ {B : Type 0} (size : ℕ → ℕ) (get : ℕ → ℕ → B) (size′ : ℕ → ℕ) (get′ : ℕ → ℕ → B) (d : B) (n : ℕ) (sizes : (v : ℕ) → 0 < v → v ≤ n → size v ≡ size′ v) where
+  sizes-at : (t : ℕ) → t < length (numbered n) → size (getD (numbered n) t 0) ≡ size′ (getD (numbered n) t 0)
+  sizes-at t l =
+      let l′ : t < n = rw length-tab at l in
+      rw (numbered-at n t 0 l′) (sizes (suc t) (omega arith) l′)
+
+  pub numbered-before : (t : ℕ) → before size (numbered n) t ≡ before size′ (numbered n) t
+  numbered-before t = before-same size size′ (numbered n) (numbered n) 0 0 refl sizes-at t
+
+  pub numbered-changed : (v i : ℕ) → 0 < v → v ≤ n → i < size v → cellIn size′ get′ d (numbered n) (before size (numbered n) (pred v) + i) ≡ get′ v i
+  numbered-changed v i o h k =
+      let e = sizes v o h in
+      rw (numbered-before (pred v)) (numbered-cell size′ get′ d n v i o h (omega arith))
+
+  pub numbered-but : (v i : ℕ) → 0 < v → ((w j : ℕ) → 0 < w → w ≤ n → j < size w → (w ≡ v → j ≡ i → ⊥) → get w j ≡ get′ w j)
+      → (q : ℕ) → q ≢ before size (numbered n) (pred v) + i → cellIn size get d (numbered n) q ≡ cellIn size′ get′ d (numbered n) q
+  numbered-but zero i o h q k = absurd (omega arith)
+  numbered-but (suc v) i o h q k = cell-but size get size′ get′ d (numbered n) (numbered n) 0 0 refl sizes-at v i gets q k
+    where
+      gets : (t j : ℕ) → t < length (numbered n) → j < size (getD (numbered n) t 0) → (t ≡ v → j ≡ i → ⊥) → get (getD (numbered n) t 0) j ≡ get′ (getD (numbered n) t 0) j
+      gets t j l m r =
+          let l′ : t < n = rw length-tab at l in
+          let e = numbered-at n t 0 l′ in
+          rw e (h (suc t) j (omega arith) l′ (rw e at m) (λ z. r (suc-inj z)))
+
+  pub numbered-same : ((v i : ℕ) → 0 < v → v ≤ n → i < size v → get v i ≡ get′ v i) → (q : ℕ) → cellIn size get d (numbered n) q ≡ cellIn size′ get′ d (numbered n) q
+  numbered-same h q = numbered-but 1 (suc q) (omega arith) (λ v i o l k r. h v i o l k) q (λ e. omega arith)

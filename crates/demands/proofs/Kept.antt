@@ -1,0 +1,9 @@
+-- Every call keeps the model sound, a file for each call.
+pub mod Same
+pub mod Begin
+pub mod Change
+pub mod Put
+pub mod Assign
+pub mod Weave
+pub mod Publish
+pub mod Every

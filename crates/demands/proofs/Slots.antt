@@ -1,0 +1,30 @@
+-- A ticket's slots, filled or not.
+-- Assumes nothing.
+use mathlib.Core.Path.{_≡_, refl}
+use mathlib.Core.Bool.{true, false≢true}
+use mathlib.Core.Option.{Option, none, some}
+use mathlib.Core.List.{List, [], _∷_}
+use Prim.Native.Nat.{ℕ, zero, suc, _<_}
+use native.Mathlib.Omega.{arith}
+use lib.ListN.{length, getD, replicate}
+use Rattle.demands.specs.Model.{Page, allFilled}
+
+-- The slots of a new ticket are empty.
+pub none-there : (n i : ℕ) → _≡_ {A = Option Page} (getD (replicate n none) i none) none
+none-there zero i = refl
+none-there (suc n) zero = refl
+none-there (suc n) (suc i) = none-there n i
+
+-- A slot that holds a page is there.
+pub some-lt : (l : List (Option Page)) (i : ℕ) (x : Page) → getD l i none ≡ some x → i < length l
+some-lt [] i x e = let z : _≡_ {A = ℕ} 0 1 = cc in absurd (omega arith)
+some-lt (y ∷ l) zero x e = omega arith
+some-lt (y ∷ l) (suc i) x e = omega (arith, some-lt l i x e)
+
+-- Where every slot is filled, each holds a page.
+pub all-some : (l : List (Option Page)) (i : ℕ) → allFilled l ≡ true → i < length l → (x : Page) × (getD l i none ≡ some x)
+unfolding allFilled
+all-some [] i e h = absurd (omega arith)
+all-some (none ∷ l) i e h = absurd (false≢true e)
+all-some (some x ∷ l) zero e h = (x, refl)
+all-some (some x ∷ l) (suc i) e h = all-some l i e (omega arith)

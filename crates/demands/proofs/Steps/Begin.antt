@@ -1,0 +1,102 @@
+-- BEGIN on the image of a sound model is the model's.
+-- Assumes nothing.
+use mathlib.Core.Path.{_≡_, refl, ap, ap₂, sym}
+use mathlib.Core.Logic.{_≢_}
+use mathlib.Core.List.{List}
+use Prim.Native.Nat.{ℕ, zero, suc, pred}
+use native.Mathlib.Omega.{arith}
+use lib.ListN.{length, getD, length-replicate}
+use Rattle.tree.specs.Register.{noRecord, withRecord}
+use Rattle.tree.specs.Tree.{Node}
+use Rattle.tree.specs.declared.Record.{Record}
+use Rattle.versions.specs.Answers.{BEGIN, ticketIs, answers, begunAnswer}
+use Rattle.versions.specs.Table.{never, beginRows, unless}
+use Rattle.versions.specs.Calls.{lengthsOf, beginRefusal, withTicket, withTicketPart, begun as begunCase}
+use Rattle.demands.specs.Model.{Limits, Ticket, Model, noTicket, joined, pagesOf, versionAt, taken, beginNumber, begun, onModel}
+use Rattle.demands.specs.Run.{onStore}
+use Rattle.demands.proofs.Image.{blank, flat, slotCell, pageCell, pagesImage, numbersOf, nodeCell, nodesImage, registerImage, storeImage, areasImage, image}
+use Rattle.demands.proofs.Sound.{Sound}
+use Rattle.demands.proofs.Passed.{BeginPassed, begin-passed}
+use Rattle.demands.proofs.Facts.{ticket-past}
+use Rattle.demands.proofs.Nth.{length-snoc}
+use Rattle.demands.proofs.Tab.{tab-same}
+use Rattle.demands.proofs.Cells.{cell-append}
+use Rattle.demands.proofs.Slots.{none-there}
+use Rattle.demands.proofs.Masks.{mask-none}
+use Rattle.demands.proofs.Tickets.{taken-append, taken-all}
+use Rattle.demands.proofs.Records.{record-at}
+use Rattle.demands.proofs.Puts.{register-put}
+use Rattle.demands.proofs.Kept.Begin.{newTicket, begun-ticket, begun-new, begun-updates, begun-version}
+use Rattle.demands.proofs.Steps.Numbers.{alike-same, image-number}
+use Rattle.demands.proofs.Steps.States.{leaves, stateOf, state-same}
+use Rattle.demands.proofs.Steps.Parts.{other-at, other-begins, new-begins, both, ticketPart, versionPart, ticket-part, version-part, ticket-within, nodes-stay}
+
+module _ (L : Limits) (m : Model) (S : Sound L m) (n : ℕ) where
+  -- A new ticket's pages are blank.
+  begun-pages : pagesImage L m ≡ pagesImage L (begun L m n)
+  unfolding pagesImage
+  begun-pages =
+      ap joined
+      (tab-same (L .pages) (pageCell (L .size) (m .tickets)) (pageCell (L .size) (begun L m n .tickets))
+      (λ q h. sym (cell-append pagesOf (slotCell (L .size)) (blank (L .size)) (m .tickets) (newTicket L m n) (λ i l. rw (none-there n i)) q)))
+
+  begun-store : withTicket (storeImage L m) n ≡ storeImage L (begun L m n)
+  begun-store = rw (taken-all (m .tickets) (newTicket L m n), length-replicate, length-snoc, begun-updates L m n S)
+
+  begun-numbers : (v : ℕ) (x : Node) → numbersOf (begun L m n) v x ≡ numbersOf m v x
+  begun-numbers v x = rw (begun-updates L m n S, taken-append (m .tickets) (newTicket L m n) (pred (versionAt m v .ticket)) (omega (arith, ticket-within L m S v)))
+
+  begun-nodes : nodesImage L m ≡ nodesImage L (begun L m n)
+  unfolding nodesImage
+  begun-nodes =
+      ap flat
+      (tab-same (L .nodes) (nodeCell m) (nodeCell (begun L m n))
+      (λ q h. sym (nodes-stay m (begun L m n) (begun-version L m n S) (λ v x o h. begun-numbers v x) q)))
+
+  begun-version-part : (j : ℕ) → versionPart m j ≡ versionPart (begun L m n) j
+  begun-version-part j =
+      version-part m (begun L m n) j refl (begun-ticket L m n (versionAt m (suc j) .ticket) (ticket-within L m S (suc j))) (rw (begun-updates L m n S))
+
+  begun-ticket-part : (j : ℕ) → j ≢ length (m .tickets) → ticketPart m j ≡ ticketPart (begun L m n) j
+  begun-ticket-part j h =
+      let k = newTicket L m n in
+      ticket-part m (begun L m n) j
+      (ap (λ (x : Ticket). x .slots) (other-at noTicket (m .tickets) k j h))
+      (rw (length-snoc (m .tickets) k) (other-begins j (length (m .tickets)) _ _ h (λ l. taken-append (m .tickets) k j (omega arith))))
+      refl
+
+  -- The new ticket's part: n pages from a page number on, none put, no version.
+  begun-new-part : ticketPart (begun L m n) (length (m .tickets)) ≡ record { n = n; number = taken (m .tickets) (length (m .tickets)); put = 0; version = 0 }
+  begun-new-part =
+      let t = length (m .tickets) in
+      rw (length-snoc (m .tickets) (newTicket L m n), begun-new L m n, length-replicate, mask-none, ticket-past L m S (suc t) (omega arith), new-begins, taken-append (m .tickets) (newTicket L m n) t (omega arith))
+
+  begun-register : BeginPassed L m n
+      → withRecord (registerImage L m) (length (m .tickets)) (withTicketPart (getD (registerImage L m) (length (m .tickets)) noRecord) n (taken (m .tickets) (length (m .tickets))))
+      ≡ registerImage L (begun L m n)
+  begun-register p =
+      let t = length (m .tickets) in
+      register-put L m (begun L m n) t _ (p .record-left) (λ j l h. ap₂ both (begun-ticket-part j h) (begun-version-part j))
+      (rw (record-at L m t (p .record-left)) (ap₂ both begun-new-part (sym (begun-version-part t))))
+
+  begun-image : BeginPassed L m n
+      → stateOf (withTicket (storeImage L m) n) (pagesImage L m) (nodesImage L m) (withRecord (registerImage L m) (length (m .tickets)) (withTicketPart (getD (registerImage L m) (length (m .tickets)) noRecord) n (taken (m .tickets) (length (m .tickets)))))
+      ≡ image L (begun L m n)
+  begun-image p = state-same begun-store begun-pages begun-nodes (begun-register p)
+
+  begin-number : beginRefusal (storeImage L m) (lengthsOf (areasImage L m)) n ≡ beginNumber L m n
+  unfolding beginRefusal
+  begin-number =
+      let rows = beginRows n (length (m .tickets)) (L .updates) (taken (m .tickets) (length (m .tickets))) (L .pages) in
+      image-number L m S rows rows never (alike-same rows) (λ z. omega arith)
+
+  begin-leaves : (k : ℕ) (r : List Record) → (k ≡ 0 → stateOf (withTicket (storeImage L m) n) (pagesImage L m) (nodesImage L m) r ≡ image L (begun L m n))
+      → leaves (stateOf (unless k (storeImage L m) (withTicket (storeImage L m) n)) (pagesImage L m) (nodesImage L m) (unless k (registerImage L m) r)) (begunAnswer (begunCase k (suc (length (m .tickets)))))
+      ≡ leaves (image L (unless k m (begun L m n))) (answers k (ticketIs (suc (length (m .tickets)))))
+  unfolding unless
+  begin-leaves zero r h = ap (λ x. leaves x (ticketIs (suc (length (m .tickets))))) (h refl)
+  begin-leaves (suc k) r h = refl
+
+  pub begin-step : onStore (image L m) (BEGIN n) ≡ (image L (onModel L m (BEGIN n) .0), onModel L m (BEGIN n) .1)
+  unfolding onStore onModel
+  begin-step = rw begin-number (begin-leaves (beginNumber L m n) _ (λ z. begun-image (begin-passed L m n z)))

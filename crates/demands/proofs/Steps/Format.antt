@@ -1,0 +1,60 @@
+-- FORMAT leaves the image of the model that has nothing.
+-- Assumes nothing.
+use mathlib.Core.Path.{_≡_, refl, sym, _∙_}
+use Prim.Native.Nat.{ℕ, zero, suc, _+_, _*_}
+use native.Mathlib.Nat.{mul-zero, mul-suc}
+use native.Mathlib.Omega.{arith}
+use borrow.Author.Tests.{le-ltb}
+use lib.ListN.{replicate, replicate-append-replicate}
+use Rattle.tree.specs.NodeArea.{allOnes}
+use Rattle.tree.specs.Register.{noRecord}
+use Rattle.tree.specs.Walk.{used}
+use Rattle.versions.specs.Table.{formatRows}
+use Rattle.versions.specs.Calls.{Areas, formatRefusal, formatNumber}
+use Rattle.versions.proofs.Table.{passed, unless-0}
+use Rattle.demands.specs.Model.{Limits, noModel, taken, versionFrom, joined}
+use Rattle.demands.specs.Run.{freshOf, formattedState}
+use Rattle.demands.proofs.Image.{tab, cellIn, blank, pagesImage, onesPair, flat, nodesImage, maskOf, recordImage, registerImage, storeImage, image}
+use Rattle.demands.proofs.Steps.States.{state-same}
+use Rattle.demands.proofs.Tab.{tab-same, replicate-tab}
+
+blanks : (size n : ℕ) → joined (tab n (λ (q : ℕ). blank size)) ≡ replicate (size * n) 0
+unfolding joined tab
+blanks size zero = rw (mul-zero size)
+blanks size (suc n) =
+    let e : size + size * n ≡ size * suc n = omega (arith, mul-suc size n) in
+    rw (blanks size n, ← e) (replicate-append-replicate size (size * n) 0)
+
+ones : (n : ℕ) → flat (tab n (λ (q : ℕ). onesPair)) ≡ replicate (2 * n) allOnes
+unfolding flat tab
+ones zero = refl
+ones (suc n) =
+    let e : 2 * suc n ≡ suc (suc (2 * n)) = omega arith in
+    rw (e, ones n)
+
+module _ (L : Limits) where
+  pages-blank : pagesImage L noModel ≡ replicate (L .size * L .pages) 0
+  unfolding pagesImage cellIn
+  pages-blank = blanks (L .size) (L .pages)
+
+  nodes-blank : nodesImage L noModel ≡ replicate (2 * L .nodes) allOnes
+  unfolding nodesImage cellIn tab
+  nodes-blank = ones (L .nodes)
+
+  register-blank : registerImage L noModel ≡ replicate (L .updates) noRecord
+  unfolding registerImage versionFrom maskOf
+  register-blank = tab-same (L .updates) (recordImage noModel) (λ (i : ℕ). noRecord) (λ i h. rw (le-ltb i 0 (omega arith))) ∙ sym (replicate-tab (L .updates) noRecord)
+
+  store-blank : freshOf L ≡ storeImage L noModel
+  unfolding taken used
+  store-blank = refl
+
+  pub format-image : (a : Areas) → formatNumber (freshOf L) a ≡ 0 → formattedState L a ≡ image L noModel
+  unfolding formattedState formatRefusal formatRows
+  format-image a z =
+      let r = passed _ tt z .1 .1 .0 in
+      state-same
+      store-blank
+      (unless-0 _ (a .pages) _ z ∙ rw (r .0) (sym pages-blank))
+      (unless-0 _ (a .nodes) _ z ∙ rw (r .1 .0) (sym nodes-blank))
+      (unless-0 _ (a .register) _ z ∙ rw (r .1 .1) (sym register-blank))

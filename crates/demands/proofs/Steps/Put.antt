@@ -1,0 +1,126 @@
+-- PUT on the image of a sound model is the model's.
+-- Assumes nothing.
+use mathlib.Core.Path.{_≡_, refl, ap, ap₂, sym}
+use mathlib.Core.Logic.{inl, inr, _≢_}
+use mathlib.Core.Option.{none}
+use mathlib.Core.List.{List}
+use Prim.Native.Nat.{ℕ, zero, suc, pred, _+_, _*_, _≤_, _<_}
+use native.Mathlib.Nat.{suc-inj}
+use native.Mathlib.Omega.{arith}
+use lib.ListN.{length, getD}
+use Rattle.pages.specs.Pages.{put}
+use Rattle.tree.proofs.Meets.{lt-or-le}
+use Rattle.tree.specs.Register.{withRecord}
+use Rattle.tree.specs.declared.Record.{Record}
+use Rattle.versions.specs.Answers.{PUT, putDone, answers, putAnswer}
+use Rattle.versions.specs.Table.{_<?_, _≤?_, _or_, always, putRows, unless}
+use Rattle.versions.specs.Calls.{lengthsOf, recordOf, numberOf, bitOf, putRefusal, putIn, withPut, withBit}
+use Rattle.demands.specs.Model.{Limits, Version, Model, noVersion, pagesOf, ticketAt, versionAt, versionOf, isFilled, bitIf, putNumber, filledAt, onModel}
+use Rattle.demands.specs.Run.{onStore}
+use Rattle.demands.proofs.Image.{pagesImage, nodeCell, flat, nodesImage, maskOf, registerImage, storeImage, areasImage, image}
+use Rattle.demands.proofs.Sound.{Sound}
+use Rattle.demands.proofs.Passed.{PutPassed, put-passed}
+use Rattle.demands.proofs.Facts.{number-room}
+use Rattle.demands.proofs.Nth.{nth-past}
+use Rattle.demands.proofs.Tab.{tab-same}
+use Rattle.demands.proofs.Masks.{mask-bit, mask-put}
+use Rattle.demands.proofs.Records.{record-at, number-of}
+use Rattle.demands.proofs.Puts.{pages-put, register-put}
+use Rattle.demands.proofs.Kept.Change.{changed-version}
+use Rattle.demands.proofs.Kept.Put.{filledTicket, filled-pages, put-apart, filled-this}
+use Rattle.demands.proofs.Steps.Numbers.{PutReads, put-alike, image-number}
+use Rattle.demands.proofs.Steps.States.{leaves, stateOf, state-same}
+use Rattle.demands.proofs.Steps.Parts.{both, numberAt, ticketPart, versionPart, nodes-stay}
+use Rattle.demands.proofs.Steps.Changed.{changed-store, changed-numbers, changed-number, changed-ticket-part, changed-version-part}
+
+module _ (L : Limits) (m : Model) (S : Sound L m) (i : ℕ) (bytes : List ℕ) where
+  -- ---- the number
+
+  put-reads : (t : ℕ) → 0 < t → t ≤ length (m .tickets)
+      → let r = recordOf (areasImage L m) t in
+      PutReads t (L .updates) (r .version .0) (versionOf m t) (r .n) (pagesOf (ticketAt m t)) (bitOf (r .put) i) (bitIf (isFilled (getD (ticketAt m t .slots) i none)))
+  put-reads zero o h = absurd (omega arith)
+  put-reads (suc t) o h =
+      let e = record-at L m t (omega (arith, S .records)) in
+      record { there = omega (arith, S .records); version = rw e; pages = rw e; bit = rw e (mask-bit (ticketAt m (suc t) .slots) i) }
+
+  put-number : (t : ℕ) → putRefusal (storeImage L m) (lengthsOf (areasImage L m)) (recordOf (areasImage L m) t) t i (length bytes) ≡ putNumber L m t i bytes
+  unfolding putRefusal
+  put-number t =
+      let r = recordOf (areasImage L m) t in
+      image-number
+      L
+      m
+      S
+      (putRows (t ≤? L .updates) t (length (m .tickets)) (r .version .0) (r .n) i (bitOf (r .put) i) (length bytes) (L .size))
+      (putRows always t (length (m .tickets)) (versionOf m t) (pagesOf (ticketAt m t)) i (bitIf (isFilled (getD (ticketAt m t .slots) i none))) (length bytes) (L .size))
+      (L .updates <? t or L .pages ≤? r .number + i)
+      (put-alike _ _ _ _ _ _ _ _ _ _ _ _ (put-reads t))
+      (λ z.
+      let p = put-passed L m t i bytes z in
+      (omega (arith, p .upto, S .records), omega (arith, number-of L m S t (p .from) (p .upto), number-room L m S t (p .from) (p .upto), p .slot)))
+
+  -- ---- what it leaves
+
+  module _ (t : ℕ) (p : PutPassed L m (suc t) i bytes) where
+    -- No version, and no index past the last, has the ticket.
+    apart : (v : ℕ) → versionAt m v .ticket ≢ suc t
+    apart zero e = omega arith
+    apart (suc v) e = elim (lt-or-le (length (m .versions)) (suc v)) [
+      | inl l ↦ let z = ap (λ (x : Version). x .ticket) (nth-past noVersion (m .versions) (suc v) l) in omega arith
+      | inr l ↦ put-apart L m (suc t) i bytes S p (suc v) (omega arith) l e
+    ]
+
+    put-pages : put (pagesImage L m) (L .size * numberOf (areasImage L m) (suc t) i) bytes ≡ pagesImage L (filledAt L m (suc t) i bytes)
+    put-pages = rw (number-of L m S (suc t) (p .from) (p .upto)) (pages-put L m S t i bytes (p .upto) (p .slot) (p .whole))
+
+    put-nodes : nodesImage L m ≡ nodesImage L (filledAt L m (suc t) i bytes)
+    unfolding nodesImage
+    put-nodes =
+        let k = filledTicket L m (suc t) i bytes in
+        let s = filled-pages L m (suc t) i bytes in
+        let m′ = filledAt L m (suc t) i bytes in
+        ap flat
+        (tab-same (L .nodes) (nodeCell m) (nodeCell m′)
+        (λ q h. sym (nodes-stay m m′ (λ v o l. changed-version m (suc t) k (p .from) s v (apart v)) (λ v x o l. changed-numbers m (suc t) k (p .from) s v x) q)))
+
+    -- The ticket's part, with bit i set.
+    put-part : ticketPart (filledAt L m (suc t) i bytes) t
+        ≡ record { n = pagesOf (ticketAt m (suc t)); number = numberAt m t; put = withBit (maskOf (ticketAt m (suc t) .slots)) i; version = versionOf m (suc t) }
+    put-part =
+        let s = filled-pages L m (suc t) i bytes in
+        rw (changed-number m (suc t) (filledTicket L m (suc t) i bytes) (p .from) s t, filled-this L m (suc t) i bytes S p, s, mask-put (ticketAt m (suc t) .slots) i bytes (S .tickets (suc t) (p .from) (p .upto) .few) (p .slot) (p .empty))
+
+    put-register : withRecord (registerImage L m) t (withPut (recordOf (areasImage L m) (suc t)) i) ≡ registerImage L (filledAt L m (suc t) i bytes)
+    put-register =
+        let k = filledTicket L m (suc t) i bytes in
+        let s = filled-pages L m (suc t) i bytes in
+        let h : t < L .updates = omega (arith, p .upto, S .records) in
+        let version : (j : ℕ) → versionPart m j ≡ versionPart (filledAt L m (suc t) i bytes) j = λ j. changed-version-part m (suc t) k (p .from) s j (apart (suc j)) in
+        register-put L m (filledAt L m (suc t) i bytes) t _ h
+        (λ j l n. ap₂ both (changed-ticket-part m (suc t) k (p .from) s j (λ e. n (suc-inj e))) (version j))
+        (rw (record-at L m t h) (ap₂ both put-part (sym (version t))))
+
+  put-image : (t : ℕ) → PutPassed L m t i bytes
+      → stateOf (storeImage L m) (put (pagesImage L m) (L .size * numberOf (areasImage L m) t i) bytes) (nodesImage L m) (withRecord (registerImage L m) (pred t) (withPut (recordOf (areasImage L m) t) i))
+      ≡ image L (filledAt L m t i bytes)
+  put-image zero p = absurd (omega (arith, p .from))
+  put-image (suc t) p =
+      state-same
+      (changed-store m (suc t) (filledTicket L m (suc t) i bytes) (p .from) (filled-pages L m (suc t) i bytes) L)
+      (put-pages t p)
+      (put-nodes t p)
+      (put-register t p)
+
+  put-leaves : (t k : ℕ) (x : List ℕ) (r : List Record) → (k ≡ 0 → stateOf (storeImage L m) x (nodesImage L m) r ≡ image L (filledAt L m t i bytes))
+      → leaves (stateOf (storeImage L m) (unless k (pagesImage L m) x) (nodesImage L m) (unless k (registerImage L m) r)) (putAnswer (putIn k))
+      ≡ leaves (image L (unless k m (filledAt L m t i bytes))) (answers k putDone)
+  unfolding unless
+  put-leaves t zero x r h = ap (λ y. leaves y putDone) (h refl)
+  put-leaves t (suc k) x r h = refl
+
+pub put-step : (L : Limits) (m : Model) → Sound L m → (t i : ℕ) (bytes : List ℕ)
+    → onStore (image L m) (PUT t i bytes) ≡ (image L (onModel L m (PUT t i bytes) .0), onModel L m (PUT t i bytes) .1)
+unfolding onStore onModel
+put-step L m S t i bytes =
+    rw (put-number L m S i bytes t) (put-leaves L m S i bytes t (putNumber L m t i bytes) _ _ (λ z. put-image L m S i bytes t (put-passed L m t i bytes z)))

@@ -1,0 +1,66 @@
+-- STAMP and VIEW on a model's image: the number, the version and the bytes are the model's.
+-- Assumes nothing.
+use mathlib.Core.Path.{_≡_, refl, ap}
+use mathlib.Core.List.{[]}
+use Prim.Native.Nat.{ℕ, zero, suc, _*_}
+use lib.ListN.{getD}
+use Rattle.pages.specs.Pages.{part}
+use Rattle.tree.specs.Walk.{stampOf}
+use Rattle.versions.specs.Table.{_≤?_, _<?_, _or_, test, always, pageRows}
+use Rattle.versions.specs.Answers.{STAMP, VIEW, stampIs, answers, stampedAnswer}
+use Rattle.versions.specs.Calls.{areasDiffer, pagesIn, pageNumberOf, isLost, orZero, stampNumber, versionFound, stamped, findPage}
+use Rattle.demands.specs.Model.{Limits, Model, versionAt, updates, blobAt, pageNumber, onModel}
+use Rattle.demands.specs.Run.{onStore}
+use Rattle.demands.proofs.Image.{pagesImage, storeImage, areasImage, image}
+use Rattle.demands.proofs.Sound.{Sound}
+use Rattle.demands.proofs.Passed.{page-passed}
+use Rattle.demands.proofs.Records.{areas-agree}
+use Rattle.demands.proofs.Steps.Numbers.{number-same, page-alike}
+use Rattle.demands.proofs.Steps.Sizes.{pages-in}
+use Rattle.demands.proofs.Steps.Unless.{unless-same}
+use Rattle.demands.proofs.Steps.Found.{published-within, some-version, find-page, page-number, view-bytes}
+
+-- ---- the number
+
+module _ (L : Limits) (m : Model) (sound : Sound L m) where
+  module _ (v p : ℕ) where
+    pub stamp-number : stampNumber (storeImage L m) (areasImage L m) v p ≡ pageNumber L m v p
+    unfolding stampNumber
+    stamp-number =
+        number-same (areasDiffer (storeImage L m) (areasImage L m))
+        (pageRows (v ≤? L .updates) v (m .published) (pagesIn (areasImage L m) v) p) (pageRows always v (m .published) (versionAt m v .size) p)
+        (L .updates <? v or test (isLost (pageNumberOf (storeImage L m) (areasImage L m) v p))) (areas-agree L m sound)
+        (page-alike v (m .published) (L .updates) (pagesIn (areasImage L m) v) (versionAt m v .size) p (λ h.
+        let w = published-within L m sound v h in
+        (w .1, pages-in L m sound v (w .0)))) (λ z.
+        let q = page-passed L m v p z in
+        (published-within L m sound v (q .published) .1, rw (page-number L m sound v p (some-version m v p (q .inside)) (q .published) (q .inside))))
+
+-- ---- the answers
+
+stamp-says : (k n w : ℕ) → (k ≡ 0 → n ≡ w) → stampedAnswer (stamped k n) ≡ answers k (stampIs w)
+stamp-says zero n w e = ap stampIs (e refl)
+stamp-says (suc k) n w e = refl
+
+module _ (L : Limits) (m : Model) (sound : Sound L m) (v p : ℕ) where
+  pub stamp-step : onStore (image L m) (STAMP v p) ≡ (image L (onModel L m (STAMP v p) .0), onModel L m (STAMP v p) .1)
+  unfolding onStore onModel
+  stamp-step =
+      rw (
+        stamp-number L m sound v p,
+        stamp-says (pageNumber L m v p) (versionFound (findPage (storeImage L m) (areasImage L m) v p)) (stampOf (updates m) v p)
+            (λ z. let q = page-passed L m v p z in rw (find-page L m sound v p (some-version m v p (q .inside)) (q .published) (q .inside))),
+      )
+
+  pub view-step : onStore (image L m) (VIEW v p) ≡ (image L (onModel L m (VIEW v p) .0), onModel L m (VIEW v p) .1)
+  unfolding onStore onModel
+  view-step =
+      rw (
+        stamp-number L m sound v p,
+        unless-same (pageNumber L m v p) []
+            (part (pagesImage L m) (L .size * orZero (pageNumberOf (storeImage L m) (areasImage L m) v p)) (L .size)) (getD (blobAt m v) p [])
+            (λ z.
+            let q = page-passed L m v p z in
+            let o = some-version m v p (q .inside) in
+            rw (page-number L m sound v p o (q .published) (q .inside)) (view-bytes L m sound v p o (q .published) (q .inside))),
+      )

@@ -1,0 +1,19 @@
+-- A store with its areas, part by part, and what a call leaves and answers.
+-- Assumes nothing.
+use mathlib.Core.Path.{_≡_}
+use mathlib.Core.List.{List}
+use Prim.Native.Nat.{ℕ}
+use Rattle.tree.specs.declared.Record.{Record}
+use Rattle.versions.specs.declared.Store.{Store}
+use Rattle.versions.specs.Calls.{areasOf}
+use Rattle.versions.specs.Answers.{Answer, Outcome, says}
+use Rattle.demands.specs.Run.{State}
+
+abbrev pub leaves : State → Answer → State × Outcome
+leaves x a = (x, says a)
+
+abbrev pub stateOf : Store → List ℕ → List ℕ → List Record → State
+stateOf s pages nodes register = record { store = s; areas = areasOf pages nodes register }
+
+pub state-same : {s s′ : Store} {p p′ n n′ : List ℕ} {r r′ : List Record} → s ≡ s′ → p ≡ p′ → n ≡ n′ → r ≡ r′ → stateOf s p n r ≡ stateOf s′ p′ n′ r′
+state-same a b c d = λ i. stateOf (a i) (b i) (c i) (d i)
