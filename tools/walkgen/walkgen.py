@@ -718,6 +718,8 @@ class Fun:
             raise Unsupported('%s: a clause that is not one ⌜ fact ⌝' % self.path)
         s = m.group(1).strip()
         for p in self.params:
+            # a contract writes «a_b»; what is generated binds a_b
+            s = s.replace('«%s»' % p.name, p.name)
             n = re.escape(p.name)
             if p.slice:
                 if ens:

@@ -1,1 +1,12 @@
 pub mod Table
+pub mod Product
+pub mod Fills
+pub mod Bits
+pub mod Counted
+pub mod Ticket
+pub mod Passed
+pub mod NextNode
+pub mod Numbers
+pub mod WeaveRoom
+pub mod Refused
+pub mod Walkgen

@@ -1,3 +1,4 @@
 pub mod Table
 pub mod Answers
 pub mod Calls
+pub mod Weave

@@ -1,7 +1,36 @@
-// The version keeper: the store, and what each call answers.
+// The version keeper: the store, and the calls on it. A call takes the store by value and its areas lent, and hands the store back.
+// No call has a `requires`. A private function finds the refusal, by the rows of the table in their order; the call acts where it finds none.
+ghost use mathlib.Core.Path.{_≡_};
+ghost use Prim.Native.Nat.{ℕ, suc, pred, min, max, _+_, _-_, _*_, _^_, _<_, _≤_};
+ghost use mathlib.Core.List.{List, [], _∷_};
+ghost use lib.Dec.{eqb, ltb, leb};
+ghost use lib.ListN.{length, replicate};
+ghost use Rattle.pages.specs.Pages.{put};
+ghost use Rattle.tree.specs.Tree.{countOf};
+ghost use Rattle.tree.specs.NodeArea.{allOnes, withNode};
+ghost use Rattle.tree.specs.Register.{noRecord, updateOf, withRecord};
+ghost use Rattle.tree.specs.declared.Record.{Record};
+ghost use Rattle.versions.specs.Table.{_gives_, _≤?_, _or_, firstRefusal, holds, noTicket, outside, unless};
+ghost use Rattle.versions.specs.Weave.{NextOf, Planned, Children};
+ghost use Rattle.versions.specs.Calls.{areasOf, differ, fresh, formatRefusal, formatted, formatAnswer, formatAreas, beginRefusal, withTicketPart, begunBy, beginOut, beginRegister, bitOf, withBit, putRefusal, withPut, putIn, putOut, putPages, putRegister, updateAt, allPut, assignRefusal, withVersionOf, withVersionPart, assignedBy, assignOut, assignRegister, nextNode, nextPlace, leafPast, weaveRefusal, kept, wovenNode, wove, withWoven, weaveOut, weaveNodes, weaveRegister, publishRefusal, dueBy, publishedBy, publishOut, sizeRefusal, pagesBy, bytesBy, sizedBy, sizeOut, recentBy, recentOut};
+use tree::Extent;
 use tree::PageIndex;
+use tree::Record;
 use tree::Ticket;
 use tree::Version;
+use tree::extent_of;
+use tree::height_of;
+use tree::kth;
+use tree::newest_update;
+use tree::no_record;
+use tree::node_count;
+use tree::record_at;
+use tree::record_of;
+use tree::root_height;
+use tree::root_span;
+use tree::set_record;
+use tree::store_node;
+use tree::within_limits;
 
 // A byte's place in the blob.
 pub struct ByteOffset(pub u64);
@@ -113,4 +142,971 @@ pub enum Latest {
 pub enum Stamped {
     Is(Version),
     Refused(u64),
+}
+
+// Whether x is a times b, which may be more than 64 bits hold.
+fn is_product(x: u64, a: u64, b: u64) -> bool
+    ensures { λ r. ⌜ r ≡ eqb x (a * b) ⌝ }
+{
+    if a == 0 {
+        return x == 0;
+    }
+    if x % a != 0 {
+        return false;
+    }
+    x / a == b
+}
+
+// Row 3: the areas' lengths are not those of the store.
+fn areas_differ(s: Store, l: Lengths) -> bool
+    ensures { λ r. ⌜ r ≡ holds (differ s l) ⌝ }
+{
+    if !is_product(l.pages as u64, s.size, s.pages) {
+        return true;
+    }
+    if !is_product(l.nodes as u64, 2, s.nodes) {
+        return true;
+    }
+    l.register as u64 != s.updates
+}
+
+// The index of a record whose number counts from 1.
+fn index_of(k: u64) -> usize
+    ensures { λ r. ⌜ r ≡ pred k ⌝ }
+{
+    if k == 0 { 0 } else { (k - 1) as usize }
+}
+
+// Writes a record where the table's number k is 0.
+fn put_record(register: &mut [Record], k: u64, i: usize, r: Record)
+    ensures { λ _. ⌜ now (register .exit) ≡ unless k (now (register .entry)) (withRecord (now (register .entry)) i r) ⌝ }
+{
+    if k == 0 {
+        set_record(register, i, r);
+    }
+}
+
+// ---- FORMAT
+
+// Not from 1 to most.
+fn out_of_range(most: u64, n: u64) -> bool
+    ensures { λ r. ⌜ r ≡ holds (outside most n) ⌝ }
+{
+    n < 1 || most < n
+}
+
+// The refusal of FORMAT for the store that it would make.
+fn format_refusal(s: Store, l: Lengths) -> u64
+    ensures { λ r. ⌜ r ≡ formatRefusal s l ⌝ }
+{
+    if s.size < 16 {
+        return 1;
+    }
+    if 4096 % s.size != 0 {
+        return 1;
+    }
+    if out_of_range(65535, s.pages) {
+        return 2;
+    }
+    if out_of_range(131072, s.nodes) {
+        return 2;
+    }
+    if out_of_range(4096, s.updates) {
+        return 2;
+    }
+    if areas_differ(s, l) {
+        return 3;
+    }
+    0
+}
+
+// The store that FORMAT makes.
+fn fresh_store(size: u64, pages: u64, nodes: u64, updates: u64) -> Store
+    ensures { λ r. ⌜ r ≡ fresh size pages nodes updates ⌝ }
+{
+    Store {
+        size,
+        pages,
+        nodes,
+        updates,
+        tickets: Ticket(0),
+        taken: 0,
+        assigned: Version(0),
+        places: 0,
+        published: Version(0),
+        blob: 0,
+    }
+}
+
+// What FORMAT answers, by the table's number k.
+fn formatted_by(k: u64, s: Store) -> Formatted
+    ensures { λ r. ⌜ r ≡ formatted k s ⌝ }
+{
+    if k == 0 {
+        Formatted::Made(s)
+    } else {
+        Formatted::Refused(k)
+    }
+}
+
+// Fills the page area with 0.
+fn clear_pages(pages: &mut [u8])
+    ensures { λ _. ⌜ now (pages .exit) ≡ replicate (length (now (pages .entry))) 0 ⌝ }
+{
+    let mut i = 0;
+    while i < pages.len() {
+        pages[i] = 0;
+        i += 1;
+    }
+}
+
+// Fills the node area with all ones: no node is stored.
+fn clear_nodes(nodes: &mut [u32])
+    ensures { λ _. ⌜ now (nodes .exit) ≡ replicate (length (now (nodes .entry))) allOnes ⌝ }
+{
+    let mut i = 0;
+    while i < nodes.len() {
+        nodes[i] = u32::MAX;
+        i += 1;
+    }
+}
+
+// Fills the register with empty records.
+fn clear_register(register: &mut [Record])
+    ensures { λ _. ⌜ now (register .exit) ≡ replicate (length (now (register .entry))) noRecord ⌝ }
+{
+    let mut i = 0usize;
+    while i < register.len() {
+        register[i] = no_record();
+        i += 1;
+    }
+}
+
+// FORMAT: the store that these limits make, and its areas filled; a refusal yields no store and leaves the areas.
+pub fn format(
+    size: u64,
+    page_count: u64,
+    node_count: u64,
+    updates: u64,
+    pages: &mut [u8],
+    nodes: &mut [u32],
+    register: &mut [Record],
+) -> Formatted
+    ensures { λ r. ⌜ (r ≡ formatAnswer (fresh size «page_count» «node_count» updates) (areasOf (now (pages .entry)) (now (nodes .entry)) (now (register .entry)))) × (now (pages .exit) ≡ formatAreas (fresh size «page_count» «node_count» updates) (areasOf (now (pages .entry)) (now (nodes .entry)) (now (register .entry))) .pages) × (now (nodes .exit) ≡ formatAreas (fresh size «page_count» «node_count» updates) (areasOf (now (pages .entry)) (now (nodes .entry)) (now (register .entry))) .nodes) × (now (register .exit) ≡ formatAreas (fresh size «page_count» «node_count» updates) (areasOf (now (pages .entry)) (now (nodes .entry)) (now (register .entry))) .register) ⌝ }
+{
+    let s = fresh_store(size, page_count, node_count, updates);
+    let k = format_refusal(
+        s,
+        Lengths {
+            pages: pages.len(),
+            nodes: nodes.len(),
+            register: register.len(),
+        },
+    );
+    if k == 0 {
+        clear_pages(pages);
+        clear_nodes(nodes);
+        clear_register(register);
+    }
+    formatted_by(k, s)
+}
+
+// ---- BEGIN
+
+// The refusal of BEGIN.
+fn begin_refusal(s: Store, l: Lengths, n: u64) -> u64
+    ensures { λ r. ⌜ r ≡ beginRefusal s l n ⌝ }
+{
+    if areas_differ(s, l) {
+        return 3;
+    }
+    if n == 0 {
+        return 4;
+    }
+    if n > 64 {
+        return 4;
+    }
+    if s.updates <= s.tickets.0 {
+        return 5;
+    }
+    if s.taken > s.pages {
+        return 6;
+    }
+    if n > s.pages - s.taken {
+        return 6;
+    }
+    0
+}
+
+// A record with a ticket's part anew: n pages from a page number on, none put, no version.
+fn ticket_part(r: Record, n: u64, number: u64) -> Record
+    ensures { λ q. ⌜ q ≡ withTicketPart r n number ⌝ }
+{
+    let unassigned = Version(0);
+    let mut q = r;
+    q.n = n;
+    q.number = number;
+    q.put = 0;
+    q.version = unassigned;
+    q
+}
+
+// What BEGIN gives back, by the table's number k.
+fn begun_by(s: Store, n: u64, k: u64) -> BeginOut
+    requires { ⌜ (k ≡ 0 → (s .tickets .0 + 1 < 2 ^ 64) × (s .taken + n < 2 ^ 64)) ⌝ }
+    ensures { λ r. ⌜ r ≡ begunBy s n k ⌝ }
+{
+    if k != 0 {
+        return BeginOut {
+            store: s,
+            answer: Begun::Refused(k),
+        };
+    }
+    let next = Ticket(s.tickets.0 + 1);
+    let mut store = s;
+    store.tickets = next;
+    store.taken = s.taken + n;
+    BeginOut {
+        store,
+        answer: Begun::Given(next),
+    }
+}
+
+// BEGIN n: the next ticket, with the next n page numbers.
+pub fn begin(s: Store, pages: &[u8], nodes: &[u32], register: &mut [Record], n: u64) -> BeginOut
+    ensures { λ r. ⌜ (r ≡ beginOut s (areasOf (now (pages .entry)) (now (nodes .entry)) (now (register .entry))) n) × (now (register .exit) ≡ beginRegister s (areasOf (now (pages .entry)) (now (nodes .entry)) (now (register .entry))) n) ⌝ }
+{
+    let k = begin_refusal(
+        s,
+        Lengths {
+            pages: pages.len(),
+            nodes: nodes.len(),
+            register: register.len(),
+        },
+        n,
+    );
+    let i = s.tickets.0 as usize;
+    let r = record_at(register, i);
+    put_record(register, k, i, ticket_part(r, n, s.taken));
+    begun_by(s, n, k)
+}
+
+// ---- PUT and ASSIGN: both begin with the ticket, and cap the sums that may wrap
+
+// a + b, or the largest number where that is more.
+fn capped_sum(a: u64, b: u64) -> u64
+    ensures { λ r. ⌜ r ≡ min (a + b) (2 ^ 64 - 1) ⌝ }
+{
+    if b > u64::MAX - a { u64::MAX } else { a + b }
+}
+
+// Rows 3 and 7, with which the calls on a ticket begin.
+fn ticket_refusal(s: Store, l: Lengths, t: Ticket) -> u64
+    ensures { λ k. ⌜ k ≡ firstRefusal ((differ s l gives 3) ∷ (noTicket (t .0) (s .tickets .0) gives 7) ∷ []) ⌝ }
+{
+    if areas_differ(s, l) {
+        return 3;
+    }
+    if t.0 == 0 {
+        return 7;
+    }
+    if s.tickets.0 < t.0 {
+        return 7;
+    }
+    0
+}
+
+// ---- PUT
+
+// Bit i of a mask.
+fn bit_of(mask: u64, i: u64) -> u64
+    ensures { λ r. ⌜ r ≡ bitOf mask i ⌝ }
+{
+    if i < 64 { (mask >> i) % 2 } else { 0 }
+}
+
+// The mask with 1 added at bit i.
+fn with_bit(mask: u64, i: u64) -> u64
+    ensures { λ r. ⌜ r ≡ withBit mask i ⌝ }
+{
+    if i < 64 {
+        std::num::wrapping_add_u64(mask, 1 << i)
+    } else {
+        mask
+    }
+}
+
+// The refusal of PUT, with the ticket's record r.
+fn put_refusal(s: Store, l: Lengths, r: Record, t: Ticket, i: u64, bytes: usize) -> u64
+    ensures { λ k. ⌜ k ≡ putRefusal s l r (t .0) i bytes ⌝ }
+{
+    let k = ticket_refusal(s, l, t);
+    if k != 0 {
+        return k;
+    }
+    // The record lies past the register.
+    if s.updates < t.0 {
+        return if bytes as u64 != s.size { 11 } else { 19 };
+    }
+    if r.version.0 != 0 {
+        return 8;
+    }
+    if r.n <= i {
+        return 9;
+    }
+    if bit_of(r.put, i) == 1 {
+        return 10;
+    }
+    if bytes as u64 != s.size {
+        return 11;
+    }
+    if s.pages <= capped_sum(r.number, i) {
+        return 19;
+    }
+    0
+}
+
+// Stores the bytes as page `number` where the table's number k is 0.
+fn put_bytes(pages: &mut [u8], k: u64, size: u64, number: u64, bytes: &[u8])
+    ensures { λ _. ⌜ now (pages .exit) ≡ unless k (now (pages .entry)) (put (now (pages .entry)) (size * number) (now (bytes .entry))) ⌝ }
+{
+    if k == 0 {
+        pages::put_page(pages, size, number, bytes);
+    }
+}
+
+// A record with page i put.
+fn with_put(r: Record, i: u64) -> Record
+    ensures { λ q. ⌜ q ≡ withPut r i ⌝ }
+{
+    let mut q = r;
+    q.put = with_bit(r.put, i);
+    q
+}
+
+// What PUT answers, by the table's number k.
+fn put_answer(k: u64) -> PutIn
+    ensures { λ r. ⌜ r ≡ putIn k ⌝ }
+{
+    if k == 0 {
+        PutIn::Done
+    } else {
+        PutIn::Refused(k)
+    }
+}
+
+// PUT ticket, i, bytes: stores page i of the update. The store stays as it is.
+pub fn put(
+    s: Store,
+    pages: &mut [u8],
+    nodes: &[u32],
+    register: &mut [Record],
+    t: Ticket,
+    i: u64,
+    bytes: &[u8],
+) -> PutIn
+    ensures { λ r. ⌜ (r ≡ putOut s (areasOf (now (pages .entry)) (now (nodes .entry)) (now (register .entry))) (t .0) i (now (bytes .entry))) × (now (pages .exit) ≡ putPages s (areasOf (now (pages .entry)) (now (nodes .entry)) (now (register .entry))) (t .0) i (now (bytes .entry))) × (now (register .exit) ≡ putRegister s (areasOf (now (pages .entry)) (now (nodes .entry)) (now (register .entry))) (t .0) i (now (bytes .entry))) ⌝ }
+{
+    let r = record_of(register, t.0);
+    let l = Lengths {
+        pages: pages.len(),
+        nodes: nodes.len(),
+        register: register.len(),
+    };
+    let k = put_refusal(s, l, r, t, i, bytes.len());
+    put_bytes(pages, k, s.size, capped_sum(r.number, i), bytes);
+    put_record(register, k, index_of(t.0), with_put(r, i));
+    put_answer(k)
+}
+
+// ---- ASSIGN
+
+// Whether all n pages of a ticket are put. A mask has 64 bits.
+fn all_put(r: Record) -> bool
+    ensures { λ b. ⌜ b ≡ allPut r ⌝ }
+{
+    let n = r.n;
+    if n > 64 {
+        return false;
+    }
+    if n == 64 {
+        return r.put == u64::MAX;
+    }
+    r.put == (1u64 << n) - 1
+}
+
+// The last of n pages from f on; a sum that would wrap is capped.
+fn last_page(f: PageIndex, n: u64) -> PageIndex
+    ensures { λ r. ⌜ r ≡ record { 0 = min (f .0 + n) (2 ^ 64 - 1) - 1 } ⌝ }
+{
+    let end = capped_sum(f.0, n);
+    PageIndex(if end == 0 { 0 } else { end - 1 })
+}
+
+// The size in pages after n pages from f on; a sum that would wrap is capped.
+fn size_after(s: Store, f: PageIndex, n: u64) -> u64
+    ensures { λ r. ⌜ r ≡ max (s .blob) (min (f .0 + n) (2 ^ 64 - 1)) ⌝ }
+{
+    let end = capped_sum(f.0, n);
+    if s.blob < end { end } else { s.blob }
+}
+
+// The node count of n pages at page f.
+fn count_at(s: Store, f: PageIndex, n: u64) -> u64
+    ensures { λ r. ⌜ r ≡ countOf (updateAt s (f .0) n) ⌝ }
+{
+    let e = within_limits(f, last_page(f, n), size_after(s, f, n));
+    node_count(e.f, e.last, root_height(e.size))
+}
+
+// Row 15: too few node places are left for so many nodes.
+fn no_places(s: Store, count: u64) -> bool
+    ensures { λ r. ⌜ r ≡ ltb (s .nodes) (s .places + count) ⌝ }
+{
+    if s.nodes < s.places {
+        return true;
+    }
+    s.nodes - s.places < count
+}
+
+// The refusal of ASSIGN at page f, with the ticket's record r.
+fn assign_refusal(s: Store, l: Lengths, r: Record, t: Ticket, f: PageIndex) -> u64
+    ensures { λ k. ⌜ k ≡ assignRefusal s l r (t .0) (f .0) ⌝ }
+{
+    let k = ticket_refusal(s, l, t);
+    if k != 0 {
+        return k;
+    }
+    // The record lies past the register.
+    if s.updates < t.0 {
+        return if s.blob < f.0 { 13 } else { 19 };
+    }
+    if r.version.0 != 0 {
+        return 8;
+    }
+    if !all_put(r) {
+        return 12;
+    }
+    if s.blob < f.0 {
+        return 13;
+    }
+    if 4096 < capped_sum(f.0, r.n) {
+        return 14;
+    }
+    if no_places(s, count_at(s, f, r.n)) {
+        return 15;
+    }
+    if s.updates <= s.assigned.0 {
+        return 19;
+    }
+    0
+}
+
+// What ASSIGN gives back for n pages at page f, by the table's number k.
+fn assigned_by(s: Store, f: PageIndex, n: u64, k: u64) -> AssignOut
+    requires { ⌜ (k ≡ 0 → (f .0 + n ≤ 4096) × (s .assigned .0 < s .updates) × (s .places + countOf (updateAt s (f .0) n) ≤ s .nodes)) ⌝ }
+    ensures { λ r. ⌜ r ≡ assignedBy s (f .0) n k ⌝ }
+{
+    if k != 0 {
+        return AssignOut {
+            store: s,
+            answer: Assigned::Refused(k),
+        };
+    }
+    let count = count_at(s, f, n);
+    let version = Version(s.assigned.0 + 1);
+    let mut done = s;
+    done.assigned = version;
+    done.places = s.places + count;
+    done.blob = size_after(s, f, n);
+    AssignOut {
+        store: done,
+        answer: Assigned::Given(version, count),
+    }
+}
+
+// A record with its ticket's version.
+fn with_version(r: Record, v: Version) -> Record
+    ensures { λ q. ⌜ q ≡ withVersionOf r (v .0) ⌝ }
+{
+    let mut q = r;
+    q.version = v;
+    q
+}
+
+// A record with a version's part anew: its ticket, pages, size after, first node place, none woven.
+fn version_part(
+    r: Record,
+    t: Ticket,
+    f: PageIndex,
+    last: PageIndex,
+    size: u64,
+    place: u64,
+) -> Record
+    ensures { λ q. ⌜ q ≡ withVersionPart r (t .0) (f .0) (last .0) size place ⌝ }
+{
+    let mut q = r;
+    q.ticket = t;
+    q.f = f;
+    q.last = last;
+    q.size = size;
+    q.place = place;
+    q.woven = 0;
+    q
+}
+
+// ASSIGN ticket as a write at page f: the ticket's record gets the version, and the version's record, which may be the same one, its part.
+pub fn write(
+    s: Store,
+    pages: &[u8],
+    nodes: &[u32],
+    register: &mut [Record],
+    t: Ticket,
+    f: PageIndex,
+) -> AssignOut
+    ensures { λ r. ⌜ (r ≡ assignOut s (areasOf (now (pages .entry)) (now (nodes .entry)) (now (register .entry))) (t .0) (f .0)) × (now (register .exit) ≡ assignRegister s (areasOf (now (pages .entry)) (now (nodes .entry)) (now (register .entry))) (t .0) (f .0)) ⌝ }
+{
+    let r = record_of(register, t.0);
+    let l = Lengths {
+        pages: pages.len(),
+        nodes: nodes.len(),
+        register: register.len(),
+    };
+    let k = assign_refusal(s, l, r, t, f);
+    let out = assigned_by(s, f, r.n, k);
+    put_record(
+        register,
+        k,
+        index_of(t.0),
+        with_version(r, out.store.assigned),
+    );
+    let i = s.assigned.0 as usize;
+    let q = record_at(register, i);
+    put_record(
+        register,
+        k,
+        i,
+        version_part(q, t, f, last_page(f, r.n), out.store.blob, s.places),
+    );
+    out
+}
+
+// ASSIGN ticket as an append: a write at the size of the last assigned version.
+pub fn append(
+    s: Store,
+    pages: &[u8],
+    nodes: &[u32],
+    register: &mut [Record],
+    t: Ticket,
+) -> AssignOut
+    ensures { λ r. ⌜ (r ≡ assignOut s (areasOf (now (pages .entry)) (now (nodes .entry)) (now (register .entry))) (t .0) (s .blob)) × (now (register .exit) ≡ assignRegister s (areasOf (now (pages .entry)) (now (nodes .entry)) (now (register .entry))) (t .0) (s .blob)) ⌝ }
+{
+    write(s, pages, nodes, register, t, PageIndex(s.blob))
+}
+
+// ---- the node count of a version
+
+// The node count of a record's update.
+fn count_of(q: Record) -> u64
+    ensures { λ r. ⌜ r ≡ countOf (updateOf q) ⌝ }
+{
+    let e = extent_of(q);
+    node_count(e.f, e.last, root_height(e.size))
+}
+
+// ---- WEAVE
+
+// The next node of a version: its first page and span, its right half's first page, and the span of a half, which is 0 of a leaf.
+struct Next {
+    first: PageIndex,
+    span: u64,
+    right: PageIndex,
+    half: u64,
+}
+
+// What WEAVE is to do: the number of its refusal, the next node, and the version up to which its children's versions are looked for, which is 0, so
+// that none is looked for, where the call is refused or the node is a leaf.
+struct Plan {
+    k: u64,
+    next: Next,
+    limit: Version,
+}
+
+// The next node, in weaving order, of the version with this record.
+fn next_node(q: Record) -> Next
+    ensures { λ x. ⌜ NextOf q x ⌝ }
+{
+    let e = extent_of(q);
+    let x = kth(e.f, e.last, PageIndex(0), root_span(e.size), q.woven);
+    let first = x.first;
+    let half = x.span / 2;
+    Next {
+        first,
+        span: x.span,
+        right: PageIndex(first.0 + half),
+        half,
+    }
+}
+
+// How far page p lies from the first page of a record's update.
+fn pages_from(q: Record, p: PageIndex) -> u64
+    ensures { λ r. ⌜ r ≡ p .0 - updateOf q .f ⌝ }
+{
+    let e = extent_of(q);
+    let f = e.f;
+    if p.0 < f.0 { 0 } else { p.0 - f.0 }
+}
+
+// Whether a + b reaches n, where the sum may be more than 64 bits hold.
+fn sum_reaches(n: u64, a: u64, b: u64) -> bool
+    ensures { λ r. ⌜ r ≡ leb n (a + b) ⌝ }
+{
+    n <= a || n - a <= b
+}
+
+// Whether the next node has no place in the node area, or is a leaf whose page number lies past the page area.
+fn node_lost(s: Store, r: Record, q: Record) -> bool
+    ensures { λ b. ⌜ b ≡ holds (s .nodes ≤? nextPlace q or leafPast s r q (nextNode q)) ⌝ }
+{
+    if sum_reaches(s.nodes, q.place, q.woven) {
+        return true;
+    }
+    let x = next_node(q);
+    if x.half > 0 {
+        return false;
+    }
+    sum_reaches(s.pages, r.number, pages_from(q, x.first))
+}
+
+// The refusal of WEAVE, with the ticket's record r and its version's record q.
+fn weave_refusal(s: Store, l: Lengths, r: Record, q: Record, t: Ticket) -> u64
+    ensures { λ k. ⌜ k ≡ weaveRefusal s l r q (t .0) ⌝ }
+{
+    let last = s.tickets;
+    let v = r.version;
+    if areas_differ(s, l) {
+        return 3;
+    }
+    if t.0 == 0 {
+        return 7;
+    }
+    if last.0 < t.0 {
+        return 7;
+    }
+    if s.updates < t.0 {
+        return 19;
+    }
+    if v.0 == 0 {
+        return 8;
+    }
+    if s.updates < v.0 {
+        return 19;
+    }
+    if count_of(q) <= q.woven {
+        return 8;
+    }
+    if node_lost(s, r, q) { 19 } else { 0 }
+}
+
+// What WEAVE is to do, with the ticket's record r and its version's record q.
+fn weave_plan(s: Store, l: Lengths, r: Record, q: Record, t: Ticket) -> Plan
+    ensures { λ p. ⌜ Planned s l r q (t .0) p ⌝ }
+{
+    let own = r.version;
+    let k = weave_refusal(s, l, r, q, t);
+    let next = next_node(q);
+    if k > 0 {
+        return Plan {
+            k,
+            next,
+            limit: Version(0),
+        };
+    }
+    let limit = if next.half == 0 { Version(0) } else { own };
+    Plan { k, next, limit }
+}
+
+// A number as the node area keeps it.
+fn kept_of(x: u64) -> u32
+    ensures { λ r. ⌜ r ≡ kept x ⌝ }
+{
+    (x % 4294967296) as u32
+}
+
+// How many nodes are left after the next.
+fn nodes_left(q: Record) -> u64
+    ensures { λ r. ⌜ r ≡ countOf (updateOf q) - suc (q .woven) ⌝ }
+{
+    let count = count_of(q);
+    if count <= q.woven {
+        0
+    } else {
+        count - q.woven - 1
+    }
+}
+
+// The next node, x, with its numbers: its children's versions, or a leaf's page number.
+fn woven_node(r: Record, q: Record, x: Next, left: Version, right: Version) -> WovenNode
+    requires { ⌜ NextOf q x ⌝ }
+    ensures { λ n. ⌜ ((rs : List Record) → Children rs (r .version) x left right → n ≡ wovenNode rs r q (nextNode q)) ⌝ }
+{
+    let version = r.version;
+    let first = x.first;
+    let rest = nodes_left(q);
+    if x.half > 0 {
+        return WovenNode {
+            version,
+            first,
+            span: x.span,
+            left: kept_of(left.0),
+            right: kept_of(right.0),
+            rest,
+        };
+    }
+    // The sum may be more than 64 bits hold: the number's low half is enough.
+    let number = r.number % 4294967296 + pages_from(q, first);
+    WovenNode {
+        version,
+        first,
+        span: x.span,
+        left: kept_of(number),
+        right: 0,
+        rest,
+    }
+}
+
+// Stores the next node's numbers at its place where the number k is 0.
+fn store_woven(nodes: &mut [u32], k: u64, q: Record, x: WovenNode)
+    requires { ⌜ (k ≡ 0 → nextPlace q < 2 ^ 64) ⌝ }
+    ensures { λ _. ⌜ now (nodes .exit) ≡ unless k (now (nodes .entry)) (withNode (now (nodes .entry)) (nextPlace q) (x .left) (x .right)) ⌝ }
+{
+    if k == 0 {
+        store_node(nodes, q.place + q.woven, x.left, x.right);
+    }
+}
+
+// A record with one node more woven where the number k is 0.
+fn with_woven(k: u64, q: Record) -> Record
+    requires { ⌜ (k ≡ 0 → suc (q .woven) < 2 ^ 64) ⌝ }
+    ensures { λ r. ⌜ r ≡ unless k q (withWoven q) ⌝ }
+{
+    let mut next = q;
+    if k == 0 {
+        next.woven = q.woven + 1;
+    }
+    next
+}
+
+// What WEAVE answers, by the number k.
+fn woven_answer(k: u64, x: WovenNode) -> Woven
+    ensures { λ r. ⌜ r ≡ wove k x ⌝ }
+{
+    if k == 0 {
+        Woven::Node(x)
+    } else {
+        Woven::Refused(k)
+    }
+}
+
+// WEAVE ticket: stores the next node of the ticket's version at its place. The children's versions are read from the register: an update counts
+// from when its version is assigned, whether or not its nodes are stored.
+pub fn weave(s: Store, pages: &[u8], nodes: &mut [u32], register: &mut [Record], t: Ticket) -> Woven
+    ensures { λ r. ⌜ (r ≡ weaveOut s (areasOf (now (pages .entry)) (now (nodes .entry)) (now (register .entry))) (t .0)) × (now (nodes .exit) ≡ weaveNodes s (areasOf (now (pages .entry)) (now (nodes .entry)) (now (register .entry))) (t .0)) × (now (register .exit) ≡ weaveRegister s (areasOf (now (pages .entry)) (now (nodes .entry)) (now (register .entry))) (t .0)) ⌝ }
+{
+    let l = Lengths {
+        pages: pages.len(),
+        nodes: nodes.len(),
+        register: register.len(),
+    };
+    let r = record_of(register, t.0);
+    let v = r.version;
+    let q = record_of(register, v.0);
+    let p = weave_plan(s, l, r, q, t);
+    let x = p.next;
+    let left = newest_update(register, p.limit, x.first, x.half);
+    let right = newest_update(register, p.limit, x.right, x.half);
+    let node = woven_node(r, q, x, left, right);
+    store_woven(nodes, p.k, q, node);
+    put_record(register, p.k, index_of(v.0), with_woven(p.k, q));
+    woven_answer(p.k, node)
+}
+
+// ---- PUBLISH
+
+// The refusal of PUBLISH.
+fn publish_refusal(s: Store, l: Lengths) -> u64
+    ensures { λ k. ⌜ k ≡ publishRefusal s l ⌝ }
+{
+    if areas_differ(s, l) {
+        return 3;
+    }
+    if s.assigned.0 <= s.published.0 {
+        return 0;
+    }
+    if s.updates <= s.published.0 {
+        return 19;
+    }
+    0
+}
+
+// Whether there is a version after the last published one, with as many nodes woven as it has. Its record is q.
+fn is_due(s: Store, q: Record) -> bool
+    ensures { λ b. ⌜ b ≡ dueBy s q ⌝ }
+{
+    if s.assigned.0 <= s.published.0 {
+        return false;
+    }
+    q.woven == count_of(q)
+}
+
+// What PUBLISH gives back, with the record q of the version after the last published one.
+fn published_by(s: Store, l: Lengths, q: Record) -> PublishOut
+    ensures { λ r. ⌜ r ≡ publishedBy s l q ⌝ }
+{
+    let k = publish_refusal(s, l);
+    if k != 0 {
+        return PublishOut {
+            store: s,
+            answer: Published::Refused(k),
+        };
+    }
+    if !is_due(s, q) {
+        return PublishOut {
+            store: s,
+            answer: Published::Waiting,
+        };
+    }
+    let next = Version(s.published.0 + 1);
+    let tickets = s.tickets;
+    let assigned = s.assigned;
+    PublishOut {
+        store: Store {
+            size: s.size,
+            pages: s.pages,
+            nodes: s.nodes,
+            updates: s.updates,
+            tickets,
+            taken: s.taken,
+            assigned,
+            places: s.places,
+            published: next,
+            blob: s.blob,
+        },
+        answer: Published::Now(next),
+    }
+}
+
+// PUBLISH: the version after the last published one, if it is woven whole.
+pub fn publish(s: Store, pages: &[u8], nodes: &[u32], register: &[Record]) -> PublishOut
+    ensures { λ r. ⌜ r ≡ publishOut s (areasOf (now (pages .entry)) (now (nodes .entry)) (now (register .entry))) ⌝ }
+{
+    let last = s.published;
+    let q = record_at(register, last.0 as usize);
+    published_by(
+        s,
+        Lengths {
+            pages: pages.len(),
+            nodes: nodes.len(),
+            register: register.len(),
+        },
+        q,
+    )
+}
+
+// ---- SIZE
+
+// The refusal of SIZE.
+fn size_refusal(s: Store, l: Lengths, v: Version) -> u64
+    ensures { λ k. ⌜ k ≡ sizeRefusal s l (v .0) ⌝ }
+{
+    if areas_differ(s, l) {
+        return 3;
+    }
+    if s.published.0 < v.0 {
+        return 16;
+    }
+    if s.updates < v.0 {
+        return 19;
+    }
+    0
+}
+
+// The size in pages of version v, as its record q says; version 0 is empty.
+fn pages_by(v: Version, q: Record) -> u64
+    ensures { λ r. ⌜ r ≡ pagesBy (v .0) q ⌝ }
+{
+    if v.0 == 0 {
+        0
+    } else {
+        let e = extent_of(q);
+        e.size
+    }
+}
+
+// So many pages in bytes. A product that would wrap answers the largest number.
+fn bytes_by(s: Store, pages: u64) -> u64
+    ensures { λ r. ⌜ r ≡ bytesBy s pages ⌝ }
+{
+    if s.size == 0 {
+        return 0;
+    }
+    if pages > u64::MAX / s.size {
+        return u64::MAX;
+    }
+    s.size * pages
+}
+
+// What SIZE answers, with the record q of version v.
+fn sized_by(s: Store, l: Lengths, q: Record, v: Version) -> Sized
+    ensures { λ r. ⌜ r ≡ sizedBy s l q (v .0) ⌝ }
+{
+    let k = size_refusal(s, l, v);
+    if k != 0 {
+        return Sized::Refused(k);
+    }
+    Sized::Bytes(bytes_by(s, pages_by(v, q)))
+}
+
+// SIZE v: the bytes of a published version.
+pub fn size(s: Store, pages: &[u8], nodes: &[u32], register: &[Record], v: Version) -> Sized
+    ensures { λ r. ⌜ r ≡ sizeOut s (areasOf (now (pages .entry)) (now (nodes .entry)) (now (register .entry))) (v .0) ⌝ }
+{
+    let q = record_of(register, v.0);
+    sized_by(
+        s,
+        Lengths {
+            pages: pages.len(),
+            nodes: nodes.len(),
+            register: register.len(),
+        },
+        q,
+        v,
+    )
+}
+
+// ---- RECENT
+
+// What RECENT answers.
+fn recent_by(s: Store, l: Lengths) -> Latest
+    ensures { λ r. ⌜ r ≡ recentBy s l ⌝ }
+{
+    if areas_differ(s, l) {
+        return Latest::Refused(3);
+    }
+    let newest = s.published;
+    Latest::Is(newest)
+}
+
+// RECENT: the last version published; 0 before the first.
+pub fn recent(s: Store, pages: &[u8], nodes: &[u32], register: &[Record]) -> Latest
+    ensures { λ r. ⌜ r ≡ recentOut s (areasOf (now (pages .entry)) (now (nodes .entry)) (now (register .entry))) ⌝ }
+{
+    recent_by(
+        s,
+        Lengths {
+            pages: pages.len(),
+            nodes: nodes.len(),
+            register: register.len(),
+        },
+    )
 }
