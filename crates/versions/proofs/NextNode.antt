@@ -5,7 +5,7 @@ use mathlib.Core.Logic.{inl, inr}
 use Prim.Native.Nat.{ℕ, zero, suc, _+_, _-_, _/_, _^_, _≤_}
 use native.Mathlib.Omega.{arith}
 use borrow.Author.Tests.{lt-ltb, le-ltb, le-leb}
-use lib.Pow.{pow-pos, pow-mono}
+use lib.Pow.{pow-mono}
 use Rattle.tree.specs.Tree.{Node, node, rootHeight}
 use Rattle.tree.specs.Place.{below, kth}
 use Rattle.tree.specs.Register.{updateOf}
@@ -22,7 +22,7 @@ use Rattle.versions.specs.declared.Next.{Next}
 -- ---- the root of a record's update
 
 module _ (q : Record) where
-  abbrev pub heightIn : ℕ
+  abbrev heightIn : ℕ
   heightIn = rootHeight (updateOf q .size)
 
   pub root-pages : Pages (updateOf q .f) (updateOf q .last) heightIn
@@ -30,11 +30,11 @@ module _ (q : Record) where
       let i = updateOf-inside q in
       record { order = i .0; inside = omega (arith, root-fits (updateOf q .size)); low = omega (arith, root-low (updateOf q .size) (i .2)) }
 
-  pub root-spans : rootSpan (updateOf q .size) ≡ 2 ^ heightIn
+  root-spans : rootSpan (updateOf q .size) ≡ 2 ^ heightIn
   unfolding rootSpan
   root-spans = let i = updateOf-inside q in rw (lt-ltb 0 (updateOf q .size) (omega arith), le-leb (updateOf q .size) 4096 (i .2))
 
-  pub root-span-low : 2 ^ heightIn ≤ 4096
+  root-span-low : 2 ^ heightIn ≤ 4096
   root-span-low = omega (arith, pow-mono (root-low (updateOf q .size) (updateOf-inside q .2)))
 
   pub root-room : Spans (updateOf q .f) (updateOf q .last) 0 (rootSpan (updateOf q .size))
@@ -44,10 +44,10 @@ module _ (q : Record) where
 
 -- ---- the node at any index, of the node count or past it
 
-pub same-first : (x : Node) → firstOf x ≡ firstPage x
+same-first : (x : Node) → firstOf x ≡ firstPage x
 same-first (node a h) = refl
 
-pub same-span : (x : Node) → Contract.spanOf x ≡ spanOf x
+same-span : (x : Node) → Contract.spanOf x ≡ spanOf x
 same-span (node a h) = refl
 
 kth-inside : (f l a h i : ℕ) → (a ≤ firstPage (kth f l a h i)) × (firstPage (kth f l a h i) + spanOf (kth f l a h i) ≤ a + 2 ^ h)
@@ -59,7 +59,7 @@ kth-inside f l a (suc h) (suc i) = elim (lt-or-le i (below f l a h)) [
   | inr p ↦ rw (le-ltb i (below f l a h) p, kth) (let t = kth-inside f l (a + 2 ^ h) h (i - below f l a h) in (omega arith, omega arith))
 ]
 
-pub next-inside : (q : Record) → firstPage (nextNode q) + spanOf (nextNode q) ≤ 4096
+next-inside : (q : Record) → firstPage (nextNode q) + spanOf (nextNode q) ≤ 4096
 unfolding nextNode
 next-inside q = let u = updateOf q in omega (arith, kth-inside (u .f) (u .last) 0 (heightIn q) (q .woven), root-span-low q)
 

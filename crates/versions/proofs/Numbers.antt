@@ -1,6 +1,6 @@
 -- The numbers of the next node: its children's versions, or a leaf's page number; and where that number lies past the page area.
 -- Assumes nothing.
-use mathlib.Core.Path.{_≡_, refl}
+use mathlib.Core.Path.{_≡_}
 use mathlib.Core.Bool.{false}
 use mathlib.Core.List.{List}
 use Prim.Native.Nat.{ℕ, suc, _+_, _-_, _%_, _^_, _<_}
@@ -30,7 +30,7 @@ module _ (r q : Record) (x : Next) (n : NextOf q x) where
   leaf-past s p = elim (shape q x n) [ leaf e d z ↦ rw e | inner h e d z ↦ absurd (omega (arith, pow-pos h)) ]
 
   -- The node with these two numbers.
-  abbrev pub withNumbers : ℕ → ℕ → WovenNode
+  abbrev withNumbers : ℕ → ℕ → WovenNode
   withNumbers left right = record {
     version = r .version;
     first = x .first;

@@ -5,7 +5,6 @@ use mathlib.Core.Logic.{inl, inr}
 use mathlib.Core.List.{List}
 use Prim.Native.Nat.{ℕ, zero, suc, _+_, _^_, _≤_, _<_}
 use native.Mathlib.Omega.{arith}
-use lib.ListN.{length}
 use Rattle.tree.specs.Register.{newestIn}
 use Rattle.tree.specs.declared.Record.{Record}
 use Rattle.versions.specs.Table.{unless, weaveRows}
@@ -42,7 +41,7 @@ module _ (s : Store) (l : Lengths) (r q : Record) (t : ℕ) where
     pub right-room : p .next .right .0 + p .next .half < 2 ^ 64
     right-room = let n = planned .next in omega (arith, n .halves, n .right, n .inside)
 
-    -- So do the next node's place and the count after it, where the call is not refused.
+    -- Where the call is not refused, the next node has a place, which bounds the count after it too.
     pub place-low : p .k ≡ 0 → nextPlace q < s .nodes
     place-low z = omega (arith, weave-passed (rw (planned .number) at z))
 

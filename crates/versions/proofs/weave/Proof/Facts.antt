@@ -1,49 +1,8 @@
 -- The facts that the walk of `versions::weave` asks for. The author's file: tools/walkgen wrote its skeleton once, and with --rebind brings the arguments up to date.
-use mathlib.Core.Path.{_≡_, refl, sym, _∙_, ap, subst}
-use Prim.Native.Nat.{ℕ, _+_, _-_, _*_, _<_, _≤_, _^_, suc, pred}
+use mathlib.Core.Path.{_≡_}
 use native.Mathlib.Omega.{arith}
-use mathlib.Core.List.{List}
-use mathlib.Core.Bool.{Bool, true, false}
-use lib.Dec.{ltb, leb, eqb}
-use lib.ListN.{length, getD, set, replicate}
-use Rattle.versions.specs.declared.Woven.{Woven}
-use Rattle.versions.proofs.Walkgen.Kind.Woven as Woven′
-use Rattle.versions.specs.declared.WovenNode.{WovenNode}
-use Rattle.versions.proofs.Walkgen.Kind.WovenNode as WovenNode′
-use Rattle.tree.specs.declared.Version.{Version}
-use Rattle.tree.proofs.Walkgen.Kind.Version as Version′
-use Rattle.tree.specs.declared.PageIndex.{PageIndex}
-use Rattle.tree.proofs.Walkgen.Kind.PageIndex as PageIndex′
-use Rattle.versions.specs.declared.Store.{Store}
 use Rattle.versions.proofs.Walkgen.Kind.Store as Store′
-use Rattle.tree.specs.declared.Ticket.{Ticket}
-use Rattle.tree.proofs.Walkgen.Kind.Ticket as Ticket′
-use Rattle.tree.specs.declared.Record.{Record}
-use Rattle.tree.proofs.Walkgen.Kind.Record as Record′
-use Rattle.versions.specs.declared.Lengths.{Lengths}
-use Rattle.versions.proofs.Walkgen.Kind.Lengths as Lengths′
-use Rattle.versions.specs.declared.Plan.{Plan}
-use Rattle.versions.proofs.Walkgen.Kind.Plan as Plan′
-use Rattle.versions.specs.declared.Next.{Next}
-use Rattle.versions.proofs.Walkgen.Kind.Next as Next′
-use Rattle.versions.proofs.Walkgen.Say.weave as weave″
-use Rattle.tree.proofs.Walkgen.Say.record_of as record-of″
-use Rattle.versions.proofs.Walkgen.Say.weave_plan as weave-plan″
-use Rattle.tree.proofs.Walkgen.Say.newest_update as newest-update″
-use Rattle.versions.proofs.Walkgen.Say.woven_node as woven-node″
-use Rattle.versions.proofs.Walkgen.Say.store_woven as store-woven″
-use Rattle.versions.proofs.Walkgen.Say.index_of as index-of″
-use Rattle.versions.proofs.Walkgen.Say.with_woven as with-woven″
-use Rattle.versions.proofs.Walkgen.Say.put_record as put-record″
-use Rattle.versions.proofs.Walkgen.Say.woven_answer as woven-answer″
-use Rattle.pages.specs.Pages.{put, part}
-use Rattle.tree.specs.Tree.{countOf}
-use Rattle.tree.specs.Register.{noRecord, updateOf, withRecord}
-use Rattle.tree.specs.NodeArea.{withNode}
-use Rattle.versions.specs.Table.{holds, unless, _≤?_, _or_}
-use Rattle.versions.specs.Weave.{NextOf, Planned, Children}
-use Rattle.versions.specs.Calls.{sizeAfter, updateAt, allPut, assignRefusal, withVersion, withVersionOf, withVersionPart, assignedBy, assignOut, assignRegister, nextNode, nextPlace, leafPast, weaveRefusal, kept, wovenNode, wovenRecord, nodeOf, wove, withWoven, weaveOut, weaveNodes, weaveRegister, publishedBy, publishOut, pagesBy, bytesBy, sizedBy, sizeOut, recentBy, recentOut, areasOf, lengthsOf, differ, fresh, formatRefusal, formatted, formatAnswer, formatAreas, beginRefusal, withTicketPart, begunBy, beginOut, beginRegister, bitOf, withBit, putRefusal, withPut, putIn, putOut, putPages, putRegister}
-use Rattle.tree.proofs.Walkgen.Flow.{within}
+use Rattle.versions.specs.Calls.{areasOf, wovenRecord, nodeOf, withWoven}
 use Rattle.versions.proofs.Table.{unless-0}
 use Rattle.versions.proofs.WeaveRoom.{limit-inside, left-room, right-room, place-low, children-found, wove-same, unless-same}
 use Rattle.versions.proofs.weave.Proof.Asks as Asks
