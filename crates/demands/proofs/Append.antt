@@ -1,15 +1,15 @@
 -- A further update changes nothing that is said of the versions before it.
 -- Assumes nothing.
 use mathlib.Core.Path.{_≡_, refl, ap}
-use mathlib.Core.Bool.{true, false}
 use mathlib.Core.List.{List, [], _∷_, _++_}
 use Prim.Native.Nat.{ℕ, zero, suc, _+_, _^_, _≤_, _<_}
 use native.Mathlib.Omega.{arith}
 use lib.ListN.{length}
-use Rattle.tree.specs.Tree.{Update, Node, node, countOf, meets, noUpdate, update, newest, sizeAt}
+use Rattle.tree.specs.Tree.{Update, Node, node, countOf, noUpdate, update, newest, sizeAt}
 use Rattle.tree.specs.Walk.{Accepted, used}
 use Rattle.demands.specs.Model.{leftOf, rightOf}
 use Rattle.demands.proofs.Nth.{nth-append, nth-new}
+use Rattle.demands.proofs.Updates.{newest-same, used-same}
 
 module _ (us : List Update) (u : Update) where
   pub update-append : (v : ℕ) → v ≤ length us → update (us ++ u ∷ []) v ≡ update us v
@@ -17,18 +17,10 @@ module _ (us : List Update) (u : Update) where
   update-append v h = nth-append noUpdate us (u ∷ []) v h
 
   pub newest-append : (v a s : ℕ) → v ≤ length us → newest (us ++ u ∷ []) v a s ≡ newest us v a s
-  unfolding newest
-  newest-append zero a s l = refl
-  newest-append (suc v) a s l =
-      rw (update-append (suc v) l, newest)
-      (ap
-      (λ (x : ℕ). elim (meets (update us (suc v) .f) (update us (suc v) .last) a s) as (λ _. ℕ) [ true ↦ suc v | false ↦ x ])
-      (newest-append v a s (omega arith)))
+  newest-append v a s l = newest-same (us ++ u ∷ []) us (length us) update-append v l a s
 
   pub used-append : (v : ℕ) → v ≤ length us → used (us ++ u ∷ []) v ≡ used us v
-  unfolding used
-  used-append zero l = refl
-  used-append (suc v) l = rw (update-append (suc v) l, used-append v (omega arith))
+  used-append v l = used-same (us ++ u ∷ []) us (length us) update-append v l
 
   pub sizeAt-append : (v : ℕ) → v ≤ length us → sizeAt (us ++ u ∷ []) v ≡ sizeAt us v
   unfolding sizeAt

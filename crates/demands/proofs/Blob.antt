@@ -1,22 +1,23 @@
 -- Version k's pages: how many there are, which update each is from, and how long each is.
 -- Assumes nothing.
 use mathlib.Core.Path.{_≡_, refl, ap, _∙_}
-use mathlib.Core.Bool.{true}
 use mathlib.Core.Option.{Option, none, some}
-use mathlib.Core.List.{List, [], _∷_, _++_, append-assoc, map}
+use mathlib.Core.List.{List, [], _++_, append-assoc, map}
 use Prim.Native.Nat.{ℕ, zero, suc, _+_, _-_, _*_, _≤_, _<_, max}
 use native.Mathlib.Omega.{arith}
 use lib.ListN.{length, getD, take, drop, length-append, length-take, length-drop, length-map, List·getD-append, List·getD-map}
 use lib.Seq.{getD-append-add, getD-take, getD-drop}
-use Rattle.tree.specs.Tree.{update}
 use Rattle.tree.specs.Walk.{stampOf}
 use Rattle.tree.proofs.Meets.{within, before, after}
 use Rattle.tree.proofs.Newest.{sides, newest-within, newest-before, newest-after, newest-le, newest-meets}
 use Rattle.tree.proofs.Walk.{covered}
-use Rattle.demands.specs.Model.{Limits, Page, Model, pagesOf, ticketAt, versionAt, updates, allFilled, content, applied, blobAt, bytesAt}
+use Rattle.demands.specs.Model.{Limits, Page, Model, pagesOf, ticketAt, versionAt, updates, content, applied, blobAt, bytesAt}
 use Rattle.demands.proofs.Sound.{Sound}
-use Rattle.demands.proofs.Joined.{bytesBy, AllOf, joined-length, pageByte, joined-range}
-use Rattle.demands.proofs.Updates.{update-at, f-at, size-at}
+use Rattle.demands.proofs.Slots.{filled-slot}
+use Rattle.demands.proofs.Blocks.{Blocks, length-joined, pageByte}
+use Rattle.demands.proofs.Bytes.{bytesBy, blocks-range}
+use Rattle.demands.proofs.Updates.{f-at, size-at}
+use Rattle.demands.proofs.Facts.{update-end, version-starts, version-grows}
 
 -- ---- new pages over a part of a blob
 
@@ -53,14 +54,6 @@ module _ (blob : List Page) (f : ℕ) (new : List Page) (starts : f ≤ length b
       ∙ getD-drop (f + length new) blob i []
       ∙ ap (λ (n : ℕ). getD blob n []) g
 
--- A slot of a filled ticket has a page: its content.
-pub filled-slot : (xs : List (Option Page)) → allFilled xs ≡ true → (i : ℕ) → i < length xs → getD xs i none ≡ some (content (getD xs i none))
-unfolding allFilled
-filled-slot [] e i q = absurd (omega arith)
-filled-slot (none ∷ xs) e i q = absurd (let z : _≡_ {A = ℕ} 0 1 = cc in omega arith)
-filled-slot (some x ∷ xs) e zero q = refl
-filled-slot (some x ∷ xs) e (suc i) q = filled-slot xs e i (omega arith)
-
 -- ---- the blob
 
 -- The pages of the model's version v as its ticket has them, and the slot that page p of version k is from.
@@ -78,31 +71,12 @@ pub record StampedIn (m : Model) (k p : ℕ) : Type 0 where
   pub slot : p - versionAt m (stampOf (updates m) k p) .f < pagesOf (ticketAt m (versionAt m (stampOf (updates m) k p) .ticket))
 
 module _ (L : Limits) (m : Model) (sound : Sound L m) where
-  some-slots : (v : ℕ) → 0 < v → v ≤ length (m .versions) → 0 < length (slotsOf m v)
-  some-slots v p q =
-      let s = sound .versions v p q in
-      sound .tickets (versionAt m v .ticket) (s .from) (s .upto) .some-pages
-
-  -- An update's pages begin inside the blob, and the size grows to hold them.
-  pub starts-inside : (v : ℕ) → v < length (m .versions) → versionAt m (suc v) .f ≤ versionAt m v .size
-  starts-inside v p = rw (update-at m (suc v), size-at m v) at (sound .accepted v p .starts)
-
-  pub size-grows : (v : ℕ) → v < length (m .versions) → versionAt m (suc v) .size ≡ max (versionAt m v .size) (versionAt m (suc v) .f + length (slotsOf m (suc v)))
-  size-grows v p =
-      let s = some-slots (suc v) (omega arith) p in
-      let g = rw (update-at m (suc v), size-at m v) at (sound .accepted v p .grows) in
-      omega arith
-
   pub blob-length : (k : ℕ) → k ≤ length (m .versions) → length (blobAt m k) ≡ versionAt m k .size
   unfolding blobAt
   blob-length zero q = refl
   blob-length (suc k) q =
       let e = blob-length k (omega arith) in
-      rw (applied-length (blobAt m k) (versionAt m (suc k) .f) (map content (slotsOf m (suc k))) (omega (arith, starts-inside k q)), e, length-map, size-grows k q)
-
-  -- An update's last page.
-  pub last-at : (v : ℕ) → 0 < v → v ≤ length (m .versions) → suc (update (updates m) v .last) ≡ versionAt m v .f + pagesOf (ticketAt m (versionAt m v .ticket))
-  last-at v p q = rw (update-at m v) (omega (arith, some-slots v p q))
+      rw (applied-length (blobAt m k) (versionAt m (suc k) .f) (map content (slotsOf m (suc k))) (omega (arith, version-starts L m sound k q)), e, length-map, version-grows L m sound k q)
 
   -- Page p of version k is the slot of the newest version that covers it.
   pub blob-page : (k p : ℕ) → k ≤ length (m .versions) → p < versionAt m k .size → getD (blobAt m k) p [] ≡ content (slotOf m k p)
@@ -115,16 +89,16 @@ module _ (L : Limits) (m : Model) (sound : Sound L m) where
       let new = map content xs in
       let n = length-map xs content in
       let e = blob-length k (omega arith) in
-      let s : f ≤ length b = omega (arith, starts-inside k q) in
+      let s : f ≤ length b = omega (arith, version-starts L m sound k q) in
       let g = f-at m (suc k) in
-      let l = last-at (suc k) (omega arith) q in
+      let l = update-end L m sound (suc k) (omega arith) q in
       elim (sides (updates m) k p 1) [
         | within t u ↦
             rw (newest-within (updates m) k p 1 t u, applied-within b f new s p (omega arith) (omega arith)) (List·getD-map content xs (p - f) none)
         | before t ↦
             rw (newest-before (updates m) k p 1 t, applied-before b f new s p (omega arith)) (blob-page k p (omega arith) (omega arith))
         | after t ↦
-            rw (newest-after (updates m) k p 1 t, applied-after b f new s p (omega arith)) (blob-page k p (omega arith) (omega (arith, size-grows k q)))
+            rw (newest-after (updates m) k p 1 t, applied-after b f new s p (omega arith)) (blob-page k p (omega arith) (omega (arith, version-grows L m sound k q)))
       ]
 
   module _ (k p : ℕ) (q : k ≤ length (m .versions)) (r : p < versionAt m k .size) where
@@ -135,7 +109,7 @@ module _ (L : Limits) (m : Model) (sound : Sound L m) where
         let le = newest-le (updates m) k p 1 in
         let c = newest-meets (updates m) k p 1 o in
         let g = f-at m w in
-        let l = last-at w o (omega arith) in
+        let l = update-end L m sound w o (omega arith) in
         record { above = o; upto = le; from = omega arith; slot = omega arith }
 
     -- That slot is filled, by the page.
@@ -154,13 +128,13 @@ module _ (L : Limits) (m : Model) (sound : Sound L m) where
         let s = sound .versions w (b .above) (omega arith) in
         sound .tickets (versionAt m w .ticket) (s .from) (s .upto) .bytes (p - versionAt m w .f) (getD (blobAt m k) p []) page-filled
 
-  pub blob-pages : (k : ℕ) → k ≤ length (m .versions) → AllOf (L .size) (blobAt m k)
+  pub blob-pages : (k : ℕ) → k ≤ length (m .versions) → Blocks (L .size) (blobAt m k)
   blob-pages k q i r = page-size k i q (rw (← blob-length k q) r)
 
   pub bytes-length : (k : ℕ) → k ≤ length (m .versions) → length (bytesAt m k) ≡ L .size * versionAt m k .size
-  bytes-length k q = rw (joined-length (L .size) (blobAt m k) (blob-pages k q), blob-length k q)
+  bytes-length k q = rw (length-joined (L .size) (blobAt m k) (blob-pages k q), blob-length k q)
 
   -- A range of the bytes, byte by byte of its page.
   pub bytes-range : (k off len : ℕ) → k ≤ length (m .versions) → off + len ≤ L .size * versionAt m k .size
       → take len (drop off (bytesAt m k)) ≡ bytesBy (pageByte (L .size) (blobAt m k)) off len
-  bytes-range k off len q r = joined-range (L .size) (sound .allowed .somePage) (blobAt m k) (blob-pages k q) off len (rw (blob-length k q) r)
+  bytes-range k off len q r = blocks-range (L .size) (blobAt m k) (blob-pages k q) (sound .allowed .somePage) off len (rw (blob-length k q) r)

@@ -7,7 +7,7 @@ use Prim.Native.Nat.{ℕ, suc, _+_, _*_, _/_, _%_, _≤_, _<_}
 use native.Mathlib.Nat.{mul-zero, mul-suc, mul-comm, mul-le-mul-left, div-add-mod, mod-lt, div-lt-iff-lt-mul}
 use native.Mathlib.Omega.{arith}
 use borrow.Author.Tests.{le-leb}
-use lib.ListN.{length, getD, take, drop, set, length-append, length-take, length-drop, List·getD-append}
+use lib.ListN.{length, getD, take, drop, set, length-append, List·getD-append}
 use lib.Seq.{split-at, set-split, take-at, drop-at, length-take-le, getD-take, getD-drop, drop-drop}
 use Rattle.pages.specs.Pages.{put, part}
 use Rattle.demands.specs.Model.{Page, joined}
@@ -36,7 +36,10 @@ joined-split xs q h = ap joined (split-at xs q [] h) ∙ joined-append (take q x
 
 module _ (S : ℕ) (xs : List Page) (sized : Blocks S xs) (q : ℕ) (there : q < length xs) where
   length-front : length (joined (take q xs)) ≡ S * q
-  length-front = length-joined S (take q xs) (λ i l. let l′ : i < q = rw (length-take-le q xs (omega arith)) at l in rw (getD-take q xs i []) (sized i (omega arith))) ∙ rw (length-take-le q xs (omega arith))
+  length-front =
+      let e = length-take-le q xs (omega arith) in
+      let front : Blocks S (take q xs) = λ i l. let l′ : i < q = rw e at l in rw (getD-take q xs i []) (sized i (omega arith)) in
+      length-joined S (take q xs) front ∙ rw e
 
   pub block-drop : drop (S * q) (joined xs) ≡ getD xs q [] ++ joined (drop (suc q) xs)
   block-drop = rw (joined-split xs q there) (drop-at (joined (take q xs)) (getD xs q [] ++ joined (drop (suc q) xs)) (S * q) length-front)
@@ -64,21 +67,16 @@ module _ (S : ℕ) (xs : List Page) (sized : Blocks S xs) (q : ℕ) (there : q <
       rw (e, le-leb (S * q + S) (length (joined xs)) block-room, block-take, block-after, append-assoc, set-split xs q x there)
       (sym (joined-append (take q xs) (x ∷ drop (suc q) xs)))
 
--- A byte by its number, and the bytes of a range.
-module _ (S : ℕ) (xs : List Page) (sized : Blocks S xs) (some : 0 < S) where
-  pub blocks-byte : (j : ℕ) → j < S * length xs → getD (joined xs) j 0 ≡ getD (getD xs (j / S) []) (j % S) 0
-  blocks-byte j h =
-      let l : j / S < length xs = div-lt-iff-lt-mul some .1 (rw mul-comm h) in
-      rw (div-add-mod j S) at (block-byte S xs sized (j / S) l (j % S) (mod-lt j some))
+-- Byte j is byte j % S of block j / S.
+abbrev pub pageByte : ℕ → List Page → ℕ → ℕ
+pageByte S xs j = getD (getD xs (j / S) []) (j % S) 0
 
-  pub blocks-range : (off len i : ℕ) → off + len ≤ S * length xs → i < len
-      → getD (take len (drop off (joined xs))) i 0 ≡ getD (getD xs ((off + i) / S) []) ((off + i) % S) 0
-  blocks-range off len i h l = rw (getD-take len (drop off (joined xs)) i 0 l, getD-drop off (joined xs) i 0) (blocks-byte (off + i) (omega arith))
+pub blocks-byte : (S : ℕ) (xs : List Page) → Blocks S xs → 0 < S → (j : ℕ) → j < S * length xs → getD (joined xs) j 0 ≡ pageByte S xs j
+blocks-byte S xs sized some j h =
+    let l : j / S < length xs = div-lt-iff-lt-mul some .1 (rw mul-comm h) in
+    rw (div-add-mod j S) at (block-byte S xs sized (j / S) l (j % S) (mod-lt j some))
 
-  pub length-range : (off len : ℕ) → off + len ≤ S * length xs → length (take len (drop off (joined xs))) ≡ len
-  length-range off len h = simp (length-take, length-drop, length-joined S xs sized) (omega arith)
-
--- The same, of blocks by a rule of their number.
+-- Blocks by a rule of their number.
 module _ (S n : ℕ) (g : ℕ → Page) (sized : (i : ℕ) → i < n → length (g i) ≡ S) where
   pub blocks-tab : Blocks S (tab n g)
   blocks-tab i l = let l′ : i < n = rw length-tab at l in rw (getD-tab n g i [] l′) (sized i l′)

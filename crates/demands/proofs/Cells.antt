@@ -91,10 +91,6 @@ module _ {A : Type 0} (size : A → ℕ) where
     ]
   ]
 
-  pub located : (xs : List A) (z : A) (q : ℕ) → q < before size xs (length xs)
-      → (t : ℕ) × (i : ℕ) × (t < length xs) × (i < size (getD xs t z)) × (q ≡ before size xs t + i)
-  located xs z q h = elim (locate xs z q) [ inside t i l k e ↦ (t, i, l, k, e) | outside k ↦ absurd (omega arith) ]
-
 -- The two runs of numbers: the tickets' page numbers, and the versions' node places.
 pub taken-before : (ks : List Ticket) (t : ℕ) → taken ks t ≡ before pagesOf ks t
 unfolding taken before
@@ -146,13 +142,15 @@ module _ {A B : Type 0} (size : A → ℕ) (get : A → ℕ → B) (d : B) where
   cell-append (y ∷ xs) x h q = ap (either (ltb q (size y)) (get y q)) (cell-append xs x h (q - size y))
 
 -- Two layouts whose elements have as many cells agree wherever their cells do: but at one number, where one cell may differ, and everywhere, where none does.
-module _ {A C B : Type 0} (size : A → ℕ) (get : A → ℕ → B) (size′ : C → ℕ) (get′ : C → ℕ → B) (d : B) (xs : List A) (ys : List C) (z : A) (w : C) (long : length xs ≡ length ys) (sizes : (t : ℕ) → t < length xs → size (getD xs t z) ≡ size′ (getD ys t w)) where
+module _ {A C B : Type 0} (size : A → ℕ) (get : A → ℕ → B) (size′ : C → ℕ) (get′ : C → ℕ → B) (d : B) (xs : List A) (ys : List C) (z : A) (w : C)
+    (long : length xs ≡ length ys) (sizes : (t : ℕ) → t < length xs → size (getD xs t z) ≡ size′ (getD ys t w)) where
   pub cell-but : (u j : ℕ) → ((t i : ℕ) → t < length xs → i < size (getD xs t z) → (t ≡ u → i ≡ j → ⊥) → get (getD xs t z) i ≡ get′ (getD ys t w) i)
       → (q : ℕ) → q ≢ before size xs u + j → cellIn size get d xs q ≡ cellIn size′ get′ d ys q
   cell-but u j h q n = elim (locate size xs z q) [
     | inside t i l k e ↦
         let s = sizes t l in
-        rw e (cell-at size get d xs t i z l k ∙ h t i l k (λ p r. n (rw (← p, ← r) e)) ∙ sym (rw (before-same size size′ xs ys z w long sizes t) (cell-at size′ get′ d ys t i w (omega arith) (omega arith))))
+        let b = before-same size size′ xs ys z w long sizes t in
+        rw e (cell-at size get d xs t i z l k ∙ h t i l k (λ p r. n (rw (← p, ← r) e)) ∙ sym (rw b (cell-at size′ get′ d ys t i w (omega arith) (omega arith))))
     | outside k ↦
         cell-past size get d xs q k ∙ sym (cell-past size′ get′ d ys q (rw (← long, ← before-same size size′ xs ys z w long sizes (length xs)) k))
   ]
@@ -160,13 +158,6 @@ module _ {A C B : Type 0} (size : A → ℕ) (get : A → ℕ → B) (size′ : 
   pub cell-same : ((t i : ℕ) → t < length xs → i < size (getD xs t z) → get (getD xs t z) i ≡ get′ (getD ys t w) i)
       → (q : ℕ) → cellIn size get d xs q ≡ cellIn size′ get′ d ys q
   cell-same h q = cell-but 0 (suc q) (λ t i l k n. h t i l k) q (λ e. omega arith)
-
--- One list, two rules.
-pub cell-get : {A B : Type 0} (size : A → ℕ) (get : A → ℕ → B) (size′ : A → ℕ) (get′ : A → ℕ → B) (d : B) (xs : List A) (z : A)
-    → ((t : ℕ) → t < length xs → size (getD xs t z) ≡ size′ (getD xs t z))
-    → ((t i : ℕ) → t < length xs → i < size (getD xs t z) → get (getD xs t z) i ≡ get′ (getD xs t z) i)
-    → (q : ℕ) → cellIn size get d xs q ≡ cellIn size′ get′ d xs q
-cell-get size get size′ get′ d xs z h k q = cell-same size get size′ get′ d xs xs z z refl h k q
 
 -- Element t becomes x, as long, and differs from what it was at most at its cell i.
 module _ {A B : Type 0} (size : A → ℕ) (get : A → ℕ → B) (d : B) (xs : List A) (t i : ℕ) (x z : A) (there : t < length xs) (long : size x ≡ size (getD xs t z)) where
@@ -190,9 +181,6 @@ module _ {A B : Type 0} (size : A → ℕ) (get : A → ℕ → B) (d : B) (xs :
 
 -- ---- the elements 1 .. n, as the versions are
 
-pub length-numbered : (n : ℕ) → length (numbered n) ≡ n
-length-numbered n = length-tab n suc
-
 module _ {B : Type 0} (size : ℕ → ℕ) (get : ℕ → ℕ → B) (d : B) (n : ℕ) where
   pub numbered-cell : (v i : ℕ) → 0 < v → v ≤ n → i < size v → cellIn size get d (numbered n) (before size (numbered n) (pred v) + i) ≡ get v i
   numbered-cell zero i o h k = absurd (omega arith)
@@ -205,7 +193,8 @@ module _ {B : Type 0} (size : ℕ → ℕ) (get : ℕ → ℕ → B) (d : B) (n 
   numbered-more h q = rw (tab-more n suc) (cell-append size get d (numbered n) (suc n) h q)
 
 -- Two rules that agree: but at one cell, and everywhere.
-module _ {B : Type 0} (size : ℕ → ℕ) (get : ℕ → ℕ → B) (size′ : ℕ → ℕ) (get′ : ℕ → ℕ → B) (d : B) (n : ℕ) (sizes : (v : ℕ) → 0 < v → v ≤ n → size v ≡ size′ v) where
+module _ {B : Type 0} (size : ℕ → ℕ) (get : ℕ → ℕ → B) (size′ : ℕ → ℕ) (get′ : ℕ → ℕ → B) (d : B) (n : ℕ)
+    (sizes : (v : ℕ) → 0 < v → v ≤ n → size v ≡ size′ v) where
   sizes-at : (t : ℕ) → t < length (numbered n) → size (getD (numbered n) t 0) ≡ size′ (getD (numbered n) t 0)
   sizes-at t l =
       let l′ : t < n = rw length-tab at l in

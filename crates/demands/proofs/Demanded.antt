@@ -1,29 +1,28 @@
 -- The three demands, over any list of calls from an accepted FORMAT: the store is at all times the image of the model.
 -- Assumes nothing.
 use mathlib.Core.Path.{_≡_, refl, sym, ap, _∙_}
-use mathlib.Core.Bool.{true, false}
-use mathlib.Core.Logic.{inl, inr}
-use mathlib.Core.List.{List, [], _∷_, _++_}
-use Prim.Native.Nat.{ℕ, zero, suc, pred, _+_, _*_, _≤_, _<_}
+use mathlib.Core.Bool.{false}
+use mathlib.Core.Logic.{inr}
+use mathlib.Core.List.{List, [], _++_}
+use Prim.Native.Nat.{ℕ, zero, suc, _+_, _*_, _≤_, _<_}
 use native.Mathlib.Omega.{arith}
+use lib.Dec.{ltb}
 use lib.ListN.{length, getD, take, drop, replicate}
-use Rattle.tree.specs.Tree.{heightOf}
-use Rattle.tree.specs.Walk.{stampOf}
 use borrow.Author.Tests.{le-ltb}
 use Rattle.versions.specs.Table.{holds, firstRefusal, unless, sizeRows, readRows, pageRows}
 use Rattle.versions.proofs.Table.{none, skip, first}
-use Rattle.versions.specs.Answers.{Call, PUBLISH, READ, SIZE, RECENT, STAMP, VIEW, Answer, filled, sizeIs, recentIs, stampIs, partIs, waiting, Outcome, says, answers}
+use Rattle.versions.specs.Answers.{Call, PUBLISH, READ, SIZE, RECENT, STAMP, VIEW, filled, sizeIs, recentIs, partIs, says, answers}
 use Rattle.versions.specs.Calls.{Areas}
-use Rattle.demands.specs.Model.{Limits, Model, noModel, onModel, ticketAt, versionAt, updates, blobAt, bytesAt, readNumber, pageNumber}
+use Rattle.demands.specs.Model.{Limits, Model, noModel, onModel, ticketAt, versionAt, blobAt, bytesAt, readNumber, pageNumber}
 use Rattle.demands.specs.Run.{State, onStore, run, outcomes, formattedState, storeAfter, modelAfter}
-use Rattle.demands.specs.Demands.{Accepted, asked, AnswersAsModel, ReadsInTurn, Compared, Kept, Reaches, ThirdDemand, Demanded, lastDue}
+use Rattle.demands.specs.Demands.{Accepted, asked, AnswersAsModel, ReadsInTurn, Compared, Kept, Reaches, ThirdDemand, Demanded}
 use Rattle.demands.proofs.Image.{image}
 use Rattle.demands.proofs.Steps.Format.{format-image}
 use Rattle.demands.proofs.Steps.Found.{tree-image}
 use Rattle.demands.proofs.Steps.Every.{step-image}
 use Rattle.demands.proofs.Sound.{Sound}
 use Rattle.demands.proofs.Runs.{run-append, run-image, outcomes-image}
-use Rattle.demands.proofs.Kept.Every.{step-sound, run-sound, sound-start}
+use Rattle.demands.proofs.Kept.Every.{step-sound, sound-start, sound-after}
 use Rattle.demands.proofs.Faultless.{run-fine}
 use Rattle.demands.proofs.Blob.{bytes-length}
 use Rattle.demands.proofs.Grows.{Grown, run-grown}
@@ -58,37 +57,39 @@ module _ (L : Limits) (m w : Model) (k : ℕ) (sound : Sound L m) (grown : Grown
       slots zero l = refl
       slots (suc v) l = rw (grown .version (suc v) (omega (arith, sound .published))) (grown .slots (suc v) (omega arith) (omega (arith, sound .published)))
 
+  -- Version k is published in both, and the same.
+  now-published : ltb (w .published) k ≡ false
+  now-published = le-ltb (w .published) k (omega (arith, grown .further))
+
+  was-published : ltb (m .published) k ≡ false
+  was-published = le-ltb (m .published) k p
+
+  version-kept : versionAt w k ≡ versionAt m k
+  version-kept = grown .version k (omega (arith, sound .published))
+
+  blob-kept : blobAt w k ≡ blobAt m k
+  blob-kept = blob-stays w m k same-up-to k (omega arith)
+
   -- The rows read the published number only to see that k is published.
   read-kept : (offset len : ℕ) (buffer : List ℕ) → onModel L w (READ k offset len buffer) .1 ≡ onModel L m (READ k offset len buffer) .1
   unfolding onModel readRows firstRefusal holds
-  read-kept offset len buffer =
-      let b = blob-stays w m k same-up-to k (omega arith) in
-      let v = grown .version k (omega (arith, sound .published)) in
-      rw (le-ltb (w .published) k (omega (arith, grown .further)), le-ltb (m .published) k p, b, v)
+  read-kept offset len buffer = rw (now-published, was-published, blob-kept, version-kept)
 
   view-kept : (i : ℕ) → onModel L w (VIEW k i) .1 ≡ onModel L m (VIEW k i) .1
   unfolding onModel pageRows firstRefusal holds
-  view-kept i =
-      let b = blob-stays w m k same-up-to k (omega arith) in
-      let v = grown .version k (omega (arith, sound .published)) in
-      rw (le-ltb (w .published) k (omega (arith, grown .further)), le-ltb (m .published) k p, b, v)
+  view-kept i = rw (now-published, was-published, blob-kept, version-kept)
 
   stamp-kept : (i : ℕ) → onModel L w (STAMP k i) .1 ≡ onModel L m (STAMP k i) .1
   unfolding onModel pageRows firstRefusal holds
-  stamp-kept i =
-      let s = newest-stays w m k same-up-to k (omega arith) i 1 in
-      let v = grown .version k (omega (arith, sound .published)) in
-      rw (le-ltb (w .published) k (omega (arith, grown .further)), le-ltb (m .published) k p, s, v)
+  stamp-kept i = rw (now-published, was-published, newest-stays w m k same-up-to k (omega arith) i 1, version-kept)
 
   size-kept : onModel L w (SIZE k) .1 ≡ onModel L m (SIZE k) .1
   unfolding onModel sizeRows firstRefusal holds
-  size-kept =
-      let v = grown .version k (omega (arith, sound .published)) in
-      rw (le-ltb (w .published) k (omega (arith, grown .further)), le-ltb (m .published) k p, v)
+  size-kept = rw (now-published, was-published, version-kept)
 
 module _ (L : Limits) (a : Areas) (accepted : Accepted L a) where
   sound : (cs : List Call) → Sound L (modelAfter L cs)
-  sound cs = run-sound L noModel cs (sound-start L a accepted)
+  sound cs = sound-after L a accepted cs
 
   -- After any list of calls the store and its areas are the image of the model.
   pub store-image : (cs : List Call) → storeAfter L a cs ≡ image L (modelAfter L cs)
@@ -149,8 +150,9 @@ module _ (L : Limits) (a : Areas) (accepted : Accepted L a) where
   reaches cs = record {
     exact = λ n e.
         let z = waits-back L (modelAfter L (cs ++ replicate n PUBLISH)) (sym (as-model (cs ++ replicate n PUBLISH) PUBLISH) ∙ e) in
+        let l = later cs (replicate n PUBLISH) in
         recent-as-model (cs ++ replicate n PUBLISH)
-        ∙ ap (λ (v : ℕ). says (recentIs v)) (ap (λ (x : Model). x .published) (later cs (replicate n PUBLISH)) ∙ reached-exact L (modelAfter L cs) n (sound cs) (rw (later cs (replicate n PUBLISH)) at z));
+        ∙ ap (λ (v : ℕ). says (recentIs v)) (ap (λ (x : Model). x .published) l ∙ reached-exact L (modelAfter L cs) n (sound cs) (rw l at z));
     comes =
         let n = length (modelAfter L cs .versions) in
         as-model (cs ++ replicate n PUBLISH) PUBLISH

@@ -1,7 +1,6 @@
 -- What follows of a sound model: of its tickets' versions, and of its versions' updates and sizes.
 -- Assumes nothing.
 use mathlib.Core.Path.{_≡_, refl}
-use mathlib.Core.Logic.{inl, inr}
 use mathlib.Core.Bool.{true}
 use mathlib.Core.List.{List}
 use Prim.Native.Nat.{ℕ, zero, suc, pred, _+_, _≤_, _<_, max}
@@ -11,10 +10,12 @@ use lib.ListN.{length}
 use Rattle.tree.proofs.Weaving.{Inside, accepted-inside, weaving-length}
 use Rattle.tree.specs.Tree.{Update, countOf, weaving, update}
 use Rattle.tree.specs.Walk.{used}
-use Rattle.tree.proofs.Meets.{lt-or-le}
 use Rattle.demands.specs.Model.{Limits, Model, pagesOf, ticketAt, versionAt, taken, versionOf, updates, blobSize, complete}
+use Rattle.demands.proofs.Image.{numbered}
 use Rattle.demands.proofs.Sound.{Sound, VersionSound}
-use Rattle.demands.proofs.Tickets.{update-of, size-of, taken-next, taken-mono}
+use Rattle.demands.proofs.Cells.{before-le, used-before}
+use Rattle.demands.proofs.Tickets.{taken-next, taken-mono}
+use Rattle.demands.proofs.Updates.{update-at, size-at}
 use Rattle.demands.proofs.Versions.{version-past, version-le}
 
 -- A complete version's ticket has as many nodes woven as the version has.
@@ -33,12 +34,7 @@ used-next us zero o = absurd (omega arith)
 used-next us (suc v) o = refl
 
 pub used-mono : (us : List Update) (v w : ℕ) → v ≤ w → used us v ≤ used us w
-unfolding used
-used-mono us v zero h = let z : v ≡ 0 = omega arith in rw z (omega arith)
-used-mono us v (suc w) h = elim (lt-or-le w v) [
-  | inl l ↦ let e : v ≡ suc w = omega arith in rw e (omega arith)
-  | inr l ↦ omega (arith, used-mono us v w l)
-]
+used-mono us v w h = rw (used-before us w v h, used-before us w w (omega arith)) (before-le (λ u. countOf (update us u)) (numbered w) v w h)
 
 module _ (L : Limits) (m : Model) (S : Sound L m) where
   -- There is no ticket 0, and none past the last: they have no version.
@@ -70,29 +66,7 @@ module _ (L : Limits) (m : Model) (S : Sound L m) where
     update-end =
         let s = S .versions v o h in
         let k = S .tickets (versionAt m v .ticket) (s .from) (s .upto) in
-        rw (update-of m v) (omega (arith, k .some-pages))
-
-    pub update-first : update (updates m) v .f ≡ versionAt m v .f
-    update-first = rw (update-of m v)
-
-    -- The update starts within the version before, or at its end, and the size after it is the larger of the two ends.
-    pub version-starts : versionAt m v .f ≤ versionAt m (pred v) .size
-    version-starts = go v o h
-      where
-        go : (v : ℕ) → 0 < v → v ≤ length (m .versions) → versionAt m v .f ≤ versionAt m (pred v) .size
-        go zero o h = absurd (omega arith)
-        go (suc v) o h = rw (update-of m (suc v), size-of m v) at (S .accepted v (omega arith) .starts)
-
-    pub version-grows : versionAt m v .size ≡ max (versionAt m (pred v) .size) (versionAt m v .f + pagesOf (ticketAt m (versionAt m v .ticket)))
-    version-grows = go v o h update-end
-      where
-        go : (v : ℕ) → 0 < v → v ≤ length (m .versions) → suc (update (updates m) v .last) ≡ versionAt m v .f + pagesOf (ticketAt m (versionAt m v .ticket))
-            → versionAt m v .size ≡ max (versionAt m (pred v) .size) (versionAt m v .f + pagesOf (ticketAt m (versionAt m v .ticket)))
-        go zero o h e = absurd (omega arith)
-        go (suc v) o h e =
-            let g = S .accepted v (omega arith) .grows in
-            let s : update (updates m) (suc v) .size ≡ versionAt m (suc v) .size = rw (update-of m (suc v)) in
-            omega (arith, g, s, e, size-of m v)
+        rw (update-at m v) (omega (arith, k .some-pages))
 
     pub update-inside : Inside (update (updates m) v)
     update-inside = accepted-inside (updates m) (length (m .versions)) (S .accepted) v o h
@@ -103,3 +77,14 @@ module _ (L : Limits) (m : Model) (S : Sound L m) where
     -- A version's node places are within the nodes.
     pub place-room : used (updates m) (pred v) + countOf (update (updates m) v) ≤ L .nodes
     place-room = omega (arith, used-next (updates m) v o, used-mono (updates m) v (length (m .versions)) h, S .nodeRoom)
+
+  -- An update's pages begin inside the version before, or at its end, and the size grows to hold them.
+  pub version-starts : (v : ℕ) → v < length (m .versions) → versionAt m (suc v) .f ≤ versionAt m v .size
+  version-starts v h = rw (update-at m (suc v), size-at m v) at (S .accepted v h .starts)
+
+  pub version-grows : (v : ℕ) → v < length (m .versions)
+      → versionAt m (suc v) .size ≡ max (versionAt m v .size) (versionAt m (suc v) .f + pagesOf (ticketAt m (versionAt m (suc v) .ticket)))
+  version-grows v h =
+      let g = S .accepted v h .grows in
+      let s : update (updates m) (suc v) .size ≡ versionAt m (suc v) .size = rw (update-at m (suc v)) in
+      omega (arith, update-end (suc v) (omega arith) h, size-at m v)

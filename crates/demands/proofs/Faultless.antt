@@ -1,6 +1,6 @@
 -- The model never answers 3 or 19: no row that it reads gives them.
 -- Assumes nothing.
-use mathlib.Core.Path.{_≡_, refl, sym, _∙_}
+use mathlib.Core.Path.{_≡_}
 use mathlib.Core.Bool.{Bool, true, false, cond}
 use mathlib.Core.List.{List, [], _∷_}
 use mathlib.Core.Logic.{_≢_}
@@ -25,7 +25,6 @@ use Rattle.versions.specs.Answers.{
   refused,
   publishedIs,
   waiting,
-  Outcome,
   says,
   answers,
 }

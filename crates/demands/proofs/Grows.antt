@@ -4,11 +4,11 @@ use mathlib.Core.Path.{_≡_, refl, ap, _∙_}
 use mathlib.Core.Logic.{_≢_}
 use mathlib.Core.Bool.{Bool, true, false}
 use mathlib.Core.List.{List, [], _∷_}
-use Prim.Native.Nat.{ℕ, zero, suc, pred, _≤_, _<_}
+use Prim.Native.Nat.{ℕ, _≤_, _<_}
 use native.Mathlib.Omega.{arith}
-use lib.ListN.{length, getD, set, length-append}
-use Rattle.tree.specs.Tree.{nth}
+use lib.ListN.{length, length-append}
 use Rattle.versions.specs.Table.{unless}
+use Rattle.versions.proofs.Table.{unless-keeps}
 use Rattle.versions.specs.Answers.{Call, BEGIN, PUT, WRITE, APPEND, WEAVE, PUBLISH, READ, SIZE, RECENT, STAMP, VIEW}
 use Rattle.demands.specs.Model.{
   Limits,
@@ -18,7 +18,6 @@ use Rattle.demands.specs.Model.{
   noVersion,
   ticketAt,
   versionAt,
-  versionOf,
   blobSize,
   due,
   either,
@@ -35,7 +34,7 @@ use Rattle.demands.specs.Model.{
 use Rattle.demands.specs.Run.{run}
 use Rattle.demands.proofs.Sound.{Sound}
 use Rattle.demands.proofs.Passed.{put-passed, weave-passed}
-use Rattle.demands.proofs.Nth.{nth-append, nth-set-other}
+use Rattle.demands.proofs.Nth.{nth-append, nth-set-other, nth-set-field}
 
 pub record Grown (m m′ : Model) : Type 0 where
   pub longer : length (m .versions) ≤ length (m′ .versions)
@@ -57,24 +56,7 @@ grown-then m m′ m″ g h = record {
 }
 
 grown-unless : (k : ℕ) (m m′ : Model) → (k ≡ 0 → Grown m m′) → Grown m (unless k m m′)
-unfolding unless
-grown-unless zero m m′ g = g refl
-grown-unless (suc k) m m′ g = grown-same m
-
--- A ticket whose woven count is set keeps its slots, and the others theirs.
-slots-set : (ks : List Ticket) (t s w : ℕ)
-    → getD (set ks t (record { slots = getD ks t noTicket .slots; woven = w })) s noTicket .slots ≡ getD ks s noTicket .slots
-slots-set [] t s w = refl
-slots-set (k ∷ ks) zero zero w = refl
-slots-set (k ∷ ks) zero (suc s) w = refl
-slots-set (k ∷ ks) (suc t) zero w = refl
-slots-set (k ∷ ks) (suc t) (suc s) w = slots-set ks t s w
-
-slots-woven : (ks : List Ticket) (t s w : ℕ) → 0 < t
-    → nth noTicket (set ks (pred t) (record { slots = nth noTicket ks t .slots; woven = w })) s .slots ≡ nth noTicket ks s .slots
-slots-woven ks zero s w p = absurd (omega arith)
-slots-woven ks (suc t) zero w p = refl
-slots-woven ks (suc t) (suc s) w p = slots-set ks t s w
+grown-unless k m m′ g = unless-keeps (Grown m) k m m′ (grown-same m) g
 
 module _ (L : Limits) (m : Model) (S : Sound L m) where
   grown-begun : (n : ℕ) → Grown m (begun L m n)
@@ -110,7 +92,7 @@ module _ (L : Limits) (m : Model) (S : Sound L m) where
     longer = omega arith;
     further = omega arith;
     version = λ v l. refl;
-    slots = λ v p l. slots-woven (m .tickets) t (versionAt m v .ticket) _ (weave-passed L m t z .from);
+    slots = λ v p l. nth-set-field noTicket (m .tickets) t _ (weave-passed L m t z .from) (λ (k : Ticket). k .slots) (versionAt m v .ticket) refl;
   }
 
   grown-published : (b : Bool) → Grown m (either b (published L m) m)

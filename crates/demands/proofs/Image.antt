@@ -1,12 +1,11 @@
 -- The store that a model stands for, to the last byte: counters, register, pages and nodes. A page not put is zeros, a node not woven all ones.
 -- Assumes nothing.
-use mathlib.Core.Bool.{Bool, true, false}
 use mathlib.Core.Option.{Option, none, some}
-use mathlib.Core.List.{List, [], _∷_, _++_}
+use mathlib.Core.List.{List, [], _∷_}
 use Prim.Native.Nat.{ℕ, zero, suc, pred, _+_, _-_, _*_}
 use lib.Dec.{ltb}
 use lib.ListN.{length, getD, replicate}
-use Rattle.tree.specs.Tree.{Update, Node, node, countOf, weaving, nth, update}
+use Rattle.tree.specs.Tree.{Node, node, countOf, weaving, update}
 use Rattle.tree.specs.NodeArea.{allOnes}
 use Rattle.tree.specs.Walk.{used}
 use Rattle.tree.specs.declared.Record.{Record}
@@ -16,7 +15,6 @@ use Rattle.demands.specs.Model.{
   Limits,
   Page,
   Ticket,
-  Version,
   Model,
   noTicket,
   noVersion,

@@ -1,4 +1,5 @@
 -- Every call keeps the model sound, a file for each call.
+-- Assumes nothing.
 pub mod Same
 pub mod Begin
 pub mod Change

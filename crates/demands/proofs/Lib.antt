@@ -1,29 +1,34 @@
+-- Layout: the store that a model stands for.
 pub mod Image
-pub mod Sound
+-- Lists: by index, by cells, by blocks, by runs of calls.
 pub mod Nth
 pub mod Tab
 pub mod Pairs
 pub mod Cells
 pub mod Blocks
+pub mod Bytes
 pub mod Masks
 pub mod Slots
-pub mod Append
-pub mod Tickets
-pub mod Versions
 pub mod Pigeons
-pub mod Passed
-pub mod Facts
-pub mod Kept
-pub mod Records
-pub mod Puts
+pub mod Runs
+-- Model: what is true of it, and what the calls keep of it.
+pub mod Sound
+pub mod Versions
+pub mod Tickets
 pub mod Updates
-pub mod Joined
+pub mod Append
+pub mod Facts
+pub mod Passed
+pub mod Kept
 pub mod Blob
 pub mod Stay
 pub mod Trees
-pub mod Runs
 pub mod Grows
 pub mod Reached
-pub mod Steps
 pub mod Faultless
+-- Steps: every call on the image of a model.
+pub mod Records
+pub mod Puts
+pub mod Steps
+-- Theorem: the three demands.
 pub mod Demanded

@@ -1,8 +1,7 @@
 -- Elements counted from 1, as a list is made longer, or one element changed.
 -- Assumes nothing.
 use mathlib.Core.Path.{_≡_, refl, ap}
-use mathlib.Core.Logic.{_⊎_, inl, inr, _≢_}
-use native.Mathlib.Decide.{ℕ-discrete}
+use mathlib.Core.Logic.{_≢_}
 use mathlib.Core.List.{List, [], _∷_, _++_, map}
 use Prim.Native.Nat.{ℕ, zero, suc, pred, _≤_, _<_}
 use native.Mathlib.Omega.{arith}
@@ -51,10 +50,6 @@ module _ {A : Type 0} (d : A) where
     pub nth-set-other : (u : ℕ) → u ≢ t → nth d (set xs (pred t) x) u ≡ nth d xs u
     nth-set-other zero n = refl
     nth-set-other (suc u) n = getD-set-other xs (pred t) u x d (λ e. n (omega arith))
-
-    pub nth-set-cases : (u : ℕ) → t ≤ length xs
-        → ((u ≡ t) × (nth d (set xs (pred t) x) u ≡ x)) ⊎ ((u ≢ t) × (nth d (set xs (pred t) x) u ≡ nth d xs u))
-    nth-set-cases u h = elim (ℕ-discrete u t) [ yes e ↦ inl (e, rw e (nth-set-same h)) | no n ↦ inr (n, nth-set-other u n) ]
 
     -- What a change leaves of the element, it leaves of every element.
     pub nth-set-field : {B : Type 0} (g : A → B) (u : ℕ) → g x ≡ g (nth d xs t) → g (nth d (set xs (pred t) x) u) ≡ g (nth d xs u)

@@ -2,7 +2,7 @@
 -- Assumes nothing.
 use mathlib.Core.Path.{_≡_, refl}
 use mathlib.Core.Logic.{_⊎_, inl, inr}
-use mathlib.Core.Bool.{Bool, true, false, _&&_}
+use mathlib.Core.Bool.{true, and-eq-true-iff}
 use mathlib.Core.Option.{Option, none, some}
 use mathlib.Core.List.{List}
 use Prim.Native.Nat.{ℕ, suc, _+_, _*_, _≤_, _<_}
@@ -47,10 +47,6 @@ there-fails (inr a) = a
 unfilled : (x : Option Page) → (bitIf (isFilled x) ≡ 1 → ⊥) → x ≡ none
 unfilled none h = refl
 unfilled (some x) h = absurd (h refl)
-
-and-true : (a b : Bool) → (a && b) ≡ true → (a ≡ true) × (b ≡ true)
-and-true true b e = (refl, e)
-and-true false b e = (e, cc)
 
 pub record BeginPassed (L : Limits) (m : Model) (n : ℕ) : Type 0 where
   pub some-pages : 0 < n
@@ -159,5 +155,5 @@ module _ (L : Limits) (m : Model) where
 pub due-passed : (m : Model) → due m ≡ true → Due m
 unfolding due
 due-passed m e =
-    let r = and-true (ltb (m .published) (length (m .versions))) (complete m (suc (m .published))) e in
+    let r = and-eq-true-iff (ltb (m .published) (length (m .versions))) _ .0 e in
     record { left = ltb-true _ _ (r .0); whole = r .1 }

@@ -3,7 +3,7 @@
 use mathlib.Core.Path.{_≡_, sym, ap, _∙_}
 use mathlib.Core.Logic.{_≢_}
 use mathlib.Core.Option.{none, some}
-use Prim.Native.Nat.{ℕ, suc, _+_, _*_, _≤_, _<_}
+use Prim.Native.Nat.{ℕ, suc, pred, _+_, _*_, _≤_, _<_}
 use native.Mathlib.Omega.{arith}
 use borrow.Author.Tests.{lt-ltb}
 use lib.ListN.{length, getD, set, length-set}
@@ -14,13 +14,14 @@ use Rattle.tree.specs.Register.{withRecord}
 use Rattle.tree.specs.Walk.{used}
 use Rattle.tree.specs.declared.Record.{Record}
 use Rattle.demands.specs.Model.{Limits, Page, Ticket, Model, noTicket, pagesOf, taken, updates, filledAt}
-use Rattle.demands.proofs.Image.{tab, cellIn, blank, slotCell, pageCell, pagesImage, onesPair, countAt, weaveCell, numbered, nodeCell, nodesImage, recordImage, registerImage}
+use Rattle.demands.proofs.Image.{tab, cellIn, blank, slotCell, pageCell, pagesImage, onesPair, countAt, weaveCell, numbered, nodeCell, nodesImage, recordImage, registerImage, Pair}
 use Rattle.demands.proofs.Sound.{Sound}
 use Rattle.demands.proofs.Tab.{length-tab, tab-set}
 use Rattle.demands.proofs.Pairs.{node-put}
-use Rattle.demands.proofs.Cells.{before-lt, taken-before, used-before, cell-changed, cell-unchanged, numbered-at, length-numbered, numbered-but, numbered-changed}
+use Rattle.demands.proofs.Cells.{taken-before, used-before, cell-changed, cell-unchanged, numbered-but, numbered-changed}
 use Rattle.demands.proofs.Blocks.{tab-put}
 use Rattle.demands.proofs.Records.{cells-length}
+use Rattle.demands.proofs.Facts.{number-room, place-room}
 
 pub pages-put : (L : Limits) (m : Model) → Sound L m → (t i : ℕ) (x : Page) → t < length (m .tickets) → i < pagesOf (getD (m .tickets) t noTicket) → length x ≡ L .size
     → put (pagesImage L m) (L .size * (taken (m .tickets) t + i)) x ≡ pagesImage L (filledAt L m (suc t) i x)
@@ -29,29 +30,27 @@ pages-put L m sound t i x h l e =
     let k = getD (m .tickets) t noTicket in
     let k′ : Ticket = record { slots = set (k .slots) i (some x); woven = k .woven } in
     let s : pagesOf k′ ≡ pagesOf k = length-set (k .slots) i (some x) in
-    let room = before-lt pagesOf (m .tickets) t (length (m .tickets)) noTicket h (omega arith) in
     let b = taken-before (m .tickets) t in
-    let b′ = taken-before (m .tickets) (length (m .tickets)) in
     tab-put (L .size) (L .pages) (pageCell (L .size) (m .tickets)) (λ q z. cells-length L m sound q) (pageCell (L .size) (set (m .tickets) t k′))
-    (taken (m .tickets) t + i) x e (omega (arith, sound .pageRoom))
+    (taken (m .tickets) t + i) x e (omega (arith, number-room L m sound (suc t) (omega arith) h))
     (λ q z n. sym (cell-unchanged pagesOf (slotCell (L .size)) (blank (L .size)) (m .tickets) t i k′ noTicket h s (λ u v w. rw (getD-set-other (k .slots) i u (some x) none w)) q (rw (← b) n)))
     (rw b (cell-changed pagesOf (slotCell (L .size)) (blank (L .size)) (m .tickets) t i k′ noTicket h s (omega arith) ∙ rw (getD-set-same (k .slots) i (some x) none l)))
 
--- Node j of version v + 1, in two models that have the same counts of nodes and differ in no other node.
+-- Node j of version v, in two models that have the same counts of nodes and differ in no other node.
 pub nodes-put : (L : Limits) (m m′ : Model) → Sound L m → length (m′ .versions) ≡ length (m .versions)
     → ((w : ℕ) → 0 < w → w ≤ length (m .versions) → countAt m w ≡ countAt m′ w)
-    → (v j l r : ℕ) → v < length (m .versions) → j < countAt m (suc v)
-    → ((w i : ℕ) → 0 < w → w ≤ length (m .versions) → i < countAt m w → (w ≡ suc v → i ≡ j → ⊥) → weaveCell m w i ≡ weaveCell m′ w i)
-    → weaveCell m′ (suc v) j ≡ (l, r) → withNode (nodesImage L m) (used (updates m) v + j) l r ≡ nodesImage L m′
+    → (v j l r : ℕ) → 0 < v → v ≤ length (m .versions) → j < countAt m v
+    → ((w i : ℕ) → 0 < w → w ≤ length (m .versions) → i < countAt m w → (w ≡ v → i ≡ j → ⊥) → weaveCell m w i ≡ weaveCell m′ w i)
+    → weaveCell m′ v j ≡ (l, r) → withNode (nodesImage L m) (used (updates m) (pred v) + j) l r ≡ nodesImage L m′
 unfolding nodesImage
-nodes-put L m m′ sound long counts v j l r h k others here =
+nodes-put L m m′ sound long counts v j l r o h k others here =
     let n = length (m .versions) in
-    let u = used-before (updates m) n v (omega arith) in
-    let u′ = used-before (updates m) n n (omega arith) in
-    let room = rw (numbered-at n v 0 h) at (before-lt (countAt m) (numbered n) v n 0 h (rw length-numbered (omega arith))) in
-    node-put (L .nodes) (nodeCell m) (nodeCell m′) (used (updates m) v + j) l r (omega (arith, sound .nodeRoom))
-    (λ q z e. numbered-but (countAt m) (weaveCell m) (countAt m′) (weaveCell m′) onesPair n counts (suc v) j (omega arith) others q (rw (← u) e) ∙ ap (λ i. cellIn (countAt m′) (weaveCell m′) onesPair (numbered i) q) (sym long))
-    (rw (long, u) (numbered-changed (countAt m) (weaveCell m) (countAt m′) (weaveCell m′) onesPair n counts (suc v) j (omega arith) h k ∙ here))
+    let u = used-before (updates m) n (pred v) (omega arith) in
+    let all : ℕ → ℕ → Pair = λ i q. cellIn (countAt m′) (weaveCell m′) onesPair (numbered i) q in
+    node-put (L .nodes) (nodeCell m) (nodeCell m′) (used (updates m) (pred v) + j) l r (omega (arith, place-room L m sound v o h))
+    (λ q z e.
+    numbered-but (countAt m) (weaveCell m) (countAt m′) (weaveCell m′) onesPair n counts v j o others q (rw (← u) e) ∙ ap (λ i. all i q) (sym long))
+    (rw (long, u) (numbered-changed (countAt m) (weaveCell m) (countAt m′) (weaveCell m′) onesPair n counts v j o h k ∙ here))
 
 -- A record written into records by a rule of their index, and into the register.
 pub record-put : (n i : ℕ) (g h : ℕ → Record) (r : Record) → i < n → ((j : ℕ) → j < n → j ≢ i → g j ≡ h j) → h i ≡ r → withRecord (tab n g) i r ≡ tab n h

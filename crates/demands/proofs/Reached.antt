@@ -2,11 +2,10 @@
 -- Assumes nothing.
 use mathlib.Core.Path.{_≡_, refl, sym, ap, _∙_}
 use mathlib.Core.Logic.{inl, inr}
-use mathlib.Core.Bool.{Bool, true, false, and-eq-true-iff}
+use mathlib.Core.Bool.{Bool, true, false}
 use Prim.Native.Nat.{ℕ, zero, suc, _+_, _≤_, _<_}
 use native.Mathlib.Omega.{arith}
-use borrow.Author.Tests.{lt-ltb, ltb-true}
-use lib.Dec.{ltb}
+use borrow.Author.Tests.{lt-ltb}
 use lib.ListN.{length, replicate}
 use Rattle.tree.proofs.Meets.{lt-or-le}
 use Rattle.versions.specs.Answers.{PUBLISH, waiting, publishedIs, Outcome, says}
@@ -14,6 +13,7 @@ use Rattle.demands.specs.Model.{Limits, Model, complete, due, either, pu
 use Rattle.demands.specs.Run.{run}
 use Rattle.demands.specs.Demands.{completeUpTo, lastDue}
 use Rattle.demands.proofs.Sound.{Sound}
+use Rattle.demands.proofs.Passed.{due-passed}
 
 -- ---- the last version before the first incomplete one
 
@@ -39,10 +39,6 @@ pub complete-alone : (m : Model) (k v : ℕ) → complete (upTo m k) v ≡ compl
 unfolding complete
 complete-alone m k v = refl
 
-pub due-true : (m : Model) → due m ≡ true → (m .published < length (m .versions)) × (complete m (suc (m .published)) ≡ true)
-unfolding due
-due-true m e = let w = and-eq-true-iff (ltb (m .published) (length (m .versions))) _ .0 e in (ltb-true _ _ (w .0), w .1)
-
 pub due-false : (m : Model) → due m ≡ false → m .published < length (m .versions) → complete m (suc (m .published)) ≡ false
 unfolding due
 due-false m e l = rw (lt-ltb (m .published) (length (m .versions)) l) at e
@@ -59,6 +55,9 @@ pub record Climbed (n : ℕ) (m m′ : Model) : Type 0 where
   -- While it is due, each adds one.
   pub rises : due m′ ≡ true → m .published + n ≤ m′ .published
 
+unmoved : (n : ℕ) (m : Model) → m .published ≤ length (m .versions) → (due m ≡ true → m .published + n ≤ m .published) → Climbed n m m
+unmoved n m l rises = record { is = refl; from = omega arith; within = l; passed = λ v x y. absurd (omega arith); rises = rises }
+
 module _ (L : Limits) where
   -- Where it is not due, nothing moves.
   pub stays : (n : ℕ) (m : Model) → due m ≡ false → run (onModel L) m (replicate n PUBLISH) ≡ m
@@ -70,8 +69,8 @@ module _ (L : Limits) where
       → (m : Model) → m .published ≤ length (m .versions) → (b : Bool) → due m ≡ b
       → Climbed (suc n) m (run (onModel L) (either b (published L m) m) (replicate n PUBLISH))
   climbed-then n ih m l true e =
-      let d = due-true m e in
-      let c = ih (published L m) (d .0) in
+      let d = due-passed m e in
+      let c = ih (published L m) (d .left) in
       record {
         is = c .is;
         from = omega arith;
@@ -80,27 +79,15 @@ module _ (L : Limits) where
           | inl g ↦ sym (complete-alone m (suc (m .published)) v) ∙ c .passed v g y
           | inr g ↦
               let s : v ≡ suc (m .published) = omega arith in
-              rw s (d .1)
+              rw s (d .whole)
         ];
         rises = λ h. omega (arith, c .rises h);
       }
-  climbed-then n ih m l false e = rw (stays n m e) record {
-    is = refl;
-    from = omega arith;
-    within = l;
-    passed = λ v x y. absurd (omega arith);
-    rises = λ h. absurd (let z : _≡_ {A = ℕ} 0 1 = cc in omega arith);
-  }
+  climbed-then n ih m l false e = rw (stays n m e) (unmoved (suc n) m l (λ h. absurd (let z : _≡_ {A = ℕ} 0 1 = cc in omega arith)))
 
   pub climbed : (n : ℕ) (m : Model) → m .published ≤ length (m .versions) → Climbed n m (run (onModel L) m (replicate n PUBLISH))
   unfolding run onModel
-  climbed zero m l = record {
-    is = refl;
-    from = omega arith;
-    within = l;
-    passed = λ v x y. absurd (omega arith);
-    rises = λ h. omega arith;
-  }
+  climbed zero m l = unmoved 0 m l (λ h. omega arith)
   climbed (suc n) m l = climbed-then n (climbed n) m l (due m) refl
 
   exact : (n : ℕ) (m m′ : Model) → Sound L m → Climbed n m m′ → due m′ ≡ false → m′ .published ≡ lastDue m
@@ -114,7 +101,7 @@ module _ (L : Limits) where
 
   comes : (m m′ : Model) → Climbed (length (m .versions)) m m′ → (b : Bool) → due m′ ≡ b → b ≡ false
   comes m m′ c true e =
-      let d = due-true (upTo m (m′ .published)) (sym (ap due (c .is)) ∙ e) in
+      let d = due-passed (upTo m (m′ .published)) (sym (ap due (c .is)) ∙ e) in
       absurd (omega (arith, c .rises e))
   comes m m′ c false e = refl
 

@@ -7,7 +7,7 @@ use mathlib.Core.List.{List, [], _∷_}
 use Prim.Native.Nat.{ℕ, zero, suc, _<_}
 use native.Mathlib.Omega.{arith}
 use lib.ListN.{length, getD, replicate}
-use Rattle.demands.specs.Model.{Page, allFilled}
+use Rattle.demands.specs.Model.{Page, allFilled, content}
 
 -- The slots of a new ticket are empty.
 pub none-there : (n i : ℕ) → _≡_ {A = Option Page} (getD (replicate n none) i none) none
@@ -21,10 +21,10 @@ some-lt [] i x e = let z : _≡_ {A = ℕ} 0 1 = cc in absurd (omega arith)
 some-lt (y ∷ l) zero x e = omega arith
 some-lt (y ∷ l) (suc i) x e = omega (arith, some-lt l i x e)
 
--- Where every slot is filled, each holds a page.
-pub all-some : (l : List (Option Page)) (i : ℕ) → allFilled l ≡ true → i < length l → (x : Page) × (getD l i none ≡ some x)
+-- A slot of a filled ticket has a page: its content.
+pub filled-slot : (xs : List (Option Page)) → allFilled xs ≡ true → (i : ℕ) → i < length xs → getD xs i none ≡ some (content (getD xs i none))
 unfolding allFilled
-all-some [] i e h = absurd (omega arith)
-all-some (none ∷ l) i e h = absurd (false≢true e)
-all-some (some x ∷ l) zero e h = (x, refl)
-all-some (some x ∷ l) (suc i) e h = all-some l i e (omega arith)
+filled-slot [] e i q = absurd (omega arith)
+filled-slot (none ∷ xs) e i q = absurd (false≢true e)
+filled-slot (some x ∷ xs) e zero q = refl
+filled-slot (some x ∷ xs) e (suc i) q = filled-slot xs e i (omega arith)

@@ -1,31 +1,18 @@
 -- A version depends on the versions up to it and on their tickets' slots only.
 -- Assumes nothing.
-use mathlib.Core.Path.{_≡_, refl, ap₂}
-use mathlib.Core.Bool.{true, false}
+use mathlib.Core.Path.{_≡_, refl}
 use mathlib.Core.List.{List}
 use Prim.Native.Nat.{ℕ, zero, suc, _+_, _^_, _≤_}
 use native.Mathlib.Omega.{arith}
-use Rattle.tree.specs.Tree.{Update, meets, update, newest, heightOf}
-use Rattle.tree.specs.Walk.{used}
+use Rattle.tree.specs.Tree.{Update, update, newest, heightOf}
 use Rattle.tree.proofs.Newest.{newest-le}
 use Rattle.demands.specs.Model.{Model, ticketAt, versionAt, updates, blobAt}
-use Rattle.demands.proofs.Updates.{update-at}
+use Rattle.demands.proofs.Updates.{newest-same, update-at}
 use Rattle.demands.specs.Snapshot.{treeOf, snapshotAt}
 
 -- ---- two lists of updates, the same up to version k
 
 module _ (us ws : List Update) (k : ℕ) (same : (v : ℕ) → v ≤ k → update us v ≡ update ws v) where
-  pub newest-same : (v : ℕ) → v ≤ k → (a s : ℕ) → newest us v a s ≡ newest ws v a s
-  unfolding newest
-  newest-same zero p a s = refl
-  newest-same (suc v) p a s =
-      ap₂ (λ (u : Update) (n : ℕ). elim (meets (u .f) (u .last) a s) as (λ b. ℕ) [ true ↦ suc v | false ↦ n ]) (same (suc v) p) (newest-same v (omega arith) a s)
-
-  pub used-same : (v : ℕ) → v ≤ k → used us v ≡ used ws v
-  unfolding used
-  used-same zero p = refl
-  used-same (suc v) p = rw (same (suc v) p, used-same v (omega arith))
-
   pub tree-same : (h v : ℕ) → v ≤ k → (a : ℕ) → treeOf us h v a ≡ treeOf ws h v a
   unfolding treeOf
   tree-same zero zero p a = refl
@@ -37,8 +24,8 @@ module _ (us ws : List Update) (k : ℕ) (same : (v : ℕ) → v ≤ k → updat
       rw (
         tree-same h (newest us (suc v) a (2 ^ h)) (omega arith) a,
         tree-same h (newest us (suc v) (a + 2 ^ h) (2 ^ h)) (omega arith) (a + 2 ^ h),
-        newest-same (suc v) p a (2 ^ h),
-        newest-same (suc v) p (a + 2 ^ h) (2 ^ h),
+        newest-same us ws k same (suc v) p a (2 ^ h),
+        newest-same us ws k same (suc v) p (a + 2 ^ h) (2 ^ h),
       )
 
 -- ---- two models, the same up to version k
@@ -53,9 +40,6 @@ module _ (m w : Model) (k : ℕ) (same : SameUpTo m w k) where
 
   pub newest-stays : (v : ℕ) → v ≤ k → (a s : ℕ) → newest (updates m) v a s ≡ newest (updates w) v a s
   newest-stays = newest-same (updates m) (updates w) k update-stays
-
-  pub used-stays : (v : ℕ) → v ≤ k → used (updates m) v ≡ used (updates w) v
-  used-stays = used-same (updates m) (updates w) k update-stays
 
   pub tree-stays : (h v : ℕ) → v ≤ k → (a : ℕ) → treeOf (updates m) h v a ≡ treeOf (updates w) h v a
   tree-stays = tree-same (updates m) (updates w) k update-stays

@@ -1,18 +1,19 @@
+-- Every call on the image of a model is the model's, a file for each call.
+-- Assumes nothing.
 pub mod Numbers
 pub mod States
-pub mod Format
 pub mod Sizes
 pub mod Parts
 pub mod Changed
-pub mod Unless
-pub mod Recent
-pub mod Publish
+pub mod Format
 pub mod Begin
 pub mod Put
 pub mod Assign
-pub mod Found
-pub mod Stamp
-pub mod Read
 pub mod Woven
 pub mod Weave
+pub mod Publish
+pub mod Found
+pub mod Read
+pub mod Recent
+pub mod Stamp
 pub mod Every

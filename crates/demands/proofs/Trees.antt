@@ -4,8 +4,7 @@ use mathlib.Core.Path.{_≡_, refl, sym, subst₂}
 use mathlib.Core.Logic.{inl, inr}
 use mathlib.Core.Option.{Option, some}
 use mathlib.Core.List.{List}
-use Prim.Native.Nat.{ℕ, zero, suc, pred, _+_, _/_, _^_, _≤_, _<_}
-use native.Mathlib.Nat.{div-eq-of-lt-le}
+use Prim.Native.Nat.{ℕ, zero, suc, pred, _+_, _^_, _≤_, _<_}
 use native.Mathlib.Omega.{arith}
 use lib.Pow.{pow-pos}
 use Rattle.tree.specs.Tree.{Update, node, newest, heightOf}
@@ -14,22 +13,11 @@ use Rattle.tree.specs.NodeArea.{nodeAt}
 use Rattle.tree.specs.Walk.{Accepted, Numbers, leftBy, rightBy, placeBy, WovenBy, versionOver, used}
 use Rattle.tree.specs.declared.NodeAt.the-variants.{Stored}
 use Rattle.tree.proofs.Meets.{lt-or-le}
-use Rattle.tree.proofs.First.{first-left, first-right, first-root, first-nest}
+use Rattle.tree.proofs.First.{first-root, first-nest}
 use Rattle.tree.proofs.Newest.{newest-inside}
+use Rattle.tree.proofs.Weaving.{grid-left, grid-right}
 use Rattle.tree.proofs.Walk.{alone, newest-own, stands-woven}
 use Rattle.demands.specs.Snapshot.{treeOf, placeIn, treeIn}
-
--- A node on its height's grid: its halves are on theirs.
-module _ (a h : ℕ) (e : first a (suc h) ≡ a) where
-  left-grid : first a h ≡ a
-  left-grid = omega (arith, first-left a h (omega (arith, pow-pos h)))
-
-  same-above : first (a + 2 ^ h) (suc h) ≡ a
-  unfolding first
-  same-above = rw (div-eq-of-lt-le {k = a / 2 ^ suc h} (2 ^ suc h) {m = a + 2 ^ h} (omega arith) (omega (arith, pow-pos h))) e
-
-  right-grid : first (a + 2 ^ h) h ≡ a + 2 ^ h
-  right-grid = omega (arith, same-above, first-right (a + 2 ^ h) h (omega (arith, same-above)))
 
 module _ (us : List Update) (k : ℕ) (accepted : (v : ℕ) → v < k → Accepted us v) (leaf : ℕ → ℕ → ℕ) (area : List ℕ)
     (woven : (v : ℕ) → 0 < v → v ≤ k → WovenBy us (alone leaf (λ (v : ℕ). used us (pred v))) area v) where
@@ -61,8 +49,8 @@ module _ (us : List Update) (k : ℕ) (accepted : (v : ℕ) → v < k → Accept
       let f = sym (rw (← e) at (inside (a + 2 ^ h) (2 ^ h) (omega arith) (omega arith))) in
       rw (
         stored (suc h) a (suc w) q g r (omega arith) e,
-        tree-from h a l (omega arith) (left-grid a h g) r d,
-        tree-from h (a + 2 ^ h) m (omega arith) (right-grid a h g) (omega (arith, pow-pos h)) f,
+        tree-from h a l (omega arith) (grid-left a h g) r d,
+        tree-from h (a + 2 ^ h) m (omega arith) (grid-right a h g) (omega (arith, pow-pos h)) f,
       )
 
   none-below : (h : ℕ) → treeIn us area h 0 0 ≡ treeOf us h 0 0

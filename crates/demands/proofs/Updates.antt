@@ -1,12 +1,38 @@
--- The updates of a model, by its versions.
+-- Lists of updates and the updates of a model: what is said of a version reads the updates up to it only.
 -- Assumes nothing.
-use mathlib.Core.Path.{_≡_, refl, ap}
-use Prim.Native.Nat.{ℕ, zero, suc}
-use lib.ListN.{List·getD-map}
-use Rattle.tree.specs.Tree.{Update, update, sizeAt}
-use Rattle.demands.specs.Model.{Model, noVersion, versionAt, updateOf, updates}
+use mathlib.Core.Path.{_≡_, refl, ap, ap₂}
+use mathlib.Core.Bool.{true, false}
+use mathlib.Core.List.{List, [], _∷_, _++_, map}
+use Prim.Native.Nat.{ℕ, zero, suc, pred, _≤_, _<_}
+use native.Mathlib.Omega.{arith}
+use lib.ListN.{length, getD, set, length-map, List·getD-map}
+use Rattle.tree.specs.Tree.{Update, meets, nth, update, newest, sizeAt}
+use Rattle.tree.specs.Walk.{used}
+use Rattle.demands.specs.Model.{Ticket, Version, Model, noTicket, noVersion, pagesOf, versionAt, updateOf, updates}
+use Rattle.demands.proofs.Nth.{nth-append, nth-set-field}
+
+-- ---- two lists of updates, the same up to version k
+
+module _ (us ws : List Update) (k : ℕ) (same : (v : ℕ) → v ≤ k → update us v ≡ update ws v) where
+  pub newest-same : (v : ℕ) → v ≤ k → (a s : ℕ) → newest us v a s ≡ newest ws v a s
+  unfolding newest
+  newest-same zero p a s = refl
+  newest-same (suc v) p a s =
+      ap₂ (λ (u : Update) (n : ℕ). elim (meets (u .f) (u .last) a s) as (λ b. ℕ) [ true ↦ suc v | false ↦ n ])
+      (same (suc v) p) (newest-same v (omega arith) a s)
+
+  pub used-same : (v : ℕ) → v ≤ k → used us v ≡ used ws v
+  unfolding used
+  used-same zero p = refl
+  used-same (suc v) p = rw (same (suc v) p, used-same v (omega arith))
+
+-- ---- the updates of a model, by its versions
 
 module _ (m : Model) where
+  pub length-updates : length (updates m) ≡ length (m .versions)
+  length-updates = length-map (m .versions) (updateOf (m .tickets))
+
+  -- The update of a version, also where there is none.
   pub update-at : (v : ℕ) → update (updates m) v ≡ updateOf (m .tickets) (versionAt m v)
   unfolding update
   update-at zero = refl
@@ -18,3 +44,15 @@ module _ (m : Model) where
   pub size-at : (v : ℕ) → sizeAt (updates m) v ≡ versionAt m v .size
   unfolding sizeAt
   size-at v = ap (λ (u : Update). u .size) (update-at v)
+
+-- A ticket changed, with as many slots as before, and one more ticket leave the updates.
+pub updates-set : (ks : List Ticket) (t : ℕ) (k : Ticket) (vs : List Version) → 0 < t → pagesOf k ≡ pagesOf (nth noTicket ks t)
+    → map (updateOf (set ks (pred t) k)) vs ≡ map (updateOf ks) vs
+updates-set ks t k [] o e = refl
+updates-set ks t k (v ∷ vs) o e = rw (nth-set-field noTicket ks t k o pagesOf (v .ticket) e, updates-set ks t k vs o e)
+
+pub updates-append : (ks : List Ticket) (k : Ticket) (vs : List Version) → ((v : ℕ) → v < length vs → getD vs v noVersion .ticket ≤ length ks)
+    → map (updateOf (ks ++ k ∷ [])) vs ≡ map (updateOf ks) vs
+updates-append ks k [] h = refl
+updates-append ks k (v ∷ vs) h =
+    rw (nth-append noTicket ks (k ∷ []) (v .ticket) (h 0 (omega arith)), updates-append ks k vs (λ w l. h (suc w) (omega arith)))

@@ -2,12 +2,11 @@
 -- Assumes nothing.
 use mathlib.Core.Path.{_≡_, refl, sym, _∙_}
 use mathlib.Core.Logic.{_⊎_, inl, inr}
-use mathlib.Core.Bool.{Bool, true, false}
 use mathlib.Core.List.{List, [], _∷_, _++_}
 use Prim.Native.Nat.{ℕ, suc, _+_, _≤_, _<_}
+use native.Mathlib.Decide.{ℕ-discrete}
 use native.Mathlib.Omega.{arith}
-use borrow.Author.Tests.{eqb-true, eqb-false, eq-eqb, ne-eqb}
-use lib.Dec.{eqb}
+use borrow.Author.Tests.{eq-eqb, ne-eqb}
 use lib.ListN.{length, getD}
 use Rattle.demands.specs.Model.{Version, Model, noVersion, versionAt, versionFrom, versionOf}
 
@@ -21,13 +20,6 @@ module _ (v : ℕ) (x : Version) (xs : List Version) (t : ℕ) where
   unfolding versionFrom
   from-later e = rw (ne-eqb (x .ticket) t e, versionFrom)
 
-pub ticket-or : (a b : ℕ) → (a ≡ b) ⊎ (a ≡ b → ⊥)
-ticket-or a b = go (eqb a b) refl
-  where
-    go : (c : Bool) → eqb a b ≡ c → (a ≡ b) ⊎ (a ≡ b → ⊥)
-    go true e = inl (eqb-true a b e)
-    go false e = inr (eqb-false a b e)
-
 -- A ticket has no version, or that of a place in the list.
 pub record Got (v : ℕ) (xs : List Version) (t : ℕ) : Type 0 where
   pub place : ℕ
@@ -38,9 +30,9 @@ pub record Got (v : ℕ) (xs : List Version) (t : ℕ) : Type 0 where
 pub version-cases : (v : ℕ) (xs : List Version) (t : ℕ) → (versionFrom v xs t ≡ 0) ⊎ Got v xs t
 unfolding versionFrom
 version-cases v [] t = inl refl
-version-cases v (x ∷ xs) t = elim (ticket-or (x .ticket) t) [
-  | inl e ↦ inr (record { place = 0; there = omega arith; is = omega (arith, from-here v x xs t e); ticket = e })
-  | inr n ↦ elim (version-cases (suc v) xs t) [
+version-cases v (x ∷ xs) t = elim (ℕ-discrete (x .ticket) t) [
+  | yes e ↦ inr (record { place = 0; there = omega arith; is = omega (arith, from-here v x xs t e); ticket = e })
+  | no n ↦ elim (version-cases (suc v) xs t) [
     | inl z ↦ inl (from-later v x xs t n ∙ z)
     | inr g ↦ inr (record { place = suc (g .place); there = omega arith; is = omega (arith, from-later v x xs t n); ticket = g .ticket })
   ]
@@ -50,26 +42,26 @@ version-cases v (x ∷ xs) t = elim (ticket-or (x .ticket) t) [
 pub version-other : (v : ℕ) (xs : List Version) (x : Version) (t : ℕ) → (x .ticket ≡ t → ⊥) → versionFrom v (xs ++ x ∷ []) t ≡ versionFrom v xs t
 unfolding versionFrom
 version-other v [] x t n = from-later v x [] t n
-version-other v (y ∷ xs) x t n = elim (ticket-or (y .ticket) t) [
-  | inl e ↦ from-here v y (xs ++ x ∷ []) t e ∙ sym (from-here v y xs t e)
-  | inr d ↦ from-later v y (xs ++ x ∷ []) t d ∙ version-other (suc v) xs x t n ∙ sym (from-later v y xs t d)
+version-other v (y ∷ xs) x t n = elim (ℕ-discrete (y .ticket) t) [
+  | yes e ↦ from-here v y (xs ++ x ∷ []) t e ∙ sym (from-here v y xs t e)
+  | no d ↦ from-later v y (xs ++ x ∷ []) t d ∙ version-other (suc v) xs x t n ∙ sym (from-later v y xs t d)
 ]
 
 pub version-had : (v : ℕ) (xs : List Version) (x : Version) (t : ℕ) → 0 < versionFrom v xs t → versionFrom v (xs ++ x ∷ []) t ≡ versionFrom v xs t
 unfolding versionFrom
 version-had v [] x t h = absurd (omega arith)
-version-had v (y ∷ xs) x t h = elim (ticket-or (y .ticket) t) [
-  | inl e ↦ from-here v y (xs ++ x ∷ []) t e ∙ sym (from-here v y xs t e)
-  | inr d ↦ from-later v y (xs ++ x ∷ []) t d ∙ version-had (suc v) xs x t (omega (arith, from-later v y xs t d)) ∙ sym (from-later v y xs t d)
+version-had v (y ∷ xs) x t h = elim (ℕ-discrete (y .ticket) t) [
+  | yes e ↦ from-here v y (xs ++ x ∷ []) t e ∙ sym (from-here v y xs t e)
+  | no d ↦ from-later v y (xs ++ x ∷ []) t d ∙ version-had (suc v) xs x t (omega (arith, from-later v y xs t d)) ∙ sym (from-later v y xs t d)
 ]
 
 -- A ticket that had none gets the new one.
 pub version-gets : (v : ℕ) (xs : List Version) (x : Version) → 0 < v → versionFrom v xs (x .ticket) ≡ 0 → versionFrom v (xs ++ x ∷ []) (x .ticket) ≡ v + length xs
 unfolding versionFrom
 version-gets v [] x o z = omega (arith, from-here v x [] (x .ticket) refl)
-version-gets v (y ∷ xs) x o z = elim (ticket-or (y .ticket) (x .ticket)) [
-  | inl e ↦ absurd (omega (arith, from-here v y xs (x .ticket) e))
-  | inr d ↦ omega (arith, from-later v y (xs ++ x ∷ []) (x .ticket) d, version-gets (suc v) xs x (omega arith) (sym (from-later v y xs (x .ticket) d) ∙ z))
+version-gets v (y ∷ xs) x o z = elim (ℕ-discrete (y .ticket) (x .ticket)) [
+  | yes e ↦ absurd (omega (arith, from-here v y xs (x .ticket) e))
+  | no d ↦ omega (arith, from-later v y (xs ++ x ∷ []) (x .ticket) d, version-gets (suc v) xs x (omega arith) (sym (from-later v y xs (x .ticket) d) ∙ z))
 ]
 
 -- On a model: the version is one assigned, and its ticket is this one.

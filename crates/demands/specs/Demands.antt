@@ -1,11 +1,9 @@
 -- The three demands of document 01 as types, over any list of calls of all ten kinds from an accepted FORMAT, refused calls included.
 use mathlib.Core.Path.{_≡_}
-use mathlib.Core.Bool.{Bool, true, false}
-use mathlib.Core.List.{List, [], _∷_, _++_}
+use mathlib.Core.List.{List, [], _++_}
 use Prim.Native.Nat.{ℕ, zero, suc, _+_, _*_, _≤_, _<_}
 use lib.ListN.{length, getD, take, drop, replicate}
 use Rattle.tree.specs.Tree.{heightOf}
-use Rattle.versions.specs.declared.Store.{Store}
 use Rattle.versions.specs.Answers.{
   Call,
   PUBLISH,
@@ -26,8 +24,8 @@ use Rattle.versions.specs.Answers.{
 }
 use Rattle.demands.specs.Model.{Limits, Model, noModel, onModel, versionAt, updates, complete, blobAt, bytesAt, either}
 use Rattle.versions.specs.Calls.{Areas, formatNumber}
-use Rattle.demands.specs.Run.{State, onStore, run, outcomes, freshOf, formattedState, storeAfter, modelAfter}
-use Rattle.demands.specs.Snapshot.{Tree, treeOf, treeIn, Snapshot, snapshotAt}
+use Rattle.demands.specs.Run.{State, onStore, outcomes, freshOf, formattedState, storeAfter, modelAfter}
+use Rattle.demands.specs.Snapshot.{treeIn, snapshotAt}
 
 -- FORMAT of these limits accepts the areas.
 abbrev pub Accepted : Limits → Areas → Type 0
@@ -43,12 +41,12 @@ pub record NoFault (a : Answer) : Type 0 where
   pub not19 : a ≡ refused 19 → ⊥
 
 module _ (L : Limits) (a : Areas) where
-  -- DEMAND 1, over lists (call by call it is the promises): every answer, refusal numbers included, and every buffer is the model's; 3 and 19 never arise.
+  -- Demand 1, over lists (call by call it is the promises): every answer, refusal numbers included, and every buffer is the model's; 3 and 19 never arise.
   pub record AnswersAsModel (cs : List Call) : Type 0 where
     pub same : outcomes onStore (formattedState L a) cs ≡ outcomes (onModel L) noModel cs
     pub sound : (i : ℕ) → i < length cs → NoFault (getD (outcomes onStore (formattedState L a) cs) i (says waiting) .answer)
 
-  -- DEMAND 2: published version k reads, byte for byte, as updates 1 .. k applied in turn to an empty blob; its size agrees; its tree has exactly the
+  -- Demand 2: published version k reads, byte for byte, as updates 1 .. k applied in turn to an empty blob; its size agrees; its tree has exactly the
   -- nodes and child versions of the tree rule, a node lying where the accepted ASSIGNs and their counts put it.
   pub record ReadsInTurn (cs : List Call) (k : ℕ) : Type 0 where
     pub reads : (offset len : ℕ) (buffer : List ℕ) → offset + len ≤ L .size * versionAt (modelAfter L cs) k .size → len ≤ length buffer
@@ -90,7 +88,7 @@ module _ (L : Limits) (a : Areas) where
         → asked (storeAfter L a (cs ++ replicate n PUBLISH)) RECENT ≡ says (recentIs (lastDue (modelAfter L cs)))
     pub comes : asked (storeAfter L a (cs ++ replicate (length (modelAfter L cs .versions)) PUBLISH)) PUBLISH ≡ says waiting
 
--- DEMAND 3, one claim about the whole list.
+-- Demand 3, one claim about the whole list.
 pub record ThirdDemand (L : Limits) (a : Areas) (cs : List Call) : Type 0 where
   pub answers : AnswersAsModel L a cs
   pub compared : Compared L a cs

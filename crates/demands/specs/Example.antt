@@ -16,7 +16,6 @@ use Rattle.versions.specs.Answers.{
   VIEW,
   SIZE,
   RECENT,
-  Answer,
   refused,
   ticketIs,
   putDone,
@@ -35,7 +34,7 @@ use Rattle.versions.specs.Answers.{
 use Rattle.demands.specs.Model.{Limits, noModel, onModel}
 use Rattle.versions.specs.Calls.{Areas, formatNumber}
 use Rattle.demands.specs.Computes.{computes}
-use Rattle.demands.specs.Run.{onStore, run, outcomes, freshOf, formattedState}
+use Rattle.demands.specs.Run.{onStore, outcomes, freshOf, formattedState}
 
 -- FORMAT,16,4,8,2 and areas of its lengths, with anything in them.
 unfoldable pub limits : Limits

@@ -6,7 +6,7 @@ use mathlib.Core.List.{List, [], _∷_, _++_, map}
 use Prim.Native.Nat.{ℕ, zero, suc, pred, _+_, _-_, _*_, _^_, max}
 use lib.Dec.{ltb, eqb}
 use lib.ListN.{length, getD, set, replicate, take, drop}
-use Rattle.tree.specs.Tree.{Update, Node, node, countOf, weaving, nth, update, newest, sizeAt}
+use Rattle.tree.specs.Tree.{Update, Node, node, countOf, weaving, nth, update, newest}
 use Rattle.tree.specs.Walk.{used, stampOf}
 use Rattle.versions.specs.Table.{always, firstRefusal, unless, beginRows, putRows, assignRows, weaveRows, sizeRows, readRows, pageRows}
 use Rattle.versions.specs.Answers.{

@@ -1,13 +1,11 @@
 -- Every row of the table of refusals, by computation: on the model and on the calls' definitions where a formatted store can give it, and 3 and 19 on
 -- areas that no run left.
 use mathlib.Core.Path.{_≡_, refl}
-use mathlib.Core.Option.{none, some}
+use mathlib.Core.Option.{some}
 use mathlib.Core.List.{List, [], _∷_}
 use Prim.Native.Nat.{ℕ}
 use lib.ListN.{replicate}
 use Rattle.tree.specs.Register.{noRecord}
-use Rattle.tree.specs.declared.Record.{Record}
-use Rattle.versions.specs.declared.Store.{Store}
 use Rattle.versions.specs.Answers.{
   Call,
   BEGIN,
@@ -21,7 +19,6 @@ use Rattle.versions.specs.Answers.{
   RECENT,
   STAMP,
   VIEW,
-  Answer,
   refused,
   ticketIs,
   putDone,
@@ -32,7 +29,6 @@ use Rattle.versions.specs.Answers.{
   filled,
   sizeIs,
   recentIs,
-  stampIs,
   partIs,
   Outcome,
   says,
@@ -40,7 +36,7 @@ use Rattle.versions.specs.Answers.{
 use Rattle.demands.specs.Model.{Limits, Model, noModel, onModel}
 use Rattle.versions.specs.Calls.{Areas, fresh, formatNumber, withTicketPart, withPut}
 use Rattle.demands.specs.Computes.{computes}
-use Rattle.demands.specs.Run.{State, onStore, run, outcomes, formattedState, storeAfter}
+use Rattle.demands.specs.Run.{State, onStore, outcomes, formattedState, storeAfter}
 
 abbrev pub page : List ℕ
 page = replicate 16 5

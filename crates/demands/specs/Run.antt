@@ -2,9 +2,6 @@
 use mathlib.Core.List.{List, [], _∷_}
 use Prim.Native.Nat.{ℕ}
 use Rattle.versions.specs.declared.Store.{Store}
-use Rattle.versions.specs.declared.BeginOut.{BeginOut}
-use Rattle.versions.specs.declared.AssignOut.{AssignOut}
-use Rattle.versions.specs.declared.PublishOut.{PublishOut}
 use Rattle.tree.specs.declared.Record.{Record}
 use Rattle.versions.specs.Answers.{
   Call,
@@ -19,7 +16,6 @@ use Rattle.versions.specs.Answers.{
   RECENT,
   STAMP,
   VIEW,
-  Answer,
   partIs,
   Outcome,
   says,
@@ -37,7 +33,6 @@ use Rattle.demands.specs.Model.{Limits, Model, noModel, onModel}
 use Rattle.versions.specs.Calls.{
   Areas,
   fresh,
-  formatNumber,
   formatAreas,
   beginOut,
   beginRegister,

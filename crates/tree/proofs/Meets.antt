@@ -3,12 +3,12 @@
 use mathlib.Core.Path.{_≡_, refl}
 use mathlib.Core.Logic.{_⊎_, inl, inr}
 use mathlib.Core.Bool.{Bool, true, false, _&&_, and-eq-true-iff}
-use mathlib.Core.List.{List, [], _∷_, _++_}
+use mathlib.Core.List.{[], _∷_, _++_}
 use Prim.Native.Nat.{ℕ, zero, suc, _+_, _^_, _≤_, _<_}
 use native.Mathlib.Omega.{arith}
 use borrow.Author.Tests.{ltb-true, ltb-false, leb-true, lt-ltb, le-leb, le-ltb, lt-leb}
 use lib.Dec.{ltb, leb}
-use Rattle.tree.specs.Tree.{Node, node, meets, nodes}
+use Rattle.tree.specs.Tree.{node, meets, nodes}
 
 pub lt-or-le : (x y : ℕ) → (x < y) ⊎ (y ≤ x)
 lt-or-le x y = go (ltb x y) refl

@@ -1,19 +1,15 @@
 -- The descents with counts find what stands in the weaving order: the node at an index, and the index of a node.
 -- Assumes nothing.
-use mathlib.Core.Path.{_≡_, refl, sym, _∙_}
-use mathlib.Core.Logic.{_⊎_, inl, inr}
-use mathlib.Core.Bool.{Bool, true, false}
-use mathlib.Core.List.{List, [], _∷_, _++_}
+use mathlib.Core.Path.{_≡_, sym, _∙_}
+use mathlib.Core.Logic.{inl, inr}
 use Prim.Native.Nat.{ℕ, zero, suc, _+_, _-_, _^_, _≤_, _<_}
 use native.Mathlib.Omega.{arith}
-use borrow.Author.Tests.{ltb-true, ltb-false, lt-ltb, le-ltb}
-use lib.Dec.{ltb}
+use borrow.Author.Tests.{lt-ltb, le-ltb}
 use lib.ListN.{length}
-use lib.Pow.{pow-pos}
 use Rattle.tree.specs.Tree.{Node, node, nodes}
 use Rattle.tree.specs.Place.{below, kth, first, index}
 use Rattle.tree.proofs.At.{At, here, there, at-left, at-right, at-getD, at-lt}
-use Rattle.tree.proofs.Meets.{lt-or-le, Side, within, before, after, side, nodes-before, nodes-after, nodes-leaf, nodes-within}
+use Rattle.tree.proofs.Meets.{lt-or-le, within, before, after, side, nodes-before, nodes-after, nodes-leaf, nodes-within}
 use Rattle.tree.proofs.Below.{length-below}
 use Rattle.tree.proofs.Count.{length-within}
 use Rattle.tree.proofs.First.{first-root, first-left, first-right, first-nest}
@@ -44,7 +40,9 @@ module _ (f l : ℕ) (le : f ≤ l) where
       let s = rw (length-within f l a h (m .0) (m .1), length-below f l a h le) at q in
       elim (lt-or-le i (below f l a h)) [
         | inl p ↦ rw (lt-ltb i (below f l a h) p, kth) (in-left a h i _ (m .0) (m .1) (kth-at a h i (rw (length-below f l a h le) p)))
-        | inr p ↦ let e : below f l a h + (i - below f l a h) ≡ i = omega arith in rw (le-ltb i (below f l a h) p, kth) (rw e at (in-right a h (i - below f l a h) _ (m .0) (m .1) (kth-at (a + 2 ^ h) h (i - below f l a h) (omega arith))))
+        | inr p ↦
+            let e : below f l a h + (i - below f l a h) ≡ i = omega arith in
+            rw (le-ltb i (below f l a h) p, kth) (rw e at (in-right a h (i - below f l a h) _ (m .0) (m .1) (kth-at (a + 2 ^ h) h (i - below f l a h) (omega arith))))
       ]
 
   -- The node of height j over page p, where it meets f .. l, stands at its index.

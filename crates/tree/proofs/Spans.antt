@@ -52,28 +52,29 @@ module _ (f l a span : ℕ) where
   pub span-here : (k : ℕ) → k ≡ 0 → Kth f l a span k a span
   span-here k z = record { first = λ h e. ap firstOf (kth-here f l a h k z); spans = λ h e. e ∙ ap spanOf (kth-here f l a h k z) }
 
-  module _ (k r b s : ℕ) (two : 2 ≤ span) (pos : 0 < k) (half : Half span r) where
+  module _ (k r b s : ℕ) (two : 2 ≤ span) (pos : 0 < k) (r-is : Half span r) where
     above : (h : ℕ) → span ≡ 2 ^ h → (0 < h) × (span / 2 ≡ 2 ^ (h - 1))
     above zero e = absurd (omega arith)
     above (suc h) e = simp sub-one (omega arith)
 
-    pub span-left : k - 1 < below f l a r → Kth f l a (span / 2) (k - 1) b s → Kth f l a span k b s
-    span-left q d = record {
+    -- A half's node is the span's, where the descent goes there.
+    half : (b′ k′ : ℕ) → ((h : ℕ) → span ≡ 2 ^ h → kth f l b′ (h - 1) k′ ≡ kth f l a h k) → Kth f l b′ (span / 2) k′ b s → Kth f l a span k b s
+    half b′ k′ law d = record {
       first = λ h e. d .first (h - 1) (above h e .1) ∙ ap firstOf (law h e);
       spans = λ h e. d .spans (h - 1) (above h e .1) ∙ ap spanOf (law h e);
     }
+
+    pub span-left : k - 1 < below f l a r → Kth f l a (span / 2) (k - 1) b s → Kth f l a span k b s
+    span-left q d = half a (k - 1) law d
       where
         law : (h : ℕ) → span ≡ 2 ^ h → kth f l a (h - 1) (k - 1) ≡ kth f l a h k
-        law h e = let t = above h e in kth-left f l a h k (t .0) pos (rw (half (h - 1) (t .1)) at q)
+        law h e = let t = above h e in kth-left f l a h k (t .0) pos (rw (r-is (h - 1) (t .1)) at q)
 
     pub span-right : below f l a r ≤ k - 1 → Kth f l (a + span / 2) (span / 2) (k - 1 - below f l a r) b s → Kth f l a span k b s
-    span-right q d = record {
-      first = λ h e. d .first (h - 1) (above h e .1) ∙ ap firstOf (law h e);
-      spans = λ h e. d .spans (h - 1) (above h e .1) ∙ ap spanOf (law h e);
-    }
+    span-right q d = half (a + span / 2) (k - 1 - below f l a r) law d
       where
         law : (h : ℕ) → span ≡ 2 ^ h → kth f l (a + span / 2) (h - 1) (k - 1 - below f l a r) ≡ kth f l a h k
         law h e =
             let t = above h e in
-            let r≡ = half (h - 1) (t .1) in
+            let r≡ = r-is (h - 1) (t .1) in
             rw (t .1, r≡) (kth-right f l a h k (t .0) pos (rw r≡ at q))

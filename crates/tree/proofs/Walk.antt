@@ -1,9 +1,8 @@
--- The walk from version k's root ends at the page number that updates 1 .. k, applied in turn, leave at the page: for any numbers and any places;
--- then for one run of versions.
+-- The walk from version k's root ends at the page number that updates 1 .. k, applied in turn, leave at the page.
 -- Assumes nothing.
 use mathlib.Core.Path.{_≡_, refl, sym, ap, _∙_}
 use mathlib.Core.Logic.{_⊎_, inl, inr}
-use mathlib.Core.Bool.{Bool, true, false, _&&_}
+use mathlib.Core.Bool.{true, false, _&&_, and-eq-true-iff}
 use mathlib.Core.Option.{Option, some}
 use mathlib.Core.List.{List}
 use Prim.Native.Nat.{ℕ, zero, suc, _+_, _^_, _≤_, _<_}
@@ -23,10 +22,7 @@ use Rattle.tree.proofs.Place.{index-at}
 use Rattle.tree.proofs.Root.{root-fits, height-le}
 use Rattle.tree.proofs.Newest.{sides, newest-within, newest-before, newest-after, newest-le, newest-meets, newest-next, newest-inside}
 
--- Two tests that hold together each hold.
-both : (a b : Bool) → a && b ≡ true → (a ≡ true) × (b ≡ true)
-both true b e = (refl, e)
-both false b e = absurd (let z : _≡_ {A = ℕ} 0 1 = cc in omega arith)
+-- ---- for any numbers and any places
 
 -- What the test `covers` says.
 module _ (u : Update) (p : ℕ) where
@@ -72,9 +68,9 @@ module _ (u : Update) (p h : ℕ) where
   pub node-has : hasNode u p h ≡ true → (h ≤ rootHeight (u .size)) × (p < 2 ^ rootHeight (u .size)) × (u .f < first p h + 2 ^ h) × (first p h ≤ u .last)
   unfolding hasNode meets
   node-has e =
-      let m = both (leb h (rootHeight (u .size)) && ltb p (2 ^ rootHeight (u .size))) (meets (u .f) (u .last) (first p h) (2 ^ h)) e in
-      let r = both (leb h (rootHeight (u .size))) (ltb p (2 ^ rootHeight (u .size))) (m .0) in
-      let s = both (ltb (u .f) (first p h + 2 ^ h)) (leb (first p h) (u .last)) (m .1) in
+      let m = and-eq-true-iff (leb h (rootHeight (u .size)) && ltb p (2 ^ rootHeight (u .size))) (meets (u .f) (u .last) (first p h) (2 ^ h)) .0 e in
+      let r = and-eq-true-iff (leb h (rootHeight (u .size))) (ltb p (2 ^ rootHeight (u .size))) .0 (m .0) in
+      let s = and-eq-true-iff (ltb (u .f) (first p h + 2 ^ h)) (leb (first p h) (u .last)) .0 (m .1) in
       (leb-true h (rootHeight (u .size)) (r .0), ltb-true p (2 ^ rootHeight (u .size)) (r .1), ltb-true (u .f) (first p h + 2 ^ h) (s .0), leb-true (first p h) (u .last) (s .1))
 
 module _ (us : List Update) (k : ℕ) (accepted : (v : ℕ) → v < k → Accepted us v) where
@@ -181,7 +177,7 @@ module _ (us : List Update) (k : ℕ) (accepted : (v : ℕ) → v < k → Accept
                 (walk-from h (omega arith))
           ]
 
-      -- THE KEY LEMMA. The walk from version k's root ends at the leaf of the newest version that covers the page.
+      -- The walk from version k's root ends at the leaf of the newest version that covers the page.
       pub walk-in-turn-by : walkBy at area (heightOf us k) (N .code k) p ≡ Leaf (record { 0 = N .code (stampOf us k p) }) (N .leaf (stampOf us k p) p)
       walk-in-turn-by = rw (first-root p (heightOf us k) in-k, newest-own k o (omega arith)) at (walk-from (heightOf us k) (omega arith))
 

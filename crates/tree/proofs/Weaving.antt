@@ -40,14 +40,14 @@ levelOf (node a h) = h
 
 -- A node on its height's grid: its halves are on theirs.
 module _ (a h : ℕ) (e : first a (suc h) ≡ a) where
-  grid-left : first a h ≡ a
+  pub grid-left : first a h ≡ a
   grid-left = omega (arith, first-left a h (omega (arith, pow-pos h)))
 
   same-above : first (a + 2 ^ h) (suc h) ≡ a
   unfolding first
   same-above = rw (div-eq-of-lt-le {k = a / 2 ^ suc h} (2 ^ suc h) {m = a + 2 ^ h} (omega arith) (omega (arith, pow-pos h))) e
 
-  grid-right : first (a + 2 ^ h) h ≡ a + 2 ^ h
+  pub grid-right : first (a + 2 ^ h) h ≡ a + 2 ^ h
   grid-right = omega (arith, same-above, first-right (a + 2 ^ h) h (omega (arith, same-above)))
 
 -- The node x at index i of (a, h): on its height's grid, at or below (a, h), with pages of f .. l, and of index i.

@@ -1,12 +1,12 @@
 -- The scope's twelve proved cases: one table, and one theorem that the definitions yield all of it.
 
 use mathlib.Core.Path.{_≡_, refl}
-use mathlib.Core.Bool.{Bool, true, false, _&&_}
+use mathlib.Core.Bool.{Bool, true, _&&_}
 use mathlib.Core.List.{List, [], _∷_}
-use Prim.Native.Nat.{ℕ, zero, suc, _+_, _-_, _^_}
+use Prim.Native.Nat.{ℕ, _+_, _-_, _^_}
 use lib.Dec.{eqb}
 use lib.ListN.{length}
-use Rattle.tree.specs.Tree.{Update, nodeCount, rootHeight, nodes, newest, update, meets, count, heightFrom, nth}
+use Rattle.tree.specs.Tree.{Update, nodeCount, rootHeight, nodes, newest, update, meets, count, heightFrom}
 
 -- (f, n, size after) has so many nodes; version v's inner node at first page a and span 2 ^ suc h has these children
 pub data Case : Type 0 where

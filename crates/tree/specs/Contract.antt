@@ -1,7 +1,7 @@
 -- What the code's functions ask and give, in the terms of Tree and Place.
 use mathlib.Core.Path.{_≡_}
 use mathlib.Core.Bool.{Bool, true, false, _&&_}
-use Prim.Native.Nat.{ℕ, _+_, _-_, _*_, _^_, _≤_, _<_}
+use Prim.Native.Nat.{ℕ, _+_, _*_, _^_, _≤_, _<_}
 use lib.Dec.{ltb, leb}
 use Rattle.tree.specs.Tree.{Node, node, count, rootHeight, nodeCount}
 use Rattle.tree.specs.Place.{kth, first, index}

@@ -1,7 +1,7 @@
 -- Where a node stands in its version's weaving order, by descent from the root with counts, and which node stands at an index.
-use mathlib.Core.Bool.{Bool, true, false}
+use mathlib.Core.Bool.{true, false}
 use Prim.Native.Nat.{ℕ, zero, suc, _+_, _-_, _*_, _/_, _^_, min}
-use lib.Dec.{ltb, leb}
+use lib.Dec.{ltb}
 use Rattle.tree.specs.Tree.{Node, node, meets, count}
 
 -- The nodes at and below (a, h) that meet f .. l: the count for the part of f .. l inside, its pages numbered from a.

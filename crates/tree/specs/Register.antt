@@ -2,7 +2,7 @@
 use Prim.Native.Nat.{ℕ, suc, min, max}
 use mathlib.Core.List.{List, map}
 use lib.Dec.{ltb}
-use lib.ListN.{length, getD, set}
+use lib.ListN.{length, set}
 use mathlib.Core.Bool.{Bool, true, false}
 use Rattle.tree.specs.Tree.{Update, newest}
 use Rattle.tree.specs.declared.Record.{Record}

@@ -3,12 +3,12 @@ use mathlib.Core.Path.{_≡_}
 use mathlib.Core.Bool.{Bool, true, false, _&&_}
 use mathlib.Core.Option.{Option, none, some}
 use mathlib.Core.List.{List}
-use Prim.Native.Nat.{ℕ, zero, suc, pred, _+_, _-_, _^_, _≤_, _<_, max}
+use Prim.Native.Nat.{ℕ, zero, suc, _+_, _^_, _≤_, _<_, max}
 use lib.Dec.{leb, ltb}
 use lib.ListN.{length, getD}
 use Rattle.tree.specs.Tree.{Update, Node, node, countOf, meets, rootHeight, weaving, update, newest, sizeAt, heightOf}
 use Rattle.tree.specs.Place.{first, index}
-use Rattle.tree.specs.NodeArea.{allOnes, nodeAt}
+use Rattle.tree.specs.NodeArea.{nodeAt}
 use Rattle.tree.specs.declared.NodeAt.{NodeAt}
 use Rattle.tree.specs.declared.NodeAt.the-variants.{Stored, Missing}
 use Rattle.tree.specs.declared.Found.{Found}

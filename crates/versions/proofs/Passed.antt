@@ -35,12 +35,6 @@ assign-passed s l r t f e = let p = passed _ tt e in
     let lost = p .1 .1 .1 .1 .1 .1 .1 .0 in
     (read (p .1 .1 .1 .1 .1 .0) (lost .0), lost .1, read (p .1 .1 .1 .1 .1 .1 .0) (lost .0))
 
--- What is left by the number k is the same where the two agree at 0.
-pub unless-same : {A : Type 0} (k : ℕ) (was a b : A) → (k ≡ 0 → a ≡ b) → unless k was a ≡ unless k was b
-unfolding unless
-unless-same zero was a b h = h refl
-unless-same (suc k) was a b h = refl
-
 -- ASSIGN writes the ticket's record and then, over what that left, the version's.
 pub both-written :
     (s : Store) (pages nodes : List ℕ) (register : List Record) (t f k : ℕ)

@@ -1,4 +1,5 @@
--- The laws by which a chain of tests in the code is read off the table, a row at a time. Assumes nothing.
+-- The laws by which a chain of tests in the code is read off the table, a row at a time.
+-- Assumes nothing.
 use mathlib.Core.Path.{_≡_, refl, sym}
 use mathlib.Core.Bool.{Bool, true, false, cond, _&&_, _||_, or-true, and-false}
 use mathlib.Core.List.{List, [], _∷_, _++_}
@@ -8,7 +9,7 @@ use native.Mathlib.Omega.{arith}
 use borrow.Author.Tests.{le-leb, lt-leb, lt-ltb, le-ltb, eq-eqb, ne-eqb, leb-false, ltb-false, eqb-false, eqb-true, not-false}
 use Rattle.versions.specs.Table.{Cond, _≤?_, _<?_, _≡?_, _≢?_, _and_, _or_, test, holds, Row, _gives_, firstRefusal, unless, everyCall}
 
--- A condition as a statement, and its denial: what `omega` and the code's tests speak of
+-- A condition as a statement, and its denial: what `omega` and the code's tests speak of.
 abbrev pub Holds : Cond → Type 0
 Holds (a ≤? b) = a ≤ b
 Holds (a <? b) = a < b
@@ -49,7 +50,7 @@ holds-false (c and d) (inr h) = rw (holds-false d h) (and-false (holds c))
 holds-false (c or d) h = rw (holds-false c (h .0)) (holds-false d (h .1))
 holds-false (test b) h = h
 
--- What a function that tests the condition returns
+-- What a function that tests the condition returns.
 pub yes : (c : Cond) → Holds c → true ≡ holds c
 yes c h = sym (holds-true c h)
 
@@ -74,14 +75,14 @@ fails (c and d) e = ⊎-map (fails c) (fails d) (and-split (holds c) (holds d) e
 fails (c or d) e = let p = or-split (holds c) (holds d) e in (fails c (p .0), fails d (p .1))
 fails (test b) e = e
 
--- k is the number that the rows give: the condition of each row passed fails, and that of the row stopped at holds, as a statement or as a flag
+-- k is the number that the rows give: the condition of each row passed fails, and that of the row stopped at holds, as a statement or as a flag.
 pub data First : List Row → ℕ → Type 0 where
   none : First [] 0
   hit : {c : Cond} {k : ℕ} {rows : List Row} → Holds c → First ((c gives k) ∷ rows) k
   skip : {c : Cond} {k r : ℕ} {rows : List Row} → Fails c → First rows r → First ((c gives k) ∷ rows) r
   hit-flag : {c : Cond} {k : ℕ} {rows : List Row} → holds c ≡ true → First ((c gives k) ∷ rows) k
   skip-flag : {c : Cond} {k r : ℕ} {rows : List Row} → holds c ≡ false → First rows r → First ((c gives k) ∷ rows) r
-  -- a callee has tested the rows that are left
+  -- A callee has tested the rows that are left.
   rest : {r : ℕ} {rows : List Row} → r ≡ firstRefusal rows → First rows r
 
 pub first : {rows : List Row} {r : ℕ} → First rows r → r ≡ firstRefusal rows
@@ -93,7 +94,7 @@ first (hit-flag e) = rw e
 first (skip-flag e t) = rw e (first t)
 first (rest e) = e
 
--- No row has the number 0, and no row's condition holds
+-- No row has the number 0, and no row's condition holds.
 abbrev pub Numbered : List Row → Type 0
 Numbered [] = Unit
 Numbered ((c gives zero) ∷ rows) = ⊥
@@ -107,7 +108,7 @@ one-row : (b : Bool) (k m : ℕ) → cond b (suc k) m ≡ 0 → (b ≡ false) ×
 one-row true k m e = absurd (omega arith)
 one-row false k m e = (refl, e)
 
--- Where the rows give 0, what each row asks fails
+-- Where the rows give 0, what each row asks fails.
 pub passed : (rows : List Row) → Numbered rows → firstRefusal rows ≡ 0 → AllFail rows
 unfolding firstRefusal
 passed [] t e = tt
@@ -148,3 +149,9 @@ pub unless-keeps : {A : Type 0} (P : A → Type 0) (k : ℕ) (was done : A) → 
 unfolding unless
 unless-keeps P zero was done p q = q refl
 unless-keeps P (suc k) was done p q = p
+
+-- What the call leaves need be the same only where the number is 0.
+pub unless-same : {A : Type 0} (k : ℕ) (was done done′ : A) → (k ≡ 0 → done ≡ done′) → unless k was done ≡ unless k was done′
+unfolding unless
+unless-same zero was done done′ e = e refl
+unless-same (suc k) was done done′ e = refl

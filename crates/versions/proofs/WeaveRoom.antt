@@ -49,8 +49,3 @@ module _ (s : Store) (l : Lengths) (r q : Record) (t : ℕ) where
 pub wove-same : (k : ℕ) (x y : WovenNode) → (k ≡ 0 → x ≡ y) → wove k x ≡ wove k y
 wove-same zero x y e = ap (wove 0) (e refl)
 wove-same (suc k) x y e = refl
-
-pub unless-same : {A : Type 0} (k : ℕ) (was x y : A) → (k ≡ 0 → x ≡ y) → unless k was x ≡ unless k was y
-unfolding unless
-unless-same zero was x y e = e refl
-unless-same (suc k) was x y e = refl

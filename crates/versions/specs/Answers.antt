@@ -7,7 +7,6 @@ use Rattle.versions.specs.declared.PutIn.{PutIn}
 use Rattle.versions.specs.declared.PutIn.the-variants as PutIn
 use Rattle.versions.specs.declared.Assigned.{Assigned}
 use Rattle.versions.specs.declared.Assigned.the-variants as Assigned
-use Rattle.versions.specs.declared.WovenNode.{WovenNode}
 use Rattle.versions.specs.declared.Woven.{Woven}
 use Rattle.versions.specs.declared.Woven.the-variants as Woven
 use Rattle.versions.specs.declared.Published.{Published}

@@ -4,7 +4,7 @@ use mathlib.Core.Bool.{Bool, true, false, _&&_, _||_}
 use mathlib.Core.Option.{Option, none, some}
 use mathlib.Core.List.{List, [], _∷_, _++_}
 use Prim.Native.Nat.{ℕ, zero, suc, pred, _+_, _-_, _*_, _/_, _%_, _^_, min, max}
-use lib.Dec.{ltb, leb, eqb}
+use lib.Dec.{ltb, eqb}
 use lib.ListN.{length, getD, replicate, take, drop}
 use Rattle.pages.specs.Pages.{put, part}
 use Rattle.tree.specs.Tree.{Update, Node, node, countOf, nth, newest, rootHeight}
@@ -19,7 +19,6 @@ use Rattle.versions.specs.Table.{
   Cond,
   _≤?_,
   _<?_,
-  _≡?_,
   _≢?_,
   _and_,
   _or_,

@@ -1,6 +1,6 @@
 -- The table of refusals as data: a row is a condition and a number, and the first row whose condition holds decides; 0 is none.
 -- The rows are over plain values, so that the calls read them on the store and the model reads the same rows on itself.
-use Prim.Native.Nat.{ℕ, zero, suc, _+_, _-_, _*_, _%_, _^_}
+use Prim.Native.Nat.{ℕ, zero, suc, _+_, _%_}
 use mathlib.Core.Bool.{Bool, cond, not, _&&_, _||_}
 use mathlib.Core.List.{List, [], _∷_, _++_}
 use lib.Dec.{leb, ltb, eqb}

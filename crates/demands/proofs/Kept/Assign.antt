@@ -15,7 +15,7 @@ use Rattle.demands.proofs.Sound.{Sound, TicketSound, VersionSound}
 use Rattle.demands.proofs.Facts.{blob-small}
 use Rattle.demands.proofs.Passed.{AssignPassed, assign-passed}
 use Rattle.demands.proofs.Nth.{length-snoc, map-snoc, nth-append, nth-new}
-use Rattle.demands.proofs.Tickets.{length-updates, size-of}
+use Rattle.demands.proofs.Updates.{length-updates, size-at}
 use Rattle.demands.proofs.Versions.{version-had, version-gets}
 use Rattle.demands.proofs.Append.{update-append, sizeAt-append, accepted-append, update-new, used-new}
 use Rattle.demands.proofs.Pigeons.{pigeons}
@@ -113,7 +113,7 @@ module _ (L : Limits) (m : Model) (t f : ℕ) where
       new-accepted : Accepted (updates (assigned L m t f)) (length (m .versions))
       new-accepted =
           let k = S .tickets t (p .from) (p .upto) in
-          let s : sizeAt (updates (assigned L m t f)) (length (m .versions)) ≡ blobSize m = assigned-size (length (m .versions)) (omega arith) ∙ size-of m (length (m .versions)) in
+          let s : sizeAt (updates (assigned L m t f)) (length (m .versions)) ≡ blobSize m = assigned-size (length (m .versions)) (omega arith) ∙ size-at m (length (m .versions)) in
           record {
             some-pages = rw assigned-update-new (omega (arith, k .some-pages));
             starts = rw (assigned-update-new, s) (p .starts);

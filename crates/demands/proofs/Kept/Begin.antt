@@ -13,7 +13,8 @@ use Rattle.demands.proofs.Sound.{Sound, TicketSound}
 use Rattle.demands.proofs.Passed.{BeginPassed, begin-passed}
 use Rattle.demands.proofs.Slots.{none-there}
 use Rattle.demands.proofs.Nth.{length-snoc, nth-append, nth-new}
-use Rattle.demands.proofs.Tickets.{taken-all, updates-append}
+use Rattle.demands.proofs.Tickets.{taken-all}
+use Rattle.demands.proofs.Updates.{updates-append}
 use Rattle.demands.proofs.Kept.Same.{ticket-same, VersionSame, version-same, complete-same}
 
 module _ (L : Limits) (m : Model) (n : ℕ) where

@@ -9,7 +9,8 @@ use lib.ListN.{length, set, length-set}
 use Rattle.demands.specs.Model.{Limits, Ticket, Model, noTicket, pagesOf, ticketAt, versionAt, taken, updates}
 use Rattle.demands.proofs.Sound.{Sound, TicketSound, VersionSound}
 use Rattle.demands.proofs.Nth.{nth-set-same, nth-set-other}
-use Rattle.demands.proofs.Tickets.{taken-set, updates-set}
+use Rattle.demands.proofs.Tickets.{taken-set}
+use Rattle.demands.proofs.Updates.{updates-set}
 use Rattle.demands.proofs.Kept.Same.{ticket-same, VersionSame, version-same, complete-same}
 
 abbrev pub changed : Model → ℕ → Ticket → Model

@@ -3,7 +3,7 @@
 use mathlib.Core.Path.{_≡_, refl}
 use mathlib.Core.Logic.{inl, inr}
 use mathlib.Core.Bool.{Bool, true, false}
-use mathlib.Core.List.{List, [], _∷_}
+use mathlib.Core.List.{List}
 use Prim.Native.Nat.{ℕ, _%_, _≤_}
 use native.Mathlib.Nat.{mod-eq-of-lt}
 use native.Mathlib.Omega.{arith}
@@ -34,6 +34,7 @@ use Rattle.demands.specs.Model.{
 }
 use Rattle.demands.specs.Run.{run, freshOf, modelAfter}
 use Rattle.demands.proofs.Sound.{Allowed, Sound}
+use Rattle.demands.proofs.Runs.{run-keeps}
 use Rattle.demands.proofs.Kept.Begin.{begun-sound}
 use Rattle.demands.proofs.Kept.Put.{put-sound}
 use Rattle.demands.proofs.Kept.Assign.{assign-sound}
@@ -97,9 +98,7 @@ module _ (L : Limits) where
   step-sound m (VIEW v p) S = S
 
   pub run-sound : (m : Model) (cs : List Call) → Sound L m → Sound L (run (onModel L) m cs)
-  unfolding run
-  run-sound m [] S = S
-  run-sound m (c ∷ cs) S = run-sound (onModel L m c .0) cs (step-sound m c S)
+  run-sound m cs S = run-keeps (onModel L) (Sound L) step-sound m cs S
 
 -- The model after any list of calls from an accepted FORMAT.
 pub sound-after : (L : Limits) (a : Areas) → formatNumber (freshOf L) a ≡ 0 → (cs : List Call) → Sound L (modelAfter L cs)

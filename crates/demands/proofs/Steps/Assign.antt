@@ -15,16 +15,57 @@ use Rattle.tree.specs.declared.Record.{Record}
 use Rattle.versions.specs.Answers.{WRITE, APPEND, versionIs, answers, assignedAnswer}
 use Rattle.versions.specs.Table.{_<?_, _≤?_, _or_, always, assignRows, unless}
 use Rattle.versions.specs.Calls.{lengthsOf, recordOf, updateAt, sizeAfter, allPut, assignRefusal, assigned as assignedCase, withVersion, withVersionOf, withVersionPart, assignedRegister}
-use Rattle.demands.specs.Model.{Limits, Version, Model, noVersion, pagesOf, ticketAt, versionAt, versionOf, updates, places, blobSize, allFilled, nextUpdate, sizeAfter as sizeIn, assignNumber, assigned, either, leftOf, rightOf, assignStep, taken, onModel}
+use Rattle.demands.specs.Model.{
+  Limits,
+  Version,
+  Model,
+  noVersion,
+  pagesOf,
+  ticketAt,
+  versionAt,
+  versionOf,
+  updates,
+  places,
+  blobSize,
+  allFilled,
+  nextUpdate,
+  sizeAfter as sizeIn,
+  assignNumber,
+  assigned,
+  either,
+  leftOf,
+  rightOf,
+  assignStep,
+  taken,
+  onModel,
+}
 use Rattle.demands.specs.Run.{onStore, assignCall}
-use Rattle.demands.proofs.Image.{tab, Pair, onesPair, numbersOf, wovenOf, weaveCell, countAt, pagesImage, nodeCell, flat, maskOf, nodesImage, recordImage, registerImage, storeImage, areasImage, image}
+use Rattle.demands.proofs.Image.{
+  tab,
+  Pair,
+  onesPair,
+  numbersOf,
+  wovenOf,
+  weaveCell,
+  countAt,
+  pagesImage,
+  nodeCell,
+  flat,
+  maskOf,
+  nodesImage,
+  recordImage,
+  registerImage,
+  storeImage,
+  areasImage,
+  image,
+}
 use Rattle.demands.proofs.Sound.{Sound}
 use Rattle.demands.proofs.Passed.{AssignPassed, assign-passed}
 use Rattle.demands.proofs.Facts.{blob-small}
 use Rattle.demands.proofs.Tab.{getD-tab, tab-same}
 use Rattle.demands.proofs.Cells.{numbered-more}
 use Rattle.demands.proofs.Masks.{mask-all}
-use Rattle.demands.proofs.Tickets.{length-updates}
+use Rattle.demands.proofs.Updates.{length-updates}
 use Rattle.demands.proofs.Versions.{version-other}
 use Rattle.demands.proofs.Append.{left-append, right-append, used-append}
 use Rattle.demands.proofs.Records.{record-at, limited-same}
@@ -49,7 +90,8 @@ module _ (L : Limits) (m : Model) (S : Sound L m) (f : ℕ) where
 
   assign-reads : (t : ℕ) → 0 < t → t ≤ length (m .tickets)
       → let r = recordOf (areasImage L m) t in
-      AssignReads t (L .updates) (r .version .0) (versionOf m t) (allPut r) (allFilled (ticketAt m t .slots)) f (r .n) (pagesOf (ticketAt m t)) (countOf (updateAt (storeImage L m) f (r .n))) (countOf (nextUpdate L m t f))
+      AssignReads t (L .updates) (r .version .0) (versionOf m t) (allPut r) (allFilled (ticketAt m t .slots)) f (r .n) (pagesOf (ticketAt m t))
+      (countOf (updateAt (storeImage L m) f (r .n))) (countOf (nextUpdate L m t f))
   assign-reads zero o h = absurd (omega arith)
   assign-reads (suc t) o h =
       let e = record-at L m t (omega (arith, S .records)) in
@@ -159,7 +201,8 @@ module _ (L : Limits) (m : Model) (S : Sound L m) (f : ℕ) where
         record-put (L .updates) t (recordImage m) halfway _ h (λ j l n. ap (λ k. both k (versionPart m j)) (assigned-ticket-part j n))
         (rw (getD-tab (L .updates) (recordImage m) t noRecord h) (ap (λ k. both k (versionPart m t)) got-part))
 
-    register-second : withRecord (tab (L .updates) halfway) (length (m .versions)) (withVersionPart (getD (tab (L .updates) halfway) (length (m .versions)) noRecord) (suc t) f (f + pagesOf (ticketAt m (suc t)) - 1) (sizeIn L m (suc t) f) (places m))
+    register-second : withRecord (tab (L .updates) halfway) (length (m .versions))
+        (withVersionPart (getD (tab (L .updates) halfway) (length (m .versions)) noRecord) (suc t) f (f + pagesOf (ticketAt m (suc t)) - 1) (sizeIn L m (suc t) f) (places m))
         ≡ registerImage L (assigned L m (suc t) f)
     unfolding registerImage
     register-second =
@@ -188,7 +231,9 @@ module _ (L : Limits) (m : Model) (S : Sound L m) (f : ℕ) where
 
   assign-leaves : (t k n c : ℕ) (r : List Record) → (k ≡ 0 → n ≡ pagesOf (ticketAt m t)) → (k ≡ 0 → c ≡ countOf (nextUpdate L m t f))
       → (k ≡ 0 → stateOf (withVersion (storeImage L m) (countOf (nextUpdate L m t f)) (sizeIn L m t f)) (pagesImage L m) (nodesImage L m) r ≡ image L (assigned L m t f))
-      → leaves (stateOf (unless k (storeImage L m) (withVersion (storeImage L m) c (sizeAfter (storeImage L m) f n))) (pagesImage L m) (nodesImage L m) (unless k (registerImage L m) r)) (assignedAnswer (assignedCase k (suc (length (m .versions))) c))
+      → leaves
+      (stateOf (unless k (storeImage L m) (withVersion (storeImage L m) c (sizeAfter (storeImage L m) f n))) (pagesImage L m) (nodesImage L m) (unless k (registerImage L m) r))
+      (assignedAnswer (assignedCase k (suc (length (m .versions))) c))
       ≡ leaves (image L (unless k m (assigned L m t f))) (answers k (versionIs (suc (length (m .versions))) (countOf (nextUpdate L m t f))))
   unfolding unless
   assign-leaves t zero n c r a b h = rw (a refl, b refl) (ap (λ x. leaves x (versionIs (suc (length (m .versions))) (countOf (nextUpdate L m t f)))) (h refl))

@@ -69,7 +69,15 @@ module _ (L : Limits) (m : Model) (S : Sound L m) (n : ℕ) where
   begun-new-part : ticketPart (begun L m n) (length (m .tickets)) ≡ record { n = n; number = taken (m .tickets) (length (m .tickets)); put = 0; version = 0 }
   begun-new-part =
       let t = length (m .tickets) in
-      rw (length-snoc (m .tickets) (newTicket L m n), begun-new L m n, length-replicate, mask-none, ticket-past L m S (suc t) (omega arith), new-begins, taken-append (m .tickets) (newTicket L m n) t (omega arith))
+      rw (
+        length-snoc (m .tickets) (newTicket L m n),
+        begun-new L m n,
+        length-replicate,
+        mask-none,
+        ticket-past L m S (suc t) (omega arith),
+        new-begins,
+        taken-append (m .tickets) (newTicket L m n) t (omega arith),
+      )
 
   begun-register : BeginPassed L m n
       → withRecord (registerImage L m) (length (m .tickets)) (withTicketPart (getD (registerImage L m) (length (m .tickets)) noRecord) n (taken (m .tickets) (length (m .tickets))))
@@ -80,7 +88,8 @@ module _ (L : Limits) (m : Model) (S : Sound L m) (n : ℕ) where
       (rw (record-at L m t (p .record-left)) (ap₂ both begun-new-part (sym (begun-version-part t))))
 
   begun-image : BeginPassed L m n
-      → stateOf (withTicket (storeImage L m) n) (pagesImage L m) (nodesImage L m) (withRecord (registerImage L m) (length (m .tickets)) (withTicketPart (getD (registerImage L m) (length (m .tickets)) noRecord) n (taken (m .tickets) (length (m .tickets)))))
+      → stateOf (withTicket (storeImage L m) n) (pagesImage L m) (nodesImage L m)
+      (withRecord (registerImage L m) (length (m .tickets)) (withTicketPart (getD (registerImage L m) (length (m .tickets)) noRecord) n (taken (m .tickets) (length (m .tickets)))))
       ≡ image L (begun L m n)
   begun-image p = state-same begun-store begun-pages begun-nodes (begun-register p)
 
@@ -91,7 +100,8 @@ module _ (L : Limits) (m : Model) (S : Sound L m) (n : ℕ) where
       image-number L m S rows rows never (alike-same rows) (λ z. omega arith)
 
   begin-leaves : (k : ℕ) (r : List Record) → (k ≡ 0 → stateOf (withTicket (storeImage L m) n) (pagesImage L m) (nodesImage L m) r ≡ image L (begun L m n))
-      → leaves (stateOf (unless k (storeImage L m) (withTicket (storeImage L m) n)) (pagesImage L m) (nodesImage L m) (unless k (registerImage L m) r)) (begunAnswer (begunCase k (suc (length (m .tickets)))))
+      → leaves (stateOf (unless k (storeImage L m) (withTicket (storeImage L m) n)) (pagesImage L m) (nodesImage L m) (unless k (registerImage L m) r))
+      (begunAnswer (begunCase k (suc (length (m .tickets)))))
       ≡ leaves (image L (unless k m (begun L m n))) (answers k (ticketIs (suc (length (m .tickets)))))
   unfolding unless
   begin-leaves zero r h = ap (λ x. leaves x (ticketIs (suc (length (m .tickets))))) (h refl)

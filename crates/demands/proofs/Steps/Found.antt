@@ -12,7 +12,6 @@ use Rattle.pages.specs.Pages.{part}
 use Rattle.tree.specs.Tree.{Update, Node, node, weaving, nth, update, sizeAt, heightOf}
 use Rattle.tree.specs.NodeArea.{nodeAt}
 use Rattle.tree.specs.Walk.{Accepted, leftBy, rightBy, WovenBy, walkBy, stampOf, placeOf, used}
-use Rattle.tree.specs.Register.{updateOf}
 use Rattle.tree.specs.declared.NodeAt.the-variants.{Stored}
 use Rattle.tree.specs.declared.Found.the-variants.{Leaf}
 use Rattle.tree.proofs.Newest.{newest-le}
@@ -24,12 +23,11 @@ use Rattle.demands.proofs.Sound.{Sound}
 use Rattle.demands.proofs.Pairs.{node-stored}
 use Rattle.demands.proofs.Cells.{taken-before, used-before, cell-at, numbered-cell}
 use Rattle.demands.proofs.Blocks.{tab-byte, tab-part}
-use Rattle.demands.proofs.Tickets.{length-updates}
 use Rattle.demands.proofs.Facts.{complete-count, number-room, weaving-count, place-room}
-use Rattle.demands.proofs.Records.{record-of, cells-length, update-record, updates-taken, place-of}
+use Rattle.demands.proofs.Records.{cells-length, update-image, updates-taken, place-of}
 use Rattle.demands.specs.Snapshot.{treeOf, treeIn}
 use Rattle.demands.proofs.Trees.{tree-in}
-use Rattle.demands.proofs.Updates.{f-at, size-at}
+use Rattle.demands.proofs.Updates.{length-updates, f-at, size-at}
 use Rattle.demands.proofs.Blob.{StampedIn, stamp-bounds, page-filled}
 
 -- The page number of version w's page p.
@@ -108,11 +106,6 @@ module _ (L : Limits) (m : Model) (sound : Sound L m) where
       tree-in (updates m) k (λ v l. sound .accepted v (omega (arith, sound .published))) leafAt (nodesImage L m)
       (λ v o l. woven-from (λ (w : ℕ). used (updates m) (pred w)) v o (omega arith) refl)
 
-  -- The update that version v's record says.
-  pub update-image : (v : ℕ) → 0 < v → v ≤ length (m .versions) → updateOf (recordOf (areasImage L m) v) ≡ update (updates m) v
-  update-image zero o h = absurd (omega arith)
-  update-image (suc v) o h = rw (record-of L m (suc v) o (omega (arith, sound .fewer, sound .records))) (update-record L m sound v h)
-
   -- A published version is assigned, and its record lies within the register.
   pub published-within : (v : ℕ) → v ≤ m .published → (v ≤ length (m .versions)) × (v ≤ L .updates)
   published-within v h = (omega (arith, sound .published), omega (arith, sound .published, sound .fewer, sound .records))
@@ -131,10 +124,10 @@ module _ (L : Limits) (m : Model) (sound : Sound L m) where
         walk-alone us v a (rw length-updates fits) leafAt baseAt (nodesImage L m) (λ w x y. nodes-woven w x (omega arith)) p o s
         ∙ rw (set-by-newest us leafAt v p (covered us v a v p (omega arith) s), f-at m (stampOf us v p))
 
-    -- THE WALK on the image.
+    -- The walk on the image.
     pub find-page : findPage (storeImage L m) (areasImage L m) v p ≡ Leaf (record { 0 = stampOf (updates m) v p }) (numberIn m (stampOf (updates m) v p) p)
     unfolding findPage
-    find-page = rw (updates-taken L m sound, update-image v o upto) walk-found
+    find-page = rw (updates-taken L m sound, update-image L m sound v o upto) walk-found
 
     stamped : StampedIn m v p
     stamped = stamp-bounds L m sound v p upto r

@@ -128,5 +128,6 @@ module _ (m m′ : Model)
       (λ v o h. rw (same v o h .updated))
       (λ v i o h l.
       let e = same v o h in
-      cell-same i (wovenOf m′ v) (wovenOf m v) (update (updates m′) v) (update (updates m) v) (numbersOf m′ v) (numbersOf m v) (ap (λ (x : Version). ticketAt m′ (x .ticket) .woven) (e .version) ∙ ap (λ (k : Ticket). k .woven) (e .ticket)) (e .updated) (λ x. numbers v x o h))
+      let w : wovenOf m′ v ≡ wovenOf m v = ap (λ (x : Version). ticketAt m′ (x .ticket) .woven) (e .version) ∙ ap (λ (k : Ticket). k .woven) (e .ticket) in
+      cell-same i (wovenOf m′ v) (wovenOf m v) (update (updates m′) v) (update (updates m) v) (numbersOf m′ v) (numbersOf m v) w (e .updated) (λ x. numbers v x o h))
       q

@@ -89,7 +89,12 @@ module _ (L : Limits) (m : Model) (S : Sound L m) (i : ℕ) (bytes : List ℕ) w
         ≡ record { n = pagesOf (ticketAt m (suc t)); number = numberAt m t; put = withBit (maskOf (ticketAt m (suc t) .slots)) i; version = versionOf m (suc t) }
     put-part =
         let s = filled-pages L m (suc t) i bytes in
-        rw (changed-number m (suc t) (filledTicket L m (suc t) i bytes) (p .from) s t, filled-this L m (suc t) i bytes S p, s, mask-put (ticketAt m (suc t) .slots) i bytes (S .tickets (suc t) (p .from) (p .upto) .few) (p .slot) (p .empty))
+        rw (
+          changed-number m (suc t) (filledTicket L m (suc t) i bytes) (p .from) s t,
+          filled-this L m (suc t) i bytes S p,
+          s,
+          mask-put (ticketAt m (suc t) .slots) i bytes (S .tickets (suc t) (p .from) (p .upto) .few) (p .slot) (p .empty),
+        )
 
     put-register : withRecord (registerImage L m) t (withPut (recordOf (areasImage L m) (suc t)) i) ≡ registerImage L (filledAt L m (suc t) i bytes)
     put-register =
@@ -102,7 +107,8 @@ module _ (L : Limits) (m : Model) (S : Sound L m) (i : ℕ) (bytes : List ℕ) w
         (rw (record-at L m t h) (ap₂ both put-part (sym (version t))))
 
   put-image : (t : ℕ) → PutPassed L m t i bytes
-      → stateOf (storeImage L m) (put (pagesImage L m) (L .size * numberOf (areasImage L m) t i) bytes) (nodesImage L m) (withRecord (registerImage L m) (pred t) (withPut (recordOf (areasImage L m) t) i))
+      → stateOf (storeImage L m) (put (pagesImage L m) (L .size * numberOf (areasImage L m) t i) bytes) (nodesImage L m)
+      (withRecord (registerImage L m) (pred t) (withPut (recordOf (areasImage L m) t) i))
       ≡ image L (filledAt L m t i bytes)
   put-image zero p = absurd (omega (arith, p .from))
   put-image (suc t) p =

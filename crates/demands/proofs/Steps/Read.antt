@@ -9,19 +9,19 @@ use native.Mathlib.Omega.{arith}
 use lib.ListN.{length, take, drop}
 use Rattle.versions.specs.declared.Store.{Store}
 use Rattle.versions.specs.Table.{_≤?_, _<?_, _or_, test, always, readRows}
+use Rattle.versions.proofs.Table.{unless-same}
 use Rattle.versions.specs.Answers.{READ, filled, answers, filledAnswer}
-use Rattle.versions.specs.Calls.{Areas, areasDiffer, bytesIn, pageNumberOf, isLost, someLost, pagesTouched, readNumber, byteOf, bytesFrom, filledBy}
+use Rattle.versions.specs.Calls.{Areas, bytesIn, pageNumberOf, isLost, someLost, pagesTouched, readNumber, byteOf, bytesFrom, filledBy}
 use Rattle.demands.specs.Model.{Limits, Model, versionAt, blobAt, bytesAt, readNumber as modelNumber, onModel}
 use Rattle.demands.specs.Run.{onStore}
 use Rattle.demands.proofs.Image.{storeImage, areasImage, image}
 use Rattle.demands.proofs.Sound.{Sound}
 use Rattle.demands.proofs.Passed.{read-passed}
-use Rattle.demands.proofs.Records.{areas-agree}
-use Rattle.demands.proofs.Joined.{pageByte, bytes-from-by}
+use Rattle.demands.proofs.Blocks.{pageByte}
+use Rattle.demands.proofs.Bytes.{bytes-from-by}
 use Rattle.demands.proofs.Blob.{bytes-range}
-use Rattle.demands.proofs.Steps.Numbers.{number-same, read-alike}
+use Rattle.demands.proofs.Steps.Numbers.{image-number, read-alike}
 use Rattle.demands.proofs.Steps.Sizes.{bytes-in}
-use Rattle.demands.proofs.Steps.Unless.{unless-same}
 use Rattle.demands.proofs.Steps.Found.{published-within, some-version, page-number, view-byte}
 
 -- ---- the number
@@ -64,10 +64,10 @@ module _ (L : Limits) (m : Model) (sound : Sound L m) where
     pub read-number : readNumber (storeImage L m) (areasImage L m) v offset len buffer ≡ modelNumber L m v offset len buffer
     unfolding readNumber
     read-number =
-        number-same (areasDiffer (storeImage L m) (areasImage L m))
+        image-number L m sound
         (readRows (v ≤? L .updates) v (m .published) (bytesIn (storeImage L m) (areasImage L m) v) offset len (length buffer))
         (readRows always v (m .published) (L .size * versionAt m v .size) offset len (length buffer))
-        (L .updates <? v or test (someLost (storeImage L m) (areasImage L m) v (offset / L .size) (pagesTouched (L .size) offset len))) (areas-agree L m sound)
+        (L .updates <? v or test (someLost (storeImage L m) (areasImage L m) v (offset / L .size) (pagesTouched (L .size) offset len)))
         (read-alike v (m .published) (L .updates) (bytesIn (storeImage L m) (areasImage L m) v) (L .size * versionAt m v .size) offset len (length buffer) (λ h.
         let w = published-within L m sound v h in
         (w .1, bytes-in L m sound v (w .0)))) (λ z.

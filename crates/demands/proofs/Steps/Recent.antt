@@ -37,5 +37,7 @@ module _ (L : Limits) (m : Model) (S : Sound L m) where
   pub size-step : (v : ℕ) → onStore (image L m) (SIZE v) ≡ (image L (onModel L m (SIZE v) .0), onModel L m (SIZE v) .1)
   unfolding onStore onModel sizedBy
   size-step v =
-      let done = size-answer (firstRefusal (sizeRows v (m .published))) (bytesIn (storeImage L m) (areasImage L m) v) (L .size * versionAt m v .size) (λ z. bytes-in L m S v (omega (arith, size-passed L m v z, S .published))) in
+      let k = firstRefusal (sizeRows v (m .published)) in
+      let bytes : k ≡ 0 → bytesIn (storeImage L m) (areasImage L m) v ≡ L .size * versionAt m v .size = λ z. bytes-in L m S v (omega (arith, size-passed L m v z, S .published)) in
+      let done = size-answer k (bytesIn (storeImage L m) (areasImage L m) v) (L .size * versionAt m v .size) bytes in
       rw (size-number v) (ap (λ a. (image L m, says a)) done)

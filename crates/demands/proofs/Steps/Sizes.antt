@@ -11,14 +11,13 @@ use Rattle.demands.specs.Model.{Limits, Model, versionAt}
 use Rattle.demands.proofs.Image.{storeImage, areasImage}
 use Rattle.demands.proofs.Sound.{Sound}
 use Rattle.demands.proofs.Facts.{size-small}
-use Rattle.demands.proofs.Records.{record-of, update-at, update-record}
+use Rattle.demands.proofs.Updates.{update-at}
+use Rattle.demands.proofs.Records.{update-image}
 
 module _ (L : Limits) (m : Model) (S : Sound L m) where
   pub pages-in : (v : ℕ) → v ≤ length (m .versions) → pagesIn (areasImage L m) v ≡ versionAt m v .size
   pages-in zero h = refl
-  pages-in (suc i) h =
-      rw (record-of L m (suc i) (omega arith) (omega (arith, S .fewer, S .records)))
-      (ap (λ (u : Update). u .size) (update-record L m S i h ∙ update-at m (suc i)))
+  pages-in (suc i) h = ap (λ (u : Update). u .size) (update-image L m S (suc i) (omega arith) h ∙ update-at m (suc i))
 
   -- A size in bytes fits in 64 bits.
   pub bytes-in : (v : ℕ) → v ≤ length (m .versions) → bytesIn (storeImage L m) (areasImage L m) v ≡ L .size * versionAt m v .size

@@ -7,17 +7,16 @@ use lib.ListN.{getD}
 use Rattle.pages.specs.Pages.{part}
 use Rattle.tree.specs.Walk.{stampOf}
 use Rattle.versions.specs.Table.{_≤?_, _<?_, _or_, test, always, pageRows}
+use Rattle.versions.proofs.Table.{unless-same}
 use Rattle.versions.specs.Answers.{STAMP, VIEW, stampIs, answers, stampedAnswer}
-use Rattle.versions.specs.Calls.{areasDiffer, pagesIn, pageNumberOf, isLost, orZero, stampNumber, versionFound, stamped, findPage}
+use Rattle.versions.specs.Calls.{pagesIn, pageNumberOf, isLost, orZero, stampNumber, versionFound, stamped, findPage}
 use Rattle.demands.specs.Model.{Limits, Model, versionAt, updates, blobAt, pageNumber, onModel}
 use Rattle.demands.specs.Run.{onStore}
 use Rattle.demands.proofs.Image.{pagesImage, storeImage, areasImage, image}
 use Rattle.demands.proofs.Sound.{Sound}
 use Rattle.demands.proofs.Passed.{page-passed}
-use Rattle.demands.proofs.Records.{areas-agree}
-use Rattle.demands.proofs.Steps.Numbers.{number-same, page-alike}
+use Rattle.demands.proofs.Steps.Numbers.{image-number, page-alike}
 use Rattle.demands.proofs.Steps.Sizes.{pages-in}
-use Rattle.demands.proofs.Steps.Unless.{unless-same}
 use Rattle.demands.proofs.Steps.Found.{published-within, some-version, find-page, page-number, view-bytes}
 
 -- ---- the number
@@ -27,9 +26,9 @@ module _ (L : Limits) (m : Model) (sound : Sound L m) where
     pub stamp-number : stampNumber (storeImage L m) (areasImage L m) v p ≡ pageNumber L m v p
     unfolding stampNumber
     stamp-number =
-        number-same (areasDiffer (storeImage L m) (areasImage L m))
+        image-number L m sound
         (pageRows (v ≤? L .updates) v (m .published) (pagesIn (areasImage L m) v) p) (pageRows always v (m .published) (versionAt m v .size) p)
-        (L .updates <? v or test (isLost (pageNumberOf (storeImage L m) (areasImage L m) v p))) (areas-agree L m sound)
+        (L .updates <? v or test (isLost (pageNumberOf (storeImage L m) (areasImage L m) v p)))
         (page-alike v (m .published) (L .updates) (pagesIn (areasImage L m) v) (versionAt m v .size) p (λ h.
         let w = published-within L m sound v h in
         (w .1, pages-in L m sound v (w .0)))) (λ z.

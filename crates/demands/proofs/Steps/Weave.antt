@@ -23,7 +23,6 @@ use Rattle.versions.specs.declared.Woven.the-variants as Woven
 use Rattle.versions.specs.declared.Store.{Store}
 use Rattle.versions.specs.Answers.{Answer, WEAVE, nodeIs, says, answers, wovenAnswer}
 use Rattle.versions.specs.Calls.{
-  areasDiffer,
   recordOf,
   nextNode,
   nextPlace,
@@ -61,13 +60,13 @@ use Rattle.demands.specs.Model.{
 use Rattle.demands.specs.Run.{onStore}
 use Rattle.demands.proofs.Image.{pagesImage, countAt, nodesImage, registerImage, storeImage, areasImage, image}
 use Rattle.demands.proofs.Sound.{Sound}
-use Rattle.demands.proofs.Facts.{number-room, update-end, update-first, update-inside, place-room}
+use Rattle.demands.proofs.Facts.{number-room, update-end, update-inside, place-room}
+use Rattle.demands.proofs.Updates.{f-at}
 use Rattle.demands.proofs.Versions.{version-le, version-ticket}
 use Rattle.demands.proofs.Passed.{WeavePassed, weave-passed}
-use Rattle.demands.proofs.Records.{record-of, areas-agree, newest-register, number-of, place-of}
-use Rattle.demands.proofs.Steps.Numbers.{number-same, WeaveReads, weave-alike}
+use Rattle.demands.proofs.Records.{record-of, update-image, newest-register, number-of, place-of}
+use Rattle.demands.proofs.Steps.Numbers.{image-number, WeaveReads, weave-alike}
 use Rattle.demands.proofs.Steps.States.{stateOf, state-same}
-use Rattle.demands.proofs.Steps.Found.{update-image}
 use Rattle.demands.proofs.Steps.Woven.{woven-store, woven-pages, woven-nodes, woven-register}
 
 -- ---- the node, over any records
@@ -185,7 +184,7 @@ module _ (L : Limits) (m : Model) (sound : Sound L m) (t : ℕ) (p : WeavePassed
       let k = weaving-kth u update-is (ticketAt m t .woven) (p .left) in
       let n = node-has u a 0 (kth-node u update-is (ticketAt m t .woven) a 0 (p .left) (sym k ∙ e) .1) in
       let z = update-end L m sound v (p .assigned) (version-le m t) in
-      let f = update-first L m sound v (p .assigned) (version-le m t) in
+      let f = f-at m v in
       let room = number-room L m sound t (p .from) (p .upto) in
       let s = ap (λ (w : ℕ). pagesOf (ticketAt m w)) (version-ticket m t (p .assigned)) in
       omega (arith, first-leaf a)
@@ -247,10 +246,10 @@ module _ (L : Limits) (m : Model) (sound : Sound L m) (t : ℕ) where
       let s = storeImage L m in
       let r = recordOf a t in
       let q = wovenRecord a t in
-      number-same (areasDiffer s a)
+      image-number L m sound
       (weaveRows (t ≤? L .updates) (wovenVersion a t ≤? L .updates) t (length (m .tickets)) (wovenVersion a t) (q .woven) (countOf (updateOf q)))
       (weaveRows always always t (length (m .tickets)) (versionOf m t) (ticketAt m t .woven) (countAt m (versionOf m t)))
-      (L .updates <? t or L .updates <? wovenVersion a t or L .nodes ≤? nextPlace q or leafPast s r q (nextNode q)) (areas-agree L m sound)
+      (L .updates <? t or L .updates <? wovenVersion a t or L .nodes ≤? nextPlace q or leafPast s r q (nextNode q))
       (weave-alike t (length (m .tickets)) (L .updates) (wovenVersion a t) (versionOf m t) (q .woven) (ticketAt m t .woven) (countOf (updateOf q))
       (countAt m (versionOf m t)) (weave-reads L m sound t))
       (λ z.

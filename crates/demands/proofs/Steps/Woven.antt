@@ -28,15 +28,6 @@ use Rattle.demands.proofs.Kept.Change.{changed-taken, changed-length, c
 use Rattle.demands.proofs.Kept.Weave.{wovenTicket, woven-this, woven-updates}
 use Rattle.demands.proofs.Steps.Changed.{changed-store, changed-numbers}
 
--- `nodes-put`, with the version counted from 1.
-nodes-put-at : (L : Limits) (m m′ : Model) → Sound L m → length (m′ .versions) ≡ length (m .versions)
-    → ((w : ℕ) → 0 < w → w ≤ length (m .versions) → countAt m w ≡ countAt m′ w)
-    → (v j l r : ℕ) → 0 < v → v ≤ length (m .versions) → j < countAt m v
-    → ((w i : ℕ) → 0 < w → w ≤ length (m .versions) → i < countAt m w → (w ≡ v → i ≡ j → ⊥) → weaveCell m w i ≡ weaveCell m′ w i)
-    → weaveCell m′ v j ≡ (l, r) → withNode (nodesImage L m) (used (updates m) (pred v) + j) l r ≡ nodesImage L m′
-nodes-put-at L m m′ sound long counts zero j l r o h k others here = absurd (omega arith)
-nodes-put-at L m m′ sound long counts (suc v) j l r o h k others here = nodes-put L m m′ sound long counts v j l r h k others here
-
 -- One number more leaves the test of every other number.
 ltb-other : (i n : ℕ) → i ≢ n → ltb i (suc n) ≡ ltb i n
 ltb-other i n d = elim (lt-or-le i n) [
@@ -128,7 +119,7 @@ module _ (L : Limits) (m : Model) (t : ℕ) (sound : Sound L m) (p : WeavePassed
   pub woven-nodes : (l r : ℕ) → numbersOf m (versionOf m t) (getD (weaving (update (updates m) (versionOf m t))) (ticketAt m t .woven) (node 0 0)) ≡ (l, r)
       → withNode (nodesImage L m) (used (updates m) (pred (versionOf m t)) + ticketAt m t .woven) l r ≡ nodesImage L (woven L m t)
   woven-nodes l r e =
-      nodes-put-at L m (woven L m t) sound refl (λ w x y. rw (woven-updates L m t sound p)) (versionOf m t) (ticketAt m t .woven) l r (p .assigned)
+      nodes-put L m (woven L m t) sound refl (λ w x y. rw (woven-updates L m t sound p)) (versionOf m t) (ticketAt m t .woven) l r (p .assigned)
       (version-le m t) (p .left) cells-other (cell-this ∙ e)
 
   -- ---- the register

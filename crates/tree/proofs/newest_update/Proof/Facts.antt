@@ -30,12 +30,14 @@ record-meets-1 register below x-first span len-register ok-below ok-x-first fits
 -- the function ensures: r ≡ newestIn register below first span
 -- here: newest-update″.ens register below x-first span (Version′.build v5)
 pub exit-1 : Asks.exit-1
-exit-1 register below x-first span len-register ok-below ok-x-first fits-span need v5 fits-v5 inv1 c1 n1 ok-r1 c2 = ap Version′.build (sym (newest-met register v5 (v5 - 1) (x-first .0) span (omega arith) (omega arith) c2) ∙ inv1 .1)
+exit-1 register below x-first span len-register ok-below ok-x-first fits-span need v5 fits-v5 inv1 c1 n1 ok-r1 c2 =
+    ap Version′.build (sym (newest-met register v5 (v5 - 1) (x-first .0) span (omega arith) (omega arith) c2) ∙ inv1 .1)
 
 -- the invariant holds after a turn
 -- here: Loop.inv-1 register below x-first span (v5 - 1)
 pub again-1 : Asks.again-1
-again-1 register below x-first span len-register ok-below ok-x-first fits-span need v5 fits-v5 inv1 c1 n1 ok-r1 c2 = (omega arith, sym (newest-unmet register v5 (v5 - 1) (x-first .0) span (omega arith) (omega arith) c2) ∙ inv1 .1)
+again-1 register below x-first span len-register ok-below ok-x-first fits-span need v5 fits-v5 inv1 c1 n1 ok-r1 c2 =
+    (omega arith, sym (newest-unmet register v5 (v5 - 1) (x-first .0) span (omega arith) (omega arith) c2) ∙ inv1 .1)
 
 -- the measure falls
 -- here: Loop.measure-1 register below x-first span (v5 - 1) < Loop.measure-1 register below x-first span v5

@@ -1,29 +1,15 @@
 -- The facts that the walk of `tree::record_of` asks for. The author's file: tools/walkgen wrote its skeleton once, and with --rebind brings the arguments up to date.
-use mathlib.Core.Path.{_≡_, refl, sym, _∙_, ap, subst}
-use Prim.Native.Nat.{ℕ, _+_, _-_, _*_, _<_, _≤_, _^_, min, max}
-use native.Mathlib.Omega.{arith}
-use mathlib.Core.List.{List}
-use mathlib.Core.Bool.{Bool, true, false}
-use lib.Dec.{ltb, leb, eqb}
-use lib.ListN.{length, getD, set}
-use Rattle.tree.specs.declared.Record.{Record}
+use mathlib.Core.Path.{sym, ap}
+use Prim.Native.Nat.{ℕ}
 use Rattle.tree.proofs.Walkgen.Kind.Record as Record′
-use Rattle.tree.specs.declared.Version.{Version}
 use Rattle.tree.proofs.Walkgen.Kind.Version as Version′
-use Rattle.tree.specs.declared.Ticket.{Ticket}
 use Rattle.tree.proofs.Walkgen.Kind.Ticket as Ticket′
-use Rattle.tree.specs.declared.PageIndex.{PageIndex}
 use Rattle.tree.proofs.Walkgen.Kind.PageIndex as PageIndex′
 use Rattle.tree.proofs.Walkgen.Say.record_of as record-of″
 use Rattle.tree.proofs.Walkgen.Say.no_record as no-record″
 use Rattle.tree.proofs.Walkgen.Say.record_at as record-at″
-use lib.Count.{ones}
-use Rattle.tree.specs.Tree.{rootHeight, meets, nth}
-use Rattle.tree.specs.Place.{below}
-use Rattle.tree.specs.NodeArea.{nodeAt, withNode}
-use Rattle.tree.specs.Register.{noRecord, limited, updateOf, extentOf, withRecord, newestIn}
-use Rattle.tree.specs.Contract.{rootSpan, nodesFor, Pages, Counted, Indexed, Part, Spans, Kth}
-use Rattle.tree.proofs.Walkgen.Flow.{within}
+use Rattle.tree.specs.Tree.{nth}
+use Rattle.tree.specs.Register.{noRecord}
 use Rattle.tree.proofs.Records.{nth-before}
 use Rattle.tree.proofs.record_of.Proof.Asks as Asks
 

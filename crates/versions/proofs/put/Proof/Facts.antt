@@ -8,7 +8,8 @@ use Rattle.versions.proofs.Walkgen.Kind.Store as Store′
 use Rattle.tree.specs.Tree.{nth}
 use Rattle.tree.specs.Register.{noRecord}
 use Rattle.versions.specs.Calls.{areasOf, lengthsOf}
-use Rattle.versions.proofs.Passed.{put-passed, unless-same}
+use Rattle.versions.proofs.Table.{unless-same}
+use Rattle.versions.proofs.Passed.{put-passed}
 use Rattle.versions.proofs.put.Proof.Asks as Asks
 
 -- the function ensures: (r ≡ putOut s (areasOf pages nodes register) (t .0) i bytes) × (pages′ ≡ putPages s (areasOf pages nodes register) (t .0) i bytes) × (register′ ≡ putRegister s (areasOf pages nodes register) (t .0) i bytes)

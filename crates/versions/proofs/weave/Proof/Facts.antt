@@ -3,8 +3,8 @@ use mathlib.Core.Path.{_≡_}
 use native.Mathlib.Omega.{arith}
 use Rattle.versions.proofs.Walkgen.Kind.Store as Store′
 use Rattle.versions.specs.Calls.{areasOf, wovenRecord, nodeOf, withWoven}
-use Rattle.versions.proofs.Table.{unless-0}
-use Rattle.versions.proofs.WeaveRoom.{limit-inside, left-room, right-room, place-low, children-found, wove-same, unless-same}
+use Rattle.versions.proofs.Table.{unless-same, unless-0}
+use Rattle.versions.proofs.WeaveRoom.{limit-inside, left-room, right-room, place-low, children-found, wove-same}
 use Rattle.versions.proofs.weave.Proof.Asks as Asks
 
 -- `newest_update` asks: (below .0 ≤ length register) × (first .0 + span < 2 ^ 64)
