@@ -235,7 +235,7 @@ length set getD refl sym ap subst mem run known need not true false named int pl
 T K W H A M E C Q xs d rest t v r e is ws fm os k l room same ok here path zero suc fact raw some later pick await use0 use1 use2 use3'''.split()) | KEYWORDS
 
 
-RESERVED |= set('to Asked calls goes callee all-args all-vals bound Post exits walk walks meets stayed Facts Asks r1 within need said'.split())
+RESERVED |= set('to Asked calls goes callee all-args all-vals bound Post exits walk walks meets stayed Facts Asks r1 within need said take'.split())
 
 
 def logic_names():
@@ -1109,7 +1109,9 @@ use denote.Triple.Walked.{says}'''.split('\n')
 
 # ------------------------------------------------------------------ the walk
 class Val:
-    """what a local holds. kind: plain (ty, e, ok), slice (p), ptr (p), scaled (i, ok, stride), elem (p, i, ok: the fact that i is within)"""
+    """what a local holds. kind: plain (ty, e, ok), slice (p; part: the count, a plain Val, where it is `s[..n]`), ptr (p), scaled (i, ok, stride), elem (p, i, ok: the fact that i is within)"""
+    part = None
+
     def __init__(self, kind, **k):
         self.kind = kind
         self.__dict__.update(k)
@@ -1168,7 +1170,7 @@ class Walk:
         self.tests = 0
         self.loops = 0
         self.blocks = 0
-        self.wrote_context = self.made_arrays = False
+        self.wrote_context = self.made_arrays = self.lent_parts = False
         self.recursive = calls_in(f.mir.body, f.path)
         self.turns = []
         self.author = []
@@ -1258,7 +1260,7 @@ class Walk:
     def field(self, v, i):
         if v.kind == 'slice':
             p = self.P(v.p)
-            return Val('ptr', p=v.p) if i == 0 else Val('plain', ty=Ty('int', w=64), e=p.cnt, ok='(refl, %s .0)' % p.room)
+            return Val('ptr', p=v.p, part=v.part) if i == 0 else v.part or Val('plain', ty=Ty('int', w=64), e=p.cnt, ok='(refl, %s .0)' % p.room)
         if v.kind != 'plain' or v.ty.kind != 'named':
             raise Unsupported('a field of what is no struct')
         fs = self.c.fields(v.ty.name)
@@ -1272,7 +1274,7 @@ class Walk:
         if v.kind == 'plain':
             return self.c.typed(v.ty, v.e, par(v.ok))
         if v.kind == 'slice':
-            return '(tt, (tt, (record { fits = %s .0 }, tt)))' % self.P(v.p).room
+            return '(tt, (tt, (record { fits = %s }, tt)))' % (fits_of(v.part.ok) if v.part else self.P(v.p).room + ' .0')
         if v.kind in ('ptr', 'elem'):
             return '(tt, tt)'
         raise Unsupported('a value of no known type')
@@ -1532,7 +1534,7 @@ class Walk:
                 return 'addr ! (from ! (stop !))', Val('ptr', p=st.arrays[j]), ''
             if v is None or v.kind != 'slice' or len(steps) != 2 or steps[0] != ['field', '0'] or steps[1][0] != 'deref':
                 raise Unsupported('a reference that is no reborrow of a slice')
-            return 'addr ! (from ! (fld ! refl (hop ! (look-in ! %d (sub ! 0 refl (whole !))) (stop !))))' % self.at(st, j), Val('ptr', p=v.p), ''
+            return 'addr ! (from ! (fld ! refl (hop ! (look-in ! %d (sub ! 0 refl (whole !))) (stop !))))' % self.at(st, j), Val('ptr', p=v.p, part=v.part), ''
         if rv[0] == 'aggregate':
             os_, vs = [], []
             for e in lst(rv[-1]):
@@ -1546,9 +1548,12 @@ class Walk:
                 raise Unsupported('a struct is made in a field (make it in a local first)')
             t = self.f.mir.locals[k]
             if t.kind == 'slice':
-                if len(vs) != 2 or vs[0].kind != 'ptr' or vs[1].e != self.P(vs[0].p).cnt:
-                    raise Unsupported('a slice that is no reborrow of a whole slice')
-                return 'agg ! (%s)' % ops, Val('slice', p=vs[0].p), ''
+                if len(vs) != 2 or vs[0].kind != 'ptr' or vs[1].kind != 'plain':
+                    raise Unsupported('a slice that is neither a whole slice nor its first elements (s[..n])')
+                if vs[0].part and vs[1].e != vs[0].part.e:
+                    raise Unsupported('a part of a part')
+                # the whole slice, or `s[..n]`: that there are n is asked where it is lent
+                return 'agg ! (%s)' % ops, Val('slice', p=vs[0].p, part=None if vs[1].e == self.P(vs[0].p).cnt else vs[1]), ''
             if t.kind == 'named' and c.fields(t.name) is not None:
                 s = c.short(t.name)
                 return 'agg ! (%s)' % ops, Val('plain', ty=t, e=' '.join([s + '′.build'] + [par(v.e) for v in vs]), ok=' '.join([s + '′.make'] + [par(v.e) for v in vs] + [par(v.ok) for v in vs])), ''
@@ -1613,6 +1618,16 @@ class Walk:
             raise Unsupported('the operation %s' % (op,))
         raise Unsupported('the right side ' + rv[0])
 
+    def index(self, st, v, i):
+        """that i is within the list of a slice, or of its first elements, and so of the list"""
+        p = self.P(v.p)
+        ys = par(st.list[p.x])
+        if not v.part:
+            return self.ask(st, 'index', '%s < length %s' % (par(i), ys), 'the index is within ' + p.name)
+        self.lent_parts = True
+        m = par(v.part.e)
+        return 'lt-of-lt-of-le (%s) (take-le %s %s)' % (self.ask(st, 'index', '%s < length (take %s %s)' % (par(i), m, ys), 'the index is within the first elements of ' + p.name), m, ys)
+
     # ---- reg[i]: the index times the stride, the pointer, and what lies there
     def scale(self, st, k, rv, off):
         c = self.c
@@ -1623,7 +1638,7 @@ class Walk:
         t = p.ty.elem
         if c.size(t)[0] != stride:
             raise Unsupported('an element of %s by its index, stride %d' % (p.name, stride))
-        within = self.ask(st, 'index', '%s < length %s' % (par(x.e), par(st.list[p.x])), 'the index is within ' + p.name)
+        within = self.index(st, sl, x.e)
         # the count is the list's length
         fits = '%s %s %s (subst (λ (m : ℕ). %s < m) (sym (%s)) (%s)) (%s .1)' % (c.short(t.name) + '′.scaled' if t.kind == 'named' else 'scaled-%d' % stride, par(p.cnt), par(x.e), par(x.e), st.len[p.x], within, p.room)
         v = Val('scaled', i=x.e, stride=stride, within=within)
@@ -1640,7 +1655,7 @@ class Walk:
         if y.kind == 'plain' and (size == 1 or y.e.isdigit() and int(y.e) % size == 0):
             # no product: the offset is a constant, or the elements are bytes
             i = y.e if size == 1 else str(int(y.e) // size)
-            y = Val('scaled', i=i, stride=size, within=self.ask(st, 'index', '%s < length %s' % (par(i), par(st.list[p.x])), 'the index is within ' + p.name))
+            y = Val('scaled', i=i, stride=size, within=self.index(st, x, i))
         if y.kind != 'scaled' or y.stride != size:
             raise Unsupported('a pointer that is no element of a slice')
         law = 'place-byte %s %s' % (p.o, par(y.i)) if size == 1 else 'place-is %d %s %s' % (size, p.o, par(y.i))
@@ -1730,6 +1745,8 @@ class Walk:
         out = ''
         ctx = Sim(self.head(st), '!')
         lent = []
+        # of each slice of which the first m elements are handed: m, and that it has them. Of one that is shared already, the part's name
+        parts, cuts = {}, {}
         closes = 0
         used = set()
         for q, v in zip(g.params, vals):
@@ -1743,31 +1760,47 @@ class Walk:
             if p.tok in used:
                 raise Unsupported('%s is handed one slice twice, or two slices at one lifetime' % target)
             used.add(p.tok)
+            nu, g1 = 'ν·%d-%s' % (n, p.x), 'γ·%d-%s' % (n, p.x)
+            some = ''
+            if v.part:
+                # s[..m]: that s has m elements, and so many has the part
+                m, ys = par(v.part.e), par(st.list[p.x])
+                has = '(%s)' % self.ask(st, 'part', '%s ≤ length %s' % (m, ys), '%s has as many elements as are lent of it' % p.name)
+                some = ' %s (%s) %s' % (m, st.len[p.x], has)
+                parts[p.x] = (m, has)
+                self.hyp(st, 'part%d-%s' % (n, p.x), '%s ≤ length %s' % (m, ys), has)
+                self.hyp(st, 'cut%d-%s' % (n, p.x), 'length (take %s %s) ≡ %s' % (m, ys, m), 'length-take-le %s %s %s' % (m, ys, has))
+                self.lent_parts = True
             if p.mut:
                 out += ctx.move('tok ' + p.x, 'own ' + p.x)
-                rule = 'lend-mut' if q.mut else 'lend-shr'
-                nu, g1 = 'ν·%d-%s' % (n, p.x), 'γ·%d-%s' % (n, p.x)
-                out += '%s ! tt %s %s (%s) (λ %s %s. ' % (rule, p.row, self.slice_args(st, p), st.len[p.x], nu, g1)
+                rule = 'lend%s-%s' % ('-part' if v.part else '', 'mut' if q.mut else 'shr')
+                out += '%s ! tt %s %s%s (λ %s %s. ' % (rule, p.row, self.slice_args(st, p), some or ' (%s)' % st.len[p.x], nu, g1)
                 closes += 1
                 ctx.l.insert(2, 'lent ' + p.x)
                 lent.append((p, q.mut, nu, g1))
+            elif v.part:
+                t = p.ty.elem
+                out += ctx.move('tok ' + p.tok, 'own ' + p.x)
+                out += 'cut-shr ! tt %s %s %s %s %s%s (λ %s. ' % (p.row, par(c.vals(t)), par(c.tells(t)), c.copy(t), self.slice_args(st, p), some, g1)
+                closes += 1
+                ctx.l.insert(1, 'cut ' + p.x)
+                cuts[p.x] = g1
         order = [p for q, v in zip(g.params, vals) if q.slice for p in [self.P(v.p)]]
-        out += ctx.move(*[w for p in order for w in ('tok ' + p.tok, 'own ' + p.x)])
+        out += ctx.move(*[w for p in order for w in ('tok ' + p.tok, ('cut ' if p.x in cuts else 'own ') + p.x)])
         lends = {p.x: (nu, g1) for p, m, nu, g1 in lent}
+        handed = lambda v: 'take %s %s' % (par(v.part.e), par(st.list[v.p])) if v.part else st.list[v.p]
         # the arguments of the rule
         bind, oks = [], []
         for q, v in zip(g.params, vals):
             if q.slice:
                 p = self.P(v.p)
-                if p.x in lends:
-                    nu, g1 = lends[p.x]
-                    bind += ['(%s ∷ [])' % nu, 'fullShare', p.b, p.o, g1, par(p.cnt), par(st.list[p.x])]
-                else:
-                    bind += [p.k, p.q, p.b, p.o, p.g, par(p.cnt), par(st.list[p.x])]
+                nu, g1 = lends.get(p.x, (None, cuts.get(p.x, p.g)))
+                bind += ['(%s ∷ [])' % nu, 'fullShare'] if nu else [p.k, p.q]
+                bind += [p.b, p.o, g1, par(v.part.e if v.part else p.cnt), par(handed(v))]
             else:
                 bind.append(par(v.e))
                 oks.append(par(v.ok))
-        plains = [st.list[v.p] if q.slice else v.e for q, v in zip(g.params, vals)]
+        plains = [handed(v) if q.slice else v.e for q, v in zip(g.params, vals)]
         need = ''
         st0 = st.copy()
         if g.req is not None:
@@ -1789,7 +1822,7 @@ class Walk:
             res = self.name_it(st, 'r%d' % n, g.rD, g.say('res', plains)) if not unit else 'tt'
             for q, v in zip(g.params, vals):
                 if q.slice and q.mut:
-                    new[v.p] = self.name_it(st, v.p + subs(n), self.P(v.p).D, g.say('out-' + hyph(q.name), plains))
+                    new[v.p] = self.name_it(st, ('part-' if v.part else '') + v.p + subs(n), self.P(v.p).D, g.say('out-' + hyph(q.name), plains))
         else:
             res = 'r%d' % n if not unit else 'tt'
             if not unit:
@@ -1799,7 +1832,7 @@ class Walk:
                 st.vars.append((res, g.rD))
             for q, v in zip(g.params, vals):
                 if q.slice and q.mut:
-                    new[v.p] = v.p + subs(n)
+                    new[v.p] = ('part-' if v.part else '') + v.p + subs(n)
                     lam.append(new[v.p])
                     self.hyp(st, new[v.p], self.P(v.p).D, new[v.p])
                     st.lams.append((new[v.p], self.P(v.p).D))
@@ -1819,11 +1852,19 @@ class Walk:
             lam.append('ok·%d' % n)
             st.lams.append((lam[-1], c.okty(g.ret, res)))
             self.known(st, val, 'r%d' % n)
+        after, same = {}, {}
         for q, v in zip(g.params, vals):
             if q.slice and q.mut:
                 lam.append('same·%d-%s' % (n, v.p))
-                st.lams.append((lam[-1], 'length %s ≡ length %s' % (par(new[v.p]), par(st.list[v.p]))))
-                self.hyp(st, 'same%d-%s' % (n, v.p), 'length %s ≡ length %s' % (par(new[v.p]), par(st.list[v.p])), lam[-1])
+                st.lams.append((lam[-1], 'length %s ≡ length %s' % (par(new[v.p]), par(handed(v)))))
+                after[v.p], same[v.p] = new[v.p], lam[-1]
+                if v.part:
+                    # the whole list: the part's last elements, and the others as they were
+                    m, has = parts[v.p]
+                    after[v.p] = self.name_it(st, v.p + subs(n), self.P(v.p).D, '%s ++ drop %s %s' % (par(new[v.p]), m, par(st.list[v.p])))
+                    self.hyp(st, 'kept%d-%s' % (n, v.p), 'length %s ≡ %s' % (par(new[v.p]), m), '%s ∙ length-take-le %s %s %s' % (lam[-1], m, par(st.list[v.p]), has))
+                    same[v.p] = 'part-same %s %s %s %s' % (m, par(st.list[v.p]), par(new[v.p]), lam[-1])
+                self.hyp(st, 'same%d-%s' % (n, v.p), 'length %s ≡ length %s' % (par(after[v.p]), par(st.list[v.p])), same[v.p])
         if not g.fixed and g.ens is not None:
             lam.append('says·%d' % n)
             said = g.say('ens', plains + [new[v.p] for q, v in zip(g.params, vals) if q.slice and q.mut] + [res])
@@ -1845,13 +1886,17 @@ class Walk:
         for p, m, nu, g1 in lent:
             out += ctx.move('tok ' + p.x, 'own ' + p.x, 'lent ' + p.x)
             sa = '%s %s %s %s %s %s %s' % (p.row, p.k, p.q, p.b, p.o, p.g, par(p.cnt))
+            pt, m1 = ('-part', parts[p.x][0] + ' ') if p.x in parts else ('', '')
             if m:
-                out += 'back-mut ! tt %s %s %s %s %s (%s) same·%d-%s %s $ ' % (sa, par(st.list[p.x]), par(new[p.x]), nu, g1, st.len[p.x], n, p.x, p.room)
-                st.len[p.x] = '%s ∙ sym same·%d-%s' % (st.len[p.x], n, p.x)
-                st.list[p.x] = new[p.x]
+                out += 'back%s-mut ! tt %s %s %s %s%s %s (%s) same·%d-%s %s $ ' % (pt, sa, par(st.list[p.x]), par(new[p.x]), m1, nu, g1, st.len[p.x], n, p.x, p.room)
+                st.len[p.x] = '%s ∙ sym %s' % (st.len[p.x], par(same[p.x]))
+                st.list[p.x] = after[p.x]
             else:
-                out += 'back-shr ! tt %s %s %s (%s) %s $ ' % (sa, par(st.list[p.x]), nu, st.len[p.x], p.room)
+                out += 'back%s-shr ! tt %s %s %s%s (%s) %s $ ' % (pt, sa, par(st.list[p.x]), m1, nu, st.len[p.x], p.room)
             ctx.l.remove('lent ' + p.x)
+        for x in cuts:
+            out += ctx.move('cut ' + x) + 'drop ! $ '
+            ctx.l.pop(0)
         out += ctx.move(*self.head(st))
         out += '%s ! (from ! (stop !)) %s $\n      ' % ('land' if rest is not None else 'land-last', self.write(st, dk, val))
         out += self.here(st)
@@ -1867,7 +1912,7 @@ class Walk:
             top, at = top[2], at + 1
         if not isinstance(top, list):
             raise Unsupported('a loop in an arm of a branch (write it as a function)')
-        changed, lists = changes(body, f, st.arrays)
+        changed, lists = changes(body, f, st.arrays, {k: v.p for k, v in st.loc.items() if v is not None and v.kind == 'slice' and self.P(v.p).mut and f.mir.locals[k].mut})
         live = live_in(['block', ['loop', body]], live_in(rest, set()))
         out = ''
         # what is not read again is forgotten: also a struct or an enum, which antt is slow to carry through a loop
@@ -2029,12 +2074,39 @@ class Walk:
     def mach_text(self, v):
         if v.kind == 'plain':
             return self.c.mach(v.ty, v.e)
+        if v.kind == 'scaled':
+            raise Unsupported('the byte offset of an element is kept over a loop')
         p = self.P(v.p)
         if v.kind == 'slice':
-            return 'sliceVal (%s, %s) %s' % (p.b, p.o, par(p.cnt))
+            return 'sliceVal (%s, %s) %s' % (p.b, p.o, par(v.part.e if v.part else p.cnt))
         if v.kind == 'ptr':
             return 'vptr %s %s' % (p.b, p.o)
         raise Unsupported('a pointer to an element is kept over a loop')
+
+    # ---- s[..n] is returned, where s is shared: the part stands beside s from here on, as if a call had returned it
+    def cut_out(self, st, v):
+        c, p, t = self.c, self.P(v.p), self.P(v.p).ty.elem
+        if p.mut:
+            raise Unsupported('the first elements of a `&mut` slice or of an array are returned')
+        st = st.copy()
+        m, ys = par(v.part.e), par(st.list[p.x])
+        has = '(%s)' % self.ask(st, 'part', '%s ≤ length %s' % (m, ys), '%s has as many elements as are returned of it' % p.name)
+        self.hyp(st, 'part-' + p.x, '%s ≤ length %s' % (m, ys), has)
+        count = 'length-take-le %s %s %s' % (m, ys, has)
+        self.hyp(st, 'cut-' + p.x, 'length (take %s %s) ≡ %s' % (m, ys, m), count)
+        x = self.extras['r·out'] = Extra(self.P(p.tok), p.ty, 'r·out', 'take %s %s' % (m, ys), p.row, p.D)
+        x.b, x.o, x.room = p.b, p.o, '(room-take %s %s %s %s (sym (%s)) %s)' % (p.row, par(p.cnt), m, ys, st.len[p.x], p.room)
+        ctx = Sim(self.head(st), '!')
+        out = ctx.move('tok ' + p.tok, 'own ' + p.x)
+        out += 'cut-shr ! tt %s %s %s %s %s %s (%s) %s (λ %s. ' % (p.row, par(c.vals(t)), par(c.tells(t)), c.copy(t), self.slice_args(st, p), m, st.len[p.x], has, x.g)
+        out += 'rewrite ! 1 (λ (k : ℕ). ‵ (ShrAt %s %s %s %s %s k %s)) (sym (%s)) refl $ ' % (p.row, p.k, p.b, p.o, x.g, par(x.term), count)
+        ctx.l.insert(1, 'own ' + x.x)
+        st.extra.append(x.x)
+        st.list[x.x], st.len[x.x], st.loc[0] = x.term, 'refl', Val('slice', p=x.x)
+        out += ctx.move(*self.head(st))
+        out += 'rewrite ! %d (λ (k : ℕ). ‵ (fat fullShare (%s) %s 0 (sliceVal (%s, %s) k))) (sym (%s)) refl $ ' % (self.at(st, 0), self.ty_text(self.f.ret), loc_name(0), p.b, p.o, count)
+        self.lent_parts = self.wrote_context = True
+        return out + '\n      ', st
 
     # ---- the way out
     def leave(self, st, rule):
@@ -2042,7 +2114,10 @@ class Walk:
         v = st.loc.get(0)
         if v is None:
             raise Unsupported('a return with no result')
-        back = ''
+        back, closes = '', ''
+        if f.rslice and v.part:
+            back, st = self.cut_out(st, v)
+            v, closes = st.loc[0], ')'
         if st.arrays:
             st = st.copy()
             cells = lambda: [w + str(k) for k in reversed(range(self.N)) for w in ('cell ', 'dies ') if not (w == 'cell ' and k in st.arrays)]
@@ -2077,7 +2152,7 @@ class Walk:
                 out += ctx.move('own ' + got.x) + 'keeps-shr ! %s %s %s %s %s %s %s $ ' % (got.row, got.k, got.b, got.o, got.g, par(got.cnt), par(got.term))
                 ctx.l.insert(1, 'copy')
             out += ctx.move(*(self.head(State(self)) + ['own ' + got.x if got.x in st.extra else 'copy']))
-            return out + 'by ! (exits %s %s %s %s %s%s%s)' % (got.b, got.o, got.g, par(got.term), got.room, ''.join(' %s (sym (%s))' % (par(st.list[p.x]), st.len[p.x]) for p in f.muts), e)
+            return out + 'by ! (exits %s %s %s %s %s%s%s)' % (got.b, got.o, got.g, par(got.term), got.room, ''.join(' %s (sym (%s))' % (par(st.list[p.x]), st.len[p.x]) for p in f.muts), e) + closes
         out += ctx.move(*self.head(State(self)))
         return out + 'by ! (exits%s%s%s)' % ('' if unit else ' %s %s' % (par(v.e), par(v.ok)), ''.join(' %s (sym (%s))' % (par(st.list[p.x]), st.len[p.x]) for p in f.muts), e)
 
@@ -2138,6 +2213,9 @@ class Walk:
         if self.made_arrays:
             us += ['use lib.ListN.{replicate}', 'use base.Fml.{flent, fdies}', 'use denote.Lend.{Held}', 'use mir.Syntax.{tyArray}']
             asks_uses.append('use lib.ListN.{replicate}')
+        if self.lent_parts:
+            us += ['use lib.ListN.{take}', 'use native.Mathlib.Nat.{lt-of-lt-of-le}', 'use borrow.Table.Elements.{length-take-le, take-le}', 'use borrow.Rule.Array.Share.{room-take}', 'use %s.{part-same}' % c.made('Again'), 'use %s.{lend-part-mut, back-part-mut, lend-part-shr, back-part-shr, cut-shr}' % c.made('Flow')]
+            asks_uses += ['use mathlib.Core.List.{_++_}', 'use lib.ListN.{take, drop}']
         if self.author:
             us += LOOP_USES + ['use %s.%s.Code.%s as parts' % (pre, wmod, mod(f.name) if self.recursive else 'Mir'), 'use %s.%s.Proof.Loop as Loop' % (pre, wmod)]
             asks_uses.append('use %s.%s.Proof.Loop as Loop' % (pre, wmod))
@@ -2337,7 +2415,7 @@ class Walk:
         for name, hyps, ty, note in self.asks:
             skel[name] = '-- %s\n-- here: %s\npub %s : Asks.%s\n%s %s = %s\n' % (note, ty, name, name, name, ' '.join(h[0] for h in hyps), self.guess.get(name, '?'))
         if not os.path.exists(path):
-            head = '-- The facts that the walk of `%s` asks for. The author\'s file: tools/walkgen wrote its skeleton once, and with --rebind brings the arguments up to date.\n' % f.path + '\n'.join(merge_uses(FACT_USES + uses[5:] + c.type_uses(c.named_in(f.mir.locals), kits=False, raw=True) + c.uses_of(f.crate, f.pre) + ['use %s.{within}' % c.made('Flow'), 'use %s.%s.Proof.Asks as Asks' % (c.proofs(c.name), self.wmod)]))
+            head = '-- The facts that the walk of `%s` asks for. The author\'s file: tools/walkgen wrote its skeleton once, and with --rebind brings the arguments up to date.\n' % f.path + '\n'.join(merge_uses(FACT_USES + uses[5:] + c.type_uses(c.named_in(f.mir.locals), kits=False, raw=True) + c.uses_of(f.crate, f.pre) + ['use %s.{within%s}' % (c.made('Flow'), ', take-part, drop-part, getD-take, set-part' if self.lent_parts else ''), 'use %s.%s.Proof.Asks as Asks' % (c.proofs(c.name), self.wmod)]))
             c.give('%s/Proof/Facts.antt' % self.where, head + '\n\n' + '\n'.join(skel.values()))
             print('%s: %d facts to answer in %s' % (f.item, len([x for x in skel if x not in self.guess]), path))
             return
@@ -2445,10 +2523,9 @@ def live_in(b, out, exits=()):
     raise Unsupported('the statement ' + b[0])
 
 
-def changes(b, f, arrays):
-    """the locals that code sets, and the slices whose lists it may change"""
+def changes(b, f, arrays, names):
+    """the locals that code sets, and the slices whose lists it may change. names: the locals that hold a `&mut` slice, or a part of one"""
     ks, ps = set(), set()
-    names = {i + 1: p.x for i, p in enumerate(f.params) if p.slice and p.mut}
 
     def go(b):
         if isinstance(b, str):

@@ -9,4 +9,10 @@ pub mod NextNode
 pub mod Numbers
 pub mod WeaveRoom
 pub mod Refused
+pub mod Descent
+pub mod Ends
+pub mod Lost
+pub mod Ranges
+pub mod Chunks
+pub mod Reading
 pub mod Walkgen

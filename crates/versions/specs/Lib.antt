@@ -2,3 +2,4 @@ pub mod Table
 pub mod Answers
 pub mod Calls
 pub mod Weave
+pub mod Descent

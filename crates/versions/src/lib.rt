@@ -1,19 +1,26 @@
 // The version keeper: the store, and the calls on it. A call takes the store by value and its areas lent, and hands the store back.
 // No call has a `requires`. A private function finds the refusal, by the rows of the table in their order; the call acts where it finds none.
 ghost use mathlib.Core.Path.{_≡_};
-ghost use Prim.Native.Nat.{ℕ, suc, pred, min, max, _+_, _-_, _*_, _^_, _<_, _≤_};
-ghost use mathlib.Core.List.{List, [], _∷_};
+ghost use Prim.Native.Nat.{ℕ, suc, pred, min, max, _+_, _-_, _*_, _/_, _^_, _<_, _≤_};
+ghost use mathlib.Core.Bool.{true};
+ghost use mathlib.Core.List.{List, [], _∷_, _++_};
 ghost use lib.Dec.{eqb, ltb, leb};
-ghost use lib.ListN.{length, replicate};
-ghost use Rattle.pages.specs.Pages.{put};
-ghost use Rattle.tree.specs.Tree.{countOf};
+ghost use lib.ListN.{length, replicate, drop};
+ghost use Rattle.pages.specs.Pages.{put, part};
+ghost use Rattle.tree.specs.Tree.{countOf, rootHeight};
+ghost use Rattle.tree.specs.Place.{first, index};
+ghost use Rattle.tree.specs.Walk.{hasNode};
 ghost use Rattle.tree.specs.NodeArea.{allOnes, withNode};
 ghost use Rattle.tree.specs.Register.{noRecord, updateOf, withRecord};
 ghost use Rattle.tree.specs.declared.Record.{Record};
 ghost use Rattle.versions.specs.Table.{_gives_, _≤?_, _or_, firstRefusal, holds, noTicket, outside, unless};
 ghost use Rattle.versions.specs.Weave.{NextOf, Planned, Children};
-ghost use Rattle.versions.specs.Calls.{areasOf, differ, fresh, formatRefusal, formatted, formatAnswer, formatAreas, beginRefusal, withTicketPart, begunBy, beginOut, beginRegister, bitOf, withBit, putRefusal, withPut, putIn, putOut, putPages, putRegister, updateAt, allPut, assignRefusal, withVersionOf, withVersionPart, assignedBy, assignOut, assignRegister, nextNode, nextPlace, leafPast, weaveRefusal, kept, wovenNode, wove, withWoven, weaveOut, weaveNodes, weaveRegister, publishRefusal, dueBy, publishedBy, publishOut, sizeRefusal, pagesBy, bytesBy, sizedBy, sizeOut, recentBy, recentOut};
-use tree::Extent;
+ghost use Rattle.versions.specs.Descent.{Spanned, placeIn, placeNumber, turnOf, walkDown, pageRefusal, rangeRefusal, Ranged, orLost, chunkAt, Readable};
+ghost use Rattle.versions.specs.Calls.{areasOf, differ, fresh, formatRefusal, formatted, formatAnswer, formatAreas, beginRefusal, withTicketPart, begunBy, beginOut, beginRegister, bitOf, withBit, putRefusal, withPut, putIn, putOut, putPages, putRegister, updateAt, allPut, assignRefusal, withVersionOf, withVersionPart, assignedBy, assignOut, assignRegister, nextNode, nextPlace, leafPast, weaveRefusal, kept, wovenNode, wove, withWoven, weaveOut, weaveNodes, weaveRegister, publishRefusal, dueBy, publishedBy, publishOut, sizeRefusal, pagesBy, bytesBy, sizedBy, sizeOut, recentBy, recentOut, findPage, numberWithin, isLost, orZero, versionFound, someLost, pagesTouched, bytesFrom, stamped, stampOut, viewPart, filledBy, readOut, readBuffer};
+use pages::copy_page;
+use pages::view_page;
+use tree::Found;
+use tree::NodeAt;
 use tree::PageIndex;
 use tree::Record;
 use tree::Ticket;
@@ -23,8 +30,11 @@ use tree::height_of;
 use tree::kth;
 use tree::newest_update;
 use tree::no_record;
+use tree::node_at;
 use tree::node_count;
+use tree::node_index;
 use tree::record_at;
+use tree::record_meets;
 use tree::record_of;
 use tree::root_height;
 use tree::root_span;
@@ -1109,4 +1119,450 @@ pub fn recent(s: Store, pages: &[u8], nodes: &[u32], register: &[Record]) -> Lat
             register: register.len(),
         },
     )
+}
+
+// ---- the walk to a page, for READ, STAMP and VIEW
+
+// Where a walk goes from a node: it ends at a leaf with a page number, goes down to a version's node of half the span, or is lost.
+enum Turn {
+    Leaf(u64),
+    Down(u64, u64),
+    Lost,
+}
+
+// The span of the root of a record's update.
+fn root_of(q: Record) -> u64
+    ensures { λ r. ⌜ r ≡ 2 ^ rootHeight (updateOf q .size) ⌝ }
+{
+    let e = extent_of(q);
+    root_span(e.size)
+}
+
+// The first page of the node of this span over a page.
+fn first_of(page: PageIndex, span: u64) -> PageIndex
+    requires { ⌜ Spanned span ⌝ }
+    ensures { λ r. ⌜ r .0 ≡ first (page .0) (rootHeight span) ⌝ }
+{
+    PageIndex(page.0 - page.0 % span)
+}
+
+// Whether a record's update makes a node of this span over a page.
+fn has_node(q: Record, page: PageIndex, span: u64) -> bool
+    requires { ⌜ Spanned span ⌝ }
+    ensures { λ b. ⌜ b ≡ hasNode (updateOf q) (page .0) (rootHeight span) ⌝ }
+{
+    let root = root_of(q);
+    if root < span {
+        return false;
+    }
+    if root <= page.0 {
+        return false;
+    }
+    record_meets(q, first_of(page, span), span)
+}
+
+// The place of that node, by its index in weaving order. One that would wrap answers the largest number, which lies past any area.
+fn place_in(q: Record, page: PageIndex, span: u64) -> u64
+    requires { ⌜ Spanned span × (hasNode (updateOf q) (page .0) (rootHeight span) ≡ true) ⌝ }
+    ensures { λ r. ⌜ r ≡ min (q .place + index (updateOf q .f) (updateOf q .last) 0 (rootHeight (updateOf q .size)) (page .0) (rootHeight span)) (2 ^ 64 - 1) ⌝ }
+{
+    let e = extent_of(q);
+    let i = node_index(
+        e.f,
+        root_height(e.size),
+        first_of(page, span),
+        height_of(span),
+    );
+    if q.place > u64::MAX - i {
+        return u64::MAX;
+    }
+    q.place + i
+}
+
+// The same with version v's record, where versions 1 .. known are there; the largest number where there is no such node.
+fn place_of(q: Record, known: u64, v: u64, page: PageIndex, span: u64) -> u64
+    requires { ⌜ Spanned span ⌝ }
+    ensures { λ r. ⌜ r ≡ placeNumber (placeIn known q v (page .0) (rootHeight span)) ⌝ }
+{
+    if v == 0 {
+        return u64::MAX;
+    }
+    if known < v {
+        return u64::MAX;
+    }
+    if has_node(q, page, span) {
+        place_in(q, page, span)
+    } else {
+        u64::MAX
+    }
+}
+
+// Where the walk to a page goes from the node x of this span.
+fn turn_at(x: NodeAt, page: PageIndex, span: u64) -> Turn
+    ensures { λ t. ⌜ t ≡ turnOf x (page .0) span ⌝ }
+{
+    match x {
+        NodeAt::Missing => Turn::Lost,
+        NodeAt::Stored(left, right) => {
+            if span < 2 {
+                return Turn::Leaf(left as u64);
+            }
+            let half = span / 2;
+            if page.0 % span < half {
+                Turn::Down(left as u64, half)
+            } else {
+                Turn::Down(right as u64, half)
+            }
+        }
+    }
+}
+
+// The walk to a page from version v's node of this span, which halves at each call: one record and one place a level.
+fn find(register: &[Record], nodes: &[u32], known: u64, v: u64, span: u64, page: PageIndex) -> Found
+    requires { ⌜ (known ≤ length (now register)) × Spanned span ⌝ }
+    ensures { λ r. ⌜ r ≡ walkDown (now (register .entry)) (now (nodes .entry)) known v span (page .0) ⌝ }
+{
+    let q = record_of(register, v);
+    let place = place_of(q, known, v, page, span);
+    let t = turn_at(node_at(nodes, place), page, span);
+    match t {
+        Turn::Leaf(number) => Found::Leaf(Version(v), number),
+        Turn::Down(below, half) => find(register, nodes, known, below, half, page),
+        Turn::Lost => Found::Lost,
+    }
+}
+
+// The smaller of two numbers.
+fn smaller(a: u64, b: u64) -> u64
+    ensures { λ r. ⌜ r ≡ min a b ⌝ }
+{
+    if a < b { a } else { b }
+}
+
+// The walk to a page from version v's root.
+fn find_page(s: Store, nodes: &[u32], register: &[Record], v: Version, page: PageIndex) -> Found
+    ensures { λ r. ⌜ r ≡ findPage s (areasOf [] (now (nodes .entry)) (now (register .entry))) (v .0) (page .0) ⌝ }
+{
+    let q = record_of(register, v.0);
+    let known = smaller(s.assigned.0, register.len() as u64);
+    find(register, nodes, known, v.0, root_of(q), page)
+}
+
+// Whether a walk ends at no page of an area of so many.
+fn is_lost(pages: u64, x: Found) -> bool
+    ensures { λ b. ⌜ b ≡ isLost (numberWithin pages x) ⌝ }
+{
+    match x {
+        Found::Lost => true,
+        Found::Leaf(_, number) => pages <= number,
+    }
+}
+
+// The page number that a walk ends at, or 0.
+fn number_found(pages: u64, x: Found) -> u64
+    ensures { λ r. ⌜ r ≡ orZero (numberWithin pages x) ⌝ }
+{
+    match x {
+        Found::Lost => 0,
+        Found::Leaf(_, number) => if number < pages { number } else { 0 },
+    }
+}
+
+// ---- STAMP and VIEW
+
+// The refusal of STAMP and of VIEW, with version v's record q and where the walk ends.
+fn page_refusal(s: Store, l: Lengths, q: Record, v: Version, page: PageIndex, x: Found) -> u64
+    ensures { λ k. ⌜ k ≡ pageRefusal s l q (v .0) (page .0) x ⌝ }
+{
+    if areas_differ(s, l) {
+        return 3;
+    }
+    let last = s.published;
+    if last.0 < v.0 {
+        return 16;
+    }
+    if s.updates < v.0 {
+        return 19;
+    }
+    if pages_by(v, q) <= page.0 {
+        return 17;
+    }
+    if is_lost(s.pages, x) {
+        return 19;
+    }
+    0
+}
+
+// What STAMP answers, by the table's number k and where the walk ends.
+fn stamped_by(k: u64, x: Found) -> Stamped
+    ensures { λ r. ⌜ r ≡ stamped k (versionFound x) ⌝ }
+{
+    if k != 0 {
+        return Stamped::Refused(k);
+    }
+    match x {
+        Found::Lost => Stamped::Is(Version(0)),
+        Found::Leaf(version, _) => Stamped::Is(version),
+    }
+}
+
+// STAMP v, page: the version that last wrote the page, as of version v.
+pub fn stamp(
+    s: Store,
+    pages: &[u8],
+    nodes: &[u32],
+    register: &[Record],
+    v: Version,
+    page: PageIndex,
+) -> Stamped
+    ensures { λ r. ⌜ r ≡ stampOut s (areasOf (now (pages .entry)) (now (nodes .entry)) (now (register .entry))) (v .0) (page .0) ⌝ }
+{
+    let q = record_of(register, v.0);
+    let x = find_page(s, nodes, register, v, page);
+    let l = Lengths {
+        pages: pages.len(),
+        nodes: nodes.len(),
+        register: register.len(),
+    };
+    stamped_by(page_refusal(s, l, q, v, page, x), x)
+}
+
+// Page `number` as a part of the area where the table's number k is 0, else the empty part.
+fn view_part(pages: &[u8], k: u64, size: u64, number: u64) -> &[u8]
+    ensures { λ r. ⌜ now r ≡ unless k [] (part (now (pages .entry)) (size * number) size) ⌝ }
+{
+    if k != 0 {
+        return &pages[..0];
+    }
+    view_page(pages, size, number)
+}
+
+// VIEW v, page: the bytes of the page as of version v, as a part of the page area; the empty part where STAMP refuses.
+pub fn view<'a>(
+    s: Store,
+    pages: &'a [u8],
+    nodes: &[u32],
+    register: &[Record],
+    v: Version,
+    page: PageIndex,
+) -> &'a [u8]
+    ensures { λ r. ⌜ now r ≡ viewPart s (areasOf (now (pages .entry)) (now (nodes .entry)) (now (register .entry))) (v .0) (page .0) ⌝ }
+{
+    let q = record_of(register, v.0);
+    let x = find_page(s, nodes, register, v, page);
+    let l = Lengths {
+        pages: pages.len(),
+        nodes: nodes.len(),
+        register: register.len(),
+    };
+    view_part(
+        pages,
+        page_refusal(s, l, q, v, page, x),
+        s.size,
+        number_found(s.pages, x),
+    )
+}
+
+// ---- READ
+
+// A range of bytes of the blob, and how many the buffer has room for.
+struct Range {
+    offset: ByteOffset,
+    len: u64,
+    room: usize,
+}
+
+// What one page has of a range: the page, the first byte within it, and how many.
+struct Chunk {
+    page: PageIndex,
+    from: u64,
+    count: u64,
+}
+
+// Whether len bytes from an offset on run past a total.
+fn runs_past(total: u64, offset: u64, len: u64) -> bool
+    ensures { λ b. ⌜ b ≡ ltb total (offset + len) ⌝ }
+{
+    if total < offset {
+        return true;
+    }
+    total - offset < len
+}
+
+// The refusal of READ but for the walks to its pages, with version v's record q.
+fn range_refusal(s: Store, l: Lengths, q: Record, v: Version, g: Range) -> u64
+    ensures { λ k. ⌜ k ≡ rangeRefusal s l q (v .0) (g .offset .0) (g .len) (g .room) ⌝ }
+{
+    if areas_differ(s, l) {
+        return 3;
+    }
+    let last = s.published;
+    if last.0 < v.0 {
+        return 16;
+    }
+    if s.updates < v.0 {
+        if (g.room as u64) < g.len {
+            return 18;
+        }
+        return 19;
+    }
+    if runs_past(bytes_by(s, pages_by(v, q)), g.offset.0, g.len) {
+        return 17;
+    }
+    if (g.room as u64) < g.len {
+        return 18;
+    }
+    0
+}
+
+// The page that a byte lies in.
+fn page_at(size: u64, offset: u64) -> u64
+    ensures { λ r. ⌜ r ≡ offset / size ⌝ }
+{
+    if size == 0 { 0 } else { offset / size }
+}
+
+// How many pages a range touches where the table's number k is 0; else none are walked to.
+fn touched(k: u64, size: u64, offset: u64, len: u64) -> u64
+    requires { ⌜ (k ≡ 0 → Ranged size offset len) ⌝ }
+    ensures { λ r. ⌜ r ≡ unless k 0 (pagesTouched size offset len) ⌝ }
+{
+    if k != 0 {
+        return 0;
+    }
+    if len == 0 {
+        return 0;
+    }
+    let end = offset + (len - 1);
+    end / size - offset / size + 1
+}
+
+// Whether one of the n pages from a page on is not found as of version v.
+fn some_lost(s: Store, nodes: &[u32], register: &[Record], v: Version, from: u64, n: u64) -> bool
+    requires { ⌜ from + n < 2 ^ 64 ⌝ }
+    ensures { λ b. ⌜ b ≡ someLost s (areasOf [] (now (nodes .entry)) (now (register .entry))) (v .0) from n ⌝ }
+{
+    let mut i = 0u64;
+    while i < n {
+        if is_lost(
+            s.pages,
+            find_page(s, nodes, register, v, PageIndex(from + i)),
+        ) {
+            return true;
+        }
+        i = i + 1;
+    }
+    false
+}
+
+// The table's number with the walks: a page that is not found is 19.
+fn or_lost(k: u64, lost: bool) -> u64
+    ensures { λ r. ⌜ r ≡ orLost k lost ⌝ }
+{
+    if k != 0 {
+        return k;
+    }
+    if lost { 19 } else { 0 }
+}
+
+// How many bytes are copied: none where the table refuses.
+fn copied(k: u64, len: u64) -> u64
+    ensures { λ r. ⌜ r ≡ unless k 0 len ⌝ }
+{
+    if k == 0 { len } else { 0 }
+}
+
+// What the page of byte `at` has of the len bytes from there on.
+fn chunk_at(size: u64, at: u64, len: u64) -> Chunk
+    requires { ⌜ 0 < size ⌝ }
+    ensures { λ c. ⌜ c ≡ chunkAt size at len ⌝ }
+{
+    let from = at % size;
+    Chunk {
+        page: PageIndex(at / size),
+        from,
+        count: smaller(size - from, len),
+    }
+}
+
+// Copies a range of version v's bytes to the front of the buffer, page by page.
+fn copy_range(
+    s: Store,
+    pages: &[u8],
+    nodes: &[u32],
+    register: &[Record],
+    v: Version,
+    offset: u64,
+    len: u64,
+    buffer: &mut [u8],
+)
+    requires { ⌜ Readable s (now pages) (now nodes) (now register) (v .0) offset len (length (now buffer)) ⌝ }
+    ensures { λ _. ⌜ now (buffer .exit) ≡ bytesFrom s (areasOf (now (pages .entry)) (now (nodes .entry)) (now (register .entry))) (v .0) offset len ++ drop len (now (buffer .entry)) ⌝ }
+{
+    let mut done = 0u64;
+    while done < len {
+        let c = chunk_at(s.size, offset + done, len - done);
+        let x = find_page(s, nodes, register, v, c.page);
+        copy_page(
+            pages,
+            s.size,
+            number_found(s.pages, x),
+            c.from,
+            c.count,
+            buffer,
+            done,
+        );
+        done = done + c.count;
+    }
+}
+
+// What READ answers.
+fn filled_by(k: u64) -> Filled
+    ensures { λ r. ⌜ r ≡ filledBy k ⌝ }
+{
+    if k == 0 {
+        Filled::Done
+    } else {
+        Filled::Refused(k)
+    }
+}
+
+// READ v, offset, len: fills the front of the buffer with a range of version v's bytes. It finds every page of the range before it copies any.
+pub fn read(
+    s: Store,
+    pages: &[u8],
+    nodes: &[u32],
+    register: &[Record],
+    v: Version,
+    offset: ByteOffset,
+    len: u64,
+    buffer: &mut [u8],
+) -> Filled
+    ensures { λ r. ⌜ (r ≡ readOut s (areasOf (now (pages .entry)) (now (nodes .entry)) (now (register .entry))) (v .0) (offset .0) len (now (buffer .entry))) × (now (buffer .exit) ≡ readBuffer s (areasOf (now (pages .entry)) (now (nodes .entry)) (now (register .entry))) (v .0) (offset .0) len (now (buffer .entry))) ⌝ }
+{
+    let l = Lengths {
+        pages: pages.len(),
+        nodes: nodes.len(),
+        register: register.len(),
+    };
+    let g = Range {
+        offset,
+        len,
+        room: buffer.len(),
+    };
+    let k = range_refusal(s, l, record_of(register, v.0), v, g);
+    let n = touched(k, s.size, offset.0, len);
+    let lost = some_lost(s, nodes, register, v, page_at(s.size, offset.0), n);
+    let number = or_lost(k, lost);
+    copy_range(
+        s,
+        pages,
+        nodes,
+        register,
+        v,
+        offset.0,
+        copied(number, len),
+        buffer,
+    );
+    filled_by(number)
 }

@@ -1,0 +1,10 @@
+pub mod Words
+pub mod Fields
+pub mod Numbers
+pub mod Hex
+pub mod Puts
+pub mod Decimal
+pub mod Answering
+pub mod Steps
+pub mod Cutting
+pub mod Feeding

@@ -1,0 +1,75 @@
+-- The facts that the walk of `versions::find` asks for. The author's file: tools/walkgen wrote its skeleton once, and with --rebind brings the arguments up to date.
+use mathlib.Core.Path.{_≡_, refl, sym, _∙_, ap, subst}
+use Prim.Native.Nat.{ℕ, _+_, _-_, _*_, _<_, _≤_, _^_, suc, pred, min}
+use native.Mathlib.Omega.{arith}
+use mathlib.Core.List.{List, []}
+use mathlib.Core.Bool.{Bool, true, false}
+use lib.Dec.{ltb, leb, eqb}
+use lib.ListN.{length, getD, set, replicate}
+use Rattle.tree.specs.declared.Found.{Found}
+use Rattle.versions.proofs.Walkgen.Kind.Found as Found′
+use Rattle.tree.specs.declared.Version.{Version}
+use Rattle.tree.proofs.Walkgen.Kind.Version as Version′
+use Rattle.tree.specs.declared.Record.{Record}
+use Rattle.tree.proofs.Walkgen.Kind.Record as Record′
+use Rattle.tree.specs.declared.Ticket.{Ticket}
+use Rattle.tree.proofs.Walkgen.Kind.Ticket as Ticket′
+use Rattle.tree.specs.declared.PageIndex.{PageIndex}
+use Rattle.tree.proofs.Walkgen.Kind.PageIndex as PageIndex′
+use Rattle.versions.specs.declared.Turn.{Turn}
+use Rattle.versions.proofs.Walkgen.Kind.Turn as Turn′
+use Rattle.tree.specs.declared.NodeAt.{NodeAt}
+use Rattle.versions.proofs.Walkgen.Kind.NodeAt as NodeAt′
+use Rattle.versions.proofs.Walkgen.Say.find as find″
+use Rattle.tree.proofs.Walkgen.Say.record_of as record-of″
+use Rattle.versions.proofs.Walkgen.Say.place_of as place-of″
+use Rattle.versions.proofs.Walkgen.Say.node_at as node-at″
+use Rattle.versions.proofs.Walkgen.Say.turn_at as turn-at″
+use Rattle.versions.proofs.+find.Proof.Loop as Loop
+use Rattle.pages.specs.Pages.{put, part}
+use Rattle.tree.specs.Tree.{countOf, rootHeight}
+use Rattle.tree.specs.Place.{first, index}
+use Rattle.tree.specs.Walk.{hasNode}
+use Rattle.tree.specs.Register.{noRecord, updateOf, withRecord}
+use Rattle.versions.specs.Table.{holds, unless}
+use Rattle.versions.specs.Calls.{sizeAfter, updateAt, allPut, assignRefusal, withVersion, withVersionOf, withVersionPart, assignedBy, assignOut, assignRegister, nextNode, nextPlace, weaveRefusal, kept, withWoven, weaveOut, weaveNodes, weaveRegister, publishRefusal, dueBy, publishedBy, publishOut, sizeRefusal, pagesBy, bytesBy, sizedBy, sizeOut, recentBy, recentOut, findPage, numberWithin, isLost, orZero, versionFound, stamped, stampOut, viewPart, areasOf, lengthsOf, differ, fresh, formatRefusal, formatted, formatAnswer, formatAreas, beginRefusal, withTicketPart, begunBy, beginOut, beginRegister, bitOf, withBit, putRefusal, withPut, putIn, putOut, putPages, putRegister}
+use Rattle.versions.specs.Descent.{Spanned, placeIn, placeNumber, turnOf, walkDown, pageRefusal}
+use Rattle.tree.proofs.Walkgen.Flow.{within}
+use Rattle.versions.proofs.Descent.{after, span-half, turn-down, walk-step}
+use Rattle.versions.proofs.+find.Proof.Asks as Asks
+
+-- one level of the walk
+one : (register : List Record) (nodes : List ℕ) (known v span : ℕ) (page : PageIndex) → length nodes < 2 ^ 64 → (known ≤ length register) × Spanned span
+    → walkDown register nodes known v span (page .0)
+    ≡ after (Asks.r4 register nodes known v span page) v (λ d half. walkDown register nodes known d half (page .0))
+one register nodes known v span page fits need = walk-step register nodes known v span (page .0) (need .0) fits (need .1)
+
+-- `place_of` asks: Spanned span
+-- here: place-of″.req (r1 register nodes x-known x-v span page) x-known x-v page span
+pub place-of-1 : Asks.place-of-1
+place-of-1 register nodes x-known x-v span page len-register len-nodes fits-x-known fits-x-v fits-span ok-page need ok-r1 = need .1
+
+-- the function ensures: r ≡ walkDown register nodes known v span (page .0)
+-- here: find″.ens register nodes x-known x-v span page (Found.Leaf (Version′.build x-v) y1-0)
+pub exit-1 : Asks.exit-1
+exit-1 register nodes x-known x-v span page len-register len-nodes fits-x-known fits-x-v fits-span ok-page need ok-r1 fits-r2 ok-r3 ok-r4 y1-0 m1 fits-y1-0 = sym (one register nodes x-known x-v span page len-nodes need ∙ ap (λ (t : Turn). after t x-v (λ d half. walkDown register nodes x-known d half (page .0))) m1)
+
+-- `find` asks: (known ≤ length register) × Spanned span
+-- here: find″.req register nodes x-known y1-0 y1-1 page
+pub find-1 : Asks.find-1
+find-1 register nodes x-known x-v span page len-register len-nodes fits-x-known fits-x-v fits-span ok-page need ok-r1 fits-r2 ok-r3 ok-r4 y1-0 y1-1 m1 fits-y1-0 fits-y1-1 = let d = turn-down (Asks.r3 register nodes x-known x-v span page) (page .0) span y1-0 y1-1 m1 in (need .0, rw (d .0) (span-half span (need .1) (d .1)))
+
+-- the measure of the call of itself is smaller
+-- here: Loop.measure-0 register nodes x-known y1-0 y1-1 page < Loop.measure-0 register nodes x-known x-v span page
+pub smaller-1 : Asks.smaller-1
+smaller-1 register nodes x-known x-v span page len-register len-nodes fits-x-known fits-x-v fits-span ok-page need ok-r1 fits-r2 ok-r3 ok-r4 y1-0 y1-1 m1 fits-y1-0 fits-y1-1 = let d = turn-down (Asks.r3 register nodes x-known x-v span page) (page .0) span y1-0 y1-1 m1 in omega arith
+
+-- the function ensures: r ≡ walkDown register nodes known v span (page .0)
+-- here: find″.ens register nodes x-known x-v span page (r5 register nodes x-known x-v span page y1-0 y1-1)
+pub exit-2 : Asks.exit-2
+exit-2 register nodes x-known x-v span page len-register len-nodes fits-x-known fits-x-v fits-span ok-page need ok-r1 fits-r2 ok-r3 ok-r4 y1-0 y1-1 m1 fits-y1-0 fits-y1-1 ok-r5 = sym (one register nodes x-known x-v span page len-nodes need ∙ ap (λ (t : Turn). after t x-v (λ d half. walkDown register nodes x-known d half (page .0))) m1)
+
+-- the function ensures: r ≡ walkDown register nodes known v span (page .0)
+-- here: find″.ens register nodes x-known x-v span page Found.Lost
+pub exit-3 : Asks.exit-3
+exit-3 register nodes x-known x-v span page len-register len-nodes fits-x-known fits-x-v fits-span ok-page need ok-r1 fits-r2 ok-r3 ok-r4 m1 = sym (one register nodes x-known x-v span page len-nodes need ∙ ap (λ (t : Turn). after t x-v (λ d half. walkDown register nodes x-known d half (page .0))) m1)

@@ -1,0 +1,65 @@
+-- READ by its number: the rows, then the walks, and where both pass the copy of the whole range, else of none. Assumes nothing.
+use mathlib.Core.Path.{_≡_, refl, sym, ap, _∙_}
+use mathlib.Core.Bool.{Bool}
+use mathlib.Core.List.{List, [], _++_}
+use Prim.Native.Nat.{ℕ, zero, suc, _+_, _/_, _^_, _<_}
+use native.Mathlib.Nat.{div-le-self}
+use native.Mathlib.Omega.{arith}
+use lib.ListN.{length, drop}
+use Rattle.tree.specs.declared.Record.{Record}
+use Rattle.versions.specs.Table.{unless}
+use Rattle.versions.specs.Calls.{areasOf, lengthsOf, recordOf, pagesTouched, someLost, bytesFrom, readNumber}
+use Rattle.versions.specs.Descent.{rangeRefusal, Ranged, orLost, Readable}
+use Rattle.versions.specs.declared.Store.{Store}
+use Rattle.versions.proofs.Table.{unless-0}
+use Rattle.versions.proofs.Lost.{lost-apart}
+use Rattle.versions.proofs.Ranges.{read-number, or-lost-gate, or-lost-0, range-passed, range-ranged, touched-below}
+
+-- The pages that are walked to have numbers that fit.
+pub walked-fit : (k size offset len : ℕ) → (k ≡ 0 → Ranged size offset len) → offset < 2 ^ 64 → offset / size + unless k 0 (pagesTouched size offset len) < 2 ^ 64
+unfolding unless
+walked-fit zero size offset zero r h = omega (arith, div-le-self offset size)
+walked-fit zero size offset (suc len) r h = let g = r refl in omega (arith, touched-below size offset (suc len) (g .some (omega arith)) (omega arith), g .fits)
+walked-fit (suc k) size offset len r h = omega (arith, div-le-self offset size)
+
+module _ (s : Store) (pages nodes : List ℕ) (register : List Record) (v offset len : ℕ) (buffer : List ℕ) where
+  -- The number before the walks, whether one of them is lost, and the number with them.
+  abbrev pub rows : ℕ
+  rows = rangeRefusal s (lengthsOf (areasOf pages nodes register)) (recordOf (areasOf pages nodes register) v) v offset len (length buffer)
+
+  abbrev pub walks : Bool
+  walks = someLost s (areasOf [] nodes register) v (offset / s .size) (unless rows 0 (pagesTouched (s .size) offset len))
+
+  pub number-is : orLost rows walks ≡ readNumber s (areasOf pages nodes register) v offset len buffer
+  number-is =
+      let n = pagesTouched (s .size) offset len in
+      let p = offset / s .size in
+      or-lost-gate rows n (λ (m : ℕ). someLost s (areasOf [] nodes register) v p m)
+      ∙ ap (orLost rows) (sym (lost-apart s pages nodes register v p n))
+      ∙ sym (read-number s (areasOf pages nodes register) v offset len buffer)
+
+  pub readable : offset < 2 ^ 64 → (number : ℕ) → number ≡ orLost rows walks → Readable s pages nodes register v offset (unless number 0 len) (length buffer)
+  unfolding unless someLost
+  readable h zero e =
+      let z = or-lost-0 rows walks (sym e) in
+      let l = lengthsOf (areasOf pages nodes register) in
+      let q = recordOf (areasOf pages nodes register) v in
+      let p = range-passed s l q v offset len (length buffer) (z .0) in record {
+        range = range-ranged s l q v offset len (length buffer) (z .0);
+        within = p .2;
+        area = λ _. p .0;
+        found = rw (unless-0 rows 0 (pagesTouched (s .size) offset len) (z .0)) at (z .1);
+      }
+  readable h (suc k) e = record {
+    range = record { fits = omega arith; some = λ p. absurd (omega arith) };
+    within = omega arith;
+    area = λ p. absurd (omega arith);
+    found = refl;
+  }
+
+  pub copied-is : (number : ℕ)
+      → bytesFrom s (areasOf pages nodes register) v offset (unless number 0 len) ++ drop (unless number 0 len) buffer
+      ≡ unless number buffer (bytesFrom s (areasOf pages nodes register) v offset len ++ drop len buffer)
+  unfolding unless bytesFrom
+  copied-is zero = refl
+  copied-is (suc k) = refl

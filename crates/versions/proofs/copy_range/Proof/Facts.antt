@@ -1,0 +1,84 @@
+-- The facts that the walk of `versions::copy_range` asks for. The author's file: tools/walkgen wrote its skeleton once, and with --rebind brings the arguments up to date.
+use mathlib.Core.Path.{_≡_, refl, sym, _∙_, ap, subst}
+use Prim.Native.Nat.{ℕ, _+_, _-_, _*_, _<_, _≤_, _^_, suc, pred, _/_, min}
+use native.Mathlib.Omega.{arith}
+use mathlib.Core.List.{List, [], _++_}
+use mathlib.Core.Bool.{Bool, true, false}
+use lib.Dec.{ltb, leb, eqb}
+use lib.ListN.{length, getD, set, replicate, drop}
+use Rattle.versions.specs.declared.Store.{Store}
+use Rattle.versions.proofs.Walkgen.Kind.Store as Store′
+use Rattle.tree.specs.declared.Ticket.{Ticket}
+use Rattle.tree.proofs.Walkgen.Kind.Ticket as Ticket′
+use Rattle.tree.specs.declared.Version.{Version}
+use Rattle.tree.proofs.Walkgen.Kind.Version as Version′
+use Rattle.tree.specs.declared.Record.{Record}
+use Rattle.tree.proofs.Walkgen.Kind.Record as Record′
+use Rattle.tree.specs.declared.PageIndex.{PageIndex}
+use Rattle.tree.proofs.Walkgen.Kind.PageIndex as PageIndex′
+use Rattle.versions.specs.declared.Chunk.{Chunk}
+use Rattle.versions.proofs.Walkgen.Kind.Chunk as Chunk′
+use Rattle.tree.specs.declared.Found.{Found}
+use Rattle.versions.proofs.Walkgen.Kind.Found as Found′
+use Rattle.versions.proofs.Walkgen.Say.copy_range as copy-range″
+use Rattle.versions.proofs.Walkgen.Say.chunk_at as chunk-at″
+use Rattle.versions.proofs.Walkgen.Say.find_page as find-page″
+use Rattle.versions.proofs.Walkgen.Say.number_found as number-found″
+use Rattle.versions.proofs.Walkgen.Say.copy_page as copy-page″
+use Rattle.versions.proofs.copy_range.Proof.Loop as Loop
+use Rattle.pages.specs.Pages.{put, part}
+use Rattle.tree.specs.Tree.{countOf, rootHeight}
+use Rattle.tree.specs.Place.{first, index}
+use Rattle.tree.specs.Walk.{hasNode}
+use Rattle.tree.specs.Register.{noRecord, updateOf, withRecord}
+use Rattle.versions.specs.Table.{holds, unless}
+use Rattle.versions.specs.Calls.{sizeAfter, updateAt, allPut, assignRefusal, withVersion, withVersionOf, withVersionPart, assignedBy, assignOut, assignRegister, nextNode, nextPlace, weaveRefusal, kept, withWoven, weaveOut, weaveNodes, weaveRegister, publishRefusal, dueBy, publishedBy, publishOut, sizeRefusal, pagesBy, bytesBy, sizedBy, sizeOut, recentBy, recentOut, findPage, numberWithin, someLost, pagesTouched, bytesFrom, filledBy, readOut, readBuffer, isLost, orZero, versionFound, stamped, stampOut, viewPart, areasOf, lengthsOf, differ, fresh, formatRefusal, formatted, formatAnswer, formatAreas, beginRefusal, withTicketPart, begunBy, beginOut, beginRegister, bitOf, withBit, putRefusal, withPut, putIn, putOut, putPages, putRegister}
+use Rattle.versions.specs.Descent.{Spanned, placeIn, placeNumber, turnOf, walkDown, pageRefusal, rangeRefusal, Ranged, orLost, chunkAt, Readable}
+use Rattle.tree.proofs.Walkgen.Flow.{within}
+use Prim.Native.Nat.{_%_}
+use native.Mathlib.Nat.{mod-lt}
+use Rattle.versions.proofs.Chunks.{next-bytes, grow-bytes}
+use Rattle.versions.proofs.copy_range.Proof.Asks as Asks
+
+-- the sum does not wrap
+-- here: offset + v9 < 2 ^ 64
+pub add-1 : Asks.add-1
+add-1 s pages nodes register x-v offset len buffer ok-s len-pages len-nodes len-register ok-x-v fits-offset fits-len len-buffer need v9 buffer-now fits-v9 same-buffer-now inv1 c1 n1 = omega (arith, need .range .fits)
+
+-- a difference does not fall below 0
+-- here: v9 ≤ len
+pub sub-1 : Asks.sub-1
+sub-1 s pages nodes register x-v offset len buffer ok-s len-pages len-nodes len-register ok-x-v fits-offset fits-len len-buffer need v9 buffer-now fits-v9 same-buffer-now inv1 c1 n1 = omega arith
+
+-- `chunk_at` asks: 0 < size
+-- here: chunk-at″.req (s .size) (offset + v9) (len - v9)
+pub chunk-at-1 : Asks.chunk-at-1
+chunk-at-1 s pages nodes register x-v offset len buffer ok-s len-pages len-nodes len-register ok-x-v fits-offset fits-len len-buffer need v9 buffer-now fits-v9 same-buffer-now inv1 c1 n1 = need .range .some (omega arith)
+
+-- the sum does not wrap
+-- here: v9 + ((r1 s pages nodes register x-v offset len buffer v9 buffer-now) .count) < 2 ^ 64
+pub add-2 : Asks.add-2
+add-2 s pages nodes register x-v offset len buffer ok-s len-pages len-nodes len-register ok-x-v fits-offset fits-len len-buffer need v9 buffer-now fits-v9 same-buffer-now inv1 c1 n1 ok-r1 ok-r2 fits-r3 same4-buffer = omega arith
+
+-- the invariant holds after a turn
+-- here: Loop.inv-1 s pages nodes register x-v offset len buffer (v9 + ((r1 s pages nodes register x-v offset len buffer v9 buffer-now) .count)) (buffer₄ s pages nodes register x-v offset len buffer v9 buffer-now)
+pub again-1 : Asks.again-1
+again-1 s pages nodes register x-v offset len buffer ok-s len-pages len-nodes len-register ok-x-v fits-offset fits-len len-buffer need v9 buffer-now fits-v9 same-buffer-now inv1 c1 n1 ok-r1 ok-r2 fits-r3 same4-buffer =
+    let count = min (s .size - (offset + v9) % s .size) (len - v9) in
+    (omega arith, rw (next-bytes s pages nodes register (x-v .0) offset len (length buffer) need v9 n1, inv1 .1) (grow-bytes s (areasOf pages nodes register) (x-v .0) buffer v9 count offset (omega (arith, need .within))))
+
+-- the measure falls
+-- here: Loop.measure-1 s pages nodes register x-v offset len buffer (v9 + ((r1 s pages nodes register x-v offset len buffer v9 buffer-now) .count)) (buffer₄ s pages nodes register x-v offset len buffer v9 buffer-now) < Loop.measure-1 s pages nodes register x-v offset len buffer v9 buffer-now
+pub less-1 : Asks.less-1
+less-1 s pages nodes register x-v offset len buffer ok-s len-pages len-nodes len-register ok-x-v fits-offset fits-len len-buffer need v9 buffer-now fits-v9 same-buffer-now inv1 c1 n1 ok-r1 ok-r2 fits-r3 same4-buffer = let m = mod-lt (offset + v9) (need .range .some (omega arith)) in omega arith
+
+-- the function ensures: buffer′ ≡ bytesFrom s (areasOf pages nodes register) (v .0) offset len ++ drop len buffer
+-- here: copy-range″.ens s pages nodes register x-v offset len buffer buffer-now tt
+pub exit-1 : Asks.exit-1
+exit-1 s pages nodes register x-v offset len buffer ok-s len-pages len-nodes len-register ok-x-v fits-offset fits-len len-buffer need v9 buffer-now fits-v9 same-buffer-now inv1 c1 n1 = let all : v9 ≡ len = omega arith in rw all at (inv1 .1)
+
+-- the invariant holds where the loop begins
+-- here: Loop.inv-1 s pages nodes register x-v offset len buffer 0 buffer
+pub start-1 : Asks.start-1
+unfolding bytesFrom
+start-1 s pages nodes register x-v offset len buffer ok-s len-pages len-nodes len-register ok-x-v fits-offset fits-len len-buffer need = (omega arith, refl)

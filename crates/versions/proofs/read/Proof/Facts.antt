@@ -1,0 +1,70 @@
+-- The facts that the walk of `versions::read` asks for. The author's file: tools/walkgen wrote its skeleton once, and with --rebind brings the arguments up to date.
+use mathlib.Core.Path.{_≡_, refl, sym, _∙_, ap, subst}
+use Prim.Native.Nat.{ℕ, _+_, _-_, _*_, _<_, _≤_, _^_, suc, pred, _/_, min}
+use native.Mathlib.Omega.{arith}
+use mathlib.Core.List.{List, [], _++_}
+use mathlib.Core.Bool.{Bool, true, false}
+use lib.Dec.{ltb, leb, eqb}
+use lib.ListN.{length, getD, set, replicate, drop}
+use Rattle.versions.specs.declared.Filled.{Filled}
+use Rattle.versions.proofs.Walkgen.Kind.Filled as Filled′
+use Rattle.versions.specs.declared.Store.{Store}
+use Rattle.versions.proofs.Walkgen.Kind.Store as Store′
+use Rattle.tree.specs.declared.Ticket.{Ticket}
+use Rattle.tree.proofs.Walkgen.Kind.Ticket as Ticket′
+use Rattle.tree.specs.declared.Version.{Version}
+use Rattle.tree.proofs.Walkgen.Kind.Version as Version′
+use Rattle.tree.specs.declared.Record.{Record}
+use Rattle.tree.proofs.Walkgen.Kind.Record as Record′
+use Rattle.tree.specs.declared.PageIndex.{PageIndex}
+use Rattle.tree.proofs.Walkgen.Kind.PageIndex as PageIndex′
+use Rattle.versions.specs.declared.ByteOffset.{ByteOffset}
+use Rattle.versions.proofs.Walkgen.Kind.ByteOffset as ByteOffset′
+use Rattle.versions.specs.declared.Lengths.{Lengths}
+use Rattle.versions.proofs.Walkgen.Kind.Lengths as Lengths′
+use Rattle.versions.specs.declared.Range.{Range}
+use Rattle.versions.proofs.Walkgen.Kind.Range as Range′
+use Rattle.versions.proofs.Walkgen.Say.read as read″
+use Rattle.tree.proofs.Walkgen.Say.record_of as record-of″
+use Rattle.versions.proofs.Walkgen.Say.range_refusal as range-refusal″
+use Rattle.versions.proofs.Walkgen.Say.touched as touched″
+use Rattle.versions.proofs.Walkgen.Say.page_at as page-at″
+use Rattle.versions.proofs.Walkgen.Say.some_lost as some-lost″
+use Rattle.versions.proofs.Walkgen.Say.or_lost as or-lost″
+use Rattle.versions.proofs.Walkgen.Say.copied as copied″
+use Rattle.versions.proofs.Walkgen.Say.copy_range as copy-range″
+use Rattle.versions.proofs.Walkgen.Say.filled_by as filled-by″
+use Rattle.pages.specs.Pages.{put, part}
+use Rattle.tree.specs.Tree.{countOf, rootHeight}
+use Rattle.tree.specs.Place.{first, index}
+use Rattle.tree.specs.Walk.{hasNode}
+use Rattle.tree.specs.Register.{noRecord, updateOf, withRecord}
+use Rattle.versions.specs.Table.{holds, unless}
+use Rattle.versions.specs.Calls.{sizeAfter, updateAt, allPut, assignRefusal, withVersion, withVersionOf, withVersionPart, assignedBy, assignOut, assignRegister, nextNode, nextPlace, weaveRefusal, kept, withWoven, weaveOut, weaveNodes, weaveRegister, publishRefusal, dueBy, publishedBy, publishOut, sizeRefusal, pagesBy, bytesBy, sizedBy, sizeOut, recentBy, recentOut, findPage, numberWithin, someLost, pagesTouched, bytesFrom, filledBy, readOut, readBuffer, isLost, orZero, versionFound, stamped, stampOut, viewPart, areasOf, lengthsOf, differ, fresh, formatRefusal, formatted, formatAnswer, formatAreas, beginRefusal, withTicketPart, begunBy, beginOut, beginRegister, bitOf, withBit, putRefusal, withPut, putIn, putOut, putPages, putRegister}
+use Rattle.versions.specs.Descent.{Spanned, placeIn, placeNumber, turnOf, walkDown, pageRefusal, rangeRefusal, Ranged, orLost, chunkAt, Readable}
+use Rattle.tree.proofs.Walkgen.Flow.{within}
+use Rattle.versions.proofs.Ranges.{range-ranged}
+use Rattle.versions.proofs.Reading.{walked-fit, rows, walks, number-is, readable, copied-is}
+use Rattle.versions.proofs.read.Proof.Asks as Asks
+
+-- `touched` asks: (k ≡ 0 → Ranged size offset len)
+-- here: touched″.req (r2 s pages nodes register x-v offset len buffer) (s .size) (offset .0) len
+pub touched-1 : Asks.touched-1
+touched-1 s pages nodes register x-v offset len buffer ok-s len-pages len-nodes len-register ok-x-v ok-offset fits-len len-buffer ok-r1 fits-r2 = λ e. range-ranged s _ _ (x-v .0) (offset .0) len (length buffer) e
+
+-- `some_lost` asks: from + n < 2 ^ 64
+-- here: some-lost″.req s nodes register x-v (r4 s pages nodes register x-v offset len buffer) (r3 s pages nodes register x-v offset len buffer)
+pub some-lost-1 : Asks.some-lost-1
+some-lost-1 s pages nodes register x-v offset len buffer ok-s len-pages len-nodes len-register ok-x-v ok-offset fits-len len-buffer ok-r1 fits-r2 fits-r3 fits-r4 = walked-fit (rows s pages nodes register (x-v .0) (offset .0) len buffer) (s .size) (offset .0) len (λ e. range-ranged s _ _ (x-v .0) (offset .0) len (length buffer) e) (ByteOffset′.ok-0 offset ok-offset .1)
+
+-- `copy_range` asks: Readable s pages nodes register (v .0) offset len (length buffer)
+-- here: copy-range″.req s pages nodes register x-v (offset .0) (r7 s pages nodes register x-v offset len buffer) buffer
+pub copy-range-1 : Asks.copy-range-1
+copy-range-1 s pages nodes register x-v offset len buffer ok-s len-pages len-nodes len-register ok-x-v ok-offset fits-len len-buffer ok-r1 fits-r2 fits-r3 fits-r4 fits-r6 fits-r7 = readable s pages nodes register (x-v .0) (offset .0) len buffer (ByteOffset′.ok-0 offset ok-offset .1) (orLost (rows s pages nodes register (x-v .0) (offset .0) len buffer) (walks s pages nodes register (x-v .0) (offset .0) len buffer)) refl
+
+-- the function ensures: (r ≡ readOut s (areasOf pages nodes register) (v .0) (offset .0) len buffer) × (buffer′ ≡ readBuffer s (areasOf pages nodes register) (v .0) (offset .0) len buffer)
+-- here: read″.ens s pages nodes register x-v offset len buffer (buffer₈ s pages nodes register x-v offset len buffer) (r9 s pages nodes register x-v offset len buffer)
+pub exit-1 : Asks.exit-1
+exit-1 s pages nodes register x-v offset len buffer ok-s len-pages len-nodes len-register ok-x-v ok-offset fits-len len-buffer ok-r1 fits-r2 fits-r3 fits-r4 fits-r6 fits-r7 same8-buffer ok-r9 =
+    let e = number-is s pages nodes register (x-v .0) (offset .0) len buffer in
+    (ap filledBy e, copied-is s pages nodes register (x-v .0) (offset .0) len buffer (orLost (rows s pages nodes register (x-v .0) (offset .0) len buffer) (walks s pages nodes register (x-v .0) (offset .0) len buffer)) ∙ ap (λ (k : ℕ). unless k buffer (bytesFrom s (areasOf pages nodes register) (x-v .0) (offset .0) len ++ drop len buffer)) e)

@@ -1,0 +1,98 @@
+-- What the functions below READ, STAMP and VIEW ask and give: the walk to a page one level at a time, and a range of bytes one page at a time.
+use mathlib.Core.Path.{_≡_}
+use mathlib.Core.Bool.{Bool, true, false, _&&_}
+use mathlib.Core.Option.{Option, none, some}
+use mathlib.Core.List.{List, []}
+use Prim.Native.Nat.{ℕ, zero, suc, _+_, _-_, _*_, _/_, _%_, _^_, _≤_, _<_, min}
+use lib.Dec.{ltb, leb}
+use lib.ListN.{length, take}
+use Rattle.tree.specs.Tree.{nth, rootHeight}
+use Rattle.tree.specs.Place.{index}
+use Rattle.tree.specs.Walk.{walkBy, placeOf, hasNode, placeWhere}
+use Rattle.tree.specs.Register.{noRecord, updateOf, updatesOf}
+use Rattle.tree.specs.declared.Record.{Record}
+use Rattle.tree.specs.declared.Found.{Found}
+use Rattle.tree.specs.declared.Found.the-variants.{Leaf, Lost}
+use Rattle.tree.specs.declared.NodeAt.{NodeAt}
+use Rattle.tree.specs.declared.NodeAt.the-variants.{Stored, Missing}
+use Rattle.versions.specs.Table.{_≤?_, _<?_, _or_, test, everyCall, firstRefusal, readRows, pageRows}
+use Rattle.versions.specs.Calls.{areasOf, differ, pagesBy, bytesBy, numberWithin, isLost, someLost, pagesTouched}
+use Rattle.versions.specs.declared.Store.{Store}
+use Rattle.versions.specs.declared.Lengths.{Lengths}
+use Rattle.versions.specs.declared.Chunk.{Chunk}
+use Rattle.versions.specs.declared.Turn.{Turn}
+use Rattle.versions.specs.declared.Turn.the-variants as Turn
+
+-- A span: a power of two.
+pub record Spanned (span : ℕ) : Type 0 where
+  pub height : ℕ
+  pub spans : span ≡ 2 ^ height
+
+-- The place of record q's node of height h over page p; q is version v's record, and versions 1 .. known are there.
+unfoldable pub placeIn : ℕ → Record → ℕ → ℕ → ℕ → Option ℕ
+placeIn known q v p h =
+    placeWhere (ltb 0 v && leb v known && hasNode (updateOf q) p h)
+    (q .place + index (updateOf q .f) (updateOf q .last) 0 (rootHeight (updateOf q .size)) p h)
+
+-- A place in 64 bits. Where there is none, and where it is past 64 bits, the largest number, which lies past any area.
+abbrev pub placeNumber : Option ℕ → ℕ
+placeNumber none = 2 ^ 64 - 1
+placeNumber (some q) = min q (2 ^ 64 - 1)
+
+-- Where the walk to page p goes from a node: a leaf has one page; else on into the half that p lies in (true: the left).
+abbrev pub halfNumber : Bool → ℕ → ℕ → ℕ
+halfNumber true l r = l
+halfNumber false l r = r
+
+abbrev pub turnBy : Bool → ℕ → ℕ → ℕ → ℕ → Turn
+turnBy true l r p span = Turn.Leaf l
+turnBy false l r p span = Turn.Down (halfNumber (ltb (p % span) (span / 2)) l r) (span / 2)
+
+abbrev pub turnOf : NodeAt → ℕ → ℕ → Turn
+turnOf Missing p span = Turn.Lost
+turnOf (Stored l r) p span = turnBy (ltb span 2) l r p span
+
+-- The walk to page p from version v's node of a span over it, over the first `known` records.
+abbrev pub walkDown : List Record → List ℕ → ℕ → ℕ → ℕ → ℕ → Found
+walkDown rs nodes known v span p =
+    walkBy (placeOf (updatesOf (take known rs)) (λ (c : ℕ). nth noRecord rs c .place)) nodes (rootHeight span) v p
+
+-- ---- STAMP and VIEW, with version v's record q and where the walk ends
+
+unfoldable pub pageRefusal : Store → Lengths → Record → ℕ → ℕ → Found → ℕ
+pageRefusal s l q v p x =
+    firstRefusal
+    (everyCall
+    (differ s l)
+    (pageRows (v ≤? s .updates) v (s .published .0) (pagesBy v q) p)
+    (s .updates <? v or test (isLost (numberWithin (s .pages) x))))
+
+-- ---- READ
+
+-- The refusal of READ but for the pages' walks, with version v's record q.
+unfoldable pub rangeRefusal : Store → Lengths → Record → ℕ → ℕ → ℕ → ℕ → ℕ
+rangeRefusal s l q v offset len room =
+    firstRefusal
+    (everyCall (differ s l) (readRows (v ≤? s .updates) v (s .published .0) (bytesBy s (pagesBy v q)) offset len room) (s .updates <? v))
+
+-- With the walks: a page that is not found is 19.
+abbrev pub orLost : ℕ → Bool → ℕ
+orLost zero true = 19
+orLost zero false = 0
+orLost (suc k) b = suc k
+
+-- A range that lies within a version's bytes.
+pub record Ranged (size offset len : ℕ) : Type 0 where
+  pub fits : offset + len < 2 ^ 64
+  pub some : 0 < len → 0 < size
+
+-- What the page of byte j has of the len bytes from there on.
+abbrev pub chunkAt : ℕ → ℕ → ℕ → Chunk
+chunkAt size j len = record { page = record { 0 = j / size }; from = j % size; count = min (size - j % size) len }
+
+-- What the copy of a range asks: the area holds its pages, the buffer has room, and each page of the range is found.
+pub record Readable (s : Store) (pages nodes : List ℕ) (register : List Record) (v offset len room : ℕ) : Type 0 where
+  pub range : Ranged (s .size) offset len
+  pub within : len ≤ room
+  pub area : 0 < len → length pages ≡ s .size * s .pages
+  pub found : someLost s (areasOf [] nodes register) v (offset / s .size) (pagesTouched (s .size) offset len) ≡ false
