@@ -1,0 +1,24 @@
+-- The facts that the walk of `steps::read_line` asks for. The author's file: tools/walkgen wrote its skeleton once, and with --rebind brings the arguments up to date.
+-- Assumes nothing.
+use native.Mathlib.Omega.{arith}
+use Rattle.steps.proofs.read_line.Proof.Asks as Asks
+
+-- pages has as many elements as are lent of it
+-- here: (r1 .pages) ≤ length pages
+pub part-1 : Asks.part-1
+part-1 kept x-v offset n pages nodes register out ok-kept ok-x-v ok-offset fits-n len-pages len-nodes len-register len-out arr9 made-arr9 len-arr9 r1 ok-r1 says1 = omega (arith, says1 .0)
+
+-- nodes has as many elements as are lent of it
+-- here: (r1 .nodes) ≤ length nodes
+pub part-2 : Asks.part-2
+part-2 kept x-v offset n pages nodes register out ok-kept ok-x-v ok-offset fits-n len-pages len-nodes len-register len-out arr9 made-arr9 len-arr9 r1 ok-r1 says1 part2-pages cut2-pages = omega (arith, says1 .1)
+
+-- register has as many elements as are lent of it
+-- here: (r1 .register) ≤ length register
+pub part-3 : Asks.part-3
+part-3 kept x-v offset n pages nodes register out ok-kept ok-x-v ok-offset fits-n len-pages len-nodes len-register len-out arr9 made-arr9 len-arr9 r1 ok-r1 says1 part2-pages cut2-pages part2-nodes cut2-nodes = omega (arith, says1 .2)
+
+-- arr9 has as many elements as are lent of it
+-- here: (r3 kept x-v offset n pages nodes register out arr9 r1) ≤ length (arr9₂ kept x-v offset n pages nodes register out arr9 r1)
+pub part-4 : Asks.part-4
+part-4 kept x-v offset n pages nodes register out ok-kept ok-x-v ok-offset fits-n len-pages len-nodes len-register len-out arr9 made-arr9 len-arr9 r1 ok-r1 says1 part2-pages cut2-pages part2-nodes cut2-nodes part2-register cut2-register ok-r2 same2-arr9 fits-r3 = omega (arith, same2-arr9, len-arr9)
