@@ -1,5 +1,6 @@
-//! Links the proved static library, `libtree.a`: from the folder that `PIT_LIB_DIR` names, else from
-//! `target/staticlib` at the top of the repository, where `rt staticlib tree` writes it.
+//! Links the proved static libraries, `libexports.a` (the store's calls) and `libtree.a` (the sizes):
+//! from the folder that `PIT_LIB_DIR` names, else from `target/staticlib` at the top of the repository,
+//! where `rt staticlib exports` and `rt staticlib tree` write them.
 
 use std::env;
 use std::path::{Path, PathBuf};
@@ -10,25 +11,29 @@ fn main() {
         Some(named) => PathBuf::from(named),
         None => Path::new(&variable("CARGO_MANIFEST_DIR")).join("../target/staticlib"),
     };
-    let library = folder.join("libtree.a");
     println!("cargo:rerun-if-env-changed=PIT_LIB_DIR");
-    println!("cargo:rerun-if-changed={}", library.display());
 
     let (processor, system) = (
         variable("CARGO_CFG_TARGET_ARCH"),
         variable("CARGO_CFG_TARGET_OS"),
     );
     if (processor.as_str(), system.as_str()) != ("x86_64", "linux") {
-        panic!(
-            "libtree.a is compiled for x86-64 Linux, and this build is for {processor} {system}"
-        );
+        panic!("the proved libraries are compiled for x86-64 Linux, and this build is for {processor} {system}");
     }
+    println!("cargo:rustc-link-search=native={}", folder.display());
+    for name in ["exports", "tree"] {
+        link(&folder, name);
+    }
+}
+
+fn link(folder: &Path, name: &str) {
+    let library = folder.join(format!("lib{name}.a"));
+    println!("cargo:rerun-if-changed={}", library.display());
     if !library.is_file() {
         panic!(
-            "{} is missing: run ./test, or `rt staticlib tree`, at the top of the repository",
+            "{} is missing: run ./test, or `rt staticlib {name}`, at the top of the repository",
             library.display()
         );
     }
-    println!("cargo:rustc-link-search=native={}", folder.display());
-    println!("cargo:rustc-link-lib=static=tree");
+    println!("cargo:rustc-link-lib=static={name}");
 }

@@ -1,8 +1,229 @@
-//! The C functions of the static library `tree`, and a safe function over each.
+//! The C functions of the proved static libraries, and a safe function over each. All `unsafe` of the crate is here.
+//!
+//! The proved functions are total: they end and stay inside the areas they are lent, whatever store, numbers and
+//! bytes they are given. So nothing is asked of a caller here but slices, whose borrows keep the areas of one call
+//! apart and alive. Slices cross as pointer and length in elements; the pointer of a slice is never null.
 
+use crate::areas::{LentAreas, Parts};
+
+/// What the proved calls carry from one to the next: the limits that FORMAT accepted, and six counters. Its fields
+/// are plain numbers, so that a host can keep a store's state wherever it keeps the lent areas.
+///
+/// ```
+/// use pit_host::{Limits, Store};
+/// let store = Store::format(Limits { page_size: 16, pages: 4, nodes: 8, updates: 2 }).unwrap();
+/// let state = store.state();
+/// assert_eq!((state.size, state.pages, state.nodes, state.updates), (16, 4, 8, 2));
+/// assert_eq!((state.tickets, state.published), (0, 0));
+/// ```
+#[repr(C)]
+#[derive(Clone, Copy, Debug, Default, PartialEq, Eq, Hash)]
+pub struct State {
+    /// The page size in bytes.
+    pub size: u64,
+    /// How many pages the page area holds.
+    pub pages: u64,
+    /// How many nodes the node area holds.
+    pub nodes: u64,
+    /// How many updates the register holds.
+    pub updates: u64,
+    /// The last ticket given.
+    pub tickets: u64,
+    /// How many page numbers are taken.
+    pub taken: u64,
+    /// The last version assigned.
+    pub assigned: u64,
+    /// How many node places are taken.
+    pub places: u64,
+    /// The last version published.
+    pub published: u64,
+    /// The size in pages of the last version assigned.
+    pub blob: u64,
+}
+
+/// A record of the register of updates: the k-th holds the k-th ticket's part and the k-th version's part. An empty
+/// record, the default, is all zeros. Only the store's calls have a reason to write one.
+///
+/// ```
+/// let register = [pit_host::Record::default(); 8];
+/// assert_eq!(register[0].version, 0);
+/// ```
+#[repr(C)]
+#[derive(Clone, Copy, Debug, Default, PartialEq, Eq, Hash)]
+pub struct Record {
+    /// The ticket's pages.
+    pub n: u64,
+    /// The ticket's first page number.
+    pub number: u64,
+    /// Which of the ticket's pages are put: bit i for page i.
+    pub put: u64,
+    /// The ticket's version; 0 before it has one.
+    pub version: u64,
+    /// The version's ticket.
+    pub ticket: u64,
+    /// The first page of the version's update.
+    pub f: u64,
+    /// The last page of the version's update.
+    pub last: u64,
+    /// The blob's size in pages after the version's update.
+    pub size: u64,
+    /// The version's first node place.
+    pub place: u64,
+    /// How many of the version's nodes are woven.
+    pub woven: u64,
+}
+
+// Replies begin with the number of the refusal, 0 where the call was accepted; the rest is then what it answers.
+
+#[repr(C)]
+pub struct FormatReply {
+    pub refusal: u64,
+    pub state: State,
+}
+
+#[repr(C)]
+pub struct BeginReply {
+    pub refusal: u64,
+    pub state: State,
+    pub ticket: u64,
+}
+
+#[repr(C)]
+pub struct AssignReply {
+    pub refusal: u64,
+    pub state: State,
+    pub version: u64,
+    pub nodes: u64,
+}
+
+#[repr(C)]
+pub struct WeaveReply {
+    pub refusal: u64,
+    pub version: u64,
+    pub first: u64,
+    pub span: u64,
+    pub left: u64,
+    pub right: u64,
+    pub rest: u64,
+}
+
+/// Version 0 is "waiting".
+#[repr(C)]
+pub struct PublishReply {
+    pub refusal: u64,
+    pub state: State,
+    pub version: u64,
+}
+
+#[repr(C)]
+pub struct SizeReply {
+    pub refusal: u64,
+    pub bytes: u64,
+}
+
+/// What RECENT and STAMP reply.
+#[repr(C)]
+pub struct VersionReply {
+    pub refusal: u64,
+    pub version: u64,
+}
+
+/// Where in the page area the page begins, and its length.
+#[repr(C)]
+pub struct ViewReply {
+    pub refusal: u64,
+    pub begin: u64,
+    pub length: u64,
+}
+
+#[rustfmt::skip] // an area a line: pointer, length
 extern "C" {
     fn pit_root_span(size: u64) -> u64;
     fn pit_node_count(f: u64, n: u64, size: u64) -> u64;
+
+    fn pit_format(
+        size: u64, page_count: u64, node_count: u64, updates: u64,
+        pages: *mut u8, pages_len: usize,
+        nodes: *mut u32, nodes_len: usize,
+        register: *mut Record, register_len: usize,
+    ) -> FormatReply;
+    fn pit_begin(
+        s: State,
+        pages: *const u8, pages_len: usize,
+        nodes: *const u32, nodes_len: usize,
+        register: *mut Record, register_len: usize,
+        n: u64,
+    ) -> BeginReply;
+    fn pit_put(
+        s: State,
+        pages: *mut u8, pages_len: usize,
+        nodes: *const u32, nodes_len: usize,
+        register: *mut Record, register_len: usize,
+        ticket: u64, i: u64,
+        bytes: *const u8, bytes_len: usize,
+    ) -> u64;
+    fn pit_write(
+        s: State,
+        pages: *const u8, pages_len: usize,
+        nodes: *const u32, nodes_len: usize,
+        register: *mut Record, register_len: usize,
+        ticket: u64, f: u64,
+    ) -> AssignReply;
+    fn pit_append(
+        s: State,
+        pages: *const u8, pages_len: usize,
+        nodes: *const u32, nodes_len: usize,
+        register: *mut Record, register_len: usize,
+        ticket: u64,
+    ) -> AssignReply;
+    fn pit_weave(
+        s: State,
+        pages: *const u8, pages_len: usize,
+        nodes: *mut u32, nodes_len: usize,
+        register: *mut Record, register_len: usize,
+        ticket: u64,
+    ) -> WeaveReply;
+    fn pit_publish(
+        s: State,
+        pages: *const u8, pages_len: usize,
+        nodes: *const u32, nodes_len: usize,
+        register: *const Record, register_len: usize,
+    ) -> PublishReply;
+    fn pit_read(
+        s: State,
+        pages: *const u8, pages_len: usize,
+        nodes: *const u32, nodes_len: usize,
+        register: *const Record, register_len: usize,
+        version: u64, offset: u64, len: u64,
+        buffer: *mut u8, buffer_len: usize,
+    ) -> u64;
+    fn pit_size(
+        s: State,
+        pages: *const u8, pages_len: usize,
+        nodes: *const u32, nodes_len: usize,
+        register: *const Record, register_len: usize,
+        version: u64,
+    ) -> SizeReply;
+    fn pit_recent(
+        s: State,
+        pages: *const u8, pages_len: usize,
+        nodes: *const u32, nodes_len: usize,
+        register: *const Record, register_len: usize,
+    ) -> VersionReply;
+    fn pit_stamp(
+        s: State,
+        pages: *const u8, pages_len: usize,
+        nodes: *const u32, nodes_len: usize,
+        register: *const Record, register_len: usize,
+        version: u64, page: u64,
+    ) -> VersionReply;
+    fn pit_view(
+        s: State,
+        pages: *const u8, pages_len: usize,
+        nodes: *const u32, nodes_len: usize,
+        register: *const Record, register_len: usize,
+        version: u64, page: u64,
+    ) -> ViewReply;
 }
 
 /// The span, in pages, of the root of the tree of a blob of `size` pages: the smallest power of two
@@ -30,4 +251,102 @@ pub fn root_span(size: u64) -> u64 {
 pub fn node_count(f: u64, n: u64, size: u64) -> u64 {
     // SAFETY: it takes and returns plain numbers, is proved for all arguments, and touches no memory of ours.
     unsafe { pit_node_count(f, n, size) }
+}
+
+/// Expands to a call of a C function, each area given as its pointer and length. `lent` areas are borrowed
+/// mutably and so by this call alone; `seen` ones are only read.
+macro_rules! call {
+    ($name:ident($($before:expr),*; lent $areas:ident; $($after:expr),*)) => {
+        $name(
+            $($before,)*
+            $areas.pages.as_mut_ptr(), $areas.pages.len(),
+            $areas.nodes.as_mut_ptr(), $areas.nodes.len(),
+            $areas.register.as_mut_ptr(), $areas.register.len(),
+            $($after),*
+        )
+    };
+    ($name:ident($($before:expr),*; seen $areas:ident; $($after:expr),*)) => {
+        $name(
+            $($before,)*
+            $areas.pages.as_ptr(), $areas.pages.len(),
+            $areas.nodes.as_ptr(), $areas.nodes.len(),
+            $areas.register.as_ptr(), $areas.register.len(),
+            $($after),*
+        )
+    };
+}
+
+/// FORMAT.
+pub fn format(limits: [u64; 4], areas: LentAreas<'_>) -> FormatReply {
+    let [size, pages, nodes, updates] = limits;
+    // SAFETY: the areas are borrowed mutably for the call; total for any numbers and lengths.
+    unsafe { call!(pit_format(size, pages, nodes, updates; lent areas; )) }
+}
+
+/// BEGIN.
+pub fn begin(s: State, areas: LentAreas<'_>, n: u64) -> BeginReply {
+    // SAFETY: the areas are borrowed mutably for the call; total for any store, areas and number.
+    unsafe { call!(pit_begin(s; lent areas; n)) }
+}
+
+/// PUT.
+pub fn put(s: State, areas: LentAreas<'_>, ticket: u64, i: u64, bytes: &[u8]) -> u64 {
+    // SAFETY: the areas are borrowed mutably, so `bytes` is no part of them; total for any arguments.
+    unsafe { call!(pit_put(s; lent areas; ticket, i, bytes.as_ptr(), bytes.len())) }
+}
+
+/// ASSIGN as a write at page `f`.
+pub fn write(s: State, areas: LentAreas<'_>, ticket: u64, f: u64) -> AssignReply {
+    // SAFETY: the areas are borrowed mutably for the call; total for any store, areas and numbers.
+    unsafe { call!(pit_write(s; lent areas; ticket, f)) }
+}
+
+/// ASSIGN as an append.
+pub fn append(s: State, areas: LentAreas<'_>, ticket: u64) -> AssignReply {
+    // SAFETY: the areas are borrowed mutably for the call; total for any store, areas and number.
+    unsafe { call!(pit_append(s; lent areas; ticket)) }
+}
+
+/// WEAVE.
+pub fn weave(s: State, areas: LentAreas<'_>, ticket: u64) -> WeaveReply {
+    // SAFETY: the areas are borrowed mutably for the call; total for any store, areas and number.
+    unsafe { call!(pit_weave(s; lent areas; ticket)) }
+}
+
+/// PUBLISH. It only reads the areas.
+pub fn publish(s: State, areas: Parts<'_>) -> PublishReply {
+    // SAFETY: the areas are borrowed for the call, which only reads them; total for any store and areas.
+    unsafe { call!(pit_publish(s; seen areas; )) }
+}
+
+/// READ.
+pub fn read(s: State, areas: Parts<'_>, at: [u64; 3], buffer: &mut [u8]) -> u64 {
+    let [version, offset, len] = at;
+    let (to, room) = (buffer.as_mut_ptr(), buffer.len());
+    // SAFETY: `buffer` is borrowed mutably, so it is no part of the areas, which are only read; total for any arguments.
+    unsafe { call!(pit_read(s; seen areas; version, offset, len, to, room)) }
+}
+
+/// SIZE.
+pub fn size(s: State, areas: Parts<'_>, version: u64) -> SizeReply {
+    // SAFETY: the areas are borrowed for the call, which only reads them; total for any store, areas and number.
+    unsafe { call!(pit_size(s; seen areas; version)) }
+}
+
+/// RECENT.
+pub fn recent(s: State, areas: Parts<'_>) -> VersionReply {
+    // SAFETY: the areas are borrowed for the call, which only reads them; total for any store and areas.
+    unsafe { call!(pit_recent(s; seen areas; )) }
+}
+
+/// STAMP.
+pub fn stamp(s: State, areas: Parts<'_>, version: u64, page: u64) -> VersionReply {
+    // SAFETY: the areas are borrowed for the call, which only reads them; total for any store, areas and numbers.
+    unsafe { call!(pit_stamp(s; seen areas; version, page)) }
+}
+
+/// VIEW.
+pub fn view(s: State, areas: Parts<'_>, version: u64, page: u64) -> ViewReply {
+    // SAFETY: the areas are borrowed for the call, which only reads them; total for any store, areas and numbers.
+    unsafe { call!(pit_view(s; seen areas; version, page)) }
 }

@@ -1,15 +1,49 @@
-//! The dispatch host's side of the pit model store: the proved functions of the static library,
-//! for sizing the areas that the host lends to a store.
+//! The dispatch host's side of the pit model store: one blob of pages, kept in versions that share what they have
+//! in common. The calls are proved, and linked as static libraries; this crate is the Rust over them.
+//!
+//! - [`Store`] owns its areas, [`Lent`] works in areas that the host lends; both are a [`Keeper`].
+//! - [`Shared`] is a store for threads: writers each on a ticket, readers beside each other.
+//! - [`Store::save`] and [`Store::load`] keep a store in a file.
+//! - [`Limits`], [`root_span`] and [`node_count`] size the areas.
+//! - A refused call gives an [`Error`], with the number of its row in the table of refusals.
 //!
 //! ```
-//! // How many node places three updates need: pages 0 to 3, then 1 and 2, then an append of one.
-//! let places: u64 = [(0, 4, 4), (1, 2, 4), (4, 1, 5)]
-//!     .map(|(f, n, size)| pit_host::node_count(f, n, size))
-//!     .iter()
-//!     .sum();
-//! assert_eq!(places, 7 + 5 + 4);
+//! use pit_host::{Limits, PageIndex, Store, Version};
+//! # fn main() -> Result<(), pit_host::Error> {
+//! // Room for 100 updates of up to 2 pages each, in a road model of up to 64 pages of 256 bytes.
+//! let mut store = Store::format(Limits::worst(256, 64, 100, 2).unwrap())?;
+//!
+//! let ticket = store.begin(2)?;
+//! store.put(ticket, 1, &[20; 256])?;
+//! store.put(ticket, 0, &[10; 256])?;
+//! let assigned = store.append(ticket)?;
+//! for _ in 0..assigned.nodes {
+//!     store.weave(ticket)?;
+//! }
+//! assert_eq!(store.publish()?, Some(Version(1)));
+//!
+//! assert_eq!(store.size(Version(1))?, 512);
+//! assert_eq!(store.stamp(Version(1), PageIndex(1))?, Version(1));
+//! assert_eq!(store.view(Version(1), PageIndex(1))?, [20; 256]);
+//! # Ok(())
+//! # }
 //! ```
 
-mod ffi;
+#![deny(unsafe_code, missing_docs)]
 
-pub use ffi::{node_count, root_span};
+mod areas;
+mod counters;
+mod error;
+#[allow(unsafe_code)]
+mod ffi;
+mod file;
+mod keeper;
+mod shared;
+
+pub use areas::{Areas, Lend, LentAreas, Limits, Parts, Planned};
+pub use counters::{ByteOffset, PageIndex, Ticket, Version};
+pub use error::Error;
+pub use ffi::{node_count, root_span, Record, State};
+pub use file::FileError;
+pub use keeper::{Assigned, Keeper, Lent, Node, Store};
+pub use shared::Shared;

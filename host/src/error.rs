@@ -1,0 +1,141 @@
+//! Why the store refuses a call.
+
+use std::fmt;
+
+/// Why the store refused a call. Each has the number of its row in the table of refusals; a call gives the
+/// first row that applies. A refused call has changed nothing.
+///
+/// ```
+/// use pit_host::{Error, Limits, Store};
+/// let refused = Store::format(Limits { page_size: 24, pages: 1, nodes: 1, updates: 1 }).unwrap_err();
+/// assert_eq!(refused, Error::PageSize);
+/// assert_eq!(refused.number(), 1);
+/// assert!(refused.to_string().contains("power of two"));
+/// ```
+#[derive(Clone, Copy, Debug, PartialEq, Eq, Hash)]
+pub enum Error {
+    /// 1, FORMAT: the page size is not a power of two from 16 to 4,096.
+    PageSize = 1,
+    /// 2, FORMAT: a capacity is not allowed.
+    Capacity = 2,
+    /// 3, every call: an area is not as long as the store's capacities say.
+    AreaLength = 3,
+    /// 4, BEGIN: an update has 1 to 64 pages.
+    UpdateSize = 4,
+    /// 5, BEGIN: no record of the register is unused.
+    RegisterFull = 5,
+    /// 6, BEGIN: fewer page numbers are unused than the update has pages.
+    PagesFull = 6,
+    /// 7, PUT, ASSIGN and WEAVE: no such ticket.
+    NoSuchTicket = 7,
+    /// 8: PUT or ASSIGN after ASSIGN, or WEAVE before it or with no node left.
+    OutOfTurn = 8,
+    /// 9, PUT: the update has no such page.
+    NoSuchPage = 9,
+    /// 10, PUT: that page of the update is already put.
+    AlreadyPut = 10,
+    /// 11, PUT: the bytes are not one page long.
+    PageLength = 11,
+    /// 12, ASSIGN: a page of the update is not yet put.
+    NotAllPut = 12,
+    /// 13, ASSIGN as a write: it begins past the end of the last assigned version.
+    PastEnd = 13,
+    /// 14, ASSIGN: the blob would have more than 4,096 pages.
+    BlobFull = 14,
+    /// 15, ASSIGN: too few node places are unused.
+    NodesFull = 15,
+    /// 16, READ, SIZE, STAMP and VIEW: the version is not published.
+    NotPublished = 16,
+    /// 17, READ, STAMP and VIEW: the range or page is not inside the snapshot.
+    OutsideSnapshot = 17,
+    /// 18, READ: the buffer is shorter than the length asked for.
+    BufferTooShort = 18,
+    /// 19, every call but FORMAT: the areas are not what a run of calls left.
+    Damaged = 19,
+}
+
+impl Error {
+    /// Every refusal, in the table's order.
+    pub const ALL: [Error; 19] = [
+        Error::PageSize,
+        Error::Capacity,
+        Error::AreaLength,
+        Error::UpdateSize,
+        Error::RegisterFull,
+        Error::PagesFull,
+        Error::NoSuchTicket,
+        Error::OutOfTurn,
+        Error::NoSuchPage,
+        Error::AlreadyPut,
+        Error::PageLength,
+        Error::NotAllPut,
+        Error::PastEnd,
+        Error::BlobFull,
+        Error::NodesFull,
+        Error::NotPublished,
+        Error::OutsideSnapshot,
+        Error::BufferTooShort,
+        Error::Damaged,
+    ];
+
+    /// The number of its row in the table of refusals, 1 to 19.
+    pub fn number(&self) -> u64 {
+        *self as u64
+    }
+
+    /// The refusal with a number of the table; none has another number.
+    ///
+    /// ```
+    /// use pit_host::Error;
+    /// assert_eq!(Error::from_number(7), Some(Error::NoSuchTicket));
+    /// assert_eq!((Error::from_number(0), Error::from_number(20)), (None, None));
+    /// ```
+    pub fn from_number(number: u64) -> Option<Error> {
+        Error::ALL.into_iter().find(|e| e.number() == number)
+    }
+
+    /// What a call's refusal number says; 0 is acceptance. The proved calls reply with no number above 19. A library
+    /// that did would not be the proved one: then nothing it says of the areas can be relied on, so that is `Damaged`.
+    pub(crate) fn check(refusal: u64) -> Result<(), Error> {
+        match refusal {
+            0 => Ok(()),
+            number => Err(Error::from_number(number).unwrap_or(Error::Damaged)),
+        }
+    }
+
+    fn words(&self) -> &'static str {
+        match self {
+            Error::PageSize => "not formatted: the page size must be a power of two from 16 to 4,096 bytes",
+            Error::Capacity => {
+                "not formatted: capacities are 1 to 65,535 pages, 1 to 131,072 nodes and 1 to 4,096 updates"
+            }
+            Error::AreaLength => "refused: an area's length differs from what the store's capacities say",
+            Error::UpdateSize => "no ticket given: an update has 1 to 64 pages",
+            Error::RegisterFull => "no ticket given: every record of the register is used",
+            Error::PagesFull => "no ticket given: too few page numbers are unused",
+            Error::NoSuchTicket => "refused: no such ticket was given",
+            Error::OutOfTurn => {
+                "refused: pages are put and a version assigned before that ticket has a version, nodes woven after, while some are left"
+            }
+            Error::NoSuchPage => "page not put: the update has fewer pages",
+            Error::AlreadyPut => "page not put: that page of the update is already put",
+            Error::PageLength => "page not put: the bytes are not exactly one page long",
+            Error::NotAllPut => "no version assigned: a page of the update is not yet put",
+            Error::PastEnd => "no version assigned: the write begins past the end of the last assigned version",
+            Error::BlobFull => "no version assigned: the blob would have more than 4,096 pages",
+            Error::NodesFull => "no version assigned: too few node places are unused",
+            Error::NotPublished => "refused: that version is not published",
+            Error::OutsideSnapshot => "refused: the range or page is not inside that version",
+            Error::BufferTooShort => "not read: the buffer is shorter than the length asked for",
+            Error::Damaged => "refused: the areas are damaged, no run of calls left them so",
+        }
+    }
+}
+
+impl fmt::Display for Error {
+    fn fmt(&self, f: &mut fmt::Formatter<'_>) -> fmt::Result {
+        f.write_str(self.words())
+    }
+}
+
+impl std::error::Error for Error {}

@@ -1,0 +1,240 @@
+//! The store: every call, written once over any areas.
+
+use crate::areas::{Areas, Lend, LentAreas, Limits};
+use crate::counters::{ByteOffset, PageIndex, Ticket, Version};
+use crate::error::Error;
+use crate::ffi::{self, State};
+
+/// A store over areas of any kind: what the proved calls carry from one to the next, with the areas they work in.
+///
+/// An update goes through five stages: [`begin`](Keeper::begin) gives a ticket, [`put`](Keeper::put) takes its pages,
+/// [`write`](Keeper::write) or [`append`](Keeper::append) gives it a version, [`weave`](Keeper::weave) stores that
+/// version's tree a node at a time, and [`publish`](Keeper::publish) makes versions readable, in their order. Updates
+/// may be in work beside each other. A published version never changes. A refused call changes nothing.
+///
+/// ```
+/// use pit_host::{ByteOffset, Limits, Store, Version};
+/// # fn main() -> Result<(), pit_host::Error> {
+/// let mut store = Store::format(Limits { page_size: 16, pages: 4, nodes: 8, updates: 2 })?;
+/// let ticket = store.begin(1)?;
+/// store.put(ticket, 0, &[7; 16])?;
+/// let assigned = store.append(ticket)?;
+/// for _ in 0..assigned.nodes {
+///     store.weave(ticket)?;
+/// }
+/// assert_eq!(store.publish()?, Some(Version(1)));
+/// let mut bytes = [0; 4];
+/// store.read(Version(1), ByteOffset(12), 4, &mut bytes)?;
+/// assert_eq!(bytes, [7; 4]);
+/// # Ok(())
+/// # }
+/// ```
+#[derive(Clone, Debug, PartialEq, Eq)]
+pub struct Keeper<A> {
+    state: State,
+    areas: A,
+}
+
+/// A store that owns its areas.
+pub type Store = Keeper<Areas>;
+
+/// A store in areas that the host lends.
+pub type Lent<'a> = Keeper<LentAreas<'a>>;
+
+/// What ASSIGN gave: the next version, and how many nodes are to be woven for it.
+#[derive(Clone, Copy, Debug, PartialEq, Eq, Hash)]
+pub struct Assigned {
+    /// The version.
+    pub version: Version,
+    /// Its node count.
+    pub nodes: u64,
+}
+
+/// A node that WEAVE stored: its name, its two numbers, and how many nodes of its version are left.
+#[derive(Clone, Copy, Debug, PartialEq, Eq, Hash)]
+pub struct Node {
+    /// The version it belongs to.
+    pub version: Version,
+    /// The first page of its range.
+    pub first: PageIndex,
+    /// The pages of its range; 1 is a leaf.
+    pub span: u64,
+    /// The left child's version, 0 where no page is there; of a leaf, the page number.
+    pub left: u32,
+    /// The right child's version, 0 where no page is there; of a leaf, 0.
+    pub right: u32,
+    /// How many nodes of its version are left to weave.
+    pub rest: u64,
+}
+
+impl Store {
+    /// FORMAT in new areas: an empty store. Refused: 1, 2.
+    pub fn format(limits: Limits) -> Result<Store, Error> {
+        Keeper::format_in(limits, Areas::new(&limits)?)
+    }
+}
+
+impl<'a> Lent<'a> {
+    /// FORMAT in lent areas: an empty store, whatever stood in the areas. Refused, it leaves the areas as they were:
+    /// 1, 2, 3.
+    pub fn format(limits: Limits, areas: LentAreas<'a>) -> Result<Lent<'a>, Error> {
+        Keeper::format_in(limits, areas)
+    }
+}
+
+impl<A> Keeper<A> {
+    /// The store with this state in these areas, as [`into_parts`](Keeper::into_parts) gave them.
+    ///
+    /// Any numbers and any areas will do in that every call then ends, stays in bounds and refuses by the table. Only
+    /// a state and areas that belong together, just as a call left them, are the store they were.
+    ///
+    /// ```
+    /// use pit_host::{Areas, Error, Keeper, Limits, State};
+    /// let areas = Areas::new(&Limits { page_size: 16, pages: 1, nodes: 1, updates: 1 }).unwrap();
+    /// assert_eq!(Keeper::resume(State::default(), areas).recent(), Err(Error::AreaLength));
+    /// ```
+    pub fn resume(state: State, areas: A) -> Keeper<A> {
+        Keeper { state, areas }
+    }
+
+    /// What the calls carry from one to the next.
+    pub fn state(&self) -> State {
+        self.state
+    }
+
+    /// The areas.
+    pub fn areas(&self) -> &A {
+        &self.areas
+    }
+
+    /// The state and the areas, for [`resume`](Keeper::resume).
+    pub fn into_parts(self) -> (State, A) {
+        (self.state, self.areas)
+    }
+
+    /// The limits that the store was formatted with.
+    pub fn limits(&self) -> Limits {
+        Limits {
+            page_size: self.state.size,
+            pages: self.state.pages,
+            nodes: self.state.nodes,
+            updates: self.state.updates,
+        }
+    }
+}
+
+impl<A: Lend> Keeper<A> {
+    /// FORMAT in areas of any kind: an empty store, whatever stood in the areas. Refused: 1, 2, 3.
+    pub fn format_in(limits: Limits, mut areas: A) -> Result<Keeper<A>, Error> {
+        let reply = ffi::format(limits.numbers(), areas.lend());
+        Error::check(reply.refusal)?;
+        Ok(Keeper::resume(reply.state, areas))
+    }
+
+    /// BEGIN: the next ticket, for an update of `n` pages. Refused: 3, 4, 5, 6, 19.
+    pub fn begin(&mut self, n: u64) -> Result<Ticket, Error> {
+        let reply = ffi::begin(self.state, self.areas.lend(), n);
+        Error::check(reply.refusal)?;
+        self.state = reply.state;
+        Ok(Ticket(reply.ticket))
+    }
+
+    /// PUT: the bytes of page `i` of the update, counted from 0; in any order, each page once.
+    /// Refused: 3, 7, 8, 9, 10, 11, 19.
+    pub fn put(&mut self, ticket: Ticket, i: u64, bytes: &[u8]) -> Result<(), Error> {
+        Error::check(ffi::put(self.state, self.areas.lend(), ticket.0, i, bytes))
+    }
+
+    /// ASSIGN as a write: the next version, with the update's pages from page `first` on. `first` may be any page of
+    /// the last assigned version, or the one after its end. Refused: 3, 7, 8, 12, 13, 14, 15, 19.
+    pub fn write(&mut self, ticket: Ticket, first: PageIndex) -> Result<Assigned, Error> {
+        let reply = ffi::write(self.state, self.areas.lend(), ticket.0, first.0);
+        self.assigned(reply)
+    }
+
+    /// ASSIGN as an append: the next version, with the update's pages at the end of the last assigned version.
+    /// Refused: 3, 7, 8, 12, 14, 15, 19.
+    pub fn append(&mut self, ticket: Ticket) -> Result<Assigned, Error> {
+        let reply = ffi::append(self.state, self.areas.lend(), ticket.0);
+        self.assigned(reply)
+    }
+
+    fn assigned(&mut self, reply: ffi::AssignReply) -> Result<Assigned, Error> {
+        Error::check(reply.refusal)?;
+        self.state = reply.state;
+        Ok(Assigned {
+            version: Version(reply.version),
+            nodes: reply.nodes,
+        })
+    }
+
+    /// WEAVE: stores the next node of the ticket's version. Refused: 3, 7, 8, 19.
+    pub fn weave(&mut self, ticket: Ticket) -> Result<Node, Error> {
+        let reply = ffi::weave(self.state, self.areas.lend(), ticket.0);
+        Error::check(reply.refusal)?;
+        Ok(Node {
+            version: Version(reply.version),
+            first: PageIndex(reply.first),
+            span: reply.span,
+            // the node area's 32-bit numbers, widened for C
+            left: reply.left as u32,
+            right: reply.right as u32,
+            rest: reply.rest,
+        })
+    }
+
+    /// PUBLISH: the version after the last published one, if it is fully woven; none where that is still awaited.
+    /// Refused: 3, 19.
+    pub fn publish(&mut self) -> Result<Option<Version>, Error> {
+        let reply = ffi::publish(self.state, self.areas.parts());
+        Error::check(reply.refusal)?;
+        self.state = reply.state;
+        Ok((reply.version != 0).then_some(Version(reply.version)))
+    }
+
+    /// READ: fills the front of `buffer` with `len` bytes of a version; the rest of it stays. Refused, all of it stays:
+    /// 3, 16, 17, 18, 19.
+    pub fn read(
+        &self,
+        version: Version,
+        offset: ByteOffset,
+        len: u64,
+        buffer: &mut [u8],
+    ) -> Result<(), Error> {
+        let range = [version.0, offset.0, len];
+        Error::check(ffi::read(self.state, self.areas.parts(), range, buffer))
+    }
+
+    /// SIZE: the size of a version in bytes. Refused: 3, 16, 19.
+    pub fn size(&self, version: Version) -> Result<u64, Error> {
+        let reply = ffi::size(self.state, self.areas.parts(), version.0);
+        Error::check(reply.refusal).map(|()| reply.bytes)
+    }
+
+    /// RECENT: the last published version. Refused: 3.
+    pub fn recent(&self) -> Result<Version, Error> {
+        let reply = ffi::recent(self.state, self.areas.parts());
+        Error::check(reply.refusal).map(|()| Version(reply.version))
+    }
+
+    /// STAMP: the newest version up to `version` whose update covers the page. A page has the same bytes in two versions
+    /// where its stamps there are the same. Refused: 3, 16, 17, 19.
+    pub fn stamp(&self, version: Version, page: PageIndex) -> Result<Version, Error> {
+        let reply = ffi::stamp(self.state, self.areas.parts(), version.0, page.0);
+        Error::check(reply.refusal).map(|()| Version(reply.version))
+    }
+
+    /// VIEW: the bytes of a page of a version, where they lie in the page area, uncopied. Refused: 3, 16, 17, 19.
+    pub fn view(&self, version: Version, page: PageIndex) -> Result<&[u8], Error> {
+        let areas = self.areas.parts();
+        let reply = ffi::view(self.state, areas, version.0, page.0);
+        Error::check(reply.refusal)?;
+        // The proved call replies with a part inside the area that it was lent.
+        let begin = usize::try_from(reply.begin).ok();
+        let length = usize::try_from(reply.length).ok();
+        begin
+            .zip(length)
+            .and_then(|(begin, length)| areas.pages.get(begin..)?.get(..length))
+            .ok_or(Error::Damaged)
+    }
+}

@@ -1,0 +1,152 @@
+//! A store that threads share.
+
+use crate::areas::Areas;
+use crate::counters::{ByteOffset, PageIndex, Ticket, Version};
+use crate::error::Error;
+use crate::file::FileError;
+use crate::keeper::{Assigned, Keeper, Node, Store};
+use std::path::Path;
+use std::sync::{Arc, PoisonError, RwLock, RwLockReadGuard, RwLockWriteGuard};
+
+/// A store that threads share: the same calls, on `&self`. Clones are handles on the one store.
+///
+/// Readers' calls run beside each other; each writers' call runs alone. The lock is held for one call, never from one
+/// call to the next, so a writer that dies between calls leaves its ticket open and nobody waiting for a lock. Versions
+/// after that writer's own stay unpublished until somebody weaves its nodes: any thread may, with the ticket.
+///
+/// No call can leave the store half changed. A lock that a panic has poisoned is therefore simply taken.
+///
+/// ```
+/// use pit_host::{Limits, Shared, Store};
+/// # fn main() -> Result<(), pit_host::Error> {
+/// let shared = Shared::new(Store::format(Limits { page_size: 16, pages: 4, nodes: 8, updates: 2 })?);
+/// let drone = shared.clone();
+/// let ticket = std::thread::spawn(move || drone.begin(1)).join().unwrap()?;
+/// shared.put(ticket, 0, &[7; 16])?;
+/// # Ok(())
+/// # }
+/// ```
+#[derive(Clone, Debug)]
+pub struct Shared {
+    store: Arc<RwLock<Store>>,
+}
+
+impl Shared {
+    /// A handle on this store.
+    pub fn new(store: Store) -> Shared {
+        Shared {
+            store: Arc::new(RwLock::new(store)),
+        }
+    }
+
+    fn reading(&self) -> RwLockReadGuard<'_, Store> {
+        self.store.read().unwrap_or_else(PoisonError::into_inner)
+    }
+
+    fn writing(&self) -> RwLockWriteGuard<'_, Store> {
+        self.store.write().unwrap_or_else(PoisonError::into_inner)
+    }
+
+    /// [`Keeper::begin`].
+    pub fn begin(&self, n: u64) -> Result<Ticket, Error> {
+        self.writing().begin(n)
+    }
+
+    /// [`Keeper::put`].
+    pub fn put(&self, ticket: Ticket, i: u64, bytes: &[u8]) -> Result<(), Error> {
+        self.writing().put(ticket, i, bytes)
+    }
+
+    /// [`Keeper::write`].
+    pub fn write(&self, ticket: Ticket, first: PageIndex) -> Result<Assigned, Error> {
+        self.writing().write(ticket, first)
+    }
+
+    /// [`Keeper::append`].
+    pub fn append(&self, ticket: Ticket) -> Result<Assigned, Error> {
+        self.writing().append(ticket)
+    }
+
+    /// [`Keeper::weave`].
+    pub fn weave(&self, ticket: Ticket) -> Result<Node, Error> {
+        self.writing().weave(ticket)
+    }
+
+    /// [`Keeper::publish`].
+    pub fn publish(&self) -> Result<Option<Version>, Error> {
+        self.writing().publish()
+    }
+
+    /// [`Keeper::read`].
+    pub fn read(
+        &self,
+        version: Version,
+        offset: ByteOffset,
+        len: u64,
+        buffer: &mut [u8],
+    ) -> Result<(), Error> {
+        self.reading().read(version, offset, len, buffer)
+    }
+
+    /// [`Keeper::size`].
+    pub fn size(&self, version: Version) -> Result<u64, Error> {
+        self.reading().size(version)
+    }
+
+    /// [`Keeper::recent`].
+    pub fn recent(&self) -> Result<Version, Error> {
+        self.reading().recent()
+    }
+
+    /// [`Keeper::stamp`].
+    pub fn stamp(&self, version: Version, page: PageIndex) -> Result<Version, Error> {
+        self.reading().stamp(version, page)
+    }
+
+    /// [`Keeper::view`], for as long as `look` takes: the bytes of a page where they lie, uncopied.
+    ///
+    /// Writers wait while `look` runs, so it should be short; and it must not call this store, since a call that
+    /// waits for a writer that waits for `look` would never end. A panic in `look` harms nobody else.
+    ///
+    /// ```
+    /// # use pit_host::{Limits, PageIndex, Shared, Store, Version};
+    /// # let mut store = Store::format(Limits { page_size: 16, pages: 4, nodes: 8, updates: 2 }).unwrap();
+    /// # let ticket = store.begin(1).unwrap();
+    /// # store.put(ticket, 0, &[7; 16]).unwrap();
+    /// # store.append(ticket).unwrap();
+    /// # store.weave(ticket).unwrap();
+    /// # store.publish().unwrap();
+    /// let shared = Shared::new(store);
+    /// let highest = shared.with_view(Version(1), PageIndex(0), |bytes| bytes.iter().max().copied());
+    /// assert_eq!(highest, Ok(Some(7)));
+    /// ```
+    pub fn with_view<R>(
+        &self,
+        version: Version,
+        page: PageIndex,
+        look: impl FnOnce(&[u8]) -> R,
+    ) -> Result<R, Error> {
+        self.reading().view(version, page).map(look)
+    }
+
+    /// The whole store as it is at this moment, copied.
+    pub fn to_store(&self) -> Store {
+        self.reading().clone()
+    }
+
+    /// Saves the store as it is at this moment. The lock is held while the store is copied in memory, not while the
+    /// file is written: a disk can take seconds, and a writer waiting that long would hold up the readers behind it too.
+    /// It takes the memory of a second store meanwhile.
+    pub fn save(&self, path: impl AsRef<Path>) -> Result<(), FileError> {
+        self.to_store().save(path)
+    }
+
+    /// Takes the store in a file in place of the running one. The file is read and checked first, without the lock; on
+    /// an error the running store goes on as it was. Tickets and versions are then those of the file's store.
+    pub fn reload(&self, path: impl AsRef<Path>) -> Result<(), FileError> {
+        let loaded: Keeper<Areas> = Store::load(path)?;
+        let former = std::mem::replace(&mut *self.writing(), loaded);
+        drop(former); // after the lock
+        Ok(())
+    }
+}
