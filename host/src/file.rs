@@ -1,44 +1,160 @@
-//! A store in a file.
+//! A store in a file: saving it and loading it.
 
-use crate::areas::Lend;
+mod form;
+mod new;
+
+use crate::areas::{Areas, Lend};
 use crate::error::Error;
 use crate::keeper::{Keeper, Store};
+use form::{each_piece, fill, Header, FORM};
+use new::NewFile;
 use std::fmt;
-use std::io;
+use std::fs::File;
+use std::io::{self, BufReader, BufWriter, Write};
 use std::path::Path;
 
-/// Why a store was not saved or loaded.
+/// Why a store was not saved or not loaded.
+///
+/// ```
+/// use pit_host::{FileError, Store};
+/// let refused = Store::load("no/such/file").unwrap_err();
+/// assert!(matches!(refused, FileError::Io(_)));
+/// ```
 #[derive(Debug)]
 pub enum FileError {
-    /// The system refused: opening, reading, writing or renaming.
+    /// The system could not open, read, write or rename.
     Io(io::Error),
-    /// FORMAT does not accept the limits.
+    /// The file does not begin as a store's file does: it is some other file.
+    Foreign,
+    /// The file is a store's, of a form that is not known here.
+    Form(u64),
+    /// FORMAT does not accept the limits; with the reason.
     Limits(Error),
+    /// The areas' lengths are not those of the limits.
+    AreaLengths,
+    /// The file ends before the areas do.
+    Truncated {
+        /// The length in bytes that the header asks for; the header's own, where that is cut off.
+        expected: u64,
+        /// The file's length in bytes.
+        found: u64,
+    },
+    /// The file goes on after the areas.
+    TooLong {
+        /// The length in bytes that the header asks for.
+        expected: u64,
+        /// The file's length in bytes.
+        found: u64,
+    },
+    /// The checksum is not that of the header and the areas: some byte is damaged.
+    Checksum,
+    /// The counters are none that calls on a store of these limits leave.
+    Counters,
 }
 
 impl fmt::Display for FileError {
     fn fmt(&self, f: &mut fmt::Formatter<'_>) -> fmt::Result {
+        use FileError::*;
         match self {
-            FileError::Io(e) => e.fmt(f),
-            FileError::Limits(e) => e.fmt(f),
+            Io(e) => write!(f, "the file could not be opened, read or written: {e}"),
+            Foreign => f.write_str("the file is no store's: it begins otherwise"),
+            Form(form) => write!(f, "the file has form {form}; only form {FORM} is known"),
+            Limits(e) => write!(f, "the store's limits are not allowed: {e}"),
+            AreaLengths => f.write_str("the areas' lengths are not those of the store's limits"),
+            Truncated { expected, found } => {
+                write!(f, "the file is cut off: {found} bytes of {expected}")
+            }
+            TooLong { expected, found } => {
+                write!(
+                    f,
+                    "the file goes on after the store's {expected} bytes: {found} bytes"
+                )
+            }
+            Checksum => f.write_str("the file is damaged: its checksum differs"),
+            Counters => f.write_str("the store's counters are none that its calls leave"),
         }
     }
 }
 
-impl std::error::Error for FileError {}
+impl std::error::Error for FileError {
+    fn source(&self) -> Option<&(dyn std::error::Error + 'static)> {
+        match self {
+            FileError::Io(e) => Some(e),
+            FileError::Limits(e) => Some(e),
+            _ => None,
+        }
+    }
+}
+
+impl From<io::Error> for FileError {
+    fn from(e: io::Error) -> FileError {
+        FileError::Io(e)
+    }
+}
 
 impl<A: Lend> Keeper<A> {
-    /// Saves.
+    /// Saves the store whole, with open tickets and trees half woven.
+    ///
+    /// A new file is written beside the old one, forced to the disk and renamed over it, and the folder is forced to
+    /// the disk. So whatever happens, the old file or the new one stands there whole; after an error the old one,
+    /// unless only the folder could not be forced. A store that [`load`](Store::load) would not give back, which no
+    /// run of calls leaves, is not saved.
+    ///
+    /// The file has numbers of 64 bits, lowest byte first:
+    ///
+    /// | Bytes | What |
+    /// |---|---|
+    /// | 0 to 7 | the letters `PITSTORE` |
+    /// | 8 to 15 | the form, 1 |
+    /// | 16 to 47 | page size; capacities in pages, nodes and updates |
+    /// | 48 to 95 | last ticket given; page numbers taken; last version assigned; node places taken; last version published; size in pages of the last version assigned |
+    /// | 96 to 119 | lengths in bytes of the page area, the node area and the register |
+    /// | 120 to 127 | checksum, CRC-64/XZ, over bytes 0 to 119 and all bytes from 128 on |
+    /// | from 128 | the page area; the node area, its numbers of 32 bits, lowest byte first; the register, ten numbers a record, in the order of [`Record`](crate::Record)'s fields |
+    ///
+    /// ```
+    /// use pit_host::{Limits, Store};
+    /// # fn main() -> Result<(), Box<dyn std::error::Error>> {
+    /// let mut store = Store::format(Limits { page_size: 16, pages: 4, nodes: 8, updates: 2 })?;
+    /// store.begin(1)?;
+    /// let path = std::env::temp_dir().join(format!("pit-save-{}", std::process::id()));
+    /// store.save(&path)?;
+    /// assert!(Store::load(&path)? == store);
+    /// # std::fs::remove_file(&path)?;
+    /// # Ok(())
+    /// # }
+    /// ```
     pub fn save(&self, path: impl AsRef<Path>) -> Result<(), FileError> {
-        let _ = path;
-        todo!()
+        let (path, areas) = (path.as_ref(), self.areas().parts());
+        let header = Header::of(self.state(), areas);
+        header.check_limits()?;
+        header.check_counters()?;
+
+        let new = NewFile::beside(path)?;
+        let mut out = BufWriter::new(&new.file);
+        out.write_all(&header.to_bytes())?;
+        each_piece(areas, |piece| out.write_all(piece))?;
+        out.flush()?;
+        drop(out);
+        Ok(new.replace(path)?)
     }
 }
 
 impl Store {
-    /// Loads.
+    /// Loads a store just as [`save`](Keeper::save) found it. Everything is checked before there is a store, and the
+    /// lengths before memory is taken; [`FileError`] says what can be wrong.
     pub fn load(path: impl AsRef<Path>) -> Result<Store, FileError> {
-        let _ = path;
-        todo!()
+        let file = File::open(path)?;
+        let found = file.metadata()?.len();
+        let mut file = BufReader::new(file);
+        let header = Header::read(&mut file, found)?;
+        header.check_limits()?;
+        header.check_length(found)?;
+
+        let mut areas = Areas::new(&header.limits()).map_err(FileError::Limits)?;
+        fill(&mut areas, &mut file)?;
+        header.check_checksum(areas.parts())?;
+        header.check_counters()?;
+        Ok(Keeper::resume(header.state, areas))
     }
 }

@@ -32,6 +32,7 @@
 #![deny(unsafe_code, missing_docs)]
 
 mod areas;
+mod checksum;
 mod counters;
 mod error;
 #[allow(unsafe_code)]

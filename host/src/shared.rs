@@ -1,10 +1,9 @@
 //! A store that threads share.
 
-use crate::areas::Areas;
 use crate::counters::{ByteOffset, PageIndex, Ticket, Version};
 use crate::error::Error;
 use crate::file::FileError;
-use crate::keeper::{Assigned, Keeper, Node, Store};
+use crate::keeper::{Assigned, Node, Store};
 use std::path::Path;
 use std::sync::{Arc, PoisonError, RwLock, RwLockReadGuard, RwLockWriteGuard};
 
@@ -47,37 +46,37 @@ impl Shared {
         self.store.write().unwrap_or_else(PoisonError::into_inner)
     }
 
-    /// [`Keeper::begin`].
+    /// [`Keeper::begin`](crate::Keeper::begin).
     pub fn begin(&self, n: u64) -> Result<Ticket, Error> {
         self.writing().begin(n)
     }
 
-    /// [`Keeper::put`].
+    /// [`Keeper::put`](crate::Keeper::put).
     pub fn put(&self, ticket: Ticket, i: u64, bytes: &[u8]) -> Result<(), Error> {
         self.writing().put(ticket, i, bytes)
     }
 
-    /// [`Keeper::write`].
+    /// [`Keeper::write`](crate::Keeper::write).
     pub fn write(&self, ticket: Ticket, first: PageIndex) -> Result<Assigned, Error> {
         self.writing().write(ticket, first)
     }
 
-    /// [`Keeper::append`].
+    /// [`Keeper::append`](crate::Keeper::append).
     pub fn append(&self, ticket: Ticket) -> Result<Assigned, Error> {
         self.writing().append(ticket)
     }
 
-    /// [`Keeper::weave`].
+    /// [`Keeper::weave`](crate::Keeper::weave).
     pub fn weave(&self, ticket: Ticket) -> Result<Node, Error> {
         self.writing().weave(ticket)
     }
 
-    /// [`Keeper::publish`].
+    /// [`Keeper::publish`](crate::Keeper::publish).
     pub fn publish(&self) -> Result<Option<Version>, Error> {
         self.writing().publish()
     }
 
-    /// [`Keeper::read`].
+    /// [`Keeper::read`](crate::Keeper::read).
     pub fn read(
         &self,
         version: Version,
@@ -88,22 +87,22 @@ impl Shared {
         self.reading().read(version, offset, len, buffer)
     }
 
-    /// [`Keeper::size`].
+    /// [`Keeper::size`](crate::Keeper::size).
     pub fn size(&self, version: Version) -> Result<u64, Error> {
         self.reading().size(version)
     }
 
-    /// [`Keeper::recent`].
+    /// [`Keeper::recent`](crate::Keeper::recent).
     pub fn recent(&self) -> Result<Version, Error> {
         self.reading().recent()
     }
 
-    /// [`Keeper::stamp`].
+    /// [`Keeper::stamp`](crate::Keeper::stamp).
     pub fn stamp(&self, version: Version, page: PageIndex) -> Result<Version, Error> {
         self.reading().stamp(version, page)
     }
 
-    /// [`Keeper::view`], for as long as `look` takes: the bytes of a page where they lie, uncopied.
+    /// [`Keeper::view`](crate::Keeper::view), for as long as `look` takes: the bytes of a page where they lie, uncopied.
     ///
     /// Writers wait while `look` runs, so it should be short; and it must not call this store, since a call that
     /// waits for a writer that waits for `look` would never end. A panic in `look` harms nobody else.
@@ -144,7 +143,7 @@ impl Shared {
     /// Takes the store in a file in place of the running one. The file is read and checked first, without the lock; on
     /// an error the running store goes on as it was. Tickets and versions are then those of the file's store.
     pub fn reload(&self, path: impl AsRef<Path>) -> Result<(), FileError> {
-        let loaded: Keeper<Areas> = Store::load(path)?;
+        let loaded = Store::load(path)?;
         let former = std::mem::replace(&mut *self.writing(), loaded);
         drop(former); // after the lock
         Ok(())
