@@ -131,7 +131,7 @@ impl<A: Lend> Keeper<A> {
         Ok(Keeper::resume(reply.state, areas))
     }
 
-    /// BEGIN: the next ticket, for an update of `n` pages. Refused: 3, 4, 5, 6, 19.
+    /// BEGIN: the next ticket, for an update of `n` pages. Refused: 3, 4, 5, 6.
     pub fn begin(&mut self, n: u64) -> Result<Ticket, Error> {
         let reply = ffi::begin(self.state, self.areas.lend(), n);
         Error::check(reply.refusal)?;

@@ -1,0 +1,300 @@
+//! The calls over owned and lent areas: the same answers, states and areas, also across a handing over of the parts.
+
+mod updates;
+
+use pit_host::{
+    Areas, Assigned, ByteOffset, Error, Keeper, Lend, Lent, LentAreas, Limits, Node, PageIndex,
+    Parts, Planned, Record, Store, Ticket, Version,
+};
+use updates::{assign, fills, limits, of_three_versions, put_all, update};
+
+/// A 64-bit xorshift generator.
+struct Random(u64);
+
+impl Random {
+    fn below(&mut self, end: u64) -> u64 {
+        self.0 ^= self.0 << 13;
+        self.0 ^= self.0 >> 7;
+        self.0 ^= self.0 << 17;
+        self.0 % end
+    }
+}
+
+/// What a call answered, with the buffer of a READ as it left it.
+#[derive(Debug, PartialEq)]
+enum Answer {
+    Ticket(Result<Ticket, Error>),
+    Put(Result<(), Error>),
+    Assigned(Result<Assigned, Error>),
+    Node(Result<Node, Error>),
+    Published(Result<Option<Version>, Error>),
+    Read(Result<(), Error>, Vec<u8>),
+    Size(Result<u64, Error>),
+    Version(Result<Version, Error>),
+    View(Result<Vec<u8>, Error>),
+}
+
+/// One call, chosen and filled in by the numbers.
+fn call<A: Lend>(store: &mut Keeper<A>, kind: u64, numbers: [u64; 3], fill: u8) -> Answer {
+    let [a, b, c] = numbers;
+    let (ticket, version) = (Ticket(a), Version(a));
+    match kind {
+        0 => Answer::Ticket(store.begin(b)),
+        1 | 2 => Answer::Put(store.put(ticket, b, &[fill; 16])),
+        3 => Answer::Assigned(store.append(ticket)),
+        4 => Answer::Assigned(store.write(ticket, PageIndex(b))),
+        5..=8 => Answer::Node(store.weave(ticket)),
+        9 => Answer::Published(store.publish()),
+        10 => {
+            let mut buffer = vec![fill; 40];
+            let done = store.read(version, ByteOffset(8 * b), 8 * c, &mut buffer);
+            Answer::Read(done, buffer)
+        }
+        11 => Answer::Size(store.size(version)),
+        12 => Answer::Version(store.recent()),
+        13 => Answer::Version(store.stamp(version, PageIndex(b))),
+        _ => Answer::View(store.view(version, PageIndex(b)).map(<[u8]>::to_vec)),
+    }
+}
+
+#[test]
+fn owned_and_lent_stores_do_the_same() {
+    let (mut published, mut random) = (0, Random(20_260_401));
+    for _ in 0..40 {
+        let mut owned = Store::format(limits(24, 60, 10)).unwrap();
+        // what stands in lent areas before FORMAT makes no difference
+        let (mut pages, mut nodes, mut register) = (
+            [7; 16 * 24],
+            [8; 120],
+            [Record {
+                n: 9,
+                ..Record::default()
+            }; 10],
+        );
+        let areas = LentAreas {
+            pages: &mut pages,
+            nodes: &mut nodes,
+            register: &mut register,
+        };
+        let mut lent = Lent::format(limits(24, 60, 10), areas).unwrap();
+        for step in 0..600 {
+            let kind = random.below(15);
+            let numbers = [1 + random.below(8), random.below(3), random.below(6)];
+            let answer = call(&mut owned, kind, numbers, step as u8);
+            assert_eq!(answer, call(&mut lent, kind, numbers, step as u8));
+            assert_eq!(owned.state(), lent.state());
+        }
+        assert!(owned.areas().parts() == lent.areas().parts());
+        published += owned.recent().unwrap().0;
+    }
+    assert!(published > 100, "{published} versions published");
+}
+
+#[test]
+fn a_store_goes_on_in_the_parts_it_gave() {
+    let mut store = of_three_versions();
+    let (ticket, assigned) = assign(&mut store, Some(0), &[8, 9]).unwrap();
+    let mut other = store.clone();
+    for _ in 0..assigned.nodes {
+        let (state, areas) = store.into_parts();
+        store = Keeper::resume(state, areas);
+        assert_eq!(store.weave(ticket), other.weave(ticket));
+    }
+    assert_eq!(store.publish(), Ok(Some(Version(4))));
+    assert_eq!(fills(&store, Version(4)), Ok(vec![8, 9, 6, 4, 7]));
+}
+
+#[test]
+fn areas_of_the_hosts_own_kind() {
+    /// Areas in vectors, such as a host may have.
+    struct Vectors(Vec<u8>, Vec<u32>, Vec<Record>);
+    impl Lend for Vectors {
+        fn parts(&self) -> Parts<'_> {
+            Parts {
+                pages: &self.0,
+                nodes: &self.1,
+                register: &self.2,
+            }
+        }
+        fn lend(&mut self) -> LentAreas<'_> {
+            LentAreas {
+                pages: &mut self.0,
+                nodes: &mut self.1,
+                register: &mut self.2,
+            }
+        }
+    }
+    let vectors = Vectors(vec![1; 64], vec![1; 16], vec![Record::default(); 2]);
+    let mut store = Keeper::format_in(limits(4, 8, 2), vectors).unwrap();
+    assert_eq!(update(&mut store, None, &[5, 6]), Ok(Version(1)));
+    assert_eq!(fills(&store, Version(1)), Ok(vec![5, 6]));
+}
+
+#[test]
+fn a_published_version_never_changes() {
+    let mut store = of_three_versions();
+    let before: Vec<_> = (0..=3)
+        .map(|v| fills(&store, Version(v)).unwrap())
+        .collect();
+    assert_eq!(
+        before,
+        [&[][..], &[1, 2, 3, 4], &[1, 5, 6, 4], &[1, 5, 6, 4, 7]]
+    );
+    for fill in 20..24 {
+        update(&mut store, Some(u64::from(fill) - 20), &[fill]).unwrap();
+        let after: Vec<_> = (0..=3)
+            .map(|v| fills(&store, Version(v)).unwrap())
+            .collect();
+        assert_eq!(before, after);
+    }
+}
+
+#[test]
+fn a_view_is_a_part_of_the_page_area() {
+    let store = of_three_versions();
+    let view = store.view(Version(3), PageIndex(2)).unwrap();
+    let area = store.areas().pages().as_ptr_range();
+    assert!(area.contains(&view.as_ptr()) && view.len() == 16);
+    assert_eq!(view, [6; 16]);
+}
+
+#[test]
+fn stamps_say_which_pages_to_fetch_again() {
+    let store = of_three_versions();
+    let stamps = |v| [0, 1, 2, 3].map(|page| store.stamp(Version(v), PageIndex(page)));
+    assert_eq!(stamps(1), [1, 1, 1, 1].map(|v| Ok(Version(v))));
+    assert_eq!(stamps(3), [1, 2, 2, 1].map(|v| Ok(Version(v))));
+}
+
+#[test]
+fn versions_are_published_in_their_order() {
+    let mut store = Store::format(limits(8, 16, 4)).unwrap();
+    let (first, one) = assign(&mut store, None, &[1]).unwrap();
+    let (second, two) = assign(&mut store, None, &[2]).unwrap();
+    for _ in 0..two.nodes {
+        store.weave(second).unwrap();
+    }
+    assert_eq!(store.publish(), Ok(None));
+    let node = store.weave(first).unwrap();
+    assert_eq!(
+        (node.version, node.first, node.span, node.rest),
+        (one.version, PageIndex(0), 1, 0)
+    );
+    assert_eq!(store.publish(), Ok(Some(Version(1))));
+    assert_eq!(store.publish(), Ok(Some(Version(2))));
+    assert_eq!(store.publish(), Ok(None));
+}
+
+// Sizing.
+
+fn planned(f: u64, n: u64, size: u64) -> Planned {
+    Planned {
+        first: PageIndex(f),
+        pages: n,
+        size_after: size,
+    }
+}
+
+#[test]
+fn limits_for_planned_updates_are_just_enough() {
+    let plan = [planned(0, 4, 4), planned(1, 2, 4), planned(4, 1, 5)];
+    let exact = Limits::for_updates(16, &plan).unwrap();
+    assert_eq!(exact, limits(7, 16, 3));
+    let run = |limits| {
+        let mut store = Store::format(limits)?;
+        for update_of in plan {
+            let fills = vec![1; update_of.pages as usize];
+            update(&mut store, Some(update_of.first.0), &fills)?;
+        }
+        Ok(())
+    };
+    assert_eq!(run(exact), Ok(()));
+    assert_eq!(run(Limits { pages: 6, ..exact }), Err(Error::PagesFull));
+    assert_eq!(run(Limits { nodes: 15, ..exact }), Err(Error::NodesFull));
+    assert_eq!(
+        run(Limits {
+            updates: 2,
+            ..exact
+        }),
+        Err(Error::RegisterFull)
+    );
+}
+
+#[test]
+fn no_limits_for_what_cannot_be() {
+    let one = planned(0, 1, 1);
+    for wrong in [
+        planned(0, 0, 1),
+        planned(0, 65, 65),
+        planned(1, 1, 1),
+        planned(0, 1, 4_097),
+    ] {
+        assert_eq!(Limits::for_updates(16, &[one, wrong]), None, "{wrong:?}");
+    }
+    assert_eq!(Limits::for_updates(24, &[one]), None);
+    assert_eq!(Limits::for_updates(16, &[]), None);
+    assert!(Limits::for_updates(16, &[one; 4_096]).is_some());
+    assert_eq!(Limits::for_updates(16, &[one; 4_097]), None);
+    for (blob, updates, pages) in [(0, 1, 1), (4_097, 1, 1), (8, 1, 9), (8, 0, 1), (8, 1, 0)] {
+        assert_eq!(
+            Limits::worst(16, blob, updates, pages),
+            None,
+            "{blob}, {updates}, {pages}"
+        );
+    }
+    assert_eq!(Limits::worst(16, u64::MAX, u64::MAX, u64::MAX), None);
+    assert_eq!(Limits::worst(16, 8, u64::MAX, 2), None);
+    assert_eq!(Limits::worst(24, 8, 1, 1), None);
+}
+
+/// No update of up to n pages in a blob of up to `blob` pages makes more nodes than `worst` has room for.
+#[test]
+fn worst_limits_hold_every_update() {
+    for blob in (1..=40).chain([63, 64, 65, 130]) {
+        for n in 1..=blob.min(64) {
+            let room = Limits::worst(16, blob, 1, n).unwrap().nodes;
+            let most = (1..=blob)
+                .flat_map(|size| (0..size).map(move |f| (f, size)))
+                .map(|(f, size)| pit_host::node_count(f, n.min(size - f), size))
+                .max();
+            assert_eq!(Some(room), most, "{n} pages in {blob}");
+        }
+    }
+}
+
+#[test]
+fn areas_have_the_lengths_of_the_limits() {
+    let areas = Areas::new(&limits(3, 5, 7)).unwrap();
+    let parts = areas.parts();
+    assert_eq!(
+        (parts.pages.len(), parts.nodes.len(), parts.register.len()),
+        (48, 10, 7)
+    );
+    assert_eq!(
+        format!("{areas:?}"),
+        "Areas { pages: 48, nodes: 10, register: 7 }"
+    );
+    let store = Store::format(limits(3, 5, 7)).unwrap();
+    assert_eq!(store.limits(), limits(3, 5, 7));
+    assert!(store
+        .areas()
+        .nodes()
+        .iter()
+        .all(|number| *number == u32::MAX));
+}
+
+#[test]
+fn pages_are_put_in_any_order() {
+    let mut store = Store::format(limits(4, 8, 2)).unwrap();
+    let ticket = store.begin(3).unwrap();
+    for i in [2, 0, 1] {
+        store.put(ticket, i, &[i as u8; 16]).unwrap();
+    }
+    let assigned = store.append(ticket).unwrap();
+    for _ in 0..assigned.nodes {
+        store.weave(ticket).unwrap();
+    }
+    store.publish().unwrap();
+    assert_eq!(fills(&store, Version(1)), Ok(vec![0, 1, 2]));
+    assert_eq!(put_all(&mut store, &[9, 9]), Err(Error::PagesFull));
+}

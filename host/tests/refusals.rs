@@ -1,0 +1,322 @@
+//! Every row of the table of refusals, met through the library; and that a refused call changes nothing.
+
+mod updates;
+
+use pit_host::{
+    Areas, ByteOffset, Error, Keeper, Lend, Lent, LentAreas, Limits, PageIndex, Record, State,
+    Store, Ticket, Version,
+};
+use updates::{assign, limits, of_three_versions, put_all, update};
+
+/// A call on a store, its answer dropped.
+type Call = fn(&mut Store) -> Result<(), Error>;
+
+/// The call is refused with the number, and the store is as it was.
+#[track_caller]
+fn refused(store: &mut Store, number: u64, call: impl FnOnce(&mut Store) -> Result<(), Error>) {
+    let before = store.clone();
+    let error = call(store).expect_err("a refusal");
+    assert_eq!(error.number(), number, "{error}");
+    assert!(*store == before, "changed by a refused call: {error}");
+}
+
+/// Every call but FORMAT, with arguments that the store of three versions accepts.
+const CALLS: [(&str, Call); 10] = [
+    ("begin", |s| s.begin(1).map(drop)),
+    ("put", |s| s.put(Ticket(4), 0, &[9; 16])),
+    ("write", |s| s.write(Ticket(5), PageIndex(0)).map(drop)),
+    ("append", |s| s.append(Ticket(5)).map(drop)),
+    ("weave", |s| s.weave(Ticket(6)).map(drop)),
+    ("publish", |s| s.publish().map(drop)),
+    ("read", |s| {
+        s.read(Version(3), ByteOffset(8), 64, &mut [0; 64])
+    }),
+    ("size", |s| s.size(Version(3)).map(drop)),
+    ("stamp", |s| s.stamp(Version(3), PageIndex(2)).map(drop)),
+    ("view", |s| s.view(Version(3), PageIndex(2)).map(drop)),
+];
+
+/// Three versions published; ticket 4 open, ticket 5 put, ticket 6 assigned as version 4.
+fn at_all_stages() -> Store {
+    let mut store = of_three_versions();
+    assert_eq!(store.begin(1), Ok(Ticket(4)));
+    assert_eq!(put_all(&mut store, &[8]), Ok(Ticket(5)));
+    let (ticket, assigned) = assign(&mut store, Some(2), &[9, 10]).expect("room");
+    assert_eq!((ticket, assigned.version), (Ticket(6), Version(4)));
+    store
+}
+
+#[test]
+fn the_calls_are_accepted_where_nothing_is_wrong() {
+    for (name, call) in CALLS {
+        assert_eq!(call(&mut at_all_stages()), Ok(()), "{name}");
+    }
+    assert_eq!(at_all_stages().recent(), Ok(Version(3)));
+}
+
+#[test]
+fn numbers_and_words() {
+    for (number, error) in (1..).zip(Error::ALL) {
+        assert_eq!(error.number(), number);
+        assert_eq!(Error::from_number(number), Some(error));
+        assert!(error.to_string().len() > 20, "{error:?}");
+    }
+    assert_eq!(Error::ALL.len(), 19);
+    for number in [0, 20, u64::MAX] {
+        assert_eq!(Error::from_number(number), None);
+    }
+    let words: std::collections::HashSet<_> = Error::ALL.map(|e| e.to_string()).into();
+    assert_eq!(words.len(), 19);
+}
+
+#[test]
+fn rows_1_and_2_of_limits() {
+    for page_size in [0, 1, 8, 15, 17, 24, 4_095, 8_192, 1 << 32, u64::MAX] {
+        let refused = Store::format(Limits {
+            page_size,
+            ..limits(1, 1, 1)
+        });
+        assert_eq!(refused.unwrap_err(), Error::PageSize, "{page_size}");
+    }
+    let ends = [
+        (0, 1, 1),
+        (65_536, 1, 1),
+        (1, 0, 1),
+        (1, 131_073, 1),
+        (1, 1, 0),
+        (1, 1, 4_097),
+    ];
+    for (pages, nodes, updates) in ends.into_iter().chain([(u64::MAX, u64::MAX, u64::MAX)]) {
+        let refused = Store::format(limits(pages, nodes, updates));
+        assert_eq!(
+            refused.unwrap_err(),
+            Error::Capacity,
+            "{pages}, {nodes}, {updates}"
+        );
+        assert_eq!(
+            Areas::new(&limits(pages, nodes, updates)),
+            Err(Error::Capacity)
+        );
+    }
+    assert_eq!((Error::PageSize.number(), Error::Capacity.number()), (1, 2));
+}
+
+#[test]
+fn row_3_in_format_leaves_the_areas() {
+    for (bytes, numbers, records) in [
+        (63, 16, 2),
+        (65, 16, 2),
+        (64, 15, 2),
+        (64, 16, 3),
+        (0, 0, 0),
+    ] {
+        let (mut pages, mut nodes) = (vec![5; bytes], vec![6; numbers]);
+        let mut register = vec![
+            Record {
+                n: 7,
+                ..Record::default()
+            };
+            records
+        ];
+        let kept = (pages.clone(), nodes.clone(), register.clone());
+        let areas = LentAreas {
+            pages: &mut pages,
+            nodes: &mut nodes,
+            register: &mut register,
+        };
+        let refused = Lent::format(limits(4, 8, 2), areas).unwrap_err();
+        assert_eq!((refused, refused.number()), (Error::AreaLength, 3));
+        assert!(
+            (pages, nodes, register) == kept,
+            "changed by a refused FORMAT"
+        );
+    }
+}
+
+#[test]
+fn row_3_in_every_call() {
+    let wrong: [fn(&mut State); 5] = [
+        |s| s.size = 32,
+        |s| s.pages += 1,
+        |s| s.nodes -= 1,
+        |s| s.updates += 1,
+        |s| {
+            *s = State {
+                pages: u64::MAX,
+                ..*s
+            }
+        },
+    ];
+    for spoil in wrong {
+        let (mut state, areas) = at_all_stages().into_parts();
+        spoil(&mut state);
+        let mut store = Keeper::resume(state, areas);
+        for (_, call) in CALLS {
+            refused(&mut store, 3, call);
+        }
+        assert_eq!(store.recent(), Err(Error::AreaLength));
+    }
+}
+
+#[test]
+fn rows_4_to_6_of_begin() {
+    let mut store = Store::format(limits(66, 8, 3)).unwrap();
+    for n in [0, 65, u64::MAX] {
+        refused(&mut store, 4, |s| s.begin(n).map(drop));
+    }
+    store.begin(64).unwrap();
+    refused(&mut store, 6, |s| s.begin(3).map(drop));
+    store.begin(1).unwrap();
+    store.begin(1).unwrap();
+    refused(&mut store, 5, |s| s.begin(1).map(drop));
+}
+
+#[test]
+fn rows_7_and_8_of_tickets() {
+    let mut store = at_all_stages();
+    for ticket in [0, 7, u64::MAX].map(Ticket) {
+        refused(&mut store, 7, |s| s.put(ticket, 0, &[0; 16]));
+        refused(&mut store, 7, |s| s.write(ticket, PageIndex(0)).map(drop));
+        refused(&mut store, 7, |s| s.append(ticket).map(drop));
+        refused(&mut store, 7, |s| s.weave(ticket).map(drop));
+    }
+    // ticket 6 has its version; ticket 5 has none yet; ticket 1 has no node left
+    refused(&mut store, 8, |s| s.put(Ticket(6), 0, &[0; 16]));
+    refused(&mut store, 8, |s| {
+        s.write(Ticket(6), PageIndex(0)).map(drop)
+    });
+    refused(&mut store, 8, |s| s.append(Ticket(6)).map(drop));
+    refused(&mut store, 8, |s| s.weave(Ticket(5)).map(drop));
+    refused(&mut store, 8, |s| s.weave(Ticket(1)).map(drop));
+}
+
+#[test]
+fn rows_9_to_11_of_put() {
+    let mut store = Store::format(limits(4, 8, 2)).unwrap();
+    let ticket = store.begin(2).unwrap();
+    for i in [2, 64, u64::MAX] {
+        refused(&mut store, 9, |s| s.put(ticket, i, &[0; 16]));
+    }
+    store.put(ticket, 1, &[1; 16]).unwrap();
+    refused(&mut store, 10, |s| s.put(ticket, 1, &[2; 16]));
+    for length in [0, 15, 17, 4_096] {
+        refused(&mut store, 11, |s| s.put(ticket, 0, &vec![3; length]));
+    }
+}
+
+#[test]
+fn rows_12_and_13_of_assign() {
+    let mut store = at_all_stages();
+    refused(&mut store, 12, |s| {
+        s.write(Ticket(4), PageIndex(0)).map(drop)
+    });
+    refused(&mut store, 12, |s| s.append(Ticket(4)).map(drop));
+    for first in [6, u64::MAX] {
+        refused(&mut store, 13, |s| {
+            s.write(Ticket(5), PageIndex(first)).map(drop)
+        });
+    }
+    assert_eq!(
+        store.write(Ticket(5), PageIndex(5)).map(|a| a.version),
+        Ok(Version(5))
+    );
+}
+
+#[test]
+fn rows_14_and_15_of_assign() {
+    let mut store = Store::format(limits(4_200, 10_000, 70)).unwrap();
+    for _ in 0..64 {
+        assign(&mut store, None, &[1; 64]).unwrap();
+    }
+    let ticket = put_all(&mut store, &[2, 3]).unwrap();
+    refused(&mut store, 14, |s| s.append(ticket).map(drop));
+    refused(&mut store, 14, |s| {
+        s.write(ticket, PageIndex(4_095)).map(drop)
+    });
+    assert!(store.write(ticket, PageIndex(4_094)).is_ok());
+
+    let mut store = Store::format(limits(4, 2, 2)).unwrap();
+    update(&mut store, None, &[1]).unwrap();
+    let ticket = put_all(&mut store, &[2]).unwrap();
+    refused(&mut store, 15, |s| s.append(ticket).map(drop));
+    assert!(store.write(ticket, PageIndex(0)).is_ok());
+}
+
+#[test]
+fn rows_16_and_17_of_readers() {
+    let mut store = at_all_stages();
+    for version in [4, 5, u64::MAX].map(Version) {
+        refused(&mut store, 16, |s| s.size(version).map(drop));
+        refused(&mut store, 16, |s| s.stamp(version, PageIndex(0)).map(drop));
+        refused(&mut store, 16, |s| s.view(version, PageIndex(0)).map(drop));
+        refused(&mut store, 16, |s| {
+            s.read(version, ByteOffset(0), 0, &mut [])
+        });
+    }
+    for page in [5, u64::MAX].map(PageIndex) {
+        refused(&mut store, 17, |s| s.stamp(Version(3), page).map(drop));
+        refused(&mut store, 17, |s| s.view(Version(3), page).map(drop));
+    }
+    for (offset, len) in [(0, 81), (80, 1), (81, 0), (1, u64::MAX), (u64::MAX, 1)] {
+        refused(&mut store, 17, |s| {
+            s.read(Version(3), ByteOffset(offset), len, &mut [0; 96])
+        });
+    }
+    refused(&mut store, 17, |s| {
+        s.view(Version(0), PageIndex(0)).map(drop)
+    });
+    assert_eq!(store.read(Version(0), ByteOffset(0), 0, &mut []), Ok(()));
+    assert_eq!(store.read(Version(3), ByteOffset(80), 0, &mut []), Ok(()));
+}
+
+#[test]
+fn row_18_leaves_the_buffer() {
+    let mut store = of_three_versions();
+    let mut buffer = [9; 15];
+    refused(&mut store, 18, |s| {
+        s.read(Version(3), ByteOffset(0), 16, &mut buffer)
+    });
+    assert_eq!(buffer, [9; 15]);
+    store
+        .read(Version(3), ByteOffset(0), 14, &mut buffer)
+        .unwrap();
+    assert_eq!(buffer, [1, 1, 1, 1, 1, 1, 1, 1, 1, 1, 1, 1, 1, 1, 9]);
+}
+
+/// The store of all stages, its state and areas spoilt.
+fn spoilt(spoil: impl FnOnce(&mut State, LentAreas<'_>)) -> Store {
+    let (mut state, mut areas) = at_all_stages().into_parts();
+    spoil(&mut state, areas.lend());
+    Keeper::resume(state, areas)
+}
+
+#[test]
+fn row_19_of_nodes_not_stored() {
+    let mut store = spoilt(|_, areas| areas.nodes.fill(u32::MAX));
+    refused(&mut store, 19, |s| {
+        s.stamp(Version(3), PageIndex(2)).map(drop)
+    });
+    refused(&mut store, 19, |s| {
+        s.view(Version(3), PageIndex(2)).map(drop)
+    });
+    let mut buffer = [9; 80];
+    refused(&mut store, 19, |s| {
+        s.read(Version(3), ByteOffset(0), 80, &mut buffer)
+    });
+    assert_eq!(buffer, [9; 80]);
+}
+
+#[test]
+fn row_19_of_page_numbers_places_and_records_past_their_areas() {
+    let mut store = spoilt(|_, areas| areas.register[3].number = 16);
+    refused(&mut store, 19, |s| s.put(Ticket(4), 0, &[9; 16]));
+    let mut store = spoilt(|_, areas| areas.register[3].place = 64);
+    refused(&mut store, 19, |s| s.weave(Ticket(6)).map(drop));
+    let mut store = spoilt(|state, _| state.tickets = u64::MAX);
+    refused(&mut store, 19, |s| s.put(Ticket(9), 0, &[9; 16]));
+    refused(&mut store, 19, |s| s.append(Ticket(9)).map(drop));
+    refused(&mut store, 19, |s| s.weave(Ticket(9)).map(drop));
+    let mut store = spoilt(|state, _| (state.assigned, state.published) = (10, 9));
+    refused(&mut store, 19, |s| s.publish().map(drop));
+    refused(&mut store, 19, |s| s.size(Version(9)).map(drop));
+}

@@ -1,0 +1,73 @@
+//! Whole updates in one step, for the tests of the library.
+#![allow(dead_code)] // each test program uses some of it
+
+use pit_host::{Assigned, Error, Keeper, Lend, Limits, PageIndex, Store, Ticket, Version};
+
+/// Small limits: pages of 16 bytes.
+pub fn limits(pages: u64, nodes: u64, updates: u64) -> Limits {
+    Limits {
+        page_size: 16,
+        pages,
+        nodes,
+        updates,
+    }
+}
+
+/// A ticket whose pages are all put, each filled with its byte.
+pub fn put_all<A: Lend>(store: &mut Keeper<A>, fills: &[u8]) -> Result<Ticket, Error> {
+    let ticket = store.begin(fills.len() as u64)?;
+    let page_size = store.state().size as usize;
+    for (i, fill) in (0..).zip(fills) {
+        store.put(ticket, i, &vec![*fill; page_size])?;
+    }
+    Ok(ticket)
+}
+
+/// A write at page `at`, or an append where there is none, with every page put.
+pub fn assign<A: Lend>(
+    store: &mut Keeper<A>,
+    at: Option<u64>,
+    fills: &[u8],
+) -> Result<(Ticket, Assigned), Error> {
+    let ticket = put_all(store, fills)?;
+    let assigned = match at {
+        Some(first) => store.write(ticket, PageIndex(first))?,
+        None => store.append(ticket)?,
+    };
+    Ok((ticket, assigned))
+}
+
+/// An update from BEGIN to PUBLISH.
+pub fn update<A: Lend>(
+    store: &mut Keeper<A>,
+    at: Option<u64>,
+    fills: &[u8],
+) -> Result<Version, Error> {
+    let (ticket, assigned) = assign(store, at, fills)?;
+    for _ in 0..assigned.nodes {
+        store.weave(ticket)?;
+    }
+    assert_eq!(store.publish()?, Some(assigned.version));
+    Ok(assigned.version)
+}
+
+/// The first byte of each page of a version.
+pub fn fills<A: Lend>(store: &Keeper<A>, version: Version) -> Result<Vec<u8>, Error> {
+    let pages = store.size(version)? / store.state().size;
+    (0..pages)
+        .map(|page| Ok(store.view(version, PageIndex(page))?[0]))
+        .collect()
+}
+
+/// A store with three versions: pages 0 to 3, then 1 and 2, then an append of one.
+pub fn of_three_versions() -> Store {
+    let mut store = Store::format(limits(16, 64, 8)).expect("limits in range");
+    for (at, pages) in [
+        (None, &[1u8, 2, 3, 4][..]),
+        (Some(1), &[5, 6]),
+        (None, &[7]),
+    ] {
+        update(&mut store, at, pages).expect("room for all");
+    }
+    store
+}
