@@ -149,3 +149,28 @@ impl Shared {
         Ok(())
     }
 }
+
+#[cfg(test)]
+mod tests {
+    use super::*;
+    use crate::areas::Limits;
+
+    #[test]
+    fn a_poisoned_lock_is_taken() {
+        let limits = Limits {
+            page_size: 16,
+            pages: 4,
+            nodes: 8,
+            updates: 2,
+        };
+        let shared = Shared::new(Store::format(limits).expect("limits in range"));
+        let other = shared.clone();
+        let died = std::thread::spawn(move || {
+            let _alone = other.writing();
+            panic!("with the lock held");
+        });
+        assert!(died.join().is_err() && shared.store.is_poisoned());
+        assert_eq!(shared.begin(1), Ok(Ticket(1)));
+        assert_eq!(shared.recent(), Ok(Version(0)));
+    }
+}
