@@ -1,0 +1,41 @@
+//! A store in a file: everything comes back, every damage is found, and the file is whole at every moment.
+
+mod comes_back;
+mod damage;
+mod scene;
+#[path = "../updates/mod.rs"]
+mod updates;
+mod whole;
+
+use pit_host::{Error, FileError};
+
+#[test]
+fn words_and_causes() {
+    use std::error::Error as _;
+    let errors = [
+        FileError::Io(std::io::Error::other("no disk")),
+        FileError::Foreign,
+        FileError::Form(7),
+        FileError::Limits(Error::PageSize),
+        FileError::AreaLengths,
+        FileError::Truncated {
+            expected: 128,
+            found: 3,
+        },
+        FileError::TooLong {
+            expected: 128,
+            found: 300,
+        },
+        FileError::Checksum,
+        FileError::Counters,
+    ];
+    let words = errors.each_ref().map(|e| e.to_string());
+    assert!(words.iter().all(|w| w.len() > 20));
+    assert!(
+        words[0].ends_with("no disk")
+            && words[2].contains("form 7")
+            && words[5].contains("3 bytes of 128")
+    );
+    let with_cause = errors.iter().filter(|e| e.source().is_some()).count();
+    assert_eq!(with_cause, 2);
+}

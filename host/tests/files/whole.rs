@@ -1,0 +1,155 @@
+//! The old file or the new one stands there whole, whatever happens while a store is saved.
+
+use crate::scene::{in_work, saved, Folder};
+use crate::updates::{fills, limits, of_three_versions};
+use pit_host::{Error, FileError, Keeper, PageIndex, State, Store, Ticket, Version};
+use std::fs;
+use std::path::Path;
+use std::process::{Command, Stdio};
+use std::thread;
+use std::time::{Duration, Instant};
+
+#[test]
+fn what_would_not_load_is_not_saved() {
+    let folder = Folder::new("unsaved");
+    let kept = saved(&folder, &in_work());
+    let save = |spoil: fn(&mut State)| {
+        let (mut state, areas) = in_work().into_parts();
+        spoil(&mut state);
+        Keeper::resume(state, areas)
+            .save(folder.file())
+            .unwrap_err()
+    };
+    assert!(matches!(
+        save(|s| s.size = 24),
+        FileError::Limits(Error::PageSize)
+    ));
+    assert!(matches!(
+        save(|s| s.updates = 4_097),
+        FileError::Limits(Error::Capacity)
+    ));
+    assert!(matches!(save(|s| s.pages = 7), FileError::AreaLengths));
+    assert!(matches!(save(|s| s.published = 4), FileError::Counters));
+    assert_eq!(fs::read(folder.file()).unwrap(), kept);
+    assert_eq!(folder.names(), ["store"]);
+}
+
+#[test]
+fn a_save_that_fails_leaves_nothing_behind() {
+    let folder = Folder::new("fails");
+    fs::create_dir_all(folder.file().join("full")).unwrap();
+    let store = in_work();
+    assert!(matches!(store.save(folder.file()), Err(FileError::Io(_)))); // a folder stands there
+    assert!(matches!(
+        store.save(folder.0.join("none/store")),
+        Err(FileError::Io(_))
+    ));
+    assert!(matches!(store.save("/"), Err(FileError::Io(_))));
+    assert!(matches!(store.save(""), Err(FileError::Io(_))));
+    assert_eq!(folder.names(), ["store"]);
+}
+
+#[test]
+fn what_a_dead_process_left_is_not_touched() {
+    let folder = Folder::new("left");
+    let left: Vec<_> = (0..300)
+        .map(|i| {
+            folder
+                .0
+                .join(format!(".pit-{}-{i}.new", std::process::id()))
+        })
+        .collect();
+    left.iter()
+        .for_each(|path| fs::write(path, "left").unwrap());
+    in_work().save(folder.file()).unwrap();
+    assert!(Store::load(folder.file()).unwrap() == in_work());
+    assert!(left.iter().all(|path| fs::read(path).unwrap() == b"left"));
+    assert_eq!(folder.names().len(), 301);
+}
+
+#[test]
+fn saves_at_once_to_one_file_leave_one_of_them() {
+    let folder = Folder::new("at-once");
+    let stores = [
+        in_work(),
+        of_three_versions(),
+        Store::format(limits(1, 1, 1)).unwrap(),
+    ];
+    let file = folder.file();
+    thread::scope(|threads| {
+        for store in &stores {
+            threads.spawn(|| (0..20).for_each(|_| store.save(&file).unwrap()));
+        }
+    });
+    let last = Store::load(&file).unwrap();
+    assert!(stores.contains(&last));
+    assert_eq!(folder.names(), ["store"]);
+}
+
+// A process that dies. Its part is the test `as_a_child`.
+
+/// This program again, to run `as_a_child` in a part.
+fn child(part: &str, file: &Path) -> Command {
+    let mut command = Command::new(std::env::current_exe().unwrap());
+    command.args(["--ignored", "--exact", "whole::as_a_child"]);
+    command.env("PIT_CHILD", part).env("PIT_CHILD_FILE", file);
+    command.stdin(Stdio::null());
+    command.stdout(Stdio::null()).stderr(Stdio::null());
+    command
+}
+
+#[test]
+#[ignore = "a part that other tests start"]
+fn as_a_child() {
+    let part = std::env::var("PIT_CHILD").unwrap();
+    let file = std::env::var_os("PIT_CHILD_FILE").unwrap();
+    let mut store = of_three_versions();
+    let ticket = store.begin(1).unwrap();
+    store.put(ticket, 0, &[8; 16]).unwrap();
+    store.save(&file).unwrap();
+    if part == "dies" {
+        store.append(ticket).unwrap();
+        std::process::abort();
+    }
+    loop {
+        store.save(&file).unwrap();
+    }
+}
+
+#[test]
+fn a_restart_loses_nothing_that_was_saved() {
+    let folder = Folder::new("restart");
+    let end = child("dies", &folder.file()).status().unwrap();
+    assert!(!end.success());
+    let mut store = Store::load(folder.file()).unwrap();
+    assert_eq!(store.recent(), Ok(Version(3)));
+    let pages = [&[][..], &[1, 2, 3, 4], &[1, 5, 6, 4], &[1, 5, 6, 4, 7]];
+    for (version, pages) in (0..).map(Version).zip(pages) {
+        assert_eq!(fills(&store, version).unwrap(), pages);
+    }
+    // the ticket is still open, with its page put
+    for _ in 0..store.write(Ticket(4), PageIndex(0)).unwrap().nodes {
+        store.weave(Ticket(4)).unwrap();
+    }
+    assert_eq!(store.publish(), Ok(Some(Version(4))));
+    assert_eq!(fills(&store, Version(4)), Ok(vec![8, 5, 6, 4, 7]));
+}
+
+#[test]
+fn a_process_killed_while_saving_leaves_a_whole_file() {
+    let folder = Folder::new("killed");
+    for round in 0..8 {
+        of_three_versions().save(folder.file()).unwrap();
+        let mut saving = child("saves", &folder.file()).spawn().unwrap();
+        // it saves on and on from its first save, which has a fourth ticket
+        let started = Instant::now();
+        while Store::load(folder.file()).unwrap().state().tickets == 3 {
+            assert!(started.elapsed() < Duration::from_secs(60));
+        }
+        thread::sleep(Duration::from_micros(300 * round));
+        saving.kill().unwrap();
+        saving.wait().unwrap();
+        let store = Store::load(folder.file()).unwrap();
+        assert_eq!((store.state().tickets, store.recent()), (4, Ok(Version(3))));
+    }
+}
