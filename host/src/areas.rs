@@ -5,6 +5,9 @@ use crate::error::Error;
 use crate::ffi::{self, Record};
 use std::fmt;
 
+/// A blob has at most this many pages.
+pub(crate) const MOST_PAGES: u64 = 4_096;
+
 /// The limits of a store: its page size in bytes, and how many pages, nodes and updates it can ever hold.
 ///
 /// FORMAT accepts a page size that is a power of two from 16 to 4,096, and capacities of 1 to 65,535 pages,
@@ -82,10 +85,10 @@ impl Limits {
         updates: u64,
         pages_per_update: u64,
     ) -> Option<Limits> {
-        // Fewer pages, or a smaller blob, never make more nodes: the range or the tree is a part of a larger one.
-        let last_first = blob_pages.min(4096).checked_sub(pages_per_update)?;
-        let most = (0..=last_first)
-            .map(|f| ffi::node_count(f, pages_per_update, blob_pages))
+        // Fewer pages, or a smaller blob, never make more nodes: their range or tree is a part of the larger one.
+        let last = blob_pages.checked_sub(pages_per_update)?;
+        let most = (0..=last.min(MOST_PAGES)) // beyond it, every count is 0
+            .map(|first| ffi::node_count(first, pages_per_update, blob_pages))
             .max()?;
         Limits {
             page_size,

@@ -115,7 +115,7 @@ impl Error {
             Error::PagesFull => "no ticket given: too few page numbers are unused",
             Error::NoSuchTicket => "refused: no such ticket was given",
             Error::OutOfTurn => {
-                "refused: pages are put and a version assigned before that ticket has a version, nodes woven after, while some are left"
+                "out of turn: pages are put and a version is assigned while the ticket has none, nodes are woven after that, while some are left"
             }
             Error::NoSuchPage => "page not put: the update has fewer pages",
             Error::AlreadyPut => "page not put: that page of the update is already put",

@@ -59,7 +59,7 @@ impl fmt::Display for FileError {
             Io(e) => write!(f, "the file could not be opened, read or written: {e}"),
             Foreign => f.write_str("the file is no store's: it begins otherwise"),
             Form(form) => write!(f, "the file has form {form}; only form {FORM} is known"),
-            Limits(e) => write!(f, "the store's limits are not allowed: {e}"),
+            Limits(e) => write!(f, "the store's limits are not allowed; {e}"),
             AreaLengths => f.write_str("the areas' lengths are not those of the store's limits"),
             Truncated { expected, found } => {
                 write!(f, "the file is cut off: {found} bytes of {expected}")

@@ -1,7 +1,7 @@
 //! The form of a store's file: the header, and the areas as bytes. [`Keeper::save`](crate::Keeper::save) shows it.
 
 use super::FileError;
-use crate::areas::{Areas, Lend, Limits, Parts};
+use crate::areas::{Areas, Lend, Limits, Parts, MOST_PAGES};
 use crate::checksum::Checksum;
 use crate::ffi::{Record, State};
 use std::convert::Infallible;
@@ -17,8 +17,6 @@ const HEADER_NUMBERS: usize = HEADER / 8;
 /// A node's length in bytes, and a record's.
 const NODE: u64 = 8;
 const RECORD: usize = 80;
-/// A blob has at most this many pages.
-const MOST_PAGES: u64 = 4_096;
 /// How many numbers of the node area are turned into bytes at a time.
 const NUMBERS_AT_A_TIME: usize = 2_048;
 

@@ -86,11 +86,17 @@ fn saves_at_once_to_one_file_leave_one_of_them() {
     assert_eq!(folder.names(), ["store"]);
 }
 
-// A process that dies. Its part is the test `as_a_child`.
+// Other processes. Their parts are in the test `as_a_child`.
 
 /// This program again, to run `as_a_child` in a part.
 fn child(part: &str, file: &Path) -> Command {
-    let mut command = Command::new(std::env::current_exe().unwrap());
+    let limit = match part {
+        "has no room" => "trap '' XFSZ; ulimit -f 1; ",
+        _ => "",
+    };
+    let mut command = Command::new("sh");
+    command.args(["-c", &format!("{limit}exec \"$@\""), "sh"]);
+    command.arg(std::env::current_exe().unwrap());
     command.args(["--ignored", "--exact", "whole::as_a_child"]);
     command.env("PIT_CHILD", part).env("PIT_CHILD_FILE", file);
     command.stdin(Stdio::null());
@@ -101,19 +107,40 @@ fn child(part: &str, file: &Path) -> Command {
 #[test]
 #[ignore = "a part that other tests start"]
 fn as_a_child() {
-    let part = std::env::var("PIT_CHILD").unwrap();
-    let file = std::env::var_os("PIT_CHILD_FILE").unwrap();
+    let (Ok(part), Some(file)) = (
+        std::env::var("PIT_CHILD"),
+        std::env::var_os("PIT_CHILD_FILE"),
+    ) else {
+        return; // started by hand, it has no part
+    };
     let mut store = of_three_versions();
     let ticket = store.begin(1).unwrap();
     store.put(ticket, 0, &[8; 16]).unwrap();
-    store.save(&file).unwrap();
-    if part == "dies" {
-        store.append(ticket).unwrap();
-        std::process::abort();
+    match part.as_str() {
+        "has no room" => assert!(matches!(store.save(&file), Err(FileError::Io(_)))),
+        "dies" => {
+            store.save(&file).unwrap();
+            store.append(ticket).unwrap();
+            std::process::abort();
+        }
+        _ => loop {
+            store.save(&file).unwrap(); // until it is killed
+        },
     }
-    loop {
-        store.save(&file).unwrap();
-    }
+}
+
+#[test]
+fn a_disk_without_room_keeps_the_old_file() {
+    let folder = Folder::new("no-room");
+    let old = Store::format(limits(1, 1, 1)).unwrap();
+    old.save(folder.file()).unwrap();
+    let end = child("has no room", &folder.file()).status().unwrap();
+    assert!(
+        end.success(),
+        "the save was refused, and by an error: {end}"
+    );
+    assert!(Store::load(folder.file()).unwrap() == old);
+    assert_eq!(folder.names(), ["store"]);
 }
 
 #[test]
