@@ -139,3 +139,19 @@ impl fmt::Display for Error {
 }
 
 impl std::error::Error for Error {}
+
+#[cfg(test)]
+mod tests {
+    use super::*;
+
+    #[test]
+    fn every_number_is_read_without_a_panic() {
+        assert_eq!(Error::check(0), Ok(()));
+        for error in Error::ALL {
+            assert_eq!(Error::check(error.number()), Err(error));
+        }
+        for unknown in [20, 1 << 32, u64::MAX] {
+            assert_eq!(Error::check(unknown), Err(Error::Damaged));
+        }
+    }
+}

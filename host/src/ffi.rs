@@ -5,6 +5,7 @@
 //! apart and alive. Slices cross as pointer and length in elements; the pointer of a slice is never null.
 
 use crate::areas::{LentAreas, Parts};
+use std::mem::size_of;
 
 /// What the proved calls carry from one to the next: the limits that FORMAT accepted, and six counters. Its fields
 /// are plain numbers, so that a host can keep a store's state wherever it keeps the lent areas.
@@ -135,6 +136,20 @@ pub struct ViewReply {
     pub begin: u64,
     pub length: u64,
 }
+
+// Numbers of 64 bits, without gaps: the layout that the libraries were proved and compiled with.
+const _: () = assert!(
+    size_of::<State>() == 8 * 10
+        && size_of::<Record>() == 8 * 10
+        && size_of::<FormatReply>() == 8 * 11
+        && size_of::<BeginReply>() == 8 * 12
+        && size_of::<AssignReply>() == 8 * 13
+        && size_of::<WeaveReply>() == 8 * 7
+        && size_of::<PublishReply>() == 8 * 12
+        && size_of::<SizeReply>() == 8 * 2
+        && size_of::<VersionReply>() == 8 * 2
+        && size_of::<ViewReply>() == 8 * 3
+);
 
 #[rustfmt::skip] // an area a line: pointer, length
 extern "C" {

@@ -146,8 +146,8 @@ fn a_disk_without_room_keeps_the_old_file() {
 #[test]
 fn a_restart_loses_nothing_that_was_saved() {
     let folder = Folder::new("restart");
-    let end = child("dies", &folder.file()).status().unwrap();
-    assert!(!end.success());
+    let mut dies = child("dies", Path::new("store")); // a bare name, in the folder it runs in
+    assert!(!dies.current_dir(&folder.0).status().unwrap().success());
     let mut store = Store::load(folder.file()).unwrap();
     assert_eq!(store.recent(), Ok(Version(3)));
     let pages = [&[][..], &[1, 2, 3, 4], &[1, 5, 6, 4], &[1, 5, 6, 4, 7]];
