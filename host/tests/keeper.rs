@@ -166,6 +166,60 @@ fn stamps_say_which_pages_to_fetch_again() {
     assert_eq!(stamps(3), [1, 2, 2, 1].map(|v| Ok(Version(v))));
 }
 
+/// The step program's example, call by call: two appends, the second ticket's first.
+#[test]
+fn the_example() {
+    let node = |version, first, span, left, right, rest| {
+        let (version, first) = (Version(version), PageIndex(first));
+        Ok(Node {
+            version,
+            first,
+            span,
+            left,
+            right,
+            rest,
+        })
+    };
+    let mut store = Store::format(limits(4, 8, 2)).unwrap();
+    let (one, two) = (
+        put_all(&mut store, &[0x11]).unwrap(),
+        put_all(&mut store, &[0x22]).unwrap(),
+    );
+    assert_eq!((one, two), (Ticket(1), Ticket(2)));
+    assert_eq!(
+        store.append(two),
+        Ok(Assigned {
+            version: Version(1),
+            nodes: 1
+        })
+    );
+    assert_eq!(
+        store.append(one),
+        Ok(Assigned {
+            version: Version(2),
+            nodes: 2
+        })
+    );
+    assert_eq!(store.weave(one), node(2, 0, 2, 1, 2, 1));
+    assert_eq!(store.publish(), Ok(None));
+    assert_eq!(store.weave(two), node(1, 0, 1, 1, 0, 0));
+    assert_eq!(store.publish(), Ok(Some(Version(1))));
+    assert_eq!(
+        store.read(Version(2), ByteOffset(0), 0, &mut []),
+        Err(Error::NotPublished)
+    );
+    assert_eq!(store.weave(one), node(2, 1, 1, 0, 0, 0));
+    assert_eq!(store.publish(), Ok(Some(Version(2))));
+    let mut bytes = [0; 4];
+    assert_eq!(
+        store.read(Version(2), ByteOffset(14), 4, &mut bytes),
+        Ok(())
+    );
+    assert_eq!(bytes, [0x22, 0x22, 0x11, 0x11]);
+    assert_eq!(store.stamp(Version(2), PageIndex(0)), Ok(Version(1)));
+    assert_eq!(store.begin(1), Err(Error::RegisterFull));
+}
+
 #[test]
 fn versions_are_published_in_their_order() {
     let mut store = Store::format(limits(8, 16, 4)).unwrap();
