@@ -10,10 +10,13 @@ ghost use Rattle.tree.specs.Register.{noRecord, limited, updateOf, exten
 ghost use Rattle.tree.specs.Contract.{rootSpan, nodesFor, Pages, Counted, Indexed, Part, Spans, Kth};
 
 // A version, a page's index in the blob and a ticket are counters of different sorts, and each has a type of its own.
+#[repr(C)]
 pub struct Version(pub u64);
 
+#[repr(C)]
 pub struct PageIndex(pub u64);
 
+#[repr(C)]
 pub struct Ticket(pub u64);
 
 // A record of the register: the k-th ticket's part and the k-th version's part. Tickets and versions are given in different orders, each up to

@@ -75,7 +75,7 @@ part-in-part l at size r n h k =
     (sym (front (drop at l) size r n long k) ∙ ap (take n) (drop-drop r at l))
 
 -- A page that is found lies within the page area.
-found-inside : (pages : ℕ) (x : Found) → isLost (numberWithin pages x) ≡ false → orZero (numberWithin pages x) < pages
+pub found-inside : (pages : ℕ) (x : Found) → isLost (numberWithin pages x) ≡ false → orZero (numberWithin pages x) < pages
 found-inside pages Lost e = let z : _≡_ {A = ℕ} 0 1 = cc in absurd (omega arith)
 found-inside pages (Leaf c n) e = elim (lt-or-le n pages) [
   | inl h ↦ rw (lt-ltb n pages h, orZero) h

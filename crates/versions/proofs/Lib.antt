@@ -15,4 +15,5 @@ pub mod Lost
 pub mod Ranges
 pub mod Chunks
 pub mod Reading
+pub mod Views
 pub mod Walkgen

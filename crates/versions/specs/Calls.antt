@@ -62,6 +62,8 @@ use Rattle.versions.specs.declared.Latest.{Latest}
 use Rattle.versions.specs.declared.Latest.the-variants as Latest
 use Rattle.versions.specs.declared.Stamped.{Stamped}
 use Rattle.versions.specs.declared.Stamped.the-variants as Stamped
+use Rattle.versions.specs.declared.Viewed.{Viewed}
+use Rattle.versions.specs.declared.Viewed.the-variants as Viewed
 
 -- The areas that a call is lent: bytes of pages, numbers of nodes, records of the register.
 pub record Areas : Type 0 where
@@ -612,3 +614,11 @@ stampOut s a v p = stamped (stampNumber s a v p) (versionFound (findPage s a v p
 -- VIEW refuses as STAMP does, and then is the empty part; else the S bytes of the page, as a part of the page area.
 abbrev pub viewPart : Store → Areas → ℕ → ℕ → List ℕ
 viewPart s a v p = unless (stampNumber s a v p) [] (part (a .pages) (s .size * orZero (pageNumberOf s a v p)) (s .size))
+
+abbrev pub viewed : ℕ → ℕ → Viewed
+viewed zero at = Viewed.At at
+viewed (suc k) at = Viewed.Refused (suc k)
+
+-- Where in the page area VIEW's part begins.
+abbrev pub viewAt : Store → Areas → ℕ → ℕ → Viewed
+viewAt s a v p = viewed (stampNumber s a v p) (s .size * orZero (pageNumberOf s a v p))

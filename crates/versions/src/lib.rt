@@ -16,7 +16,7 @@ ghost use Rattle.tree.specs.declared.Record.{Record};
 ghost use Rattle.versions.specs.Table.{_gives_, _≤?_, _or_, firstRefusal, holds, noTicket, outside, unless};
 ghost use Rattle.versions.specs.Weave.{NextOf, Planned, Children};
 ghost use Rattle.versions.specs.Descent.{Spanned, placeIn, placeNumber, turnOf, walkDown, pageRefusal, rangeRefusal, Ranged, orLost, chunkAt, Readable};
-ghost use Rattle.versions.specs.Calls.{areasOf, differ, fresh, formatRefusal, formatted, formatAnswer, formatAreas, beginRefusal, withTicketPart, begunBy, beginOut, beginRegister, bitOf, withBit, putRefusal, withPut, putIn, putOut, putPages, putRegister, updateAt, allPut, assignRefusal, withVersionOf, withVersionPart, assignedBy, assignOut, assignRegister, nextNode, nextPlace, leafPast, weaveRefusal, kept, wovenNode, wove, withWoven, weaveOut, weaveNodes, weaveRegister, publishRefusal, dueBy, publishedBy, publishOut, sizeRefusal, pagesBy, bytesBy, sizedBy, sizeOut, recentBy, recentOut, findPage, numberWithin, isLost, orZero, versionFound, someLost, pagesTouched, bytesFrom, stamped, stampOut, viewPart, filledBy, readOut, readBuffer};
+ghost use Rattle.versions.specs.Calls.{areasOf, differ, fresh, formatRefusal, formatted, formatAnswer, formatAreas, beginRefusal, withTicketPart, begunBy, beginOut, beginRegister, bitOf, withBit, putRefusal, withPut, putIn, putOut, putPages, putRegister, updateAt, allPut, assignRefusal, withVersionOf, withVersionPart, assignedBy, assignOut, assignRegister, nextNode, nextPlace, leafPast, weaveRefusal, kept, wovenNode, wove, withWoven, weaveOut, weaveNodes, weaveRegister, publishRefusal, dueBy, publishedBy, publishOut, sizeRefusal, pagesBy, bytesBy, sizedBy, sizeOut, recentBy, recentOut, findPage, numberWithin, isLost, orZero, versionFound, someLost, pagesTouched, bytesFrom, stamped, stampOut, viewPart, viewed, viewAt, filledBy, readOut, readBuffer};
 use pages::copy_page;
 use pages::view_page;
 use tree::Found;
@@ -151,6 +151,12 @@ pub enum Latest {
 // What STAMP answers.
 pub enum Stamped {
     Is(Version),
+    Refused(u64),
+}
+
+// What VIEW answers a caller that is handed no part: the byte of the page area where the part begins.
+pub enum Viewed {
+    At(u64),
     Refused(u64),
 }
 
@@ -1357,6 +1363,43 @@ pub fn view<'a>(
     };
     view_part(
         pages,
+        page_refusal(s, l, q, v, page, x),
+        s.size,
+        number_found(s.pages, x),
+    )
+}
+
+// Where page `number` begins, by the table's number k.
+fn viewed_by(k: u64, size: u64, number: u64) -> Viewed
+    requires { ⌜ (k ≡ 0 → size * number < 2 ^ 64) ⌝ }
+    ensures { λ r. ⌜ r ≡ viewed k (size * number) ⌝ }
+{
+    if k == 0 {
+        Viewed::At(size * number)
+    } else {
+        Viewed::Refused(k)
+    }
+}
+
+// VIEW v, page, by the place of its part: the byte of the page area where the page begins; refused where STAMP refuses.
+pub fn view_at(
+    s: Store,
+    pages: &[u8],
+    nodes: &[u32],
+    register: &[Record],
+    v: Version,
+    page: PageIndex,
+) -> Viewed
+    ensures { λ r. ⌜ r ≡ viewAt s (areasOf (now (pages .entry)) (now (nodes .entry)) (now (register .entry))) (v .0) (page .0) ⌝ }
+{
+    let q = record_of(register, v.0);
+    let x = find_page(s, nodes, register, v, page);
+    let l = Lengths {
+        pages: pages.len(),
+        nodes: nodes.len(),
+        register: register.len(),
+    };
+    viewed_by(
         page_refusal(s, l, q, v, page, x),
         s.size,
         number_found(s.pages, x),

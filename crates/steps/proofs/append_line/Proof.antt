@@ -71,7 +71,7 @@ use Rattle.steps.proofs.lengths_of.Symbol as def-lengths-of
 use Rattle.steps.proofs.lengths_of.Symbol.{name as #lengths-of}
 use Rattle.steps.proofs.lengths_of.Met as thm-lengths-of
 use Rattle.versions.proofs.Walkgen.Say.append as append″
-use Rattle.steps.proofs.Walkgen.Call.append as Call-append
+use Rattle.versions.proofs.Walkgen.Call.append as Call-append
 use Rattle.versions.proofs.append.Symbol as def-append
 use Rattle.versions.proofs.append.Symbol.{name as #append}
 use Rattle.versions.proofs.append.Met as thm-append

@@ -71,7 +71,7 @@ use Rattle.steps.proofs.lengths_of.Symbol as def-lengths-of
 use Rattle.steps.proofs.lengths_of.Symbol.{name as #lengths-of}
 use Rattle.steps.proofs.lengths_of.Met as thm-lengths-of
 use Rattle.versions.proofs.Walkgen.Say.begin as begin″
-use Rattle.steps.proofs.Walkgen.Call.begin as Call-begin
+use Rattle.versions.proofs.Walkgen.Call.begin as Call-begin
 use Rattle.versions.proofs.begin.Symbol as def-begin
 use Rattle.versions.proofs.begin.Symbol.{name as #begin}
 use Rattle.versions.proofs.begin.Met as thm-begin

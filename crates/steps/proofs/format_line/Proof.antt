@@ -69,7 +69,7 @@ use Rattle.steps.proofs.lengths_of.Symbol as def-lengths-of
 use Rattle.steps.proofs.lengths_of.Symbol.{name as #lengths-of}
 use Rattle.steps.proofs.lengths_of.Met as thm-lengths-of
 use Rattle.versions.proofs.Walkgen.Say.format as format″
-use Rattle.steps.proofs.Walkgen.Call.format as Call-format
+use Rattle.versions.proofs.Walkgen.Call.format as Call-format
 use Rattle.versions.proofs.format.Symbol as def-format
 use Rattle.versions.proofs.format.Symbol.{name as #format}
 use Rattle.versions.proofs.format.Met as thm-format

@@ -71,7 +71,7 @@ use Rattle.steps.proofs.lengths_of.Symbol as def-lengths-of
 use Rattle.steps.proofs.lengths_of.Symbol.{name as #lengths-of}
 use Rattle.steps.proofs.lengths_of.Met as thm-lengths-of
 use Rattle.versions.proofs.Walkgen.Say.publish as publish″
-use Rattle.steps.proofs.Walkgen.Call.publish as Call-publish
+use Rattle.versions.proofs.Walkgen.Call.publish as Call-publish
 use Rattle.versions.proofs.publish.Symbol as def-publish
 use Rattle.versions.proofs.publish.Symbol.{name as #publish}
 use Rattle.versions.proofs.publish.Met as thm-publish

@@ -74,7 +74,7 @@ use Rattle.steps.proofs.capped.Symbol as def-capped
 use Rattle.steps.proofs.capped.Symbol.{name as #capped}
 use Rattle.steps.proofs.capped.Met as thm-capped
 use Rattle.versions.proofs.Walkgen.Say.put as put″
-use Rattle.steps.proofs.Walkgen.Call.put as Call-put
+use Rattle.versions.proofs.Walkgen.Call.put as Call-put
 use Rattle.versions.proofs.put.Symbol as def-put
 use Rattle.versions.proofs.put.Symbol.{name as #put}
 use Rattle.versions.proofs.put.Met as thm-put

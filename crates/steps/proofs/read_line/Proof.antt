@@ -69,7 +69,7 @@ use Rattle.steps.proofs.lengths_of.Symbol as def-lengths-of
 use Rattle.steps.proofs.lengths_of.Symbol.{name as #lengths-of}
 use Rattle.steps.proofs.lengths_of.Met as thm-lengths-of
 use Rattle.versions.proofs.Walkgen.Say.read as read″
-use Rattle.steps.proofs.Walkgen.Call.read as Call-read
+use Rattle.versions.proofs.Walkgen.Call.read as Call-read
 use Rattle.versions.proofs.read.Symbol as def-read
 use Rattle.versions.proofs.read.Symbol.{name as #read}
 use Rattle.versions.proofs.read.Met as thm-read

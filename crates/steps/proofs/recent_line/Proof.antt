@@ -69,7 +69,7 @@ use Rattle.steps.proofs.lengths_of.Symbol as def-lengths-of
 use Rattle.steps.proofs.lengths_of.Symbol.{name as #lengths-of}
 use Rattle.steps.proofs.lengths_of.Met as thm-lengths-of
 use Rattle.versions.proofs.Walkgen.Say.recent as recent″
-use Rattle.steps.proofs.Walkgen.Call.recent as Call-recent
+use Rattle.versions.proofs.Walkgen.Call.recent as Call-recent
 use Rattle.versions.proofs.recent.Symbol as def-recent
 use Rattle.versions.proofs.recent.Symbol.{name as #recent}
 use Rattle.versions.proofs.recent.Met as thm-recent

@@ -69,7 +69,7 @@ use Rattle.steps.proofs.lengths_of.Symbol as def-lengths-of
 use Rattle.steps.proofs.lengths_of.Symbol.{name as #lengths-of}
 use Rattle.steps.proofs.lengths_of.Met as thm-lengths-of
 use Rattle.versions.proofs.Walkgen.Say.size as size″
-use Rattle.steps.proofs.Walkgen.Call.size as Call-size
+use Rattle.versions.proofs.Walkgen.Call.size as Call-size
 use Rattle.versions.proofs.size.Symbol as def-size
 use Rattle.versions.proofs.size.Symbol.{name as #size}
 use Rattle.versions.proofs.size.Met as thm-size

@@ -69,7 +69,7 @@ use Rattle.steps.proofs.lengths_of.Symbol as def-lengths-of
 use Rattle.steps.proofs.lengths_of.Symbol.{name as #lengths-of}
 use Rattle.steps.proofs.lengths_of.Met as thm-lengths-of
 use Rattle.versions.proofs.Walkgen.Say.stamp as stamp″
-use Rattle.steps.proofs.Walkgen.Call.stamp as Call-stamp
+use Rattle.versions.proofs.Walkgen.Call.stamp as Call-stamp
 use Rattle.versions.proofs.stamp.Symbol as def-stamp
 use Rattle.versions.proofs.stamp.Symbol.{name as #stamp}
 use Rattle.versions.proofs.stamp.Met as thm-stamp

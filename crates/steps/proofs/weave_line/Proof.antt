@@ -71,7 +71,7 @@ use Rattle.steps.proofs.lengths_of.Symbol as def-lengths-of
 use Rattle.steps.proofs.lengths_of.Symbol.{name as #lengths-of}
 use Rattle.steps.proofs.lengths_of.Met as thm-lengths-of
 use Rattle.versions.proofs.Walkgen.Say.weave as weave″
-use Rattle.steps.proofs.Walkgen.Call.weave as Call-weave
+use Rattle.versions.proofs.Walkgen.Call.weave as Call-weave
 use Rattle.versions.proofs.weave.Symbol as def-weave
 use Rattle.versions.proofs.weave.Symbol.{name as #weave}
 use Rattle.versions.proofs.weave.Met as thm-weave

@@ -21,5 +21,6 @@ pub mod Sized
 pub mod Stamped
 pub mod Store
 pub mod Turn
+pub mod Viewed
 pub mod Woven
 pub mod WovenNode

@@ -53,7 +53,9 @@ pub mod touched
 pub mod turn_at
 pub mod version_part
 pub mod view
+pub mod view_at
 pub mod view_part
+pub mod viewed_by
 pub mod weave
 pub mod weave_plan
 pub mod with_put
