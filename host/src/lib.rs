@@ -48,3 +48,8 @@ pub use ffi::{node_count, root_span, Record, State};
 pub use file::FileError;
 pub use keeper::{Assigned, Keeper, Lent, Node, Store};
 pub use shared::Shared;
+
+/// The Rust in the repository's README, run as a test.
+#[cfg(doctest)]
+#[doc = include_str!("../../README.md")]
+struct Readme;
