@@ -1,0 +1,66 @@
+//! What is said above the table: of the machine, the contenders and the buffers.
+
+use crate::lmdb;
+use crate::measure::ROUNDS;
+use std::fs;
+
+/// What stands above the table.
+pub fn text() -> String {
+    format!(
+        "\
+Pit model store: benchmarks.
+
+Processor  {}; caches of one: {}.
+Against    memcpy: the same bytes copied from or to one run of memory, no versions. VIEW's is that of a whole page.
+           Arc: a table of all pages for each version, each page behind an Arc, the table copied by each update.
+           {}: a value a page, a write transaction an update, one read transaction for all reads; no sync,
+           write map, in a memory file system. It keeps the newest version only.
+Times      in nanoseconds a call, on one thread: the median of pieces timed in {ROUNDS} rounds, in which all take turns.
+           Calls follow each other at once, so the processor may begin one before the last is done.
+Buffers    All memory has been touched before: page area, heap, LMDB's file. READ and memcpy copy random pages of the
+           newest version, in the cache only as far as the whole blob fits, to one page that is in the cache.
+           VIEW gives a page's slice and touches no byte of it. An update's bytes come from 128 pages in the cache.
+Blob       Filled by appends of 64 pages, then writes of one random page up to the number of updates. Updates are
+           timed on top of these, 64 at random places; then ours and Arc go back to just these for the next round.
+bytes      Memory that a version takes, of an update of so many pages, without those pages' own bytes.
+o/..       Ours as a multiple of the other: below 1, ours takes less.
+",
+        processor(),
+        caches(),
+        lmdb::version(),
+    )
+}
+
+fn processor() -> String {
+    let about = fs::read_to_string("/proc/cpuinfo").unwrap_or_default();
+    let names: Vec<&str> = about
+        .lines()
+        .filter_map(|line| line.strip_prefix("model name")?.split_once(": "))
+        .map(|(_, name)| name)
+        .collect();
+    match names.first() {
+        Some(name) => format!("{name}, {} of them", names.len()),
+        None => "unknown".into(),
+    }
+}
+
+/// The sizes of the first processor's caches of data, from the nearest.
+fn caches() -> String {
+    let mut sizes = Vec::new();
+    for index in 0..8 {
+        let of = |what: &str| {
+            let file = format!("/sys/devices/system/cpu/cpu0/cache/index{index}/{what}");
+            fs::read_to_string(file)
+                .unwrap_or_default()
+                .trim()
+                .to_string()
+        };
+        if !["", "Instruction"].contains(&of("type").as_str()) {
+            sizes.push(of("size"));
+        }
+    }
+    match sizes.is_empty() {
+        true => "unknown".into(),
+        false => sizes.join(", "),
+    }
+}

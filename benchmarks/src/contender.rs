@@ -1,0 +1,54 @@
+//! What every store under test does, and the loops that are timed.
+
+use crate::shape::{Source, Update};
+use std::hint::black_box;
+
+/// A store under test. Versions are counted from 1, an update each.
+///
+/// The loops are default methods, so each is compiled for its contender, and no call in them goes through a table.
+pub trait Contender {
+    /// One whole update: stored, and readable when this returns.
+    fn update(&mut self, first: usize, bytes: &[u8]);
+
+    /// The bytes of a page of a version, where they lie. It must not touch them.
+    fn view(&self, version: usize, page: usize) -> &[u8];
+
+    /// A page of a version, copied into `to`, which is one page long.
+    fn read(&self, version: usize, page: usize, to: &mut [u8]) {
+        to.copy_from_slice(self.view(version, page));
+    }
+
+    /// Whether older versions can still be read. Where not, the version asked for is passed over.
+    fn keeps_versions(&self) -> bool;
+
+    /// The updates made so far are those that stand. Not timed.
+    fn settle(&mut self) {}
+
+    /// Called before the loop of updates, not timed: back to the updates that stand, where older versions are kept.
+    fn before_updates(&mut self) {}
+
+    /// Called before the loops of reads and views, not timed.
+    fn before_reads(&mut self) {}
+
+    /// Timed: READ of each page.
+    fn reads(&self, version: usize, pages: &[usize], to: &mut [u8]) {
+        for &page in pages {
+            self.read(version, page, to);
+            black_box(&mut *to);
+        }
+    }
+
+    /// Timed: VIEW of each page.
+    fn views(&self, version: usize, pages: &[usize]) {
+        for &page in pages {
+            black_box(self.view(version, page));
+        }
+    }
+
+    /// Timed: each update, whole. The k-th takes the source's k-th bytes.
+    fn updates(&mut self, updates: &[Update], source: &Source) {
+        for (k, update) in updates.iter().enumerate() {
+            self.update(update.first, black_box(source.bytes(k, update.pages)));
+        }
+    }
+}

@@ -1,0 +1,32 @@
+//! The bytes alone: one run of memory, copied from and to. It keeps no versions; it is the floor.
+
+use crate::contender::Contender;
+use crate::shape::Shape;
+
+pub struct Flat {
+    page_size: usize,
+    bytes: Vec<u8>,
+}
+
+impl Flat {
+    pub fn new(shape: &Shape) -> Flat {
+        Flat {
+            page_size: shape.page_size,
+            bytes: vec![0; shape.page_size * shape.blob],
+        }
+    }
+}
+
+impl Contender for Flat {
+    fn update(&mut self, first: usize, bytes: &[u8]) {
+        self.bytes[first * self.page_size..][..bytes.len()].copy_from_slice(bytes);
+    }
+
+    fn view(&self, _version: usize, page: usize) -> &[u8] {
+        &self.bytes[page * self.page_size..][..self.page_size]
+    }
+
+    fn keeps_versions(&self) -> bool {
+        false
+    }
+}

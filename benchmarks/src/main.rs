@@ -1,0 +1,170 @@
+//! Benchmarks of the pit model store: one table, and with `--record FOLDER` the same in FOLDER/performance.txt and a
+//! plot in FOLDER/performance.svg. docs/PERFORMANCE.md says how to read them.
+
+#![deny(unsafe_code)]
+
+mod about;
+mod arc_table;
+mod contender;
+mod flat;
+#[allow(unsafe_code)]
+mod heap;
+#[allow(unsafe_code)]
+mod lmdb;
+mod lmdb_pages;
+mod measure;
+mod memory;
+mod ours;
+mod plot;
+mod random;
+mod shape;
+mod svg;
+mod table;
+mod targets;
+
+use measure::{Field, Times, MEMCPY};
+use shape::Shape;
+use std::path::PathBuf;
+use std::process::ExitCode;
+use std::{env, fs, io};
+use table::{Row, What};
+
+#[global_allocator]
+static HEAP: heap::Counting = heap::Counting;
+
+fn main() -> ExitCode {
+    let arguments: Vec<_> = env::args_os().skip(1).collect();
+    let folder = match &arguments[..] {
+        [] => None,
+        [word, folder] if word == "--record" => Some(PathBuf::from(folder)),
+        _ => {
+            eprintln!("usage: pit-bench [--record FOLDER]");
+            return ExitCode::from(2);
+        }
+    };
+    let mut report = Report::default();
+    report.run();
+    match folder.map_or(Ok(()), |folder| report.record(folder)) {
+        Ok(()) => ExitCode::SUCCESS,
+        Err(error) => {
+            eprintln!("pit-bench: not recorded: {error}");
+            ExitCode::FAILURE
+        }
+    }
+}
+
+/// What has been printed, and the rows in it.
+#[derive(Default)]
+struct Report {
+    text: String,
+    rows: Vec<Row>,
+}
+
+impl Report {
+    fn say(&mut self, line: &str) {
+        println!("{line}");
+        self.text += line;
+        self.text.push('\n');
+    }
+
+    fn run(&mut self) {
+        self.say(&about::text());
+        self.say(&table::heading());
+        for page_size in [4_096, 256, 16] {
+            let mut rows: Vec<Row> = shapes(page_size).into_iter().flat_map(times).collect();
+            // together what is to be compared: a thing measured, by blob and number of updates
+            rows.sort_by_key(|row| (row.what, row.shape.blob, row.shape.updates));
+            self.rows(rows);
+        }
+        self.rows(memory());
+        self.say("\nTargets, in a blob of 4,096 pages of 4,096 bytes with 100 updates:");
+        for line in targets::lines(&self.rows) {
+            self.say(&line);
+        }
+    }
+
+    /// Prints and keeps rows, an empty line between one thing measured and the next.
+    fn rows(&mut self, rows: Vec<Row>) {
+        let mut last = None;
+        for row in rows {
+            if last != Some(row.what) {
+                self.say("");
+            }
+            last = Some(row.what);
+            self.say(&row.line());
+            self.rows.push(row);
+        }
+    }
+
+    fn record(&self, folder: PathBuf) -> io::Result<()> {
+        fs::write(folder.join("performance.txt"), &self.text)?;
+        fs::write(folder.join("performance.svg"), plot::svg(&self.rows))
+    }
+}
+
+/// The blobs that are timed. Ten updates of at most 64 pages make 640 pages, so all numbers of updates are measured
+/// there, and all but ten in the largest blob.
+fn shapes(page_size: usize) -> Vec<Shape> {
+    let mut shapes = Vec::new();
+    for (blob, numbers) in [
+        (64, &[100][..]),
+        (512, &[100]),
+        (640, &[10, 100, 1_000, 4_000]),
+        (4_096, &[100, 1_000, 4_000]),
+    ] {
+        for &updates in numbers {
+            shapes.push(Shape {
+                page_size,
+                blob,
+                updates,
+            });
+        }
+    }
+    shapes
+}
+
+/// The rows of one blob's times.
+fn times(shape: Shape) -> Vec<Row> {
+    eprintln!("pit-bench: measuring {shape}");
+    let mut field = Field::new(shape);
+    let reads = field.reads();
+    let mut views = field.views();
+    views[MEMCPY] = reads[MEMCPY];
+    let mut times = vec![(What::Read, reads), (What::View, views)];
+    for pages in [1, 8, 64] {
+        times.push((What::Update(pages), field.updates(pages)));
+    }
+    let row = |(what, times): (What, Times)| Row {
+        what,
+        shape,
+        figures: times.map(Some),
+    };
+    times.into_iter().map(row).collect()
+}
+
+/// The rows of memory, each with 100 updates standing.
+fn memory() -> Vec<Row> {
+    let mut rows = Vec::new();
+    for pages in [1, 8, 64] {
+        for (page_size, blob) in [
+            (16, 4_096),
+            (256, 4_096),
+            (4_096, 4_096),
+            (4_096, 512),
+            (4_096, 64),
+        ] {
+            let shape = Shape {
+                page_size,
+                blob,
+                updates: 100,
+            };
+            let (ours, arc) = memory::per_version(shape, pages);
+            rows.push(Row {
+                what: What::Memory(pages),
+                shape,
+                figures: [Some(ours), None, Some(arc), None],
+            });
+        }
+    }
+    rows
+}

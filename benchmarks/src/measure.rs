@@ -1,0 +1,188 @@
+//! One shape of blob, measured: all contenders made alike, checked, and timed in rounds that take turns.
+
+use crate::arc_table::ArcTable;
+use crate::contender::Contender;
+use crate::flat::Flat;
+use crate::lmdb_pages::LmdbPages;
+use crate::ours::Ours;
+use crate::shape::{Shape, Source, Update};
+use std::time::Instant;
+
+/// The contenders, in the table's order.
+pub const CONTENDERS: usize = 4;
+pub const OURS: usize = 0;
+pub const MEMCPY: usize = 1;
+pub const ARC: usize = 2;
+pub const LMDB: usize = 3;
+
+/// Nanoseconds a call, for each contender.
+pub type Times = [f64; CONTENDERS];
+
+/// A round of reads or views is so many calls, after some that are not timed. They are timed in pieces short enough
+/// that few are interrupted by other work of the machine; the median passes over those.
+const READS: usize = 8_192;
+const READ_PIECE: usize = 1_024;
+const WARM_READS: usize = 2_048;
+
+/// A round of updates is so many, the first of them not timed.
+pub const BATCH: usize = WARM_UPDATES + 64;
+const WARM_UPDATES: usize = 8;
+
+pub const ROUNDS: usize = 41;
+
+/// All contenders, holding the same blob.
+pub struct Field {
+    shape: Shape,
+    source: Source,
+    contenders: [Box<dyn Contender>; CONTENDERS],
+}
+
+impl Field {
+    pub fn new(shape: Shape) -> Field {
+        let mut field = Field {
+            shape,
+            source: Source::new(shape.page_size),
+            contenders: [
+                Box::new(Ours::new(&shape)),
+                Box::new(Flat::new(&shape)),
+                Box::new(ArcTable::new(&shape)),
+                Box::new(LmdbPages::new(&shape)),
+            ],
+        };
+        let standing = shape.standing();
+        for contender in &mut field.contenders {
+            contender.updates(&standing, &field.source);
+            contender.settle();
+        }
+        field.check_standing(&standing);
+        field
+    }
+
+    /// READ of random pages of the newest version.
+    pub fn reads(&mut self) -> Times {
+        let pages = self.shape.random_pages(3, READS);
+        let (version, mut to) = (self.shape.updates, vec![0; self.shape.page_size]);
+        rounds(&mut self.contenders, |contender, _, times| {
+            contender.before_reads();
+            contender.reads(version, &pages[..WARM_READS], &mut to);
+            for piece in pages.chunks_exact(READ_PIECE) {
+                let reads = || contender.reads(version, piece, &mut to);
+                times.push(time(piece.len(), reads));
+            }
+        })
+    }
+
+    /// VIEW of random pages of the newest version.
+    pub fn views(&mut self) -> Times {
+        let pages = self.shape.random_pages(3, READS);
+        let version = self.shape.updates;
+        rounds(&mut self.contenders, |contender, _, times| {
+            contender.before_reads();
+            contender.views(version, &pages[..WARM_READS]);
+            for piece in pages.chunks_exact(READ_PIECE) {
+                let views = || contender.views(version, piece);
+                times.push(time(piece.len(), views));
+            }
+        })
+    }
+
+    /// Whole updates of `pages` pages at random places, on top of the updates that stand.
+    pub fn updates(&mut self, pages: usize) -> Times {
+        let (shape, source) = (self.shape, &self.source);
+        let version = shape.updates + BATCH;
+        let piece = match pages {
+            1 => 32,
+            8 => 16,
+            _ => 8,
+        };
+        rounds(&mut self.contenders, |contender, round, times| {
+            let updates = shape.random_updates(4 + round as u64, BATCH, pages);
+            let (warm, timed) = updates.split_at(WARM_UPDATES);
+            contender.before_updates();
+            contender.updates(warm, source);
+            for piece in timed.chunks_exact(piece) {
+                let updates = || contender.updates(piece, source);
+                times.push(time(piece.len(), updates));
+            }
+            contender.before_reads();
+            let last = &timed[timed.len() - piece..];
+            Pages::after(last, source).check(contender, version);
+        })
+    }
+
+    /// Every contender gives the right bytes of every page, read and viewed: of the newest version, and of the one in
+    /// the middle where versions are kept.
+    fn check_standing(&mut self, standing: &[Update]) {
+        let newest = standing.len();
+        for version in [(newest + 1) / 2, newest] {
+            let right = Pages::after(&standing[..version], &self.source);
+            for contender in &mut self.contenders {
+                contender.before_reads();
+                if version == newest || contender.keeps_versions() {
+                    right.check(&**contender, version);
+                }
+            }
+        }
+    }
+}
+
+/// The median of each contender's times. In each round every contender has its turn, and another is first.
+fn rounds(
+    contenders: &mut [Box<dyn Contender>; CONTENDERS],
+    mut turn: impl FnMut(&mut dyn Contender, usize, &mut Vec<f64>),
+) -> Times {
+    let mut times: [Vec<f64>; CONTENDERS] = Default::default();
+    for round in 0..ROUNDS {
+        for place in 0..CONTENDERS {
+            let at = (round + place) % CONTENDERS;
+            turn(&mut *contenders[at], round, &mut times[at]);
+        }
+    }
+    times.map(median)
+}
+
+/// Nanoseconds a call of a piece of so many calls.
+fn time(calls: usize, piece: impl FnOnce()) -> f64 {
+    let begin = Instant::now();
+    piece();
+    begin.elapsed().as_secs_f64() * 1e9 / calls as f64
+}
+
+fn median(mut times: Vec<f64>) -> f64 {
+    times.sort_by(f64::total_cmp);
+    times[times.len() / 2]
+}
+
+/// What some updates leave in the pages that they cover.
+struct Pages<'a> {
+    page_size: usize,
+    pages: Vec<Option<&'a [u8]>>,
+}
+
+impl<'a> Pages<'a> {
+    fn after(updates: &[Update], source: &'a Source) -> Pages<'a> {
+        let page_size = source.page_size();
+        let mut pages = Vec::new();
+        for (k, update) in updates.iter().enumerate() {
+            let end = update.first + update.pages;
+            pages.resize(pages.len().max(end), None);
+            let bytes = source.bytes(k, update.pages).chunks_exact(page_size);
+            for (page, bytes) in pages[update.first..end].iter_mut().zip(bytes) {
+                *page = Some(bytes);
+            }
+        }
+        Pages { page_size, pages }
+    }
+
+    fn check(&self, contender: &dyn Contender, version: usize) {
+        let mut to = vec![0; self.page_size];
+        for (page, bytes) in self.pages.iter().enumerate() {
+            if let Some(bytes) = bytes {
+                assert_eq!(&contender.view(version, page), bytes, "VIEW of page {page}");
+                to.fill(0);
+                contender.read(version, page, &mut to);
+                assert_eq!(&to, bytes, "READ of page {page}");
+            }
+        }
+    }
+}

@@ -1,0 +1,82 @@
+//! The store of this repository, by the host library's calls.
+
+use crate::contender::Contender;
+use crate::measure::BATCH;
+use crate::shape::{Shape, MOST};
+use pit_host::{ByteOffset, Limits, PageIndex, Record, State, Store, Version};
+use std::mem::size_of;
+
+pub struct Ours {
+    page_size: u64,
+    store: Store,
+    /// The store with just the updates that stand.
+    standing: Option<Store>,
+}
+
+impl Ours {
+    /// Room for the updates that stand and one batch of the longest updates more.
+    pub fn new(shape: &Shape) -> Ours {
+        let pages: usize = shape.standing().iter().map(|update| update.pages).sum();
+        let limits = Limits {
+            page_size: shape.page_size as u64,
+            pages: (pages + BATCH * MOST) as u64,
+            nodes: 131_072,
+            updates: 4_096,
+        };
+        Ours {
+            page_size: limits.page_size,
+            store: Store::format(limits).expect("the limits are accepted"),
+            standing: None,
+        }
+    }
+
+    /// The memory that bookkeeping takes so far, in bytes: a record an update, and its nodes.
+    pub fn bookkeeping(&self) -> usize {
+        let State {
+            assigned, places, ..
+        } = self.store.state();
+        let node = 2 * size_of::<u32>();
+        assigned as usize * size_of::<Record>() + places as usize * node
+    }
+}
+
+const ACCEPTED: &str = "the store accepts the call";
+
+impl Contender for Ours {
+    fn update(&mut self, first: usize, bytes: &[u8]) {
+        let pages = bytes.chunks_exact(self.page_size as usize);
+        let ticket = self.store.begin(pages.len() as u64).expect(ACCEPTED);
+        for (i, page) in pages.enumerate() {
+            self.store.put(ticket, i as u64, page).expect(ACCEPTED);
+        }
+        let first = PageIndex(first as u64);
+        self.store.write(ticket, first).expect(ACCEPTED);
+        while self.store.weave(ticket).expect(ACCEPTED).rest > 0 {}
+        let published = self.store.publish().expect(ACCEPTED);
+        assert!(published.is_some());
+    }
+
+    fn view(&self, version: usize, page: usize) -> &[u8] {
+        let (version, page) = (Version(version as u64), PageIndex(page as u64));
+        self.store.view(version, page).expect(ACCEPTED)
+    }
+
+    fn read(&self, version: usize, page: usize, to: &mut [u8]) {
+        let offset = ByteOffset(page as u64 * self.page_size);
+        self.store
+            .read(Version(version as u64), offset, self.page_size, to)
+            .expect(ACCEPTED);
+    }
+
+    fn keeps_versions(&self) -> bool {
+        true
+    }
+
+    fn settle(&mut self) {
+        self.standing = Some(self.store.clone());
+    }
+
+    fn before_updates(&mut self) {
+        self.store = self.standing.clone().expect("the store is settled");
+    }
+}

@@ -1,0 +1,106 @@
+//! The table: a row a figure, in plain text.
+
+use crate::measure::{ARC, CONTENDERS, LMDB, MEMCPY, OURS};
+use crate::shape::Shape;
+
+/// What is measured.
+#[derive(Clone, Copy, Debug, PartialEq, Eq, PartialOrd, Ord)]
+pub enum What {
+    Read,
+    View,
+    /// A whole update of so many pages.
+    Update(usize),
+    /// The bookkeeping of an update of so many pages.
+    Memory(usize),
+}
+
+impl What {
+    pub fn name(self) -> String {
+        match self {
+            What::Read => "READ".into(),
+            What::View => "VIEW".into(),
+            What::Update(1) => "update of 1 page".into(),
+            What::Update(pages) => format!("update of {pages} pages"),
+            What::Memory(1) => "bytes, 1 page".into(),
+            What::Memory(pages) => format!("bytes, {pages} pages"),
+        }
+    }
+}
+
+/// One row: nanoseconds a call, or bytes a version, for each contender that has the figure.
+#[derive(Clone, Copy, Debug)]
+pub struct Row {
+    pub what: What,
+    pub shape: Shape,
+    pub figures: [Option<f64>; CONTENDERS],
+}
+
+impl Row {
+    /// Ours as a multiple of another's figure.
+    pub fn ratio(&self, to: usize) -> Option<f64> {
+        Some(self.figures[OURS]? / self.figures[to]?)
+    }
+
+    pub fn line(&self) -> String {
+        let mut line = format!(
+            "{:<19}{:>6}{:>7}{:>9}  ",
+            self.what.name(),
+            grouped(self.shape.page_size),
+            grouped(self.shape.blob),
+            grouped(self.shape.updates),
+        );
+        for figure in self.figures {
+            line += &format!("{:>10}", figure.map_or("-".into(), shown));
+        }
+        line += "  ";
+        for to in [MEMCPY, ARC, LMDB] {
+            line += &format!("{:>10}", self.ratio(to).map_or("-".into(), shown_ratio));
+        }
+        line
+    }
+}
+
+/// The line above the rows.
+pub fn heading() -> String {
+    let mut line = format!("{:<19}{:>6}{:>7}{:>9}  ", "what", "page", "blob", "updates");
+    for name in ["ours", "memcpy", "Arc", "LMDB"] {
+        line += &format!("{name:>10}");
+    }
+    line += "  ";
+    for name in ["o/memcpy", "o/Arc", "o/LMDB"] {
+        line += &format!("{name:>10}");
+    }
+    line
+}
+
+/// A figure: one decimal below 100, whole above.
+fn shown(figure: f64) -> String {
+    if figure < 100.0 {
+        format!("{figure:.1}")
+    } else {
+        grouped(figure.round() as usize)
+    }
+}
+
+/// A ratio, to about three digits.
+pub fn shown_ratio(ratio: f64) -> String {
+    match ratio {
+        r if r < 0.1 => format!("{r:.4}"),
+        r if r < 10.0 => format!("{r:.2}"),
+        r if r < 100.0 => format!("{r:.1}"),
+        r => grouped(r.round() as usize),
+    }
+}
+
+/// A number with commas: 4,096.
+pub fn grouped(number: usize) -> String {
+    let digits = number.to_string();
+    let mut text = String::new();
+    for (i, digit) in digits.chars().enumerate() {
+        if i > 0 && (digits.len() - i) % 3 == 0 {
+            text.push(',');
+        }
+        text.push(digit);
+    }
+    text
+}
