@@ -1415,13 +1415,6 @@ fn range_refusal(s: Store, l: Lengths, q: Record, v: Version, g: Range) -> u64
     0
 }
 
-// The page that a byte lies in.
-fn page_at(size: u64, offset: u64) -> u64
-    ensures { λ r. ⌜ r ≡ offset / size ⌝ }
-{
-    if size == 0 { 0 } else { offset / size }
-}
-
 // How many pages a range touches where the table's number k is 0; else none are walked to.
 fn touched(k: u64, size: u64, offset: u64, len: u64) -> u64
     requires { ⌜ (k ≡ 0 → Ranged size offset len) ⌝ }
@@ -1437,12 +1430,26 @@ fn touched(k: u64, size: u64, offset: u64, len: u64) -> u64
     end / size - offset / size + 1
 }
 
-// Whether one of the n pages from a page on is not found as of version v.
-fn some_lost(s: Store, nodes: &[u32], register: &[Record], v: Version, from: u64, n: u64) -> bool
-    requires { ⌜ from + n < 2 ^ 64 ⌝ }
+// Whether one of the n pages from a page on is not found as of version v; `first` says it of the first of them.
+fn some_lost(
+    s: Store,
+    nodes: &[u32],
+    register: &[Record],
+    v: Version,
+    from: u64,
+    n: u64,
+    first: bool,
+) -> bool
+    requires { ⌜ (from + n < 2 ^ 64) × (first ≡ isLost (numberWithin (s .pages) (findPage s (areasOf [] (now nodes) (now register)) (v .0) from))) ⌝ }
     ensures { λ b. ⌜ b ≡ someLost s (areasOf [] (now (nodes .entry)) (now (register .entry))) (v .0) from n ⌝ }
 {
-    let mut i = 0u64;
+    if n == 0 {
+        return false;
+    }
+    if first {
+        return true;
+    }
+    let mut i = 1u64;
     while i < n {
         if is_lost(
             s.pages,
@@ -1472,11 +1479,17 @@ fn copied(k: u64, len: u64) -> u64
     if k == 0 { len } else { 0 }
 }
 
-// What the page of byte `at` has of the len bytes from there on.
+// What the page of byte `at` has of the len bytes from there on. A page of size 0 has none.
 fn chunk_at(size: u64, at: u64, len: u64) -> Chunk
-    requires { ⌜ 0 < size ⌝ }
     ensures { λ c. ⌜ c ≡ chunkAt size at len ⌝ }
 {
+    if size == 0 {
+        return Chunk {
+            page: PageIndex(0),
+            from: at,
+            count: 0,
+        };
+    }
     let from = at % size;
     Chunk {
         page: PageIndex(at / size),
@@ -1485,7 +1498,7 @@ fn chunk_at(size: u64, at: u64, len: u64) -> Chunk
     }
 }
 
-// Copies a range of version v's bytes to the front of the buffer, page by page.
+// Copies a range of version v's bytes to the front of the buffer, page by page. Its first `from` bytes are there already.
 fn copy_range(
     s: Store,
     pages: &[u8],
@@ -1494,12 +1507,13 @@ fn copy_range(
     v: Version,
     offset: u64,
     len: u64,
+    from: u64,
     buffer: &mut [u8],
 )
-    requires { ⌜ Readable s (now pages) (now nodes) (now register) (v .0) offset len (length (now buffer)) ⌝ }
+    requires { ⌜ Readable s (now pages) (now nodes) (now register) (v .0) offset len (length (now buffer)) × (from ≤ len) × (now buffer ≡ bytesFrom s (areasOf (now pages) (now nodes) (now register)) (v .0) offset from ++ drop from (now buffer)) ⌝ }
     ensures { λ _. ⌜ now (buffer .exit) ≡ bytesFrom s (areasOf (now (pages .entry)) (now (nodes .entry)) (now (register .entry))) (v .0) offset len ++ drop len (now (buffer .entry)) ⌝ }
 {
-    let mut done = 0u64;
+    let mut done = from;
     while done < len {
         let c = chunk_at(s.size, offset + done, len - done);
         let x = find_page(s, nodes, register, v, c.page);
@@ -1552,8 +1566,20 @@ pub fn read(
     };
     let k = range_refusal(s, l, record_of(register, v.0), v, g);
     let n = touched(k, s.size, offset.0, len);
-    let lost = some_lost(s, nodes, register, v, page_at(s.size, offset.0), n);
+    let c = chunk_at(s.size, offset.0, len);
+    let x = find_page(s, nodes, register, v, c.page);
+    let lost = some_lost(s, nodes, register, v, c.page.0, n, is_lost(s.pages, x));
     let number = or_lost(k, lost);
+    let count = copied(number, c.count);
+    copy_page(
+        pages,
+        s.size,
+        number_found(s.pages, x),
+        c.from,
+        count,
+        buffer,
+        0,
+    );
     copy_range(
         s,
         pages,
@@ -1562,6 +1588,7 @@ pub fn read(
         v,
         offset.0,
         copied(number, len),
+        count,
         buffer,
     );
     filled_by(number)

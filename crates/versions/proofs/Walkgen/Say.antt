@@ -26,7 +26,6 @@ pub mod last_page
 pub mod node_at
 pub mod number_found
 pub mod or_lost
-pub mod page_at
 pub mod page_refusal
 pub mod place_of
 pub mod publish

@@ -42,9 +42,6 @@ use Rattle.versions.specs.declared.Turn.{Turn}
 use Rattle.versions.specs.declared.Woven.{Woven}
 use Rattle.versions.specs.declared.WovenNode.{WovenNode}
 
-abbrev pub req : ℕ → ℕ → ℕ → Type 0
-req size at len = 0 < size
-
 abbrev pub ens : ℕ → ℕ → ℕ → Chunk → Type 0
 ens size at len c = c ≡ chunkAt size at len
 

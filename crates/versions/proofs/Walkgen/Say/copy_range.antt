@@ -44,11 +44,11 @@ use Rattle.versions.specs.declared.Turn.{Turn}
 use Rattle.versions.specs.declared.Woven.{Woven}
 use Rattle.versions.specs.declared.WovenNode.{WovenNode}
 
-abbrev pub req : Store → List ℕ → List ℕ → List Record → Version → ℕ → ℕ → List ℕ → Type 0
-req s pages nodes register v offset len buffer = Readable s pages nodes register (v .0) offset len (length buffer)
+abbrev pub req : Store → List ℕ → List ℕ → List Record → Version → ℕ → ℕ → ℕ → List ℕ → Type 0
+req s pages nodes register v offset len from buffer = Readable s pages nodes register (v .0) offset len (length buffer) × (from ≤ len) × (buffer ≡ bytesFrom s (areasOf pages nodes register) (v .0) offset from ++ drop from buffer)
 
-abbrev pub ens : Store → List ℕ → List ℕ → List Record → Version → ℕ → ℕ → List ℕ → List ℕ → Unit {0} → Type 0
-ens s pages nodes register v offset len buffer buffer′ result = buffer′ ≡ bytesFrom s (areasOf pages nodes register) (v .0) offset len ++ drop len buffer
+abbrev pub ens : Store → List ℕ → List ℕ → List Record → Version → ℕ → ℕ → ℕ → List ℕ → List ℕ → Unit {0} → Type 0
+ens s pages nodes register v offset len from buffer buffer′ result = buffer′ ≡ bytesFrom s (areasOf pages nodes register) (v .0) offset len ++ drop len buffer
 
-abbrev pub out-buffer : Store → List ℕ → List ℕ → List Record → Version → ℕ → ℕ → List ℕ → List ℕ
-out-buffer s pages nodes register v offset len buffer = bytesFrom s (areasOf pages nodes register) (v .0) offset len ++ drop len buffer
+abbrev pub out-buffer : Store → List ℕ → List ℕ → List Record → Version → ℕ → ℕ → ℕ → List ℕ → List ℕ
+out-buffer s pages nodes register v offset len from buffer = bytesFrom s (areasOf pages nodes register) (v .0) offset len ++ drop len buffer

@@ -44,11 +44,11 @@ use Rattle.versions.specs.declared.Turn.{Turn}
 use Rattle.versions.specs.declared.Woven.{Woven}
 use Rattle.versions.specs.declared.WovenNode.{WovenNode}
 
-abbrev pub req : Store → List ℕ → List Record → Version → ℕ → ℕ → Type 0
-req s nodes register v from n = from + n < 2 ^ 64
+abbrev pub req : Store → List ℕ → List Record → Version → ℕ → ℕ → Bool → Type 0
+req s nodes register v from n first = (from + n < 2 ^ 64) × (first ≡ isLost (numberWithin (s .pages) (findPage s (areasOf [] nodes register) (v .0) from)))
 
-abbrev pub ens : Store → List ℕ → List Record → Version → ℕ → ℕ → Bool → Type 0
-ens s nodes register v from n b = b ≡ someLost s (areasOf [] nodes register) (v .0) from n
+abbrev pub ens : Store → List ℕ → List Record → Version → ℕ → ℕ → Bool → Bool → Type 0
+ens s nodes register v from n first b = b ≡ someLost s (areasOf [] nodes register) (v .0) from n
 
-abbrev pub res : Store → List ℕ → List Record → Version → ℕ → ℕ → Bool
-res s nodes register v from n = someLost s (areasOf [] nodes register) (v .0) from n
+abbrev pub res : Store → List ℕ → List Record → Version → ℕ → ℕ → Bool → Bool
+res s nodes register v from n first = someLost s (areasOf [] nodes register) (v .0) from n
