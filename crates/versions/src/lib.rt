@@ -15,7 +15,7 @@ ghost use Rattle.tree.specs.Register.{noRecord, updateOf, withRecord};
 ghost use Rattle.tree.specs.declared.Record.{Record};
 ghost use Rattle.versions.specs.Table.{_gives_, _≤?_, _or_, firstRefusal, holds, noTicket, outside, unless};
 ghost use Rattle.versions.specs.Weave.{NextOf, Planned, Children};
-ghost use Rattle.versions.specs.Descent.{Spanned, placeIn, placeNumber, turnOf, walkDown, pageRefusal, rangeRefusal, Ranged, orLost, chunkAt, Readable};
+ghost use Rattle.versions.specs.Descent.{Spanned, placeIn, placeNumber, turnOf, foundIn, walkDown, pageRefusal, rangeRefusal, Ranged, orLost, chunkAt, Readable};
 ghost use Rattle.versions.specs.Calls.{areasOf, differ, fresh, formatRefusal, formatted, formatAnswer, formatAreas, beginRefusal, withTicketPart, begunBy, beginOut, beginRegister, bitOf, withBit, putRefusal, withPut, putIn, putOut, putPages, putRegister, updateAt, allPut, assignRefusal, withVersionOf, withVersionPart, assignedBy, assignOut, assignRegister, nextNode, nextPlace, leafPast, weaveRefusal, kept, wovenNode, wove, withWoven, weaveOut, weaveNodes, weaveRegister, publishRefusal, dueBy, publishedBy, publishOut, sizeRefusal, pagesBy, bytesBy, sizedBy, sizeOut, recentBy, recentOut, findPage, numberWithin, isLost, orZero, versionFound, someLost, pagesTouched, bytesFrom, stamped, stampOut, viewPart, filledBy, readOut, readBuffer};
 use pages::copy_page;
 use pages::view_page;
@@ -1218,18 +1218,29 @@ fn turn_at(x: NodeAt, page: PageIndex, span: u64) -> Turn
 }
 
 // The walk to a page from version v's node of this span, which halves at each call: one record and one place a level.
-fn find(register: &[Record], nodes: &[u32], known: u64, v: u64, span: u64, page: PageIndex) -> Found
-    requires { ⌜ (known ≤ length (now register)) × Spanned span ⌝ }
-    ensures { λ r. ⌜ r ≡ walkDown (now (register .entry)) (now (nodes .entry)) known v span (page .0) ⌝ }
+// Where it ends is one number, the leaf's version and page number in 32 bits each, so that no level copies more; lost is the largest number.
+fn find(register: &[Record], nodes: &[u32], known: u64, v: u64, span: u64, page: PageIndex) -> u64
+    requires { ⌜ (known ≤ length (now register)) × Spanned span × (known ≤ 4096) ⌝ }
+    ensures { λ r. ⌜ foundIn r ≡ walkDown (now (register .entry)) (now (nodes .entry)) known v span (page .0) ⌝ }
 {
     let q = record_of(register, v);
     let place = place_of(q, known, v, page, span);
     let t = turn_at(node_at(nodes, place), page, span);
     match t {
-        Turn::Leaf(number) => Found::Leaf(Version(v), number),
+        Turn::Leaf(number) => v * 4294967296 + number,
         Turn::Down(below, half) => find(register, nodes, known, below, half, page),
-        Turn::Lost => Found::Lost,
+        Turn::Lost => u64::MAX,
     }
+}
+
+// Where a walk ends, from that number.
+fn found_in(x: u64) -> Found
+    ensures { λ r. ⌜ r ≡ foundIn x ⌝ }
+{
+    if x == u64::MAX {
+        return Found::Lost;
+    }
+    Found::Leaf(Version(x / 4294967296), x % 4294967296)
 }
 
 // The smaller of two numbers.
@@ -1239,13 +1250,13 @@ fn smaller(a: u64, b: u64) -> u64
     if a < b { a } else { b }
 }
 
-// The walk to a page from version v's root.
+// The walk to a page from version v's root. A version above 4,096, the most updates of a store, has no node.
 fn find_page(s: Store, nodes: &[u32], register: &[Record], v: Version, page: PageIndex) -> Found
     ensures { λ r. ⌜ r ≡ findPage s (areasOf [] (now (nodes .entry)) (now (register .entry))) (v .0) (page .0) ⌝ }
 {
     let q = record_of(register, v.0);
-    let known = smaller(s.assigned.0, register.len() as u64);
-    find(register, nodes, known, v.0, root_of(q), page)
+    let known = smaller(smaller(s.assigned.0, 4096), register.len() as u64);
+    found_in(find(register, nodes, known, v.0, root_of(q), page))
 }
 
 // Whether a walk ends at no page of an area of so many.

@@ -19,6 +19,7 @@ pub mod find_page
 pub mod format
 pub mod format_refusal
 pub mod formatted_by
+pub mod found_in
 pub mod fresh_store
 pub mod index_of
 pub mod is_lost
