@@ -1,15 +1,16 @@
 -- The bytes of a version, by chunks that lie within a page, and a buffer that they fill from its front on. Assumes nothing.
 use mathlib.Core.Path.{_≡_, refl, sym, ap, _∙_}
-use mathlib.Core.Bool.{false}
+use mathlib.Core.Bool.{Bool, true, false}
 use mathlib.Core.List.{List, [], _++_}
 use Prim.Native.Nat.{ℕ, zero, suc, _+_, _*_, _-_, _/_, _%_, _≤_, _<_, min}
-use native.Mathlib.Nat.{add-zero, zero-add, suc-add, mod-lt, div-add-mod', mul-suc, mul-le-mul-left}
+use native.Mathlib.Nat.{add-zero, zero-add, suc-add, sub-zero, mod-lt, div-add-mod', mul-suc, mul-le-mul-left}
 use native.Mathlib.Omega.{arith}
 use borrow.Author.Tests.{le-leb, lt-ltb, le-ltb}
+use lib.Dec.{leb}
 use lib.ListN.{length, take, drop, length-append, length-drop, take-append-drop}
 use lib.Seq.{drop-cons, take-append-seam, drop-drop, drop-append-add, drop-append-le, take-append-le, length-take-le}
 use lib.Arith.{digits-div, digits-mod}
-use Rattle.pages.specs.Pages.{put, part}
+use Rattle.pages.specs.Pages.{pick, put, part}
 use Rattle.tree.specs.declared.Record.{Record}
 use Rattle.tree.specs.declared.Found.{Found}
 use Rattle.tree.specs.declared.Found.the-variants.{Leaf, Lost}
@@ -27,6 +28,16 @@ unfolding put
 grow x b y d n ex ey h =
     let fit : length x + n ≤ length (x ++ drop (length x) b) = simp (length-append, length-drop) (omega arith) in
     rw (← ex, ey, le-leb (length x + n) (length (x ++ drop (length x) b)) fit, take-append-seam, drop-append-add, drop-drop)
+
+-- What lies behind that front is as it was.
+pub behind : (x b : List ℕ) (d n : ℕ) → length x ≡ d → d ≤ n → drop n (x ++ drop d b) ≡ drop n b
+behind x b d n ex h =
+    let e : length x + (n - length x) ≡ n = omega (arith, ex) in
+    rw (← ex)
+    (ap (λ (k : ℕ). drop k (x ++ drop (length x) b)) (sym e)
+    ∙ drop-append-add x (drop (length x) b) (n - length x)
+    ∙ drop-drop (n - length x) (length x) b
+    ∙ ap (λ (k : ℕ). drop k b) e)
 
 module _ (s : Store) (a : Areas) (v : ℕ) where
   pub length-bytes : (j n : ℕ) → length (bytesFrom s a v j n) ≡ n
@@ -74,6 +85,14 @@ part-in-part l at size r n h k =
     rw (le-leb (at + size) (length l) h, length-take-le size (drop at l) long, le-leb (r + n) size k)
     (sym (front (drop at l) size r n long k) ∙ ap (take n) (drop-drop r at l))
 
+no-part : (l : List ℕ) (at : ℕ) → part l at 0 ≡ []
+unfolding part
+no-part l at = go (leb (at + 0) (length l))
+  where
+    go : (b : Bool) → pick b [] [] ≡ []
+    go true = refl
+    go false = refl
+
 -- A page that is found lies within the page area.
 pub found-inside : (pages : ℕ) (x : Found) → isLost (numberWithin pages x) ≡ false → orZero (numberWithin pages x) < pages
 found-inside pages Lost e = let z : _≡_ {A = ℕ} 0 1 = cc in absurd (omega arith)
@@ -112,3 +131,25 @@ module _ (s : Store) (pages nodes : List ℕ) (register : List Record) (v offset
       part-in-part pages (s .size * number) (s .size) (j % s .size) n page-in (omega arith)
       ∙ chunk s (areasOf pages nodes register) v (j / s .size) (j % s .size) n (omega arith) (omega (arith, page-in))
       ∙ ap (λ (i : ℕ). bytesFrom s (areasOf pages nodes register) v i n) (div-add-mod' j (s .size))
+
+-- The first page's bytes of a range, copied to the front of a buffer; of an empty range, none.
+module _ (s : Store) (pages nodes : List ℕ) (register : List Record) (v offset len : ℕ) (buffer : List ℕ)
+    (need : Readable s pages nodes register v offset len (length buffer)) where
+  first-part : let n = min (s .size - offset % s .size) len in
+      part (part pages (s .size * orZero (numberWithin (s .pages) (findPage s (areasOf [] nodes register) v (offset / s .size)))) (s .size)) (offset % s .size) n
+      ≡ bytesFrom s (areasOf pages nodes register) v offset n
+  unfolding bytesFrom
+  first-part = elim (lt-or-le 0 len) [
+    | inl h ↦ rw (add-zero, sub-zero) at (next-bytes s pages nodes register v offset len (length buffer) need 0 h)
+    | inr h ↦ let none : min (s .size - offset % s .size) len ≡ 0 = omega arith in rw none (no-part _ _)
+  ]
+
+  pub first-bytes : let n = min (s .size - offset % s .size) len in
+      put buffer 0
+      (part (part pages (s .size * orZero (numberWithin (s .pages) (findPage s (areasOf [] nodes register) v (offset / s .size)))) (s .size)) (offset % s .size) n)
+      ≡ bytesFrom s (areasOf pages nodes register) v offset n ++ drop n buffer
+  unfolding bytesFrom
+  first-bytes =
+      let n = min (s .size - offset % s .size) len in
+      rw first-part
+      (rw (add-zero, zero-add) at (grow-bytes s (areasOf pages nodes register) v buffer 0 n offset (omega (arith, need .within))))

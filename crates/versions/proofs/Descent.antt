@@ -8,11 +8,12 @@ use mathlib.Core.List.{List, []}
 use Prim.Native.Nat.{ℕ, zero, suc, _+_, _-_, _*_, _/_, _%_, _^_, _≤_, _<_, min}
 use native.Mathlib.Nat.{div-add-mod', min-eq-left, min-eq-right}
 use native.Mathlib.Omega.{arith}
-use borrow.Author.Tests.{lt-ltb, le-ltb, le-leb, lt-leb}
+use borrow.Author.Tests.{lt-ltb, le-ltb, le-leb, lt-leb, ne-eqb}
 use lib.Dec.{ltb}
 use lib.ListN.{length, take, length-map}
 use lib.Seq.{length-take-le, getD-take, take-all}
 use lib.Pow.{pow-pos, pow-mono}
+use lib.Arith.{digits-div, digits-mod}
 use Rattle.tree.specs.Tree.{nth, update, meets, rootHeight}
 use Rattle.tree.specs.Place.{first}
 use Rattle.tree.specs.NodeArea.{nodeAt}
@@ -28,7 +29,7 @@ use Rattle.tree.proofs.Meets.{lt-or-le}
 use Rattle.tree.proofs.Records.{updateOf-inside, update-of-record}
 use Rattle.tree.proofs.Root.{root-height, root-low, height-le}
 use Rattle.versions.specs.Calls.{areasOf, findPage}
-use Rattle.versions.specs.Descent.{Spanned, placeIn, placeNumber, halfNumber, turnOf, walkDown}
+use Rattle.versions.specs.Descent.{Spanned, placeIn, placeNumber, halfNumber, turnOf, foundIn, walkDown}
 use Rattle.versions.specs.declared.Store.{Store}
 use Rattle.versions.specs.declared.Turn.{Turn}
 use Rattle.versions.specs.declared.Turn.the-variants as Turn
@@ -168,6 +169,31 @@ walk-step rs area known v span p inside fits s =
     ∙ ap (λ (n : ℕ). after (turnOf (visit area (at v p (rootHeight span))) p n) v k) (sym (span-height span s))
     ∙ ap (λ (x : NodeAt). after (turnOf x p span) v k) e
 
+-- ---- where a walk ends, in one number
+
+-- A version that a walk ends at is known: others have no place.
+pub leaf-known : (area : List ℕ) (known : ℕ) (q : Record) (v p h span n : ℕ) → length area < 2 ^ 64
+    → turnOf (nodeAt area (placeNumber (placeIn known q v p h))) p span ≡ Turn.Leaf n → v ≤ known
+unfolding placeIn
+leaf-known area known q v p h span n fits e = elim (lt-or-le known v) [
+  | inl k ↦
+      let t = rw (lt-leb v known k, and-false, missing-past area fits (2 ^ 64 - 1) (omega arith)) at e in
+      let z : _≡_ {A = ℕ} 0 1 = cc in
+      absurd (omega arith)
+  | inr k ↦ k
+]
+
+-- A leaf's page number is one of the node's two numbers.
+pub leaf-number : (x : NodeAt) (p span n : ℕ) → turnOf x p span ≡ Turn.Leaf n → (most : ℕ) → ((l r : ℕ) → x ≡ Stored l r → l < most) → n < most
+leaf-number Missing p span n e most low = let z : _≡_ {A = ℕ} 0 1 = cc in absurd (omega arith)
+leaf-number (Stored l r) p span n e most low = elim (lt-or-le span 2) [
+  | inl k ↦ let t = rw (lt-ltb span 2 k) at e in let same : l ≡ n = cc in omega (arith, low l r refl)
+  | inr k ↦ let t = rw (le-ltb span 2 k) at e in let z : _≡_ {A = ℕ} 0 1 = cc in absurd (omega arith)
+]
+
+pub found-leaf : (v n : ℕ) → v ≤ 4096 → n < 2 ^ 32 → foundIn (v * 2 ^ 32 + n) ≡ Leaf (record { 0 = v }) n
+found-leaf v n a b = rw (ne-eqb (v * 2 ^ 32 + n) (2 ^ 64 - 1) (λ e. omega arith), digits-div v b, digits-mod v b)
+
 -- ---- from the root
 
 take-min : (n : ℕ) (rs : List Record) → take (min n (length rs)) rs ≡ take n rs
@@ -177,10 +203,10 @@ take-min n rs = elim (lt-or-le n (length rs)) [
 ]
 
 pub find-from-root : (s : Store) (nodes : List ℕ) (register : List Record) (v p : ℕ)
-    → walkDown register nodes (min (s .assigned .0) (length register)) v (2 ^ rootHeight (updateOf (nth noRecord register v) .size)) p
+    → walkDown register nodes (min (min (s .assigned .0) 4096) (length register)) v (2 ^ rootHeight (updateOf (nth noRecord register v) .size)) p
     ≡ findPage s (areasOf [] nodes register) v p
 unfolding findPage
 find-from-root s nodes register v p =
     let h = rootHeight (updateOf (nth noRecord register v) .size) in
     let e : h ≡ rootHeight (2 ^ h) = root-height (2 ^ h) h (omega arith) (omega (arith, pow-pos h)) in
-    rw (take-min (s .assigned .0) register, ← e)
+    rw (take-min (min (s .assigned .0) 4096) register, ← e)

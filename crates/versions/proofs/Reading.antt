@@ -2,17 +2,19 @@
 use mathlib.Core.Path.{_≡_, refl, sym, ap, _∙_}
 use mathlib.Core.Bool.{Bool}
 use mathlib.Core.List.{List, [], _++_}
-use Prim.Native.Nat.{ℕ, zero, suc, _+_, _/_, _^_, _<_}
-use native.Mathlib.Nat.{div-le-self}
+use Prim.Native.Nat.{ℕ, zero, suc, _+_, _-_, _*_, _/_, _%_, _^_, _≤_, _<_, min}
+use native.Mathlib.Nat.{div-le-self, min-zero}
 use native.Mathlib.Omega.{arith}
 use lib.ListN.{length, drop}
+use Rattle.pages.specs.Pages.{put, part}
 use Rattle.tree.specs.declared.Record.{Record}
 use Rattle.versions.specs.Table.{unless}
-use Rattle.versions.specs.Calls.{areasOf, lengthsOf, recordOf, pagesTouched, someLost, bytesFrom, readNumber}
+use Rattle.versions.specs.Calls.{areasOf, lengthsOf, recordOf, findPage, numberWithin, orZero, pagesTouched, someLost, bytesFrom, readNumber}
 use Rattle.versions.specs.Descent.{rangeRefusal, Ranged, orLost, Readable}
 use Rattle.versions.specs.declared.Store.{Store}
 use Rattle.versions.proofs.Table.{unless-0}
 use Rattle.versions.proofs.Lost.{lost-apart}
+use Rattle.versions.proofs.Chunks.{behind, length-bytes, first-bytes}
 use Rattle.versions.proofs.Ranges.{read-number, or-lost-gate, or-lost-0, range-passed, range-ranged, touched-below}
 
 -- The pages that are walked to have numbers that fit.
@@ -57,9 +59,47 @@ module _ (s : Store) (pages nodes : List ℕ) (register : List Record) (v offset
     found = refl;
   }
 
-  pub copied-is : (number : ℕ)
+  copied-is : (number : ℕ)
       → bytesFrom s (areasOf pages nodes register) v offset (unless number 0 len) ++ drop (unless number 0 len) buffer
       ≡ unless number buffer (bytesFrom s (areasOf pages nodes register) v offset len ++ drop len buffer)
   unfolding unless bytesFrom
   copied-is zero = refl
   copied-is (suc k) = refl
+
+  -- How much of the range is copied with its first page, and the buffer then.
+  abbrev pub ready : ℕ → ℕ
+  ready number = unless number 0 (min (s .size - offset % s .size) len)
+
+  abbrev pub begun : ℕ → List ℕ
+  begun number =
+      put buffer 0
+      (part
+      (part pages (s .size * orZero (numberWithin (s .pages) (findPage s (areasOf [] nodes register) v (offset / s .size)))) (s .size))
+      (offset % s .size)
+      (ready number))
+
+  ready-is : (number : ℕ) → ready number ≡ min (s .size - offset % s .size) (unless number 0 len)
+  unfolding unless
+  ready-is zero = refl
+  ready-is (suc k) = sym (min-zero (s .size - offset % s .size))
+
+  pub ready-within : (number : ℕ) → ready number ≤ unless number 0 len
+  ready-within number = omega (arith, ready-is number)
+
+  module _ (number : ℕ) (h : offset < 2 ^ 64) (e : number ≡ orLost rows walks) where
+    abbrev bytes : ℕ → List ℕ
+    bytes n = bytesFrom s (areasOf pages nodes register) v offset n
+
+    begun-is : begun number ≡ bytes (ready number) ++ drop (ready number) buffer
+    begun-is = rw (ready-is number) (first-bytes s pages nodes register v offset (unless number 0 len) buffer (readable h number e))
+
+    begun-behind : (n : ℕ) → ready number ≤ n → drop n (begun number) ≡ drop n buffer
+    begun-behind n k =
+        ap (drop n) begun-is
+        ∙ behind (bytes (ready number)) buffer (ready number) n (length-bytes s (areasOf pages nodes register) v offset (ready number)) k
+
+    pub begun-front : begun number ≡ bytes (ready number) ++ drop (ready number) (begun number)
+    begun-front = begun-is ∙ ap (λ (b : List ℕ). bytes (ready number) ++ b) (sym (begun-behind (ready number) (omega arith)))
+
+    pub read-is : bytes (unless number 0 len) ++ drop (unless number 0 len) (begun number) ≡ unless number buffer (bytes len ++ drop len buffer)
+    read-is = rw (begun-behind (unless number 0 len) (ready-within number)) (copied-is number)

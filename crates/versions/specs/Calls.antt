@@ -501,10 +501,10 @@ bytesBy s pages = min (s .size * pages) (2 ^ 64 - 1)
 abbrev pub bytesIn : Store → Areas → ℕ → ℕ
 bytesIn s a v = bytesBy s (pagesIn a v)
 
--- The walk from version v's root to page p, over the versions assigned.
+-- The walk from version v's root to page p, over the versions assigned, which in a formatted store are at most 4,096.
 unfoldable pub findPage : Store → Areas → ℕ → ℕ → Found
 findPage s a v p =
-    let us = updatesOf (take (s .assigned .0) (a .register)) in
+    let us = updatesOf (take (min (s .assigned .0) 4096) (a .register)) in
     walkBy (placeOf us (λ (c : ℕ). recordOf a c .place)) (a .nodes) (rootHeight (updateOf (recordOf a v) .size)) v p
 
 -- Its leaf's page number, where the walk ends at a leaf whose page lies within the page area.

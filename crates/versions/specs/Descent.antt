@@ -4,7 +4,7 @@ use mathlib.Core.Bool.{Bool, true, false, _&&_}
 use mathlib.Core.Option.{Option, none, some}
 use mathlib.Core.List.{List, []}
 use Prim.Native.Nat.{ℕ, zero, suc, _+_, _-_, _*_, _/_, _%_, _^_, _≤_, _<_, min}
-use lib.Dec.{ltb, leb}
+use lib.Dec.{ltb, leb, eqb}
 use lib.ListN.{length, take}
 use Rattle.tree.specs.Tree.{nth, rootHeight}
 use Rattle.tree.specs.Place.{index}
@@ -51,6 +51,14 @@ turnBy false l r p span = Turn.Down (halfNumber (ltb (p % span) (span / 2)) l r)
 abbrev pub turnOf : NodeAt → ℕ → ℕ → Turn
 turnOf Missing p span = Turn.Lost
 turnOf (Stored l r) p span = turnBy (ltb span 2) l r p span
+
+-- Where a walk ends, read from one number: a leaf's version and page number in 32 bits each; the largest number of 64 bits is lost.
+abbrev pub foundBy : Bool → ℕ → Found
+foundBy true x = Lost
+foundBy false x = Leaf (record { 0 = x / 2 ^ 32 }) (x % 2 ^ 32)
+
+abbrev pub foundIn : ℕ → Found
+foundIn x = foundBy (eqb x (2 ^ 64 - 1)) x
 
 -- The walk to page p from version v's node of a span over it, over the first `known` records.
 abbrev pub walkDown : List Record → List ℕ → ℕ → ℕ → ℕ → ℕ → Found

@@ -15,7 +15,7 @@ ghost use Rattle.tree.specs.Register.{noRecord, updateOf, withRecord};
 ghost use Rattle.tree.specs.declared.Record.{Record};
 ghost use Rattle.versions.specs.Table.{_gives_, _≤?_, _or_, firstRefusal, holds, noTicket, outside, unless};
 ghost use Rattle.versions.specs.Weave.{NextOf, Planned, Children};
-ghost use Rattle.versions.specs.Descent.{Spanned, placeIn, placeNumber, turnOf, walkDown, pageRefusal, rangeRefusal, Ranged, orLost, chunkAt, Readable};
+ghost use Rattle.versions.specs.Descent.{Spanned, placeIn, placeNumber, turnOf, foundIn, walkDown, pageRefusal, rangeRefusal, Ranged, orLost, chunkAt, Readable};
 ghost use Rattle.versions.specs.Calls.{areasOf, differ, fresh, formatRefusal, formatted, formatAnswer, formatAreas, beginRefusal, withTicketPart, begunBy, beginOut, beginRegister, bitOf, withBit, putRefusal, withPut, putIn, putOut, putPages, putRegister, updateAt, allPut, assignRefusal, withVersionOf, withVersionPart, assignedBy, assignOut, assignRegister, nextNode, nextPlace, leafPast, weaveRefusal, kept, wovenNode, wove, withWoven, weaveOut, weaveNodes, weaveRegister, publishRefusal, dueBy, publishedBy, publishOut, sizeRefusal, pagesBy, bytesBy, sizedBy, sizeOut, recentBy, recentOut, findPage, numberWithin, isLost, orZero, versionFound, someLost, pagesTouched, bytesFrom, stamped, stampOut, viewPart, viewed, viewAt, filledBy, readOut, readBuffer};
 use pages::copy_page;
 use pages::view_page;
@@ -1224,18 +1224,29 @@ fn turn_at(x: NodeAt, page: PageIndex, span: u64) -> Turn
 }
 
 // The walk to a page from version v's node of this span, which halves at each call: one record and one place a level.
-fn find(register: &[Record], nodes: &[u32], known: u64, v: u64, span: u64, page: PageIndex) -> Found
-    requires { ⌜ (known ≤ length (now register)) × Spanned span ⌝ }
-    ensures { λ r. ⌜ r ≡ walkDown (now (register .entry)) (now (nodes .entry)) known v span (page .0) ⌝ }
+// Where it ends is one number, the leaf's version and page number in 32 bits each, so that no level copies more; lost is the largest number.
+fn find(register: &[Record], nodes: &[u32], known: u64, v: u64, span: u64, page: PageIndex) -> u64
+    requires { ⌜ (known ≤ length (now register)) × Spanned span × (known ≤ 4096) ⌝ }
+    ensures { λ r. ⌜ foundIn r ≡ walkDown (now (register .entry)) (now (nodes .entry)) known v span (page .0) ⌝ }
 {
     let q = record_of(register, v);
     let place = place_of(q, known, v, page, span);
     let t = turn_at(node_at(nodes, place), page, span);
     match t {
-        Turn::Leaf(number) => Found::Leaf(Version(v), number),
+        Turn::Leaf(number) => v * 4294967296 + number,
         Turn::Down(below, half) => find(register, nodes, known, below, half, page),
-        Turn::Lost => Found::Lost,
+        Turn::Lost => u64::MAX,
     }
+}
+
+// Where a walk ends, from that number.
+fn found_in(x: u64) -> Found
+    ensures { λ r. ⌜ r ≡ foundIn x ⌝ }
+{
+    if x == u64::MAX {
+        return Found::Lost;
+    }
+    Found::Leaf(Version(x / 4294967296), x % 4294967296)
 }
 
 // The smaller of two numbers.
@@ -1245,13 +1256,13 @@ fn smaller(a: u64, b: u64) -> u64
     if a < b { a } else { b }
 }
 
-// The walk to a page from version v's root.
+// The walk to a page from version v's root. A version above 4,096, the most updates of a store, has no node.
 fn find_page(s: Store, nodes: &[u32], register: &[Record], v: Version, page: PageIndex) -> Found
     ensures { λ r. ⌜ r ≡ findPage s (areasOf [] (now (nodes .entry)) (now (register .entry))) (v .0) (page .0) ⌝ }
 {
     let q = record_of(register, v.0);
-    let known = smaller(s.assigned.0, register.len() as u64);
-    find(register, nodes, known, v.0, root_of(q), page)
+    let known = smaller(smaller(s.assigned.0, 4096), register.len() as u64);
+    found_in(find(register, nodes, known, v.0, root_of(q), page))
 }
 
 // Whether a walk ends at no page of an area of so many.
@@ -1458,13 +1469,6 @@ fn range_refusal(s: Store, l: Lengths, q: Record, v: Version, g: Range) -> u64
     0
 }
 
-// The page that a byte lies in.
-fn page_at(size: u64, offset: u64) -> u64
-    ensures { λ r. ⌜ r ≡ offset / size ⌝ }
-{
-    if size == 0 { 0 } else { offset / size }
-}
-
 // How many pages a range touches where the table's number k is 0; else none are walked to.
 fn touched(k: u64, size: u64, offset: u64, len: u64) -> u64
     requires { ⌜ (k ≡ 0 → Ranged size offset len) ⌝ }
@@ -1480,12 +1484,26 @@ fn touched(k: u64, size: u64, offset: u64, len: u64) -> u64
     end / size - offset / size + 1
 }
 
-// Whether one of the n pages from a page on is not found as of version v.
-fn some_lost(s: Store, nodes: &[u32], register: &[Record], v: Version, from: u64, n: u64) -> bool
-    requires { ⌜ from + n < 2 ^ 64 ⌝ }
+// Whether one of the n pages from a page on is not found as of version v; `first` says it of the first of them.
+fn some_lost(
+    s: Store,
+    nodes: &[u32],
+    register: &[Record],
+    v: Version,
+    from: u64,
+    n: u64,
+    first: bool,
+) -> bool
+    requires { ⌜ (from + n < 2 ^ 64) × (first ≡ isLost (numberWithin (s .pages) (findPage s (areasOf [] (now nodes) (now register)) (v .0) from))) ⌝ }
     ensures { λ b. ⌜ b ≡ someLost s (areasOf [] (now (nodes .entry)) (now (register .entry))) (v .0) from n ⌝ }
 {
-    let mut i = 0u64;
+    if n == 0 {
+        return false;
+    }
+    if first {
+        return true;
+    }
+    let mut i = 1u64;
     while i < n {
         if is_lost(
             s.pages,
@@ -1515,11 +1533,17 @@ fn copied(k: u64, len: u64) -> u64
     if k == 0 { len } else { 0 }
 }
 
-// What the page of byte `at` has of the len bytes from there on.
+// What the page of byte `at` has of the len bytes from there on. A page of size 0 has none.
 fn chunk_at(size: u64, at: u64, len: u64) -> Chunk
-    requires { ⌜ 0 < size ⌝ }
     ensures { λ c. ⌜ c ≡ chunkAt size at len ⌝ }
 {
+    if size == 0 {
+        return Chunk {
+            page: PageIndex(0),
+            from: at,
+            count: 0,
+        };
+    }
     let from = at % size;
     Chunk {
         page: PageIndex(at / size),
@@ -1528,7 +1552,7 @@ fn chunk_at(size: u64, at: u64, len: u64) -> Chunk
     }
 }
 
-// Copies a range of version v's bytes to the front of the buffer, page by page.
+// Copies a range of version v's bytes to the front of the buffer, page by page. Its first `from` bytes are there already.
 fn copy_range(
     s: Store,
     pages: &[u8],
@@ -1537,12 +1561,13 @@ fn copy_range(
     v: Version,
     offset: u64,
     len: u64,
+    from: u64,
     buffer: &mut [u8],
 )
-    requires { ⌜ Readable s (now pages) (now nodes) (now register) (v .0) offset len (length (now buffer)) ⌝ }
+    requires { ⌜ Readable s (now pages) (now nodes) (now register) (v .0) offset len (length (now buffer)) × (from ≤ len) × (now buffer ≡ bytesFrom s (areasOf (now pages) (now nodes) (now register)) (v .0) offset from ++ drop from (now buffer)) ⌝ }
     ensures { λ _. ⌜ now (buffer .exit) ≡ bytesFrom s (areasOf (now (pages .entry)) (now (nodes .entry)) (now (register .entry))) (v .0) offset len ++ drop len (now (buffer .entry)) ⌝ }
 {
-    let mut done = 0u64;
+    let mut done = from;
     while done < len {
         let c = chunk_at(s.size, offset + done, len - done);
         let x = find_page(s, nodes, register, v, c.page);
@@ -1595,8 +1620,20 @@ pub fn read(
     };
     let k = range_refusal(s, l, record_of(register, v.0), v, g);
     let n = touched(k, s.size, offset.0, len);
-    let lost = some_lost(s, nodes, register, v, page_at(s.size, offset.0), n);
+    let c = chunk_at(s.size, offset.0, len);
+    let x = find_page(s, nodes, register, v, c.page);
+    let lost = some_lost(s, nodes, register, v, c.page.0, n, is_lost(s.pages, x));
     let number = or_lost(k, lost);
+    let count = copied(number, c.count);
+    copy_page(
+        pages,
+        s.size,
+        number_found(s.pages, x),
+        c.from,
+        count,
+        buffer,
+        0,
+    );
     copy_range(
         s,
         pages,
@@ -1605,6 +1642,7 @@ pub fn read(
         v,
         offset.0,
         copied(number, len),
+        count,
         buffer,
     );
     filled_by(number)

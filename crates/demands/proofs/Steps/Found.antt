@@ -4,7 +4,8 @@ use mathlib.Core.Path.{_≡_, refl, _∙_}
 use mathlib.Core.Logic.{inr}
 use mathlib.Core.Option.{none, some}
 use mathlib.Core.List.{List, []}
-use Prim.Native.Nat.{ℕ, zero, suc, pred, _+_, _-_, _*_, _^_, _≤_, _<_}
+use Prim.Native.Nat.{ℕ, zero, suc, pred, _+_, _-_, _*_, _^_, _≤_, _<_, min}
+use native.Mathlib.Nat.{min-eq-left}
 use native.Mathlib.Omega.{arith}
 use borrow.Author.Tests.{lt-ltb}
 use lib.ListN.{length, getD}
@@ -106,6 +107,10 @@ module _ (L : Limits) (m : Model) (sound : Sound L m) where
       tree-in (updates m) k (λ v l. sound .accepted v (omega (arith, sound .published))) leafAt (nodesImage L m)
       (λ v o l. woven-from (λ (w : ℕ). used (updates m) (pred w)) v o (omega arith) refl)
 
+  -- The versions assigned are within the limit that the walk keeps to.
+  few-versions : min (length (m .versions)) 4096 ≡ length (m .versions)
+  few-versions = min-eq-left {n = length (m .versions)} {m = 4096} (omega (arith, sound .fewer, sound .records, sound .allowed .updates))
+
   -- A published version is assigned, and its record lies within the register.
   pub published-within : (v : ℕ) → v ≤ m .published → (v ≤ length (m .versions)) × (v ≤ L .updates)
   published-within v h = (omega (arith, sound .published), omega (arith, sound .published, sound .fewer, sound .records))
@@ -127,7 +132,7 @@ module _ (L : Limits) (m : Model) (sound : Sound L m) where
     -- The walk on the image.
     pub find-page : findPage (storeImage L m) (areasImage L m) v p ≡ Leaf (record { 0 = stampOf (updates m) v p }) (numberIn m (stampOf (updates m) v p) p)
     unfolding findPage
-    find-page = rw (updates-taken L m sound, update-image L m sound v o upto) walk-found
+    find-page = rw (few-versions, updates-taken L m sound, update-image L m sound v o upto) walk-found
 
     stamped : StampedIn m v p
     stamped = stamp-bounds L m sound v p upto r

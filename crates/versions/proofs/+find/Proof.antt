@@ -42,12 +42,10 @@ use denote.Steps.{owned, nothing, heard}
 use denote.Triple.Spec.{Meets, tripleOf}
 use denote.Triple.Table.{entered, cited}
 use denote.Triple.Walked.{says, needs, Stays, stay-slice, stay-none-slice, stay-none, walkOf, Walks, ends-at, walked, goes-slice, goes-none-slice, goes-none, walk-meets, walked-at, walk-meets-at}
-use Rattle.tree.specs.declared.Found.{Found}
-use Rattle.versions.proofs.Walkgen.Kind.Found as Found′
-use Rattle.tree.specs.declared.Version.{Version}
-use Rattle.tree.proofs.Walkgen.Kind.Version as Version′
 use Rattle.tree.specs.declared.Record.{Record}
 use Rattle.tree.proofs.Walkgen.Kind.Record as Record′
+use Rattle.tree.specs.declared.Version.{Version}
+use Rattle.tree.proofs.Walkgen.Kind.Version as Version′
 use Rattle.tree.specs.declared.Ticket.{Ticket}
 use Rattle.tree.proofs.Walkgen.Kind.Ticket as Ticket′
 use Rattle.tree.specs.declared.PageIndex.{PageIndex}
@@ -91,7 +89,7 @@ use denote.Memory.{pointee}
 use mathlib.Core.WellFounded.{WellFounded, InvImage·wf}
 use Rattle.versions.proofs.+find.Code.find as parts
 use Rattle.versions.proofs.+find.Proof.Loop as Loop
-use Rattle.versions.proofs.+find.Proof.Asks.{r1, r2, r3, r4, r5}
+use Rattle.versions.proofs.+find.Proof.Asks.{r1, r2, r3, r4}
 
 abbrev stayed : Stays (find‴.ended .signature .params) (find‴.ended .kept)
 stayed = (stay-none-slice (0 ∷ []) tt (plain (λ _. Record′.row)) yes, (stay-none-slice (1 ∷ []) tt (plain (λ _. u32)) yes, (stay-none (λ _. u64) yes, (stay-none (λ _. u64) yes, (stay-none (λ _. u64) yes, (stay-none (λ _. PageIndex′.row) yes, tt))))))
@@ -109,10 +107,10 @@ module _ {M : Type 1} (𝓤 : URA M) (H : Heap 𝓤) (A : Atoms 𝓤) (W : Given
   abbrev Post : Val → SProp 𝓤
   Post = walkOf 𝓤 H A find‴.ended stayed (find‴.clauses 𝓤 H A mem run) .post bound
 
-  exits : (r : Found) → Is Found′.row r (Found′.vals r) → find″.ens register nodes x-known x-v span page r → ent 𝓤 (⋆ 𝓤 H A (‵ (flft κ·register q·register) ∷ ‵ (ShrAt Record′.row κ·register b·register o·register γ·register (length register) register) ∷ ‵ (flft κ·nodes q·nodes) ∷ ‵ (ShrAt u32 κ·nodes b·nodes o·nodes γ·nodes (length nodes) nodes) ∷ [])) (Post (Found′.mach r))
+  exits : (r : ℕ) → Is u64 r (uint-vals w64 r) → find″.ens register nodes x-known x-v span page r → ent 𝓤 (⋆ 𝓤 H A (‵ (flft κ·register q·register) ∷ ‵ (ShrAt Record′.row κ·register b·register o·register γ·register (length register) register) ∷ ‵ (flft κ·nodes q·nodes) ∷ ‵ (ShrAt u32 κ·nodes b·nodes o·nodes γ·nodes (length nodes) nodes) ∷ [])) (Post (vint w64 r))
   exits r ok·r said =
-      qed W (‵ (flft κ·register q·register) ∷ ‵ (ShrAt Record′.row κ·register b·register o·register γ·register (length register) register) ∷ ‵ (flft κ·nodes q·nodes) ∷ ‵ (ShrAt u32 κ·nodes b·nodes o·nodes γ·nodes (length nodes) nodes) ∷ []) ∵ suffices ! _ (ends-at 𝓤 H A find‴.ended stayed (find‴.clauses 𝓤 H A mem run) W bound (Found′.mach r) r (tt, (tt, (tt, (tt, (tt, (tt, tt)))))) (tt, (tt, (tt, (tt, (tt, (tt, tt))))))) $ says ! said $
-      nothing ! $ move ! (3 ∷ 0 ∷ []) $ join ! $ move ! (1 ∷ 0 ∷ []) $ join ! $ frame ! $ nothing ! $ owned ! PageIndex′.row (Is PageIndex′.row) (PageIndex′.makes 𝓤 H A) page _ ok·page $ fjoin ! $ owned ! u64 (Is u64) (uint-makes 𝓤 H A W w64) span _ ok·span $ fjoin ! $ owned ! u64 (Is u64) (uint-makes 𝓤 H A W w64) x-v _ ok·x-v $ fjoin ! $ owned ! u64 (Is u64) (uint-makes 𝓤 H A W w64) x-known _ ok·x-known $ fjoin ! $ move ! (2 ∷ 0 ∷ []) $ fjoin ! $ move ! (1 ∷ 0 ∷ []) $ fjoin ! $ frame ! $ owned ! Found′.row (Is Found′.row) (Found′.makes 𝓤 H A) r _ ok·r $ done !
+      qed W (‵ (flft κ·register q·register) ∷ ‵ (ShrAt Record′.row κ·register b·register o·register γ·register (length register) register) ∷ ‵ (flft κ·nodes q·nodes) ∷ ‵ (ShrAt u32 κ·nodes b·nodes o·nodes γ·nodes (length nodes) nodes) ∷ []) ∵ suffices ! _ (ends-at 𝓤 H A find‴.ended stayed (find‴.clauses 𝓤 H A mem run) W bound (vint w64 r) r (tt, (tt, (tt, (tt, (tt, (tt, tt)))))) (tt, (tt, (tt, (tt, (tt, (tt, tt))))))) $ says ! said $
+      nothing ! $ move ! (3 ∷ 0 ∷ []) $ join ! $ move ! (1 ∷ 0 ∷ []) $ join ! $ frame ! $ nothing ! $ owned ! PageIndex′.row (Is PageIndex′.row) (PageIndex′.makes 𝓤 H A) page _ ok·page $ fjoin ! $ owned ! u64 (Is u64) (uint-makes 𝓤 H A W w64) span _ ok·span $ fjoin ! $ owned ! u64 (Is u64) (uint-makes 𝓤 H A W w64) x-v _ ok·x-v $ fjoin ! $ owned ! u64 (Is u64) (uint-makes 𝓤 H A W w64) x-known _ ok·x-known $ fjoin ! $ move ! (2 ∷ 0 ∷ []) $ fjoin ! $ move ! (1 ∷ 0 ∷ []) $ fjoin ! $ frame ! $ owned ! u64 (Is u64) (uint-makes 𝓤 H A W w64) r _ ok·r $ done !
 
   walk : (𝓣 : Tables 𝓤 H) (known-record-of : Triple 𝓤 (𝓣 .C #record-of) (Call-record-of.Asked 𝓤 H A mem run)) (known-place-of : Triple 𝓤 (𝓣 .C #place-of) (Call-place-of.Asked 𝓤 H A mem run)) (known-node-at : Triple 𝓤 (𝓣 .C #node-at) (Call-node-at.Asked 𝓤 H A mem run)) (known-turn-at : Triple 𝓤 (𝓣 .C #turn-at) (Call-turn-at.Asked 𝓤 H A mem run)) (known-self : (y : Call-find.Asked 𝓤 H A mem run .Ghost) → Loop.measure-0 (y .0 .3 .0 .now) (y .0 .3 .1 .0 .now) (y .0 .3 .1 .1 .0) (y .0 .3 .1 .1 .1 .0) (y .0 .3 .1 .1 .1 .1 .0) (y .0 .3 .1 .1 .1 .1 .1 .0) < Loop.measure-0 register nodes x-known x-v span page → ent 𝓤 (Call-find.Asked 𝓤 H A mem run .pre y) (𝓣 .C #self (Call-find.Asked 𝓤 H A mem run .args y) (Call-find.Asked 𝓤 H A mem run .post y))) → ent 𝓤 (onEntry 𝓤 H A find‴.signature (κ·register, (κ·nodes, tt)) (q·register, (q·nodes, tt)) all-args all-vals)
       (WpFn 𝓤 H (𝓣 .C) (𝓣 .Λ) code.find-function (sliceVal (b·register, o·register) (length register) ∷ sliceVal (b·nodes, o·nodes) (length nodes) ∷ vint w64 x-known ∷ vint w64 x-v ∷ vint w64 span ∷ PageIndex′.mach page ∷ []) Post)
@@ -123,43 +121,43 @@ module _ {M : Type 1} (𝓤 : URA M) (H : Heap 𝓤) (A : Atoms 𝓤) (W : Given
       move ! (33 ∷ []) $ fsplit ! $ move ! (1 ∷ []) $ fsplit ! $ move ! (1 ∷ []) $ fsplit ! $ drop ! $ fsplit ! $ drop ! $ fsplit ! $ drop ! $ fsplit ! $ drop ! $ drop ! $ move ! (34 ∷ []) $ split ! $ move ! (1 ∷ []) $ split ! $ move ! (1 ∷ []) $ drop ! $ move ! (1 ∷ 3 ∷ 0 ∷ 2 ∷ []) $
       Call-record-of.calls ! mem run (fmOf 𝓤 H (W .laws) 𝓣) known-record-of κ·register q·register b·register o·register γ·register (length register) register x-v ok·x-v (and-then ! (load ! (from ! (stop !)) (look ! 32 refl)) (and-then ! (load ! (from ! (stop !)) (look ! 26 refl)) (no-more !)))
       (λ ok·1. land ! (from ! (stop !)) (init ! 20 refl (Record′.typed 𝓤 H A W (r1 register nodes x-known x-v span page) ok·1)) $
-      here ! (‵ (flft κ·register q·register) ∷ ‵ (ShrAt Record′.row κ·register b·register o·register γ·register (length register) register) ∷ ‵ (flft κ·nodes q·nodes) ∷ ‵ (ShrAt u32 κ·nodes b·nodes o·nodes γ·nodes (length nodes) nodes) ∷ empty (tyAt (code.find-function .locals) 15) l₁₅ (empty (tyAt (code.find-function .locals) 14) l₁₄ (empty (tyAt (code.find-function .locals) 13) l₁₃ (empty (tyInt w64) l₁₂ (empty (tyInt w64) l₁₁ (empty (tyInt w64) l₁₀ (empty (tyAt (code.find-function .locals) 9) l₉ (empty (tyInt w64) l₈ (holds (tyAt (code.find-function .locals) 7) l₇ (Record′.mach (r1 register nodes x-known x-v span page)) (holds (tyAt (code.find-function .locals) 6) l₆ (PageIndex′.mach page) (holds (tyInt w64) l₅ (vint w64 span) (holds (tyInt w64) l₄ (vint w64 x-v) (holds (tyInt w64) l₃ (vint w64 x-known) (holds (sliceTy (tyRef (named 1) imm (pointee (u32 .written)))) l₂ (sliceVal (b·nodes, o·nodes) (length nodes)) (holds (sliceTy (tyRef (named 0) imm (pointee (Record′.row .written)))) l₁ (sliceVal (b·register, o·register) (length register)) (empty (tyAt (code.find-function .locals) 0) l₀ [])))))))))))))))) $
+      here ! (‵ (flft κ·register q·register) ∷ ‵ (ShrAt Record′.row κ·register b·register o·register γ·register (length register) register) ∷ ‵ (flft κ·nodes q·nodes) ∷ ‵ (ShrAt u32 κ·nodes b·nodes o·nodes γ·nodes (length nodes) nodes) ∷ empty (tyInt w64) l₁₅ (empty (tyInt w64) l₁₄ (empty (tyAt (code.find-function .locals) 13) l₁₃ (empty (tyInt w64) l₁₂ (empty (tyInt w64) l₁₁ (empty (tyInt w64) l₁₀ (empty (tyAt (code.find-function .locals) 9) l₉ (empty (tyInt w64) l₈ (holds (tyAt (code.find-function .locals) 7) l₇ (Record′.mach (r1 register nodes x-known x-v span page)) (holds (tyAt (code.find-function .locals) 6) l₆ (PageIndex′.mach page) (holds (tyInt w64) l₅ (vint w64 span) (holds (tyInt w64) l₄ (vint w64 x-v) (holds (tyInt w64) l₃ (vint w64 x-known) (holds (sliceTy (tyRef (named 1) imm (pointee (u32 .written)))) l₂ (sliceVal (b·nodes, o·nodes) (length nodes)) (holds (sliceTy (tyRef (named 0) imm (pointee (Record′.row .written)))) l₁ (sliceVal (b·register, o·register) (length register)) (empty (tyInt w64) l₀ [])))))))))))))))) $
       Call-place-of.calls ! mem run (fmOf 𝓤 H (W .laws) 𝓣) known-place-of (r1 register nodes x-known x-v span page) x-known x-v page span ok·1 ok·x-known ok·x-v ok·page ok·span (Facts.place-of-1 register nodes x-known x-v span page (room·register .0) (room·nodes .0) (ok·x-known .1) (ok·x-v .1) (ok·span .1) ok·page need ok·1) (and-then ! (load ! (from ! (stop !)) (look ! 21 refl)) (and-then ! (load ! (from ! (stop !)) (look ! 29 refl)) (and-then ! (load ! (from ! (stop !)) (look ! 27 refl)) (and-then ! (load ! (from ! (stop !)) (look ! 23 refl)) (and-then ! (load ! (from ! (stop !)) (look ! 25 refl)) (no-more !))))))
       (λ ok·2. land ! (from ! (stop !)) (init ! 18 refl (tt, record { fits = ok·2 .1 })) $
-      here ! (‵ (flft κ·register q·register) ∷ ‵ (ShrAt Record′.row κ·register b·register o·register γ·register (length register) register) ∷ ‵ (flft κ·nodes q·nodes) ∷ ‵ (ShrAt u32 κ·nodes b·nodes o·nodes γ·nodes (length nodes) nodes) ∷ empty (tyAt (code.find-function .locals) 15) l₁₅ (empty (tyAt (code.find-function .locals) 14) l₁₄ (empty (tyAt (code.find-function .locals) 13) l₁₃ (empty (tyInt w64) l₁₂ (empty (tyInt w64) l₁₁ (empty (tyInt w64) l₁₀ (empty (tyAt (code.find-function .locals) 9) l₉ (holds (tyInt w64) l₈ (vint w64 (r2 register nodes x-known x-v span page)) (holds (tyAt (code.find-function .locals) 7) l₇ (Record′.mach (r1 register nodes x-known x-v span page)) (holds (tyAt (code.find-function .locals) 6) l₆ (PageIndex′.mach page) (holds (tyInt w64) l₅ (vint w64 span) (holds (tyInt w64) l₄ (vint w64 x-v) (holds (tyInt w64) l₃ (vint w64 x-known) (holds (sliceTy (tyRef (named 1) imm (pointee (u32 .written)))) l₂ (sliceVal (b·nodes, o·nodes) (length nodes)) (holds (sliceTy (tyRef (named 0) imm (pointee (Record′.row .written)))) l₁ (sliceVal (b·register, o·register) (length register)) (empty (tyAt (code.find-function .locals) 0) l₀ [])))))))))))))))) $
+      here ! (‵ (flft κ·register q·register) ∷ ‵ (ShrAt Record′.row κ·register b·register o·register γ·register (length register) register) ∷ ‵ (flft κ·nodes q·nodes) ∷ ‵ (ShrAt u32 κ·nodes b·nodes o·nodes γ·nodes (length nodes) nodes) ∷ empty (tyInt w64) l₁₅ (empty (tyInt w64) l₁₄ (empty (tyAt (code.find-function .locals) 13) l₁₃ (empty (tyInt w64) l₁₂ (empty (tyInt w64) l₁₁ (empty (tyInt w64) l₁₀ (empty (tyAt (code.find-function .locals) 9) l₉ (holds (tyInt w64) l₈ (vint w64 (r2 register nodes x-known x-v span page)) (holds (tyAt (code.find-function .locals) 7) l₇ (Record′.mach (r1 register nodes x-known x-v span page)) (holds (tyAt (code.find-function .locals) 6) l₆ (PageIndex′.mach page) (holds (tyInt w64) l₅ (vint w64 span) (holds (tyInt w64) l₄ (vint w64 x-v) (holds (tyInt w64) l₃ (vint w64 x-known) (holds (sliceTy (tyRef (named 1) imm (pointee (u32 .written)))) l₂ (sliceVal (b·nodes, o·nodes) (length nodes)) (holds (sliceTy (tyRef (named 0) imm (pointee (Record′.row .written)))) l₁ (sliceVal (b·register, o·register) (length register)) (empty (tyInt w64) l₀ [])))))))))))))))) $
       move ! (2 ∷ 3 ∷ []) $
       Call-node-at.calls ! mem run (fmOf 𝓤 H (W .laws) 𝓣) known-node-at κ·nodes q·nodes b·nodes o·nodes γ·nodes (length nodes) nodes (r2 register nodes x-known x-v span page) ok·2 (and-then ! (load ! (from ! (stop !)) (look ! 30 refl)) (and-then ! (load ! (from ! (stop !)) (look ! 18 refl)) (no-more !)))
       (λ ok·3. move ! (2 ∷ 3 ∷ 0 ∷ 1 ∷ []) $ land ! (from ! (stop !)) (init ! 8 refl (NodeAt′.typed 𝓤 H A W (r3 register nodes x-known x-v span page) ok·3)) $
-      here ! (‵ (flft κ·register q·register) ∷ ‵ (ShrAt Record′.row κ·register b·register o·register γ·register (length register) register) ∷ ‵ (flft κ·nodes q·nodes) ∷ ‵ (ShrAt u32 κ·nodes b·nodes o·nodes γ·nodes (length nodes) nodes) ∷ empty (tyAt (code.find-function .locals) 15) l₁₅ (empty (tyAt (code.find-function .locals) 14) l₁₄ (holds (tyAt (code.find-function .locals) 13) l₁₃ (NodeAt′.mach (r3 register nodes x-known x-v span page)) (empty (tyInt w64) l₁₂ (empty (tyInt w64) l₁₁ (empty (tyInt w64) l₁₀ (empty (tyAt (code.find-function .locals) 9) l₉ (holds (tyInt w64) l₈ (vint w64 (r2 register nodes x-known x-v span page)) (holds (tyAt (code.find-function .locals) 7) l₇ (Record′.mach (r1 register nodes x-known x-v span page)) (holds (tyAt (code.find-function .locals) 6) l₆ (PageIndex′.mach page) (holds (tyInt w64) l₅ (vint w64 span) (holds (tyInt w64) l₄ (vint w64 x-v) (holds (tyInt w64) l₃ (vint w64 x-known) (holds (sliceTy (tyRef (named 1) imm (pointee (u32 .written)))) l₂ (sliceVal (b·nodes, o·nodes) (length nodes)) (holds (sliceTy (tyRef (named 0) imm (pointee (Record′.row .written)))) l₁ (sliceVal (b·register, o·register) (length register)) (empty (tyAt (code.find-function .locals) 0) l₀ [])))))))))))))))) $
+      here ! (‵ (flft κ·register q·register) ∷ ‵ (ShrAt Record′.row κ·register b·register o·register γ·register (length register) register) ∷ ‵ (flft κ·nodes q·nodes) ∷ ‵ (ShrAt u32 κ·nodes b·nodes o·nodes γ·nodes (length nodes) nodes) ∷ empty (tyInt w64) l₁₅ (empty (tyInt w64) l₁₄ (holds (tyAt (code.find-function .locals) 13) l₁₃ (NodeAt′.mach (r3 register nodes x-known x-v span page)) (empty (tyInt w64) l₁₂ (empty (tyInt w64) l₁₁ (empty (tyInt w64) l₁₀ (empty (tyAt (code.find-function .locals) 9) l₉ (holds (tyInt w64) l₈ (vint w64 (r2 register nodes x-known x-v span page)) (holds (tyAt (code.find-function .locals) 7) l₇ (Record′.mach (r1 register nodes x-known x-v span page)) (holds (tyAt (code.find-function .locals) 6) l₆ (PageIndex′.mach page) (holds (tyInt w64) l₅ (vint w64 span) (holds (tyInt w64) l₄ (vint w64 x-v) (holds (tyInt w64) l₃ (vint w64 x-known) (holds (sliceTy (tyRef (named 1) imm (pointee (u32 .written)))) l₂ (sliceVal (b·nodes, o·nodes) (length nodes)) (holds (sliceTy (tyRef (named 0) imm (pointee (Record′.row .written)))) l₁ (sliceVal (b·register, o·register) (length register)) (empty (tyInt w64) l₀ [])))))))))))))))) $
       Call-turn-at.calls ! mem run (fmOf 𝓤 H (W .laws) 𝓣) known-turn-at (r3 register nodes x-known x-v span page) page span ok·3 ok·page ok·span (and-then ! (load ! (from ! (stop !)) (look ! 9 refl)) (and-then ! (load ! (from ! (stop !)) (look ! 23 refl)) (and-then ! (load ! (from ! (stop !)) (look ! 25 refl)) (no-more !))))
       (λ ok·4. land ! (from ! (stop !)) (init ! 16 refl (Turn′.typed 𝓤 H A W (r4 register nodes x-known x-v span page) ok·4)) $
-      here ! (‵ (flft κ·register q·register) ∷ ‵ (ShrAt Record′.row κ·register b·register o·register γ·register (length register) register) ∷ ‵ (flft κ·nodes q·nodes) ∷ ‵ (ShrAt u32 κ·nodes b·nodes o·nodes γ·nodes (length nodes) nodes) ∷ empty (tyAt (code.find-function .locals) 15) l₁₅ (empty (tyAt (code.find-function .locals) 14) l₁₄ (holds (tyAt (code.find-function .locals) 13) l₁₃ (NodeAt′.mach (r3 register nodes x-known x-v span page)) (empty (tyInt w64) l₁₂ (empty (tyInt w64) l₁₁ (empty (tyInt w64) l₁₀ (holds (tyAt (code.find-function .locals) 9) l₉ (Turn′.mach (r4 register nodes x-known x-v span page)) (holds (tyInt w64) l₈ (vint w64 (r2 register nodes x-known x-v span page)) (holds (tyAt (code.find-function .locals) 7) l₇ (Record′.mach (r1 register nodes x-known x-v span page)) (holds (tyAt (code.find-function .locals) 6) l₆ (PageIndex′.mach page) (holds (tyInt w64) l₅ (vint w64 span) (holds (tyInt w64) l₄ (vint w64 x-v) (holds (tyInt w64) l₃ (vint w64 x-known) (holds (sliceTy (tyRef (named 1) imm (pointee (u32 .written)))) l₂ (sliceVal (b·nodes, o·nodes) (length nodes)) (holds (sliceTy (tyRef (named 0) imm (pointee (Record′.row .written)))) l₁ (sliceVal (b·register, o·register) (length register)) (empty (tyAt (code.find-function .locals) 0) l₀ [])))))))))))))))) $
+      here ! (‵ (flft κ·register q·register) ∷ ‵ (ShrAt Record′.row κ·register b·register o·register γ·register (length register) register) ∷ ‵ (flft κ·nodes q·nodes) ∷ ‵ (ShrAt u32 κ·nodes b·nodes o·nodes γ·nodes (length nodes) nodes) ∷ empty (tyInt w64) l₁₅ (empty (tyInt w64) l₁₄ (holds (tyAt (code.find-function .locals) 13) l₁₃ (NodeAt′.mach (r3 register nodes x-known x-v span page)) (empty (tyInt w64) l₁₂ (empty (tyInt w64) l₁₁ (empty (tyInt w64) l₁₀ (holds (tyAt (code.find-function .locals) 9) l₉ (Turn′.mach (r4 register nodes x-known x-v span page)) (holds (tyInt w64) l₈ (vint w64 (r2 register nodes x-known x-v span page)) (holds (tyAt (code.find-function .locals) 7) l₇ (Record′.mach (r1 register nodes x-known x-v span page)) (holds (tyAt (code.find-function .locals) 6) l₆ (PageIndex′.mach page) (holds (tyInt w64) l₅ (vint w64 span) (holds (tyInt w64) l₄ (vint w64 x-v) (holds (tyInt w64) l₃ (vint w64 x-known) (holds (sliceTy (tyRef (named 1) imm (pointee (u32 .written)))) l₂ (sliceVal (b·nodes, o·nodes) (length nodes)) (holds (sliceTy (tyRef (named 0) imm (pointee (Record′.row .written)))) l₁ (sliceVal (b·register, o·register) (length register)) (empty (tyInt w64) l₀ [])))))))))))))))) $
       Turn′.cases ! (r4 register nodes x-known x-v span page)
       (λ y1-0 m·1. rewrite ! 16 (λ (u : Turn). ‵ (fat fullShare Turn′.ty l₉ 0 (Turn′.mach u))) m·1 refl $ switches-to ! 0 (load ! (from ! (vrt ! refl (fld ! refl (stop !)))) (look-tag ! 16 (whole !))) (
       regroup ! $
       assigns ! (of-opd ! (load ! (from ! (vrt ! refl (fld ! refl (stop !)))) (look-in ! 16 (in-variant ! 0 0 refl refl (whole !))))) (from ! (stop !)) (init ! 14 refl (tt, record { fits = (Turn′.ok-Leaf-0 y1-0 (subst Turn′.Ok m·1 ok·4)) .1 })) $
       regroup ! $
-      assigns ! (agg ! (and-then ! (load ! (from ! (stop !)) (look ! 26 refl)) (no-more !))) (from ! (stop !)) (init ! 4 refl (Version′.typed 𝓤 H A W (Version′.build x-v) (Version′.make x-v ok·x-v))) $
-      assigns ! (agg ! (and-then ! (lit ! tt) (and-then ! (load ! (from ! (stop !)) (look ! 4 refl)) (and-then ! (load ! (from ! (stop !)) (look ! 14 refl)) (no-more !))))) (from ! (stop !)) (init ! 6 refl (Found′.typed 𝓤 H A W (Found.Leaf (Version′.build x-v) y1-0) (Found′.make-Leaf (Version′.build x-v) y1-0 (Version′.make x-v ok·x-v) (Turn′.ok-Leaf-0 y1-0 (subst Turn′.Ok m·1 ok·4))))) $
-      assigns ! (of-opd ! (load ! (from ! (stop !)) (look ! 6 refl))) (from ! (stop !)) (init ! 34 refl (Found′.typed 𝓤 H A W (Found.Leaf (Version′.build x-v) y1-0) (Found′.make-Leaf (Version′.build x-v) y1-0 (Version′.make x-v ok·x-v) (Turn′.ok-Leaf-0 y1-0 (subst Turn′.Ok m·1 ok·4))))) $
+      assigns ! (bin ! (load ! (from ! (stop !)) (look ! 26 refl)) (big-lit ! (record { fits = lit< tt })) record { fits = Facts.mul-1 register nodes x-known x-v span page (room·register .0) (room·nodes .0) (ok·x-known .1) (ok·x-v .1) (ok·span .1) ok·page need ok·1 (ok·2 .1) ok·3 ok·4 y1-0 m·1 ((Turn′.ok-Leaf-0 y1-0 (subst Turn′.Ok m·1 ok·4)) .1) }) (from ! (stop !)) (init ! 4 refl (tt, record { fits = Facts.mul-1 register nodes x-known x-v span page (room·register .0) (room·nodes .0) (ok·x-known .1) (ok·x-v .1) (ok·span .1) ok·page need ok·1 (ok·2 .1) ok·3 ok·4 y1-0 m·1 ((Turn′.ok-Leaf-0 y1-0 (subst Turn′.Ok m·1 ok·4)) .1) })) $
+      assigns ! (bin ! (load ! (from ! (stop !)) (look ! 4 refl)) (load ! (from ! (stop !)) (look ! 14 refl)) record { fits = Facts.add-1 register nodes x-known x-v span page (room·register .0) (room·nodes .0) (ok·x-known .1) (ok·x-v .1) (ok·span .1) ok·page need ok·1 (ok·2 .1) ok·3 ok·4 y1-0 m·1 ((Turn′.ok-Leaf-0 y1-0 (subst Turn′.Ok m·1 ok·4)) .1) }) (from ! (stop !)) (init ! 6 refl (tt, record { fits = Facts.add-1 register nodes x-known x-v span page (room·register .0) (room·nodes .0) (ok·x-known .1) (ok·x-v .1) (ok·span .1) ok·page need ok·1 (ok·2 .1) ok·3 ok·4 y1-0 m·1 ((Turn′.ok-Leaf-0 y1-0 (subst Turn′.Ok m·1 ok·4)) .1) })) $
+      assigns ! (of-opd ! (load ! (from ! (stop !)) (look ! 6 refl))) (from ! (stop !)) (init ! 34 refl (tt, record { fits = Facts.add-1 register nodes x-known x-v span page (room·register .0) (room·nodes .0) (ok·x-known .1) (ok·x-v .1) (ok·span .1) ok·page need ok·1 (ok·2 .1) ok·3 ok·4 y1-0 m·1 ((Turn′.ok-Leaf-0 y1-0 (subst Turn′.Ok m·1 ok·4)) .1) })) $
       returns ! (look ! 34 refl) $
-      move ! (34 ∷ 35 ∷ []) $ forget ! 0 refl $ free1 ! $ move ! (32 ∷ 33 ∷ []) $ forget ! 0 refl $ free1 ! $ move ! (30 ∷ 31 ∷ []) $ forget ! 0 refl $ free1 ! $ move ! (28 ∷ 29 ∷ []) $ forget ! 0 refl $ free1 ! $ move ! (26 ∷ 27 ∷ []) $ forget ! 0 refl $ free1 ! $ move ! (24 ∷ 25 ∷ []) $ forget ! 0 refl $ free1 ! $ move ! (22 ∷ 23 ∷ []) $ forget ! 0 refl $ free1 ! $ move ! (20 ∷ 21 ∷ []) $ forget ! 0 refl $ free1 ! $ move ! (18 ∷ 19 ∷ []) $ forget ! 0 refl $ free1 ! $ move ! (16 ∷ 17 ∷ []) $ forget ! 0 refl $ free1 ! $ move ! (14 ∷ 15 ∷ []) $ forget ! 0 refl $ free1 ! $ move ! (12 ∷ 13 ∷ []) $ free1 ! $ move ! (10 ∷ 11 ∷ []) $ free1 ! $ move ! (8 ∷ 9 ∷ []) $ forget ! 0 refl $ free1 ! $ move ! (6 ∷ 7 ∷ []) $ forget ! 0 refl $ free1 ! $ move ! (4 ∷ 5 ∷ []) $ forget ! 0 refl $ free1 ! $ free0 ! $ by ! (exits (Found.Leaf (Version′.build x-v) y1-0) (Found′.make-Leaf (Version′.build x-v) y1-0 (Version′.make x-v ok·x-v) (Turn′.ok-Leaf-0 y1-0 (subst Turn′.Ok m·1 ok·4))) (Facts.exit-1 register nodes x-known x-v span page (room·register .0) (room·nodes .0) (ok·x-known .1) (ok·x-v .1) (ok·span .1) ok·page need ok·1 (ok·2 .1) ok·3 ok·4 y1-0 m·1 ((Turn′.ok-Leaf-0 y1-0 (subst Turn′.Ok m·1 ok·4)) .1)))))
+      move ! (34 ∷ 35 ∷ []) $ forget ! 0 refl $ free1 ! $ move ! (32 ∷ 33 ∷ []) $ forget ! 0 refl $ free1 ! $ move ! (30 ∷ 31 ∷ []) $ forget ! 0 refl $ free1 ! $ move ! (28 ∷ 29 ∷ []) $ forget ! 0 refl $ free1 ! $ move ! (26 ∷ 27 ∷ []) $ forget ! 0 refl $ free1 ! $ move ! (24 ∷ 25 ∷ []) $ forget ! 0 refl $ free1 ! $ move ! (22 ∷ 23 ∷ []) $ forget ! 0 refl $ free1 ! $ move ! (20 ∷ 21 ∷ []) $ forget ! 0 refl $ free1 ! $ move ! (18 ∷ 19 ∷ []) $ forget ! 0 refl $ free1 ! $ move ! (16 ∷ 17 ∷ []) $ forget ! 0 refl $ free1 ! $ move ! (14 ∷ 15 ∷ []) $ forget ! 0 refl $ free1 ! $ move ! (12 ∷ 13 ∷ []) $ free1 ! $ move ! (10 ∷ 11 ∷ []) $ free1 ! $ move ! (8 ∷ 9 ∷ []) $ forget ! 0 refl $ free1 ! $ move ! (6 ∷ 7 ∷ []) $ forget ! 0 refl $ free1 ! $ move ! (4 ∷ 5 ∷ []) $ forget ! 0 refl $ free1 ! $ free0 ! $ by ! (exits ((x-v * 4294967296) + y1-0) (refl, Facts.add-1 register nodes x-known x-v span page (room·register .0) (room·nodes .0) (ok·x-known .1) (ok·x-v .1) (ok·span .1) ok·page need ok·1 (ok·2 .1) ok·3 ok·4 y1-0 m·1 ((Turn′.ok-Leaf-0 y1-0 (subst Turn′.Ok m·1 ok·4)) .1)) (Facts.exit-1 register nodes x-known x-v span page (room·register .0) (room·nodes .0) (ok·x-known .1) (ok·x-v .1) (ok·span .1) ok·page need ok·1 (ok·2 .1) ok·3 ok·4 y1-0 m·1 ((Turn′.ok-Leaf-0 y1-0 (subst Turn′.Ok m·1 ok·4)) .1)))))
       (λ y1-0 y1-1 m·1. rewrite ! 16 (λ (u : Turn). ‵ (fat fullShare Turn′.ty l₉ 0 (Turn′.mach u))) m·1 refl $ switches-to ! 1 (load ! (from ! (vrt ! refl (fld ! refl (stop !)))) (look-tag ! 16 (whole !))) (
       regroup ! $
       assigns ! (of-opd ! (load ! (from ! (vrt ! refl (fld ! refl (stop !)))) (look-in ! 16 (in-variant ! 1 0 refl refl (whole !))))) (from ! (stop !)) (init ! 12 refl (tt, record { fits = (Turn′.ok-Down-0 y1-0 y1-1 (subst Turn′.Ok m·1 ok·4)) .1 })) $
       regroup ! $
       assigns ! (of-opd ! (load ! (from ! (vrt ! refl (fld ! refl (stop !)))) (look-in ! 16 (in-variant ! 1 1 refl refl (whole !))))) (from ! (stop !)) (init ! 10 refl (tt, record { fits = (Turn′.ok-Down-1 y1-0 y1-1 (subst Turn′.Ok m·1 ok·4)) .1 })) $
       Call-find.calls-by ! mem run (fmOf 𝓤 H (W .laws) 𝓣) κ·register q·register b·register o·register γ·register (length register) register κ·nodes q·nodes b·nodes o·nodes γ·nodes (length nodes) nodes x-known y1-0 y1-1 page (known-self (Call-find.to 𝓤 H A mem run κ·register q·register b·register o·register γ·register (length register) register κ·nodes q·nodes b·nodes o·nodes γ·nodes (length nodes) nodes x-known y1-0 y1-1 page) (Facts.smaller-1 register nodes x-known x-v span page (room·register .0) (room·nodes .0) (ok·x-known .1) (ok·x-v .1) (ok·span .1) ok·page need ok·1 (ok·2 .1) ok·3 ok·4 y1-0 y1-1 m·1 ((Turn′.ok-Down-0 y1-0 y1-1 (subst Turn′.Ok m·1 ok·4)) .1) ((Turn′.ok-Down-1 y1-0 y1-1 (subst Turn′.Ok m·1 ok·4)) .1))) ok·x-known (Turn′.ok-Down-0 y1-0 y1-1 (subst Turn′.Ok m·1 ok·4)) (Turn′.ok-Down-1 y1-0 y1-1 (subst Turn′.Ok m·1 ok·4)) ok·page (Facts.find-1 register nodes x-known x-v span page (room·register .0) (room·nodes .0) (ok·x-known .1) (ok·x-v .1) (ok·span .1) ok·page need ok·1 (ok·2 .1) ok·3 ok·4 y1-0 y1-1 m·1 ((Turn′.ok-Down-0 y1-0 y1-1 (subst Turn′.Ok m·1 ok·4)) .1) ((Turn′.ok-Down-1 y1-0 y1-1 (subst Turn′.Ok m·1 ok·4)) .1)) (and-then ! (load ! (from ! (stop !)) (look ! 31 refl)) (and-then ! (load ! (from ! (stop !)) (look ! 29 refl)) (and-then ! (load ! (from ! (stop !)) (look ! 27 refl)) (and-then ! (load ! (from ! (stop !)) (look ! 11 refl)) (and-then ! (load ! (from ! (stop !)) (look ! 9 refl)) (and-then ! (load ! (from ! (stop !)) (look ! 21 refl)) (no-more !)))))))
-      (λ ok·5. land ! (from ! (stop !)) (init ! 6 refl (Found′.typed 𝓤 H A W (r5 register nodes x-known x-v span page y1-0 y1-1) ok·5)) $
-      here ! (‵ (flft κ·register q·register) ∷ ‵ (ShrAt Record′.row κ·register b·register o·register γ·register (length register) register) ∷ ‵ (flft κ·nodes q·nodes) ∷ ‵ (ShrAt u32 κ·nodes b·nodes o·nodes γ·nodes (length nodes) nodes) ∷ empty (tyAt (code.find-function .locals) 15) l₁₅ (holds (tyAt (code.find-function .locals) 14) l₁₄ (Found′.mach (r5 register nodes x-known x-v span page y1-0 y1-1)) (holds (tyAt (code.find-function .locals) 13) l₁₃ (NodeAt′.mach (r3 register nodes x-known x-v span page)) (holds (tyInt w64) l₁₂ (vint w64 y1-1) (holds (tyInt w64) l₁₁ (vint w64 y1-0) (empty (tyInt w64) l₁₀ (holds (tyAt (code.find-function .locals) 9) l₉ (Turn′.mach (Turn.Down y1-0 y1-1)) (holds (tyInt w64) l₈ (vint w64 (r2 register nodes x-known x-v span page)) (holds (tyAt (code.find-function .locals) 7) l₇ (Record′.mach (r1 register nodes x-known x-v span page)) (holds (tyAt (code.find-function .locals) 6) l₆ (PageIndex′.mach page) (holds (tyInt w64) l₅ (vint w64 span) (holds (tyInt w64) l₄ (vint w64 x-v) (holds (tyInt w64) l₃ (vint w64 x-known) (holds (sliceTy (tyRef (named 1) imm (pointee (u32 .written)))) l₂ (sliceVal (b·nodes, o·nodes) (length nodes)) (holds (sliceTy (tyRef (named 0) imm (pointee (Record′.row .written)))) l₁ (sliceVal (b·register, o·register) (length register)) (empty (tyAt (code.find-function .locals) 0) l₀ [])))))))))))))))) $
-      assigns ! (of-opd ! (load ! (from ! (stop !)) (look ! 6 refl))) (from ! (stop !)) (init ! 34 refl (Found′.typed 𝓤 H A W (r5 register nodes x-known x-v span page y1-0 y1-1) ok·5)) $
+      (λ r5 ok·5 says·5. land ! (from ! (stop !)) (init ! 6 refl (tt, record { fits = ok·5 .1 })) $
+      here ! (‵ (flft κ·register q·register) ∷ ‵ (ShrAt Record′.row κ·register b·register o·register γ·register (length register) register) ∷ ‵ (flft κ·nodes q·nodes) ∷ ‵ (ShrAt u32 κ·nodes b·nodes o·nodes γ·nodes (length nodes) nodes) ∷ empty (tyInt w64) l₁₅ (holds (tyInt w64) l₁₄ (vint w64 r5) (holds (tyAt (code.find-function .locals) 13) l₁₃ (NodeAt′.mach (r3 register nodes x-known x-v span page)) (holds (tyInt w64) l₁₂ (vint w64 y1-1) (holds (tyInt w64) l₁₁ (vint w64 y1-0) (empty (tyInt w64) l₁₀ (holds (tyAt (code.find-function .locals) 9) l₉ (Turn′.mach (Turn.Down y1-0 y1-1)) (holds (tyInt w64) l₈ (vint w64 (r2 register nodes x-known x-v span page)) (holds (tyAt (code.find-function .locals) 7) l₇ (Record′.mach (r1 register nodes x-known x-v span page)) (holds (tyAt (code.find-function .locals) 6) l₆ (PageIndex′.mach page) (holds (tyInt w64) l₅ (vint w64 span) (holds (tyInt w64) l₄ (vint w64 x-v) (holds (tyInt w64) l₃ (vint w64 x-known) (holds (sliceTy (tyRef (named 1) imm (pointee (u32 .written)))) l₂ (sliceVal (b·nodes, o·nodes) (length nodes)) (holds (sliceTy (tyRef (named 0) imm (pointee (Record′.row .written)))) l₁ (sliceVal (b·register, o·register) (length register)) (empty (tyInt w64) l₀ [])))))))))))))))) $
+      assigns ! (of-opd ! (load ! (from ! (stop !)) (look ! 6 refl))) (from ! (stop !)) (init ! 34 refl (tt, record { fits = ok·5 .1 })) $
       returns ! (look ! 34 refl) $
-      move ! (34 ∷ 35 ∷ []) $ forget ! 0 refl $ free1 ! $ move ! (32 ∷ 33 ∷ []) $ forget ! 0 refl $ free1 ! $ move ! (30 ∷ 31 ∷ []) $ forget ! 0 refl $ free1 ! $ move ! (28 ∷ 29 ∷ []) $ forget ! 0 refl $ free1 ! $ move ! (26 ∷ 27 ∷ []) $ forget ! 0 refl $ free1 ! $ move ! (24 ∷ 25 ∷ []) $ forget ! 0 refl $ free1 ! $ move ! (22 ∷ 23 ∷ []) $ forget ! 0 refl $ free1 ! $ move ! (20 ∷ 21 ∷ []) $ forget ! 0 refl $ free1 ! $ move ! (18 ∷ 19 ∷ []) $ forget ! 0 refl $ free1 ! $ move ! (16 ∷ 17 ∷ []) $ forget ! 0 refl $ free1 ! $ move ! (14 ∷ 15 ∷ []) $ free1 ! $ move ! (12 ∷ 13 ∷ []) $ forget ! 0 refl $ free1 ! $ move ! (10 ∷ 11 ∷ []) $ forget ! 0 refl $ free1 ! $ move ! (8 ∷ 9 ∷ []) $ forget ! 0 refl $ free1 ! $ move ! (6 ∷ 7 ∷ []) $ forget ! 0 refl $ free1 ! $ move ! (4 ∷ 5 ∷ []) $ free1 ! $ free0 ! $ by ! (exits (r5 register nodes x-known x-v span page y1-0 y1-1) ok·5 (Facts.exit-2 register nodes x-known x-v span page (room·register .0) (room·nodes .0) (ok·x-known .1) (ok·x-v .1) (ok·span .1) ok·page need ok·1 (ok·2 .1) ok·3 ok·4 y1-0 y1-1 m·1 ((Turn′.ok-Down-0 y1-0 y1-1 (subst Turn′.Ok m·1 ok·4)) .1) ((Turn′.ok-Down-1 y1-0 y1-1 (subst Turn′.Ok m·1 ok·4)) .1) ok·5)))))
+      move ! (34 ∷ 35 ∷ []) $ forget ! 0 refl $ free1 ! $ move ! (32 ∷ 33 ∷ []) $ forget ! 0 refl $ free1 ! $ move ! (30 ∷ 31 ∷ []) $ forget ! 0 refl $ free1 ! $ move ! (28 ∷ 29 ∷ []) $ forget ! 0 refl $ free1 ! $ move ! (26 ∷ 27 ∷ []) $ forget ! 0 refl $ free1 ! $ move ! (24 ∷ 25 ∷ []) $ forget ! 0 refl $ free1 ! $ move ! (22 ∷ 23 ∷ []) $ forget ! 0 refl $ free1 ! $ move ! (20 ∷ 21 ∷ []) $ forget ! 0 refl $ free1 ! $ move ! (18 ∷ 19 ∷ []) $ forget ! 0 refl $ free1 ! $ move ! (16 ∷ 17 ∷ []) $ forget ! 0 refl $ free1 ! $ move ! (14 ∷ 15 ∷ []) $ free1 ! $ move ! (12 ∷ 13 ∷ []) $ forget ! 0 refl $ free1 ! $ move ! (10 ∷ 11 ∷ []) $ forget ! 0 refl $ free1 ! $ move ! (8 ∷ 9 ∷ []) $ forget ! 0 refl $ free1 ! $ move ! (6 ∷ 7 ∷ []) $ forget ! 0 refl $ free1 ! $ move ! (4 ∷ 5 ∷ []) $ free1 ! $ free0 ! $ by ! (exits r5 ok·5 (Facts.exit-2 register nodes x-known x-v span page (room·register .0) (room·nodes .0) (ok·x-known .1) (ok·x-v .1) (ok·span .1) ok·page need ok·1 (ok·2 .1) ok·3 ok·4 y1-0 y1-1 m·1 ((Turn′.ok-Down-0 y1-0 y1-1 (subst Turn′.Ok m·1 ok·4)) .1) ((Turn′.ok-Down-1 y1-0 y1-1 (subst Turn′.Ok m·1 ok·4)) .1) r5 (ok·5 .1) says·5)))))
       (λ m·1. rewrite ! 16 (λ (u : Turn). ‵ (fat fullShare Turn′.ty l₉ 0 (Turn′.mach u))) m·1 refl $ switches-to ! 2 (load ! (from ! (vrt ! refl (fld ! refl (stop !)))) (look-tag ! 16 (whole !))) (
-      assigns ! (agg ! (and-then ! (lit ! tt) (no-more !))) (from ! (stop !)) (init ! 6 refl (Found′.typed 𝓤 H A W Found.Lost Found′.make-Lost)) $
-      assigns ! (of-opd ! (load ! (from ! (stop !)) (look ! 6 refl))) (from ! (stop !)) (init ! 34 refl (Found′.typed 𝓤 H A W Found.Lost Found′.make-Lost)) $
+      assigns ! (of-opd ! (neg-lit ! tt)) (from ! (stop !)) (init ! 6 refl (tt, record { fits = lit< tt })) $
+      assigns ! (of-opd ! (load ! (from ! (stop !)) (look ! 6 refl))) (from ! (stop !)) (init ! 34 refl (tt, record { fits = lit< tt })) $
       returns ! (look ! 34 refl) $
-      move ! (34 ∷ 35 ∷ []) $ forget ! 0 refl $ free1 ! $ move ! (32 ∷ 33 ∷ []) $ forget ! 0 refl $ free1 ! $ move ! (30 ∷ 31 ∷ []) $ forget ! 0 refl $ free1 ! $ move ! (28 ∷ 29 ∷ []) $ forget ! 0 refl $ free1 ! $ move ! (26 ∷ 27 ∷ []) $ forget ! 0 refl $ free1 ! $ move ! (24 ∷ 25 ∷ []) $ forget ! 0 refl $ free1 ! $ move ! (22 ∷ 23 ∷ []) $ forget ! 0 refl $ free1 ! $ move ! (20 ∷ 21 ∷ []) $ forget ! 0 refl $ free1 ! $ move ! (18 ∷ 19 ∷ []) $ forget ! 0 refl $ free1 ! $ move ! (16 ∷ 17 ∷ []) $ forget ! 0 refl $ free1 ! $ move ! (14 ∷ 15 ∷ []) $ free1 ! $ move ! (12 ∷ 13 ∷ []) $ free1 ! $ move ! (10 ∷ 11 ∷ []) $ free1 ! $ move ! (8 ∷ 9 ∷ []) $ forget ! 0 refl $ free1 ! $ move ! (6 ∷ 7 ∷ []) $ forget ! 0 refl $ free1 ! $ move ! (4 ∷ 5 ∷ []) $ free1 ! $ free0 ! $ by ! (exits Found.Lost Found′.make-Lost (Facts.exit-3 register nodes x-known x-v span page (room·register .0) (room·nodes .0) (ok·x-known .1) (ok·x-v .1) (ok·span .1) ok·page need ok·1 (ok·2 .1) ok·3 ok·4 m·1))))))))))))))))))))))))
+      move ! (34 ∷ 35 ∷ []) $ forget ! 0 refl $ free1 ! $ move ! (32 ∷ 33 ∷ []) $ forget ! 0 refl $ free1 ! $ move ! (30 ∷ 31 ∷ []) $ forget ! 0 refl $ free1 ! $ move ! (28 ∷ 29 ∷ []) $ forget ! 0 refl $ free1 ! $ move ! (26 ∷ 27 ∷ []) $ forget ! 0 refl $ free1 ! $ move ! (24 ∷ 25 ∷ []) $ forget ! 0 refl $ free1 ! $ move ! (22 ∷ 23 ∷ []) $ forget ! 0 refl $ free1 ! $ move ! (20 ∷ 21 ∷ []) $ forget ! 0 refl $ free1 ! $ move ! (18 ∷ 19 ∷ []) $ forget ! 0 refl $ free1 ! $ move ! (16 ∷ 17 ∷ []) $ forget ! 0 refl $ free1 ! $ move ! (14 ∷ 15 ∷ []) $ free1 ! $ move ! (12 ∷ 13 ∷ []) $ free1 ! $ move ! (10 ∷ 11 ∷ []) $ free1 ! $ move ! (8 ∷ 9 ∷ []) $ forget ! 0 refl $ free1 ! $ move ! (6 ∷ 7 ∷ []) $ forget ! 0 refl $ free1 ! $ move ! (4 ∷ 5 ∷ []) $ free1 ! $ free0 ! $ by ! (exits 18446744073709551615 (refl, lit< tt) (Facts.exit-3 register nodes x-known x-v span page (room·register .0) (room·nodes .0) (ok·x-known .1) (ok·x-v .1) (ok·span .1) ok·page need ok·1 (ok·2 .1) ok·3 ok·4 m·1))))))))))))))))))))))))
 
 module _ {M : Type 1} (𝓤 : URA M) (H : Heap 𝓤) (A : Atoms 𝓤) (mem : Memory → SProp 𝓤) (run : Routine → Fun 𝓤) where
   abbrev measure : Call-find.Asked 𝓤 H A mem run .Ghost → ℕ

@@ -19,6 +19,7 @@ pub mod find_page
 pub mod format
 pub mod format_refusal
 pub mod formatted_by
+pub mod found_in
 pub mod fresh_store
 pub mod index_of
 pub mod is_lost
@@ -26,7 +27,6 @@ pub mod last_page
 pub mod node_at
 pub mod number_found
 pub mod or_lost
-pub mod page_at
 pub mod page_refusal
 pub mod place_of
 pub mod publish

@@ -1,24 +1,27 @@
--- `versions::chunk_at` meets its contract. Assumes nothing.
-use native.Mathlib.Nat.{mod-lt}
+-- `versions::chunk_at` meets its contract: a size of 0 divides to 0, and leaves the whole as the rest. Assumes nothing.
+use native.Mathlib.Nat.{div-zero, mod-zero, zero-sub, zero-min, mod-lt}
 use native.Mathlib.Omega.{arith}
 use borrow.Author.Needs.{needs}
 use Rattle.versions.proofs.chunk_at.Statement.{statement}
 use Rattle.versions.proofs.chunk_at.Tie as tie
 
+returns : tie.Need-returns
+returns c = rw (c .if1 .taken, div-zero, mod-zero, zero-sub, zero-min)
+
 rem-from : tie.Need-rem-from
 rem-from c = search needs
 
-div-t5 : tie.Need-div-t5
-div-t5 c = search needs
+div-t7 : tie.Need-div-t7
+div-t7 c = search needs
 
 sub-smaller : tie.Need-sub-smaller
-sub-smaller c = omega (arith, mod-lt (c .args .at) (c .pre))
+sub-smaller c = omega (arith, mod-lt (c .before .args .at) {m = c .before .args .size} (omega arith))
 
 smaller-requires : tie.Need-smaller-requires
 smaller-requires c κs = search needs
 
-returns : tie.Need-returns
-returns c = rw (c .smaller .ensures)
+returns-2 : tie.Need-returns-2
+returns-2 c = rw (c .smaller .ensures)
 
 pub chunk-at-spec : {M : Type 1} → statement M
-chunk-at-spec = tie.close (tie.spec rem-from div-t5 sub-smaller smaller-requires returns)
+chunk-at-spec = tie.close (tie.spec returns rem-from div-t7 sub-smaller smaller-requires returns-2)

@@ -8,12 +8,10 @@ use mathlib.Core.List.{List, [], _∷_}
 use mathlib.Core.Bool.{Bool, true, false, not}
 use lib.Dec.{ltb, leb, eqb}
 use lib.ListN.{length, getD, set}
-use Rattle.tree.specs.declared.Found.{Found}
-use Rattle.versions.proofs.Walkgen.Kind.Found as Found′
-use Rattle.tree.specs.declared.Version.{Version}
-use Rattle.tree.proofs.Walkgen.Kind.Version as Version′
 use Rattle.tree.specs.declared.Record.{Record}
 use Rattle.tree.proofs.Walkgen.Kind.Record as Record′
+use Rattle.tree.specs.declared.Version.{Version}
+use Rattle.tree.proofs.Walkgen.Kind.Version as Version′
 use Rattle.tree.specs.declared.Ticket.{Ticket}
 use Rattle.tree.proofs.Walkgen.Kind.Ticket as Ticket′
 use Rattle.tree.specs.declared.PageIndex.{PageIndex}
@@ -41,22 +39,31 @@ r3 register nodes x-known x-v span page = node-at″.res nodes (r2 register node
 abbrev pub r4 : List Record → List ℕ → ℕ → ℕ → ℕ → PageIndex → Turn
 r4 register nodes x-known x-v span page = turn-at″.res (r3 register nodes x-known x-v span page) page span
 
-abbrev pub r5 : List Record → List ℕ → ℕ → ℕ → ℕ → PageIndex → ℕ → ℕ → Found
-r5 register nodes x-known x-v span page y1-0 y1-1 = find″.res register nodes x-known y1-0 y1-1 page
-
 -- `place_of` asks: Spanned span
 abbrev pub place-of-1 : Type 0
 place-of-1 =
     (register : List Record) (nodes : List ℕ) (x-known : ℕ) (x-v : ℕ) (span : ℕ) (page : PageIndex) (len-register : length register < 2 ^ 64) (len-nodes : length nodes < 2 ^ 64) (fits-x-known : x-known < 2 ^ 64) (fits-x-v : x-v < 2 ^ 64) (fits-span : span < 2 ^ 64) (ok-page : PageIndex′.Ok page) (need : find″.req register nodes x-known x-v span page) (ok-r1 : Record′.Ok (r1 register nodes x-known x-v span page))
     → place-of″.req (r1 register nodes x-known x-v span page) x-known x-v page span
 
--- the function ensures: r ≡ walkDown register nodes known v span (page .0)
+-- the product does not wrap
+abbrev pub mul-1 : Type 0
+mul-1 =
+    (register : List Record) (nodes : List ℕ) (x-known : ℕ) (x-v : ℕ) (span : ℕ) (page : PageIndex) (len-register : length register < 2 ^ 64) (len-nodes : length nodes < 2 ^ 64) (fits-x-known : x-known < 2 ^ 64) (fits-x-v : x-v < 2 ^ 64) (fits-span : span < 2 ^ 64) (ok-page : PageIndex′.Ok page) (need : find″.req register nodes x-known x-v span page) (ok-r1 : Record′.Ok (r1 register nodes x-known x-v span page)) (fits-r2 : (r2 register nodes x-known x-v span page) < 2 ^ 64) (ok-r3 : NodeAt′.Ok (r3 register nodes x-known x-v span page)) (ok-r4 : Turn′.Ok (r4 register nodes x-known x-v span page)) (y1-0 : ℕ) (m1 : r4 register nodes x-known x-v span page ≡ Turn.Leaf y1-0) (fits-y1-0 : y1-0 < 2 ^ 64)
+    → x-v * 4294967296 < 2 ^ 64
+
+-- the sum does not wrap
+abbrev pub add-1 : Type 0
+add-1 =
+    (register : List Record) (nodes : List ℕ) (x-known : ℕ) (x-v : ℕ) (span : ℕ) (page : PageIndex) (len-register : length register < 2 ^ 64) (len-nodes : length nodes < 2 ^ 64) (fits-x-known : x-known < 2 ^ 64) (fits-x-v : x-v < 2 ^ 64) (fits-span : span < 2 ^ 64) (ok-page : PageIndex′.Ok page) (need : find″.req register nodes x-known x-v span page) (ok-r1 : Record′.Ok (r1 register nodes x-known x-v span page)) (fits-r2 : (r2 register nodes x-known x-v span page) < 2 ^ 64) (ok-r3 : NodeAt′.Ok (r3 register nodes x-known x-v span page)) (ok-r4 : Turn′.Ok (r4 register nodes x-known x-v span page)) (y1-0 : ℕ) (m1 : r4 register nodes x-known x-v span page ≡ Turn.Leaf y1-0) (fits-y1-0 : y1-0 < 2 ^ 64)
+    → (x-v * 4294967296) + y1-0 < 2 ^ 64
+
+-- the function ensures: foundIn r ≡ walkDown register nodes known v span (page .0)
 abbrev pub exit-1 : Type 0
 exit-1 =
     (register : List Record) (nodes : List ℕ) (x-known : ℕ) (x-v : ℕ) (span : ℕ) (page : PageIndex) (len-register : length register < 2 ^ 64) (len-nodes : length nodes < 2 ^ 64) (fits-x-known : x-known < 2 ^ 64) (fits-x-v : x-v < 2 ^ 64) (fits-span : span < 2 ^ 64) (ok-page : PageIndex′.Ok page) (need : find″.req register nodes x-known x-v span page) (ok-r1 : Record′.Ok (r1 register nodes x-known x-v span page)) (fits-r2 : (r2 register nodes x-known x-v span page) < 2 ^ 64) (ok-r3 : NodeAt′.Ok (r3 register nodes x-known x-v span page)) (ok-r4 : Turn′.Ok (r4 register nodes x-known x-v span page)) (y1-0 : ℕ) (m1 : r4 register nodes x-known x-v span page ≡ Turn.Leaf y1-0) (fits-y1-0 : y1-0 < 2 ^ 64)
-    → find″.ens register nodes x-known x-v span page (Found.Leaf (Version′.build x-v) y1-0)
+    → find″.ens register nodes x-known x-v span page ((x-v * 4294967296) + y1-0)
 
--- `find` asks: (known ≤ length register) × Spanned span
+-- `find` asks: (known ≤ length register) × Spanned span × (known ≤ 4096)
 abbrev pub find-1 : Type 0
 find-1 =
     (register : List Record) (nodes : List ℕ) (x-known : ℕ) (x-v : ℕ) (span : ℕ) (page : PageIndex) (len-register : length register < 2 ^ 64) (len-nodes : length nodes < 2 ^ 64) (fits-x-known : x-known < 2 ^ 64) (fits-x-v : x-v < 2 ^ 64) (fits-span : span < 2 ^ 64) (ok-page : PageIndex′.Ok page) (need : find″.req register nodes x-known x-v span page) (ok-r1 : Record′.Ok (r1 register nodes x-known x-v span page)) (fits-r2 : (r2 register nodes x-known x-v span page) < 2 ^ 64) (ok-r3 : NodeAt′.Ok (r3 register nodes x-known x-v span page)) (ok-r4 : Turn′.Ok (r4 register nodes x-known x-v span page)) (y1-0 : ℕ) (y1-1 : ℕ) (m1 : r4 register nodes x-known x-v span page ≡ Turn.Down y1-0 y1-1) (fits-y1-0 : y1-0 < 2 ^ 64) (fits-y1-1 : y1-1 < 2 ^ 64)
@@ -68,14 +75,14 @@ smaller-1 =
     (register : List Record) (nodes : List ℕ) (x-known : ℕ) (x-v : ℕ) (span : ℕ) (page : PageIndex) (len-register : length register < 2 ^ 64) (len-nodes : length nodes < 2 ^ 64) (fits-x-known : x-known < 2 ^ 64) (fits-x-v : x-v < 2 ^ 64) (fits-span : span < 2 ^ 64) (ok-page : PageIndex′.Ok page) (need : find″.req register nodes x-known x-v span page) (ok-r1 : Record′.Ok (r1 register nodes x-known x-v span page)) (fits-r2 : (r2 register nodes x-known x-v span page) < 2 ^ 64) (ok-r3 : NodeAt′.Ok (r3 register nodes x-known x-v span page)) (ok-r4 : Turn′.Ok (r4 register nodes x-known x-v span page)) (y1-0 : ℕ) (y1-1 : ℕ) (m1 : r4 register nodes x-known x-v span page ≡ Turn.Down y1-0 y1-1) (fits-y1-0 : y1-0 < 2 ^ 64) (fits-y1-1 : y1-1 < 2 ^ 64)
     → Loop.measure-0 register nodes x-known y1-0 y1-1 page < Loop.measure-0 register nodes x-known x-v span page
 
--- the function ensures: r ≡ walkDown register nodes known v span (page .0)
+-- the function ensures: foundIn r ≡ walkDown register nodes known v span (page .0)
 abbrev pub exit-2 : Type 0
 exit-2 =
-    (register : List Record) (nodes : List ℕ) (x-known : ℕ) (x-v : ℕ) (span : ℕ) (page : PageIndex) (len-register : length register < 2 ^ 64) (len-nodes : length nodes < 2 ^ 64) (fits-x-known : x-known < 2 ^ 64) (fits-x-v : x-v < 2 ^ 64) (fits-span : span < 2 ^ 64) (ok-page : PageIndex′.Ok page) (need : find″.req register nodes x-known x-v span page) (ok-r1 : Record′.Ok (r1 register nodes x-known x-v span page)) (fits-r2 : (r2 register nodes x-known x-v span page) < 2 ^ 64) (ok-r3 : NodeAt′.Ok (r3 register nodes x-known x-v span page)) (ok-r4 : Turn′.Ok (r4 register nodes x-known x-v span page)) (y1-0 : ℕ) (y1-1 : ℕ) (m1 : r4 register nodes x-known x-v span page ≡ Turn.Down y1-0 y1-1) (fits-y1-0 : y1-0 < 2 ^ 64) (fits-y1-1 : y1-1 < 2 ^ 64) (ok-r5 : Found′.Ok (r5 register nodes x-known x-v span page y1-0 y1-1))
-    → find″.ens register nodes x-known x-v span page (r5 register nodes x-known x-v span page y1-0 y1-1)
+    (register : List Record) (nodes : List ℕ) (x-known : ℕ) (x-v : ℕ) (span : ℕ) (page : PageIndex) (len-register : length register < 2 ^ 64) (len-nodes : length nodes < 2 ^ 64) (fits-x-known : x-known < 2 ^ 64) (fits-x-v : x-v < 2 ^ 64) (fits-span : span < 2 ^ 64) (ok-page : PageIndex′.Ok page) (need : find″.req register nodes x-known x-v span page) (ok-r1 : Record′.Ok (r1 register nodes x-known x-v span page)) (fits-r2 : (r2 register nodes x-known x-v span page) < 2 ^ 64) (ok-r3 : NodeAt′.Ok (r3 register nodes x-known x-v span page)) (ok-r4 : Turn′.Ok (r4 register nodes x-known x-v span page)) (y1-0 : ℕ) (y1-1 : ℕ) (m1 : r4 register nodes x-known x-v span page ≡ Turn.Down y1-0 y1-1) (fits-y1-0 : y1-0 < 2 ^ 64) (fits-y1-1 : y1-1 < 2 ^ 64) (r5 : ℕ) (fits-r5 : r5 < 2 ^ 64) (says5 : find″.ens register nodes x-known y1-0 y1-1 page r5)
+    → find″.ens register nodes x-known x-v span page r5
 
--- the function ensures: r ≡ walkDown register nodes known v span (page .0)
+-- the function ensures: foundIn r ≡ walkDown register nodes known v span (page .0)
 abbrev pub exit-3 : Type 0
 exit-3 =
     (register : List Record) (nodes : List ℕ) (x-known : ℕ) (x-v : ℕ) (span : ℕ) (page : PageIndex) (len-register : length register < 2 ^ 64) (len-nodes : length nodes < 2 ^ 64) (fits-x-known : x-known < 2 ^ 64) (fits-x-v : x-v < 2 ^ 64) (fits-span : span < 2 ^ 64) (ok-page : PageIndex′.Ok page) (need : find″.req register nodes x-known x-v span page) (ok-r1 : Record′.Ok (r1 register nodes x-known x-v span page)) (fits-r2 : (r2 register nodes x-known x-v span page) < 2 ^ 64) (ok-r3 : NodeAt′.Ok (r3 register nodes x-known x-v span page)) (ok-r4 : Turn′.Ok (r4 register nodes x-known x-v span page)) (m1 : r4 register nodes x-known x-v span page ≡ Turn.Lost)
-    → find″.ens register nodes x-known x-v span page Found.Lost
+    → find″.ens register nodes x-known x-v span page 18446744073709551615

@@ -40,8 +40,6 @@ use Rattle.tree.specs.declared.Ticket.{Ticket}
 use Rattle.tree.proofs.Walkgen.Kind.Ticket as Ticket′
 use Rattle.tree.specs.declared.PageIndex.{PageIndex}
 use Rattle.tree.proofs.Walkgen.Kind.PageIndex as PageIndex′
-use Rattle.tree.specs.declared.Found.{Found}
-use Rattle.versions.proofs.Walkgen.Kind.Found as Found′
 use Rattle.tree.proofs.Walkgen.Flow.{ref, MutAt, ShrAt, keeps-shr, plus-nothing}
 use Rattle.versions.proofs.find as callee
 use Rattle.versions.proofs.find.Symbol.{name as #callee}
@@ -57,15 +55,15 @@ module _ {M : Type 1} {𝓤 : URA M} {H : Heap 𝓤} {A : Atoms 𝓤} {K : Type 
   -- the call itself is made by `by-call`, from what the callee asks to what it has ensured
   core : K → (mem : Memory → SProp 𝓤) (run : Routine → Fun 𝓤) → (κ·register : Lft) (q·register : Share) (b·register o·register : ℕ) (γ·register : GName) (n·register : ℕ) (register : List Record) (κ·nodes : Lft) (q·nodes : Share) (b·nodes o·nodes : ℕ) (γ·nodes : GName) (n·nodes : ℕ) (nodes : List ℕ) (x-known : ℕ) (x-v : ℕ) (span : ℕ) (page : PageIndex) → (G : Goal 𝓤 H) (after : Val → Goal 𝓤 H) → ((v : Val) → Soaks (after v))
       → (((v : Val) → Seq K W (raw (Asked 𝓤 H A mem run .post (to 𝓤 H A mem run κ·register q·register b·register o·register γ·register n·register register κ·nodes q·nodes b·nodes o·nodes γ·nodes n·nodes nodes x-known x-v span page) v) ∷ ‵ (ShrAt Record′.row κ·register b·register o·register γ·register n·register register) ∷ ‵ (ShrAt u32 κ·nodes b·nodes o·nodes γ·nodes n·nodes nodes) ∷ Γ) (after v)) → Seq K W (raw (Asked 𝓤 H A mem run .pre (to 𝓤 H A mem run κ·register q·register b·register o·register γ·register n·register register κ·nodes q·nodes b·nodes o·nodes γ·nodes n·nodes nodes x-known x-v span page)) ∷ ‵ (ShrAt Record′.row κ·register b·register o·register γ·register n·register register) ∷ ‵ (ShrAt u32 κ·nodes b·nodes o·nodes γ·nodes n·nodes nodes) ∷ Γ) G) → Is u64 x-known (uint-vals w64 x-known) → Is u64 x-v (uint-vals w64 x-v) → Is u64 span (uint-vals w64 span) → Is PageIndex′.row page (PageIndex′.vals page) → find″.req register nodes x-known x-v span page →
-      (Is Found′.row (find″.res register nodes x-known x-v span page) (Found′.vals (find″.res register nodes x-known x-v span page)) → Seq K W (‵ (flft κ·register q·register) ∷ ‵ (ShrAt Record′.row κ·register b·register o·register γ·register n·register register) ∷ ‵ (flft κ·nodes q·nodes) ∷ ‵ (ShrAt u32 κ·nodes b·nodes o·nodes γ·nodes n·nodes nodes) ∷ Γ) (after (Found′.mach (find″.res register nodes x-known x-v span page)))) → Seq K W (‵ (flft κ·register q·register) ∷ ‵ (ShrAt Record′.row κ·register b·register o·register γ·register n·register register) ∷ ‵ (flft κ·nodes q·nodes) ∷ ‵ (ShrAt u32 κ·nodes b·nodes o·nodes γ·nodes n·nodes nodes) ∷ Γ) G
+      ((x·res : ℕ) → Is u64 x·res (uint-vals w64 x·res) → find″.ens register nodes x-known x-v span page x·res → Seq K W (‵ (flft κ·register q·register) ∷ ‵ (ShrAt Record′.row κ·register b·register o·register γ·register n·register register) ∷ ‵ (flft κ·nodes q·nodes) ∷ ‵ (ShrAt u32 κ·nodes b·nodes o·nodes γ·nodes n·nodes nodes) ∷ Γ) (after (vint w64 x·res))) → Seq K W (‵ (flft κ·register q·register) ∷ ‵ (ShrAt Record′.row κ·register b·register o·register γ·register n·register register) ∷ ‵ (flft κ·nodes q·nodes) ∷ ‵ (ShrAt u32 κ·nodes b·nodes o·nodes γ·nodes n·nodes nodes) ∷ Γ) G
   core t mem run κ·register q·register b·register o·register γ·register n·register register κ·nodes q·nodes b·nodes o·nodes γ·nodes n·nodes nodes x-known x-v span page G after soaks by-call ok·x-known ok·x-v ok·span ok·page need k =
       move t (1 ∷ []) $ keeps-shr t Record′.row κ·register b·register o·register γ·register n·register register $ move t (4 ∷ []) $ keeps-shr t u32 κ·nodes b·nodes o·nodes γ·nodes n·nodes nodes $ move t (4 ∷ 2 ∷ 5 ∷ 0 ∷ 3 ∷ 1 ∷ []) $
       move t (2 ∷ 3 ∷ []) $ join t $ move t (2 ∷ 0 ∷ []) $ join t $ move t (1 ∷ 0 ∷ []) $ join t $ use1 W (raw (Asked 𝓤 H A mem run .pre (to 𝓤 H A mem run κ·register q·register b·register o·register γ·register n·register register κ·nodes q·nodes b·nodes o·nodes γ·nodes n·nodes nodes x-known x-v span page))) goes $
       by-call (λ v.
-      use1 W (later (some (λ (r· : Found). ((‵ (flft κ·register q·register) ⊛ ‵ (flft κ·nodes q·nodes) ⊛ ‵ ftrue) ⊛ ‵ (Found′.row .own r· (v ∷ []))) ⊛ raw (ensured 𝓤 H A callee.ended (callee.clauses 𝓤 H A mem run) (κ·register, (κ·nodes, tt)) (ref b·register o·register γ·register register, (ref b·nodes o·nodes γ·nodes nodes, (x-known, (x-v, (span, (page, tt)))))) tt r·)))) (id⊢ 𝓤 _) $ await t (soaks v) $ pick t (λ r·. split t $ move t (1 ∷ []) $
+      use1 W (later (some (λ (r· : ℕ). ((‵ (flft κ·register q·register) ⊛ ‵ (flft κ·nodes q·nodes) ⊛ ‵ ftrue) ⊛ ‵ (u64 .own r· (v ∷ []))) ⊛ raw (ensured 𝓤 H A callee.ended (callee.clauses 𝓤 H A mem run) (κ·register, (κ·nodes, tt)) (ref b·register o·register γ·register register, (ref b·nodes o·nodes γ·nodes nodes, (x-known, (x-v, (span, (page, tt)))))) tt r·)))) (id⊢ 𝓤 _) $ await t (soaks v) $ pick t (λ r·. split t $ move t (1 ∷ []) $
       use1 W (some (λ (ws : Lasts callee.ended (κ·register, (κ·nodes, tt)) (ref b·register o·register γ·register register, (ref b·nodes o·nodes γ·nodes nodes, (x-known, (x-v, (span, (page, tt))))))). ‵ (lasts callee.ended (κ·register, (κ·nodes, tt)) (ref b·register o·register γ·register register, (ref b·nodes o·nodes γ·nodes nodes, (x-known, (x-v, (span, (page, tt)))))) ws) ⊛ raw (fact 𝓤 (find″.ens register nodes x-known x-v span page r·)))) (id⊢ 𝓤 _) $ pick t (λ ws. split t $ move t (1 ∷ []) $
-      heard t (find″.ens register nodes x-known x-v span page r·) (λ e. drop t $ split t $ move t (1 ∷ []) $ facts t Found′.row (Is Found′.row) (shows 𝓤 H A Found′.row) r· (v ∷ []) (λ is. split t $ move t (1 ∷ []) $ split t $ move t (1 ∷ []) $ drop t $ move t (1 ∷ 2 ∷ 0 ∷ 3 ∷ []) $
-      subst (λ (u : Val). Seq K W (‵ (flft κ·register q·register) ∷ ‵ (ShrAt Record′.row κ·register b·register o·register γ·register n·register register) ∷ ‵ (flft κ·nodes q·nodes) ∷ ‵ (ShrAt u32 κ·nodes b·nodes o·nodes γ·nodes n·nodes nodes) ∷ Γ) (after u)) (sym (ap only (Found′.tells r· (v ∷ []) is) ∙ ap (λ (z : Found). Found′.mach z) (e))) (k (subst (λ (z : Found). Is Found′.row z (Found′.vals z)) (e) (subst (Is Found′.row r·) (Found′.tells r· (v ∷ []) is) is))))))))
+      heard t (find″.ens register nodes x-known x-v span page r·) (λ e. drop t $ split t $ move t (1 ∷ []) $ facts t u64 (Is u64) (shows 𝓤 H A u64) r· (v ∷ []) (λ is. split t $ move t (1 ∷ []) $ split t $ move t (1 ∷ []) $ drop t $ move t (1 ∷ 2 ∷ 0 ∷ 3 ∷ []) $
+      subst (λ (u : Val). Seq K W (‵ (flft κ·register q·register) ∷ ‵ (ShrAt Record′.row κ·register b·register o·register γ·register n·register register) ∷ ‵ (flft κ·nodes q·nodes) ∷ ‵ (ShrAt u32 κ·nodes b·nodes o·nodes γ·nodes n·nodes nodes) ∷ Γ) (after u)) (sym (ap only (uint-tells w64 r· (v ∷ []) is))) (k r· (subst (Is u64 r·) (uint-tells w64 r· (v ∷ []) is) is) e))))))
     where
       goes : ent 𝓤 (⋆ 𝓤 H A (‵ (flft κ·register q·register) ∷ ‵ (ShrAt Record′.row κ·register b·register o·register γ·register n·register register) ∷ ‵ (flft κ·nodes q·nodes) ∷ ‵ (ShrAt u32 κ·nodes b·nodes o·nodes γ·nodes n·nodes nodes) ∷ [])) (Asked 𝓤 H A mem run .pre (to 𝓤 H A mem run κ·register q·register b·register o·register γ·register n·register register κ·nodes q·nodes b·nodes o·nodes γ·nodes n·nodes nodes x-known x-v span page))
       goes = qed W (‵ (flft κ·register q·register) ∷ ‵ (ShrAt Record′.row κ·register b·register o·register γ·register n·register register) ∷ ‵ (flft κ·nodes q·nodes) ∷ ‵ (ShrAt u32 κ·nodes b·nodes o·nodes γ·nodes n·nodes nodes) ∷ []) ∵ says ! need $ nothing ! $ move ! (3 ∷ 0 ∷ []) $ join ! $ move ! (1 ∷ 0 ∷ []) $ join ! $ frame ! $ nothing ! $ owned ! PageIndex′.row (Is PageIndex′.row) (PageIndex′.makes 𝓤 H A) page _ ok·page $ fjoin ! $ owned ! u64 (Is u64) (uint-makes 𝓤 H A W w64) span _ ok·span $ fjoin ! $ owned ! u64 (Is u64) (uint-makes 𝓤 H A W w64) x-v _ ok·x-v $ fjoin ! $ owned ! u64 (Is u64) (uint-makes 𝓤 H A W w64) x-known _ ok·x-known $ fjoin ! $ move ! (2 ∷ 0 ∷ []) $ fjoin ! $ move ! (1 ∷ 0 ∷ []) $ fjoin ! $ done !
@@ -74,7 +72,7 @@ module _ {M : Type 1} {𝓤 : URA M} {H : Heap 𝓤} {A : Atoms 𝓤} {K : Type 
   -- by one instance of the callee's contract, which is what a function that calls itself has
   pub calls-by : K → (mem : Memory → SProp 𝓤) (run : Routine → Fun 𝓤) → FmC 𝓤 H (W .laws) C → (κ·register : Lft) (q·register : Share) (b·register o·register : ℕ) (γ·register : GName) (n·register : ℕ) (register : List Record) (κ·nodes : Lft) (q·nodes : Share) (b·nodes o·nodes : ℕ) (γ·nodes : GName) (n·nodes : ℕ) (nodes : List ℕ) (x-known : ℕ) (x-v : ℕ) (span : ℕ) (page : PageIndex) → ent 𝓤 (Asked 𝓤 H A mem run .pre (to 𝓤 H A mem run κ·register q·register b·register o·register γ·register n·register register κ·nodes q·nodes b·nodes o·nodes γ·nodes n·nodes nodes x-known x-v span page)) (C #callee (Asked 𝓤 H A mem run .args (to 𝓤 H A mem run κ·register q·register b·register o·register γ·register n·register register κ·nodes q·nodes b·nodes o·nodes γ·nodes n·nodes nodes x-known x-v span page)) (Asked 𝓤 H A mem run .post (to 𝓤 H A mem run κ·register q·register b·register o·register γ·register n·register register κ·nodes q·nodes b·nodes o·nodes γ·nodes n·nodes nodes x-known x-v span page))) → Is u64 x-known (uint-vals w64 x-known) → Is u64 x-v (uint-vals w64 x-v) → Is u64 span (uint-vals w64 span) → Is PageIndex′.row page (PageIndex′.vals page) → find″.req register nodes x-known x-v span page →
       Opds K W (raw (Asked 𝓤 H A mem run .pre (to 𝓤 H A mem run κ·register q·register b·register o·register γ·register n·register register κ·nodes q·nodes b·nodes o·nodes γ·nodes n·nodes nodes x-known x-v span page)) ∷ ‵ (ShrAt Record′.row κ·register b·register o·register γ·register n·register register) ∷ ‵ (ShrAt u32 κ·nodes b·nodes o·nodes γ·nodes n·nodes nodes) ∷ Γ) E xs (sliceVal (b·register, o·register) n·register ∷ sliceVal (b·nodes, o·nodes) n·nodes ∷ vint w64 x-known ∷ vint w64 x-v ∷ vint w64 span ∷ PageIndex′.mach page ∷ [])
-      → (Is Found′.row (find″.res register nodes x-known x-v span page) (Found′.vals (find″.res register nodes x-known x-v span page)) → Seq K W (‵ (flft κ·register q·register) ∷ ‵ (ShrAt Record′.row κ·register b·register o·register γ·register n·register register) ∷ ‵ (flft κ·nodes q·nodes) ∷ ‵ (ShrAt u32 κ·nodes b·nodes o·nodes γ·nodes n·nodes nodes) ∷ Γ) (lands C Λ E d (Found′.mach (find″.res register nodes x-known x-v span page)) rest Q))
+      → ((x·res : ℕ) → Is u64 x·res (uint-vals w64 x·res) → find″.ens register nodes x-known x-v span page x·res → Seq K W (‵ (flft κ·register q·register) ∷ ‵ (ShrAt Record′.row κ·register b·register o·register γ·register n·register register) ∷ ‵ (flft κ·nodes q·nodes) ∷ ‵ (ShrAt u32 κ·nodes b·nodes o·nodes γ·nodes n·nodes nodes) ∷ Γ) (lands C Λ E d (vint w64 x·res) rest Q))
       → Seq K W (‵ (flft κ·register q·register) ∷ ‵ (ShrAt Record′.row κ·register b·register o·register γ·register n·register register) ∷ ‵ (flft κ·nodes q·nodes) ∷ ‵ (ShrAt u32 κ·nodes b·nodes o·nodes γ·nodes n·nodes nodes) ∷ Γ) (runs C Λ E (seq (call #callee xs d) rest) Q)
   calls-by t mem run fm κ·register q·register b·register o·register γ·register n·register register κ·nodes q·nodes b·nodes o·nodes γ·nodes n·nodes nodes x-known x-v span page known ok·x-known ok·x-v ok·span ok·page need os k =
       core t mem run κ·register q·register b·register o·register γ·register n·register register κ·nodes q·nodes b·nodes o·nodes γ·nodes n·nodes nodes x-known x-v span page (runs C Λ E (seq (call #callee xs d) rest) Q) (λ v. lands C Λ E d v rest Q) (λ v. tt)
@@ -82,7 +80,7 @@ module _ {M : Type 1} {𝓤 : URA M} {H : Heap 𝓤} {A : Atoms 𝓤} {K : Type 
 
   pub calls : K → (mem : Memory → SProp 𝓤) (run : Routine → Fun 𝓤) → FmC 𝓤 H (W .laws) C → Triple 𝓤 (C #callee) (Asked 𝓤 H A mem run) → (κ·register : Lft) (q·register : Share) (b·register o·register : ℕ) (γ·register : GName) (n·register : ℕ) (register : List Record) (κ·nodes : Lft) (q·nodes : Share) (b·nodes o·nodes : ℕ) (γ·nodes : GName) (n·nodes : ℕ) (nodes : List ℕ) (x-known : ℕ) (x-v : ℕ) (span : ℕ) (page : PageIndex) → Is u64 x-known (uint-vals w64 x-known) → Is u64 x-v (uint-vals w64 x-v) → Is u64 span (uint-vals w64 span) → Is PageIndex′.row page (PageIndex′.vals page) → find″.req register nodes x-known x-v span page →
       Opds K W (raw (Asked 𝓤 H A mem run .pre (to 𝓤 H A mem run κ·register q·register b·register o·register γ·register n·register register κ·nodes q·nodes b·nodes o·nodes γ·nodes n·nodes nodes x-known x-v span page)) ∷ ‵ (ShrAt Record′.row κ·register b·register o·register γ·register n·register register) ∷ ‵ (ShrAt u32 κ·nodes b·nodes o·nodes γ·nodes n·nodes nodes) ∷ Γ) E xs (sliceVal (b·register, o·register) n·register ∷ sliceVal (b·nodes, o·nodes) n·nodes ∷ vint w64 x-known ∷ vint w64 x-v ∷ vint w64 span ∷ PageIndex′.mach page ∷ [])
-      → (Is Found′.row (find″.res register nodes x-known x-v span page) (Found′.vals (find″.res register nodes x-known x-v span page)) → Seq K W (‵ (flft κ·register q·register) ∷ ‵ (ShrAt Record′.row κ·register b·register o·register γ·register n·register register) ∷ ‵ (flft κ·nodes q·nodes) ∷ ‵ (ShrAt u32 κ·nodes b·nodes o·nodes γ·nodes n·nodes nodes) ∷ Γ) (lands C Λ E d (Found′.mach (find″.res register nodes x-known x-v span page)) rest Q))
+      → ((x·res : ℕ) → Is u64 x·res (uint-vals w64 x·res) → find″.ens register nodes x-known x-v span page x·res → Seq K W (‵ (flft κ·register q·register) ∷ ‵ (ShrAt Record′.row κ·register b·register o·register γ·register n·register register) ∷ ‵ (flft κ·nodes q·nodes) ∷ ‵ (ShrAt u32 κ·nodes b·nodes o·nodes γ·nodes n·nodes nodes) ∷ Γ) (lands C Λ E d (vint w64 x·res) rest Q))
       → Seq K W (‵ (flft κ·register q·register) ∷ ‵ (ShrAt Record′.row κ·register b·register o·register γ·register n·register register) ∷ ‵ (flft κ·nodes q·nodes) ∷ ‵ (ShrAt u32 κ·nodes b·nodes o·nodes γ·nodes n·nodes nodes) ∷ Γ) (runs C Λ E (seq (call #callee xs d) rest) Q)
   calls t mem run fm known κ·register q·register b·register o·register γ·register n·register register κ·nodes q·nodes b·nodes o·nodes γ·nodes n·nodes nodes x-known x-v span page = calls-by t mem run fm κ·register q·register b·register o·register γ·register n·register register κ·nodes q·nodes b·nodes o·nodes γ·nodes n·nodes nodes x-known x-v span page (known (to 𝓤 H A mem run κ·register q·register b·register o·register γ·register n·register register κ·nodes q·nodes b·nodes o·nodes γ·nodes n·nodes nodes x-known x-v span page))
 
@@ -90,7 +88,7 @@ module _ {M : Type 1} {𝓤 : URA M} {H : Heap 𝓤} {A : Atoms 𝓤} {K : Type 
   -- by one instance of the callee's contract, which is what a function that calls itself has. The call ends a part of the code
   pub calls-last-by : K → (mem : Memory → SProp 𝓤) (run : Routine → Fun 𝓤) → FmC 𝓤 H (W .laws) C → (κ·register : Lft) (q·register : Share) (b·register o·register : ℕ) (γ·register : GName) (n·register : ℕ) (register : List Record) (κ·nodes : Lft) (q·nodes : Share) (b·nodes o·nodes : ℕ) (γ·nodes : GName) (n·nodes : ℕ) (nodes : List ℕ) (x-known : ℕ) (x-v : ℕ) (span : ℕ) (page : PageIndex) → ent 𝓤 (Asked 𝓤 H A mem run .pre (to 𝓤 H A mem run κ·register q·register b·register o·register γ·register n·register register κ·nodes q·nodes b·nodes o·nodes γ·nodes n·nodes nodes x-known x-v span page)) (C #callee (Asked 𝓤 H A mem run .args (to 𝓤 H A mem run κ·register q·register b·register o·register γ·register n·register register κ·nodes q·nodes b·nodes o·nodes γ·nodes n·nodes nodes x-known x-v span page)) (Asked 𝓤 H A mem run .post (to 𝓤 H A mem run κ·register q·register b·register o·register γ·register n·register register κ·nodes q·nodes b·nodes o·nodes γ·nodes n·nodes nodes x-known x-v span page))) → Is u64 x-known (uint-vals w64 x-known) → Is u64 x-v (uint-vals w64 x-v) → Is u64 span (uint-vals w64 span) → Is PageIndex′.row page (PageIndex′.vals page) → find″.req register nodes x-known x-v span page →
       Opds K W (raw (Asked 𝓤 H A mem run .pre (to 𝓤 H A mem run κ·register q·register b·register o·register γ·register n·register register κ·nodes q·nodes b·nodes o·nodes γ·nodes n·nodes nodes x-known x-v span page)) ∷ ‵ (ShrAt Record′.row κ·register b·register o·register γ·register n·register register) ∷ ‵ (ShrAt u32 κ·nodes b·nodes o·nodes γ·nodes n·nodes nodes) ∷ Γ) E xs (sliceVal (b·register, o·register) n·register ∷ sliceVal (b·nodes, o·nodes) n·nodes ∷ vint w64 x-known ∷ vint w64 x-v ∷ vint w64 span ∷ PageIndex′.mach page ∷ [])
-      → (Is Found′.row (find″.res register nodes x-known x-v span page) (Found′.vals (find″.res register nodes x-known x-v span page)) → Seq K W (‵ (flft κ·register q·register) ∷ ‵ (ShrAt Record′.row κ·register b·register o·register γ·register n·register register) ∷ ‵ (flft κ·nodes q·nodes) ∷ ‵ (ShrAt u32 κ·nodes b·nodes o·nodes γ·nodes n·nodes nodes) ∷ Γ) (settles E d (Found′.mach (find″.res register nodes x-known x-v span page)) Q))
+      → ((x·res : ℕ) → Is u64 x·res (uint-vals w64 x·res) → find″.ens register nodes x-known x-v span page x·res → Seq K W (‵ (flft κ·register q·register) ∷ ‵ (ShrAt Record′.row κ·register b·register o·register γ·register n·register register) ∷ ‵ (flft κ·nodes q·nodes) ∷ ‵ (ShrAt u32 κ·nodes b·nodes o·nodes γ·nodes n·nodes nodes) ∷ Γ) (settles E d (vint w64 x·res) Q))
       → Seq K W (‵ (flft κ·register q·register) ∷ ‵ (ShrAt Record′.row κ·register b·register o·register γ·register n·register register) ∷ ‵ (flft κ·nodes q·nodes) ∷ ‵ (ShrAt u32 κ·nodes b·nodes o·nodes γ·nodes n·nodes nodes) ∷ Γ) (runs C Λ E (call #callee xs d) Q)
   calls-last-by t mem run fm κ·register q·register b·register o·register γ·register n·register register κ·nodes q·nodes b·nodes o·nodes γ·nodes n·nodes nodes x-known x-v span page known ok·x-known ok·x-v ok·span ok·page need os k =
       core t mem run κ·register q·register b·register o·register γ·register n·register register κ·nodes q·nodes b·nodes o·nodes γ·nodes n·nodes nodes x-known x-v span page (runs C Λ E (call #callee xs d) Q) (λ v. settles E d v Q) (λ v. tt)
@@ -98,6 +96,6 @@ module _ {M : Type 1} {𝓤 : URA M} {H : Heap 𝓤} {A : Atoms 𝓤} {K : Type 
 
   pub calls-last : K → (mem : Memory → SProp 𝓤) (run : Routine → Fun 𝓤) → FmC 𝓤 H (W .laws) C → Triple 𝓤 (C #callee) (Asked 𝓤 H A mem run) → (κ·register : Lft) (q·register : Share) (b·register o·register : ℕ) (γ·register : GName) (n·register : ℕ) (register : List Record) (κ·nodes : Lft) (q·nodes : Share) (b·nodes o·nodes : ℕ) (γ·nodes : GName) (n·nodes : ℕ) (nodes : List ℕ) (x-known : ℕ) (x-v : ℕ) (span : ℕ) (page : PageIndex) → Is u64 x-known (uint-vals w64 x-known) → Is u64 x-v (uint-vals w64 x-v) → Is u64 span (uint-vals w64 span) → Is PageIndex′.row page (PageIndex′.vals page) → find″.req register nodes x-known x-v span page →
       Opds K W (raw (Asked 𝓤 H A mem run .pre (to 𝓤 H A mem run κ·register q·register b·register o·register γ·register n·register register κ·nodes q·nodes b·nodes o·nodes γ·nodes n·nodes nodes x-known x-v span page)) ∷ ‵ (ShrAt Record′.row κ·register b·register o·register γ·register n·register register) ∷ ‵ (ShrAt u32 κ·nodes b·nodes o·nodes γ·nodes n·nodes nodes) ∷ Γ) E xs (sliceVal (b·register, o·register) n·register ∷ sliceVal (b·nodes, o·nodes) n·nodes ∷ vint w64 x-known ∷ vint w64 x-v ∷ vint w64 span ∷ PageIndex′.mach page ∷ [])
-      → (Is Found′.row (find″.res register nodes x-known x-v span page) (Found′.vals (find″.res register nodes x-known x-v span page)) → Seq K W (‵ (flft κ·register q·register) ∷ ‵ (ShrAt Record′.row κ·register b·register o·register γ·register n·register register) ∷ ‵ (flft κ·nodes q·nodes) ∷ ‵ (ShrAt u32 κ·nodes b·nodes o·nodes γ·nodes n·nodes nodes) ∷ Γ) (settles E d (Found′.mach (find″.res register nodes x-known x-v span page)) Q))
+      → ((x·res : ℕ) → Is u64 x·res (uint-vals w64 x·res) → find″.ens register nodes x-known x-v span page x·res → Seq K W (‵ (flft κ·register q·register) ∷ ‵ (ShrAt Record′.row κ·register b·register o·register γ·register n·register register) ∷ ‵ (flft κ·nodes q·nodes) ∷ ‵ (ShrAt u32 κ·nodes b·nodes o·nodes γ·nodes n·nodes nodes) ∷ Γ) (settles E d (vint w64 x·res) Q))
       → Seq K W (‵ (flft κ·register q·register) ∷ ‵ (ShrAt Record′.row κ·register b·register o·register γ·register n·register register) ∷ ‵ (flft κ·nodes q·nodes) ∷ ‵ (ShrAt u32 κ·nodes b·nodes o·nodes γ·nodes n·nodes nodes) ∷ Γ) (runs C Λ E (call #callee xs d) Q)
   calls-last t mem run fm known κ·register q·register b·register o·register γ·register n·register register κ·nodes q·nodes b·nodes o·nodes γ·nodes n·nodes nodes x-known x-v span page = calls-last-by t mem run fm κ·register q·register b·register o·register γ·register n·register register κ·nodes q·nodes b·nodes o·nodes γ·nodes n·nodes nodes x-known x-v span page (known (to 𝓤 H A mem run κ·register q·register b·register o·register γ·register n·register register κ·nodes q·nodes b·nodes o·nodes γ·nodes n·nodes nodes x-known x-v span page))

@@ -16,8 +16,8 @@ use Rattle.tree.specs.Register.{noRecord, updateOf, withRecord}
 use Rattle.tree.specs.declared.Record.{Record}
 use Rattle.versions.specs.Table.{_gives_, _≤?_, _or_, firstRefusal, holds, noTicket, outside, unless}
 use Rattle.versions.specs.Weave.{NextOf, Planned, Children}
-use Rattle.versions.specs.Descent.{Spanned, placeIn, placeNumber, turnOf, walkDown, pageRefusal, rangeRefusal, Ranged, orLost, chunkAt, Readable}
-use Rattle.versions.specs.Calls.{areasOf, differ, fresh, formatRefusal, formatted, formatAnswer, formatAreas, beginRefusal, withTicketPart, begunBy, beginOut, beginRegister, bitOf, withBit, putRefusal, withPut, putIn, putOut, putPages, putRegister, updateAt, allPut, assignRefusal, withVersionOf, withVersionPart, assignedBy, assignOut, assignRegister, nextNode, nextPlace, leafPast, weaveRefusal, kept, wovenNode, wove, withWoven, weaveOut, weaveNodes, weaveRegister, publishRefusal, dueBy, publishedBy, publishOut, sizeRefusal, pagesBy, bytesBy, sizedBy, sizeOut, recentBy, recentOut, findPage, numberWithin, isLost, orZero, versionFound, someLost, pagesTouched, bytesFrom, stamped, stampOut, viewPart, viewed, viewAt, filledBy, readOut, readBuffer}
+use Rattle.versions.specs.Descent.{Spanned, placeIn, placeNumber, turnOf, foundIn, walkDown, pageRefusal, rangeRefusal, Ranged, orLost, chunkAt, Readable}
+use Rattle.versions.specs.Calls.{areasOf, differ, fresh, formatRefusal, formatted, formatAnswer, formatAreas, beginRefusal, withTicketPart, begunBy, beginOut, beginRegister, bitOf, withBit, putRefusal, withPut, putIn, putOut, putPages, putRegister, updateAt, allPut, assignRefusal, withVersionOf, withVersionPart, assignedBy, assignOut, assignRegister, nextNode, nextPlace, leafPast, weaveRefusal, kept, wovenNode, wove, withWoven, weaveOut, weaveNodes, weaveRegister, publishRefusal, dueBy, publishedBy, publishOut, sizeRefusal, pagesBy, bytesBy, sizedBy, sizeOut, recentBy, recentOut, findPage, numberWithin, isLost, orZero, versionFound, someLost, pagesTouched, bytesFrom, stamped, stampOut, viewPart, filledBy, readOut, readBuffer}
 use Rattle.tree.specs.declared.PageIndex.{PageIndex}
 use Rattle.tree.specs.declared.Ticket.{Ticket}
 use Rattle.tree.specs.declared.Version.{Version}
@@ -41,15 +41,14 @@ use Rattle.versions.specs.declared.Sized.{Sized}
 use Rattle.versions.specs.declared.Stamped.{Stamped}
 use Rattle.versions.specs.declared.Store.{Store}
 use Rattle.versions.specs.declared.Turn.{Turn}
-use Rattle.versions.specs.declared.Viewed.{Viewed}
 use Rattle.versions.specs.declared.Woven.{Woven}
 use Rattle.versions.specs.declared.WovenNode.{WovenNode}
 
-abbrev pub req : Store → List ℕ → List ℕ → List Record → Version → ℕ → ℕ → List ℕ → Type 0
-req s pages nodes register v offset len buffer = Readable s pages nodes register (v .0) offset len (length buffer)
+abbrev pub req : Store → List ℕ → List ℕ → List Record → Version → ℕ → ℕ → ℕ → List ℕ → Type 0
+req s pages nodes register v offset len from buffer = Readable s pages nodes register (v .0) offset len (length buffer) × (from ≤ len) × (buffer ≡ bytesFrom s (areasOf pages nodes register) (v .0) offset from ++ drop from buffer)
 
-abbrev pub ens : Store → List ℕ → List ℕ → List Record → Version → ℕ → ℕ → List ℕ → List ℕ → Unit {0} → Type 0
-ens s pages nodes register v offset len buffer buffer′ result = buffer′ ≡ bytesFrom s (areasOf pages nodes register) (v .0) offset len ++ drop len buffer
+abbrev pub ens : Store → List ℕ → List ℕ → List Record → Version → ℕ → ℕ → ℕ → List ℕ → List ℕ → Unit {0} → Type 0
+ens s pages nodes register v offset len from buffer buffer′ result = buffer′ ≡ bytesFrom s (areasOf pages nodes register) (v .0) offset len ++ drop len buffer
 
-abbrev pub out-buffer : Store → List ℕ → List ℕ → List Record → Version → ℕ → ℕ → List ℕ → List ℕ
-out-buffer s pages nodes register v offset len buffer = bytesFrom s (areasOf pages nodes register) (v .0) offset len ++ drop len buffer
+abbrev pub out-buffer : Store → List ℕ → List ℕ → List Record → Version → ℕ → ℕ → ℕ → List ℕ → List ℕ
+out-buffer s pages nodes register v offset len from buffer = bytesFrom s (areasOf pages nodes register) (v .0) offset len ++ drop len buffer

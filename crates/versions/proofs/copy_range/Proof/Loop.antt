@@ -22,10 +22,10 @@ use Rattle.versions.specs.Table.{holds, unless}
 use Rattle.versions.specs.Calls.{sizeAfter, updateAt, allPut, assignRefusal, withVersion, withVersionOf, withVersionPart, assignedBy, assignOut, assignRegister, nextNode, nextPlace, weaveRefusal, kept, withWoven, weaveOut, weaveNodes, weaveRegister, publishRefusal, dueBy, publishedBy, publishOut, sizeRefusal, pagesBy, bytesBy, sizedBy, sizeOut, recentBy, recentOut, findPage, numberWithin, someLost, pagesTouched, bytesFrom, filledBy, readOut, readBuffer, isLost, orZero, versionFound, stamped, stampOut, viewPart, areasOf, lengthsOf, differ, fresh, formatRefusal, formatted, formatAnswer, formatAreas, beginRefusal, withTicketPart, begunBy, beginOut, beginRegister, bitOf, withBit, putRefusal, withPut, putIn, putOut, putPages, putRegister}
 use Rattle.versions.specs.Descent.{Spanned, placeIn, placeNumber, turnOf, walkDown, pageRefusal, rangeRefusal, Ranged, orLost, chunkAt, Readable}
 
--- what holds at the head of each turn. At the first: v9 is 0, buffer-now is buffer. That each number fits its width, and that no list changes its length, need not be said
-abbrev pub inv-1 : Store → List ℕ → List ℕ → List Record → Version → ℕ → ℕ → List ℕ → ℕ → List ℕ → Type 0
-inv-1 s pages nodes register x-v offset len buffer v9 buffer-now = (v9 ≤ len) × (buffer-now ≡ bytesFrom s (areasOf pages nodes register) (x-v .0) offset v9 ++ drop v9 buffer)
+-- what holds at the head of each turn. At the first: v10 is x-from, buffer-now is buffer. That each number fits its width, and that no list changes its length, need not be said
+abbrev pub inv-1 : Store → List ℕ → List ℕ → List Record → Version → ℕ → ℕ → ℕ → List ℕ → ℕ → List ℕ → Type 0
+inv-1 s pages nodes register x-v offset len x-from buffer v10 buffer-now = (v10 ≤ len) × (buffer-now ≡ bytesFrom s (areasOf pages nodes register) (x-v .0) offset v10 ++ drop v10 buffer)
 
 -- what falls with each turn
-abbrev pub measure-1 : Store → List ℕ → List ℕ → List Record → Version → ℕ → ℕ → List ℕ → ℕ → List ℕ → ℕ
-measure-1 s pages nodes register x-v offset len buffer v9 buffer-now = len - v9
+abbrev pub measure-1 : Store → List ℕ → List ℕ → List Record → Version → ℕ → ℕ → ℕ → List ℕ → ℕ → List ℕ → ℕ
+measure-1 s pages nodes register x-v offset len x-from buffer v10 buffer-now = len - v10

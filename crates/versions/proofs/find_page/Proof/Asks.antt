@@ -25,27 +25,31 @@ use Rattle.tree.proofs.Walkgen.Say.record_of as record-of″
 use Rattle.versions.proofs.Walkgen.Say.smaller as smaller″
 use Rattle.versions.proofs.Walkgen.Say.root_of as root-of″
 use Rattle.versions.proofs.Walkgen.Say.find as find″
+use Rattle.versions.proofs.Walkgen.Say.found_in as found-in″
 
 abbrev pub r1 : Store → List ℕ → List Record → Version → PageIndex → Record
 r1 s nodes register x-v page = record-of″.res register (x-v .0)
 
 abbrev pub r2 : Store → List ℕ → List Record → Version → PageIndex → ℕ
-r2 s nodes register x-v page = smaller″.res (s .assigned .0) (length register)
+r2 s nodes register x-v page = smaller″.res (s .assigned .0) 4096
 
 abbrev pub r3 : Store → List ℕ → List Record → Version → PageIndex → ℕ
-r3 s nodes register x-v page = root-of″.res (r1 s nodes register x-v page)
+r3 s nodes register x-v page = smaller″.res (r2 s nodes register x-v page) (length register)
 
-abbrev pub r4 : Store → List ℕ → List Record → Version → PageIndex → Found
-r4 s nodes register x-v page = find″.res register nodes (r2 s nodes register x-v page) (x-v .0) (r3 s nodes register x-v page) page
+abbrev pub r4 : Store → List ℕ → List Record → Version → PageIndex → ℕ
+r4 s nodes register x-v page = root-of″.res (r1 s nodes register x-v page)
 
--- `find` asks: (known ≤ length register) × Spanned span
+abbrev pub r6 : Store → List ℕ → List Record → Version → PageIndex → ℕ → Found
+r6 s nodes register x-v page r5 = found-in″.res r5
+
+-- `find` asks: (known ≤ length register) × Spanned span × (known ≤ 4096)
 abbrev pub find-1 : Type 0
 find-1 =
-    (s : Store) (nodes : List ℕ) (register : List Record) (x-v : Version) (page : PageIndex) (ok-s : Store′.Ok s) (len-nodes : length nodes < 2 ^ 64) (len-register : length register < 2 ^ 64) (ok-x-v : Version′.Ok x-v) (ok-page : PageIndex′.Ok page) (ok-r1 : Record′.Ok (r1 s nodes register x-v page)) (fits-r2 : (r2 s nodes register x-v page) < 2 ^ 64) (fits-r3 : (r3 s nodes register x-v page) < 2 ^ 64)
-    → find″.req register nodes (r2 s nodes register x-v page) (x-v .0) (r3 s nodes register x-v page) page
+    (s : Store) (nodes : List ℕ) (register : List Record) (x-v : Version) (page : PageIndex) (ok-s : Store′.Ok s) (len-nodes : length nodes < 2 ^ 64) (len-register : length register < 2 ^ 64) (ok-x-v : Version′.Ok x-v) (ok-page : PageIndex′.Ok page) (ok-r1 : Record′.Ok (r1 s nodes register x-v page)) (fits-r2 : (r2 s nodes register x-v page) < 2 ^ 64) (fits-r3 : (r3 s nodes register x-v page) < 2 ^ 64) (fits-r4 : (r4 s nodes register x-v page) < 2 ^ 64)
+    → find″.req register nodes (r3 s nodes register x-v page) (x-v .0) (r4 s nodes register x-v page) page
 
 -- the function ensures: r ≡ findPage s (areasOf [] nodes register) (v .0) (page .0)
 abbrev pub exit-1 : Type 0
 exit-1 =
-    (s : Store) (nodes : List ℕ) (register : List Record) (x-v : Version) (page : PageIndex) (ok-s : Store′.Ok s) (len-nodes : length nodes < 2 ^ 64) (len-register : length register < 2 ^ 64) (ok-x-v : Version′.Ok x-v) (ok-page : PageIndex′.Ok page) (ok-r1 : Record′.Ok (r1 s nodes register x-v page)) (fits-r2 : (r2 s nodes register x-v page) < 2 ^ 64) (fits-r3 : (r3 s nodes register x-v page) < 2 ^ 64) (ok-r4 : Found′.Ok (r4 s nodes register x-v page))
-    → find-page″.ens s nodes register x-v page (r4 s nodes register x-v page)
+    (s : Store) (nodes : List ℕ) (register : List Record) (x-v : Version) (page : PageIndex) (ok-s : Store′.Ok s) (len-nodes : length nodes < 2 ^ 64) (len-register : length register < 2 ^ 64) (ok-x-v : Version′.Ok x-v) (ok-page : PageIndex′.Ok page) (ok-r1 : Record′.Ok (r1 s nodes register x-v page)) (fits-r2 : (r2 s nodes register x-v page) < 2 ^ 64) (fits-r3 : (r3 s nodes register x-v page) < 2 ^ 64) (fits-r4 : (r4 s nodes register x-v page) < 2 ^ 64) (r5 : ℕ) (fits-r5 : r5 < 2 ^ 64) (says5 : find″.ens register nodes (r3 s nodes register x-v page) (x-v .0) (r4 s nodes register x-v page) page r5) (ok-r6 : Found′.Ok (r6 s nodes register x-v page r5))
+    → find-page″.ens s nodes register x-v page (r6 s nodes register x-v page r5)

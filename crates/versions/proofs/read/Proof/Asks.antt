@@ -26,14 +26,22 @@ use Rattle.versions.specs.declared.Lengths.{Lengths}
 use Rattle.versions.proofs.Walkgen.Kind.Lengths as Lengths′
 use Rattle.versions.specs.declared.Range.{Range}
 use Rattle.versions.proofs.Walkgen.Kind.Range as Range′
+use Rattle.versions.specs.declared.Chunk.{Chunk}
+use Rattle.versions.proofs.Walkgen.Kind.Chunk as Chunk′
+use Rattle.tree.specs.declared.Found.{Found}
+use Rattle.versions.proofs.Walkgen.Kind.Found as Found′
 use Rattle.versions.proofs.Walkgen.Say.read as read″
 use Rattle.tree.proofs.Walkgen.Say.record_of as record-of″
 use Rattle.versions.proofs.Walkgen.Say.range_refusal as range-refusal″
 use Rattle.versions.proofs.Walkgen.Say.touched as touched″
-use Rattle.versions.proofs.Walkgen.Say.page_at as page-at″
+use Rattle.versions.proofs.Walkgen.Say.chunk_at as chunk-at″
+use Rattle.versions.proofs.Walkgen.Say.find_page as find-page″
+use Rattle.versions.proofs.Walkgen.Say.is_lost as is-lost″
 use Rattle.versions.proofs.Walkgen.Say.some_lost as some-lost″
 use Rattle.versions.proofs.Walkgen.Say.or_lost as or-lost″
 use Rattle.versions.proofs.Walkgen.Say.copied as copied″
+use Rattle.versions.proofs.Walkgen.Say.number_found as number-found″
+use Rattle.versions.proofs.Walkgen.Say.copy_page as copy-page″
 use Rattle.versions.proofs.Walkgen.Say.copy_range as copy-range″
 use Rattle.versions.proofs.Walkgen.Say.filled_by as filled-by″
 
@@ -46,23 +54,41 @@ r2 s pages nodes register x-v offset len buffer = range-refusal″.res s (Length
 abbrev pub r3 : Store → List ℕ → List ℕ → List Record → Version → ByteOffset → ℕ → List ℕ → ℕ
 r3 s pages nodes register x-v offset len buffer = touched″.res (r2 s pages nodes register x-v offset len buffer) (s .size) (offset .0) len
 
-abbrev pub r4 : Store → List ℕ → List ℕ → List Record → Version → ByteOffset → ℕ → List ℕ → ℕ
-r4 s pages nodes register x-v offset len buffer = page-at″.res (s .size) (offset .0)
+abbrev pub r4 : Store → List ℕ → List ℕ → List Record → Version → ByteOffset → ℕ → List ℕ → Chunk
+r4 s pages nodes register x-v offset len buffer = chunk-at″.res (s .size) (offset .0) len
 
-abbrev pub r5 : Store → List ℕ → List ℕ → List Record → Version → ByteOffset → ℕ → List ℕ → Bool
-r5 s pages nodes register x-v offset len buffer = some-lost″.res s nodes register x-v (r4 s pages nodes register x-v offset len buffer) (r3 s pages nodes register x-v offset len buffer)
+abbrev pub r5 : Store → List ℕ → List ℕ → List Record → Version → ByteOffset → ℕ → List ℕ → Found
+r5 s pages nodes register x-v offset len buffer = find-page″.res s nodes register x-v ((r4 s pages nodes register x-v offset len buffer) .page)
 
-abbrev pub r6 : Store → List ℕ → List ℕ → List Record → Version → ByteOffset → ℕ → List ℕ → ℕ
-r6 s pages nodes register x-v offset len buffer = or-lost″.res (r2 s pages nodes register x-v offset len buffer) (r5 s pages nodes register x-v offset len buffer)
+abbrev pub r6 : Store → List ℕ → List ℕ → List Record → Version → ByteOffset → ℕ → List ℕ → Bool
+r6 s pages nodes register x-v offset len buffer = is-lost″.res (s .pages) (r5 s pages nodes register x-v offset len buffer)
 
-abbrev pub r7 : Store → List ℕ → List ℕ → List Record → Version → ByteOffset → ℕ → List ℕ → ℕ
-r7 s pages nodes register x-v offset len buffer = copied″.res (r6 s pages nodes register x-v offset len buffer) len
+abbrev pub r7 : Store → List ℕ → List ℕ → List Record → Version → ByteOffset → ℕ → List ℕ → Bool
+r7 s pages nodes register x-v offset len buffer = some-lost″.res s nodes register x-v (((r4 s pages nodes register x-v offset len buffer) .page) .0) (r3 s pages nodes register x-v offset len buffer) (r6 s pages nodes register x-v offset len buffer)
 
-abbrev pub buffer₈ : Store → List ℕ → List ℕ → List Record → Version → ByteOffset → ℕ → List ℕ → List ℕ
-buffer₈ s pages nodes register x-v offset len buffer = copy-range″.out-buffer s pages nodes register x-v (offset .0) (r7 s pages nodes register x-v offset len buffer) buffer
+abbrev pub r8 : Store → List ℕ → List ℕ → List Record → Version → ByteOffset → ℕ → List ℕ → ℕ
+r8 s pages nodes register x-v offset len buffer = or-lost″.res (r2 s pages nodes register x-v offset len buffer) (r7 s pages nodes register x-v offset len buffer)
 
-abbrev pub r9 : Store → List ℕ → List ℕ → List Record → Version → ByteOffset → ℕ → List ℕ → Filled
-r9 s pages nodes register x-v offset len buffer = filled-by″.res (r6 s pages nodes register x-v offset len buffer)
+abbrev pub r9 : Store → List ℕ → List ℕ → List Record → Version → ByteOffset → ℕ → List ℕ → ℕ
+r9 s pages nodes register x-v offset len buffer = copied″.res (r8 s pages nodes register x-v offset len buffer) ((r4 s pages nodes register x-v offset len buffer) .count)
+
+abbrev pub r10 : Store → List ℕ → List ℕ → List Record → Version → ByteOffset → ℕ → List ℕ → ℕ
+r10 s pages nodes register x-v offset len buffer = number-found″.res (s .pages) (r5 s pages nodes register x-v offset len buffer)
+
+abbrev pub r11 : Store → List ℕ → List ℕ → List Record → Version → ByteOffset → ℕ → List ℕ → Bool
+r11 s pages nodes register x-v offset len buffer = copy-page″.res pages (s .size) (r10 s pages nodes register x-v offset len buffer) ((r4 s pages nodes register x-v offset len buffer) .from) (r9 s pages nodes register x-v offset len buffer) buffer 0
+
+abbrev pub buffer₁₁ : Store → List ℕ → List ℕ → List Record → Version → ByteOffset → ℕ → List ℕ → List ℕ
+buffer₁₁ s pages nodes register x-v offset len buffer = copy-page″.out-buf pages (s .size) (r10 s pages nodes register x-v offset len buffer) ((r4 s pages nodes register x-v offset len buffer) .from) (r9 s pages nodes register x-v offset len buffer) buffer 0
+
+abbrev pub r12 : Store → List ℕ → List ℕ → List Record → Version → ByteOffset → ℕ → List ℕ → ℕ
+r12 s pages nodes register x-v offset len buffer = copied″.res (r8 s pages nodes register x-v offset len buffer) len
+
+abbrev pub buffer₁₃ : Store → List ℕ → List ℕ → List Record → Version → ByteOffset → ℕ → List ℕ → List ℕ
+buffer₁₃ s pages nodes register x-v offset len buffer = copy-range″.out-buffer s pages nodes register x-v (offset .0) (r12 s pages nodes register x-v offset len buffer) (r9 s pages nodes register x-v offset len buffer) (buffer₁₁ s pages nodes register x-v offset len buffer)
+
+abbrev pub r14 : Store → List ℕ → List ℕ → List Record → Version → ByteOffset → ℕ → List ℕ → Filled
+r14 s pages nodes register x-v offset len buffer = filled-by″.res (r8 s pages nodes register x-v offset len buffer)
 
 -- `touched` asks: (k ≡ 0 → Ranged size offset len)
 abbrev pub touched-1 : Type 0
@@ -70,20 +96,20 @@ touched-1 =
     (s : Store) (pages : List ℕ) (nodes : List ℕ) (register : List Record) (x-v : Version) (offset : ByteOffset) (len : ℕ) (buffer : List ℕ) (ok-s : Store′.Ok s) (len-pages : length pages < 2 ^ 64) (len-nodes : length nodes < 2 ^ 64) (len-register : length register < 2 ^ 64) (ok-x-v : Version′.Ok x-v) (ok-offset : ByteOffset′.Ok offset) (fits-len : len < 2 ^ 64) (len-buffer : length buffer < 2 ^ 64) (ok-r1 : Record′.Ok (r1 s pages nodes register x-v offset len buffer)) (fits-r2 : (r2 s pages nodes register x-v offset len buffer) < 2 ^ 64)
     → touched″.req (r2 s pages nodes register x-v offset len buffer) (s .size) (offset .0) len
 
--- `some_lost` asks: from + n < 2 ^ 64
+-- `some_lost` asks: (from + n < 2 ^ 64) × (first ≡ isLost (numberWithin (s .pages) (findPage s (areasOf [] nodes register) (v .0) from)))
 abbrev pub some-lost-1 : Type 0
 some-lost-1 =
-    (s : Store) (pages : List ℕ) (nodes : List ℕ) (register : List Record) (x-v : Version) (offset : ByteOffset) (len : ℕ) (buffer : List ℕ) (ok-s : Store′.Ok s) (len-pages : length pages < 2 ^ 64) (len-nodes : length nodes < 2 ^ 64) (len-register : length register < 2 ^ 64) (ok-x-v : Version′.Ok x-v) (ok-offset : ByteOffset′.Ok offset) (fits-len : len < 2 ^ 64) (len-buffer : length buffer < 2 ^ 64) (ok-r1 : Record′.Ok (r1 s pages nodes register x-v offset len buffer)) (fits-r2 : (r2 s pages nodes register x-v offset len buffer) < 2 ^ 64) (fits-r3 : (r3 s pages nodes register x-v offset len buffer) < 2 ^ 64) (fits-r4 : (r4 s pages nodes register x-v offset len buffer) < 2 ^ 64)
-    → some-lost″.req s nodes register x-v (r4 s pages nodes register x-v offset len buffer) (r3 s pages nodes register x-v offset len buffer)
+    (s : Store) (pages : List ℕ) (nodes : List ℕ) (register : List Record) (x-v : Version) (offset : ByteOffset) (len : ℕ) (buffer : List ℕ) (ok-s : Store′.Ok s) (len-pages : length pages < 2 ^ 64) (len-nodes : length nodes < 2 ^ 64) (len-register : length register < 2 ^ 64) (ok-x-v : Version′.Ok x-v) (ok-offset : ByteOffset′.Ok offset) (fits-len : len < 2 ^ 64) (len-buffer : length buffer < 2 ^ 64) (ok-r1 : Record′.Ok (r1 s pages nodes register x-v offset len buffer)) (fits-r2 : (r2 s pages nodes register x-v offset len buffer) < 2 ^ 64) (fits-r3 : (r3 s pages nodes register x-v offset len buffer) < 2 ^ 64) (ok-r4 : Chunk′.Ok (r4 s pages nodes register x-v offset len buffer)) (ok-r5 : Found′.Ok (r5 s pages nodes register x-v offset len buffer))
+    → some-lost″.req s nodes register x-v (((r4 s pages nodes register x-v offset len buffer) .page) .0) (r3 s pages nodes register x-v offset len buffer) (r6 s pages nodes register x-v offset len buffer)
 
--- `copy_range` asks: Readable s pages nodes register (v .0) offset len (length buffer)
+-- `copy_range` asks: Readable s pages nodes register (v .0) offset len (length buffer) × (from ≤ len) × (buffer ≡ bytesFrom s (areasOf pages nodes register) (v .0) offset from ++ drop from buffer)
 abbrev pub copy-range-1 : Type 0
 copy-range-1 =
-    (s : Store) (pages : List ℕ) (nodes : List ℕ) (register : List Record) (x-v : Version) (offset : ByteOffset) (len : ℕ) (buffer : List ℕ) (ok-s : Store′.Ok s) (len-pages : length pages < 2 ^ 64) (len-nodes : length nodes < 2 ^ 64) (len-register : length register < 2 ^ 64) (ok-x-v : Version′.Ok x-v) (ok-offset : ByteOffset′.Ok offset) (fits-len : len < 2 ^ 64) (len-buffer : length buffer < 2 ^ 64) (ok-r1 : Record′.Ok (r1 s pages nodes register x-v offset len buffer)) (fits-r2 : (r2 s pages nodes register x-v offset len buffer) < 2 ^ 64) (fits-r3 : (r3 s pages nodes register x-v offset len buffer) < 2 ^ 64) (fits-r4 : (r4 s pages nodes register x-v offset len buffer) < 2 ^ 64) (fits-r6 : (r6 s pages nodes register x-v offset len buffer) < 2 ^ 64) (fits-r7 : (r7 s pages nodes register x-v offset len buffer) < 2 ^ 64)
-    → copy-range″.req s pages nodes register x-v (offset .0) (r7 s pages nodes register x-v offset len buffer) buffer
+    (s : Store) (pages : List ℕ) (nodes : List ℕ) (register : List Record) (x-v : Version) (offset : ByteOffset) (len : ℕ) (buffer : List ℕ) (ok-s : Store′.Ok s) (len-pages : length pages < 2 ^ 64) (len-nodes : length nodes < 2 ^ 64) (len-register : length register < 2 ^ 64) (ok-x-v : Version′.Ok x-v) (ok-offset : ByteOffset′.Ok offset) (fits-len : len < 2 ^ 64) (len-buffer : length buffer < 2 ^ 64) (ok-r1 : Record′.Ok (r1 s pages nodes register x-v offset len buffer)) (fits-r2 : (r2 s pages nodes register x-v offset len buffer) < 2 ^ 64) (fits-r3 : (r3 s pages nodes register x-v offset len buffer) < 2 ^ 64) (ok-r4 : Chunk′.Ok (r4 s pages nodes register x-v offset len buffer)) (ok-r5 : Found′.Ok (r5 s pages nodes register x-v offset len buffer)) (fits-r8 : (r8 s pages nodes register x-v offset len buffer) < 2 ^ 64) (fits-r9 : (r9 s pages nodes register x-v offset len buffer) < 2 ^ 64) (fits-r10 : (r10 s pages nodes register x-v offset len buffer) < 2 ^ 64) (same11-buffer : length (buffer₁₁ s pages nodes register x-v offset len buffer) ≡ length buffer) (fits-r12 : (r12 s pages nodes register x-v offset len buffer) < 2 ^ 64)
+    → copy-range″.req s pages nodes register x-v (offset .0) (r12 s pages nodes register x-v offset len buffer) (r9 s pages nodes register x-v offset len buffer) (buffer₁₁ s pages nodes register x-v offset len buffer)
 
 -- the function ensures: (r ≡ readOut s (areasOf pages nodes register) (v .0) (offset .0) len buffer) × (buffer′ ≡ readBuffer s (areasOf pages nodes register) (v .0) (offset .0) len buffer)
 abbrev pub exit-1 : Type 0
 exit-1 =
-    (s : Store) (pages : List ℕ) (nodes : List ℕ) (register : List Record) (x-v : Version) (offset : ByteOffset) (len : ℕ) (buffer : List ℕ) (ok-s : Store′.Ok s) (len-pages : length pages < 2 ^ 64) (len-nodes : length nodes < 2 ^ 64) (len-register : length register < 2 ^ 64) (ok-x-v : Version′.Ok x-v) (ok-offset : ByteOffset′.Ok offset) (fits-len : len < 2 ^ 64) (len-buffer : length buffer < 2 ^ 64) (ok-r1 : Record′.Ok (r1 s pages nodes register x-v offset len buffer)) (fits-r2 : (r2 s pages nodes register x-v offset len buffer) < 2 ^ 64) (fits-r3 : (r3 s pages nodes register x-v offset len buffer) < 2 ^ 64) (fits-r4 : (r4 s pages nodes register x-v offset len buffer) < 2 ^ 64) (fits-r6 : (r6 s pages nodes register x-v offset len buffer) < 2 ^ 64) (fits-r7 : (r7 s pages nodes register x-v offset len buffer) < 2 ^ 64) (same8-buffer : length (buffer₈ s pages nodes register x-v offset len buffer) ≡ length buffer) (ok-r9 : Filled′.Ok (r9 s pages nodes register x-v offset len buffer))
-    → read″.ens s pages nodes register x-v offset len buffer (buffer₈ s pages nodes register x-v offset len buffer) (r9 s pages nodes register x-v offset len buffer)
+    (s : Store) (pages : List ℕ) (nodes : List ℕ) (register : List Record) (x-v : Version) (offset : ByteOffset) (len : ℕ) (buffer : List ℕ) (ok-s : Store′.Ok s) (len-pages : length pages < 2 ^ 64) (len-nodes : length nodes < 2 ^ 64) (len-register : length register < 2 ^ 64) (ok-x-v : Version′.Ok x-v) (ok-offset : ByteOffset′.Ok offset) (fits-len : len < 2 ^ 64) (len-buffer : length buffer < 2 ^ 64) (ok-r1 : Record′.Ok (r1 s pages nodes register x-v offset len buffer)) (fits-r2 : (r2 s pages nodes register x-v offset len buffer) < 2 ^ 64) (fits-r3 : (r3 s pages nodes register x-v offset len buffer) < 2 ^ 64) (ok-r4 : Chunk′.Ok (r4 s pages nodes register x-v offset len buffer)) (ok-r5 : Found′.Ok (r5 s pages nodes register x-v offset len buffer)) (fits-r8 : (r8 s pages nodes register x-v offset len buffer) < 2 ^ 64) (fits-r9 : (r9 s pages nodes register x-v offset len buffer) < 2 ^ 64) (fits-r10 : (r10 s pages nodes register x-v offset len buffer) < 2 ^ 64) (same11-buffer : length (buffer₁₁ s pages nodes register x-v offset len buffer) ≡ length buffer) (fits-r12 : (r12 s pages nodes register x-v offset len buffer) < 2 ^ 64) (same13-buffer : length (buffer₁₃ s pages nodes register x-v offset len buffer) ≡ length (buffer₁₁ s pages nodes register x-v offset len buffer)) (ok-r14 : Filled′.Ok (r14 s pages nodes register x-v offset len buffer))
+    → read″.ens s pages nodes register x-v offset len buffer (buffer₁₃ s pages nodes register x-v offset len buffer) (r14 s pages nodes register x-v offset len buffer)

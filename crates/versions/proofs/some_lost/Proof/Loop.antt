@@ -21,10 +21,10 @@ use Rattle.versions.specs.Table.{holds, unless}
 use Rattle.versions.specs.Calls.{sizeAfter, updateAt, allPut, assignRefusal, withVersion, withVersionOf, withVersionPart, assignedBy, assignOut, assignRegister, nextNode, nextPlace, weaveRefusal, kept, withWoven, weaveOut, weaveNodes, weaveRegister, publishRefusal, dueBy, publishedBy, publishOut, sizeRefusal, pagesBy, bytesBy, sizedBy, sizeOut, recentBy, recentOut, findPage, numberWithin, someLost, pagesTouched, bytesFrom, filledBy, readOut, readBuffer, isLost, orZero, versionFound, stamped, stampOut, viewPart, areasOf, lengthsOf, differ, fresh, formatRefusal, formatted, formatAnswer, formatAreas, beginRefusal, withTicketPart, begunBy, beginOut, beginRegister, bitOf, withBit, putRefusal, withPut, putIn, putOut, putPages, putRegister}
 use Rattle.versions.specs.Descent.{Spanned, placeIn, placeNumber, turnOf, walkDown, pageRefusal, rangeRefusal, Ranged, orLost, chunkAt, Readable}
 
--- what holds at the head of each turn. At the first: v7 is 0. That each number fits its width, and that no list changes its length, need not be said
-abbrev pub inv-1 : Store → List ℕ → List Record → Version → ℕ → ℕ → ℕ → Type 0
-inv-1 s nodes register x-v x-from n v7 = (v7 ≤ n) × (someLost s (areasOf [] nodes register) (x-v .0) x-from n ≡ someLost s (areasOf [] nodes register) (x-v .0) (x-from + v7) (n - v7))
+-- what holds at the head of each turn. At the first: v8 is 1. That each number fits its width, and that no list changes its length, need not be said
+abbrev pub inv-1 : Store → List ℕ → List Record → Version → ℕ → ℕ → Bool → ℕ → Type 0
+inv-1 s nodes register x-v x-from n x-first v8 = (v8 ≤ n) × (someLost s (areasOf [] nodes register) (x-v .0) x-from n ≡ someLost s (areasOf [] nodes register) (x-v .0) (x-from + v8) (n - v8))
 
 -- what falls with each turn
-abbrev pub measure-1 : Store → List ℕ → List Record → Version → ℕ → ℕ → ℕ → ℕ
-measure-1 s nodes register x-v x-from n v7 = n - v7
+abbrev pub measure-1 : Store → List ℕ → List Record → Version → ℕ → ℕ → Bool → ℕ → ℕ
+measure-1 s nodes register x-v x-from n x-first v8 = n - v8
