@@ -2,11 +2,40 @@
 // No public function has a `requires`: what runs past the area or a buffer is neither stored nor handed out, and what was to be written is left as it was.
 ghost use mathlib.Core.Path.{_≡_};
 ghost use Prim.Native.Nat.{_-_, _*_, _^_, _≤_, min};
-ghost use lib.ListN.{length};
+ghost use lib.ListN.{length, take};
 ghost use Rattle.pages.specs.Pages.{over, fits, put, part};
 
-// The copier: copies src over the front of dst.
-fn copy_in(dst: &mut [u8], src: &[u8])
+// How many bytes the copier takes at once.
+const BLOCK: usize = 256;
+
+// The first block of src.
+fn block_of(src: &[u8]) -> [u8; BLOCK]
+    requires { ⌜ 256 ≤ length (now src) ⌝ }
+    ensures { λ r. ⌜ r ≡ take 256 (now (src .entry)) ⌝ }
+{
+    let mut block = [0u8; BLOCK];
+    let mut i = 0;
+    while i < BLOCK {
+        block[i] = src[i];
+        i += 1;
+    }
+    block
+}
+
+// Copies a block over the front of dst.
+fn put_block(dst: &mut [u8], block: [u8; BLOCK])
+    requires { ⌜ 256 ≤ length (now dst) ⌝ }
+    ensures { λ _. ⌜ now (dst .exit) ≡ over (now (dst .entry)) block ⌝ }
+{
+    let mut i = 0;
+    while i < BLOCK {
+        dst[i] = block[i];
+        i += 1;
+    }
+}
+
+// Copies src over the front of dst, byte by byte.
+fn copy_bytes(dst: &mut [u8], src: &[u8])
     requires { ⌜ length (now src) ≤ length (now dst) ⌝ }
     ensures { λ _. ⌜ now (dst .exit) ≡ over (now (dst .entry)) (now (src .entry)) ⌝ }
 {
@@ -15,6 +44,21 @@ fn copy_in(dst: &mut [u8], src: &[u8])
         dst[i] = src[i];
         i += 1;
     }
+}
+
+// The copier: copies src over the front of dst, by blocks, and what is left of it by bytes.
+// A block goes through an array of its own, which overlaps neither slice, so that the compiler moves it whole: of dst and src themselves it can't know that they don't overlap.
+fn copy_in(dst: &mut [u8], src: &[u8])
+    requires { ⌜ length (now src) ≤ length (now dst) ⌝ }
+    ensures { λ _. ⌜ now (dst .exit) ≡ over (now (dst .entry)) (now (src .entry)) ⌝ }
+{
+    let mut i = 0;
+    while BLOCK <= src.len() - i {
+        let block = block_of(&src[i..]);
+        put_block(&mut dst[i..], block);
+        i += BLOCK;
+    }
+    copy_bytes(&mut dst[i..], &src[i..]);
 }
 
 // Where page `number` begins. A product that would wrap answers the largest number, which lies past any area.
