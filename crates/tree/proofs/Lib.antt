@@ -12,6 +12,7 @@ pub mod Root
 pub mod Newest
 pub mod Area
 pub mod Records
+pub mod Within
 pub mod Walkgen
 pub mod Walk
 pub mod Weaving

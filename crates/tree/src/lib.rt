@@ -2,12 +2,13 @@
 ghost use mathlib.Core.Path.{_≡_};
 ghost use Prim.Native.Nat.{ℕ, _+_, _-_, _*_, _^_, _<_, _≤_, min, max};
 ghost use lib.Count.{ones};
+ghost use lib.Dec.{leb};
 ghost use lib.ListN.{length, getD};
 ghost use Rattle.tree.specs.Tree.{rootHeight, meets, nth};
 ghost use Rattle.tree.specs.Place.{below};
 ghost use Rattle.tree.specs.NodeArea.{nodeAt, withNode};
 ghost use Rattle.tree.specs.Register.{noRecord, limited, updateOf, extentOf, withRecord, newestIn};
-ghost use Rattle.tree.specs.Contract.{rootSpan, nodesFor, Pages, Counted, Indexed, Part, Spans, Kth};
+ghost use Rattle.tree.specs.Contract.{rootSpan, nodesFor, Pages, Counted, Indexed, Part, Spans, Kth, highest};
 
 // A version, a page's index in the blob and a ticket are counters of different sorts, and each has a type of its own.
 pub struct Version(pub u64);
@@ -320,15 +321,39 @@ pub fn set_record(register: &mut [Record], i: usize, r: Record)
     }
 }
 
+// The highest page that a record may begin at to meet the `span` pages from `first` on: past the last page of any blob it is no bound.
+fn highest(first: u64, span: u64) -> u64
+    requires { ⌜ first + span < 2 ^ 64 ⌝ }
+    ensures { λ r. ⌜ r ≡ highest first span ⌝ }
+{
+    if first > LAST_PAGE {
+        0
+    } else if first + span > LAST_PAGE {
+        u64::MAX
+    } else {
+        saturating_sub(first + span, 1)
+    }
+}
+
+// Whether a record's update, its pages as they stand in the record, begins at hi or before and has a page that is lo or later. One comparison of a
+// larger and a smaller number is one branch, which goes the same way for most records.
+fn record_within(r: Record, lo: u64, hi: u64) -> bool
+    ensures { λ b. ⌜ b ≡ leb (max (r .f .0) lo) (min (max (r .f .0) (r .last .0)) hi) ⌝ }
+{
+    larger(r.f.0, lo) <= smaller(larger(r.f.0, r.last.0), hi)
+}
+
 // The newest version up to `below` whose update meets the `span` pages from `first` on, or 0.
 pub fn newest_update(register: &[Record], below: Version, first: PageIndex, span: u64) -> Version
-    requires { ⌜ (below .0 ≤ length (now register)) × (first .0 + span < 2 ^ 64) ⌝ }
+    requires { ⌜ (below .0 ≤ length (now register)) × (first .0 + span < 2 ^ 64) × (0 < below .0 → 0 < span) ⌝ }
     ensures { λ r. ⌜ r ≡ newestIn (now (register .entry)) below first span ⌝ }
 {
+    let lo = first.0;
+    let hi = highest(lo, span);
     let mut v = below.0;
     while v > 0 {
         let older = v - 1;
-        if record_meets(record_at(register, older as usize), first, span) {
+        if record_within(record_at(register, older as usize), lo, hi) {
             return Version(v);
         }
         v = older;

@@ -1,4 +1,5 @@
 -- `versions::weave_plan` meets its contract: where the call is not refused, a node with halves has its own version as the limit. Assumes nothing.
+use native.Mathlib.Omega.{arith}
 use borrow.Author.Needs.{needs}
 use mathlib.Core.Path.{refl}
 use Rattle.versions.proofs.weave_plan.Statement.{statement}
@@ -17,7 +18,7 @@ returns-2 : tie.Need-returns-2
 returns-2 c = search needs
 
 returns-3 : tie.Need-returns-3
-returns-3 c = record { number = search needs; next = search needs; inner = λ z h. refl; low = search needs; refused = search needs }
+returns-3 c = record { number = search needs; next = search needs; inner = λ z h. refl; low = search needs; refused = search needs; halved = λ h. omega arith }
 
 pub weave-plan-spec : {M : Type 1} → statement M
 weave-plan-spec =
