@@ -5,7 +5,7 @@ pub mod Below
 pub mod First
 pub mod Place
 pub mod Descent
-pub mod Spans
+pub mod Search
 pub mod Ones
 pub mod Index
 pub mod Root

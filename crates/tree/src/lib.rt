@@ -184,25 +184,47 @@ fn count_below(f: PageIndex, last: PageIndex, first: PageIndex, height: u64) -> 
     }
 }
 
-// The node of an update of the pages f .. last that stands at index k in the weaving order of the node at first with this span,
-// which halves at each call.
+// The nodes at and below the left half of a node that begins at a and has halves of this height; `both` is what the two halves have.
+fn left_count(f: PageIndex, last: PageIndex, a: u64, height: u64, both: u64) -> u64
+    requires { ⌜ Part (f .0) (last .0) a height × (both ≡ below (f .0) (last .0) a height + below (f .0) (last .0) (a + 2 ^ height) height) ⌝ }
+    ensures { λ r. ⌜ r ≡ below (f .0) (last .0) a height ⌝ }
+{
+    let right = a + span_of(height);
+    if f.0 >= right {
+        return 0;
+    }
+    if last.0 < right {
+        return both;
+    }
+    count_below(f, last, PageIndex(a), height)
+}
+
+// The node of an update of the pages f .. last that stands at index k in the weaving order of the node at first with this span. Each turn goes into the
+// half that the index lies in, and keeps the count of the nodes there.
 pub fn kth(f: PageIndex, last: PageIndex, first: PageIndex, span: u64, k: u64) -> Named
     requires { ⌜ Spans (f .0) (last .0) (first .0) span ⌝ }
     ensures { λ r. ⌜ Kth (f .0) (last .0) (first .0) span k (r .first .0) (r .span) ⌝ }
 {
-    if span < 2 {
-        Named { first, span }
-    } else if k == 0 {
-        Named { first, span }
-    } else {
-        let half = span / 2;
-        let left = count_below(f, last, first, height_of(half));
-        if k - 1 < left {
-            kth(f, last, first, half, k - 1)
+    let mut a = first.0;
+    let mut height = height_of(span);
+    let mut count = count_below(f, last, first, height);
+    let mut i = k;
+    while height > 0 && i > 0 {
+        height = height - 1;
+        i = i - 1;
+        count = saturating_sub(count, 1);
+        let left = left_count(f, last, a, height, count);
+        if i < left {
+            count = left;
         } else {
-            let right = first.0 + half;
-            kth(f, last, PageIndex(right), half, k - 1 - left)
+            i = i - left;
+            a = a + span_of(height);
+            count = count - left;
         }
+    }
+    Named {
+        first: PageIndex(a),
+        span: span_of(height),
     }
 }
 
