@@ -9,6 +9,7 @@ pub mod Search
 pub mod Ones
 pub mod Index
 pub mod Root
+pub mod FirstNodes
 pub mod Newest
 pub mod Area
 pub mod Records

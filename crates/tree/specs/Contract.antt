@@ -57,6 +57,11 @@ pub record Kth (f l a span k b s : ℕ) : Type 0 where
   pub first : (h : ℕ) → span ≡ 2 ^ h → b ≡ firstOf (kth f l a h k)
   pub spans : (h : ℕ) → span ≡ 2 ^ h → s ≡ spanOf (kth f l a h k)
 
+-- The first page and the span of the k-th node, in weaving order, of an update of the pages f .. l after which the blob has this size.
+pub record WovenAt (f l size k b s : ℕ) : Type 0 where
+  pub first : b ≡ firstOf (kth f l 0 (rootHeight size) k)
+  pub spans : s ≡ spanOf (kth f l 0 (rootHeight size) k)
+
 -- The highest page that a record may begin at to meet the s pages from a on: none where a is past the last page of any blob, and any page where the s
 -- pages reach past it.
 unfoldable pub highest : ℕ → ℕ → ℕ

@@ -5,10 +5,10 @@ ghost use lib.Count.{ones};
 ghost use lib.Dec.{leb};
 ghost use lib.ListN.{length, getD};
 ghost use Rattle.tree.specs.Tree.{rootHeight, meets, nth};
-ghost use Rattle.tree.specs.Place.{below};
+ghost use Rattle.tree.specs.Place.{below, first};
 ghost use Rattle.tree.specs.NodeArea.{nodeAt, withNode};
 ghost use Rattle.tree.specs.Register.{noRecord, limited, updateOf, extentOf, withRecord, newestIn};
-ghost use Rattle.tree.specs.Contract.{rootSpan, nodesFor, Pages, Counted, Indexed, Part, Spans, Kth, highest};
+ghost use Rattle.tree.specs.Contract.{rootSpan, nodesFor, Pages, Counted, Indexed, Part, Spans, Kth, WovenAt, highest};
 
 // A version, a page's index in the blob and a ticket are counters of different sorts, and each has a type of its own.
 pub struct Version(pub u64);
@@ -225,6 +225,31 @@ pub fn kth(f: PageIndex, last: PageIndex, first: PageIndex, span: u64, k: u64) -
     Named {
         first: PageIndex(a),
         span: span_of(height),
+    }
+}
+
+// The first page of the node of a height over page p.
+fn first_over(p: u64, height: u64) -> u64
+    requires { ⌜ height < 64 ⌝ }
+    ensures { λ r. ⌜ r ≡ first p height ⌝ }
+{
+    (p >> height) << height
+}
+
+// The k-th node, in weaving order, of an update of the pages f .. last that leaves the blob at a size in pages. The order begins with the nodes over page
+// f, root first: of these no search is made.
+pub fn woven_at(f: PageIndex, last: PageIndex, size: u64, k: u64) -> Named
+    requires { ⌜ (f .0 ≤ last .0) × (last .0 < size) × (size ≤ 4096) ⌝ }
+    ensures { λ r. ⌜ WovenAt (f .0) (last .0) size k (r .first .0) (r .span) ⌝ }
+{
+    let height = root_height(size);
+    if k > height {
+        return kth(f, last, PageIndex(0), span_of(height), k);
+    }
+    let h = height - k;
+    Named {
+        first: PageIndex(first_over(f.0, h)),
+        span: span_of(h),
     }
 }
 
