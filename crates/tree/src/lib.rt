@@ -201,7 +201,7 @@ fn left_count(f: PageIndex, last: PageIndex, a: u64, height: u64, both: u64) -> 
 
 // The node of an update of the pages f .. last that stands at index k in the weaving order of the node at first with this span. Each turn goes into the
 // half that the index lies in, and keeps the count of the nodes there.
-pub fn kth(f: PageIndex, last: PageIndex, first: PageIndex, span: u64, k: u64) -> Named
+fn kth(f: PageIndex, last: PageIndex, first: PageIndex, span: u64, k: u64) -> Named
     requires { ⌜ Spans (f .0) (last .0) (first .0) span ⌝ }
     ensures { λ r. ⌜ Kth (f .0) (last .0) (first .0) span k (r .first .0) (r .span) ⌝ }
 {

@@ -5,11 +5,11 @@ use mathlib.Core.Path.{refl}
 use Rattle.versions.proofs.weave_plan.Statement.{statement}
 use Rattle.versions.proofs.weave_plan.Tie as tie
 
-weave-refusal-requires : tie.Need-weave-refusal-requires
-weave-refusal-requires c κs = search needs
-
 next-node-requires : tie.Need-next-node-requires
 next-node-requires c κs = search needs
+
+weave-refusal-requires : tie.Need-weave-refusal-requires
+weave-refusal-requires c κs = search needs
 
 returns : tie.Need-returns
 returns c = search needs
@@ -22,4 +22,4 @@ returns-3 c = record { number = search needs; next = search needs; inner = λ z 
 
 pub weave-plan-spec : {M : Type 1} → statement M
 weave-plan-spec =
-    tie.close (tie.spec weave-refusal-requires next-node-requires returns returns-2 returns-3)
+    tie.close (tie.spec next-node-requires weave-refusal-requires returns returns-2 returns-3)
