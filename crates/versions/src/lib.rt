@@ -154,10 +154,13 @@ pub enum Stamped {
     Refused(u64),
 }
 
-// Whether x is a times b, which may be more than 64 bits hold.
+// Whether x is a times b, which may be more than 64 bits hold. A product of two numbers of 32 bits is not, and wants no division.
 fn is_product(x: u64, a: u64, b: u64) -> bool
     ensures { λ r. ⌜ r ≡ eqb x (a * b) ⌝ }
 {
+    if a < 4294967296 && b < 4294967296 {
+        return x == a * b;
+    }
     if a == 0 {
         return x == 0;
     }
