@@ -24,7 +24,7 @@ module _ (f l a h : ℕ) where
   below-after p = rw (meets-after f l a (2 ^ h) p, below)
 
 module _ (f l a : ℕ) where
-  pub kth-leaf : (h i : ℕ) → h ≡ 0 → node a 0 ≡ kth f l a h i
+  pub kth-leaf : (h i : ℕ) → h ≡ 0 → node a h ≡ kth f l a h i
   unfolding kth
   kth-leaf h i e = rw e
 

@@ -5,13 +5,15 @@ pub mod Below
 pub mod First
 pub mod Place
 pub mod Descent
-pub mod Spans
+pub mod Search
 pub mod Ones
 pub mod Index
 pub mod Root
+pub mod FirstNodes
 pub mod Newest
 pub mod Area
 pub mod Records
+pub mod Within
 pub mod Walkgen
 pub mod Walk
 pub mod Weaving

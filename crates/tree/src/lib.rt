@@ -2,12 +2,13 @@
 ghost use mathlib.Core.Path.{_≡_};
 ghost use Prim.Native.Nat.{ℕ, _+_, _-_, _*_, _^_, _<_, _≤_, min, max};
 ghost use lib.Count.{ones};
+ghost use lib.Dec.{leb};
 ghost use lib.ListN.{length, getD};
 ghost use Rattle.tree.specs.Tree.{rootHeight, meets, nth};
-ghost use Rattle.tree.specs.Place.{below};
+ghost use Rattle.tree.specs.Place.{below, first};
 ghost use Rattle.tree.specs.NodeArea.{nodeAt, withNode};
 ghost use Rattle.tree.specs.Register.{noRecord, limited, updateOf, extentOf, withRecord, newestIn};
-ghost use Rattle.tree.specs.Contract.{rootSpan, nodesFor, Pages, Counted, Indexed, Part, Spans, Kth};
+ghost use Rattle.tree.specs.Contract.{rootSpan, nodesFor, Pages, Counted, Indexed, Part, Spans, Kth, WovenAt, highest};
 
 // A version, a page's index in the blob and a ticket are counters of different sorts, and each has a type of its own.
 #[repr(C)]
@@ -186,25 +187,72 @@ fn count_below(f: PageIndex, last: PageIndex, first: PageIndex, height: u64) -> 
     }
 }
 
-// The node of an update of the pages f .. last that stands at index k in the weaving order of the node at first with this span,
-// which halves at each call.
-pub fn kth(f: PageIndex, last: PageIndex, first: PageIndex, span: u64, k: u64) -> Named
+// The nodes at and below the left half of a node that begins at a and has halves of this height; `both` is what the two halves have.
+fn left_count(f: PageIndex, last: PageIndex, a: u64, height: u64, both: u64) -> u64
+    requires { ⌜ Part (f .0) (last .0) a height × (both ≡ below (f .0) (last .0) a height + below (f .0) (last .0) (a + 2 ^ height) height) ⌝ }
+    ensures { λ r. ⌜ r ≡ below (f .0) (last .0) a height ⌝ }
+{
+    let right = a + span_of(height);
+    if f.0 >= right {
+        return 0;
+    }
+    if last.0 < right {
+        return both;
+    }
+    count_below(f, last, PageIndex(a), height)
+}
+
+// The node of an update of the pages f .. last that stands at index k in the weaving order of the node at first with this span. Each turn goes into the
+// half that the index lies in, and keeps the count of the nodes there.
+fn kth(f: PageIndex, last: PageIndex, first: PageIndex, span: u64, k: u64) -> Named
     requires { ⌜ Spans (f .0) (last .0) (first .0) span ⌝ }
     ensures { λ r. ⌜ Kth (f .0) (last .0) (first .0) span k (r .first .0) (r .span) ⌝ }
 {
-    if span < 2 {
-        Named { first, span }
-    } else if k == 0 {
-        Named { first, span }
-    } else {
-        let half = span / 2;
-        let left = count_below(f, last, first, height_of(half));
-        if k - 1 < left {
-            kth(f, last, first, half, k - 1)
+    let mut a = first.0;
+    let mut height = height_of(span);
+    let mut count = count_below(f, last, first, height);
+    let mut i = k;
+    while height > 0 && i > 0 {
+        height = height - 1;
+        i = i - 1;
+        count = saturating_sub(count, 1);
+        let left = left_count(f, last, a, height, count);
+        if i < left {
+            count = left;
         } else {
-            let right = first.0 + half;
-            kth(f, last, PageIndex(right), half, k - 1 - left)
+            i = i - left;
+            a = a + span_of(height);
+            count = count - left;
         }
+    }
+    Named {
+        first: PageIndex(a),
+        span: span_of(height),
+    }
+}
+
+// The first page of the node of a height over page p.
+fn first_over(p: u64, height: u64) -> u64
+    requires { ⌜ height < 64 ⌝ }
+    ensures { λ r. ⌜ r ≡ first p height ⌝ }
+{
+    (p >> height) << height
+}
+
+// The k-th node, in weaving order, of an update of the pages f .. last that leaves the blob at a size in pages. The order begins with the nodes over page
+// f, root first: of these no search is made.
+pub fn woven_at(f: PageIndex, last: PageIndex, size: u64, k: u64) -> Named
+    requires { ⌜ (f .0 ≤ last .0) × (last .0 < size) × (size ≤ 4096) ⌝ }
+    ensures { λ r. ⌜ WovenAt (f .0) (last .0) size k (r .first .0) (r .span) ⌝ }
+{
+    let height = root_height(size);
+    if k > height {
+        return kth(f, last, PageIndex(0), span_of(height), k);
+    }
+    let h = height - k;
+    Named {
+        first: PageIndex(first_over(f.0, h)),
+        span: span_of(h),
     }
 }
 
@@ -323,15 +371,39 @@ pub fn set_record(register: &mut [Record], i: usize, r: Record)
     }
 }
 
+// The highest page that a record may begin at to meet the `span` pages from `first` on: past the last page of any blob it is no bound.
+fn highest(first: u64, span: u64) -> u64
+    requires { ⌜ first + span < 2 ^ 64 ⌝ }
+    ensures { λ r. ⌜ r ≡ highest first span ⌝ }
+{
+    if first > LAST_PAGE {
+        0
+    } else if first + span > LAST_PAGE {
+        u64::MAX
+    } else {
+        saturating_sub(first + span, 1)
+    }
+}
+
+// Whether a record's update, its pages as they stand in the record, begins at hi or before and has a page that is lo or later. One comparison of a
+// larger and a smaller number is one branch, which goes the same way for most records.
+fn record_within(r: Record, lo: u64, hi: u64) -> bool
+    ensures { λ b. ⌜ b ≡ leb (max (r .f .0) lo) (min (max (r .f .0) (r .last .0)) hi) ⌝ }
+{
+    larger(r.f.0, lo) <= smaller(larger(r.f.0, r.last.0), hi)
+}
+
 // The newest version up to `below` whose update meets the `span` pages from `first` on, or 0.
 pub fn newest_update(register: &[Record], below: Version, first: PageIndex, span: u64) -> Version
-    requires { ⌜ (below .0 ≤ length (now register)) × (first .0 + span < 2 ^ 64) ⌝ }
+    requires { ⌜ (below .0 ≤ length (now register)) × (first .0 + span < 2 ^ 64) × (0 < below .0 → 0 < span) ⌝ }
     ensures { λ r. ⌜ r ≡ newestIn (now (register .entry)) below first span ⌝ }
 {
+    let lo = first.0;
+    let hi = highest(lo, span);
     let mut v = below.0;
     while v > 0 {
         let older = v - 1;
-        if record_meets(record_at(register, older as usize), first, span) {
+        if record_within(record_at(register, older as usize), lo, hi) {
             return Version(v);
         }
         v = older;

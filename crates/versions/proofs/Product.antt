@@ -1,11 +1,18 @@
 -- Whether a number is a product, by the remainder and the quotient: the product itself may be more than 64 bits hold. Assumes nothing.
 use mathlib.Core.Path.{_≡_, refl, sym}
 use mathlib.Core.Bool.{Bool, true, false}
-use Prim.Native.Nat.{ℕ, zero, suc, _+_, _*_, _/_, _%_, _<_}
-use native.Mathlib.Nat.{add-zero, zero-mul, div-add-mod, mul-div-cancel-left, mul-mod-right}
+use Prim.Native.Nat.{ℕ, zero, suc, _+_, _*_, _-_, _/_, _%_, _^_, _≤_, _<_}
+use native.Mathlib.Nat.{add-zero, zero-mul, div-add-mod, mul-div-cancel-left, mul-mod-right, mul-le-mul}
 use native.Mathlib.Omega.{arith}
 use borrow.Author.Tests.{eq-eqb, ne-eqb, eqb-true, eqb-false}
 use lib.Dec.{eqb}
+
+-- of two numbers that 32 bits hold it is not
+pub low-product : (a b : ℕ) → a < 2 ^ 32 → b < 2 ^ 32 → a * b < 2 ^ 64
+low-product a b p q =
+    let a-le : a ≤ 2 ^ 32 - 1 = omega arith in
+    let b-le : b ≤ 2 ^ 32 - 1 = omega arith in
+    omega (arith, mul-le-mul a-le b-le)
 
 -- 0 times b
 pub by-zero : (x a b : ℕ) → a ≡ 0 → eqb x 0 ≡ eqb x (a * b)

@@ -20,13 +20,15 @@ pub record NextOf (q : Record) (x : Next) : Type 0 where
   pub right : x .right .0 ≡ x .first .0 + x .half
   pub inside : x .first .0 + x .span ≤ 4096
 
--- The plan of WEAVE: the table's number, the next node, and the limit up to which children are looked for: none where the number refuses.
+-- The plan of WEAVE: the table's number, the next node, and the limit up to which children are looked for: none where the number refuses or the node is a
+-- leaf.
 pub record Planned (s : Store) (l : Lengths) (r q : Record) (t : ℕ) (p : Plan) : Type 0 where
   pub number : p .k ≡ weaveRefusal s l r q t
   pub next : NextOf q (p .next)
   pub low : p .limit .0 ≤ r .version .0
   pub refused : 0 < p .k → p .limit .0 ≡ 0
   pub inner : p .k ≡ 0 → 0 < p .next .half → p .limit .0 ≡ r .version .0
+  pub halved : 0 < p .limit .0 → 0 < p .next .half
 
 -- The versions of the children of the node x of version v, as the register has them; a leaf has none.
 pub record Children (rs : List Record) (v : Version) (x : Next) (a b : Version) : Type 0 where

@@ -27,7 +27,6 @@ use tree::Ticket;
 use tree::Version;
 use tree::extent_of;
 use tree::height_of;
-use tree::kth;
 use tree::newest_update;
 use tree::no_record;
 use tree::node_at;
@@ -41,6 +40,7 @@ use tree::root_span;
 use tree::set_record;
 use tree::store_node;
 use tree::within_limits;
+use tree::woven_at;
 
 // A byte's place in the blob.
 pub struct ByteOffset(pub u64);
@@ -160,10 +160,13 @@ pub enum Viewed {
     Refused(u64),
 }
 
-// Whether x is a times b, which may be more than 64 bits hold.
+// Whether x is a times b, which may be more than 64 bits hold. A product of two numbers of 32 bits is not, and wants no division.
 fn is_product(x: u64, a: u64, b: u64) -> bool
     ensures { λ r. ⌜ r ≡ eqb x (a * b) ⌝ }
 {
+    if a < 4294967296 && b < 4294967296 {
+        return x == a * b;
+    }
     if a == 0 {
         return x == 0;
     }
@@ -753,7 +756,7 @@ fn next_node(q: Record) -> Next
     ensures { λ x. ⌜ NextOf q x ⌝ }
 {
     let e = extent_of(q);
-    let x = kth(e.f, e.last, PageIndex(0), root_span(e.size), q.woven);
+    let x = woven_at(e.f, e.last, e.size, q.woven);
     let first = x.first;
     let half = x.span / 2;
     Next {
@@ -780,22 +783,23 @@ fn sum_reaches(n: u64, a: u64, b: u64) -> bool
     n <= a || n - a <= b
 }
 
-// Whether the next node has no place in the node area, or is a leaf whose page number lies past the page area.
-fn node_lost(s: Store, r: Record, q: Record) -> bool
+// Whether the next node, x, has no place in the node area, or is a leaf whose page number lies past the page area.
+fn node_lost(s: Store, r: Record, q: Record, x: Next) -> bool
+    requires { ⌜ NextOf q x ⌝ }
     ensures { λ b. ⌜ b ≡ holds (s .nodes ≤? nextPlace q or leafPast s r q (nextNode q)) ⌝ }
 {
     if sum_reaches(s.nodes, q.place, q.woven) {
         return true;
     }
-    let x = next_node(q);
     if x.half > 0 {
         return false;
     }
     sum_reaches(s.pages, r.number, pages_from(q, x.first))
 }
 
-// The refusal of WEAVE, with the ticket's record r and its version's record q.
-fn weave_refusal(s: Store, l: Lengths, r: Record, q: Record, t: Ticket) -> u64
+// The refusal of WEAVE, with the ticket's record r, its version's record q and that version's next node x.
+fn weave_refusal(s: Store, l: Lengths, r: Record, q: Record, x: Next, t: Ticket) -> u64
+    requires { ⌜ NextOf q x ⌝ }
     ensures { λ k. ⌜ k ≡ weaveRefusal s l r q (t .0) ⌝ }
 {
     let last = s.tickets;
@@ -821,7 +825,7 @@ fn weave_refusal(s: Store, l: Lengths, r: Record, q: Record, t: Ticket) -> u64
     if count_of(q) <= q.woven {
         return 8;
     }
-    if node_lost(s, r, q) { 19 } else { 0 }
+    if node_lost(s, r, q, x) { 19 } else { 0 }
 }
 
 // What WEAVE is to do, with the ticket's record r and its version's record q.
@@ -829,8 +833,8 @@ fn weave_plan(s: Store, l: Lengths, r: Record, q: Record, t: Ticket) -> Plan
     ensures { λ p. ⌜ Planned s l r q (t .0) p ⌝ }
 {
     let own = r.version;
-    let k = weave_refusal(s, l, r, q, t);
     let next = next_node(q);
+    let k = weave_refusal(s, l, r, q, next, t);
     if k > 0 {
         return Plan {
             k,

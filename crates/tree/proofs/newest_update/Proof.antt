@@ -52,16 +52,21 @@ use Rattle.tree.specs.declared.PageIndex.{PageIndex}
 use Rattle.tree.proofs.Walkgen.Kind.PageIndex as PageIndex′
 use Rattle.tree.proofs.Walkgen.Flow.{ref, MutAt, ShrAt, lend-mut, back-mut, lend-shr, back-shr, branches-on, regroup, skips-on, returns-on, plus-nothing, holds, empty, less-fits, is-true, is-false, differ, above-0, twice-not, switches-to, switches-last, big-lit, here, blocks-on, resume, scaled-2, scaled-4, scaled-8, opens-shr, shuts-shr, opens-mut, shuts-mut, puts-mut, keeps-shr, fills, empties, tyAt}
 use Rattle.tree.proofs.Walkgen.Say.newest_update as newest-update″
+use Rattle.tree.proofs.Walkgen.Say.highest as highest″
+use Rattle.tree.proofs.Walkgen.Call.highest as Call-highest
+use Rattle.tree.proofs.highest.Symbol as def-highest
+use Rattle.tree.proofs.highest.Symbol.{name as #highest}
+use Rattle.tree.proofs.highest.Met as thm-highest
 use Rattle.tree.proofs.Walkgen.Say.record_at as record-at″
 use Rattle.tree.proofs.Walkgen.Call.record_at as Call-record-at
 use Rattle.tree.proofs.record_at.Symbol as def-record-at
 use Rattle.tree.proofs.record_at.Symbol.{name as #record-at}
 use Rattle.tree.proofs.record_at.Met as thm-record-at
-use Rattle.tree.proofs.Walkgen.Say.record_meets as record-meets″
-use Rattle.tree.proofs.Walkgen.Call.record_meets as Call-record-meets
-use Rattle.tree.proofs.record_meets.Symbol as def-record-meets
-use Rattle.tree.proofs.record_meets.Symbol.{name as #record-meets}
-use Rattle.tree.proofs.record_meets.Met as thm-record-meets
+use Rattle.tree.proofs.Walkgen.Say.record_within as record-within″
+use Rattle.tree.proofs.Walkgen.Call.record_within as Call-record-within
+use Rattle.tree.proofs.record_within.Symbol as def-record-within
+use Rattle.tree.proofs.record_within.Symbol.{name as #record-within}
+use Rattle.tree.proofs.record_within.Met as thm-record-within
 use Rattle.tree.proofs.newest_update.Key.{name as #self}
 use Rattle.tree.proofs.newest_update as newest-update‴
 use Rattle.tree.proofs.newest_update.Statement as stated
@@ -72,7 +77,7 @@ use mathlib.Core.WellFounded.{WellFounded, InvImage·wf}
 use lib.WfN.{Nat·lt-wfRel}
 use Rattle.tree.proofs.newest_update.Code.Mir as parts
 use Rattle.tree.proofs.newest_update.Proof.Loop as Loop
-use Rattle.tree.proofs.newest_update.Proof.Asks.{r1, r2}
+use Rattle.tree.proofs.newest_update.Proof.Asks.{r1, r2, r3}
 
 abbrev stayed : Stays (newest-update‴.ended .signature .params) (newest-update‴.ended .kept)
 stayed = (stay-none-slice (0 ∷ []) tt (plain (λ _. Record′.row)) yes, (stay-none (λ _. Version′.row) yes, (stay-none (λ _. PageIndex′.row) yes, (stay-none (λ _. u64) yes, tt))))
@@ -95,9 +100,9 @@ module _ {M : Type 1} (𝓤 : URA M) (H : Heap 𝓤) (A : Atoms 𝓤) (W : Given
       qed W (‵ (flft κ·register q·register) ∷ ‵ (ShrAt Record′.row κ·register b·register o·register γ·register (length register) register) ∷ []) ∵ suffices ! _ (ends-at 𝓤 H A newest-update‴.ended stayed (newest-update‴.clauses 𝓤 H A mem run) W bound (Version′.mach r) r (tt, (tt, (tt, (tt, tt)))) (tt, (tt, (tt, (tt, tt))))) $ says ! said $
       nothing ! $ move ! (1 ∷ 0 ∷ []) $ join ! $ frame ! $ nothing ! $ owned ! u64 (Is u64) (uint-makes 𝓤 H A W w64) span _ ok·span $ fjoin ! $ owned ! PageIndex′.row (Is PageIndex′.row) (PageIndex′.makes 𝓤 H A) x-first _ ok·x-first $ fjoin ! $ owned ! Version′.row (Is Version′.row) (Version′.makes 𝓤 H A) below _ ok·below $ fjoin ! $ move ! (1 ∷ 0 ∷ []) $ fjoin ! $ frame ! $ owned ! Version′.row (Is Version′.row) (Version′.makes 𝓤 H A) r _ ok·r $ done !
 
-  module _ (𝓣 : Tables 𝓤 H) (known-record-at : Triple 𝓤 (𝓣 .C #record-at) (Call-record-at.Asked 𝓤 H A mem run)) (known-record-meets : Triple 𝓤 (𝓣 .C #record-meets) (Call-record-meets.Asked 𝓤 H A mem run)) (l₀ l₁ l₂ l₃ l₄ l₅ l₆ l₇ l₈ l₉ l₁₀ : ℕ) where
+  module _ (𝓣 : Tables 𝓤 H) (known-highest : Triple 𝓤 (𝓣 .C #highest) (Call-highest.Asked 𝓤 H A mem run)) (known-record-at : Triple 𝓤 (𝓣 .C #record-at) (Call-record-at.Asked 𝓤 H A mem run)) (known-record-within : Triple 𝓤 (𝓣 .C #record-within) (Call-record-within.Asked 𝓤 H A mem run)) (ok·1 : Is u64 (r1 register below x-first span) (uint-vals w64 (r1 register below x-first span))) (l₀ l₁ l₂ l₃ l₄ l₅ l₆ l₇ l₈ l₉ l₁₀ l₁₁ l₁₂ : ℕ) where
     abbrev E : Env 𝓤 H
-    E = (tyAt (code.function .locals) 0, l₀) ∷ (sliceTy (tyRef (named 0) imm (pointee (Record′.row .written))), l₁) ∷ (tyAt (code.function .locals) 2, l₂) ∷ (tyAt (code.function .locals) 3, l₃) ∷ (tyInt w64, l₄) ∷ (tyInt w64, l₅) ∷ (tyInt w64, l₆) ∷ (tyBool, l₇) ∷ (tyBool, l₈) ∷ (tyAt (code.function .locals) 9, l₉) ∷ (tyInt w64, l₁₀) ∷ []
+    E = (tyAt (code.function .locals) 0, l₀) ∷ (sliceTy (tyRef (named 0) imm (pointee (Record′.row .written))), l₁) ∷ (tyAt (code.function .locals) 2, l₂) ∷ (tyAt (code.function .locals) 3, l₃) ∷ (tyInt w64, l₄) ∷ (tyInt w64, l₅) ∷ (tyInt w64, l₆) ∷ (tyInt w64, l₇) ∷ (tyInt w64, l₈) ∷ (tyBool, l₉) ∷ (tyBool, l₁₀) ∷ (tyAt (code.function .locals) 11, l₁₁) ∷ (tyInt w64, l₁₂) ∷ []
 
     abbrev Var : Type 0
     Var = ℕ × (Unit {0})
@@ -109,57 +114,63 @@ module _ {M : Type 1} (𝓤 : URA M) (H : Heap 𝓤) (A : Atoms 𝓤) (W : Given
     falls = InvImage·wf (λ (t : Var). Loop.measure-1 register below x-first span (t .0)) (Nat·lt-wfRel .wf)
 
     abbrev I : Var → List (Item 𝓤)
-    I t = raw (fact 𝓤 ((Is u64 (t .0) (uint-vals w64 (t .0))) × (Loop.inv-1 register below x-first span (t .0)))) ∷ ‵ (flft κ·register q·register) ∷ ‵ (ShrAt Record′.row κ·register b·register o·register γ·register (length register) register) ∷ empty (tyInt w64) l₁₀ (empty (tyAt (code.function .locals) 9) l₉ (empty tyBool l₈ (empty tyBool l₇ (empty (tyInt w64) l₆ (holds (tyInt w64) l₅ (vint w64 (t .0)) (holds (tyInt w64) l₄ (vint w64 span) (holds (tyAt (code.function .locals) 3) l₃ (PageIndex′.mach x-first) (empty (tyAt (code.function .locals) 2) l₂ (holds (sliceTy (tyRef (named 0) imm (pointee (Record′.row .written)))) l₁ (sliceVal (b·register, o·register) (length register)) (empty (tyAt (code.function .locals) 0) l₀ []))))))))))
+    I t = raw (fact 𝓤 ((Is u64 (t .0) (uint-vals w64 (t .0))) × (Loop.inv-1 register below x-first span (t .0)))) ∷ ‵ (flft κ·register q·register) ∷ ‵ (ShrAt Record′.row κ·register b·register o·register γ·register (length register) register) ∷ empty (tyInt w64) l₁₂ (empty (tyAt (code.function .locals) 11) l₁₁ (empty tyBool l₁₀ (empty tyBool l₉ (empty (tyInt w64) l₈ (holds (tyInt w64) l₇ (vint w64 (t .0)) (holds (tyInt w64) l₆ (vint w64 (r1 register below x-first span)) (holds (tyInt w64) l₅ (vint w64 (x-first .0)) (holds (tyInt w64) l₄ (vint w64 span) (empty (tyAt (code.function .locals) 3) l₃ (empty (tyAt (code.function .locals) 2) l₂ (holds (sliceTy (tyRef (named 0) imm (pointee (Record′.row .written)))) l₁ (sliceVal (b·register, o·register) (length register)) (empty (tyAt (code.function .locals) 0) l₀ []))))))))))))
 
     abbrev Left : Out → SProp 𝓤
-    Left = afterBlock 𝓤 H (afterSeq 𝓤 H (Wp 𝓤 H (𝓣 .C) (𝓣 .Λ) E parts.t-3 (atReturn 𝓤 H E Post)) (atReturn 𝓤 H E Post))
+    Left = afterBlock 𝓤 H (afterSeq 𝓤 H (Wp 𝓤 H (𝓣 .C) (𝓣 .Λ) E parts.t-5 (atReturn 𝓤 H E Post)) (atReturn 𝓤 H E Post))
 
-    turn : (v5 : ℕ) → Sq W (I (v5, tt)) (runs (𝓣 .C) (𝓣 .Λ) E parts.turn-1 (anyQ (afterTurn 𝓤 H (Below 𝓤 H A lesser I (v5, tt)) Left)))
+    turn : (v7 : ℕ) → Sq W (I (v7, tt)) (runs (𝓣 .C) (𝓣 .Λ) E parts.turn-1 (anyQ (afterTurn 𝓤 H (Below 𝓤 H A lesser I (v7, tt)) Left)))
     unfolding afterTurn
-    turn v5 = heard ! ((Is u64 v5 (uint-vals w64 v5)) × (Loop.inv-1 register below x-first span v5)) (λ f·1.
+    turn v7 = heard ! ((Is u64 v7 (uint-vals w64 v7)) × (Loop.inv-1 register below x-first span v7)) (λ f·1.
         assigns ! (bin ! (lit ! tt) (load ! (from ! (stop !)) (look ! 12 refl)) tt) (from ! (stop !)) (init ! 8 refl (tt, tt)) $
         branches-on ! (load ! (from ! (stop !)) (look ! 8 refl))
-        (λ h·1. skips-on ! $ assigns ! (bin ! (load ! (from ! (stop !)) (look ! 12 refl)) (lit ! tt) (Facts.sub-1 register below x-first span (room·register .0) ok·below ok·x-first (ok·span .1) need v5 ((f·1 .0) .1) (f·1 .1) (is-true (ltb 0 v5) h·1) (ltb→lt 0 v5 h·1))) (from ! (stop !)) (init ! 10 refl (tt, record { fits = less-fits v5 1 (2 ^ 64) ((f·1 .0) .1) })) $
-        assigns ! (of-opd ! (load ! (from ! (stop !)) (look ! 10 refl))) (from ! (stop !)) (init ! 2 refl (tt, record { fits = less-fits v5 1 (2 ^ 64) ((f·1 .0) .1) })) $
-        Call-record-at.calls ! mem run (fmOf 𝓤 H (W .laws) 𝓣) known-record-at κ·register q·register b·register o·register γ·register (length register) register (v5 - 1) (refl, less-fits v5 1 (2 ^ 64) ((f·1 .0) .1)) (and-then ! (load ! (from ! (stop !)) (look ! 20 refl)) (and-then ! (load ! (from ! (stop !)) (look ! 2 refl)) (no-more !)))
-        (λ ok·1. land ! (from ! (stop !)) (init ! 4 refl (Record′.typed 𝓤 H A W (r1 register below x-first span v5) ok·1)) $
-        Call-record-meets.calls ! mem run (fmOf 𝓤 H (W .laws) 𝓣) known-record-meets (r1 register below x-first span v5) x-first span ok·1 ok·x-first ok·span (Facts.record-meets-1 register below x-first span (room·register .0) ok·below ok·x-first (ok·span .1) need v5 ((f·1 .0) .1) (f·1 .1) (is-true (ltb 0 v5) h·1) (ltb→lt 0 v5 h·1) ok·1) (and-then ! (load ! (from ! (stop !)) (look ! 5 refl)) (and-then ! (load ! (from ! (stop !)) (look ! 17 refl)) (and-then ! (load ! (from ! (stop !)) (look ! 15 refl)) (no-more !))))
-        (λ ok·2. land ! (from ! (stop !)) (init ! 6 refl (tt, tt)) $
+        (λ h·1. skips-on ! $ assigns ! (bin ! (load ! (from ! (stop !)) (look ! 12 refl)) (lit ! tt) (Facts.sub-1 register below x-first span (room·register .0) ok·below ok·x-first (ok·span .1) need (ok·1 .1) v7 ((f·1 .0) .1) (f·1 .1) (is-true (ltb 0 v7) h·1) (ltb→lt 0 v7 h·1))) (from ! (stop !)) (init ! 10 refl (tt, record { fits = less-fits v7 1 (2 ^ 64) ((f·1 .0) .1) })) $
+        assigns ! (of-opd ! (load ! (from ! (stop !)) (look ! 10 refl))) (from ! (stop !)) (init ! 2 refl (tt, record { fits = less-fits v7 1 (2 ^ 64) ((f·1 .0) .1) })) $
+        Call-record-at.calls ! mem run (fmOf 𝓤 H (W .laws) 𝓣) known-record-at κ·register q·register b·register o·register γ·register (length register) register (v7 - 1) (refl, less-fits v7 1 (2 ^ 64) ((f·1 .0) .1)) (and-then ! (load ! (from ! (stop !)) (look ! 24 refl)) (and-then ! (load ! (from ! (stop !)) (look ! 2 refl)) (no-more !)))
+        (λ ok·2. land ! (from ! (stop !)) (init ! 4 refl (Record′.typed 𝓤 H A W (r2 register below x-first span v7) ok·2)) $
+        here ! (‵ (flft κ·register q·register) ∷ ‵ (ShrAt Record′.row κ·register b·register o·register γ·register (length register) register) ∷ holds (tyInt w64) l₁₂ (vint w64 (v7 - 1)) (holds (tyAt (code.function .locals) 11) l₁₁ (Record′.mach (r2 register below x-first span v7)) (empty tyBool l₁₀ (holds tyBool l₉ (vbool (ltb 0 v7)) (holds (tyInt w64) l₈ (vint w64 (v7 - 1)) (holds (tyInt w64) l₇ (vint w64 v7) (holds (tyInt w64) l₆ (vint w64 (r1 register below x-first span)) (holds (tyInt w64) l₅ (vint w64 (x-first .0)) (holds (tyInt w64) l₄ (vint w64 span) (empty (tyAt (code.function .locals) 3) l₃ (empty (tyAt (code.function .locals) 2) l₂ (holds (sliceTy (tyRef (named 0) imm (pointee (Record′.row .written)))) l₁ (sliceVal (b·register, o·register) (length register)) (empty (tyAt (code.function .locals) 0) l₀ []))))))))))))) $
+        Call-record-within.calls ! mem run (fmOf 𝓤 H (W .laws) 𝓣) known-record-within (r2 register below x-first span v7) (x-first .0) (r1 register below x-first span) ok·2 (PageIndex′.ok-0 x-first ok·x-first) ok·1 (and-then ! (load ! (from ! (stop !)) (look ! 5 refl)) (and-then ! (load ! (from ! (stop !)) (look ! 17 refl)) (and-then ! (load ! (from ! (stop !)) (look ! 15 refl)) (no-more !))))
+        (λ ok·3. land ! (from ! (stop !)) (init ! 6 refl (tt, tt)) $
+        here ! (‵ (flft κ·register q·register) ∷ ‵ (ShrAt Record′.row κ·register b·register o·register γ·register (length register) register) ∷ holds (tyInt w64) l₁₂ (vint w64 (v7 - 1)) (holds (tyAt (code.function .locals) 11) l₁₁ (Record′.mach (r2 register below x-first span v7)) (holds tyBool l₁₀ (vbool (r3 register below x-first span v7)) (holds tyBool l₉ (vbool (ltb 0 v7)) (holds (tyInt w64) l₈ (vint w64 (v7 - 1)) (holds (tyInt w64) l₇ (vint w64 v7) (holds (tyInt w64) l₆ (vint w64 (r1 register below x-first span)) (holds (tyInt w64) l₅ (vint w64 (x-first .0)) (holds (tyInt w64) l₄ (vint w64 span) (empty (tyAt (code.function .locals) 3) l₃ (empty (tyAt (code.function .locals) 2) l₂ (holds (sliceTy (tyRef (named 0) imm (pointee (Record′.row .written)))) l₁ (sliceVal (b·register, o·register) (length register)) (empty (tyAt (code.function .locals) 0) l₀ []))))))))))))) $
         branches-on ! (load ! (from ! (stop !)) (look ! 6 refl))
         (λ h·2. regroup ! $
-        assigns ! (agg ! (and-then ! (load ! (from ! (stop !)) (look ! 12 refl)) (no-more !))) (from ! (stop !)) (init ! 22 refl (Version′.typed 𝓤 H A W (Version′.build v5) (Version′.make v5 (f·1 .0)))) $
-        first ! $ returns-within ! Post refl (look ! 22 refl) $
-        move ! (22 ∷ 23 ∷ []) $ forget ! 0 refl $ free1 ! $ move ! (20 ∷ 21 ∷ []) $ forget ! 0 refl $ free1 ! $ move ! (18 ∷ 19 ∷ []) $ free1 ! $ move ! (16 ∷ 17 ∷ []) $ forget ! 0 refl $ free1 ! $ move ! (14 ∷ 15 ∷ []) $ forget ! 0 refl $ free1 ! $ move ! (12 ∷ 13 ∷ []) $ forget ! 0 refl $ free1 ! $ move ! (10 ∷ 11 ∷ []) $ forget ! 0 refl $ free1 ! $ move ! (8 ∷ 9 ∷ []) $ forget ! 0 refl $ free1 ! $ move ! (6 ∷ 7 ∷ []) $ forget ! 0 refl $ free1 ! $ move ! (4 ∷ 5 ∷ []) $ forget ! 0 refl $ free1 ! $ move ! (2 ∷ 3 ∷ []) $ forget ! 0 refl $ free1 ! $ free0 ! $ by ! (exits (Version′.build v5) (Version′.make v5 (f·1 .0)) (Facts.exit-1 register below x-first span (room·register .0) ok·below ok·x-first (ok·span .1) need v5 ((f·1 .0) .1) (f·1 .1) (is-true (ltb 0 v5) h·1) (ltb→lt 0 v5 h·1) ok·1 (is-true (r2 register below x-first span v5) h·2))))
-        (λ h·2. skips-on ! $ assigns-last ! (of-opd ! (load ! (from ! (stop !)) (look ! 10 refl))) (from ! (stop !)) (store ! 12 refl (tt, record { fits = less-fits v5 1 (2 ^ 64) ((f·1 .0) .1) })) $
+        assigns ! (agg ! (and-then ! (load ! (from ! (stop !)) (look ! 12 refl)) (no-more !))) (from ! (stop !)) (init ! 26 refl (Version′.typed 𝓤 H A W (Version′.build v7) (Version′.make v7 (f·1 .0)))) $
+        first ! $ returns-within ! Post refl (look ! 26 refl) $
+        move ! (26 ∷ 27 ∷ []) $ forget ! 0 refl $ free1 ! $ move ! (24 ∷ 25 ∷ []) $ forget ! 0 refl $ free1 ! $ move ! (22 ∷ 23 ∷ []) $ free1 ! $ move ! (20 ∷ 21 ∷ []) $ free1 ! $ move ! (18 ∷ 19 ∷ []) $ forget ! 0 refl $ free1 ! $ move ! (16 ∷ 17 ∷ []) $ forget ! 0 refl $ free1 ! $ move ! (14 ∷ 15 ∷ []) $ forget ! 0 refl $ free1 ! $ move ! (12 ∷ 13 ∷ []) $ forget ! 0 refl $ free1 ! $ move ! (10 ∷ 11 ∷ []) $ forget ! 0 refl $ free1 ! $ move ! (8 ∷ 9 ∷ []) $ forget ! 0 refl $ free1 ! $ move ! (6 ∷ 7 ∷ []) $ forget ! 0 refl $ free1 ! $ move ! (4 ∷ 5 ∷ []) $ forget ! 0 refl $ free1 ! $ move ! (2 ∷ 3 ∷ []) $ forget ! 0 refl $ free1 ! $ free0 ! $ by ! (exits (Version′.build v7) (Version′.make v7 (f·1 .0)) (Facts.exit-1 register below x-first span (room·register .0) ok·below ok·x-first (ok·span .1) need (ok·1 .1) v7 ((f·1 .0) .1) (f·1 .1) (is-true (ltb 0 v7) h·1) (ltb→lt 0 v7 h·1) ok·2 (is-true (r3 register below x-first span v7) h·2))))
+        (λ h·2. skips-on ! $ assigns-last ! (of-opd ! (load ! (from ! (stop !)) (look ! 10 refl))) (from ! (stop !)) (store ! 12 refl (tt, record { fits = less-fits v7 1 (2 ^ 64) ((f·1 .0) .1) })) $
         forget ! 10 refl $ forget ! 8 refl $ forget ! 6 refl $ forget ! 4 refl $ forget ! 2 refl $
-        use0 W (raw (fact 𝓤 ((Is u64 (v5 - 1) (uint-vals w64 (v5 - 1))) × (Loop.inv-1 register below x-first span (v5 - 1))))) (factI 𝓤 _ (emp 𝓤) ((refl, less-fits v5 1 (2 ^ 64) ((f·1 .0) .1)), Facts.again-1 register below x-first span (room·register .0) ok·below ok·x-first (ok·span .1) need v5 ((f·1 .0) .1) (f·1 .1) (is-true (ltb 0 v5) h·1) (ltb→lt 0 v5 h·1) ok·1 (is-false (r2 register below x-first span v5) h·2))) $ again ! lesser I (v5, tt) (v5 - 1, tt) (Facts.less-1 register below x-first span (room·register .0) ok·below ok·x-first (ok·span .1) need v5 ((f·1 .0) .1) (f·1 .1) (is-true (ltb 0 v5) h·1) (ltb→lt 0 v5 h·1) ok·1 (is-false (r2 register below x-first span v5) h·2))))))
-        (λ h·1. first ! $ jumps ! $ exec ! (𝓣 .C) (𝓣 .Λ) E parts.t-3 (atRet E Post) $
-        assigns ! (agg ! (and-then ! (lit ! tt) (no-more !))) (from ! (stop !)) (init ! 22 refl (Version′.typed 𝓤 H A W (Version′.build 0) (Version′.make 0 (refl, lit< tt)))) $
-        returns ! (look ! 22 refl) $
-        move ! (22 ∷ 23 ∷ []) $ forget ! 0 refl $ free1 ! $ move ! (20 ∷ 21 ∷ []) $ forget ! 0 refl $ free1 ! $ move ! (18 ∷ 19 ∷ []) $ free1 ! $ move ! (16 ∷ 17 ∷ []) $ forget ! 0 refl $ free1 ! $ move ! (14 ∷ 15 ∷ []) $ forget ! 0 refl $ free1 ! $ move ! (12 ∷ 13 ∷ []) $ forget ! 0 refl $ free1 ! $ move ! (10 ∷ 11 ∷ []) $ free1 ! $ move ! (8 ∷ 9 ∷ []) $ forget ! 0 refl $ free1 ! $ move ! (6 ∷ 7 ∷ []) $ free1 ! $ move ! (4 ∷ 5 ∷ []) $ free1 ! $ move ! (2 ∷ 3 ∷ []) $ free1 ! $ free0 ! $ by ! (exits (Version′.build 0) (Version′.make 0 (refl, lit< tt)) (Facts.exit-2 register below x-first span (room·register .0) ok·below ok·x-first (ok·span .1) need v5 ((f·1 .0) .1) (f·1 .1) (is-false (ltb 0 v5) h·1) (nltb→le 0 v5 h·1)))))
+        use0 W (raw (fact 𝓤 ((Is u64 (v7 - 1) (uint-vals w64 (v7 - 1))) × (Loop.inv-1 register below x-first span (v7 - 1))))) (factI 𝓤 _ (emp 𝓤) ((refl, less-fits v7 1 (2 ^ 64) ((f·1 .0) .1)), Facts.again-1 register below x-first span (room·register .0) ok·below ok·x-first (ok·span .1) need (ok·1 .1) v7 ((f·1 .0) .1) (f·1 .1) (is-true (ltb 0 v7) h·1) (ltb→lt 0 v7 h·1) ok·2 (is-false (r3 register below x-first span v7) h·2))) $ again ! lesser I (v7, tt) (v7 - 1, tt) (Facts.less-1 register below x-first span (room·register .0) ok·below ok·x-first (ok·span .1) need (ok·1 .1) v7 ((f·1 .0) .1) (f·1 .1) (is-true (ltb 0 v7) h·1) (ltb→lt 0 v7 h·1) ok·2 (is-false (r3 register below x-first span v7) h·2))))))
+        (λ h·1. first ! $ jumps ! $ exec ! (𝓣 .C) (𝓣 .Λ) E parts.t-5 (atRet E Post) $
+        assigns ! (agg ! (and-then ! (lit ! tt) (no-more !))) (from ! (stop !)) (init ! 26 refl (Version′.typed 𝓤 H A W (Version′.build 0) (Version′.make 0 (refl, lit< tt)))) $
+        returns ! (look ! 26 refl) $
+        move ! (26 ∷ 27 ∷ []) $ forget ! 0 refl $ free1 ! $ move ! (24 ∷ 25 ∷ []) $ forget ! 0 refl $ free1 ! $ move ! (22 ∷ 23 ∷ []) $ free1 ! $ move ! (20 ∷ 21 ∷ []) $ free1 ! $ move ! (18 ∷ 19 ∷ []) $ forget ! 0 refl $ free1 ! $ move ! (16 ∷ 17 ∷ []) $ forget ! 0 refl $ free1 ! $ move ! (14 ∷ 15 ∷ []) $ forget ! 0 refl $ free1 ! $ move ! (12 ∷ 13 ∷ []) $ forget ! 0 refl $ free1 ! $ move ! (10 ∷ 11 ∷ []) $ free1 ! $ move ! (8 ∷ 9 ∷ []) $ forget ! 0 refl $ free1 ! $ move ! (6 ∷ 7 ∷ []) $ free1 ! $ move ! (4 ∷ 5 ∷ []) $ free1 ! $ move ! (2 ∷ 3 ∷ []) $ free1 ! $ free0 ! $ by ! (exits (Version′.build 0) (Version′.make 0 (refl, lit< tt)) (Facts.exit-2 register below x-first span (room·register .0) ok·below ok·x-first (ok·span .1) need (ok·1 .1) v7 ((f·1 .0) .1) (f·1 .1) (is-false (ltb 0 v7) h·1) (nltb→le 0 v7 h·1)))))
 
-  walk : (𝓣 : Tables 𝓤 H) (known-record-at : Triple 𝓤 (𝓣 .C #record-at) (Call-record-at.Asked 𝓤 H A mem run)) (known-record-meets : Triple 𝓤 (𝓣 .C #record-meets) (Call-record-meets.Asked 𝓤 H A mem run)) → ent 𝓤 (onEntry 𝓤 H A newest-update‴.signature (κ·register, tt) (q·register, tt) all-args all-vals)
+  walk : (𝓣 : Tables 𝓤 H) (known-highest : Triple 𝓤 (𝓣 .C #highest) (Call-highest.Asked 𝓤 H A mem run)) (known-record-at : Triple 𝓤 (𝓣 .C #record-at) (Call-record-at.Asked 𝓤 H A mem run)) (known-record-within : Triple 𝓤 (𝓣 .C #record-within) (Call-record-within.Asked 𝓤 H A mem run)) → ent 𝓤 (onEntry 𝓤 H A newest-update‴.signature (κ·register, tt) (q·register, tt) all-args all-vals)
       (WpFn 𝓤 H (𝓣 .C) (𝓣 .Λ) code.function (sliceVal (b·register, o·register) (length register) ∷ Version′.mach below ∷ PageIndex′.mach x-first ∷ vint w64 span ∷ []) Post)
-  walk 𝓣 known-record-at known-record-meets =
+  walk 𝓣 known-highest known-record-at known-record-within =
       qed W ((‵ (flft κ·register q·register) ⊛ ‵ ftrue) ∷ ‵ (owns (ShrSlice (named 0) κ·register Record′.row ∷ Version′.row ∷ PageIndex′.row ∷ u64 ∷ []) all-args all-vals) ∷ []) ∵ enter ! (𝓣 .C) (𝓣 .Λ) code.function (sliceVal (b·register, o·register) (length register) ∷ Version′.mach below ∷ PageIndex′.mach x-first ∷ vint w64 span ∷ []) _ $
-      alloc1 ! (λ l₀. alloc1 ! (λ l₁. alloc1 ! (λ l₂. alloc1 ! (λ l₃. alloc1 ! (λ l₄. alloc1 ! (λ l₅. alloc1 ! (λ l₆. alloc1 ! (λ l₇. alloc1 ! (λ l₈. alloc1 ! (λ l₉. alloc1 ! (λ l₁₀. alloc0 ! $ params1 ! $
-      pass1 ! (init ! 18 refl (tt, (tt, (record { fits = room·register .0 }, tt)))) $ pass1 ! (init ! 16 refl (Version′.typed 𝓤 H A W below ok·below)) $ pass1 ! (init ! 14 refl (PageIndex′.typed 𝓤 H A W x-first ok·x-first)) $ pass1 ! (init ! 12 refl (tt, record { fits = ok·span .1 })) $ pass0 ! $
-      move ! (23 ∷ []) $ fsplit ! $ move ! (1 ∷ []) $ fsplit ! $ drop ! $ fsplit ! $ drop ! $ fsplit ! $ drop ! $ drop ! $ move ! (23 ∷ []) $ split ! $ move ! (1 ∷ []) $ drop ! $
-      assigns ! (of-opd ! (load ! (from ! (fld ! refl (stop !))) (look-in ! 18 (sub ! 0 refl (whole !))))) (from ! (stop !)) (init ! 12 refl (tt, record { fits = (Version′.ok-0 below ok·below) .1 })) $
-      forget ! 18 refl $ here ! (‵ (flft κ·register q·register) ∷ ‵ (ShrAt Record′.row κ·register b·register o·register γ·register (length register) register) ∷ empty (tyInt w64) l₁₀ (empty (tyAt (code.function .locals) 9) l₉ (empty tyBool l₈ (empty tyBool l₇ (empty (tyInt w64) l₆ (holds (tyInt w64) l₅ (vint w64 (below .0)) (holds (tyInt w64) l₄ (vint w64 span) (holds (tyAt (code.function .locals) 3) l₃ (PageIndex′.mach x-first) (empty (tyAt (code.function .locals) 2) l₂ (holds (sliceTy (tyRef (named 0) imm (pointee (Record′.row .written)))) l₁ (sliceVal (b·register, o·register) (length register)) (empty (tyAt (code.function .locals) 0) l₀ []))))))))))) $
-      first ! $ blocks ! $ use0 W (raw (fact 𝓤 ((Is u64 (below .0) (uint-vals w64 (below .0))) × (Loop.inv-1 register below x-first span (below .0))))) (factI 𝓤 _ (emp 𝓤) ((Version′.ok-0 below ok·below), Facts.start-1 register below x-first span (room·register .0) ok·below ok·x-first (ok·span .1) need)) $
-      loops ! 𝓣 (lesser 𝓣 known-record-at known-record-meets l₀ l₁ l₂ l₃ l₄ l₅ l₆ l₇ l₈ l₉ l₁₀) (falls 𝓣 known-record-at known-record-meets l₀ l₁ l₂ l₃ l₄ l₅ l₆ l₇ l₈ l₉ l₁₀) (I 𝓣 known-record-at known-record-meets l₀ l₁ l₂ l₃ l₄ l₅ l₆ l₇ l₈ l₉ l₁₀) (λ t. turn 𝓣 known-record-at known-record-meets l₀ l₁ l₂ l₃ l₄ l₅ l₆ l₇ l₈ l₉ l₁₀ (t .0)) (below .0, tt))))))))))))
+      alloc1 ! (λ l₀. alloc1 ! (λ l₁. alloc1 ! (λ l₂. alloc1 ! (λ l₃. alloc1 ! (λ l₄. alloc1 ! (λ l₅. alloc1 ! (λ l₆. alloc1 ! (λ l₇. alloc1 ! (λ l₈. alloc1 ! (λ l₉. alloc1 ! (λ l₁₀. alloc1 ! (λ l₁₁. alloc1 ! (λ l₁₂. alloc0 ! $ params1 ! $
+      pass1 ! (init ! 22 refl (tt, (tt, (record { fits = room·register .0 }, tt)))) $ pass1 ! (init ! 20 refl (Version′.typed 𝓤 H A W below ok·below)) $ pass1 ! (init ! 18 refl (PageIndex′.typed 𝓤 H A W x-first ok·x-first)) $ pass1 ! (init ! 16 refl (tt, record { fits = ok·span .1 })) $ pass0 ! $
+      move ! (27 ∷ []) $ fsplit ! $ move ! (1 ∷ []) $ fsplit ! $ drop ! $ fsplit ! $ drop ! $ fsplit ! $ drop ! $ drop ! $ move ! (27 ∷ []) $ split ! $ move ! (1 ∷ []) $ drop ! $
+      assigns ! (of-opd ! (load ! (from ! (fld ! refl (stop !))) (look-in ! 20 (sub ! 0 refl (whole !))))) (from ! (stop !)) (init ! 16 refl (tt, record { fits = (PageIndex′.ok-0 x-first ok·x-first) .1 })) $
+      Call-highest.calls ! mem run (fmOf 𝓤 H (W .laws) 𝓣) known-highest (x-first .0) span (PageIndex′.ok-0 x-first ok·x-first) ok·span (Facts.highest-1 register below x-first span (room·register .0) ok·below ok·x-first (ok·span .1) need) (and-then ! (load ! (from ! (stop !)) (look ! 17 refl)) (and-then ! (load ! (from ! (stop !)) (look ! 19 refl)) (no-more !)))
+      (λ ok·1. land ! (from ! (stop !)) (init ! 14 refl (tt, record { fits = ok·1 .1 })) $
+      here ! (‵ (flft κ·register q·register) ∷ ‵ (ShrAt Record′.row κ·register b·register o·register γ·register (length register) register) ∷ empty (tyInt w64) l₁₂ (empty (tyAt (code.function .locals) 11) l₁₁ (empty tyBool l₁₀ (empty tyBool l₉ (empty (tyInt w64) l₈ (empty (tyInt w64) l₇ (holds (tyInt w64) l₆ (vint w64 (r1 register below x-first span)) (holds (tyInt w64) l₅ (vint w64 (x-first .0)) (holds (tyInt w64) l₄ (vint w64 span) (holds (tyAt (code.function .locals) 3) l₃ (PageIndex′.mach x-first) (holds (tyAt (code.function .locals) 2) l₂ (Version′.mach below) (holds (sliceTy (tyRef (named 0) imm (pointee (Record′.row .written)))) l₁ (sliceVal (b·register, o·register) (length register)) (empty (tyAt (code.function .locals) 0) l₀ []))))))))))))) $
+      assigns ! (of-opd ! (load ! (from ! (fld ! refl (stop !))) (look-in ! 22 (sub ! 0 refl (whole !))))) (from ! (stop !)) (init ! 12 refl (tt, record { fits = (Version′.ok-0 below ok·below) .1 })) $
+      forget ! 22 refl $ forget ! 20 refl $ here ! (‵ (flft κ·register q·register) ∷ ‵ (ShrAt Record′.row κ·register b·register o·register γ·register (length register) register) ∷ empty (tyInt w64) l₁₂ (empty (tyAt (code.function .locals) 11) l₁₁ (empty tyBool l₁₀ (empty tyBool l₉ (empty (tyInt w64) l₈ (holds (tyInt w64) l₇ (vint w64 (below .0)) (holds (tyInt w64) l₆ (vint w64 (r1 register below x-first span)) (holds (tyInt w64) l₅ (vint w64 (x-first .0)) (holds (tyInt w64) l₄ (vint w64 span) (empty (tyAt (code.function .locals) 3) l₃ (empty (tyAt (code.function .locals) 2) l₂ (holds (sliceTy (tyRef (named 0) imm (pointee (Record′.row .written)))) l₁ (sliceVal (b·register, o·register) (length register)) (empty (tyAt (code.function .locals) 0) l₀ []))))))))))))) $
+      first ! $ blocks ! $ use0 W (raw (fact 𝓤 ((Is u64 (below .0) (uint-vals w64 (below .0))) × (Loop.inv-1 register below x-first span (below .0))))) (factI 𝓤 _ (emp 𝓤) ((Version′.ok-0 below ok·below), Facts.start-1 register below x-first span (room·register .0) ok·below ok·x-first (ok·span .1) need (ok·1 .1))) $
+      loops ! 𝓣 (lesser 𝓣 known-highest known-record-at known-record-within ok·1 l₀ l₁ l₂ l₃ l₄ l₅ l₆ l₇ l₈ l₉ l₁₀ l₁₁ l₁₂) (falls 𝓣 known-highest known-record-at known-record-within ok·1 l₀ l₁ l₂ l₃ l₄ l₅ l₆ l₇ l₈ l₉ l₁₀ l₁₁ l₁₂) (I 𝓣 known-highest known-record-at known-record-within ok·1 l₀ l₁ l₂ l₃ l₄ l₅ l₆ l₇ l₈ l₉ l₁₀ l₁₁ l₁₂) (λ t. turn 𝓣 known-highest known-record-at known-record-within ok·1 l₀ l₁ l₂ l₃ l₄ l₅ l₆ l₇ l₈ l₉ l₁₀ l₁₁ l₁₂ (t .0)) (below .0, tt)))))))))))))))
 
 module _ {M : Type 1} (𝓤 : URA M) (H : Heap 𝓤) (A : Atoms 𝓤) (W : Given 𝓤 H A) (mem : Memory → SProp 𝓤) (run : Routine → Fun 𝓤) where
-  walks : (𝓣 : Tables 𝓤 H) → Triple 𝓤 (𝓣 .C #record-at) (Call-record-at.Asked 𝓤 H A mem run) → Triple 𝓤 (𝓣 .C #record-meets) (Call-record-meets.Asked 𝓤 H A mem run) → Walks 𝓤 H A newest-update‴.ended stayed (WpFn 𝓤 H (𝓣 .C) (𝓣 .Λ) code.function) (newest-update‴.clauses 𝓤 H A mem run)
-  walks 𝓣 known-record-at known-record-meets = walked 𝓤 H A newest-update‴.ended stayed (newest-update‴.clauses 𝓤 H A mem run) (WpFn 𝓤 H (𝓣 .C) (𝓣 .Λ) code.function) (λ κs. (slice-vals, (Version′.vals, (PageIndex′.vals, (uint-vals w64, tt))))) (λ κs. (shr-slice-tells (named 0) (κs .0) Record′.row, (Version′.tells, (PageIndex′.tells, (uint-tells w64, tt)))))
-      (λ κs qs bounds a g are. needs 𝓤 (newest-update″.req (a .0 .now) (a .1 .0) (a .1 .1 .0) (a .1 .1 .1 .0)) _ (λ need. walk 𝓤 H A W mem run (κs .0) (qs .0) (a .0 .ptr .0) (a .0 .ptr .1) (a .0 .name) (a .0 .now) (a .1 .0) (a .1 .1 .0) (a .1 .1 .1 .0) (are .0 .0 .1) (are .1 .0) (are .1 .1 .0) (are .1 .1 .1 .0) need 𝓣 known-record-at known-record-meets))
+  walks : (𝓣 : Tables 𝓤 H) → Triple 𝓤 (𝓣 .C #highest) (Call-highest.Asked 𝓤 H A mem run) → Triple 𝓤 (𝓣 .C #record-at) (Call-record-at.Asked 𝓤 H A mem run) → Triple 𝓤 (𝓣 .C #record-within) (Call-record-within.Asked 𝓤 H A mem run) → Walks 𝓤 H A newest-update‴.ended stayed (WpFn 𝓤 H (𝓣 .C) (𝓣 .Λ) code.function) (newest-update‴.clauses 𝓤 H A mem run)
+  walks 𝓣 known-highest known-record-at known-record-within = walked 𝓤 H A newest-update‴.ended stayed (newest-update‴.clauses 𝓤 H A mem run) (WpFn 𝓤 H (𝓣 .C) (𝓣 .Λ) code.function) (λ κs. (slice-vals, (Version′.vals, (PageIndex′.vals, (uint-vals w64, tt))))) (λ κs. (shr-slice-tells (named 0) (κs .0) Record′.row, (Version′.tells, (PageIndex′.tells, (uint-tells w64, tt)))))
+      (λ κs qs bounds a g are. needs 𝓤 (newest-update″.req (a .0 .now) (a .1 .0) (a .1 .1 .0) (a .1 .1 .1 .0)) _ (λ need. walk 𝓤 H A W mem run (κs .0) (qs .0) (a .0 .ptr .0) (a .0 .ptr .1) (a .0 .name) (a .0 .now) (a .1 .0) (a .1 .1 .0) (a .1 .1 .1 .0) (are .0 .0 .1) (are .1 .0) (are .1 .1 .0) (are .1 .1 .1 .0) need 𝓣 known-highest known-record-at known-record-within))
 
-meets : {M : Type 1} (𝓤 : URA M) (H : Heap 𝓤) (A : Atoms 𝓤) → Given 𝓤 H A → (mem : Memory → SProp 𝓤) (run : Routine → Fun 𝓤) (𝓣 : Tables 𝓤 H) → Triple 𝓤 (𝓣 .C #record-at) (Call-record-at.Asked 𝓤 H A mem run) → Triple 𝓤 (𝓣 .C #record-meets) (Call-record-meets.Asked 𝓤 H A mem run)
+meets : {M : Type 1} (𝓤 : URA M) (H : Heap 𝓤) (A : Atoms 𝓤) → Given 𝓤 H A → (mem : Memory → SProp 𝓤) (run : Routine → Fun 𝓤) (𝓣 : Tables 𝓤 H) → Triple 𝓤 (𝓣 .C #highest) (Call-highest.Asked 𝓤 H A mem run) → Triple 𝓤 (𝓣 .C #record-at) (Call-record-at.Asked 𝓤 H A mem run) → Triple 𝓤 (𝓣 .C #record-within) (Call-record-within.Asked 𝓤 H A mem run)
     → Meets 𝓤 H A newest-update‴.signature (WpFn 𝓤 H (𝓣 .C) (𝓣 .Λ) code.function) (newest-update‴.spec 𝓤 H A mem run)
-meets 𝓤 H A W mem run 𝓣 known-record-at known-record-meets =
+meets 𝓤 H A W mem run 𝓣 known-highest known-record-at known-record-within =
     walk-meets 𝓤 H A newest-update‴.ended stayed W (goes-none-slice 𝓤 H A W 1 (0 ∷ []) tt (plain (λ _. Record′.row)) yes, (goes-none 𝓤 H A W 1 (λ _. Version′.row) yes (λ κs x f. refl), (goes-none 𝓤 H A W 1 (λ _. PageIndex′.row) yes (λ κs x f. refl), (goes-none 𝓤 H A W 1 (λ _. u64) yes (λ κs x f. refl), tt)))) (newest-update‴.clauses 𝓤 H A mem run)
-    (WpFn 𝓤 H (𝓣 .C) (𝓣 .Λ) code.function) (WpFn-mono 𝓤 H (W .laws) 𝓣 code.function) (walks 𝓤 H A W mem run 𝓣 known-record-at known-record-meets)
+    (WpFn 𝓤 H (𝓣 .C) (𝓣 .Λ) code.function) (WpFn-mono 𝓤 H (W .laws) 𝓣 code.function) (walks 𝓤 H A W mem run 𝓣 known-highest known-record-at known-record-within)
 
 pub newest-update-spec : {M : Type 1} → stated.statement M
 unfolding code.routine tablesOf
@@ -167,5 +178,6 @@ newest-update-spec 𝓤 H 𝓜 𝓖 𝓡 =
     entered 𝓤 H (tripleOf 𝓤 H (𝓖 .A) newest-update‴.signature (newest-update‴.spec 𝓤 H (𝓖 .A) (𝓜 .mem) (𝓡 .run)))
     (tables 𝓤 H 𝓜 𝓡 code.env .C) (tables 𝓤 H 𝓜 𝓡 code.env .Λ) #self code.function (code.unfolded 𝓤 H 𝓜 𝓡)
     (meets 𝓤 H (𝓖 .A) (givenOf 𝓤 H 𝓜 𝓖) (𝓜 .mem) (𝓡 .run) (tablesOf 𝓤 H 𝓜 (tables 𝓤 H 𝓜 𝓡 code.env))
+    (cited 𝓤 H (Call-highest.Asked 𝓤 H (𝓖 .A) (𝓜 .mem) (𝓡 .run)) 𝓜 𝓡 code.env #highest def-highest.routine code.calls-tree·highest (thm-highest.met 𝓤 H 𝓜 𝓖 𝓡))
     (cited 𝓤 H (Call-record-at.Asked 𝓤 H (𝓖 .A) (𝓜 .mem) (𝓡 .run)) 𝓜 𝓡 code.env #record-at def-record-at.routine code.calls-tree·record-at (thm-record-at.met 𝓤 H 𝓜 𝓖 𝓡))
-    (cited 𝓤 H (Call-record-meets.Asked 𝓤 H (𝓖 .A) (𝓜 .mem) (𝓡 .run)) 𝓜 𝓡 code.env #record-meets def-record-meets.routine code.calls-tree·record-meets (thm-record-meets.met 𝓤 H 𝓜 𝓖 𝓡)))
+    (cited 𝓤 H (Call-record-within.Asked 𝓤 H (𝓖 .A) (𝓜 .mem) (𝓡 .run)) 𝓜 𝓡 code.env #record-within def-record-within.routine code.calls-tree·record-within (thm-record-within.met 𝓤 H 𝓜 𝓖 𝓡)))

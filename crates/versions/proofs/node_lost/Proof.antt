@@ -14,12 +14,9 @@ returns : tie.Need-returns
 unfolding holds
 returns c = rw (sym (c .before .sum-reaches .ensures) ∙ c .if1 .taken)
 
-next-node-requires : tie.Need-next-node-requires
-next-node-requires c κs = search needs
-
 returns-2 : tie.Need-returns-2
 unfolding holds
-returns-2 c = rw (sym (c .before .before .before .before .sum-reaches .ensures) ∙ c .before .before .before .if1 .left, inner-not-past _ _ _ (c .before .before .next-node .ensures) _ (omega arith))
+returns-2 c = rw (sym (c .before .before .before .sum-reaches .ensures) ∙ c .before .before .if1 .left, inner-not-past _ _ _ (c .before .before .before .before .pre) _ (omega arith))
 
 pages-from-requires : tie.Need-pages-from-requires
 pages-from-requires c κs = search needs
@@ -29,7 +26,7 @@ sum-reaches-requires-2 c κs = search needs
 
 returns-3 : tie.Need-returns-3
 unfolding holds
-returns-3 c = rw (sym (c .before .before .before .before .before .before .sum-reaches .ensures) ∙ c .before .before .before .before .before .if1 .left, leaf-past _ _ _ (c .before .before .before .before .next-node .ensures) _ (omega arith), ← c .before .pages-from .ensures, ← c .sum-reaches2 .ensures)
+returns-3 c = rw (sym (c .before .before .before .before .before .sum-reaches .ensures) ∙ c .before .before .before .before .if1 .left, leaf-past _ _ _ (c .before .before .before .before .before .before .pre) _ (omega arith), ← c .before .pages-from .ensures, ← c .sum-reaches2 .ensures)
 
 pub node-lost-spec : {M : Type 1} → statement M
 node-lost-spec =
@@ -37,7 +34,6 @@ node-lost-spec =
     (tie.spec
     sum-reaches-requires
     returns
-    next-node-requires
     returns-2
     pages-from-requires
     sum-reaches-requires-2

@@ -6,12 +6,13 @@ use mathlib.Core.List.{List}
 use mathlib.Core.Bool.{Bool}
 use mathlib.Core.Path.{_≡_}
 use lib.Count.{ones}
+use lib.Dec.{leb}
 use lib.ListN.{length, getD}
 use Rattle.tree.specs.Tree.{rootHeight, meets, nth}
-use Rattle.tree.specs.Place.{below}
+use Rattle.tree.specs.Place.{below, first}
 use Rattle.tree.specs.NodeArea.{nodeAt, withNode}
 use Rattle.tree.specs.Register.{noRecord, limited, updateOf, extentOf, withRecord, newestIn}
-use Rattle.tree.specs.Contract.{rootSpan, nodesFor, Pages, Counted, Indexed, Part, Spans, Kth}
+use Rattle.tree.specs.Contract.{rootSpan, nodesFor, Pages, Counted, Indexed, Part, Spans, Kth, WovenAt, highest}
 use Rattle.tree.specs.declared.Extent.{Extent}
 use Rattle.tree.specs.declared.Named.{Named}
 use Rattle.tree.specs.declared.NodeAt.{NodeAt}

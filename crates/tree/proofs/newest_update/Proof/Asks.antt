@@ -17,54 +17,58 @@ use Rattle.tree.proofs.Walkgen.Kind.Ticket as Ticket′
 use Rattle.tree.specs.declared.PageIndex.{PageIndex}
 use Rattle.tree.proofs.Walkgen.Kind.PageIndex as PageIndex′
 use Rattle.tree.proofs.Walkgen.Say.newest_update as newest-update″
+use Rattle.tree.proofs.Walkgen.Say.highest as highest″
 use Rattle.tree.proofs.Walkgen.Say.record_at as record-at″
-use Rattle.tree.proofs.Walkgen.Say.record_meets as record-meets″
+use Rattle.tree.proofs.Walkgen.Say.record_within as record-within″
 use Rattle.tree.proofs.newest_update.Proof.Loop as Loop
 
-abbrev pub r1 : List Record → Version → PageIndex → ℕ → ℕ → Record
-r1 register below x-first span v5 = record-at″.res register (v5 - 1)
+abbrev pub r1 : List Record → Version → PageIndex → ℕ → ℕ
+r1 register below x-first span = highest″.res (x-first .0) span
 
-abbrev pub r2 : List Record → Version → PageIndex → ℕ → ℕ → Bool
-r2 register below x-first span v5 = record-meets″.res (r1 register below x-first span v5) x-first span
+abbrev pub r2 : List Record → Version → PageIndex → ℕ → ℕ → Record
+r2 register below x-first span v7 = record-at″.res register (v7 - 1)
+
+abbrev pub r3 : List Record → Version → PageIndex → ℕ → ℕ → Bool
+r3 register below x-first span v7 = record-within″.res (r2 register below x-first span v7) (x-first .0) (r1 register below x-first span)
+
+-- `highest` asks: first + span < 2 ^ 64
+abbrev pub highest-1 : Type 0
+highest-1 =
+    (register : List Record) (below : Version) (x-first : PageIndex) (span : ℕ) (len-register : length register < 2 ^ 64) (ok-below : Version′.Ok below) (ok-x-first : PageIndex′.Ok x-first) (fits-span : span < 2 ^ 64) (need : newest-update″.req register below x-first span)
+    → highest″.req (x-first .0) span
 
 -- a difference does not fall below 0
 abbrev pub sub-1 : Type 0
 sub-1 =
-    (register : List Record) (below : Version) (x-first : PageIndex) (span : ℕ) (len-register : length register < 2 ^ 64) (ok-below : Version′.Ok below) (ok-x-first : PageIndex′.Ok x-first) (fits-span : span < 2 ^ 64) (need : newest-update″.req register below x-first span) (v5 : ℕ) (fits-v5 : v5 < 2 ^ 64) (inv1 : Loop.inv-1 register below x-first span v5) (c1 : ltb 0 v5 ≡ true) (n1 : 0 < v5)
-    → 1 ≤ v5
-
--- `record_meets` asks: first .0 + span < 2 ^ 64
-abbrev pub record-meets-1 : Type 0
-record-meets-1 =
-    (register : List Record) (below : Version) (x-first : PageIndex) (span : ℕ) (len-register : length register < 2 ^ 64) (ok-below : Version′.Ok below) (ok-x-first : PageIndex′.Ok x-first) (fits-span : span < 2 ^ 64) (need : newest-update″.req register below x-first span) (v5 : ℕ) (fits-v5 : v5 < 2 ^ 64) (inv1 : Loop.inv-1 register below x-first span v5) (c1 : ltb 0 v5 ≡ true) (n1 : 0 < v5) (ok-r1 : Record′.Ok (r1 register below x-first span v5))
-    → record-meets″.req (r1 register below x-first span v5) x-first span
+    (register : List Record) (below : Version) (x-first : PageIndex) (span : ℕ) (len-register : length register < 2 ^ 64) (ok-below : Version′.Ok below) (ok-x-first : PageIndex′.Ok x-first) (fits-span : span < 2 ^ 64) (need : newest-update″.req register below x-first span) (fits-r1 : (r1 register below x-first span) < 2 ^ 64) (v7 : ℕ) (fits-v7 : v7 < 2 ^ 64) (inv1 : Loop.inv-1 register below x-first span v7) (c1 : ltb 0 v7 ≡ true) (n1 : 0 < v7)
+    → 1 ≤ v7
 
 -- the function ensures: r ≡ newestIn register below first span
 abbrev pub exit-1 : Type 0
 exit-1 =
-    (register : List Record) (below : Version) (x-first : PageIndex) (span : ℕ) (len-register : length register < 2 ^ 64) (ok-below : Version′.Ok below) (ok-x-first : PageIndex′.Ok x-first) (fits-span : span < 2 ^ 64) (need : newest-update″.req register below x-first span) (v5 : ℕ) (fits-v5 : v5 < 2 ^ 64) (inv1 : Loop.inv-1 register below x-first span v5) (c1 : ltb 0 v5 ≡ true) (n1 : 0 < v5) (ok-r1 : Record′.Ok (r1 register below x-first span v5)) (c2 : r2 register below x-first span v5 ≡ true)
-    → newest-update″.ens register below x-first span (Version′.build v5)
+    (register : List Record) (below : Version) (x-first : PageIndex) (span : ℕ) (len-register : length register < 2 ^ 64) (ok-below : Version′.Ok below) (ok-x-first : PageIndex′.Ok x-first) (fits-span : span < 2 ^ 64) (need : newest-update″.req register below x-first span) (fits-r1 : (r1 register below x-first span) < 2 ^ 64) (v7 : ℕ) (fits-v7 : v7 < 2 ^ 64) (inv1 : Loop.inv-1 register below x-first span v7) (c1 : ltb 0 v7 ≡ true) (n1 : 0 < v7) (ok-r2 : Record′.Ok (r2 register below x-first span v7)) (c2 : r3 register below x-first span v7 ≡ true)
+    → newest-update″.ens register below x-first span (Version′.build v7)
 
 -- the invariant holds after a turn
 abbrev pub again-1 : Type 0
 again-1 =
-    (register : List Record) (below : Version) (x-first : PageIndex) (span : ℕ) (len-register : length register < 2 ^ 64) (ok-below : Version′.Ok below) (ok-x-first : PageIndex′.Ok x-first) (fits-span : span < 2 ^ 64) (need : newest-update″.req register below x-first span) (v5 : ℕ) (fits-v5 : v5 < 2 ^ 64) (inv1 : Loop.inv-1 register below x-first span v5) (c1 : ltb 0 v5 ≡ true) (n1 : 0 < v5) (ok-r1 : Record′.Ok (r1 register below x-first span v5)) (c2 : r2 register below x-first span v5 ≡ false)
-    → Loop.inv-1 register below x-first span (v5 - 1)
+    (register : List Record) (below : Version) (x-first : PageIndex) (span : ℕ) (len-register : length register < 2 ^ 64) (ok-below : Version′.Ok below) (ok-x-first : PageIndex′.Ok x-first) (fits-span : span < 2 ^ 64) (need : newest-update″.req register below x-first span) (fits-r1 : (r1 register below x-first span) < 2 ^ 64) (v7 : ℕ) (fits-v7 : v7 < 2 ^ 64) (inv1 : Loop.inv-1 register below x-first span v7) (c1 : ltb 0 v7 ≡ true) (n1 : 0 < v7) (ok-r2 : Record′.Ok (r2 register below x-first span v7)) (c2 : r3 register below x-first span v7 ≡ false)
+    → Loop.inv-1 register below x-first span (v7 - 1)
 
 -- the measure falls
 abbrev pub less-1 : Type 0
 less-1 =
-    (register : List Record) (below : Version) (x-first : PageIndex) (span : ℕ) (len-register : length register < 2 ^ 64) (ok-below : Version′.Ok below) (ok-x-first : PageIndex′.Ok x-first) (fits-span : span < 2 ^ 64) (need : newest-update″.req register below x-first span) (v5 : ℕ) (fits-v5 : v5 < 2 ^ 64) (inv1 : Loop.inv-1 register below x-first span v5) (c1 : ltb 0 v5 ≡ true) (n1 : 0 < v5) (ok-r1 : Record′.Ok (r1 register below x-first span v5)) (c2 : r2 register below x-first span v5 ≡ false)
-    → Loop.measure-1 register below x-first span (v5 - 1) < Loop.measure-1 register below x-first span v5
+    (register : List Record) (below : Version) (x-first : PageIndex) (span : ℕ) (len-register : length register < 2 ^ 64) (ok-below : Version′.Ok below) (ok-x-first : PageIndex′.Ok x-first) (fits-span : span < 2 ^ 64) (need : newest-update″.req register below x-first span) (fits-r1 : (r1 register below x-first span) < 2 ^ 64) (v7 : ℕ) (fits-v7 : v7 < 2 ^ 64) (inv1 : Loop.inv-1 register below x-first span v7) (c1 : ltb 0 v7 ≡ true) (n1 : 0 < v7) (ok-r2 : Record′.Ok (r2 register below x-first span v7)) (c2 : r3 register below x-first span v7 ≡ false)
+    → Loop.measure-1 register below x-first span (v7 - 1) < Loop.measure-1 register below x-first span v7
 
 -- the function ensures: r ≡ newestIn register below first span
 abbrev pub exit-2 : Type 0
 exit-2 =
-    (register : List Record) (below : Version) (x-first : PageIndex) (span : ℕ) (len-register : length register < 2 ^ 64) (ok-below : Version′.Ok below) (ok-x-first : PageIndex′.Ok x-first) (fits-span : span < 2 ^ 64) (need : newest-update″.req register below x-first span) (v5 : ℕ) (fits-v5 : v5 < 2 ^ 64) (inv1 : Loop.inv-1 register below x-first span v5) (c1 : ltb 0 v5 ≡ false) (n1 : v5 ≤ 0)
+    (register : List Record) (below : Version) (x-first : PageIndex) (span : ℕ) (len-register : length register < 2 ^ 64) (ok-below : Version′.Ok below) (ok-x-first : PageIndex′.Ok x-first) (fits-span : span < 2 ^ 64) (need : newest-update″.req register below x-first span) (fits-r1 : (r1 register below x-first span) < 2 ^ 64) (v7 : ℕ) (fits-v7 : v7 < 2 ^ 64) (inv1 : Loop.inv-1 register below x-first span v7) (c1 : ltb 0 v7 ≡ false) (n1 : v7 ≤ 0)
     → newest-update″.ens register below x-first span (Version′.build 0)
 
 -- the invariant holds where the loop begins
 abbrev pub start-1 : Type 0
 start-1 =
-    (register : List Record) (below : Version) (x-first : PageIndex) (span : ℕ) (len-register : length register < 2 ^ 64) (ok-below : Version′.Ok below) (ok-x-first : PageIndex′.Ok x-first) (fits-span : span < 2 ^ 64) (need : newest-update″.req register below x-first span)
+    (register : List Record) (below : Version) (x-first : PageIndex) (span : ℕ) (len-register : length register < 2 ^ 64) (ok-below : Version′.Ok below) (ok-x-first : PageIndex′.Ok x-first) (fits-span : span < 2 ^ 64) (need : newest-update″.req register below x-first span) (fits-r1 : (r1 register below x-first span) < 2 ^ 64)
     → Loop.inv-1 register below x-first span (below .0)

@@ -66,13 +66,13 @@ register₁₀ s pages nodes register x-t r3 r6 = put-record″.out-register reg
 abbrev pub r11 : Store → List ℕ → List ℕ → List Record → Ticket → Plan → WovenNode → Woven
 r11 s pages nodes register x-t r3 r6 = woven-answer″.res (r3 .k) r6
 
--- `newest_update` asks: (below .0 ≤ length register) × (first .0 + span < 2 ^ 64)
+-- `newest_update` asks: (below .0 ≤ length register) × (first .0 + span < 2 ^ 64) × (0 < below .0 → 0 < span)
 abbrev pub newest-update-1 : Type 0
 newest-update-1 =
     (s : Store) (pages : List ℕ) (nodes : List ℕ) (register : List Record) (x-t : Ticket) (ok-s : Store′.Ok s) (len-pages : length pages < 2 ^ 64) (len-nodes : length nodes < 2 ^ 64) (len-register : length register < 2 ^ 64) (ok-x-t : Ticket′.Ok x-t) (ok-r1 : Record′.Ok (r1 s pages nodes register x-t)) (ok-r2 : Record′.Ok (r2 s pages nodes register x-t)) (r3 : Plan) (ok-r3 : Plan′.Ok r3) (says3 : weave-plan″.ens s (Lengths′.build (length pages) (length nodes) (length register)) (r1 s pages nodes register x-t) (r2 s pages nodes register x-t) x-t r3)
     → newest-update″.req register (r3 .limit) (r3 .next .first) (r3 .next .half)
 
--- `newest_update` asks: (below .0 ≤ length register) × (first .0 + span < 2 ^ 64)
+-- `newest_update` asks: (below .0 ≤ length register) × (first .0 + span < 2 ^ 64) × (0 < below .0 → 0 < span)
 abbrev pub newest-update-2 : Type 0
 newest-update-2 =
     (s : Store) (pages : List ℕ) (nodes : List ℕ) (register : List Record) (x-t : Ticket) (ok-s : Store′.Ok s) (len-pages : length pages < 2 ^ 64) (len-nodes : length nodes < 2 ^ 64) (len-register : length register < 2 ^ 64) (ok-x-t : Ticket′.Ok x-t) (ok-r1 : Record′.Ok (r1 s pages nodes register x-t)) (ok-r2 : Record′.Ok (r2 s pages nodes register x-t)) (r3 : Plan) (ok-r3 : Plan′.Ok r3) (says3 : weave-plan″.ens s (Lengths′.build (length pages) (length nodes) (length register)) (r1 s pages nodes register x-t) (r2 s pages nodes register x-t) x-t r3) (ok-r4 : Version′.Ok (r4 s pages nodes register x-t r3))

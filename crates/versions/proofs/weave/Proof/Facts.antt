@@ -10,12 +10,12 @@ use Rattle.versions.proofs.weave.Proof.Asks as Asks
 -- `newest_update` asks: (below .0 ≤ length register) × (first .0 + span < 2 ^ 64)
 -- here: newest-update″.req register (r3 .limit) (r3 .next .first) (r3 .next .half)
 pub newest-update-1 : Asks.newest-update-1
-newest-update-1 s pages nodes register x-t ok-s len-pages len-nodes len-register ok-x-t ok-r1 ok-r2 r3 ok-r3 says3 = (limit-inside s _ _ _ _ r3 says3, left-room s _ _ _ _ r3 says3)
+newest-update-1 s pages nodes register x-t ok-s len-pages len-nodes len-register ok-x-t ok-r1 ok-r2 r3 ok-r3 says3 = (limit-inside s _ _ _ _ r3 says3, left-room s _ _ _ _ r3 says3, says3 .halved)
 
 -- `newest_update` asks: (below .0 ≤ length register) × (first .0 + span < 2 ^ 64)
 -- here: newest-update″.req register (r3 .limit) (r3 .next .right) (r3 .next .half)
 pub newest-update-2 : Asks.newest-update-2
-newest-update-2 s pages nodes register x-t ok-s len-pages len-nodes len-register ok-x-t ok-r1 ok-r2 r3 ok-r3 says3 ok-r4 = (limit-inside s _ _ _ _ r3 says3, right-room s _ _ _ _ r3 says3)
+newest-update-2 s pages nodes register x-t ok-s len-pages len-nodes len-register ok-x-t ok-r1 ok-r2 r3 ok-r3 says3 ok-r4 = (limit-inside s _ _ _ _ r3 says3, right-room s _ _ _ _ r3 says3, says3 .halved)
 
 -- `woven_node` asks: NextOf q x
 -- here: woven-node″.req (r1 s pages nodes register x-t) (r2 s pages nodes register x-t) (r3 .next) (r4 s pages nodes register x-t r3) (r5 s pages nodes register x-t r3)
