@@ -17,7 +17,7 @@ use Rattle.tree.specs.declared.Record.{Record}
 use Rattle.versions.specs.Table.{_gives_, _≤?_, _or_, firstRefusal, holds, noTicket, outside, unless}
 use Rattle.versions.specs.Weave.{NextOf, Planned, Children}
 use Rattle.versions.specs.Descent.{Spanned, placeIn, placeNumber, turnOf, foundIn, walkDown, pageRefusal, rangeRefusal, Ranged, orLost, chunkAt, Readable}
-use Rattle.versions.specs.Calls.{areasOf, differ, fresh, formatRefusal, formatted, formatAnswer, formatAreas, beginRefusal, withTicketPart, begunBy, beginOut, beginRegister, bitOf, withBit, putRefusal, withPut, putIn, putOut, putPages, putRegister, updateAt, allPut, assignRefusal, withVersionOf, withVersionPart, assignedBy, assignOut, assignRegister, nextNode, nextPlace, leafPast, weaveRefusal, kept, wovenNode, wove, withWoven, weaveOut, weaveNodes, weaveRegister, publishRefusal, dueBy, publishedBy, publishOut, sizeRefusal, pagesBy, bytesBy, sizedBy, sizeOut, recentBy, recentOut, findPage, numberWithin, isLost, orZero, versionFound, someLost, pagesTouched, bytesFrom, stamped, stampOut, viewPart, filledBy, readOut, readBuffer}
+use Rattle.versions.specs.Calls.{areasOf, differ, fresh, formatRefusal, formatted, formatAnswer, formatAreas, beginRefusal, withTicketPart, begunBy, beginOut, beginRegister, bitOf, withBit, putRefusal, withPut, putIn, putOut, putPages, putRegister, updateAt, allPut, assignRefusal, withVersionOf, withVersionPart, assignedBy, assignOut, assignRegister, nextNode, nextPlace, leafPast, weaveRefusal, kept, wovenNode, wove, withWoven, weaveOut, weaveNodes, weaveRegister, publishRefusal, dueBy, publishedBy, publishOut, sizeRefusal, pagesBy, bytesBy, sizedBy, sizeOut, recentBy, recentOut, findPage, numberWithin, isLost, orZero, versionFound, someLost, pagesTouched, bytesFrom, stamped, stampOut, viewPart, viewed, viewAt, filledBy, readOut, readBuffer}
 use Rattle.tree.specs.declared.PageIndex.{PageIndex}
 use Rattle.tree.specs.declared.Ticket.{Ticket}
 use Rattle.tree.specs.declared.Version.{Version}
@@ -41,6 +41,7 @@ use Rattle.versions.specs.declared.Sized.{Sized}
 use Rattle.versions.specs.declared.Stamped.{Stamped}
 use Rattle.versions.specs.declared.Store.{Store}
 use Rattle.versions.specs.declared.Turn.{Turn}
+use Rattle.versions.specs.declared.Viewed.{Viewed}
 use Rattle.versions.specs.declared.Woven.{Woven}
 use Rattle.versions.specs.declared.WovenNode.{WovenNode}
 
