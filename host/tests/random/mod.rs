@@ -1,4 +1,5 @@
 //! Seeded random numbers, for the tests that draw what they do.
+#![allow(dead_code)] // each test program uses some of it
 
 use std::io::Write;
 
