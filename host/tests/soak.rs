@@ -37,7 +37,7 @@ const FINISHED: usize = 4;
 const PAGE_SIZE: u64 = 64;
 /// An update has at most so many pages. The first, before the writers come, has just as many.
 const MOST: u64 = 4;
-/// More pages than all appends together have, but for a wild chance.
+/// The areas have room for a blob of so many pages, which is far more than the appends reach.
 const BLOB: u64 = 512;
 
 /// Says that a writer has ended, also by a panic.
@@ -164,7 +164,7 @@ fn soak(seed: u64) {
     let all = site.judge(&answers);
     let read: BTreeSet<u64> = answers.iter().map(|(asked, _)| asked.version()).collect();
     let (read, calls) = (read.len() as u64, answers.len());
-    println!("{reached} of {all} versions published, {read} of them read in {calls} calls");
+    println!("{reached} of {all} versions published; {calls} calls read {read}");
     assert!(reached < all && 2 * read > reached);
 }
 
