@@ -213,15 +213,15 @@ fn pick_mut<'a, T>(random: &mut Random, from: &'a mut [T]) -> &'a mut T {
 /// A valid store with an area cut off, or longer than before. The state says so, or not.
 pub fn cut_scene(random: &mut Random) -> Scene {
     let mut scene = some_store(random);
-    let (told, s) = (random.one_in(2), &mut scene.state);
+    let (told, area) = (random.one_in(2), random.below(3));
     let mut length_for = |old: u64| match random.below(4) {
         0 => old - 1,
         1 => old + 1,
         2 => old / 2,
         _ => random.below(old + 4),
     };
-    let memory = &mut scene.memory;
-    match s.published % 3 {
+    let Scene { state: s, memory } = &mut scene;
+    match area {
         0 => {
             let pages = length_for(s.pages);
             memory.pages.resize((s.size * pages) as usize, 0);
