@@ -1,0 +1,97 @@
+//! States and areas that no run of calls left: every call ends, stays inside the memory it is lent, refuses by the table,
+//! and changes nothing when it refuses. `PIT_SEED` names the first seed, `PIT_SCENES` how many scenes each test has;
+//! with the seed of a scene that failed, it comes first.
+
+#[path = "damaged/calls.rs"]
+mod calls;
+#[path = "damaged/drawn.rs"]
+mod drawn;
+#[path = "damaged/memory.rs"]
+mod memory;
+mod random;
+
+use calls::Scene;
+use random::{first_seed, named, Random};
+use std::collections::BTreeMap;
+
+/// How many scenes each test has, and how many calls a scene.
+const SCENES: u64 = 1_500;
+const CALLS: u64 = 40;
+
+/// How often each call answered with each number, 0 for acceptance.
+type Answers = BTreeMap<(&'static str, u64), u64>;
+
+/// Makes random calls on random scenes, and complains of the first that does what it must not.
+fn try_all(test: &str, draw: fn(&mut Random) -> Scene) -> Answers {
+    let (first, mut answers) = (first_seed(test), Answers::new());
+    for seed in (0..named("PIT_SCENES", SCENES)).map(|i| first.wrapping_add(i)) {
+        let mut random = Random::new(seed);
+        let mut scene = draw(&mut random);
+        for at in 0..CALLS {
+            let (call, state) = (drawn::call(&mut random, &scene), scene.state);
+            match scene.make(call) {
+                Ok(refusal) => *answers.entry((call.name(), refusal)).or_default() += 1,
+                Err(complaint) => {
+                    panic!("{complaint}\nPIT_SEED={seed}, call {at}: {call:?}\non {state:?}")
+                }
+            }
+        }
+    }
+    println!("{answers:?}");
+    answers
+}
+
+/// Each of these calls answered with this number, in as many scenes as usual.
+fn came(answers: &Answers, number: u64, calls: &[&'static str]) {
+    let missing = calls
+        .iter()
+        .filter(|call| !answers.contains_key(&(call, number)));
+    let missing: Vec<_> = missing.collect();
+    let fewer = named("PIT_SCENES", SCENES) < SCENES;
+    assert!(fewer || missing.is_empty(), "{number} of {missing:?}");
+}
+
+/// The calls that may find damage, row 19.
+const FIND_DAMAGE: [&str; 9] = [
+    "PUT", "WRITE", "APPEND", "WEAVE", "PUBLISH", "READ", "SIZE", "STAMP", "VIEW",
+];
+const OTHERS: [&str; 2] = ["BEGIN", "RECENT"];
+
+#[test]
+fn random_areas_and_a_random_state() {
+    let answers = try_all("random_areas_and_a_random_state", drawn::random_scene);
+    came(&answers, 3, &FIND_DAMAGE);
+    came(&answers, 3, &OTHERS);
+}
+
+#[test]
+fn random_areas_of_the_lengths_that_the_state_says() {
+    let test = "random_areas_of_the_lengths_that_the_state_says";
+    let answers = try_all(test, drawn::fitting_scene);
+    came(&answers, 0, &FIND_DAMAGE);
+    came(&answers, 0, &OTHERS);
+    came(&answers, 19, &FIND_DAMAGE);
+}
+
+#[test]
+fn a_number_changed_in_a_valid_store() {
+    let answers = try_all("a_number_changed_in_a_valid_store", drawn::changed_scene);
+    came(&answers, 0, &FIND_DAMAGE);
+    came(&answers, 0, &OTHERS);
+    came(&answers, 19, &["PUT", "WEAVE", "READ", "STAMP", "VIEW"]);
+}
+
+#[test]
+fn an_area_cut_off_or_longer() {
+    let answers = try_all("an_area_cut_off_or_longer", drawn::cut_scene);
+    came(&answers, 3, &FIND_DAMAGE);
+    came(&answers, 3, &OTHERS);
+    came(&answers, 19, &["PUT", "WEAVE", "READ", "STAMP", "VIEW"]);
+}
+
+#[test]
+fn the_areas_of_several_stores() {
+    let answers = try_all("the_areas_of_several_stores", drawn::mixed_scene);
+    came(&answers, 0, &FIND_DAMAGE);
+    came(&answers, 19, &["READ", "STAMP", "VIEW"]);
+}

@@ -1,0 +1,371 @@
+//! Calls on any state and any areas, and what must hold after each.
+
+use crate::memory::{Fenced, Memory};
+use pit_host::{
+    ByteOffset, Error, Keeper, Lent, LentAreas, Limits, PageIndex, Record, State, Ticket, Version,
+};
+
+/// A call with its arguments. PUT and READ come with the length of their bytes or buffer.
+#[derive(Clone, Copy, Debug)]
+pub enum Call {
+    Format(Limits),
+    Begin(u64),
+    Put(u64, u64, usize),
+    Write(u64, u64),
+    Append(u64),
+    Weave(u64),
+    Publish,
+    Read(u64, u64, u64, usize),
+    Size(u64),
+    Recent,
+    Stamp(u64, u64),
+    View(u64, u64),
+}
+
+impl Call {
+    pub fn name(&self) -> &'static str {
+        match self {
+            Call::Format(..) => "FORMAT",
+            Call::Begin(..) => "BEGIN",
+            Call::Put(..) => "PUT",
+            Call::Write(..) => "WRITE",
+            Call::Append(..) => "APPEND",
+            Call::Weave(..) => "WEAVE",
+            Call::Publish => "PUBLISH",
+            Call::Read(..) => "READ",
+            Call::Size(..) => "SIZE",
+            Call::Recent => "RECENT",
+            Call::Stamp(..) => "STAMP",
+            Call::View(..) => "VIEW",
+        }
+    }
+
+    /// Whether it may write pages, nodes and the register.
+    fn writes(&self) -> [bool; 3] {
+        match self {
+            Call::Format(..) => [true, true, true],
+            Call::Put(..) => [true, false, true],
+            Call::Weave(..) => [false, true, true],
+            Call::Begin(..) | Call::Write(..) | Call::Append(..) => [false, false, true],
+            _ => [false, false, false],
+        }
+    }
+
+    /// Whether it may, accepted, leave this state after that one.
+    fn moves(&self, before: &State, after: &State) -> bool {
+        let mut due = *before;
+        match *self {
+            Call::Format(limits) => due = fresh(&limits),
+            Call::Begin(n) => {
+                due.tickets += 1;
+                due.taken += n;
+            }
+            Call::Write(..) | Call::Append(..) => {
+                due.assigned += 1;
+                due.places = after.places.max(before.places + 1);
+                due.blob = after.blob.max(before.blob);
+            }
+            Call::Publish => due.published = due.published.wrapping_add(1), // if it is not waiting
+            _ => (),
+        }
+        *after == due
+    }
+
+    /// How long its bytes or its buffer are.
+    fn room(&self) -> usize {
+        match *self {
+            Call::Put(_, _, room) | Call::Read(_, _, _, room) => room,
+            _ => 0,
+        }
+    }
+
+    /// The numbers that it may answer with, 0 for acceptance: one alone where the state, the lengths and the arguments
+    /// decide it by the table.
+    fn may_answer(&self, s: &State, memory: &Memory) -> Vec<u64> {
+        match *self {
+            Call::Format(limits) => vec![format_row(&limits, memory)],
+            _ if lengths_differ(s, memory) => vec![3],
+            Call::Begin(n) => vec![begin_row(s, n)],
+            Call::Publish => vec![publish_row(s)],
+            Call::Recent => vec![0],
+            Call::Put(t, ..) | Call::Write(t, _) | Call::Append(t) | Call::Weave(t) => {
+                self.may_answer_for_ticket(t, s)
+            }
+            Call::Read(v, ..) | Call::Size(v) | Call::Stamp(v, _) | Call::View(v, _) => {
+                self.may_answer_for_version(v, s)
+            }
+        }
+    }
+
+    /// A row that would read a record past the register does not hold: 19 does, in its turn as the last.
+    fn may_answer_for_ticket(&self, ticket: u64, s: &State) -> Vec<u64> {
+        let past = s.updates < ticket;
+        match *self {
+            _ if ticket == 0 || s.tickets < ticket => vec![7],
+            Call::Put(_, _, room) if past && room as u64 != s.size => vec![11],
+            Call::Write(_, f) if past && s.blob < f => vec![13],
+            _ if past => vec![19],
+            Call::Put(..) => vec![0, 8, 9, 10, 11, 19],
+            Call::Write(..) => vec![0, 8, 12, 13, 14, 15, 19],
+            Call::Append(_) => vec![0, 8, 12, 14, 15, 19],
+            _ => vec![0, 8, 19],
+        }
+    }
+
+    fn may_answer_for_version(&self, version: u64, s: &State) -> Vec<u64> {
+        let past = s.updates < version;
+        match *self {
+            _ if s.published < version => vec![16],
+            Call::Read(_, _, len, room) if past && (room as u64) < len => vec![18],
+            _ if past => vec![19],
+            Call::Read(..) => vec![0, 17, 18, 19],
+            Call::Size(_) => vec![0],
+            _ => vec![0, 17, 19],
+        }
+    }
+}
+
+/// Row 3. Products are compared in 128 bits, where none wraps.
+fn lengths_differ(s: &State, memory: &Memory) -> bool {
+    let wide = |n: u64| u128::from(n);
+    memory.pages.part().len() as u128 != wide(s.size) * wide(s.pages)
+        || memory.nodes.part().len() as u128 != 2 * wide(s.nodes)
+        || memory.register.part().len() as u128 != wide(s.updates)
+}
+
+fn format_row(limits: &Limits, memory: &Memory) -> u64 {
+    let s = fresh(limits);
+    if !(16..=4096).contains(&s.size) || !s.size.is_power_of_two() {
+        1
+    } else if !(1..=65_535).contains(&s.pages)
+        || !(1..=131_072).contains(&s.nodes)
+        || !(1..=4_096).contains(&s.updates)
+    {
+        2
+    } else if lengths_differ(&s, memory) {
+        3
+    } else {
+        0
+    }
+}
+
+fn begin_row(s: &State, n: u64) -> u64 {
+    if n == 0 || n > 64 {
+        4
+    } else if s.tickets >= s.updates {
+        5
+    } else if u128::from(s.taken) + u128::from(n) > u128::from(s.pages) {
+        6
+    } else {
+        0
+    }
+}
+
+/// Waiting is no refusal.
+fn publish_row(s: &State) -> u64 {
+    if s.published < s.assigned && s.updates <= s.published {
+        19
+    } else {
+        0
+    }
+}
+
+/// The state of an empty store.
+fn fresh(limits: &Limits) -> State {
+    State {
+        size: limits.page_size,
+        pages: limits.pages,
+        nodes: limits.nodes,
+        updates: limits.updates,
+        ..State::default()
+    }
+}
+
+/// What the bytes to put are, and a buffer before READ.
+const BYTE: u8 = 0xb5;
+
+/// Where two areas differ.
+fn differing<T: PartialEq>(old: &[T], new: &[T]) -> Vec<usize> {
+    let pairs = old.iter().zip(new).enumerate();
+    let differ = pairs.filter(|(_, (old, new))| old != new);
+    differ.map(|(at, _)| at).collect()
+}
+
+/// A complaint unless the condition holds.
+fn claim(condition: bool, otherwise: &str) -> Result<(), String> {
+    if condition {
+        Ok(())
+    } else {
+        Err(otherwise.to_string())
+    }
+}
+
+/// A state and areas, which need not belong together.
+#[derive(Clone)]
+pub struct Scene {
+    pub state: State,
+    pub memory: Memory,
+}
+
+impl Scene {
+    /// Makes a call and gives the number of its refusal, 0 where it was accepted; or a complaint.
+    pub fn make(&mut self, call: Call) -> Result<u64, String> {
+        let before = self.clone();
+        let untouched = Fenced::new(&vec![BYTE; call.room()], 0xfe);
+        let mut buffer = untouched.clone();
+        let refusal = self.perform(call, &mut buffer)?;
+
+        let (old, new) = (&before.memory, &self.memory);
+        claim(old.fences() == new.fences(), "written outside the areas")?;
+        claim(
+            buffer.fences() == untouched.fences(),
+            "written outside the buffer",
+        )?;
+        let [pages, nodes, register] = call.writes().map(|writes| writes && refusal == 0);
+        claim(pages || old.pages == new.pages, "pages changed")?;
+        claim(nodes || old.nodes == new.nodes, "nodes changed")?;
+        claim(register || old.register == new.register, "register changed")?;
+        let moved = refusal == 0 && call.moves(&before.state, &self.state);
+        claim(moved || self.state == before.state, "state changed")?;
+        let filled = match call {
+            Call::Read(_, _, len, _) if refusal == 0 => len as usize,
+            _ => 0,
+        };
+        claim(
+            buffer.part()[filled..] == untouched.part()[filled..],
+            "bytes or buffer changed",
+        )?;
+        let may = call.may_answer(&before.state, old);
+        claim(may.contains(&refusal), &format!("{refusal}, not {may:?}"))?;
+        if refusal == 0 {
+            self.check_written(call, &before)?;
+        }
+        Ok(refusal)
+    }
+
+    /// What an accepted call has written stands where it belongs, and nothing else has changed.
+    fn check_written(&self, call: Call, before: &Scene) -> Result<(), String> {
+        let (old, new) = (&before.memory, &self.memory);
+        let records = differing(old.register.part(), new.register.part());
+        let most = match call {
+            Call::Format(..) => return Ok(()),       // it has been looked at
+            Call::Write(..) | Call::Append(..) => 2, // the ticket's and the version's
+            _ => 1,
+        };
+        claim(records.len() <= most, "too many records changed")?;
+        if let Call::Put(ticket, i, room) = call {
+            let number = old.register.part()[ticket as usize - 1].number + i;
+            let mut pages = old.pages.clone();
+            let page = pages.lend()[(before.state.size * number) as usize..].iter_mut();
+            page.take(room).for_each(|byte| *byte = BYTE);
+            claim(*new.pages.part() == *pages.part(), "not the page put")?;
+        }
+        let nodes = differing(old.nodes.part(), new.nodes.part());
+        claim(
+            nodes.iter().all(|at| at / 2 == nodes[0] / 2),
+            "too many nodes changed",
+        )?;
+        Ok(())
+    }
+
+    fn perform(&mut self, call: Call, buffer: &mut Fenced<u8>) -> Result<u64, String> {
+        if let Call::Format(limits) = call {
+            return self.format(limits);
+        }
+        let mut store = Keeper::resume(self.state, self.memory.lend());
+        let done = match call {
+            Call::Begin(n) => store.begin(n).map(drop),
+            Call::Put(t, i, _) => store.put(Ticket(t), i, buffer.part()),
+            Call::Write(t, f) => store.write(Ticket(t), PageIndex(f)).map(drop),
+            Call::Append(t) => store.append(Ticket(t)).map(drop),
+            Call::Weave(t) => weave(&mut store, t)?,
+            Call::Publish => store.publish().map(drop),
+            Call::Read(v, offset, len, _) => read(&store, [v, offset, len], buffer.lend())?,
+            Call::Size(v) => store.size(Version(v)).map(drop),
+            Call::Stamp(v, page) => store.stamp(Version(v), PageIndex(page)).map(drop),
+            Call::View(v, page) => view(&store, v, page)?,
+            Call::Recent | Call::Format(..) => store.recent().map(drop),
+        };
+        self.state = store.state();
+        Ok(done.err().map_or(0, |refused| refused.number()))
+    }
+
+    /// FORMAT, over whatever stands in the areas. Accepted, it leaves nothing of that.
+    fn format(&mut self, limits: Limits) -> Result<u64, String> {
+        match Lent::format(limits, self.memory.lend()) {
+            Err(refused) => return Ok(refused.number()),
+            Ok(store) => self.state = store.state(),
+        }
+        let areas = &self.memory;
+        claim(self.state == fresh(&limits), "not the state of a new store")?;
+        claim(
+            areas.pages.part().iter().all(|byte| *byte == 0)
+                && areas.nodes.part().iter().all(|number| *number == u32::MAX)
+                && areas
+                    .register
+                    .part()
+                    .iter()
+                    .all(|r| *r == Record::default()),
+            "areas not filled",
+        )?;
+        Ok(0)
+    }
+}
+
+type Outcome = Result<Result<(), Error>, String>;
+type Store<'a> = Keeper<LentAreas<'a>>;
+
+/// WEAVE. Accepted, the node stands at its place, and a leaf's page lies in the page area.
+fn weave(store: &mut Store<'_>, ticket: u64) -> Outcome {
+    let record_of = |store: &Store<'_>, number: u64| {
+        let at = number.checked_sub(1)? as usize;
+        store.areas().register.get(at).copied()
+    };
+    let version = record_of(store, ticket).map_or(0, |r| r.version);
+    let record = record_of(store, version).unwrap_or_default();
+    let woven = store.weave(Ticket(ticket));
+    if let Ok(node) = woven {
+        let place = (record.place + record.woven) as usize;
+        let stored = store.areas().nodes.chunks(2).nth(place);
+        claim(
+            stored == Some(&[node.left, node.right]),
+            "not the node woven",
+        )?;
+        claim(
+            node.span > 1 || u64::from(node.left) < store.state().pages,
+            "a leaf of no page",
+        )?;
+    }
+    Ok(woven.map(drop))
+}
+
+/// READ. Accepted, it gives the bytes that VIEW shows, whatever the areas hold.
+fn read(store: &Store<'_>, [v, offset, len]: [u64; 3], buffer: &mut [u8]) -> Outcome {
+    let done = store.read(Version(v), ByteOffset(offset), len, buffer);
+    let (size, filled) = (store.state().size, len.min(buffer.len() as u64));
+    if done.is_ok() {
+        for (at, byte) in (offset..).zip(&buffer[..filled as usize]) {
+            let shown = store.view(Version(v), PageIndex(at / size));
+            let shown = shown.map(|page| page[(at % size) as usize]);
+            claim(shown == Ok(*byte), "READ and VIEW differ")?;
+        }
+    }
+    Ok(done)
+}
+
+/// VIEW. It gives a page of the page area, and refuses as STAMP does.
+fn view(store: &Store<'_>, v: u64, page: u64) -> Outcome {
+    let (view, size) = (store.view(Version(v), PageIndex(page)), store.state().size);
+    let stamp = store.stamp(Version(v), PageIndex(page));
+    claim(view.err() == stamp.err(), "VIEW and STAMP differ")?;
+    if let Ok(part) = view {
+        let area = store.areas().pages.as_ptr() as usize;
+        let begin = (part.as_ptr() as usize).wrapping_sub(area) as u64;
+        let number = begin.checked_div(size).unwrap_or(0);
+        claim(
+            part.len() as u64 == size && begin == number * size && number < store.state().pages,
+            "a view of no page of the area",
+        )?;
+    }
+    Ok(view.map(drop))
+}

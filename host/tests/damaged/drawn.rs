@@ -1,0 +1,352 @@
+//! Random scenes, from wholly random ones to a valid store with one number changed, and random calls on them.
+
+use crate::calls::{Call, Scene};
+use crate::memory::{Memory, Numbers};
+use crate::random::Random;
+use pit_host::{Error, Lent, Limits, PageIndex, Record, State};
+
+/// Numbers at which a limit, a width or a sum can go wrong.
+const EDGES: [u64; 20] = [
+    15,
+    16,
+    63,
+    64,
+    65,
+    4_095,
+    4_096,
+    4_097,
+    65_535,
+    131_072,
+    (1 << 32) - 1,
+    1 << 32,
+    (1 << 32) + 1,
+    1 << 60,
+    (1 << 63) - 1,
+    1 << 63,
+    u64::MAX - 64,
+    u64::MAX - 15,
+    u64::MAX - 1,
+    u64::MAX,
+];
+
+/// A number that has nothing to do with any store: small, at an edge, or of any length in bits.
+fn any_number(random: &mut Random) -> u64 {
+    match random.below(8) {
+        0 => random.pick(&EDGES),
+        1 => random.next() >> random.below(64),
+        _ => random.below(9),
+    }
+}
+
+/// A number near another.
+fn near(random: &mut Random, number: u64) -> u64 {
+    match random.below(4) {
+        0 => number.wrapping_add(1),
+        1 => number.wrapping_sub(1),
+        2 => number.wrapping_add(1 << random.below(64)),
+        _ => number / 2,
+    }
+}
+
+// Scenes that are wholly random.
+
+fn any_numbers<T: Numbers>(random: &mut Random) -> T {
+    T::of([(); 10].map(|()| any_number(random)))
+}
+
+/// Random bytes as node numbers: mostly low ones, as versions are, or not stored.
+fn any_node(random: &mut Random) -> u32 {
+    match random.below(8) {
+        0 => u32::MAX,
+        1 => random.next() as u32,
+        _ => random.below(8) as u32,
+    }
+}
+
+/// Random numbers, or such as an update might have.
+fn any_record(random: &mut Random) -> Record {
+    if random.one_in(3) {
+        return any_numbers(random);
+    }
+    let (n, f) = (1 + random.below(4), random.below(3));
+    let last = f + random.below(2);
+    Record {
+        n,
+        number: random.below(6),
+        put: (1 << n) - 1,
+        version: random.below(5),
+        ticket: random.below(5),
+        f,
+        last,
+        size: last + 1 + random.below(2),
+        place: random.below(12),
+        woven: random.below(10),
+    }
+}
+
+fn any_memory(random: &mut Random, lengths: [u64; 3]) -> Memory {
+    let [pages, nodes, records] = lengths;
+    let nodes: Vec<u32> = (0..nodes).map(|_| any_node(random)).collect();
+    let records: Vec<Record> = (0..records).map(|_| any_record(random)).collect();
+    Memory::new(&random.bytes(pages as usize), &nodes, &records)
+}
+
+/// Random bytes of any length, and a state of random numbers.
+pub fn random_scene(random: &mut Random) -> Scene {
+    let lengths = [200, 50, 12].map(|most| random.below(most));
+    Scene {
+        state: any_numbers(random),
+        memory: any_memory(random, lengths),
+    }
+}
+
+/// Random bytes of the lengths that the state says; its counters are random.
+pub fn fitting_scene(random: &mut Random) -> Scene {
+    let s = State {
+        size: random.pick(&[0, 1, 2, 3, 7, 16, 16, 16, 24, 64]),
+        pages: random.below(9),
+        nodes: random.below(40),
+        updates: random.below(9),
+        ..any_numbers(random)
+    };
+    Scene {
+        state: s,
+        memory: any_memory(random, [s.size * s.pages, 2 * s.nodes, s.updates]),
+    }
+}
+
+// Scenes from valid stores.
+
+fn some_limits(random: &mut Random) -> Limits {
+    Limits {
+        page_size: random.pick(&[16, 16, 16, 32, 64]),
+        pages: 4 + random.below(24),
+        nodes: 16 + random.below(80),
+        updates: 2 + random.below(9),
+    }
+}
+
+/// A store as calls leave it, with updates at every stage.
+pub fn valid_scene(random: &mut Random, limits: Limits) -> Scene {
+    let lengths = [
+        limits.page_size * limits.pages,
+        2 * limits.nodes,
+        limits.updates,
+    ];
+    let mut memory = any_memory(random, lengths);
+    let mut store = Lent::format(limits, memory.lend()).expect("limits in range");
+    while update(random, &mut store).is_ok() && !random.one_in(8) {}
+    let state = store.state();
+    Scene { state, memory }
+}
+
+/// An update, which may stop at any stage; an error where the store is full.
+fn update(random: &mut Random, store: &mut Lent<'_>) -> Result<(), Error> {
+    let (n, size) = (1 + random.below(4), store.state().size as usize);
+    let ticket = store.begin(n)?;
+    let puts = if random.one_in(6) { n - 1 } else { n };
+    for i in 0..puts {
+        store.put(ticket, i, &random.bytes(size))?;
+    }
+    if puts < n || random.one_in(4) {
+        return Ok(());
+    }
+    let f = random.below(store.state().blob + 1);
+    let nodes = store.write(ticket, PageIndex(f))?.nodes;
+    let woven = if random.one_in(8) {
+        random.below(nodes)
+    } else {
+        nodes
+    };
+    for _ in 0..woven {
+        store.weave(ticket)?;
+    }
+    while !random.one_in(8) && store.publish()?.is_some() {}
+    Ok(())
+}
+
+fn some_store(random: &mut Random) -> Scene {
+    let limits = some_limits(random);
+    valid_scene(random, limits)
+}
+
+/// A valid store with one number changed, in the state, a record or a node; now and then with several.
+pub fn changed_scene(random: &mut Random) -> Scene {
+    let mut scene = some_store(random);
+    change(random, &mut scene);
+    while random.one_in(4) {
+        change(random, &mut scene);
+    }
+    scene
+}
+
+fn change(random: &mut Random, scene: &mut Scene) {
+    let s = &mut scene.state;
+    match random.below(16) {
+        // products with these wrap to what they were
+        0 => s.size = s.size.wrapping_add(1 << 62),
+        1 => s.nodes = s.nodes.wrapping_add(1 << 63),
+        2..=5 => *s = with_one_changed(random, *s),
+        6..=12 => {
+            let record = pick_mut(random, scene.memory.register.lend());
+            *record = with_one_changed(random, *record);
+        }
+        _ => *pick_mut(random, scene.memory.nodes.lend()) = any_node(random),
+    }
+}
+
+fn with_one_changed<T: Numbers>(random: &mut Random, whole: T) -> T {
+    let mut numbers = whole.numbers();
+    let number = pick_mut(random, &mut numbers);
+    *number = match random.below(3) {
+        0 => any_number(random),
+        _ => near(random, *number),
+    };
+    T::of(numbers)
+}
+
+fn pick_mut<'a, T>(random: &mut Random, from: &'a mut [T]) -> &'a mut T {
+    let at = random.below(from.len() as u64);
+    &mut from[at as usize]
+}
+
+/// A valid store with an area cut off, or longer than before. The state says so, or not.
+pub fn cut_scene(random: &mut Random) -> Scene {
+    let mut scene = some_store(random);
+    let (told, area) = (random.one_in(2), random.below(3));
+    let mut length_for = |old: u64| match random.below(4) {
+        0 => old - 1,
+        1 => old + 1,
+        2 => old / 2,
+        _ => random.below(old + 4),
+    };
+    let Scene { state: s, memory } = &mut scene;
+    match area {
+        0 => {
+            let pages = length_for(s.pages);
+            memory.pages.resize((s.size * pages) as usize, 0);
+            s.pages = if told { pages } else { s.pages };
+        }
+        1 => {
+            let nodes = length_for(s.nodes);
+            memory.nodes.resize(2 * nodes as usize, 1);
+            s.nodes = if told { nodes } else { s.nodes };
+        }
+        _ => {
+            let updates = length_for(s.updates);
+            let filling = Record::default();
+            memory.register.resize(updates as usize, filling);
+            s.updates = if told { updates } else { s.updates };
+        }
+    }
+    scene
+}
+
+/// The state and the areas of three valid stores with the same limits, mixed.
+pub fn mixed_scene(random: &mut Random) -> Scene {
+    let limits = some_limits(random);
+    let stores = [(); 3].map(|()| valid_scene(random, limits));
+    let mut some = || &stores[random.below(3) as usize];
+    Scene {
+        state: some().state,
+        memory: Memory {
+            pages: some().memory.pages.clone(),
+            nodes: some().memory.nodes.clone(),
+            register: some().memory.register.clone(),
+        },
+    }
+}
+
+// Calls.
+
+/// An argument: small, or a number of the state or of a record or near it, or any other.
+fn argument(random: &mut Random, scene: &Scene) -> u64 {
+    let register = scene.memory.register.part();
+    let known = match random.below(8) {
+        0..=2 => return random.below(7),
+        3 => return any_number(random),
+        4 if !register.is_empty() => random.pick(register).numbers(),
+        _ => scene.state.numbers(),
+    };
+    let known = random.pick(&known);
+    if random.one_in(2) {
+        known
+    } else {
+        near(random, known)
+    }
+}
+
+/// A version, ticket or count: mostly one that is there.
+fn up_to(random: &mut Random, scene: &Scene, last: u64) -> u64 {
+    if random.one_in(3) {
+        argument(random, scene)
+    } else {
+        1 + random.below(last.clamp(1, 64))
+    }
+}
+
+pub fn call(random: &mut Random, scene: &Scene) -> Call {
+    let s = &scene.state;
+    let (ticket, version) = (
+        up_to(random, scene, s.tickets),
+        up_to(random, scene, s.published),
+    );
+    let other = argument(random, scene);
+    match random.below(24) {
+        0 if random.one_in(4) => Call::Format(limits_of(random, scene)),
+        0 | 1 => Call::Begin(up_to(random, scene, 6)),
+        2..=4 => Call::Put(ticket, other, bytes_length(random, s)),
+        5 | 6 => Call::Write(ticket, other),
+        7 | 8 => Call::Append(ticket),
+        9..=12 => Call::Weave(ticket),
+        13 | 14 => Call::Publish,
+        15..=17 => read(random, scene, version),
+        18 => Call::Size(version),
+        19 => Call::Recent,
+        20 | 21 => Call::Stamp(version, other),
+        _ => Call::View(version, other),
+    }
+}
+
+/// Mostly the limits that the areas have, which FORMAT accepts if it accepts any.
+fn limits_of(random: &mut Random, scene: &Scene) -> Limits {
+    let mut numbers = scene.state.numbers();
+    if random.one_in(2) {
+        numbers[random.below(4) as usize] = argument(random, scene);
+    }
+    Limits {
+        page_size: numbers[0],
+        pages: numbers[1],
+        nodes: numbers[2],
+        updates: numbers[3],
+    }
+}
+
+fn bytes_length(random: &mut Random, s: &State) -> usize {
+    let page = s.size.min(100);
+    let length = match random.below(8) {
+        0 => page + 1,
+        1 => random.below(page + 1),
+        _ => page,
+    };
+    length as usize
+}
+
+/// A range within a page or over some, or any; a buffer that has room for it, or not.
+fn read(random: &mut Random, scene: &Scene, version: u64) -> Call {
+    let size = scene.state.size.clamp(1, 4_096);
+    let (offset, len) = match random.below(4) {
+        0 => (argument(random, scene), argument(random, scene)),
+        1 => (
+            argument(random, scene).wrapping_mul(size),
+            random.below(size + 2),
+        ),
+        _ => (random.below(4 * size), random.below(3 * size)),
+    };
+    let room = if random.one_in(6) {
+        random.below(len.clamp(1, 300))
+    } else {
+        len
+    };
+    Call::Read(version, offset, len, room.min(300) as usize)
+}

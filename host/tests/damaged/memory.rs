@@ -1,0 +1,110 @@
+//! Memory to lend: each area is the middle of a longer run, and what stands around it must stay.
+
+use crate::random::named;
+use pit_host::{LentAreas, Record, State};
+use std::sync::OnceLock;
+
+/// How many elements stand before and after an area, in bytes about 400. With a `PIT_FENCE` of 0 the memory ends where
+/// the area does, for a tool that watches the ends of memory itself.
+fn fence<T>() -> usize {
+    static BYTES: OnceLock<u64> = OnceLock::new();
+    let bytes = *BYTES.get_or_init(|| named("PIT_FENCE", 400));
+    (bytes as usize).div_ceil(size_of::<T>())
+}
+
+/// Elements to lend, with marks before and after them.
+#[derive(Clone, PartialEq)]
+pub struct Fenced<T> {
+    whole: Vec<T>,
+    mark: T,
+}
+
+impl<T: Copy + PartialEq> Fenced<T> {
+    pub fn new(lent: &[T], mark: T) -> Fenced<T> {
+        let mut whole = vec![mark; lent.len() + 2 * fence::<T>()]; // of just this length
+        whole[fence::<T>()..][..lent.len()].copy_from_slice(lent);
+        Fenced { whole, mark }
+    }
+
+    fn end(&self) -> usize {
+        self.whole.len() - fence::<T>()
+    }
+
+    pub fn part(&self) -> &[T] {
+        &self.whole[fence::<T>()..self.end()]
+    }
+
+    pub fn lend(&mut self) -> &mut [T] {
+        let end = self.end();
+        &mut self.whole[fence::<T>()..end]
+    }
+
+    /// What stands before and after what is lent.
+    pub fn fences(&self) -> (&[T], &[T]) {
+        (&self.whole[..fence::<T>()], &self.whole[self.end()..])
+    }
+
+    /// With another length: cut off, or longer by a filling.
+    pub fn resize(&mut self, length: usize, filling: T) {
+        let mut lent = self.part().to_vec();
+        lent.resize(length, filling);
+        *self = Fenced::new(&lent, self.mark);
+    }
+}
+
+/// The areas of a store.
+#[derive(Clone, PartialEq)]
+pub struct Memory {
+    pub pages: Fenced<u8>,
+    pub nodes: Fenced<u32>,
+    pub register: Fenced<Record>,
+}
+
+impl Memory {
+    pub fn new(pages: &[u8], nodes: &[u32], register: &[Record]) -> Memory {
+        let mark = Record::of([0xfe9c_e002; 10]);
+        Memory {
+            pages: Fenced::new(pages, 0xfe),
+            nodes: Fenced::new(nodes, 0xfe9c_e001),
+            register: Fenced::new(register, mark),
+        }
+    }
+
+    pub fn lend(&mut self) -> LentAreas<'_> {
+        LentAreas {
+            pages: self.pages.lend(),
+            nodes: self.nodes.lend(),
+            register: self.register.lend(),
+        }
+    }
+
+    /// What stands around the areas.
+    pub fn fences(&self) -> impl PartialEq + '_ {
+        let (pages, nodes) = (self.pages.fences(), self.nodes.fences());
+        (pages, nodes, self.register.fences())
+    }
+}
+
+/// A struct that is ten numbers, in the order of its fields.
+pub trait Numbers: Copy {
+    fn of(numbers: [u64; 10]) -> Self;
+    fn numbers(self) -> [u64; 10];
+}
+
+macro_rules! ten_numbers {
+    ($kind:ident: $($field:ident),*) => {
+        impl Numbers for $kind {
+            fn of(numbers: [u64; 10]) -> $kind {
+                let [$($field),*] = numbers;
+                $kind { $($field),* }
+            }
+
+            fn numbers(self) -> [u64; 10] {
+                [$(self.$field),*]
+            }
+        }
+    };
+}
+
+ten_numbers!(State: size, pages, nodes, updates, tickets, taken, assigned, places, published, blob);
+ten_numbers!(Record: n, number, put, version, ticket, f, last, size, place, woven);

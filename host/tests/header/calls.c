@@ -1,0 +1,453 @@
+/* Calls each function of pit.h, accepted and refused, and prints every field of every reply, each read by its name, and
+   which areas the call changed. header.rs compares what it prints with answers.txt. */
+#include "pit.h"
+#include "pit.h" /* it may be included twice */
+
+#include <inttypes.h>
+#include <stdio.h>
+#include <stdlib.h>
+#include <string.h>
+
+/* A store with its areas, and copies of them that tell what a call changed. */
+typedef struct host {
+    pit_store s;
+    uint8_t *pages, *old_pages;
+    size_t pages_len;
+    uint32_t *nodes, *old_nodes;
+    size_t nodes_len;
+    pit_record *records, *old_records;
+    size_t records_len;
+} host;
+
+#define AREAS(h) (h)->pages, (h)->pages_len, (h)->nodes, (h)->nodes_len, (h)->records, (h)->records_len
+#define STORE(h) (h)->s, AREAS(h)
+
+/* Memory of just this length, so that a step outside it can be seen from outside. */
+static void *lent(size_t length, int fill)
+{
+    void *memory = malloc(length);
+    if (memory == NULL) {
+        exit(2);
+    }
+    return memset(memory, fill, length);
+}
+
+static host new_host(size_t pages_len, size_t nodes_len, size_t records_len)
+{
+    host h;
+    memset(&h, 0, sizeof h);
+    h.pages_len = pages_len;
+    h.nodes_len = nodes_len;
+    h.records_len = records_len;
+    h.pages = lent(pages_len, 7);
+    h.old_pages = lent(pages_len, 7);
+    h.nodes = lent(nodes_len * sizeof *h.nodes, 7);
+    h.old_nodes = lent(nodes_len * sizeof *h.nodes, 7);
+    h.records = lent(records_len * sizeof *h.records, 7);
+    h.old_records = lent(records_len * sizeof *h.records, 7);
+    return h;
+}
+
+static void free_host(host *h)
+{
+    free(h->pages);
+    free(h->old_pages);
+    free(h->nodes);
+    free(h->old_nodes);
+    free(h->records);
+    free(h->old_records);
+}
+
+/* Compares an area with its copy, and makes the copy anew. */
+static void compare(const char *name, const void *area, void *copy, size_t length)
+{
+    if (memcmp(area, copy, length) != 0) {
+        printf(", %s changed", name);
+        memcpy(copy, area, length);
+    }
+}
+
+static void end_line(host *h)
+{
+    compare("pages", h->pages, h->old_pages, h->pages_len);
+    compare("nodes", h->nodes, h->old_nodes, h->nodes_len * sizeof *h->nodes);
+    compare("records", h->records, h->old_records, h->records_len * sizeof *h->records);
+    printf("\n");
+}
+
+static void show(const char *name, uint64_t value)
+{
+    printf(" %s=%" PRIu64, name, value);
+}
+
+#define SHOW(whole, field) show(#field, (whole).field)
+
+static void show_store(pit_store s)
+{
+    SHOW(s, size);
+    SHOW(s, pages);
+    SHOW(s, nodes);
+    SHOW(s, updates);
+    SHOW(s, tickets);
+    SHOW(s, taken);
+    SHOW(s, assigned);
+    SHOW(s, places);
+    SHOW(s, published);
+    SHOW(s, blob);
+}
+
+static void show_record(const host *h, size_t index)
+{
+    pit_record r = h->records[index];
+    printf("record %zu:", index);
+    SHOW(r, n);
+    SHOW(r, number);
+    SHOW(r, put);
+    SHOW(r, version);
+    SHOW(r, ticket);
+    SHOW(r, f);
+    SHOW(r, last);
+    SHOW(r, size);
+    SHOW(r, place);
+    SHOW(r, woven);
+    printf("\n");
+}
+
+/* Each call: its arguments, then the reply; where the reply has a store, that one goes on. */
+
+static void format(host *h, uint64_t size, uint64_t pages, uint64_t nodes, uint64_t updates)
+{
+    pit_format_reply reply = pit_format(size, pages, nodes, updates, AREAS(h));
+    printf("FORMAT %" PRIu64 " %" PRIu64 " %" PRIu64 " %" PRIu64 ":", size, pages, nodes, updates);
+    SHOW(reply, refusal);
+    show_store(reply.store);
+    if (reply.refusal == 0) {
+        h->s = reply.store;
+    }
+    end_line(h);
+}
+
+static void begin(host *h, uint64_t n)
+{
+    pit_begin_reply reply = pit_begin(STORE(h), n);
+    printf("BEGIN %" PRIu64 ":", n);
+    SHOW(reply, refusal);
+    SHOW(reply, ticket);
+    show_store(reply.store);
+    h->s = reply.store;
+    end_line(h);
+}
+
+static void put(host *h, uint64_t ticket, uint64_t i, int fill, size_t length)
+{
+    uint8_t *bytes = lent(length, fill);
+    uint64_t refusal = pit_put(STORE(h), ticket, i, bytes, length);
+    printf("PUT %" PRIu64 " %" PRIu64 ", %zu times %02x:", ticket, i, length, (unsigned)fill);
+    show("refusal", refusal);
+    end_line(h);
+    free(bytes);
+}
+
+static void assigned(host *h, pit_assign_reply reply)
+{
+    SHOW(reply, refusal);
+    SHOW(reply, version);
+    SHOW(reply, nodes);
+    show_store(reply.store);
+    h->s = reply.store;
+    end_line(h);
+}
+
+static void write_at(host *h, uint64_t ticket, uint64_t f)
+{
+    printf("WRITE %" PRIu64 " %" PRIu64 ":", ticket, f);
+    assigned(h, pit_write(STORE(h), ticket, f));
+}
+
+static void append(host *h, uint64_t ticket)
+{
+    printf("APPEND %" PRIu64 ":", ticket);
+    assigned(h, pit_append(STORE(h), ticket));
+}
+
+static void weave(host *h, uint64_t ticket)
+{
+    pit_weave_reply reply = pit_weave(STORE(h), ticket);
+    printf("WEAVE %" PRIu64 ":", ticket);
+    SHOW(reply, refusal);
+    SHOW(reply, version);
+    SHOW(reply, first);
+    SHOW(reply, span);
+    SHOW(reply, left);
+    SHOW(reply, right);
+    SHOW(reply, rest);
+    end_line(h);
+}
+
+static void publish(host *h)
+{
+    pit_publish_reply reply = pit_publish(STORE(h));
+    printf("PUBLISH:");
+    SHOW(reply, refusal);
+    SHOW(reply, version);
+    show_store(reply.store);
+    h->s = reply.store;
+    end_line(h);
+}
+
+/* Reads into a buffer of ee, and shows all of it. */
+static void read_range(host *h, uint64_t version, uint64_t offset, uint64_t len, size_t room)
+{
+    uint8_t *buffer = lent(room, 0xee);
+    uint64_t refusal = pit_read(STORE(h), version, offset, len, buffer, room);
+    size_t i;
+    printf("READ %" PRIu64 " %" PRIu64 " %" PRIu64 ":", version, offset, len);
+    show("refusal", refusal);
+    printf(" buffer=");
+    for (i = 0; i < room; i++) {
+        printf("%02x", buffer[i]);
+    }
+    end_line(h);
+    free(buffer);
+}
+
+static void size(host *h, uint64_t version)
+{
+    pit_size_reply reply = pit_size(STORE(h), version);
+    printf("SIZE %" PRIu64 ":", version);
+    SHOW(reply, refusal);
+    SHOW(reply, bytes);
+    end_line(h);
+}
+
+static void recent(host *h)
+{
+    pit_version_reply reply = pit_recent(STORE(h));
+    printf("RECENT:");
+    SHOW(reply, refusal);
+    SHOW(reply, version);
+    end_line(h);
+}
+
+static void stamp(host *h, uint64_t version, uint64_t page)
+{
+    pit_version_reply reply = pit_stamp(STORE(h), version, page);
+    printf("STAMP %" PRIu64 " %" PRIu64 ":", version, page);
+    SHOW(reply, refusal);
+    SHOW(reply, version);
+    end_line(h);
+}
+
+static void view(host *h, uint64_t version, uint64_t page)
+{
+    pit_view_reply reply = pit_view(STORE(h), version, page);
+    printf("VIEW %" PRIu64 " %" PRIu64 ":", version, page);
+    SHOW(reply, refusal);
+    SHOW(reply, begin);
+    SHOW(reply, length);
+    if (reply.length > 0) {
+        printf(" from %02x to %02x", h->pages[reply.begin], h->pages[reply.begin + reply.length - 1]);
+    }
+    end_line(h);
+}
+
+/* The fields of each struct: how long, and where. */
+#define AT(type, field) printf(" %s %zu", #field, offsetof(type, field))
+
+static void layout_of_stores(void)
+{
+    printf("pit_store, %zu bytes:", sizeof(pit_store));
+    AT(pit_store, size);
+    AT(pit_store, pages);
+    AT(pit_store, nodes);
+    AT(pit_store, updates);
+    AT(pit_store, tickets);
+    AT(pit_store, taken);
+    AT(pit_store, assigned);
+    AT(pit_store, places);
+    AT(pit_store, published);
+    AT(pit_store, blob);
+    printf("\npit_record, %zu bytes:", sizeof(pit_record));
+    AT(pit_record, n);
+    AT(pit_record, number);
+    AT(pit_record, put);
+    AT(pit_record, version);
+    AT(pit_record, ticket);
+    AT(pit_record, f);
+    AT(pit_record, last);
+    AT(pit_record, size);
+    AT(pit_record, place);
+    AT(pit_record, woven);
+    printf("\n");
+}
+
+static void layout_of_replies(void)
+{
+    printf("pit_format_reply, %zu bytes:", sizeof(pit_format_reply));
+    AT(pit_format_reply, refusal);
+    AT(pit_format_reply, store);
+    printf("\npit_begin_reply, %zu bytes:", sizeof(pit_begin_reply));
+    AT(pit_begin_reply, refusal);
+    AT(pit_begin_reply, store);
+    AT(pit_begin_reply, ticket);
+    printf("\npit_assign_reply, %zu bytes:", sizeof(pit_assign_reply));
+    AT(pit_assign_reply, refusal);
+    AT(pit_assign_reply, store);
+    AT(pit_assign_reply, version);
+    AT(pit_assign_reply, nodes);
+    printf("\npit_weave_reply, %zu bytes:", sizeof(pit_weave_reply));
+    AT(pit_weave_reply, refusal);
+    AT(pit_weave_reply, version);
+    AT(pit_weave_reply, first);
+    AT(pit_weave_reply, span);
+    AT(pit_weave_reply, left);
+    AT(pit_weave_reply, right);
+    AT(pit_weave_reply, rest);
+    printf("\npit_publish_reply, %zu bytes:", sizeof(pit_publish_reply));
+    AT(pit_publish_reply, refusal);
+    AT(pit_publish_reply, store);
+    AT(pit_publish_reply, version);
+    printf("\n");
+}
+
+static void layout_of_readers_replies(void)
+{
+    printf("pit_size_reply, %zu bytes:", sizeof(pit_size_reply));
+    AT(pit_size_reply, refusal);
+    AT(pit_size_reply, bytes);
+    printf("\npit_version_reply, %zu bytes:", sizeof(pit_version_reply));
+    AT(pit_version_reply, refusal);
+    AT(pit_version_reply, version);
+    printf("\npit_view_reply, %zu bytes:", sizeof(pit_view_reply));
+    AT(pit_view_reply, refusal);
+    AT(pit_view_reply, begin);
+    AT(pit_view_reply, length);
+    printf("\n");
+}
+
+/* Document 01's example, with refused calls between its steps. */
+static void example(void)
+{
+    host h = new_host(64, 16, 2);
+    format(&h, 24, 4, 8, 2);
+    format(&h, 16, 4, 0, 2);
+    format(&h, 16, 4, 8, 3);
+    format(&h, 16, 4, 8, 2);
+    begin(&h, 65);
+    begin(&h, 1);
+    begin(&h, 1);
+    put(&h, 2, 0, 0x22, 16);
+    put(&h, 1, 0, 0x11, 15);
+    append(&h, 1);
+    put(&h, 1, 0, 0x11, 16);
+    put(&h, 1, 0, 0x33, 16);
+    append(&h, 2);
+    append(&h, 1);
+    weave(&h, 1);
+    publish(&h);
+    weave(&h, 2);
+    publish(&h);
+    read_range(&h, 2, 0, 0, 2);
+    weave(&h, 1);
+    weave(&h, 1);
+    publish(&h);
+    read_range(&h, 2, 14, 4, 6);
+    stamp(&h, 2, 0);
+    stamp(&h, 2, 2);
+    view(&h, 2, 1);
+    begin(&h, 1);
+    recent(&h);
+    free_host(&h);
+}
+
+/* An update of n pages: its ticket, which is to be the next, and every page put, the last one first. */
+static void update(host *h, uint64_t ticket, uint64_t n)
+{
+    uint64_t i;
+    begin(h, n);
+    for (i = n; i > 0; i--) {
+        put(h, ticket, i - 1, (int)(16 * ticket + i - 1), 32);
+    }
+}
+
+static void weave_all(host *h, uint64_t ticket, int nodes)
+{
+    int i;
+    for (i = 0; i < nodes; i++) {
+        weave(h, ticket);
+    }
+}
+
+/* The areas are one element longer or shorter than the store's; then one node is missing. */
+static void damaged(host *h)
+{
+    h->records_len -= 1;
+    recent(h);
+    size(h, 1);
+    publish(h);
+    weave(h, 4);
+    h->records_len += 1;
+    h->s.nodes += 1;
+    begin(h, 1);
+    write_at(h, 2, 0);
+    h->s.nodes -= 1;
+    h->s.pages -= 1;
+    put(h, 2, 0, 0, 32);
+    h->s.pages += 1;
+    h->nodes[2 * 27] = h->nodes[2 * 27 + 1] = UINT32_MAX; /* version 2's leaf of page 11 */
+    printf("a node lost");
+    end_line(h);
+    stamp(h, 3, 11);
+    view(h, 3, 11);
+    read_range(h, 3, 350, 4, 4);
+    read_range(h, 3, 348, 4, 4);
+}
+
+/* A store in which no two numbers of the store are the same, nor of record 2. */
+static void all_different(void)
+{
+    host h = new_host(32 * 40, 2 * 64, 6);
+    format(&h, 32, 40, 64, 6);
+    update(&h, 1, 9);
+    begin(&h, 4);
+    update(&h, 3, 3);
+    update(&h, 4, 6);
+    append(&h, 1);
+    append(&h, 3);
+    write_at(&h, 4, 13);
+    write_at(&h, 4, 5);
+    weave_all(&h, 1, 20);
+    publish(&h);
+    weave_all(&h, 4, 1);
+    show_record(&h, 0);
+    show_record(&h, 1);
+    show_record(&h, 2);
+    show_record(&h, 3);
+    weave_all(&h, 4, 14);
+    weave_all(&h, 3, 8);
+    publish(&h);
+    publish(&h);
+    publish(&h);
+    size(&h, 3);
+    size(&h, 4);
+    stamp(&h, 3, 11);
+    view(&h, 3, 11);
+    view(&h, 3, 12);
+    read_range(&h, 3, 350, 4, 6);
+    read_range(&h, 3, 350, 35, 6);
+    read_range(&h, 3, 350, 7, 6);
+    damaged(&h);
+    free_host(&h);
+}
+
+int main(void)
+{
+    layout_of_stores();
+    layout_of_replies();
+    layout_of_readers_replies();
+    example();
+    all_different();
+    printf("root span of 5 and 4097: %" PRIu64 " %" PRIu64 "\n", pit_root_span(5), pit_root_span(4097));
+    printf("nodes of 31 2 64 and 31 2 32: %" PRIu64 " %" PRIu64 "\n", pit_node_count(31, 2, 64), pit_node_count(31, 2, 32));
+    return 0;
+}

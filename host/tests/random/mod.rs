@@ -1,0 +1,57 @@
+//! Seeded random numbers, for the tests that draw what they do.
+#![allow(dead_code)] // each test program uses some of it
+
+use std::io::Write;
+
+/// A 64-bit xorshift generator.
+pub struct Random(u64);
+
+impl Random {
+    /// The generator of a seed. The seed is mixed first, so that neighbours have nothing in common.
+    pub fn new(seed: u64) -> Random {
+        let mixed = seed.wrapping_add(1).wrapping_mul(0x9e37_79b9_7f4a_7c15);
+        let mut random = Random((mixed ^ (mixed >> 29)).max(1));
+        for _ in 0..4 {
+            random.next();
+        }
+        random
+    }
+
+    pub fn next(&mut self) -> u64 {
+        self.0 ^= self.0 << 13;
+        self.0 ^= self.0 >> 7;
+        self.0 ^= self.0 << 17;
+        self.0
+    }
+
+    pub fn below(&mut self, end: u64) -> u64 {
+        (self.next() >> 16) % end
+    }
+
+    pub fn one_in(&mut self, times: u64) -> bool {
+        self.below(times) == 0
+    }
+
+    pub fn pick<T: Copy>(&mut self, from: &[T]) -> T {
+        from[self.below(from.len() as u64) as usize]
+    }
+
+    pub fn bytes(&mut self, length: usize) -> Vec<u8> {
+        (0..length).map(|_| self.next() as u8).collect()
+    }
+}
+
+/// The number that a variable of the environment names, else the usual one.
+pub fn named(variable: &str, usual: u64) -> u64 {
+    std::env::var(variable).map_or(usual, |named| {
+        let number = named.parse();
+        number.unwrap_or_else(|_| panic!("{variable} is a decimal number, not {named}"))
+    })
+}
+
+/// The first seed, shown even when the test passes.
+pub fn first_seed(test: &str) -> u64 {
+    let seed = named("PIT_SEED", 20_260_401);
+    let _ = writeln!(std::io::stderr(), "{test}: PIT_SEED={seed}");
+    seed
+}

@@ -1,0 +1,223 @@
+//! Writers, each on its own tickets. What one has done stands in a log that outlives it.
+
+use crate::random::Random;
+use crate::PAGE_SIZE;
+use pit_host::{Assigned, Error, Node, PageIndex, Shared, Ticket, Version};
+use std::sync::{Mutex, MutexGuard};
+use std::thread;
+
+/// An update as far as it came. A write has its first page, an append has none.
+pub struct Update {
+    pub ticket: Ticket,
+    pub pages: Vec<Option<Vec<u8>>>,
+    pub assigned: Option<(Assigned, Option<PageIndex>)>,
+    pub woven: Vec<Node>,
+}
+
+impl Update {
+    /// How many nodes are still to be woven.
+    pub fn rest(&self) -> u64 {
+        let nodes = self.assigned.map_or(0, |(assigned, _)| assigned.nodes);
+        nodes - self.woven.len() as u64
+    }
+}
+
+/// A writer's updates, and the versions that it has published.
+#[derive(Default)]
+pub struct Log {
+    pub updates: Vec<Update>,
+    pub published: Vec<Version>,
+}
+
+/// Where in an update a writer dies.
+#[derive(Clone, Copy, Debug, PartialEq)]
+pub enum Stage {
+    Begun,
+    HalfPut,
+    AllPut,
+    Assigned,
+    HalfWoven,
+    AllWoven,
+}
+
+/// A writer's death: in which of its updates, where in it, and how.
+#[derive(Clone, Copy, Debug)]
+pub struct Death {
+    update: u64,
+    stage: Stage,
+    pub by_panic: bool,
+}
+
+/// Deaths at every stage, in earlier and later updates.
+pub fn deaths(random: &mut Random, count: usize, updates: u64) -> Vec<Death> {
+    use Stage::*;
+    let stages = [
+        Begun, HalfWoven, HalfPut, Assigned, AllPut, HalfWoven, AllWoven,
+    ];
+    let stages = stages.into_iter().cycle().take(count);
+    let deaths = stages.enumerate().map(|(at, stage)| Death {
+        update: at as u64 * updates / count as u64,
+        stage,
+        by_panic: random.one_in(2),
+    });
+    deaths.collect()
+}
+
+/// What a writer's steps give when it dies.
+struct Died;
+
+pub struct Writer<'a> {
+    shared: &'a Shared,
+    log: &'a Mutex<Log>,
+    random: Random,
+    /// Where the update in work ends, if the writer is to die in it.
+    end: Option<Stage>,
+}
+
+impl<'a> Writer<'a> {
+    pub fn new(shared: &'a Shared, log: &'a Mutex<Log>, random: Random) -> Writer<'a> {
+        Writer {
+            shared,
+            log,
+            random,
+            end: None,
+        }
+    }
+
+    /// Makes so many updates of up to so many pages, or dies before.
+    pub fn work(mut self, updates: u64, most: u64, death: Option<Death>) {
+        for at in 0..updates {
+            let death = death.filter(|death| death.update == at);
+            self.end = death.map(|death| death.stage);
+            let n = 1 + self.random.below(most);
+            match (self.update(n), death) {
+                (Err(Died), Some(death)) if death.by_panic => {
+                    std::panic::resume_unwind(Box::new("a planned death")) // in silence
+                }
+                (Err(Died), _) => return,
+                _ => (),
+            }
+        }
+    }
+
+    /// An update of n pages, by a writer that does not die.
+    pub fn first_update(&mut self, n: u64) {
+        assert!(self.update(n).is_ok());
+    }
+
+    /// An update of n pages, from its ticket to its publication.
+    fn update(&mut self, n: u64) -> Result<(), Died> {
+        let ticket = self.shared.begin(n).expect("room for all updates");
+        self.log().updates.push(Update {
+            ticket,
+            pages: vec![None; n as usize],
+            assigned: None,
+            woven: vec![],
+        });
+        self.reach(Stage::Begun)?;
+        self.put_all(ticket, n)?;
+        self.reach(Stage::AllPut)?;
+        self.assign(ticket);
+        self.reach(Stage::Assigned)?;
+        self.weave_all(ticket)?;
+        self.reach(Stage::AllWoven)?;
+        self.publish();
+        Ok(())
+    }
+
+    /// Weaves what is left of the log's last update, if anything is, and publishes.
+    pub fn finish(&mut self) -> bool {
+        let left = self.log().updates.last().map(|u| (u.ticket, u.rest()));
+        let Some((ticket, 1..)) = left else {
+            return false;
+        };
+        let _ = self.weave_all(ticket);
+        self.publish();
+        true
+    }
+
+    fn log(&self) -> MutexGuard<'a, Log> {
+        self.log.lock().expect("no panic while it was held")
+    }
+
+    fn last(&self, change: impl FnOnce(&mut Update)) {
+        change(self.log().updates.last_mut().expect("an update in work"));
+    }
+
+    /// Lets others go on, for a while.
+    fn pause(&mut self) {
+        for _ in 0..self.random.below(3) {
+            thread::yield_now();
+        }
+    }
+
+    /// The same; then dies, if that is planned here.
+    fn reach(&mut self, stage: Stage) -> Result<(), Died> {
+        self.pause();
+        if self.end == Some(stage) {
+            Err(Died)
+        } else {
+            Ok(())
+        }
+    }
+
+    fn put_all(&mut self, ticket: Ticket, n: u64) -> Result<(), Died> {
+        let turn = self.random.below(n);
+        for at in 0..n {
+            let i = (at + turn) % n;
+            let bytes = self.random.bytes(PAGE_SIZE as usize);
+            let (done, again) = (self.shared.put(ticket, i, &bytes), self.random.one_in(8));
+            assert_eq!(done, Ok(()), "{ticket}");
+            self.last(|update| update.pages[i as usize] = Some(bytes.clone()));
+            if again {
+                let done = self.shared.put(ticket, i, &bytes);
+                assert_eq!(done, Err(Error::AlreadyPut), "{ticket}");
+            }
+            if at == n / 2 {
+                self.reach(Stage::HalfPut)?;
+            }
+            self.pause();
+        }
+        Ok(())
+    }
+
+    /// A write within what is published, or right after it; or an append.
+    fn assign(&mut self, ticket: Ticket) {
+        let recent = self.shared.recent().expect("a store");
+        let size = self.shared.size(recent).expect("a published version");
+        let first = match self.random.below(8) {
+            0 => None,
+            _ => Some(PageIndex(self.random.below(size / PAGE_SIZE + 1))),
+        };
+        let assigned = match first {
+            Some(first) => self.shared.write(ticket, first),
+            None => self.shared.append(ticket),
+        };
+        let assigned = assigned.expect("room for all versions");
+        self.last(|update| update.assigned = Some((assigned, first)));
+    }
+
+    fn weave_all(&mut self, ticket: Ticket) -> Result<(), Died> {
+        let mut rest = self.log().updates.last().map_or(0, Update::rest);
+        let half = rest / 2;
+        while rest > 0 {
+            let node = self.shared.weave(ticket).expect("a node is left");
+            self.last(|update| update.woven.push(node));
+            rest -= 1;
+            if rest == half {
+                self.reach(Stage::HalfWoven)?;
+            }
+            self.pause();
+        }
+        let more = self.shared.weave(ticket);
+        assert_eq!(more, Err(Error::OutOfTurn), "{ticket}");
+        Ok(())
+    }
+
+    /// Publishes all that is due.
+    pub fn publish(&mut self) {
+        while let Some(version) = self.shared.publish().expect("a store") {
+            self.log().published.push(version);
+        }
+    }
+}

@@ -1,0 +1,244 @@
+/* The pit model store for C: one blob of pages, kept in versions that share what they have in common.
+
+   The functions are proved, and linked as static libraries: -lexports -ltree, for x86-64 Linux.
+
+   The host keeps a store, which is a struct of numbers, and lends it three areas:
+
+     pages      size x pages bytes
+     nodes      two numbers a node
+     records    the register of updates, a record an update
+
+   A call takes the store by value and each area as a pointer and its length in elements. Where the reply has a store,
+   the next call takes that one. What the host owes:
+
+     - No pointer is null, also where the length is 0, and as many elements are there as the length says.
+     - The areas of one call, the bytes to put and the buffer never overlap.
+     - The areas are those of the store, just as the last call left them, and nobody else writes them. A call with a
+       const area only reads it. Calls that only read may run beside each other; one that writes runs alone.
+
+   Over a store and areas that do not belong together, whatever they hold, a call ends, stays in bounds and refuses by
+   the table; what it answers then means nothing.
+
+   A refused call changes nothing: it gives the number of the first row of its place that applies, and the rest of the
+   reply is 0, with the store as it was (FORMAT: a store of zeros). 0 is no refusal.
+
+      1  FORMAT: the page size is not a power of two from 16 to 4,096
+      2  FORMAT: pages not 1 to 65,535, nodes not 1 to 131,072 or updates not 1 to 4,096
+      3  every call, first (FORMAT: last): an area's length differs
+      4  BEGIN: n is 0 or above 64
+      5  BEGIN: no record is unused
+      6  BEGIN: fewer than n page numbers are unused
+      7  PUT, ASSIGN, WEAVE: no such ticket
+      8  PUT or ASSIGN after ASSIGN; WEAVE before it, or with no node left
+      9  PUT: i is not below n
+     10  PUT: page i is already put
+     11  PUT: the bytes are not one page long
+     12  ASSIGN: a page is not yet put
+     13  ASSIGN as a write: f is above the size of the last assigned version
+     14  ASSIGN: f + n is above 4,096
+     15  ASSIGN: too few node places are unused
+     16  READ, SIZE, STAMP, VIEW: the version is not published; 0, which is empty, always is
+     17  READ, STAMP, VIEW: the range or page is not inside the version
+     18  READ: the buffer is shorter than the length
+     19  every call but FORMAT, last: the areas are none that the store's calls left */
+#ifndef PIT_H
+#define PIT_H
+
+#include <stddef.h>
+#include <stdint.h>
+
+#ifdef __cplusplus
+extern "C" {
+#endif
+
+/* A store: what the calls carry from one to the next. */
+typedef struct pit_store {
+    uint64_t size;      /* the page size in bytes */
+    uint64_t pages;     /* how many pages the page area holds */
+    uint64_t nodes;     /* how many nodes the node area holds */
+    uint64_t updates;   /* how many updates the register holds */
+    uint64_t tickets;   /* the last ticket given */
+    uint64_t taken;     /* how many page numbers are taken */
+    uint64_t assigned;  /* the last version assigned */
+    uint64_t places;    /* how many node places are taken */
+    uint64_t published; /* the last version published */
+    uint64_t blob;      /* the size in pages of the last version assigned */
+} pit_store;
+
+/* A record of the register: the k-th holds the k-th ticket's part, then the k-th version's part. */
+typedef struct pit_record {
+    uint64_t n;       /* the ticket's pages */
+    uint64_t number;  /* its first page number */
+    uint64_t put;     /* which of its pages are put: bit i for page i */
+    uint64_t version; /* its version; 0 before it has one */
+    uint64_t ticket;  /* the version's ticket */
+    uint64_t f;       /* the first page of its update */
+    uint64_t last;    /* the last page of its update */
+    uint64_t size;    /* the blob's size in pages after it */
+    uint64_t place;   /* its first node place */
+    uint64_t woven;   /* how many of its nodes are woven */
+} pit_record;
+
+typedef struct pit_format_reply {
+    uint64_t refusal;
+    pit_store store;
+} pit_format_reply;
+
+typedef struct pit_begin_reply {
+    uint64_t refusal;
+    pit_store store;
+    uint64_t ticket;
+} pit_begin_reply;
+
+typedef struct pit_assign_reply {
+    uint64_t refusal;
+    pit_store store;
+    uint64_t version;
+    uint64_t nodes; /* how many nodes are to be woven for it */
+} pit_assign_reply;
+
+typedef struct pit_weave_reply {
+    uint64_t refusal;
+    uint64_t version; /* the node's name: its version, */
+    uint64_t first;   /* the first page of its range */
+    uint64_t span;    /* and how many pages that has; 1 is a leaf */
+    uint64_t left;    /* the left child's version, 0 where no page is there; of a leaf, the page number */
+    uint64_t right;   /* the right child's version, 0 where no page is there; of a leaf, 0 */
+    uint64_t rest;    /* how many nodes of the version are left to weave */
+} pit_weave_reply;
+
+typedef struct pit_publish_reply {
+    uint64_t refusal;
+    pit_store store;
+    uint64_t version; /* 0 with no refusal: waiting, the next version is not due */
+} pit_publish_reply;
+
+typedef struct pit_size_reply {
+    uint64_t refusal;
+    uint64_t bytes;
+} pit_size_reply;
+
+/* What RECENT and STAMP reply. */
+typedef struct pit_version_reply {
+    uint64_t refusal;
+    uint64_t version;
+} pit_version_reply;
+
+typedef struct pit_view_reply {
+    uint64_t refusal;
+    uint64_t begin;  /* the byte of the page area where the page begins */
+    uint64_t length; /* the page size; 0 where the call is refused */
+} pit_view_reply;
+
+/* FORMAT: a new store with these limits, whatever stood in the areas: pages are filled with 0, nodes with all ones,
+   the register with records of zeros. Refused, it leaves the areas: 1, 2, 3. */
+pit_format_reply pit_format(
+    uint64_t size, uint64_t page_count, uint64_t node_count, uint64_t updates,
+    uint8_t *pages, size_t pages_len,
+    uint32_t *nodes, size_t nodes_len,
+    pit_record *records, size_t records_len);
+
+/* BEGIN: the next ticket, for an update of n pages, with the next n page numbers. Refused: 3, 4, 5, 6. */
+pit_begin_reply pit_begin(
+    pit_store s,
+    const uint8_t *pages, size_t pages_len,
+    const uint32_t *nodes, size_t nodes_len,
+    pit_record *records, size_t records_len,
+    uint64_t n);
+
+/* PUT: the bytes of page i of the update, from 0 on, in any order, each page once. The store stays as it is. Gives the
+   refusal, or 0: 3, 7, 8, 9, 10, 11, 19. */
+uint64_t pit_put(
+    pit_store s,
+    uint8_t *pages, size_t pages_len,
+    const uint32_t *nodes, size_t nodes_len,
+    pit_record *records, size_t records_len,
+    uint64_t ticket, uint64_t i,
+    const uint8_t *bytes, size_t bytes_len);
+
+/* ASSIGN as a write: the next version, in which the update's pages stand from page f on. Refused: 3, 7, 8, 12, 13, 14,
+   15, 19. */
+pit_assign_reply pit_write(
+    pit_store s,
+    const uint8_t *pages, size_t pages_len,
+    const uint32_t *nodes, size_t nodes_len,
+    pit_record *records, size_t records_len,
+    uint64_t ticket, uint64_t f);
+
+/* ASSIGN as an append: the same, with f the size of the last assigned version. Refused: 3, 7, 8, 12, 14, 15, 19. */
+pit_assign_reply pit_append(
+    pit_store s,
+    const uint8_t *pages, size_t pages_len,
+    const uint32_t *nodes, size_t nodes_len,
+    pit_record *records, size_t records_len,
+    uint64_t ticket);
+
+/* WEAVE: stores the next node of the ticket's version. The store stays as it is. Refused: 3, 7, 8, 19. */
+pit_weave_reply pit_weave(
+    pit_store s,
+    const uint8_t *pages, size_t pages_len,
+    uint32_t *nodes, size_t nodes_len,
+    pit_record *records, size_t records_len,
+    uint64_t ticket);
+
+/* PUBLISH: the version after the last published one, if all its nodes are woven. Refused: 3, 19. */
+pit_publish_reply pit_publish(
+    pit_store s,
+    const uint8_t *pages, size_t pages_len,
+    const uint32_t *nodes, size_t nodes_len,
+    const pit_record *records, size_t records_len);
+
+/* READ: fills the front of the buffer with len bytes of the version, from byte offset on; the rest of it stays, and
+   where it is refused all of it. Gives the refusal, or 0: 3, 16, 17, 18, 19. */
+uint64_t pit_read(
+    pit_store s,
+    const uint8_t *pages, size_t pages_len,
+    const uint32_t *nodes, size_t nodes_len,
+    const pit_record *records, size_t records_len,
+    uint64_t version, uint64_t offset, uint64_t len,
+    uint8_t *buffer, size_t buffer_len);
+
+/* SIZE: the bytes of the version. Refused: 3, 16, 19. */
+pit_size_reply pit_size(
+    pit_store s,
+    const uint8_t *pages, size_t pages_len,
+    const uint32_t *nodes, size_t nodes_len,
+    const pit_record *records, size_t records_len,
+    uint64_t version);
+
+/* RECENT: the last published version; 0 before the first. Refused: 3. */
+pit_version_reply pit_recent(
+    pit_store s,
+    const uint8_t *pages, size_t pages_len,
+    const uint32_t *nodes, size_t nodes_len,
+    const pit_record *records, size_t records_len);
+
+/* STAMP: the newest version, up to this one, whose update covers the page. Refused: 3, 16, 17, 19. */
+pit_version_reply pit_stamp(
+    pit_store s,
+    const uint8_t *pages, size_t pages_len,
+    const uint32_t *nodes, size_t nodes_len,
+    const pit_record *records, size_t records_len,
+    uint64_t version, uint64_t page);
+
+/* VIEW: where in the page area the version's page lies. Refused: 3, 16, 17, 19. */
+pit_view_reply pit_view(
+    pit_store s,
+    const uint8_t *pages, size_t pages_len,
+    const uint32_t *nodes, size_t nodes_len,
+    const pit_record *records, size_t records_len,
+    uint64_t version, uint64_t page);
+
+/* The span of the root of a blob of size pages: the smallest power of two not below it. 0 where size is 0 or above
+   4,096. */
+uint64_t pit_root_span(uint64_t size);
+
+/* How many nodes an update of n pages from page f on makes, where the blob has size pages after it. 0 where n is 0 or
+   above 64, size is 0 or above 4,096, or f + n is above size. */
+uint64_t pit_node_count(uint64_t f, uint64_t n, uint64_t size);
+
+#ifdef __cplusplus
+}
+#endif
+
+#endif
