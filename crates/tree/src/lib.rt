@@ -6,7 +6,7 @@ ghost use lib.ListN.{length, getD};
 ghost use Rattle.tree.specs.Tree.{rootHeight, meets, nth};
 ghost use Rattle.tree.specs.Place.{below};
 ghost use Rattle.tree.specs.NodeArea.{nodeAt, withNode};
-ghost use Rattle.tree.specs.Register.{noRecord, limited, updateOf, extentOf, withRecord, newestIn};
+ghost use Rattle.tree.specs.Register.{noRecord, inLimits, limited, updateOf, extentOf, withRecord, newestIn};
 ghost use Rattle.tree.specs.Contract.{rootSpan, nodesFor, Pages, Counted, Indexed, Part, Spans, Kth};
 
 // A version, a page's index in the blob and a ticket are counters of different sorts, and each has a type of its own.
@@ -237,8 +237,21 @@ pub fn store_node(nodes: &mut [u32], place: u64, left: u32, right: u32)
     nodes[2 * q + 1] = right;
 }
 
-// Pages and a size brought within the limits: f <= last < size <= 4,096.
-pub fn within_limits(f: PageIndex, last: PageIndex, size: u64) -> Extent
+// Whether pages and a size are within the limits: f <= last < size <= 4,096.
+fn in_limits(f: PageIndex, last: PageIndex, size: u64) -> bool
+    ensures { λ r. ⌜ r ≡ inLimits (f .0) (last .0) size ⌝ }
+{
+    if last.0 < f.0 {
+        return false;
+    }
+    if size <= last.0 {
+        return false;
+    }
+    size <= MOST_PAGES
+}
+
+// Pages and a size brought within the limits.
+fn brought_within(f: PageIndex, last: PageIndex, size: u64) -> Extent
     ensures { λ e. ⌜ e ≡ extentOf (limited (f .0) (last .0) size) ⌝ }
 {
     let from = smaller(f.0, LAST_PAGE);
@@ -249,6 +262,16 @@ pub fn within_limits(f: PageIndex, last: PageIndex, size: u64) -> Extent
         last: PageIndex(to),
         size: pages,
     }
+}
+
+// The same. What the calls accepted is within the limits, and is handed on as it is: that is one branch foreseen, where bounds are a chain of steps.
+pub fn within_limits(f: PageIndex, last: PageIndex, size: u64) -> Extent
+    ensures { λ e. ⌜ e ≡ extentOf (limited (f .0) (last .0) size) ⌝ }
+{
+    if in_limits(f, last, size) {
+        return Extent { f, last, size };
+    }
+    brought_within(f, last, size)
 }
 
 // What a record says of an update.
