@@ -81,12 +81,12 @@ fn span_of(height: u64) -> u64
     1u64 << height
 }
 
-// The height of a span, which is a power of two: the number below it has as many one bits.
+// The height of a span, which is a power of two: the length in bits of the number below it.
 pub fn height_of(span: u64) -> u64
     requires { ⌜ 0 < span ⌝ }
     ensures { λ r. ⌜ ((h : ℕ) → span ≡ 2 ^ h → r ≡ h) ⌝ }
 {
-    u64::count_ones(span - 1) as u64
+    64 - u64::leading_zeros(span - 1) as u64
 }
 
 // The height of the root for a size in pages: the length in bits of the last page's number.
