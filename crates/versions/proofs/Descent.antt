@@ -6,7 +6,7 @@ use mathlib.Core.Bool.{Bool, true, false, and-false}
 use mathlib.Core.Option.{Option, none, some}
 use mathlib.Core.List.{List, []}
 use Prim.Native.Nat.{ℕ, zero, suc, _+_, _-_, _*_, _/_, _%_, _^_, _≤_, _<_, min}
-use native.Mathlib.Nat.{div-add-mod', min-eq-left, min-eq-right}
+use native.Mathlib.Nat.{div-add-mod', div-mul-le-self, mod-eq-of-lt, min-eq-left, min-eq-right}
 use native.Mathlib.Omega.{arith}
 use borrow.Author.Tests.{lt-ltb, le-ltb, le-leb, lt-leb}
 use lib.Dec.{ltb}
@@ -26,7 +26,7 @@ use Rattle.tree.specs.declared.NodeAt.the-variants.{Stored, Missing}
 use Rattle.tree.proofs.Area.{placed-out}
 use Rattle.tree.proofs.Meets.{lt-or-le}
 use Rattle.tree.proofs.Records.{updateOf-inside, update-of-record}
-use Rattle.tree.proofs.Root.{root-height, root-low, height-le}
+use Rattle.tree.proofs.Root.{root-height, root-pow, root-low, height-le}
 use Rattle.versions.specs.Calls.{areasOf, findPage}
 use Rattle.versions.specs.Descent.{Spanned, placeIn, placeNumber, halfNumber, turnOf, walkDown}
 use Rattle.versions.specs.declared.Store.{Store}
@@ -36,10 +36,7 @@ use Rattle.versions.specs.declared.Turn.the-variants as Turn
 -- ---- spans
 
 pub span-height : (span : ℕ) → Spanned span → span ≡ 2 ^ rootHeight span
-span-height span s = s .spans ∙ ap (λ (h : ℕ). 2 ^ h) height
-  where
-    height : s .height ≡ rootHeight span
-    height = rw (s .spans) (root-height (2 ^ s .height) (s .height) (omega arith) (omega (arith, pow-pos (s .height))))
+span-height span s = s .spans ∙ ap (λ (h : ℕ). 2 ^ h) (root-pow (s .height) ∙ ap rootHeight (sym (s .spans)))
 
 pub span-some : (span : ℕ) → Spanned span → 0 < span
 span-some span s = omega (arith, s .spans, pow-pos (s .height))
@@ -51,9 +48,14 @@ span-half span s two = go (s .height) (s .spans)
     go zero e = absurd (omega arith)
     go (suc h) e = record { height = h; spans = omega arith }
 
-pub first-by-rest : (span p : ℕ) → Spanned span → p - p % span ≡ first p (rootHeight span)
+-- A span of 64 bits has a height that a number of 64 bits can be shifted by.
+pub span-low : (span : ℕ) → Spanned span → span < 2 ^ 64 → rootHeight span < 64
+span-low span s b = elim (lt-or-le (rootHeight span) 64) [ inl h ↦ h | inr h ↦ absurd (omega (arith, span-height span s, pow-mono h)) ]
+
+-- A page shifted down and up again by a height, in 64 bits.
+pub first-by-shifts : (p h : ℕ) → p < 2 ^ 64 → p / 2 ^ h * 2 ^ h % 2 ^ 64 ≡ first p h
 unfolding first
-first-by-rest span p s = rw (← span-height span s) (omega (arith, div-add-mod' p span))
+first-by-shifts p h b = mod-eq-of-lt (omega (arith, div-mul-le-self p (2 ^ h)))
 
 -- ---- a record's nodes
 

@@ -1149,7 +1149,8 @@ fn first_of(page: PageIndex, span: u64) -> PageIndex
     requires { ⌜ Spanned span ⌝ }
     ensures { λ r. ⌜ r .0 ≡ first (page .0) (rootHeight span) ⌝ }
 {
-    PageIndex(page.0 - page.0 % span)
+    let h = height_of(span);
+    PageIndex((page.0 >> h) << h)
 }
 
 // Whether a record's update makes a node of this span over a page.

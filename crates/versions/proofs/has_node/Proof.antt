@@ -1,10 +1,11 @@
 -- `versions::has_node` meets its contract: the node is no wider than the root, its page lies in the root, and it meets the update.
 -- Assumes nothing.
 use mathlib.Core.Path.{sym}
-use native.Mathlib.Nat.{mod-le}
 use native.Mathlib.Omega.{arith}
 use borrow.Author.Needs.{needs}
-use Rattle.versions.proofs.Descent.{root-most, node-too-wide, node-past-root, node-in-root, first-by-rest}
+use Rattle.tree.specs.Tree.{rootHeight}
+use Rattle.tree.proofs.First.{first-le}
+use Rattle.versions.proofs.Descent.{root-most, node-too-wide, node-past-root, node-in-root}
 use Rattle.versions.proofs.has_node.Statement.{statement}
 use Rattle.versions.proofs.has_node.Tie as tie
 
@@ -23,8 +24,7 @@ first-of-requires c κs = search needs
 record-meets-requires : tie.Need-record-meets-requires
 record-meets-requires c κs =
     let a = c .before .before .before .before .before .args in
-    let f = first-by-rest (a .span) (a .page .0) (c .before .before .before .before .before .pre) in
-    omega (arith, root-most (a .q), mod-le (a .page .0) (a .span))
+    omega (arith, root-most (a .q), first-le (a .page .0) (rootHeight (a .span)))
 
 returns-3 : tie.Need-returns-3
 returns-3 c =
