@@ -2,7 +2,7 @@
 -- Assumes nothing.
 use mathlib.Core.Path.{_≡_, refl, sym, ap, _∙_}
 use mathlib.Core.Logic.{inl, inr}
-use mathlib.Core.Bool.{Bool, true, false, and-false}
+use mathlib.Core.Bool.{Bool, true, false, and-true, and-false}
 use mathlib.Core.Option.{Option, none, some}
 use mathlib.Core.List.{List, []}
 use Prim.Native.Nat.{ℕ, zero, suc, _+_, _-_, _*_, _/_, _%_, _^_, _≤_, _<_, min}
@@ -24,9 +24,10 @@ use Rattle.tree.specs.declared.Found.the-variants.{Leaf, Lost}
 use Rattle.tree.specs.declared.NodeAt.{NodeAt}
 use Rattle.tree.specs.declared.NodeAt.the-variants.{Stored, Missing}
 use Rattle.tree.proofs.Area.{placed-out}
-use Rattle.tree.proofs.Meets.{lt-or-le}
+use Rattle.tree.proofs.First.{lt-root}
+use Rattle.tree.proofs.Meets.{lt-or-le, meets-after}
 use Rattle.tree.proofs.Records.{updateOf-inside, update-of-record}
-use Rattle.tree.proofs.Root.{root-height, root-pow, root-low, height-le}
+use Rattle.tree.proofs.Root.{root-height, root-pow, root-fits, root-low}
 use Rattle.versions.specs.Calls.{areasOf, findPage}
 use Rattle.versions.specs.Descent.{Spanned, placeIn, placeNumber, halfNumber, turnOf, walkDown}
 use Rattle.versions.specs.declared.Store.{Store}
@@ -64,24 +65,22 @@ module _ (q : Record) where
   pub root-most : 2 ^ rootHeight (updateOf q .size) ≤ 4096
   root-most = let i = updateOf-inside q in pow-mono (root-low (updateOf q .size) (i .2))
 
-  module _ (p span : ℕ) (s : Spanned span) where
-    pub node-too-wide : 2 ^ rootHeight (updateOf q .size) < span → hasNode (updateOf q) p (rootHeight span) ≡ false
+  module _ (p h : ℕ) where
+    pub node-too-high : rootHeight (updateOf q .size) < h → hasNode (updateOf q) p h ≡ false
     unfolding hasNode
-    node-too-wide h = elim (lt-or-le (rootHeight (updateOf q .size)) (rootHeight span)) [
-      | inl r ↦ rw (lt-leb (rootHeight span) (rootHeight (updateOf q .size)) r)
-      | inr r ↦ absurd (omega (arith, span-height span s, pow-mono r))
-    ]
+    node-too-high k = rw (lt-leb h (rootHeight (updateOf q .size)) k)
 
-    pub node-past-root : 2 ^ rootHeight (updateOf q .size) ≤ p → hasNode (updateOf q) p (rootHeight span) ≡ false
+    pub node-past-last : updateOf q .last < first p h → hasNode (updateOf q) p h ≡ false
     unfolding hasNode
-    node-past-root h = rw (le-ltb p (2 ^ rootHeight (updateOf q .size)) h, and-false)
+    node-past-last k = rw (meets-after (updateOf q .f) (updateOf q .last) (first p h) (2 ^ h) k, and-false)
 
-    pub node-in-root : span ≤ 2 ^ rootHeight (updateOf q .size) → p < 2 ^ rootHeight (updateOf q .size)
-        → hasNode (updateOf q) p (rootHeight span) ≡ meets (updateOf q .f) (updateOf q .last) (first p (rootHeight span)) span
-    unfolding hasNode
-    node-in-root h k =
-        let e = span-height span s in
-        rw (le-leb (rootHeight span) (rootHeight (updateOf q .size)) (height-le (rootHeight (updateOf q .size)) (rootHeight span) (omega arith)), lt-ltb p (2 ^ rootHeight (updateOf q .size)) k, ← e)
+    -- A node that is no higher than the root and begins by the update's last page lies in the root.
+    pub node-in-root : (span : ℕ) → span ≡ 2 ^ h → h ≤ rootHeight (updateOf q .size) → first p h ≤ updateOf q .last
+        → hasNode (updateOf q) p h ≡ ltb (updateOf q .f) (first p h + span)
+    unfolding hasNode meets
+    node-in-root span e k m =
+        let inside = lt-root p (rootHeight (updateOf q .size)) h k (omega (arith, updateOf-inside q, root-fits (updateOf q .size))) in
+        rw (e, le-leb h (rootHeight (updateOf q .size)) k, lt-ltb p (2 ^ rootHeight (updateOf q .size)) inside, le-leb (first p h) (updateOf q .last) m, and-true)
 
 -- ---- a node's place
 

@@ -34,7 +34,6 @@ use tree::node_at;
 use tree::node_count;
 use tree::node_index;
 use tree::record_at;
-use tree::record_meets;
 use tree::record_of;
 use tree::root_height;
 use tree::root_span;
@@ -1153,19 +1152,21 @@ fn first_of(page: PageIndex, span: u64) -> PageIndex
     PageIndex((page.0 >> h) << h)
 }
 
-// Whether a record's update makes a node of this span over a page.
+// Whether a record's update makes a node of this span over a page: one that is no higher than the root and meets the update, so its page lies in the
+// root. It is compared with the last page first, so that the sum cannot wrap.
 fn has_node(q: Record, page: PageIndex, span: u64) -> bool
     requires { ⌜ Spanned span ⌝ }
     ensures { λ b. ⌜ b ≡ hasNode (updateOf q) (page .0) (rootHeight span) ⌝ }
 {
-    let root = root_of(q);
-    if root < span {
+    let e = extent_of(q);
+    if root_height(e.size) < height_of(span) {
         return false;
     }
-    if root <= page.0 {
+    let first = first_of(page, span);
+    if e.last.0 < first.0 {
         return false;
     }
-    record_meets(q, first_of(page, span), span)
+    e.f.0 < first.0 + span
 }
 
 // The place of that node, by its index in weaving order. One that would wrap answers the largest number, which lies past any area.
