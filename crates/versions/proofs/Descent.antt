@@ -6,7 +6,7 @@ use mathlib.Core.Bool.{Bool, true, false, and-true, and-false}
 use mathlib.Core.Option.{Option, none, some}
 use mathlib.Core.List.{List, []}
 use Prim.Native.Nat.{ℕ, zero, suc, _+_, _-_, _*_, _/_, _%_, _^_, _≤_, _<_, min}
-use native.Mathlib.Nat.{div-add-mod', div-mul-le-self, mod-eq-of-lt, min-eq-left, min-eq-right}
+use native.Mathlib.Nat.{mod-eq-of-lt, min-eq-left, min-eq-right}
 use native.Mathlib.Omega.{arith}
 use borrow.Author.Tests.{lt-ltb, le-ltb, le-leb, lt-leb}
 use lib.Dec.{ltb}
@@ -24,7 +24,7 @@ use Rattle.tree.specs.declared.Found.the-variants.{Leaf, Lost}
 use Rattle.tree.specs.declared.NodeAt.{NodeAt}
 use Rattle.tree.specs.declared.NodeAt.the-variants.{Stored, Missing}
 use Rattle.tree.proofs.Area.{placed-out}
-use Rattle.tree.proofs.First.{lt-root}
+use Rattle.tree.proofs.First.{first-le, first-root, first-nest, lt-root}
 use Rattle.tree.proofs.Meets.{lt-or-le, meets-after}
 use Rattle.tree.proofs.Records.{updateOf-inside, update-of-record}
 use Rattle.tree.proofs.Root.{root-height, root-pow, root-fits, root-low}
@@ -56,7 +56,13 @@ span-low span s b = elim (lt-or-le (rootHeight span) 64) [ inl h ↦ h | inr h �
 -- A page shifted down and up again by a height, in 64 bits.
 pub first-by-shifts : (p h : ℕ) → p < 2 ^ 64 → p / 2 ^ h * 2 ^ h % 2 ^ 64 ≡ first p h
 unfolding first
-first-by-shifts p h b = mod-eq-of-lt (omega (arith, div-mul-le-self p (2 ^ h)))
+first-by-shifts p h b = mod-eq-of-lt (omega (arith, first-le p h))
+
+-- A node over a page of 64 bits ends within them.
+pub first-room : (span p : ℕ) → Spanned span → span < 2 ^ 64 → p < 2 ^ 64 → first p (rootHeight span) + span ≤ 2 ^ 64
+first-room span p s b c =
+    let low = span-low span s b in
+    omega (arith, first-nest p 64 (rootHeight span) (omega arith), first-root p 64 c, span-height span s)
 
 -- ---- a record's nodes
 
@@ -132,15 +138,6 @@ module _ (at : ℕ → ℕ → ℕ → Option ℕ) (area : List ℕ) (v p : ℕ)
   at-leaf Missing = refl
   at-leaf (Stored l r) = refl
 
-  halves : (h : ℕ) → ltb p (first p (suc h) + 2 ^ h) ≡ ltb (p % 2 ^ suc h) (2 ^ h)
-  unfolding first
-  halves h =
-      let e = div-add-mod' p (2 ^ suc h) in
-      elim (lt-or-le (p % 2 ^ suc h) (2 ^ h)) [
-        | inl k ↦ rw (lt-ltb (p % 2 ^ suc h) (2 ^ h) k) (lt-ltb p (p / 2 ^ suc h * 2 ^ suc h + 2 ^ h) (omega arith))
-        | inr k ↦ rw (le-ltb (p % 2 ^ suc h) (2 ^ h) k) (le-ltb p (p / 2 ^ suc h * 2 ^ suc h + 2 ^ h) (omega arith))
-      ]
-
   goes-on : (l r : ℕ) (b : Bool) (k : ℕ → Found) → goes (Stored l r) b k ≡ k (halfNumber b l r)
   goes-on l r true k = refl
   goes-on l r false k = refl
@@ -149,8 +146,8 @@ module _ (at : ℕ → ℕ → ℕ → Option ℕ) (area : List ℕ) (v p : ℕ)
   at-inner h Missing = refl
   at-inner h (Stored l r) =
       let half : 2 ^ suc h / 2 ≡ 2 ^ h = omega arith in
-      let e : h ≡ rootHeight (2 ^ h) = root-height (2 ^ h) h (omega arith) (omega (arith, pow-pos h)) in
-      rw (le-ltb (2 ^ suc h) 2 (omega (arith, pow-pos h)), halves h, half, ← e) (goes-on l r (ltb (p % 2 ^ suc h) (2 ^ h)) (λ (d : ℕ). walkBy at area h d p))
+      rw (le-ltb (2 ^ suc h) 2 (omega (arith, pow-pos h)), half, ← root-pow (suc h), ← root-pow h)
+      (goes-on l r (ltb p (first p (suc h) + 2 ^ h)) (λ (d : ℕ). walkBy at area h d p))
 
   walk-turn : (h : ℕ) → walkBy at area h v p ≡ after (turnOf (visit area (at v p h)) p (2 ^ h)) v below
   unfolding walkBy

@@ -1207,6 +1207,7 @@ fn place_of(q: Record, known: u64, v: u64, page: PageIndex, span: u64) -> u64
 
 // Where the walk to a page goes from the node x of this span.
 fn turn_at(x: NodeAt, page: PageIndex, span: u64) -> Turn
+    requires { ⌜ Spanned span ⌝ }
     ensures { λ t. ⌜ t ≡ turnOf x (page .0) span ⌝ }
 {
     match x {
@@ -1216,7 +1217,8 @@ fn turn_at(x: NodeAt, page: PageIndex, span: u64) -> Turn
                 return Turn::Leaf(left as u64);
             }
             let half = span / 2;
-            if page.0 % span < half {
+            let first = first_of(page, span);
+            if page.0 < first.0 + half {
                 Turn::Down(left as u64, half)
             } else {
                 Turn::Down(right as u64, half)

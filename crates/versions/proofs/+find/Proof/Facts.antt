@@ -49,6 +49,11 @@ one register nodes known v span page fits need = walk-step register nodes known 
 pub place-of-1 : Asks.place-of-1
 place-of-1 register nodes x-known x-v span page len-register len-nodes fits-x-known fits-x-v fits-span ok-page need ok-r1 = need .1
 
+-- `turn_at` asks: Spanned span
+-- here: turn-at″.req (r3 register nodes x-known x-v span page) page span
+pub turn-at-1 : Asks.turn-at-1
+turn-at-1 register nodes x-known x-v span page len-register len-nodes fits-x-known fits-x-v fits-span ok-page need ok-r1 fits-r2 ok-r3 = need .1
+
 -- the function ensures: r ≡ walkDown register nodes known v span (page .0)
 -- here: find″.ens register nodes x-known x-v span page (Found.Leaf (Version′.build x-v) y1-0)
 pub exit-1 : Asks.exit-1
