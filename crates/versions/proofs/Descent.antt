@@ -27,7 +27,7 @@ use Rattle.tree.proofs.Area.{placed-out}
 use Rattle.tree.proofs.First.{first-le, first-root, first-nest, lt-root}
 use Rattle.tree.proofs.Meets.{lt-or-le, meets-after}
 use Rattle.tree.proofs.Records.{updateOf-inside, update-of-record}
-use Rattle.tree.proofs.Root.{root-height, root-pow, root-fits, root-low}
+use Rattle.tree.proofs.Root.{root-pow, root-fits, root-low}
 use Rattle.versions.specs.Calls.{areasOf, findPage}
 use Rattle.versions.specs.Descent.{Spanned, placeIn, placeNumber, halfNumber, turnOf, walkDown}
 use Rattle.versions.specs.declared.Store.{Store}
@@ -180,5 +180,4 @@ pub find-from-root : (s : Store) (nodes : List ℕ) (register : List Record) (v 
 unfolding findPage
 find-from-root s nodes register v p =
     let h = rootHeight (updateOf (nth noRecord register v) .size) in
-    let e : h ≡ rootHeight (2 ^ h) = root-height (2 ^ h) h (omega arith) (omega (arith, pow-pos h)) in
-    rw (take-min (s .assigned .0) register, ← e)
+    rw (take-min (s .assigned .0) register, ← root-pow h)
