@@ -2,11 +2,12 @@
 -- Assumes nothing.
 use mathlib.Core.Path.{_≡_, sym}
 use mathlib.Core.Logic.{inl, inr}
-use Prim.Native.Nat.{ℕ, zero, suc, _+_, _*_, _^_, _≤_, _<_}
+use Prim.Native.Nat.{ℕ, zero, suc, _+_, _-_, _*_, _^_, _≤_, _<_}
 use native.Mathlib.Nat.{add-suc, suc-add, zero-add, add-zero, eq-or-lt-of-le}
 use native.Mathlib.Omega.{arith}
 use borrow.Author.Tests.{le-leb, lt-leb}
-use lib.Pow.{pow-lt, pow-mono}
+use lib.Count.{leadingZeros, leading-length}
+use lib.Pow.{pow-pos, pow-lt, pow-mono}
 use Rattle.tree.specs.Tree.{heightFrom, rootHeight}
 use Rattle.tree.proofs.Meets.{lt-or-le}
 
@@ -47,6 +48,14 @@ root-height s m p q = elim (lt-or-le m (rootHeight s)) [
   | inl r ↦ absurd (omega (arith, root-least s m r))
   | inr r ↦ elim (eq-or-lt-of-le r) [ inl e ↦ sym e | inr t ↦ absurd (omega (arith, root-fits s, pow-mono t)) ]
 ]
+
+-- A span is the root's for its own size.
+pub root-pow : (h : ℕ) → h ≡ rootHeight (2 ^ h)
+root-pow h = root-height (2 ^ h) h (omega arith) (omega (arith, pow-pos h))
+
+-- The leading zeros of the last page's number and the root's height make 64.
+pub root-zeros : (s : ℕ) → 0 < s → s < 2 ^ 64 → 64 - leadingZeros 64 (s - 1) ≡ rootHeight s
+root-zeros s p q = let t = leading-length 64 (s - 1) (omega arith) in omega (arith, root-height s (t .0) (omega arith) (omega arith))
 
 -- The root of the largest blob has height 12.
 pub root-low : (s : ℕ) → s ≤ 4096 → rootHeight s ≤ 12

@@ -1,9 +1,9 @@
 -- The register of updates: record k holds the k-th ticket's part and the k-th version's part.
 use Prim.Native.Nat.{ℕ, suc, min, max}
 use mathlib.Core.List.{List, map}
-use lib.Dec.{ltb}
+use lib.Dec.{leb, ltb}
 use lib.ListN.{length, set}
-use mathlib.Core.Bool.{Bool, true, false}
+use mathlib.Core.Bool.{Bool, true, false, _&&_}
 use Rattle.tree.specs.Tree.{Update, newest}
 use Rattle.tree.specs.declared.Record.{Record}
 use Rattle.tree.specs.declared.Extent.{Extent}
@@ -28,6 +28,10 @@ noRecord = record {
 -- The last page that a blob can have.
 abbrev pub mostPage : ℕ
 mostPage = 4095
+
+-- Pages and a size are within the limits.
+unfoldable pub inLimits : ℕ → ℕ → ℕ → Bool
+inLimits f last size = leb f last && ltb last size && leb size (suc mostPage)
 
 -- Pages and a size brought within the limits: f <= last < size <= 4,096. What the calls accept it leaves as it is.
 abbrev pub limited : ℕ → ℕ → ℕ → Update

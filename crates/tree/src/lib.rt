@@ -7,7 +7,7 @@ ghost use lib.ListN.{length, getD};
 ghost use Rattle.tree.specs.Tree.{rootHeight, meets, nth};
 ghost use Rattle.tree.specs.Place.{below, first};
 ghost use Rattle.tree.specs.NodeArea.{nodeAt, withNode};
-ghost use Rattle.tree.specs.Register.{noRecord, limited, updateOf, extentOf, withRecord, newestIn};
+ghost use Rattle.tree.specs.Register.{noRecord, inLimits, limited, updateOf, extentOf, withRecord, newestIn};
 ghost use Rattle.tree.specs.Contract.{rootSpan, nodesFor, Pages, Counted, Indexed, Part, Spans, Kth, WovenAt, highest};
 
 // A version, a page's index in the blob and a ticket are counters of different sorts, and each has a type of its own.
@@ -82,12 +82,12 @@ fn span_of(height: u64) -> u64
     1u64 << height
 }
 
-// The height of a span, which is a power of two: the number below it has as many one bits.
+// The height of a span, which is a power of two: the length in bits of the number below it.
 pub fn height_of(span: u64) -> u64
     requires { ⌜ 0 < span ⌝ }
     ensures { λ r. ⌜ ((h : ℕ) → span ≡ 2 ^ h → r ≡ h) ⌝ }
 {
-    u64::count_ones(span - 1) as u64
+    64 - u64::leading_zeros(span - 1) as u64
 }
 
 // The height of the root for a size in pages: the length in bits of the last page's number.
@@ -285,8 +285,21 @@ pub fn store_node(nodes: &mut [u32], place: u64, left: u32, right: u32)
     nodes[2 * q + 1] = right;
 }
 
-// Pages and a size brought within the limits: f <= last < size <= 4,096.
-pub fn within_limits(f: PageIndex, last: PageIndex, size: u64) -> Extent
+// Whether pages and a size are within the limits: f <= last < size <= 4,096.
+fn in_limits(f: PageIndex, last: PageIndex, size: u64) -> bool
+    ensures { λ r. ⌜ r ≡ inLimits (f .0) (last .0) size ⌝ }
+{
+    if last.0 < f.0 {
+        return false;
+    }
+    if size <= last.0 {
+        return false;
+    }
+    size <= MOST_PAGES
+}
+
+// Pages and a size brought within the limits.
+fn brought_within(f: PageIndex, last: PageIndex, size: u64) -> Extent
     ensures { λ e. ⌜ e ≡ extentOf (limited (f .0) (last .0) size) ⌝ }
 {
     let from = smaller(f.0, LAST_PAGE);
@@ -297,6 +310,16 @@ pub fn within_limits(f: PageIndex, last: PageIndex, size: u64) -> Extent
         last: PageIndex(to),
         size: pages,
     }
+}
+
+// The same. What the calls accepted is within the limits, and is handed on as it is: that is one branch foreseen, where bounds are a chain of steps.
+pub fn within_limits(f: PageIndex, last: PageIndex, size: u64) -> Extent
+    ensures { λ e. ⌜ e ≡ extentOf (limited (f .0) (last .0) size) ⌝ }
+{
+    if in_limits(f, last, size) {
+        return Extent { f, last, size };
+    }
+    brought_within(f, last, size)
 }
 
 // What a record says of an update.

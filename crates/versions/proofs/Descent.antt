@@ -2,11 +2,11 @@
 -- Assumes nothing.
 use mathlib.Core.Path.{_≡_, refl, sym, ap, _∙_}
 use mathlib.Core.Logic.{inl, inr}
-use mathlib.Core.Bool.{Bool, true, false, and-false}
+use mathlib.Core.Bool.{Bool, true, false, and-true, and-false}
 use mathlib.Core.Option.{Option, none, some}
 use mathlib.Core.List.{List, []}
 use Prim.Native.Nat.{ℕ, zero, suc, _+_, _-_, _*_, _/_, _%_, _^_, _≤_, _<_, min}
-use native.Mathlib.Nat.{div-add-mod', min-eq-left, min-eq-right}
+use native.Mathlib.Nat.{mod-eq-of-lt, min-eq-left, min-eq-right}
 use native.Mathlib.Omega.{arith}
 use borrow.Author.Tests.{lt-ltb, le-ltb, le-leb, lt-leb, ne-eqb}
 use lib.Dec.{ltb}
@@ -25,9 +25,10 @@ use Rattle.tree.specs.declared.Found.the-variants.{Leaf, Lost}
 use Rattle.tree.specs.declared.NodeAt.{NodeAt}
 use Rattle.tree.specs.declared.NodeAt.the-variants.{Stored, Missing}
 use Rattle.tree.proofs.Area.{placed-out}
-use Rattle.tree.proofs.Meets.{lt-or-le}
+use Rattle.tree.proofs.First.{first-le, first-root, first-nest, lt-root}
+use Rattle.tree.proofs.Meets.{lt-or-le, meets-after}
 use Rattle.tree.proofs.Records.{updateOf-inside, update-of-record}
-use Rattle.tree.proofs.Root.{root-height, root-low, height-le}
+use Rattle.tree.proofs.Root.{root-pow, root-fits, root-low}
 use Rattle.versions.specs.Calls.{areasOf, findPage}
 use Rattle.versions.specs.Descent.{Spanned, placeIn, placeNumber, halfNumber, turnOf, foundIn, walkDown}
 use Rattle.versions.specs.declared.Store.{Store}
@@ -37,10 +38,7 @@ use Rattle.versions.specs.declared.Turn.the-variants as Turn
 -- ---- spans
 
 pub span-height : (span : ℕ) → Spanned span → span ≡ 2 ^ rootHeight span
-span-height span s = s .spans ∙ ap (λ (h : ℕ). 2 ^ h) height
-  where
-    height : s .height ≡ rootHeight span
-    height = rw (s .spans) (root-height (2 ^ s .height) (s .height) (omega arith) (omega (arith, pow-pos (s .height))))
+span-height span s = s .spans ∙ ap (λ (h : ℕ). 2 ^ h) (root-pow (s .height) ∙ ap rootHeight (sym (s .spans)))
 
 pub span-some : (span : ℕ) → Spanned span → 0 < span
 span-some span s = omega (arith, s .spans, pow-pos (s .height))
@@ -52,9 +50,20 @@ span-half span s two = go (s .height) (s .spans)
     go zero e = absurd (omega arith)
     go (suc h) e = record { height = h; spans = omega arith }
 
-pub first-by-rest : (span p : ℕ) → Spanned span → p - p % span ≡ first p (rootHeight span)
+-- A span of 64 bits has a height that a number of 64 bits can be shifted by.
+pub span-low : (span : ℕ) → Spanned span → span < 2 ^ 64 → rootHeight span < 64
+span-low span s b = elim (lt-or-le (rootHeight span) 64) [ inl h ↦ h | inr h ↦ absurd (omega (arith, span-height span s, pow-mono h)) ]
+
+-- A page shifted down and up again by a height, in 64 bits.
+pub first-by-shifts : (p h : ℕ) → p < 2 ^ 64 → p / 2 ^ h * 2 ^ h % 2 ^ 64 ≡ first p h
 unfolding first
-first-by-rest span p s = rw (← span-height span s) (omega (arith, div-add-mod' p span))
+first-by-shifts p h b = mod-eq-of-lt (omega (arith, first-le p h))
+
+-- A node over a page of 64 bits ends within them.
+pub first-room : (span p : ℕ) → Spanned span → span < 2 ^ 64 → p < 2 ^ 64 → first p (rootHeight span) + span ≤ 2 ^ 64
+first-room span p s b c =
+    let low = span-low span s b in
+    omega (arith, first-nest p 64 (rootHeight span) (omega arith), first-root p 64 c, span-height span s)
 
 -- ---- a record's nodes
 
@@ -63,24 +72,22 @@ module _ (q : Record) where
   pub root-most : 2 ^ rootHeight (updateOf q .size) ≤ 4096
   root-most = let i = updateOf-inside q in pow-mono (root-low (updateOf q .size) (i .2))
 
-  module _ (p span : ℕ) (s : Spanned span) where
-    pub node-too-wide : 2 ^ rootHeight (updateOf q .size) < span → hasNode (updateOf q) p (rootHeight span) ≡ false
+  module _ (p h : ℕ) where
+    pub node-too-high : rootHeight (updateOf q .size) < h → hasNode (updateOf q) p h ≡ false
     unfolding hasNode
-    node-too-wide h = elim (lt-or-le (rootHeight (updateOf q .size)) (rootHeight span)) [
-      | inl r ↦ rw (lt-leb (rootHeight span) (rootHeight (updateOf q .size)) r)
-      | inr r ↦ absurd (omega (arith, span-height span s, pow-mono r))
-    ]
+    node-too-high k = rw (lt-leb h (rootHeight (updateOf q .size)) k)
 
-    pub node-past-root : 2 ^ rootHeight (updateOf q .size) ≤ p → hasNode (updateOf q) p (rootHeight span) ≡ false
+    pub node-past-last : updateOf q .last < first p h → hasNode (updateOf q) p h ≡ false
     unfolding hasNode
-    node-past-root h = rw (le-ltb p (2 ^ rootHeight (updateOf q .size)) h, and-false)
+    node-past-last k = rw (meets-after (updateOf q .f) (updateOf q .last) (first p h) (2 ^ h) k, and-false)
 
-    pub node-in-root : span ≤ 2 ^ rootHeight (updateOf q .size) → p < 2 ^ rootHeight (updateOf q .size)
-        → hasNode (updateOf q) p (rootHeight span) ≡ meets (updateOf q .f) (updateOf q .last) (first p (rootHeight span)) span
-    unfolding hasNode
-    node-in-root h k =
-        let e = span-height span s in
-        rw (le-leb (rootHeight span) (rootHeight (updateOf q .size)) (height-le (rootHeight (updateOf q .size)) (rootHeight span) (omega arith)), lt-ltb p (2 ^ rootHeight (updateOf q .size)) k, ← e)
+    -- A node that is no higher than the root and begins by the update's last page lies in the root.
+    pub node-in-root : (span : ℕ) → span ≡ 2 ^ h → h ≤ rootHeight (updateOf q .size) → first p h ≤ updateOf q .last
+        → hasNode (updateOf q) p h ≡ ltb (updateOf q .f) (first p h + span)
+    unfolding hasNode meets
+    node-in-root span e k m =
+        let inside = lt-root p (rootHeight (updateOf q .size)) h k (omega (arith, updateOf-inside q, root-fits (updateOf q .size))) in
+        rw (e, le-leb h (rootHeight (updateOf q .size)) k, lt-ltb p (2 ^ rootHeight (updateOf q .size)) inside, le-leb (first p h) (updateOf q .last) m, and-true)
 
 -- ---- a node's place
 
@@ -132,15 +139,6 @@ module _ (at : ℕ → ℕ → ℕ → Option ℕ) (area : List ℕ) (v p : ℕ)
   at-leaf Missing = refl
   at-leaf (Stored l r) = refl
 
-  halves : (h : ℕ) → ltb p (first p (suc h) + 2 ^ h) ≡ ltb (p % 2 ^ suc h) (2 ^ h)
-  unfolding first
-  halves h =
-      let e = div-add-mod' p (2 ^ suc h) in
-      elim (lt-or-le (p % 2 ^ suc h) (2 ^ h)) [
-        | inl k ↦ rw (lt-ltb (p % 2 ^ suc h) (2 ^ h) k) (lt-ltb p (p / 2 ^ suc h * 2 ^ suc h + 2 ^ h) (omega arith))
-        | inr k ↦ rw (le-ltb (p % 2 ^ suc h) (2 ^ h) k) (le-ltb p (p / 2 ^ suc h * 2 ^ suc h + 2 ^ h) (omega arith))
-      ]
-
   goes-on : (l r : ℕ) (b : Bool) (k : ℕ → Found) → goes (Stored l r) b k ≡ k (halfNumber b l r)
   goes-on l r true k = refl
   goes-on l r false k = refl
@@ -149,8 +147,8 @@ module _ (at : ℕ → ℕ → ℕ → Option ℕ) (area : List ℕ) (v p : ℕ)
   at-inner h Missing = refl
   at-inner h (Stored l r) =
       let half : 2 ^ suc h / 2 ≡ 2 ^ h = omega arith in
-      let e : h ≡ rootHeight (2 ^ h) = root-height (2 ^ h) h (omega arith) (omega (arith, pow-pos h)) in
-      rw (le-ltb (2 ^ suc h) 2 (omega (arith, pow-pos h)), halves h, half, ← e) (goes-on l r (ltb (p % 2 ^ suc h) (2 ^ h)) (λ (d : ℕ). walkBy at area h d p))
+      rw (le-ltb (2 ^ suc h) 2 (omega (arith, pow-pos h)), half, ← root-pow (suc h), ← root-pow h)
+      (goes-on l r (ltb p (first p (suc h) + 2 ^ h)) (λ (d : ℕ). walkBy at area h d p))
 
   walk-turn : (h : ℕ) → walkBy at area h v p ≡ after (turnOf (visit area (at v p h)) p (2 ^ h)) v below
   unfolding walkBy
@@ -208,5 +206,4 @@ pub find-from-root : (s : Store) (nodes : List ℕ) (register : List Record) (v 
 unfolding findPage
 find-from-root s nodes register v p =
     let h = rootHeight (updateOf (nth noRecord register v) .size) in
-    let e : h ≡ rootHeight (2 ^ h) = root-height (2 ^ h) h (omega arith) (omega (arith, pow-pos h)) in
-    rw (take-min (min (s .assigned .0) 4096) register, ← e)
+    rw (take-min (min (s .assigned .0) 4096) register, ← root-pow h)

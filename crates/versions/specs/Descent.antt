@@ -7,7 +7,7 @@ use Prim.Native.Nat.{ℕ, zero, suc, _+_, _-_, _*_, _/_, _%_, _^_, _≤_, _<_, m
 use lib.Dec.{ltb, leb, eqb}
 use lib.ListN.{length, take}
 use Rattle.tree.specs.Tree.{nth, rootHeight}
-use Rattle.tree.specs.Place.{index}
+use Rattle.tree.specs.Place.{first, index}
 use Rattle.tree.specs.Walk.{walkBy, placeOf, hasNode, placeWhere}
 use Rattle.tree.specs.Register.{noRecord, updateOf, updatesOf}
 use Rattle.tree.specs.declared.Record.{Record}
@@ -46,7 +46,7 @@ halfNumber false l r = r
 
 abbrev pub turnBy : Bool → ℕ → ℕ → ℕ → ℕ → Turn
 turnBy true l r p span = Turn.Leaf l
-turnBy false l r p span = Turn.Down (halfNumber (ltb (p % span) (span / 2)) l r) (span / 2)
+turnBy false l r p span = Turn.Down (halfNumber (ltb p (first p (rootHeight span) + span / 2)) l r) (span / 2)
 
 abbrev pub turnOf : NodeAt → ℕ → ℕ → Turn
 turnOf Missing p span = Turn.Lost

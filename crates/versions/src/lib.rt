@@ -33,7 +33,6 @@ use tree::node_at;
 use tree::node_count;
 use tree::node_index;
 use tree::record_at;
-use tree::record_meets;
 use tree::record_of;
 use tree::root_height;
 use tree::root_span;
@@ -1153,22 +1152,25 @@ fn first_of(page: PageIndex, span: u64) -> PageIndex
     requires { ⌜ Spanned span ⌝ }
     ensures { λ r. ⌜ r .0 ≡ first (page .0) (rootHeight span) ⌝ }
 {
-    PageIndex(page.0 - page.0 % span)
+    let h = height_of(span);
+    PageIndex((page.0 >> h) << h)
 }
 
-// Whether a record's update makes a node of this span over a page.
+// Whether a record's update makes a node of this span over a page: one that is no higher than the root and meets the update, so its page lies in the
+// root. It is compared with the last page first, so that the sum cannot wrap.
 fn has_node(q: Record, page: PageIndex, span: u64) -> bool
     requires { ⌜ Spanned span ⌝ }
     ensures { λ b. ⌜ b ≡ hasNode (updateOf q) (page .0) (rootHeight span) ⌝ }
 {
-    let root = root_of(q);
-    if root < span {
+    let e = extent_of(q);
+    if root_height(e.size) < height_of(span) {
         return false;
     }
-    if root <= page.0 {
+    let first = first_of(page, span);
+    if e.last.0 < first.0 {
         return false;
     }
-    record_meets(q, first_of(page, span), span)
+    e.f.0 < first.0 + span
 }
 
 // The place of that node, by its index in weaving order. One that would wrap answers the largest number, which lies past any area.
@@ -1209,6 +1211,7 @@ fn place_of(q: Record, known: u64, v: u64, page: PageIndex, span: u64) -> u64
 
 // Where the walk to a page goes from the node x of this span.
 fn turn_at(x: NodeAt, page: PageIndex, span: u64) -> Turn
+    requires { ⌜ Spanned span ⌝ }
     ensures { λ t. ⌜ t ≡ turnOf x (page .0) span ⌝ }
 {
     match x {
@@ -1218,7 +1221,8 @@ fn turn_at(x: NodeAt, page: PageIndex, span: u64) -> Turn
                 return Turn::Leaf(left as u64);
             }
             let half = span / 2;
-            if page.0 % span < half {
+            let first = first_of(page, span);
+            if page.0 < first.0 + half {
                 Turn::Down(left as u64, half)
             } else {
                 Turn::Down(right as u64, half)

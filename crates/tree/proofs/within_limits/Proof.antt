@@ -1,58 +1,44 @@
--- `within_limits` meets its contract: what `smaller` and `larger` gave are the numbers of `limited`. Assumes nothing.
-use mathlib.Core.Path.{_≡_}
-use Prim.Native.Nat.{ℕ, _+_, min, max}
-use native.Mathlib.Numerals.{add-one}
+-- `within_limits` meets its contract: what is within the limits is not changed by bringing it within them. Assumes nothing.
+use mathlib.Core.Path.{_≡_, sym, _∙_}
+use mathlib.Core.Bool.{true, _&&_, and-eq-true-iff}
+use Prim.Native.Nat.{ℕ, suc, _≤_, _<_, min, max}
+use native.Mathlib.Omega.{arith}
 use borrow.Author.Needs.{needs}
-use Rattle.tree.specs.Register.{limited, extentOf}
+use borrow.Author.Tests.{ltb-true, leb-true}
+use lib.Dec.{ltb, leb}
+use Rattle.tree.specs.Register.{inLimits, limited, extentOf}
 use Rattle.tree.specs.declared.Extent.{Extent}
 use Rattle.tree.proofs.within_limits.Statement.{statement}
 use Rattle.tree.proofs.within_limits.Tie as tie
 
 made :
-    (a b z f g l t s : ℕ)
-    → f ≡ min a 4095 → g ≡ min b 4095 → l ≡ max f g → t ≡ min z 4096 → s ≡ max (l + 1) t
-    → _≡_ {A = Extent} (record { f = record { 0 = f }; last = record { 0 = l }; size = s }) (extentOf (limited a b z))
-made a b z f g l t s p q o m n = cc (add-one l)
+    (f l s g m t : ℕ) → g ≡ f → m ≡ l → t ≡ s
+    → _≡_ {A = Extent} (record { f = record { 0 = f }; last = record { 0 = l }; size = s }) (record { f = record { 0 = g }; last = record { 0 = m }; size = t })
+made f l s g m t p q r = rw (p, q, r)
 
-smaller-requires : tie.Need-smaller-requires
-smaller-requires c κs = search needs
+unchanged :
+    (f l s : ℕ) → inLimits f l s ≡ true
+    → _≡_ {A = Extent} (record { f = record { 0 = f }; last = record { 0 = l }; size = s }) (extentOf (limited f l s))
+unfolding inLimits
+unchanged f l s e =
+    let b = and-eq-true-iff (leb f l && ltb l s) (leb s 4096) .0 e in
+    let d = and-eq-true-iff (leb f l) (ltb l s) .0 (b .0) in
+    let p = leb-true f l (d .0) in
+    let q = ltb-true l s (d .1) in
+    let r = leb-true s 4096 (b .1) in
+    made f l s _ _ _ (omega (arith, p, q, r)) (omega (arith, p, q, r)) (omega (arith, p, q, r))
 
-smaller-requires-2 : tie.Need-smaller-requires-2
-smaller-requires-2 c κs = search needs
-
-larger-requires : tie.Need-larger-requires
-larger-requires c κs = search needs
-
-add-larger : tie.Need-add-larger
-add-larger c = search needs
-
-add-smaller : tie.Need-add-smaller
-add-smaller c = search needs
-
-smaller-requires-3 : tie.Need-smaller-requires-3
-smaller-requires-3 c κs = search needs
-
-larger-requires-2 : tie.Need-larger-requires-2
-larger-requires-2 c κs = search needs
+in-limits-requires : tie.Need-in-limits-requires
+in-limits-requires c κs = search needs
 
 returns : tie.Need-returns
-returns c =
-    made _ _ _ _ _ _ _ _
-    (c .before .before .before .before .smaller .ensures)
-    (c .before .before .before .smaller2 .ensures)
-    (c .before .before .larger .ensures)
-    (c .before .smaller3 .ensures)
-    (c .larger2 .ensures)
+returns c = unchanged _ _ _ (sym (c .before .in-limits .ensures) ∙ c .if1 .taken)
+
+brought-within-requires : tie.Need-brought-within-requires
+brought-within-requires c κs = search needs
+
+returns-2 : tie.Need-returns-2
+returns-2 c = search needs
 
 pub within-limits-spec : {M : Type 1} → statement M
-within-limits-spec =
-    tie.close
-    (tie.spec
-    smaller-requires
-    smaller-requires-2
-    larger-requires
-    add-larger
-    add-smaller
-    smaller-requires-3
-    larger-requires-2
-    returns)
+within-limits-spec = tie.close (tie.spec in-limits-requires returns brought-within-requires returns-2)

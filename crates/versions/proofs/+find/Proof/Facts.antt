@@ -58,6 +58,11 @@ module _ (register : List Record) (nodes : List ℕ) (known v span : ℕ) (page 
 pub place-of-1 : Asks.place-of-1
 place-of-1 register nodes x-known x-v span page len-register len-nodes fits-x-known fits-x-v fits-span ok-page need ok-r1 = need .1
 
+-- `turn_at` asks: Spanned span
+-- here: turn-at″.req (r3 register nodes x-known x-v span page) page span
+pub turn-at-1 : Asks.turn-at-1
+turn-at-1 register nodes x-known x-v span page len-register len-nodes fits-x-known fits-x-v fits-span ok-page need ok-r1 fits-r2 ok-r3 = need .1
+
 -- the product does not wrap
 -- here: x-v * 4294967296 < 2 ^ 64
 pub mul-1 : Asks.mul-1

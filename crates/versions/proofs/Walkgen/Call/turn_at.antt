@@ -52,9 +52,9 @@ module _ {M : Type 1} (𝓤 : URA M) (H : Heap 𝓤) (A : Atoms 𝓤) (mem : Mem
 module _ {M : Type 1} {𝓤 : URA M} {H : Heap 𝓤} {A : Atoms 𝓤} {K : Type 0} {W : Given 𝓤 H A} {Γ : List (Item 𝓤)} where
   -- the call itself is made by `by-call`, from what the callee asks to what it has ensured
   core : K → (mem : Memory → SProp 𝓤) (run : Routine → Fun 𝓤) → (x : NodeAt) (page : PageIndex) (span : ℕ) → (G : Goal 𝓤 H) (after : Val → Goal 𝓤 H) → ((v : Val) → Soaks (after v))
-      → (((v : Val) → Seq K W (raw (Asked 𝓤 H A mem run .post (to 𝓤 H A mem run x page span) v) ∷ Γ) (after v)) → Seq K W (raw (Asked 𝓤 H A mem run .pre (to 𝓤 H A mem run x page span)) ∷ Γ) G) → Is NodeAt′.row x (NodeAt′.vals x) → Is PageIndex′.row page (PageIndex′.vals page) → Is u64 span (uint-vals w64 span) →
+      → (((v : Val) → Seq K W (raw (Asked 𝓤 H A mem run .post (to 𝓤 H A mem run x page span) v) ∷ Γ) (after v)) → Seq K W (raw (Asked 𝓤 H A mem run .pre (to 𝓤 H A mem run x page span)) ∷ Γ) G) → Is NodeAt′.row x (NodeAt′.vals x) → Is PageIndex′.row page (PageIndex′.vals page) → Is u64 span (uint-vals w64 span) → turn-at″.req x page span →
       (Is Turn′.row (turn-at″.res x page span) (Turn′.vals (turn-at″.res x page span)) → Seq K W (Γ) (after (Turn′.mach (turn-at″.res x page span)))) → Seq K W (Γ) G
-  core t mem run x page span G after soaks by-call ok·x ok·page ok·span k =
+  core t mem run x page span G after soaks by-call ok·x ok·page ok·span need k =
       use0 W (raw (Asked 𝓤 H A mem run .pre (to 𝓤 H A mem run x page span))) goes $
       by-call (λ v.
       use1 W (later (some (λ (r· : Turn). ((‵ ftrue) ⊛ ‵ (Turn′.row .own r· (v ∷ []))) ⊛ raw (ensured 𝓤 H A callee.ended (callee.clauses 𝓤 H A mem run) tt (x, (page, (span, tt))) tt r·)))) (id⊢ 𝓤 _) $ await t (soaks v) $ pick t (λ r·. split t $ move t (1 ∷ []) $
@@ -63,19 +63,19 @@ module _ {M : Type 1} {𝓤 : URA M} {H : Heap 𝓤} {A : Atoms 𝓤} {K : Type 
       subst (λ (u : Val). Seq K W (Γ) (after u)) (sym (ap only (Turn′.tells r· (v ∷ []) is) ∙ ap (λ (z : Turn). Turn′.mach z) (e))) (k (subst (λ (z : Turn). Is Turn′.row z (Turn′.vals z)) (e) (subst (Is Turn′.row r·) (Turn′.tells r· (v ∷ []) is) is))))))))
     where
       goes : ent 𝓤 (⋆ 𝓤 H A ([])) (Asked 𝓤 H A mem run .pre (to 𝓤 H A mem run x page span))
-      goes = qed W ([]) ∵ plus-nothing ! $ nothing ! $ frame ! $ nothing ! $ owned ! u64 (Is u64) (uint-makes 𝓤 H A W w64) span _ ok·span $ fjoin ! $ owned ! PageIndex′.row (Is PageIndex′.row) (PageIndex′.makes 𝓤 H A) page _ ok·page $ fjoin ! $ owned ! NodeAt′.row (Is NodeAt′.row) (NodeAt′.makes 𝓤 H A) x _ ok·x $ fjoin ! $ done !
+      goes = qed W ([]) ∵ says ! need $ nothing ! $ frame ! $ nothing ! $ owned ! u64 (Is u64) (uint-makes 𝓤 H A W w64) span _ ok·span $ fjoin ! $ owned ! PageIndex′.row (Is PageIndex′.row) (PageIndex′.makes 𝓤 H A) page _ ok·page $ fjoin ! $ owned ! NodeAt′.row (Is NodeAt′.row) (NodeAt′.makes 𝓤 H A) x _ ok·x $ fjoin ! $ done !
 
 module _ {M : Type 1} {𝓤 : URA M} {H : Heap 𝓤} {A : Atoms 𝓤} {K : Type 0} {W : Given 𝓤 H A} {Γ : List (Item 𝓤)} {E : Env 𝓤 H} {C : Calls 𝓤 H} {Λ : Loops 𝓤 H} {Q : Post 𝓤 H} {xs : List Operand} {d : Place} {rest : Body} where
   -- by one instance of the callee's contract, which is what a function that calls itself has
-  pub calls-by : K → (mem : Memory → SProp 𝓤) (run : Routine → Fun 𝓤) → FmC 𝓤 H (W .laws) C → (x : NodeAt) (page : PageIndex) (span : ℕ) → ent 𝓤 (Asked 𝓤 H A mem run .pre (to 𝓤 H A mem run x page span)) (C #callee (Asked 𝓤 H A mem run .args (to 𝓤 H A mem run x page span)) (Asked 𝓤 H A mem run .post (to 𝓤 H A mem run x page span))) → Is NodeAt′.row x (NodeAt′.vals x) → Is PageIndex′.row page (PageIndex′.vals page) → Is u64 span (uint-vals w64 span) →
+  pub calls-by : K → (mem : Memory → SProp 𝓤) (run : Routine → Fun 𝓤) → FmC 𝓤 H (W .laws) C → (x : NodeAt) (page : PageIndex) (span : ℕ) → ent 𝓤 (Asked 𝓤 H A mem run .pre (to 𝓤 H A mem run x page span)) (C #callee (Asked 𝓤 H A mem run .args (to 𝓤 H A mem run x page span)) (Asked 𝓤 H A mem run .post (to 𝓤 H A mem run x page span))) → Is NodeAt′.row x (NodeAt′.vals x) → Is PageIndex′.row page (PageIndex′.vals page) → Is u64 span (uint-vals w64 span) → turn-at″.req x page span →
       Opds K W (raw (Asked 𝓤 H A mem run .pre (to 𝓤 H A mem run x page span)) ∷ Γ) E xs (NodeAt′.mach x ∷ PageIndex′.mach page ∷ vint w64 span ∷ [])
       → (Is Turn′.row (turn-at″.res x page span) (Turn′.vals (turn-at″.res x page span)) → Seq K W (Γ) (lands C Λ E d (Turn′.mach (turn-at″.res x page span)) rest Q))
       → Seq K W (Γ) (runs C Λ E (seq (call #callee xs d) rest) Q)
-  calls-by t mem run fm x page span known ok·x ok·page ok·span os k =
+  calls-by t mem run fm x page span known ok·x ok·page ok·span need os k =
       core t mem run x page span (runs C Λ E (seq (call #callee xs d) rest) Q) (λ v. lands C Λ E d v rest Q) (λ v. tt)
-      (λ h. calls-from t fm (raw (Asked 𝓤 H A mem run .pre (to 𝓤 H A mem run x page span))) (Asked 𝓤 H A mem run .args (to 𝓤 H A mem run x page span)) (Asked 𝓤 H A mem run .post (to 𝓤 H A mem run x page span)) known os h) ok·x ok·page ok·span k
+      (λ h. calls-from t fm (raw (Asked 𝓤 H A mem run .pre (to 𝓤 H A mem run x page span))) (Asked 𝓤 H A mem run .args (to 𝓤 H A mem run x page span)) (Asked 𝓤 H A mem run .post (to 𝓤 H A mem run x page span)) known os h) ok·x ok·page ok·span need k
 
-  pub calls : K → (mem : Memory → SProp 𝓤) (run : Routine → Fun 𝓤) → FmC 𝓤 H (W .laws) C → Triple 𝓤 (C #callee) (Asked 𝓤 H A mem run) → (x : NodeAt) (page : PageIndex) (span : ℕ) → Is NodeAt′.row x (NodeAt′.vals x) → Is PageIndex′.row page (PageIndex′.vals page) → Is u64 span (uint-vals w64 span) →
+  pub calls : K → (mem : Memory → SProp 𝓤) (run : Routine → Fun 𝓤) → FmC 𝓤 H (W .laws) C → Triple 𝓤 (C #callee) (Asked 𝓤 H A mem run) → (x : NodeAt) (page : PageIndex) (span : ℕ) → Is NodeAt′.row x (NodeAt′.vals x) → Is PageIndex′.row page (PageIndex′.vals page) → Is u64 span (uint-vals w64 span) → turn-at″.req x page span →
       Opds K W (raw (Asked 𝓤 H A mem run .pre (to 𝓤 H A mem run x page span)) ∷ Γ) E xs (NodeAt′.mach x ∷ PageIndex′.mach page ∷ vint w64 span ∷ [])
       → (Is Turn′.row (turn-at″.res x page span) (Turn′.vals (turn-at″.res x page span)) → Seq K W (Γ) (lands C Λ E d (Turn′.mach (turn-at″.res x page span)) rest Q))
       → Seq K W (Γ) (runs C Λ E (seq (call #callee xs d) rest) Q)
@@ -83,15 +83,15 @@ module _ {M : Type 1} {𝓤 : URA M} {H : Heap 𝓤} {A : Atoms 𝓤} {K : Type 
 
 module _ {M : Type 1} {𝓤 : URA M} {H : Heap 𝓤} {A : Atoms 𝓤} {K : Type 0} {W : Given 𝓤 H A} {Γ : List (Item 𝓤)} {E : Env 𝓤 H} {C : Calls 𝓤 H} {Λ : Loops 𝓤 H} {Q : Post 𝓤 H} {xs : List Operand} {d : Place} where
   -- by one instance of the callee's contract, which is what a function that calls itself has. The call ends a part of the code
-  pub calls-last-by : K → (mem : Memory → SProp 𝓤) (run : Routine → Fun 𝓤) → FmC 𝓤 H (W .laws) C → (x : NodeAt) (page : PageIndex) (span : ℕ) → ent 𝓤 (Asked 𝓤 H A mem run .pre (to 𝓤 H A mem run x page span)) (C #callee (Asked 𝓤 H A mem run .args (to 𝓤 H A mem run x page span)) (Asked 𝓤 H A mem run .post (to 𝓤 H A mem run x page span))) → Is NodeAt′.row x (NodeAt′.vals x) → Is PageIndex′.row page (PageIndex′.vals page) → Is u64 span (uint-vals w64 span) →
+  pub calls-last-by : K → (mem : Memory → SProp 𝓤) (run : Routine → Fun 𝓤) → FmC 𝓤 H (W .laws) C → (x : NodeAt) (page : PageIndex) (span : ℕ) → ent 𝓤 (Asked 𝓤 H A mem run .pre (to 𝓤 H A mem run x page span)) (C #callee (Asked 𝓤 H A mem run .args (to 𝓤 H A mem run x page span)) (Asked 𝓤 H A mem run .post (to 𝓤 H A mem run x page span))) → Is NodeAt′.row x (NodeAt′.vals x) → Is PageIndex′.row page (PageIndex′.vals page) → Is u64 span (uint-vals w64 span) → turn-at″.req x page span →
       Opds K W (raw (Asked 𝓤 H A mem run .pre (to 𝓤 H A mem run x page span)) ∷ Γ) E xs (NodeAt′.mach x ∷ PageIndex′.mach page ∷ vint w64 span ∷ [])
       → (Is Turn′.row (turn-at″.res x page span) (Turn′.vals (turn-at″.res x page span)) → Seq K W (Γ) (settles E d (Turn′.mach (turn-at″.res x page span)) Q))
       → Seq K W (Γ) (runs C Λ E (call #callee xs d) Q)
-  calls-last-by t mem run fm x page span known ok·x ok·page ok·span os k =
+  calls-last-by t mem run fm x page span known ok·x ok·page ok·span need os k =
       core t mem run x page span (runs C Λ E (call #callee xs d) Q) (λ v. settles E d v Q) (λ v. tt)
-      (λ h. calls-from-last t fm (raw (Asked 𝓤 H A mem run .pre (to 𝓤 H A mem run x page span))) (Asked 𝓤 H A mem run .args (to 𝓤 H A mem run x page span)) (Asked 𝓤 H A mem run .post (to 𝓤 H A mem run x page span)) known os h) ok·x ok·page ok·span k
+      (λ h. calls-from-last t fm (raw (Asked 𝓤 H A mem run .pre (to 𝓤 H A mem run x page span))) (Asked 𝓤 H A mem run .args (to 𝓤 H A mem run x page span)) (Asked 𝓤 H A mem run .post (to 𝓤 H A mem run x page span)) known os h) ok·x ok·page ok·span need k
 
-  pub calls-last : K → (mem : Memory → SProp 𝓤) (run : Routine → Fun 𝓤) → FmC 𝓤 H (W .laws) C → Triple 𝓤 (C #callee) (Asked 𝓤 H A mem run) → (x : NodeAt) (page : PageIndex) (span : ℕ) → Is NodeAt′.row x (NodeAt′.vals x) → Is PageIndex′.row page (PageIndex′.vals page) → Is u64 span (uint-vals w64 span) →
+  pub calls-last : K → (mem : Memory → SProp 𝓤) (run : Routine → Fun 𝓤) → FmC 𝓤 H (W .laws) C → Triple 𝓤 (C #callee) (Asked 𝓤 H A mem run) → (x : NodeAt) (page : PageIndex) (span : ℕ) → Is NodeAt′.row x (NodeAt′.vals x) → Is PageIndex′.row page (PageIndex′.vals page) → Is u64 span (uint-vals w64 span) → turn-at″.req x page span →
       Opds K W (raw (Asked 𝓤 H A mem run .pre (to 𝓤 H A mem run x page span)) ∷ Γ) E xs (NodeAt′.mach x ∷ PageIndex′.mach page ∷ vint w64 span ∷ [])
       → (Is Turn′.row (turn-at″.res x page span) (Turn′.vals (turn-at″.res x page span)) → Seq K W (Γ) (settles E d (Turn′.mach (turn-at″.res x page span)) Q))
       → Seq K W (Γ) (runs C Λ E (call #callee xs d) Q)

@@ -44,6 +44,9 @@ use Rattle.versions.specs.declared.Viewed.{Viewed}
 use Rattle.versions.specs.declared.Woven.{Woven}
 use Rattle.versions.specs.declared.WovenNode.{WovenNode}
 
+abbrev pub req : NodeAt → PageIndex → ℕ → Type 0
+req x page span = Spanned span
+
 abbrev pub ens : NodeAt → PageIndex → ℕ → Turn → Type 0
 ens x page span t = t ≡ turnOf x (page .0) span
 
