@@ -129,7 +129,7 @@ module _ {M : Type 1} (𝓤 : URA M) (H : Heap 𝓤) (A : Atoms 𝓤) (W : Given
       Call-node-at.calls ! mem run (fmOf 𝓤 H (W .laws) 𝓣) known-node-at κ·nodes q·nodes b·nodes o·nodes γ·nodes (length nodes) nodes (r2 register nodes x-known x-v span page) ok·2 (and-then ! (load ! (from ! (stop !)) (look ! 30 refl)) (and-then ! (load ! (from ! (stop !)) (look ! 18 refl)) (no-more !)))
       (λ ok·3. move ! (2 ∷ 3 ∷ 0 ∷ 1 ∷ []) $ land ! (from ! (stop !)) (init ! 8 refl (NodeAt′.typed 𝓤 H A W (r3 register nodes x-known x-v span page) ok·3)) $
       here ! (‵ (flft κ·register q·register) ∷ ‵ (ShrAt Record′.row κ·register b·register o·register γ·register (length register) register) ∷ ‵ (flft κ·nodes q·nodes) ∷ ‵ (ShrAt u32 κ·nodes b·nodes o·nodes γ·nodes (length nodes) nodes) ∷ empty (tyInt w64) l₁₅ (empty (tyInt w64) l₁₄ (holds (tyAt (code.find-function .locals) 13) l₁₃ (NodeAt′.mach (r3 register nodes x-known x-v span page)) (empty (tyInt w64) l₁₂ (empty (tyInt w64) l₁₁ (empty (tyInt w64) l₁₀ (empty (tyAt (code.find-function .locals) 9) l₉ (holds (tyInt w64) l₈ (vint w64 (r2 register nodes x-known x-v span page)) (holds (tyAt (code.find-function .locals) 7) l₇ (Record′.mach (r1 register nodes x-known x-v span page)) (holds (tyAt (code.find-function .locals) 6) l₆ (PageIndex′.mach page) (holds (tyInt w64) l₅ (vint w64 span) (holds (tyInt w64) l₄ (vint w64 x-v) (holds (tyInt w64) l₃ (vint w64 x-known) (holds (sliceTy (tyRef (named 1) imm (pointee (u32 .written)))) l₂ (sliceVal (b·nodes, o·nodes) (length nodes)) (holds (sliceTy (tyRef (named 0) imm (pointee (Record′.row .written)))) l₁ (sliceVal (b·register, o·register) (length register)) (empty (tyInt w64) l₀ [])))))))))))))))) $
-      Call-turn-at.calls ! mem run (fmOf 𝓤 H (W .laws) 𝓣) known-turn-at (r3 register nodes x-known x-v span page) page span ok·3 ok·page ok·span (and-then ! (load ! (from ! (stop !)) (look ! 9 refl)) (and-then ! (load ! (from ! (stop !)) (look ! 23 refl)) (and-then ! (load ! (from ! (stop !)) (look ! 25 refl)) (no-more !))))
+      Call-turn-at.calls ! mem run (fmOf 𝓤 H (W .laws) 𝓣) known-turn-at (r3 register nodes x-known x-v span page) page span ok·3 ok·page ok·span (Facts.turn-at-1 register nodes x-known x-v span page (room·register .0) (room·nodes .0) (ok·x-known .1) (ok·x-v .1) (ok·span .1) ok·page need ok·1 (ok·2 .1) ok·3) (and-then ! (load ! (from ! (stop !)) (look ! 9 refl)) (and-then ! (load ! (from ! (stop !)) (look ! 23 refl)) (and-then ! (load ! (from ! (stop !)) (look ! 25 refl)) (no-more !))))
       (λ ok·4. land ! (from ! (stop !)) (init ! 16 refl (Turn′.typed 𝓤 H A W (r4 register nodes x-known x-v span page) ok·4)) $
       here ! (‵ (flft κ·register q·register) ∷ ‵ (ShrAt Record′.row κ·register b·register o·register γ·register (length register) register) ∷ ‵ (flft κ·nodes q·nodes) ∷ ‵ (ShrAt u32 κ·nodes b·nodes o·nodes γ·nodes (length nodes) nodes) ∷ empty (tyInt w64) l₁₅ (empty (tyInt w64) l₁₄ (holds (tyAt (code.find-function .locals) 13) l₁₃ (NodeAt′.mach (r3 register nodes x-known x-v span page)) (empty (tyInt w64) l₁₂ (empty (tyInt w64) l₁₁ (empty (tyInt w64) l₁₀ (holds (tyAt (code.find-function .locals) 9) l₉ (Turn′.mach (r4 register nodes x-known x-v span page)) (holds (tyInt w64) l₈ (vint w64 (r2 register nodes x-known x-v span page)) (holds (tyAt (code.find-function .locals) 7) l₇ (Record′.mach (r1 register nodes x-known x-v span page)) (holds (tyAt (code.find-function .locals) 6) l₆ (PageIndex′.mach page) (holds (tyInt w64) l₅ (vint w64 span) (holds (tyInt w64) l₄ (vint w64 x-v) (holds (tyInt w64) l₃ (vint w64 x-known) (holds (sliceTy (tyRef (named 1) imm (pointee (u32 .written)))) l₂ (sliceVal (b·nodes, o·nodes) (length nodes)) (holds (sliceTy (tyRef (named 0) imm (pointee (Record′.row .written)))) l₁ (sliceVal (b·register, o·register) (length register)) (empty (tyInt w64) l₀ [])))))))))))))))) $
       Turn′.cases ! (r4 register nodes x-known x-v span page)

@@ -11,7 +11,7 @@ use lib.ListN.{length, getD}
 use Rattle.tree.specs.Tree.{rootHeight, meets, nth}
 use Rattle.tree.specs.Place.{below, first}
 use Rattle.tree.specs.NodeArea.{nodeAt, withNode}
-use Rattle.tree.specs.Register.{noRecord, limited, updateOf, extentOf, withRecord, newestIn}
+use Rattle.tree.specs.Register.{noRecord, inLimits, limited, updateOf, extentOf, withRecord, newestIn}
 use Rattle.tree.specs.Contract.{rootSpan, nodesFor, Pages, Counted, Indexed, Part, Spans, Kth, WovenAt, highest}
 use Rattle.tree.specs.declared.Extent.{Extent}
 use Rattle.tree.specs.declared.Named.{Named}

@@ -45,6 +45,12 @@ place-of-1 =
     (register : List Record) (nodes : List ℕ) (x-known : ℕ) (x-v : ℕ) (span : ℕ) (page : PageIndex) (len-register : length register < 2 ^ 64) (len-nodes : length nodes < 2 ^ 64) (fits-x-known : x-known < 2 ^ 64) (fits-x-v : x-v < 2 ^ 64) (fits-span : span < 2 ^ 64) (ok-page : PageIndex′.Ok page) (need : find″.req register nodes x-known x-v span page) (ok-r1 : Record′.Ok (r1 register nodes x-known x-v span page))
     → place-of″.req (r1 register nodes x-known x-v span page) x-known x-v page span
 
+-- `turn_at` asks: Spanned span
+abbrev pub turn-at-1 : Type 0
+turn-at-1 =
+    (register : List Record) (nodes : List ℕ) (x-known : ℕ) (x-v : ℕ) (span : ℕ) (page : PageIndex) (len-register : length register < 2 ^ 64) (len-nodes : length nodes < 2 ^ 64) (fits-x-known : x-known < 2 ^ 64) (fits-x-v : x-v < 2 ^ 64) (fits-span : span < 2 ^ 64) (ok-page : PageIndex′.Ok page) (need : find″.req register nodes x-known x-v span page) (ok-r1 : Record′.Ok (r1 register nodes x-known x-v span page)) (fits-r2 : (r2 register nodes x-known x-v span page) < 2 ^ 64) (ok-r3 : NodeAt′.Ok (r3 register nodes x-known x-v span page))
+    → turn-at″.req (r3 register nodes x-known x-v span page) page span
+
 -- the product does not wrap
 abbrev pub mul-1 : Type 0
 mul-1 =
