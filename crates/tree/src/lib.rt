@@ -408,8 +408,8 @@ fn highest(first: u64, span: u64) -> u64
     }
 }
 
-// Whether a record's update, its pages as they stand in the record, begins at hi or before and has a page that is lo or later. One comparison of a
-// larger and a smaller number is one branch, which goes the same way for most records.
+// Whether a record's update, its pages as they stand in the record, meets the pages lo .. hi. One comparison of a larger and a smaller number is one
+// branch, which goes the same way for most records.
 fn record_within(r: Record, lo: u64, hi: u64) -> bool
     ensures { λ b. ⌜ b ≡ leb (max (r .f .0) lo) (min (max (r .f .0) (r .last .0)) hi) ⌝ }
 {
