@@ -2,7 +2,7 @@
 
 use crate::counters::PageIndex;
 use crate::error::Error;
-use crate::ffi::{self, Record};
+use crate::ffi::{self, Record, State};
 use std::fmt;
 
 /// A blob has at most this many pages.
@@ -33,6 +33,18 @@ pub struct Planned {
     pub pages: u64,
     /// The blob's size in pages after it.
     pub size_after: u64,
+}
+
+impl State {
+    /// The limits that the store was formatted with.
+    pub fn limits(&self) -> Limits {
+        Limits {
+            page_size: self.size,
+            pages: self.pages,
+            nodes: self.nodes,
+            updates: self.updates,
+        }
+    }
 }
 
 impl Limits {

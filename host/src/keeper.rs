@@ -114,12 +114,7 @@ impl<A> Keeper<A> {
 
     /// The limits that the store was formatted with.
     pub fn limits(&self) -> Limits {
-        Limits {
-            page_size: self.state.size,
-            pages: self.state.pages,
-            nodes: self.state.nodes,
-            updates: self.state.updates,
-        }
+        self.state.limits()
     }
 }
 

@@ -80,12 +80,7 @@ impl Header {
     }
 
     pub fn limits(&self) -> Limits {
-        Limits {
-            page_size: self.state.size,
-            pages: self.state.pages,
-            nodes: self.state.nodes,
-            updates: self.state.updates,
-        }
+        self.state.limits()
     }
 
     /// FORMAT accepts the limits, and the areas have the lengths of the limits.
