@@ -329,15 +329,6 @@ pub fn extent_of(r: Record) -> Extent
     within_limits(r.f, r.last, r.size)
 }
 
-// Whether a record's update meets the `span` pages from `first` on.
-pub fn record_meets(r: Record, first: PageIndex, span: u64) -> bool
-    requires { ⌜ first .0 + span < 2 ^ 64 ⌝ }
-    ensures { λ b. ⌜ b ≡ meets (updateOf r .f) (updateOf r .last) (first .0) span ⌝ }
-{
-    let e = extent_of(r);
-    range_meets(e.f, e.last, first, span)
-}
-
 // The empty record.
 pub fn no_record() -> Record
     ensures { λ r. ⌜ r ≡ noRecord ⌝ }
