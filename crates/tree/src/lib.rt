@@ -144,7 +144,7 @@ pub fn node_index(f: PageIndex, height: u64, first: PageIndex, node_height: u64)
 }
 
 // Whether some page of f .. last lies among the span pages from first on.
-pub fn range_meets(f: PageIndex, last: PageIndex, first: PageIndex, span: u64) -> bool
+fn range_meets(f: PageIndex, last: PageIndex, first: PageIndex, span: u64) -> bool
     requires { ⌜ first .0 + span < 2 ^ 64 ⌝ }
     ensures { λ r. ⌜ r ≡ meets (f .0) (last .0) (first .0) span ⌝ }
 {
@@ -329,15 +329,6 @@ pub fn extent_of(r: Record) -> Extent
     within_limits(r.f, r.last, r.size)
 }
 
-// Whether a record's update meets the `span` pages from `first` on.
-pub fn record_meets(r: Record, first: PageIndex, span: u64) -> bool
-    requires { ⌜ first .0 + span < 2 ^ 64 ⌝ }
-    ensures { λ b. ⌜ b ≡ meets (updateOf r .f) (updateOf r .last) (first .0) span ⌝ }
-{
-    let e = extent_of(r);
-    range_meets(e.f, e.last, first, span)
-}
-
 // The empty record.
 pub fn no_record() -> Record
     ensures { λ r. ⌜ r ≡ noRecord ⌝ }
@@ -354,13 +345,6 @@ pub fn no_record() -> Record
         place: 0,
         woven: 0,
     }
-}
-
-// How many records the register has room for.
-pub fn register_len(register: &[Record]) -> usize
-    ensures { λ r. ⌜ r ≡ length (now (register .entry)) ⌝ }
-{
-    register.len()
 }
 
 // The record at an index, and the empty one past the register's end.

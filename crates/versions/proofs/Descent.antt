@@ -2,7 +2,7 @@
 -- Assumes nothing.
 use mathlib.Core.Path.{_≡_, refl, sym, ap, _∙_}
 use mathlib.Core.Logic.{inl, inr}
-use mathlib.Core.Bool.{Bool, true, false, and-true, and-false}
+use mathlib.Core.Bool.{Bool, true, false, and-false, true≢false}
 use mathlib.Core.Option.{Option, none, some}
 use mathlib.Core.List.{List, []}
 use Prim.Native.Nat.{ℕ, zero, suc, _+_, _-_, _*_, _/_, _%_, _^_, _≤_, _<_, min}
@@ -14,10 +14,10 @@ use lib.ListN.{length, take, length-map}
 use lib.Seq.{length-take-le, getD-take, take-all}
 use lib.Pow.{pow-pos, pow-mono}
 use lib.Arith.{digits-div, digits-mod}
-use Rattle.tree.specs.Tree.{nth, update, meets, rootHeight}
+use Rattle.tree.specs.Tree.{nth, update, rootHeight}
 use Rattle.tree.specs.Place.{first}
 use Rattle.tree.specs.NodeArea.{nodeAt}
-use Rattle.tree.specs.Walk.{walkBy, placeOf, hasNode, visit, goes, ends}
+use Rattle.tree.specs.Walk.{walkBy, placeOf, placeWhere, hasNode, visit, goes, ends}
 use Rattle.tree.specs.Register.{noRecord, updateOf, updatesOf}
 use Rattle.tree.specs.declared.Record.{Record}
 use Rattle.tree.specs.declared.Found.{Found}
@@ -26,7 +26,7 @@ use Rattle.tree.specs.declared.NodeAt.{NodeAt}
 use Rattle.tree.specs.declared.NodeAt.the-variants.{Stored, Missing}
 use Rattle.tree.proofs.Area.{placed-out}
 use Rattle.tree.proofs.First.{first-le, first-root, first-nest, lt-root}
-use Rattle.tree.proofs.Meets.{lt-or-le, meets-after}
+use Rattle.tree.proofs.Meets.{lt-or-le, meets-within}
 use Rattle.tree.proofs.Records.{updateOf-inside, update-of-record}
 use Rattle.tree.proofs.Root.{root-pow, root-fits, root-low}
 use Rattle.versions.specs.Calls.{areasOf, findPage}
@@ -72,22 +72,12 @@ module _ (q : Record) where
   pub root-most : 2 ^ rootHeight (updateOf q .size) ≤ 4096
   root-most = let i = updateOf-inside q in pow-mono (root-low (updateOf q .size) (i .2))
 
-  module _ (p h : ℕ) where
-    pub node-too-high : rootHeight (updateOf q .size) < h → hasNode (updateOf q) p h ≡ false
-    unfolding hasNode
-    node-too-high k = rw (lt-leb h (rootHeight (updateOf q .size)) k)
-
-    pub node-past-last : updateOf q .last < first p h → hasNode (updateOf q) p h ≡ false
-    unfolding hasNode
-    node-past-last k = rw (meets-after (updateOf q .f) (updateOf q .last) (first p h) (2 ^ h) k, and-false)
-
-    -- A node that is no higher than the root and begins by the update's last page lies in the root.
-    pub node-in-root : (span : ℕ) → span ≡ 2 ^ h → h ≤ rootHeight (updateOf q .size) → first p h ≤ updateOf q .last
-        → hasNode (updateOf q) p h ≡ ltb (updateOf q .f) (first p h + span)
-    unfolding hasNode meets
-    node-in-root span e k m =
-        let inside = lt-root p (rootHeight (updateOf q .size)) h k (omega (arith, updateOf-inside q, root-fits (updateOf q .size))) in
-        rw (e, le-leb h (rootHeight (updateOf q .size)) k, lt-ltb p (2 ^ rootHeight (updateOf q .size)) inside, le-leb (first p h) (updateOf q .last) m, and-true)
+  -- A node that is no higher than the root and meets the update lies in the root.
+  pub node-there : (p h : ℕ) → h ≤ rootHeight (updateOf q .size) → first p h ≤ updateOf q .last → updateOf q .f < first p h + 2 ^ h → hasNode (updateOf q) p h ≡ true
+  unfolding hasNode
+  node-there p h k l m =
+      let inside = lt-root p (rootHeight (updateOf q .size)) h k (omega (arith, updateOf-inside q, root-fits (updateOf q .size))) in
+      rw (le-leb h (rootHeight (updateOf q .size)) k, lt-ltb p (2 ^ rootHeight (updateOf q .size)) inside, meets-within (updateOf q .f) (updateOf q .last) (first p h) (2 ^ h) m l)
 
 -- ---- a node's place
 
@@ -103,6 +93,11 @@ module _ (rs : List Record) (known : ℕ) (inside : known ≤ length rs) where
         | inl k ↦ rw (length-map, len, update-of-record (take known rs) i (omega arith), getD-take known rs i noRecord k)
         | inr k ↦ rw (length-map, len, lt-leb (suc i) known (omega arith), and-false)
       ]
+
+-- A place's number, by what `place_in` promises of it.
+pub place-number : (b : Bool) (place r : ℕ) → r < 2 ^ 64 → (b ≡ true → r ≡ min place (2 ^ 64 - 1)) → (r < 2 ^ 64 - 1 → b ≡ true) → r ≡ placeNumber (placeWhere b place)
+place-number true place r low where-there below-most = where-there refl
+place-number false place r low where-there below-most = elim (lt-or-le r (2 ^ 64 - 1)) [ inl k ↦ absurd (true≢false (sym (below-most k))) | inr k ↦ omega arith ]
 
 module _ (area : List ℕ) (fits : length area < 2 ^ 64) where
   missing-past : (q : ℕ) → 2 ^ 64 - 1 ≤ q → nodeAt area q ≡ Missing

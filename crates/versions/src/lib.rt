@@ -1156,35 +1156,27 @@ fn first_of(page: PageIndex, span: u64) -> PageIndex
     PageIndex((page.0 >> h) << h)
 }
 
-// Whether a record's update makes a node of this span over a page: one that is no higher than the root and meets the update, so its page lies in the
-// root. It is compared with the last page first, so that the sum cannot wrap.
-fn has_node(q: Record, page: PageIndex, span: u64) -> bool
+// The place of the node of this span over a page in a record's update, by its index in weaving order; the largest number, which lies past any area, where
+// the place would wrap or the update makes no such node. It makes one that is no higher than the root and meets the update, so its page lies in the root;
+// it is compared with the last page first, so that the sum cannot wrap.
+fn place_in(q: Record, page: PageIndex, span: u64) -> u64
     requires { ⌜ Spanned span ⌝ }
-    ensures { λ b. ⌜ b ≡ hasNode (updateOf q) (page .0) (rootHeight span) ⌝ }
+    ensures { λ r. ⌜ (hasNode (updateOf q) (page .0) (rootHeight span) ≡ true → r ≡ min (q .place + index (updateOf q .f) (updateOf q .last) 0 (rootHeight (updateOf q .size)) (page .0) (rootHeight span)) (2 ^ 64 - 1)) × (r < 2 ^ 64 - 1 → hasNode (updateOf q) (page .0) (rootHeight span) ≡ true) ⌝ }
 {
     let e = extent_of(q);
-    if root_height(e.size) < height_of(span) {
-        return false;
+    let height = root_height(e.size);
+    let h = height_of(span);
+    if height < h {
+        return u64::MAX;
     }
     let first = first_of(page, span);
     if e.last.0 < first.0 {
-        return false;
+        return u64::MAX;
     }
-    e.f.0 < first.0 + span
-}
-
-// The place of that node, by its index in weaving order. One that would wrap answers the largest number, which lies past any area.
-fn place_in(q: Record, page: PageIndex, span: u64) -> u64
-    requires { ⌜ Spanned span × (hasNode (updateOf q) (page .0) (rootHeight span) ≡ true) ⌝ }
-    ensures { λ r. ⌜ r ≡ min (q .place + index (updateOf q .f) (updateOf q .last) 0 (rootHeight (updateOf q .size)) (page .0) (rootHeight span)) (2 ^ 64 - 1) ⌝ }
-{
-    let e = extent_of(q);
-    let i = node_index(
-        e.f,
-        root_height(e.size),
-        first_of(page, span),
-        height_of(span),
-    );
+    if first.0 + span <= e.f.0 {
+        return u64::MAX;
+    }
+    let i = node_index(e.f, height, first, h);
     if q.place > u64::MAX - i {
         return u64::MAX;
     }
@@ -1202,11 +1194,7 @@ fn place_of(q: Record, known: u64, v: u64, page: PageIndex, span: u64) -> u64
     if known < v {
         return u64::MAX;
     }
-    if has_node(q, page, span) {
-        place_in(q, page, span)
-    } else {
-        u64::MAX
-    }
+    place_in(q, page, span)
 }
 
 // Where the walk to a page goes from the node x of this span.

@@ -5,5 +5,4 @@ pub mod no_record
 pub mod record_at
 pub mod record_of
 pub mod record_within
-pub mod register_len
 pub mod set_record
