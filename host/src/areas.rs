@@ -225,6 +225,7 @@ impl Areas {
 }
 
 impl Lend for Areas {
+    #[inline]
     fn parts(&self) -> Parts<'_> {
         Parts {
             pages: &self.pages,
@@ -233,6 +234,7 @@ impl Lend for Areas {
         }
     }
 
+    #[inline]
     fn lend(&mut self) -> LentAreas<'_> {
         LentAreas {
             pages: &mut self.pages,
@@ -243,6 +245,7 @@ impl Lend for Areas {
 }
 
 impl Lend for LentAreas<'_> {
+    #[inline]
     fn parts(&self) -> Parts<'_> {
         Parts {
             pages: self.pages,
@@ -251,6 +254,7 @@ impl Lend for LentAreas<'_> {
         }
     }
 
+    #[inline]
     fn lend(&mut self) -> LentAreas<'_> {
         LentAreas {
             pages: self.pages,

@@ -96,11 +96,17 @@ impl Error {
 
     /// What a call's refusal number says; 0 is acceptance. The proved calls reply with no number above 19. A library
     /// that did would not be the proved one: then nothing it says of the areas can be relied on, so that is `Damaged`.
+    #[inline]
     pub(crate) fn check(refusal: u64) -> Result<(), Error> {
         match refusal {
             0 => Ok(()),
-            number => Err(Error::from_number(number).unwrap_or(Error::Damaged)),
+            number => Err(Error::of_refusal(number)),
         }
+    }
+
+    #[cold]
+    fn of_refusal(number: u64) -> Error {
+        Error::from_number(number).unwrap_or(Error::Damaged)
     }
 
     fn words(&self) -> &'static str {

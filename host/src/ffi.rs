@@ -2,7 +2,8 @@
 //!
 //! The proved functions are total: they end and stay inside the areas they are lent, whatever store, numbers and
 //! bytes they are given. So nothing is asked of a caller here but slices, whose borrows keep the areas of one call
-//! apart and alive. Slices cross as pointer and length in elements; the pointer of a slice is never null.
+//! apart and alive. Slices cross as pointer and length in elements; the pointer of a slice is never null. The calls are
+//! `inline`, so that a program that uses them copies no reply twice.
 
 use crate::areas::{LentAreas, Parts};
 use std::mem::size_of;
@@ -299,42 +300,49 @@ pub fn format(limits: [u64; 4], areas: LentAreas<'_>) -> FormatReply {
 }
 
 /// BEGIN.
+#[inline]
 pub fn begin(s: State, areas: LentAreas<'_>, n: u64) -> BeginReply {
     // SAFETY: the areas are borrowed mutably for the call; total for any store, areas and number.
     unsafe { call!(pit_begin(s; lent areas; n)) }
 }
 
 /// PUT.
+#[inline]
 pub fn put(s: State, areas: LentAreas<'_>, ticket: u64, i: u64, bytes: &[u8]) -> u64 {
     // SAFETY: the areas are borrowed mutably, so `bytes` is no part of them; total for any arguments.
     unsafe { call!(pit_put(s; lent areas; ticket, i, bytes.as_ptr(), bytes.len())) }
 }
 
 /// ASSIGN as a write at page `f`.
+#[inline]
 pub fn write(s: State, areas: LentAreas<'_>, ticket: u64, f: u64) -> AssignReply {
     // SAFETY: the areas are borrowed mutably for the call; total for any store, areas and numbers.
     unsafe { call!(pit_write(s; lent areas; ticket, f)) }
 }
 
 /// ASSIGN as an append.
+#[inline]
 pub fn append(s: State, areas: LentAreas<'_>, ticket: u64) -> AssignReply {
     // SAFETY: the areas are borrowed mutably for the call; total for any store, areas and number.
     unsafe { call!(pit_append(s; lent areas; ticket)) }
 }
 
 /// WEAVE.
+#[inline]
 pub fn weave(s: State, areas: LentAreas<'_>, ticket: u64) -> WeaveReply {
     // SAFETY: the areas are borrowed mutably for the call; total for any store, areas and number.
     unsafe { call!(pit_weave(s; lent areas; ticket)) }
 }
 
 /// PUBLISH. It only reads the areas.
+#[inline]
 pub fn publish(s: State, areas: Parts<'_>) -> PublishReply {
     // SAFETY: the areas are borrowed for the call, which only reads them; total for any store and areas.
     unsafe { call!(pit_publish(s; seen areas; )) }
 }
 
 /// READ.
+#[inline]
 pub fn read(s: State, areas: Parts<'_>, at: [u64; 3], buffer: &mut [u8]) -> u64 {
     let [version, offset, len] = at;
     let (to, room) = (buffer.as_mut_ptr(), buffer.len());
@@ -343,24 +351,28 @@ pub fn read(s: State, areas: Parts<'_>, at: [u64; 3], buffer: &mut [u8]) -> u64 
 }
 
 /// SIZE.
+#[inline]
 pub fn size(s: State, areas: Parts<'_>, version: u64) -> SizeReply {
     // SAFETY: the areas are borrowed for the call, which only reads them; total for any store, areas and number.
     unsafe { call!(pit_size(s; seen areas; version)) }
 }
 
 /// RECENT.
+#[inline]
 pub fn recent(s: State, areas: Parts<'_>) -> VersionReply {
     // SAFETY: the areas are borrowed for the call, which only reads them; total for any store and areas.
     unsafe { call!(pit_recent(s; seen areas; )) }
 }
 
 /// STAMP.
+#[inline]
 pub fn stamp(s: State, areas: Parts<'_>, version: u64, page: u64) -> VersionReply {
     // SAFETY: the areas are borrowed for the call, which only reads them; total for any store, areas and numbers.
     unsafe { call!(pit_stamp(s; seen areas; version, page)) }
 }
 
 /// VIEW.
+#[inline]
 pub fn view(s: State, areas: Parts<'_>, version: u64, page: u64) -> ViewReply {
     // SAFETY: the areas are borrowed for the call, which only reads them; total for any store, areas and numbers.
     unsafe { call!(pit_view(s; seen areas; version, page)) }
