@@ -112,12 +112,11 @@ fn a_lent_store_is_saved_too() {
     assert!(Store::load(folder.file()).unwrap() == in_work());
 }
 
-/// 268 MB: 65,535 pages of 4,096 bytes, the most nodes and the most updates.
-#[test]
-fn the_largest_store() {
-    let folder = Folder::new("largest");
+/// The most pages, nodes and updates, of pages of this size, saved and loaded.
+fn the_most_of(page_size: u64) {
+    let folder = Folder::new(&format!("most_{page_size}"));
     let most = Limits {
-        page_size: 4_096,
+        page_size,
         pages: 65_535,
         nodes: 131_072,
         updates: 4_096,
@@ -127,7 +126,18 @@ fn the_largest_store() {
     store.save(folder.file()).unwrap();
     assert_eq!(
         fs::metadata(folder.file()).unwrap().len(),
-        128 + 65_535 * 4_096 + 131_072 * 8 + 4_096 * 80
+        128 + 65_535 * page_size + 131_072 * 8 + 4_096 * 80
     );
     assert!(Store::load(folder.file()).unwrap() == store);
+}
+
+#[test]
+fn the_most_of_the_smallest_pages() {
+    the_most_of(16);
+}
+
+#[test]
+#[ignore = "268 MB of disk and twice that of memory: cargo test -- --ignored the_largest_store"]
+fn the_largest_store() {
+    the_most_of(4_096);
 }
