@@ -4,15 +4,16 @@
     python3 walkgen.py REPO CRATE F ..      write crates/CRATE/proofs/F/Proof.antt of each F, and all that it cites
     python3 walkgen.py REPO CRATE --list    the functions of the crate, and which of them take a slice of a struct
     --calls                                 also write the call of each F, for the crates above to cite
-    --whole                                 F .. are all walks of the crate: what proofs/Walkgen/ has besides is removed
+    +F                                      of the covered function F write the call alone, for the crates above to cite
+    --whole                                 F .. are all walks of the crate: what proofs/Generated/ has besides is removed
     --rebind                                also bring the author's Facts.antt up to date: the arguments of each clause (its answer stays), and a skeleton for each new fact
 A function of the file m.rt is m::f.
 
 Everything it writes is checked by antt, so nothing here is trusted. What it writes, under crates/CRATE/proofs:
-    Walkgen/Again, Flow      of no crate: loans of a slice, and the flow of control (from lib/)
-    Walkgen/Kind/T           what a walk cites of a declared struct or enum T
-    Walkgen/Say/F            F's contract over plain lists and numbers: req, ens, and where ens fixes them, res and out-P
-    Walkgen/Call/F           the call of F as one step of a walk
+    Generated/Again, Flow      of no crate: loans of a slice, and the flow of control (from lib/)
+    Generated/Kind/T           what a walk cites of a declared struct or enum T
+    Generated/Say/F            F's contract over plain lists and numbers: req, ens, and where ens fixes them, res and out-P
+    Generated/Call/F           the call of F as one step of a walk
     F/Proof.antt             the walk, which ends in F-spec
     F/Proof/Asks.antt        the type of each plain fact that the walk asks for
     F/Proof/Facts.antt       the author's answers. Written once, as a skeleton with a `?` for each, and never again but by --rebind
@@ -312,9 +313,9 @@ class Crate:
 
     # what is generated stands once, in the lowest crate that needs it: a crate above cites it
     def home(self, rel, of=''):
-        """the crate whose proofs/Walkgen has REL, which is about the item `of`: one that this crate depends on, or this one"""
+        """the crate whose proofs/Generated has REL, which is about the item `of`: one that this crate depends on, or this one"""
         for x in self.lower:
-            p = os.path.join(self.root, 'crates', x, 'proofs', 'Walkgen', rel + '.antt')
+            p = os.path.join(self.root, 'crates', x, 'proofs', 'Generated', rel + '.antt')
             if os.path.exists(p) and (not of or '`%s`' % of in ''.join(open(p).readlines()[:2])):
                 return x
         return self.name
@@ -323,8 +324,8 @@ class Crate:
         return self.home(rel, of) != self.name
 
     def made(self, rel, of=''):
-        """the module REL of Walkgen"""
-        return '%s.Walkgen.%s' % (self.proofs(self.home(rel, of)), '.'.join(mod(x) for x in rel.split('/')))
+        """the module REL of Generated"""
+        return '%s.Generated.%s' % (self.proofs(self.home(rel, of)), '.'.join(mod(x) for x in rel.split('/')))
 
     def put(self, rel, text):
         """a file of the tool's"""
@@ -336,7 +337,7 @@ class Crate:
 
     def flush(self):
         base = os.path.join(self.dir, 'proofs')
-        w = os.path.join(base, 'Walkgen')
+        w = os.path.join(base, 'Generated')
 
         def write(p, text):
             # a file that differs in its layout alone, as after `rt fmt`, is left as it is
@@ -350,7 +351,7 @@ class Crate:
             # the run was for all walks of the crate: what it did not write is cited by none
             for d in ('', 'Kind/', 'Say/', 'Call/'):
                 for m in modules(os.path.join(w, d)):
-                    if d + m not in ('Kind', 'Say', 'Call') and 'Walkgen/%s%s.antt' % (d, m) not in self.files:
+                    if d + m not in ('Kind', 'Say', 'Call') and 'Generated/%s%s.antt' % (d, m) not in self.files:
                         os.remove(os.path.join(w, d, m + '.antt'))
         # the roots: every module that stands in the folder, so that a run for one function keeps what others cite
         tops = [t for t in ('Again', 'Flow') if t in modules(w)]
@@ -361,11 +362,19 @@ class Crate:
                 tops.append(k)
             elif k in modules(w):
                 os.remove(os.path.join(w, k + '.antt'))
-        write(os.path.join(base, 'Walkgen.antt'), MADE + ''.join('pub mod %s\n' % t for t in tops))
+        write(os.path.join(base, 'Generated.antt'), MADE + ''.join('pub mod %s\n' % t for t in tops))
+        # what a reader who lists proofs/ need not open
+        walked = sorted(os.path.relpath(at, base) for at, _, fs in os.walk(base) if 'Proof.antt' in fs and open(os.path.join(at, 'Proof.antt')).readline() == MADE)
+        write(os.path.join(base, 'GENERATED.md'), '''# Generated
+
+Written by `tools/walkgen`, and checked by the prover like any proof: nobody has to read these folders.
+
+- `Generated/`
+%s''' % ''.join('- `%s/`, but for `%s`\n' % (f, '`, `'.join(x for x in ('Proof/Facts.antt', 'Proof/Loop.antt') if os.path.exists(os.path.join(base, f, x)))) for f in walked))
         lib = os.path.join(base, 'Lib.antt')
         old = open(lib).read() if os.path.exists(lib) else ''
-        if 'pub mod Walkgen\n' not in old:
-            open(lib, 'w').write(old + 'pub mod Walkgen\n')
+        if 'pub mod Generated\n' not in old:
+            open(lib, 'w').write(old + 'pub mod Generated\n')
 
     # ---- rows
     def short(self, name):
@@ -446,7 +455,7 @@ class Crate:
                 out.append('use %s as %s′' % (self.made('Kind/' + s, n), s))
         return out
 
-    # ---- Walkgen/Kind/T
+    # ---- Generated/Kind/T
     def need_type(self, name):
         if ('type', name) in self.done:
             return
@@ -499,7 +508,7 @@ class Crate:
         if self.size(Ty('named', name=name))[0] > 0:
             L += ['abbrev pub stride : ℕ', 'stride = %d' % self.size(Ty('named', name=name))[0], '',
                   '-- the byte offset of an element of a slice does not wrap', 'pub scaled : (n i : ℕ) → i < n → n * stride < 2 ^ 63 → i * stride < 2 ^ 64', 'scaled n i l room = omega (arith, l, room)']
-        self.put('Walkgen/Kind/%s.antt' % s, '\n'.join(L).rstrip() + '\n')
+        self.put('Generated/Kind/%s.antt' % s, '\n'.join(L).rstrip() + '\n')
 
     def variants(self, name):
         """(constructor in antt, types of its fields) of each variant of an enum"""
@@ -647,7 +656,7 @@ class Fun:
         self.crate = path.split('::')[0]
         self.item = c.item(path)
         self.base = self.item.split('::')[-1]
-        # its name in Walkgen/, its proof's folder, and its module
+        # its name in Generated/, its proof's folder, and its module
         self.name, self.dir, self.dot = self.item.replace('::', '_'), self.item.replace('::', '/'), dotted(self.item)
         if path not in c.mir:
             raise Unsupported('%s is not in the MIR of the crate' % path)
@@ -777,7 +786,7 @@ class Fun:
             self.outs[x[:-1]], self.paths[x[:-1]] = t, 'e' + path
         self.fixed = (self.res is not None or self.ret.kind == 'unit') and len(self.outs) == len(self.muts)
 
-    # ---- Walkgen/Say/F
+    # ---- Generated/Say/F
     def need_say(self):
         c = self.c
         if ('say', self.path) in c.done:
@@ -811,7 +820,7 @@ class Fun:
                     define('out-' + hyph(p.name), ins, p.D, ' '.join(['by-' + hyph(p.name)] + [n for n, _ in ins]) + ' (res %s)' % ' '.join(n for n, _ in ins))
                 else:
                     define('out-' + hyph(p.name), ins, p.D, self.outs[p.name])
-        c.put('Walkgen/Say/%s.antt' % self.name, '\n'.join(L) + '\n')
+        c.put('Generated/Say/%s.antt' % self.name, '\n'.join(L) + '\n')
 
     def say(self, what, args):
         return ' '.join(['%s″.%s' % (self.h, what)] + [par(a) for a in args])
@@ -833,7 +842,7 @@ class Fun:
     def own(self, p, ys=None, n=None):
         return '‵ (%s %s %s %s %s %s %s %s)' % ('MutAt' if p.mut else 'ShrAt', p.row, p.k, p.b, p.o, p.g, n or p.n, par(ys or p.x))
 
-    # ---- Walkgen/Call/F: the call as one step of a walk
+    # ---- Generated/Call/F: the call as one step of a walk
     def need_call(self):
         c = self.c
         if ('call', self.path) in c.done:
@@ -1040,7 +1049,7 @@ class Fun:
                   '      (λ h. calls-from%s t fm (%s) (%s .args %s) (%s .post %s) known os h) %sk' % ('-last' if last else '', pre, asked, to, asked, to, okn), '',
                   '  pub %s : K → (mem : Memory → SProp 𝓤) (run : Routine → Fun 𝓤) → FmC 𝓤 H (W .laws) C → Triple 𝓤 (C #callee) (%s) → %s%s' % (nm, asked, pi, mid)] + tail(last) + [
                   '  %s t mem run fm known %s= %s-by t mem run fm %s(known %s)' % (nm, sp, nm, sp, to)]
-        c.put('Walkgen/Call/%s.antt' % self.name, '\n'.join(L) + '\n')
+        c.put('Generated/Call/%s.antt' % self.name, '\n'.join(L) + '\n')
 
 
 class Sim:
@@ -2422,8 +2431,8 @@ class Walk:
         old = open(path).read()
         if REBIND:
             # what is generated may have come to stand in another crate
-            now = dict(re.match(r'use (\S+)\.Walkgen\.(Flow|\w+\.\S+)', u).group(2, 1) for u in uses + ['use %s as F' % c.made('Flow')] if '.Walkgen.' in u)
-            old = re.sub(r'^use (\S+)\.Walkgen\.(Flow|\w+\.[^\s.]+)', lambda m: 'use %s.Walkgen.%s' % (now.get(m.group(2), m.group(1)), m.group(2)), old, flags=re.M)
+            now = dict(re.match(r'use (\S+)\.Generated\.(Flow|\w+\.\S+)', u).group(2, 1) for u in uses + ['use %s as F' % c.made('Flow')] if '.Generated.' in u)
+            old = re.sub(r'^use (\S+)\.Generated\.(Flow|\w+\.[^\s.]+)', lambda m: 'use %s.Generated.%s' % (now.get(m.group(2), m.group(1)), m.group(2)), old, flags=re.M)
         # which names are there, and with which arguments
         args = {a[0]: ' '.join(h[0] for h in a[1]) for a in self.asks}
         for name, text in skel.items():
@@ -2640,16 +2649,17 @@ def main():
         return
     if not c.elsewhere('Flow'):
         for lib in ('Again', 'Flow'):
-            c.put('Walkgen/%s.antt' % lib, open(os.path.join(HERE, 'lib', lib + '.antt.in')).read().replace('@PROOFS@', c.proofs(crate)))
+            c.put('Generated/%s.antt' % lib, open(os.path.join(HERE, 'lib', lib + '.antt.in')).read().replace('@PROOFS@', c.proofs(crate)))
         for x in c.unnamed:
-            if os.path.exists(os.path.join(root, 'crates', x, 'proofs', 'Walkgen', 'Flow.antt')):
+            if os.path.exists(os.path.join(root, 'crates', x, 'proofs', 'Generated', 'Flow.antt')):
                 print('%s: it has copies of what is generated in %s. Name %s in its line of crates.txt, and it cites them' % (crate, x, x))
     bad = 0
     for f in sys.argv[3:]:
         try:
-            fun = c.fn('%s::%s' % (crate, f))
-            Walk(fun).file()
-            if '--calls' in flags:
+            fun = c.fn('%s::%s' % (crate, f.lstrip('+')))
+            if not f.startswith('+'):
+                Walk(fun).file()
+            if '--calls' in flags or f.startswith('+'):
                 fun.need_call()
         except Unsupported as e:
             print('%s: not supported: %s' % (f, e))

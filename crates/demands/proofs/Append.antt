@@ -7,7 +7,7 @@ use native.Mathlib.Omega.{arith}
 use lib.ListN.{length}
 use Rattle.tree.specs.Tree.{Update, Node, node, countOf, noUpdate, update, newest, sizeAt}
 use Rattle.tree.specs.Walk.{Accepted, used}
-use Rattle.demands.specs.Model.{leftOf, rightOf}
+use Rattle.demands.specs.OnModel.{leftOf, rightOf}
 use Rattle.demands.proofs.Nth.{nth-append, nth-new}
 use Rattle.demands.proofs.Updates.{newest-same, used-same}
 

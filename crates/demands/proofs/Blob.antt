@@ -11,7 +11,8 @@ use Rattle.tree.specs.Walk.{stampOf}
 use Rattle.tree.proofs.Meets.{within, before, after}
 use Rattle.tree.proofs.Newest.{sides, newest-within, newest-before, newest-after, newest-le, newest-meets}
 use Rattle.tree.proofs.Walk.{covered}
-use Rattle.demands.specs.Model.{Limits, Page, Model, pagesOf, ticketAt, versionAt, updates, content, applied, blobAt, bytesAt}
+use Rattle.demands.specs.Model.{Limits, Page, Model, pagesOf, ticketAt, versionAt, updates}
+use Rattle.demands.specs.InTurn.{content, applied, blobAt, bytesAt}
 use Rattle.demands.proofs.Sound.{Sound}
 use Rattle.demands.proofs.Slots.{filled-slot}
 use Rattle.demands.proofs.Blocks.{Blocks, length-joined, pageByte}

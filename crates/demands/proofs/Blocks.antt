@@ -10,7 +10,8 @@ use borrow.Author.Tests.{le-leb}
 use lib.ListN.{length, getD, take, drop, set, length-append, List·getD-append}
 use lib.Seq.{split-at, set-split, take-at, drop-at, length-take-le, getD-take, getD-drop, drop-drop}
 use Rattle.pages.specs.Pages.{put, part}
-use Rattle.demands.specs.Model.{Page, joined}
+use Rattle.demands.specs.Model.{Page}
+use Rattle.demands.specs.InTurn.{joined}
 use Rattle.demands.proofs.Image.{tab}
 use Rattle.demands.proofs.Tab.{length-tab, getD-tab, tab-set}
 

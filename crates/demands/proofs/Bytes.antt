@@ -7,8 +7,10 @@ use native.Mathlib.Omega.{arith}
 use lib.ListN.{length, getD, take, drop}
 use lib.Seq.{drop-cons}
 use Rattle.versions.specs.declared.Store.{Store}
-use Rattle.versions.specs.Calls.{Areas, byteOf, bytesFrom}
-use Rattle.demands.specs.Model.{Page, joined}
+use Rattle.versions.specs.Store.{Areas}
+use Rattle.read.specs.Read.{byteOf, bytesFrom}
+use Rattle.demands.specs.Model.{Page}
+use Rattle.demands.specs.InTurn.{joined}
 use Rattle.demands.proofs.Blocks.{Blocks, length-joined, pageByte, blocks-byte}
 
 -- g j, g (j + 1) .. of so many.

@@ -14,7 +14,8 @@ use lib.Seq.{getD-set-same, getD-set-other}
 use Rattle.tree.specs.Tree.{Update, countOf, update}
 use Rattle.tree.specs.Walk.{used}
 use Rattle.tree.proofs.Meets.{lt-or-le}
-use Rattle.demands.specs.Model.{Ticket, pagesOf, taken, either}
+use Rattle.demands.specs.Model.{Ticket, pagesOf, taken}
+use Rattle.demands.specs.OnModel.{either}
 use Rattle.demands.proofs.Image.{cellIn, numbered}
 use Rattle.demands.proofs.Tab.{length-tab, getD-tab, tab-more}
 

@@ -11,9 +11,11 @@ use lib.ListN.{length, getD, take, drop, replicate}
 use borrow.Author.Tests.{le-ltb}
 use Rattle.versions.specs.Table.{holds, firstRefusal, unless, sizeRows, readRows, pageRows}
 use Rattle.versions.proofs.Table.{none, skip, first}
-use Rattle.versions.specs.Answers.{Call, PUBLISH, READ, SIZE, RECENT, STAMP, VIEW, filled, sizeIs, recentIs, partIs, says, answers}
-use Rattle.versions.specs.Calls.{Areas}
-use Rattle.demands.specs.Model.{Limits, Model, noModel, onModel, ticketAt, versionAt, blobAt, bytesAt, readNumber, pageNumber}
+use Rattle.demands.specs.Answers.{Call, PUBLISH, READ, SIZE, RECENT, STAMP, VIEW, filled, sizeIs, recentIs, partIs, says, answers}
+use Rattle.versions.specs.Store.{Areas}
+use Rattle.demands.specs.Model.{Limits, Model, noModel, ticketAt, versionAt}
+use Rattle.demands.specs.OnModel.{onModel, readNumber, pageNumber}
+use Rattle.demands.specs.InTurn.{blobAt, bytesAt}
 use Rattle.demands.specs.Run.{State, onStore, run, outcomes, formattedState, storeAfter, modelAfter}
 use Rattle.demands.specs.Demands.{Accepted, asked, AnswersAsModel, ReadsInTurn, Compared, Kept, Reaches, ThirdDemand, Demanded}
 use Rattle.demands.proofs.Image.{image}

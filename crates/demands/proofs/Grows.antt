@@ -9,28 +9,9 @@ use native.Mathlib.Omega.{arith}
 use lib.ListN.{length, length-append}
 use Rattle.versions.specs.Table.{unless}
 use Rattle.versions.proofs.Table.{unless-keeps}
-use Rattle.versions.specs.Answers.{Call, BEGIN, PUT, WRITE, APPEND, WEAVE, PUBLISH, READ, SIZE, RECENT, STAMP, VIEW}
-use Rattle.demands.specs.Model.{
-  Limits,
-  Ticket,
-  Model,
-  noTicket,
-  noVersion,
-  ticketAt,
-  versionAt,
-  blobSize,
-  due,
-  either,
-  putNumber,
-  assignNumber,
-  weaveNumber,
-  begun,
-  filledAt,
-  assigned,
-  woven,
-  published,
-  onModel,
-}
+use Rattle.demands.specs.Answers.{Call, BEGIN, PUT, WRITE, APPEND, WEAVE, PUBLISH, READ, SIZE, RECENT, STAMP, VIEW}
+use Rattle.demands.specs.Model.{Limits, Ticket, Model, noTicket, noVersion, ticketAt, versionAt, blobSize, due}
+use Rattle.demands.specs.OnModel.{either, putNumber, assignNumber, weaveNumber, begun, filledAt, assigned, woven, published, onModel}
 use Rattle.demands.specs.Run.{run}
 use Rattle.demands.proofs.Sound.{Sound}
 use Rattle.demands.proofs.Passed.{put-passed, weave-passed}

@@ -8,32 +8,12 @@ use lib.ListN.{length, getD, replicate}
 use Rattle.tree.specs.Tree.{Node, node, countOf, weaving, update}
 use Rattle.tree.specs.NodeArea.{allOnes}
 use Rattle.tree.specs.Walk.{used}
-use Rattle.tree.specs.declared.Record.{Record}
+use Rattle.register.specs.declared.Record.{Record}
 use Rattle.versions.specs.declared.Store.{Store}
-use Rattle.versions.specs.Calls.{Areas}
-use Rattle.demands.specs.Model.{
-  Limits,
-  Page,
-  Ticket,
-  Model,
-  noTicket,
-  noVersion,
-  pagesOf,
-  ticketAt,
-  versionAt,
-  taken,
-  versionOf,
-  updateOf,
-  updates,
-  blobSize,
-  places,
-  isFilled,
-  bitIf,
-  joined,
-  leftOf,
-  rightOf,
-  either,
-}
+use Rattle.versions.specs.Store.{Areas}
+use Rattle.demands.specs.Model.{Limits, Page, Ticket, Model, noTicket, noVersion, pagesOf, ticketAt, versionAt, taken, versionOf, updateOf, updates, blobSize, places, isFilled, bitIf}
+use Rattle.demands.specs.InTurn.{joined}
+use Rattle.demands.specs.OnModel.{leftOf, rightOf, either}
 use Rattle.demands.specs.Run.{State}
 
 -- g 0, g 1 .. g (n - 1).

@@ -12,7 +12,7 @@ use lib.Dec.{eqb}
 use lib.ListN.{length, getD, set, replicate, length-set}
 use lib.Pow.{pow-mono}
 use Rattle.tree.proofs.Count.{halved}
-use Rattle.versions.specs.Calls.{bitOf, withBit}
+use Rattle.put.specs.Put.{bitOf, withBit}
 use Rattle.demands.specs.Model.{Page, isFilled, bitIf, allFilled}
 use Rattle.demands.proofs.Image.{maskOf}
 

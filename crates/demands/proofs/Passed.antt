@@ -13,31 +13,8 @@ use lib.ListN.{length, getD}
 use Rattle.tree.specs.Tree.{countOf, update}
 use Rattle.versions.specs.Table.{firstRefusal, beginRows, putRows, assignRows, weaveRows, sizeRows, readRows, pageRows}
 use Rattle.versions.proofs.Table.{passed}
-use Rattle.demands.specs.Model.{
-  Limits,
-  Page,
-  Model,
-  pagesOf,
-  ticketAt,
-  versionAt,
-  taken,
-  versionOf,
-  updates,
-  blobSize,
-  places,
-  isFilled,
-  bitIf,
-  allFilled,
-  complete,
-  due,
-  beginNumber,
-  putNumber,
-  nextUpdate,
-  assignNumber,
-  weaveNumber,
-  readNumber,
-  pageNumber,
-}
+use Rattle.demands.specs.Model.{Limits, Page, Model, pagesOf, ticketAt, versionAt, taken, versionOf, updates, blobSize, places, isFilled, bitIf, allFilled, complete, due}
+use Rattle.demands.specs.OnModel.{beginNumber, putNumber, nextUpdate, assignNumber, weaveNumber, readNumber, pageNumber}
 
 -- A row that reads a record: in the model the record is there.
 there-fails : {A : Type 0} → (0 < 0) ⊎ A → A

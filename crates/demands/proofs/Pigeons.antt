@@ -7,7 +7,7 @@ use Prim.Native.Nat.{ℕ, zero, suc, _≤_, _<_}
 use native.Mathlib.Omega.{arith}
 use borrow.Author.Tests.{eqb-true, eqb-false}
 use lib.Dec.{eqb}
-use Rattle.demands.specs.Model.{either}
+use Rattle.demands.specs.OnModel.{either}
 
 abbrev pub Different : ℕ → (ℕ → ℕ) → Type 0
 Different n g = (i j : ℕ) → i < n → j < n → g i ≡ g j → i ≡ j

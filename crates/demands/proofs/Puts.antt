@@ -10,10 +10,11 @@ use lib.ListN.{length, getD, set, length-set}
 use lib.Seq.{getD-set-same, getD-set-other}
 use Rattle.pages.specs.Pages.{put}
 use Rattle.tree.specs.NodeArea.{withNode}
-use Rattle.tree.specs.Register.{withRecord}
+use Rattle.register.specs.Register.{withRecord}
 use Rattle.tree.specs.Walk.{used}
-use Rattle.tree.specs.declared.Record.{Record}
-use Rattle.demands.specs.Model.{Limits, Page, Ticket, Model, noTicket, pagesOf, taken, updates, filledAt}
+use Rattle.register.specs.declared.Record.{Record}
+use Rattle.demands.specs.Model.{Limits, Page, Ticket, Model, noTicket, pagesOf, taken, updates}
+use Rattle.demands.specs.OnModel.{filledAt}
 use Rattle.demands.proofs.Image.{tab, cellIn, blank, slotCell, pageCell, pagesImage, onesPair, countAt, weaveCell, numbered, nodeCell, nodesImage, recordImage, registerImage, Pair}
 use Rattle.demands.proofs.Sound.{Sound}
 use Rattle.demands.proofs.Tab.{length-tab, tab-set}

@@ -8,8 +8,9 @@ use native.Mathlib.Omega.{arith}
 use borrow.Author.Tests.{lt-ltb}
 use lib.ListN.{length, replicate}
 use Rattle.tree.proofs.Meets.{lt-or-le}
-use Rattle.versions.specs.Answers.{PUBLISH, waiting, publishedIs, Outcome, says}
-use Rattle.demands.specs.Model.{Limits, Model, complete, due, either, published, onModel}
+use Rattle.demands.specs.Answers.{PUBLISH, waiting, publishedIs, Outcome, says}
+use Rattle.demands.specs.Model.{Limits, Model, complete, due}
+use Rattle.demands.specs.OnModel.{either, published, onModel}
 use Rattle.demands.specs.Run.{run}
 use Rattle.demands.specs.Demands.{completeUpTo, lastDue}
 use Rattle.demands.proofs.Sound.{Sound}

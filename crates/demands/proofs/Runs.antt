@@ -4,7 +4,7 @@ use mathlib.Core.Path.{_≡_, refl, ap}
 use mathlib.Core.List.{List, [], _∷_, _++_}
 use Prim.Native.Nat.{suc}
 use lib.ListN.{length}
-use Rattle.versions.specs.Answers.{Call, Outcome}
+use Rattle.demands.specs.Answers.{Call, Outcome}
 use Rattle.demands.specs.Run.{run, outcomes}
 
 module _ {S : Type 0} (step : S → Call → S × Outcome) where

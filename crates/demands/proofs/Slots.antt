@@ -7,7 +7,8 @@ use mathlib.Core.List.{List, [], _∷_}
 use Prim.Native.Nat.{ℕ, zero, suc, _<_}
 use native.Mathlib.Omega.{arith}
 use lib.ListN.{length, getD, replicate}
-use Rattle.demands.specs.Model.{Page, allFilled, content}
+use Rattle.demands.specs.Model.{Page, allFilled}
+use Rattle.demands.specs.InTurn.{content}
 
 -- The slots of a new ticket are empty.
 pub none-there : (n i : ℕ) → _≡_ {A = Option Page} (getD (replicate n none) i none) none

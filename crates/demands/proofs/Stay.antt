@@ -6,7 +6,8 @@ use Prim.Native.Nat.{ℕ, zero, suc, _+_, _^_, _≤_}
 use native.Mathlib.Omega.{arith}
 use Rattle.tree.specs.Tree.{Update, update, newest, heightOf}
 use Rattle.tree.proofs.Newest.{newest-le}
-use Rattle.demands.specs.Model.{Model, ticketAt, versionAt, updates, blobAt}
+use Rattle.demands.specs.Model.{Model, ticketAt, versionAt, updates}
+use Rattle.demands.specs.InTurn.{blobAt}
 use Rattle.demands.proofs.Updates.{newest-same, update-at}
 use Rattle.demands.specs.Snapshot.{treeOf, snapshotAt}
 

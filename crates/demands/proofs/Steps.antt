@@ -2,7 +2,6 @@
 -- Assumes nothing.
 pub mod Numbers
 pub mod States
-pub mod Sizes
 pub mod Parts
 pub mod Changed
 pub mod Format
@@ -13,7 +12,9 @@ pub mod Woven
 pub mod Weave
 pub mod Publish
 pub mod Found
-pub mod Read
+pub mod Size
 pub mod Recent
+pub mod Read
 pub mod Stamp
+pub mod View
 pub mod Every

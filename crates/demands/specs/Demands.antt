@@ -4,26 +4,12 @@ use mathlib.Core.List.{List, [], _++_}
 use Prim.Native.Nat.{ℕ, zero, suc, _+_, _*_, _≤_, _<_}
 use lib.ListN.{length, getD, take, drop, replicate}
 use Rattle.tree.specs.Tree.{heightOf}
-use Rattle.versions.specs.Answers.{
-  Call,
-  PUBLISH,
-  READ,
-  SIZE,
-  RECENT,
-  STAMP,
-  VIEW,
-  Answer,
-  refused,
-  waiting,
-  filled,
-  sizeIs,
-  recentIs,
-  partIs,
-  Outcome,
-  says,
-}
-use Rattle.demands.specs.Model.{Limits, Model, noModel, onModel, versionAt, updates, complete, blobAt, bytesAt, either}
-use Rattle.versions.specs.Calls.{Areas, formatNumber}
+use Rattle.demands.specs.Answers.{Call, PUBLISH, READ, SIZE, RECENT, STAMP, VIEW, Answer, refused, waiting, filled, sizeIs, recentIs, partIs, Outcome, says}
+use Rattle.demands.specs.Model.{Limits, Model, noModel, versionAt, updates, complete}
+use Rattle.demands.specs.OnModel.{onModel, either}
+use Rattle.demands.specs.InTurn.{blobAt, bytesAt}
+use Rattle.versions.specs.Store.{Areas}
+use Rattle.format.specs.Format.{formatNumber}
 use Rattle.demands.specs.Run.{State, onStore, outcomes, freshOf, formattedState, storeAfter, modelAfter}
 use Rattle.demands.specs.Snapshot.{treeIn, snapshotAt}
 

@@ -3,36 +3,12 @@ use mathlib.Core.Path.{_≡_, refl}
 use mathlib.Core.List.{List, [], _∷_}
 use Prim.Native.Nat.{ℕ}
 use lib.ListN.{replicate}
-use Rattle.tree.specs.Register.{noRecord}
-use Rattle.versions.specs.Answers.{
-  Call,
-  BEGIN,
-  PUT,
-  APPEND,
-  WEAVE,
-  PUBLISH,
-  READ,
-  STAMP,
-  VIEW,
-  SIZE,
-  RECENT,
-  refused,
-  ticketIs,
-  putDone,
-  versionIs,
-  nodeIs,
-  publishedIs,
-  waiting,
-  filled,
-  sizeIs,
-  recentIs,
-  stampIs,
-  partIs,
-  Outcome,
-  says,
-}
-use Rattle.demands.specs.Model.{Limits, noModel, onModel}
-use Rattle.versions.specs.Calls.{Areas, formatNumber}
+use Rattle.register.specs.Register.{noRecord}
+use Rattle.demands.specs.Answers.{Call, BEGIN, PUT, APPEND, WEAVE, PUBLISH, READ, STAMP, VIEW, SIZE, RECENT, refused, ticketIs, putDone, versionIs, nodeIs, publishedIs, waiting, filled, sizeIs, recentIs, stampIs, partIs, Outcome, says}
+use Rattle.demands.specs.Model.{Limits, noModel}
+use Rattle.demands.specs.OnModel.{onModel}
+use Rattle.versions.specs.Store.{Areas}
+use Rattle.format.specs.Format.{formatNumber}
 use Rattle.demands.specs.Computes.{computes}
 use Rattle.demands.specs.Run.{onStore, outcomes, freshOf, formattedState}
 

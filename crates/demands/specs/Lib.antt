@@ -1,4 +1,7 @@
+pub mod Answers
 pub mod Model
+pub mod InTurn
+pub mod OnModel
 pub mod Run
 pub mod Snapshot
 pub mod Demands

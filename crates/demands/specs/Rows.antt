@@ -5,36 +5,14 @@ use mathlib.Core.Option.{some}
 use mathlib.Core.List.{List, [], _∷_}
 use Prim.Native.Nat.{ℕ}
 use lib.ListN.{replicate}
-use Rattle.tree.specs.Register.{noRecord}
-use Rattle.versions.specs.Answers.{
-  Call,
-  BEGIN,
-  PUT,
-  WRITE,
-  APPEND,
-  WEAVE,
-  PUBLISH,
-  READ,
-  SIZE,
-  RECENT,
-  STAMP,
-  VIEW,
-  refused,
-  ticketIs,
-  putDone,
-  versionIs,
-  nodeIs,
-  publishedIs,
-  waiting,
-  filled,
-  sizeIs,
-  recentIs,
-  partIs,
-  Outcome,
-  says,
-}
-use Rattle.demands.specs.Model.{Limits, Model, noModel, onModel}
-use Rattle.versions.specs.Calls.{Areas, fresh, formatNumber, withTicketPart, withPut}
+use Rattle.register.specs.Register.{noRecord}
+use Rattle.demands.specs.Answers.{Call, BEGIN, PUT, WRITE, APPEND, WEAVE, PUBLISH, READ, SIZE, RECENT, STAMP, VIEW, refused, ticketIs, putDone, versionIs, nodeIs, publishedIs, waiting, filled, sizeIs, recentIs, partIs, Outcome, says}
+use Rattle.demands.specs.Model.{Limits, Model, noModel}
+use Rattle.demands.specs.OnModel.{onModel}
+use Rattle.versions.specs.Store.{Areas}
+use Rattle.format.specs.Format.{fresh, formatNumber}
+use Rattle.begin.specs.Begin.{withTicketPart}
+use Rattle.put.specs.Put.{withPut}
 use Rattle.demands.specs.Computes.{computes}
 use Rattle.demands.specs.Run.{State, onStore, outcomes, formattedState, storeAfter}
 

@@ -2,56 +2,22 @@
 use mathlib.Core.List.{List, [], _∷_}
 use Prim.Native.Nat.{ℕ}
 use Rattle.versions.specs.declared.Store.{Store}
-use Rattle.tree.specs.declared.Record.{Record}
-use Rattle.versions.specs.Answers.{
-  Call,
-  BEGIN,
-  PUT,
-  WRITE,
-  APPEND,
-  WEAVE,
-  PUBLISH,
-  READ,
-  SIZE,
-  RECENT,
-  STAMP,
-  VIEW,
-  partIs,
-  Outcome,
-  says,
-  begunAnswer,
-  putAnswer,
-  assignedAnswer,
-  wovenAnswer,
-  publishedAnswer,
-  filledAnswer,
-  sizedAnswer,
-  latestAnswer,
-  stampedAnswer,
-}
-use Rattle.demands.specs.Model.{Limits, Model, noModel, onModel}
-use Rattle.versions.specs.Calls.{
-  Areas,
-  fresh,
-  formatAreas,
-  beginOut,
-  beginRegister,
-  putOut,
-  putPages,
-  putRegister,
-  assignOut,
-  assignRegister,
-  weaveOut,
-  weaveNodes,
-  weaveRegister,
-  publishOut,
-  readOut,
-  readBuffer,
-  sizeOut,
-  recentOut,
-  stampOut,
-  viewPart,
-}
+use Rattle.register.specs.declared.Record.{Record}
+use Rattle.demands.specs.Answers.{Call, BEGIN, PUT, WRITE, APPEND, WEAVE, PUBLISH, READ, SIZE, RECENT, STAMP, VIEW, partIs, Outcome, says, begunAnswer, putAnswer, assignedAnswer, wovenAnswer, publishedAnswer, filledAnswer, sizedAnswer, latestAnswer, stampedAnswer}
+use Rattle.demands.specs.Model.{Limits, Model, noModel}
+use Rattle.demands.specs.OnModel.{onModel}
+use Rattle.versions.specs.Store.{Areas}
+use Rattle.format.specs.Format.{fresh, formatAreas}
+use Rattle.begin.specs.Begin.{beginOut, beginRegister}
+use Rattle.put.specs.Put.{putOut, putPages, putRegister}
+use Rattle.assign.specs.Assign.{assignOut, assignRegister}
+use Rattle.weave.specs.Weave.{weaveOut, weaveNodes, weaveRegister}
+use Rattle.publish.specs.Publish.{publishOut}
+use Rattle.read.specs.Read.{readOut, readBuffer}
+use Rattle.versions.specs.Size.{sizeOut}
+use Rattle.versions.specs.Recent.{recentOut}
+use Rattle.stamp.specs.Stamp.{stampOut}
+use Rattle.view.specs.View.{viewPart}
 
 -- A store and its areas, as a call is given them and leaves them.
 pub record State : Type 0 where

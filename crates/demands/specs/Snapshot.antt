@@ -7,7 +7,8 @@ use Rattle.tree.specs.NodeArea.{nodeAt}
 use Rattle.tree.specs.Walk.{used}
 use Rattle.tree.specs.declared.NodeAt.{NodeAt}
 use Rattle.tree.specs.declared.NodeAt.the-variants.{Stored, Missing}
-use Rattle.demands.specs.Model.{Page, Model, versionAt, updates, blobAt}
+use Rattle.demands.specs.Model.{Page, Model, versionAt, updates}
+use Rattle.demands.specs.InTurn.{blobAt}
 
 -- A tree: a leaf's name is its version and page; an inner node's is version, first page and height, and it has both its children's versions.
 -- Below version 0 there is no page; a node that is not stored is missing.

@@ -3,293 +3,44 @@
 // no pointer is null, and the areas of one call do not overlap.
 ghost use mathlib.Core.Path.{_≡_};
 ghost use Rattle.pages.specs.Pages.{part};
-ghost use Rattle.versions.specs.Calls.{areasOf, fresh, formatAnswer, formatAreas, beginOut, beginRegister, putOut, putPages, putRegister, assignOut, assignRegister, weaveOut, weaveNodes, weaveRegister, publishOut, readOut, readBuffer, sizeOut, recentOut, stampOut, viewPart, viewAt};
-ghost use Rattle.exports.specs.Replies.{noStore, formatReply, beginReply, putReply, assignReply, weaveReply, publishReply, readReply, sizeReply, recentReply, stampReply, viewReply};
+ghost use Rattle.versions.specs.Store.{areasOf};
+ghost use Rattle.format.specs.Format.{fresh, formatAnswer, formatAreas};
+ghost use Rattle.begin.specs.Begin.{beginOut, beginRegister};
+ghost use Rattle.put.specs.Put.{putOut, putPages, putRegister};
+ghost use Rattle.assign.specs.Assign.{assignOut, assignRegister};
+ghost use Rattle.weave.specs.Weave.{weaveOut, weaveNodes, weaveRegister};
+ghost use Rattle.publish.specs.Publish.{publishOut};
+ghost use Rattle.read.specs.Read.{readOut, readBuffer};
+ghost use Rattle.versions.specs.Size.{sizeOut};
+ghost use Rattle.versions.specs.Recent.{recentOut};
+ghost use Rattle.stamp.specs.Stamp.{stampOut};
+ghost use Rattle.view.specs.View.{viewPart, viewAt};
+ghost use Rattle.replies.specs.Replies.{formatReply, beginReply, putReply, assignReply, weaveReply, publishReply, readReply, sizeReply, recentReply, stampReply, viewReply};
+use register::Record;
+use replies::AssignReply;
+use replies::BeginReply;
+use replies::FormatReply;
+use replies::PublishReply;
+use replies::SizeReply;
+use replies::VersionReply;
+use replies::ViewReply;
+use replies::WeaveReply;
+use replies::assign_reply;
+use replies::begin_reply;
+use replies::format_reply;
+use replies::publish_reply;
+use replies::put_reply;
+use replies::read_reply;
+use replies::recent_reply;
+use replies::size_reply;
+use replies::stamp_reply;
+use replies::view_reply;
+use replies::weave_reply;
 use tree::PageIndex;
-use tree::Record;
 use tree::Ticket;
 use tree::Version;
-use versions::AssignOut;
-use versions::Assigned;
-use versions::BeginOut;
-use versions::Begun;
 use versions::ByteOffset;
-use versions::Filled;
-use versions::Formatted;
-use versions::Latest;
-use versions::PublishOut;
-use versions::Published;
-use versions::PutIn;
-use versions::Sized;
-use versions::Stamped;
 use versions::Store;
-use versions::Viewed;
-use versions::Woven;
-
-// What FORMAT replies: the store, which is all zeros where FORMAT is refused.
-#[repr(C)]
-pub struct FormatReply {
-    pub refusal: u64,
-    pub store: Store,
-}
-
-// What BEGIN replies. The ticket is 0 where BEGIN is refused.
-#[repr(C)]
-pub struct BeginReply {
-    pub refusal: u64,
-    pub store: Store,
-    pub ticket: u64,
-}
-
-// What ASSIGN replies: the version and its node count, both 0 where it is refused.
-#[repr(C)]
-pub struct AssignReply {
-    pub refusal: u64,
-    pub store: Store,
-    pub version: u64,
-    pub nodes: u64,
-}
-
-// What WEAVE replies: the node's name, its two numbers and how many nodes are left; all 0 where it is refused.
-#[repr(C)]
-pub struct WeaveReply {
-    pub refusal: u64,
-    pub version: u64,
-    pub first: u64,
-    pub span: u64,
-    pub left: u64,
-    pub right: u64,
-    pub rest: u64,
-}
-
-// What PUBLISH replies: the version that it published; 0 is "waiting", or a refusal.
-#[repr(C)]
-pub struct PublishReply {
-    pub refusal: u64,
-    pub store: Store,
-    pub version: u64,
-}
-
-// What SIZE replies, in bytes.
-#[repr(C)]
-pub struct SizeReply {
-    pub refusal: u64,
-    pub bytes: u64,
-}
-
-// What RECENT and STAMP reply.
-#[repr(C)]
-pub struct VersionReply {
-    pub refusal: u64,
-    pub version: u64,
-}
-
-// What VIEW replies: where in the page area the part begins, and how long it is; both 0 where VIEW is refused.
-#[repr(C)]
-pub struct ViewReply {
-    pub refusal: u64,
-    pub begin: u64,
-    pub length: u64,
-}
-
-// ---- replies, each by its definition in specs/Replies
-
-fn no_store() -> Store
-    ensures { λ r. ⌜ r ≡ noStore ⌝ }
-{
-    Store {
-        size: 0,
-        pages: 0,
-        nodes: 0,
-        updates: 0,
-        tickets: Ticket(0),
-        taken: 0,
-        assigned: Version(0),
-        places: 0,
-        published: Version(0),
-        blob: 0,
-    }
-}
-
-fn format_reply(out: Formatted) -> FormatReply
-    ensures { λ r. ⌜ r ≡ formatReply out ⌝ }
-{
-    match out {
-        Formatted::Made(store) => FormatReply { refusal: 0, store },
-        Formatted::Refused(k) => FormatReply {
-            refusal: k,
-            store: no_store(),
-        },
-    }
-}
-
-fn begin_reply(out: BeginOut) -> BeginReply
-    ensures { λ r. ⌜ r ≡ beginReply out ⌝ }
-{
-    let store = out.store;
-    let answer = out.answer;
-    match answer {
-        Begun::Given(t) => BeginReply {
-            refusal: 0,
-            store,
-            ticket: t.0,
-        },
-        Begun::Refused(k) => BeginReply {
-            refusal: k,
-            store,
-            ticket: 0,
-        },
-    }
-}
-
-fn put_reply(out: PutIn) -> u64
-    ensures { λ r. ⌜ r ≡ putReply out ⌝ }
-{
-    match out {
-        PutIn::Done => 0,
-        PutIn::Refused(k) => k,
-    }
-}
-
-fn assign_reply(out: AssignOut) -> AssignReply
-    ensures { λ r. ⌜ r ≡ assignReply out ⌝ }
-{
-    let store = out.store;
-    let answer = out.answer;
-    match answer {
-        Assigned::Given(v, nodes) => AssignReply {
-            refusal: 0,
-            store,
-            version: v.0,
-            nodes,
-        },
-        Assigned::Refused(k) => AssignReply {
-            refusal: k,
-            store,
-            version: 0,
-            nodes: 0,
-        },
-    }
-}
-
-fn weave_reply(out: Woven) -> WeaveReply
-    ensures { λ r. ⌜ r ≡ weaveReply out ⌝ }
-{
-    match out {
-        Woven::Node(x) => WeaveReply {
-            refusal: 0,
-            version: x.version.0,
-            first: x.first.0,
-            span: x.span,
-            left: x.left as u64,
-            right: x.right as u64,
-            rest: x.rest,
-        },
-        Woven::Refused(k) => WeaveReply {
-            refusal: k,
-            version: 0,
-            first: 0,
-            span: 0,
-            left: 0,
-            right: 0,
-            rest: 0,
-        },
-    }
-}
-
-fn publish_reply(out: PublishOut) -> PublishReply
-    ensures { λ r. ⌜ r ≡ publishReply out ⌝ }
-{
-    let store = out.store;
-    let answer = out.answer;
-    match answer {
-        Published::Now(v) => PublishReply {
-            refusal: 0,
-            store,
-            version: v.0,
-        },
-        Published::Waiting => PublishReply {
-            refusal: 0,
-            store,
-            version: 0,
-        },
-        Published::Refused(k) => PublishReply {
-            refusal: k,
-            store,
-            version: 0,
-        },
-    }
-}
-
-fn read_reply(out: Filled) -> u64
-    ensures { λ r. ⌜ r ≡ readReply out ⌝ }
-{
-    match out {
-        Filled::Done => 0,
-        Filled::Refused(k) => k,
-    }
-}
-
-fn size_reply(out: Sized) -> SizeReply
-    ensures { λ r. ⌜ r ≡ sizeReply out ⌝ }
-{
-    match out {
-        Sized::Bytes(bytes) => SizeReply { refusal: 0, bytes },
-        Sized::Refused(k) => SizeReply {
-            refusal: k,
-            bytes: 0,
-        },
-    }
-}
-
-fn recent_reply(out: Latest) -> VersionReply
-    ensures { λ r. ⌜ r ≡ recentReply out ⌝ }
-{
-    match out {
-        Latest::Is(v) => VersionReply {
-            refusal: 0,
-            version: v.0,
-        },
-        Latest::Refused(k) => VersionReply {
-            refusal: k,
-            version: 0,
-        },
-    }
-}
-
-fn stamp_reply(out: Stamped) -> VersionReply
-    ensures { λ r. ⌜ r ≡ stampReply out ⌝ }
-{
-    match out {
-        Stamped::Is(v) => VersionReply {
-            refusal: 0,
-            version: v.0,
-        },
-        Stamped::Refused(k) => VersionReply {
-            refusal: k,
-            version: 0,
-        },
-    }
-}
-
-fn view_reply(size: u64, out: Viewed) -> ViewReply
-    ensures { λ r. ⌜ r ≡ viewReply size out ⌝ }
-{
-    match out {
-        Viewed::At(begin) => ViewReply {
-            refusal: 0,
-            begin,
-            length: size,
-        },
-        Viewed::Refused(k) => ViewReply {
-            refusal: k,
-            begin: 0,
-            length: 0,
-        },
-    }
-}
-
-// ---- the calls
 
 // FORMAT.
 #[no_mangle]
@@ -304,7 +55,7 @@ pub extern "C" fn pit_format(
 ) -> FormatReply
     ensures { λ r. ⌜ (r ≡ formatReply (formatAnswer (fresh size «page_count» «node_count» updates) (areasOf (now (pages .entry)) (now (nodes .entry)) (now (register .entry))))) × (now (pages .exit) ≡ formatAreas (fresh size «page_count» «node_count» updates) (areasOf (now (pages .entry)) (now (nodes .entry)) (now (register .entry))) .pages) × (now (nodes .exit) ≡ formatAreas (fresh size «page_count» «node_count» updates) (areasOf (now (pages .entry)) (now (nodes .entry)) (now (register .entry))) .nodes) × (now (register .exit) ≡ formatAreas (fresh size «page_count» «node_count» updates) (areasOf (now (pages .entry)) (now (nodes .entry)) (now (register .entry))) .register) ⌝ }
 {
-    format_reply(versions::format(
+    format_reply(format::format(
         size,
         page_count,
         node_count,
@@ -326,7 +77,7 @@ pub extern "C" fn pit_begin(
 ) -> BeginReply
     ensures { λ r. ⌜ (r ≡ beginReply (beginOut s (areasOf (now (pages .entry)) (now (nodes .entry)) (now (register .entry))) n)) × (now (register .exit) ≡ beginRegister s (areasOf (now (pages .entry)) (now (nodes .entry)) (now (register .entry))) n) ⌝ }
 {
-    begin_reply(versions::begin(s, pages, nodes, register, n))
+    begin_reply(begin::begin(s, pages, nodes, register, n))
 }
 
 // PUT: the number of the refusal, or 0.
@@ -342,7 +93,7 @@ pub extern "C" fn pit_put(
 ) -> u64
     ensures { λ r. ⌜ (r ≡ putReply (putOut s (areasOf (now (pages .entry)) (now (nodes .entry)) (now (register .entry))) ticket i (now (bytes .entry)))) × (now (pages .exit) ≡ putPages s (areasOf (now (pages .entry)) (now (nodes .entry)) (now (register .entry))) ticket i (now (bytes .entry))) × (now (register .exit) ≡ putRegister s (areasOf (now (pages .entry)) (now (nodes .entry)) (now (register .entry))) ticket i (now (bytes .entry))) ⌝ }
 {
-    put_reply(versions::put(s, pages, nodes, register, Ticket(ticket), i, bytes))
+    put_reply(put::put(s, pages, nodes, register, Ticket(ticket), i, bytes))
 }
 
 // ASSIGN as a write at page f.
@@ -357,7 +108,7 @@ pub extern "C" fn pit_write(
 ) -> AssignReply
     ensures { λ r. ⌜ (r ≡ assignReply (assignOut s (areasOf (now (pages .entry)) (now (nodes .entry)) (now (register .entry))) ticket f)) × (now (register .exit) ≡ assignRegister s (areasOf (now (pages .entry)) (now (nodes .entry)) (now (register .entry))) ticket f) ⌝ }
 {
-    assign_reply(versions::write(s, pages, nodes, register, Ticket(ticket), PageIndex(f)))
+    assign_reply(assign::write(s, pages, nodes, register, Ticket(ticket), PageIndex(f)))
 }
 
 // ASSIGN as an append.
@@ -371,7 +122,7 @@ pub extern "C" fn pit_append(
 ) -> AssignReply
     ensures { λ r. ⌜ (r ≡ assignReply (assignOut s (areasOf (now (pages .entry)) (now (nodes .entry)) (now (register .entry))) ticket (s .blob))) × (now (register .exit) ≡ assignRegister s (areasOf (now (pages .entry)) (now (nodes .entry)) (now (register .entry))) ticket (s .blob)) ⌝ }
 {
-    assign_reply(versions::append(s, pages, nodes, register, Ticket(ticket)))
+    assign_reply(assign::append(s, pages, nodes, register, Ticket(ticket)))
 }
 
 // WEAVE.
@@ -385,7 +136,7 @@ pub extern "C" fn pit_weave(
 ) -> WeaveReply
     ensures { λ r. ⌜ (r ≡ weaveReply (weaveOut s (areasOf (now (pages .entry)) (now (nodes .entry)) (now (register .entry))) ticket)) × (now (nodes .exit) ≡ weaveNodes s (areasOf (now (pages .entry)) (now (nodes .entry)) (now (register .entry))) ticket) × (now (register .exit) ≡ weaveRegister s (areasOf (now (pages .entry)) (now (nodes .entry)) (now (register .entry))) ticket) ⌝ }
 {
-    weave_reply(versions::weave(s, pages, nodes, register, Ticket(ticket)))
+    weave_reply(weave::weave(s, pages, nodes, register, Ticket(ticket)))
 }
 
 // PUBLISH.
@@ -398,7 +149,7 @@ pub extern "C" fn pit_publish(
 ) -> PublishReply
     ensures { λ r. ⌜ r ≡ publishReply (publishOut s (areasOf (now (pages .entry)) (now (nodes .entry)) (now (register .entry)))) ⌝ }
 {
-    publish_reply(versions::publish(s, pages, nodes, register))
+    publish_reply(publish::publish(s, pages, nodes, register))
 }
 
 // READ: the number of the refusal, or 0.
@@ -415,7 +166,7 @@ pub extern "C" fn pit_read(
 ) -> u64
     ensures { λ r. ⌜ (r ≡ readReply (readOut s (areasOf (now (pages .entry)) (now (nodes .entry)) (now (register .entry))) version offset len (now (buffer .entry)))) × (now (buffer .exit) ≡ readBuffer s (areasOf (now (pages .entry)) (now (nodes .entry)) (now (register .entry))) version offset len (now (buffer .entry))) ⌝ }
 {
-    read_reply(versions::read(
+    read_reply(read::read(
         s,
         pages,
         nodes,
@@ -466,7 +217,7 @@ pub extern "C" fn pit_stamp(
 ) -> VersionReply
     ensures { λ r. ⌜ r ≡ stampReply (stampOut s (areasOf (now (pages .entry)) (now (nodes .entry)) (now (register .entry))) version page) ⌝ }
 {
-    stamp_reply(versions::stamp(s, pages, nodes, register, Version(version), PageIndex(page)))
+    stamp_reply(stamp::stamp(s, pages, nodes, register, Version(version), PageIndex(page)))
 }
 
 // VIEW: an exported function hands out no part of an area, so this says where the part begins.
@@ -483,6 +234,6 @@ pub extern "C" fn pit_view(
 {
     view_reply(
         s.size,
-        versions::view_at(s, pages, nodes, register, Version(version), PageIndex(page)),
+        view::view_at(s, pages, nodes, register, Version(version), PageIndex(page)),
     )
 }

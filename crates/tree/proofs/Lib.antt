@@ -12,8 +12,5 @@ pub mod Root
 pub mod FirstNodes
 pub mod Newest
 pub mod Area
-pub mod Records
-pub mod Within
-pub mod Walkgen
 pub mod Walk
 pub mod Weaving

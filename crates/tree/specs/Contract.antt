@@ -1,11 +1,10 @@
 -- What the code's functions ask and give, in the terms of Tree and Place.
 use mathlib.Core.Path.{_≡_}
 use mathlib.Core.Bool.{Bool, true, false, _&&_}
-use Prim.Native.Nat.{ℕ, _+_, _-_, _*_, _^_, _≤_, _<_}
+use Prim.Native.Nat.{ℕ, _+_, _*_, _^_, _≤_, _<_}
 use lib.Dec.{ltb, leb}
 use Rattle.tree.specs.Tree.{Node, node, count, rootHeight, nodeCount}
 use Rattle.tree.specs.Place.{kth, first, index}
-use Rattle.tree.specs.Register.{mostPage}
 
 -- A number, or 0 where a test fails.
 abbrev pub orZero : Bool → ℕ → ℕ
@@ -61,8 +60,3 @@ pub record Kth (f l a span k b s : ℕ) : Type 0 where
 pub record WovenAt (f l size k b s : ℕ) : Type 0 where
   pub first : b ≡ firstOf (kth f l 0 (rootHeight size) k)
   pub spans : s ≡ spanOf (kth f l 0 (rootHeight size) k)
-
--- The highest page that a record may begin at to meet the s pages from a on: none where a is past the last page of any blob, and any page where the s
--- pages reach past it.
-unfoldable pub highest : ℕ → ℕ → ℕ
-highest a s = elim (ltb mostPage a) [ true ↦ 0 | false ↦ elim (ltb mostPage (a + s)) [ true ↦ 2 ^ 64 - 1 | false ↦ a + s - 1 ] ]

@@ -2,6 +2,5 @@ pub mod Tree
 pub mod Place
 pub mod NodeArea
 pub mod Walk
-pub mod Register
 pub mod Contract
 pub mod Cases

@@ -1,14 +1,11 @@
-// The tree of a version: spans, the nodes that an update makes, the node area, and the register of updates.
+// The tree of a version: spans, the nodes that an update makes and their order, and the node area.
 ghost use mathlib.Core.Path.{_≡_};
-ghost use Prim.Native.Nat.{ℕ, _+_, _-_, _*_, _^_, _<_, _≤_, min, max};
+ghost use Prim.Native.Nat.{ℕ, _+_, _-_, _*_, _^_, _<_, _≤_, min};
 ghost use lib.Count.{ones};
-ghost use lib.Dec.{leb};
-ghost use lib.ListN.{length, getD};
-ghost use Rattle.tree.specs.Tree.{rootHeight, meets, nth};
+ghost use Rattle.tree.specs.Tree.{rootHeight, meets};
 ghost use Rattle.tree.specs.Place.{below, first};
 ghost use Rattle.tree.specs.NodeArea.{nodeAt, withNode};
-ghost use Rattle.tree.specs.Register.{noRecord, inLimits, limited, updateOf, extentOf, withRecord, newestIn};
-ghost use Rattle.tree.specs.Contract.{rootSpan, nodesFor, Pages, Counted, Indexed, Part, Spans, Kth, WovenAt, highest};
+ghost use Rattle.tree.specs.Contract.{rootSpan, nodesFor, Pages, Counted, Indexed, Part, Spans, Kth, WovenAt};
 
 // A version, a page's index in the blob and a ticket are counters of different sorts, and each has a type of its own.
 #[repr(C)]
@@ -20,24 +17,6 @@ pub struct PageIndex(pub u64);
 #[repr(C)]
 pub struct Ticket(pub u64);
 
-// A record of the register: the k-th ticket's part and the k-th version's part. Tickets and versions are given in different orders, each up to
-// the number of updates, so both parts fit and each is found in one step.
-#[repr(C)]
-pub struct Record {
-    // The ticket's pages, its first page number, which pages are put (bit i for page i), and its version (0: none yet).
-    pub n: u64,
-    pub number: u64,
-    pub put: u64,
-    pub version: Version,
-    // The version's ticket, first and last page, size in pages after it, first node place, and how many of its nodes are woven.
-    pub ticket: Ticket,
-    pub f: PageIndex,
-    pub last: PageIndex,
-    pub size: u64,
-    pub place: u64,
-    pub woven: u64,
-}
-
 // What stands at a node place: a node's two numbers, or no node.
 pub enum NodeAt {
     Stored(u32, u32),
@@ -48,13 +27,6 @@ pub enum NodeAt {
 pub enum Found {
     Leaf(Version, u64),
     Lost,
-}
-
-// An update within the limits: its first and last page, and the size in pages after it.
-pub struct Extent {
-    pub f: PageIndex,
-    pub last: PageIndex,
-    pub size: u64,
 }
 
 // The name of a node: its first page and its span.
@@ -70,9 +42,9 @@ const NO_NODE: u32 = 4294967295;
 const MOST_UPDATED: u64 = 64;
 
 // The most pages that a blob has, and the last page of such a blob.
-const MOST_PAGES: u64 = 4096;
+pub const MOST_PAGES: u64 = 4096;
 
-const LAST_PAGE: u64 = 4095;
+pub const LAST_PAGE: u64 = 4095;
 
 // The span of a height.
 fn span_of(height: u64) -> u64
@@ -152,24 +124,17 @@ fn range_meets(f: PageIndex, last: PageIndex, first: PageIndex, span: u64) -> bo
 }
 
 // x - y, or 0 where that is below 0.
-fn saturating_sub(x: u64, y: u64) -> u64
+pub fn saturating_sub(x: u64, y: u64) -> u64
     ensures { λ r. ⌜ r ≡ x - y ⌝ }
 {
     if x < y { 0 } else { x - y }
 }
 
 // The smaller of two numbers.
-fn smaller(a: u64, b: u64) -> u64
+pub fn smaller(a: u64, b: u64) -> u64
     ensures { λ r. ⌜ r ≡ min a b ⌝ }
 {
     if a < b { a } else { b }
-}
-
-// The larger of two numbers.
-fn larger(a: u64, b: u64) -> u64
-    ensures { λ r. ⌜ r ≡ max a b ⌝ }
-{
-    if a < b { b } else { a }
 }
 
 // The number of nodes of an update of the pages f .. last at and below a node.
@@ -283,139 +248,6 @@ pub fn store_node(nodes: &mut [u32], place: u64, left: u32, right: u32)
     }
     nodes[2 * q] = left;
     nodes[2 * q + 1] = right;
-}
-
-// Whether pages and a size are within the limits: f <= last < size <= 4,096.
-fn in_limits(f: PageIndex, last: PageIndex, size: u64) -> bool
-    ensures { λ r. ⌜ r ≡ inLimits (f .0) (last .0) size ⌝ }
-{
-    if last.0 < f.0 {
-        return false;
-    }
-    if size <= last.0 {
-        return false;
-    }
-    size <= MOST_PAGES
-}
-
-// Pages and a size brought within the limits.
-fn brought_within(f: PageIndex, last: PageIndex, size: u64) -> Extent
-    ensures { λ e. ⌜ e ≡ extentOf (limited (f .0) (last .0) size) ⌝ }
-{
-    let from = smaller(f.0, LAST_PAGE);
-    let to = larger(from, smaller(last.0, LAST_PAGE));
-    let pages = larger(to + 1, smaller(size, LAST_PAGE + 1));
-    Extent {
-        f: PageIndex(from),
-        last: PageIndex(to),
-        size: pages,
-    }
-}
-
-// The same. What the calls accepted is within the limits, and is handed on as it is: that is one branch foreseen, where bounds are a chain of steps.
-pub fn within_limits(f: PageIndex, last: PageIndex, size: u64) -> Extent
-    ensures { λ e. ⌜ e ≡ extentOf (limited (f .0) (last .0) size) ⌝ }
-{
-    if in_limits(f, last, size) {
-        return Extent { f, last, size };
-    }
-    brought_within(f, last, size)
-}
-
-// What a record says of an update.
-pub fn extent_of(r: Record) -> Extent
-    ensures { λ e. ⌜ e ≡ extentOf (updateOf r) ⌝ }
-{
-    within_limits(r.f, r.last, r.size)
-}
-
-// The empty record.
-pub fn no_record() -> Record
-    ensures { λ r. ⌜ r ≡ noRecord ⌝ }
-{
-    Record {
-        n: 0,
-        number: 0,
-        put: 0,
-        version: Version(0),
-        ticket: Ticket(0),
-        f: PageIndex(0),
-        last: PageIndex(0),
-        size: 0,
-        place: 0,
-        woven: 0,
-    }
-}
-
-// The record at an index, and the empty one past the register's end.
-pub fn record_at(register: &[Record], i: usize) -> Record
-    ensures { λ r. ⌜ r ≡ getD (now (register .entry)) i noRecord ⌝ }
-{
-    if i < register.len() {
-        register[i]
-    } else {
-        no_record()
-    }
-}
-
-// The k-th ticket's record, or the k-th version's, counted from 1; the empty one where there is none.
-pub fn record_of(register: &[Record], k: u64) -> Record
-    ensures { λ r. ⌜ r ≡ nth noRecord (now (register .entry)) k ⌝ }
-{
-    if k == 0 {
-        no_record()
-    } else {
-        record_at(register, (k - 1) as usize)
-    }
-}
-
-// Writes the record at an index; past the register's end nothing changes.
-pub fn set_record(register: &mut [Record], i: usize, r: Record)
-    ensures { λ _. ⌜ now (register .exit) ≡ withRecord (now (register .entry)) i r ⌝ }
-{
-    if i < register.len() {
-        register[i] = r;
-    }
-}
-
-// The highest page that a record may begin at to meet the `span` pages from `first` on: past the last page of any blob it is no bound.
-fn highest(first: u64, span: u64) -> u64
-    requires { ⌜ first + span < 2 ^ 64 ⌝ }
-    ensures { λ r. ⌜ r ≡ highest first span ⌝ }
-{
-    if first > LAST_PAGE {
-        0
-    } else if first + span > LAST_PAGE {
-        u64::MAX
-    } else {
-        saturating_sub(first + span, 1)
-    }
-}
-
-// Whether a record's update, its pages as they stand in the record, meets the pages lo .. hi. One comparison of a larger and a smaller number is one
-// branch, which goes the same way for most records.
-fn record_within(r: Record, lo: u64, hi: u64) -> bool
-    ensures { λ b. ⌜ b ≡ leb (max (r .f .0) lo) (min (max (r .f .0) (r .last .0)) hi) ⌝ }
-{
-    larger(r.f.0, lo) <= smaller(larger(r.f.0, r.last.0), hi)
-}
-
-// The newest version up to `below` whose update meets the `span` pages from `first` on, or 0.
-pub fn newest_update(register: &[Record], below: Version, first: PageIndex, span: u64) -> Version
-    requires { ⌜ (below .0 ≤ length (now register)) × (first .0 + span < 2 ^ 64) × (0 < below .0 → 0 < span) ⌝ }
-    ensures { λ r. ⌜ r ≡ newestIn (now (register .entry)) below first span ⌝ }
-{
-    let lo = first.0;
-    let hi = highest(lo, span);
-    let mut v = below.0;
-    while v > 0 {
-        let older = v - 1;
-        if record_within(record_at(register, older as usize), lo, hi) {
-            return Version(v);
-        }
-        v = older;
-    }
-    Version(0)
 }
 
 // For C: the span of the root for a size in pages, or 0.

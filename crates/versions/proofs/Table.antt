@@ -155,3 +155,8 @@ pub unless-same : {A : Type 0} (k : ℕ) (was done done′ : A) → (k ≡ 0 →
 unfolding unless
 unless-same zero was done done′ e = e refl
 unless-same (suc k) was done done′ e = refl
+
+-- What a call answers by the table's number is, where that is not 0, its refusal.
+pub refused-by : {A : Type 0} (refused answer : ℕ → A) → ((k : ℕ) → refused (suc k) ≡ answer (suc k)) → (k : ℕ) → (k ≡ 0 → ⊥) → refused k ≡ answer k
+refused-by refused answer same zero h = absurd (h refl)
+refused-by refused answer same (suc k) h = same k

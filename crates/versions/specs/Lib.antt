@@ -1,5 +1,4 @@
 pub mod Table
-pub mod Answers
-pub mod Calls
-pub mod Weave
-pub mod Descent
+pub mod Store
+pub mod Size
+pub mod Recent

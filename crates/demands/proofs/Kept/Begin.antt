@@ -8,7 +8,8 @@ use Prim.Native.Nat.{ℕ, suc, _≤_, _<_}
 use native.Mathlib.Omega.{arith}
 use lib.ListN.{length, replicate, length-replicate}
 use Rattle.tree.proofs.Meets.{lt-or-le}
-use Rattle.demands.specs.Model.{Limits, Ticket, Model, noTicket, ticketAt, versionAt, updates, beginNumber, begun}
+use Rattle.demands.specs.Model.{Limits, Ticket, Model, noTicket, ticketAt, versionAt, updates}
+use Rattle.demands.specs.OnModel.{beginNumber, begun}
 use Rattle.demands.proofs.Sound.{Sound, TicketSound}
 use Rattle.demands.proofs.Passed.{BeginPassed, begin-passed}
 use Rattle.demands.proofs.Slots.{none-there}

@@ -11,27 +11,11 @@ use Rattle.tree.proofs.Meets.{lt-or-le}
 use Rattle.tree.specs.Walk.{used}
 use Rattle.versions.specs.Table.{formatRows}
 use Rattle.versions.proofs.Table.{passed, unless-keeps}
-use Rattle.versions.specs.Answers.{Call, BEGIN, PUT, WRITE, APPEND, WEAVE, PUBLISH, READ, SIZE, RECENT, STAMP, VIEW}
-use Rattle.versions.specs.Calls.{Areas, formatRefusal, formatNumber}
-use Rattle.demands.specs.Model.{
-  Limits,
-  Model,
-  noModel,
-  taken,
-  blobSize,
-  due,
-  either,
-  beginNumber,
-  putNumber,
-  assignNumber,
-  weaveNumber,
-  begun,
-  filledAt,
-  assigned,
-  woven,
-  published,
-  onModel,
-}
+use Rattle.demands.specs.Answers.{Call, BEGIN, PUT, WRITE, APPEND, WEAVE, PUBLISH, READ, SIZE, RECENT, STAMP, VIEW}
+use Rattle.versions.specs.Store.{Areas}
+use Rattle.format.specs.Format.{formatRefusal, formatNumber}
+use Rattle.demands.specs.Model.{Limits, Model, noModel, taken, blobSize, due}
+use Rattle.demands.specs.OnModel.{either, beginNumber, putNumber, assignNumber, weaveNumber, begun, filledAt, assigned, woven, published, onModel}
 use Rattle.demands.specs.Run.{run, freshOf, modelAfter}
 use Rattle.demands.proofs.Sound.{Allowed, Sound}
 use Rattle.demands.proofs.Runs.{run-keeps}

@@ -6,7 +6,8 @@ use mathlib.Core.Bool.{true}
 use Prim.Native.Nat.{ℕ, suc, _≤_, _<_}
 use native.Mathlib.Omega.{arith}
 use Rattle.tree.proofs.Meets.{lt-or-le}
-use Rattle.demands.specs.Model.{Limits, Model, complete, due, published}
+use Rattle.demands.specs.Model.{Limits, Model, complete, due}
+use Rattle.demands.specs.OnModel.{published}
 use Rattle.demands.proofs.Sound.{Sound}
 use Rattle.demands.proofs.Passed.{Due, due-passed}
 use Rattle.demands.proofs.Kept.Same.{ticket-same, VersionSame, version-same, complete-same}

@@ -9,7 +9,8 @@ use native.Mathlib.Decide.{ℕ-discrete}
 use native.Mathlib.Omega.{arith}
 use lib.Seq.{getD-set-same, getD-set-other}
 use lib.ListN.{length, getD, set, length-set}
-use Rattle.demands.specs.Model.{Limits, Page, Ticket, Model, pagesOf, ticketAt, versionAt, putNumber, filledAt}
+use Rattle.demands.specs.Model.{Limits, Page, Ticket, Model, pagesOf, ticketAt, versionAt}
+use Rattle.demands.specs.OnModel.{putNumber, filledAt}
 use Rattle.demands.proofs.Sound.{Sound, TicketSound}
 use Rattle.demands.proofs.Passed.{PutPassed, put-passed}
 use Rattle.demands.proofs.Kept.Change.{changed-this, changed-sound}

@@ -5,7 +5,8 @@ use mathlib.Core.Logic.{_≢_}
 use Prim.Native.Nat.{ℕ, suc, _≤_, _<_}
 use native.Mathlib.Omega.{arith}
 use lib.ListN.{length}
-use Rattle.demands.specs.Model.{Limits, Ticket, Model, ticketAt, versionAt, versionOf, updates, weaveNumber, woven}
+use Rattle.demands.specs.Model.{Limits, Ticket, Model, ticketAt, versionAt, versionOf, updates}
+use Rattle.demands.specs.OnModel.{weaveNumber, woven}
 use Rattle.demands.proofs.Sound.{Sound, TicketSound, VersionSound}
 use Rattle.demands.proofs.Facts.{complete-count}
 use Rattle.demands.proofs.Passed.{WeavePassed, weave-passed}

@@ -8,57 +8,18 @@ use native.Mathlib.Omega.{arith}
 use borrow.Author.Tests.{le-ltb}
 use lib.Dec.{ltb}
 use lib.ListN.{length, getD}
-use Rattle.tree.specs.Register.{noRecord, withRecord}
+use Rattle.register.specs.Register.{noRecord, withRecord}
 use Rattle.tree.specs.Tree.{Node, countOf}
 use Rattle.tree.specs.Walk.{used}
-use Rattle.tree.specs.declared.Record.{Record}
-use Rattle.versions.specs.Answers.{WRITE, APPEND, versionIs, answers, assignedAnswer}
+use Rattle.register.specs.declared.Record.{Record}
+use Rattle.demands.specs.Answers.{WRITE, APPEND, versionIs, answers, assignedAnswer}
 use Rattle.versions.specs.Table.{_<?_, _≤?_, _or_, always, assignRows, unless}
-use Rattle.versions.specs.Calls.{lengthsOf, recordOf, updateAt, sizeAfter, allPut, assignRefusal, assigned as assignedCase, withVersion, withVersionOf, withVersionPart, assignedRegister}
-use Rattle.demands.specs.Model.{
-  Limits,
-  Version,
-  Model,
-  noVersion,
-  pagesOf,
-  ticketAt,
-  versionAt,
-  versionOf,
-  updates,
-  places,
-  blobSize,
-  allFilled,
-  nextUpdate,
-  sizeAfter as sizeIn,
-  assignNumber,
-  assigned,
-  either,
-  leftOf,
-  rightOf,
-  assignStep,
-  taken,
-  onModel,
-}
+use Rattle.versions.specs.Store.{lengthsOf, recordOf}
+use Rattle.assign.specs.Assign.{updateAt, sizeAfter, allPut, assignRefusal, assigned as assignedCase, withVersion, withVersionOf, withVersionPart, assignedRegister}
+use Rattle.demands.specs.Model.{Limits, Version, Model, noVersion, pagesOf, ticketAt, versionAt, versionOf, updates, places, blobSize, allFilled, taken}
+use Rattle.demands.specs.OnModel.{nextUpdate, sizeAfter as sizeIn, assignNumber, assigned, either, leftOf, rightOf, assignStep, onModel}
 use Rattle.demands.specs.Run.{onStore, assignCall}
-use Rattle.demands.proofs.Image.{
-  tab,
-  Pair,
-  onesPair,
-  numbersOf,
-  wovenOf,
-  weaveCell,
-  countAt,
-  pagesImage,
-  nodeCell,
-  flat,
-  maskOf,
-  nodesImage,
-  recordImage,
-  registerImage,
-  storeImage,
-  areasImage,
-  image,
-}
+use Rattle.demands.proofs.Image.{tab, Pair, onesPair, numbersOf, wovenOf, weaveCell, countAt, pagesImage, nodeCell, flat, maskOf, nodesImage, recordImage, registerImage, storeImage, areasImage, image}
 use Rattle.demands.proofs.Sound.{Sound}
 use Rattle.demands.proofs.Passed.{AssignPassed, assign-passed}
 use Rattle.demands.proofs.Facts.{blob-small}

@@ -6,13 +6,16 @@ use mathlib.Core.List.{List}
 use Prim.Native.Nat.{ℕ, zero, suc, pred}
 use native.Mathlib.Omega.{arith}
 use lib.ListN.{length, getD, length-replicate}
-use Rattle.tree.specs.Register.{noRecord, withRecord}
+use Rattle.register.specs.Register.{noRecord, withRecord}
 use Rattle.tree.specs.Tree.{Node}
-use Rattle.tree.specs.declared.Record.{Record}
-use Rattle.versions.specs.Answers.{BEGIN, ticketIs, answers, begunAnswer}
+use Rattle.register.specs.declared.Record.{Record}
+use Rattle.demands.specs.Answers.{BEGIN, ticketIs, answers, begunAnswer}
 use Rattle.versions.specs.Table.{never, beginRows, unless}
-use Rattle.versions.specs.Calls.{lengthsOf, beginRefusal, withTicket, withTicketPart, begun as begunCase}
-use Rattle.demands.specs.Model.{Limits, Ticket, Model, noTicket, joined, pagesOf, versionAt, taken, beginNumber, begun, onModel}
+use Rattle.versions.specs.Store.{lengthsOf}
+use Rattle.begin.specs.Begin.{beginRefusal, withTicket, withTicketPart, begun as begunCase}
+use Rattle.demands.specs.Model.{Limits, Ticket, Model, noTicket, pagesOf, versionAt, taken}
+use Rattle.demands.specs.InTurn.{joined}
+use Rattle.demands.specs.OnModel.{beginNumber, begun, onModel}
 use Rattle.demands.specs.Run.{onStore}
 use Rattle.demands.proofs.Image.{blank, flat, slotCell, pageCell, pagesImage, numbersOf, nodeCell, nodesImage, registerImage, storeImage, areasImage, image}
 use Rattle.demands.proofs.Sound.{Sound}

@@ -7,12 +7,14 @@ use native.Mathlib.Omega.{arith}
 use borrow.Author.Tests.{le-ltb}
 use lib.ListN.{replicate, replicate-append-replicate}
 use Rattle.tree.specs.NodeArea.{allOnes}
-use Rattle.tree.specs.Register.{noRecord}
+use Rattle.register.specs.Register.{noRecord}
 use Rattle.tree.specs.Walk.{used}
 use Rattle.versions.specs.Table.{formatRows}
-use Rattle.versions.specs.Calls.{Areas, formatRefusal, formatNumber}
+use Rattle.versions.specs.Store.{Areas}
+use Rattle.format.specs.Format.{formatRefusal, formatNumber}
 use Rattle.versions.proofs.Table.{passed, unless-0}
-use Rattle.demands.specs.Model.{Limits, noModel, taken, versionFrom, joined}
+use Rattle.demands.specs.Model.{Limits, noModel, taken, versionFrom}
+use Rattle.demands.specs.InTurn.{joined}
 use Rattle.demands.specs.Run.{freshOf, formattedState}
 use Rattle.demands.proofs.Image.{tab, cellIn, blank, pagesImage, onesPair, flat, nodesImage, maskOf, recordImage, registerImage, storeImage, image}
 use Rattle.demands.proofs.Steps.States.{state-same}

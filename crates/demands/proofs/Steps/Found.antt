@@ -17,8 +17,11 @@ use Rattle.tree.specs.declared.NodeAt.the-variants.{Stored}
 use Rattle.tree.specs.declared.Found.the-variants.{Leaf}
 use Rattle.tree.proofs.Newest.{newest-le}
 use Rattle.tree.proofs.Walk.{alone, set-by-newest, covered, walk-alone}
-use Rattle.versions.specs.Calls.{recordOf, findPage, numberWithin, pageNumberOf}
-use Rattle.demands.specs.Model.{Limits, Page, Ticket, Model, noTicket, pagesOf, ticketAt, versionAt, taken, updates, rightOf, blobAt}
+use Rattle.versions.specs.Store.{recordOf}
+use Rattle.walk.specs.FindPage.{findPage, numberWithin, pageNumberOf}
+use Rattle.demands.specs.Model.{Limits, Page, Ticket, Model, noTicket, pagesOf, ticketAt, versionAt, taken, updates}
+use Rattle.demands.specs.OnModel.{rightOf}
+use Rattle.demands.specs.InTurn.{blobAt}
 use Rattle.demands.proofs.Image.{blank, slotCell, pageCell, pagesImage, onesPair, numbersOf, weaveCell, countAt, nodeCell, nodesImage, storeImage, areasImage}
 use Rattle.demands.proofs.Sound.{Sound}
 use Rattle.demands.proofs.Pairs.{node-stored}

@@ -11,8 +11,9 @@ use lib.ListN.{length, getD}
 use Rattle.tree.proofs.Meets.{lt-or-le}
 use Rattle.tree.specs.Tree.{Update, Node, node, weaving, nth, update}
 use Rattle.tree.specs.Walk.{used}
-use Rattle.tree.specs.declared.Record.{Record}
-use Rattle.demands.specs.Model.{Limits, Ticket, Version, Model, noTicket, noVersion, pagesOf, ticketAt, versionAt, taken, versionOf, updateOf, updates, either}
+use Rattle.register.specs.declared.Record.{Record}
+use Rattle.demands.specs.Model.{Limits, Ticket, Version, Model, noTicket, noVersion, pagesOf, ticketAt, versionAt, taken, versionOf, updateOf, updates}
+use Rattle.demands.specs.OnModel.{either}
 use Rattle.demands.proofs.Image.{Pair, onesPair, numbersOf, wovenOf, weaveCell, countAt, cellIn, numbered, maskOf}
 use Rattle.demands.proofs.Sound.{Sound}
 use Rattle.demands.proofs.Nth.{length-snoc, nth-append, nth-past}

@@ -10,12 +10,14 @@ use native.Mathlib.Omega.{arith}
 use lib.ListN.{length, getD}
 use Rattle.pages.specs.Pages.{put}
 use Rattle.tree.proofs.Meets.{lt-or-le}
-use Rattle.tree.specs.Register.{withRecord}
-use Rattle.tree.specs.declared.Record.{Record}
-use Rattle.versions.specs.Answers.{PUT, putDone, answers, putAnswer}
+use Rattle.register.specs.Register.{withRecord}
+use Rattle.register.specs.declared.Record.{Record}
+use Rattle.demands.specs.Answers.{PUT, putDone, answers, putAnswer}
 use Rattle.versions.specs.Table.{_<?_, _≤?_, _or_, always, putRows, unless}
-use Rattle.versions.specs.Calls.{lengthsOf, recordOf, numberOf, bitOf, putRefusal, putIn, withPut, withBit}
-use Rattle.demands.specs.Model.{Limits, Version, Model, noVersion, pagesOf, ticketAt, versionAt, versionOf, isFilled, bitIf, putNumber, filledAt, onModel}
+use Rattle.versions.specs.Store.{lengthsOf, recordOf}
+use Rattle.put.specs.Put.{numberOf, bitOf, putRefusal, putIn, withPut, withBit}
+use Rattle.demands.specs.Model.{Limits, Version, Model, noVersion, pagesOf, ticketAt, versionAt, versionOf, isFilled, bitIf}
+use Rattle.demands.specs.OnModel.{putNumber, filledAt, onModel}
 use Rattle.demands.specs.Run.{onStore}
 use Rattle.demands.proofs.Image.{pagesImage, nodeCell, flat, nodesImage, maskOf, registerImage, storeImage, areasImage, image}
 use Rattle.demands.proofs.Sound.{Sound}

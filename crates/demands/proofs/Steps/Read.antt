@@ -10,9 +10,14 @@ use lib.ListN.{length, take, drop}
 use Rattle.versions.specs.declared.Store.{Store}
 use Rattle.versions.specs.Table.{_≤?_, _<?_, _or_, test, always, readRows}
 use Rattle.versions.proofs.Table.{unless-same}
-use Rattle.versions.specs.Answers.{READ, filled, answers, filledAnswer}
-use Rattle.versions.specs.Calls.{Areas, bytesIn, pageNumberOf, isLost, someLost, pagesTouched, readNumber, byteOf, bytesFrom, filledBy}
-use Rattle.demands.specs.Model.{Limits, Model, versionAt, blobAt, bytesAt, readNumber as modelNumber, onModel}
+use Rattle.demands.specs.Answers.{READ, filled, answers, filledAnswer}
+use Rattle.versions.specs.Store.{Areas}
+use Rattle.versions.specs.Size.{bytesIn}
+use Rattle.walk.specs.FindPage.{pageNumberOf, isLost}
+use Rattle.read.specs.Read.{someLost, pagesTouched, readNumber, byteOf, bytesFrom, filledBy}
+use Rattle.demands.specs.Model.{Limits, Model, versionAt}
+use Rattle.demands.specs.InTurn.{blobAt, bytesAt}
+use Rattle.demands.specs.OnModel.{readNumber as modelNumber, onModel}
 use Rattle.demands.specs.Run.{onStore}
 use Rattle.demands.proofs.Image.{storeImage, areasImage, image}
 use Rattle.demands.proofs.Sound.{Sound}
@@ -21,7 +26,7 @@ use Rattle.demands.proofs.Blocks.{pageByte}
 use Rattle.demands.proofs.Bytes.{bytes-from-by}
 use Rattle.demands.proofs.Blob.{bytes-range}
 use Rattle.demands.proofs.Steps.Numbers.{image-number, read-alike}
-use Rattle.demands.proofs.Steps.Sizes.{bytes-in}
+use Rattle.demands.proofs.Steps.Size.{bytes-in}
 use Rattle.demands.proofs.Steps.Found.{published-within, some-version, page-number, view-byte}
 
 -- ---- the number

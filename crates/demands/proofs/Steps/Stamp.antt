@@ -1,23 +1,22 @@
--- STAMP and VIEW on a model's image: the number, the version and the bytes are the model's.
+-- STAMP on a model's image: the number and the version are the model's.
 -- Assumes nothing.
 use mathlib.Core.Path.{_≡_, refl, ap}
-use mathlib.Core.List.{[]}
-use Prim.Native.Nat.{ℕ, zero, suc, _*_}
-use lib.ListN.{getD}
-use Rattle.pages.specs.Pages.{part}
+use Prim.Native.Nat.{ℕ, zero, suc}
 use Rattle.tree.specs.Walk.{stampOf}
 use Rattle.versions.specs.Table.{_≤?_, _<?_, _or_, test, always, pageRows}
-use Rattle.versions.proofs.Table.{unless-same}
-use Rattle.versions.specs.Answers.{STAMP, VIEW, stampIs, answers, stampedAnswer}
-use Rattle.versions.specs.Calls.{pagesIn, pageNumberOf, isLost, orZero, stampNumber, versionFound, stamped, findPage}
-use Rattle.demands.specs.Model.{Limits, Model, versionAt, updates, blobAt, pageNumber, onModel}
+use Rattle.demands.specs.Answers.{STAMP, stampIs, answers, stampedAnswer}
+use Rattle.versions.specs.Size.{pagesIn}
+use Rattle.walk.specs.FindPage.{pageNumberOf, isLost, findPage}
+use Rattle.stamp.specs.Stamp.{stampNumber, versionFound, stamped}
+use Rattle.demands.specs.Model.{Limits, Model, versionAt, updates}
+use Rattle.demands.specs.OnModel.{pageNumber, onModel}
 use Rattle.demands.specs.Run.{onStore}
-use Rattle.demands.proofs.Image.{pagesImage, storeImage, areasImage, image}
+use Rattle.demands.proofs.Image.{storeImage, areasImage, image}
 use Rattle.demands.proofs.Sound.{Sound}
 use Rattle.demands.proofs.Passed.{page-passed}
 use Rattle.demands.proofs.Steps.Numbers.{image-number, page-alike}
-use Rattle.demands.proofs.Steps.Sizes.{pages-in}
-use Rattle.demands.proofs.Steps.Found.{published-within, some-version, find-page, page-number, view-bytes}
+use Rattle.demands.proofs.Steps.Size.{pages-in}
+use Rattle.demands.proofs.Steps.Found.{published-within, some-version, find-page, page-number}
 
 -- ---- the number
 
@@ -49,17 +48,4 @@ module _ (L : Limits) (m : Model) (sound : Sound L m) (v p : ℕ) where
         stamp-number L m sound v p,
         stamp-says (pageNumber L m v p) (versionFound (findPage (storeImage L m) (areasImage L m) v p)) (stampOf (updates m) v p)
             (λ z. let q = page-passed L m v p z in rw (find-page L m sound v p (some-version m v p (q .inside)) (q .published) (q .inside))),
-      )
-
-  pub view-step : onStore (image L m) (VIEW v p) ≡ (image L (onModel L m (VIEW v p) .0), onModel L m (VIEW v p) .1)
-  unfolding onStore onModel
-  view-step =
-      rw (
-        stamp-number L m sound v p,
-        unless-same (pageNumber L m v p) []
-            (part (pagesImage L m) (L .size * orZero (pageNumberOf (storeImage L m) (areasImage L m) v p)) (L .size)) (getD (blobAt m v) p [])
-            (λ z.
-            let q = page-passed L m v p z in
-            let o = some-version m v p (q .inside) in
-            rw (page-number L m sound v p o (q .published) (q .inside)) (view-bytes L m sound v p o (q .published) (q .inside))),
       )

@@ -3,10 +3,10 @@
 use mathlib.Core.Path.{_≡_}
 use mathlib.Core.List.{List}
 use Prim.Native.Nat.{ℕ}
-use Rattle.tree.specs.declared.Record.{Record}
+use Rattle.register.specs.declared.Record.{Record}
 use Rattle.versions.specs.declared.Store.{Store}
-use Rattle.versions.specs.Calls.{areasOf}
-use Rattle.versions.specs.Answers.{Answer, Outcome, says}
+use Rattle.versions.specs.Store.{areasOf}
+use Rattle.demands.specs.Answers.{Answer, Outcome, says}
 use Rattle.demands.specs.Run.{State}
 
 abbrev pub leaves : State → Answer → State × Outcome

@@ -10,53 +10,22 @@ use Rattle.tree.specs.Tree.{Update, Node, node, countOf, weaving, update, newes
 use Rattle.tree.specs.Place.{kth}
 use Rattle.tree.specs.NodeArea.{withNode}
 use Rattle.tree.specs.Walk.{used}
-use Rattle.tree.specs.Register.{updateOf, updatesOf, withRecord}
-use Rattle.tree.specs.declared.Record.{Record}
+use Rattle.register.specs.Register.{updateOf, updatesOf, withRecord}
+use Rattle.register.specs.declared.Record.{Record}
 use Rattle.tree.proofs.First.{first-leaf}
 use Rattle.tree.proofs.Newest.{newest-le}
 use Rattle.tree.proofs.Walk.{node-has}
 use Rattle.tree.proofs.Weaving.{Inside, weaving-kth, kth-node}
 use Rattle.versions.specs.Table.{_≤?_, _<?_, _or_, always, unless, weaveRows}
 use Rattle.versions.proofs.Table.{Fails}
-use Rattle.versions.specs.declared.WovenNode.{WovenNode}
-use Rattle.versions.specs.declared.Woven.the-variants as Woven
+use Rattle.weave.specs.declared.WovenNode.{WovenNode}
+use Rattle.weave.specs.declared.Woven.the-variants as Woven
 use Rattle.versions.specs.declared.Store.{Store}
-use Rattle.versions.specs.Answers.{Answer, WEAVE, nodeIs, says, answers, wovenAnswer}
-use Rattle.versions.specs.Calls.{
-  recordOf,
-  nextNode,
-  nextPlace,
-  leafPast,
-  weaveRefusal,
-  wovenVersion,
-  wovenRecord,
-  weaveNumber,
-  leftNumber,
-  rightNumber,
-  firstPage,
-  spanOf,
-  withWoven,
-  nodeOf,
-  wove,
-}
-use Rattle.demands.specs.Model.{
-  Limits,
-  Model,
-  pagesOf,
-  ticketAt,
-  versionAt,
-  taken,
-  versionOf,
-  updates,
-  leftOf,
-  rightOf,
-  firstPage as pageOf,
-  spanOf as spanIn,
-  weaveNumber as modelNumber,
-  nodeAnswer,
-  woven,
-  onModel,
-}
+use Rattle.demands.specs.Answers.{Answer, WEAVE, nodeIs, says, answers, wovenAnswer}
+use Rattle.versions.specs.Store.{recordOf}
+use Rattle.weave.specs.Weave.{nextNode, nextPlace, leafPast, weaveRefusal, wovenVersion, wovenRecord, weaveNumber, leftNumber, rightNumber, firstPage, spanOf, withWoven, nodeOf, wove}
+use Rattle.demands.specs.Model.{Limits, Model, pagesOf, ticketAt, versionAt, taken, versionOf, updates}
+use Rattle.demands.specs.OnModel.{leftOf, rightOf, firstPage as pageOf, spanOf as spanIn, weaveNumber as modelNumber, nodeAnswer, woven, onModel}
 use Rattle.demands.specs.Run.{onStore}
 use Rattle.demands.proofs.Image.{pagesImage, countAt, nodesImage, registerImage, storeImage, areasImage, image}
 use Rattle.demands.proofs.Sound.{Sound}

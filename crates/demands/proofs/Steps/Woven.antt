@@ -10,12 +10,14 @@ use lib.Dec.{ltb}
 use lib.ListN.{length, getD}
 use Rattle.tree.specs.Tree.{node, weaving, update}
 use Rattle.tree.specs.NodeArea.{withNode}
-use Rattle.tree.specs.Register.{withRecord}
+use Rattle.register.specs.Register.{withRecord}
 use Rattle.tree.specs.Walk.{used}
-use Rattle.tree.specs.declared.Record.{Record}
+use Rattle.register.specs.declared.Record.{Record}
 use Rattle.tree.proofs.Meets.{lt-or-le}
-use Rattle.versions.specs.Calls.{withWoven}
-use Rattle.demands.specs.Model.{Limits, Ticket, Model, noTicket, noVersion, pagesOf, ticketAt, versionAt, taken, versionOf, updates, joined, woven}
+use Rattle.weave.specs.Weave.{withWoven}
+use Rattle.demands.specs.Model.{Limits, Ticket, Model, noTicket, noVersion, pagesOf, ticketAt, versionAt, taken, versionOf, updates}
+use Rattle.demands.specs.InTurn.{joined}
+use Rattle.demands.specs.OnModel.{woven}
 use Rattle.demands.proofs.Image.{blank, slotCell, pageCell, pagesImage, numbersOf, wovenOf, weaveCell, countAt, nodesImage, recordImage, registerImage, storeImage}
 use Rattle.demands.proofs.Sound.{Sound}
 use Rattle.demands.proofs.Nth.{nth-set-field, nth-past}

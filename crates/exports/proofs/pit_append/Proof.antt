@@ -41,34 +41,34 @@ use denote.Steps.{owned, nothing}
 use denote.Triple.Spec.{Meets, tripleOf}
 use denote.Triple.Table.{entered, cited}
 use denote.Triple.Walked.{says, needs, Stays, stay-slice, stay-none-slice, stay-none, walkOf, Walks, ends-at, walked, goes-slice, goes-none-slice, goes-none, walk-meets}
-use Rattle.exports.specs.declared.AssignReply.{AssignReply}
-use Rattle.exports.proofs.Walkgen.Kind.AssignReply as AssignReply′
+use Rattle.replies.specs.declared.AssignReply.{AssignReply}
+use Rattle.exports.proofs.Generated.Kind.AssignReply as AssignReply′
 use Rattle.versions.specs.declared.Store.{Store}
-use Rattle.versions.proofs.Walkgen.Kind.Store as Store′
+use Rattle.versions.proofs.Generated.Kind.Store as Store′
 use Rattle.tree.specs.declared.Ticket.{Ticket}
-use Rattle.tree.proofs.Walkgen.Kind.Ticket as Ticket′
+use Rattle.register.proofs.Generated.Kind.Ticket as Ticket′
 use Rattle.tree.specs.declared.Version.{Version}
-use Rattle.tree.proofs.Walkgen.Kind.Version as Version′
-use Rattle.tree.specs.declared.Record.{Record}
-use Rattle.tree.proofs.Walkgen.Kind.Record as Record′
+use Rattle.register.proofs.Generated.Kind.Version as Version′
+use Rattle.register.specs.declared.Record.{Record}
+use Rattle.register.proofs.Generated.Kind.Record as Record′
 use Rattle.tree.specs.declared.PageIndex.{PageIndex}
-use Rattle.tree.proofs.Walkgen.Kind.PageIndex as PageIndex′
-use Rattle.versions.specs.declared.AssignOut.{AssignOut}
-use Rattle.versions.proofs.Walkgen.Kind.AssignOut as AssignOut′
-use Rattle.versions.specs.declared.Assigned.{Assigned}
-use Rattle.versions.proofs.Walkgen.Kind.Assigned as Assigned′
-use Rattle.tree.proofs.Walkgen.Flow.{ref, MutAt, ShrAt, lend-mut, back-mut, lend-shr, back-shr, branches-on, regroup, skips-on, returns-on, plus-nothing, holds, empty, less-fits, is-true, is-false, differ, above-0, twice-not, switches-to, switches-last, big-lit, here, blocks-on, resume, scaled-2, scaled-4, scaled-8, opens-shr, shuts-shr, opens-mut, shuts-mut, puts-mut, keeps-shr, fills, empties, tyAt}
-use Rattle.exports.proofs.Walkgen.Say.pit_append as pit-append″
-use Rattle.versions.proofs.Walkgen.Say.append as append″
-use Rattle.versions.proofs.Walkgen.Call.append as Call-append
-use Rattle.versions.proofs.append.Symbol as def-append
-use Rattle.versions.proofs.append.Symbol.{name as #append}
-use Rattle.versions.proofs.append.Met as thm-append
-use Rattle.exports.proofs.Walkgen.Say.assign_reply as assign-reply″
-use Rattle.exports.proofs.Walkgen.Call.assign_reply as Call-assign-reply
-use Rattle.exports.proofs.assign_reply.Symbol as def-assign-reply
-use Rattle.exports.proofs.assign_reply.Symbol.{name as #assign-reply}
-use Rattle.exports.proofs.assign_reply.Met as thm-assign-reply
+use Rattle.register.proofs.Generated.Kind.PageIndex as PageIndex′
+use Rattle.assign.specs.declared.AssignOut.{AssignOut}
+use Rattle.assign.proofs.Generated.Kind.AssignOut as AssignOut′
+use Rattle.assign.specs.declared.Assigned.{Assigned}
+use Rattle.assign.proofs.Generated.Kind.Assigned as Assigned′
+use Rattle.register.proofs.Generated.Flow.{ref, MutAt, ShrAt, lend-mut, back-mut, lend-shr, back-shr, branches-on, regroup, skips-on, returns-on, plus-nothing, holds, empty, less-fits, is-true, is-false, differ, above-0, twice-not, switches-to, switches-last, big-lit, here, blocks-on, resume, scaled-2, scaled-4, scaled-8, opens-shr, shuts-shr, opens-mut, shuts-mut, puts-mut, keeps-shr, fills, empties, tyAt}
+use Rattle.exports.proofs.Generated.Say.pit_append as pit-append″
+use Rattle.assign.proofs.Generated.Say.append as append″
+use Rattle.assign.proofs.Generated.Call.append as Call-append
+use Rattle.assign.proofs.append.Symbol as def-append
+use Rattle.assign.proofs.append.Symbol.{name as #append}
+use Rattle.assign.proofs.append.Met as thm-append
+use Rattle.exports.proofs.Generated.Say.assign_reply as assign-reply″
+use Rattle.exports.proofs.Generated.Call.assign_reply as Call-assign-reply
+use Rattle.replies.proofs.assign_reply.Symbol as def-assign-reply
+use Rattle.replies.proofs.assign_reply.Symbol.{name as #assign-reply}
+use Rattle.replies.proofs.assign_reply.Met as thm-assign-reply
 use Rattle.exports.proofs.pit_append.Key.{name as #self}
 use Rattle.exports.proofs.pit_append as pit-append‴
 use Rattle.exports.proofs.pit_append.Statement as stated
@@ -132,5 +132,5 @@ pit-append-spec 𝓤 H 𝓜 𝓖 𝓡 =
     entered 𝓤 H (tripleOf 𝓤 H (𝓖 .A) pit-append‴.signature (pit-append‴.spec 𝓤 H (𝓖 .A) (𝓜 .mem) (𝓡 .run)))
     (tables 𝓤 H 𝓜 𝓡 code.env .C) (tables 𝓤 H 𝓜 𝓡 code.env .Λ) #self code.function (code.unfolded 𝓤 H 𝓜 𝓡)
     (meets 𝓤 H (𝓖 .A) (givenOf 𝓤 H 𝓜 𝓖) (𝓜 .mem) (𝓡 .run) (tablesOf 𝓤 H 𝓜 (tables 𝓤 H 𝓜 𝓡 code.env))
-    (cited 𝓤 H (Call-append.Asked 𝓤 H (𝓖 .A) (𝓜 .mem) (𝓡 .run)) 𝓜 𝓡 code.env #append def-append.routine code.calls-versions·append (thm-append.met 𝓤 H 𝓜 𝓖 𝓡))
-    (cited 𝓤 H (Call-assign-reply.Asked 𝓤 H (𝓖 .A) (𝓜 .mem) (𝓡 .run)) 𝓜 𝓡 code.env #assign-reply def-assign-reply.routine code.calls-exports·assign-reply (thm-assign-reply.met 𝓤 H 𝓜 𝓖 𝓡)))
+    (cited 𝓤 H (Call-append.Asked 𝓤 H (𝓖 .A) (𝓜 .mem) (𝓡 .run)) 𝓜 𝓡 code.env #append def-append.routine code.calls-assign·append (thm-append.met 𝓤 H 𝓜 𝓖 𝓡))
+    (cited 𝓤 H (Call-assign-reply.Asked 𝓤 H (𝓖 .A) (𝓜 .mem) (𝓡 .run)) 𝓜 𝓡 code.env #assign-reply def-assign-reply.routine code.calls-replies·assign-reply (thm-assign-reply.met 𝓤 H 𝓜 𝓖 𝓡)))

@@ -41,34 +41,34 @@ use denote.Steps.{owned, nothing}
 use denote.Triple.Spec.{Meets, tripleOf}
 use denote.Triple.Table.{entered, cited}
 use denote.Triple.Walked.{says, needs, Stays, stay-slice, stay-none-slice, stay-none, walkOf, Walks, ends-at, walked, goes-slice, goes-none-slice, goes-none, walk-meets}
-use Rattle.exports.specs.declared.BeginReply.{BeginReply}
-use Rattle.exports.proofs.Walkgen.Kind.BeginReply as BeginReply′
+use Rattle.replies.specs.declared.BeginReply.{BeginReply}
+use Rattle.exports.proofs.Generated.Kind.BeginReply as BeginReply′
 use Rattle.versions.specs.declared.Store.{Store}
-use Rattle.versions.proofs.Walkgen.Kind.Store as Store′
+use Rattle.versions.proofs.Generated.Kind.Store as Store′
 use Rattle.tree.specs.declared.Ticket.{Ticket}
-use Rattle.tree.proofs.Walkgen.Kind.Ticket as Ticket′
+use Rattle.register.proofs.Generated.Kind.Ticket as Ticket′
 use Rattle.tree.specs.declared.Version.{Version}
-use Rattle.tree.proofs.Walkgen.Kind.Version as Version′
-use Rattle.tree.specs.declared.Record.{Record}
-use Rattle.tree.proofs.Walkgen.Kind.Record as Record′
+use Rattle.register.proofs.Generated.Kind.Version as Version′
+use Rattle.register.specs.declared.Record.{Record}
+use Rattle.register.proofs.Generated.Kind.Record as Record′
 use Rattle.tree.specs.declared.PageIndex.{PageIndex}
-use Rattle.tree.proofs.Walkgen.Kind.PageIndex as PageIndex′
-use Rattle.versions.specs.declared.BeginOut.{BeginOut}
-use Rattle.versions.proofs.Walkgen.Kind.BeginOut as BeginOut′
-use Rattle.versions.specs.declared.Begun.{Begun}
-use Rattle.versions.proofs.Walkgen.Kind.Begun as Begun′
-use Rattle.tree.proofs.Walkgen.Flow.{ref, MutAt, ShrAt, lend-mut, back-mut, lend-shr, back-shr, branches-on, regroup, skips-on, returns-on, plus-nothing, holds, empty, less-fits, is-true, is-false, differ, above-0, twice-not, switches-to, switches-last, big-lit, here, blocks-on, resume, scaled-2, scaled-4, scaled-8, opens-shr, shuts-shr, opens-mut, shuts-mut, puts-mut, keeps-shr, fills, empties, tyAt}
-use Rattle.exports.proofs.Walkgen.Say.pit_begin as pit-begin″
-use Rattle.versions.proofs.Walkgen.Say.begin as begin″
-use Rattle.versions.proofs.Walkgen.Call.begin as Call-begin
-use Rattle.versions.proofs.begin.Symbol as def-begin
-use Rattle.versions.proofs.begin.Symbol.{name as #begin}
-use Rattle.versions.proofs.begin.Met as thm-begin
-use Rattle.exports.proofs.Walkgen.Say.begin_reply as begin-reply″
-use Rattle.exports.proofs.Walkgen.Call.begin_reply as Call-begin-reply
-use Rattle.exports.proofs.begin_reply.Symbol as def-begin-reply
-use Rattle.exports.proofs.begin_reply.Symbol.{name as #begin-reply}
-use Rattle.exports.proofs.begin_reply.Met as thm-begin-reply
+use Rattle.register.proofs.Generated.Kind.PageIndex as PageIndex′
+use Rattle.begin.specs.declared.BeginOut.{BeginOut}
+use Rattle.begin.proofs.Generated.Kind.BeginOut as BeginOut′
+use Rattle.begin.specs.declared.Begun.{Begun}
+use Rattle.begin.proofs.Generated.Kind.Begun as Begun′
+use Rattle.register.proofs.Generated.Flow.{ref, MutAt, ShrAt, lend-mut, back-mut, lend-shr, back-shr, branches-on, regroup, skips-on, returns-on, plus-nothing, holds, empty, less-fits, is-true, is-false, differ, above-0, twice-not, switches-to, switches-last, big-lit, here, blocks-on, resume, scaled-2, scaled-4, scaled-8, opens-shr, shuts-shr, opens-mut, shuts-mut, puts-mut, keeps-shr, fills, empties, tyAt}
+use Rattle.exports.proofs.Generated.Say.pit_begin as pit-begin″
+use Rattle.begin.proofs.Generated.Say.begin as begin″
+use Rattle.begin.proofs.Generated.Call.begin as Call-begin
+use Rattle.begin.proofs.begin.Symbol as def-begin
+use Rattle.begin.proofs.begin.Symbol.{name as #begin}
+use Rattle.begin.proofs.begin.Met as thm-begin
+use Rattle.exports.proofs.Generated.Say.begin_reply as begin-reply″
+use Rattle.exports.proofs.Generated.Call.begin_reply as Call-begin-reply
+use Rattle.replies.proofs.begin_reply.Symbol as def-begin-reply
+use Rattle.replies.proofs.begin_reply.Symbol.{name as #begin-reply}
+use Rattle.replies.proofs.begin_reply.Met as thm-begin-reply
 use Rattle.exports.proofs.pit_begin.Key.{name as #self}
 use Rattle.exports.proofs.pit_begin as pit-begin‴
 use Rattle.exports.proofs.pit_begin.Statement as stated
@@ -131,5 +131,5 @@ pit-begin-spec 𝓤 H 𝓜 𝓖 𝓡 =
     entered 𝓤 H (tripleOf 𝓤 H (𝓖 .A) pit-begin‴.signature (pit-begin‴.spec 𝓤 H (𝓖 .A) (𝓜 .mem) (𝓡 .run)))
     (tables 𝓤 H 𝓜 𝓡 code.env .C) (tables 𝓤 H 𝓜 𝓡 code.env .Λ) #self code.function (code.unfolded 𝓤 H 𝓜 𝓡)
     (meets 𝓤 H (𝓖 .A) (givenOf 𝓤 H 𝓜 𝓖) (𝓜 .mem) (𝓡 .run) (tablesOf 𝓤 H 𝓜 (tables 𝓤 H 𝓜 𝓡 code.env))
-    (cited 𝓤 H (Call-begin.Asked 𝓤 H (𝓖 .A) (𝓜 .mem) (𝓡 .run)) 𝓜 𝓡 code.env #begin def-begin.routine code.calls-versions·begin (thm-begin.met 𝓤 H 𝓜 𝓖 𝓡))
-    (cited 𝓤 H (Call-begin-reply.Asked 𝓤 H (𝓖 .A) (𝓜 .mem) (𝓡 .run)) 𝓜 𝓡 code.env #begin-reply def-begin-reply.routine code.calls-exports·begin-reply (thm-begin-reply.met 𝓤 H 𝓜 𝓖 𝓡)))
+    (cited 𝓤 H (Call-begin.Asked 𝓤 H (𝓖 .A) (𝓜 .mem) (𝓡 .run)) 𝓜 𝓡 code.env #begin def-begin.routine code.calls-begin·begin (thm-begin.met 𝓤 H 𝓜 𝓖 𝓡))
+    (cited 𝓤 H (Call-begin-reply.Asked 𝓤 H (𝓖 .A) (𝓜 .mem) (𝓡 .run)) 𝓜 𝓡 code.env #begin-reply def-begin-reply.routine code.calls-replies·begin-reply (thm-begin-reply.met 𝓤 H 𝓜 𝓖 𝓡)))

@@ -41,32 +41,32 @@ use denote.Steps.{owned, nothing}
 use denote.Triple.Spec.{Meets, tripleOf}
 use denote.Triple.Table.{entered, cited}
 use denote.Triple.Walked.{says, needs, Stays, stay-slice, stay-none-slice, stay-none, walkOf, Walks, ends-at, walked, goes-slice, goes-none-slice, goes-none, walk-meets}
-use Rattle.exports.specs.declared.FormatReply.{FormatReply}
-use Rattle.exports.proofs.Walkgen.Kind.FormatReply as FormatReply′
+use Rattle.replies.specs.declared.FormatReply.{FormatReply}
+use Rattle.exports.proofs.Generated.Kind.FormatReply as FormatReply′
 use Rattle.versions.specs.declared.Store.{Store}
-use Rattle.versions.proofs.Walkgen.Kind.Store as Store′
+use Rattle.versions.proofs.Generated.Kind.Store as Store′
 use Rattle.tree.specs.declared.Ticket.{Ticket}
-use Rattle.tree.proofs.Walkgen.Kind.Ticket as Ticket′
+use Rattle.register.proofs.Generated.Kind.Ticket as Ticket′
 use Rattle.tree.specs.declared.Version.{Version}
-use Rattle.tree.proofs.Walkgen.Kind.Version as Version′
-use Rattle.tree.specs.declared.Record.{Record}
-use Rattle.tree.proofs.Walkgen.Kind.Record as Record′
+use Rattle.register.proofs.Generated.Kind.Version as Version′
+use Rattle.register.specs.declared.Record.{Record}
+use Rattle.register.proofs.Generated.Kind.Record as Record′
 use Rattle.tree.specs.declared.PageIndex.{PageIndex}
-use Rattle.tree.proofs.Walkgen.Kind.PageIndex as PageIndex′
-use Rattle.versions.specs.declared.Formatted.{Formatted}
-use Rattle.versions.proofs.Walkgen.Kind.Formatted as Formatted′
-use Rattle.tree.proofs.Walkgen.Flow.{ref, MutAt, ShrAt, lend-mut, back-mut, lend-shr, back-shr, branches-on, regroup, skips-on, returns-on, plus-nothing, holds, empty, less-fits, is-true, is-false, differ, above-0, twice-not, switches-to, switches-last, big-lit, here, blocks-on, resume, scaled-2, scaled-4, scaled-8, opens-shr, shuts-shr, opens-mut, shuts-mut, puts-mut, keeps-shr, fills, empties, tyAt}
-use Rattle.exports.proofs.Walkgen.Say.pit_format as pit-format″
-use Rattle.versions.proofs.Walkgen.Say.format as format″
-use Rattle.versions.proofs.Walkgen.Call.format as Call-format
-use Rattle.versions.proofs.format.Symbol as def-format
-use Rattle.versions.proofs.format.Symbol.{name as #format}
-use Rattle.versions.proofs.format.Met as thm-format
-use Rattle.exports.proofs.Walkgen.Say.format_reply as format-reply″
-use Rattle.exports.proofs.Walkgen.Call.format_reply as Call-format-reply
-use Rattle.exports.proofs.format_reply.Symbol as def-format-reply
-use Rattle.exports.proofs.format_reply.Symbol.{name as #format-reply}
-use Rattle.exports.proofs.format_reply.Met as thm-format-reply
+use Rattle.register.proofs.Generated.Kind.PageIndex as PageIndex′
+use Rattle.format.specs.declared.Formatted.{Formatted}
+use Rattle.format.proofs.Generated.Kind.Formatted as Formatted′
+use Rattle.register.proofs.Generated.Flow.{ref, MutAt, ShrAt, lend-mut, back-mut, lend-shr, back-shr, branches-on, regroup, skips-on, returns-on, plus-nothing, holds, empty, less-fits, is-true, is-false, differ, above-0, twice-not, switches-to, switches-last, big-lit, here, blocks-on, resume, scaled-2, scaled-4, scaled-8, opens-shr, shuts-shr, opens-mut, shuts-mut, puts-mut, keeps-shr, fills, empties, tyAt}
+use Rattle.exports.proofs.Generated.Say.pit_format as pit-format″
+use Rattle.format.proofs.Generated.Say.format as format″
+use Rattle.format.proofs.Generated.Call.format as Call-format
+use Rattle.format.proofs.format.Symbol as def-format
+use Rattle.format.proofs.format.Symbol.{name as #format}
+use Rattle.format.proofs.format.Met as thm-format
+use Rattle.exports.proofs.Generated.Say.format_reply as format-reply″
+use Rattle.exports.proofs.Generated.Call.format_reply as Call-format-reply
+use Rattle.replies.proofs.format_reply.Symbol as def-format-reply
+use Rattle.replies.proofs.format_reply.Symbol.{name as #format-reply}
+use Rattle.replies.proofs.format_reply.Met as thm-format-reply
 use Rattle.exports.proofs.pit_format.Key.{name as #self}
 use Rattle.exports.proofs.pit_format as pit-format‴
 use Rattle.exports.proofs.pit_format.Statement as stated
@@ -136,5 +136,5 @@ pit-format-spec 𝓤 H 𝓜 𝓖 𝓡 =
     entered 𝓤 H (tripleOf 𝓤 H (𝓖 .A) pit-format‴.signature (pit-format‴.spec 𝓤 H (𝓖 .A) (𝓜 .mem) (𝓡 .run)))
     (tables 𝓤 H 𝓜 𝓡 code.env .C) (tables 𝓤 H 𝓜 𝓡 code.env .Λ) #self code.function (code.unfolded 𝓤 H 𝓜 𝓡)
     (meets 𝓤 H (𝓖 .A) (givenOf 𝓤 H 𝓜 𝓖) (𝓜 .mem) (𝓡 .run) (tablesOf 𝓤 H 𝓜 (tables 𝓤 H 𝓜 𝓡 code.env))
-    (cited 𝓤 H (Call-format.Asked 𝓤 H (𝓖 .A) (𝓜 .mem) (𝓡 .run)) 𝓜 𝓡 code.env #format def-format.routine code.calls-versions·format (thm-format.met 𝓤 H 𝓜 𝓖 𝓡))
-    (cited 𝓤 H (Call-format-reply.Asked 𝓤 H (𝓖 .A) (𝓜 .mem) (𝓡 .run)) 𝓜 𝓡 code.env #format-reply def-format-reply.routine code.calls-exports·format-reply (thm-format-reply.met 𝓤 H 𝓜 𝓖 𝓡)))
+    (cited 𝓤 H (Call-format.Asked 𝓤 H (𝓖 .A) (𝓜 .mem) (𝓡 .run)) 𝓜 𝓡 code.env #format def-format.routine code.calls-format·format (thm-format.met 𝓤 H 𝓜 𝓖 𝓡))
+    (cited 𝓤 H (Call-format-reply.Asked 𝓤 H (𝓖 .A) (𝓜 .mem) (𝓡 .run)) 𝓜 𝓡 code.env #format-reply def-format-reply.routine code.calls-replies·format-reply (thm-format-reply.met 𝓤 H 𝓜 𝓖 𝓡)))

@@ -41,34 +41,34 @@ use denote.Steps.{owned, nothing}
 use denote.Triple.Spec.{Meets, tripleOf}
 use denote.Triple.Table.{entered, cited}
 use denote.Triple.Walked.{says, needs, Stays, stay-slice, stay-none-slice, stay-none, walkOf, Walks, ends-at, walked, goes-slice, goes-none-slice, goes-none, walk-meets}
-use Rattle.exports.specs.declared.PublishReply.{PublishReply}
-use Rattle.exports.proofs.Walkgen.Kind.PublishReply as PublishReply′
+use Rattle.replies.specs.declared.PublishReply.{PublishReply}
+use Rattle.exports.proofs.Generated.Kind.PublishReply as PublishReply′
 use Rattle.versions.specs.declared.Store.{Store}
-use Rattle.versions.proofs.Walkgen.Kind.Store as Store′
+use Rattle.versions.proofs.Generated.Kind.Store as Store′
 use Rattle.tree.specs.declared.Ticket.{Ticket}
-use Rattle.tree.proofs.Walkgen.Kind.Ticket as Ticket′
+use Rattle.register.proofs.Generated.Kind.Ticket as Ticket′
 use Rattle.tree.specs.declared.Version.{Version}
-use Rattle.tree.proofs.Walkgen.Kind.Version as Version′
-use Rattle.tree.specs.declared.Record.{Record}
-use Rattle.tree.proofs.Walkgen.Kind.Record as Record′
+use Rattle.register.proofs.Generated.Kind.Version as Version′
+use Rattle.register.specs.declared.Record.{Record}
+use Rattle.register.proofs.Generated.Kind.Record as Record′
 use Rattle.tree.specs.declared.PageIndex.{PageIndex}
-use Rattle.tree.proofs.Walkgen.Kind.PageIndex as PageIndex′
-use Rattle.versions.specs.declared.PublishOut.{PublishOut}
-use Rattle.versions.proofs.Walkgen.Kind.PublishOut as PublishOut′
-use Rattle.versions.specs.declared.Published.{Published}
-use Rattle.versions.proofs.Walkgen.Kind.Published as Published′
-use Rattle.tree.proofs.Walkgen.Flow.{ref, MutAt, ShrAt, lend-mut, back-mut, lend-shr, back-shr, branches-on, regroup, skips-on, returns-on, plus-nothing, holds, empty, less-fits, is-true, is-false, differ, above-0, twice-not, switches-to, switches-last, big-lit, here, blocks-on, resume, scaled-2, scaled-4, scaled-8, opens-shr, shuts-shr, opens-mut, shuts-mut, puts-mut, keeps-shr, fills, empties, tyAt}
-use Rattle.exports.proofs.Walkgen.Say.pit_publish as pit-publish″
-use Rattle.versions.proofs.Walkgen.Say.publish as publish″
-use Rattle.versions.proofs.Walkgen.Call.publish as Call-publish
-use Rattle.versions.proofs.publish.Symbol as def-publish
-use Rattle.versions.proofs.publish.Symbol.{name as #publish}
-use Rattle.versions.proofs.publish.Met as thm-publish
-use Rattle.exports.proofs.Walkgen.Say.publish_reply as publish-reply″
-use Rattle.exports.proofs.Walkgen.Call.publish_reply as Call-publish-reply
-use Rattle.exports.proofs.publish_reply.Symbol as def-publish-reply
-use Rattle.exports.proofs.publish_reply.Symbol.{name as #publish-reply}
-use Rattle.exports.proofs.publish_reply.Met as thm-publish-reply
+use Rattle.register.proofs.Generated.Kind.PageIndex as PageIndex′
+use Rattle.publish.specs.declared.PublishOut.{PublishOut}
+use Rattle.publish.proofs.Generated.Kind.PublishOut as PublishOut′
+use Rattle.publish.specs.declared.Published.{Published}
+use Rattle.publish.proofs.Generated.Kind.Published as Published′
+use Rattle.register.proofs.Generated.Flow.{ref, MutAt, ShrAt, lend-mut, back-mut, lend-shr, back-shr, branches-on, regroup, skips-on, returns-on, plus-nothing, holds, empty, less-fits, is-true, is-false, differ, above-0, twice-not, switches-to, switches-last, big-lit, here, blocks-on, resume, scaled-2, scaled-4, scaled-8, opens-shr, shuts-shr, opens-mut, shuts-mut, puts-mut, keeps-shr, fills, empties, tyAt}
+use Rattle.exports.proofs.Generated.Say.pit_publish as pit-publish″
+use Rattle.publish.proofs.Generated.Say.publish as publish″
+use Rattle.publish.proofs.Generated.Call.publish as Call-publish
+use Rattle.publish.proofs.publish.Symbol as def-publish
+use Rattle.publish.proofs.publish.Symbol.{name as #publish}
+use Rattle.publish.proofs.publish.Met as thm-publish
+use Rattle.exports.proofs.Generated.Say.publish_reply as publish-reply″
+use Rattle.exports.proofs.Generated.Call.publish_reply as Call-publish-reply
+use Rattle.replies.proofs.publish_reply.Symbol as def-publish-reply
+use Rattle.replies.proofs.publish_reply.Symbol.{name as #publish-reply}
+use Rattle.replies.proofs.publish_reply.Met as thm-publish-reply
 use Rattle.exports.proofs.pit_publish.Key.{name as #self}
 use Rattle.exports.proofs.pit_publish as pit-publish‴
 use Rattle.exports.proofs.pit_publish.Statement as stated
@@ -128,5 +128,5 @@ pit-publish-spec 𝓤 H 𝓜 𝓖 𝓡 =
     entered 𝓤 H (tripleOf 𝓤 H (𝓖 .A) pit-publish‴.signature (pit-publish‴.spec 𝓤 H (𝓖 .A) (𝓜 .mem) (𝓡 .run)))
     (tables 𝓤 H 𝓜 𝓡 code.env .C) (tables 𝓤 H 𝓜 𝓡 code.env .Λ) #self code.function (code.unfolded 𝓤 H 𝓜 𝓡)
     (meets 𝓤 H (𝓖 .A) (givenOf 𝓤 H 𝓜 𝓖) (𝓜 .mem) (𝓡 .run) (tablesOf 𝓤 H 𝓜 (tables 𝓤 H 𝓜 𝓡 code.env))
-    (cited 𝓤 H (Call-publish.Asked 𝓤 H (𝓖 .A) (𝓜 .mem) (𝓡 .run)) 𝓜 𝓡 code.env #publish def-publish.routine code.calls-versions·publish (thm-publish.met 𝓤 H 𝓜 𝓖 𝓡))
-    (cited 𝓤 H (Call-publish-reply.Asked 𝓤 H (𝓖 .A) (𝓜 .mem) (𝓡 .run)) 𝓜 𝓡 code.env #publish-reply def-publish-reply.routine code.calls-exports·publish-reply (thm-publish-reply.met 𝓤 H 𝓜 𝓖 𝓡)))
+    (cited 𝓤 H (Call-publish.Asked 𝓤 H (𝓖 .A) (𝓜 .mem) (𝓡 .run)) 𝓜 𝓡 code.env #publish def-publish.routine code.calls-publish·publish (thm-publish.met 𝓤 H 𝓜 𝓖 𝓡))
+    (cited 𝓤 H (Call-publish-reply.Asked 𝓤 H (𝓖 .A) (𝓜 .mem) (𝓡 .run)) 𝓜 𝓡 code.env #publish-reply def-publish-reply.routine code.calls-replies·publish-reply (thm-publish-reply.met 𝓤 H 𝓜 𝓖 𝓡)))

@@ -42,29 +42,29 @@ use denote.Triple.Spec.{Meets, tripleOf}
 use denote.Triple.Table.{entered, cited}
 use denote.Triple.Walked.{says, needs, Stays, stay-slice, stay-none-slice, stay-none, walkOf, Walks, ends-at, walked, goes-slice, goes-none-slice, goes-none, walk-meets}
 use Rattle.versions.specs.declared.Store.{Store}
-use Rattle.versions.proofs.Walkgen.Kind.Store as Store′
+use Rattle.versions.proofs.Generated.Kind.Store as Store′
 use Rattle.tree.specs.declared.Ticket.{Ticket}
-use Rattle.tree.proofs.Walkgen.Kind.Ticket as Ticket′
+use Rattle.register.proofs.Generated.Kind.Ticket as Ticket′
 use Rattle.tree.specs.declared.Version.{Version}
-use Rattle.tree.proofs.Walkgen.Kind.Version as Version′
-use Rattle.tree.specs.declared.Record.{Record}
-use Rattle.tree.proofs.Walkgen.Kind.Record as Record′
+use Rattle.register.proofs.Generated.Kind.Version as Version′
+use Rattle.register.specs.declared.Record.{Record}
+use Rattle.register.proofs.Generated.Kind.Record as Record′
 use Rattle.tree.specs.declared.PageIndex.{PageIndex}
-use Rattle.tree.proofs.Walkgen.Kind.PageIndex as PageIndex′
-use Rattle.versions.specs.declared.PutIn.{PutIn}
-use Rattle.versions.proofs.Walkgen.Kind.PutIn as PutIn′
-use Rattle.tree.proofs.Walkgen.Flow.{ref, MutAt, ShrAt, lend-mut, back-mut, lend-shr, back-shr, branches-on, regroup, skips-on, returns-on, plus-nothing, holds, empty, less-fits, is-true, is-false, differ, above-0, twice-not, switches-to, switches-last, big-lit, here, blocks-on, resume, scaled-2, scaled-4, scaled-8, opens-shr, shuts-shr, opens-mut, shuts-mut, puts-mut, keeps-shr, fills, empties, tyAt}
-use Rattle.exports.proofs.Walkgen.Say.pit_put as pit-put″
-use Rattle.versions.proofs.Walkgen.Say.put as put″
-use Rattle.versions.proofs.Walkgen.Call.put as Call-put
-use Rattle.versions.proofs.put.Symbol as def-put
-use Rattle.versions.proofs.put.Symbol.{name as #put}
-use Rattle.versions.proofs.put.Met as thm-put
-use Rattle.exports.proofs.Walkgen.Say.put_reply as put-reply″
-use Rattle.exports.proofs.Walkgen.Call.put_reply as Call-put-reply
-use Rattle.exports.proofs.put_reply.Symbol as def-put-reply
-use Rattle.exports.proofs.put_reply.Symbol.{name as #put-reply}
-use Rattle.exports.proofs.put_reply.Met as thm-put-reply
+use Rattle.register.proofs.Generated.Kind.PageIndex as PageIndex′
+use Rattle.put.specs.declared.PutIn.{PutIn}
+use Rattle.put.proofs.Generated.Kind.PutIn as PutIn′
+use Rattle.register.proofs.Generated.Flow.{ref, MutAt, ShrAt, lend-mut, back-mut, lend-shr, back-shr, branches-on, regroup, skips-on, returns-on, plus-nothing, holds, empty, less-fits, is-true, is-false, differ, above-0, twice-not, switches-to, switches-last, big-lit, here, blocks-on, resume, scaled-2, scaled-4, scaled-8, opens-shr, shuts-shr, opens-mut, shuts-mut, puts-mut, keeps-shr, fills, empties, tyAt}
+use Rattle.exports.proofs.Generated.Say.pit_put as pit-put″
+use Rattle.put.proofs.Generated.Say.put as put″
+use Rattle.put.proofs.Generated.Call.put as Call-put
+use Rattle.put.proofs.put.Symbol as def-put
+use Rattle.put.proofs.put.Symbol.{name as #put}
+use Rattle.put.proofs.put.Met as thm-put
+use Rattle.exports.proofs.Generated.Say.put_reply as put-reply″
+use Rattle.exports.proofs.Generated.Call.put_reply as Call-put-reply
+use Rattle.replies.proofs.put_reply.Symbol as def-put-reply
+use Rattle.replies.proofs.put_reply.Symbol.{name as #put-reply}
+use Rattle.replies.proofs.put_reply.Met as thm-put-reply
 use Rattle.exports.proofs.pit_put.Key.{name as #self}
 use Rattle.exports.proofs.pit_put as pit-put‴
 use Rattle.exports.proofs.pit_put.Statement as stated
@@ -133,5 +133,5 @@ pit-put-spec 𝓤 H 𝓜 𝓖 𝓡 =
     entered 𝓤 H (tripleOf 𝓤 H (𝓖 .A) pit-put‴.signature (pit-put‴.spec 𝓤 H (𝓖 .A) (𝓜 .mem) (𝓡 .run)))
     (tables 𝓤 H 𝓜 𝓡 code.env .C) (tables 𝓤 H 𝓜 𝓡 code.env .Λ) #self code.function (code.unfolded 𝓤 H 𝓜 𝓡)
     (meets 𝓤 H (𝓖 .A) (givenOf 𝓤 H 𝓜 𝓖) (𝓜 .mem) (𝓡 .run) (tablesOf 𝓤 H 𝓜 (tables 𝓤 H 𝓜 𝓡 code.env))
-    (cited 𝓤 H (Call-put.Asked 𝓤 H (𝓖 .A) (𝓜 .mem) (𝓡 .run)) 𝓜 𝓡 code.env #put def-put.routine code.calls-versions·put (thm-put.met 𝓤 H 𝓜 𝓖 𝓡))
-    (cited 𝓤 H (Call-put-reply.Asked 𝓤 H (𝓖 .A) (𝓜 .mem) (𝓡 .run)) 𝓜 𝓡 code.env #put-reply def-put-reply.routine code.calls-exports·put-reply (thm-put-reply.met 𝓤 H 𝓜 𝓖 𝓡)))
+    (cited 𝓤 H (Call-put.Asked 𝓤 H (𝓖 .A) (𝓜 .mem) (𝓡 .run)) 𝓜 𝓡 code.env #put def-put.routine code.calls-put·put (thm-put.met 𝓤 H 𝓜 𝓖 𝓡))
+    (cited 𝓤 H (Call-put-reply.Asked 𝓤 H (𝓖 .A) (𝓜 .mem) (𝓡 .run)) 𝓜 𝓡 code.env #put-reply def-put-reply.routine code.calls-replies·put-reply (thm-put-reply.met 𝓤 H 𝓜 𝓖 𝓡)))

@@ -42,31 +42,31 @@ use denote.Triple.Spec.{Meets, tripleOf}
 use denote.Triple.Table.{entered, cited}
 use denote.Triple.Walked.{says, needs, Stays, stay-slice, stay-none-slice, stay-none, walkOf, Walks, ends-at, walked, goes-slice, goes-none-slice, goes-none, walk-meets}
 use Rattle.versions.specs.declared.Store.{Store}
-use Rattle.versions.proofs.Walkgen.Kind.Store as Store′
+use Rattle.versions.proofs.Generated.Kind.Store as Store′
 use Rattle.tree.specs.declared.Ticket.{Ticket}
-use Rattle.tree.proofs.Walkgen.Kind.Ticket as Ticket′
+use Rattle.register.proofs.Generated.Kind.Ticket as Ticket′
 use Rattle.tree.specs.declared.Version.{Version}
-use Rattle.tree.proofs.Walkgen.Kind.Version as Version′
-use Rattle.tree.specs.declared.Record.{Record}
-use Rattle.tree.proofs.Walkgen.Kind.Record as Record′
+use Rattle.register.proofs.Generated.Kind.Version as Version′
+use Rattle.register.specs.declared.Record.{Record}
+use Rattle.register.proofs.Generated.Kind.Record as Record′
 use Rattle.tree.specs.declared.PageIndex.{PageIndex}
-use Rattle.tree.proofs.Walkgen.Kind.PageIndex as PageIndex′
-use Rattle.versions.specs.declared.Filled.{Filled}
-use Rattle.versions.proofs.Walkgen.Kind.Filled as Filled′
+use Rattle.register.proofs.Generated.Kind.PageIndex as PageIndex′
+use Rattle.read.specs.declared.Filled.{Filled}
+use Rattle.read.proofs.Generated.Kind.Filled as Filled′
 use Rattle.versions.specs.declared.ByteOffset.{ByteOffset}
-use Rattle.versions.proofs.Walkgen.Kind.ByteOffset as ByteOffset′
-use Rattle.tree.proofs.Walkgen.Flow.{ref, MutAt, ShrAt, lend-mut, back-mut, lend-shr, back-shr, branches-on, regroup, skips-on, returns-on, plus-nothing, holds, empty, less-fits, is-true, is-false, differ, above-0, twice-not, switches-to, switches-last, big-lit, here, blocks-on, resume, scaled-2, scaled-4, scaled-8, opens-shr, shuts-shr, opens-mut, shuts-mut, puts-mut, keeps-shr, fills, empties, tyAt}
-use Rattle.exports.proofs.Walkgen.Say.pit_read as pit-read″
-use Rattle.versions.proofs.Walkgen.Say.read as read″
-use Rattle.versions.proofs.Walkgen.Call.read as Call-read
-use Rattle.versions.proofs.read.Symbol as def-read
-use Rattle.versions.proofs.read.Symbol.{name as #read}
-use Rattle.versions.proofs.read.Met as thm-read
-use Rattle.exports.proofs.Walkgen.Say.read_reply as read-reply″
-use Rattle.exports.proofs.Walkgen.Call.read_reply as Call-read-reply
-use Rattle.exports.proofs.read_reply.Symbol as def-read-reply
-use Rattle.exports.proofs.read_reply.Symbol.{name as #read-reply}
-use Rattle.exports.proofs.read_reply.Met as thm-read-reply
+use Rattle.read.proofs.Generated.Kind.ByteOffset as ByteOffset′
+use Rattle.register.proofs.Generated.Flow.{ref, MutAt, ShrAt, lend-mut, back-mut, lend-shr, back-shr, branches-on, regroup, skips-on, returns-on, plus-nothing, holds, empty, less-fits, is-true, is-false, differ, above-0, twice-not, switches-to, switches-last, big-lit, here, blocks-on, resume, scaled-2, scaled-4, scaled-8, opens-shr, shuts-shr, opens-mut, shuts-mut, puts-mut, keeps-shr, fills, empties, tyAt}
+use Rattle.exports.proofs.Generated.Say.pit_read as pit-read″
+use Rattle.read.proofs.Generated.Say.read as read″
+use Rattle.read.proofs.Generated.Call.read as Call-read
+use Rattle.read.proofs.read.Symbol as def-read
+use Rattle.read.proofs.read.Symbol.{name as #read}
+use Rattle.read.proofs.read.Met as thm-read
+use Rattle.exports.proofs.Generated.Say.read_reply as read-reply″
+use Rattle.exports.proofs.Generated.Call.read_reply as Call-read-reply
+use Rattle.replies.proofs.read_reply.Symbol as def-read-reply
+use Rattle.replies.proofs.read_reply.Symbol.{name as #read-reply}
+use Rattle.replies.proofs.read_reply.Met as thm-read-reply
 use Rattle.exports.proofs.pit_read.Key.{name as #self}
 use Rattle.exports.proofs.pit_read as pit-read‴
 use Rattle.exports.proofs.pit_read.Statement as stated
@@ -134,5 +134,5 @@ pit-read-spec 𝓤 H 𝓜 𝓖 𝓡 =
     entered 𝓤 H (tripleOf 𝓤 H (𝓖 .A) pit-read‴.signature (pit-read‴.spec 𝓤 H (𝓖 .A) (𝓜 .mem) (𝓡 .run)))
     (tables 𝓤 H 𝓜 𝓡 code.env .C) (tables 𝓤 H 𝓜 𝓡 code.env .Λ) #self code.function (code.unfolded 𝓤 H 𝓜 𝓡)
     (meets 𝓤 H (𝓖 .A) (givenOf 𝓤 H 𝓜 𝓖) (𝓜 .mem) (𝓡 .run) (tablesOf 𝓤 H 𝓜 (tables 𝓤 H 𝓜 𝓡 code.env))
-    (cited 𝓤 H (Call-read.Asked 𝓤 H (𝓖 .A) (𝓜 .mem) (𝓡 .run)) 𝓜 𝓡 code.env #read def-read.routine code.calls-versions·read (thm-read.met 𝓤 H 𝓜 𝓖 𝓡))
-    (cited 𝓤 H (Call-read-reply.Asked 𝓤 H (𝓖 .A) (𝓜 .mem) (𝓡 .run)) 𝓜 𝓡 code.env #read-reply def-read-reply.routine code.calls-exports·read-reply (thm-read-reply.met 𝓤 H 𝓜 𝓖 𝓡)))
+    (cited 𝓤 H (Call-read.Asked 𝓤 H (𝓖 .A) (𝓜 .mem) (𝓡 .run)) 𝓜 𝓡 code.env #read def-read.routine code.calls-read·read (thm-read.met 𝓤 H 𝓜 𝓖 𝓡))
+    (cited 𝓤 H (Call-read-reply.Asked 𝓤 H (𝓖 .A) (𝓜 .mem) (𝓡 .run)) 𝓜 𝓡 code.env #read-reply def-read-reply.routine code.calls-replies·read-reply (thm-read-reply.met 𝓤 H 𝓜 𝓖 𝓡)))

@@ -41,32 +41,32 @@ use denote.Steps.{owned, nothing}
 use denote.Triple.Spec.{Meets, tripleOf}
 use denote.Triple.Table.{entered, cited}
 use denote.Triple.Walked.{says, needs, Stays, stay-slice, stay-none-slice, stay-none, walkOf, Walks, ends-at, walked, goes-slice, goes-none-slice, goes-none, walk-meets}
-use Rattle.exports.specs.declared.VersionReply.{VersionReply}
-use Rattle.exports.proofs.Walkgen.Kind.VersionReply as VersionReply′
+use Rattle.replies.specs.declared.VersionReply.{VersionReply}
+use Rattle.exports.proofs.Generated.Kind.VersionReply as VersionReply′
 use Rattle.versions.specs.declared.Store.{Store}
-use Rattle.versions.proofs.Walkgen.Kind.Store as Store′
+use Rattle.versions.proofs.Generated.Kind.Store as Store′
 use Rattle.tree.specs.declared.Ticket.{Ticket}
-use Rattle.tree.proofs.Walkgen.Kind.Ticket as Ticket′
+use Rattle.register.proofs.Generated.Kind.Ticket as Ticket′
 use Rattle.tree.specs.declared.Version.{Version}
-use Rattle.tree.proofs.Walkgen.Kind.Version as Version′
-use Rattle.tree.specs.declared.Record.{Record}
-use Rattle.tree.proofs.Walkgen.Kind.Record as Record′
+use Rattle.register.proofs.Generated.Kind.Version as Version′
+use Rattle.register.specs.declared.Record.{Record}
+use Rattle.register.proofs.Generated.Kind.Record as Record′
 use Rattle.tree.specs.declared.PageIndex.{PageIndex}
-use Rattle.tree.proofs.Walkgen.Kind.PageIndex as PageIndex′
+use Rattle.register.proofs.Generated.Kind.PageIndex as PageIndex′
 use Rattle.versions.specs.declared.Latest.{Latest}
-use Rattle.versions.proofs.Walkgen.Kind.Latest as Latest′
-use Rattle.tree.proofs.Walkgen.Flow.{ref, MutAt, ShrAt, lend-mut, back-mut, lend-shr, back-shr, branches-on, regroup, skips-on, returns-on, plus-nothing, holds, empty, less-fits, is-true, is-false, differ, above-0, twice-not, switches-to, switches-last, big-lit, here, blocks-on, resume, scaled-2, scaled-4, scaled-8, opens-shr, shuts-shr, opens-mut, shuts-mut, puts-mut, keeps-shr, fills, empties, tyAt}
-use Rattle.exports.proofs.Walkgen.Say.pit_recent as pit-recent″
-use Rattle.versions.proofs.Walkgen.Say.recent as recent″
-use Rattle.versions.proofs.Walkgen.Call.recent as Call-recent
+use Rattle.versions.proofs.Generated.Kind.Latest as Latest′
+use Rattle.register.proofs.Generated.Flow.{ref, MutAt, ShrAt, lend-mut, back-mut, lend-shr, back-shr, branches-on, regroup, skips-on, returns-on, plus-nothing, holds, empty, less-fits, is-true, is-false, differ, above-0, twice-not, switches-to, switches-last, big-lit, here, blocks-on, resume, scaled-2, scaled-4, scaled-8, opens-shr, shuts-shr, opens-mut, shuts-mut, puts-mut, keeps-shr, fills, empties, tyAt}
+use Rattle.exports.proofs.Generated.Say.pit_recent as pit-recent″
+use Rattle.versions.proofs.Generated.Say.recent as recent″
+use Rattle.versions.proofs.Generated.Call.recent as Call-recent
 use Rattle.versions.proofs.recent.Symbol as def-recent
 use Rattle.versions.proofs.recent.Symbol.{name as #recent}
 use Rattle.versions.proofs.recent.Met as thm-recent
-use Rattle.exports.proofs.Walkgen.Say.recent_reply as recent-reply″
-use Rattle.exports.proofs.Walkgen.Call.recent_reply as Call-recent-reply
-use Rattle.exports.proofs.recent_reply.Symbol as def-recent-reply
-use Rattle.exports.proofs.recent_reply.Symbol.{name as #recent-reply}
-use Rattle.exports.proofs.recent_reply.Met as thm-recent-reply
+use Rattle.exports.proofs.Generated.Say.recent_reply as recent-reply″
+use Rattle.exports.proofs.Generated.Call.recent_reply as Call-recent-reply
+use Rattle.replies.proofs.recent_reply.Symbol as def-recent-reply
+use Rattle.replies.proofs.recent_reply.Symbol.{name as #recent-reply}
+use Rattle.replies.proofs.recent_reply.Met as thm-recent-reply
 use Rattle.exports.proofs.pit_recent.Key.{name as #self}
 use Rattle.exports.proofs.pit_recent as pit-recent‴
 use Rattle.exports.proofs.pit_recent.Statement as stated
@@ -127,4 +127,4 @@ pit-recent-spec 𝓤 H 𝓜 𝓖 𝓡 =
     (tables 𝓤 H 𝓜 𝓡 code.env .C) (tables 𝓤 H 𝓜 𝓡 code.env .Λ) #self code.function (code.unfolded 𝓤 H 𝓜 𝓡)
     (meets 𝓤 H (𝓖 .A) (givenOf 𝓤 H 𝓜 𝓖) (𝓜 .mem) (𝓡 .run) (tablesOf 𝓤 H 𝓜 (tables 𝓤 H 𝓜 𝓡 code.env))
     (cited 𝓤 H (Call-recent.Asked 𝓤 H (𝓖 .A) (𝓜 .mem) (𝓡 .run)) 𝓜 𝓡 code.env #recent def-recent.routine code.calls-versions·recent (thm-recent.met 𝓤 H 𝓜 𝓖 𝓡))
-    (cited 𝓤 H (Call-recent-reply.Asked 𝓤 H (𝓖 .A) (𝓜 .mem) (𝓡 .run)) 𝓜 𝓡 code.env #recent-reply def-recent-reply.routine code.calls-exports·recent-reply (thm-recent-reply.met 𝓤 H 𝓜 𝓖 𝓡)))
+    (cited 𝓤 H (Call-recent-reply.Asked 𝓤 H (𝓖 .A) (𝓜 .mem) (𝓡 .run)) 𝓜 𝓡 code.env #recent-reply def-recent-reply.routine code.calls-replies·recent-reply (thm-recent-reply.met 𝓤 H 𝓜 𝓖 𝓡)))

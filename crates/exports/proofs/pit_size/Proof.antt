@@ -41,32 +41,32 @@ use denote.Steps.{owned, nothing}
 use denote.Triple.Spec.{Meets, tripleOf}
 use denote.Triple.Table.{entered, cited}
 use denote.Triple.Walked.{says, needs, Stays, stay-slice, stay-none-slice, stay-none, walkOf, Walks, ends-at, walked, goes-slice, goes-none-slice, goes-none, walk-meets}
-use Rattle.exports.specs.declared.SizeReply.{SizeReply}
-use Rattle.exports.proofs.Walkgen.Kind.SizeReply as SizeReply′
+use Rattle.replies.specs.declared.SizeReply.{SizeReply}
+use Rattle.exports.proofs.Generated.Kind.SizeReply as SizeReply′
 use Rattle.versions.specs.declared.Store.{Store}
-use Rattle.versions.proofs.Walkgen.Kind.Store as Store′
+use Rattle.versions.proofs.Generated.Kind.Store as Store′
 use Rattle.tree.specs.declared.Ticket.{Ticket}
-use Rattle.tree.proofs.Walkgen.Kind.Ticket as Ticket′
+use Rattle.register.proofs.Generated.Kind.Ticket as Ticket′
 use Rattle.tree.specs.declared.Version.{Version}
-use Rattle.tree.proofs.Walkgen.Kind.Version as Version′
-use Rattle.tree.specs.declared.Record.{Record}
-use Rattle.tree.proofs.Walkgen.Kind.Record as Record′
+use Rattle.register.proofs.Generated.Kind.Version as Version′
+use Rattle.register.specs.declared.Record.{Record}
+use Rattle.register.proofs.Generated.Kind.Record as Record′
 use Rattle.tree.specs.declared.PageIndex.{PageIndex}
-use Rattle.tree.proofs.Walkgen.Kind.PageIndex as PageIndex′
+use Rattle.register.proofs.Generated.Kind.PageIndex as PageIndex′
 use Rattle.versions.specs.declared.Sized.{Sized}
-use Rattle.versions.proofs.Walkgen.Kind.Sized as Sized′
-use Rattle.tree.proofs.Walkgen.Flow.{ref, MutAt, ShrAt, lend-mut, back-mut, lend-shr, back-shr, branches-on, regroup, skips-on, returns-on, plus-nothing, holds, empty, less-fits, is-true, is-false, differ, above-0, twice-not, switches-to, switches-last, big-lit, here, blocks-on, resume, scaled-2, scaled-4, scaled-8, opens-shr, shuts-shr, opens-mut, shuts-mut, puts-mut, keeps-shr, fills, empties, tyAt}
-use Rattle.exports.proofs.Walkgen.Say.pit_size as pit-size″
-use Rattle.versions.proofs.Walkgen.Say.size as size″
-use Rattle.versions.proofs.Walkgen.Call.size as Call-size
+use Rattle.versions.proofs.Generated.Kind.Sized as Sized′
+use Rattle.register.proofs.Generated.Flow.{ref, MutAt, ShrAt, lend-mut, back-mut, lend-shr, back-shr, branches-on, regroup, skips-on, returns-on, plus-nothing, holds, empty, less-fits, is-true, is-false, differ, above-0, twice-not, switches-to, switches-last, big-lit, here, blocks-on, resume, scaled-2, scaled-4, scaled-8, opens-shr, shuts-shr, opens-mut, shuts-mut, puts-mut, keeps-shr, fills, empties, tyAt}
+use Rattle.exports.proofs.Generated.Say.pit_size as pit-size″
+use Rattle.versions.proofs.Generated.Say.size as size″
+use Rattle.versions.proofs.Generated.Call.size as Call-size
 use Rattle.versions.proofs.size.Symbol as def-size
 use Rattle.versions.proofs.size.Symbol.{name as #size}
 use Rattle.versions.proofs.size.Met as thm-size
-use Rattle.exports.proofs.Walkgen.Say.size_reply as size-reply″
-use Rattle.exports.proofs.Walkgen.Call.size_reply as Call-size-reply
-use Rattle.exports.proofs.size_reply.Symbol as def-size-reply
-use Rattle.exports.proofs.size_reply.Symbol.{name as #size-reply}
-use Rattle.exports.proofs.size_reply.Met as thm-size-reply
+use Rattle.exports.proofs.Generated.Say.size_reply as size-reply″
+use Rattle.exports.proofs.Generated.Call.size_reply as Call-size-reply
+use Rattle.replies.proofs.size_reply.Symbol as def-size-reply
+use Rattle.replies.proofs.size_reply.Symbol.{name as #size-reply}
+use Rattle.replies.proofs.size_reply.Met as thm-size-reply
 use Rattle.exports.proofs.pit_size.Key.{name as #self}
 use Rattle.exports.proofs.pit_size as pit-size‴
 use Rattle.exports.proofs.pit_size.Statement as stated
@@ -128,4 +128,4 @@ pit-size-spec 𝓤 H 𝓜 𝓖 𝓡 =
     (tables 𝓤 H 𝓜 𝓡 code.env .C) (tables 𝓤 H 𝓜 𝓡 code.env .Λ) #self code.function (code.unfolded 𝓤 H 𝓜 𝓡)
     (meets 𝓤 H (𝓖 .A) (givenOf 𝓤 H 𝓜 𝓖) (𝓜 .mem) (𝓡 .run) (tablesOf 𝓤 H 𝓜 (tables 𝓤 H 𝓜 𝓡 code.env))
     (cited 𝓤 H (Call-size.Asked 𝓤 H (𝓖 .A) (𝓜 .mem) (𝓡 .run)) 𝓜 𝓡 code.env #size def-size.routine code.calls-versions·size (thm-size.met 𝓤 H 𝓜 𝓖 𝓡))
-    (cited 𝓤 H (Call-size-reply.Asked 𝓤 H (𝓖 .A) (𝓜 .mem) (𝓡 .run)) 𝓜 𝓡 code.env #size-reply def-size-reply.routine code.calls-exports·size-reply (thm-size-reply.met 𝓤 H 𝓜 𝓖 𝓡)))
+    (cited 𝓤 H (Call-size-reply.Asked 𝓤 H (𝓖 .A) (𝓜 .mem) (𝓡 .run)) 𝓜 𝓡 code.env #size-reply def-size-reply.routine code.calls-replies·size-reply (thm-size-reply.met 𝓤 H 𝓜 𝓖 𝓡)))

@@ -41,32 +41,32 @@ use denote.Steps.{owned, nothing}
 use denote.Triple.Spec.{Meets, tripleOf}
 use denote.Triple.Table.{entered, cited}
 use denote.Triple.Walked.{says, needs, Stays, stay-slice, stay-none-slice, stay-none, walkOf, Walks, ends-at, walked, goes-slice, goes-none-slice, goes-none, walk-meets}
-use Rattle.exports.specs.declared.VersionReply.{VersionReply}
-use Rattle.exports.proofs.Walkgen.Kind.VersionReply as VersionReply′
+use Rattle.replies.specs.declared.VersionReply.{VersionReply}
+use Rattle.exports.proofs.Generated.Kind.VersionReply as VersionReply′
 use Rattle.versions.specs.declared.Store.{Store}
-use Rattle.versions.proofs.Walkgen.Kind.Store as Store′
+use Rattle.versions.proofs.Generated.Kind.Store as Store′
 use Rattle.tree.specs.declared.Ticket.{Ticket}
-use Rattle.tree.proofs.Walkgen.Kind.Ticket as Ticket′
+use Rattle.register.proofs.Generated.Kind.Ticket as Ticket′
 use Rattle.tree.specs.declared.Version.{Version}
-use Rattle.tree.proofs.Walkgen.Kind.Version as Version′
-use Rattle.tree.specs.declared.Record.{Record}
-use Rattle.tree.proofs.Walkgen.Kind.Record as Record′
+use Rattle.register.proofs.Generated.Kind.Version as Version′
+use Rattle.register.specs.declared.Record.{Record}
+use Rattle.register.proofs.Generated.Kind.Record as Record′
 use Rattle.tree.specs.declared.PageIndex.{PageIndex}
-use Rattle.tree.proofs.Walkgen.Kind.PageIndex as PageIndex′
-use Rattle.versions.specs.declared.Stamped.{Stamped}
-use Rattle.versions.proofs.Walkgen.Kind.Stamped as Stamped′
-use Rattle.tree.proofs.Walkgen.Flow.{ref, MutAt, ShrAt, lend-mut, back-mut, lend-shr, back-shr, branches-on, regroup, skips-on, returns-on, plus-nothing, holds, empty, less-fits, is-true, is-false, differ, above-0, twice-not, switches-to, switches-last, big-lit, here, blocks-on, resume, scaled-2, scaled-4, scaled-8, opens-shr, shuts-shr, opens-mut, shuts-mut, puts-mut, keeps-shr, fills, empties, tyAt}
-use Rattle.exports.proofs.Walkgen.Say.pit_stamp as pit-stamp″
-use Rattle.versions.proofs.Walkgen.Say.stamp as stamp″
-use Rattle.versions.proofs.Walkgen.Call.stamp as Call-stamp
-use Rattle.versions.proofs.stamp.Symbol as def-stamp
-use Rattle.versions.proofs.stamp.Symbol.{name as #stamp}
-use Rattle.versions.proofs.stamp.Met as thm-stamp
-use Rattle.exports.proofs.Walkgen.Say.stamp_reply as stamp-reply″
-use Rattle.exports.proofs.Walkgen.Call.stamp_reply as Call-stamp-reply
-use Rattle.exports.proofs.stamp_reply.Symbol as def-stamp-reply
-use Rattle.exports.proofs.stamp_reply.Symbol.{name as #stamp-reply}
-use Rattle.exports.proofs.stamp_reply.Met as thm-stamp-reply
+use Rattle.register.proofs.Generated.Kind.PageIndex as PageIndex′
+use Rattle.stamp.specs.declared.Stamped.{Stamped}
+use Rattle.stamp.proofs.Generated.Kind.Stamped as Stamped′
+use Rattle.register.proofs.Generated.Flow.{ref, MutAt, ShrAt, lend-mut, back-mut, lend-shr, back-shr, branches-on, regroup, skips-on, returns-on, plus-nothing, holds, empty, less-fits, is-true, is-false, differ, above-0, twice-not, switches-to, switches-last, big-lit, here, blocks-on, resume, scaled-2, scaled-4, scaled-8, opens-shr, shuts-shr, opens-mut, shuts-mut, puts-mut, keeps-shr, fills, empties, tyAt}
+use Rattle.exports.proofs.Generated.Say.pit_stamp as pit-stamp″
+use Rattle.stamp.proofs.Generated.Say.stamp as stamp″
+use Rattle.stamp.proofs.Generated.Call.stamp as Call-stamp
+use Rattle.stamp.proofs.stamp.Symbol as def-stamp
+use Rattle.stamp.proofs.stamp.Symbol.{name as #stamp}
+use Rattle.stamp.proofs.stamp.Met as thm-stamp
+use Rattle.exports.proofs.Generated.Say.stamp_reply as stamp-reply″
+use Rattle.exports.proofs.Generated.Call.stamp_reply as Call-stamp-reply
+use Rattle.replies.proofs.stamp_reply.Symbol as def-stamp-reply
+use Rattle.replies.proofs.stamp_reply.Symbol.{name as #stamp-reply}
+use Rattle.replies.proofs.stamp_reply.Met as thm-stamp-reply
 use Rattle.exports.proofs.pit_stamp.Key.{name as #self}
 use Rattle.exports.proofs.pit_stamp as pit-stamp‴
 use Rattle.exports.proofs.pit_stamp.Statement as stated
@@ -128,5 +128,5 @@ pit-stamp-spec 𝓤 H 𝓜 𝓖 𝓡 =
     entered 𝓤 H (tripleOf 𝓤 H (𝓖 .A) pit-stamp‴.signature (pit-stamp‴.spec 𝓤 H (𝓖 .A) (𝓜 .mem) (𝓡 .run)))
     (tables 𝓤 H 𝓜 𝓡 code.env .C) (tables 𝓤 H 𝓜 𝓡 code.env .Λ) #self code.function (code.unfolded 𝓤 H 𝓜 𝓡)
     (meets 𝓤 H (𝓖 .A) (givenOf 𝓤 H 𝓜 𝓖) (𝓜 .mem) (𝓡 .run) (tablesOf 𝓤 H 𝓜 (tables 𝓤 H 𝓜 𝓡 code.env))
-    (cited 𝓤 H (Call-stamp.Asked 𝓤 H (𝓖 .A) (𝓜 .mem) (𝓡 .run)) 𝓜 𝓡 code.env #stamp def-stamp.routine code.calls-versions·stamp (thm-stamp.met 𝓤 H 𝓜 𝓖 𝓡))
-    (cited 𝓤 H (Call-stamp-reply.Asked 𝓤 H (𝓖 .A) (𝓜 .mem) (𝓡 .run)) 𝓜 𝓡 code.env #stamp-reply def-stamp-reply.routine code.calls-exports·stamp-reply (thm-stamp-reply.met 𝓤 H 𝓜 𝓖 𝓡)))
+    (cited 𝓤 H (Call-stamp.Asked 𝓤 H (𝓖 .A) (𝓜 .mem) (𝓡 .run)) 𝓜 𝓡 code.env #stamp def-stamp.routine code.calls-stamp·stamp (thm-stamp.met 𝓤 H 𝓜 𝓖 𝓡))
+    (cited 𝓤 H (Call-stamp-reply.Asked 𝓤 H (𝓖 .A) (𝓜 .mem) (𝓡 .run)) 𝓜 𝓡 code.env #stamp-reply def-stamp-reply.routine code.calls-replies·stamp-reply (thm-stamp-reply.met 𝓤 H 𝓜 𝓖 𝓡)))

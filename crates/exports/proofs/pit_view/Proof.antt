@@ -41,32 +41,32 @@ use denote.Steps.{owned, nothing}
 use denote.Triple.Spec.{Meets, tripleOf}
 use denote.Triple.Table.{entered, cited}
 use denote.Triple.Walked.{says, needs, Stays, stay-slice, stay-none-slice, stay-none, walkOf, Walks, ends-at, walked, goes-slice, goes-none-slice, goes-none, walk-meets}
-use Rattle.exports.specs.declared.ViewReply.{ViewReply}
-use Rattle.exports.proofs.Walkgen.Kind.ViewReply as ViewReply′
+use Rattle.replies.specs.declared.ViewReply.{ViewReply}
+use Rattle.exports.proofs.Generated.Kind.ViewReply as ViewReply′
 use Rattle.versions.specs.declared.Store.{Store}
-use Rattle.versions.proofs.Walkgen.Kind.Store as Store′
+use Rattle.versions.proofs.Generated.Kind.Store as Store′
 use Rattle.tree.specs.declared.Ticket.{Ticket}
-use Rattle.tree.proofs.Walkgen.Kind.Ticket as Ticket′
+use Rattle.register.proofs.Generated.Kind.Ticket as Ticket′
 use Rattle.tree.specs.declared.Version.{Version}
-use Rattle.tree.proofs.Walkgen.Kind.Version as Version′
-use Rattle.tree.specs.declared.Record.{Record}
-use Rattle.tree.proofs.Walkgen.Kind.Record as Record′
+use Rattle.register.proofs.Generated.Kind.Version as Version′
+use Rattle.register.specs.declared.Record.{Record}
+use Rattle.register.proofs.Generated.Kind.Record as Record′
 use Rattle.tree.specs.declared.PageIndex.{PageIndex}
-use Rattle.tree.proofs.Walkgen.Kind.PageIndex as PageIndex′
-use Rattle.versions.specs.declared.Viewed.{Viewed}
-use Rattle.versions.proofs.Walkgen.Kind.Viewed as Viewed′
-use Rattle.tree.proofs.Walkgen.Flow.{ref, MutAt, ShrAt, lend-mut, back-mut, lend-shr, back-shr, branches-on, regroup, skips-on, returns-on, plus-nothing, holds, empty, less-fits, is-true, is-false, differ, above-0, twice-not, switches-to, switches-last, big-lit, here, blocks-on, resume, scaled-2, scaled-4, scaled-8, opens-shr, shuts-shr, opens-mut, shuts-mut, puts-mut, keeps-shr, fills, empties, tyAt}
-use Rattle.exports.proofs.Walkgen.Say.pit_view as pit-view″
-use Rattle.versions.proofs.Walkgen.Say.view_at as view-at″
-use Rattle.versions.proofs.Walkgen.Call.view_at as Call-view-at
-use Rattle.versions.proofs.view_at.Symbol as def-view-at
-use Rattle.versions.proofs.view_at.Symbol.{name as #view-at}
-use Rattle.versions.proofs.view_at.Met as thm-view-at
-use Rattle.exports.proofs.Walkgen.Say.view_reply as view-reply″
-use Rattle.exports.proofs.Walkgen.Call.view_reply as Call-view-reply
-use Rattle.exports.proofs.view_reply.Symbol as def-view-reply
-use Rattle.exports.proofs.view_reply.Symbol.{name as #view-reply}
-use Rattle.exports.proofs.view_reply.Met as thm-view-reply
+use Rattle.register.proofs.Generated.Kind.PageIndex as PageIndex′
+use Rattle.view.specs.declared.Viewed.{Viewed}
+use Rattle.view.proofs.Generated.Kind.Viewed as Viewed′
+use Rattle.register.proofs.Generated.Flow.{ref, MutAt, ShrAt, lend-mut, back-mut, lend-shr, back-shr, branches-on, regroup, skips-on, returns-on, plus-nothing, holds, empty, less-fits, is-true, is-false, differ, above-0, twice-not, switches-to, switches-last, big-lit, here, blocks-on, resume, scaled-2, scaled-4, scaled-8, opens-shr, shuts-shr, opens-mut, shuts-mut, puts-mut, keeps-shr, fills, empties, tyAt}
+use Rattle.exports.proofs.Generated.Say.pit_view as pit-view″
+use Rattle.view.proofs.Generated.Say.view_at as view-at″
+use Rattle.view.proofs.Generated.Call.view_at as Call-view-at
+use Rattle.view.proofs.view_at.Symbol as def-view-at
+use Rattle.view.proofs.view_at.Symbol.{name as #view-at}
+use Rattle.view.proofs.view_at.Met as thm-view-at
+use Rattle.exports.proofs.Generated.Say.view_reply as view-reply″
+use Rattle.exports.proofs.Generated.Call.view_reply as Call-view-reply
+use Rattle.replies.proofs.view_reply.Symbol as def-view-reply
+use Rattle.replies.proofs.view_reply.Symbol.{name as #view-reply}
+use Rattle.replies.proofs.view_reply.Met as thm-view-reply
 use Rattle.exports.proofs.pit_view.Key.{name as #self}
 use Rattle.exports.proofs.pit_view as pit-view‴
 use Rattle.exports.proofs.pit_view.Statement as stated
@@ -128,5 +128,5 @@ pit-view-spec 𝓤 H 𝓜 𝓖 𝓡 =
     entered 𝓤 H (tripleOf 𝓤 H (𝓖 .A) pit-view‴.signature (pit-view‴.spec 𝓤 H (𝓖 .A) (𝓜 .mem) (𝓡 .run)))
     (tables 𝓤 H 𝓜 𝓡 code.env .C) (tables 𝓤 H 𝓜 𝓡 code.env .Λ) #self code.function (code.unfolded 𝓤 H 𝓜 𝓡)
     (meets 𝓤 H (𝓖 .A) (givenOf 𝓤 H 𝓜 𝓖) (𝓜 .mem) (𝓡 .run) (tablesOf 𝓤 H 𝓜 (tables 𝓤 H 𝓜 𝓡 code.env))
-    (cited 𝓤 H (Call-view-at.Asked 𝓤 H (𝓖 .A) (𝓜 .mem) (𝓡 .run)) 𝓜 𝓡 code.env #view-at def-view-at.routine code.calls-versions·view-at (thm-view-at.met 𝓤 H 𝓜 𝓖 𝓡))
-    (cited 𝓤 H (Call-view-reply.Asked 𝓤 H (𝓖 .A) (𝓜 .mem) (𝓡 .run)) 𝓜 𝓡 code.env #view-reply def-view-reply.routine code.calls-exports·view-reply (thm-view-reply.met 𝓤 H 𝓜 𝓖 𝓡)))
+    (cited 𝓤 H (Call-view-at.Asked 𝓤 H (𝓖 .A) (𝓜 .mem) (𝓡 .run)) 𝓜 𝓡 code.env #view-at def-view-at.routine code.calls-view·view-at (thm-view-at.met 𝓤 H 𝓜 𝓖 𝓡))
+    (cited 𝓤 H (Call-view-reply.Asked 𝓤 H (𝓖 .A) (𝓜 .mem) (𝓡 .run)) 𝓜 𝓡 code.env #view-reply def-view-reply.routine code.calls-replies·view-reply (thm-view-reply.met 𝓤 H 𝓜 𝓖 𝓡)))

@@ -41,34 +41,34 @@ use denote.Steps.{owned, nothing}
 use denote.Triple.Spec.{Meets, tripleOf}
 use denote.Triple.Table.{entered, cited}
 use denote.Triple.Walked.{says, needs, Stays, stay-slice, stay-none-slice, stay-none, walkOf, Walks, ends-at, walked, goes-slice, goes-none-slice, goes-none, walk-meets}
-use Rattle.exports.specs.declared.WeaveReply.{WeaveReply}
-use Rattle.exports.proofs.Walkgen.Kind.WeaveReply as WeaveReply′
+use Rattle.replies.specs.declared.WeaveReply.{WeaveReply}
+use Rattle.exports.proofs.Generated.Kind.WeaveReply as WeaveReply′
 use Rattle.versions.specs.declared.Store.{Store}
-use Rattle.versions.proofs.Walkgen.Kind.Store as Store′
+use Rattle.versions.proofs.Generated.Kind.Store as Store′
 use Rattle.tree.specs.declared.Ticket.{Ticket}
-use Rattle.tree.proofs.Walkgen.Kind.Ticket as Ticket′
+use Rattle.register.proofs.Generated.Kind.Ticket as Ticket′
 use Rattle.tree.specs.declared.Version.{Version}
-use Rattle.tree.proofs.Walkgen.Kind.Version as Version′
-use Rattle.tree.specs.declared.Record.{Record}
-use Rattle.tree.proofs.Walkgen.Kind.Record as Record′
+use Rattle.register.proofs.Generated.Kind.Version as Version′
+use Rattle.register.specs.declared.Record.{Record}
+use Rattle.register.proofs.Generated.Kind.Record as Record′
 use Rattle.tree.specs.declared.PageIndex.{PageIndex}
-use Rattle.tree.proofs.Walkgen.Kind.PageIndex as PageIndex′
-use Rattle.versions.specs.declared.Woven.{Woven}
-use Rattle.versions.proofs.Walkgen.Kind.Woven as Woven′
-use Rattle.versions.specs.declared.WovenNode.{WovenNode}
-use Rattle.versions.proofs.Walkgen.Kind.WovenNode as WovenNode′
-use Rattle.tree.proofs.Walkgen.Flow.{ref, MutAt, ShrAt, lend-mut, back-mut, lend-shr, back-shr, branches-on, regroup, skips-on, returns-on, plus-nothing, holds, empty, less-fits, is-true, is-false, differ, above-0, twice-not, switches-to, switches-last, big-lit, here, blocks-on, resume, scaled-2, scaled-4, scaled-8, opens-shr, shuts-shr, opens-mut, shuts-mut, puts-mut, keeps-shr, fills, empties, tyAt}
-use Rattle.exports.proofs.Walkgen.Say.pit_weave as pit-weave″
-use Rattle.versions.proofs.Walkgen.Say.weave as weave″
-use Rattle.versions.proofs.Walkgen.Call.weave as Call-weave
-use Rattle.versions.proofs.weave.Symbol as def-weave
-use Rattle.versions.proofs.weave.Symbol.{name as #weave}
-use Rattle.versions.proofs.weave.Met as thm-weave
-use Rattle.exports.proofs.Walkgen.Say.weave_reply as weave-reply″
-use Rattle.exports.proofs.Walkgen.Call.weave_reply as Call-weave-reply
-use Rattle.exports.proofs.weave_reply.Symbol as def-weave-reply
-use Rattle.exports.proofs.weave_reply.Symbol.{name as #weave-reply}
-use Rattle.exports.proofs.weave_reply.Met as thm-weave-reply
+use Rattle.register.proofs.Generated.Kind.PageIndex as PageIndex′
+use Rattle.weave.specs.declared.Woven.{Woven}
+use Rattle.weave.proofs.Generated.Kind.Woven as Woven′
+use Rattle.weave.specs.declared.WovenNode.{WovenNode}
+use Rattle.weave.proofs.Generated.Kind.WovenNode as WovenNode′
+use Rattle.register.proofs.Generated.Flow.{ref, MutAt, ShrAt, lend-mut, back-mut, lend-shr, back-shr, branches-on, regroup, skips-on, returns-on, plus-nothing, holds, empty, less-fits, is-true, is-false, differ, above-0, twice-not, switches-to, switches-last, big-lit, here, blocks-on, resume, scaled-2, scaled-4, scaled-8, opens-shr, shuts-shr, opens-mut, shuts-mut, puts-mut, keeps-shr, fills, empties, tyAt}
+use Rattle.exports.proofs.Generated.Say.pit_weave as pit-weave″
+use Rattle.weave.proofs.Generated.Say.weave as weave″
+use Rattle.weave.proofs.Generated.Call.weave as Call-weave
+use Rattle.weave.proofs.weave.Symbol as def-weave
+use Rattle.weave.proofs.weave.Symbol.{name as #weave}
+use Rattle.weave.proofs.weave.Met as thm-weave
+use Rattle.exports.proofs.Generated.Say.weave_reply as weave-reply″
+use Rattle.exports.proofs.Generated.Call.weave_reply as Call-weave-reply
+use Rattle.replies.proofs.weave_reply.Symbol as def-weave-reply
+use Rattle.replies.proofs.weave_reply.Symbol.{name as #weave-reply}
+use Rattle.replies.proofs.weave_reply.Met as thm-weave-reply
 use Rattle.exports.proofs.pit_weave.Key.{name as #self}
 use Rattle.exports.proofs.pit_weave as pit-weave‴
 use Rattle.exports.proofs.pit_weave.Statement as stated
@@ -137,5 +137,5 @@ pit-weave-spec 𝓤 H 𝓜 𝓖 𝓡 =
     entered 𝓤 H (tripleOf 𝓤 H (𝓖 .A) pit-weave‴.signature (pit-weave‴.spec 𝓤 H (𝓖 .A) (𝓜 .mem) (𝓡 .run)))
     (tables 𝓤 H 𝓜 𝓡 code.env .C) (tables 𝓤 H 𝓜 𝓡 code.env .Λ) #self code.function (code.unfolded 𝓤 H 𝓜 𝓡)
     (meets 𝓤 H (𝓖 .A) (givenOf 𝓤 H 𝓜 𝓖) (𝓜 .mem) (𝓡 .run) (tablesOf 𝓤 H 𝓜 (tables 𝓤 H 𝓜 𝓡 code.env))
-    (cited 𝓤 H (Call-weave.Asked 𝓤 H (𝓖 .A) (𝓜 .mem) (𝓡 .run)) 𝓜 𝓡 code.env #weave def-weave.routine code.calls-versions·weave (thm-weave.met 𝓤 H 𝓜 𝓖 𝓡))
-    (cited 𝓤 H (Call-weave-reply.Asked 𝓤 H (𝓖 .A) (𝓜 .mem) (𝓡 .run)) 𝓜 𝓡 code.env #weave-reply def-weave-reply.routine code.calls-exports·weave-reply (thm-weave-reply.met 𝓤 H 𝓜 𝓖 𝓡)))
+    (cited 𝓤 H (Call-weave.Asked 𝓤 H (𝓖 .A) (𝓜 .mem) (𝓡 .run)) 𝓜 𝓡 code.env #weave def-weave.routine code.calls-weave·weave (thm-weave.met 𝓤 H 𝓜 𝓖 𝓡))
+    (cited 𝓤 H (Call-weave-reply.Asked 𝓤 H (𝓖 .A) (𝓜 .mem) (𝓡 .run)) 𝓜 𝓡 code.env #weave-reply def-weave-reply.routine code.calls-replies·weave-reply (thm-weave-reply.met 𝓤 H 𝓜 𝓖 𝓡)))

@@ -39,54 +39,54 @@ use denote.Steps.{owned, nothing}
 use denote.Triple.Spec.{Meets, tripleOf}
 use denote.Triple.Table.{entered, cited}
 use denote.Triple.Walked.{says, needs, Stays, stay-slice, stay-none-slice, stay-none, walkOf, Walks, ends-at, walked, goes-slice, goes-none-slice, goes-none, walk-meets}
-use Rattle.tree.specs.declared.Record.{Record}
-use Rattle.tree.proofs.Walkgen.Kind.Record as Record′
+use Rattle.register.specs.declared.Record.{Record}
+use Rattle.register.proofs.Generated.Kind.Record as Record′
 use Rattle.tree.specs.declared.Version.{Version}
-use Rattle.tree.proofs.Walkgen.Kind.Version as Version′
+use Rattle.register.proofs.Generated.Kind.Version as Version′
 use Rattle.tree.specs.declared.Ticket.{Ticket}
-use Rattle.tree.proofs.Walkgen.Kind.Ticket as Ticket′
+use Rattle.register.proofs.Generated.Kind.Ticket as Ticket′
 use Rattle.tree.specs.declared.PageIndex.{PageIndex}
-use Rattle.tree.proofs.Walkgen.Kind.PageIndex as PageIndex′
+use Rattle.register.proofs.Generated.Kind.PageIndex as PageIndex′
 use Rattle.steps.specs.declared.Place.{Place as Place‴}
-use Rattle.steps.proofs.Walkgen.Kind.Place as Place′
-use Rattle.steps.specs.declared.Kept.{Kept}
-use Rattle.steps.proofs.Walkgen.Kind.Kept as Kept′
+use Rattle.steps.proofs.Generated.Kind.Place as Place′
+use Rattle.answers.specs.declared.Kept.{Kept}
+use Rattle.turns.proofs.Generated.Kind.Kept as Kept′
 use Rattle.versions.specs.declared.Store.{Store}
-use Rattle.versions.proofs.Walkgen.Kind.Store as Store′
-use Rattle.lines.specs.declared.Cutter.{Cutter}
-use Rattle.steps.proofs.Walkgen.Kind.Cutter as Cutter′
-use Rattle.tree.proofs.Walkgen.Flow.{ref, MutAt, ShrAt, lend-mut, back-mut, lend-shr, back-shr, branches-on, regroup, skips-on, returns-on, plus-nothing, holds, empty, less-fits, is-true, is-false, differ, above-0, twice-not, switches-to, switches-last, big-lit, here, blocks-on, resume, scaled-2, scaled-4, scaled-8, opens-shr, shuts-shr, opens-mut, shuts-mut, puts-mut, keeps-shr, fills, empties, tyAt}
-use Rattle.steps.proofs.Walkgen.Say.main as main″
-use Rattle.steps.proofs.Walkgen.Say.empty_record as empty-record″
-use Rattle.steps.proofs.Walkgen.Call.empty_record as Call-empty-record
+use Rattle.versions.proofs.Generated.Kind.Store as Store′
+use Rattle.parse.specs.declared.Cutter.{Cutter}
+use Rattle.steps.proofs.Generated.Kind.Cutter as Cutter′
+use Rattle.register.proofs.Generated.Flow.{ref, MutAt, ShrAt, lend-mut, back-mut, lend-shr, back-shr, branches-on, regroup, skips-on, returns-on, plus-nothing, holds, empty, less-fits, is-true, is-false, differ, above-0, twice-not, switches-to, switches-last, big-lit, here, blocks-on, resume, scaled-2, scaled-4, scaled-8, opens-shr, shuts-shr, opens-mut, shuts-mut, puts-mut, keeps-shr, fills, empties, tyAt}
+use Rattle.steps.proofs.Generated.Say.main as main″
+use Rattle.steps.proofs.Generated.Say.empty_record as empty-record″
+use Rattle.steps.proofs.Generated.Call.empty_record as Call-empty-record
 use Rattle.steps.proofs.empty_record.Symbol as def-empty-record
 use Rattle.steps.proofs.empty_record.Symbol.{name as #empty-record}
 use Rattle.steps.proofs.empty_record.Met as thm-empty-record
-use Rattle.steps.proofs.Walkgen.Say.nothing_kept as nothing-kept″
-use Rattle.steps.proofs.Walkgen.Call.nothing_kept as Call-nothing-kept
-use Rattle.steps.proofs.nothing_kept.Symbol as def-nothing-kept
-use Rattle.steps.proofs.nothing_kept.Symbol.{name as #nothing-kept}
-use Rattle.steps.proofs.nothing_kept.Met as thm-nothing-kept
-use Rattle.steps.proofs.Walkgen.Say.next_place as next-place″
-use Rattle.steps.proofs.Walkgen.Call.next_place as Call-next-place
+use Rattle.steps.proofs.Generated.Say.nothing_kept as nothing-kept″
+use Rattle.steps.proofs.Generated.Call.nothing_kept as Call-nothing-kept
+use Rattle.respond.proofs.nothing_kept.Symbol as def-nothing-kept
+use Rattle.respond.proofs.nothing_kept.Symbol.{name as #nothing-kept}
+use Rattle.respond.proofs.nothing_kept.Met as thm-nothing-kept
+use Rattle.steps.proofs.Generated.Say.next_place as next-place″
+use Rattle.steps.proofs.Generated.Call.next_place as Call-next-place
 use Rattle.steps.proofs.next_place.Symbol as def-next-place
 use Rattle.steps.proofs.next_place.Symbol.{name as #next-place}
 use Rattle.steps.proofs.next_place.Met as thm-next-place
-use Rattle.steps.proofs.Walkgen.Say.take_all as take-all″
-use Rattle.steps.proofs.Walkgen.Call.take_all as Call-take-all
+use Rattle.steps.proofs.Generated.Say.take_all as take-all″
+use Rattle.steps.proofs.Generated.Call.take_all as Call-take-all
 use Rattle.steps.proofs.take_all.Symbol as def-take-all
 use Rattle.steps.proofs.take_all.Symbol.{name as #take-all}
 use Rattle.steps.proofs.take_all.Met as thm-take-all
-use Rattle.steps.proofs.Walkgen.Say.is_due as is-due″
-use Rattle.steps.proofs.Walkgen.Call.is_due as Call-is-due
+use Rattle.steps.proofs.Generated.Say.is_due as is-due″
+use Rattle.steps.proofs.Generated.Call.is_due as Call-is-due
 use Rattle.steps.proofs.is_due.Symbol as def-is-due
 use Rattle.steps.proofs.is_due.Symbol.{name as #is-due}
 use Rattle.steps.proofs.is_due.Met as thm-is-due
-use Rattle.steps.proofs.Walkgen.Say.answer_line as answer-line″
-use Rattle.steps.proofs.Walkgen.Call.answer_line as Call-answer-line
-use Rattle.steps.proofs.answer_line.Symbol as def-answer-line
-use Rattle.steps.proofs.answer_line.Symbol.{name as #answer-line}
-use Rattle.steps.proofs.answer_line.Met as thm-answer-line
+use Rattle.steps.proofs.Generated.Say.answer as answer″
+use Rattle.steps.proofs.Generated.Call.answer as Call-answer
+use Rattle.steps.proofs.answer.Symbol as def-answer
+use Rattle.steps.proofs.answer.Symbol.{name as #answer}
+use Rattle.steps.proofs.answer.Met as thm-answer
 use Rattle.steps.proofs.main.Key.{name as #self}
 use Rattle.steps.proofs.main as main‴
 use Rattle.steps.proofs.main.Statement as stated
@@ -115,9 +115,9 @@ module _ {M : Type 1} (𝓤 : URA M) (H : Heap 𝓤) (A : Atoms 𝓤) (W : Given
       qed W ([]) ∵ suffices ! _ (ends-at 𝓤 H A main‴.ended stayed (main‴.clauses 𝓤 H A mem run) W bound (vunit) tt tt tt) $ plus-nothing ! $
       nothing ! $ frame ! $ nothing ! $ frame ! $ feqI ! (List Val) (vunit ∷ []) (vunit ∷ []) refl $ done !
 
-  walk : (𝓣 : Tables 𝓤 H) (known-empty-record : Triple 𝓤 (𝓣 .C #empty-record) (Call-empty-record.Asked 𝓤 H A mem run)) (known-nothing-kept : Triple 𝓤 (𝓣 .C #nothing-kept) (Call-nothing-kept.Asked 𝓤 H A mem run)) (known-next-place : Triple 𝓤 (𝓣 .C #next-place) (Call-next-place.Asked 𝓤 H A mem run)) (known-take-all : Triple 𝓤 (𝓣 .C #take-all) (Call-take-all.Asked 𝓤 H A mem run)) (known-is-due : Triple 𝓤 (𝓣 .C #is-due) (Call-is-due.Asked 𝓤 H A mem run)) (known-answer-line : Triple 𝓤 (𝓣 .C #answer-line) (Call-answer-line.Asked 𝓤 H A mem run)) → ent 𝓤 (onEntry 𝓤 H A main‴.signature tt tt all-args all-vals)
+  walk : (𝓣 : Tables 𝓤 H) (known-empty-record : Triple 𝓤 (𝓣 .C #empty-record) (Call-empty-record.Asked 𝓤 H A mem run)) (known-nothing-kept : Triple 𝓤 (𝓣 .C #nothing-kept) (Call-nothing-kept.Asked 𝓤 H A mem run)) (known-next-place : Triple 𝓤 (𝓣 .C #next-place) (Call-next-place.Asked 𝓤 H A mem run)) (known-take-all : Triple 𝓤 (𝓣 .C #take-all) (Call-take-all.Asked 𝓤 H A mem run)) (known-is-due : Triple 𝓤 (𝓣 .C #is-due) (Call-is-due.Asked 𝓤 H A mem run)) (known-answer : Triple 𝓤 (𝓣 .C #answer) (Call-answer.Asked 𝓤 H A mem run)) → ent 𝓤 (onEntry 𝓤 H A main‴.signature tt tt all-args all-vals)
       (WpFn 𝓤 H (𝓣 .C) (𝓣 .Λ) code.function ([]) Post)
-  walk 𝓣 known-empty-record known-nothing-kept known-next-place known-take-all known-is-due known-answer-line =
+  walk 𝓣 known-empty-record known-nothing-kept known-next-place known-take-all known-is-due known-answer =
       qed W ((‵ ftrue) ∷ ‵ (owns ([]) all-args all-vals) ∷ []) ∵ enter ! (𝓣 .C) (𝓣 .Λ) code.function ([]) _ $
       alloc1 ! (λ l₀. alloc1 ! (λ l₁. alloc1 ! (λ l₂. alloc1 ! (λ l₃. alloc1 ! (λ l₄. alloc1 ! (λ l₅. alloc1 ! (λ l₆. alloc1 ! (λ l₇. alloc1 ! (λ l₈. alloc1 ! (λ l₉. alloc1 ! (λ l₁₀. alloc1 ! (λ l₁₁. alloc1 ! (λ l₁₂. alloc1 ! (λ l₁₃. alloc1 ! (λ l₁₄. alloc1 ! (λ l₁₅. alloc1 ! (λ l₁₆. alloc1 ! (λ l₁₇. alloc1 ! (λ l₁₈. alloc1 ! (λ l₁₉. alloc1 ! (λ l₂₀. alloc1 ! (λ l₂₁. alloc1 ! (λ l₂₂. alloc1 ! (λ l₂₃. alloc1 ! (λ l₂₄. alloc1 ! (λ l₂₅. alloc1 ! (λ l₂₆. alloc0 ! $ params1 ! $
       pass0 ! $
@@ -168,7 +168,7 @@ module _ {M : Type 1} (𝓤 : URA M) (H : Heap 𝓤) (A : Atoms 𝓤) (W : Given
       regroup ! $
       assigns ! (agg ! (and-then ! (load ! (from ! (stop !)) (look ! 14 refl)) (and-then ! (lit ! tt) (no-more !)))) (from ! (stop !)) (init ! 12 refl (tt, (tt, (record { fits = room·arr5 .0 }, tt)))) $
       lend-shr ! tt u8 (ν·arr1 ∷ []) fullShare l₁ 0 γ·arr1 600 arr1₄ (count·arr1 ∙ sym same·4-arr1) (λ ν·6-arr1 γ·6-arr1. move ! (4 ∷ 5 ∷ []) $ lend-mut ! tt u8 (ν·arr2 ∷ []) fullShare l₂ 0 γ·arr2 32768 arr2₄ (count·arr2 ∙ sym same·4-arr2) (λ ν·6-arr2 γ·6-arr2. move ! (8 ∷ 9 ∷ []) $ lend-mut ! tt u32 (ν·arr3 ∷ []) fullShare l₃ 0 γ·arr3 4096 arr3₄ (count·arr3 ∙ sym same·4-arr3) (λ ν·6-arr3 γ·6-arr3. move ! (12 ∷ 13 ∷ []) $ lend-mut ! tt Record′.row (ν·arr5 ∷ []) fullShare l₅ 0 γ·arr5 256 arr5₄ (count·arr5 ∙ sym same·4-arr5) (λ ν·6-arr5 γ·6-arr5. move ! (9 ∷ 10 ∷ 6 ∷ 7 ∷ 3 ∷ 4 ∷ 0 ∷ 1 ∷ []) $
-      Call-answer-line.calls ! mem run (fmOf 𝓤 H (W .laws) 𝓣) known-answer-line (r4 .kept) (r4 .cutter) (ν·6-arr1 ∷ []) fullShare l₁ 0 γ·6-arr1 600 arr1₄ (ν·6-arr2 ∷ []) fullShare l₂ 0 γ·6-arr2 32768 arr2₄ (ν·6-arr3 ∷ []) fullShare l₃ 0 γ·6-arr3 4096 arr3₄ (ν·6-arr5 ∷ []) fullShare l₅ 0 γ·6-arr5 256 arr5₄ (Place′.ok-kept r4 ok·4) (Place′.ok-cutter r4 ok·4) (and-then ! (load ! (from ! (fld ! refl (stop !))) (look-in ! 48 (sub ! 0 refl (whole !)))) (and-then ! (load ! (from ! (fld ! refl (stop !))) (look-in ! 48 (sub ! 1 refl (whole !)))) (and-then ! (load ! (from ! (stop !)) (look ! 22 refl)) (and-then ! (load ! (from ! (stop !)) (look ! 18 refl)) (and-then ! (load ! (from ! (stop !)) (look ! 14 refl)) (and-then ! (load ! (from ! (stop !)) (look ! 10 refl)) (no-more !)))))))
+      Call-answer.calls ! mem run (fmOf 𝓤 H (W .laws) 𝓣) known-answer (r4 .kept) (r4 .cutter) (ν·6-arr1 ∷ []) fullShare l₁ 0 γ·6-arr1 600 arr1₄ (ν·6-arr2 ∷ []) fullShare l₂ 0 γ·6-arr2 32768 arr2₄ (ν·6-arr3 ∷ []) fullShare l₃ 0 γ·6-arr3 4096 arr3₄ (ν·6-arr5 ∷ []) fullShare l₅ 0 γ·6-arr5 256 arr5₄ (Place′.ok-kept r4 ok·4) (Place′.ok-cutter r4 ok·4) (and-then ! (load ! (from ! (fld ! refl (stop !))) (look-in ! 48 (sub ! 0 refl (whole !)))) (and-then ! (load ! (from ! (fld ! refl (stop !))) (look-in ! 48 (sub ! 1 refl (whole !)))) (and-then ! (load ! (from ! (stop !)) (look ! 22 refl)) (and-then ! (load ! (from ! (stop !)) (look ! 18 refl)) (and-then ! (load ! (from ! (stop !)) (look ! 14 refl)) (and-then ! (load ! (from ! (stop !)) (look ! 10 refl)) (no-more !)))))))
       (λ r6 arr2₆ arr3₆ arr5₆ ok·6 same·6-arr2 same·6-arr3 same·6-arr5. move ! (0 ∷ 1 ∷ 11 ∷ []) $ back-shr ! tt u8 (ν·arr1 ∷ []) fullShare l₁ 0 γ·arr1 600 arr1₄ ν·6-arr1 (count·arr1 ∙ sym same·4-arr1) room·arr1 $ move ! (2 ∷ 3 ∷ 10 ∷ []) $ back-mut ! tt u8 (ν·arr2 ∷ []) fullShare l₂ 0 γ·arr2 32768 arr2₄ arr2₆ ν·6-arr2 γ·6-arr2 (count·arr2 ∙ sym same·4-arr2) same·6-arr2 room·arr2 $ move ! (4 ∷ 5 ∷ 9 ∷ []) $ back-mut ! tt u32 (ν·arr3 ∷ []) fullShare l₃ 0 γ·arr3 4096 arr3₄ arr3₆ ν·6-arr3 γ·6-arr3 (count·arr3 ∙ sym same·4-arr3) same·6-arr3 room·arr3 $ move ! (6 ∷ 7 ∷ 8 ∷ []) $ back-mut ! tt Record′.row (ν·arr5 ∷ []) fullShare l₅ 0 γ·arr5 256 arr5₄ arr5₆ ν·6-arr5 γ·6-arr5 (count·arr5 ∙ sym same·4-arr5) same·6-arr5 room·arr5 $ move ! (6 ∷ 7 ∷ 8 ∷ 4 ∷ 5 ∷ 9 ∷ 2 ∷ 3 ∷ 10 ∷ 0 ∷ 1 ∷ 11 ∷ []) $ land ! (from ! (stop !)) (init ! 28 refl (Place′.typed 𝓤 H A W r6 ok·6)) $
       here ! (‵ (flft (ν·arr1 ∷ []) fullShare) ∷ ‵ (MutAt u8 (ν·arr1 ∷ []) l₁ 0 γ·arr1 600 arr1₄) ∷ ‵ (flent (ν·arr1 ∷ []) (Held u8 600 l₁ 0 γ·arr1)) ∷ ‵ (flft (ν·arr2 ∷ []) fullShare) ∷ ‵ (MutAt u8 (ν·arr2 ∷ []) l₂ 0 γ·arr2 32768 arr2₆) ∷ ‵ (flent (ν·arr2 ∷ []) (Held u8 32768 l₂ 0 γ·arr2)) ∷ ‵ (flft (ν·arr3 ∷ []) fullShare) ∷ ‵ (MutAt u32 (ν·arr3 ∷ []) l₃ 0 γ·arr3 4096 arr3₆) ∷ ‵ (flent (ν·arr3 ∷ []) (Held u32 4096 l₃ 0 γ·arr3)) ∷ ‵ (flft (ν·arr5 ∷ []) fullShare) ∷ ‵ (MutAt Record′.row (ν·arr5 ∷ []) l₅ 0 γ·arr5 256 arr5₆) ∷ ‵ (flent (ν·arr5 ∷ []) (Held Record′.row 256 l₅ 0 γ·arr5)) ∷ holds (sliceTy (tyRef erased mut (pointee (Record′.row .written)))) l₂₆ (sliceVal (l₅, 0) 256) (holds (tyRef erased mut (tyArray (pointee (Record′.row .written)) 256)) l₂₅ (vptr l₅ 0) (holds (sliceTy (tyRef erased mut (pointee (u32 .written)))) l₂₄ (sliceVal (l₃, 0) 4096) (holds (tyRef erased mut (tyArray (pointee (u32 .written)) 4096)) l₂₃ (vptr l₃ 0) (holds (sliceTy (tyRef erased mut (pointee (u8 .written)))) l₂₂ (sliceVal (l₂, 0) 32768) (holds (tyRef erased mut (tyArray (pointee (u8 .written)) 32768)) l₂₁ (vptr l₂ 0) (holds (sliceTy (tyRef erased imm (pointee (u8 .written)))) l₂₀ (sliceVal (l₁, 0) 600) (holds (tyRef erased imm (tyArray (pointee (u8 .written)) 600)) l₁₉ (vptr l₁ 0) (holds (tyAt (code.function .locals) 18) l₁₈ (Place′.mach r6) (holds tyBool l₁₇ (vbool r5) (holds (sliceTy (tyRef erased mut (pointee (Record′.row .written)))) l₁₆ (sliceVal (l₅, 0) 256) (holds (tyRef erased mut (tyArray (pointee (Record′.row .written)) 256)) l₁₅ (vptr l₅ 0) (holds (sliceTy (tyRef erased mut (pointee (u32 .written)))) l₁₄ (sliceVal (l₃, 0) 4096) (holds (tyRef erased mut (tyArray (pointee (u32 .written)) 4096)) l₁₃ (vptr l₃ 0) (holds (sliceTy (tyRef erased mut (pointee (u8 .written)))) l₁₂ (sliceVal (l₂, 0) 32768) (holds (tyRef erased mut (tyArray (pointee (u8 .written)) 32768)) l₁₁ (vptr l₂ 0) (holds (sliceTy (tyRef erased mut (pointee (u8 .written)))) l₁₀ (sliceVal (l₁, 0) 600) (holds (tyRef erased mut (tyArray (pointee (u8 .written)) 600)) l₉ (vptr l₁ 0) (holds (tyAt (code.function .locals) 8) l₈ (Kept′.mach r2) (holds (tyAt (code.function .locals) 7) l₇ (Place′.mach r4) (holds (tyAt (code.function .locals) 6) l₆ (Place′.mach r3) (‵ (fdies (tyAt (code.function .locals) 5) l₅) ∷ holds (tyAt (code.function .locals) 4) l₄ (Record′.mach r1) (‵ (fdies (tyAt (code.function .locals) 3) l₃) ∷ ‵ (fdies (tyAt (code.function .locals) 2) l₂) ∷ ‵ (fdies (tyAt (code.function .locals) 1) l₁) ∷ empty tyUnit l₀ []))))))))))))))))))))))) $
       assigns ! (of-opd ! (unit-lit !)) (from ! (stop !)) (init ! 60 refl (tt, tt)) $
@@ -181,15 +181,15 @@ module _ {M : Type 1} (𝓤 : URA M) (H : Heap 𝓤) (A : Atoms 𝓤) (W : Given
       move ! (52 ∷ 53 ∷ []) $ forget ! 0 refl $ free1 ! $ move ! (50 ∷ 51 ∷ []) $ free1 ! $ move ! (48 ∷ 49 ∷ []) $ free1 ! $ move ! (46 ∷ 47 ∷ []) $ free1 ! $ move ! (44 ∷ 45 ∷ []) $ forget ! 0 refl $ free1 ! $ move ! (42 ∷ 43 ∷ []) $ free1 ! $ move ! (40 ∷ 41 ∷ []) $ forget ! 0 refl $ free1 ! $ move ! (38 ∷ 39 ∷ []) $ forget ! 0 refl $ free1 ! $ move ! (36 ∷ 37 ∷ []) $ forget ! 0 refl $ free1 ! $ move ! (34 ∷ 35 ∷ []) $ forget ! 0 refl $ free1 ! $ move ! (32 ∷ 33 ∷ []) $ forget ! 0 refl $ free1 ! $ move ! (30 ∷ 31 ∷ []) $ forget ! 0 refl $ free1 ! $ move ! (28 ∷ 29 ∷ []) $ forget ! 0 refl $ free1 ! $ move ! (26 ∷ 27 ∷ []) $ forget ! 0 refl $ free1 ! $ move ! (24 ∷ 25 ∷ []) $ forget ! 0 refl $ free1 ! $ move ! (22 ∷ 23 ∷ []) $ forget ! 0 refl $ free1 ! $ move ! (20 ∷ 21 ∷ []) $ forget ! 0 refl $ free1 ! $ move ! (18 ∷ 19 ∷ []) $ forget ! 0 refl $ free1 ! $ move ! (16 ∷ 17 ∷ []) $ free1 ! $ move ! (14 ∷ 15 ∷ []) $ free1 ! $ move ! (12 ∷ 13 ∷ []) $ free1 ! $ move ! (10 ∷ 11 ∷ []) $ free1 ! $ move ! (8 ∷ 9 ∷ []) $ free1 ! $ move ! (6 ∷ 7 ∷ []) $ free1 ! $ move ! (4 ∷ 5 ∷ []) $ free1 ! $ move ! (2 ∷ 3 ∷ []) $ free1 ! $ free1 ! $ free0 ! $ by ! (exits))))))))))))))))))))))))))))))))))))))))))
 
 module _ {M : Type 1} (𝓤 : URA M) (H : Heap 𝓤) (A : Atoms 𝓤) (W : Given 𝓤 H A) (mem : Memory → SProp 𝓤) (run : Routine → Fun 𝓤) where
-  walks : (𝓣 : Tables 𝓤 H) → Triple 𝓤 (𝓣 .C #empty-record) (Call-empty-record.Asked 𝓤 H A mem run) → Triple 𝓤 (𝓣 .C #nothing-kept) (Call-nothing-kept.Asked 𝓤 H A mem run) → Triple 𝓤 (𝓣 .C #next-place) (Call-next-place.Asked 𝓤 H A mem run) → Triple 𝓤 (𝓣 .C #take-all) (Call-take-all.Asked 𝓤 H A mem run) → Triple 𝓤 (𝓣 .C #is-due) (Call-is-due.Asked 𝓤 H A mem run) → Triple 𝓤 (𝓣 .C #answer-line) (Call-answer-line.Asked 𝓤 H A mem run) → Walks 𝓤 H A main‴.ended stayed (WpFn 𝓤 H (𝓣 .C) (𝓣 .Λ) code.function) (main‴.clauses 𝓤 H A mem run)
-  walks 𝓣 known-empty-record known-nothing-kept known-next-place known-take-all known-is-due known-answer-line = walked 𝓤 H A main‴.ended stayed (main‴.clauses 𝓤 H A mem run) (WpFn 𝓤 H (𝓣 .C) (𝓣 .Λ) code.function) (λ κs. tt) (λ κs. tt)
-      (λ κs qs bounds a g are. via 𝓤 _ (fst∗ 𝓤 _ (emp 𝓤)) (walk 𝓤 H A W mem run 𝓣 known-empty-record known-nothing-kept known-next-place known-take-all known-is-due known-answer-line))
+  walks : (𝓣 : Tables 𝓤 H) → Triple 𝓤 (𝓣 .C #empty-record) (Call-empty-record.Asked 𝓤 H A mem run) → Triple 𝓤 (𝓣 .C #nothing-kept) (Call-nothing-kept.Asked 𝓤 H A mem run) → Triple 𝓤 (𝓣 .C #next-place) (Call-next-place.Asked 𝓤 H A mem run) → Triple 𝓤 (𝓣 .C #take-all) (Call-take-all.Asked 𝓤 H A mem run) → Triple 𝓤 (𝓣 .C #is-due) (Call-is-due.Asked 𝓤 H A mem run) → Triple 𝓤 (𝓣 .C #answer) (Call-answer.Asked 𝓤 H A mem run) → Walks 𝓤 H A main‴.ended stayed (WpFn 𝓤 H (𝓣 .C) (𝓣 .Λ) code.function) (main‴.clauses 𝓤 H A mem run)
+  walks 𝓣 known-empty-record known-nothing-kept known-next-place known-take-all known-is-due known-answer = walked 𝓤 H A main‴.ended stayed (main‴.clauses 𝓤 H A mem run) (WpFn 𝓤 H (𝓣 .C) (𝓣 .Λ) code.function) (λ κs. tt) (λ κs. tt)
+      (λ κs qs bounds a g are. via 𝓤 _ (fst∗ 𝓤 _ (emp 𝓤)) (walk 𝓤 H A W mem run 𝓣 known-empty-record known-nothing-kept known-next-place known-take-all known-is-due known-answer))
 
-meets : {M : Type 1} (𝓤 : URA M) (H : Heap 𝓤) (A : Atoms 𝓤) → Given 𝓤 H A → (mem : Memory → SProp 𝓤) (run : Routine → Fun 𝓤) (𝓣 : Tables 𝓤 H) → Triple 𝓤 (𝓣 .C #empty-record) (Call-empty-record.Asked 𝓤 H A mem run) → Triple 𝓤 (𝓣 .C #nothing-kept) (Call-nothing-kept.Asked 𝓤 H A mem run) → Triple 𝓤 (𝓣 .C #next-place) (Call-next-place.Asked 𝓤 H A mem run) → Triple 𝓤 (𝓣 .C #take-all) (Call-take-all.Asked 𝓤 H A mem run) → Triple 𝓤 (𝓣 .C #is-due) (Call-is-due.Asked 𝓤 H A mem run) → Triple 𝓤 (𝓣 .C #answer-line) (Call-answer-line.Asked 𝓤 H A mem run)
+meets : {M : Type 1} (𝓤 : URA M) (H : Heap 𝓤) (A : Atoms 𝓤) → Given 𝓤 H A → (mem : Memory → SProp 𝓤) (run : Routine → Fun 𝓤) (𝓣 : Tables 𝓤 H) → Triple 𝓤 (𝓣 .C #empty-record) (Call-empty-record.Asked 𝓤 H A mem run) → Triple 𝓤 (𝓣 .C #nothing-kept) (Call-nothing-kept.Asked 𝓤 H A mem run) → Triple 𝓤 (𝓣 .C #next-place) (Call-next-place.Asked 𝓤 H A mem run) → Triple 𝓤 (𝓣 .C #take-all) (Call-take-all.Asked 𝓤 H A mem run) → Triple 𝓤 (𝓣 .C #is-due) (Call-is-due.Asked 𝓤 H A mem run) → Triple 𝓤 (𝓣 .C #answer) (Call-answer.Asked 𝓤 H A mem run)
     → Meets 𝓤 H A main‴.signature (WpFn 𝓤 H (𝓣 .C) (𝓣 .Λ) code.function) (main‴.spec 𝓤 H A mem run)
-meets 𝓤 H A W mem run 𝓣 known-empty-record known-nothing-kept known-next-place known-take-all known-is-due known-answer-line =
+meets 𝓤 H A W mem run 𝓣 known-empty-record known-nothing-kept known-next-place known-take-all known-is-due known-answer =
     walk-meets 𝓤 H A main‴.ended stayed W tt (main‴.clauses 𝓤 H A mem run)
-    (WpFn 𝓤 H (𝓣 .C) (𝓣 .Λ) code.function) (WpFn-mono 𝓤 H (W .laws) 𝓣 code.function) (walks 𝓤 H A W mem run 𝓣 known-empty-record known-nothing-kept known-next-place known-take-all known-is-due known-answer-line)
+    (WpFn 𝓤 H (𝓣 .C) (𝓣 .Λ) code.function) (WpFn-mono 𝓤 H (W .laws) 𝓣 code.function) (walks 𝓤 H A W mem run 𝓣 known-empty-record known-nothing-kept known-next-place known-take-all known-is-due known-answer)
 
 pub main-spec : {M : Type 1} → stated.statement M
 unfolding code.routine tablesOf
@@ -198,8 +198,8 @@ main-spec 𝓤 H 𝓜 𝓖 𝓡 =
     (tables 𝓤 H 𝓜 𝓡 code.env .C) (tables 𝓤 H 𝓜 𝓡 code.env .Λ) #self code.function (code.unfolded 𝓤 H 𝓜 𝓡)
     (meets 𝓤 H (𝓖 .A) (givenOf 𝓤 H 𝓜 𝓖) (𝓜 .mem) (𝓡 .run) (tablesOf 𝓤 H 𝓜 (tables 𝓤 H 𝓜 𝓡 code.env))
     (cited 𝓤 H (Call-empty-record.Asked 𝓤 H (𝓖 .A) (𝓜 .mem) (𝓡 .run)) 𝓜 𝓡 code.env #empty-record def-empty-record.routine code.calls-steps·empty-record (thm-empty-record.met 𝓤 H 𝓜 𝓖 𝓡))
-    (cited 𝓤 H (Call-nothing-kept.Asked 𝓤 H (𝓖 .A) (𝓜 .mem) (𝓡 .run)) 𝓜 𝓡 code.env #nothing-kept def-nothing-kept.routine code.calls-steps·nothing-kept (thm-nothing-kept.met 𝓤 H 𝓜 𝓖 𝓡))
+    (cited 𝓤 H (Call-nothing-kept.Asked 𝓤 H (𝓖 .A) (𝓜 .mem) (𝓡 .run)) 𝓜 𝓡 code.env #nothing-kept def-nothing-kept.routine code.calls-respond·nothing-kept (thm-nothing-kept.met 𝓤 H 𝓜 𝓖 𝓡))
     (cited 𝓤 H (Call-next-place.Asked 𝓤 H (𝓖 .A) (𝓜 .mem) (𝓡 .run)) 𝓜 𝓡 code.env #next-place def-next-place.routine code.calls-steps·next-place (thm-next-place.met 𝓤 H 𝓜 𝓖 𝓡))
     (cited 𝓤 H (Call-take-all.Asked 𝓤 H (𝓖 .A) (𝓜 .mem) (𝓡 .run)) 𝓜 𝓡 code.env #take-all def-take-all.routine code.calls-steps·take-all (thm-take-all.met 𝓤 H 𝓜 𝓖 𝓡))
     (cited 𝓤 H (Call-is-due.Asked 𝓤 H (𝓖 .A) (𝓜 .mem) (𝓡 .run)) 𝓜 𝓡 code.env #is-due def-is-due.routine code.calls-steps·is-due (thm-is-due.met 𝓤 H 𝓜 𝓖 𝓡))
-    (cited 𝓤 H (Call-answer-line.Asked 𝓤 H (𝓖 .A) (𝓜 .mem) (𝓡 .run)) 𝓜 𝓡 code.env #answer-line def-answer-line.routine code.calls-steps·answer-line (thm-answer-line.met 𝓤 H 𝓜 𝓖 𝓡)))
+    (cited 𝓤 H (Call-answer.Asked 𝓤 H (𝓖 .A) (𝓜 .mem) (𝓡 .run)) 𝓜 𝓡 code.env #answer def-answer.routine code.calls-steps·answer (thm-answer.met 𝓤 H 𝓜 𝓖 𝓡)))

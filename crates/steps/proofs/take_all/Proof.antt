@@ -43,30 +43,30 @@ use denote.Triple.Spec.{Meets, tripleOf}
 use denote.Triple.Table.{entered, cited}
 use denote.Triple.Walked.{says, needs, Stays, stay-slice, stay-none-slice, stay-none, walkOf, Walks, ends-at, walked, goes-slice, goes-none-slice, goes-none, walk-meets}
 use Rattle.steps.specs.declared.Place.{Place as Place‴}
-use Rattle.steps.proofs.Walkgen.Kind.Place as Place′
-use Rattle.steps.specs.declared.Kept.{Kept}
-use Rattle.steps.proofs.Walkgen.Kind.Kept as Kept′
+use Rattle.steps.proofs.Generated.Kind.Place as Place′
+use Rattle.answers.specs.declared.Kept.{Kept}
+use Rattle.turns.proofs.Generated.Kind.Kept as Kept′
 use Rattle.versions.specs.declared.Store.{Store}
-use Rattle.versions.proofs.Walkgen.Kind.Store as Store′
+use Rattle.versions.proofs.Generated.Kind.Store as Store′
 use Rattle.tree.specs.declared.Ticket.{Ticket}
-use Rattle.tree.proofs.Walkgen.Kind.Ticket as Ticket′
+use Rattle.register.proofs.Generated.Kind.Ticket as Ticket′
 use Rattle.tree.specs.declared.Version.{Version}
-use Rattle.tree.proofs.Walkgen.Kind.Version as Version′
-use Rattle.lines.specs.declared.Cutter.{Cutter}
-use Rattle.steps.proofs.Walkgen.Kind.Cutter as Cutter′
-use Rattle.tree.specs.declared.Record.{Record}
-use Rattle.tree.proofs.Walkgen.Kind.Record as Record′
+use Rattle.register.proofs.Generated.Kind.Version as Version′
+use Rattle.parse.specs.declared.Cutter.{Cutter}
+use Rattle.steps.proofs.Generated.Kind.Cutter as Cutter′
+use Rattle.register.specs.declared.Record.{Record}
+use Rattle.register.proofs.Generated.Kind.Record as Record′
 use Rattle.tree.specs.declared.PageIndex.{PageIndex}
-use Rattle.tree.proofs.Walkgen.Kind.PageIndex as PageIndex′
-use Rattle.tree.proofs.Walkgen.Flow.{ref, MutAt, ShrAt, lend-mut, back-mut, lend-shr, back-shr, branches-on, regroup, skips-on, returns-on, plus-nothing, holds, empty, less-fits, is-true, is-false, differ, above-0, twice-not, switches-to, switches-last, big-lit, here, blocks-on, resume, scaled-2, scaled-4, scaled-8, opens-shr, shuts-shr, opens-mut, shuts-mut, puts-mut, keeps-shr, fills, empties, tyAt, lend-part-mut, back-part-mut, lend-part-shr, back-part-shr, cut-shr}
-use Rattle.steps.proofs.Walkgen.Say.take_all as take-all″
-use Rattle.steps.proofs.Walkgen.Say.read_block as read-block″
-use Rattle.steps.proofs.Walkgen.Call.read_block as Call-read-block
+use Rattle.register.proofs.Generated.Kind.PageIndex as PageIndex′
+use Rattle.register.proofs.Generated.Flow.{ref, MutAt, ShrAt, lend-mut, back-mut, lend-shr, back-shr, branches-on, regroup, skips-on, returns-on, plus-nothing, holds, empty, less-fits, is-true, is-false, differ, above-0, twice-not, switches-to, switches-last, big-lit, here, blocks-on, resume, scaled-2, scaled-4, scaled-8, opens-shr, shuts-shr, opens-mut, shuts-mut, puts-mut, keeps-shr, fills, empties, tyAt, lend-part-mut, back-part-mut, lend-part-shr, back-part-shr, cut-shr}
+use Rattle.steps.proofs.Generated.Say.take_all as take-all″
+use Rattle.steps.proofs.Generated.Say.read_block as read-block″
+use Rattle.steps.proofs.Generated.Call.read_block as Call-read-block
 use Rattle.steps.proofs.read_block.Symbol as def-read-block
 use Rattle.steps.proofs.read_block.Symbol.{name as #read-block}
 use Rattle.steps.proofs.read_block.Met as thm-read-block
-use Rattle.steps.proofs.Walkgen.Say.take_block as take-block″
-use Rattle.steps.proofs.Walkgen.Call.take_block as Call-take-block
+use Rattle.steps.proofs.Generated.Say.take_block as take-block″
+use Rattle.steps.proofs.Generated.Call.take_block as Call-take-block
 use Rattle.steps.proofs.take_block.Symbol as def-take-block
 use Rattle.steps.proofs.take_block.Symbol.{name as #take-block}
 use Rattle.steps.proofs.take_block.Met as thm-take-block
@@ -79,7 +79,7 @@ use denote.Memory.{pointee}
 use denote.Lend.{Held}
 use borrow.Table.Elements.{length-take-le, take-le}
 use borrow.Rule.Array.Share.{room-take}
-use Rattle.tree.proofs.Walkgen.Again.{part-same}
+use Rattle.register.proofs.Generated.Again.{part-same}
 use mathlib.Core.WellFounded.{WellFounded, InvImage·wf}
 use lib.WfN.{Nat·lt-wfRel}
 use Rattle.steps.proofs.take_all.Code.Mir as parts
@@ -88,22 +88,22 @@ use Rattle.steps.proofs.take_all.Proof.Loop as Loop
 abbrev stayed : Stays (take-all‴.ended .signature .params) (take-all‴.ended .kept)
 stayed = (stay-none (λ _. Place′.row) yes, (stay-slice (0 ∷ []) tt (plain (λ _. u8)), (stay-slice (1 ∷ []) tt (plain (λ _. u8)), (stay-slice (2 ∷ []) tt (plain (λ _. u32)), (stay-slice (3 ∷ []) tt (plain (λ _. Record′.row)), tt)))))
 
-module _ {M : Type 1} (𝓤 : URA M) (H : Heap 𝓤) (A : Atoms 𝓤) (W : Given 𝓤 H A) (mem : Memory → SProp 𝓤) (run : Routine → Fun 𝓤) (x-from : Place‴) (κ·line : Lft) (q·line : Share) (b·line o·line : ℕ) (γ·line : GName) (line : List ℕ) (κ·pages : Lft) (q·pages : Share) (b·pages o·pages : ℕ) (γ·pages : GName) (pages : List ℕ) (κ·nodes : Lft) (q·nodes : Share) (b·nodes o·nodes : ℕ) (γ·nodes : GName) (nodes : List ℕ) (κ·register : Lft) (q·register : Share) (b·register o·register : ℕ) (γ·register : GName) (register : List Record) (ok·x-from : Is Place′.row x-from (Place′.vals x-from)) (room·line : Room u8 (length line)) (room·pages : Room u8 (length pages)) (room·nodes : Room u32 (length nodes)) (room·register : Room Record′.row (length register)) where
-  abbrev all-args : Args take-all‴.signature (κ·line, (κ·pages, (κ·nodes, (κ·register, tt))))
-  all-args = (x-from, (ref b·line o·line γ·line line, (ref b·pages o·pages γ·pages pages, (ref b·nodes o·nodes γ·nodes nodes, (ref b·register o·register γ·register register, tt)))))
+module _ {M : Type 1} (𝓤 : URA M) (H : Heap 𝓤) (A : Atoms 𝓤) (W : Given 𝓤 H A) (mem : Memory → SProp 𝓤) (run : Routine → Fun 𝓤) (x-from : Place‴) (κ·text : Lft) (q·text : Share) (b·text o·text : ℕ) (γ·text : GName) (text : List ℕ) (κ·pages : Lft) (q·pages : Share) (b·pages o·pages : ℕ) (γ·pages : GName) (pages : List ℕ) (κ·nodes : Lft) (q·nodes : Share) (b·nodes o·nodes : ℕ) (γ·nodes : GName) (nodes : List ℕ) (κ·register : Lft) (q·register : Share) (b·register o·register : ℕ) (γ·register : GName) (register : List Record) (ok·x-from : Is Place′.row x-from (Place′.vals x-from)) (room·text : Room u8 (length text)) (room·pages : Room u8 (length pages)) (room·nodes : Room u32 (length nodes)) (room·register : Room Record′.row (length register)) where
+  abbrev all-args : Args take-all‴.signature (κ·text, (κ·pages, (κ·nodes, (κ·register, tt))))
+  all-args = (x-from, (ref b·text o·text γ·text text, (ref b·pages o·pages γ·pages pages, (ref b·nodes o·nodes γ·nodes nodes, (ref b·register o·register γ·register register, tt)))))
 
-  abbrev all-vals : Vals take-all‴.signature (κ·line, (κ·pages, (κ·nodes, (κ·register, tt))))
-  all-vals = (Place′.mach x-from ∷ [], (sliceVal (b·line, o·line) (length line) ∷ [], (sliceVal (b·pages, o·pages) (length pages) ∷ [], (sliceVal (b·nodes, o·nodes) (length nodes) ∷ [], (sliceVal (b·register, o·register) (length register) ∷ [], tt)))))
+  abbrev all-vals : Vals take-all‴.signature (κ·text, (κ·pages, (κ·nodes, (κ·register, tt))))
+  all-vals = (Place′.mach x-from ∷ [], (sliceVal (b·text, o·text) (length text) ∷ [], (sliceVal (b·pages, o·pages) (length pages) ∷ [], (sliceVal (b·nodes, o·nodes) (length nodes) ∷ [], (sliceVal (b·register, o·register) (length register) ∷ [], tt)))))
 
   abbrev bound : walkOf 𝓤 H A take-all‴.ended stayed (take-all‴.clauses 𝓤 H A mem run) .Ghost
-  bound = (((κ·line, (κ·pages, (κ·nodes, (κ·register, tt)))), (q·line, (q·pages, (q·nodes, (q·register, tt)))), tt, all-args, all-vals), tt)
+  bound = (((κ·text, (κ·pages, (κ·nodes, (κ·register, tt)))), (q·text, (q·pages, (q·nodes, (q·register, tt)))), tt, all-args, all-vals), tt)
 
   abbrev Post : Val → SProp 𝓤
   Post = walkOf 𝓤 H A take-all‴.ended stayed (take-all‴.clauses 𝓤 H A mem run) .post bound
 
-  exits : (r : Place‴) → Is Place′.row r (Place′.vals r) → (zs·line : List ℕ) → length zs·line ≡ length line → (zs·pages : List ℕ) → length zs·pages ≡ length pages → (zs·nodes : List ℕ) → length zs·nodes ≡ length nodes → (zs·register : List Record) → length zs·register ≡ length register → ent 𝓤 (⋆ 𝓤 H A (‵ (flft κ·line q·line) ∷ ‵ (MutAt u8 κ·line b·line o·line γ·line (length line) zs·line) ∷ ‵ (flft κ·pages q·pages) ∷ ‵ (MutAt u8 κ·pages b·pages o·pages γ·pages (length pages) zs·pages) ∷ ‵ (flft κ·nodes q·nodes) ∷ ‵ (MutAt u32 κ·nodes b·nodes o·nodes γ·nodes (length nodes) zs·nodes) ∷ ‵ (flft κ·register q·register) ∷ ‵ (MutAt Record′.row κ·register b·register o·register γ·register (length register) zs·register) ∷ [])) (Post (Place′.mach r))
-  exits r ok·r zs·line same·line zs·pages same·pages zs·nodes same·nodes zs·register same·register =
-      qed W (‵ (flft κ·line q·line) ∷ ‵ (MutAt u8 κ·line b·line o·line γ·line (length line) zs·line) ∷ ‵ (flft κ·pages q·pages) ∷ ‵ (MutAt u8 κ·pages b·pages o·pages γ·pages (length pages) zs·pages) ∷ ‵ (flft κ·nodes q·nodes) ∷ ‵ (MutAt u32 κ·nodes b·nodes o·nodes γ·nodes (length nodes) zs·nodes) ∷ ‵ (flft κ·register q·register) ∷ ‵ (MutAt Record′.row κ·register b·register o·register γ·register (length register) zs·register) ∷ []) ∵ suffices ! _ (ends-at 𝓤 H A take-all‴.ended stayed (take-all‴.clauses 𝓤 H A mem run) W bound (Place′.mach r) r (tt, (zs·line, (zs·pages, (zs·nodes, (zs·register, tt))))) (tt, (same·line, (same·pages, (same·nodes, (same·register, tt)))))) $ plus-nothing ! $
+  exits : (r : Place‴) → Is Place′.row r (Place′.vals r) → (zs·text : List ℕ) → length zs·text ≡ length text → (zs·pages : List ℕ) → length zs·pages ≡ length pages → (zs·nodes : List ℕ) → length zs·nodes ≡ length nodes → (zs·register : List Record) → length zs·register ≡ length register → ent 𝓤 (⋆ 𝓤 H A (‵ (flft κ·text q·text) ∷ ‵ (MutAt u8 κ·text b·text o·text γ·text (length text) zs·text) ∷ ‵ (flft κ·pages q·pages) ∷ ‵ (MutAt u8 κ·pages b·pages o·pages γ·pages (length pages) zs·pages) ∷ ‵ (flft κ·nodes q·nodes) ∷ ‵ (MutAt u32 κ·nodes b·nodes o·nodes γ·nodes (length nodes) zs·nodes) ∷ ‵ (flft κ·register q·register) ∷ ‵ (MutAt Record′.row κ·register b·register o·register γ·register (length register) zs·register) ∷ [])) (Post (Place′.mach r))
+  exits r ok·r zs·text same·text zs·pages same·pages zs·nodes same·nodes zs·register same·register =
+      qed W (‵ (flft κ·text q·text) ∷ ‵ (MutAt u8 κ·text b·text o·text γ·text (length text) zs·text) ∷ ‵ (flft κ·pages q·pages) ∷ ‵ (MutAt u8 κ·pages b·pages o·pages γ·pages (length pages) zs·pages) ∷ ‵ (flft κ·nodes q·nodes) ∷ ‵ (MutAt u32 κ·nodes b·nodes o·nodes γ·nodes (length nodes) zs·nodes) ∷ ‵ (flft κ·register q·register) ∷ ‵ (MutAt Record′.row κ·register b·register o·register γ·register (length register) zs·register) ∷ []) ∵ suffices ! _ (ends-at 𝓤 H A take-all‴.ended stayed (take-all‴.clauses 𝓤 H A mem run) W bound (Place′.mach r) r (tt, (zs·text, (zs·pages, (zs·nodes, (zs·register, tt))))) (tt, (same·text, (same·pages, (same·nodes, (same·register, tt)))))) $ plus-nothing ! $
       nothing ! $ move ! (7 ∷ 0 ∷ []) $ join ! $ move ! (5 ∷ 0 ∷ []) $ join ! $ move ! (3 ∷ 0 ∷ []) $ join ! $ move ! (1 ∷ 0 ∷ []) $ join ! $ frame ! $ nothing ! $ move ! (4 ∷ 0 ∷ []) $ fjoin ! $ move ! (3 ∷ 0 ∷ []) $ fjoin ! $ move ! (2 ∷ 0 ∷ []) $ fjoin ! $ move ! (1 ∷ 0 ∷ []) $ fjoin ! $ owned ! Place′.row (Is Place′.row) (Place′.makes 𝓤 H A) x-from _ ok·x-from $ fjoin ! $ frame ! $ owned ! Place′.row (Is Place′.row) (Place′.makes 𝓤 H A) r _ ok·r $ done !
 
   module _ (𝓣 : Tables 𝓤 H) (known-read-block : Triple 𝓤 (𝓣 .C #read-block) (Call-read-block.Asked 𝓤 H A mem run)) (known-take-block : Triple 𝓤 (𝓣 .C #take-block) (Call-take-block.Asked 𝓤 H A mem run)) (ν·arr6 : ℕ) (γ·arr6 : GName) (arr6 : List ℕ) (made·arr6 : arr6 ≡ replicate 4096 0) (count·arr6 : 4096 ≡ length arr6) (room·arr6 : Room u8 4096) (l₀ l₁ l₂ l₃ l₄ l₅ l₆ l₇ l₈ l₉ l₁₀ l₁₁ l₁₂ l₁₃ l₁₄ l₁₅ l₁₆ l₁₇ l₁₈ l₁₉ l₂₀ l₂₁ l₂₂ : ℕ) where
@@ -114,20 +114,20 @@ module _ {M : Type 1} (𝓤 : URA M) (H : Heap 𝓤) (A : Atoms 𝓤) (W : Given
     Var = Place‴ × (ℕ × ((List ℕ) × ((List ℕ) × ((List ℕ) × ((List Record) × ((List ℕ) × (Unit {0})))))))
 
     abbrev lesser : Var → Var → Type 0
-    lesser t′ t = Loop.measure-1 x-from line pages nodes register arr6 (t′ .0) (t′ .1 .0) (t′ .1 .1 .0) (t′ .1 .1 .1 .0) (t′ .1 .1 .1 .1 .0) (t′ .1 .1 .1 .1 .1 .0) (t′ .1 .1 .1 .1 .1 .1 .0) < Loop.measure-1 x-from line pages nodes register arr6 (t .0) (t .1 .0) (t .1 .1 .0) (t .1 .1 .1 .0) (t .1 .1 .1 .1 .0) (t .1 .1 .1 .1 .1 .0) (t .1 .1 .1 .1 .1 .1 .0)
+    lesser t′ t = Loop.measure-1 x-from text pages nodes register arr6 (t′ .0) (t′ .1 .0) (t′ .1 .1 .0) (t′ .1 .1 .1 .0) (t′ .1 .1 .1 .1 .0) (t′ .1 .1 .1 .1 .1 .0) (t′ .1 .1 .1 .1 .1 .1 .0) < Loop.measure-1 x-from text pages nodes register arr6 (t .0) (t .1 .0) (t .1 .1 .0) (t .1 .1 .1 .0) (t .1 .1 .1 .1 .0) (t .1 .1 .1 .1 .1 .0) (t .1 .1 .1 .1 .1 .1 .0)
 
     falls : WellFounded lesser
-    falls = InvImage·wf (λ (t : Var). Loop.measure-1 x-from line pages nodes register arr6 (t .0) (t .1 .0) (t .1 .1 .0) (t .1 .1 .1 .0) (t .1 .1 .1 .1 .0) (t .1 .1 .1 .1 .1 .0) (t .1 .1 .1 .1 .1 .1 .0)) (Nat·lt-wfRel .wf)
+    falls = InvImage·wf (λ (t : Var). Loop.measure-1 x-from text pages nodes register arr6 (t .0) (t .1 .0) (t .1 .1 .0) (t .1 .1 .1 .0) (t .1 .1 .1 .1 .0) (t .1 .1 .1 .1 .1 .0) (t .1 .1 .1 .1 .1 .1 .0)) (Nat·lt-wfRel .wf)
 
     abbrev I : Var → List (Item 𝓤)
-    I t = raw (fact 𝓤 ((Is Place′.row (t .0) (Place′.vals (t .0))) × ((Is u64 (t .1 .0) (uint-vals w64 (t .1 .0))) × ((length line ≡ length (t .1 .1 .0)) × ((length pages ≡ length (t .1 .1 .1 .0)) × ((length nodes ≡ length (t .1 .1 .1 .1 .0)) × ((length register ≡ length (t .1 .1 .1 .1 .1 .0)) × ((4096 ≡ length (t .1 .1 .1 .1 .1 .1 .0)) × (Loop.inv-1 x-from line pages nodes register arr6 (t .0) (t .1 .0) (t .1 .1 .0) (t .1 .1 .1 .0) (t .1 .1 .1 .1 .0) (t .1 .1 .1 .1 .1 .0) (t .1 .1 .1 .1 .1 .1 .0)))))))))) ∷ ‵ (flft κ·line q·line) ∷ ‵ (MutAt u8 κ·line b·line o·line γ·line (length line) (t .1 .1 .0)) ∷ ‵ (flft κ·pages q·pages) ∷ ‵ (MutAt u8 κ·pages b·pages o·pages γ·pages (length pages) (t .1 .1 .1 .0)) ∷ ‵ (flft κ·nodes q·nodes) ∷ ‵ (MutAt u32 κ·nodes b·nodes o·nodes γ·nodes (length nodes) (t .1 .1 .1 .1 .0)) ∷ ‵ (flft κ·register q·register) ∷ ‵ (MutAt Record′.row κ·register b·register o·register γ·register (length register) (t .1 .1 .1 .1 .1 .0)) ∷ ‵ (flft (ν·arr6 ∷ []) fullShare) ∷ ‵ (MutAt u8 (ν·arr6 ∷ []) l₆ 0 γ·arr6 4096 (t .1 .1 .1 .1 .1 .1 .0)) ∷ ‵ (flent (ν·arr6 ∷ []) (Held u8 4096 l₆ 0 γ·arr6)) ∷ empty (sliceTy (tyRef erased mut (pointee (Record′.row .written)))) l₂₂ (empty (tyRef erased mut (pointee (Record′.row .written))) l₂₁ (empty (sliceTy (tyRef erased mut (pointee (u32 .written)))) l₂₀ (empty (tyRef erased mut (pointee (u32 .written))) l₁₉ (empty (sliceTy (tyRef erased mut (pointee (u8 .written)))) l₁₈ (empty (tyRef erased mut (pointee (u8 .written))) l₁₇ (empty (sliceTy (tyRef erased mut (pointee (u8 .written)))) l₁₆ (empty (tyRef erased mut (pointee (u8 .written))) l₁₅ (empty (sliceTy (tyRef erased imm (pointee (u8 .written)))) l₁₄ (empty (tyRef erased imm (tyArray (pointee (u8 .written)) 4096)) l₁₃ (empty (sliceTy (tyRef erased mut (pointee (u8 .written)))) l₁₂ (empty (tyRef erased mut (tyArray (pointee (u8 .written)) 4096)) l₁₁ (empty tyBool l₁₀ (empty (tyInt w64) l₉ (holds (tyInt w64) l₈ (vint w64 (t .1 .0)) (holds (tyAt (code.function .locals) 7) l₇ (Place′.mach (t .0)) (‵ (fdies (tyAt (code.function .locals) 6) l₆) ∷ holds (sliceTy (tyRef (named 3) mut (pointee (Record′.row .written)))) l₅ (sliceVal (b·register, o·register) (length register)) (holds (sliceTy (tyRef (named 2) mut (pointee (u32 .written)))) l₄ (sliceVal (b·nodes, o·nodes) (length nodes)) (holds (sliceTy (tyRef (named 1) mut (pointee (u8 .written)))) l₃ (sliceVal (b·pages, o·pages) (length pages)) (holds (sliceTy (tyRef (named 0) mut (pointee (u8 .written)))) l₂ (sliceVal (b·line, o·line) (length line)) (empty (tyAt (code.function .locals) 1) l₁ (empty (tyAt (code.function .locals) 0) l₀ [])))))))))))))))))))))
+    I t = raw (fact 𝓤 ((Is Place′.row (t .0) (Place′.vals (t .0))) × ((Is u64 (t .1 .0) (uint-vals w64 (t .1 .0))) × ((length text ≡ length (t .1 .1 .0)) × ((length pages ≡ length (t .1 .1 .1 .0)) × ((length nodes ≡ length (t .1 .1 .1 .1 .0)) × ((length register ≡ length (t .1 .1 .1 .1 .1 .0)) × ((4096 ≡ length (t .1 .1 .1 .1 .1 .1 .0)) × (Loop.inv-1 x-from text pages nodes register arr6 (t .0) (t .1 .0) (t .1 .1 .0) (t .1 .1 .1 .0) (t .1 .1 .1 .1 .0) (t .1 .1 .1 .1 .1 .0) (t .1 .1 .1 .1 .1 .1 .0)))))))))) ∷ ‵ (flft κ·text q·text) ∷ ‵ (MutAt u8 κ·text b·text o·text γ·text (length text) (t .1 .1 .0)) ∷ ‵ (flft κ·pages q·pages) ∷ ‵ (MutAt u8 κ·pages b·pages o·pages γ·pages (length pages) (t .1 .1 .1 .0)) ∷ ‵ (flft κ·nodes q·nodes) ∷ ‵ (MutAt u32 κ·nodes b·nodes o·nodes γ·nodes (length nodes) (t .1 .1 .1 .1 .0)) ∷ ‵ (flft κ·register q·register) ∷ ‵ (MutAt Record′.row κ·register b·register o·register γ·register (length register) (t .1 .1 .1 .1 .1 .0)) ∷ ‵ (flft (ν·arr6 ∷ []) fullShare) ∷ ‵ (MutAt u8 (ν·arr6 ∷ []) l₆ 0 γ·arr6 4096 (t .1 .1 .1 .1 .1 .1 .0)) ∷ ‵ (flent (ν·arr6 ∷ []) (Held u8 4096 l₆ 0 γ·arr6)) ∷ empty (sliceTy (tyRef erased mut (pointee (Record′.row .written)))) l₂₂ (empty (tyRef erased mut (pointee (Record′.row .written))) l₂₁ (empty (sliceTy (tyRef erased mut (pointee (u32 .written)))) l₂₀ (empty (tyRef erased mut (pointee (u32 .written))) l₁₉ (empty (sliceTy (tyRef erased mut (pointee (u8 .written)))) l₁₈ (empty (tyRef erased mut (pointee (u8 .written))) l₁₇ (empty (sliceTy (tyRef erased mut (pointee (u8 .written)))) l₁₆ (empty (tyRef erased mut (pointee (u8 .written))) l₁₅ (empty (sliceTy (tyRef erased imm (pointee (u8 .written)))) l₁₄ (empty (tyRef erased imm (tyArray (pointee (u8 .written)) 4096)) l₁₃ (empty (sliceTy (tyRef erased mut (pointee (u8 .written)))) l₁₂ (empty (tyRef erased mut (tyArray (pointee (u8 .written)) 4096)) l₁₁ (empty tyBool l₁₀ (empty (tyInt w64) l₉ (holds (tyInt w64) l₈ (vint w64 (t .1 .0)) (holds (tyAt (code.function .locals) 7) l₇ (Place′.mach (t .0)) (‵ (fdies (tyAt (code.function .locals) 6) l₆) ∷ holds (sliceTy (tyRef (named 3) mut (pointee (Record′.row .written)))) l₅ (sliceVal (b·register, o·register) (length register)) (holds (sliceTy (tyRef (named 2) mut (pointee (u32 .written)))) l₄ (sliceVal (b·nodes, o·nodes) (length nodes)) (holds (sliceTy (tyRef (named 1) mut (pointee (u8 .written)))) l₃ (sliceVal (b·pages, o·pages) (length pages)) (holds (sliceTy (tyRef (named 0) mut (pointee (u8 .written)))) l₂ (sliceVal (b·text, o·text) (length text)) (empty (tyAt (code.function .locals) 1) l₁ (empty (tyAt (code.function .locals) 0) l₀ [])))))))))))))))))))))
 
     abbrev Left : Out → SProp 𝓤
     Left = afterBlock 𝓤 H (afterSeq 𝓤 H (Wp 𝓤 H (𝓣 .C) (𝓣 .Λ) E parts.t-5 (atReturn 𝓤 H E Post)) (atReturn 𝓤 H E Post))
 
-    turn : (v7 : Place‴) (v8 : ℕ) (line-now : List ℕ) (pages-now : List ℕ) (nodes-now : List ℕ) (register-now : List Record) (arr6-now : List ℕ) → Sq W (I (v7, (v8, (line-now, (pages-now, (nodes-now, (register-now, (arr6-now, tt)))))))) (runs (𝓣 .C) (𝓣 .Λ) E parts.turn-1 (anyQ (afterTurn 𝓤 H (Below 𝓤 H A lesser I (v7, (v8, (line-now, (pages-now, (nodes-now, (register-now, (arr6-now, tt)))))))) Left)))
+    turn : (v7 : Place‴) (v8 : ℕ) (text-now : List ℕ) (pages-now : List ℕ) (nodes-now : List ℕ) (register-now : List Record) (arr6-now : List ℕ) → Sq W (I (v7, (v8, (text-now, (pages-now, (nodes-now, (register-now, (arr6-now, tt)))))))) (runs (𝓣 .C) (𝓣 .Λ) E parts.turn-1 (anyQ (afterTurn 𝓤 H (Below 𝓤 H A lesser I (v7, (v8, (text-now, (pages-now, (nodes-now, (register-now, (arr6-now, tt)))))))) Left)))
     unfolding afterTurn
-    turn v7 v8 line-now pages-now nodes-now register-now arr6-now = heard ! ((Is Place′.row v7 (Place′.vals v7)) × ((Is u64 v8 (uint-vals w64 v8)) × ((length line ≡ length line-now) × ((length pages ≡ length pages-now) × ((length nodes ≡ length nodes-now) × ((length register ≡ length register-now) × ((4096 ≡ length arr6-now) × (Loop.inv-1 x-from line pages nodes register arr6 v7 v8 line-now pages-now nodes-now register-now arr6-now)))))))) (λ f·1.
+    turn v7 v8 text-now pages-now nodes-now register-now arr6-now = heard ! ((Is Place′.row v7 (Place′.vals v7)) × ((Is u64 v8 (uint-vals w64 v8)) × ((length text ≡ length text-now) × ((length pages ≡ length pages-now) × ((length nodes ≡ length nodes-now) × ((length register ≡ length register-now) × ((4096 ≡ length arr6-now) × (Loop.inv-1 x-from text pages nodes register arr6 v7 v8 text-now pages-now nodes-now register-now arr6-now)))))))) (λ f·1.
         assigns ! (bin ! (lit ! tt) (load ! (from ! (stop !)) (look ! 39 refl)) tt) (from ! (stop !)) (init ! 35 refl (tt, tt)) $
         branches-on ! (load ! (from ! (stop !)) (look ! 35 refl))
         (λ h·1. skips-on ! $ assigns ! (addr ! (from ! (stop !))) (from ! (stop !)) (init ! 33 refl (tt, tt)) $
@@ -135,57 +135,57 @@ module _ {M : Type 1} (𝓤 : URA M) (H : Heap 𝓤) (A : Atoms 𝓤) (W : Given
         move ! (8 ∷ 9 ∷ []) $ lend-mut ! tt u8 (ν·arr6 ∷ []) fullShare l₆ 0 γ·arr6 4096 arr6-now (f·1 .1 .1 .1 .1 .1 .1 .0) (λ ν·1-arr6 γ·1-arr6.
         Call-read-block.calls ! mem run (fmOf 𝓤 H (W .laws) 𝓣) known-read-block (ν·1-arr6 ∷ []) fullShare l₆ 0 γ·1-arr6 4096 arr6-now (and-then ! (load ! (from ! (stop !)) (look ! 31 refl)) (no-more !))
         (λ r1 arr6₁ ok·1 same·1-arr6 says·1. back-mut ! tt u8 (ν·arr6 ∷ []) fullShare l₆ 0 γ·arr6 4096 arr6-now arr6₁ ν·1-arr6 γ·1-arr6 (f·1 .1 .1 .1 .1 .1 .1 .0) same·1-arr6 room·arr6 $ move ! (2 ∷ 3 ∷ 4 ∷ 5 ∷ 6 ∷ 7 ∷ 8 ∷ 9 ∷ 0 ∷ 1 ∷ 10 ∷ []) $ land ! (from ! (stop !)) (init ! 37 refl (tt, record { fits = ok·1 .1 })) $
-        here ! (‵ (flft κ·line q·line) ∷ ‵ (MutAt u8 κ·line b·line o·line γ·line (length line) line-now) ∷ ‵ (flft κ·pages q·pages) ∷ ‵ (MutAt u8 κ·pages b·pages o·pages γ·pages (length pages) pages-now) ∷ ‵ (flft κ·nodes q·nodes) ∷ ‵ (MutAt u32 κ·nodes b·nodes o·nodes γ·nodes (length nodes) nodes-now) ∷ ‵ (flft κ·register q·register) ∷ ‵ (MutAt Record′.row κ·register b·register o·register γ·register (length register) register-now) ∷ ‵ (flft (ν·arr6 ∷ []) fullShare) ∷ ‵ (MutAt u8 (ν·arr6 ∷ []) l₆ 0 γ·arr6 4096 arr6₁) ∷ ‵ (flent (ν·arr6 ∷ []) (Held u8 4096 l₆ 0 γ·arr6)) ∷ empty (sliceTy (tyRef erased mut (pointee (Record′.row .written)))) l₂₂ (empty (tyRef erased mut (pointee (Record′.row .written))) l₂₁ (empty (sliceTy (tyRef erased mut (pointee (u32 .written)))) l₂₀ (empty (tyRef erased mut (pointee (u32 .written))) l₁₉ (empty (sliceTy (tyRef erased mut (pointee (u8 .written)))) l₁₈ (empty (tyRef erased mut (pointee (u8 .written))) l₁₇ (empty (sliceTy (tyRef erased mut (pointee (u8 .written)))) l₁₆ (empty (tyRef erased mut (pointee (u8 .written))) l₁₅ (empty (sliceTy (tyRef erased imm (pointee (u8 .written)))) l₁₄ (empty (tyRef erased imm (tyArray (pointee (u8 .written)) 4096)) l₁₃ (holds (sliceTy (tyRef erased mut (pointee (u8 .written)))) l₁₂ (sliceVal (l₆, 0) 4096) (holds (tyRef erased mut (tyArray (pointee (u8 .written)) 4096)) l₁₁ (vptr l₆ 0) (holds tyBool l₁₀ (vbool (ltb 0 v8)) (holds (tyInt w64) l₉ (vint w64 r1) (holds (tyInt w64) l₈ (vint w64 v8) (holds (tyAt (code.function .locals) 7) l₇ (Place′.mach v7) (‵ (fdies (tyAt (code.function .locals) 6) l₆) ∷ holds (sliceTy (tyRef (named 3) mut (pointee (Record′.row .written)))) l₅ (sliceVal (b·register, o·register) (length register)) (holds (sliceTy (tyRef (named 2) mut (pointee (u32 .written)))) l₄ (sliceVal (b·nodes, o·nodes) (length nodes)) (holds (sliceTy (tyRef (named 1) mut (pointee (u8 .written)))) l₃ (sliceVal (b·pages, o·pages) (length pages)) (holds (sliceTy (tyRef (named 0) mut (pointee (u8 .written)))) l₂ (sliceVal (b·line, o·line) (length line)) (empty (tyAt (code.function .locals) 1) l₁ (empty (tyAt (code.function .locals) 0) l₀ [])))))))))))))))))))))) $
+        here ! (‵ (flft κ·text q·text) ∷ ‵ (MutAt u8 κ·text b·text o·text γ·text (length text) text-now) ∷ ‵ (flft κ·pages q·pages) ∷ ‵ (MutAt u8 κ·pages b·pages o·pages γ·pages (length pages) pages-now) ∷ ‵ (flft κ·nodes q·nodes) ∷ ‵ (MutAt u32 κ·nodes b·nodes o·nodes γ·nodes (length nodes) nodes-now) ∷ ‵ (flft κ·register q·register) ∷ ‵ (MutAt Record′.row κ·register b·register o·register γ·register (length register) register-now) ∷ ‵ (flft (ν·arr6 ∷ []) fullShare) ∷ ‵ (MutAt u8 (ν·arr6 ∷ []) l₆ 0 γ·arr6 4096 arr6₁) ∷ ‵ (flent (ν·arr6 ∷ []) (Held u8 4096 l₆ 0 γ·arr6)) ∷ empty (sliceTy (tyRef erased mut (pointee (Record′.row .written)))) l₂₂ (empty (tyRef erased mut (pointee (Record′.row .written))) l₂₁ (empty (sliceTy (tyRef erased mut (pointee (u32 .written)))) l₂₀ (empty (tyRef erased mut (pointee (u32 .written))) l₁₉ (empty (sliceTy (tyRef erased mut (pointee (u8 .written)))) l₁₈ (empty (tyRef erased mut (pointee (u8 .written))) l₁₇ (empty (sliceTy (tyRef erased mut (pointee (u8 .written)))) l₁₆ (empty (tyRef erased mut (pointee (u8 .written))) l₁₅ (empty (sliceTy (tyRef erased imm (pointee (u8 .written)))) l₁₄ (empty (tyRef erased imm (tyArray (pointee (u8 .written)) 4096)) l₁₃ (holds (sliceTy (tyRef erased mut (pointee (u8 .written)))) l₁₂ (sliceVal (l₆, 0) 4096) (holds (tyRef erased mut (tyArray (pointee (u8 .written)) 4096)) l₁₁ (vptr l₆ 0) (holds tyBool l₁₀ (vbool (ltb 0 v8)) (holds (tyInt w64) l₉ (vint w64 r1) (holds (tyInt w64) l₈ (vint w64 v8) (holds (tyAt (code.function .locals) 7) l₇ (Place′.mach v7) (‵ (fdies (tyAt (code.function .locals) 6) l₆) ∷ holds (sliceTy (tyRef (named 3) mut (pointee (Record′.row .written)))) l₅ (sliceVal (b·register, o·register) (length register)) (holds (sliceTy (tyRef (named 2) mut (pointee (u32 .written)))) l₄ (sliceVal (b·nodes, o·nodes) (length nodes)) (holds (sliceTy (tyRef (named 1) mut (pointee (u8 .written)))) l₃ (sliceVal (b·pages, o·pages) (length pages)) (holds (sliceTy (tyRef (named 0) mut (pointee (u8 .written)))) l₂ (sliceVal (b·text, o·text) (length text)) (empty (tyAt (code.function .locals) 1) l₁ (empty (tyAt (code.function .locals) 0) l₀ [])))))))))))))))))))))) $
         assigns ! (bin ! (load ! (from ! (stop !)) (look ! 37 refl)) (lit ! tt) tt) (from ! (stop !)) (store ! 35 refl (tt, tt)) $
         branches-on ! (load ! (from ! (stop !)) (look ! 35 refl))
         (λ h·2. regroup ! $
         assigns ! (of-opd ! (load ! (from ! (stop !)) (look ! 41 refl))) (from ! (stop !)) (init ! 54 refl (Place′.typed 𝓤 H A W v7 (f·1 .0))) $
         move ! (8 ∷ 9 ∷ 10 ∷ []) $ empties ! tt u8 4096 l₆ γ·arr6 arr6₁ ν·arr6 $ move ! (1 ∷ 2 ∷ 3 ∷ 4 ∷ 5 ∷ 6 ∷ 7 ∷ 8 ∷ 9 ∷ 10 ∷ 11 ∷ 12 ∷ 13 ∷ 14 ∷ 15 ∷ 16 ∷ 17 ∷ 18 ∷ 19 ∷ 20 ∷ 21 ∷ 22 ∷ 23 ∷ 24 ∷ 25 ∷ 26 ∷ 27 ∷ 28 ∷ 29 ∷ 30 ∷ 31 ∷ 32 ∷ 33 ∷ 34 ∷ 35 ∷ 36 ∷ 37 ∷ 38 ∷ 39 ∷ 40 ∷ 0 ∷ 41 ∷ 42 ∷ 43 ∷ 44 ∷ 45 ∷ 46 ∷ 47 ∷ 48 ∷ 49 ∷ 50 ∷ 51 ∷ 52 ∷ 53 ∷ []) $
         first ! $ returns-within ! Post refl (look ! 52 refl) $
-        move ! (52 ∷ 53 ∷ []) $ forget ! 0 refl $ free1 ! $ move ! (50 ∷ 51 ∷ []) $ free1 ! $ move ! (48 ∷ 49 ∷ []) $ forget ! 0 refl $ free1 ! $ move ! (46 ∷ 47 ∷ []) $ forget ! 0 refl $ free1 ! $ move ! (44 ∷ 45 ∷ []) $ forget ! 0 refl $ free1 ! $ move ! (42 ∷ 43 ∷ []) $ forget ! 0 refl $ free1 ! $ move ! (40 ∷ 41 ∷ []) $ free1 ! $ move ! (38 ∷ 39 ∷ []) $ forget ! 0 refl $ free1 ! $ move ! (36 ∷ 37 ∷ []) $ forget ! 0 refl $ free1 ! $ move ! (34 ∷ 35 ∷ []) $ forget ! 0 refl $ free1 ! $ move ! (32 ∷ 33 ∷ []) $ forget ! 0 refl $ free1 ! $ move ! (30 ∷ 31 ∷ []) $ forget ! 0 refl $ free1 ! $ move ! (28 ∷ 29 ∷ []) $ forget ! 0 refl $ free1 ! $ move ! (26 ∷ 27 ∷ []) $ free1 ! $ move ! (24 ∷ 25 ∷ []) $ free1 ! $ move ! (22 ∷ 23 ∷ []) $ free1 ! $ move ! (20 ∷ 21 ∷ []) $ free1 ! $ move ! (18 ∷ 19 ∷ []) $ free1 ! $ move ! (16 ∷ 17 ∷ []) $ free1 ! $ move ! (14 ∷ 15 ∷ []) $ free1 ! $ move ! (12 ∷ 13 ∷ []) $ free1 ! $ move ! (10 ∷ 11 ∷ []) $ free1 ! $ move ! (8 ∷ 9 ∷ []) $ free1 ! $ free0 ! $ by ! (exits v7 (f·1 .0) line-now (sym (f·1 .1 .1 .0)) pages-now (sym (f·1 .1 .1 .1 .0)) nodes-now (sym (f·1 .1 .1 .1 .1 .0)) register-now (sym (f·1 .1 .1 .1 .1 .1 .0))))
+        move ! (52 ∷ 53 ∷ []) $ forget ! 0 refl $ free1 ! $ move ! (50 ∷ 51 ∷ []) $ free1 ! $ move ! (48 ∷ 49 ∷ []) $ forget ! 0 refl $ free1 ! $ move ! (46 ∷ 47 ∷ []) $ forget ! 0 refl $ free1 ! $ move ! (44 ∷ 45 ∷ []) $ forget ! 0 refl $ free1 ! $ move ! (42 ∷ 43 ∷ []) $ forget ! 0 refl $ free1 ! $ move ! (40 ∷ 41 ∷ []) $ free1 ! $ move ! (38 ∷ 39 ∷ []) $ forget ! 0 refl $ free1 ! $ move ! (36 ∷ 37 ∷ []) $ forget ! 0 refl $ free1 ! $ move ! (34 ∷ 35 ∷ []) $ forget ! 0 refl $ free1 ! $ move ! (32 ∷ 33 ∷ []) $ forget ! 0 refl $ free1 ! $ move ! (30 ∷ 31 ∷ []) $ forget ! 0 refl $ free1 ! $ move ! (28 ∷ 29 ∷ []) $ forget ! 0 refl $ free1 ! $ move ! (26 ∷ 27 ∷ []) $ free1 ! $ move ! (24 ∷ 25 ∷ []) $ free1 ! $ move ! (22 ∷ 23 ∷ []) $ free1 ! $ move ! (20 ∷ 21 ∷ []) $ free1 ! $ move ! (18 ∷ 19 ∷ []) $ free1 ! $ move ! (16 ∷ 17 ∷ []) $ free1 ! $ move ! (14 ∷ 15 ∷ []) $ free1 ! $ move ! (12 ∷ 13 ∷ []) $ free1 ! $ move ! (10 ∷ 11 ∷ []) $ free1 ! $ move ! (8 ∷ 9 ∷ []) $ free1 ! $ free0 ! $ by ! (exits v7 (f·1 .0) text-now (sym (f·1 .1 .1 .0)) pages-now (sym (f·1 .1 .1 .1 .0)) nodes-now (sym (f·1 .1 .1 .1 .1 .0)) register-now (sym (f·1 .1 .1 .1 .1 .1 .0))))
         (λ h·2. skips-on ! $ assigns ! (addr ! (from ! (stop !))) (from ! (stop !)) (init ! 29 refl (tt, tt)) $
         assigns ! (agg ! (and-then ! (load ! (from ! (stop !)) (look ! 29 refl)) (and-then ! (load ! (from ! (stop !)) (look ! 37 refl)) (no-more !)))) (from ! (stop !)) (init ! 27 refl (tt, (tt, (record { fits = ok·1 .1 }, tt)))) $
         assigns ! (addr ! (from ! (fld ! refl (hop ! (look-in ! 50 (sub ! 0 refl (whole !))) (stop !))))) (from ! (stop !)) (init ! 25 refl (tt, tt)) $
-        assigns ! (agg ! (and-then ! (load ! (from ! (stop !)) (look ! 25 refl)) (and-then ! (load ! (from ! (fld ! refl (stop !))) (look-in ! 50 (sub ! 1 refl (whole !)))) (no-more !)))) (from ! (stop !)) (init ! 23 refl (tt, (tt, (record { fits = room·line .0 }, tt)))) $
+        assigns ! (agg ! (and-then ! (load ! (from ! (stop !)) (look ! 25 refl)) (and-then ! (load ! (from ! (fld ! refl (stop !))) (look-in ! 50 (sub ! 1 refl (whole !)))) (no-more !)))) (from ! (stop !)) (init ! 23 refl (tt, (tt, (record { fits = room·text .0 }, tt)))) $
         assigns ! (addr ! (from ! (fld ! refl (hop ! (look-in ! 48 (sub ! 0 refl (whole !))) (stop !))))) (from ! (stop !)) (init ! 21 refl (tt, tt)) $
         assigns ! (agg ! (and-then ! (load ! (from ! (stop !)) (look ! 21 refl)) (and-then ! (load ! (from ! (fld ! refl (stop !))) (look-in ! 48 (sub ! 1 refl (whole !)))) (no-more !)))) (from ! (stop !)) (init ! 19 refl (tt, (tt, (record { fits = room·pages .0 }, tt)))) $
         assigns ! (addr ! (from ! (fld ! refl (hop ! (look-in ! 46 (sub ! 0 refl (whole !))) (stop !))))) (from ! (stop !)) (init ! 17 refl (tt, tt)) $
         assigns ! (agg ! (and-then ! (load ! (from ! (stop !)) (look ! 17 refl)) (and-then ! (load ! (from ! (fld ! refl (stop !))) (look-in ! 46 (sub ! 1 refl (whole !)))) (no-more !)))) (from ! (stop !)) (init ! 15 refl (tt, (tt, (record { fits = room·nodes .0 }, tt)))) $
         assigns ! (addr ! (from ! (fld ! refl (hop ! (look-in ! 44 (sub ! 0 refl (whole !))) (stop !))))) (from ! (stop !)) (init ! 13 refl (tt, tt)) $
         assigns ! (agg ! (and-then ! (load ! (from ! (stop !)) (look ! 13 refl)) (and-then ! (load ! (from ! (fld ! refl (stop !))) (look-in ! 44 (sub ! 1 refl (whole !)))) (no-more !)))) (from ! (stop !)) (init ! 11 refl (tt, (tt, (record { fits = room·register .0 }, tt)))) $
-        move ! (8 ∷ 9 ∷ []) $ lend-part-shr ! tt u8 (ν·arr6 ∷ []) fullShare l₆ 0 γ·arr6 4096 arr6₁ r1 (f·1 .1 .1 .1 .1 .1 .1 .0 ∙ sym same·1-arr6) (Facts.part-1 x-from line pages nodes register ok·x-from (room·line .0) (room·pages .0) (room·nodes .0) (room·register .0) arr6 made·arr6 count·arr6 v7 v8 line-now pages-now nodes-now register-now arr6-now (f·1 .0) ((f·1 .1 .0) .1) (f·1 .1 .1 .0) (f·1 .1 .1 .1 .0) (f·1 .1 .1 .1 .1 .0) (f·1 .1 .1 .1 .1 .1 .0) (f·1 .1 .1 .1 .1 .1 .1 .0) (f·1 .1 .1 .1 .1 .1 .1 .1) (is-true (ltb 0 v8) h·1) (ltb→lt 0 v8 h·1) r1 arr6₁ (ok·1 .1) same·1-arr6 says·1 (is-false (eqb r1 0) h·2) (above-0 r1 h·2)) (λ ν·2-arr6 γ·2-arr6. move ! (3 ∷ 4 ∷ []) $ lend-mut ! tt u8 κ·line q·line b·line o·line γ·line (length line) line-now (f·1 .1 .1 .0) (λ ν·2-line γ·2-line. move ! (6 ∷ 7 ∷ []) $ lend-mut ! tt u8 κ·pages q·pages b·pages o·pages γ·pages (length pages) pages-now (f·1 .1 .1 .1 .0) (λ ν·2-pages γ·2-pages. move ! (9 ∷ 10 ∷ []) $ lend-mut ! tt u32 κ·nodes q·nodes b·nodes o·nodes γ·nodes (length nodes) nodes-now (f·1 .1 .1 .1 .1 .0) (λ ν·2-nodes γ·2-nodes. move ! (12 ∷ 13 ∷ []) $ lend-mut ! tt Record′.row κ·register q·register b·register o·register γ·register (length register) register-now (f·1 .1 .1 .1 .1 .1 .0) (λ ν·2-register γ·2-register. move ! (12 ∷ 13 ∷ 9 ∷ 10 ∷ 6 ∷ 7 ∷ 3 ∷ 4 ∷ 0 ∷ 1 ∷ []) $
-        Call-take-block.calls ! mem run (fmOf 𝓤 H (W .laws) 𝓣) known-take-block v7 (ν·2-arr6 ∷ []) fullShare l₆ 0 γ·2-arr6 r1 (take r1 arr6₁) (ν·2-line ∷ []) fullShare b·line o·line γ·2-line (length line) line-now (ν·2-pages ∷ []) fullShare b·pages o·pages γ·2-pages (length pages) pages-now (ν·2-nodes ∷ []) fullShare b·nodes o·nodes γ·2-nodes (length nodes) nodes-now (ν·2-register ∷ []) fullShare b·register o·register γ·2-register (length register) register-now (f·1 .0) (and-then ! (load ! (from ! (stop !)) (look ! 38 refl)) (and-then ! (load ! (from ! (stop !)) (look ! 24 refl)) (and-then ! (load ! (from ! (stop !)) (look ! 20 refl)) (and-then ! (load ! (from ! (stop !)) (look ! 16 refl)) (and-then ! (load ! (from ! (stop !)) (look ! 12 refl)) (and-then ! (load ! (from ! (stop !)) (look ! 8 refl)) (no-more !)))))))
-        (λ r2 line₂ pages₂ nodes₂ register₂ ok·2 same·2-line same·2-pages same·2-nodes same·2-register. move ! (0 ∷ 1 ∷ 14 ∷ []) $ back-part-shr ! tt u8 (ν·arr6 ∷ []) fullShare l₆ 0 γ·arr6 4096 arr6₁ r1 ν·2-arr6 (f·1 .1 .1 .1 .1 .1 .1 .0 ∙ sym same·1-arr6) room·arr6 $ move ! (2 ∷ 3 ∷ 13 ∷ []) $ back-mut ! tt u8 κ·line q·line b·line o·line γ·line (length line) line-now line₂ ν·2-line γ·2-line (f·1 .1 .1 .0) same·2-line room·line $ move ! (4 ∷ 5 ∷ 12 ∷ []) $ back-mut ! tt u8 κ·pages q·pages b·pages o·pages γ·pages (length pages) pages-now pages₂ ν·2-pages γ·2-pages (f·1 .1 .1 .1 .0) same·2-pages room·pages $ move ! (6 ∷ 7 ∷ 11 ∷ []) $ back-mut ! tt u32 κ·nodes q·nodes b·nodes o·nodes γ·nodes (length nodes) nodes-now nodes₂ ν·2-nodes γ·2-nodes (f·1 .1 .1 .1 .1 .0) same·2-nodes room·nodes $ move ! (8 ∷ 9 ∷ 10 ∷ []) $ back-mut ! tt Record′.row κ·register q·register b·register o·register γ·register (length register) register-now register₂ ν·2-register γ·2-register (f·1 .1 .1 .1 .1 .1 .0) same·2-register room·register $ move ! (6 ∷ 7 ∷ 4 ∷ 5 ∷ 2 ∷ 3 ∷ 0 ∷ 1 ∷ 8 ∷ 9 ∷ 10 ∷ []) $ land ! (from ! (stop !)) (store ! 41 refl (Place′.typed 𝓤 H A W r2 ok·2)) $
-        here ! (‵ (flft κ·line q·line) ∷ ‵ (MutAt u8 κ·line b·line o·line γ·line (length line) line₂) ∷ ‵ (flft κ·pages q·pages) ∷ ‵ (MutAt u8 κ·pages b·pages o·pages γ·pages (length pages) pages₂) ∷ ‵ (flft κ·nodes q·nodes) ∷ ‵ (MutAt u32 κ·nodes b·nodes o·nodes γ·nodes (length nodes) nodes₂) ∷ ‵ (flft κ·register q·register) ∷ ‵ (MutAt Record′.row κ·register b·register o·register γ·register (length register) register₂) ∷ ‵ (flft (ν·arr6 ∷ []) fullShare) ∷ ‵ (MutAt u8 (ν·arr6 ∷ []) l₆ 0 γ·arr6 4096 arr6₁) ∷ ‵ (flent (ν·arr6 ∷ []) (Held u8 4096 l₆ 0 γ·arr6)) ∷ holds (sliceTy (tyRef erased mut (pointee (Record′.row .written)))) l₂₂ (sliceVal (b·register, o·register) (length register)) (holds (tyRef erased mut (pointee (Record′.row .written))) l₂₁ (vptr b·register o·register) (holds (sliceTy (tyRef erased mut (pointee (u32 .written)))) l₂₀ (sliceVal (b·nodes, o·nodes) (length nodes)) (holds (tyRef erased mut (pointee (u32 .written))) l₁₉ (vptr b·nodes o·nodes) (holds (sliceTy (tyRef erased mut (pointee (u8 .written)))) l₁₈ (sliceVal (b·pages, o·pages) (length pages)) (holds (tyRef erased mut (pointee (u8 .written))) l₁₇ (vptr b·pages o·pages) (holds (sliceTy (tyRef erased mut (pointee (u8 .written)))) l₁₆ (sliceVal (b·line, o·line) (length line)) (holds (tyRef erased mut (pointee (u8 .written))) l₁₅ (vptr b·line o·line) (holds (sliceTy (tyRef erased imm (pointee (u8 .written)))) l₁₄ (sliceVal (l₆, 0) r1) (holds (tyRef erased imm (tyArray (pointee (u8 .written)) 4096)) l₁₃ (vptr l₆ 0) (holds (sliceTy (tyRef erased mut (pointee (u8 .written)))) l₁₂ (sliceVal (l₆, 0) 4096) (holds (tyRef erased mut (tyArray (pointee (u8 .written)) 4096)) l₁₁ (vptr l₆ 0) (holds tyBool l₁₀ (vbool (eqb r1 0)) (holds (tyInt w64) l₉ (vint w64 r1) (holds (tyInt w64) l₈ (vint w64 v8) (holds (tyAt (code.function .locals) 7) l₇ (Place′.mach r2) (‵ (fdies (tyAt (code.function .locals) 6) l₆) ∷ holds (sliceTy (tyRef (named 3) mut (pointee (Record′.row .written)))) l₅ (sliceVal (b·register, o·register) (length register)) (holds (sliceTy (tyRef (named 2) mut (pointee (u32 .written)))) l₄ (sliceVal (b·nodes, o·nodes) (length nodes)) (holds (sliceTy (tyRef (named 1) mut (pointee (u8 .written)))) l₃ (sliceVal (b·pages, o·pages) (length pages)) (holds (sliceTy (tyRef (named 0) mut (pointee (u8 .written)))) l₂ (sliceVal (b·line, o·line) (length line)) (empty (tyAt (code.function .locals) 1) l₁ (empty (tyAt (code.function .locals) 0) l₀ [])))))))))))))))))))))) $
+        move ! (8 ∷ 9 ∷ []) $ lend-part-shr ! tt u8 (ν·arr6 ∷ []) fullShare l₆ 0 γ·arr6 4096 arr6₁ r1 (f·1 .1 .1 .1 .1 .1 .1 .0 ∙ sym same·1-arr6) (Facts.part-1 x-from text pages nodes register ok·x-from (room·text .0) (room·pages .0) (room·nodes .0) (room·register .0) arr6 made·arr6 count·arr6 v7 v8 text-now pages-now nodes-now register-now arr6-now (f·1 .0) ((f·1 .1 .0) .1) (f·1 .1 .1 .0) (f·1 .1 .1 .1 .0) (f·1 .1 .1 .1 .1 .0) (f·1 .1 .1 .1 .1 .1 .0) (f·1 .1 .1 .1 .1 .1 .1 .0) (f·1 .1 .1 .1 .1 .1 .1 .1) (is-true (ltb 0 v8) h·1) (ltb→lt 0 v8 h·1) r1 arr6₁ (ok·1 .1) same·1-arr6 says·1 (is-false (eqb r1 0) h·2) (above-0 r1 h·2)) (λ ν·2-arr6 γ·2-arr6. move ! (3 ∷ 4 ∷ []) $ lend-mut ! tt u8 κ·text q·text b·text o·text γ·text (length text) text-now (f·1 .1 .1 .0) (λ ν·2-text γ·2-text. move ! (6 ∷ 7 ∷ []) $ lend-mut ! tt u8 κ·pages q·pages b·pages o·pages γ·pages (length pages) pages-now (f·1 .1 .1 .1 .0) (λ ν·2-pages γ·2-pages. move ! (9 ∷ 10 ∷ []) $ lend-mut ! tt u32 κ·nodes q·nodes b·nodes o·nodes γ·nodes (length nodes) nodes-now (f·1 .1 .1 .1 .1 .0) (λ ν·2-nodes γ·2-nodes. move ! (12 ∷ 13 ∷ []) $ lend-mut ! tt Record′.row κ·register q·register b·register o·register γ·register (length register) register-now (f·1 .1 .1 .1 .1 .1 .0) (λ ν·2-register γ·2-register. move ! (12 ∷ 13 ∷ 9 ∷ 10 ∷ 6 ∷ 7 ∷ 3 ∷ 4 ∷ 0 ∷ 1 ∷ []) $
+        Call-take-block.calls ! mem run (fmOf 𝓤 H (W .laws) 𝓣) known-take-block v7 (ν·2-arr6 ∷ []) fullShare l₆ 0 γ·2-arr6 r1 (take r1 arr6₁) (ν·2-text ∷ []) fullShare b·text o·text γ·2-text (length text) text-now (ν·2-pages ∷ []) fullShare b·pages o·pages γ·2-pages (length pages) pages-now (ν·2-nodes ∷ []) fullShare b·nodes o·nodes γ·2-nodes (length nodes) nodes-now (ν·2-register ∷ []) fullShare b·register o·register γ·2-register (length register) register-now (f·1 .0) (and-then ! (load ! (from ! (stop !)) (look ! 38 refl)) (and-then ! (load ! (from ! (stop !)) (look ! 24 refl)) (and-then ! (load ! (from ! (stop !)) (look ! 20 refl)) (and-then ! (load ! (from ! (stop !)) (look ! 16 refl)) (and-then ! (load ! (from ! (stop !)) (look ! 12 refl)) (and-then ! (load ! (from ! (stop !)) (look ! 8 refl)) (no-more !)))))))
+        (λ r2 text₂ pages₂ nodes₂ register₂ ok·2 same·2-text same·2-pages same·2-nodes same·2-register. move ! (0 ∷ 1 ∷ 14 ∷ []) $ back-part-shr ! tt u8 (ν·arr6 ∷ []) fullShare l₆ 0 γ·arr6 4096 arr6₁ r1 ν·2-arr6 (f·1 .1 .1 .1 .1 .1 .1 .0 ∙ sym same·1-arr6) room·arr6 $ move ! (2 ∷ 3 ∷ 13 ∷ []) $ back-mut ! tt u8 κ·text q·text b·text o·text γ·text (length text) text-now text₂ ν·2-text γ·2-text (f·1 .1 .1 .0) same·2-text room·text $ move ! (4 ∷ 5 ∷ 12 ∷ []) $ back-mut ! tt u8 κ·pages q·pages b·pages o·pages γ·pages (length pages) pages-now pages₂ ν·2-pages γ·2-pages (f·1 .1 .1 .1 .0) same·2-pages room·pages $ move ! (6 ∷ 7 ∷ 11 ∷ []) $ back-mut ! tt u32 κ·nodes q·nodes b·nodes o·nodes γ·nodes (length nodes) nodes-now nodes₂ ν·2-nodes γ·2-nodes (f·1 .1 .1 .1 .1 .0) same·2-nodes room·nodes $ move ! (8 ∷ 9 ∷ 10 ∷ []) $ back-mut ! tt Record′.row κ·register q·register b·register o·register γ·register (length register) register-now register₂ ν·2-register γ·2-register (f·1 .1 .1 .1 .1 .1 .0) same·2-register room·register $ move ! (6 ∷ 7 ∷ 4 ∷ 5 ∷ 2 ∷ 3 ∷ 0 ∷ 1 ∷ 8 ∷ 9 ∷ 10 ∷ []) $ land ! (from ! (stop !)) (store ! 41 refl (Place′.typed 𝓤 H A W r2 ok·2)) $
+        here ! (‵ (flft κ·text q·text) ∷ ‵ (MutAt u8 κ·text b·text o·text γ·text (length text) text₂) ∷ ‵ (flft κ·pages q·pages) ∷ ‵ (MutAt u8 κ·pages b·pages o·pages γ·pages (length pages) pages₂) ∷ ‵ (flft κ·nodes q·nodes) ∷ ‵ (MutAt u32 κ·nodes b·nodes o·nodes γ·nodes (length nodes) nodes₂) ∷ ‵ (flft κ·register q·register) ∷ ‵ (MutAt Record′.row κ·register b·register o·register γ·register (length register) register₂) ∷ ‵ (flft (ν·arr6 ∷ []) fullShare) ∷ ‵ (MutAt u8 (ν·arr6 ∷ []) l₆ 0 γ·arr6 4096 arr6₁) ∷ ‵ (flent (ν·arr6 ∷ []) (Held u8 4096 l₆ 0 γ·arr6)) ∷ holds (sliceTy (tyRef erased mut (pointee (Record′.row .written)))) l₂₂ (sliceVal (b·register, o·register) (length register)) (holds (tyRef erased mut (pointee (Record′.row .written))) l₂₁ (vptr b·register o·register) (holds (sliceTy (tyRef erased mut (pointee (u32 .written)))) l₂₀ (sliceVal (b·nodes, o·nodes) (length nodes)) (holds (tyRef erased mut (pointee (u32 .written))) l₁₉ (vptr b·nodes o·nodes) (holds (sliceTy (tyRef erased mut (pointee (u8 .written)))) l₁₈ (sliceVal (b·pages, o·pages) (length pages)) (holds (tyRef erased mut (pointee (u8 .written))) l₁₇ (vptr b·pages o·pages) (holds (sliceTy (tyRef erased mut (pointee (u8 .written)))) l₁₆ (sliceVal (b·text, o·text) (length text)) (holds (tyRef erased mut (pointee (u8 .written))) l₁₅ (vptr b·text o·text) (holds (sliceTy (tyRef erased imm (pointee (u8 .written)))) l₁₄ (sliceVal (l₆, 0) r1) (holds (tyRef erased imm (tyArray (pointee (u8 .written)) 4096)) l₁₃ (vptr l₆ 0) (holds (sliceTy (tyRef erased mut (pointee (u8 .written)))) l₁₂ (sliceVal (l₆, 0) 4096) (holds (tyRef erased mut (tyArray (pointee (u8 .written)) 4096)) l₁₁ (vptr l₆ 0) (holds tyBool l₁₀ (vbool (eqb r1 0)) (holds (tyInt w64) l₉ (vint w64 r1) (holds (tyInt w64) l₈ (vint w64 v8) (holds (tyAt (code.function .locals) 7) l₇ (Place′.mach r2) (‵ (fdies (tyAt (code.function .locals) 6) l₆) ∷ holds (sliceTy (tyRef (named 3) mut (pointee (Record′.row .written)))) l₅ (sliceVal (b·register, o·register) (length register)) (holds (sliceTy (tyRef (named 2) mut (pointee (u32 .written)))) l₄ (sliceVal (b·nodes, o·nodes) (length nodes)) (holds (sliceTy (tyRef (named 1) mut (pointee (u8 .written)))) l₃ (sliceVal (b·pages, o·pages) (length pages)) (holds (sliceTy (tyRef (named 0) mut (pointee (u8 .written)))) l₂ (sliceVal (b·text, o·text) (length text)) (empty (tyAt (code.function .locals) 1) l₁ (empty (tyAt (code.function .locals) 0) l₀ [])))))))))))))))))))))) $
         assigns ! (of-opd ! (load ! (from ! (fld ! refl (stop !))) (look-in ! 41 (sub ! 2 refl (whole !))))) (from ! (stop !)) (store ! 35 refl (tt, tt)) $
         branches-on ! (load ! (from ! (stop !)) (look ! 35 refl))
         (λ h·3. regroup ! $
         assigns ! (of-opd ! (load ! (from ! (stop !)) (look ! 41 refl))) (from ! (stop !)) (init ! 54 refl (Place′.typed 𝓤 H A W r2 ok·2)) $
         move ! (8 ∷ 9 ∷ 10 ∷ []) $ empties ! tt u8 4096 l₆ γ·arr6 arr6₁ ν·arr6 $ move ! (1 ∷ 2 ∷ 3 ∷ 4 ∷ 5 ∷ 6 ∷ 7 ∷ 8 ∷ 9 ∷ 10 ∷ 11 ∷ 12 ∷ 13 ∷ 14 ∷ 15 ∷ 16 ∷ 17 ∷ 18 ∷ 19 ∷ 20 ∷ 21 ∷ 22 ∷ 23 ∷ 24 ∷ 25 ∷ 26 ∷ 27 ∷ 28 ∷ 29 ∷ 30 ∷ 31 ∷ 32 ∷ 33 ∷ 34 ∷ 35 ∷ 36 ∷ 37 ∷ 38 ∷ 39 ∷ 40 ∷ 0 ∷ 41 ∷ 42 ∷ 43 ∷ 44 ∷ 45 ∷ 46 ∷ 47 ∷ 48 ∷ 49 ∷ 50 ∷ 51 ∷ 52 ∷ 53 ∷ []) $
         first ! $ returns-within ! Post refl (look ! 52 refl) $
-        move ! (52 ∷ 53 ∷ []) $ forget ! 0 refl $ free1 ! $ move ! (50 ∷ 51 ∷ []) $ free1 ! $ move ! (48 ∷ 49 ∷ []) $ forget ! 0 refl $ free1 ! $ move ! (46 ∷ 47 ∷ []) $ forget ! 0 refl $ free1 ! $ move ! (44 ∷ 45 ∷ []) $ forget ! 0 refl $ free1 ! $ move ! (42 ∷ 43 ∷ []) $ forget ! 0 refl $ free1 ! $ move ! (40 ∷ 41 ∷ []) $ free1 ! $ move ! (38 ∷ 39 ∷ []) $ forget ! 0 refl $ free1 ! $ move ! (36 ∷ 37 ∷ []) $ forget ! 0 refl $ free1 ! $ move ! (34 ∷ 35 ∷ []) $ forget ! 0 refl $ free1 ! $ move ! (32 ∷ 33 ∷ []) $ forget ! 0 refl $ free1 ! $ move ! (30 ∷ 31 ∷ []) $ forget ! 0 refl $ free1 ! $ move ! (28 ∷ 29 ∷ []) $ forget ! 0 refl $ free1 ! $ move ! (26 ∷ 27 ∷ []) $ forget ! 0 refl $ free1 ! $ move ! (24 ∷ 25 ∷ []) $ forget ! 0 refl $ free1 ! $ move ! (22 ∷ 23 ∷ []) $ forget ! 0 refl $ free1 ! $ move ! (20 ∷ 21 ∷ []) $ forget ! 0 refl $ free1 ! $ move ! (18 ∷ 19 ∷ []) $ forget ! 0 refl $ free1 ! $ move ! (16 ∷ 17 ∷ []) $ forget ! 0 refl $ free1 ! $ move ! (14 ∷ 15 ∷ []) $ forget ! 0 refl $ free1 ! $ move ! (12 ∷ 13 ∷ []) $ forget ! 0 refl $ free1 ! $ move ! (10 ∷ 11 ∷ []) $ forget ! 0 refl $ free1 ! $ move ! (8 ∷ 9 ∷ []) $ forget ! 0 refl $ free1 ! $ free0 ! $ by ! (exits r2 ok·2 line₂ (sym (f·1 .1 .1 .0 ∙ sym same·2-line)) pages₂ (sym (f·1 .1 .1 .1 .0 ∙ sym same·2-pages)) nodes₂ (sym (f·1 .1 .1 .1 .1 .0 ∙ sym same·2-nodes)) register₂ (sym (f·1 .1 .1 .1 .1 .1 .0 ∙ sym same·2-register))))
-        (λ h·3. skips-on ! $ assigns-last ! (bin ! (load ! (from ! (stop !)) (look ! 39 refl)) (lit ! tt) (Facts.sub-1 x-from line pages nodes register ok·x-from (room·line .0) (room·pages .0) (room·nodes .0) (room·register .0) arr6 made·arr6 count·arr6 v7 v8 line-now pages-now nodes-now register-now arr6-now (f·1 .0) ((f·1 .1 .0) .1) (f·1 .1 .1 .0) (f·1 .1 .1 .1 .0) (f·1 .1 .1 .1 .1 .0) (f·1 .1 .1 .1 .1 .1 .0) (f·1 .1 .1 .1 .1 .1 .1 .0) (f·1 .1 .1 .1 .1 .1 .1 .1) (is-true (ltb 0 v8) h·1) (ltb→lt 0 v8 h·1) r1 arr6₁ (ok·1 .1) same·1-arr6 says·1 (is-false (eqb r1 0) h·2) (above-0 r1 h·2) (Facts.part-1 x-from line pages nodes register ok·x-from (room·line .0) (room·pages .0) (room·nodes .0) (room·register .0) arr6 made·arr6 count·arr6 v7 v8 line-now pages-now nodes-now register-now arr6-now (f·1 .0) ((f·1 .1 .0) .1) (f·1 .1 .1 .0) (f·1 .1 .1 .1 .0) (f·1 .1 .1 .1 .1 .0) (f·1 .1 .1 .1 .1 .1 .0) (f·1 .1 .1 .1 .1 .1 .1 .0) (f·1 .1 .1 .1 .1 .1 .1 .1) (is-true (ltb 0 v8) h·1) (ltb→lt 0 v8 h·1) r1 arr6₁ (ok·1 .1) same·1-arr6 says·1 (is-false (eqb r1 0) h·2) (above-0 r1 h·2)) (length-take-le r1 arr6₁ (Facts.part-1 x-from line pages nodes register ok·x-from (room·line .0) (room·pages .0) (room·nodes .0) (room·register .0) arr6 made·arr6 count·arr6 v7 v8 line-now pages-now nodes-now register-now arr6-now (f·1 .0) ((f·1 .1 .0) .1) (f·1 .1 .1 .0) (f·1 .1 .1 .1 .0) (f·1 .1 .1 .1 .1 .0) (f·1 .1 .1 .1 .1 .1 .0) (f·1 .1 .1 .1 .1 .1 .1 .0) (f·1 .1 .1 .1 .1 .1 .1 .1) (is-true (ltb 0 v8) h·1) (ltb→lt 0 v8 h·1) r1 arr6₁ (ok·1 .1) same·1-arr6 says·1 (is-false (eqb r1 0) h·2) (above-0 r1 h·2))) r2 line₂ pages₂ nodes₂ register₂ ok·2 same·2-line same·2-pages same·2-nodes same·2-register (is-false (r2 .ended) h·3))) (from ! (stop !)) (store ! 39 refl (tt, record { fits = less-fits v8 1 (2 ^ 64) ((f·1 .1 .0) .1) })) $
+        move ! (52 ∷ 53 ∷ []) $ forget ! 0 refl $ free1 ! $ move ! (50 ∷ 51 ∷ []) $ free1 ! $ move ! (48 ∷ 49 ∷ []) $ forget ! 0 refl $ free1 ! $ move ! (46 ∷ 47 ∷ []) $ forget ! 0 refl $ free1 ! $ move ! (44 ∷ 45 ∷ []) $ forget ! 0 refl $ free1 ! $ move ! (42 ∷ 43 ∷ []) $ forget ! 0 refl $ free1 ! $ move ! (40 ∷ 41 ∷ []) $ free1 ! $ move ! (38 ∷ 39 ∷ []) $ forget ! 0 refl $ free1 ! $ move ! (36 ∷ 37 ∷ []) $ forget ! 0 refl $ free1 ! $ move ! (34 ∷ 35 ∷ []) $ forget ! 0 refl $ free1 ! $ move ! (32 ∷ 33 ∷ []) $ forget ! 0 refl $ free1 ! $ move ! (30 ∷ 31 ∷ []) $ forget ! 0 refl $ free1 ! $ move ! (28 ∷ 29 ∷ []) $ forget ! 0 refl $ free1 ! $ move ! (26 ∷ 27 ∷ []) $ forget ! 0 refl $ free1 ! $ move ! (24 ∷ 25 ∷ []) $ forget ! 0 refl $ free1 ! $ move ! (22 ∷ 23 ∷ []) $ forget ! 0 refl $ free1 ! $ move ! (20 ∷ 21 ∷ []) $ forget ! 0 refl $ free1 ! $ move ! (18 ∷ 19 ∷ []) $ forget ! 0 refl $ free1 ! $ move ! (16 ∷ 17 ∷ []) $ forget ! 0 refl $ free1 ! $ move ! (14 ∷ 15 ∷ []) $ forget ! 0 refl $ free1 ! $ move ! (12 ∷ 13 ∷ []) $ forget ! 0 refl $ free1 ! $ move ! (10 ∷ 11 ∷ []) $ forget ! 0 refl $ free1 ! $ move ! (8 ∷ 9 ∷ []) $ forget ! 0 refl $ free1 ! $ free0 ! $ by ! (exits r2 ok·2 text₂ (sym (f·1 .1 .1 .0 ∙ sym same·2-text)) pages₂ (sym (f·1 .1 .1 .1 .0 ∙ sym same·2-pages)) nodes₂ (sym (f·1 .1 .1 .1 .1 .0 ∙ sym same·2-nodes)) register₂ (sym (f·1 .1 .1 .1 .1 .1 .0 ∙ sym same·2-register))))
+        (λ h·3. skips-on ! $ assigns-last ! (bin ! (load ! (from ! (stop !)) (look ! 39 refl)) (lit ! tt) (Facts.sub-1 x-from text pages nodes register ok·x-from (room·text .0) (room·pages .0) (room·nodes .0) (room·register .0) arr6 made·arr6 count·arr6 v7 v8 text-now pages-now nodes-now register-now arr6-now (f·1 .0) ((f·1 .1 .0) .1) (f·1 .1 .1 .0) (f·1 .1 .1 .1 .0) (f·1 .1 .1 .1 .1 .0) (f·1 .1 .1 .1 .1 .1 .0) (f·1 .1 .1 .1 .1 .1 .1 .0) (f·1 .1 .1 .1 .1 .1 .1 .1) (is-true (ltb 0 v8) h·1) (ltb→lt 0 v8 h·1) r1 arr6₁ (ok·1 .1) same·1-arr6 says·1 (is-false (eqb r1 0) h·2) (above-0 r1 h·2) (Facts.part-1 x-from text pages nodes register ok·x-from (room·text .0) (room·pages .0) (room·nodes .0) (room·register .0) arr6 made·arr6 count·arr6 v7 v8 text-now pages-now nodes-now register-now arr6-now (f·1 .0) ((f·1 .1 .0) .1) (f·1 .1 .1 .0) (f·1 .1 .1 .1 .0) (f·1 .1 .1 .1 .1 .0) (f·1 .1 .1 .1 .1 .1 .0) (f·1 .1 .1 .1 .1 .1 .1 .0) (f·1 .1 .1 .1 .1 .1 .1 .1) (is-true (ltb 0 v8) h·1) (ltb→lt 0 v8 h·1) r1 arr6₁ (ok·1 .1) same·1-arr6 says·1 (is-false (eqb r1 0) h·2) (above-0 r1 h·2)) (length-take-le r1 arr6₁ (Facts.part-1 x-from text pages nodes register ok·x-from (room·text .0) (room·pages .0) (room·nodes .0) (room·register .0) arr6 made·arr6 count·arr6 v7 v8 text-now pages-now nodes-now register-now arr6-now (f·1 .0) ((f·1 .1 .0) .1) (f·1 .1 .1 .0) (f·1 .1 .1 .1 .0) (f·1 .1 .1 .1 .1 .0) (f·1 .1 .1 .1 .1 .1 .0) (f·1 .1 .1 .1 .1 .1 .1 .0) (f·1 .1 .1 .1 .1 .1 .1 .1) (is-true (ltb 0 v8) h·1) (ltb→lt 0 v8 h·1) r1 arr6₁ (ok·1 .1) same·1-arr6 says·1 (is-false (eqb r1 0) h·2) (above-0 r1 h·2))) r2 text₂ pages₂ nodes₂ register₂ ok·2 same·2-text same·2-pages same·2-nodes same·2-register (is-false (r2 .ended) h·3))) (from ! (stop !)) (store ! 39 refl (tt, record { fits = less-fits v8 1 (2 ^ 64) ((f·1 .1 .0) .1) })) $
         forget ! 37 refl $ forget ! 35 refl $ forget ! 33 refl $ forget ! 31 refl $ forget ! 29 refl $ forget ! 27 refl $ forget ! 25 refl $ forget ! 23 refl $ forget ! 21 refl $ forget ! 19 refl $ forget ! 17 refl $ forget ! 15 refl $ forget ! 13 refl $ forget ! 11 refl $
-        use0 W (raw (fact 𝓤 ((Is Place′.row r2 (Place′.vals r2)) × ((Is u64 (v8 - 1) (uint-vals w64 (v8 - 1))) × ((length line ≡ length line₂) × ((length pages ≡ length pages₂) × ((length nodes ≡ length nodes₂) × ((length register ≡ length register₂) × ((4096 ≡ length arr6₁) × (Loop.inv-1 x-from line pages nodes register arr6 r2 (v8 - 1) line₂ pages₂ nodes₂ register₂ arr6₁)))))))))) (factI 𝓤 _ (emp 𝓤) (ok·2, ((refl, less-fits v8 1 (2 ^ 64) ((f·1 .1 .0) .1)), ((f·1 .1 .1 .0 ∙ sym same·2-line), ((f·1 .1 .1 .1 .0 ∙ sym same·2-pages), ((f·1 .1 .1 .1 .1 .0 ∙ sym same·2-nodes), ((f·1 .1 .1 .1 .1 .1 .0 ∙ sym same·2-register), ((f·1 .1 .1 .1 .1 .1 .1 .0 ∙ sym same·1-arr6), Facts.again-1 x-from line pages nodes register ok·x-from (room·line .0) (room·pages .0) (room·nodes .0) (room·register .0) arr6 made·arr6 count·arr6 v7 v8 line-now pages-now nodes-now register-now arr6-now (f·1 .0) ((f·1 .1 .0) .1) (f·1 .1 .1 .0) (f·1 .1 .1 .1 .0) (f·1 .1 .1 .1 .1 .0) (f·1 .1 .1 .1 .1 .1 .0) (f·1 .1 .1 .1 .1 .1 .1 .0) (f·1 .1 .1 .1 .1 .1 .1 .1) (is-true (ltb 0 v8) h·1) (ltb→lt 0 v8 h·1) r1 arr6₁ (ok·1 .1) same·1-arr6 says·1 (is-false (eqb r1 0) h·2) (above-0 r1 h·2) (Facts.part-1 x-from line pages nodes register ok·x-from (room·line .0) (room·pages .0) (room·nodes .0) (room·register .0) arr6 made·arr6 count·arr6 v7 v8 line-now pages-now nodes-now register-now arr6-now (f·1 .0) ((f·1 .1 .0) .1) (f·1 .1 .1 .0) (f·1 .1 .1 .1 .0) (f·1 .1 .1 .1 .1 .0) (f·1 .1 .1 .1 .1 .1 .0) (f·1 .1 .1 .1 .1 .1 .1 .0) (f·1 .1 .1 .1 .1 .1 .1 .1) (is-true (ltb 0 v8) h·1) (ltb→lt 0 v8 h·1) r1 arr6₁ (ok·1 .1) same·1-arr6 says·1 (is-false (eqb r1 0) h·2) (above-0 r1 h·2)) (length-take-le r1 arr6₁ (Facts.part-1 x-from line pages nodes register ok·x-from (room·line .0) (room·pages .0) (room·nodes .0) (room·register .0) arr6 made·arr6 count·arr6 v7 v8 line-now pages-now nodes-now register-now arr6-now (f·1 .0) ((f·1 .1 .0) .1) (f·1 .1 .1 .0) (f·1 .1 .1 .1 .0) (f·1 .1 .1 .1 .1 .0) (f·1 .1 .1 .1 .1 .1 .0) (f·1 .1 .1 .1 .1 .1 .1 .0) (f·1 .1 .1 .1 .1 .1 .1 .1) (is-true (ltb 0 v8) h·1) (ltb→lt 0 v8 h·1) r1 arr6₁ (ok·1 .1) same·1-arr6 says·1 (is-false (eqb r1 0) h·2) (above-0 r1 h·2))) r2 line₂ pages₂ nodes₂ register₂ ok·2 same·2-line same·2-pages same·2-nodes same·2-register (is-false (r2 .ended) h·3))))))))) $ again ! lesser I (v7, (v8, (line-now, (pages-now, (nodes-now, (register-now, (arr6-now, tt))))))) (r2, (v8 - 1, (line₂, (pages₂, (nodes₂, (register₂, (arr6₁, tt))))))) (Facts.less-1 x-from line pages nodes register ok·x-from (room·line .0) (room·pages .0) (room·nodes .0) (room·register .0) arr6 made·arr6 count·arr6 v7 v8 line-now pages-now nodes-now register-now arr6-now (f·1 .0) ((f·1 .1 .0) .1) (f·1 .1 .1 .0) (f·1 .1 .1 .1 .0) (f·1 .1 .1 .1 .1 .0) (f·1 .1 .1 .1 .1 .1 .0) (f·1 .1 .1 .1 .1 .1 .1 .0) (f·1 .1 .1 .1 .1 .1 .1 .1) (is-true (ltb 0 v8) h·1) (ltb→lt 0 v8 h·1) r1 arr6₁ (ok·1 .1) same·1-arr6 says·1 (is-false (eqb r1 0) h·2) (above-0 r1 h·2) (Facts.part-1 x-from line pages nodes register ok·x-from (room·line .0) (room·pages .0) (room·nodes .0) (room·register .0) arr6 made·arr6 count·arr6 v7 v8 line-now pages-now nodes-now register-now arr6-now (f·1 .0) ((f·1 .1 .0) .1) (f·1 .1 .1 .0) (f·1 .1 .1 .1 .0) (f·1 .1 .1 .1 .1 .0) (f·1 .1 .1 .1 .1 .1 .0) (f·1 .1 .1 .1 .1 .1 .1 .0) (f·1 .1 .1 .1 .1 .1 .1 .1) (is-true (ltb 0 v8) h·1) (ltb→lt 0 v8 h·1) r1 arr6₁ (ok·1 .1) same·1-arr6 says·1 (is-false (eqb r1 0) h·2) (above-0 r1 h·2)) (length-take-le r1 arr6₁ (Facts.part-1 x-from line pages nodes register ok·x-from (room·line .0) (room·pages .0) (room·nodes .0) (room·register .0) arr6 made·arr6 count·arr6 v7 v8 line-now pages-now nodes-now register-now arr6-now (f·1 .0) ((f·1 .1 .0) .1) (f·1 .1 .1 .0) (f·1 .1 .1 .1 .0) (f·1 .1 .1 .1 .1 .0) (f·1 .1 .1 .1 .1 .1 .0) (f·1 .1 .1 .1 .1 .1 .1 .0) (f·1 .1 .1 .1 .1 .1 .1 .1) (is-true (ltb 0 v8) h·1) (ltb→lt 0 v8 h·1) r1 arr6₁ (ok·1 .1) same·1-arr6 says·1 (is-false (eqb r1 0) h·2) (above-0 r1 h·2))) r2 line₂ pages₂ nodes₂ register₂ ok·2 same·2-line same·2-pages same·2-nodes same·2-register (is-false (r2 .ended) h·3)))))))))))))
+        use0 W (raw (fact 𝓤 ((Is Place′.row r2 (Place′.vals r2)) × ((Is u64 (v8 - 1) (uint-vals w64 (v8 - 1))) × ((length text ≡ length text₂) × ((length pages ≡ length pages₂) × ((length nodes ≡ length nodes₂) × ((length register ≡ length register₂) × ((4096 ≡ length arr6₁) × (Loop.inv-1 x-from text pages nodes register arr6 r2 (v8 - 1) text₂ pages₂ nodes₂ register₂ arr6₁)))))))))) (factI 𝓤 _ (emp 𝓤) (ok·2, ((refl, less-fits v8 1 (2 ^ 64) ((f·1 .1 .0) .1)), ((f·1 .1 .1 .0 ∙ sym same·2-text), ((f·1 .1 .1 .1 .0 ∙ sym same·2-pages), ((f·1 .1 .1 .1 .1 .0 ∙ sym same·2-nodes), ((f·1 .1 .1 .1 .1 .1 .0 ∙ sym same·2-register), ((f·1 .1 .1 .1 .1 .1 .1 .0 ∙ sym same·1-arr6), Facts.again-1 x-from text pages nodes register ok·x-from (room·text .0) (room·pages .0) (room·nodes .0) (room·register .0) arr6 made·arr6 count·arr6 v7 v8 text-now pages-now nodes-now register-now arr6-now (f·1 .0) ((f·1 .1 .0) .1) (f·1 .1 .1 .0) (f·1 .1 .1 .1 .0) (f·1 .1 .1 .1 .1 .0) (f·1 .1 .1 .1 .1 .1 .0) (f·1 .1 .1 .1 .1 .1 .1 .0) (f·1 .1 .1 .1 .1 .1 .1 .1) (is-true (ltb 0 v8) h·1) (ltb→lt 0 v8 h·1) r1 arr6₁ (ok·1 .1) same·1-arr6 says·1 (is-false (eqb r1 0) h·2) (above-0 r1 h·2) (Facts.part-1 x-from text pages nodes register ok·x-from (room·text .0) (room·pages .0) (room·nodes .0) (room·register .0) arr6 made·arr6 count·arr6 v7 v8 text-now pages-now nodes-now register-now arr6-now (f·1 .0) ((f·1 .1 .0) .1) (f·1 .1 .1 .0) (f·1 .1 .1 .1 .0) (f·1 .1 .1 .1 .1 .0) (f·1 .1 .1 .1 .1 .1 .0) (f·1 .1 .1 .1 .1 .1 .1 .0) (f·1 .1 .1 .1 .1 .1 .1 .1) (is-true (ltb 0 v8) h·1) (ltb→lt 0 v8 h·1) r1 arr6₁ (ok·1 .1) same·1-arr6 says·1 (is-false (eqb r1 0) h·2) (above-0 r1 h·2)) (length-take-le r1 arr6₁ (Facts.part-1 x-from text pages nodes register ok·x-from (room·text .0) (room·pages .0) (room·nodes .0) (room·register .0) arr6 made·arr6 count·arr6 v7 v8 text-now pages-now nodes-now register-now arr6-now (f·1 .0) ((f·1 .1 .0) .1) (f·1 .1 .1 .0) (f·1 .1 .1 .1 .0) (f·1 .1 .1 .1 .1 .0) (f·1 .1 .1 .1 .1 .1 .0) (f·1 .1 .1 .1 .1 .1 .1 .0) (f·1 .1 .1 .1 .1 .1 .1 .1) (is-true (ltb 0 v8) h·1) (ltb→lt 0 v8 h·1) r1 arr6₁ (ok·1 .1) same·1-arr6 says·1 (is-false (eqb r1 0) h·2) (above-0 r1 h·2))) r2 text₂ pages₂ nodes₂ register₂ ok·2 same·2-text same·2-pages same·2-nodes same·2-register (is-false (r2 .ended) h·3))))))))) $ again ! lesser I (v7, (v8, (text-now, (pages-now, (nodes-now, (register-now, (arr6-now, tt))))))) (r2, (v8 - 1, (text₂, (pages₂, (nodes₂, (register₂, (arr6₁, tt))))))) (Facts.less-1 x-from text pages nodes register ok·x-from (room·text .0) (room·pages .0) (room·nodes .0) (room·register .0) arr6 made·arr6 count·arr6 v7 v8 text-now pages-now nodes-now register-now arr6-now (f·1 .0) ((f·1 .1 .0) .1) (f·1 .1 .1 .0) (f·1 .1 .1 .1 .0) (f·1 .1 .1 .1 .1 .0) (f·1 .1 .1 .1 .1 .1 .0) (f·1 .1 .1 .1 .1 .1 .1 .0) (f·1 .1 .1 .1 .1 .1 .1 .1) (is-true (ltb 0 v8) h·1) (ltb→lt 0 v8 h·1) r1 arr6₁ (ok·1 .1) same·1-arr6 says·1 (is-false (eqb r1 0) h·2) (above-0 r1 h·2) (Facts.part-1 x-from text pages nodes register ok·x-from (room·text .0) (room·pages .0) (room·nodes .0) (room·register .0) arr6 made·arr6 count·arr6 v7 v8 text-now pages-now nodes-now register-now arr6-now (f·1 .0) ((f·1 .1 .0) .1) (f·1 .1 .1 .0) (f·1 .1 .1 .1 .0) (f·1 .1 .1 .1 .1 .0) (f·1 .1 .1 .1 .1 .1 .0) (f·1 .1 .1 .1 .1 .1 .1 .0) (f·1 .1 .1 .1 .1 .1 .1 .1) (is-true (ltb 0 v8) h·1) (ltb→lt 0 v8 h·1) r1 arr6₁ (ok·1 .1) same·1-arr6 says·1 (is-false (eqb r1 0) h·2) (above-0 r1 h·2)) (length-take-le r1 arr6₁ (Facts.part-1 x-from text pages nodes register ok·x-from (room·text .0) (room·pages .0) (room·nodes .0) (room·register .0) arr6 made·arr6 count·arr6 v7 v8 text-now pages-now nodes-now register-now arr6-now (f·1 .0) ((f·1 .1 .0) .1) (f·1 .1 .1 .0) (f·1 .1 .1 .1 .0) (f·1 .1 .1 .1 .1 .0) (f·1 .1 .1 .1 .1 .1 .0) (f·1 .1 .1 .1 .1 .1 .1 .0) (f·1 .1 .1 .1 .1 .1 .1 .1) (is-true (ltb 0 v8) h·1) (ltb→lt 0 v8 h·1) r1 arr6₁ (ok·1 .1) same·1-arr6 says·1 (is-false (eqb r1 0) h·2) (above-0 r1 h·2))) r2 text₂ pages₂ nodes₂ register₂ ok·2 same·2-text same·2-pages same·2-nodes same·2-register (is-false (r2 .ended) h·3)))))))))))))
         (λ h·1. first ! $ jumps ! $ exec ! (𝓣 .C) (𝓣 .Λ) E parts.t-5 (atRet E Post) $
         assigns ! (of-opd ! (load ! (from ! (stop !)) (look ! 41 refl))) (from ! (stop !)) (init ! 54 refl (Place′.typed 𝓤 H A W v7 (f·1 .0))) $
         move ! (8 ∷ 9 ∷ 10 ∷ []) $ empties ! tt u8 4096 l₆ γ·arr6 arr6-now ν·arr6 $ move ! (1 ∷ 2 ∷ 3 ∷ 4 ∷ 5 ∷ 6 ∷ 7 ∷ 8 ∷ 9 ∷ 10 ∷ 11 ∷ 12 ∷ 13 ∷ 14 ∷ 15 ∷ 16 ∷ 17 ∷ 18 ∷ 19 ∷ 20 ∷ 21 ∷ 22 ∷ 23 ∷ 24 ∷ 25 ∷ 26 ∷ 27 ∷ 28 ∷ 29 ∷ 30 ∷ 31 ∷ 32 ∷ 33 ∷ 34 ∷ 35 ∷ 36 ∷ 37 ∷ 38 ∷ 39 ∷ 40 ∷ 0 ∷ 41 ∷ 42 ∷ 43 ∷ 44 ∷ 45 ∷ 46 ∷ 47 ∷ 48 ∷ 49 ∷ 50 ∷ 51 ∷ 52 ∷ 53 ∷ []) $
         returns ! (look ! 52 refl) $
-        move ! (52 ∷ 53 ∷ []) $ forget ! 0 refl $ free1 ! $ move ! (50 ∷ 51 ∷ []) $ free1 ! $ move ! (48 ∷ 49 ∷ []) $ forget ! 0 refl $ free1 ! $ move ! (46 ∷ 47 ∷ []) $ forget ! 0 refl $ free1 ! $ move ! (44 ∷ 45 ∷ []) $ forget ! 0 refl $ free1 ! $ move ! (42 ∷ 43 ∷ []) $ forget ! 0 refl $ free1 ! $ move ! (40 ∷ 41 ∷ []) $ free1 ! $ move ! (38 ∷ 39 ∷ []) $ forget ! 0 refl $ free1 ! $ move ! (36 ∷ 37 ∷ []) $ forget ! 0 refl $ free1 ! $ move ! (34 ∷ 35 ∷ []) $ free1 ! $ move ! (32 ∷ 33 ∷ []) $ forget ! 0 refl $ free1 ! $ move ! (30 ∷ 31 ∷ []) $ free1 ! $ move ! (28 ∷ 29 ∷ []) $ free1 ! $ move ! (26 ∷ 27 ∷ []) $ free1 ! $ move ! (24 ∷ 25 ∷ []) $ free1 ! $ move ! (22 ∷ 23 ∷ []) $ free1 ! $ move ! (20 ∷ 21 ∷ []) $ free1 ! $ move ! (18 ∷ 19 ∷ []) $ free1 ! $ move ! (16 ∷ 17 ∷ []) $ free1 ! $ move ! (14 ∷ 15 ∷ []) $ free1 ! $ move ! (12 ∷ 13 ∷ []) $ free1 ! $ move ! (10 ∷ 11 ∷ []) $ free1 ! $ move ! (8 ∷ 9 ∷ []) $ free1 ! $ free0 ! $ by ! (exits v7 (f·1 .0) line-now (sym (f·1 .1 .1 .0)) pages-now (sym (f·1 .1 .1 .1 .0)) nodes-now (sym (f·1 .1 .1 .1 .1 .0)) register-now (sym (f·1 .1 .1 .1 .1 .1 .0)))))
+        move ! (52 ∷ 53 ∷ []) $ forget ! 0 refl $ free1 ! $ move ! (50 ∷ 51 ∷ []) $ free1 ! $ move ! (48 ∷ 49 ∷ []) $ forget ! 0 refl $ free1 ! $ move ! (46 ∷ 47 ∷ []) $ forget ! 0 refl $ free1 ! $ move ! (44 ∷ 45 ∷ []) $ forget ! 0 refl $ free1 ! $ move ! (42 ∷ 43 ∷ []) $ forget ! 0 refl $ free1 ! $ move ! (40 ∷ 41 ∷ []) $ free1 ! $ move ! (38 ∷ 39 ∷ []) $ forget ! 0 refl $ free1 ! $ move ! (36 ∷ 37 ∷ []) $ forget ! 0 refl $ free1 ! $ move ! (34 ∷ 35 ∷ []) $ free1 ! $ move ! (32 ∷ 33 ∷ []) $ forget ! 0 refl $ free1 ! $ move ! (30 ∷ 31 ∷ []) $ free1 ! $ move ! (28 ∷ 29 ∷ []) $ free1 ! $ move ! (26 ∷ 27 ∷ []) $ free1 ! $ move ! (24 ∷ 25 ∷ []) $ free1 ! $ move ! (22 ∷ 23 ∷ []) $ free1 ! $ move ! (20 ∷ 21 ∷ []) $ free1 ! $ move ! (18 ∷ 19 ∷ []) $ free1 ! $ move ! (16 ∷ 17 ∷ []) $ free1 ! $ move ! (14 ∷ 15 ∷ []) $ free1 ! $ move ! (12 ∷ 13 ∷ []) $ free1 ! $ move ! (10 ∷ 11 ∷ []) $ free1 ! $ move ! (8 ∷ 9 ∷ []) $ free1 ! $ free0 ! $ by ! (exits v7 (f·1 .0) text-now (sym (f·1 .1 .1 .0)) pages-now (sym (f·1 .1 .1 .1 .0)) nodes-now (sym (f·1 .1 .1 .1 .1 .0)) register-now (sym (f·1 .1 .1 .1 .1 .1 .0)))))
 
-  walk : (𝓣 : Tables 𝓤 H) (known-read-block : Triple 𝓤 (𝓣 .C #read-block) (Call-read-block.Asked 𝓤 H A mem run)) (known-take-block : Triple 𝓤 (𝓣 .C #take-block) (Call-take-block.Asked 𝓤 H A mem run)) → ent 𝓤 (onEntry 𝓤 H A take-all‴.signature (κ·line, (κ·pages, (κ·nodes, (κ·register, tt)))) (q·line, (q·pages, (q·nodes, (q·register, tt)))) all-args all-vals)
-      (WpFn 𝓤 H (𝓣 .C) (𝓣 .Λ) code.function (Place′.mach x-from ∷ sliceVal (b·line, o·line) (length line) ∷ sliceVal (b·pages, o·pages) (length pages) ∷ sliceVal (b·nodes, o·nodes) (length nodes) ∷ sliceVal (b·register, o·register) (length register) ∷ []) Post)
+  walk : (𝓣 : Tables 𝓤 H) (known-read-block : Triple 𝓤 (𝓣 .C #read-block) (Call-read-block.Asked 𝓤 H A mem run)) (known-take-block : Triple 𝓤 (𝓣 .C #take-block) (Call-take-block.Asked 𝓤 H A mem run)) → ent 𝓤 (onEntry 𝓤 H A take-all‴.signature (κ·text, (κ·pages, (κ·nodes, (κ·register, tt)))) (q·text, (q·pages, (q·nodes, (q·register, tt)))) all-args all-vals)
+      (WpFn 𝓤 H (𝓣 .C) (𝓣 .Λ) code.function (Place′.mach x-from ∷ sliceVal (b·text, o·text) (length text) ∷ sliceVal (b·pages, o·pages) (length pages) ∷ sliceVal (b·nodes, o·nodes) (length nodes) ∷ sliceVal (b·register, o·register) (length register) ∷ []) Post)
   walk 𝓣 known-read-block known-take-block =
-      qed W ((‵ (flft κ·line q·line) ⊛ ‵ (flft κ·pages q·pages) ⊛ ‵ (flft κ·nodes q·nodes) ⊛ ‵ (flft κ·register q·register) ⊛ ‵ ftrue) ∷ ‵ (owns (Place′.row ∷ MutSlice (named 0) κ·line u8 ∷ MutSlice (named 0) κ·pages u8 ∷ MutSlice (named 0) κ·nodes u32 ∷ MutSlice (named 0) κ·register Record′.row ∷ []) all-args all-vals) ∷ []) ∵ enter ! (𝓣 .C) (𝓣 .Λ) code.function (Place′.mach x-from ∷ sliceVal (b·line, o·line) (length line) ∷ sliceVal (b·pages, o·pages) (length pages) ∷ sliceVal (b·nodes, o·nodes) (length nodes) ∷ sliceVal (b·register, o·register) (length register) ∷ []) _ $
+      qed W ((‵ (flft κ·text q·text) ⊛ ‵ (flft κ·pages q·pages) ⊛ ‵ (flft κ·nodes q·nodes) ⊛ ‵ (flft κ·register q·register) ⊛ ‵ ftrue) ∷ ‵ (owns (Place′.row ∷ MutSlice (named 0) κ·text u8 ∷ MutSlice (named 0) κ·pages u8 ∷ MutSlice (named 0) κ·nodes u32 ∷ MutSlice (named 0) κ·register Record′.row ∷ []) all-args all-vals) ∷ []) ∵ enter ! (𝓣 .C) (𝓣 .Λ) code.function (Place′.mach x-from ∷ sliceVal (b·text, o·text) (length text) ∷ sliceVal (b·pages, o·pages) (length pages) ∷ sliceVal (b·nodes, o·nodes) (length nodes) ∷ sliceVal (b·register, o·register) (length register) ∷ []) _ $
       alloc1 ! (λ l₀. alloc1 ! (λ l₁. alloc1 ! (λ l₂. alloc1 ! (λ l₃. alloc1 ! (λ l₄. alloc1 ! (λ l₅. alloc1 ! (λ l₆. alloc1 ! (λ l₇. alloc1 ! (λ l₈. alloc1 ! (λ l₉. alloc1 ! (λ l₁₀. alloc1 ! (λ l₁₁. alloc1 ! (λ l₁₂. alloc1 ! (λ l₁₃. alloc1 ! (λ l₁₄. alloc1 ! (λ l₁₅. alloc1 ! (λ l₁₆. alloc1 ! (λ l₁₇. alloc1 ! (λ l₁₈. alloc1 ! (λ l₁₉. alloc1 ! (λ l₂₀. alloc1 ! (λ l₂₁. alloc1 ! (λ l₂₂. alloc0 ! $ params1 ! $
-      pass1 ! (init ! 42 refl (Place′.typed 𝓤 H A W x-from ok·x-from)) $ pass1 ! (init ! 40 refl (tt, (tt, (record { fits = room·line .0 }, tt)))) $ pass1 ! (init ! 38 refl (tt, (tt, (record { fits = room·pages .0 }, tt)))) $ pass1 ! (init ! 36 refl (tt, (tt, (record { fits = room·nodes .0 }, tt)))) $ pass1 ! (init ! 34 refl (tt, (tt, (record { fits = room·register .0 }, tt)))) $ pass0 ! $
+      pass1 ! (init ! 42 refl (Place′.typed 𝓤 H A W x-from ok·x-from)) $ pass1 ! (init ! 40 refl (tt, (tt, (record { fits = room·text .0 }, tt)))) $ pass1 ! (init ! 38 refl (tt, (tt, (record { fits = room·pages .0 }, tt)))) $ pass1 ! (init ! 36 refl (tt, (tt, (record { fits = room·nodes .0 }, tt)))) $ pass1 ! (init ! 34 refl (tt, (tt, (record { fits = room·register .0 }, tt)))) $ pass0 ! $
       move ! (47 ∷ []) $ fsplit ! $ drop ! $ fsplit ! $ move ! (1 ∷ []) $ fsplit ! $ move ! (1 ∷ []) $ fsplit ! $ move ! (1 ∷ []) $ fsplit ! $ move ! (1 ∷ []) $ drop ! $ move ! (50 ∷ []) $ split ! $ move ! (1 ∷ []) $ split ! $ move ! (1 ∷ []) $ split ! $ move ! (1 ∷ []) $ split ! $ move ! (1 ∷ []) $ drop ! $ move ! (3 ∷ 7 ∷ 2 ∷ 6 ∷ 1 ∷ 5 ∷ 0 ∷ 4 ∷ []) $
       move ! (40 ∷ []) $ fills ! u8 (uint-makes 𝓤 H A W w8) (uint-copy 𝓤 H A W w8) tt 4096 0 (vint w8 0) (refl, lit< tt) (tt, record { fits = lit< tt }) (lit< tt, lit< tt) l₆ (lit ! tt) (from ! (stop !)) (λ ν·arr6 γ·arr6 arr6 made·arr6 count·arr6 room·arr6. move ! (3 ∷ 4 ∷ 5 ∷ 6 ∷ 7 ∷ 8 ∷ 9 ∷ 10 ∷ 0 ∷ 1 ∷ 2 ∷ []) $
       assigns ! (of-opd ! (load ! (from ! (stop !)) (look ! 52 refl))) (from ! (stop !)) (init ! 41 refl (Place′.typed 𝓤 H A W x-from ok·x-from)) $
       assigns ! (of-opd ! (neg-lit ! tt)) (from ! (stop !)) (init ! 39 refl (tt, record { fits = lit< tt })) $
-      forget ! 52 refl $ here ! (‵ (flft κ·line q·line) ∷ ‵ (MutAt u8 κ·line b·line o·line γ·line (length line) line) ∷ ‵ (flft κ·pages q·pages) ∷ ‵ (MutAt u8 κ·pages b·pages o·pages γ·pages (length pages) pages) ∷ ‵ (flft κ·nodes q·nodes) ∷ ‵ (MutAt u32 κ·nodes b·nodes o·nodes γ·nodes (length nodes) nodes) ∷ ‵ (flft κ·register q·register) ∷ ‵ (MutAt Record′.row κ·register b·register o·register γ·register (length register) register) ∷ ‵ (flft (ν·arr6 ∷ []) fullShare) ∷ ‵ (MutAt u8 (ν·arr6 ∷ []) l₆ 0 γ·arr6 4096 arr6) ∷ ‵ (flent (ν·arr6 ∷ []) (Held u8 4096 l₆ 0 γ·arr6)) ∷ empty (sliceTy (tyRef erased mut (pointee (Record′.row .written)))) l₂₂ (empty (tyRef erased mut (pointee (Record′.row .written))) l₂₁ (empty (sliceTy (tyRef erased mut (pointee (u32 .written)))) l₂₀ (empty (tyRef erased mut (pointee (u32 .written))) l₁₉ (empty (sliceTy (tyRef erased mut (pointee (u8 .written)))) l₁₈ (empty (tyRef erased mut (pointee (u8 .written))) l₁₇ (empty (sliceTy (tyRef erased mut (pointee (u8 .written)))) l₁₆ (empty (tyRef erased mut (pointee (u8 .written))) l₁₅ (empty (sliceTy (tyRef erased imm (pointee (u8 .written)))) l₁₄ (empty (tyRef erased imm (tyArray (pointee (u8 .written)) 4096)) l₁₃ (empty (sliceTy (tyRef erased mut (pointee (u8 .written)))) l₁₂ (empty (tyRef erased mut (tyArray (pointee (u8 .written)) 4096)) l₁₁ (empty tyBool l₁₀ (empty (tyInt w64) l₉ (holds (tyInt w64) l₈ (vint w64 18446744073709551615) (holds (tyAt (code.function .locals) 7) l₇ (Place′.mach x-from) (‵ (fdies (tyAt (code.function .locals) 6) l₆) ∷ holds (sliceTy (tyRef (named 3) mut (pointee (Record′.row .written)))) l₅ (sliceVal (b·register, o·register) (length register)) (holds (sliceTy (tyRef (named 2) mut (pointee (u32 .written)))) l₄ (sliceVal (b·nodes, o·nodes) (length nodes)) (holds (sliceTy (tyRef (named 1) mut (pointee (u8 .written)))) l₃ (sliceVal (b·pages, o·pages) (length pages)) (holds (sliceTy (tyRef (named 0) mut (pointee (u8 .written)))) l₂ (sliceVal (b·line, o·line) (length line)) (empty (tyAt (code.function .locals) 1) l₁ (empty (tyAt (code.function .locals) 0) l₀ [])))))))))))))))))))))) $
-      first ! $ blocks ! $ use0 W (raw (fact 𝓤 ((Is Place′.row x-from (Place′.vals x-from)) × ((Is u64 18446744073709551615 (uint-vals w64 18446744073709551615)) × ((length line ≡ length line) × ((length pages ≡ length pages) × ((length nodes ≡ length nodes) × ((length register ≡ length register) × ((4096 ≡ length arr6) × (Loop.inv-1 x-from line pages nodes register arr6 x-from 18446744073709551615 line pages nodes register arr6)))))))))) (factI 𝓤 _ (emp 𝓤) (ok·x-from, ((refl, lit< tt), (refl, (refl, (refl, (refl, (count·arr6, Facts.start-1 x-from line pages nodes register ok·x-from (room·line .0) (room·pages .0) (room·nodes .0) (room·register .0) arr6 made·arr6 count·arr6)))))))) $
-      loops ! 𝓣 (lesser 𝓣 known-read-block known-take-block ν·arr6 γ·arr6 arr6 made·arr6 count·arr6 room·arr6 l₀ l₁ l₂ l₃ l₄ l₅ l₆ l₇ l₈ l₉ l₁₀ l₁₁ l₁₂ l₁₃ l₁₄ l₁₅ l₁₆ l₁₇ l₁₈ l₁₉ l₂₀ l₂₁ l₂₂) (falls 𝓣 known-read-block known-take-block ν·arr6 γ·arr6 arr6 made·arr6 count·arr6 room·arr6 l₀ l₁ l₂ l₃ l₄ l₅ l₆ l₇ l₈ l₉ l₁₀ l₁₁ l₁₂ l₁₃ l₁₄ l₁₅ l₁₆ l₁₇ l₁₈ l₁₉ l₂₀ l₂₁ l₂₂) (I 𝓣 known-read-block known-take-block ν·arr6 γ·arr6 arr6 made·arr6 count·arr6 room·arr6 l₀ l₁ l₂ l₃ l₄ l₅ l₆ l₇ l₈ l₉ l₁₀ l₁₁ l₁₂ l₁₃ l₁₄ l₁₅ l₁₆ l₁₇ l₁₈ l₁₉ l₂₀ l₂₁ l₂₂) (λ t. turn 𝓣 known-read-block known-take-block ν·arr6 γ·arr6 arr6 made·arr6 count·arr6 room·arr6 l₀ l₁ l₂ l₃ l₄ l₅ l₆ l₇ l₈ l₉ l₁₀ l₁₁ l₁₂ l₁₃ l₁₄ l₁₅ l₁₆ l₁₇ l₁₈ l₁₉ l₂₀ l₂₁ l₂₂ (t .0) (t .1 .0) (t .1 .1 .0) (t .1 .1 .1 .0) (t .1 .1 .1 .1 .0) (t .1 .1 .1 .1 .1 .0) (t .1 .1 .1 .1 .1 .1 .0)) (x-from, (18446744073709551615, (line, (pages, (nodes, (register, (arr6, tt)))))))))))))))))))))))))))))))
+      forget ! 52 refl $ here ! (‵ (flft κ·text q·text) ∷ ‵ (MutAt u8 κ·text b·text o·text γ·text (length text) text) ∷ ‵ (flft κ·pages q·pages) ∷ ‵ (MutAt u8 κ·pages b·pages o·pages γ·pages (length pages) pages) ∷ ‵ (flft κ·nodes q·nodes) ∷ ‵ (MutAt u32 κ·nodes b·nodes o·nodes γ·nodes (length nodes) nodes) ∷ ‵ (flft κ·register q·register) ∷ ‵ (MutAt Record′.row κ·register b·register o·register γ·register (length register) register) ∷ ‵ (flft (ν·arr6 ∷ []) fullShare) ∷ ‵ (MutAt u8 (ν·arr6 ∷ []) l₆ 0 γ·arr6 4096 arr6) ∷ ‵ (flent (ν·arr6 ∷ []) (Held u8 4096 l₆ 0 γ·arr6)) ∷ empty (sliceTy (tyRef erased mut (pointee (Record′.row .written)))) l₂₂ (empty (tyRef erased mut (pointee (Record′.row .written))) l₂₁ (empty (sliceTy (tyRef erased mut (pointee (u32 .written)))) l₂₀ (empty (tyRef erased mut (pointee (u32 .written))) l₁₉ (empty (sliceTy (tyRef erased mut (pointee (u8 .written)))) l₁₈ (empty (tyRef erased mut (pointee (u8 .written))) l₁₇ (empty (sliceTy (tyRef erased mut (pointee (u8 .written)))) l₁₆ (empty (tyRef erased mut (pointee (u8 .written))) l₁₅ (empty (sliceTy (tyRef erased imm (pointee (u8 .written)))) l₁₄ (empty (tyRef erased imm (tyArray (pointee (u8 .written)) 4096)) l₁₃ (empty (sliceTy (tyRef erased mut (pointee (u8 .written)))) l₁₂ (empty (tyRef erased mut (tyArray (pointee (u8 .written)) 4096)) l₁₁ (empty tyBool l₁₀ (empty (tyInt w64) l₉ (holds (tyInt w64) l₈ (vint w64 18446744073709551615) (holds (tyAt (code.function .locals) 7) l₇ (Place′.mach x-from) (‵ (fdies (tyAt (code.function .locals) 6) l₆) ∷ holds (sliceTy (tyRef (named 3) mut (pointee (Record′.row .written)))) l₅ (sliceVal (b·register, o·register) (length register)) (holds (sliceTy (tyRef (named 2) mut (pointee (u32 .written)))) l₄ (sliceVal (b·nodes, o·nodes) (length nodes)) (holds (sliceTy (tyRef (named 1) mut (pointee (u8 .written)))) l₃ (sliceVal (b·pages, o·pages) (length pages)) (holds (sliceTy (tyRef (named 0) mut (pointee (u8 .written)))) l₂ (sliceVal (b·text, o·text) (length text)) (empty (tyAt (code.function .locals) 1) l₁ (empty (tyAt (code.function .locals) 0) l₀ [])))))))))))))))))))))) $
+      first ! $ blocks ! $ use0 W (raw (fact 𝓤 ((Is Place′.row x-from (Place′.vals x-from)) × ((Is u64 18446744073709551615 (uint-vals w64 18446744073709551615)) × ((length text ≡ length text) × ((length pages ≡ length pages) × ((length nodes ≡ length nodes) × ((length register ≡ length register) × ((4096 ≡ length arr6) × (Loop.inv-1 x-from text pages nodes register arr6 x-from 18446744073709551615 text pages nodes register arr6)))))))))) (factI 𝓤 _ (emp 𝓤) (ok·x-from, ((refl, lit< tt), (refl, (refl, (refl, (refl, (count·arr6, Facts.start-1 x-from text pages nodes register ok·x-from (room·text .0) (room·pages .0) (room·nodes .0) (room·register .0) arr6 made·arr6 count·arr6)))))))) $
+      loops ! 𝓣 (lesser 𝓣 known-read-block known-take-block ν·arr6 γ·arr6 arr6 made·arr6 count·arr6 room·arr6 l₀ l₁ l₂ l₃ l₄ l₅ l₆ l₇ l₈ l₉ l₁₀ l₁₁ l₁₂ l₁₃ l₁₄ l₁₅ l₁₆ l₁₇ l₁₈ l₁₉ l₂₀ l₂₁ l₂₂) (falls 𝓣 known-read-block known-take-block ν·arr6 γ·arr6 arr6 made·arr6 count·arr6 room·arr6 l₀ l₁ l₂ l₃ l₄ l₅ l₆ l₇ l₈ l₉ l₁₀ l₁₁ l₁₂ l₁₃ l₁₄ l₁₅ l₁₆ l₁₇ l₁₈ l₁₉ l₂₀ l₂₁ l₂₂) (I 𝓣 known-read-block known-take-block ν·arr6 γ·arr6 arr6 made·arr6 count·arr6 room·arr6 l₀ l₁ l₂ l₃ l₄ l₅ l₆ l₇ l₈ l₉ l₁₀ l₁₁ l₁₂ l₁₃ l₁₄ l₁₅ l₁₆ l₁₇ l₁₈ l₁₉ l₂₀ l₂₁ l₂₂) (λ t. turn 𝓣 known-read-block known-take-block ν·arr6 γ·arr6 arr6 made·arr6 count·arr6 room·arr6 l₀ l₁ l₂ l₃ l₄ l₅ l₆ l₇ l₈ l₉ l₁₀ l₁₁ l₁₂ l₁₃ l₁₄ l₁₅ l₁₆ l₁₇ l₁₈ l₁₉ l₂₀ l₂₁ l₂₂ (t .0) (t .1 .0) (t .1 .1 .0) (t .1 .1 .1 .0) (t .1 .1 .1 .1 .0) (t .1 .1 .1 .1 .1 .0) (t .1 .1 .1 .1 .1 .1 .0)) (x-from, (18446744073709551615, (text, (pages, (nodes, (register, (arr6, tt)))))))))))))))))))))))))))))))
 
 module _ {M : Type 1} (𝓤 : URA M) (H : Heap 𝓤) (A : Atoms 𝓤) (W : Given 𝓤 H A) (mem : Memory → SProp 𝓤) (run : Routine → Fun 𝓤) where
   walks : (𝓣 : Tables 𝓤 H) → Triple 𝓤 (𝓣 .C #read-block) (Call-read-block.Asked 𝓤 H A mem run) → Triple 𝓤 (𝓣 .C #take-block) (Call-take-block.Asked 𝓤 H A mem run) → Walks 𝓤 H A take-all‴.ended stayed (WpFn 𝓤 H (𝓣 .C) (𝓣 .Λ) code.function) (take-all‴.clauses 𝓤 H A mem run)

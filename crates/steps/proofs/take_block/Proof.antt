@@ -43,25 +43,25 @@ use denote.Triple.Spec.{Meets, tripleOf}
 use denote.Triple.Table.{entered, cited}
 use denote.Triple.Walked.{says, needs, Stays, stay-slice, stay-none-slice, stay-none, walkOf, Walks, ends-at, walked, goes-slice, goes-none-slice, goes-none, walk-meets}
 use Rattle.steps.specs.declared.Place.{Place as Place‴}
-use Rattle.steps.proofs.Walkgen.Kind.Place as Place′
-use Rattle.steps.specs.declared.Kept.{Kept}
-use Rattle.steps.proofs.Walkgen.Kind.Kept as Kept′
+use Rattle.steps.proofs.Generated.Kind.Place as Place′
+use Rattle.answers.specs.declared.Kept.{Kept}
+use Rattle.turns.proofs.Generated.Kind.Kept as Kept′
 use Rattle.versions.specs.declared.Store.{Store}
-use Rattle.versions.proofs.Walkgen.Kind.Store as Store′
+use Rattle.versions.proofs.Generated.Kind.Store as Store′
 use Rattle.tree.specs.declared.Ticket.{Ticket}
-use Rattle.tree.proofs.Walkgen.Kind.Ticket as Ticket′
+use Rattle.register.proofs.Generated.Kind.Ticket as Ticket′
 use Rattle.tree.specs.declared.Version.{Version}
-use Rattle.tree.proofs.Walkgen.Kind.Version as Version′
-use Rattle.lines.specs.declared.Cutter.{Cutter}
-use Rattle.steps.proofs.Walkgen.Kind.Cutter as Cutter′
-use Rattle.tree.specs.declared.Record.{Record}
-use Rattle.tree.proofs.Walkgen.Kind.Record as Record′
+use Rattle.register.proofs.Generated.Kind.Version as Version′
+use Rattle.parse.specs.declared.Cutter.{Cutter}
+use Rattle.steps.proofs.Generated.Kind.Cutter as Cutter′
+use Rattle.register.specs.declared.Record.{Record}
+use Rattle.register.proofs.Generated.Kind.Record as Record′
 use Rattle.tree.specs.declared.PageIndex.{PageIndex}
-use Rattle.tree.proofs.Walkgen.Kind.PageIndex as PageIndex′
-use Rattle.tree.proofs.Walkgen.Flow.{ref, MutAt, ShrAt, lend-mut, back-mut, lend-shr, back-shr, branches-on, regroup, skips-on, returns-on, plus-nothing, holds, empty, less-fits, is-true, is-false, differ, above-0, twice-not, switches-to, switches-last, big-lit, here, blocks-on, resume, scaled-2, scaled-4, scaled-8, opens-shr, shuts-shr, opens-mut, shuts-mut, puts-mut, keeps-shr, fills, empties, tyAt}
-use Rattle.steps.proofs.Walkgen.Say.take_block as take-block″
-use Rattle.steps.proofs.Walkgen.Say.take_byte as take-byte″
-use Rattle.steps.proofs.Walkgen.Call.take_byte as Call-take-byte
+use Rattle.register.proofs.Generated.Kind.PageIndex as PageIndex′
+use Rattle.register.proofs.Generated.Flow.{ref, MutAt, ShrAt, lend-mut, back-mut, lend-shr, back-shr, branches-on, regroup, skips-on, returns-on, plus-nothing, holds, empty, less-fits, is-true, is-false, differ, above-0, twice-not, switches-to, switches-last, big-lit, here, blocks-on, resume, scaled-2, scaled-4, scaled-8, opens-shr, shuts-shr, opens-mut, shuts-mut, puts-mut, keeps-shr, fills, empties, tyAt}
+use Rattle.steps.proofs.Generated.Say.take_block as take-block″
+use Rattle.steps.proofs.Generated.Say.take_byte as take-byte″
+use Rattle.steps.proofs.Generated.Call.take_byte as Call-take-byte
 use Rattle.steps.proofs.take_byte.Symbol as def-take-byte
 use Rattle.steps.proofs.take_byte.Symbol.{name as #take-byte}
 use Rattle.steps.proofs.take_byte.Met as thm-take-byte
@@ -79,22 +79,22 @@ use Rattle.steps.proofs.take_block.Proof.Loop as Loop
 abbrev stayed : Stays (take-block‴.ended .signature .params) (take-block‴.ended .kept)
 stayed = (stay-none (λ _. Place′.row) yes, (stay-none-slice (0 ∷ []) tt (plain (λ _. u8)) yes, (stay-slice (1 ∷ []) tt (plain (λ _. u8)), (stay-slice (2 ∷ []) tt (plain (λ _. u8)), (stay-slice (3 ∷ []) tt (plain (λ _. u32)), (stay-slice (4 ∷ []) tt (plain (λ _. Record′.row)), tt))))))
 
-module _ {M : Type 1} (𝓤 : URA M) (H : Heap 𝓤) (A : Atoms 𝓤) (W : Given 𝓤 H A) (mem : Memory → SProp 𝓤) (run : Routine → Fun 𝓤) (x-from : Place‴) (κ·block : Lft) (q·block : Share) (b·block o·block : ℕ) (γ·block : GName) (block : List ℕ) (κ·line : Lft) (q·line : Share) (b·line o·line : ℕ) (γ·line : GName) (line : List ℕ) (κ·pages : Lft) (q·pages : Share) (b·pages o·pages : ℕ) (γ·pages : GName) (pages : List ℕ) (κ·nodes : Lft) (q·nodes : Share) (b·nodes o·nodes : ℕ) (γ·nodes : GName) (nodes : List ℕ) (κ·register : Lft) (q·register : Share) (b·register o·register : ℕ) (γ·register : GName) (register : List Record) (ok·x-from : Is Place′.row x-from (Place′.vals x-from)) (room·block : Room u8 (length block)) (room·line : Room u8 (length line)) (room·pages : Room u8 (length pages)) (room·nodes : Room u32 (length nodes)) (room·register : Room Record′.row (length register)) where
-  abbrev all-args : Args take-block‴.signature (κ·block, (κ·line, (κ·pages, (κ·nodes, (κ·register, tt)))))
-  all-args = (x-from, (ref b·block o·block γ·block block, (ref b·line o·line γ·line line, (ref b·pages o·pages γ·pages pages, (ref b·nodes o·nodes γ·nodes nodes, (ref b·register o·register γ·register register, tt))))))
+module _ {M : Type 1} (𝓤 : URA M) (H : Heap 𝓤) (A : Atoms 𝓤) (W : Given 𝓤 H A) (mem : Memory → SProp 𝓤) (run : Routine → Fun 𝓤) (x-from : Place‴) (κ·block : Lft) (q·block : Share) (b·block o·block : ℕ) (γ·block : GName) (block : List ℕ) (κ·text : Lft) (q·text : Share) (b·text o·text : ℕ) (γ·text : GName) (text : List ℕ) (κ·pages : Lft) (q·pages : Share) (b·pages o·pages : ℕ) (γ·pages : GName) (pages : List ℕ) (κ·nodes : Lft) (q·nodes : Share) (b·nodes o·nodes : ℕ) (γ·nodes : GName) (nodes : List ℕ) (κ·register : Lft) (q·register : Share) (b·register o·register : ℕ) (γ·register : GName) (register : List Record) (ok·x-from : Is Place′.row x-from (Place′.vals x-from)) (room·block : Room u8 (length block)) (room·text : Room u8 (length text)) (room·pages : Room u8 (length pages)) (room·nodes : Room u32 (length nodes)) (room·register : Room Record′.row (length register)) where
+  abbrev all-args : Args take-block‴.signature (κ·block, (κ·text, (κ·pages, (κ·nodes, (κ·register, tt)))))
+  all-args = (x-from, (ref b·block o·block γ·block block, (ref b·text o·text γ·text text, (ref b·pages o·pages γ·pages pages, (ref b·nodes o·nodes γ·nodes nodes, (ref b·register o·register γ·register register, tt))))))
 
-  abbrev all-vals : Vals take-block‴.signature (κ·block, (κ·line, (κ·pages, (κ·nodes, (κ·register, tt)))))
-  all-vals = (Place′.mach x-from ∷ [], (sliceVal (b·block, o·block) (length block) ∷ [], (sliceVal (b·line, o·line) (length line) ∷ [], (sliceVal (b·pages, o·pages) (length pages) ∷ [], (sliceVal (b·nodes, o·nodes) (length nodes) ∷ [], (sliceVal (b·register, o·register) (length register) ∷ [], tt))))))
+  abbrev all-vals : Vals take-block‴.signature (κ·block, (κ·text, (κ·pages, (κ·nodes, (κ·register, tt)))))
+  all-vals = (Place′.mach x-from ∷ [], (sliceVal (b·block, o·block) (length block) ∷ [], (sliceVal (b·text, o·text) (length text) ∷ [], (sliceVal (b·pages, o·pages) (length pages) ∷ [], (sliceVal (b·nodes, o·nodes) (length nodes) ∷ [], (sliceVal (b·register, o·register) (length register) ∷ [], tt))))))
 
   abbrev bound : walkOf 𝓤 H A take-block‴.ended stayed (take-block‴.clauses 𝓤 H A mem run) .Ghost
-  bound = (((κ·block, (κ·line, (κ·pages, (κ·nodes, (κ·register, tt))))), (q·block, (q·line, (q·pages, (q·nodes, (q·register, tt))))), tt, all-args, all-vals), tt)
+  bound = (((κ·block, (κ·text, (κ·pages, (κ·nodes, (κ·register, tt))))), (q·block, (q·text, (q·pages, (q·nodes, (q·register, tt))))), tt, all-args, all-vals), tt)
 
   abbrev Post : Val → SProp 𝓤
   Post = walkOf 𝓤 H A take-block‴.ended stayed (take-block‴.clauses 𝓤 H A mem run) .post bound
 
-  exits : (r : Place‴) → Is Place′.row r (Place′.vals r) → (zs·line : List ℕ) → length zs·line ≡ length line → (zs·pages : List ℕ) → length zs·pages ≡ length pages → (zs·nodes : List ℕ) → length zs·nodes ≡ length nodes → (zs·register : List Record) → length zs·register ≡ length register → ent 𝓤 (⋆ 𝓤 H A (‵ (flft κ·block q·block) ∷ ‵ (ShrAt u8 κ·block b·block o·block γ·block (length block) block) ∷ ‵ (flft κ·line q·line) ∷ ‵ (MutAt u8 κ·line b·line o·line γ·line (length line) zs·line) ∷ ‵ (flft κ·pages q·pages) ∷ ‵ (MutAt u8 κ·pages b·pages o·pages γ·pages (length pages) zs·pages) ∷ ‵ (flft κ·nodes q·nodes) ∷ ‵ (MutAt u32 κ·nodes b·nodes o·nodes γ·nodes (length nodes) zs·nodes) ∷ ‵ (flft κ·register q·register) ∷ ‵ (MutAt Record′.row κ·register b·register o·register γ·register (length register) zs·register) ∷ [])) (Post (Place′.mach r))
-  exits r ok·r zs·line same·line zs·pages same·pages zs·nodes same·nodes zs·register same·register =
-      qed W (‵ (flft κ·block q·block) ∷ ‵ (ShrAt u8 κ·block b·block o·block γ·block (length block) block) ∷ ‵ (flft κ·line q·line) ∷ ‵ (MutAt u8 κ·line b·line o·line γ·line (length line) zs·line) ∷ ‵ (flft κ·pages q·pages) ∷ ‵ (MutAt u8 κ·pages b·pages o·pages γ·pages (length pages) zs·pages) ∷ ‵ (flft κ·nodes q·nodes) ∷ ‵ (MutAt u32 κ·nodes b·nodes o·nodes γ·nodes (length nodes) zs·nodes) ∷ ‵ (flft κ·register q·register) ∷ ‵ (MutAt Record′.row κ·register b·register o·register γ·register (length register) zs·register) ∷ []) ∵ suffices ! _ (ends-at 𝓤 H A take-block‴.ended stayed (take-block‴.clauses 𝓤 H A mem run) W bound (Place′.mach r) r (tt, (tt, (zs·line, (zs·pages, (zs·nodes, (zs·register, tt)))))) (tt, (tt, (same·line, (same·pages, (same·nodes, (same·register, tt))))))) $ plus-nothing ! $
+  exits : (r : Place‴) → Is Place′.row r (Place′.vals r) → (zs·text : List ℕ) → length zs·text ≡ length text → (zs·pages : List ℕ) → length zs·pages ≡ length pages → (zs·nodes : List ℕ) → length zs·nodes ≡ length nodes → (zs·register : List Record) → length zs·register ≡ length register → ent 𝓤 (⋆ 𝓤 H A (‵ (flft κ·block q·block) ∷ ‵ (ShrAt u8 κ·block b·block o·block γ·block (length block) block) ∷ ‵ (flft κ·text q·text) ∷ ‵ (MutAt u8 κ·text b·text o·text γ·text (length text) zs·text) ∷ ‵ (flft κ·pages q·pages) ∷ ‵ (MutAt u8 κ·pages b·pages o·pages γ·pages (length pages) zs·pages) ∷ ‵ (flft κ·nodes q·nodes) ∷ ‵ (MutAt u32 κ·nodes b·nodes o·nodes γ·nodes (length nodes) zs·nodes) ∷ ‵ (flft κ·register q·register) ∷ ‵ (MutAt Record′.row κ·register b·register o·register γ·register (length register) zs·register) ∷ [])) (Post (Place′.mach r))
+  exits r ok·r zs·text same·text zs·pages same·pages zs·nodes same·nodes zs·register same·register =
+      qed W (‵ (flft κ·block q·block) ∷ ‵ (ShrAt u8 κ·block b·block o·block γ·block (length block) block) ∷ ‵ (flft κ·text q·text) ∷ ‵ (MutAt u8 κ·text b·text o·text γ·text (length text) zs·text) ∷ ‵ (flft κ·pages q·pages) ∷ ‵ (MutAt u8 κ·pages b·pages o·pages γ·pages (length pages) zs·pages) ∷ ‵ (flft κ·nodes q·nodes) ∷ ‵ (MutAt u32 κ·nodes b·nodes o·nodes γ·nodes (length nodes) zs·nodes) ∷ ‵ (flft κ·register q·register) ∷ ‵ (MutAt Record′.row κ·register b·register o·register γ·register (length register) zs·register) ∷ []) ∵ suffices ! _ (ends-at 𝓤 H A take-block‴.ended stayed (take-block‴.clauses 𝓤 H A mem run) W bound (Place′.mach r) r (tt, (tt, (zs·text, (zs·pages, (zs·nodes, (zs·register, tt)))))) (tt, (tt, (same·text, (same·pages, (same·nodes, (same·register, tt))))))) $ plus-nothing ! $
       nothing ! $ move ! (9 ∷ 0 ∷ []) $ join ! $ move ! (7 ∷ 0 ∷ []) $ join ! $ move ! (5 ∷ 0 ∷ []) $ join ! $ move ! (3 ∷ 0 ∷ []) $ join ! $ move ! (1 ∷ 0 ∷ []) $ join ! $ frame ! $ nothing ! $ move ! (5 ∷ 0 ∷ []) $ fjoin ! $ move ! (4 ∷ 0 ∷ []) $ fjoin ! $ move ! (3 ∷ 0 ∷ []) $ fjoin ! $ move ! (2 ∷ 0 ∷ []) $ fjoin ! $ move ! (1 ∷ 0 ∷ []) $ fjoin ! $ owned ! Place′.row (Is Place′.row) (Place′.makes 𝓤 H A) x-from _ ok·x-from $ fjoin ! $ frame ! $ owned ! Place′.row (Is Place′.row) (Place′.makes 𝓤 H A) r _ ok·r $ done !
 
   module _ (𝓣 : Tables 𝓤 H) (known-take-byte : Triple 𝓤 (𝓣 .C #take-byte) (Call-take-byte.Asked 𝓤 H A mem run)) (l₀ l₁ l₂ l₃ l₄ l₅ l₆ l₇ l₈ l₉ l₁₀ l₁₁ l₁₂ l₁₃ l₁₄ l₁₅ l₁₆ l₁₇ l₁₈ l₁₉ l₂₀ l₂₁ : ℕ) where
@@ -105,63 +105,63 @@ module _ {M : Type 1} (𝓤 : URA M) (H : Heap 𝓤) (A : Atoms 𝓤) (W : Given
     Var = Place‴ × (ℕ × ((List ℕ) × ((List ℕ) × ((List ℕ) × ((List Record) × (Unit {0}))))))
 
     abbrev lesser : Var → Var → Type 0
-    lesser t′ t = Loop.measure-1 x-from block line pages nodes register (t′ .0) (t′ .1 .0) (t′ .1 .1 .0) (t′ .1 .1 .1 .0) (t′ .1 .1 .1 .1 .0) (t′ .1 .1 .1 .1 .1 .0) < Loop.measure-1 x-from block line pages nodes register (t .0) (t .1 .0) (t .1 .1 .0) (t .1 .1 .1 .0) (t .1 .1 .1 .1 .0) (t .1 .1 .1 .1 .1 .0)
+    lesser t′ t = Loop.measure-1 x-from block text pages nodes register (t′ .0) (t′ .1 .0) (t′ .1 .1 .0) (t′ .1 .1 .1 .0) (t′ .1 .1 .1 .1 .0) (t′ .1 .1 .1 .1 .1 .0) < Loop.measure-1 x-from block text pages nodes register (t .0) (t .1 .0) (t .1 .1 .0) (t .1 .1 .1 .0) (t .1 .1 .1 .1 .0) (t .1 .1 .1 .1 .1 .0)
 
     falls : WellFounded lesser
-    falls = InvImage·wf (λ (t : Var). Loop.measure-1 x-from block line pages nodes register (t .0) (t .1 .0) (t .1 .1 .0) (t .1 .1 .1 .0) (t .1 .1 .1 .1 .0) (t .1 .1 .1 .1 .1 .0)) (Nat·lt-wfRel .wf)
+    falls = InvImage·wf (λ (t : Var). Loop.measure-1 x-from block text pages nodes register (t .0) (t .1 .0) (t .1 .1 .0) (t .1 .1 .1 .0) (t .1 .1 .1 .1 .0) (t .1 .1 .1 .1 .1 .0)) (Nat·lt-wfRel .wf)
 
     abbrev I : Var → List (Item 𝓤)
-    I t = raw (fact 𝓤 ((Is Place′.row (t .0) (Place′.vals (t .0))) × ((Is u64 (t .1 .0) (uint-vals w64 (t .1 .0))) × ((length line ≡ length (t .1 .1 .0)) × ((length pages ≡ length (t .1 .1 .1 .0)) × ((length nodes ≡ length (t .1 .1 .1 .1 .0)) × ((length register ≡ length (t .1 .1 .1 .1 .1 .0)) × (Loop.inv-1 x-from block line pages nodes register (t .0) (t .1 .0) (t .1 .1 .0) (t .1 .1 .1 .0) (t .1 .1 .1 .1 .0) (t .1 .1 .1 .1 .1 .0))))))))) ∷ ‵ (flft κ·block q·block) ∷ ‵ (ShrAt u8 κ·block b·block o·block γ·block (length block) block) ∷ ‵ (flft κ·line q·line) ∷ ‵ (MutAt u8 κ·line b·line o·line γ·line (length line) (t .1 .1 .0)) ∷ ‵ (flft κ·pages q·pages) ∷ ‵ (MutAt u8 κ·pages b·pages o·pages γ·pages (length pages) (t .1 .1 .1 .0)) ∷ ‵ (flft κ·nodes q·nodes) ∷ ‵ (MutAt u32 κ·nodes b·nodes o·nodes γ·nodes (length nodes) (t .1 .1 .1 .1 .0)) ∷ ‵ (flft κ·register q·register) ∷ ‵ (MutAt Record′.row κ·register b·register o·register γ·register (length register) (t .1 .1 .1 .1 .1 .0)) ∷ empty (sliceTy (tyRef erased mut (pointee (Record′.row .written)))) l₂₁ (empty (tyRef erased mut (pointee (Record′.row .written))) l₂₀ (empty (sliceTy (tyRef erased mut (pointee (u32 .written)))) l₁₉ (empty (tyRef erased mut (pointee (u32 .written))) l₁₈ (empty (sliceTy (tyRef erased mut (pointee (u8 .written)))) l₁₇ (empty (tyRef erased mut (pointee (u8 .written))) l₁₆ (empty (sliceTy (tyRef erased mut (pointee (u8 .written)))) l₁₅ (empty (tyRef erased mut (pointee (u8 .written))) l₁₄ (empty (tyInt w8) l₁₃ (empty tyPtr l₁₂ (empty tyBool l₁₁ (empty (tyInt w64) l₁₀ (empty (tyInt w8) l₉ (holds (tyInt w64) l₈ (vint w64 (t .1 .0)) (holds (tyAt (code.function .locals) 7) l₇ (Place′.mach (t .0)) (holds (sliceTy (tyRef (named 4) mut (pointee (Record′.row .written)))) l₆ (sliceVal (b·register, o·register) (length register)) (holds (sliceTy (tyRef (named 3) mut (pointee (u32 .written)))) l₅ (sliceVal (b·nodes, o·nodes) (length nodes)) (holds (sliceTy (tyRef (named 2) mut (pointee (u8 .written)))) l₄ (sliceVal (b·pages, o·pages) (length pages)) (holds (sliceTy (tyRef (named 1) mut (pointee (u8 .written)))) l₃ (sliceVal (b·line, o·line) (length line)) (holds (sliceTy (tyRef (named 0) imm (pointee (u8 .written)))) l₂ (sliceVal (b·block, o·block) (length block)) (empty (tyAt (code.function .locals) 1) l₁ (empty (tyAt (code.function .locals) 0) l₀ [])))))))))))))))))))))
+    I t = raw (fact 𝓤 ((Is Place′.row (t .0) (Place′.vals (t .0))) × ((Is u64 (t .1 .0) (uint-vals w64 (t .1 .0))) × ((length text ≡ length (t .1 .1 .0)) × ((length pages ≡ length (t .1 .1 .1 .0)) × ((length nodes ≡ length (t .1 .1 .1 .1 .0)) × ((length register ≡ length (t .1 .1 .1 .1 .1 .0)) × (Loop.inv-1 x-from block text pages nodes register (t .0) (t .1 .0) (t .1 .1 .0) (t .1 .1 .1 .0) (t .1 .1 .1 .1 .0) (t .1 .1 .1 .1 .1 .0))))))))) ∷ ‵ (flft κ·block q·block) ∷ ‵ (ShrAt u8 κ·block b·block o·block γ·block (length block) block) ∷ ‵ (flft κ·text q·text) ∷ ‵ (MutAt u8 κ·text b·text o·text γ·text (length text) (t .1 .1 .0)) ∷ ‵ (flft κ·pages q·pages) ∷ ‵ (MutAt u8 κ·pages b·pages o·pages γ·pages (length pages) (t .1 .1 .1 .0)) ∷ ‵ (flft κ·nodes q·nodes) ∷ ‵ (MutAt u32 κ·nodes b·nodes o·nodes γ·nodes (length nodes) (t .1 .1 .1 .1 .0)) ∷ ‵ (flft κ·register q·register) ∷ ‵ (MutAt Record′.row κ·register b·register o·register γ·register (length register) (t .1 .1 .1 .1 .1 .0)) ∷ empty (sliceTy (tyRef erased mut (pointee (Record′.row .written)))) l₂₁ (empty (tyRef erased mut (pointee (Record′.row .written))) l₂₀ (empty (sliceTy (tyRef erased mut (pointee (u32 .written)))) l₁₉ (empty (tyRef erased mut (pointee (u32 .written))) l₁₈ (empty (sliceTy (tyRef erased mut (pointee (u8 .written)))) l₁₇ (empty (tyRef erased mut (pointee (u8 .written))) l₁₆ (empty (sliceTy (tyRef erased mut (pointee (u8 .written)))) l₁₅ (empty (tyRef erased mut (pointee (u8 .written))) l₁₄ (empty (tyInt w8) l₁₃ (empty tyPtr l₁₂ (empty tyBool l₁₁ (empty (tyInt w64) l₁₀ (empty (tyInt w8) l₉ (holds (tyInt w64) l₈ (vint w64 (t .1 .0)) (holds (tyAt (code.function .locals) 7) l₇ (Place′.mach (t .0)) (holds (sliceTy (tyRef (named 4) mut (pointee (Record′.row .written)))) l₆ (sliceVal (b·register, o·register) (length register)) (holds (sliceTy (tyRef (named 3) mut (pointee (u32 .written)))) l₅ (sliceVal (b·nodes, o·nodes) (length nodes)) (holds (sliceTy (tyRef (named 2) mut (pointee (u8 .written)))) l₄ (sliceVal (b·pages, o·pages) (length pages)) (holds (sliceTy (tyRef (named 1) mut (pointee (u8 .written)))) l₃ (sliceVal (b·text, o·text) (length text)) (holds (sliceTy (tyRef (named 0) imm (pointee (u8 .written)))) l₂ (sliceVal (b·block, o·block) (length block)) (empty (tyAt (code.function .locals) 1) l₁ (empty (tyAt (code.function .locals) 0) l₀ [])))))))))))))))))))))
 
     abbrev Left : Out → SProp 𝓤
     Left = afterBlock 𝓤 H (afterSeq 𝓤 H (Wp 𝓤 H (𝓣 .C) (𝓣 .Λ) E parts.t-4 (atReturn 𝓤 H E Post)) (atReturn 𝓤 H E Post))
 
-    turn : (v7 : Place‴) (v8 : ℕ) (line-now : List ℕ) (pages-now : List ℕ) (nodes-now : List ℕ) (register-now : List Record) → Sq W (I (v7, (v8, (line-now, (pages-now, (nodes-now, (register-now, tt))))))) (runs (𝓣 .C) (𝓣 .Λ) E parts.turn-1 (anyQ (afterTurn 𝓤 H (Below 𝓤 H A lesser I (v7, (v8, (line-now, (pages-now, (nodes-now, (register-now, tt))))))) Left)))
+    turn : (v7 : Place‴) (v8 : ℕ) (text-now : List ℕ) (pages-now : List ℕ) (nodes-now : List ℕ) (register-now : List Record) → Sq W (I (v7, (v8, (text-now, (pages-now, (nodes-now, (register-now, tt))))))) (runs (𝓣 .C) (𝓣 .Λ) E parts.turn-1 (anyQ (afterTurn 𝓤 H (Below 𝓤 H A lesser I (v7, (v8, (text-now, (pages-now, (nodes-now, (register-now, tt))))))) Left)))
     unfolding afterTurn
-    turn v7 v8 line-now pages-now nodes-now register-now = heard ! ((Is Place′.row v7 (Place′.vals v7)) × ((Is u64 v8 (uint-vals w64 v8)) × ((length line ≡ length line-now) × ((length pages ≡ length pages-now) × ((length nodes ≡ length nodes-now) × ((length register ≡ length register-now) × (Loop.inv-1 x-from block line pages nodes register v7 v8 line-now pages-now nodes-now register-now))))))) (λ f·1.
+    turn v7 v8 text-now pages-now nodes-now register-now = heard ! ((Is Place′.row v7 (Place′.vals v7)) × ((Is u64 v8 (uint-vals w64 v8)) × ((length text ≡ length text-now) × ((length pages ≡ length pages-now) × ((length nodes ≡ length nodes-now) × ((length register ≡ length register-now) × (Loop.inv-1 x-from block text pages nodes register v7 v8 text-now pages-now nodes-now register-now))))))) (λ f·1.
         assigns ! (of-opd ! (load ! (from ! (fld ! refl (stop !))) (look-in ! 48 (sub ! 1 refl (whole !))))) (from ! (stop !)) (init ! 32 refl (tt, record { fits = room·block .0 })) $
         assigns ! (bin ! (load ! (from ! (stop !)) (look ! 36 refl)) (load ! (from ! (stop !)) (look ! 32 refl)) tt) (from ! (stop !)) (init ! 30 refl (tt, tt)) $
         branches-on ! (load ! (from ! (stop !)) (look ! 30 refl))
         (λ h·1. skips-on ! $ assigns ! (bin ! (load ! (from ! (fld ! refl (stop !))) (look-in ! 48 (sub ! 0 refl (whole !)))) (load ! (from ! (stop !)) (look ! 36 refl)) tt) (from ! (stop !)) (init ! 28 refl (tt, tt)) $ rewrite ! 28 (λ (z : ℕ). ‵ (fat fullShare tyPtr l₁₂ 0 (vptr b·block z))) (sym (place-byte o·block v8)) refl $
-        opens-shr ! tt u8 (uint-vals w8) (uint-tells w8) (uint-copy 𝓤 H A W w8) κ·block q·block b·block o·block γ·block (length block) block v8 0 (Facts.index-1 x-from block line pages nodes register ok·x-from (room·block .0) (room·line .0) (room·pages .0) (room·nodes .0) (room·register .0) v7 v8 line-now pages-now nodes-now register-now (f·1 .0) ((f·1 .1 .0) .1) (f·1 .1 .1 .0) (f·1 .1 .1 .1 .0) (f·1 .1 .1 .1 .1 .0) (f·1 .1 .1 .1 .1 .1 .0) (f·1 .1 .1 .1 .1 .1 .1) (is-true (ltb v8 (length block)) h·1) (ltb→lt v8 (length block) h·1)) (λ q′ g·13. assigns ! (of-opd ! (load ! (from ! (hop ! (look ! 33 refl) (stop !))) (look-raw ! 0 refl))) (from ! (stop !)) (init ! 31 refl (tt, record { fits = g·13 .1 })) $
-        shuts-shr ! tt u8 κ·block q·block b·block o·block γ·block (length block) block v8 0 q′ (uint-vals w8 (getD block v8 0)) (Facts.index-1 x-from block line pages nodes register ok·x-from (room·block .0) (room·line .0) (room·pages .0) (room·nodes .0) (room·register .0) v7 v8 line-now pages-now nodes-now register-now (f·1 .0) ((f·1 .1 .0) .1) (f·1 .1 .1 .0) (f·1 .1 .1 .1 .0) (f·1 .1 .1 .1 .1 .0) (f·1 .1 .1 .1 .1 .1 .0) (f·1 .1 .1 .1 .1 .1 .1) (is-true (ltb v8 (length block)) h·1) (ltb→lt v8 (length block) h·1)) $ assigns ! (of-opd ! (load ! (from ! (stop !)) (look ! 26 refl))) (from ! (stop !)) (init ! 34 refl (tt, record { fits = g·13 .1 })) $
+        opens-shr ! tt u8 (uint-vals w8) (uint-tells w8) (uint-copy 𝓤 H A W w8) κ·block q·block b·block o·block γ·block (length block) block v8 0 (Facts.index-1 x-from block text pages nodes register ok·x-from (room·block .0) (room·text .0) (room·pages .0) (room·nodes .0) (room·register .0) v7 v8 text-now pages-now nodes-now register-now (f·1 .0) ((f·1 .1 .0) .1) (f·1 .1 .1 .0) (f·1 .1 .1 .1 .0) (f·1 .1 .1 .1 .1 .0) (f·1 .1 .1 .1 .1 .1 .0) (f·1 .1 .1 .1 .1 .1 .1) (is-true (ltb v8 (length block)) h·1) (ltb→lt v8 (length block) h·1)) (λ q′ g·13. assigns ! (of-opd ! (load ! (from ! (hop ! (look ! 33 refl) (stop !))) (look-raw ! 0 refl))) (from ! (stop !)) (init ! 31 refl (tt, record { fits = g·13 .1 })) $
+        shuts-shr ! tt u8 κ·block q·block b·block o·block γ·block (length block) block v8 0 q′ (uint-vals w8 (getD block v8 0)) (Facts.index-1 x-from block text pages nodes register ok·x-from (room·block .0) (room·text .0) (room·pages .0) (room·nodes .0) (room·register .0) v7 v8 text-now pages-now nodes-now register-now (f·1 .0) ((f·1 .1 .0) .1) (f·1 .1 .1 .0) (f·1 .1 .1 .1 .0) (f·1 .1 .1 .1 .1 .0) (f·1 .1 .1 .1 .1 .1 .0) (f·1 .1 .1 .1 .1 .1 .1) (is-true (ltb v8 (length block)) h·1) (ltb→lt v8 (length block) h·1)) $ assigns ! (of-opd ! (load ! (from ! (stop !)) (look ! 26 refl))) (from ! (stop !)) (init ! 34 refl (tt, record { fits = g·13 .1 })) $
         assigns ! (addr ! (from ! (fld ! refl (hop ! (look-in ! 46 (sub ! 0 refl (whole !))) (stop !))))) (from ! (stop !)) (init ! 24 refl (tt, tt)) $
-        assigns ! (agg ! (and-then ! (load ! (from ! (stop !)) (look ! 24 refl)) (and-then ! (load ! (from ! (fld ! refl (stop !))) (look-in ! 46 (sub ! 1 refl (whole !)))) (no-more !)))) (from ! (stop !)) (init ! 22 refl (tt, (tt, (record { fits = room·line .0 }, tt)))) $
+        assigns ! (agg ! (and-then ! (load ! (from ! (stop !)) (look ! 24 refl)) (and-then ! (load ! (from ! (fld ! refl (stop !))) (look-in ! 46 (sub ! 1 refl (whole !)))) (no-more !)))) (from ! (stop !)) (init ! 22 refl (tt, (tt, (record { fits = room·text .0 }, tt)))) $
         assigns ! (addr ! (from ! (fld ! refl (hop ! (look-in ! 44 (sub ! 0 refl (whole !))) (stop !))))) (from ! (stop !)) (init ! 20 refl (tt, tt)) $
         assigns ! (agg ! (and-then ! (load ! (from ! (stop !)) (look ! 20 refl)) (and-then ! (load ! (from ! (fld ! refl (stop !))) (look-in ! 44 (sub ! 1 refl (whole !)))) (no-more !)))) (from ! (stop !)) (init ! 18 refl (tt, (tt, (record { fits = room·pages .0 }, tt)))) $
         assigns ! (addr ! (from ! (fld ! refl (hop ! (look-in ! 42 (sub ! 0 refl (whole !))) (stop !))))) (from ! (stop !)) (init ! 16 refl (tt, tt)) $
         assigns ! (agg ! (and-then ! (load ! (from ! (stop !)) (look ! 16 refl)) (and-then ! (load ! (from ! (fld ! refl (stop !))) (look-in ! 42 (sub ! 1 refl (whole !)))) (no-more !)))) (from ! (stop !)) (init ! 14 refl (tt, (tt, (record { fits = room·nodes .0 }, tt)))) $
         assigns ! (addr ! (from ! (fld ! refl (hop ! (look-in ! 40 (sub ! 0 refl (whole !))) (stop !))))) (from ! (stop !)) (init ! 12 refl (tt, tt)) $
         assigns ! (agg ! (and-then ! (load ! (from ! (stop !)) (look ! 12 refl)) (and-then ! (load ! (from ! (fld ! refl (stop !))) (look-in ! 40 (sub ! 1 refl (whole !)))) (no-more !)))) (from ! (stop !)) (init ! 10 refl (tt, (tt, (record { fits = room·register .0 }, tt)))) $
-        move ! (2 ∷ 3 ∷ []) $ lend-mut ! tt u8 κ·line q·line b·line o·line γ·line (length line) line-now (f·1 .1 .1 .0) (λ ν·1-line γ·1-line. move ! (5 ∷ 6 ∷ []) $ lend-mut ! tt u8 κ·pages q·pages b·pages o·pages γ·pages (length pages) pages-now (f·1 .1 .1 .1 .0) (λ ν·1-pages γ·1-pages. move ! (8 ∷ 9 ∷ []) $ lend-mut ! tt u32 κ·nodes q·nodes b·nodes o·nodes γ·nodes (length nodes) nodes-now (f·1 .1 .1 .1 .1 .0) (λ ν·1-nodes γ·1-nodes. move ! (11 ∷ 12 ∷ []) $ lend-mut ! tt Record′.row κ·register q·register b·register o·register γ·register (length register) register-now (f·1 .1 .1 .1 .1 .1 .0) (λ ν·1-register γ·1-register. move ! (9 ∷ 10 ∷ 6 ∷ 7 ∷ 3 ∷ 4 ∷ 0 ∷ 1 ∷ []) $
-        Call-take-byte.calls ! mem run (fmOf 𝓤 H (W .laws) 𝓣) known-take-byte v7 (getD block v8 0) (ν·1-line ∷ []) fullShare b·line o·line γ·1-line (length line) line-now (ν·1-pages ∷ []) fullShare b·pages o·pages γ·1-pages (length pages) pages-now (ν·1-nodes ∷ []) fullShare b·nodes o·nodes γ·1-nodes (length nodes) nodes-now (ν·1-register ∷ []) fullShare b·register o·register γ·1-register (length register) register-now (f·1 .0) g·13 (and-then ! (load ! (from ! (stop !)) (look ! 35 refl)) (and-then ! (load ! (from ! (stop !)) (look ! 31 refl)) (and-then ! (load ! (from ! (stop !)) (look ! 19 refl)) (and-then ! (load ! (from ! (stop !)) (look ! 15 refl)) (and-then ! (load ! (from ! (stop !)) (look ! 11 refl)) (and-then ! (load ! (from ! (stop !)) (look ! 7 refl)) (no-more !)))))))
-        (λ r1 line₁ pages₁ nodes₁ register₁ ok·1 same·1-line same·1-pages same·1-nodes same·1-register. move ! (0 ∷ 1 ∷ 11 ∷ []) $ back-mut ! tt u8 κ·line q·line b·line o·line γ·line (length line) line-now line₁ ν·1-line γ·1-line (f·1 .1 .1 .0) same·1-line room·line $ move ! (2 ∷ 3 ∷ 10 ∷ []) $ back-mut ! tt u8 κ·pages q·pages b·pages o·pages γ·pages (length pages) pages-now pages₁ ν·1-pages γ·1-pages (f·1 .1 .1 .1 .0) same·1-pages room·pages $ move ! (4 ∷ 5 ∷ 9 ∷ []) $ back-mut ! tt u32 κ·nodes q·nodes b·nodes o·nodes γ·nodes (length nodes) nodes-now nodes₁ ν·1-nodes γ·1-nodes (f·1 .1 .1 .1 .1 .0) same·1-nodes room·nodes $ move ! (6 ∷ 7 ∷ 8 ∷ []) $ back-mut ! tt Record′.row κ·register q·register b·register o·register γ·register (length register) register-now register₁ ν·1-register γ·1-register (f·1 .1 .1 .1 .1 .1 .0) same·1-register room·register $ move ! (8 ∷ 9 ∷ 6 ∷ 7 ∷ 4 ∷ 5 ∷ 2 ∷ 3 ∷ 0 ∷ 1 ∷ []) $ land ! (from ! (stop !)) (store ! 38 refl (Place′.typed 𝓤 H A W r1 ok·1)) $
+        move ! (2 ∷ 3 ∷ []) $ lend-mut ! tt u8 κ·text q·text b·text o·text γ·text (length text) text-now (f·1 .1 .1 .0) (λ ν·1-text γ·1-text. move ! (5 ∷ 6 ∷ []) $ lend-mut ! tt u8 κ·pages q·pages b·pages o·pages γ·pages (length pages) pages-now (f·1 .1 .1 .1 .0) (λ ν·1-pages γ·1-pages. move ! (8 ∷ 9 ∷ []) $ lend-mut ! tt u32 κ·nodes q·nodes b·nodes o·nodes γ·nodes (length nodes) nodes-now (f·1 .1 .1 .1 .1 .0) (λ ν·1-nodes γ·1-nodes. move ! (11 ∷ 12 ∷ []) $ lend-mut ! tt Record′.row κ·register q·register b·register o·register γ·register (length register) register-now (f·1 .1 .1 .1 .1 .1 .0) (λ ν·1-register γ·1-register. move ! (9 ∷ 10 ∷ 6 ∷ 7 ∷ 3 ∷ 4 ∷ 0 ∷ 1 ∷ []) $
+        Call-take-byte.calls ! mem run (fmOf 𝓤 H (W .laws) 𝓣) known-take-byte v7 (getD block v8 0) (ν·1-text ∷ []) fullShare b·text o·text γ·1-text (length text) text-now (ν·1-pages ∷ []) fullShare b·pages o·pages γ·1-pages (length pages) pages-now (ν·1-nodes ∷ []) fullShare b·nodes o·nodes γ·1-nodes (length nodes) nodes-now (ν·1-register ∷ []) fullShare b·register o·register γ·1-register (length register) register-now (f·1 .0) g·13 (and-then ! (load ! (from ! (stop !)) (look ! 35 refl)) (and-then ! (load ! (from ! (stop !)) (look ! 31 refl)) (and-then ! (load ! (from ! (stop !)) (look ! 19 refl)) (and-then ! (load ! (from ! (stop !)) (look ! 15 refl)) (and-then ! (load ! (from ! (stop !)) (look ! 11 refl)) (and-then ! (load ! (from ! (stop !)) (look ! 7 refl)) (no-more !)))))))
+        (λ r1 text₁ pages₁ nodes₁ register₁ ok·1 same·1-text same·1-pages same·1-nodes same·1-register. move ! (0 ∷ 1 ∷ 11 ∷ []) $ back-mut ! tt u8 κ·text q·text b·text o·text γ·text (length text) text-now text₁ ν·1-text γ·1-text (f·1 .1 .1 .0) same·1-text room·text $ move ! (2 ∷ 3 ∷ 10 ∷ []) $ back-mut ! tt u8 κ·pages q·pages b·pages o·pages γ·pages (length pages) pages-now pages₁ ν·1-pages γ·1-pages (f·1 .1 .1 .1 .0) same·1-pages room·pages $ move ! (4 ∷ 5 ∷ 9 ∷ []) $ back-mut ! tt u32 κ·nodes q·nodes b·nodes o·nodes γ·nodes (length nodes) nodes-now nodes₁ ν·1-nodes γ·1-nodes (f·1 .1 .1 .1 .1 .0) same·1-nodes room·nodes $ move ! (6 ∷ 7 ∷ 8 ∷ []) $ back-mut ! tt Record′.row κ·register q·register b·register o·register γ·register (length register) register-now register₁ ν·1-register γ·1-register (f·1 .1 .1 .1 .1 .1 .0) same·1-register room·register $ move ! (8 ∷ 9 ∷ 6 ∷ 7 ∷ 4 ∷ 5 ∷ 2 ∷ 3 ∷ 0 ∷ 1 ∷ []) $ land ! (from ! (stop !)) (store ! 38 refl (Place′.typed 𝓤 H A W r1 ok·1)) $
         assigns ! (of-opd ! (load ! (from ! (fld ! refl (stop !))) (look-in ! 38 (sub ! 2 refl (whole !))))) (from ! (stop !)) (store ! 30 refl (tt, tt)) $
         branches-on ! (load ! (from ! (stop !)) (look ! 30 refl))
         (λ h·2. regroup ! $
         assigns ! (of-opd ! (load ! (from ! (stop !)) (look ! 38 refl))) (from ! (stop !)) (init ! 52 refl (Place′.typed 𝓤 H A W r1 ok·1)) $
         first ! $ returns-within ! Post refl (look ! 52 refl) $
-        move ! (52 ∷ 53 ∷ []) $ forget ! 0 refl $ free1 ! $ move ! (50 ∷ 51 ∷ []) $ free1 ! $ move ! (48 ∷ 49 ∷ []) $ forget ! 0 refl $ free1 ! $ move ! (46 ∷ 47 ∷ []) $ forget ! 0 refl $ free1 ! $ move ! (44 ∷ 45 ∷ []) $ forget ! 0 refl $ free1 ! $ move ! (42 ∷ 43 ∷ []) $ forget ! 0 refl $ free1 ! $ move ! (40 ∷ 41 ∷ []) $ forget ! 0 refl $ free1 ! $ move ! (38 ∷ 39 ∷ []) $ forget ! 0 refl $ free1 ! $ move ! (36 ∷ 37 ∷ []) $ forget ! 0 refl $ free1 ! $ move ! (34 ∷ 35 ∷ []) $ forget ! 0 refl $ free1 ! $ move ! (32 ∷ 33 ∷ []) $ forget ! 0 refl $ free1 ! $ move ! (30 ∷ 31 ∷ []) $ forget ! 0 refl $ free1 ! $ move ! (28 ∷ 29 ∷ []) $ forget ! 0 refl $ free1 ! $ move ! (26 ∷ 27 ∷ []) $ forget ! 0 refl $ free1 ! $ move ! (24 ∷ 25 ∷ []) $ forget ! 0 refl $ free1 ! $ move ! (22 ∷ 23 ∷ []) $ forget ! 0 refl $ free1 ! $ move ! (20 ∷ 21 ∷ []) $ forget ! 0 refl $ free1 ! $ move ! (18 ∷ 19 ∷ []) $ forget ! 0 refl $ free1 ! $ move ! (16 ∷ 17 ∷ []) $ forget ! 0 refl $ free1 ! $ move ! (14 ∷ 15 ∷ []) $ forget ! 0 refl $ free1 ! $ move ! (12 ∷ 13 ∷ []) $ forget ! 0 refl $ free1 ! $ move ! (10 ∷ 11 ∷ []) $ forget ! 0 refl $ free1 ! $ free0 ! $ by ! (exits r1 ok·1 line₁ (sym (f·1 .1 .1 .0 ∙ sym same·1-line)) pages₁ (sym (f·1 .1 .1 .1 .0 ∙ sym same·1-pages)) nodes₁ (sym (f·1 .1 .1 .1 .1 .0 ∙ sym same·1-nodes)) register₁ (sym (f·1 .1 .1 .1 .1 .1 .0 ∙ sym same·1-register))))
-        (λ h·2. skips-on ! $ assigns-last ! (bin ! (load ! (from ! (stop !)) (look ! 36 refl)) (lit ! tt) record { fits = Facts.add-1 x-from block line pages nodes register ok·x-from (room·block .0) (room·line .0) (room·pages .0) (room·nodes .0) (room·register .0) v7 v8 line-now pages-now nodes-now register-now (f·1 .0) ((f·1 .1 .0) .1) (f·1 .1 .1 .0) (f·1 .1 .1 .1 .0) (f·1 .1 .1 .1 .1 .0) (f·1 .1 .1 .1 .1 .1 .0) (f·1 .1 .1 .1 .1 .1 .1) (is-true (ltb v8 (length block)) h·1) (ltb→lt v8 (length block) h·1) (g·13 .1) r1 line₁ pages₁ nodes₁ register₁ ok·1 same·1-line same·1-pages same·1-nodes same·1-register (is-false (r1 .ended) h·2) }) (from ! (stop !)) (store ! 36 refl (tt, record { fits = Facts.add-1 x-from block line pages nodes register ok·x-from (room·block .0) (room·line .0) (room·pages .0) (room·nodes .0) (room·register .0) v7 v8 line-now pages-now nodes-now register-now (f·1 .0) ((f·1 .1 .0) .1) (f·1 .1 .1 .0) (f·1 .1 .1 .1 .0) (f·1 .1 .1 .1 .1 .0) (f·1 .1 .1 .1 .1 .1 .0) (f·1 .1 .1 .1 .1 .1 .1) (is-true (ltb v8 (length block)) h·1) (ltb→lt v8 (length block) h·1) (g·13 .1) r1 line₁ pages₁ nodes₁ register₁ ok·1 same·1-line same·1-pages same·1-nodes same·1-register (is-false (r1 .ended) h·2) })) $
+        move ! (52 ∷ 53 ∷ []) $ forget ! 0 refl $ free1 ! $ move ! (50 ∷ 51 ∷ []) $ free1 ! $ move ! (48 ∷ 49 ∷ []) $ forget ! 0 refl $ free1 ! $ move ! (46 ∷ 47 ∷ []) $ forget ! 0 refl $ free1 ! $ move ! (44 ∷ 45 ∷ []) $ forget ! 0 refl $ free1 ! $ move ! (42 ∷ 43 ∷ []) $ forget ! 0 refl $ free1 ! $ move ! (40 ∷ 41 ∷ []) $ forget ! 0 refl $ free1 ! $ move ! (38 ∷ 39 ∷ []) $ forget ! 0 refl $ free1 ! $ move ! (36 ∷ 37 ∷ []) $ forget ! 0 refl $ free1 ! $ move ! (34 ∷ 35 ∷ []) $ forget ! 0 refl $ free1 ! $ move ! (32 ∷ 33 ∷ []) $ forget ! 0 refl $ free1 ! $ move ! (30 ∷ 31 ∷ []) $ forget ! 0 refl $ free1 ! $ move ! (28 ∷ 29 ∷ []) $ forget ! 0 refl $ free1 ! $ move ! (26 ∷ 27 ∷ []) $ forget ! 0 refl $ free1 ! $ move ! (24 ∷ 25 ∷ []) $ forget ! 0 refl $ free1 ! $ move ! (22 ∷ 23 ∷ []) $ forget ! 0 refl $ free1 ! $ move ! (20 ∷ 21 ∷ []) $ forget ! 0 refl $ free1 ! $ move ! (18 ∷ 19 ∷ []) $ forget ! 0 refl $ free1 ! $ move ! (16 ∷ 17 ∷ []) $ forget ! 0 refl $ free1 ! $ move ! (14 ∷ 15 ∷ []) $ forget ! 0 refl $ free1 ! $ move ! (12 ∷ 13 ∷ []) $ forget ! 0 refl $ free1 ! $ move ! (10 ∷ 11 ∷ []) $ forget ! 0 refl $ free1 ! $ free0 ! $ by ! (exits r1 ok·1 text₁ (sym (f·1 .1 .1 .0 ∙ sym same·1-text)) pages₁ (sym (f·1 .1 .1 .1 .0 ∙ sym same·1-pages)) nodes₁ (sym (f·1 .1 .1 .1 .1 .0 ∙ sym same·1-nodes)) register₁ (sym (f·1 .1 .1 .1 .1 .1 .0 ∙ sym same·1-register))))
+        (λ h·2. skips-on ! $ assigns-last ! (bin ! (load ! (from ! (stop !)) (look ! 36 refl)) (lit ! tt) record { fits = Facts.add-1 x-from block text pages nodes register ok·x-from (room·block .0) (room·text .0) (room·pages .0) (room·nodes .0) (room·register .0) v7 v8 text-now pages-now nodes-now register-now (f·1 .0) ((f·1 .1 .0) .1) (f·1 .1 .1 .0) (f·1 .1 .1 .1 .0) (f·1 .1 .1 .1 .1 .0) (f·1 .1 .1 .1 .1 .1 .0) (f·1 .1 .1 .1 .1 .1 .1) (is-true (ltb v8 (length block)) h·1) (ltb→lt v8 (length block) h·1) (g·13 .1) r1 text₁ pages₁ nodes₁ register₁ ok·1 same·1-text same·1-pages same·1-nodes same·1-register (is-false (r1 .ended) h·2) }) (from ! (stop !)) (store ! 36 refl (tt, record { fits = Facts.add-1 x-from block text pages nodes register ok·x-from (room·block .0) (room·text .0) (room·pages .0) (room·nodes .0) (room·register .0) v7 v8 text-now pages-now nodes-now register-now (f·1 .0) ((f·1 .1 .0) .1) (f·1 .1 .1 .0) (f·1 .1 .1 .1 .0) (f·1 .1 .1 .1 .1 .0) (f·1 .1 .1 .1 .1 .1 .0) (f·1 .1 .1 .1 .1 .1 .1) (is-true (ltb v8 (length block)) h·1) (ltb→lt v8 (length block) h·1) (g·13 .1) r1 text₁ pages₁ nodes₁ register₁ ok·1 same·1-text same·1-pages same·1-nodes same·1-register (is-false (r1 .ended) h·2) })) $
         forget ! 34 refl $ forget ! 32 refl $ forget ! 30 refl $ forget ! 28 refl $ forget ! 26 refl $ forget ! 24 refl $ forget ! 22 refl $ forget ! 20 refl $ forget ! 18 refl $ forget ! 16 refl $ forget ! 14 refl $ forget ! 12 refl $ forget ! 10 refl $
-        use0 W (raw (fact 𝓤 ((Is Place′.row r1 (Place′.vals r1)) × ((Is u64 (v8 + 1) (uint-vals w64 (v8 + 1))) × ((length line ≡ length line₁) × ((length pages ≡ length pages₁) × ((length nodes ≡ length nodes₁) × ((length register ≡ length register₁) × (Loop.inv-1 x-from block line pages nodes register r1 (v8 + 1) line₁ pages₁ nodes₁ register₁))))))))) (factI 𝓤 _ (emp 𝓤) (ok·1, ((refl, Facts.add-1 x-from block line pages nodes register ok·x-from (room·block .0) (room·line .0) (room·pages .0) (room·nodes .0) (room·register .0) v7 v8 line-now pages-now nodes-now register-now (f·1 .0) ((f·1 .1 .0) .1) (f·1 .1 .1 .0) (f·1 .1 .1 .1 .0) (f·1 .1 .1 .1 .1 .0) (f·1 .1 .1 .1 .1 .1 .0) (f·1 .1 .1 .1 .1 .1 .1) (is-true (ltb v8 (length block)) h·1) (ltb→lt v8 (length block) h·1) (g·13 .1) r1 line₁ pages₁ nodes₁ register₁ ok·1 same·1-line same·1-pages same·1-nodes same·1-register (is-false (r1 .ended) h·2)), ((f·1 .1 .1 .0 ∙ sym same·1-line), ((f·1 .1 .1 .1 .0 ∙ sym same·1-pages), ((f·1 .1 .1 .1 .1 .0 ∙ sym same·1-nodes), ((f·1 .1 .1 .1 .1 .1 .0 ∙ sym same·1-register), Facts.again-1 x-from block line pages nodes register ok·x-from (room·block .0) (room·line .0) (room·pages .0) (room·nodes .0) (room·register .0) v7 v8 line-now pages-now nodes-now register-now (f·1 .0) ((f·1 .1 .0) .1) (f·1 .1 .1 .0) (f·1 .1 .1 .1 .0) (f·1 .1 .1 .1 .1 .0) (f·1 .1 .1 .1 .1 .1 .0) (f·1 .1 .1 .1 .1 .1 .1) (is-true (ltb v8 (length block)) h·1) (ltb→lt v8 (length block) h·1) (g·13 .1) r1 line₁ pages₁ nodes₁ register₁ ok·1 same·1-line same·1-pages same·1-nodes same·1-register (is-false (r1 .ended) h·2)))))))) $ again ! lesser I (v7, (v8, (line-now, (pages-now, (nodes-now, (register-now, tt)))))) (r1, (v8 + 1, (line₁, (pages₁, (nodes₁, (register₁, tt)))))) (Facts.less-1 x-from block line pages nodes register ok·x-from (room·block .0) (room·line .0) (room·pages .0) (room·nodes .0) (room·register .0) v7 v8 line-now pages-now nodes-now register-now (f·1 .0) ((f·1 .1 .0) .1) (f·1 .1 .1 .0) (f·1 .1 .1 .1 .0) (f·1 .1 .1 .1 .1 .0) (f·1 .1 .1 .1 .1 .1 .0) (f·1 .1 .1 .1 .1 .1 .1) (is-true (ltb v8 (length block)) h·1) (ltb→lt v8 (length block) h·1) (g·13 .1) r1 line₁ pages₁ nodes₁ register₁ ok·1 same·1-line same·1-pages same·1-nodes same·1-register (is-false (r1 .ended) h·2))))))))))
+        use0 W (raw (fact 𝓤 ((Is Place′.row r1 (Place′.vals r1)) × ((Is u64 (v8 + 1) (uint-vals w64 (v8 + 1))) × ((length text ≡ length text₁) × ((length pages ≡ length pages₁) × ((length nodes ≡ length nodes₁) × ((length register ≡ length register₁) × (Loop.inv-1 x-from block text pages nodes register r1 (v8 + 1) text₁ pages₁ nodes₁ register₁))))))))) (factI 𝓤 _ (emp 𝓤) (ok·1, ((refl, Facts.add-1 x-from block text pages nodes register ok·x-from (room·block .0) (room·text .0) (room·pages .0) (room·nodes .0) (room·register .0) v7 v8 text-now pages-now nodes-now register-now (f·1 .0) ((f·1 .1 .0) .1) (f·1 .1 .1 .0) (f·1 .1 .1 .1 .0) (f·1 .1 .1 .1 .1 .0) (f·1 .1 .1 .1 .1 .1 .0) (f·1 .1 .1 .1 .1 .1 .1) (is-true (ltb v8 (length block)) h·1) (ltb→lt v8 (length block) h·1) (g·13 .1) r1 text₁ pages₁ nodes₁ register₁ ok·1 same·1-text same·1-pages same·1-nodes same·1-register (is-false (r1 .ended) h·2)), ((f·1 .1 .1 .0 ∙ sym same·1-text), ((f·1 .1 .1 .1 .0 ∙ sym same·1-pages), ((f·1 .1 .1 .1 .1 .0 ∙ sym same·1-nodes), ((f·1 .1 .1 .1 .1 .1 .0 ∙ sym same·1-register), Facts.again-1 x-from block text pages nodes register ok·x-from (room·block .0) (room·text .0) (room·pages .0) (room·nodes .0) (room·register .0) v7 v8 text-now pages-now nodes-now register-now (f·1 .0) ((f·1 .1 .0) .1) (f·1 .1 .1 .0) (f·1 .1 .1 .1 .0) (f·1 .1 .1 .1 .1 .0) (f·1 .1 .1 .1 .1 .1 .0) (f·1 .1 .1 .1 .1 .1 .1) (is-true (ltb v8 (length block)) h·1) (ltb→lt v8 (length block) h·1) (g·13 .1) r1 text₁ pages₁ nodes₁ register₁ ok·1 same·1-text same·1-pages same·1-nodes same·1-register (is-false (r1 .ended) h·2)))))))) $ again ! lesser I (v7, (v8, (text-now, (pages-now, (nodes-now, (register-now, tt)))))) (r1, (v8 + 1, (text₁, (pages₁, (nodes₁, (register₁, tt)))))) (Facts.less-1 x-from block text pages nodes register ok·x-from (room·block .0) (room·text .0) (room·pages .0) (room·nodes .0) (room·register .0) v7 v8 text-now pages-now nodes-now register-now (f·1 .0) ((f·1 .1 .0) .1) (f·1 .1 .1 .0) (f·1 .1 .1 .1 .0) (f·1 .1 .1 .1 .1 .0) (f·1 .1 .1 .1 .1 .1 .0) (f·1 .1 .1 .1 .1 .1 .1) (is-true (ltb v8 (length block)) h·1) (ltb→lt v8 (length block) h·1) (g·13 .1) r1 text₁ pages₁ nodes₁ register₁ ok·1 same·1-text same·1-pages same·1-nodes same·1-register (is-false (r1 .ended) h·2))))))))))
         (λ h·1. first ! $ jumps ! $ exec ! (𝓣 .C) (𝓣 .Λ) E parts.t-4 (atRet E Post) $
         assigns ! (of-opd ! (load ! (from ! (stop !)) (look ! 38 refl))) (from ! (stop !)) (init ! 52 refl (Place′.typed 𝓤 H A W v7 (f·1 .0))) $
         returns ! (look ! 52 refl) $
-        move ! (52 ∷ 53 ∷ []) $ forget ! 0 refl $ free1 ! $ move ! (50 ∷ 51 ∷ []) $ free1 ! $ move ! (48 ∷ 49 ∷ []) $ forget ! 0 refl $ free1 ! $ move ! (46 ∷ 47 ∷ []) $ forget ! 0 refl $ free1 ! $ move ! (44 ∷ 45 ∷ []) $ forget ! 0 refl $ free1 ! $ move ! (42 ∷ 43 ∷ []) $ forget ! 0 refl $ free1 ! $ move ! (40 ∷ 41 ∷ []) $ forget ! 0 refl $ free1 ! $ move ! (38 ∷ 39 ∷ []) $ forget ! 0 refl $ free1 ! $ move ! (36 ∷ 37 ∷ []) $ forget ! 0 refl $ free1 ! $ move ! (34 ∷ 35 ∷ []) $ free1 ! $ move ! (32 ∷ 33 ∷ []) $ forget ! 0 refl $ free1 ! $ move ! (30 ∷ 31 ∷ []) $ forget ! 0 refl $ free1 ! $ move ! (28 ∷ 29 ∷ []) $ free1 ! $ move ! (26 ∷ 27 ∷ []) $ free1 ! $ move ! (24 ∷ 25 ∷ []) $ free1 ! $ move ! (22 ∷ 23 ∷ []) $ free1 ! $ move ! (20 ∷ 21 ∷ []) $ free1 ! $ move ! (18 ∷ 19 ∷ []) $ free1 ! $ move ! (16 ∷ 17 ∷ []) $ free1 ! $ move ! (14 ∷ 15 ∷ []) $ free1 ! $ move ! (12 ∷ 13 ∷ []) $ free1 ! $ move ! (10 ∷ 11 ∷ []) $ free1 ! $ free0 ! $ by ! (exits v7 (f·1 .0) line-now (sym (f·1 .1 .1 .0)) pages-now (sym (f·1 .1 .1 .1 .0)) nodes-now (sym (f·1 .1 .1 .1 .1 .0)) register-now (sym (f·1 .1 .1 .1 .1 .1 .0)))))
+        move ! (52 ∷ 53 ∷ []) $ forget ! 0 refl $ free1 ! $ move ! (50 ∷ 51 ∷ []) $ free1 ! $ move ! (48 ∷ 49 ∷ []) $ forget ! 0 refl $ free1 ! $ move ! (46 ∷ 47 ∷ []) $ forget ! 0 refl $ free1 ! $ move ! (44 ∷ 45 ∷ []) $ forget ! 0 refl $ free1 ! $ move ! (42 ∷ 43 ∷ []) $ forget ! 0 refl $ free1 ! $ move ! (40 ∷ 41 ∷ []) $ forget ! 0 refl $ free1 ! $ move ! (38 ∷ 39 ∷ []) $ forget ! 0 refl $ free1 ! $ move ! (36 ∷ 37 ∷ []) $ forget ! 0 refl $ free1 ! $ move ! (34 ∷ 35 ∷ []) $ free1 ! $ move ! (32 ∷ 33 ∷ []) $ forget ! 0 refl $ free1 ! $ move ! (30 ∷ 31 ∷ []) $ forget ! 0 refl $ free1 ! $ move ! (28 ∷ 29 ∷ []) $ free1 ! $ move ! (26 ∷ 27 ∷ []) $ free1 ! $ move ! (24 ∷ 25 ∷ []) $ free1 ! $ move ! (22 ∷ 23 ∷ []) $ free1 ! $ move ! (20 ∷ 21 ∷ []) $ free1 ! $ move ! (18 ∷ 19 ∷ []) $ free1 ! $ move ! (16 ∷ 17 ∷ []) $ free1 ! $ move ! (14 ∷ 15 ∷ []) $ free1 ! $ move ! (12 ∷ 13 ∷ []) $ free1 ! $ move ! (10 ∷ 11 ∷ []) $ free1 ! $ free0 ! $ by ! (exits v7 (f·1 .0) text-now (sym (f·1 .1 .1 .0)) pages-now (sym (f·1 .1 .1 .1 .0)) nodes-now (sym (f·1 .1 .1 .1 .1 .0)) register-now (sym (f·1 .1 .1 .1 .1 .1 .0)))))
 
-  walk : (𝓣 : Tables 𝓤 H) (known-take-byte : Triple 𝓤 (𝓣 .C #take-byte) (Call-take-byte.Asked 𝓤 H A mem run)) → ent 𝓤 (onEntry 𝓤 H A take-block‴.signature (κ·block, (κ·line, (κ·pages, (κ·nodes, (κ·register, tt))))) (q·block, (q·line, (q·pages, (q·nodes, (q·register, tt))))) all-args all-vals)
-      (WpFn 𝓤 H (𝓣 .C) (𝓣 .Λ) code.function (Place′.mach x-from ∷ sliceVal (b·block, o·block) (length block) ∷ sliceVal (b·line, o·line) (length line) ∷ sliceVal (b·pages, o·pages) (length pages) ∷ sliceVal (b·nodes, o·nodes) (length nodes) ∷ sliceVal (b·register, o·register) (length register) ∷ []) Post)
+  walk : (𝓣 : Tables 𝓤 H) (known-take-byte : Triple 𝓤 (𝓣 .C #take-byte) (Call-take-byte.Asked 𝓤 H A mem run)) → ent 𝓤 (onEntry 𝓤 H A take-block‴.signature (κ·block, (κ·text, (κ·pages, (κ·nodes, (κ·register, tt))))) (q·block, (q·text, (q·pages, (q·nodes, (q·register, tt))))) all-args all-vals)
+      (WpFn 𝓤 H (𝓣 .C) (𝓣 .Λ) code.function (Place′.mach x-from ∷ sliceVal (b·block, o·block) (length block) ∷ sliceVal (b·text, o·text) (length text) ∷ sliceVal (b·pages, o·pages) (length pages) ∷ sliceVal (b·nodes, o·nodes) (length nodes) ∷ sliceVal (b·register, o·register) (length register) ∷ []) Post)
   walk 𝓣 known-take-byte =
-      qed W ((‵ (flft κ·block q·block) ⊛ ‵ (flft κ·line q·line) ⊛ ‵ (flft κ·pages q·pages) ⊛ ‵ (flft κ·nodes q·nodes) ⊛ ‵ (flft κ·register q·register) ⊛ ‵ ftrue) ∷ ‵ (owns (Place′.row ∷ ShrSlice (named 0) κ·block u8 ∷ MutSlice (named 0) κ·line u8 ∷ MutSlice (named 0) κ·pages u8 ∷ MutSlice (named 0) κ·nodes u32 ∷ MutSlice (named 0) κ·register Record′.row ∷ []) all-args all-vals) ∷ []) ∵ enter ! (𝓣 .C) (𝓣 .Λ) code.function (Place′.mach x-from ∷ sliceVal (b·block, o·block) (length block) ∷ sliceVal (b·line, o·line) (length line) ∷ sliceVal (b·pages, o·pages) (length pages) ∷ sliceVal (b·nodes, o·nodes) (length nodes) ∷ sliceVal (b·register, o·register) (length register) ∷ []) _ $
+      qed W ((‵ (flft κ·block q·block) ⊛ ‵ (flft κ·text q·text) ⊛ ‵ (flft κ·pages q·pages) ⊛ ‵ (flft κ·nodes q·nodes) ⊛ ‵ (flft κ·register q·register) ⊛ ‵ ftrue) ∷ ‵ (owns (Place′.row ∷ ShrSlice (named 0) κ·block u8 ∷ MutSlice (named 0) κ·text u8 ∷ MutSlice (named 0) κ·pages u8 ∷ MutSlice (named 0) κ·nodes u32 ∷ MutSlice (named 0) κ·register Record′.row ∷ []) all-args all-vals) ∷ []) ∵ enter ! (𝓣 .C) (𝓣 .Λ) code.function (Place′.mach x-from ∷ sliceVal (b·block, o·block) (length block) ∷ sliceVal (b·text, o·text) (length text) ∷ sliceVal (b·pages, o·pages) (length pages) ∷ sliceVal (b·nodes, o·nodes) (length nodes) ∷ sliceVal (b·register, o·register) (length register) ∷ []) _ $
       alloc1 ! (λ l₀. alloc1 ! (λ l₁. alloc1 ! (λ l₂. alloc1 ! (λ l₃. alloc1 ! (λ l₄. alloc1 ! (λ l₅. alloc1 ! (λ l₆. alloc1 ! (λ l₇. alloc1 ! (λ l₈. alloc1 ! (λ l₉. alloc1 ! (λ l₁₀. alloc1 ! (λ l₁₁. alloc1 ! (λ l₁₂. alloc1 ! (λ l₁₃. alloc1 ! (λ l₁₄. alloc1 ! (λ l₁₅. alloc1 ! (λ l₁₆. alloc1 ! (λ l₁₇. alloc1 ! (λ l₁₈. alloc1 ! (λ l₁₉. alloc1 ! (λ l₂₀. alloc1 ! (λ l₂₁. alloc0 ! $ params1 ! $
-      pass1 ! (init ! 40 refl (Place′.typed 𝓤 H A W x-from ok·x-from)) $ pass1 ! (init ! 38 refl (tt, (tt, (record { fits = room·block .0 }, tt)))) $ pass1 ! (init ! 36 refl (tt, (tt, (record { fits = room·line .0 }, tt)))) $ pass1 ! (init ! 34 refl (tt, (tt, (record { fits = room·pages .0 }, tt)))) $ pass1 ! (init ! 32 refl (tt, (tt, (record { fits = room·nodes .0 }, tt)))) $ pass1 ! (init ! 30 refl (tt, (tt, (record { fits = room·register .0 }, tt)))) $ pass0 ! $
+      pass1 ! (init ! 40 refl (Place′.typed 𝓤 H A W x-from ok·x-from)) $ pass1 ! (init ! 38 refl (tt, (tt, (record { fits = room·block .0 }, tt)))) $ pass1 ! (init ! 36 refl (tt, (tt, (record { fits = room·text .0 }, tt)))) $ pass1 ! (init ! 34 refl (tt, (tt, (record { fits = room·pages .0 }, tt)))) $ pass1 ! (init ! 32 refl (tt, (tt, (record { fits = room·nodes .0 }, tt)))) $ pass1 ! (init ! 30 refl (tt, (tt, (record { fits = room·register .0 }, tt)))) $ pass0 ! $
       move ! (45 ∷ []) $ fsplit ! $ drop ! $ fsplit ! $ move ! (1 ∷ []) $ fsplit ! $ move ! (1 ∷ []) $ fsplit ! $ move ! (1 ∷ []) $ fsplit ! $ move ! (1 ∷ []) $ fsplit ! $ move ! (1 ∷ []) $ drop ! $ move ! (49 ∷ []) $ split ! $ move ! (1 ∷ []) $ split ! $ move ! (1 ∷ []) $ split ! $ move ! (1 ∷ []) $ split ! $ move ! (1 ∷ []) $ split ! $ move ! (1 ∷ []) $ drop ! $ move ! (4 ∷ 9 ∷ 3 ∷ 8 ∷ 2 ∷ 7 ∷ 1 ∷ 6 ∷ 0 ∷ 5 ∷ []) $
       assigns ! (of-opd ! (load ! (from ! (stop !)) (look ! 50 refl))) (from ! (stop !)) (init ! 38 refl (Place′.typed 𝓤 H A W x-from ok·x-from)) $
       assigns ! (of-opd ! (lit ! tt)) (from ! (stop !)) (init ! 36 refl (tt, record { fits = lit< tt })) $
-      forget ! 50 refl $ here ! (‵ (flft κ·block q·block) ∷ ‵ (ShrAt u8 κ·block b·block o·block γ·block (length block) block) ∷ ‵ (flft κ·line q·line) ∷ ‵ (MutAt u8 κ·line b·line o·line γ·line (length line) line) ∷ ‵ (flft κ·pages q·pages) ∷ ‵ (MutAt u8 κ·pages b·pages o·pages γ·pages (length pages) pages) ∷ ‵ (flft κ·nodes q·nodes) ∷ ‵ (MutAt u32 κ·nodes b·nodes o·nodes γ·nodes (length nodes) nodes) ∷ ‵ (flft κ·register q·register) ∷ ‵ (MutAt Record′.row κ·register b·register o·register γ·register (length register) register) ∷ empty (sliceTy (tyRef erased mut (pointee (Record′.row .written)))) l₂₁ (empty (tyRef erased mut (pointee (Record′.row .written))) l₂₀ (empty (sliceTy (tyRef erased mut (pointee (u32 .written)))) l₁₉ (empty (tyRef erased mut (pointee (u32 .written))) l₁₈ (empty (sliceTy (tyRef erased mut (pointee (u8 .written)))) l₁₇ (empty (tyRef erased mut (pointee (u8 .written))) l₁₆ (empty (sliceTy (tyRef erased mut (pointee (u8 .written)))) l₁₅ (empty (tyRef erased mut (pointee (u8 .written))) l₁₄ (empty (tyInt w8) l₁₃ (empty tyPtr l₁₂ (empty tyBool l₁₁ (empty (tyInt w64) l₁₀ (empty (tyInt w8) l₉ (holds (tyInt w64) l₈ (vint w64 0) (holds (tyAt (code.function .locals) 7) l₇ (Place′.mach x-from) (holds (sliceTy (tyRef (named 4) mut (pointee (Record′.row .written)))) l₆ (sliceVal (b·register, o·register) (length register)) (holds (sliceTy (tyRef (named 3) mut (pointee (u32 .written)))) l₅ (sliceVal (b·nodes, o·nodes) (length nodes)) (holds (sliceTy (tyRef (named 2) mut (pointee (u8 .written)))) l₄ (sliceVal (b·pages, o·pages) (length pages)) (holds (sliceTy (tyRef (named 1) mut (pointee (u8 .written)))) l₃ (sliceVal (b·line, o·line) (length line)) (holds (sliceTy (tyRef (named 0) imm (pointee (u8 .written)))) l₂ (sliceVal (b·block, o·block) (length block)) (empty (tyAt (code.function .locals) 1) l₁ (empty (tyAt (code.function .locals) 0) l₀ [])))))))))))))))))))))) $
-      first ! $ blocks ! $ use0 W (raw (fact 𝓤 ((Is Place′.row x-from (Place′.vals x-from)) × ((Is u64 0 (uint-vals w64 0)) × ((length line ≡ length line) × ((length pages ≡ length pages) × ((length nodes ≡ length nodes) × ((length register ≡ length register) × (Loop.inv-1 x-from block line pages nodes register x-from 0 line pages nodes register))))))))) (factI 𝓤 _ (emp 𝓤) (ok·x-from, ((refl, lit< tt), (refl, (refl, (refl, (refl, Facts.start-1 x-from block line pages nodes register ok·x-from (room·block .0) (room·line .0) (room·pages .0) (room·nodes .0) (room·register .0)))))))) $
-      loops ! 𝓣 (lesser 𝓣 known-take-byte l₀ l₁ l₂ l₃ l₄ l₅ l₆ l₇ l₈ l₉ l₁₀ l₁₁ l₁₂ l₁₃ l₁₄ l₁₅ l₁₆ l₁₇ l₁₈ l₁₉ l₂₀ l₂₁) (falls 𝓣 known-take-byte l₀ l₁ l₂ l₃ l₄ l₅ l₆ l₇ l₈ l₉ l₁₀ l₁₁ l₁₂ l₁₃ l₁₄ l₁₅ l₁₆ l₁₇ l₁₈ l₁₉ l₂₀ l₂₁) (I 𝓣 known-take-byte l₀ l₁ l₂ l₃ l₄ l₅ l₆ l₇ l₈ l₉ l₁₀ l₁₁ l₁₂ l₁₃ l₁₄ l₁₅ l₁₆ l₁₇ l₁₈ l₁₉ l₂₀ l₂₁) (λ t. turn 𝓣 known-take-byte l₀ l₁ l₂ l₃ l₄ l₅ l₆ l₇ l₈ l₉ l₁₀ l₁₁ l₁₂ l₁₃ l₁₄ l₁₅ l₁₆ l₁₇ l₁₈ l₁₉ l₂₀ l₂₁ (t .0) (t .1 .0) (t .1 .1 .0) (t .1 .1 .1 .0) (t .1 .1 .1 .1 .0) (t .1 .1 .1 .1 .1 .0)) (x-from, (0, (line, (pages, (nodes, (register, tt))))))))))))))))))))))))))))
+      forget ! 50 refl $ here ! (‵ (flft κ·block q·block) ∷ ‵ (ShrAt u8 κ·block b·block o·block γ·block (length block) block) ∷ ‵ (flft κ·text q·text) ∷ ‵ (MutAt u8 κ·text b·text o·text γ·text (length text) text) ∷ ‵ (flft κ·pages q·pages) ∷ ‵ (MutAt u8 κ·pages b·pages o·pages γ·pages (length pages) pages) ∷ ‵ (flft κ·nodes q·nodes) ∷ ‵ (MutAt u32 κ·nodes b·nodes o·nodes γ·nodes (length nodes) nodes) ∷ ‵ (flft κ·register q·register) ∷ ‵ (MutAt Record′.row κ·register b·register o·register γ·register (length register) register) ∷ empty (sliceTy (tyRef erased mut (pointee (Record′.row .written)))) l₂₁ (empty (tyRef erased mut (pointee (Record′.row .written))) l₂₀ (empty (sliceTy (tyRef erased mut (pointee (u32 .written)))) l₁₉ (empty (tyRef erased mut (pointee (u32 .written))) l₁₈ (empty (sliceTy (tyRef erased mut (pointee (u8 .written)))) l₁₇ (empty (tyRef erased mut (pointee (u8 .written))) l₁₆ (empty (sliceTy (tyRef erased mut (pointee (u8 .written)))) l₁₅ (empty (tyRef erased mut (pointee (u8 .written))) l₁₄ (empty (tyInt w8) l₁₃ (empty tyPtr l₁₂ (empty tyBool l₁₁ (empty (tyInt w64) l₁₀ (empty (tyInt w8) l₉ (holds (tyInt w64) l₈ (vint w64 0) (holds (tyAt (code.function .locals) 7) l₇ (Place′.mach x-from) (holds (sliceTy (tyRef (named 4) mut (pointee (Record′.row .written)))) l₆ (sliceVal (b·register, o·register) (length register)) (holds (sliceTy (tyRef (named 3) mut (pointee (u32 .written)))) l₅ (sliceVal (b·nodes, o·nodes) (length nodes)) (holds (sliceTy (tyRef (named 2) mut (pointee (u8 .written)))) l₄ (sliceVal (b·pages, o·pages) (length pages)) (holds (sliceTy (tyRef (named 1) mut (pointee (u8 .written)))) l₃ (sliceVal (b·text, o·text) (length text)) (holds (sliceTy (tyRef (named 0) imm (pointee (u8 .written)))) l₂ (sliceVal (b·block, o·block) (length block)) (empty (tyAt (code.function .locals) 1) l₁ (empty (tyAt (code.function .locals) 0) l₀ [])))))))))))))))))))))) $
+      first ! $ blocks ! $ use0 W (raw (fact 𝓤 ((Is Place′.row x-from (Place′.vals x-from)) × ((Is u64 0 (uint-vals w64 0)) × ((length text ≡ length text) × ((length pages ≡ length pages) × ((length nodes ≡ length nodes) × ((length register ≡ length register) × (Loop.inv-1 x-from block text pages nodes register x-from 0 text pages nodes register))))))))) (factI 𝓤 _ (emp 𝓤) (ok·x-from, ((refl, lit< tt), (refl, (refl, (refl, (refl, Facts.start-1 x-from block text pages nodes register ok·x-from (room·block .0) (room·text .0) (room·pages .0) (room·nodes .0) (room·register .0)))))))) $
+      loops ! 𝓣 (lesser 𝓣 known-take-byte l₀ l₁ l₂ l₃ l₄ l₅ l₆ l₇ l₈ l₉ l₁₀ l₁₁ l₁₂ l₁₃ l₁₄ l₁₅ l₁₆ l₁₇ l₁₈ l₁₉ l₂₀ l₂₁) (falls 𝓣 known-take-byte l₀ l₁ l₂ l₃ l₄ l₅ l₆ l₇ l₈ l₉ l₁₀ l₁₁ l₁₂ l₁₃ l₁₄ l₁₅ l₁₆ l₁₇ l₁₈ l₁₉ l₂₀ l₂₁) (I 𝓣 known-take-byte l₀ l₁ l₂ l₃ l₄ l₅ l₆ l₇ l₈ l₉ l₁₀ l₁₁ l₁₂ l₁₃ l₁₄ l₁₅ l₁₆ l₁₇ l₁₈ l₁₉ l₂₀ l₂₁) (λ t. turn 𝓣 known-take-byte l₀ l₁ l₂ l₃ l₄ l₅ l₆ l₇ l₈ l₉ l₁₀ l₁₁ l₁₂ l₁₃ l₁₄ l₁₅ l₁₆ l₁₇ l₁₈ l₁₉ l₂₀ l₂₁ (t .0) (t .1 .0) (t .1 .1 .0) (t .1 .1 .1 .0) (t .1 .1 .1 .1 .0) (t .1 .1 .1 .1 .1 .0)) (x-from, (0, (text, (pages, (nodes, (register, tt))))))))))))))))))))))))))))
 
 module _ {M : Type 1} (𝓤 : URA M) (H : Heap 𝓤) (A : Atoms 𝓤) (W : Given 𝓤 H A) (mem : Memory → SProp 𝓤) (run : Routine → Fun 𝓤) where
   walks : (𝓣 : Tables 𝓤 H) → Triple 𝓤 (𝓣 .C #take-byte) (Call-take-byte.Asked 𝓤 H A mem run) → Walks 𝓤 H A take-block‴.ended stayed (WpFn 𝓤 H (𝓣 .C) (𝓣 .Λ) code.function) (take-block‴.clauses 𝓤 H A mem run)

@@ -41,98 +41,98 @@ use denote.Triple.Spec.{Meets, tripleOf}
 use denote.Triple.Table.{entered, cited}
 use denote.Triple.Walked.{says, needs, Stays, stay-slice, stay-none-slice, stay-none, walkOf, Walks, ends-at, walked, goes-slice, goes-none-slice, goes-none, walk-meets}
 use Rattle.steps.specs.declared.Place.{Place as Place‴}
-use Rattle.steps.proofs.Walkgen.Kind.Place as Place′
-use Rattle.steps.specs.declared.Kept.{Kept}
-use Rattle.steps.proofs.Walkgen.Kind.Kept as Kept′
+use Rattle.steps.proofs.Generated.Kind.Place as Place′
+use Rattle.answers.specs.declared.Kept.{Kept}
+use Rattle.turns.proofs.Generated.Kind.Kept as Kept′
 use Rattle.versions.specs.declared.Store.{Store}
-use Rattle.versions.proofs.Walkgen.Kind.Store as Store′
+use Rattle.versions.proofs.Generated.Kind.Store as Store′
 use Rattle.tree.specs.declared.Ticket.{Ticket}
-use Rattle.tree.proofs.Walkgen.Kind.Ticket as Ticket′
+use Rattle.register.proofs.Generated.Kind.Ticket as Ticket′
 use Rattle.tree.specs.declared.Version.{Version}
-use Rattle.tree.proofs.Walkgen.Kind.Version as Version′
-use Rattle.lines.specs.declared.Cutter.{Cutter}
-use Rattle.steps.proofs.Walkgen.Kind.Cutter as Cutter′
-use Rattle.tree.specs.declared.Record.{Record}
-use Rattle.tree.proofs.Walkgen.Kind.Record as Record′
+use Rattle.register.proofs.Generated.Kind.Version as Version′
+use Rattle.parse.specs.declared.Cutter.{Cutter}
+use Rattle.steps.proofs.Generated.Kind.Cutter as Cutter′
+use Rattle.register.specs.declared.Record.{Record}
+use Rattle.register.proofs.Generated.Kind.Record as Record′
 use Rattle.tree.specs.declared.PageIndex.{PageIndex}
-use Rattle.tree.proofs.Walkgen.Kind.PageIndex as PageIndex′
-use Rattle.lines.specs.declared.Fed.{Fed}
-use Rattle.steps.proofs.Walkgen.Kind.Fed as Fed′
-use Rattle.tree.proofs.Walkgen.Flow.{ref, MutAt, ShrAt, lend-mut, back-mut, lend-shr, back-shr, branches-on, regroup, skips-on, returns-on, plus-nothing, holds, empty, less-fits, is-true, is-false, differ, above-0, twice-not, switches-to, switches-last, big-lit, here, blocks-on, resume, scaled-2, scaled-4, scaled-8, opens-shr, shuts-shr, opens-mut, shuts-mut, puts-mut, keeps-shr, fills, empties, tyAt}
-use Rattle.steps.proofs.Walkgen.Say.take_byte as take-byte″
-use Rattle.steps.proofs.Walkgen.Say.feed as feed″
-use Rattle.steps.proofs.Walkgen.Call.feed as Call-feed
-use Rattle.lines.proofs.feed.Symbol as def-feed
-use Rattle.lines.proofs.feed.Symbol.{name as #feed}
-use Rattle.lines.proofs.feed.Met as thm-feed
-use Rattle.steps.proofs.Walkgen.Say.same_line as same-line″
-use Rattle.steps.proofs.Walkgen.Call.same_line as Call-same-line
-use Rattle.steps.proofs.same_line.Symbol as def-same-line
-use Rattle.steps.proofs.same_line.Symbol.{name as #same-line}
-use Rattle.steps.proofs.same_line.Met as thm-same-line
-use Rattle.steps.proofs.Walkgen.Say.answer_line as answer-line″
-use Rattle.steps.proofs.Walkgen.Call.answer_line as Call-answer-line
-use Rattle.steps.proofs.answer_line.Symbol as def-answer-line
-use Rattle.steps.proofs.answer_line.Symbol.{name as #answer-line}
-use Rattle.steps.proofs.answer_line.Met as thm-answer-line
+use Rattle.register.proofs.Generated.Kind.PageIndex as PageIndex′
+use Rattle.parse.specs.declared.Fed.{Fed}
+use Rattle.steps.proofs.Generated.Kind.Fed as Fed′
+use Rattle.register.proofs.Generated.Flow.{ref, MutAt, ShrAt, lend-mut, back-mut, lend-shr, back-shr, branches-on, regroup, skips-on, returns-on, plus-nothing, holds, empty, less-fits, is-true, is-false, differ, above-0, twice-not, switches-to, switches-last, big-lit, here, blocks-on, resume, scaled-2, scaled-4, scaled-8, opens-shr, shuts-shr, opens-mut, shuts-mut, puts-mut, keeps-shr, fills, empties, tyAt}
+use Rattle.steps.proofs.Generated.Say.take_byte as take-byte″
+use Rattle.steps.proofs.Generated.Say.feed as feed″
+use Rattle.steps.proofs.Generated.Call.feed as Call-feed
+use Rattle.parse.proofs.feed.Symbol as def-feed
+use Rattle.parse.proofs.feed.Symbol.{name as #feed}
+use Rattle.parse.proofs.feed.Met as thm-feed
+use Rattle.steps.proofs.Generated.Say.same_place as same-place″
+use Rattle.steps.proofs.Generated.Call.same_place as Call-same-place
+use Rattle.steps.proofs.same_place.Symbol as def-same-place
+use Rattle.steps.proofs.same_place.Symbol.{name as #same-place}
+use Rattle.steps.proofs.same_place.Met as thm-same-place
+use Rattle.steps.proofs.Generated.Say.answer as answer″
+use Rattle.steps.proofs.Generated.Call.answer as Call-answer
+use Rattle.steps.proofs.answer.Symbol as def-answer
+use Rattle.steps.proofs.answer.Symbol.{name as #answer}
+use Rattle.steps.proofs.answer.Met as thm-answer
 use Rattle.steps.proofs.take_byte.Key.{name as #self}
 use Rattle.steps.proofs.take_byte as take-byte‴
 use Rattle.steps.proofs.take_byte.Statement as stated
 use Rattle.steps.proofs.take_byte.Code as code
 use denote.Memory.{pointee}
-use Rattle.steps.proofs.take_byte.Proof.Asks.{r1, line₁}
+use Rattle.steps.proofs.take_byte.Proof.Asks.{r1, text₁}
 
 abbrev stayed : Stays (take-byte‴.ended .signature .params) (take-byte‴.ended .kept)
 stayed = (stay-none (λ _. Place′.row) yes, (stay-none (λ _. u8) yes, (stay-slice (0 ∷ []) tt (plain (λ _. u8)), (stay-slice (1 ∷ []) tt (plain (λ _. u8)), (stay-slice (2 ∷ []) tt (plain (λ _. u32)), (stay-slice (3 ∷ []) tt (plain (λ _. Record′.row)), tt))))))
 
-module _ {M : Type 1} (𝓤 : URA M) (H : Heap 𝓤) (A : Atoms 𝓤) (W : Given 𝓤 H A) (mem : Memory → SProp 𝓤) (run : Routine → Fun 𝓤) (x-at : Place‴) (b : ℕ) (κ·line : Lft) (q·line : Share) (b·line o·line : ℕ) (γ·line : GName) (line : List ℕ) (κ·pages : Lft) (q·pages : Share) (b·pages o·pages : ℕ) (γ·pages : GName) (pages : List ℕ) (κ·nodes : Lft) (q·nodes : Share) (b·nodes o·nodes : ℕ) (γ·nodes : GName) (nodes : List ℕ) (κ·register : Lft) (q·register : Share) (b·register o·register : ℕ) (γ·register : GName) (register : List Record) (ok·x-at : Is Place′.row x-at (Place′.vals x-at)) (ok·b : Is u8 b (uint-vals w8 b)) (room·line : Room u8 (length line)) (room·pages : Room u8 (length pages)) (room·nodes : Room u32 (length nodes)) (room·register : Room Record′.row (length register)) where
-  abbrev all-args : Args take-byte‴.signature (κ·line, (κ·pages, (κ·nodes, (κ·register, tt))))
-  all-args = (x-at, (b, (ref b·line o·line γ·line line, (ref b·pages o·pages γ·pages pages, (ref b·nodes o·nodes γ·nodes nodes, (ref b·register o·register γ·register register, tt))))))
+module _ {M : Type 1} (𝓤 : URA M) (H : Heap 𝓤) (A : Atoms 𝓤) (W : Given 𝓤 H A) (mem : Memory → SProp 𝓤) (run : Routine → Fun 𝓤) (x-at : Place‴) (b : ℕ) (κ·text : Lft) (q·text : Share) (b·text o·text : ℕ) (γ·text : GName) (text : List ℕ) (κ·pages : Lft) (q·pages : Share) (b·pages o·pages : ℕ) (γ·pages : GName) (pages : List ℕ) (κ·nodes : Lft) (q·nodes : Share) (b·nodes o·nodes : ℕ) (γ·nodes : GName) (nodes : List ℕ) (κ·register : Lft) (q·register : Share) (b·register o·register : ℕ) (γ·register : GName) (register : List Record) (ok·x-at : Is Place′.row x-at (Place′.vals x-at)) (ok·b : Is u8 b (uint-vals w8 b)) (room·text : Room u8 (length text)) (room·pages : Room u8 (length pages)) (room·nodes : Room u32 (length nodes)) (room·register : Room Record′.row (length register)) where
+  abbrev all-args : Args take-byte‴.signature (κ·text, (κ·pages, (κ·nodes, (κ·register, tt))))
+  all-args = (x-at, (b, (ref b·text o·text γ·text text, (ref b·pages o·pages γ·pages pages, (ref b·nodes o·nodes γ·nodes nodes, (ref b·register o·register γ·register register, tt))))))
 
-  abbrev all-vals : Vals take-byte‴.signature (κ·line, (κ·pages, (κ·nodes, (κ·register, tt))))
-  all-vals = (Place′.mach x-at ∷ [], (vint w8 b ∷ [], (sliceVal (b·line, o·line) (length line) ∷ [], (sliceVal (b·pages, o·pages) (length pages) ∷ [], (sliceVal (b·nodes, o·nodes) (length nodes) ∷ [], (sliceVal (b·register, o·register) (length register) ∷ [], tt))))))
+  abbrev all-vals : Vals take-byte‴.signature (κ·text, (κ·pages, (κ·nodes, (κ·register, tt))))
+  all-vals = (Place′.mach x-at ∷ [], (vint w8 b ∷ [], (sliceVal (b·text, o·text) (length text) ∷ [], (sliceVal (b·pages, o·pages) (length pages) ∷ [], (sliceVal (b·nodes, o·nodes) (length nodes) ∷ [], (sliceVal (b·register, o·register) (length register) ∷ [], tt))))))
 
   abbrev bound : walkOf 𝓤 H A take-byte‴.ended stayed (take-byte‴.clauses 𝓤 H A mem run) .Ghost
-  bound = (((κ·line, (κ·pages, (κ·nodes, (κ·register, tt)))), (q·line, (q·pages, (q·nodes, (q·register, tt)))), tt, all-args, all-vals), tt)
+  bound = (((κ·text, (κ·pages, (κ·nodes, (κ·register, tt)))), (q·text, (q·pages, (q·nodes, (q·register, tt)))), tt, all-args, all-vals), tt)
 
   abbrev Post : Val → SProp 𝓤
   Post = walkOf 𝓤 H A take-byte‴.ended stayed (take-byte‴.clauses 𝓤 H A mem run) .post bound
 
-  exits : (r : Place‴) → Is Place′.row r (Place′.vals r) → (zs·line : List ℕ) → length zs·line ≡ length line → (zs·pages : List ℕ) → length zs·pages ≡ length pages → (zs·nodes : List ℕ) → length zs·nodes ≡ length nodes → (zs·register : List Record) → length zs·register ≡ length register → ent 𝓤 (⋆ 𝓤 H A (‵ (flft κ·line q·line) ∷ ‵ (MutAt u8 κ·line b·line o·line γ·line (length line) zs·line) ∷ ‵ (flft κ·pages q·pages) ∷ ‵ (MutAt u8 κ·pages b·pages o·pages γ·pages (length pages) zs·pages) ∷ ‵ (flft κ·nodes q·nodes) ∷ ‵ (MutAt u32 κ·nodes b·nodes o·nodes γ·nodes (length nodes) zs·nodes) ∷ ‵ (flft κ·register q·register) ∷ ‵ (MutAt Record′.row κ·register b·register o·register γ·register (length register) zs·register) ∷ [])) (Post (Place′.mach r))
-  exits r ok·r zs·line same·line zs·pages same·pages zs·nodes same·nodes zs·register same·register =
-      qed W (‵ (flft κ·line q·line) ∷ ‵ (MutAt u8 κ·line b·line o·line γ·line (length line) zs·line) ∷ ‵ (flft κ·pages q·pages) ∷ ‵ (MutAt u8 κ·pages b·pages o·pages γ·pages (length pages) zs·pages) ∷ ‵ (flft κ·nodes q·nodes) ∷ ‵ (MutAt u32 κ·nodes b·nodes o·nodes γ·nodes (length nodes) zs·nodes) ∷ ‵ (flft κ·register q·register) ∷ ‵ (MutAt Record′.row κ·register b·register o·register γ·register (length register) zs·register) ∷ []) ∵ suffices ! _ (ends-at 𝓤 H A take-byte‴.ended stayed (take-byte‴.clauses 𝓤 H A mem run) W bound (Place′.mach r) r (tt, (tt, (zs·line, (zs·pages, (zs·nodes, (zs·register, tt)))))) (tt, (tt, (same·line, (same·pages, (same·nodes, (same·register, tt))))))) $ plus-nothing ! $
+  exits : (r : Place‴) → Is Place′.row r (Place′.vals r) → (zs·text : List ℕ) → length zs·text ≡ length text → (zs·pages : List ℕ) → length zs·pages ≡ length pages → (zs·nodes : List ℕ) → length zs·nodes ≡ length nodes → (zs·register : List Record) → length zs·register ≡ length register → ent 𝓤 (⋆ 𝓤 H A (‵ (flft κ·text q·text) ∷ ‵ (MutAt u8 κ·text b·text o·text γ·text (length text) zs·text) ∷ ‵ (flft κ·pages q·pages) ∷ ‵ (MutAt u8 κ·pages b·pages o·pages γ·pages (length pages) zs·pages) ∷ ‵ (flft κ·nodes q·nodes) ∷ ‵ (MutAt u32 κ·nodes b·nodes o·nodes γ·nodes (length nodes) zs·nodes) ∷ ‵ (flft κ·register q·register) ∷ ‵ (MutAt Record′.row κ·register b·register o·register γ·register (length register) zs·register) ∷ [])) (Post (Place′.mach r))
+  exits r ok·r zs·text same·text zs·pages same·pages zs·nodes same·nodes zs·register same·register =
+      qed W (‵ (flft κ·text q·text) ∷ ‵ (MutAt u8 κ·text b·text o·text γ·text (length text) zs·text) ∷ ‵ (flft κ·pages q·pages) ∷ ‵ (MutAt u8 κ·pages b·pages o·pages γ·pages (length pages) zs·pages) ∷ ‵ (flft κ·nodes q·nodes) ∷ ‵ (MutAt u32 κ·nodes b·nodes o·nodes γ·nodes (length nodes) zs·nodes) ∷ ‵ (flft κ·register q·register) ∷ ‵ (MutAt Record′.row κ·register b·register o·register γ·register (length register) zs·register) ∷ []) ∵ suffices ! _ (ends-at 𝓤 H A take-byte‴.ended stayed (take-byte‴.clauses 𝓤 H A mem run) W bound (Place′.mach r) r (tt, (tt, (zs·text, (zs·pages, (zs·nodes, (zs·register, tt)))))) (tt, (tt, (same·text, (same·pages, (same·nodes, (same·register, tt))))))) $ plus-nothing ! $
       nothing ! $ move ! (7 ∷ 0 ∷ []) $ join ! $ move ! (5 ∷ 0 ∷ []) $ join ! $ move ! (3 ∷ 0 ∷ []) $ join ! $ move ! (1 ∷ 0 ∷ []) $ join ! $ frame ! $ nothing ! $ move ! (4 ∷ 0 ∷ []) $ fjoin ! $ move ! (3 ∷ 0 ∷ []) $ fjoin ! $ move ! (2 ∷ 0 ∷ []) $ fjoin ! $ move ! (1 ∷ 0 ∷ []) $ fjoin ! $ owned ! u8 (Is u8) (uint-makes 𝓤 H A W w8) b _ ok·b $ fjoin ! $ owned ! Place′.row (Is Place′.row) (Place′.makes 𝓤 H A) x-at _ ok·x-at $ fjoin ! $ frame ! $ owned ! Place′.row (Is Place′.row) (Place′.makes 𝓤 H A) r _ ok·r $ done !
 
-  walk : (𝓣 : Tables 𝓤 H) (known-feed : Triple 𝓤 (𝓣 .C #feed) (Call-feed.Asked 𝓤 H A mem run)) (known-same-line : Triple 𝓤 (𝓣 .C #same-line) (Call-same-line.Asked 𝓤 H A mem run)) (known-answer-line : Triple 𝓤 (𝓣 .C #answer-line) (Call-answer-line.Asked 𝓤 H A mem run)) → ent 𝓤 (onEntry 𝓤 H A take-byte‴.signature (κ·line, (κ·pages, (κ·nodes, (κ·register, tt)))) (q·line, (q·pages, (q·nodes, (q·register, tt)))) all-args all-vals)
-      (WpFn 𝓤 H (𝓣 .C) (𝓣 .Λ) code.function (Place′.mach x-at ∷ vint w8 b ∷ sliceVal (b·line, o·line) (length line) ∷ sliceVal (b·pages, o·pages) (length pages) ∷ sliceVal (b·nodes, o·nodes) (length nodes) ∷ sliceVal (b·register, o·register) (length register) ∷ []) Post)
-  walk 𝓣 known-feed known-same-line known-answer-line =
-      qed W ((‵ (flft κ·line q·line) ⊛ ‵ (flft κ·pages q·pages) ⊛ ‵ (flft κ·nodes q·nodes) ⊛ ‵ (flft κ·register q·register) ⊛ ‵ ftrue) ∷ ‵ (owns (Place′.row ∷ u8 ∷ MutSlice (named 0) κ·line u8 ∷ MutSlice (named 0) κ·pages u8 ∷ MutSlice (named 0) κ·nodes u32 ∷ MutSlice (named 0) κ·register Record′.row ∷ []) all-args all-vals) ∷ []) ∵ enter ! (𝓣 .C) (𝓣 .Λ) code.function (Place′.mach x-at ∷ vint w8 b ∷ sliceVal (b·line, o·line) (length line) ∷ sliceVal (b·pages, o·pages) (length pages) ∷ sliceVal (b·nodes, o·nodes) (length nodes) ∷ sliceVal (b·register, o·register) (length register) ∷ []) _ $
+  walk : (𝓣 : Tables 𝓤 H) (known-feed : Triple 𝓤 (𝓣 .C #feed) (Call-feed.Asked 𝓤 H A mem run)) (known-same-place : Triple 𝓤 (𝓣 .C #same-place) (Call-same-place.Asked 𝓤 H A mem run)) (known-answer : Triple 𝓤 (𝓣 .C #answer) (Call-answer.Asked 𝓤 H A mem run)) → ent 𝓤 (onEntry 𝓤 H A take-byte‴.signature (κ·text, (κ·pages, (κ·nodes, (κ·register, tt)))) (q·text, (q·pages, (q·nodes, (q·register, tt)))) all-args all-vals)
+      (WpFn 𝓤 H (𝓣 .C) (𝓣 .Λ) code.function (Place′.mach x-at ∷ vint w8 b ∷ sliceVal (b·text, o·text) (length text) ∷ sliceVal (b·pages, o·pages) (length pages) ∷ sliceVal (b·nodes, o·nodes) (length nodes) ∷ sliceVal (b·register, o·register) (length register) ∷ []) Post)
+  walk 𝓣 known-feed known-same-place known-answer =
+      qed W ((‵ (flft κ·text q·text) ⊛ ‵ (flft κ·pages q·pages) ⊛ ‵ (flft κ·nodes q·nodes) ⊛ ‵ (flft κ·register q·register) ⊛ ‵ ftrue) ∷ ‵ (owns (Place′.row ∷ u8 ∷ MutSlice (named 0) κ·text u8 ∷ MutSlice (named 0) κ·pages u8 ∷ MutSlice (named 0) κ·nodes u32 ∷ MutSlice (named 0) κ·register Record′.row ∷ []) all-args all-vals) ∷ []) ∵ enter ! (𝓣 .C) (𝓣 .Λ) code.function (Place′.mach x-at ∷ vint w8 b ∷ sliceVal (b·text, o·text) (length text) ∷ sliceVal (b·pages, o·pages) (length pages) ∷ sliceVal (b·nodes, o·nodes) (length nodes) ∷ sliceVal (b·register, o·register) (length register) ∷ []) _ $
       alloc1 ! (λ l₀. alloc1 ! (λ l₁. alloc1 ! (λ l₂. alloc1 ! (λ l₃. alloc1 ! (λ l₄. alloc1 ! (λ l₅. alloc1 ! (λ l₆. alloc1 ! (λ l₇. alloc1 ! (λ l₈. alloc1 ! (λ l₉. alloc1 ! (λ l₁₀. alloc1 ! (λ l₁₁. alloc1 ! (λ l₁₂. alloc1 ! (λ l₁₃. alloc1 ! (λ l₁₄. alloc1 ! (λ l₁₅. alloc1 ! (λ l₁₆. alloc1 ! (λ l₁₇. alloc1 ! (λ l₁₈. alloc1 ! (λ l₁₉. alloc1 ! (λ l₂₀. alloc0 ! $ params1 ! $
-      pass1 ! (init ! 38 refl (Place′.typed 𝓤 H A W x-at ok·x-at)) $ pass1 ! (init ! 36 refl (tt, record { fits = ok·b .1 })) $ pass1 ! (init ! 34 refl (tt, (tt, (record { fits = room·line .0 }, tt)))) $ pass1 ! (init ! 32 refl (tt, (tt, (record { fits = room·pages .0 }, tt)))) $ pass1 ! (init ! 30 refl (tt, (tt, (record { fits = room·nodes .0 }, tt)))) $ pass1 ! (init ! 28 refl (tt, (tt, (record { fits = room·register .0 }, tt)))) $ pass0 ! $
+      pass1 ! (init ! 38 refl (Place′.typed 𝓤 H A W x-at ok·x-at)) $ pass1 ! (init ! 36 refl (tt, record { fits = ok·b .1 })) $ pass1 ! (init ! 34 refl (tt, (tt, (record { fits = room·text .0 }, tt)))) $ pass1 ! (init ! 32 refl (tt, (tt, (record { fits = room·pages .0 }, tt)))) $ pass1 ! (init ! 30 refl (tt, (tt, (record { fits = room·nodes .0 }, tt)))) $ pass1 ! (init ! 28 refl (tt, (tt, (record { fits = room·register .0 }, tt)))) $ pass0 ! $
       move ! (43 ∷ []) $ fsplit ! $ drop ! $ fsplit ! $ drop ! $ fsplit ! $ move ! (1 ∷ []) $ fsplit ! $ move ! (1 ∷ []) $ fsplit ! $ move ! (1 ∷ []) $ fsplit ! $ move ! (1 ∷ []) $ drop ! $ move ! (46 ∷ []) $ split ! $ move ! (1 ∷ []) $ split ! $ move ! (1 ∷ []) $ split ! $ move ! (1 ∷ []) $ split ! $ move ! (1 ∷ []) $ drop ! $ move ! (3 ∷ 7 ∷ 2 ∷ 6 ∷ 1 ∷ 5 ∷ 0 ∷ 4 ∷ []) $
       assigns ! (addr ! (from ! (fld ! refl (hop ! (look-in ! 42 (sub ! 0 refl (whole !))) (stop !))))) (from ! (stop !)) (init ! 28 refl (tt, tt)) $
-      assigns ! (agg ! (and-then ! (load ! (from ! (stop !)) (look ! 28 refl)) (and-then ! (load ! (from ! (fld ! refl (stop !))) (look-in ! 42 (sub ! 1 refl (whole !)))) (no-more !)))) (from ! (stop !)) (init ! 26 refl (tt, (tt, (record { fits = room·line .0 }, tt)))) $
-      lend-mut ! tt u8 κ·line q·line b·line o·line γ·line (length line) line (refl) (λ ν·1-line γ·1-line.
-      Call-feed.calls ! mem run (fmOf 𝓤 H (W .laws) 𝓣) known-feed (x-at .cutter) (ν·1-line ∷ []) fullShare b·line o·line γ·1-line (length line) line b (Place′.ok-cutter x-at ok·x-at) ok·b (and-then ! (load ! (from ! (fld ! refl (stop !))) (look-in ! 46 (sub ! 1 refl (whole !)))) (and-then ! (load ! (from ! (stop !)) (look ! 26 refl)) (and-then ! (load ! (from ! (stop !)) (look ! 44 refl)) (no-more !))))
-      (λ ok·1 same·1-line. back-mut ! tt u8 κ·line q·line b·line o·line γ·line (length line) line (line₁ x-at b line pages nodes register) ν·1-line γ·1-line (refl) same·1-line room·line $ land ! (from ! (stop !)) (init ! 34 refl (Fed′.typed 𝓤 H A W (r1 x-at b line pages nodes register) ok·1)) $
-      here ! (‵ (flft κ·line q·line) ∷ ‵ (MutAt u8 κ·line b·line o·line γ·line (length line) (line₁ x-at b line pages nodes register)) ∷ ‵ (flft κ·pages q·pages) ∷ ‵ (MutAt u8 κ·pages b·pages o·pages γ·pages (length pages) pages) ∷ ‵ (flft κ·nodes q·nodes) ∷ ‵ (MutAt u32 κ·nodes b·nodes o·nodes γ·nodes (length nodes) nodes) ∷ ‵ (flft κ·register q·register) ∷ ‵ (MutAt Record′.row κ·register b·register o·register γ·register (length register) register) ∷ empty (sliceTy (tyRef erased mut (pointee (Record′.row .written)))) l₂₀ (empty (tyRef erased mut (pointee (Record′.row .written))) l₁₉ (empty (sliceTy (tyRef erased mut (pointee (u32 .written)))) l₁₈ (empty (tyRef erased mut (pointee (u32 .written))) l₁₇ (empty (sliceTy (tyRef erased mut (pointee (u8 .written)))) l₁₆ (empty (tyRef erased mut (pointee (u8 .written))) l₁₅ (empty (sliceTy (tyRef erased imm (pointee (u8 .written)))) l₁₄ (empty (tyRef erased imm (pointee (u8 .written))) l₁₃ (empty (tyAt (code.function .locals) 12) l₁₂ (holds (sliceTy (tyRef erased mut (pointee (u8 .written)))) l₁₁ (sliceVal (b·line, o·line) (length line)) (holds (tyRef erased mut (pointee (u8 .written))) l₁₀ (vptr b·line o·line) (empty (tyAt (code.function .locals) 9) l₉ (empty (tyAt (code.function .locals) 8) l₈ (holds (tyAt (code.function .locals) 7) l₇ (Fed′.mach (r1 x-at b line pages nodes register)) (holds (sliceTy (tyRef (named 3) mut (pointee (Record′.row .written)))) l₆ (sliceVal (b·register, o·register) (length register)) (holds (sliceTy (tyRef (named 2) mut (pointee (u32 .written)))) l₅ (sliceVal (b·nodes, o·nodes) (length nodes)) (holds (sliceTy (tyRef (named 1) mut (pointee (u8 .written)))) l₄ (sliceVal (b·pages, o·pages) (length pages)) (holds (sliceTy (tyRef (named 0) mut (pointee (u8 .written)))) l₃ (sliceVal (b·line, o·line) (length line)) (holds (tyInt w8) l₂ (vint w8 b) (holds (tyAt (code.function .locals) 1) l₁ (Place′.mach x-at) (empty (tyAt (code.function .locals) 0) l₀ []))))))))))))))))))))) $
-      Fed′.cases ! (r1 x-at b line pages nodes register)
+      assigns ! (agg ! (and-then ! (load ! (from ! (stop !)) (look ! 28 refl)) (and-then ! (load ! (from ! (fld ! refl (stop !))) (look-in ! 42 (sub ! 1 refl (whole !)))) (no-more !)))) (from ! (stop !)) (init ! 26 refl (tt, (tt, (record { fits = room·text .0 }, tt)))) $
+      lend-mut ! tt u8 κ·text q·text b·text o·text γ·text (length text) text (refl) (λ ν·1-text γ·1-text.
+      Call-feed.calls ! mem run (fmOf 𝓤 H (W .laws) 𝓣) known-feed (x-at .cutter) (ν·1-text ∷ []) fullShare b·text o·text γ·1-text (length text) text b (Place′.ok-cutter x-at ok·x-at) ok·b (and-then ! (load ! (from ! (fld ! refl (stop !))) (look-in ! 46 (sub ! 1 refl (whole !)))) (and-then ! (load ! (from ! (stop !)) (look ! 26 refl)) (and-then ! (load ! (from ! (stop !)) (look ! 44 refl)) (no-more !))))
+      (λ ok·1 same·1-text. back-mut ! tt u8 κ·text q·text b·text o·text γ·text (length text) text (text₁ x-at b text pages nodes register) ν·1-text γ·1-text (refl) same·1-text room·text $ land ! (from ! (stop !)) (init ! 34 refl (Fed′.typed 𝓤 H A W (r1 x-at b text pages nodes register) ok·1)) $
+      here ! (‵ (flft κ·text q·text) ∷ ‵ (MutAt u8 κ·text b·text o·text γ·text (length text) (text₁ x-at b text pages nodes register)) ∷ ‵ (flft κ·pages q·pages) ∷ ‵ (MutAt u8 κ·pages b·pages o·pages γ·pages (length pages) pages) ∷ ‵ (flft κ·nodes q·nodes) ∷ ‵ (MutAt u32 κ·nodes b·nodes o·nodes γ·nodes (length nodes) nodes) ∷ ‵ (flft κ·register q·register) ∷ ‵ (MutAt Record′.row κ·register b·register o·register γ·register (length register) register) ∷ empty (sliceTy (tyRef erased mut (pointee (Record′.row .written)))) l₂₀ (empty (tyRef erased mut (pointee (Record′.row .written))) l₁₉ (empty (sliceTy (tyRef erased mut (pointee (u32 .written)))) l₁₈ (empty (tyRef erased mut (pointee (u32 .written))) l₁₇ (empty (sliceTy (tyRef erased mut (pointee (u8 .written)))) l₁₆ (empty (tyRef erased mut (pointee (u8 .written))) l₁₅ (empty (sliceTy (tyRef erased imm (pointee (u8 .written)))) l₁₄ (empty (tyRef erased imm (pointee (u8 .written))) l₁₃ (empty (tyAt (code.function .locals) 12) l₁₂ (holds (sliceTy (tyRef erased mut (pointee (u8 .written)))) l₁₁ (sliceVal (b·text, o·text) (length text)) (holds (tyRef erased mut (pointee (u8 .written))) l₁₀ (vptr b·text o·text) (empty (tyAt (code.function .locals) 9) l₉ (empty (tyAt (code.function .locals) 8) l₈ (holds (tyAt (code.function .locals) 7) l₇ (Fed′.mach (r1 x-at b text pages nodes register)) (holds (sliceTy (tyRef (named 3) mut (pointee (Record′.row .written)))) l₆ (sliceVal (b·register, o·register) (length register)) (holds (sliceTy (tyRef (named 2) mut (pointee (u32 .written)))) l₅ (sliceVal (b·nodes, o·nodes) (length nodes)) (holds (sliceTy (tyRef (named 1) mut (pointee (u8 .written)))) l₄ (sliceVal (b·pages, o·pages) (length pages)) (holds (sliceTy (tyRef (named 0) mut (pointee (u8 .written)))) l₃ (sliceVal (b·text, o·text) (length text)) (holds (tyInt w8) l₂ (vint w8 b) (holds (tyAt (code.function .locals) 1) l₁ (Place′.mach x-at) (empty (tyAt (code.function .locals) 0) l₀ []))))))))))))))))))))) $
+      Fed′.cases ! (r1 x-at b text pages nodes register)
       (λ y1-0 m·1. rewrite ! 34 (λ (u : Fed). ‵ (fat fullShare Fed′.ty l₇ 0 (Fed′.mach u))) m·1 refl $ switches-to ! 0 (load ! (from ! (vrt ! refl (fld ! refl (stop !)))) (look-tag ! 34 (whole !))) (
       regroup ! $
       assigns ! (of-opd ! (load ! (from ! (vrt ! refl (fld ! refl (stop !)))) (look-in ! 34 (in-variant ! 0 0 refl refl (whole !))))) (from ! (stop !)) (init ! 32 refl (Cutter′.typed 𝓤 H A W y1-0 (Fed′.ok-More-0 y1-0 (subst Fed′.Ok m·1 ok·1)))) $
-      Call-same-line.calls ! mem run (fmOf 𝓤 H (W .laws) 𝓣) known-same-line (x-at .kept) y1-0 (Place′.ok-kept x-at ok·x-at) (Fed′.ok-More-0 y1-0 (subst Fed′.Ok m·1 ok·1)) (and-then ! (load ! (from ! (fld ! refl (stop !))) (look-in ! 47 (sub ! 0 refl (whole !)))) (and-then ! (load ! (from ! (stop !)) (look ! 33 refl)) (no-more !)))
+      Call-same-place.calls ! mem run (fmOf 𝓤 H (W .laws) 𝓣) known-same-place (x-at .kept) y1-0 (Place′.ok-kept x-at ok·x-at) (Fed′.ok-More-0 y1-0 (subst Fed′.Ok m·1 ok·1)) (and-then ! (load ! (from ! (fld ! refl (stop !))) (look-in ! 47 (sub ! 0 refl (whole !)))) (and-then ! (load ! (from ! (stop !)) (look ! 33 refl)) (no-more !)))
       (λ r2 ok·2. land ! (from ! (stop !)) (init ! 24 refl (Place′.typed 𝓤 H A W r2 ok·2)) $
-      here ! (‵ (flft κ·line q·line) ∷ ‵ (MutAt u8 κ·line b·line o·line γ·line (length line) (line₁ x-at b line pages nodes register)) ∷ ‵ (flft κ·pages q·pages) ∷ ‵ (MutAt u8 κ·pages b·pages o·pages γ·pages (length pages) pages) ∷ ‵ (flft κ·nodes q·nodes) ∷ ‵ (MutAt u32 κ·nodes b·nodes o·nodes γ·nodes (length nodes) nodes) ∷ ‵ (flft κ·register q·register) ∷ ‵ (MutAt Record′.row κ·register b·register o·register γ·register (length register) register) ∷ empty (sliceTy (tyRef erased mut (pointee (Record′.row .written)))) l₂₀ (empty (tyRef erased mut (pointee (Record′.row .written))) l₁₉ (empty (sliceTy (tyRef erased mut (pointee (u32 .written)))) l₁₈ (empty (tyRef erased mut (pointee (u32 .written))) l₁₇ (empty (sliceTy (tyRef erased mut (pointee (u8 .written)))) l₁₆ (empty (tyRef erased mut (pointee (u8 .written))) l₁₅ (empty (sliceTy (tyRef erased imm (pointee (u8 .written)))) l₁₄ (empty (tyRef erased imm (pointee (u8 .written))) l₁₃ (holds (tyAt (code.function .locals) 12) l₁₂ (Place′.mach r2) (holds (sliceTy (tyRef erased mut (pointee (u8 .written)))) l₁₁ (sliceVal (b·line, o·line) (length line)) (holds (tyRef erased mut (pointee (u8 .written))) l₁₀ (vptr b·line o·line) (empty (tyAt (code.function .locals) 9) l₉ (holds (tyAt (code.function .locals) 8) l₈ (Cutter′.mach y1-0) (holds (tyAt (code.function .locals) 7) l₇ (Fed′.mach (Fed.More y1-0)) (holds (sliceTy (tyRef (named 3) mut (pointee (Record′.row .written)))) l₆ (sliceVal (b·register, o·register) (length register)) (holds (sliceTy (tyRef (named 2) mut (pointee (u32 .written)))) l₅ (sliceVal (b·nodes, o·nodes) (length nodes)) (holds (sliceTy (tyRef (named 1) mut (pointee (u8 .written)))) l₄ (sliceVal (b·pages, o·pages) (length pages)) (holds (sliceTy (tyRef (named 0) mut (pointee (u8 .written)))) l₃ (sliceVal (b·line, o·line) (length line)) (holds (tyInt w8) l₂ (vint w8 b) (holds (tyAt (code.function .locals) 1) l₁ (Place′.mach x-at) (empty (tyAt (code.function .locals) 0) l₀ []))))))))))))))))))))) $
+      here ! (‵ (flft κ·text q·text) ∷ ‵ (MutAt u8 κ·text b·text o·text γ·text (length text) (text₁ x-at b text pages nodes register)) ∷ ‵ (flft κ·pages q·pages) ∷ ‵ (MutAt u8 κ·pages b·pages o·pages γ·pages (length pages) pages) ∷ ‵ (flft κ·nodes q·nodes) ∷ ‵ (MutAt u32 κ·nodes b·nodes o·nodes γ·nodes (length nodes) nodes) ∷ ‵ (flft κ·register q·register) ∷ ‵ (MutAt Record′.row κ·register b·register o·register γ·register (length register) register) ∷ empty (sliceTy (tyRef erased mut (pointee (Record′.row .written)))) l₂₀ (empty (tyRef erased mut (pointee (Record′.row .written))) l₁₉ (empty (sliceTy (tyRef erased mut (pointee (u32 .written)))) l₁₈ (empty (tyRef erased mut (pointee (u32 .written))) l₁₇ (empty (sliceTy (tyRef erased mut (pointee (u8 .written)))) l₁₆ (empty (tyRef erased mut (pointee (u8 .written))) l₁₅ (empty (sliceTy (tyRef erased imm (pointee (u8 .written)))) l₁₄ (empty (tyRef erased imm (pointee (u8 .written))) l₁₃ (holds (tyAt (code.function .locals) 12) l₁₂ (Place′.mach r2) (holds (sliceTy (tyRef erased mut (pointee (u8 .written)))) l₁₁ (sliceVal (b·text, o·text) (length text)) (holds (tyRef erased mut (pointee (u8 .written))) l₁₀ (vptr b·text o·text) (empty (tyAt (code.function .locals) 9) l₉ (holds (tyAt (code.function .locals) 8) l₈ (Cutter′.mach y1-0) (holds (tyAt (code.function .locals) 7) l₇ (Fed′.mach (Fed.More y1-0)) (holds (sliceTy (tyRef (named 3) mut (pointee (Record′.row .written)))) l₆ (sliceVal (b·register, o·register) (length register)) (holds (sliceTy (tyRef (named 2) mut (pointee (u32 .written)))) l₅ (sliceVal (b·nodes, o·nodes) (length nodes)) (holds (sliceTy (tyRef (named 1) mut (pointee (u8 .written)))) l₄ (sliceVal (b·pages, o·pages) (length pages)) (holds (sliceTy (tyRef (named 0) mut (pointee (u8 .written)))) l₃ (sliceVal (b·text, o·text) (length text)) (holds (tyInt w8) l₂ (vint w8 b) (holds (tyAt (code.function .locals) 1) l₁ (Place′.mach x-at) (empty (tyAt (code.function .locals) 0) l₀ []))))))))))))))))))))) $
       assigns ! (of-opd ! (load ! (from ! (stop !)) (look ! 24 refl))) (from ! (stop !)) (init ! 48 refl (Place′.typed 𝓤 H A W r2 ok·2)) $
       returns ! (look ! 48 refl) $
-      move ! (48 ∷ 49 ∷ []) $ forget ! 0 refl $ free1 ! $ move ! (46 ∷ 47 ∷ []) $ forget ! 0 refl $ free1 ! $ move ! (44 ∷ 45 ∷ []) $ forget ! 0 refl $ free1 ! $ move ! (42 ∷ 43 ∷ []) $ forget ! 0 refl $ free1 ! $ move ! (40 ∷ 41 ∷ []) $ forget ! 0 refl $ free1 ! $ move ! (38 ∷ 39 ∷ []) $ forget ! 0 refl $ free1 ! $ move ! (36 ∷ 37 ∷ []) $ forget ! 0 refl $ free1 ! $ move ! (34 ∷ 35 ∷ []) $ forget ! 0 refl $ free1 ! $ move ! (32 ∷ 33 ∷ []) $ forget ! 0 refl $ free1 ! $ move ! (30 ∷ 31 ∷ []) $ free1 ! $ move ! (28 ∷ 29 ∷ []) $ forget ! 0 refl $ free1 ! $ move ! (26 ∷ 27 ∷ []) $ forget ! 0 refl $ free1 ! $ move ! (24 ∷ 25 ∷ []) $ forget ! 0 refl $ free1 ! $ move ! (22 ∷ 23 ∷ []) $ free1 ! $ move ! (20 ∷ 21 ∷ []) $ free1 ! $ move ! (18 ∷ 19 ∷ []) $ free1 ! $ move ! (16 ∷ 17 ∷ []) $ free1 ! $ move ! (14 ∷ 15 ∷ []) $ free1 ! $ move ! (12 ∷ 13 ∷ []) $ free1 ! $ move ! (10 ∷ 11 ∷ []) $ free1 ! $ move ! (8 ∷ 9 ∷ []) $ free1 ! $ free0 ! $ by ! (exits r2 ok·2 (line₁ x-at b line pages nodes register) (sym (refl ∙ sym same·1-line)) pages (sym (refl)) nodes (sym (refl)) register (sym (refl))))))
+      move ! (48 ∷ 49 ∷ []) $ forget ! 0 refl $ free1 ! $ move ! (46 ∷ 47 ∷ []) $ forget ! 0 refl $ free1 ! $ move ! (44 ∷ 45 ∷ []) $ forget ! 0 refl $ free1 ! $ move ! (42 ∷ 43 ∷ []) $ forget ! 0 refl $ free1 ! $ move ! (40 ∷ 41 ∷ []) $ forget ! 0 refl $ free1 ! $ move ! (38 ∷ 39 ∷ []) $ forget ! 0 refl $ free1 ! $ move ! (36 ∷ 37 ∷ []) $ forget ! 0 refl $ free1 ! $ move ! (34 ∷ 35 ∷ []) $ forget ! 0 refl $ free1 ! $ move ! (32 ∷ 33 ∷ []) $ forget ! 0 refl $ free1 ! $ move ! (30 ∷ 31 ∷ []) $ free1 ! $ move ! (28 ∷ 29 ∷ []) $ forget ! 0 refl $ free1 ! $ move ! (26 ∷ 27 ∷ []) $ forget ! 0 refl $ free1 ! $ move ! (24 ∷ 25 ∷ []) $ forget ! 0 refl $ free1 ! $ move ! (22 ∷ 23 ∷ []) $ free1 ! $ move ! (20 ∷ 21 ∷ []) $ free1 ! $ move ! (18 ∷ 19 ∷ []) $ free1 ! $ move ! (16 ∷ 17 ∷ []) $ free1 ! $ move ! (14 ∷ 15 ∷ []) $ free1 ! $ move ! (12 ∷ 13 ∷ []) $ free1 ! $ move ! (10 ∷ 11 ∷ []) $ free1 ! $ move ! (8 ∷ 9 ∷ []) $ free1 ! $ free0 ! $ by ! (exits r2 ok·2 (text₁ x-at b text pages nodes register) (sym (refl ∙ sym same·1-text)) pages (sym (refl)) nodes (sym (refl)) register (sym (refl))))))
       (λ y1-0 m·1. rewrite ! 34 (λ (u : Fed). ‵ (fat fullShare Fed′.ty l₇ 0 (Fed′.mach u))) m·1 refl $ switches-to ! 1 (load ! (from ! (vrt ! refl (fld ! refl (stop !)))) (look-tag ! 34 (whole !))) (
       regroup ! $
-      assigns ! (of-opd ! (load ! (from ! (vrt ! refl (fld ! refl (stop !)))) (look-in ! 34 (in-variant ! 1 0 refl refl (whole !))))) (from ! (stop !)) (init ! 30 refl (Cutter′.typed 𝓤 H A W y1-0 (Fed′.ok-Line-0 y1-0 (subst Fed′.Ok m·1 ok·1)))) $
+      assigns ! (of-opd ! (load ! (from ! (vrt ! refl (fld ! refl (stop !)))) (look-in ! 34 (in-variant ! 1 0 refl refl (whole !))))) (from ! (stop !)) (init ! 30 refl (Cutter′.typed 𝓤 H A W y1-0 (Fed′.ok-Ended-0 y1-0 (subst Fed′.Ok m·1 ok·1)))) $
       regroup ! $
       assigns ! (addr ! (from ! (fld ! refl (hop ! (look-in ! 42 (sub ! 0 refl (whole !))) (stop !))))) (from ! (stop !)) (init ! 22 refl (tt, tt)) $
       regroup ! $
-      assigns ! (agg ! (and-then ! (load ! (from ! (stop !)) (look ! 22 refl)) (and-then ! (load ! (from ! (fld ! refl (stop !))) (look-in ! 42 (sub ! 1 refl (whole !)))) (no-more !)))) (from ! (stop !)) (init ! 20 refl (tt, (tt, (record { fits = room·line .0 }, tt)))) $
+      assigns ! (agg ! (and-then ! (load ! (from ! (stop !)) (look ! 22 refl)) (and-then ! (load ! (from ! (fld ! refl (stop !))) (look-in ! 42 (sub ! 1 refl (whole !)))) (no-more !)))) (from ! (stop !)) (init ! 20 refl (tt, (tt, (record { fits = room·text .0 }, tt)))) $
       regroup ! $
       assigns ! (addr ! (from ! (fld ! refl (hop ! (look-in ! 40 (sub ! 0 refl (whole !))) (stop !))))) (from ! (stop !)) (init ! 18 refl (tt, tt)) $
       regroup ! $
@@ -145,24 +145,24 @@ module _ {M : Type 1} (𝓤 : URA M) (H : Heap 𝓤) (A : Atoms 𝓤) (W : Given
       assigns ! (addr ! (from ! (fld ! refl (hop ! (look-in ! 36 (sub ! 0 refl (whole !))) (stop !))))) (from ! (stop !)) (init ! 10 refl (tt, tt)) $
       regroup ! $
       assigns ! (agg ! (and-then ! (load ! (from ! (stop !)) (look ! 10 refl)) (and-then ! (load ! (from ! (fld ! refl (stop !))) (look-in ! 36 (sub ! 1 refl (whole !)))) (no-more !)))) (from ! (stop !)) (init ! 8 refl (tt, (tt, (record { fits = room·register .0 }, tt)))) $
-      lend-shr ! tt u8 κ·line q·line b·line o·line γ·line (length line) (line₁ x-at b line pages nodes register) (refl ∙ sym same·1-line) (λ ν·3-line γ·3-line. move ! (3 ∷ 4 ∷ []) $ lend-mut ! tt u8 κ·pages q·pages b·pages o·pages γ·pages (length pages) pages (refl) (λ ν·3-pages γ·3-pages. move ! (6 ∷ 7 ∷ []) $ lend-mut ! tt u32 κ·nodes q·nodes b·nodes o·nodes γ·nodes (length nodes) nodes (refl) (λ ν·3-nodes γ·3-nodes. move ! (9 ∷ 10 ∷ []) $ lend-mut ! tt Record′.row κ·register q·register b·register o·register γ·register (length register) register (refl) (λ ν·3-register γ·3-register. move ! (9 ∷ 10 ∷ 6 ∷ 7 ∷ 3 ∷ 4 ∷ 0 ∷ 1 ∷ []) $
-      Call-answer-line.calls ! mem run (fmOf 𝓤 H (W .laws) 𝓣) known-answer-line (x-at .kept) y1-0 (ν·3-line ∷ []) fullShare b·line o·line γ·3-line (length line) (line₁ x-at b line pages nodes register) (ν·3-pages ∷ []) fullShare b·pages o·pages γ·3-pages (length pages) pages (ν·3-nodes ∷ []) fullShare b·nodes o·nodes γ·3-nodes (length nodes) nodes (ν·3-register ∷ []) fullShare b·register o·register γ·3-register (length register) register (Place′.ok-kept x-at ok·x-at) (Fed′.ok-Line-0 y1-0 (subst Fed′.Ok m·1 ok·1)) (and-then ! (load ! (from ! (fld ! refl (stop !))) (look-in ! 44 (sub ! 0 refl (whole !)))) (and-then ! (load ! (from ! (stop !)) (look ! 28 refl)) (and-then ! (load ! (from ! (stop !)) (look ! 18 refl)) (and-then ! (load ! (from ! (stop !)) (look ! 14 refl)) (and-then ! (load ! (from ! (stop !)) (look ! 10 refl)) (and-then ! (load ! (from ! (stop !)) (look ! 6 refl)) (no-more !)))))))
-      (λ r3 pages₃ nodes₃ register₃ ok·3 same·3-pages same·3-nodes same·3-register. move ! (0 ∷ 1 ∷ 11 ∷ []) $ back-shr ! tt u8 κ·line q·line b·line o·line γ·line (length line) (line₁ x-at b line pages nodes register) ν·3-line (refl ∙ sym same·1-line) room·line $ move ! (2 ∷ 3 ∷ 10 ∷ []) $ back-mut ! tt u8 κ·pages q·pages b·pages o·pages γ·pages (length pages) pages pages₃ ν·3-pages γ·3-pages (refl) same·3-pages room·pages $ move ! (4 ∷ 5 ∷ 9 ∷ []) $ back-mut ! tt u32 κ·nodes q·nodes b·nodes o·nodes γ·nodes (length nodes) nodes nodes₃ ν·3-nodes γ·3-nodes (refl) same·3-nodes room·nodes $ move ! (6 ∷ 7 ∷ 8 ∷ []) $ back-mut ! tt Record′.row κ·register q·register b·register o·register γ·register (length register) register register₃ ν·3-register γ·3-register (refl) same·3-register room·register $ move ! (6 ∷ 7 ∷ 4 ∷ 5 ∷ 2 ∷ 3 ∷ 0 ∷ 1 ∷ []) $ land ! (from ! (stop !)) (init ! 24 refl (Place′.typed 𝓤 H A W r3 ok·3)) $
-      here ! (‵ (flft κ·line q·line) ∷ ‵ (MutAt u8 κ·line b·line o·line γ·line (length line) (line₁ x-at b line pages nodes register)) ∷ ‵ (flft κ·pages q·pages) ∷ ‵ (MutAt u8 κ·pages b·pages o·pages γ·pages (length pages) pages₃) ∷ ‵ (flft κ·nodes q·nodes) ∷ ‵ (MutAt u32 κ·nodes b·nodes o·nodes γ·nodes (length nodes) nodes₃) ∷ ‵ (flft κ·register q·register) ∷ ‵ (MutAt Record′.row κ·register b·register o·register γ·register (length register) register₃) ∷ holds (sliceTy (tyRef erased mut (pointee (Record′.row .written)))) l₂₀ (sliceVal (b·register, o·register) (length register)) (holds (tyRef erased mut (pointee (Record′.row .written))) l₁₉ (vptr b·register o·register) (holds (sliceTy (tyRef erased mut (pointee (u32 .written)))) l₁₈ (sliceVal (b·nodes, o·nodes) (length nodes)) (holds (tyRef erased mut (pointee (u32 .written))) l₁₇ (vptr b·nodes o·nodes) (holds (sliceTy (tyRef erased mut (pointee (u8 .written)))) l₁₆ (sliceVal (b·pages, o·pages) (length pages)) (holds (tyRef erased mut (pointee (u8 .written))) l₁₅ (vptr b·pages o·pages) (holds (sliceTy (tyRef erased imm (pointee (u8 .written)))) l₁₄ (sliceVal (b·line, o·line) (length line)) (holds (tyRef erased imm (pointee (u8 .written))) l₁₃ (vptr b·line o·line) (holds (tyAt (code.function .locals) 12) l₁₂ (Place′.mach r3) (holds (sliceTy (tyRef erased mut (pointee (u8 .written)))) l₁₁ (sliceVal (b·line, o·line) (length line)) (holds (tyRef erased mut (pointee (u8 .written))) l₁₀ (vptr b·line o·line) (holds (tyAt (code.function .locals) 9) l₉ (Cutter′.mach y1-0) (empty (tyAt (code.function .locals) 8) l₈ (holds (tyAt (code.function .locals) 7) l₇ (Fed′.mach (Fed.Line y1-0)) (holds (sliceTy (tyRef (named 3) mut (pointee (Record′.row .written)))) l₆ (sliceVal (b·register, o·register) (length register)) (holds (sliceTy (tyRef (named 2) mut (pointee (u32 .written)))) l₅ (sliceVal (b·nodes, o·nodes) (length nodes)) (holds (sliceTy (tyRef (named 1) mut (pointee (u8 .written)))) l₄ (sliceVal (b·pages, o·pages) (length pages)) (holds (sliceTy (tyRef (named 0) mut (pointee (u8 .written)))) l₃ (sliceVal (b·line, o·line) (length line)) (holds (tyInt w8) l₂ (vint w8 b) (holds (tyAt (code.function .locals) 1) l₁ (Place′.mach x-at) (empty (tyAt (code.function .locals) 0) l₀ []))))))))))))))))))))) $
+      lend-shr ! tt u8 κ·text q·text b·text o·text γ·text (length text) (text₁ x-at b text pages nodes register) (refl ∙ sym same·1-text) (λ ν·3-text γ·3-text. move ! (3 ∷ 4 ∷ []) $ lend-mut ! tt u8 κ·pages q·pages b·pages o·pages γ·pages (length pages) pages (refl) (λ ν·3-pages γ·3-pages. move ! (6 ∷ 7 ∷ []) $ lend-mut ! tt u32 κ·nodes q·nodes b·nodes o·nodes γ·nodes (length nodes) nodes (refl) (λ ν·3-nodes γ·3-nodes. move ! (9 ∷ 10 ∷ []) $ lend-mut ! tt Record′.row κ·register q·register b·register o·register γ·register (length register) register (refl) (λ ν·3-register γ·3-register. move ! (9 ∷ 10 ∷ 6 ∷ 7 ∷ 3 ∷ 4 ∷ 0 ∷ 1 ∷ []) $
+      Call-answer.calls ! mem run (fmOf 𝓤 H (W .laws) 𝓣) known-answer (x-at .kept) y1-0 (ν·3-text ∷ []) fullShare b·text o·text γ·3-text (length text) (text₁ x-at b text pages nodes register) (ν·3-pages ∷ []) fullShare b·pages o·pages γ·3-pages (length pages) pages (ν·3-nodes ∷ []) fullShare b·nodes o·nodes γ·3-nodes (length nodes) nodes (ν·3-register ∷ []) fullShare b·register o·register γ·3-register (length register) register (Place′.ok-kept x-at ok·x-at) (Fed′.ok-Ended-0 y1-0 (subst Fed′.Ok m·1 ok·1)) (and-then ! (load ! (from ! (fld ! refl (stop !))) (look-in ! 44 (sub ! 0 refl (whole !)))) (and-then ! (load ! (from ! (stop !)) (look ! 28 refl)) (and-then ! (load ! (from ! (stop !)) (look ! 18 refl)) (and-then ! (load ! (from ! (stop !)) (look ! 14 refl)) (and-then ! (load ! (from ! (stop !)) (look ! 10 refl)) (and-then ! (load ! (from ! (stop !)) (look ! 6 refl)) (no-more !)))))))
+      (λ r3 pages₃ nodes₃ register₃ ok·3 same·3-pages same·3-nodes same·3-register. move ! (0 ∷ 1 ∷ 11 ∷ []) $ back-shr ! tt u8 κ·text q·text b·text o·text γ·text (length text) (text₁ x-at b text pages nodes register) ν·3-text (refl ∙ sym same·1-text) room·text $ move ! (2 ∷ 3 ∷ 10 ∷ []) $ back-mut ! tt u8 κ·pages q·pages b·pages o·pages γ·pages (length pages) pages pages₃ ν·3-pages γ·3-pages (refl) same·3-pages room·pages $ move ! (4 ∷ 5 ∷ 9 ∷ []) $ back-mut ! tt u32 κ·nodes q·nodes b·nodes o·nodes γ·nodes (length nodes) nodes nodes₃ ν·3-nodes γ·3-nodes (refl) same·3-nodes room·nodes $ move ! (6 ∷ 7 ∷ 8 ∷ []) $ back-mut ! tt Record′.row κ·register q·register b·register o·register γ·register (length register) register register₃ ν·3-register γ·3-register (refl) same·3-register room·register $ move ! (6 ∷ 7 ∷ 4 ∷ 5 ∷ 2 ∷ 3 ∷ 0 ∷ 1 ∷ []) $ land ! (from ! (stop !)) (init ! 24 refl (Place′.typed 𝓤 H A W r3 ok·3)) $
+      here ! (‵ (flft κ·text q·text) ∷ ‵ (MutAt u8 κ·text b·text o·text γ·text (length text) (text₁ x-at b text pages nodes register)) ∷ ‵ (flft κ·pages q·pages) ∷ ‵ (MutAt u8 κ·pages b·pages o·pages γ·pages (length pages) pages₃) ∷ ‵ (flft κ·nodes q·nodes) ∷ ‵ (MutAt u32 κ·nodes b·nodes o·nodes γ·nodes (length nodes) nodes₃) ∷ ‵ (flft κ·register q·register) ∷ ‵ (MutAt Record′.row κ·register b·register o·register γ·register (length register) register₃) ∷ holds (sliceTy (tyRef erased mut (pointee (Record′.row .written)))) l₂₀ (sliceVal (b·register, o·register) (length register)) (holds (tyRef erased mut (pointee (Record′.row .written))) l₁₉ (vptr b·register o·register) (holds (sliceTy (tyRef erased mut (pointee (u32 .written)))) l₁₈ (sliceVal (b·nodes, o·nodes) (length nodes)) (holds (tyRef erased mut (pointee (u32 .written))) l₁₇ (vptr b·nodes o·nodes) (holds (sliceTy (tyRef erased mut (pointee (u8 .written)))) l₁₆ (sliceVal (b·pages, o·pages) (length pages)) (holds (tyRef erased mut (pointee (u8 .written))) l₁₅ (vptr b·pages o·pages) (holds (sliceTy (tyRef erased imm (pointee (u8 .written)))) l₁₄ (sliceVal (b·text, o·text) (length text)) (holds (tyRef erased imm (pointee (u8 .written))) l₁₃ (vptr b·text o·text) (holds (tyAt (code.function .locals) 12) l₁₂ (Place′.mach r3) (holds (sliceTy (tyRef erased mut (pointee (u8 .written)))) l₁₁ (sliceVal (b·text, o·text) (length text)) (holds (tyRef erased mut (pointee (u8 .written))) l₁₀ (vptr b·text o·text) (holds (tyAt (code.function .locals) 9) l₉ (Cutter′.mach y1-0) (empty (tyAt (code.function .locals) 8) l₈ (holds (tyAt (code.function .locals) 7) l₇ (Fed′.mach (Fed.Ended y1-0)) (holds (sliceTy (tyRef (named 3) mut (pointee (Record′.row .written)))) l₆ (sliceVal (b·register, o·register) (length register)) (holds (sliceTy (tyRef (named 2) mut (pointee (u32 .written)))) l₅ (sliceVal (b·nodes, o·nodes) (length nodes)) (holds (sliceTy (tyRef (named 1) mut (pointee (u8 .written)))) l₄ (sliceVal (b·pages, o·pages) (length pages)) (holds (sliceTy (tyRef (named 0) mut (pointee (u8 .written)))) l₃ (sliceVal (b·text, o·text) (length text)) (holds (tyInt w8) l₂ (vint w8 b) (holds (tyAt (code.function .locals) 1) l₁ (Place′.mach x-at) (empty (tyAt (code.function .locals) 0) l₀ []))))))))))))))))))))) $
       assigns ! (of-opd ! (load ! (from ! (stop !)) (look ! 24 refl))) (from ! (stop !)) (init ! 48 refl (Place′.typed 𝓤 H A W r3 ok·3)) $
       returns ! (look ! 48 refl) $
-      move ! (48 ∷ 49 ∷ []) $ forget ! 0 refl $ free1 ! $ move ! (46 ∷ 47 ∷ []) $ forget ! 0 refl $ free1 ! $ move ! (44 ∷ 45 ∷ []) $ forget ! 0 refl $ free1 ! $ move ! (42 ∷ 43 ∷ []) $ forget ! 0 refl $ free1 ! $ move ! (40 ∷ 41 ∷ []) $ forget ! 0 refl $ free1 ! $ move ! (38 ∷ 39 ∷ []) $ forget ! 0 refl $ free1 ! $ move ! (36 ∷ 37 ∷ []) $ forget ! 0 refl $ free1 ! $ move ! (34 ∷ 35 ∷ []) $ forget ! 0 refl $ free1 ! $ move ! (32 ∷ 33 ∷ []) $ free1 ! $ move ! (30 ∷ 31 ∷ []) $ forget ! 0 refl $ free1 ! $ move ! (28 ∷ 29 ∷ []) $ forget ! 0 refl $ free1 ! $ move ! (26 ∷ 27 ∷ []) $ forget ! 0 refl $ free1 ! $ move ! (24 ∷ 25 ∷ []) $ forget ! 0 refl $ free1 ! $ move ! (22 ∷ 23 ∷ []) $ forget ! 0 refl $ free1 ! $ move ! (20 ∷ 21 ∷ []) $ forget ! 0 refl $ free1 ! $ move ! (18 ∷ 19 ∷ []) $ forget ! 0 refl $ free1 ! $ move ! (16 ∷ 17 ∷ []) $ forget ! 0 refl $ free1 ! $ move ! (14 ∷ 15 ∷ []) $ forget ! 0 refl $ free1 ! $ move ! (12 ∷ 13 ∷ []) $ forget ! 0 refl $ free1 ! $ move ! (10 ∷ 11 ∷ []) $ forget ! 0 refl $ free1 ! $ move ! (8 ∷ 9 ∷ []) $ forget ! 0 refl $ free1 ! $ free0 ! $ by ! (exits r3 ok·3 (line₁ x-at b line pages nodes register) (sym (refl ∙ sym same·1-line)) pages₃ (sym (refl ∙ sym same·3-pages)) nodes₃ (sym (refl ∙ sym same·3-nodes)) register₃ (sym (refl ∙ sym same·3-register)))))))))))))))))))))))))))))))))
+      move ! (48 ∷ 49 ∷ []) $ forget ! 0 refl $ free1 ! $ move ! (46 ∷ 47 ∷ []) $ forget ! 0 refl $ free1 ! $ move ! (44 ∷ 45 ∷ []) $ forget ! 0 refl $ free1 ! $ move ! (42 ∷ 43 ∷ []) $ forget ! 0 refl $ free1 ! $ move ! (40 ∷ 41 ∷ []) $ forget ! 0 refl $ free1 ! $ move ! (38 ∷ 39 ∷ []) $ forget ! 0 refl $ free1 ! $ move ! (36 ∷ 37 ∷ []) $ forget ! 0 refl $ free1 ! $ move ! (34 ∷ 35 ∷ []) $ forget ! 0 refl $ free1 ! $ move ! (32 ∷ 33 ∷ []) $ free1 ! $ move ! (30 ∷ 31 ∷ []) $ forget ! 0 refl $ free1 ! $ move ! (28 ∷ 29 ∷ []) $ forget ! 0 refl $ free1 ! $ move ! (26 ∷ 27 ∷ []) $ forget ! 0 refl $ free1 ! $ move ! (24 ∷ 25 ∷ []) $ forget ! 0 refl $ free1 ! $ move ! (22 ∷ 23 ∷ []) $ forget ! 0 refl $ free1 ! $ move ! (20 ∷ 21 ∷ []) $ forget ! 0 refl $ free1 ! $ move ! (18 ∷ 19 ∷ []) $ forget ! 0 refl $ free1 ! $ move ! (16 ∷ 17 ∷ []) $ forget ! 0 refl $ free1 ! $ move ! (14 ∷ 15 ∷ []) $ forget ! 0 refl $ free1 ! $ move ! (12 ∷ 13 ∷ []) $ forget ! 0 refl $ free1 ! $ move ! (10 ∷ 11 ∷ []) $ forget ! 0 refl $ free1 ! $ move ! (8 ∷ 9 ∷ []) $ forget ! 0 refl $ free1 ! $ free0 ! $ by ! (exits r3 ok·3 (text₁ x-at b text pages nodes register) (sym (refl ∙ sym same·1-text)) pages₃ (sym (refl ∙ sym same·3-pages)) nodes₃ (sym (refl ∙ sym same·3-nodes)) register₃ (sym (refl ∙ sym same·3-register)))))))))))))))))))))))))))))))))
 
 module _ {M : Type 1} (𝓤 : URA M) (H : Heap 𝓤) (A : Atoms 𝓤) (W : Given 𝓤 H A) (mem : Memory → SProp 𝓤) (run : Routine → Fun 𝓤) where
-  walks : (𝓣 : Tables 𝓤 H) → Triple 𝓤 (𝓣 .C #feed) (Call-feed.Asked 𝓤 H A mem run) → Triple 𝓤 (𝓣 .C #same-line) (Call-same-line.Asked 𝓤 H A mem run) → Triple 𝓤 (𝓣 .C #answer-line) (Call-answer-line.Asked 𝓤 H A mem run) → Walks 𝓤 H A take-byte‴.ended stayed (WpFn 𝓤 H (𝓣 .C) (𝓣 .Λ) code.function) (take-byte‴.clauses 𝓤 H A mem run)
-  walks 𝓣 known-feed known-same-line known-answer-line = walked 𝓤 H A take-byte‴.ended stayed (take-byte‴.clauses 𝓤 H A mem run) (WpFn 𝓤 H (𝓣 .C) (𝓣 .Λ) code.function) (λ κs. (Place′.vals, (uint-vals w8, (slice-vals, (slice-vals, (slice-vals, (slice-vals, tt))))))) (λ κs. (Place′.tells, (uint-tells w8, (mut-slice-tells (named 0) (κs .0) u8, (mut-slice-tells (named 0) (κs .1 .0) u8, (mut-slice-tells (named 0) (κs .1 .1 .0) u32, (mut-slice-tells (named 0) (κs .1 .1 .1 .0) Record′.row, tt)))))))
-      (λ κs qs bounds a g are. via 𝓤 _ (fst∗ 𝓤 _ (emp 𝓤)) (walk 𝓤 H A W mem run (a .0) (a .1 .0) (κs .0) (qs .0) (a .1 .1 .0 .ptr .0) (a .1 .1 .0 .ptr .1) (a .1 .1 .0 .name) (a .1 .1 .0 .now) (κs .1 .0) (qs .1 .0) (a .1 .1 .1 .0 .ptr .0) (a .1 .1 .1 .0 .ptr .1) (a .1 .1 .1 .0 .name) (a .1 .1 .1 .0 .now) (κs .1 .1 .0) (qs .1 .1 .0) (a .1 .1 .1 .1 .0 .ptr .0) (a .1 .1 .1 .1 .0 .ptr .1) (a .1 .1 .1 .1 .0 .name) (a .1 .1 .1 .1 .0 .now) (κs .1 .1 .1 .0) (qs .1 .1 .1 .0) (a .1 .1 .1 .1 .1 .0 .ptr .0) (a .1 .1 .1 .1 .1 .0 .ptr .1) (a .1 .1 .1 .1 .1 .0 .name) (a .1 .1 .1 .1 .1 .0 .now) (are .0) (are .1 .0) (are .1 .1 .0 .0 .1) (are .1 .1 .1 .0 .0 .1) (are .1 .1 .1 .1 .0 .0 .1) (are .1 .1 .1 .1 .1 .0 .0 .1) 𝓣 known-feed known-same-line known-answer-line))
+  walks : (𝓣 : Tables 𝓤 H) → Triple 𝓤 (𝓣 .C #feed) (Call-feed.Asked 𝓤 H A mem run) → Triple 𝓤 (𝓣 .C #same-place) (Call-same-place.Asked 𝓤 H A mem run) → Triple 𝓤 (𝓣 .C #answer) (Call-answer.Asked 𝓤 H A mem run) → Walks 𝓤 H A take-byte‴.ended stayed (WpFn 𝓤 H (𝓣 .C) (𝓣 .Λ) code.function) (take-byte‴.clauses 𝓤 H A mem run)
+  walks 𝓣 known-feed known-same-place known-answer = walked 𝓤 H A take-byte‴.ended stayed (take-byte‴.clauses 𝓤 H A mem run) (WpFn 𝓤 H (𝓣 .C) (𝓣 .Λ) code.function) (λ κs. (Place′.vals, (uint-vals w8, (slice-vals, (slice-vals, (slice-vals, (slice-vals, tt))))))) (λ κs. (Place′.tells, (uint-tells w8, (mut-slice-tells (named 0) (κs .0) u8, (mut-slice-tells (named 0) (κs .1 .0) u8, (mut-slice-tells (named 0) (κs .1 .1 .0) u32, (mut-slice-tells (named 0) (κs .1 .1 .1 .0) Record′.row, tt)))))))
+      (λ κs qs bounds a g are. via 𝓤 _ (fst∗ 𝓤 _ (emp 𝓤)) (walk 𝓤 H A W mem run (a .0) (a .1 .0) (κs .0) (qs .0) (a .1 .1 .0 .ptr .0) (a .1 .1 .0 .ptr .1) (a .1 .1 .0 .name) (a .1 .1 .0 .now) (κs .1 .0) (qs .1 .0) (a .1 .1 .1 .0 .ptr .0) (a .1 .1 .1 .0 .ptr .1) (a .1 .1 .1 .0 .name) (a .1 .1 .1 .0 .now) (κs .1 .1 .0) (qs .1 .1 .0) (a .1 .1 .1 .1 .0 .ptr .0) (a .1 .1 .1 .1 .0 .ptr .1) (a .1 .1 .1 .1 .0 .name) (a .1 .1 .1 .1 .0 .now) (κs .1 .1 .1 .0) (qs .1 .1 .1 .0) (a .1 .1 .1 .1 .1 .0 .ptr .0) (a .1 .1 .1 .1 .1 .0 .ptr .1) (a .1 .1 .1 .1 .1 .0 .name) (a .1 .1 .1 .1 .1 .0 .now) (are .0) (are .1 .0) (are .1 .1 .0 .0 .1) (are .1 .1 .1 .0 .0 .1) (are .1 .1 .1 .1 .0 .0 .1) (are .1 .1 .1 .1 .1 .0 .0 .1) 𝓣 known-feed known-same-place known-answer))
 
-meets : {M : Type 1} (𝓤 : URA M) (H : Heap 𝓤) (A : Atoms 𝓤) → Given 𝓤 H A → (mem : Memory → SProp 𝓤) (run : Routine → Fun 𝓤) (𝓣 : Tables 𝓤 H) → Triple 𝓤 (𝓣 .C #feed) (Call-feed.Asked 𝓤 H A mem run) → Triple 𝓤 (𝓣 .C #same-line) (Call-same-line.Asked 𝓤 H A mem run) → Triple 𝓤 (𝓣 .C #answer-line) (Call-answer-line.Asked 𝓤 H A mem run)
+meets : {M : Type 1} (𝓤 : URA M) (H : Heap 𝓤) (A : Atoms 𝓤) → Given 𝓤 H A → (mem : Memory → SProp 𝓤) (run : Routine → Fun 𝓤) (𝓣 : Tables 𝓤 H) → Triple 𝓤 (𝓣 .C #feed) (Call-feed.Asked 𝓤 H A mem run) → Triple 𝓤 (𝓣 .C #same-place) (Call-same-place.Asked 𝓤 H A mem run) → Triple 𝓤 (𝓣 .C #answer) (Call-answer.Asked 𝓤 H A mem run)
     → Meets 𝓤 H A take-byte‴.signature (WpFn 𝓤 H (𝓣 .C) (𝓣 .Λ) code.function) (take-byte‴.spec 𝓤 H A mem run)
-meets 𝓤 H A W mem run 𝓣 known-feed known-same-line known-answer-line =
+meets 𝓤 H A W mem run 𝓣 known-feed known-same-place known-answer =
     walk-meets 𝓤 H A take-byte‴.ended stayed W (goes-none 𝓤 H A W 4 (λ _. Place′.row) yes (λ κs x f. refl), (goes-none 𝓤 H A W 4 (λ _. u8) yes (λ κs x f. refl), (goes-slice 𝓤 H A W 4 0 tt (plain (λ _. u8)), (goes-slice 𝓤 H A W 4 1 tt (plain (λ _. u8)), (goes-slice 𝓤 H A W 4 2 tt (plain (λ _. u32)), (goes-slice 𝓤 H A W 4 3 tt (plain (λ _. Record′.row)), tt)))))) (take-byte‴.clauses 𝓤 H A mem run)
-    (WpFn 𝓤 H (𝓣 .C) (𝓣 .Λ) code.function) (WpFn-mono 𝓤 H (W .laws) 𝓣 code.function) (walks 𝓤 H A W mem run 𝓣 known-feed known-same-line known-answer-line)
+    (WpFn 𝓤 H (𝓣 .C) (𝓣 .Λ) code.function) (WpFn-mono 𝓤 H (W .laws) 𝓣 code.function) (walks 𝓤 H A W mem run 𝓣 known-feed known-same-place known-answer)
 
 pub take-byte-spec : {M : Type 1} → stated.statement M
 unfolding code.routine tablesOf
@@ -170,6 +170,6 @@ take-byte-spec 𝓤 H 𝓜 𝓖 𝓡 =
     entered 𝓤 H (tripleOf 𝓤 H (𝓖 .A) take-byte‴.signature (take-byte‴.spec 𝓤 H (𝓖 .A) (𝓜 .mem) (𝓡 .run)))
     (tables 𝓤 H 𝓜 𝓡 code.env .C) (tables 𝓤 H 𝓜 𝓡 code.env .Λ) #self code.function (code.unfolded 𝓤 H 𝓜 𝓡)
     (meets 𝓤 H (𝓖 .A) (givenOf 𝓤 H 𝓜 𝓖) (𝓜 .mem) (𝓡 .run) (tablesOf 𝓤 H 𝓜 (tables 𝓤 H 𝓜 𝓡 code.env))
-    (cited 𝓤 H (Call-feed.Asked 𝓤 H (𝓖 .A) (𝓜 .mem) (𝓡 .run)) 𝓜 𝓡 code.env #feed def-feed.routine code.calls-lines·feed (thm-feed.met 𝓤 H 𝓜 𝓖 𝓡))
-    (cited 𝓤 H (Call-same-line.Asked 𝓤 H (𝓖 .A) (𝓜 .mem) (𝓡 .run)) 𝓜 𝓡 code.env #same-line def-same-line.routine code.calls-steps·same-line (thm-same-line.met 𝓤 H 𝓜 𝓖 𝓡))
-    (cited 𝓤 H (Call-answer-line.Asked 𝓤 H (𝓖 .A) (𝓜 .mem) (𝓡 .run)) 𝓜 𝓡 code.env #answer-line def-answer-line.routine code.calls-steps·answer-line (thm-answer-line.met 𝓤 H 𝓜 𝓖 𝓡)))
+    (cited 𝓤 H (Call-feed.Asked 𝓤 H (𝓖 .A) (𝓜 .mem) (𝓡 .run)) 𝓜 𝓡 code.env #feed def-feed.routine code.calls-parse·feed (thm-feed.met 𝓤 H 𝓜 𝓖 𝓡))
+    (cited 𝓤 H (Call-same-place.Asked 𝓤 H (𝓖 .A) (𝓜 .mem) (𝓡 .run)) 𝓜 𝓡 code.env #same-place def-same-place.routine code.calls-steps·same-place (thm-same-place.met 𝓤 H 𝓜 𝓖 𝓡))
+    (cited 𝓤 H (Call-answer.Asked 𝓤 H (𝓖 .A) (𝓜 .mem) (𝓡 .run)) 𝓜 𝓡 code.env #answer def-answer.routine code.calls-steps·answer (thm-answer.met 𝓤 H 𝓜 𝓖 𝓡)))

@@ -4,7 +4,7 @@ use borrow.Author.Needs.{needs}
 use native.Mathlib.Nat.{zero-mul, zero-min, min-eq-left, min-eq-right, le-of-lt}
 use native.Mathlib.Omega.{arith}
 use Rattle.pages.proofs.Product.{product-within, product-past}
-use Rattle.versions.specs.Calls.{bytesBy}
+use Rattle.versions.specs.Size.{bytesBy}
 use Rattle.versions.proofs.bytes_by.Statement.{statement}
 use Rattle.versions.proofs.bytes_by.Tie as tie
 

@@ -2,8 +2,8 @@
 use mathlib.Core.Path.{_≡_}
 use native.Mathlib.Omega.{arith}
 use borrow.Author.Needs.{needs}
-use Rattle.tree.specs.Register.{updateOf}
-use Rattle.tree.proofs.Records.{updateOf-inside}
+use Rattle.register.specs.Register.{updateOf}
+use Rattle.register.proofs.Records.{updateOf-inside}
 use Rattle.tree.proofs.Root.{root-fits, root-low}
 use Rattle.versions.proofs.count_of.Statement.{statement}
 use Rattle.versions.proofs.count_of.Tie as tie

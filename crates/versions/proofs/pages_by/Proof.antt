@@ -2,9 +2,9 @@
 use mathlib.Core.Path.{_≡_, refl}
 use Prim.Native.Nat.{ℕ, zero, suc}
 use borrow.Author.Needs.{needs}
-use Rattle.tree.specs.Register.{updateOf}
-use Rattle.tree.specs.declared.Record.{Record}
-use Rattle.versions.specs.Calls.{pagesBy}
+use Rattle.register.specs.Register.{updateOf}
+use Rattle.register.specs.declared.Record.{Record}
+use Rattle.versions.specs.Size.{pagesBy}
 use Rattle.versions.proofs.pages_by.Statement.{statement}
 use Rattle.versions.proofs.pages_by.Tie as tie
 

@@ -41,21 +41,21 @@ use denote.Steps.{owned, nothing}
 use denote.Triple.Spec.{Meets, tripleOf}
 use denote.Triple.Table.{entered, cited}
 use denote.Triple.Walked.{says, needs, Stays, stay-slice, stay-none-slice, stay-none, walkOf, Walks, ends-at, walked, goes-slice, goes-none-slice, goes-none, walk-meets}
-use Rattle.tree.specs.declared.Record.{Record}
-use Rattle.tree.proofs.Walkgen.Kind.Record as Record′
+use Rattle.register.specs.declared.Record.{Record}
+use Rattle.register.proofs.Generated.Kind.Record as Record′
 use Rattle.tree.specs.declared.Version.{Version}
-use Rattle.tree.proofs.Walkgen.Kind.Version as Version′
+use Rattle.register.proofs.Generated.Kind.Version as Version′
 use Rattle.tree.specs.declared.Ticket.{Ticket}
-use Rattle.tree.proofs.Walkgen.Kind.Ticket as Ticket′
+use Rattle.register.proofs.Generated.Kind.Ticket as Ticket′
 use Rattle.tree.specs.declared.PageIndex.{PageIndex}
-use Rattle.tree.proofs.Walkgen.Kind.PageIndex as PageIndex′
-use Rattle.tree.proofs.Walkgen.Flow.{ref, MutAt, ShrAt, lend-mut, back-mut, lend-shr, back-shr, branches-on, regroup, skips-on, returns-on, plus-nothing, holds, empty, less-fits, is-true, is-false, differ, above-0, twice-not, switches-to, switches-last, big-lit, here, blocks-on, resume, scaled-2, scaled-4, scaled-8, opens-shr, shuts-shr, opens-mut, shuts-mut, puts-mut, keeps-shr, fills, empties, tyAt}
-use Rattle.versions.proofs.Walkgen.Say.put_record as put-record″
-use Rattle.tree.proofs.Walkgen.Say.set_record as set-record″
-use Rattle.tree.proofs.Walkgen.Call.set_record as Call-set-record
-use Rattle.tree.proofs.set_record.Symbol as def-set-record
-use Rattle.tree.proofs.set_record.Symbol.{name as #set-record}
-use Rattle.tree.proofs.set_record.Met as thm-set-record
+use Rattle.register.proofs.Generated.Kind.PageIndex as PageIndex′
+use Rattle.register.proofs.Generated.Flow.{ref, MutAt, ShrAt, lend-mut, back-mut, lend-shr, back-shr, branches-on, regroup, skips-on, returns-on, plus-nothing, holds, empty, less-fits, is-true, is-false, differ, above-0, twice-not, switches-to, switches-last, big-lit, here, blocks-on, resume, scaled-2, scaled-4, scaled-8, opens-shr, shuts-shr, opens-mut, shuts-mut, puts-mut, keeps-shr, fills, empties, tyAt}
+use Rattle.versions.proofs.Generated.Say.put_record as put-record″
+use Rattle.register.proofs.Generated.Say.set_record as set-record″
+use Rattle.register.proofs.Generated.Call.set_record as Call-set-record
+use Rattle.register.proofs.set_record.Symbol as def-set-record
+use Rattle.register.proofs.set_record.Symbol.{name as #set-record}
+use Rattle.register.proofs.set_record.Met as thm-set-record
 use Rattle.versions.proofs.put_record.Key.{name as #self}
 use Rattle.versions.proofs.put_record as put-record‴
 use Rattle.versions.proofs.put_record.Statement as stated
@@ -124,4 +124,4 @@ put-record-spec 𝓤 H 𝓜 𝓖 𝓡 =
     entered 𝓤 H (tripleOf 𝓤 H (𝓖 .A) put-record‴.signature (put-record‴.spec 𝓤 H (𝓖 .A) (𝓜 .mem) (𝓡 .run)))
     (tables 𝓤 H 𝓜 𝓡 code.env .C) (tables 𝓤 H 𝓜 𝓡 code.env .Λ) #self code.function (code.unfolded 𝓤 H 𝓜 𝓡)
     (meets 𝓤 H (𝓖 .A) (givenOf 𝓤 H 𝓜 𝓖) (𝓜 .mem) (𝓡 .run) (tablesOf 𝓤 H 𝓜 (tables 𝓤 H 𝓜 𝓡 code.env))
-    (cited 𝓤 H (Call-set-record.Asked 𝓤 H (𝓖 .A) (𝓜 .mem) (𝓡 .run)) 𝓜 𝓡 code.env #set-record def-set-record.routine code.calls-tree·set-record (thm-set-record.met 𝓤 H 𝓜 𝓖 𝓡)))
+    (cited 𝓤 H (Call-set-record.Asked 𝓤 H (𝓖 .A) (𝓜 .mem) (𝓡 .run)) 𝓜 𝓡 code.env #set-record def-set-record.routine code.calls-register·set-record (thm-set-record.met 𝓤 H 𝓜 𝓖 𝓡)))

@@ -42,23 +42,23 @@ use denote.Triple.Spec.{Meets, tripleOf}
 use denote.Triple.Table.{entered, cited}
 use denote.Triple.Walked.{says, needs, Stays, stay-slice, stay-none-slice, stay-none, walkOf, Walks, ends-at, walked, goes-slice, goes-none-slice, goes-none, walk-meets}
 use Rattle.versions.specs.declared.Latest.{Latest}
-use Rattle.versions.proofs.Walkgen.Kind.Latest as Latest′
+use Rattle.versions.proofs.Generated.Kind.Latest as Latest′
 use Rattle.tree.specs.declared.Version.{Version}
-use Rattle.tree.proofs.Walkgen.Kind.Version as Version′
+use Rattle.register.proofs.Generated.Kind.Version as Version′
 use Rattle.versions.specs.declared.Store.{Store}
-use Rattle.versions.proofs.Walkgen.Kind.Store as Store′
+use Rattle.versions.proofs.Generated.Kind.Store as Store′
 use Rattle.tree.specs.declared.Ticket.{Ticket}
-use Rattle.tree.proofs.Walkgen.Kind.Ticket as Ticket′
-use Rattle.tree.specs.declared.Record.{Record}
-use Rattle.tree.proofs.Walkgen.Kind.Record as Record′
+use Rattle.register.proofs.Generated.Kind.Ticket as Ticket′
+use Rattle.register.specs.declared.Record.{Record}
+use Rattle.register.proofs.Generated.Kind.Record as Record′
 use Rattle.tree.specs.declared.PageIndex.{PageIndex}
-use Rattle.tree.proofs.Walkgen.Kind.PageIndex as PageIndex′
+use Rattle.register.proofs.Generated.Kind.PageIndex as PageIndex′
 use Rattle.versions.specs.declared.Lengths.{Lengths}
-use Rattle.versions.proofs.Walkgen.Kind.Lengths as Lengths′
-use Rattle.tree.proofs.Walkgen.Flow.{ref, MutAt, ShrAt, lend-mut, back-mut, lend-shr, back-shr, branches-on, regroup, skips-on, returns-on, plus-nothing, holds, empty, less-fits, is-true, is-false, differ, above-0, twice-not, switches-to, switches-last, big-lit, here, blocks-on, resume, scaled-2, scaled-4, scaled-8, opens-shr, shuts-shr, opens-mut, shuts-mut, puts-mut, keeps-shr, fills, empties, tyAt}
-use Rattle.versions.proofs.Walkgen.Say.recent as recent″
-use Rattle.versions.proofs.Walkgen.Say.recent_by as recent-by″
-use Rattle.versions.proofs.Walkgen.Call.recent_by as Call-recent-by
+use Rattle.versions.proofs.Generated.Kind.Lengths as Lengths′
+use Rattle.register.proofs.Generated.Flow.{ref, MutAt, ShrAt, lend-mut, back-mut, lend-shr, back-shr, branches-on, regroup, skips-on, returns-on, plus-nothing, holds, empty, less-fits, is-true, is-false, differ, above-0, twice-not, switches-to, switches-last, big-lit, here, blocks-on, resume, scaled-2, scaled-4, scaled-8, opens-shr, shuts-shr, opens-mut, shuts-mut, puts-mut, keeps-shr, fills, empties, tyAt}
+use Rattle.versions.proofs.Generated.Say.recent as recent″
+use Rattle.versions.proofs.Generated.Say.recent_by as recent-by″
+use Rattle.versions.proofs.Generated.Call.recent_by as Call-recent-by
 use Rattle.versions.proofs.recent_by.Symbol as def-recent-by
 use Rattle.versions.proofs.recent_by.Symbol.{name as #recent-by}
 use Rattle.versions.proofs.recent_by.Met as thm-recent-by

@@ -42,28 +42,28 @@ use denote.Triple.Spec.{Meets, tripleOf}
 use denote.Triple.Table.{entered, cited}
 use denote.Triple.Walked.{says, needs, Stays, stay-slice, stay-none-slice, stay-none, walkOf, Walks, ends-at, walked, goes-slice, goes-none-slice, goes-none, walk-meets}
 use Rattle.versions.specs.declared.Sized.{Sized}
-use Rattle.versions.proofs.Walkgen.Kind.Sized as Sized′
+use Rattle.versions.proofs.Generated.Kind.Sized as Sized′
 use Rattle.versions.specs.declared.Store.{Store}
-use Rattle.versions.proofs.Walkgen.Kind.Store as Store′
+use Rattle.versions.proofs.Generated.Kind.Store as Store′
 use Rattle.tree.specs.declared.Ticket.{Ticket}
-use Rattle.tree.proofs.Walkgen.Kind.Ticket as Ticket′
+use Rattle.register.proofs.Generated.Kind.Ticket as Ticket′
 use Rattle.tree.specs.declared.Version.{Version}
-use Rattle.tree.proofs.Walkgen.Kind.Version as Version′
-use Rattle.tree.specs.declared.Record.{Record}
-use Rattle.tree.proofs.Walkgen.Kind.Record as Record′
+use Rattle.register.proofs.Generated.Kind.Version as Version′
+use Rattle.register.specs.declared.Record.{Record}
+use Rattle.register.proofs.Generated.Kind.Record as Record′
 use Rattle.tree.specs.declared.PageIndex.{PageIndex}
-use Rattle.tree.proofs.Walkgen.Kind.PageIndex as PageIndex′
+use Rattle.register.proofs.Generated.Kind.PageIndex as PageIndex′
 use Rattle.versions.specs.declared.Lengths.{Lengths}
-use Rattle.versions.proofs.Walkgen.Kind.Lengths as Lengths′
-use Rattle.tree.proofs.Walkgen.Flow.{ref, MutAt, ShrAt, lend-mut, back-mut, lend-shr, back-shr, branches-on, regroup, skips-on, returns-on, plus-nothing, holds, empty, less-fits, is-true, is-false, differ, above-0, twice-not, switches-to, switches-last, big-lit, here, blocks-on, resume, scaled-2, scaled-4, scaled-8, opens-shr, shuts-shr, opens-mut, shuts-mut, puts-mut, keeps-shr, fills, empties, tyAt}
-use Rattle.versions.proofs.Walkgen.Say.size as size″
-use Rattle.tree.proofs.Walkgen.Say.record_of as record-of″
-use Rattle.tree.proofs.Walkgen.Call.record_of as Call-record-of
-use Rattle.tree.proofs.record_of.Symbol as def-record-of
-use Rattle.tree.proofs.record_of.Symbol.{name as #record-of}
-use Rattle.tree.proofs.record_of.Met as thm-record-of
-use Rattle.versions.proofs.Walkgen.Say.sized_by as sized-by″
-use Rattle.versions.proofs.Walkgen.Call.sized_by as Call-sized-by
+use Rattle.versions.proofs.Generated.Kind.Lengths as Lengths′
+use Rattle.register.proofs.Generated.Flow.{ref, MutAt, ShrAt, lend-mut, back-mut, lend-shr, back-shr, branches-on, regroup, skips-on, returns-on, plus-nothing, holds, empty, less-fits, is-true, is-false, differ, above-0, twice-not, switches-to, switches-last, big-lit, here, blocks-on, resume, scaled-2, scaled-4, scaled-8, opens-shr, shuts-shr, opens-mut, shuts-mut, puts-mut, keeps-shr, fills, empties, tyAt}
+use Rattle.versions.proofs.Generated.Say.size as size″
+use Rattle.register.proofs.Generated.Say.record_of as record-of″
+use Rattle.register.proofs.Generated.Call.record_of as Call-record-of
+use Rattle.register.proofs.record_of.Symbol as def-record-of
+use Rattle.register.proofs.record_of.Symbol.{name as #record-of}
+use Rattle.register.proofs.record_of.Met as thm-record-of
+use Rattle.versions.proofs.Generated.Say.sized_by as sized-by″
+use Rattle.versions.proofs.Generated.Call.sized_by as Call-sized-by
 use Rattle.versions.proofs.sized_by.Symbol as def-sized-by
 use Rattle.versions.proofs.sized_by.Symbol.{name as #sized-by}
 use Rattle.versions.proofs.sized_by.Met as thm-sized-by
@@ -131,5 +131,5 @@ size-spec 𝓤 H 𝓜 𝓖 𝓡 =
     entered 𝓤 H (tripleOf 𝓤 H (𝓖 .A) size‴.signature (size‴.spec 𝓤 H (𝓖 .A) (𝓜 .mem) (𝓡 .run)))
     (tables 𝓤 H 𝓜 𝓡 code.env .C) (tables 𝓤 H 𝓜 𝓡 code.env .Λ) #self code.function (code.unfolded 𝓤 H 𝓜 𝓡)
     (meets 𝓤 H (𝓖 .A) (givenOf 𝓤 H 𝓜 𝓖) (𝓜 .mem) (𝓡 .run) (tablesOf 𝓤 H 𝓜 (tables 𝓤 H 𝓜 𝓡 code.env))
-    (cited 𝓤 H (Call-record-of.Asked 𝓤 H (𝓖 .A) (𝓜 .mem) (𝓡 .run)) 𝓜 𝓡 code.env #record-of def-record-of.routine code.calls-tree·record-of (thm-record-of.met 𝓤 H 𝓜 𝓖 𝓡))
+    (cited 𝓤 H (Call-record-of.Asked 𝓤 H (𝓖 .A) (𝓜 .mem) (𝓡 .run)) 𝓜 𝓡 code.env #record-of def-record-of.routine code.calls-register·record-of (thm-record-of.met 𝓤 H 𝓜 𝓖 𝓡))
     (cited 𝓤 H (Call-sized-by.Asked 𝓤 H (𝓖 .A) (𝓜 .mem) (𝓡 .run)) 𝓜 𝓡 code.env #sized-by def-sized-by.routine code.calls-versions·sized-by (thm-sized-by.met 𝓤 H 𝓜 𝓖 𝓡)))

@@ -1,8 +1,10 @@
 -- `versions::sized_by` meets its contract. Assumes nothing.
-use mathlib.Core.Path.{_≡_}
+use mathlib.Core.Path.{_≡_, refl}
+use Prim.Native.Nat.{ℕ}
 use borrow.Author.Needs.{needs}
-use Rattle.versions.specs.Calls.{sizedBy}
-use Rattle.versions.proofs.Refused.{sized-refused}
+use Rattle.versions.specs.Size.{pagesBy, bytesBy, sized, sizedBy}
+use Rattle.versions.specs.declared.Sized.the-variants as Sized
+use Rattle.versions.proofs.Table.{refused-by}
 use Rattle.versions.proofs.sized_by.Statement.{statement}
 use Rattle.versions.proofs.sized_by.Tie as tie
 
@@ -11,7 +13,10 @@ size-refusal-requires c κs = search needs
 
 returns : tie.Need-returns
 unfolding sizedBy
-returns c = rw (← c .before .size-refusal .ensures) (sized-refused _ _ (c .if1 .taken))
+returns c =
+    let a = c .before .before .args in
+    rw (← c .before .size-refusal .ensures)
+    (refused-by Sized.Refused (λ (n : ℕ). sized n (bytesBy (a .s) (pagesBy (a .v .0) (a .q)))) (λ (n : ℕ). refl) _ (c .if1 .taken))
 
 pages-by-requires : tie.Need-pages-by-requires
 pages-by-requires c κs = search needs

@@ -8,25 +8,25 @@ use mathlib.Core.List.{List, [], _∷_}
 use mathlib.Core.Bool.{Bool, true, false, not}
 use lib.Dec.{ltb, leb, eqb}
 use lib.ListN.{length, getD, set}
-use Rattle.exports.specs.declared.BeginReply.{BeginReply}
-use Rattle.exports.proofs.Walkgen.Kind.BeginReply as BeginReply′
+use Rattle.replies.specs.declared.BeginReply.{BeginReply}
+use Rattle.exports.proofs.Generated.Kind.BeginReply as BeginReply′
 use Rattle.versions.specs.declared.Store.{Store}
-use Rattle.versions.proofs.Walkgen.Kind.Store as Store′
+use Rattle.versions.proofs.Generated.Kind.Store as Store′
 use Rattle.tree.specs.declared.Ticket.{Ticket}
-use Rattle.tree.proofs.Walkgen.Kind.Ticket as Ticket′
+use Rattle.register.proofs.Generated.Kind.Ticket as Ticket′
 use Rattle.tree.specs.declared.Version.{Version}
-use Rattle.tree.proofs.Walkgen.Kind.Version as Version′
-use Rattle.tree.specs.declared.Record.{Record}
-use Rattle.tree.proofs.Walkgen.Kind.Record as Record′
+use Rattle.register.proofs.Generated.Kind.Version as Version′
+use Rattle.register.specs.declared.Record.{Record}
+use Rattle.register.proofs.Generated.Kind.Record as Record′
 use Rattle.tree.specs.declared.PageIndex.{PageIndex}
-use Rattle.tree.proofs.Walkgen.Kind.PageIndex as PageIndex′
-use Rattle.versions.specs.declared.BeginOut.{BeginOut}
-use Rattle.versions.proofs.Walkgen.Kind.BeginOut as BeginOut′
-use Rattle.versions.specs.declared.Begun.{Begun}
-use Rattle.versions.proofs.Walkgen.Kind.Begun as Begun′
-use Rattle.exports.proofs.Walkgen.Say.pit_begin as pit-begin″
-use Rattle.versions.proofs.Walkgen.Say.begin as begin″
-use Rattle.exports.proofs.Walkgen.Say.begin_reply as begin-reply″
+use Rattle.register.proofs.Generated.Kind.PageIndex as PageIndex′
+use Rattle.begin.specs.declared.BeginOut.{BeginOut}
+use Rattle.begin.proofs.Generated.Kind.BeginOut as BeginOut′
+use Rattle.begin.specs.declared.Begun.{Begun}
+use Rattle.begin.proofs.Generated.Kind.Begun as Begun′
+use Rattle.exports.proofs.Generated.Say.pit_begin as pit-begin″
+use Rattle.begin.proofs.Generated.Say.begin as begin″
+use Rattle.exports.proofs.Generated.Say.begin_reply as begin-reply″
 
 abbrev pub r1 : Store → List ℕ → List ℕ → List Record → ℕ → BeginOut
 r1 s pages nodes register n = begin″.res s pages nodes register n

@@ -8,23 +8,23 @@ use mathlib.Core.List.{List, [], _∷_}
 use mathlib.Core.Bool.{Bool, true, false, not}
 use lib.Dec.{ltb, leb, eqb}
 use lib.ListN.{length, getD, set}
-use Rattle.exports.specs.declared.FormatReply.{FormatReply}
-use Rattle.exports.proofs.Walkgen.Kind.FormatReply as FormatReply′
+use Rattle.replies.specs.declared.FormatReply.{FormatReply}
+use Rattle.exports.proofs.Generated.Kind.FormatReply as FormatReply′
 use Rattle.versions.specs.declared.Store.{Store}
-use Rattle.versions.proofs.Walkgen.Kind.Store as Store′
+use Rattle.versions.proofs.Generated.Kind.Store as Store′
 use Rattle.tree.specs.declared.Ticket.{Ticket}
-use Rattle.tree.proofs.Walkgen.Kind.Ticket as Ticket′
+use Rattle.register.proofs.Generated.Kind.Ticket as Ticket′
 use Rattle.tree.specs.declared.Version.{Version}
-use Rattle.tree.proofs.Walkgen.Kind.Version as Version′
-use Rattle.tree.specs.declared.Record.{Record}
-use Rattle.tree.proofs.Walkgen.Kind.Record as Record′
+use Rattle.register.proofs.Generated.Kind.Version as Version′
+use Rattle.register.specs.declared.Record.{Record}
+use Rattle.register.proofs.Generated.Kind.Record as Record′
 use Rattle.tree.specs.declared.PageIndex.{PageIndex}
-use Rattle.tree.proofs.Walkgen.Kind.PageIndex as PageIndex′
-use Rattle.versions.specs.declared.Formatted.{Formatted}
-use Rattle.versions.proofs.Walkgen.Kind.Formatted as Formatted′
-use Rattle.exports.proofs.Walkgen.Say.pit_format as pit-format″
-use Rattle.versions.proofs.Walkgen.Say.format as format″
-use Rattle.exports.proofs.Walkgen.Say.format_reply as format-reply″
+use Rattle.register.proofs.Generated.Kind.PageIndex as PageIndex′
+use Rattle.format.specs.declared.Formatted.{Formatted}
+use Rattle.format.proofs.Generated.Kind.Formatted as Formatted′
+use Rattle.exports.proofs.Generated.Say.pit_format as pit-format″
+use Rattle.format.proofs.Generated.Say.format as format″
+use Rattle.exports.proofs.Generated.Say.format_reply as format-reply″
 
 abbrev pub r1 : ℕ → ℕ → ℕ → ℕ → List ℕ → List ℕ → List Record → Formatted
 r1 size page-count node-count updates pages nodes register = format″.res size page-count node-count updates pages nodes register

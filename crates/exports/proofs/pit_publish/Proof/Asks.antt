@@ -8,25 +8,25 @@ use mathlib.Core.List.{List, [], _∷_}
 use mathlib.Core.Bool.{Bool, true, false, not}
 use lib.Dec.{ltb, leb, eqb}
 use lib.ListN.{length, getD, set}
-use Rattle.exports.specs.declared.PublishReply.{PublishReply}
-use Rattle.exports.proofs.Walkgen.Kind.PublishReply as PublishReply′
+use Rattle.replies.specs.declared.PublishReply.{PublishReply}
+use Rattle.exports.proofs.Generated.Kind.PublishReply as PublishReply′
 use Rattle.versions.specs.declared.Store.{Store}
-use Rattle.versions.proofs.Walkgen.Kind.Store as Store′
+use Rattle.versions.proofs.Generated.Kind.Store as Store′
 use Rattle.tree.specs.declared.Ticket.{Ticket}
-use Rattle.tree.proofs.Walkgen.Kind.Ticket as Ticket′
+use Rattle.register.proofs.Generated.Kind.Ticket as Ticket′
 use Rattle.tree.specs.declared.Version.{Version}
-use Rattle.tree.proofs.Walkgen.Kind.Version as Version′
-use Rattle.tree.specs.declared.Record.{Record}
-use Rattle.tree.proofs.Walkgen.Kind.Record as Record′
+use Rattle.register.proofs.Generated.Kind.Version as Version′
+use Rattle.register.specs.declared.Record.{Record}
+use Rattle.register.proofs.Generated.Kind.Record as Record′
 use Rattle.tree.specs.declared.PageIndex.{PageIndex}
-use Rattle.tree.proofs.Walkgen.Kind.PageIndex as PageIndex′
-use Rattle.versions.specs.declared.PublishOut.{PublishOut}
-use Rattle.versions.proofs.Walkgen.Kind.PublishOut as PublishOut′
-use Rattle.versions.specs.declared.Published.{Published}
-use Rattle.versions.proofs.Walkgen.Kind.Published as Published′
-use Rattle.exports.proofs.Walkgen.Say.pit_publish as pit-publish″
-use Rattle.versions.proofs.Walkgen.Say.publish as publish″
-use Rattle.exports.proofs.Walkgen.Say.publish_reply as publish-reply″
+use Rattle.register.proofs.Generated.Kind.PageIndex as PageIndex′
+use Rattle.publish.specs.declared.PublishOut.{PublishOut}
+use Rattle.publish.proofs.Generated.Kind.PublishOut as PublishOut′
+use Rattle.publish.specs.declared.Published.{Published}
+use Rattle.publish.proofs.Generated.Kind.Published as Published′
+use Rattle.exports.proofs.Generated.Say.pit_publish as pit-publish″
+use Rattle.publish.proofs.Generated.Say.publish as publish″
+use Rattle.exports.proofs.Generated.Say.publish_reply as publish-reply″
 
 abbrev pub r1 : Store → List ℕ → List ℕ → List Record → PublishOut
 r1 s pages nodes register = publish″.res s pages nodes register

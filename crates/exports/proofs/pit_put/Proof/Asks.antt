@@ -9,20 +9,20 @@ use mathlib.Core.Bool.{Bool, true, false, not}
 use lib.Dec.{ltb, leb, eqb}
 use lib.ListN.{length, getD, set}
 use Rattle.versions.specs.declared.Store.{Store}
-use Rattle.versions.proofs.Walkgen.Kind.Store as Store′
+use Rattle.versions.proofs.Generated.Kind.Store as Store′
 use Rattle.tree.specs.declared.Ticket.{Ticket}
-use Rattle.tree.proofs.Walkgen.Kind.Ticket as Ticket′
+use Rattle.register.proofs.Generated.Kind.Ticket as Ticket′
 use Rattle.tree.specs.declared.Version.{Version}
-use Rattle.tree.proofs.Walkgen.Kind.Version as Version′
-use Rattle.tree.specs.declared.Record.{Record}
-use Rattle.tree.proofs.Walkgen.Kind.Record as Record′
+use Rattle.register.proofs.Generated.Kind.Version as Version′
+use Rattle.register.specs.declared.Record.{Record}
+use Rattle.register.proofs.Generated.Kind.Record as Record′
 use Rattle.tree.specs.declared.PageIndex.{PageIndex}
-use Rattle.tree.proofs.Walkgen.Kind.PageIndex as PageIndex′
-use Rattle.versions.specs.declared.PutIn.{PutIn}
-use Rattle.versions.proofs.Walkgen.Kind.PutIn as PutIn′
-use Rattle.exports.proofs.Walkgen.Say.pit_put as pit-put″
-use Rattle.versions.proofs.Walkgen.Say.put as put″
-use Rattle.exports.proofs.Walkgen.Say.put_reply as put-reply″
+use Rattle.register.proofs.Generated.Kind.PageIndex as PageIndex′
+use Rattle.put.specs.declared.PutIn.{PutIn}
+use Rattle.put.proofs.Generated.Kind.PutIn as PutIn′
+use Rattle.exports.proofs.Generated.Say.pit_put as pit-put″
+use Rattle.put.proofs.Generated.Say.put as put″
+use Rattle.exports.proofs.Generated.Say.put_reply as put-reply″
 
 abbrev pub r1 : Store → List ℕ → List ℕ → List Record → ℕ → ℕ → List ℕ → PutIn
 r1 s pages nodes register ticket i bytes = put″.res s pages nodes register (Ticket′.build ticket) i bytes

@@ -9,22 +9,22 @@ use mathlib.Core.Bool.{Bool, true, false, not}
 use lib.Dec.{ltb, leb, eqb}
 use lib.ListN.{length, getD, set}
 use Rattle.versions.specs.declared.Store.{Store}
-use Rattle.versions.proofs.Walkgen.Kind.Store as Store′
+use Rattle.versions.proofs.Generated.Kind.Store as Store′
 use Rattle.tree.specs.declared.Ticket.{Ticket}
-use Rattle.tree.proofs.Walkgen.Kind.Ticket as Ticket′
+use Rattle.register.proofs.Generated.Kind.Ticket as Ticket′
 use Rattle.tree.specs.declared.Version.{Version}
-use Rattle.tree.proofs.Walkgen.Kind.Version as Version′
-use Rattle.tree.specs.declared.Record.{Record}
-use Rattle.tree.proofs.Walkgen.Kind.Record as Record′
+use Rattle.register.proofs.Generated.Kind.Version as Version′
+use Rattle.register.specs.declared.Record.{Record}
+use Rattle.register.proofs.Generated.Kind.Record as Record′
 use Rattle.tree.specs.declared.PageIndex.{PageIndex}
-use Rattle.tree.proofs.Walkgen.Kind.PageIndex as PageIndex′
-use Rattle.versions.specs.declared.Filled.{Filled}
-use Rattle.versions.proofs.Walkgen.Kind.Filled as Filled′
+use Rattle.register.proofs.Generated.Kind.PageIndex as PageIndex′
+use Rattle.read.specs.declared.Filled.{Filled}
+use Rattle.read.proofs.Generated.Kind.Filled as Filled′
 use Rattle.versions.specs.declared.ByteOffset.{ByteOffset}
-use Rattle.versions.proofs.Walkgen.Kind.ByteOffset as ByteOffset′
-use Rattle.exports.proofs.Walkgen.Say.pit_read as pit-read″
-use Rattle.versions.proofs.Walkgen.Say.read as read″
-use Rattle.exports.proofs.Walkgen.Say.read_reply as read-reply″
+use Rattle.read.proofs.Generated.Kind.ByteOffset as ByteOffset′
+use Rattle.exports.proofs.Generated.Say.pit_read as pit-read″
+use Rattle.read.proofs.Generated.Say.read as read″
+use Rattle.exports.proofs.Generated.Say.read_reply as read-reply″
 
 abbrev pub r1 : Store → List ℕ → List ℕ → List Record → ℕ → ℕ → ℕ → List ℕ → Filled
 r1 s pages nodes register version offset len buffer = read″.res s pages nodes register (Version′.build version) (ByteOffset′.build offset) len buffer

@@ -8,23 +8,23 @@ use mathlib.Core.List.{List, [], _∷_}
 use mathlib.Core.Bool.{Bool, true, false, not}
 use lib.Dec.{ltb, leb, eqb}
 use lib.ListN.{length, getD, set}
-use Rattle.exports.specs.declared.VersionReply.{VersionReply}
-use Rattle.exports.proofs.Walkgen.Kind.VersionReply as VersionReply′
+use Rattle.replies.specs.declared.VersionReply.{VersionReply}
+use Rattle.exports.proofs.Generated.Kind.VersionReply as VersionReply′
 use Rattle.versions.specs.declared.Store.{Store}
-use Rattle.versions.proofs.Walkgen.Kind.Store as Store′
+use Rattle.versions.proofs.Generated.Kind.Store as Store′
 use Rattle.tree.specs.declared.Ticket.{Ticket}
-use Rattle.tree.proofs.Walkgen.Kind.Ticket as Ticket′
+use Rattle.register.proofs.Generated.Kind.Ticket as Ticket′
 use Rattle.tree.specs.declared.Version.{Version}
-use Rattle.tree.proofs.Walkgen.Kind.Version as Version′
-use Rattle.tree.specs.declared.Record.{Record}
-use Rattle.tree.proofs.Walkgen.Kind.Record as Record′
+use Rattle.register.proofs.Generated.Kind.Version as Version′
+use Rattle.register.specs.declared.Record.{Record}
+use Rattle.register.proofs.Generated.Kind.Record as Record′
 use Rattle.tree.specs.declared.PageIndex.{PageIndex}
-use Rattle.tree.proofs.Walkgen.Kind.PageIndex as PageIndex′
+use Rattle.register.proofs.Generated.Kind.PageIndex as PageIndex′
 use Rattle.versions.specs.declared.Latest.{Latest}
-use Rattle.versions.proofs.Walkgen.Kind.Latest as Latest′
-use Rattle.exports.proofs.Walkgen.Say.pit_recent as pit-recent″
-use Rattle.versions.proofs.Walkgen.Say.recent as recent″
-use Rattle.exports.proofs.Walkgen.Say.recent_reply as recent-reply″
+use Rattle.versions.proofs.Generated.Kind.Latest as Latest′
+use Rattle.exports.proofs.Generated.Say.pit_recent as pit-recent″
+use Rattle.versions.proofs.Generated.Say.recent as recent″
+use Rattle.exports.proofs.Generated.Say.recent_reply as recent-reply″
 
 abbrev pub r1 : Store → List ℕ → List ℕ → List Record → Latest
 r1 s pages nodes register = recent″.res s pages nodes register

@@ -1,32 +1,5 @@
 -- The facts that the walk of `exports::pit_recent` asks for. The author's file: tools/walkgen wrote its skeleton once, and with --rebind brings the arguments up to date.
-use mathlib.Core.Path.{_≡_, refl, sym, _∙_, ap, subst}
-use Prim.Native.Nat.{ℕ, _+_, _-_, _*_, _<_, _≤_, _^_}
-use native.Mathlib.Omega.{arith}
-use mathlib.Core.List.{List}
-use mathlib.Core.Bool.{Bool, true, false}
-use lib.Dec.{ltb, leb, eqb}
-use lib.ListN.{length, getD, set}
-use Rattle.exports.specs.declared.VersionReply.{VersionReply}
-use Rattle.exports.proofs.Walkgen.Kind.VersionReply as VersionReply′
-use Rattle.versions.specs.declared.Store.{Store}
-use Rattle.versions.proofs.Walkgen.Kind.Store as Store′
-use Rattle.tree.specs.declared.Ticket.{Ticket}
-use Rattle.tree.proofs.Walkgen.Kind.Ticket as Ticket′
-use Rattle.tree.specs.declared.Version.{Version}
-use Rattle.tree.proofs.Walkgen.Kind.Version as Version′
-use Rattle.tree.specs.declared.Record.{Record}
-use Rattle.tree.proofs.Walkgen.Kind.Record as Record′
-use Rattle.tree.specs.declared.PageIndex.{PageIndex}
-use Rattle.tree.proofs.Walkgen.Kind.PageIndex as PageIndex′
-use Rattle.versions.specs.declared.Latest.{Latest}
-use Rattle.versions.proofs.Walkgen.Kind.Latest as Latest′
-use Rattle.exports.proofs.Walkgen.Say.pit_recent as pit-recent″
-use Rattle.versions.proofs.Walkgen.Say.recent as recent″
-use Rattle.exports.proofs.Walkgen.Say.recent_reply as recent-reply″
-use Rattle.pages.specs.Pages.{part}
-use Rattle.versions.specs.Calls.{areasOf, fresh, formatAnswer, formatAreas, beginOut, beginRegister, putOut, putPages, putRegister, assignOut, assignRegister, weaveOut, weaveNodes, weaveRegister, publishOut, readOut, readBuffer, sizeOut, recentOut, stampOut, viewPart, viewAt}
-use Rattle.exports.specs.Replies.{noStore, formatReply, beginReply, putReply, assignReply, weaveReply, publishReply, readReply, sizeReply, recentReply, stampReply, viewReply}
-use Rattle.tree.proofs.Walkgen.Flow.{within}
+use mathlib.Core.Path.{refl}
 use Rattle.exports.proofs.pit_recent.Proof.Asks as Asks
 
 -- the function ensures: r ≡ recentReply (recentOut s (areasOf pages nodes register))

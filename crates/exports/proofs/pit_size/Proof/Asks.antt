@@ -8,23 +8,23 @@ use mathlib.Core.List.{List, [], _∷_}
 use mathlib.Core.Bool.{Bool, true, false, not}
 use lib.Dec.{ltb, leb, eqb}
 use lib.ListN.{length, getD, set}
-use Rattle.exports.specs.declared.SizeReply.{SizeReply}
-use Rattle.exports.proofs.Walkgen.Kind.SizeReply as SizeReply′
+use Rattle.replies.specs.declared.SizeReply.{SizeReply}
+use Rattle.exports.proofs.Generated.Kind.SizeReply as SizeReply′
 use Rattle.versions.specs.declared.Store.{Store}
-use Rattle.versions.proofs.Walkgen.Kind.Store as Store′
+use Rattle.versions.proofs.Generated.Kind.Store as Store′
 use Rattle.tree.specs.declared.Ticket.{Ticket}
-use Rattle.tree.proofs.Walkgen.Kind.Ticket as Ticket′
+use Rattle.register.proofs.Generated.Kind.Ticket as Ticket′
 use Rattle.tree.specs.declared.Version.{Version}
-use Rattle.tree.proofs.Walkgen.Kind.Version as Version′
-use Rattle.tree.specs.declared.Record.{Record}
-use Rattle.tree.proofs.Walkgen.Kind.Record as Record′
+use Rattle.register.proofs.Generated.Kind.Version as Version′
+use Rattle.register.specs.declared.Record.{Record}
+use Rattle.register.proofs.Generated.Kind.Record as Record′
 use Rattle.tree.specs.declared.PageIndex.{PageIndex}
-use Rattle.tree.proofs.Walkgen.Kind.PageIndex as PageIndex′
+use Rattle.register.proofs.Generated.Kind.PageIndex as PageIndex′
 use Rattle.versions.specs.declared.Sized.{Sized}
-use Rattle.versions.proofs.Walkgen.Kind.Sized as Sized′
-use Rattle.exports.proofs.Walkgen.Say.pit_size as pit-size″
-use Rattle.versions.proofs.Walkgen.Say.size as size″
-use Rattle.exports.proofs.Walkgen.Say.size_reply as size-reply″
+use Rattle.versions.proofs.Generated.Kind.Sized as Sized′
+use Rattle.exports.proofs.Generated.Say.pit_size as pit-size″
+use Rattle.versions.proofs.Generated.Say.size as size″
+use Rattle.exports.proofs.Generated.Say.size_reply as size-reply″
 
 abbrev pub r1 : Store → List ℕ → List ℕ → List Record → ℕ → Sized
 r1 s pages nodes register version = size″.res s pages nodes register (Version′.build version)

@@ -8,23 +8,23 @@ use mathlib.Core.List.{List, [], _∷_}
 use mathlib.Core.Bool.{Bool, true, false, not}
 use lib.Dec.{ltb, leb, eqb}
 use lib.ListN.{length, getD, set}
-use Rattle.exports.specs.declared.VersionReply.{VersionReply}
-use Rattle.exports.proofs.Walkgen.Kind.VersionReply as VersionReply′
+use Rattle.replies.specs.declared.VersionReply.{VersionReply}
+use Rattle.exports.proofs.Generated.Kind.VersionReply as VersionReply′
 use Rattle.versions.specs.declared.Store.{Store}
-use Rattle.versions.proofs.Walkgen.Kind.Store as Store′
+use Rattle.versions.proofs.Generated.Kind.Store as Store′
 use Rattle.tree.specs.declared.Ticket.{Ticket}
-use Rattle.tree.proofs.Walkgen.Kind.Ticket as Ticket′
+use Rattle.register.proofs.Generated.Kind.Ticket as Ticket′
 use Rattle.tree.specs.declared.Version.{Version}
-use Rattle.tree.proofs.Walkgen.Kind.Version as Version′
-use Rattle.tree.specs.declared.Record.{Record}
-use Rattle.tree.proofs.Walkgen.Kind.Record as Record′
+use Rattle.register.proofs.Generated.Kind.Version as Version′
+use Rattle.register.specs.declared.Record.{Record}
+use Rattle.register.proofs.Generated.Kind.Record as Record′
 use Rattle.tree.specs.declared.PageIndex.{PageIndex}
-use Rattle.tree.proofs.Walkgen.Kind.PageIndex as PageIndex′
-use Rattle.versions.specs.declared.Stamped.{Stamped}
-use Rattle.versions.proofs.Walkgen.Kind.Stamped as Stamped′
-use Rattle.exports.proofs.Walkgen.Say.pit_stamp as pit-stamp″
-use Rattle.versions.proofs.Walkgen.Say.stamp as stamp″
-use Rattle.exports.proofs.Walkgen.Say.stamp_reply as stamp-reply″
+use Rattle.register.proofs.Generated.Kind.PageIndex as PageIndex′
+use Rattle.stamp.specs.declared.Stamped.{Stamped}
+use Rattle.stamp.proofs.Generated.Kind.Stamped as Stamped′
+use Rattle.exports.proofs.Generated.Say.pit_stamp as pit-stamp″
+use Rattle.stamp.proofs.Generated.Say.stamp as stamp″
+use Rattle.exports.proofs.Generated.Say.stamp_reply as stamp-reply″
 
 abbrev pub r1 : Store → List ℕ → List ℕ → List Record → ℕ → ℕ → Stamped
 r1 s pages nodes register version page = stamp″.res s pages nodes register (Version′.build version) (PageIndex′.build page)

@@ -8,23 +8,23 @@ use mathlib.Core.List.{List, [], _∷_}
 use mathlib.Core.Bool.{Bool, true, false, not}
 use lib.Dec.{ltb, leb, eqb}
 use lib.ListN.{length, getD, set}
-use Rattle.exports.specs.declared.ViewReply.{ViewReply}
-use Rattle.exports.proofs.Walkgen.Kind.ViewReply as ViewReply′
+use Rattle.replies.specs.declared.ViewReply.{ViewReply}
+use Rattle.exports.proofs.Generated.Kind.ViewReply as ViewReply′
 use Rattle.versions.specs.declared.Store.{Store}
-use Rattle.versions.proofs.Walkgen.Kind.Store as Store′
+use Rattle.versions.proofs.Generated.Kind.Store as Store′
 use Rattle.tree.specs.declared.Ticket.{Ticket}
-use Rattle.tree.proofs.Walkgen.Kind.Ticket as Ticket′
+use Rattle.register.proofs.Generated.Kind.Ticket as Ticket′
 use Rattle.tree.specs.declared.Version.{Version}
-use Rattle.tree.proofs.Walkgen.Kind.Version as Version′
-use Rattle.tree.specs.declared.Record.{Record}
-use Rattle.tree.proofs.Walkgen.Kind.Record as Record′
+use Rattle.register.proofs.Generated.Kind.Version as Version′
+use Rattle.register.specs.declared.Record.{Record}
+use Rattle.register.proofs.Generated.Kind.Record as Record′
 use Rattle.tree.specs.declared.PageIndex.{PageIndex}
-use Rattle.tree.proofs.Walkgen.Kind.PageIndex as PageIndex′
-use Rattle.versions.specs.declared.Viewed.{Viewed}
-use Rattle.versions.proofs.Walkgen.Kind.Viewed as Viewed′
-use Rattle.exports.proofs.Walkgen.Say.pit_view as pit-view″
-use Rattle.versions.proofs.Walkgen.Say.view_at as view-at″
-use Rattle.exports.proofs.Walkgen.Say.view_reply as view-reply″
+use Rattle.register.proofs.Generated.Kind.PageIndex as PageIndex′
+use Rattle.view.specs.declared.Viewed.{Viewed}
+use Rattle.view.proofs.Generated.Kind.Viewed as Viewed′
+use Rattle.exports.proofs.Generated.Say.pit_view as pit-view″
+use Rattle.view.proofs.Generated.Say.view_at as view-at″
+use Rattle.exports.proofs.Generated.Say.view_reply as view-reply″
 
 abbrev pub r1 : Store → List ℕ → List ℕ → List Record → ℕ → ℕ → Viewed
 r1 s pages nodes register version page = view-at″.res s pages nodes register (Version′.build version) (PageIndex′.build page)

@@ -8,25 +8,25 @@ use mathlib.Core.List.{List, [], _∷_}
 use mathlib.Core.Bool.{Bool, true, false, not}
 use lib.Dec.{ltb, leb, eqb}
 use lib.ListN.{length, getD, set}
-use Rattle.exports.specs.declared.WeaveReply.{WeaveReply}
-use Rattle.exports.proofs.Walkgen.Kind.WeaveReply as WeaveReply′
+use Rattle.replies.specs.declared.WeaveReply.{WeaveReply}
+use Rattle.exports.proofs.Generated.Kind.WeaveReply as WeaveReply′
 use Rattle.versions.specs.declared.Store.{Store}
-use Rattle.versions.proofs.Walkgen.Kind.Store as Store′
+use Rattle.versions.proofs.Generated.Kind.Store as Store′
 use Rattle.tree.specs.declared.Ticket.{Ticket}
-use Rattle.tree.proofs.Walkgen.Kind.Ticket as Ticket′
+use Rattle.register.proofs.Generated.Kind.Ticket as Ticket′
 use Rattle.tree.specs.declared.Version.{Version}
-use Rattle.tree.proofs.Walkgen.Kind.Version as Version′
-use Rattle.tree.specs.declared.Record.{Record}
-use Rattle.tree.proofs.Walkgen.Kind.Record as Record′
+use Rattle.register.proofs.Generated.Kind.Version as Version′
+use Rattle.register.specs.declared.Record.{Record}
+use Rattle.register.proofs.Generated.Kind.Record as Record′
 use Rattle.tree.specs.declared.PageIndex.{PageIndex}
-use Rattle.tree.proofs.Walkgen.Kind.PageIndex as PageIndex′
-use Rattle.versions.specs.declared.Woven.{Woven}
-use Rattle.versions.proofs.Walkgen.Kind.Woven as Woven′
-use Rattle.versions.specs.declared.WovenNode.{WovenNode}
-use Rattle.versions.proofs.Walkgen.Kind.WovenNode as WovenNode′
-use Rattle.exports.proofs.Walkgen.Say.pit_weave as pit-weave″
-use Rattle.versions.proofs.Walkgen.Say.weave as weave″
-use Rattle.exports.proofs.Walkgen.Say.weave_reply as weave-reply″
+use Rattle.register.proofs.Generated.Kind.PageIndex as PageIndex′
+use Rattle.weave.specs.declared.Woven.{Woven}
+use Rattle.weave.proofs.Generated.Kind.Woven as Woven′
+use Rattle.weave.specs.declared.WovenNode.{WovenNode}
+use Rattle.weave.proofs.Generated.Kind.WovenNode as WovenNode′
+use Rattle.exports.proofs.Generated.Say.pit_weave as pit-weave″
+use Rattle.weave.proofs.Generated.Say.weave as weave″
+use Rattle.exports.proofs.Generated.Say.weave_reply as weave-reply″
 
 abbrev pub r1 : Store → List ℕ → List ℕ → List Record → ℕ → Woven
 r1 s pages nodes register ticket = weave″.res s pages nodes register (Ticket′.build ticket)

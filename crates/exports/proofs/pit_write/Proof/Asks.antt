@@ -8,25 +8,25 @@ use mathlib.Core.List.{List, [], _∷_}
 use mathlib.Core.Bool.{Bool, true, false, not}
 use lib.Dec.{ltb, leb, eqb}
 use lib.ListN.{length, getD, set}
-use Rattle.exports.specs.declared.AssignReply.{AssignReply}
-use Rattle.exports.proofs.Walkgen.Kind.AssignReply as AssignReply′
+use Rattle.replies.specs.declared.AssignReply.{AssignReply}
+use Rattle.exports.proofs.Generated.Kind.AssignReply as AssignReply′
 use Rattle.versions.specs.declared.Store.{Store}
-use Rattle.versions.proofs.Walkgen.Kind.Store as Store′
+use Rattle.versions.proofs.Generated.Kind.Store as Store′
 use Rattle.tree.specs.declared.Ticket.{Ticket}
-use Rattle.tree.proofs.Walkgen.Kind.Ticket as Ticket′
+use Rattle.register.proofs.Generated.Kind.Ticket as Ticket′
 use Rattle.tree.specs.declared.Version.{Version}
-use Rattle.tree.proofs.Walkgen.Kind.Version as Version′
-use Rattle.tree.specs.declared.Record.{Record}
-use Rattle.tree.proofs.Walkgen.Kind.Record as Record′
+use Rattle.register.proofs.Generated.Kind.Version as Version′
+use Rattle.register.specs.declared.Record.{Record}
+use Rattle.register.proofs.Generated.Kind.Record as Record′
 use Rattle.tree.specs.declared.PageIndex.{PageIndex}
-use Rattle.tree.proofs.Walkgen.Kind.PageIndex as PageIndex′
-use Rattle.versions.specs.declared.AssignOut.{AssignOut}
-use Rattle.versions.proofs.Walkgen.Kind.AssignOut as AssignOut′
-use Rattle.versions.specs.declared.Assigned.{Assigned}
-use Rattle.versions.proofs.Walkgen.Kind.Assigned as Assigned′
-use Rattle.exports.proofs.Walkgen.Say.pit_write as pit-write″
-use Rattle.versions.proofs.Walkgen.Say.write as write″
-use Rattle.exports.proofs.Walkgen.Say.assign_reply as assign-reply″
+use Rattle.register.proofs.Generated.Kind.PageIndex as PageIndex′
+use Rattle.assign.specs.declared.AssignOut.{AssignOut}
+use Rattle.assign.proofs.Generated.Kind.AssignOut as AssignOut′
+use Rattle.assign.specs.declared.Assigned.{Assigned}
+use Rattle.assign.proofs.Generated.Kind.Assigned as Assigned′
+use Rattle.exports.proofs.Generated.Say.pit_write as pit-write″
+use Rattle.assign.proofs.Generated.Say.write as write″
+use Rattle.exports.proofs.Generated.Say.assign_reply as assign-reply″
 
 abbrev pub r1 : Store → List ℕ → List ℕ → List Record → ℕ → ℕ → AssignOut
 r1 s pages nodes register ticket f = write″.res s pages nodes register (Ticket′.build ticket) (PageIndex′.build f)

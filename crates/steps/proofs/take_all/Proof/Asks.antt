@@ -9,52 +9,52 @@ use mathlib.Core.Bool.{Bool, true, false, not}
 use lib.Dec.{ltb, leb, eqb}
 use lib.ListN.{length, getD, set, replicate, take, drop}
 use Rattle.steps.specs.declared.Place.{Place as Place‴}
-use Rattle.steps.proofs.Walkgen.Kind.Place as Place′
-use Rattle.steps.specs.declared.Kept.{Kept}
-use Rattle.steps.proofs.Walkgen.Kind.Kept as Kept′
+use Rattle.steps.proofs.Generated.Kind.Place as Place′
+use Rattle.answers.specs.declared.Kept.{Kept}
+use Rattle.turns.proofs.Generated.Kind.Kept as Kept′
 use Rattle.versions.specs.declared.Store.{Store}
-use Rattle.versions.proofs.Walkgen.Kind.Store as Store′
+use Rattle.versions.proofs.Generated.Kind.Store as Store′
 use Rattle.tree.specs.declared.Ticket.{Ticket}
-use Rattle.tree.proofs.Walkgen.Kind.Ticket as Ticket′
+use Rattle.register.proofs.Generated.Kind.Ticket as Ticket′
 use Rattle.tree.specs.declared.Version.{Version}
-use Rattle.tree.proofs.Walkgen.Kind.Version as Version′
-use Rattle.lines.specs.declared.Cutter.{Cutter}
-use Rattle.steps.proofs.Walkgen.Kind.Cutter as Cutter′
-use Rattle.tree.specs.declared.Record.{Record}
-use Rattle.tree.proofs.Walkgen.Kind.Record as Record′
+use Rattle.register.proofs.Generated.Kind.Version as Version′
+use Rattle.parse.specs.declared.Cutter.{Cutter}
+use Rattle.steps.proofs.Generated.Kind.Cutter as Cutter′
+use Rattle.register.specs.declared.Record.{Record}
+use Rattle.register.proofs.Generated.Kind.Record as Record′
 use Rattle.tree.specs.declared.PageIndex.{PageIndex}
-use Rattle.tree.proofs.Walkgen.Kind.PageIndex as PageIndex′
-use Rattle.steps.proofs.Walkgen.Say.take_all as take-all″
-use Rattle.steps.proofs.Walkgen.Say.read_block as read-block″
-use Rattle.steps.proofs.Walkgen.Say.take_block as take-block″
+use Rattle.register.proofs.Generated.Kind.PageIndex as PageIndex′
+use Rattle.steps.proofs.Generated.Say.take_all as take-all″
+use Rattle.steps.proofs.Generated.Say.read_block as read-block″
+use Rattle.steps.proofs.Generated.Say.take_block as take-block″
 use Rattle.steps.proofs.take_all.Proof.Loop as Loop
 
 -- arr6 has as many elements as are lent of it
 abbrev pub part-1 : Type 0
 part-1 =
-    (x-from : Place‴) (line : List ℕ) (pages : List ℕ) (nodes : List ℕ) (register : List Record) (ok-x-from : Place′.Ok x-from) (len-line : length line < 2 ^ 64) (len-pages : length pages < 2 ^ 64) (len-nodes : length nodes < 2 ^ 64) (len-register : length register < 2 ^ 64) (arr6 : List ℕ) (made-arr6 : arr6 ≡ replicate 4096 0) (len-arr6 : 4096 ≡ length arr6) (v7 : Place‴) (v8 : ℕ) (line-now : List ℕ) (pages-now : List ℕ) (nodes-now : List ℕ) (register-now : List Record) (arr6-now : List ℕ) (ok-v7 : Place′.Ok v7) (fits-v8 : v8 < 2 ^ 64) (same-line-now : length line ≡ length line-now) (same-pages-now : length pages ≡ length pages-now) (same-nodes-now : length nodes ≡ length nodes-now) (same-register-now : length register ≡ length register-now) (same-arr6-now : 4096 ≡ length arr6-now) (inv1 : Loop.inv-1 x-from line pages nodes register arr6 v7 v8 line-now pages-now nodes-now register-now arr6-now) (c1 : ltb 0 v8 ≡ true) (n1 : 0 < v8) (r1 : ℕ) (arr6₁ : List ℕ) (fits-r1 : r1 < 2 ^ 64) (same1-arr6 : length arr6₁ ≡ length arr6-now) (says1 : read-block″.ens arr6-now arr6₁ r1) (c2 : eqb r1 0 ≡ false) (n2 : 0 < r1)
+    (x-from : Place‴) (text : List ℕ) (pages : List ℕ) (nodes : List ℕ) (register : List Record) (ok-x-from : Place′.Ok x-from) (len-text : length text < 2 ^ 64) (len-pages : length pages < 2 ^ 64) (len-nodes : length nodes < 2 ^ 64) (len-register : length register < 2 ^ 64) (arr6 : List ℕ) (made-arr6 : arr6 ≡ replicate 4096 0) (len-arr6 : 4096 ≡ length arr6) (v7 : Place‴) (v8 : ℕ) (text-now : List ℕ) (pages-now : List ℕ) (nodes-now : List ℕ) (register-now : List Record) (arr6-now : List ℕ) (ok-v7 : Place′.Ok v7) (fits-v8 : v8 < 2 ^ 64) (same-text-now : length text ≡ length text-now) (same-pages-now : length pages ≡ length pages-now) (same-nodes-now : length nodes ≡ length nodes-now) (same-register-now : length register ≡ length register-now) (same-arr6-now : 4096 ≡ length arr6-now) (inv1 : Loop.inv-1 x-from text pages nodes register arr6 v7 v8 text-now pages-now nodes-now register-now arr6-now) (c1 : ltb 0 v8 ≡ true) (n1 : 0 < v8) (r1 : ℕ) (arr6₁ : List ℕ) (fits-r1 : r1 < 2 ^ 64) (same1-arr6 : length arr6₁ ≡ length arr6-now) (says1 : read-block″.ens arr6-now arr6₁ r1) (c2 : eqb r1 0 ≡ false) (n2 : 0 < r1)
     → r1 ≤ length arr6₁
 
 -- a difference does not fall below 0
 abbrev pub sub-1 : Type 0
 sub-1 =
-    (x-from : Place‴) (line : List ℕ) (pages : List ℕ) (nodes : List ℕ) (register : List Record) (ok-x-from : Place′.Ok x-from) (len-line : length line < 2 ^ 64) (len-pages : length pages < 2 ^ 64) (len-nodes : length nodes < 2 ^ 64) (len-register : length register < 2 ^ 64) (arr6 : List ℕ) (made-arr6 : arr6 ≡ replicate 4096 0) (len-arr6 : 4096 ≡ length arr6) (v7 : Place‴) (v8 : ℕ) (line-now : List ℕ) (pages-now : List ℕ) (nodes-now : List ℕ) (register-now : List Record) (arr6-now : List ℕ) (ok-v7 : Place′.Ok v7) (fits-v8 : v8 < 2 ^ 64) (same-line-now : length line ≡ length line-now) (same-pages-now : length pages ≡ length pages-now) (same-nodes-now : length nodes ≡ length nodes-now) (same-register-now : length register ≡ length register-now) (same-arr6-now : 4096 ≡ length arr6-now) (inv1 : Loop.inv-1 x-from line pages nodes register arr6 v7 v8 line-now pages-now nodes-now register-now arr6-now) (c1 : ltb 0 v8 ≡ true) (n1 : 0 < v8) (r1 : ℕ) (arr6₁ : List ℕ) (fits-r1 : r1 < 2 ^ 64) (same1-arr6 : length arr6₁ ≡ length arr6-now) (says1 : read-block″.ens arr6-now arr6₁ r1) (c2 : eqb r1 0 ≡ false) (n2 : 0 < r1) (part2-arr6 : r1 ≤ length arr6₁) (cut2-arr6 : length (take r1 arr6₁) ≡ r1) (r2 : Place‴) (line₂ : List ℕ) (pages₂ : List ℕ) (nodes₂ : List ℕ) (register₂ : List Record) (ok-r2 : Place′.Ok r2) (same2-line : length line₂ ≡ length line-now) (same2-pages : length pages₂ ≡ length pages-now) (same2-nodes : length nodes₂ ≡ length nodes-now) (same2-register : length register₂ ≡ length register-now) (c3 : r2 .ended ≡ false)
+    (x-from : Place‴) (text : List ℕ) (pages : List ℕ) (nodes : List ℕ) (register : List Record) (ok-x-from : Place′.Ok x-from) (len-text : length text < 2 ^ 64) (len-pages : length pages < 2 ^ 64) (len-nodes : length nodes < 2 ^ 64) (len-register : length register < 2 ^ 64) (arr6 : List ℕ) (made-arr6 : arr6 ≡ replicate 4096 0) (len-arr6 : 4096 ≡ length arr6) (v7 : Place‴) (v8 : ℕ) (text-now : List ℕ) (pages-now : List ℕ) (nodes-now : List ℕ) (register-now : List Record) (arr6-now : List ℕ) (ok-v7 : Place′.Ok v7) (fits-v8 : v8 < 2 ^ 64) (same-text-now : length text ≡ length text-now) (same-pages-now : length pages ≡ length pages-now) (same-nodes-now : length nodes ≡ length nodes-now) (same-register-now : length register ≡ length register-now) (same-arr6-now : 4096 ≡ length arr6-now) (inv1 : Loop.inv-1 x-from text pages nodes register arr6 v7 v8 text-now pages-now nodes-now register-now arr6-now) (c1 : ltb 0 v8 ≡ true) (n1 : 0 < v8) (r1 : ℕ) (arr6₁ : List ℕ) (fits-r1 : r1 < 2 ^ 64) (same1-arr6 : length arr6₁ ≡ length arr6-now) (says1 : read-block″.ens arr6-now arr6₁ r1) (c2 : eqb r1 0 ≡ false) (n2 : 0 < r1) (part2-arr6 : r1 ≤ length arr6₁) (cut2-arr6 : length (take r1 arr6₁) ≡ r1) (r2 : Place‴) (text₂ : List ℕ) (pages₂ : List ℕ) (nodes₂ : List ℕ) (register₂ : List Record) (ok-r2 : Place′.Ok r2) (same2-text : length text₂ ≡ length text-now) (same2-pages : length pages₂ ≡ length pages-now) (same2-nodes : length nodes₂ ≡ length nodes-now) (same2-register : length register₂ ≡ length register-now) (c3 : r2 .ended ≡ false)
     → 1 ≤ v8
 
 -- the invariant holds after a turn
 abbrev pub again-1 : Type 0
 again-1 =
-    (x-from : Place‴) (line : List ℕ) (pages : List ℕ) (nodes : List ℕ) (register : List Record) (ok-x-from : Place′.Ok x-from) (len-line : length line < 2 ^ 64) (len-pages : length pages < 2 ^ 64) (len-nodes : length nodes < 2 ^ 64) (len-register : length register < 2 ^ 64) (arr6 : List ℕ) (made-arr6 : arr6 ≡ replicate 4096 0) (len-arr6 : 4096 ≡ length arr6) (v7 : Place‴) (v8 : ℕ) (line-now : List ℕ) (pages-now : List ℕ) (nodes-now : List ℕ) (register-now : List Record) (arr6-now : List ℕ) (ok-v7 : Place′.Ok v7) (fits-v8 : v8 < 2 ^ 64) (same-line-now : length line ≡ length line-now) (same-pages-now : length pages ≡ length pages-now) (same-nodes-now : length nodes ≡ length nodes-now) (same-register-now : length register ≡ length register-now) (same-arr6-now : 4096 ≡ length arr6-now) (inv1 : Loop.inv-1 x-from line pages nodes register arr6 v7 v8 line-now pages-now nodes-now register-now arr6-now) (c1 : ltb 0 v8 ≡ true) (n1 : 0 < v8) (r1 : ℕ) (arr6₁ : List ℕ) (fits-r1 : r1 < 2 ^ 64) (same1-arr6 : length arr6₁ ≡ length arr6-now) (says1 : read-block″.ens arr6-now arr6₁ r1) (c2 : eqb r1 0 ≡ false) (n2 : 0 < r1) (part2-arr6 : r1 ≤ length arr6₁) (cut2-arr6 : length (take r1 arr6₁) ≡ r1) (r2 : Place‴) (line₂ : List ℕ) (pages₂ : List ℕ) (nodes₂ : List ℕ) (register₂ : List Record) (ok-r2 : Place′.Ok r2) (same2-line : length line₂ ≡ length line-now) (same2-pages : length pages₂ ≡ length pages-now) (same2-nodes : length nodes₂ ≡ length nodes-now) (same2-register : length register₂ ≡ length register-now) (c3 : r2 .ended ≡ false)
-    → Loop.inv-1 x-from line pages nodes register arr6 r2 (v8 - 1) line₂ pages₂ nodes₂ register₂ arr6₁
+    (x-from : Place‴) (text : List ℕ) (pages : List ℕ) (nodes : List ℕ) (register : List Record) (ok-x-from : Place′.Ok x-from) (len-text : length text < 2 ^ 64) (len-pages : length pages < 2 ^ 64) (len-nodes : length nodes < 2 ^ 64) (len-register : length register < 2 ^ 64) (arr6 : List ℕ) (made-arr6 : arr6 ≡ replicate 4096 0) (len-arr6 : 4096 ≡ length arr6) (v7 : Place‴) (v8 : ℕ) (text-now : List ℕ) (pages-now : List ℕ) (nodes-now : List ℕ) (register-now : List Record) (arr6-now : List ℕ) (ok-v7 : Place′.Ok v7) (fits-v8 : v8 < 2 ^ 64) (same-text-now : length text ≡ length text-now) (same-pages-now : length pages ≡ length pages-now) (same-nodes-now : length nodes ≡ length nodes-now) (same-register-now : length register ≡ length register-now) (same-arr6-now : 4096 ≡ length arr6-now) (inv1 : Loop.inv-1 x-from text pages nodes register arr6 v7 v8 text-now pages-now nodes-now register-now arr6-now) (c1 : ltb 0 v8 ≡ true) (n1 : 0 < v8) (r1 : ℕ) (arr6₁ : List ℕ) (fits-r1 : r1 < 2 ^ 64) (same1-arr6 : length arr6₁ ≡ length arr6-now) (says1 : read-block″.ens arr6-now arr6₁ r1) (c2 : eqb r1 0 ≡ false) (n2 : 0 < r1) (part2-arr6 : r1 ≤ length arr6₁) (cut2-arr6 : length (take r1 arr6₁) ≡ r1) (r2 : Place‴) (text₂ : List ℕ) (pages₂ : List ℕ) (nodes₂ : List ℕ) (register₂ : List Record) (ok-r2 : Place′.Ok r2) (same2-text : length text₂ ≡ length text-now) (same2-pages : length pages₂ ≡ length pages-now) (same2-nodes : length nodes₂ ≡ length nodes-now) (same2-register : length register₂ ≡ length register-now) (c3 : r2 .ended ≡ false)
+    → Loop.inv-1 x-from text pages nodes register arr6 r2 (v8 - 1) text₂ pages₂ nodes₂ register₂ arr6₁
 
 -- the measure falls
 abbrev pub less-1 : Type 0
 less-1 =
-    (x-from : Place‴) (line : List ℕ) (pages : List ℕ) (nodes : List ℕ) (register : List Record) (ok-x-from : Place′.Ok x-from) (len-line : length line < 2 ^ 64) (len-pages : length pages < 2 ^ 64) (len-nodes : length nodes < 2 ^ 64) (len-register : length register < 2 ^ 64) (arr6 : List ℕ) (made-arr6 : arr6 ≡ replicate 4096 0) (len-arr6 : 4096 ≡ length arr6) (v7 : Place‴) (v8 : ℕ) (line-now : List ℕ) (pages-now : List ℕ) (nodes-now : List ℕ) (register-now : List Record) (arr6-now : List ℕ) (ok-v7 : Place′.Ok v7) (fits-v8 : v8 < 2 ^ 64) (same-line-now : length line ≡ length line-now) (same-pages-now : length pages ≡ length pages-now) (same-nodes-now : length nodes ≡ length nodes-now) (same-register-now : length register ≡ length register-now) (same-arr6-now : 4096 ≡ length arr6-now) (inv1 : Loop.inv-1 x-from line pages nodes register arr6 v7 v8 line-now pages-now nodes-now register-now arr6-now) (c1 : ltb 0 v8 ≡ true) (n1 : 0 < v8) (r1 : ℕ) (arr6₁ : List ℕ) (fits-r1 : r1 < 2 ^ 64) (same1-arr6 : length arr6₁ ≡ length arr6-now) (says1 : read-block″.ens arr6-now arr6₁ r1) (c2 : eqb r1 0 ≡ false) (n2 : 0 < r1) (part2-arr6 : r1 ≤ length arr6₁) (cut2-arr6 : length (take r1 arr6₁) ≡ r1) (r2 : Place‴) (line₂ : List ℕ) (pages₂ : List ℕ) (nodes₂ : List ℕ) (register₂ : List Record) (ok-r2 : Place′.Ok r2) (same2-line : length line₂ ≡ length line-now) (same2-pages : length pages₂ ≡ length pages-now) (same2-nodes : length nodes₂ ≡ length nodes-now) (same2-register : length register₂ ≡ length register-now) (c3 : r2 .ended ≡ false)
-    → Loop.measure-1 x-from line pages nodes register arr6 r2 (v8 - 1) line₂ pages₂ nodes₂ register₂ arr6₁ < Loop.measure-1 x-from line pages nodes register arr6 v7 v8 line-now pages-now nodes-now register-now arr6-now
+    (x-from : Place‴) (text : List ℕ) (pages : List ℕ) (nodes : List ℕ) (register : List Record) (ok-x-from : Place′.Ok x-from) (len-text : length text < 2 ^ 64) (len-pages : length pages < 2 ^ 64) (len-nodes : length nodes < 2 ^ 64) (len-register : length register < 2 ^ 64) (arr6 : List ℕ) (made-arr6 : arr6 ≡ replicate 4096 0) (len-arr6 : 4096 ≡ length arr6) (v7 : Place‴) (v8 : ℕ) (text-now : List ℕ) (pages-now : List ℕ) (nodes-now : List ℕ) (register-now : List Record) (arr6-now : List ℕ) (ok-v7 : Place′.Ok v7) (fits-v8 : v8 < 2 ^ 64) (same-text-now : length text ≡ length text-now) (same-pages-now : length pages ≡ length pages-now) (same-nodes-now : length nodes ≡ length nodes-now) (same-register-now : length register ≡ length register-now) (same-arr6-now : 4096 ≡ length arr6-now) (inv1 : Loop.inv-1 x-from text pages nodes register arr6 v7 v8 text-now pages-now nodes-now register-now arr6-now) (c1 : ltb 0 v8 ≡ true) (n1 : 0 < v8) (r1 : ℕ) (arr6₁ : List ℕ) (fits-r1 : r1 < 2 ^ 64) (same1-arr6 : length arr6₁ ≡ length arr6-now) (says1 : read-block″.ens arr6-now arr6₁ r1) (c2 : eqb r1 0 ≡ false) (n2 : 0 < r1) (part2-arr6 : r1 ≤ length arr6₁) (cut2-arr6 : length (take r1 arr6₁) ≡ r1) (r2 : Place‴) (text₂ : List ℕ) (pages₂ : List ℕ) (nodes₂ : List ℕ) (register₂ : List Record) (ok-r2 : Place′.Ok r2) (same2-text : length text₂ ≡ length text-now) (same2-pages : length pages₂ ≡ length pages-now) (same2-nodes : length nodes₂ ≡ length nodes-now) (same2-register : length register₂ ≡ length register-now) (c3 : r2 .ended ≡ false)
+    → Loop.measure-1 x-from text pages nodes register arr6 r2 (v8 - 1) text₂ pages₂ nodes₂ register₂ arr6₁ < Loop.measure-1 x-from text pages nodes register arr6 v7 v8 text-now pages-now nodes-now register-now arr6-now
 
 -- the invariant holds where the loop begins
 abbrev pub start-1 : Type 0
 start-1 =
-    (x-from : Place‴) (line : List ℕ) (pages : List ℕ) (nodes : List ℕ) (register : List Record) (ok-x-from : Place′.Ok x-from) (len-line : length line < 2 ^ 64) (len-pages : length pages < 2 ^ 64) (len-nodes : length nodes < 2 ^ 64) (len-register : length register < 2 ^ 64) (arr6 : List ℕ) (made-arr6 : arr6 ≡ replicate 4096 0) (len-arr6 : 4096 ≡ length arr6)
-    → Loop.inv-1 x-from line pages nodes register arr6 x-from 18446744073709551615 line pages nodes register arr6
+    (x-from : Place‴) (text : List ℕ) (pages : List ℕ) (nodes : List ℕ) (register : List Record) (ok-x-from : Place′.Ok x-from) (len-text : length text < 2 ^ 64) (len-pages : length pages < 2 ^ 64) (len-nodes : length nodes < 2 ^ 64) (len-register : length register < 2 ^ 64) (arr6 : List ℕ) (made-arr6 : arr6 ≡ replicate 4096 0) (len-arr6 : 4096 ≡ length arr6)
+    → Loop.inv-1 x-from text pages nodes register arr6 x-from 18446744073709551615 text pages nodes register arr6

@@ -9,51 +9,51 @@ use mathlib.Core.Bool.{Bool, true, false, not}
 use lib.Dec.{ltb, leb, eqb}
 use lib.ListN.{length, getD, set}
 use Rattle.steps.specs.declared.Place.{Place as Place‴}
-use Rattle.steps.proofs.Walkgen.Kind.Place as Place′
-use Rattle.steps.specs.declared.Kept.{Kept}
-use Rattle.steps.proofs.Walkgen.Kind.Kept as Kept′
+use Rattle.steps.proofs.Generated.Kind.Place as Place′
+use Rattle.answers.specs.declared.Kept.{Kept}
+use Rattle.turns.proofs.Generated.Kind.Kept as Kept′
 use Rattle.versions.specs.declared.Store.{Store}
-use Rattle.versions.proofs.Walkgen.Kind.Store as Store′
+use Rattle.versions.proofs.Generated.Kind.Store as Store′
 use Rattle.tree.specs.declared.Ticket.{Ticket}
-use Rattle.tree.proofs.Walkgen.Kind.Ticket as Ticket′
+use Rattle.register.proofs.Generated.Kind.Ticket as Ticket′
 use Rattle.tree.specs.declared.Version.{Version}
-use Rattle.tree.proofs.Walkgen.Kind.Version as Version′
-use Rattle.lines.specs.declared.Cutter.{Cutter}
-use Rattle.steps.proofs.Walkgen.Kind.Cutter as Cutter′
-use Rattle.tree.specs.declared.Record.{Record}
-use Rattle.tree.proofs.Walkgen.Kind.Record as Record′
+use Rattle.register.proofs.Generated.Kind.Version as Version′
+use Rattle.parse.specs.declared.Cutter.{Cutter}
+use Rattle.steps.proofs.Generated.Kind.Cutter as Cutter′
+use Rattle.register.specs.declared.Record.{Record}
+use Rattle.register.proofs.Generated.Kind.Record as Record′
 use Rattle.tree.specs.declared.PageIndex.{PageIndex}
-use Rattle.tree.proofs.Walkgen.Kind.PageIndex as PageIndex′
-use Rattle.steps.proofs.Walkgen.Say.take_block as take-block″
-use Rattle.steps.proofs.Walkgen.Say.take_byte as take-byte″
+use Rattle.register.proofs.Generated.Kind.PageIndex as PageIndex′
+use Rattle.steps.proofs.Generated.Say.take_block as take-block″
+use Rattle.steps.proofs.Generated.Say.take_byte as take-byte″
 use Rattle.steps.proofs.take_block.Proof.Loop as Loop
 
 -- the index is within block
 abbrev pub index-1 : Type 0
 index-1 =
-    (x-from : Place‴) (block : List ℕ) (line : List ℕ) (pages : List ℕ) (nodes : List ℕ) (register : List Record) (ok-x-from : Place′.Ok x-from) (len-block : length block < 2 ^ 64) (len-line : length line < 2 ^ 64) (len-pages : length pages < 2 ^ 64) (len-nodes : length nodes < 2 ^ 64) (len-register : length register < 2 ^ 64) (v7 : Place‴) (v8 : ℕ) (line-now : List ℕ) (pages-now : List ℕ) (nodes-now : List ℕ) (register-now : List Record) (ok-v7 : Place′.Ok v7) (fits-v8 : v8 < 2 ^ 64) (same-line-now : length line ≡ length line-now) (same-pages-now : length pages ≡ length pages-now) (same-nodes-now : length nodes ≡ length nodes-now) (same-register-now : length register ≡ length register-now) (inv1 : Loop.inv-1 x-from block line pages nodes register v7 v8 line-now pages-now nodes-now register-now) (c1 : ltb v8 (length block) ≡ true) (n1 : v8 < (length block))
+    (x-from : Place‴) (block : List ℕ) (text : List ℕ) (pages : List ℕ) (nodes : List ℕ) (register : List Record) (ok-x-from : Place′.Ok x-from) (len-block : length block < 2 ^ 64) (len-text : length text < 2 ^ 64) (len-pages : length pages < 2 ^ 64) (len-nodes : length nodes < 2 ^ 64) (len-register : length register < 2 ^ 64) (v7 : Place‴) (v8 : ℕ) (text-now : List ℕ) (pages-now : List ℕ) (nodes-now : List ℕ) (register-now : List Record) (ok-v7 : Place′.Ok v7) (fits-v8 : v8 < 2 ^ 64) (same-text-now : length text ≡ length text-now) (same-pages-now : length pages ≡ length pages-now) (same-nodes-now : length nodes ≡ length nodes-now) (same-register-now : length register ≡ length register-now) (inv1 : Loop.inv-1 x-from block text pages nodes register v7 v8 text-now pages-now nodes-now register-now) (c1 : ltb v8 (length block) ≡ true) (n1 : v8 < (length block))
     → v8 < length block
 
 -- the sum does not wrap
 abbrev pub add-1 : Type 0
 add-1 =
-    (x-from : Place‴) (block : List ℕ) (line : List ℕ) (pages : List ℕ) (nodes : List ℕ) (register : List Record) (ok-x-from : Place′.Ok x-from) (len-block : length block < 2 ^ 64) (len-line : length line < 2 ^ 64) (len-pages : length pages < 2 ^ 64) (len-nodes : length nodes < 2 ^ 64) (len-register : length register < 2 ^ 64) (v7 : Place‴) (v8 : ℕ) (line-now : List ℕ) (pages-now : List ℕ) (nodes-now : List ℕ) (register-now : List Record) (ok-v7 : Place′.Ok v7) (fits-v8 : v8 < 2 ^ 64) (same-line-now : length line ≡ length line-now) (same-pages-now : length pages ≡ length pages-now) (same-nodes-now : length nodes ≡ length nodes-now) (same-register-now : length register ≡ length register-now) (inv1 : Loop.inv-1 x-from block line pages nodes register v7 v8 line-now pages-now nodes-now register-now) (c1 : ltb v8 (length block) ≡ true) (n1 : v8 < (length block)) (fits-elem13 : (getD block v8 0) < 2 ^ 8) (r1 : Place‴) (line₁ : List ℕ) (pages₁ : List ℕ) (nodes₁ : List ℕ) (register₁ : List Record) (ok-r1 : Place′.Ok r1) (same1-line : length line₁ ≡ length line-now) (same1-pages : length pages₁ ≡ length pages-now) (same1-nodes : length nodes₁ ≡ length nodes-now) (same1-register : length register₁ ≡ length register-now) (c2 : r1 .ended ≡ false)
+    (x-from : Place‴) (block : List ℕ) (text : List ℕ) (pages : List ℕ) (nodes : List ℕ) (register : List Record) (ok-x-from : Place′.Ok x-from) (len-block : length block < 2 ^ 64) (len-text : length text < 2 ^ 64) (len-pages : length pages < 2 ^ 64) (len-nodes : length nodes < 2 ^ 64) (len-register : length register < 2 ^ 64) (v7 : Place‴) (v8 : ℕ) (text-now : List ℕ) (pages-now : List ℕ) (nodes-now : List ℕ) (register-now : List Record) (ok-v7 : Place′.Ok v7) (fits-v8 : v8 < 2 ^ 64) (same-text-now : length text ≡ length text-now) (same-pages-now : length pages ≡ length pages-now) (same-nodes-now : length nodes ≡ length nodes-now) (same-register-now : length register ≡ length register-now) (inv1 : Loop.inv-1 x-from block text pages nodes register v7 v8 text-now pages-now nodes-now register-now) (c1 : ltb v8 (length block) ≡ true) (n1 : v8 < (length block)) (fits-elem13 : (getD block v8 0) < 2 ^ 8) (r1 : Place‴) (text₁ : List ℕ) (pages₁ : List ℕ) (nodes₁ : List ℕ) (register₁ : List Record) (ok-r1 : Place′.Ok r1) (same1-text : length text₁ ≡ length text-now) (same1-pages : length pages₁ ≡ length pages-now) (same1-nodes : length nodes₁ ≡ length nodes-now) (same1-register : length register₁ ≡ length register-now) (c2 : r1 .ended ≡ false)
     → v8 + 1 < 2 ^ 64
 
 -- the invariant holds after a turn
 abbrev pub again-1 : Type 0
 again-1 =
-    (x-from : Place‴) (block : List ℕ) (line : List ℕ) (pages : List ℕ) (nodes : List ℕ) (register : List Record) (ok-x-from : Place′.Ok x-from) (len-block : length block < 2 ^ 64) (len-line : length line < 2 ^ 64) (len-pages : length pages < 2 ^ 64) (len-nodes : length nodes < 2 ^ 64) (len-register : length register < 2 ^ 64) (v7 : Place‴) (v8 : ℕ) (line-now : List ℕ) (pages-now : List ℕ) (nodes-now : List ℕ) (register-now : List Record) (ok-v7 : Place′.Ok v7) (fits-v8 : v8 < 2 ^ 64) (same-line-now : length line ≡ length line-now) (same-pages-now : length pages ≡ length pages-now) (same-nodes-now : length nodes ≡ length nodes-now) (same-register-now : length register ≡ length register-now) (inv1 : Loop.inv-1 x-from block line pages nodes register v7 v8 line-now pages-now nodes-now register-now) (c1 : ltb v8 (length block) ≡ true) (n1 : v8 < (length block)) (fits-elem13 : (getD block v8 0) < 2 ^ 8) (r1 : Place‴) (line₁ : List ℕ) (pages₁ : List ℕ) (nodes₁ : List ℕ) (register₁ : List Record) (ok-r1 : Place′.Ok r1) (same1-line : length line₁ ≡ length line-now) (same1-pages : length pages₁ ≡ length pages-now) (same1-nodes : length nodes₁ ≡ length nodes-now) (same1-register : length register₁ ≡ length register-now) (c2 : r1 .ended ≡ false)
-    → Loop.inv-1 x-from block line pages nodes register r1 (v8 + 1) line₁ pages₁ nodes₁ register₁
+    (x-from : Place‴) (block : List ℕ) (text : List ℕ) (pages : List ℕ) (nodes : List ℕ) (register : List Record) (ok-x-from : Place′.Ok x-from) (len-block : length block < 2 ^ 64) (len-text : length text < 2 ^ 64) (len-pages : length pages < 2 ^ 64) (len-nodes : length nodes < 2 ^ 64) (len-register : length register < 2 ^ 64) (v7 : Place‴) (v8 : ℕ) (text-now : List ℕ) (pages-now : List ℕ) (nodes-now : List ℕ) (register-now : List Record) (ok-v7 : Place′.Ok v7) (fits-v8 : v8 < 2 ^ 64) (same-text-now : length text ≡ length text-now) (same-pages-now : length pages ≡ length pages-now) (same-nodes-now : length nodes ≡ length nodes-now) (same-register-now : length register ≡ length register-now) (inv1 : Loop.inv-1 x-from block text pages nodes register v7 v8 text-now pages-now nodes-now register-now) (c1 : ltb v8 (length block) ≡ true) (n1 : v8 < (length block)) (fits-elem13 : (getD block v8 0) < 2 ^ 8) (r1 : Place‴) (text₁ : List ℕ) (pages₁ : List ℕ) (nodes₁ : List ℕ) (register₁ : List Record) (ok-r1 : Place′.Ok r1) (same1-text : length text₁ ≡ length text-now) (same1-pages : length pages₁ ≡ length pages-now) (same1-nodes : length nodes₁ ≡ length nodes-now) (same1-register : length register₁ ≡ length register-now) (c2 : r1 .ended ≡ false)
+    → Loop.inv-1 x-from block text pages nodes register r1 (v8 + 1) text₁ pages₁ nodes₁ register₁
 
 -- the measure falls
 abbrev pub less-1 : Type 0
 less-1 =
-    (x-from : Place‴) (block : List ℕ) (line : List ℕ) (pages : List ℕ) (nodes : List ℕ) (register : List Record) (ok-x-from : Place′.Ok x-from) (len-block : length block < 2 ^ 64) (len-line : length line < 2 ^ 64) (len-pages : length pages < 2 ^ 64) (len-nodes : length nodes < 2 ^ 64) (len-register : length register < 2 ^ 64) (v7 : Place‴) (v8 : ℕ) (line-now : List ℕ) (pages-now : List ℕ) (nodes-now : List ℕ) (register-now : List Record) (ok-v7 : Place′.Ok v7) (fits-v8 : v8 < 2 ^ 64) (same-line-now : length line ≡ length line-now) (same-pages-now : length pages ≡ length pages-now) (same-nodes-now : length nodes ≡ length nodes-now) (same-register-now : length register ≡ length register-now) (inv1 : Loop.inv-1 x-from block line pages nodes register v7 v8 line-now pages-now nodes-now register-now) (c1 : ltb v8 (length block) ≡ true) (n1 : v8 < (length block)) (fits-elem13 : (getD block v8 0) < 2 ^ 8) (r1 : Place‴) (line₁ : List ℕ) (pages₁ : List ℕ) (nodes₁ : List ℕ) (register₁ : List Record) (ok-r1 : Place′.Ok r1) (same1-line : length line₁ ≡ length line-now) (same1-pages : length pages₁ ≡ length pages-now) (same1-nodes : length nodes₁ ≡ length nodes-now) (same1-register : length register₁ ≡ length register-now) (c2 : r1 .ended ≡ false)
-    → Loop.measure-1 x-from block line pages nodes register r1 (v8 + 1) line₁ pages₁ nodes₁ register₁ < Loop.measure-1 x-from block line pages nodes register v7 v8 line-now pages-now nodes-now register-now
+    (x-from : Place‴) (block : List ℕ) (text : List ℕ) (pages : List ℕ) (nodes : List ℕ) (register : List Record) (ok-x-from : Place′.Ok x-from) (len-block : length block < 2 ^ 64) (len-text : length text < 2 ^ 64) (len-pages : length pages < 2 ^ 64) (len-nodes : length nodes < 2 ^ 64) (len-register : length register < 2 ^ 64) (v7 : Place‴) (v8 : ℕ) (text-now : List ℕ) (pages-now : List ℕ) (nodes-now : List ℕ) (register-now : List Record) (ok-v7 : Place′.Ok v7) (fits-v8 : v8 < 2 ^ 64) (same-text-now : length text ≡ length text-now) (same-pages-now : length pages ≡ length pages-now) (same-nodes-now : length nodes ≡ length nodes-now) (same-register-now : length register ≡ length register-now) (inv1 : Loop.inv-1 x-from block text pages nodes register v7 v8 text-now pages-now nodes-now register-now) (c1 : ltb v8 (length block) ≡ true) (n1 : v8 < (length block)) (fits-elem13 : (getD block v8 0) < 2 ^ 8) (r1 : Place‴) (text₁ : List ℕ) (pages₁ : List ℕ) (nodes₁ : List ℕ) (register₁ : List Record) (ok-r1 : Place′.Ok r1) (same1-text : length text₁ ≡ length text-now) (same1-pages : length pages₁ ≡ length pages-now) (same1-nodes : length nodes₁ ≡ length nodes-now) (same1-register : length register₁ ≡ length register-now) (c2 : r1 .ended ≡ false)
+    → Loop.measure-1 x-from block text pages nodes register r1 (v8 + 1) text₁ pages₁ nodes₁ register₁ < Loop.measure-1 x-from block text pages nodes register v7 v8 text-now pages-now nodes-now register-now
 
 -- the invariant holds where the loop begins
 abbrev pub start-1 : Type 0
 start-1 =
-    (x-from : Place‴) (block : List ℕ) (line : List ℕ) (pages : List ℕ) (nodes : List ℕ) (register : List Record) (ok-x-from : Place′.Ok x-from) (len-block : length block < 2 ^ 64) (len-line : length line < 2 ^ 64) (len-pages : length pages < 2 ^ 64) (len-nodes : length nodes < 2 ^ 64) (len-register : length register < 2 ^ 64)
-    → Loop.inv-1 x-from block line pages nodes register x-from 0 line pages nodes register
+    (x-from : Place‴) (block : List ℕ) (text : List ℕ) (pages : List ℕ) (nodes : List ℕ) (register : List Record) (ok-x-from : Place′.Ok x-from) (len-block : length block < 2 ^ 64) (len-text : length text < 2 ^ 64) (len-pages : length pages < 2 ^ 64) (len-nodes : length nodes < 2 ^ 64) (len-register : length register < 2 ^ 64)
+    → Loop.inv-1 x-from block text pages nodes register x-from 0 text pages nodes register

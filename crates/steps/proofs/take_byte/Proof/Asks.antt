@@ -9,30 +9,30 @@ use mathlib.Core.Bool.{Bool, true, false, not}
 use lib.Dec.{ltb, leb, eqb}
 use lib.ListN.{length, getD, set}
 use Rattle.steps.specs.declared.Place.{Place as Place‴}
-use Rattle.steps.proofs.Walkgen.Kind.Place as Place′
-use Rattle.steps.specs.declared.Kept.{Kept}
-use Rattle.steps.proofs.Walkgen.Kind.Kept as Kept′
+use Rattle.steps.proofs.Generated.Kind.Place as Place′
+use Rattle.answers.specs.declared.Kept.{Kept}
+use Rattle.turns.proofs.Generated.Kind.Kept as Kept′
 use Rattle.versions.specs.declared.Store.{Store}
-use Rattle.versions.proofs.Walkgen.Kind.Store as Store′
+use Rattle.versions.proofs.Generated.Kind.Store as Store′
 use Rattle.tree.specs.declared.Ticket.{Ticket}
-use Rattle.tree.proofs.Walkgen.Kind.Ticket as Ticket′
+use Rattle.register.proofs.Generated.Kind.Ticket as Ticket′
 use Rattle.tree.specs.declared.Version.{Version}
-use Rattle.tree.proofs.Walkgen.Kind.Version as Version′
-use Rattle.lines.specs.declared.Cutter.{Cutter}
-use Rattle.steps.proofs.Walkgen.Kind.Cutter as Cutter′
-use Rattle.tree.specs.declared.Record.{Record}
-use Rattle.tree.proofs.Walkgen.Kind.Record as Record′
+use Rattle.register.proofs.Generated.Kind.Version as Version′
+use Rattle.parse.specs.declared.Cutter.{Cutter}
+use Rattle.steps.proofs.Generated.Kind.Cutter as Cutter′
+use Rattle.register.specs.declared.Record.{Record}
+use Rattle.register.proofs.Generated.Kind.Record as Record′
 use Rattle.tree.specs.declared.PageIndex.{PageIndex}
-use Rattle.tree.proofs.Walkgen.Kind.PageIndex as PageIndex′
-use Rattle.lines.specs.declared.Fed.{Fed}
-use Rattle.steps.proofs.Walkgen.Kind.Fed as Fed′
-use Rattle.steps.proofs.Walkgen.Say.take_byte as take-byte″
-use Rattle.steps.proofs.Walkgen.Say.feed as feed″
-use Rattle.steps.proofs.Walkgen.Say.same_line as same-line″
-use Rattle.steps.proofs.Walkgen.Say.answer_line as answer-line″
+use Rattle.register.proofs.Generated.Kind.PageIndex as PageIndex′
+use Rattle.parse.specs.declared.Fed.{Fed}
+use Rattle.steps.proofs.Generated.Kind.Fed as Fed′
+use Rattle.steps.proofs.Generated.Say.take_byte as take-byte″
+use Rattle.steps.proofs.Generated.Say.feed as feed″
+use Rattle.steps.proofs.Generated.Say.same_place as same-place″
+use Rattle.steps.proofs.Generated.Say.answer as answer″
 
 abbrev pub r1 : Place‴ → ℕ → List ℕ → List ℕ → List ℕ → List Record → Fed
-r1 x-at b line pages nodes register = feed″.res (x-at .cutter) line b
+r1 x-at b text pages nodes register = feed″.res (x-at .cutter) text b
 
-abbrev pub line₁ : Place‴ → ℕ → List ℕ → List ℕ → List ℕ → List Record → List ℕ
-line₁ x-at b line pages nodes register = feed″.out-line (x-at .cutter) line b
+abbrev pub text₁ : Place‴ → ℕ → List ℕ → List ℕ → List ℕ → List Record → List ℕ
+text₁ x-at b text pages nodes register = feed″.out-line (x-at .cutter) text b

@@ -8,16 +8,16 @@ use mathlib.Core.List.{List, [], _∷_}
 use mathlib.Core.Bool.{Bool, true, false, not}
 use lib.Dec.{ltb, leb, eqb}
 use lib.ListN.{length, getD, set}
-use Rattle.tree.specs.declared.Record.{Record}
-use Rattle.tree.proofs.Walkgen.Kind.Record as Record′
+use Rattle.register.specs.declared.Record.{Record}
+use Rattle.register.proofs.Generated.Kind.Record as Record′
 use Rattle.tree.specs.declared.Version.{Version}
-use Rattle.tree.proofs.Walkgen.Kind.Version as Version′
+use Rattle.register.proofs.Generated.Kind.Version as Version′
 use Rattle.tree.specs.declared.Ticket.{Ticket}
-use Rattle.tree.proofs.Walkgen.Kind.Ticket as Ticket′
+use Rattle.register.proofs.Generated.Kind.Ticket as Ticket′
 use Rattle.tree.specs.declared.PageIndex.{PageIndex}
-use Rattle.tree.proofs.Walkgen.Kind.PageIndex as PageIndex′
-use Rattle.versions.proofs.Walkgen.Say.put_record as put-record″
-use Rattle.tree.proofs.Walkgen.Say.set_record as set-record″
+use Rattle.register.proofs.Generated.Kind.PageIndex as PageIndex′
+use Rattle.versions.proofs.Generated.Say.put_record as put-record″
+use Rattle.register.proofs.Generated.Say.set_record as set-record″
 
 abbrev pub register₁ : List Record → ℕ → ℕ → Record → List Record
 register₁ register x-k i x-r = set-record″.out-register register i x-r

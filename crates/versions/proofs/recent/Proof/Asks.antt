@@ -9,21 +9,21 @@ use mathlib.Core.Bool.{Bool, true, false, not}
 use lib.Dec.{ltb, leb, eqb}
 use lib.ListN.{length, getD, set}
 use Rattle.versions.specs.declared.Latest.{Latest}
-use Rattle.versions.proofs.Walkgen.Kind.Latest as Latest′
+use Rattle.versions.proofs.Generated.Kind.Latest as Latest′
 use Rattle.tree.specs.declared.Version.{Version}
-use Rattle.tree.proofs.Walkgen.Kind.Version as Version′
+use Rattle.register.proofs.Generated.Kind.Version as Version′
 use Rattle.versions.specs.declared.Store.{Store}
-use Rattle.versions.proofs.Walkgen.Kind.Store as Store′
+use Rattle.versions.proofs.Generated.Kind.Store as Store′
 use Rattle.tree.specs.declared.Ticket.{Ticket}
-use Rattle.tree.proofs.Walkgen.Kind.Ticket as Ticket′
-use Rattle.tree.specs.declared.Record.{Record}
-use Rattle.tree.proofs.Walkgen.Kind.Record as Record′
+use Rattle.register.proofs.Generated.Kind.Ticket as Ticket′
+use Rattle.register.specs.declared.Record.{Record}
+use Rattle.register.proofs.Generated.Kind.Record as Record′
 use Rattle.tree.specs.declared.PageIndex.{PageIndex}
-use Rattle.tree.proofs.Walkgen.Kind.PageIndex as PageIndex′
+use Rattle.register.proofs.Generated.Kind.PageIndex as PageIndex′
 use Rattle.versions.specs.declared.Lengths.{Lengths}
-use Rattle.versions.proofs.Walkgen.Kind.Lengths as Lengths′
-use Rattle.versions.proofs.Walkgen.Say.recent as recent″
-use Rattle.versions.proofs.Walkgen.Say.recent_by as recent-by″
+use Rattle.versions.proofs.Generated.Kind.Lengths as Lengths′
+use Rattle.versions.proofs.Generated.Say.recent as recent″
+use Rattle.versions.proofs.Generated.Say.recent_by as recent-by″
 
 abbrev pub r1 : Store → List ℕ → List ℕ → List Record → Latest
 r1 s pages nodes register = recent-by″.res s (Lengths′.build (length pages) (length nodes) (length register))

@@ -9,22 +9,22 @@ use mathlib.Core.Bool.{Bool, true, false, not}
 use lib.Dec.{ltb, leb, eqb}
 use lib.ListN.{length, getD, set}
 use Rattle.versions.specs.declared.Sized.{Sized}
-use Rattle.versions.proofs.Walkgen.Kind.Sized as Sized′
+use Rattle.versions.proofs.Generated.Kind.Sized as Sized′
 use Rattle.versions.specs.declared.Store.{Store}
-use Rattle.versions.proofs.Walkgen.Kind.Store as Store′
+use Rattle.versions.proofs.Generated.Kind.Store as Store′
 use Rattle.tree.specs.declared.Ticket.{Ticket}
-use Rattle.tree.proofs.Walkgen.Kind.Ticket as Ticket′
+use Rattle.register.proofs.Generated.Kind.Ticket as Ticket′
 use Rattle.tree.specs.declared.Version.{Version}
-use Rattle.tree.proofs.Walkgen.Kind.Version as Version′
-use Rattle.tree.specs.declared.Record.{Record}
-use Rattle.tree.proofs.Walkgen.Kind.Record as Record′
+use Rattle.register.proofs.Generated.Kind.Version as Version′
+use Rattle.register.specs.declared.Record.{Record}
+use Rattle.register.proofs.Generated.Kind.Record as Record′
 use Rattle.tree.specs.declared.PageIndex.{PageIndex}
-use Rattle.tree.proofs.Walkgen.Kind.PageIndex as PageIndex′
+use Rattle.register.proofs.Generated.Kind.PageIndex as PageIndex′
 use Rattle.versions.specs.declared.Lengths.{Lengths}
-use Rattle.versions.proofs.Walkgen.Kind.Lengths as Lengths′
-use Rattle.versions.proofs.Walkgen.Say.size as size″
-use Rattle.tree.proofs.Walkgen.Say.record_of as record-of″
-use Rattle.versions.proofs.Walkgen.Say.sized_by as sized-by″
+use Rattle.versions.proofs.Generated.Kind.Lengths as Lengths′
+use Rattle.versions.proofs.Generated.Say.size as size″
+use Rattle.register.proofs.Generated.Say.record_of as record-of″
+use Rattle.versions.proofs.Generated.Say.sized_by as sized-by″
 
 abbrev pub r1 : Store → List ℕ → List ℕ → List Record → Version → Record
 r1 s pages nodes register x-v = record-of″.res register (x-v .0)

@@ -1,0 +1,67 @@
+-- `parse::two` meets its contract, word by word. Assumes nothing.
+use Rattle.parse.specs.Steps.{twoOf}
+use borrow.Author.Needs.{needs}
+use Rattle.parse.proofs.two.Statement.{statement}
+use Rattle.parse.proofs.two.Tie as tie
+
+enum-known-a : tie.Need-enum-known-a
+enum-known-a c = search needs
+
+enum-told : tie.Need-enum-told
+enum-told c = search needs
+
+returns : tie.Need-returns
+unfolding twoOf
+returns c = search needs
+
+enum-known-b : tie.Need-enum-known-b
+enum-known-b c = search needs
+
+enum-told-2 : tie.Need-enum-told-2
+enum-told-2 c = search needs
+
+returns-2 : tie.Need-returns-2
+unfolding twoOf
+returns-2 c = search needs
+
+slice-aggregate-word-is : tie.Need-slice-aggregate-word-is
+slice-aggregate-word-is c = search needs
+
+word-is-requires : tie.Need-word-is-requires
+word-is-requires c κs = search needs
+
+returns-3 : tie.Need-returns-3
+unfolding twoOf
+returns-3 c = rw (c .before .before .before .before .before .before .before .a .given .1, c .before .before .before .before .b .given .1, ← c .before .word-is .ensures, c .if1 .taken)
+
+slice-aggregate-word-is-2 : tie.Need-slice-aggregate-word-is-2
+slice-aggregate-word-is-2 c = search needs
+
+word-is-requires-2 : tie.Need-word-is-requires-2
+word-is-requires-2 c κs = search needs
+
+returns-4 : tie.Need-returns-4
+unfolding twoOf
+returns-4 c = rw (c .before .before .before .before .before .before .before .before .before .before .a .given .1, c .before .before .before .before .before .before .before .b .given .1, ← c .before .before .before .before .word-is .ensures, c .before .before .before .if1 .left, ← c .before .word-is2 .ensures, c .if2 .taken)
+
+returns-5 : tie.Need-returns-5
+unfolding twoOf
+returns-5 c = rw (c .before .before .before .before .before .before .before .before .before .before .a .given .1, c .before .before .before .before .before .before .before .b .given .1, ← c .before .before .before .before .word-is .ensures, c .before .before .before .if1 .left, ← c .before .word-is2 .ensures, c .if2 .left)
+
+pub two-spec : {M : Type 1} → statement M
+two-spec =
+    tie.close
+    (tie.spec
+    enum-known-a
+    enum-told
+    returns
+    enum-known-b
+    enum-told-2
+    returns-2
+    slice-aggregate-word-is
+    word-is-requires
+    returns-3
+    slice-aggregate-word-is-2
+    word-is-requires-2
+    returns-4
+    returns-5)

@@ -1,0 +1,4 @@
+pub mod Fields
+pub mod Steps
+pub mod Cut
+pub mod Examples

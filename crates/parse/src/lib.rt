@@ -1,0 +1,416 @@
+// The step program's text, read: lines cut out of a stream of bytes, and the step that a line means. No public function has a `requires`.
+ghost use mathlib.Core.Path.{_≡_};
+ghost use mathlib.Core.Bool.{true};
+ghost use mathlib.Core.List.{[]};
+ghost use lib.ListN.{length, getD};
+ghost use Rattle.text.specs.Text.{same};
+ghost use Rattle.parse.specs.Fields.{fieldsOf, startsPlain, numberOf, hexValue, isHex, unhex, hexOf};
+ghost use Rattle.parse.specs.Steps.{aloneOf, oneOf, twoOf, readOf, putOf, threeOf, formatOf, fourOf, stepOf, bytesOf};
+ghost use Rattle.parse.specs.Cut.{fresh, fedBy, keptBy, unendedIn, cutMeant};
+ghost use Rattle.text.specs.Buffer.{front};
+
+// A field's number, if it is one.
+pub enum Number {
+    Is(u64),
+    Not,
+}
+
+// What a line asks for. Put holds how many page bytes the line has.
+pub enum Step {
+    Format(u64, u64, u64, u64),
+    Begin(u64),
+    Put(u64, u64, usize),
+    Write(u64, u64),
+    Append(u64),
+    Weave(u64),
+    Publish,
+    Read(u64, u64, u64),
+    Size(u64),
+    Recent,
+    Stamp(u64, u64),
+    Malformed,
+}
+
+// Where the cutting of lines stands: how many bytes of the line are kept in the buffer, and whether the line has more than the buffer holds.
+pub struct Cutter {
+    pub len: usize,
+    pub over: bool,
+}
+
+// What a byte brought: the line goes on, or its line feed ended it. A line that ended is the first len bytes of the buffer, or over; the next
+// begins with a fresh cutter.
+pub enum Fed {
+    More(Cutter),
+    Ended(Cutter),
+}
+
+// The most bytes of a line, its line feed not counted.
+const MOST: usize = 600;
+
+// The byte that ends a line.
+const LINE_FEED: u8 = 10;
+
+// Whether a field is this word.
+fn word_is(w: &[u8], word: &[u8]) -> bool
+    ensures { λ r. ⌜ r ≡ same (now (w .entry)) (now (word .entry)) ⌝ }
+{
+    if w.len() != word.len() {
+        return false;
+    }
+    let mut i = 0;
+    while i < w.len() {
+        if w[i] != word[i] {
+            return false;
+        }
+        i += 1;
+    }
+    true
+}
+
+// How many fields a line has: one more than its commas.
+fn field_count(line: &[u8]) -> usize
+    ensures { λ r. ⌜ r ≡ length (fieldsOf (now (line .entry))) ⌝ }
+{
+    let mut n: usize = 1;
+    let mut i = 0;
+    while i < line.len() {
+        if line[i] == b',' {
+            n += 1;
+        }
+        i += 1;
+    }
+    n
+}
+
+// Field k of a line, from 0; the empty part where there is none.
+fn field(line: &[u8], k: usize) -> &[u8]
+    ensures { λ r. ⌜ now r ≡ getD (fieldsOf (now (line .entry))) k [] ⌝ }
+{
+    let mut left = k;
+    let mut from = 0;
+    let mut i = 0;
+    while i < line.len() {
+        if line[i] == b',' {
+            if left == 0 {
+                return &line[from..i];
+            }
+            left -= 1;
+            from = i + 1;
+        }
+        i += 1;
+    }
+    if left == 0 {
+        &line[from..i]
+    } else {
+        &line[0..0]
+    }
+}
+
+// A byte as a wide number.
+fn wide(b: u8) -> u64
+    ensures { λ r. ⌜ r ≡ b ⌝ }
+{
+    b as u64
+}
+
+// Whether a field has a first byte that is not a 0 with more after it.
+fn starts_plain(f: &[u8]) -> bool
+    ensures { λ r. ⌜ r ≡ startsPlain (now (f .entry)) ⌝ }
+{
+    if f.len() == 0 {
+        return false;
+    }
+    if f.len() == 1 {
+        return true;
+    }
+    f[0] != 48
+}
+
+// The number that a field is. A value past 64 bits is found before it would wrap.
+fn number_in(f: &[u8]) -> Number
+    ensures { λ r. ⌜ r ≡ numberOf (now (f .entry)) ⌝ }
+{
+    if !starts_plain(f) {
+        return Number::Not;
+    }
+    let mut v: u64 = 0;
+    let mut i = 0;
+    while i < f.len() {
+        let b = wide(f[i]);
+        if b < 48 {
+            return Number::Not;
+        }
+        if b > 57 {
+            return Number::Not;
+        }
+        if v > (u64::MAX - (b - 48)) / 10 {
+            return Number::Not;
+        }
+        v = v * 10 + (b - 48);
+        i += 1;
+    }
+    Number::Is(v)
+}
+
+// The value of a lowercase hexadecimal digit; 16 for any other byte.
+fn hex_value(b: u8) -> u8
+    ensures { λ r. ⌜ r ≡ hexValue b ⌝ }
+{
+    if b < 48 {
+        return 16;
+    }
+    if b <= 57 {
+        return b - 48;
+    }
+    if b < 97 {
+        return 16;
+    }
+    if b <= 102 {
+        return b - 87;
+    }
+    16
+}
+
+// Whether a field is hexadecimal, two digits a byte.
+fn is_hex(f: &[u8]) -> bool
+    ensures { λ r. ⌜ r ≡ isHex (now (f .entry)) ⌝ }
+{
+    let mut i = 0;
+    while i < f.len() {
+        if f.len() - i < 2 {
+            return false;
+        }
+        if hex_value(f[i]) > 15 {
+            return false;
+        }
+        if hex_value(f[i + 1]) > 15 {
+            return false;
+        }
+        i += 2;
+    }
+    true
+}
+
+// Puts the bytes of a hexadecimal field at the front of a buffer; leaves a buffer that is too short.
+fn decode(f: &[u8], bytes: &mut [u8])
+    requires { ⌜ isHex (now f) ≡ true ⌝ }
+    ensures { λ _. ⌜ now (bytes .exit) ≡ front (unhex (now (f .entry))) (now (bytes .entry)) ⌝ }
+{
+    if f.len() / 2 > bytes.len() {
+        return;
+    }
+    let mut at = 0;
+    let mut i = 0;
+    while i < f.len() {
+        bytes[at] = hex_value(f[i]) * 16 + hex_value(f[i + 1]);
+        at += 1;
+        i += 2;
+    }
+}
+
+// The step of a word alone.
+fn alone(w: &[u8]) -> Step
+    ensures { λ r. ⌜ r ≡ aloneOf (now (w .entry)) ⌝ }
+{
+    if word_is(w, b"PUBLISH") {
+        return Step::Publish;
+    }
+    if word_is(w, b"RECENT") {
+        return Step::Recent;
+    }
+    Step::Malformed
+}
+
+// The step of a word and a number.
+fn one(w: &[u8], a: Number) -> Step
+    ensures { λ r. ⌜ r ≡ oneOf (now (w .entry)) a ⌝ }
+{
+    let Number::Is(a) = a else {
+        return Step::Malformed;
+    };
+    if word_is(w, b"BEGIN") {
+        return Step::Begin(a);
+    }
+    if word_is(w, b"APPEND") {
+        return Step::Append(a);
+    }
+    if word_is(w, b"WEAVE") {
+        return Step::Weave(a);
+    }
+    if word_is(w, b"SIZE") {
+        return Step::Size(a);
+    }
+    Step::Malformed
+}
+
+// The step of a word and two numbers.
+fn two(w: &[u8], a: Number, b: Number) -> Step
+    ensures { λ r. ⌜ r ≡ twoOf (now (w .entry)) a b ⌝ }
+{
+    let Number::Is(a) = a else {
+        return Step::Malformed;
+    };
+    let Number::Is(b) = b else {
+        return Step::Malformed;
+    };
+    if word_is(w, b"WRITE") {
+        return Step::Write(a, b);
+    }
+    if word_is(w, b"STAMP") {
+        return Step::Stamp(a, b);
+    }
+    Step::Malformed
+}
+
+// The step of READ's three numbers.
+fn read(a: Number, b: Number, c: Number) -> Step
+    ensures { λ r. ⌜ r ≡ readOf a b c ⌝ }
+{
+    let Number::Is(a) = a else {
+        return Step::Malformed;
+    };
+    let Number::Is(b) = b else {
+        return Step::Malformed;
+    };
+    let Number::Is(c) = c else {
+        return Step::Malformed;
+    };
+    Step::Read(a, b, c)
+}
+
+// The step of FORMAT's four numbers.
+fn format(a: Number, b: Number, c: Number, d: Number) -> Step
+    ensures { λ r. ⌜ r ≡ formatOf a b c d ⌝ }
+{
+    let Number::Is(a) = a else {
+        return Step::Malformed;
+    };
+    let Number::Is(b) = b else {
+        return Step::Malformed;
+    };
+    let Number::Is(c) = c else {
+        return Step::Malformed;
+    };
+    let Number::Is(d) = d else {
+        return Step::Malformed;
+    };
+    Step::Format(a, b, c, d)
+}
+
+// The step of PUT's two numbers and its page bytes, which go to the front of the buffer where they fit.
+fn put(a: Number, b: Number, h: &[u8], bytes: &mut [u8]) -> Step
+    ensures { λ r. ⌜ (r ≡ putOf a b (hexOf (now (h .entry))) .step) × (now (bytes .exit) ≡ front (putOf a b (hexOf (now (h .entry))) .bytes) (now (bytes .entry))) ⌝ }
+{
+    let Number::Is(a) = a else {
+        return Step::Malformed;
+    };
+    let Number::Is(b) = b else {
+        return Step::Malformed;
+    };
+    if !is_hex(h) {
+        return Step::Malformed;
+    }
+    decode(h, bytes);
+    Step::Put(a, b, h.len() / 2)
+}
+
+// The step of a word and three fields; PUT's page bytes go to the front of the buffer where they fit.
+fn three(w: &[u8], a: &[u8], b: &[u8], c: &[u8], bytes: &mut [u8]) -> Step
+    ensures { λ r. ⌜ (r ≡ threeOf (now (w .entry)) (now (a .entry)) (now (b .entry)) (now (c .entry)) .step) × (now (bytes .exit) ≡ front (threeOf (now (w .entry)) (now (a .entry)) (now (b .entry)) (now (c .entry)) .bytes) (now (bytes .entry))) ⌝ }
+{
+    if word_is(w, b"PUT") {
+        return put(number_in(a), number_in(b), c, bytes);
+    }
+    if word_is(w, b"READ") {
+        return read(number_in(a), number_in(b), number_in(c));
+    }
+    Step::Malformed
+}
+
+// The step of a word and four numbers.
+fn four(w: &[u8], a: Number, b: Number, c: Number, d: Number) -> Step
+    ensures { λ r. ⌜ r ≡ fourOf (now (w .entry)) a b c d ⌝ }
+{
+    if word_is(w, b"FORMAT") {
+        return format(a, b, c, d);
+    }
+    Step::Malformed
+}
+
+// The step of a line, without its line feed. The page bytes of a PUT line go to the front of the buffer; where they do not fit, and for any
+// other line, the buffer is as it was.
+pub fn step_of(line: &[u8], bytes: &mut [u8]) -> Step
+    ensures { λ r. ⌜ (r ≡ stepOf (now (line .entry))) × (now (bytes .exit) ≡ front (bytesOf (now (line .entry))) (now (bytes .entry))) ⌝ }
+{
+    if line.len() > MOST {
+        return Step::Malformed;
+    }
+    let w = field(line, 0);
+    let a = field(line, 1);
+    let b = field(line, 2);
+    let c = field(line, 3);
+    let d = field(line, 4);
+    match field_count(line) {
+        1 => alone(w),
+        2 => one(w, number_in(a)),
+        3 => two(w, number_in(a), number_in(b)),
+        4 => three(w, a, b, c, bytes),
+        5 => four(w, number_in(a), number_in(b), number_in(c), number_in(d)),
+        _ => Step::Malformed,
+    }
+}
+
+// The cutter at the start of a line.
+pub fn fresh_cutter() -> Cutter
+    ensures { λ r. ⌜ r ≡ fresh ⌝ }
+{
+    Cutter {
+        len: 0,
+        over: false,
+    }
+}
+
+// Takes one byte of the text. The byte goes into the buffer, unless it is a line feed or the buffer is full.
+pub fn feed(c: Cutter, line: &mut [u8], b: u8) -> Fed
+    ensures { λ r. ⌜ (r ≡ fedBy c (length (now (line .entry))) b) × (now (line .exit) ≡ keptBy c b (now (line .entry))) ⌝ }
+{
+    if b == LINE_FEED {
+        return Fed::Ended(c);
+    }
+    if c.over {
+        return Fed::More(c);
+    }
+    let at = c.len;
+    if at < line.len() {
+        line[at] = b;
+        return Fed::More(Cutter {
+            len: at + 1,
+            over: false,
+        });
+    }
+    Fed::More(Cutter {
+        len: at,
+        over: true,
+    })
+}
+
+// Whether, at the end of the text, a last line without a line feed stands in the buffer.
+pub fn unended(c: Cutter) -> bool
+    ensures { λ r. ⌜ r ≡ unendedIn c ⌝ }
+{
+    if c.over { true } else { c.len != 0 }
+}
+
+// The step of the line that the cutter holds in the buffer; its page bytes go where those of `step_of` go.
+pub fn step_cut(c: Cutter, line: &[u8], bytes: &mut [u8]) -> Step
+    ensures { λ r. ⌜ (r ≡ cutMeant c (now (line .entry)) .step) × (now (bytes .exit) ≡ front (cutMeant c (now (line .entry)) .bytes) (now (bytes .entry))) ⌝ }
+{
+    if c.over {
+        return Step::Malformed;
+    }
+    let len = c.len;
+    if len < line.len() {
+        return step_of(&line[..len], bytes);
+    }
+    step_of(line, bytes)
+}

@@ -1,0 +1,5 @@
+pub mod Lost
+pub mod Ranges
+pub mod Chunks
+pub mod Reading
+pub mod Generated

@@ -1,0 +1,262 @@
+// READ: a range of a version's bytes, copied to the front of a buffer.
+ghost use mathlib.Core.Path.{_≡_};
+ghost use Prim.Native.Nat.{_+_, _^_, _<_, _≤_};
+ghost use mathlib.Core.List.{[], _++_};
+ghost use lib.Dec.{ltb};
+ghost use lib.ListN.{length, drop};
+ghost use Rattle.tree.specs.Place.{first};
+ghost use Rattle.versions.specs.Table.{unless};
+ghost use Rattle.read.specs.Range.{rangeRefusal, Ranged, orLost, chunkAt, Readable};
+ghost use Rattle.versions.specs.Store.{areasOf};
+ghost use Rattle.walk.specs.FindPage.{findPage, numberWithin, isLost};
+ghost use Rattle.read.specs.Read.{someLost, pagesTouched, bytesFrom, filledBy, readOut, readBuffer};
+use pages::copy_page;
+use register::Record;
+use register::record_of;
+use tree::PageIndex;
+use tree::Version;
+use tree::smaller;
+use versions::ByteOffset;
+use versions::Lengths;
+use versions::Store;
+use versions::areas_differ;
+use versions::bytes_by;
+use versions::pages_by;
+use walk::find_page;
+use walk::is_lost;
+use walk::number_found;
+
+// What READ answers.
+pub enum Filled {
+    Done,
+    Refused(u64),
+}
+
+// A range of bytes of the blob, and how many the buffer has room for.
+struct Range {
+    offset: ByteOffset,
+    len: u64,
+    room: usize,
+}
+
+// What one page has of a range: the page, the first byte within it, and how many.
+struct Chunk {
+    page: PageIndex,
+    from: u64,
+    count: u64,
+}
+
+// Whether len bytes from an offset on run past a total.
+fn runs_past(total: u64, offset: u64, len: u64) -> bool
+    ensures { λ b. ⌜ b ≡ ltb total (offset + len) ⌝ }
+{
+    if total < offset {
+        return true;
+    }
+    total - offset < len
+}
+
+// The refusal of READ but for the walks to its pages, with version v's record q.
+fn range_refusal(s: Store, l: Lengths, q: Record, v: Version, g: Range) -> u64
+    ensures { λ k. ⌜ k ≡ rangeRefusal s l q (v .0) (g .offset .0) (g .len) (g .room) ⌝ }
+{
+    if areas_differ(s, l) {
+        return 3;
+    }
+    let last = s.published;
+    if last.0 < v.0 {
+        return 16;
+    }
+    if s.updates < v.0 {
+        if (g.room as u64) < g.len {
+            return 18;
+        }
+        return 19;
+    }
+    if runs_past(bytes_by(s, pages_by(v, q)), g.offset.0, g.len) {
+        return 17;
+    }
+    if (g.room as u64) < g.len {
+        return 18;
+    }
+    0
+}
+
+// How many pages a range touches where the table's number k is 0; else none are walked to.
+fn touched(k: u64, size: u64, offset: u64, len: u64) -> u64
+    requires { ⌜ (k ≡ 0 → Ranged size offset len) ⌝ }
+    ensures { λ r. ⌜ r ≡ unless k 0 (pagesTouched size offset len) ⌝ }
+{
+    if k != 0 {
+        return 0;
+    }
+    if len == 0 {
+        return 0;
+    }
+    let end = offset + (len - 1);
+    end / size - offset / size + 1
+}
+
+// Whether one of the n pages from a page on is not found as of version v; `first` says it of the first of them.
+fn some_lost(
+    s: Store,
+    nodes: &[u32],
+    register: &[Record],
+    v: Version,
+    from: u64,
+    n: u64,
+    first: bool,
+) -> bool
+    requires { ⌜ (from + n < 2 ^ 64) × (first ≡ isLost (numberWithin (s .pages) (findPage s (areasOf [] (now nodes) (now register)) (v .0) from))) ⌝ }
+    ensures { λ b. ⌜ b ≡ someLost s (areasOf [] (now (nodes .entry)) (now (register .entry))) (v .0) from n ⌝ }
+{
+    if n == 0 {
+        return false;
+    }
+    if first {
+        return true;
+    }
+    let mut i = 1u64;
+    while i < n {
+        if is_lost(
+            s.pages,
+            find_page(s, nodes, register, v, PageIndex(from + i)),
+        ) {
+            return true;
+        }
+        i = i + 1;
+    }
+    false
+}
+
+// The table's number with the walks: a page that is not found is 19.
+fn or_lost(k: u64, lost: bool) -> u64
+    ensures { λ r. ⌜ r ≡ orLost k lost ⌝ }
+{
+    if k != 0 {
+        return k;
+    }
+    if lost { 19 } else { 0 }
+}
+
+// How many bytes are copied: none where the table refuses.
+fn copied(k: u64, len: u64) -> u64
+    ensures { λ r. ⌜ r ≡ unless k 0 len ⌝ }
+{
+    if k == 0 { len } else { 0 }
+}
+
+// What the page of byte `at` has of the len bytes from there on. A page of size 0 has none.
+fn chunk_at(size: u64, at: u64, len: u64) -> Chunk
+    ensures { λ c. ⌜ c ≡ chunkAt size at len ⌝ }
+{
+    if size == 0 {
+        return Chunk {
+            page: PageIndex(0),
+            from: at,
+            count: 0,
+        };
+    }
+    let from = at % size;
+    Chunk {
+        page: PageIndex(at / size),
+        from,
+        count: smaller(size - from, len),
+    }
+}
+
+// Copies a range of version v's bytes to the front of the buffer, page by page. Its first `from` bytes are there already.
+fn copy_range(
+    s: Store,
+    pages: &[u8],
+    nodes: &[u32],
+    register: &[Record],
+    v: Version,
+    offset: u64,
+    len: u64,
+    from: u64,
+    buffer: &mut [u8],
+)
+    requires { ⌜ Readable s (now pages) (now nodes) (now register) (v .0) offset len (length (now buffer)) × (from ≤ len) × (now buffer ≡ bytesFrom s (areasOf (now pages) (now nodes) (now register)) (v .0) offset from ++ drop from (now buffer)) ⌝ }
+    ensures { λ _. ⌜ now (buffer .exit) ≡ bytesFrom s (areasOf (now (pages .entry)) (now (nodes .entry)) (now (register .entry))) (v .0) offset len ++ drop len (now (buffer .entry)) ⌝ }
+{
+    let mut done = from;
+    while done < len {
+        let c = chunk_at(s.size, offset + done, len - done);
+        let x = find_page(s, nodes, register, v, c.page);
+        copy_page(
+            pages,
+            s.size,
+            number_found(s.pages, x),
+            c.from,
+            c.count,
+            buffer,
+            done,
+        );
+        done = done + c.count;
+    }
+}
+
+// What READ answers.
+fn filled_by(k: u64) -> Filled
+    ensures { λ r. ⌜ r ≡ filledBy k ⌝ }
+{
+    if k == 0 {
+        Filled::Done
+    } else {
+        Filled::Refused(k)
+    }
+}
+
+// READ v, offset, len: fills the front of the buffer with a range of version v's bytes. It finds every page of the range before it copies any.
+pub fn read(
+    s: Store,
+    pages: &[u8],
+    nodes: &[u32],
+    register: &[Record],
+    v: Version,
+    offset: ByteOffset,
+    len: u64,
+    buffer: &mut [u8],
+) -> Filled
+    ensures { λ r. ⌜ (r ≡ readOut s (areasOf (now (pages .entry)) (now (nodes .entry)) (now (register .entry))) (v .0) (offset .0) len (now (buffer .entry))) × (now (buffer .exit) ≡ readBuffer s (areasOf (now (pages .entry)) (now (nodes .entry)) (now (register .entry))) (v .0) (offset .0) len (now (buffer .entry))) ⌝ }
+{
+    let l = Lengths {
+        pages: pages.len(),
+        nodes: nodes.len(),
+        register: register.len(),
+    };
+    let g = Range {
+        offset,
+        len,
+        room: buffer.len(),
+    };
+    let k = range_refusal(s, l, record_of(register, v.0), v, g);
+    let n = touched(k, s.size, offset.0, len);
+    let c = chunk_at(s.size, offset.0, len);
+    let x = find_page(s, nodes, register, v, c.page);
+    let lost = some_lost(s, nodes, register, v, c.page.0, n, is_lost(s.pages, x));
+    let number = or_lost(k, lost);
+    let count = copied(number, c.count);
+    copy_page(
+        pages,
+        s.size,
+        number_found(s.pages, x),
+        c.from,
+        count,
+        buffer,
+        0,
+    );
+    copy_range(
+        s,
+        pages,
+        nodes,
+        register,
+        v,
+        offset.0,
+        copied(number, len),
+        count,
+        buffer,
+    );
+    filled_by(number)
+}

@@ -1,0 +1,4 @@
+pub mod Records
+pub mod Within
+pub mod Counted
+pub mod Generated

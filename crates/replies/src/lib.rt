@@ -1,0 +1,282 @@
+// What each call replies to C: structs of plain numbers, from the call's own answer, each by its definition in specs/Replies.
+// A reply begins with the number of the refusal, 0 where the call was accepted.
+ghost use mathlib.Core.Path.{_≡_};
+ghost use Rattle.replies.specs.Replies.{noStore, formatReply, beginReply, putReply, assignReply, weaveReply, publishReply, readReply, sizeReply, recentReply, stampReply, viewReply};
+use assign::AssignOut;
+use assign::Assigned;
+use begin::BeginOut;
+use begin::Begun;
+use format::Formatted;
+use publish::PublishOut;
+use publish::Published;
+use put::PutIn;
+use read::Filled;
+use stamp::Stamped;
+use tree::Ticket;
+use tree::Version;
+use versions::Latest;
+use versions::Sized;
+use versions::Store;
+use view::Viewed;
+use weave::Woven;
+
+// What FORMAT replies: the store, which is all zeros where FORMAT is refused.
+#[repr(C)]
+pub struct FormatReply {
+    pub refusal: u64,
+    pub store: Store,
+}
+
+// What BEGIN replies. The ticket is 0 where BEGIN is refused.
+#[repr(C)]
+pub struct BeginReply {
+    pub refusal: u64,
+    pub store: Store,
+    pub ticket: u64,
+}
+
+// What ASSIGN replies: the version and its node count, both 0 where it is refused.
+#[repr(C)]
+pub struct AssignReply {
+    pub refusal: u64,
+    pub store: Store,
+    pub version: u64,
+    pub nodes: u64,
+}
+
+// What WEAVE replies: the node's name, its two numbers and how many nodes are left; all 0 where it is refused.
+#[repr(C)]
+pub struct WeaveReply {
+    pub refusal: u64,
+    pub version: u64,
+    pub first: u64,
+    pub span: u64,
+    pub left: u64,
+    pub right: u64,
+    pub rest: u64,
+}
+
+// What PUBLISH replies: the version that it published; 0 is "waiting", or a refusal.
+#[repr(C)]
+pub struct PublishReply {
+    pub refusal: u64,
+    pub store: Store,
+    pub version: u64,
+}
+
+// What SIZE replies, in bytes.
+#[repr(C)]
+pub struct SizeReply {
+    pub refusal: u64,
+    pub bytes: u64,
+}
+
+// What RECENT and STAMP reply.
+#[repr(C)]
+pub struct VersionReply {
+    pub refusal: u64,
+    pub version: u64,
+}
+
+// What VIEW replies: where in the page area the part begins, and how long it is; both 0 where VIEW is refused.
+#[repr(C)]
+pub struct ViewReply {
+    pub refusal: u64,
+    pub begin: u64,
+    pub length: u64,
+}
+
+fn no_store() -> Store
+    ensures { λ r. ⌜ r ≡ noStore ⌝ }
+{
+    Store {
+        size: 0,
+        pages: 0,
+        nodes: 0,
+        updates: 0,
+        tickets: Ticket(0),
+        taken: 0,
+        assigned: Version(0),
+        places: 0,
+        published: Version(0),
+        blob: 0,
+    }
+}
+
+pub fn format_reply(out: Formatted) -> FormatReply
+    ensures { λ r. ⌜ r ≡ formatReply out ⌝ }
+{
+    match out {
+        Formatted::Made(store) => FormatReply { refusal: 0, store },
+        Formatted::Refused(k) => FormatReply {
+            refusal: k,
+            store: no_store(),
+        },
+    }
+}
+
+pub fn begin_reply(out: BeginOut) -> BeginReply
+    ensures { λ r. ⌜ r ≡ beginReply out ⌝ }
+{
+    let store = out.store;
+    let answer = out.answer;
+    match answer {
+        Begun::Given(t) => BeginReply {
+            refusal: 0,
+            store,
+            ticket: t.0,
+        },
+        Begun::Refused(k) => BeginReply {
+            refusal: k,
+            store,
+            ticket: 0,
+        },
+    }
+}
+
+pub fn put_reply(out: PutIn) -> u64
+    ensures { λ r. ⌜ r ≡ putReply out ⌝ }
+{
+    match out {
+        PutIn::Done => 0,
+        PutIn::Refused(k) => k,
+    }
+}
+
+pub fn assign_reply(out: AssignOut) -> AssignReply
+    ensures { λ r. ⌜ r ≡ assignReply out ⌝ }
+{
+    let store = out.store;
+    let answer = out.answer;
+    match answer {
+        Assigned::Given(v, nodes) => AssignReply {
+            refusal: 0,
+            store,
+            version: v.0,
+            nodes,
+        },
+        Assigned::Refused(k) => AssignReply {
+            refusal: k,
+            store,
+            version: 0,
+            nodes: 0,
+        },
+    }
+}
+
+pub fn weave_reply(out: Woven) -> WeaveReply
+    ensures { λ r. ⌜ r ≡ weaveReply out ⌝ }
+{
+    match out {
+        Woven::Node(x) => WeaveReply {
+            refusal: 0,
+            version: x.version.0,
+            first: x.first.0,
+            span: x.span,
+            left: x.left as u64,
+            right: x.right as u64,
+            rest: x.rest,
+        },
+        Woven::Refused(k) => WeaveReply {
+            refusal: k,
+            version: 0,
+            first: 0,
+            span: 0,
+            left: 0,
+            right: 0,
+            rest: 0,
+        },
+    }
+}
+
+pub fn publish_reply(out: PublishOut) -> PublishReply
+    ensures { λ r. ⌜ r ≡ publishReply out ⌝ }
+{
+    let store = out.store;
+    let answer = out.answer;
+    match answer {
+        Published::Now(v) => PublishReply {
+            refusal: 0,
+            store,
+            version: v.0,
+        },
+        Published::Waiting => PublishReply {
+            refusal: 0,
+            store,
+            version: 0,
+        },
+        Published::Refused(k) => PublishReply {
+            refusal: k,
+            store,
+            version: 0,
+        },
+    }
+}
+
+pub fn read_reply(out: Filled) -> u64
+    ensures { λ r. ⌜ r ≡ readReply out ⌝ }
+{
+    match out {
+        Filled::Done => 0,
+        Filled::Refused(k) => k,
+    }
+}
+
+pub fn size_reply(out: Sized) -> SizeReply
+    ensures { λ r. ⌜ r ≡ sizeReply out ⌝ }
+{
+    match out {
+        Sized::Bytes(bytes) => SizeReply { refusal: 0, bytes },
+        Sized::Refused(k) => SizeReply {
+            refusal: k,
+            bytes: 0,
+        },
+    }
+}
+
+pub fn recent_reply(out: Latest) -> VersionReply
+    ensures { λ r. ⌜ r ≡ recentReply out ⌝ }
+{
+    match out {
+        Latest::Is(v) => VersionReply {
+            refusal: 0,
+            version: v.0,
+        },
+        Latest::Refused(k) => VersionReply {
+            refusal: k,
+            version: 0,
+        },
+    }
+}
+
+pub fn stamp_reply(out: Stamped) -> VersionReply
+    ensures { λ r. ⌜ r ≡ stampReply out ⌝ }
+{
+    match out {
+        Stamped::Is(v) => VersionReply {
+            refusal: 0,
+            version: v.0,
+        },
+        Stamped::Refused(k) => VersionReply {
+            refusal: k,
+            version: 0,
+        },
+    }
+}
+
+pub fn view_reply(size: u64, out: Viewed) -> ViewReply
+    ensures { λ r. ⌜ r ≡ viewReply size out ⌝ }
+{
+    match out {
+        Viewed::At(begin) => ViewReply {
+            refusal: 0,
+            begin,
+            length: size,
+        },
+        Viewed::Refused(k) => ViewReply {
+            refusal: k,
+            begin: 0,
+            length: 0,
+        },
+    }
+}

@@ -1,0 +1,272 @@
+// One step of the step program: what its text asks for, within the program's own limits, and the areas that it is lent. `parse` has read the text; `turns`
+// asks the store and writes the answer.
+ghost use mathlib.Core.Path.{_≡_};
+ghost use Prim.Native.Nat.{_*_, min};
+use answers::Kept;
+use answers::Turn;
+use answers::capped;
+use answers::refused_turn;
+use parse::Step;
+use register::Record;
+use tree::PageIndex;
+use tree::Ticket;
+use tree::Version;
+use turns::append_step;
+use turns::begin_step;
+use turns::format_step;
+use turns::publish_step;
+use turns::put_step;
+use turns::read_step;
+use turns::recent_step;
+use turns::size_step;
+use turns::stamp_step;
+use turns::weave_step;
+use turns::write_step;
+use versions::ByteOffset;
+use versions::Lengths;
+use versions::Store;
+
+// What a step asks for, in the sorts that the store takes, by the areas that it changes.
+pub enum Wanted {
+    Fill(Fill),
+    Note(Note),
+    Look(Look),
+    Nothing,
+}
+
+// The steps that change pages or nodes. FORMAT holds the store that it would make, PUT how many page bytes the line has.
+pub enum Fill {
+    Format(Store),
+    Put(Ticket, u64, usize),
+    Weave(Ticket),
+}
+
+// Those that change the register alone.
+pub enum Note {
+    Begin(u64),
+    Write(Ticket, PageIndex),
+    Append(Ticket),
+}
+
+// Those that change no area.
+pub enum Look {
+    Publish,
+    Read(Version, ByteOffset, u64),
+    Size(Version),
+    Recent,
+    Stamp(Version, PageIndex),
+}
+
+// The program's own limits: page size, page bytes, nodes and updates of a store.
+const MOST_SIZE: u64 = 256;
+
+const MOST_BYTES: u64 = 32768;
+
+const MOST_NODES: u64 = 2048;
+
+const MOST_UPDATES: u64 = 256;
+
+// The most bytes that a READ gives.
+const MOST_READ: u64 = 256;
+
+// ---- what a step asks for
+
+// A store of these limits in which nothing has been done.
+fn empty_store(size: u64, pages: u64, nodes: u64, updates: u64) -> Store {
+    Store {
+        size,
+        pages,
+        nodes,
+        updates,
+        tickets: Ticket(0),
+        taken: 0,
+        assigned: Version(0),
+        places: 0,
+        published: Version(0),
+        blob: 0,
+    }
+}
+
+// No store.
+pub fn nothing_kept() -> Kept {
+    let store = empty_store(0, 0, 0, 0);
+    Kept { open: false, store }
+}
+
+// Whether a store is beyond the program's own limits.
+fn is_beyond(size: u64, pages: u64, nodes: u64, updates: u64) -> bool {
+    if size > MOST_SIZE {
+        return true;
+    }
+    if size > 0 {
+        if pages > MOST_BYTES / size {
+            return true;
+        }
+    }
+    nodes > MOST_NODES || updates > MOST_UPDATES
+}
+
+// FORMAT is asked only within the program's own limits.
+fn format_wanted(size: u64, pages: u64, nodes: u64, updates: u64) -> Wanted {
+    if is_beyond(size, pages, nodes, updates) {
+        return Wanted::Nothing;
+    }
+    Wanted::Fill(Fill::Format(empty_store(size, pages, nodes, updates)))
+}
+
+// READ is asked only within the program's own limit.
+fn read_wanted(v: u64, offset: u64, n: u64) -> Wanted {
+    if n > MOST_READ {
+        return Wanted::Nothing;
+    }
+    Wanted::Look(Look::Read(Version(v), ByteOffset(offset), n))
+}
+
+// What a step asks for.
+pub fn wanted_by(step: Step) -> Wanted {
+    match step {
+        Step::Format(s, p, n, u) => format_wanted(s, p, n, u),
+        Step::Begin(n) => Wanted::Note(Note::Begin(n)),
+        Step::Put(t, i, n) => Wanted::Fill(Fill::Put(Ticket(t), i, n)),
+        Step::Write(t, f) => Wanted::Note(Note::Write(Ticket(t), PageIndex(f))),
+        Step::Append(t) => Wanted::Note(Note::Append(Ticket(t))),
+        Step::Weave(t) => Wanted::Fill(Fill::Weave(Ticket(t))),
+        Step::Publish => Wanted::Look(Look::Publish),
+        Step::Read(v, o, n) => read_wanted(v, o, n),
+        Step::Size(v) => Wanted::Look(Look::Size(Version(v))),
+        Step::Recent => Wanted::Look(Look::Recent),
+        Step::Stamp(v, p) => Wanted::Look(Look::Stamp(Version(v), PageIndex(p))),
+        Step::Malformed => Wanted::Nothing,
+    }
+}
+
+// ---- the areas that a step is lent
+
+// a times b, or `most` where that is less. The product may be more than 64 bits hold.
+fn capped_product(a: u64, b: u64, most: usize) -> usize
+    ensures { λ r. ⌜ r ≡ min (a * b) most ⌝ }
+{
+    if a == 0 {
+        return 0;
+    }
+    if b > most as u64 / a {
+        return most;
+    }
+    (a * b) as usize
+}
+
+// The lengths of the areas of a store, none past the array it lies in. A store that this program formats fits the arrays, so these are exact.
+fn lengths_of(s: Store, pages: usize, nodes: usize, register: usize) -> Lengths
+    ensures { λ l. ⌜ (l .pages ≡ min (s .size * s .pages) pages) × (l .nodes ≡ min (2 * s .nodes) nodes) × (l .register ≡ min (s .updates) register) ⌝ }
+{
+    Lengths {
+        pages: capped_product(s.size, s.pages, pages),
+        nodes: capped_product(2, s.nodes, nodes),
+        register: capped(s.updates, register),
+    }
+}
+
+// The store whose areas a step is lent: the one that is kept, and for FORMAT the one that it would make.
+fn store_for(kept: Kept, wanted: Wanted) -> Store {
+    let store = kept.store;
+    match wanted {
+        Wanted::Fill(step) => match step {
+            Fill::Format(asked) => asked,
+            Fill::Put(_, _, _) => store,
+            Fill::Weave(_) => store,
+        },
+        Wanted::Note(_) => store,
+        Wanted::Look(_) => store,
+        Wanted::Nothing => store,
+    }
+}
+
+// ---- a step on areas of the store's lengths
+
+fn fill_step(
+    kept: Kept,
+    step: Fill,
+    pages: &mut [u8],
+    nodes: &mut [u32],
+    register: &mut [Record],
+    out: &mut [u8],
+) -> Turn {
+    match step {
+        Fill::Format(s) => format_step(kept, s, pages, nodes, register, out),
+        Fill::Put(t, i, n) => put_step(kept, t, i, n, pages, nodes, register, out),
+        Fill::Weave(t) => weave_step(kept, t, pages, nodes, register, out),
+    }
+}
+
+fn note_step(
+    kept: Kept,
+    step: Note,
+    pages: &[u8],
+    nodes: &[u32],
+    register: &mut [Record],
+    out: &mut [u8],
+) -> Turn {
+    match step {
+        Note::Begin(n) => begin_step(kept, n, pages, nodes, register, out),
+        Note::Write(t, f) => write_step(kept, t, f, pages, nodes, register, out),
+        Note::Append(t) => append_step(kept, t, pages, nodes, register, out),
+    }
+}
+
+fn look_step(
+    kept: Kept,
+    step: Look,
+    pages: &[u8],
+    nodes: &[u32],
+    register: &[Record],
+    out: &mut [u8],
+) -> Turn {
+    match step {
+        Look::Publish => publish_step(kept, pages, nodes, register, out),
+        Look::Read(v, o, n) => read_step(kept, v, o, n, pages, nodes, register, out),
+        Look::Size(v) => size_step(kept, v, pages, nodes, register, out),
+        Look::Recent => recent_step(kept, pages, nodes, register, out),
+        Look::Stamp(v, p) => stamp_step(kept, v, p, pages, nodes, register, out),
+    }
+}
+
+fn step_within(
+    kept: Kept,
+    wanted: Wanted,
+    pages: &mut [u8],
+    nodes: &mut [u32],
+    register: &mut [Record],
+    out: &mut [u8],
+) -> Turn {
+    match wanted {
+        Wanted::Fill(step) => fill_step(kept, step, pages, nodes, register, out),
+        Wanted::Note(step) => note_step(kept, step, pages, nodes, register, out),
+        Wanted::Look(step) => look_step(kept, step, pages, nodes, register, out),
+        Wanted::Nothing => refused_turn(kept, out),
+    }
+}
+
+// One step. The store's areas are the first parts of the arrays lent. At the front of out stand PUT's page bytes before it, and its answer after it.
+pub fn respond(
+    kept: Kept,
+    wanted: Wanted,
+    pages: &mut [u8],
+    nodes: &mut [u32],
+    register: &mut [Record],
+    out: &mut [u8],
+) -> Turn {
+    let l = lengths_of(
+        store_for(kept, wanted),
+        pages.len(),
+        nodes.len(),
+        register.len(),
+    );
+    step_within(
+        kept,
+        wanted,
+        &mut pages[..l.pages],
+        &mut nodes[..l.nodes],
+        &mut register[..l.register],
+        out,
+    )
+}

@@ -1,0 +1,3 @@
+pub mod Quoted
+pub mod Text
+pub mod Buffer

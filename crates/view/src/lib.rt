@@ -1,0 +1,97 @@
+// VIEW: the bytes of a page as of a version, as a part of the page area.
+ghost use mathlib.Core.Path.{_≡_};
+ghost use Prim.Native.Nat.{_*_, _^_, _<_};
+ghost use mathlib.Core.List.{[]};
+ghost use Rattle.pages.specs.Pages.{part};
+ghost use Rattle.versions.specs.Table.{unless};
+ghost use Rattle.versions.specs.Store.{areasOf};
+ghost use Rattle.view.specs.View.{viewPart, viewed, viewAt};
+use pages::view_page;
+use register::Record;
+use register::record_of;
+use stamp::page_refusal;
+use tree::PageIndex;
+use tree::Version;
+use versions::Lengths;
+use versions::Store;
+use walk::find_page;
+use walk::number_found;
+
+// What VIEW answers a caller that is handed no part: the byte of the page area where the part begins.
+pub enum Viewed {
+    At(u64),
+    Refused(u64),
+}
+
+// Page `number` as a part of the area where the table's number k is 0, else the empty part.
+fn view_part(pages: &[u8], k: u64, size: u64, number: u64) -> &[u8]
+    ensures { λ r. ⌜ now r ≡ unless k [] (part (now (pages .entry)) (size * number) size) ⌝ }
+{
+    if k != 0 {
+        return &pages[..0];
+    }
+    view_page(pages, size, number)
+}
+
+// VIEW v, page: the bytes of the page as of version v, as a part of the page area; the empty part where STAMP refuses.
+pub fn view<'a>(
+    s: Store,
+    pages: &'a [u8],
+    nodes: &[u32],
+    register: &[Record],
+    v: Version,
+    page: PageIndex,
+) -> &'a [u8]
+    ensures { λ r. ⌜ now r ≡ viewPart s (areasOf (now (pages .entry)) (now (nodes .entry)) (now (register .entry))) (v .0) (page .0) ⌝ }
+{
+    let q = record_of(register, v.0);
+    let x = find_page(s, nodes, register, v, page);
+    let l = Lengths {
+        pages: pages.len(),
+        nodes: nodes.len(),
+        register: register.len(),
+    };
+    view_part(
+        pages,
+        page_refusal(s, l, q, v, page, x),
+        s.size,
+        number_found(s.pages, x),
+    )
+}
+
+// Where page `number` begins, by the table's number k.
+fn viewed_by(k: u64, size: u64, number: u64) -> Viewed
+    requires { ⌜ (k ≡ 0 → size * number < 2 ^ 64) ⌝ }
+    ensures { λ r. ⌜ r ≡ viewed k (size * number) ⌝ }
+{
+    if k == 0 {
+        Viewed::At(size * number)
+    } else {
+        Viewed::Refused(k)
+    }
+}
+
+// VIEW v, page, by the place of its part: the byte of the page area where the page begins; refused where STAMP refuses.
+pub fn view_at(
+    s: Store,
+    pages: &[u8],
+    nodes: &[u32],
+    register: &[Record],
+    v: Version,
+    page: PageIndex,
+) -> Viewed
+    ensures { λ r. ⌜ r ≡ viewAt s (areasOf (now (pages .entry)) (now (nodes .entry)) (now (register .entry))) (v .0) (page .0) ⌝ }
+{
+    let q = record_of(register, v.0);
+    let x = find_page(s, nodes, register, v, page);
+    let l = Lengths {
+        pages: pages.len(),
+        nodes: nodes.len(),
+        register: register.len(),
+    };
+    viewed_by(
+        page_refusal(s, l, q, v, page, x),
+        s.size,
+        number_found(s.pages, x),
+    )
+}

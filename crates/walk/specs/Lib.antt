@@ -1,0 +1,2 @@
+pub mod FindPage
+pub mod Descent

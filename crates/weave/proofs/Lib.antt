@@ -1,0 +1,4 @@
+pub mod NextNode
+pub mod Numbers
+pub mod Room
+pub mod Generated
