@@ -11,7 +11,7 @@ use program::{run, Session};
 use scripts::{random, random_from_the_start, Random, Script};
 use std::collections::BTreeMap;
 use std::io::Write;
-use store::lines::lines_of;
+use store::text::lines_of;
 
 /// Whether the program has the lines READ and STAMP. Without them, it answers these with `refused,0`.
 const READ_AND_STAMP: bool = true;

@@ -9,7 +9,7 @@ mod rows;
 
 use crate::program::run;
 use crate::scripts::Script;
-use crate::store::lines::Program;
+use crate::store::text::Program;
 use crate::{check, mismatch, shown};
 
 /// Compares the program with answers written by hand, and the model with them too.

@@ -1,7 +1,7 @@
 //! Scripts: lines and the answers that are due. Random ones mix steps that move the store on with
 //! steps that are refused; the model's state chooses the arguments.
 
-use crate::store::lines::{
+use crate::store::text::{
     hexadecimal, Program, LONGEST_LINE, LONGEST_READ, MOST_NODES, MOST_PAGE_BYTES, MOST_UPDATES,
 };
 use crate::store::Store;

@@ -2,7 +2,7 @@
 //! number published. Refusals follow the table row by row, nodes come from building the tree, and a
 //! version is read by applying the updates up to it in turn.
 
-pub mod lines;
+pub mod text;
 #[cfg(test)]
 mod tests;
 

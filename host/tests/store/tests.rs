@@ -1,6 +1,6 @@
 //! The model by itself: document 01's example and proved cases, and rows that the program never meets.
 
-use super::lines::{lines_of, Program};
+use super::text::{lines_of, Program};
 use super::{root_span, weaving_order, Node, Refused, Store};
 use std::collections::HashMap;
 
