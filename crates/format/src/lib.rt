@@ -54,7 +54,7 @@ fn format_refusal(s: Store, l: Lengths) -> u64
 }
 
 // The store that FORMAT makes.
-fn fresh_store(size: u64, pages: u64, nodes: u64, updates: u64) -> Store
+pub fn fresh_store(size: u64, pages: u64, nodes: u64, updates: u64) -> Store
     ensures { λ r. ⌜ r ≡ fresh size pages nodes updates ⌝ }
 {
     Store {

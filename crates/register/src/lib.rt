@@ -4,7 +4,6 @@ ghost use Prim.Native.Nat.{_+_, _^_, _<_, _≤_, min, max};
 ghost use lib.Dec.{leb};
 ghost use lib.ListN.{length, getD};
 ghost use Rattle.tree.specs.Tree.{nth};
-ghost use Rattle.tree.specs.Place.{below, first};
 ghost use Rattle.register.specs.Register.{noRecord, inLimits, limited, updateOf, extentOf, withRecord, newestIn, highest};
 use tree::LAST_PAGE;
 use tree::MOST_PAGES;

@@ -7,13 +7,12 @@ use assign::Assigned;
 use begin::BeginOut;
 use begin::Begun;
 use format::Formatted;
+use format::fresh_store;
 use publish::PublishOut;
 use publish::Published;
 use put::PutIn;
 use read::Filled;
 use stamp::Stamped;
-use tree::Ticket;
-use tree::Version;
 use versions::Latest;
 use versions::Sized;
 use versions::Store;
@@ -89,18 +88,7 @@ pub struct ViewReply {
 fn no_store() -> Store
     ensures { λ r. ⌜ r ≡ noStore ⌝ }
 {
-    Store {
-        size: 0,
-        pages: 0,
-        nodes: 0,
-        updates: 0,
-        tickets: Ticket(0),
-        taken: 0,
-        assigned: Version(0),
-        places: 0,
-        published: Version(0),
-        blob: 0,
-    }
+    fresh_store(0, 0, 0, 0)
 }
 
 pub fn format_reply(out: Formatted) -> FormatReply

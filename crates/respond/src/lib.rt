@@ -6,6 +6,7 @@ use answers::Kept;
 use answers::Turn;
 use answers::capped;
 use answers::refused_turn;
+use format::fresh_store;
 use parse::Step;
 use register::Record;
 use tree::PageIndex;
@@ -71,25 +72,9 @@ const MOST_READ: u64 = 256;
 
 // ---- what a step asks for
 
-// A store of these limits in which nothing has been done.
-fn empty_store(size: u64, pages: u64, nodes: u64, updates: u64) -> Store {
-    Store {
-        size,
-        pages,
-        nodes,
-        updates,
-        tickets: Ticket(0),
-        taken: 0,
-        assigned: Version(0),
-        places: 0,
-        published: Version(0),
-        blob: 0,
-    }
-}
-
 // No store.
 pub fn nothing_kept() -> Kept {
-    let store = empty_store(0, 0, 0, 0);
+    let store = fresh_store(0, 0, 0, 0);
     Kept { open: false, store }
 }
 
@@ -111,7 +96,7 @@ fn format_wanted(size: u64, pages: u64, nodes: u64, updates: u64) -> Wanted {
     if is_beyond(size, pages, nodes, updates) {
         return Wanted::Nothing;
     }
-    Wanted::Fill(Fill::Format(empty_store(size, pages, nodes, updates)))
+    Wanted::Fill(Fill::Format(fresh_store(size, pages, nodes, updates)))
 }
 
 // READ is asked only within the program's own limit.

@@ -14,10 +14,6 @@ struct Place {
     ended: bool,
 }
 
-fn empty_record() -> Record {
-    register::no_record()
-}
-
 // Reads what is there of standard input, at most a block, and waits where nothing is; 0 at its end.
 fn read_block(block: &mut [u8]) -> usize
     ensures { λ r. ⌜ r ≤ length (now (block .entry)) ⌝ }
@@ -145,7 +141,7 @@ fn main() {
     let mut text = [0u8; 600];
     let mut pages = [0u8; 32768];
     let mut nodes = [0u32; 4096];
-    let empty = empty_record();
+    let empty = register::no_record();
     let mut register = [empty; 256];
     let start = next_place(respond::nothing_kept(), true);
     let at = take_all(start, &mut text, &mut pages, &mut nodes, &mut register);

@@ -7,7 +7,6 @@ use mathlib.Core.Bool.{Bool}
 use mathlib.Core.Path.{_≡_}
 use lib.Dec.{ltb}
 use lib.ListN.{length, drop}
-use Rattle.tree.specs.Place.{first}
 use Rattle.versions.specs.Table.{unless}
 use Rattle.read.specs.Range.{rangeRefusal, Ranged, orLost, chunkAt, Readable}
 use Rattle.versions.specs.Store.{areasOf}

@@ -8,7 +8,6 @@ use mathlib.Core.Path.{_≡_}
 use lib.Dec.{leb}
 use lib.ListN.{length, getD}
 use Rattle.tree.specs.Tree.{nth}
-use Rattle.tree.specs.Place.{below, first}
 use Rattle.register.specs.Register.{noRecord, inLimits, limited, updateOf, extentOf, withRecord, newestIn, highest}
 use Rattle.register.specs.declared.Extent.{Extent}
 use Rattle.register.specs.declared.Record.{Record}
