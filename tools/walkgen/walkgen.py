@@ -365,12 +365,13 @@ class Crate:
         write(os.path.join(base, 'Generated.antt'), MADE + ''.join('pub mod %s\n' % t for t in tops))
         # what a reader who lists proofs/ need not open
         walked = sorted(os.path.relpath(at, base) for at, _, fs in os.walk(base) if 'Proof.antt' in fs and open(os.path.join(at, 'Proof.antt')).readline() == MADE)
+        yours = {f: [x for x in ('Proof/Facts.antt', 'Proof/Loop.antt') if os.path.exists(os.path.join(base, f, x))] for f in walked}
         write(os.path.join(base, 'GENERATED.md'), '''# Generated
 
 Written by `tools/walkgen`, and checked by the prover like any proof: nobody has to read these folders.
 
 - `Generated/`
-%s''' % ''.join('- `%s/`, but for `%s`\n' % (f, '`, `'.join(x for x in ('Proof/Facts.antt', 'Proof/Loop.antt') if os.path.exists(os.path.join(base, f, x)))) for f in walked))
+%s''' % ''.join('- `%s/`%s\n' % (f, ', but for ' + ' and '.join('`%s`' % x for x in yours[f]) if yours[f] else '') for f in walked))
         lib = os.path.join(base, 'Lib.antt')
         old = open(lib).read() if os.path.exists(lib) else ''
         if 'pub mod Generated\n' not in old:
