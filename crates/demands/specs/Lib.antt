@@ -8,3 +8,5 @@ pub mod Demands
 pub mod Computes
 pub mod Example
 pub mod Rows
+pub mod Bounds
+pub mod Figure

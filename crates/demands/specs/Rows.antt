@@ -19,11 +19,11 @@ use Rattle.demands.specs.Run.{State, onStore, outcomes, formattedState, 
 abbrev pub page : List ℕ
 page = replicate 16 5
 
-abbrev no : ℕ → Outcome
+abbrev pub no : ℕ → Outcome
 no k = says (refused k)
 
 -- READ's refusal leaves the buffer.
-abbrev noRead : ℕ → List ℕ → Outcome
+abbrev pub noRead : ℕ → List ℕ → Outcome
 noRead k buffer = record { answer = refused k; buffer = buffer }
 
 -- ---- rows 1 to 3, FORMAT

@@ -4,5 +4,4 @@ ghost use Rattle.demands.specs.Demands.{Demanded};
 // All three demands, as a promise: a function is what the prover's verdict counts, so that a theorem that is gone is seen.
 pub fn promised()
     ensures { λ _. ⌜ Demanded ⌝ }
-{
-}
+{}
