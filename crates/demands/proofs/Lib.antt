@@ -26,6 +26,8 @@ pub mod Trees
 pub mod Grows
 pub mod Reached
 pub mod Faultless
+-- Answers: the calls' cases as numbers and values.
+pub mod Readings
 -- Steps: every call on the image of a model.
 pub mod Records
 pub mod Puts

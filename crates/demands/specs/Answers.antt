@@ -1,6 +1,8 @@
 -- The calls, and what they answer in document 01's numbers and values.
 use Prim.Native.Nat.{ℕ, zero, suc}
 use mathlib.Core.List.{List, []}
+use Rattle.format.specs.declared.Formatted.{Formatted}
+use Rattle.format.specs.declared.Formatted.the-variants as Formatted
 use Rattle.begin.specs.declared.Begun.{Begun}
 use Rattle.begin.specs.declared.Begun.the-variants as Begun
 use Rattle.put.specs.declared.PutIn.{PutIn}
@@ -19,6 +21,8 @@ use Rattle.versions.specs.declared.Latest.{Latest}
 use Rattle.versions.specs.declared.Latest.the-variants as Latest
 use Rattle.stamp.specs.declared.Stamped.{Stamped}
 use Rattle.stamp.specs.declared.Stamped.the-variants as Stamped
+use Rattle.view.specs.declared.Viewed.{Viewed}
+use Rattle.view.specs.declared.Viewed.the-variants as Viewed
 
 -- A call after FORMAT. ASSIGN is WRITE or APPEND; the bytes to put and the buffer to fill come with the call.
 pub data Call : Type 0 where
@@ -34,9 +38,11 @@ pub data Call : Type 0 where
   STAMP : ℕ → ℕ → Call
   VIEW : ℕ → ℕ → Call
 
--- An answer: a refusal's number, or the call's values. A node is version, first page, span, its two numbers and how many are left.
+-- An answer: a refusal's number, or the call's values. A node is version, first page, span, its two numbers and how many are left. FORMAT's value is the store,
+-- which the state has. VIEW hands out a part; to a caller that can be handed none it answers where the part begins.
 pub data Answer : Type 0 where
   refused : ℕ → Answer
+  formatDone : Answer
   ticketIs : ℕ → Answer
   putDone : Answer
   versionIs : ℕ → ℕ → Answer
@@ -48,6 +54,7 @@ pub data Answer : Type 0 where
   recentIs : ℕ → Answer
   stampIs : ℕ → Answer
   partIs : List ℕ → Answer
+  partAt : ℕ → Answer
 
 -- What a call gives back: its answer, and the buffer that it was lent as it leaves it (none but READ is lent one).
 pub record Outcome : Type 0 where
@@ -63,6 +70,10 @@ answers zero a = a
 answers (suc k) a = refused (suc k)
 
 -- ---- the number and values of each case of the code's answers
+
+abbrev pub formattedAnswer : Formatted → Answer
+formattedAnswer (Formatted.Made s) = formatDone
+formattedAnswer (Formatted.Refused k) = refused k
 
 abbrev pub begunAnswer : Begun → Answer
 begunAnswer (Begun.Given t) = ticketIs (t .0)
@@ -100,3 +111,7 @@ latestAnswer (Latest.Refused k) = refused k
 abbrev pub stampedAnswer : Stamped → Answer
 stampedAnswer (Stamped.Is v) = stampIs (v .0)
 stampedAnswer (Stamped.Refused k) = refused k
+
+abbrev pub viewedAnswer : Viewed → Answer
+viewedAnswer (Viewed.At at) = partAt at
+viewedAnswer (Viewed.Refused k) = refused k

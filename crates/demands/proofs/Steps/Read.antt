@@ -10,11 +10,11 @@ use lib.ListN.{length, take, drop}
 use Rattle.versions.specs.declared.Store.{Store}
 use Rattle.versions.specs.Table.{_≤?_, _<?_, _or_, test, always, readRows}
 use Rattle.versions.proofs.Table.{unless-same}
-use Rattle.demands.specs.Answers.{READ, filled, answers, filledAnswer}
+use Rattle.demands.specs.Answers.{READ}
 use Rattle.versions.specs.Store.{Areas}
 use Rattle.versions.specs.Size.{bytesIn}
 use Rattle.walk.specs.FindPage.{pageNumberOf, isLost}
-use Rattle.read.specs.Read.{someLost, pagesTouched, readNumber, byteOf, bytesFrom, filledBy}
+use Rattle.read.specs.Read.{someLost, pagesTouched, readNumber, byteOf, bytesFrom}
 use Rattle.demands.specs.Model.{Limits, Model, versionAt}
 use Rattle.demands.specs.InTurn.{blobAt, bytesAt}
 use Rattle.demands.specs.OnModel.{readNumber as modelNumber, onModel}
@@ -28,6 +28,7 @@ use Rattle.demands.proofs.Blob.{bytes-range}
 use Rattle.demands.proofs.Steps.Numbers.{image-number, read-alike}
 use Rattle.demands.proofs.Steps.Size.{bytes-in}
 use Rattle.demands.proofs.Steps.Found.{published-within, some-version, page-number, view-byte}
+use Rattle.demands.proofs.Readings.{filled-reads}
 
 -- ---- the number
 
@@ -79,12 +80,6 @@ module _ (L : Limits) (m : Model) (sound : Sound L m) where
         let q = read-passed L m v offset len buffer z in
         (published-within L m sound v (q .published) .1, lost-none v offset len (q .published) (q .inside)))
 
--- ---- the answer
-
-read-says : (k : ℕ) → filledAnswer (filledBy k) ≡ answers k filled
-read-says zero = refl
-read-says (suc k) = refl
-
 module _ (L : Limits) (m : Model) (sound : Sound L m) (v offset len : ℕ) (buffer : List ℕ) where
   pub read-step : onStore (image L m) (READ v offset len buffer)
       ≡ (image L (onModel L m (READ v offset len buffer) .0), onModel L m (READ v offset len buffer) .1)
@@ -92,7 +87,7 @@ module _ (L : Limits) (m : Model) (sound : Sound L m) (v offset len : ℕ) (buff
   read-step =
       rw (
         read-number L m sound v offset len buffer,
-        read-says (modelNumber L m v offset len buffer),
+        filled-reads (modelNumber L m v offset len buffer),
         unless-same (modelNumber L m v offset len buffer) buffer
             (bytesFrom (storeImage L m) (areasImage L m) v offset len ++ drop len buffer) (take len (drop offset (bytesAt m v)) ++ drop len buffer)
             (λ z. let q = read-passed L m v offset len buffer z in rw (bytes-from L m sound v offset len (q .published) (q .inside))),

@@ -20,10 +20,10 @@ use Rattle.versions.specs.Store.{lengthsOf}
 use Rattle.demands.specs.Run.{onStore}
 use Rattle.demands.proofs.Passed.{size-passed}
 use Rattle.demands.proofs.Steps.Numbers.{alike-same, image-number}
+use Rattle.demands.proofs.Readings.{answers-same, sized-reads}
 
 size-answer : (k a b : ℕ) → (k ≡ 0 → a ≡ b) → sizedAnswer (sized k a) ≡ answers k (sizeIs b)
-size-answer zero a b h = ap sizeIs (h refl)
-size-answer (suc k) a b h = refl
+size-answer k a b h = sized-reads k a ∙ answers-same k (sizeIs a) (sizeIs b) (λ z. ap sizeIs (h z))
 
 module _ (L : Limits) (m : Model) (S : Sound L m) where
   pub pages-in : (v : ℕ) → v ≤ length (m .versions) → pagesIn (areasImage L m) v ≡ versionAt m v .size

@@ -1,7 +1,7 @@
 -- STAMP on a model's image: the number and the version are the model's.
 -- Assumes nothing.
-use mathlib.Core.Path.{_≡_, refl, ap}
-use Prim.Native.Nat.{ℕ, zero, suc}
+use mathlib.Core.Path.{_≡_, ap, _∙_}
+use Prim.Native.Nat.{ℕ}
 use Rattle.tree.specs.Walk.{stampOf}
 use Rattle.versions.specs.Table.{_≤?_, _<?_, _or_, test, always, pageRows}
 use Rattle.demands.specs.Answers.{STAMP, stampIs, answers, stampedAnswer}
@@ -17,6 +17,7 @@ use Rattle.demands.proofs.Passed.{page-passed}
 use Rattle.demands.proofs.Steps.Numbers.{image-number, page-alike}
 use Rattle.demands.proofs.Steps.Size.{pages-in}
 use Rattle.demands.proofs.Steps.Found.{published-within, some-version, find-page, page-number}
+use Rattle.demands.proofs.Readings.{answers-same, stamped-reads}
 
 -- ---- the number
 
@@ -37,8 +38,7 @@ module _ (L : Limits) (m : Model) (sound : Sound L m) where
 -- ---- the answers
 
 stamp-says : (k n w : ℕ) → (k ≡ 0 → n ≡ w) → stampedAnswer (stamped k n) ≡ answers k (stampIs w)
-stamp-says zero n w e = ap stampIs (e refl)
-stamp-says (suc k) n w e = refl
+stamp-says k n w e = stamped-reads k n ∙ answers-same k (stampIs n) (stampIs w) (λ z. ap stampIs (e z))
 
 module _ (L : Limits) (m : Model) (sound : Sound L m) (v p : ℕ) where
   pub stamp-step : onStore (image L m) (STAMP v p) ≡ (image L (onModel L m (STAMP v p) .0), onModel L m (STAMP v p) .1)

@@ -18,12 +18,11 @@ use Rattle.tree.proofs.Walk.{node-has}
 use Rattle.tree.proofs.Weaving.{Inside, weaving-kth, kth-node}
 use Rattle.versions.specs.Table.{_≤?_, _<?_, _or_, always, unless, weaveRows}
 use Rattle.versions.proofs.Table.{Fails}
-use Rattle.weave.specs.declared.WovenNode.{WovenNode}
 use Rattle.weave.specs.declared.Woven.the-variants as Woven
 use Rattle.versions.specs.declared.Store.{Store}
-use Rattle.demands.specs.Answers.{Answer, WEAVE, nodeIs, says, answers, wovenAnswer}
+use Rattle.demands.specs.Answers.{WEAVE, nodeIs, says, wovenAnswer}
 use Rattle.versions.specs.Store.{recordOf}
-use Rattle.weave.specs.Weave.{nextNode, nextPlace, leafPast, weaveRefusal, wovenVersion, wovenRecord, weaveNumber, leftNumber, rightNumber, firstPage, spanOf, withWoven, nodeOf, wove}
+use Rattle.weave.specs.Weave.{nextNode, nextPlace, leafPast, weaveRefusal, wovenVersion, wovenRecord, weaveNumber, leftNumber, rightNumber, firstPage, spanOf, withWoven, nodeOf}
 use Rattle.demands.specs.Model.{Limits, Model, pagesOf, ticketAt, versionAt, taken, versionOf, updates}
 use Rattle.demands.specs.OnModel.{leftOf, rightOf, firstPage as pageOf, spanOf as spanIn, weaveNumber as modelNumber, nodeAnswer, woven, onModel}
 use Rattle.demands.specs.Run.{onStore}
@@ -37,6 +36,7 @@ use Rattle.demands.proofs.Records.{record-of, update-image, newest-regi
 use Rattle.demands.proofs.Steps.Numbers.{image-number, WeaveReads, weave-alike}
 use Rattle.demands.proofs.Steps.States.{stateOf, state-same}
 use Rattle.demands.proofs.Steps.Woven.{woven-store, woven-pages, woven-nodes, woven-register}
+use Rattle.demands.proofs.Readings.{answers-same, woven-reads}
 
 -- ---- the node, over any records
 
@@ -196,10 +196,6 @@ module _ (L : Limits) (m : Model) (sound : Sound L m) (t : ℕ) (p : WeavePassed
 
 -- ---- the call
 
-says-node : (k : ℕ) (x : WovenNode) (a : Answer) → (k ≡ 0 → wovenAnswer (Woven.Node x) ≡ a) → wovenAnswer (wove k x) ≡ answers k a
-says-node zero x a e = e refl
-says-node (suc k) x a e = refl
-
 unless-state : (L : Limits) (m m′ : Model) (k : ℕ) (nodes : List ℕ) (register : List Record)
     → (k ≡ 0 → stateOf (storeImage L m) (pagesImage L m) nodes register ≡ image L m′)
     → stateOf (storeImage L m) (pagesImage L m) (unless k (nodesImage L m) nodes) (unless k (registerImage L m) register) ≡ image L (unless k m m′)
@@ -241,5 +237,6 @@ module _ (L : Limits) (m : Model) (sound : Sound L m) (t : ℕ) where
   weave-step =
       let k = modelNumber L m t in
       let states = unless-state L m (woven L m t) k _ _ (λ z. state-after (weave-passed L m t z)) in
-      let said = says-node k (nodeOf (areasImage L m) t) (nodeAnswer L m t) (λ z. node-says L m sound t (weave-passed L m t z)) in
+      let x = nodeOf (areasImage L m) t in
+      let said = woven-reads k x ∙ answers-same k (wovenAnswer (Woven.Node x)) (nodeAnswer L m t) (λ z. node-says L m sound t (weave-passed L m t z)) in
       rw weave-number (λ i. (states i, says (said i)))

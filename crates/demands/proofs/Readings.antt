@@ -1,0 +1,70 @@
+-- What the definitions that the promises cite give, read as document 01's number and values: by the table's number k the refusal, or the call's values.
+-- Assumes nothing.
+use mathlib.Core.Path.{_≡_, refl}
+use mathlib.Core.Bool.{Bool, true, false}
+use Prim.Native.Nat.{ℕ, zero, suc}
+use Rattle.versions.specs.declared.Store.{Store}
+use Rattle.versions.specs.Size.{sized}
+use Rattle.versions.specs.Recent.{latest}
+use Rattle.format.specs.Format.{formatted}
+use Rattle.begin.specs.Begin.{begun}
+use Rattle.put.specs.Put.{putIn}
+use Rattle.assign.specs.Assign.{assigned}
+use Rattle.weave.specs.declared.WovenNode.{WovenNode}
+use Rattle.weave.specs.Weave.{wove}
+use Rattle.publish.specs.Publish.{published}
+use Rattle.read.specs.Read.{filledBy}
+use Rattle.stamp.specs.Stamp.{stamped}
+use Rattle.view.specs.View.{viewed}
+use Rattle.demands.specs.Answers.{Answer, formatDone, ticketIs, putDone, versionIs, nodeIs, publishedIs, waiting, filled, sizeIs, recentIs, stampIs, partAt, answers, formattedAnswer, begunAnswer, putAnswer, assignedAnswer, wovenAnswer, publishedAnswer, filledAnswer, sizedAnswer, latestAnswer, stampedAnswer, viewedAnswer}
+use Rattle.demands.specs.OnModel.{either}
+
+-- Values need be the same only where the table's number is 0.
+pub answers-same : (k : ℕ) (a b : Answer) → (k ≡ 0 → a ≡ b) → answers k a ≡ answers k b
+answers-same zero a b e = e refl
+answers-same (suc k) a b e = refl
+
+pub formatted-reads : (k : ℕ) (s : Store) → formattedAnswer (formatted k s) ≡ answers k formatDone
+formatted-reads zero s = refl
+formatted-reads (suc k) s = refl
+
+pub begun-reads : (k t : ℕ) → begunAnswer (begun k t) ≡ answers k (ticketIs t)
+begun-reads zero t = refl
+begun-reads (suc k) t = refl
+
+pub put-reads : (k : ℕ) → putAnswer (putIn k) ≡ answers k putDone
+put-reads zero = refl
+put-reads (suc k) = refl
+
+pub assigned-reads : (k v count : ℕ) → assignedAnswer (assigned k v count) ≡ answers k (versionIs v count)
+assigned-reads zero v count = refl
+assigned-reads (suc k) v count = refl
+
+pub woven-reads : (k : ℕ) (x : WovenNode) → wovenAnswer (wove k x) ≡ answers k (nodeIs (x .version .0) (x .first .0) (x .span) (x .left) (x .right) (x .rest))
+woven-reads zero x = refl
+woven-reads (suc k) x = refl
+
+pub published-reads : (k : ℕ) (due : Bool) (v : ℕ) → publishedAnswer (published k due v) ≡ answers k (either due (publishedIs v) waiting)
+published-reads zero true v = refl
+published-reads zero false v = refl
+published-reads (suc k) due v = refl
+
+pub filled-reads : (k : ℕ) → filledAnswer (filledBy k) ≡ answers k filled
+filled-reads zero = refl
+filled-reads (suc k) = refl
+
+pub sized-reads : (k n : ℕ) → sizedAnswer (sized k n) ≡ answers k (sizeIs n)
+sized-reads zero n = refl
+sized-reads (suc k) n = refl
+
+pub latest-reads : (k v : ℕ) → latestAnswer (latest k v) ≡ answers k (recentIs v)
+latest-reads zero v = refl
+latest-reads (suc k) v = refl
+
+pub stamped-reads : (k v : ℕ) → stampedAnswer (stamped k v) ≡ answers k (stampIs v)
+stamped-reads zero v = refl
+stamped-reads (suc k) v = refl
+
+pub viewed-reads : (k at : ℕ) → viewedAnswer (viewed k at) ≡ answers k (partAt at)
+viewed-reads zero at = refl
+viewed-reads (suc k) at = refl
