@@ -6,14 +6,14 @@ use Prim.Native.Nat.{ℕ, _/_, _<_, _≤_}
 use native.Mathlib.Omega.{arith}
 use lib.ListN.{length, getD}
 use borrow.Author.Tests.{le-leb, lt-leb}
-use Rattle.parse.specs.Fields.{fieldsOf, numberOf, isHex, unhex, hexOf}
+use Rattle.fields.specs.Fields.{fieldsOf, numberOf, isHex, unhex, hexOf, decodedIn}
 use Rattle.parse.specs.Steps.{Meant, plainly, aloneOf, oneOf, twoOf, threeOf, fourOf, putOf, meantBy, meantOf}
 use Rattle.text.specs.Buffer.{front}
-use Rattle.parse.specs.declared.Number.{Number}
-use Rattle.parse.specs.declared.Number.the-variants.{Is}
+use Rattle.fields.specs.declared.Number.{Number}
+use Rattle.fields.specs.declared.Number.the-variants.{Is}
 use Rattle.parse.specs.declared.Step.{Step}
 use Rattle.parse.specs.declared.Step.the-variants.{Put, Malformed}
-use Rattle.parse.proofs.Hex.{unhex-length}
+use Rattle.fields.proofs.Hex.{unhex-length}
 use Rattle.text.proofs.Buffer.{front-none}
 
 -- a step that has no page bytes leaves the buffer
@@ -27,19 +27,23 @@ passes m n r bytes after e q = rw e q
 
 -- PUT's page bytes
 module _ (a b : Number) (x y : ℕ) (h : List ℕ) (ea : a ≡ Is x) (eb : b ≡ Is y) where
-  pub put-bad : isHex h ≡ false → putOf a b (hexOf h) ≡ plainly Malformed
+  put-none : isHex h ≡ false → putOf a b (hexOf h) ≡ plainly Malformed
   unfolding putOf
-  put-bad e = rw (ea, eb, e)
+  put-none e = rw (ea, eb, e)
 
-  put-good : isHex h ≡ true → putOf a b (hexOf h) ≡ record { step = Put x y (length (unhex h)); bytes = unhex h }
+  put-some : isHex h ≡ true → putOf a b (hexOf h) ≡ record { step = Put x y (length (unhex h)); bytes = unhex h }
   unfolding putOf
-  put-good e = rw (ea, eb, e)
+  put-some e = rw (ea, eb, e)
 
-  pub put-done : (bytes after : List ℕ) → isHex h ≡ true → after ≡ front (unhex h) bytes
+  pub put-bad : (bytes after : List ℕ) → isHex h ≡ false → after ≡ decodedIn h bytes
+      → (Malformed ≡ putOf a b (hexOf h) .step) × (after ≡ front (putOf a b (hexOf h) .bytes) bytes)
+  put-bad bytes after e f = (rw (put-none e), rw (put-none e) (rw e at f ∙ front-none bytes))
+
+  pub put-done : (bytes after : List ℕ) → isHex h ≡ true → after ≡ decodedIn h bytes
       → (Put x y (length h / 2) ≡ putOf a b (hexOf h) .step) × (after ≡ front (putOf a b (hexOf h) .bytes) bytes)
   put-done bytes after e f =
       let half : length h / 2 ≡ length (unhex h) = omega (arith, unhex-length h e) in
-      (rw (put-good e, half), rw (put-good e) f)
+      (rw (put-some e, half), rw (put-some e) (rw e at f))
 
 -- a line over 600 bytes, and one that is not
 pub meant-long : (l : List ℕ) → 600 < length l → meantOf l ≡ plainly Malformed

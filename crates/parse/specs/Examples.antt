@@ -5,7 +5,7 @@ use mathlib.Core.Option.{none, some}
 use Prim.Native.Nat.{ℕ, _-_, _^_}
 use lib.ListN.{replicate}
 use Rattle.text.specs.Quoted.{text, together}
-use Rattle.parse.specs.Fields.{numberOf, hexValue}
+use Rattle.fields.specs.Fields.{numberOf, hexValue}
 use Rattle.parse.specs.Steps.{Meant, plainly, meantOf, formatOf, readOf, putOf, aloneOf, oneOf, twoOf, threeOf, fourOf, meantBy}
 use Rattle.parse.specs.Cut.{fresh, fedBy, keptBy, unendedIn, textLines, cutLines}
 use Rattle.parse.specs.declared.Step.{Step}

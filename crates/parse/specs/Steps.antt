@@ -6,11 +6,11 @@ use lib.ListN.{length}
 use lib.Dec.{leb}
 use Rattle.text.specs.Quoted.{text}
 use Rattle.text.specs.Text.{pick, same}
-use Rattle.parse.specs.declared.Number.{Number}
-use Rattle.parse.specs.declared.Number.the-variants.{Is, Not}
+use Rattle.fields.specs.declared.Number.{Number}
+use Rattle.fields.specs.declared.Number.the-variants.{Is, Not}
 use Rattle.parse.specs.declared.Step.{Step}
 use Rattle.parse.specs.declared.Step.the-variants.{Format, Begin, Put, Write, Append, Weave, Publish, Read, Size, Recent, Stamp, Malformed}
-use Rattle.parse.specs.Fields.{fieldsOf, numberOf, hexOf}
+use Rattle.fields.specs.Fields.{fieldsOf, numberOf, hexOf}
 
 -- what a line means: its step and, for PUT, the page bytes
 pub record Meant : Type 0 where

@@ -1,6 +1,6 @@
 -- `parse::put` meets its contract, by the cases of its numbers and of its page bytes. Assumes nothing.
 use Rattle.parse.proofs.Steps.{leaves, put-bad, put-done}
-use Rattle.parse.specs.Fields.{hexOf}
+use Rattle.fields.specs.Fields.{hexOf}
 use Rattle.parse.specs.Steps.{putOf}
 use Rattle.parse.specs.declared.Step.the-variants.{Malformed}
 use borrow.Author.Needs.{needs}
@@ -29,26 +29,28 @@ returns-2 : tie.Need-returns-2
 unfolding putOf
 returns-2 c = let a = c .before .before .before .before .before .before .before .args in leaves (putOf (a .a) (a .b) (hexOf (a .h .now))) Malformed Malformed (a .bytes .now) refl (search needs)
 
-is-hex-requires : tie.Need-is-hex-requires
-is-hex-requires c κs = search needs
-
-returns-3 : tie.Need-returns-3
-returns-3 c =
-    let a = c .before .before .before .before .before .before .before .before .before .before .args in
-    leaves (putOf (a .a) (a .b) (hexOf (a .h .now))) Malformed Malformed (a .bytes .now) refl
-    (put-bad (a .a) (a .b) _ _ (a .h .now) (c .before .before .before .before .before .before .a .given .1) (c .before .before .before .b .given .1) (sym (c .before .is-hex .ensures) ∙ not-true _ (c .if1 .taken)))
-
 decode-requires : tie.Need-decode-requires
-decode-requires c κs = sym (c .before .before .is-hex .ensures) ∙ not-false _ (c .before .if1 .left)
+decode-requires c κs = search needs
 
 same-length : tie.Need-same-length
 same-length c = search needs
 
+returns-3 : tie.Need-returns-3
+returns-3 c =
+    let d = c .before .before .before in
+    let a = d .before .before .before .before .before .before .before .before .before .before .args in
+    put-bad (a .a) (a .b) _ _ (a .h .now) (d .before .before .before .before .before .before .a .given .1) (d .before .before .before .b .given .1) (a .bytes .now) _
+    (sym (d .decode .ensures .0) ∙ not-true _ (c .if1 .taken)) (d .decode .ensures .1)
+
+same-length-2 : tie.Need-same-length-2
+same-length-2 c = search needs
+
 returns-4 : tie.Need-returns-4
 returns-4 c =
-    let a = c .before .before .before .before .before .before .before .before .before .before .before .before .before .before .args in
-    put-done (a .a) (a .b) _ _ (a .h .now) (c .before .before .before .before .before .before .before .before .before .before .a .given .1) (c .before .before .before .before .before .before .before .b .given .1) (a .bytes .now) _
-    (sym (c .before .before .before .before .before .is-hex .ensures) ∙ not-false _ (c .before .before .before .before .if1 .left)) (c .before .before .decode .ensures)
+    let d = c .before .before .before in
+    let a = d .before .before .before .before .before .before .before .before .before .before .args in
+    put-done (a .a) (a .b) _ _ (a .h .now) (d .before .before .before .before .before .before .a .given .1) (d .before .before .before .b .given .1) (a .bytes .now) _
+    (sym (d .decode .ensures .0) ∙ not-false _ (c .if1 .left)) (d .decode .ensures .1)
 
 pub put-spec : {M : Type 1} → statement M
 put-spec =
@@ -60,8 +62,8 @@ put-spec =
     enum-known-b
     enum-told-2
     returns-2
-    is-hex-requires
-    returns-3
     decode-requires
     same-length
+    returns-3
+    same-length-2
     returns-4)

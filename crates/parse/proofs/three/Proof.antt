@@ -1,6 +1,6 @@
 -- `parse::three` meets its contract, word by word. Assumes nothing.
 use Rattle.parse.proofs.Steps.{leaves}
-use Rattle.parse.specs.Fields.{numberOf}
+use Rattle.fields.specs.Fields.{numberOf}
 use Rattle.parse.specs.Steps.{readOf, threeOf}
 use Rattle.parse.specs.declared.Step.the-variants.{Malformed}
 use borrow.Author.Needs.{needs}

@@ -2,18 +2,16 @@
 -- The contract of `parse::step_cut`, over lists and plain values: a slice stands for its list, and P′ is the list of P at exit.
 -- Assumes nothing.
 use Prim.Native.Nat.{ℕ}
-use mathlib.Core.List.{List, []}
-use mathlib.Core.Bool.{Bool, true}
+use mathlib.Core.List.{List}
+use mathlib.Core.Bool.{Bool}
 use mathlib.Core.Path.{_≡_}
-use lib.ListN.{length, getD}
-use Rattle.text.specs.Text.{same}
-use Rattle.parse.specs.Fields.{fieldsOf, startsPlain, numberOf, hexValue, isHex, unhex, hexOf}
+use lib.ListN.{length}
+use Rattle.text.specs.Buffer.{front}
+use Rattle.fields.specs.Fields.{hexOf}
 use Rattle.parse.specs.Steps.{aloneOf, oneOf, twoOf, readOf, putOf, threeOf, formatOf, fourOf, stepOf, bytesOf}
 use Rattle.parse.specs.Cut.{fresh, fedBy, keptBy, unendedIn, cutMeant}
-use Rattle.text.specs.Buffer.{front}
 use Rattle.parse.specs.declared.Cutter.{Cutter}
 use Rattle.parse.specs.declared.Fed.{Fed}
-use Rattle.parse.specs.declared.Number.{Number}
 use Rattle.parse.specs.declared.Step.{Step}
 
 abbrev pub ens : Cutter → List ℕ → List ℕ → List ℕ → Step → Type 0

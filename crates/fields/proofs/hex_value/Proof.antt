@@ -1,9 +1,9 @@
--- `parse::hex_value` meets its contract, by the cases of the byte. Assumes nothing.
-use Rattle.parse.proofs.Hex.{hex-low, hex-ten, hex-mid, hex-six, hex-high}
+-- `fields::hex_value` meets its contract, by the cases of the byte. Assumes nothing.
+use Rattle.fields.proofs.Hex.{hex-low, hex-ten, hex-mid, hex-six, hex-high}
 use borrow.Author.Needs.{needs}
 use native.Mathlib.Omega.{arith}
-use Rattle.parse.proofs.hex_value.Statement.{statement}
-use Rattle.parse.proofs.hex_value.Tie as tie
+use Rattle.fields.proofs.hex_value.Statement.{statement}
+use Rattle.fields.proofs.hex_value.Tie as tie
 
 returns : tie.Need-returns
 returns c = hex-low _ (omega arith)

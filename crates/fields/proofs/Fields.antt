@@ -11,7 +11,7 @@ use lib.Seq.{drop-cons, take-suc, getD-drop, append-snoc}
 use lib.Dec.{eqb}
 use borrow.Author.Tests.{eq-eqb, ne-eqb}
 use Rattle.text.specs.Text.{pick, comma, joined}
-use Rattle.parse.specs.Fields.{fieldsOf}
+use Rattle.fields.specs.Fields.{fieldsOf}
 
 -- there is a first field
 abbrev Some : List (List ℕ) → Type 0

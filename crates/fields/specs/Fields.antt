@@ -5,8 +5,9 @@ use mathlib.Core.List.{List, [], _∷_}
 use mathlib.Core.Option.{Option, none, some}
 use lib.Dec.{leb, ltb, eqb}
 use Rattle.text.specs.Text.{pick, comma, joined}
-use Rattle.parse.specs.declared.Number.{Number}
-use Rattle.parse.specs.declared.Number.the-variants.{Is, Not}
+use Rattle.text.specs.Buffer.{front}
+use Rattle.fields.specs.declared.Number.{Number}
+use Rattle.fields.specs.declared.Number.the-variants.{Is, Not}
 
 -- the fields of a line: what stands between its commas
 abbrev pub fieldsOf : List ℕ → List (List ℕ)
@@ -56,3 +57,7 @@ unhex (a ∷ b ∷ f) = (hexValue a * 16 + hexValue b) ∷ unhex f
 -- the page bytes that a field is, if it is hexadecimal
 abbrev pub hexOf : List ℕ → Option (List ℕ)
 hexOf f = pick (isHex f) (some (unhex f)) none
+
+-- a buffer with the bytes that a field is at its front; as it was where the field is not hexadecimal, or they do not fit
+abbrev pub decodedIn : List ℕ → List ℕ → List ℕ
+decodedIn f l = pick (isHex f) (front (unhex f) l) l

@@ -9,7 +9,7 @@ use lib.ListN.{length, getD, drop, drop-of-length-le, length-drop}
 use lib.Seq.{drop-cons}
 use lib.Dec.{ltb}
 use borrow.Author.Tests.{le-leb, lt-leb, lt-ltb, le-ltb, ltb-true}
-use Rattle.parse.specs.Fields.{hexValue, isHex, unhex}
+use Rattle.fields.specs.Fields.{hexValue, isHex, unhex}
 
 -- one digit
 module _ (b : ℕ) where

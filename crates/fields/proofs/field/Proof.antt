@@ -1,14 +1,14 @@
--- `parse::field` meets its contract. The invariant: the field is found in what is left, with the bytes since the last comma before it. Assumes nothing.
+-- `fields::field` meets its contract. The invariant: the field is found in what is left, with the bytes since the last comma before it. Assumes nothing.
 use Prim.Native.Nat.{ℕ, _≤_, _-_}
-use Rattle.parse.proofs.Fields.{before, between, before-none, found-comma, passed-comma, cut-other, found-end, none-end}
-use Rattle.parse.specs.Fields.{fieldsOf}
+use Rattle.fields.proofs.Fields.{before, between, before-none, found-comma, passed-comma, cut-other, found-end, none-end}
+use Rattle.fields.specs.Fields.{fieldsOf}
 use lib.ListN.{length, getD, drop}
 use mathlib.Core.List.{List, []}
 use mathlib.Core.Logic.{⊎-elim}
 use mathlib.Core.Path.{_≡_, sym, ap, _∙_}
 use native.Mathlib.Omega.{arith}
-use Rattle.parse.proofs.field.Statement.{statement}
-use Rattle.parse.proofs.field.Tie as tie
+use Rattle.fields.proofs.field.Statement.{statement}
+use Rattle.fields.proofs.field.Tie as tie
 
 abbrev Inv-loop : tie.InvT-loop
 Inv-loop line k left₀ from₀ i₀ left from i = (from ≤ i) × (i ≤ length line) × (getD (fieldsOf line) k [] ≡ getD (before (between from i line) (fieldsOf (drop i line))) left [])

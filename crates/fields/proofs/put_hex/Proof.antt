@@ -1,17 +1,17 @@
--- `parse::decode` meets its contract. The invariant: with the bytes that are left put, the buffer is as it is to be. Assumes nothing.
+-- `fields::put_hex` meets its contract. The invariant: with the bytes that are left put, the buffer is as it is to be. Assumes nothing.
 use Prim.Native.Nat.{ℕ, _≤_, _-_, _+_, _*_}
-use Rattle.parse.proofs.Hex.{unhex-length, two-left, pair-good, unhex-pair, hex-end}
+use Rattle.fields.proofs.Hex.{unhex-length, two-left, pair-good, unhex-pair, hex-end}
 use Rattle.text.proofs.Buffer.{put-nil, put-cons, front-past, front-fits}
 use Rattle.text.specs.Buffer.{putAt}
-use Rattle.parse.specs.Fields.{isHex, unhex}
+use Rattle.fields.specs.Fields.{isHex, unhex}
 use borrow.Author.Needs.{needs}
 use lib.ListN.{length, drop, length-set}
 use mathlib.Core.Bool.{true}
 use mathlib.Core.List.{List, _∷_}
 use mathlib.Core.Path.{_≡_, refl, sym, ap, _∙_}
 use native.Mathlib.Omega.{arith}
-use Rattle.parse.proofs.decode.Statement.{statement}
-use Rattle.parse.proofs.decode.Tie as tie
+use Rattle.fields.proofs.put_hex.Statement.{statement}
+use Rattle.fields.proofs.put_hex.Tie as tie
 
 abbrev Inv-loop : tie.InvT-loop
 Inv-loop f bytes₀ at₀ i₀ bytes at i = (i ≤ length f)
@@ -118,8 +118,8 @@ returns-2 c =
     ∙ l .inv .4
     ∙ front-fits (unhex f) (a .args .bytes .now) (omega (arith, unhex-length f (a .pre)))
 
-pub decode-spec : {M : Type 1} → statement M
-decode-spec =
+pub put-hex-spec : {M : Type 1} → statement M
+put-hex-spec =
     tie.close
     (tie.spec
     Inv-loop

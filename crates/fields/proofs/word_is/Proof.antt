@@ -1,12 +1,12 @@
--- `parse::word_is` meets its contract. The invariant: what is left of the two decides. Assumes nothing.
+-- `fields::word_is` meets its contract. The invariant: what is left of the two decides. Assumes nothing.
 use Prim.Native.Nat.{_≤_, _-_}
-use Rattle.parse.proofs.Words.{same-lengths, same-turn, same-stop, same-end}
+use Rattle.fields.proofs.Words.{same-lengths, same-turn, same-stop, same-end}
 use Rattle.text.specs.Text.{same}
 use lib.ListN.{length, drop}
 use mathlib.Core.Path.{_≡_, refl, sym, _∙_}
 use native.Mathlib.Omega.{arith}
-use Rattle.parse.proofs.word_is.Statement.{statement}
-use Rattle.parse.proofs.word_is.Tie as tie
+use Rattle.fields.proofs.word_is.Statement.{statement}
+use Rattle.fields.proofs.word_is.Tie as tie
 
 abbrev Inv-loop : tie.InvT-loop
 Inv-loop w word i₀ i = (i ≤ length w) × (length w ≡ length word) × (same w word ≡ same (drop i w) (drop i word))

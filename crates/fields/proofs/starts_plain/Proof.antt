@@ -1,8 +1,8 @@
--- `parse::starts_plain` meets its contract, by the cases of the length. Assumes nothing.
-use Rattle.parse.proofs.Numbers.{plain-none, plain-single, plain-more}
+-- `fields::starts_plain` meets its contract, by the cases of the length. Assumes nothing.
+use Rattle.fields.proofs.Numbers.{plain-none, plain-single, plain-more}
 use borrow.Author.Needs.{needs}
-use Rattle.parse.proofs.starts_plain.Statement.{statement}
-use Rattle.parse.proofs.starts_plain.Tie as tie
+use Rattle.fields.proofs.starts_plain.Statement.{statement}
+use Rattle.fields.proofs.starts_plain.Tie as tie
 
 returns : tie.Need-returns
 returns c = plain-none (c .before .args .f .now) (c .if1 .taken)

@@ -1,13 +1,13 @@
--- `parse::field_count` meets its contract. The invariant: the fields that are counted and those of what is left. Assumes nothing.
+-- `fields::field_count` meets its contract. The invariant: the fields that are counted and those of what is left. Assumes nothing.
 use Prim.Native.Nat.{_≤_, _-_, _+_}
-use Rattle.parse.proofs.Fields.{count-comma, count-other, count-end}
-use Rattle.parse.specs.Fields.{fieldsOf}
+use Rattle.fields.proofs.Fields.{count-comma, count-other, count-end}
+use Rattle.fields.specs.Fields.{fieldsOf}
 use lib.ListN.{length, drop}
 use mathlib.Core.Logic.{⊎-elim}
 use mathlib.Core.Path.{_≡_}
 use native.Mathlib.Omega.{arith}
-use Rattle.parse.proofs.field_count.Statement.{statement}
-use Rattle.parse.proofs.field_count.Tie as tie
+use Rattle.fields.proofs.field_count.Statement.{statement}
+use Rattle.fields.proofs.field_count.Tie as tie
 
 abbrev Inv-loop : tie.InvT-loop
 Inv-loop line n₀ i₀ n i = (i ≤ length line) × (n ≤ i + 1) × (n + length (fieldsOf (drop i line)) ≡ length (fieldsOf line) + 1)

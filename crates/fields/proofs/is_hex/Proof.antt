@@ -1,13 +1,13 @@
--- `parse::is_hex` meets its contract. The invariant: what is left decides. Assumes nothing.
+-- `fields::is_hex` meets its contract. The invariant: what is left decides. Assumes nothing.
 use Prim.Native.Nat.{_≤_, _-_}
-use Rattle.parse.proofs.Hex.{odd-at, first-bad, second-bad, both-good, hex-end}
-use Rattle.parse.specs.Fields.{isHex}
+use Rattle.fields.proofs.Hex.{odd-at, first-bad, second-bad, both-good, hex-end}
+use Rattle.fields.specs.Fields.{isHex}
 use borrow.Author.Needs.{needs}
 use lib.ListN.{length, drop}
 use mathlib.Core.Path.{_≡_, refl, sym, _∙_}
 use native.Mathlib.Omega.{arith}
-use Rattle.parse.proofs.is_hex.Statement.{statement}
-use Rattle.parse.proofs.is_hex.Tie as tie
+use Rattle.fields.proofs.is_hex.Statement.{statement}
+use Rattle.fields.proofs.is_hex.Tie as tie
 
 abbrev Inv-loop : tie.InvT-loop
 Inv-loop f i₀ i = (i ≤ length f) × (isHex f ≡ isHex (drop i f))

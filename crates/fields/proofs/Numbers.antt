@@ -11,9 +11,9 @@ use lib.Seq.{drop-cons}
 use lib.Dec.{ltb, eqb}
 use borrow.Author.Tests.{le-leb, lt-leb, lt-ltb, le-ltb}
 use Rattle.text.specs.Text.{pick}
-use Rattle.parse.specs.Fields.{allDigits, startsPlain, valueAfter, numberOf}
-use Rattle.parse.specs.declared.Number.{Number}
-use Rattle.parse.specs.declared.Number.the-variants.{Is, Not}
+use Rattle.fields.specs.Fields.{allDigits, startsPlain, valueAfter, numberOf}
+use Rattle.fields.specs.declared.Number.{Number}
+use Rattle.fields.specs.declared.Number.the-variants.{Is, Not}
 
 -- the first byte
 pub plain-none : (f : List ℕ) → length f ≡ 0 → false ≡ startsPlain f

@@ -1,14 +1,14 @@
--- `parse::number_in` meets its contract. The invariant: the number is what the digits that are left make after v. Assumes nothing.
+-- `fields::number_in` meets its contract. The invariant: the number is what the digits that are left make after v. Assumes nothing.
 use Prim.Native.Nat.{_≤_, _<_, _-_, _^_}
-use Rattle.parse.proofs.Numbers.{finished, number-begins, number-not, digit-below, digit-above, digit-taken, digit-past, number-ends}
-use Rattle.parse.specs.Fields.{numberOf}
+use Rattle.fields.proofs.Numbers.{finished, number-begins, number-not, digit-below, digit-above, digit-taken, digit-past, number-ends}
+use Rattle.fields.specs.Fields.{numberOf}
 use borrow.Author.Needs.{needs}
 use borrow.Author.Tests.{not-true, not-false}
 use lib.ListN.{length, drop}
 use mathlib.Core.Path.{_≡_, sym, _∙_}
 use native.Mathlib.Omega.{arith}
-use Rattle.parse.proofs.number_in.Statement.{statement}
-use Rattle.parse.proofs.number_in.Tie as tie
+use Rattle.fields.proofs.number_in.Statement.{statement}
+use Rattle.fields.proofs.number_in.Tie as tie
 
 abbrev Inv-loop : tie.InvT-loop
 Inv-loop f v₀ i₀ v i = (i ≤ length f) × (v < 2 ^ 64) × (numberOf f ≡ finished v (drop i f))
