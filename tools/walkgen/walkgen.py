@@ -723,6 +723,10 @@ class Fun:
         self.analyse()
 
     def clause(self, text, ens):
+        # `let a = E in ⌜ .. ⌝`: the fact with E for a
+        m = re.match(r'let (\w+) = (.*?) in (.*)$', text.strip())
+        if m:
+            return self.clause(re.sub(r'(?<![\w.«′-])%s(?![\w»′-])' % m.group(1), lambda _: '(%s)' % m.group(2), m.group(3)), ens)
         m = re.fullmatch(r'⌜(.*)⌝', text.strip())
         if not m or '⌜' in m.group(1):
             raise Unsupported('%s: a clause that is not one ⌜ fact ⌝' % self.path)
@@ -2450,6 +2454,11 @@ class Walk:
                     print('%s: %s has new arguments: see whether its answer still holds' % (f.item, name))
                 else:
                     print('%s: what is known at %s has changed. Its clause in %s is now (or run with --rebind):\n%s %s = ..\n' % (f.item, name, path, name, args[name]))
+        if REBIND:
+            # what a fact's comment says of it
+            for name, text in skel.items():
+                at = r'^-- .*\n-- here: .*\n(?=pub %s : )' % re.escape(name)
+                old = re.sub(at, lambda m: text[: text.index('pub ')], old, flags=re.M)
         if REBIND and old != open(path).read():
             open(path, 'w').write(old)
         for name in re.findall(r'^pub (\S+) : Asks\.', old, re.M):

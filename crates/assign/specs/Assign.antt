@@ -1,7 +1,7 @@
 -- ASSIGN ticket, as a write at page f: what it answers and leaves, over any store and areas. An append is a write at the size of the last assigned version.
 use mathlib.Core.Bool.{Bool}
 use mathlib.Core.List.{List}
-use Prim.Native.Nat.{ℕ, zero, suc, pred, _+_, _-_, _^_, max}
+use Prim.Native.Nat.{ℕ, zero, suc, pred, _+_, _-_, _%_, _^_, max}
 use lib.Dec.{eqb}
 use lib.ListN.{getD}
 use Rattle.tree.specs.Tree.{Update, countOf}
@@ -23,9 +23,9 @@ sizeAfter s f n = max (s .blob) (f + n)
 abbrev pub updateAt : Store → ℕ → ℕ → Update
 updateAt s f n = limited f (f + n - 1) (sizeAfter s f n)
 
--- All n pages are put.
+-- All n pages are put: the low n bits of the mask are ones, whatever stands above them.
 abbrev pub allPut : Record → Bool
-allPut r = eqb (r .put) (2 ^ r .n - 1)
+allPut r = eqb (r .put % 2 ^ r .n) (2 ^ r .n - 1)
 
 -- ASSIGN, with the ticket's record r. The next version's record must lie within the register too.
 unfoldable pub assignRefusal : Store → Lengths → Record → ℕ → ℕ → ℕ

@@ -7,7 +7,7 @@ ghost use Rattle.versions.specs.Store.{areasOf};
 ghost use Rattle.assign.specs.Assign.{updateAt, allPut, assignRefusal, withVersionOf, withVersionPart, assignedBy, assignOut, assignRegister};
 use register::Record;
 use register::record_at;
-use register::record_of;
+use register::ticket_record;
 use register::within_limits;
 use tree::PageIndex;
 use tree::Ticket;
@@ -17,8 +17,9 @@ use tree::root_height;
 use versions::Lengths;
 use versions::Store;
 use versions::capped_sum;
-use versions::index_of;
+use versions::lengths_of;
 use versions::put_record;
+use versions::ticket_index;
 use versions::ticket_refusal;
 
 // What ASSIGN answers: the version and its node count.
@@ -32,7 +33,7 @@ pub struct AssignOut {
     pub answer: Assigned,
 }
 
-// Whether all n pages of a ticket are put. A mask has 64 bits.
+// Whether all n pages of a ticket are put: the low n bits of its mask decide, as in PUT. A mask has 64 bits.
 fn all_put(r: Record) -> bool
     ensures { λ b. ⌜ b ≡ allPut r ⌝ }
 {
@@ -43,7 +44,8 @@ fn all_put(r: Record) -> bool
     if n == 64 {
         return r.put == u64::MAX;
     }
-    r.put == (1u64 << n) - 1
+    let full = 1u64 << n;
+    r.put % full == full - 1
 }
 
 // The last of n pages from f on; a sum that would wrap is capped.
@@ -175,20 +177,18 @@ pub fn write(
     t: Ticket,
     f: PageIndex,
 ) -> AssignOut
-    ensures { λ r. ⌜ (r ≡ assignOut s (areasOf (now (pages .entry)) (now (nodes .entry)) (now (register .entry))) (t .0) (f .0)) × (now (register .exit) ≡ assignRegister s (areasOf (now (pages .entry)) (now (nodes .entry)) (now (register .entry))) (t .0) (f .0)) ⌝ }
+    ensures { λ r.
+        let a = areasOf (now (pages .entry)) (now (nodes .entry)) (now (register .entry)) in
+        ⌜ (r ≡ assignOut s a (t .0) (f .0)) × (now (register .exit) ≡ assignRegister s a (t .0) (f .0)) ⌝ }
 {
-    let r = record_of(register, t.0);
-    let l = Lengths {
-        pages: pages.len(),
-        nodes: nodes.len(),
-        register: register.len(),
-    };
+    let r = ticket_record(register, t);
+    let l = lengths_of(pages, nodes, register);
     let k = assign_refusal(s, l, r, t, f);
     let out = assigned_by(s, f, r.n, k);
     put_record(
         register,
         k,
-        index_of(t.0),
+        ticket_index(t),
         with_version(r, out.store.assigned),
     );
     let i = s.assigned.0 as usize;
@@ -210,7 +210,9 @@ pub fn append(
     register: &mut [Record],
     t: Ticket,
 ) -> AssignOut
-    ensures { λ r. ⌜ (r ≡ assignOut s (areasOf (now (pages .entry)) (now (nodes .entry)) (now (register .entry))) (t .0) (s .blob)) × (now (register .exit) ≡ assignRegister s (areasOf (now (pages .entry)) (now (nodes .entry)) (now (register .entry))) (t .0) (s .blob)) ⌝ }
+    ensures { λ r.
+        let a = areasOf (now (pages .entry)) (now (nodes .entry)) (now (register .entry)) in
+        ⌜ (r ≡ assignOut s a (t .0) (s .blob)) × (now (register .exit) ≡ assignRegister s a (t .0) (s .blob)) ⌝ }
 {
     write(s, pages, nodes, register, t, PageIndex(s.blob))
 }

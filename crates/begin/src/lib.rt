@@ -10,6 +10,7 @@ use tree::Version;
 use versions::Lengths;
 use versions::Store;
 use versions::areas_differ;
+use versions::lengths_of;
 use versions::put_record;
 
 // What BEGIN answers.
@@ -84,17 +85,11 @@ fn begun_by(s: Store, n: u64, k: u64) -> BeginOut
 
 // BEGIN n: the next ticket, with the next n page numbers.
 pub fn begin(s: Store, pages: &[u8], nodes: &[u32], register: &mut [Record], n: u64) -> BeginOut
-    ensures { λ r. ⌜ (r ≡ beginOut s (areasOf (now (pages .entry)) (now (nodes .entry)) (now (register .entry))) n) × (now (register .exit) ≡ beginRegister s (areasOf (now (pages .entry)) (now (nodes .entry)) (now (register .entry))) n) ⌝ }
+    ensures { λ r.
+        let a = areasOf (now (pages .entry)) (now (nodes .entry)) (now (register .entry)) in
+        ⌜ (r ≡ beginOut s a n) × (now (register .exit) ≡ beginRegister s a n) ⌝ }
 {
-    let k = begin_refusal(
-        s,
-        Lengths {
-            pages: pages.len(),
-            nodes: nodes.len(),
-            register: register.len(),
-        },
-        n,
-    );
+    let k = begin_refusal(s, lengths_of(pages, nodes, register), n);
     let i = s.tickets.0 as usize;
     let r = record_at(register, i);
     put_record(register, k, i, ticket_part(r, n, s.taken));

@@ -71,8 +71,9 @@ mask-short [] e = absurd (false≢true (sym e))
 mask-short (none ∷ xs) e = omega (arith, mask-lt xs, doubled none xs)
 mask-short (some x ∷ xs) e = omega (arith, mask-short xs e, doubled (some x) xs)
 
-pub mask-all : (xs : List (Option Page)) → eqb (maskOf xs) (2 ^ length xs - 1) ≡ allFilled xs
-mask-all xs = go (allFilled xs) refl
+-- No bit stands above the slots, so the low bits are the mask.
+pub mask-all : (xs : List (Option Page)) → eqb (maskOf xs % 2 ^ length xs) (2 ^ length xs - 1) ≡ allFilled xs
+mask-all xs = rw (mod-eq-of-lt (mask-lt xs)) (go (allFilled xs) refl)
   where
     go : (b : Bool) → allFilled xs ≡ b → eqb (maskOf xs) (2 ^ length xs - 1) ≡ allFilled xs
     go true e = rw e (eq-eqb (maskOf xs) (2 ^ length xs - 1) (omega (arith, mask-full xs e)))

@@ -53,7 +53,13 @@ pub extern "C" fn pit_format(
     nodes: &mut [u32],
     register: &mut [Record],
 ) -> FormatReply
-    ensures { λ r. ⌜ (r ≡ formatReply (formatAnswer (fresh size «page_count» «node_count» updates) (areasOf (now (pages .entry)) (now (nodes .entry)) (now (register .entry))))) × (now (pages .exit) ≡ formatAreas (fresh size «page_count» «node_count» updates) (areasOf (now (pages .entry)) (now (nodes .entry)) (now (register .entry))) .pages) × (now (nodes .exit) ≡ formatAreas (fresh size «page_count» «node_count» updates) (areasOf (now (pages .entry)) (now (nodes .entry)) (now (register .entry))) .nodes) × (now (register .exit) ≡ formatAreas (fresh size «page_count» «node_count» updates) (areasOf (now (pages .entry)) (now (nodes .entry)) (now (register .entry))) .register) ⌝ }
+    ensures { λ r.
+        let a = areasOf (now (pages .entry)) (now (nodes .entry)) (now (register .entry)) in
+        let s = fresh size «page_count» «node_count» updates in
+        ⌜ (r ≡ formatReply (formatAnswer s a))
+        × (now (pages .exit) ≡ formatAreas s a .pages)
+        × (now (nodes .exit) ≡ formatAreas s a .nodes)
+        × (now (register .exit) ≡ formatAreas s a .register) ⌝ }
 {
     format_reply(format::format(
         size,
@@ -75,7 +81,9 @@ pub extern "C" fn pit_begin(
     register: &mut [Record],
     n: u64,
 ) -> BeginReply
-    ensures { λ r. ⌜ (r ≡ beginReply (beginOut s (areasOf (now (pages .entry)) (now (nodes .entry)) (now (register .entry))) n)) × (now (register .exit) ≡ beginRegister s (areasOf (now (pages .entry)) (now (nodes .entry)) (now (register .entry))) n) ⌝ }
+    ensures { λ r.
+        let a = areasOf (now (pages .entry)) (now (nodes .entry)) (now (register .entry)) in
+        ⌜ (r ≡ beginReply (beginOut s a n)) × (now (register .exit) ≡ beginRegister s a n) ⌝ }
 {
     begin_reply(begin::begin(s, pages, nodes, register, n))
 }
@@ -91,7 +99,11 @@ pub extern "C" fn pit_put(
     i: u64,
     bytes: &[u8],
 ) -> u64
-    ensures { λ r. ⌜ (r ≡ putReply (putOut s (areasOf (now (pages .entry)) (now (nodes .entry)) (now (register .entry))) ticket i (now (bytes .entry)))) × (now (pages .exit) ≡ putPages s (areasOf (now (pages .entry)) (now (nodes .entry)) (now (register .entry))) ticket i (now (bytes .entry))) × (now (register .exit) ≡ putRegister s (areasOf (now (pages .entry)) (now (nodes .entry)) (now (register .entry))) ticket i (now (bytes .entry))) ⌝ }
+    ensures { λ r.
+        let a = areasOf (now (pages .entry)) (now (nodes .entry)) (now (register .entry)) in
+        ⌜ (r ≡ putReply (putOut s a ticket i (now (bytes .entry))))
+        × (now (pages .exit) ≡ putPages s a ticket i (now (bytes .entry)))
+        × (now (register .exit) ≡ putRegister s a ticket i (now (bytes .entry))) ⌝ }
 {
     put_reply(put::put(s, pages, nodes, register, Ticket(ticket), i, bytes))
 }
@@ -106,7 +118,9 @@ pub extern "C" fn pit_write(
     ticket: u64,
     f: u64,
 ) -> AssignReply
-    ensures { λ r. ⌜ (r ≡ assignReply (assignOut s (areasOf (now (pages .entry)) (now (nodes .entry)) (now (register .entry))) ticket f)) × (now (register .exit) ≡ assignRegister s (areasOf (now (pages .entry)) (now (nodes .entry)) (now (register .entry))) ticket f) ⌝ }
+    ensures { λ r.
+        let a = areasOf (now (pages .entry)) (now (nodes .entry)) (now (register .entry)) in
+        ⌜ (r ≡ assignReply (assignOut s a ticket f)) × (now (register .exit) ≡ assignRegister s a ticket f) ⌝ }
 {
     assign_reply(assign::write(s, pages, nodes, register, Ticket(ticket), PageIndex(f)))
 }
@@ -120,7 +134,9 @@ pub extern "C" fn pit_append(
     register: &mut [Record],
     ticket: u64,
 ) -> AssignReply
-    ensures { λ r. ⌜ (r ≡ assignReply (assignOut s (areasOf (now (pages .entry)) (now (nodes .entry)) (now (register .entry))) ticket (s .blob))) × (now (register .exit) ≡ assignRegister s (areasOf (now (pages .entry)) (now (nodes .entry)) (now (register .entry))) ticket (s .blob)) ⌝ }
+    ensures { λ r.
+        let a = areasOf (now (pages .entry)) (now (nodes .entry)) (now (register .entry)) in
+        ⌜ (r ≡ assignReply (assignOut s a ticket (s .blob))) × (now (register .exit) ≡ assignRegister s a ticket (s .blob)) ⌝ }
 {
     assign_reply(assign::append(s, pages, nodes, register, Ticket(ticket)))
 }
@@ -134,7 +150,9 @@ pub extern "C" fn pit_weave(
     register: &mut [Record],
     ticket: u64,
 ) -> WeaveReply
-    ensures { λ r. ⌜ (r ≡ weaveReply (weaveOut s (areasOf (now (pages .entry)) (now (nodes .entry)) (now (register .entry))) ticket)) × (now (nodes .exit) ≡ weaveNodes s (areasOf (now (pages .entry)) (now (nodes .entry)) (now (register .entry))) ticket) × (now (register .exit) ≡ weaveRegister s (areasOf (now (pages .entry)) (now (nodes .entry)) (now (register .entry))) ticket) ⌝ }
+    ensures { λ r.
+        let a = areasOf (now (pages .entry)) (now (nodes .entry)) (now (register .entry)) in
+        ⌜ (r ≡ weaveReply (weaveOut s a ticket)) × (now (nodes .exit) ≡ weaveNodes s a ticket) × (now (register .exit) ≡ weaveRegister s a ticket) ⌝ }
 {
     weave_reply(weave::weave(s, pages, nodes, register, Ticket(ticket)))
 }
@@ -147,7 +165,9 @@ pub extern "C" fn pit_publish(
     nodes: &[u32],
     register: &[Record],
 ) -> PublishReply
-    ensures { λ r. ⌜ r ≡ publishReply (publishOut s (areasOf (now (pages .entry)) (now (nodes .entry)) (now (register .entry)))) ⌝ }
+    ensures { λ r.
+        let a = areasOf (now (pages .entry)) (now (nodes .entry)) (now (register .entry)) in
+        ⌜ r ≡ publishReply (publishOut s a) ⌝ }
 {
     publish_reply(publish::publish(s, pages, nodes, register))
 }
@@ -164,7 +184,10 @@ pub extern "C" fn pit_read(
     len: u64,
     buffer: &mut [u8],
 ) -> u64
-    ensures { λ r. ⌜ (r ≡ readReply (readOut s (areasOf (now (pages .entry)) (now (nodes .entry)) (now (register .entry))) version offset len (now (buffer .entry)))) × (now (buffer .exit) ≡ readBuffer s (areasOf (now (pages .entry)) (now (nodes .entry)) (now (register .entry))) version offset len (now (buffer .entry))) ⌝ }
+    ensures { λ r.
+        let a = areasOf (now (pages .entry)) (now (nodes .entry)) (now (register .entry)) in
+        ⌜ (r ≡ readReply (readOut s a version offset len (now (buffer .entry))))
+        × (now (buffer .exit) ≡ readBuffer s a version offset len (now (buffer .entry))) ⌝ }
 {
     read_reply(read::read(
         s,
@@ -187,7 +210,9 @@ pub extern "C" fn pit_size(
     register: &[Record],
     version: u64,
 ) -> SizeReply
-    ensures { λ r. ⌜ r ≡ sizeReply (sizeOut s (areasOf (now (pages .entry)) (now (nodes .entry)) (now (register .entry))) version) ⌝ }
+    ensures { λ r.
+        let a = areasOf (now (pages .entry)) (now (nodes .entry)) (now (register .entry)) in
+        ⌜ r ≡ sizeReply (sizeOut s a version) ⌝ }
 {
     size_reply(versions::size(s, pages, nodes, register, Version(version)))
 }
@@ -200,7 +225,9 @@ pub extern "C" fn pit_recent(
     nodes: &[u32],
     register: &[Record],
 ) -> VersionReply
-    ensures { λ r. ⌜ r ≡ recentReply (recentOut s (areasOf (now (pages .entry)) (now (nodes .entry)) (now (register .entry)))) ⌝ }
+    ensures { λ r.
+        let a = areasOf (now (pages .entry)) (now (nodes .entry)) (now (register .entry)) in
+        ⌜ r ≡ recentReply (recentOut s a) ⌝ }
 {
     recent_reply(versions::recent(s, pages, nodes, register))
 }
@@ -215,7 +242,9 @@ pub extern "C" fn pit_stamp(
     version: u64,
     page: u64,
 ) -> VersionReply
-    ensures { λ r. ⌜ r ≡ stampReply (stampOut s (areasOf (now (pages .entry)) (now (nodes .entry)) (now (register .entry))) version page) ⌝ }
+    ensures { λ r.
+        let a = areasOf (now (pages .entry)) (now (nodes .entry)) (now (register .entry)) in
+        ⌜ r ≡ stampReply (stampOut s a version page) ⌝ }
 {
     stamp_reply(stamp::stamp(s, pages, nodes, register, Version(version), PageIndex(page)))
 }
@@ -230,7 +259,9 @@ pub extern "C" fn pit_view(
     version: u64,
     page: u64,
 ) -> ViewReply
-    ensures { λ r. ⌜ (r ≡ viewReply (s .size) (viewAt s (areasOf (now (pages .entry)) (now (nodes .entry)) (now (register .entry))) version page)) × (part (now (pages .entry)) (r .begin) (r .length) ≡ viewPart s (areasOf (now (pages .entry)) (now (nodes .entry)) (now (register .entry))) version page) ⌝ }
+    ensures { λ r.
+        let a = areasOf (now (pages .entry)) (now (nodes .entry)) (now (register .entry)) in
+        ⌜ (r ≡ viewReply (s .size) (viewAt s a version page)) × (part (now (pages .entry)) (r .begin) (r .length) ≡ viewPart s a version page) ⌝ }
 {
     view_reply(
         s.size,

@@ -14,6 +14,7 @@ use tree::node_count;
 use versions::Lengths;
 use versions::Store;
 use versions::areas_differ;
+use versions::lengths_of;
 
 // What FORMAT answers. Here and below, the number of a refusal is that of the table of refusals.
 pub enum Formatted {
@@ -125,17 +126,16 @@ pub fn format(
     nodes: &mut [u32],
     register: &mut [Record],
 ) -> Formatted
-    ensures { λ r. ⌜ (r ≡ formatAnswer (fresh size «page_count» «node_count» updates) (areasOf (now (pages .entry)) (now (nodes .entry)) (now (register .entry)))) × (now (pages .exit) ≡ formatAreas (fresh size «page_count» «node_count» updates) (areasOf (now (pages .entry)) (now (nodes .entry)) (now (register .entry))) .pages) × (now (nodes .exit) ≡ formatAreas (fresh size «page_count» «node_count» updates) (areasOf (now (pages .entry)) (now (nodes .entry)) (now (register .entry))) .nodes) × (now (register .exit) ≡ formatAreas (fresh size «page_count» «node_count» updates) (areasOf (now (pages .entry)) (now (nodes .entry)) (now (register .entry))) .register) ⌝ }
+    ensures { λ r.
+        let a = areasOf (now (pages .entry)) (now (nodes .entry)) (now (register .entry)) in
+        let s = fresh size «page_count» «node_count» updates in
+        ⌜ (r ≡ formatAnswer s a)
+        × (now (pages .exit) ≡ formatAreas s a .pages)
+        × (now (nodes .exit) ≡ formatAreas s a .nodes)
+        × (now (register .exit) ≡ formatAreas s a .register) ⌝ }
 {
     let s = fresh_store(size, page_count, node_count, updates);
-    let k = format_refusal(
-        s,
-        Lengths {
-            pages: pages.len(),
-            nodes: nodes.len(),
-            register: register.len(),
-        },
-    );
+    let k = format_refusal(s, lengths_of(pages, nodes, register));
     if k == 0 {
         clear_pages(pages);
         clear_nodes(nodes);

@@ -103,7 +103,9 @@ fn part_at(area: &[u8], at: usize, n: usize) -> &[u8]
 
 // Stores bytes as page `number`, and answers whether they lie within the area.
 pub fn put_page(pages: &mut [u8], size: u64, number: u64, bytes: &[u8]) -> bool
-    ensures { λ r. ⌜ (r ≡ fits (length (now (pages .entry))) (size * number) (length (now (bytes .entry)))) × (now (pages .exit) ≡ put (now (pages .entry)) (size * number) (now (bytes .entry))) ⌝ }
+    ensures { λ r.
+        ⌜ (r ≡ fits (length (now (pages .entry))) (size * number) (length (now (bytes .entry))))
+        × (now (pages .exit) ≡ put (now (pages .entry)) (size * number) (now (bytes .entry))) ⌝ }
 {
     put_at(pages, begins(size, number), bytes)
 }
@@ -126,7 +128,9 @@ pub fn copy_page(
     buf: &mut [u8],
     to: u64,
 ) -> bool
-    ensures { λ r. ⌜ (r ≡ fits (length (now (buf .entry))) to (length (part (part (now (pages .entry)) (size * number) size) from n))) × (now (buf .exit) ≡ put (now (buf .entry)) to (part (part (now (pages .entry)) (size * number) size) from n)) ⌝ }
+    ensures { λ r.
+        let bytes = part (part (now (pages .entry)) (size * number) size) from n in
+        ⌜ (r ≡ fits (length (now (buf .entry))) to (length bytes)) × (now (buf .exit) ≡ put (now (buf .entry)) to bytes) ⌝ }
 {
     let page = view_page(pages, size, number);
     put_at(buf, to as usize, part_at(page, from as usize, n as usize))

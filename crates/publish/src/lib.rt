@@ -9,6 +9,7 @@ use versions::Lengths;
 use versions::Store;
 use versions::areas_differ;
 use versions::count_of;
+use versions::lengths_of;
 
 // What PUBLISH answers.
 pub enum Published {
@@ -87,17 +88,11 @@ fn published_by(s: Store, l: Lengths, q: Record) -> PublishOut
 
 // PUBLISH: the version after the last published one, if it is woven whole.
 pub fn publish(s: Store, pages: &[u8], nodes: &[u32], register: &[Record]) -> PublishOut
-    ensures { λ r. ⌜ r ≡ publishOut s (areasOf (now (pages .entry)) (now (nodes .entry)) (now (register .entry))) ⌝ }
+    ensures { λ r.
+        let a = areasOf (now (pages .entry)) (now (nodes .entry)) (now (register .entry)) in
+        ⌜ r ≡ publishOut s a ⌝ }
 {
     let last = s.published;
     let q = record_at(register, last.0 as usize);
-    published_by(
-        s,
-        Lengths {
-            pages: pages.len(),
-            nodes: nodes.len(),
-            register: register.len(),
-        },
-        q,
-    )
+    published_by(s, lengths_of(pages, nodes, register), q)
 }

@@ -6,13 +6,14 @@ ghost use Rattle.versions.specs.Table.{unless};
 ghost use Rattle.versions.specs.Store.{areasOf};
 ghost use Rattle.put.specs.Put.{bitOf, withBit, putRefusal, withPut, putIn, putOut, putPages, putRegister};
 use register::Record;
-use register::record_of;
+use register::ticket_record;
 use tree::Ticket;
 use versions::Lengths;
 use versions::Store;
 use versions::capped_sum;
-use versions::index_of;
+use versions::lengths_of;
 use versions::put_record;
+use versions::ticket_index;
 use versions::ticket_refusal;
 
 // What PUT answers.
@@ -108,16 +109,16 @@ pub fn put(
     i: u64,
     bytes: &[u8],
 ) -> PutIn
-    ensures { λ r. ⌜ (r ≡ putOut s (areasOf (now (pages .entry)) (now (nodes .entry)) (now (register .entry))) (t .0) i (now (bytes .entry))) × (now (pages .exit) ≡ putPages s (areasOf (now (pages .entry)) (now (nodes .entry)) (now (register .entry))) (t .0) i (now (bytes .entry))) × (now (register .exit) ≡ putRegister s (areasOf (now (pages .entry)) (now (nodes .entry)) (now (register .entry))) (t .0) i (now (bytes .entry))) ⌝ }
+    ensures { λ r.
+        let a = areasOf (now (pages .entry)) (now (nodes .entry)) (now (register .entry)) in
+        ⌜ (r ≡ putOut s a (t .0) i (now (bytes .entry)))
+        × (now (pages .exit) ≡ putPages s a (t .0) i (now (bytes .entry)))
+        × (now (register .exit) ≡ putRegister s a (t .0) i (now (bytes .entry))) ⌝ }
 {
-    let r = record_of(register, t.0);
-    let l = Lengths {
-        pages: pages.len(),
-        nodes: nodes.len(),
-        register: register.len(),
-    };
+    let r = ticket_record(register, t);
+    let l = lengths_of(pages, nodes, register);
     let k = put_refusal(s, l, r, t, i, bytes.len());
     put_bytes(pages, k, s.size, capped_sum(r.number, i), bytes);
-    put_record(register, k, index_of(t.0), with_put(r, i));
+    put_record(register, k, ticket_index(t), with_put(r, i));
     put_answer(k)
 }

@@ -11,7 +11,7 @@ ghost use Rattle.walk.specs.FindPage.{findPage, numberWithin, isLost};
 ghost use Rattle.read.specs.Read.{someLost, pagesTouched, bytesFrom, filledBy, readOut, readBuffer};
 use pages::copy_page;
 use register::Record;
-use register::record_of;
+use register::version_record;
 use tree::PageIndex;
 use tree::Version;
 use tree::smaller;
@@ -20,6 +20,7 @@ use versions::Lengths;
 use versions::Store;
 use versions::areas_differ;
 use versions::bytes_by;
+use versions::lengths_of;
 use versions::pages_by;
 use walk::find_page;
 use walk::is_lost;
@@ -46,13 +47,13 @@ struct Chunk {
 }
 
 // Whether len bytes from an offset on run past a total.
-fn runs_past(total: u64, offset: u64, len: u64) -> bool
-    ensures { λ b. ⌜ b ≡ ltb total (offset + len) ⌝ }
+fn runs_past(total: u64, offset: ByteOffset, len: u64) -> bool
+    ensures { λ b. ⌜ b ≡ ltb total (offset .0 + len) ⌝ }
 {
-    if total < offset {
+    if total < offset.0 {
         return true;
     }
-    total - offset < len
+    total - offset.0 < len
 }
 
 // The refusal of READ but for the walks to its pages, with version v's record q.
@@ -72,7 +73,7 @@ fn range_refusal(s: Store, l: Lengths, q: Record, v: Version, g: Range) -> u64
         }
         return 19;
     }
-    if runs_past(bytes_by(s, pages_by(v, q)), g.offset.0, g.len) {
+    if runs_past(bytes_by(s, pages_by(v, q)), g.offset, g.len) {
         return 17;
     }
     if (g.room as u64) < g.len {
@@ -82,9 +83,9 @@ fn range_refusal(s: Store, l: Lengths, q: Record, v: Version, g: Range) -> u64
 }
 
 // How many pages a range touches where the table's number k is 0; else none are walked to.
-fn touched(k: u64, size: u64, offset: u64, len: u64) -> u64
-    requires { ⌜ (k ≡ 0 → Ranged size offset len) ⌝ }
-    ensures { λ r. ⌜ r ≡ unless k 0 (pagesTouched size offset len) ⌝ }
+fn touched(k: u64, size: u64, offset: ByteOffset, len: u64) -> u64
+    requires { ⌜ (k ≡ 0 → Ranged size (offset .0) len) ⌝ }
+    ensures { λ r. ⌜ r ≡ unless k 0 (pagesTouched size (offset .0) len) ⌝ }
 {
     if k != 0 {
         return 0;
@@ -92,8 +93,8 @@ fn touched(k: u64, size: u64, offset: u64, len: u64) -> u64
     if len == 0 {
         return 0;
     }
-    let end = offset + (len - 1);
-    end / size - offset / size + 1
+    let end = offset.0 + (len - 1);
+    end / size - offset.0 / size + 1
 }
 
 // Whether one of the n pages from a page on is not found as of version v; `first` says it of the first of them.
@@ -102,12 +103,12 @@ fn some_lost(
     nodes: &[u32],
     register: &[Record],
     v: Version,
-    from: u64,
+    from: PageIndex,
     n: u64,
     first: bool,
 ) -> bool
-    requires { ⌜ (from + n < 2 ^ 64) × (first ≡ isLost (numberWithin (s .pages) (findPage s (areasOf [] (now nodes) (now register)) (v .0) from))) ⌝ }
-    ensures { λ b. ⌜ b ≡ someLost s (areasOf [] (now (nodes .entry)) (now (register .entry))) (v .0) from n ⌝ }
+    requires { ⌜ (from .0 + n < 2 ^ 64) × (first ≡ isLost (numberWithin (s .pages) (findPage s (areasOf [] (now nodes) (now register)) (v .0) (from .0)))) ⌝ }
+    ensures { λ b. ⌜ b ≡ someLost s (areasOf [] (now (nodes .entry)) (now (register .entry))) (v .0) (from .0) n ⌝ }
 {
     if n == 0 {
         return false;
@@ -119,7 +120,7 @@ fn some_lost(
     while i < n {
         if is_lost(
             s.pages,
-            find_page(s, nodes, register, v, PageIndex(from + i)),
+            find_page(s, nodes, register, v, PageIndex(from.0 + i)),
         ) {
             return true;
         }
@@ -146,19 +147,19 @@ fn copied(k: u64, len: u64) -> u64
 }
 
 // What the page of byte `at` has of the len bytes from there on. A page of size 0 has none.
-fn chunk_at(size: u64, at: u64, len: u64) -> Chunk
-    ensures { λ c. ⌜ c ≡ chunkAt size at len ⌝ }
+fn chunk_at(size: u64, at: ByteOffset, len: u64) -> Chunk
+    ensures { λ c. ⌜ c ≡ chunkAt size (at .0) len ⌝ }
 {
     if size == 0 {
         return Chunk {
             page: PageIndex(0),
-            from: at,
+            from: at.0,
             count: 0,
         };
     }
-    let from = at % size;
+    let from = at.0 % size;
     Chunk {
-        page: PageIndex(at / size),
+        page: PageIndex(at.0 / size),
         from,
         count: smaller(size - from, len),
     }
@@ -171,17 +172,20 @@ fn copy_range(
     nodes: &[u32],
     register: &[Record],
     v: Version,
-    offset: u64,
+    offset: ByteOffset,
     len: u64,
     from: u64,
     buffer: &mut [u8],
 )
-    requires { ⌜ Readable s (now pages) (now nodes) (now register) (v .0) offset len (length (now buffer)) × (from ≤ len) × (now buffer ≡ bytesFrom s (areasOf (now pages) (now nodes) (now register)) (v .0) offset from ++ drop from (now buffer)) ⌝ }
-    ensures { λ _. ⌜ now (buffer .exit) ≡ bytesFrom s (areasOf (now (pages .entry)) (now (nodes .entry)) (now (register .entry))) (v .0) offset len ++ drop len (now (buffer .entry)) ⌝ }
+    requires { ⌜ Readable s (now pages) (now nodes) (now register) (v .0) (offset .0) len (length (now buffer)) × (from ≤ len)
+        × (now buffer ≡ bytesFrom s (areasOf (now pages) (now nodes) (now register)) (v .0) (offset .0) from ++ drop from (now buffer)) ⌝ }
+    ensures { λ _.
+        let a = areasOf (now (pages .entry)) (now (nodes .entry)) (now (register .entry)) in
+        ⌜ now (buffer .exit) ≡ bytesFrom s a (v .0) (offset .0) len ++ drop len (now (buffer .entry)) ⌝ }
 {
     let mut done = from;
     while done < len {
-        let c = chunk_at(s.size, offset + done, len - done);
+        let c = chunk_at(s.size, ByteOffset(offset.0 + done), len - done);
         let x = find_page(s, nodes, register, v, c.page);
         copy_page(
             pages,
@@ -218,23 +222,22 @@ pub fn read(
     len: u64,
     buffer: &mut [u8],
 ) -> Filled
-    ensures { λ r. ⌜ (r ≡ readOut s (areasOf (now (pages .entry)) (now (nodes .entry)) (now (register .entry))) (v .0) (offset .0) len (now (buffer .entry))) × (now (buffer .exit) ≡ readBuffer s (areasOf (now (pages .entry)) (now (nodes .entry)) (now (register .entry))) (v .0) (offset .0) len (now (buffer .entry))) ⌝ }
+    ensures { λ r.
+        let a = areasOf (now (pages .entry)) (now (nodes .entry)) (now (register .entry)) in
+        ⌜ (r ≡ readOut s a (v .0) (offset .0) len (now (buffer .entry)))
+        × (now (buffer .exit) ≡ readBuffer s a (v .0) (offset .0) len (now (buffer .entry))) ⌝ }
 {
-    let l = Lengths {
-        pages: pages.len(),
-        nodes: nodes.len(),
-        register: register.len(),
-    };
+    let l = lengths_of(pages, nodes, register);
     let g = Range {
         offset,
         len,
         room: buffer.len(),
     };
-    let k = range_refusal(s, l, record_of(register, v.0), v, g);
-    let n = touched(k, s.size, offset.0, len);
-    let c = chunk_at(s.size, offset.0, len);
+    let k = range_refusal(s, l, version_record(register, v), v, g);
+    let n = touched(k, s.size, offset, len);
+    let c = chunk_at(s.size, offset, len);
     let x = find_page(s, nodes, register, v, c.page);
-    let lost = some_lost(s, nodes, register, v, c.page.0, n, is_lost(s.pages, x));
+    let lost = some_lost(s, nodes, register, v, c.page, n, is_lost(s.pages, x));
     let number = or_lost(k, lost);
     let count = copied(number, c.count);
     copy_page(
@@ -252,7 +255,7 @@ pub fn read(
         nodes,
         register,
         v,
-        offset.0,
+        offset,
         copied(number, len),
         count,
         buffer,

@@ -118,8 +118,8 @@ pub fn record_at(register: &[Record], i: usize) -> Record
     }
 }
 
-// The k-th ticket's record, or the k-th version's, counted from 1; the empty one where there is none.
-pub fn record_of(register: &[Record], k: u64) -> Record
+// The k-th record, counted from 1; the empty one where there is none.
+fn nth_record(register: &[Record], k: u64) -> Record
     ensures { λ r. ⌜ r ≡ nth noRecord (now (register .entry)) k ⌝ }
 {
     if k == 0 {
@@ -127,6 +127,20 @@ pub fn record_of(register: &[Record], k: u64) -> Record
     } else {
         record_at(register, (k - 1) as usize)
     }
+}
+
+// The record that has a ticket's part.
+pub fn ticket_record(register: &[Record], t: Ticket) -> Record
+    ensures { λ r. ⌜ r ≡ nth noRecord (now (register .entry)) (t .0) ⌝ }
+{
+    nth_record(register, t.0)
+}
+
+// The record that has a version's part.
+pub fn version_record(register: &[Record], v: Version) -> Record
+    ensures { λ r. ⌜ r ≡ nth noRecord (now (register .entry)) (v .0) ⌝ }
+{
+    nth_record(register, v.0)
 }
 
 // Writes the record at an index; past the register's end nothing changes.

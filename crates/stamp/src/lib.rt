@@ -3,13 +3,14 @@ ghost use mathlib.Core.Path.{_≡_};
 ghost use Rattle.stamp.specs.Stamp.{pageRefusal, versionFound, stamped, stampOut};
 ghost use Rattle.versions.specs.Store.{areasOf};
 use register::Record;
-use register::record_of;
+use register::version_record;
 use tree::Found;
 use tree::PageIndex;
 use tree::Version;
 use versions::Lengths;
 use versions::Store;
 use versions::areas_differ;
+use versions::lengths_of;
 use versions::pages_by;
 use walk::find_page;
 use walk::is_lost;
@@ -65,14 +66,12 @@ pub fn stamp(
     v: Version,
     page: PageIndex,
 ) -> Stamped
-    ensures { λ r. ⌜ r ≡ stampOut s (areasOf (now (pages .entry)) (now (nodes .entry)) (now (register .entry))) (v .0) (page .0) ⌝ }
+    ensures { λ r.
+        let a = areasOf (now (pages .entry)) (now (nodes .entry)) (now (register .entry)) in
+        ⌜ r ≡ stampOut s a (v .0) (page .0) ⌝ }
 {
-    let q = record_of(register, v.0);
+    let q = version_record(register, v);
     let x = find_page(s, nodes, register, v, page);
-    let l = Lengths {
-        pages: pages.len(),
-        nodes: nodes.len(),
-        register: register.len(),
-    };
+    let l = lengths_of(pages, nodes, register);
     stamped_by(page_refusal(s, l, q, v, page, x), x)
 }

@@ -8,13 +8,13 @@ ghost use lib.Dec.{eqb};
 ghost use Rattle.tree.specs.Tree.{countOf};
 ghost use Rattle.register.specs.Register.{updateOf, withRecord};
 ghost use Rattle.versions.specs.Table.{_gives_, firstRefusal, holds, noTicket, unless};
-ghost use Rattle.versions.specs.Store.{areasOf, differ};
+ghost use Rattle.versions.specs.Store.{areasOf, lengthsOf, differ};
 ghost use Rattle.versions.specs.Size.{sizeRefusal, pagesBy, bytesBy, sizedBy, sizeOut};
 ghost use Rattle.versions.specs.Recent.{recentBy, recentOut};
 use register::Record;
 use register::extent_of;
-use register::record_of;
 use register::set_record;
+use register::version_record;
 use tree::Ticket;
 use tree::Version;
 use tree::node_count;
@@ -87,11 +87,31 @@ pub fn areas_differ(s: Store, l: Lengths) -> bool
     l.register as u64 != s.updates
 }
 
-// The index of a record whose number counts from 1.
-pub fn index_of(k: u64) -> usize
-    ensures { λ r. ⌜ r ≡ pred k ⌝ }
+// The index of the record that has a ticket's part.
+pub fn ticket_index(t: Ticket) -> usize
+    ensures { λ r. ⌜ r ≡ pred (t .0) ⌝ }
 {
-    if k == 0 { 0 } else { (k - 1) as usize }
+    if t.0 == 0 { 0 } else { (t.0 - 1) as usize }
+}
+
+// The index of the record that has a version's part.
+pub fn version_index(v: Version) -> usize
+    ensures { λ r. ⌜ r ≡ pred (v .0) ⌝ }
+{
+    if v.0 == 0 { 0 } else { (v.0 - 1) as usize }
+}
+
+// The lengths of the areas that a call is lent.
+pub fn lengths_of(pages: &[u8], nodes: &[u32], register: &[Record]) -> Lengths
+    ensures { λ l.
+        let a = areasOf (now (pages .entry)) (now (nodes .entry)) (now (register .entry)) in
+        ⌜ l ≡ lengthsOf a ⌝ }
+{
+    Lengths {
+        pages: pages.len(),
+        nodes: nodes.len(),
+        register: register.len(),
+    }
 }
 
 // Writes a record where the table's number k is 0.
@@ -188,19 +208,12 @@ fn sized_by(s: Store, l: Lengths, q: Record, v: Version) -> Sized
 
 // SIZE v: the bytes of a published version.
 pub fn size(s: Store, pages: &[u8], nodes: &[u32], register: &[Record], v: Version) -> Sized
-    ensures { λ r. ⌜ r ≡ sizeOut s (areasOf (now (pages .entry)) (now (nodes .entry)) (now (register .entry))) (v .0) ⌝ }
+    ensures { λ r.
+        let a = areasOf (now (pages .entry)) (now (nodes .entry)) (now (register .entry)) in
+        ⌜ r ≡ sizeOut s a (v .0) ⌝ }
 {
-    let q = record_of(register, v.0);
-    sized_by(
-        s,
-        Lengths {
-            pages: pages.len(),
-            nodes: nodes.len(),
-            register: register.len(),
-        },
-        q,
-        v,
-    )
+    let q = version_record(register, v);
+    sized_by(s, lengths_of(pages, nodes, register), q, v)
 }
 
 // What RECENT answers.
@@ -216,14 +229,9 @@ fn recent_by(s: Store, l: Lengths) -> Latest
 
 // RECENT: the last version published; 0 before the first.
 pub fn recent(s: Store, pages: &[u8], nodes: &[u32], register: &[Record]) -> Latest
-    ensures { λ r. ⌜ r ≡ recentOut s (areasOf (now (pages .entry)) (now (nodes .entry)) (now (register .entry))) ⌝ }
+    ensures { λ r.
+        let a = areasOf (now (pages .entry)) (now (nodes .entry)) (now (register .entry)) in
+        ⌜ r ≡ recentOut s a ⌝ }
 {
-    recent_by(
-        s,
-        Lengths {
-            pages: pages.len(),
-            nodes: nodes.len(),
-            register: register.len(),
-        },
-    )
+    recent_by(s, lengths_of(pages, nodes, register))
 }

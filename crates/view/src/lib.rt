@@ -8,12 +8,12 @@ ghost use Rattle.versions.specs.Store.{areasOf};
 ghost use Rattle.view.specs.View.{viewPart, viewed, viewAt};
 use pages::view_page;
 use register::Record;
-use register::record_of;
+use register::version_record;
 use stamp::page_refusal;
 use tree::PageIndex;
 use tree::Version;
-use versions::Lengths;
 use versions::Store;
+use versions::lengths_of;
 use walk::find_page;
 use walk::number_found;
 
@@ -42,15 +42,13 @@ pub fn view<'a>(
     v: Version,
     page: PageIndex,
 ) -> &'a [u8]
-    ensures { λ r. ⌜ now r ≡ viewPart s (areasOf (now (pages .entry)) (now (nodes .entry)) (now (register .entry))) (v .0) (page .0) ⌝ }
+    ensures { λ r.
+        let a = areasOf (now (pages .entry)) (now (nodes .entry)) (now (register .entry)) in
+        ⌜ now r ≡ viewPart s a (v .0) (page .0) ⌝ }
 {
-    let q = record_of(register, v.0);
+    let q = version_record(register, v);
     let x = find_page(s, nodes, register, v, page);
-    let l = Lengths {
-        pages: pages.len(),
-        nodes: nodes.len(),
-        register: register.len(),
-    };
+    let l = lengths_of(pages, nodes, register);
     view_part(
         pages,
         page_refusal(s, l, q, v, page, x),
@@ -80,15 +78,13 @@ pub fn view_at(
     v: Version,
     page: PageIndex,
 ) -> Viewed
-    ensures { λ r. ⌜ r ≡ viewAt s (areasOf (now (pages .entry)) (now (nodes .entry)) (now (register .entry))) (v .0) (page .0) ⌝ }
+    ensures { λ r.
+        let a = areasOf (now (pages .entry)) (now (nodes .entry)) (now (register .entry)) in
+        ⌜ r ≡ viewAt s a (v .0) (page .0) ⌝ }
 {
-    let q = record_of(register, v.0);
+    let q = version_record(register, v);
     let x = find_page(s, nodes, register, v, page);
-    let l = Lengths {
-        pages: pages.len(),
-        nodes: nodes.len(),
-        register: register.len(),
-    };
+    let l = lengths_of(pages, nodes, register);
     viewed_by(
         page_refusal(s, l, q, v, page, x),
         s.size,

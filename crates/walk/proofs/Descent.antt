@@ -20,6 +20,7 @@ use Rattle.tree.specs.NodeArea.{nodeAt}
 use Rattle.tree.specs.Walk.{walkBy, placeOf, placeWhere, hasNode, visit, goes, ends}
 use Rattle.register.specs.Register.{noRecord, updateOf, updatesOf}
 use Rattle.register.specs.declared.Record.{Record}
+use Rattle.tree.specs.declared.Version.{Version}
 use Rattle.tree.specs.declared.Found.{Found}
 use Rattle.tree.specs.declared.Found.the-variants.{Leaf, Lost}
 use Rattle.tree.specs.declared.NodeAt.{NodeAt}
@@ -117,10 +118,10 @@ module _ (area : List ℕ) (fits : length area < 2 ^ 64) where
 -- Where a walk is after a turn at a node of version v.
 abbrev pub after : Turn → ℕ → (ℕ → ℕ → Found) → Found
 after (Turn.Leaf n) v k = Leaf (record { 0 = v }) n
-after (Turn.Down d half) v k = k d half
+after (Turn.Down d half) v k = k (d .0) half
 after Turn.Lost v k = Lost
 
-pub turn-down : (x : NodeAt) (p span d half : ℕ) → turnOf x p span ≡ Turn.Down d half → (half ≡ span / 2) × (2 ≤ span)
+pub turn-down : (x : NodeAt) (p span : ℕ) (d : Version) (half : ℕ) → turnOf x p span ≡ Turn.Down d half → (half ≡ span / 2) × (2 ≤ span)
 turn-down Missing p span d half e = let z : _≡_ {A = ℕ} 0 1 = cc in absurd (omega arith)
 turn-down (Stored l r) p span d half e = elim (lt-or-le span 2) [
   | inl k ↦ let t = rw (lt-ltb span 2 k) at e in let z : _≡_ {A = ℕ} 0 1 = cc in absurd (omega arith)

@@ -41,7 +41,7 @@ halfNumber false l r = r
 
 abbrev pub turnBy : Bool → ℕ → ℕ → ℕ → ℕ → Turn
 turnBy true l r p span = Turn.Leaf l
-turnBy false l r p span = Turn.Down (halfNumber (ltb p (first p (rootHeight span) + span / 2)) l r) (span / 2)
+turnBy false l r p span = Turn.Down (record { 0 = halfNumber (ltb p (first p (rootHeight span) + span / 2)) l r }) (span / 2)
 
 abbrev pub turnOf : NodeAt → ℕ → ℕ → Turn
 turnOf Missing p span = Turn.Lost

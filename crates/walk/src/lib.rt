@@ -13,7 +13,7 @@ ghost use Rattle.versions.specs.Store.{areasOf};
 ghost use Rattle.walk.specs.FindPage.{findPage, numberWithin, isLost, orZero};
 use register::Record;
 use register::extent_of;
-use register::record_of;
+use register::version_record;
 use tree::Found;
 use tree::NodeAt;
 use tree::PageIndex;
@@ -29,7 +29,7 @@ use versions::Store;
 // Where a walk goes from a node: it ends at a leaf with a page number, goes down to a version's node of half the span, or is lost.
 enum Turn {
     Leaf(u64),
-    Down(u64, u64),
+    Down(Version, u64),
     Lost,
 }
 
@@ -55,7 +55,11 @@ fn first_of(page: PageIndex, span: u64) -> PageIndex
 // it is compared with the last page first, so that the sum cannot wrap.
 fn place_in(q: Record, page: PageIndex, span: u64) -> u64
     requires { ⌜ Spanned span ⌝ }
-    ensures { λ r. ⌜ (hasNode (updateOf q) (page .0) (rootHeight span) ≡ true → r ≡ min (q .place + index (updateOf q .f) (updateOf q .last) 0 (rootHeight (updateOf q .size)) (page .0) (rootHeight span)) (2 ^ 64 - 1)) × (r < 2 ^ 64 - 1 → hasNode (updateOf q) (page .0) (rootHeight span) ≡ true) ⌝ }
+    ensures { λ r.
+        let u = updateOf q in
+        let h = rootHeight span in
+        ⌜ (hasNode u (page .0) h ≡ true → r ≡ min (q .place + index (u .f) (u .last) 0 (rootHeight (u .size)) (page .0) h) (2 ^ 64 - 1))
+        × (r < 2 ^ 64 - 1 → hasNode u (page .0) h ≡ true) ⌝ }
 {
     let e = extent_of(q);
     let height = root_height(e.size);
@@ -78,14 +82,14 @@ fn place_in(q: Record, page: PageIndex, span: u64) -> u64
 }
 
 // The same with version v's record, where versions 1 .. known are there; the largest number where there is no such node.
-fn place_of(q: Record, known: u64, v: u64, page: PageIndex, span: u64) -> u64
+fn place_of(q: Record, known: Version, v: Version, page: PageIndex, span: u64) -> u64
     requires { ⌜ Spanned span ⌝ }
-    ensures { λ r. ⌜ r ≡ placeNumber (placeIn known q v (page .0) (rootHeight span)) ⌝ }
+    ensures { λ r. ⌜ r ≡ placeNumber (placeIn (known .0) q (v .0) (page .0) (rootHeight span)) ⌝ }
 {
-    if v == 0 {
+    if v.0 == 0 {
         return u64::MAX;
     }
-    if known < v {
+    if known.0 < v.0 {
         return u64::MAX;
     }
     place_in(q, page, span)
@@ -105,9 +109,9 @@ fn turn_at(x: NodeAt, page: PageIndex, span: u64) -> Turn
             let half = span / 2;
             let first = first_of(page, span);
             if page.0 < first.0 + half {
-                Turn::Down(left as u64, half)
+                Turn::Down(Version(left as u64), half)
             } else {
-                Turn::Down(right as u64, half)
+                Turn::Down(Version(right as u64), half)
             }
         }
     }
@@ -115,15 +119,22 @@ fn turn_at(x: NodeAt, page: PageIndex, span: u64) -> Turn
 
 // The walk to a page from version v's node of this span, which halves at each call: one record and one place a level.
 // Where it ends is one number, the leaf's version and page number in 32 bits each, so that no level copies more; lost is the largest number.
-fn find(register: &[Record], nodes: &[u32], known: u64, v: u64, span: u64, page: PageIndex) -> u64
-    requires { ⌜ (known ≤ length (now register)) × Spanned span × (known ≤ 4096) ⌝ }
-    ensures { λ r. ⌜ foundIn r ≡ walkDown (now (register .entry)) (now (nodes .entry)) known v span (page .0) ⌝ }
+fn find(
+    register: &[Record],
+    nodes: &[u32],
+    known: Version,
+    v: Version,
+    span: u64,
+    page: PageIndex,
+) -> u64
+    requires { ⌜ (known .0 ≤ length (now register)) × Spanned span × (known .0 ≤ 4096) ⌝ }
+    ensures { λ r. ⌜ foundIn r ≡ walkDown (now (register .entry)) (now (nodes .entry)) (known .0) (v .0) span (page .0) ⌝ }
 {
-    let q = record_of(register, v);
+    let q = version_record(register, v);
     let place = place_of(q, known, v, page, span);
     let t = turn_at(node_at(nodes, place), page, span);
     match t {
-        Turn::Leaf(number) => v * 4294967296 + number,
+        Turn::Leaf(number) => v.0 * 4294967296 + number,
         Turn::Down(below, half) => find(register, nodes, known, below, half, page),
         Turn::Lost => u64::MAX,
     }
@@ -143,9 +154,9 @@ fn found_in(x: u64) -> Found
 pub fn find_page(s: Store, nodes: &[u32], register: &[Record], v: Version, page: PageIndex) -> Found
     ensures { λ r. ⌜ r ≡ findPage s (areasOf [] (now (nodes .entry)) (now (register .entry))) (v .0) (page .0) ⌝ }
 {
-    let q = record_of(register, v.0);
+    let q = version_record(register, v);
     let known = smaller(smaller(s.assigned.0, 4096), register.len() as u64);
-    found_in(find(register, nodes, known, v.0, root_of(q), page))
+    found_in(find(register, nodes, Version(known), v, root_of(q), page))
 }
 
 // Whether a walk ends at no page of an area of so many.

@@ -14,7 +14,8 @@ ghost use Rattle.weave.specs.Weave.{nextNode, nextPlace, leafPast, weave
 use register::Record;
 use register::extent_of;
 use register::newest_update;
-use register::record_of;
+use register::ticket_record;
+use register::version_record;
 use tree::PageIndex;
 use tree::Ticket;
 use tree::Version;
@@ -24,8 +25,9 @@ use versions::Lengths;
 use versions::Store;
 use versions::areas_differ;
 use versions::count_of;
-use versions::index_of;
+use versions::lengths_of;
 use versions::put_record;
+use versions::version_index;
 
 // A node that was stored: its name, its two numbers, and how many nodes of its version are left.
 pub struct WovenNode {
@@ -239,22 +241,20 @@ fn woven_answer(k: u64, x: WovenNode) -> Woven
 // WEAVE ticket: stores the next node of the ticket's version at its place. The children's versions are read from the register: an update counts
 // from when its version is assigned, whether or not its nodes are stored.
 pub fn weave(s: Store, pages: &[u8], nodes: &mut [u32], register: &mut [Record], t: Ticket) -> Woven
-    ensures { λ r. ⌜ (r ≡ weaveOut s (areasOf (now (pages .entry)) (now (nodes .entry)) (now (register .entry))) (t .0)) × (now (nodes .exit) ≡ weaveNodes s (areasOf (now (pages .entry)) (now (nodes .entry)) (now (register .entry))) (t .0)) × (now (register .exit) ≡ weaveRegister s (areasOf (now (pages .entry)) (now (nodes .entry)) (now (register .entry))) (t .0)) ⌝ }
+    ensures { λ r.
+        let a = areasOf (now (pages .entry)) (now (nodes .entry)) (now (register .entry)) in
+        ⌜ (r ≡ weaveOut s a (t .0)) × (now (nodes .exit) ≡ weaveNodes s a (t .0)) × (now (register .exit) ≡ weaveRegister s a (t .0)) ⌝ }
 {
-    let l = Lengths {
-        pages: pages.len(),
-        nodes: nodes.len(),
-        register: register.len(),
-    };
-    let r = record_of(register, t.0);
+    let l = lengths_of(pages, nodes, register);
+    let r = ticket_record(register, t);
     let v = r.version;
-    let q = record_of(register, v.0);
+    let q = version_record(register, v);
     let p = weave_plan(s, l, r, q, t);
     let x = p.next;
     let left = newest_update(register, p.limit, x.first, x.half);
     let right = newest_update(register, p.limit, x.right, x.half);
     let node = woven_node(r, q, x, left, right);
     store_woven(nodes, p.k, q, node);
-    put_record(register, p.k, index_of(v.0), with_woven(p.k, q));
+    put_record(register, p.k, version_index(v), with_woven(p.k, q));
     woven_answer(p.k, node)
 }

@@ -64,6 +64,11 @@ use Rattle.register.proofs.Generated.Call.record_at as Call-record-at
 use Rattle.register.proofs.record_at.Symbol as def-record-at
 use Rattle.register.proofs.record_at.Symbol.{name as #record-at}
 use Rattle.register.proofs.record_at.Met as thm-record-at
+use Rattle.versions.proofs.Generated.Say.lengths_of as lengths-of″
+use Rattle.versions.proofs.Generated.Call.lengths_of as Call-lengths-of
+use Rattle.versions.proofs.lengths_of.Symbol as def-lengths-of
+use Rattle.versions.proofs.lengths_of.Symbol.{name as #lengths-of}
+use Rattle.versions.proofs.lengths_of.Met as thm-lengths-of
 use Rattle.publish.proofs.Generated.Say.published_by as published-by″
 use Rattle.publish.proofs.Generated.Call.published_by as Call-published-by
 use Rattle.publish.proofs.published_by.Symbol as def-published-by
@@ -74,7 +79,7 @@ use Rattle.publish.proofs.publish as publish‴
 use Rattle.publish.proofs.publish.Statement as stated
 use Rattle.publish.proofs.publish.Code as code
 use Rattle.publish.proofs.publish.Proof.Facts as Facts
-use Rattle.publish.proofs.publish.Proof.Asks.{r1, r2}
+use Rattle.publish.proofs.publish.Proof.Asks.{r1, r2, r3}
 
 abbrev stayed : Stays (publish‴.ended .signature .params) (publish‴.ended .kept)
 stayed = (stay-none (λ _. Store′.row) yes, (stay-none-slice (0 ∷ []) tt (plain (λ _. u8)) yes, (stay-none-slice (1 ∷ []) tt (plain (λ _. u32)) yes, (stay-none-slice (2 ∷ []) tt (plain (λ _. Record′.row)) yes, tt))))
@@ -97,37 +102,35 @@ module _ {M : Type 1} (𝓤 : URA M) (H : Heap 𝓤) (A : Atoms 𝓤) (W : Given
       qed W (‵ (flft κ·pages q·pages) ∷ ‵ (ShrAt u8 κ·pages b·pages o·pages γ·pages (length pages) pages) ∷ ‵ (flft κ·nodes q·nodes) ∷ ‵ (ShrAt u32 κ·nodes b·nodes o·nodes γ·nodes (length nodes) nodes) ∷ ‵ (flft κ·register q·register) ∷ ‵ (ShrAt Record′.row κ·register b·register o·register γ·register (length register) register) ∷ []) ∵ suffices ! _ (ends-at 𝓤 H A publish‴.ended stayed (publish‴.clauses 𝓤 H A mem run) W bound (PublishOut′.mach r) r (tt, (tt, (tt, (tt, tt)))) (tt, (tt, (tt, (tt, tt))))) $ says ! said $
       nothing ! $ move ! (5 ∷ 0 ∷ []) $ join ! $ move ! (3 ∷ 0 ∷ []) $ join ! $ move ! (1 ∷ 0 ∷ []) $ join ! $ frame ! $ nothing ! $ move ! (3 ∷ 0 ∷ []) $ fjoin ! $ move ! (2 ∷ 0 ∷ []) $ fjoin ! $ move ! (1 ∷ 0 ∷ []) $ fjoin ! $ owned ! Store′.row (Is Store′.row) (Store′.makes 𝓤 H A) s _ ok·s $ fjoin ! $ frame ! $ owned ! PublishOut′.row (Is PublishOut′.row) (PublishOut′.makes 𝓤 H A) r _ ok·r $ done !
 
-  walk : (𝓣 : Tables 𝓤 H) (known-record-at : Triple 𝓤 (𝓣 .C #record-at) (Call-record-at.Asked 𝓤 H A mem run)) (known-published-by : Triple 𝓤 (𝓣 .C #published-by) (Call-published-by.Asked 𝓤 H A mem run)) → ent 𝓤 (onEntry 𝓤 H A publish‴.signature (κ·pages, (κ·nodes, (κ·register, tt))) (q·pages, (q·nodes, (q·register, tt))) all-args all-vals)
+  walk : (𝓣 : Tables 𝓤 H) (known-record-at : Triple 𝓤 (𝓣 .C #record-at) (Call-record-at.Asked 𝓤 H A mem run)) (known-lengths-of : Triple 𝓤 (𝓣 .C #lengths-of) (Call-lengths-of.Asked 𝓤 H A mem run)) (known-published-by : Triple 𝓤 (𝓣 .C #published-by) (Call-published-by.Asked 𝓤 H A mem run)) → ent 𝓤 (onEntry 𝓤 H A publish‴.signature (κ·pages, (κ·nodes, (κ·register, tt))) (q·pages, (q·nodes, (q·register, tt))) all-args all-vals)
       (WpFn 𝓤 H (𝓣 .C) (𝓣 .Λ) code.function (Store′.mach s ∷ sliceVal (b·pages, o·pages) (length pages) ∷ sliceVal (b·nodes, o·nodes) (length nodes) ∷ sliceVal (b·register, o·register) (length register) ∷ []) Post)
-  walk 𝓣 known-record-at known-published-by =
+  walk 𝓣 known-record-at known-lengths-of known-published-by =
       qed W ((‵ (flft κ·pages q·pages) ⊛ ‵ (flft κ·nodes q·nodes) ⊛ ‵ (flft κ·register q·register) ⊛ ‵ ftrue) ∷ ‵ (owns (Store′.row ∷ ShrSlice (named 0) κ·pages u8 ∷ ShrSlice (named 0) κ·nodes u32 ∷ ShrSlice (named 0) κ·register Record′.row ∷ []) all-args all-vals) ∷ []) ∵ enter ! (𝓣 .C) (𝓣 .Λ) code.function (Store′.mach s ∷ sliceVal (b·pages, o·pages) (length pages) ∷ sliceVal (b·nodes, o·nodes) (length nodes) ∷ sliceVal (b·register, o·register) (length register) ∷ []) _ $
-      alloc1 ! (λ l₀. alloc1 ! (λ l₁. alloc1 ! (λ l₂. alloc1 ! (λ l₃. alloc1 ! (λ l₄. alloc1 ! (λ l₅. alloc1 ! (λ l₆. alloc1 ! (λ l₇. alloc1 ! (λ l₈. alloc1 ! (λ l₉. alloc1 ! (λ l₁₀. alloc0 ! $ params1 ! $
-      pass1 ! (init ! 18 refl (Store′.typed 𝓤 H A W s ok·s)) $ pass1 ! (init ! 16 refl (tt, (tt, (record { fits = room·pages .0 }, tt)))) $ pass1 ! (init ! 14 refl (tt, (tt, (record { fits = room·nodes .0 }, tt)))) $ pass1 ! (init ! 12 refl (tt, (tt, (record { fits = room·register .0 }, tt)))) $ pass0 ! $
-      move ! (23 ∷ []) $ fsplit ! $ drop ! $ fsplit ! $ move ! (1 ∷ []) $ fsplit ! $ move ! (1 ∷ []) $ fsplit ! $ move ! (1 ∷ []) $ drop ! $ move ! (25 ∷ []) $ split ! $ move ! (1 ∷ []) $ split ! $ move ! (1 ∷ []) $ split ! $ move ! (1 ∷ []) $ drop ! $ move ! (2 ∷ 5 ∷ 1 ∷ 4 ∷ 0 ∷ 3 ∷ []) $
-      assigns ! (of-opd ! (load ! (from ! (fld ! refl (stop !))) (look-in ! 24 (sub ! 8 refl (whole !))))) (from ! (stop !)) (init ! 16 refl (Version′.typed 𝓤 H A W (s .published) (Store′.ok-published s ok·s))) $
-      assigns ! (of-opd ! (load ! (from ! (fld ! refl (stop !))) (look-in ! 16 (sub ! 0 refl (whole !))))) (from ! (stop !)) (init ! 12 refl (tt, record { fits = (Version′.ok-0 (s .published) (Store′.ok-published s ok·s)) .1 })) $
+      alloc1 ! (λ l₀. alloc1 ! (λ l₁. alloc1 ! (λ l₂. alloc1 ! (λ l₃. alloc1 ! (λ l₄. alloc1 ! (λ l₅. alloc1 ! (λ l₆. alloc1 ! (λ l₇. alloc1 ! (λ l₈. alloc0 ! $ params1 ! $
+      pass1 ! (init ! 14 refl (Store′.typed 𝓤 H A W s ok·s)) $ pass1 ! (init ! 12 refl (tt, (tt, (record { fits = room·pages .0 }, tt)))) $ pass1 ! (init ! 10 refl (tt, (tt, (record { fits = room·nodes .0 }, tt)))) $ pass1 ! (init ! 8 refl (tt, (tt, (record { fits = room·register .0 }, tt)))) $ pass0 ! $
+      move ! (19 ∷ []) $ fsplit ! $ drop ! $ fsplit ! $ move ! (1 ∷ []) $ fsplit ! $ move ! (1 ∷ []) $ fsplit ! $ move ! (1 ∷ []) $ drop ! $ move ! (21 ∷ []) $ split ! $ move ! (1 ∷ []) $ split ! $ move ! (1 ∷ []) $ split ! $ move ! (1 ∷ []) $ drop ! $ move ! (2 ∷ 5 ∷ 1 ∷ 4 ∷ 0 ∷ 3 ∷ []) $
+      assigns ! (of-opd ! (load ! (from ! (fld ! refl (stop !))) (look-in ! 20 (sub ! 8 refl (whole !))))) (from ! (stop !)) (init ! 12 refl (Version′.typed 𝓤 H A W (s .published) (Store′.ok-published s ok·s))) $
+      assigns ! (of-opd ! (load ! (from ! (fld ! refl (stop !))) (look-in ! 12 (sub ! 0 refl (whole !))))) (from ! (stop !)) (init ! 8 refl (tt, record { fits = (Version′.ok-0 (s .published) (Store′.ok-published s ok·s)) .1 })) $
       move ! (4 ∷ 5 ∷ []) $
-      Call-record-at.calls ! mem run (fmOf 𝓤 H (W .laws) 𝓣) known-record-at κ·register q·register b·register o·register γ·register (length register) register (s .published .0) (Version′.ok-0 (s .published) (Store′.ok-published s ok·s)) (and-then ! (load ! (from ! (stop !)) (look ! 18 refl)) (and-then ! (load ! (from ! (stop !)) (look ! 12 refl)) (no-more !)))
-      (λ ok·1. move ! (2 ∷ 3 ∷ 4 ∷ 5 ∷ 0 ∷ 1 ∷ []) $ land ! (from ! (stop !)) (init ! 14 refl (Record′.typed 𝓤 H A W (r1 s pages nodes register) ok·1)) $
-      assigns ! (of-opd ! (load ! (from ! (fld ! refl (stop !))) (look-in ! 22 (sub ! 1 refl (whole !))))) (from ! (stop !)) (store ! 12 refl (tt, record { fits = room·pages .0 })) $
-      assigns ! (of-opd ! (load ! (from ! (fld ! refl (stop !))) (look-in ! 20 (sub ! 1 refl (whole !))))) (from ! (stop !)) (init ! 10 refl (tt, record { fits = room·nodes .0 })) $
-      assigns ! (of-opd ! (load ! (from ! (fld ! refl (stop !))) (look-in ! 18 (sub ! 1 refl (whole !))))) (from ! (stop !)) (init ! 8 refl (tt, record { fits = room·register .0 })) $
-      assigns ! (agg ! (and-then ! (load ! (from ! (stop !)) (look ! 12 refl)) (and-then ! (load ! (from ! (stop !)) (look ! 10 refl)) (and-then ! (load ! (from ! (stop !)) (look ! 8 refl)) (no-more !))))) (from ! (stop !)) (init ! 6 refl (Lengths′.typed 𝓤 H A W (Lengths′.build (length pages) (length nodes) (length register)) (Lengths′.make (length pages) (length nodes) (length register) (refl, room·pages .0) (refl, room·nodes .0) (refl, room·register .0)))) $
-      Call-published-by.calls ! mem run (fmOf 𝓤 H (W .laws) 𝓣) known-published-by s (Lengths′.build (length pages) (length nodes) (length register)) (r1 s pages nodes register) ok·s (Lengths′.make (length pages) (length nodes) (length register) (refl, room·pages .0) (refl, room·nodes .0) (refl, room·register .0)) ok·1 (and-then ! (load ! (from ! (stop !)) (look ! 25 refl)) (and-then ! (load ! (from ! (stop !)) (look ! 7 refl)) (and-then ! (load ! (from ! (stop !)) (look ! 15 refl)) (no-more !))))
-      (λ ok·2. land ! (from ! (stop !)) (init ! 26 refl (PublishOut′.typed 𝓤 H A W (r2 s pages nodes register) ok·2)) $
-      returns ! (look ! 26 refl) $
-      move ! (26 ∷ 27 ∷ []) $ forget ! 0 refl $ free1 ! $ move ! (24 ∷ 25 ∷ []) $ forget ! 0 refl $ free1 ! $ move ! (22 ∷ 23 ∷ []) $ forget ! 0 refl $ free1 ! $ move ! (20 ∷ 21 ∷ []) $ forget ! 0 refl $ free1 ! $ move ! (18 ∷ 19 ∷ []) $ forget ! 0 refl $ free1 ! $ move ! (16 ∷ 17 ∷ []) $ forget ! 0 refl $ free1 ! $ move ! (14 ∷ 15 ∷ []) $ forget ! 0 refl $ free1 ! $ move ! (12 ∷ 13 ∷ []) $ forget ! 0 refl $ free1 ! $ move ! (10 ∷ 11 ∷ []) $ forget ! 0 refl $ free1 ! $ move ! (8 ∷ 9 ∷ []) $ forget ! 0 refl $ free1 ! $ move ! (6 ∷ 7 ∷ []) $ forget ! 0 refl $ free1 ! $ free0 ! $ by ! (exits (r2 s pages nodes register) ok·2 (Facts.exit-1 s pages nodes register ok·s (room·pages .0) (room·nodes .0) (room·register .0) ok·1 ok·2)))))))))))))))
+      Call-record-at.calls ! mem run (fmOf 𝓤 H (W .laws) 𝓣) known-record-at κ·register q·register b·register o·register γ·register (length register) register (s .published .0) (Version′.ok-0 (s .published) (Store′.ok-published s ok·s)) (and-then ! (load ! (from ! (stop !)) (look ! 14 refl)) (and-then ! (load ! (from ! (stop !)) (look ! 8 refl)) (no-more !)))
+      (λ ok·1. move ! (2 ∷ 3 ∷ 4 ∷ 5 ∷ 0 ∷ 1 ∷ []) $ land ! (from ! (stop !)) (init ! 10 refl (Record′.typed 𝓤 H A W (r1 s pages nodes register) ok·1)) $
+      Call-lengths-of.calls ! mem run (fmOf 𝓤 H (W .laws) 𝓣) known-lengths-of κ·pages q·pages b·pages o·pages γ·pages (length pages) pages κ·nodes q·nodes b·nodes o·nodes γ·nodes (length nodes) nodes κ·register q·register b·register o·register γ·register (length register) register (and-then ! (load ! (from ! (stop !)) (look ! 16 refl)) (and-then ! (load ! (from ! (stop !)) (look ! 14 refl)) (and-then ! (load ! (from ! (stop !)) (look ! 12 refl)) (no-more !))))
+      (λ ok·2. land ! (from ! (stop !)) (init ! 6 refl (Lengths′.typed 𝓤 H A W (r2 s pages nodes register) ok·2)) $
+      Call-published-by.calls ! mem run (fmOf 𝓤 H (W .laws) 𝓣) known-published-by s (r2 s pages nodes register) (r1 s pages nodes register) ok·s ok·2 ok·1 (and-then ! (load ! (from ! (stop !)) (look ! 21 refl)) (and-then ! (load ! (from ! (stop !)) (look ! 7 refl)) (and-then ! (load ! (from ! (stop !)) (look ! 11 refl)) (no-more !))))
+      (λ ok·3. land ! (from ! (stop !)) (init ! 22 refl (PublishOut′.typed 𝓤 H A W (r3 s pages nodes register) ok·3)) $
+      returns ! (look ! 22 refl) $
+      move ! (22 ∷ 23 ∷ []) $ forget ! 0 refl $ free1 ! $ move ! (20 ∷ 21 ∷ []) $ forget ! 0 refl $ free1 ! $ move ! (18 ∷ 19 ∷ []) $ forget ! 0 refl $ free1 ! $ move ! (16 ∷ 17 ∷ []) $ forget ! 0 refl $ free1 ! $ move ! (14 ∷ 15 ∷ []) $ forget ! 0 refl $ free1 ! $ move ! (12 ∷ 13 ∷ []) $ forget ! 0 refl $ free1 ! $ move ! (10 ∷ 11 ∷ []) $ forget ! 0 refl $ free1 ! $ move ! (8 ∷ 9 ∷ []) $ forget ! 0 refl $ free1 ! $ move ! (6 ∷ 7 ∷ []) $ forget ! 0 refl $ free1 ! $ free0 ! $ by ! (exits (r3 s pages nodes register) ok·3 (Facts.exit-1 s pages nodes register ok·s (room·pages .0) (room·nodes .0) (room·register .0) ok·1 ok·2 ok·3))))))))))))))
 
 module _ {M : Type 1} (𝓤 : URA M) (H : Heap 𝓤) (A : Atoms 𝓤) (W : Given 𝓤 H A) (mem : Memory → SProp 𝓤) (run : Routine → Fun 𝓤) where
-  walks : (𝓣 : Tables 𝓤 H) → Triple 𝓤 (𝓣 .C #record-at) (Call-record-at.Asked 𝓤 H A mem run) → Triple 𝓤 (𝓣 .C #published-by) (Call-published-by.Asked 𝓤 H A mem run) → Walks 𝓤 H A publish‴.ended stayed (WpFn 𝓤 H (𝓣 .C) (𝓣 .Λ) code.function) (publish‴.clauses 𝓤 H A mem run)
-  walks 𝓣 known-record-at known-published-by = walked 𝓤 H A publish‴.ended stayed (publish‴.clauses 𝓤 H A mem run) (WpFn 𝓤 H (𝓣 .C) (𝓣 .Λ) code.function) (λ κs. (Store′.vals, (slice-vals, (slice-vals, (slice-vals, tt))))) (λ κs. (Store′.tells, (shr-slice-tells (named 0) (κs .0) u8, (shr-slice-tells (named 0) (κs .1 .0) u32, (shr-slice-tells (named 0) (κs .1 .1 .0) Record′.row, tt)))))
-      (λ κs qs bounds a g are. via 𝓤 _ (fst∗ 𝓤 _ (emp 𝓤)) (walk 𝓤 H A W mem run (a .0) (κs .0) (qs .0) (a .1 .0 .ptr .0) (a .1 .0 .ptr .1) (a .1 .0 .name) (a .1 .0 .now) (κs .1 .0) (qs .1 .0) (a .1 .1 .0 .ptr .0) (a .1 .1 .0 .ptr .1) (a .1 .1 .0 .name) (a .1 .1 .0 .now) (κs .1 .1 .0) (qs .1 .1 .0) (a .1 .1 .1 .0 .ptr .0) (a .1 .1 .1 .0 .ptr .1) (a .1 .1 .1 .0 .name) (a .1 .1 .1 .0 .now) (are .0) (are .1 .0 .0 .1) (are .1 .1 .0 .0 .1) (are .1 .1 .1 .0 .0 .1) 𝓣 known-record-at known-published-by))
+  walks : (𝓣 : Tables 𝓤 H) → Triple 𝓤 (𝓣 .C #record-at) (Call-record-at.Asked 𝓤 H A mem run) → Triple 𝓤 (𝓣 .C #lengths-of) (Call-lengths-of.Asked 𝓤 H A mem run) → Triple 𝓤 (𝓣 .C #published-by) (Call-published-by.Asked 𝓤 H A mem run) → Walks 𝓤 H A publish‴.ended stayed (WpFn 𝓤 H (𝓣 .C) (𝓣 .Λ) code.function) (publish‴.clauses 𝓤 H A mem run)
+  walks 𝓣 known-record-at known-lengths-of known-published-by = walked 𝓤 H A publish‴.ended stayed (publish‴.clauses 𝓤 H A mem run) (WpFn 𝓤 H (𝓣 .C) (𝓣 .Λ) code.function) (λ κs. (Store′.vals, (slice-vals, (slice-vals, (slice-vals, tt))))) (λ κs. (Store′.tells, (shr-slice-tells (named 0) (κs .0) u8, (shr-slice-tells (named 0) (κs .1 .0) u32, (shr-slice-tells (named 0) (κs .1 .1 .0) Record′.row, tt)))))
+      (λ κs qs bounds a g are. via 𝓤 _ (fst∗ 𝓤 _ (emp 𝓤)) (walk 𝓤 H A W mem run (a .0) (κs .0) (qs .0) (a .1 .0 .ptr .0) (a .1 .0 .ptr .1) (a .1 .0 .name) (a .1 .0 .now) (κs .1 .0) (qs .1 .0) (a .1 .1 .0 .ptr .0) (a .1 .1 .0 .ptr .1) (a .1 .1 .0 .name) (a .1 .1 .0 .now) (κs .1 .1 .0) (qs .1 .1 .0) (a .1 .1 .1 .0 .ptr .0) (a .1 .1 .1 .0 .ptr .1) (a .1 .1 .1 .0 .name) (a .1 .1 .1 .0 .now) (are .0) (are .1 .0 .0 .1) (are .1 .1 .0 .0 .1) (are .1 .1 .1 .0 .0 .1) 𝓣 known-record-at known-lengths-of known-published-by))
 
-meets : {M : Type 1} (𝓤 : URA M) (H : Heap 𝓤) (A : Atoms 𝓤) → Given 𝓤 H A → (mem : Memory → SProp 𝓤) (run : Routine → Fun 𝓤) (𝓣 : Tables 𝓤 H) → Triple 𝓤 (𝓣 .C #record-at) (Call-record-at.Asked 𝓤 H A mem run) → Triple 𝓤 (𝓣 .C #published-by) (Call-published-by.Asked 𝓤 H A mem run)
+meets : {M : Type 1} (𝓤 : URA M) (H : Heap 𝓤) (A : Atoms 𝓤) → Given 𝓤 H A → (mem : Memory → SProp 𝓤) (run : Routine → Fun 𝓤) (𝓣 : Tables 𝓤 H) → Triple 𝓤 (𝓣 .C #record-at) (Call-record-at.Asked 𝓤 H A mem run) → Triple 𝓤 (𝓣 .C #lengths-of) (Call-lengths-of.Asked 𝓤 H A mem run) → Triple 𝓤 (𝓣 .C #published-by) (Call-published-by.Asked 𝓤 H A mem run)
     → Meets 𝓤 H A publish‴.signature (WpFn 𝓤 H (𝓣 .C) (𝓣 .Λ) code.function) (publish‴.spec 𝓤 H A mem run)
-meets 𝓤 H A W mem run 𝓣 known-record-at known-published-by =
+meets 𝓤 H A W mem run 𝓣 known-record-at known-lengths-of known-published-by =
     walk-meets 𝓤 H A publish‴.ended stayed W (goes-none 𝓤 H A W 3 (λ _. Store′.row) yes (λ κs x f. refl), (goes-none-slice 𝓤 H A W 3 (0 ∷ []) tt (plain (λ _. u8)) yes, (goes-none-slice 𝓤 H A W 3 (1 ∷ []) tt (plain (λ _. u32)) yes, (goes-none-slice 𝓤 H A W 3 (2 ∷ []) tt (plain (λ _. Record′.row)) yes, tt)))) (publish‴.clauses 𝓤 H A mem run)
-    (WpFn 𝓤 H (𝓣 .C) (𝓣 .Λ) code.function) (WpFn-mono 𝓤 H (W .laws) 𝓣 code.function) (walks 𝓤 H A W mem run 𝓣 known-record-at known-published-by)
+    (WpFn 𝓤 H (𝓣 .C) (𝓣 .Λ) code.function) (WpFn-mono 𝓤 H (W .laws) 𝓣 code.function) (walks 𝓤 H A W mem run 𝓣 known-record-at known-lengths-of known-published-by)
 
 pub publish-spec : {M : Type 1} → stated.statement M
 unfolding code.routine tablesOf
@@ -136,4 +139,5 @@ publish-spec 𝓤 H 𝓜 𝓖 𝓡 =
     (tables 𝓤 H 𝓜 𝓡 code.env .C) (tables 𝓤 H 𝓜 𝓡 code.env .Λ) #self code.function (code.unfolded 𝓤 H 𝓜 𝓡)
     (meets 𝓤 H (𝓖 .A) (givenOf 𝓤 H 𝓜 𝓖) (𝓜 .mem) (𝓡 .run) (tablesOf 𝓤 H 𝓜 (tables 𝓤 H 𝓜 𝓡 code.env))
     (cited 𝓤 H (Call-record-at.Asked 𝓤 H (𝓖 .A) (𝓜 .mem) (𝓡 .run)) 𝓜 𝓡 code.env #record-at def-record-at.routine code.calls-register·record-at (thm-record-at.met 𝓤 H 𝓜 𝓖 𝓡))
+    (cited 𝓤 H (Call-lengths-of.Asked 𝓤 H (𝓖 .A) (𝓜 .mem) (𝓡 .run)) 𝓜 𝓡 code.env #lengths-of def-lengths-of.routine code.calls-versions·lengths-of (thm-lengths-of.met 𝓤 H 𝓜 𝓖 𝓡))
     (cited 𝓤 H (Call-published-by.Asked 𝓤 H (𝓖 .A) (𝓜 .mem) (𝓡 .run)) 𝓜 𝓡 code.env #published-by def-published-by.routine code.calls-publish·published-by (thm-published-by.met 𝓤 H 𝓜 𝓖 𝓡)))

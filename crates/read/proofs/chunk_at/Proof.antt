@@ -15,7 +15,7 @@ div-t7 : tie.Need-div-t7
 div-t7 c = search needs
 
 sub-smaller : tie.Need-sub-smaller
-sub-smaller c = omega (arith, mod-lt (c .before .args .at) {m = c .before .args .size} (omega arith))
+sub-smaller c = let a = c .before .before .before .args in omega (arith, mod-lt (a .at .0) {m = a .size} (omega arith))
 
 smaller-requires : tie.Need-smaller-requires
 smaller-requires c κs = search needs

@@ -16,10 +16,10 @@ left-over total offset len h = elim (lt-or-le (total - offset) len) [
 ]
 
 returns : tie.Need-returns
-returns c = let a = c .before .args in sym (lt-ltb (a .total) (a .offset + a .len) (omega arith))
+returns c = let a = c .before .before .args in sym (lt-ltb (a .total) (a .offset .0 + a .len) (omega arith))
 
 returns-2 : tie.Need-returns-2
-returns-2 c = left-over _ _ _ (c .if1 .left)
+returns-2 c = left-over _ _ _ (c .before .if1 .left)
 
 pub runs-past-spec : {M : Type 1} → statement M
 runs-past-spec = tie.close (tie.spec returns returns-2)

@@ -19,27 +19,27 @@ sub-end : tie.Need-sub-end
 sub-end c = search needs
 
 add-end : tie.Need-add-end
-add-end c = let r = c .before .before .pre (c .before .if1 .left) in omega (arith, r .fits)
+add-end c = let r = c .before .before .before .pre (c .before .before .if1 .left) in omega (arith, r .fits)
 
 div-result : tie.Need-div-result
-div-result c = let r = c .before .before .pre (c .before .if1 .left) in r .some (omega arith)
+div-result c = let r = c .before .before .before .pre (c .before .before .if1 .left) in r .some (omega arith)
 
 div-result-2 : tie.Need-div-result-2
-div-result-2 c = let r = c .before .before .pre (c .before .if1 .left) in r .some (omega arith)
+div-result-2 c = let r = c .before .before .before .before .pre (c .before .before .before .if1 .left) in r .some (omega arith)
 
 sub-result : tie.Need-sub-result
-sub-result c = let r = c .before .before .pre (c .before .if1 .left) in page-order _ _ _ (r .some (omega arith)) (omega arith)
+sub-result c = let r = c .before .before .before .before .pre (c .before .before .before .if1 .left) in page-order _ _ _ (r .some (omega arith)) (omega arith)
 
 add-result : tie.Need-add-result
 add-result c =
-    let r = c .before .before .pre (c .before .if1 .left) in
-    let a = c .before .before .args in
+    let r = c .before .before .before .before .pre (c .before .before .before .if1 .left) in
+    let a = c .before .before .before .before .args in
     let some = r .some (omega arith) in
-    omega (arith, touched-is (a .size) (a .offset) (a .len) some (omega arith), touched-below (a .size) (a .offset) (a .len) some (omega arith), r .fits)
+    omega (arith, touched-is (a .size) (a .offset .0) (a .len) some (omega arith), touched-below (a .size) (a .offset .0) (a .len) some (omega arith), r .fits)
 
 returns-3 : tie.Need-returns-3
 unfolding unless
-returns-3 c = let r = c .before .before .pre (c .before .if1 .left) in rw (c .before .if1 .left) (touched-is _ _ _ (r .some (omega arith)) (omega arith))
+returns-3 c = let r = c .before .before .before .before .pre (c .before .before .before .if1 .left) in rw (c .before .before .before .if1 .left) (touched-is _ _ _ (r .some (omega arith)) (omega arith))
 
 pub touched-spec : {M : Type 1} → statement M
 touched-spec =

@@ -2,7 +2,9 @@
 pub mod highest
 pub mod newest_update
 pub mod no_record
+pub mod nth_record
 pub mod record_at
-pub mod record_of
 pub mod record_within
 pub mod set_record
+pub mod ticket_record
+pub mod version_record

@@ -57,11 +57,16 @@ use Rattle.versions.specs.declared.Lengths.{Lengths}
 use Rattle.versions.proofs.Generated.Kind.Lengths as Lengths′
 use Rattle.register.proofs.Generated.Flow.{ref, MutAt, ShrAt, lend-mut, back-mut, lend-shr, back-shr, branches-on, regroup, skips-on, returns-on, plus-nothing, holds, empty, less-fits, is-true, is-false, differ, above-0, twice-not, switches-to, switches-last, big-lit, here, blocks-on, resume, scaled-2, scaled-4, scaled-8, opens-shr, shuts-shr, opens-mut, shuts-mut, puts-mut, keeps-shr, fills, empties, tyAt}
 use Rattle.versions.proofs.Generated.Say.size as size″
-use Rattle.register.proofs.Generated.Say.record_of as record-of″
-use Rattle.register.proofs.Generated.Call.record_of as Call-record-of
-use Rattle.register.proofs.record_of.Symbol as def-record-of
-use Rattle.register.proofs.record_of.Symbol.{name as #record-of}
-use Rattle.register.proofs.record_of.Met as thm-record-of
+use Rattle.register.proofs.Generated.Say.version_record as version-record″
+use Rattle.register.proofs.Generated.Call.version_record as Call-version-record
+use Rattle.register.proofs.version_record.Symbol as def-version-record
+use Rattle.register.proofs.version_record.Symbol.{name as #version-record}
+use Rattle.register.proofs.version_record.Met as thm-version-record
+use Rattle.versions.proofs.Generated.Say.lengths_of as lengths-of″
+use Rattle.versions.proofs.Generated.Call.lengths_of as Call-lengths-of
+use Rattle.versions.proofs.lengths_of.Symbol as def-lengths-of
+use Rattle.versions.proofs.lengths_of.Symbol.{name as #lengths-of}
+use Rattle.versions.proofs.lengths_of.Met as thm-lengths-of
 use Rattle.versions.proofs.Generated.Say.sized_by as sized-by″
 use Rattle.versions.proofs.Generated.Call.sized_by as Call-sized-by
 use Rattle.versions.proofs.sized_by.Symbol as def-sized-by
@@ -72,7 +77,7 @@ use Rattle.versions.proofs.size as size‴
 use Rattle.versions.proofs.size.Statement as stated
 use Rattle.versions.proofs.size.Code as code
 use Rattle.versions.proofs.size.Proof.Facts as Facts
-use Rattle.versions.proofs.size.Proof.Asks.{r1, r2}
+use Rattle.versions.proofs.size.Proof.Asks.{r1, r2, r3}
 
 abbrev stayed : Stays (size‴.ended .signature .params) (size‴.ended .kept)
 stayed = (stay-none (λ _. Store′.row) yes, (stay-none-slice (0 ∷ []) tt (plain (λ _. u8)) yes, (stay-none-slice (1 ∷ []) tt (plain (λ _. u32)) yes, (stay-none-slice (2 ∷ []) tt (plain (λ _. Record′.row)) yes, (stay-none (λ _. Version′.row) yes, tt)))))
@@ -95,35 +100,33 @@ module _ {M : Type 1} (𝓤 : URA M) (H : Heap 𝓤) (A : Atoms 𝓤) (W : Given
       qed W (‵ (flft κ·pages q·pages) ∷ ‵ (ShrAt u8 κ·pages b·pages o·pages γ·pages (length pages) pages) ∷ ‵ (flft κ·nodes q·nodes) ∷ ‵ (ShrAt u32 κ·nodes b·nodes o·nodes γ·nodes (length nodes) nodes) ∷ ‵ (flft κ·register q·register) ∷ ‵ (ShrAt Record′.row κ·register b·register o·register γ·register (length register) register) ∷ []) ∵ suffices ! _ (ends-at 𝓤 H A size‴.ended stayed (size‴.clauses 𝓤 H A mem run) W bound (Sized′.mach r) r (tt, (tt, (tt, (tt, (tt, tt))))) (tt, (tt, (tt, (tt, (tt, tt)))))) $ says ! said $
       nothing ! $ move ! (5 ∷ 0 ∷ []) $ join ! $ move ! (3 ∷ 0 ∷ []) $ join ! $ move ! (1 ∷ 0 ∷ []) $ join ! $ frame ! $ nothing ! $ owned ! Version′.row (Is Version′.row) (Version′.makes 𝓤 H A) x-v _ ok·x-v $ fjoin ! $ move ! (3 ∷ 0 ∷ []) $ fjoin ! $ move ! (2 ∷ 0 ∷ []) $ fjoin ! $ move ! (1 ∷ 0 ∷ []) $ fjoin ! $ owned ! Store′.row (Is Store′.row) (Store′.makes 𝓤 H A) s _ ok·s $ fjoin ! $ frame ! $ owned ! Sized′.row (Is Sized′.row) (Sized′.makes 𝓤 H A) r _ ok·r $ done !
 
-  walk : (𝓣 : Tables 𝓤 H) (known-record-of : Triple 𝓤 (𝓣 .C #record-of) (Call-record-of.Asked 𝓤 H A mem run)) (known-sized-by : Triple 𝓤 (𝓣 .C #sized-by) (Call-sized-by.Asked 𝓤 H A mem run)) → ent 𝓤 (onEntry 𝓤 H A size‴.signature (κ·pages, (κ·nodes, (κ·register, tt))) (q·pages, (q·nodes, (q·register, tt))) all-args all-vals)
+  walk : (𝓣 : Tables 𝓤 H) (known-version-record : Triple 𝓤 (𝓣 .C #version-record) (Call-version-record.Asked 𝓤 H A mem run)) (known-lengths-of : Triple 𝓤 (𝓣 .C #lengths-of) (Call-lengths-of.Asked 𝓤 H A mem run)) (known-sized-by : Triple 𝓤 (𝓣 .C #sized-by) (Call-sized-by.Asked 𝓤 H A mem run)) → ent 𝓤 (onEntry 𝓤 H A size‴.signature (κ·pages, (κ·nodes, (κ·register, tt))) (q·pages, (q·nodes, (q·register, tt))) all-args all-vals)
       (WpFn 𝓤 H (𝓣 .C) (𝓣 .Λ) code.function (Store′.mach s ∷ sliceVal (b·pages, o·pages) (length pages) ∷ sliceVal (b·nodes, o·nodes) (length nodes) ∷ sliceVal (b·register, o·register) (length register) ∷ Version′.mach x-v ∷ []) Post)
-  walk 𝓣 known-record-of known-sized-by =
+  walk 𝓣 known-version-record known-lengths-of known-sized-by =
       qed W ((‵ (flft κ·pages q·pages) ⊛ ‵ (flft κ·nodes q·nodes) ⊛ ‵ (flft κ·register q·register) ⊛ ‵ ftrue) ∷ ‵ (owns (Store′.row ∷ ShrSlice (named 0) κ·pages u8 ∷ ShrSlice (named 0) κ·nodes u32 ∷ ShrSlice (named 0) κ·register Record′.row ∷ Version′.row ∷ []) all-args all-vals) ∷ []) ∵ enter ! (𝓣 .C) (𝓣 .Λ) code.function (Store′.mach s ∷ sliceVal (b·pages, o·pages) (length pages) ∷ sliceVal (b·nodes, o·nodes) (length nodes) ∷ sliceVal (b·register, o·register) (length register) ∷ Version′.mach x-v ∷ []) _ $
-      alloc1 ! (λ l₀. alloc1 ! (λ l₁. alloc1 ! (λ l₂. alloc1 ! (λ l₃. alloc1 ! (λ l₄. alloc1 ! (λ l₅. alloc1 ! (λ l₆. alloc1 ! (λ l₇. alloc1 ! (λ l₈. alloc1 ! (λ l₉. alloc1 ! (λ l₁₀. alloc0 ! $ params1 ! $
-      pass1 ! (init ! 18 refl (Store′.typed 𝓤 H A W s ok·s)) $ pass1 ! (init ! 16 refl (tt, (tt, (record { fits = room·pages .0 }, tt)))) $ pass1 ! (init ! 14 refl (tt, (tt, (record { fits = room·nodes .0 }, tt)))) $ pass1 ! (init ! 12 refl (tt, (tt, (record { fits = room·register .0 }, tt)))) $ pass1 ! (init ! 10 refl (Version′.typed 𝓤 H A W x-v ok·x-v)) $ pass0 ! $
-      move ! (23 ∷ []) $ fsplit ! $ drop ! $ fsplit ! $ move ! (1 ∷ []) $ fsplit ! $ move ! (1 ∷ []) $ fsplit ! $ move ! (1 ∷ []) $ fsplit ! $ drop ! $ drop ! $ move ! (25 ∷ []) $ split ! $ move ! (1 ∷ []) $ split ! $ move ! (1 ∷ []) $ split ! $ move ! (1 ∷ []) $ drop ! $ move ! (2 ∷ 5 ∷ 1 ∷ 4 ∷ 0 ∷ 3 ∷ []) $
+      alloc1 ! (λ l₀. alloc1 ! (λ l₁. alloc1 ! (λ l₂. alloc1 ! (λ l₃. alloc1 ! (λ l₄. alloc1 ! (λ l₅. alloc1 ! (λ l₆. alloc1 ! (λ l₇. alloc0 ! $ params1 ! $
+      pass1 ! (init ! 12 refl (Store′.typed 𝓤 H A W s ok·s)) $ pass1 ! (init ! 10 refl (tt, (tt, (record { fits = room·pages .0 }, tt)))) $ pass1 ! (init ! 8 refl (tt, (tt, (record { fits = room·nodes .0 }, tt)))) $ pass1 ! (init ! 6 refl (tt, (tt, (record { fits = room·register .0 }, tt)))) $ pass1 ! (init ! 4 refl (Version′.typed 𝓤 H A W x-v ok·x-v)) $ pass0 ! $
+      move ! (17 ∷ []) $ fsplit ! $ drop ! $ fsplit ! $ move ! (1 ∷ []) $ fsplit ! $ move ! (1 ∷ []) $ fsplit ! $ move ! (1 ∷ []) $ fsplit ! $ drop ! $ drop ! $ move ! (19 ∷ []) $ split ! $ move ! (1 ∷ []) $ split ! $ move ! (1 ∷ []) $ split ! $ move ! (1 ∷ []) $ drop ! $ move ! (2 ∷ 5 ∷ 1 ∷ 4 ∷ 0 ∷ 3 ∷ []) $
       move ! (4 ∷ 5 ∷ []) $
-      Call-record-of.calls ! mem run (fmOf 𝓤 H (W .laws) 𝓣) known-record-of κ·register q·register b·register o·register γ·register (length register) register (x-v .0) (Version′.ok-0 x-v ok·x-v) (and-then ! (load ! (from ! (stop !)) (look ! 18 refl)) (and-then ! (load ! (from ! (fld ! refl (stop !))) (look-in ! 16 (sub ! 0 refl (whole !)))) (no-more !)))
-      (λ ok·1. move ! (2 ∷ 3 ∷ 4 ∷ 5 ∷ 0 ∷ 1 ∷ []) $ land ! (from ! (stop !)) (init ! 14 refl (Record′.typed 𝓤 H A W (r1 s pages nodes register x-v) ok·1)) $
-      assigns ! (of-opd ! (load ! (from ! (fld ! refl (stop !))) (look-in ! 22 (sub ! 1 refl (whole !))))) (from ! (stop !)) (init ! 12 refl (tt, record { fits = room·pages .0 })) $
-      assigns ! (of-opd ! (load ! (from ! (fld ! refl (stop !))) (look-in ! 20 (sub ! 1 refl (whole !))))) (from ! (stop !)) (init ! 10 refl (tt, record { fits = room·nodes .0 })) $
-      assigns ! (of-opd ! (load ! (from ! (fld ! refl (stop !))) (look-in ! 18 (sub ! 1 refl (whole !))))) (from ! (stop !)) (init ! 8 refl (tt, record { fits = room·register .0 })) $
-      assigns ! (agg ! (and-then ! (load ! (from ! (stop !)) (look ! 12 refl)) (and-then ! (load ! (from ! (stop !)) (look ! 10 refl)) (and-then ! (load ! (from ! (stop !)) (look ! 8 refl)) (no-more !))))) (from ! (stop !)) (init ! 6 refl (Lengths′.typed 𝓤 H A W (Lengths′.build (length pages) (length nodes) (length register)) (Lengths′.make (length pages) (length nodes) (length register) (refl, room·pages .0) (refl, room·nodes .0) (refl, room·register .0)))) $
-      Call-sized-by.calls ! mem run (fmOf 𝓤 H (W .laws) 𝓣) known-sized-by s (Lengths′.build (length pages) (length nodes) (length register)) (r1 s pages nodes register x-v) x-v ok·s (Lengths′.make (length pages) (length nodes) (length register) (refl, room·pages .0) (refl, room·nodes .0) (refl, room·register .0)) ok·1 ok·x-v (and-then ! (load ! (from ! (stop !)) (look ! 25 refl)) (and-then ! (load ! (from ! (stop !)) (look ! 7 refl)) (and-then ! (load ! (from ! (stop !)) (look ! 15 refl)) (and-then ! (load ! (from ! (stop !)) (look ! 17 refl)) (no-more !)))))
-      (λ ok·2. land ! (from ! (stop !)) (init ! 26 refl (Sized′.typed 𝓤 H A W (r2 s pages nodes register x-v) ok·2)) $
-      returns ! (look ! 26 refl) $
-      move ! (26 ∷ 27 ∷ []) $ forget ! 0 refl $ free1 ! $ move ! (24 ∷ 25 ∷ []) $ forget ! 0 refl $ free1 ! $ move ! (22 ∷ 23 ∷ []) $ forget ! 0 refl $ free1 ! $ move ! (20 ∷ 21 ∷ []) $ forget ! 0 refl $ free1 ! $ move ! (18 ∷ 19 ∷ []) $ forget ! 0 refl $ free1 ! $ move ! (16 ∷ 17 ∷ []) $ forget ! 0 refl $ free1 ! $ move ! (14 ∷ 15 ∷ []) $ forget ! 0 refl $ free1 ! $ move ! (12 ∷ 13 ∷ []) $ forget ! 0 refl $ free1 ! $ move ! (10 ∷ 11 ∷ []) $ forget ! 0 refl $ free1 ! $ move ! (8 ∷ 9 ∷ []) $ forget ! 0 refl $ free1 ! $ move ! (6 ∷ 7 ∷ []) $ forget ! 0 refl $ free1 ! $ free0 ! $ by ! (exits (r2 s pages nodes register x-v) ok·2 (Facts.exit-1 s pages nodes register x-v ok·s (room·pages .0) (room·nodes .0) (room·register .0) ok·x-v ok·1 ok·2)))))))))))))))
+      Call-version-record.calls ! mem run (fmOf 𝓤 H (W .laws) 𝓣) known-version-record κ·register q·register b·register o·register γ·register (length register) register x-v ok·x-v (and-then ! (load ! (from ! (stop !)) (look ! 12 refl)) (and-then ! (load ! (from ! (stop !)) (look ! 10 refl)) (no-more !)))
+      (λ ok·1. move ! (2 ∷ 3 ∷ 4 ∷ 5 ∷ 0 ∷ 1 ∷ []) $ land ! (from ! (stop !)) (init ! 8 refl (Record′.typed 𝓤 H A W (r1 s pages nodes register x-v) ok·1)) $
+      Call-lengths-of.calls ! mem run (fmOf 𝓤 H (W .laws) 𝓣) known-lengths-of κ·pages q·pages b·pages o·pages γ·pages (length pages) pages κ·nodes q·nodes b·nodes o·nodes γ·nodes (length nodes) nodes κ·register q·register b·register o·register γ·register (length register) register (and-then ! (load ! (from ! (stop !)) (look ! 14 refl)) (and-then ! (load ! (from ! (stop !)) (look ! 12 refl)) (and-then ! (load ! (from ! (stop !)) (look ! 10 refl)) (no-more !))))
+      (λ ok·2. land ! (from ! (stop !)) (init ! 6 refl (Lengths′.typed 𝓤 H A W (r2 s pages nodes register x-v) ok·2)) $
+      Call-sized-by.calls ! mem run (fmOf 𝓤 H (W .laws) 𝓣) known-sized-by s (r2 s pages nodes register x-v) (r1 s pages nodes register x-v) x-v ok·s ok·2 ok·1 ok·x-v (and-then ! (load ! (from ! (stop !)) (look ! 19 refl)) (and-then ! (load ! (from ! (stop !)) (look ! 7 refl)) (and-then ! (load ! (from ! (stop !)) (look ! 9 refl)) (and-then ! (load ! (from ! (stop !)) (look ! 11 refl)) (no-more !)))))
+      (λ ok·3. land ! (from ! (stop !)) (init ! 20 refl (Sized′.typed 𝓤 H A W (r3 s pages nodes register x-v) ok·3)) $
+      returns ! (look ! 20 refl) $
+      move ! (20 ∷ 21 ∷ []) $ forget ! 0 refl $ free1 ! $ move ! (18 ∷ 19 ∷ []) $ forget ! 0 refl $ free1 ! $ move ! (16 ∷ 17 ∷ []) $ forget ! 0 refl $ free1 ! $ move ! (14 ∷ 15 ∷ []) $ forget ! 0 refl $ free1 ! $ move ! (12 ∷ 13 ∷ []) $ forget ! 0 refl $ free1 ! $ move ! (10 ∷ 11 ∷ []) $ forget ! 0 refl $ free1 ! $ move ! (8 ∷ 9 ∷ []) $ forget ! 0 refl $ free1 ! $ move ! (6 ∷ 7 ∷ []) $ forget ! 0 refl $ free1 ! $ free0 ! $ by ! (exits (r3 s pages nodes register x-v) ok·3 (Facts.exit-1 s pages nodes register x-v ok·s (room·pages .0) (room·nodes .0) (room·register .0) ok·x-v ok·1 ok·2 ok·3)))))))))))))
 
 module _ {M : Type 1} (𝓤 : URA M) (H : Heap 𝓤) (A : Atoms 𝓤) (W : Given 𝓤 H A) (mem : Memory → SProp 𝓤) (run : Routine → Fun 𝓤) where
-  walks : (𝓣 : Tables 𝓤 H) → Triple 𝓤 (𝓣 .C #record-of) (Call-record-of.Asked 𝓤 H A mem run) → Triple 𝓤 (𝓣 .C #sized-by) (Call-sized-by.Asked 𝓤 H A mem run) → Walks 𝓤 H A size‴.ended stayed (WpFn 𝓤 H (𝓣 .C) (𝓣 .Λ) code.function) (size‴.clauses 𝓤 H A mem run)
-  walks 𝓣 known-record-of known-sized-by = walked 𝓤 H A size‴.ended stayed (size‴.clauses 𝓤 H A mem run) (WpFn 𝓤 H (𝓣 .C) (𝓣 .Λ) code.function) (λ κs. (Store′.vals, (slice-vals, (slice-vals, (slice-vals, (Version′.vals, tt)))))) (λ κs. (Store′.tells, (shr-slice-tells (named 0) (κs .0) u8, (shr-slice-tells (named 0) (κs .1 .0) u32, (shr-slice-tells (named 0) (κs .1 .1 .0) Record′.row, (Version′.tells, tt))))))
-      (λ κs qs bounds a g are. via 𝓤 _ (fst∗ 𝓤 _ (emp 𝓤)) (walk 𝓤 H A W mem run (a .0) (κs .0) (qs .0) (a .1 .0 .ptr .0) (a .1 .0 .ptr .1) (a .1 .0 .name) (a .1 .0 .now) (κs .1 .0) (qs .1 .0) (a .1 .1 .0 .ptr .0) (a .1 .1 .0 .ptr .1) (a .1 .1 .0 .name) (a .1 .1 .0 .now) (κs .1 .1 .0) (qs .1 .1 .0) (a .1 .1 .1 .0 .ptr .0) (a .1 .1 .1 .0 .ptr .1) (a .1 .1 .1 .0 .name) (a .1 .1 .1 .0 .now) (a .1 .1 .1 .1 .0) (are .0) (are .1 .0 .0 .1) (are .1 .1 .0 .0 .1) (are .1 .1 .1 .0 .0 .1) (are .1 .1 .1 .1 .0) 𝓣 known-record-of known-sized-by))
+  walks : (𝓣 : Tables 𝓤 H) → Triple 𝓤 (𝓣 .C #version-record) (Call-version-record.Asked 𝓤 H A mem run) → Triple 𝓤 (𝓣 .C #lengths-of) (Call-lengths-of.Asked 𝓤 H A mem run) → Triple 𝓤 (𝓣 .C #sized-by) (Call-sized-by.Asked 𝓤 H A mem run) → Walks 𝓤 H A size‴.ended stayed (WpFn 𝓤 H (𝓣 .C) (𝓣 .Λ) code.function) (size‴.clauses 𝓤 H A mem run)
+  walks 𝓣 known-version-record known-lengths-of known-sized-by = walked 𝓤 H A size‴.ended stayed (size‴.clauses 𝓤 H A mem run) (WpFn 𝓤 H (𝓣 .C) (𝓣 .Λ) code.function) (λ κs. (Store′.vals, (slice-vals, (slice-vals, (slice-vals, (Version′.vals, tt)))))) (λ κs. (Store′.tells, (shr-slice-tells (named 0) (κs .0) u8, (shr-slice-tells (named 0) (κs .1 .0) u32, (shr-slice-tells (named 0) (κs .1 .1 .0) Record′.row, (Version′.tells, tt))))))
+      (λ κs qs bounds a g are. via 𝓤 _ (fst∗ 𝓤 _ (emp 𝓤)) (walk 𝓤 H A W mem run (a .0) (κs .0) (qs .0) (a .1 .0 .ptr .0) (a .1 .0 .ptr .1) (a .1 .0 .name) (a .1 .0 .now) (κs .1 .0) (qs .1 .0) (a .1 .1 .0 .ptr .0) (a .1 .1 .0 .ptr .1) (a .1 .1 .0 .name) (a .1 .1 .0 .now) (κs .1 .1 .0) (qs .1 .1 .0) (a .1 .1 .1 .0 .ptr .0) (a .1 .1 .1 .0 .ptr .1) (a .1 .1 .1 .0 .name) (a .1 .1 .1 .0 .now) (a .1 .1 .1 .1 .0) (are .0) (are .1 .0 .0 .1) (are .1 .1 .0 .0 .1) (are .1 .1 .1 .0 .0 .1) (are .1 .1 .1 .1 .0) 𝓣 known-version-record known-lengths-of known-sized-by))
 
-meets : {M : Type 1} (𝓤 : URA M) (H : Heap 𝓤) (A : Atoms 𝓤) → Given 𝓤 H A → (mem : Memory → SProp 𝓤) (run : Routine → Fun 𝓤) (𝓣 : Tables 𝓤 H) → Triple 𝓤 (𝓣 .C #record-of) (Call-record-of.Asked 𝓤 H A mem run) → Triple 𝓤 (𝓣 .C #sized-by) (Call-sized-by.Asked 𝓤 H A mem run)
+meets : {M : Type 1} (𝓤 : URA M) (H : Heap 𝓤) (A : Atoms 𝓤) → Given 𝓤 H A → (mem : Memory → SProp 𝓤) (run : Routine → Fun 𝓤) (𝓣 : Tables 𝓤 H) → Triple 𝓤 (𝓣 .C #version-record) (Call-version-record.Asked 𝓤 H A mem run) → Triple 𝓤 (𝓣 .C #lengths-of) (Call-lengths-of.Asked 𝓤 H A mem run) → Triple 𝓤 (𝓣 .C #sized-by) (Call-sized-by.Asked 𝓤 H A mem run)
     → Meets 𝓤 H A size‴.signature (WpFn 𝓤 H (𝓣 .C) (𝓣 .Λ) code.function) (size‴.spec 𝓤 H A mem run)
-meets 𝓤 H A W mem run 𝓣 known-record-of known-sized-by =
+meets 𝓤 H A W mem run 𝓣 known-version-record known-lengths-of known-sized-by =
     walk-meets 𝓤 H A size‴.ended stayed W (goes-none 𝓤 H A W 3 (λ _. Store′.row) yes (λ κs x f. refl), (goes-none-slice 𝓤 H A W 3 (0 ∷ []) tt (plain (λ _. u8)) yes, (goes-none-slice 𝓤 H A W 3 (1 ∷ []) tt (plain (λ _. u32)) yes, (goes-none-slice 𝓤 H A W 3 (2 ∷ []) tt (plain (λ _. Record′.row)) yes, (goes-none 𝓤 H A W 3 (λ _. Version′.row) yes (λ κs x f. refl), tt))))) (size‴.clauses 𝓤 H A mem run)
-    (WpFn 𝓤 H (𝓣 .C) (𝓣 .Λ) code.function) (WpFn-mono 𝓤 H (W .laws) 𝓣 code.function) (walks 𝓤 H A W mem run 𝓣 known-record-of known-sized-by)
+    (WpFn 𝓤 H (𝓣 .C) (𝓣 .Λ) code.function) (WpFn-mono 𝓤 H (W .laws) 𝓣 code.function) (walks 𝓤 H A W mem run 𝓣 known-version-record known-lengths-of known-sized-by)
 
 pub size-spec : {M : Type 1} → stated.statement M
 unfolding code.routine tablesOf
@@ -131,5 +134,6 @@ size-spec 𝓤 H 𝓜 𝓖 𝓡 =
     entered 𝓤 H (tripleOf 𝓤 H (𝓖 .A) size‴.signature (size‴.spec 𝓤 H (𝓖 .A) (𝓜 .mem) (𝓡 .run)))
     (tables 𝓤 H 𝓜 𝓡 code.env .C) (tables 𝓤 H 𝓜 𝓡 code.env .Λ) #self code.function (code.unfolded 𝓤 H 𝓜 𝓡)
     (meets 𝓤 H (𝓖 .A) (givenOf 𝓤 H 𝓜 𝓖) (𝓜 .mem) (𝓡 .run) (tablesOf 𝓤 H 𝓜 (tables 𝓤 H 𝓜 𝓡 code.env))
-    (cited 𝓤 H (Call-record-of.Asked 𝓤 H (𝓖 .A) (𝓜 .mem) (𝓡 .run)) 𝓜 𝓡 code.env #record-of def-record-of.routine code.calls-register·record-of (thm-record-of.met 𝓤 H 𝓜 𝓖 𝓡))
+    (cited 𝓤 H (Call-version-record.Asked 𝓤 H (𝓖 .A) (𝓜 .mem) (𝓡 .run)) 𝓜 𝓡 code.env #version-record def-version-record.routine code.calls-register·version-record (thm-version-record.met 𝓤 H 𝓜 𝓖 𝓡))
+    (cited 𝓤 H (Call-lengths-of.Asked 𝓤 H (𝓖 .A) (𝓜 .mem) (𝓡 .run)) 𝓜 𝓡 code.env #lengths-of def-lengths-of.routine code.calls-versions·lengths-of (thm-lengths-of.met 𝓤 H 𝓜 𝓖 𝓡))
     (cited 𝓤 H (Call-sized-by.Asked 𝓤 H (𝓖 .A) (𝓜 .mem) (𝓡 .run)) 𝓜 𝓡 code.env #sized-by def-sized-by.routine code.calls-versions·sized-by (thm-sized-by.met 𝓤 H 𝓜 𝓖 𝓡)))

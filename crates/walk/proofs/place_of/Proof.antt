@@ -14,7 +14,7 @@ returns c = rw (c .if1 .taken)
 
 returns-2 : tie.Need-returns-2
 unfolding placeIn
-returns-2 c = let a = c .before .before .args in rw (lt-leb (a .v) (a .known) (c .if2 .taken), and-false)
+returns-2 c = let a = c .before .before .before .before .before .args in rw (lt-leb (a .v .0) (a .known .0) (c .if2 .taken), and-false)
 
 place-in-requires : tie.Need-place-in-requires
 place-in-requires c κs = search needs
@@ -22,8 +22,8 @@ place-in-requires c κs = search needs
 returns-3 : tie.Need-returns-3
 unfolding placeIn
 returns-3 c =
-    let a = c .before .before .before .args in
-    rw (lt-ltb 0 (a .v) (omega arith), le-leb (a .v) (a .known) (c .before .if2 .left))
+    let a = c .before .before .before .before .before .before .args in
+    rw (lt-ltb 0 (a .v .0) (omega arith), le-leb (a .v .0) (a .known .0) (c .before .if2 .left))
     (place-number _ _ _ (omega arith) (c .place-in .ensures .0) (c .place-in .ensures .1))
 
 pub place-of-spec : {M : Type 1} → statement M

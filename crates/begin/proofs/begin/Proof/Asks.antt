@@ -25,35 +25,39 @@ use Rattle.register.proofs.Generated.Kind.PageIndex as PageIndex′
 use Rattle.versions.specs.declared.Lengths.{Lengths}
 use Rattle.versions.proofs.Generated.Kind.Lengths as Lengths′
 use Rattle.begin.proofs.Generated.Say.begin as begin″
+use Rattle.versions.proofs.Generated.Say.lengths_of as lengths-of″
 use Rattle.begin.proofs.Generated.Say.begin_refusal as begin-refusal″
 use Rattle.register.proofs.Generated.Say.record_at as record-at″
 use Rattle.begin.proofs.Generated.Say.ticket_part as ticket-part″
 use Rattle.versions.proofs.Generated.Say.put_record as put-record″
 use Rattle.begin.proofs.Generated.Say.begun_by as begun-by″
 
-abbrev pub r1 : Store → List ℕ → List ℕ → List Record → ℕ → ℕ
-r1 s pages nodes register n = begin-refusal″.res s (Lengths′.build (length pages) (length nodes) (length register)) n
+abbrev pub r1 : Store → List ℕ → List ℕ → List Record → ℕ → Lengths
+r1 s pages nodes register n = lengths-of″.res pages nodes register
 
-abbrev pub r2 : Store → List ℕ → List ℕ → List Record → ℕ → Record
-r2 s pages nodes register n = record-at″.res register (s .tickets .0)
+abbrev pub r2 : Store → List ℕ → List ℕ → List Record → ℕ → ℕ
+r2 s pages nodes register n = begin-refusal″.res s (r1 s pages nodes register n) n
 
 abbrev pub r3 : Store → List ℕ → List ℕ → List Record → ℕ → Record
-r3 s pages nodes register n = ticket-part″.res (r2 s pages nodes register n) n (s .taken)
+r3 s pages nodes register n = record-at″.res register (s .tickets .0)
 
-abbrev pub register₄ : Store → List ℕ → List ℕ → List Record → ℕ → List Record
-register₄ s pages nodes register n = put-record″.out-register register (r1 s pages nodes register n) (s .tickets .0) (r3 s pages nodes register n)
+abbrev pub r4 : Store → List ℕ → List ℕ → List Record → ℕ → Record
+r4 s pages nodes register n = ticket-part″.res (r3 s pages nodes register n) n (s .taken)
 
-abbrev pub r5 : Store → List ℕ → List ℕ → List Record → ℕ → BeginOut
-r5 s pages nodes register n = begun-by″.res s n (r1 s pages nodes register n)
+abbrev pub register₅ : Store → List ℕ → List ℕ → List Record → ℕ → List Record
+register₅ s pages nodes register n = put-record″.out-register register (r2 s pages nodes register n) (s .tickets .0) (r4 s pages nodes register n)
+
+abbrev pub r6 : Store → List ℕ → List ℕ → List Record → ℕ → BeginOut
+r6 s pages nodes register n = begun-by″.res s n (r2 s pages nodes register n)
 
 -- `begun_by` asks: (k ≡ 0 → (s .tickets .0 + 1 < 2 ^ 64) × (s .taken + n < 2 ^ 64))
 abbrev pub begun-by-1 : Type 0
 begun-by-1 =
-    (s : Store) (pages : List ℕ) (nodes : List ℕ) (register : List Record) (n : ℕ) (ok-s : Store′.Ok s) (len-pages : length pages < 2 ^ 64) (len-nodes : length nodes < 2 ^ 64) (len-register : length register < 2 ^ 64) (fits-n : n < 2 ^ 64) (fits-r1 : (r1 s pages nodes register n) < 2 ^ 64) (ok-r2 : Record′.Ok (r2 s pages nodes register n)) (ok-r3 : Record′.Ok (r3 s pages nodes register n)) (same4-register : length (register₄ s pages nodes register n) ≡ length register)
-    → begun-by″.req s n (r1 s pages nodes register n)
+    (s : Store) (pages : List ℕ) (nodes : List ℕ) (register : List Record) (n : ℕ) (ok-s : Store′.Ok s) (len-pages : length pages < 2 ^ 64) (len-nodes : length nodes < 2 ^ 64) (len-register : length register < 2 ^ 64) (fits-n : n < 2 ^ 64) (ok-r1 : Lengths′.Ok (r1 s pages nodes register n)) (fits-r2 : (r2 s pages nodes register n) < 2 ^ 64) (ok-r3 : Record′.Ok (r3 s pages nodes register n)) (ok-r4 : Record′.Ok (r4 s pages nodes register n)) (same5-register : length (register₅ s pages nodes register n) ≡ length register)
+    → begun-by″.req s n (r2 s pages nodes register n)
 
 -- the function ensures: (r ≡ beginOut s (areasOf pages nodes register) n) × (register′ ≡ beginRegister s (areasOf pages nodes register) n)
 abbrev pub exit-1 : Type 0
 exit-1 =
-    (s : Store) (pages : List ℕ) (nodes : List ℕ) (register : List Record) (n : ℕ) (ok-s : Store′.Ok s) (len-pages : length pages < 2 ^ 64) (len-nodes : length nodes < 2 ^ 64) (len-register : length register < 2 ^ 64) (fits-n : n < 2 ^ 64) (fits-r1 : (r1 s pages nodes register n) < 2 ^ 64) (ok-r2 : Record′.Ok (r2 s pages nodes register n)) (ok-r3 : Record′.Ok (r3 s pages nodes register n)) (same4-register : length (register₄ s pages nodes register n) ≡ length register) (ok-r5 : BeginOut′.Ok (r5 s pages nodes register n))
-    → begin″.ens s pages nodes register n (register₄ s pages nodes register n) (r5 s pages nodes register n)
+    (s : Store) (pages : List ℕ) (nodes : List ℕ) (register : List Record) (n : ℕ) (ok-s : Store′.Ok s) (len-pages : length pages < 2 ^ 64) (len-nodes : length nodes < 2 ^ 64) (len-register : length register < 2 ^ 64) (fits-n : n < 2 ^ 64) (ok-r1 : Lengths′.Ok (r1 s pages nodes register n)) (fits-r2 : (r2 s pages nodes register n) < 2 ^ 64) (ok-r3 : Record′.Ok (r3 s pages nodes register n)) (ok-r4 : Record′.Ok (r4 s pages nodes register n)) (same5-register : length (register₅ s pages nodes register n) ≡ length register) (ok-r6 : BeginOut′.Ok (r6 s pages nodes register n))
+    → begin″.ens s pages nodes register n (register₅ s pages nodes register n) (r6 s pages nodes register n)

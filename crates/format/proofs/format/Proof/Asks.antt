@@ -24,6 +24,7 @@ use Rattle.versions.specs.declared.Lengths.{Lengths}
 use Rattle.versions.proofs.Generated.Kind.Lengths as Lengths′
 use Rattle.format.proofs.Generated.Say.format as format″
 use Rattle.format.proofs.Generated.Say.fresh_store as fresh-store″
+use Rattle.versions.proofs.Generated.Say.lengths_of as lengths-of″
 use Rattle.format.proofs.Generated.Say.format_refusal as format-refusal″
 use Rattle.format.proofs.Generated.Say.clear_pages as clear-pages″
 use Rattle.format.proofs.Generated.Say.clear_nodes as clear-nodes″
@@ -33,32 +34,35 @@ use Rattle.format.proofs.Generated.Say.formatted_by as formatted-by″
 abbrev pub r1 : ℕ → ℕ → ℕ → ℕ → List ℕ → List ℕ → List Record → Store
 r1 size page-count node-count updates pages nodes register = fresh-store″.res size page-count node-count updates
 
-abbrev pub r2 : ℕ → ℕ → ℕ → ℕ → List ℕ → List ℕ → List Record → ℕ
-r2 size page-count node-count updates pages nodes register = format-refusal″.res (r1 size page-count node-count updates pages nodes register) (Lengths′.build (length pages) (length nodes) (length register))
+abbrev pub r2 : ℕ → ℕ → ℕ → ℕ → List ℕ → List ℕ → List Record → Lengths
+r2 size page-count node-count updates pages nodes register = lengths-of″.res pages nodes register
 
-abbrev pub pages₃ : ℕ → ℕ → ℕ → ℕ → List ℕ → List ℕ → List Record → List ℕ
-pages₃ size page-count node-count updates pages nodes register = clear-pages″.out-pages pages
+abbrev pub r3 : ℕ → ℕ → ℕ → ℕ → List ℕ → List ℕ → List Record → ℕ
+r3 size page-count node-count updates pages nodes register = format-refusal″.res (r1 size page-count node-count updates pages nodes register) (r2 size page-count node-count updates pages nodes register)
 
-abbrev pub nodes₄ : ℕ → ℕ → ℕ → ℕ → List ℕ → List ℕ → List Record → List ℕ
-nodes₄ size page-count node-count updates pages nodes register = clear-nodes″.out-nodes nodes
+abbrev pub pages₄ : ℕ → ℕ → ℕ → ℕ → List ℕ → List ℕ → List Record → List ℕ
+pages₄ size page-count node-count updates pages nodes register = clear-pages″.out-pages pages
 
-abbrev pub register₅ : ℕ → ℕ → ℕ → ℕ → List ℕ → List ℕ → List Record → List Record
-register₅ size page-count node-count updates pages nodes register = clear-register″.out-register register
+abbrev pub nodes₅ : ℕ → ℕ → ℕ → ℕ → List ℕ → List ℕ → List Record → List ℕ
+nodes₅ size page-count node-count updates pages nodes register = clear-nodes″.out-nodes nodes
 
-abbrev pub r6 : ℕ → ℕ → ℕ → ℕ → List ℕ → List ℕ → List Record → Formatted
-r6 size page-count node-count updates pages nodes register = formatted-by″.res (r2 size page-count node-count updates pages nodes register) (r1 size page-count node-count updates pages nodes register)
+abbrev pub register₆ : ℕ → ℕ → ℕ → ℕ → List ℕ → List ℕ → List Record → List Record
+register₆ size page-count node-count updates pages nodes register = clear-register″.out-register register
 
 abbrev pub r7 : ℕ → ℕ → ℕ → ℕ → List ℕ → List ℕ → List Record → Formatted
-r7 size page-count node-count updates pages nodes register = formatted-by″.res (r2 size page-count node-count updates pages nodes register) (r1 size page-count node-count updates pages nodes register)
+r7 size page-count node-count updates pages nodes register = formatted-by″.res (r3 size page-count node-count updates pages nodes register) (r1 size page-count node-count updates pages nodes register)
+
+abbrev pub r8 : ℕ → ℕ → ℕ → ℕ → List ℕ → List ℕ → List Record → Formatted
+r8 size page-count node-count updates pages nodes register = formatted-by″.res (r3 size page-count node-count updates pages nodes register) (r1 size page-count node-count updates pages nodes register)
 
 -- the function ensures: (r ≡ formatAnswer (fresh size page_count node_count updates) (areasOf pages nodes register)) × (pages′ ≡ formatAreas (fresh size page_count node_count updates) (areasOf pages nodes register) .pages) × (nodes′ ≡ formatAreas (fresh size page_count node_count updates) (areasOf pages nodes register) .nodes) × (register′ ≡ formatAreas (fresh size page_count node_count updates) (areasOf pages nodes register) .register)
 abbrev pub exit-1 : Type 0
 exit-1 =
-    (size : ℕ) (page-count : ℕ) (node-count : ℕ) (updates : ℕ) (pages : List ℕ) (nodes : List ℕ) (register : List Record) (fits-size : size < 2 ^ 64) (fits-page-count : page-count < 2 ^ 64) (fits-node-count : node-count < 2 ^ 64) (fits-updates : updates < 2 ^ 64) (len-pages : length pages < 2 ^ 64) (len-nodes : length nodes < 2 ^ 64) (len-register : length register < 2 ^ 64) (ok-r1 : Store′.Ok (r1 size page-count node-count updates pages nodes register)) (fits-r2 : (r2 size page-count node-count updates pages nodes register) < 2 ^ 64) (c1 : eqb (r2 size page-count node-count updates pages nodes register) 0 ≡ true) (n1 : (r2 size page-count node-count updates pages nodes register) ≡ 0) (same3-pages : length (pages₃ size page-count node-count updates pages nodes register) ≡ length pages) (same4-nodes : length (nodes₄ size page-count node-count updates pages nodes register) ≡ length nodes) (same5-register : length (register₅ size page-count node-count updates pages nodes register) ≡ length register) (ok-r6 : Formatted′.Ok (r6 size page-count node-count updates pages nodes register))
-    → format″.ens size page-count node-count updates pages nodes register (pages₃ size page-count node-count updates pages nodes register) (nodes₄ size page-count node-count updates pages nodes register) (register₅ size page-count node-count updates pages nodes register) (r6 size page-count node-count updates pages nodes register)
+    (size : ℕ) (page-count : ℕ) (node-count : ℕ) (updates : ℕ) (pages : List ℕ) (nodes : List ℕ) (register : List Record) (fits-size : size < 2 ^ 64) (fits-page-count : page-count < 2 ^ 64) (fits-node-count : node-count < 2 ^ 64) (fits-updates : updates < 2 ^ 64) (len-pages : length pages < 2 ^ 64) (len-nodes : length nodes < 2 ^ 64) (len-register : length register < 2 ^ 64) (ok-r1 : Store′.Ok (r1 size page-count node-count updates pages nodes register)) (ok-r2 : Lengths′.Ok (r2 size page-count node-count updates pages nodes register)) (fits-r3 : (r3 size page-count node-count updates pages nodes register) < 2 ^ 64) (c1 : eqb (r3 size page-count node-count updates pages nodes register) 0 ≡ true) (n1 : (r3 size page-count node-count updates pages nodes register) ≡ 0) (same4-pages : length (pages₄ size page-count node-count updates pages nodes register) ≡ length pages) (same5-nodes : length (nodes₅ size page-count node-count updates pages nodes register) ≡ length nodes) (same6-register : length (register₆ size page-count node-count updates pages nodes register) ≡ length register) (ok-r7 : Formatted′.Ok (r7 size page-count node-count updates pages nodes register))
+    → format″.ens size page-count node-count updates pages nodes register (pages₄ size page-count node-count updates pages nodes register) (nodes₅ size page-count node-count updates pages nodes register) (register₆ size page-count node-count updates pages nodes register) (r7 size page-count node-count updates pages nodes register)
 
 -- the function ensures: (r ≡ formatAnswer (fresh size page_count node_count updates) (areasOf pages nodes register)) × (pages′ ≡ formatAreas (fresh size page_count node_count updates) (areasOf pages nodes register) .pages) × (nodes′ ≡ formatAreas (fresh size page_count node_count updates) (areasOf pages nodes register) .nodes) × (register′ ≡ formatAreas (fresh size page_count node_count updates) (areasOf pages nodes register) .register)
 abbrev pub exit-2 : Type 0
 exit-2 =
-    (size : ℕ) (page-count : ℕ) (node-count : ℕ) (updates : ℕ) (pages : List ℕ) (nodes : List ℕ) (register : List Record) (fits-size : size < 2 ^ 64) (fits-page-count : page-count < 2 ^ 64) (fits-node-count : node-count < 2 ^ 64) (fits-updates : updates < 2 ^ 64) (len-pages : length pages < 2 ^ 64) (len-nodes : length nodes < 2 ^ 64) (len-register : length register < 2 ^ 64) (ok-r1 : Store′.Ok (r1 size page-count node-count updates pages nodes register)) (fits-r2 : (r2 size page-count node-count updates pages nodes register) < 2 ^ 64) (c1 : eqb (r2 size page-count node-count updates pages nodes register) 0 ≡ false) (n1 : 0 < (r2 size page-count node-count updates pages nodes register)) (ok-r7 : Formatted′.Ok (r7 size page-count node-count updates pages nodes register))
-    → format″.ens size page-count node-count updates pages nodes register pages nodes register (r7 size page-count node-count updates pages nodes register)
+    (size : ℕ) (page-count : ℕ) (node-count : ℕ) (updates : ℕ) (pages : List ℕ) (nodes : List ℕ) (register : List Record) (fits-size : size < 2 ^ 64) (fits-page-count : page-count < 2 ^ 64) (fits-node-count : node-count < 2 ^ 64) (fits-updates : updates < 2 ^ 64) (len-pages : length pages < 2 ^ 64) (len-nodes : length nodes < 2 ^ 64) (len-register : length register < 2 ^ 64) (ok-r1 : Store′.Ok (r1 size page-count node-count updates pages nodes register)) (ok-r2 : Lengths′.Ok (r2 size page-count node-count updates pages nodes register)) (fits-r3 : (r3 size page-count node-count updates pages nodes register) < 2 ^ 64) (c1 : eqb (r3 size page-count node-count updates pages nodes register) 0 ≡ false) (n1 : 0 < (r3 size page-count node-count updates pages nodes register)) (ok-r8 : Formatted′.Ok (r8 size page-count node-count updates pages nodes register))
+    → format″.ens size page-count node-count updates pages nodes register pages nodes register (r8 size page-count node-count updates pages nodes register)

@@ -26,16 +26,20 @@ use Rattle.versions.specs.declared.Lengths.{Lengths}
 use Rattle.versions.proofs.Generated.Kind.Lengths as Lengths′
 use Rattle.publish.proofs.Generated.Say.publish as publish″
 use Rattle.register.proofs.Generated.Say.record_at as record-at″
+use Rattle.versions.proofs.Generated.Say.lengths_of as lengths-of″
 use Rattle.publish.proofs.Generated.Say.published_by as published-by″
 
 abbrev pub r1 : Store → List ℕ → List ℕ → List Record → Record
 r1 s pages nodes register = record-at″.res register (s .published .0)
 
-abbrev pub r2 : Store → List ℕ → List ℕ → List Record → PublishOut
-r2 s pages nodes register = published-by″.res s (Lengths′.build (length pages) (length nodes) (length register)) (r1 s pages nodes register)
+abbrev pub r2 : Store → List ℕ → List ℕ → List Record → Lengths
+r2 s pages nodes register = lengths-of″.res pages nodes register
+
+abbrev pub r3 : Store → List ℕ → List ℕ → List Record → PublishOut
+r3 s pages nodes register = published-by″.res s (r2 s pages nodes register) (r1 s pages nodes register)
 
 -- the function ensures: r ≡ publishOut s (areasOf pages nodes register)
 abbrev pub exit-1 : Type 0
 exit-1 =
-    (s : Store) (pages : List ℕ) (nodes : List ℕ) (register : List Record) (ok-s : Store′.Ok s) (len-pages : length pages < 2 ^ 64) (len-nodes : length nodes < 2 ^ 64) (len-register : length register < 2 ^ 64) (ok-r1 : Record′.Ok (r1 s pages nodes register)) (ok-r2 : PublishOut′.Ok (r2 s pages nodes register))
-    → publish″.ens s pages nodes register (r2 s pages nodes register)
+    (s : Store) (pages : List ℕ) (nodes : List ℕ) (register : List Record) (ok-s : Store′.Ok s) (len-pages : length pages < 2 ^ 64) (len-nodes : length nodes < 2 ^ 64) (len-register : length register < 2 ^ 64) (ok-r1 : Record′.Ok (r1 s pages nodes register)) (ok-r2 : Lengths′.Ok (r2 s pages nodes register)) (ok-r3 : PublishOut′.Ok (r3 s pages nodes register))
+    → publish″.ens s pages nodes register (r3 s pages nodes register)

@@ -23,41 +23,45 @@ use Rattle.register.proofs.Generated.Kind.PageIndex as PageIndex′
 use Rattle.versions.specs.declared.Lengths.{Lengths}
 use Rattle.versions.proofs.Generated.Kind.Lengths as Lengths′
 use Rattle.put.proofs.Generated.Say.put as put″
-use Rattle.register.proofs.Generated.Say.record_of as record-of″
+use Rattle.register.proofs.Generated.Say.ticket_record as ticket-record″
+use Rattle.versions.proofs.Generated.Say.lengths_of as lengths-of″
 use Rattle.put.proofs.Generated.Say.put_refusal as put-refusal″
 use Rattle.versions.proofs.Generated.Say.capped_sum as capped-sum″
 use Rattle.put.proofs.Generated.Say.put_bytes as put-bytes″
-use Rattle.versions.proofs.Generated.Say.index_of as index-of″
+use Rattle.versions.proofs.Generated.Say.ticket_index as ticket-index″
 use Rattle.put.proofs.Generated.Say.with_put as with-put″
 use Rattle.versions.proofs.Generated.Say.put_record as put-record″
 use Rattle.put.proofs.Generated.Say.put_answer as put-answer″
 
 abbrev pub r1 : Store → List ℕ → List ℕ → List Record → Ticket → ℕ → List ℕ → Record
-r1 s pages nodes register x-t i bytes = record-of″.res register (x-t .0)
+r1 s pages nodes register x-t i bytes = ticket-record″.res register x-t
 
-abbrev pub r2 : Store → List ℕ → List ℕ → List Record → Ticket → ℕ → List ℕ → ℕ
-r2 s pages nodes register x-t i bytes = put-refusal″.res s (Lengths′.build (length pages) (length nodes) (length register)) (r1 s pages nodes register x-t i bytes) x-t i (length bytes)
+abbrev pub r2 : Store → List ℕ → List ℕ → List Record → Ticket → ℕ → List ℕ → Lengths
+r2 s pages nodes register x-t i bytes = lengths-of″.res pages nodes register
 
 abbrev pub r3 : Store → List ℕ → List ℕ → List Record → Ticket → ℕ → List ℕ → ℕ
-r3 s pages nodes register x-t i bytes = capped-sum″.res ((r1 s pages nodes register x-t i bytes) .number) i
+r3 s pages nodes register x-t i bytes = put-refusal″.res s (r2 s pages nodes register x-t i bytes) (r1 s pages nodes register x-t i bytes) x-t i (length bytes)
 
-abbrev pub pages₄ : Store → List ℕ → List ℕ → List Record → Ticket → ℕ → List ℕ → List ℕ
-pages₄ s pages nodes register x-t i bytes = put-bytes″.out-pages pages (r2 s pages nodes register x-t i bytes) (s .size) (r3 s pages nodes register x-t i bytes) bytes
+abbrev pub r4 : Store → List ℕ → List ℕ → List Record → Ticket → ℕ → List ℕ → ℕ
+r4 s pages nodes register x-t i bytes = capped-sum″.res ((r1 s pages nodes register x-t i bytes) .number) i
 
-abbrev pub r5 : Store → List ℕ → List ℕ → List Record → Ticket → ℕ → List ℕ → ℕ
-r5 s pages nodes register x-t i bytes = index-of″.res (x-t .0)
+abbrev pub pages₅ : Store → List ℕ → List ℕ → List Record → Ticket → ℕ → List ℕ → List ℕ
+pages₅ s pages nodes register x-t i bytes = put-bytes″.out-pages pages (r3 s pages nodes register x-t i bytes) (s .size) (r4 s pages nodes register x-t i bytes) bytes
 
-abbrev pub r6 : Store → List ℕ → List ℕ → List Record → Ticket → ℕ → List ℕ → Record
-r6 s pages nodes register x-t i bytes = with-put″.res (r1 s pages nodes register x-t i bytes) i
+abbrev pub r6 : Store → List ℕ → List ℕ → List Record → Ticket → ℕ → List ℕ → ℕ
+r6 s pages nodes register x-t i bytes = ticket-index″.res x-t
 
-abbrev pub register₇ : Store → List ℕ → List ℕ → List Record → Ticket → ℕ → List ℕ → List Record
-register₇ s pages nodes register x-t i bytes = put-record″.out-register register (r2 s pages nodes register x-t i bytes) (r5 s pages nodes register x-t i bytes) (r6 s pages nodes register x-t i bytes)
+abbrev pub r7 : Store → List ℕ → List ℕ → List Record → Ticket → ℕ → List ℕ → Record
+r7 s pages nodes register x-t i bytes = with-put″.res (r1 s pages nodes register x-t i bytes) i
 
-abbrev pub r8 : Store → List ℕ → List ℕ → List Record → Ticket → ℕ → List ℕ → PutIn
-r8 s pages nodes register x-t i bytes = put-answer″.res (r2 s pages nodes register x-t i bytes)
+abbrev pub register₈ : Store → List ℕ → List ℕ → List Record → Ticket → ℕ → List ℕ → List Record
+register₈ s pages nodes register x-t i bytes = put-record″.out-register register (r3 s pages nodes register x-t i bytes) (r6 s pages nodes register x-t i bytes) (r7 s pages nodes register x-t i bytes)
+
+abbrev pub r9 : Store → List ℕ → List ℕ → List Record → Ticket → ℕ → List ℕ → PutIn
+r9 s pages nodes register x-t i bytes = put-answer″.res (r3 s pages nodes register x-t i bytes)
 
 -- the function ensures: (r ≡ putOut s (areasOf pages nodes register) (t .0) i bytes) × (pages′ ≡ putPages s (areasOf pages nodes register) (t .0) i bytes) × (register′ ≡ putRegister s (areasOf pages nodes register) (t .0) i bytes)
 abbrev pub exit-1 : Type 0
 exit-1 =
-    (s : Store) (pages : List ℕ) (nodes : List ℕ) (register : List Record) (x-t : Ticket) (i : ℕ) (bytes : List ℕ) (ok-s : Store′.Ok s) (len-pages : length pages < 2 ^ 64) (len-nodes : length nodes < 2 ^ 64) (len-register : length register < 2 ^ 64) (ok-x-t : Ticket′.Ok x-t) (fits-i : i < 2 ^ 64) (len-bytes : length bytes < 2 ^ 64) (ok-r1 : Record′.Ok (r1 s pages nodes register x-t i bytes)) (fits-r2 : (r2 s pages nodes register x-t i bytes) < 2 ^ 64) (fits-r3 : (r3 s pages nodes register x-t i bytes) < 2 ^ 64) (same4-pages : length (pages₄ s pages nodes register x-t i bytes) ≡ length pages) (fits-r5 : (r5 s pages nodes register x-t i bytes) < 2 ^ 64) (ok-r6 : Record′.Ok (r6 s pages nodes register x-t i bytes)) (same7-register : length (register₇ s pages nodes register x-t i bytes) ≡ length register) (ok-r8 : PutIn′.Ok (r8 s pages nodes register x-t i bytes))
-    → put″.ens s pages nodes register x-t i bytes (pages₄ s pages nodes register x-t i bytes) (register₇ s pages nodes register x-t i bytes) (r8 s pages nodes register x-t i bytes)
+    (s : Store) (pages : List ℕ) (nodes : List ℕ) (register : List Record) (x-t : Ticket) (i : ℕ) (bytes : List ℕ) (ok-s : Store′.Ok s) (len-pages : length pages < 2 ^ 64) (len-nodes : length nodes < 2 ^ 64) (len-register : length register < 2 ^ 64) (ok-x-t : Ticket′.Ok x-t) (fits-i : i < 2 ^ 64) (len-bytes : length bytes < 2 ^ 64) (ok-r1 : Record′.Ok (r1 s pages nodes register x-t i bytes)) (ok-r2 : Lengths′.Ok (r2 s pages nodes register x-t i bytes)) (fits-r3 : (r3 s pages nodes register x-t i bytes) < 2 ^ 64) (fits-r4 : (r4 s pages nodes register x-t i bytes) < 2 ^ 64) (same5-pages : length (pages₅ s pages nodes register x-t i bytes) ≡ length pages) (fits-r6 : (r6 s pages nodes register x-t i bytes) < 2 ^ 64) (ok-r7 : Record′.Ok (r7 s pages nodes register x-t i bytes)) (same8-register : length (register₈ s pages nodes register x-t i bytes) ≡ length register) (ok-r9 : PutIn′.Ok (r9 s pages nodes register x-t i bytes))
+    → put″.ens s pages nodes register x-t i bytes (pages₅ s pages nodes register x-t i bytes) (register₈ s pages nodes register x-t i bytes) (r9 s pages nodes register x-t i bytes)

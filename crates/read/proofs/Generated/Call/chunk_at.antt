@@ -32,6 +32,8 @@ use denote.Triple.Clauses.{Lasts, ensured, lasts}
 use denote.Triple.Spec.{tripleOf}
 use denote.Triple.Walked.{says}
 use Rattle.read.proofs.Generated.Say.chunk_at as chunk-at″
+use Rattle.versions.specs.declared.ByteOffset.{ByteOffset}
+use Rattle.read.proofs.Generated.Kind.ByteOffset as ByteOffset′
 use Rattle.read.specs.declared.Chunk.{Chunk}
 use Rattle.read.proofs.Generated.Kind.Chunk as Chunk′
 use Rattle.tree.specs.declared.PageIndex.{PageIndex}
@@ -44,13 +46,13 @@ module _ {M : Type 1} (𝓤 : URA M) (H : Heap 𝓤) (A : Atoms 𝓤) (mem : Mem
   abbrev pub Asked : Contract 𝓤
   Asked = tripleOf 𝓤 H A callee.signature (callee.spec 𝓤 H A mem run)
 
-  abbrev pub to : (size : ℕ) (x-at : ℕ) (len : ℕ) → Asked .Ghost
-  to size x-at len = ((tt, tt, tt, (size, (x-at, (len, tt))), (vint w64 size ∷ [], (vint w64 x-at ∷ [], (vint w64 len ∷ [], tt)))), tt)
+  abbrev pub to : (size : ℕ) (x-at : ByteOffset) (len : ℕ) → Asked .Ghost
+  to size x-at len = ((tt, tt, tt, (size, (x-at, (len, tt))), (vint w64 size ∷ [], (ByteOffset′.mach x-at ∷ [], (vint w64 len ∷ [], tt)))), tt)
 
 module _ {M : Type 1} {𝓤 : URA M} {H : Heap 𝓤} {A : Atoms 𝓤} {K : Type 0} {W : Given 𝓤 H A} {Γ : List (Item 𝓤)} where
   -- the call itself is made by `by-call`, from what the callee asks to what it has ensured
-  core : K → (mem : Memory → SProp 𝓤) (run : Routine → Fun 𝓤) → (size : ℕ) (x-at : ℕ) (len : ℕ) → (G : Goal 𝓤 H) (after : Val → Goal 𝓤 H) → ((v : Val) → Soaks (after v))
-      → (((v : Val) → Seq K W (raw (Asked 𝓤 H A mem run .post (to 𝓤 H A mem run size x-at len) v) ∷ Γ) (after v)) → Seq K W (raw (Asked 𝓤 H A mem run .pre (to 𝓤 H A mem run size x-at len)) ∷ Γ) G) → Is u64 size (uint-vals w64 size) → Is u64 x-at (uint-vals w64 x-at) → Is u64 len (uint-vals w64 len) →
+  core : K → (mem : Memory → SProp 𝓤) (run : Routine → Fun 𝓤) → (size : ℕ) (x-at : ByteOffset) (len : ℕ) → (G : Goal 𝓤 H) (after : Val → Goal 𝓤 H) → ((v : Val) → Soaks (after v))
+      → (((v : Val) → Seq K W (raw (Asked 𝓤 H A mem run .post (to 𝓤 H A mem run size x-at len) v) ∷ Γ) (after v)) → Seq K W (raw (Asked 𝓤 H A mem run .pre (to 𝓤 H A mem run size x-at len)) ∷ Γ) G) → Is u64 size (uint-vals w64 size) → Is ByteOffset′.row x-at (ByteOffset′.vals x-at) → Is u64 len (uint-vals w64 len) →
       (Is Chunk′.row (chunk-at″.res size x-at len) (Chunk′.vals (chunk-at″.res size x-at len)) → Seq K W (Γ) (after (Chunk′.mach (chunk-at″.res size x-at len)))) → Seq K W (Γ) G
   core t mem run size x-at len G after soaks by-call ok·size ok·x-at ok·len k =
       use0 W (raw (Asked 𝓤 H A mem run .pre (to 𝓤 H A mem run size x-at len))) goes $
@@ -61,36 +63,36 @@ module _ {M : Type 1} {𝓤 : URA M} {H : Heap 𝓤} {A : Atoms 𝓤} {K : Type 
       subst (λ (u : Val). Seq K W (Γ) (after u)) (sym (ap only (Chunk′.tells r· (v ∷ []) is) ∙ ap (λ (z : Chunk). Chunk′.mach z) (e))) (k (subst (λ (z : Chunk). Is Chunk′.row z (Chunk′.vals z)) (e) (subst (Is Chunk′.row r·) (Chunk′.tells r· (v ∷ []) is) is))))))))
     where
       goes : ent 𝓤 (⋆ 𝓤 H A ([])) (Asked 𝓤 H A mem run .pre (to 𝓤 H A mem run size x-at len))
-      goes = qed W ([]) ∵ plus-nothing ! $ nothing ! $ frame ! $ nothing ! $ owned ! u64 (Is u64) (uint-makes 𝓤 H A W w64) len _ ok·len $ fjoin ! $ owned ! u64 (Is u64) (uint-makes 𝓤 H A W w64) x-at _ ok·x-at $ fjoin ! $ owned ! u64 (Is u64) (uint-makes 𝓤 H A W w64) size _ ok·size $ fjoin ! $ done !
+      goes = qed W ([]) ∵ plus-nothing ! $ nothing ! $ frame ! $ nothing ! $ owned ! u64 (Is u64) (uint-makes 𝓤 H A W w64) len _ ok·len $ fjoin ! $ owned ! ByteOffset′.row (Is ByteOffset′.row) (ByteOffset′.makes 𝓤 H A) x-at _ ok·x-at $ fjoin ! $ owned ! u64 (Is u64) (uint-makes 𝓤 H A W w64) size _ ok·size $ fjoin ! $ done !
 
 module _ {M : Type 1} {𝓤 : URA M} {H : Heap 𝓤} {A : Atoms 𝓤} {K : Type 0} {W : Given 𝓤 H A} {Γ : List (Item 𝓤)} {E : Env 𝓤 H} {C : Calls 𝓤 H} {Λ : Loops 𝓤 H} {Q : Post 𝓤 H} {xs : List Operand} {d : Place} {rest : Body} where
   -- by one instance of the callee's contract, which is what a function that calls itself has
-  pub calls-by : K → (mem : Memory → SProp 𝓤) (run : Routine → Fun 𝓤) → FmC 𝓤 H (W .laws) C → (size : ℕ) (x-at : ℕ) (len : ℕ) → ent 𝓤 (Asked 𝓤 H A mem run .pre (to 𝓤 H A mem run size x-at len)) (C #callee (Asked 𝓤 H A mem run .args (to 𝓤 H A mem run size x-at len)) (Asked 𝓤 H A mem run .post (to 𝓤 H A mem run size x-at len))) → Is u64 size (uint-vals w64 size) → Is u64 x-at (uint-vals w64 x-at) → Is u64 len (uint-vals w64 len) →
-      Opds K W (raw (Asked 𝓤 H A mem run .pre (to 𝓤 H A mem run size x-at len)) ∷ Γ) E xs (vint w64 size ∷ vint w64 x-at ∷ vint w64 len ∷ [])
+  pub calls-by : K → (mem : Memory → SProp 𝓤) (run : Routine → Fun 𝓤) → FmC 𝓤 H (W .laws) C → (size : ℕ) (x-at : ByteOffset) (len : ℕ) → ent 𝓤 (Asked 𝓤 H A mem run .pre (to 𝓤 H A mem run size x-at len)) (C #callee (Asked 𝓤 H A mem run .args (to 𝓤 H A mem run size x-at len)) (Asked 𝓤 H A mem run .post (to 𝓤 H A mem run size x-at len))) → Is u64 size (uint-vals w64 size) → Is ByteOffset′.row x-at (ByteOffset′.vals x-at) → Is u64 len (uint-vals w64 len) →
+      Opds K W (raw (Asked 𝓤 H A mem run .pre (to 𝓤 H A mem run size x-at len)) ∷ Γ) E xs (vint w64 size ∷ ByteOffset′.mach x-at ∷ vint w64 len ∷ [])
       → (Is Chunk′.row (chunk-at″.res size x-at len) (Chunk′.vals (chunk-at″.res size x-at len)) → Seq K W (Γ) (lands C Λ E d (Chunk′.mach (chunk-at″.res size x-at len)) rest Q))
       → Seq K W (Γ) (runs C Λ E (seq (call #callee xs d) rest) Q)
   calls-by t mem run fm size x-at len known ok·size ok·x-at ok·len os k =
       core t mem run size x-at len (runs C Λ E (seq (call #callee xs d) rest) Q) (λ v. lands C Λ E d v rest Q) (λ v. tt)
       (λ h. calls-from t fm (raw (Asked 𝓤 H A mem run .pre (to 𝓤 H A mem run size x-at len))) (Asked 𝓤 H A mem run .args (to 𝓤 H A mem run size x-at len)) (Asked 𝓤 H A mem run .post (to 𝓤 H A mem run size x-at len)) known os h) ok·size ok·x-at ok·len k
 
-  pub calls : K → (mem : Memory → SProp 𝓤) (run : Routine → Fun 𝓤) → FmC 𝓤 H (W .laws) C → Triple 𝓤 (C #callee) (Asked 𝓤 H A mem run) → (size : ℕ) (x-at : ℕ) (len : ℕ) → Is u64 size (uint-vals w64 size) → Is u64 x-at (uint-vals w64 x-at) → Is u64 len (uint-vals w64 len) →
-      Opds K W (raw (Asked 𝓤 H A mem run .pre (to 𝓤 H A mem run size x-at len)) ∷ Γ) E xs (vint w64 size ∷ vint w64 x-at ∷ vint w64 len ∷ [])
+  pub calls : K → (mem : Memory → SProp 𝓤) (run : Routine → Fun 𝓤) → FmC 𝓤 H (W .laws) C → Triple 𝓤 (C #callee) (Asked 𝓤 H A mem run) → (size : ℕ) (x-at : ByteOffset) (len : ℕ) → Is u64 size (uint-vals w64 size) → Is ByteOffset′.row x-at (ByteOffset′.vals x-at) → Is u64 len (uint-vals w64 len) →
+      Opds K W (raw (Asked 𝓤 H A mem run .pre (to 𝓤 H A mem run size x-at len)) ∷ Γ) E xs (vint w64 size ∷ ByteOffset′.mach x-at ∷ vint w64 len ∷ [])
       → (Is Chunk′.row (chunk-at″.res size x-at len) (Chunk′.vals (chunk-at″.res size x-at len)) → Seq K W (Γ) (lands C Λ E d (Chunk′.mach (chunk-at″.res size x-at len)) rest Q))
       → Seq K W (Γ) (runs C Λ E (seq (call #callee xs d) rest) Q)
   calls t mem run fm known size x-at len = calls-by t mem run fm size x-at len (known (to 𝓤 H A mem run size x-at len))
 
 module _ {M : Type 1} {𝓤 : URA M} {H : Heap 𝓤} {A : Atoms 𝓤} {K : Type 0} {W : Given 𝓤 H A} {Γ : List (Item 𝓤)} {E : Env 𝓤 H} {C : Calls 𝓤 H} {Λ : Loops 𝓤 H} {Q : Post 𝓤 H} {xs : List Operand} {d : Place} where
   -- by one instance of the callee's contract, which is what a function that calls itself has. The call ends a part of the code
-  pub calls-last-by : K → (mem : Memory → SProp 𝓤) (run : Routine → Fun 𝓤) → FmC 𝓤 H (W .laws) C → (size : ℕ) (x-at : ℕ) (len : ℕ) → ent 𝓤 (Asked 𝓤 H A mem run .pre (to 𝓤 H A mem run size x-at len)) (C #callee (Asked 𝓤 H A mem run .args (to 𝓤 H A mem run size x-at len)) (Asked 𝓤 H A mem run .post (to 𝓤 H A mem run size x-at len))) → Is u64 size (uint-vals w64 size) → Is u64 x-at (uint-vals w64 x-at) → Is u64 len (uint-vals w64 len) →
-      Opds K W (raw (Asked 𝓤 H A mem run .pre (to 𝓤 H A mem run size x-at len)) ∷ Γ) E xs (vint w64 size ∷ vint w64 x-at ∷ vint w64 len ∷ [])
+  pub calls-last-by : K → (mem : Memory → SProp 𝓤) (run : Routine → Fun 𝓤) → FmC 𝓤 H (W .laws) C → (size : ℕ) (x-at : ByteOffset) (len : ℕ) → ent 𝓤 (Asked 𝓤 H A mem run .pre (to 𝓤 H A mem run size x-at len)) (C #callee (Asked 𝓤 H A mem run .args (to 𝓤 H A mem run size x-at len)) (Asked 𝓤 H A mem run .post (to 𝓤 H A mem run size x-at len))) → Is u64 size (uint-vals w64 size) → Is ByteOffset′.row x-at (ByteOffset′.vals x-at) → Is u64 len (uint-vals w64 len) →
+      Opds K W (raw (Asked 𝓤 H A mem run .pre (to 𝓤 H A mem run size x-at len)) ∷ Γ) E xs (vint w64 size ∷ ByteOffset′.mach x-at ∷ vint w64 len ∷ [])
       → (Is Chunk′.row (chunk-at″.res size x-at len) (Chunk′.vals (chunk-at″.res size x-at len)) → Seq K W (Γ) (settles E d (Chunk′.mach (chunk-at″.res size x-at len)) Q))
       → Seq K W (Γ) (runs C Λ E (call #callee xs d) Q)
   calls-last-by t mem run fm size x-at len known ok·size ok·x-at ok·len os k =
       core t mem run size x-at len (runs C Λ E (call #callee xs d) Q) (λ v. settles E d v Q) (λ v. tt)
       (λ h. calls-from-last t fm (raw (Asked 𝓤 H A mem run .pre (to 𝓤 H A mem run size x-at len))) (Asked 𝓤 H A mem run .args (to 𝓤 H A mem run size x-at len)) (Asked 𝓤 H A mem run .post (to 𝓤 H A mem run size x-at len)) known os h) ok·size ok·x-at ok·len k
 
-  pub calls-last : K → (mem : Memory → SProp 𝓤) (run : Routine → Fun 𝓤) → FmC 𝓤 H (W .laws) C → Triple 𝓤 (C #callee) (Asked 𝓤 H A mem run) → (size : ℕ) (x-at : ℕ) (len : ℕ) → Is u64 size (uint-vals w64 size) → Is u64 x-at (uint-vals w64 x-at) → Is u64 len (uint-vals w64 len) →
-      Opds K W (raw (Asked 𝓤 H A mem run .pre (to 𝓤 H A mem run size x-at len)) ∷ Γ) E xs (vint w64 size ∷ vint w64 x-at ∷ vint w64 len ∷ [])
+  pub calls-last : K → (mem : Memory → SProp 𝓤) (run : Routine → Fun 𝓤) → FmC 𝓤 H (W .laws) C → Triple 𝓤 (C #callee) (Asked 𝓤 H A mem run) → (size : ℕ) (x-at : ByteOffset) (len : ℕ) → Is u64 size (uint-vals w64 size) → Is ByteOffset′.row x-at (ByteOffset′.vals x-at) → Is u64 len (uint-vals w64 len) →
+      Opds K W (raw (Asked 𝓤 H A mem run .pre (to 𝓤 H A mem run size x-at len)) ∷ Γ) E xs (vint w64 size ∷ ByteOffset′.mach x-at ∷ vint w64 len ∷ [])
       → (Is Chunk′.row (chunk-at″.res size x-at len) (Chunk′.vals (chunk-at″.res size x-at len)) → Seq K W (Γ) (settles E d (Chunk′.mach (chunk-at″.res size x-at len)) Q))
       → Seq K W (Γ) (runs C Λ E (call #callee xs d) Q)
   calls-last t mem run fm known size x-at len = calls-last-by t mem run fm size x-at len (known (to 𝓤 H A mem run size x-at len))

@@ -42,6 +42,8 @@ use Rattle.register.specs.declared.Record.{Record}
 use Rattle.register.proofs.Generated.Kind.Record as Record′
 use Rattle.tree.specs.declared.PageIndex.{PageIndex}
 use Rattle.register.proofs.Generated.Kind.PageIndex as PageIndex′
+use Rattle.versions.specs.declared.ByteOffset.{ByteOffset}
+use Rattle.read.proofs.Generated.Kind.ByteOffset as ByteOffset′
 use Rattle.register.proofs.Generated.Flow.{ref, MutAt, ShrAt, keeps-shr, plus-nothing}
 use Rattle.read.proofs.copy_range as callee
 use Rattle.read.proofs.copy_range.Symbol.{name as #callee}
@@ -50,13 +52,13 @@ module _ {M : Type 1} (𝓤 : URA M) (H : Heap 𝓤) (A : Atoms 𝓤) (mem : Mem
   abbrev pub Asked : Contract 𝓤
   Asked = tripleOf 𝓤 H A callee.signature (callee.spec 𝓤 H A mem run)
 
-  abbrev pub to : (s : Store) (κ·pages : Lft) (q·pages : Share) (b·pages o·pages : ℕ) (γ·pages : GName) (n·pages : ℕ) (pages : List ℕ) (κ·nodes : Lft) (q·nodes : Share) (b·nodes o·nodes : ℕ) (γ·nodes : GName) (n·nodes : ℕ) (nodes : List ℕ) (κ·register : Lft) (q·register : Share) (b·register o·register : ℕ) (γ·register : GName) (n·register : ℕ) (register : List Record) (x-v : Version) (offset : ℕ) (len : ℕ) (x-from : ℕ) (κ·buffer : Lft) (q·buffer : Share) (b·buffer o·buffer : ℕ) (γ·buffer : GName) (n·buffer : ℕ) (buffer : List ℕ) → Asked .Ghost
-  to s κ·pages q·pages b·pages o·pages γ·pages n·pages pages κ·nodes q·nodes b·nodes o·nodes γ·nodes n·nodes nodes κ·register q·register b·register o·register γ·register n·register register x-v offset len x-from κ·buffer q·buffer b·buffer o·buffer γ·buffer n·buffer buffer = (((κ·pages, (κ·nodes, (κ·register, (κ·buffer, tt)))), (q·pages, (q·nodes, (q·register, (q·buffer, tt)))), tt, (s, (ref b·pages o·pages γ·pages pages, (ref b·nodes o·nodes γ·nodes nodes, (ref b·register o·register γ·register register, (x-v, (offset, (len, (x-from, (ref b·buffer o·buffer γ·buffer buffer, tt))))))))), (Store′.mach s ∷ [], (sliceVal (b·pages, o·pages) n·pages ∷ [], (sliceVal (b·nodes, o·nodes) n·nodes ∷ [], (sliceVal (b·register, o·register) n·register ∷ [], (Version′.mach x-v ∷ [], (vint w64 offset ∷ [], (vint w64 len ∷ [], (vint w64 x-from ∷ [], (sliceVal (b·buffer, o·buffer) n·buffer ∷ [], tt)))))))))), tt)
+  abbrev pub to : (s : Store) (κ·pages : Lft) (q·pages : Share) (b·pages o·pages : ℕ) (γ·pages : GName) (n·pages : ℕ) (pages : List ℕ) (κ·nodes : Lft) (q·nodes : Share) (b·nodes o·nodes : ℕ) (γ·nodes : GName) (n·nodes : ℕ) (nodes : List ℕ) (κ·register : Lft) (q·register : Share) (b·register o·register : ℕ) (γ·register : GName) (n·register : ℕ) (register : List Record) (x-v : Version) (offset : ByteOffset) (len : ℕ) (x-from : ℕ) (κ·buffer : Lft) (q·buffer : Share) (b·buffer o·buffer : ℕ) (γ·buffer : GName) (n·buffer : ℕ) (buffer : List ℕ) → Asked .Ghost
+  to s κ·pages q·pages b·pages o·pages γ·pages n·pages pages κ·nodes q·nodes b·nodes o·nodes γ·nodes n·nodes nodes κ·register q·register b·register o·register γ·register n·register register x-v offset len x-from κ·buffer q·buffer b·buffer o·buffer γ·buffer n·buffer buffer = (((κ·pages, (κ·nodes, (κ·register, (κ·buffer, tt)))), (q·pages, (q·nodes, (q·register, (q·buffer, tt)))), tt, (s, (ref b·pages o·pages γ·pages pages, (ref b·nodes o·nodes γ·nodes nodes, (ref b·register o·register γ·register register, (x-v, (offset, (len, (x-from, (ref b·buffer o·buffer γ·buffer buffer, tt))))))))), (Store′.mach s ∷ [], (sliceVal (b·pages, o·pages) n·pages ∷ [], (sliceVal (b·nodes, o·nodes) n·nodes ∷ [], (sliceVal (b·register, o·register) n·register ∷ [], (Version′.mach x-v ∷ [], (ByteOffset′.mach offset ∷ [], (vint w64 len ∷ [], (vint w64 x-from ∷ [], (sliceVal (b·buffer, o·buffer) n·buffer ∷ [], tt)))))))))), tt)
 
 module _ {M : Type 1} {𝓤 : URA M} {H : Heap 𝓤} {A : Atoms 𝓤} {K : Type 0} {W : Given 𝓤 H A} {Γ : List (Item 𝓤)} where
   -- the call itself is made by `by-call`, from what the callee asks to what it has ensured
-  core : K → (mem : Memory → SProp 𝓤) (run : Routine → Fun 𝓤) → (s : Store) (κ·pages : Lft) (q·pages : Share) (b·pages o·pages : ℕ) (γ·pages : GName) (n·pages : ℕ) (pages : List ℕ) (κ·nodes : Lft) (q·nodes : Share) (b·nodes o·nodes : ℕ) (γ·nodes : GName) (n·nodes : ℕ) (nodes : List ℕ) (κ·register : Lft) (q·register : Share) (b·register o·register : ℕ) (γ·register : GName) (n·register : ℕ) (register : List Record) (x-v : Version) (offset : ℕ) (len : ℕ) (x-from : ℕ) (κ·buffer : Lft) (q·buffer : Share) (b·buffer o·buffer : ℕ) (γ·buffer : GName) (n·buffer : ℕ) (buffer : List ℕ) → (G : Goal 𝓤 H) (after : Val → Goal 𝓤 H) → ((v : Val) → Soaks (after v))
-      → (((v : Val) → Seq K W (raw (Asked 𝓤 H A mem run .post (to 𝓤 H A mem run s κ·pages q·pages b·pages o·pages γ·pages n·pages pages κ·nodes q·nodes b·nodes o·nodes γ·nodes n·nodes nodes κ·register q·register b·register o·register γ·register n·register register x-v offset len x-from κ·buffer q·buffer b·buffer o·buffer γ·buffer n·buffer buffer) v) ∷ ‵ (ShrAt u8 κ·pages b·pages o·pages γ·pages n·pages pages) ∷ ‵ (ShrAt u32 κ·nodes b·nodes o·nodes γ·nodes n·nodes nodes) ∷ ‵ (ShrAt Record′.row κ·register b·register o·register γ·register n·register register) ∷ Γ) (after v)) → Seq K W (raw (Asked 𝓤 H A mem run .pre (to 𝓤 H A mem run s κ·pages q·pages b·pages o·pages γ·pages n·pages pages κ·nodes q·nodes b·nodes o·nodes γ·nodes n·nodes nodes κ·register q·register b·register o·register γ·register n·register register x-v offset len x-from κ·buffer q·buffer b·buffer o·buffer γ·buffer n·buffer buffer)) ∷ ‵ (ShrAt u8 κ·pages b·pages o·pages γ·pages n·pages pages) ∷ ‵ (ShrAt u32 κ·nodes b·nodes o·nodes γ·nodes n·nodes nodes) ∷ ‵ (ShrAt Record′.row κ·register b·register o·register γ·register n·register register) ∷ Γ) G) → Is Store′.row s (Store′.vals s) → Is Version′.row x-v (Version′.vals x-v) → Is u64 offset (uint-vals w64 offset) → Is u64 len (uint-vals w64 len) → Is u64 x-from (uint-vals w64 x-from) → copy-range″.req s pages nodes register x-v offset len x-from buffer →
+  core : K → (mem : Memory → SProp 𝓤) (run : Routine → Fun 𝓤) → (s : Store) (κ·pages : Lft) (q·pages : Share) (b·pages o·pages : ℕ) (γ·pages : GName) (n·pages : ℕ) (pages : List ℕ) (κ·nodes : Lft) (q·nodes : Share) (b·nodes o·nodes : ℕ) (γ·nodes : GName) (n·nodes : ℕ) (nodes : List ℕ) (κ·register : Lft) (q·register : Share) (b·register o·register : ℕ) (γ·register : GName) (n·register : ℕ) (register : List Record) (x-v : Version) (offset : ByteOffset) (len : ℕ) (x-from : ℕ) (κ·buffer : Lft) (q·buffer : Share) (b·buffer o·buffer : ℕ) (γ·buffer : GName) (n·buffer : ℕ) (buffer : List ℕ) → (G : Goal 𝓤 H) (after : Val → Goal 𝓤 H) → ((v : Val) → Soaks (after v))
+      → (((v : Val) → Seq K W (raw (Asked 𝓤 H A mem run .post (to 𝓤 H A mem run s κ·pages q·pages b·pages o·pages γ·pages n·pages pages κ·nodes q·nodes b·nodes o·nodes γ·nodes n·nodes nodes κ·register q·register b·register o·register γ·register n·register register x-v offset len x-from κ·buffer q·buffer b·buffer o·buffer γ·buffer n·buffer buffer) v) ∷ ‵ (ShrAt u8 κ·pages b·pages o·pages γ·pages n·pages pages) ∷ ‵ (ShrAt u32 κ·nodes b·nodes o·nodes γ·nodes n·nodes nodes) ∷ ‵ (ShrAt Record′.row κ·register b·register o·register γ·register n·register register) ∷ Γ) (after v)) → Seq K W (raw (Asked 𝓤 H A mem run .pre (to 𝓤 H A mem run s κ·pages q·pages b·pages o·pages γ·pages n·pages pages κ·nodes q·nodes b·nodes o·nodes γ·nodes n·nodes nodes κ·register q·register b·register o·register γ·register n·register register x-v offset len x-from κ·buffer q·buffer b·buffer o·buffer γ·buffer n·buffer buffer)) ∷ ‵ (ShrAt u8 κ·pages b·pages o·pages γ·pages n·pages pages) ∷ ‵ (ShrAt u32 κ·nodes b·nodes o·nodes γ·nodes n·nodes nodes) ∷ ‵ (ShrAt Record′.row κ·register b·register o·register γ·register n·register register) ∷ Γ) G) → Is Store′.row s (Store′.vals s) → Is Version′.row x-v (Version′.vals x-v) → Is ByteOffset′.row offset (ByteOffset′.vals offset) → Is u64 len (uint-vals w64 len) → Is u64 x-from (uint-vals w64 x-from) → copy-range″.req s pages nodes register x-v offset len x-from buffer →
       (length (copy-range″.out-buffer s pages nodes register x-v offset len x-from buffer) ≡ length buffer → Seq K W (‵ (flft κ·pages q·pages) ∷ ‵ (ShrAt u8 κ·pages b·pages o·pages γ·pages n·pages pages) ∷ ‵ (flft κ·nodes q·nodes) ∷ ‵ (ShrAt u32 κ·nodes b·nodes o·nodes γ·nodes n·nodes nodes) ∷ ‵ (flft κ·register q·register) ∷ ‵ (ShrAt Record′.row κ·register b·register o·register γ·register n·register register) ∷ ‵ (flft κ·buffer q·buffer) ∷ ‵ (finally u8 γ·buffer (copy-range″.out-buffer s pages nodes register x-v offset len x-from buffer)) ∷ Γ) (after (vunit))) → Seq K W (‵ (flft κ·pages q·pages) ∷ ‵ (ShrAt u8 κ·pages b·pages o·pages γ·pages n·pages pages) ∷ ‵ (flft κ·nodes q·nodes) ∷ ‵ (ShrAt u32 κ·nodes b·nodes o·nodes γ·nodes n·nodes nodes) ∷ ‵ (flft κ·register q·register) ∷ ‵ (ShrAt Record′.row κ·register b·register o·register γ·register n·register register) ∷ ‵ (flft κ·buffer q·buffer) ∷ ‵ (MutAt u8 κ·buffer b·buffer o·buffer γ·buffer n·buffer buffer) ∷ Γ) G
   core t mem run s κ·pages q·pages b·pages o·pages γ·pages n·pages pages κ·nodes q·nodes b·nodes o·nodes γ·nodes n·nodes nodes κ·register q·register b·register o·register γ·register n·register register x-v offset len x-from κ·buffer q·buffer b·buffer o·buffer γ·buffer n·buffer buffer G after soaks by-call ok·s ok·x-v ok·offset ok·len ok·x-from need k =
       move t (1 ∷ []) $ keeps-shr t u8 κ·pages b·pages o·pages γ·pages n·pages pages $ move t (4 ∷ []) $ keeps-shr t u32 κ·nodes b·nodes o·nodes γ·nodes n·nodes nodes $ move t (7 ∷ []) $ keeps-shr t Record′.row κ·register b·register o·register γ·register n·register register $ move t (6 ∷ 4 ∷ 7 ∷ 2 ∷ 8 ∷ 0 ∷ 9 ∷ 10 ∷ 5 ∷ 3 ∷ 1 ∷ []) $
@@ -68,36 +70,36 @@ module _ {M : Type 1} {𝓤 : URA M} {H : Heap 𝓤} {A : Atoms 𝓤} {K : Type 
       rewrite t 7 (λ (zs : List ℕ). ‵ (finally u8 γ·buffer zs)) (e) refl $ subst (λ (u : Val). Seq K W (‵ (flft κ·pages q·pages) ∷ ‵ (ShrAt u8 κ·pages b·pages o·pages γ·pages n·pages pages) ∷ ‵ (flft κ·nodes q·nodes) ∷ ‵ (ShrAt u32 κ·nodes b·nodes o·nodes γ·nodes n·nodes nodes) ∷ ‵ (flft κ·register q·register) ∷ ‵ (ShrAt Record′.row κ·register b·register o·register γ·register n·register register) ∷ ‵ (flft κ·buffer q·buffer) ∷ ‵ (finally u8 γ·buffer (copy-range″.out-buffer s pages nodes register x-v offset len x-from buffer)) ∷ Γ) (after u)) (sym (ap only (nothing-tells r· (v ∷ []) is))) (k (subst (λ (zs : List ℕ). length zs ≡ length buffer) (e) same·buffer))))))))
     where
       goes : ent 𝓤 (⋆ 𝓤 H A (‵ (flft κ·pages q·pages) ∷ ‵ (ShrAt u8 κ·pages b·pages o·pages γ·pages n·pages pages) ∷ ‵ (flft κ·nodes q·nodes) ∷ ‵ (ShrAt u32 κ·nodes b·nodes o·nodes γ·nodes n·nodes nodes) ∷ ‵ (flft κ·register q·register) ∷ ‵ (ShrAt Record′.row κ·register b·register o·register γ·register n·register register) ∷ ‵ (flft κ·buffer q·buffer) ∷ ‵ (MutAt u8 κ·buffer b·buffer o·buffer γ·buffer n·buffer buffer) ∷ [])) (Asked 𝓤 H A mem run .pre (to 𝓤 H A mem run s κ·pages q·pages b·pages o·pages γ·pages n·pages pages κ·nodes q·nodes b·nodes o·nodes γ·nodes n·nodes nodes κ·register q·register b·register o·register γ·register n·register register x-v offset len x-from κ·buffer q·buffer b·buffer o·buffer γ·buffer n·buffer buffer))
-      goes = qed W (‵ (flft κ·pages q·pages) ∷ ‵ (ShrAt u8 κ·pages b·pages o·pages γ·pages n·pages pages) ∷ ‵ (flft κ·nodes q·nodes) ∷ ‵ (ShrAt u32 κ·nodes b·nodes o·nodes γ·nodes n·nodes nodes) ∷ ‵ (flft κ·register q·register) ∷ ‵ (ShrAt Record′.row κ·register b·register o·register γ·register n·register register) ∷ ‵ (flft κ·buffer q·buffer) ∷ ‵ (MutAt u8 κ·buffer b·buffer o·buffer γ·buffer n·buffer buffer) ∷ []) ∵ says ! need $ nothing ! $ move ! (7 ∷ 0 ∷ []) $ join ! $ move ! (5 ∷ 0 ∷ []) $ join ! $ move ! (3 ∷ 0 ∷ []) $ join ! $ move ! (1 ∷ 0 ∷ []) $ join ! $ frame ! $ nothing ! $ move ! (4 ∷ 0 ∷ []) $ fjoin ! $ owned ! u64 (Is u64) (uint-makes 𝓤 H A W w64) x-from _ ok·x-from $ fjoin ! $ owned ! u64 (Is u64) (uint-makes 𝓤 H A W w64) len _ ok·len $ fjoin ! $ owned ! u64 (Is u64) (uint-makes 𝓤 H A W w64) offset _ ok·offset $ fjoin ! $ owned ! Version′.row (Is Version′.row) (Version′.makes 𝓤 H A) x-v _ ok·x-v $ fjoin ! $ move ! (3 ∷ 0 ∷ []) $ fjoin ! $ move ! (2 ∷ 0 ∷ []) $ fjoin ! $ move ! (1 ∷ 0 ∷ []) $ fjoin ! $ owned ! Store′.row (Is Store′.row) (Store′.makes 𝓤 H A) s _ ok·s $ fjoin ! $ done !
+      goes = qed W (‵ (flft κ·pages q·pages) ∷ ‵ (ShrAt u8 κ·pages b·pages o·pages γ·pages n·pages pages) ∷ ‵ (flft κ·nodes q·nodes) ∷ ‵ (ShrAt u32 κ·nodes b·nodes o·nodes γ·nodes n·nodes nodes) ∷ ‵ (flft κ·register q·register) ∷ ‵ (ShrAt Record′.row κ·register b·register o·register γ·register n·register register) ∷ ‵ (flft κ·buffer q·buffer) ∷ ‵ (MutAt u8 κ·buffer b·buffer o·buffer γ·buffer n·buffer buffer) ∷ []) ∵ says ! need $ nothing ! $ move ! (7 ∷ 0 ∷ []) $ join ! $ move ! (5 ∷ 0 ∷ []) $ join ! $ move ! (3 ∷ 0 ∷ []) $ join ! $ move ! (1 ∷ 0 ∷ []) $ join ! $ frame ! $ nothing ! $ move ! (4 ∷ 0 ∷ []) $ fjoin ! $ owned ! u64 (Is u64) (uint-makes 𝓤 H A W w64) x-from _ ok·x-from $ fjoin ! $ owned ! u64 (Is u64) (uint-makes 𝓤 H A W w64) len _ ok·len $ fjoin ! $ owned ! ByteOffset′.row (Is ByteOffset′.row) (ByteOffset′.makes 𝓤 H A) offset _ ok·offset $ fjoin ! $ owned ! Version′.row (Is Version′.row) (Version′.makes 𝓤 H A) x-v _ ok·x-v $ fjoin ! $ move ! (3 ∷ 0 ∷ []) $ fjoin ! $ move ! (2 ∷ 0 ∷ []) $ fjoin ! $ move ! (1 ∷ 0 ∷ []) $ fjoin ! $ owned ! Store′.row (Is Store′.row) (Store′.makes 𝓤 H A) s _ ok·s $ fjoin ! $ done !
 
 module _ {M : Type 1} {𝓤 : URA M} {H : Heap 𝓤} {A : Atoms 𝓤} {K : Type 0} {W : Given 𝓤 H A} {Γ : List (Item 𝓤)} {E : Env 𝓤 H} {C : Calls 𝓤 H} {Λ : Loops 𝓤 H} {Q : Post 𝓤 H} {xs : List Operand} {d : Place} {rest : Body} where
   -- by one instance of the callee's contract, which is what a function that calls itself has
-  pub calls-by : K → (mem : Memory → SProp 𝓤) (run : Routine → Fun 𝓤) → FmC 𝓤 H (W .laws) C → (s : Store) (κ·pages : Lft) (q·pages : Share) (b·pages o·pages : ℕ) (γ·pages : GName) (n·pages : ℕ) (pages : List ℕ) (κ·nodes : Lft) (q·nodes : Share) (b·nodes o·nodes : ℕ) (γ·nodes : GName) (n·nodes : ℕ) (nodes : List ℕ) (κ·register : Lft) (q·register : Share) (b·register o·register : ℕ) (γ·register : GName) (n·register : ℕ) (register : List Record) (x-v : Version) (offset : ℕ) (len : ℕ) (x-from : ℕ) (κ·buffer : Lft) (q·buffer : Share) (b·buffer o·buffer : ℕ) (γ·buffer : GName) (n·buffer : ℕ) (buffer : List ℕ) → ent 𝓤 (Asked 𝓤 H A mem run .pre (to 𝓤 H A mem run s κ·pages q·pages b·pages o·pages γ·pages n·pages pages κ·nodes q·nodes b·nodes o·nodes γ·nodes n·nodes nodes κ·register q·register b·register o·register γ·register n·register register x-v offset len x-from κ·buffer q·buffer b·buffer o·buffer γ·buffer n·buffer buffer)) (C #callee (Asked 𝓤 H A mem run .args (to 𝓤 H A mem run s κ·pages q·pages b·pages o·pages γ·pages n·pages pages κ·nodes q·nodes b·nodes o·nodes γ·nodes n·nodes nodes κ·register q·register b·register o·register γ·register n·register register x-v offset len x-from κ·buffer q·buffer b·buffer o·buffer γ·buffer n·buffer buffer)) (Asked 𝓤 H A mem run .post (to 𝓤 H A mem run s κ·pages q·pages b·pages o·pages γ·pages n·pages pages κ·nodes q·nodes b·nodes o·nodes γ·nodes n·nodes nodes κ·register q·register b·register o·register γ·register n·register register x-v offset len x-from κ·buffer q·buffer b·buffer o·buffer γ·buffer n·buffer buffer))) → Is Store′.row s (Store′.vals s) → Is Version′.row x-v (Version′.vals x-v) → Is u64 offset (uint-vals w64 offset) → Is u64 len (uint-vals w64 len) → Is u64 x-from (uint-vals w64 x-from) → copy-range″.req s pages nodes register x-v offset len x-from buffer →
-      Opds K W (raw (Asked 𝓤 H A mem run .pre (to 𝓤 H A mem run s κ·pages q·pages b·pages o·pages γ·pages n·pages pages κ·nodes q·nodes b·nodes o·nodes γ·nodes n·nodes nodes κ·register q·register b·register o·register γ·register n·register register x-v offset len x-from κ·buffer q·buffer b·buffer o·buffer γ·buffer n·buffer buffer)) ∷ ‵ (ShrAt u8 κ·pages b·pages o·pages γ·pages n·pages pages) ∷ ‵ (ShrAt u32 κ·nodes b·nodes o·nodes γ·nodes n·nodes nodes) ∷ ‵ (ShrAt Record′.row κ·register b·register o·register γ·register n·register register) ∷ Γ) E xs (Store′.mach s ∷ sliceVal (b·pages, o·pages) n·pages ∷ sliceVal (b·nodes, o·nodes) n·nodes ∷ sliceVal (b·register, o·register) n·register ∷ Version′.mach x-v ∷ vint w64 offset ∷ vint w64 len ∷ vint w64 x-from ∷ sliceVal (b·buffer, o·buffer) n·buffer ∷ [])
+  pub calls-by : K → (mem : Memory → SProp 𝓤) (run : Routine → Fun 𝓤) → FmC 𝓤 H (W .laws) C → (s : Store) (κ·pages : Lft) (q·pages : Share) (b·pages o·pages : ℕ) (γ·pages : GName) (n·pages : ℕ) (pages : List ℕ) (κ·nodes : Lft) (q·nodes : Share) (b·nodes o·nodes : ℕ) (γ·nodes : GName) (n·nodes : ℕ) (nodes : List ℕ) (κ·register : Lft) (q·register : Share) (b·register o·register : ℕ) (γ·register : GName) (n·register : ℕ) (register : List Record) (x-v : Version) (offset : ByteOffset) (len : ℕ) (x-from : ℕ) (κ·buffer : Lft) (q·buffer : Share) (b·buffer o·buffer : ℕ) (γ·buffer : GName) (n·buffer : ℕ) (buffer : List ℕ) → ent 𝓤 (Asked 𝓤 H A mem run .pre (to 𝓤 H A mem run s κ·pages q·pages b·pages o·pages γ·pages n·pages pages κ·nodes q·nodes b·nodes o·nodes γ·nodes n·nodes nodes κ·register q·register b·register o·register γ·register n·register register x-v offset len x-from κ·buffer q·buffer b·buffer o·buffer γ·buffer n·buffer buffer)) (C #callee (Asked 𝓤 H A mem run .args (to 𝓤 H A mem run s κ·pages q·pages b·pages o·pages γ·pages n·pages pages κ·nodes q·nodes b·nodes o·nodes γ·nodes n·nodes nodes κ·register q·register b·register o·register γ·register n·register register x-v offset len x-from κ·buffer q·buffer b·buffer o·buffer γ·buffer n·buffer buffer)) (Asked 𝓤 H A mem run .post (to 𝓤 H A mem run s κ·pages q·pages b·pages o·pages γ·pages n·pages pages κ·nodes q·nodes b·nodes o·nodes γ·nodes n·nodes nodes κ·register q·register b·register o·register γ·register n·register register x-v offset len x-from κ·buffer q·buffer b·buffer o·buffer γ·buffer n·buffer buffer))) → Is Store′.row s (Store′.vals s) → Is Version′.row x-v (Version′.vals x-v) → Is ByteOffset′.row offset (ByteOffset′.vals offset) → Is u64 len (uint-vals w64 len) → Is u64 x-from (uint-vals w64 x-from) → copy-range″.req s pages nodes register x-v offset len x-from buffer →
+      Opds K W (raw (Asked 𝓤 H A mem run .pre (to 𝓤 H A mem run s κ·pages q·pages b·pages o·pages γ·pages n·pages pages κ·nodes q·nodes b·nodes o·nodes γ·nodes n·nodes nodes κ·register q·register b·register o·register γ·register n·register register x-v offset len x-from κ·buffer q·buffer b·buffer o·buffer γ·buffer n·buffer buffer)) ∷ ‵ (ShrAt u8 κ·pages b·pages o·pages γ·pages n·pages pages) ∷ ‵ (ShrAt u32 κ·nodes b·nodes o·nodes γ·nodes n·nodes nodes) ∷ ‵ (ShrAt Record′.row κ·register b·register o·register γ·register n·register register) ∷ Γ) E xs (Store′.mach s ∷ sliceVal (b·pages, o·pages) n·pages ∷ sliceVal (b·nodes, o·nodes) n·nodes ∷ sliceVal (b·register, o·register) n·register ∷ Version′.mach x-v ∷ ByteOffset′.mach offset ∷ vint w64 len ∷ vint w64 x-from ∷ sliceVal (b·buffer, o·buffer) n·buffer ∷ [])
       → (length (copy-range″.out-buffer s pages nodes register x-v offset len x-from buffer) ≡ length buffer → Seq K W (‵ (flft κ·pages q·pages) ∷ ‵ (ShrAt u8 κ·pages b·pages o·pages γ·pages n·pages pages) ∷ ‵ (flft κ·nodes q·nodes) ∷ ‵ (ShrAt u32 κ·nodes b·nodes o·nodes γ·nodes n·nodes nodes) ∷ ‵ (flft κ·register q·register) ∷ ‵ (ShrAt Record′.row κ·register b·register o·register γ·register n·register register) ∷ ‵ (flft κ·buffer q·buffer) ∷ ‵ (finally u8 γ·buffer (copy-range″.out-buffer s pages nodes register x-v offset len x-from buffer)) ∷ Γ) (lands C Λ E d (vunit) rest Q))
       → Seq K W (‵ (flft κ·pages q·pages) ∷ ‵ (ShrAt u8 κ·pages b·pages o·pages γ·pages n·pages pages) ∷ ‵ (flft κ·nodes q·nodes) ∷ ‵ (ShrAt u32 κ·nodes b·nodes o·nodes γ·nodes n·nodes nodes) ∷ ‵ (flft κ·register q·register) ∷ ‵ (ShrAt Record′.row κ·register b·register o·register γ·register n·register register) ∷ ‵ (flft κ·buffer q·buffer) ∷ ‵ (MutAt u8 κ·buffer b·buffer o·buffer γ·buffer n·buffer buffer) ∷ Γ) (runs C Λ E (seq (call #callee xs d) rest) Q)
   calls-by t mem run fm s κ·pages q·pages b·pages o·pages γ·pages n·pages pages κ·nodes q·nodes b·nodes o·nodes γ·nodes n·nodes nodes κ·register q·register b·register o·register γ·register n·register register x-v offset len x-from κ·buffer q·buffer b·buffer o·buffer γ·buffer n·buffer buffer known ok·s ok·x-v ok·offset ok·len ok·x-from need os k =
       core t mem run s κ·pages q·pages b·pages o·pages γ·pages n·pages pages κ·nodes q·nodes b·nodes o·nodes γ·nodes n·nodes nodes κ·register q·register b·register o·register γ·register n·register register x-v offset len x-from κ·buffer q·buffer b·buffer o·buffer γ·buffer n·buffer buffer (runs C Λ E (seq (call #callee xs d) rest) Q) (λ v. lands C Λ E d v rest Q) (λ v. tt)
       (λ h. calls-from t fm (raw (Asked 𝓤 H A mem run .pre (to 𝓤 H A mem run s κ·pages q·pages b·pages o·pages γ·pages n·pages pages κ·nodes q·nodes b·nodes o·nodes γ·nodes n·nodes nodes κ·register q·register b·register o·register γ·register n·register register x-v offset len x-from κ·buffer q·buffer b·buffer o·buffer γ·buffer n·buffer buffer))) (Asked 𝓤 H A mem run .args (to 𝓤 H A mem run s κ·pages q·pages b·pages o·pages γ·pages n·pages pages κ·nodes q·nodes b·nodes o·nodes γ·nodes n·nodes nodes κ·register q·register b·register o·register γ·register n·register register x-v offset len x-from κ·buffer q·buffer b·buffer o·buffer γ·buffer n·buffer buffer)) (Asked 𝓤 H A mem run .post (to 𝓤 H A mem run s κ·pages q·pages b·pages o·pages γ·pages n·pages pages κ·nodes q·nodes b·nodes o·nodes γ·nodes n·nodes nodes κ·register q·register b·register o·register γ·register n·register register x-v offset len x-from κ·buffer q·buffer b·buffer o·buffer γ·buffer n·buffer buffer)) known os h) ok·s ok·x-v ok·offset ok·len ok·x-from need k
 
-  pub calls : K → (mem : Memory → SProp 𝓤) (run : Routine → Fun 𝓤) → FmC 𝓤 H (W .laws) C → Triple 𝓤 (C #callee) (Asked 𝓤 H A mem run) → (s : Store) (κ·pages : Lft) (q·pages : Share) (b·pages o·pages : ℕ) (γ·pages : GName) (n·pages : ℕ) (pages : List ℕ) (κ·nodes : Lft) (q·nodes : Share) (b·nodes o·nodes : ℕ) (γ·nodes : GName) (n·nodes : ℕ) (nodes : List ℕ) (κ·register : Lft) (q·register : Share) (b·register o·register : ℕ) (γ·register : GName) (n·register : ℕ) (register : List Record) (x-v : Version) (offset : ℕ) (len : ℕ) (x-from : ℕ) (κ·buffer : Lft) (q·buffer : Share) (b·buffer o·buffer : ℕ) (γ·buffer : GName) (n·buffer : ℕ) (buffer : List ℕ) → Is Store′.row s (Store′.vals s) → Is Version′.row x-v (Version′.vals x-v) → Is u64 offset (uint-vals w64 offset) → Is u64 len (uint-vals w64 len) → Is u64 x-from (uint-vals w64 x-from) → copy-range″.req s pages nodes register x-v offset len x-from buffer →
-      Opds K W (raw (Asked 𝓤 H A mem run .pre (to 𝓤 H A mem run s κ·pages q·pages b·pages o·pages γ·pages n·pages pages κ·nodes q·nodes b·nodes o·nodes γ·nodes n·nodes nodes κ·register q·register b·register o·register γ·register n·register register x-v offset len x-from κ·buffer q·buffer b·buffer o·buffer γ·buffer n·buffer buffer)) ∷ ‵ (ShrAt u8 κ·pages b·pages o·pages γ·pages n·pages pages) ∷ ‵ (ShrAt u32 κ·nodes b·nodes o·nodes γ·nodes n·nodes nodes) ∷ ‵ (ShrAt Record′.row κ·register b·register o·register γ·register n·register register) ∷ Γ) E xs (Store′.mach s ∷ sliceVal (b·pages, o·pages) n·pages ∷ sliceVal (b·nodes, o·nodes) n·nodes ∷ sliceVal (b·register, o·register) n·register ∷ Version′.mach x-v ∷ vint w64 offset ∷ vint w64 len ∷ vint w64 x-from ∷ sliceVal (b·buffer, o·buffer) n·buffer ∷ [])
+  pub calls : K → (mem : Memory → SProp 𝓤) (run : Routine → Fun 𝓤) → FmC 𝓤 H (W .laws) C → Triple 𝓤 (C #callee) (Asked 𝓤 H A mem run) → (s : Store) (κ·pages : Lft) (q·pages : Share) (b·pages o·pages : ℕ) (γ·pages : GName) (n·pages : ℕ) (pages : List ℕ) (κ·nodes : Lft) (q·nodes : Share) (b·nodes o·nodes : ℕ) (γ·nodes : GName) (n·nodes : ℕ) (nodes : List ℕ) (κ·register : Lft) (q·register : Share) (b·register o·register : ℕ) (γ·register : GName) (n·register : ℕ) (register : List Record) (x-v : Version) (offset : ByteOffset) (len : ℕ) (x-from : ℕ) (κ·buffer : Lft) (q·buffer : Share) (b·buffer o·buffer : ℕ) (γ·buffer : GName) (n·buffer : ℕ) (buffer : List ℕ) → Is Store′.row s (Store′.vals s) → Is Version′.row x-v (Version′.vals x-v) → Is ByteOffset′.row offset (ByteOffset′.vals offset) → Is u64 len (uint-vals w64 len) → Is u64 x-from (uint-vals w64 x-from) → copy-range″.req s pages nodes register x-v offset len x-from buffer →
+      Opds K W (raw (Asked 𝓤 H A mem run .pre (to 𝓤 H A mem run s κ·pages q·pages b·pages o·pages γ·pages n·pages pages κ·nodes q·nodes b·nodes o·nodes γ·nodes n·nodes nodes κ·register q·register b·register o·register γ·register n·register register x-v offset len x-from κ·buffer q·buffer b·buffer o·buffer γ·buffer n·buffer buffer)) ∷ ‵ (ShrAt u8 κ·pages b·pages o·pages γ·pages n·pages pages) ∷ ‵ (ShrAt u32 κ·nodes b·nodes o·nodes γ·nodes n·nodes nodes) ∷ ‵ (ShrAt Record′.row κ·register b·register o·register γ·register n·register register) ∷ Γ) E xs (Store′.mach s ∷ sliceVal (b·pages, o·pages) n·pages ∷ sliceVal (b·nodes, o·nodes) n·nodes ∷ sliceVal (b·register, o·register) n·register ∷ Version′.mach x-v ∷ ByteOffset′.mach offset ∷ vint w64 len ∷ vint w64 x-from ∷ sliceVal (b·buffer, o·buffer) n·buffer ∷ [])
       → (length (copy-range″.out-buffer s pages nodes register x-v offset len x-from buffer) ≡ length buffer → Seq K W (‵ (flft κ·pages q·pages) ∷ ‵ (ShrAt u8 κ·pages b·pages o·pages γ·pages n·pages pages) ∷ ‵ (flft κ·nodes q·nodes) ∷ ‵ (ShrAt u32 κ·nodes b·nodes o·nodes γ·nodes n·nodes nodes) ∷ ‵ (flft κ·register q·register) ∷ ‵ (ShrAt Record′.row κ·register b·register o·register γ·register n·register register) ∷ ‵ (flft κ·buffer q·buffer) ∷ ‵ (finally u8 γ·buffer (copy-range″.out-buffer s pages nodes register x-v offset len x-from buffer)) ∷ Γ) (lands C Λ E d (vunit) rest Q))
       → Seq K W (‵ (flft κ·pages q·pages) ∷ ‵ (ShrAt u8 κ·pages b·pages o·pages γ·pages n·pages pages) ∷ ‵ (flft κ·nodes q·nodes) ∷ ‵ (ShrAt u32 κ·nodes b·nodes o·nodes γ·nodes n·nodes nodes) ∷ ‵ (flft κ·register q·register) ∷ ‵ (ShrAt Record′.row κ·register b·register o·register γ·register n·register register) ∷ ‵ (flft κ·buffer q·buffer) ∷ ‵ (MutAt u8 κ·buffer b·buffer o·buffer γ·buffer n·buffer buffer) ∷ Γ) (runs C Λ E (seq (call #callee xs d) rest) Q)
   calls t mem run fm known s κ·pages q·pages b·pages o·pages γ·pages n·pages pages κ·nodes q·nodes b·nodes o·nodes γ·nodes n·nodes nodes κ·register q·register b·register o·register γ·register n·register register x-v offset len x-from κ·buffer q·buffer b·buffer o·buffer γ·buffer n·buffer buffer = calls-by t mem run fm s κ·pages q·pages b·pages o·pages γ·pages n·pages pages κ·nodes q·nodes b·nodes o·nodes γ·nodes n·nodes nodes κ·register q·register b·register o·register γ·register n·register register x-v offset len x-from κ·buffer q·buffer b·buffer o·buffer γ·buffer n·buffer buffer (known (to 𝓤 H A mem run s κ·pages q·pages b·pages o·pages γ·pages n·pages pages κ·nodes q·nodes b·nodes o·nodes γ·nodes n·nodes nodes κ·register q·register b·register o·register γ·register n·register register x-v offset len x-from κ·buffer q·buffer b·buffer o·buffer γ·buffer n·buffer buffer))
 
 module _ {M : Type 1} {𝓤 : URA M} {H : Heap 𝓤} {A : Atoms 𝓤} {K : Type 0} {W : Given 𝓤 H A} {Γ : List (Item 𝓤)} {E : Env 𝓤 H} {C : Calls 𝓤 H} {Λ : Loops 𝓤 H} {Q : Post 𝓤 H} {xs : List Operand} {d : Place} where
   -- by one instance of the callee's contract, which is what a function that calls itself has. The call ends a part of the code
-  pub calls-last-by : K → (mem : Memory → SProp 𝓤) (run : Routine → Fun 𝓤) → FmC 𝓤 H (W .laws) C → (s : Store) (κ·pages : Lft) (q·pages : Share) (b·pages o·pages : ℕ) (γ·pages : GName) (n·pages : ℕ) (pages : List ℕ) (κ·nodes : Lft) (q·nodes : Share) (b·nodes o·nodes : ℕ) (γ·nodes : GName) (n·nodes : ℕ) (nodes : List ℕ) (κ·register : Lft) (q·register : Share) (b·register o·register : ℕ) (γ·register : GName) (n·register : ℕ) (register : List Record) (x-v : Version) (offset : ℕ) (len : ℕ) (x-from : ℕ) (κ·buffer : Lft) (q·buffer : Share) (b·buffer o·buffer : ℕ) (γ·buffer : GName) (n·buffer : ℕ) (buffer : List ℕ) → ent 𝓤 (Asked 𝓤 H A mem run .pre (to 𝓤 H A mem run s κ·pages q·pages b·pages o·pages γ·pages n·pages pages κ·nodes q·nodes b·nodes o·nodes γ·nodes n·nodes nodes κ·register q·register b·register o·register γ·register n·register register x-v offset len x-from κ·buffer q·buffer b·buffer o·buffer γ·buffer n·buffer buffer)) (C #callee (Asked 𝓤 H A mem run .args (to 𝓤 H A mem run s κ·pages q·pages b·pages o·pages γ·pages n·pages pages κ·nodes q·nodes b·nodes o·nodes γ·nodes n·nodes nodes κ·register q·register b·register o·register γ·register n·register register x-v offset len x-from κ·buffer q·buffer b·buffer o·buffer γ·buffer n·buffer buffer)) (Asked 𝓤 H A mem run .post (to 𝓤 H A mem run s κ·pages q·pages b·pages o·pages γ·pages n·pages pages κ·nodes q·nodes b·nodes o·nodes γ·nodes n·nodes nodes κ·register q·register b·register o·register γ·register n·register register x-v offset len x-from κ·buffer q·buffer b·buffer o·buffer γ·buffer n·buffer buffer))) → Is Store′.row s (Store′.vals s) → Is Version′.row x-v (Version′.vals x-v) → Is u64 offset (uint-vals w64 offset) → Is u64 len (uint-vals w64 len) → Is u64 x-from (uint-vals w64 x-from) → copy-range″.req s pages nodes register x-v offset len x-from buffer →
-      Opds K W (raw (Asked 𝓤 H A mem run .pre (to 𝓤 H A mem run s κ·pages q·pages b·pages o·pages γ·pages n·pages pages κ·nodes q·nodes b·nodes o·nodes γ·nodes n·nodes nodes κ·register q·register b·register o·register γ·register n·register register x-v offset len x-from κ·buffer q·buffer b·buffer o·buffer γ·buffer n·buffer buffer)) ∷ ‵ (ShrAt u8 κ·pages b·pages o·pages γ·pages n·pages pages) ∷ ‵ (ShrAt u32 κ·nodes b·nodes o·nodes γ·nodes n·nodes nodes) ∷ ‵ (ShrAt Record′.row κ·register b·register o·register γ·register n·register register) ∷ Γ) E xs (Store′.mach s ∷ sliceVal (b·pages, o·pages) n·pages ∷ sliceVal (b·nodes, o·nodes) n·nodes ∷ sliceVal (b·register, o·register) n·register ∷ Version′.mach x-v ∷ vint w64 offset ∷ vint w64 len ∷ vint w64 x-from ∷ sliceVal (b·buffer, o·buffer) n·buffer ∷ [])
+  pub calls-last-by : K → (mem : Memory → SProp 𝓤) (run : Routine → Fun 𝓤) → FmC 𝓤 H (W .laws) C → (s : Store) (κ·pages : Lft) (q·pages : Share) (b·pages o·pages : ℕ) (γ·pages : GName) (n·pages : ℕ) (pages : List ℕ) (κ·nodes : Lft) (q·nodes : Share) (b·nodes o·nodes : ℕ) (γ·nodes : GName) (n·nodes : ℕ) (nodes : List ℕ) (κ·register : Lft) (q·register : Share) (b·register o·register : ℕ) (γ·register : GName) (n·register : ℕ) (register : List Record) (x-v : Version) (offset : ByteOffset) (len : ℕ) (x-from : ℕ) (κ·buffer : Lft) (q·buffer : Share) (b·buffer o·buffer : ℕ) (γ·buffer : GName) (n·buffer : ℕ) (buffer : List ℕ) → ent 𝓤 (Asked 𝓤 H A mem run .pre (to 𝓤 H A mem run s κ·pages q·pages b·pages o·pages γ·pages n·pages pages κ·nodes q·nodes b·nodes o·nodes γ·nodes n·nodes nodes κ·register q·register b·register o·register γ·register n·register register x-v offset len x-from κ·buffer q·buffer b·buffer o·buffer γ·buffer n·buffer buffer)) (C #callee (Asked 𝓤 H A mem run .args (to 𝓤 H A mem run s κ·pages q·pages b·pages o·pages γ·pages n·pages pages κ·nodes q·nodes b·nodes o·nodes γ·nodes n·nodes nodes κ·register q·register b·register o·register γ·register n·register register x-v offset len x-from κ·buffer q·buffer b·buffer o·buffer γ·buffer n·buffer buffer)) (Asked 𝓤 H A mem run .post (to 𝓤 H A mem run s κ·pages q·pages b·pages o·pages γ·pages n·pages pages κ·nodes q·nodes b·nodes o·nodes γ·nodes n·nodes nodes κ·register q·register b·register o·register γ·register n·register register x-v offset len x-from κ·buffer q·buffer b·buffer o·buffer γ·buffer n·buffer buffer))) → Is Store′.row s (Store′.vals s) → Is Version′.row x-v (Version′.vals x-v) → Is ByteOffset′.row offset (ByteOffset′.vals offset) → Is u64 len (uint-vals w64 len) → Is u64 x-from (uint-vals w64 x-from) → copy-range″.req s pages nodes register x-v offset len x-from buffer →
+      Opds K W (raw (Asked 𝓤 H A mem run .pre (to 𝓤 H A mem run s κ·pages q·pages b·pages o·pages γ·pages n·pages pages κ·nodes q·nodes b·nodes o·nodes γ·nodes n·nodes nodes κ·register q·register b·register o·register γ·register n·register register x-v offset len x-from κ·buffer q·buffer b·buffer o·buffer γ·buffer n·buffer buffer)) ∷ ‵ (ShrAt u8 κ·pages b·pages o·pages γ·pages n·pages pages) ∷ ‵ (ShrAt u32 κ·nodes b·nodes o·nodes γ·nodes n·nodes nodes) ∷ ‵ (ShrAt Record′.row κ·register b·register o·register γ·register n·register register) ∷ Γ) E xs (Store′.mach s ∷ sliceVal (b·pages, o·pages) n·pages ∷ sliceVal (b·nodes, o·nodes) n·nodes ∷ sliceVal (b·register, o·register) n·register ∷ Version′.mach x-v ∷ ByteOffset′.mach offset ∷ vint w64 len ∷ vint w64 x-from ∷ sliceVal (b·buffer, o·buffer) n·buffer ∷ [])
       → (length (copy-range″.out-buffer s pages nodes register x-v offset len x-from buffer) ≡ length buffer → Seq K W (‵ (flft κ·pages q·pages) ∷ ‵ (ShrAt u8 κ·pages b·pages o·pages γ·pages n·pages pages) ∷ ‵ (flft κ·nodes q·nodes) ∷ ‵ (ShrAt u32 κ·nodes b·nodes o·nodes γ·nodes n·nodes nodes) ∷ ‵ (flft κ·register q·register) ∷ ‵ (ShrAt Record′.row κ·register b·register o·register γ·register n·register register) ∷ ‵ (flft κ·buffer q·buffer) ∷ ‵ (finally u8 γ·buffer (copy-range″.out-buffer s pages nodes register x-v offset len x-from buffer)) ∷ Γ) (settles E d (vunit) Q))
       → Seq K W (‵ (flft κ·pages q·pages) ∷ ‵ (ShrAt u8 κ·pages b·pages o·pages γ·pages n·pages pages) ∷ ‵ (flft κ·nodes q·nodes) ∷ ‵ (ShrAt u32 κ·nodes b·nodes o·nodes γ·nodes n·nodes nodes) ∷ ‵ (flft κ·register q·register) ∷ ‵ (ShrAt Record′.row κ·register b·register o·register γ·register n·register register) ∷ ‵ (flft κ·buffer q·buffer) ∷ ‵ (MutAt u8 κ·buffer b·buffer o·buffer γ·buffer n·buffer buffer) ∷ Γ) (runs C Λ E (call #callee xs d) Q)
   calls-last-by t mem run fm s κ·pages q·pages b·pages o·pages γ·pages n·pages pages κ·nodes q·nodes b·nodes o·nodes γ·nodes n·nodes nodes κ·register q·register b·register o·register γ·register n·register register x-v offset len x-from κ·buffer q·buffer b·buffer o·buffer γ·buffer n·buffer buffer known ok·s ok·x-v ok·offset ok·len ok·x-from need os k =
       core t mem run s κ·pages q·pages b·pages o·pages γ·pages n·pages pages κ·nodes q·nodes b·nodes o·nodes γ·nodes n·nodes nodes κ·register q·register b·register o·register γ·register n·register register x-v offset len x-from κ·buffer q·buffer b·buffer o·buffer γ·buffer n·buffer buffer (runs C Λ E (call #callee xs d) Q) (λ v. settles E d v Q) (λ v. tt)
       (λ h. calls-from-last t fm (raw (Asked 𝓤 H A mem run .pre (to 𝓤 H A mem run s κ·pages q·pages b·pages o·pages γ·pages n·pages pages κ·nodes q·nodes b·nodes o·nodes γ·nodes n·nodes nodes κ·register q·register b·register o·register γ·register n·register register x-v offset len x-from κ·buffer q·buffer b·buffer o·buffer γ·buffer n·buffer buffer))) (Asked 𝓤 H A mem run .args (to 𝓤 H A mem run s κ·pages q·pages b·pages o·pages γ·pages n·pages pages κ·nodes q·nodes b·nodes o·nodes γ·nodes n·nodes nodes κ·register q·register b·register o·register γ·register n·register register x-v offset len x-from κ·buffer q·buffer b·buffer o·buffer γ·buffer n·buffer buffer)) (Asked 𝓤 H A mem run .post (to 𝓤 H A mem run s κ·pages q·pages b·pages o·pages γ·pages n·pages pages κ·nodes q·nodes b·nodes o·nodes γ·nodes n·nodes nodes κ·register q·register b·register o·register γ·register n·register register x-v offset len x-from κ·buffer q·buffer b·buffer o·buffer γ·buffer n·buffer buffer)) known os h) ok·s ok·x-v ok·offset ok·len ok·x-from need k
 
-  pub calls-last : K → (mem : Memory → SProp 𝓤) (run : Routine → Fun 𝓤) → FmC 𝓤 H (W .laws) C → Triple 𝓤 (C #callee) (Asked 𝓤 H A mem run) → (s : Store) (κ·pages : Lft) (q·pages : Share) (b·pages o·pages : ℕ) (γ·pages : GName) (n·pages : ℕ) (pages : List ℕ) (κ·nodes : Lft) (q·nodes : Share) (b·nodes o·nodes : ℕ) (γ·nodes : GName) (n·nodes : ℕ) (nodes : List ℕ) (κ·register : Lft) (q·register : Share) (b·register o·register : ℕ) (γ·register : GName) (n·register : ℕ) (register : List Record) (x-v : Version) (offset : ℕ) (len : ℕ) (x-from : ℕ) (κ·buffer : Lft) (q·buffer : Share) (b·buffer o·buffer : ℕ) (γ·buffer : GName) (n·buffer : ℕ) (buffer : List ℕ) → Is Store′.row s (Store′.vals s) → Is Version′.row x-v (Version′.vals x-v) → Is u64 offset (uint-vals w64 offset) → Is u64 len (uint-vals w64 len) → Is u64 x-from (uint-vals w64 x-from) → copy-range″.req s pages nodes register x-v offset len x-from buffer →
-      Opds K W (raw (Asked 𝓤 H A mem run .pre (to 𝓤 H A mem run s κ·pages q·pages b·pages o·pages γ·pages n·pages pages κ·nodes q·nodes b·nodes o·nodes γ·nodes n·nodes nodes κ·register q·register b·register o·register γ·register n·register register x-v offset len x-from κ·buffer q·buffer b·buffer o·buffer γ·buffer n·buffer buffer)) ∷ ‵ (ShrAt u8 κ·pages b·pages o·pages γ·pages n·pages pages) ∷ ‵ (ShrAt u32 κ·nodes b·nodes o·nodes γ·nodes n·nodes nodes) ∷ ‵ (ShrAt Record′.row κ·register b·register o·register γ·register n·register register) ∷ Γ) E xs (Store′.mach s ∷ sliceVal (b·pages, o·pages) n·pages ∷ sliceVal (b·nodes, o·nodes) n·nodes ∷ sliceVal (b·register, o·register) n·register ∷ Version′.mach x-v ∷ vint w64 offset ∷ vint w64 len ∷ vint w64 x-from ∷ sliceVal (b·buffer, o·buffer) n·buffer ∷ [])
+  pub calls-last : K → (mem : Memory → SProp 𝓤) (run : Routine → Fun 𝓤) → FmC 𝓤 H (W .laws) C → Triple 𝓤 (C #callee) (Asked 𝓤 H A mem run) → (s : Store) (κ·pages : Lft) (q·pages : Share) (b·pages o·pages : ℕ) (γ·pages : GName) (n·pages : ℕ) (pages : List ℕ) (κ·nodes : Lft) (q·nodes : Share) (b·nodes o·nodes : ℕ) (γ·nodes : GName) (n·nodes : ℕ) (nodes : List ℕ) (κ·register : Lft) (q·register : Share) (b·register o·register : ℕ) (γ·register : GName) (n·register : ℕ) (register : List Record) (x-v : Version) (offset : ByteOffset) (len : ℕ) (x-from : ℕ) (κ·buffer : Lft) (q·buffer : Share) (b·buffer o·buffer : ℕ) (γ·buffer : GName) (n·buffer : ℕ) (buffer : List ℕ) → Is Store′.row s (Store′.vals s) → Is Version′.row x-v (Version′.vals x-v) → Is ByteOffset′.row offset (ByteOffset′.vals offset) → Is u64 len (uint-vals w64 len) → Is u64 x-from (uint-vals w64 x-from) → copy-range″.req s pages nodes register x-v offset len x-from buffer →
+      Opds K W (raw (Asked 𝓤 H A mem run .pre (to 𝓤 H A mem run s κ·pages q·pages b·pages o·pages γ·pages n·pages pages κ·nodes q·nodes b·nodes o·nodes γ·nodes n·nodes nodes κ·register q·register b·register o·register γ·register n·register register x-v offset len x-from κ·buffer q·buffer b·buffer o·buffer γ·buffer n·buffer buffer)) ∷ ‵ (ShrAt u8 κ·pages b·pages o·pages γ·pages n·pages pages) ∷ ‵ (ShrAt u32 κ·nodes b·nodes o·nodes γ·nodes n·nodes nodes) ∷ ‵ (ShrAt Record′.row κ·register b·register o·register γ·register n·register register) ∷ Γ) E xs (Store′.mach s ∷ sliceVal (b·pages, o·pages) n·pages ∷ sliceVal (b·nodes, o·nodes) n·nodes ∷ sliceVal (b·register, o·register) n·register ∷ Version′.mach x-v ∷ ByteOffset′.mach offset ∷ vint w64 len ∷ vint w64 x-from ∷ sliceVal (b·buffer, o·buffer) n·buffer ∷ [])
       → (length (copy-range″.out-buffer s pages nodes register x-v offset len x-from buffer) ≡ length buffer → Seq K W (‵ (flft κ·pages q·pages) ∷ ‵ (ShrAt u8 κ·pages b·pages o·pages γ·pages n·pages pages) ∷ ‵ (flft κ·nodes q·nodes) ∷ ‵ (ShrAt u32 κ·nodes b·nodes o·nodes γ·nodes n·nodes nodes) ∷ ‵ (flft κ·register q·register) ∷ ‵ (ShrAt Record′.row κ·register b·register o·register γ·register n·register register) ∷ ‵ (flft κ·buffer q·buffer) ∷ ‵ (finally u8 γ·buffer (copy-range″.out-buffer s pages nodes register x-v offset len x-from buffer)) ∷ Γ) (settles E d (vunit) Q))
       → Seq K W (‵ (flft κ·pages q·pages) ∷ ‵ (ShrAt u8 κ·pages b·pages o·pages γ·pages n·pages pages) ∷ ‵ (flft κ·nodes q·nodes) ∷ ‵ (ShrAt u32 κ·nodes b·nodes o·nodes γ·nodes n·nodes nodes) ∷ ‵ (flft κ·register q·register) ∷ ‵ (ShrAt Record′.row κ·register b·register o·register γ·register n·register register) ∷ ‵ (flft κ·buffer q·buffer) ∷ ‵ (MutAt u8 κ·buffer b·buffer o·buffer γ·buffer n·buffer buffer) ∷ Γ) (runs C Λ E (call #callee xs d) Q)
   calls-last t mem run fm known s κ·pages q·pages b·pages o·pages γ·pages n·pages pages κ·nodes q·nodes b·nodes o·nodes γ·nodes n·nodes nodes κ·register q·register b·register o·register γ·register n·register register x-v offset len x-from κ·buffer q·buffer b·buffer o·buffer γ·buffer n·buffer buffer = calls-last-by t mem run fm s κ·pages q·pages b·pages o·pages γ·pages n·pages pages κ·nodes q·nodes b·nodes o·nodes γ·nodes n·nodes nodes κ·register q·register b·register o·register γ·register n·register register x-v offset len x-from κ·buffer q·buffer b·buffer o·buffer γ·buffer n·buffer buffer (known (to 𝓤 H A mem run s κ·pages q·pages b·pages o·pages γ·pages n·pages pages κ·nodes q·nodes b·nodes o·nodes γ·nodes n·nodes nodes κ·register q·register b·register o·register γ·register n·register register x-v offset len x-from κ·buffer q·buffer b·buffer o·buffer γ·buffer n·buffer buffer))

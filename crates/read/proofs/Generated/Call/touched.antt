@@ -32,6 +32,8 @@ use denote.Triple.Clauses.{Lasts, ensured, lasts}
 use denote.Triple.Spec.{tripleOf}
 use denote.Triple.Walked.{says}
 use Rattle.read.proofs.Generated.Say.touched as touched″
+use Rattle.versions.specs.declared.ByteOffset.{ByteOffset}
+use Rattle.read.proofs.Generated.Kind.ByteOffset as ByteOffset′
 use Rattle.register.proofs.Generated.Flow.{ref, MutAt, ShrAt, keeps-shr, plus-nothing}
 use Rattle.read.proofs.touched as callee
 use Rattle.read.proofs.touched.Symbol.{name as #callee}
@@ -40,13 +42,13 @@ module _ {M : Type 1} (𝓤 : URA M) (H : Heap 𝓤) (A : Atoms 𝓤) (mem : Mem
   abbrev pub Asked : Contract 𝓤
   Asked = tripleOf 𝓤 H A callee.signature (callee.spec 𝓤 H A mem run)
 
-  abbrev pub to : (x-k : ℕ) (size : ℕ) (offset : ℕ) (len : ℕ) → Asked .Ghost
-  to x-k size offset len = ((tt, tt, tt, (x-k, (size, (offset, (len, tt)))), (vint w64 x-k ∷ [], (vint w64 size ∷ [], (vint w64 offset ∷ [], (vint w64 len ∷ [], tt))))), tt)
+  abbrev pub to : (x-k : ℕ) (size : ℕ) (offset : ByteOffset) (len : ℕ) → Asked .Ghost
+  to x-k size offset len = ((tt, tt, tt, (x-k, (size, (offset, (len, tt)))), (vint w64 x-k ∷ [], (vint w64 size ∷ [], (ByteOffset′.mach offset ∷ [], (vint w64 len ∷ [], tt))))), tt)
 
 module _ {M : Type 1} {𝓤 : URA M} {H : Heap 𝓤} {A : Atoms 𝓤} {K : Type 0} {W : Given 𝓤 H A} {Γ : List (Item 𝓤)} where
   -- the call itself is made by `by-call`, from what the callee asks to what it has ensured
-  core : K → (mem : Memory → SProp 𝓤) (run : Routine → Fun 𝓤) → (x-k : ℕ) (size : ℕ) (offset : ℕ) (len : ℕ) → (G : Goal 𝓤 H) (after : Val → Goal 𝓤 H) → ((v : Val) → Soaks (after v))
-      → (((v : Val) → Seq K W (raw (Asked 𝓤 H A mem run .post (to 𝓤 H A mem run x-k size offset len) v) ∷ Γ) (after v)) → Seq K W (raw (Asked 𝓤 H A mem run .pre (to 𝓤 H A mem run x-k size offset len)) ∷ Γ) G) → Is u64 x-k (uint-vals w64 x-k) → Is u64 size (uint-vals w64 size) → Is u64 offset (uint-vals w64 offset) → Is u64 len (uint-vals w64 len) → touched″.req x-k size offset len →
+  core : K → (mem : Memory → SProp 𝓤) (run : Routine → Fun 𝓤) → (x-k : ℕ) (size : ℕ) (offset : ByteOffset) (len : ℕ) → (G : Goal 𝓤 H) (after : Val → Goal 𝓤 H) → ((v : Val) → Soaks (after v))
+      → (((v : Val) → Seq K W (raw (Asked 𝓤 H A mem run .post (to 𝓤 H A mem run x-k size offset len) v) ∷ Γ) (after v)) → Seq K W (raw (Asked 𝓤 H A mem run .pre (to 𝓤 H A mem run x-k size offset len)) ∷ Γ) G) → Is u64 x-k (uint-vals w64 x-k) → Is u64 size (uint-vals w64 size) → Is ByteOffset′.row offset (ByteOffset′.vals offset) → Is u64 len (uint-vals w64 len) → touched″.req x-k size offset len →
       (Is u64 (touched″.res x-k size offset len) (uint-vals w64 (touched″.res x-k size offset len)) → Seq K W (Γ) (after (vint w64 (touched″.res x-k size offset len)))) → Seq K W (Γ) G
   core t mem run x-k size offset len G after soaks by-call ok·x-k ok·size ok·offset ok·len need k =
       use0 W (raw (Asked 𝓤 H A mem run .pre (to 𝓤 H A mem run x-k size offset len))) goes $
@@ -57,36 +59,36 @@ module _ {M : Type 1} {𝓤 : URA M} {H : Heap 𝓤} {A : Atoms 𝓤} {K : Type 
       subst (λ (u : Val). Seq K W (Γ) (after u)) (sym (ap only (uint-tells w64 r· (v ∷ []) is) ∙ ap (λ (z : ℕ). vint w64 z) (e))) (k (subst (λ (z : ℕ). Is u64 z (uint-vals w64 z)) (e) (subst (Is u64 r·) (uint-tells w64 r· (v ∷ []) is) is))))))))
     where
       goes : ent 𝓤 (⋆ 𝓤 H A ([])) (Asked 𝓤 H A mem run .pre (to 𝓤 H A mem run x-k size offset len))
-      goes = qed W ([]) ∵ says ! need $ nothing ! $ frame ! $ nothing ! $ owned ! u64 (Is u64) (uint-makes 𝓤 H A W w64) len _ ok·len $ fjoin ! $ owned ! u64 (Is u64) (uint-makes 𝓤 H A W w64) offset _ ok·offset $ fjoin ! $ owned ! u64 (Is u64) (uint-makes 𝓤 H A W w64) size _ ok·size $ fjoin ! $ owned ! u64 (Is u64) (uint-makes 𝓤 H A W w64) x-k _ ok·x-k $ fjoin ! $ done !
+      goes = qed W ([]) ∵ says ! need $ nothing ! $ frame ! $ nothing ! $ owned ! u64 (Is u64) (uint-makes 𝓤 H A W w64) len _ ok·len $ fjoin ! $ owned ! ByteOffset′.row (Is ByteOffset′.row) (ByteOffset′.makes 𝓤 H A) offset _ ok·offset $ fjoin ! $ owned ! u64 (Is u64) (uint-makes 𝓤 H A W w64) size _ ok·size $ fjoin ! $ owned ! u64 (Is u64) (uint-makes 𝓤 H A W w64) x-k _ ok·x-k $ fjoin ! $ done !
 
 module _ {M : Type 1} {𝓤 : URA M} {H : Heap 𝓤} {A : Atoms 𝓤} {K : Type 0} {W : Given 𝓤 H A} {Γ : List (Item 𝓤)} {E : Env 𝓤 H} {C : Calls 𝓤 H} {Λ : Loops 𝓤 H} {Q : Post 𝓤 H} {xs : List Operand} {d : Place} {rest : Body} where
   -- by one instance of the callee's contract, which is what a function that calls itself has
-  pub calls-by : K → (mem : Memory → SProp 𝓤) (run : Routine → Fun 𝓤) → FmC 𝓤 H (W .laws) C → (x-k : ℕ) (size : ℕ) (offset : ℕ) (len : ℕ) → ent 𝓤 (Asked 𝓤 H A mem run .pre (to 𝓤 H A mem run x-k size offset len)) (C #callee (Asked 𝓤 H A mem run .args (to 𝓤 H A mem run x-k size offset len)) (Asked 𝓤 H A mem run .post (to 𝓤 H A mem run x-k size offset len))) → Is u64 x-k (uint-vals w64 x-k) → Is u64 size (uint-vals w64 size) → Is u64 offset (uint-vals w64 offset) → Is u64 len (uint-vals w64 len) → touched″.req x-k size offset len →
-      Opds K W (raw (Asked 𝓤 H A mem run .pre (to 𝓤 H A mem run x-k size offset len)) ∷ Γ) E xs (vint w64 x-k ∷ vint w64 size ∷ vint w64 offset ∷ vint w64 len ∷ [])
+  pub calls-by : K → (mem : Memory → SProp 𝓤) (run : Routine → Fun 𝓤) → FmC 𝓤 H (W .laws) C → (x-k : ℕ) (size : ℕ) (offset : ByteOffset) (len : ℕ) → ent 𝓤 (Asked 𝓤 H A mem run .pre (to 𝓤 H A mem run x-k size offset len)) (C #callee (Asked 𝓤 H A mem run .args (to 𝓤 H A mem run x-k size offset len)) (Asked 𝓤 H A mem run .post (to 𝓤 H A mem run x-k size offset len))) → Is u64 x-k (uint-vals w64 x-k) → Is u64 size (uint-vals w64 size) → Is ByteOffset′.row offset (ByteOffset′.vals offset) → Is u64 len (uint-vals w64 len) → touched″.req x-k size offset len →
+      Opds K W (raw (Asked 𝓤 H A mem run .pre (to 𝓤 H A mem run x-k size offset len)) ∷ Γ) E xs (vint w64 x-k ∷ vint w64 size ∷ ByteOffset′.mach offset ∷ vint w64 len ∷ [])
       → (Is u64 (touched″.res x-k size offset len) (uint-vals w64 (touched″.res x-k size offset len)) → Seq K W (Γ) (lands C Λ E d (vint w64 (touched″.res x-k size offset len)) rest Q))
       → Seq K W (Γ) (runs C Λ E (seq (call #callee xs d) rest) Q)
   calls-by t mem run fm x-k size offset len known ok·x-k ok·size ok·offset ok·len need os k =
       core t mem run x-k size offset len (runs C Λ E (seq (call #callee xs d) rest) Q) (λ v. lands C Λ E d v rest Q) (λ v. tt)
       (λ h. calls-from t fm (raw (Asked 𝓤 H A mem run .pre (to 𝓤 H A mem run x-k size offset len))) (Asked 𝓤 H A mem run .args (to 𝓤 H A mem run x-k size offset len)) (Asked 𝓤 H A mem run .post (to 𝓤 H A mem run x-k size offset len)) known os h) ok·x-k ok·size ok·offset ok·len need k
 
-  pub calls : K → (mem : Memory → SProp 𝓤) (run : Routine → Fun 𝓤) → FmC 𝓤 H (W .laws) C → Triple 𝓤 (C #callee) (Asked 𝓤 H A mem run) → (x-k : ℕ) (size : ℕ) (offset : ℕ) (len : ℕ) → Is u64 x-k (uint-vals w64 x-k) → Is u64 size (uint-vals w64 size) → Is u64 offset (uint-vals w64 offset) → Is u64 len (uint-vals w64 len) → touched″.req x-k size offset len →
-      Opds K W (raw (Asked 𝓤 H A mem run .pre (to 𝓤 H A mem run x-k size offset len)) ∷ Γ) E xs (vint w64 x-k ∷ vint w64 size ∷ vint w64 offset ∷ vint w64 len ∷ [])
+  pub calls : K → (mem : Memory → SProp 𝓤) (run : Routine → Fun 𝓤) → FmC 𝓤 H (W .laws) C → Triple 𝓤 (C #callee) (Asked 𝓤 H A mem run) → (x-k : ℕ) (size : ℕ) (offset : ByteOffset) (len : ℕ) → Is u64 x-k (uint-vals w64 x-k) → Is u64 size (uint-vals w64 size) → Is ByteOffset′.row offset (ByteOffset′.vals offset) → Is u64 len (uint-vals w64 len) → touched″.req x-k size offset len →
+      Opds K W (raw (Asked 𝓤 H A mem run .pre (to 𝓤 H A mem run x-k size offset len)) ∷ Γ) E xs (vint w64 x-k ∷ vint w64 size ∷ ByteOffset′.mach offset ∷ vint w64 len ∷ [])
       → (Is u64 (touched″.res x-k size offset len) (uint-vals w64 (touched″.res x-k size offset len)) → Seq K W (Γ) (lands C Λ E d (vint w64 (touched″.res x-k size offset len)) rest Q))
       → Seq K W (Γ) (runs C Λ E (seq (call #callee xs d) rest) Q)
   calls t mem run fm known x-k size offset len = calls-by t mem run fm x-k size offset len (known (to 𝓤 H A mem run x-k size offset len))
 
 module _ {M : Type 1} {𝓤 : URA M} {H : Heap 𝓤} {A : Atoms 𝓤} {K : Type 0} {W : Given 𝓤 H A} {Γ : List (Item 𝓤)} {E : Env 𝓤 H} {C : Calls 𝓤 H} {Λ : Loops 𝓤 H} {Q : Post 𝓤 H} {xs : List Operand} {d : Place} where
   -- by one instance of the callee's contract, which is what a function that calls itself has. The call ends a part of the code
-  pub calls-last-by : K → (mem : Memory → SProp 𝓤) (run : Routine → Fun 𝓤) → FmC 𝓤 H (W .laws) C → (x-k : ℕ) (size : ℕ) (offset : ℕ) (len : ℕ) → ent 𝓤 (Asked 𝓤 H A mem run .pre (to 𝓤 H A mem run x-k size offset len)) (C #callee (Asked 𝓤 H A mem run .args (to 𝓤 H A mem run x-k size offset len)) (Asked 𝓤 H A mem run .post (to 𝓤 H A mem run x-k size offset len))) → Is u64 x-k (uint-vals w64 x-k) → Is u64 size (uint-vals w64 size) → Is u64 offset (uint-vals w64 offset) → Is u64 len (uint-vals w64 len) → touched″.req x-k size offset len →
-      Opds K W (raw (Asked 𝓤 H A mem run .pre (to 𝓤 H A mem run x-k size offset len)) ∷ Γ) E xs (vint w64 x-k ∷ vint w64 size ∷ vint w64 offset ∷ vint w64 len ∷ [])
+  pub calls-last-by : K → (mem : Memory → SProp 𝓤) (run : Routine → Fun 𝓤) → FmC 𝓤 H (W .laws) C → (x-k : ℕ) (size : ℕ) (offset : ByteOffset) (len : ℕ) → ent 𝓤 (Asked 𝓤 H A mem run .pre (to 𝓤 H A mem run x-k size offset len)) (C #callee (Asked 𝓤 H A mem run .args (to 𝓤 H A mem run x-k size offset len)) (Asked 𝓤 H A mem run .post (to 𝓤 H A mem run x-k size offset len))) → Is u64 x-k (uint-vals w64 x-k) → Is u64 size (uint-vals w64 size) → Is ByteOffset′.row offset (ByteOffset′.vals offset) → Is u64 len (uint-vals w64 len) → touched″.req x-k size offset len →
+      Opds K W (raw (Asked 𝓤 H A mem run .pre (to 𝓤 H A mem run x-k size offset len)) ∷ Γ) E xs (vint w64 x-k ∷ vint w64 size ∷ ByteOffset′.mach offset ∷ vint w64 len ∷ [])
       → (Is u64 (touched″.res x-k size offset len) (uint-vals w64 (touched″.res x-k size offset len)) → Seq K W (Γ) (settles E d (vint w64 (touched″.res x-k size offset len)) Q))
       → Seq K W (Γ) (runs C Λ E (call #callee xs d) Q)
   calls-last-by t mem run fm x-k size offset len known ok·x-k ok·size ok·offset ok·len need os k =
       core t mem run x-k size offset len (runs C Λ E (call #callee xs d) Q) (λ v. settles E d v Q) (λ v. tt)
       (λ h. calls-from-last t fm (raw (Asked 𝓤 H A mem run .pre (to 𝓤 H A mem run x-k size offset len))) (Asked 𝓤 H A mem run .args (to 𝓤 H A mem run x-k size offset len)) (Asked 𝓤 H A mem run .post (to 𝓤 H A mem run x-k size offset len)) known os h) ok·x-k ok·size ok·offset ok·len need k
 
-  pub calls-last : K → (mem : Memory → SProp 𝓤) (run : Routine → Fun 𝓤) → FmC 𝓤 H (W .laws) C → Triple 𝓤 (C #callee) (Asked 𝓤 H A mem run) → (x-k : ℕ) (size : ℕ) (offset : ℕ) (len : ℕ) → Is u64 x-k (uint-vals w64 x-k) → Is u64 size (uint-vals w64 size) → Is u64 offset (uint-vals w64 offset) → Is u64 len (uint-vals w64 len) → touched″.req x-k size offset len →
-      Opds K W (raw (Asked 𝓤 H A mem run .pre (to 𝓤 H A mem run x-k size offset len)) ∷ Γ) E xs (vint w64 x-k ∷ vint w64 size ∷ vint w64 offset ∷ vint w64 len ∷ [])
+  pub calls-last : K → (mem : Memory → SProp 𝓤) (run : Routine → Fun 𝓤) → FmC 𝓤 H (W .laws) C → Triple 𝓤 (C #callee) (Asked 𝓤 H A mem run) → (x-k : ℕ) (size : ℕ) (offset : ByteOffset) (len : ℕ) → Is u64 x-k (uint-vals w64 x-k) → Is u64 size (uint-vals w64 size) → Is ByteOffset′.row offset (ByteOffset′.vals offset) → Is u64 len (uint-vals w64 len) → touched″.req x-k size offset len →
+      Opds K W (raw (Asked 𝓤 H A mem run .pre (to 𝓤 H A mem run x-k size offset len)) ∷ Γ) E xs (vint w64 x-k ∷ vint w64 size ∷ ByteOffset′.mach offset ∷ vint w64 len ∷ [])
       → (Is u64 (touched″.res x-k size offset len) (uint-vals w64 (touched″.res x-k size offset len)) → Seq K W (Γ) (settles E d (vint w64 (touched″.res x-k size offset len)) Q))
       → Seq K W (Γ) (runs C Λ E (call #callee xs d) Q)
   calls-last t mem run fm known x-k size offset len = calls-last-by t mem run fm x-k size offset len (known (to 𝓤 H A mem run x-k size offset len))

@@ -16,9 +16,10 @@ use Rattle.read.specs.declared.Chunk.{Chunk}
 use Rattle.read.specs.declared.Filled.{Filled}
 use Rattle.read.specs.declared.Range.{Range}
 use Rattle.tree.specs.declared.PageIndex.{PageIndex}
+use Rattle.versions.specs.declared.ByteOffset.{ByteOffset}
 
-abbrev pub ens : ℕ → ℕ → ℕ → Chunk → Type 0
-ens size at len c = c ≡ chunkAt size at len
+abbrev pub ens : ℕ → ByteOffset → ℕ → Chunk → Type 0
+ens size at len c = c ≡ chunkAt size (at .0) len
 
-abbrev pub res : ℕ → ℕ → ℕ → Chunk
-res size at len = chunkAt size at len
+abbrev pub res : ℕ → ByteOffset → ℕ → Chunk
+res size at len = chunkAt size (at .0) len

@@ -19,13 +19,14 @@ use Rattle.register.specs.declared.Record.{Record}
 use Rattle.tree.specs.declared.PageIndex.{PageIndex}
 use Rattle.tree.specs.declared.Ticket.{Ticket}
 use Rattle.tree.specs.declared.Version.{Version}
+use Rattle.versions.specs.declared.ByteOffset.{ByteOffset}
 use Rattle.versions.specs.declared.Store.{Store}
 
-abbrev pub req : Store → List ℕ → List ℕ → List Record → Version → ℕ → ℕ → ℕ → List ℕ → Type 0
-req s pages nodes register v offset len from buffer = Readable s pages nodes register (v .0) offset len (length buffer) × (from ≤ len) × (buffer ≡ bytesFrom s (areasOf pages nodes register) (v .0) offset from ++ drop from buffer)
+abbrev pub req : Store → List ℕ → List ℕ → List Record → Version → ByteOffset → ℕ → ℕ → List ℕ → Type 0
+req s pages nodes register v offset len from buffer = Readable s pages nodes register (v .0) (offset .0) len (length buffer) × (from ≤ len) × (buffer ≡ bytesFrom s (areasOf pages nodes register) (v .0) (offset .0) from ++ drop from buffer)
 
-abbrev pub ens : Store → List ℕ → List ℕ → List Record → Version → ℕ → ℕ → ℕ → List ℕ → List ℕ → Unit {0} → Type 0
-ens s pages nodes register v offset len from buffer buffer′ result = buffer′ ≡ bytesFrom s (areasOf pages nodes register) (v .0) offset len ++ drop len buffer
+abbrev pub ens : Store → List ℕ → List ℕ → List Record → Version → ByteOffset → ℕ → ℕ → List ℕ → List ℕ → Unit {0} → Type 0
+ens s pages nodes register v offset len from buffer buffer′ result = buffer′ ≡ bytesFrom s (areasOf pages nodes register) (v .0) (offset .0) len ++ drop len buffer
 
-abbrev pub out-buffer : Store → List ℕ → List ℕ → List Record → Version → ℕ → ℕ → ℕ → List ℕ → List ℕ
-out-buffer s pages nodes register v offset len from buffer = bytesFrom s (areasOf pages nodes register) (v .0) offset len ++ drop len buffer
+abbrev pub out-buffer : Store → List ℕ → List ℕ → List Record → Version → ByteOffset → ℕ → ℕ → List ℕ → List ℕ
+out-buffer s pages nodes register v offset len from buffer = bytesFrom s (areasOf pages nodes register) (v .0) (offset .0) len ++ drop len buffer

@@ -21,11 +21,11 @@ use Rattle.tree.specs.declared.Ticket.{Ticket}
 use Rattle.tree.specs.declared.Version.{Version}
 use Rattle.versions.specs.declared.Store.{Store}
 
-abbrev pub req : Store → List ℕ → List Record → Version → ℕ → ℕ → Bool → Type 0
-req s nodes register v from n first = (from + n < 2 ^ 64) × (first ≡ isLost (numberWithin (s .pages) (findPage s (areasOf [] nodes register) (v .0) from)))
+abbrev pub req : Store → List ℕ → List Record → Version → PageIndex → ℕ → Bool → Type 0
+req s nodes register v from n first = (from .0 + n < 2 ^ 64) × (first ≡ isLost (numberWithin (s .pages) (findPage s (areasOf [] nodes register) (v .0) (from .0))))
 
-abbrev pub ens : Store → List ℕ → List Record → Version → ℕ → ℕ → Bool → Bool → Type 0
-ens s nodes register v from n first b = b ≡ someLost s (areasOf [] nodes register) (v .0) from n
+abbrev pub ens : Store → List ℕ → List Record → Version → PageIndex → ℕ → Bool → Bool → Type 0
+ens s nodes register v from n first b = b ≡ someLost s (areasOf [] nodes register) (v .0) (from .0) n
 
-abbrev pub res : Store → List ℕ → List Record → Version → ℕ → ℕ → Bool → Bool
-res s nodes register v from n first = someLost s (areasOf [] nodes register) (v .0) from n
+abbrev pub res : Store → List ℕ → List Record → Version → PageIndex → ℕ → Bool → Bool
+res s nodes register v from n first = someLost s (areasOf [] nodes register) (v .0) (from .0) n

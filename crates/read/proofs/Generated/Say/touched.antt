@@ -15,12 +15,13 @@ use Rattle.read.specs.Read.{someLost, pagesTouched, bytesFrom, filledBy,
 use Rattle.read.specs.declared.Chunk.{Chunk}
 use Rattle.read.specs.declared.Filled.{Filled}
 use Rattle.read.specs.declared.Range.{Range}
+use Rattle.versions.specs.declared.ByteOffset.{ByteOffset}
 
-abbrev pub req : ℕ → ℕ → ℕ → ℕ → Type 0
-req k size offset len = (k ≡ 0 → Ranged size offset len)
+abbrev pub req : ℕ → ℕ → ByteOffset → ℕ → Type 0
+req k size offset len = (k ≡ 0 → Ranged size (offset .0) len)
 
-abbrev pub ens : ℕ → ℕ → ℕ → ℕ → ℕ → Type 0
-ens k size offset len r = r ≡ unless k 0 (pagesTouched size offset len)
+abbrev pub ens : ℕ → ℕ → ByteOffset → ℕ → ℕ → Type 0
+ens k size offset len r = r ≡ unless k 0 (pagesTouched size (offset .0) len)
 
-abbrev pub res : ℕ → ℕ → ℕ → ℕ → ℕ
-res k size offset len = unless k 0 (pagesTouched size offset len)
+abbrev pub res : ℕ → ℕ → ByteOffset → ℕ → ℕ
+res k size offset len = unless k 0 (pagesTouched size (offset .0) len)

@@ -18,6 +18,8 @@ use Rattle.register.specs.declared.Record.{Record}
 use Rattle.register.proofs.Generated.Kind.Record as Record′
 use Rattle.tree.specs.declared.PageIndex.{PageIndex}
 use Rattle.register.proofs.Generated.Kind.PageIndex as PageIndex′
+use Rattle.versions.specs.declared.ByteOffset.{ByteOffset}
+use Rattle.read.proofs.Generated.Kind.ByteOffset as ByteOffset′
 use Rattle.read.specs.declared.Chunk.{Chunk}
 use Rattle.read.proofs.Generated.Kind.Chunk as Chunk′
 use Rattle.tree.specs.declared.Found.{Found}
@@ -29,59 +31,59 @@ use Rattle.walk.proofs.Generated.Say.number_found as number-found″
 use Rattle.read.proofs.Generated.Say.copy_page as copy-page″
 use Rattle.read.proofs.copy_range.Proof.Loop as Loop
 
-abbrev pub r1 : Store → List ℕ → List ℕ → List Record → Version → ℕ → ℕ → ℕ → List ℕ → ℕ → List ℕ → Chunk
-r1 s pages nodes register x-v offset len x-from buffer v10 buffer-now = chunk-at″.res (s .size) (offset + v10) (len - v10)
+abbrev pub r1 : Store → List ℕ → List ℕ → List Record → Version → ByteOffset → ℕ → ℕ → List ℕ → ℕ → List ℕ → Chunk
+r1 s pages nodes register x-v offset len x-from buffer v10 buffer-now = chunk-at″.res (s .size) (ByteOffset′.build ((offset .0) + v10)) (len - v10)
 
-abbrev pub r2 : Store → List ℕ → List ℕ → List Record → Version → ℕ → ℕ → ℕ → List ℕ → ℕ → List ℕ → Found
+abbrev pub r2 : Store → List ℕ → List ℕ → List Record → Version → ByteOffset → ℕ → ℕ → List ℕ → ℕ → List ℕ → Found
 r2 s pages nodes register x-v offset len x-from buffer v10 buffer-now = find-page″.res s nodes register x-v ((r1 s pages nodes register x-v offset len x-from buffer v10 buffer-now) .page)
 
-abbrev pub r3 : Store → List ℕ → List ℕ → List Record → Version → ℕ → ℕ → ℕ → List ℕ → ℕ → List ℕ → ℕ
+abbrev pub r3 : Store → List ℕ → List ℕ → List Record → Version → ByteOffset → ℕ → ℕ → List ℕ → ℕ → List ℕ → ℕ
 r3 s pages nodes register x-v offset len x-from buffer v10 buffer-now = number-found″.res (s .pages) (r2 s pages nodes register x-v offset len x-from buffer v10 buffer-now)
 
-abbrev pub r4 : Store → List ℕ → List ℕ → List Record → Version → ℕ → ℕ → ℕ → List ℕ → ℕ → List ℕ → Bool
+abbrev pub r4 : Store → List ℕ → List ℕ → List Record → Version → ByteOffset → ℕ → ℕ → List ℕ → ℕ → List ℕ → Bool
 r4 s pages nodes register x-v offset len x-from buffer v10 buffer-now = copy-page″.res pages (s .size) (r3 s pages nodes register x-v offset len x-from buffer v10 buffer-now) ((r1 s pages nodes register x-v offset len x-from buffer v10 buffer-now) .from) ((r1 s pages nodes register x-v offset len x-from buffer v10 buffer-now) .count) buffer-now v10
 
-abbrev pub buffer₄ : Store → List ℕ → List ℕ → List Record → Version → ℕ → ℕ → ℕ → List ℕ → ℕ → List ℕ → List ℕ
+abbrev pub buffer₄ : Store → List ℕ → List ℕ → List Record → Version → ByteOffset → ℕ → ℕ → List ℕ → ℕ → List ℕ → List ℕ
 buffer₄ s pages nodes register x-v offset len x-from buffer v10 buffer-now = copy-page″.out-buf pages (s .size) (r3 s pages nodes register x-v offset len x-from buffer v10 buffer-now) ((r1 s pages nodes register x-v offset len x-from buffer v10 buffer-now) .from) ((r1 s pages nodes register x-v offset len x-from buffer v10 buffer-now) .count) buffer-now v10
 
 -- the sum does not wrap
 abbrev pub add-1 : Type 0
 add-1 =
-    (s : Store) (pages : List ℕ) (nodes : List ℕ) (register : List Record) (x-v : Version) (offset : ℕ) (len : ℕ) (x-from : ℕ) (buffer : List ℕ) (ok-s : Store′.Ok s) (len-pages : length pages < 2 ^ 64) (len-nodes : length nodes < 2 ^ 64) (len-register : length register < 2 ^ 64) (ok-x-v : Version′.Ok x-v) (fits-offset : offset < 2 ^ 64) (fits-len : len < 2 ^ 64) (fits-x-from : x-from < 2 ^ 64) (len-buffer : length buffer < 2 ^ 64) (need : copy-range″.req s pages nodes register x-v offset len x-from buffer) (v10 : ℕ) (buffer-now : List ℕ) (fits-v10 : v10 < 2 ^ 64) (same-buffer-now : length buffer ≡ length buffer-now) (inv1 : Loop.inv-1 s pages nodes register x-v offset len x-from buffer v10 buffer-now) (c1 : ltb v10 len ≡ true) (n1 : v10 < len)
-    → offset + v10 < 2 ^ 64
+    (s : Store) (pages : List ℕ) (nodes : List ℕ) (register : List Record) (x-v : Version) (offset : ByteOffset) (len : ℕ) (x-from : ℕ) (buffer : List ℕ) (ok-s : Store′.Ok s) (len-pages : length pages < 2 ^ 64) (len-nodes : length nodes < 2 ^ 64) (len-register : length register < 2 ^ 64) (ok-x-v : Version′.Ok x-v) (ok-offset : ByteOffset′.Ok offset) (fits-len : len < 2 ^ 64) (fits-x-from : x-from < 2 ^ 64) (len-buffer : length buffer < 2 ^ 64) (need : copy-range″.req s pages nodes register x-v offset len x-from buffer) (v10 : ℕ) (buffer-now : List ℕ) (fits-v10 : v10 < 2 ^ 64) (same-buffer-now : length buffer ≡ length buffer-now) (inv1 : Loop.inv-1 s pages nodes register x-v offset len x-from buffer v10 buffer-now) (c1 : ltb v10 len ≡ true) (n1 : v10 < len)
+    → (offset .0) + v10 < 2 ^ 64
 
 -- a difference does not fall below 0
 abbrev pub sub-1 : Type 0
 sub-1 =
-    (s : Store) (pages : List ℕ) (nodes : List ℕ) (register : List Record) (x-v : Version) (offset : ℕ) (len : ℕ) (x-from : ℕ) (buffer : List ℕ) (ok-s : Store′.Ok s) (len-pages : length pages < 2 ^ 64) (len-nodes : length nodes < 2 ^ 64) (len-register : length register < 2 ^ 64) (ok-x-v : Version′.Ok x-v) (fits-offset : offset < 2 ^ 64) (fits-len : len < 2 ^ 64) (fits-x-from : x-from < 2 ^ 64) (len-buffer : length buffer < 2 ^ 64) (need : copy-range″.req s pages nodes register x-v offset len x-from buffer) (v10 : ℕ) (buffer-now : List ℕ) (fits-v10 : v10 < 2 ^ 64) (same-buffer-now : length buffer ≡ length buffer-now) (inv1 : Loop.inv-1 s pages nodes register x-v offset len x-from buffer v10 buffer-now) (c1 : ltb v10 len ≡ true) (n1 : v10 < len)
+    (s : Store) (pages : List ℕ) (nodes : List ℕ) (register : List Record) (x-v : Version) (offset : ByteOffset) (len : ℕ) (x-from : ℕ) (buffer : List ℕ) (ok-s : Store′.Ok s) (len-pages : length pages < 2 ^ 64) (len-nodes : length nodes < 2 ^ 64) (len-register : length register < 2 ^ 64) (ok-x-v : Version′.Ok x-v) (ok-offset : ByteOffset′.Ok offset) (fits-len : len < 2 ^ 64) (fits-x-from : x-from < 2 ^ 64) (len-buffer : length buffer < 2 ^ 64) (need : copy-range″.req s pages nodes register x-v offset len x-from buffer) (v10 : ℕ) (buffer-now : List ℕ) (fits-v10 : v10 < 2 ^ 64) (same-buffer-now : length buffer ≡ length buffer-now) (inv1 : Loop.inv-1 s pages nodes register x-v offset len x-from buffer v10 buffer-now) (c1 : ltb v10 len ≡ true) (n1 : v10 < len)
     → v10 ≤ len
 
 -- the sum does not wrap
 abbrev pub add-2 : Type 0
 add-2 =
-    (s : Store) (pages : List ℕ) (nodes : List ℕ) (register : List Record) (x-v : Version) (offset : ℕ) (len : ℕ) (x-from : ℕ) (buffer : List ℕ) (ok-s : Store′.Ok s) (len-pages : length pages < 2 ^ 64) (len-nodes : length nodes < 2 ^ 64) (len-register : length register < 2 ^ 64) (ok-x-v : Version′.Ok x-v) (fits-offset : offset < 2 ^ 64) (fits-len : len < 2 ^ 64) (fits-x-from : x-from < 2 ^ 64) (len-buffer : length buffer < 2 ^ 64) (need : copy-range″.req s pages nodes register x-v offset len x-from buffer) (v10 : ℕ) (buffer-now : List ℕ) (fits-v10 : v10 < 2 ^ 64) (same-buffer-now : length buffer ≡ length buffer-now) (inv1 : Loop.inv-1 s pages nodes register x-v offset len x-from buffer v10 buffer-now) (c1 : ltb v10 len ≡ true) (n1 : v10 < len) (ok-r1 : Chunk′.Ok (r1 s pages nodes register x-v offset len x-from buffer v10 buffer-now)) (ok-r2 : Found′.Ok (r2 s pages nodes register x-v offset len x-from buffer v10 buffer-now)) (fits-r3 : (r3 s pages nodes register x-v offset len x-from buffer v10 buffer-now) < 2 ^ 64) (same4-buffer : length (buffer₄ s pages nodes register x-v offset len x-from buffer v10 buffer-now) ≡ length buffer-now)
+    (s : Store) (pages : List ℕ) (nodes : List ℕ) (register : List Record) (x-v : Version) (offset : ByteOffset) (len : ℕ) (x-from : ℕ) (buffer : List ℕ) (ok-s : Store′.Ok s) (len-pages : length pages < 2 ^ 64) (len-nodes : length nodes < 2 ^ 64) (len-register : length register < 2 ^ 64) (ok-x-v : Version′.Ok x-v) (ok-offset : ByteOffset′.Ok offset) (fits-len : len < 2 ^ 64) (fits-x-from : x-from < 2 ^ 64) (len-buffer : length buffer < 2 ^ 64) (need : copy-range″.req s pages nodes register x-v offset len x-from buffer) (v10 : ℕ) (buffer-now : List ℕ) (fits-v10 : v10 < 2 ^ 64) (same-buffer-now : length buffer ≡ length buffer-now) (inv1 : Loop.inv-1 s pages nodes register x-v offset len x-from buffer v10 buffer-now) (c1 : ltb v10 len ≡ true) (n1 : v10 < len) (ok-r1 : Chunk′.Ok (r1 s pages nodes register x-v offset len x-from buffer v10 buffer-now)) (ok-r2 : Found′.Ok (r2 s pages nodes register x-v offset len x-from buffer v10 buffer-now)) (fits-r3 : (r3 s pages nodes register x-v offset len x-from buffer v10 buffer-now) < 2 ^ 64) (same4-buffer : length (buffer₄ s pages nodes register x-v offset len x-from buffer v10 buffer-now) ≡ length buffer-now)
     → v10 + ((r1 s pages nodes register x-v offset len x-from buffer v10 buffer-now) .count) < 2 ^ 64
 
 -- the invariant holds after a turn
 abbrev pub again-1 : Type 0
 again-1 =
-    (s : Store) (pages : List ℕ) (nodes : List ℕ) (register : List Record) (x-v : Version) (offset : ℕ) (len : ℕ) (x-from : ℕ) (buffer : List ℕ) (ok-s : Store′.Ok s) (len-pages : length pages < 2 ^ 64) (len-nodes : length nodes < 2 ^ 64) (len-register : length register < 2 ^ 64) (ok-x-v : Version′.Ok x-v) (fits-offset : offset < 2 ^ 64) (fits-len : len < 2 ^ 64) (fits-x-from : x-from < 2 ^ 64) (len-buffer : length buffer < 2 ^ 64) (need : copy-range″.req s pages nodes register x-v offset len x-from buffer) (v10 : ℕ) (buffer-now : List ℕ) (fits-v10 : v10 < 2 ^ 64) (same-buffer-now : length buffer ≡ length buffer-now) (inv1 : Loop.inv-1 s pages nodes register x-v offset len x-from buffer v10 buffer-now) (c1 : ltb v10 len ≡ true) (n1 : v10 < len) (ok-r1 : Chunk′.Ok (r1 s pages nodes register x-v offset len x-from buffer v10 buffer-now)) (ok-r2 : Found′.Ok (r2 s pages nodes register x-v offset len x-from buffer v10 buffer-now)) (fits-r3 : (r3 s pages nodes register x-v offset len x-from buffer v10 buffer-now) < 2 ^ 64) (same4-buffer : length (buffer₄ s pages nodes register x-v offset len x-from buffer v10 buffer-now) ≡ length buffer-now)
+    (s : Store) (pages : List ℕ) (nodes : List ℕ) (register : List Record) (x-v : Version) (offset : ByteOffset) (len : ℕ) (x-from : ℕ) (buffer : List ℕ) (ok-s : Store′.Ok s) (len-pages : length pages < 2 ^ 64) (len-nodes : length nodes < 2 ^ 64) (len-register : length register < 2 ^ 64) (ok-x-v : Version′.Ok x-v) (ok-offset : ByteOffset′.Ok offset) (fits-len : len < 2 ^ 64) (fits-x-from : x-from < 2 ^ 64) (len-buffer : length buffer < 2 ^ 64) (need : copy-range″.req s pages nodes register x-v offset len x-from buffer) (v10 : ℕ) (buffer-now : List ℕ) (fits-v10 : v10 < 2 ^ 64) (same-buffer-now : length buffer ≡ length buffer-now) (inv1 : Loop.inv-1 s pages nodes register x-v offset len x-from buffer v10 buffer-now) (c1 : ltb v10 len ≡ true) (n1 : v10 < len) (ok-r1 : Chunk′.Ok (r1 s pages nodes register x-v offset len x-from buffer v10 buffer-now)) (ok-r2 : Found′.Ok (r2 s pages nodes register x-v offset len x-from buffer v10 buffer-now)) (fits-r3 : (r3 s pages nodes register x-v offset len x-from buffer v10 buffer-now) < 2 ^ 64) (same4-buffer : length (buffer₄ s pages nodes register x-v offset len x-from buffer v10 buffer-now) ≡ length buffer-now)
     → Loop.inv-1 s pages nodes register x-v offset len x-from buffer (v10 + ((r1 s pages nodes register x-v offset len x-from buffer v10 buffer-now) .count)) (buffer₄ s pages nodes register x-v offset len x-from buffer v10 buffer-now)
 
 -- the measure falls
 abbrev pub less-1 : Type 0
 less-1 =
-    (s : Store) (pages : List ℕ) (nodes : List ℕ) (register : List Record) (x-v : Version) (offset : ℕ) (len : ℕ) (x-from : ℕ) (buffer : List ℕ) (ok-s : Store′.Ok s) (len-pages : length pages < 2 ^ 64) (len-nodes : length nodes < 2 ^ 64) (len-register : length register < 2 ^ 64) (ok-x-v : Version′.Ok x-v) (fits-offset : offset < 2 ^ 64) (fits-len : len < 2 ^ 64) (fits-x-from : x-from < 2 ^ 64) (len-buffer : length buffer < 2 ^ 64) (need : copy-range″.req s pages nodes register x-v offset len x-from buffer) (v10 : ℕ) (buffer-now : List ℕ) (fits-v10 : v10 < 2 ^ 64) (same-buffer-now : length buffer ≡ length buffer-now) (inv1 : Loop.inv-1 s pages nodes register x-v offset len x-from buffer v10 buffer-now) (c1 : ltb v10 len ≡ true) (n1 : v10 < len) (ok-r1 : Chunk′.Ok (r1 s pages nodes register x-v offset len x-from buffer v10 buffer-now)) (ok-r2 : Found′.Ok (r2 s pages nodes register x-v offset len x-from buffer v10 buffer-now)) (fits-r3 : (r3 s pages nodes register x-v offset len x-from buffer v10 buffer-now) < 2 ^ 64) (same4-buffer : length (buffer₄ s pages nodes register x-v offset len x-from buffer v10 buffer-now) ≡ length buffer-now)
+    (s : Store) (pages : List ℕ) (nodes : List ℕ) (register : List Record) (x-v : Version) (offset : ByteOffset) (len : ℕ) (x-from : ℕ) (buffer : List ℕ) (ok-s : Store′.Ok s) (len-pages : length pages < 2 ^ 64) (len-nodes : length nodes < 2 ^ 64) (len-register : length register < 2 ^ 64) (ok-x-v : Version′.Ok x-v) (ok-offset : ByteOffset′.Ok offset) (fits-len : len < 2 ^ 64) (fits-x-from : x-from < 2 ^ 64) (len-buffer : length buffer < 2 ^ 64) (need : copy-range″.req s pages nodes register x-v offset len x-from buffer) (v10 : ℕ) (buffer-now : List ℕ) (fits-v10 : v10 < 2 ^ 64) (same-buffer-now : length buffer ≡ length buffer-now) (inv1 : Loop.inv-1 s pages nodes register x-v offset len x-from buffer v10 buffer-now) (c1 : ltb v10 len ≡ true) (n1 : v10 < len) (ok-r1 : Chunk′.Ok (r1 s pages nodes register x-v offset len x-from buffer v10 buffer-now)) (ok-r2 : Found′.Ok (r2 s pages nodes register x-v offset len x-from buffer v10 buffer-now)) (fits-r3 : (r3 s pages nodes register x-v offset len x-from buffer v10 buffer-now) < 2 ^ 64) (same4-buffer : length (buffer₄ s pages nodes register x-v offset len x-from buffer v10 buffer-now) ≡ length buffer-now)
     → Loop.measure-1 s pages nodes register x-v offset len x-from buffer (v10 + ((r1 s pages nodes register x-v offset len x-from buffer v10 buffer-now) .count)) (buffer₄ s pages nodes register x-v offset len x-from buffer v10 buffer-now) < Loop.measure-1 s pages nodes register x-v offset len x-from buffer v10 buffer-now
 
--- the function ensures: buffer′ ≡ bytesFrom s (areasOf pages nodes register) (v .0) offset len ++ drop len buffer
+-- the function ensures: buffer′ ≡ bytesFrom s (areasOf pages nodes register) (v .0) (offset .0) len ++ drop len buffer
 abbrev pub exit-1 : Type 0
 exit-1 =
-    (s : Store) (pages : List ℕ) (nodes : List ℕ) (register : List Record) (x-v : Version) (offset : ℕ) (len : ℕ) (x-from : ℕ) (buffer : List ℕ) (ok-s : Store′.Ok s) (len-pages : length pages < 2 ^ 64) (len-nodes : length nodes < 2 ^ 64) (len-register : length register < 2 ^ 64) (ok-x-v : Version′.Ok x-v) (fits-offset : offset < 2 ^ 64) (fits-len : len < 2 ^ 64) (fits-x-from : x-from < 2 ^ 64) (len-buffer : length buffer < 2 ^ 64) (need : copy-range″.req s pages nodes register x-v offset len x-from buffer) (v10 : ℕ) (buffer-now : List ℕ) (fits-v10 : v10 < 2 ^ 64) (same-buffer-now : length buffer ≡ length buffer-now) (inv1 : Loop.inv-1 s pages nodes register x-v offset len x-from buffer v10 buffer-now) (c1 : ltb v10 len ≡ false) (n1 : len ≤ v10)
+    (s : Store) (pages : List ℕ) (nodes : List ℕ) (register : List Record) (x-v : Version) (offset : ByteOffset) (len : ℕ) (x-from : ℕ) (buffer : List ℕ) (ok-s : Store′.Ok s) (len-pages : length pages < 2 ^ 64) (len-nodes : length nodes < 2 ^ 64) (len-register : length register < 2 ^ 64) (ok-x-v : Version′.Ok x-v) (ok-offset : ByteOffset′.Ok offset) (fits-len : len < 2 ^ 64) (fits-x-from : x-from < 2 ^ 64) (len-buffer : length buffer < 2 ^ 64) (need : copy-range″.req s pages nodes register x-v offset len x-from buffer) (v10 : ℕ) (buffer-now : List ℕ) (fits-v10 : v10 < 2 ^ 64) (same-buffer-now : length buffer ≡ length buffer-now) (inv1 : Loop.inv-1 s pages nodes register x-v offset len x-from buffer v10 buffer-now) (c1 : ltb v10 len ≡ false) (n1 : len ≤ v10)
     → copy-range″.ens s pages nodes register x-v offset len x-from buffer buffer-now tt
 
 -- the invariant holds where the loop begins
 abbrev pub start-1 : Type 0
 start-1 =
-    (s : Store) (pages : List ℕ) (nodes : List ℕ) (register : List Record) (x-v : Version) (offset : ℕ) (len : ℕ) (x-from : ℕ) (buffer : List ℕ) (ok-s : Store′.Ok s) (len-pages : length pages < 2 ^ 64) (len-nodes : length nodes < 2 ^ 64) (len-register : length register < 2 ^ 64) (ok-x-v : Version′.Ok x-v) (fits-offset : offset < 2 ^ 64) (fits-len : len < 2 ^ 64) (fits-x-from : x-from < 2 ^ 64) (len-buffer : length buffer < 2 ^ 64) (need : copy-range″.req s pages nodes register x-v offset len x-from buffer)
+    (s : Store) (pages : List ℕ) (nodes : List ℕ) (register : List Record) (x-v : Version) (offset : ByteOffset) (len : ℕ) (x-from : ℕ) (buffer : List ℕ) (ok-s : Store′.Ok s) (len-pages : length pages < 2 ^ 64) (len-nodes : length nodes < 2 ^ 64) (len-register : length register < 2 ^ 64) (ok-x-v : Version′.Ok x-v) (ok-offset : ByteOffset′.Ok offset) (fits-len : len < 2 ^ 64) (fits-x-from : x-from < 2 ^ 64) (len-buffer : length buffer < 2 ^ 64) (need : copy-range″.req s pages nodes register x-v offset len x-from buffer)
     → Loop.inv-1 s pages nodes register x-v offset len x-from buffer x-from buffer

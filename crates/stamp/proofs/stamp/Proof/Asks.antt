@@ -25,25 +25,29 @@ use Rattle.walk.proofs.Generated.Kind.Found as Found′
 use Rattle.versions.specs.declared.Lengths.{Lengths}
 use Rattle.versions.proofs.Generated.Kind.Lengths as Lengths′
 use Rattle.stamp.proofs.Generated.Say.stamp as stamp″
-use Rattle.register.proofs.Generated.Say.record_of as record-of″
+use Rattle.register.proofs.Generated.Say.version_record as version-record″
 use Rattle.walk.proofs.Generated.Say.find_page as find-page″
+use Rattle.versions.proofs.Generated.Say.lengths_of as lengths-of″
 use Rattle.stamp.proofs.Generated.Say.page_refusal as page-refusal″
 use Rattle.stamp.proofs.Generated.Say.stamped_by as stamped-by″
 
 abbrev pub r1 : Store → List ℕ → List ℕ → List Record → Version → PageIndex → Record
-r1 s pages nodes register x-v page = record-of″.res register (x-v .0)
+r1 s pages nodes register x-v page = version-record″.res register x-v
 
 abbrev pub r2 : Store → List ℕ → List ℕ → List Record → Version → PageIndex → Found
 r2 s pages nodes register x-v page = find-page″.res s nodes register x-v page
 
-abbrev pub r3 : Store → List ℕ → List ℕ → List Record → Version → PageIndex → ℕ
-r3 s pages nodes register x-v page = page-refusal″.res s (Lengths′.build (length pages) (length nodes) (length register)) (r1 s pages nodes register x-v page) x-v page (r2 s pages nodes register x-v page)
+abbrev pub r3 : Store → List ℕ → List ℕ → List Record → Version → PageIndex → Lengths
+r3 s pages nodes register x-v page = lengths-of″.res pages nodes register
 
-abbrev pub r4 : Store → List ℕ → List ℕ → List Record → Version → PageIndex → Stamped
-r4 s pages nodes register x-v page = stamped-by″.res (r3 s pages nodes register x-v page) (r2 s pages nodes register x-v page)
+abbrev pub r4 : Store → List ℕ → List ℕ → List Record → Version → PageIndex → ℕ
+r4 s pages nodes register x-v page = page-refusal″.res s (r3 s pages nodes register x-v page) (r1 s pages nodes register x-v page) x-v page (r2 s pages nodes register x-v page)
+
+abbrev pub r5 : Store → List ℕ → List ℕ → List Record → Version → PageIndex → Stamped
+r5 s pages nodes register x-v page = stamped-by″.res (r4 s pages nodes register x-v page) (r2 s pages nodes register x-v page)
 
 -- the function ensures: r ≡ stampOut s (areasOf pages nodes register) (v .0) (page .0)
 abbrev pub exit-1 : Type 0
 exit-1 =
-    (s : Store) (pages : List ℕ) (nodes : List ℕ) (register : List Record) (x-v : Version) (page : PageIndex) (ok-s : Store′.Ok s) (len-pages : length pages < 2 ^ 64) (len-nodes : length nodes < 2 ^ 64) (len-register : length register < 2 ^ 64) (ok-x-v : Version′.Ok x-v) (ok-page : PageIndex′.Ok page) (ok-r1 : Record′.Ok (r1 s pages nodes register x-v page)) (ok-r2 : Found′.Ok (r2 s pages nodes register x-v page)) (fits-r3 : (r3 s pages nodes register x-v page) < 2 ^ 64) (ok-r4 : Stamped′.Ok (r4 s pages nodes register x-v page))
-    → stamp″.ens s pages nodes register x-v page (r4 s pages nodes register x-v page)
+    (s : Store) (pages : List ℕ) (nodes : List ℕ) (register : List Record) (x-v : Version) (page : PageIndex) (ok-s : Store′.Ok s) (len-pages : length pages < 2 ^ 64) (len-nodes : length nodes < 2 ^ 64) (len-register : length register < 2 ^ 64) (ok-x-v : Version′.Ok x-v) (ok-page : PageIndex′.Ok page) (ok-r1 : Record′.Ok (r1 s pages nodes register x-v page)) (ok-r2 : Found′.Ok (r2 s pages nodes register x-v page)) (ok-r3 : Lengths′.Ok (r3 s pages nodes register x-v page)) (fits-r4 : (r4 s pages nodes register x-v page) < 2 ^ 64) (ok-r5 : Stamped′.Ok (r5 s pages nodes register x-v page))
+    → stamp″.ens s pages nodes register x-v page (r5 s pages nodes register x-v page)

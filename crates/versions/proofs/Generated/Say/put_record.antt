@@ -9,7 +9,7 @@ use lib.Dec.{eqb}
 use Rattle.tree.specs.Tree.{countOf}
 use Rattle.register.specs.Register.{updateOf, withRecord}
 use Rattle.versions.specs.Table.{_gives_, firstRefusal, holds, noTicket, unless}
-use Rattle.versions.specs.Store.{areasOf, differ}
+use Rattle.versions.specs.Store.{areasOf, lengthsOf, differ}
 use Rattle.versions.specs.Size.{sizeRefusal, pagesBy, bytesBy, sizedBy, sizeOut}
 use Rattle.versions.specs.Recent.{recentBy, recentOut}
 use Rattle.register.specs.declared.Record.{Record}

@@ -23,13 +23,17 @@ use Rattle.register.proofs.Generated.Kind.PageIndex as PageIndex′
 use Rattle.versions.specs.declared.Lengths.{Lengths}
 use Rattle.versions.proofs.Generated.Kind.Lengths as Lengths′
 use Rattle.versions.proofs.Generated.Say.recent as recent″
+use Rattle.versions.proofs.Generated.Say.lengths_of as lengths-of″
 use Rattle.versions.proofs.Generated.Say.recent_by as recent-by″
 
-abbrev pub r1 : Store → List ℕ → List ℕ → List Record → Latest
-r1 s pages nodes register = recent-by″.res s (Lengths′.build (length pages) (length nodes) (length register))
+abbrev pub r1 : Store → List ℕ → List ℕ → List Record → Lengths
+r1 s pages nodes register = lengths-of″.res pages nodes register
+
+abbrev pub r2 : Store → List ℕ → List ℕ → List Record → Latest
+r2 s pages nodes register = recent-by″.res s (r1 s pages nodes register)
 
 -- the function ensures: r ≡ recentOut s (areasOf pages nodes register)
 abbrev pub exit-1 : Type 0
 exit-1 =
-    (s : Store) (pages : List ℕ) (nodes : List ℕ) (register : List Record) (ok-s : Store′.Ok s) (len-pages : length pages < 2 ^ 64) (len-nodes : length nodes < 2 ^ 64) (len-register : length register < 2 ^ 64) (ok-r1 : Latest′.Ok (r1 s pages nodes register))
-    → recent″.ens s pages nodes register (r1 s pages nodes register)
+    (s : Store) (pages : List ℕ) (nodes : List ℕ) (register : List Record) (ok-s : Store′.Ok s) (len-pages : length pages < 2 ^ 64) (len-nodes : length nodes < 2 ^ 64) (len-register : length register < 2 ^ 64) (ok-r1 : Lengths′.Ok (r1 s pages nodes register)) (ok-r2 : Latest′.Ok (r2 s pages nodes register))
+    → recent″.ens s pages nodes register (r2 s pages nodes register)

@@ -23,17 +23,21 @@ use Rattle.register.proofs.Generated.Kind.PageIndex as PageIndex′
 use Rattle.versions.specs.declared.Lengths.{Lengths}
 use Rattle.versions.proofs.Generated.Kind.Lengths as Lengths′
 use Rattle.versions.proofs.Generated.Say.size as size″
-use Rattle.register.proofs.Generated.Say.record_of as record-of″
+use Rattle.register.proofs.Generated.Say.version_record as version-record″
+use Rattle.versions.proofs.Generated.Say.lengths_of as lengths-of″
 use Rattle.versions.proofs.Generated.Say.sized_by as sized-by″
 
 abbrev pub r1 : Store → List ℕ → List ℕ → List Record → Version → Record
-r1 s pages nodes register x-v = record-of″.res register (x-v .0)
+r1 s pages nodes register x-v = version-record″.res register x-v
 
-abbrev pub r2 : Store → List ℕ → List ℕ → List Record → Version → Sized
-r2 s pages nodes register x-v = sized-by″.res s (Lengths′.build (length pages) (length nodes) (length register)) (r1 s pages nodes register x-v) x-v
+abbrev pub r2 : Store → List ℕ → List ℕ → List Record → Version → Lengths
+r2 s pages nodes register x-v = lengths-of″.res pages nodes register
+
+abbrev pub r3 : Store → List ℕ → List ℕ → List Record → Version → Sized
+r3 s pages nodes register x-v = sized-by″.res s (r2 s pages nodes register x-v) (r1 s pages nodes register x-v) x-v
 
 -- the function ensures: r ≡ sizeOut s (areasOf pages nodes register) (v .0)
 abbrev pub exit-1 : Type 0
 exit-1 =
-    (s : Store) (pages : List ℕ) (nodes : List ℕ) (register : List Record) (x-v : Version) (ok-s : Store′.Ok s) (len-pages : length pages < 2 ^ 64) (len-nodes : length nodes < 2 ^ 64) (len-register : length register < 2 ^ 64) (ok-x-v : Version′.Ok x-v) (ok-r1 : Record′.Ok (r1 s pages nodes register x-v)) (ok-r2 : Sized′.Ok (r2 s pages nodes register x-v))
-    → size″.ens s pages nodes register x-v (r2 s pages nodes register x-v)
+    (s : Store) (pages : List ℕ) (nodes : List ℕ) (register : List Record) (x-v : Version) (ok-s : Store′.Ok s) (len-pages : length pages < 2 ^ 64) (len-nodes : length nodes < 2 ^ 64) (len-register : length register < 2 ^ 64) (ok-x-v : Version′.Ok x-v) (ok-r1 : Record′.Ok (r1 s pages nodes register x-v)) (ok-r2 : Lengths′.Ok (r2 s pages nodes register x-v)) (ok-r3 : Sized′.Ok (r3 s pages nodes register x-v))
+    → size″.ens s pages nodes register x-v (r3 s pages nodes register x-v)

@@ -7,7 +7,7 @@ use Rattle.stamp.specs.Stamp.{stampNumber}
 use Rattle.view.proofs.view.Proof.Asks as Asks
 
 -- the function ensures: r ≡ viewPart s (areasOf pages nodes register) (v .0) (page .0)
--- here: view″.ens s pages nodes register x-v page (r5 s pages nodes register x-v page)
+-- here: view″.ens s pages nodes register x-v page (r6 s pages nodes register x-v page)
 pub exit-1 : Asks.exit-1
 unfolding stampNumber pageNumberOf findPage pageRefusal
-exit-1 s pages nodes register x-v page ok-s len-pages len-nodes len-register ok-x-v ok-page ok-r1 ok-r2 fits-r3 fits-r4 len-r5 = refl
+exit-1 s pages nodes register x-v page ok-s len-pages len-nodes len-register ok-x-v ok-page ok-r1 ok-r2 ok-r3 fits-r4 fits-r5 len-r6 = refl

@@ -8,12 +8,12 @@ use Rattle.view.proofs.Views.{begins-fits}
 use Rattle.view.proofs.view_at.Proof.Asks as Asks
 
 -- `viewed_by` asks: (k ≡ 0 → size * number < 2 ^ 64)
--- here: viewed-by″.req (r3 s pages nodes register x-v page) (s .size) (r4 s pages nodes register x-v page)
+-- here: viewed-by″.req (r4 s pages nodes register x-v page) (s .size) (r5 s pages nodes register x-v page)
 pub viewed-by-1 : Asks.viewed-by-1
-viewed-by-1 s pages nodes register x-v page ok-s len-pages len-nodes len-register ok-x-v ok-page ok-r1 ok-r2 fits-r3 fits-r4 = λ e. begins-fits s _ _ (x-v .0) (page .0) _ e len-pages
+viewed-by-1 s pages nodes register x-v page ok-s len-pages len-nodes len-register ok-x-v ok-page ok-r1 ok-r2 ok-r3 fits-r4 fits-r5 = λ e. begins-fits s _ _ (x-v .0) (page .0) _ e len-pages
 
 -- the function ensures: r ≡ viewAt s (areasOf pages nodes register) (v .0) (page .0)
--- here: view-at″.ens s pages nodes register x-v page (r5 s pages nodes register x-v page)
+-- here: view-at″.ens s pages nodes register x-v page (r6 s pages nodes register x-v page)
 pub exit-1 : Asks.exit-1
 unfolding stampNumber pageNumberOf findPage pageRefusal
-exit-1 s pages nodes register x-v page ok-s len-pages len-nodes len-register ok-x-v ok-page ok-r1 ok-r2 fits-r3 fits-r4 ok-r5 = refl
+exit-1 s pages nodes register x-v page ok-s len-pages len-nodes len-register ok-x-v ok-page ok-r1 ok-r2 ok-r3 fits-r4 fits-r5 ok-r6 = refl

@@ -48,13 +48,13 @@ module _ {M : Type 1} (𝓤 : URA M) (H : Heap 𝓤) (A : Atoms 𝓤) (mem : Mem
   abbrev pub Asked : Contract 𝓤
   Asked = tripleOf 𝓤 H A callee.signature (callee.spec 𝓤 H A mem run)
 
-  abbrev pub to : (q : Record) (x-known : ℕ) (x-v : ℕ) (page : PageIndex) (span : ℕ) → Asked .Ghost
-  to q x-known x-v page span = ((tt, tt, tt, (q, (x-known, (x-v, (page, (span, tt))))), (Record′.mach q ∷ [], (vint w64 x-known ∷ [], (vint w64 x-v ∷ [], (PageIndex′.mach page ∷ [], (vint w64 span ∷ [], tt)))))), tt)
+  abbrev pub to : (q : Record) (x-known : Version) (x-v : Version) (page : PageIndex) (span : ℕ) → Asked .Ghost
+  to q x-known x-v page span = ((tt, tt, tt, (q, (x-known, (x-v, (page, (span, tt))))), (Record′.mach q ∷ [], (Version′.mach x-known ∷ [], (Version′.mach x-v ∷ [], (PageIndex′.mach page ∷ [], (vint w64 span ∷ [], tt)))))), tt)
 
 module _ {M : Type 1} {𝓤 : URA M} {H : Heap 𝓤} {A : Atoms 𝓤} {K : Type 0} {W : Given 𝓤 H A} {Γ : List (Item 𝓤)} where
   -- the call itself is made by `by-call`, from what the callee asks to what it has ensured
-  core : K → (mem : Memory → SProp 𝓤) (run : Routine → Fun 𝓤) → (q : Record) (x-known : ℕ) (x-v : ℕ) (page : PageIndex) (span : ℕ) → (G : Goal 𝓤 H) (after : Val → Goal 𝓤 H) → ((v : Val) → Soaks (after v))
-      → (((v : Val) → Seq K W (raw (Asked 𝓤 H A mem run .post (to 𝓤 H A mem run q x-known x-v page span) v) ∷ Γ) (after v)) → Seq K W (raw (Asked 𝓤 H A mem run .pre (to 𝓤 H A mem run q x-known x-v page span)) ∷ Γ) G) → Is Record′.row q (Record′.vals q) → Is u64 x-known (uint-vals w64 x-known) → Is u64 x-v (uint-vals w64 x-v) → Is PageIndex′.row page (PageIndex′.vals page) → Is u64 span (uint-vals w64 span) → place-of″.req q x-known x-v page span →
+  core : K → (mem : Memory → SProp 𝓤) (run : Routine → Fun 𝓤) → (q : Record) (x-known : Version) (x-v : Version) (page : PageIndex) (span : ℕ) → (G : Goal 𝓤 H) (after : Val → Goal 𝓤 H) → ((v : Val) → Soaks (after v))
+      → (((v : Val) → Seq K W (raw (Asked 𝓤 H A mem run .post (to 𝓤 H A mem run q x-known x-v page span) v) ∷ Γ) (after v)) → Seq K W (raw (Asked 𝓤 H A mem run .pre (to 𝓤 H A mem run q x-known x-v page span)) ∷ Γ) G) → Is Record′.row q (Record′.vals q) → Is Version′.row x-known (Version′.vals x-known) → Is Version′.row x-v (Version′.vals x-v) → Is PageIndex′.row page (PageIndex′.vals page) → Is u64 span (uint-vals w64 span) → place-of″.req q x-known x-v page span →
       (Is u64 (place-of″.res q x-known x-v page span) (uint-vals w64 (place-of″.res q x-known x-v page span)) → Seq K W (Γ) (after (vint w64 (place-of″.res q x-known x-v page span)))) → Seq K W (Γ) G
   core t mem run q x-known x-v page span G after soaks by-call ok·q ok·x-known ok·x-v ok·page ok·span need k =
       use0 W (raw (Asked 𝓤 H A mem run .pre (to 𝓤 H A mem run q x-known x-v page span))) goes $
@@ -65,36 +65,36 @@ module _ {M : Type 1} {𝓤 : URA M} {H : Heap 𝓤} {A : Atoms 𝓤} {K : Type 
       subst (λ (u : Val). Seq K W (Γ) (after u)) (sym (ap only (uint-tells w64 r· (v ∷ []) is) ∙ ap (λ (z : ℕ). vint w64 z) (e))) (k (subst (λ (z : ℕ). Is u64 z (uint-vals w64 z)) (e) (subst (Is u64 r·) (uint-tells w64 r· (v ∷ []) is) is))))))))
     where
       goes : ent 𝓤 (⋆ 𝓤 H A ([])) (Asked 𝓤 H A mem run .pre (to 𝓤 H A mem run q x-known x-v page span))
-      goes = qed W ([]) ∵ says ! need $ nothing ! $ frame ! $ nothing ! $ owned ! u64 (Is u64) (uint-makes 𝓤 H A W w64) span _ ok·span $ fjoin ! $ owned ! PageIndex′.row (Is PageIndex′.row) (PageIndex′.makes 𝓤 H A) page _ ok·page $ fjoin ! $ owned ! u64 (Is u64) (uint-makes 𝓤 H A W w64) x-v _ ok·x-v $ fjoin ! $ owned ! u64 (Is u64) (uint-makes 𝓤 H A W w64) x-known _ ok·x-known $ fjoin ! $ owned ! Record′.row (Is Record′.row) (Record′.makes 𝓤 H A) q _ ok·q $ fjoin ! $ done !
+      goes = qed W ([]) ∵ says ! need $ nothing ! $ frame ! $ nothing ! $ owned ! u64 (Is u64) (uint-makes 𝓤 H A W w64) span _ ok·span $ fjoin ! $ owned ! PageIndex′.row (Is PageIndex′.row) (PageIndex′.makes 𝓤 H A) page _ ok·page $ fjoin ! $ owned ! Version′.row (Is Version′.row) (Version′.makes 𝓤 H A) x-v _ ok·x-v $ fjoin ! $ owned ! Version′.row (Is Version′.row) (Version′.makes 𝓤 H A) x-known _ ok·x-known $ fjoin ! $ owned ! Record′.row (Is Record′.row) (Record′.makes 𝓤 H A) q _ ok·q $ fjoin ! $ done !
 
 module _ {M : Type 1} {𝓤 : URA M} {H : Heap 𝓤} {A : Atoms 𝓤} {K : Type 0} {W : Given 𝓤 H A} {Γ : List (Item 𝓤)} {E : Env 𝓤 H} {C : Calls 𝓤 H} {Λ : Loops 𝓤 H} {Q : Post 𝓤 H} {xs : List Operand} {d : Place} {rest : Body} where
   -- by one instance of the callee's contract, which is what a function that calls itself has
-  pub calls-by : K → (mem : Memory → SProp 𝓤) (run : Routine → Fun 𝓤) → FmC 𝓤 H (W .laws) C → (q : Record) (x-known : ℕ) (x-v : ℕ) (page : PageIndex) (span : ℕ) → ent 𝓤 (Asked 𝓤 H A mem run .pre (to 𝓤 H A mem run q x-known x-v page span)) (C #callee (Asked 𝓤 H A mem run .args (to 𝓤 H A mem run q x-known x-v page span)) (Asked 𝓤 H A mem run .post (to 𝓤 H A mem run q x-known x-v page span))) → Is Record′.row q (Record′.vals q) → Is u64 x-known (uint-vals w64 x-known) → Is u64 x-v (uint-vals w64 x-v) → Is PageIndex′.row page (PageIndex′.vals page) → Is u64 span (uint-vals w64 span) → place-of″.req q x-known x-v page span →
-      Opds K W (raw (Asked 𝓤 H A mem run .pre (to 𝓤 H A mem run q x-known x-v page span)) ∷ Γ) E xs (Record′.mach q ∷ vint w64 x-known ∷ vint w64 x-v ∷ PageIndex′.mach page ∷ vint w64 span ∷ [])
+  pub calls-by : K → (mem : Memory → SProp 𝓤) (run : Routine → Fun 𝓤) → FmC 𝓤 H (W .laws) C → (q : Record) (x-known : Version) (x-v : Version) (page : PageIndex) (span : ℕ) → ent 𝓤 (Asked 𝓤 H A mem run .pre (to 𝓤 H A mem run q x-known x-v page span)) (C #callee (Asked 𝓤 H A mem run .args (to 𝓤 H A mem run q x-known x-v page span)) (Asked 𝓤 H A mem run .post (to 𝓤 H A mem run q x-known x-v page span))) → Is Record′.row q (Record′.vals q) → Is Version′.row x-known (Version′.vals x-known) → Is Version′.row x-v (Version′.vals x-v) → Is PageIndex′.row page (PageIndex′.vals page) → Is u64 span (uint-vals w64 span) → place-of″.req q x-known x-v page span →
+      Opds K W (raw (Asked 𝓤 H A mem run .pre (to 𝓤 H A mem run q x-known x-v page span)) ∷ Γ) E xs (Record′.mach q ∷ Version′.mach x-known ∷ Version′.mach x-v ∷ PageIndex′.mach page ∷ vint w64 span ∷ [])
       → (Is u64 (place-of″.res q x-known x-v page span) (uint-vals w64 (place-of″.res q x-known x-v page span)) → Seq K W (Γ) (lands C Λ E d (vint w64 (place-of″.res q x-known x-v page span)) rest Q))
       → Seq K W (Γ) (runs C Λ E (seq (call #callee xs d) rest) Q)
   calls-by t mem run fm q x-known x-v page span known ok·q ok·x-known ok·x-v ok·page ok·span need os k =
       core t mem run q x-known x-v page span (runs C Λ E (seq (call #callee xs d) rest) Q) (λ v. lands C Λ E d v rest Q) (λ v. tt)
       (λ h. calls-from t fm (raw (Asked 𝓤 H A mem run .pre (to 𝓤 H A mem run q x-known x-v page span))) (Asked 𝓤 H A mem run .args (to 𝓤 H A mem run q x-known x-v page span)) (Asked 𝓤 H A mem run .post (to 𝓤 H A mem run q x-known x-v page span)) known os h) ok·q ok·x-known ok·x-v ok·page ok·span need k
 
-  pub calls : K → (mem : Memory → SProp 𝓤) (run : Routine → Fun 𝓤) → FmC 𝓤 H (W .laws) C → Triple 𝓤 (C #callee) (Asked 𝓤 H A mem run) → (q : Record) (x-known : ℕ) (x-v : ℕ) (page : PageIndex) (span : ℕ) → Is Record′.row q (Record′.vals q) → Is u64 x-known (uint-vals w64 x-known) → Is u64 x-v (uint-vals w64 x-v) → Is PageIndex′.row page (PageIndex′.vals page) → Is u64 span (uint-vals w64 span) → place-of″.req q x-known x-v page span →
-      Opds K W (raw (Asked 𝓤 H A mem run .pre (to 𝓤 H A mem run q x-known x-v page span)) ∷ Γ) E xs (Record′.mach q ∷ vint w64 x-known ∷ vint w64 x-v ∷ PageIndex′.mach page ∷ vint w64 span ∷ [])
+  pub calls : K → (mem : Memory → SProp 𝓤) (run : Routine → Fun 𝓤) → FmC 𝓤 H (W .laws) C → Triple 𝓤 (C #callee) (Asked 𝓤 H A mem run) → (q : Record) (x-known : Version) (x-v : Version) (page : PageIndex) (span : ℕ) → Is Record′.row q (Record′.vals q) → Is Version′.row x-known (Version′.vals x-known) → Is Version′.row x-v (Version′.vals x-v) → Is PageIndex′.row page (PageIndex′.vals page) → Is u64 span (uint-vals w64 span) → place-of″.req q x-known x-v page span →
+      Opds K W (raw (Asked 𝓤 H A mem run .pre (to 𝓤 H A mem run q x-known x-v page span)) ∷ Γ) E xs (Record′.mach q ∷ Version′.mach x-known ∷ Version′.mach x-v ∷ PageIndex′.mach page ∷ vint w64 span ∷ [])
       → (Is u64 (place-of″.res q x-known x-v page span) (uint-vals w64 (place-of″.res q x-known x-v page span)) → Seq K W (Γ) (lands C Λ E d (vint w64 (place-of″.res q x-known x-v page span)) rest Q))
       → Seq K W (Γ) (runs C Λ E (seq (call #callee xs d) rest) Q)
   calls t mem run fm known q x-known x-v page span = calls-by t mem run fm q x-known x-v page span (known (to 𝓤 H A mem run q x-known x-v page span))
 
 module _ {M : Type 1} {𝓤 : URA M} {H : Heap 𝓤} {A : Atoms 𝓤} {K : Type 0} {W : Given 𝓤 H A} {Γ : List (Item 𝓤)} {E : Env 𝓤 H} {C : Calls 𝓤 H} {Λ : Loops 𝓤 H} {Q : Post 𝓤 H} {xs : List Operand} {d : Place} where
   -- by one instance of the callee's contract, which is what a function that calls itself has. The call ends a part of the code
-  pub calls-last-by : K → (mem : Memory → SProp 𝓤) (run : Routine → Fun 𝓤) → FmC 𝓤 H (W .laws) C → (q : Record) (x-known : ℕ) (x-v : ℕ) (page : PageIndex) (span : ℕ) → ent 𝓤 (Asked 𝓤 H A mem run .pre (to 𝓤 H A mem run q x-known x-v page span)) (C #callee (Asked 𝓤 H A mem run .args (to 𝓤 H A mem run q x-known x-v page span)) (Asked 𝓤 H A mem run .post (to 𝓤 H A mem run q x-known x-v page span))) → Is Record′.row q (Record′.vals q) → Is u64 x-known (uint-vals w64 x-known) → Is u64 x-v (uint-vals w64 x-v) → Is PageIndex′.row page (PageIndex′.vals page) → Is u64 span (uint-vals w64 span) → place-of″.req q x-known x-v page span →
-      Opds K W (raw (Asked 𝓤 H A mem run .pre (to 𝓤 H A mem run q x-known x-v page span)) ∷ Γ) E xs (Record′.mach q ∷ vint w64 x-known ∷ vint w64 x-v ∷ PageIndex′.mach page ∷ vint w64 span ∷ [])
+  pub calls-last-by : K → (mem : Memory → SProp 𝓤) (run : Routine → Fun 𝓤) → FmC 𝓤 H (W .laws) C → (q : Record) (x-known : Version) (x-v : Version) (page : PageIndex) (span : ℕ) → ent 𝓤 (Asked 𝓤 H A mem run .pre (to 𝓤 H A mem run q x-known x-v page span)) (C #callee (Asked 𝓤 H A mem run .args (to 𝓤 H A mem run q x-known x-v page span)) (Asked 𝓤 H A mem run .post (to 𝓤 H A mem run q x-known x-v page span))) → Is Record′.row q (Record′.vals q) → Is Version′.row x-known (Version′.vals x-known) → Is Version′.row x-v (Version′.vals x-v) → Is PageIndex′.row page (PageIndex′.vals page) → Is u64 span (uint-vals w64 span) → place-of″.req q x-known x-v page span →
+      Opds K W (raw (Asked 𝓤 H A mem run .pre (to 𝓤 H A mem run q x-known x-v page span)) ∷ Γ) E xs (Record′.mach q ∷ Version′.mach x-known ∷ Version′.mach x-v ∷ PageIndex′.mach page ∷ vint w64 span ∷ [])
       → (Is u64 (place-of″.res q x-known x-v page span) (uint-vals w64 (place-of″.res q x-known x-v page span)) → Seq K W (Γ) (settles E d (vint w64 (place-of″.res q x-known x-v page span)) Q))
       → Seq K W (Γ) (runs C Λ E (call #callee xs d) Q)
   calls-last-by t mem run fm q x-known x-v page span known ok·q ok·x-known ok·x-v ok·page ok·span need os k =
       core t mem run q x-known x-v page span (runs C Λ E (call #callee xs d) Q) (λ v. settles E d v Q) (λ v. tt)
       (λ h. calls-from-last t fm (raw (Asked 𝓤 H A mem run .pre (to 𝓤 H A mem run q x-known x-v page span))) (Asked 𝓤 H A mem run .args (to 𝓤 H A mem run q x-known x-v page span)) (Asked 𝓤 H A mem run .post (to 𝓤 H A mem run q x-known x-v page span)) known os h) ok·q ok·x-known ok·x-v ok·page ok·span need k
 
-  pub calls-last : K → (mem : Memory → SProp 𝓤) (run : Routine → Fun 𝓤) → FmC 𝓤 H (W .laws) C → Triple 𝓤 (C #callee) (Asked 𝓤 H A mem run) → (q : Record) (x-known : ℕ) (x-v : ℕ) (page : PageIndex) (span : ℕ) → Is Record′.row q (Record′.vals q) → Is u64 x-known (uint-vals w64 x-known) → Is u64 x-v (uint-vals w64 x-v) → Is PageIndex′.row page (PageIndex′.vals page) → Is u64 span (uint-vals w64 span) → place-of″.req q x-known x-v page span →
-      Opds K W (raw (Asked 𝓤 H A mem run .pre (to 𝓤 H A mem run q x-known x-v page span)) ∷ Γ) E xs (Record′.mach q ∷ vint w64 x-known ∷ vint w64 x-v ∷ PageIndex′.mach page ∷ vint w64 span ∷ [])
+  pub calls-last : K → (mem : Memory → SProp 𝓤) (run : Routine → Fun 𝓤) → FmC 𝓤 H (W .laws) C → Triple 𝓤 (C #callee) (Asked 𝓤 H A mem run) → (q : Record) (x-known : Version) (x-v : Version) (page : PageIndex) (span : ℕ) → Is Record′.row q (Record′.vals q) → Is Version′.row x-known (Version′.vals x-known) → Is Version′.row x-v (Version′.vals x-v) → Is PageIndex′.row page (PageIndex′.vals page) → Is u64 span (uint-vals w64 span) → place-of″.req q x-known x-v page span →
+      Opds K W (raw (Asked 𝓤 H A mem run .pre (to 𝓤 H A mem run q x-known x-v page span)) ∷ Γ) E xs (Record′.mach q ∷ Version′.mach x-known ∷ Version′.mach x-v ∷ PageIndex′.mach page ∷ vint w64 span ∷ [])
       → (Is u64 (place-of″.res q x-known x-v page span) (uint-vals w64 (place-of″.res q x-known x-v page span)) → Seq K W (Γ) (settles E d (vint w64 (place-of″.res q x-known x-v page span)) Q))
       → Seq K W (Γ) (runs C Λ E (call #callee xs d) Q)
   calls-last t mem run fm known q x-known x-v page span = calls-last-by t mem run fm q x-known x-v page span (known (to 𝓤 H A mem run q x-known x-v page span))

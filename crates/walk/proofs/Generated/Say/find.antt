@@ -19,8 +19,8 @@ use Rattle.tree.specs.declared.Ticket.{Ticket}
 use Rattle.tree.specs.declared.Version.{Version}
 use Rattle.walk.specs.declared.Turn.{Turn}
 
-abbrev pub req : List Record → List ℕ → ℕ → ℕ → ℕ → PageIndex → Type 0
-req register nodes known v span page = (known ≤ length register) × Spanned span × (known ≤ 4096)
+abbrev pub req : List Record → List ℕ → Version → Version → ℕ → PageIndex → Type 0
+req register nodes known v span page = (known .0 ≤ length register) × Spanned span × (known .0 ≤ 4096)
 
-abbrev pub ens : List Record → List ℕ → ℕ → ℕ → ℕ → PageIndex → ℕ → Type 0
-ens register nodes known v span page r = foundIn r ≡ walkDown register nodes known v span (page .0)
+abbrev pub ens : List Record → List ℕ → Version → Version → ℕ → PageIndex → ℕ → Type 0
+ens register nodes known v span page r = foundIn r ≡ walkDown register nodes (known .0) (v .0) span (page .0)

@@ -19,11 +19,11 @@ use Rattle.tree.specs.declared.Ticket.{Ticket}
 use Rattle.tree.specs.declared.Version.{Version}
 use Rattle.walk.specs.declared.Turn.{Turn}
 
-abbrev pub req : Record → ℕ → ℕ → PageIndex → ℕ → Type 0
+abbrev pub req : Record → Version → Version → PageIndex → ℕ → Type 0
 req q known v page span = Spanned span
 
-abbrev pub ens : Record → ℕ → ℕ → PageIndex → ℕ → ℕ → Type 0
-ens q known v page span r = r ≡ placeNumber (placeIn known q v (page .0) (rootHeight span))
+abbrev pub ens : Record → Version → Version → PageIndex → ℕ → ℕ → Type 0
+ens q known v page span r = r ≡ placeNumber (placeIn (known .0) q (v .0) (page .0) (rootHeight span))
 
-abbrev pub res : Record → ℕ → ℕ → PageIndex → ℕ → ℕ
-res q known v page span = placeNumber (placeIn known q v (page .0) (rootHeight span))
+abbrev pub res : Record → Version → Version → PageIndex → ℕ → ℕ
+res q known v page span = placeNumber (placeIn (known .0) q (v .0) (page .0) (rootHeight span))

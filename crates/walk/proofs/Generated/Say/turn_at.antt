@@ -15,6 +15,7 @@ use Rattle.versions.specs.Store.{areasOf}
 use Rattle.walk.specs.FindPage.{findPage, numberWithin, isLost, orZero}
 use Rattle.tree.specs.declared.NodeAt.{NodeAt}
 use Rattle.tree.specs.declared.PageIndex.{PageIndex}
+use Rattle.tree.specs.declared.Version.{Version}
 use Rattle.walk.specs.declared.Turn.{Turn}
 
 abbrev pub req : NodeAt → PageIndex → ℕ → Type 0

@@ -21,14 +21,14 @@ use Rattle.register.proofs.Generated.Kind.Record as Record′
 use Rattle.tree.specs.declared.PageIndex.{PageIndex}
 use Rattle.register.proofs.Generated.Kind.PageIndex as PageIndex′
 use Rattle.walk.proofs.Generated.Say.find_page as find-page″
-use Rattle.register.proofs.Generated.Say.record_of as record-of″
+use Rattle.register.proofs.Generated.Say.version_record as version-record″
 use Rattle.walk.proofs.Generated.Say.smaller as smaller″
 use Rattle.walk.proofs.Generated.Say.root_of as root-of″
 use Rattle.walk.proofs.Generated.Say.find as find″
 use Rattle.walk.proofs.Generated.Say.found_in as found-in″
 
 abbrev pub r1 : Store → List ℕ → List Record → Version → PageIndex → Record
-r1 s nodes register x-v page = record-of″.res register (x-v .0)
+r1 s nodes register x-v page = version-record″.res register x-v
 
 abbrev pub r2 : Store → List ℕ → List Record → Version → PageIndex → ℕ
 r2 s nodes register x-v page = smaller″.res (s .assigned .0) 4096
@@ -42,14 +42,14 @@ r4 s nodes register x-v page = root-of″.res (r1 s nodes register x-v page)
 abbrev pub r6 : Store → List ℕ → List Record → Version → PageIndex → ℕ → Found
 r6 s nodes register x-v page r5 = found-in″.res r5
 
--- `find` asks: (known ≤ length register) × Spanned span × (known ≤ 4096)
+-- `find` asks: (known .0 ≤ length register) × Spanned span × (known .0 ≤ 4096)
 abbrev pub find-1 : Type 0
 find-1 =
     (s : Store) (nodes : List ℕ) (register : List Record) (x-v : Version) (page : PageIndex) (ok-s : Store′.Ok s) (len-nodes : length nodes < 2 ^ 64) (len-register : length register < 2 ^ 64) (ok-x-v : Version′.Ok x-v) (ok-page : PageIndex′.Ok page) (ok-r1 : Record′.Ok (r1 s nodes register x-v page)) (fits-r2 : (r2 s nodes register x-v page) < 2 ^ 64) (fits-r3 : (r3 s nodes register x-v page) < 2 ^ 64) (fits-r4 : (r4 s nodes register x-v page) < 2 ^ 64)
-    → find″.req register nodes (r3 s nodes register x-v page) (x-v .0) (r4 s nodes register x-v page) page
+    → find″.req register nodes (Version′.build (r3 s nodes register x-v page)) x-v (r4 s nodes register x-v page) page
 
 -- the function ensures: r ≡ findPage s (areasOf [] nodes register) (v .0) (page .0)
 abbrev pub exit-1 : Type 0
 exit-1 =
-    (s : Store) (nodes : List ℕ) (register : List Record) (x-v : Version) (page : PageIndex) (ok-s : Store′.Ok s) (len-nodes : length nodes < 2 ^ 64) (len-register : length register < 2 ^ 64) (ok-x-v : Version′.Ok x-v) (ok-page : PageIndex′.Ok page) (ok-r1 : Record′.Ok (r1 s nodes register x-v page)) (fits-r2 : (r2 s nodes register x-v page) < 2 ^ 64) (fits-r3 : (r3 s nodes register x-v page) < 2 ^ 64) (fits-r4 : (r4 s nodes register x-v page) < 2 ^ 64) (r5 : ℕ) (fits-r5 : r5 < 2 ^ 64) (says5 : find″.ens register nodes (r3 s nodes register x-v page) (x-v .0) (r4 s nodes register x-v page) page r5) (ok-r6 : Found′.Ok (r6 s nodes register x-v page r5))
+    (s : Store) (nodes : List ℕ) (register : List Record) (x-v : Version) (page : PageIndex) (ok-s : Store′.Ok s) (len-nodes : length nodes < 2 ^ 64) (len-register : length register < 2 ^ 64) (ok-x-v : Version′.Ok x-v) (ok-page : PageIndex′.Ok page) (ok-r1 : Record′.Ok (r1 s nodes register x-v page)) (fits-r2 : (r2 s nodes register x-v page) < 2 ^ 64) (fits-r3 : (r3 s nodes register x-v page) < 2 ^ 64) (fits-r4 : (r4 s nodes register x-v page) < 2 ^ 64) (r5 : ℕ) (fits-r5 : r5 < 2 ^ 64) (says5 : find″.ens register nodes (Version′.build (r3 s nodes register x-v page)) x-v (r4 s nodes register x-v page) page r5) (ok-r6 : Found′.Ok (r6 s nodes register x-v page r5))
     → find-page″.ens s nodes register x-v page (r6 s nodes register x-v page r5)

@@ -7,8 +7,8 @@ use Rattle.tree.specs.Tree.{nth}
 use Rattle.walk.proofs.Descent.{find-from-root}
 use Rattle.walk.proofs.find_page.Proof.Asks as Asks
 
--- `find` asks: (known ≤ length register) × Spanned span × (known ≤ 4096)
--- here: find″.req register nodes (r3 s nodes register x-v page) (x-v .0) (r4 s nodes register x-v page) page
+-- `find` asks: (known .0 ≤ length register) × Spanned span × (known .0 ≤ 4096)
+-- here: find″.req register nodes (Version′.build (r3 s nodes register x-v page)) x-v (r4 s nodes register x-v page) page
 pub find-1 : Asks.find-1
 find-1 s nodes register x-v page ok-s len-nodes len-register ok-x-v ok-page ok-r1 fits-r2 fits-r3 fits-r4 = (omega arith, record { height = rootHeight (updateOf (nth noRecord register (x-v .0)) .size); spans = refl }, omega arith)
 

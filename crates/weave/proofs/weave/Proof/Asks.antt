@@ -29,75 +29,80 @@ use Rattle.weave.proofs.Generated.Kind.Plan as Plan′
 use Rattle.weave.specs.declared.Next.{Next}
 use Rattle.weave.proofs.Generated.Kind.Next as Next′
 use Rattle.weave.proofs.Generated.Say.weave as weave″
-use Rattle.register.proofs.Generated.Say.record_of as record-of″
+use Rattle.versions.proofs.Generated.Say.lengths_of as lengths-of″
+use Rattle.register.proofs.Generated.Say.ticket_record as ticket-record″
+use Rattle.register.proofs.Generated.Say.version_record as version-record″
 use Rattle.weave.proofs.Generated.Say.weave_plan as weave-plan″
 use Rattle.register.proofs.Generated.Say.newest_update as newest-update″
 use Rattle.weave.proofs.Generated.Say.woven_node as woven-node″
 use Rattle.weave.proofs.Generated.Say.store_woven as store-woven″
-use Rattle.versions.proofs.Generated.Say.index_of as index-of″
+use Rattle.versions.proofs.Generated.Say.version_index as version-index″
 use Rattle.weave.proofs.Generated.Say.with_woven as with-woven″
 use Rattle.versions.proofs.Generated.Say.put_record as put-record″
 use Rattle.weave.proofs.Generated.Say.woven_answer as woven-answer″
 
-abbrev pub r1 : Store → List ℕ → List ℕ → List Record → Ticket → Record
-r1 s pages nodes register x-t = record-of″.res register (x-t .0)
+abbrev pub r1 : Store → List ℕ → List ℕ → List Record → Ticket → Lengths
+r1 s pages nodes register x-t = lengths-of″.res pages nodes register
 
 abbrev pub r2 : Store → List ℕ → List ℕ → List Record → Ticket → Record
-r2 s pages nodes register x-t = record-of″.res register (((r1 s pages nodes register x-t) .version) .0)
+r2 s pages nodes register x-t = ticket-record″.res register x-t
 
-abbrev pub r4 : Store → List ℕ → List ℕ → List Record → Ticket → Plan → Version
-r4 s pages nodes register x-t r3 = newest-update″.res register (r3 .limit) (r3 .next .first) (r3 .next .half)
+abbrev pub r3 : Store → List ℕ → List ℕ → List Record → Ticket → Record
+r3 s pages nodes register x-t = version-record″.res register ((r2 s pages nodes register x-t) .version)
 
 abbrev pub r5 : Store → List ℕ → List ℕ → List Record → Ticket → Plan → Version
-r5 s pages nodes register x-t r3 = newest-update″.res register (r3 .limit) (r3 .next .right) (r3 .next .half)
+r5 s pages nodes register x-t r4 = newest-update″.res register (r4 .limit) (r4 .next .first) (r4 .next .half)
 
-abbrev pub nodes₇ : Store → List ℕ → List ℕ → List Record → Ticket → Plan → WovenNode → List ℕ
-nodes₇ s pages nodes register x-t r3 r6 = store-woven″.out-nodes nodes (r3 .k) (r2 s pages nodes register x-t) r6
+abbrev pub r6 : Store → List ℕ → List ℕ → List Record → Ticket → Plan → Version
+r6 s pages nodes register x-t r4 = newest-update″.res register (r4 .limit) (r4 .next .right) (r4 .next .half)
 
-abbrev pub r8 : Store → List ℕ → List ℕ → List Record → Ticket → Plan → WovenNode → ℕ
-r8 s pages nodes register x-t r3 r6 = index-of″.res (((r1 s pages nodes register x-t) .version) .0)
+abbrev pub nodes₈ : Store → List ℕ → List ℕ → List Record → Ticket → Plan → WovenNode → List ℕ
+nodes₈ s pages nodes register x-t r4 r7 = store-woven″.out-nodes nodes (r4 .k) (r3 s pages nodes register x-t) r7
 
-abbrev pub r9 : Store → List ℕ → List ℕ → List Record → Ticket → Plan → WovenNode → Record
-r9 s pages nodes register x-t r3 r6 = with-woven″.res (r3 .k) (r2 s pages nodes register x-t)
+abbrev pub r9 : Store → List ℕ → List ℕ → List Record → Ticket → Plan → WovenNode → ℕ
+r9 s pages nodes register x-t r4 r7 = version-index″.res ((r2 s pages nodes register x-t) .version)
 
-abbrev pub register₁₀ : Store → List ℕ → List ℕ → List Record → Ticket → Plan → WovenNode → List Record
-register₁₀ s pages nodes register x-t r3 r6 = put-record″.out-register register (r3 .k) (r8 s pages nodes register x-t r3 r6) (r9 s pages nodes register x-t r3 r6)
+abbrev pub r10 : Store → List ℕ → List ℕ → List Record → Ticket → Plan → WovenNode → Record
+r10 s pages nodes register x-t r4 r7 = with-woven″.res (r4 .k) (r3 s pages nodes register x-t)
 
-abbrev pub r11 : Store → List ℕ → List ℕ → List Record → Ticket → Plan → WovenNode → Woven
-r11 s pages nodes register x-t r3 r6 = woven-answer″.res (r3 .k) r6
+abbrev pub register₁₁ : Store → List ℕ → List ℕ → List Record → Ticket → Plan → WovenNode → List Record
+register₁₁ s pages nodes register x-t r4 r7 = put-record″.out-register register (r4 .k) (r9 s pages nodes register x-t r4 r7) (r10 s pages nodes register x-t r4 r7)
+
+abbrev pub r12 : Store → List ℕ → List ℕ → List Record → Ticket → Plan → WovenNode → Woven
+r12 s pages nodes register x-t r4 r7 = woven-answer″.res (r4 .k) r7
 
 -- `newest_update` asks: (below .0 ≤ length register) × (first .0 + span < 2 ^ 64) × (0 < below .0 → 0 < span)
 abbrev pub newest-update-1 : Type 0
 newest-update-1 =
-    (s : Store) (pages : List ℕ) (nodes : List ℕ) (register : List Record) (x-t : Ticket) (ok-s : Store′.Ok s) (len-pages : length pages < 2 ^ 64) (len-nodes : length nodes < 2 ^ 64) (len-register : length register < 2 ^ 64) (ok-x-t : Ticket′.Ok x-t) (ok-r1 : Record′.Ok (r1 s pages nodes register x-t)) (ok-r2 : Record′.Ok (r2 s pages nodes register x-t)) (r3 : Plan) (ok-r3 : Plan′.Ok r3) (says3 : weave-plan″.ens s (Lengths′.build (length pages) (length nodes) (length register)) (r1 s pages nodes register x-t) (r2 s pages nodes register x-t) x-t r3)
-    → newest-update″.req register (r3 .limit) (r3 .next .first) (r3 .next .half)
+    (s : Store) (pages : List ℕ) (nodes : List ℕ) (register : List Record) (x-t : Ticket) (ok-s : Store′.Ok s) (len-pages : length pages < 2 ^ 64) (len-nodes : length nodes < 2 ^ 64) (len-register : length register < 2 ^ 64) (ok-x-t : Ticket′.Ok x-t) (ok-r1 : Lengths′.Ok (r1 s pages nodes register x-t)) (ok-r2 : Record′.Ok (r2 s pages nodes register x-t)) (ok-r3 : Record′.Ok (r3 s pages nodes register x-t)) (r4 : Plan) (ok-r4 : Plan′.Ok r4) (says4 : weave-plan″.ens s (r1 s pages nodes register x-t) (r2 s pages nodes register x-t) (r3 s pages nodes register x-t) x-t r4)
+    → newest-update″.req register (r4 .limit) (r4 .next .first) (r4 .next .half)
 
 -- `newest_update` asks: (below .0 ≤ length register) × (first .0 + span < 2 ^ 64) × (0 < below .0 → 0 < span)
 abbrev pub newest-update-2 : Type 0
 newest-update-2 =
-    (s : Store) (pages : List ℕ) (nodes : List ℕ) (register : List Record) (x-t : Ticket) (ok-s : Store′.Ok s) (len-pages : length pages < 2 ^ 64) (len-nodes : length nodes < 2 ^ 64) (len-register : length register < 2 ^ 64) (ok-x-t : Ticket′.Ok x-t) (ok-r1 : Record′.Ok (r1 s pages nodes register x-t)) (ok-r2 : Record′.Ok (r2 s pages nodes register x-t)) (r3 : Plan) (ok-r3 : Plan′.Ok r3) (says3 : weave-plan″.ens s (Lengths′.build (length pages) (length nodes) (length register)) (r1 s pages nodes register x-t) (r2 s pages nodes register x-t) x-t r3) (ok-r4 : Version′.Ok (r4 s pages nodes register x-t r3))
-    → newest-update″.req register (r3 .limit) (r3 .next .right) (r3 .next .half)
+    (s : Store) (pages : List ℕ) (nodes : List ℕ) (register : List Record) (x-t : Ticket) (ok-s : Store′.Ok s) (len-pages : length pages < 2 ^ 64) (len-nodes : length nodes < 2 ^ 64) (len-register : length register < 2 ^ 64) (ok-x-t : Ticket′.Ok x-t) (ok-r1 : Lengths′.Ok (r1 s pages nodes register x-t)) (ok-r2 : Record′.Ok (r2 s pages nodes register x-t)) (ok-r3 : Record′.Ok (r3 s pages nodes register x-t)) (r4 : Plan) (ok-r4 : Plan′.Ok r4) (says4 : weave-plan″.ens s (r1 s pages nodes register x-t) (r2 s pages nodes register x-t) (r3 s pages nodes register x-t) x-t r4) (ok-r5 : Version′.Ok (r5 s pages nodes register x-t r4))
+    → newest-update″.req register (r4 .limit) (r4 .next .right) (r4 .next .half)
 
 -- `woven_node` asks: NextOf q x
 abbrev pub woven-node-1 : Type 0
 woven-node-1 =
-    (s : Store) (pages : List ℕ) (nodes : List ℕ) (register : List Record) (x-t : Ticket) (ok-s : Store′.Ok s) (len-pages : length pages < 2 ^ 64) (len-nodes : length nodes < 2 ^ 64) (len-register : length register < 2 ^ 64) (ok-x-t : Ticket′.Ok x-t) (ok-r1 : Record′.Ok (r1 s pages nodes register x-t)) (ok-r2 : Record′.Ok (r2 s pages nodes register x-t)) (r3 : Plan) (ok-r3 : Plan′.Ok r3) (says3 : weave-plan″.ens s (Lengths′.build (length pages) (length nodes) (length register)) (r1 s pages nodes register x-t) (r2 s pages nodes register x-t) x-t r3) (ok-r4 : Version′.Ok (r4 s pages nodes register x-t r3)) (ok-r5 : Version′.Ok (r5 s pages nodes register x-t r3))
-    → woven-node″.req (r1 s pages nodes register x-t) (r2 s pages nodes register x-t) (r3 .next) (r4 s pages nodes register x-t r3) (r5 s pages nodes register x-t r3)
+    (s : Store) (pages : List ℕ) (nodes : List ℕ) (register : List Record) (x-t : Ticket) (ok-s : Store′.Ok s) (len-pages : length pages < 2 ^ 64) (len-nodes : length nodes < 2 ^ 64) (len-register : length register < 2 ^ 64) (ok-x-t : Ticket′.Ok x-t) (ok-r1 : Lengths′.Ok (r1 s pages nodes register x-t)) (ok-r2 : Record′.Ok (r2 s pages nodes register x-t)) (ok-r3 : Record′.Ok (r3 s pages nodes register x-t)) (r4 : Plan) (ok-r4 : Plan′.Ok r4) (says4 : weave-plan″.ens s (r1 s pages nodes register x-t) (r2 s pages nodes register x-t) (r3 s pages nodes register x-t) x-t r4) (ok-r5 : Version′.Ok (r5 s pages nodes register x-t r4)) (ok-r6 : Version′.Ok (r6 s pages nodes register x-t r4))
+    → woven-node″.req (r2 s pages nodes register x-t) (r3 s pages nodes register x-t) (r4 .next) (r5 s pages nodes register x-t r4) (r6 s pages nodes register x-t r4)
 
 -- `store_woven` asks: (k ≡ 0 → nextPlace q < 2 ^ 64)
 abbrev pub store-woven-1 : Type 0
 store-woven-1 =
-    (s : Store) (pages : List ℕ) (nodes : List ℕ) (register : List Record) (x-t : Ticket) (ok-s : Store′.Ok s) (len-pages : length pages < 2 ^ 64) (len-nodes : length nodes < 2 ^ 64) (len-register : length register < 2 ^ 64) (ok-x-t : Ticket′.Ok x-t) (ok-r1 : Record′.Ok (r1 s pages nodes register x-t)) (ok-r2 : Record′.Ok (r2 s pages nodes register x-t)) (r3 : Plan) (ok-r3 : Plan′.Ok r3) (says3 : weave-plan″.ens s (Lengths′.build (length pages) (length nodes) (length register)) (r1 s pages nodes register x-t) (r2 s pages nodes register x-t) x-t r3) (ok-r4 : Version′.Ok (r4 s pages nodes register x-t r3)) (ok-r5 : Version′.Ok (r5 s pages nodes register x-t r3)) (r6 : WovenNode) (ok-r6 : WovenNode′.Ok r6) (says6 : woven-node″.ens (r1 s pages nodes register x-t) (r2 s pages nodes register x-t) (r3 .next) (r4 s pages nodes register x-t r3) (r5 s pages nodes register x-t r3) r6)
-    → store-woven″.req nodes (r3 .k) (r2 s pages nodes register x-t) r6
+    (s : Store) (pages : List ℕ) (nodes : List ℕ) (register : List Record) (x-t : Ticket) (ok-s : Store′.Ok s) (len-pages : length pages < 2 ^ 64) (len-nodes : length nodes < 2 ^ 64) (len-register : length register < 2 ^ 64) (ok-x-t : Ticket′.Ok x-t) (ok-r1 : Lengths′.Ok (r1 s pages nodes register x-t)) (ok-r2 : Record′.Ok (r2 s pages nodes register x-t)) (ok-r3 : Record′.Ok (r3 s pages nodes register x-t)) (r4 : Plan) (ok-r4 : Plan′.Ok r4) (says4 : weave-plan″.ens s (r1 s pages nodes register x-t) (r2 s pages nodes register x-t) (r3 s pages nodes register x-t) x-t r4) (ok-r5 : Version′.Ok (r5 s pages nodes register x-t r4)) (ok-r6 : Version′.Ok (r6 s pages nodes register x-t r4)) (r7 : WovenNode) (ok-r7 : WovenNode′.Ok r7) (says7 : woven-node″.ens (r2 s pages nodes register x-t) (r3 s pages nodes register x-t) (r4 .next) (r5 s pages nodes register x-t r4) (r6 s pages nodes register x-t r4) r7)
+    → store-woven″.req nodes (r4 .k) (r3 s pages nodes register x-t) r7
 
 -- `with_woven` asks: (k ≡ 0 → suc (q .woven) < 2 ^ 64)
 abbrev pub with-woven-1 : Type 0
 with-woven-1 =
-    (s : Store) (pages : List ℕ) (nodes : List ℕ) (register : List Record) (x-t : Ticket) (ok-s : Store′.Ok s) (len-pages : length pages < 2 ^ 64) (len-nodes : length nodes < 2 ^ 64) (len-register : length register < 2 ^ 64) (ok-x-t : Ticket′.Ok x-t) (ok-r1 : Record′.Ok (r1 s pages nodes register x-t)) (ok-r2 : Record′.Ok (r2 s pages nodes register x-t)) (r3 : Plan) (ok-r3 : Plan′.Ok r3) (says3 : weave-plan″.ens s (Lengths′.build (length pages) (length nodes) (length register)) (r1 s pages nodes register x-t) (r2 s pages nodes register x-t) x-t r3) (ok-r4 : Version′.Ok (r4 s pages nodes register x-t r3)) (ok-r5 : Version′.Ok (r5 s pages nodes register x-t r3)) (r6 : WovenNode) (ok-r6 : WovenNode′.Ok r6) (says6 : woven-node″.ens (r1 s pages nodes register x-t) (r2 s pages nodes register x-t) (r3 .next) (r4 s pages nodes register x-t r3) (r5 s pages nodes register x-t r3) r6) (same7-nodes : length (nodes₇ s pages nodes register x-t r3 r6) ≡ length nodes) (fits-r8 : (r8 s pages nodes register x-t r3 r6) < 2 ^ 64)
-    → with-woven″.req (r3 .k) (r2 s pages nodes register x-t)
+    (s : Store) (pages : List ℕ) (nodes : List ℕ) (register : List Record) (x-t : Ticket) (ok-s : Store′.Ok s) (len-pages : length pages < 2 ^ 64) (len-nodes : length nodes < 2 ^ 64) (len-register : length register < 2 ^ 64) (ok-x-t : Ticket′.Ok x-t) (ok-r1 : Lengths′.Ok (r1 s pages nodes register x-t)) (ok-r2 : Record′.Ok (r2 s pages nodes register x-t)) (ok-r3 : Record′.Ok (r3 s pages nodes register x-t)) (r4 : Plan) (ok-r4 : Plan′.Ok r4) (says4 : weave-plan″.ens s (r1 s pages nodes register x-t) (r2 s pages nodes register x-t) (r3 s pages nodes register x-t) x-t r4) (ok-r5 : Version′.Ok (r5 s pages nodes register x-t r4)) (ok-r6 : Version′.Ok (r6 s pages nodes register x-t r4)) (r7 : WovenNode) (ok-r7 : WovenNode′.Ok r7) (says7 : woven-node″.ens (r2 s pages nodes register x-t) (r3 s pages nodes register x-t) (r4 .next) (r5 s pages nodes register x-t r4) (r6 s pages nodes register x-t r4) r7) (same8-nodes : length (nodes₈ s pages nodes register x-t r4 r7) ≡ length nodes) (fits-r9 : (r9 s pages nodes register x-t r4 r7) < 2 ^ 64)
+    → with-woven″.req (r4 .k) (r3 s pages nodes register x-t)
 
 -- the function ensures: (r ≡ weaveOut s (areasOf pages nodes register) (t .0)) × (nodes′ ≡ weaveNodes s (areasOf pages nodes register) (t .0)) × (register′ ≡ weaveRegister s (areasOf pages nodes register) (t .0))
 abbrev pub exit-1 : Type 0
 exit-1 =
-    (s : Store) (pages : List ℕ) (nodes : List ℕ) (register : List Record) (x-t : Ticket) (ok-s : Store′.Ok s) (len-pages : length pages < 2 ^ 64) (len-nodes : length nodes < 2 ^ 64) (len-register : length register < 2 ^ 64) (ok-x-t : Ticket′.Ok x-t) (ok-r1 : Record′.Ok (r1 s pages nodes register x-t)) (ok-r2 : Record′.Ok (r2 s pages nodes register x-t)) (r3 : Plan) (ok-r3 : Plan′.Ok r3) (says3 : weave-plan″.ens s (Lengths′.build (length pages) (length nodes) (length register)) (r1 s pages nodes register x-t) (r2 s pages nodes register x-t) x-t r3) (ok-r4 : Version′.Ok (r4 s pages nodes register x-t r3)) (ok-r5 : Version′.Ok (r5 s pages nodes register x-t r3)) (r6 : WovenNode) (ok-r6 : WovenNode′.Ok r6) (says6 : woven-node″.ens (r1 s pages nodes register x-t) (r2 s pages nodes register x-t) (r3 .next) (r4 s pages nodes register x-t r3) (r5 s pages nodes register x-t r3) r6) (same7-nodes : length (nodes₇ s pages nodes register x-t r3 r6) ≡ length nodes) (fits-r8 : (r8 s pages nodes register x-t r3 r6) < 2 ^ 64) (ok-r9 : Record′.Ok (r9 s pages nodes register x-t r3 r6)) (same10-register : length (register₁₀ s pages nodes register x-t r3 r6) ≡ length register) (ok-r11 : Woven′.Ok (r11 s pages nodes register x-t r3 r6))
-    → weave″.ens s pages nodes register x-t (nodes₇ s pages nodes register x-t r3 r6) (register₁₀ s pages nodes register x-t r3 r6) (r11 s pages nodes register x-t r3 r6)
+    (s : Store) (pages : List ℕ) (nodes : List ℕ) (register : List Record) (x-t : Ticket) (ok-s : Store′.Ok s) (len-pages : length pages < 2 ^ 64) (len-nodes : length nodes < 2 ^ 64) (len-register : length register < 2 ^ 64) (ok-x-t : Ticket′.Ok x-t) (ok-r1 : Lengths′.Ok (r1 s pages nodes register x-t)) (ok-r2 : Record′.Ok (r2 s pages nodes register x-t)) (ok-r3 : Record′.Ok (r3 s pages nodes register x-t)) (r4 : Plan) (ok-r4 : Plan′.Ok r4) (says4 : weave-plan″.ens s (r1 s pages nodes register x-t) (r2 s pages nodes register x-t) (r3 s pages nodes register x-t) x-t r4) (ok-r5 : Version′.Ok (r5 s pages nodes register x-t r4)) (ok-r6 : Version′.Ok (r6 s pages nodes register x-t r4)) (r7 : WovenNode) (ok-r7 : WovenNode′.Ok r7) (says7 : woven-node″.ens (r2 s pages nodes register x-t) (r3 s pages nodes register x-t) (r4 .next) (r5 s pages nodes register x-t r4) (r6 s pages nodes register x-t r4) r7) (same8-nodes : length (nodes₈ s pages nodes register x-t r4 r7) ≡ length nodes) (fits-r9 : (r9 s pages nodes register x-t r4 r7) < 2 ^ 64) (ok-r10 : Record′.Ok (r10 s pages nodes register x-t r4 r7)) (same11-register : length (register₁₁ s pages nodes register x-t r4 r7) ≡ length register) (ok-r12 : Woven′.Ok (r12 s pages nodes register x-t r4 r7))
+    → weave″.ens s pages nodes register x-t (nodes₈ s pages nodes register x-t r4 r7) (register₁₁ s pages nodes register x-t r4 r7) (r12 s pages nodes register x-t r4 r7)
