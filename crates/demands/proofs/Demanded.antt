@@ -53,7 +53,11 @@ module _ (L : Limits) (m : Model) (k : ℕ) (p : k ≤ m .published) where
 
 module _ (L : Limits) (m w : Model) (k : ℕ) (sound : Sound L m) (grown : Grown m w) (p : k ≤ m .published) where
   same-up-to : SameUpTo w m k
-  same-up-to = record { versions = λ v l. grown .version v (omega (arith, sound .published)); slots = slots }
+  same-up-to = record {
+    versions = λ v l. grown .version v (omega (arith, sound .published));
+    slots = slots;
+    numbers = λ v a o l. grown .numbers v a o (omega (arith, sound .published));
+  }
     where
       slots : (v : ℕ) → v ≤ k → ticketAt w (versionAt w v .ticket) .slots ≡ ticketAt m (versionAt w v .ticket) .slots
       slots zero l = refl

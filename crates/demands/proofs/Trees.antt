@@ -34,7 +34,7 @@ module _ (us : List Update) (k : ℕ) (accepted : (v : ℕ) → v < k → Accept
       let s = stands-woven us k accepted numbers at area woven (λ v p j z t f. refl) a h over q r in
       subst₂ (λ (x y : ℕ). nodeAt area (placeIn us y a h) ≡ Stored (leftBy us numbers y (node x h)) (rightBy us numbers y (node x h))) g (rw g (sym e)) s
 
-  tree-from : (h a w : ℕ) → h ≤ heightOf us k → first a h ≡ a → a < 2 ^ heightOf us k → w ≡ newest us k a (2 ^ h) → treeIn us area h w a ≡ treeOf us h w a
+  tree-from : (h a w : ℕ) → h ≤ heightOf us k → first a h ≡ a → a < 2 ^ heightOf us k → w ≡ newest us k a (2 ^ h) → treeIn us area h w a ≡ treeOf us leaf h w a
   unfolding treeIn treeOf
   tree-from zero a zero q g r e = refl
   tree-from (suc h) a zero q g r e = refl
@@ -53,12 +53,12 @@ module _ (us : List Update) (k : ℕ) (accepted : (v : ℕ) → v < k → Accept
         tree-from h (a + 2 ^ h) m (omega arith) (grid-right a h g) (omega (arith, pow-pos h)) f,
       )
 
-  none-below : (h : ℕ) → treeIn us area h 0 0 ≡ treeOf us h 0 0
+  none-below : (h : ℕ) → treeIn us area h 0 0 ≡ treeOf us leaf h 0 0
   unfolding treeIn treeOf
   none-below zero = refl
   none-below (suc h) = refl
 
-  pub tree-in : treeIn us area (heightOf us k) k 0 ≡ treeOf us (heightOf us k) k 0
+  pub tree-in : treeIn us area (heightOf us k) k 0 ≡ treeOf us leaf (heightOf us k) k 0
   tree-in = elim (lt-or-le 0 k) [
     | inl o ↦
         let H = heightOf us k in

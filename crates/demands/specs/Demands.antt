@@ -33,7 +33,7 @@ module _ (L : Limits) (a : Areas) where
     pub sound : (i : ℕ) → i < length cs → NoFault (getD (outcomes onStore (formattedState L a) cs) i (says waiting) .answer)
 
   -- Demand 2: published version k reads, byte for byte, as updates 1 .. k applied in turn to an empty blob; its size agrees; its tree has exactly the
-  -- nodes and child versions of the tree rule, a node lying where the accepted ASSIGNs and their counts put it.
+  -- nodes, child versions and page numbers of the tree rule, a node lying where the accepted ASSIGNs and their counts put it.
   pub record ReadsInTurn (cs : List Call) (k : ℕ) : Type 0 where
     pub reads : (offset len : ℕ) (buffer : List ℕ) → offset + len ≤ L .size * versionAt (modelAfter L cs) k .size → len ≤ length buffer
         → asked (storeAfter L a cs) (READ k offset len buffer)

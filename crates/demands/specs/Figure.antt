@@ -6,7 +6,7 @@ use Prim.Native.Nat.{ℕ}
 use lib.ListN.{replicate}
 use Rattle.register.specs.Register.{noRecord}
 use Rattle.demands.specs.Answers.{Call, BEGIN, PUT, WRITE, APPEND, WEAVE, PUBLISH, READ, STAMP, ticketIs, putDone, versionIs, nodeIs, publishedIs, waiting, filled, stampIs, Outcome, says}
-use Rattle.demands.specs.Model.{Limits, noModel, updates}
+use Rattle.demands.specs.Model.{Limits, noModel, leafNumber, updates}
 use Rattle.demands.specs.OnModel.{onModel}
 use Rattle.versions.specs.Store.{Areas}
 use Rattle.demands.specs.Computes.{computes}
@@ -128,14 +128,14 @@ pub seen-by-calls : outcomes onStore (storeAfter limits areas calls) looks ≡ s
 unfolding computes limits areas calls
 seen-by-calls = refl
 
--- The figure's tree of version 3.
+-- The figure's tree of version 3; a leaf's page number is by its ticket: 0 to 3 are ticket 1's, 4 and 5 ticket 2's, 6 ticket 3's.
 abbrev figure : Tree
 figure =
     inner 3 0 3 2 3
-    (inner 2 0 2 2 2 (inner 2 0 1 1 2 (leaf 1 0) (leaf 2 1)) (inner 2 2 1 2 1 (leaf 2 2) (leaf 1 3)))
-    (inner 3 4 2 3 0 (inner 3 4 1 3 0 (leaf 3 4) noPage) noPage)
+    (inner 2 0 2 2 2 (inner 2 0 1 1 2 (leaf 1 0 0 0) (leaf 2 1 4 0)) (inner 2 2 1 2 1 (leaf 2 2 5 0) (leaf 1 3 3 0)))
+    (inner 3 4 2 3 0 (inner 3 4 1 3 0 (leaf 3 4 6 0) noPage) noPage)
 
-pub tree-by-rule : treeOf (updates (modelAfter limits calls)) 3 3 0 ≡ figure
+pub tree-by-rule : treeOf (updates (modelAfter limits calls)) (leafNumber (modelAfter limits calls)) 3 3 0 ≡ figure
 unfolding computes limits calls treeOf
 tree-by-rule = refl
 

@@ -3,7 +3,7 @@
 use mathlib.Core.Bool.{Bool, true, false, _&&_}
 use mathlib.Core.Option.{Option, none, some}
 use mathlib.Core.List.{List, [], _∷_, map}
-use Prim.Native.Nat.{ℕ, zero, suc, _+_, _-_}
+use Prim.Native.Nat.{ℕ, zero, suc, pred, _+_, _-_}
 use lib.Dec.{ltb, eqb}
 use lib.ListN.{length}
 use Rattle.tree.specs.Tree.{Update, countOf, nth, update}
@@ -62,6 +62,10 @@ unfoldable pub taken : List Ticket → ℕ → ℕ
 taken ks zero = 0
 taken [] (suc t) = 0
 taken (k ∷ ks) (suc t) = pagesOf k + taken ks t
+
+-- The page number of version v's page a: its ticket's pages lie in their order, after those of all lower tickets.
+abbrev pub leafNumber : Model → ℕ → ℕ → ℕ
+leafNumber m v a = taken (m .tickets) (pred (versionAt m v .ticket)) + (a - versionAt m v .f)
 
 -- The version that ticket t got, or 0; v is the number of the first version listed.
 unfoldable pub versionFrom : ℕ → List Version → ℕ → ℕ

@@ -19,7 +19,7 @@ use Rattle.tree.proofs.Newest.{newest-le}
 use Rattle.tree.proofs.Walk.{alone, set-by-newest, covered, walk-alone}
 use Rattle.versions.specs.Store.{recordOf}
 use Rattle.walk.specs.FindPage.{findPage, numberWithin, pageNumberOf}
-use Rattle.demands.specs.Model.{Limits, Page, Ticket, Model, noTicket, pagesOf, ticketAt, versionAt, taken, updates}
+use Rattle.demands.specs.Model.{Limits, Page, Ticket, Model, noTicket, pagesOf, ticketAt, versionAt, taken, leafNumber, updates}
 use Rattle.demands.specs.OnModel.{rightOf}
 use Rattle.demands.specs.InTurn.{blobAt}
 use Rattle.demands.proofs.Image.{blank, slotCell, pageCell, pagesImage, onesPair, numbersOf, weaveCell, countAt, nodeCell, nodesImage, storeImage, areasImage}
@@ -33,10 +33,6 @@ use Rattle.demands.specs.Snapshot.{treeOf, treeIn}
 use Rattle.demands.proofs.Trees.{tree-in}
 use Rattle.demands.proofs.Updates.{length-updates, f-at, size-at}
 use Rattle.demands.proofs.Blob.{StampedIn, stamp-bounds, page-filled}
-
--- The page number of version w's page p.
-abbrev pub numberIn : Model → ℕ → ℕ → ℕ
-numberIn m w p = taken (m .tickets) (pred (versionAt m w .ticket)) + (p - versionAt m w .f)
 
 -- Version 0 has no page.
 pub some-version : (m : Model) (v p : ℕ) → p < versionAt m v .size → 0 < v
@@ -55,18 +51,15 @@ slot-cell size ks zero i x o h k e = absurd (omega arith)
 slot-cell size ks (suc t) i x o h k e = rw (taken-before ks t) (cell-at pagesOf (slotCell size) (blank size) ks t i noTicket h k ∙ rw e)
 
 module _ (L : Limits) (m : Model) (sound : Sound L m) where
-  -- A leaf's number and a version's first place, as the walk reads them.
-  abbrev leafAt : ℕ → ℕ → ℕ
-  leafAt v p = taken (m .tickets) (pred (versionAt m v .ticket)) + (p - update (updates m) v .f)
-
+  -- A version's first place, as the walk reads it.
   abbrev baseAt : ℕ → ℕ
   baseAt v = recordOf (areasImage L m) v .place
 
-  left-same : (base : ℕ → ℕ) (v : ℕ) (x : Node) → numbersOf m v x .0 ≡ leftBy (updates m) (alone leafAt base) v x
-  left-same base v (node a zero) = refl
+  left-same : (base : ℕ → ℕ) (v : ℕ) (x : Node) → numbersOf m v x .0 ≡ leftBy (updates m) (alone (leafNumber m) base) v x
+  left-same base v (node a zero) = rw (f-at m v)
   left-same base v (node a (suc h)) = refl
 
-  right-same : (base : ℕ → ℕ) (v : ℕ) (x : Node) → numbersOf m v x .1 ≡ rightBy (updates m) (alone leafAt base) v x
+  right-same : (base : ℕ → ℕ) (v : ℕ) (x : Node) → numbersOf m v x .1 ≡ rightBy (updates m) (alone (leafNumber m) base) v x
   right-same base v (node a zero) = refl
   right-same base v (node a (suc h)) = refl
 
@@ -95,19 +88,19 @@ module _ (L : Limits) (m : Model) (sound : Sound L m) where
         rw e at (node-stored (L .nodes) (nodeCell m) q (omega arith) (inr (rw e (λ z. omega arith))))
 
   -- A published version is woven whole, from its first place on.
-  woven-from : (base : ℕ → ℕ) (v : ℕ) → 0 < v → v ≤ m .published → base v ≡ used (updates m) (pred v) → WovenBy (updates m) (alone leafAt base) (nodesImage L m) v
+  woven-from : (base : ℕ → ℕ) (v : ℕ) → 0 < v → v ≤ m .published → base v ≡ used (updates m) (pred v) → WovenBy (updates m) (alone (leafNumber m) base) (nodesImage L m) v
   woven-from base v o h e i l =
       let g : v ≤ length (m .versions) = omega (arith, sound .published) in
       let x = getD (weaving (update (updates m) v)) i (node 0 0) in
       rw (e, ← left-same base v x, ← right-same base v x) (node-there v i o h (rw (← weaving-count L m sound v o g) l))
 
-  nodes-woven : (v : ℕ) → 0 < v → v ≤ m .published → WovenBy (updates m) (alone leafAt baseAt) (nodesImage L m) v
+  nodes-woven : (v : ℕ) → 0 < v → v ≤ m .published → WovenBy (updates m) (alone (leafNumber m) baseAt) (nodesImage L m) v
   nodes-woven v o h = woven-from baseAt v o h (place-of L m sound v o (omega (arith, sound .published)))
 
   -- The tree that the node area holds from a published version's root down is that of the tree rule.
-  pub tree-image : (k : ℕ) → k ≤ m .published → treeIn (updates m) (nodesImage L m) (heightOf (updates m) k) k 0 ≡ treeOf (updates m) (heightOf (updates m) k) k 0
+  pub tree-image : (k : ℕ) → k ≤ m .published → treeIn (updates m) (nodesImage L m) (heightOf (updates m) k) k 0 ≡ treeOf (updates m) (leafNumber m) (heightOf (updates m) k) k 0
   tree-image k h =
-      tree-in (updates m) k (λ v l. sound .accepted v (omega (arith, sound .published))) leafAt (nodesImage L m)
+      tree-in (updates m) k (λ v l. sound .accepted v (omega (arith, sound .published))) (leafNumber m) (nodesImage L m)
       (λ v o l. woven-from (λ (w : ℕ). used (updates m) (pred w)) v o (omega arith) refl)
 
   -- The versions assigned are within the limit that the walk keeps to.
@@ -123,17 +116,17 @@ module _ (L : Limits) (m : Model) (sound : Sound L m) where
     upto = omega (arith, sound .published)
 
     walk-found : walkBy (placeOf (updates m) baseAt) (nodesImage L m) (heightOf (updates m) v) v p
-        ≡ Leaf (record { 0 = stampOf (updates m) v p }) (numberIn m (stampOf (updates m) v p) p)
+        ≡ Leaf (record { 0 = stampOf (updates m) v p }) (leafNumber m (stampOf (updates m) v p) p)
     walk-found =
         let us = updates m in
         let fits = upto in
         let a : (w : ℕ) → w < v → Accepted us w = λ w l. sound .accepted w (omega arith) in
         let s : p < sizeAt us v = rw (size-at m v) r in
-        walk-alone us v a (rw length-updates fits) leafAt baseAt (nodesImage L m) (λ w x y. nodes-woven w x (omega arith)) p o s
-        ∙ rw (set-by-newest us leafAt v p (covered us v a v p (omega arith) s), f-at m (stampOf us v p))
+        walk-alone us v a (rw length-updates fits) (leafNumber m) baseAt (nodesImage L m) (λ w x y. nodes-woven w x (omega arith)) p o s
+        ∙ rw (set-by-newest us (leafNumber m) v p (covered us v a v p (omega arith) s))
 
     -- The walk on the image.
-    pub find-page : findPage (storeImage L m) (areasImage L m) v p ≡ Leaf (record { 0 = stampOf (updates m) v p }) (numberIn m (stampOf (updates m) v p) p)
+    pub find-page : findPage (storeImage L m) (areasImage L m) v p ≡ Leaf (record { 0 = stampOf (updates m) v p }) (leafNumber m (stampOf (updates m) v p) p)
     unfolding findPage
     find-page = rw (few-versions, updates-taken L m sound, update-image L m sound v o upto) walk-found
 
@@ -141,32 +134,32 @@ module _ (L : Limits) (m : Model) (sound : Sound L m) where
     stamped = stamp-bounds L m sound v p upto r
 
     -- Its page number lies within the page area.
-    pub number-within : numberIn m (stampOf (updates m) v p) p < L .pages
+    pub number-within : leafNumber m (stampOf (updates m) v p) p < L .pages
     number-within =
         let w = stampOf (updates m) v p in
         let b = stamped in
         let s = sound .versions w (b .above) (omega (arith, upto)) in
         omega (arith, number-room L m sound (versionAt m w .ticket) (s .from) (s .upto))
 
-    pub page-number : pageNumberOf (storeImage L m) (areasImage L m) v p ≡ some (numberIn m (stampOf (updates m) v p) p)
+    pub page-number : pageNumberOf (storeImage L m) (areasImage L m) v p ≡ some (leafNumber m (stampOf (updates m) v p) p)
     unfolding pageNumberOf
-    page-number = rw (find-page, lt-ltb (numberIn m (stampOf (updates m) v p) p) (L .pages) number-within, numberWithin)
+    page-number = rw (find-page, lt-ltb (leafNumber m (stampOf (updates m) v p) p) (L .pages) number-within, numberWithin)
 
     -- The bytes there are the page's.
-    pub page-bytes : pageCell (L .size) (m .tickets) (numberIn m (stampOf (updates m) v p) p) ≡ getD (blobAt m v) p []
+    pub page-bytes : pageCell (L .size) (m .tickets) (leafNumber m (stampOf (updates m) v p) p) ≡ getD (blobAt m v) p []
     page-bytes =
         let w = stampOf (updates m) v p in
         let b = stamped in
         let s = sound .versions w (b .above) (omega (arith, upto)) in
         slot-cell (L .size) (m .tickets) (versionAt m w .ticket) (p - versionAt m w .f) (getD (blobAt m v) p []) (s .from) (s .upto) (b .slot) (page-filled L m sound v p upto r)
 
-    pub view-bytes : part (pagesImage L m) (L .size * numberIn m (stampOf (updates m) v p) p) (L .size) ≡ getD (blobAt m v) p []
+    pub view-bytes : part (pagesImage L m) (L .size * leafNumber m (stampOf (updates m) v p) p) (L .size) ≡ getD (blobAt m v) p []
     unfolding pagesImage
-    view-bytes = tab-part (L .size) (L .pages) (pageCell (L .size) (m .tickets)) (λ q z. cells-length L m sound q) (numberIn m (stampOf (updates m) v p) p) number-within ∙ page-bytes
+    view-bytes = tab-part (L .size) (L .pages) (pageCell (L .size) (m .tickets)) (λ q z. cells-length L m sound q) (leafNumber m (stampOf (updates m) v p) p) number-within ∙ page-bytes
 
     -- A byte of it.
-    pub view-byte : (j : ℕ) → j < L .size → getD (pagesImage L m) (L .size * numberIn m (stampOf (updates m) v p) p + j) 0 ≡ getD (getD (blobAt m v) p []) j 0
+    pub view-byte : (j : ℕ) → j < L .size → getD (pagesImage L m) (L .size * leafNumber m (stampOf (updates m) v p) p + j) 0 ≡ getD (getD (blobAt m v) p []) j 0
     unfolding pagesImage
     view-byte j l =
-        tab-byte (L .size) (L .pages) (pageCell (L .size) (m .tickets)) (λ q z. cells-length L m sound q) (numberIn m (stampOf (updates m) v p) p) j number-within l
+        tab-byte (L .size) (L .pages) (pageCell (L .size) (m .tickets)) (λ q z. cells-length L m sound q) (leafNumber m (stampOf (updates m) v p) p) j number-within l
         ∙ rw page-bytes
