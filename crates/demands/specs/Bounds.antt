@@ -125,3 +125,41 @@ crowded-by-model = refl
 pub crowded-by-calls : outcomes onStore crowdedState (APPEND 1 ∷ WRITE 1 4095 ∷ []) ≡ (no 14 ∷ no 15 ∷ [])
 unfolding computes crowdedState fullState
 crowded-by-calls = refl
+
+-- The low n bits decide, in 10 as in 12: a ticket of one page whose mask has a bit above that page's, as a register that was never formatted may have.
+unfoldable pub strayState : State
+strayState =
+    record {
+      store = record {
+        size = 16;
+        pages = 1;
+        nodes = 1;
+        updates = 1;
+        tickets = record { 0 = 1 };
+        taken = 1;
+        assigned = record { 0 = 0 };
+        places = 0;
+        published = record { 0 = 0 };
+        blob = 0;
+      };
+      areas = record {
+        pages = page;
+        nodes = replicate 2 0;
+        register = record {
+          n = 1;
+          number = 0;
+          put = 3;
+          version = record { 0 = 0 };
+          ticket = record { 0 = 0 };
+          f = record { 0 = 0 };
+          last = record { 0 = 0 };
+          size = 0;
+          place = 0;
+          woven = 0;
+        } ∷ [];
+      };
+    }
+
+pub stray-by-calls : outcomes onStore strayState (PUT 1 0 page ∷ APPEND 1 ∷ []) ≡ (no 10 ∷ says (versionIs 1 1) ∷ [])
+unfolding computes strayState
+stray-by-calls = refl

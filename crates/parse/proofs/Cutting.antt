@@ -12,7 +12,7 @@ use lib.Seq.{take-append-seam, set-append-seam, append-snoc, set-out}
 use lib.Dec.{ltb, eqb, eqb·suc-zero}
 use borrow.Author.Tests.{le-leb, lt-leb, lt-ltb, le-ltb}
 use Rattle.text.specs.Text.{pick, lineFeed, joined}
-use Rattle.parse.specs.Cut.{fresh, grown, fedBy, keptBy, unendedIn, textLines, handed, held, meantHanded, cutLines}
+use Rattle.parse.specs.Cut.{fresh, grown, fedBy, keptBy, unendedIn, textLines, handed, held, meantHanded, cutLines, CutMeans}
 use Rattle.parse.specs.Steps.{meantOf}
 use Rattle.parse.specs.declared.Cutter.{Cutter}
 
@@ -137,5 +137,5 @@ all-mean : (fs : List (List ℕ)) → map meantHanded (map (handed 600) fs) ≡ 
 all-mean [] = refl
 all-mean (f ∷ fs) = rw (handed-means f, all-mean fs)
 
-pub cut-means : (t l : List ℕ) → length l ≡ 600 → map meantHanded (cutLines t fresh l) ≡ map meantOf (textLines t)
+pub cut-means : CutMeans
 cut-means t l h = rw (cut-lines t l, h) (all-mean (textLines t))

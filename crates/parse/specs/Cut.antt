@@ -1,7 +1,8 @@
 -- Cutting a text into lines, byte by byte, with a buffer for one line; and what the lines of a text are.
+use mathlib.Core.Path.{_≡_}
 use Prim.Native.Nat.{ℕ, _+_}
 use mathlib.Core.Bool.{Bool, true, false, not, _||_}
-use mathlib.Core.List.{List, [], _∷_}
+use mathlib.Core.List.{List, [], _∷_, map}
 use mathlib.Core.Option.{Option, none, some}
 use lib.ListN.{length, take, set}
 use lib.Dec.{leb, ltb, eqb}
@@ -69,3 +70,7 @@ onFed (Ended c) l rest = held c l ∷ rest fresh
 abbrev pub cutLines : List ℕ → Cutter → List ℕ → List (Option (List ℕ))
 cutLines [] c l = pick (unendedIn c) (held c l ∷ []) []
 cutLines (b ∷ t) c l = onFed (fedBy c (length l) b) (keptBy c b l) (λ (d : Cutter). cutLines t d (keptBy c b l))
+
+-- what is owed of the cutting: with a buffer of 600 bytes the lines that are handed out mean what the text's lines mean
+abbrev pub CutMeans : Type 0
+CutMeans = (t l : List ℕ) → length l ≡ 600 → map meantHanded (cutLines t fresh l) ≡ map meantOf (textLines t)

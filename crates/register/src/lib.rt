@@ -153,25 +153,25 @@ pub fn set_record(register: &mut [Record], i: usize, r: Record)
 }
 
 // The highest page that a record may begin at to meet the `span` pages from `first` on: past the last page of any blob it is no bound.
-fn highest(first: u64, span: u64) -> u64
-    requires { ⌜ first + span < 2 ^ 64 ⌝ }
-    ensures { λ r. ⌜ r ≡ highest first span ⌝ }
+fn highest(first: PageIndex, span: u64) -> PageIndex
+    requires { ⌜ first .0 + span < 2 ^ 64 ⌝ }
+    ensures { λ r. ⌜ r ≡ record { 0 = highest (first .0) span } ⌝ }
 {
-    if first > LAST_PAGE {
-        0
-    } else if first + span > LAST_PAGE {
-        u64::MAX
-    } else {
-        saturating_sub(first + span, 1)
+    if first.0 > LAST_PAGE {
+        return PageIndex(0);
     }
+    if first.0 + span > LAST_PAGE {
+        return PageIndex(u64::MAX);
+    }
+    PageIndex(saturating_sub(first.0 + span, 1))
 }
 
 // Whether a record's update, its pages as they stand in the record, meets the pages lo .. hi. One comparison of a larger and a smaller number is one
 // branch, which goes the same way for most records.
-fn record_within(r: Record, lo: u64, hi: u64) -> bool
-    ensures { λ b. ⌜ b ≡ leb (max (r .f .0) lo) (min (max (r .f .0) (r .last .0)) hi) ⌝ }
+fn record_within(r: Record, lo: PageIndex, hi: PageIndex) -> bool
+    ensures { λ b. ⌜ b ≡ leb (max (r .f .0) (lo .0)) (min (max (r .f .0) (r .last .0)) (hi .0)) ⌝ }
 {
-    larger(r.f.0, lo) <= smaller(larger(r.f.0, r.last.0), hi)
+    larger(r.f.0, lo.0) <= smaller(larger(r.f.0, r.last.0), hi.0)
 }
 
 // The newest version up to `below` whose update meets the `span` pages from `first` on, or 0.
@@ -179,12 +179,11 @@ pub fn newest_update(register: &[Record], below: Version, first: PageIndex, span
     requires { ⌜ (below .0 ≤ length (now register)) × (first .0 + span < 2 ^ 64) × (0 < below .0 → 0 < span) ⌝ }
     ensures { λ r. ⌜ r ≡ newestIn (now (register .entry)) below first span ⌝ }
 {
-    let lo = first.0;
-    let hi = highest(lo, span);
+    let hi = highest(first, span);
     let mut v = below.0;
     while v > 0 {
         let older = v - 1;
-        if record_within(record_at(register, older as usize), lo, hi) {
+        if record_within(record_at(register, older as usize), first, hi) {
             return Version(v);
         }
         v = older;

@@ -100,9 +100,9 @@ module _ {M : Type 1} (𝓤 : URA M) (H : Heap 𝓤) (A : Atoms 𝓤) (W : Given
       qed W (‵ (flft κ·register q·register) ∷ ‵ (ShrAt Record′.row κ·register b·register o·register γ·register (length register) register) ∷ []) ∵ suffices ! _ (ends-at 𝓤 H A newest-update‴.ended stayed (newest-update‴.clauses 𝓤 H A mem run) W bound (Version′.mach r) r (tt, (tt, (tt, (tt, tt)))) (tt, (tt, (tt, (tt, tt))))) $ says ! said $
       nothing ! $ move ! (1 ∷ 0 ∷ []) $ join ! $ frame ! $ nothing ! $ owned ! u64 (Is u64) (uint-makes 𝓤 H A W w64) span _ ok·span $ fjoin ! $ owned ! PageIndex′.row (Is PageIndex′.row) (PageIndex′.makes 𝓤 H A) x-first _ ok·x-first $ fjoin ! $ owned ! Version′.row (Is Version′.row) (Version′.makes 𝓤 H A) below _ ok·below $ fjoin ! $ move ! (1 ∷ 0 ∷ []) $ fjoin ! $ frame ! $ owned ! Version′.row (Is Version′.row) (Version′.makes 𝓤 H A) r _ ok·r $ done !
 
-  module _ (𝓣 : Tables 𝓤 H) (known-highest : Triple 𝓤 (𝓣 .C #highest) (Call-highest.Asked 𝓤 H A mem run)) (known-record-at : Triple 𝓤 (𝓣 .C #record-at) (Call-record-at.Asked 𝓤 H A mem run)) (known-record-within : Triple 𝓤 (𝓣 .C #record-within) (Call-record-within.Asked 𝓤 H A mem run)) (ok·1 : Is u64 (r1 register below x-first span) (uint-vals w64 (r1 register below x-first span))) (l₀ l₁ l₂ l₃ l₄ l₅ l₆ l₇ l₈ l₉ l₁₀ l₁₁ l₁₂ : ℕ) where
+  module _ (𝓣 : Tables 𝓤 H) (known-highest : Triple 𝓤 (𝓣 .C #highest) (Call-highest.Asked 𝓤 H A mem run)) (known-record-at : Triple 𝓤 (𝓣 .C #record-at) (Call-record-at.Asked 𝓤 H A mem run)) (known-record-within : Triple 𝓤 (𝓣 .C #record-within) (Call-record-within.Asked 𝓤 H A mem run)) (ok·1 : Is PageIndex′.row (r1 register below x-first span) (PageIndex′.vals (r1 register below x-first span))) (l₀ l₁ l₂ l₃ l₄ l₅ l₆ l₇ l₈ l₉ l₁₀ l₁₁ : ℕ) where
     abbrev E : Env 𝓤 H
-    E = (tyAt (code.function .locals) 0, l₀) ∷ (sliceTy (tyRef (named 0) imm (pointee (Record′.row .written))), l₁) ∷ (tyAt (code.function .locals) 2, l₂) ∷ (tyAt (code.function .locals) 3, l₃) ∷ (tyInt w64, l₄) ∷ (tyInt w64, l₅) ∷ (tyInt w64, l₆) ∷ (tyInt w64, l₇) ∷ (tyInt w64, l₈) ∷ (tyBool, l₉) ∷ (tyBool, l₁₀) ∷ (tyAt (code.function .locals) 11, l₁₁) ∷ (tyInt w64, l₁₂) ∷ []
+    E = (tyAt (code.function .locals) 0, l₀) ∷ (sliceTy (tyRef (named 0) imm (pointee (Record′.row .written))), l₁) ∷ (tyAt (code.function .locals) 2, l₂) ∷ (tyAt (code.function .locals) 3, l₃) ∷ (tyInt w64, l₄) ∷ (tyAt (code.function .locals) 5, l₅) ∷ (tyInt w64, l₆) ∷ (tyInt w64, l₇) ∷ (tyBool, l₈) ∷ (tyBool, l₉) ∷ (tyAt (code.function .locals) 10, l₁₀) ∷ (tyInt w64, l₁₁) ∷ []
 
     abbrev Var : Type 0
     Var = ℕ × (Unit {0})
@@ -114,52 +114,51 @@ module _ {M : Type 1} (𝓤 : URA M) (H : Heap 𝓤) (A : Atoms 𝓤) (W : Given
     falls = InvImage·wf (λ (t : Var). Loop.measure-1 register below x-first span (t .0)) (Nat·lt-wfRel .wf)
 
     abbrev I : Var → List (Item 𝓤)
-    I t = raw (fact 𝓤 ((Is u64 (t .0) (uint-vals w64 (t .0))) × (Loop.inv-1 register below x-first span (t .0)))) ∷ ‵ (flft κ·register q·register) ∷ ‵ (ShrAt Record′.row κ·register b·register o·register γ·register (length register) register) ∷ empty (tyInt w64) l₁₂ (empty (tyAt (code.function .locals) 11) l₁₁ (empty tyBool l₁₀ (empty tyBool l₉ (empty (tyInt w64) l₈ (holds (tyInt w64) l₇ (vint w64 (t .0)) (holds (tyInt w64) l₆ (vint w64 (r1 register below x-first span)) (holds (tyInt w64) l₅ (vint w64 (x-first .0)) (holds (tyInt w64) l₄ (vint w64 span) (empty (tyAt (code.function .locals) 3) l₃ (empty (tyAt (code.function .locals) 2) l₂ (holds (sliceTy (tyRef (named 0) imm (pointee (Record′.row .written)))) l₁ (sliceVal (b·register, o·register) (length register)) (empty (tyAt (code.function .locals) 0) l₀ []))))))))))))
+    I t = raw (fact 𝓤 ((Is u64 (t .0) (uint-vals w64 (t .0))) × (Loop.inv-1 register below x-first span (t .0)))) ∷ ‵ (flft κ·register q·register) ∷ ‵ (ShrAt Record′.row κ·register b·register o·register γ·register (length register) register) ∷ empty (tyInt w64) l₁₁ (empty (tyAt (code.function .locals) 10) l₁₀ (empty tyBool l₉ (empty tyBool l₈ (empty (tyInt w64) l₇ (holds (tyInt w64) l₆ (vint w64 (t .0)) (holds (tyAt (code.function .locals) 5) l₅ (PageIndex′.mach (r1 register below x-first span)) (holds (tyInt w64) l₄ (vint w64 span) (holds (tyAt (code.function .locals) 3) l₃ (PageIndex′.mach x-first) (empty (tyAt (code.function .locals) 2) l₂ (holds (sliceTy (tyRef (named 0) imm (pointee (Record′.row .written)))) l₁ (sliceVal (b·register, o·register) (length register)) (empty (tyAt (code.function .locals) 0) l₀ [])))))))))))
 
     abbrev Left : Out → SProp 𝓤
-    Left = afterBlock 𝓤 H (afterSeq 𝓤 H (Wp 𝓤 H (𝓣 .C) (𝓣 .Λ) E parts.t-5 (atReturn 𝓤 H E Post)) (atReturn 𝓤 H E Post))
+    Left = afterBlock 𝓤 H (afterSeq 𝓤 H (Wp 𝓤 H (𝓣 .C) (𝓣 .Λ) E parts.t-4 (atReturn 𝓤 H E Post)) (atReturn 𝓤 H E Post))
 
-    turn : (v7 : ℕ) → Sq W (I (v7, tt)) (runs (𝓣 .C) (𝓣 .Λ) E parts.turn-1 (anyQ (afterTurn 𝓤 H (Below 𝓤 H A lesser I (v7, tt)) Left)))
+    turn : (v6 : ℕ) → Sq W (I (v6, tt)) (runs (𝓣 .C) (𝓣 .Λ) E parts.turn-1 (anyQ (afterTurn 𝓤 H (Below 𝓤 H A lesser I (v6, tt)) Left)))
     unfolding afterTurn
-    turn v7 = heard ! ((Is u64 v7 (uint-vals w64 v7)) × (Loop.inv-1 register below x-first span v7)) (λ f·1.
+    turn v6 = heard ! ((Is u64 v6 (uint-vals w64 v6)) × (Loop.inv-1 register below x-first span v6)) (λ f·1.
         assigns ! (bin ! (lit ! tt) (load ! (from ! (stop !)) (look ! 12 refl)) tt) (from ! (stop !)) (init ! 8 refl (tt, tt)) $
         branches-on ! (load ! (from ! (stop !)) (look ! 8 refl))
-        (λ h·1. skips-on ! $ assigns ! (bin ! (load ! (from ! (stop !)) (look ! 12 refl)) (lit ! tt) (Facts.sub-1 register below x-first span (room·register .0) ok·below ok·x-first (ok·span .1) need (ok·1 .1) v7 ((f·1 .0) .1) (f·1 .1) (is-true (ltb 0 v7) h·1) (ltb→lt 0 v7 h·1))) (from ! (stop !)) (init ! 10 refl (tt, record { fits = less-fits v7 1 (2 ^ 64) ((f·1 .0) .1) })) $
-        assigns ! (of-opd ! (load ! (from ! (stop !)) (look ! 10 refl))) (from ! (stop !)) (init ! 2 refl (tt, record { fits = less-fits v7 1 (2 ^ 64) ((f·1 .0) .1) })) $
-        Call-record-at.calls ! mem run (fmOf 𝓤 H (W .laws) 𝓣) known-record-at κ·register q·register b·register o·register γ·register (length register) register (v7 - 1) (refl, less-fits v7 1 (2 ^ 64) ((f·1 .0) .1)) (and-then ! (load ! (from ! (stop !)) (look ! 24 refl)) (and-then ! (load ! (from ! (stop !)) (look ! 2 refl)) (no-more !)))
-        (λ ok·2. land ! (from ! (stop !)) (init ! 4 refl (Record′.typed 𝓤 H A W (r2 register below x-first span v7) ok·2)) $
-        here ! (‵ (flft κ·register q·register) ∷ ‵ (ShrAt Record′.row κ·register b·register o·register γ·register (length register) register) ∷ holds (tyInt w64) l₁₂ (vint w64 (v7 - 1)) (holds (tyAt (code.function .locals) 11) l₁₁ (Record′.mach (r2 register below x-first span v7)) (empty tyBool l₁₀ (holds tyBool l₉ (vbool (ltb 0 v7)) (holds (tyInt w64) l₈ (vint w64 (v7 - 1)) (holds (tyInt w64) l₇ (vint w64 v7) (holds (tyInt w64) l₆ (vint w64 (r1 register below x-first span)) (holds (tyInt w64) l₅ (vint w64 (x-first .0)) (holds (tyInt w64) l₄ (vint w64 span) (empty (tyAt (code.function .locals) 3) l₃ (empty (tyAt (code.function .locals) 2) l₂ (holds (sliceTy (tyRef (named 0) imm (pointee (Record′.row .written)))) l₁ (sliceVal (b·register, o·register) (length register)) (empty (tyAt (code.function .locals) 0) l₀ []))))))))))))) $
-        Call-record-within.calls ! mem run (fmOf 𝓤 H (W .laws) 𝓣) known-record-within (r2 register below x-first span v7) (x-first .0) (r1 register below x-first span) ok·2 (PageIndex′.ok-0 x-first ok·x-first) ok·1 (and-then ! (load ! (from ! (stop !)) (look ! 5 refl)) (and-then ! (load ! (from ! (stop !)) (look ! 17 refl)) (and-then ! (load ! (from ! (stop !)) (look ! 15 refl)) (no-more !))))
+        (λ h·1. skips-on ! $ assigns ! (bin ! (load ! (from ! (stop !)) (look ! 12 refl)) (lit ! tt) (Facts.sub-1 register below x-first span (room·register .0) ok·below ok·x-first (ok·span .1) need ok·1 v6 ((f·1 .0) .1) (f·1 .1) (is-true (ltb 0 v6) h·1) (ltb→lt 0 v6 h·1))) (from ! (stop !)) (init ! 10 refl (tt, record { fits = less-fits v6 1 (2 ^ 64) ((f·1 .0) .1) })) $
+        assigns ! (of-opd ! (load ! (from ! (stop !)) (look ! 10 refl))) (from ! (stop !)) (init ! 2 refl (tt, record { fits = less-fits v6 1 (2 ^ 64) ((f·1 .0) .1) })) $
+        Call-record-at.calls ! mem run (fmOf 𝓤 H (W .laws) 𝓣) known-record-at κ·register q·register b·register o·register γ·register (length register) register (v6 - 1) (refl, less-fits v6 1 (2 ^ 64) ((f·1 .0) .1)) (and-then ! (load ! (from ! (stop !)) (look ! 22 refl)) (and-then ! (load ! (from ! (stop !)) (look ! 2 refl)) (no-more !)))
+        (λ ok·2. land ! (from ! (stop !)) (init ! 4 refl (Record′.typed 𝓤 H A W (r2 register below x-first span v6) ok·2)) $
+        here ! (‵ (flft κ·register q·register) ∷ ‵ (ShrAt Record′.row κ·register b·register o·register γ·register (length register) register) ∷ holds (tyInt w64) l₁₁ (vint w64 (v6 - 1)) (holds (tyAt (code.function .locals) 10) l₁₀ (Record′.mach (r2 register below x-first span v6)) (empty tyBool l₉ (holds tyBool l₈ (vbool (ltb 0 v6)) (holds (tyInt w64) l₇ (vint w64 (v6 - 1)) (holds (tyInt w64) l₆ (vint w64 v6) (holds (tyAt (code.function .locals) 5) l₅ (PageIndex′.mach (r1 register below x-first span)) (holds (tyInt w64) l₄ (vint w64 span) (holds (tyAt (code.function .locals) 3) l₃ (PageIndex′.mach x-first) (empty (tyAt (code.function .locals) 2) l₂ (holds (sliceTy (tyRef (named 0) imm (pointee (Record′.row .written)))) l₁ (sliceVal (b·register, o·register) (length register)) (empty (tyAt (code.function .locals) 0) l₀ [])))))))))))) $
+        Call-record-within.calls ! mem run (fmOf 𝓤 H (W .laws) 𝓣) known-record-within (r2 register below x-first span v6) x-first (r1 register below x-first span) ok·2 ok·x-first ok·1 (and-then ! (load ! (from ! (stop !)) (look ! 5 refl)) (and-then ! (load ! (from ! (stop !)) (look ! 19 refl)) (and-then ! (load ! (from ! (stop !)) (look ! 15 refl)) (no-more !))))
         (λ ok·3. land ! (from ! (stop !)) (init ! 6 refl (tt, tt)) $
-        here ! (‵ (flft κ·register q·register) ∷ ‵ (ShrAt Record′.row κ·register b·register o·register γ·register (length register) register) ∷ holds (tyInt w64) l₁₂ (vint w64 (v7 - 1)) (holds (tyAt (code.function .locals) 11) l₁₁ (Record′.mach (r2 register below x-first span v7)) (holds tyBool l₁₀ (vbool (r3 register below x-first span v7)) (holds tyBool l₉ (vbool (ltb 0 v7)) (holds (tyInt w64) l₈ (vint w64 (v7 - 1)) (holds (tyInt w64) l₇ (vint w64 v7) (holds (tyInt w64) l₆ (vint w64 (r1 register below x-first span)) (holds (tyInt w64) l₅ (vint w64 (x-first .0)) (holds (tyInt w64) l₄ (vint w64 span) (empty (tyAt (code.function .locals) 3) l₃ (empty (tyAt (code.function .locals) 2) l₂ (holds (sliceTy (tyRef (named 0) imm (pointee (Record′.row .written)))) l₁ (sliceVal (b·register, o·register) (length register)) (empty (tyAt (code.function .locals) 0) l₀ []))))))))))))) $
+        here ! (‵ (flft κ·register q·register) ∷ ‵ (ShrAt Record′.row κ·register b·register o·register γ·register (length register) register) ∷ holds (tyInt w64) l₁₁ (vint w64 (v6 - 1)) (holds (tyAt (code.function .locals) 10) l₁₀ (Record′.mach (r2 register below x-first span v6)) (holds tyBool l₉ (vbool (r3 register below x-first span v6)) (holds tyBool l₈ (vbool (ltb 0 v6)) (holds (tyInt w64) l₇ (vint w64 (v6 - 1)) (holds (tyInt w64) l₆ (vint w64 v6) (holds (tyAt (code.function .locals) 5) l₅ (PageIndex′.mach (r1 register below x-first span)) (holds (tyInt w64) l₄ (vint w64 span) (holds (tyAt (code.function .locals) 3) l₃ (PageIndex′.mach x-first) (empty (tyAt (code.function .locals) 2) l₂ (holds (sliceTy (tyRef (named 0) imm (pointee (Record′.row .written)))) l₁ (sliceVal (b·register, o·register) (length register)) (empty (tyAt (code.function .locals) 0) l₀ [])))))))))))) $
         branches-on ! (load ! (from ! (stop !)) (look ! 6 refl))
         (λ h·2. regroup ! $
-        assigns ! (agg ! (and-then ! (load ! (from ! (stop !)) (look ! 12 refl)) (no-more !))) (from ! (stop !)) (init ! 26 refl (Version′.typed 𝓤 H A W (Version′.build v7) (Version′.make v7 (f·1 .0)))) $
-        first ! $ returns-within ! Post refl (look ! 26 refl) $
-        move ! (26 ∷ 27 ∷ []) $ forget ! 0 refl $ free1 ! $ move ! (24 ∷ 25 ∷ []) $ forget ! 0 refl $ free1 ! $ move ! (22 ∷ 23 ∷ []) $ free1 ! $ move ! (20 ∷ 21 ∷ []) $ free1 ! $ move ! (18 ∷ 19 ∷ []) $ forget ! 0 refl $ free1 ! $ move ! (16 ∷ 17 ∷ []) $ forget ! 0 refl $ free1 ! $ move ! (14 ∷ 15 ∷ []) $ forget ! 0 refl $ free1 ! $ move ! (12 ∷ 13 ∷ []) $ forget ! 0 refl $ free1 ! $ move ! (10 ∷ 11 ∷ []) $ forget ! 0 refl $ free1 ! $ move ! (8 ∷ 9 ∷ []) $ forget ! 0 refl $ free1 ! $ move ! (6 ∷ 7 ∷ []) $ forget ! 0 refl $ free1 ! $ move ! (4 ∷ 5 ∷ []) $ forget ! 0 refl $ free1 ! $ move ! (2 ∷ 3 ∷ []) $ forget ! 0 refl $ free1 ! $ free0 ! $ by ! (exits (Version′.build v7) (Version′.make v7 (f·1 .0)) (Facts.exit-1 register below x-first span (room·register .0) ok·below ok·x-first (ok·span .1) need (ok·1 .1) v7 ((f·1 .0) .1) (f·1 .1) (is-true (ltb 0 v7) h·1) (ltb→lt 0 v7 h·1) ok·2 (is-true (r3 register below x-first span v7) h·2))))
-        (λ h·2. skips-on ! $ assigns-last ! (of-opd ! (load ! (from ! (stop !)) (look ! 10 refl))) (from ! (stop !)) (store ! 12 refl (tt, record { fits = less-fits v7 1 (2 ^ 64) ((f·1 .0) .1) })) $
+        assigns ! (agg ! (and-then ! (load ! (from ! (stop !)) (look ! 12 refl)) (no-more !))) (from ! (stop !)) (init ! 24 refl (Version′.typed 𝓤 H A W (Version′.build v6) (Version′.make v6 (f·1 .0)))) $
+        first ! $ returns-within ! Post refl (look ! 24 refl) $
+        move ! (24 ∷ 25 ∷ []) $ forget ! 0 refl $ free1 ! $ move ! (22 ∷ 23 ∷ []) $ forget ! 0 refl $ free1 ! $ move ! (20 ∷ 21 ∷ []) $ free1 ! $ move ! (18 ∷ 19 ∷ []) $ forget ! 0 refl $ free1 ! $ move ! (16 ∷ 17 ∷ []) $ forget ! 0 refl $ free1 ! $ move ! (14 ∷ 15 ∷ []) $ forget ! 0 refl $ free1 ! $ move ! (12 ∷ 13 ∷ []) $ forget ! 0 refl $ free1 ! $ move ! (10 ∷ 11 ∷ []) $ forget ! 0 refl $ free1 ! $ move ! (8 ∷ 9 ∷ []) $ forget ! 0 refl $ free1 ! $ move ! (6 ∷ 7 ∷ []) $ forget ! 0 refl $ free1 ! $ move ! (4 ∷ 5 ∷ []) $ forget ! 0 refl $ free1 ! $ move ! (2 ∷ 3 ∷ []) $ forget ! 0 refl $ free1 ! $ free0 ! $ by ! (exits (Version′.build v6) (Version′.make v6 (f·1 .0)) (Facts.exit-1 register below x-first span (room·register .0) ok·below ok·x-first (ok·span .1) need ok·1 v6 ((f·1 .0) .1) (f·1 .1) (is-true (ltb 0 v6) h·1) (ltb→lt 0 v6 h·1) ok·2 (is-true (r3 register below x-first span v6) h·2))))
+        (λ h·2. skips-on ! $ assigns-last ! (of-opd ! (load ! (from ! (stop !)) (look ! 10 refl))) (from ! (stop !)) (store ! 12 refl (tt, record { fits = less-fits v6 1 (2 ^ 64) ((f·1 .0) .1) })) $
         forget ! 10 refl $ forget ! 8 refl $ forget ! 6 refl $ forget ! 4 refl $ forget ! 2 refl $
-        use0 W (raw (fact 𝓤 ((Is u64 (v7 - 1) (uint-vals w64 (v7 - 1))) × (Loop.inv-1 register below x-first span (v7 - 1))))) (factI 𝓤 _ (emp 𝓤) ((refl, less-fits v7 1 (2 ^ 64) ((f·1 .0) .1)), Facts.again-1 register below x-first span (room·register .0) ok·below ok·x-first (ok·span .1) need (ok·1 .1) v7 ((f·1 .0) .1) (f·1 .1) (is-true (ltb 0 v7) h·1) (ltb→lt 0 v7 h·1) ok·2 (is-false (r3 register below x-first span v7) h·2))) $ again ! lesser I (v7, tt) (v7 - 1, tt) (Facts.less-1 register below x-first span (room·register .0) ok·below ok·x-first (ok·span .1) need (ok·1 .1) v7 ((f·1 .0) .1) (f·1 .1) (is-true (ltb 0 v7) h·1) (ltb→lt 0 v7 h·1) ok·2 (is-false (r3 register below x-first span v7) h·2))))))
-        (λ h·1. first ! $ jumps ! $ exec ! (𝓣 .C) (𝓣 .Λ) E parts.t-5 (atRet E Post) $
-        assigns ! (agg ! (and-then ! (lit ! tt) (no-more !))) (from ! (stop !)) (init ! 26 refl (Version′.typed 𝓤 H A W (Version′.build 0) (Version′.make 0 (refl, lit< tt)))) $
-        returns ! (look ! 26 refl) $
-        move ! (26 ∷ 27 ∷ []) $ forget ! 0 refl $ free1 ! $ move ! (24 ∷ 25 ∷ []) $ forget ! 0 refl $ free1 ! $ move ! (22 ∷ 23 ∷ []) $ free1 ! $ move ! (20 ∷ 21 ∷ []) $ free1 ! $ move ! (18 ∷ 19 ∷ []) $ forget ! 0 refl $ free1 ! $ move ! (16 ∷ 17 ∷ []) $ forget ! 0 refl $ free1 ! $ move ! (14 ∷ 15 ∷ []) $ forget ! 0 refl $ free1 ! $ move ! (12 ∷ 13 ∷ []) $ forget ! 0 refl $ free1 ! $ move ! (10 ∷ 11 ∷ []) $ free1 ! $ move ! (8 ∷ 9 ∷ []) $ forget ! 0 refl $ free1 ! $ move ! (6 ∷ 7 ∷ []) $ free1 ! $ move ! (4 ∷ 5 ∷ []) $ free1 ! $ move ! (2 ∷ 3 ∷ []) $ free1 ! $ free0 ! $ by ! (exits (Version′.build 0) (Version′.make 0 (refl, lit< tt)) (Facts.exit-2 register below x-first span (room·register .0) ok·below ok·x-first (ok·span .1) need (ok·1 .1) v7 ((f·1 .0) .1) (f·1 .1) (is-false (ltb 0 v7) h·1) (nltb→le 0 v7 h·1)))))
+        use0 W (raw (fact 𝓤 ((Is u64 (v6 - 1) (uint-vals w64 (v6 - 1))) × (Loop.inv-1 register below x-first span (v6 - 1))))) (factI 𝓤 _ (emp 𝓤) ((refl, less-fits v6 1 (2 ^ 64) ((f·1 .0) .1)), Facts.again-1 register below x-first span (room·register .0) ok·below ok·x-first (ok·span .1) need ok·1 v6 ((f·1 .0) .1) (f·1 .1) (is-true (ltb 0 v6) h·1) (ltb→lt 0 v6 h·1) ok·2 (is-false (r3 register below x-first span v6) h·2))) $ again ! lesser I (v6, tt) (v6 - 1, tt) (Facts.less-1 register below x-first span (room·register .0) ok·below ok·x-first (ok·span .1) need ok·1 v6 ((f·1 .0) .1) (f·1 .1) (is-true (ltb 0 v6) h·1) (ltb→lt 0 v6 h·1) ok·2 (is-false (r3 register below x-first span v6) h·2))))))
+        (λ h·1. first ! $ jumps ! $ exec ! (𝓣 .C) (𝓣 .Λ) E parts.t-4 (atRet E Post) $
+        assigns ! (agg ! (and-then ! (lit ! tt) (no-more !))) (from ! (stop !)) (init ! 24 refl (Version′.typed 𝓤 H A W (Version′.build 0) (Version′.make 0 (refl, lit< tt)))) $
+        returns ! (look ! 24 refl) $
+        move ! (24 ∷ 25 ∷ []) $ forget ! 0 refl $ free1 ! $ move ! (22 ∷ 23 ∷ []) $ forget ! 0 refl $ free1 ! $ move ! (20 ∷ 21 ∷ []) $ free1 ! $ move ! (18 ∷ 19 ∷ []) $ forget ! 0 refl $ free1 ! $ move ! (16 ∷ 17 ∷ []) $ forget ! 0 refl $ free1 ! $ move ! (14 ∷ 15 ∷ []) $ forget ! 0 refl $ free1 ! $ move ! (12 ∷ 13 ∷ []) $ forget ! 0 refl $ free1 ! $ move ! (10 ∷ 11 ∷ []) $ free1 ! $ move ! (8 ∷ 9 ∷ []) $ forget ! 0 refl $ free1 ! $ move ! (6 ∷ 7 ∷ []) $ free1 ! $ move ! (4 ∷ 5 ∷ []) $ free1 ! $ move ! (2 ∷ 3 ∷ []) $ free1 ! $ free0 ! $ by ! (exits (Version′.build 0) (Version′.make 0 (refl, lit< tt)) (Facts.exit-2 register below x-first span (room·register .0) ok·below ok·x-first (ok·span .1) need ok·1 v6 ((f·1 .0) .1) (f·1 .1) (is-false (ltb 0 v6) h·1) (nltb→le 0 v6 h·1)))))
 
   walk : (𝓣 : Tables 𝓤 H) (known-highest : Triple 𝓤 (𝓣 .C #highest) (Call-highest.Asked 𝓤 H A mem run)) (known-record-at : Triple 𝓤 (𝓣 .C #record-at) (Call-record-at.Asked 𝓤 H A mem run)) (known-record-within : Triple 𝓤 (𝓣 .C #record-within) (Call-record-within.Asked 𝓤 H A mem run)) → ent 𝓤 (onEntry 𝓤 H A newest-update‴.signature (κ·register, tt) (q·register, tt) all-args all-vals)
       (WpFn 𝓤 H (𝓣 .C) (𝓣 .Λ) code.function (sliceVal (b·register, o·register) (length register) ∷ Version′.mach below ∷ PageIndex′.mach x-first ∷ vint w64 span ∷ []) Post)
   walk 𝓣 known-highest known-record-at known-record-within =
       qed W ((‵ (flft κ·register q·register) ⊛ ‵ ftrue) ∷ ‵ (owns (ShrSlice (named 0) κ·register Record′.row ∷ Version′.row ∷ PageIndex′.row ∷ u64 ∷ []) all-args all-vals) ∷ []) ∵ enter ! (𝓣 .C) (𝓣 .Λ) code.function (sliceVal (b·register, o·register) (length register) ∷ Version′.mach below ∷ PageIndex′.mach x-first ∷ vint w64 span ∷ []) _ $
-      alloc1 ! (λ l₀. alloc1 ! (λ l₁. alloc1 ! (λ l₂. alloc1 ! (λ l₃. alloc1 ! (λ l₄. alloc1 ! (λ l₅. alloc1 ! (λ l₆. alloc1 ! (λ l₇. alloc1 ! (λ l₈. alloc1 ! (λ l₉. alloc1 ! (λ l₁₀. alloc1 ! (λ l₁₁. alloc1 ! (λ l₁₂. alloc0 ! $ params1 ! $
-      pass1 ! (init ! 22 refl (tt, (tt, (record { fits = room·register .0 }, tt)))) $ pass1 ! (init ! 20 refl (Version′.typed 𝓤 H A W below ok·below)) $ pass1 ! (init ! 18 refl (PageIndex′.typed 𝓤 H A W x-first ok·x-first)) $ pass1 ! (init ! 16 refl (tt, record { fits = ok·span .1 })) $ pass0 ! $
-      move ! (27 ∷ []) $ fsplit ! $ move ! (1 ∷ []) $ fsplit ! $ drop ! $ fsplit ! $ drop ! $ fsplit ! $ drop ! $ drop ! $ move ! (27 ∷ []) $ split ! $ move ! (1 ∷ []) $ drop ! $
-      assigns ! (of-opd ! (load ! (from ! (fld ! refl (stop !))) (look-in ! 20 (sub ! 0 refl (whole !))))) (from ! (stop !)) (init ! 16 refl (tt, record { fits = (PageIndex′.ok-0 x-first ok·x-first) .1 })) $
-      Call-highest.calls ! mem run (fmOf 𝓤 H (W .laws) 𝓣) known-highest (x-first .0) span (PageIndex′.ok-0 x-first ok·x-first) ok·span (Facts.highest-1 register below x-first span (room·register .0) ok·below ok·x-first (ok·span .1) need) (and-then ! (load ! (from ! (stop !)) (look ! 17 refl)) (and-then ! (load ! (from ! (stop !)) (look ! 19 refl)) (no-more !)))
-      (λ ok·1. land ! (from ! (stop !)) (init ! 14 refl (tt, record { fits = ok·1 .1 })) $
-      here ! (‵ (flft κ·register q·register) ∷ ‵ (ShrAt Record′.row κ·register b·register o·register γ·register (length register) register) ∷ empty (tyInt w64) l₁₂ (empty (tyAt (code.function .locals) 11) l₁₁ (empty tyBool l₁₀ (empty tyBool l₉ (empty (tyInt w64) l₈ (empty (tyInt w64) l₇ (holds (tyInt w64) l₆ (vint w64 (r1 register below x-first span)) (holds (tyInt w64) l₅ (vint w64 (x-first .0)) (holds (tyInt w64) l₄ (vint w64 span) (holds (tyAt (code.function .locals) 3) l₃ (PageIndex′.mach x-first) (holds (tyAt (code.function .locals) 2) l₂ (Version′.mach below) (holds (sliceTy (tyRef (named 0) imm (pointee (Record′.row .written)))) l₁ (sliceVal (b·register, o·register) (length register)) (empty (tyAt (code.function .locals) 0) l₀ []))))))))))))) $
-      assigns ! (of-opd ! (load ! (from ! (fld ! refl (stop !))) (look-in ! 22 (sub ! 0 refl (whole !))))) (from ! (stop !)) (init ! 12 refl (tt, record { fits = (Version′.ok-0 below ok·below) .1 })) $
-      forget ! 22 refl $ forget ! 20 refl $ here ! (‵ (flft κ·register q·register) ∷ ‵ (ShrAt Record′.row κ·register b·register o·register γ·register (length register) register) ∷ empty (tyInt w64) l₁₂ (empty (tyAt (code.function .locals) 11) l₁₁ (empty tyBool l₁₀ (empty tyBool l₉ (empty (tyInt w64) l₈ (holds (tyInt w64) l₇ (vint w64 (below .0)) (holds (tyInt w64) l₆ (vint w64 (r1 register below x-first span)) (holds (tyInt w64) l₅ (vint w64 (x-first .0)) (holds (tyInt w64) l₄ (vint w64 span) (empty (tyAt (code.function .locals) 3) l₃ (empty (tyAt (code.function .locals) 2) l₂ (holds (sliceTy (tyRef (named 0) imm (pointee (Record′.row .written)))) l₁ (sliceVal (b·register, o·register) (length register)) (empty (tyAt (code.function .locals) 0) l₀ []))))))))))))) $
-      first ! $ blocks ! $ use0 W (raw (fact 𝓤 ((Is u64 (below .0) (uint-vals w64 (below .0))) × (Loop.inv-1 register below x-first span (below .0))))) (factI 𝓤 _ (emp 𝓤) ((Version′.ok-0 below ok·below), Facts.start-1 register below x-first span (room·register .0) ok·below ok·x-first (ok·span .1) need (ok·1 .1))) $
-      loops ! 𝓣 (lesser 𝓣 known-highest known-record-at known-record-within ok·1 l₀ l₁ l₂ l₃ l₄ l₅ l₆ l₇ l₈ l₉ l₁₀ l₁₁ l₁₂) (falls 𝓣 known-highest known-record-at known-record-within ok·1 l₀ l₁ l₂ l₃ l₄ l₅ l₆ l₇ l₈ l₉ l₁₀ l₁₁ l₁₂) (I 𝓣 known-highest known-record-at known-record-within ok·1 l₀ l₁ l₂ l₃ l₄ l₅ l₆ l₇ l₈ l₉ l₁₀ l₁₁ l₁₂) (λ t. turn 𝓣 known-highest known-record-at known-record-within ok·1 l₀ l₁ l₂ l₃ l₄ l₅ l₆ l₇ l₈ l₉ l₁₀ l₁₁ l₁₂ (t .0)) (below .0, tt)))))))))))))))
+      alloc1 ! (λ l₀. alloc1 ! (λ l₁. alloc1 ! (λ l₂. alloc1 ! (λ l₃. alloc1 ! (λ l₄. alloc1 ! (λ l₅. alloc1 ! (λ l₆. alloc1 ! (λ l₇. alloc1 ! (λ l₈. alloc1 ! (λ l₉. alloc1 ! (λ l₁₀. alloc1 ! (λ l₁₁. alloc0 ! $ params1 ! $
+      pass1 ! (init ! 20 refl (tt, (tt, (record { fits = room·register .0 }, tt)))) $ pass1 ! (init ! 18 refl (Version′.typed 𝓤 H A W below ok·below)) $ pass1 ! (init ! 16 refl (PageIndex′.typed 𝓤 H A W x-first ok·x-first)) $ pass1 ! (init ! 14 refl (tt, record { fits = ok·span .1 })) $ pass0 ! $
+      move ! (25 ∷ []) $ fsplit ! $ move ! (1 ∷ []) $ fsplit ! $ drop ! $ fsplit ! $ drop ! $ fsplit ! $ drop ! $ drop ! $ move ! (25 ∷ []) $ split ! $ move ! (1 ∷ []) $ drop ! $
+      Call-highest.calls ! mem run (fmOf 𝓤 H (W .laws) 𝓣) known-highest x-first span ok·x-first ok·span (Facts.highest-1 register below x-first span (room·register .0) ok·below ok·x-first (ok·span .1) need) (and-then ! (load ! (from ! (stop !)) (look ! 19 refl)) (and-then ! (load ! (from ! (stop !)) (look ! 17 refl)) (no-more !)))
+      (λ ok·1. land ! (from ! (stop !)) (init ! 14 refl (PageIndex′.typed 𝓤 H A W (r1 register below x-first span) ok·1)) $
+      here ! (‵ (flft κ·register q·register) ∷ ‵ (ShrAt Record′.row κ·register b·register o·register γ·register (length register) register) ∷ empty (tyInt w64) l₁₁ (empty (tyAt (code.function .locals) 10) l₁₀ (empty tyBool l₉ (empty tyBool l₈ (empty (tyInt w64) l₇ (empty (tyInt w64) l₆ (holds (tyAt (code.function .locals) 5) l₅ (PageIndex′.mach (r1 register below x-first span)) (holds (tyInt w64) l₄ (vint w64 span) (holds (tyAt (code.function .locals) 3) l₃ (PageIndex′.mach x-first) (holds (tyAt (code.function .locals) 2) l₂ (Version′.mach below) (holds (sliceTy (tyRef (named 0) imm (pointee (Record′.row .written)))) l₁ (sliceVal (b·register, o·register) (length register)) (empty (tyAt (code.function .locals) 0) l₀ [])))))))))))) $
+      assigns ! (of-opd ! (load ! (from ! (fld ! refl (stop !))) (look-in ! 20 (sub ! 0 refl (whole !))))) (from ! (stop !)) (init ! 12 refl (tt, record { fits = (Version′.ok-0 below ok·below) .1 })) $
+      forget ! 20 refl $ here ! (‵ (flft κ·register q·register) ∷ ‵ (ShrAt Record′.row κ·register b·register o·register γ·register (length register) register) ∷ empty (tyInt w64) l₁₁ (empty (tyAt (code.function .locals) 10) l₁₀ (empty tyBool l₉ (empty tyBool l₈ (empty (tyInt w64) l₇ (holds (tyInt w64) l₆ (vint w64 (below .0)) (holds (tyAt (code.function .locals) 5) l₅ (PageIndex′.mach (r1 register below x-first span)) (holds (tyInt w64) l₄ (vint w64 span) (holds (tyAt (code.function .locals) 3) l₃ (PageIndex′.mach x-first) (empty (tyAt (code.function .locals) 2) l₂ (holds (sliceTy (tyRef (named 0) imm (pointee (Record′.row .written)))) l₁ (sliceVal (b·register, o·register) (length register)) (empty (tyAt (code.function .locals) 0) l₀ [])))))))))))) $
+      first ! $ blocks ! $ use0 W (raw (fact 𝓤 ((Is u64 (below .0) (uint-vals w64 (below .0))) × (Loop.inv-1 register below x-first span (below .0))))) (factI 𝓤 _ (emp 𝓤) ((Version′.ok-0 below ok·below), Facts.start-1 register below x-first span (room·register .0) ok·below ok·x-first (ok·span .1) need ok·1)) $
+      loops ! 𝓣 (lesser 𝓣 known-highest known-record-at known-record-within ok·1 l₀ l₁ l₂ l₃ l₄ l₅ l₆ l₇ l₈ l₉ l₁₀ l₁₁) (falls 𝓣 known-highest known-record-at known-record-within ok·1 l₀ l₁ l₂ l₃ l₄ l₅ l₆ l₇ l₈ l₉ l₁₀ l₁₁) (I 𝓣 known-highest known-record-at known-record-within ok·1 l₀ l₁ l₂ l₃ l₄ l₅ l₆ l₇ l₈ l₉ l₁₀ l₁₁) (λ t. turn 𝓣 known-highest known-record-at known-record-within ok·1 l₀ l₁ l₂ l₃ l₄ l₅ l₆ l₇ l₈ l₉ l₁₀ l₁₁ (t .0)) (below .0, tt))))))))))))))
 
 module _ {M : Type 1} (𝓤 : URA M) (H : Heap 𝓤) (A : Atoms 𝓤) (W : Given 𝓤 H A) (mem : Memory → SProp 𝓤) (run : Routine → Fun 𝓤) where
   walks : (𝓣 : Tables 𝓤 H) → Triple 𝓤 (𝓣 .C #highest) (Call-highest.Asked 𝓤 H A mem run) → Triple 𝓤 (𝓣 .C #record-at) (Call-record-at.Asked 𝓤 H A mem run) → Triple 𝓤 (𝓣 .C #record-within) (Call-record-within.Asked 𝓤 H A mem run) → Walks 𝓤 H A newest-update‴.ended stayed (WpFn 𝓤 H (𝓣 .C) (𝓣 .Λ) code.function) (newest-update‴.clauses 𝓤 H A mem run)

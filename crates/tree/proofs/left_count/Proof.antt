@@ -18,7 +18,7 @@ returns : tie.Need-returns
 returns c = sym (below-before _ _ _ _ (omega arith))
 
 returns-2 : tie.Need-returns-2
-returns-2 c = let a = c .before .before .before .before .before .args in omega (arith, below-after (a .f .0) (a .last .0) (a .a + 2 ^ a .height) (a .height) (omega arith))
+returns-2 c = let a = c .before .before .before .before .before .before .args in omega (arith, below-after (a .f .0) (a .last .0) (a .a .0 + 2 ^ a .height) (a .height) (omega arith))
 
 count-below-requires : tie.Need-count-below-requires
 count-below-requires c κs = search needs

@@ -32,6 +32,8 @@ use denote.Triple.Clauses.{Lasts, ensured, lasts}
 use denote.Triple.Spec.{tripleOf}
 use denote.Triple.Walked.{says}
 use Rattle.register.proofs.Generated.Say.highest as highest″
+use Rattle.tree.specs.declared.PageIndex.{PageIndex}
+use Rattle.register.proofs.Generated.Kind.PageIndex as PageIndex′
 use Rattle.register.proofs.Generated.Flow.{ref, MutAt, ShrAt, keeps-shr, plus-nothing}
 use Rattle.register.proofs.highest as callee
 use Rattle.register.proofs.highest.Symbol.{name as #callee}
@@ -40,53 +42,53 @@ module _ {M : Type 1} (𝓤 : URA M) (H : Heap 𝓤) (A : Atoms 𝓤) (mem : Mem
   abbrev pub Asked : Contract 𝓤
   Asked = tripleOf 𝓤 H A callee.signature (callee.spec 𝓤 H A mem run)
 
-  abbrev pub to : (x-first : ℕ) (span : ℕ) → Asked .Ghost
-  to x-first span = ((tt, tt, tt, (x-first, (span, tt)), (vint w64 x-first ∷ [], (vint w64 span ∷ [], tt))), tt)
+  abbrev pub to : (x-first : PageIndex) (span : ℕ) → Asked .Ghost
+  to x-first span = ((tt, tt, tt, (x-first, (span, tt)), (PageIndex′.mach x-first ∷ [], (vint w64 span ∷ [], tt))), tt)
 
 module _ {M : Type 1} {𝓤 : URA M} {H : Heap 𝓤} {A : Atoms 𝓤} {K : Type 0} {W : Given 𝓤 H A} {Γ : List (Item 𝓤)} where
   -- the call itself is made by `by-call`, from what the callee asks to what it has ensured
-  core : K → (mem : Memory → SProp 𝓤) (run : Routine → Fun 𝓤) → (x-first : ℕ) (span : ℕ) → (G : Goal 𝓤 H) (after : Val → Goal 𝓤 H) → ((v : Val) → Soaks (after v))
-      → (((v : Val) → Seq K W (raw (Asked 𝓤 H A mem run .post (to 𝓤 H A mem run x-first span) v) ∷ Γ) (after v)) → Seq K W (raw (Asked 𝓤 H A mem run .pre (to 𝓤 H A mem run x-first span)) ∷ Γ) G) → Is u64 x-first (uint-vals w64 x-first) → Is u64 span (uint-vals w64 span) → highest″.req x-first span →
-      (Is u64 (highest″.res x-first span) (uint-vals w64 (highest″.res x-first span)) → Seq K W (Γ) (after (vint w64 (highest″.res x-first span)))) → Seq K W (Γ) G
+  core : K → (mem : Memory → SProp 𝓤) (run : Routine → Fun 𝓤) → (x-first : PageIndex) (span : ℕ) → (G : Goal 𝓤 H) (after : Val → Goal 𝓤 H) → ((v : Val) → Soaks (after v))
+      → (((v : Val) → Seq K W (raw (Asked 𝓤 H A mem run .post (to 𝓤 H A mem run x-first span) v) ∷ Γ) (after v)) → Seq K W (raw (Asked 𝓤 H A mem run .pre (to 𝓤 H A mem run x-first span)) ∷ Γ) G) → Is PageIndex′.row x-first (PageIndex′.vals x-first) → Is u64 span (uint-vals w64 span) → highest″.req x-first span →
+      (Is PageIndex′.row (highest″.res x-first span) (PageIndex′.vals (highest″.res x-first span)) → Seq K W (Γ) (after (PageIndex′.mach (highest″.res x-first span)))) → Seq K W (Γ) G
   core t mem run x-first span G after soaks by-call ok·x-first ok·span need k =
       use0 W (raw (Asked 𝓤 H A mem run .pre (to 𝓤 H A mem run x-first span))) goes $
       by-call (λ v.
-      use1 W (later (some (λ (r· : ℕ). ((‵ ftrue) ⊛ ‵ (u64 .own r· (v ∷ []))) ⊛ raw (ensured 𝓤 H A callee.ended (callee.clauses 𝓤 H A mem run) tt (x-first, (span, tt)) tt r·)))) (id⊢ 𝓤 _) $ await t (soaks v) $ pick t (λ r·. split t $ move t (1 ∷ []) $
+      use1 W (later (some (λ (r· : PageIndex). ((‵ ftrue) ⊛ ‵ (PageIndex′.row .own r· (v ∷ []))) ⊛ raw (ensured 𝓤 H A callee.ended (callee.clauses 𝓤 H A mem run) tt (x-first, (span, tt)) tt r·)))) (id⊢ 𝓤 _) $ await t (soaks v) $ pick t (λ r·. split t $ move t (1 ∷ []) $
       use1 W (some (λ (ws : Lasts callee.ended tt (x-first, (span, tt))). ‵ (lasts callee.ended tt (x-first, (span, tt)) ws) ⊛ raw (fact 𝓤 (highest″.ens x-first span r·)))) (id⊢ 𝓤 _) $ pick t (λ ws. split t $ move t (1 ∷ []) $
-      heard t (highest″.ens x-first span r·) (λ e. drop t $ split t $ move t (1 ∷ []) $ facts t u64 (Is u64) (shows 𝓤 H A u64) r· (v ∷ []) (λ is. drop t $
-      subst (λ (u : Val). Seq K W (Γ) (after u)) (sym (ap only (uint-tells w64 r· (v ∷ []) is) ∙ ap (λ (z : ℕ). vint w64 z) (e))) (k (subst (λ (z : ℕ). Is u64 z (uint-vals w64 z)) (e) (subst (Is u64 r·) (uint-tells w64 r· (v ∷ []) is) is))))))))
+      heard t (highest″.ens x-first span r·) (λ e. drop t $ split t $ move t (1 ∷ []) $ facts t PageIndex′.row (Is PageIndex′.row) (shows 𝓤 H A PageIndex′.row) r· (v ∷ []) (λ is. drop t $
+      subst (λ (u : Val). Seq K W (Γ) (after u)) (sym (ap only (PageIndex′.tells r· (v ∷ []) is) ∙ ap (λ (z : PageIndex). PageIndex′.mach z) (e))) (k (subst (λ (z : PageIndex). Is PageIndex′.row z (PageIndex′.vals z)) (e) (subst (Is PageIndex′.row r·) (PageIndex′.tells r· (v ∷ []) is) is))))))))
     where
       goes : ent 𝓤 (⋆ 𝓤 H A ([])) (Asked 𝓤 H A mem run .pre (to 𝓤 H A mem run x-first span))
-      goes = qed W ([]) ∵ says ! need $ nothing ! $ frame ! $ nothing ! $ owned ! u64 (Is u64) (uint-makes 𝓤 H A W w64) span _ ok·span $ fjoin ! $ owned ! u64 (Is u64) (uint-makes 𝓤 H A W w64) x-first _ ok·x-first $ fjoin ! $ done !
+      goes = qed W ([]) ∵ says ! need $ nothing ! $ frame ! $ nothing ! $ owned ! u64 (Is u64) (uint-makes 𝓤 H A W w64) span _ ok·span $ fjoin ! $ owned ! PageIndex′.row (Is PageIndex′.row) (PageIndex′.makes 𝓤 H A) x-first _ ok·x-first $ fjoin ! $ done !
 
 module _ {M : Type 1} {𝓤 : URA M} {H : Heap 𝓤} {A : Atoms 𝓤} {K : Type 0} {W : Given 𝓤 H A} {Γ : List (Item 𝓤)} {E : Env 𝓤 H} {C : Calls 𝓤 H} {Λ : Loops 𝓤 H} {Q : Post 𝓤 H} {xs : List Operand} {d : Place} {rest : Body} where
   -- by one instance of the callee's contract, which is what a function that calls itself has
-  pub calls-by : K → (mem : Memory → SProp 𝓤) (run : Routine → Fun 𝓤) → FmC 𝓤 H (W .laws) C → (x-first : ℕ) (span : ℕ) → ent 𝓤 (Asked 𝓤 H A mem run .pre (to 𝓤 H A mem run x-first span)) (C #callee (Asked 𝓤 H A mem run .args (to 𝓤 H A mem run x-first span)) (Asked 𝓤 H A mem run .post (to 𝓤 H A mem run x-first span))) → Is u64 x-first (uint-vals w64 x-first) → Is u64 span (uint-vals w64 span) → highest″.req x-first span →
-      Opds K W (raw (Asked 𝓤 H A mem run .pre (to 𝓤 H A mem run x-first span)) ∷ Γ) E xs (vint w64 x-first ∷ vint w64 span ∷ [])
-      → (Is u64 (highest″.res x-first span) (uint-vals w64 (highest″.res x-first span)) → Seq K W (Γ) (lands C Λ E d (vint w64 (highest″.res x-first span)) rest Q))
+  pub calls-by : K → (mem : Memory → SProp 𝓤) (run : Routine → Fun 𝓤) → FmC 𝓤 H (W .laws) C → (x-first : PageIndex) (span : ℕ) → ent 𝓤 (Asked 𝓤 H A mem run .pre (to 𝓤 H A mem run x-first span)) (C #callee (Asked 𝓤 H A mem run .args (to 𝓤 H A mem run x-first span)) (Asked 𝓤 H A mem run .post (to 𝓤 H A mem run x-first span))) → Is PageIndex′.row x-first (PageIndex′.vals x-first) → Is u64 span (uint-vals w64 span) → highest″.req x-first span →
+      Opds K W (raw (Asked 𝓤 H A mem run .pre (to 𝓤 H A mem run x-first span)) ∷ Γ) E xs (PageIndex′.mach x-first ∷ vint w64 span ∷ [])
+      → (Is PageIndex′.row (highest″.res x-first span) (PageIndex′.vals (highest″.res x-first span)) → Seq K W (Γ) (lands C Λ E d (PageIndex′.mach (highest″.res x-first span)) rest Q))
       → Seq K W (Γ) (runs C Λ E (seq (call #callee xs d) rest) Q)
   calls-by t mem run fm x-first span known ok·x-first ok·span need os k =
       core t mem run x-first span (runs C Λ E (seq (call #callee xs d) rest) Q) (λ v. lands C Λ E d v rest Q) (λ v. tt)
       (λ h. calls-from t fm (raw (Asked 𝓤 H A mem run .pre (to 𝓤 H A mem run x-first span))) (Asked 𝓤 H A mem run .args (to 𝓤 H A mem run x-first span)) (Asked 𝓤 H A mem run .post (to 𝓤 H A mem run x-first span)) known os h) ok·x-first ok·span need k
 
-  pub calls : K → (mem : Memory → SProp 𝓤) (run : Routine → Fun 𝓤) → FmC 𝓤 H (W .laws) C → Triple 𝓤 (C #callee) (Asked 𝓤 H A mem run) → (x-first : ℕ) (span : ℕ) → Is u64 x-first (uint-vals w64 x-first) → Is u64 span (uint-vals w64 span) → highest″.req x-first span →
-      Opds K W (raw (Asked 𝓤 H A mem run .pre (to 𝓤 H A mem run x-first span)) ∷ Γ) E xs (vint w64 x-first ∷ vint w64 span ∷ [])
-      → (Is u64 (highest″.res x-first span) (uint-vals w64 (highest″.res x-first span)) → Seq K W (Γ) (lands C Λ E d (vint w64 (highest″.res x-first span)) rest Q))
+  pub calls : K → (mem : Memory → SProp 𝓤) (run : Routine → Fun 𝓤) → FmC 𝓤 H (W .laws) C → Triple 𝓤 (C #callee) (Asked 𝓤 H A mem run) → (x-first : PageIndex) (span : ℕ) → Is PageIndex′.row x-first (PageIndex′.vals x-first) → Is u64 span (uint-vals w64 span) → highest″.req x-first span →
+      Opds K W (raw (Asked 𝓤 H A mem run .pre (to 𝓤 H A mem run x-first span)) ∷ Γ) E xs (PageIndex′.mach x-first ∷ vint w64 span ∷ [])
+      → (Is PageIndex′.row (highest″.res x-first span) (PageIndex′.vals (highest″.res x-first span)) → Seq K W (Γ) (lands C Λ E d (PageIndex′.mach (highest″.res x-first span)) rest Q))
       → Seq K W (Γ) (runs C Λ E (seq (call #callee xs d) rest) Q)
   calls t mem run fm known x-first span = calls-by t mem run fm x-first span (known (to 𝓤 H A mem run x-first span))
 
 module _ {M : Type 1} {𝓤 : URA M} {H : Heap 𝓤} {A : Atoms 𝓤} {K : Type 0} {W : Given 𝓤 H A} {Γ : List (Item 𝓤)} {E : Env 𝓤 H} {C : Calls 𝓤 H} {Λ : Loops 𝓤 H} {Q : Post 𝓤 H} {xs : List Operand} {d : Place} where
   -- by one instance of the callee's contract, which is what a function that calls itself has. The call ends a part of the code
-  pub calls-last-by : K → (mem : Memory → SProp 𝓤) (run : Routine → Fun 𝓤) → FmC 𝓤 H (W .laws) C → (x-first : ℕ) (span : ℕ) → ent 𝓤 (Asked 𝓤 H A mem run .pre (to 𝓤 H A mem run x-first span)) (C #callee (Asked 𝓤 H A mem run .args (to 𝓤 H A mem run x-first span)) (Asked 𝓤 H A mem run .post (to 𝓤 H A mem run x-first span))) → Is u64 x-first (uint-vals w64 x-first) → Is u64 span (uint-vals w64 span) → highest″.req x-first span →
-      Opds K W (raw (Asked 𝓤 H A mem run .pre (to 𝓤 H A mem run x-first span)) ∷ Γ) E xs (vint w64 x-first ∷ vint w64 span ∷ [])
-      → (Is u64 (highest″.res x-first span) (uint-vals w64 (highest″.res x-first span)) → Seq K W (Γ) (settles E d (vint w64 (highest″.res x-first span)) Q))
+  pub calls-last-by : K → (mem : Memory → SProp 𝓤) (run : Routine → Fun 𝓤) → FmC 𝓤 H (W .laws) C → (x-first : PageIndex) (span : ℕ) → ent 𝓤 (Asked 𝓤 H A mem run .pre (to 𝓤 H A mem run x-first span)) (C #callee (Asked 𝓤 H A mem run .args (to 𝓤 H A mem run x-first span)) (Asked 𝓤 H A mem run .post (to 𝓤 H A mem run x-first span))) → Is PageIndex′.row x-first (PageIndex′.vals x-first) → Is u64 span (uint-vals w64 span) → highest″.req x-first span →
+      Opds K W (raw (Asked 𝓤 H A mem run .pre (to 𝓤 H A mem run x-first span)) ∷ Γ) E xs (PageIndex′.mach x-first ∷ vint w64 span ∷ [])
+      → (Is PageIndex′.row (highest″.res x-first span) (PageIndex′.vals (highest″.res x-first span)) → Seq K W (Γ) (settles E d (PageIndex′.mach (highest″.res x-first span)) Q))
       → Seq K W (Γ) (runs C Λ E (call #callee xs d) Q)
   calls-last-by t mem run fm x-first span known ok·x-first ok·span need os k =
       core t mem run x-first span (runs C Λ E (call #callee xs d) Q) (λ v. settles E d v Q) (λ v. tt)
       (λ h. calls-from-last t fm (raw (Asked 𝓤 H A mem run .pre (to 𝓤 H A mem run x-first span))) (Asked 𝓤 H A mem run .args (to 𝓤 H A mem run x-first span)) (Asked 𝓤 H A mem run .post (to 𝓤 H A mem run x-first span)) known os h) ok·x-first ok·span need k
 
-  pub calls-last : K → (mem : Memory → SProp 𝓤) (run : Routine → Fun 𝓤) → FmC 𝓤 H (W .laws) C → Triple 𝓤 (C #callee) (Asked 𝓤 H A mem run) → (x-first : ℕ) (span : ℕ) → Is u64 x-first (uint-vals w64 x-first) → Is u64 span (uint-vals w64 span) → highest″.req x-first span →
-      Opds K W (raw (Asked 𝓤 H A mem run .pre (to 𝓤 H A mem run x-first span)) ∷ Γ) E xs (vint w64 x-first ∷ vint w64 span ∷ [])
-      → (Is u64 (highest″.res x-first span) (uint-vals w64 (highest″.res x-first span)) → Seq K W (Γ) (settles E d (vint w64 (highest″.res x-first span)) Q))
+  pub calls-last : K → (mem : Memory → SProp 𝓤) (run : Routine → Fun 𝓤) → FmC 𝓤 H (W .laws) C → Triple 𝓤 (C #callee) (Asked 𝓤 H A mem run) → (x-first : PageIndex) (span : ℕ) → Is PageIndex′.row x-first (PageIndex′.vals x-first) → Is u64 span (uint-vals w64 span) → highest″.req x-first span →
+      Opds K W (raw (Asked 𝓤 H A mem run .pre (to 𝓤 H A mem run x-first span)) ∷ Γ) E xs (PageIndex′.mach x-first ∷ vint w64 span ∷ [])
+      → (Is PageIndex′.row (highest″.res x-first span) (PageIndex′.vals (highest″.res x-first span)) → Seq K W (Γ) (settles E d (PageIndex′.mach (highest″.res x-first span)) Q))
       → Seq K W (Γ) (runs C Λ E (call #callee xs d) Q)
   calls-last t mem run fm known x-first span = calls-last-by t mem run fm x-first span (known (to 𝓤 H A mem run x-first span))

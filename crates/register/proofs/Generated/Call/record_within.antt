@@ -48,13 +48,13 @@ module _ {M : Type 1} (𝓤 : URA M) (H : Heap 𝓤) (A : Atoms 𝓤) (mem : Mem
   abbrev pub Asked : Contract 𝓤
   Asked = tripleOf 𝓤 H A callee.signature (callee.spec 𝓤 H A mem run)
 
-  abbrev pub to : (x-r : Record) (lo : ℕ) (hi : ℕ) → Asked .Ghost
-  to x-r lo hi = ((tt, tt, tt, (x-r, (lo, (hi, tt))), (Record′.mach x-r ∷ [], (vint w64 lo ∷ [], (vint w64 hi ∷ [], tt)))), tt)
+  abbrev pub to : (x-r : Record) (lo : PageIndex) (hi : PageIndex) → Asked .Ghost
+  to x-r lo hi = ((tt, tt, tt, (x-r, (lo, (hi, tt))), (Record′.mach x-r ∷ [], (PageIndex′.mach lo ∷ [], (PageIndex′.mach hi ∷ [], tt)))), tt)
 
 module _ {M : Type 1} {𝓤 : URA M} {H : Heap 𝓤} {A : Atoms 𝓤} {K : Type 0} {W : Given 𝓤 H A} {Γ : List (Item 𝓤)} where
   -- the call itself is made by `by-call`, from what the callee asks to what it has ensured
-  core : K → (mem : Memory → SProp 𝓤) (run : Routine → Fun 𝓤) → (x-r : Record) (lo : ℕ) (hi : ℕ) → (G : Goal 𝓤 H) (after : Val → Goal 𝓤 H) → ((v : Val) → Soaks (after v))
-      → (((v : Val) → Seq K W (raw (Asked 𝓤 H A mem run .post (to 𝓤 H A mem run x-r lo hi) v) ∷ Γ) (after v)) → Seq K W (raw (Asked 𝓤 H A mem run .pre (to 𝓤 H A mem run x-r lo hi)) ∷ Γ) G) → Is Record′.row x-r (Record′.vals x-r) → Is u64 lo (uint-vals w64 lo) → Is u64 hi (uint-vals w64 hi) →
+  core : K → (mem : Memory → SProp 𝓤) (run : Routine → Fun 𝓤) → (x-r : Record) (lo : PageIndex) (hi : PageIndex) → (G : Goal 𝓤 H) (after : Val → Goal 𝓤 H) → ((v : Val) → Soaks (after v))
+      → (((v : Val) → Seq K W (raw (Asked 𝓤 H A mem run .post (to 𝓤 H A mem run x-r lo hi) v) ∷ Γ) (after v)) → Seq K W (raw (Asked 𝓤 H A mem run .pre (to 𝓤 H A mem run x-r lo hi)) ∷ Γ) G) → Is Record′.row x-r (Record′.vals x-r) → Is PageIndex′.row lo (PageIndex′.vals lo) → Is PageIndex′.row hi (PageIndex′.vals hi) →
       (Is bool (record-within″.res x-r lo hi) (bool-vals (record-within″.res x-r lo hi)) → Seq K W (Γ) (after (vbool (record-within″.res x-r lo hi)))) → Seq K W (Γ) G
   core t mem run x-r lo hi G after soaks by-call ok·x-r ok·lo ok·hi k =
       use0 W (raw (Asked 𝓤 H A mem run .pre (to 𝓤 H A mem run x-r lo hi))) goes $
@@ -65,36 +65,36 @@ module _ {M : Type 1} {𝓤 : URA M} {H : Heap 𝓤} {A : Atoms 𝓤} {K : Type 
       subst (λ (u : Val). Seq K W (Γ) (after u)) (sym (ap only (bool-tells r· (v ∷ []) is) ∙ ap (λ (z : Bool). vbool z) (e))) (k (subst (λ (z : Bool). Is bool z (bool-vals z)) (e) (subst (Is bool r·) (bool-tells r· (v ∷ []) is) is))))))))
     where
       goes : ent 𝓤 (⋆ 𝓤 H A ([])) (Asked 𝓤 H A mem run .pre (to 𝓤 H A mem run x-r lo hi))
-      goes = qed W ([]) ∵ plus-nothing ! $ nothing ! $ frame ! $ nothing ! $ owned ! u64 (Is u64) (uint-makes 𝓤 H A W w64) hi _ ok·hi $ fjoin ! $ owned ! u64 (Is u64) (uint-makes 𝓤 H A W w64) lo _ ok·lo $ fjoin ! $ owned ! Record′.row (Is Record′.row) (Record′.makes 𝓤 H A) x-r _ ok·x-r $ fjoin ! $ done !
+      goes = qed W ([]) ∵ plus-nothing ! $ nothing ! $ frame ! $ nothing ! $ owned ! PageIndex′.row (Is PageIndex′.row) (PageIndex′.makes 𝓤 H A) hi _ ok·hi $ fjoin ! $ owned ! PageIndex′.row (Is PageIndex′.row) (PageIndex′.makes 𝓤 H A) lo _ ok·lo $ fjoin ! $ owned ! Record′.row (Is Record′.row) (Record′.makes 𝓤 H A) x-r _ ok·x-r $ fjoin ! $ done !
 
 module _ {M : Type 1} {𝓤 : URA M} {H : Heap 𝓤} {A : Atoms 𝓤} {K : Type 0} {W : Given 𝓤 H A} {Γ : List (Item 𝓤)} {E : Env 𝓤 H} {C : Calls 𝓤 H} {Λ : Loops 𝓤 H} {Q : Post 𝓤 H} {xs : List Operand} {d : Place} {rest : Body} where
   -- by one instance of the callee's contract, which is what a function that calls itself has
-  pub calls-by : K → (mem : Memory → SProp 𝓤) (run : Routine → Fun 𝓤) → FmC 𝓤 H (W .laws) C → (x-r : Record) (lo : ℕ) (hi : ℕ) → ent 𝓤 (Asked 𝓤 H A mem run .pre (to 𝓤 H A mem run x-r lo hi)) (C #callee (Asked 𝓤 H A mem run .args (to 𝓤 H A mem run x-r lo hi)) (Asked 𝓤 H A mem run .post (to 𝓤 H A mem run x-r lo hi))) → Is Record′.row x-r (Record′.vals x-r) → Is u64 lo (uint-vals w64 lo) → Is u64 hi (uint-vals w64 hi) →
-      Opds K W (raw (Asked 𝓤 H A mem run .pre (to 𝓤 H A mem run x-r lo hi)) ∷ Γ) E xs (Record′.mach x-r ∷ vint w64 lo ∷ vint w64 hi ∷ [])
+  pub calls-by : K → (mem : Memory → SProp 𝓤) (run : Routine → Fun 𝓤) → FmC 𝓤 H (W .laws) C → (x-r : Record) (lo : PageIndex) (hi : PageIndex) → ent 𝓤 (Asked 𝓤 H A mem run .pre (to 𝓤 H A mem run x-r lo hi)) (C #callee (Asked 𝓤 H A mem run .args (to 𝓤 H A mem run x-r lo hi)) (Asked 𝓤 H A mem run .post (to 𝓤 H A mem run x-r lo hi))) → Is Record′.row x-r (Record′.vals x-r) → Is PageIndex′.row lo (PageIndex′.vals lo) → Is PageIndex′.row hi (PageIndex′.vals hi) →
+      Opds K W (raw (Asked 𝓤 H A mem run .pre (to 𝓤 H A mem run x-r lo hi)) ∷ Γ) E xs (Record′.mach x-r ∷ PageIndex′.mach lo ∷ PageIndex′.mach hi ∷ [])
       → (Is bool (record-within″.res x-r lo hi) (bool-vals (record-within″.res x-r lo hi)) → Seq K W (Γ) (lands C Λ E d (vbool (record-within″.res x-r lo hi)) rest Q))
       → Seq K W (Γ) (runs C Λ E (seq (call #callee xs d) rest) Q)
   calls-by t mem run fm x-r lo hi known ok·x-r ok·lo ok·hi os k =
       core t mem run x-r lo hi (runs C Λ E (seq (call #callee xs d) rest) Q) (λ v. lands C Λ E d v rest Q) (λ v. tt)
       (λ h. calls-from t fm (raw (Asked 𝓤 H A mem run .pre (to 𝓤 H A mem run x-r lo hi))) (Asked 𝓤 H A mem run .args (to 𝓤 H A mem run x-r lo hi)) (Asked 𝓤 H A mem run .post (to 𝓤 H A mem run x-r lo hi)) known os h) ok·x-r ok·lo ok·hi k
 
-  pub calls : K → (mem : Memory → SProp 𝓤) (run : Routine → Fun 𝓤) → FmC 𝓤 H (W .laws) C → Triple 𝓤 (C #callee) (Asked 𝓤 H A mem run) → (x-r : Record) (lo : ℕ) (hi : ℕ) → Is Record′.row x-r (Record′.vals x-r) → Is u64 lo (uint-vals w64 lo) → Is u64 hi (uint-vals w64 hi) →
-      Opds K W (raw (Asked 𝓤 H A mem run .pre (to 𝓤 H A mem run x-r lo hi)) ∷ Γ) E xs (Record′.mach x-r ∷ vint w64 lo ∷ vint w64 hi ∷ [])
+  pub calls : K → (mem : Memory → SProp 𝓤) (run : Routine → Fun 𝓤) → FmC 𝓤 H (W .laws) C → Triple 𝓤 (C #callee) (Asked 𝓤 H A mem run) → (x-r : Record) (lo : PageIndex) (hi : PageIndex) → Is Record′.row x-r (Record′.vals x-r) → Is PageIndex′.row lo (PageIndex′.vals lo) → Is PageIndex′.row hi (PageIndex′.vals hi) →
+      Opds K W (raw (Asked 𝓤 H A mem run .pre (to 𝓤 H A mem run x-r lo hi)) ∷ Γ) E xs (Record′.mach x-r ∷ PageIndex′.mach lo ∷ PageIndex′.mach hi ∷ [])
       → (Is bool (record-within″.res x-r lo hi) (bool-vals (record-within″.res x-r lo hi)) → Seq K W (Γ) (lands C Λ E d (vbool (record-within″.res x-r lo hi)) rest Q))
       → Seq K W (Γ) (runs C Λ E (seq (call #callee xs d) rest) Q)
   calls t mem run fm known x-r lo hi = calls-by t mem run fm x-r lo hi (known (to 𝓤 H A mem run x-r lo hi))
 
 module _ {M : Type 1} {𝓤 : URA M} {H : Heap 𝓤} {A : Atoms 𝓤} {K : Type 0} {W : Given 𝓤 H A} {Γ : List (Item 𝓤)} {E : Env 𝓤 H} {C : Calls 𝓤 H} {Λ : Loops 𝓤 H} {Q : Post 𝓤 H} {xs : List Operand} {d : Place} where
   -- by one instance of the callee's contract, which is what a function that calls itself has. The call ends a part of the code
-  pub calls-last-by : K → (mem : Memory → SProp 𝓤) (run : Routine → Fun 𝓤) → FmC 𝓤 H (W .laws) C → (x-r : Record) (lo : ℕ) (hi : ℕ) → ent 𝓤 (Asked 𝓤 H A mem run .pre (to 𝓤 H A mem run x-r lo hi)) (C #callee (Asked 𝓤 H A mem run .args (to 𝓤 H A mem run x-r lo hi)) (Asked 𝓤 H A mem run .post (to 𝓤 H A mem run x-r lo hi))) → Is Record′.row x-r (Record′.vals x-r) → Is u64 lo (uint-vals w64 lo) → Is u64 hi (uint-vals w64 hi) →
-      Opds K W (raw (Asked 𝓤 H A mem run .pre (to 𝓤 H A mem run x-r lo hi)) ∷ Γ) E xs (Record′.mach x-r ∷ vint w64 lo ∷ vint w64 hi ∷ [])
+  pub calls-last-by : K → (mem : Memory → SProp 𝓤) (run : Routine → Fun 𝓤) → FmC 𝓤 H (W .laws) C → (x-r : Record) (lo : PageIndex) (hi : PageIndex) → ent 𝓤 (Asked 𝓤 H A mem run .pre (to 𝓤 H A mem run x-r lo hi)) (C #callee (Asked 𝓤 H A mem run .args (to 𝓤 H A mem run x-r lo hi)) (Asked 𝓤 H A mem run .post (to 𝓤 H A mem run x-r lo hi))) → Is Record′.row x-r (Record′.vals x-r) → Is PageIndex′.row lo (PageIndex′.vals lo) → Is PageIndex′.row hi (PageIndex′.vals hi) →
+      Opds K W (raw (Asked 𝓤 H A mem run .pre (to 𝓤 H A mem run x-r lo hi)) ∷ Γ) E xs (Record′.mach x-r ∷ PageIndex′.mach lo ∷ PageIndex′.mach hi ∷ [])
       → (Is bool (record-within″.res x-r lo hi) (bool-vals (record-within″.res x-r lo hi)) → Seq K W (Γ) (settles E d (vbool (record-within″.res x-r lo hi)) Q))
       → Seq K W (Γ) (runs C Λ E (call #callee xs d) Q)
   calls-last-by t mem run fm x-r lo hi known ok·x-r ok·lo ok·hi os k =
       core t mem run x-r lo hi (runs C Λ E (call #callee xs d) Q) (λ v. settles E d v Q) (λ v. tt)
       (λ h. calls-from-last t fm (raw (Asked 𝓤 H A mem run .pre (to 𝓤 H A mem run x-r lo hi))) (Asked 𝓤 H A mem run .args (to 𝓤 H A mem run x-r lo hi)) (Asked 𝓤 H A mem run .post (to 𝓤 H A mem run x-r lo hi)) known os h) ok·x-r ok·lo ok·hi k
 
-  pub calls-last : K → (mem : Memory → SProp 𝓤) (run : Routine → Fun 𝓤) → FmC 𝓤 H (W .laws) C → Triple 𝓤 (C #callee) (Asked 𝓤 H A mem run) → (x-r : Record) (lo : ℕ) (hi : ℕ) → Is Record′.row x-r (Record′.vals x-r) → Is u64 lo (uint-vals w64 lo) → Is u64 hi (uint-vals w64 hi) →
-      Opds K W (raw (Asked 𝓤 H A mem run .pre (to 𝓤 H A mem run x-r lo hi)) ∷ Γ) E xs (Record′.mach x-r ∷ vint w64 lo ∷ vint w64 hi ∷ [])
+  pub calls-last : K → (mem : Memory → SProp 𝓤) (run : Routine → Fun 𝓤) → FmC 𝓤 H (W .laws) C → Triple 𝓤 (C #callee) (Asked 𝓤 H A mem run) → (x-r : Record) (lo : PageIndex) (hi : PageIndex) → Is Record′.row x-r (Record′.vals x-r) → Is PageIndex′.row lo (PageIndex′.vals lo) → Is PageIndex′.row hi (PageIndex′.vals hi) →
+      Opds K W (raw (Asked 𝓤 H A mem run .pre (to 𝓤 H A mem run x-r lo hi)) ∷ Γ) E xs (Record′.mach x-r ∷ PageIndex′.mach lo ∷ PageIndex′.mach hi ∷ [])
       → (Is bool (record-within″.res x-r lo hi) (bool-vals (record-within″.res x-r lo hi)) → Seq K W (Γ) (settles E d (vbool (record-within″.res x-r lo hi)) Q))
       → Seq K W (Γ) (runs C Λ E (call #callee xs d) Q)
   calls-last t mem run fm known x-r lo hi = calls-last-by t mem run fm x-r lo hi (known (to 𝓤 H A mem run x-r lo hi))

@@ -11,12 +11,13 @@ use Rattle.tree.specs.Tree.{nth}
 use Rattle.register.specs.Register.{noRecord, inLimits, limited, updateOf, extentOf, withRecord, newestIn, highest}
 use Rattle.register.specs.declared.Extent.{Extent}
 use Rattle.register.specs.declared.Record.{Record}
+use Rattle.tree.specs.declared.PageIndex.{PageIndex}
 
-abbrev pub req : ℕ → ℕ → Type 0
-req first span = first + span < 2 ^ 64
+abbrev pub req : PageIndex → ℕ → Type 0
+req first span = first .0 + span < 2 ^ 64
 
-abbrev pub ens : ℕ → ℕ → ℕ → Type 0
-ens first span r = r ≡ highest first span
+abbrev pub ens : PageIndex → ℕ → PageIndex → Type 0
+ens first span r = r ≡ record { 0 = highest (first .0) span }
 
-abbrev pub res : ℕ → ℕ → ℕ
-res first span = highest first span
+abbrev pub res : PageIndex → ℕ → PageIndex
+res first span = record { 0 = highest (first .0) span }

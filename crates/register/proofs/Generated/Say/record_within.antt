@@ -15,8 +15,8 @@ use Rattle.tree.specs.declared.PageIndex.{PageIndex}
 use Rattle.tree.specs.declared.Ticket.{Ticket}
 use Rattle.tree.specs.declared.Version.{Version}
 
-abbrev pub ens : Record → ℕ → ℕ → Bool → Type 0
-ens r lo hi b = b ≡ leb (max (r .f .0) lo) (min (max (r .f .0) (r .last .0)) hi)
+abbrev pub ens : Record → PageIndex → PageIndex → Bool → Type 0
+ens r lo hi b = b ≡ leb (max (r .f .0) (lo .0)) (min (max (r .f .0) (r .last .0)) (hi .0))
 
-abbrev pub res : Record → ℕ → ℕ → Bool
-res r lo hi = leb (max (r .f .0) lo) (min (max (r .f .0) (r .last .0)) hi)
+abbrev pub res : Record → PageIndex → PageIndex → Bool
+res r lo hi = leb (max (r .f .0) (lo .0)) (min (max (r .f .0) (r .last .0)) (hi .0))

@@ -22,53 +22,53 @@ use Rattle.register.proofs.Generated.Say.record_at as record-at″
 use Rattle.register.proofs.Generated.Say.record_within as record-within″
 use Rattle.register.proofs.newest_update.Proof.Loop as Loop
 
-abbrev pub r1 : List Record → Version → PageIndex → ℕ → ℕ
-r1 register below x-first span = highest″.res (x-first .0) span
+abbrev pub r1 : List Record → Version → PageIndex → ℕ → PageIndex
+r1 register below x-first span = highest″.res x-first span
 
 abbrev pub r2 : List Record → Version → PageIndex → ℕ → ℕ → Record
-r2 register below x-first span v7 = record-at″.res register (v7 - 1)
+r2 register below x-first span v6 = record-at″.res register (v6 - 1)
 
 abbrev pub r3 : List Record → Version → PageIndex → ℕ → ℕ → Bool
-r3 register below x-first span v7 = record-within″.res (r2 register below x-first span v7) (x-first .0) (r1 register below x-first span)
+r3 register below x-first span v6 = record-within″.res (r2 register below x-first span v6) x-first (r1 register below x-first span)
 
--- `highest` asks: first + span < 2 ^ 64
+-- `highest` asks: first .0 + span < 2 ^ 64
 abbrev pub highest-1 : Type 0
 highest-1 =
     (register : List Record) (below : Version) (x-first : PageIndex) (span : ℕ) (len-register : length register < 2 ^ 64) (ok-below : Version′.Ok below) (ok-x-first : PageIndex′.Ok x-first) (fits-span : span < 2 ^ 64) (need : newest-update″.req register below x-first span)
-    → highest″.req (x-first .0) span
+    → highest″.req x-first span
 
 -- a difference does not fall below 0
 abbrev pub sub-1 : Type 0
 sub-1 =
-    (register : List Record) (below : Version) (x-first : PageIndex) (span : ℕ) (len-register : length register < 2 ^ 64) (ok-below : Version′.Ok below) (ok-x-first : PageIndex′.Ok x-first) (fits-span : span < 2 ^ 64) (need : newest-update″.req register below x-first span) (fits-r1 : (r1 register below x-first span) < 2 ^ 64) (v7 : ℕ) (fits-v7 : v7 < 2 ^ 64) (inv1 : Loop.inv-1 register below x-first span v7) (c1 : ltb 0 v7 ≡ true) (n1 : 0 < v7)
-    → 1 ≤ v7
+    (register : List Record) (below : Version) (x-first : PageIndex) (span : ℕ) (len-register : length register < 2 ^ 64) (ok-below : Version′.Ok below) (ok-x-first : PageIndex′.Ok x-first) (fits-span : span < 2 ^ 64) (need : newest-update″.req register below x-first span) (ok-r1 : PageIndex′.Ok (r1 register below x-first span)) (v6 : ℕ) (fits-v6 : v6 < 2 ^ 64) (inv1 : Loop.inv-1 register below x-first span v6) (c1 : ltb 0 v6 ≡ true) (n1 : 0 < v6)
+    → 1 ≤ v6
 
 -- the function ensures: r ≡ newestIn register below first span
 abbrev pub exit-1 : Type 0
 exit-1 =
-    (register : List Record) (below : Version) (x-first : PageIndex) (span : ℕ) (len-register : length register < 2 ^ 64) (ok-below : Version′.Ok below) (ok-x-first : PageIndex′.Ok x-first) (fits-span : span < 2 ^ 64) (need : newest-update″.req register below x-first span) (fits-r1 : (r1 register below x-first span) < 2 ^ 64) (v7 : ℕ) (fits-v7 : v7 < 2 ^ 64) (inv1 : Loop.inv-1 register below x-first span v7) (c1 : ltb 0 v7 ≡ true) (n1 : 0 < v7) (ok-r2 : Record′.Ok (r2 register below x-first span v7)) (c2 : r3 register below x-first span v7 ≡ true)
-    → newest-update″.ens register below x-first span (Version′.build v7)
+    (register : List Record) (below : Version) (x-first : PageIndex) (span : ℕ) (len-register : length register < 2 ^ 64) (ok-below : Version′.Ok below) (ok-x-first : PageIndex′.Ok x-first) (fits-span : span < 2 ^ 64) (need : newest-update″.req register below x-first span) (ok-r1 : PageIndex′.Ok (r1 register below x-first span)) (v6 : ℕ) (fits-v6 : v6 < 2 ^ 64) (inv1 : Loop.inv-1 register below x-first span v6) (c1 : ltb 0 v6 ≡ true) (n1 : 0 < v6) (ok-r2 : Record′.Ok (r2 register below x-first span v6)) (c2 : r3 register below x-first span v6 ≡ true)
+    → newest-update″.ens register below x-first span (Version′.build v6)
 
 -- the invariant holds after a turn
 abbrev pub again-1 : Type 0
 again-1 =
-    (register : List Record) (below : Version) (x-first : PageIndex) (span : ℕ) (len-register : length register < 2 ^ 64) (ok-below : Version′.Ok below) (ok-x-first : PageIndex′.Ok x-first) (fits-span : span < 2 ^ 64) (need : newest-update″.req register below x-first span) (fits-r1 : (r1 register below x-first span) < 2 ^ 64) (v7 : ℕ) (fits-v7 : v7 < 2 ^ 64) (inv1 : Loop.inv-1 register below x-first span v7) (c1 : ltb 0 v7 ≡ true) (n1 : 0 < v7) (ok-r2 : Record′.Ok (r2 register below x-first span v7)) (c2 : r3 register below x-first span v7 ≡ false)
-    → Loop.inv-1 register below x-first span (v7 - 1)
+    (register : List Record) (below : Version) (x-first : PageIndex) (span : ℕ) (len-register : length register < 2 ^ 64) (ok-below : Version′.Ok below) (ok-x-first : PageIndex′.Ok x-first) (fits-span : span < 2 ^ 64) (need : newest-update″.req register below x-first span) (ok-r1 : PageIndex′.Ok (r1 register below x-first span)) (v6 : ℕ) (fits-v6 : v6 < 2 ^ 64) (inv1 : Loop.inv-1 register below x-first span v6) (c1 : ltb 0 v6 ≡ true) (n1 : 0 < v6) (ok-r2 : Record′.Ok (r2 register below x-first span v6)) (c2 : r3 register below x-first span v6 ≡ false)
+    → Loop.inv-1 register below x-first span (v6 - 1)
 
 -- the measure falls
 abbrev pub less-1 : Type 0
 less-1 =
-    (register : List Record) (below : Version) (x-first : PageIndex) (span : ℕ) (len-register : length register < 2 ^ 64) (ok-below : Version′.Ok below) (ok-x-first : PageIndex′.Ok x-first) (fits-span : span < 2 ^ 64) (need : newest-update″.req register below x-first span) (fits-r1 : (r1 register below x-first span) < 2 ^ 64) (v7 : ℕ) (fits-v7 : v7 < 2 ^ 64) (inv1 : Loop.inv-1 register below x-first span v7) (c1 : ltb 0 v7 ≡ true) (n1 : 0 < v7) (ok-r2 : Record′.Ok (r2 register below x-first span v7)) (c2 : r3 register below x-first span v7 ≡ false)
-    → Loop.measure-1 register below x-first span (v7 - 1) < Loop.measure-1 register below x-first span v7
+    (register : List Record) (below : Version) (x-first : PageIndex) (span : ℕ) (len-register : length register < 2 ^ 64) (ok-below : Version′.Ok below) (ok-x-first : PageIndex′.Ok x-first) (fits-span : span < 2 ^ 64) (need : newest-update″.req register below x-first span) (ok-r1 : PageIndex′.Ok (r1 register below x-first span)) (v6 : ℕ) (fits-v6 : v6 < 2 ^ 64) (inv1 : Loop.inv-1 register below x-first span v6) (c1 : ltb 0 v6 ≡ true) (n1 : 0 < v6) (ok-r2 : Record′.Ok (r2 register below x-first span v6)) (c2 : r3 register below x-first span v6 ≡ false)
+    → Loop.measure-1 register below x-first span (v6 - 1) < Loop.measure-1 register below x-first span v6
 
 -- the function ensures: r ≡ newestIn register below first span
 abbrev pub exit-2 : Type 0
 exit-2 =
-    (register : List Record) (below : Version) (x-first : PageIndex) (span : ℕ) (len-register : length register < 2 ^ 64) (ok-below : Version′.Ok below) (ok-x-first : PageIndex′.Ok x-first) (fits-span : span < 2 ^ 64) (need : newest-update″.req register below x-first span) (fits-r1 : (r1 register below x-first span) < 2 ^ 64) (v7 : ℕ) (fits-v7 : v7 < 2 ^ 64) (inv1 : Loop.inv-1 register below x-first span v7) (c1 : ltb 0 v7 ≡ false) (n1 : v7 ≤ 0)
+    (register : List Record) (below : Version) (x-first : PageIndex) (span : ℕ) (len-register : length register < 2 ^ 64) (ok-below : Version′.Ok below) (ok-x-first : PageIndex′.Ok x-first) (fits-span : span < 2 ^ 64) (need : newest-update″.req register below x-first span) (ok-r1 : PageIndex′.Ok (r1 register below x-first span)) (v6 : ℕ) (fits-v6 : v6 < 2 ^ 64) (inv1 : Loop.inv-1 register below x-first span v6) (c1 : ltb 0 v6 ≡ false) (n1 : v6 ≤ 0)
     → newest-update″.ens register below x-first span (Version′.build 0)
 
 -- the invariant holds where the loop begins
 abbrev pub start-1 : Type 0
 start-1 =
-    (register : List Record) (below : Version) (x-first : PageIndex) (span : ℕ) (len-register : length register < 2 ^ 64) (ok-below : Version′.Ok below) (ok-x-first : PageIndex′.Ok x-first) (fits-span : span < 2 ^ 64) (need : newest-update″.req register below x-first span) (fits-r1 : (r1 register below x-first span) < 2 ^ 64)
+    (register : List Record) (below : Version) (x-first : PageIndex) (span : ℕ) (len-register : length register < 2 ^ 64) (ok-below : Version′.Ok below) (ok-x-first : PageIndex′.Ok x-first) (fits-span : span < 2 ^ 64) (need : newest-update″.req register below x-first span) (ok-r1 : PageIndex′.Ok (r1 register below x-first span))
     → Loop.inv-1 register below x-first span (below .0)

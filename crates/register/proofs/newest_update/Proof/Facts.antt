@@ -28,39 +28,39 @@ unfolding newest
 none-below rs zero a s p = refl
 none-below rs (suc i) a s p = absurd (omega arith)
 
--- `highest` asks: first + span < 2 ^ 64
--- here: highest″.req (x-first .0) span
+-- `highest` asks: first .0 + span < 2 ^ 64
+-- here: highest″.req x-first span
 pub highest-1 : Asks.highest-1
 highest-1 register below x-first span len-register ok-below ok-x-first fits-span need = need .1
 
 -- a difference does not fall below 0
--- here: 1 ≤ v7
+-- here: 1 ≤ v6
 pub sub-1 : Asks.sub-1
-sub-1 register below x-first span len-register ok-below ok-x-first fits-span need fits-r1 v7 fits-v7 inv1 c1 n1 = n1
+sub-1 register below x-first span len-register ok-below ok-x-first fits-span need ok-r1 v6 fits-v6 inv1 c1 n1 = n1
 
 -- the function ensures: r ≡ newestIn register below first span
--- here: newest-update″.ens register below x-first span (Version′.build v7)
+-- here: newest-update″.ens register below x-first span (Version′.build v6)
 pub exit-1 : Asks.exit-1
-exit-1 register below x-first span len-register ok-below ok-x-first fits-span need fits-r1 v7 fits-v7 inv1 c1 n1 ok-r2 c2 =
-    ap Version′.build (sym (newest-met register v7 (v7 - 1) (x-first .0) span (omega arith) (omega arith) (tested _ _ _ ok-r2 (need .2 (omega arith)) c2)) ∙ inv1 .1)
+exit-1 register below x-first span len-register ok-below ok-x-first fits-span need ok-r1 v6 fits-v6 inv1 c1 n1 ok-r2 c2 =
+    ap Version′.build (sym (newest-met register v6 (v6 - 1) (x-first .0) span (omega arith) (omega arith) (tested _ _ _ ok-r2 (need .2 (omega arith)) c2)) ∙ inv1 .1)
 
 -- the invariant holds after a turn
--- here: Loop.inv-1 register below x-first span (v7 - 1)
+-- here: Loop.inv-1 register below x-first span (v6 - 1)
 pub again-1 : Asks.again-1
-again-1 register below x-first span len-register ok-below ok-x-first fits-span need fits-r1 v7 fits-v7 inv1 c1 n1 ok-r2 c2 =
-    (omega arith, sym (newest-unmet register v7 (v7 - 1) (x-first .0) span (omega arith) (omega arith) (tested _ _ _ ok-r2 (need .2 (omega arith)) c2)) ∙ inv1 .1)
+again-1 register below x-first span len-register ok-below ok-x-first fits-span need ok-r1 v6 fits-v6 inv1 c1 n1 ok-r2 c2 =
+    (omega arith, sym (newest-unmet register v6 (v6 - 1) (x-first .0) span (omega arith) (omega arith) (tested _ _ _ ok-r2 (need .2 (omega arith)) c2)) ∙ inv1 .1)
 
 -- the measure falls
--- here: Loop.measure-1 register below x-first span (v7 - 1) < Loop.measure-1 register below x-first span v7
+-- here: Loop.measure-1 register below x-first span (v6 - 1) < Loop.measure-1 register below x-first span v6
 pub less-1 : Asks.less-1
-less-1 register below x-first span len-register ok-below ok-x-first fits-span need fits-r1 v7 fits-v7 inv1 c1 n1 ok-r2 c2 = omega (arith, n1)
+less-1 register below x-first span len-register ok-below ok-x-first fits-span need ok-r1 v6 fits-v6 inv1 c1 n1 ok-r2 c2 = omega (arith, n1)
 
 -- the function ensures: r ≡ newestIn register below first span
 -- here: newest-update″.ens register below x-first span (Version′.build 0)
 pub exit-2 : Asks.exit-2
-exit-2 register below x-first span len-register ok-below ok-x-first fits-span need fits-r1 v7 fits-v7 inv1 c1 n1 = ap Version′.build (none-below register v7 (x-first .0) span n1 ∙ inv1 .1)
+exit-2 register below x-first span len-register ok-below ok-x-first fits-span need ok-r1 v6 fits-v6 inv1 c1 n1 = ap Version′.build (none-below register v6 (x-first .0) span n1 ∙ inv1 .1)
 
 -- the invariant holds where the loop begins
 -- here: Loop.inv-1 register below x-first span (below .0)
 pub start-1 : Asks.start-1
-start-1 register below x-first span len-register ok-below ok-x-first fits-span need fits-r1 = (omega arith, refl)
+start-1 register below x-first span len-register ok-below ok-x-first fits-span need ok-r1 = (omega arith, refl)
