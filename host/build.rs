@@ -1,6 +1,9 @@
 //! Links the proved static libraries, `libexports.a` (the store's calls) and `libtree.a` (the sizes):
 //! from the folder that `PIT_LIB_DIR` names, else from `target/staticlib` at the top of the repository,
 //! where `rt staticlib exports` and `rt staticlib tree` write them.
+//!
+//! Where one is missing, that is a warning: `cargo check` and `cargo doc` link nothing and do without. What links
+//! fails then, at the library.
 
 use std::env;
 use std::path::{Path, PathBuf};
@@ -30,8 +33,8 @@ fn link(folder: &Path, name: &str) {
     let library = folder.join(format!("lib{name}.a"));
     println!("cargo:rerun-if-changed={}", library.display());
     if !library.is_file() {
-        panic!(
-            "{} is missing: run ./test, or `rt staticlib {name}`, at the top of the repository",
+        println!(
+            "cargo:warning={} is missing, so nothing links: run ./test, or `rt staticlib {name}`, at the top of the repository",
             library.display()
         );
     }
