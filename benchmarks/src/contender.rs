@@ -1,7 +1,7 @@
 //! What every store under test does, and the loops that are timed.
 
+use crate::opaque::opaque;
 use crate::shape::{Source, Update};
-use std::hint::black_box;
 
 /// A store under test. Versions are counted from 1, an update each.
 ///
@@ -34,21 +34,21 @@ pub trait Contender {
     fn reads(&self, version: usize, pages: &[usize], to: &mut [u8]) {
         for &page in pages {
             self.read(version, page, to);
-            black_box(&mut *to);
+            opaque(&mut *to);
         }
     }
 
     /// Timed: VIEW of each page.
     fn views(&self, version: usize, pages: &[usize]) {
         for &page in pages {
-            black_box(self.view(version, page));
+            opaque(self.view(version, page));
         }
     }
 
     /// Timed: each update, whole. The k-th takes the source's k-th bytes.
     fn updates(&mut self, updates: &[Update], source: &Source) {
         for (k, update) in updates.iter().enumerate() {
-            self.update(update.first, black_box(source.bytes(k, update.pages)));
+            self.update(update.first, opaque(source.bytes(k, update.pages)));
         }
     }
 }

@@ -1,7 +1,8 @@
 //! LMDB's C interface, as much of it as is needed, and a safe database of numbered values over it.
 
-use std::ffi::{c_char, c_int, c_uint, c_void, CStr, CString};
+use std::ffi::{c_void, CStr, CString};
 use std::mem::size_of;
+use std::os::raw::{c_char, c_int, c_uint};
 use std::os::unix::ffi::OsStrExt;
 use std::path::Path;
 use std::ptr::{null, null_mut};

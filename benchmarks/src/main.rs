@@ -14,6 +14,8 @@ mod lmdb;
 mod lmdb_pages;
 mod measure;
 mod memory;
+#[allow(unsafe_code)]
+mod opaque;
 mod ours;
 mod plot;
 mod random;

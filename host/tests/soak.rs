@@ -104,7 +104,7 @@ impl Site {
             drop(writing);
             for (number, crew) in crews.into_iter().enumerate() {
                 let death = self.deaths.get(number);
-                let planned = death.is_some_and(|death| death.by_panic);
+                let planned = death.map_or(false, |death| death.by_panic);
                 assert_eq!(crew.join().is_err(), planned, "{death:?}");
             }
             let answers = trucks.into_iter().map(|truck| truck.join());

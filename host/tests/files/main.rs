@@ -13,7 +13,7 @@ use pit_host::{Error, FileError};
 fn words_and_causes() {
     use std::error::Error as _;
     let errors = [
-        FileError::Io(std::io::Error::other("no disk")),
+        FileError::Io(std::io::Error::new(std::io::ErrorKind::Other, "no disk")),
         FileError::Foreign,
         FileError::Form(7),
         FileError::Limits(Error::PageSize),
@@ -29,7 +29,7 @@ fn words_and_causes() {
         FileError::Checksum,
         FileError::Counters,
     ];
-    let words = errors.each_ref().map(|e| e.to_string());
+    let words: Vec<String> = errors.iter().map(FileError::to_string).collect();
     assert!(words.iter().all(|w| w.len() > 20));
     assert!(
         words[0].ends_with("no disk")

@@ -107,12 +107,8 @@ fn child(part: &str, file: &Path) -> Command {
 #[test]
 #[ignore = "a part that other tests start"]
 fn as_a_child() {
-    let (Ok(part), Some(file)) = (
-        std::env::var("PIT_CHILD"),
-        std::env::var_os("PIT_CHILD_FILE"),
-    ) else {
-        return; // started by hand, it has no part
-    };
+    let part = std::env::var("PIT_CHILD").unwrap_or_default();
+    let file = std::env::var_os("PIT_CHILD_FILE").unwrap_or_default();
     let mut store = of_three_versions();
     let ticket = store.begin(1).unwrap();
     store.put(ticket, 0, &[8; 16]).unwrap();
@@ -123,9 +119,10 @@ fn as_a_child() {
             store.append(ticket).unwrap();
             std::process::abort();
         }
-        _ => loop {
+        "saves" => loop {
             store.save(&file).unwrap(); // until it is killed
         },
+        _ => (), // started by hand, it has no part
     }
 }
 

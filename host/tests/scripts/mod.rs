@@ -237,11 +237,13 @@ impl Author {
     /// The empty slots of a ticket, in any order.
     fn empty_slots(&mut self, ticket: u64) -> Vec<u64> {
         let store = self.model.store.as_ref().expect("FORMAT was accepted");
-        let Some(ticket) = store.tickets.get(ticket as usize - 1) else {
-            return vec![];
-        };
-        let empty = |i: &u64| ticket.slots[*i as usize].is_none();
-        self.random.shuffled((0..ticket.n).filter(empty))
+        match store.tickets.get(ticket as usize - 1) {
+            Some(ticket) => {
+                let empty = |i: &u64| ticket.slots[*i as usize].is_none();
+                self.random.shuffled((0..ticket.n).filter(empty))
+            }
+            None => vec![],
+        }
     }
 
     fn begin(&mut self) {
@@ -317,7 +319,7 @@ impl Author {
     fn weave(&mut self, most: u64) {
         let unfinished = |store: &Store, ticket| {
             let version = store.version_of(ticket);
-            version.is_some_and(|v| store.nodes_left(v) > 0)
+            version.map_or(false, |v| store.nodes_left(v) > 0)
         };
         let ticket = self.ticket(unfinished);
         for _ in 0..most {
@@ -447,7 +449,7 @@ impl Author {
                 self.say("PUBLISH");
             }
         }
-        while self.script.answers.last().is_none_or(|a| a != "waiting") {
+        while self.script.answers.last().map_or(true, |a| a != "waiting") {
             self.say("PUBLISH");
         }
         for v in 0..=self.store().published {

@@ -9,15 +9,9 @@ use pit_host::{Error, Limits, Node, Shared, Version};
 /// The model after what the logs tell, each answer in them compared with its own. Tickets and versions are told in the
 /// order of their numbers; when a node was woven makes no difference to what it is.
 pub fn replayed(limits: Limits, logs: &[&Log]) -> store::Store {
-    let Limits {
-        page_size,
-        pages,
-        nodes,
-        updates,
-    } = limits;
-    let Ok(mut model) = store::Store::format(page_size, pages, nodes, updates) else {
-        panic!("refused: {limits:?}");
-    };
+    let formatted =
+        store::Store::format(limits.page_size, limits.pages, limits.nodes, limits.updates);
+    let mut model = formatted.unwrap_or_else(|_| panic!("refused: {limits:?}"));
     let mut updates: Vec<&Update> = logs.iter().flat_map(|log| &log.updates).collect();
     updates.sort_by_key(|update| update.ticket);
     for update in &updates {
@@ -26,7 +20,7 @@ pub fn replayed(limits: Limits, logs: &[&Log]) -> store::Store {
             let put = bytes
                 .as_ref()
                 .map(|bytes| model.put(update.ticket.0, i, bytes));
-            assert!(put.is_none_or(|put| put == Ok(())));
+            assert!(put.map_or(true, |put| put == Ok(())));
         }
     }
     updates.retain(|update| update.assigned.is_some());

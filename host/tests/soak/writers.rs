@@ -128,12 +128,14 @@ impl<'a> Writer<'a> {
     /// Weaves what is left of the log's last update, if anything is, and publishes.
     pub fn finish(&mut self) -> bool {
         let left = self.log().updates.last().map(|u| (u.ticket, u.rest()));
-        let Some((ticket, 1..)) = left else {
-            return false;
-        };
-        let _ = self.weave_all(ticket);
-        self.publish();
-        true
+        match left {
+            Some((ticket, 1..)) => {
+                let _ = self.weave_all(ticket);
+                self.publish();
+                true
+            }
+            _ => false,
+        }
     }
 
     fn log(&self) -> MutexGuard<'a, Log> {

@@ -2,9 +2,9 @@
 //! number published. Refusals follow the table row by row, nodes come from building the tree, and a
 //! version is read by applying the updates up to it in turn.
 
-pub mod text;
 #[cfg(test)]
 mod tests;
+pub mod text;
 
 /// A blob has at most this many pages.
 const MOST_PAGES: u64 = 4_096;

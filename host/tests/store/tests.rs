@@ -58,7 +58,7 @@ fn update(store: &mut Store, n: u64, f: Option<u64>, byte: u8) -> u64 {
 /// Weaves all of a ticket's nodes.
 fn weave_all(store: &mut Store, ticket: u64) -> Vec<Node> {
     let mut nodes = vec![];
-    while nodes.last().is_none_or(|node: &Node| node.left > 0) {
+    while nodes.last().map_or(true, |node: &Node| node.left > 0) {
         nodes.push(store.weave(ticket).expect("a node is left"));
     }
     nodes
@@ -121,7 +121,7 @@ fn model_counts_nodes_as_the_tree_rule_sums() {
     for size in 1..=40u64 {
         for f in 0..size {
             for n in 1..=size - f {
-                let spans = (0..=root_span(size).ilog2()).map(|height| 1 << height);
+                let spans = (0..=root_span(size).trailing_zeros()).map(|height| 1 << height);
                 let sum: u64 = spans.map(|q| (f + n - 1) / q - f / q + 1).sum();
                 let names = weaving_order(0, root_span(size), f, n);
                 assert_eq!(names.len() as u64, sum, "({f}, {n}, {size})");
