@@ -17,12 +17,8 @@ impl Ours {
     /// Room for the updates that stand and one batch of the longest updates more.
     pub fn new(shape: &Shape) -> Ours {
         let pages: usize = shape.standing().iter().map(|update| update.pages).sum();
-        let limits = Limits {
-            page_size: shape.page_size as u64,
-            pages: (pages + BATCH * MOST) as u64,
-            nodes: 131_072,
-            updates: 4_096,
-        };
+        let room = (pages + BATCH * MOST) as u64;
+        let limits = Limits::new(shape.page_size as u64, room, 131_072, 4_096);
         Ours {
             page_size: limits.page_size,
             store: Store::format(limits).expect("the limits are accepted"),

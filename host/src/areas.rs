@@ -12,7 +12,15 @@ pub(crate) const MOST_PAGES: u64 = 4_096;
 ///
 /// FORMAT accepts a page size that is a power of two from 16 to 4,096, and capacities of 1 to 65,535 pages,
 /// 1 to 131,072 nodes and 1 to 4,096 updates.
+///
+/// Later stores may have more limits, so a caller makes one by [`Limits::new`] and sets fields, and never by a literal:
+///
+/// ```compile_fail,E0639
+/// use pit_host::Limits;
+/// let limits = Limits { page_size: 16, pages: 4, nodes: 8, updates: 2 };
+/// ```
 #[derive(Clone, Copy, Debug, PartialEq, Eq, Hash)]
+#[non_exhaustive]
 pub struct Limits {
     /// The page size in bytes.
     pub page_size: u64,
@@ -38,16 +46,28 @@ pub struct Planned {
 impl State {
     /// The limits that the store was formatted with.
     pub fn limits(&self) -> Limits {
-        Limits {
-            page_size: self.size,
-            pages: self.pages,
-            nodes: self.nodes,
-            updates: self.updates,
-        }
+        Limits::new(self.size, self.pages, self.nodes, self.updates)
     }
 }
 
 impl Limits {
+    /// These limits, in the order of FORMAT's fields. Whether FORMAT accepts them, [`check`](Limits::check) says.
+    ///
+    /// ```
+    /// use pit_host::Limits;
+    /// let mut limits = Limits::new(16, 4, 8, 2);
+    /// limits.updates = 3;
+    /// assert_eq!((limits.page_size, limits.pages, limits.nodes, limits.updates), (16, 4, 8, 3));
+    /// ```
+    pub fn new(page_size: u64, pages: u64, nodes: u64, updates: u64) -> Limits {
+        Limits {
+            page_size,
+            pages,
+            nodes,
+            updates,
+        }
+    }
+
     /// Just enough for the planned updates. None where one of them is outside the limits, or where FORMAT would
     /// not accept what they need together.
     ///
@@ -72,13 +92,7 @@ impl Limits {
             nodes = nodes.checked_add(count)?;
         }
         let updates = u64::try_from(updates.len()).ok()?;
-        Limits {
-            page_size,
-            pages,
-            nodes,
-            updates,
-        }
-        .accepted()
+        Limits::new(page_size, pages, nodes, updates).accepted()
     }
 
     /// Enough for any `updates` updates of up to `pages_per_update` pages each, in a blob of up to `blob_pages`
@@ -102,20 +116,16 @@ impl Limits {
         let most = (0..=last.min(MOST_PAGES)) // beyond it, every count is 0
             .map(|first| ffi::node_count(first, pages_per_update, blob_pages))
             .max()?;
-        Limits {
-            page_size,
-            pages: updates.checked_mul(pages_per_update)?,
-            nodes: updates.checked_mul(most)?,
-            updates,
-        }
-        .accepted()
+        let pages = updates.checked_mul(pages_per_update)?;
+        let nodes = updates.checked_mul(most)?;
+        Limits::new(page_size, pages, nodes, updates).accepted()
     }
 
     /// Whether FORMAT accepts these limits: [`Error::PageSize`] or [`Error::Capacity`] where it does not.
     ///
     /// ```
     /// use pit_host::{Error, Limits};
-    /// let limits = Limits { page_size: 16, pages: 65_536, nodes: 1, updates: 1 };
+    /// let limits = Limits::new(16, 65_536, 1, 1);
     /// assert_eq!(limits.check(), Err(Error::Capacity));
     /// ```
     pub fn check(&self) -> Result<(), Error> {
@@ -167,7 +177,7 @@ pub struct Parts<'a> {
 /// use pit_host::{Lent, LentAreas, Limits, Record, Version};
 /// let (mut pages, mut nodes, mut register) = ([0; 64], [0; 16], [Record::default(); 2]);
 /// let areas = LentAreas { pages: &mut pages, nodes: &mut nodes, register: &mut register };
-/// let store = Lent::format(Limits { page_size: 16, pages: 4, nodes: 8, updates: 2 }, areas).unwrap();
+/// let store = Lent::format(Limits::new(16, 4, 8, 2), areas).unwrap();
 /// assert_eq!(store.recent(), Ok(Version(0)));
 /// ```
 #[derive(PartialEq, Eq)]
@@ -184,7 +194,7 @@ pub struct LentAreas<'a> {
 ///
 /// ```
 /// use pit_host::{Areas, Limits};
-/// let areas = Areas::new(&Limits { page_size: 16, pages: 4, nodes: 8, updates: 2 }).unwrap();
+/// let areas = Areas::new(&Limits::new(16, 4, 8, 2)).unwrap();
 /// assert_eq!((areas.pages().len(), areas.nodes().len(), areas.register().len()), (64, 16, 2));
 /// ```
 #[derive(Clone, PartialEq, Eq)]

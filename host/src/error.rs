@@ -7,12 +7,27 @@ use std::fmt;
 ///
 /// ```
 /// use pit_host::{Error, Limits, Store};
-/// let refused = Store::format(Limits { page_size: 24, pages: 1, nodes: 1, updates: 1 }).unwrap_err();
+/// let refused = Store::format(Limits::new(24, 1, 1, 1)).unwrap_err();
 /// assert_eq!(refused, Error::PageSize);
 /// assert_eq!(refused.number(), 1);
 /// assert!(refused.to_string().contains("power of two"));
 /// ```
+///
+/// The table grows with the store, so a `match` has an arm for rows that come later. Without it:
+///
+/// ```compile_fail,E0004
+/// use pit_host::Error::{self, *};
+/// fn retry(error: Error) -> bool {
+///     match error {
+///         NotAllPut | NotPublished | OutOfTurn => true,
+///         PageSize | Capacity | AreaLength | UpdateSize | RegisterFull | PagesFull | NoSuchTicket => false,
+///         NoSuchPage | AlreadyPut | PageLength | PastEnd | BlobFull | NodesFull => false,
+///         OutsideSnapshot | BufferTooShort | Damaged => false,
+///     }
+/// }
+/// ```
 #[derive(Clone, Copy, Debug, PartialEq, Eq, Hash)]
+#[non_exhaustive]
 pub enum Error {
     /// 1, FORMAT: the page size is not a power of two from 16 to 4,096.
     PageSize = 1,
@@ -56,7 +71,7 @@ pub enum Error {
 
 impl Error {
     /// Every refusal, in the table's order.
-    pub const ALL: [Error; 19] = [
+    pub const ALL: &'static [Error] = &[
         Error::PageSize,
         Error::Capacity,
         Error::AreaLength,
@@ -78,7 +93,7 @@ impl Error {
         Error::Damaged,
     ];
 
-    /// The number of its row in the table of refusals, 1 to 19.
+    /// The number of its row in the table of refusals, from 1 on.
     pub fn number(&self) -> u64 {
         *self as u64
     }
@@ -91,11 +106,12 @@ impl Error {
     /// assert_eq!((Error::from_number(0), Error::from_number(20)), (None, None));
     /// ```
     pub fn from_number(number: u64) -> Option<Error> {
-        Error::ALL.into_iter().find(|e| e.number() == number)
+        Error::ALL.iter().copied().find(|e| e.number() == number)
     }
 
-    /// What a call's refusal number says; 0 is acceptance. The proved calls reply with no number above 19. A library
-    /// that did would not be the proved one: then nothing it says of the areas can be relied on, so that is `Damaged`.
+    /// What a call's refusal number says; 0 is acceptance. The proved calls reply with no number that the table lacks. A
+    /// library that did would not be the proved one: then nothing it says of the areas can be relied on, so that is
+    /// `Damaged`.
     #[inline]
     pub(crate) fn check(refusal: u64) -> Result<(), Error> {
         match refusal {
@@ -153,7 +169,7 @@ mod tests {
     #[test]
     fn every_number_is_read_without_a_panic() {
         assert_eq!(Error::check(0), Ok(()));
-        for error in Error::ALL {
+        for &error in Error::ALL {
             assert_eq!(Error::check(error.number()), Err(error));
         }
         for unknown in [20, 1 << 32, u64::MAX] {

@@ -13,13 +13,21 @@ use std::mem::size_of;
 ///
 /// ```
 /// use pit_host::{Limits, Store};
-/// let store = Store::format(Limits { page_size: 16, pages: 4, nodes: 8, updates: 2 }).unwrap();
+/// let store = Store::format(Limits::new(16, 4, 8, 2)).unwrap();
 /// let state = store.state();
 /// assert_eq!((state.size, state.pages, state.nodes, state.updates), (16, 4, 8, 2));
 /// assert_eq!((state.tickets, state.published), (0, 0));
 /// ```
+///
+/// Later stores may carry more, so a host that puts one together sets the fields of the default, which is all zeros:
+///
+/// ```compile_fail,E0639
+/// # let (size, pages, nodes, updates, tickets, taken, assigned, places, published, blob) = (16, 4, 8, 2, 0, 0, 0, 0, 0, 0);
+/// let state = pit_host::State { size, pages, nodes, updates, tickets, taken, assigned, places, published, blob };
+/// ```
 #[repr(C)]
 #[derive(Clone, Copy, Debug, Default, PartialEq, Eq, Hash)]
+#[non_exhaustive]
 pub struct State {
     /// The page size in bytes.
     pub size: u64,
@@ -50,8 +58,16 @@ pub struct State {
 /// let register = [pit_host::Record::default(); 8];
 /// assert_eq!(register[0].version, 0);
 /// ```
+///
+/// Later records may hold more, so there is no literal of one outside this crate:
+///
+/// ```compile_fail,E0639
+/// # let (n, number, put, version, ticket, f, last, size, place, woven) = (0, 0, 0, 0, 0, 0, 0, 0, 0, 0);
+/// let record = pit_host::Record { n, number, put, version, ticket, f, last, size, place, woven };
+/// ```
 #[repr(C)]
 #[derive(Clone, Copy, Debug, Default, PartialEq, Eq, Hash)]
+#[non_exhaustive]
 pub struct Record {
     /// The ticket's pages.
     pub n: u64,

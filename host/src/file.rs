@@ -20,7 +20,20 @@ use std::path::Path;
 /// let refused = Store::load("no/such/file").unwrap_err();
 /// assert!(matches!(refused, FileError::Io(_)));
 /// ```
+///
+/// Later files may be refused for more reasons, so a `match` has an arm for these. Without it:
+///
+/// ```compile_fail,E0004
+/// use pit_host::FileError::{self, *};
+/// fn is_whole(error: FileError) -> bool {
+///     match error {
+///         Io(_) | Foreign | Truncated { .. } | TooLong { .. } | Checksum => false,
+///         Form(_) | Limits(_) | AreaLengths | Counters => true,
+///     }
+/// }
+/// ```
 #[derive(Debug)]
+#[non_exhaustive]
 pub enum FileError {
     /// The system could not open, read, write or rename.
     Io(io::Error),
@@ -115,7 +128,7 @@ impl<A: Lend> Keeper<A> {
     /// ```
     /// use pit_host::{Limits, Store};
     /// # fn main() -> Result<(), Box<dyn std::error::Error>> {
-    /// let mut store = Store::format(Limits { page_size: 16, pages: 4, nodes: 8, updates: 2 })?;
+    /// let mut store = Store::format(Limits::new(16, 4, 8, 2))?;
     /// store.begin(1)?;
     /// let path = std::env::temp_dir().join(format!("pit-save-{}", std::process::id()));
     /// store.save(&path)?;

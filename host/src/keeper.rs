@@ -15,7 +15,7 @@ use crate::ffi::{self, State};
 /// ```
 /// use pit_host::{ByteOffset, Limits, Store, Version};
 /// # fn main() -> Result<(), pit_host::Error> {
-/// let mut store = Store::format(Limits { page_size: 16, pages: 4, nodes: 8, updates: 2 })?;
+/// let mut store = Store::format(Limits::new(16, 4, 8, 2))?;
 /// let ticket = store.begin(1)?;
 /// store.put(ticket, 0, &[7; 16])?;
 /// let assigned = store.append(ticket)?;
@@ -90,7 +90,7 @@ impl<A> Keeper<A> {
     ///
     /// ```
     /// use pit_host::{Areas, Error, Keeper, Limits, State};
-    /// let areas = Areas::new(&Limits { page_size: 16, pages: 1, nodes: 1, updates: 1 }).unwrap();
+    /// let areas = Areas::new(&Limits::new(16, 1, 1, 1)).unwrap();
     /// assert_eq!(Keeper::resume(State::default(), areas).recent(), Err(Error::AreaLength));
     /// ```
     pub fn resume(state: State, areas: A) -> Keeper<A> {

@@ -18,7 +18,7 @@ use std::sync::{Arc, PoisonError, RwLock, RwLockReadGuard, RwLockWriteGuard};
 /// ```
 /// use pit_host::{Limits, Shared, Store};
 /// # fn main() -> Result<(), pit_host::Error> {
-/// let shared = Shared::new(Store::format(Limits { page_size: 16, pages: 4, nodes: 8, updates: 2 })?);
+/// let shared = Shared::new(Store::format(Limits::new(16, 4, 8, 2))?);
 /// let drone = shared.clone();
 /// let ticket = std::thread::spawn(move || drone.begin(1)).join().unwrap()?;
 /// shared.put(ticket, 0, &[7; 16])?;
@@ -109,7 +109,7 @@ impl Shared {
     ///
     /// ```
     /// # use pit_host::{Limits, PageIndex, Shared, Store, Version};
-    /// # let mut store = Store::format(Limits { page_size: 16, pages: 4, nodes: 8, updates: 2 }).unwrap();
+    /// # let mut store = Store::format(Limits::new(16, 4, 8, 2)).unwrap();
     /// # let ticket = store.begin(1).unwrap();
     /// # store.put(ticket, 0, &[7; 16]).unwrap();
     /// # store.append(ticket).unwrap();
@@ -157,12 +157,7 @@ mod tests {
 
     #[test]
     fn a_poisoned_lock_is_taken() {
-        let limits = Limits {
-            page_size: 16,
-            pages: 4,
-            nodes: 8,
-            updates: 2,
-        };
+        let limits = Limits::new(16, 4, 8, 2);
         let shared = Shared::new(Store::format(limits).expect("limits in range"));
         let other = shared.clone();
         let died = std::thread::spawn(move || {

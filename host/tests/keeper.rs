@@ -63,14 +63,9 @@ fn owned_and_lent_stores_do_the_same() {
     for _ in 0..40 {
         let mut owned = Store::format(limits(24, 60, 10)).unwrap();
         // what stands in lent areas before FORMAT makes no difference
-        let (mut pages, mut nodes, mut register) = (
-            [7; 16 * 24],
-            [8; 120],
-            [Record {
-                n: 9,
-                ..Record::default()
-            }; 10],
-        );
+        let mut record = Record::default();
+        record.n = 9;
+        let (mut pages, mut nodes, mut register) = ([7; 16 * 24], [8; 120], [record; 10]);
         let areas = LentAreas {
             pages: &mut pages,
             nodes: &mut nodes,
@@ -263,15 +258,9 @@ fn limits_for_planned_updates_are_just_enough() {
         Ok(())
     };
     assert_eq!(run(exact), Ok(()));
-    assert_eq!(run(Limits { pages: 6, ..exact }), Err(Error::PagesFull));
-    assert_eq!(run(Limits { nodes: 15, ..exact }), Err(Error::NodesFull));
-    assert_eq!(
-        run(Limits {
-            updates: 2,
-            ..exact
-        }),
-        Err(Error::RegisterFull)
-    );
+    assert_eq!(run(limits(6, 16, 3)), Err(Error::PagesFull));
+    assert_eq!(run(limits(7, 15, 3)), Err(Error::NodesFull));
+    assert_eq!(run(limits(7, 16, 2)), Err(Error::RegisterFull));
 }
 
 #[test]

@@ -56,7 +56,7 @@ fn the_calls_are_accepted_where_nothing_is_wrong() {
 
 #[test]
 fn numbers_and_words() {
-    for (number, error) in (1..).zip(Error::ALL) {
+    for (number, &error) in (1..).zip(Error::ALL) {
         assert_eq!(error.number(), number);
         assert_eq!(Error::from_number(number), Some(error));
         assert!(error.to_string().len() > 20, "{error:?}");
@@ -65,17 +65,14 @@ fn numbers_and_words() {
     for number in [0, 20, u64::MAX] {
         assert_eq!(Error::from_number(number), None);
     }
-    let words: std::collections::HashSet<_> = Error::ALL.map(|e| e.to_string()).into();
+    let words: std::collections::HashSet<_> = Error::ALL.iter().map(Error::to_string).collect();
     assert_eq!(words.len(), 19);
 }
 
 #[test]
 fn rows_1_and_2_of_limits() {
     for page_size in [0, 1, 8, 15, 17, 24, 4_095, 8_192, 1 << 32, u64::MAX] {
-        let refused = Store::format(Limits {
-            page_size,
-            ..limits(1, 1, 1)
-        });
+        let refused = Store::format(Limits::new(page_size, 1, 1, 1));
         assert_eq!(refused.unwrap_err(), Error::PageSize, "{page_size}");
     }
     let ends = [
@@ -111,13 +108,9 @@ fn row_3_in_format_leaves_the_areas() {
         (0, 0, 0),
     ] {
         let (mut pages, mut nodes) = (vec![5; bytes], vec![6; numbers]);
-        let mut register = vec![
-            Record {
-                n: 7,
-                ..Record::default()
-            };
-            records
-        ];
+        let mut record = Record::default();
+        record.n = 7;
+        let mut register = vec![record; records];
         let kept = (pages.clone(), nodes.clone(), register.clone());
         let areas = LentAreas {
             pages: &mut pages,
@@ -140,12 +133,7 @@ fn row_3_in_every_call() {
         |s| s.pages += 1,
         |s| s.nodes -= 1,
         |s| s.updates += 1,
-        |s| {
-            *s = State {
-                pages: u64::MAX,
-                ..*s
-            }
-        },
+        |s| s.pages = u64::MAX,
     ];
     for spoil in wrong {
         let (mut state, areas) = at_all_stages().into_parts();

@@ -172,13 +172,10 @@ fn publish_row(s: &State) -> u64 {
 
 /// The state of an empty store.
 fn fresh(limits: &Limits) -> State {
-    State {
-        size: limits.page_size,
-        pages: limits.pages,
-        nodes: limits.nodes,
-        updates: limits.updates,
-        ..State::default()
-    }
+    let mut state = State::default();
+    (state.size, state.pages) = (limits.page_size, limits.pages);
+    (state.nodes, state.updates) = (limits.nodes, limits.updates);
+    state
 }
 
 /// What the bytes to put are, and a buffer before READ.

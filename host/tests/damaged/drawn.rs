@@ -70,18 +70,12 @@ fn any_record(random: &mut Random) -> Record {
     }
     let (n, f) = (1 + random.below(4), random.below(3));
     let last = f + random.below(2);
-    Record {
-        n,
-        number: random.below(6),
-        put: (1 << n) - 1,
-        version: random.below(5),
-        ticket: random.below(5),
-        f,
-        last,
-        size: last + 1 + random.below(2),
-        place: random.below(12),
-        woven: random.below(10),
-    }
+    let mut record = Record::default();
+    (record.n, record.number, record.put) = (n, random.below(6), (1 << n) - 1);
+    (record.version, record.ticket) = (random.below(5), random.below(5));
+    (record.f, record.last, record.size) = (f, last, last + 1 + random.below(2));
+    (record.place, record.woven) = (random.below(12), random.below(10));
+    record
 }
 
 fn any_memory(random: &mut Random, lengths: [u64; 3]) -> Memory {
@@ -102,13 +96,11 @@ pub fn random_scene(random: &mut Random) -> Scene {
 
 /// Random bytes of the lengths that the state says; its counters are random.
 pub fn fitting_scene(random: &mut Random) -> Scene {
-    let s = State {
-        size: random.pick(&[0, 1, 2, 3, 7, 16, 16, 16, 24, 64]),
-        pages: random.below(9),
-        nodes: random.below(40),
-        updates: random.below(9),
-        ..any_numbers(random)
-    };
+    let size = random.pick(&[0, 1, 2, 3, 7, 16, 16, 16, 24, 64]);
+    let capacities = [9, 40, 9].map(|above| random.below(above));
+    let mut s: State = any_numbers(random);
+    s.size = size;
+    [s.pages, s.nodes, s.updates] = capacities;
     Scene {
         state: s,
         memory: any_memory(random, [s.size * s.pages, 2 * s.nodes, s.updates]),
@@ -118,12 +110,9 @@ pub fn fitting_scene(random: &mut Random) -> Scene {
 // Scenes from valid stores.
 
 fn some_limits(random: &mut Random) -> Limits {
-    Limits {
-        page_size: random.pick(&[16, 16, 16, 32, 64]),
-        pages: 4 + random.below(24),
-        nodes: 16 + random.below(80),
-        updates: 2 + random.below(9),
-    }
+    let page_size = random.pick(&[16, 16, 16, 32, 64]);
+    let (pages, nodes) = (4 + random.below(24), 16 + random.below(80));
+    Limits::new(page_size, pages, nodes, 2 + random.below(9))
 }
 
 /// A store as calls leave it, with updates at every stage.
@@ -314,12 +303,7 @@ fn limits_of(random: &mut Random, scene: &Scene) -> Limits {
     if random.one_in(2) {
         numbers[random.below(4) as usize] = argument(random, scene);
     }
-    Limits {
-        page_size: numbers[0],
-        pages: numbers[1],
-        nodes: numbers[2],
-        updates: numbers[3],
-    }
+    Limits::new(numbers[0], numbers[1], numbers[2], numbers[3])
 }
 
 fn bytes_length(random: &mut Random, s: &State) -> usize {

@@ -2,14 +2,13 @@
 
 use crate::random::named;
 use pit_host::{LentAreas, Record, State};
-use std::sync::OnceLock;
+use std::mem::size_of;
 
 /// How many elements stand before and after an area, in bytes about 400. With a `PIT_FENCE` of 0 the memory ends where
 /// the area does, for a tool that watches the ends of memory itself.
 fn fence<T>() -> usize {
-    static BYTES: OnceLock<u64> = OnceLock::new();
-    let bytes = *BYTES.get_or_init(|| named("PIT_FENCE", 400));
-    (bytes as usize).div_ceil(size_of::<T>())
+    thread_local!(static BYTES: usize = named("PIT_FENCE", 400) as usize);
+    BYTES.with(|bytes| (bytes + size_of::<T>() - 1) / size_of::<T>())
 }
 
 /// Elements to lend, with marks before and after them.
@@ -95,8 +94,9 @@ macro_rules! ten_numbers {
     ($kind:ident: $($field:ident),*) => {
         impl Numbers for $kind {
             fn of(numbers: [u64; 10]) -> $kind {
-                let [$($field),*] = numbers;
-                $kind { $($field),* }
+                let mut of = $kind::default();
+                [$(of.$field),*] = numbers;
+                of
             }
 
             fn numbers(self) -> [u64; 10] {

@@ -115,12 +115,7 @@ fn a_lent_store_is_saved_too() {
 /// The most pages, nodes and updates, of pages of this size, saved and loaded.
 fn the_most_of(page_size: u64) {
     let folder = Folder::new(&format!("most_{page_size}"));
-    let most = Limits {
-        page_size,
-        pages: 65_535,
-        nodes: 131_072,
-        updates: 4_096,
-    };
+    let most = Limits::new(page_size, 65_535, 131_072, 4_096);
     let mut store = Store::format(most).unwrap();
     update(&mut store, None, &[9; 64]).unwrap();
     store.save(folder.file()).unwrap();

@@ -5,12 +5,7 @@ use pit_host::{Assigned, Error, Keeper, Lend, Limits, PageIndex, Store, Ticket, 
 
 /// Small limits: pages of 16 bytes.
 pub fn limits(pages: u64, nodes: u64, updates: u64) -> Limits {
-    Limits {
-        page_size: 16,
-        pages,
-        nodes,
-        updates,
-    }
+    Limits::new(16, pages, nodes, updates)
 }
 
 /// A ticket whose pages are all put, each filled with its byte.
