@@ -1,9 +1,12 @@
 //! A store in a file: saving it and loading it.
 
 mod form;
+#[allow(unsafe_code)]
+mod lock;
 mod new;
 
 use crate::areas::{Areas, Lend};
+use crate::counters::Version;
 use crate::error::Error;
 use crate::keeper::{Keeper, Store};
 use form::{each_piece, fill, Header, FORM};
@@ -106,12 +109,20 @@ impl From<io::Error> for FileError {
 }
 
 impl<A: Lend> Keeper<A> {
-    /// Saves the store whole, with open tickets and trees half woven.
+    /// Saves the store whole, with open tickets and trees half woven, and gives the last published version that the
+    /// file holds.
     ///
     /// A new file is written beside the old one, forced to the disk and renamed over it, and the folder is forced to
     /// the disk. So whatever happens, the old file or the new one stands there whole; after an error the old one,
     /// unless only the folder could not be forced. A store that [`load`](Store::load) would not give back, which no
     /// run of calls leaves, is not saved.
+    ///
+    /// The new file has the old one's mode. Where the path is a link, the file that it leads to is replaced, or made
+    /// where there is none, and the link stays. A folder, a device or the like is not replaced.
+    ///
+    /// Until it is renamed the new file has a name like `.pit-4711-0.new`, with the process and a count. A process that
+    /// is killed leaves it; the next save in that folder, by any process that may, clears what no living one holds.
+    /// Two processes that save to one file do not wait for each other: the file of the one that ends last stays.
     ///
     /// The file has numbers of 64 bits, lowest byte first:
     ///
@@ -126,30 +137,31 @@ impl<A: Lend> Keeper<A> {
     /// | from 128 | the page area; the node area, its numbers of 32 bits, lowest byte first; the register, ten numbers a record, in the order of [`Record`](crate::Record)'s fields |
     ///
     /// ```
-    /// use pit_host::{Limits, Store};
+    /// use pit_host::{Limits, Store, Version};
     /// # fn main() -> Result<(), Box<dyn std::error::Error>> {
     /// let mut store = Store::format(Limits::new(16, 4, 8, 2))?;
     /// store.begin(1)?;
     /// let path = std::env::temp_dir().join(format!("pit-save-{}", std::process::id()));
-    /// store.save(&path)?;
+    /// assert_eq!(store.save(&path)?, Version(0)); // none is published yet
     /// assert!(Store::load(&path)? == store);
     /// # std::fs::remove_file(&path)?;
     /// # Ok(())
     /// # }
     /// ```
-    pub fn save(&self, path: impl AsRef<Path>) -> Result<(), FileError> {
-        let (path, areas) = (path.as_ref(), self.areas().parts());
+    pub fn save(&self, path: impl AsRef<Path>) -> Result<Version, FileError> {
+        let areas = self.areas().parts();
         let header = Header::of(self.state(), areas);
         header.check_limits()?;
         header.check_counters()?;
 
-        let new = NewFile::beside(path)?;
+        let new = NewFile::for_place_of(path.as_ref())?;
         let mut out = BufWriter::new(&new.file);
         out.write_all(&header.to_bytes())?;
         each_piece(areas, |piece| out.write_all(piece))?;
         out.flush()?;
         drop(out);
-        Ok(new.replace(path)?)
+        new.replace()?;
+        Ok(Version(header.state.published))
     }
 }
 

@@ -5,7 +5,7 @@ use crate::error::Error;
 use crate::file::FileError;
 use crate::keeper::{Assigned, Node, Store};
 use std::path::Path;
-use std::sync::{Arc, PoisonError, RwLock, RwLockReadGuard, RwLockWriteGuard};
+use std::sync::{Arc, Mutex, PoisonError, RwLock, RwLockReadGuard, RwLockWriteGuard};
 
 /// A store that threads share: the same calls, on `&self`. Clones are handles on the one store.
 ///
@@ -28,6 +28,8 @@ use std::sync::{Arc, PoisonError, RwLock, RwLockReadGuard, RwLockWriteGuard};
 #[derive(Clone, Debug)]
 pub struct Shared {
     store: Arc<RwLock<Store>>,
+    /// Held by the one that saves.
+    saving: Arc<Mutex<()>>,
 }
 
 impl Shared {
@@ -35,6 +37,7 @@ impl Shared {
     pub fn new(store: Store) -> Shared {
         Shared {
             store: Arc::new(RwLock::new(store)),
+            saving: Arc::new(Mutex::new(())),
         }
     }
 
@@ -133,10 +136,17 @@ impl Shared {
         self.reading().clone()
     }
 
-    /// Saves the store as it is at this moment. The lock is held while the store is copied in memory, not while the
-    /// file is written: a disk can take seconds, and a writer waiting that long would hold up the readers behind it too.
-    /// It takes the memory of a second store meanwhile.
-    pub fn save(&self, path: impl AsRef<Path>) -> Result<(), FileError> {
+    /// [`Keeper::save`](crate::Keeper::save) of the store as it is at one moment of this call; gives the last published
+    /// version that the file holds.
+    ///
+    /// The lock is held while the store is copied in memory, not while the file is written: a disk can take seconds, and
+    /// a writer waiting that long would hold up the readers behind it too. It takes the memory of a second store
+    /// meanwhile.
+    ///
+    /// One thread saves at a time, from the copy to the end, and others that save wait for it. So what a finished save
+    /// has left is never replaced by an older copy.
+    pub fn save(&self, path: impl AsRef<Path>) -> Result<Version, FileError> {
+        let _alone = self.saving.lock().unwrap_or_else(PoisonError::into_inner);
         self.to_store().save(path)
     }
 

@@ -214,16 +214,38 @@ fn a_save_beside_writers_is_the_store_of_one_moment() {
         let mut ended = false;
         while !ended {
             ended = writers.iter().all(|writer| writer.is_finished());
-            shared.save(&path).unwrap();
+            let version = shared.save(&path).unwrap();
             let (saved, live) = (Store::load(&path).unwrap(), shared.to_store());
-            assert!(saved.recent().unwrap() >= seen);
-            seen = saved.recent().unwrap();
+            assert_eq!(saved.recent(), Ok(version));
+            assert!(version >= seen);
+            seen = version;
             for v in (0..=seen.0).map(Version) {
                 assert_eq!(fills(&saved, v), fills(&live, v), "version {v}");
             }
         }
     });
     assert_eq!(seen, Version(81));
+}
+
+/// Two crews publish and save at once. Each finds in the file, after its own save, no less than that save held.
+#[test]
+fn a_finished_save_is_not_undone() {
+    let shared = &model(81);
+    let folder = Folder::new("savers");
+    let path = &folder.0.join("store");
+    let publish_and_save = || {
+        write(shared, 1, 1, 0);
+        let before = shared.recent().unwrap();
+        let saved = shared.save(path).unwrap();
+        let held = Store::load(path).unwrap().recent().unwrap();
+        assert!(before <= saved, "published {before}, saved {saved}");
+        assert!(saved <= held, "saved {saved}, and the file has {held}");
+    };
+    thread::scope(|threads| {
+        for _ in 0..2 {
+            threads.spawn(|| (0..40).for_each(|_| publish_and_save()));
+        }
+    });
 }
 
 #[test]

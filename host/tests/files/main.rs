@@ -2,6 +2,7 @@
 
 mod comes_back;
 mod damage;
+mod place;
 mod scene;
 #[path = "../updates/mod.rs"]
 mod updates;

@@ -49,22 +49,8 @@ fn a_save_that_fails_leaves_nothing_behind() {
     assert_eq!(folder.names(), ["store"]);
 }
 
-#[test]
-fn what_a_dead_process_left_is_not_touched() {
-    let folder = Folder::new("left");
-    let left: Vec<_> = (0..300)
-        .map(|i| {
-            folder
-                .0
-                .join(format!(".pit-{}-{i}.new", std::process::id()))
-        })
-        .collect();
-    left.iter()
-        .for_each(|path| fs::write(path, "left").unwrap());
-    in_work().save(folder.file()).unwrap();
-    assert!(Store::load(folder.file()).unwrap() == in_work());
-    assert!(left.iter().all(|path| fs::read(path).unwrap() == b"left"));
-    assert_eq!(folder.names().len(), 301);
+fn saved_well(store: &Store, file: &Path) {
+    store.save(file).unwrap();
 }
 
 #[test]
@@ -78,7 +64,7 @@ fn saves_at_once_to_one_file_leave_one_of_them() {
     let file = folder.file();
     thread::scope(|threads| {
         for store in &stores {
-            threads.spawn(|| (0..20).for_each(|_| store.save(&file).unwrap()));
+            threads.spawn(|| (0..20).for_each(|_| saved_well(store, &file)));
         }
     });
     let last = Store::load(&file).unwrap();
@@ -92,6 +78,7 @@ fn saves_at_once_to_one_file_leave_one_of_them() {
 fn child(part: &str, file: &Path) -> Command {
     let limit = match part {
         "has no room" => "trap '' XFSZ; ulimit -f 1; ",
+        "is killed for room" => "ulimit -c 0; ulimit -f 1; ",
         _ => "",
     };
     let mut command = Command::new("sh");
@@ -122,7 +109,9 @@ fn as_a_child() {
         "saves" => loop {
             store.save(&file).unwrap(); // until it is killed
         },
-        _ => (), // started by hand, it has no part
+        "saves often" => (0..40).for_each(|_| saved_well(&store, file.as_ref())),
+        "is killed for room" => drop(store.save(&file)), // by the system, while it writes
+        _ => (),                                         // started by hand, it has no part
     }
 }
 
@@ -138,6 +127,35 @@ fn a_disk_without_room_keeps_the_old_file() {
     );
     assert!(Store::load(folder.file()).unwrap() == old);
     assert_eq!(folder.names(), ["store"]);
+}
+
+#[test]
+fn a_save_clears_what_a_killed_one_left() {
+    let folder = Folder::new("cleared");
+    for left in 0..3 {
+        let other = folder.0.join(format!("other-{left}"));
+        let end = child("is killed for room", &other).status().unwrap();
+        assert!(!end.success());
+        assert_eq!(folder.names().len(), 1, "what the killed save left, alone");
+    }
+    in_work().save(folder.file()).unwrap();
+    assert_eq!(folder.names(), ["store"]);
+}
+
+#[test]
+fn a_save_clears_nothing_that_another_process_holds() {
+    let folder = Folder::new("held");
+    let mut other = child("saves often", &folder.0.join("other"))
+        .spawn()
+        .unwrap();
+    let end = loop {
+        in_work().save(folder.file()).unwrap();
+        if let Some(end) = other.try_wait().unwrap() {
+            break end;
+        }
+    };
+    assert!(end.success(), "a save of the other process failed: {end}");
+    assert_eq!(folder.names(), ["other", "store"]);
 }
 
 #[test]
@@ -176,4 +194,6 @@ fn a_process_killed_while_saving_leaves_a_whole_file() {
         let store = Store::load(folder.file()).unwrap();
         assert_eq!((store.state().tickets, store.recent()), (4, Ok(Version(3))));
     }
+    of_three_versions().save(folder.file()).unwrap();
+    assert_eq!(folder.names(), ["store"]);
 }
