@@ -1,9 +1,10 @@
 //! The C header: a C program that uses all of it gives the answers that are due, and the header declares what the Rust
-//! side declares, name by name.
+//! side declares and what the Rattle source has, name by name.
 
 #[path = "header/declared.rs"]
 mod declared;
 
+use std::fs;
 use std::path::{Path, PathBuf};
 use std::process::Command;
 
@@ -60,15 +61,41 @@ fn a_c_program_gets_every_answer() {
     }
 }
 
-#[test]
-fn the_header_declares_what_the_rust_side_declares() {
+/// The header declares just what another side does: structs and functions, names and types in order.
+fn the_header_is_as(side: &str, declared: &[String]) {
     let header = declared::in_c(include_str!("../../include/pit.h"));
-    let rust = declared::in_rust(include_str!("../src/ffi.rs"));
     assert_eq!(header.len(), 10 + 14, "ten structs and fourteen functions");
     for declaration in &header {
-        assert!(rust.contains(declaration), "only in C: {declaration}");
+        assert!(
+            declared.contains(declaration),
+            "only in C, not in {side}: {declaration}"
+        );
     }
-    for declaration in &rust {
-        assert!(header.contains(declaration), "only in Rust: {declaration}");
+    for declaration in declared {
+        assert!(
+            header.contains(declaration),
+            "only in {side}, not in C: {declaration}"
+        );
     }
+}
+
+#[test]
+fn the_header_declares_what_the_rust_side_declares() {
+    the_header_is_as("Rust", &declared::in_rust(include_str!("../src/ffi.rs")));
+}
+
+/// Every file of Rattle code, one after the other.
+fn rattle_code() -> String {
+    let files = |folder: PathBuf| {
+        let entries = fs::read_dir(&folder).unwrap_or_else(|e| panic!("{}: {e}", folder.display()));
+        entries.map(|entry| entry.unwrap().path())
+    };
+    let code = files(here("../crates")).flat_map(|name| files(name.join("src")));
+    let code = code.filter(|path| path.extension().map_or(false, |end| end == "rt"));
+    code.map(|path| fs::read_to_string(path).unwrap()).collect()
+}
+
+#[test]
+fn the_header_declares_what_the_rattle_source_has() {
+    the_header_is_as("Rattle", &declared::in_rattle(&rattle_code()));
 }
