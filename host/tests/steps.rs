@@ -11,6 +11,7 @@ use program::{run, Session};
 use scripts::{random, random_from_the_start, Random, Script};
 use std::collections::BTreeMap;
 use std::io::Write;
+use std::process::Command;
 use store::text::lines_of;
 
 /// Whether the program has the lines READ and STAMP. Without them, it answers these with `refused,0`.
@@ -90,6 +91,17 @@ const EXAMPLE: &str = "
 fn the_example() {
     let (lines, answers) = transcript(EXAMPLE);
     agree(lines, answers);
+}
+
+#[test]
+fn a_missing_program_is_told_in_one_line() {
+    let mut again = Command::new(std::env::current_exe().unwrap());
+    let again = again.args(["the_example", "lines_cut", "a_long_line"]);
+    let end = again.env("PIT_STEPS", "no/such/program").output().unwrap();
+    let told = String::from_utf8(end.stderr).unwrap();
+    assert!(!end.status.success());
+    assert!(told.starts_with("no/such/program is missing: "), "{told}");
+    assert_eq!(told.lines().count(), 1, "{told}");
 }
 
 // A running program: each line is answered before it waits for the next block.

@@ -5,6 +5,7 @@ use std::io::{Read, Write};
 use std::path::{Path, PathBuf};
 use std::process::{Child, ChildStdin, Command, Stdio};
 use std::sync::mpsc::{channel, Receiver, RecvTimeoutError, Sender};
+use std::sync::Mutex;
 use std::thread;
 use std::time::{Duration, Instant};
 
@@ -12,10 +13,26 @@ use std::time::{Duration, Instant};
 const PATIENCE: Duration = Duration::from_secs(20);
 
 fn path() -> PathBuf {
-    match std::env::var_os("PIT_STEPS") {
+    let path = match std::env::var_os("PIT_STEPS") {
         Some(named) => PathBuf::from(named),
         None => Path::new(env!("CARGO_MANIFEST_DIR")).join("../target/bin/steps"),
+    };
+    if !path.is_file() {
+        missing(&path);
     }
+    path
+}
+
+/// Ends all tests with one line, since none can run without the program: a line from each would only hide it.
+fn missing(path: &Path) -> ! {
+    static SAID: Mutex<()> = Mutex::new(());
+    let _once = SAID.lock(); // others wait here for the end
+    let _ = writeln!(
+        std::io::stderr(),
+        "{} is missing: run ./steps </dev/null at the top of the repository, which builds it, or name one by PIT_STEPS",
+        path.display()
+    );
+    std::process::exit(1)
 }
 
 /// Hands on what the program writes, block by block, until it closes its output.
@@ -43,7 +60,7 @@ impl Session {
             .stdin(Stdio::piped())
             .stdout(Stdio::piped())
             .spawn()
-            .unwrap_or_else(|e| panic!("{}: {e}; PIT_STEPS names the program", path.display()));
+            .unwrap_or_else(|e| panic!("{}: {e}", path.display()));
         let (sender, blocks) = channel();
         let output = child.stdout.take().expect("piped");
         thread::spawn(move || hand_on(output, sender));
