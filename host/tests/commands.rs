@@ -129,9 +129,20 @@ fn usage() {
     assert!(answers.is_empty() && told == help && !well);
 }
 
-/// One's own input, on a build that is ready in seconds, and is said not to be proved.
+/// The README's first command, as it stands there; and one's own input, at once. Both are said not to be proved.
 #[test]
 fn a_try_answers_ones_own_input_without_proof() {
+    let readme = fs::read_to_string(top("README.md")).unwrap();
+    let command = readme.split("```sh\n").nth(1);
+    let command = command.and_then(|block| block.split("```").next()).unwrap();
+    assert!(command.contains("./steps --try"));
+    let mut sh = Command::new("sh");
+    let end = sh.args(["-c", command]).current_dir(top("")).output();
+    let end = end.unwrap();
+    assert!(end.status.success(), "{}", text(&end.stderr));
+    assert_eq!(text(&end.stdout).lines().last(), Some("bytes,2222"));
+    assert!(text(&end.stderr).contains("NOT PROVED"));
+
     let input = b"FORMAT,16,2,2,2\nBEGIN,1\nPUT,1,0,ab\nRECENT";
     let (answers, told, well) = steps(&["--try"], input);
     assert!(well, "{told}");

@@ -93,6 +93,21 @@ fn the_example() {
     agree(lines, answers);
 }
 
+/// The README's example: a line and its answer a row.
+#[test]
+fn the_readmes_example() {
+    let readme = include_str!("../../README.md");
+    let section = readme.split("## The step program").nth(1);
+    let rows = section.and_then(|section| section.split("```").nth(1));
+    let rows = rows.expect("a block").lines().skip(1); // after the word `text`
+    let words = |row: &str| row.split_whitespace().map(String::from).collect();
+    let rows: Vec<Vec<String>> = rows.map(words).collect();
+    assert!(rows.len() > 15 && rows.iter().all(|row| row.len() == 2));
+    let line = |row: &Vec<String>| row[0].clone().into_bytes();
+    let answers = rows.iter().map(|row| row[1].clone()).collect();
+    agree(rows.iter().map(line).collect(), answers);
+}
+
 #[test]
 fn a_missing_program_is_told_in_one_line() {
     let mut again = Command::new(std::env::current_exe().unwrap());
