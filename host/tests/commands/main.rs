@@ -1,8 +1,10 @@
-//! The commands at the top of the repository, as a user has them: what they install or ask for, and `./steps --try`.
+//! The commands at the top of the repository, and cargo's, as a user has them: what they install or ask for, what works
+//! before anything is built, and `./steps --try`.
 
-use std::fs::{self, Permissions};
+mod without_libraries;
+
+use std::fs;
 use std::io::Write;
-use std::os::unix::fs::PermissionsExt;
 use std::path::{Path, PathBuf};
 use std::process::{Command, Output, Stdio};
 
@@ -22,11 +24,13 @@ impl Machine {
         machine
     }
 
-    /// Puts a program there, by the lines of its script.
+    /// Puts a program there, by the lines of its script. Another process writes it: what this one has open for writing,
+    /// a process that another test starts just then would hold for a moment, and the system runs no such file.
     fn has(&self, program: &str, script: &str) {
-        let path = self.0.join(program);
-        fs::write(&path, format!("#!/bin/sh\n{script}\n")).unwrap();
-        fs::set_permissions(path, Permissions::from_mode(0o755)).unwrap();
+        let write = "printf '#!/bin/sh\\n%s\\n' \"$1\" >\"$0\" && chmod +x \"$0\"";
+        let mut sh = Command::new("sh");
+        sh.args(["-c", write]).arg(self.0.join(program)).arg(script);
+        assert!(sh.status().unwrap().success());
     }
 
     /// Asks for tools as the commands do, and tells whether they are there in the end.
