@@ -278,6 +278,18 @@ fn spoilt(spoil: impl FnOnce(&mut State, LentAreas<'_>)) -> Store {
     Keeper::resume(state, areas)
 }
 
+/// In a register that no run left: the low n bits of a ticket's mask decide, whatever stands above them.
+#[test]
+fn rows_10_and_12_over_stray_bits() {
+    let mut store = spoilt(|_, areas| areas.register[4].put = 3);
+    refused(&mut store, 10, |s| s.put(Ticket(5), 0, &[9; 16]));
+    assert_eq!(store.append(Ticket(5)).map(drop), Ok(()));
+    let mut store = spoilt(|_, areas| areas.register[3].put = 2);
+    refused(&mut store, 12, |s| s.append(Ticket(4)).map(drop));
+    assert_eq!(store.put(Ticket(4), 0, &[9; 16]), Ok(()));
+    assert_eq!(store.append(Ticket(4)).map(drop), Ok(()));
+}
+
 #[test]
 fn row_19_of_nodes_not_stored() {
     let mut store = spoilt(|_, areas| areas.nodes.fill(u32::MAX));
