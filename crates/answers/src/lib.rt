@@ -1,6 +1,7 @@
 // What the store answers to a step of the step program, written as a line of text; and what is kept between steps.
 ghost use mathlib.Core.Path.{_≡_};
 ghost use Prim.Native.Nat.{min};
+ghost use Rattle.answers.specs.Answers.{turned, written, refusedSaid, replied, holding, formatSaid, bytesSaid, readSaid, begunReply, putReply, assignedReply, wovenReply, publishedReply, sizedReply, latestReply, stampedReply};
 use assign::AssignOut;
 use assign::Assigned;
 use begin::BeginOut;
@@ -32,27 +33,31 @@ pub struct Turn {
 
 // Each answer is written to the front of out. With no store open every step but FORMAT is refused.
 
-// The turn that keeps this store and replies so.
-fn reply_turn(open: bool, store: Store, reply: Reply, out: &mut [u8]) -> Turn {
-    let kept = Kept { open, store };
-    let len = if open {
-        print::write_reply(reply, out)
-    } else {
-        print::write_reply(Reply::Refused(0), out)
-    };
+// The turn that keeps this and replies so.
+fn reply_turn(kept: Kept, reply: Reply, out: &mut [u8]) -> Turn
+    ensures { λ r. ⌜ (r ≡ turned (replied kept reply) (now (out .entry))) × (now (out .exit) ≡ written (replied kept reply) (now (out .entry))) ⌝ }
+{
+    if !kept.open {
+        return refused_turn(kept, out);
+    }
+    let len = print::write_reply(reply, out);
     Turn { kept, len }
 }
 
 // `refused,0`: the line is malformed, or beyond the program's own limits.
-pub fn refused_turn(kept: Kept, out: &mut [u8]) -> Turn {
+pub fn refused_turn(kept: Kept, out: &mut [u8]) -> Turn
+    ensures { λ r. ⌜ (r ≡ turned (refusedSaid kept) (now (out .entry))) × (now (out .exit) ≡ written (refusedSaid kept) (now (out .entry))) ⌝ }
+{
     let len = print::write_reply(Reply::Refused(0), out);
     Turn { kept, len }
 }
 
 // FORMAT keeps the store that it made, or else what there was.
-pub fn format_turn(kept: Kept, a: Formatted, out: &mut [u8]) -> Turn {
+pub fn format_turn(kept: Kept, a: Formatted, out: &mut [u8]) -> Turn
+    ensures { λ r. ⌜ (r ≡ turned (formatSaid kept a) (now (out .entry))) × (now (out .exit) ≡ written (formatSaid kept a) (now (out .entry))) ⌝ }
+{
     match a {
-        Formatted::Made(store) => reply_turn(true, store, Reply::Ok, out),
+        Formatted::Made(store) => reply_turn(Kept { open: true, store }, Reply::Ok, out),
         Formatted::Refused(k) => {
             let len = print::write_reply(Reply::Refused(k), out);
             Turn { kept, len }
@@ -60,32 +65,48 @@ pub fn format_turn(kept: Kept, a: Formatted, out: &mut [u8]) -> Turn {
     }
 }
 
-pub fn begin_turn(kept: Kept, a: BeginOut, out: &mut [u8]) -> Turn {
+pub fn begin_turn(kept: Kept, a: BeginOut, out: &mut [u8]) -> Turn
+    ensures { λ r. ⌜ (r ≡ turned (replied (holding kept (a .store)) (begunReply (a .answer))) (now (out .entry))) × (now (out .exit) ≡ written (replied (holding kept (a .store)) (begunReply (a .answer))) (now (out .entry))) ⌝ }
+{
     let store = a.store;
+    let after = Kept {
+        open: kept.open,
+        store,
+    };
     let answer = a.answer;
     match answer {
-        Begun::Given(t) => reply_turn(kept.open, store, Reply::Ticket(t.0), out),
-        Begun::Refused(k) => reply_turn(kept.open, store, Reply::Refused(k), out),
+        Begun::Given(t) => reply_turn(after, Reply::Ticket(t.0), out),
+        Begun::Refused(k) => reply_turn(after, Reply::Refused(k), out),
     }
 }
 
-pub fn put_turn(kept: Kept, a: PutIn, out: &mut [u8]) -> Turn {
+pub fn put_turn(kept: Kept, a: PutIn, out: &mut [u8]) -> Turn
+    ensures { λ r. ⌜ (r ≡ turned (replied kept (putReply a)) (now (out .entry))) × (now (out .exit) ≡ written (replied kept (putReply a)) (now (out .entry))) ⌝ }
+{
     match a {
-        PutIn::Done => reply_turn(kept.open, kept.store, Reply::Put, out),
-        PutIn::Refused(k) => reply_turn(kept.open, kept.store, Reply::Refused(k), out),
+        PutIn::Done => reply_turn(kept, Reply::Put, out),
+        PutIn::Refused(k) => reply_turn(kept, Reply::Refused(k), out),
     }
 }
 
-pub fn assign_turn(kept: Kept, a: AssignOut, out: &mut [u8]) -> Turn {
+pub fn assign_turn(kept: Kept, a: AssignOut, out: &mut [u8]) -> Turn
+    ensures { λ r. ⌜ (r ≡ turned (replied (holding kept (a .store)) (assignedReply (a .answer))) (now (out .entry))) × (now (out .exit) ≡ written (replied (holding kept (a .store)) (assignedReply (a .answer))) (now (out .entry))) ⌝ }
+{
     let store = a.store;
+    let after = Kept {
+        open: kept.open,
+        store,
+    };
     let answer = a.answer;
     match answer {
-        Assigned::Given(v, n) => reply_turn(kept.open, store, Reply::Version(v.0, n), out),
-        Assigned::Refused(k) => reply_turn(kept.open, store, Reply::Refused(k), out),
+        Assigned::Given(v, n) => reply_turn(after, Reply::Version(v.0, n), out),
+        Assigned::Refused(k) => reply_turn(after, Reply::Refused(k), out),
     }
 }
 
-pub fn weave_turn(kept: Kept, a: Woven, out: &mut [u8]) -> Turn {
+pub fn weave_turn(kept: Kept, a: Woven, out: &mut [u8]) -> Turn
+    ensures { λ r. ⌜ (r ≡ turned (replied kept (wovenReply a)) (now (out .entry))) × (now (out .exit) ≡ written (replied kept (wovenReply a)) (now (out .entry))) ⌝ }
+{
     match a {
         Woven::Node(x) => {
             let reply = Reply::Node(
@@ -96,54 +117,67 @@ pub fn weave_turn(kept: Kept, a: Woven, out: &mut [u8]) -> Turn {
                 x.right as u64,
                 x.rest,
             );
-            reply_turn(kept.open, kept.store, reply, out)
+            reply_turn(kept, reply, out)
         }
-        Woven::Refused(k) => reply_turn(kept.open, kept.store, Reply::Refused(k), out),
+        Woven::Refused(k) => reply_turn(kept, Reply::Refused(k), out),
     }
 }
 
-pub fn publish_turn(kept: Kept, a: PublishOut, out: &mut [u8]) -> Turn {
+pub fn publish_turn(kept: Kept, a: PublishOut, out: &mut [u8]) -> Turn
+    ensures { λ r. ⌜ (r ≡ turned (replied (holding kept (a .store)) (publishedReply (a .answer))) (now (out .entry))) × (now (out .exit) ≡ written (replied (holding kept (a .store)) (publishedReply (a .answer))) (now (out .entry))) ⌝ }
+{
     let store = a.store;
+    let after = Kept {
+        open: kept.open,
+        store,
+    };
     let answer = a.answer;
     match answer {
-        Published::Now(v) => reply_turn(kept.open, store, Reply::Published(v.0), out),
-        Published::Waiting => reply_turn(kept.open, store, Reply::Waiting, out),
-        Published::Refused(k) => reply_turn(kept.open, store, Reply::Refused(k), out),
+        Published::Now(v) => reply_turn(after, Reply::Published(v.0), out),
+        Published::Waiting => reply_turn(after, Reply::Waiting, out),
+        Published::Refused(k) => reply_turn(after, Reply::Refused(k), out),
     }
 }
 
-pub fn size_turn(kept: Kept, a: Sized, out: &mut [u8]) -> Turn {
+pub fn size_turn(kept: Kept, a: Sized, out: &mut [u8]) -> Turn
+    ensures { λ r. ⌜ (r ≡ turned (replied kept (sizedReply a)) (now (out .entry))) × (now (out .exit) ≡ written (replied kept (sizedReply a)) (now (out .entry))) ⌝ }
+{
     match a {
-        Sized::Bytes(n) => reply_turn(kept.open, kept.store, Reply::Size(n), out),
-        Sized::Refused(k) => reply_turn(kept.open, kept.store, Reply::Refused(k), out),
+        Sized::Bytes(n) => reply_turn(kept, Reply::Size(n), out),
+        Sized::Refused(k) => reply_turn(kept, Reply::Refused(k), out),
     }
 }
 
-pub fn recent_turn(kept: Kept, a: Latest, out: &mut [u8]) -> Turn {
+pub fn recent_turn(kept: Kept, a: Latest, out: &mut [u8]) -> Turn
+    ensures { λ r. ⌜ (r ≡ turned (replied kept (latestReply a)) (now (out .entry))) × (now (out .exit) ≡ written (replied kept (latestReply a)) (now (out .entry))) ⌝ }
+{
     match a {
-        Latest::Is(v) => reply_turn(kept.open, kept.store, Reply::Recent(v.0), out),
-        Latest::Refused(k) => reply_turn(kept.open, kept.store, Reply::Refused(k), out),
+        Latest::Is(v) => reply_turn(kept, Reply::Recent(v.0), out),
+        Latest::Refused(k) => reply_turn(kept, Reply::Refused(k), out),
     }
 }
 
-pub fn stamp_turn(kept: Kept, a: Stamped, out: &mut [u8]) -> Turn {
+pub fn stamp_turn(kept: Kept, a: Stamped, out: &mut [u8]) -> Turn
+    ensures { λ r. ⌜ (r ≡ turned (replied kept (stampedReply a)) (now (out .entry))) × (now (out .exit) ≡ written (replied kept (stampedReply a)) (now (out .entry))) ⌝ }
+{
     match a {
-        Stamped::Is(v) => reply_turn(kept.open, kept.store, Reply::Stamp(v.0), out),
-        Stamped::Refused(k) => reply_turn(kept.open, kept.store, Reply::Refused(k), out),
+        Stamped::Is(v) => reply_turn(kept, Reply::Stamp(v.0), out),
+        Stamped::Refused(k) => reply_turn(kept, Reply::Refused(k), out),
     }
 }
 
 // READ's answer is the first n bytes of the buffer that it filled.
-pub fn read_turn(kept: Kept, n: u64, a: Filled, bytes: &[u8], out: &mut [u8]) -> Turn {
+pub fn read_turn(kept: Kept, n: u64, a: Filled, bytes: &[u8], out: &mut [u8]) -> Turn
+    ensures { λ r. ⌜ (r ≡ turned (readSaid kept n (now (bytes .entry)) a) (now (out .entry))) × (now (out .exit) ≡ written (readSaid kept n (now (bytes .entry)) a) (now (out .entry))) ⌝ }
+{
     match a {
         Filled::Done => {
             if !kept.open {
                 return refused_turn(kept, out);
             }
-            let len = write_first(bytes, n, out);
-            Turn { kept, len }
+            bytes_turn(kept, n, bytes, out)
         }
-        Filled::Refused(k) => reply_turn(kept.open, kept.store, Reply::Refused(k), out),
+        Filled::Refused(k) => reply_turn(kept, Reply::Refused(k), out),
     }
 }
 
@@ -154,8 +188,11 @@ pub fn capped(x: u64, most: usize) -> usize
     if x > most as u64 { most } else { x as usize }
 }
 
-// Writes the line of the first n bytes, or of all where there are fewer.
-fn write_first(bytes: &[u8], n: u64, out: &mut [u8]) -> usize {
+// Answers the first n bytes, or all where there are fewer.
+fn bytes_turn(kept: Kept, n: u64, bytes: &[u8], out: &mut [u8]) -> Turn
+    ensures { λ r. ⌜ (r ≡ turned (bytesSaid kept n (now (bytes .entry))) (now (out .entry))) × (now (out .exit) ≡ written (bytesSaid kept n (now (bytes .entry))) (now (out .entry))) ⌝ }
+{
     let m = capped(n, bytes.len());
-    print::write_bytes(&bytes[..m], out)
+    let len = print::write_bytes(&bytes[..m], out);
+    Turn { kept, len }
 }

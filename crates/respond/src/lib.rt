@@ -2,6 +2,7 @@
 // asks the store and writes the answer.
 ghost use mathlib.Core.Path.{_≡_};
 ghost use Prim.Native.Nat.{_*_, min};
+ghost use Rattle.respond.specs.Wanted.{nothingKept, beyond, formatWanted, readWanted, wantedBy, storeFor, lengthsFor};
 use answers::Kept;
 use answers::Turn;
 use answers::capped;
@@ -73,13 +74,17 @@ const MOST_READ: u64 = 256;
 // ---- what a step asks for
 
 // No store.
-pub fn nothing_kept() -> Kept {
+pub fn nothing_kept() -> Kept
+    ensures { λ r. ⌜ r ≡ nothingKept ⌝ }
+{
     let store = fresh_store(0, 0, 0, 0);
     Kept { open: false, store }
 }
 
 // Whether a store is beyond the program's own limits.
-fn is_beyond(size: u64, pages: u64, nodes: u64, updates: u64) -> bool {
+fn is_beyond(size: u64, pages: u64, nodes: u64, updates: u64) -> bool
+    ensures { λ r. ⌜ r ≡ beyond size pages nodes updates ⌝ }
+{
     if size > MOST_SIZE {
         return true;
     }
@@ -92,7 +97,9 @@ fn is_beyond(size: u64, pages: u64, nodes: u64, updates: u64) -> bool {
 }
 
 // FORMAT is asked only within the program's own limits.
-fn format_wanted(size: u64, pages: u64, nodes: u64, updates: u64) -> Wanted {
+fn format_wanted(size: u64, pages: u64, nodes: u64, updates: u64) -> Wanted
+    ensures { λ r. ⌜ r ≡ formatWanted size pages nodes updates ⌝ }
+{
     if is_beyond(size, pages, nodes, updates) {
         return Wanted::Nothing;
     }
@@ -100,7 +107,9 @@ fn format_wanted(size: u64, pages: u64, nodes: u64, updates: u64) -> Wanted {
 }
 
 // READ is asked only within the program's own limit.
-fn read_wanted(v: u64, offset: u64, n: u64) -> Wanted {
+fn read_wanted(v: u64, offset: u64, n: u64) -> Wanted
+    ensures { λ r. ⌜ r ≡ readWanted v offset n ⌝ }
+{
     if n > MOST_READ {
         return Wanted::Nothing;
     }
@@ -108,7 +117,9 @@ fn read_wanted(v: u64, offset: u64, n: u64) -> Wanted {
 }
 
 // What a step asks for.
-pub fn wanted_by(step: Step) -> Wanted {
+pub fn wanted_by(step: Step) -> Wanted
+    ensures { λ r. ⌜ r ≡ wantedBy step ⌝ }
+{
     match step {
         Step::Format(s, p, n, u) => format_wanted(s, p, n, u),
         Step::Begin(n) => Wanted::Note(Note::Begin(n)),
@@ -142,7 +153,7 @@ fn capped_product(a: u64, b: u64, most: usize) -> usize
 
 // The lengths of the areas of a store, none past the array it lies in. A store that this program formats fits the arrays, so these are exact.
 fn lengths_of(s: Store, pages: usize, nodes: usize, register: usize) -> Lengths
-    ensures { λ l. ⌜ (l .pages ≡ min (s .size * s .pages) pages) × (l .nodes ≡ min (2 * s .nodes) nodes) × (l .register ≡ min (s .updates) register) ⌝ }
+    ensures { λ l. ⌜ l ≡ lengthsFor s pages nodes register ⌝ }
 {
     Lengths {
         pages: capped_product(s.size, s.pages, pages),
@@ -152,7 +163,9 @@ fn lengths_of(s: Store, pages: usize, nodes: usize, register: usize) -> Lengths
 }
 
 // The store whose areas a step is lent: the one that is kept, and for FORMAT the one that it would make.
-fn store_for(kept: Kept, wanted: Wanted) -> Store {
+fn store_for(kept: Kept, wanted: Wanted) -> Store
+    ensures { λ r. ⌜ r ≡ storeFor kept wanted ⌝ }
+{
     let store = kept.store;
     match wanted {
         Wanted::Fill(step) => match step {

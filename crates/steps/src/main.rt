@@ -1,7 +1,9 @@
 // The step program: it reads steps from standard input, a line each, and writes one answer line each. `main` lends the arrays; `parse` cuts lines out of
 // what is read, and `respond` answers them.
+ghost use mathlib.Core.Path.{_≡_};
 ghost use Prim.Native.Nat.{_≤_};
 ghost use lib.ListN.{length};
+ghost use Rattle.steps.specs.Places.{nextPlace, samePlace, isDue};
 use answers::Kept;
 use parse::Cutter;
 use parse::Fed;
@@ -31,7 +33,9 @@ fn write_out(out: &[u8], n: usize) -> bool {
 }
 
 // The place at the start of a line.
-fn next_place(kept: Kept, written: bool) -> Place {
+fn next_place(kept: Kept, written: bool) -> Place
+    ensures { λ r. ⌜ r ≡ nextPlace kept written ⌝ }
+{
     let cutter = parse::fresh_cutter();
     Place {
         kept,
@@ -41,7 +45,9 @@ fn next_place(kept: Kept, written: bool) -> Place {
 }
 
 // The place where the line goes on.
-fn same_place(kept: Kept, cutter: Cutter) -> Place {
+fn same_place(kept: Kept, cutter: Cutter) -> Place
+    ensures { λ r. ⌜ r ≡ samePlace kept cutter ⌝ }
+{
     Place {
         kept,
         cutter,
@@ -130,7 +136,9 @@ fn take_all(
 }
 
 // Whether a last line without its line feed is to be answered.
-fn is_due(at: Place) -> bool {
+fn is_due(at: Place) -> bool
+    ensures { λ r. ⌜ r ≡ isDue at ⌝ }
+{
     if at.ended {
         return false;
     }

@@ -93,7 +93,7 @@ use denote.Memory.{pointee}
 use borrow.Table.Elements.{length-take-le, take-le}
 use borrow.Rule.Array.Share.{room-take}
 use Rattle.register.proofs.Generated.Again.{part-same}
-use Rattle.respond.proofs.respond.Proof.Asks.{pages₃, nodes₃, register₃}
+use Rattle.respond.proofs.respond.Proof.Asks.{r1, r2, pages₃, nodes₃, register₃}
 
 abbrev stayed : Stays (respond‴.ended .signature .params) (respond‴.ended .kept)
 stayed = (stay-none (λ _. Kept′.row) yes, (stay-none (λ _. Wanted′.row) yes, (stay-slice (0 ∷ []) tt (plain (λ _. u8)), (stay-slice (1 ∷ []) tt (plain (λ _. u32)), (stay-slice (2 ∷ []) tt (plain (λ _. Record′.row)), (stay-slice (3 ∷ []) tt (plain (λ _. u8)), tt))))))
@@ -124,28 +124,28 @@ module _ {M : Type 1} (𝓤 : URA M) (H : Heap 𝓤) (A : Atoms 𝓤) (W : Given
       pass1 ! (init ! 36 refl (Kept′.typed 𝓤 H A W kept ok·kept)) $ pass1 ! (init ! 34 refl (Wanted′.typed 𝓤 H A W wanted ok·wanted)) $ pass1 ! (init ! 32 refl (tt, (tt, (record { fits = room·pages .0 }, tt)))) $ pass1 ! (init ! 30 refl (tt, (tt, (record { fits = room·nodes .0 }, tt)))) $ pass1 ! (init ! 28 refl (tt, (tt, (record { fits = room·register .0 }, tt)))) $ pass1 ! (init ! 26 refl (tt, (tt, (record { fits = room·out .0 }, tt)))) $ pass0 ! $
       move ! (41 ∷ []) $ fsplit ! $ drop ! $ fsplit ! $ drop ! $ fsplit ! $ move ! (1 ∷ []) $ fsplit ! $ move ! (1 ∷ []) $ fsplit ! $ move ! (1 ∷ []) $ fsplit ! $ move ! (1 ∷ []) $ drop ! $ move ! (44 ∷ []) $ split ! $ move ! (1 ∷ []) $ split ! $ move ! (1 ∷ []) $ split ! $ move ! (1 ∷ []) $ split ! $ move ! (1 ∷ []) $ drop ! $ move ! (3 ∷ 7 ∷ 2 ∷ 6 ∷ 1 ∷ 5 ∷ 0 ∷ 4 ∷ []) $
       Call-store-for.calls ! mem run (fmOf 𝓤 H (W .laws) 𝓣) known-store-for kept wanted ok·kept ok·wanted (and-then ! (load ! (from ! (stop !)) (look ! 45 refl)) (and-then ! (load ! (from ! (stop !)) (look ! 43 refl)) (no-more !)))
-      (λ r1 ok·1. land ! (from ! (stop !)) (init ! 30 refl (Store′.typed 𝓤 H A W r1 ok·1)) $
-      here ! (‵ (flft κ·pages q·pages) ∷ ‵ (MutAt u8 κ·pages b·pages o·pages γ·pages (length pages) pages) ∷ ‵ (flft κ·nodes q·nodes) ∷ ‵ (MutAt u32 κ·nodes b·nodes o·nodes γ·nodes (length nodes) nodes) ∷ ‵ (flft κ·register q·register) ∷ ‵ (MutAt Record′.row κ·register b·register o·register γ·register (length register) register) ∷ ‵ (flft κ·out q·out) ∷ ‵ (MutAt u8 κ·out b·out o·out γ·out (length out) out) ∷ empty (sliceTy (tyRef erased mut (pointee (u8 .written)))) l₁₉ (empty (tyRef erased mut (pointee (u8 .written))) l₁₈ (empty (sliceTy (tyRef erased mut (pointee (Record′.row .written)))) l₁₇ (empty (tyRef erased mut (pointee (Record′.row .written))) l₁₆ (empty (sliceTy (tyRef erased mut (pointee (u32 .written)))) l₁₅ (empty (tyRef erased mut (pointee (u32 .written))) l₁₄ (empty (sliceTy (tyRef erased mut (pointee (u8 .written)))) l₁₃ (empty (tyRef erased mut (pointee (u8 .written))) l₁₂ (empty (tyInt w64) l₁₁ (empty (tyInt w64) l₁₀ (empty (tyInt w64) l₉ (holds (tyAt (code.function .locals) 8) l₈ (Store′.mach r1) (empty (tyAt (code.function .locals) 7) l₇ (holds (sliceTy (tyRef (named 3) mut (pointee (u8 .written)))) l₆ (sliceVal (b·out, o·out) (length out)) (holds (sliceTy (tyRef (named 2) mut (pointee (Record′.row .written)))) l₅ (sliceVal (b·register, o·register) (length register)) (holds (sliceTy (tyRef (named 1) mut (pointee (u32 .written)))) l₄ (sliceVal (b·nodes, o·nodes) (length nodes)) (holds (sliceTy (tyRef (named 0) mut (pointee (u8 .written)))) l₃ (sliceVal (b·pages, o·pages) (length pages)) (holds (tyAt (code.function .locals) 2) l₂ (Wanted′.mach wanted) (holds (tyAt (code.function .locals) 1) l₁ (Kept′.mach kept) (empty (tyAt (code.function .locals) 0) l₀ [])))))))))))))))))))) $
+      (λ ok·1. land ! (from ! (stop !)) (init ! 30 refl (Store′.typed 𝓤 H A W (r1 kept wanted pages nodes register out) ok·1)) $
+      here ! (‵ (flft κ·pages q·pages) ∷ ‵ (MutAt u8 κ·pages b·pages o·pages γ·pages (length pages) pages) ∷ ‵ (flft κ·nodes q·nodes) ∷ ‵ (MutAt u32 κ·nodes b·nodes o·nodes γ·nodes (length nodes) nodes) ∷ ‵ (flft κ·register q·register) ∷ ‵ (MutAt Record′.row κ·register b·register o·register γ·register (length register) register) ∷ ‵ (flft κ·out q·out) ∷ ‵ (MutAt u8 κ·out b·out o·out γ·out (length out) out) ∷ empty (sliceTy (tyRef erased mut (pointee (u8 .written)))) l₁₉ (empty (tyRef erased mut (pointee (u8 .written))) l₁₈ (empty (sliceTy (tyRef erased mut (pointee (Record′.row .written)))) l₁₇ (empty (tyRef erased mut (pointee (Record′.row .written))) l₁₆ (empty (sliceTy (tyRef erased mut (pointee (u32 .written)))) l₁₅ (empty (tyRef erased mut (pointee (u32 .written))) l₁₄ (empty (sliceTy (tyRef erased mut (pointee (u8 .written)))) l₁₃ (empty (tyRef erased mut (pointee (u8 .written))) l₁₂ (empty (tyInt w64) l₁₁ (empty (tyInt w64) l₁₀ (empty (tyInt w64) l₉ (holds (tyAt (code.function .locals) 8) l₈ (Store′.mach (r1 kept wanted pages nodes register out)) (empty (tyAt (code.function .locals) 7) l₇ (holds (sliceTy (tyRef (named 3) mut (pointee (u8 .written)))) l₆ (sliceVal (b·out, o·out) (length out)) (holds (sliceTy (tyRef (named 2) mut (pointee (Record′.row .written)))) l₅ (sliceVal (b·register, o·register) (length register)) (holds (sliceTy (tyRef (named 1) mut (pointee (u32 .written)))) l₄ (sliceVal (b·nodes, o·nodes) (length nodes)) (holds (sliceTy (tyRef (named 0) mut (pointee (u8 .written)))) l₃ (sliceVal (b·pages, o·pages) (length pages)) (holds (tyAt (code.function .locals) 2) l₂ (Wanted′.mach wanted) (holds (tyAt (code.function .locals) 1) l₁ (Kept′.mach kept) (empty (tyAt (code.function .locals) 0) l₀ [])))))))))))))))))))) $
       assigns ! (of-opd ! (load ! (from ! (fld ! refl (stop !))) (look-in ! 40 (sub ! 1 refl (whole !))))) (from ! (stop !)) (init ! 28 refl (tt, record { fits = room·pages .0 })) $
       assigns ! (of-opd ! (load ! (from ! (fld ! refl (stop !))) (look-in ! 38 (sub ! 1 refl (whole !))))) (from ! (stop !)) (init ! 26 refl (tt, record { fits = room·nodes .0 })) $
       assigns ! (of-opd ! (load ! (from ! (fld ! refl (stop !))) (look-in ! 36 (sub ! 1 refl (whole !))))) (from ! (stop !)) (init ! 24 refl (tt, record { fits = room·register .0 })) $
-      Call-lengths-of.calls ! mem run (fmOf 𝓤 H (W .laws) 𝓣) known-lengths-of r1 (length pages) (length nodes) (length register) ok·1 (refl, room·pages .0) (refl, room·nodes .0) (refl, room·register .0) (and-then ! (load ! (from ! (stop !)) (look ! 31 refl)) (and-then ! (load ! (from ! (stop !)) (look ! 29 refl)) (and-then ! (load ! (from ! (stop !)) (look ! 27 refl)) (and-then ! (load ! (from ! (stop !)) (look ! 25 refl)) (no-more !)))))
-      (λ r2 ok·2 says·2. land ! (from ! (stop !)) (init ! 32 refl (Lengths′.typed 𝓤 H A W r2 ok·2)) $
-      here ! (‵ (flft κ·pages q·pages) ∷ ‵ (MutAt u8 κ·pages b·pages o·pages γ·pages (length pages) pages) ∷ ‵ (flft κ·nodes q·nodes) ∷ ‵ (MutAt u32 κ·nodes b·nodes o·nodes γ·nodes (length nodes) nodes) ∷ ‵ (flft κ·register q·register) ∷ ‵ (MutAt Record′.row κ·register b·register o·register γ·register (length register) register) ∷ ‵ (flft κ·out q·out) ∷ ‵ (MutAt u8 κ·out b·out o·out γ·out (length out) out) ∷ empty (sliceTy (tyRef erased mut (pointee (u8 .written)))) l₁₉ (empty (tyRef erased mut (pointee (u8 .written))) l₁₈ (empty (sliceTy (tyRef erased mut (pointee (Record′.row .written)))) l₁₇ (empty (tyRef erased mut (pointee (Record′.row .written))) l₁₆ (empty (sliceTy (tyRef erased mut (pointee (u32 .written)))) l₁₅ (empty (tyRef erased mut (pointee (u32 .written))) l₁₄ (empty (sliceTy (tyRef erased mut (pointee (u8 .written)))) l₁₃ (empty (tyRef erased mut (pointee (u8 .written))) l₁₂ (holds (tyInt w64) l₁₁ (vint w64 (length register)) (holds (tyInt w64) l₁₀ (vint w64 (length nodes)) (holds (tyInt w64) l₉ (vint w64 (length pages)) (holds (tyAt (code.function .locals) 8) l₈ (Store′.mach r1) (holds (tyAt (code.function .locals) 7) l₇ (Lengths′.mach r2) (holds (sliceTy (tyRef (named 3) mut (pointee (u8 .written)))) l₆ (sliceVal (b·out, o·out) (length out)) (holds (sliceTy (tyRef (named 2) mut (pointee (Record′.row .written)))) l₅ (sliceVal (b·register, o·register) (length register)) (holds (sliceTy (tyRef (named 1) mut (pointee (u32 .written)))) l₄ (sliceVal (b·nodes, o·nodes) (length nodes)) (holds (sliceTy (tyRef (named 0) mut (pointee (u8 .written)))) l₃ (sliceVal (b·pages, o·pages) (length pages)) (holds (tyAt (code.function .locals) 2) l₂ (Wanted′.mach wanted) (holds (tyAt (code.function .locals) 1) l₁ (Kept′.mach kept) (empty (tyAt (code.function .locals) 0) l₀ [])))))))))))))))))))) $
+      Call-lengths-of.calls ! mem run (fmOf 𝓤 H (W .laws) 𝓣) known-lengths-of (r1 kept wanted pages nodes register out) (length pages) (length nodes) (length register) ok·1 (refl, room·pages .0) (refl, room·nodes .0) (refl, room·register .0) (and-then ! (load ! (from ! (stop !)) (look ! 31 refl)) (and-then ! (load ! (from ! (stop !)) (look ! 29 refl)) (and-then ! (load ! (from ! (stop !)) (look ! 27 refl)) (and-then ! (load ! (from ! (stop !)) (look ! 25 refl)) (no-more !)))))
+      (λ ok·2. land ! (from ! (stop !)) (init ! 32 refl (Lengths′.typed 𝓤 H A W (r2 kept wanted pages nodes register out) ok·2)) $
+      here ! (‵ (flft κ·pages q·pages) ∷ ‵ (MutAt u8 κ·pages b·pages o·pages γ·pages (length pages) pages) ∷ ‵ (flft κ·nodes q·nodes) ∷ ‵ (MutAt u32 κ·nodes b·nodes o·nodes γ·nodes (length nodes) nodes) ∷ ‵ (flft κ·register q·register) ∷ ‵ (MutAt Record′.row κ·register b·register o·register γ·register (length register) register) ∷ ‵ (flft κ·out q·out) ∷ ‵ (MutAt u8 κ·out b·out o·out γ·out (length out) out) ∷ empty (sliceTy (tyRef erased mut (pointee (u8 .written)))) l₁₉ (empty (tyRef erased mut (pointee (u8 .written))) l₁₈ (empty (sliceTy (tyRef erased mut (pointee (Record′.row .written)))) l₁₇ (empty (tyRef erased mut (pointee (Record′.row .written))) l₁₆ (empty (sliceTy (tyRef erased mut (pointee (u32 .written)))) l₁₅ (empty (tyRef erased mut (pointee (u32 .written))) l₁₄ (empty (sliceTy (tyRef erased mut (pointee (u8 .written)))) l₁₃ (empty (tyRef erased mut (pointee (u8 .written))) l₁₂ (holds (tyInt w64) l₁₁ (vint w64 (length register)) (holds (tyInt w64) l₁₀ (vint w64 (length nodes)) (holds (tyInt w64) l₉ (vint w64 (length pages)) (holds (tyAt (code.function .locals) 8) l₈ (Store′.mach (r1 kept wanted pages nodes register out)) (holds (tyAt (code.function .locals) 7) l₇ (Lengths′.mach (r2 kept wanted pages nodes register out)) (holds (sliceTy (tyRef (named 3) mut (pointee (u8 .written)))) l₆ (sliceVal (b·out, o·out) (length out)) (holds (sliceTy (tyRef (named 2) mut (pointee (Record′.row .written)))) l₅ (sliceVal (b·register, o·register) (length register)) (holds (sliceTy (tyRef (named 1) mut (pointee (u32 .written)))) l₄ (sliceVal (b·nodes, o·nodes) (length nodes)) (holds (sliceTy (tyRef (named 0) mut (pointee (u8 .written)))) l₃ (sliceVal (b·pages, o·pages) (length pages)) (holds (tyAt (code.function .locals) 2) l₂ (Wanted′.mach wanted) (holds (tyAt (code.function .locals) 1) l₁ (Kept′.mach kept) (empty (tyAt (code.function .locals) 0) l₀ [])))))))))))))))))))) $
       assigns ! (addr ! (from ! (fld ! refl (hop ! (look-in ! 40 (sub ! 0 refl (whole !))) (stop !))))) (from ! (stop !)) (init ! 22 refl (tt, tt)) $
-      assigns ! (agg ! (and-then ! (load ! (from ! (stop !)) (look ! 22 refl)) (and-then ! (load ! (from ! (fld ! refl (stop !))) (look-in ! 32 (sub ! 0 refl (whole !)))) (no-more !)))) (from ! (stop !)) (init ! 20 refl (tt, (tt, (record { fits = (Lengths′.ok-pages r2 ok·2) .1 }, tt)))) $
+      assigns ! (agg ! (and-then ! (load ! (from ! (stop !)) (look ! 22 refl)) (and-then ! (load ! (from ! (fld ! refl (stop !))) (look-in ! 32 (sub ! 0 refl (whole !)))) (no-more !)))) (from ! (stop !)) (init ! 20 refl (tt, (tt, (record { fits = (Lengths′.ok-pages (r2 kept wanted pages nodes register out) ok·2) .1 }, tt)))) $
       assigns ! (addr ! (from ! (fld ! refl (hop ! (look-in ! 38 (sub ! 0 refl (whole !))) (stop !))))) (from ! (stop !)) (init ! 18 refl (tt, tt)) $
-      assigns ! (agg ! (and-then ! (load ! (from ! (stop !)) (look ! 18 refl)) (and-then ! (load ! (from ! (fld ! refl (stop !))) (look-in ! 32 (sub ! 1 refl (whole !)))) (no-more !)))) (from ! (stop !)) (init ! 16 refl (tt, (tt, (record { fits = (Lengths′.ok-nodes r2 ok·2) .1 }, tt)))) $
+      assigns ! (agg ! (and-then ! (load ! (from ! (stop !)) (look ! 18 refl)) (and-then ! (load ! (from ! (fld ! refl (stop !))) (look-in ! 32 (sub ! 1 refl (whole !)))) (no-more !)))) (from ! (stop !)) (init ! 16 refl (tt, (tt, (record { fits = (Lengths′.ok-nodes (r2 kept wanted pages nodes register out) ok·2) .1 }, tt)))) $
       assigns ! (addr ! (from ! (fld ! refl (hop ! (look-in ! 36 (sub ! 0 refl (whole !))) (stop !))))) (from ! (stop !)) (init ! 14 refl (tt, tt)) $
-      assigns ! (agg ! (and-then ! (load ! (from ! (stop !)) (look ! 14 refl)) (and-then ! (load ! (from ! (fld ! refl (stop !))) (look-in ! 32 (sub ! 2 refl (whole !)))) (no-more !)))) (from ! (stop !)) (init ! 12 refl (tt, (tt, (record { fits = (Lengths′.ok-register r2 ok·2) .1 }, tt)))) $
+      assigns ! (agg ! (and-then ! (load ! (from ! (stop !)) (look ! 14 refl)) (and-then ! (load ! (from ! (fld ! refl (stop !))) (look-in ! 32 (sub ! 2 refl (whole !)))) (no-more !)))) (from ! (stop !)) (init ! 12 refl (tt, (tt, (record { fits = (Lengths′.ok-register (r2 kept wanted pages nodes register out) ok·2) .1 }, tt)))) $
       assigns ! (addr ! (from ! (fld ! refl (hop ! (look-in ! 34 (sub ! 0 refl (whole !))) (stop !))))) (from ! (stop !)) (init ! 10 refl (tt, tt)) $
       assigns ! (agg ! (and-then ! (load ! (from ! (stop !)) (look ! 10 refl)) (and-then ! (load ! (from ! (fld ! refl (stop !))) (look-in ! 34 (sub ! 1 refl (whole !)))) (no-more !)))) (from ! (stop !)) (init ! 8 refl (tt, (tt, (record { fits = room·out .0 }, tt)))) $
-      lend-part-mut ! tt u8 κ·pages q·pages b·pages o·pages γ·pages (length pages) pages (r2 .pages) (refl) (Facts.part-1 kept wanted pages nodes register out ok·kept ok·wanted (room·pages .0) (room·nodes .0) (room·register .0) (room·out .0) r1 ok·1 r2 ok·2 says·2) (λ ν·3-pages γ·3-pages. move ! (3 ∷ 4 ∷ []) $ lend-part-mut ! tt u32 κ·nodes q·nodes b·nodes o·nodes γ·nodes (length nodes) nodes (r2 .nodes) (refl) (Facts.part-2 kept wanted pages nodes register out ok·kept ok·wanted (room·pages .0) (room·nodes .0) (room·register .0) (room·out .0) r1 ok·1 r2 ok·2 says·2 (Facts.part-1 kept wanted pages nodes register out ok·kept ok·wanted (room·pages .0) (room·nodes .0) (room·register .0) (room·out .0) r1 ok·1 r2 ok·2 says·2) (length-take-le (r2 .pages) pages (Facts.part-1 kept wanted pages nodes register out ok·kept ok·wanted (room·pages .0) (room·nodes .0) (room·register .0) (room·out .0) r1 ok·1 r2 ok·2 says·2))) (λ ν·3-nodes γ·3-nodes. move ! (6 ∷ 7 ∷ []) $ lend-part-mut ! tt Record′.row κ·register q·register b·register o·register γ·register (length register) register (r2 .register) (refl) (Facts.part-3 kept wanted pages nodes register out ok·kept ok·wanted (room·pages .0) (room·nodes .0) (room·register .0) (room·out .0) r1 ok·1 r2 ok·2 says·2 (Facts.part-1 kept wanted pages nodes register out ok·kept ok·wanted (room·pages .0) (room·nodes .0) (room·register .0) (room·out .0) r1 ok·1 r2 ok·2 says·2) (length-take-le (r2 .pages) pages (Facts.part-1 kept wanted pages nodes register out ok·kept ok·wanted (room·pages .0) (room·nodes .0) (room·register .0) (room·out .0) r1 ok·1 r2 ok·2 says·2)) (Facts.part-2 kept wanted pages nodes register out ok·kept ok·wanted (room·pages .0) (room·nodes .0) (room·register .0) (room·out .0) r1 ok·1 r2 ok·2 says·2 (Facts.part-1 kept wanted pages nodes register out ok·kept ok·wanted (room·pages .0) (room·nodes .0) (room·register .0) (room·out .0) r1 ok·1 r2 ok·2 says·2) (length-take-le (r2 .pages) pages (Facts.part-1 kept wanted pages nodes register out ok·kept ok·wanted (room·pages .0) (room·nodes .0) (room·register .0) (room·out .0) r1 ok·1 r2 ok·2 says·2))) (length-take-le (r2 .nodes) nodes (Facts.part-2 kept wanted pages nodes register out ok·kept ok·wanted (room·pages .0) (room·nodes .0) (room·register .0) (room·out .0) r1 ok·1 r2 ok·2 says·2 (Facts.part-1 kept wanted pages nodes register out ok·kept ok·wanted (room·pages .0) (room·nodes .0) (room·register .0) (room·out .0) r1 ok·1 r2 ok·2 says·2) (length-take-le (r2 .pages) pages (Facts.part-1 kept wanted pages nodes register out ok·kept ok·wanted (room·pages .0) (room·nodes .0) (room·register .0) (room·out .0) r1 ok·1 r2 ok·2 says·2))))) (λ ν·3-register γ·3-register. move ! (9 ∷ 10 ∷ []) $ lend-mut ! tt u8 κ·out q·out b·out o·out γ·out (length out) out (refl) (λ ν·3-out γ·3-out. move ! (9 ∷ 10 ∷ 6 ∷ 7 ∷ 3 ∷ 4 ∷ 0 ∷ 1 ∷ []) $
-      Call-step-within.calls ! mem run (fmOf 𝓤 H (W .laws) 𝓣) known-step-within kept wanted (ν·3-pages ∷ []) fullShare b·pages o·pages γ·3-pages (r2 .pages) (take (r2 .pages) pages) (ν·3-nodes ∷ []) fullShare b·nodes o·nodes γ·3-nodes (r2 .nodes) (take (r2 .nodes) nodes) (ν·3-register ∷ []) fullShare b·register o·register γ·3-register (r2 .register) (take (r2 .register) register) (ν·3-out ∷ []) fullShare b·out o·out γ·3-out (length out) out ok·kept ok·wanted (and-then ! (load ! (from ! (stop !)) (look ! 41 refl)) (and-then ! (load ! (from ! (stop !)) (look ! 39 refl)) (and-then ! (load ! (from ! (stop !)) (look ! 17 refl)) (and-then ! (load ! (from ! (stop !)) (look ! 13 refl)) (and-then ! (load ! (from ! (stop !)) (look ! 9 refl)) (and-then ! (load ! (from ! (stop !)) (look ! 5 refl)) (no-more !)))))))
-      (λ r3 part-pages₃ part-nodes₃ part-register₃ out₃ ok·3 same·3-pages same·3-nodes same·3-register same·3-out. move ! (0 ∷ 1 ∷ 11 ∷ []) $ back-part-mut ! tt u8 κ·pages q·pages b·pages o·pages γ·pages (length pages) pages part-pages₃ (r2 .pages) ν·3-pages γ·3-pages (refl) same·3-pages room·pages $ move ! (2 ∷ 3 ∷ 10 ∷ []) $ back-part-mut ! tt u32 κ·nodes q·nodes b·nodes o·nodes γ·nodes (length nodes) nodes part-nodes₃ (r2 .nodes) ν·3-nodes γ·3-nodes (refl) same·3-nodes room·nodes $ move ! (4 ∷ 5 ∷ 9 ∷ []) $ back-part-mut ! tt Record′.row κ·register q·register b·register o·register γ·register (length register) register part-register₃ (r2 .register) ν·3-register γ·3-register (refl) same·3-register room·register $ move ! (6 ∷ 7 ∷ 8 ∷ []) $ back-mut ! tt u8 κ·out q·out b·out o·out γ·out (length out) out out₃ ν·3-out γ·3-out (refl) same·3-out room·out $ move ! (6 ∷ 7 ∷ 4 ∷ 5 ∷ 2 ∷ 3 ∷ 0 ∷ 1 ∷ []) $ land ! (from ! (stop !)) (init ! 46 refl (Turn′.typed 𝓤 H A W r3 ok·3)) $
-      here ! (‵ (flft κ·pages q·pages) ∷ ‵ (MutAt u8 κ·pages b·pages o·pages γ·pages (length pages) (pages₃ kept wanted pages nodes register out r1 r2 r3 part-pages₃ part-nodes₃ part-register₃ out₃)) ∷ ‵ (flft κ·nodes q·nodes) ∷ ‵ (MutAt u32 κ·nodes b·nodes o·nodes γ·nodes (length nodes) (nodes₃ kept wanted pages nodes register out r1 r2 r3 part-pages₃ part-nodes₃ part-register₃ out₃)) ∷ ‵ (flft κ·register q·register) ∷ ‵ (MutAt Record′.row κ·register b·register o·register γ·register (length register) (register₃ kept wanted pages nodes register out r1 r2 r3 part-pages₃ part-nodes₃ part-register₃ out₃)) ∷ ‵ (flft κ·out q·out) ∷ ‵ (MutAt u8 κ·out b·out o·out γ·out (length out) out₃) ∷ holds (sliceTy (tyRef erased mut (pointee (u8 .written)))) l₁₉ (sliceVal (b·out, o·out) (length out)) (holds (tyRef erased mut (pointee (u8 .written))) l₁₈ (vptr b·out o·out) (holds (sliceTy (tyRef erased mut (pointee (Record′.row .written)))) l₁₇ (sliceVal (b·register, o·register) (r2 .register)) (holds (tyRef erased mut (pointee (Record′.row .written))) l₁₆ (vptr b·register o·register) (holds (sliceTy (tyRef erased mut (pointee (u32 .written)))) l₁₅ (sliceVal (b·nodes, o·nodes) (r2 .nodes)) (holds (tyRef erased mut (pointee (u32 .written))) l₁₄ (vptr b·nodes o·nodes) (holds (sliceTy (tyRef erased mut (pointee (u8 .written)))) l₁₃ (sliceVal (b·pages, o·pages) (r2 .pages)) (holds (tyRef erased mut (pointee (u8 .written))) l₁₂ (vptr b·pages o·pages) (holds (tyInt w64) l₁₁ (vint w64 (length register)) (holds (tyInt w64) l₁₀ (vint w64 (length nodes)) (holds (tyInt w64) l₉ (vint w64 (length pages)) (holds (tyAt (code.function .locals) 8) l₈ (Store′.mach r1) (holds (tyAt (code.function .locals) 7) l₇ (Lengths′.mach r2) (holds (sliceTy (tyRef (named 3) mut (pointee (u8 .written)))) l₆ (sliceVal (b·out, o·out) (length out)) (holds (sliceTy (tyRef (named 2) mut (pointee (Record′.row .written)))) l₅ (sliceVal (b·register, o·register) (length register)) (holds (sliceTy (tyRef (named 1) mut (pointee (u32 .written)))) l₄ (sliceVal (b·nodes, o·nodes) (length nodes)) (holds (sliceTy (tyRef (named 0) mut (pointee (u8 .written)))) l₃ (sliceVal (b·pages, o·pages) (length pages)) (holds (tyAt (code.function .locals) 2) l₂ (Wanted′.mach wanted) (holds (tyAt (code.function .locals) 1) l₁ (Kept′.mach kept) (holds (tyAt (code.function .locals) 0) l₀ (Turn′.mach r3) [])))))))))))))))))))) $
+      lend-part-mut ! tt u8 κ·pages q·pages b·pages o·pages γ·pages (length pages) pages ((r2 kept wanted pages nodes register out) .pages) (refl) (Facts.part-1 kept wanted pages nodes register out ok·kept ok·wanted (room·pages .0) (room·nodes .0) (room·register .0) (room·out .0) ok·1 ok·2) (λ ν·3-pages γ·3-pages. move ! (3 ∷ 4 ∷ []) $ lend-part-mut ! tt u32 κ·nodes q·nodes b·nodes o·nodes γ·nodes (length nodes) nodes ((r2 kept wanted pages nodes register out) .nodes) (refl) (Facts.part-2 kept wanted pages nodes register out ok·kept ok·wanted (room·pages .0) (room·nodes .0) (room·register .0) (room·out .0) ok·1 ok·2 (Facts.part-1 kept wanted pages nodes register out ok·kept ok·wanted (room·pages .0) (room·nodes .0) (room·register .0) (room·out .0) ok·1 ok·2) (length-take-le ((r2 kept wanted pages nodes register out) .pages) pages (Facts.part-1 kept wanted pages nodes register out ok·kept ok·wanted (room·pages .0) (room·nodes .0) (room·register .0) (room·out .0) ok·1 ok·2))) (λ ν·3-nodes γ·3-nodes. move ! (6 ∷ 7 ∷ []) $ lend-part-mut ! tt Record′.row κ·register q·register b·register o·register γ·register (length register) register ((r2 kept wanted pages nodes register out) .register) (refl) (Facts.part-3 kept wanted pages nodes register out ok·kept ok·wanted (room·pages .0) (room·nodes .0) (room·register .0) (room·out .0) ok·1 ok·2 (Facts.part-1 kept wanted pages nodes register out ok·kept ok·wanted (room·pages .0) (room·nodes .0) (room·register .0) (room·out .0) ok·1 ok·2) (length-take-le ((r2 kept wanted pages nodes register out) .pages) pages (Facts.part-1 kept wanted pages nodes register out ok·kept ok·wanted (room·pages .0) (room·nodes .0) (room·register .0) (room·out .0) ok·1 ok·2)) (Facts.part-2 kept wanted pages nodes register out ok·kept ok·wanted (room·pages .0) (room·nodes .0) (room·register .0) (room·out .0) ok·1 ok·2 (Facts.part-1 kept wanted pages nodes register out ok·kept ok·wanted (room·pages .0) (room·nodes .0) (room·register .0) (room·out .0) ok·1 ok·2) (length-take-le ((r2 kept wanted pages nodes register out) .pages) pages (Facts.part-1 kept wanted pages nodes register out ok·kept ok·wanted (room·pages .0) (room·nodes .0) (room·register .0) (room·out .0) ok·1 ok·2))) (length-take-le ((r2 kept wanted pages nodes register out) .nodes) nodes (Facts.part-2 kept wanted pages nodes register out ok·kept ok·wanted (room·pages .0) (room·nodes .0) (room·register .0) (room·out .0) ok·1 ok·2 (Facts.part-1 kept wanted pages nodes register out ok·kept ok·wanted (room·pages .0) (room·nodes .0) (room·register .0) (room·out .0) ok·1 ok·2) (length-take-le ((r2 kept wanted pages nodes register out) .pages) pages (Facts.part-1 kept wanted pages nodes register out ok·kept ok·wanted (room·pages .0) (room·nodes .0) (room·register .0) (room·out .0) ok·1 ok·2))))) (λ ν·3-register γ·3-register. move ! (9 ∷ 10 ∷ []) $ lend-mut ! tt u8 κ·out q·out b·out o·out γ·out (length out) out (refl) (λ ν·3-out γ·3-out. move ! (9 ∷ 10 ∷ 6 ∷ 7 ∷ 3 ∷ 4 ∷ 0 ∷ 1 ∷ []) $
+      Call-step-within.calls ! mem run (fmOf 𝓤 H (W .laws) 𝓣) known-step-within kept wanted (ν·3-pages ∷ []) fullShare b·pages o·pages γ·3-pages ((r2 kept wanted pages nodes register out) .pages) (take ((r2 kept wanted pages nodes register out) .pages) pages) (ν·3-nodes ∷ []) fullShare b·nodes o·nodes γ·3-nodes ((r2 kept wanted pages nodes register out) .nodes) (take ((r2 kept wanted pages nodes register out) .nodes) nodes) (ν·3-register ∷ []) fullShare b·register o·register γ·3-register ((r2 kept wanted pages nodes register out) .register) (take ((r2 kept wanted pages nodes register out) .register) register) (ν·3-out ∷ []) fullShare b·out o·out γ·3-out (length out) out ok·kept ok·wanted (and-then ! (load ! (from ! (stop !)) (look ! 41 refl)) (and-then ! (load ! (from ! (stop !)) (look ! 39 refl)) (and-then ! (load ! (from ! (stop !)) (look ! 17 refl)) (and-then ! (load ! (from ! (stop !)) (look ! 13 refl)) (and-then ! (load ! (from ! (stop !)) (look ! 9 refl)) (and-then ! (load ! (from ! (stop !)) (look ! 5 refl)) (no-more !)))))))
+      (λ r3 part-pages₃ part-nodes₃ part-register₃ out₃ ok·3 same·3-pages same·3-nodes same·3-register same·3-out. move ! (0 ∷ 1 ∷ 11 ∷ []) $ back-part-mut ! tt u8 κ·pages q·pages b·pages o·pages γ·pages (length pages) pages part-pages₃ ((r2 kept wanted pages nodes register out) .pages) ν·3-pages γ·3-pages (refl) same·3-pages room·pages $ move ! (2 ∷ 3 ∷ 10 ∷ []) $ back-part-mut ! tt u32 κ·nodes q·nodes b·nodes o·nodes γ·nodes (length nodes) nodes part-nodes₃ ((r2 kept wanted pages nodes register out) .nodes) ν·3-nodes γ·3-nodes (refl) same·3-nodes room·nodes $ move ! (4 ∷ 5 ∷ 9 ∷ []) $ back-part-mut ! tt Record′.row κ·register q·register b·register o·register γ·register (length register) register part-register₃ ((r2 kept wanted pages nodes register out) .register) ν·3-register γ·3-register (refl) same·3-register room·register $ move ! (6 ∷ 7 ∷ 8 ∷ []) $ back-mut ! tt u8 κ·out q·out b·out o·out γ·out (length out) out out₃ ν·3-out γ·3-out (refl) same·3-out room·out $ move ! (6 ∷ 7 ∷ 4 ∷ 5 ∷ 2 ∷ 3 ∷ 0 ∷ 1 ∷ []) $ land ! (from ! (stop !)) (init ! 46 refl (Turn′.typed 𝓤 H A W r3 ok·3)) $
+      here ! (‵ (flft κ·pages q·pages) ∷ ‵ (MutAt u8 κ·pages b·pages o·pages γ·pages (length pages) (pages₃ kept wanted pages nodes register out r3 part-pages₃ part-nodes₃ part-register₃ out₃)) ∷ ‵ (flft κ·nodes q·nodes) ∷ ‵ (MutAt u32 κ·nodes b·nodes o·nodes γ·nodes (length nodes) (nodes₃ kept wanted pages nodes register out r3 part-pages₃ part-nodes₃ part-register₃ out₃)) ∷ ‵ (flft κ·register q·register) ∷ ‵ (MutAt Record′.row κ·register b·register o·register γ·register (length register) (register₃ kept wanted pages nodes register out r3 part-pages₃ part-nodes₃ part-register₃ out₃)) ∷ ‵ (flft κ·out q·out) ∷ ‵ (MutAt u8 κ·out b·out o·out γ·out (length out) out₃) ∷ holds (sliceTy (tyRef erased mut (pointee (u8 .written)))) l₁₉ (sliceVal (b·out, o·out) (length out)) (holds (tyRef erased mut (pointee (u8 .written))) l₁₈ (vptr b·out o·out) (holds (sliceTy (tyRef erased mut (pointee (Record′.row .written)))) l₁₇ (sliceVal (b·register, o·register) ((r2 kept wanted pages nodes register out) .register)) (holds (tyRef erased mut (pointee (Record′.row .written))) l₁₆ (vptr b·register o·register) (holds (sliceTy (tyRef erased mut (pointee (u32 .written)))) l₁₅ (sliceVal (b·nodes, o·nodes) ((r2 kept wanted pages nodes register out) .nodes)) (holds (tyRef erased mut (pointee (u32 .written))) l₁₄ (vptr b·nodes o·nodes) (holds (sliceTy (tyRef erased mut (pointee (u8 .written)))) l₁₃ (sliceVal (b·pages, o·pages) ((r2 kept wanted pages nodes register out) .pages)) (holds (tyRef erased mut (pointee (u8 .written))) l₁₂ (vptr b·pages o·pages) (holds (tyInt w64) l₁₁ (vint w64 (length register)) (holds (tyInt w64) l₁₀ (vint w64 (length nodes)) (holds (tyInt w64) l₉ (vint w64 (length pages)) (holds (tyAt (code.function .locals) 8) l₈ (Store′.mach (r1 kept wanted pages nodes register out)) (holds (tyAt (code.function .locals) 7) l₇ (Lengths′.mach (r2 kept wanted pages nodes register out)) (holds (sliceTy (tyRef (named 3) mut (pointee (u8 .written)))) l₆ (sliceVal (b·out, o·out) (length out)) (holds (sliceTy (tyRef (named 2) mut (pointee (Record′.row .written)))) l₅ (sliceVal (b·register, o·register) (length register)) (holds (sliceTy (tyRef (named 1) mut (pointee (u32 .written)))) l₄ (sliceVal (b·nodes, o·nodes) (length nodes)) (holds (sliceTy (tyRef (named 0) mut (pointee (u8 .written)))) l₃ (sliceVal (b·pages, o·pages) (length pages)) (holds (tyAt (code.function .locals) 2) l₂ (Wanted′.mach wanted) (holds (tyAt (code.function .locals) 1) l₁ (Kept′.mach kept) (holds (tyAt (code.function .locals) 0) l₀ (Turn′.mach r3) [])))))))))))))))))))) $
       returns ! (look ! 46 refl) $
-      move ! (46 ∷ 47 ∷ []) $ forget ! 0 refl $ free1 ! $ move ! (44 ∷ 45 ∷ []) $ forget ! 0 refl $ free1 ! $ move ! (42 ∷ 43 ∷ []) $ forget ! 0 refl $ free1 ! $ move ! (40 ∷ 41 ∷ []) $ forget ! 0 refl $ free1 ! $ move ! (38 ∷ 39 ∷ []) $ forget ! 0 refl $ free1 ! $ move ! (36 ∷ 37 ∷ []) $ forget ! 0 refl $ free1 ! $ move ! (34 ∷ 35 ∷ []) $ forget ! 0 refl $ free1 ! $ move ! (32 ∷ 33 ∷ []) $ forget ! 0 refl $ free1 ! $ move ! (30 ∷ 31 ∷ []) $ forget ! 0 refl $ free1 ! $ move ! (28 ∷ 29 ∷ []) $ forget ! 0 refl $ free1 ! $ move ! (26 ∷ 27 ∷ []) $ forget ! 0 refl $ free1 ! $ move ! (24 ∷ 25 ∷ []) $ forget ! 0 refl $ free1 ! $ move ! (22 ∷ 23 ∷ []) $ forget ! 0 refl $ free1 ! $ move ! (20 ∷ 21 ∷ []) $ forget ! 0 refl $ free1 ! $ move ! (18 ∷ 19 ∷ []) $ forget ! 0 refl $ free1 ! $ move ! (16 ∷ 17 ∷ []) $ forget ! 0 refl $ free1 ! $ move ! (14 ∷ 15 ∷ []) $ forget ! 0 refl $ free1 ! $ move ! (12 ∷ 13 ∷ []) $ forget ! 0 refl $ free1 ! $ move ! (10 ∷ 11 ∷ []) $ forget ! 0 refl $ free1 ! $ move ! (8 ∷ 9 ∷ []) $ forget ! 0 refl $ free1 ! $ free0 ! $ by ! (exits r3 ok·3 (pages₃ kept wanted pages nodes register out r1 r2 r3 part-pages₃ part-nodes₃ part-register₃ out₃) (sym (refl ∙ sym (part-same (r2 .pages) pages part-pages₃ same·3-pages))) (nodes₃ kept wanted pages nodes register out r1 r2 r3 part-pages₃ part-nodes₃ part-register₃ out₃) (sym (refl ∙ sym (part-same (r2 .nodes) nodes part-nodes₃ same·3-nodes))) (register₃ kept wanted pages nodes register out r1 r2 r3 part-pages₃ part-nodes₃ part-register₃ out₃) (sym (refl ∙ sym (part-same (r2 .register) register part-register₃ same·3-register))) out₃ (sym (refl ∙ sym same·3-out))))))))))))))))))))))))))))))
+      move ! (46 ∷ 47 ∷ []) $ forget ! 0 refl $ free1 ! $ move ! (44 ∷ 45 ∷ []) $ forget ! 0 refl $ free1 ! $ move ! (42 ∷ 43 ∷ []) $ forget ! 0 refl $ free1 ! $ move ! (40 ∷ 41 ∷ []) $ forget ! 0 refl $ free1 ! $ move ! (38 ∷ 39 ∷ []) $ forget ! 0 refl $ free1 ! $ move ! (36 ∷ 37 ∷ []) $ forget ! 0 refl $ free1 ! $ move ! (34 ∷ 35 ∷ []) $ forget ! 0 refl $ free1 ! $ move ! (32 ∷ 33 ∷ []) $ forget ! 0 refl $ free1 ! $ move ! (30 ∷ 31 ∷ []) $ forget ! 0 refl $ free1 ! $ move ! (28 ∷ 29 ∷ []) $ forget ! 0 refl $ free1 ! $ move ! (26 ∷ 27 ∷ []) $ forget ! 0 refl $ free1 ! $ move ! (24 ∷ 25 ∷ []) $ forget ! 0 refl $ free1 ! $ move ! (22 ∷ 23 ∷ []) $ forget ! 0 refl $ free1 ! $ move ! (20 ∷ 21 ∷ []) $ forget ! 0 refl $ free1 ! $ move ! (18 ∷ 19 ∷ []) $ forget ! 0 refl $ free1 ! $ move ! (16 ∷ 17 ∷ []) $ forget ! 0 refl $ free1 ! $ move ! (14 ∷ 15 ∷ []) $ forget ! 0 refl $ free1 ! $ move ! (12 ∷ 13 ∷ []) $ forget ! 0 refl $ free1 ! $ move ! (10 ∷ 11 ∷ []) $ forget ! 0 refl $ free1 ! $ move ! (8 ∷ 9 ∷ []) $ forget ! 0 refl $ free1 ! $ free0 ! $ by ! (exits r3 ok·3 (pages₃ kept wanted pages nodes register out r3 part-pages₃ part-nodes₃ part-register₃ out₃) (sym (refl ∙ sym (part-same ((r2 kept wanted pages nodes register out) .pages) pages part-pages₃ same·3-pages))) (nodes₃ kept wanted pages nodes register out r3 part-pages₃ part-nodes₃ part-register₃ out₃) (sym (refl ∙ sym (part-same ((r2 kept wanted pages nodes register out) .nodes) nodes part-nodes₃ same·3-nodes))) (register₃ kept wanted pages nodes register out r3 part-pages₃ part-nodes₃ part-register₃ out₃) (sym (refl ∙ sym (part-same ((r2 kept wanted pages nodes register out) .register) register part-register₃ same·3-register))) out₃ (sym (refl ∙ sym same·3-out))))))))))))))))))))))))))))))
 
 module _ {M : Type 1} (𝓤 : URA M) (H : Heap 𝓤) (A : Atoms 𝓤) (W : Given 𝓤 H A) (mem : Memory → SProp 𝓤) (run : Routine → Fun 𝓤) where
   walks : (𝓣 : Tables 𝓤 H) → Triple 𝓤 (𝓣 .C #store-for) (Call-store-for.Asked 𝓤 H A mem run) → Triple 𝓤 (𝓣 .C #lengths-of) (Call-lengths-of.Asked 𝓤 H A mem run) → Triple 𝓤 (𝓣 .C #step-within) (Call-step-within.Asked 𝓤 H A mem run) → Walks 𝓤 H A respond‴.ended stayed (WpFn 𝓤 H (𝓣 .C) (𝓣 .Λ) code.function) (respond‴.clauses 𝓤 H A mem run)

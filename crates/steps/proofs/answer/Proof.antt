@@ -103,7 +103,7 @@ use Rattle.steps.proofs.answer.Statement as stated
 use Rattle.steps.proofs.answer.Code as code
 use denote.Memory.{pointee}
 use denote.Lend.{Held}
-use Rattle.steps.proofs.answer.Proof.Asks.{r1, arr7₁}
+use Rattle.steps.proofs.answer.Proof.Asks.{r1, arr7₁, r2, r5}
 
 abbrev stayed : Stays (answer‴.ended .signature .params) (answer‴.ended .kept)
 stayed = (stay-none (λ _. Kept′.row) yes, (stay-none (λ _. Cutter′.row) yes, (stay-none-slice (0 ∷ []) tt (plain (λ _. u8)) yes, (stay-slice (1 ∷ []) tt (plain (λ _. u8)), (stay-slice (2 ∷ []) tt (plain (λ _. u32)), (stay-slice (3 ∷ []) tt (plain (λ _. Record′.row)), tt))))))
@@ -141,8 +141,8 @@ module _ {M : Type 1} (𝓤 : URA M) (H : Heap 𝓤) (A : Atoms 𝓤) (W : Given
       (λ ok·1 same·1-arr7. move ! (2 ∷ 3 ∷ 4 ∷ []) $ back-mut ! tt u8 (ν·arr7 ∷ []) fullShare l₇ 0 γ·arr7 1024 arr7 (arr7₁ kept c text pages nodes register arr7) ν·1-arr7 γ·1-arr7 (count·arr7) same·1-arr7 room·arr7 $ move ! (2 ∷ 3 ∷ 4 ∷ 5 ∷ 6 ∷ 7 ∷ 8 ∷ 9 ∷ 0 ∷ 1 ∷ 10 ∷ []) $ land ! (from ! (stop !)) (init ! 35 refl (Step′.typed 𝓤 H A W (r1 kept c text pages nodes register arr7) ok·1)) $
       here ! (‵ (flft κ·text q·text) ∷ ‵ (ShrAt u8 κ·text b·text o·text γ·text (length text) text) ∷ ‵ (flft κ·pages q·pages) ∷ ‵ (MutAt u8 κ·pages b·pages o·pages γ·pages (length pages) pages) ∷ ‵ (flft κ·nodes q·nodes) ∷ ‵ (MutAt u32 κ·nodes b·nodes o·nodes γ·nodes (length nodes) nodes) ∷ ‵ (flft κ·register q·register) ∷ ‵ (MutAt Record′.row κ·register b·register o·register γ·register (length register) register) ∷ ‵ (flft (ν·arr7 ∷ []) fullShare) ∷ ‵ (MutAt u8 (ν·arr7 ∷ []) l₇ 0 γ·arr7 1024 (arr7₁ kept c text pages nodes register arr7)) ∷ ‵ (flent (ν·arr7 ∷ []) (Held u8 1024 l₇ 0 γ·arr7)) ∷ empty (sliceTy (tyRef erased imm (pointee (u8 .written)))) l₂₃ (empty (tyRef erased imm (tyArray (pointee (u8 .written)) 1024)) l₂₂ (empty (sliceTy (tyRef erased mut (pointee (u8 .written)))) l₂₁ (empty (tyRef erased mut (tyArray (pointee (u8 .written)) 1024)) l₂₀ (empty (sliceTy (tyRef erased mut (pointee (Record′.row .written)))) l₁₉ (empty (tyRef erased mut (pointee (Record′.row .written))) l₁₈ (empty (sliceTy (tyRef erased mut (pointee (u32 .written)))) l₁₇ (empty (tyRef erased mut (pointee (u32 .written))) l₁₆ (empty (sliceTy (tyRef erased mut (pointee (u8 .written)))) l₁₅ (empty (tyRef erased mut (pointee (u8 .written))) l₁₄ (holds (sliceTy (tyRef erased mut (pointee (u8 .written)))) l₁₃ (sliceVal (l₇, 0) 1024) (holds (tyRef erased mut (tyArray (pointee (u8 .written)) 1024)) l₁₂ (vptr l₇ 0) (holds (tyAt (code.function .locals) 11) l₁₁ (Step′.mach (r1 kept c text pages nodes register arr7)) (empty tyBool l₁₀ (empty (tyAt (code.function .locals) 9) l₉ (empty (tyAt (code.function .locals) 8) l₈ (‵ (fdies (tyAt (code.function .locals) 7) l₇) ∷ holds (sliceTy (tyRef (named 3) mut (pointee (Record′.row .written)))) l₆ (sliceVal (b·register, o·register) (length register)) (holds (sliceTy (tyRef (named 2) mut (pointee (u32 .written)))) l₅ (sliceVal (b·nodes, o·nodes) (length nodes)) (holds (sliceTy (tyRef (named 1) mut (pointee (u8 .written)))) l₄ (sliceVal (b·pages, o·pages) (length pages)) (holds (sliceTy (tyRef (named 0) imm (pointee (u8 .written)))) l₃ (sliceVal (b·text, o·text) (length text)) (holds (tyAt (code.function .locals) 2) l₂ (Cutter′.mach c) (holds (tyAt (code.function .locals) 1) l₁ (Kept′.mach kept) (empty (tyAt (code.function .locals) 0) l₀ []))))))))))))))))))))))) $
       Call-wanted-by.calls ! mem run (fmOf 𝓤 H (W .laws) 𝓣) known-wanted-by (r1 kept c text pages nodes register arr7) ok·1 (and-then ! (load ! (from ! (stop !)) (look ! 36 refl)) (no-more !))
-      (λ r2 ok·2. land ! (from ! (stop !)) (init ! 41 refl (Wanted′.typed 𝓤 H A W r2 ok·2)) $
-      here ! (‵ (flft κ·text q·text) ∷ ‵ (ShrAt u8 κ·text b·text o·text γ·text (length text) text) ∷ ‵ (flft κ·pages q·pages) ∷ ‵ (MutAt u8 κ·pages b·pages o·pages γ·pages (length pages) pages) ∷ ‵ (flft κ·nodes q·nodes) ∷ ‵ (MutAt u32 κ·nodes b·nodes o·nodes γ·nodes (length nodes) nodes) ∷ ‵ (flft κ·register q·register) ∷ ‵ (MutAt Record′.row κ·register b·register o·register γ·register (length register) register) ∷ ‵ (flft (ν·arr7 ∷ []) fullShare) ∷ ‵ (MutAt u8 (ν·arr7 ∷ []) l₇ 0 γ·arr7 1024 (arr7₁ kept c text pages nodes register arr7)) ∷ ‵ (flent (ν·arr7 ∷ []) (Held u8 1024 l₇ 0 γ·arr7)) ∷ empty (sliceTy (tyRef erased imm (pointee (u8 .written)))) l₂₃ (empty (tyRef erased imm (tyArray (pointee (u8 .written)) 1024)) l₂₂ (empty (sliceTy (tyRef erased mut (pointee (u8 .written)))) l₂₁ (empty (tyRef erased mut (tyArray (pointee (u8 .written)) 1024)) l₂₀ (empty (sliceTy (tyRef erased mut (pointee (Record′.row .written)))) l₁₉ (empty (tyRef erased mut (pointee (Record′.row .written))) l₁₈ (empty (sliceTy (tyRef erased mut (pointee (u32 .written)))) l₁₇ (empty (tyRef erased mut (pointee (u32 .written))) l₁₆ (empty (sliceTy (tyRef erased mut (pointee (u8 .written)))) l₁₅ (empty (tyRef erased mut (pointee (u8 .written))) l₁₄ (holds (sliceTy (tyRef erased mut (pointee (u8 .written)))) l₁₃ (sliceVal (l₇, 0) 1024) (holds (tyRef erased mut (tyArray (pointee (u8 .written)) 1024)) l₁₂ (vptr l₇ 0) (holds (tyAt (code.function .locals) 11) l₁₁ (Step′.mach (r1 kept c text pages nodes register arr7)) (empty tyBool l₁₀ (empty (tyAt (code.function .locals) 9) l₉ (holds (tyAt (code.function .locals) 8) l₈ (Wanted′.mach r2) (‵ (fdies (tyAt (code.function .locals) 7) l₇) ∷ holds (sliceTy (tyRef (named 3) mut (pointee (Record′.row .written)))) l₆ (sliceVal (b·register, o·register) (length register)) (holds (sliceTy (tyRef (named 2) mut (pointee (u32 .written)))) l₅ (sliceVal (b·nodes, o·nodes) (length nodes)) (holds (sliceTy (tyRef (named 1) mut (pointee (u8 .written)))) l₄ (sliceVal (b·pages, o·pages) (length pages)) (holds (sliceTy (tyRef (named 0) imm (pointee (u8 .written)))) l₃ (sliceVal (b·text, o·text) (length text)) (holds (tyAt (code.function .locals) 2) l₂ (Cutter′.mach c) (holds (tyAt (code.function .locals) 1) l₁ (Kept′.mach kept) (empty (tyAt (code.function .locals) 0) l₀ []))))))))))))))))))))))) $
+      (λ ok·2. land ! (from ! (stop !)) (init ! 41 refl (Wanted′.typed 𝓤 H A W (r2 kept c text pages nodes register arr7) ok·2)) $
+      here ! (‵ (flft κ·text q·text) ∷ ‵ (ShrAt u8 κ·text b·text o·text γ·text (length text) text) ∷ ‵ (flft κ·pages q·pages) ∷ ‵ (MutAt u8 κ·pages b·pages o·pages γ·pages (length pages) pages) ∷ ‵ (flft κ·nodes q·nodes) ∷ ‵ (MutAt u32 κ·nodes b·nodes o·nodes γ·nodes (length nodes) nodes) ∷ ‵ (flft κ·register q·register) ∷ ‵ (MutAt Record′.row κ·register b·register o·register γ·register (length register) register) ∷ ‵ (flft (ν·arr7 ∷ []) fullShare) ∷ ‵ (MutAt u8 (ν·arr7 ∷ []) l₇ 0 γ·arr7 1024 (arr7₁ kept c text pages nodes register arr7)) ∷ ‵ (flent (ν·arr7 ∷ []) (Held u8 1024 l₇ 0 γ·arr7)) ∷ empty (sliceTy (tyRef erased imm (pointee (u8 .written)))) l₂₃ (empty (tyRef erased imm (tyArray (pointee (u8 .written)) 1024)) l₂₂ (empty (sliceTy (tyRef erased mut (pointee (u8 .written)))) l₂₁ (empty (tyRef erased mut (tyArray (pointee (u8 .written)) 1024)) l₂₀ (empty (sliceTy (tyRef erased mut (pointee (Record′.row .written)))) l₁₉ (empty (tyRef erased mut (pointee (Record′.row .written))) l₁₈ (empty (sliceTy (tyRef erased mut (pointee (u32 .written)))) l₁₇ (empty (tyRef erased mut (pointee (u32 .written))) l₁₆ (empty (sliceTy (tyRef erased mut (pointee (u8 .written)))) l₁₅ (empty (tyRef erased mut (pointee (u8 .written))) l₁₄ (holds (sliceTy (tyRef erased mut (pointee (u8 .written)))) l₁₃ (sliceVal (l₇, 0) 1024) (holds (tyRef erased mut (tyArray (pointee (u8 .written)) 1024)) l₁₂ (vptr l₇ 0) (holds (tyAt (code.function .locals) 11) l₁₁ (Step′.mach (r1 kept c text pages nodes register arr7)) (empty tyBool l₁₀ (empty (tyAt (code.function .locals) 9) l₉ (holds (tyAt (code.function .locals) 8) l₈ (Wanted′.mach (r2 kept c text pages nodes register arr7)) (‵ (fdies (tyAt (code.function .locals) 7) l₇) ∷ holds (sliceTy (tyRef (named 3) mut (pointee (Record′.row .written)))) l₆ (sliceVal (b·register, o·register) (length register)) (holds (sliceTy (tyRef (named 2) mut (pointee (u32 .written)))) l₅ (sliceVal (b·nodes, o·nodes) (length nodes)) (holds (sliceTy (tyRef (named 1) mut (pointee (u8 .written)))) l₄ (sliceVal (b·pages, o·pages) (length pages)) (holds (sliceTy (tyRef (named 0) imm (pointee (u8 .written)))) l₃ (sliceVal (b·text, o·text) (length text)) (holds (tyAt (code.function .locals) 2) l₂ (Cutter′.mach c) (holds (tyAt (code.function .locals) 1) l₁ (Kept′.mach kept) (empty (tyAt (code.function .locals) 0) l₀ []))))))))))))))))))))))) $
       assigns ! (addr ! (from ! (fld ! refl (hop ! (look-in ! 48 (sub ! 0 refl (whole !))) (stop !))))) (from ! (stop !)) (init ! 29 refl (tt, tt)) $
       assigns ! (agg ! (and-then ! (load ! (from ! (stop !)) (look ! 29 refl)) (and-then ! (load ! (from ! (fld ! refl (stop !))) (look-in ! 48 (sub ! 1 refl (whole !)))) (no-more !)))) (from ! (stop !)) (init ! 27 refl (tt, (tt, (record { fits = room·pages .0 }, tt)))) $
       assigns ! (addr ! (from ! (fld ! refl (hop ! (look-in ! 46 (sub ! 0 refl (whole !))) (stop !))))) (from ! (stop !)) (init ! 25 refl (tt, tt)) $
@@ -152,21 +152,21 @@ module _ {M : Type 1} (𝓤 : URA M) (H : Heap 𝓤) (A : Atoms 𝓤) (W : Given
       assigns ! (addr ! (from ! (stop !))) (from ! (stop !)) (init ! 17 refl (tt, tt)) $
       assigns ! (agg ! (and-then ! (load ! (from ! (stop !)) (look ! 17 refl)) (and-then ! (big-lit ! (record { fits = lit< tt })) (no-more !)))) (from ! (stop !)) (init ! 15 refl (tt, (tt, (record { fits = room·arr7 .0 }, tt)))) $
       move ! (2 ∷ 3 ∷ []) $ lend-mut ! tt u8 κ·pages q·pages b·pages o·pages γ·pages (length pages) pages (refl) (λ ν·3-pages γ·3-pages. move ! (5 ∷ 6 ∷ []) $ lend-mut ! tt u32 κ·nodes q·nodes b·nodes o·nodes γ·nodes (length nodes) nodes (refl) (λ ν·3-nodes γ·3-nodes. move ! (8 ∷ 9 ∷ []) $ lend-mut ! tt Record′.row κ·register q·register b·register o·register γ·register (length register) register (refl) (λ ν·3-register γ·3-register. move ! (11 ∷ 12 ∷ []) $ lend-mut ! tt u8 (ν·arr7 ∷ []) fullShare l₇ 0 γ·arr7 1024 (arr7₁ kept c text pages nodes register arr7) (count·arr7 ∙ sym same·1-arr7) (λ ν·3-arr7 γ·3-arr7. move ! (9 ∷ 10 ∷ 6 ∷ 7 ∷ 3 ∷ 4 ∷ 0 ∷ 1 ∷ []) $
-      Call-respond.calls ! mem run (fmOf 𝓤 H (W .laws) 𝓣) known-respond kept r2 (ν·3-pages ∷ []) fullShare b·pages o·pages γ·3-pages (length pages) pages (ν·3-nodes ∷ []) fullShare b·nodes o·nodes γ·3-nodes (length nodes) nodes (ν·3-register ∷ []) fullShare b·register o·register γ·3-register (length register) register (ν·3-arr7 ∷ []) fullShare l₇ 0 γ·3-arr7 1024 (arr7₁ kept c text pages nodes register arr7) ok·kept ok·2 (and-then ! (load ! (from ! (stop !)) (look ! 51 refl)) (and-then ! (load ! (from ! (stop !)) (look ! 38 refl)) (and-then ! (load ! (from ! (stop !)) (look ! 24 refl)) (and-then ! (load ! (from ! (stop !)) (look ! 20 refl)) (and-then ! (load ! (from ! (stop !)) (look ! 16 refl)) (and-then ! (load ! (from ! (stop !)) (look ! 12 refl)) (no-more !)))))))
+      Call-respond.calls ! mem run (fmOf 𝓤 H (W .laws) 𝓣) known-respond kept (r2 kept c text pages nodes register arr7) (ν·3-pages ∷ []) fullShare b·pages o·pages γ·3-pages (length pages) pages (ν·3-nodes ∷ []) fullShare b·nodes o·nodes γ·3-nodes (length nodes) nodes (ν·3-register ∷ []) fullShare b·register o·register γ·3-register (length register) register (ν·3-arr7 ∷ []) fullShare l₇ 0 γ·3-arr7 1024 (arr7₁ kept c text pages nodes register arr7) ok·kept ok·2 (and-then ! (load ! (from ! (stop !)) (look ! 51 refl)) (and-then ! (load ! (from ! (stop !)) (look ! 38 refl)) (and-then ! (load ! (from ! (stop !)) (look ! 24 refl)) (and-then ! (load ! (from ! (stop !)) (look ! 20 refl)) (and-then ! (load ! (from ! (stop !)) (look ! 16 refl)) (and-then ! (load ! (from ! (stop !)) (look ! 12 refl)) (no-more !)))))))
       (λ r3 pages₃ nodes₃ register₃ arr7₃ ok·3 same·3-pages same·3-nodes same·3-register same·3-arr7. move ! (0 ∷ 1 ∷ 11 ∷ []) $ back-mut ! tt u8 κ·pages q·pages b·pages o·pages γ·pages (length pages) pages pages₃ ν·3-pages γ·3-pages (refl) same·3-pages room·pages $ move ! (2 ∷ 3 ∷ 10 ∷ []) $ back-mut ! tt u32 κ·nodes q·nodes b·nodes o·nodes γ·nodes (length nodes) nodes nodes₃ ν·3-nodes γ·3-nodes (refl) same·3-nodes room·nodes $ move ! (4 ∷ 5 ∷ 9 ∷ []) $ back-mut ! tt Record′.row κ·register q·register b·register o·register γ·register (length register) register register₃ ν·3-register γ·3-register (refl) same·3-register room·register $ move ! (6 ∷ 7 ∷ 8 ∷ []) $ back-mut ! tt u8 (ν·arr7 ∷ []) fullShare l₇ 0 γ·arr7 1024 (arr7₁ kept c text pages nodes register arr7) arr7₃ ν·3-arr7 γ·3-arr7 (count·arr7 ∙ sym same·1-arr7) same·3-arr7 room·arr7 $ move ! (8 ∷ 9 ∷ 6 ∷ 7 ∷ 4 ∷ 5 ∷ 2 ∷ 3 ∷ 0 ∷ 1 ∷ 10 ∷ []) $ land ! (from ! (stop !)) (init ! 39 refl (Turn′.typed 𝓤 H A W r3 ok·3)) $
-      here ! (‵ (flft κ·text q·text) ∷ ‵ (ShrAt u8 κ·text b·text o·text γ·text (length text) text) ∷ ‵ (flft κ·pages q·pages) ∷ ‵ (MutAt u8 κ·pages b·pages o·pages γ·pages (length pages) pages₃) ∷ ‵ (flft κ·nodes q·nodes) ∷ ‵ (MutAt u32 κ·nodes b·nodes o·nodes γ·nodes (length nodes) nodes₃) ∷ ‵ (flft κ·register q·register) ∷ ‵ (MutAt Record′.row κ·register b·register o·register γ·register (length register) register₃) ∷ ‵ (flft (ν·arr7 ∷ []) fullShare) ∷ ‵ (MutAt u8 (ν·arr7 ∷ []) l₇ 0 γ·arr7 1024 arr7₃) ∷ ‵ (flent (ν·arr7 ∷ []) (Held u8 1024 l₇ 0 γ·arr7)) ∷ empty (sliceTy (tyRef erased imm (pointee (u8 .written)))) l₂₃ (empty (tyRef erased imm (tyArray (pointee (u8 .written)) 1024)) l₂₂ (holds (sliceTy (tyRef erased mut (pointee (u8 .written)))) l₂₁ (sliceVal (l₇, 0) 1024) (holds (tyRef erased mut (tyArray (pointee (u8 .written)) 1024)) l₂₀ (vptr l₇ 0) (holds (sliceTy (tyRef erased mut (pointee (Record′.row .written)))) l₁₉ (sliceVal (b·register, o·register) (length register)) (holds (tyRef erased mut (pointee (Record′.row .written))) l₁₈ (vptr b·register o·register) (holds (sliceTy (tyRef erased mut (pointee (u32 .written)))) l₁₇ (sliceVal (b·nodes, o·nodes) (length nodes)) (holds (tyRef erased mut (pointee (u32 .written))) l₁₆ (vptr b·nodes o·nodes) (holds (sliceTy (tyRef erased mut (pointee (u8 .written)))) l₁₅ (sliceVal (b·pages, o·pages) (length pages)) (holds (tyRef erased mut (pointee (u8 .written))) l₁₄ (vptr b·pages o·pages) (holds (sliceTy (tyRef erased mut (pointee (u8 .written)))) l₁₃ (sliceVal (l₇, 0) 1024) (holds (tyRef erased mut (tyArray (pointee (u8 .written)) 1024)) l₁₂ (vptr l₇ 0) (holds (tyAt (code.function .locals) 11) l₁₁ (Step′.mach (r1 kept c text pages nodes register arr7)) (empty tyBool l₁₀ (holds (tyAt (code.function .locals) 9) l₉ (Turn′.mach r3) (holds (tyAt (code.function .locals) 8) l₈ (Wanted′.mach r2) (‵ (fdies (tyAt (code.function .locals) 7) l₇) ∷ holds (sliceTy (tyRef (named 3) mut (pointee (Record′.row .written)))) l₆ (sliceVal (b·register, o·register) (length register)) (holds (sliceTy (tyRef (named 2) mut (pointee (u32 .written)))) l₅ (sliceVal (b·nodes, o·nodes) (length nodes)) (holds (sliceTy (tyRef (named 1) mut (pointee (u8 .written)))) l₄ (sliceVal (b·pages, o·pages) (length pages)) (holds (sliceTy (tyRef (named 0) imm (pointee (u8 .written)))) l₃ (sliceVal (b·text, o·text) (length text)) (holds (tyAt (code.function .locals) 2) l₂ (Cutter′.mach c) (holds (tyAt (code.function .locals) 1) l₁ (Kept′.mach kept) (empty (tyAt (code.function .locals) 0) l₀ []))))))))))))))))))))))) $
+      here ! (‵ (flft κ·text q·text) ∷ ‵ (ShrAt u8 κ·text b·text o·text γ·text (length text) text) ∷ ‵ (flft κ·pages q·pages) ∷ ‵ (MutAt u8 κ·pages b·pages o·pages γ·pages (length pages) pages₃) ∷ ‵ (flft κ·nodes q·nodes) ∷ ‵ (MutAt u32 κ·nodes b·nodes o·nodes γ·nodes (length nodes) nodes₃) ∷ ‵ (flft κ·register q·register) ∷ ‵ (MutAt Record′.row κ·register b·register o·register γ·register (length register) register₃) ∷ ‵ (flft (ν·arr7 ∷ []) fullShare) ∷ ‵ (MutAt u8 (ν·arr7 ∷ []) l₇ 0 γ·arr7 1024 arr7₃) ∷ ‵ (flent (ν·arr7 ∷ []) (Held u8 1024 l₇ 0 γ·arr7)) ∷ empty (sliceTy (tyRef erased imm (pointee (u8 .written)))) l₂₃ (empty (tyRef erased imm (tyArray (pointee (u8 .written)) 1024)) l₂₂ (holds (sliceTy (tyRef erased mut (pointee (u8 .written)))) l₂₁ (sliceVal (l₇, 0) 1024) (holds (tyRef erased mut (tyArray (pointee (u8 .written)) 1024)) l₂₀ (vptr l₇ 0) (holds (sliceTy (tyRef erased mut (pointee (Record′.row .written)))) l₁₉ (sliceVal (b·register, o·register) (length register)) (holds (tyRef erased mut (pointee (Record′.row .written))) l₁₈ (vptr b·register o·register) (holds (sliceTy (tyRef erased mut (pointee (u32 .written)))) l₁₇ (sliceVal (b·nodes, o·nodes) (length nodes)) (holds (tyRef erased mut (pointee (u32 .written))) l₁₆ (vptr b·nodes o·nodes) (holds (sliceTy (tyRef erased mut (pointee (u8 .written)))) l₁₅ (sliceVal (b·pages, o·pages) (length pages)) (holds (tyRef erased mut (pointee (u8 .written))) l₁₄ (vptr b·pages o·pages) (holds (sliceTy (tyRef erased mut (pointee (u8 .written)))) l₁₃ (sliceVal (l₇, 0) 1024) (holds (tyRef erased mut (tyArray (pointee (u8 .written)) 1024)) l₁₂ (vptr l₇ 0) (holds (tyAt (code.function .locals) 11) l₁₁ (Step′.mach (r1 kept c text pages nodes register arr7)) (empty tyBool l₁₀ (holds (tyAt (code.function .locals) 9) l₉ (Turn′.mach r3) (holds (tyAt (code.function .locals) 8) l₈ (Wanted′.mach (r2 kept c text pages nodes register arr7)) (‵ (fdies (tyAt (code.function .locals) 7) l₇) ∷ holds (sliceTy (tyRef (named 3) mut (pointee (Record′.row .written)))) l₆ (sliceVal (b·register, o·register) (length register)) (holds (sliceTy (tyRef (named 2) mut (pointee (u32 .written)))) l₅ (sliceVal (b·nodes, o·nodes) (length nodes)) (holds (sliceTy (tyRef (named 1) mut (pointee (u8 .written)))) l₄ (sliceVal (b·pages, o·pages) (length pages)) (holds (sliceTy (tyRef (named 0) imm (pointee (u8 .written)))) l₃ (sliceVal (b·text, o·text) (length text)) (holds (tyAt (code.function .locals) 2) l₂ (Cutter′.mach c) (holds (tyAt (code.function .locals) 1) l₁ (Kept′.mach kept) (empty (tyAt (code.function .locals) 0) l₀ []))))))))))))))))))))))) $
       assigns ! (addr ! (from ! (stop !))) (from ! (stop !)) (init ! 13 refl (tt, tt)) $
       assigns ! (agg ! (and-then ! (load ! (from ! (stop !)) (look ! 13 refl)) (and-then ! (big-lit ! (record { fits = lit< tt })) (no-more !)))) (from ! (stop !)) (init ! 11 refl (tt, (tt, (record { fits = room·arr7 .0 }, tt)))) $
       move ! (8 ∷ 9 ∷ []) $ lend-shr ! tt u8 (ν·arr7 ∷ []) fullShare l₇ 0 γ·arr7 1024 arr7₃ (count·arr7 ∙ sym same·1-arr7 ∙ sym same·3-arr7) (λ ν·4-arr7 γ·4-arr7.
       Call-write-out.calls ! mem run (fmOf 𝓤 H (W .laws) 𝓣) known-write-out (ν·4-arr7 ∷ []) fullShare l₇ 0 γ·4-arr7 1024 arr7₃ (r3 .len) (Turn′.ok-len r3 ok·3) (and-then ! (load ! (from ! (stop !)) (look ! 12 refl)) (and-then ! (load ! (from ! (fld ! refl (stop !))) (look-in ! 40 (sub ! 1 refl (whole !)))) (no-more !)))
       (λ r4 ok·4. back-shr ! tt u8 (ν·arr7 ∷ []) fullShare l₇ 0 γ·arr7 1024 arr7₃ ν·4-arr7 (count·arr7 ∙ sym same·1-arr7 ∙ sym same·3-arr7) room·arr7 $ move ! (2 ∷ 3 ∷ 4 ∷ 5 ∷ 6 ∷ 7 ∷ 8 ∷ 9 ∷ 0 ∷ 1 ∷ 10 ∷ []) $ land ! (from ! (stop !)) (init ! 37 refl (tt, tt)) $
-      here ! (‵ (flft κ·text q·text) ∷ ‵ (ShrAt u8 κ·text b·text o·text γ·text (length text) text) ∷ ‵ (flft κ·pages q·pages) ∷ ‵ (MutAt u8 κ·pages b·pages o·pages γ·pages (length pages) pages₃) ∷ ‵ (flft κ·nodes q·nodes) ∷ ‵ (MutAt u32 κ·nodes b·nodes o·nodes γ·nodes (length nodes) nodes₃) ∷ ‵ (flft κ·register q·register) ∷ ‵ (MutAt Record′.row κ·register b·register o·register γ·register (length register) register₃) ∷ ‵ (flft (ν·arr7 ∷ []) fullShare) ∷ ‵ (MutAt u8 (ν·arr7 ∷ []) l₇ 0 γ·arr7 1024 arr7₃) ∷ ‵ (flent (ν·arr7 ∷ []) (Held u8 1024 l₇ 0 γ·arr7)) ∷ holds (sliceTy (tyRef erased imm (pointee (u8 .written)))) l₂₃ (sliceVal (l₇, 0) 1024) (holds (tyRef erased imm (tyArray (pointee (u8 .written)) 1024)) l₂₂ (vptr l₇ 0) (holds (sliceTy (tyRef erased mut (pointee (u8 .written)))) l₂₁ (sliceVal (l₇, 0) 1024) (holds (tyRef erased mut (tyArray (pointee (u8 .written)) 1024)) l₂₀ (vptr l₇ 0) (holds (sliceTy (tyRef erased mut (pointee (Record′.row .written)))) l₁₉ (sliceVal (b·register, o·register) (length register)) (holds (tyRef erased mut (pointee (Record′.row .written))) l₁₈ (vptr b·register o·register) (holds (sliceTy (tyRef erased mut (pointee (u32 .written)))) l₁₇ (sliceVal (b·nodes, o·nodes) (length nodes)) (holds (tyRef erased mut (pointee (u32 .written))) l₁₆ (vptr b·nodes o·nodes) (holds (sliceTy (tyRef erased mut (pointee (u8 .written)))) l₁₅ (sliceVal (b·pages, o·pages) (length pages)) (holds (tyRef erased mut (pointee (u8 .written))) l₁₄ (vptr b·pages o·pages) (holds (sliceTy (tyRef erased mut (pointee (u8 .written)))) l₁₃ (sliceVal (l₇, 0) 1024) (holds (tyRef erased mut (tyArray (pointee (u8 .written)) 1024)) l₁₂ (vptr l₇ 0) (holds (tyAt (code.function .locals) 11) l₁₁ (Step′.mach (r1 kept c text pages nodes register arr7)) (holds tyBool l₁₀ (vbool r4) (holds (tyAt (code.function .locals) 9) l₉ (Turn′.mach r3) (holds (tyAt (code.function .locals) 8) l₈ (Wanted′.mach r2) (‵ (fdies (tyAt (code.function .locals) 7) l₇) ∷ holds (sliceTy (tyRef (named 3) mut (pointee (Record′.row .written)))) l₆ (sliceVal (b·register, o·register) (length register)) (holds (sliceTy (tyRef (named 2) mut (pointee (u32 .written)))) l₅ (sliceVal (b·nodes, o·nodes) (length nodes)) (holds (sliceTy (tyRef (named 1) mut (pointee (u8 .written)))) l₄ (sliceVal (b·pages, o·pages) (length pages)) (holds (sliceTy (tyRef (named 0) imm (pointee (u8 .written)))) l₃ (sliceVal (b·text, o·text) (length text)) (holds (tyAt (code.function .locals) 2) l₂ (Cutter′.mach c) (holds (tyAt (code.function .locals) 1) l₁ (Kept′.mach kept) (empty (tyAt (code.function .locals) 0) l₀ []))))))))))))))))))))))) $
+      here ! (‵ (flft κ·text q·text) ∷ ‵ (ShrAt u8 κ·text b·text o·text γ·text (length text) text) ∷ ‵ (flft κ·pages q·pages) ∷ ‵ (MutAt u8 κ·pages b·pages o·pages γ·pages (length pages) pages₃) ∷ ‵ (flft κ·nodes q·nodes) ∷ ‵ (MutAt u32 κ·nodes b·nodes o·nodes γ·nodes (length nodes) nodes₃) ∷ ‵ (flft κ·register q·register) ∷ ‵ (MutAt Record′.row κ·register b·register o·register γ·register (length register) register₃) ∷ ‵ (flft (ν·arr7 ∷ []) fullShare) ∷ ‵ (MutAt u8 (ν·arr7 ∷ []) l₇ 0 γ·arr7 1024 arr7₃) ∷ ‵ (flent (ν·arr7 ∷ []) (Held u8 1024 l₇ 0 γ·arr7)) ∷ holds (sliceTy (tyRef erased imm (pointee (u8 .written)))) l₂₃ (sliceVal (l₇, 0) 1024) (holds (tyRef erased imm (tyArray (pointee (u8 .written)) 1024)) l₂₂ (vptr l₇ 0) (holds (sliceTy (tyRef erased mut (pointee (u8 .written)))) l₂₁ (sliceVal (l₇, 0) 1024) (holds (tyRef erased mut (tyArray (pointee (u8 .written)) 1024)) l₂₀ (vptr l₇ 0) (holds (sliceTy (tyRef erased mut (pointee (Record′.row .written)))) l₁₉ (sliceVal (b·register, o·register) (length register)) (holds (tyRef erased mut (pointee (Record′.row .written))) l₁₈ (vptr b·register o·register) (holds (sliceTy (tyRef erased mut (pointee (u32 .written)))) l₁₇ (sliceVal (b·nodes, o·nodes) (length nodes)) (holds (tyRef erased mut (pointee (u32 .written))) l₁₆ (vptr b·nodes o·nodes) (holds (sliceTy (tyRef erased mut (pointee (u8 .written)))) l₁₅ (sliceVal (b·pages, o·pages) (length pages)) (holds (tyRef erased mut (pointee (u8 .written))) l₁₄ (vptr b·pages o·pages) (holds (sliceTy (tyRef erased mut (pointee (u8 .written)))) l₁₃ (sliceVal (l₇, 0) 1024) (holds (tyRef erased mut (tyArray (pointee (u8 .written)) 1024)) l₁₂ (vptr l₇ 0) (holds (tyAt (code.function .locals) 11) l₁₁ (Step′.mach (r1 kept c text pages nodes register arr7)) (holds tyBool l₁₀ (vbool r4) (holds (tyAt (code.function .locals) 9) l₉ (Turn′.mach r3) (holds (tyAt (code.function .locals) 8) l₈ (Wanted′.mach (r2 kept c text pages nodes register arr7)) (‵ (fdies (tyAt (code.function .locals) 7) l₇) ∷ holds (sliceTy (tyRef (named 3) mut (pointee (Record′.row .written)))) l₆ (sliceVal (b·register, o·register) (length register)) (holds (sliceTy (tyRef (named 2) mut (pointee (u32 .written)))) l₅ (sliceVal (b·nodes, o·nodes) (length nodes)) (holds (sliceTy (tyRef (named 1) mut (pointee (u8 .written)))) l₄ (sliceVal (b·pages, o·pages) (length pages)) (holds (sliceTy (tyRef (named 0) imm (pointee (u8 .written)))) l₃ (sliceVal (b·text, o·text) (length text)) (holds (tyAt (code.function .locals) 2) l₂ (Cutter′.mach c) (holds (tyAt (code.function .locals) 1) l₁ (Kept′.mach kept) (empty (tyAt (code.function .locals) 0) l₀ []))))))))))))))))))))))) $
       Call-next-place.calls ! mem run (fmOf 𝓤 H (W .laws) 𝓣) known-next-place (r3 .kept) r4 (Turn′.ok-kept r3 ok·3) ok·4 (and-then ! (load ! (from ! (fld ! refl (stop !))) (look-in ! 40 (sub ! 0 refl (whole !)))) (and-then ! (load ! (from ! (stop !)) (look ! 38 refl)) (no-more !)))
-      (λ r5 ok·5. land ! (from ! (stop !)) (init ! 56 refl (Place′.typed 𝓤 H A W r5 ok·5)) $
-      here ! (‵ (flft κ·text q·text) ∷ ‵ (ShrAt u8 κ·text b·text o·text γ·text (length text) text) ∷ ‵ (flft κ·pages q·pages) ∷ ‵ (MutAt u8 κ·pages b·pages o·pages γ·pages (length pages) pages₃) ∷ ‵ (flft κ·nodes q·nodes) ∷ ‵ (MutAt u32 κ·nodes b·nodes o·nodes γ·nodes (length nodes) nodes₃) ∷ ‵ (flft κ·register q·register) ∷ ‵ (MutAt Record′.row κ·register b·register o·register γ·register (length register) register₃) ∷ ‵ (flft (ν·arr7 ∷ []) fullShare) ∷ ‵ (MutAt u8 (ν·arr7 ∷ []) l₇ 0 γ·arr7 1024 arr7₃) ∷ ‵ (flent (ν·arr7 ∷ []) (Held u8 1024 l₇ 0 γ·arr7)) ∷ holds (sliceTy (tyRef erased imm (pointee (u8 .written)))) l₂₃ (sliceVal (l₇, 0) 1024) (holds (tyRef erased imm (tyArray (pointee (u8 .written)) 1024)) l₂₂ (vptr l₇ 0) (holds (sliceTy (tyRef erased mut (pointee (u8 .written)))) l₂₁ (sliceVal (l₇, 0) 1024) (holds (tyRef erased mut (tyArray (pointee (u8 .written)) 1024)) l₂₀ (vptr l₇ 0) (holds (sliceTy (tyRef erased mut (pointee (Record′.row .written)))) l₁₉ (sliceVal (b·register, o·register) (length register)) (holds (tyRef erased mut (pointee (Record′.row .written))) l₁₈ (vptr b·register o·register) (holds (sliceTy (tyRef erased mut (pointee (u32 .written)))) l₁₇ (sliceVal (b·nodes, o·nodes) (length nodes)) (holds (tyRef erased mut (pointee (u32 .written))) l₁₆ (vptr b·nodes o·nodes) (holds (sliceTy (tyRef erased mut (pointee (u8 .written)))) l₁₅ (sliceVal (b·pages, o·pages) (length pages)) (holds (tyRef erased mut (pointee (u8 .written))) l₁₄ (vptr b·pages o·pages) (holds (sliceTy (tyRef erased mut (pointee (u8 .written)))) l₁₃ (sliceVal (l₇, 0) 1024) (holds (tyRef erased mut (tyArray (pointee (u8 .written)) 1024)) l₁₂ (vptr l₇ 0) (holds (tyAt (code.function .locals) 11) l₁₁ (Step′.mach (r1 kept c text pages nodes register arr7)) (holds tyBool l₁₀ (vbool r4) (holds (tyAt (code.function .locals) 9) l₉ (Turn′.mach r3) (holds (tyAt (code.function .locals) 8) l₈ (Wanted′.mach r2) (‵ (fdies (tyAt (code.function .locals) 7) l₇) ∷ holds (sliceTy (tyRef (named 3) mut (pointee (Record′.row .written)))) l₆ (sliceVal (b·register, o·register) (length register)) (holds (sliceTy (tyRef (named 2) mut (pointee (u32 .written)))) l₅ (sliceVal (b·nodes, o·nodes) (length nodes)) (holds (sliceTy (tyRef (named 1) mut (pointee (u8 .written)))) l₄ (sliceVal (b·pages, o·pages) (length pages)) (holds (sliceTy (tyRef (named 0) imm (pointee (u8 .written)))) l₃ (sliceVal (b·text, o·text) (length text)) (holds (tyAt (code.function .locals) 2) l₂ (Cutter′.mach c) (holds (tyAt (code.function .locals) 1) l₁ (Kept′.mach kept) (holds (tyAt (code.function .locals) 0) l₀ (Place′.mach r5) []))))))))))))))))))))))) $
+      (λ ok·5. land ! (from ! (stop !)) (init ! 56 refl (Place′.typed 𝓤 H A W (r5 kept c text pages nodes register arr7 r3 pages₃ nodes₃ register₃ arr7₃ r4) ok·5)) $
+      here ! (‵ (flft κ·text q·text) ∷ ‵ (ShrAt u8 κ·text b·text o·text γ·text (length text) text) ∷ ‵ (flft κ·pages q·pages) ∷ ‵ (MutAt u8 κ·pages b·pages o·pages γ·pages (length pages) pages₃) ∷ ‵ (flft κ·nodes q·nodes) ∷ ‵ (MutAt u32 κ·nodes b·nodes o·nodes γ·nodes (length nodes) nodes₃) ∷ ‵ (flft κ·register q·register) ∷ ‵ (MutAt Record′.row κ·register b·register o·register γ·register (length register) register₃) ∷ ‵ (flft (ν·arr7 ∷ []) fullShare) ∷ ‵ (MutAt u8 (ν·arr7 ∷ []) l₇ 0 γ·arr7 1024 arr7₃) ∷ ‵ (flent (ν·arr7 ∷ []) (Held u8 1024 l₇ 0 γ·arr7)) ∷ holds (sliceTy (tyRef erased imm (pointee (u8 .written)))) l₂₃ (sliceVal (l₇, 0) 1024) (holds (tyRef erased imm (tyArray (pointee (u8 .written)) 1024)) l₂₂ (vptr l₇ 0) (holds (sliceTy (tyRef erased mut (pointee (u8 .written)))) l₂₁ (sliceVal (l₇, 0) 1024) (holds (tyRef erased mut (tyArray (pointee (u8 .written)) 1024)) l₂₀ (vptr l₇ 0) (holds (sliceTy (tyRef erased mut (pointee (Record′.row .written)))) l₁₉ (sliceVal (b·register, o·register) (length register)) (holds (tyRef erased mut (pointee (Record′.row .written))) l₁₈ (vptr b·register o·register) (holds (sliceTy (tyRef erased mut (pointee (u32 .written)))) l₁₇ (sliceVal (b·nodes, o·nodes) (length nodes)) (holds (tyRef erased mut (pointee (u32 .written))) l₁₆ (vptr b·nodes o·nodes) (holds (sliceTy (tyRef erased mut (pointee (u8 .written)))) l₁₅ (sliceVal (b·pages, o·pages) (length pages)) (holds (tyRef erased mut (pointee (u8 .written))) l₁₄ (vptr b·pages o·pages) (holds (sliceTy (tyRef erased mut (pointee (u8 .written)))) l₁₃ (sliceVal (l₇, 0) 1024) (holds (tyRef erased mut (tyArray (pointee (u8 .written)) 1024)) l₁₂ (vptr l₇ 0) (holds (tyAt (code.function .locals) 11) l₁₁ (Step′.mach (r1 kept c text pages nodes register arr7)) (holds tyBool l₁₀ (vbool r4) (holds (tyAt (code.function .locals) 9) l₉ (Turn′.mach r3) (holds (tyAt (code.function .locals) 8) l₈ (Wanted′.mach (r2 kept c text pages nodes register arr7)) (‵ (fdies (tyAt (code.function .locals) 7) l₇) ∷ holds (sliceTy (tyRef (named 3) mut (pointee (Record′.row .written)))) l₆ (sliceVal (b·register, o·register) (length register)) (holds (sliceTy (tyRef (named 2) mut (pointee (u32 .written)))) l₅ (sliceVal (b·nodes, o·nodes) (length nodes)) (holds (sliceTy (tyRef (named 1) mut (pointee (u8 .written)))) l₄ (sliceVal (b·pages, o·pages) (length pages)) (holds (sliceTy (tyRef (named 0) imm (pointee (u8 .written)))) l₃ (sliceVal (b·text, o·text) (length text)) (holds (tyAt (code.function .locals) 2) l₂ (Cutter′.mach c) (holds (tyAt (code.function .locals) 1) l₁ (Kept′.mach kept) (holds (tyAt (code.function .locals) 0) l₀ (Place′.mach (r5 kept c text pages nodes register arr7 r3 pages₃ nodes₃ register₃ arr7₃ r4)) []))))))))))))))))))))))) $
       move ! (8 ∷ 9 ∷ 10 ∷ []) $ empties ! tt u8 1024 l₇ γ·arr7 arr7₃ ν·arr7 $ move ! (1 ∷ 2 ∷ 3 ∷ 4 ∷ 5 ∷ 6 ∷ 7 ∷ 8 ∷ 9 ∷ 10 ∷ 11 ∷ 12 ∷ 13 ∷ 14 ∷ 15 ∷ 16 ∷ 17 ∷ 18 ∷ 19 ∷ 20 ∷ 21 ∷ 22 ∷ 23 ∷ 24 ∷ 25 ∷ 26 ∷ 27 ∷ 28 ∷ 29 ∷ 30 ∷ 31 ∷ 32 ∷ 33 ∷ 34 ∷ 35 ∷ 36 ∷ 37 ∷ 38 ∷ 39 ∷ 40 ∷ 0 ∷ 41 ∷ 42 ∷ 43 ∷ 44 ∷ 45 ∷ 46 ∷ 47 ∷ 48 ∷ 49 ∷ 50 ∷ 51 ∷ 52 ∷ 53 ∷ 54 ∷ 55 ∷ []) $
       returns ! (look ! 54 refl) $
-      move ! (54 ∷ 55 ∷ []) $ forget ! 0 refl $ free1 ! $ move ! (52 ∷ 53 ∷ []) $ forget ! 0 refl $ free1 ! $ move ! (50 ∷ 51 ∷ []) $ forget ! 0 refl $ free1 ! $ move ! (48 ∷ 49 ∷ []) $ forget ! 0 refl $ free1 ! $ move ! (46 ∷ 47 ∷ []) $ forget ! 0 refl $ free1 ! $ move ! (44 ∷ 45 ∷ []) $ forget ! 0 refl $ free1 ! $ move ! (42 ∷ 43 ∷ []) $ forget ! 0 refl $ free1 ! $ move ! (40 ∷ 41 ∷ []) $ free1 ! $ move ! (38 ∷ 39 ∷ []) $ forget ! 0 refl $ free1 ! $ move ! (36 ∷ 37 ∷ []) $ forget ! 0 refl $ free1 ! $ move ! (34 ∷ 35 ∷ []) $ forget ! 0 refl $ free1 ! $ move ! (32 ∷ 33 ∷ []) $ forget ! 0 refl $ free1 ! $ move ! (30 ∷ 31 ∷ []) $ forget ! 0 refl $ free1 ! $ move ! (28 ∷ 29 ∷ []) $ forget ! 0 refl $ free1 ! $ move ! (26 ∷ 27 ∷ []) $ forget ! 0 refl $ free1 ! $ move ! (24 ∷ 25 ∷ []) $ forget ! 0 refl $ free1 ! $ move ! (22 ∷ 23 ∷ []) $ forget ! 0 refl $ free1 ! $ move ! (20 ∷ 21 ∷ []) $ forget ! 0 refl $ free1 ! $ move ! (18 ∷ 19 ∷ []) $ forget ! 0 refl $ free1 ! $ move ! (16 ∷ 17 ∷ []) $ forget ! 0 refl $ free1 ! $ move ! (14 ∷ 15 ∷ []) $ forget ! 0 refl $ free1 ! $ move ! (12 ∷ 13 ∷ []) $ forget ! 0 refl $ free1 ! $ move ! (10 ∷ 11 ∷ []) $ forget ! 0 refl $ free1 ! $ move ! (8 ∷ 9 ∷ []) $ forget ! 0 refl $ free1 ! $ free0 ! $ by ! (exits r5 ok·5 pages₃ (sym (refl ∙ sym same·3-pages)) nodes₃ (sym (refl ∙ sym same·3-nodes)) register₃ (sym (refl ∙ sym same·3-register)))))))))))))))))))))))))))))))))))))))
+      move ! (54 ∷ 55 ∷ []) $ forget ! 0 refl $ free1 ! $ move ! (52 ∷ 53 ∷ []) $ forget ! 0 refl $ free1 ! $ move ! (50 ∷ 51 ∷ []) $ forget ! 0 refl $ free1 ! $ move ! (48 ∷ 49 ∷ []) $ forget ! 0 refl $ free1 ! $ move ! (46 ∷ 47 ∷ []) $ forget ! 0 refl $ free1 ! $ move ! (44 ∷ 45 ∷ []) $ forget ! 0 refl $ free1 ! $ move ! (42 ∷ 43 ∷ []) $ forget ! 0 refl $ free1 ! $ move ! (40 ∷ 41 ∷ []) $ free1 ! $ move ! (38 ∷ 39 ∷ []) $ forget ! 0 refl $ free1 ! $ move ! (36 ∷ 37 ∷ []) $ forget ! 0 refl $ free1 ! $ move ! (34 ∷ 35 ∷ []) $ forget ! 0 refl $ free1 ! $ move ! (32 ∷ 33 ∷ []) $ forget ! 0 refl $ free1 ! $ move ! (30 ∷ 31 ∷ []) $ forget ! 0 refl $ free1 ! $ move ! (28 ∷ 29 ∷ []) $ forget ! 0 refl $ free1 ! $ move ! (26 ∷ 27 ∷ []) $ forget ! 0 refl $ free1 ! $ move ! (24 ∷ 25 ∷ []) $ forget ! 0 refl $ free1 ! $ move ! (22 ∷ 23 ∷ []) $ forget ! 0 refl $ free1 ! $ move ! (20 ∷ 21 ∷ []) $ forget ! 0 refl $ free1 ! $ move ! (18 ∷ 19 ∷ []) $ forget ! 0 refl $ free1 ! $ move ! (16 ∷ 17 ∷ []) $ forget ! 0 refl $ free1 ! $ move ! (14 ∷ 15 ∷ []) $ forget ! 0 refl $ free1 ! $ move ! (12 ∷ 13 ∷ []) $ forget ! 0 refl $ free1 ! $ move ! (10 ∷ 11 ∷ []) $ forget ! 0 refl $ free1 ! $ move ! (8 ∷ 9 ∷ []) $ forget ! 0 refl $ free1 ! $ free0 ! $ by ! (exits (r5 kept c text pages nodes register arr7 r3 pages₃ nodes₃ register₃ arr7₃ r4) ok·5 pages₃ (sym (refl ∙ sym same·3-pages)) nodes₃ (sym (refl ∙ sym same·3-nodes)) register₃ (sym (refl ∙ sym same·3-register)))))))))))))))))))))))))))))))))))))))
 
 module _ {M : Type 1} (𝓤 : URA M) (H : Heap 𝓤) (A : Atoms 𝓤) (W : Given 𝓤 H A) (mem : Memory → SProp 𝓤) (run : Routine → Fun 𝓤) where
   walks : (𝓣 : Tables 𝓤 H) → Triple 𝓤 (𝓣 .C #step-cut) (Call-step-cut.Asked 𝓤 H A mem run) → Triple 𝓤 (𝓣 .C #wanted-by) (Call-wanted-by.Asked 𝓤 H A mem run) → Triple 𝓤 (𝓣 .C #respond) (Call-respond.Asked 𝓤 H A mem run) → Triple 𝓤 (𝓣 .C #write-out) (Call-write-out.Asked 𝓤 H A mem run) → Triple 𝓤 (𝓣 .C #next-place) (Call-next-place.Asked 𝓤 H A mem run) → Walks 𝓤 H A answer‴.ended stayed (WpFn 𝓤 H (𝓣 .C) (𝓣 .Λ) code.function) (answer‴.clauses 𝓤 H A mem run)

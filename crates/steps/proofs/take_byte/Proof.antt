@@ -80,7 +80,7 @@ use Rattle.steps.proofs.take_byte as take-byte‴
 use Rattle.steps.proofs.take_byte.Statement as stated
 use Rattle.steps.proofs.take_byte.Code as code
 use denote.Memory.{pointee}
-use Rattle.steps.proofs.take_byte.Proof.Asks.{r1, text₁}
+use Rattle.steps.proofs.take_byte.Proof.Asks.{r1, text₁, r2}
 
 abbrev stayed : Stays (take-byte‴.ended .signature .params) (take-byte‴.ended .kept)
 stayed = (stay-none (λ _. Place′.row) yes, (stay-none (λ _. u8) yes, (stay-slice (0 ∷ []) tt (plain (λ _. u8)), (stay-slice (1 ∷ []) tt (plain (λ _. u8)), (stay-slice (2 ∷ []) tt (plain (λ _. u32)), (stay-slice (3 ∷ []) tt (plain (λ _. Record′.row)), tt))))))
@@ -121,11 +121,11 @@ module _ {M : Type 1} (𝓤 : URA M) (H : Heap 𝓤) (A : Atoms 𝓤) (W : Given
       regroup ! $
       assigns ! (of-opd ! (load ! (from ! (vrt ! refl (fld ! refl (stop !)))) (look-in ! 34 (in-variant ! 0 0 refl refl (whole !))))) (from ! (stop !)) (init ! 32 refl (Cutter′.typed 𝓤 H A W y1-0 (Fed′.ok-More-0 y1-0 (subst Fed′.Ok m·1 ok·1)))) $
       Call-same-place.calls ! mem run (fmOf 𝓤 H (W .laws) 𝓣) known-same-place (x-at .kept) y1-0 (Place′.ok-kept x-at ok·x-at) (Fed′.ok-More-0 y1-0 (subst Fed′.Ok m·1 ok·1)) (and-then ! (load ! (from ! (fld ! refl (stop !))) (look-in ! 47 (sub ! 0 refl (whole !)))) (and-then ! (load ! (from ! (stop !)) (look ! 33 refl)) (no-more !)))
-      (λ r2 ok·2. land ! (from ! (stop !)) (init ! 24 refl (Place′.typed 𝓤 H A W r2 ok·2)) $
-      here ! (‵ (flft κ·text q·text) ∷ ‵ (MutAt u8 κ·text b·text o·text γ·text (length text) (text₁ x-at b text pages nodes register)) ∷ ‵ (flft κ·pages q·pages) ∷ ‵ (MutAt u8 κ·pages b·pages o·pages γ·pages (length pages) pages) ∷ ‵ (flft κ·nodes q·nodes) ∷ ‵ (MutAt u32 κ·nodes b·nodes o·nodes γ·nodes (length nodes) nodes) ∷ ‵ (flft κ·register q·register) ∷ ‵ (MutAt Record′.row κ·register b·register o·register γ·register (length register) register) ∷ empty (sliceTy (tyRef erased mut (pointee (Record′.row .written)))) l₂₀ (empty (tyRef erased mut (pointee (Record′.row .written))) l₁₉ (empty (sliceTy (tyRef erased mut (pointee (u32 .written)))) l₁₈ (empty (tyRef erased mut (pointee (u32 .written))) l₁₇ (empty (sliceTy (tyRef erased mut (pointee (u8 .written)))) l₁₆ (empty (tyRef erased mut (pointee (u8 .written))) l₁₅ (empty (sliceTy (tyRef erased imm (pointee (u8 .written)))) l₁₄ (empty (tyRef erased imm (pointee (u8 .written))) l₁₃ (holds (tyAt (code.function .locals) 12) l₁₂ (Place′.mach r2) (holds (sliceTy (tyRef erased mut (pointee (u8 .written)))) l₁₁ (sliceVal (b·text, o·text) (length text)) (holds (tyRef erased mut (pointee (u8 .written))) l₁₀ (vptr b·text o·text) (empty (tyAt (code.function .locals) 9) l₉ (holds (tyAt (code.function .locals) 8) l₈ (Cutter′.mach y1-0) (holds (tyAt (code.function .locals) 7) l₇ (Fed′.mach (Fed.More y1-0)) (holds (sliceTy (tyRef (named 3) mut (pointee (Record′.row .written)))) l₆ (sliceVal (b·register, o·register) (length register)) (holds (sliceTy (tyRef (named 2) mut (pointee (u32 .written)))) l₅ (sliceVal (b·nodes, o·nodes) (length nodes)) (holds (sliceTy (tyRef (named 1) mut (pointee (u8 .written)))) l₄ (sliceVal (b·pages, o·pages) (length pages)) (holds (sliceTy (tyRef (named 0) mut (pointee (u8 .written)))) l₃ (sliceVal (b·text, o·text) (length text)) (holds (tyInt w8) l₂ (vint w8 b) (holds (tyAt (code.function .locals) 1) l₁ (Place′.mach x-at) (empty (tyAt (code.function .locals) 0) l₀ []))))))))))))))))))))) $
-      assigns ! (of-opd ! (load ! (from ! (stop !)) (look ! 24 refl))) (from ! (stop !)) (init ! 48 refl (Place′.typed 𝓤 H A W r2 ok·2)) $
+      (λ ok·2. land ! (from ! (stop !)) (init ! 24 refl (Place′.typed 𝓤 H A W (r2 x-at b text pages nodes register y1-0) ok·2)) $
+      here ! (‵ (flft κ·text q·text) ∷ ‵ (MutAt u8 κ·text b·text o·text γ·text (length text) (text₁ x-at b text pages nodes register)) ∷ ‵ (flft κ·pages q·pages) ∷ ‵ (MutAt u8 κ·pages b·pages o·pages γ·pages (length pages) pages) ∷ ‵ (flft κ·nodes q·nodes) ∷ ‵ (MutAt u32 κ·nodes b·nodes o·nodes γ·nodes (length nodes) nodes) ∷ ‵ (flft κ·register q·register) ∷ ‵ (MutAt Record′.row κ·register b·register o·register γ·register (length register) register) ∷ empty (sliceTy (tyRef erased mut (pointee (Record′.row .written)))) l₂₀ (empty (tyRef erased mut (pointee (Record′.row .written))) l₁₉ (empty (sliceTy (tyRef erased mut (pointee (u32 .written)))) l₁₈ (empty (tyRef erased mut (pointee (u32 .written))) l₁₇ (empty (sliceTy (tyRef erased mut (pointee (u8 .written)))) l₁₆ (empty (tyRef erased mut (pointee (u8 .written))) l₁₅ (empty (sliceTy (tyRef erased imm (pointee (u8 .written)))) l₁₄ (empty (tyRef erased imm (pointee (u8 .written))) l₁₃ (holds (tyAt (code.function .locals) 12) l₁₂ (Place′.mach (r2 x-at b text pages nodes register y1-0)) (holds (sliceTy (tyRef erased mut (pointee (u8 .written)))) l₁₁ (sliceVal (b·text, o·text) (length text)) (holds (tyRef erased mut (pointee (u8 .written))) l₁₀ (vptr b·text o·text) (empty (tyAt (code.function .locals) 9) l₉ (holds (tyAt (code.function .locals) 8) l₈ (Cutter′.mach y1-0) (holds (tyAt (code.function .locals) 7) l₇ (Fed′.mach (Fed.More y1-0)) (holds (sliceTy (tyRef (named 3) mut (pointee (Record′.row .written)))) l₆ (sliceVal (b·register, o·register) (length register)) (holds (sliceTy (tyRef (named 2) mut (pointee (u32 .written)))) l₅ (sliceVal (b·nodes, o·nodes) (length nodes)) (holds (sliceTy (tyRef (named 1) mut (pointee (u8 .written)))) l₄ (sliceVal (b·pages, o·pages) (length pages)) (holds (sliceTy (tyRef (named 0) mut (pointee (u8 .written)))) l₃ (sliceVal (b·text, o·text) (length text)) (holds (tyInt w8) l₂ (vint w8 b) (holds (tyAt (code.function .locals) 1) l₁ (Place′.mach x-at) (empty (tyAt (code.function .locals) 0) l₀ []))))))))))))))))))))) $
+      assigns ! (of-opd ! (load ! (from ! (stop !)) (look ! 24 refl))) (from ! (stop !)) (init ! 48 refl (Place′.typed 𝓤 H A W (r2 x-at b text pages nodes register y1-0) ok·2)) $
       returns ! (look ! 48 refl) $
-      move ! (48 ∷ 49 ∷ []) $ forget ! 0 refl $ free1 ! $ move ! (46 ∷ 47 ∷ []) $ forget ! 0 refl $ free1 ! $ move ! (44 ∷ 45 ∷ []) $ forget ! 0 refl $ free1 ! $ move ! (42 ∷ 43 ∷ []) $ forget ! 0 refl $ free1 ! $ move ! (40 ∷ 41 ∷ []) $ forget ! 0 refl $ free1 ! $ move ! (38 ∷ 39 ∷ []) $ forget ! 0 refl $ free1 ! $ move ! (36 ∷ 37 ∷ []) $ forget ! 0 refl $ free1 ! $ move ! (34 ∷ 35 ∷ []) $ forget ! 0 refl $ free1 ! $ move ! (32 ∷ 33 ∷ []) $ forget ! 0 refl $ free1 ! $ move ! (30 ∷ 31 ∷ []) $ free1 ! $ move ! (28 ∷ 29 ∷ []) $ forget ! 0 refl $ free1 ! $ move ! (26 ∷ 27 ∷ []) $ forget ! 0 refl $ free1 ! $ move ! (24 ∷ 25 ∷ []) $ forget ! 0 refl $ free1 ! $ move ! (22 ∷ 23 ∷ []) $ free1 ! $ move ! (20 ∷ 21 ∷ []) $ free1 ! $ move ! (18 ∷ 19 ∷ []) $ free1 ! $ move ! (16 ∷ 17 ∷ []) $ free1 ! $ move ! (14 ∷ 15 ∷ []) $ free1 ! $ move ! (12 ∷ 13 ∷ []) $ free1 ! $ move ! (10 ∷ 11 ∷ []) $ free1 ! $ move ! (8 ∷ 9 ∷ []) $ free1 ! $ free0 ! $ by ! (exits r2 ok·2 (text₁ x-at b text pages nodes register) (sym (refl ∙ sym same·1-text)) pages (sym (refl)) nodes (sym (refl)) register (sym (refl))))))
+      move ! (48 ∷ 49 ∷ []) $ forget ! 0 refl $ free1 ! $ move ! (46 ∷ 47 ∷ []) $ forget ! 0 refl $ free1 ! $ move ! (44 ∷ 45 ∷ []) $ forget ! 0 refl $ free1 ! $ move ! (42 ∷ 43 ∷ []) $ forget ! 0 refl $ free1 ! $ move ! (40 ∷ 41 ∷ []) $ forget ! 0 refl $ free1 ! $ move ! (38 ∷ 39 ∷ []) $ forget ! 0 refl $ free1 ! $ move ! (36 ∷ 37 ∷ []) $ forget ! 0 refl $ free1 ! $ move ! (34 ∷ 35 ∷ []) $ forget ! 0 refl $ free1 ! $ move ! (32 ∷ 33 ∷ []) $ forget ! 0 refl $ free1 ! $ move ! (30 ∷ 31 ∷ []) $ free1 ! $ move ! (28 ∷ 29 ∷ []) $ forget ! 0 refl $ free1 ! $ move ! (26 ∷ 27 ∷ []) $ forget ! 0 refl $ free1 ! $ move ! (24 ∷ 25 ∷ []) $ forget ! 0 refl $ free1 ! $ move ! (22 ∷ 23 ∷ []) $ free1 ! $ move ! (20 ∷ 21 ∷ []) $ free1 ! $ move ! (18 ∷ 19 ∷ []) $ free1 ! $ move ! (16 ∷ 17 ∷ []) $ free1 ! $ move ! (14 ∷ 15 ∷ []) $ free1 ! $ move ! (12 ∷ 13 ∷ []) $ free1 ! $ move ! (10 ∷ 11 ∷ []) $ free1 ! $ move ! (8 ∷ 9 ∷ []) $ free1 ! $ free0 ! $ by ! (exits (r2 x-at b text pages nodes register y1-0) ok·2 (text₁ x-at b text pages nodes register) (sym (refl ∙ sym same·1-text)) pages (sym (refl)) nodes (sym (refl)) register (sym (refl))))))
       (λ y1-0 m·1. rewrite ! 34 (λ (u : Fed). ‵ (fat fullShare Fed′.ty l₇ 0 (Fed′.mach u))) m·1 refl $ switches-to ! 1 (load ! (from ! (vrt ! refl (fld ! refl (stop !)))) (look-tag ! 34 (whole !))) (
       regroup ! $
       assigns ! (of-opd ! (load ! (from ! (vrt ! refl (fld ! refl (stop !)))) (look-in ! 34 (in-variant ! 1 0 refl refl (whole !))))) (from ! (stop !)) (init ! 30 refl (Cutter′.typed 𝓤 H A W y1-0 (Fed′.ok-Ended-0 y1-0 (subst Fed′.Ok m·1 ok·1)))) $

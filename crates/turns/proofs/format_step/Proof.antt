@@ -73,7 +73,7 @@ use Rattle.turns.proofs.format_step as format-step‴
 use Rattle.turns.proofs.format_step.Statement as stated
 use Rattle.turns.proofs.format_step.Code as code
 use denote.Memory.{pointee}
-use Rattle.turns.proofs.format_step.Proof.Asks.{r1, pages₁, nodes₁, register₁}
+use Rattle.turns.proofs.format_step.Proof.Asks.{r1, pages₁, nodes₁, register₁, r2, out₂}
 
 abbrev stayed : Stays (format-step‴.ended .signature .params) (format-step‴.ended .kept)
 stayed = (stay-none (λ _. Kept′.row) yes, (stay-none (λ _. Store′.row) yes, (stay-slice (0 ∷ []) tt (plain (λ _. u8)), (stay-slice (1 ∷ []) tt (plain (λ _. u32)), (stay-slice (2 ∷ []) tt (plain (λ _. Record′.row)), (stay-slice (3 ∷ []) tt (plain (λ _. u8)), tt))))))
@@ -117,10 +117,10 @@ module _ {M : Type 1} (𝓤 : URA M) (H : Heap 𝓤) (A : Atoms 𝓤) (W : Given
       assigns ! (agg ! (and-then ! (load ! (from ! (stop !)) (look ! 10 refl)) (and-then ! (load ! (from ! (fld ! refl (stop !))) (look-in ! 26 (sub ! 1 refl (whole !)))) (no-more !)))) (from ! (stop !)) (init ! 8 refl (tt, (tt, (record { fits = room·out .0 }, tt)))) $
       move ! (6 ∷ 7 ∷ []) $ lend-mut ! tt u8 κ·out q·out b·out o·out γ·out (length out) out (refl) (λ ν·2-out γ·2-out.
       Call-format-turn.calls ! mem run (fmOf 𝓤 H (W .laws) 𝓣) known-format-turn kept (r1 kept asked pages nodes register out) (ν·2-out ∷ []) fullShare b·out o·out γ·2-out (length out) out ok·kept ok·1 (and-then ! (load ! (from ! (stop !)) (look ! 36 refl)) (and-then ! (load ! (from ! (stop !)) (look ! 24 refl)) (and-then ! (load ! (from ! (stop !)) (look ! 8 refl)) (no-more !))))
-      (λ r2 out₂ ok·2 same·2-out. back-mut ! tt u8 κ·out q·out b·out o·out γ·out (length out) out out₂ ν·2-out γ·2-out (refl) same·2-out room·out $ move ! (2 ∷ 3 ∷ 4 ∷ 5 ∷ 6 ∷ 7 ∷ 0 ∷ 1 ∷ []) $ land ! (from ! (stop !)) (init ! 38 refl (Turn′.typed 𝓤 H A W r2 ok·2)) $
-      here ! (‵ (flft κ·pages q·pages) ∷ ‵ (MutAt u8 κ·pages b·pages o·pages γ·pages (length pages) (pages₁ kept asked pages nodes register out)) ∷ ‵ (flft κ·nodes q·nodes) ∷ ‵ (MutAt u32 κ·nodes b·nodes o·nodes γ·nodes (length nodes) (nodes₁ kept asked pages nodes register out)) ∷ ‵ (flft κ·register q·register) ∷ ‵ (MutAt Record′.row κ·register b·register o·register γ·register (length register) (register₁ kept asked pages nodes register out)) ∷ ‵ (flft κ·out q·out) ∷ ‵ (MutAt u8 κ·out b·out o·out γ·out (length out) out₂) ∷ holds (sliceTy (tyRef erased mut (pointee (u8 .written)))) l₁₅ (sliceVal (b·out, o·out) (length out)) (holds (tyRef erased mut (pointee (u8 .written))) l₁₄ (vptr b·out o·out) (holds (sliceTy (tyRef erased mut (pointee (Record′.row .written)))) l₁₃ (sliceVal (b·register, o·register) (length register)) (holds (tyRef erased mut (pointee (Record′.row .written))) l₁₂ (vptr b·register o·register) (holds (sliceTy (tyRef erased mut (pointee (u32 .written)))) l₁₁ (sliceVal (b·nodes, o·nodes) (length nodes)) (holds (tyRef erased mut (pointee (u32 .written))) l₁₀ (vptr b·nodes o·nodes) (holds (sliceTy (tyRef erased mut (pointee (u8 .written)))) l₉ (sliceVal (b·pages, o·pages) (length pages)) (holds (tyRef erased mut (pointee (u8 .written))) l₈ (vptr b·pages o·pages) (holds (tyAt (code.function .locals) 7) l₇ (Formatted′.mach (r1 kept asked pages nodes register out)) (holds (sliceTy (tyRef (named 3) mut (pointee (u8 .written)))) l₆ (sliceVal (b·out, o·out) (length out)) (holds (sliceTy (tyRef (named 2) mut (pointee (Record′.row .written)))) l₅ (sliceVal (b·register, o·register) (length register)) (holds (sliceTy (tyRef (named 1) mut (pointee (u32 .written)))) l₄ (sliceVal (b·nodes, o·nodes) (length nodes)) (holds (sliceTy (tyRef (named 0) mut (pointee (u8 .written)))) l₃ (sliceVal (b·pages, o·pages) (length pages)) (holds (tyAt (code.function .locals) 2) l₂ (Store′.mach asked) (holds (tyAt (code.function .locals) 1) l₁ (Kept′.mach kept) (holds (tyAt (code.function .locals) 0) l₀ (Turn′.mach r2) [])))))))))))))))) $
+      (λ ok·2 same·2-out. back-mut ! tt u8 κ·out q·out b·out o·out γ·out (length out) out (out₂ kept asked pages nodes register out) ν·2-out γ·2-out (refl) same·2-out room·out $ move ! (2 ∷ 3 ∷ 4 ∷ 5 ∷ 6 ∷ 7 ∷ 0 ∷ 1 ∷ []) $ land ! (from ! (stop !)) (init ! 38 refl (Turn′.typed 𝓤 H A W (r2 kept asked pages nodes register out) ok·2)) $
+      here ! (‵ (flft κ·pages q·pages) ∷ ‵ (MutAt u8 κ·pages b·pages o·pages γ·pages (length pages) (pages₁ kept asked pages nodes register out)) ∷ ‵ (flft κ·nodes q·nodes) ∷ ‵ (MutAt u32 κ·nodes b·nodes o·nodes γ·nodes (length nodes) (nodes₁ kept asked pages nodes register out)) ∷ ‵ (flft κ·register q·register) ∷ ‵ (MutAt Record′.row κ·register b·register o·register γ·register (length register) (register₁ kept asked pages nodes register out)) ∷ ‵ (flft κ·out q·out) ∷ ‵ (MutAt u8 κ·out b·out o·out γ·out (length out) (out₂ kept asked pages nodes register out)) ∷ holds (sliceTy (tyRef erased mut (pointee (u8 .written)))) l₁₅ (sliceVal (b·out, o·out) (length out)) (holds (tyRef erased mut (pointee (u8 .written))) l₁₄ (vptr b·out o·out) (holds (sliceTy (tyRef erased mut (pointee (Record′.row .written)))) l₁₃ (sliceVal (b·register, o·register) (length register)) (holds (tyRef erased mut (pointee (Record′.row .written))) l₁₂ (vptr b·register o·register) (holds (sliceTy (tyRef erased mut (pointee (u32 .written)))) l₁₁ (sliceVal (b·nodes, o·nodes) (length nodes)) (holds (tyRef erased mut (pointee (u32 .written))) l₁₀ (vptr b·nodes o·nodes) (holds (sliceTy (tyRef erased mut (pointee (u8 .written)))) l₉ (sliceVal (b·pages, o·pages) (length pages)) (holds (tyRef erased mut (pointee (u8 .written))) l₈ (vptr b·pages o·pages) (holds (tyAt (code.function .locals) 7) l₇ (Formatted′.mach (r1 kept asked pages nodes register out)) (holds (sliceTy (tyRef (named 3) mut (pointee (u8 .written)))) l₆ (sliceVal (b·out, o·out) (length out)) (holds (sliceTy (tyRef (named 2) mut (pointee (Record′.row .written)))) l₅ (sliceVal (b·register, o·register) (length register)) (holds (sliceTy (tyRef (named 1) mut (pointee (u32 .written)))) l₄ (sliceVal (b·nodes, o·nodes) (length nodes)) (holds (sliceTy (tyRef (named 0) mut (pointee (u8 .written)))) l₃ (sliceVal (b·pages, o·pages) (length pages)) (holds (tyAt (code.function .locals) 2) l₂ (Store′.mach asked) (holds (tyAt (code.function .locals) 1) l₁ (Kept′.mach kept) (holds (tyAt (code.function .locals) 0) l₀ (Turn′.mach (r2 kept asked pages nodes register out)) [])))))))))))))))) $
       returns ! (look ! 38 refl) $
-      move ! (38 ∷ 39 ∷ []) $ forget ! 0 refl $ free1 ! $ move ! (36 ∷ 37 ∷ []) $ forget ! 0 refl $ free1 ! $ move ! (34 ∷ 35 ∷ []) $ forget ! 0 refl $ free1 ! $ move ! (32 ∷ 33 ∷ []) $ forget ! 0 refl $ free1 ! $ move ! (30 ∷ 31 ∷ []) $ forget ! 0 refl $ free1 ! $ move ! (28 ∷ 29 ∷ []) $ forget ! 0 refl $ free1 ! $ move ! (26 ∷ 27 ∷ []) $ forget ! 0 refl $ free1 ! $ move ! (24 ∷ 25 ∷ []) $ forget ! 0 refl $ free1 ! $ move ! (22 ∷ 23 ∷ []) $ forget ! 0 refl $ free1 ! $ move ! (20 ∷ 21 ∷ []) $ forget ! 0 refl $ free1 ! $ move ! (18 ∷ 19 ∷ []) $ forget ! 0 refl $ free1 ! $ move ! (16 ∷ 17 ∷ []) $ forget ! 0 refl $ free1 ! $ move ! (14 ∷ 15 ∷ []) $ forget ! 0 refl $ free1 ! $ move ! (12 ∷ 13 ∷ []) $ forget ! 0 refl $ free1 ! $ move ! (10 ∷ 11 ∷ []) $ forget ! 0 refl $ free1 ! $ move ! (8 ∷ 9 ∷ []) $ forget ! 0 refl $ free1 ! $ free0 ! $ by ! (exits r2 ok·2 (pages₁ kept asked pages nodes register out) (sym (refl ∙ sym same·1-pages)) (nodes₁ kept asked pages nodes register out) (sym (refl ∙ sym same·1-nodes)) (register₁ kept asked pages nodes register out) (sym (refl ∙ sym same·1-register)) out₂ (sym (refl ∙ sym same·2-out)))))))))))))))))))))))))
+      move ! (38 ∷ 39 ∷ []) $ forget ! 0 refl $ free1 ! $ move ! (36 ∷ 37 ∷ []) $ forget ! 0 refl $ free1 ! $ move ! (34 ∷ 35 ∷ []) $ forget ! 0 refl $ free1 ! $ move ! (32 ∷ 33 ∷ []) $ forget ! 0 refl $ free1 ! $ move ! (30 ∷ 31 ∷ []) $ forget ! 0 refl $ free1 ! $ move ! (28 ∷ 29 ∷ []) $ forget ! 0 refl $ free1 ! $ move ! (26 ∷ 27 ∷ []) $ forget ! 0 refl $ free1 ! $ move ! (24 ∷ 25 ∷ []) $ forget ! 0 refl $ free1 ! $ move ! (22 ∷ 23 ∷ []) $ forget ! 0 refl $ free1 ! $ move ! (20 ∷ 21 ∷ []) $ forget ! 0 refl $ free1 ! $ move ! (18 ∷ 19 ∷ []) $ forget ! 0 refl $ free1 ! $ move ! (16 ∷ 17 ∷ []) $ forget ! 0 refl $ free1 ! $ move ! (14 ∷ 15 ∷ []) $ forget ! 0 refl $ free1 ! $ move ! (12 ∷ 13 ∷ []) $ forget ! 0 refl $ free1 ! $ move ! (10 ∷ 11 ∷ []) $ forget ! 0 refl $ free1 ! $ move ! (8 ∷ 9 ∷ []) $ forget ! 0 refl $ free1 ! $ free0 ! $ by ! (exits (r2 kept asked pages nodes register out) ok·2 (pages₁ kept asked pages nodes register out) (sym (refl ∙ sym same·1-pages)) (nodes₁ kept asked pages nodes register out) (sym (refl ∙ sym same·1-nodes)) (register₁ kept asked pages nodes register out) (sym (refl ∙ sym same·1-register)) (out₂ kept asked pages nodes register out) (sym (refl ∙ sym same·2-out)))))))))))))))))))))))))
 
 module _ {M : Type 1} (𝓤 : URA M) (H : Heap 𝓤) (A : Atoms 𝓤) (W : Given 𝓤 H A) (mem : Memory → SProp 𝓤) (run : Routine → Fun 𝓤) where
   walks : (𝓣 : Tables 𝓤 H) → Triple 𝓤 (𝓣 .C #format) (Call-format.Asked 𝓤 H A mem run) → Triple 𝓤 (𝓣 .C #format-turn) (Call-format-turn.Asked 𝓤 H A mem run) → Walks 𝓤 H A format-step‴.ended stayed (WpFn 𝓤 H (𝓣 .C) (𝓣 .Λ) code.function) (format-step‴.clauses 𝓤 H A mem run)

@@ -74,7 +74,7 @@ use Rattle.turns.proofs.publish_step.Key.{name as #self}
 use Rattle.turns.proofs.publish_step as publish-step‴
 use Rattle.turns.proofs.publish_step.Statement as stated
 use Rattle.turns.proofs.publish_step.Code as code
-use Rattle.turns.proofs.publish_step.Proof.Asks.{r1}
+use Rattle.turns.proofs.publish_step.Proof.Asks.{r1, r2, out₂}
 
 abbrev stayed : Stays (publish-step‴.ended .signature .params) (publish-step‴.ended .kept)
 stayed = (stay-none (λ _. Kept′.row) yes, (stay-none-slice (0 ∷ []) tt (plain (λ _. u8)) yes, (stay-none-slice (1 ∷ []) tt (plain (λ _. u32)) yes, (stay-none-slice (2 ∷ []) tt (plain (λ _. Record′.row)) yes, (stay-slice (3 ∷ []) tt (plain (λ _. u8)), tt)))))
@@ -110,9 +110,9 @@ module _ {M : Type 1} (𝓤 : URA M) (H : Heap 𝓤) (A : Atoms 𝓤) (W : Given
       assigns ! (agg ! (and-then ! (load ! (from ! (stop !)) (look ! 10 refl)) (and-then ! (load ! (from ! (fld ! refl (stop !))) (look-in ! 14 (sub ! 1 refl (whole !)))) (no-more !)))) (from ! (stop !)) (init ! 8 refl (tt, (tt, (record { fits = room·out .0 }, tt)))) $
       move ! (6 ∷ 7 ∷ []) $ lend-mut ! tt u8 κ·out q·out b·out o·out γ·out (length out) out (refl) (λ ν·2-out γ·2-out.
       Call-publish-turn.calls ! mem run (fmOf 𝓤 H (W .laws) 𝓣) known-publish-turn kept (r1 kept pages nodes register out) (ν·2-out ∷ []) fullShare b·out o·out γ·2-out (length out) out ok·kept ok·1 (and-then ! (load ! (from ! (stop !)) (look ! 22 refl)) (and-then ! (load ! (from ! (stop !)) (look ! 12 refl)) (and-then ! (load ! (from ! (stop !)) (look ! 8 refl)) (no-more !))))
-      (λ r2 out₂ ok·2 same·2-out. back-mut ! tt u8 κ·out q·out b·out o·out γ·out (length out) out out₂ ν·2-out γ·2-out (refl) same·2-out room·out $ move ! (2 ∷ 3 ∷ 4 ∷ 5 ∷ 6 ∷ 7 ∷ 0 ∷ 1 ∷ []) $ land ! (from ! (stop !)) (init ! 24 refl (Turn′.typed 𝓤 H A W r2 ok·2)) $
+      (λ ok·2 same·2-out. back-mut ! tt u8 κ·out q·out b·out o·out γ·out (length out) out (out₂ kept pages nodes register out) ν·2-out γ·2-out (refl) same·2-out room·out $ move ! (2 ∷ 3 ∷ 4 ∷ 5 ∷ 6 ∷ 7 ∷ 0 ∷ 1 ∷ []) $ land ! (from ! (stop !)) (init ! 24 refl (Turn′.typed 𝓤 H A W (r2 kept pages nodes register out) ok·2)) $
       returns ! (look ! 24 refl) $
-      move ! (24 ∷ 25 ∷ []) $ forget ! 0 refl $ free1 ! $ move ! (22 ∷ 23 ∷ []) $ forget ! 0 refl $ free1 ! $ move ! (20 ∷ 21 ∷ []) $ forget ! 0 refl $ free1 ! $ move ! (18 ∷ 19 ∷ []) $ forget ! 0 refl $ free1 ! $ move ! (16 ∷ 17 ∷ []) $ forget ! 0 refl $ free1 ! $ move ! (14 ∷ 15 ∷ []) $ forget ! 0 refl $ free1 ! $ move ! (12 ∷ 13 ∷ []) $ forget ! 0 refl $ free1 ! $ move ! (10 ∷ 11 ∷ []) $ forget ! 0 refl $ free1 ! $ move ! (8 ∷ 9 ∷ []) $ forget ! 0 refl $ free1 ! $ free0 ! $ by ! (exits r2 ok·2 out₂ (sym (refl ∙ sym same·2-out)))))))))))))))
+      move ! (24 ∷ 25 ∷ []) $ forget ! 0 refl $ free1 ! $ move ! (22 ∷ 23 ∷ []) $ forget ! 0 refl $ free1 ! $ move ! (20 ∷ 21 ∷ []) $ forget ! 0 refl $ free1 ! $ move ! (18 ∷ 19 ∷ []) $ forget ! 0 refl $ free1 ! $ move ! (16 ∷ 17 ∷ []) $ forget ! 0 refl $ free1 ! $ move ! (14 ∷ 15 ∷ []) $ forget ! 0 refl $ free1 ! $ move ! (12 ∷ 13 ∷ []) $ forget ! 0 refl $ free1 ! $ move ! (10 ∷ 11 ∷ []) $ forget ! 0 refl $ free1 ! $ move ! (8 ∷ 9 ∷ []) $ forget ! 0 refl $ free1 ! $ free0 ! $ by ! (exits (r2 kept pages nodes register out) ok·2 (out₂ kept pages nodes register out) (sym (refl ∙ sym same·2-out)))))))))))))))
 
 module _ {M : Type 1} (𝓤 : URA M) (H : Heap 𝓤) (A : Atoms 𝓤) (W : Given 𝓤 H A) (mem : Memory → SProp 𝓤) (run : Routine → Fun 𝓤) where
   walks : (𝓣 : Tables 𝓤 H) → Triple 𝓤 (𝓣 .C #publish) (Call-publish.Asked 𝓤 H A mem run) → Triple 𝓤 (𝓣 .C #publish-turn) (Call-publish-turn.Asked 𝓤 H A mem run) → Walks 𝓤 H A publish-step‴.ended stayed (WpFn 𝓤 H (𝓣 .C) (𝓣 .Λ) code.function) (publish-step‴.clauses 𝓤 H A mem run)

@@ -83,7 +83,7 @@ use denote.Memory.{pointee}
 use borrow.Table.Elements.{length-take-le, take-le}
 use borrow.Rule.Array.Share.{room-take}
 use Rattle.register.proofs.Generated.Again.{part-same}
-use Rattle.turns.proofs.put_step.Proof.Asks.{r1, r2, pages₂, register₂}
+use Rattle.turns.proofs.put_step.Proof.Asks.{r1, r2, pages₂, register₂, r3, out₃}
 
 abbrev stayed : Stays (put-step‴.ended .signature .params) (put-step‴.ended .kept)
 stayed = (stay-none (λ _. Kept′.row) yes, (stay-none (λ _. Ticket′.row) yes, (stay-none (λ _. u64) yes, (stay-none (λ _. u64) yes, (stay-slice (0 ∷ []) tt (plain (λ _. u8)), (stay-none-slice (1 ∷ []) tt (plain (λ _. u32)) yes, (stay-slice (2 ∷ []) tt (plain (λ _. Record′.row)), (stay-slice (3 ∷ []) tt (plain (λ _. u8)), tt))))))))
@@ -132,10 +132,10 @@ module _ {M : Type 1} (𝓤 : URA M) (H : Heap 𝓤) (A : Atoms 𝓤) (W : Given
       assigns ! (agg ! (and-then ! (load ! (from ! (stop !)) (look ! 10 refl)) (and-then ! (load ! (from ! (fld ! refl (stop !))) (look-in ! 32 (sub ! 1 refl (whole !)))) (no-more !)))) (from ! (stop !)) (init ! 8 refl (tt, (tt, (record { fits = room·out .0 }, tt)))) $
       move ! (6 ∷ 7 ∷ []) $ lend-mut ! tt u8 κ·out q·out b·out o·out γ·out (length out) out (refl) (λ ν·3-out γ·3-out.
       Call-put-turn.calls ! mem run (fmOf 𝓤 H (W .laws) 𝓣) known-put-turn kept (r2 kept x-t i n pages nodes register out) (ν·3-out ∷ []) fullShare b·out o·out γ·3-out (length out) out ok·kept ok·2 (and-then ! (load ! (from ! (stop !)) (look ! 46 refl)) (and-then ! (load ! (from ! (stop !)) (look ! 28 refl)) (and-then ! (load ! (from ! (stop !)) (look ! 8 refl)) (no-more !))))
-      (λ r3 out₃ ok·3 same·3-out. back-mut ! tt u8 κ·out q·out b·out o·out γ·out (length out) out out₃ ν·3-out γ·3-out (refl) same·3-out room·out $ move ! (2 ∷ 3 ∷ 4 ∷ 5 ∷ 6 ∷ 7 ∷ 0 ∷ 1 ∷ []) $ land ! (from ! (stop !)) (init ! 48 refl (Turn′.typed 𝓤 H A W r3 ok·3)) $
-      here ! (‵ (flft κ·pages q·pages) ∷ ‵ (MutAt u8 κ·pages b·pages o·pages γ·pages (length pages) (pages₂ kept x-t i n pages nodes register out)) ∷ ‵ (flft κ·nodes q·nodes) ∷ ‵ (ShrAt u32 κ·nodes b·nodes o·nodes γ·nodes (length nodes) nodes) ∷ ‵ (flft κ·register q·register) ∷ ‵ (MutAt Record′.row κ·register b·register o·register γ·register (length register) (register₂ kept x-t i n pages nodes register out)) ∷ ‵ (flft κ·out q·out) ∷ ‵ (MutAt u8 κ·out b·out o·out γ·out (length out) out₃) ∷ holds (sliceTy (tyRef erased mut (pointee (u8 .written)))) l₂₀ (sliceVal (b·out, o·out) (length out)) (holds (tyRef erased mut (pointee (u8 .written))) l₁₉ (vptr b·out o·out) (holds (sliceTy (tyRef erased imm (pointee (u8 .written)))) l₁₈ (sliceVal (b·out, o·out) (r1 kept x-t i n pages nodes register out)) (holds (tyRef erased imm (pointee (u8 .written))) l₁₇ (vptr b·out o·out) (holds (sliceTy (tyRef erased mut (pointee (Record′.row .written)))) l₁₆ (sliceVal (b·register, o·register) (length register)) (holds (tyRef erased mut (pointee (Record′.row .written))) l₁₅ (vptr b·register o·register) (holds (sliceTy (tyRef erased mut (pointee (u8 .written)))) l₁₄ (sliceVal (b·pages, o·pages) (length pages)) (holds (tyRef erased mut (pointee (u8 .written))) l₁₃ (vptr b·pages o·pages) (holds (tyInt w64) l₁₂ (vint w64 (length out)) (holds (tyInt w64) l₁₁ (vint w64 n) (holds (tyAt (code.function .locals) 10) l₁₀ (PutIn′.mach (r2 kept x-t i n pages nodes register out)) (holds (tyInt w64) l₉ (vint w64 (r1 kept x-t i n pages nodes register out)) (holds (sliceTy (tyRef (named 3) mut (pointee (u8 .written)))) l₈ (sliceVal (b·out, o·out) (length out)) (holds (sliceTy (tyRef (named 2) mut (pointee (Record′.row .written)))) l₇ (sliceVal (b·register, o·register) (length register)) (holds (sliceTy (tyRef (named 1) imm (pointee (u32 .written)))) l₆ (sliceVal (b·nodes, o·nodes) (length nodes)) (holds (sliceTy (tyRef (named 0) mut (pointee (u8 .written)))) l₅ (sliceVal (b·pages, o·pages) (length pages)) (holds (tyInt w64) l₄ (vint w64 n) (holds (tyInt w64) l₃ (vint w64 i) (holds (tyAt (code.function .locals) 2) l₂ (Ticket′.mach x-t) (holds (tyAt (code.function .locals) 1) l₁ (Kept′.mach kept) (holds (tyAt (code.function .locals) 0) l₀ (Turn′.mach r3) []))))))))))))))))))))) $
+      (λ ok·3 same·3-out. back-mut ! tt u8 κ·out q·out b·out o·out γ·out (length out) out (out₃ kept x-t i n pages nodes register out) ν·3-out γ·3-out (refl) same·3-out room·out $ move ! (2 ∷ 3 ∷ 4 ∷ 5 ∷ 6 ∷ 7 ∷ 0 ∷ 1 ∷ []) $ land ! (from ! (stop !)) (init ! 48 refl (Turn′.typed 𝓤 H A W (r3 kept x-t i n pages nodes register out) ok·3)) $
+      here ! (‵ (flft κ·pages q·pages) ∷ ‵ (MutAt u8 κ·pages b·pages o·pages γ·pages (length pages) (pages₂ kept x-t i n pages nodes register out)) ∷ ‵ (flft κ·nodes q·nodes) ∷ ‵ (ShrAt u32 κ·nodes b·nodes o·nodes γ·nodes (length nodes) nodes) ∷ ‵ (flft κ·register q·register) ∷ ‵ (MutAt Record′.row κ·register b·register o·register γ·register (length register) (register₂ kept x-t i n pages nodes register out)) ∷ ‵ (flft κ·out q·out) ∷ ‵ (MutAt u8 κ·out b·out o·out γ·out (length out) (out₃ kept x-t i n pages nodes register out)) ∷ holds (sliceTy (tyRef erased mut (pointee (u8 .written)))) l₂₀ (sliceVal (b·out, o·out) (length out)) (holds (tyRef erased mut (pointee (u8 .written))) l₁₉ (vptr b·out o·out) (holds (sliceTy (tyRef erased imm (pointee (u8 .written)))) l₁₈ (sliceVal (b·out, o·out) (r1 kept x-t i n pages nodes register out)) (holds (tyRef erased imm (pointee (u8 .written))) l₁₇ (vptr b·out o·out) (holds (sliceTy (tyRef erased mut (pointee (Record′.row .written)))) l₁₆ (sliceVal (b·register, o·register) (length register)) (holds (tyRef erased mut (pointee (Record′.row .written))) l₁₅ (vptr b·register o·register) (holds (sliceTy (tyRef erased mut (pointee (u8 .written)))) l₁₄ (sliceVal (b·pages, o·pages) (length pages)) (holds (tyRef erased mut (pointee (u8 .written))) l₁₃ (vptr b·pages o·pages) (holds (tyInt w64) l₁₂ (vint w64 (length out)) (holds (tyInt w64) l₁₁ (vint w64 n) (holds (tyAt (code.function .locals) 10) l₁₀ (PutIn′.mach (r2 kept x-t i n pages nodes register out)) (holds (tyInt w64) l₉ (vint w64 (r1 kept x-t i n pages nodes register out)) (holds (sliceTy (tyRef (named 3) mut (pointee (u8 .written)))) l₈ (sliceVal (b·out, o·out) (length out)) (holds (sliceTy (tyRef (named 2) mut (pointee (Record′.row .written)))) l₇ (sliceVal (b·register, o·register) (length register)) (holds (sliceTy (tyRef (named 1) imm (pointee (u32 .written)))) l₆ (sliceVal (b·nodes, o·nodes) (length nodes)) (holds (sliceTy (tyRef (named 0) mut (pointee (u8 .written)))) l₅ (sliceVal (b·pages, o·pages) (length pages)) (holds (tyInt w64) l₄ (vint w64 n) (holds (tyInt w64) l₃ (vint w64 i) (holds (tyAt (code.function .locals) 2) l₂ (Ticket′.mach x-t) (holds (tyAt (code.function .locals) 1) l₁ (Kept′.mach kept) (holds (tyAt (code.function .locals) 0) l₀ (Turn′.mach (r3 kept x-t i n pages nodes register out)) []))))))))))))))))))))) $
       returns ! (look ! 48 refl) $
-      move ! (48 ∷ 49 ∷ []) $ forget ! 0 refl $ free1 ! $ move ! (46 ∷ 47 ∷ []) $ forget ! 0 refl $ free1 ! $ move ! (44 ∷ 45 ∷ []) $ forget ! 0 refl $ free1 ! $ move ! (42 ∷ 43 ∷ []) $ forget ! 0 refl $ free1 ! $ move ! (40 ∷ 41 ∷ []) $ forget ! 0 refl $ free1 ! $ move ! (38 ∷ 39 ∷ []) $ forget ! 0 refl $ free1 ! $ move ! (36 ∷ 37 ∷ []) $ forget ! 0 refl $ free1 ! $ move ! (34 ∷ 35 ∷ []) $ forget ! 0 refl $ free1 ! $ move ! (32 ∷ 33 ∷ []) $ forget ! 0 refl $ free1 ! $ move ! (30 ∷ 31 ∷ []) $ forget ! 0 refl $ free1 ! $ move ! (28 ∷ 29 ∷ []) $ forget ! 0 refl $ free1 ! $ move ! (26 ∷ 27 ∷ []) $ forget ! 0 refl $ free1 ! $ move ! (24 ∷ 25 ∷ []) $ forget ! 0 refl $ free1 ! $ move ! (22 ∷ 23 ∷ []) $ forget ! 0 refl $ free1 ! $ move ! (20 ∷ 21 ∷ []) $ forget ! 0 refl $ free1 ! $ move ! (18 ∷ 19 ∷ []) $ forget ! 0 refl $ free1 ! $ move ! (16 ∷ 17 ∷ []) $ forget ! 0 refl $ free1 ! $ move ! (14 ∷ 15 ∷ []) $ forget ! 0 refl $ free1 ! $ move ! (12 ∷ 13 ∷ []) $ forget ! 0 refl $ free1 ! $ move ! (10 ∷ 11 ∷ []) $ forget ! 0 refl $ free1 ! $ move ! (8 ∷ 9 ∷ []) $ forget ! 0 refl $ free1 ! $ free0 ! $ by ! (exits r3 ok·3 (pages₂ kept x-t i n pages nodes register out) (sym (refl ∙ sym same·2-pages)) (register₂ kept x-t i n pages nodes register out) (sym (refl ∙ sym same·2-register)) out₃ (sym (refl ∙ sym same·3-out)))))))))))))))))))))))))))))))
+      move ! (48 ∷ 49 ∷ []) $ forget ! 0 refl $ free1 ! $ move ! (46 ∷ 47 ∷ []) $ forget ! 0 refl $ free1 ! $ move ! (44 ∷ 45 ∷ []) $ forget ! 0 refl $ free1 ! $ move ! (42 ∷ 43 ∷ []) $ forget ! 0 refl $ free1 ! $ move ! (40 ∷ 41 ∷ []) $ forget ! 0 refl $ free1 ! $ move ! (38 ∷ 39 ∷ []) $ forget ! 0 refl $ free1 ! $ move ! (36 ∷ 37 ∷ []) $ forget ! 0 refl $ free1 ! $ move ! (34 ∷ 35 ∷ []) $ forget ! 0 refl $ free1 ! $ move ! (32 ∷ 33 ∷ []) $ forget ! 0 refl $ free1 ! $ move ! (30 ∷ 31 ∷ []) $ forget ! 0 refl $ free1 ! $ move ! (28 ∷ 29 ∷ []) $ forget ! 0 refl $ free1 ! $ move ! (26 ∷ 27 ∷ []) $ forget ! 0 refl $ free1 ! $ move ! (24 ∷ 25 ∷ []) $ forget ! 0 refl $ free1 ! $ move ! (22 ∷ 23 ∷ []) $ forget ! 0 refl $ free1 ! $ move ! (20 ∷ 21 ∷ []) $ forget ! 0 refl $ free1 ! $ move ! (18 ∷ 19 ∷ []) $ forget ! 0 refl $ free1 ! $ move ! (16 ∷ 17 ∷ []) $ forget ! 0 refl $ free1 ! $ move ! (14 ∷ 15 ∷ []) $ forget ! 0 refl $ free1 ! $ move ! (12 ∷ 13 ∷ []) $ forget ! 0 refl $ free1 ! $ move ! (10 ∷ 11 ∷ []) $ forget ! 0 refl $ free1 ! $ move ! (8 ∷ 9 ∷ []) $ forget ! 0 refl $ free1 ! $ free0 ! $ by ! (exits (r3 kept x-t i n pages nodes register out) ok·3 (pages₂ kept x-t i n pages nodes register out) (sym (refl ∙ sym same·2-pages)) (register₂ kept x-t i n pages nodes register out) (sym (refl ∙ sym same·2-register)) (out₃ kept x-t i n pages nodes register out) (sym (refl ∙ sym same·3-out)))))))))))))))))))))))))))))))
 
 module _ {M : Type 1} (𝓤 : URA M) (H : Heap 𝓤) (A : Atoms 𝓤) (W : Given 𝓤 H A) (mem : Memory → SProp 𝓤) (run : Routine → Fun 𝓤) where
   walks : (𝓣 : Tables 𝓤 H) → Triple 𝓤 (𝓣 .C #capped) (Call-capped.Asked 𝓤 H A mem run) → Triple 𝓤 (𝓣 .C #put) (Call-put.Asked 𝓤 H A mem run) → Triple 𝓤 (𝓣 .C #put-turn) (Call-put-turn.Asked 𝓤 H A mem run) → Walks 𝓤 H A put-step‴.ended stayed (WpFn 𝓤 H (𝓣 .C) (𝓣 .Λ) code.function) (put-step‴.clauses 𝓤 H A mem run)

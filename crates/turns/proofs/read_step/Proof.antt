@@ -76,7 +76,7 @@ use Rattle.turns.proofs.read_step.Statement as stated
 use Rattle.turns.proofs.read_step.Code as code
 use denote.Memory.{pointee}
 use denote.Lend.{Held}
-use Rattle.turns.proofs.read_step.Proof.Asks.{r1, arr9₁}
+use Rattle.turns.proofs.read_step.Proof.Asks.{r1, arr9₁, r2, out₂}
 
 abbrev stayed : Stays (read-step‴.ended .signature .params) (read-step‴.ended .kept)
 stayed = (stay-none (λ _. Kept′.row) yes, (stay-none (λ _. Version′.row) yes, (stay-none (λ _. ByteOffset′.row) yes, (stay-none (λ _. u64) yes, (stay-none-slice (0 ∷ []) tt (plain (λ _. u8)) yes, (stay-none-slice (1 ∷ []) tt (plain (λ _. u32)) yes, (stay-none-slice (2 ∷ []) tt (plain (λ _. Record′.row)) yes, (stay-slice (3 ∷ []) tt (plain (λ _. u8)), tt))))))))
@@ -119,11 +119,11 @@ module _ {M : Type 1} (𝓤 : URA M) (H : Heap 𝓤) (A : Atoms 𝓤) (W : Given
       assigns ! (agg ! (and-then ! (load ! (from ! (stop !)) (look ! 13 refl)) (and-then ! (load ! (from ! (fld ! refl (stop !))) (look-in ! 26 (sub ! 1 refl (whole !)))) (no-more !)))) (from ! (stop !)) (init ! 11 refl (tt, (tt, (record { fits = room·out .0 }, tt)))) $
       move ! (8 ∷ 9 ∷ []) $ lend-shr ! tt u8 (ν·arr9 ∷ []) fullShare l₉ 0 γ·arr9 256 (arr9₁ kept x-v offset n pages nodes register out arr9) (count·arr9 ∙ sym same·1-arr9) (λ ν·2-arr9 γ·2-arr9. move ! (9 ∷ 10 ∷ []) $ lend-mut ! tt u8 κ·out q·out b·out o·out γ·out (length out) out (refl) (λ ν·2-out γ·2-out. move ! (3 ∷ 4 ∷ 0 ∷ 1 ∷ []) $
       Call-read-turn.calls ! mem run (fmOf 𝓤 H (W .laws) 𝓣) known-read-turn kept n (r1 kept x-v offset n pages nodes register out arr9) (ν·2-arr9 ∷ []) fullShare l₉ 0 γ·2-arr9 256 (arr9₁ kept x-v offset n pages nodes register out arr9) (ν·2-out ∷ []) fullShare b·out o·out γ·2-out (length out) out ok·kept ok·n ok·1 (and-then ! (load ! (from ! (stop !)) (look ! 40 refl)) (and-then ! (load ! (from ! (stop !)) (look ! 34 refl)) (and-then ! (load ! (from ! (stop !)) (look ! 23 refl)) (and-then ! (load ! (from ! (stop !)) (look ! 15 refl)) (and-then ! (load ! (from ! (stop !)) (look ! 11 refl)) (no-more !))))))
-      (λ r2 out₂ ok·2 same·2-out. move ! (0 ∷ 1 ∷ 5 ∷ []) $ back-shr ! tt u8 (ν·arr9 ∷ []) fullShare l₉ 0 γ·arr9 256 (arr9₁ kept x-v offset n pages nodes register out arr9) ν·2-arr9 (count·arr9 ∙ sym same·1-arr9) room·arr9 $ move ! (2 ∷ 3 ∷ 4 ∷ []) $ back-mut ! tt u8 κ·out q·out b·out o·out γ·out (length out) out out₂ ν·2-out γ·2-out (refl) same·2-out room·out $ move ! (4 ∷ 5 ∷ 6 ∷ 7 ∷ 8 ∷ 9 ∷ 0 ∷ 1 ∷ 2 ∷ 3 ∷ 10 ∷ []) $ land ! (from ! (stop !)) (init ! 42 refl (Turn′.typed 𝓤 H A W r2 ok·2)) $
-      here ! (‵ (flft κ·pages q·pages) ∷ ‵ (ShrAt u8 κ·pages b·pages o·pages γ·pages (length pages) pages) ∷ ‵ (flft κ·nodes q·nodes) ∷ ‵ (ShrAt u32 κ·nodes b·nodes o·nodes γ·nodes (length nodes) nodes) ∷ ‵ (flft κ·register q·register) ∷ ‵ (ShrAt Record′.row κ·register b·register o·register γ·register (length register) register) ∷ ‵ (flft κ·out q·out) ∷ ‵ (MutAt u8 κ·out b·out o·out γ·out (length out) out₂) ∷ ‵ (flft (ν·arr9 ∷ []) fullShare) ∷ ‵ (MutAt u8 (ν·arr9 ∷ []) l₉ 0 γ·arr9 256 (arr9₁ kept x-v offset n pages nodes register out arr9)) ∷ ‵ (flent (ν·arr9 ∷ []) (Held u8 256 l₉ 0 γ·arr9)) ∷ holds (sliceTy (tyRef erased mut (pointee (u8 .written)))) l₁₆ (sliceVal (b·out, o·out) (length out)) (holds (tyRef erased mut (pointee (u8 .written))) l₁₅ (vptr b·out o·out) (holds (sliceTy (tyRef erased imm (pointee (u8 .written)))) l₁₄ (sliceVal (l₉, 0) 256) (holds (tyRef erased imm (tyArray (pointee (u8 .written)) 256)) l₁₃ (vptr l₉ 0) (holds (sliceTy (tyRef erased mut (pointee (u8 .written)))) l₁₂ (sliceVal (l₉, 0) 256) (holds (tyRef erased mut (tyArray (pointee (u8 .written)) 256)) l₁₁ (vptr l₉ 0) (holds (tyAt (code.function .locals) 10) l₁₀ (Filled′.mach (r1 kept x-v offset n pages nodes register out arr9)) (‵ (fdies (tyAt (code.function .locals) 9) l₉) ∷ holds (sliceTy (tyRef (named 3) mut (pointee (u8 .written)))) l₈ (sliceVal (b·out, o·out) (length out)) (holds (sliceTy (tyRef (named 2) imm (pointee (Record′.row .written)))) l₇ (sliceVal (b·register, o·register) (length register)) (holds (sliceTy (tyRef (named 1) imm (pointee (u32 .written)))) l₆ (sliceVal (b·nodes, o·nodes) (length nodes)) (holds (sliceTy (tyRef (named 0) imm (pointee (u8 .written)))) l₅ (sliceVal (b·pages, o·pages) (length pages)) (holds (tyInt w64) l₄ (vint w64 n) (holds (tyAt (code.function .locals) 3) l₃ (ByteOffset′.mach offset) (holds (tyAt (code.function .locals) 2) l₂ (Version′.mach x-v) (holds (tyAt (code.function .locals) 1) l₁ (Kept′.mach kept) (holds (tyAt (code.function .locals) 0) l₀ (Turn′.mach r2) [])))))))))))))))) $
+      (λ ok·2 same·2-out. move ! (0 ∷ 1 ∷ 5 ∷ []) $ back-shr ! tt u8 (ν·arr9 ∷ []) fullShare l₉ 0 γ·arr9 256 (arr9₁ kept x-v offset n pages nodes register out arr9) ν·2-arr9 (count·arr9 ∙ sym same·1-arr9) room·arr9 $ move ! (2 ∷ 3 ∷ 4 ∷ []) $ back-mut ! tt u8 κ·out q·out b·out o·out γ·out (length out) out (out₂ kept x-v offset n pages nodes register out arr9) ν·2-out γ·2-out (refl) same·2-out room·out $ move ! (4 ∷ 5 ∷ 6 ∷ 7 ∷ 8 ∷ 9 ∷ 0 ∷ 1 ∷ 2 ∷ 3 ∷ 10 ∷ []) $ land ! (from ! (stop !)) (init ! 42 refl (Turn′.typed 𝓤 H A W (r2 kept x-v offset n pages nodes register out arr9) ok·2)) $
+      here ! (‵ (flft κ·pages q·pages) ∷ ‵ (ShrAt u8 κ·pages b·pages o·pages γ·pages (length pages) pages) ∷ ‵ (flft κ·nodes q·nodes) ∷ ‵ (ShrAt u32 κ·nodes b·nodes o·nodes γ·nodes (length nodes) nodes) ∷ ‵ (flft κ·register q·register) ∷ ‵ (ShrAt Record′.row κ·register b·register o·register γ·register (length register) register) ∷ ‵ (flft κ·out q·out) ∷ ‵ (MutAt u8 κ·out b·out o·out γ·out (length out) (out₂ kept x-v offset n pages nodes register out arr9)) ∷ ‵ (flft (ν·arr9 ∷ []) fullShare) ∷ ‵ (MutAt u8 (ν·arr9 ∷ []) l₉ 0 γ·arr9 256 (arr9₁ kept x-v offset n pages nodes register out arr9)) ∷ ‵ (flent (ν·arr9 ∷ []) (Held u8 256 l₉ 0 γ·arr9)) ∷ holds (sliceTy (tyRef erased mut (pointee (u8 .written)))) l₁₆ (sliceVal (b·out, o·out) (length out)) (holds (tyRef erased mut (pointee (u8 .written))) l₁₅ (vptr b·out o·out) (holds (sliceTy (tyRef erased imm (pointee (u8 .written)))) l₁₄ (sliceVal (l₉, 0) 256) (holds (tyRef erased imm (tyArray (pointee (u8 .written)) 256)) l₁₃ (vptr l₉ 0) (holds (sliceTy (tyRef erased mut (pointee (u8 .written)))) l₁₂ (sliceVal (l₉, 0) 256) (holds (tyRef erased mut (tyArray (pointee (u8 .written)) 256)) l₁₁ (vptr l₉ 0) (holds (tyAt (code.function .locals) 10) l₁₀ (Filled′.mach (r1 kept x-v offset n pages nodes register out arr9)) (‵ (fdies (tyAt (code.function .locals) 9) l₉) ∷ holds (sliceTy (tyRef (named 3) mut (pointee (u8 .written)))) l₈ (sliceVal (b·out, o·out) (length out)) (holds (sliceTy (tyRef (named 2) imm (pointee (Record′.row .written)))) l₇ (sliceVal (b·register, o·register) (length register)) (holds (sliceTy (tyRef (named 1) imm (pointee (u32 .written)))) l₆ (sliceVal (b·nodes, o·nodes) (length nodes)) (holds (sliceTy (tyRef (named 0) imm (pointee (u8 .written)))) l₅ (sliceVal (b·pages, o·pages) (length pages)) (holds (tyInt w64) l₄ (vint w64 n) (holds (tyAt (code.function .locals) 3) l₃ (ByteOffset′.mach offset) (holds (tyAt (code.function .locals) 2) l₂ (Version′.mach x-v) (holds (tyAt (code.function .locals) 1) l₁ (Kept′.mach kept) (holds (tyAt (code.function .locals) 0) l₀ (Turn′.mach (r2 kept x-v offset n pages nodes register out arr9)) [])))))))))))))))) $
       move ! (8 ∷ 9 ∷ 10 ∷ []) $ empties ! tt u8 256 l₉ γ·arr9 (arr9₁ kept x-v offset n pages nodes register out arr9) ν·arr9 $ move ! (1 ∷ 2 ∷ 3 ∷ 4 ∷ 5 ∷ 6 ∷ 7 ∷ 8 ∷ 9 ∷ 10 ∷ 11 ∷ 12 ∷ 13 ∷ 14 ∷ 15 ∷ 16 ∷ 17 ∷ 18 ∷ 19 ∷ 20 ∷ 21 ∷ 22 ∷ 0 ∷ 23 ∷ 24 ∷ 25 ∷ 26 ∷ 27 ∷ 28 ∷ 29 ∷ 30 ∷ 31 ∷ 32 ∷ 33 ∷ 34 ∷ 35 ∷ 36 ∷ 37 ∷ 38 ∷ 39 ∷ 40 ∷ 41 ∷ []) $
       returns ! (look ! 40 refl) $
-      move ! (40 ∷ 41 ∷ []) $ forget ! 0 refl $ free1 ! $ move ! (38 ∷ 39 ∷ []) $ forget ! 0 refl $ free1 ! $ move ! (36 ∷ 37 ∷ []) $ forget ! 0 refl $ free1 ! $ move ! (34 ∷ 35 ∷ []) $ forget ! 0 refl $ free1 ! $ move ! (32 ∷ 33 ∷ []) $ forget ! 0 refl $ free1 ! $ move ! (30 ∷ 31 ∷ []) $ forget ! 0 refl $ free1 ! $ move ! (28 ∷ 29 ∷ []) $ forget ! 0 refl $ free1 ! $ move ! (26 ∷ 27 ∷ []) $ forget ! 0 refl $ free1 ! $ move ! (24 ∷ 25 ∷ []) $ forget ! 0 refl $ free1 ! $ move ! (22 ∷ 23 ∷ []) $ free1 ! $ move ! (20 ∷ 21 ∷ []) $ forget ! 0 refl $ free1 ! $ move ! (18 ∷ 19 ∷ []) $ forget ! 0 refl $ free1 ! $ move ! (16 ∷ 17 ∷ []) $ forget ! 0 refl $ free1 ! $ move ! (14 ∷ 15 ∷ []) $ forget ! 0 refl $ free1 ! $ move ! (12 ∷ 13 ∷ []) $ forget ! 0 refl $ free1 ! $ move ! (10 ∷ 11 ∷ []) $ forget ! 0 refl $ free1 ! $ move ! (8 ∷ 9 ∷ []) $ forget ! 0 refl $ free1 ! $ free0 ! $ by ! (exits r2 ok·2 out₂ (sym (refl ∙ sym same·2-out))))))))))))))))))))))))))
+      move ! (40 ∷ 41 ∷ []) $ forget ! 0 refl $ free1 ! $ move ! (38 ∷ 39 ∷ []) $ forget ! 0 refl $ free1 ! $ move ! (36 ∷ 37 ∷ []) $ forget ! 0 refl $ free1 ! $ move ! (34 ∷ 35 ∷ []) $ forget ! 0 refl $ free1 ! $ move ! (32 ∷ 33 ∷ []) $ forget ! 0 refl $ free1 ! $ move ! (30 ∷ 31 ∷ []) $ forget ! 0 refl $ free1 ! $ move ! (28 ∷ 29 ∷ []) $ forget ! 0 refl $ free1 ! $ move ! (26 ∷ 27 ∷ []) $ forget ! 0 refl $ free1 ! $ move ! (24 ∷ 25 ∷ []) $ forget ! 0 refl $ free1 ! $ move ! (22 ∷ 23 ∷ []) $ free1 ! $ move ! (20 ∷ 21 ∷ []) $ forget ! 0 refl $ free1 ! $ move ! (18 ∷ 19 ∷ []) $ forget ! 0 refl $ free1 ! $ move ! (16 ∷ 17 ∷ []) $ forget ! 0 refl $ free1 ! $ move ! (14 ∷ 15 ∷ []) $ forget ! 0 refl $ free1 ! $ move ! (12 ∷ 13 ∷ []) $ forget ! 0 refl $ free1 ! $ move ! (10 ∷ 11 ∷ []) $ forget ! 0 refl $ free1 ! $ move ! (8 ∷ 9 ∷ []) $ forget ! 0 refl $ free1 ! $ free0 ! $ by ! (exits (r2 kept x-v offset n pages nodes register out arr9) ok·2 (out₂ kept x-v offset n pages nodes register out arr9) (sym (refl ∙ sym same·2-out))))))))))))))))))))))))))
 
 module _ {M : Type 1} (𝓤 : URA M) (H : Heap 𝓤) (A : Atoms 𝓤) (W : Given 𝓤 H A) (mem : Memory → SProp 𝓤) (run : Routine → Fun 𝓤) where
   walks : (𝓣 : Tables 𝓤 H) → Triple 𝓤 (𝓣 .C #read) (Call-read.Asked 𝓤 H A mem run) → Triple 𝓤 (𝓣 .C #read-turn) (Call-read-turn.Asked 𝓤 H A mem run) → Walks 𝓤 H A read-step‴.ended stayed (WpFn 𝓤 H (𝓣 .C) (𝓣 .Λ) code.function) (read-step‴.clauses 𝓤 H A mem run)

@@ -55,14 +55,14 @@ module _ {M : Type 1} {𝓤 : URA M} {H : Heap 𝓤} {A : Atoms 𝓤} {K : Type 
   -- the call itself is made by `by-call`, from what the callee asks to what it has ensured
   core : K → (mem : Memory → SProp 𝓤) (run : Routine → Fun 𝓤) → (s : Store) (pages : ℕ) (nodes : ℕ) (register : ℕ) → (G : Goal 𝓤 H) (after : Val → Goal 𝓤 H) → ((v : Val) → Soaks (after v))
       → (((v : Val) → Seq K W (raw (Asked 𝓤 H A mem run .post (to 𝓤 H A mem run s pages nodes register) v) ∷ Γ) (after v)) → Seq K W (raw (Asked 𝓤 H A mem run .pre (to 𝓤 H A mem run s pages nodes register)) ∷ Γ) G) → Is Store′.row s (Store′.vals s) → Is u64 pages (uint-vals w64 pages) → Is u64 nodes (uint-vals w64 nodes) → Is u64 register (uint-vals w64 register) →
-      ((x·res : Lengths) → Is Lengths′.row x·res (Lengths′.vals x·res) → lengths-of″.ens s pages nodes register x·res → Seq K W (Γ) (after (Lengths′.mach x·res))) → Seq K W (Γ) G
+      (Is Lengths′.row (lengths-of″.res s pages nodes register) (Lengths′.vals (lengths-of″.res s pages nodes register)) → Seq K W (Γ) (after (Lengths′.mach (lengths-of″.res s pages nodes register)))) → Seq K W (Γ) G
   core t mem run s pages nodes register G after soaks by-call ok·s ok·pages ok·nodes ok·register k =
       use0 W (raw (Asked 𝓤 H A mem run .pre (to 𝓤 H A mem run s pages nodes register))) goes $
       by-call (λ v.
       use1 W (later (some (λ (r· : Lengths). ((‵ ftrue) ⊛ ‵ (Lengths′.row .own r· (v ∷ []))) ⊛ raw (ensured 𝓤 H A callee.ended (callee.clauses 𝓤 H A mem run) tt (s, (pages, (nodes, (register, tt)))) tt r·)))) (id⊢ 𝓤 _) $ await t (soaks v) $ pick t (λ r·. split t $ move t (1 ∷ []) $
       use1 W (some (λ (ws : Lasts callee.ended tt (s, (pages, (nodes, (register, tt))))). ‵ (lasts callee.ended tt (s, (pages, (nodes, (register, tt)))) ws) ⊛ raw (fact 𝓤 (lengths-of″.ens s pages nodes register r·)))) (id⊢ 𝓤 _) $ pick t (λ ws. split t $ move t (1 ∷ []) $
       heard t (lengths-of″.ens s pages nodes register r·) (λ e. drop t $ split t $ move t (1 ∷ []) $ facts t Lengths′.row (Is Lengths′.row) (shows 𝓤 H A Lengths′.row) r· (v ∷ []) (λ is. drop t $
-      subst (λ (u : Val). Seq K W (Γ) (after u)) (sym (ap only (Lengths′.tells r· (v ∷ []) is))) (k r· (subst (Is Lengths′.row r·) (Lengths′.tells r· (v ∷ []) is) is) e))))))
+      subst (λ (u : Val). Seq K W (Γ) (after u)) (sym (ap only (Lengths′.tells r· (v ∷ []) is) ∙ ap (λ (z : Lengths). Lengths′.mach z) (e))) (k (subst (λ (z : Lengths). Is Lengths′.row z (Lengths′.vals z)) (e) (subst (Is Lengths′.row r·) (Lengths′.tells r· (v ∷ []) is) is))))))))
     where
       goes : ent 𝓤 (⋆ 𝓤 H A ([])) (Asked 𝓤 H A mem run .pre (to 𝓤 H A mem run s pages nodes register))
       goes = qed W ([]) ∵ plus-nothing ! $ nothing ! $ frame ! $ nothing ! $ owned ! u64 (Is u64) (uint-makes 𝓤 H A W w64) register _ ok·register $ fjoin ! $ owned ! u64 (Is u64) (uint-makes 𝓤 H A W w64) nodes _ ok·nodes $ fjoin ! $ owned ! u64 (Is u64) (uint-makes 𝓤 H A W w64) pages _ ok·pages $ fjoin ! $ owned ! Store′.row (Is Store′.row) (Store′.makes 𝓤 H A) s _ ok·s $ fjoin ! $ done !
@@ -71,7 +71,7 @@ module _ {M : Type 1} {𝓤 : URA M} {H : Heap 𝓤} {A : Atoms 𝓤} {K : Type 
   -- by one instance of the callee's contract, which is what a function that calls itself has
   pub calls-by : K → (mem : Memory → SProp 𝓤) (run : Routine → Fun 𝓤) → FmC 𝓤 H (W .laws) C → (s : Store) (pages : ℕ) (nodes : ℕ) (register : ℕ) → ent 𝓤 (Asked 𝓤 H A mem run .pre (to 𝓤 H A mem run s pages nodes register)) (C #callee (Asked 𝓤 H A mem run .args (to 𝓤 H A mem run s pages nodes register)) (Asked 𝓤 H A mem run .post (to 𝓤 H A mem run s pages nodes register))) → Is Store′.row s (Store′.vals s) → Is u64 pages (uint-vals w64 pages) → Is u64 nodes (uint-vals w64 nodes) → Is u64 register (uint-vals w64 register) →
       Opds K W (raw (Asked 𝓤 H A mem run .pre (to 𝓤 H A mem run s pages nodes register)) ∷ Γ) E xs (Store′.mach s ∷ vint w64 pages ∷ vint w64 nodes ∷ vint w64 register ∷ [])
-      → ((x·res : Lengths) → Is Lengths′.row x·res (Lengths′.vals x·res) → lengths-of″.ens s pages nodes register x·res → Seq K W (Γ) (lands C Λ E d (Lengths′.mach x·res) rest Q))
+      → (Is Lengths′.row (lengths-of″.res s pages nodes register) (Lengths′.vals (lengths-of″.res s pages nodes register)) → Seq K W (Γ) (lands C Λ E d (Lengths′.mach (lengths-of″.res s pages nodes register)) rest Q))
       → Seq K W (Γ) (runs C Λ E (seq (call #callee xs d) rest) Q)
   calls-by t mem run fm s pages nodes register known ok·s ok·pages ok·nodes ok·register os k =
       core t mem run s pages nodes register (runs C Λ E (seq (call #callee xs d) rest) Q) (λ v. lands C Λ E d v rest Q) (λ v. tt)
@@ -79,7 +79,7 @@ module _ {M : Type 1} {𝓤 : URA M} {H : Heap 𝓤} {A : Atoms 𝓤} {K : Type 
 
   pub calls : K → (mem : Memory → SProp 𝓤) (run : Routine → Fun 𝓤) → FmC 𝓤 H (W .laws) C → Triple 𝓤 (C #callee) (Asked 𝓤 H A mem run) → (s : Store) (pages : ℕ) (nodes : ℕ) (register : ℕ) → Is Store′.row s (Store′.vals s) → Is u64 pages (uint-vals w64 pages) → Is u64 nodes (uint-vals w64 nodes) → Is u64 register (uint-vals w64 register) →
       Opds K W (raw (Asked 𝓤 H A mem run .pre (to 𝓤 H A mem run s pages nodes register)) ∷ Γ) E xs (Store′.mach s ∷ vint w64 pages ∷ vint w64 nodes ∷ vint w64 register ∷ [])
-      → ((x·res : Lengths) → Is Lengths′.row x·res (Lengths′.vals x·res) → lengths-of″.ens s pages nodes register x·res → Seq K W (Γ) (lands C Λ E d (Lengths′.mach x·res) rest Q))
+      → (Is Lengths′.row (lengths-of″.res s pages nodes register) (Lengths′.vals (lengths-of″.res s pages nodes register)) → Seq K W (Γ) (lands C Λ E d (Lengths′.mach (lengths-of″.res s pages nodes register)) rest Q))
       → Seq K W (Γ) (runs C Λ E (seq (call #callee xs d) rest) Q)
   calls t mem run fm known s pages nodes register = calls-by t mem run fm s pages nodes register (known (to 𝓤 H A mem run s pages nodes register))
 
@@ -87,7 +87,7 @@ module _ {M : Type 1} {𝓤 : URA M} {H : Heap 𝓤} {A : Atoms 𝓤} {K : Type 
   -- by one instance of the callee's contract, which is what a function that calls itself has. The call ends a part of the code
   pub calls-last-by : K → (mem : Memory → SProp 𝓤) (run : Routine → Fun 𝓤) → FmC 𝓤 H (W .laws) C → (s : Store) (pages : ℕ) (nodes : ℕ) (register : ℕ) → ent 𝓤 (Asked 𝓤 H A mem run .pre (to 𝓤 H A mem run s pages nodes register)) (C #callee (Asked 𝓤 H A mem run .args (to 𝓤 H A mem run s pages nodes register)) (Asked 𝓤 H A mem run .post (to 𝓤 H A mem run s pages nodes register))) → Is Store′.row s (Store′.vals s) → Is u64 pages (uint-vals w64 pages) → Is u64 nodes (uint-vals w64 nodes) → Is u64 register (uint-vals w64 register) →
       Opds K W (raw (Asked 𝓤 H A mem run .pre (to 𝓤 H A mem run s pages nodes register)) ∷ Γ) E xs (Store′.mach s ∷ vint w64 pages ∷ vint w64 nodes ∷ vint w64 register ∷ [])
-      → ((x·res : Lengths) → Is Lengths′.row x·res (Lengths′.vals x·res) → lengths-of″.ens s pages nodes register x·res → Seq K W (Γ) (settles E d (Lengths′.mach x·res) Q))
+      → (Is Lengths′.row (lengths-of″.res s pages nodes register) (Lengths′.vals (lengths-of″.res s pages nodes register)) → Seq K W (Γ) (settles E d (Lengths′.mach (lengths-of″.res s pages nodes register)) Q))
       → Seq K W (Γ) (runs C Λ E (call #callee xs d) Q)
   calls-last-by t mem run fm s pages nodes register known ok·s ok·pages ok·nodes ok·register os k =
       core t mem run s pages nodes register (runs C Λ E (call #callee xs d) Q) (λ v. settles E d v Q) (λ v. tt)
@@ -95,6 +95,6 @@ module _ {M : Type 1} {𝓤 : URA M} {H : Heap 𝓤} {A : Atoms 𝓤} {K : Type 
 
   pub calls-last : K → (mem : Memory → SProp 𝓤) (run : Routine → Fun 𝓤) → FmC 𝓤 H (W .laws) C → Triple 𝓤 (C #callee) (Asked 𝓤 H A mem run) → (s : Store) (pages : ℕ) (nodes : ℕ) (register : ℕ) → Is Store′.row s (Store′.vals s) → Is u64 pages (uint-vals w64 pages) → Is u64 nodes (uint-vals w64 nodes) → Is u64 register (uint-vals w64 register) →
       Opds K W (raw (Asked 𝓤 H A mem run .pre (to 𝓤 H A mem run s pages nodes register)) ∷ Γ) E xs (Store′.mach s ∷ vint w64 pages ∷ vint w64 nodes ∷ vint w64 register ∷ [])
-      → ((x·res : Lengths) → Is Lengths′.row x·res (Lengths′.vals x·res) → lengths-of″.ens s pages nodes register x·res → Seq K W (Γ) (settles E d (Lengths′.mach x·res) Q))
+      → (Is Lengths′.row (lengths-of″.res s pages nodes register) (Lengths′.vals (lengths-of″.res s pages nodes register)) → Seq K W (Γ) (settles E d (Lengths′.mach (lengths-of″.res s pages nodes register)) Q))
       → Seq K W (Γ) (runs C Λ E (call #callee xs d) Q)
   calls-last t mem run fm known s pages nodes register = calls-last-by t mem run fm s pages nodes register (known (to 𝓤 H A mem run s pages nodes register))

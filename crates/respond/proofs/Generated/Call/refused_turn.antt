@@ -57,14 +57,14 @@ module _ {M : Type 1} {𝓤 : URA M} {H : Heap 𝓤} {A : Atoms 𝓤} {K : Type 
   -- the call itself is made by `by-call`, from what the callee asks to what it has ensured
   core : K → (mem : Memory → SProp 𝓤) (run : Routine → Fun 𝓤) → (kept : Kept) (κ·out : Lft) (q·out : Share) (b·out o·out : ℕ) (γ·out : GName) (n·out : ℕ) (out : List ℕ) → (G : Goal 𝓤 H) (after : Val → Goal 𝓤 H) → ((v : Val) → Soaks (after v))
       → (((v : Val) → Seq K W (raw (Asked 𝓤 H A mem run .post (to 𝓤 H A mem run kept κ·out q·out b·out o·out γ·out n·out out) v) ∷ Γ) (after v)) → Seq K W (raw (Asked 𝓤 H A mem run .pre (to 𝓤 H A mem run kept κ·out q·out b·out o·out γ·out n·out out)) ∷ Γ) G) → Is Kept′.row kept (Kept′.vals kept) →
-      ((x·res : Turn) → (zs·out : List ℕ) → Is Turn′.row x·res (Turn′.vals x·res) → length zs·out ≡ length out → Seq K W (‵ (flft κ·out q·out) ∷ ‵ (finally u8 γ·out zs·out) ∷ Γ) (after (Turn′.mach x·res))) → Seq K W (‵ (flft κ·out q·out) ∷ ‵ (MutAt u8 κ·out b·out o·out γ·out n·out out) ∷ Γ) G
+      (Is Turn′.row (refused-turn″.res kept out) (Turn′.vals (refused-turn″.res kept out)) → length (refused-turn″.out-out kept out) ≡ length out → Seq K W (‵ (flft κ·out q·out) ∷ ‵ (finally u8 γ·out (refused-turn″.out-out kept out)) ∷ Γ) (after (Turn′.mach (refused-turn″.res kept out)))) → Seq K W (‵ (flft κ·out q·out) ∷ ‵ (MutAt u8 κ·out b·out o·out γ·out n·out out) ∷ Γ) G
   core t mem run kept κ·out q·out b·out o·out γ·out n·out out G after soaks by-call ok·kept k =
       join t $ use1 W (raw (Asked 𝓤 H A mem run .pre (to 𝓤 H A mem run kept κ·out q·out b·out o·out γ·out n·out out))) goes $
       by-call (λ v.
       use1 W (later (some (λ (r· : Turn). ((‵ (flft κ·out q·out) ⊛ ‵ ftrue) ⊛ ‵ (Turn′.row .own r· (v ∷ []))) ⊛ raw (ensured 𝓤 H A callee.ended (callee.clauses 𝓤 H A mem run) (κ·out, tt) (kept, (ref b·out o·out γ·out out, tt)) tt r·)))) (id⊢ 𝓤 _) $ await t (soaks v) $ pick t (λ r·. split t $ move t (1 ∷ []) $
-      use1 W (some (λ (ws : Lasts callee.ended (κ·out, tt) (kept, (ref b·out o·out γ·out out, tt))). ‵ (lasts callee.ended (κ·out, tt) (kept, (ref b·out o·out γ·out out, tt)) ws) ⊛ raw (emp 𝓤))) (id⊢ 𝓤 _) $ pick t (λ ws. split t $ move t (1 ∷ []) $
-      drop t $ fsplit t $ drop t $ fsplit t $ fsplit t $ move t (1 ∷ []) $ feqL t (λ same·out. move t (1 ∷ []) $ drop t $ move t (1 ∷ []) $ split t $ move t (1 ∷ []) $ facts t Turn′.row (Is Turn′.row) (shows 𝓤 H A Turn′.row) r· (v ∷ []) (λ is. split t $ move t (1 ∷ []) $ drop t $
-      subst (λ (u : Val). Seq K W (‵ (flft κ·out q·out) ∷ ‵ (finally u8 γ·out (ws .1 .0)) ∷ Γ) (after u)) (sym (ap only (Turn′.tells r· (v ∷ []) is))) (k r· (ws .1 .0) (subst (Is Turn′.row r·) (Turn′.tells r· (v ∷ []) is) is) same·out))))))
+      use1 W (some (λ (ws : Lasts callee.ended (κ·out, tt) (kept, (ref b·out o·out γ·out out, tt))). ‵ (lasts callee.ended (κ·out, tt) (kept, (ref b·out o·out γ·out out, tt)) ws) ⊛ raw (fact 𝓤 (refused-turn″.ens kept out (ws .1 .0) r·)))) (id⊢ 𝓤 _) $ pick t (λ ws. split t $ move t (1 ∷ []) $
+      heard t (refused-turn″.ens kept out (ws .1 .0) r·) (λ e. fsplit t $ drop t $ fsplit t $ fsplit t $ move t (1 ∷ []) $ feqL t (λ same·out. move t (1 ∷ []) $ drop t $ move t (1 ∷ []) $ split t $ move t (1 ∷ []) $ facts t Turn′.row (Is Turn′.row) (shows 𝓤 H A Turn′.row) r· (v ∷ []) (λ is. split t $ move t (1 ∷ []) $ drop t $
+      rewrite t 1 (λ (zs : List ℕ). ‵ (finally u8 γ·out zs)) (e .1) refl $ subst (λ (u : Val). Seq K W (‵ (flft κ·out q·out) ∷ ‵ (finally u8 γ·out (refused-turn″.out-out kept out)) ∷ Γ) (after u)) (sym (ap only (Turn′.tells r· (v ∷ []) is) ∙ ap (λ (z : Turn). Turn′.mach z) (e .0))) (k (subst (λ (z : Turn). Is Turn′.row z (Turn′.vals z)) (e .0) (subst (Is Turn′.row r·) (Turn′.tells r· (v ∷ []) is) is)) (subst (λ (zs : List ℕ). length zs ≡ length out) (e .1) same·out))))))))
     where
       goes : ent 𝓤 (⋆ 𝓤 H A (‵ (flft κ·out q·out) ∷ ‵ (MutAt u8 κ·out b·out o·out γ·out n·out out) ∷ [])) (Asked 𝓤 H A mem run .pre (to 𝓤 H A mem run kept κ·out q·out b·out o·out γ·out n·out out))
       goes = qed W (‵ (flft κ·out q·out) ∷ ‵ (MutAt u8 κ·out b·out o·out γ·out n·out out) ∷ []) ∵ plus-nothing ! $ nothing ! $ move ! (1 ∷ 0 ∷ []) $ join ! $ frame ! $ nothing ! $ move ! (1 ∷ 0 ∷ []) $ fjoin ! $ owned ! Kept′.row (Is Kept′.row) (Kept′.makes 𝓤 H A) kept _ ok·kept $ fjoin ! $ done !
@@ -73,7 +73,7 @@ module _ {M : Type 1} {𝓤 : URA M} {H : Heap 𝓤} {A : Atoms 𝓤} {K : Type 
   -- by one instance of the callee's contract, which is what a function that calls itself has
   pub calls-by : K → (mem : Memory → SProp 𝓤) (run : Routine → Fun 𝓤) → FmC 𝓤 H (W .laws) C → (kept : Kept) (κ·out : Lft) (q·out : Share) (b·out o·out : ℕ) (γ·out : GName) (n·out : ℕ) (out : List ℕ) → ent 𝓤 (Asked 𝓤 H A mem run .pre (to 𝓤 H A mem run kept κ·out q·out b·out o·out γ·out n·out out)) (C #callee (Asked 𝓤 H A mem run .args (to 𝓤 H A mem run kept κ·out q·out b·out o·out γ·out n·out out)) (Asked 𝓤 H A mem run .post (to 𝓤 H A mem run kept κ·out q·out b·out o·out γ·out n·out out))) → Is Kept′.row kept (Kept′.vals kept) →
       Opds K W (raw (Asked 𝓤 H A mem run .pre (to 𝓤 H A mem run kept κ·out q·out b·out o·out γ·out n·out out)) ∷ Γ) E xs (Kept′.mach kept ∷ sliceVal (b·out, o·out) n·out ∷ [])
-      → ((x·res : Turn) → (zs·out : List ℕ) → Is Turn′.row x·res (Turn′.vals x·res) → length zs·out ≡ length out → Seq K W (‵ (flft κ·out q·out) ∷ ‵ (finally u8 γ·out zs·out) ∷ Γ) (lands C Λ E d (Turn′.mach x·res) rest Q))
+      → (Is Turn′.row (refused-turn″.res kept out) (Turn′.vals (refused-turn″.res kept out)) → length (refused-turn″.out-out kept out) ≡ length out → Seq K W (‵ (flft κ·out q·out) ∷ ‵ (finally u8 γ·out (refused-turn″.out-out kept out)) ∷ Γ) (lands C Λ E d (Turn′.mach (refused-turn″.res kept out)) rest Q))
       → Seq K W (‵ (flft κ·out q·out) ∷ ‵ (MutAt u8 κ·out b·out o·out γ·out n·out out) ∷ Γ) (runs C Λ E (seq (call #callee xs d) rest) Q)
   calls-by t mem run fm kept κ·out q·out b·out o·out γ·out n·out out known ok·kept os k =
       core t mem run kept κ·out q·out b·out o·out γ·out n·out out (runs C Λ E (seq (call #callee xs d) rest) Q) (λ v. lands C Λ E d v rest Q) (λ v. tt)
@@ -81,7 +81,7 @@ module _ {M : Type 1} {𝓤 : URA M} {H : Heap 𝓤} {A : Atoms 𝓤} {K : Type 
 
   pub calls : K → (mem : Memory → SProp 𝓤) (run : Routine → Fun 𝓤) → FmC 𝓤 H (W .laws) C → Triple 𝓤 (C #callee) (Asked 𝓤 H A mem run) → (kept : Kept) (κ·out : Lft) (q·out : Share) (b·out o·out : ℕ) (γ·out : GName) (n·out : ℕ) (out : List ℕ) → Is Kept′.row kept (Kept′.vals kept) →
       Opds K W (raw (Asked 𝓤 H A mem run .pre (to 𝓤 H A mem run kept κ·out q·out b·out o·out γ·out n·out out)) ∷ Γ) E xs (Kept′.mach kept ∷ sliceVal (b·out, o·out) n·out ∷ [])
-      → ((x·res : Turn) → (zs·out : List ℕ) → Is Turn′.row x·res (Turn′.vals x·res) → length zs·out ≡ length out → Seq K W (‵ (flft κ·out q·out) ∷ ‵ (finally u8 γ·out zs·out) ∷ Γ) (lands C Λ E d (Turn′.mach x·res) rest Q))
+      → (Is Turn′.row (refused-turn″.res kept out) (Turn′.vals (refused-turn″.res kept out)) → length (refused-turn″.out-out kept out) ≡ length out → Seq K W (‵ (flft κ·out q·out) ∷ ‵ (finally u8 γ·out (refused-turn″.out-out kept out)) ∷ Γ) (lands C Λ E d (Turn′.mach (refused-turn″.res kept out)) rest Q))
       → Seq K W (‵ (flft κ·out q·out) ∷ ‵ (MutAt u8 κ·out b·out o·out γ·out n·out out) ∷ Γ) (runs C Λ E (seq (call #callee xs d) rest) Q)
   calls t mem run fm known kept κ·out q·out b·out o·out γ·out n·out out = calls-by t mem run fm kept κ·out q·out b·out o·out γ·out n·out out (known (to 𝓤 H A mem run kept κ·out q·out b·out o·out γ·out n·out out))
 
@@ -89,7 +89,7 @@ module _ {M : Type 1} {𝓤 : URA M} {H : Heap 𝓤} {A : Atoms 𝓤} {K : Type 
   -- by one instance of the callee's contract, which is what a function that calls itself has. The call ends a part of the code
   pub calls-last-by : K → (mem : Memory → SProp 𝓤) (run : Routine → Fun 𝓤) → FmC 𝓤 H (W .laws) C → (kept : Kept) (κ·out : Lft) (q·out : Share) (b·out o·out : ℕ) (γ·out : GName) (n·out : ℕ) (out : List ℕ) → ent 𝓤 (Asked 𝓤 H A mem run .pre (to 𝓤 H A mem run kept κ·out q·out b·out o·out γ·out n·out out)) (C #callee (Asked 𝓤 H A mem run .args (to 𝓤 H A mem run kept κ·out q·out b·out o·out γ·out n·out out)) (Asked 𝓤 H A mem run .post (to 𝓤 H A mem run kept κ·out q·out b·out o·out γ·out n·out out))) → Is Kept′.row kept (Kept′.vals kept) →
       Opds K W (raw (Asked 𝓤 H A mem run .pre (to 𝓤 H A mem run kept κ·out q·out b·out o·out γ·out n·out out)) ∷ Γ) E xs (Kept′.mach kept ∷ sliceVal (b·out, o·out) n·out ∷ [])
-      → ((x·res : Turn) → (zs·out : List ℕ) → Is Turn′.row x·res (Turn′.vals x·res) → length zs·out ≡ length out → Seq K W (‵ (flft κ·out q·out) ∷ ‵ (finally u8 γ·out zs·out) ∷ Γ) (settles E d (Turn′.mach x·res) Q))
+      → (Is Turn′.row (refused-turn″.res kept out) (Turn′.vals (refused-turn″.res kept out)) → length (refused-turn″.out-out kept out) ≡ length out → Seq K W (‵ (flft κ·out q·out) ∷ ‵ (finally u8 γ·out (refused-turn″.out-out kept out)) ∷ Γ) (settles E d (Turn′.mach (refused-turn″.res kept out)) Q))
       → Seq K W (‵ (flft κ·out q·out) ∷ ‵ (MutAt u8 κ·out b·out o·out γ·out n·out out) ∷ Γ) (runs C Λ E (call #callee xs d) Q)
   calls-last-by t mem run fm kept κ·out q·out b·out o·out γ·out n·out out known ok·kept os k =
       core t mem run kept κ·out q·out b·out o·out γ·out n·out out (runs C Λ E (call #callee xs d) Q) (λ v. settles E d v Q) (λ v. tt)
@@ -97,6 +97,6 @@ module _ {M : Type 1} {𝓤 : URA M} {H : Heap 𝓤} {A : Atoms 𝓤} {K : Type 
 
   pub calls-last : K → (mem : Memory → SProp 𝓤) (run : Routine → Fun 𝓤) → FmC 𝓤 H (W .laws) C → Triple 𝓤 (C #callee) (Asked 𝓤 H A mem run) → (kept : Kept) (κ·out : Lft) (q·out : Share) (b·out o·out : ℕ) (γ·out : GName) (n·out : ℕ) (out : List ℕ) → Is Kept′.row kept (Kept′.vals kept) →
       Opds K W (raw (Asked 𝓤 H A mem run .pre (to 𝓤 H A mem run kept κ·out q·out b·out o·out γ·out n·out out)) ∷ Γ) E xs (Kept′.mach kept ∷ sliceVal (b·out, o·out) n·out ∷ [])
-      → ((x·res : Turn) → (zs·out : List ℕ) → Is Turn′.row x·res (Turn′.vals x·res) → length zs·out ≡ length out → Seq K W (‵ (flft κ·out q·out) ∷ ‵ (finally u8 γ·out zs·out) ∷ Γ) (settles E d (Turn′.mach x·res) Q))
+      → (Is Turn′.row (refused-turn″.res kept out) (Turn′.vals (refused-turn″.res kept out)) → length (refused-turn″.out-out kept out) ≡ length out → Seq K W (‵ (flft κ·out q·out) ∷ ‵ (finally u8 γ·out (refused-turn″.out-out kept out)) ∷ Γ) (settles E d (Turn′.mach (refused-turn″.res kept out)) Q))
       → Seq K W (‵ (flft κ·out q·out) ∷ ‵ (MutAt u8 κ·out b·out o·out γ·out n·out out) ∷ Γ) (runs C Λ E (call #callee xs d) Q)
   calls-last t mem run fm known kept κ·out q·out b·out o·out γ·out n·out out = calls-last-by t mem run fm kept κ·out q·out b·out o·out γ·out n·out out (known (to 𝓤 H A mem run kept κ·out q·out b·out o·out γ·out n·out out))

@@ -67,14 +67,14 @@ module _ {M : Type 1} {𝓤 : URA M} {H : Heap 𝓤} {A : Atoms 𝓤} {K : Type 
   -- the call itself is made by `by-call`, from what the callee asks to what it has ensured
   core : K → (mem : Memory → SProp 𝓤) (run : Routine → Fun 𝓤) → (kept : Kept) (wanted : Wanted) → (G : Goal 𝓤 H) (after : Val → Goal 𝓤 H) → ((v : Val) → Soaks (after v))
       → (((v : Val) → Seq K W (raw (Asked 𝓤 H A mem run .post (to 𝓤 H A mem run kept wanted) v) ∷ Γ) (after v)) → Seq K W (raw (Asked 𝓤 H A mem run .pre (to 𝓤 H A mem run kept wanted)) ∷ Γ) G) → Is Kept′.row kept (Kept′.vals kept) → Is Wanted′.row wanted (Wanted′.vals wanted) →
-      ((x·res : Store) → Is Store′.row x·res (Store′.vals x·res) → Seq K W (Γ) (after (Store′.mach x·res))) → Seq K W (Γ) G
+      (Is Store′.row (store-for″.res kept wanted) (Store′.vals (store-for″.res kept wanted)) → Seq K W (Γ) (after (Store′.mach (store-for″.res kept wanted)))) → Seq K W (Γ) G
   core t mem run kept wanted G after soaks by-call ok·kept ok·wanted k =
       use0 W (raw (Asked 𝓤 H A mem run .pre (to 𝓤 H A mem run kept wanted))) goes $
       by-call (λ v.
       use1 W (later (some (λ (r· : Store). ((‵ ftrue) ⊛ ‵ (Store′.row .own r· (v ∷ []))) ⊛ raw (ensured 𝓤 H A callee.ended (callee.clauses 𝓤 H A mem run) tt (kept, (wanted, tt)) tt r·)))) (id⊢ 𝓤 _) $ await t (soaks v) $ pick t (λ r·. split t $ move t (1 ∷ []) $
-      use1 W (some (λ (ws : Lasts callee.ended tt (kept, (wanted, tt))). ‵ (lasts callee.ended tt (kept, (wanted, tt)) ws) ⊛ raw (emp 𝓤))) (id⊢ 𝓤 _) $ pick t (λ ws. split t $ move t (1 ∷ []) $
-      drop t $ drop t $ split t $ move t (1 ∷ []) $ facts t Store′.row (Is Store′.row) (shows 𝓤 H A Store′.row) r· (v ∷ []) (λ is. drop t $
-      subst (λ (u : Val). Seq K W (Γ) (after u)) (sym (ap only (Store′.tells r· (v ∷ []) is))) (k r· (subst (Is Store′.row r·) (Store′.tells r· (v ∷ []) is) is))))))
+      use1 W (some (λ (ws : Lasts callee.ended tt (kept, (wanted, tt))). ‵ (lasts callee.ended tt (kept, (wanted, tt)) ws) ⊛ raw (fact 𝓤 (store-for″.ens kept wanted r·)))) (id⊢ 𝓤 _) $ pick t (λ ws. split t $ move t (1 ∷ []) $
+      heard t (store-for″.ens kept wanted r·) (λ e. drop t $ split t $ move t (1 ∷ []) $ facts t Store′.row (Is Store′.row) (shows 𝓤 H A Store′.row) r· (v ∷ []) (λ is. drop t $
+      subst (λ (u : Val). Seq K W (Γ) (after u)) (sym (ap only (Store′.tells r· (v ∷ []) is) ∙ ap (λ (z : Store). Store′.mach z) (e))) (k (subst (λ (z : Store). Is Store′.row z (Store′.vals z)) (e) (subst (Is Store′.row r·) (Store′.tells r· (v ∷ []) is) is))))))))
     where
       goes : ent 𝓤 (⋆ 𝓤 H A ([])) (Asked 𝓤 H A mem run .pre (to 𝓤 H A mem run kept wanted))
       goes = qed W ([]) ∵ plus-nothing ! $ nothing ! $ frame ! $ nothing ! $ owned ! Wanted′.row (Is Wanted′.row) (Wanted′.makes 𝓤 H A) wanted _ ok·wanted $ fjoin ! $ owned ! Kept′.row (Is Kept′.row) (Kept′.makes 𝓤 H A) kept _ ok·kept $ fjoin ! $ done !
@@ -83,7 +83,7 @@ module _ {M : Type 1} {𝓤 : URA M} {H : Heap 𝓤} {A : Atoms 𝓤} {K : Type 
   -- by one instance of the callee's contract, which is what a function that calls itself has
   pub calls-by : K → (mem : Memory → SProp 𝓤) (run : Routine → Fun 𝓤) → FmC 𝓤 H (W .laws) C → (kept : Kept) (wanted : Wanted) → ent 𝓤 (Asked 𝓤 H A mem run .pre (to 𝓤 H A mem run kept wanted)) (C #callee (Asked 𝓤 H A mem run .args (to 𝓤 H A mem run kept wanted)) (Asked 𝓤 H A mem run .post (to 𝓤 H A mem run kept wanted))) → Is Kept′.row kept (Kept′.vals kept) → Is Wanted′.row wanted (Wanted′.vals wanted) →
       Opds K W (raw (Asked 𝓤 H A mem run .pre (to 𝓤 H A mem run kept wanted)) ∷ Γ) E xs (Kept′.mach kept ∷ Wanted′.mach wanted ∷ [])
-      → ((x·res : Store) → Is Store′.row x·res (Store′.vals x·res) → Seq K W (Γ) (lands C Λ E d (Store′.mach x·res) rest Q))
+      → (Is Store′.row (store-for″.res kept wanted) (Store′.vals (store-for″.res kept wanted)) → Seq K W (Γ) (lands C Λ E d (Store′.mach (store-for″.res kept wanted)) rest Q))
       → Seq K W (Γ) (runs C Λ E (seq (call #callee xs d) rest) Q)
   calls-by t mem run fm kept wanted known ok·kept ok·wanted os k =
       core t mem run kept wanted (runs C Λ E (seq (call #callee xs d) rest) Q) (λ v. lands C Λ E d v rest Q) (λ v. tt)
@@ -91,7 +91,7 @@ module _ {M : Type 1} {𝓤 : URA M} {H : Heap 𝓤} {A : Atoms 𝓤} {K : Type 
 
   pub calls : K → (mem : Memory → SProp 𝓤) (run : Routine → Fun 𝓤) → FmC 𝓤 H (W .laws) C → Triple 𝓤 (C #callee) (Asked 𝓤 H A mem run) → (kept : Kept) (wanted : Wanted) → Is Kept′.row kept (Kept′.vals kept) → Is Wanted′.row wanted (Wanted′.vals wanted) →
       Opds K W (raw (Asked 𝓤 H A mem run .pre (to 𝓤 H A mem run kept wanted)) ∷ Γ) E xs (Kept′.mach kept ∷ Wanted′.mach wanted ∷ [])
-      → ((x·res : Store) → Is Store′.row x·res (Store′.vals x·res) → Seq K W (Γ) (lands C Λ E d (Store′.mach x·res) rest Q))
+      → (Is Store′.row (store-for″.res kept wanted) (Store′.vals (store-for″.res kept wanted)) → Seq K W (Γ) (lands C Λ E d (Store′.mach (store-for″.res kept wanted)) rest Q))
       → Seq K W (Γ) (runs C Λ E (seq (call #callee xs d) rest) Q)
   calls t mem run fm known kept wanted = calls-by t mem run fm kept wanted (known (to 𝓤 H A mem run kept wanted))
 
@@ -99,7 +99,7 @@ module _ {M : Type 1} {𝓤 : URA M} {H : Heap 𝓤} {A : Atoms 𝓤} {K : Type 
   -- by one instance of the callee's contract, which is what a function that calls itself has. The call ends a part of the code
   pub calls-last-by : K → (mem : Memory → SProp 𝓤) (run : Routine → Fun 𝓤) → FmC 𝓤 H (W .laws) C → (kept : Kept) (wanted : Wanted) → ent 𝓤 (Asked 𝓤 H A mem run .pre (to 𝓤 H A mem run kept wanted)) (C #callee (Asked 𝓤 H A mem run .args (to 𝓤 H A mem run kept wanted)) (Asked 𝓤 H A mem run .post (to 𝓤 H A mem run kept wanted))) → Is Kept′.row kept (Kept′.vals kept) → Is Wanted′.row wanted (Wanted′.vals wanted) →
       Opds K W (raw (Asked 𝓤 H A mem run .pre (to 𝓤 H A mem run kept wanted)) ∷ Γ) E xs (Kept′.mach kept ∷ Wanted′.mach wanted ∷ [])
-      → ((x·res : Store) → Is Store′.row x·res (Store′.vals x·res) → Seq K W (Γ) (settles E d (Store′.mach x·res) Q))
+      → (Is Store′.row (store-for″.res kept wanted) (Store′.vals (store-for″.res kept wanted)) → Seq K W (Γ) (settles E d (Store′.mach (store-for″.res kept wanted)) Q))
       → Seq K W (Γ) (runs C Λ E (call #callee xs d) Q)
   calls-last-by t mem run fm kept wanted known ok·kept ok·wanted os k =
       core t mem run kept wanted (runs C Λ E (call #callee xs d) Q) (λ v. settles E d v Q) (λ v. tt)
@@ -107,6 +107,6 @@ module _ {M : Type 1} {𝓤 : URA M} {H : Heap 𝓤} {A : Atoms 𝓤} {K : Type 
 
   pub calls-last : K → (mem : Memory → SProp 𝓤) (run : Routine → Fun 𝓤) → FmC 𝓤 H (W .laws) C → Triple 𝓤 (C #callee) (Asked 𝓤 H A mem run) → (kept : Kept) (wanted : Wanted) → Is Kept′.row kept (Kept′.vals kept) → Is Wanted′.row wanted (Wanted′.vals wanted) →
       Opds K W (raw (Asked 𝓤 H A mem run .pre (to 𝓤 H A mem run kept wanted)) ∷ Γ) E xs (Kept′.mach kept ∷ Wanted′.mach wanted ∷ [])
-      → ((x·res : Store) → Is Store′.row x·res (Store′.vals x·res) → Seq K W (Γ) (settles E d (Store′.mach x·res) Q))
+      → (Is Store′.row (store-for″.res kept wanted) (Store′.vals (store-for″.res kept wanted)) → Seq K W (Γ) (settles E d (Store′.mach (store-for″.res kept wanted)) Q))
       → Seq K W (Γ) (runs C Λ E (call #callee xs d) Q)
   calls-last t mem run fm known kept wanted = calls-last-by t mem run fm kept wanted (known (to 𝓤 H A mem run kept wanted))

@@ -5,6 +5,7 @@ use Prim.Native.Nat.{ℕ, _*_, min}
 use mathlib.Core.List.{List}
 use mathlib.Core.Bool.{Bool}
 use mathlib.Core.Path.{_≡_}
+use Rattle.respond.specs.Wanted.{nothingKept, beyond, formatWanted, readWanted, wantedBy, storeFor, lengthsFor}
 use Rattle.respond.specs.declared.Fill.{Fill}
 use Rattle.respond.specs.declared.Look.{Look}
 use Rattle.respond.specs.declared.Note.{Note}
@@ -15,4 +16,7 @@ use Rattle.versions.specs.declared.Lengths.{Lengths}
 use Rattle.versions.specs.declared.Store.{Store}
 
 abbrev pub ens : Store → ℕ → ℕ → ℕ → Lengths → Type 0
-ens s pages nodes register l = (l .pages ≡ min (s .size * s .pages) pages) × (l .nodes ≡ min (2 * s .nodes) nodes) × (l .register ≡ min (s .updates) register)
+ens s pages nodes register l = l ≡ lengthsFor s pages nodes register
+
+abbrev pub res : Store → ℕ → ℕ → ℕ → Lengths
+res s pages nodes register = lengthsFor s pages nodes register

@@ -5,8 +5,18 @@ use Prim.Native.Nat.{ℕ, min}
 use mathlib.Core.List.{List}
 use mathlib.Core.Bool.{Bool}
 use mathlib.Core.Path.{_≡_}
+use Rattle.answers.specs.Answers.{turned, written, refusedSaid, replied, holding, formatSaid, bytesSaid, readSaid, begunReply, putReply, assignedReply, wovenReply, publishedReply, sizedReply, latestReply, stampedReply}
 use Rattle.answers.specs.declared.Kept.{Kept}
 use Rattle.answers.specs.declared.Turn.{Turn}
 use Rattle.tree.specs.declared.Ticket.{Ticket}
 use Rattle.tree.specs.declared.Version.{Version}
 use Rattle.versions.specs.declared.Store.{Store}
+
+abbrev pub ens : Kept → List ℕ → List ℕ → Turn → Type 0
+ens kept out out′ r = (r ≡ turned (refusedSaid kept) out) × (out′ ≡ written (refusedSaid kept) out)
+
+abbrev pub res : Kept → List ℕ → Turn
+res kept out = turned (refusedSaid kept) out
+
+abbrev pub out-out : Kept → List ℕ → List ℕ
+out-out kept out = written (refusedSaid kept) out

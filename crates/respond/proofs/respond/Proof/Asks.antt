@@ -39,29 +39,35 @@ use Rattle.respond.proofs.Generated.Say.store_for as store-for″
 use Rattle.respond.proofs.Generated.Say.lengths_of as lengths-of″
 use Rattle.respond.proofs.Generated.Say.step_within as step-within″
 
-abbrev pub pages₃ : Kept → Wanted → List ℕ → List ℕ → List Record → List ℕ → Store → Lengths → Turn → List ℕ → List ℕ → List Record → List ℕ → List ℕ
-pages₃ kept wanted pages nodes register out r1 r2 r3 part-pages₃ part-nodes₃ part-register₃ out₃ = part-pages₃ ++ drop (r2 .pages) pages
+abbrev pub r1 : Kept → Wanted → List ℕ → List ℕ → List Record → List ℕ → Store
+r1 kept wanted pages nodes register out = store-for″.res kept wanted
 
-abbrev pub nodes₃ : Kept → Wanted → List ℕ → List ℕ → List Record → List ℕ → Store → Lengths → Turn → List ℕ → List ℕ → List Record → List ℕ → List ℕ
-nodes₃ kept wanted pages nodes register out r1 r2 r3 part-pages₃ part-nodes₃ part-register₃ out₃ = part-nodes₃ ++ drop (r2 .nodes) nodes
+abbrev pub r2 : Kept → Wanted → List ℕ → List ℕ → List Record → List ℕ → Lengths
+r2 kept wanted pages nodes register out = lengths-of″.res (r1 kept wanted pages nodes register out) (length pages) (length nodes) (length register)
 
-abbrev pub register₃ : Kept → Wanted → List ℕ → List ℕ → List Record → List ℕ → Store → Lengths → Turn → List ℕ → List ℕ → List Record → List ℕ → List Record
-register₃ kept wanted pages nodes register out r1 r2 r3 part-pages₃ part-nodes₃ part-register₃ out₃ = part-register₃ ++ drop (r2 .register) register
+abbrev pub pages₃ : Kept → Wanted → List ℕ → List ℕ → List Record → List ℕ → Turn → List ℕ → List ℕ → List Record → List ℕ → List ℕ
+pages₃ kept wanted pages nodes register out r3 part-pages₃ part-nodes₃ part-register₃ out₃ = part-pages₃ ++ drop ((r2 kept wanted pages nodes register out) .pages) pages
+
+abbrev pub nodes₃ : Kept → Wanted → List ℕ → List ℕ → List Record → List ℕ → Turn → List ℕ → List ℕ → List Record → List ℕ → List ℕ
+nodes₃ kept wanted pages nodes register out r3 part-pages₃ part-nodes₃ part-register₃ out₃ = part-nodes₃ ++ drop ((r2 kept wanted pages nodes register out) .nodes) nodes
+
+abbrev pub register₃ : Kept → Wanted → List ℕ → List ℕ → List Record → List ℕ → Turn → List ℕ → List ℕ → List Record → List ℕ → List Record
+register₃ kept wanted pages nodes register out r3 part-pages₃ part-nodes₃ part-register₃ out₃ = part-register₃ ++ drop ((r2 kept wanted pages nodes register out) .register) register
 
 -- pages has as many elements as are lent of it
 abbrev pub part-1 : Type 0
 part-1 =
-    (kept : Kept) (wanted : Wanted) (pages : List ℕ) (nodes : List ℕ) (register : List Record) (out : List ℕ) (ok-kept : Kept′.Ok kept) (ok-wanted : Wanted′.Ok wanted) (len-pages : length pages < 2 ^ 64) (len-nodes : length nodes < 2 ^ 64) (len-register : length register < 2 ^ 64) (len-out : length out < 2 ^ 64) (r1 : Store) (ok-r1 : Store′.Ok r1) (r2 : Lengths) (ok-r2 : Lengths′.Ok r2) (says2 : lengths-of″.ens r1 (length pages) (length nodes) (length register) r2)
-    → (r2 .pages) ≤ length pages
+    (kept : Kept) (wanted : Wanted) (pages : List ℕ) (nodes : List ℕ) (register : List Record) (out : List ℕ) (ok-kept : Kept′.Ok kept) (ok-wanted : Wanted′.Ok wanted) (len-pages : length pages < 2 ^ 64) (len-nodes : length nodes < 2 ^ 64) (len-register : length register < 2 ^ 64) (len-out : length out < 2 ^ 64) (ok-r1 : Store′.Ok (r1 kept wanted pages nodes register out)) (ok-r2 : Lengths′.Ok (r2 kept wanted pages nodes register out))
+    → ((r2 kept wanted pages nodes register out) .pages) ≤ length pages
 
 -- nodes has as many elements as are lent of it
 abbrev pub part-2 : Type 0
 part-2 =
-    (kept : Kept) (wanted : Wanted) (pages : List ℕ) (nodes : List ℕ) (register : List Record) (out : List ℕ) (ok-kept : Kept′.Ok kept) (ok-wanted : Wanted′.Ok wanted) (len-pages : length pages < 2 ^ 64) (len-nodes : length nodes < 2 ^ 64) (len-register : length register < 2 ^ 64) (len-out : length out < 2 ^ 64) (r1 : Store) (ok-r1 : Store′.Ok r1) (r2 : Lengths) (ok-r2 : Lengths′.Ok r2) (says2 : lengths-of″.ens r1 (length pages) (length nodes) (length register) r2) (part3-pages : (r2 .pages) ≤ length pages) (cut3-pages : length (take (r2 .pages) pages) ≡ (r2 .pages))
-    → (r2 .nodes) ≤ length nodes
+    (kept : Kept) (wanted : Wanted) (pages : List ℕ) (nodes : List ℕ) (register : List Record) (out : List ℕ) (ok-kept : Kept′.Ok kept) (ok-wanted : Wanted′.Ok wanted) (len-pages : length pages < 2 ^ 64) (len-nodes : length nodes < 2 ^ 64) (len-register : length register < 2 ^ 64) (len-out : length out < 2 ^ 64) (ok-r1 : Store′.Ok (r1 kept wanted pages nodes register out)) (ok-r2 : Lengths′.Ok (r2 kept wanted pages nodes register out)) (part3-pages : ((r2 kept wanted pages nodes register out) .pages) ≤ length pages) (cut3-pages : length (take ((r2 kept wanted pages nodes register out) .pages) pages) ≡ ((r2 kept wanted pages nodes register out) .pages))
+    → ((r2 kept wanted pages nodes register out) .nodes) ≤ length nodes
 
 -- register has as many elements as are lent of it
 abbrev pub part-3 : Type 0
 part-3 =
-    (kept : Kept) (wanted : Wanted) (pages : List ℕ) (nodes : List ℕ) (register : List Record) (out : List ℕ) (ok-kept : Kept′.Ok kept) (ok-wanted : Wanted′.Ok wanted) (len-pages : length pages < 2 ^ 64) (len-nodes : length nodes < 2 ^ 64) (len-register : length register < 2 ^ 64) (len-out : length out < 2 ^ 64) (r1 : Store) (ok-r1 : Store′.Ok r1) (r2 : Lengths) (ok-r2 : Lengths′.Ok r2) (says2 : lengths-of″.ens r1 (length pages) (length nodes) (length register) r2) (part3-pages : (r2 .pages) ≤ length pages) (cut3-pages : length (take (r2 .pages) pages) ≡ (r2 .pages)) (part3-nodes : (r2 .nodes) ≤ length nodes) (cut3-nodes : length (take (r2 .nodes) nodes) ≡ (r2 .nodes))
-    → (r2 .register) ≤ length register
+    (kept : Kept) (wanted : Wanted) (pages : List ℕ) (nodes : List ℕ) (register : List Record) (out : List ℕ) (ok-kept : Kept′.Ok kept) (ok-wanted : Wanted′.Ok wanted) (len-pages : length pages < 2 ^ 64) (len-nodes : length nodes < 2 ^ 64) (len-register : length register < 2 ^ 64) (len-out : length out < 2 ^ 64) (ok-r1 : Store′.Ok (r1 kept wanted pages nodes register out)) (ok-r2 : Lengths′.Ok (r2 kept wanted pages nodes register out)) (part3-pages : ((r2 kept wanted pages nodes register out) .pages) ≤ length pages) (cut3-pages : length (take ((r2 kept wanted pages nodes register out) .pages) pages) ≡ ((r2 kept wanted pages nodes register out) .pages)) (part3-nodes : ((r2 kept wanted pages nodes register out) .nodes) ≤ length nodes) (cut3-nodes : length (take ((r2 kept wanted pages nodes register out) .nodes) nodes) ≡ ((r2 kept wanted pages nodes register out) .nodes))
+    → ((r2 kept wanted pages nodes register out) .register) ≤ length register

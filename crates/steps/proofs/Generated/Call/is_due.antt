@@ -59,14 +59,14 @@ module _ {M : Type 1} {𝓤 : URA M} {H : Heap 𝓤} {A : Atoms 𝓤} {K : Type 
   -- the call itself is made by `by-call`, from what the callee asks to what it has ensured
   core : K → (mem : Memory → SProp 𝓤) (run : Routine → Fun 𝓤) → (x-at : Place‴) → (G : Goal 𝓤 H) (after : Val → Goal 𝓤 H) → ((v : Val) → Soaks (after v))
       → (((v : Val) → Seq K W (raw (Asked 𝓤 H A mem run .post (to 𝓤 H A mem run x-at) v) ∷ Γ) (after v)) → Seq K W (raw (Asked 𝓤 H A mem run .pre (to 𝓤 H A mem run x-at)) ∷ Γ) G) → Is Place′.row x-at (Place′.vals x-at) →
-      ((x·res : Bool) → Is bool x·res (bool-vals x·res) → Seq K W (Γ) (after (vbool x·res))) → Seq K W (Γ) G
+      (Is bool (is-due″.res x-at) (bool-vals (is-due″.res x-at)) → Seq K W (Γ) (after (vbool (is-due″.res x-at)))) → Seq K W (Γ) G
   core t mem run x-at G after soaks by-call ok·x-at k =
       use0 W (raw (Asked 𝓤 H A mem run .pre (to 𝓤 H A mem run x-at))) goes $
       by-call (λ v.
       use1 W (later (some (λ (r· : Bool). ((‵ ftrue) ⊛ ‵ (bool .own r· (v ∷ []))) ⊛ raw (ensured 𝓤 H A callee.ended (callee.clauses 𝓤 H A mem run) tt (x-at, tt) tt r·)))) (id⊢ 𝓤 _) $ await t (soaks v) $ pick t (λ r·. split t $ move t (1 ∷ []) $
-      use1 W (some (λ (ws : Lasts callee.ended tt (x-at, tt)). ‵ (lasts callee.ended tt (x-at, tt) ws) ⊛ raw (emp 𝓤))) (id⊢ 𝓤 _) $ pick t (λ ws. split t $ move t (1 ∷ []) $
-      drop t $ drop t $ split t $ move t (1 ∷ []) $ facts t bool (Is bool) (shows 𝓤 H A bool) r· (v ∷ []) (λ is. drop t $
-      subst (λ (u : Val). Seq K W (Γ) (after u)) (sym (ap only (bool-tells r· (v ∷ []) is))) (k r· (subst (Is bool r·) (bool-tells r· (v ∷ []) is) is))))))
+      use1 W (some (λ (ws : Lasts callee.ended tt (x-at, tt)). ‵ (lasts callee.ended tt (x-at, tt) ws) ⊛ raw (fact 𝓤 (is-due″.ens x-at r·)))) (id⊢ 𝓤 _) $ pick t (λ ws. split t $ move t (1 ∷ []) $
+      heard t (is-due″.ens x-at r·) (λ e. drop t $ split t $ move t (1 ∷ []) $ facts t bool (Is bool) (shows 𝓤 H A bool) r· (v ∷ []) (λ is. drop t $
+      subst (λ (u : Val). Seq K W (Γ) (after u)) (sym (ap only (bool-tells r· (v ∷ []) is) ∙ ap (λ (z : Bool). vbool z) (e))) (k (subst (λ (z : Bool). Is bool z (bool-vals z)) (e) (subst (Is bool r·) (bool-tells r· (v ∷ []) is) is))))))))
     where
       goes : ent 𝓤 (⋆ 𝓤 H A ([])) (Asked 𝓤 H A mem run .pre (to 𝓤 H A mem run x-at))
       goes = qed W ([]) ∵ plus-nothing ! $ nothing ! $ frame ! $ nothing ! $ owned ! Place′.row (Is Place′.row) (Place′.makes 𝓤 H A) x-at _ ok·x-at $ fjoin ! $ done !
@@ -75,7 +75,7 @@ module _ {M : Type 1} {𝓤 : URA M} {H : Heap 𝓤} {A : Atoms 𝓤} {K : Type 
   -- by one instance of the callee's contract, which is what a function that calls itself has
   pub calls-by : K → (mem : Memory → SProp 𝓤) (run : Routine → Fun 𝓤) → FmC 𝓤 H (W .laws) C → (x-at : Place‴) → ent 𝓤 (Asked 𝓤 H A mem run .pre (to 𝓤 H A mem run x-at)) (C #callee (Asked 𝓤 H A mem run .args (to 𝓤 H A mem run x-at)) (Asked 𝓤 H A mem run .post (to 𝓤 H A mem run x-at))) → Is Place′.row x-at (Place′.vals x-at) →
       Opds K W (raw (Asked 𝓤 H A mem run .pre (to 𝓤 H A mem run x-at)) ∷ Γ) E xs (Place′.mach x-at ∷ [])
-      → ((x·res : Bool) → Is bool x·res (bool-vals x·res) → Seq K W (Γ) (lands C Λ E d (vbool x·res) rest Q))
+      → (Is bool (is-due″.res x-at) (bool-vals (is-due″.res x-at)) → Seq K W (Γ) (lands C Λ E d (vbool (is-due″.res x-at)) rest Q))
       → Seq K W (Γ) (runs C Λ E (seq (call #callee xs d) rest) Q)
   calls-by t mem run fm x-at known ok·x-at os k =
       core t mem run x-at (runs C Λ E (seq (call #callee xs d) rest) Q) (λ v. lands C Λ E d v rest Q) (λ v. tt)
@@ -83,7 +83,7 @@ module _ {M : Type 1} {𝓤 : URA M} {H : Heap 𝓤} {A : Atoms 𝓤} {K : Type 
 
   pub calls : K → (mem : Memory → SProp 𝓤) (run : Routine → Fun 𝓤) → FmC 𝓤 H (W .laws) C → Triple 𝓤 (C #callee) (Asked 𝓤 H A mem run) → (x-at : Place‴) → Is Place′.row x-at (Place′.vals x-at) →
       Opds K W (raw (Asked 𝓤 H A mem run .pre (to 𝓤 H A mem run x-at)) ∷ Γ) E xs (Place′.mach x-at ∷ [])
-      → ((x·res : Bool) → Is bool x·res (bool-vals x·res) → Seq K W (Γ) (lands C Λ E d (vbool x·res) rest Q))
+      → (Is bool (is-due″.res x-at) (bool-vals (is-due″.res x-at)) → Seq K W (Γ) (lands C Λ E d (vbool (is-due″.res x-at)) rest Q))
       → Seq K W (Γ) (runs C Λ E (seq (call #callee xs d) rest) Q)
   calls t mem run fm known x-at = calls-by t mem run fm x-at (known (to 𝓤 H A mem run x-at))
 
@@ -91,7 +91,7 @@ module _ {M : Type 1} {𝓤 : URA M} {H : Heap 𝓤} {A : Atoms 𝓤} {K : Type 
   -- by one instance of the callee's contract, which is what a function that calls itself has. The call ends a part of the code
   pub calls-last-by : K → (mem : Memory → SProp 𝓤) (run : Routine → Fun 𝓤) → FmC 𝓤 H (W .laws) C → (x-at : Place‴) → ent 𝓤 (Asked 𝓤 H A mem run .pre (to 𝓤 H A mem run x-at)) (C #callee (Asked 𝓤 H A mem run .args (to 𝓤 H A mem run x-at)) (Asked 𝓤 H A mem run .post (to 𝓤 H A mem run x-at))) → Is Place′.row x-at (Place′.vals x-at) →
       Opds K W (raw (Asked 𝓤 H A mem run .pre (to 𝓤 H A mem run x-at)) ∷ Γ) E xs (Place′.mach x-at ∷ [])
-      → ((x·res : Bool) → Is bool x·res (bool-vals x·res) → Seq K W (Γ) (settles E d (vbool x·res) Q))
+      → (Is bool (is-due″.res x-at) (bool-vals (is-due″.res x-at)) → Seq K W (Γ) (settles E d (vbool (is-due″.res x-at)) Q))
       → Seq K W (Γ) (runs C Λ E (call #callee xs d) Q)
   calls-last-by t mem run fm x-at known ok·x-at os k =
       core t mem run x-at (runs C Λ E (call #callee xs d) Q) (λ v. settles E d v Q) (λ v. tt)
@@ -99,6 +99,6 @@ module _ {M : Type 1} {𝓤 : URA M} {H : Heap 𝓤} {A : Atoms 𝓤} {K : Type 
 
   pub calls-last : K → (mem : Memory → SProp 𝓤) (run : Routine → Fun 𝓤) → FmC 𝓤 H (W .laws) C → Triple 𝓤 (C #callee) (Asked 𝓤 H A mem run) → (x-at : Place‴) → Is Place′.row x-at (Place′.vals x-at) →
       Opds K W (raw (Asked 𝓤 H A mem run .pre (to 𝓤 H A mem run x-at)) ∷ Γ) E xs (Place′.mach x-at ∷ [])
-      → ((x·res : Bool) → Is bool x·res (bool-vals x·res) → Seq K W (Γ) (settles E d (vbool x·res) Q))
+      → (Is bool (is-due″.res x-at) (bool-vals (is-due″.res x-at)) → Seq K W (Γ) (settles E d (vbool (is-due″.res x-at)) Q))
       → Seq K W (Γ) (runs C Λ E (call #callee xs d) Q)
   calls-last t mem run fm known x-at = calls-last-by t mem run fm x-at (known (to 𝓤 H A mem run x-at))

@@ -59,14 +59,14 @@ module _ {M : Type 1} {𝓤 : URA M} {H : Heap 𝓤} {A : Atoms 𝓤} {K : Type 
   -- the call itself is made by `by-call`, from what the callee asks to what it has ensured
   core : K → (mem : Memory → SProp 𝓤) (run : Routine → Fun 𝓤) → (kept : Kept) (written : Bool) → (G : Goal 𝓤 H) (after : Val → Goal 𝓤 H) → ((v : Val) → Soaks (after v))
       → (((v : Val) → Seq K W (raw (Asked 𝓤 H A mem run .post (to 𝓤 H A mem run kept written) v) ∷ Γ) (after v)) → Seq K W (raw (Asked 𝓤 H A mem run .pre (to 𝓤 H A mem run kept written)) ∷ Γ) G) → Is Kept′.row kept (Kept′.vals kept) → Is bool written (bool-vals written) →
-      ((x·res : Place‴) → Is Place′.row x·res (Place′.vals x·res) → Seq K W (Γ) (after (Place′.mach x·res))) → Seq K W (Γ) G
+      (Is Place′.row (next-place″.res kept written) (Place′.vals (next-place″.res kept written)) → Seq K W (Γ) (after (Place′.mach (next-place″.res kept written)))) → Seq K W (Γ) G
   core t mem run kept written G after soaks by-call ok·kept ok·written k =
       use0 W (raw (Asked 𝓤 H A mem run .pre (to 𝓤 H A mem run kept written))) goes $
       by-call (λ v.
       use1 W (later (some (λ (r· : Place‴). ((‵ ftrue) ⊛ ‵ (Place′.row .own r· (v ∷ []))) ⊛ raw (ensured 𝓤 H A callee.ended (callee.clauses 𝓤 H A mem run) tt (kept, (written, tt)) tt r·)))) (id⊢ 𝓤 _) $ await t (soaks v) $ pick t (λ r·. split t $ move t (1 ∷ []) $
-      use1 W (some (λ (ws : Lasts callee.ended tt (kept, (written, tt))). ‵ (lasts callee.ended tt (kept, (written, tt)) ws) ⊛ raw (emp 𝓤))) (id⊢ 𝓤 _) $ pick t (λ ws. split t $ move t (1 ∷ []) $
-      drop t $ drop t $ split t $ move t (1 ∷ []) $ facts t Place′.row (Is Place′.row) (shows 𝓤 H A Place′.row) r· (v ∷ []) (λ is. drop t $
-      subst (λ (u : Val). Seq K W (Γ) (after u)) (sym (ap only (Place′.tells r· (v ∷ []) is))) (k r· (subst (Is Place′.row r·) (Place′.tells r· (v ∷ []) is) is))))))
+      use1 W (some (λ (ws : Lasts callee.ended tt (kept, (written, tt))). ‵ (lasts callee.ended tt (kept, (written, tt)) ws) ⊛ raw (fact 𝓤 (next-place″.ens kept written r·)))) (id⊢ 𝓤 _) $ pick t (λ ws. split t $ move t (1 ∷ []) $
+      heard t (next-place″.ens kept written r·) (λ e. drop t $ split t $ move t (1 ∷ []) $ facts t Place′.row (Is Place′.row) (shows 𝓤 H A Place′.row) r· (v ∷ []) (λ is. drop t $
+      subst (λ (u : Val). Seq K W (Γ) (after u)) (sym (ap only (Place′.tells r· (v ∷ []) is) ∙ ap (λ (z : Place‴). Place′.mach z) (e))) (k (subst (λ (z : Place‴). Is Place′.row z (Place′.vals z)) (e) (subst (Is Place′.row r·) (Place′.tells r· (v ∷ []) is) is))))))))
     where
       goes : ent 𝓤 (⋆ 𝓤 H A ([])) (Asked 𝓤 H A mem run .pre (to 𝓤 H A mem run kept written))
       goes = qed W ([]) ∵ plus-nothing ! $ nothing ! $ frame ! $ nothing ! $ owned ! bool (Is bool) (bool-makes 𝓤 H A W) written _ ok·written $ fjoin ! $ owned ! Kept′.row (Is Kept′.row) (Kept′.makes 𝓤 H A) kept _ ok·kept $ fjoin ! $ done !
@@ -75,7 +75,7 @@ module _ {M : Type 1} {𝓤 : URA M} {H : Heap 𝓤} {A : Atoms 𝓤} {K : Type 
   -- by one instance of the callee's contract, which is what a function that calls itself has
   pub calls-by : K → (mem : Memory → SProp 𝓤) (run : Routine → Fun 𝓤) → FmC 𝓤 H (W .laws) C → (kept : Kept) (written : Bool) → ent 𝓤 (Asked 𝓤 H A mem run .pre (to 𝓤 H A mem run kept written)) (C #callee (Asked 𝓤 H A mem run .args (to 𝓤 H A mem run kept written)) (Asked 𝓤 H A mem run .post (to 𝓤 H A mem run kept written))) → Is Kept′.row kept (Kept′.vals kept) → Is bool written (bool-vals written) →
       Opds K W (raw (Asked 𝓤 H A mem run .pre (to 𝓤 H A mem run kept written)) ∷ Γ) E xs (Kept′.mach kept ∷ vbool written ∷ [])
-      → ((x·res : Place‴) → Is Place′.row x·res (Place′.vals x·res) → Seq K W (Γ) (lands C Λ E d (Place′.mach x·res) rest Q))
+      → (Is Place′.row (next-place″.res kept written) (Place′.vals (next-place″.res kept written)) → Seq K W (Γ) (lands C Λ E d (Place′.mach (next-place″.res kept written)) rest Q))
       → Seq K W (Γ) (runs C Λ E (seq (call #callee xs d) rest) Q)
   calls-by t mem run fm kept written known ok·kept ok·written os k =
       core t mem run kept written (runs C Λ E (seq (call #callee xs d) rest) Q) (λ v. lands C Λ E d v rest Q) (λ v. tt)
@@ -83,7 +83,7 @@ module _ {M : Type 1} {𝓤 : URA M} {H : Heap 𝓤} {A : Atoms 𝓤} {K : Type 
 
   pub calls : K → (mem : Memory → SProp 𝓤) (run : Routine → Fun 𝓤) → FmC 𝓤 H (W .laws) C → Triple 𝓤 (C #callee) (Asked 𝓤 H A mem run) → (kept : Kept) (written : Bool) → Is Kept′.row kept (Kept′.vals kept) → Is bool written (bool-vals written) →
       Opds K W (raw (Asked 𝓤 H A mem run .pre (to 𝓤 H A mem run kept written)) ∷ Γ) E xs (Kept′.mach kept ∷ vbool written ∷ [])
-      → ((x·res : Place‴) → Is Place′.row x·res (Place′.vals x·res) → Seq K W (Γ) (lands C Λ E d (Place′.mach x·res) rest Q))
+      → (Is Place′.row (next-place″.res kept written) (Place′.vals (next-place″.res kept written)) → Seq K W (Γ) (lands C Λ E d (Place′.mach (next-place″.res kept written)) rest Q))
       → Seq K W (Γ) (runs C Λ E (seq (call #callee xs d) rest) Q)
   calls t mem run fm known kept written = calls-by t mem run fm kept written (known (to 𝓤 H A mem run kept written))
 
@@ -91,7 +91,7 @@ module _ {M : Type 1} {𝓤 : URA M} {H : Heap 𝓤} {A : Atoms 𝓤} {K : Type 
   -- by one instance of the callee's contract, which is what a function that calls itself has. The call ends a part of the code
   pub calls-last-by : K → (mem : Memory → SProp 𝓤) (run : Routine → Fun 𝓤) → FmC 𝓤 H (W .laws) C → (kept : Kept) (written : Bool) → ent 𝓤 (Asked 𝓤 H A mem run .pre (to 𝓤 H A mem run kept written)) (C #callee (Asked 𝓤 H A mem run .args (to 𝓤 H A mem run kept written)) (Asked 𝓤 H A mem run .post (to 𝓤 H A mem run kept written))) → Is Kept′.row kept (Kept′.vals kept) → Is bool written (bool-vals written) →
       Opds K W (raw (Asked 𝓤 H A mem run .pre (to 𝓤 H A mem run kept written)) ∷ Γ) E xs (Kept′.mach kept ∷ vbool written ∷ [])
-      → ((x·res : Place‴) → Is Place′.row x·res (Place′.vals x·res) → Seq K W (Γ) (settles E d (Place′.mach x·res) Q))
+      → (Is Place′.row (next-place″.res kept written) (Place′.vals (next-place″.res kept written)) → Seq K W (Γ) (settles E d (Place′.mach (next-place″.res kept written)) Q))
       → Seq K W (Γ) (runs C Λ E (call #callee xs d) Q)
   calls-last-by t mem run fm kept written known ok·kept ok·written os k =
       core t mem run kept written (runs C Λ E (call #callee xs d) Q) (λ v. settles E d v Q) (λ v. tt)
@@ -99,6 +99,6 @@ module _ {M : Type 1} {𝓤 : URA M} {H : Heap 𝓤} {A : Atoms 𝓤} {K : Type 
 
   pub calls-last : K → (mem : Memory → SProp 𝓤) (run : Routine → Fun 𝓤) → FmC 𝓤 H (W .laws) C → Triple 𝓤 (C #callee) (Asked 𝓤 H A mem run) → (kept : Kept) (written : Bool) → Is Kept′.row kept (Kept′.vals kept) → Is bool written (bool-vals written) →
       Opds K W (raw (Asked 𝓤 H A mem run .pre (to 𝓤 H A mem run kept written)) ∷ Γ) E xs (Kept′.mach kept ∷ vbool written ∷ [])
-      → ((x·res : Place‴) → Is Place′.row x·res (Place′.vals x·res) → Seq K W (Γ) (settles E d (Place′.mach x·res) Q))
+      → (Is Place′.row (next-place″.res kept written) (Place′.vals (next-place″.res kept written)) → Seq K W (Γ) (settles E d (Place′.mach (next-place″.res kept written)) Q))
       → Seq K W (Γ) (runs C Λ E (call #callee xs d) Q)
   calls-last t mem run fm known kept written = calls-last-by t mem run fm kept written (known (to 𝓤 H A mem run kept written))

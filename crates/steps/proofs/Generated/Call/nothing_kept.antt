@@ -55,14 +55,14 @@ module _ {M : Type 1} {𝓤 : URA M} {H : Heap 𝓤} {A : Atoms 𝓤} {K : Type 
   -- the call itself is made by `by-call`, from what the callee asks to what it has ensured
   core : K → (mem : Memory → SProp 𝓤) (run : Routine → Fun 𝓤) → (G : Goal 𝓤 H) (after : Val → Goal 𝓤 H) → ((v : Val) → Soaks (after v))
       → (((v : Val) → Seq K W (raw (Asked 𝓤 H A mem run .post (to 𝓤 H A mem run) v) ∷ Γ) (after v)) → Seq K W (raw (Asked 𝓤 H A mem run .pre (to 𝓤 H A mem run)) ∷ Γ) G) →
-      ((x·res : Kept) → Is Kept′.row x·res (Kept′.vals x·res) → Seq K W (Γ) (after (Kept′.mach x·res))) → Seq K W (Γ) G
+      (Is Kept′.row nothing-kept″.res (Kept′.vals nothing-kept″.res) → Seq K W (Γ) (after (Kept′.mach nothing-kept″.res))) → Seq K W (Γ) G
   core t mem run G after soaks by-call k =
       use0 W (raw (Asked 𝓤 H A mem run .pre (to 𝓤 H A mem run))) goes $
       by-call (λ v.
       use1 W (later (some (λ (r· : Kept). ((‵ ftrue) ⊛ ‵ (Kept′.row .own r· (v ∷ []))) ⊛ raw (ensured 𝓤 H A callee.ended (callee.clauses 𝓤 H A mem run) tt tt tt r·)))) (id⊢ 𝓤 _) $ await t (soaks v) $ pick t (λ r·. split t $ move t (1 ∷ []) $
-      use1 W (some (λ (ws : Lasts callee.ended tt tt). ‵ (lasts callee.ended tt tt ws) ⊛ raw (emp 𝓤))) (id⊢ 𝓤 _) $ pick t (λ ws. split t $ move t (1 ∷ []) $
-      drop t $ drop t $ split t $ move t (1 ∷ []) $ facts t Kept′.row (Is Kept′.row) (shows 𝓤 H A Kept′.row) r· (v ∷ []) (λ is. drop t $
-      subst (λ (u : Val). Seq K W (Γ) (after u)) (sym (ap only (Kept′.tells r· (v ∷ []) is))) (k r· (subst (Is Kept′.row r·) (Kept′.tells r· (v ∷ []) is) is))))))
+      use1 W (some (λ (ws : Lasts callee.ended tt tt). ‵ (lasts callee.ended tt tt ws) ⊛ raw (fact 𝓤 (nothing-kept″.ens r·)))) (id⊢ 𝓤 _) $ pick t (λ ws. split t $ move t (1 ∷ []) $
+      heard t (nothing-kept″.ens r·) (λ e. drop t $ split t $ move t (1 ∷ []) $ facts t Kept′.row (Is Kept′.row) (shows 𝓤 H A Kept′.row) r· (v ∷ []) (λ is. drop t $
+      subst (λ (u : Val). Seq K W (Γ) (after u)) (sym (ap only (Kept′.tells r· (v ∷ []) is) ∙ ap (λ (z : Kept). Kept′.mach z) (e))) (k (subst (λ (z : Kept). Is Kept′.row z (Kept′.vals z)) (e) (subst (Is Kept′.row r·) (Kept′.tells r· (v ∷ []) is) is))))))))
     where
       goes : ent 𝓤 (⋆ 𝓤 H A ([])) (Asked 𝓤 H A mem run .pre (to 𝓤 H A mem run))
       goes = qed W ([]) ∵ plus-nothing ! $ nothing ! $ frame ! $ nothing ! $ done !
@@ -71,7 +71,7 @@ module _ {M : Type 1} {𝓤 : URA M} {H : Heap 𝓤} {A : Atoms 𝓤} {K : Type 
   -- by one instance of the callee's contract, which is what a function that calls itself has
   pub calls-by : K → (mem : Memory → SProp 𝓤) (run : Routine → Fun 𝓤) → FmC 𝓤 H (W .laws) C → ent 𝓤 (Asked 𝓤 H A mem run .pre (to 𝓤 H A mem run)) (C #callee (Asked 𝓤 H A mem run .args (to 𝓤 H A mem run)) (Asked 𝓤 H A mem run .post (to 𝓤 H A mem run))) →
       Opds K W (raw (Asked 𝓤 H A mem run .pre (to 𝓤 H A mem run)) ∷ Γ) E xs ([])
-      → ((x·res : Kept) → Is Kept′.row x·res (Kept′.vals x·res) → Seq K W (Γ) (lands C Λ E d (Kept′.mach x·res) rest Q))
+      → (Is Kept′.row nothing-kept″.res (Kept′.vals nothing-kept″.res) → Seq K W (Γ) (lands C Λ E d (Kept′.mach nothing-kept″.res) rest Q))
       → Seq K W (Γ) (runs C Λ E (seq (call #callee xs d) rest) Q)
   calls-by t mem run fm known os k =
       core t mem run (runs C Λ E (seq (call #callee xs d) rest) Q) (λ v. lands C Λ E d v rest Q) (λ v. tt)
@@ -79,7 +79,7 @@ module _ {M : Type 1} {𝓤 : URA M} {H : Heap 𝓤} {A : Atoms 𝓤} {K : Type 
 
   pub calls : K → (mem : Memory → SProp 𝓤) (run : Routine → Fun 𝓤) → FmC 𝓤 H (W .laws) C → Triple 𝓤 (C #callee) (Asked 𝓤 H A mem run) →
       Opds K W (raw (Asked 𝓤 H A mem run .pre (to 𝓤 H A mem run)) ∷ Γ) E xs ([])
-      → ((x·res : Kept) → Is Kept′.row x·res (Kept′.vals x·res) → Seq K W (Γ) (lands C Λ E d (Kept′.mach x·res) rest Q))
+      → (Is Kept′.row nothing-kept″.res (Kept′.vals nothing-kept″.res) → Seq K W (Γ) (lands C Λ E d (Kept′.mach nothing-kept″.res) rest Q))
       → Seq K W (Γ) (runs C Λ E (seq (call #callee xs d) rest) Q)
   calls t mem run fm known = calls-by t mem run fm (known (to 𝓤 H A mem run))
 
@@ -87,7 +87,7 @@ module _ {M : Type 1} {𝓤 : URA M} {H : Heap 𝓤} {A : Atoms 𝓤} {K : Type 
   -- by one instance of the callee's contract, which is what a function that calls itself has. The call ends a part of the code
   pub calls-last-by : K → (mem : Memory → SProp 𝓤) (run : Routine → Fun 𝓤) → FmC 𝓤 H (W .laws) C → ent 𝓤 (Asked 𝓤 H A mem run .pre (to 𝓤 H A mem run)) (C #callee (Asked 𝓤 H A mem run .args (to 𝓤 H A mem run)) (Asked 𝓤 H A mem run .post (to 𝓤 H A mem run))) →
       Opds K W (raw (Asked 𝓤 H A mem run .pre (to 𝓤 H A mem run)) ∷ Γ) E xs ([])
-      → ((x·res : Kept) → Is Kept′.row x·res (Kept′.vals x·res) → Seq K W (Γ) (settles E d (Kept′.mach x·res) Q))
+      → (Is Kept′.row nothing-kept″.res (Kept′.vals nothing-kept″.res) → Seq K W (Γ) (settles E d (Kept′.mach nothing-kept″.res) Q))
       → Seq K W (Γ) (runs C Λ E (call #callee xs d) Q)
   calls-last-by t mem run fm known os k =
       core t mem run (runs C Λ E (call #callee xs d) Q) (λ v. settles E d v Q) (λ v. tt)
@@ -95,6 +95,6 @@ module _ {M : Type 1} {𝓤 : URA M} {H : Heap 𝓤} {A : Atoms 𝓤} {K : Type 
 
   pub calls-last : K → (mem : Memory → SProp 𝓤) (run : Routine → Fun 𝓤) → FmC 𝓤 H (W .laws) C → Triple 𝓤 (C #callee) (Asked 𝓤 H A mem run) →
       Opds K W (raw (Asked 𝓤 H A mem run .pre (to 𝓤 H A mem run)) ∷ Γ) E xs ([])
-      → ((x·res : Kept) → Is Kept′.row x·res (Kept′.vals x·res) → Seq K W (Γ) (settles E d (Kept′.mach x·res) Q))
+      → (Is Kept′.row nothing-kept″.res (Kept′.vals nothing-kept″.res) → Seq K W (Γ) (settles E d (Kept′.mach nothing-kept″.res) Q))
       → Seq K W (Γ) (runs C Λ E (call #callee xs d) Q)
   calls-last t mem run fm known = calls-last-by t mem run fm (known (to 𝓤 H A mem run))

@@ -67,14 +67,14 @@ module _ {M : Type 1} {𝓤 : URA M} {H : Heap 𝓤} {A : Atoms 𝓤} {K : Type 
   -- the call itself is made by `by-call`, from what the callee asks to what it has ensured
   core : K → (mem : Memory → SProp 𝓤) (run : Routine → Fun 𝓤) → (step : Step) → (G : Goal 𝓤 H) (after : Val → Goal 𝓤 H) → ((v : Val) → Soaks (after v))
       → (((v : Val) → Seq K W (raw (Asked 𝓤 H A mem run .post (to 𝓤 H A mem run step) v) ∷ Γ) (after v)) → Seq K W (raw (Asked 𝓤 H A mem run .pre (to 𝓤 H A mem run step)) ∷ Γ) G) → Is Step′.row step (Step′.vals step) →
-      ((x·res : Wanted) → Is Wanted′.row x·res (Wanted′.vals x·res) → Seq K W (Γ) (after (Wanted′.mach x·res))) → Seq K W (Γ) G
+      (Is Wanted′.row (wanted-by″.res step) (Wanted′.vals (wanted-by″.res step)) → Seq K W (Γ) (after (Wanted′.mach (wanted-by″.res step)))) → Seq K W (Γ) G
   core t mem run step G after soaks by-call ok·step k =
       use0 W (raw (Asked 𝓤 H A mem run .pre (to 𝓤 H A mem run step))) goes $
       by-call (λ v.
       use1 W (later (some (λ (r· : Wanted). ((‵ ftrue) ⊛ ‵ (Wanted′.row .own r· (v ∷ []))) ⊛ raw (ensured 𝓤 H A callee.ended (callee.clauses 𝓤 H A mem run) tt (step, tt) tt r·)))) (id⊢ 𝓤 _) $ await t (soaks v) $ pick t (λ r·. split t $ move t (1 ∷ []) $
-      use1 W (some (λ (ws : Lasts callee.ended tt (step, tt)). ‵ (lasts callee.ended tt (step, tt) ws) ⊛ raw (emp 𝓤))) (id⊢ 𝓤 _) $ pick t (λ ws. split t $ move t (1 ∷ []) $
-      drop t $ drop t $ split t $ move t (1 ∷ []) $ facts t Wanted′.row (Is Wanted′.row) (shows 𝓤 H A Wanted′.row) r· (v ∷ []) (λ is. drop t $
-      subst (λ (u : Val). Seq K W (Γ) (after u)) (sym (ap only (Wanted′.tells r· (v ∷ []) is))) (k r· (subst (Is Wanted′.row r·) (Wanted′.tells r· (v ∷ []) is) is))))))
+      use1 W (some (λ (ws : Lasts callee.ended tt (step, tt)). ‵ (lasts callee.ended tt (step, tt) ws) ⊛ raw (fact 𝓤 (wanted-by″.ens step r·)))) (id⊢ 𝓤 _) $ pick t (λ ws. split t $ move t (1 ∷ []) $
+      heard t (wanted-by″.ens step r·) (λ e. drop t $ split t $ move t (1 ∷ []) $ facts t Wanted′.row (Is Wanted′.row) (shows 𝓤 H A Wanted′.row) r· (v ∷ []) (λ is. drop t $
+      subst (λ (u : Val). Seq K W (Γ) (after u)) (sym (ap only (Wanted′.tells r· (v ∷ []) is) ∙ ap (λ (z : Wanted). Wanted′.mach z) (e))) (k (subst (λ (z : Wanted). Is Wanted′.row z (Wanted′.vals z)) (e) (subst (Is Wanted′.row r·) (Wanted′.tells r· (v ∷ []) is) is))))))))
     where
       goes : ent 𝓤 (⋆ 𝓤 H A ([])) (Asked 𝓤 H A mem run .pre (to 𝓤 H A mem run step))
       goes = qed W ([]) ∵ plus-nothing ! $ nothing ! $ frame ! $ nothing ! $ owned ! Step′.row (Is Step′.row) (Step′.makes 𝓤 H A) step _ ok·step $ fjoin ! $ done !
@@ -83,7 +83,7 @@ module _ {M : Type 1} {𝓤 : URA M} {H : Heap 𝓤} {A : Atoms 𝓤} {K : Type 
   -- by one instance of the callee's contract, which is what a function that calls itself has
   pub calls-by : K → (mem : Memory → SProp 𝓤) (run : Routine → Fun 𝓤) → FmC 𝓤 H (W .laws) C → (step : Step) → ent 𝓤 (Asked 𝓤 H A mem run .pre (to 𝓤 H A mem run step)) (C #callee (Asked 𝓤 H A mem run .args (to 𝓤 H A mem run step)) (Asked 𝓤 H A mem run .post (to 𝓤 H A mem run step))) → Is Step′.row step (Step′.vals step) →
       Opds K W (raw (Asked 𝓤 H A mem run .pre (to 𝓤 H A mem run step)) ∷ Γ) E xs (Step′.mach step ∷ [])
-      → ((x·res : Wanted) → Is Wanted′.row x·res (Wanted′.vals x·res) → Seq K W (Γ) (lands C Λ E d (Wanted′.mach x·res) rest Q))
+      → (Is Wanted′.row (wanted-by″.res step) (Wanted′.vals (wanted-by″.res step)) → Seq K W (Γ) (lands C Λ E d (Wanted′.mach (wanted-by″.res step)) rest Q))
       → Seq K W (Γ) (runs C Λ E (seq (call #callee xs d) rest) Q)
   calls-by t mem run fm step known ok·step os k =
       core t mem run step (runs C Λ E (seq (call #callee xs d) rest) Q) (λ v. lands C Λ E d v rest Q) (λ v. tt)
@@ -91,7 +91,7 @@ module _ {M : Type 1} {𝓤 : URA M} {H : Heap 𝓤} {A : Atoms 𝓤} {K : Type 
 
   pub calls : K → (mem : Memory → SProp 𝓤) (run : Routine → Fun 𝓤) → FmC 𝓤 H (W .laws) C → Triple 𝓤 (C #callee) (Asked 𝓤 H A mem run) → (step : Step) → Is Step′.row step (Step′.vals step) →
       Opds K W (raw (Asked 𝓤 H A mem run .pre (to 𝓤 H A mem run step)) ∷ Γ) E xs (Step′.mach step ∷ [])
-      → ((x·res : Wanted) → Is Wanted′.row x·res (Wanted′.vals x·res) → Seq K W (Γ) (lands C Λ E d (Wanted′.mach x·res) rest Q))
+      → (Is Wanted′.row (wanted-by″.res step) (Wanted′.vals (wanted-by″.res step)) → Seq K W (Γ) (lands C Λ E d (Wanted′.mach (wanted-by″.res step)) rest Q))
       → Seq K W (Γ) (runs C Λ E (seq (call #callee xs d) rest) Q)
   calls t mem run fm known step = calls-by t mem run fm step (known (to 𝓤 H A mem run step))
 
@@ -99,7 +99,7 @@ module _ {M : Type 1} {𝓤 : URA M} {H : Heap 𝓤} {A : Atoms 𝓤} {K : Type 
   -- by one instance of the callee's contract, which is what a function that calls itself has. The call ends a part of the code
   pub calls-last-by : K → (mem : Memory → SProp 𝓤) (run : Routine → Fun 𝓤) → FmC 𝓤 H (W .laws) C → (step : Step) → ent 𝓤 (Asked 𝓤 H A mem run .pre (to 𝓤 H A mem run step)) (C #callee (Asked 𝓤 H A mem run .args (to 𝓤 H A mem run step)) (Asked 𝓤 H A mem run .post (to 𝓤 H A mem run step))) → Is Step′.row step (Step′.vals step) →
       Opds K W (raw (Asked 𝓤 H A mem run .pre (to 𝓤 H A mem run step)) ∷ Γ) E xs (Step′.mach step ∷ [])
-      → ((x·res : Wanted) → Is Wanted′.row x·res (Wanted′.vals x·res) → Seq K W (Γ) (settles E d (Wanted′.mach x·res) Q))
+      → (Is Wanted′.row (wanted-by″.res step) (Wanted′.vals (wanted-by″.res step)) → Seq K W (Γ) (settles E d (Wanted′.mach (wanted-by″.res step)) Q))
       → Seq K W (Γ) (runs C Λ E (call #callee xs d) Q)
   calls-last-by t mem run fm step known ok·step os k =
       core t mem run step (runs C Λ E (call #callee xs d) Q) (λ v. settles E d v Q) (λ v. tt)
@@ -107,6 +107,6 @@ module _ {M : Type 1} {𝓤 : URA M} {H : Heap 𝓤} {A : Atoms 𝓤} {K : Type 
 
   pub calls-last : K → (mem : Memory → SProp 𝓤) (run : Routine → Fun 𝓤) → FmC 𝓤 H (W .laws) C → Triple 𝓤 (C #callee) (Asked 𝓤 H A mem run) → (step : Step) → Is Step′.row step (Step′.vals step) →
       Opds K W (raw (Asked 𝓤 H A mem run .pre (to 𝓤 H A mem run step)) ∷ Γ) E xs (Step′.mach step ∷ [])
-      → ((x·res : Wanted) → Is Wanted′.row x·res (Wanted′.vals x·res) → Seq K W (Γ) (settles E d (Wanted′.mach x·res) Q))
+      → (Is Wanted′.row (wanted-by″.res step) (Wanted′.vals (wanted-by″.res step)) → Seq K W (Γ) (settles E d (Wanted′.mach (wanted-by″.res step)) Q))
       → Seq K W (Γ) (runs C Λ E (call #callee xs d) Q)
   calls-last t mem run fm known step = calls-last-by t mem run fm step (known (to 𝓤 H A mem run step))

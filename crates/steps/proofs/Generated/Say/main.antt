@@ -4,5 +4,7 @@
 use Prim.Native.Nat.{ℕ, _≤_}
 use mathlib.Core.List.{List}
 use mathlib.Core.Bool.{Bool}
+use mathlib.Core.Path.{_≡_}
 use lib.ListN.{length}
+use Rattle.steps.specs.Places.{nextPlace, samePlace, isDue}
 use Rattle.steps.specs.declared.Place.{Place as Place‴, Place}

@@ -4,10 +4,18 @@
 use Prim.Native.Nat.{ℕ, _≤_}
 use mathlib.Core.List.{List}
 use mathlib.Core.Bool.{Bool}
+use mathlib.Core.Path.{_≡_}
 use lib.ListN.{length}
+use Rattle.steps.specs.Places.{nextPlace, samePlace, isDue}
 use Rattle.answers.specs.declared.Kept.{Kept}
 use Rattle.parse.specs.declared.Cutter.{Cutter}
 use Rattle.steps.specs.declared.Place.{Place as Place‴, Place}
 use Rattle.tree.specs.declared.Ticket.{Ticket}
 use Rattle.tree.specs.declared.Version.{Version}
 use Rattle.versions.specs.declared.Store.{Store}
+
+abbrev pub ens : Kept → Bool → Place‴ → Type 0
+ens kept written r = r ≡ nextPlace kept written
+
+abbrev pub res : Kept → Bool → Place‴
+res kept written = nextPlace kept written

@@ -4,7 +4,9 @@
 use Prim.Native.Nat.{ℕ, _≤_}
 use mathlib.Core.List.{List}
 use mathlib.Core.Bool.{Bool}
+use mathlib.Core.Path.{_≡_}
 use lib.ListN.{length}
+use Rattle.steps.specs.Places.{nextPlace, samePlace, isDue}
 use Rattle.steps.specs.declared.Place.{Place as Place‴, Place}
 
 abbrev pub ens : List ℕ → List ℕ → ℕ → Type 0

@@ -4,7 +4,9 @@
 use Prim.Native.Nat.{ℕ, _≤_}
 use mathlib.Core.List.{List}
 use mathlib.Core.Bool.{Bool}
+use mathlib.Core.Path.{_≡_}
 use lib.ListN.{length}
+use Rattle.steps.specs.Places.{nextPlace, samePlace, isDue}
 use Rattle.answers.specs.declared.Kept.{Kept}
 use Rattle.parse.specs.declared.Cutter.{Cutter}
 use Rattle.register.specs.declared.Record.{Record}

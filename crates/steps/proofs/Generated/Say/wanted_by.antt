@@ -5,6 +5,7 @@ use Prim.Native.Nat.{ℕ, _*_, min}
 use mathlib.Core.List.{List}
 use mathlib.Core.Bool.{Bool}
 use mathlib.Core.Path.{_≡_}
+use Rattle.respond.specs.Wanted.{nothingKept, beyond, formatWanted, readWanted, wantedBy, storeFor, lengthsFor}
 use Rattle.parse.specs.declared.Step.{Step}
 use Rattle.respond.specs.declared.Fill.{Fill}
 use Rattle.respond.specs.declared.Look.{Look}
@@ -15,3 +16,9 @@ use Rattle.tree.specs.declared.Ticket.{Ticket}
 use Rattle.tree.specs.declared.Version.{Version}
 use Rattle.versions.specs.declared.ByteOffset.{ByteOffset}
 use Rattle.versions.specs.declared.Store.{Store}
+
+abbrev pub ens : Step → Wanted → Type 0
+ens step r = r ≡ wantedBy step
+
+abbrev pub res : Step → Wanted
+res step = wantedBy step

@@ -50,3 +50,9 @@ r1 kept c text pages nodes register arr7 = step-cut″.res c text arr7
 
 abbrev pub arr7₁ : Kept → Cutter → List ℕ → List ℕ → List ℕ → List Record → List ℕ → List ℕ
 arr7₁ kept c text pages nodes register arr7 = step-cut″.out-bytes c text arr7
+
+abbrev pub r2 : Kept → Cutter → List ℕ → List ℕ → List ℕ → List Record → List ℕ → Wanted
+r2 kept c text pages nodes register arr7 = wanted-by″.res (r1 kept c text pages nodes register arr7)
+
+abbrev pub r5 : Kept → Cutter → List ℕ → List ℕ → List ℕ → List Record → List ℕ → Turn → List ℕ → List ℕ → List Record → List ℕ → Bool → Place‴
+r5 kept c text pages nodes register arr7 r3 pages₃ nodes₃ register₃ arr7₃ r4 = next-place″.res (r3 .kept) r4

@@ -34,3 +34,12 @@ use Rattle.steps.proofs.Generated.Say.answer as answer″
 
 abbrev pub r1 : List ℕ → List ℕ → List ℕ → Record
 r1 arr1 arr2 arr3 = no-record″.res
+
+abbrev pub r2 : List ℕ → List ℕ → List ℕ → List Record → Kept
+r2 arr1 arr2 arr3 arr5 = nothing-kept″.res
+
+abbrev pub r3 : List ℕ → List ℕ → List ℕ → List Record → Place‴
+r3 arr1 arr2 arr3 arr5 = next-place″.res (r2 arr1 arr2 arr3 arr5) true
+
+abbrev pub r5 : List ℕ → List ℕ → List ℕ → List Record → Place‴ → List ℕ → List ℕ → List ℕ → List Record → Bool
+r5 arr1 arr2 arr3 arr5 r4 arr1₄ arr2₄ arr3₄ arr5₄ = is-due″.res r4

@@ -36,3 +36,6 @@ r1 x-at b text pages nodes register = feed″.res (x-at .cutter) text b
 
 abbrev pub text₁ : Place‴ → ℕ → List ℕ → List ℕ → List ℕ → List Record → List ℕ
 text₁ x-at b text pages nodes register = feed″.out-line (x-at .cutter) text b
+
+abbrev pub r2 : Place‴ → ℕ → List ℕ → List ℕ → List ℕ → List Record → Cutter → Place‴
+r2 x-at b text pages nodes register y1-0 = same-place″.res (x-at .kept) y1-0

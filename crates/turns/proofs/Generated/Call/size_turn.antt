@@ -59,14 +59,14 @@ module _ {M : Type 1} {𝓤 : URA M} {H : Heap 𝓤} {A : Atoms 𝓤} {K : Type 
   -- the call itself is made by `by-call`, from what the callee asks to what it has ensured
   core : K → (mem : Memory → SProp 𝓤) (run : Routine → Fun 𝓤) → (kept : Kept) (x-a : Sized) (κ·out : Lft) (q·out : Share) (b·out o·out : ℕ) (γ·out : GName) (n·out : ℕ) (out : List ℕ) → (G : Goal 𝓤 H) (after : Val → Goal 𝓤 H) → ((v : Val) → Soaks (after v))
       → (((v : Val) → Seq K W (raw (Asked 𝓤 H A mem run .post (to 𝓤 H A mem run kept x-a κ·out q·out b·out o·out γ·out n·out out) v) ∷ Γ) (after v)) → Seq K W (raw (Asked 𝓤 H A mem run .pre (to 𝓤 H A mem run kept x-a κ·out q·out b·out o·out γ·out n·out out)) ∷ Γ) G) → Is Kept′.row kept (Kept′.vals kept) → Is Sized′.row x-a (Sized′.vals x-a) →
-      ((x·res : Turn) → (zs·out : List ℕ) → Is Turn′.row x·res (Turn′.vals x·res) → length zs·out ≡ length out → Seq K W (‵ (flft κ·out q·out) ∷ ‵ (finally u8 γ·out zs·out) ∷ Γ) (after (Turn′.mach x·res))) → Seq K W (‵ (flft κ·out q·out) ∷ ‵ (MutAt u8 κ·out b·out o·out γ·out n·out out) ∷ Γ) G
+      (Is Turn′.row (size-turn″.res kept x-a out) (Turn′.vals (size-turn″.res kept x-a out)) → length (size-turn″.out-out kept x-a out) ≡ length out → Seq K W (‵ (flft κ·out q·out) ∷ ‵ (finally u8 γ·out (size-turn″.out-out kept x-a out)) ∷ Γ) (after (Turn′.mach (size-turn″.res kept x-a out)))) → Seq K W (‵ (flft κ·out q·out) ∷ ‵ (MutAt u8 κ·out b·out o·out γ·out n·out out) ∷ Γ) G
   core t mem run kept x-a κ·out q·out b·out o·out γ·out n·out out G after soaks by-call ok·kept ok·x-a k =
       join t $ use1 W (raw (Asked 𝓤 H A mem run .pre (to 𝓤 H A mem run kept x-a κ·out q·out b·out o·out γ·out n·out out))) goes $
       by-call (λ v.
       use1 W (later (some (λ (r· : Turn). ((‵ (flft κ·out q·out) ⊛ ‵ ftrue) ⊛ ‵ (Turn′.row .own r· (v ∷ []))) ⊛ raw (ensured 𝓤 H A callee.ended (callee.clauses 𝓤 H A mem run) (κ·out, tt) (kept, (x-a, (ref b·out o·out γ·out out, tt))) tt r·)))) (id⊢ 𝓤 _) $ await t (soaks v) $ pick t (λ r·. split t $ move t (1 ∷ []) $
-      use1 W (some (λ (ws : Lasts callee.ended (κ·out, tt) (kept, (x-a, (ref b·out o·out γ·out out, tt)))). ‵ (lasts callee.ended (κ·out, tt) (kept, (x-a, (ref b·out o·out γ·out out, tt))) ws) ⊛ raw (emp 𝓤))) (id⊢ 𝓤 _) $ pick t (λ ws. split t $ move t (1 ∷ []) $
-      drop t $ fsplit t $ drop t $ fsplit t $ drop t $ fsplit t $ fsplit t $ move t (1 ∷ []) $ feqL t (λ same·out. move t (1 ∷ []) $ drop t $ move t (1 ∷ []) $ split t $ move t (1 ∷ []) $ facts t Turn′.row (Is Turn′.row) (shows 𝓤 H A Turn′.row) r· (v ∷ []) (λ is. split t $ move t (1 ∷ []) $ drop t $
-      subst (λ (u : Val). Seq K W (‵ (flft κ·out q·out) ∷ ‵ (finally u8 γ·out (ws .1 .1 .0)) ∷ Γ) (after u)) (sym (ap only (Turn′.tells r· (v ∷ []) is))) (k r· (ws .1 .1 .0) (subst (Is Turn′.row r·) (Turn′.tells r· (v ∷ []) is) is) same·out))))))
+      use1 W (some (λ (ws : Lasts callee.ended (κ·out, tt) (kept, (x-a, (ref b·out o·out γ·out out, tt)))). ‵ (lasts callee.ended (κ·out, tt) (kept, (x-a, (ref b·out o·out γ·out out, tt))) ws) ⊛ raw (fact 𝓤 (size-turn″.ens kept x-a out (ws .1 .1 .0) r·)))) (id⊢ 𝓤 _) $ pick t (λ ws. split t $ move t (1 ∷ []) $
+      heard t (size-turn″.ens kept x-a out (ws .1 .1 .0) r·) (λ e. fsplit t $ drop t $ fsplit t $ drop t $ fsplit t $ fsplit t $ move t (1 ∷ []) $ feqL t (λ same·out. move t (1 ∷ []) $ drop t $ move t (1 ∷ []) $ split t $ move t (1 ∷ []) $ facts t Turn′.row (Is Turn′.row) (shows 𝓤 H A Turn′.row) r· (v ∷ []) (λ is. split t $ move t (1 ∷ []) $ drop t $
+      rewrite t 1 (λ (zs : List ℕ). ‵ (finally u8 γ·out zs)) (e .1) refl $ subst (λ (u : Val). Seq K W (‵ (flft κ·out q·out) ∷ ‵ (finally u8 γ·out (size-turn″.out-out kept x-a out)) ∷ Γ) (after u)) (sym (ap only (Turn′.tells r· (v ∷ []) is) ∙ ap (λ (z : Turn). Turn′.mach z) (e .0))) (k (subst (λ (z : Turn). Is Turn′.row z (Turn′.vals z)) (e .0) (subst (Is Turn′.row r·) (Turn′.tells r· (v ∷ []) is) is)) (subst (λ (zs : List ℕ). length zs ≡ length out) (e .1) same·out))))))))
     where
       goes : ent 𝓤 (⋆ 𝓤 H A (‵ (flft κ·out q·out) ∷ ‵ (MutAt u8 κ·out b·out o·out γ·out n·out out) ∷ [])) (Asked 𝓤 H A mem run .pre (to 𝓤 H A mem run kept x-a κ·out q·out b·out o·out γ·out n·out out))
       goes = qed W (‵ (flft κ·out q·out) ∷ ‵ (MutAt u8 κ·out b·out o·out γ·out n·out out) ∷ []) ∵ plus-nothing ! $ nothing ! $ move ! (1 ∷ 0 ∷ []) $ join ! $ frame ! $ nothing ! $ move ! (1 ∷ 0 ∷ []) $ fjoin ! $ owned ! Sized′.row (Is Sized′.row) (Sized′.makes 𝓤 H A) x-a _ ok·x-a $ fjoin ! $ owned ! Kept′.row (Is Kept′.row) (Kept′.makes 𝓤 H A) kept _ ok·kept $ fjoin ! $ done !
@@ -75,7 +75,7 @@ module _ {M : Type 1} {𝓤 : URA M} {H : Heap 𝓤} {A : Atoms 𝓤} {K : Type 
   -- by one instance of the callee's contract, which is what a function that calls itself has
   pub calls-by : K → (mem : Memory → SProp 𝓤) (run : Routine → Fun 𝓤) → FmC 𝓤 H (W .laws) C → (kept : Kept) (x-a : Sized) (κ·out : Lft) (q·out : Share) (b·out o·out : ℕ) (γ·out : GName) (n·out : ℕ) (out : List ℕ) → ent 𝓤 (Asked 𝓤 H A mem run .pre (to 𝓤 H A mem run kept x-a κ·out q·out b·out o·out γ·out n·out out)) (C #callee (Asked 𝓤 H A mem run .args (to 𝓤 H A mem run kept x-a κ·out q·out b·out o·out γ·out n·out out)) (Asked 𝓤 H A mem run .post (to 𝓤 H A mem run kept x-a κ·out q·out b·out o·out γ·out n·out out))) → Is Kept′.row kept (Kept′.vals kept) → Is Sized′.row x-a (Sized′.vals x-a) →
       Opds K W (raw (Asked 𝓤 H A mem run .pre (to 𝓤 H A mem run kept x-a κ·out q·out b·out o·out γ·out n·out out)) ∷ Γ) E xs (Kept′.mach kept ∷ Sized′.mach x-a ∷ sliceVal (b·out, o·out) n·out ∷ [])
-      → ((x·res : Turn) → (zs·out : List ℕ) → Is Turn′.row x·res (Turn′.vals x·res) → length zs·out ≡ length out → Seq K W (‵ (flft κ·out q·out) ∷ ‵ (finally u8 γ·out zs·out) ∷ Γ) (lands C Λ E d (Turn′.mach x·res) rest Q))
+      → (Is Turn′.row (size-turn″.res kept x-a out) (Turn′.vals (size-turn″.res kept x-a out)) → length (size-turn″.out-out kept x-a out) ≡ length out → Seq K W (‵ (flft κ·out q·out) ∷ ‵ (finally u8 γ·out (size-turn″.out-out kept x-a out)) ∷ Γ) (lands C Λ E d (Turn′.mach (size-turn″.res kept x-a out)) rest Q))
       → Seq K W (‵ (flft κ·out q·out) ∷ ‵ (MutAt u8 κ·out b·out o·out γ·out n·out out) ∷ Γ) (runs C Λ E (seq (call #callee xs d) rest) Q)
   calls-by t mem run fm kept x-a κ·out q·out b·out o·out γ·out n·out out known ok·kept ok·x-a os k =
       core t mem run kept x-a κ·out q·out b·out o·out γ·out n·out out (runs C Λ E (seq (call #callee xs d) rest) Q) (λ v. lands C Λ E d v rest Q) (λ v. tt)
@@ -83,7 +83,7 @@ module _ {M : Type 1} {𝓤 : URA M} {H : Heap 𝓤} {A : Atoms 𝓤} {K : Type 
 
   pub calls : K → (mem : Memory → SProp 𝓤) (run : Routine → Fun 𝓤) → FmC 𝓤 H (W .laws) C → Triple 𝓤 (C #callee) (Asked 𝓤 H A mem run) → (kept : Kept) (x-a : Sized) (κ·out : Lft) (q·out : Share) (b·out o·out : ℕ) (γ·out : GName) (n·out : ℕ) (out : List ℕ) → Is Kept′.row kept (Kept′.vals kept) → Is Sized′.row x-a (Sized′.vals x-a) →
       Opds K W (raw (Asked 𝓤 H A mem run .pre (to 𝓤 H A mem run kept x-a κ·out q·out b·out o·out γ·out n·out out)) ∷ Γ) E xs (Kept′.mach kept ∷ Sized′.mach x-a ∷ sliceVal (b·out, o·out) n·out ∷ [])
-      → ((x·res : Turn) → (zs·out : List ℕ) → Is Turn′.row x·res (Turn′.vals x·res) → length zs·out ≡ length out → Seq K W (‵ (flft κ·out q·out) ∷ ‵ (finally u8 γ·out zs·out) ∷ Γ) (lands C Λ E d (Turn′.mach x·res) rest Q))
+      → (Is Turn′.row (size-turn″.res kept x-a out) (Turn′.vals (size-turn″.res kept x-a out)) → length (size-turn″.out-out kept x-a out) ≡ length out → Seq K W (‵ (flft κ·out q·out) ∷ ‵ (finally u8 γ·out (size-turn″.out-out kept x-a out)) ∷ Γ) (lands C Λ E d (Turn′.mach (size-turn″.res kept x-a out)) rest Q))
       → Seq K W (‵ (flft κ·out q·out) ∷ ‵ (MutAt u8 κ·out b·out o·out γ·out n·out out) ∷ Γ) (runs C Λ E (seq (call #callee xs d) rest) Q)
   calls t mem run fm known kept x-a κ·out q·out b·out o·out γ·out n·out out = calls-by t mem run fm kept x-a κ·out q·out b·out o·out γ·out n·out out (known (to 𝓤 H A mem run kept x-a κ·out q·out b·out o·out γ·out n·out out))
 
@@ -91,7 +91,7 @@ module _ {M : Type 1} {𝓤 : URA M} {H : Heap 𝓤} {A : Atoms 𝓤} {K : Type 
   -- by one instance of the callee's contract, which is what a function that calls itself has. The call ends a part of the code
   pub calls-last-by : K → (mem : Memory → SProp 𝓤) (run : Routine → Fun 𝓤) → FmC 𝓤 H (W .laws) C → (kept : Kept) (x-a : Sized) (κ·out : Lft) (q·out : Share) (b·out o·out : ℕ) (γ·out : GName) (n·out : ℕ) (out : List ℕ) → ent 𝓤 (Asked 𝓤 H A mem run .pre (to 𝓤 H A mem run kept x-a κ·out q·out b·out o·out γ·out n·out out)) (C #callee (Asked 𝓤 H A mem run .args (to 𝓤 H A mem run kept x-a κ·out q·out b·out o·out γ·out n·out out)) (Asked 𝓤 H A mem run .post (to 𝓤 H A mem run kept x-a κ·out q·out b·out o·out γ·out n·out out))) → Is Kept′.row kept (Kept′.vals kept) → Is Sized′.row x-a (Sized′.vals x-a) →
       Opds K W (raw (Asked 𝓤 H A mem run .pre (to 𝓤 H A mem run kept x-a κ·out q·out b·out o·out γ·out n·out out)) ∷ Γ) E xs (Kept′.mach kept ∷ Sized′.mach x-a ∷ sliceVal (b·out, o·out) n·out ∷ [])
-      → ((x·res : Turn) → (zs·out : List ℕ) → Is Turn′.row x·res (Turn′.vals x·res) → length zs·out ≡ length out → Seq K W (‵ (flft κ·out q·out) ∷ ‵ (finally u8 γ·out zs·out) ∷ Γ) (settles E d (Turn′.mach x·res) Q))
+      → (Is Turn′.row (size-turn″.res kept x-a out) (Turn′.vals (size-turn″.res kept x-a out)) → length (size-turn″.out-out kept x-a out) ≡ length out → Seq K W (‵ (flft κ·out q·out) ∷ ‵ (finally u8 γ·out (size-turn″.out-out kept x-a out)) ∷ Γ) (settles E d (Turn′.mach (size-turn″.res kept x-a out)) Q))
       → Seq K W (‵ (flft κ·out q·out) ∷ ‵ (MutAt u8 κ·out b·out o·out γ·out n·out out) ∷ Γ) (runs C Λ E (call #callee xs d) Q)
   calls-last-by t mem run fm kept x-a κ·out q·out b·out o·out γ·out n·out out known ok·kept ok·x-a os k =
       core t mem run kept x-a κ·out q·out b·out o·out γ·out n·out out (runs C Λ E (call #callee xs d) Q) (λ v. settles E d v Q) (λ v. tt)
@@ -99,6 +99,6 @@ module _ {M : Type 1} {𝓤 : URA M} {H : Heap 𝓤} {A : Atoms 𝓤} {K : Type 
 
   pub calls-last : K → (mem : Memory → SProp 𝓤) (run : Routine → Fun 𝓤) → FmC 𝓤 H (W .laws) C → Triple 𝓤 (C #callee) (Asked 𝓤 H A mem run) → (kept : Kept) (x-a : Sized) (κ·out : Lft) (q·out : Share) (b·out o·out : ℕ) (γ·out : GName) (n·out : ℕ) (out : List ℕ) → Is Kept′.row kept (Kept′.vals kept) → Is Sized′.row x-a (Sized′.vals x-a) →
       Opds K W (raw (Asked 𝓤 H A mem run .pre (to 𝓤 H A mem run kept x-a κ·out q·out b·out o·out γ·out n·out out)) ∷ Γ) E xs (Kept′.mach kept ∷ Sized′.mach x-a ∷ sliceVal (b·out, o·out) n·out ∷ [])
-      → ((x·res : Turn) → (zs·out : List ℕ) → Is Turn′.row x·res (Turn′.vals x·res) → length zs·out ≡ length out → Seq K W (‵ (flft κ·out q·out) ∷ ‵ (finally u8 γ·out zs·out) ∷ Γ) (settles E d (Turn′.mach x·res) Q))
+      → (Is Turn′.row (size-turn″.res kept x-a out) (Turn′.vals (size-turn″.res kept x-a out)) → length (size-turn″.out-out kept x-a out) ≡ length out → Seq K W (‵ (flft κ·out q·out) ∷ ‵ (finally u8 γ·out (size-turn″.out-out kept x-a out)) ∷ Γ) (settles E d (Turn′.mach (size-turn″.res kept x-a out)) Q))
       → Seq K W (‵ (flft κ·out q·out) ∷ ‵ (MutAt u8 κ·out b·out o·out γ·out n·out out) ∷ Γ) (runs C Λ E (call #callee xs d) Q)
   calls-last t mem run fm known kept x-a κ·out q·out b·out o·out γ·out n·out out = calls-last-by t mem run fm kept x-a κ·out q·out b·out o·out γ·out n·out out (known (to 𝓤 H A mem run kept x-a κ·out q·out b·out o·out γ·out n·out out))

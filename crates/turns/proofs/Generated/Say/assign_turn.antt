@@ -5,6 +5,7 @@ use Prim.Native.Nat.{ℕ, min}
 use mathlib.Core.List.{List}
 use mathlib.Core.Bool.{Bool}
 use mathlib.Core.Path.{_≡_}
+use Rattle.answers.specs.Answers.{turned, written, refusedSaid, replied, holding, formatSaid, bytesSaid, readSaid, begunReply, putReply, assignedReply, wovenReply, publishedReply, sizedReply, latestReply, stampedReply}
 use Rattle.answers.specs.declared.Kept.{Kept}
 use Rattle.answers.specs.declared.Turn.{Turn}
 use Rattle.assign.specs.declared.AssignOut.{AssignOut}
@@ -12,3 +13,12 @@ use Rattle.assign.specs.declared.Assigned.{Assigned}
 use Rattle.tree.specs.declared.Ticket.{Ticket}
 use Rattle.tree.specs.declared.Version.{Version}
 use Rattle.versions.specs.declared.Store.{Store}
+
+abbrev pub ens : Kept → AssignOut → List ℕ → List ℕ → Turn → Type 0
+ens kept a out out′ r = (r ≡ turned (replied (holding kept (a .store)) (assignedReply (a .answer))) out) × (out′ ≡ written (replied (holding kept (a .store)) (assignedReply (a .answer))) out)
+
+abbrev pub res : Kept → AssignOut → List ℕ → Turn
+res kept a out = turned (replied (holding kept (a .store)) (assignedReply (a .answer))) out
+
+abbrev pub out-out : Kept → AssignOut → List ℕ → List ℕ
+out-out kept a out = written (replied (holding kept (a .store)) (assignedReply (a .answer))) out

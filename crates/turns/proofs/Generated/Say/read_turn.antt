@@ -5,9 +5,19 @@ use Prim.Native.Nat.{ℕ, min}
 use mathlib.Core.List.{List}
 use mathlib.Core.Bool.{Bool}
 use mathlib.Core.Path.{_≡_}
+use Rattle.answers.specs.Answers.{turned, written, refusedSaid, replied, holding, formatSaid, bytesSaid, readSaid, begunReply, putReply, assignedReply, wovenReply, publishedReply, sizedReply, latestReply, stampedReply}
 use Rattle.answers.specs.declared.Kept.{Kept}
 use Rattle.answers.specs.declared.Turn.{Turn}
 use Rattle.read.specs.declared.Filled.{Filled}
 use Rattle.tree.specs.declared.Ticket.{Ticket}
 use Rattle.tree.specs.declared.Version.{Version}
 use Rattle.versions.specs.declared.Store.{Store}
+
+abbrev pub ens : Kept → ℕ → Filled → List ℕ → List ℕ → List ℕ → Turn → Type 0
+ens kept n a bytes out out′ r = (r ≡ turned (readSaid kept n bytes a) out) × (out′ ≡ written (readSaid kept n bytes a) out)
+
+abbrev pub res : Kept → ℕ → Filled → List ℕ → List ℕ → Turn
+res kept n a bytes out = turned (readSaid kept n bytes a) out
+
+abbrev pub out-out : Kept → ℕ → Filled → List ℕ → List ℕ → List ℕ
+out-out kept n a bytes out = written (readSaid kept n bytes a) out

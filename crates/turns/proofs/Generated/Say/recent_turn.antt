@@ -5,9 +5,19 @@ use Prim.Native.Nat.{ℕ, min}
 use mathlib.Core.List.{List}
 use mathlib.Core.Bool.{Bool}
 use mathlib.Core.Path.{_≡_}
+use Rattle.answers.specs.Answers.{turned, written, refusedSaid, replied, holding, formatSaid, bytesSaid, readSaid, begunReply, putReply, assignedReply, wovenReply, publishedReply, sizedReply, latestReply, stampedReply}
 use Rattle.answers.specs.declared.Kept.{Kept}
 use Rattle.answers.specs.declared.Turn.{Turn}
 use Rattle.tree.specs.declared.Ticket.{Ticket}
 use Rattle.tree.specs.declared.Version.{Version}
 use Rattle.versions.specs.declared.Latest.{Latest}
 use Rattle.versions.specs.declared.Store.{Store}
+
+abbrev pub ens : Kept → Latest → List ℕ → List ℕ → Turn → Type 0
+ens kept a out out′ r = (r ≡ turned (replied kept (latestReply a)) out) × (out′ ≡ written (replied kept (latestReply a)) out)
+
+abbrev pub res : Kept → Latest → List ℕ → Turn
+res kept a out = turned (replied kept (latestReply a)) out
+
+abbrev pub out-out : Kept → Latest → List ℕ → List ℕ
+out-out kept a out = written (replied kept (latestReply a)) out

@@ -5,6 +5,7 @@ use Prim.Native.Nat.{ℕ, min}
 use mathlib.Core.List.{List}
 use mathlib.Core.Bool.{Bool}
 use mathlib.Core.Path.{_≡_}
+use Rattle.answers.specs.Answers.{turned, written, refusedSaid, replied, holding, formatSaid, bytesSaid, readSaid, begunReply, putReply, assignedReply, wovenReply, publishedReply, sizedReply, latestReply, stampedReply}
 use Rattle.answers.specs.declared.Kept.{Kept}
 use Rattle.answers.specs.declared.Turn.{Turn}
 use Rattle.tree.specs.declared.PageIndex.{PageIndex}
@@ -13,3 +14,12 @@ use Rattle.tree.specs.declared.Version.{Version}
 use Rattle.versions.specs.declared.Store.{Store}
 use Rattle.weave.specs.declared.Woven.{Woven}
 use Rattle.weave.specs.declared.WovenNode.{WovenNode}
+
+abbrev pub ens : Kept → Woven → List ℕ → List ℕ → Turn → Type 0
+ens kept a out out′ r = (r ≡ turned (replied kept (wovenReply a)) out) × (out′ ≡ written (replied kept (wovenReply a)) out)
+
+abbrev pub res : Kept → Woven → List ℕ → Turn
+res kept a out = turned (replied kept (wovenReply a)) out
+
+abbrev pub out-out : Kept → Woven → List ℕ → List ℕ
+out-out kept a out = written (replied kept (wovenReply a)) out

@@ -35,3 +35,9 @@ r1 kept x-t pages nodes register out = append″.res (kept .store) pages nodes r
 
 abbrev pub register₁ : Kept → Ticket → List ℕ → List ℕ → List Record → List ℕ → List Record
 register₁ kept x-t pages nodes register out = append″.out-register (kept .store) pages nodes register x-t
+
+abbrev pub r2 : Kept → Ticket → List ℕ → List ℕ → List Record → List ℕ → Turn
+r2 kept x-t pages nodes register out = assign-turn″.res kept (r1 kept x-t pages nodes register out) out
+
+abbrev pub out₂ : Kept → Ticket → List ℕ → List ℕ → List Record → List ℕ → List ℕ
+out₂ kept x-t pages nodes register out = assign-turn″.out-out kept (r1 kept x-t pages nodes register out) out

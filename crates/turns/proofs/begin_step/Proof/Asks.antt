@@ -35,3 +35,9 @@ r1 kept n pages nodes register out = begin″.res (kept .store) pages nodes regi
 
 abbrev pub register₁ : Kept → ℕ → List ℕ → List ℕ → List Record → List ℕ → List Record
 register₁ kept n pages nodes register out = begin″.out-register (kept .store) pages nodes register n
+
+abbrev pub r2 : Kept → ℕ → List ℕ → List ℕ → List Record → List ℕ → Turn
+r2 kept n pages nodes register out = begin-turn″.res kept (r1 kept n pages nodes register out) out
+
+abbrev pub out₂ : Kept → ℕ → List ℕ → List ℕ → List Record → List ℕ → List ℕ
+out₂ kept n pages nodes register out = begin-turn″.out-out kept (r1 kept n pages nodes register out) out

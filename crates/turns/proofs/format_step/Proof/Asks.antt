@@ -39,3 +39,9 @@ nodes₁ kept asked pages nodes register out = format″.out-nodes (asked .size)
 
 abbrev pub register₁ : Kept → Store → List ℕ → List ℕ → List Record → List ℕ → List Record
 register₁ kept asked pages nodes register out = format″.out-register (asked .size) (asked .pages) (asked .nodes) (asked .updates) pages nodes register
+
+abbrev pub r2 : Kept → Store → List ℕ → List ℕ → List Record → List ℕ → Turn
+r2 kept asked pages nodes register out = format-turn″.res kept (r1 kept asked pages nodes register out) out
+
+abbrev pub out₂ : Kept → Store → List ℕ → List ℕ → List Record → List ℕ → List ℕ
+out₂ kept asked pages nodes register out = format-turn″.out-out kept (r1 kept asked pages nodes register out) out

@@ -32,3 +32,9 @@ use Rattle.turns.proofs.Generated.Say.publish_turn as publish-turn″
 
 abbrev pub r1 : Kept → List ℕ → List ℕ → List Record → List ℕ → PublishOut
 r1 kept pages nodes register out = publish″.res (kept .store) pages nodes register
+
+abbrev pub r2 : Kept → List ℕ → List ℕ → List Record → List ℕ → Turn
+r2 kept pages nodes register out = publish-turn″.res kept (r1 kept pages nodes register out) out
+
+abbrev pub out₂ : Kept → List ℕ → List ℕ → List Record → List ℕ → List ℕ
+out₂ kept pages nodes register out = publish-turn″.out-out kept (r1 kept pages nodes register out) out

@@ -41,6 +41,12 @@ pages₂ kept x-t i n pages nodes register out = put″.out-pages (kept .store) 
 abbrev pub register₂ : Kept → Ticket → ℕ → ℕ → List ℕ → List ℕ → List Record → List ℕ → List Record
 register₂ kept x-t i n pages nodes register out = put″.out-register (kept .store) pages nodes register x-t i (take (r1 kept x-t i n pages nodes register out) out)
 
+abbrev pub r3 : Kept → Ticket → ℕ → ℕ → List ℕ → List ℕ → List Record → List ℕ → Turn
+r3 kept x-t i n pages nodes register out = put-turn″.res kept (r2 kept x-t i n pages nodes register out) out
+
+abbrev pub out₃ : Kept → Ticket → ℕ → ℕ → List ℕ → List ℕ → List Record → List ℕ → List ℕ
+out₃ kept x-t i n pages nodes register out = put-turn″.out-out kept (r2 kept x-t i n pages nodes register out) out
+
 -- out has as many elements as are lent of it
 abbrev pub part-1 : Type 0
 part-1 =

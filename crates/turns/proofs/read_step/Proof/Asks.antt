@@ -35,3 +35,9 @@ r1 kept x-v offset n pages nodes register out arr9 = read″.res (kept .store) p
 
 abbrev pub arr9₁ : Kept → Version → ByteOffset → ℕ → List ℕ → List ℕ → List Record → List ℕ → List ℕ → List ℕ
 arr9₁ kept x-v offset n pages nodes register out arr9 = read″.out-buffer (kept .store) pages nodes register x-v offset n arr9
+
+abbrev pub r2 : Kept → Version → ByteOffset → ℕ → List ℕ → List ℕ → List Record → List ℕ → List ℕ → Turn
+r2 kept x-v offset n pages nodes register out arr9 = read-turn″.res kept n (r1 kept x-v offset n pages nodes register out arr9) (arr9₁ kept x-v offset n pages nodes register out arr9) out
+
+abbrev pub out₂ : Kept → Version → ByteOffset → ℕ → List ℕ → List ℕ → List Record → List ℕ → List ℕ → List ℕ
+out₂ kept x-v offset n pages nodes register out arr9 = read-turn″.out-out kept n (r1 kept x-v offset n pages nodes register out arr9) (arr9₁ kept x-v offset n pages nodes register out arr9) out

@@ -30,3 +30,9 @@ use Rattle.turns.proofs.Generated.Say.recent_turn as recent-turn″
 
 abbrev pub r1 : Kept → List ℕ → List ℕ → List Record → List ℕ → Latest
 r1 kept pages nodes register out = recent″.res (kept .store) pages nodes register
+
+abbrev pub r2 : Kept → List ℕ → List ℕ → List Record → List ℕ → Turn
+r2 kept pages nodes register out = recent-turn″.res kept (r1 kept pages nodes register out) out
+
+abbrev pub out₂ : Kept → List ℕ → List ℕ → List Record → List ℕ → List ℕ
+out₂ kept pages nodes register out = recent-turn″.out-out kept (r1 kept pages nodes register out) out

@@ -30,3 +30,9 @@ use Rattle.turns.proofs.Generated.Say.size_turn as size-turn″
 
 abbrev pub r1 : Kept → Version → List ℕ → List ℕ → List Record → List ℕ → Sized
 r1 kept x-v pages nodes register out = size″.res (kept .store) pages nodes register x-v
+
+abbrev pub r2 : Kept → Version → List ℕ → List ℕ → List Record → List ℕ → Turn
+r2 kept x-v pages nodes register out = size-turn″.res kept (r1 kept x-v pages nodes register out) out
+
+abbrev pub out₂ : Kept → Version → List ℕ → List ℕ → List Record → List ℕ → List ℕ
+out₂ kept x-v pages nodes register out = size-turn″.out-out kept (r1 kept x-v pages nodes register out) out

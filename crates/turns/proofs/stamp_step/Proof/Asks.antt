@@ -30,3 +30,9 @@ use Rattle.turns.proofs.Generated.Say.stamp_turn as stamp-turn″
 
 abbrev pub r1 : Kept → Version → PageIndex → List ℕ → List ℕ → List Record → List ℕ → Stamped
 r1 kept x-v page pages nodes register out = stamp″.res (kept .store) pages nodes register x-v page
+
+abbrev pub r2 : Kept → Version → PageIndex → List ℕ → List ℕ → List Record → List ℕ → Turn
+r2 kept x-v page pages nodes register out = stamp-turn″.res kept (r1 kept x-v page pages nodes register out) out
+
+abbrev pub out₂ : Kept → Version → PageIndex → List ℕ → List ℕ → List Record → List ℕ → List ℕ
+out₂ kept x-v page pages nodes register out = stamp-turn″.out-out kept (r1 kept x-v page pages nodes register out) out

@@ -38,3 +38,9 @@ nodes₁ kept x-t pages nodes register out = weave″.out-nodes (kept .store) pa
 
 abbrev pub register₁ : Kept → Ticket → List ℕ → List ℕ → List Record → List ℕ → List Record
 register₁ kept x-t pages nodes register out = weave″.out-register (kept .store) pages nodes register x-t
+
+abbrev pub r2 : Kept → Ticket → List ℕ → List ℕ → List Record → List ℕ → Turn
+r2 kept x-t pages nodes register out = weave-turn″.res kept (r1 kept x-t pages nodes register out) out
+
+abbrev pub out₂ : Kept → Ticket → List ℕ → List ℕ → List Record → List ℕ → List ℕ
+out₂ kept x-t pages nodes register out = weave-turn″.out-out kept (r1 kept x-t pages nodes register out) out

@@ -35,3 +35,9 @@ r1 kept x-t f pages nodes register out = write″.res (kept .store) pages nodes 
 
 abbrev pub register₁ : Kept → Ticket → PageIndex → List ℕ → List ℕ → List Record → List ℕ → List Record
 register₁ kept x-t f pages nodes register out = write″.out-register (kept .store) pages nodes register x-t f
+
+abbrev pub r2 : Kept → Ticket → PageIndex → List ℕ → List ℕ → List Record → List ℕ → Turn
+r2 kept x-t f pages nodes register out = assign-turn″.res kept (r1 kept x-t f pages nodes register out) out
+
+abbrev pub out₂ : Kept → Ticket → PageIndex → List ℕ → List ℕ → List Record → List ℕ → List ℕ
+out₂ kept x-t f pages nodes register out = assign-turn″.out-out kept (r1 kept x-t f pages nodes register out) out

@@ -1,0 +1,113 @@
+-- What each step of the step program answers, by the answer of its call, and what is kept after it.
+use Prim.Native.Nat.{ℕ}
+use mathlib.Core.Bool.{true}
+use mathlib.Core.List.{List}
+use lib.ListN.{take}
+use Rattle.text.specs.Text.{pick}
+use Rattle.text.specs.Buffer.{front, wrote}
+use Rattle.print.specs.Print.{replyLine, bytesLine}
+use Rattle.print.specs.declared.Reply.{Reply}
+use Rattle.print.specs.declared.Reply.the-variants as Reply
+use Rattle.versions.specs.declared.Store.{Store}
+use Rattle.format.specs.declared.Formatted.{Formatted}
+use Rattle.format.specs.declared.Formatted.the-variants as Formatted
+use Rattle.begin.specs.declared.Begun.{Begun}
+use Rattle.begin.specs.declared.Begun.the-variants as Begun
+use Rattle.put.specs.declared.PutIn.{PutIn}
+use Rattle.put.specs.declared.PutIn.the-variants as PutIn
+use Rattle.assign.specs.declared.Assigned.{Assigned}
+use Rattle.assign.specs.declared.Assigned.the-variants as Assigned
+use Rattle.weave.specs.declared.Woven.{Woven}
+use Rattle.weave.specs.declared.Woven.the-variants as Woven
+use Rattle.publish.specs.declared.Published.{Published}
+use Rattle.publish.specs.declared.Published.the-variants as Published
+use Rattle.versions.specs.declared.Sized.{Sized}
+use Rattle.versions.specs.declared.Sized.the-variants as Sized
+use Rattle.versions.specs.declared.Latest.{Latest}
+use Rattle.versions.specs.declared.Latest.the-variants as Latest
+use Rattle.stamp.specs.declared.Stamped.{Stamped}
+use Rattle.stamp.specs.declared.Stamped.the-variants as Stamped
+use Rattle.read.specs.declared.Filled.{Filled}
+use Rattle.read.specs.declared.Filled.the-variants as Filled
+use Rattle.answers.specs.declared.Kept.{Kept}
+use Rattle.answers.specs.declared.Turn.{Turn}
+
+-- What a step comes to: what is kept after it, and the line of its answer.
+pub record Said : Type 0 where
+  pub kept : Kept
+  pub line : List ℕ
+
+-- Its turn: the line's length, or 0 where the buffer is too short for it.
+unfoldable pub turned : Said → List ℕ → Turn
+turned x out = record { kept = x .kept; len = wrote (x .line) out }
+
+-- The buffer after it: the line at its front, or as it was where that is too short.
+unfoldable pub written : Said → List ℕ → List ℕ
+written x out = front (x .line) out
+
+-- This reply, whether a store is open or not.
+unfoldable pub plainly : Kept → Reply → Said
+plainly k r = record { kept = k; line = replyLine r }
+
+-- `refused,0`: the line is malformed, or beyond the program's own limits, or no store is open.
+unfoldable pub refusedSaid : Kept → Said
+refusedSaid k = plainly k (Reply.Refused 0)
+
+-- This with a store open; with none `refused,0`.
+unfoldable pub whenOpen : Kept → Said → Said
+whenOpen k x = pick (k .«open») x (refusedSaid k)
+
+abbrev pub replied : Kept → Reply → Said
+replied k r = whenOpen k (plainly k r)
+
+-- What is kept, with the store that a call handed back.
+unfoldable pub holding : Kept → Store → Kept
+holding k s = record { «open» = k .«open»; store = s }
+
+-- FORMAT: the store that it made is open from now on; where it is refused, what there was is kept.
+unfoldable pub formatSaid : Kept → Formatted → Said
+formatSaid k (Formatted.Made s) = plainly (record { «open» = true; store = s }) Reply.Ok
+formatSaid k (Formatted.Refused n) = plainly k (Reply.Refused n)
+
+-- The first n bytes, or all where there are fewer.
+unfoldable pub bytesSaid : Kept → ℕ → List ℕ → Said
+bytesSaid k n bytes = record { kept = k; line = bytesLine (take n bytes) }
+
+-- READ n bytes: the first n of the buffer that it filled.
+unfoldable pub readSaid : Kept → ℕ → List ℕ → Filled → Said
+readSaid k n bytes Filled.Done = whenOpen k (bytesSaid k n bytes)
+readSaid k n bytes (Filled.Refused m) = replied k (Reply.Refused m)
+
+-- The other calls, each by its answer.
+unfoldable pub begunReply : Begun → Reply
+begunReply (Begun.Given t) = Reply.Ticket (t .0)
+begunReply (Begun.Refused k) = Reply.Refused k
+
+unfoldable pub putReply : PutIn → Reply
+putReply PutIn.Done = Reply.Put
+putReply (PutIn.Refused k) = Reply.Refused k
+
+unfoldable pub assignedReply : Assigned → Reply
+assignedReply (Assigned.Given v n) = Reply.Version (v .0) n
+assignedReply (Assigned.Refused k) = Reply.Refused k
+
+unfoldable pub wovenReply : Woven → Reply
+wovenReply (Woven.Node x) = Reply.Node (x .version .0) (x .first .0) (x .span) (x .left) (x .right) (x .rest)
+wovenReply (Woven.Refused k) = Reply.Refused k
+
+unfoldable pub publishedReply : Published → Reply
+publishedReply (Published.Now v) = Reply.Published (v .0)
+publishedReply Published.Waiting = Reply.Waiting
+publishedReply (Published.Refused k) = Reply.Refused k
+
+unfoldable pub sizedReply : Sized → Reply
+sizedReply (Sized.Bytes n) = Reply.Size n
+sizedReply (Sized.Refused k) = Reply.Refused k
+
+unfoldable pub latestReply : Latest → Reply
+latestReply (Latest.Is v) = Reply.Recent (v .0)
+latestReply (Latest.Refused k) = Reply.Refused k
+
+unfoldable pub stampedReply : Stamped → Reply
+stampedReply (Stamped.Is v) = Reply.Stamp (v .0)
+stampedReply (Stamped.Refused k) = Reply.Refused k
