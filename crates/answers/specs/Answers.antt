@@ -57,6 +57,7 @@ refusedSaid k = plainly k (Reply.Refused 0)
 unfoldable pub whenOpen : Kept → Said → Said
 whenOpen k x = pick (k .«open») x (refusedSaid k)
 
+-- A reply so.
 abbrev pub replied : Kept → Reply → Said
 replied k r = whenOpen k (plainly k r)
 
@@ -78,36 +79,43 @@ unfoldable pub readSaid : Kept → ℕ → List ℕ → Filled → Said
 readSaid k n bytes Filled.Done = whenOpen k (bytesSaid k n bytes)
 readSaid k n bytes (Filled.Refused m) = replied k (Reply.Refused m)
 
--- The other calls, each by its answer.
+-- BEGIN: the ticket. Here and below a refused call's reply is its number.
 unfoldable pub begunReply : Begun → Reply
 begunReply (Begun.Given t) = Reply.Ticket (t .0)
 begunReply (Begun.Refused k) = Reply.Refused k
 
+-- PUT: that it is done.
 unfoldable pub putReply : PutIn → Reply
 putReply PutIn.Done = Reply.Put
 putReply (PutIn.Refused k) = Reply.Refused k
 
+-- ASSIGN, as a write or an append: the version and its node count.
 unfoldable pub assignedReply : Assigned → Reply
 assignedReply (Assigned.Given v n) = Reply.Version (v .0) n
 assignedReply (Assigned.Refused k) = Reply.Refused k
 
+-- WEAVE: the node's name, its two numbers and how many nodes are left.
 unfoldable pub wovenReply : Woven → Reply
 wovenReply (Woven.Node x) = Reply.Node (x .version .0) (x .first .0) (x .span) (x .left) (x .right) (x .rest)
 wovenReply (Woven.Refused k) = Reply.Refused k
 
+-- PUBLISH: the version that is now published, or that none is due.
 unfoldable pub publishedReply : Published → Reply
 publishedReply (Published.Now v) = Reply.Published (v .0)
 publishedReply Published.Waiting = Reply.Waiting
 publishedReply (Published.Refused k) = Reply.Refused k
 
+-- SIZE: the bytes.
 unfoldable pub sizedReply : Sized → Reply
 sizedReply (Sized.Bytes n) = Reply.Size n
 sizedReply (Sized.Refused k) = Reply.Refused k
 
+-- RECENT: the last version published.
 unfoldable pub latestReply : Latest → Reply
 latestReply (Latest.Is v) = Reply.Recent (v .0)
 latestReply (Latest.Refused k) = Reply.Refused k
 
+-- STAMP: the version that last wrote the page.
 unfoldable pub stampedReply : Stamped → Reply
 stampedReply (Stamped.Is v) = Reply.Stamp (v .0)
 stampedReply (Stamped.Refused k) = Reply.Refused k
