@@ -35,7 +35,9 @@ pub struct Turn {
 
 // The turn that keeps this and replies so.
 fn reply_turn(kept: Kept, reply: Reply, out: &mut [u8]) -> Turn
-    ensures { λ r. ⌜ (r ≡ turned (replied kept reply) (now (out .entry))) × (now (out .exit) ≡ written (replied kept reply) (now (out .entry))) ⌝ }
+    ensures { λ r.
+        let x = replied kept reply in
+        ⌜ (r ≡ turned x (now (out .entry))) × (now (out .exit) ≡ written x (now (out .entry))) ⌝ }
 {
     if !kept.open {
         return refused_turn(kept, out);
@@ -46,7 +48,9 @@ fn reply_turn(kept: Kept, reply: Reply, out: &mut [u8]) -> Turn
 
 // `refused,0`: the line is malformed, or beyond the program's own limits.
 pub fn refused_turn(kept: Kept, out: &mut [u8]) -> Turn
-    ensures { λ r. ⌜ (r ≡ turned (refusedSaid kept) (now (out .entry))) × (now (out .exit) ≡ written (refusedSaid kept) (now (out .entry))) ⌝ }
+    ensures { λ r.
+        let x = refusedSaid kept in
+        ⌜ (r ≡ turned x (now (out .entry))) × (now (out .exit) ≡ written x (now (out .entry))) ⌝ }
 {
     let len = print::write_reply(Reply::Refused(0), out);
     Turn { kept, len }
@@ -54,7 +58,9 @@ pub fn refused_turn(kept: Kept, out: &mut [u8]) -> Turn
 
 // FORMAT keeps the store that it made, or else what there was.
 pub fn format_turn(kept: Kept, a: Formatted, out: &mut [u8]) -> Turn
-    ensures { λ r. ⌜ (r ≡ turned (formatSaid kept a) (now (out .entry))) × (now (out .exit) ≡ written (formatSaid kept a) (now (out .entry))) ⌝ }
+    ensures { λ r.
+        let x = formatSaid kept a in
+        ⌜ (r ≡ turned x (now (out .entry))) × (now (out .exit) ≡ written x (now (out .entry))) ⌝ }
 {
     match a {
         Formatted::Made(store) => reply_turn(Kept { open: true, store }, Reply::Ok, out),
@@ -66,7 +72,9 @@ pub fn format_turn(kept: Kept, a: Formatted, out: &mut [u8]) -> Turn
 }
 
 pub fn begin_turn(kept: Kept, a: BeginOut, out: &mut [u8]) -> Turn
-    ensures { λ r. ⌜ (r ≡ turned (replied (holding kept (a .store)) (begunReply (a .answer))) (now (out .entry))) × (now (out .exit) ≡ written (replied (holding kept (a .store)) (begunReply (a .answer))) (now (out .entry))) ⌝ }
+    ensures { λ r.
+        let x = replied (holding kept (a .store)) (begunReply (a .answer)) in
+        ⌜ (r ≡ turned x (now (out .entry))) × (now (out .exit) ≡ written x (now (out .entry))) ⌝ }
 {
     let store = a.store;
     let after = Kept {
@@ -81,7 +89,9 @@ pub fn begin_turn(kept: Kept, a: BeginOut, out: &mut [u8]) -> Turn
 }
 
 pub fn put_turn(kept: Kept, a: PutIn, out: &mut [u8]) -> Turn
-    ensures { λ r. ⌜ (r ≡ turned (replied kept (putReply a)) (now (out .entry))) × (now (out .exit) ≡ written (replied kept (putReply a)) (now (out .entry))) ⌝ }
+    ensures { λ r.
+        let x = replied kept (putReply a) in
+        ⌜ (r ≡ turned x (now (out .entry))) × (now (out .exit) ≡ written x (now (out .entry))) ⌝ }
 {
     match a {
         PutIn::Done => reply_turn(kept, Reply::Put, out),
@@ -90,7 +100,9 @@ pub fn put_turn(kept: Kept, a: PutIn, out: &mut [u8]) -> Turn
 }
 
 pub fn assign_turn(kept: Kept, a: AssignOut, out: &mut [u8]) -> Turn
-    ensures { λ r. ⌜ (r ≡ turned (replied (holding kept (a .store)) (assignedReply (a .answer))) (now (out .entry))) × (now (out .exit) ≡ written (replied (holding kept (a .store)) (assignedReply (a .answer))) (now (out .entry))) ⌝ }
+    ensures { λ r.
+        let x = replied (holding kept (a .store)) (assignedReply (a .answer)) in
+        ⌜ (r ≡ turned x (now (out .entry))) × (now (out .exit) ≡ written x (now (out .entry))) ⌝ }
 {
     let store = a.store;
     let after = Kept {
@@ -105,7 +117,9 @@ pub fn assign_turn(kept: Kept, a: AssignOut, out: &mut [u8]) -> Turn
 }
 
 pub fn weave_turn(kept: Kept, a: Woven, out: &mut [u8]) -> Turn
-    ensures { λ r. ⌜ (r ≡ turned (replied kept (wovenReply a)) (now (out .entry))) × (now (out .exit) ≡ written (replied kept (wovenReply a)) (now (out .entry))) ⌝ }
+    ensures { λ r.
+        let x = replied kept (wovenReply a) in
+        ⌜ (r ≡ turned x (now (out .entry))) × (now (out .exit) ≡ written x (now (out .entry))) ⌝ }
 {
     match a {
         Woven::Node(x) => {
@@ -124,7 +138,9 @@ pub fn weave_turn(kept: Kept, a: Woven, out: &mut [u8]) -> Turn
 }
 
 pub fn publish_turn(kept: Kept, a: PublishOut, out: &mut [u8]) -> Turn
-    ensures { λ r. ⌜ (r ≡ turned (replied (holding kept (a .store)) (publishedReply (a .answer))) (now (out .entry))) × (now (out .exit) ≡ written (replied (holding kept (a .store)) (publishedReply (a .answer))) (now (out .entry))) ⌝ }
+    ensures { λ r.
+        let x = replied (holding kept (a .store)) (publishedReply (a .answer)) in
+        ⌜ (r ≡ turned x (now (out .entry))) × (now (out .exit) ≡ written x (now (out .entry))) ⌝ }
 {
     let store = a.store;
     let after = Kept {
@@ -140,7 +156,9 @@ pub fn publish_turn(kept: Kept, a: PublishOut, out: &mut [u8]) -> Turn
 }
 
 pub fn size_turn(kept: Kept, a: Sized, out: &mut [u8]) -> Turn
-    ensures { λ r. ⌜ (r ≡ turned (replied kept (sizedReply a)) (now (out .entry))) × (now (out .exit) ≡ written (replied kept (sizedReply a)) (now (out .entry))) ⌝ }
+    ensures { λ r.
+        let x = replied kept (sizedReply a) in
+        ⌜ (r ≡ turned x (now (out .entry))) × (now (out .exit) ≡ written x (now (out .entry))) ⌝ }
 {
     match a {
         Sized::Bytes(n) => reply_turn(kept, Reply::Size(n), out),
@@ -149,7 +167,9 @@ pub fn size_turn(kept: Kept, a: Sized, out: &mut [u8]) -> Turn
 }
 
 pub fn recent_turn(kept: Kept, a: Latest, out: &mut [u8]) -> Turn
-    ensures { λ r. ⌜ (r ≡ turned (replied kept (latestReply a)) (now (out .entry))) × (now (out .exit) ≡ written (replied kept (latestReply a)) (now (out .entry))) ⌝ }
+    ensures { λ r.
+        let x = replied kept (latestReply a) in
+        ⌜ (r ≡ turned x (now (out .entry))) × (now (out .exit) ≡ written x (now (out .entry))) ⌝ }
 {
     match a {
         Latest::Is(v) => reply_turn(kept, Reply::Recent(v.0), out),
@@ -158,7 +178,9 @@ pub fn recent_turn(kept: Kept, a: Latest, out: &mut [u8]) -> Turn
 }
 
 pub fn stamp_turn(kept: Kept, a: Stamped, out: &mut [u8]) -> Turn
-    ensures { λ r. ⌜ (r ≡ turned (replied kept (stampedReply a)) (now (out .entry))) × (now (out .exit) ≡ written (replied kept (stampedReply a)) (now (out .entry))) ⌝ }
+    ensures { λ r.
+        let x = replied kept (stampedReply a) in
+        ⌜ (r ≡ turned x (now (out .entry))) × (now (out .exit) ≡ written x (now (out .entry))) ⌝ }
 {
     match a {
         Stamped::Is(v) => reply_turn(kept, Reply::Stamp(v.0), out),
@@ -168,7 +190,9 @@ pub fn stamp_turn(kept: Kept, a: Stamped, out: &mut [u8]) -> Turn
 
 // READ's answer is the first n bytes of the buffer that it filled.
 pub fn read_turn(kept: Kept, n: u64, a: Filled, bytes: &[u8], out: &mut [u8]) -> Turn
-    ensures { λ r. ⌜ (r ≡ turned (readSaid kept n (now (bytes .entry)) a) (now (out .entry))) × (now (out .exit) ≡ written (readSaid kept n (now (bytes .entry)) a) (now (out .entry))) ⌝ }
+    ensures { λ r.
+        let x = readSaid kept n (now (bytes .entry)) a in
+        ⌜ (r ≡ turned x (now (out .entry))) × (now (out .exit) ≡ written x (now (out .entry))) ⌝ }
 {
     match a {
         Filled::Done => {
@@ -190,7 +214,9 @@ pub fn capped(x: u64, most: usize) -> usize
 
 // Answers the first n bytes, or all where there are fewer.
 fn bytes_turn(kept: Kept, n: u64, bytes: &[u8], out: &mut [u8]) -> Turn
-    ensures { λ r. ⌜ (r ≡ turned (bytesSaid kept n (now (bytes .entry))) (now (out .entry))) × (now (out .exit) ≡ written (bytesSaid kept n (now (bytes .entry))) (now (out .entry))) ⌝ }
+    ensures { λ r.
+        let x = bytesSaid kept n (now (bytes .entry)) in
+        ⌜ (r ≡ turned x (now (out .entry))) × (now (out .exit) ≡ written x (now (out .entry))) ⌝ }
 {
     let m = capped(n, bytes.len());
     let len = print::write_bytes(&bytes[..m], out);

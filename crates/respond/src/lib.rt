@@ -152,7 +152,7 @@ fn capped_product(a: u64, b: u64, most: usize) -> usize
 }
 
 // The lengths of the areas of a store, none past the array it lies in. A store that this program formats fits the arrays, so these are exact.
-fn lengths_of(s: Store, pages: usize, nodes: usize, register: usize) -> Lengths
+fn lengths_for(s: Store, pages: usize, nodes: usize, register: usize) -> Lengths
     ensures { λ l. ⌜ l ≡ lengthsFor s pages nodes register ⌝ }
 {
     Lengths {
@@ -253,7 +253,7 @@ pub fn respond(
     register: &mut [Record],
     out: &mut [u8],
 ) -> Turn {
-    let l = lengths_of(
+    let l = lengths_for(
         store_for(kept, wanted),
         pages.len(),
         nodes.len(),

@@ -74,11 +74,11 @@ use Rattle.respond.proofs.Generated.Call.store_for as Call-store-for
 use Rattle.respond.proofs.store_for.Symbol as def-store-for
 use Rattle.respond.proofs.store_for.Symbol.{name as #store-for}
 use Rattle.respond.proofs.store_for.Met as thm-store-for
-use Rattle.respond.proofs.Generated.Say.lengths_of as lengths-of″
-use Rattle.respond.proofs.Generated.Call.lengths_of as Call-lengths-of
-use Rattle.respond.proofs.lengths_of.Symbol as def-lengths-of
-use Rattle.respond.proofs.lengths_of.Symbol.{name as #lengths-of}
-use Rattle.respond.proofs.lengths_of.Met as thm-lengths-of
+use Rattle.respond.proofs.Generated.Say.lengths_for as lengths-for″
+use Rattle.respond.proofs.Generated.Call.lengths_for as Call-lengths-for
+use Rattle.respond.proofs.lengths_for.Symbol as def-lengths-for
+use Rattle.respond.proofs.lengths_for.Symbol.{name as #lengths-for}
+use Rattle.respond.proofs.lengths_for.Met as thm-lengths-for
 use Rattle.respond.proofs.Generated.Say.step_within as step-within″
 use Rattle.respond.proofs.Generated.Call.step_within as Call-step-within
 use Rattle.respond.proofs.step_within.Symbol as def-step-within
@@ -116,9 +116,9 @@ module _ {M : Type 1} (𝓤 : URA M) (H : Heap 𝓤) (A : Atoms 𝓤) (W : Given
       qed W (‵ (flft κ·pages q·pages) ∷ ‵ (MutAt u8 κ·pages b·pages o·pages γ·pages (length pages) zs·pages) ∷ ‵ (flft κ·nodes q·nodes) ∷ ‵ (MutAt u32 κ·nodes b·nodes o·nodes γ·nodes (length nodes) zs·nodes) ∷ ‵ (flft κ·register q·register) ∷ ‵ (MutAt Record′.row κ·register b·register o·register γ·register (length register) zs·register) ∷ ‵ (flft κ·out q·out) ∷ ‵ (MutAt u8 κ·out b·out o·out γ·out (length out) zs·out) ∷ []) ∵ suffices ! _ (ends-at 𝓤 H A respond‴.ended stayed (respond‴.clauses 𝓤 H A mem run) W bound (Turn′.mach r) r (tt, (tt, (zs·pages, (zs·nodes, (zs·register, (zs·out, tt)))))) (tt, (tt, (same·pages, (same·nodes, (same·register, (same·out, tt))))))) $ plus-nothing ! $
       nothing ! $ move ! (7 ∷ 0 ∷ []) $ join ! $ move ! (5 ∷ 0 ∷ []) $ join ! $ move ! (3 ∷ 0 ∷ []) $ join ! $ move ! (1 ∷ 0 ∷ []) $ join ! $ frame ! $ nothing ! $ move ! (4 ∷ 0 ∷ []) $ fjoin ! $ move ! (3 ∷ 0 ∷ []) $ fjoin ! $ move ! (2 ∷ 0 ∷ []) $ fjoin ! $ move ! (1 ∷ 0 ∷ []) $ fjoin ! $ owned ! Wanted′.row (Is Wanted′.row) (Wanted′.makes 𝓤 H A) wanted _ ok·wanted $ fjoin ! $ owned ! Kept′.row (Is Kept′.row) (Kept′.makes 𝓤 H A) kept _ ok·kept $ fjoin ! $ frame ! $ owned ! Turn′.row (Is Turn′.row) (Turn′.makes 𝓤 H A) r _ ok·r $ done !
 
-  walk : (𝓣 : Tables 𝓤 H) (known-store-for : Triple 𝓤 (𝓣 .C #store-for) (Call-store-for.Asked 𝓤 H A mem run)) (known-lengths-of : Triple 𝓤 (𝓣 .C #lengths-of) (Call-lengths-of.Asked 𝓤 H A mem run)) (known-step-within : Triple 𝓤 (𝓣 .C #step-within) (Call-step-within.Asked 𝓤 H A mem run)) → ent 𝓤 (onEntry 𝓤 H A respond‴.signature (κ·pages, (κ·nodes, (κ·register, (κ·out, tt)))) (q·pages, (q·nodes, (q·register, (q·out, tt)))) all-args all-vals)
+  walk : (𝓣 : Tables 𝓤 H) (known-store-for : Triple 𝓤 (𝓣 .C #store-for) (Call-store-for.Asked 𝓤 H A mem run)) (known-lengths-for : Triple 𝓤 (𝓣 .C #lengths-for) (Call-lengths-for.Asked 𝓤 H A mem run)) (known-step-within : Triple 𝓤 (𝓣 .C #step-within) (Call-step-within.Asked 𝓤 H A mem run)) → ent 𝓤 (onEntry 𝓤 H A respond‴.signature (κ·pages, (κ·nodes, (κ·register, (κ·out, tt)))) (q·pages, (q·nodes, (q·register, (q·out, tt)))) all-args all-vals)
       (WpFn 𝓤 H (𝓣 .C) (𝓣 .Λ) code.function (Kept′.mach kept ∷ Wanted′.mach wanted ∷ sliceVal (b·pages, o·pages) (length pages) ∷ sliceVal (b·nodes, o·nodes) (length nodes) ∷ sliceVal (b·register, o·register) (length register) ∷ sliceVal (b·out, o·out) (length out) ∷ []) Post)
-  walk 𝓣 known-store-for known-lengths-of known-step-within =
+  walk 𝓣 known-store-for known-lengths-for known-step-within =
       qed W ((‵ (flft κ·pages q·pages) ⊛ ‵ (flft κ·nodes q·nodes) ⊛ ‵ (flft κ·register q·register) ⊛ ‵ (flft κ·out q·out) ⊛ ‵ ftrue) ∷ ‵ (owns (Kept′.row ∷ Wanted′.row ∷ MutSlice (named 0) κ·pages u8 ∷ MutSlice (named 0) κ·nodes u32 ∷ MutSlice (named 0) κ·register Record′.row ∷ MutSlice (named 0) κ·out u8 ∷ []) all-args all-vals) ∷ []) ∵ enter ! (𝓣 .C) (𝓣 .Λ) code.function (Kept′.mach kept ∷ Wanted′.mach wanted ∷ sliceVal (b·pages, o·pages) (length pages) ∷ sliceVal (b·nodes, o·nodes) (length nodes) ∷ sliceVal (b·register, o·register) (length register) ∷ sliceVal (b·out, o·out) (length out) ∷ []) _ $
       alloc1 ! (λ l₀. alloc1 ! (λ l₁. alloc1 ! (λ l₂. alloc1 ! (λ l₃. alloc1 ! (λ l₄. alloc1 ! (λ l₅. alloc1 ! (λ l₆. alloc1 ! (λ l₇. alloc1 ! (λ l₈. alloc1 ! (λ l₉. alloc1 ! (λ l₁₀. alloc1 ! (λ l₁₁. alloc1 ! (λ l₁₂. alloc1 ! (λ l₁₃. alloc1 ! (λ l₁₄. alloc1 ! (λ l₁₅. alloc1 ! (λ l₁₆. alloc1 ! (λ l₁₇. alloc1 ! (λ l₁₈. alloc1 ! (λ l₁₉. alloc0 ! $ params1 ! $
       pass1 ! (init ! 36 refl (Kept′.typed 𝓤 H A W kept ok·kept)) $ pass1 ! (init ! 34 refl (Wanted′.typed 𝓤 H A W wanted ok·wanted)) $ pass1 ! (init ! 32 refl (tt, (tt, (record { fits = room·pages .0 }, tt)))) $ pass1 ! (init ! 30 refl (tt, (tt, (record { fits = room·nodes .0 }, tt)))) $ pass1 ! (init ! 28 refl (tt, (tt, (record { fits = room·register .0 }, tt)))) $ pass1 ! (init ! 26 refl (tt, (tt, (record { fits = room·out .0 }, tt)))) $ pass0 ! $
@@ -129,7 +129,7 @@ module _ {M : Type 1} (𝓤 : URA M) (H : Heap 𝓤) (A : Atoms 𝓤) (W : Given
       assigns ! (of-opd ! (load ! (from ! (fld ! refl (stop !))) (look-in ! 40 (sub ! 1 refl (whole !))))) (from ! (stop !)) (init ! 28 refl (tt, record { fits = room·pages .0 })) $
       assigns ! (of-opd ! (load ! (from ! (fld ! refl (stop !))) (look-in ! 38 (sub ! 1 refl (whole !))))) (from ! (stop !)) (init ! 26 refl (tt, record { fits = room·nodes .0 })) $
       assigns ! (of-opd ! (load ! (from ! (fld ! refl (stop !))) (look-in ! 36 (sub ! 1 refl (whole !))))) (from ! (stop !)) (init ! 24 refl (tt, record { fits = room·register .0 })) $
-      Call-lengths-of.calls ! mem run (fmOf 𝓤 H (W .laws) 𝓣) known-lengths-of (r1 kept wanted pages nodes register out) (length pages) (length nodes) (length register) ok·1 (refl, room·pages .0) (refl, room·nodes .0) (refl, room·register .0) (and-then ! (load ! (from ! (stop !)) (look ! 31 refl)) (and-then ! (load ! (from ! (stop !)) (look ! 29 refl)) (and-then ! (load ! (from ! (stop !)) (look ! 27 refl)) (and-then ! (load ! (from ! (stop !)) (look ! 25 refl)) (no-more !)))))
+      Call-lengths-for.calls ! mem run (fmOf 𝓤 H (W .laws) 𝓣) known-lengths-for (r1 kept wanted pages nodes register out) (length pages) (length nodes) (length register) ok·1 (refl, room·pages .0) (refl, room·nodes .0) (refl, room·register .0) (and-then ! (load ! (from ! (stop !)) (look ! 31 refl)) (and-then ! (load ! (from ! (stop !)) (look ! 29 refl)) (and-then ! (load ! (from ! (stop !)) (look ! 27 refl)) (and-then ! (load ! (from ! (stop !)) (look ! 25 refl)) (no-more !)))))
       (λ ok·2. land ! (from ! (stop !)) (init ! 32 refl (Lengths′.typed 𝓤 H A W (r2 kept wanted pages nodes register out) ok·2)) $
       here ! (‵ (flft κ·pages q·pages) ∷ ‵ (MutAt u8 κ·pages b·pages o·pages γ·pages (length pages) pages) ∷ ‵ (flft κ·nodes q·nodes) ∷ ‵ (MutAt u32 κ·nodes b·nodes o·nodes γ·nodes (length nodes) nodes) ∷ ‵ (flft κ·register q·register) ∷ ‵ (MutAt Record′.row κ·register b·register o·register γ·register (length register) register) ∷ ‵ (flft κ·out q·out) ∷ ‵ (MutAt u8 κ·out b·out o·out γ·out (length out) out) ∷ empty (sliceTy (tyRef erased mut (pointee (u8 .written)))) l₁₉ (empty (tyRef erased mut (pointee (u8 .written))) l₁₈ (empty (sliceTy (tyRef erased mut (pointee (Record′.row .written)))) l₁₇ (empty (tyRef erased mut (pointee (Record′.row .written))) l₁₆ (empty (sliceTy (tyRef erased mut (pointee (u32 .written)))) l₁₅ (empty (tyRef erased mut (pointee (u32 .written))) l₁₄ (empty (sliceTy (tyRef erased mut (pointee (u8 .written)))) l₁₃ (empty (tyRef erased mut (pointee (u8 .written))) l₁₂ (holds (tyInt w64) l₁₁ (vint w64 (length register)) (holds (tyInt w64) l₁₀ (vint w64 (length nodes)) (holds (tyInt w64) l₉ (vint w64 (length pages)) (holds (tyAt (code.function .locals) 8) l₈ (Store′.mach (r1 kept wanted pages nodes register out)) (holds (tyAt (code.function .locals) 7) l₇ (Lengths′.mach (r2 kept wanted pages nodes register out)) (holds (sliceTy (tyRef (named 3) mut (pointee (u8 .written)))) l₆ (sliceVal (b·out, o·out) (length out)) (holds (sliceTy (tyRef (named 2) mut (pointee (Record′.row .written)))) l₅ (sliceVal (b·register, o·register) (length register)) (holds (sliceTy (tyRef (named 1) mut (pointee (u32 .written)))) l₄ (sliceVal (b·nodes, o·nodes) (length nodes)) (holds (sliceTy (tyRef (named 0) mut (pointee (u8 .written)))) l₃ (sliceVal (b·pages, o·pages) (length pages)) (holds (tyAt (code.function .locals) 2) l₂ (Wanted′.mach wanted) (holds (tyAt (code.function .locals) 1) l₁ (Kept′.mach kept) (empty (tyAt (code.function .locals) 0) l₀ [])))))))))))))))))))) $
       assigns ! (addr ! (from ! (fld ! refl (hop ! (look-in ! 40 (sub ! 0 refl (whole !))) (stop !))))) (from ! (stop !)) (init ! 22 refl (tt, tt)) $
@@ -148,15 +148,15 @@ module _ {M : Type 1} (𝓤 : URA M) (H : Heap 𝓤) (A : Atoms 𝓤) (W : Given
       move ! (46 ∷ 47 ∷ []) $ forget ! 0 refl $ free1 ! $ move ! (44 ∷ 45 ∷ []) $ forget ! 0 refl $ free1 ! $ move ! (42 ∷ 43 ∷ []) $ forget ! 0 refl $ free1 ! $ move ! (40 ∷ 41 ∷ []) $ forget ! 0 refl $ free1 ! $ move ! (38 ∷ 39 ∷ []) $ forget ! 0 refl $ free1 ! $ move ! (36 ∷ 37 ∷ []) $ forget ! 0 refl $ free1 ! $ move ! (34 ∷ 35 ∷ []) $ forget ! 0 refl $ free1 ! $ move ! (32 ∷ 33 ∷ []) $ forget ! 0 refl $ free1 ! $ move ! (30 ∷ 31 ∷ []) $ forget ! 0 refl $ free1 ! $ move ! (28 ∷ 29 ∷ []) $ forget ! 0 refl $ free1 ! $ move ! (26 ∷ 27 ∷ []) $ forget ! 0 refl $ free1 ! $ move ! (24 ∷ 25 ∷ []) $ forget ! 0 refl $ free1 ! $ move ! (22 ∷ 23 ∷ []) $ forget ! 0 refl $ free1 ! $ move ! (20 ∷ 21 ∷ []) $ forget ! 0 refl $ free1 ! $ move ! (18 ∷ 19 ∷ []) $ forget ! 0 refl $ free1 ! $ move ! (16 ∷ 17 ∷ []) $ forget ! 0 refl $ free1 ! $ move ! (14 ∷ 15 ∷ []) $ forget ! 0 refl $ free1 ! $ move ! (12 ∷ 13 ∷ []) $ forget ! 0 refl $ free1 ! $ move ! (10 ∷ 11 ∷ []) $ forget ! 0 refl $ free1 ! $ move ! (8 ∷ 9 ∷ []) $ forget ! 0 refl $ free1 ! $ free0 ! $ by ! (exits r3 ok·3 (pages₃ kept wanted pages nodes register out r3 part-pages₃ part-nodes₃ part-register₃ out₃) (sym (refl ∙ sym (part-same ((r2 kept wanted pages nodes register out) .pages) pages part-pages₃ same·3-pages))) (nodes₃ kept wanted pages nodes register out r3 part-pages₃ part-nodes₃ part-register₃ out₃) (sym (refl ∙ sym (part-same ((r2 kept wanted pages nodes register out) .nodes) nodes part-nodes₃ same·3-nodes))) (register₃ kept wanted pages nodes register out r3 part-pages₃ part-nodes₃ part-register₃ out₃) (sym (refl ∙ sym (part-same ((r2 kept wanted pages nodes register out) .register) register part-register₃ same·3-register))) out₃ (sym (refl ∙ sym same·3-out))))))))))))))))))))))))))))))
 
 module _ {M : Type 1} (𝓤 : URA M) (H : Heap 𝓤) (A : Atoms 𝓤) (W : Given 𝓤 H A) (mem : Memory → SProp 𝓤) (run : Routine → Fun 𝓤) where
-  walks : (𝓣 : Tables 𝓤 H) → Triple 𝓤 (𝓣 .C #store-for) (Call-store-for.Asked 𝓤 H A mem run) → Triple 𝓤 (𝓣 .C #lengths-of) (Call-lengths-of.Asked 𝓤 H A mem run) → Triple 𝓤 (𝓣 .C #step-within) (Call-step-within.Asked 𝓤 H A mem run) → Walks 𝓤 H A respond‴.ended stayed (WpFn 𝓤 H (𝓣 .C) (𝓣 .Λ) code.function) (respond‴.clauses 𝓤 H A mem run)
-  walks 𝓣 known-store-for known-lengths-of known-step-within = walked 𝓤 H A respond‴.ended stayed (respond‴.clauses 𝓤 H A mem run) (WpFn 𝓤 H (𝓣 .C) (𝓣 .Λ) code.function) (λ κs. (Kept′.vals, (Wanted′.vals, (slice-vals, (slice-vals, (slice-vals, (slice-vals, tt))))))) (λ κs. (Kept′.tells, (Wanted′.tells, (mut-slice-tells (named 0) (κs .0) u8, (mut-slice-tells (named 0) (κs .1 .0) u32, (mut-slice-tells (named 0) (κs .1 .1 .0) Record′.row, (mut-slice-tells (named 0) (κs .1 .1 .1 .0) u8, tt)))))))
-      (λ κs qs bounds a g are. via 𝓤 _ (fst∗ 𝓤 _ (emp 𝓤)) (walk 𝓤 H A W mem run (a .0) (a .1 .0) (κs .0) (qs .0) (a .1 .1 .0 .ptr .0) (a .1 .1 .0 .ptr .1) (a .1 .1 .0 .name) (a .1 .1 .0 .now) (κs .1 .0) (qs .1 .0) (a .1 .1 .1 .0 .ptr .0) (a .1 .1 .1 .0 .ptr .1) (a .1 .1 .1 .0 .name) (a .1 .1 .1 .0 .now) (κs .1 .1 .0) (qs .1 .1 .0) (a .1 .1 .1 .1 .0 .ptr .0) (a .1 .1 .1 .1 .0 .ptr .1) (a .1 .1 .1 .1 .0 .name) (a .1 .1 .1 .1 .0 .now) (κs .1 .1 .1 .0) (qs .1 .1 .1 .0) (a .1 .1 .1 .1 .1 .0 .ptr .0) (a .1 .1 .1 .1 .1 .0 .ptr .1) (a .1 .1 .1 .1 .1 .0 .name) (a .1 .1 .1 .1 .1 .0 .now) (are .0) (are .1 .0) (are .1 .1 .0 .0 .1) (are .1 .1 .1 .0 .0 .1) (are .1 .1 .1 .1 .0 .0 .1) (are .1 .1 .1 .1 .1 .0 .0 .1) 𝓣 known-store-for known-lengths-of known-step-within))
+  walks : (𝓣 : Tables 𝓤 H) → Triple 𝓤 (𝓣 .C #store-for) (Call-store-for.Asked 𝓤 H A mem run) → Triple 𝓤 (𝓣 .C #lengths-for) (Call-lengths-for.Asked 𝓤 H A mem run) → Triple 𝓤 (𝓣 .C #step-within) (Call-step-within.Asked 𝓤 H A mem run) → Walks 𝓤 H A respond‴.ended stayed (WpFn 𝓤 H (𝓣 .C) (𝓣 .Λ) code.function) (respond‴.clauses 𝓤 H A mem run)
+  walks 𝓣 known-store-for known-lengths-for known-step-within = walked 𝓤 H A respond‴.ended stayed (respond‴.clauses 𝓤 H A mem run) (WpFn 𝓤 H (𝓣 .C) (𝓣 .Λ) code.function) (λ κs. (Kept′.vals, (Wanted′.vals, (slice-vals, (slice-vals, (slice-vals, (slice-vals, tt))))))) (λ κs. (Kept′.tells, (Wanted′.tells, (mut-slice-tells (named 0) (κs .0) u8, (mut-slice-tells (named 0) (κs .1 .0) u32, (mut-slice-tells (named 0) (κs .1 .1 .0) Record′.row, (mut-slice-tells (named 0) (κs .1 .1 .1 .0) u8, tt)))))))
+      (λ κs qs bounds a g are. via 𝓤 _ (fst∗ 𝓤 _ (emp 𝓤)) (walk 𝓤 H A W mem run (a .0) (a .1 .0) (κs .0) (qs .0) (a .1 .1 .0 .ptr .0) (a .1 .1 .0 .ptr .1) (a .1 .1 .0 .name) (a .1 .1 .0 .now) (κs .1 .0) (qs .1 .0) (a .1 .1 .1 .0 .ptr .0) (a .1 .1 .1 .0 .ptr .1) (a .1 .1 .1 .0 .name) (a .1 .1 .1 .0 .now) (κs .1 .1 .0) (qs .1 .1 .0) (a .1 .1 .1 .1 .0 .ptr .0) (a .1 .1 .1 .1 .0 .ptr .1) (a .1 .1 .1 .1 .0 .name) (a .1 .1 .1 .1 .0 .now) (κs .1 .1 .1 .0) (qs .1 .1 .1 .0) (a .1 .1 .1 .1 .1 .0 .ptr .0) (a .1 .1 .1 .1 .1 .0 .ptr .1) (a .1 .1 .1 .1 .1 .0 .name) (a .1 .1 .1 .1 .1 .0 .now) (are .0) (are .1 .0) (are .1 .1 .0 .0 .1) (are .1 .1 .1 .0 .0 .1) (are .1 .1 .1 .1 .0 .0 .1) (are .1 .1 .1 .1 .1 .0 .0 .1) 𝓣 known-store-for known-lengths-for known-step-within))
 
-meets : {M : Type 1} (𝓤 : URA M) (H : Heap 𝓤) (A : Atoms 𝓤) → Given 𝓤 H A → (mem : Memory → SProp 𝓤) (run : Routine → Fun 𝓤) (𝓣 : Tables 𝓤 H) → Triple 𝓤 (𝓣 .C #store-for) (Call-store-for.Asked 𝓤 H A mem run) → Triple 𝓤 (𝓣 .C #lengths-of) (Call-lengths-of.Asked 𝓤 H A mem run) → Triple 𝓤 (𝓣 .C #step-within) (Call-step-within.Asked 𝓤 H A mem run)
+meets : {M : Type 1} (𝓤 : URA M) (H : Heap 𝓤) (A : Atoms 𝓤) → Given 𝓤 H A → (mem : Memory → SProp 𝓤) (run : Routine → Fun 𝓤) (𝓣 : Tables 𝓤 H) → Triple 𝓤 (𝓣 .C #store-for) (Call-store-for.Asked 𝓤 H A mem run) → Triple 𝓤 (𝓣 .C #lengths-for) (Call-lengths-for.Asked 𝓤 H A mem run) → Triple 𝓤 (𝓣 .C #step-within) (Call-step-within.Asked 𝓤 H A mem run)
     → Meets 𝓤 H A respond‴.signature (WpFn 𝓤 H (𝓣 .C) (𝓣 .Λ) code.function) (respond‴.spec 𝓤 H A mem run)
-meets 𝓤 H A W mem run 𝓣 known-store-for known-lengths-of known-step-within =
+meets 𝓤 H A W mem run 𝓣 known-store-for known-lengths-for known-step-within =
     walk-meets 𝓤 H A respond‴.ended stayed W (goes-none 𝓤 H A W 4 (λ _. Kept′.row) yes (λ κs x f. refl), (goes-none 𝓤 H A W 4 (λ _. Wanted′.row) yes (λ κs x f. refl), (goes-slice 𝓤 H A W 4 0 tt (plain (λ _. u8)), (goes-slice 𝓤 H A W 4 1 tt (plain (λ _. u32)), (goes-slice 𝓤 H A W 4 2 tt (plain (λ _. Record′.row)), (goes-slice 𝓤 H A W 4 3 tt (plain (λ _. u8)), tt)))))) (respond‴.clauses 𝓤 H A mem run)
-    (WpFn 𝓤 H (𝓣 .C) (𝓣 .Λ) code.function) (WpFn-mono 𝓤 H (W .laws) 𝓣 code.function) (walks 𝓤 H A W mem run 𝓣 known-store-for known-lengths-of known-step-within)
+    (WpFn 𝓤 H (𝓣 .C) (𝓣 .Λ) code.function) (WpFn-mono 𝓤 H (W .laws) 𝓣 code.function) (walks 𝓤 H A W mem run 𝓣 known-store-for known-lengths-for known-step-within)
 
 pub respond-spec : {M : Type 1} → stated.statement M
 unfolding code.routine tablesOf
@@ -165,5 +165,5 @@ respond-spec 𝓤 H 𝓜 𝓖 𝓡 =
     (tables 𝓤 H 𝓜 𝓡 code.env .C) (tables 𝓤 H 𝓜 𝓡 code.env .Λ) #self code.function (code.unfolded 𝓤 H 𝓜 𝓡)
     (meets 𝓤 H (𝓖 .A) (givenOf 𝓤 H 𝓜 𝓖) (𝓜 .mem) (𝓡 .run) (tablesOf 𝓤 H 𝓜 (tables 𝓤 H 𝓜 𝓡 code.env))
     (cited 𝓤 H (Call-store-for.Asked 𝓤 H (𝓖 .A) (𝓜 .mem) (𝓡 .run)) 𝓜 𝓡 code.env #store-for def-store-for.routine code.calls-respond·store-for (thm-store-for.met 𝓤 H 𝓜 𝓖 𝓡))
-    (cited 𝓤 H (Call-lengths-of.Asked 𝓤 H (𝓖 .A) (𝓜 .mem) (𝓡 .run)) 𝓜 𝓡 code.env #lengths-of def-lengths-of.routine code.calls-respond·lengths-of (thm-lengths-of.met 𝓤 H 𝓜 𝓖 𝓡))
+    (cited 𝓤 H (Call-lengths-for.Asked 𝓤 H (𝓖 .A) (𝓜 .mem) (𝓡 .run)) 𝓜 𝓡 code.env #lengths-for def-lengths-for.routine code.calls-respond·lengths-for (thm-lengths-for.met 𝓤 H 𝓜 𝓖 𝓡))
     (cited 𝓤 H (Call-step-within.Asked 𝓤 H (𝓖 .A) (𝓜 .mem) (𝓡 .run)) 𝓜 𝓡 code.env #step-within def-step-within.routine code.calls-respond·step-within (thm-step-within.met 𝓤 H 𝓜 𝓖 𝓡)))

@@ -36,14 +36,14 @@ use Rattle.versions.specs.declared.Lengths.{Lengths}
 use Rattle.versions.proofs.Generated.Kind.Lengths as Lengths′
 use Rattle.respond.proofs.Generated.Say.respond as respond″
 use Rattle.respond.proofs.Generated.Say.store_for as store-for″
-use Rattle.respond.proofs.Generated.Say.lengths_of as lengths-of″
+use Rattle.respond.proofs.Generated.Say.lengths_for as lengths-for″
 use Rattle.respond.proofs.Generated.Say.step_within as step-within″
 
 abbrev pub r1 : Kept → Wanted → List ℕ → List ℕ → List Record → List ℕ → Store
 r1 kept wanted pages nodes register out = store-for″.res kept wanted
 
 abbrev pub r2 : Kept → Wanted → List ℕ → List ℕ → List Record → List ℕ → Lengths
-r2 kept wanted pages nodes register out = lengths-of″.res (r1 kept wanted pages nodes register out) (length pages) (length nodes) (length register)
+r2 kept wanted pages nodes register out = lengths-for″.res (r1 kept wanted pages nodes register out) (length pages) (length nodes) (length register)
 
 abbrev pub pages₃ : Kept → Wanted → List ℕ → List ℕ → List Record → List ℕ → Turn → List ℕ → List ℕ → List Record → List ℕ → List ℕ
 pages₃ kept wanted pages nodes register out r3 part-pages₃ part-nodes₃ part-register₃ out₃ = part-pages₃ ++ drop ((r2 kept wanted pages nodes register out) .pages) pages

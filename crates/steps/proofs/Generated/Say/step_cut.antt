@@ -9,7 +9,7 @@ use lib.ListN.{length}
 use Rattle.text.specs.Buffer.{front}
 use Rattle.fields.specs.Fields.{hexOf}
 use Rattle.parse.specs.Steps.{aloneOf, oneOf, twoOf, readOf, putOf, threeOf, formatOf, fourOf, stepOf, bytesOf}
-use Rattle.parse.specs.Cut.{fresh, fedBy, keptBy, unendedIn, cutMeant}
+use Rattle.parse.specs.Cut.{fresh, fedBy, keptBy, unendedIn, cutMeant, CutMeans}
 use Rattle.parse.specs.declared.Cutter.{Cutter}
 use Rattle.parse.specs.declared.Fed.{Fed}
 use Rattle.parse.specs.declared.Step.{Step}

@@ -1,8 +1,8 @@
--- `respond::lengths_of` meets its contract. Assumes nothing.
+-- `respond::lengths_for` meets its contract. Assumes nothing.
 use Rattle.respond.specs.Wanted.{lengthsFor}
 use borrow.Author.Needs.{needs}
-use Rattle.respond.proofs.lengths_of.Statement.{statement}
-use Rattle.respond.proofs.lengths_of.Tie as tie
+use Rattle.respond.proofs.lengths_for.Statement.{statement}
+use Rattle.respond.proofs.lengths_for.Tie as tie
 
 capped-product-requires : tie.Need-capped-product-requires
 capped-product-requires c κs = search needs
@@ -17,6 +17,6 @@ returns : tie.Need-returns
 unfolding lengthsFor
 returns c = rw (c .capped .ensures, c .before .capped-product2 .ensures, c .before .before .capped-product .ensures)
 
-pub lengths-of-spec : {M : Type 1} → statement M
-lengths-of-spec =
+pub lengths-for-spec : {M : Type 1} → statement M
+lengths-for-spec =
     tie.close (tie.spec capped-product-requires capped-product-requires-2 capped-requires returns)
