@@ -13,7 +13,7 @@ use Rattle.put.proofs.Passed.{put-passed}
 use Rattle.put.proofs.put.Proof.Asks as Asks
 
 -- the function ensures: (r ≡ putOut s (areasOf pages nodes register) (t .0) i bytes) × (pages′ ≡ putPages s (areasOf pages nodes register) (t .0) i bytes) × (register′ ≡ putRegister s (areasOf pages nodes register) (t .0) i bytes)
--- here: put″.ens s pages nodes register x-t i bytes (pages₄ s pages nodes register x-t i bytes) (register₇ s pages nodes register x-t i bytes) (r8 s pages nodes register x-t i bytes)
+-- here: put″.ens s pages nodes register x-t i bytes (pages₅ s pages nodes register x-t i bytes) (register₈ s pages nodes register x-t i bytes) (r9 s pages nodes register x-t i bytes)
 pub exit-1 : Asks.exit-1
 exit-1 s pages nodes register x-t i bytes ok-s len-pages len-nodes len-register ok-x-t fits-i len-bytes ok-r1 ok-r2 fits-r3 fits-r4 same5-pages fits-r6 ok-r7 same8-register ok-r9 =
     let r = nth noRecord register (x-t .0) in

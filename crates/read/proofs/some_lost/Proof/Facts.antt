@@ -30,7 +30,7 @@ start-1 s nodes register x-v x-from n x-first ok-s len-nodes len-register ok-x-v
     (omega arith, rw (← next) (lost-later s (areasOf [] nodes register) (x-v .0) (x-from .0) n n1 (sym (need .1) ∙ c2)))
 
 -- the sum does not wrap
--- here: x-from .0 + v8 < 2 ^ 64
+-- here: (x-from .0) + v8 < 2 ^ 64
 pub add-1 : Asks.add-1
 add-1 s nodes register x-v x-from n x-first ok-s len-nodes len-register ok-x-v ok-x-from fits-n need c1 n1 c2 v8 fits-v8 inv1 c3 n3 = omega (arith, need .0)
 
