@@ -388,9 +388,21 @@ Written by `tools/walkgen`, and checked by the prover like any proof: nobody has
         if e[0] != 'fields':
             return None
         names = self.source(crate).structs[self.item(name)]
-        return list(zip([esc(n) for n in names], [ty_of(t) for t in lst(e[1])]))
+        out = list(zip([esc(n) for n in names], [ty_of(t) for t in lst(e[1])]))
+        for f, t in out:
+            if t.kind == 'array':
+                t.kit, t.field = self.short(name) + '′', hyph(f.strip('«»'))
+        return out
+
+    def held(self, t):
+        """whether t may be a field: a plain type, or an array of such, which is a value like any other as long as nothing looks into it"""
+        return t.plain or t.kind == 'array' and t.elem.plain and t.elem.kind != 'unit' and not (t.elem.kind == 'named' and self.types[t.elem.name][0] != 'fields')
 
     def D(self, t):
+        if t.kind == 'array' and hasattr(t, 'kit'):
+            return 'List ' + self.D(t.elem)
+        if t.kind == 'array':
+            raise Unsupported('an array that is a parameter, a result or an element (as a field of a struct it is walked)')
         if not t.plain:
             raise Unsupported('a type that is no unsigned integer, bool, struct or enum: %s' % t.__dict__)
         return {'int': 'ℕ', 'bool': 'Bool', 'unit': 'Unit {0}'}.get(t.kind) or self.alias(t.name)
@@ -413,9 +425,13 @@ Written by `tools/walkgen`, and checked by the prover like any proof: nobody has
         return {'int': lambda: '(uint-makes 𝓤 H A W w%d)' % t.w, 'bool': lambda: '(bool-makes 𝓤 H A W)', 'unit': lambda: '(nothing-makes 𝓤 H A W)', 'named': lambda: '(%s′.makes 𝓤 H A)' % self.short(t.name)}[t.kind]()
 
     def mach(self, t, e):
+        if t.kind == 'array':
+            return '%s.mach-%s %s' % (t.kit, t.field, par(e))
         return {'int': lambda: 'vint w%d %s' % (t.w, par(e)), 'bool': lambda: 'vbool %s' % par(e), 'unit': lambda: 'vunit', 'named': lambda: '%s′.mach %s' % (self.short(t.name), par(e))}[t.kind]()
 
-    def okty(self, t, e):
+    def okty(self, t, e, own=False):
+        if t.kind == 'array':
+            return '%sOk-%s %s' % ('' if own else t.kit + '.', t.field, par(e))
         return 'Is %s %s (%s %s)' % (self.row(t), par(e), self.vals(t), par(e))
 
     def copy(self, t):
@@ -423,6 +439,8 @@ Written by `tools/walkgen`, and checked by the prover like any proof: nobody has
 
     def typed(self, t, e, ok):
         """T (hasTy ..) × WT ..: what a store of e asks for"""
+        if t.kind == 'array':
+            return '(%s.typed-%s 𝓤 H A W %s %s)' % (t.kit, t.field, par(e), par(ok))
         return {'int': lambda: '(tt, record { fits = %s })' % fits_of(ok), 'bool': lambda: '(tt, tt)', 'unit': lambda: '(tt, tt)', 'named': lambda: '(%s′.typed 𝓤 H A W %s %s)' % (self.short(t.name), par(e), par(ok))}[t.kind]()
 
     def named_in(self, tys):
@@ -436,7 +454,7 @@ Written by `tools/walkgen`, and checked by the prover like any proof: nobody has
                 out.append(t.name)
                 e = self.types[t.name]
                 for x in (lst(e[1]) if e[0] == 'fields' else [y for v in lst(e[1]) for y in lst(v)]):
-                    if ty_of(x).kind == 'named':
+                    if ty_of(x).kind in ('named', 'array'):
                         go(ty_of(x))
         for t in tys:
             go(t)
@@ -479,10 +497,20 @@ Written by `tools/walkgen`, and checked by the prover like any proof: nobody has
               'use denote.RattleType.{RattleType}', 'use denote.Laws.{Is, Tells, Copy, Makes}', 'use denote.Plain.{uint-vals, bool-vals, nothing-vals}', 'use denote.Builtin.{u8, u16, u32, u64, bool, unit}',
               'use denote.%s.Laws as LL' % ('Enum' if enum else 'Struct')]
         inner = [ty_of(y) for v in lst(self.types[name][1]) for y in lst(v)] if enum else [t for _, t in fs]
-        if any(not t.plain for t in inner):
-            raise Unsupported('%s: a field that is no unsigned integer, bool, struct or enum' % name)
-        sub = [t.name for t in inner if t.kind == 'named']
+        if any(not t.plain if enum else not self.held(t) for t in inner):
+            raise Unsupported('%s: a field that is no unsigned integer, bool, struct, enum, or array of unsigned integers, bools or structs' % name)
+        arrays = [] if enum else [(f, t) for f, t in fs if t.kind == 'array']
+        of = [t.elem if t.kind == 'array' else t for t in inner]
+        sub = [t.name for t in of if t.kind == 'named']
         L += sorted(set(self.type_uses([n for n in dict.fromkeys(sub)])))
+        if arrays:
+            # an element as a field, and its laws
+            L[L.index('use mathlib.Core.Path.{_≡_, refl}')] = 'use mathlib.Core.Path.{_≡_, refl, sym, _∙_}'
+            L[L.index('use mathlib.Core.List.{List, [], _∷_}')] = 'use mathlib.Core.List.{List, [], _∷_, map}'
+            L += ['use lib.ListN.{length, length-map, replicate}', 'use denote.Struct.Field.{Field, array-field, u8-field, u16-field, u32-field, u64-field, bool-field}', 'use denote.Struct.Laws.{FLaws, array-laws}', 'use denote.Memory.{lone}']
+            for n in dict.fromkeys(t.elem.name for _, t in arrays if t.elem.kind == 'named'):
+                at = '%s.%s' % (self.proofs(n.split('::')[0]), dotted(self.item(n)))
+                L += ['use %s as %s-T′' % (at, self.short(n)), 'use %s.Laws as %s-T″' % (at, self.short(n))]
         L += self.type_uses([name], kits=False) + ['use %s.%s as T′' % (self.proofs(c), dotted(self.item(name))), 'use %s.%s.Laws as T″' % (self.proofs(c), dotted(self.item(name))), '']
         al = self.alias(name)
         L += ['abbrev pub row : RattleType', 'row = T′.the-row', '', 'abbrev pub ty : Ty', 'ty = T″.mir', '',
@@ -495,14 +523,19 @@ Written by `tools/walkgen`, and checked by the prover like any proof: nobody has
               'pub copy : {M : Type 1} (𝓤 : URA M) (H : Heap 𝓤) (A : Atoms 𝓤) (W : Given 𝓤 H A) → Copy 𝓤 H A row', 'copy = LL.copy T′.the-type T″.the-copy', '',
               'pub makes : {M : Type 1} (𝓤 : URA M) (H : Heap 𝓤) (A : Atoms 𝓤) → Makes 𝓤 H A row (Is row)', 'makes = LL.makes T′.the-type T″.the-plain', '']
         L += ['-- a value to stand past the end of a list', 'abbrev pub none : %s' % al, 'none = %s' % self.zero(Ty('named', name=name), top=True), '']
+        for f, t in arrays:
+            L += self.array_kit(t)
         if not enum:
             for i, (f, t) in enumerate(fs):
-                L += ['pub ok-%s : (d : %s) → Ok d → %s' % (hyph(f.strip('«»')), al, self.okty(t, 'd .' + f)),
+                L += ['pub ok-%s : (d : %s) → Ok d → %s' % (hyph(f.strip('«»')), al, self.okty(t, 'd .' + f, own=True)),
                       'ok-%s d g = LL.owed T′.the-type T″.the-laws d _ g%s .0' % (hyph(f.strip('«»')), ' .1' * i), '']
+            for f, t in arrays:
+                L += ['pub count-%s : (d : %s) → Ok d → length (d .%s) ≡ %d' % (t.field, al, f, t.n),
+                      'count-%s d g = sym (length-map (d .%s) (%s .into)) ∙ ok-%s d g .1 .0 .1' % (t.field, f, self.as_field(t.elem)[0], t.field), '']
             bs = ' '.join('(y%d : %s)' % (i, self.D(t)) for i, (f, t) in enumerate(fs))
             rec = 'record { ' + '; '.join('%s = y%d' % (f, i) for i, (f, t) in enumerate(fs)) + ' }'
             L += ['abbrev pub build : %s%s' % (''.join(self.D(t) + ' → ' for f, t in fs), al), 'build %s= %s' % (''.join('y%d ' % i for i in range(len(fs))), rec), '',
-                  'pub make : %s → %sOk (build %s)' % (bs, ''.join(self.okty(t, 'y%d' % i) + ' → ' for i, (f, t) in enumerate(fs)), ' '.join('y%d' % i for i in range(len(fs)))),
+                  'pub make : %s → %sOk (build %s)' % (bs, ''.join(self.okty(t, 'y%d' % i, own=True) + ' → ' for i, (f, t) in enumerate(fs)), ' '.join('y%d' % i for i in range(len(fs)))),
                   'make %s %s = LL.owes T′.the-type T″.the-laws (build %s) (%stt%s' % (' '.join('y%d' % i for i in range(len(fs))), ' '.join('g%d' % i for i in range(len(fs))), ' '.join('y%d' % i for i in range(len(fs))), ''.join('g%d, (' % i for i in range(len(fs) - 1)) + 'g%d, ' % (len(fs) - 1), ')' * len(fs)), '']
         if enum:
             L += self.enum_kit(name)
@@ -510,6 +543,24 @@ Written by `tools/walkgen`, and checked by the prover like any proof: nobody has
             L += ['abbrev pub stride : ℕ', 'stride = %d' % self.size(Ty('named', name=name))[0], '',
                   '-- the byte offset of an element of a slice does not wrap', 'pub scaled : (n i : ℕ) → i < n → n * stride < 2 ^ 63 → i * stride < 2 ^ 64', 'scaled n i l room = omega (arith, l, room)']
         self.put('Generated/Kind/%s.antt' % s, '\n'.join(L).rstrip() + '\n')
+
+    def as_field(self, t):
+        """an element's type as the logic has it in a field, and its laws"""
+        if t.kind == 'named':
+            return self.short(t.name) + '-T′.the-field', self.short(t.name) + '-T″.the-field-laws'
+        return ('u%d-field' % t.w, 'LL.u%d-laws' % t.w) if t.kind == 'int' else ('bool-field', 'LL.bool-laws')
+
+    def array_kit(self, t):
+        """of a field that is an array: its list's machine value and what is known of it, as the struct that holds it has them. The list stays folded: nothing here goes by cases on it"""
+        x, n, D = t.field, t.n, self.D(t)
+        E, laws = self.as_field(t.elem)
+        return ['-- the array `%s`: its row, its machine value, and what whoever owns one knows: there are %d, and each fits' % (x, n),
+                'abbrev pub row-%s : RattleType' % x, 'row-%s = array-field %s %d .row' % (x, E, n), '',
+                'abbrev pub laws-%s : FLaws (array-field %s %d)' % (x, E, n), 'laws-%s = array-laws %s %s %d' % (x, E, laws, n), '',
+                'abbrev pub mach-%s : %s → Val' % (x, D), 'mach-%s ys = laws-%s .val (map (%s .into) ys)' % (x, x, E), '',
+                'abbrev pub Ok-%s : %s → Type 0' % (x, D), 'Ok-%s ys = Is row-%s (map (%s .into) ys) (mach-%s ys ∷ [])' % (x, x, E, x), '',
+                'pub typed-%s : {M : Type 1} (𝓤 : URA M) (H : Heap 𝓤) (A : Atoms 𝓤) (W : Given 𝓤 H A) (ys : %s) → Ok-%s ys → T (hasTy (lone (row-%s .mir)) (mach-%s ys)) × WT (mach-%s ys)' % (x, D, x, x, x, x),
+                'typed-%s 𝓤 H A W ys g = laws-%s .lawful 𝓤 H A W .typed (map (%s .into) ys) _ g .0' % (x, x, E), '']
 
     def variants(self, name):
         """(constructor in antt, types of its fields) of each variant of an enum"""
@@ -546,6 +597,8 @@ Written by `tools/walkgen`, and checked by the prover like any proof: nobody has
             return 'false'
         if t.kind == 'unit':
             return 'tt'
+        if t.kind == 'array':
+            return 'replicate %d %s' % (t.n, par(self.zero(t.elem)))
         if not top:
             return self.short(t.name) + '′.none'
         fs = self.fields(t.name)
@@ -563,6 +616,9 @@ Written by `tools/walkgen`, and checked by the prover like any proof: nobody has
             return 1, 1
         if t.kind == 'unit':
             return 0, 1
+        if t.kind == 'array':
+            s, a = self.size(t.elem)
+            return s * t.n, a
         e = self.types[t.name]
 
         def lay(ts, at, al):
@@ -1249,6 +1305,8 @@ class Walk:
             raise Unsupported('the operand %s' % (e,))
         k, steps = int(e[1][1]), lst(e[1][2])
         v = st.loc.get(k)
+        if v is None and k in st.arrays:
+            raise Unsupported('an array that is made here is copied whole (make it in a covered function, in a struct)')
         if v is None:
             raise Unsupported('_%d is read before it is set' % k)
         if not steps:
@@ -1282,6 +1340,9 @@ class Walk:
             raise Unsupported('a match on an enum (do it in a covered function)')
         f, t = fs[i]
         s = self.c.short(v.ty.name)
+        # of a struct that a store to a field has written out
+        if hasattr(v, 'parts'):
+            return v.parts[i]
         return Val('plain', ty=t, e='%s .%s' % (par(v.e) if not re.fullmatch(r'[^\s()]+( \.\S+)*', v.e) else v.e, f), ok='%s′.ok-%s %s %s' % (s, hyph(f.strip('«»')), par(v.e), par(v.ok)))
 
     def typing(self, v):
@@ -1524,7 +1585,7 @@ class Walk:
             parts = [self.field(v, i) for i in range(len(fs))]
             parts[path[0]] = put(parts[path[0]], path[1:])
             s = self.c.short(v.ty.name)
-            return Val('plain', ty=v.ty, e=' '.join([s + '′.build'] + [par(y.e) for y in parts]), ok=' '.join([s + '′.make'] + [par(y.e) for y in parts] + [par(y.ok) for y in parts]))
+            return Val('plain', ty=v.ty, e=' '.join([s + '′.build'] + [par(y.e) for y in parts]), ok=' '.join([s + '′.make'] + [par(y.e) for y in parts] + [par(y.ok) for y in parts]), parts=parts)
         find, part = 'stop !', 'whole !'
         for i in path:
             find, part = 'fld ! refl (%s)' % find, 'sub ! %d refl (%s)' % (i, part)
@@ -1546,6 +1607,8 @@ class Walk:
             v = st.loc.get(j)
             if j in st.arrays and not steps:
                 return 'addr ! (from ! (stop !))', Val('ptr', p=st.arrays[j]), ''
+            if v is not None and v.kind == 'plain':
+                raise Unsupported('a reference to a local, or into it (an element of an array in a struct: call a covered function)')
             if v is None or v.kind != 'slice' or len(steps) != 2 or steps[0] != ['field', '0'] or steps[1][0] != 'deref':
                 raise Unsupported('a reference that is no reborrow of a slice')
             return 'addr ! (from ! (fld ! refl (hop ! (look-in ! %d (sub ! 0 refl (whole !))) (stop !))))' % self.at(st, j), Val('ptr', p=v.p, part=v.part), ''
