@@ -1,0 +1,5 @@
+pub mod Words
+pub mod Packed
+pub mod Numbers
+pub mod Branches
+pub mod Owner

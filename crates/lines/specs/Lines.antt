@@ -1,0 +1,94 @@
+-- The lines of a store (the thesis' branching): what each begins from and how far it has come, which line a version got its number on, and what a version of a
+-- line is called in the node area and found by in the register.
+use mathlib.Core.Bool.{Bool, true, false}
+use mathlib.Core.Path.{_≡_}
+use Prim.Native.Nat.{ℕ, zero, suc, _+_, _-_, _*_, _/_, _%_, _^_, _<_, min}
+use lib.Dec.{ltb, leb}
+use lib.ListN.{getD, set, replicate}
+use Rattle.lines.specs.declared.Branch.{Branch}
+use Rattle.lines.specs.declared.Lines.{Lines}
+use Rattle.lines.specs.declared.Entries.{Entries}
+
+-- One of two, by a test.
+abbrev pub pick : {A : Type 0} → Bool → A → A → A
+pick true x y = x
+pick false x y = y
+
+-- ---- the lines
+
+-- A line that has not begun; line 0 begins so.
+abbrev pub noBranch : Branch
+noBranch = record { source = record { 0 = 0 }; start = record { 0 = 0 }; assigned = record { 0 = 0 }; published = record { 0 = 0 }; blob = 0 }
+
+-- The lines of a new store.
+abbrev pub noLines : Lines
+noLines = record { begun = 1; all = replicate 16 noBranch }
+
+-- Line l's state, and the lines with that state anew.
+abbrev pub branchAt : Lines → ℕ → Branch
+branchAt ls l = getD (ls .all) l noBranch
+
+abbrev pub withBranch : Lines → ℕ → Branch → Lines
+withBranch ls l b = record { begun = ls .begun; all = set (ls .all) l b }
+
+-- No such line has begun.
+abbrev pub noLine : Lines → ℕ → Bool
+noLine ls l = leb (min (ls .begun) 16) l
+
+-- The line on which version v of line l got its number: l where v is above the version that l begins from, else one of those that l comes from.
+unfoldable pub ownerFrom : ℕ → Lines → ℕ → ℕ → ℕ
+ownerFrom zero ls l v = l
+ownerFrom (suc n) ls l v = pick (ltb (branchAt ls l .start .0) v) l (ownerFrom n ls (min (branchAt ls l .source .0) 15) v)
+
+abbrev pub ownerOf : Lines → ℕ → ℕ → ℕ
+ownerOf ls l v = ownerFrom 15 ls l v
+
+-- Sound lines: line 0 begins from no version, and every other comes from a line before it, so that a version's line is found in at most 15 steps.
+pub record Rooted (ls : Lines) : Type 0 where
+  pub first : branchAt ls 0 .start .0 ≡ 0
+  pub earlier : (l : ℕ) → 0 < l → l < 16 → branchAt ls l .source .0 < l
+
+-- ---- the numbers of versions
+
+-- A version's number in the node area: line × 65,536 + version, 0 for none; and what it says.
+abbrev pub numberOf : ℕ → ℕ → ℕ
+numberOf l zero = 0
+numberOf l (suc v) = l % 65536 * 65536 + suc v % 65536
+
+abbrev pub lineOf : ℕ → ℕ
+lineOf c = c / 65536
+
+abbrev pub versionOf : ℕ → ℕ
+versionOf c = c % 65536
+
+-- ---- the records of a line's own versions
+
+-- The i-th 16 bits of a word, and the word with them anew.
+abbrev pub fieldOf : ℕ → ℕ → ℕ
+fieldOf w i = w / 2 ^ (16 * i) % 65536
+
+abbrev pub withField : ℕ → ℕ → ℕ → ℕ
+withField w i k = w - fieldOf w i * 2 ^ (16 * i) + k % 65536 * 2 ^ (16 * i)
+
+abbrev pub noEntries : Entries
+noEntries = record { from0 = 0; from4 = 0; from8 = 0; from12 = 0 }
+
+-- Line l's entry, and the entries with that one anew; a word has four lines'.
+unfoldable pub entryAt : Entries → ℕ → ℕ
+entryAt e l =
+    pick (ltb l 4) (fieldOf (e .from0) l)
+    (pick (ltb l 8) (fieldOf (e .from4) (l - 4)) (pick (ltb l 12) (fieldOf (e .from8) (l - 8)) (pick (ltb l 16) (fieldOf (e .from12) (l - 12)) 0)))
+
+unfoldable pub withEntry : Entries → ℕ → ℕ → Entries
+withEntry e l k =
+    pick (ltb l 4) (record { from0 = withField (e .from0) l k; from4 = e .from4; from8 = e .from8; from12 = e .from12 })
+    (pick (ltb l 8) (record { from0 = e .from0; from4 = withField (e .from4) (l - 4) k; from8 = e .from8; from12 = e .from12 })
+    (pick (ltb l 12) (record { from0 = e .from0; from4 = e .from4; from8 = withField (e .from8) (l - 8) k; from12 = e .from12 })
+    (pick (ltb l 16) (record { from0 = e .from0; from4 = e .from4; from8 = e .from8; from12 = withField (e .from12) (l - 12) k }) e)))
+
+-- Four numbers of 16 bits in a word, and the entries that are g's numbers for the lines.
+abbrev pub wordOf : (ℕ → ℕ) → ℕ
+wordOf g = g 0 + 65536 * (g 1 + 65536 * (g 2 + 65536 * g 3))
+
+abbrev pub entriesOf : (ℕ → ℕ) → Entries
+entriesOf g = record { from0 = wordOf g; from4 = wordOf (λ j. g (4 + j)); from8 = wordOf (λ j. g (8 + j)); from12 = wordOf (λ j. g (12 + j)) }
