@@ -8,12 +8,12 @@ use lib.ListN.{getD}
 use Rattle.tree.specs.Tree.{countOf, nth}
 use Rattle.register.specs.Register.{noRecord, withRecord}
 use Rattle.register.specs.declared.Record.{Record}
-use Rattle.versions.specs.Table.{assignRows, unless}
+use Rattle.table.specs.Table.{assignRows, unless}
 use Rattle.versions.specs.Store.{areasOf}
 use Rattle.assign.specs.Assign.{updateAt, assignRefusal, withVersionOf, withVersionPart, assignedBy, assignedRegister}
 use Rattle.versions.specs.declared.Store.{Store}
 use Rattle.versions.specs.declared.Lengths.{Lengths}
-use Rattle.versions.proofs.Table.{passed}
+use Rattle.table.proofs.Table.{passed}
 
 -- A row that reads the ticket's record has failed, and the record lies within the register: so what it says of the record has failed.
 read : {A : Type 0} {t u : ℕ} → (u < t) ⊎ A → t ≤ u → A

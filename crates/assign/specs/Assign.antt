@@ -7,7 +7,7 @@ use lib.ListN.{getD}
 use Rattle.tree.specs.Tree.{Update, countOf}
 use Rattle.register.specs.Register.{noRecord, limited, withRecord}
 use Rattle.register.specs.declared.Record.{Record}
-use Rattle.versions.specs.Table.{_≤?_, _<?_, _or_, everyCall, firstRefusal, unless, assignRows}
+use Rattle.table.specs.Table.{_≤?_, _<?_, _or_, everyCall, firstRefusal, unless, assignRows}
 use Rattle.versions.specs.declared.Store.{Store}
 use Rattle.versions.specs.declared.Lengths.{Lengths}
 use Rattle.assign.specs.declared.Assigned.{Assigned}

@@ -2,11 +2,11 @@
 use mathlib.Core.Path.{_≡_}
 use Prim.Native.Nat.{ℕ, _+_, _≤_, _<_}
 use native.Mathlib.Omega.{arith}
-use Rattle.versions.specs.Table.{beginRows}
+use Rattle.table.specs.Table.{beginRows}
 use Rattle.begin.specs.Begin.{beginRefusal}
 use Rattle.versions.specs.declared.Store.{Store}
 use Rattle.versions.specs.declared.Lengths.{Lengths}
-use Rattle.versions.proofs.Table.{passed}
+use Rattle.table.proofs.Table.{passed}
 
 pub begin-passed : (s : Store) (l : Lengths) (n : ℕ) → beginRefusal s l n ≡ 0 → (s .tickets .0 < s .updates) × (s .taken + n ≤ s .pages)
 unfolding beginRefusal beginRows

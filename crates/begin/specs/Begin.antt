@@ -4,7 +4,7 @@ use Prim.Native.Nat.{ℕ, zero, suc, _+_}
 use lib.ListN.{getD}
 use Rattle.register.specs.Register.{noRecord, withRecord}
 use Rattle.register.specs.declared.Record.{Record}
-use Rattle.versions.specs.Table.{never, everyCall, firstRefusal, unless, beginRows}
+use Rattle.table.specs.Table.{never, everyCall, firstRefusal, unless, beginRows}
 use Rattle.versions.specs.declared.Store.{Store}
 use Rattle.versions.specs.declared.Lengths.{Lengths}
 use Rattle.begin.specs.declared.Begun.{Begun}

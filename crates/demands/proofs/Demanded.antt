@@ -9,8 +9,8 @@ use native.Mathlib.Omega.{arith}
 use lib.Dec.{ltb}
 use lib.ListN.{length, getD, take, drop, replicate}
 use borrow.Author.Tests.{le-ltb}
-use Rattle.versions.specs.Table.{holds, firstRefusal, unless, sizeRows, readRows, pageRows}
-use Rattle.versions.proofs.Table.{none, skip, first}
+use Rattle.table.specs.Table.{holds, firstRefusal, unless, sizeRows, readRows, pageRows}
+use Rattle.table.proofs.Table.{none, skip, first}
 use Rattle.demands.specs.Answers.{Call, PUBLISH, READ, SIZE, RECENT, STAMP, VIEW, filled, sizeIs, recentIs, partIs, says, answers}
 use Rattle.versions.specs.Store.{Areas}
 use Rattle.demands.specs.Model.{Limits, Model, noModel, ticketAt, versionAt}

@@ -7,7 +7,7 @@ use mathlib.Core.Logic.{_≢_}
 use Prim.Native.Nat.{ℕ, zero, suc, _<_}
 use native.Mathlib.Omega.{arith}
 use lib.ListN.{length, getD}
-use Rattle.versions.specs.Table.{holds, Row, _gives_, firstRefusal, beginRows, putRows, assignRows, weaveRows, sizeRows, readRows, pageRows}
+use Rattle.table.specs.Table.{holds, Row, _gives_, firstRefusal, beginRows, putRows, assignRows, weaveRows, sizeRows, readRows, pageRows}
 use Rattle.demands.specs.Answers.{Call, BEGIN, PUT, WRITE, APPEND, WEAVE, PUBLISH, READ, SIZE, RECENT, STAMP, VIEW, Answer, refused, publishedIs, waiting, says, answers}
 use Rattle.demands.specs.Model.{Limits, Model, due}
 use Rattle.demands.specs.OnModel.{onModel, either}

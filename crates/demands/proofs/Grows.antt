@@ -7,8 +7,8 @@ use mathlib.Core.List.{List, [], _∷_}
 use Prim.Native.Nat.{ℕ, pred, _≤_, _<_}
 use native.Mathlib.Omega.{arith}
 use lib.ListN.{length, length-append}
-use Rattle.versions.specs.Table.{unless}
-use Rattle.versions.proofs.Table.{unless-keeps}
+use Rattle.table.specs.Table.{unless}
+use Rattle.table.proofs.Table.{unless-keeps}
 use Rattle.demands.specs.Answers.{Call, BEGIN, PUT, WRITE, APPEND, WEAVE, PUBLISH, READ, SIZE, RECENT, STAMP, VIEW}
 use Rattle.demands.specs.Model.{Limits, Ticket, Model, noTicket, noVersion, ticketAt, versionAt, leafNumber, blobSize, due}
 use Rattle.demands.specs.OnModel.{either, putNumber, assignNumber, weaveNumber, begun, filledAt, assigned, woven, published, onModel}

@@ -11,8 +11,8 @@ use borrow.Author.Tests.{ltb-true, not-false}
 use lib.Dec.{ltb}
 use lib.ListN.{length, getD}
 use Rattle.tree.specs.Tree.{countOf, update}
-use Rattle.versions.specs.Table.{firstRefusal, beginRows, putRows, assignRows, weaveRows, sizeRows, readRows, pageRows}
-use Rattle.versions.proofs.Table.{passed}
+use Rattle.table.specs.Table.{firstRefusal, beginRows, putRows, assignRows, weaveRows, sizeRows, readRows, pageRows}
+use Rattle.table.proofs.Table.{passed}
 use Rattle.demands.specs.Model.{Limits, Page, Model, pagesOf, ticketAt, versionAt, taken, versionOf, updates, blobSize, places, isFilled, bitIf, allFilled, complete, due}
 use Rattle.demands.specs.OnModel.{beginNumber, putNumber, nextUpdate, assignNumber, weaveNumber, readNumber, pageNumber}
 

@@ -10,7 +10,7 @@ use lib.ListN.{length, getD, take, length-replicate}
 use Rattle.tree.specs.Tree.{noUpdate, update, newest}
 use Rattle.tree.specs.Walk.{used}
 use Rattle.register.specs.Register.{noRecord, mostPage, limited, updateOf, updatesOf}
-use Rattle.versions.specs.Table.{holds}
+use Rattle.table.specs.Table.{holds}
 use Rattle.versions.specs.Store.{areasDiffer, recordOf}
 use Rattle.demands.specs.Model.{Limits, Page, Model, noTicket, pagesOf, taken, updates}
 use Rattle.demands.proofs.Image.{tab, orBlank, slotCell, pageCell, pagesImage, nodesImage, nodeCell, registerImage, recordImage, storeImage, areasImage}

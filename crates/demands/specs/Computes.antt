@@ -6,7 +6,7 @@ use Rattle.tree.specs.Place.{below, kth, first, index}
 use Rattle.tree.specs.NodeArea.{nodeAt, withNode}
 use Rattle.tree.specs.Walk.{hasNode, walkBy, used, placeOf}
 use Rattle.register.specs.Register.{updateOf, withRecord}
-use Rattle.versions.specs.Table
+use Rattle.table.specs.Table
 use Rattle.demands.specs.OnModel.{onModel}
 use Rattle.demands.specs.Model.{taken, versionFrom, allFilled, complete, due}
 use Rattle.demands.specs.InTurn.{applied, blobAt, joined}

@@ -6,7 +6,7 @@ use Prim.Native.Nat.{ℕ, zero, suc, pred, _+_, _-_, _*_, _^_, max}
 use lib.ListN.{length, getD, set, replicate, take, drop}
 use Rattle.tree.specs.Tree.{Update, Node, node, countOf, weaving, update, newest}
 use Rattle.tree.specs.Walk.{stampOf}
-use Rattle.versions.specs.Table.{always, firstRefusal, unless, beginRows, putRows, assignRows, weaveRows, sizeRows, readRows, pageRows}
+use Rattle.table.specs.Table.{always, firstRefusal, unless, beginRows, putRows, assignRows, weaveRows, sizeRows, readRows, pageRows}
 use Rattle.demands.specs.Answers.{Call, BEGIN, PUT, WRITE, APPEND, WEAVE, PUBLISH, READ, SIZE, RECENT, STAMP, VIEW, Answer, ticketIs, putDone, versionIs, nodeIs, publishedIs, waiting, filled, sizeIs, recentIs, stampIs, partIs, Outcome, says, answers}
 use Rattle.demands.specs.Model.{Limits, Model, pagesOf, ticketAt, versionAt, taken, versionOf, updateOf, updates, blobSize, places, isFilled, bitIf, allFilled, due}
 use Rattle.demands.specs.InTurn.{blobAt, bytesAt}

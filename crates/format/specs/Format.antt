@@ -3,7 +3,7 @@ use Prim.Native.Nat.{ℕ, zero, suc}
 use lib.ListN.{length, replicate}
 use Rattle.tree.specs.NodeArea.{allOnes}
 use Rattle.register.specs.Register.{noRecord}
-use Rattle.versions.specs.Table.{firstRefusal, unless, formatRows}
+use Rattle.table.specs.Table.{firstRefusal, unless, formatRows}
 use Rattle.versions.specs.declared.Store.{Store}
 use Rattle.versions.specs.declared.Lengths.{Lengths}
 use Rattle.format.specs.declared.Formatted.{Formatted}

@@ -3,7 +3,7 @@ ghost use mathlib.Core.Path.{_≡_};
 ghost use lib.ListN.{length, replicate};
 ghost use Rattle.tree.specs.NodeArea.{allOnes};
 ghost use Rattle.register.specs.Register.{noRecord};
-ghost use Rattle.versions.specs.Table.{holds, outside};
+ghost use Rattle.table.specs.Table.{holds, outside};
 ghost use Rattle.versions.specs.Store.{areasOf};
 ghost use Rattle.format.specs.Format.{fresh, formatRefusal, formatted, formatAnswer, formatAreas};
 use register::Record;

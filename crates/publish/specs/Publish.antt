@@ -6,7 +6,7 @@ use lib.Dec.{ltb, eqb}
 use Rattle.tree.specs.Tree.{countOf}
 use Rattle.register.specs.Register.{updateOf}
 use Rattle.register.specs.declared.Record.{Record}
-use Rattle.versions.specs.Table.{_≤?_, _and_, test, everyCall, firstRefusal, unless}
+use Rattle.table.specs.Table.{_≤?_, _and_, test, everyCall, firstRefusal, unless}
 use Rattle.versions.specs.declared.Store.{Store}
 use Rattle.versions.specs.declared.Lengths.{Lengths}
 use Rattle.publish.specs.declared.Published.{Published}

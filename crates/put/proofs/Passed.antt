@@ -3,11 +3,11 @@ use mathlib.Core.Path.{_≡_}
 use Prim.Native.Nat.{ℕ, _+_, _<_}
 use native.Mathlib.Omega.{arith}
 use Rattle.register.specs.declared.Record.{Record}
-use Rattle.versions.specs.Table.{putRows}
+use Rattle.table.specs.Table.{putRows}
 use Rattle.put.specs.Put.{putRefusal}
 use Rattle.versions.specs.declared.Store.{Store}
 use Rattle.versions.specs.declared.Lengths.{Lengths}
-use Rattle.versions.proofs.Table.{passed}
+use Rattle.table.proofs.Table.{passed}
 
 pub put-passed : (s : Store) (l : Lengths) (r : Record) (t i bytes : ℕ) → putRefusal s l r t i bytes ≡ 0 → r .number + i < s .pages
 unfolding putRefusal putRows

@@ -5,7 +5,7 @@ use lib.ListN.{length}
 use Rattle.pages.specs.Pages.{put}
 use Rattle.register.specs.Register.{withRecord}
 use Rattle.register.specs.declared.Record.{Record}
-use Rattle.versions.specs.Table.{_≤?_, _<?_, _or_, everyCall, firstRefusal, unless, putRows}
+use Rattle.table.specs.Table.{_≤?_, _<?_, _or_, everyCall, firstRefusal, unless, putRows}
 use Rattle.versions.specs.declared.Store.{Store}
 use Rattle.versions.specs.declared.Lengths.{Lengths}
 use Rattle.put.specs.declared.PutIn.{PutIn}

@@ -2,7 +2,7 @@
 ghost use mathlib.Core.Path.{_≡_};
 ghost use Prim.Native.Nat.{_*_};
 ghost use Rattle.pages.specs.Pages.{put};
-ghost use Rattle.versions.specs.Table.{unless};
+ghost use Rattle.table.specs.Table.{unless};
 ghost use Rattle.versions.specs.Store.{areasOf};
 ghost use Rattle.put.specs.Put.{bitOf, withBit, putRefusal, withPut, putIn, putOut, putPages, putRegister};
 use register::Record;

@@ -8,14 +8,14 @@ use native.Mathlib.Nat.{zero-mul, div-mul-le-self, le-div-iff-mul-le, div-le-sel
 use native.Mathlib.Omega.{arith}
 use lib.ListN.{length}
 use Rattle.register.specs.declared.Record.{Record}
-use Rattle.versions.specs.Table.{Cond, _or_, test, _<?_, _≤?_, holds, Row, _gives_, firstRefusal, unless, everyCall, readRows}
+use Rattle.table.specs.Table.{Cond, _or_, test, _<?_, _≤?_, holds, Row, _gives_, firstRefusal, unless, everyCall, readRows}
 use Rattle.versions.specs.Store.{Areas, differ, lengthsOf, recordOf}
 use Rattle.versions.specs.Size.{pagesBy, bytesBy}
 use Rattle.read.specs.Read.{pagesTouched, someLost, readNumber}
 use Rattle.read.specs.Range.{rangeRefusal, Ranged, orLost}
 use Rattle.versions.specs.declared.Store.{Store}
 use Rattle.versions.specs.declared.Lengths.{Lengths}
-use Rattle.versions.proofs.Table.{Numbered, passed}
+use Rattle.table.proofs.Table.{Numbered, passed}
 
 -- ---- the rows
 

@@ -8,13 +8,13 @@ use native.Mathlib.Omega.{arith}
 use lib.ListN.{length, drop}
 use Rattle.pages.specs.Pages.{put, part}
 use Rattle.register.specs.declared.Record.{Record}
-use Rattle.versions.specs.Table.{unless}
+use Rattle.table.specs.Table.{unless}
 use Rattle.versions.specs.Store.{areasOf, lengthsOf, recordOf}
 use Rattle.walk.specs.FindPage.{findPage, numberWithin, orZero}
 use Rattle.read.specs.Read.{pagesTouched, someLost, bytesFrom, readNumber}
 use Rattle.read.specs.Range.{rangeRefusal, Ranged, orLost, Readable}
 use Rattle.versions.specs.declared.Store.{Store}
-use Rattle.versions.proofs.Table.{unless-0}
+use Rattle.table.proofs.Table.{unless-0}
 use Rattle.read.proofs.Lost.{lost-apart}
 use Rattle.read.proofs.Chunks.{behind, length-bytes, first-bytes}
 use Rattle.read.proofs.Ranges.{read-number, or-lost-gate, or-lost-0, range-passed, range-ranged, touched-below}

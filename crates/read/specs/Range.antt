@@ -6,7 +6,7 @@ use mathlib.Core.List.{List, []}
 use Prim.Native.Nat.{ℕ, zero, suc, _+_, _-_, _*_, _/_, _%_, _^_, _≤_, _<_, min}
 use lib.ListN.{length}
 use Rattle.register.specs.declared.Record.{Record}
-use Rattle.versions.specs.Table.{_≤?_, _<?_, everyCall, firstRefusal, readRows}
+use Rattle.table.specs.Table.{_≤?_, _<?_, everyCall, firstRefusal, readRows}
 use Rattle.versions.specs.Store.{areasOf, differ}
 use Rattle.versions.specs.Size.{pagesBy, bytesBy}
 use Rattle.read.specs.Read.{someLost, pagesTouched}

@@ -3,7 +3,7 @@ use mathlib.Core.Bool.{Bool, false, _||_}
 use mathlib.Core.List.{List, [], _∷_, _++_}
 use Prim.Native.Nat.{ℕ, zero, suc, _+_, _-_, _*_, _/_, _%_}
 use lib.ListN.{length, getD, drop}
-use Rattle.versions.specs.Table.{_≤?_, _<?_, _or_, test, everyCall, firstRefusal, unless, readRows}
+use Rattle.table.specs.Table.{_≤?_, _<?_, _or_, test, everyCall, firstRefusal, unless, readRows}
 use Rattle.versions.specs.declared.Store.{Store}
 use Rattle.read.specs.declared.Filled.{Filled}
 use Rattle.read.specs.declared.Filled.the-variants as Filled

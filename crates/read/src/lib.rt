@@ -4,7 +4,7 @@ ghost use Prim.Native.Nat.{_+_, _^_, _<_, _≤_};
 ghost use mathlib.Core.List.{[], _++_};
 ghost use lib.Dec.{ltb};
 ghost use lib.ListN.{length, drop};
-ghost use Rattle.versions.specs.Table.{unless};
+ghost use Rattle.table.specs.Table.{unless};
 ghost use Rattle.read.specs.Range.{rangeRefusal, Ranged, orLost, chunkAt, Readable};
 ghost use Rattle.versions.specs.Store.{areasOf};
 ghost use Rattle.walk.specs.FindPage.{findPage, numberWithin, isLost};

@@ -6,7 +6,7 @@ use native.Mathlib.Omega.{arith}
 use borrow.Author.Tests.{le-leb}
 use lib.ListN.{length}
 use Rattle.pages.specs.Pages.{part}
-use Rattle.versions.specs.Table.{unless}
+use Rattle.table.specs.Table.{unless}
 use Rattle.versions.specs.Store.{Areas}
 use Rattle.walk.specs.FindPage.{orZero, pageNumberOf}
 use Rattle.stamp.specs.Stamp.{stampNumber}

@@ -3,7 +3,7 @@ use Prim.Native.Nat.{ℕ, zero, suc}
 use Rattle.register.specs.declared.Record.{Record}
 use Rattle.tree.specs.declared.Found.{Found}
 use Rattle.tree.specs.declared.Found.the-variants.{Leaf, Lost}
-use Rattle.versions.specs.Table.{_≤?_, _<?_, _or_, test, everyCall, firstRefusal, pageRows}
+use Rattle.table.specs.Table.{_≤?_, _<?_, _or_, test, everyCall, firstRefusal, pageRows}
 use Rattle.versions.specs.declared.Store.{Store}
 use Rattle.versions.specs.declared.Lengths.{Lengths}
 use Rattle.stamp.specs.declared.Stamped.{Stamped}

@@ -1,4 +1,3 @@
-pub mod Table
 pub mod Product
 pub mod Bits
 pub mod Ticket

@@ -4,8 +4,8 @@ use mathlib.Core.Path.{_≡_, refl, sym}
 use mathlib.Core.Bool.{Bool, true, false, cond}
 use mathlib.Core.List.{List, [], _∷_}
 use Prim.Native.Nat.{ℕ}
-use Rattle.versions.specs.Table.{Cond, Row, _gives_, holds, firstRefusal}
-use Rattle.versions.proofs.Table.{First, skip, rest, passed}
+use Rattle.table.specs.Table.{Cond, Row, _gives_, holds, firstRefusal}
+use Rattle.table.proofs.Table.{First, skip, rest, passed}
 
 decided : (b d : Bool) (r m : ℕ) → r ≡ cond b 3 (cond d 7 0) → (r ≡ 0 → ⊥) → r ≡ cond b 3 (cond d 7 m)
 decided true d r m e h = e

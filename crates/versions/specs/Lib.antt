@@ -1,4 +1,3 @@
-pub mod Table
 pub mod Store
 pub mod Size
 pub mod Recent

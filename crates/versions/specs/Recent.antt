@@ -1,7 +1,7 @@
 -- RECENT: what it answers, over any store and areas.
 use mathlib.Core.List.{[]}
 use Prim.Native.Nat.{ℕ, zero, suc}
-use Rattle.versions.specs.Table.{never, everyCall, firstRefusal}
+use Rattle.table.specs.Table.{never, everyCall, firstRefusal}
 use Rattle.versions.specs.declared.Store.{Store}
 use Rattle.versions.specs.declared.Lengths.{Lengths}
 use Rattle.versions.specs.declared.Latest.{Latest}

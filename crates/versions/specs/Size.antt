@@ -2,7 +2,7 @@
 use Prim.Native.Nat.{ℕ, zero, suc, _-_, _*_, _^_, min}
 use Rattle.register.specs.Register.{updateOf}
 use Rattle.register.specs.declared.Record.{Record}
-use Rattle.versions.specs.Table.{_<?_, everyCall, firstRefusal, sizeRows}
+use Rattle.table.specs.Table.{_<?_, everyCall, firstRefusal, sizeRows}
 use Rattle.versions.specs.declared.Store.{Store}
 use Rattle.versions.specs.declared.Lengths.{Lengths}
 use Rattle.versions.specs.declared.Sized.{Sized}

@@ -6,7 +6,7 @@ use lib.ListN.{length}
 use Rattle.tree.specs.Tree.{nth}
 use Rattle.register.specs.Register.{noRecord}
 use Rattle.register.specs.declared.Record.{Record}
-use Rattle.versions.specs.Table.{Cond, _≢?_, _or_}
+use Rattle.table.specs.Table.{Cond, _≢?_, _or_}
 use Rattle.versions.specs.declared.Store.{Store}
 use Rattle.versions.specs.declared.Lengths.{Lengths}
 

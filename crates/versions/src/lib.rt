@@ -7,7 +7,7 @@ ghost use mathlib.Core.List.{[], _∷_};
 ghost use lib.Dec.{eqb};
 ghost use Rattle.tree.specs.Tree.{countOf};
 ghost use Rattle.register.specs.Register.{updateOf, withRecord};
-ghost use Rattle.versions.specs.Table.{_gives_, firstRefusal, holds, noTicket, unless};
+ghost use Rattle.table.specs.Table.{_gives_, firstRefusal, holds, noTicket, unless};
 ghost use Rattle.versions.specs.Store.{areasOf, lengthsOf, differ};
 ghost use Rattle.versions.specs.Size.{sizeRefusal, pagesBy, bytesBy, sizedBy, sizeOut};
 ghost use Rattle.versions.specs.Recent.{recentBy, recentOut};

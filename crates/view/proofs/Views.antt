@@ -8,10 +8,10 @@ use Rattle.register.specs.declared.Record.{Record}
 use Rattle.tree.specs.declared.Found.{Found}
 use Rattle.versions.specs.declared.Store.{Store}
 use Rattle.versions.specs.declared.Lengths.{Lengths}
-use Rattle.versions.specs.Table.{pageRows}
+use Rattle.table.specs.Table.{pageRows}
 use Rattle.walk.specs.FindPage.{numberWithin, isLost, orZero}
 use Rattle.stamp.specs.Stamp.{pageRefusal}
-use Rattle.versions.proofs.Table.{passed}
+use Rattle.table.proofs.Table.{passed}
 use Rattle.walk.proofs.Ends.{found-inside}
 
 module _ (s : Store) (l : Lengths) (q : Record) (v p : ℕ) (x : Found) (e : pageRefusal s l q v p x ≡ 0) where

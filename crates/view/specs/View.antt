@@ -2,7 +2,7 @@
 use mathlib.Core.List.{List, []}
 use Prim.Native.Nat.{ℕ, zero, suc, _*_}
 use Rattle.pages.specs.Pages.{part}
-use Rattle.versions.specs.Table.{unless}
+use Rattle.table.specs.Table.{unless}
 use Rattle.versions.specs.declared.Store.{Store}
 use Rattle.view.specs.declared.Viewed.{Viewed}
 use Rattle.view.specs.declared.Viewed.the-variants as Viewed

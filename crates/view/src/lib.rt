@@ -3,7 +3,7 @@ ghost use mathlib.Core.Path.{_≡_};
 ghost use Prim.Native.Nat.{_*_, _^_, _<_};
 ghost use mathlib.Core.List.{[]};
 ghost use Rattle.pages.specs.Pages.{part};
-ghost use Rattle.versions.specs.Table.{unless};
+ghost use Rattle.table.specs.Table.{unless};
 ghost use Rattle.versions.specs.Store.{areasOf};
 ghost use Rattle.view.specs.View.{viewPart, viewed, viewAt};
 use pages::view_page;

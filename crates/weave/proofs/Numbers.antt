@@ -12,7 +12,7 @@ use Rattle.tree.specs.Tree.{countOf}
 use Rattle.register.specs.Register.{updateOf}
 use Rattle.register.specs.declared.Record.{Record}
 use Rattle.tree.specs.declared.Version.{Version}
-use Rattle.versions.specs.Table.{holds}
+use Rattle.table.specs.Table.{holds}
 use Rattle.weave.specs.Weave.{nextNode, leafPast, kept, wovenNode}
 use Rattle.weave.specs.Plan.{NextOf, Children}
 use Rattle.versions.specs.declared.Store.{Store}

@@ -7,14 +7,14 @@ use Prim.Native.Nat.{ℕ, zero, suc, _+_, _^_, _≤_, _<_}
 use native.Mathlib.Omega.{arith}
 use Rattle.register.specs.Register.{newestIn}
 use Rattle.register.specs.declared.Record.{Record}
-use Rattle.versions.specs.Table.{unless, weaveRows}
+use Rattle.table.specs.Table.{unless, weaveRows}
 use Rattle.weave.specs.Weave.{nextPlace, weaveRefusal, wove}
 use Rattle.weave.specs.Plan.{Planned, Children}
 use Rattle.versions.specs.declared.Store.{Store}
 use Rattle.versions.specs.declared.Lengths.{Lengths}
 use Rattle.weave.specs.declared.Plan.{Plan}
 use Rattle.weave.specs.declared.WovenNode.{WovenNode}
-use Rattle.versions.proofs.Table.{passed, number-cases}
+use Rattle.table.proofs.Table.{passed, number-cases}
 
 module _ (s : Store) (l : Lengths) (r q : Record) (t : ℕ) where
   weave-passed : weaveRefusal s l r q t ≡ 0 → (l .register ≡ s .updates) × (r .version .0 ≤ s .updates) × (nextPlace q < s .nodes)

@@ -6,7 +6,7 @@ use Rattle.tree.specs.Place.{kth}
 use Rattle.tree.specs.NodeArea.{withNode}
 use Rattle.register.specs.Register.{updateOf, updatesOf, withRecord}
 use Rattle.register.specs.declared.Record.{Record}
-use Rattle.versions.specs.Table.{Cond, _≤?_, _<?_, _or_, never, everyCall, firstRefusal, unless, weaveRows}
+use Rattle.table.specs.Table.{Cond, _≤?_, _<?_, _or_, never, everyCall, firstRefusal, unless, weaveRows}
 use Rattle.versions.specs.declared.Store.{Store}
 use Rattle.versions.specs.declared.Lengths.{Lengths}
 use Rattle.weave.specs.declared.WovenNode.{WovenNode}

@@ -7,7 +7,7 @@ ghost use Rattle.tree.specs.Tree.{countOf};
 ghost use Rattle.tree.specs.NodeArea.{withNode};
 ghost use Rattle.register.specs.Register.{updateOf};
 ghost use Rattle.register.specs.declared.Record.{Record};
-ghost use Rattle.versions.specs.Table.{_≤?_, _or_, holds, unless};
+ghost use Rattle.table.specs.Table.{_≤?_, _or_, holds, unless};
 ghost use Rattle.weave.specs.Plan.{NextOf, Planned, Children};
 ghost use Rattle.versions.specs.Store.{areasOf};
 ghost use Rattle.weave.specs.Weave.{nextNode, nextPlace, leafPast, weaveRefusal, kept, wovenNode, wove, withWoven, weaveOut, weaveNodes, weaveRegister};

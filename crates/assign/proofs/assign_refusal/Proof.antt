@@ -6,9 +6,9 @@ use mathlib.Core.Logic.{inl, inr}
 use Prim.Native.Nat.{_+_, _<_, _≤_}
 use borrow.Author.Tests.{ltb-true, ltb-false}
 use Rattle.tree.specs.Tree.{countOf}
-use Rattle.versions.specs.Table.{assignRows}
+use Rattle.table.specs.Table.{assignRows}
 use Rattle.assign.specs.Assign.{allPut, updateAt, assignRefusal}
-use Rattle.versions.proofs.Table.{none, hit, skip, first}
+use Rattle.table.proofs.Table.{none, hit, skip, first}
 use Rattle.versions.proofs.Ticket.{stop, go-on}
 use Rattle.assign.proofs.assign_refusal.Statement.{statement}
 use Rattle.assign.proofs.assign_refusal.Tie as tie

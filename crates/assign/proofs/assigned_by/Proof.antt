@@ -5,7 +5,7 @@ use Prim.Native.Nat.{ℕ, zero, suc, _+_, _-_, _^_, _≤_, min, max}
 use native.Mathlib.Numerals.{add-one}
 use native.Mathlib.Omega.{arith}
 use Rattle.tree.specs.Tree.{countOf}
-use Rattle.versions.specs.Table.{unless}
+use Rattle.table.specs.Table.{unless}
 use Rattle.assign.specs.Assign.{updateAt, sizeAfter, assignedBy}
 use Rattle.versions.specs.declared.Store.{Store}
 use Rattle.assign.specs.declared.AssignOut.{AssignOut}

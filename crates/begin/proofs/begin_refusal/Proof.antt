@@ -3,10 +3,10 @@ use borrow.Author.Needs.{needs}
 use mathlib.Core.Path.{_≡_, sym, _∙_}
 use mathlib.Core.Bool.{false}
 use mathlib.Core.Logic.{inl, inr}
-use Rattle.versions.specs.Table.{holds, beginRows}
+use Rattle.table.specs.Table.{holds, beginRows}
 use Rattle.versions.specs.Store.{differ}
 use Rattle.begin.specs.Begin.{beginRefusal}
-use Rattle.versions.proofs.Table.{none, hit, skip, hit-flag, skip-flag, first}
+use Rattle.table.proofs.Table.{none, hit, skip, hit-flag, skip-flag, first}
 use Rattle.begin.proofs.begin_refusal.Statement.{statement}
 use Rattle.begin.proofs.begin_refusal.Tie as tie
 

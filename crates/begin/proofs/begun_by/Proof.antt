@@ -2,7 +2,7 @@
 use native.Mathlib.Nat.{suc-pred-eq-of-ne-zero}
 use native.Mathlib.Numerals.{add-one}
 use native.Mathlib.Omega.{arith}
-use Rattle.versions.specs.Table.{unless}
+use Rattle.table.specs.Table.{unless}
 use Rattle.begin.proofs.begun_by.Statement.{statement}
 use Rattle.begin.proofs.begun_by.Tie as tie
 

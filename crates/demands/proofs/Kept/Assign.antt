@@ -9,7 +9,7 @@ use lib.ListN.{length}
 use Rattle.tree.proofs.Meets.{lt-or-le}
 use Rattle.tree.specs.Tree.{countOf, update, sizeAt}
 use Rattle.tree.specs.Walk.{Accepted}
-use Rattle.versions.proofs.Table.{number-cases}
+use Rattle.table.proofs.Table.{number-cases}
 use Rattle.demands.specs.Model.{Limits, Version, Model, noVersion, versionAt, versionOf, updateOf, updates, blobSize, places}
 use Rattle.demands.specs.OnModel.{sizeAfter, nextUpdate, assignNumber, assigned}
 use Rattle.demands.proofs.Sound.{Sound, TicketSound, VersionSound}

@@ -9,8 +9,8 @@ use native.Mathlib.Nat.{mod-eq-of-lt}
 use native.Mathlib.Omega.{arith}
 use Rattle.tree.proofs.Meets.{lt-or-le}
 use Rattle.tree.specs.Walk.{used}
-use Rattle.versions.specs.Table.{formatRows}
-use Rattle.versions.proofs.Table.{passed, unless-keeps}
+use Rattle.table.specs.Table.{formatRows}
+use Rattle.table.proofs.Table.{passed, unless-keeps}
 use Rattle.demands.specs.Answers.{Call, BEGIN, PUT, WRITE, APPEND, WEAVE, PUBLISH, READ, SIZE, RECENT, STAMP, VIEW}
 use Rattle.versions.specs.Store.{Areas}
 use Rattle.format.specs.Format.{formatRefusal, formatNumber}

@@ -13,7 +13,7 @@ use Rattle.tree.specs.Tree.{Node, countOf}
 use Rattle.tree.specs.Walk.{used}
 use Rattle.register.specs.declared.Record.{Record}
 use Rattle.demands.specs.Answers.{WRITE, APPEND, versionIs, answers, assignedAnswer}
-use Rattle.versions.specs.Table.{_<?_, _≤?_, _or_, always, assignRows, unless}
+use Rattle.table.specs.Table.{_<?_, _≤?_, _or_, always, assignRows, unless}
 use Rattle.versions.specs.Store.{lengthsOf, recordOf}
 use Rattle.assign.specs.Assign.{updateAt, sizeAfter, allPut, assignRefusal, assigned as assignedCase, withVersion, withVersionOf, withVersionPart, assignedRegister}
 use Rattle.demands.specs.Model.{Limits, Version, Model, noVersion, pagesOf, ticketAt, versionAt, versionOf, updates, places, blobSize, allFilled, taken}

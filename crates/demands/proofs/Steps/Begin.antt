@@ -10,7 +10,7 @@ use Rattle.register.specs.Register.{noRecord, withRecord}
 use Rattle.tree.specs.Tree.{Node}
 use Rattle.register.specs.declared.Record.{Record}
 use Rattle.demands.specs.Answers.{BEGIN, ticketIs, answers, begunAnswer}
-use Rattle.versions.specs.Table.{never, beginRows, unless}
+use Rattle.table.specs.Table.{never, beginRows, unless}
 use Rattle.versions.specs.Store.{lengthsOf}
 use Rattle.begin.specs.Begin.{beginRefusal, withTicket, withTicketPart, begun as begunCase}
 use Rattle.demands.specs.Model.{Limits, Ticket, Model, noTicket, pagesOf, versionAt, taken}

@@ -9,10 +9,10 @@ use lib.ListN.{replicate, replicate-append-replicate}
 use Rattle.tree.specs.NodeArea.{allOnes}
 use Rattle.register.specs.Register.{noRecord}
 use Rattle.tree.specs.Walk.{used}
-use Rattle.versions.specs.Table.{formatRows}
+use Rattle.table.specs.Table.{formatRows}
 use Rattle.versions.specs.Store.{Areas}
 use Rattle.format.specs.Format.{formatRefusal, formatNumber}
-use Rattle.versions.proofs.Table.{passed, unless-0}
+use Rattle.table.proofs.Table.{passed, unless-0}
 use Rattle.demands.specs.Model.{Limits, noModel, taken, versionFrom}
 use Rattle.demands.specs.InTurn.{joined}
 use Rattle.demands.specs.Run.{freshOf, formattedState}

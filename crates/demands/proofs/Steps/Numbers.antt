@@ -6,9 +6,9 @@ use mathlib.Core.Bool.{Bool, true, false, cond}
 use mathlib.Core.List.{List, [], _∷_, _++_}
 use Prim.Native.Nat.{ℕ, _+_, _≤_, _<_}
 use native.Mathlib.Omega.{arith}
-use Rattle.versions.specs.Table.{Cond, _≤?_, always, holds, Row, _gives_, firstRefusal, everyCall, putRows, assignRows, weaveRows, readRows, pageRows}
+use Rattle.table.specs.Table.{Cond, _≤?_, always, holds, Row, _gives_, firstRefusal, everyCall, putRows, assignRows, weaveRows, readRows, pageRows}
 use Rattle.versions.specs.Store.{areasDiffer}
-use Rattle.versions.proofs.Table.{Fails, holds-true, holds-false, fails, every-call, number-cases}
+use Rattle.table.proofs.Table.{Fails, holds-true, holds-false, fails, every-call, number-cases}
 use Rattle.demands.specs.Model.{Limits, Model}
 use Rattle.demands.proofs.Image.{storeImage, areasImage}
 use Rattle.demands.proofs.Sound.{Sound}

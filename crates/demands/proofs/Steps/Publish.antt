@@ -10,10 +10,10 @@ use borrow.Author.Tests.{le-ltb}
 use lib.ListN.{length}
 use Rattle.tree.proofs.Meets.{lt-or-le}
 use Rattle.demands.specs.Answers.{PUBLISH, publishedIs, waiting, publishedAnswer}
-use Rattle.versions.specs.Table.{_≤?_, _and_, test, firstRefusal, unless}
+use Rattle.table.specs.Table.{_≤?_, _and_, test, firstRefusal, unless}
 use Rattle.versions.specs.Store.{lengthsOf, recordOf}
 use Rattle.publish.specs.Publish.{hasNext, publishRefusal, dueBy, withPublished, published, storeIf, publishedBy}
-use Rattle.versions.proofs.Table.{Fails}
+use Rattle.table.proofs.Table.{Fails}
 use Rattle.demands.specs.Model.{Limits, Model, complete, due}
 use Rattle.demands.specs.OnModel.{published as publishedModel, either, onModel}
 use Rattle.demands.specs.Run.{onStore}

@@ -13,7 +13,7 @@ use Rattle.tree.proofs.Meets.{lt-or-le}
 use Rattle.register.specs.Register.{withRecord}
 use Rattle.register.specs.declared.Record.{Record}
 use Rattle.demands.specs.Answers.{PUT, putDone, answers, putAnswer}
-use Rattle.versions.specs.Table.{_<?_, _≤?_, _or_, always, putRows, unless}
+use Rattle.table.specs.Table.{_<?_, _≤?_, _or_, always, putRows, unless}
 use Rattle.versions.specs.Store.{lengthsOf, recordOf}
 use Rattle.put.specs.Put.{numberOf, bitOf, putRefusal, putIn, withPut, withBit}
 use Rattle.demands.specs.Model.{Limits, Version, Model, noVersion, pagesOf, ticketAt, versionAt, versionOf, isFilled, bitIf}

@@ -8,8 +8,8 @@ use native.Mathlib.Nat.{mul-comm, mod-lt, div-lt-iff-lt-mul}
 use native.Mathlib.Omega.{arith}
 use lib.ListN.{length, take, drop}
 use Rattle.versions.specs.declared.Store.{Store}
-use Rattle.versions.specs.Table.{_≤?_, _<?_, _or_, test, always, readRows}
-use Rattle.versions.proofs.Table.{unless-same}
+use Rattle.table.specs.Table.{_≤?_, _<?_, _or_, test, always, readRows}
+use Rattle.table.proofs.Table.{unless-same}
 use Rattle.demands.specs.Answers.{READ}
 use Rattle.versions.specs.Store.{Areas}
 use Rattle.versions.specs.Size.{bytesIn}

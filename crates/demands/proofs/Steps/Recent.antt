@@ -4,7 +4,7 @@ use mathlib.Core.Path.{_≡_}
 use mathlib.Core.List.{[]}
 use native.Mathlib.Omega.{arith}
 use Rattle.demands.specs.Answers.{RECENT}
-use Rattle.versions.specs.Table.{never, firstRefusal}
+use Rattle.table.specs.Table.{never, firstRefusal}
 use Rattle.versions.specs.Store.{lengthsOf}
 use Rattle.versions.specs.Recent.{recentRefusal, recentBy}
 use Rattle.demands.specs.Model.{Limits, Model}

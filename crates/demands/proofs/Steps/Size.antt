@@ -15,7 +15,7 @@ use Rattle.demands.proofs.Facts.{size-small}
 use Rattle.demands.proofs.Updates.{update-at}
 use Rattle.demands.proofs.Records.{update-image}
 use Rattle.demands.specs.Answers.{SIZE, sizeIs, says, answers, sizedAnswer}
-use Rattle.versions.specs.Table.{_<?_, firstRefusal, sizeRows}
+use Rattle.table.specs.Table.{_<?_, firstRefusal, sizeRows}
 use Rattle.versions.specs.Store.{lengthsOf}
 use Rattle.demands.specs.Run.{onStore}
 use Rattle.demands.proofs.Passed.{size-passed}

@@ -3,7 +3,7 @@
 use mathlib.Core.Path.{_≡_, ap, _∙_}
 use Prim.Native.Nat.{ℕ}
 use Rattle.tree.specs.Walk.{stampOf}
-use Rattle.versions.specs.Table.{_≤?_, _<?_, _or_, test, always, pageRows}
+use Rattle.table.specs.Table.{_≤?_, _<?_, _or_, test, always, pageRows}
 use Rattle.demands.specs.Answers.{STAMP, stampIs, answers, stampedAnswer}
 use Rattle.versions.specs.Size.{pagesIn}
 use Rattle.walk.specs.FindPage.{pageNumberOf, isLost, findPage}

@@ -5,7 +5,7 @@ use mathlib.Core.List.{[]}
 use Prim.Native.Nat.{ℕ, _*_}
 use lib.ListN.{getD}
 use Rattle.pages.specs.Pages.{part}
-use Rattle.versions.proofs.Table.{unless-same}
+use Rattle.table.proofs.Table.{unless-same}
 use Rattle.demands.specs.Answers.{VIEW}
 use Rattle.walk.specs.FindPage.{pageNumberOf, orZero}
 use Rattle.demands.specs.Model.{Limits, Model}

@@ -16,8 +16,8 @@ use Rattle.tree.proofs.First.{first-leaf}
 use Rattle.tree.proofs.Newest.{newest-le}
 use Rattle.tree.proofs.Walk.{node-has}
 use Rattle.tree.proofs.Weaving.{Inside, weaving-kth, kth-node}
-use Rattle.versions.specs.Table.{_≤?_, _<?_, _or_, always, unless, weaveRows}
-use Rattle.versions.proofs.Table.{Fails}
+use Rattle.table.specs.Table.{_≤?_, _<?_, _or_, always, unless, weaveRows}
+use Rattle.table.proofs.Table.{Fails}
 use Rattle.weave.specs.declared.Woven.the-variants as Woven
 use Rattle.versions.specs.declared.Store.{Store}
 use Rattle.demands.specs.Answers.{WEAVE, nodeIs, says, wovenAnswer}

@@ -3,9 +3,9 @@ use borrow.Author.Needs.{needs}
 use mathlib.Core.Path.{_≡_, sym, _∙_}
 use mathlib.Core.Bool.{false}
 use mathlib.Core.Logic.{inl, inr}
-use Rattle.versions.specs.Table.{_or_, holds, outside, formatRows}
+use Rattle.table.specs.Table.{_or_, holds, outside, formatRows}
 use Rattle.format.specs.Format.{formatRefusal}
-use Rattle.versions.proofs.Table.{none, hit, skip, hit-flag, skip-flag, first}
+use Rattle.table.proofs.Table.{none, hit, skip, hit-flag, skip-flag, first}
 use Rattle.format.proofs.format_refusal.Statement.{statement}
 use Rattle.format.proofs.format_refusal.Tie as tie
 

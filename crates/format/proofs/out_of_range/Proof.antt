@@ -1,6 +1,6 @@
 -- `format::out_of_range` meets its contract. Assumes nothing.
 use borrow.Author.Tests.{lt-ltb, le-ltb}
-use Rattle.versions.specs.Table.{holds}
+use Rattle.table.specs.Table.{holds}
 use Rattle.format.proofs.out_of_range.Statement.{statement}
 use Rattle.format.proofs.out_of_range.Tie as tie
 

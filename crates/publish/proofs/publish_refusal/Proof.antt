@@ -4,10 +4,10 @@ use mathlib.Core.Bool.{false}
 use mathlib.Core.Logic.{inl, inr}
 use borrow.Author.Needs.{needs}
 use borrow.Author.Tests.{lt-ltb, le-ltb}
-use Rattle.versions.specs.Table.{holds}
+use Rattle.table.specs.Table.{holds}
 use Rattle.versions.specs.Store.{differ}
 use Rattle.publish.specs.Publish.{publishRefusal}
-use Rattle.versions.proofs.Table.{none, hit, skip, hit-flag, skip-flag, first}
+use Rattle.table.proofs.Table.{none, hit, skip, hit-flag, skip-flag, first}
 use Rattle.publish.proofs.publish_refusal.Statement.{statement}
 use Rattle.publish.proofs.publish_refusal.Tie as tie
 

@@ -7,10 +7,10 @@ use native.Mathlib.Omega.{arith}
 use borrow.Author.Needs.{needs}
 use borrow.Author.Tests.{ltb-true, not-true, not-false}
 use lib.Dec.{ltb}
-use Rattle.versions.specs.Table.{unless}
+use Rattle.table.specs.Table.{unless}
 use Rattle.publish.specs.Publish.{dueBy, published, publishedBy}
 use Rattle.publish.specs.declared.Published.the-variants as Published
-use Rattle.versions.proofs.Table.{unless-suc, refused-by}
+use Rattle.table.proofs.Table.{unless-suc, refused-by}
 use Rattle.publish.proofs.published_by.Statement.{statement}
 use Rattle.publish.proofs.published_by.Tie as tie
 

@@ -1,7 +1,7 @@
 -- `put::put_bytes` meets its contract. Assumes nothing.
 use borrow.Author.Needs.{needs}
 use mathlib.Core.Path.{sym, _∙_}
-use Rattle.versions.proofs.Table.{unless-0, unless-suc}
+use Rattle.table.proofs.Table.{unless-0, unless-suc}
 use Rattle.put.proofs.put_bytes.Statement.{statement}
 use Rattle.put.proofs.put_bytes.Tie as tie
 

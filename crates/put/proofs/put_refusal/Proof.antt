@@ -2,9 +2,9 @@
 use borrow.Author.Needs.{needs}
 use mathlib.Core.Logic.{inl, inr}
 use native.Mathlib.Omega.{arith}
-use Rattle.versions.specs.Table.{putRows}
+use Rattle.table.specs.Table.{putRows}
 use Rattle.put.specs.Put.{putRefusal}
-use Rattle.versions.proofs.Table.{none, hit, skip, first}
+use Rattle.table.proofs.Table.{none, hit, skip, first}
 use Rattle.versions.proofs.Ticket.{stop, go-on}
 use Rattle.put.proofs.put_refusal.Statement.{statement}
 use Rattle.put.proofs.put_refusal.Tie as tie

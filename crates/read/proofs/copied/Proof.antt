@@ -1,7 +1,7 @@
 -- `read::copied` meets its contract. Assumes nothing.
 use mathlib.Core.Path.{sym}
 use native.Mathlib.Omega.{arith}
-use Rattle.versions.proofs.Table.{unless-0, unless-suc}
+use Rattle.table.proofs.Table.{unless-0, unless-suc}
 use Rattle.read.proofs.copied.Statement.{statement}
 use Rattle.read.proofs.copied.Tie as tie
 

@@ -2,7 +2,7 @@
 use borrow.Author.Needs.{needs}
 use mathlib.Core.Path.{refl}
 use Prim.Native.Nat.{ℕ}
-use Rattle.versions.proofs.Table.{refused-by}
+use Rattle.table.proofs.Table.{refused-by}
 use Rattle.read.specs.Read.{filledBy}
 use Rattle.read.specs.declared.Filled.the-variants as Filled
 use Rattle.read.proofs.filled_by.Statement.{statement}

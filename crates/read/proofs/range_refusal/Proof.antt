@@ -5,10 +5,10 @@ use mathlib.Core.Bool.{false}
 use mathlib.Core.Logic.{inl, inr}
 use borrow.Author.Needs.{needs}
 use borrow.Author.Tests.{ltb-true, ltb-false}
-use Rattle.versions.specs.Table.{holds, readRows}
+use Rattle.table.specs.Table.{holds, readRows}
 use Rattle.versions.specs.Store.{differ}
 use Rattle.read.specs.Range.{rangeRefusal}
-use Rattle.versions.proofs.Table.{none, hit, skip, hit-flag, skip-flag, first}
+use Rattle.table.proofs.Table.{none, hit, skip, hit-flag, skip-flag, first}
 use Rattle.read.proofs.range_refusal.Statement.{statement}
 use Rattle.read.proofs.range_refusal.Tie as tie
 

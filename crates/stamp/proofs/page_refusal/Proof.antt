@@ -4,10 +4,10 @@ use mathlib.Core.Path.{_≡_, sym, _∙_}
 use mathlib.Core.Bool.{false}
 use mathlib.Core.Logic.{inl, inr}
 use borrow.Author.Needs.{needs}
-use Rattle.versions.specs.Table.{holds, pageRows}
+use Rattle.table.specs.Table.{holds, pageRows}
 use Rattle.versions.specs.Store.{differ}
 use Rattle.stamp.specs.Stamp.{pageRefusal}
-use Rattle.versions.proofs.Table.{none, hit, skip, hit-flag, skip-flag, first}
+use Rattle.table.proofs.Table.{none, hit, skip, hit-flag, skip-flag, first}
 use Rattle.stamp.proofs.page_refusal.Statement.{statement}
 use Rattle.stamp.proofs.page_refusal.Tie as tie
 

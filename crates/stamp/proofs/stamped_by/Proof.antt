@@ -2,7 +2,7 @@
 use borrow.Author.Needs.{needs}
 use mathlib.Core.Path.{refl}
 use Prim.Native.Nat.{ℕ}
-use Rattle.versions.proofs.Table.{refused-by}
+use Rattle.table.proofs.Table.{refused-by}
 use Rattle.stamp.specs.Stamp.{stamped, versionFound}
 use Rattle.stamp.specs.declared.Stamped.the-variants as Stamped
 use Rattle.stamp.proofs.stamped_by.Statement.{statement}

@@ -1,6 +1,6 @@
 -- `versions::areas_differ` meets its contract: which of the three parts of the condition holds, or that none does. Assumes nothing.
 use borrow.Author.Needs.{needs}
-use Rattle.versions.specs.Table.{holds}
+use Rattle.table.specs.Table.{holds}
 use Rattle.versions.proofs.areas_differ.Statement.{statement}
 use Rattle.versions.proofs.areas_differ.Tie as tie
 

@@ -4,7 +4,7 @@ use Prim.Native.Nat.{ℕ}
 use borrow.Author.Needs.{needs}
 use native.Mathlib.Omega.{arith}
 use Rattle.versions.specs.Recent.{latest, recentRefusal, recentBy}
-use Rattle.versions.proofs.Table.{none, skip, hit-flag, skip-flag, first}
+use Rattle.table.proofs.Table.{none, skip, hit-flag, skip-flag, first}
 use Rattle.versions.proofs.recent_by.Statement.{statement}
 use Rattle.versions.proofs.recent_by.Tie as tie
 

@@ -2,10 +2,10 @@
 use mathlib.Core.Path.{_≡_, sym, _∙_}
 use mathlib.Core.Bool.{false}
 use borrow.Author.Needs.{needs}
-use Rattle.versions.specs.Table.{holds, sizeRows}
+use Rattle.table.specs.Table.{holds, sizeRows}
 use Rattle.versions.specs.Store.{differ}
 use Rattle.versions.specs.Size.{sizeRefusal}
-use Rattle.versions.proofs.Table.{none, hit, skip, hit-flag, skip-flag, first}
+use Rattle.table.proofs.Table.{none, hit, skip, hit-flag, skip-flag, first}
 use Rattle.versions.proofs.size_refusal.Statement.{statement}
 use Rattle.versions.proofs.size_refusal.Tie as tie
 

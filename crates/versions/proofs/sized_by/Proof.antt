@@ -4,7 +4,7 @@ use Prim.Native.Nat.{ℕ}
 use borrow.Author.Needs.{needs}
 use Rattle.versions.specs.Size.{pagesBy, bytesBy, sized, sizedBy}
 use Rattle.versions.specs.declared.Sized.the-variants as Sized
-use Rattle.versions.proofs.Table.{refused-by}
+use Rattle.table.proofs.Table.{refused-by}
 use Rattle.versions.proofs.sized_by.Statement.{statement}
 use Rattle.versions.proofs.sized_by.Tie as tie
 

@@ -2,7 +2,7 @@
 use borrow.Author.Needs.{needs}
 use mathlib.Core.Path.{sym, _∙_}
 use mathlib.Core.Logic.{inl, inr}
-use Rattle.versions.proofs.Table.{none, hit, skip, hit-flag, skip-flag, first}
+use Rattle.table.proofs.Table.{none, hit, skip, hit-flag, skip-flag, first}
 use Rattle.versions.proofs.ticket_refusal.Statement.{statement}
 use Rattle.versions.proofs.ticket_refusal.Tie as tie
 

@@ -2,8 +2,8 @@
 use mathlib.Core.Path.{sym}
 use native.Mathlib.Omega.{arith}
 use borrow.Author.Needs.{needs}
-use Rattle.versions.specs.Table.{unless}
-use Rattle.versions.proofs.Table.{unless-suc}
+use Rattle.table.specs.Table.{unless}
+use Rattle.table.proofs.Table.{unless-suc}
 use Rattle.view.proofs.view_part.Statement.{statement}
 use Rattle.view.proofs.view_part.Tie as tie
 

@@ -1,7 +1,7 @@
 -- `weave::node_lost` meets its contract: a node that is no leaf is not past. Assumes nothing.
 use mathlib.Core.Path.{sym, _∙_}
 use native.Mathlib.Omega.{arith}
-use Rattle.versions.specs.Table.{holds}
+use Rattle.table.specs.Table.{holds}
 use Rattle.weave.proofs.Numbers.{inner-not-past, leaf-past}
 use borrow.Author.Needs.{needs}
 use Rattle.weave.proofs.node_lost.Statement.{statement}

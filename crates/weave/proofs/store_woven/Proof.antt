@@ -1,7 +1,7 @@
 -- `weave::store_woven` meets its contract: where the number is 0 the place fits. Assumes nothing.
 use mathlib.Core.Path.{sym, _∙_}
 use native.Mathlib.Omega.{arith}
-use Rattle.versions.proofs.Table.{unless-0, unless-suc}
+use Rattle.table.proofs.Table.{unless-0, unless-suc}
 use borrow.Author.Needs.{needs}
 use Rattle.weave.proofs.store_woven.Statement.{statement}
 use Rattle.weave.proofs.store_woven.Tie as tie

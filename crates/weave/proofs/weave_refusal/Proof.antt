@@ -5,10 +5,10 @@ use mathlib.Core.Logic.{inl, inr}
 use Prim.Native.Nat.{ℕ, _≤_}
 use native.Mathlib.Omega.{arith}
 use borrow.Author.Tests.{le-ltb}
-use Rattle.versions.specs.Table.{Cond, holds, weaveRows, _<?_, _or_}
+use Rattle.table.specs.Table.{Cond, holds, weaveRows, _<?_, _or_}
 use Rattle.weave.specs.Weave.{weaveRefusal}
 use Rattle.versions.specs.Store.{differ}
-use Rattle.versions.proofs.Table.{none, hit, skip, hit-flag, skip-flag, first}
+use Rattle.table.proofs.Table.{none, hit, skip, hit-flag, skip-flag, first}
 use borrow.Author.Needs.{needs}
 use Rattle.weave.proofs.weave_refusal.Statement.{statement}
 use Rattle.weave.proofs.weave_refusal.Tie as tie

@@ -3,7 +3,7 @@ use mathlib.Core.Path.{sym}
 use native.Mathlib.Numerals.{add-one}
 use native.Mathlib.Omega.{arith}
 use Rattle.weave.specs.Weave.{withWoven}
-use Rattle.versions.proofs.Table.{unless-0, unless-suc}
+use Rattle.table.proofs.Table.{unless-0, unless-suc}
 use Rattle.weave.proofs.with_woven.Statement.{statement}
 use Rattle.weave.proofs.with_woven.Tie as tie
 

@@ -8,7 +8,7 @@ use mathlib.Core.Path.{_≡_}
 use lib.ListN.{length, replicate}
 use Rattle.tree.specs.NodeArea.{allOnes}
 use Rattle.register.specs.Register.{noRecord}
-use Rattle.versions.specs.Table.{holds, outside}
+use Rattle.table.specs.Table.{holds, outside}
 use Rattle.versions.specs.Store.{areasOf}
 use Rattle.format.specs.Format.{fresh, formatRefusal, formatted, formatAnswer, formatAreas}
 use Rattle.format.specs.declared.Formatted.{Formatted}

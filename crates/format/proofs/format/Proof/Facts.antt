@@ -1,7 +1,7 @@
 -- The facts that the walk of `format::format` asks for. The author's file: tools/walkgen wrote its skeleton once, and with --rebind brings the arguments up to date.
 -- Assumes nothing.
 use mathlib.Core.Path.{refl, sym}
-use Rattle.versions.proofs.Table.{unless-0, unless-suc}
+use Rattle.table.proofs.Table.{unless-0, unless-suc}
 use Rattle.format.proofs.format.Proof.Asks as Asks
 
 -- the function ensures: (r ≡ formatAnswer (fresh size page_count node_count updates) (areasOf pages nodes register)) × (pages′ ≡ formatAreas (fresh size page_count node_count updates) (areasOf pages nodes register) .pages) × (nodes′ ≡ formatAreas (fresh size page_count node_count updates) (areasOf pages nodes register) .nodes) × (register′ ≡ formatAreas (fresh size page_count node_count updates) (areasOf pages nodes register) .register)

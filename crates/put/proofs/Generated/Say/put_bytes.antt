@@ -6,7 +6,7 @@ use mathlib.Core.List.{List}
 use mathlib.Core.Bool.{Bool}
 use mathlib.Core.Path.{_≡_}
 use Rattle.pages.specs.Pages.{put}
-use Rattle.versions.specs.Table.{unless}
+use Rattle.table.specs.Table.{unless}
 use Rattle.versions.specs.Store.{areasOf}
 use Rattle.put.specs.Put.{bitOf, withBit, putRefusal, withPut, putIn, putOut, putPages, putRegister}
 use Rattle.put.specs.declared.PutIn.{PutIn}

@@ -8,7 +8,7 @@ use Rattle.versions.proofs.Generated.Kind.Store as Store′
 use Rattle.tree.specs.Tree.{nth}
 use Rattle.register.specs.Register.{noRecord}
 use Rattle.versions.specs.Store.{areasOf, lengthsOf}
-use Rattle.versions.proofs.Table.{unless-same}
+use Rattle.table.proofs.Table.{unless-same}
 use Rattle.put.proofs.Passed.{put-passed}
 use Rattle.put.proofs.put.Proof.Asks as Asks
 

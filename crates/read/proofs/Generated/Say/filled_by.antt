@@ -7,7 +7,7 @@ use mathlib.Core.Bool.{Bool}
 use mathlib.Core.Path.{_≡_}
 use lib.Dec.{ltb}
 use lib.ListN.{length, drop}
-use Rattle.versions.specs.Table.{unless}
+use Rattle.table.specs.Table.{unless}
 use Rattle.read.specs.Range.{rangeRefusal, Ranged, orLost, chunkAt, Readable}
 use Rattle.versions.specs.Store.{areasOf}
 use Rattle.walk.specs.FindPage.{findPage, numberWithin, isLost}

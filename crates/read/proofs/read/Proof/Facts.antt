@@ -4,7 +4,7 @@ use Prim.Native.Nat.{ℕ}
 use mathlib.Core.List.{_++_}
 use lib.ListN.{length, drop}
 use Rattle.read.proofs.Generated.Kind.ByteOffset as ByteOffset′
-use Rattle.versions.specs.Table.{unless}
+use Rattle.table.specs.Table.{unless}
 use Rattle.read.specs.Read.{bytesFrom, filledBy}
 use Rattle.versions.specs.Store.{areasOf}
 use Rattle.read.specs.Range.{orLost}

@@ -8,7 +8,7 @@ use mathlib.Core.Path.{_≡_}
 use lib.Dec.{eqb}
 use Rattle.tree.specs.Tree.{countOf}
 use Rattle.register.specs.Register.{updateOf, withRecord}
-use Rattle.versions.specs.Table.{_gives_, firstRefusal, holds, noTicket, unless}
+use Rattle.table.specs.Table.{_gives_, firstRefusal, holds, noTicket, unless}
 use Rattle.versions.specs.Store.{areasOf, lengthsOf, differ}
 use Rattle.versions.specs.Size.{sizeRefusal, pagesBy, bytesBy, sizedBy, sizeOut}
 use Rattle.versions.specs.Recent.{recentBy, recentOut}

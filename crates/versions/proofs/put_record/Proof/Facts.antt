@@ -1,7 +1,7 @@
 -- The facts that the walk of `versions::put_record` asks for. The author's file: tools/walkgen wrote its skeleton once, and with --rebind brings the arguments up to date.
 -- Assumes nothing.
 use mathlib.Core.Path.{sym}
-use Rattle.versions.proofs.Table.{unless-0, unless-suc}
+use Rattle.table.proofs.Table.{unless-0, unless-suc}
 use Rattle.versions.proofs.put_record.Proof.Asks as Asks
 
 -- the function ensures: register′ ≡ unless k register (withRecord register i r)

@@ -6,7 +6,7 @@ use mathlib.Core.List.{List, []}
 use mathlib.Core.Bool.{Bool}
 use mathlib.Core.Path.{_≡_}
 use Rattle.pages.specs.Pages.{part}
-use Rattle.versions.specs.Table.{unless}
+use Rattle.table.specs.Table.{unless}
 use Rattle.versions.specs.Store.{areasOf}
 use Rattle.view.specs.View.{viewPart, viewed, viewAt}
 use Rattle.register.specs.declared.Record.{Record}

@@ -10,7 +10,7 @@ use Rattle.tree.specs.Tree.{countOf}
 use Rattle.tree.specs.NodeArea.{withNode}
 use Rattle.register.specs.Register.{updateOf}
 use Rattle.register.specs.declared.Record.{Record}
-use Rattle.versions.specs.Table.{_≤?_, _or_, holds, unless}
+use Rattle.table.specs.Table.{_≤?_, _or_, holds, unless}
 use Rattle.weave.specs.Plan.{NextOf, Planned, Children}
 use Rattle.versions.specs.Store.{areasOf}
 use Rattle.weave.specs.Weave.{nextNode, nextPlace, leafPast, weaveRefusal, kept, wovenNode, wove, withWoven, weaveOut, weaveNodes, weaveRegister}

@@ -4,7 +4,7 @@ use native.Mathlib.Omega.{arith}
 use Rattle.versions.proofs.Generated.Kind.Store as Store′
 use Rattle.versions.specs.Store.{areasOf}
 use Rattle.weave.specs.Weave.{wovenRecord, nodeOf, withWoven}
-use Rattle.versions.proofs.Table.{unless-same, unless-0}
+use Rattle.table.proofs.Table.{unless-same, unless-0}
 use Rattle.weave.proofs.Room.{limit-inside, left-room, right-room, place-low, children-found, wove-same}
 use Rattle.weave.proofs.weave.Proof.Asks as Asks
 

@@ -7,7 +7,7 @@ use mathlib.Core.Logic.{_⊎_, inl, inr, ⊎-map}
 use Prim.Native.Nat.{ℕ, zero, suc, _≤_, _<_}
 use native.Mathlib.Omega.{arith}
 use borrow.Author.Tests.{le-leb, lt-leb, lt-ltb, le-ltb, eq-eqb, ne-eqb, leb-false, ltb-false, eqb-false, eqb-true, not-false}
-use Rattle.versions.specs.Table.{Cond, _≤?_, _<?_, _≡?_, _≢?_, _and_, _or_, test, holds, Row, _gives_, firstRefusal, unless, everyCall}
+use Rattle.table.specs.Table.{Cond, _≤?_, _<?_, _≡?_, _≢?_, _and_, _or_, test, holds, Row, _gives_, firstRefusal, unless, everyCall}
 
 -- A condition as a statement, and its denial: what `omega` and the code's tests speak of.
 abbrev pub Holds : Cond → Type 0

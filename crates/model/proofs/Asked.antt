@@ -1,0 +1,95 @@
+-- What the model answers of a published version of a line, and that two lines whose histories are the same up to it answer the same: a line before and after
+-- other calls, a branch and its source.
+-- Assumes nothing.
+use mathlib.Core.Path.{_≡_, sym}
+use mathlib.Core.Bool.{false}
+use mathlib.Core.Logic.{inr}
+use mathlib.Core.List.{List, [], _++_}
+use Prim.Native.Nat.{ℕ, _+_, _*_, _≤_, _<_}
+use native.Mathlib.Omega.{arith}
+use borrow.Author.Tests.{lt-leb, le-ltb}
+use lib.Dec.{leb, ltb}
+use lib.ListN.{length, getD, take, drop}
+use Rattle.tree.specs.Walk.{stampOf}
+use Rattle.table.specs.Table.{holds, firstRefusal, unless}
+use Rattle.table.specs.Lines.{sizeOn, readOn, pageOn, lineRows}
+use Rattle.table.proofs.Table.{none, skip, first}
+use Rattle.model.specs.Calls.{on, READ, SIZE, RECENT, STAMP, VIEW, filled, sizeIs, recentIs, stampIs, partIs, says}
+use Rattle.model.specs.History.{versionAt, updates}
+use Rattle.model.specs.InTurn.{blobAt, bytesAt}
+use Rattle.model.specs.Model.{Limits, Model, lineAt, history}
+use Rattle.model.specs.OnModel.{lineNumber, readNumber, sizeNumber, pageNumber, onLine, onModel}
+use Rattle.model.proofs.Stay.{SameUpTo, blob-stays, stamp-stays}
+
+-- ---- the answers of a line
+
+module _ (L : Limits) (m : Model) (l : ℕ) (there : l < length (m .lines)) where
+  pub recent-accepted : onModel L m (on l RECENT) .1 ≡ says (recentIs (lineAt m l .published))
+  unfolding onModel onLine lineRows
+  recent-accepted = let z : lineNumber L m l ≡ 0 = sym (first (skip there none)) in rw z
+
+  module _ (v : ℕ) (p : v ≤ lineAt m l .published) where
+    pub read-accepted : (offset len : ℕ) (buffer : List ℕ) → offset + len ≤ L .size * versionAt (history m l) v .size → len ≤ length buffer
+        → onModel L m (on l (READ v offset len buffer)) .1
+        ≡ record { answer = filled; buffer = take len (drop offset (bytesAt (history m l) v)) ++ drop len buffer }
+    unfolding onModel onLine readOn unless
+    read-accepted offset len buffer q r =
+        let z : readNumber L m l v offset len buffer ≡ 0 = sym (first (skip there (skip p (skip (inr q) (skip r none))))) in
+        rw z
+
+    pub size-accepted : onModel L m (on l (SIZE v)) .1 ≡ says (sizeIs (L .size * versionAt (history m l) v .size))
+    unfolding onModel onLine sizeOn
+    size-accepted = let z : sizeNumber L m l v ≡ 0 = sym (first (skip there (skip p none))) in rw z
+
+    module _ (i : ℕ) (q : i < versionAt (history m l) v .size) where
+      page-there : pageNumber L m l v i ≡ 0
+      unfolding pageOn
+      page-there = sym (first (skip there (skip p (skip (inr q) none))))
+
+      pub view-accepted : onModel L m (on l (VIEW v i)) .1 ≡ says (partIs (getD (blobAt (history m l) v) i []))
+      unfolding onModel onLine unless
+      view-accepted = rw page-there
+
+      pub stamp-accepted : onModel L m (on l (STAMP v i)) .1 ≡ says (stampIs (stampOf (updates (history m l)) v i))
+      unfolding onModel onLine
+      stamp-accepted = rw page-there
+
+-- ---- version v of line l of one model, and of line k of another or of the same
+
+module _ (L : Limits) (m w : Model) (l k v : ℕ) (there : l < length (m .lines)) (here : k < length (w .lines))
+    (p : v ≤ lineAt m l .published) (q : v ≤ lineAt w k .published) (same : SameUpTo (history w k) (history m l) v) where
+  line-m : leb (length (m .lines)) l ≡ false
+  line-m = lt-leb (length (m .lines)) l there
+
+  line-w : leb (length (w .lines)) k ≡ false
+  line-w = lt-leb (length (w .lines)) k here
+
+  published-m : ltb (lineAt m l .published) v ≡ false
+  published-m = le-ltb (lineAt m l .published) v p
+
+  published-w : ltb (lineAt w k .published) v ≡ false
+  published-w = le-ltb (lineAt w k .published) v q
+
+  version-alike : versionAt (history w k) v ≡ versionAt (history m l) v
+  version-alike = same .versions v (omega arith)
+
+  blob-alike : blobAt (history w k) v ≡ blobAt (history m l) v
+  blob-alike = blob-stays (history w k) (history m l) v same v (omega arith)
+
+  pub read-alike : (offset len : ℕ) (buffer : List ℕ)
+      → onModel L w (on k (READ v offset len buffer)) .1 ≡ onModel L m (on l (READ v offset len buffer)) .1
+  unfolding onModel onLine readOn firstRefusal holds
+  read-alike offset len buffer = rw (line-w, line-m, published-w, published-m, blob-alike, version-alike)
+
+  pub view-alike : (i : ℕ) → onModel L w (on k (VIEW v i)) .1 ≡ onModel L m (on l (VIEW v i)) .1
+  unfolding onModel onLine pageOn firstRefusal holds
+  view-alike i = rw (line-w, line-m, published-w, published-m, blob-alike, version-alike)
+
+  pub stamp-alike : (i : ℕ) → onModel L w (on k (STAMP v i)) .1 ≡ onModel L m (on l (STAMP v i)) .1
+  unfolding onModel onLine pageOn firstRefusal holds
+  stamp-alike i =
+      rw (line-w, line-m, published-w, published-m, stamp-stays (history w k) (history m l) v same v (omega arith) i, version-alike)
+
+  pub size-alike : onModel L w (on k (SIZE v)) .1 ≡ onModel L m (on l (SIZE v)) .1
+  unfolding onModel onLine sizeOn firstRefusal holds
+  size-alike = rw (line-w, line-m, published-w, published-m, version-alike)

@@ -1,0 +1,70 @@
+-- What follows of a sound model: of its tickets' updates, of its updates' pages and places, and of how many versions a line has.
+-- Assumes nothing.
+use mathlib.Core.Path.{_≡_, ap, sym, _∙_}
+use Prim.Native.Nat.{ℕ, suc, pred, _+_, _≤_, _<_}
+use native.Mathlib.Omega.{arith}
+use lib.ListN.{length}
+use Rattle.tree.specs.Tree.{countOf, update}
+use Rattle.tree.specs.Walk.{used}
+use Rattle.model.specs.History.{pagesOf, taken, updateOf as toUpdate, updates}
+use Rattle.model.specs.Model.{Limits, Model, lineAt, updateAt, every, updateOf}
+use Rattle.model.specs.OnModel.{ticketIn}
+use Rattle.model.proofs.Sound.{Sound, UpdateSound}
+use Rattle.model.proofs.Pigeons.{pigeons}
+use Rattle.model.proofs.Tickets.{taken-next, taken-mono}
+use Rattle.model.proofs.Updates.{used-next, used-mono}
+use Rattle.model.proofs.Updated.{update-past, update-le}
+use Rattle.model.proofs.Shown.{shownAt}
+
+module _ (L : Limits) (m : Model) (S : Sound L m) where
+  -- There is no ticket 0, and none past the last: they have no update.
+  pub ticket-zero : updateOf m 0 ≡ 0
+  ticket-zero = update-past m 0 (λ k o h e. omega (arith, S .updated k o h .from))
+
+  pub ticket-past : (t : ℕ) → length (m .tickets) < t → updateOf m t ≡ 0
+  ticket-past t g = update-past m t (λ k o h e. omega (arith, S .updated k o h .upto))
+
+  -- The update that a ticket got is sound.
+  pub update-got : (t : ℕ) → 0 < updateOf m t → UpdateSound m (updateOf m t)
+  update-got t o = S .updated (updateOf m t) o (update-le m t)
+
+  -- A ticket's page numbers are within the pages.
+  pub number-room : (t : ℕ) → 0 < t → t ≤ length (m .tickets) → taken (m .tickets) (pred t) + pagesOf (ticketIn m t) ≤ L .pages
+  number-room t o h = omega (arith, taken-next (m .tickets) t o h, taken-mono (m .tickets) t (length (m .tickets)) h, S .pageRoom)
+
+  -- An update's pages are those of its ticket, from f on.
+  pub pages-end : (k : ℕ) → 0 < k → k ≤ length (m .updates)
+      → suc (toUpdate (m .tickets) (updateAt m k) .last) ≡ updateAt m k .f + pagesOf (ticketIn m (updateAt m k .ticket))
+  pages-end k o h =
+      let s = S .updated k o h in
+      omega (arith, S .tickets (updateAt m k .ticket) (s .from) (s .upto) .some-pages)
+
+  -- An update's node places are within the nodes, after those of the updates before it.
+  pub place-room : (k : ℕ) → 0 < k → k ≤ length (m .updates)
+      → used (updates (every m)) (pred k) + countOf (update (updates (every m)) k) ≤ L .nodes
+  place-room k o h = omega (arith, used-next (updates (every m)) k o, used-mono (updates (every m)) k (length (m .updates)) h, S .nodeRoom)
+
+  module _ (l : ℕ) (there : l < length (m .lines)) where
+    -- A version is a sound update.
+    pub shown-sound : (v : ℕ) → 0 < v → v ≤ length (lineAt m l .shown) → UpdateSound m (shownAt m l v)
+    shown-sound v o h = S .updated (shownAt m l v) (S .lines l there .some v o h) (S .lines l there .most v o h)
+
+    -- Different versions of a line are different updates.
+    pub shown-apart : (v w : ℕ) → 0 < v → v ≤ length (lineAt m l .shown) → 0 < w → w ≤ length (lineAt m l .shown) → shownAt m l v ≡ shownAt m l w → v ≡ w
+    shown-apart v w o h p q e = sym (S .lines l there .number v o h) ∙ ap (λ (k : ℕ). updateAt m k .number) e ∙ S .lines l there .number w p q
+
+    -- A line has no more versions than there are updates, so no more than the capacity.
+    pub versions-few : length (lineAt m l .shown) ≤ length (m .updates)
+    versions-few =
+        pigeons
+        (length (lineAt m l .shown))
+        (length (m .updates))
+        (λ i. pred (shownAt m l (suc i)))
+        (λ i j hi hj e.
+        let a = S .lines l there .some (suc i) (omega arith) hi in
+        let b = S .lines l there .some (suc j) (omega arith) hj in
+        omega (arith, shown-apart (suc i) (suc j) (omega arith) hi (omega arith) hj (omega arith)))
+        (λ i h. omega (arith, S .lines l there .some (suc i) (omega arith) h, S .lines l there .most (suc i) (omega arith) h))
+
+    pub versions-most : length (lineAt m l .shown) ≤ 4096
+    versions-most = omega (arith, versions-few, S .fewer, S .records, S .allowed .updates)

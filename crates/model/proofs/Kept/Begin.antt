@@ -1,0 +1,84 @@
+-- BEGIN keeps the model sound: one more ticket.
+-- Assumes nothing.
+use mathlib.Core.Path.{_≡_, refl, ap}
+use mathlib.Core.Logic.{inl, inr}
+use mathlib.Core.Option.{none}
+use mathlib.Core.List.{[], _∷_}
+use Prim.Native.Nat.{ℕ, suc, pred, _≤_, _<_}
+use native.Mathlib.Omega.{arith}
+use lib.ListN.{length, replicate, length-replicate}
+use Rattle.tree.proofs.Meets.{lt-or-le}
+use Rattle.model.specs.History.{Ticket, noTicket, updates}
+use Rattle.model.specs.Model.{Limits, Model, lineAt, updateAt, every}
+use Rattle.model.specs.OnModel.{ticketIn, beginNumber, begun}
+use Rattle.model.proofs.Sound.{Sound, TicketSound}
+use Rattle.model.proofs.Passed.{BeginPassed, begin-passed}
+use Rattle.model.proofs.Slots.{none-there}
+use Rattle.model.proofs.Nth.{length-snoc, nth-append, nth-new}
+use Rattle.model.proofs.Tickets.{taken-all, taken-append}
+use Rattle.model.proofs.Updates.{updates-append}
+use Rattle.model.proofs.Grows.{Grown, line-unmoved}
+use Rattle.model.proofs.Kept.Same.{ticket-same, update-kept, line-same}
+
+module _ (L : Limits) (m : Model) (n : ℕ) where
+  abbrev pub newTicket : Ticket
+  newTicket = record { slots = replicate n none; woven = 0 }
+
+  pub begun-ticket : (t : ℕ) → t ≤ length (m .tickets) → ticketIn (begun L m n) t ≡ ticketIn m t
+  begun-ticket t h = nth-append noTicket (m .tickets) (newTicket ∷ []) t h
+
+  pub begun-new : ticketIn (begun L m n) (suc (length (m .tickets))) ≡ newTicket
+  begun-new = nth-new noTicket (m .tickets) newTicket
+
+  module _ (S : Sound L m) where
+    pub begun-updates : updates (every (begun L m n)) ≡ updates (every m)
+    begun-updates = updates-append (m .tickets) newTicket (m .updates) (λ v l. S .updated (suc v) (omega arith) (omega arith) .upto)
+
+    -- The ticket of an update is as it was.
+    pub begun-old : (k : ℕ) → 0 < k → k ≤ length (m .updates) → ticketIn (begun L m n) (updateAt m k .ticket) ≡ ticketIn m (updateAt m k .ticket)
+    begun-old k o h = begun-ticket (updateAt m k .ticket) (S .updated k o h .upto)
+
+    pub begun-grown : Grown m (begun L m n)
+    begun-grown = record {
+      tickets = omega (arith, length-snoc (m .tickets) newTicket);
+      updates = omega arith;
+      lines = omega arith;
+      version = λ k h. refl;
+      got = λ t o. refl;
+      slots = λ k o h. ap (λ (x : Ticket). x .slots) (begun-old k o h);
+      numbers = λ k o h. taken-append (m .tickets) newTicket (pred (updateAt m k .ticket)) (omega (arith, S .updated k o h .upto));
+      whole = λ k o h w. ap (λ (x : Ticket). x .woven) (begun-old k o h);
+      line = λ l h. line-unmoved (lineAt m l) (lineAt m l) refl;
+    }
+
+    module _ (p : BeginPassed L m n) where
+      new-ticket : TicketSound L (begun L m n) (suc (length (m .tickets)))
+      new-ticket = record {
+        some-pages = rw (begun-new, length-replicate) (p .some-pages);
+        few = rw (begun-new, length-replicate) (p .few);
+        bytes = rw begun-new (λ i x e. let z : _≡_ {A = ℕ} 0 1 = cc (none-there n i) in absurd (omega arith));
+        unwoven = λ z. rw begun-new;
+      }
+
+      begun-tickets : (t : ℕ) → 0 < t → t ≤ length (begun L m n .tickets) → TicketSound L (begun L m n) t
+      begun-tickets t o h = elim (lt-or-le (length (m .tickets)) t) [
+        | inl l ↦ let e : t ≡ suc (length (m .tickets)) = omega (arith, length-snoc (m .tickets) newTicket) in rw e new-ticket
+        | inr l ↦ ticket-same L m (begun L m n) t (begun-ticket t l) (λ z. z) (S .tickets t o l)
+      ]
+
+      pub begun-passed : Sound L (begun L m n)
+      begun-passed = record {
+        allowed = S .allowed;
+        records = rw length-snoc (p .record-left);
+        fewer = rw length-snoc (omega (arith, S .fewer));
+        pageRoom = rw (taken-all (m .tickets) newTicket, length-replicate) (p .pages-left);
+        nodeRoom = rw begun-updates (S .nodeRoom);
+        tickets = begun-tickets;
+        updated = λ k o h. update-kept L m (begun L m n) S begun-grown k o h (rw (begun-old k o h) (S .updated k o h .woven));
+        begun = S .begun;
+        few = S .few;
+        lines = λ l h. line-same L m (begun L m n) S begun-grown l h refl;
+      }
+
+    pub begun-sound : beginNumber L m n ≡ 0 → Sound L (begun L m n)
+    begun-sound z = begun-passed (begin-passed L m n z)

@@ -1,0 +1,85 @@
+-- A ticket changed, with as many slots as before: what it leaves, and when the model stays sound.
+-- Assumes nothing.
+use mathlib.Core.Path.{_≡_, refl, ap}
+use mathlib.Core.Logic.{_≢_}
+use Prim.Native.Nat.{ℕ, pred, _≤_, _<_}
+use native.Mathlib.Decide.{ℕ-discrete}
+use native.Mathlib.Omega.{arith}
+use lib.ListN.{length, set, length-set}
+use Rattle.tree.specs.Tree.{countOf}
+use Rattle.model.specs.History.{Ticket, noTicket, pagesOf, taken, updateOf as toUpdate, updates}
+use Rattle.model.specs.Model.{Limits, Model, lineAt, updateAt, every}
+use Rattle.model.specs.OnModel.{ticketIn}
+use Rattle.model.proofs.Sound.{Sound, TicketSound, UpdateSound}
+use Rattle.model.proofs.Nth.{nth-set-same, nth-set-other}
+use Rattle.model.proofs.Tickets.{taken-set}
+use Rattle.model.proofs.Updates.{updates-set}
+use Rattle.model.proofs.Shown.{Whole}
+use Rattle.model.proofs.Grows.{Grown, line-unmoved}
+use Rattle.model.proofs.Kept.Same.{ticket-same, update-kept, line-same}
+
+abbrev pub changed : Model → ℕ → Ticket → Model
+changed m t k = record { tickets = set (m .tickets) (pred t) k; updates = m .updates; lines = m .lines }
+
+module _ (m : Model) (t : ℕ) (x : Ticket) (o : 0 < t) (same : pagesOf x ≡ pagesOf (ticketIn m t)) where
+  pub changed-updates : updates (every (changed m t x)) ≡ updates (every m)
+  changed-updates = updates-set (m .tickets) t x (m .updates) o same
+
+  pub changed-taken : (u : ℕ) → taken (changed m t x .tickets) u ≡ taken (m .tickets) u
+  changed-taken u = taken-set (m .tickets) t x u o same
+
+  pub changed-length : length (changed m t x .tickets) ≡ length (m .tickets)
+  changed-length = length-set (m .tickets) (pred t) x
+
+  pub changed-this : t ≤ length (m .tickets) → ticketIn (changed m t x) t ≡ x
+  changed-this h = nth-set-same noTicket (m .tickets) t x o h
+
+  pub changed-other : (u : ℕ) → u ≢ t → ticketIn (changed m t x) u ≡ ticketIn m u
+  changed-other u n = nth-set-other noTicket (m .tickets) t x o u n
+
+  -- The model grows where the ticket's update, if it has one, keeps its pages and is not whole.
+  module _ (slots : (k : ℕ) → 0 < k → k ≤ length (m .updates)
+      → ticketIn (changed m t x) (updateAt m k .ticket) .slots ≡ ticketIn m (updateAt m k .ticket) .slots)
+      (unwhole : (k : ℕ) → 0 < k → k ≤ length (m .updates) → Whole m k → updateAt m k .ticket ≢ t) where
+    pub changed-grown : Grown m (changed m t x)
+    changed-grown = record {
+      tickets = omega (arith, changed-length);
+      updates = omega arith;
+      lines = omega arith;
+      version = λ k h. refl;
+      got = λ u p. refl;
+      slots = slots;
+      numbers = λ k p h. changed-taken (pred (updateAt m k .ticket));
+      whole = λ k p h w. ap (λ (y : Ticket). y .woven) (changed-other (updateAt m k .ticket) (unwhole k p h w));
+      line = λ l h. line-unmoved (lineAt m l) (lineAt m l) refl;
+    }
+
+    -- It stays sound where the ticket does, and its update has no more nodes woven than it has.
+    module _ (L : Limits) (S : Sound L m) (this : TicketSound L (changed m t x) t)
+        (its : (k : ℕ) → 0 < k → k ≤ length (m .updates) → updateAt m k .ticket ≡ t
+        → ticketIn (changed m t x) t .woven ≤ countOf (toUpdate (m .tickets) (updateAt m k))) where
+      changed-tickets : (u : ℕ) → 0 < u → u ≤ length (changed m t x .tickets) → TicketSound L (changed m t x) u
+      changed-tickets u p h = elim (ℕ-discrete u t) [
+        | yes e ↦ rw e this
+        | no n ↦ ticket-same L m (changed m t x) u (changed-other u n) (λ z. z) (S .tickets u p (omega (arith, changed-length)))
+      ]
+
+      changed-updated : (k : ℕ) → 0 < k → k ≤ length (m .updates) → UpdateSound (changed m t x) k
+      changed-updated k p h = update-kept L m (changed m t x) S changed-grown k p h (elim (ℕ-discrete (updateAt m k .ticket) t) [
+        | yes e ↦ rw (ap (λ (u : ℕ). ticketIn (changed m t x) u .woven) e) (its k p h e)
+        | no n ↦ rw (changed-other (updateAt m k .ticket) n) (S .updated k p h .woven)
+      ])
+
+      pub changed-sound : Sound L (changed m t x)
+      changed-sound = record {
+        allowed = S .allowed;
+        records = rw changed-length (S .records);
+        fewer = rw changed-length (S .fewer);
+        pageRoom = rw (changed-length, changed-taken) (S .pageRoom);
+        nodeRoom = rw changed-updates (S .nodeRoom);
+        tickets = changed-tickets;
+        updated = changed-updated;
+        begun = S .begun;
+        few = S .few;
+        lines = λ l h. line-same L m (changed m t x) S changed-grown l h refl;
+      }

@@ -1,0 +1,104 @@
+-- The model is sound at the start, after every call, and after every list of calls.
+-- Assumes nothing.
+use mathlib.Core.Path.{_≡_, refl}
+use mathlib.Core.Bool.{Bool, true, false}
+use mathlib.Core.List.{List}
+use Prim.Native.Nat.{ℕ, zero, suc, _<_}
+use native.Mathlib.Omega.{arith}
+use Rattle.tree.specs.Walk.{used}
+use Rattle.table.proofs.Table.{unless-keeps}
+use Rattle.model.specs.Calls.{Call, BEGIN, PUT, WEAVE, on, Act, WRITE, APPEND, PUBLISH, BRANCH, READ, SIZE, RECENT, STAMP, VIEW}
+use Rattle.model.specs.History.{taken, blobSize, due}
+use Rattle.model.specs.Model.{Limits, Model, noModel, history}
+use Rattle.model.specs.OnModel.{either, beginNumber, putNumber, weaveNumber, assignNumber, lineNumber, branchNumber, begun, filledAt, woven, assigned, published, branched, onLine, onModel}
+use Rattle.model.specs.Run.{run, modelAfter}
+use Rattle.model.proofs.Sound.{Allowed, Sound, LineSound}
+use Rattle.model.proofs.Passed.{line-passed}
+use Rattle.model.proofs.Runs.{run-keeps}
+use Rattle.model.proofs.Kept.Begin.{begun-sound}
+use Rattle.model.proofs.Kept.Put.{put-sound}
+use Rattle.model.proofs.Kept.Weave.{weave-sound}
+use Rattle.model.proofs.Kept.Assign.{assign-sound}
+use Rattle.model.proofs.Kept.Publish.{publish-sound}
+use Rattle.model.proofs.Kept.Branch.{branch-sound}
+
+-- ---- FORMAT
+
+-- Line 0 has no version.
+empty-line : (l : ℕ) → l < 1 → LineSound noModel l
+empty-line zero h = record {
+  first = λ z. refl;
+  source = λ o. absurd (omega arith);
+  started = omega arith;
+  published = omega arith;
+  sourced = λ o. absurd (omega arith);
+  some = λ v o h. absurd (omega arith);
+  most = λ v o h. absurd (omega arith);
+  number = λ v o h. absurd (omega arith);
+  own = λ v o h. absurd (omega arith);
+  shared = λ v o p h. absurd (omega arith);
+  accepted = λ v h. absurd (omega arith);
+  woven = λ v o h. absurd (omega arith);
+}
+empty-line (suc l) h = absurd (omega arith)
+
+pub empty-sound : (L : Limits) → Allowed L → Sound L noModel
+unfolding taken used
+empty-sound L a = record {
+  allowed = a;
+  records = omega arith;
+  fewer = omega arith;
+  pageRoom = omega arith;
+  nodeRoom = omega arith;
+  tickets = λ t o h. absurd (omega arith);
+  updated = λ k o h. absurd (omega arith);
+  begun = omega arith;
+  few = omega arith;
+  lines = empty-line;
+}
+
+-- ---- one call
+
+pub either-keeps : {A : Type 0} (P : A → Type 0) (b : Bool) (x y : A) → P y → (b ≡ true → P x) → P (either b x y)
+either-keeps P true x y p q = q refl
+either-keeps P false x y p q = p
+
+module _ (L : Limits) (m : Model) (S : Sound L m) where
+  assign-step : (l t f : ℕ) → Sound L (onLine L m l (WRITE t f) .0)
+  unfolding onLine
+  assign-step l t f = unless-keeps (Sound L) (assignNumber L m l t f) m (assigned L m l t f) S (assign-sound L m l t f S)
+
+  line-sound : (l : ℕ) (a : Act) → Sound L (onLine L m l a .0)
+  unfolding onLine
+  line-sound l (WRITE t f) = assign-step l t f
+  line-sound l (APPEND t) = assign-step l t (blobSize (history m l))
+  line-sound l PUBLISH =
+      unless-keeps
+      (Sound L)
+      (lineNumber L m l)
+      m
+      (either (due (history m l)) (published L m l) m)
+      S
+      (λ z. either-keeps (Sound L) (due (history m l)) (published L m l) m S (publish-sound L m l (line-passed L m l z) S))
+  line-sound l (BRANCH v) = unless-keeps (Sound L) (branchNumber L m l v) m (branched L m l v) S (branch-sound L m l v S)
+  line-sound l (READ v offset len buffer) = S
+  line-sound l (SIZE v) = S
+  line-sound l RECENT = S
+  line-sound l (STAMP v p) = S
+  line-sound l (VIEW v p) = S
+
+pub step-sound : (L : Limits) (m : Model) (c : Call) → Sound L m → Sound L (onModel L m c .0)
+unfolding onModel
+step-sound L m (BEGIN n) S = unless-keeps (Sound L) (beginNumber L m n) m (begun L m n) S (begun-sound L m n S)
+step-sound L m (PUT t i bytes) S = unless-keeps (Sound L) (putNumber L m t i bytes) m (filledAt L m t i bytes) S (put-sound L m t i bytes S)
+step-sound L m (WEAVE t) S = unless-keeps (Sound L) (weaveNumber L m t) m (woven L m t) S (weave-sound L m t S)
+step-sound L m (on l a) S = line-sound L m S l a
+
+-- ---- a list of calls
+
+pub run-sound : (L : Limits) (m : Model) (cs : List Call) → Sound L m → Sound L (run (onModel L) m cs)
+run-sound L m cs S = run-keeps (onModel L) (Sound L) (step-sound L) m cs S
+
+-- The model after any list of calls from an accepted FORMAT.
+pub sound-after : (L : Limits) → Allowed L → (cs : List Call) → Sound L (modelAfter L cs)
+sound-after L a cs = run-sound L noModel cs (empty-sound L a)

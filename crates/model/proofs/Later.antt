@@ -1,0 +1,111 @@
+-- Every later call, on any line, leaves what a line has: its versions up to the last assigned read the same, and what is published stays published.
+-- Assumes nothing.
+use mathlib.Core.Path.{_≡_}
+use mathlib.Core.List.{List, [], _∷_}
+use Prim.Native.Nat.{ℕ, _≤_, _<_}
+use native.Mathlib.Omega.{arith}
+use lib.ListN.{length}
+use Rattle.table.proofs.Table.{unless-keeps}
+use Rattle.model.specs.Calls.{Call, BEGIN, PUT, WEAVE, on, Act, WRITE, APPEND, PUBLISH, BRANCH, READ, SIZE, RECENT, STAMP, VIEW}
+use Rattle.model.specs.History.{versionAt, blobSize, due}
+use Rattle.model.specs.InTurn.{blobAt, bytesAt}
+use Rattle.model.specs.Model.{Limits, Model, lineAt, history}
+use Rattle.model.specs.OnModel.{either, beginNumber, putNumber, weaveNumber, assignNumber, lineNumber, branchNumber, begun, filledAt, woven, assigned, published, branched, onLine, onModel}
+use Rattle.model.specs.Run.{run}
+use Rattle.model.proofs.Sound.{Sound}
+use Rattle.model.proofs.Passed.{put-passed, weave-passed, assign-passed, line-passed}
+use Rattle.model.proofs.Grows.{Grown, grown-same, grown-then}
+use Rattle.model.proofs.Older.{older-same}
+use Rattle.model.proofs.Stay.{SameUpTo, same-less, size-stays, blob-stays, bytes-stay}
+use Rattle.model.proofs.Asked.{read-alike, view-alike, stamp-alike, size-alike}
+use Rattle.model.proofs.Kept.Begin.{begun-grown}
+use Rattle.model.proofs.Kept.Put.{filled-grown}
+use Rattle.model.proofs.Kept.Weave.{woven-grown}
+use Rattle.model.proofs.Kept.Assign.{assigned-grown}
+use Rattle.model.proofs.Kept.Publish.{published-grown}
+use Rattle.model.proofs.Kept.Branch.{branched-grown}
+use Rattle.model.proofs.Kept.Every.{either-keeps, step-sound}
+
+module _ (L : Limits) (m : Model) (S : Sound L m) where
+  assign-grown : (l t f : ℕ) → Grown m (onLine L m l (WRITE t f) .0)
+  unfolding onLine
+  assign-grown l t f =
+      unless-keeps (Grown m) (assignNumber L m l t f) m (assigned L m l t f) (grown-same m) (λ z. assigned-grown L m l t f (assign-passed L m l t f z .line))
+
+  line-grown : (l : ℕ) (a : Act) → Grown m (onLine L m l a .0)
+  unfolding onLine
+  line-grown l (WRITE t f) = assign-grown l t f
+  line-grown l (APPEND t) = assign-grown l t (blobSize (history m l))
+  line-grown l PUBLISH =
+      unless-keeps
+      (Grown m)
+      (lineNumber L m l)
+      m
+      (either (due (history m l)) (published L m l) m)
+      (grown-same m)
+      (λ z. either-keeps (Grown m) (due (history m l)) (published L m l) m (grown-same m) (λ e. published-grown L m l (line-passed L m l z)))
+  line-grown l (BRANCH v) = unless-keeps (Grown m) (branchNumber L m l v) m (branched L m l v) (grown-same m) (λ z. branched-grown L m l v)
+  line-grown l (READ v offset len buffer) = grown-same m
+  line-grown l (SIZE v) = grown-same m
+  line-grown l RECENT = grown-same m
+  line-grown l (STAMP v p) = grown-same m
+  line-grown l (VIEW v p) = grown-same m
+
+  pub step-grown : (c : Call) → Grown m (onModel L m c .0)
+  unfolding onModel
+  step-grown (BEGIN n) = unless-keeps (Grown m) (beginNumber L m n) m (begun L m n) (grown-same m) (λ z. begun-grown L m n S)
+  step-grown (PUT t i bytes) =
+      unless-keeps (Grown m) (putNumber L m t i bytes) m (filledAt L m t i bytes) (grown-same m) (λ z. filled-grown L m t i bytes S (put-passed L m t i bytes z))
+  step-grown (WEAVE t) = unless-keeps (Grown m) (weaveNumber L m t) m (woven L m t) (grown-same m) (λ z. woven-grown L m t S (weave-passed L m t z))
+  step-grown (on l a) = line-grown l a
+
+pub run-grown : (L : Limits) (m : Model) → Sound L m → (cs : List Call) → Grown m (run (onModel L) m cs)
+unfolding run
+run-grown L m S [] = grown-same m
+run-grown L m S (c ∷ cs) =
+    let m′ = onModel L m c .0 in
+    grown-then m m′ (run (onModel L) m′ cs) (step-grown L m S c) (run-grown L m′ (step-sound L m c S) cs)
+
+-- ---- what a line has, after any list of calls
+
+module _ (L : Limits) (m : Model) (S : Sound L m) (cs : List Call) (l : ℕ) (there : l < length (m .lines)) where
+  pub later-line : l < length (run (onModel L) m cs .lines)
+  later-line = omega (arith, run-grown L m S cs .lines)
+
+  pub later-published : lineAt m l .published ≤ lineAt (run (onModel L) m cs) l .published
+  later-published = run-grown L m S cs .line l there .further
+
+  pub later-same : SameUpTo (history (run (onModel L) m cs) l) (history m l) (length (lineAt m l .shown))
+  later-same = older-same L m (run (onModel L) m cs) S (run-grown L m S cs) l there
+
+  -- What is published stays: the size, the pages, the bytes.
+  module _ (v : ℕ) (h : v ≤ lineAt m l .published) where
+    later-there : v ≤ lineAt (run (onModel L) m cs) l .published
+    later-there = omega (arith, later-published)
+
+    pub later-upto : SameUpTo (history (run (onModel L) m cs) l) (history m l) v
+    later-upto =
+        same-less (history (run (onModel L) m cs) l) (history m l) (length (lineAt m l .shown)) v (omega (arith, S .lines l there .published)) later-same
+
+    pub later-size : versionAt (history (run (onModel L) m cs) l) v .size ≡ versionAt (history m l) v .size
+    later-size = size-stays (history (run (onModel L) m cs) l) (history m l) v later-upto v (omega arith)
+
+    pub later-blob : blobAt (history (run (onModel L) m cs) l) v ≡ blobAt (history m l) v
+    later-blob = blob-stays (history (run (onModel L) m cs) l) (history m l) v later-upto v (omega arith)
+
+    pub later-bytes : bytesAt (history (run (onModel L) m cs) l) v ≡ bytesAt (history m l) v
+    later-bytes = bytes-stay (history (run (onModel L) m cs) l) (history m l) v later-upto v (omega arith)
+
+    -- So what the calls that read it answer stays.
+    pub later-read : (offset len : ℕ) (buffer : List ℕ)
+        → onModel L (run (onModel L) m cs) (on l (READ v offset len buffer)) .1 ≡ onModel L m (on l (READ v offset len buffer)) .1
+    later-read = read-alike L m (run (onModel L) m cs) l l v there later-line h later-there later-upto
+
+    pub later-view : (i : ℕ) → onModel L (run (onModel L) m cs) (on l (VIEW v i)) .1 ≡ onModel L m (on l (VIEW v i)) .1
+    later-view = view-alike L m (run (onModel L) m cs) l l v there later-line h later-there later-upto
+
+    pub later-stamp : (i : ℕ) → onModel L (run (onModel L) m cs) (on l (STAMP v i)) .1 ≡ onModel L m (on l (STAMP v i)) .1
+    later-stamp = stamp-alike L m (run (onModel L) m cs) l l v there later-line h later-there later-upto
+
+    pub later-sized : onModel L (run (onModel L) m cs) (on l (SIZE v)) .1 ≡ onModel L m (on l (SIZE v)) .1
+    later-sized = size-alike L m (run (onModel L) m cs) l l v there later-line h later-there later-upto

@@ -1,0 +1,30 @@
+-- Lists: by number, by different numbers, by blocks, by runs of calls.
+pub mod Nth
+pub mod Pigeons
+pub mod Slots
+pub mod Blocks
+pub mod Bytes
+pub mod Runs
+-- Histories: a line's tickets, versions and updates, and its pages.
+pub mod Tickets
+pub mod Updates
+pub mod Append
+pub mod Stay
+-- Model: what is true of it, and what the calls keep of it.
+pub mod Sound
+pub mod Updated
+pub mod Shown
+pub mod Facts
+pub mod SoundHistory
+pub mod Blob
+pub mod Passed
+pub mod Grows
+pub mod Older
+pub mod Lines
+pub mod Kept
+pub mod Histories
+pub mod Shared
+pub mod Owner
+pub mod Asked
+pub mod Later
+pub mod Reached

@@ -1,0 +1,163 @@
+-- What the rows of a call, passed, say of the model: the facts that number 0 gives.
+-- Assumes nothing.
+use mathlib.Core.Path.{_≡_, refl}
+use mathlib.Core.Logic.{_⊎_, inl, inr}
+use mathlib.Core.Bool.{true, and-eq-true-iff}
+use mathlib.Core.Option.{Option, none, some}
+use mathlib.Core.List.{List}
+use Prim.Native.Nat.{ℕ, suc, _+_, _*_, _≤_, _<_}
+use native.Mathlib.Omega.{arith}
+use borrow.Author.Tests.{ltb-true, not-false}
+use lib.Dec.{ltb}
+use lib.ListN.{length, getD}
+use Rattle.tree.specs.Tree.{countOf}
+use Rattle.table.specs.Table.{beginRows, putRows, weaveRows}
+use Rattle.table.specs.Lines.{lineRows, branchRows, assignOn, sizeOn, readOn, pageOn}
+use Rattle.table.proofs.Table.{passed}
+use Rattle.model.specs.History.{Page, History, pagesOf, versionAt, taken, updateOf as toUpdate, blobSize, isFilled, bitIf, allFilled, complete, due}
+use Rattle.model.specs.Model.{Limits, Model, lineAt, updateAt, history, places, updateOf}
+use Rattle.model.specs.OnModel.{ticketIn, beginNumber, putNumber, weaveNumber, nextUpdate, assignNumber, lineNumber, branchNumber, readNumber, sizeNumber, pageNumber}
+
+-- A row that reads a record: in the model the record is there.
+there-fails : {A : Type 0} → (0 < 0) ⊎ A → A
+there-fails (inl h) = absurd (omega arith)
+there-fails (inr a) = a
+
+unfilled : (x : Option Page) → (bitIf (isFilled x) ≡ 1 → ⊥) → x ≡ none
+unfilled none h = refl
+unfilled (some x) h = absurd (h refl)
+
+pub record BeginPassed (L : Limits) (m : Model) (n : ℕ) : Type 0 where
+  pub some-pages : 0 < n
+  pub few : n ≤ 64
+  pub record-left : length (m .tickets) < L .updates
+  pub pages-left : taken (m .tickets) (length (m .tickets)) + n ≤ L .pages
+
+pub record PutPassed (L : Limits) (m : Model) (t i : ℕ) (bytes : List ℕ) : Type 0 where
+  pub from : 0 < t
+  pub upto : t ≤ length (m .tickets)
+  pub unassigned : updateOf m t ≡ 0
+  pub slot : i < pagesOf (ticketIn m t)
+  pub empty : getD (ticketIn m t .slots) i none ≡ none
+  pub whole : length bytes ≡ L .size
+
+pub record WeavePassed (m : Model) (t : ℕ) : Type 0 where
+  pub from : 0 < t
+  pub upto : t ≤ length (m .tickets)
+  pub assigned : 0 < updateOf m t
+  pub left : ticketIn m t .woven < countOf (toUpdate (m .tickets) (updateAt m (updateOf m t)))
+
+pub record AssignPassed (L : Limits) (m : Model) (l t f : ℕ) : Type 0 where
+  pub from : 0 < t
+  pub upto : t ≤ length (m .tickets)
+  pub unassigned : updateOf m t ≡ 0
+  pub line : l < length (m .lines)
+  pub puts : allFilled (ticketIn m t .slots) ≡ true
+  pub starts : f ≤ blobSize (history m l)
+  pub inside : f + pagesOf (ticketIn m t) ≤ 4096
+  pub nodes-left : places m + countOf (nextUpdate L m l t f) ≤ L .nodes
+
+pub record BranchPassed (m : Model) (l v : ℕ) : Type 0 where
+  pub line : l < length (m .lines)
+  pub published : v ≤ lineAt m l .published
+  pub line-left : length (m .lines) < 16
+
+pub record ReadPassed (L : Limits) (m : Model) (l v offset len : ℕ) (buffer : List ℕ) : Type 0 where
+  pub line : l < length (m .lines)
+  pub published : v ≤ lineAt m l .published
+  pub inside : offset + len ≤ L .size * versionAt (history m l) v .size
+  pub fits : len ≤ length buffer
+
+pub record SizePassed (m : Model) (l v : ℕ) : Type 0 where
+  pub line : l < length (m .lines)
+  pub published : v ≤ lineAt m l .published
+
+pub record PagePassed (m : Model) (l v p : ℕ) : Type 0 where
+  pub line : l < length (m .lines)
+  pub published : v ≤ lineAt m l .published
+  pub inside : p < versionAt (history m l) v .size
+
+pub record Due (h : History) : Type 0 where
+  pub left : h .published < length (h .versions)
+  pub whole : complete h (suc (h .published)) ≡ true
+
+module _ (L : Limits) (m : Model) where
+  pub begin-passed : (n : ℕ) → beginNumber L m n ≡ 0 → BeginPassed L m n
+  unfolding beginRows
+  begin-passed n e =
+      let r = passed _ tt e in
+      record { some-pages = omega arith; few = omega arith; record-left = omega arith; pages-left = omega arith }
+
+  pub put-passed : (t i : ℕ) (bytes : List ℕ) → putNumber L m t i bytes ≡ 0 → PutPassed L m t i bytes
+  unfolding putRows
+  put-passed t i bytes e =
+      let r = passed _ tt e in
+      record {
+        from = omega arith;
+        upto = omega arith;
+        unassigned = there-fails (r .1 .0);
+        slot = there-fails (r .1 .1 .0);
+        empty = unfilled (getD (ticketIn m t .slots) i none) (there-fails (r .1 .1 .1 .0));
+        whole = r .1 .1 .1 .1 .0;
+      }
+
+  pub weave-passed : (t : ℕ) → weaveNumber L m t ≡ 0 → WeavePassed m t
+  unfolding weaveRows
+  weave-passed t e =
+      let r = passed _ tt e in
+      let z : (updateOf m t ≡ 0 → ⊥) = there-fails (r .1 .0 .0) in
+      record {
+        from = omega arith;
+        upto = omega arith;
+        assigned = omega arith;
+        left = there-fails (there-fails (r .1 .0 .1));
+      }
+
+  pub assign-passed : (l t f : ℕ) → assignNumber L m l t f ≡ 0 → AssignPassed L m l t f
+  unfolding assignOn
+  assign-passed l t f e =
+      let r = passed _ tt e in
+      record {
+        from = omega arith;
+        upto = omega arith;
+        unassigned = there-fails (r .1 .0);
+        line = r .1 .1 .0;
+        puts = not-false _ (there-fails (r .1 .1 .1 .0));
+        starts = r .1 .1 .1 .1 .0;
+        inside = there-fails (r .1 .1 .1 .1 .1 .0);
+        nodes-left = there-fails (r .1 .1 .1 .1 .1 .1 .0);
+      }
+
+  pub line-passed : (l : ℕ) → lineNumber L m l ≡ 0 → l < length (m .lines)
+  unfolding lineRows
+  line-passed l e = passed _ tt e .0
+
+  pub branch-passed : (l v : ℕ) → branchNumber L m l v ≡ 0 → BranchPassed m l v
+  unfolding branchRows
+  branch-passed l v e =
+      let r = passed _ tt e in
+      record { line = r .0; published = r .1 .0; line-left = r .1 .1 .0 }
+
+  pub size-passed : (l v : ℕ) → sizeNumber L m l v ≡ 0 → SizePassed m l v
+  unfolding sizeOn
+  size-passed l v e =
+      let r = passed _ tt e in
+      record { line = r .0; published = r .1 .0 }
+
+  pub read-passed : (l v offset len : ℕ) (buffer : List ℕ) → readNumber L m l v offset len buffer ≡ 0 → ReadPassed L m l v offset len buffer
+  unfolding readOn
+  read-passed l v offset len buffer e =
+      let r = passed _ tt e in
+      record { line = r .0; published = r .1 .0; inside = there-fails (r .1 .1 .0); fits = r .1 .1 .1 .0 }
+
+  pub page-passed : (l v p : ℕ) → pageNumber L m l v p ≡ 0 → PagePassed m l v p
+  unfolding pageOn
+  page-passed l v p e =
+      let r = passed _ tt e in
+      record { line = r .0; published = r .1 .0; inside = there-fails (r .1 .1 .0) }
+
+pub due-passed : (h : History) → due h ≡ true → Due h
+unfolding due
+due-passed h e =
+    let r = and-eq-true-iff (ltb (h .published) (length (h .versions))) _ .0 e in
+    record { left = ltb-true _ _ (r .0); whole = r .1 }

@@ -1,0 +1,54 @@
+-- The calls, and what they answer in the documents' numbers and values.
+use Prim.Native.Nat.{ℕ, zero, suc}
+use mathlib.Core.List.{List, []}
+
+-- What a call that names a line asks of it. ASSIGN is WRITE or APPEND; the buffer to fill comes with the call.
+pub data Act : Type 0 where
+  WRITE : ℕ → ℕ → Act
+  APPEND : ℕ → Act
+  PUBLISH : Act
+  BRANCH : ℕ → Act
+  READ : ℕ → ℕ → ℕ → List ℕ → Act
+  SIZE : ℕ → Act
+  RECENT : Act
+  STAMP : ℕ → ℕ → Act
+  VIEW : ℕ → ℕ → Act
+
+-- A call after FORMAT: one that names no line, with the bytes to put, or one on a line.
+pub data Call : Type 0 where
+  BEGIN : ℕ → Call
+  PUT : ℕ → ℕ → List ℕ → Call
+  WEAVE : ℕ → Call
+  on : ℕ → Act → Call
+
+-- An answer: a refusal's number, or the call's values. A node is version, first page, span, its two numbers and how many are left, versions by their numbers
+-- with the line. FORMAT's value is the store, which the state has. VIEW hands out a part; to a caller that can be handed none it answers where the part begins.
+pub data Answer : Type 0 where
+  refused : ℕ → Answer
+  formatDone : Answer
+  ticketIs : ℕ → Answer
+  putDone : Answer
+  versionIs : ℕ → ℕ → Answer
+  nodeIs : ℕ → ℕ → ℕ → ℕ → ℕ → ℕ → Answer
+  publishedIs : ℕ → Answer
+  waiting : Answer
+  lineIs : ℕ → Answer
+  filled : Answer
+  sizeIs : ℕ → Answer
+  recentIs : ℕ → Answer
+  stampIs : ℕ → Answer
+  partIs : List ℕ → Answer
+  partAt : ℕ → Answer
+
+-- What a call gives back: its answer, and the buffer that it was lent as it leaves it (none but READ is lent one).
+pub record Outcome : Type 0 where
+  pub answer : Answer
+  pub buffer : List ℕ
+
+abbrev pub says : Answer → Outcome
+says a = record { answer = a; buffer = [] }
+
+-- The table's number decides between its refusal (0 is none) and the values.
+abbrev pub answers : ℕ → Answer → Answer
+answers zero a = a
+answers (suc k) a = refused (suc k)

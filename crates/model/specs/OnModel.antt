@@ -1,0 +1,199 @@
+-- One step of the plain model: each call by the documents, the table read on the model.
+use mathlib.Core.Bool.{Bool, true, false}
+use mathlib.Core.Option.{none, some}
+use mathlib.Core.List.{List, [], _∷_, _++_}
+use Prim.Native.Nat.{ℕ, zero, suc, pred, _+_, _-_, _*_, _^_, max}
+use lib.ListN.{length, getD, set, replicate, take, drop}
+use Rattle.tree.specs.Tree.{Update, Node, node, countOf, weaving, update, newest}
+use Rattle.tree.specs.Walk.{stampOf}
+use Rattle.table.specs.Table.{always, firstRefusal, unless, beginRows, putRows, weaveRows}
+use Rattle.table.specs.Lines.{lineRows, branchRows, assignOn, sizeOn, readOn, pageOn}
+use Rattle.model.specs.Calls.{Call, BEGIN, PUT, WEAVE, on, Act, WRITE, APPEND, PUBLISH, BRANCH, READ, SIZE, RECENT, STAMP, VIEW, Answer, ticketIs, putDone, versionIs, nodeIs, publishedIs, waiting, lineIs, filled, sizeIs, recentIs, stampIs, partIs, Outcome, says, answers}
+use Rattle.model.specs.History.{Ticket, Version, History, noTicket, pagesOf, versionAt, taken, updateOf as toUpdate, updates, blobSize, isFilled, bitIf, allFilled, due}
+use Rattle.model.specs.InTurn.{blobAt, bytesAt}
+use Rattle.model.specs.Model.{Limits, Line, Model, lineAt, updateAt, history, places, updateOf, numberIn}
+use Rattle.tree.specs.Tree.{nth}
+
+abbrev pub ticketIn : Model → ℕ → Ticket
+ticketIn m t = nth noTicket (m .tickets) t
+
+-- The two numbers of a node of version v of a history, whose ticket's first page number is given: its children's numbers, or a leaf's page number and 0.
+abbrev pub leftOf : History → ℕ → ℕ → Node → ℕ
+leftOf h v number (node a zero) = number + (a - update (updates h) v .f)
+leftOf h v number (node a (suc k)) = numberIn h (newest (updates h) v a (2 ^ k))
+
+abbrev pub rightOf : History → ℕ → Node → ℕ
+rightOf h v (node a zero) = 0
+rightOf h v (node a (suc k)) = numberIn h (newest (updates h) v (a + 2 ^ k) (2 ^ k))
+
+abbrev pub firstPage : Node → ℕ
+firstPage (node a h) = a
+
+abbrev pub spanOf : Node → ℕ
+spanOf (node a h) = 2 ^ h
+
+-- A model and an outcome after a step.
+abbrev pub Stepped : Type 0
+Stepped = Model × Outcome
+
+-- One of two, by a test.
+abbrev pub either : {A : Type 0} → Bool → A → A → A
+either true x y = x
+either false x y = y
+
+module _ (L : Limits) where
+  -- ---- the calls that name no line
+
+  abbrev pub beginNumber : Model → ℕ → ℕ
+  beginNumber m n = firstRefusal (beginRows n (length (m .tickets)) (L .updates) (taken (m .tickets) (length (m .tickets))) (L .pages))
+
+  abbrev pub putNumber : Model → ℕ → ℕ → List ℕ → ℕ
+  putNumber m t i bytes =
+      let k = ticketIn m t in
+      firstRefusal
+      (putRows always t (length (m .tickets)) (updateOf m t) (pagesOf k) i (bitIf (isFilled (getD (k .slots) i none))) (length bytes) (L .size))
+
+  abbrev pub weaveNumber : Model → ℕ → ℕ
+  weaveNumber m t =
+      firstRefusal
+      (weaveRows always always t (length (m .tickets)) (updateOf m t) (ticketIn m t .woven) (countOf (toUpdate (m .tickets) (updateAt m (updateOf m t)))))
+
+  -- BEGIN adds a ticket, its slots empty, woven 0.
+  abbrev pub begun : Model → ℕ → Model
+  begun m n = record { tickets = m .tickets ++ record { slots = replicate n none; woven = 0 } ∷ []; updates = m .updates; lines = m .lines }
+
+  -- PUT fills slot i.
+  abbrev pub filledAt : Model → ℕ → ℕ → List ℕ → Model
+  filledAt m t i bytes =
+      let k = ticketIn m t in
+      record {
+        tickets = set (m .tickets) (pred t) (record { slots = set (k .slots) i (some bytes); woven = k .woven });
+        updates = m .updates;
+        lines = m .lines;
+      }
+
+  -- WEAVE adds 1 to the ticket's woven count.
+  abbrev pub woven : Model → ℕ → Model
+  woven m t =
+      let k = ticketIn m t in
+      record { tickets = set (m .tickets) (pred t) (record { slots = k .slots; woven = suc (k .woven) }); updates = m .updates; lines = m .lines }
+
+  -- The node that WEAVE stores next for ticket t, with its numbers and how many are left, as the line on which it got its version has it.
+  abbrev pub nodeAnswer : Model → ℕ → Answer
+  nodeAnswer m t =
+      let x = updateAt m (updateOf m t) in
+      let h = history m (x .line) in
+      let u = toUpdate (m .tickets) x in
+      let y = getD (weaving u) (ticketIn m t .woven) (node 0 0) in
+      nodeIs
+      (numberIn h (x .number))
+      (firstPage y)
+      (spanOf y)
+      (leftOf h (x .number) (taken (m .tickets) (pred t)) y)
+      (rightOf h (x .number) y)
+      (countOf u - suc (ticketIn m t .woven))
+
+  -- ---- the calls on a line
+
+  abbrev pub withLine : Model → ℕ → Line → Model
+  withLine m l x = record { tickets = m .tickets; updates = m .updates; lines = set (m .lines) l x }
+
+  -- The size after an update of ticket t at page f of a line, and the update, as the line's next version.
+  abbrev pub sizeAfter : Model → ℕ → ℕ → ℕ → ℕ
+  sizeAfter m l t f = max (blobSize (history m l)) (f + pagesOf (ticketIn m t))
+
+  abbrev pub nextVersion : Model → ℕ → ℕ → ℕ → Version
+  nextVersion m l t f = record { ticket = t; line = l; number = suc (length (lineAt m l .shown)); f = f; size = sizeAfter m l t f }
+
+  abbrev pub nextUpdate : Model → ℕ → ℕ → ℕ → Update
+  nextUpdate m l t f = toUpdate (m .tickets) (nextVersion m l t f)
+
+  abbrev pub assignNumber : Model → ℕ → ℕ → ℕ → ℕ
+  assignNumber m l t f =
+      let k = ticketIn m t in
+      firstRefusal
+      (assignOn
+      always
+      t
+      (length (m .tickets))
+      (updateOf m t)
+      l
+      (length (m .lines))
+      (allFilled (k .slots))
+      f
+      (blobSize (history m l))
+      (pagesOf k)
+      (places m)
+      (L .nodes)
+      (countOf (nextUpdate m l t f)))
+
+  -- ASSIGN adds an update, which the line shows as its next version.
+  abbrev pub assigned : Model → ℕ → ℕ → ℕ → Model
+  assigned m l t f =
+      let x = lineAt m l in
+      record {
+        tickets = m .tickets;
+        updates = m .updates ++ nextVersion m l t f ∷ [];
+        lines = set (m .lines) l (record { source = x .source; start = x .start; shown = x .shown ++ suc (length (m .updates)) ∷ []; published = x .published });
+      }
+
+  -- PUBLISH adds 1 to the line's number published.
+  abbrev pub published : Model → ℕ → Model
+  published m l =
+      let x = lineAt m l in
+      withLine m l (record { source = x .source; start = x .start; shown = x .shown; published = suc (x .published) })
+
+  -- BRANCH adds a line that shows the source's versions up to v, published there too.
+  abbrev pub branched : Model → ℕ → ℕ → Model
+  branched m l v =
+      record {
+        tickets = m .tickets;
+        updates = m .updates;
+        lines = m .lines ++ record { source = l; start = v; shown = take v (lineAt m l .shown); published = v } ∷ [];
+      }
+
+  abbrev pub lineNumber : Model → ℕ → ℕ
+  lineNumber m l = firstRefusal (lineRows l (length (m .lines)))
+
+  abbrev pub branchNumber : Model → ℕ → ℕ → ℕ
+  branchNumber m l v = firstRefusal (branchRows l (length (m .lines)) v (lineAt m l .published))
+
+  abbrev pub readNumber : Model → ℕ → ℕ → ℕ → ℕ → List ℕ → ℕ
+  readNumber m l v offset len buffer =
+      let h = history m l in
+      firstRefusal (readOn always l (length (m .lines)) v (h .published) (L .size * versionAt h v .size) offset len (length buffer))
+
+  abbrev pub sizeNumber : Model → ℕ → ℕ → ℕ
+  sizeNumber m l v = firstRefusal (sizeOn l (length (m .lines)) v (lineAt m l .published))
+
+  abbrev pub pageNumber : Model → ℕ → ℕ → ℕ → ℕ
+  pageNumber m l v p = let h = history m l in firstRefusal (pageOn always l (length (m .lines)) v (h .published) (versionAt h v .size) p)
+
+  abbrev pub assignStep : Model → ℕ → ℕ → ℕ → Stepped
+  assignStep m l t f =
+      let k = assignNumber m l t f in
+      (unless k m (assigned m l t f), says (answers k (versionIs (suc (length (lineAt m l .shown))) (countOf (nextUpdate m l t f)))))
+
+  -- One step on line l.
+  unfoldable pub onLine : Model → ℕ → Act → Stepped
+  onLine m l (WRITE t f) = assignStep m l t f
+  onLine m l (APPEND t) = assignStep m l t (blobSize (history m l))
+  onLine m l PUBLISH =
+      let k = lineNumber m l in
+      let d = due (history m l) in
+      (unless k m (either d (published m l) m), says (answers k (either d (publishedIs (suc (lineAt m l .published))) waiting)))
+  onLine m l (BRANCH v) = let k = branchNumber m l v in (unless k m (branched m l v), says (answers k (lineIs (length (m .lines)))))
+  onLine m l (READ v offset len buffer) =
+      let k = readNumber m l v offset len buffer in
+      (m, record { answer = answers k filled; buffer = unless k buffer (take len (drop offset (bytesAt (history m l) v)) ++ drop len buffer) })
+  onLine m l (SIZE v) = (m, says (answers (sizeNumber m l v) (sizeIs (L .size * versionAt (history m l) v .size))))
+  onLine m l RECENT = (m, says (answers (lineNumber m l) (recentIs (lineAt m l .published))))
+  onLine m l (STAMP v p) = (m, says (answers (pageNumber m l v p) (stampIs (stampOf (updates (history m l)) v p))))
+  onLine m l (VIEW v p) = (m, says (partIs (unless (pageNumber m l v p) [] (getD (blobAt (history m l) v) p []))))
+
+  -- One step: where the table refuses, nothing moves.
+  unfoldable pub onModel : Model → Call → Stepped
+  onModel m (BEGIN n) = let k = beginNumber m n in (unless k m (begun m n), says (answers k (ticketIs (suc (length (m .tickets))))))
+  onModel m (PUT t i bytes) = let k = putNumber m t i bytes in (unless k m (filledAt m t i bytes), says (answers k putDone))
+  onModel m (WEAVE t) = let k = weaveNumber m t in (unless k m (woven m t), says (answers k (nodeAnswer m t)))
+  onModel m (on l a) = onLine m l a

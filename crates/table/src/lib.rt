@@ -1,0 +1,1 @@
+// The table of refusals: definitions alone, in specs/, that the calls and the model cite.
