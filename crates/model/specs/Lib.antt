@@ -5,3 +5,4 @@ pub mod Model
 pub mod OnModel
 pub mod Run
 pub mod Due
+pub mod Example

@@ -1,0 +1,207 @@
+-- One call on a line in two matched states.
+-- Assumes nothing.
+use mathlib.Core.Path.{_≡_, refl, sym, ap, ap₂, subst, _∙_}
+use mathlib.Core.Logic.{_≢_}
+use mathlib.Core.Bool.{Bool, true, false, not, _||_, false≢true}
+use mathlib.Core.List.{List, [], _∷_, _++_, map}
+use Prim.Native.Nat.{ℕ, suc, _+_, _*_, _<_, max}
+use native.Mathlib.Decide.{ℕ-discrete}
+use borrow.Author.Tests.{eq-eqb, lt-leb}
+use lib.Dec.{leb, ltb, eqb}
+use lib.ListN.{length, getD, take, drop, length-set}
+use lib.Seq.{getD-set-same}
+use Rattle.tree.specs.Tree.{nth, countOf}
+use Rattle.tree.specs.Walk.{stampOf}
+use Rattle.table.specs.Table.{holds, firstRefusal, unless}
+use Rattle.table.specs.Lines.{lineRows, branchRows, assignOn, sizeOn, readOn, pageOn}
+use Rattle.model.specs.Calls.{Call, on, WRITE, APPEND, PUBLISH, BRANCH, READ, SIZE, RECENT, STAMP, VIEW, publishedIs, waiting, filled, sizeIs, recentIs, stampIs, partIs, says, answers}
+use Rattle.model.specs.History.{noVersion, pagesOf, updates, blobSize, allFilled, due}
+use Rattle.model.specs.InTurn.{joined}
+use Rattle.model.specs.Model.{Limits, Model, noLine, lineAt, updateAt, updateOf, history, places}
+use Rattle.model.specs.OnModel.{ticketIn, either, lineNumber, published, branchNumber, branched, readNumber, sizeNumber, pageNumber, sizeAfter, nextVersion, nextUpdate, assignNumber, assigned as withAssigned, assignStep, onLine}
+use Rattle.isolation.specs.Isolation.{named, plain, seenOn, seen, wovenAt, Match}
+use Rattle.isolation.proofs.Lists.{map-snoc, nth-new, nth-snoc-old}
+use Rattle.isolation.proofs.Guards.{assign-passed}
+use Rattle.isolation.proofs.Sound.{Sound}
+use Rattle.isolation.proofs.Frame.{match-sym, match-trans, shown-kept, frame-branch}
+use Rattle.isolation.proofs.Alike.{tickets-same, slots-same, updates-same, length-same, shown-same, size-same, blob-same, pages-same, due-same}
+use Rattle.isolation.proofs.Twins.{given-version, given-line, Step, Alike, alike-row, alike-last, twin, alike-open}
+
+-- ---- ASSIGN on one line
+module _ (L : Limits) (m : Model) (S : Sound m) (l t f : ℕ) (in-l : l < length (m .lines)) where
+  -- The line shows one version more.
+  history-assigned : history (withAssigned L m l t f) l .versions ≡ history m l .versions ++ nextVersion L m l t f ∷ []
+  history-assigned =
+      ap (λ x. map (updateAt (withAssigned L m l t f)) (x .shown)) (getD-set-same (m .lines) l _ noLine in-l)
+      ∙ map-snoc (updateAt (withAssigned L m l t f)) (lineAt m l .shown) (suc (length (m .updates)))
+      ∙ ap₂ (λ xs x. xs ++ x ∷ []) (shown-kept m S l (nextVersion L m l t f ∷ [])) (nth-new noVersion (m .updates) (nextVersion L m l t f))
+
+  woven-new : (v : ℕ) → v ≡ suc (length (history m l .versions)) → wovenAt (history (withAssigned L m l t f) l) v ≡ ticketIn m t .woven
+  woven-new v e =
+      let new : nth noVersion (history m l .versions ++ nextVersion L m l t f ∷ []) v ≡ nextVersion L m l t f = rw e (nth-new noVersion (history m l .versions) (nextVersion L m l t f)) in
+      ap (λ vs. ticketIn m (nth noVersion vs v .ticket) .woven) history-assigned ∙ ap (λ x. ticketIn m (x .ticket) .woven) new
+
+  woven-old : (v : ℕ) → v ≢ suc (length (history m l .versions)) → wovenAt (history (withAssigned L m l t f) l) v ≡ wovenAt (history m l) v
+  woven-old v n =
+      ap (λ vs. ticketIn m (nth noVersion vs v .ticket) .woven) history-assigned
+      ∙ ap (λ x. ticketIn m (x .ticket) .woven) (nth-snoc-old noVersion (history m l .versions) (nextVersion L m l t f) v n)
+
+module _ (L : Limits) {l l′ : ℕ} {m m′ : Model} (M : Match l l′ m m′) where
+  there : leb (length (m .lines)) l ≡ false
+  there = lt-leb (length (m .lines)) l (M .begun)
+
+  there′ : leb (length (m′ .lines)) l′ ≡ false
+  there′ = lt-leb (length (m′ .lines)) l′ (M .begun′)
+
+  -- ---- the rows
+  line-same : lineNumber L m l ≡ lineNumber L m′ l′
+  unfolding firstRefusal lineRows holds
+  line-same = rw (there, there′)
+
+  line-0 : lineNumber L m l ≡ 0
+  unfolding firstRefusal lineRows holds
+  line-0 = rw there
+
+  read-same : (v offset len : ℕ) (buffer : List ℕ) → readNumber L m l v offset len buffer ≡ readNumber L m′ l′ v offset len buffer
+  unfolding firstRefusal readOn holds
+  read-same v offset len buffer = rw (there, there′, M .published, size-same M v)
+
+  bytes-same : (v : ℕ) → sizeNumber L m l v ≡ sizeNumber L m′ l′ v
+  unfolding firstRefusal sizeOn holds
+  bytes-same v = rw (there, there′, M .published)
+
+  page-same : (v p : ℕ) → pageNumber L m l v p ≡ pageNumber L m′ l′ v p
+  unfolding firstRefusal pageOn holds
+  page-same v p = rw (there, there′, M .published, size-same M v)
+
+  alike-branch : (v : ℕ) → Alike l l′ m m′ (on l (BRANCH v)) (on l′ (BRANCH v)) (branchNumber L m l v) (branchNumber L m′ l′ v)
+  unfolding firstRefusal branchRows holds
+  alike-branch v = rw (there, there′, M .published)
+      (alike-row l l′ m m′ (ltb (lineAt m′ l′ .published) v) 16 (alike-last l l′ m m′ (leb 16 (length (m .lines))) (leb 16 (length (m′ .lines))) 20 refl))
+
+  -- ---- the calls that move nothing
+  pub twin-read : (v offset len : ℕ) (buffer : List ℕ)
+      → Step l l′ m m′ (on l (READ v offset len buffer)) (on l′ (READ v offset len buffer)) (onLine L m l (READ v offset len buffer)) (onLine L m′ l′ (READ v offset len buffer))
+  unfolding onLine
+  twin-read v offset len buffer = (
+    (λ q. M),
+    λ n. absurd (n (
+        ap₂ (λ k pages. plain (record { answer = answers k filled; buffer = unless k buffer (take len (drop offset (joined pages)) ++ drop len buffer) }))
+        (read-same v offset len buffer) (pages-same M v)
+        )),
+  )
+
+  pub twin-size : (v : ℕ) → Step l l′ m m′ (on l (SIZE v)) (on l′ (SIZE v)) (onLine L m l (SIZE v)) (onLine L m′ l′ (SIZE v))
+  unfolding onLine
+  twin-size v = ((λ q. M), λ n. absurd (n (ap₂ (λ k n. plain (says (answers k (sizeIs (L .size * n))))) (bytes-same v) (size-same M v))))
+
+  pub twin-recent : Step l l′ m m′ (on l RECENT) (on l′ RECENT) (onLine L m l RECENT) (onLine L m′ l′ RECENT)
+  unfolding onLine
+  twin-recent = ((λ q. M), λ n. absurd (n (ap₂ (λ k v. plain (says (answers k (recentIs v)))) line-same (M .published))))
+
+  pub twin-stamp : (v p : ℕ) → Step l l′ m m′ (on l (STAMP v p)) (on l′ (STAMP v p)) (onLine L m l (STAMP v p)) (onLine L m′ l′ (STAMP v p))
+  unfolding onLine
+  twin-stamp v p = ((λ q. M), λ n. absurd (n (ap₂ (λ k us. plain (says (answers k (stampIs (stampOf us v p))))) (page-same v p) (updates-same M))))
+
+  pub twin-view : (v p : ℕ) → Step l l′ m m′ (on l (VIEW v p)) (on l′ (VIEW v p)) (onLine L m l (VIEW v p)) (onLine L m′ l′ (VIEW v p))
+  unfolding onLine
+  twin-view v p = ((λ q. M), λ n. absurd (n (ap₂ (λ k pages. plain (says (partIs (unless k [] (getD pages p []))))) (page-same v p) (pages-same M v))))
+
+  -- ---- BRANCH
+  pub twin-branch : Sound m → Sound m′ → (v : ℕ) → Step l l′ m m′ (on l (BRANCH v)) (on l′ (BRANCH v)) (onLine L m l (BRANCH v)) (onLine L m′ l′ (BRANCH v))
+  unfolding onLine
+  twin-branch S S′ v = twin l l′ m m′ (branchNumber L m l v) (branchNumber L m′ l′ v) (branched L m l v) (branched L m′ l′ v) _ _ M (given-line _) (given-line _) (alike-branch v) λ z z′.
+      (match-trans (match-sym (frame-branch L l m S (M .begun) l v)) (match-trans M (frame-branch L l′ m′ S′ (M .begun′) l′ v)), refl)
+
+  -- ---- PUBLISH
+  match-published : Match l l′ (published L m l) (published L m′ l′)
+  match-published = record {
+    begun = rw length-set (M .begun);
+    begun′ = rw length-set (M .begun′);
+    slots = M .slots;
+    versions = ap (λ x. map (seenOn l) (map (updateAt m) (x .shown))) now ∙ M .versions ∙ sym (ap (λ x. map (seenOn l′) (map (updateAt m′) (x .shown))) now′);
+    woven = λ v.
+        ap (λ x. ticketIn m (nth noVersion (map (updateAt m) (x .shown)) v .ticket) .woven) now
+        ∙ M .woven v
+        ∙ sym (ap (λ x. ticketIn m′ (nth noVersion (map (updateAt m′) (x .shown)) v .ticket) .woven) now′);
+    published = ap (λ x. x .published) now ∙ ap suc (M .published) ∙ sym (ap (λ x. x .published) now′);
+  }
+    where
+      now : getD (published L m l .lines) l noLine ≡ record { source = lineAt m l .source; start = lineAt m l .start; shown = lineAt m l .shown; published = suc (lineAt m l .published) }
+      now = getD-set-same (m .lines) l _ noLine (M .begun)
+
+      now′ : getD (published L m′ l′ .lines) l′ noLine ≡ record { source = lineAt m′ l′ .source; start = lineAt m′ l′ .start; shown = lineAt m′ l′ .shown; published = suc (lineAt m′ l′ .published) }
+      now′ = getD-set-same (m′ .lines) l′ _ noLine (M .begun′)
+
+  pub twin-publish : Step l l′ m m′ (on l PUBLISH) (on l′ PUBLISH) (onLine L m l PUBLISH) (onLine L m′ l′ PUBLISH)
+  unfolding onLine unless
+  twin-publish = rw (← line-same, line-0) (go (due (history m l)) (due (history m′ l′)) (due-same M))
+    where
+      go : (b b′ : Bool) → b ≡ b′
+          → Step l l′ m m′ (on l PUBLISH) (on l′ PUBLISH)
+          (either b (published L m l) m, says (either b (publishedIs (suc (lineAt m l .published))) waiting))
+          (either b′ (published L m′ l′) m′, says (either b′ (publishedIs (suc (lineAt m′ l′ .published))) waiting))
+      go true true e = ((λ q. match-published), λ n. absurd (n (ap (λ n. says (publishedIs (suc n))) (M .published))))
+      go true false e = absurd (false≢true (sym e))
+      go false true e = absurd (false≢true e)
+      go false false e = ((λ q. M), λ n. absurd (n refl))
+
+  -- ---- ASSIGN
+  module _ (S : Sound m) (S′ : Sound m′) where
+    size-after : (t f : ℕ) → sizeAfter L m l t f ≡ sizeAfter L m′ l′ t f
+    size-after t f = ap₂ (λ b s. max b (f + length s)) (blob-same M) (slots-same M t)
+
+    count-same : (t f : ℕ) → countOf (nextUpdate L m l t f) ≡ countOf (nextUpdate L m′ l′ t f)
+    count-same t f = rw (size-after t f, slots-same M t)
+
+    next-same : (t f : ℕ) → seenOn l (nextVersion L m l t f) ≡ seenOn l′ (nextVersion L m′ l′ t f)
+    next-same t f = rw (eq-eqb l l refl, eq-eqb l′ l′ refl, shown-same M, size-after t f)
+
+    match-assigned : (t f : ℕ) → updateOf m t ≡ 0 → updateOf m′ t ≡ 0 → Match l l′ (withAssigned L m l t f) (withAssigned L m′ l′ t f)
+    match-assigned t f e e′ = record {
+      begun = rw length-set (M .begun);
+      begun′ = rw length-set (M .begun′);
+      slots = M .slots;
+      versions =
+          shows L m S l t f (M .begun)
+          ∙ ap₂ (λ xs x. xs ++ x ∷ []) (M .versions) (next-same t f)
+          ∙ sym (shows L m′ S′ l′ t f (M .begun′));
+      woven = λ v. elim (ℕ-discrete v (suc (length (history m l .versions)))) [
+        | yes q ↦ woven-new L m S l t f (M .begun) v q ∙ S .fresh t e ∙ sym (S′ .fresh t e′) ∙ sym (woven-new L m′ S′ l′ t f (M .begun′) v (q ∙ ap suc (length-same M)))
+        | no n ↦ woven-old L m S l t f (M .begun) v n ∙ M .woven v ∙ sym (woven-old L m′ S′ l′ t f (M .begun′) v (λ q. n (q ∙ ap suc (sym (length-same M)))))
+      ];
+      published =
+          ap (λ x. x .published) (getD-set-same (m .lines) l _ noLine (M .begun))
+          ∙ M .published
+          ∙ sym (ap (λ x. x .published) (getD-set-same (m′ .lines) l′ _ noLine (M .begun′)));
+    }
+      where
+        shows : (L : Limits) (m : Model) (S : Sound m) (l t f : ℕ) (in-l : l < length (m .lines)) → seen (withAssigned L m l t f) l ≡ seen m l ++ seenOn l (nextVersion L m l t f) ∷ []
+        shows L m S l t f h = ap (map (seenOn l)) (history-assigned L m S l t f h) ∙ map-snoc (seenOn l) (history m l .versions) (nextVersion L m l t f)
+
+    alike-assign : {c c′ : Call} (t f : ℕ) → named c ≡ t → named c′ ≡ t → Alike l l′ m m′ c c′ (assignNumber L m l t f) (assignNumber L m′ l′ t f)
+    unfolding firstRefusal assignOn holds
+    alike-assign t f n n′ =
+        rw (count-same t f, tickets-same M, slots-same M t, blob-same M, there, there′) (alike-row l l′ m m′ (eqb t 0 || ltb (length (m′ .tickets)) t) 7 (alike-open L M S S′ t n n′ (
+        alike-row l l′ m m′ (not (allFilled (ticketIn m′ t .slots))) 12 (alike-row l l′ m m′ (ltb (blobSize (history m′ l′)) f) 13 (
+        alike-row l l′ m m′ (ltb 4096 (f + pagesOf (ticketIn m′ t))) 14 (
+        alike-last l l′ m m′ (ltb (L .nodes) (places m + countOf (nextUpdate L m′ l′ t f))) (ltb (L .nodes) (places m′ + countOf (nextUpdate L m′ l′ t f))) 14 refl
+        )
+        ))
+        )))
+
+    twin-assign : (c c′ : Call) (t f : ℕ) → named c ≡ t → named c′ ≡ t → Step l l′ m m′ c c′ (assignStep L m l t f) (assignStep L m′ l′ t f)
+    twin-assign c c′ t f n n′ = twin l l′ m m′ (assignNumber L m l t f) (assignNumber L m′ l′ t f) (withAssigned L m l t f) (withAssigned L m′ l′ t f) _ _ M (given-version _ _) (given-version _ _)
+        (alike-assign t f n n′) λ z z′.
+        let g = assign-passed t (length (m .tickets)) (updateOf m t) l (length (m .lines)) _ f _ _ _ _ _ z in
+        let g′ = assign-passed t (length (m′ .tickets)) (updateOf m′ t) l′ (length (m′ .lines)) _ f _ _ _ _ _ z′ in
+        (match-assigned t f (g .unassigned) (g′ .unassigned), rw (shown-same M, count-same t f))
+
+    pub twin-write : (t f : ℕ) → Step l l′ m m′ (on l (WRITE t f)) (on l′ (WRITE t f)) (onLine L m l (WRITE t f)) (onLine L m′ l′ (WRITE t f))
+    unfolding onLine
+    twin-write t f = twin-assign (on l (WRITE t f)) (on l′ (WRITE t f)) t f refl refl
+
+    pub twin-append : (t : ℕ) → Step l l′ m m′ (on l (APPEND t)) (on l′ (APPEND t)) (onLine L m l (APPEND t)) (onLine L m′ l′ (APPEND t))
+    unfolding onLine
+    twin-append t = subst (λ f. Step l l′ m m′ (on l (APPEND t)) (on l′ (APPEND t)) (assignStep L m l t (blobSize (history m l))) (assignStep L m′ l′ t f)) (blob-same M)
+        (twin-assign (on l (APPEND t)) (on l′ (APPEND t)) t (blobSize (history m l)) refl refl)
