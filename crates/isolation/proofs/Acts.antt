@@ -3,48 +3,39 @@
 use mathlib.Core.Path.{_≡_, refl, sym, ap, ap₂, subst, _∙_}
 use mathlib.Core.Logic.{_≢_}
 use mathlib.Core.Bool.{Bool, true, false, not, _||_, false≢true}
-use mathlib.Core.List.{List, [], _∷_, _++_, map}
-use Prim.Native.Nat.{ℕ, suc, _+_, _*_, _<_, max}
+use mathlib.Core.List.{List, [], _∷_, _++_}
+use Prim.Native.Nat.{ℕ, suc, _+_, _*_, max}
 use native.Mathlib.Decide.{ℕ-discrete}
 use borrow.Author.Tests.{eq-eqb, lt-leb}
 use lib.Dec.{leb, ltb, eqb}
 use lib.ListN.{length, getD, take, drop, length-set}
-use lib.Seq.{getD-set-same}
-use Rattle.tree.specs.Tree.{nth, countOf}
+use Rattle.tree.specs.Tree.{countOf}
 use Rattle.tree.specs.Walk.{stampOf}
 use Rattle.table.specs.Table.{holds, firstRefusal, unless}
 use Rattle.table.specs.Lines.{lineRows, branchRows, assignOn, sizeOn, readOn, pageOn}
 use Rattle.model.specs.Calls.{Call, on, WRITE, APPEND, PUBLISH, BRANCH, READ, SIZE, RECENT, STAMP, VIEW, publishedIs, waiting, filled, sizeIs, recentIs, stampIs, partIs, says, answers}
-use Rattle.model.specs.History.{noVersion, pagesOf, updates, blobSize, allFilled, due}
+use Rattle.model.specs.History.{Version, History, noVersion, ticketAt, pagesOf, blobSize, allFilled, due}
 use Rattle.model.specs.InTurn.{joined}
-use Rattle.model.specs.Model.{Limits, Model, noLine, lineAt, updateAt, updateOf, history, places}
+use Rattle.model.specs.Model.{Limits, Model, lineAt, history, places}
 use Rattle.model.specs.OnModel.{ticketIn, either, lineNumber, published, branchNumber, branched, readNumber, sizeNumber, pageNumber, sizeAfter, nextVersion, nextUpdate, assignNumber, assigned as withAssigned, assignStep, onLine}
-use Rattle.isolation.specs.Isolation.{named, plain, seenOn, seen, wovenAt, Match}
-use Rattle.isolation.proofs.Lists.{map-snoc, nth-new, nth-snoc-old}
-use Rattle.isolation.proofs.Guards.{assign-passed}
-use Rattle.isolation.proofs.Sound.{Sound}
-use Rattle.isolation.proofs.Frame.{match-sym, match-trans, shown-kept, frame-branch}
+use Rattle.model.proofs.Nth.{map-snoc, nth-new}
+use Rattle.model.proofs.Passed.{AssignPassed, assign-passed}
+use Rattle.model.proofs.Histories.{withVersion, published-history, assigned-history}
+use Rattle.isolation.specs.Isolation.{named, plain, seenOn, wovenAt, Match}
+use Rattle.isolation.proofs.Lists.{nth-snoc}
+use Rattle.isolation.proofs.Kept.{Kept}
+use Rattle.isolation.proofs.Match.{match-sym, match-trans, match-by}
+use Rattle.isolation.proofs.Frame.{frame-branch}
 use Rattle.isolation.proofs.Alike.{tickets-same, slots-same, updates-same, length-same, shown-same, size-same, blob-same, pages-same, due-same}
 use Rattle.isolation.proofs.Twins.{given-version, given-line, Step, Alike, alike-row, alike-last, twin, alike-open}
 
--- ---- ASSIGN on one line
-module _ (L : Limits) (m : Model) (S : Sound m) (l t f : ℕ) (in-l : l < length (m .lines)) where
-  -- The line shows one version more.
-  history-assigned : history (withAssigned L m l t f) l .versions ≡ history m l .versions ++ nextVersion L m l t f ∷ []
-  history-assigned =
-      ap (λ x. map (updateAt (withAssigned L m l t f)) (x .shown)) (getD-set-same (m .lines) l _ noLine in-l)
-      ∙ map-snoc (updateAt (withAssigned L m l t f)) (lineAt m l .shown) (suc (length (m .updates)))
-      ∙ ap₂ (λ xs x. xs ++ x ∷ []) (shown-kept m S l (nextVersion L m l t f ∷ [])) (nth-new noVersion (m .updates) (nextVersion L m l t f))
+-- ---- one version more: the woven count of its ticket, and those of the versions before it
+module _ (h : History) (x : Version) (v : ℕ) where
+  woven-new : v ≡ suc (length (h .versions)) → wovenAt (withVersion h x) v ≡ ticketAt h (x .ticket) .woven
+  woven-new e = ap (wovenAt (withVersion h x)) e ∙ ap (λ (y : Version). ticketAt h (y .ticket) .woven) (nth-new noVersion (h .versions) x)
 
-  woven-new : (v : ℕ) → v ≡ suc (length (history m l .versions)) → wovenAt (history (withAssigned L m l t f) l) v ≡ ticketIn m t .woven
-  woven-new v e =
-      let new : nth noVersion (history m l .versions ++ nextVersion L m l t f ∷ []) v ≡ nextVersion L m l t f = rw e (nth-new noVersion (history m l .versions) (nextVersion L m l t f)) in
-      ap (λ vs. ticketIn m (nth noVersion vs v .ticket) .woven) history-assigned ∙ ap (λ x. ticketIn m (x .ticket) .woven) new
-
-  woven-old : (v : ℕ) → v ≢ suc (length (history m l .versions)) → wovenAt (history (withAssigned L m l t f) l) v ≡ wovenAt (history m l) v
-  woven-old v n =
-      ap (λ vs. ticketIn m (nth noVersion vs v .ticket) .woven) history-assigned
-      ∙ ap (λ x. ticketIn m (x .ticket) .woven) (nth-snoc-old noVersion (history m l .versions) (nextVersion L m l t f) v n)
+  woven-old : v ≢ suc (length (h .versions)) → wovenAt (withVersion h x) v ≡ wovenAt h v
+  woven-old n = ap (λ (y : Version). ticketAt h (y .ticket) .woven) (nth-snoc noVersion (h .versions) x v n)
 
 module _ (L : Limits) {l l′ : ℕ} {m m′ : Model} (M : Match l l′ m m′) where
   there : leb (length (m .lines)) l ≡ false
@@ -108,30 +99,16 @@ module _ (L : Limits) {l l′ : ℕ} {m m′ : Model} (M : Match l l′ m m′) 
   twin-view v p = ((λ q. M), λ n. absurd (n (ap₂ (λ k pages. plain (says (partIs (unless k [] (getD pages p []))))) (page-same v p) (pages-same M v))))
 
   -- ---- BRANCH
-  pub twin-branch : Sound m → Sound m′ → (v : ℕ) → Step l l′ m m′ (on l (BRANCH v)) (on l′ (BRANCH v)) (onLine L m l (BRANCH v)) (onLine L m′ l′ (BRANCH v))
+  pub twin-branch : Kept L m → Kept L m′ → (v : ℕ) → Step l l′ m m′ (on l (BRANCH v)) (on l′ (BRANCH v)) (onLine L m l (BRANCH v)) (onLine L m′ l′ (BRANCH v))
   unfolding onLine
   twin-branch S S′ v = twin l l′ m m′ (branchNumber L m l v) (branchNumber L m′ l′ v) (branched L m l v) (branched L m′ l′ v) _ _ M (given-line _) (given-line _) (alike-branch v) λ z z′.
       (match-trans (match-sym (frame-branch L l m S (M .begun) l v)) (match-trans M (frame-branch L l′ m′ S′ (M .begun′) l′ v)), refl)
 
   -- ---- PUBLISH
   match-published : Match l l′ (published L m l) (published L m′ l′)
-  match-published = record {
-    begun = rw length-set (M .begun);
-    begun′ = rw length-set (M .begun′);
-    slots = M .slots;
-    versions = ap (λ x. map (seenOn l) (map (updateAt m) (x .shown))) now ∙ M .versions ∙ sym (ap (λ x. map (seenOn l′) (map (updateAt m′) (x .shown))) now′);
-    woven = λ v.
-        ap (λ x. ticketIn m (nth noVersion (map (updateAt m) (x .shown)) v .ticket) .woven) now
-        ∙ M .woven v
-        ∙ sym (ap (λ x. ticketIn m′ (nth noVersion (map (updateAt m′) (x .shown)) v .ticket) .woven) now′);
-    published = ap (λ x. x .published) now ∙ ap suc (M .published) ∙ sym (ap (λ x. x .published) now′);
-  }
-    where
-      now : getD (published L m l .lines) l noLine ≡ record { source = lineAt m l .source; start = lineAt m l .start; shown = lineAt m l .shown; published = suc (lineAt m l .published) }
-      now = getD-set-same (m .lines) l _ noLine (M .begun)
-
-      now′ : getD (published L m′ l′ .lines) l′ noLine ≡ record { source = lineAt m′ l′ .source; start = lineAt m′ l′ .start; shown = lineAt m′ l′ .shown; published = suc (lineAt m′ l′ .published) }
-      now′ = getD-set-same (m′ .lines) l′ _ noLine (M .begun′)
+  match-published =
+      match-by _ _ (published-history L m l (M .begun)) (published-history L m′ l′ (M .begun′)) (rw length-set (M .begun)) (rw length-set (M .begun′))
+      (M .slots) (M .versions) (M .woven) (ap suc (M .published))
 
   pub twin-publish : Step l l′ m m′ (on l PUBLISH) (on l′ PUBLISH) (onLine L m l PUBLISH) (onLine L m′ l′ PUBLISH)
   unfolding onLine unless
@@ -147,7 +124,7 @@ module _ (L : Limits) {l l′ : ℕ} {m m′ : Model} (M : Match l l′ m m′) 
       go false false e = ((λ q. M), λ n. absurd (n refl))
 
   -- ---- ASSIGN
-  module _ (S : Sound m) (S′ : Sound m′) where
+  module _ (S : Kept L m) (S′ : Kept L m′) where
     size-after : (t f : ℕ) → sizeAfter L m l t f ≡ sizeAfter L m′ l′ t f
     size-after t f = ap₂ (λ b s. max b (f + length s)) (blob-same M) (slots-same M t)
 
@@ -157,27 +134,22 @@ module _ (L : Limits) {l l′ : ℕ} {m m′ : Model} (M : Match l l′ m m′) 
     next-same : (t f : ℕ) → seenOn l (nextVersion L m l t f) ≡ seenOn l′ (nextVersion L m′ l′ t f)
     next-same t f = rw (eq-eqb l l refl, eq-eqb l′ l′ refl, shown-same M, size-after t f)
 
-    match-assigned : (t f : ℕ) → updateOf m t ≡ 0 → updateOf m′ t ≡ 0 → Match l l′ (withAssigned L m l t f) (withAssigned L m′ l′ t f)
-    match-assigned t f e e′ = record {
-      begun = rw length-set (M .begun);
-      begun′ = rw length-set (M .begun′);
-      slots = M .slots;
-      versions =
-          shows L m S l t f (M .begun)
-          ∙ ap₂ (λ xs x. xs ++ x ∷ []) (M .versions) (next-same t f)
-          ∙ sym (shows L m′ S′ l′ t f (M .begun′));
-      woven = λ v. elim (ℕ-discrete v (suc (length (history m l .versions)))) [
-        | yes q ↦ woven-new L m S l t f (M .begun) v q ∙ S .fresh t e ∙ sym (S′ .fresh t e′) ∙ sym (woven-new L m′ S′ l′ t f (M .begun′) v (q ∙ ap suc (length-same M)))
-        | no n ↦ woven-old L m S l t f (M .begun) v n ∙ M .woven v ∙ sym (woven-old L m′ S′ l′ t f (M .begun′) v (λ q. n (q ∙ ap suc (sym (length-same M)))))
-      ];
-      published =
-          ap (λ x. x .published) (getD-set-same (m .lines) l _ noLine (M .begun))
-          ∙ M .published
-          ∙ sym (ap (λ x. x .published) (getD-set-same (m′ .lines) l′ _ noLine (M .begun′)));
-    }
-      where
-        shows : (L : Limits) (m : Model) (S : Sound m) (l t f : ℕ) (in-l : l < length (m .lines)) → seen (withAssigned L m l t f) l ≡ seen m l ++ seenOn l (nextVersion L m l t f) ∷ []
-        shows L m S l t f h = ap (map (seenOn l)) (history-assigned L m S l t f h) ∙ map-snoc (seenOn l) (history m l .versions) (nextVersion L m l t f)
+    match-assigned : (t f : ℕ) → AssignPassed L m l t f → AssignPassed L m′ l′ t f → Match l l′ (withAssigned L m l t f) (withAssigned L m′ l′ t f)
+    match-assigned t f p p′ =
+        let h = history m l in
+        let h′ = history m′ l′ in
+        let x = nextVersion L m l t f in
+        let x′ = nextVersion L m′ l′ t f in
+        let unwoven = S .tickets t (p .from) (p .upto) .unwoven (p .unassigned) in
+        let unwoven′ = S′ .tickets t (p′ .from) (p′ .upto) .unwoven (p′ .unassigned) in
+        match-by (withVersion h x) (withVersion h′ x′) (assigned-history L m S l t f (M .begun)) (assigned-history L m′ S′ l′ t f (M .begun′))
+        (rw length-set (M .begun)) (rw length-set (M .begun′)) (M .slots)
+        (map-snoc (seenOn l) (h .versions) x ∙ ap₂ (λ ys y. ys ++ y ∷ []) (M .versions) (next-same t f) ∙ sym (map-snoc (seenOn l′) (h′ .versions) x′))
+        (λ v. elim (ℕ-discrete v (suc (length (h .versions)))) [
+          | yes q ↦ woven-new h x v q ∙ unwoven ∙ sym unwoven′ ∙ sym (woven-new h′ x′ v (q ∙ ap suc (length-same M)))
+          | no n ↦ woven-old h x v n ∙ M .woven v ∙ sym (woven-old h′ x′ v (λ q. n (q ∙ ap suc (sym (length-same M)))))
+        ])
+        (M .published)
 
     alike-assign : {c c′ : Call} (t f : ℕ) → named c ≡ t → named c′ ≡ t → Alike l l′ m m′ c c′ (assignNumber L m l t f) (assignNumber L m′ l′ t f)
     unfolding firstRefusal assignOn holds
@@ -193,9 +165,7 @@ module _ (L : Limits) {l l′ : ℕ} {m m′ : Model} (M : Match l l′ m m′) 
     twin-assign : (c c′ : Call) (t f : ℕ) → named c ≡ t → named c′ ≡ t → Step l l′ m m′ c c′ (assignStep L m l t f) (assignStep L m′ l′ t f)
     twin-assign c c′ t f n n′ = twin l l′ m m′ (assignNumber L m l t f) (assignNumber L m′ l′ t f) (withAssigned L m l t f) (withAssigned L m′ l′ t f) _ _ M (given-version _ _) (given-version _ _)
         (alike-assign t f n n′) λ z z′.
-        let g = assign-passed t (length (m .tickets)) (updateOf m t) l (length (m .lines)) _ f _ _ _ _ _ z in
-        let g′ = assign-passed t (length (m′ .tickets)) (updateOf m′ t) l′ (length (m′ .lines)) _ f _ _ _ _ _ z′ in
-        (match-assigned t f (g .unassigned) (g′ .unassigned), rw (shown-same M, count-same t f))
+        (match-assigned t f (assign-passed L m l t f z) (assign-passed L m′ l′ t f z′), rw (shown-same M, count-same t f))
 
     pub twin-write : (t f : ℕ) → Step l l′ m m′ (on l (WRITE t f)) (on l′ (WRITE t f)) (onLine L m l (WRITE t f)) (onLine L m′ l′ (WRITE t f))
     unfolding onLine

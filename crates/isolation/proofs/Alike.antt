@@ -10,25 +10,29 @@ use native.Mathlib.Decide.{ℕ-discrete}
 use native.Mathlib.Omega.{arith}
 use borrow.Author.Tests.{eqb-true, eq-eqb, ne-eqb}
 use lib.Dec.{eqb}
-use lib.ListN.{length, getD, length-map}
+use lib.ListN.{length, length-map}
 use Rattle.tree.specs.Tree.{Update, nth}
 use Rattle.tree.proofs.Meets.{lt-or-le}
 use Rattle.model.specs.History.{Page, Ticket, Version, noTicket, noVersion, versionAt, taken, updateOf as toUpdate, updates, blobSize, bitIf, complete, due}
 use Rattle.model.specs.InTurn.{blobAt}
-use Rattle.model.specs.Model.{Model, lineAt, updateAt, updateOf, history}
+use Rattle.model.specs.Model.{Limits, Model, lineAt, updateAt, updateOf, history}
 use Rattle.model.specs.OnModel.{ticketIn}
+use Rattle.model.proofs.Nth.{nth-map}
+use Rattle.model.proofs.Updated.{update-ticket}
+use Rattle.model.proofs.Shown.{versions-length, version-shown}
+use Rattle.model.proofs.Facts.{update-got}
+use Rattle.model.proofs.Kept.Same.{number-upto}
 use Rattle.isolation.specs.Isolation.{versionOf, elsewhere, slotsOf, seenOn, seen, Match}
-use Rattle.isolation.proofs.Lists.{map-map, map-through, map-alike, inside, nth-map, nth-default}
-use Rattle.isolation.proofs.Updates.{assigned}
-use Rattle.isolation.proofs.Sound.{up, Sound}
-use Rattle.isolation.proofs.Keeps.{version-up}
-use Rattle.isolation.proofs.Frame.{match-sym, shows-ticket, elsewhere-line}
+use Rattle.isolation.proofs.Lists.{map-then, nth-each}
+use Rattle.isolation.proofs.Kept.{Kept, shows-ticket}
+use Rattle.isolation.proofs.Match.{match-sym}
+use Rattle.isolation.proofs.Frame.{elsewhere-line}
 
 abbrev Slots : Type 0
 Slots = List (List (Option Page))
 
 slots-nth : (ks : List Ticket) (t : ℕ) → nth [] (map slotsOf ks) t ≡ nth noTicket ks t .slots
-slots-nth ks t = nth-map slotsOf noTicket ks t
+slots-nth ks t = nth-each noTicket slotsOf ks t
 
 -- The page numbers taken, from the slots alone.
 takenBy : Slots → ℕ → ℕ
@@ -66,20 +70,20 @@ module _ {l l′ : ℕ} {m m′ : Model} (M : Match l l′ m m′) where
   updates-same = by m l ∙ ap₂ (λ ss vs. map (shape ss) vs) (M .slots) (M .versions) ∙ sym (by m′ l′)
     where
       by : (m : Model) (l : ℕ) → updates (history m l) ≡ map (shape (map slotsOf (m .tickets))) (seen m l)
-      by m l = map-alike noVersion _ _ (history m l .versions) (λ i h. shape-of (m .tickets) l (getD (history m l .versions) i noVersion)) ∙ sym (map-map (shape (map slotsOf (m .tickets))) (seenOn l) (history m l .versions))
+      by m l = sym (map-then (toUpdate (m .tickets)) (shape (map slotsOf (m .tickets))) (seenOn l) (λ x. sym (shape-of (m .tickets) l x)) (history m l .versions))
 
   pub length-same : length (history m l .versions) ≡ length (history m′ l′ .versions)
   length-same = sym (length-map (history m l .versions) (seenOn l)) ∙ ap length (M .versions) ∙ length-map (history m′ l′ .versions) (seenOn l′)
 
   pub shown-same : length (lineAt m l .shown) ≡ length (lineAt m′ l′ .shown)
-  shown-same = sym (length-map (lineAt m l .shown) (updateAt m)) ∙ length-same ∙ length-map (lineAt m′ l′ .shown) (updateAt m′)
+  shown-same = sym (versions-length m l) ∙ length-same ∙ versions-length m′ l′
 
   -- A version's field other than its line.
   pub field-same : {B : Type 0} (g : Version → B) → ((i : ℕ) (x : Version) → g (seenOn i x) ≡ g x) → (v : ℕ) → g (versionAt (history m l) v) ≡ g (versionAt (history m′ l′) v)
   field-same g e v =
-      sym (nth-map g noVersion (history m l .versions) v)
-      ∙ ap (λ xs. nth (g noVersion) xs v) (sym (map-through g (seenOn l) (e l) (history m l .versions)) ∙ ap (map g) (M .versions) ∙ map-through g (seenOn l′) (e l′) (history m′ l′ .versions))
-      ∙ nth-map g noVersion (history m′ l′ .versions) v
+      sym (nth-each noVersion g (history m l .versions) v)
+      ∙ ap (λ xs. nth (g noVersion) xs v) (sym (map-then g g (seenOn l) (e l) (history m l .versions)) ∙ ap (map g) (M .versions) ∙ map-then g g (seenOn l′) (e l′) (history m′ l′ .versions))
+      ∙ nth-each noVersion g (history m′ l′ .versions) v
 
   pub ticket-same : (v : ℕ) → versionAt (history m l) v .ticket ≡ versionAt (history m′ l′) v .ticket
   ticket-same = field-same (λ x. x .ticket) (λ i x. refl)
@@ -92,10 +96,9 @@ module _ {l l′ : ℕ} {m m′ : Model} (M : Match l l′ m m′) where
 
   pub seen-at : (v : ℕ) → 0 < v → v ≤ length (history m l .versions) → seenOn l (versionAt (history m l) v) ≡ seenOn l′ (versionAt (history m′ l′) v)
   seen-at v o h =
-      sym (nth-map (seenOn l) noVersion (history m l .versions) v)
-      ∙ ap (λ xs. nth (seenOn l noVersion) xs v) (M .versions)
-      ∙ nth-default (seenOn l noVersion) (seenOn l′ noVersion) (seen m′ l′) v o (rw (length-map (history m′ l′ .versions) (seenOn l′), ← length-same) h)
-      ∙ nth-map (seenOn l′) noVersion (history m′ l′ .versions) v
+      sym (nth-map noVersion (seenOn l) noVersion (history m l .versions) v o h)
+      ∙ ap (λ xs. nth noVersion xs v) (M .versions)
+      ∙ nth-map noVersion (seenOn l′) noVersion (history m′ l′ .versions) v o (omega (arith, length-same))
 
   pub blob-same : blobSize (history m l) ≡ blobSize (history m′ l′)
   blob-same = size-same (length (history m l .versions)) ∙ ap (λ n. versionAt (history m′ l′) n .size) length-same
@@ -123,26 +126,25 @@ bit-true : (b : Bool) → bitIf b ≡ 1 → b ≡ true
 bit-true true e = refl
 bit-true false e = absurd (omega arith)
 
-module _ {l l′ : ℕ} {m m′ : Model} (M : Match l l′ m m′) (S : Sound m) (S′ : Sound m′) (t : ℕ) where
+module _ {L : Limits} {l l′ : ℕ} {m m′ : Model} (M : Match l l′ m m′) (S : Kept L m) (S′ : Kept L m′) (t : ℕ) where
   pub own : 0 < updateOf m t → versionOf m t .line ≡ l → Own l l′ m m′ t
   own o e =
       let x = versionOf m t in
-      let a = assigned m t o in
-      let h = S .home (updateOf m t) o (a .upto) in
+      let a = update-ticket m t o in
+      let h = update-got L m S t o in
       let v = x .number in
-      let shows : up m l v ≡ updateOf m t = rw e at (h .shows) in
-      let is : versionAt (history m l) v ≡ x = version-up m l v ∙ ap (updateAt m) shows in
-      let r = inside (lineAt m l .shown) v (rw shows o) in
-      let s = seen-at M v (r .0) (rw (length-map (lineAt m l .shown) (updateAt m)) (r .1)) in
-      let ticket : versionAt (history m′ l′) v .ticket ≡ t = sym (ticket-same M v) ∙ ap (λ y. y .ticket) is ∙ a .ticket in
-      let p = shows-ticket m′ S′ l′ v t (rw (a .ticket) at (h .from)) ticket in
-      let is′ : versionOf m′ t ≡ versionAt (history m′ l′) v = ap (updateAt m′) (p .1) ∙ sym (version-up m′ l′ v) in
+      let is : versionAt (history m l) v ≡ x = version-shown m l v ∙ ap (updateAt m) (rw e at (h .shown)) in
+      let upto = rw e at (number-upto m (updateOf m t) o h) in
+      let s = seen-at M v (omega (arith, h .own)) (omega (arith, upto, versions-length m l)) in
+      let ticket : versionAt (history m′ l′) v .ticket ≡ t = sym (ticket-same M v) ∙ ap (λ y. y .ticket) is ∙ a in
+      let p = shows-ticket S′ l′ (M .begun′) v t (rw a at (h .from)) ticket in
+      let is′ : versionOf m′ t ≡ versionAt (history m′ l′) v = ap (updateAt m′) (p .is) ∙ sym (version-shown m′ l′ v) in
       let q : seenOn l x ≡ seenOn l′ (versionOf m′ t) = ap (seenOn l) (sym is) ∙ s ∙ ap (seenOn l′) (sym is′) in
       record {
-        assigned = rw (p .1) (p .0);
+        assigned = p .some;
         line = eqb-true (versionOf m′ t .line) l′ (bit-true _ (sym (ap (λ y. y .line) q) ∙ ap bitIf (eq-eqb (x .line) l e)));
         seen = q;
-        woven = ap (λ u. ticketIn m u .woven) (sym (a .ticket) ∙ sym (ap (λ y. y .ticket) is)) ∙ M .woven v ∙ ap (λ u. ticketIn m′ u .woven) ticket;
+        woven = ap (λ u. ticketIn m u .woven) (sym a ∙ sym (ap (λ y. y .ticket) is)) ∙ M .woven v ∙ ap (λ u. ticketIn m′ u .woven) ticket;
       }
 
 pub is-elsewhere : (l : ℕ) (m : Model) (t : ℕ) → 0 < updateOf m t → versionOf m t .line ≢ l → elsewhere l m t ≡ true
@@ -152,7 +154,7 @@ is-elsewhere l m t o n = rw (ne-eqb (updateOf m t) 0 (λ z. omega arith), ne-eqb
 pub here-line : (l : ℕ) (m : Model) (t : ℕ) → elsewhere l m t ≡ false → 0 < updateOf m t → versionOf m t .line ≡ l
 here-line l m t e o = elim (ℕ-discrete (versionOf m t .line) l) [ yes q ↦ q | no n ↦ absurd (false≢true (sym e ∙ is-elsewhere l m t o n)) ]
 
-module _ {l l′ : ℕ} {m m′ : Model} (M : Match l l′ m m′) (S : Sound m) (S′ : Sound m′) (t : ℕ) where
+module _ {L : Limits} {l l′ : ℕ} {m m′ : Model} (M : Match l l′ m m′) (S : Kept L m) (S′ : Kept L m′) (t : ℕ) where
   -- Assigned in neither state, on the line in both, or elsewhere in one.
   pub assigned-cases : (eqb (updateOf m t) 0 ≡ eqb (updateOf m′ t) 0) ⊎ ((elsewhere l m t ≡ true) ⊎ (elsewhere l′ m′ t ≡ true))
   assigned-cases = elim (lt-or-le 0 (updateOf m t)) [

@@ -1,13 +1,11 @@
--- Lists: by number, as one is added or changed.
+-- Lists, and what the calls keep of the model.
 pub mod Lists
--- Model: what the rows say, and what every call keeps true.
-pub mod Guards
-pub mod Updates
-pub mod Sound
-pub mod Keeps
--- Two runs: what other lines leave as it is, and one call in two matched states.
+pub mod Kept
+-- Two runs: matched states, what other lines leave as it is, one call in two matched states, and lines that begin.
+pub mod Match
 pub mod Frame
 pub mod Alike
 pub mod Twins
 pub mod Acts
+pub mod Begins
 pub mod Isolation

@@ -6,6 +6,7 @@ use mathlib.Core.Bool.{Bool, true, false, not, _||_, cond}
 use mathlib.Core.List.{List, [], _∷_, _++_}
 use mathlib.Core.Option.{none, some}
 use Prim.Native.Nat.{ℕ, zero, suc, pred, _+_, _-_, _%_, _^_, _≤_, _<_}
+use native.Mathlib.Decide.{ℕ-discrete}
 use native.Mathlib.Omega.{arith}
 use borrow.Author.Tests.{ne-eqb}
 use lib.Dec.{ltb, eqb}
@@ -16,11 +17,13 @@ use Rattle.model.specs.Calls.{Call, BEGIN, PUT, WEAVE, Answer, refused, ticketI
 use Rattle.model.specs.History.{Ticket, History, noTicket, noVersion, versionAt, updates}
 use Rattle.model.specs.Model.{Limits, Model, updateOf, history, numbered, numberIn}
 use Rattle.model.specs.OnModel.{ticketIn, leftOf, rightOf, firstPage, spanOf, Stepped, beginNumber, begun, putNumber, filledAt, weaveNumber, woven, nodeAnswer, published, onModel}
+use Rattle.model.proofs.Nth.{map-snoc, nth-set-same, nth-set-other}
+use Rattle.model.proofs.Passed.{put-passed, weave-passed}
 use Rattle.isolation.specs.Isolation.{versionOf, elsewhere, named, listed, excused, child, lineless, plain, slotsOf, seen, Match}
-use Rattle.isolation.proofs.Lists.{map-snoc, map-set, nth-cases, nth-blank}
-use Rattle.isolation.proofs.Guards.{put-passed, weave-passed}
-use Rattle.isolation.proofs.Sound.{Sound}
-use Rattle.isolation.proofs.Frame.{match-sym, elsewhere-line}
+use Rattle.isolation.proofs.Lists.{map-set, nth-blank}
+use Rattle.isolation.proofs.Kept.{Kept}
+use Rattle.isolation.proofs.Match.{match-sym}
+use Rattle.isolation.proofs.Frame.{elsewhere-line}
 use Rattle.isolation.proofs.Alike.{tickets-same, slots-same, taken-same, update-same, updates-same, ticket-same, Own, own, here-line, assigned-cases}
 
 or-left : (a b : Bool) → a ≡ true → a || b ≡ true
@@ -139,9 +142,9 @@ module _ (L : Limits) {l l′ : ℕ} {m m′ : Model} (M : Match l l′ m m′) 
   module _ (t : ℕ) (k k′ : Ticket) (from : 0 < t) (upto : t ≤ length (m .tickets)) (upto′ : t ≤ length (m′ .tickets)) (slots : k .slots ≡ k′ .slots)
       (as-woven : ticketIn m t .woven ≡ ticketIn m′ t .woven → k .woven ≡ k′ .woven) where
     changed : (u : ℕ) → ticketIn m u .woven ≡ ticketIn m′ u .woven → nth noTicket (set (m .tickets) (pred t) k) u .woven ≡ nth noTicket (set (m′ .tickets) (pred t) k′) u .woven
-    changed u e = elim (nth-cases noTicket (m .tickets) t k u from upto) [
-      | inl c ↦ elim (nth-cases noTicket (m′ .tickets) t k′ u from upto′) [ inl c′ ↦ rw (c .1, c′ .1) (as-woven (rw (c .0) at e)) | inr c′ ↦ absurd (c′ .0 (c .0)) ]
-      | inr c ↦ elim (nth-cases noTicket (m′ .tickets) t k′ u from upto′) [ inl c′ ↦ absurd (c .0 (c′ .0)) | inr c′ ↦ rw (c .1, c′ .1) e ]
+    changed u e = elim (ℕ-discrete u t) [
+      | yes q ↦ rw (q, nth-set-same noTicket (m .tickets) t k from upto, nth-set-same noTicket (m′ .tickets) t k′ from upto′) (as-woven (rw q at e))
+      | no n ↦ rw (nth-set-other noTicket (m .tickets) t k from u n, nth-set-other noTicket (m′ .tickets) t k′ from u n) e
     ]
 
     match-changed : Match l l′ (record { tickets = set (m .tickets) (pred t) k; updates = m .updates; lines = m .lines })
@@ -179,7 +182,7 @@ module _ (L : Limits) {l l′ : ℕ} {m m′ : Model} (M : Match l l′ m m′) 
       no-more : (ks : List Ticket) (t : ℕ) → nth noTicket (ks ++ new ∷ []) t .woven ≡ nth noTicket ks t .woven
       no-more ks t = nth-blank noTicket (λ k. k .woven) ks new t refl
 
-  module _ (S : Sound m) (S′ : Sound m′) where
+  module _ (S : Kept L m) (S′ : Kept L m′) where
     -- Row 8 of a ticket that is to be unassigned, and the rows after it.
     pub alike-open : {c c′ : Call} (t : ℕ) {r r′ : ℕ} → named c ≡ t → named c′ ≡ t → Alike l l′ m m′ c c′ r r′
         → Alike l l′ m m′ c c′ (cond (not (eqb (updateOf m t) 0)) 8 r) (cond (not (eqb (updateOf m′ t) 0)) 8 r′)
@@ -197,8 +200,8 @@ module _ (L : Limits) {l l′ : ℕ} {m m′ : Model} (M : Match l l′ m m′) 
     pub twin-put : (t i : ℕ) (bytes : List ℕ) → Step l l′ m m′ (PUT t i bytes) (PUT t i bytes) (onModel L m (PUT t i bytes)) (onModel L m′ (PUT t i bytes))
     unfolding onModel
     twin-put t i bytes = twin l l′ m m′ (putNumber L m t i bytes) (putNumber L m′ t i bytes) (filledAt L m t i bytes) (filledAt L m′ t i bytes) _ _ M given-put given-put (alike-put t i bytes) λ z z′.
-        let g = put-passed t (length (m .tickets)) (updateOf m t) _ i _ _ _ z in
-        let g′ = put-passed t (length (m′ .tickets)) (updateOf m′ t) _ i _ _ _ z′ in
+        let g = put-passed L m t i bytes z in
+        let g′ = put-passed L m′ t i bytes z′ in
         (match-changed t _ _ (g .from) (g .upto) (g′ .upto) (ap (λ s. set s i (some bytes)) (slots-same M t)) (λ e. e), refl)
 
     -- WEAVE of a ticket that is assigned on this line, or not at all.
@@ -221,7 +224,6 @@ module _ (L : Limits) {l l′ : ℕ} {m m′ : Model} (M : Match l l′ m m′) 
       pub twin-weave : Step l l′ m m′ (WEAVE t) (WEAVE t) (onModel L m (WEAVE t)) (onModel L m′ (WEAVE t))
       unfolding onModel
       twin-weave = twin l l′ m m′ (weaveNumber L m t) (weaveNumber L m′ t) (woven L m t) (woven L m′ t) _ _ M (given-node _ _ _ _ _ _) (given-node _ _ _ _ _ _) (alike weave-same) λ z z′.
-          let g = weave-passed t (length (m .tickets)) (updateOf m t) _ _ z in
-          let g′ = weave-passed t (length (m′ .tickets)) (updateOf m′ t) _ _ z′ in
-          let n : updateOf m t ≢ 0 = g .assigned in
-          (match-changed t _ _ (g .from) (g .upto) (g′ .upto) (slots-same M t) (λ e. ap suc e), node-same (omega arith))
+          let g = weave-passed L m t z in
+          let g′ = weave-passed L m′ t z′ in
+          (match-changed t _ _ (g .from) (g .upto) (g′ .upto) (slots-same M t) (λ e. ap suc e), node-same (g .assigned))

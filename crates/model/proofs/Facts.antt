@@ -1,7 +1,7 @@
 -- What follows of a sound model: of its tickets' updates, of its updates' pages and places, and of how many versions a line has.
 -- Assumes nothing.
 use mathlib.Core.Path.{_≡_, ap, sym, _∙_}
-use Prim.Native.Nat.{ℕ, suc, pred, _+_, _≤_, _<_}
+use Prim.Native.Nat.{ℕ, zero, suc, pred, _+_, _≤_, _<_}
 use native.Mathlib.Omega.{arith}
 use lib.ListN.{length}
 use Rattle.tree.specs.Tree.{countOf, update}
@@ -9,14 +9,14 @@ use Rattle.tree.specs.Walk.{used}
 use Rattle.model.specs.History.{pagesOf, taken, updateOf as toUpdate, updates}
 use Rattle.model.specs.Model.{Limits, Model, lineAt, updateAt, every, updateOf}
 use Rattle.model.specs.OnModel.{ticketIn}
-use Rattle.model.proofs.Sound.{Sound, UpdateSound}
+use Rattle.model.proofs.Sound.{SoundGiven, Sound, UpdateSound}
 use Rattle.model.proofs.Pigeons.{pigeons}
 use Rattle.model.proofs.Tickets.{taken-next, taken-mono}
 use Rattle.model.proofs.Updates.{used-next, used-mono}
 use Rattle.model.proofs.Updated.{update-past, update-le}
 use Rattle.model.proofs.Shown.{shownAt}
 
-module _ (L : Limits) (m : Model) (S : Sound L m) where
+module _ {A : Type 0} (L : Limits) (m : Model) (S : SoundGiven A L m) where
   -- There is no ticket 0, and none past the last: they have no update.
   pub ticket-zero : updateOf m 0 ≡ 0
   ticket-zero = update-past m 0 (λ k o h e. omega (arith, S .updated k o h .from))
@@ -53,7 +53,7 @@ module _ (L : Limits) (m : Model) (S : Sound L m) where
     pub shown-apart : (v w : ℕ) → 0 < v → v ≤ length (lineAt m l .shown) → 0 < w → w ≤ length (lineAt m l .shown) → shownAt m l v ≡ shownAt m l w → v ≡ w
     shown-apart v w o h p q e = sym (S .lines l there .number v o h) ∙ ap (λ (k : ℕ). updateAt m k .number) e ∙ S .lines l there .number w p q
 
-    -- A line has no more versions than there are updates, so no more than the capacity.
+    -- A line has no more versions than there are updates.
     pub versions-few : length (lineAt m l .shown) ≤ length (m .updates)
     versions-few =
         pigeons
@@ -66,5 +66,11 @@ module _ (L : Limits) (m : Model) (S : Sound L m) where
         omega (arith, shown-apart (suc i) (suc j) (omega arith) hi (omega arith) hj (omega arith)))
         (λ i h. omega (arith, S .lines l there .some (suc i) (omega arith) h, S .lines l there .most (suc i) (omega arith) h))
 
-    pub versions-most : length (lineAt m l .shown) ≤ 4096
-    versions-most = omega (arith, versions-few, S .fewer, S .records, S .allowed .updates)
+    -- No version has more than 4096 pages; version 0 has none.
+    pub shown-small : (v : ℕ) → v ≤ length (lineAt m l .shown) → updateAt m (shownAt m l v) .size ≤ 4096
+    shown-small zero h = omega arith
+    shown-small (suc v) h = shown-sound (suc v) (omega arith) h .upward
+
+-- So no more than the capacity.
+pub versions-most : (L : Limits) (m : Model) → Sound L m → (l : ℕ) → l < length (m .lines) → length (lineAt m l .shown) ≤ 4096
+versions-most L m S l there = omega (arith, versions-few L m S l there, S .fewer, S .records, S .allowed .updates)

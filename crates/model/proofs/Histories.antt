@@ -9,7 +9,7 @@ use lib.ListN.{length, getD, take}
 use Rattle.model.specs.History.{Ticket, Version, History}
 use Rattle.model.specs.Model.{Limits, Line, Model, lineAt, updateAt, history, every}
 use Rattle.model.specs.OnModel.{nextVersion, begun, filledAt, woven, assigned, published, branched}
-use Rattle.model.proofs.Sound.{Sound}
+use Rattle.model.proofs.Sound.{SoundGiven}
 use Rattle.model.proofs.Nth.{map-snoc, map-same, map-take}
 use Rattle.model.proofs.Kept.Publish.{published-this, published-other}
 use Rattle.model.proofs.Kept.Assign.{assigned-older, assigned-new, assigned-this, assigned-other}
@@ -67,7 +67,7 @@ module _ (L : Limits) (m : Model) where
   pub assigned-every : (l t f : ℕ) → every (assigned L m l t f) ≡ withVersion (every m) (nextVersion L m l t f)
   assigned-every l t f = refl
 
-  module _ (S : Sound L m) (l t f : ℕ) (there : l < length (m .lines)) where
+  module _ {A : Type 0} (S : SoundGiven A L m) (l t f : ℕ) (there : l < length (m .lines)) where
     -- The updates that a line shows are as they were.
     assigned-map : (k : ℕ) → k < length (m .lines) → map (updateAt (assigned L m l t f)) (lineAt m k .shown) ≡ map (updateAt m) (lineAt m k .shown)
     assigned-map k h =

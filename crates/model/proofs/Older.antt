@@ -8,7 +8,7 @@ use Rattle.tree.specs.Tree.{update, sizeAt}
 use Rattle.model.specs.History.{Version, versionAt, taken, updateOf as toUpdate, updates, leafNumber}
 use Rattle.model.specs.Model.{Limits, Model, lineAt, updateAt, history}
 use Rattle.model.specs.OnModel.{ticketIn}
-use Rattle.model.proofs.Sound.{Sound}
+use Rattle.model.proofs.Sound.{SoundGiven}
 use Rattle.model.proofs.Shown.{shownAt, version-shown, update-shown, size-shown}
 use Rattle.model.proofs.Grows.{Grown, update-grown}
 use Rattle.model.proofs.Stay.{SameUpTo}
@@ -18,7 +18,7 @@ pub leaf-shown : (m : Model) (l v a : ℕ)
     → leafNumber (history m l) v a ≡ taken (m .tickets) (pred (updateAt m (shownAt m l v) .ticket)) + (a - updateAt m (shownAt m l v) .f)
 leaf-shown m l v a = ap (λ (x : Version). taken (m .tickets) (pred (x .ticket)) + (a - x .f)) (version-shown m l v)
 
-module _ (L : Limits) (m m′ : Model) (S : Sound L m) (g : Grown m m′) (l : ℕ) (there : l < length (m .lines)) where
+module _ {A : Type 0} (L : Limits) (m m′ : Model) (S : SoundGiven A L m) (g : Grown m m′) (l : ℕ) (there : l < length (m .lines)) where
   pub older : (v : ℕ) → v ≤ length (lineAt m l .shown) → shownAt m′ l v ≡ shownAt m l v
   older v h = g .line l there .shown v h
 

@@ -10,7 +10,7 @@ use Rattle.tree.proofs.Meets.{lt-or-le}
 use Rattle.table.proofs.Table.{number-cases}
 use Rattle.model.specs.History.{versionAt, updateOf as toUpdate, updates}
 use Rattle.model.specs.Model.{Limits, Model, lineAt, updateAt, history, numbered, numberIn}
-use Rattle.model.proofs.Sound.{Sound}
+use Rattle.model.proofs.Sound.{SoundGiven}
 use Rattle.model.proofs.Shown.{shownAt, version-shown, update-shown}
 use Rattle.model.proofs.Facts.{shown-sound}
 
@@ -18,7 +18,7 @@ use Rattle.model.proofs.Facts.{shown-sound}
 abbrev pub ownerOf : Model → ℕ → ℕ → ℕ
 ownerOf m l v = updateAt m (shownAt m l v) .line
 
-module _ (L : Limits) (m : Model) (S : Sound L m) where
+module _ {A : Type 0} (L : Limits) (m : Model) (S : SoundGiven A L m) where
   -- ---- update k
 
   module _ (k : ℕ) (o : 0 < k) (h : k ≤ length (m .updates)) where

@@ -61,8 +61,9 @@ pub record LineSound (m : Model) (l : ℕ) : Type 0 where
   pub accepted : (v : ℕ) → v < length (lineAt m l .shown) → Accepted (updates (history m l)) v
   pub woven : (v : ℕ) → 0 < v → v ≤ lineAt m l .published → complete (history m l) v ≡ true
 
-pub record Sound (L : Limits) (m : Model) : Type 0 where
-  pub allowed : Allowed L
+-- The calls keep it whatever the limits are: A is what is known of them.
+pub record SoundGiven (A : Type 0) (L : Limits) (m : Model) : Type 0 where
+  pub allowed : A
   pub records : length (m .tickets) ≤ L .updates
   pub fewer : length (m .updates) ≤ length (m .tickets)
   pub pageRoom : taken (m .tickets) (length (m .tickets)) ≤ L .pages
@@ -72,3 +73,7 @@ pub record Sound (L : Limits) (m : Model) : Type 0 where
   pub begun : 0 < length (m .lines)
   pub few : length (m .lines) ≤ 16
   pub lines : (l : ℕ) → l < length (m .lines) → LineSound m l
+
+-- Sound, with limits that FORMAT accepts.
+abbrev pub Sound : Limits → Model → Type 0
+Sound L m = SoundGiven (Allowed L) L m

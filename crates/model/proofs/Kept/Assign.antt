@@ -14,8 +14,8 @@ use Rattle.table.proofs.Table.{number-cases}
 use Rattle.model.specs.History.{Version, noVersion, updateOf as toUpdate, updates, blobSize}
 use Rattle.model.specs.Model.{Limits, Line, Model, lineAt, updateAt, history, every, places, updateOf}
 use Rattle.model.specs.OnModel.{nextVersion, nextUpdate, assignNumber, assigned}
-use Rattle.model.proofs.Sound.{Sound, TicketSound, UpdateSound, LineSound}
-use Rattle.model.proofs.SoundHistory.{line-history, blob-small}
+use Rattle.model.proofs.Sound.{SoundGiven, TicketSound, UpdateSound, LineSound}
+use Rattle.model.proofs.Facts.{shown-small}
 use Rattle.model.proofs.Passed.{AssignPassed, assign-passed}
 use Rattle.model.proofs.Nth.{length-snoc, map-snoc, nth-append, nth-new}
 use Rattle.model.proofs.Updates.{length-updates}
@@ -120,7 +120,7 @@ module _ (L : Limits) (m : Model) (l t f : ℕ) where
     pub assigned-next-update : update (updates (history (assigned L m l t f) l)) (suc (length (lineAt m l .shown))) ≡ nextUpdate L m l t f
     assigned-next-update = update-shown (assigned L m l t f) l (suc (length (lineAt m l .shown))) ∙ ap (toUpdate (m .tickets)) assigned-next-version
 
-  module _ (S : Sound L m) where
+  module _ {A : Type 0} (S : SoundGiven A L m) where
     module _ (p : AssignPassed L m l t f) where
       x : LineSound m l
       x = S .lines l (p .line)
@@ -146,7 +146,7 @@ module _ (L : Limits) (m : Model) (l t f : ℕ) where
             puts = rw assigned-new (p .puts);
             woven = rw (assigned-new, k .unwoven (p .unassigned)) (omega arith);
             inside = rw assigned-new (omega (arith, p .inside, k .some-pages));
-            upward = rw assigned-new (omega (arith, p .inside, blob-small L (history m l) (line-history L m S l (p .line))));
+            upward = rw assigned-new (omega (arith, p .inside, blob-shown m l, shown-small L m S l (p .line) (length (lineAt m l .shown)) (omega arith)));
             line = rw (assigned-new, assigned-lines) (p .line);
             own = rw (assigned-new, assigned-this (p .line)) (omega (arith, x .started, x .published));
             shown = rw assigned-new (assigned-next (p .line));
@@ -204,7 +204,7 @@ module _ (L : Limits) (m : Model) (l t f : ℕ) where
         | no n ↦ line-same L m (assigned L m l t f) S (assigned-grown (p .line)) k h (assigned-other (p .line) k n)
       ]
 
-      pub assigned-passed : Sound L (assigned L m l t f)
+      pub assigned-passed : SoundGiven A L (assigned L m l t f)
       assigned-passed = record {
         allowed = S .allowed;
         records = S .records;
@@ -218,5 +218,5 @@ module _ (L : Limits) (m : Model) (l t f : ℕ) where
         lines = λ k h. assigned-lines-sound k (rw assigned-lines at h);
       }
 
-    pub assign-sound : assignNumber L m l t f ≡ 0 → Sound L (assigned L m l t f)
+    pub assign-sound : assignNumber L m l t f ≡ 0 → SoundGiven A L (assigned L m l t f)
     assign-sound z = assigned-passed (assign-passed L m l t f z)

@@ -11,7 +11,7 @@ use Rattle.tree.proofs.Meets.{lt-or-le}
 use Rattle.model.specs.History.{Ticket, noTicket, updates}
 use Rattle.model.specs.Model.{Limits, Model, lineAt, updateAt, every}
 use Rattle.model.specs.OnModel.{ticketIn, beginNumber, begun}
-use Rattle.model.proofs.Sound.{Sound, TicketSound}
+use Rattle.model.proofs.Sound.{SoundGiven, TicketSound}
 use Rattle.model.proofs.Passed.{BeginPassed, begin-passed}
 use Rattle.model.proofs.Slots.{none-there}
 use Rattle.model.proofs.Nth.{length-snoc, nth-append, nth-new}
@@ -30,7 +30,7 @@ module _ (L : Limits) (m : Model) (n : ℕ) where
   pub begun-new : ticketIn (begun L m n) (suc (length (m .tickets))) ≡ newTicket
   begun-new = nth-new noTicket (m .tickets) newTicket
 
-  module _ (S : Sound L m) where
+  module _ {A : Type 0} (S : SoundGiven A L m) where
     pub begun-updates : updates (every (begun L m n)) ≡ updates (every m)
     begun-updates = updates-append (m .tickets) newTicket (m .updates) (λ v l. S .updated (suc v) (omega arith) (omega arith) .upto)
 
@@ -66,7 +66,7 @@ module _ (L : Limits) (m : Model) (n : ℕ) where
         | inr l ↦ ticket-same L m (begun L m n) t (begun-ticket t l) (λ z. z) (S .tickets t o l)
       ]
 
-      pub begun-passed : Sound L (begun L m n)
+      pub begun-passed : SoundGiven A L (begun L m n)
       begun-passed = record {
         allowed = S .allowed;
         records = rw length-snoc (p .record-left);
@@ -80,5 +80,5 @@ module _ (L : Limits) (m : Model) (n : ℕ) where
         lines = λ l h. line-same L m (begun L m n) S begun-grown l h refl;
       }
 
-    pub begun-sound : beginNumber L m n ≡ 0 → Sound L (begun L m n)
+    pub begun-sound : beginNumber L m n ≡ 0 → SoundGiven A L (begun L m n)
     begun-sound z = begun-passed (begin-passed L m n z)

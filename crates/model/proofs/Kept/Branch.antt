@@ -10,7 +10,7 @@ use Rattle.tree.proofs.Meets.{lt-or-le}
 use Rattle.model.specs.History.{updateOf as toUpdate, updates}
 use Rattle.model.specs.Model.{Limits, Line, Model, lineAt, updateAt, history}
 use Rattle.model.specs.OnModel.{branchNumber, branched}
-use Rattle.model.proofs.Sound.{Sound, LineSound}
+use Rattle.model.proofs.Sound.{SoundGiven, LineSound}
 use Rattle.model.proofs.Passed.{BranchPassed, branch-passed}
 use Rattle.model.proofs.Nth.{length-snoc, nth-take}
 use Rattle.model.proofs.Updates.{accepted-same}
@@ -61,7 +61,7 @@ module _ (L : Limits) (m : Model) (l v : ℕ) where
       ∙ ap (λ (k : ℕ). updateAt m k .size) (branched-shown w h)
       ∙ sym (size-shown m l w)
 
-  module _ (S : Sound L m) where
+  module _ {A : Type 0} (S : SoundGiven A L m) where
     module _ (p : BranchPassed m l v) where
       x : LineSound m l
       x = S .lines l (p .line)
@@ -109,7 +109,7 @@ module _ (L : Limits) (m : Model) (l v : ℕ) where
         | inr q ↦ let e : k ≡ length (m .lines) = omega (arith, branched-length) in rw e new-line
       ]
 
-      pub branched-passed : Sound L (branched L m l v)
+      pub branched-passed : SoundGiven A L (branched L m l v)
       branched-passed = record {
         allowed = S .allowed;
         records = S .records;
@@ -123,5 +123,5 @@ module _ (L : Limits) (m : Model) (l v : ℕ) where
         lines = branched-lines;
       }
 
-    pub branch-sound : branchNumber L m l v ≡ 0 → Sound L (branched L m l v)
+    pub branch-sound : branchNumber L m l v ≡ 0 → SoundGiven A L (branched L m l v)
     branch-sound z = branched-passed (branch-passed L m l v z)

@@ -10,7 +10,7 @@ use Rattle.tree.specs.Tree.{countOf}
 use Rattle.model.specs.History.{Ticket, noTicket, pagesOf, taken, updateOf as toUpdate, updates}
 use Rattle.model.specs.Model.{Limits, Model, lineAt, updateAt, every}
 use Rattle.model.specs.OnModel.{ticketIn}
-use Rattle.model.proofs.Sound.{Sound, TicketSound, UpdateSound}
+use Rattle.model.proofs.Sound.{SoundGiven, TicketSound, UpdateSound}
 use Rattle.model.proofs.Nth.{nth-set-same, nth-set-other}
 use Rattle.model.proofs.Tickets.{taken-set}
 use Rattle.model.proofs.Updates.{updates-set}
@@ -55,7 +55,7 @@ module _ (m : Model) (t : ℕ) (x : Ticket) (o : 0 < t) (same : pagesOf x ≡ pa
     }
 
     -- It stays sound where the ticket does, and its update has no more nodes woven than it has.
-    module _ (L : Limits) (S : Sound L m) (this : TicketSound L (changed m t x) t)
+    module _ {A : Type 0} (L : Limits) (S : SoundGiven A L m) (this : TicketSound L (changed m t x) t)
         (its : (k : ℕ) → 0 < k → k ≤ length (m .updates) → updateAt m k .ticket ≡ t
         → ticketIn (changed m t x) t .woven ≤ countOf (toUpdate (m .tickets) (updateAt m k))) where
       changed-tickets : (u : ℕ) → 0 < u → u ≤ length (changed m t x .tickets) → TicketSound L (changed m t x) u
@@ -70,7 +70,7 @@ module _ (m : Model) (t : ℕ) (x : Ticket) (o : 0 < t) (same : pagesOf x ≡ pa
         | no n ↦ rw (changed-other (updateAt m k .ticket) n) (S .updated k p h .woven)
       ])
 
-      pub changed-sound : Sound L (changed m t x)
+      pub changed-sound : SoundGiven A L (changed m t x)
       changed-sound = record {
         allowed = S .allowed;
         records = rw changed-length (S .records);

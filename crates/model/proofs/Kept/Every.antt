@@ -12,7 +12,7 @@ use Rattle.model.specs.History.{taken, blobSize, due}
 use Rattle.model.specs.Model.{Limits, Model, noModel, history}
 use Rattle.model.specs.OnModel.{either, beginNumber, putNumber, weaveNumber, assignNumber, lineNumber, branchNumber, begun, filledAt, woven, assigned, published, branched, onLine, onModel}
 use Rattle.model.specs.Run.{run, modelAfter}
-use Rattle.model.proofs.Sound.{Allowed, Sound, LineSound}
+use Rattle.model.proofs.Sound.{SoundGiven, LineSound}
 use Rattle.model.proofs.Passed.{line-passed}
 use Rattle.model.proofs.Runs.{run-keeps}
 use Rattle.model.proofs.Kept.Begin.{begun-sound}
@@ -42,7 +42,7 @@ empty-line zero h = record {
 }
 empty-line (suc l) h = absurd (omega arith)
 
-pub empty-sound : (L : Limits) → Allowed L → Sound L noModel
+pub empty-sound : {A : Type 0} (L : Limits) → A → SoundGiven A L noModel
 unfolding taken used
 empty-sound L a = record {
   allowed = a;
@@ -63,42 +63,42 @@ pub either-keeps : {A : Type 0} (P : A → Type 0) (b : Bool) (x y : A) → P y 
 either-keeps P true x y p q = q refl
 either-keeps P false x y p q = p
 
-module _ (L : Limits) (m : Model) (S : Sound L m) where
-  assign-step : (l t f : ℕ) → Sound L (onLine L m l (WRITE t f) .0)
+module _ {A : Type 0} (L : Limits) (m : Model) (S : SoundGiven A L m) where
+  assign-step : (l t f : ℕ) → SoundGiven A L (onLine L m l (WRITE t f) .0)
   unfolding onLine
-  assign-step l t f = unless-keeps (Sound L) (assignNumber L m l t f) m (assigned L m l t f) S (assign-sound L m l t f S)
+  assign-step l t f = unless-keeps (SoundGiven A L) (assignNumber L m l t f) m (assigned L m l t f) S (assign-sound L m l t f S)
 
-  line-sound : (l : ℕ) (a : Act) → Sound L (onLine L m l a .0)
+  line-sound : (l : ℕ) (a : Act) → SoundGiven A L (onLine L m l a .0)
   unfolding onLine
   line-sound l (WRITE t f) = assign-step l t f
   line-sound l (APPEND t) = assign-step l t (blobSize (history m l))
   line-sound l PUBLISH =
       unless-keeps
-      (Sound L)
+      (SoundGiven A L)
       (lineNumber L m l)
       m
       (either (due (history m l)) (published L m l) m)
       S
-      (λ z. either-keeps (Sound L) (due (history m l)) (published L m l) m S (publish-sound L m l (line-passed L m l z) S))
-  line-sound l (BRANCH v) = unless-keeps (Sound L) (branchNumber L m l v) m (branched L m l v) S (branch-sound L m l v S)
+      (λ z. either-keeps (SoundGiven A L) (due (history m l)) (published L m l) m S (publish-sound L m l (line-passed L m l z) S))
+  line-sound l (BRANCH v) = unless-keeps (SoundGiven A L) (branchNumber L m l v) m (branched L m l v) S (branch-sound L m l v S)
   line-sound l (READ v offset len buffer) = S
   line-sound l (SIZE v) = S
   line-sound l RECENT = S
   line-sound l (STAMP v p) = S
   line-sound l (VIEW v p) = S
 
-pub step-sound : (L : Limits) (m : Model) (c : Call) → Sound L m → Sound L (onModel L m c .0)
+pub step-sound : {A : Type 0} (L : Limits) (m : Model) (c : Call) → SoundGiven A L m → SoundGiven A L (onModel L m c .0)
 unfolding onModel
-step-sound L m (BEGIN n) S = unless-keeps (Sound L) (beginNumber L m n) m (begun L m n) S (begun-sound L m n S)
-step-sound L m (PUT t i bytes) S = unless-keeps (Sound L) (putNumber L m t i bytes) m (filledAt L m t i bytes) S (put-sound L m t i bytes S)
-step-sound L m (WEAVE t) S = unless-keeps (Sound L) (weaveNumber L m t) m (woven L m t) S (weave-sound L m t S)
+step-sound {A = A} L m (BEGIN n) S = unless-keeps (SoundGiven A L) (beginNumber L m n) m (begun L m n) S (begun-sound L m n S)
+step-sound {A = A} L m (PUT t i bytes) S = unless-keeps (SoundGiven A L) (putNumber L m t i bytes) m (filledAt L m t i bytes) S (put-sound L m t i bytes S)
+step-sound {A = A} L m (WEAVE t) S = unless-keeps (SoundGiven A L) (weaveNumber L m t) m (woven L m t) S (weave-sound L m t S)
 step-sound L m (on l a) S = line-sound L m S l a
 
 -- ---- a list of calls
 
-pub run-sound : (L : Limits) (m : Model) (cs : List Call) → Sound L m → Sound L (run (onModel L) m cs)
-run-sound L m cs S = run-keeps (onModel L) (Sound L) (step-sound L) m cs S
+pub run-sound : {A : Type 0} (L : Limits) (m : Model) (cs : List Call) → SoundGiven A L m → SoundGiven A L (run (onModel L) m cs)
+run-sound {A = A} L m cs S = run-keeps (onModel L) (SoundGiven A L) (step-sound L) m cs S
 
--- The model after any list of calls from an accepted FORMAT.
-pub sound-after : (L : Limits) → Allowed L → (cs : List Call) → Sound L (modelAfter L cs)
+-- The model after any list of calls from FORMAT, with what is known of its limits.
+pub sound-after : {A : Type 0} (L : Limits) → A → (cs : List Call) → SoundGiven A L (modelAfter L cs)
 sound-after L a cs = run-sound L noModel cs (empty-sound L a)

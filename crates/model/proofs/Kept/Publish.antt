@@ -9,7 +9,7 @@ use lib.ListN.{length, length-set}
 use Rattle.model.specs.History.{due}
 use Rattle.model.specs.Model.{Limits, Line, Model, lineAt, history}
 use Rattle.model.specs.OnModel.{published}
-use Rattle.model.proofs.Sound.{Sound, LineSound}
+use Rattle.model.proofs.Sound.{SoundGiven, LineSound}
 use Rattle.model.proofs.Passed.{Due, due-passed}
 use Rattle.model.proofs.Shown.{shownAt, Whole, versions-length, complete-whole}
 use Rattle.model.proofs.Grows.{LineGrown, Grown}
@@ -45,7 +45,7 @@ module _ (L : Limits) (m : Model) (l : ℕ) (there : l < length (m .lines)) wher
     line = λ k h. line-set (m .lines) l publishedLine there published-line k;
   }
 
-  module _ (S : Sound L m) where
+  module _ {A : Type 0} (S : SoundGiven A L m) where
     module _ (d : Due (history m l)) where
       this-shown : length (lineAt (published L m l) l .shown) ≡ length (lineAt m l .shown)
       this-shown = rw published-this
@@ -68,7 +68,7 @@ module _ (L : Limits) (m : Model) (l : ℕ) (there : l < length (m .lines)) wher
         | no n ↦ line-same L m (published L m l) S published-grown k h (published-other k n)
       ]
 
-      pub published-passed : Sound L (published L m l)
+      pub published-passed : SoundGiven A L (published L m l)
       published-passed = record {
         allowed = S .allowed;
         records = S .records;
@@ -82,5 +82,5 @@ module _ (L : Limits) (m : Model) (l : ℕ) (there : l < length (m .lines)) wher
         lines = λ k h. published-lines-sound k (rw published-lines at h);
       }
 
-    pub publish-sound : due (history m l) ≡ true → Sound L (published L m l)
+    pub publish-sound : due (history m l) ≡ true → SoundGiven A L (published L m l)
     publish-sound e = published-passed (due-passed (history m l) e)

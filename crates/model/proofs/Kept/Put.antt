@@ -12,7 +12,7 @@ use lib.ListN.{length, getD, set, length-set}
 use Rattle.model.specs.History.{Page, Ticket, pagesOf}
 use Rattle.model.specs.Model.{Limits, Model, updateAt}
 use Rattle.model.specs.OnModel.{ticketIn, putNumber, filledAt}
-use Rattle.model.proofs.Sound.{Sound, TicketSound}
+use Rattle.model.proofs.Sound.{SoundGiven, TicketSound}
 use Rattle.model.proofs.Passed.{PutPassed, put-passed}
 use Rattle.model.proofs.Grows.{Grown}
 use Rattle.model.proofs.Kept.Change.{changed-this, changed-other, changed-grown, changed-sound}
@@ -24,7 +24,7 @@ module _ (L : Limits) (m : Model) (t i : ℕ) (bytes : List ℕ) where
   pub filled-pages : pagesOf filledTicket ≡ pagesOf (ticketIn m t)
   filled-pages = length-set (ticketIn m t .slots) i (some bytes)
 
-  module _ (S : Sound L m) (p : PutPassed L m t i bytes) where
+  module _ {A : Type 0} (S : SoundGiven A L m) (p : PutPassed L m t i bytes) where
     -- The ticket is of no update.
     pub put-apart : (k : ℕ) → 0 < k → k ≤ length (m .updates) → updateAt m k .ticket ≢ t
     put-apart k o h e = let b = rw e at (S .updated k o h .back) in omega (arith, p .unassigned)
@@ -57,7 +57,7 @@ module _ (L : Limits) (m : Model) (t i : ℕ) (bytes : List ℕ) where
           unwoven = rw filled-this (s .unwoven);
         }
 
-    pub filled-passed : Sound L (filledAt L m t i bytes)
+    pub filled-passed : SoundGiven A L (filledAt L m t i bytes)
     filled-passed =
         changed-sound
         m
@@ -72,5 +72,5 @@ module _ (L : Limits) (m : Model) (t i : ℕ) (bytes : List ℕ) where
         filled-ticket
         (λ k o h e. absurd (put-apart k o h e))
 
-  pub put-sound : Sound L m → putNumber L m t i bytes ≡ 0 → Sound L (filledAt L m t i bytes)
+  pub put-sound : {A : Type 0} → SoundGiven A L m → putNumber L m t i bytes ≡ 0 → SoundGiven A L (filledAt L m t i bytes)
   put-sound S z = filled-passed S (put-passed L m t i bytes z)

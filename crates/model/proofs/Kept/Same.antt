@@ -11,7 +11,7 @@ use Rattle.tree.proofs.Meets.{lt-or-le}
 use Rattle.model.specs.History.{Version, updateOf as toUpdate, updates}
 use Rattle.model.specs.Model.{Limits, Model, Line, lineAt, updateAt, history, updateOf}
 use Rattle.model.specs.OnModel.{ticketIn}
-use Rattle.model.proofs.Sound.{Sound, TicketSound, UpdateSound, LineSound}
+use Rattle.model.proofs.Sound.{SoundGiven, TicketSound, UpdateSound, LineSound}
 use Rattle.model.proofs.Nth.{nth-past}
 use Rattle.model.proofs.Updates.{accepted-same}
 use Rattle.model.proofs.Shown.{shownAt, Whole, complete-whole, whole-complete}
@@ -42,7 +42,7 @@ pub record NewVersion (m : Model) (l v : ℕ) : Type 0 where
   pub own : updateAt m (shownAt m l (suc v)) .line ≡ l
   pub accepted : Accepted (updates (history m l)) v
 
-module _ (L : Limits) (m m′ : Model) (S : Sound L m) (g : Grown m m′) where
+module _ {A : Type 0} (L : Limits) (m m′ : Model) (S : SoundGiven A L m) (g : Grown m m′) where
   pub update-kept : (k : ℕ) → 0 < k → k ≤ length (m .updates)
       → ticketIn m′ (updateAt m k .ticket) .woven ≤ countOf (toUpdate (m .tickets) (updateAt m k)) → UpdateSound m′ k
   update-kept k o h w =

@@ -9,7 +9,7 @@ use Rattle.tree.specs.Tree.{countOf}
 use Rattle.model.specs.History.{Ticket, noTicket, updateOf as toUpdate, updates}
 use Rattle.model.specs.Model.{Limits, Model, updateAt, every, updateOf}
 use Rattle.model.specs.OnModel.{ticketIn, weaveNumber, woven}
-use Rattle.model.proofs.Sound.{Sound, TicketSound}
+use Rattle.model.proofs.Sound.{SoundGiven, TicketSound}
 use Rattle.model.proofs.Passed.{WeavePassed, weave-passed}
 use Rattle.model.proofs.Nth.{nth-set-field}
 use Rattle.model.proofs.Shown.{Whole}
@@ -20,7 +20,7 @@ module _ (L : Limits) (m : Model) (t : ℕ) where
   abbrev pub wovenTicket : Ticket
   wovenTicket = record { slots = ticketIn m t .slots; woven = suc (ticketIn m t .woven) }
 
-  module _ (S : Sound L m) (p : WeavePassed m t) where
+  module _ {A : Type 0} (S : SoundGiven A L m) (p : WeavePassed m t) where
     pub woven-this : ticketIn (woven L m t) t ≡ wovenTicket
     woven-this = changed-this m t wovenTicket (p .from) refl (p .upto)
 
@@ -52,9 +52,9 @@ module _ (L : Limits) (m : Model) (t : ℕ) where
           unwoven = λ z. absurd (omega (arith, p .assigned));
         }
 
-    pub woven-passed : Sound L (woven L m t)
+    pub woven-passed : SoundGiven A L (woven L m t)
     woven-passed =
         changed-sound m t wovenTicket (p .from) refl woven-slots weave-open L S woven-ticket (λ k o h e. rw woven-this (weave-left k o h e))
 
-  pub weave-sound : Sound L m → weaveNumber L m t ≡ 0 → Sound L (woven L m t)
+  pub weave-sound : {A : Type 0} → SoundGiven A L m → weaveNumber L m t ≡ 0 → SoundGiven A L (woven L m t)
   weave-sound S z = woven-passed S (weave-passed L m t z)

@@ -1,0 +1,42 @@
+-- What the calls keep of the model, whatever the limits are, and what it says of the tickets that a line shows.
+-- Assumes nothing.
+use mathlib.Core.Path.{_≡_, sym, ap, _∙_}
+use mathlib.Core.Logic.{_⊎_, inl, inr}
+use Prim.Native.Nat.{ℕ, zero, suc, _≤_, _<_}
+use native.Mathlib.Omega.{arith}
+use lib.ListN.{length}
+use Rattle.tree.proofs.Meets.{lt-or-le}
+use Rattle.model.specs.History.{Version, noVersion, versionAt}
+use Rattle.model.specs.Model.{Limits, Model, lineAt, updateAt, updateOf, history}
+use Rattle.model.proofs.Sound.{SoundGiven}
+use Rattle.model.proofs.Nth.{nth-past}
+use Rattle.model.proofs.Shown.{shownAt, Whole, versions-length, version-shown, complete-whole}
+use Rattle.model.proofs.Facts.{shown-sound}
+
+abbrev pub Kept : Limits → Model → Type 0
+Kept L m = SoundGiven Unit L m
+
+-- Line l shows ticket t's update, as version v.
+pub record Shows (m : Model) (l v t : ℕ) : Type 0 where
+  pub from : 0 < v
+  pub upto : v ≤ length (lineAt m l .shown)
+  pub is : updateOf m t ≡ shownAt m l v
+  pub some : 0 < updateOf m t
+
+module _ {L : Limits} {m : Model} (S : Kept L m) (l : ℕ) (there : l < length (m .lines)) where
+  -- The update of a ticket that the line shows.
+  pub shows-ticket : (v t : ℕ) → 0 < t → versionAt (history m l) v .ticket ≡ t → Shows m l v t
+  shows-ticket zero t o e = absurd (omega arith)
+  shows-ticket (suc v) t o e = elim (lt-or-le v (length (lineAt m l .shown))) [
+    | inl h ↦
+        let q : updateOf m t ≡ shownAt m l (suc v) =
+        ap (updateOf m) (sym e ∙ ap (λ (x : Version). x .ticket) (version-shown m l (suc v))) ∙ shown-sound L m S l there (suc v) (omega arith) h .back in
+        record { from = omega arith; upto = h; is = q; some = rw q (S .lines l there .some (suc v) (omega arith) h) }
+    | inr h ↦ absurd (omega (arith, e, ap (λ (x : Version). x .ticket) (nth-past noVersion (history m l .versions) (suc v) (omega (arith, versions-length m l)))))
+  ]
+
+  -- A version is the line's own, or it is whole.
+  pub own-or-whole : (v : ℕ) → 0 < v → v ≤ length (lineAt m l .shown) → (updateAt m (shownAt m l v) .line ≡ l) ⊎ Whole m (shownAt m l v)
+  own-or-whole v o h =
+      let x = S .lines l there in
+      elim (lt-or-le (lineAt m l .start) v) [ inl s ↦ inl (x .own v s h) | inr s ↦ inr (complete-whole m l v (x .woven v o (omega (arith, x .started)))) ]
