@@ -1,22 +1,22 @@
 -- The line on which a version got its number: the code's steps, and the laws of sound lines. Assumes nothing.
 use mathlib.Core.Path.{_≡_, refl, sym, _∙_, ap}
 use mathlib.Core.Logic.{inl, inr}
+use mathlib.Core.List.{List}
 use Prim.Native.Nat.{ℕ, zero, suc, _-_, _<_, _≤_, min}
 use native.Mathlib.Nat.{min-eq-left}
 use native.Mathlib.Decide.{ℕ-discrete}
 use native.Mathlib.Omega.{arith}
 use borrow.Author.Tests.{lt-ltb, le-ltb}
 use lib.Dec.{ltb}
-use lib.ListN.{length, getD-replicate}
+use lib.ListN.{length, set, getD-replicate}
 use Rattle.tree.proofs.Meets.{lt-or-le}
-use Rattle.lines.specs.Lines.{pick, noBranch, noLines, branchAt, withBranch, ownerFrom, ownerOf, Rooted}
+use Rattle.lines.specs.Lines.{pick, noBranch, noLines, branchAt, ownerFrom, ownerOf, Rooted}
 use Rattle.lines.specs.declared.Branch.{Branch}
-use Rattle.lines.specs.declared.Lines.{Lines}
 use Rattle.lines.proofs.Branches.{branch-same, branch-other, branch-field}
 
 -- ---- one step
 
-module _ (ls : Lines) (l v : ℕ) where
+module _ (ls : List Branch) (l v : ℕ) where
   -- With no step left the search ends where it stands.
   pub from-none : (left : ℕ) → left ≤ 0 → ownerFrom left ls l v ≡ l
   unfolding ownerFrom
@@ -38,7 +38,7 @@ module _ (ls : Lines) (l v : ℕ) where
 
 -- ---- the code's steps
 
-module _ (ls : Lines) (l v : ℕ) (b : Branch) (read : b ≡ branchAt ls l) where
+module _ (ls : List Branch) (l v : ℕ) (b : Branch) (read : b ≡ branchAt ls l) where
   -- The loop ends at a line that has the version as its own.
   pub turn-ends : (left : ℕ) → 0 < left → b .start .0 < v → ownerFrom left ls l v ≡ l
   turn-ends zero some h = absurd (omega arith)
@@ -53,7 +53,7 @@ module _ (ls : Lines) (l v : ℕ) (b : Branch) (read : b ≡ branchAt ls l) wher
 
 -- ---- sound lines
 
-module _ (ls : Lines) (sound : Rooted ls) (v : ℕ) (some : 0 < v) where
+module _ (ls : List Branch) (sound : Rooted ls) (v : ℕ) (some : 0 < v) where
   -- A line that shares a version comes from an earlier line, which the steps of the code reach.
   source-below : (l : ℕ) → l < 16 → v ≤ branchAt ls l .start .0 → branchAt ls l .source .0 < l
   source-below zero h k = absurd (omega (arith, sound .first))
@@ -122,7 +122,7 @@ module _ (ls : Lines) (sound : Rooted ls) (v : ℕ) (some : 0 < v) where
   owner-owner l h = owner-own (ownerOf ls l v) (owner-start l h)
 
   -- A search reads only the sources and starts of the lines up to where it begins.
-  from-agrees : (ls′ : Lines) (n l : ℕ) → l < 16
+  from-agrees : (ls′ : List Branch) (n l : ℕ) → l < 16
       → ((j : ℕ) → j ≤ l → branchAt ls j .source .0 ≡ branchAt ls′ j .source .0)
       → ((j : ℕ) → j ≤ l → branchAt ls j .start .0 ≡ branchAt ls′ j .start .0)
       → ownerFrom n ls l v ≡ ownerFrom n ls′ l v
@@ -139,7 +139,7 @@ module _ (ls : Lines) (sound : Rooted ls) (v : ℕ) (some : 0 < v) where
   ]
 
   -- Only the sources and starts up to the line decide, so that the later fields and the later lines may change.
-  pub owner-agrees : (ls′ : Lines) (l : ℕ) → l < 16
+  pub owner-agrees : (ls′ : List Branch) (l : ℕ) → l < 16
       → ((j : ℕ) → j ≤ l → branchAt ls j .source .0 ≡ branchAt ls′ j .source .0)
       → ((j : ℕ) → j ≤ l → branchAt ls j .start .0 ≡ branchAt ls′ j .start .0)
       → ownerOf ls l v ≡ ownerOf ls′ l v
@@ -147,16 +147,16 @@ module _ (ls : Lines) (sound : Rooted ls) (v : ℕ) (some : 0 < v) where
 
   module _ (l : ℕ) (line : l < 16) (m : ℕ) (b : Branch) where
     -- A write of a later line changes nothing.
-    pub owner-later : l < m → ownerOf ls l v ≡ ownerOf (withBranch ls m b) l v
+    pub owner-later : l < m → ownerOf ls l v ≡ ownerOf (set ls m b) l v
     owner-later h =
-        owner-agrees (withBranch ls m b) l line
+        owner-agrees (set ls m b) l line
         (λ j k. ap (λ (x : Branch). x .source .0) (sym (branch-other ls m b j (omega arith))))
         (λ j k. ap (λ (x : Branch). x .start .0) (sym (branch-other ls m b j (omega arith))))
 
     -- Nor does a write that keeps its line's source and start.
-    pub owner-kept : b .source .0 ≡ branchAt ls m .source .0 → b .start .0 ≡ branchAt ls m .start .0 → ownerOf ls l v ≡ ownerOf (withBranch ls m b) l v
+    pub owner-kept : b .source .0 ≡ branchAt ls m .source .0 → b .start .0 ≡ branchAt ls m .start .0 → ownerOf ls l v ≡ ownerOf (set ls m b) l v
     owner-kept p q =
-        owner-agrees (withBranch ls m b) l line
+        owner-agrees (set ls m b) l line
         (λ j k. sym (branch-field ls m b (λ x. x .source .0) p j))
         (λ j k. sym (branch-field ls m b (λ x. x .start .0) q j))
 
@@ -166,16 +166,16 @@ module _ (ls : Lines) (sound : Rooted ls) (v : ℕ) (some : 0 < v) where
 pub rooted-first : Rooted noLines
 rooted-first = record { first = refl; earlier = λ l some h. rw (getD-replicate 16 l noBranch noBranch h) some }
 
-module _ (ls : Lines) (sound : Rooted ls) (m : ℕ) (b : Branch) where
+module _ (ls : List Branch) (sound : Rooted ls) (m : ℕ) (b : Branch) where
   -- Sound lines stay so where a write keeps its line's source and start.
-  pub rooted-kept : b .source .0 ≡ branchAt ls m .source .0 → b .start .0 ≡ branchAt ls m .start .0 → Rooted (withBranch ls m b)
+  pub rooted-kept : b .source .0 ≡ branchAt ls m .source .0 → b .start .0 ≡ branchAt ls m .start .0 → Rooted (set ls m b)
   rooted-kept p q = record {
     first = branch-field ls m b (λ x. x .start .0) q 0 ∙ sound .first;
     earlier = λ l some h. rw (branch-field ls m b (λ x. x .source .0) p l) (sound .earlier l some h);
   }
 
   -- And where a line past the first begins from an earlier one.
-  pub rooted-begun : 0 < m → m < length (ls .all) → b .source .0 < m → Rooted (withBranch ls m b)
+  pub rooted-begun : 0 < m → m < length ls → b .source .0 < m → Rooted (set ls m b)
   rooted-begun some within h = record {
     first = ap (λ (x : Branch). x .start .0) (branch-other ls m b 0 (omega arith)) ∙ sound .first;
     earlier = λ l p q. elim (ℕ-discrete l m) [

@@ -2,11 +2,11 @@
 -- line is called in the node area and found by in the register.
 use mathlib.Core.Bool.{Bool, true, false}
 use mathlib.Core.Path.{_≡_}
+use mathlib.Core.List.{List}
 use Prim.Native.Nat.{ℕ, zero, suc, _+_, _-_, _*_, _/_, _%_, _^_, _<_, min}
-use lib.Dec.{ltb, leb}
-use lib.ListN.{getD, set, replicate}
+use lib.Dec.{ltb}
+use lib.ListN.{getD, replicate}
 use Rattle.lines.specs.declared.Branch.{Branch}
-use Rattle.lines.specs.declared.Lines.{Lines}
 use Rattle.lines.specs.declared.Entries.{Entries}
 
 -- One of two, by a test.
@@ -20,31 +20,24 @@ pick false x y = y
 abbrev pub noBranch : Branch
 noBranch = record { source = record { 0 = 0 }; start = record { 0 = 0 }; assigned = record { 0 = 0 }; published = record { 0 = 0 }; blob = 0 }
 
--- The lines of a new store.
-abbrev pub noLines : Lines
-noLines = record { begun = 1; all = replicate 16 noBranch }
+-- The states of a new store's lines.
+abbrev pub noLines : List Branch
+noLines = replicate 16 noBranch
 
--- Line l's state, and the lines with that state anew.
-abbrev pub branchAt : Lines → ℕ → Branch
-branchAt ls l = getD (ls .all) l noBranch
-
-abbrev pub withBranch : Lines → ℕ → Branch → Lines
-withBranch ls l b = record { begun = ls .begun; all = set (ls .all) l b }
-
--- No such line has begun.
-abbrev pub noLine : Lines → ℕ → Bool
-noLine ls l = leb (min (ls .begun) 16) l
+-- Line l's state.
+abbrev pub branchAt : List Branch → ℕ → Branch
+branchAt ls l = getD ls l noBranch
 
 -- The line on which version v of line l got its number: l where v is above the version that l begins from, else one of those that l comes from.
-unfoldable pub ownerFrom : ℕ → Lines → ℕ → ℕ → ℕ
+unfoldable pub ownerFrom : ℕ → List Branch → ℕ → ℕ → ℕ
 ownerFrom zero ls l v = l
 ownerFrom (suc n) ls l v = pick (ltb (branchAt ls l .start .0) v) l (ownerFrom n ls (min (branchAt ls l .source .0) 15) v)
 
-abbrev pub ownerOf : Lines → ℕ → ℕ → ℕ
+abbrev pub ownerOf : List Branch → ℕ → ℕ → ℕ
 ownerOf ls l v = ownerFrom 15 ls l v
 
 -- Sound lines: line 0 begins from no version, and every other comes from a line before it, so that a version's line is found in at most 15 steps.
-pub record Rooted (ls : Lines) : Type 0 where
+pub record Rooted (ls : List Branch) : Type 0 where
   pub first : branchAt ls 0 .start .0 ≡ 0
   pub earlier : (l : ℕ) → 0 < l → l < 16 → branchAt ls l .source .0 < l
 

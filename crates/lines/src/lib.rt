@@ -1,10 +1,9 @@
-// The lines of a store: where each begins and how far it has come, the line on which a version got its number, the numbers that name a version of a
-// line, and for each line the record of its own version.
+// Planning lines: a line's state, the numbers that name a version of a line, and for each line the record of its own version. A store holds sixteen states in an
+// array, which only what is lent the store can read in place: those functions stand where the store does.
 ghost use mathlib.Core.Path.{_≡_};
 ghost use Prim.Native.Nat.{_<_};
-ghost use Rattle.lines.specs.Lines.{noBranch, noLines, branchAt, withBranch, noLine, ownerOf, lineOf, versionOf, numberOf, fieldOf, withField, noEntries, entryAt, withEntry};
+ghost use Rattle.lines.specs.Lines.{noBranch, lineOf, versionOf, numberOf, fieldOf, withField, noEntries, entryAt, withEntry};
 use tree::Version;
-use tree::smaller;
 
 // A line, counted from 0 in the order in which they begin.
 #[repr(C)]
@@ -19,13 +18,6 @@ pub struct Branch {
     pub assigned: Version,
     pub published: Version,
     pub blob: u64,
-}
-
-// The lines of a store: how many have begun, and the states of sixteen; those that have not begun are zeros.
-#[repr(C)]
-pub struct Lines {
-    pub begun: u64,
-    pub all: [Branch; 16],
 }
 
 // For each line the number of the record of its own version, 16 bits a line, four lines a word; 0 where it has none.
@@ -52,64 +44,6 @@ pub fn no_branch() -> Branch
     }
 }
 
-// The lines of a new store: line 0, with no version.
-pub fn first_line() -> Lines
-    ensures { λ r. ⌜ r ≡ noLines ⌝ }
-{
-    Lines {
-        begun: 1,
-        all: [no_branch(); 16],
-    }
-}
-
-// A line's state, and zeros past the sixteen.
-pub fn branch_at(ls: Lines, l: Line) -> Branch
-    ensures { λ r. ⌜ r ≡ branchAt ls (l .0) ⌝ }
-{
-    let i = l.0;
-    if i < 16 {
-        ls.all[i as usize]
-    } else {
-        no_branch()
-    }
-}
-
-// The lines with one state anew; past the sixteen nothing changes.
-pub fn with_branch(ls: Lines, l: Line, b: Branch) -> Lines
-    ensures { λ r. ⌜ r ≡ withBranch ls (l .0) b ⌝ }
-{
-    let i = l.0;
-    let mut done = ls;
-    if i < 16 {
-        done.all[i as usize] = b;
-    }
-    done
-}
-
-// Row 20: no such line has begun.
-pub fn no_line(ls: Lines, l: Line) -> bool
-    ensures { λ r. ⌜ r ≡ noLine ls (l .0) ⌝ }
-{
-    smaller(ls.begun, 16) <= l.0
-}
-
-// The line on which version v of line l got its number: l, or where v is shared one that l comes from, at most 15 lines up.
-pub fn owner_of(ls: Lines, l: Line, v: Version) -> Line
-    ensures { λ r. ⌜ r .0 ≡ ownerOf ls (l .0) (v .0) ⌝ }
-{
-    let mut at = l.0;
-    let mut left = 15u64;
-    while left > 0 {
-        let b = branch_at(ls, Line(at));
-        if b.start.0 < v.0 {
-            return Line(at);
-        }
-        at = smaller(b.source.0, 15);
-        left = left - 1;
-    }
-    Line(at)
-}
-
 // ---- the numbers of versions
 
 // A version's number: line x 65,536 + version, of the line on which it got its number; 0 for no version. Each has 16 bits.
@@ -124,14 +58,14 @@ pub fn number_of(l: Line, v: Version) -> u64
 
 // The line in a version's number.
 pub fn line_of(number: u64) -> Line
-    ensures { λ r. ⌜ r .0 ≡ lineOf number ⌝ }
+    ensures { λ r. ⌜ r ≡ record { 0 = lineOf number } ⌝ }
 {
     Line(number / 65536)
 }
 
 // The version in a version's number.
 pub fn version_of(number: u64) -> Version
-    ensures { λ r. ⌜ r .0 ≡ versionOf number ⌝ }
+    ensures { λ r. ⌜ r ≡ record { 0 = versionOf number } ⌝ }
 {
     Version(number % 65536)
 }
