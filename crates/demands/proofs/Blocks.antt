@@ -12,8 +12,8 @@ use lib.Seq.{split-at, set-split, take-at, drop-at, length-take-le, getD-take, g
 use Rattle.pages.specs.Pages.{put, part}
 use Rattle.demands.specs.Model.{Page}
 use Rattle.demands.specs.InTurn.{joined}
-use Rattle.demands.proofs.Image.{tab}
-use Rattle.demands.proofs.Tab.{length-tab, getD-tab, tab-set}
+use Rattle.model.proofs.Laid.{tab}
+use Rattle.model.proofs.Tab.{length-tab, getD-tab, tab-set}
 
 pub joined-append : (xs ys : List Page) → joined (xs ++ ys) ≡ joined xs ++ joined ys
 unfolding joined

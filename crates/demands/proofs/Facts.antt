@@ -11,9 +11,9 @@ use Rattle.tree.proofs.Weaving.{Inside, accepted-inside, weaving-length}
 use Rattle.tree.specs.Tree.{Update, countOf, weaving, update}
 use Rattle.tree.specs.Walk.{used}
 use Rattle.demands.specs.Model.{Limits, Model, pagesOf, ticketAt, versionAt, taken, versionOf, updates, blobSize, complete}
-use Rattle.demands.proofs.Image.{numbered}
+use Rattle.model.proofs.Laid.{oneTo}
 use Rattle.demands.proofs.Sound.{Sound, VersionSound}
-use Rattle.demands.proofs.Cells.{before-le, used-before}
+use Rattle.model.proofs.Cells.{before-le, used-before}
 use Rattle.demands.proofs.Tickets.{taken-next, taken-mono}
 use Rattle.demands.proofs.Updates.{update-at, size-at}
 use Rattle.demands.proofs.Versions.{version-past, version-le}
@@ -34,7 +34,7 @@ used-next us zero o = absurd (omega arith)
 used-next us (suc v) o = refl
 
 pub used-mono : (us : List Update) (v w : ℕ) → v ≤ w → used us v ≤ used us w
-used-mono us v w h = rw (used-before us w v h, used-before us w w (omega arith)) (before-le (λ u. countOf (update us u)) (numbered w) v w h)
+used-mono us v w h = rw (used-before us w v h, used-before us w w (omega arith)) (before-le (λ u. countOf (update us u)) (oneTo w) v w h)
 
 module _ (L : Limits) (m : Model) (S : Sound L m) where
   -- There is no ticket 0, and none past the last: they have no version.

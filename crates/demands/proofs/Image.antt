@@ -2,12 +2,12 @@
 -- Assumes nothing.
 use mathlib.Core.Option.{Option, none, some}
 use mathlib.Core.List.{List, [], _∷_}
-use Prim.Native.Nat.{ℕ, zero, suc, pred, _+_, _-_, _*_}
+use Prim.Native.Nat.{ℕ, suc, pred, _+_, _*_}
 use lib.Dec.{ltb}
 use lib.ListN.{length, getD, replicate}
 use Rattle.tree.specs.Tree.{Node, node, countOf, weaving, update}
-use Rattle.tree.specs.NodeArea.{allOnes}
 use Rattle.tree.specs.Walk.{used}
+use Rattle.model.proofs.Laid.{tab, cellIn, oneTo, Pair, onesPair, flat}
 use Rattle.register.specs.declared.Record.{Record}
 use Rattle.versions.specs.declared.Store.{Store}
 use Rattle.versions.specs.Store.{Areas}
@@ -15,16 +15,6 @@ use Rattle.demands.specs.Model.{Limits, Page, Ticket, Model, noTicket, n
 use Rattle.demands.specs.InTurn.{joined}
 use Rattle.demands.specs.OnModel.{leftOf, rightOf, either}
 use Rattle.demands.specs.Run.{State}
-
--- g 0, g 1 .. g (n - 1).
-unfoldable pub tab : {A : Type 0} → ℕ → (ℕ → A) → List A
-tab zero g = []
-tab (suc n) g = g 0 ∷ tab n (λ (i : ℕ). g (suc i))
-
--- The cell at q of cells laid out one element after another, each element with so many; d past the last.
-unfoldable pub cellIn : {A B : Type 0} → (A → ℕ) → (A → ℕ → B) → B → List A → ℕ → B
-cellIn size get d [] q = d
-cellIn size get d (x ∷ xs) q = either (ltb q (size x)) (get x q) (cellIn size get d xs (q - size x))
 
 -- ---- pages: the slots in the order of their page numbers
 
@@ -46,12 +36,6 @@ pagesImage L m = joined (tab (L .pages) (pageCell (L .size) (m .tickets)))
 
 -- ---- nodes: the versions' nodes in weaving order, one version after another
 
-abbrev pub Pair : Type 0
-Pair = ℕ × ℕ
-
-abbrev pub onesPair : Pair
-onesPair = (allOnes, allOnes)
-
 -- The two numbers of node x of version v.
 abbrev pub numbersOf : Model → ℕ → Node → Pair
 numbersOf m v x = (leftOf (updates m) v (taken (m .tickets) (pred (versionAt m v .ticket))) x, rightOf (updates m) v x)
@@ -65,16 +49,8 @@ weaveCell m v j = either (ltb j (wovenOf m v)) (numbersOf m v (getD (weaving (up
 abbrev pub countAt : Model → ℕ → ℕ
 countAt m v = countOf (update (updates m) v)
 
--- The versions 1 .. n.
-abbrev pub numbered : ℕ → List ℕ
-numbered n = tab n (λ (i : ℕ). suc i)
-
 abbrev pub nodeCell : Model → ℕ → Pair
-nodeCell m q = cellIn (countAt m) (weaveCell m) onesPair (numbered (length (m .versions))) q
-
-unfoldable pub flat : List Pair → List ℕ
-flat [] = []
-flat (x ∷ xs) = x .0 ∷ x .1 ∷ flat xs
+nodeCell m q = cellIn (countAt m) (weaveCell m) onesPair (oneTo (length (m .versions))) q
 
 unfoldable pub nodesImage : Limits → Model → List ℕ
 nodesImage L m = flat (tab (L .nodes) (nodeCell m))

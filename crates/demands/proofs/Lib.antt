@@ -2,9 +2,6 @@
 pub mod Image
 -- Lists: by index, by cells, by blocks, by runs of calls.
 pub mod Nth
-pub mod Tab
-pub mod Pairs
-pub mod Cells
 pub mod Blocks
 pub mod Bytes
 pub mod Masks

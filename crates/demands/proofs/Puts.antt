@@ -15,11 +15,13 @@ use Rattle.tree.specs.Walk.{used}
 use Rattle.register.specs.declared.Record.{Record}
 use Rattle.demands.specs.Model.{Limits, Page, Ticket, Model, noTicket, pagesOf, taken, updates}
 use Rattle.demands.specs.OnModel.{filledAt}
-use Rattle.demands.proofs.Image.{tab, cellIn, blank, slotCell, pageCell, pagesImage, onesPair, countAt, weaveCell, numbered, nodeCell, nodesImage, recordImage, registerImage, Pair}
+use Rattle.model.proofs.Laid.{tab, cellIn, onesPair, oneTo, Pair}
+use Rattle.demands.proofs.Image.{blank, slotCell, pageCell, pagesImage, countAt, weaveCell, nodeCell, nodesImage, recordImage, registerImage}
 use Rattle.demands.proofs.Sound.{Sound}
-use Rattle.demands.proofs.Tab.{length-tab, tab-set}
-use Rattle.demands.proofs.Pairs.{node-put}
-use Rattle.demands.proofs.Cells.{taken-before, used-before, cell-changed, cell-unchanged, numbered-but, numbered-changed}
+use Rattle.model.proofs.Tab.{length-tab, tab-set}
+use Rattle.model.proofs.Pairs.{node-put}
+use Rattle.demands.proofs.Tickets.{taken-before}
+use Rattle.model.proofs.Cells.{used-before, cell-changed, cell-unchanged, numbered-but, numbered-changed}
 use Rattle.demands.proofs.Blocks.{tab-put}
 use Rattle.demands.proofs.Records.{cells-length}
 use Rattle.demands.proofs.Facts.{number-room, place-room}
@@ -47,7 +49,7 @@ unfolding nodesImage
 nodes-put L m m′ sound long counts v j l r o h k others here =
     let n = length (m .versions) in
     let u = used-before (updates m) n (pred v) (omega arith) in
-    let all : ℕ → ℕ → Pair = λ i q. cellIn (countAt m′) (weaveCell m′) onesPair (numbered i) q in
+    let all : ℕ → ℕ → Pair = λ i q. cellIn (countAt m′) (weaveCell m′) onesPair (oneTo i) q in
     node-put (L .nodes) (nodeCell m) (nodeCell m′) (used (updates m) (pred v) + j) l r (omega (arith, place-room L m sound v o h))
     (λ q z e.
     numbered-but (countAt m) (weaveCell m) (countAt m′) (weaveCell m′) onesPair n counts v j o others q (rw (← u) e) ∙ ap (λ i. all i q) (sym long))

@@ -13,11 +13,12 @@ use Rattle.register.specs.Register.{noRecord, mostPage, limited, updateOf, upda
 use Rattle.table.specs.Table.{holds}
 use Rattle.versions.specs.Store.{areasDiffer, recordOf}
 use Rattle.demands.specs.Model.{Limits, Page, Model, noTicket, pagesOf, taken, updates}
-use Rattle.demands.proofs.Image.{tab, orBlank, slotCell, pageCell, pagesImage, nodesImage, nodeCell, registerImage, recordImage, storeImage, areasImage}
+use Rattle.model.proofs.Laid.{tab}
+use Rattle.demands.proofs.Image.{orBlank, slotCell, pageCell, pagesImage, nodesImage, nodeCell, registerImage, recordImage, storeImage, areasImage}
 use Rattle.demands.proofs.Sound.{Sound}
-use Rattle.demands.proofs.Tab.{length-tab, getD-tab, tab-same, take-tab, map-tab, tab-list}
-use Rattle.demands.proofs.Pairs.{length-pairs}
-use Rattle.demands.proofs.Cells.{locate, inside, outside, cell-at, cell-past}
+use Rattle.model.proofs.Tab.{length-tab, getD-tab, tab-same, take-tab, map-tab, tab-list}
+use Rattle.model.proofs.Pairs.{length-pairs}
+use Rattle.model.proofs.Cells.{locate, inside, outside, cell-at, cell-past}
 use Rattle.demands.proofs.Blocks.{length-blocks}
 use Rattle.demands.proofs.Updates.{newest-same, length-updates, update-at}
 

@@ -1,6 +1,6 @@
 -- The tickets' page numbers, as a ticket is added, or changed with as many slots as before.
 -- Assumes nothing.
-use mathlib.Core.Path.{_≡_}
+use mathlib.Core.Path.{_≡_, refl, ap}
 use mathlib.Core.List.{List, [], _∷_, _++_}
 use Prim.Native.Nat.{ℕ, zero, suc, pred, _+_, _≤_, _<_}
 use native.Mathlib.Omega.{arith}
@@ -8,7 +8,14 @@ use lib.ListN.{length, set}
 use Rattle.tree.specs.Tree.{nth}
 use Rattle.demands.specs.Model.{Ticket, noTicket, pagesOf, taken}
 use Rattle.demands.proofs.Nth.{length-snoc}
-use Rattle.demands.proofs.Cells.{before-more, before-append, before-end, before-le, before-set, taken-before}
+use Rattle.model.proofs.Cells.{before-more, before-append, before-end, before-le, before-set, before}
+
+-- The tickets' page numbers, as cells of the tickets.
+pub taken-before : (ks : List Ticket) (t : ℕ) → taken ks t ≡ before pagesOf ks t
+unfolding taken before
+taken-before ks zero = refl
+taken-before [] (suc t) = refl
+taken-before (k ∷ ks) (suc t) = ap (λ n. pagesOf k + n) (taken-before ks t)
 
 pub taken-set : (ks : List Ticket) (t : ℕ) (k : Ticket) (u : ℕ) → 0 < t → pagesOf k ≡ pagesOf (nth noTicket ks t) → taken (set ks (pred t) k) u ≡ taken ks u
 taken-set ks zero k u o e = absurd (omega arith)

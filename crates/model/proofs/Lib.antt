@@ -1,5 +1,9 @@
--- Lists: by number, by different numbers, by blocks, by runs of calls.
+-- Lists: by number, by a rule, by cells, by pairs, by different numbers, by blocks, by runs of calls.
+pub mod Laid
 pub mod Nth
+pub mod Tab
+pub mod Cells
+pub mod Pairs
 pub mod Pigeons
 pub mod Slots
 pub mod Blocks

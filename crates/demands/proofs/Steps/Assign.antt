@@ -19,12 +19,13 @@ use Rattle.assign.specs.Assign.{updateAt, sizeAfter, allPut, assignRefusal, ass
 use Rattle.demands.specs.Model.{Limits, Version, Model, noVersion, pagesOf, ticketAt, versionAt, versionOf, updates, places, blobSize, allFilled, taken}
 use Rattle.demands.specs.OnModel.{nextUpdate, sizeAfter as sizeIn, assignNumber, assigned, either, leftOf, rightOf, assignStep, onModel}
 use Rattle.demands.specs.Run.{onStore, assignCall}
-use Rattle.demands.proofs.Image.{tab, Pair, onesPair, numbersOf, wovenOf, weaveCell, countAt, pagesImage, nodeCell, flat, maskOf, nodesImage, recordImage, registerImage, storeImage, areasImage, image}
+use Rattle.model.proofs.Laid.{tab, Pair, onesPair, flat}
+use Rattle.demands.proofs.Image.{numbersOf, wovenOf, weaveCell, countAt, pagesImage, nodeCell, maskOf, nodesImage, recordImage, registerImage, storeImage, areasImage, image}
 use Rattle.demands.proofs.Sound.{Sound}
 use Rattle.demands.proofs.Passed.{AssignPassed, assign-passed}
 use Rattle.demands.proofs.Facts.{blob-small}
-use Rattle.demands.proofs.Tab.{getD-tab, tab-same}
-use Rattle.demands.proofs.Cells.{numbered-more}
+use Rattle.model.proofs.Tab.{getD-tab, tab-same}
+use Rattle.model.proofs.Cells.{numbered-more}
 use Rattle.demands.proofs.Masks.{mask-all}
 use Rattle.demands.proofs.Updates.{length-updates}
 use Rattle.demands.proofs.Versions.{version-other}

@@ -17,13 +17,14 @@ use Rattle.demands.specs.Model.{Limits, Ticket, Model, noTicket, pagesOf
 use Rattle.demands.specs.InTurn.{joined}
 use Rattle.demands.specs.OnModel.{beginNumber, begun, onModel}
 use Rattle.demands.specs.Run.{onStore}
-use Rattle.demands.proofs.Image.{blank, flat, slotCell, pageCell, pagesImage, numbersOf, nodeCell, nodesImage, registerImage, storeImage, areasImage, image}
+use Rattle.model.proofs.Laid.{flat}
+use Rattle.demands.proofs.Image.{blank, slotCell, pageCell, pagesImage, numbersOf, nodeCell, nodesImage, registerImage, storeImage, areasImage, image}
 use Rattle.demands.proofs.Sound.{Sound}
 use Rattle.demands.proofs.Passed.{BeginPassed, begin-passed}
 use Rattle.demands.proofs.Facts.{ticket-past}
 use Rattle.demands.proofs.Nth.{length-snoc}
-use Rattle.demands.proofs.Tab.{tab-same}
-use Rattle.demands.proofs.Cells.{cell-append}
+use Rattle.model.proofs.Tab.{tab-same}
+use Rattle.model.proofs.Cells.{cell-append}
 use Rattle.demands.proofs.Slots.{none-there}
 use Rattle.demands.proofs.Masks.{mask-none}
 use Rattle.demands.proofs.Tickets.{taken-append, taken-all}

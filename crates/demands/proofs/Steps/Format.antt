@@ -16,9 +16,10 @@ use Rattle.table.proofs.Table.{passed, unless-0}
 use Rattle.demands.specs.Model.{Limits, noModel, taken, versionFrom}
 use Rattle.demands.specs.InTurn.{joined}
 use Rattle.demands.specs.Run.{freshOf, formattedState}
-use Rattle.demands.proofs.Image.{tab, cellIn, blank, pagesImage, onesPair, flat, nodesImage, maskOf, recordImage, registerImage, storeImage, image}
+use Rattle.model.proofs.Laid.{tab, cellIn, onesPair, flat}
+use Rattle.demands.proofs.Image.{blank, pagesImage, nodesImage, maskOf, recordImage, registerImage, storeImage, image}
 use Rattle.demands.proofs.Steps.States.{state-same}
-use Rattle.demands.proofs.Tab.{tab-same, replicate-tab}
+use Rattle.model.proofs.Tab.{tab-same, replicate-tab}
 
 blanks : (size n : ℕ) → joined (tab n (λ (q : ℕ). blank size)) ≡ replicate (size * n) 0
 unfolding joined tab

@@ -22,10 +22,12 @@ use Rattle.walk.specs.FindPage.{findPage, numberWithin, pageNumberOf}
 use Rattle.demands.specs.Model.{Limits, Page, Ticket, Model, noTicket, pagesOf, ticketAt, versionAt, taken, leafNumber, updates}
 use Rattle.demands.specs.OnModel.{rightOf}
 use Rattle.demands.specs.InTurn.{blobAt}
-use Rattle.demands.proofs.Image.{blank, slotCell, pageCell, pagesImage, onesPair, numbersOf, weaveCell, countAt, nodeCell, nodesImage, storeImage, areasImage}
+use Rattle.model.proofs.Laid.{onesPair}
+use Rattle.demands.proofs.Image.{blank, slotCell, pageCell, pagesImage, numbersOf, weaveCell, countAt, nodeCell, nodesImage, storeImage, areasImage}
 use Rattle.demands.proofs.Sound.{Sound}
-use Rattle.demands.proofs.Pairs.{node-stored}
-use Rattle.demands.proofs.Cells.{taken-before, used-before, cell-at, numbered-cell}
+use Rattle.model.proofs.Pairs.{node-stored}
+use Rattle.demands.proofs.Tickets.{taken-before}
+use Rattle.model.proofs.Cells.{used-before, cell-at, numbered-cell}
 use Rattle.demands.proofs.Blocks.{tab-byte, tab-part}
 use Rattle.demands.proofs.Facts.{complete-count, number-room, weaving-count, place-room}
 use Rattle.demands.proofs.Records.{cells-length, update-image, updates-taken, place-of}

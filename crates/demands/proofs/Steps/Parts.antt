@@ -14,10 +14,11 @@ use Rattle.tree.specs.Walk.{used}
 use Rattle.register.specs.declared.Record.{Record}
 use Rattle.demands.specs.Model.{Limits, Ticket, Version, Model, noTicket, noVersion, pagesOf, ticketAt, versionAt, taken, versionOf, updateOf, updates}
 use Rattle.demands.specs.OnModel.{either}
-use Rattle.demands.proofs.Image.{Pair, onesPair, numbersOf, wovenOf, weaveCell, countAt, cellIn, numbered, maskOf}
+use Rattle.model.proofs.Laid.{Pair, onesPair, cellIn, oneTo}
+use Rattle.demands.proofs.Image.{numbersOf, wovenOf, weaveCell, countAt, maskOf}
 use Rattle.demands.proofs.Sound.{Sound}
 use Rattle.demands.proofs.Nth.{length-snoc, nth-append, nth-past}
-use Rattle.demands.proofs.Cells.{numbered-same}
+use Rattle.model.proofs.Cells.{numbered-same}
 use Rattle.demands.proofs.Kept.Same.{VersionSame}
 
 -- ---- records
@@ -122,8 +123,8 @@ cell-same i w w′ u u′ g g′ a b c = λ k. either (ltb i (a k)) (c (getD (we
 module _ (m m′ : Model)
     (same : (v : ℕ) → 0 < v → v ≤ length (m .versions) → VersionSame m m′ v)
     (numbers : (v : ℕ) (x : Node) → 0 < v → v ≤ length (m .versions) → numbersOf m′ v x ≡ numbersOf m v x) where
-  pub nodes-stay : (q : ℕ) → cellIn (countAt m′) (weaveCell m′) onesPair (numbered (length (m .versions))) q
-      ≡ cellIn (countAt m) (weaveCell m) onesPair (numbered (length (m .versions))) q
+  pub nodes-stay : (q : ℕ) → cellIn (countAt m′) (weaveCell m′) onesPair (oneTo (length (m .versions))) q
+      ≡ cellIn (countAt m) (weaveCell m) onesPair (oneTo (length (m .versions))) q
   nodes-stay q =
       numbered-same (countAt m′) (weaveCell m′) (countAt m) (weaveCell m) onesPair (length (m .versions))
       (λ v o h. rw (same v o h .updated))

@@ -19,12 +19,13 @@ use Rattle.put.specs.Put.{numberOf, bitOf, putRefusal, putIn, withPut, withBit}
 use Rattle.demands.specs.Model.{Limits, Version, Model, noVersion, pagesOf, ticketAt, versionAt, versionOf, isFilled, bitIf}
 use Rattle.demands.specs.OnModel.{putNumber, filledAt, onModel}
 use Rattle.demands.specs.Run.{onStore}
-use Rattle.demands.proofs.Image.{pagesImage, nodeCell, flat, nodesImage, maskOf, registerImage, storeImage, areasImage, image}
+use Rattle.model.proofs.Laid.{flat}
+use Rattle.demands.proofs.Image.{pagesImage, nodeCell, nodesImage, maskOf, registerImage, storeImage, areasImage, image}
 use Rattle.demands.proofs.Sound.{Sound}
 use Rattle.demands.proofs.Passed.{PutPassed, put-passed}
 use Rattle.demands.proofs.Facts.{number-room}
 use Rattle.demands.proofs.Nth.{nth-past}
-use Rattle.demands.proofs.Tab.{tab-same}
+use Rattle.model.proofs.Tab.{tab-same}
 use Rattle.demands.proofs.Masks.{mask-bit, mask-put}
 use Rattle.demands.proofs.Records.{record-at, number-of}
 use Rattle.demands.proofs.Puts.{pages-put, register-put}

@@ -21,8 +21,8 @@ use Rattle.demands.specs.OnModel.{woven}
 use Rattle.demands.proofs.Image.{blank, slotCell, pageCell, pagesImage, numbersOf, wovenOf, weaveCell, countAt, nodesImage, recordImage, registerImage, storeImage}
 use Rattle.demands.proofs.Sound.{Sound}
 use Rattle.demands.proofs.Nth.{nth-set-field, nth-past}
-use Rattle.demands.proofs.Tab.{tab-same}
-use Rattle.demands.proofs.Cells.{cell-same}
+use Rattle.model.proofs.Tab.{tab-same}
+use Rattle.model.proofs.Cells.{cell-same}
 use Rattle.demands.proofs.Versions.{version-le, version-ticket}
 use Rattle.demands.proofs.Passed.{WeavePassed}
 use Rattle.demands.proofs.Puts.{nodes-put, register-put}

@@ -7,7 +7,7 @@ use Prim.Native.Nat.{ℕ, zero, suc, _≤_, _<_}
 use native.Mathlib.Nat.{suc-inj}
 use native.Mathlib.Omega.{arith}
 use lib.ListN.{length, getD, set, take, replicate}
-use Rattle.demands.proofs.Image.{tab}
+use Rattle.model.proofs.Laid.{tab}
 
 module _ {A : Type 0} where
   pub length-tab : (n : ℕ) (g : ℕ → A) → length (tab n g) ≡ n

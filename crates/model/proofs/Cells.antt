@@ -14,10 +14,10 @@ use lib.Seq.{getD-set-same, getD-set-other}
 use Rattle.tree.specs.Tree.{Update, countOf, update}
 use Rattle.tree.specs.Walk.{used}
 use Rattle.tree.proofs.Meets.{lt-or-le}
-use Rattle.demands.specs.Model.{Ticket, pagesOf, taken}
-use Rattle.demands.specs.OnModel.{either}
-use Rattle.demands.proofs.Image.{cellIn, numbered}
-use Rattle.demands.proofs.Tab.{length-tab, getD-tab, tab-more}
+use Rattle.model.specs.History.{Ticket, pagesOf, taken}
+use Rattle.model.specs.OnModel.{either}
+use Rattle.model.proofs.Laid.{cellIn, oneTo}
+use Rattle.model.proofs.Tab.{length-tab, getD-tab, tab-more}
 
 -- The cells of the first t elements.
 unfoldable pub before : {A : Type 0} → (A → ℕ) → List A → ℕ → ℕ
@@ -99,15 +99,15 @@ taken-before ks zero = refl
 taken-before [] (suc t) = refl
 taken-before (k ∷ ks) (suc t) = ap (λ n. pagesOf k + n) (taken-before ks t)
 
-pub numbered-at : (n t z : ℕ) → t < n → getD (numbered n) t z ≡ suc t
+pub numbered-at : (n t z : ℕ) → t < n → getD (oneTo n) t z ≡ suc t
 numbered-at n t z h = getD-tab n suc t z h
 
-pub used-before : (us : List Update) (n v : ℕ) → v ≤ n → used us v ≡ before (λ w. countOf (update us w)) (numbered n) v
+pub used-before : (us : List Update) (n v : ℕ) → v ≤ n → used us v ≡ before (λ w. countOf (update us w)) (oneTo n) v
 unfolding used before
 used-before us n zero h = refl
 used-before us n (suc v) h =
     let r = used-before us n v (omega arith) in
-    let m = before-more (λ w. countOf (update us w)) (numbered n) v 0 (rw length-tab h) in
+    let m = before-more (λ w. countOf (update us w)) (oneTo n) v 0 (rw length-tab h) in
     omega (arith, rw (numbered-at n v 0 h) at m)
 
 -- Two lists whose elements have as many cells begin their elements at the same numbers.
@@ -183,42 +183,42 @@ module _ {A B : Type 0} (size : A → ℕ) (get : A → ℕ → B) (d : B) (xs :
 -- ---- the elements 1 .. n, as the versions are
 
 module _ {B : Type 0} (size : ℕ → ℕ) (get : ℕ → ℕ → B) (d : B) (n : ℕ) where
-  pub numbered-cell : (v i : ℕ) → 0 < v → v ≤ n → i < size v → cellIn size get d (numbered n) (before size (numbered n) (pred v) + i) ≡ get v i
+  pub numbered-cell : (v i : ℕ) → 0 < v → v ≤ n → i < size v → cellIn size get d (oneTo n) (before size (oneTo n) (pred v) + i) ≡ get v i
   numbered-cell zero i o h k = absurd (omega arith)
   numbered-cell (suc v) i o h k =
       let e = numbered-at n v 0 h in
-      cell-at size get d (numbered n) v i 0 (rw length-tab h) (rw e k) ∙ rw e
+      cell-at size get d (oneTo n) v i 0 (rw length-tab h) (rw e k) ∙ rw e
 
   -- One number more, whose cells are all d.
-  pub numbered-more : ((i : ℕ) → i < size (suc n) → get (suc n) i ≡ d) → (q : ℕ) → cellIn size get d (numbered (suc n)) q ≡ cellIn size get d (numbered n) q
-  numbered-more h q = rw (tab-more n suc) (cell-append size get d (numbered n) (suc n) h q)
+  pub numbered-more : ((i : ℕ) → i < size (suc n) → get (suc n) i ≡ d) → (q : ℕ) → cellIn size get d (oneTo (suc n)) q ≡ cellIn size get d (oneTo n) q
+  numbered-more h q = rw (tab-more n suc) (cell-append size get d (oneTo n) (suc n) h q)
 
 -- Two rules that agree: but at one cell, and everywhere.
 module _ {B : Type 0} (size : ℕ → ℕ) (get : ℕ → ℕ → B) (size′ : ℕ → ℕ) (get′ : ℕ → ℕ → B) (d : B) (n : ℕ)
     (sizes : (v : ℕ) → 0 < v → v ≤ n → size v ≡ size′ v) where
-  sizes-at : (t : ℕ) → t < length (numbered n) → size (getD (numbered n) t 0) ≡ size′ (getD (numbered n) t 0)
+  sizes-at : (t : ℕ) → t < length (oneTo n) → size (getD (oneTo n) t 0) ≡ size′ (getD (oneTo n) t 0)
   sizes-at t l =
       let l′ : t < n = rw length-tab at l in
       rw (numbered-at n t 0 l′) (sizes (suc t) (omega arith) l′)
 
-  pub numbered-before : (t : ℕ) → before size (numbered n) t ≡ before size′ (numbered n) t
-  numbered-before t = before-same size size′ (numbered n) (numbered n) 0 0 refl sizes-at t
+  pub numbered-before : (t : ℕ) → before size (oneTo n) t ≡ before size′ (oneTo n) t
+  numbered-before t = before-same size size′ (oneTo n) (oneTo n) 0 0 refl sizes-at t
 
-  pub numbered-changed : (v i : ℕ) → 0 < v → v ≤ n → i < size v → cellIn size′ get′ d (numbered n) (before size (numbered n) (pred v) + i) ≡ get′ v i
+  pub numbered-changed : (v i : ℕ) → 0 < v → v ≤ n → i < size v → cellIn size′ get′ d (oneTo n) (before size (oneTo n) (pred v) + i) ≡ get′ v i
   numbered-changed v i o h k =
       let e = sizes v o h in
       rw (numbered-before (pred v)) (numbered-cell size′ get′ d n v i o h (omega arith))
 
   pub numbered-but : (v i : ℕ) → 0 < v → ((w j : ℕ) → 0 < w → w ≤ n → j < size w → (w ≡ v → j ≡ i → ⊥) → get w j ≡ get′ w j)
-      → (q : ℕ) → q ≢ before size (numbered n) (pred v) + i → cellIn size get d (numbered n) q ≡ cellIn size′ get′ d (numbered n) q
+      → (q : ℕ) → q ≢ before size (oneTo n) (pred v) + i → cellIn size get d (oneTo n) q ≡ cellIn size′ get′ d (oneTo n) q
   numbered-but zero i o h q k = absurd (omega arith)
-  numbered-but (suc v) i o h q k = cell-but size get size′ get′ d (numbered n) (numbered n) 0 0 refl sizes-at v i gets q k
+  numbered-but (suc v) i o h q k = cell-but size get size′ get′ d (oneTo n) (oneTo n) 0 0 refl sizes-at v i gets q k
     where
-      gets : (t j : ℕ) → t < length (numbered n) → j < size (getD (numbered n) t 0) → (t ≡ v → j ≡ i → ⊥) → get (getD (numbered n) t 0) j ≡ get′ (getD (numbered n) t 0) j
+      gets : (t j : ℕ) → t < length (oneTo n) → j < size (getD (oneTo n) t 0) → (t ≡ v → j ≡ i → ⊥) → get (getD (oneTo n) t 0) j ≡ get′ (getD (oneTo n) t 0) j
       gets t j l m r =
           let l′ : t < n = rw length-tab at l in
           let e = numbered-at n t 0 l′ in
           rw e (h (suc t) j (omega arith) l′ (rw e at m) (λ z. r (suc-inj z)))
 
-  pub numbered-same : ((v i : ℕ) → 0 < v → v ≤ n → i < size v → get v i ≡ get′ v i) → (q : ℕ) → cellIn size get d (numbered n) q ≡ cellIn size′ get′ d (numbered n) q
+  pub numbered-same : ((v i : ℕ) → 0 < v → v ≤ n → i < size v → get v i ≡ get′ v i) → (q : ℕ) → cellIn size get d (oneTo n) q ≡ cellIn size′ get′ d (oneTo n) q
   numbered-same h q = numbered-but 1 (suc q) (omega arith) (λ v i o l k r. h v i o l k) q (λ e. omega arith)

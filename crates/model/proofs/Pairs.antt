@@ -11,8 +11,8 @@ use lib.Dec.{eqb}
 use lib.ListN.{length, getD, set}
 use Rattle.tree.specs.NodeArea.{allOnes, unlessOnes, nodeAt, withNode}
 use Rattle.tree.specs.declared.NodeAt.the-variants.{Stored, Missing}
-use Rattle.demands.proofs.Image.{tab, Pair, onesPair, flat}
-use Rattle.demands.proofs.Tab.{length-tab, getD-tab, tab-set}
+use Rattle.model.proofs.Laid.{tab, Pair, onesPair, flat}
+use Rattle.model.proofs.Tab.{length-tab, getD-tab, tab-set}
 
 double-suc : (q : ℕ) → 2 * suc q ≡ suc (suc (2 * q))
 double-suc q = omega arith
