@@ -32,3 +32,6 @@ pub mod Owner
 pub mod Asked
 pub mod Later
 pub mod Reached
+-- Areas: the pages and nodes that a model stands for, and the trees in them.
+pub mod Image
+pub mod Trees

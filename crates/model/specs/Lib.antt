@@ -5,4 +5,5 @@ pub mod Model
 pub mod OnModel
 pub mod Run
 pub mod Due
+pub mod Snapshot
 pub mod Example
