@@ -1,4 +1,4 @@
--- Blocks of one size, one after another: their length, and a byte.
+-- Blocks of one size, one after another: their length, a byte, and a block taken out.
 -- Assumes nothing.
 use mathlib.Core.Path.{_≡_, refl, sym, ap, _∙_}
 use mathlib.Core.List.{List, [], _∷_, _++_, append-assoc}
@@ -6,9 +6,11 @@ use Prim.Native.Nat.{ℕ, suc, _+_, _*_, _/_, _%_, _≤_, _<_}
 use native.Mathlib.Nat.{mul-zero, mul-suc, mul-comm, mul-le-mul-left, div-add-mod, mod-lt, div-lt-iff-lt-mul}
 use native.Mathlib.Omega.{arith}
 use lib.ListN.{length, getD, take, drop, length-append, List·getD-append}
-use lib.Seq.{split-at, drop-at, length-take-le, getD-take, getD-drop}
+use lib.Seq.{split-at, take-at, drop-at, length-take-le, getD-take, getD-drop}
 use Rattle.model.specs.History.{Page}
 use Rattle.model.specs.InTurn.{joined}
+use Rattle.model.proofs.Laid.{tab}
+use Rattle.model.proofs.Tab.{length-tab, getD-tab}
 
 pub joined-append : (xs ys : List Page) → joined (xs ++ ys) ≡ joined xs ++ joined ys
 unfolding joined
@@ -47,6 +49,9 @@ module _ (S : ℕ) (xs : List Page) (sized : Blocks S xs) (q : ℕ) (there : q <
   block-byte j h =
       rw (← getD-drop (S * q) (joined xs) j 0, block-drop) (List·getD-append (getD xs q []) (joined (drop (suc q) xs)) 0 j (rw (sized q there) h))
 
+  pub block-part : take S (drop (S * q) (joined xs)) ≡ getD xs q []
+  block-part = rw block-drop (take-at (getD xs q []) (joined (drop (suc q) xs)) S (sized q there))
+
 -- Byte j is byte j % S of block j / S.
 abbrev pub pageByte : ℕ → List Page → ℕ → ℕ
 pageByte S xs j = getD (getD xs (j / S) []) (j % S) 0
@@ -55,3 +60,17 @@ pub blocks-byte : (S : ℕ) (xs : List Page) → Blocks S xs → 0 < S → (j : 
 blocks-byte S xs sized some j h =
     let l : j / S < length xs = div-lt-iff-lt-mul some .1 (rw mul-comm h) in
     rw (div-add-mod j S) at (block-byte S xs sized (j / S) l (j % S) (mod-lt j some))
+
+-- Blocks by a rule of their number.
+module _ (S n : ℕ) (g : ℕ → Page) (sized : (i : ℕ) → i < n → length (g i) ≡ S) where
+  blocks-tab : Blocks S (tab n g)
+  blocks-tab i l = let l′ : i < n = rw length-tab at l in rw (getD-tab n g i [] l′) (sized i l′)
+
+  pub length-blocks : length (joined (tab n g)) ≡ S * n
+  length-blocks = length-joined S (tab n g) blocks-tab ∙ rw length-tab
+
+  pub tab-byte : (q j : ℕ) → q < n → j < S → getD (joined (tab n g)) (S * q + j) 0 ≡ getD (g q) j 0
+  tab-byte q j h l = block-byte S (tab n g) blocks-tab q (rw length-tab h) j l ∙ rw (getD-tab n g q [] h)
+
+  pub tab-part : (q : ℕ) → q < n → take S (drop (S * q) (joined (tab n g))) ≡ g q
+  tab-part q h = block-part S (tab n g) blocks-tab q (rw length-tab h) ∙ getD-tab n g q [] h

@@ -29,9 +29,14 @@ pub mod Kept
 pub mod Histories
 pub mod Shared
 pub mod Owner
+pub mod Owned
+pub mod Numbers
 pub mod Asked
 pub mod Later
 pub mod Reached
 -- Areas: the pages and nodes that a model stands for, and the trees in them.
 pub mod Image
+pub mod Areas
+pub mod Woven
 pub mod Trees
+pub mod Found

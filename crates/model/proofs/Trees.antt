@@ -1,6 +1,6 @@
 -- Where versions 1 .. k are woven whole, the tree that the node area holds from version k's number down is the tree rule's.
 -- Assumes nothing.
-use mathlib.Core.Path.{_≡_, refl, sym, ap, subst₂, _∙_}
+use mathlib.Core.Path.{_≡_, refl, sym, subst₂, _∙_}
 use mathlib.Core.Logic.{inl, inr}
 use mathlib.Core.Bool.{true}
 use mathlib.Core.Option.{Option, some}
@@ -17,7 +17,7 @@ use Rattle.tree.proofs.First.{first-root, first-nest}
 use Rattle.tree.proofs.Newest.{newest-inside, newest-le}
 use Rattle.tree.proofs.Weaving.{grid-left, grid-right}
 use Rattle.tree.proofs.Walk.{newest-own, stands-woven}
-use Rattle.model.specs.Snapshot.{leaf, treeOf, leafIn, innerIn, treeIn}
+use Rattle.model.specs.Snapshot.{treeOf, leafIn, innerIn, treeIn}
 
 -- The tree from a number that is not 0.
 module _ (at : ℕ → ℕ → ℕ → Option ℕ) (area : List ℕ) where
