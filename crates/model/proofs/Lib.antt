@@ -40,3 +40,4 @@ pub mod Areas
 pub mod Woven
 pub mod Trees
 pub mod Found
+pub mod Drawn

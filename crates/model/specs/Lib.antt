@@ -7,3 +7,4 @@ pub mod Run
 pub mod Due
 pub mod Snapshot
 pub mod Example
+pub mod Trees
