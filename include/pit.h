@@ -1,4 +1,6 @@
-/* The pit model store for C: one blob of pages, kept in versions that share what they have in common.
+/* The pit model store for C: one blob of pages, kept in versions that share what they have in common, on up to sixteen
+   lines. Line 0 begins with the store; pit_branch begins another from a published version of a line, with everything up
+   to that version shared. A version is named by its line and its number there.
 
    The functions are proved, and linked as static libraries: -lexports -ltree, for x86-64 Linux.
 
@@ -34,13 +36,15 @@
      10  PUT: page i is already put
      11  PUT: the bytes are not one page long
      12  ASSIGN: a page is not yet put
-     13  ASSIGN as a write: f is above the size of the last assigned version
+     13  ASSIGN as a write: f is above the size of the line's last assigned version
      14  ASSIGN: f + n is above 4,096
      15  ASSIGN: too few node places are unused
-     16  READ, SIZE, STAMP, VIEW: the version is not published; 0, which is empty, always is
+     16  READ, SIZE, STAMP, VIEW, BRANCH: the version is not published; 0, which is empty, always is
      17  READ, STAMP, VIEW: the range or page is not inside the version
      18  READ: the buffer is shorter than the length
-     19  every call but FORMAT, last: the areas are none that the store's calls left */
+     19  every call but FORMAT, last: the areas are none that the store's calls left
+     20  every call that names a line, after 3, 7 and 8: no such line; they count from 0
+     21  BRANCH, after 16: sixteen lines exist */
 #ifndef PIT_H
 #define PIT_H
 
@@ -51,6 +55,15 @@
 extern "C" {
 #endif
 
+/* A line: where it begins, and how far it has come. All zeros where it has not begun. */
+typedef struct pit_line {
+    uint64_t source;    /* the line that it begins from */
+    uint64_t start;     /* the version that it begins from: up to this one its versions are the source's */
+    uint64_t assigned;  /* the last version assigned */
+    uint64_t published; /* the last version published */
+    uint64_t blob;      /* the size in pages of the last version assigned */
+} pit_line;
+
 /* A store: what the calls carry from one to the next. */
 typedef struct pit_store {
     uint64_t size;      /* the page size in bytes */
@@ -59,24 +72,35 @@ typedef struct pit_store {
     uint64_t updates;   /* how many updates the register holds */
     uint64_t tickets;   /* the last ticket given */
     uint64_t taken;     /* how many page numbers are taken */
-    uint64_t assigned;  /* the last version assigned */
+    uint64_t assigned;  /* how many updates have a version, over all lines */
     uint64_t places;    /* how many node places are taken */
-    uint64_t published; /* the last version published */
-    uint64_t blob;      /* the size in pages of the last version assigned */
+    uint64_t begun;     /* how many lines have begun */
+    pit_line lines[16];
 } pit_store;
 
-/* A record of the register: the k-th holds the k-th ticket's part, then the k-th version's part. */
+/* For each line the number of an update, 16 bits a line, four lines a number, the lowest first; 0 for none. */
+typedef struct pit_entries {
+    uint64_t from0;
+    uint64_t from4;
+    uint64_t from8;
+    uint64_t from12;
+} pit_entries;
+
+/* A record of the register: the k-th holds the k-th ticket's part, then the k-th update's, in the order of ASSIGN over
+   all lines; and for each line the update that is its own version k. */
 typedef struct pit_record {
-    uint64_t n;       /* the ticket's pages */
-    uint64_t number;  /* its first page number */
-    uint64_t put;     /* which of its pages are put: bit i for page i */
-    uint64_t version; /* its version; 0 before it has one */
-    uint64_t ticket;  /* the version's ticket */
-    uint64_t f;       /* the first page of its update */
-    uint64_t last;    /* the last page of its update */
-    uint64_t size;    /* the blob's size in pages after it */
-    uint64_t place;   /* its first node place */
-    uint64_t woven;   /* how many of its nodes are woven */
+    uint64_t n;      /* the ticket's pages */
+    uint64_t number; /* its first page number */
+    uint64_t put;    /* which of its pages are put: bit i for page i */
+    uint64_t update; /* the number of its update; 0 before it has a version */
+    uint64_t ticket; /* the update's ticket */
+    uint64_t name;   /* the line and version that it got: line x 65,536 + version */
+    uint64_t f;      /* its first page */
+    uint64_t last;   /* its last page */
+    uint64_t size;   /* the blob's size in pages after it, on that line */
+    uint64_t place;  /* its first node place */
+    uint64_t woven;  /* how many of its nodes are woven */
+    pit_entries entries;
 } pit_record;
 
 typedef struct pit_format_reply {
@@ -97,6 +121,8 @@ typedef struct pit_assign_reply {
     uint64_t nodes; /* how many nodes are to be woven for it */
 } pit_assign_reply;
 
+/* Versions are numbers that say their line too: line x 65,536 + version, of the line on which the update got its
+   version. */
 typedef struct pit_weave_reply {
     uint64_t refusal;
     uint64_t version; /* the node's name: its version, */
@@ -112,6 +138,12 @@ typedef struct pit_publish_reply {
     pit_store store;
     uint64_t version; /* 0 with no refusal: waiting, the next version is not due */
 } pit_publish_reply;
+
+typedef struct pit_branch_reply {
+    uint64_t refusal;
+    pit_store store;
+    uint64_t line; /* the new line; 0 where the call is refused */
+} pit_branch_reply;
 
 typedef struct pit_size_reply {
     uint64_t refusal;
@@ -156,22 +188,23 @@ uint64_t pit_put(
     uint64_t ticket, uint64_t i,
     const uint8_t *bytes, size_t bytes_len);
 
-/* ASSIGN as a write: the next version, in which the update's pages stand from page f on. Refused: 3, 7, 8, 12, 13, 14,
-   15, 19. */
+/* ASSIGN as a write: the line's next version, in which the update's pages stand from page f on. Refused: 3, 7, 8, 20,
+   12, 13, 14, 15, 19. */
 pit_assign_reply pit_write(
     pit_store s,
     const uint8_t *pages, size_t pages_len,
     const uint32_t *nodes, size_t nodes_len,
     pit_record *records, size_t records_len,
-    uint64_t ticket, uint64_t f);
+    uint64_t line, uint64_t ticket, uint64_t f);
 
-/* ASSIGN as an append: the same, with f the size of the last assigned version. Refused: 3, 7, 8, 12, 14, 15, 19. */
+/* ASSIGN as an append: the same, with f the size of the line's last assigned version. Refused: 3, 7, 8, 20, 12, 14, 15,
+   19. */
 pit_assign_reply pit_append(
     pit_store s,
     const uint8_t *pages, size_t pages_len,
     const uint32_t *nodes, size_t nodes_len,
     pit_record *records, size_t records_len,
-    uint64_t ticket);
+    uint64_t line, uint64_t ticket);
 
 /* WEAVE: stores the next node of the ticket's version. The store stays as it is. Refused: 3, 7, 8, 19. */
 pit_weave_reply pit_weave(
@@ -181,53 +214,64 @@ pit_weave_reply pit_weave(
     pit_record *records, size_t records_len,
     uint64_t ticket);
 
-/* PUBLISH: the version after the last published one, if all its nodes are woven. Refused: 3, 19. */
+/* PUBLISH: the version after the line's last published one, if all its nodes are woven. Refused: 3, 20, 19. */
 pit_publish_reply pit_publish(
     pit_store s,
     const uint8_t *pages, size_t pages_len,
     const uint32_t *nodes, size_t nodes_len,
-    const pit_record *records, size_t records_len);
+    const pit_record *records, size_t records_len,
+    uint64_t line);
+
+/* BRANCH: the next line, from a published version of a line. It shares everything up to that version, which is published
+   there too, and goes on with its own next version. Refused: 3, 20, 16, 21, 19. */
+pit_branch_reply pit_branch(
+    pit_store s,
+    const uint8_t *pages, size_t pages_len,
+    const uint32_t *nodes, size_t nodes_len,
+    const pit_record *records, size_t records_len,
+    uint64_t line, uint64_t version);
 
 /* READ: fills the front of the buffer with len bytes of the version, from byte offset on; the rest of it stays, and
-   where it is refused all of it. Gives the refusal, or 0: 3, 16, 17, 18, 19. */
+   where it is refused all of it. Gives the refusal, or 0: 3, 20, 16, 17, 18, 19. */
 uint64_t pit_read(
     pit_store s,
     const uint8_t *pages, size_t pages_len,
     const uint32_t *nodes, size_t nodes_len,
     const pit_record *records, size_t records_len,
-    uint64_t version, uint64_t offset, uint64_t len,
+    uint64_t line, uint64_t version, uint64_t offset, uint64_t len,
     uint8_t *buffer, size_t buffer_len);
 
-/* SIZE: the bytes of the version. Refused: 3, 16, 19. */
+/* SIZE: the bytes of the version. Refused: 3, 20, 16, 19. */
 pit_size_reply pit_size(
     pit_store s,
     const uint8_t *pages, size_t pages_len,
     const uint32_t *nodes, size_t nodes_len,
     const pit_record *records, size_t records_len,
-    uint64_t version);
+    uint64_t line, uint64_t version);
 
-/* RECENT: the last published version; 0 before the first. Refused: 3. */
+/* RECENT: the line's last published version; 0 before the first. Refused: 3, 20. */
 pit_version_reply pit_recent(
     pit_store s,
     const uint8_t *pages, size_t pages_len,
     const uint32_t *nodes, size_t nodes_len,
-    const pit_record *records, size_t records_len);
+    const pit_record *records, size_t records_len,
+    uint64_t line);
 
-/* STAMP: the newest version, up to this one, whose update covers the page. Refused: 3, 16, 17, 19. */
+/* STAMP: the line's newest version, up to this one, whose update covers the page. Refused: 3, 20, 16, 17, 19. */
 pit_version_reply pit_stamp(
     pit_store s,
     const uint8_t *pages, size_t pages_len,
     const uint32_t *nodes, size_t nodes_len,
     const pit_record *records, size_t records_len,
-    uint64_t version, uint64_t page);
+    uint64_t line, uint64_t version, uint64_t page);
 
-/* VIEW: where in the page area the version's page lies. Refused: 3, 16, 17, 19. */
+/* VIEW: where in the page area the version's page lies. Refused: 3, 20, 16, 17, 19. */
 pit_view_reply pit_view(
     pit_store s,
     const uint8_t *pages, size_t pages_len,
     const uint32_t *nodes, size_t nodes_len,
     const pit_record *records, size_t records_len,
-    uint64_t version, uint64_t page);
+    uint64_t line, uint64_t version, uint64_t page);
 
 /* The span of the root of a blob of size pages: the smallest power of two not below it. 0 where size is 0 or above
    4,096. */

@@ -22,6 +22,7 @@ Buffers    All memory has been touched before: page area, heap, LMDB's file. REA
            VIEW gives a page's slice and touches no byte of it. An update's bytes come from 128 pages in the cache.
 Blob       Filled by appends of 64 pages, then writes of one random page up to the number of updates. Updates are
            timed on top of these, 64 at random places; then ours and Arc go back to just these for the next round.
+Lines      Of 16 lines 15 begin when the blob is filled on line 0; then updates go to all lines in turn, and so do reads.
 bytes      Memory that a version takes, of an update of so many pages, without those pages' own bytes.
 o/..       Ours as a multiple of the other: below 1, ours takes less.
 ",

@@ -21,6 +21,11 @@ pub trait Contender {
     /// Whether older versions can still be read. Where not, the version asked for is passed over.
     fn keeps_versions(&self) -> bool;
 
+    /// Whether what is read shows every update. On several lines each shows its own.
+    fn shows_all(&self) -> bool {
+        true
+    }
+
     /// The updates made so far are those that stand. Not timed.
     fn settle(&mut self) {}
 

@@ -27,6 +27,8 @@ struct Env([u8; 0]);
 #[repr(C)]
 struct Txn([u8; 0]);
 
+// a shared library: Debian's `liblmdb-dev` has it where the linker looks
+#[link(name = "lmdb")]
 extern "C" {
     fn mdb_strerror(error: c_int) -> *const c_char;
     fn mdb_version(major: *mut c_int, minor: *mut c_int, patch: *mut c_int) -> *const c_char;

@@ -7,6 +7,7 @@ mod about;
 mod arc_table;
 mod contender;
 mod flat;
+mod grouped;
 #[allow(unsafe_code)]
 mod heap;
 #[allow(unsafe_code)]
@@ -14,6 +15,7 @@ mod lmdb;
 mod lmdb_pages;
 mod measure;
 mod memory;
+mod on_lines;
 #[allow(unsafe_code)]
 mod opaque;
 mod ours;
@@ -24,7 +26,7 @@ mod svg;
 mod table;
 mod targets;
 
-use measure::{Field, Times, MEMCPY};
+use measure::{Field, LineTimes, Times, MEMCPY};
 use shape::Shape;
 use std::path::PathBuf;
 use std::process::ExitCode;
@@ -82,6 +84,13 @@ impl Report {
         self.say("\nTargets, in a blob of 4,096 pages of 4,096 bytes with 100 updates:");
         for line in targets::lines(&self.rows) {
             self.say(&line);
+        }
+        self.say("\nLines: this store on one line, and on 16 lines whose updates interleave:");
+        self.say(&table::heading_of_lines());
+        for updates in [100, 1_000, 4_000] {
+            for (what, shape, times) in times_of_lines(updates) {
+                self.say(&table::line_of_lines(what, shape, times));
+            }
         }
     }
 
@@ -142,6 +151,21 @@ fn times(shape: Shape) -> Vec<Row> {
         figures: times.map(Some),
     };
     times.into_iter().map(row).collect()
+}
+
+/// What is measured on one line and on 16, in the targets' blob with so many updates.
+fn times_of_lines(updates: usize) -> Vec<(What, Shape, LineTimes)> {
+    let shape = Shape {
+        updates,
+        ..targets::SHAPE
+    };
+    eprintln!("pit-bench: measuring {shape}, on 16 lines");
+    let mut field = Field::of_lines(shape);
+    vec![
+        (What::Read, shape, field.reads()),
+        (What::View, shape, field.views()),
+        (What::Update(1), shape, field.updates(1)),
+    ]
 }
 
 /// The rows of memory, each with 100 updates standing.

@@ -4,6 +4,7 @@ use crate::arc_table::ArcTable;
 use crate::contender::Contender;
 use crate::flat::Flat;
 use crate::lmdb_pages::LmdbPages;
+use crate::on_lines::OnLines;
 use crate::ours::Ours;
 use crate::shape::{Shape, Source, Update};
 use std::time::Instant;
@@ -18,6 +19,9 @@ pub const LMDB: usize = 3;
 /// Nanoseconds a call, for each contender.
 pub type Times = [f64; CONTENDERS];
 
+/// The same for this repository's store on one line, and on 16 lines whose updates interleave.
+pub type LineTimes = [f64; 2];
+
 /// A round of reads or views is so many calls, after some that are not timed. They are timed in pieces short enough
 /// that few are interrupted by other work of the machine; the median passes over those.
 const READS: usize = 8_192;
@@ -30,15 +34,15 @@ const WARM_UPDATES: usize = 8;
 
 pub const ROUNDS: usize = 41;
 
-/// All contenders, holding the same blob.
-pub struct Field {
+/// Some contenders, holding the same blob.
+pub struct Field<const N: usize> {
     shape: Shape,
     source: Source,
-    contenders: [Box<dyn Contender>; CONTENDERS],
+    contenders: [Box<dyn Contender>; N],
 }
 
-impl Field {
-    pub fn new(shape: Shape) -> Field {
+impl Field<CONTENDERS> {
+    pub fn new(shape: Shape) -> Field<CONTENDERS> {
         let mut field = Field {
             shape,
             source: Source::new(shape.page_size),
@@ -57,9 +61,27 @@ impl Field {
         field.check_standing(&standing);
         field
     }
+}
 
+impl Field<2> {
+    /// This repository's store on one line, and on 16.
+    pub fn of_lines(shape: Shape) -> Field<2> {
+        let source = Source::new(shape.page_size);
+        let mut one = Ours::new(&shape);
+        one.updates(&shape.standing(), &source);
+        one.settle();
+        let on_lines = OnLines::new(&shape, &source);
+        Field {
+            shape,
+            source,
+            contenders: [Box::new(one), Box::new(on_lines)],
+        }
+    }
+}
+
+impl<const N: usize> Field<N> {
     /// READ of random pages of the newest version.
-    pub fn reads(&mut self) -> Times {
+    pub fn reads(&mut self) -> [f64; N] {
         let pages = self.shape.random_pages(3, READS);
         let (version, mut to) = (self.shape.updates, vec![0; self.shape.page_size]);
         rounds(&mut self.contenders, |contender, _, times| {
@@ -73,7 +95,7 @@ impl Field {
     }
 
     /// VIEW of random pages of the newest version.
-    pub fn views(&mut self) -> Times {
+    pub fn views(&mut self) -> [f64; N] {
         let pages = self.shape.random_pages(3, READS);
         let version = self.shape.updates;
         rounds(&mut self.contenders, |contender, _, times| {
@@ -87,7 +109,7 @@ impl Field {
     }
 
     /// Whole updates of `pages` pages at random places, on top of the updates that stand.
-    pub fn updates(&mut self, pages: usize) -> Times {
+    pub fn updates(&mut self, pages: usize) -> [f64; N] {
         let (shape, source) = (self.shape, &self.source);
         let version = shape.updates + BATCH;
         let piece = match pages {
@@ -105,8 +127,10 @@ impl Field {
                 times.push(time(piece.len(), updates));
             }
             contender.before_reads();
-            let last = &timed[timed.len() - piece..];
-            Pages::after(last, source).check(contender, version);
+            if contender.shows_all() {
+                let last = &timed[timed.len() - piece..];
+                Pages::after(last, source).check(contender, version);
+            }
         })
     }
 
@@ -127,14 +151,14 @@ impl Field {
 }
 
 /// The median of each contender's times. In each round every contender has its turn, and another is first.
-fn rounds(
-    contenders: &mut [Box<dyn Contender>; CONTENDERS],
+fn rounds<const N: usize>(
+    contenders: &mut [Box<dyn Contender>; N],
     mut turn: impl FnMut(&mut dyn Contender, usize, &mut Vec<f64>),
-) -> Times {
-    let mut times: [Vec<f64>; CONTENDERS] = Default::default();
+) -> [f64; N] {
+    let mut times = [(); N].map(|()| Vec::new());
     for round in 0..ROUNDS {
-        for place in 0..CONTENDERS {
-            let at = (round + place) % CONTENDERS;
+        for place in 0..N {
+            let at = (round + place) % N;
             turn(&mut *contenders[at], round, &mut times[at]);
         }
     }

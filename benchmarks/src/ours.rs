@@ -3,8 +3,11 @@
 use crate::contender::Contender;
 use crate::measure::BATCH;
 use crate::shape::{Shape, MOST};
-use pit_host::{ByteOffset, Limits, PageIndex, Record, State, Store, Version};
+use pit_host::{ByteOffset, Limits, Line, PageIndex, Record, State, Store, Version};
 use std::mem::size_of;
+
+/// The line that begins with the store.
+const LIVE: Line = Line(0);
 
 pub struct Ours {
     page_size: u64,
@@ -46,21 +49,21 @@ impl Contender for Ours {
             self.store.put(ticket, i as u64, page).expect(ACCEPTED);
         }
         let first = PageIndex(first as u64);
-        self.store.write(ticket, first).expect(ACCEPTED);
+        self.store.write(LIVE, ticket, first).expect(ACCEPTED);
         while self.store.weave(ticket).expect(ACCEPTED).rest > 0 {}
-        let published = self.store.publish().expect(ACCEPTED);
+        let published = self.store.publish(LIVE).expect(ACCEPTED);
         assert!(published.is_some());
     }
 
     fn view(&self, version: usize, page: usize) -> &[u8] {
         let (version, page) = (Version(version as u64), PageIndex(page as u64));
-        self.store.view(version, page).expect(ACCEPTED)
+        self.store.view(LIVE, version, page).expect(ACCEPTED)
     }
 
     fn read(&self, version: usize, page: usize, to: &mut [u8]) {
         let offset = ByteOffset(page as u64 * self.page_size);
         self.store
-            .read(Version(version as u64), offset, self.page_size, to)
+            .read(LIVE, Version(version as u64), offset, self.page_size, to)
             .expect(ACCEPTED);
     }
 

@@ -1,8 +1,9 @@
 //! The plot: cost against the number of updates.
 
+use crate::grouped::grouped;
 use crate::measure::{ARC, LMDB, MEMCPY, OURS};
 use crate::svg::{frame, line, rule, text, Point};
-use crate::table::{grouped, Row, What};
+use crate::table::{Row, What};
 
 const SIZE: Point = (1080.0, 700.0);
 /// Panels stand in cells of this size, the first of them below the title; how far inside, and how large they are.

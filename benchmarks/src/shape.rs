@@ -1,7 +1,7 @@
 //! What is measured: a blob's shape, the updates that made it, and the bytes they bring.
 
+use crate::grouped::grouped;
 use crate::random::Random;
-use crate::table::grouped;
 use std::fmt;
 
 /// The most pages an update has.

@@ -1,6 +1,7 @@
 //! The table: a row a figure, in plain text.
 
-use crate::measure::{ARC, CONTENDERS, LMDB, MEMCPY, OURS};
+use crate::grouped::grouped;
+use crate::measure::{LineTimes, ARC, CONTENDERS, LMDB, MEMCPY, OURS};
 use crate::shape::Shape;
 
 /// What is measured.
@@ -42,13 +43,7 @@ impl Row {
     }
 
     pub fn line(&self) -> String {
-        let mut line = format!(
-            "{:<19}{:>6}{:>7}{:>9}  ",
-            self.what.name(),
-            grouped(self.shape.page_size),
-            grouped(self.shape.blob),
-            grouped(self.shape.updates),
-        );
+        let mut line = front(self.what, self.shape);
         for figure in self.figures {
             line += &format!("{:>10}", figure.map_or("-".into(), shown));
         }
@@ -60,9 +55,36 @@ impl Row {
     }
 }
 
+/// What a row begins with.
+fn front(what: What, shape: Shape) -> String {
+    format!(
+        "{:<19}{:>6}{:>7}{:>9}  ",
+        what.name(),
+        grouped(shape.page_size),
+        grouped(shape.blob),
+        grouped(shape.updates),
+    )
+}
+
+fn heading_front() -> String {
+    format!("{:<19}{:>6}{:>7}{:>9}  ", "what", "page", "blob", "updates")
+}
+
+/// A row of what is measured on one line and on 16, and the line above these rows.
+pub fn line_of_lines(what: What, shape: Shape, times: LineTimes) -> String {
+    let [one, sixteen] = times;
+    let (shown_one, shown_sixteen) = (shown(one), shown(sixteen));
+    let ratio = shown_ratio(sixteen / one);
+    front(what, shape) + &format!("{shown_one:>10}{shown_sixteen:>10}  {ratio:>10}")
+}
+
+pub fn heading_of_lines() -> String {
+    heading_front() + &format!("{:>10}{:>10}  {:>10}", "one", "16", "16/one")
+}
+
 /// The line above the rows.
 pub fn heading() -> String {
-    let mut line = format!("{:<19}{:>6}{:>7}{:>9}  ", "what", "page", "blob", "updates");
+    let mut line = heading_front();
     for name in ["ours", "memcpy", "Arc", "LMDB"] {
         line += &format!("{name:>10}");
     }
@@ -90,17 +112,4 @@ pub fn shown_ratio(ratio: f64) -> String {
         r if r < 100.0 => format!("{r:.1}"),
         r => grouped(r.round() as usize),
     }
-}
-
-/// A number with commas: 4,096.
-pub fn grouped(number: usize) -> String {
-    let digits = number.to_string();
-    let mut text = String::new();
-    for (i, digit) in digits.chars().enumerate() {
-        if i > 0 && (digits.len() - i) % 3 == 0 {
-            text.push(',');
-        }
-        text.push(digit);
-    }
-    text
 }

@@ -1,6 +1,9 @@
 //! A shift at the mine: crews write the road model beside each other, a truck follows it, a load is booked to a version.
-use pit_host::{ByteOffset, Error, Limits, PageIndex, Shared, Store, Version};
+use pit_host::{ByteOffset, Error, Limits, Line, PageIndex, Shared, Store, Version};
 use std::{ops::Range, thread};
+
+/// The live model's line. `plan.rs` shows another beside it.
+const LIVE: Line = Line(0);
 
 /// A crew's updates of its pages, one for each height. A version waits only for those before it.
 fn work(model: &Shared, pages: Range<u64>, heights: Range<u8>) -> Result<(), Error> {
@@ -9,21 +12,22 @@ fn work(model: &Shared, pages: Range<u64>, heights: Range<u8>) -> Result<(), Err
         for i in 0..pages.end - pages.start {
             model.put(ticket, i, &[height; 256])?;
         }
-        for _ in 0..model.write(ticket, PageIndex(pages.start))?.nodes {
+        for _ in 0..model.write(LIVE, ticket, PageIndex(pages.start))?.nodes {
             model.weave(ticket)?;
         }
-        while model.publish()?.is_some() {}
+        while model.publish(LIVE)?.is_some() {}
     }
     Ok(())
 }
 
 /// Brings a truck's screen up to date, fetching only pages whose stamps differ. Answers how many.
 fn follow(model: &Shared, screen: &mut [(Version, Vec<u8>)]) -> Result<u64, Error> {
-    let (recent, mut fetched) = (model.recent()?, 0);
+    let (recent, mut fetched) = (model.recent(LIVE)?, 0);
     for (page, shown) in (0..).map(PageIndex).zip(screen) {
-        let stamp = model.stamp(recent, page)?;
+        let stamp = model.stamp(LIVE, recent, page)?;
         if stamp != shown.0 {
-            *shown = (stamp, model.with_view(recent, page, <[u8]>::to_vec)?);
+            let bytes = model.with_view(LIVE, recent, page, <[u8]>::to_vec)?;
+            *shown = (stamp, bytes);
             fetched += 1;
         }
     }
@@ -34,8 +38,8 @@ fn main() -> Result<(), Error> {
     let limits = Limits::worst(256, 32, 41, 32).expect("41 updates of 32 pages fit");
     let model = &Shared::new(Store::format(limits)?);
     work(model, 0..32, 100..101)?;
-    let (booked, mut loaded) = (model.recent()?, [0; 32 * 256]);
-    model.read(booked, ByteOffset(0), 32 * 256, &mut loaded)?;
+    let (booked, mut loaded) = (model.recent(LIVE)?, [0; 32 * 256]);
+    model.read(LIVE, booked, ByteOffset(0), 32 * 256, &mut loaded)?;
     println!("surveyed; a load is booked to version {booked}");
     let mut screen = vec![(Version(0), vec![]); 32];
     let (drone, shovel, grader, planner) = (0..8, 6..8, 4..10, 20..24);
@@ -46,13 +50,13 @@ fn main() -> Result<(), Error> {
         let mut ends = crews.into_iter().chain([truck]);
         ends.try_for_each(|end| end.join().expect("no panic"))
     })?;
-    let (recent, mut now) = (model.recent()?, [0; 32 * 256]);
-    model.read(recent, ByteOffset(0), 32 * 256, &mut now)?;
+    let (recent, mut now) = (model.recent(LIVE)?, [0; 32 * 256]);
+    model.read(LIVE, recent, ByteOffset(0), 32 * 256, &mut now)?;
     assert!(recent == Version(41) && follow(model, &mut screen)? <= 14); // pages that crews changed
     assert!(follow(model, &mut screen)? == 0 && screen.iter().flat_map(|shown| &shown.1).eq(&now));
     println!("40 updates later the truck shows version {recent}");
 
-    model.read(booked, ByteOffset(0), 32 * 256, &mut now)?;
+    model.read(LIVE, booked, ByteOffset(0), 32 * 256, &mut now)?;
     assert!(now == loaded && now == [100; 32 * 256]);
     println!("weighbridge: version {booked} reads as it did when the load was booked");
     Ok(())

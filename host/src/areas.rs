@@ -174,11 +174,11 @@ pub struct Parts<'a> {
 /// The three areas of a store, lent to it by the host, who keeps the memory.
 ///
 /// ```
-/// use pit_host::{Lent, LentAreas, Limits, Record, Version};
+/// use pit_host::{Lent, LentAreas, Limits, Line, Record, Version};
 /// let (mut pages, mut nodes, mut register) = ([0; 64], [0; 16], [Record::default(); 2]);
 /// let areas = LentAreas { pages: &mut pages, nodes: &mut nodes, register: &mut register };
 /// let store = Lent::format(Limits::new(16, 4, 8, 2), areas).unwrap();
-/// assert_eq!(store.recent(), Ok(Version(0)));
+/// assert_eq!(store.recent(Line(0)), Ok(Version(0)));
 /// ```
 #[derive(PartialEq, Eq)]
 pub struct LentAreas<'a> {

@@ -22,7 +22,7 @@ use std::fmt;
 ///         NotAllPut | NotPublished | OutOfTurn => true,
 ///         PageSize | Capacity | AreaLength | UpdateSize | RegisterFull | PagesFull | NoSuchTicket => false,
 ///         NoSuchPage | AlreadyPut | PageLength | PastEnd | BlobFull | NodesFull => false,
-///         OutsideSnapshot | BufferTooShort | Damaged => false,
+///         OutsideSnapshot | BufferTooShort | Damaged | NoSuchLine | LinesFull => false,
 ///     }
 /// }
 /// ```
@@ -53,13 +53,13 @@ pub enum Error {
     PageLength = 11,
     /// 12, ASSIGN: a page of the update is not yet put.
     NotAllPut = 12,
-    /// 13, ASSIGN as a write: it begins past the end of the last assigned version.
+    /// 13, ASSIGN as a write: it begins past the end of the line's last assigned version.
     PastEnd = 13,
     /// 14, ASSIGN: the blob would have more than 4,096 pages.
     BlobFull = 14,
     /// 15, ASSIGN: too few node places are unused.
     NodesFull = 15,
-    /// 16, READ, SIZE, STAMP and VIEW: the version is not published.
+    /// 16, READ, SIZE, STAMP, VIEW and BRANCH: the version is not published on that line.
     NotPublished = 16,
     /// 17, READ, STAMP and VIEW: the range or page is not inside the snapshot.
     OutsideSnapshot = 17,
@@ -67,10 +67,14 @@ pub enum Error {
     BufferTooShort = 18,
     /// 19, every call but FORMAT: the areas are not what a run of calls left.
     Damaged = 19,
+    /// 20, every call that names a line: no such line has begun.
+    NoSuchLine = 20,
+    /// 21, BRANCH: sixteen lines exist.
+    LinesFull = 21,
 }
 
 impl Error {
-    /// Every refusal, in the table's order.
+    /// Every refusal, in the order of their numbers.
     pub const ALL: &'static [Error] = &[
         Error::PageSize,
         Error::Capacity,
@@ -91,6 +95,8 @@ impl Error {
         Error::OutsideSnapshot,
         Error::BufferTooShort,
         Error::Damaged,
+        Error::NoSuchLine,
+        Error::LinesFull,
     ];
 
     /// The number of its row in the table of refusals, from 1 on.
@@ -103,7 +109,7 @@ impl Error {
     /// ```
     /// use pit_host::Error;
     /// assert_eq!(Error::from_number(7), Some(Error::NoSuchTicket));
-    /// assert_eq!((Error::from_number(0), Error::from_number(20)), (None, None));
+    /// assert_eq!((Error::from_number(0), Error::from_number(22)), (None, None));
     /// ```
     pub fn from_number(number: u64) -> Option<Error> {
         Error::ALL.iter().copied().find(|e| e.number() == number)
@@ -143,13 +149,15 @@ impl Error {
             Error::AlreadyPut => "page not put: that page of the update is already put",
             Error::PageLength => "page not put: the bytes are not exactly one page long",
             Error::NotAllPut => "no version assigned: a page of the update is not yet put",
-            Error::PastEnd => "no version assigned: the write begins past the end of the last assigned version",
+            Error::PastEnd => "no version assigned: the write begins past the end of the line's last assigned version",
             Error::BlobFull => "no version assigned: the blob would have more than 4,096 pages",
             Error::NodesFull => "no version assigned: too few node places are unused",
-            Error::NotPublished => "refused: that version is not published",
+            Error::NotPublished => "refused: that version is not published on that line",
             Error::OutsideSnapshot => "refused: the range or page is not inside that version",
             Error::BufferTooShort => "not read: the buffer is shorter than the length asked for",
             Error::Damaged => "refused: the areas are damaged, no run of calls left them so",
+            Error::NoSuchLine => "refused: no such line has begun",
+            Error::LinesFull => "no line begun: sixteen lines exist",
         }
     }
 }
@@ -172,7 +180,7 @@ mod tests {
         for &error in Error::ALL {
             assert_eq!(Error::check(error.number()), Err(error));
         }
-        for unknown in [20, 1 << 32, u64::MAX] {
+        for unknown in [22, 1 << 32, u64::MAX] {
             assert_eq!(Error::check(unknown), Err(Error::Damaged));
         }
     }

@@ -9,22 +9,52 @@
 use crate::areas::{LentAreas, Parts};
 use std::mem::size_of;
 
-/// What the proved calls carry from one to the next: the limits that FORMAT accepted, and six counters. Its fields
-/// are plain numbers, so that a host can keep a store's state wherever it keeps the lent areas.
+/// A store's lines are at most so many.
+pub const LINES: usize = 16;
+
+/// What the proved calls carry of one line from one to the next: where it begins, and how far it has come. It is all zeros
+/// where the line has not begun.
+///
+/// ```
+/// use pit_host::{Limits, Line, Store, Version};
+/// let mut store = Store::format(Limits::new(16, 4, 8, 2)).unwrap();
+/// store.branch(Line(0), Version(0)).unwrap();
+/// let line = store.state().lines[1];
+/// assert_eq!((line.source, line.start, line.assigned, line.published, line.blob), (0, 0, 0, 0, 0));
+/// ```
+#[repr(C)]
+#[derive(Clone, Copy, Debug, Default, PartialEq, Eq, Hash)]
+#[non_exhaustive]
+pub struct LineState {
+    /// The line that it begins from.
+    pub source: u64,
+    /// The version that it begins from: up to this one its versions are the source's.
+    pub start: u64,
+    /// The last version assigned.
+    pub assigned: u64,
+    /// The last version published.
+    pub published: u64,
+    /// The size in pages of the last version assigned.
+    pub blob: u64,
+}
+
+/// What the proved calls carry from one to the next: the limits that FORMAT accepted, five counters, and the lines. Its
+/// fields are plain numbers, so that a host can keep a store's state wherever it keeps the lent areas.
 ///
 /// ```
 /// use pit_host::{Limits, Store};
 /// let store = Store::format(Limits::new(16, 4, 8, 2)).unwrap();
 /// let state = store.state();
 /// assert_eq!((state.size, state.pages, state.nodes, state.updates), (16, 4, 8, 2));
-/// assert_eq!((state.tickets, state.published), (0, 0));
+/// assert_eq!((state.tickets, state.begun, state.lines[0].published), (0, 1, 0));
 /// ```
 ///
 /// Later stores may carry more, so a host that puts one together sets the fields of the default, which is all zeros:
 ///
 /// ```compile_fail,E0639
-/// # let (size, pages, nodes, updates, tickets, taken, assigned, places, published, blob) = (16, 4, 8, 2, 0, 0, 0, 0, 0, 0);
-/// let state = pit_host::State { size, pages, nodes, updates, tickets, taken, assigned, places, published, blob };
+/// # let (size, pages, nodes, updates, tickets, taken, assigned, places, begun) = (16, 4, 8, 2, 0, 0, 0, 0, 1);
+/// # let lines = [pit_host::LineState::default(); 16];
+/// let state = pit_host::State { size, pages, nodes, updates, tickets, taken, assigned, places, begun, lines };
 /// ```
 #[repr(C)]
 #[derive(Clone, Copy, Debug, Default, PartialEq, Eq, Hash)]
@@ -42,29 +72,46 @@ pub struct State {
     pub tickets: u64,
     /// How many page numbers are taken.
     pub taken: u64,
-    /// The last version assigned.
+    /// How many updates have a version, over all lines.
     pub assigned: u64,
     /// How many node places are taken.
     pub places: u64,
-    /// The last version published.
-    pub published: u64,
-    /// The size in pages of the last version assigned.
-    pub blob: u64,
+    /// How many lines have begun.
+    pub begun: u64,
+    /// The lines, in the order in which they begin.
+    pub lines: [LineState; 16],
 }
 
-/// A record of the register of updates: the k-th holds the k-th ticket's part and the k-th version's part. An empty
-/// record, the default, is all zeros. Only the store's calls have a reason to write one.
+/// For each line the number of an update, 16 bits a line, four lines a number, the lowest first; 0 for none.
+#[repr(C)]
+#[derive(Clone, Copy, Debug, Default, PartialEq, Eq, Hash)]
+#[non_exhaustive]
+pub struct Entries {
+    /// Lines 0 to 3.
+    pub from0: u64,
+    /// Lines 4 to 7.
+    pub from4: u64,
+    /// Lines 8 to 11.
+    pub from8: u64,
+    /// Lines 12 to 15.
+    pub from12: u64,
+}
+
+/// A record of the register of updates: the k-th holds the k-th ticket's part, and the k-th update's, in the order of ASSIGN
+/// over all lines; and for each line the update that is its own version k. An empty record, the default, is all zeros.
+/// Only the store's calls have a reason to write one.
 ///
 /// ```
 /// let register = [pit_host::Record::default(); 8];
-/// assert_eq!(register[0].version, 0);
+/// assert_eq!(register[0].update, 0);
 /// ```
 ///
 /// Later records may hold more, so there is no literal of one outside this crate:
 ///
 /// ```compile_fail,E0639
-/// # let (n, number, put, version, ticket, f, last, size, place, woven) = (0, 0, 0, 0, 0, 0, 0, 0, 0, 0);
-/// let record = pit_host::Record { n, number, put, version, ticket, f, last, size, place, woven };
+/// # let (n, number, put, update, ticket, name, f, last, size, place, woven) = (0, 0, 0, 0, 0, 0, 0, 0, 0, 0, 0);
+/// # let entries = pit_host::Entries::default();
+/// let record = pit_host::Record { n, number, put, update, ticket, name, f, last, size, place, woven, entries };
 /// ```
 #[repr(C)]
 #[derive(Clone, Copy, Debug, Default, PartialEq, Eq, Hash)]
@@ -76,20 +123,24 @@ pub struct Record {
     pub number: u64,
     /// Which of the ticket's pages are put: bit i for page i.
     pub put: u64,
-    /// The ticket's version; 0 before it has one.
-    pub version: u64,
-    /// The version's ticket.
+    /// The number of the ticket's update; 0 before it has a version.
+    pub update: u64,
+    /// The update's ticket.
     pub ticket: u64,
-    /// The first page of the version's update.
+    /// The line and version that the update got, as a [`LineVersion`](crate::LineVersion).
+    pub name: u64,
+    /// The update's first page.
     pub f: u64,
-    /// The last page of the version's update.
+    /// The update's last page.
     pub last: u64,
-    /// The blob's size in pages after the version's update.
+    /// The blob's size in pages after the update, on its line.
     pub size: u64,
-    /// The version's first node place.
+    /// The update's first node place.
     pub place: u64,
-    /// How many of the version's nodes are woven.
+    /// How many of the update's nodes are woven.
     pub woven: u64,
+    /// For each line the number of the update that is its own version of this record's number.
+    pub entries: Entries,
 }
 
 // Replies begin with the number of the refusal, 0 where the call was accepted; the rest is then what it answers.
@@ -135,6 +186,13 @@ pub struct PublishReply {
 }
 
 #[repr(C)]
+pub struct BranchReply {
+    pub refusal: u64,
+    pub state: State,
+    pub line: u64,
+}
+
+#[repr(C)]
 pub struct SizeReply {
     pub refusal: u64,
     pub bytes: u64,
@@ -157,13 +215,16 @@ pub struct ViewReply {
 
 // Numbers of 64 bits, without gaps: the layout that the libraries were proved and compiled with.
 const _: () = assert!(
-    size_of::<State>() == 8 * 10
-        && size_of::<Record>() == 8 * 10
-        && size_of::<FormatReply>() == 8 * 11
-        && size_of::<BeginReply>() == 8 * 12
-        && size_of::<AssignReply>() == 8 * 13
+    size_of::<LineState>() == 8 * 5
+        && size_of::<State>() == 8 * (9 + 5 * LINES)
+        && size_of::<Entries>() == 8 * 4
+        && size_of::<Record>() == 8 * 15
+        && size_of::<FormatReply>() == 8 + size_of::<State>()
+        && size_of::<BeginReply>() == 8 * 2 + size_of::<State>()
+        && size_of::<AssignReply>() == 8 * 3 + size_of::<State>()
         && size_of::<WeaveReply>() == 8 * 7
-        && size_of::<PublishReply>() == 8 * 12
+        && size_of::<PublishReply>() == 8 * 2 + size_of::<State>()
+        && size_of::<BranchReply>() == 8 * 2 + size_of::<State>()
         && size_of::<SizeReply>() == 8 * 2
         && size_of::<VersionReply>() == 8 * 2
         && size_of::<ViewReply>() == 8 * 3
@@ -200,14 +261,14 @@ extern "C" {
         pages: *const u8, pages_len: usize,
         nodes: *const u32, nodes_len: usize,
         register: *mut Record, register_len: usize,
-        ticket: u64, f: u64,
+        line: u64, ticket: u64, f: u64,
     ) -> AssignReply;
     fn pit_append(
         s: State,
         pages: *const u8, pages_len: usize,
         nodes: *const u32, nodes_len: usize,
         register: *mut Record, register_len: usize,
-        ticket: u64,
+        line: u64, ticket: u64,
     ) -> AssignReply;
     fn pit_weave(
         s: State,
@@ -221,13 +282,21 @@ extern "C" {
         pages: *const u8, pages_len: usize,
         nodes: *const u32, nodes_len: usize,
         register: *const Record, register_len: usize,
+        line: u64,
     ) -> PublishReply;
+    fn pit_branch(
+        s: State,
+        pages: *const u8, pages_len: usize,
+        nodes: *const u32, nodes_len: usize,
+        register: *const Record, register_len: usize,
+        line: u64, version: u64,
+    ) -> BranchReply;
     fn pit_read(
         s: State,
         pages: *const u8, pages_len: usize,
         nodes: *const u32, nodes_len: usize,
         register: *const Record, register_len: usize,
-        version: u64, offset: u64, len: u64,
+        line: u64, version: u64, offset: u64, len: u64,
         buffer: *mut u8, buffer_len: usize,
     ) -> u64;
     fn pit_size(
@@ -235,27 +304,28 @@ extern "C" {
         pages: *const u8, pages_len: usize,
         nodes: *const u32, nodes_len: usize,
         register: *const Record, register_len: usize,
-        version: u64,
+        line: u64, version: u64,
     ) -> SizeReply;
     fn pit_recent(
         s: State,
         pages: *const u8, pages_len: usize,
         nodes: *const u32, nodes_len: usize,
         register: *const Record, register_len: usize,
+        line: u64,
     ) -> VersionReply;
     fn pit_stamp(
         s: State,
         pages: *const u8, pages_len: usize,
         nodes: *const u32, nodes_len: usize,
         register: *const Record, register_len: usize,
-        version: u64, page: u64,
+        line: u64, version: u64, page: u64,
     ) -> VersionReply;
     fn pit_view(
         s: State,
         pages: *const u8, pages_len: usize,
         nodes: *const u32, nodes_len: usize,
         register: *const Record, register_len: usize,
-        version: u64, page: u64,
+        line: u64, version: u64, page: u64,
     ) -> ViewReply;
 }
 
@@ -318,79 +388,86 @@ pub fn format(limits: [u64; 4], areas: LentAreas<'_>) -> FormatReply {
 
 /// BEGIN.
 #[inline]
-pub fn begin(s: State, areas: LentAreas<'_>, n: u64) -> BeginReply {
+pub fn begin(s: &State, areas: LentAreas<'_>, n: u64) -> BeginReply {
     // SAFETY: the areas are borrowed mutably for the call; total for any store, areas and number.
-    unsafe { call!(pit_begin(s; lent areas; n)) }
+    unsafe { call!(pit_begin(*s; lent areas; n)) }
 }
 
 /// PUT.
 #[inline]
-pub fn put(s: State, areas: LentAreas<'_>, ticket: u64, i: u64, bytes: &[u8]) -> u64 {
+pub fn put(s: &State, areas: LentAreas<'_>, ticket: u64, i: u64, bytes: &[u8]) -> u64 {
     // SAFETY: the areas are borrowed mutably, so `bytes` is no part of them; total for any arguments.
-    unsafe { call!(pit_put(s; lent areas; ticket, i, bytes.as_ptr(), bytes.len())) }
+    unsafe { call!(pit_put(*s; lent areas; ticket, i, bytes.as_ptr(), bytes.len())) }
 }
 
 /// ASSIGN as a write at page `f`.
 #[inline]
-pub fn write(s: State, areas: LentAreas<'_>, ticket: u64, f: u64) -> AssignReply {
+pub fn write(s: &State, areas: LentAreas<'_>, line: u64, ticket: u64, f: u64) -> AssignReply {
     // SAFETY: the areas are borrowed mutably for the call; total for any store, areas and numbers.
-    unsafe { call!(pit_write(s; lent areas; ticket, f)) }
+    unsafe { call!(pit_write(*s; lent areas; line, ticket, f)) }
 }
 
 /// ASSIGN as an append.
 #[inline]
-pub fn append(s: State, areas: LentAreas<'_>, ticket: u64) -> AssignReply {
-    // SAFETY: the areas are borrowed mutably for the call; total for any store, areas and number.
-    unsafe { call!(pit_append(s; lent areas; ticket)) }
+pub fn append(s: &State, areas: LentAreas<'_>, line: u64, ticket: u64) -> AssignReply {
+    // SAFETY: the areas are borrowed mutably for the call; total for any store, areas and numbers.
+    unsafe { call!(pit_append(*s; lent areas; line, ticket)) }
 }
 
 /// WEAVE.
 #[inline]
-pub fn weave(s: State, areas: LentAreas<'_>, ticket: u64) -> WeaveReply {
+pub fn weave(s: &State, areas: LentAreas<'_>, ticket: u64) -> WeaveReply {
     // SAFETY: the areas are borrowed mutably for the call; total for any store, areas and number.
-    unsafe { call!(pit_weave(s; lent areas; ticket)) }
+    unsafe { call!(pit_weave(*s; lent areas; ticket)) }
 }
 
 /// PUBLISH. It only reads the areas.
 #[inline]
-pub fn publish(s: State, areas: Parts<'_>) -> PublishReply {
-    // SAFETY: the areas are borrowed for the call, which only reads them; total for any store and areas.
-    unsafe { call!(pit_publish(s; seen areas; )) }
+pub fn publish(s: &State, areas: Parts<'_>, line: u64) -> PublishReply {
+    // SAFETY: the areas are borrowed for the call, which only reads them; total for any store, areas and number.
+    unsafe { call!(pit_publish(*s; seen areas; line)) }
+}
+
+/// BRANCH. It only reads the areas.
+#[inline]
+pub fn branch(s: &State, areas: Parts<'_>, line: u64, version: u64) -> BranchReply {
+    // SAFETY: the areas are borrowed for the call, which only reads them; total for any store, areas and numbers.
+    unsafe { call!(pit_branch(*s; seen areas; line, version)) }
 }
 
 /// READ.
 #[inline]
-pub fn read(s: State, areas: Parts<'_>, at: [u64; 3], buffer: &mut [u8]) -> u64 {
-    let [version, offset, len] = at;
+pub fn read(s: &State, areas: Parts<'_>, at: [u64; 4], buffer: &mut [u8]) -> u64 {
+    let [line, version, offset, len] = at;
     let (to, room) = (buffer.as_mut_ptr(), buffer.len());
     // SAFETY: `buffer` is borrowed mutably, so it is no part of the areas, which are only read; total for any arguments.
-    unsafe { call!(pit_read(s; seen areas; version, offset, len, to, room)) }
+    unsafe { call!(pit_read(*s; seen areas; line, version, offset, len, to, room)) }
 }
 
 /// SIZE.
 #[inline]
-pub fn size(s: State, areas: Parts<'_>, version: u64) -> SizeReply {
-    // SAFETY: the areas are borrowed for the call, which only reads them; total for any store, areas and number.
-    unsafe { call!(pit_size(s; seen areas; version)) }
+pub fn size(s: &State, areas: Parts<'_>, line: u64, version: u64) -> SizeReply {
+    // SAFETY: the areas are borrowed for the call, which only reads them; total for any store, areas and numbers.
+    unsafe { call!(pit_size(*s; seen areas; line, version)) }
 }
 
 /// RECENT.
 #[inline]
-pub fn recent(s: State, areas: Parts<'_>) -> VersionReply {
-    // SAFETY: the areas are borrowed for the call, which only reads them; total for any store and areas.
-    unsafe { call!(pit_recent(s; seen areas; )) }
+pub fn recent(s: &State, areas: Parts<'_>, line: u64) -> VersionReply {
+    // SAFETY: the areas are borrowed for the call, which only reads them; total for any store, areas and number.
+    unsafe { call!(pit_recent(*s; seen areas; line)) }
 }
 
 /// STAMP.
 #[inline]
-pub fn stamp(s: State, areas: Parts<'_>, version: u64, page: u64) -> VersionReply {
+pub fn stamp(s: &State, areas: Parts<'_>, line: u64, version: u64, page: u64) -> VersionReply {
     // SAFETY: the areas are borrowed for the call, which only reads them; total for any store, areas and numbers.
-    unsafe { call!(pit_stamp(s; seen areas; version, page)) }
+    unsafe { call!(pit_stamp(*s; seen areas; line, version, page)) }
 }
 
 /// VIEW.
 #[inline]
-pub fn view(s: State, areas: Parts<'_>, version: u64, page: u64) -> ViewReply {
+pub fn view(s: &State, areas: Parts<'_>, line: u64, version: u64, page: u64) -> ViewReply {
     // SAFETY: the areas are borrowed for the call, which only reads them; total for any store, areas and numbers.
-    unsafe { call!(pit_view(s; seen areas; version, page)) }
+    unsafe { call!(pit_view(*s; seen areas; line, version, page)) }
 }

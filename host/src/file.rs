@@ -4,12 +4,13 @@ mod form;
 #[allow(unsafe_code)]
 mod lock;
 mod new;
+mod old;
 
 use crate::areas::{Areas, Lend};
 use crate::counters::Version;
 use crate::error::Error;
 use crate::keeper::{Keeper, Store};
-use form::{each_piece, fill, Header, FORM};
+use form::{each_piece, Header};
 use new::NewFile;
 use std::fmt;
 use std::fs::File;
@@ -74,7 +75,7 @@ impl fmt::Display for FileError {
         match self {
             Io(e) => write!(f, "the file could not be opened, read or written: {e}"),
             Foreign => f.write_str("the file is no store's: it begins otherwise"),
-            Form(form) => write!(f, "the file has form {form}; only form {FORM} is known"),
+            Form(form) => write!(f, "the file has form {form}; only forms 1 and 2 are known"),
             Limits(e) => write!(f, "the store's limits are not allowed; {e}"),
             AreaLengths => f.write_str("the areas' lengths are not those of the store's limits"),
             Truncated { expected, found } => {
@@ -109,8 +110,8 @@ impl From<io::Error> for FileError {
 }
 
 impl<A: Lend> Keeper<A> {
-    /// Saves the store whole, with open tickets and trees half woven, and gives the last published version that the
-    /// file holds.
+    /// Saves the store whole, with all lines, open tickets and trees half woven, and gives the last published version of
+    /// line 0 that the file holds.
     ///
     /// A new file is written beside the old one, forced to the disk and renamed over it, and the folder is forced to
     /// the disk. So whatever happens, the old file or the new one stands there whole; after an error the old one,
@@ -129,12 +130,13 @@ impl<A: Lend> Keeper<A> {
     /// | Bytes | What |
     /// |---|---|
     /// | 0 to 7 | the letters `PITSTORE` |
-    /// | 8 to 15 | the form, 1 |
+    /// | 8 to 15 | the form, 2 |
     /// | 16 to 47 | page size; capacities in pages, nodes and updates |
-    /// | 48 to 95 | last ticket given; page numbers taken; last version assigned; node places taken; last version published; size in pages of the last version assigned |
-    /// | 96 to 119 | lengths in bytes of the page area, the node area and the register |
-    /// | 120 to 127 | checksum, CRC-64/XZ, over bytes 0 to 119 and all bytes from 128 on |
-    /// | from 128 | the page area; the node area, its numbers of 32 bits, lowest byte first; the register, ten numbers a record, in the order of [`Record`](crate::Record)'s fields |
+    /// | 48 to 87 | last ticket given; page numbers taken; updates that have a version; node places taken; lines begun |
+    /// | 88 to 727 | sixteen lines, five numbers a line, in the order of [`LineState`](crate::LineState)'s fields |
+    /// | 728 to 751 | lengths in bytes of the page area, the node area and the register |
+    /// | 752 to 759 | checksum, CRC-64/XZ, over bytes 0 to 751 and all bytes from 760 on |
+    /// | from 760 | the page area; the node area, its numbers of 32 bits, lowest byte first; the register, fifteen numbers a record, in the order of [`Record`](crate::Record)'s fields |
     ///
     /// ```
     /// use pit_host::{Limits, Store, Version};
@@ -161,24 +163,27 @@ impl<A: Lend> Keeper<A> {
         out.flush()?;
         drop(out);
         new.replace()?;
-        Ok(Version(header.state.published))
+        Ok(Version(header.state.lines[0].published))
     }
 }
 
 impl Store {
     /// Loads a store just as [`save`](Keeper::save) found it. Everything is checked before there is a store, and the
     /// lengths before memory is taken; [`FileError`] says what can be wrong.
+    ///
+    /// A file of form 1, from before there were lines, is loaded as a store with line 0 alone: just the one that the same
+    /// calls on line 0 leave now.
     pub fn load(path: impl AsRef<Path>) -> Result<Store, FileError> {
         let file = File::open(path)?;
         let found = file.metadata()?.len();
         let mut file = BufReader::new(file);
-        let header = Header::read(&mut file, found)?;
+        let (header, mut sum) = Header::read(&mut file, found)?;
         header.check_limits()?;
         header.check_length(found)?;
 
         let mut areas = Areas::new(&header.limits()).map_err(FileError::Limits)?;
-        fill(&mut areas, &mut file)?;
-        header.check_checksum(areas.parts())?;
+        header.fill(&mut areas, &mut file, &mut sum)?;
+        header.check_checksum(&sum)?;
         header.check_counters()?;
         Ok(Keeper::resume(header.state, areas))
     }

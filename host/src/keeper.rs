@@ -1,30 +1,33 @@
 //! The store: every call, written once over any areas.
 
 use crate::areas::{Areas, Lend, LentAreas, Limits};
-use crate::counters::{ByteOffset, PageIndex, Ticket, Version};
+use crate::counters::{ByteOffset, Line, LineVersion, PageIndex, Ticket, Version};
 use crate::error::Error;
 use crate::ffi::{self, State};
 
 /// A store over areas of any kind: what the proved calls carry from one to the next, with the areas they work in.
 ///
 /// An update goes through five stages: [`begin`](Keeper::begin) gives a ticket, [`put`](Keeper::put) takes its pages,
-/// [`write`](Keeper::write) or [`append`](Keeper::append) gives it a version, [`weave`](Keeper::weave) stores that
-/// version's tree a node at a time, and [`publish`](Keeper::publish) makes versions readable, in their order. Updates
-/// may be in work beside each other. A published version never changes. A refused call changes nothing.
+/// [`write`](Keeper::write) or [`append`](Keeper::append) gives it a version on a line, [`weave`](Keeper::weave) stores that
+/// version's tree a node at a time, and [`publish`](Keeper::publish) makes a line's versions readable, in their order.
+/// Updates may be in work beside each other. A published version never changes. A refused call changes nothing.
+///
+/// Line 0 begins with the store. [`branch`](Keeper::branch) begins another from a published version, up to sixteen in all.
+/// It shares everything up to that version and goes on by itself: what is done on one line, no other reads.
 ///
 /// ```
-/// use pit_host::{ByteOffset, Limits, Store, Version};
+/// use pit_host::{ByteOffset, Limits, Line, Store, Version};
 /// # fn main() -> Result<(), pit_host::Error> {
 /// let mut store = Store::format(Limits::new(16, 4, 8, 2))?;
 /// let ticket = store.begin(1)?;
 /// store.put(ticket, 0, &[7; 16])?;
-/// let assigned = store.append(ticket)?;
+/// let assigned = store.append(Line(0), ticket)?;
 /// for _ in 0..assigned.nodes {
 ///     store.weave(ticket)?;
 /// }
-/// assert_eq!(store.publish()?, Some(Version(1)));
+/// assert_eq!(store.publish(Line(0))?, Some(Version(1)));
 /// let mut bytes = [0; 4];
-/// store.read(Version(1), ByteOffset(12), 4, &mut bytes)?;
+/// store.read(Line(0), Version(1), ByteOffset(12), 4, &mut bytes)?;
 /// assert_eq!(bytes, [7; 4]);
 /// # Ok(())
 /// # }
@@ -41,7 +44,7 @@ pub type Store = Keeper<Areas>;
 /// A store in areas that the host lends.
 pub type Lent<'a> = Keeper<LentAreas<'a>>;
 
-/// What ASSIGN gave: the next version, and how many nodes are to be woven for it.
+/// What ASSIGN gave: the line's next version, and how many nodes are to be woven for it.
 #[derive(Clone, Copy, Debug, PartialEq, Eq, Hash)]
 pub struct Assigned {
     /// The version.
@@ -51,17 +54,32 @@ pub struct Assigned {
 }
 
 /// A node that WEAVE stored: its name, its two numbers, and how many nodes of its version are left.
+///
+/// Its version and its children's say their line too, each that on which the update got its version.
+///
+/// ```
+/// use pit_host::{Limits, Line, LineVersion, Store, Version};
+/// # fn main() -> Result<(), pit_host::Error> {
+/// let mut store = Store::format(Limits::new(16, 4, 8, 2))?;
+/// let plan = store.branch(Line(0), Version(0))?;
+/// let ticket = store.begin(1)?;
+/// store.put(ticket, 0, &[7; 16])?;
+/// store.append(plan, ticket)?;
+/// assert_eq!(store.weave(ticket)?.version, LineVersion::new(plan, Version(1)));
+/// # Ok(())
+/// # }
+/// ```
 #[derive(Clone, Copy, Debug, PartialEq, Eq, Hash)]
 pub struct Node {
-    /// The version it belongs to.
-    pub version: Version,
+    /// The version it belongs to, with its line.
+    pub version: LineVersion,
     /// The first page of its range.
     pub first: PageIndex,
     /// The pages of its range; 1 is a leaf.
     pub span: u64,
-    /// The left child's version, 0 where no page is there; of a leaf, the page number.
+    /// The left child's version with its line, 0 where no page is there; of a leaf, the page number.
     pub left: u32,
-    /// The right child's version, 0 where no page is there; of a leaf, 0.
+    /// The right child's version with its line, 0 where no page is there; of a leaf, 0.
     pub right: u32,
     /// How many nodes of its version are left to weave.
     pub rest: u64,
@@ -89,9 +107,9 @@ impl<A> Keeper<A> {
     /// a state and areas that belong together, just as a call left them, are the store they were.
     ///
     /// ```
-    /// use pit_host::{Areas, Error, Keeper, Limits, State};
+    /// use pit_host::{Areas, Error, Keeper, Limits, Line, State};
     /// let areas = Areas::new(&Limits::new(16, 1, 1, 1)).unwrap();
-    /// assert_eq!(Keeper::resume(State::default(), areas).recent(), Err(Error::AreaLength));
+    /// assert_eq!(Keeper::resume(State::default(), areas).recent(Line(0)), Err(Error::AreaLength));
     /// ```
     pub fn resume(state: State, areas: A) -> Keeper<A> {
         Keeper { state, areas }
@@ -128,7 +146,7 @@ impl<A: Lend> Keeper<A> {
 
     /// BEGIN: the next ticket, for an update of `n` pages. Refused: 3, 4, 5, 6.
     pub fn begin(&mut self, n: u64) -> Result<Ticket, Error> {
-        let reply = ffi::begin(self.state, self.areas.lend(), n);
+        let reply = ffi::begin(&self.state, self.areas.lend(), n);
         Error::check(reply.refusal)?;
         self.state = reply.state;
         Ok(Ticket(reply.ticket))
@@ -137,20 +155,26 @@ impl<A: Lend> Keeper<A> {
     /// PUT: the bytes of page `i` of the update, counted from 0; in any order, each page once.
     /// Refused: 3, 7, 8, 9, 10, 11, 19.
     pub fn put(&mut self, ticket: Ticket, i: u64, bytes: &[u8]) -> Result<(), Error> {
-        Error::check(ffi::put(self.state, self.areas.lend(), ticket.0, i, bytes))
+        Error::check(ffi::put(&self.state, self.areas.lend(), ticket.0, i, bytes))
     }
 
-    /// ASSIGN as a write: the next version, with the update's pages from page `first` on. `first` may be any page of
-    /// the last assigned version, or the one after its end. Refused: 3, 7, 8, 12, 13, 14, 15, 19.
-    pub fn write(&mut self, ticket: Ticket, first: PageIndex) -> Result<Assigned, Error> {
-        let reply = ffi::write(self.state, self.areas.lend(), ticket.0, first.0);
+    /// ASSIGN as a write: the line's next version, with the update's pages from page `first` on. `first` may be any page of
+    /// the line's last assigned version, or the one after its end. Refused: 3, 7, 8, 20, 12, 13, 14, 15, 19.
+    pub fn write(
+        &mut self,
+        line: Line,
+        ticket: Ticket,
+        first: PageIndex,
+    ) -> Result<Assigned, Error> {
+        let areas = self.areas.lend();
+        let reply = ffi::write(&self.state, areas, line.0, ticket.0, first.0);
         self.assigned(reply)
     }
 
-    /// ASSIGN as an append: the next version, with the update's pages at the end of the last assigned version.
-    /// Refused: 3, 7, 8, 12, 14, 15, 19.
-    pub fn append(&mut self, ticket: Ticket) -> Result<Assigned, Error> {
-        let reply = ffi::append(self.state, self.areas.lend(), ticket.0);
+    /// ASSIGN as an append: the line's next version, with the update's pages at the end of its last assigned version.
+    /// Refused: 3, 7, 8, 20, 12, 14, 15, 19.
+    pub fn append(&mut self, line: Line, ticket: Ticket) -> Result<Assigned, Error> {
+        let reply = ffi::append(&self.state, self.areas.lend(), line.0, ticket.0);
         self.assigned(reply)
     }
 
@@ -165,10 +189,10 @@ impl<A: Lend> Keeper<A> {
 
     /// WEAVE: stores the next node of the ticket's version. Refused: 3, 7, 8, 19.
     pub fn weave(&mut self, ticket: Ticket) -> Result<Node, Error> {
-        let reply = ffi::weave(self.state, self.areas.lend(), ticket.0);
+        let reply = ffi::weave(&self.state, self.areas.lend(), ticket.0);
         Error::check(reply.refusal)?;
         Ok(Node {
-            version: Version(reply.version),
+            version: LineVersion(reply.version),
             first: PageIndex(reply.first),
             span: reply.span,
             // the node area's 32-bit numbers, widened for C
@@ -178,51 +202,74 @@ impl<A: Lend> Keeper<A> {
         })
     }
 
-    /// PUBLISH: the version after the last published one, if it is fully woven; none where that is still awaited.
-    /// Refused: 3, 19.
-    pub fn publish(&mut self) -> Result<Option<Version>, Error> {
-        let reply = ffi::publish(self.state, self.areas.parts());
+    /// PUBLISH: the version after the line's last published one, if it is fully woven; none where that is still awaited.
+    /// Refused: 3, 20, 19.
+    pub fn publish(&mut self, line: Line) -> Result<Option<Version>, Error> {
+        let reply = ffi::publish(&self.state, self.areas.parts(), line.0);
         Error::check(reply.refusal)?;
         self.state = reply.state;
         Ok((reply.version != 0).then_some(Version(reply.version)))
     }
 
+    /// BRANCH: a new line, from a published version of a line. It has everything up to that version, published there too,
+    /// and goes on with its own next version. From version 0 it begins empty. Refused: 3, 20, 16, 21, 19.
+    ///
+    /// ```
+    /// use pit_host::{Error, Limits, Line, Store, Version};
+    /// # fn main() -> Result<(), pit_host::Error> {
+    /// let mut store = Store::format(Limits::new(16, 4, 8, 2))?;
+    /// assert_eq!(store.branch(Line(0), Version(0))?, Line(1));
+    /// assert_eq!(store.recent(Line(1))?, Version(0));
+    /// assert_eq!(store.branch(Line(2), Version(0)), Err(Error::NoSuchLine));
+    /// assert_eq!(store.branch(Line(1), Version(1)), Err(Error::NotPublished));
+    /// # Ok(())
+    /// # }
+    /// ```
+    pub fn branch(&mut self, line: Line, version: Version) -> Result<Line, Error> {
+        let reply = ffi::branch(&self.state, self.areas.parts(), line.0, version.0);
+        Error::check(reply.refusal)?;
+        self.state = reply.state;
+        Ok(Line(reply.line))
+    }
+
     /// READ: fills the front of `buffer` with `len` bytes of a version; the rest of it stays. Refused, all of it stays:
-    /// 3, 16, 17, 18, 19.
+    /// 3, 20, 16, 17, 18, 19.
     pub fn read(
         &self,
+        line: Line,
         version: Version,
         offset: ByteOffset,
         len: u64,
         buffer: &mut [u8],
     ) -> Result<(), Error> {
-        let range = [version.0, offset.0, len];
-        Error::check(ffi::read(self.state, self.areas.parts(), range, buffer))
+        let range = [line.0, version.0, offset.0, len];
+        Error::check(ffi::read(&self.state, self.areas.parts(), range, buffer))
     }
 
-    /// SIZE: the size of a version in bytes. Refused: 3, 16, 19.
-    pub fn size(&self, version: Version) -> Result<u64, Error> {
-        let reply = ffi::size(self.state, self.areas.parts(), version.0);
+    /// SIZE: the size of a version in bytes. Refused: 3, 20, 16, 19.
+    pub fn size(&self, line: Line, version: Version) -> Result<u64, Error> {
+        let reply = ffi::size(&self.state, self.areas.parts(), line.0, version.0);
         Error::check(reply.refusal).map(|()| reply.bytes)
     }
 
-    /// RECENT: the last published version. Refused: 3.
-    pub fn recent(&self) -> Result<Version, Error> {
-        let reply = ffi::recent(self.state, self.areas.parts());
+    /// RECENT: the line's last published version. Refused: 3, 20.
+    pub fn recent(&self, line: Line) -> Result<Version, Error> {
+        let reply = ffi::recent(&self.state, self.areas.parts(), line.0);
         Error::check(reply.refusal).map(|()| Version(reply.version))
     }
 
-    /// STAMP: the newest version up to `version` whose update covers the page. A page has the same bytes in two versions
-    /// where its stamps there are the same. Refused: 3, 16, 17, 19.
-    pub fn stamp(&self, version: Version, page: PageIndex) -> Result<Version, Error> {
-        let reply = ffi::stamp(self.state, self.areas.parts(), version.0, page.0);
-        Error::check(reply.refusal).map(|()| Version(reply.version))
-    }
-
-    /// VIEW: the bytes of a page of a version, where they lie in the page area, uncopied. Refused: 3, 16, 17, 19.
-    pub fn view(&self, version: Version, page: PageIndex) -> Result<&[u8], Error> {
+    /// STAMP: the line's newest version up to `version` whose update covers the page. A page has the same bytes in two
+    /// versions of a line where its stamps there are the same. Refused: 3, 20, 16, 17, 19.
+    pub fn stamp(&self, line: Line, version: Version, page: PageIndex) -> Result<Version, Error> {
         let areas = self.areas.parts();
-        let reply = ffi::view(self.state, areas, version.0, page.0);
+        let reply = ffi::stamp(&self.state, areas, line.0, version.0, page.0);
+        Error::check(reply.refusal).map(|()| Version(reply.version))
+    }
+
+    /// VIEW: the bytes of a page of a version, where they lie in the page area, uncopied. Refused: 3, 20, 16, 17, 19.
+    pub fn view(&self, line: Line, version: Version, page: PageIndex) -> Result<&[u8], Error> {
+        let areas = self.areas.parts();
+        let reply = ffi::view(&self.state, areas, line.0, version.0, page.0);
         Error::check(reply.refusal)?;
         // The proved call replies with a part inside the area that it was lent.
         let begin = usize::try_from(reply.begin).ok();

@@ -1,5 +1,6 @@
 //! The dispatch host's side of the pit model store: one blob of pages, kept in versions that share what they have
-//! in common. The calls are proved, and linked as static libraries; this crate is the Rust over them.
+//! in common, on up to sixteen lines. The calls are proved, and linked as static libraries; this crate is the Rust over
+//! them.
 //!
 //! - [`Store`] owns its areas, [`Lent`] works in areas that the host lends; both are a [`Keeper`].
 //! - [`Shared`] is a store for threads: writers each on a ticket, readers beside each other.
@@ -8,23 +9,27 @@
 //! - A refused call gives an [`Error`], with the number of its row in the table of refusals.
 //!
 //! ```
-//! use pit_host::{Limits, PageIndex, Store, Version};
+//! use pit_host::{Limits, Line, PageIndex, Store, Version};
 //! # fn main() -> Result<(), pit_host::Error> {
 //! // Room for 100 updates of up to 2 pages each, in a road model of up to 64 pages of 256 bytes.
 //! let mut store = Store::format(Limits::worst(256, 64, 100, 2).unwrap())?;
 //!
+//! let live = Line(0);
 //! let ticket = store.begin(2)?;
 //! store.put(ticket, 1, &[20; 256])?;
 //! store.put(ticket, 0, &[10; 256])?;
-//! let assigned = store.append(ticket)?;
+//! let assigned = store.append(live, ticket)?;
 //! for _ in 0..assigned.nodes {
 //!     store.weave(ticket)?;
 //! }
-//! assert_eq!(store.publish()?, Some(Version(1)));
+//! assert_eq!(store.publish(live)?, Some(Version(1)));
 //!
-//! assert_eq!(store.size(Version(1))?, 512);
-//! assert_eq!(store.stamp(Version(1), PageIndex(1))?, Version(1));
-//! assert_eq!(store.view(Version(1), PageIndex(1))?, [20; 256]);
+//! assert_eq!(store.size(live, Version(1))?, 512);
+//! assert_eq!(store.stamp(live, Version(1), PageIndex(1))?, Version(1));
+//! assert_eq!(store.view(live, Version(1), PageIndex(1))?, [20; 256]);
+//!
+//! let plan = store.branch(live, Version(1))?; // reads as line 0 up to version 1, and goes on by itself
+//! assert_eq!(store.view(plan, Version(1), PageIndex(1))?, [20; 256]);
 //! # Ok(())
 //! # }
 //! ```
@@ -42,9 +47,9 @@ mod keeper;
 mod shared;
 
 pub use areas::{Areas, Lend, LentAreas, Limits, Parts, Planned};
-pub use counters::{ByteOffset, PageIndex, Ticket, Version};
+pub use counters::{ByteOffset, Line, LineVersion, PageIndex, Ticket, Version};
 pub use error::Error;
-pub use ffi::{node_count, root_span, Record, State};
+pub use ffi::{node_count, root_span, Entries, LineState, Record, State};
 pub use file::FileError;
 pub use keeper::{Assigned, Keeper, Lent, Node, Store};
 pub use shared::Shared;

@@ -1,6 +1,6 @@
 //! A store that threads share.
 
-use crate::counters::{ByteOffset, PageIndex, Ticket, Version};
+use crate::counters::{ByteOffset, Line, PageIndex, Ticket, Version};
 use crate::error::Error;
 use crate::file::FileError;
 use crate::keeper::{Assigned, Node, Store};
@@ -11,7 +11,7 @@ use std::sync::{Arc, Mutex, PoisonError, RwLock, RwLockReadGuard, RwLockWriteGua
 ///
 /// Readers' calls run beside each other; each writers' call runs alone. The lock is held for one call, never from one
 /// call to the next, so a writer that dies between calls leaves its ticket open and nobody waiting for a lock. Versions
-/// after that writer's own stay unpublished until somebody weaves its nodes: any thread may, with the ticket.
+/// of its line after that writer's own stay unpublished until somebody weaves its nodes: any thread may, with the ticket.
 ///
 /// No call can leave the store half changed. A lock that a panic has poisoned is therefore simply taken.
 ///
@@ -60,13 +60,13 @@ impl Shared {
     }
 
     /// [`Keeper::write`](crate::Keeper::write).
-    pub fn write(&self, ticket: Ticket, first: PageIndex) -> Result<Assigned, Error> {
-        self.writing().write(ticket, first)
+    pub fn write(&self, line: Line, ticket: Ticket, first: PageIndex) -> Result<Assigned, Error> {
+        self.writing().write(line, ticket, first)
     }
 
     /// [`Keeper::append`](crate::Keeper::append).
-    pub fn append(&self, ticket: Ticket) -> Result<Assigned, Error> {
-        self.writing().append(ticket)
+    pub fn append(&self, line: Line, ticket: Ticket) -> Result<Assigned, Error> {
+        self.writing().append(line, ticket)
     }
 
     /// [`Keeper::weave`](crate::Keeper::weave).
@@ -75,34 +75,40 @@ impl Shared {
     }
 
     /// [`Keeper::publish`](crate::Keeper::publish).
-    pub fn publish(&self) -> Result<Option<Version>, Error> {
-        self.writing().publish()
+    pub fn publish(&self, line: Line) -> Result<Option<Version>, Error> {
+        self.writing().publish(line)
+    }
+
+    /// [`Keeper::branch`](crate::Keeper::branch).
+    pub fn branch(&self, line: Line, version: Version) -> Result<Line, Error> {
+        self.writing().branch(line, version)
     }
 
     /// [`Keeper::read`](crate::Keeper::read).
     pub fn read(
         &self,
+        line: Line,
         version: Version,
         offset: ByteOffset,
         len: u64,
         buffer: &mut [u8],
     ) -> Result<(), Error> {
-        self.reading().read(version, offset, len, buffer)
+        self.reading().read(line, version, offset, len, buffer)
     }
 
     /// [`Keeper::size`](crate::Keeper::size).
-    pub fn size(&self, version: Version) -> Result<u64, Error> {
-        self.reading().size(version)
+    pub fn size(&self, line: Line, version: Version) -> Result<u64, Error> {
+        self.reading().size(line, version)
     }
 
     /// [`Keeper::recent`](crate::Keeper::recent).
-    pub fn recent(&self) -> Result<Version, Error> {
-        self.reading().recent()
+    pub fn recent(&self, line: Line) -> Result<Version, Error> {
+        self.reading().recent(line)
     }
 
     /// [`Keeper::stamp`](crate::Keeper::stamp).
-    pub fn stamp(&self, version: Version, page: PageIndex) -> Result<Version, Error> {
-        self.reading().stamp(version, page)
+    pub fn stamp(&self, line: Line, version: Version, page: PageIndex) -> Result<Version, Error> {
+        self.reading().stamp(line, version, page)
     }
 
     /// [`Keeper::view`](crate::Keeper::view), for as long as `look` takes: the bytes of a page where they lie, uncopied.
@@ -111,24 +117,26 @@ impl Shared {
     /// waits for a writer that waits for `look` would never end. A panic in `look` harms nobody else.
     ///
     /// ```
-    /// # use pit_host::{Limits, PageIndex, Shared, Store, Version};
+    /// # use pit_host::{Limits, Line, PageIndex, Shared, Store, Version};
     /// # let mut store = Store::format(Limits::new(16, 4, 8, 2)).unwrap();
     /// # let ticket = store.begin(1).unwrap();
     /// # store.put(ticket, 0, &[7; 16]).unwrap();
-    /// # store.append(ticket).unwrap();
+    /// # store.append(Line(0), ticket).unwrap();
     /// # store.weave(ticket).unwrap();
-    /// # store.publish().unwrap();
+    /// # store.publish(Line(0)).unwrap();
     /// let shared = Shared::new(store);
-    /// let highest = shared.with_view(Version(1), PageIndex(0), |bytes| bytes.iter().max().copied());
+    /// let highest = |bytes: &[u8]| bytes.iter().max().copied();
+    /// let highest = shared.with_view(Line(0), Version(1), PageIndex(0), highest);
     /// assert_eq!(highest, Ok(Some(7)));
     /// ```
     pub fn with_view<R>(
         &self,
+        line: Line,
         version: Version,
         page: PageIndex,
         look: impl FnOnce(&[u8]) -> R,
     ) -> Result<R, Error> {
-        self.reading().view(version, page).map(look)
+        self.reading().view(line, version, page).map(look)
     }
 
     /// The whole store as it is at this moment, copied.
@@ -137,7 +145,7 @@ impl Shared {
     }
 
     /// [`Keeper::save`](crate::Keeper::save) of the store as it is at one moment of this call; gives the last published
-    /// version that the file holds.
+    /// version of line 0 that the file holds.
     ///
     /// The lock is held while the store is copied in memory, not while the file is written: a disk can take seconds, and
     /// a writer waiting that long would hold up the readers behind it too. It takes the memory of a second store
@@ -176,6 +184,6 @@ mod tests {
         });
         assert!(died.join().is_err() && shared.store.is_poisoned());
         assert_eq!(shared.begin(1), Ok(Ticket(1)));
-        assert_eq!(shared.recent(), Ok(Version(0)));
+        assert_eq!(shared.recent(Line(0)), Ok(Version(0)));
     }
 }

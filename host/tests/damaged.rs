@@ -52,10 +52,14 @@ fn came(answers: &Answers, number: u64, calls: &[&'static str]) {
 }
 
 /// The calls that may find damage, row 19.
-const FIND_DAMAGE: [&str; 9] = [
-    "PUT", "WRITE", "APPEND", "WEAVE", "PUBLISH", "READ", "SIZE", "STAMP", "VIEW",
+const FIND_DAMAGE: [&str; 10] = [
+    "PUT", "WRITE", "APPEND", "WEAVE", "PUBLISH", "BRANCH", "READ", "SIZE", "STAMP", "VIEW",
 ];
 const OTHERS: [&str; 2] = ["BEGIN", "RECENT"];
+/// The calls that name a line, row 20.
+const NAME_LINES: [&str; 9] = [
+    "WRITE", "APPEND", "PUBLISH", "BRANCH", "READ", "SIZE", "RECENT", "STAMP", "VIEW",
+];
 
 #[test]
 fn random_areas_and_a_random_state() {
@@ -71,6 +75,8 @@ fn random_areas_of_the_lengths_that_the_state_says() {
     came(&answers, 0, &FIND_DAMAGE);
     came(&answers, 0, &OTHERS);
     came(&answers, 19, &FIND_DAMAGE);
+    came(&answers, 20, &NAME_LINES);
+    came(&answers, 21, &["BRANCH"]);
 }
 
 #[test]
@@ -79,6 +85,7 @@ fn a_number_changed_in_a_valid_store() {
     came(&answers, 0, &FIND_DAMAGE);
     came(&answers, 0, &OTHERS);
     came(&answers, 19, &["PUT", "WEAVE", "READ", "STAMP", "VIEW"]);
+    came(&answers, 20, &NAME_LINES);
 }
 
 #[test]

@@ -3,10 +3,10 @@
 mod updates;
 
 use pit_host::{
-    Areas, ByteOffset, Error, Keeper, Lend, Lent, LentAreas, Limits, PageIndex, Record, State,
-    Store, Ticket, Version,
+    Areas, ByteOffset, Error, Keeper, Lend, Lent, LentAreas, Limits, Line, PageIndex, Record,
+    State, Store, Ticket, Version,
 };
-use updates::{assign, limits, of_three_versions, put_all, update};
+use updates::{assign, limits, of_three_versions, put_all, update, LIVE};
 
 /// A call on a store, its answer dropped.
 type Call = fn(&mut Store) -> Result<(), Error>;
@@ -21,19 +21,24 @@ fn refused(store: &mut Store, number: u64, call: impl FnOnce(&mut Store) -> Resu
 }
 
 /// Every call but FORMAT, with arguments that the store of three versions accepts.
-const CALLS: [(&str, Call); 10] = [
+const CALLS: [(&str, Call); 11] = [
     ("begin", |s| s.begin(1).map(drop)),
     ("put", |s| s.put(Ticket(4), 0, &[9; 16])),
-    ("write", |s| s.write(Ticket(5), PageIndex(0)).map(drop)),
-    ("append", |s| s.append(Ticket(5)).map(drop)),
-    ("weave", |s| s.weave(Ticket(6)).map(drop)),
-    ("publish", |s| s.publish().map(drop)),
-    ("read", |s| {
-        s.read(Version(3), ByteOffset(8), 64, &mut [0; 64])
+    ("write", |s| {
+        s.write(LIVE, Ticket(5), PageIndex(0)).map(drop)
     }),
-    ("size", |s| s.size(Version(3)).map(drop)),
-    ("stamp", |s| s.stamp(Version(3), PageIndex(2)).map(drop)),
-    ("view", |s| s.view(Version(3), PageIndex(2)).map(drop)),
+    ("append", |s| s.append(LIVE, Ticket(5)).map(drop)),
+    ("weave", |s| s.weave(Ticket(6)).map(drop)),
+    ("publish", |s| s.publish(LIVE).map(drop)),
+    ("branch", |s| s.branch(LIVE, Version(3)).map(drop)),
+    ("read", |s| {
+        s.read(LIVE, Version(3), ByteOffset(8), 64, &mut [0; 64])
+    }),
+    ("size", |s| s.size(LIVE, Version(3)).map(drop)),
+    ("stamp", |s| {
+        s.stamp(LIVE, Version(3), PageIndex(2)).map(drop)
+    }),
+    ("view", |s| s.view(LIVE, Version(3), PageIndex(2)).map(drop)),
 ];
 
 /// Three versions published; ticket 4 open, ticket 5 put, ticket 6 assigned as version 4.
@@ -41,7 +46,7 @@ fn at_all_stages() -> Store {
     let mut store = of_three_versions();
     assert_eq!(store.begin(1), Ok(Ticket(4)));
     assert_eq!(put_all(&mut store, &[8]), Ok(Ticket(5)));
-    let (ticket, assigned) = assign(&mut store, Some(2), &[9, 10]).expect("room");
+    let (ticket, assigned) = assign(&mut store, LIVE, Some(2), &[9, 10]).expect("room");
     assert_eq!((ticket, assigned.version), (Ticket(6), Version(4)));
     store
 }
@@ -51,7 +56,7 @@ fn the_calls_are_accepted_where_nothing_is_wrong() {
     for (name, call) in CALLS {
         assert_eq!(call(&mut at_all_stages()), Ok(()), "{name}");
     }
-    assert_eq!(at_all_stages().recent(), Ok(Version(3)));
+    assert_eq!(at_all_stages().recent(LIVE), Ok(Version(3)));
 }
 
 #[test]
@@ -61,12 +66,12 @@ fn numbers_and_words() {
         assert_eq!(Error::from_number(number), Some(error));
         assert!(error.to_string().len() > 20, "{error:?}");
     }
-    assert_eq!(Error::ALL.len(), 19);
-    for number in [0, 20, u64::MAX] {
+    assert_eq!(Error::ALL.len(), 21);
+    for number in [0, 22, u64::MAX] {
         assert_eq!(Error::from_number(number), None);
     }
     let words: std::collections::HashSet<_> = Error::ALL.iter().map(Error::to_string).collect();
-    assert_eq!(words.len(), 19);
+    assert_eq!(words.len(), 21);
 }
 
 #[test]
@@ -142,7 +147,7 @@ fn row_3_in_every_call() {
         for (_, call) in CALLS {
             refused(&mut store, 3, call);
         }
-        assert_eq!(store.recent(), Err(Error::AreaLength));
+        assert_eq!(store.recent(LIVE), Err(Error::AreaLength));
     }
 }
 
@@ -164,16 +169,18 @@ fn rows_7_and_8_of_tickets() {
     let mut store = at_all_stages();
     for ticket in [0, 7, u64::MAX].map(Ticket) {
         refused(&mut store, 7, |s| s.put(ticket, 0, &[0; 16]));
-        refused(&mut store, 7, |s| s.write(ticket, PageIndex(0)).map(drop));
-        refused(&mut store, 7, |s| s.append(ticket).map(drop));
+        refused(&mut store, 7, |s| {
+            s.write(LIVE, ticket, PageIndex(0)).map(drop)
+        });
+        refused(&mut store, 7, |s| s.append(LIVE, ticket).map(drop));
         refused(&mut store, 7, |s| s.weave(ticket).map(drop));
     }
     // ticket 6 has its version; ticket 5 has none yet; ticket 1 has no node left
     refused(&mut store, 8, |s| s.put(Ticket(6), 0, &[0; 16]));
     refused(&mut store, 8, |s| {
-        s.write(Ticket(6), PageIndex(0)).map(drop)
+        s.write(LIVE, Ticket(6), PageIndex(0)).map(drop)
     });
-    refused(&mut store, 8, |s| s.append(Ticket(6)).map(drop));
+    refused(&mut store, 8, |s| s.append(LIVE, Ticket(6)).map(drop));
     refused(&mut store, 8, |s| s.weave(Ticket(5)).map(drop));
     refused(&mut store, 8, |s| s.weave(Ticket(1)).map(drop));
 }
@@ -196,16 +203,18 @@ fn rows_9_to_11_of_put() {
 fn rows_12_and_13_of_assign() {
     let mut store = at_all_stages();
     refused(&mut store, 12, |s| {
-        s.write(Ticket(4), PageIndex(0)).map(drop)
+        s.write(LIVE, Ticket(4), PageIndex(0)).map(drop)
     });
-    refused(&mut store, 12, |s| s.append(Ticket(4)).map(drop));
+    refused(&mut store, 12, |s| s.append(LIVE, Ticket(4)).map(drop));
     for first in [6, u64::MAX] {
         refused(&mut store, 13, |s| {
-            s.write(Ticket(5), PageIndex(first)).map(drop)
+            s.write(LIVE, Ticket(5), PageIndex(first)).map(drop)
         });
     }
     assert_eq!(
-        store.write(Ticket(5), PageIndex(5)).map(|a| a.version),
+        store
+            .write(LIVE, Ticket(5), PageIndex(5))
+            .map(|a| a.version),
         Ok(Version(5))
     );
 }
@@ -214,47 +223,138 @@ fn rows_12_and_13_of_assign() {
 fn rows_14_and_15_of_assign() {
     let mut store = Store::format(limits(4_200, 10_000, 70)).unwrap();
     for _ in 0..64 {
-        assign(&mut store, None, &[1; 64]).unwrap();
+        assign(&mut store, LIVE, None, &[1; 64]).unwrap();
     }
     let ticket = put_all(&mut store, &[2, 3]).unwrap();
-    refused(&mut store, 14, |s| s.append(ticket).map(drop));
+    refused(&mut store, 14, |s| s.append(LIVE, ticket).map(drop));
     refused(&mut store, 14, |s| {
-        s.write(ticket, PageIndex(4_095)).map(drop)
+        s.write(LIVE, ticket, PageIndex(4_095)).map(drop)
     });
-    assert!(store.write(ticket, PageIndex(4_094)).is_ok());
+    assert!(store.write(LIVE, ticket, PageIndex(4_094)).is_ok());
 
     let mut store = Store::format(limits(4, 2, 2)).unwrap();
-    update(&mut store, None, &[1]).unwrap();
+    update(&mut store, LIVE, None, &[1]).unwrap();
     let ticket = put_all(&mut store, &[2]).unwrap();
-    refused(&mut store, 15, |s| s.append(ticket).map(drop));
-    assert!(store.write(ticket, PageIndex(0)).is_ok());
+    refused(&mut store, 15, |s| s.append(LIVE, ticket).map(drop));
+    assert!(store.write(LIVE, ticket, PageIndex(0)).is_ok());
 }
 
 #[test]
 fn rows_16_and_17_of_readers() {
     let mut store = at_all_stages();
     for version in [4, 5, u64::MAX].map(Version) {
-        refused(&mut store, 16, |s| s.size(version).map(drop));
-        refused(&mut store, 16, |s| s.stamp(version, PageIndex(0)).map(drop));
-        refused(&mut store, 16, |s| s.view(version, PageIndex(0)).map(drop));
+        refused(&mut store, 16, |s| s.size(LIVE, version).map(drop));
         refused(&mut store, 16, |s| {
-            s.read(version, ByteOffset(0), 0, &mut [])
+            s.stamp(LIVE, version, PageIndex(0)).map(drop)
+        });
+        refused(&mut store, 16, |s| {
+            s.view(LIVE, version, PageIndex(0)).map(drop)
+        });
+        refused(&mut store, 16, |s| {
+            s.read(LIVE, version, ByteOffset(0), 0, &mut [])
         });
     }
     for page in [5, u64::MAX].map(PageIndex) {
-        refused(&mut store, 17, |s| s.stamp(Version(3), page).map(drop));
-        refused(&mut store, 17, |s| s.view(Version(3), page).map(drop));
+        refused(&mut store, 17, |s| {
+            s.stamp(LIVE, Version(3), page).map(drop)
+        });
+        refused(&mut store, 17, |s| s.view(LIVE, Version(3), page).map(drop));
     }
     for (offset, len) in [(0, 81), (80, 1), (81, 0), (1, u64::MAX), (u64::MAX, 1)] {
         refused(&mut store, 17, |s| {
-            s.read(Version(3), ByteOffset(offset), len, &mut [0; 96])
+            s.read(LIVE, Version(3), ByteOffset(offset), len, &mut [0; 96])
         });
     }
     refused(&mut store, 17, |s| {
-        s.view(Version(0), PageIndex(0)).map(drop)
+        s.view(LIVE, Version(0), PageIndex(0)).map(drop)
     });
-    assert_eq!(store.read(Version(0), ByteOffset(0), 0, &mut []), Ok(()));
-    assert_eq!(store.read(Version(3), ByteOffset(80), 0, &mut []), Ok(()));
+    assert_eq!(
+        store.read(LIVE, Version(0), ByteOffset(0), 0, &mut []),
+        Ok(())
+    );
+    assert_eq!(
+        store.read(LIVE, Version(3), ByteOffset(80), 0, &mut []),
+        Ok(())
+    );
+}
+
+/// 20 stands after 3, 7 and 8, and before every other row.
+#[test]
+fn row_20_of_lines() {
+    let mut store = at_all_stages();
+    for line in [1, 15, 16, 65_536, u64::MAX].map(Line) {
+        refused(&mut store, 20, |s| {
+            s.write(line, Ticket(5), PageIndex(0)).map(drop)
+        });
+        refused(&mut store, 20, |s| s.append(line, Ticket(5)).map(drop));
+        refused(&mut store, 20, |s| s.append(line, Ticket(4)).map(drop)); // 12
+        refused(&mut store, 20, |s| {
+            s.write(line, Ticket(5), PageIndex(99)).map(drop) // 13
+        });
+        refused(&mut store, 7, |s| s.append(line, Ticket(7)).map(drop));
+        refused(&mut store, 8, |s| s.append(line, Ticket(6)).map(drop));
+        refused(&mut store, 20, |s| s.publish(line).map(drop));
+        refused(&mut store, 20, |s| s.recent(line).map(drop));
+        for version in [0, 3, 9].map(Version) {
+            refused(&mut store, 20, |s| s.branch(line, version).map(drop));
+            refused(&mut store, 20, |s| s.size(line, version).map(drop));
+            refused(&mut store, 20, |s| {
+                s.stamp(line, version, PageIndex(99)).map(drop)
+            });
+            refused(&mut store, 20, |s| {
+                s.view(line, version, PageIndex(0)).map(drop)
+            });
+            refused(&mut store, 20, |s| {
+                s.read(line, version, ByteOffset(99), 1, &mut [])
+            });
+        }
+    }
+    assert_eq!(store.branch(LIVE, Version(0)), Ok(Line(1)));
+    assert_eq!(store.recent(Line(1)), Ok(Version(0)));
+    refused(&mut store, 20, |s| s.recent(Line(2)).map(drop));
+}
+
+/// 21 stands last in BRANCH, before 19.
+#[test]
+fn rows_16_and_21_of_branch() {
+    let mut store = at_all_stages();
+    for version in [4, 5, u64::MAX].map(Version) {
+        refused(&mut store, 16, |s| s.branch(LIVE, version).map(drop));
+    }
+    for line in 1..16 {
+        let (from, version) = (Line(line / 2), Version(3 * (line % 2)));
+        let version = version.min(store.recent(from).unwrap());
+        assert_eq!(store.branch(from, version), Ok(Line(line)));
+    }
+    for line in (0..16).map(Line) {
+        refused(&mut store, 21, |s| s.branch(line, Version(0)).map(drop));
+        let above = Version(store.recent(line).unwrap().0 + 1);
+        refused(&mut store, 16, |s| s.branch(line, above).map(drop));
+    }
+    refused(&mut store, 20, |s| s.branch(Line(16), Version(9)).map(drop));
+    assert!(store.append(Line(15), Ticket(5)).is_ok());
+}
+
+/// 13 and an append's place go by the line's own last assigned version, and 16 by what it has published.
+#[test]
+fn rows_13_and_16_are_read_on_their_line() {
+    let mut store = at_all_stages(); // line 0 has 5 pages
+    let plan = store.branch(LIVE, Version(2)).unwrap(); // and this one 4
+    let empty = store.branch(LIVE, Version(0)).unwrap();
+    let write = |s: &mut Store, line, first| s.write(line, Ticket(5), PageIndex(first)).map(drop);
+    refused(&mut store, 13, |s| write(s, plan, 5));
+    refused(&mut store, 13, |s| write(s, empty, 1));
+    for line in [plan, empty] {
+        refused(&mut store, 16, |s| s.size(line, Version(3)).map(drop));
+    }
+    assert_eq!(store.clone().append(empty, Ticket(5)).map(drop), Ok(()));
+    assert_eq!(write(&mut store, plan, 4), Ok(()));
+    refused(&mut store, 8, |s| s.append(LIVE, Ticket(5)).map(drop));
+    refused(&mut store, 16, |s| s.size(plan, Version(3)).map(drop));
+    while store.weave(Ticket(5)).unwrap().rest > 0 {}
+    assert_eq!(store.publish(plan), Ok(Some(Version(3))));
+    assert_eq!(store.size(plan, Version(3)), Ok(5 * 16));
+    assert_eq!(store.recent(LIVE), Ok(Version(3)));
 }
 
 #[test]
@@ -262,11 +362,11 @@ fn row_18_leaves_the_buffer() {
     let mut store = of_three_versions();
     let mut buffer = [9; 15];
     refused(&mut store, 18, |s| {
-        s.read(Version(3), ByteOffset(0), 16, &mut buffer)
+        s.read(LIVE, Version(3), ByteOffset(0), 16, &mut buffer)
     });
     assert_eq!(buffer, [9; 15]);
     store
-        .read(Version(3), ByteOffset(0), 14, &mut buffer)
+        .read(LIVE, Version(3), ByteOffset(0), 14, &mut buffer)
         .unwrap();
     assert_eq!(buffer, [1, 1, 1, 1, 1, 1, 1, 1, 1, 1, 1, 1, 1, 1, 9]);
 }
@@ -283,25 +383,25 @@ fn spoilt(spoil: impl FnOnce(&mut State, LentAreas<'_>)) -> Store {
 fn rows_10_and_12_over_stray_bits() {
     let mut store = spoilt(|_, areas| areas.register[4].put = 3);
     refused(&mut store, 10, |s| s.put(Ticket(5), 0, &[9; 16]));
-    assert_eq!(store.append(Ticket(5)).map(drop), Ok(()));
+    assert_eq!(store.append(LIVE, Ticket(5)).map(drop), Ok(()));
     let mut store = spoilt(|_, areas| areas.register[3].put = 2);
-    refused(&mut store, 12, |s| s.append(Ticket(4)).map(drop));
+    refused(&mut store, 12, |s| s.append(LIVE, Ticket(4)).map(drop));
     assert_eq!(store.put(Ticket(4), 0, &[9; 16]), Ok(()));
-    assert_eq!(store.append(Ticket(4)).map(drop), Ok(()));
+    assert_eq!(store.append(LIVE, Ticket(4)).map(drop), Ok(()));
 }
 
 #[test]
 fn row_19_of_nodes_not_stored() {
     let mut store = spoilt(|_, areas| areas.nodes.fill(u32::MAX));
     refused(&mut store, 19, |s| {
-        s.stamp(Version(3), PageIndex(2)).map(drop)
+        s.stamp(LIVE, Version(3), PageIndex(2)).map(drop)
     });
     refused(&mut store, 19, |s| {
-        s.view(Version(3), PageIndex(2)).map(drop)
+        s.view(LIVE, Version(3), PageIndex(2)).map(drop)
     });
     let mut buffer = [9; 80];
     refused(&mut store, 19, |s| {
-        s.read(Version(3), ByteOffset(0), 80, &mut buffer)
+        s.read(LIVE, Version(3), ByteOffset(0), 80, &mut buffer)
     });
     assert_eq!(buffer, [9; 80]);
 }
@@ -314,9 +414,13 @@ fn row_19_of_page_numbers_places_and_records_past_their_areas() {
     refused(&mut store, 19, |s| s.weave(Ticket(6)).map(drop));
     let mut store = spoilt(|state, _| state.tickets = u64::MAX);
     refused(&mut store, 19, |s| s.put(Ticket(9), 0, &[9; 16]));
-    refused(&mut store, 19, |s| s.append(Ticket(9)).map(drop));
+    refused(&mut store, 19, |s| s.append(LIVE, Ticket(9)).map(drop));
     refused(&mut store, 19, |s| s.weave(Ticket(9)).map(drop));
-    let mut store = spoilt(|state, _| (state.assigned, state.published) = (10, 9));
-    refused(&mut store, 19, |s| s.publish().map(drop));
-    refused(&mut store, 19, |s| s.size(Version(9)).map(drop));
+    let mut store = spoilt(|state, _| {
+        state.lines[0].assigned = 10;
+        state.lines[0].published = 9;
+    });
+    refused(&mut store, 19, |s| s.publish(LIVE).map(drop));
+    refused(&mut store, 19, |s| s.size(LIVE, Version(9)).map(drop));
+    refused(&mut store, 19, |s| s.branch(LIVE, Version(9)).map(drop));
 }

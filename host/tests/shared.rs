@@ -8,7 +8,7 @@ use std::sync::atomic::{AtomicBool, Ordering};
 use std::sync::mpsc::{channel, Receiver, Sender};
 use std::thread;
 use std::time::Duration;
-use updates::{fills, limits, of_three_versions};
+use updates::{fills, limits, of_three_versions, LIVE};
 
 const PAGE: usize = 64;
 const BLOB: u64 = 8;
@@ -18,9 +18,9 @@ fn model(updates: u64) -> Shared {
     let shared =
         Shared::new(Store::format(Limits::worst(64, BLOB, updates, BLOB).unwrap()).unwrap());
     let ticket = begin(&shared, BLOB, 1);
-    let assigned = shared.append(ticket).unwrap();
+    let assigned = shared.append(LIVE, ticket).unwrap();
     finish(&shared, ticket, assigned.nodes);
-    assert_eq!(shared.publish(), Ok(Some(Version(1))));
+    assert_eq!(shared.publish(LIVE), Ok(Some(Version(1))));
     shared
 }
 
@@ -46,9 +46,9 @@ fn write(shared: &Shared, count: u64, n: u64, first: u64) {
         for i in (0..n).rev() {
             shared.put(ticket, i, &[ticket.0 as u8; PAGE]).unwrap();
         }
-        let assigned = shared.write(ticket, PageIndex(first)).unwrap();
+        let assigned = shared.write(LIVE, ticket, PageIndex(first)).unwrap();
         finish(shared, ticket, assigned.nodes);
-        while shared.publish().unwrap().is_some() {}
+        while shared.publish(LIVE).unwrap().is_some() {}
     }
 }
 
@@ -56,21 +56,21 @@ fn write(shared: &Shared, count: u64, n: u64, first: u64) {
 fn ride(shared: &Shared, ended: &AtomicBool) -> u64 {
     let (mut seen, mut rides) = (Version(0), 0);
     while !ended.load(Ordering::Relaxed) {
-        let recent = shared.recent().unwrap();
+        let recent = shared.recent(LIVE).unwrap();
         assert!(recent >= seen, "{recent} after {seen}");
         seen = recent;
         let mut bytes = [0; PAGE * BLOB as usize];
-        let size = shared.size(recent).unwrap();
+        let size = shared.size(LIVE, recent).unwrap();
         shared
-            .read(recent, ByteOffset(0), size, &mut bytes)
+            .read(LIVE, recent, ByteOffset(0), size, &mut bytes)
             .unwrap();
         for (page, read) in (0..).map(PageIndex).zip(bytes.chunks(PAGE)) {
-            let stamp = shared.stamp(recent, page).unwrap();
+            let stamp = shared.stamp(LIVE, recent, page).unwrap();
             shared
-                .with_view(recent, page, |view| assert_eq!(view, read))
+                .with_view(LIVE, recent, page, |view| assert_eq!(view, read))
                 .unwrap();
             shared
-                .with_view(stamp, page, |view| assert_eq!(view, read))
+                .with_view(LIVE, stamp, page, |view| assert_eq!(view, read))
                 .unwrap();
             assert!(
                 read.iter().all(|byte| *byte == read[0]),
@@ -94,7 +94,7 @@ fn writers_and_readers_at_once() {
         assert!(written.iter().all(|end| end.is_ok()));
         assert!(trucks.into_iter().all(|truck| truck.join().unwrap() > 0));
     });
-    assert_eq!(shared.recent(), Ok(Version(101)));
+    assert_eq!(shared.recent(LIVE), Ok(Version(101)));
     assert_eq!(shared.begin(1), Err(Error::RegisterFull));
 }
 
@@ -104,7 +104,7 @@ fn a_writer_that_dies_leaves_its_ticket_open_and_nobody_stuck() {
     let drone = shared.clone();
     let died = thread::spawn(move || {
         let ticket = begin(&drone, 2, 50);
-        let assigned = drone.write(ticket, PageIndex(3)).unwrap();
+        let assigned = drone.write(LIVE, ticket, PageIndex(3)).unwrap();
         finish(&drone, ticket, assigned.nodes - 2);
         panic!("out of battery, two nodes before the end");
     });
@@ -112,15 +112,15 @@ fn a_writer_that_dies_leaves_its_ticket_open_and_nobody_stuck() {
 
     // another writer goes on; its version waits for the drone's
     write(&shared, 1, 1, 0);
-    assert_eq!(shared.recent(), Ok(Version(1)));
-    assert_eq!(shared.size(Version(2)), Err(Error::NotPublished));
+    assert_eq!(shared.recent(LIVE), Ok(Version(1)));
+    assert_eq!(shared.size(LIVE, Version(2)), Err(Error::NotPublished));
     // whoever knows the ticket can end the update
     let ticket = Ticket(2);
     let rest = shared.weave(ticket).unwrap().rest;
     finish(&shared, ticket, rest);
-    assert_eq!(shared.publish(), Ok(Some(Version(2))));
-    assert_eq!(shared.publish(), Ok(Some(Version(3))));
-    let pages = fills(&shared.to_store(), Version(3)).unwrap();
+    assert_eq!(shared.publish(LIVE), Ok(Some(Version(2))));
+    assert_eq!(shared.publish(LIVE), Ok(Some(Version(3))));
+    let pages = fills(&shared.to_store(), LIVE, Version(3)).unwrap();
     assert_eq!(pages, [3, 1, 1, 50, 50, 1, 1, 1]);
 }
 
@@ -134,18 +134,19 @@ fn a_writer_that_dies_before_its_version_holds_up_nothing() {
     });
     assert!(died.join().is_err());
     write(&shared, 1, 1, 0);
-    assert_eq!(shared.recent(), Ok(Version(2)));
+    assert_eq!(shared.recent(LIVE), Ok(Version(2)));
 }
 
 #[test]
 fn a_panic_while_looking_harms_nobody_else() {
     let shared = model(2);
-    let looking =
-        AssertUnwindSafe(|| shared.with_view(Version(1), PageIndex(0), |_| panic!("bad screen")));
+    let looking = AssertUnwindSafe(|| {
+        shared.with_view(LIVE, Version(1), PageIndex(0), |_| panic!("bad screen"))
+    });
     assert!(catch_unwind(looking).is_err());
-    assert_eq!(shared.recent(), Ok(Version(1)));
+    assert_eq!(shared.recent(LIVE), Ok(Version(1)));
     write(&shared, 1, 1, 0);
-    assert_eq!(shared.recent(), Ok(Version(2)));
+    assert_eq!(shared.recent(LIVE), Ok(Version(2)));
 }
 
 #[test]
@@ -157,7 +158,7 @@ fn readers_look_beside_each_other() {
     let look = |mine: Sender<()>, other: Receiver<()>| {
         let shared = shared.clone();
         thread::spawn(move || {
-            shared.with_view(Version(1), PageIndex(0), |_| {
+            shared.with_view(LIVE, Version(1), PageIndex(0), |_| {
                 mine.send(()).unwrap();
                 other.recv_timeout(Duration::from_secs(60)).is_ok()
             })
@@ -216,11 +217,11 @@ fn a_save_beside_writers_is_the_store_of_one_moment() {
             ended = writers.iter().all(|writer| writer.is_finished());
             let version = shared.save(&path).unwrap();
             let (saved, live) = (Store::load(&path).unwrap(), shared.to_store());
-            assert_eq!(saved.recent(), Ok(version));
+            assert_eq!(saved.recent(LIVE), Ok(version));
             assert!(version >= seen);
             seen = version;
             for v in (0..=seen.0).map(Version) {
-                assert_eq!(fills(&saved, v), fills(&live, v), "version {v}");
+                assert_eq!(fills(&saved, LIVE, v), fills(&live, LIVE, v), "version {v}");
             }
         }
     });
@@ -235,9 +236,9 @@ fn a_finished_save_is_not_undone() {
     let path = &folder.0.join("store");
     let publish_and_save = || {
         write(shared, 1, 1, 0);
-        let before = shared.recent().unwrap();
+        let before = shared.recent(LIVE).unwrap();
         let saved = shared.save(path).unwrap();
-        let held = Store::load(path).unwrap().recent().unwrap();
+        let held = Store::load(path).unwrap().recent(LIVE).unwrap();
         assert!(before <= saved, "published {before}, saved {saved}");
         assert!(saved <= held, "saved {saved}, and the file has {held}");
     };
@@ -267,7 +268,7 @@ fn a_reload_is_whole_or_not_at_all() {
         Err(FileError::Io(_))
     ));
     assert!(shared.to_store() == running);
-    assert!(shared.write(ticket, PageIndex(0)).is_ok());
+    assert!(shared.write(LIVE, ticket, PageIndex(0)).is_ok());
 
     let other = shared.clone();
     shared.reload(&good).unwrap();

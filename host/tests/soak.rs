@@ -1,5 +1,6 @@
-//! A store shared by 40 writers and 200 readers, some of the writers dying in the middle of an update. All that they were
-//! answered is compared with the plain model of document 01. `PIT_SEED` names the first seed.
+//! A store shared by 40 writers, 18 planners, who each begin a line while the others write, and 200 readers; some of those
+//! who write die in the middle of an update. All that they were answered is compared with the plain model of documents 01
+//! and 02. `PIT_SEED` names the first seed.
 
 #[path = "soak/readers.rs"]
 mod readers;
@@ -24,14 +25,19 @@ use writers::{deaths, Death, Log, Writer};
 
 const SEEDS: u64 = 3;
 const WRITERS: usize = 40;
+/// More than there are lines to begin.
+const PLANNERS: usize = 18;
 const READERS: usize = 200;
 
-/// How many updates a writer makes, and how many reads a reader makes beside the writers.
+/// How many updates a writer makes, and a planner, and how many reads a reader makes beside them.
 const UPDATES: u64 = 8;
+const PLANS: u64 = 4;
 const READS: u64 = 20;
 
-/// How many writers die; and of the versions that they leave unfinished, how many are finished by somebody else.
+/// How many writers die, and how many planners; and of the versions that they leave unfinished, how many are finished by
+/// somebody else.
 const DYING: usize = 14;
+const DYING_PLANNERS: usize = 5;
 const FINISHED: usize = 4;
 
 const PAGE_SIZE: u64 = 64;
@@ -40,7 +46,10 @@ const MOST: u64 = 4;
 /// The areas have room for a blob of so many pages, which is far more than the appends reach.
 const BLOB: u64 = 512;
 
-/// Says that a writer has ended, also by a panic.
+/// All who write.
+const CREWS: usize = WRITERS + PLANNERS;
+
+/// Says that one of them has ended, also by a panic.
 struct Ended(usize, Sender<usize>);
 
 impl Drop for Ended {
@@ -52,9 +61,10 @@ impl Drop for Ended {
 /// What the threads share.
 struct Site {
     shared: Shared,
+    /// The writers', the planners', and that of whoever is there before and after them.
     logs: Vec<Mutex<Log>>,
-    /// The first writers' deaths.
-    deaths: Vec<Death>,
+    /// The first writers' and planners' deaths.
+    deaths: Vec<Option<Death>>,
     /// Held for writing until all threads are there.
     gathering: RwLock<()>,
     /// Held for writing as long as anybody writes.
@@ -62,19 +72,24 @@ struct Site {
 }
 
 impl Site {
-    /// A store with one version. The last log is that of whoever is there before and after the writers.
+    /// A store with one version.
     fn new(random: &mut Random) -> Site {
-        let updates = 1 + WRITERS as u64 * UPDATES;
+        let updates = 1 + WRITERS as u64 * UPDATES + PLANNERS as u64 * PLANS;
         let limits = Limits::worst(PAGE_SIZE, BLOB, updates, MOST).expect("within the limits");
-        let deaths = deaths(random, DYING, UPDATES);
+        let of_writers = deaths(random, DYING, UPDATES).into_iter().map(Some);
+        let of_planners = deaths(random, DYING_PLANNERS, PLANS).into_iter().map(Some);
+        let mut deaths: Vec<_> = of_writers.collect();
+        deaths.resize(WRITERS, None);
+        deaths.extend(of_planners);
+        deaths.resize(CREWS, None);
         let site = Site {
             shared: Shared::new(Store::format(limits).expect("within the limits")),
-            logs: (0..=WRITERS).map(|_| Mutex::default()).collect(),
+            logs: (0..=CREWS).map(|_| Mutex::default()).collect(),
             deaths,
             gathering: RwLock::new(()),
             writing: RwLock::new(()),
         };
-        site.writer(WRITERS, Random::new(random.next()))
+        site.writer(CREWS, Random::new(random.next()))
             .first_update(MOST);
         site
     }
@@ -88,7 +103,7 @@ impl Site {
         thread::scope(|threads| {
             let (gathering, writing) = (self.gathering.write(), self.writing.write());
             let (sender, ended) = channel();
-            let crews = (0..WRITERS).map(|number| {
+            let crews = (0..CREWS).map(|number| {
                 let (ended, random) = (Ended(number, sender.clone()), Random::new(random.next()));
                 threads.spawn(move || self.write(ended, random))
             });
@@ -103,7 +118,7 @@ impl Site {
             self.finish_some(ended);
             drop(writing);
             for (number, crew) in crews.into_iter().enumerate() {
-                let death = self.deaths.get(number);
+                let death = self.deaths[number];
                 let planned = death.map_or(false, |death| death.by_panic);
                 assert_eq!(crew.join().is_err(), planned, "{death:?}");
             }
@@ -115,9 +130,12 @@ impl Site {
 
     fn write(&self, ended: Ended, random: Random) {
         drop(self.gathering.read());
-        let number = ended.0;
-        self.writer(number, random)
-            .work(UPDATES, MOST, self.deaths.get(number).copied());
+        let (writer, death) = (self.writer(ended.0, random), self.deaths[ended.0]);
+        if ended.0 < WRITERS {
+            writer.work(UPDATES, MOST, death);
+        } else {
+            writer.plan().work(PLANS, MOST, death);
+        }
     }
 
     fn read(&self, random: Random) -> Vec<(Asked, Answer)> {
@@ -135,8 +153,8 @@ impl Site {
         }
     }
 
-    /// Compares all that was answered with the model. Gives the last version that is published.
-    fn judge(&self, answers: &[(Asked, Answer)]) -> u64 {
+    /// Compares all that was answered with the model. Gives how many versions are published, of all lines.
+    fn judge(&self, answers: &[(Asked, Answer)]) -> usize {
         let logs: Vec<_> = self.logs.iter().map(|log| log.lock().unwrap()).collect();
         let logs: Vec<&Log> = logs.iter().map(|log| &**log).collect();
         let model = verdict::replayed(self.shared.to_store().limits(), &logs);
@@ -146,7 +164,8 @@ impl Site {
             assert_eq!(*answer, verdict::due(&snapshots, *asked), "{asked:?}");
         }
         verdict::compare_all(&self.shared, &snapshots);
-        model.recent()
+        assert_eq!(snapshots.len(), 16, "lines");
+        snapshots.iter().map(Vec::len).sum()
     }
 }
 
@@ -155,22 +174,22 @@ fn soak(seed: u64) {
     let random = &mut Random::new(seed);
     let site = Site::new(random);
     let answers = site.run(random);
-    site.writer(WRITERS, Random::new(0)).publish();
+    site.writer(CREWS, Random::new(0)).publish_all();
     let reached = site.judge(&answers);
 
-    for number in 0..WRITERS {
+    for number in 0..CREWS {
         site.writer(number, Random::new(0)).finish();
     }
     let all = site.judge(&answers);
-    let read: BTreeSet<u64> = answers.iter().map(|(asked, _)| asked.version()).collect();
-    let (read, calls) = (read.len() as u64, answers.len());
+    let read = answers.iter().map(|(asked, _)| (asked.line, asked.version));
+    let (read, calls) = (read.collect::<BTreeSet<_>>().len(), answers.len());
     println!("{reached} of {all} versions published; {calls} calls read {read}");
-    assert!(reached < all && 2 * read > reached);
+    assert!(reached < all && 4 * read > reached);
 }
 
 #[test]
-fn forty_writers_and_two_hundred_readers() {
-    let first = first_seed("forty_writers_and_two_hundred_readers");
+fn forty_writers_eighteen_planners_and_two_hundred_readers() {
+    let first = first_seed("forty_writers_eighteen_planners_and_two_hundred_readers");
     for seed in (0..SEEDS).map(|i| first.wrapping_add(i)) {
         println!("PIT_SEED={seed}");
         soak(seed);

@@ -1,4 +1,4 @@
-//! The step program against the plain model of document 01, line by line. `PIT_STEPS` names the program,
+//! The step program against the plain model of documents 01 and 02, line by line. `PIT_STEPS` names the program,
 //! `PIT_SEED` the first seed of the random scripts: with the seed of a script that failed, it comes first.
 
 mod by_hand;
@@ -67,24 +67,24 @@ fn check(scripts: &[Script]) {
     assert_eq!(end, Ok(()));
 }
 
-/// Document 01's example.
+/// Document 01's example, with line 0.
 const EXAMPLE: &str = "
     FORMAT,16,4,8,2 > ok
     BEGIN,1 > ticket,1
     BEGIN,1 > ticket,2
     PUT,2,0,<22> > put
     PUT,1,0,<11> > put
-    APPEND,2 > version,1,1
-    APPEND,1 > version,2,2
+    APPEND,0,2 > version,1,1
+    APPEND,0,1 > version,2,2
     WEAVE,1 > node,2,0,2,1,2,1
-    PUBLISH > waiting
+    PUBLISH,0 > waiting
     WEAVE,2 > node,1,0,1,1,0,0
-    PUBLISH > published,1
-    READ,2,0,0 > refused,16
+    PUBLISH,0 > published,1
+    READ,0,2,0,0 > refused,16
     WEAVE,1 > node,2,1,1,0,0,0
-    PUBLISH > published,2
-    READ,2,14,4 > bytes,22221111
-    STAMP,2,0 > stamp,1
+    PUBLISH,0 > published,2
+    READ,0,2,14,4 > bytes,22221111
+    STAMP,0,2,0 > stamp,1
     BEGIN,1 > refused,5";
 
 #[test]
@@ -131,7 +131,7 @@ fn each_line_is_answered_before_the_next_is_sent() {
     }
     session.send(&[&b"A".repeat(5_000)[..], b"\n"].concat());
     assert_eq!(session.answer(), "refused,0");
-    session.send(b"RECENT\n");
+    session.send(b"RECENT,0\n");
     assert_eq!(session.answer(), "recent,2");
     assert_eq!(session.end(), "");
 }
@@ -163,7 +163,7 @@ fn a_long_line_cut_between_blocks() {
     let mut session = Session::start();
     session.send(b"FORMAT,16,4,8,2\nREC");
     assert_eq!(session.answer(), "ok");
-    session.send(b"ENT\nRECENT\nAAAA");
+    session.send(b"ENT,0\nRECENT,0\nAAAA");
     assert_eq!(
         (session.answer(), session.answer()),
         ("recent,0".into(), "recent,0".into())
@@ -171,10 +171,10 @@ fn a_long_line_cut_between_blocks() {
     for _ in 0..3 {
         session.send(&b"A".repeat(599));
     }
-    session.send(b"\nRECENT\nRECENT\n\n");
+    session.send(b"\nRECENT,0\nRECENT,0\n\n");
     let answers = [(); 4].map(|()| session.answer());
     assert_eq!(answers, ["refused,0", "recent,0", "recent,0", "refused,0"]);
-    session.send(b"RECENT");
+    session.send(b"RECENT,0");
     assert_eq!(session.end(), "recent,0\n");
 }
 
@@ -199,7 +199,7 @@ fn input_of_any_length_in_bounded_memory() {
     }
     let grown = session.most_memory() - before;
     assert!(grown < 2_048, "{grown} KiB more");
-    session.send(b"RECENT");
+    session.send(b"RECENT,0");
     assert_eq!(session.end(), "recent,0\n");
 }
 
@@ -233,12 +233,15 @@ fn all_came(counts: &BTreeMap<String, u64>) {
         "node",
         "published",
         "waiting",
+        "line",
         "bytes",
         "size",
         "recent",
         "stamp",
     ];
-    let rows = [0, 1, 2, 4, 5, 6, 7, 8, 9, 10, 11, 12, 13, 15, 16, 17];
+    let rows = [
+        0, 1, 2, 4, 5, 6, 7, 8, 9, 10, 11, 12, 13, 15, 16, 17, 20, 21,
+    ];
     let keys = words.map(String::from).into_iter();
     for key in keys.chain(rows.map(|row| format!("refused,{row}"))) {
         let count = counts.get(&key).copied().unwrap_or(0);

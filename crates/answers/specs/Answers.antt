@@ -21,6 +21,8 @@ use Rattle.weave.specs.declared.Woven.{Woven}
 use Rattle.weave.specs.declared.Woven.the-variants as Woven
 use Rattle.publish.specs.declared.Published.{Published}
 use Rattle.publish.specs.declared.Published.the-variants as Published
+use Rattle.branch.specs.declared.Branched.{Branched}
+use Rattle.branch.specs.declared.Branched.the-variants as Branched
 use Rattle.versions.specs.declared.Sized.{Sized}
 use Rattle.versions.specs.declared.Sized.the-variants as Sized
 use Rattle.versions.specs.declared.Latest.{Latest}
@@ -65,9 +67,13 @@ replied k r = whenOpen k (plainly k r)
 unfoldable pub holding : Kept → Store → Kept
 holding k s = record { «open» = k .«open»; store = s }
 
+-- What is kept with the store that FORMAT made: it is open.
+unfoldable pub opening : Store → Kept
+opening s = record { «open» = true; store = s }
+
 -- FORMAT: the store that it made is open from now on; where it is refused, what there was is kept.
 unfoldable pub formatSaid : Kept → Formatted → Said
-formatSaid k (Formatted.Made s) = plainly (record { «open» = true; store = s }) Reply.Ok
+formatSaid k (Formatted.Made s) = plainly (opening s) Reply.Ok
 formatSaid k (Formatted.Refused n) = plainly k (Reply.Refused n)
 
 -- The first n bytes, or all where there are fewer.
@@ -89,14 +95,14 @@ unfoldable pub putReply : PutIn → Reply
 putReply PutIn.Done = Reply.Put
 putReply (PutIn.Refused k) = Reply.Refused k
 
--- ASSIGN, as a write or an append: the version and its node count.
+-- ASSIGN, as a write or an append: the version on the line that was named, and its node count.
 unfoldable pub assignedReply : Assigned → Reply
 assignedReply (Assigned.Given v n) = Reply.Version (v .0) n
 assignedReply (Assigned.Refused k) = Reply.Refused k
 
--- WEAVE: the node's name, its two numbers and how many nodes are left.
+-- WEAVE: the node's name, with its line in the version's number, its two numbers and how many nodes are left.
 unfoldable pub wovenReply : Woven → Reply
-wovenReply (Woven.Node x) = Reply.Node (x .version .0) (x .first .0) (x .span) (x .left) (x .right) (x .rest)
+wovenReply (Woven.Node x) = Reply.Node (x .version) (x .first .0) (x .span) (x .left) (x .right) (x .rest)
 wovenReply (Woven.Refused k) = Reply.Refused k
 
 -- PUBLISH: the version that is now published, or that none is due.
@@ -104,6 +110,11 @@ unfoldable pub publishedReply : Published → Reply
 publishedReply (Published.Now v) = Reply.Published (v .0)
 publishedReply Published.Waiting = Reply.Waiting
 publishedReply (Published.Refused k) = Reply.Refused k
+
+-- BRANCH: the line that begins.
+unfoldable pub branchedReply : Branched → Reply
+branchedReply (Branched.Begun l) = Reply.Line (l .0)
+branchedReply (Branched.Refused k) = Reply.Refused k
 
 -- SIZE: the bytes.
 unfoldable pub sizedReply : Sized → Reply

@@ -1,11 +1,13 @@
 // What the store answers to a step of the step program, written as a line of text; and what is kept between steps.
 ghost use mathlib.Core.Path.{_≡_};
 ghost use Prim.Native.Nat.{min};
-ghost use Rattle.answers.specs.Answers.{turned, written, refusedSaid, replied, holding, formatSaid, bytesSaid, readSaid, begunReply, putReply, assignedReply, wovenReply, publishedReply, sizedReply, latestReply, stampedReply};
+ghost use Rattle.answers.specs.Answers.{turned, written, refusedSaid, replied, holding, opening, formatSaid, bytesSaid, readSaid, begunReply, putReply, assignedReply, wovenReply, publishedReply, branchedReply, sizedReply, latestReply, stampedReply};
 use assign::AssignOut;
 use assign::Assigned;
 use begin::BeginOut;
 use begin::Begun;
+use branch::BranchOut;
+use branch::Branched;
 use format::Formatted;
 use print::Reply;
 use publish::PublishOut;
@@ -18,8 +20,8 @@ use versions::Sized;
 use versions::Store;
 use weave::Woven;
 
-// What is kept between steps: whether a store is open, and the store. Where none is open it is all zeros, so that the areas that it is lent are
-// empty and no call changes a thing.
+// What is kept between steps: whether a store is open, and the store. Where none is open the store has no pages, nodes or updates, so that the
+// areas that it is lent are empty and no call writes to them.
 pub struct Kept {
     pub open: bool,
     pub store: Store,
@@ -56,6 +58,13 @@ pub fn refused_turn(kept: Kept, out: &mut [u8]) -> Turn
     Turn { kept, len }
 }
 
+// What is kept with the store that FORMAT made: it is open.
+fn opened(store: Store) -> Kept
+    ensures { λ r. ⌜ r ≡ opening store ⌝ }
+{
+    Kept { open: true, store }
+}
+
 // FORMAT keeps the store that it made, or else what there was.
 pub fn format_turn(kept: Kept, a: Formatted, out: &mut [u8]) -> Turn
     ensures { λ r.
@@ -63,7 +72,7 @@ pub fn format_turn(kept: Kept, a: Formatted, out: &mut [u8]) -> Turn
         ⌜ (r ≡ turned x (now (out .entry))) × (now (out .exit) ≡ written x (now (out .entry))) ⌝ }
 {
     match a {
-        Formatted::Made(store) => reply_turn(Kept { open: true, store }, Reply::Ok, out),
+        Formatted::Made(store) => reply_turn(opened(store), Reply::Ok, out),
         Formatted::Refused(k) => {
             let len = print::write_reply(Reply::Refused(k), out);
             Turn { kept, len }
@@ -124,7 +133,7 @@ pub fn weave_turn(kept: Kept, a: Woven, out: &mut [u8]) -> Turn
     match a {
         Woven::Node(x) => {
             let reply = Reply::Node(
-                x.version.0,
+                x.version,
                 x.first.0,
                 x.span,
                 x.left as u64,
@@ -152,6 +161,23 @@ pub fn publish_turn(kept: Kept, a: PublishOut, out: &mut [u8]) -> Turn
         Published::Now(v) => reply_turn(after, Reply::Published(v.0), out),
         Published::Waiting => reply_turn(after, Reply::Waiting, out),
         Published::Refused(k) => reply_turn(after, Reply::Refused(k), out),
+    }
+}
+
+pub fn branch_turn(kept: Kept, a: BranchOut, out: &mut [u8]) -> Turn
+    ensures { λ r.
+        let x = replied (holding kept (a .store)) (branchedReply (a .answer)) in
+        ⌜ (r ≡ turned x (now (out .entry))) × (now (out .exit) ≡ written x (now (out .entry))) ⌝ }
+{
+    let store = a.store;
+    let after = Kept {
+        open: kept.open,
+        store,
+    };
+    let answer = a.answer;
+    match answer {
+        Branched::Begun(l) => reply_turn(after, Reply::Line(l.0), out),
+        Branched::Refused(k) => reply_turn(after, Reply::Refused(k), out),
     }
 }
 

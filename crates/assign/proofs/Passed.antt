@@ -1,16 +1,17 @@
 -- What the rows of ASSIGN, passed, say of the store and the ticket's record; and the register that it leaves then. Assumes nothing.
-use mathlib.Core.Path.{_≡_, refl}
+use mathlib.Core.Path.{_≡_, refl, ap}
 use mathlib.Core.List.{List}
 use mathlib.Core.Logic.{_⊎_, inl, inr}
-use Prim.Native.Nat.{ℕ, zero, suc, pred, _+_, _-_, _^_, _≤_, _<_, min}
+use Prim.Native.Nat.{ℕ, zero, suc, pred, _+_, _-_, _^_, _≤_, _<_, min, max}
 use native.Mathlib.Omega.{arith}
 use lib.ListN.{getD}
-use Rattle.tree.specs.Tree.{countOf, nth}
+use Rattle.lines.specs.Lines.{numberOf}
+use Rattle.lines.specs.declared.Branch.{Branch}
 use Rattle.register.specs.Register.{noRecord, withRecord}
 use Rattle.register.specs.declared.Record.{Record}
 use Rattle.table.specs.Table.{assignRows, unless}
-use Rattle.versions.specs.Store.{areasOf}
-use Rattle.assign.specs.Assign.{updateAt, assignRefusal, withVersionOf, withVersionPart, assignedBy, assignedRegister}
+use Rattle.versions.specs.Store.{lineIn}
+use Rattle.assign.specs.Assign.{numberBy, Roomy, assignRefusal, withUpdateOf, withUpdatePart, withEntryOf, withAssigned}
 use Rattle.versions.specs.declared.Store.{Store}
 use Rattle.versions.specs.declared.Lengths.{Lengths}
 use Rattle.table.proofs.Table.{passed}
@@ -20,25 +21,31 @@ read : {A : Type 0} {t u : ℕ} → (u < t) ⊎ A → t ≤ u → A
 read (inl q) h = absurd (omega arith)
 read (inr a) h = a
 
-pub assign-passed :
-    (s : Store) (l : Lengths) (r : Record) (t f : ℕ) → assignRefusal s l r t f ≡ 0
-    → (f + r .n ≤ 4096) × (s .assigned .0 < s .updates) × (s .places + countOf (updateAt s f (r .n)) ≤ s .nodes)
+pub assign-passed : (s : Store) (g : Lengths) (r : Record) (l t f : ℕ) → assignRefusal s g r l t f ≡ 0 → Roomy s l f (r .n)
 unfolding assignRefusal assignRows
-assign-passed s l r t f e = let p = passed _ tt e in
-    let lost = p .1 .1 .1 .1 .1 .1 .1 .0 in
-    (read (p .1 .1 .1 .1 .1 .0) (lost .0), lost .1, read (p .1 .1 .1 .1 .1 .1 .0) (lost .0))
+assign-passed s g r l t f e =
+    let p = passed _ tt e in
+    let lost = p .1 .1 .1 .1 .1 .1 .1 .1 .0 in
+    record {
+      inside = read (p .1 .1 .1 .1 .1 .1 .0) (lost .0);
+      nodes = read (p .1 .1 .1 .1 .1 .1 .1 .0) (lost .0);
+      update = lost .1 .0;
+      version = lost .1 .1;
+    }
 
--- ASSIGN writes the ticket's record and then, over what that left, the version's.
-pub both-written :
-    (s : Store) (pages nodes : List ℕ) (register : List Record) (t f k : ℕ)
-    → let r = nth noRecord register t in
-    let out = assignedBy s f (r .n) k in
-    let rs = unless k register (withRecord register (pred t) (withVersionOf r (out .store .assigned .0))) in
-    let last = min (f + r .n) (2 ^ 64 - 1) - 1 in
-    (k ≡ 0 → f + r .n ≤ 4096)
-    → unless k rs (withRecord rs (s .assigned .0) (withVersionPart (getD rs (s .assigned .0) noRecord) t f last (out .store .blob) (s .places)))
-    ≡ unless k register (assignedRegister s (areasOf pages nodes register) t f)
+-- Where the next version has a number in 64 bits, that is its number.
+pub number-next : (l : ℕ) (b : Branch) → b .assigned .0 < 2 ^ 64 - 1 → numberBy l b ≡ numberOf l (suc (b .assigned .0))
+number-next l b h = let e : min (b .assigned .0 + 1) (2 ^ 64 - 1) ≡ suc (b .assigned .0) = omega arith in ap (numberOf l) e
+
+-- ASSIGN writes the ticket's record and then, each over what that left, the next update's and that of the line's next version. The numbers as the code has them
+-- need be those of the definition only where the call is accepted.
+pub all-written :
+    (s : Store) (rs : List Record) (r : Record) (l t f k next c end : ℕ)
+    → let b = lineIn s l in
+    let ps = unless k rs (withRecord rs (pred t) (withUpdateOf r next)) in
+    let qs = unless k ps (withRecord ps (s .assigned) (withUpdatePart (getD ps (s .assigned) noRecord) t c f (end - 1) (max (b .blob) end) (s .places))) in
+    (k ≡ 0 → (next ≡ suc (s .assigned)) × (c ≡ numberOf l (suc (b .assigned .0))) × (end ≡ f + r .n))
+    → unless k qs (withRecord qs (b .assigned .0) (withEntryOf (getD qs (b .assigned .0) noRecord) l next)) ≡ unless k rs (withAssigned s rs r l t f)
 unfolding unless
-both-written s pages nodes register t f zero h =
-    let e : min (f + nth noRecord register t .n) (2 ^ 64 - 1) ≡ f + nth noRecord register t .n = omega (arith, h refl) in rw e
-both-written s pages nodes register t f (suc k) h = refl
+all-written s rs r l t f zero next c end h = let e = h refl in rw (e .0, e .1, e .2)
+all-written s rs r l t f (suc k) next c end h = refl

@@ -1,120 +1,187 @@
--- ASSIGN ticket, as a write at page f: what it answers and leaves, over any store and areas. An append is a write at the size of the last assigned version.
+-- ASSIGN ticket to a line, as a write at page f: what it answers and leaves, over any store and areas. An append is a write at the size of the line's last
+-- assigned version.
 use mathlib.Core.Bool.{Bool}
-use mathlib.Core.List.{List}
-use Prim.Native.Nat.{ℕ, zero, suc, pred, _+_, _-_, _%_, _^_, max}
+use mathlib.Core.List.{List, [], _∷_}
+use Prim.Native.Nat.{ℕ, zero, suc, pred, _+_, _-_, _%_, _^_, _≤_, _<_, min, max}
 use lib.Dec.{eqb}
-use lib.ListN.{getD}
+use lib.ListN.{getD, set}
 use Rattle.tree.specs.Tree.{Update, countOf}
+use Rattle.lines.specs.Lines.{numberOf, withEntry}
+use Rattle.lines.specs.declared.Branch.{Branch}
 use Rattle.register.specs.Register.{noRecord, limited, withRecord}
 use Rattle.register.specs.declared.Record.{Record}
-use Rattle.table.specs.Table.{_≤?_, _<?_, _or_, everyCall, firstRefusal, unless, assignRows}
+use Rattle.table.specs.Table.{_≤?_, _<?_, _or_, _gives_, everyCall, firstRefusal, unless, assignRows}
 use Rattle.versions.specs.declared.Store.{Store}
 use Rattle.versions.specs.declared.Lengths.{Lengths}
 use Rattle.assign.specs.declared.Assigned.{Assigned}
 use Rattle.assign.specs.declared.Assigned.the-variants as Assigned
 use Rattle.assign.specs.declared.AssignOut.{AssignOut}
-use Rattle.versions.specs.Store.{Areas, lengthsOf, differ, recordOf}
+use Rattle.versions.specs.Store.{Areas, lengthsOf, differ, recordOf, linesIn, lineIn}
 
--- The size in pages after n pages from f on.
-abbrev pub sizeAfter : Store → ℕ → ℕ → ℕ
-sizeAfter s f n = max (s .blob) (f + n)
+-- The size in pages after n pages from f on, of a blob of so many pages.
+abbrev pub sizeAfter : ℕ → ℕ → ℕ → ℕ
+sizeAfter blob f n = max blob (f + n)
 
 -- The update that n pages at page f would make.
-abbrev pub updateAt : Store → ℕ → ℕ → Update
-updateAt s f n = limited f (f + n - 1) (sizeAfter s f n)
+abbrev pub updateAt : ℕ → ℕ → ℕ → Update
+updateAt blob f n = limited f (f + n - 1) (sizeAfter blob f n)
 
 -- All n pages are put: the low n bits of the mask are ones, whatever stands above them.
 abbrev pub allPut : Record → Bool
 allPut r = eqb (r .put % 2 ^ r .n) (2 ^ r .n - 1)
 
--- ASSIGN, with the ticket's record r. The next version's record must lie within the register too.
-unfoldable pub assignRefusal : Store → Lengths → Record → ℕ → ℕ → ℕ
-assignRefusal s l r t f =
+-- The rows from 14 on, for n pages at page f of line l, where the ticket's record is there. The next update's record, and that of the line's next version, must lie
+-- within the register.
+unfoldable pub roomRefusal : Store → ℕ → ℕ → ℕ → ℕ
+roomRefusal s l f n =
+    let b = lineIn s l in
+    firstRefusal
+    ((4096 <? f + n gives 14)
+    ∷ (s .nodes <? s .places + countOf (updateAt (b .blob) f n) gives 15)
+    ∷ (s .updates ≤? s .assigned or s .updates ≤? b .assigned .0 gives 19)
+    ∷ [])
+
+-- What these rows leave where none of them holds: there is room for n pages at page f of line l.
+pub record Roomy (s : Store) (l f n : ℕ) : Type 0 where
+  pub inside : f + n ≤ 4096
+  pub nodes : s .places + countOf (updateAt (lineIn s l .blob) f n) ≤ s .nodes
+  pub update : s .assigned < s .updates
+  pub version : lineIn s l .assigned .0 < s .updates
+
+-- The number of the version after the last assigned one, in 64 bits as the code has it.
+abbrev pub numberBy : ℕ → Branch → ℕ
+numberBy l b = numberOf l (min (b .assigned .0 + 1) (2 ^ 64 - 1))
+
+-- ASSIGN, with the ticket's record r. The next update's record, and that of the line's next version, must lie within the register too.
+unfoldable pub assignRefusal : Store → Lengths → Record → ℕ → ℕ → ℕ → ℕ
+assignRefusal s g r l t f =
+    let b = lineIn s l in
     firstRefusal
     (everyCall
-    (differ s l)
+    (differ s g)
     (assignRows
     (t ≤? s .updates)
     t
     (s .tickets .0)
-    (r .version .0)
+    (r .update)
+    l
+    (linesIn s)
     (allPut r)
     f
-    (s .blob)
+    (b .blob)
     (r .n)
     (s .places)
     (s .nodes)
-    (countOf (updateAt s f (r .n))))
-    (s .updates <? t or s .updates ≤? s .assigned .0))
+    (countOf (updateAt (b .blob) f (r .n))))
+    (s .updates <? t or s .updates ≤? s .assigned or s .updates ≤? b .assigned .0))
 
-abbrev pub assignNumber : Store → Areas → ℕ → ℕ → ℕ
-assignNumber s a t f = assignRefusal s (lengthsOf a) (recordOf a t) t f
+abbrev pub assignNumber : Store → Areas → ℕ → ℕ → ℕ → ℕ
+assignNumber s a l t f = assignRefusal s (lengthsOf a) (recordOf a t) l t f
 
 abbrev pub assigned : ℕ → ℕ → ℕ → Assigned
 assigned zero v count = Assigned.Given (record { 0 = v }) count
 assigned (suc k) v count = Assigned.Refused (suc k)
 
--- The store with one version more, its node places taken.
-abbrev pub withVersion : Store → ℕ → ℕ → Store
-withVersion s count size = record {
+-- A line's state with one version more, and so many pages after it.
+abbrev pub withVersion : Branch → ℕ → Branch
+withVersion b size = record { source = b .source; start = b .start; assigned = record { 0 = suc (b .assigned .0) }; published = b .published; blob = size }
+
+-- The store with one update more, on line l, its node places taken.
+abbrev pub withUpdate : Store → ℕ → ℕ → ℕ → Store
+withUpdate s l count size = record {
   size = s .size;
   pages = s .pages;
   nodes = s .nodes;
   updates = s .updates;
   tickets = s .tickets;
   taken = s .taken;
-  assigned = record { 0 = suc (s .assigned .0) };
+  assigned = suc (s .assigned);
   places = s .places + count;
-  published = s .published;
-  blob = size;
+  begun = s .begun;
+  lines = set (s .lines) l (withVersion (lineIn s l) size);
 }
 
--- A record with its ticket's version.
-abbrev pub withVersionOf : Record → ℕ → Record
-withVersionOf r v = record {
+-- A record with its ticket's update.
+abbrev pub withUpdateOf : Record → ℕ → Record
+withUpdateOf r k = record {
   n = r .n;
   number = r .number;
   put = r .put;
-  version = record { 0 = v };
+  update = k;
   ticket = r .ticket;
+  name = r .name;
   f = r .f;
   last = r .last;
   size = r .size;
   place = r .place;
   woven = r .woven;
+  entries = r .entries;
 }
 
--- A record with a version's part anew: its ticket, pages f .. last, size after, first node place, none woven.
-abbrev pub withVersionPart : Record → ℕ → ℕ → ℕ → ℕ → ℕ → Record
-withVersionPart r t f last size place = record {
+-- A record with an update's part anew: its ticket, its version's number, pages f .. last, size after, first node place, none woven.
+abbrev pub withUpdatePart : Record → ℕ → ℕ → ℕ → ℕ → ℕ → ℕ → Record
+withUpdatePart r t name f last size place = record {
   n = r .n;
   number = r .number;
   put = r .put;
-  version = r .version;
+  update = r .update;
   ticket = record { 0 = t };
+  name = name;
   f = record { 0 = f };
   last = record { 0 = last };
   size = size;
   place = place;
   woven = 0;
+  entries = r .entries;
 }
 
--- The register with ticket t's version, and that version's part.
-abbrev pub assignedRegister : Store → Areas → ℕ → ℕ → List Record
-assignedRegister s a t f =
-    let r = recordOf a t in
-    let rs = withRecord (a .register) (pred t) (withVersionOf r (suc (s .assigned .0))) in
-    withRecord rs (s .assigned .0)
-    (withVersionPart (getD rs (s .assigned .0) noRecord) t f (f + r .n - 1) (sizeAfter s f (r .n)) (s .places))
+-- A record with update k as line l's own version.
+abbrev pub withEntryOf : Record → ℕ → ℕ → Record
+withEntryOf r l k = record {
+  n = r .n;
+  number = r .number;
+  put = r .put;
+  update = r .update;
+  ticket = r .ticket;
+  name = r .name;
+  f = r .f;
+  last = r .last;
+  size = r .size;
+  place = r .place;
+  woven = r .woven;
+  entries = withEntry (r .entries) l k;
+}
 
--- What ASSIGN gives back for n pages at page f, by the table's number k.
-abbrev pub assignedBy : Store → ℕ → ℕ → ℕ → AssignOut
-assignedBy s f n k =
-    let count = countOf (updateAt s f n) in
-    record { store = unless k s (withVersion s count (sizeAfter s f n)); answer = assigned k (suc (s .assigned .0)) count }
+-- The register with ticket t's update, whose record is r; with that update's part; and with its number in the record of the line's next version. The three records
+-- may be one.
+abbrev pub withTicketUpdate : Store → List Record → Record → ℕ → List Record
+withTicketUpdate s rs r t = withRecord rs (pred t) (withUpdateOf r (suc (s .assigned)))
 
-abbrev pub assignOut : Store → Areas → ℕ → ℕ → AssignOut
-assignOut s a t f = assignedBy s f (recordOf a t .n) (assignNumber s a t f)
+abbrev pub withNextUpdate : Store → List Record → Record → ℕ → ℕ → ℕ → List Record
+withNextUpdate s rs r l t f =
+    let b = lineIn s l in
+    let ps = withTicketUpdate s rs r t in
+    withRecord ps (s .assigned)
+    (withUpdatePart (getD ps (s .assigned) noRecord) t (numberOf l (suc (b .assigned .0))) f (f + r .n - 1) (sizeAfter (b .blob) f (r .n)) (s .places))
 
-abbrev pub assignRegister : Store → Areas → ℕ → ℕ → List Record
-assignRegister s a t f = unless (assignNumber s a t f) (a .register) (assignedRegister s a t f)
+abbrev pub withAssigned : Store → List Record → Record → ℕ → ℕ → ℕ → List Record
+withAssigned s rs r l t f =
+    let v = lineIn s l .assigned .0 in
+    let qs = withNextUpdate s rs r l t f in
+    withRecord qs v (withEntryOf (getD qs v noRecord) l (suc (s .assigned)))
+
+abbrev pub assignedRegister : Store → Areas → ℕ → ℕ → ℕ → List Record
+assignedRegister s a l t f = withAssigned s (a .register) (recordOf a t) l t f
+
+-- What ASSIGN gives back for n pages at page f of line l, by the table's number k.
+abbrev pub assignedBy : Store → ℕ → ℕ → ℕ → ℕ → AssignOut
+assignedBy s l f n k =
+    let b = lineIn s l in
+    let count = countOf (updateAt (b .blob) f n) in
+    record { store = unless k s (withUpdate s l count (sizeAfter (b .blob) f n)); answer = assigned k (suc (b .assigned .0)) count }
+
+abbrev pub assignOut : Store → Areas → ℕ → ℕ → ℕ → AssignOut
+assignOut s a l t f = assignedBy s l f (recordOf a t .n) (assignNumber s a l t f)
+
+abbrev pub assignRegister : Store → Areas → ℕ → ℕ → ℕ → List Record
+assignRegister s a l t f = unless (assignNumber s a l t f) (a .register) (assignedRegister s a l t f)

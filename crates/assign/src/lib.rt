@@ -1,10 +1,16 @@
-// ASSIGN, as a write or an append: the next version and its node count.
+// ASSIGN, as a write or an append: the next version of a line and its node count.
 ghost use mathlib.Core.Path.{_≡_};
 ghost use Prim.Native.Nat.{min, max, _+_, _-_, _^_, _<_, _≤_};
 ghost use lib.Dec.{ltb};
+ghost use mathlib.Core.List.{[], _∷_};
 ghost use Rattle.tree.specs.Tree.{countOf};
-ghost use Rattle.versions.specs.Store.{areasOf};
-ghost use Rattle.assign.specs.Assign.{updateAt, allPut, assignRefusal, withVersionOf, withVersionPart, assignedBy, assignOut, assignRegister};
+ghost use Rattle.table.specs.Table.{_<?_, _gives_, noLine, always, firstRefusal, unless};
+ghost use Rattle.versions.specs.Store.{areasOf, linesIn, lineIn};
+ghost use Rattle.assign.specs.Assign.{updateAt, numberBy, Roomy, allPut, roomRefusal, assignRefusal, withUpdate, withUpdateOf, withUpdatePart, withEntryOf, withAssigned, assignedBy, assignOut, assignRegister};
+use lines::Branch;
+use lines::Line;
+use lines::number_of;
+use lines::with_entry;
 use register::Record;
 use register::record_at;
 use register::ticket_record;
@@ -18,9 +24,12 @@ use versions::Lengths;
 use versions::Store;
 use versions::capped_sum;
 use versions::lengths_of;
+use versions::line_state;
+use versions::lines_begun;
 use versions::put_record;
 use versions::ticket_index;
 use versions::ticket_refusal;
+use versions::with_line;
 
 // What ASSIGN answers: the version and its node count.
 pub enum Assigned {
@@ -56,19 +65,19 @@ fn last_page(f: PageIndex, n: u64) -> PageIndex
     PageIndex(if end == 0 { 0 } else { end - 1 })
 }
 
-// The size in pages after n pages from f on; a sum that would wrap is capped.
-fn size_after(s: Store, f: PageIndex, n: u64) -> u64
-    ensures { λ r. ⌜ r ≡ max (s .blob) (min (f .0 + n) (2 ^ 64 - 1)) ⌝ }
+// The size in pages after n pages from f on, of a blob of so many pages; a sum that would wrap is capped.
+fn size_after(blob: u64, f: PageIndex, n: u64) -> u64
+    ensures { λ r. ⌜ r ≡ max blob (min (f .0 + n) (2 ^ 64 - 1)) ⌝ }
 {
     let end = capped_sum(f.0, n);
-    if s.blob < end { end } else { s.blob }
+    if blob < end { end } else { blob }
 }
 
-// The node count of n pages at page f.
-fn count_at(s: Store, f: PageIndex, n: u64) -> u64
-    ensures { λ r. ⌜ r ≡ countOf (updateAt s (f .0) n) ⌝ }
+// The node count of n pages at page f of a blob of so many pages.
+fn count_at(blob: u64, f: PageIndex, n: u64) -> u64
+    ensures { λ r. ⌜ r ≡ countOf (updateAt blob (f .0) n) ⌝ }
 {
-    let e = within_limits(f, last_page(f, n), size_after(s, f, n));
+    let e = within_limits(f, last_page(f, n), size_after(blob, f, n));
     node_count(e.f, e.last, root_height(e.size))
 }
 
@@ -82,43 +91,89 @@ fn no_places(s: Store, count: u64) -> bool
     s.nodes - s.places < count
 }
 
-// The refusal of ASSIGN at page f, with the ticket's record r.
-fn assign_refusal(s: Store, l: Lengths, r: Record, t: Ticket, f: PageIndex) -> u64
-    ensures { λ k. ⌜ k ≡ assignRefusal s l r (t .0) (f .0) ⌝ }
+// Row 13: page f lies past the end of line l's last assigned version.
+fn past_the_end(s: Store, l: Line, f: PageIndex) -> bool
+    ensures { λ r. ⌜ r ≡ ltb (lineIn s (l .0) .blob) (f .0) ⌝ }
 {
-    let k = ticket_refusal(s, l, t);
-    if k != 0 {
-        return k;
+    let own = line_state(s, l);
+    own.blob < f.0
+}
+
+// Rows 20 and 13 of a ticket whose record lies past the register; 19 where they do not hold.
+fn past_refusal(s: Store, l: Line, f: PageIndex) -> u64
+    ensures { λ k. ⌜ k ≡ firstRefusal ((noLine (l .0) (linesIn s) gives 20) ∷ (lineIn s (l .0) .blob <? f .0 gives 13) ∷ (always gives 19) ∷ []) ⌝ }
+{
+    if lines_begun(s) <= l.0 {
+        return 20;
     }
-    // The record lies past the register.
-    if s.updates < t.0 {
-        return if s.blob < f.0 { 13 } else { 19 };
-    }
-    if r.version.0 != 0 {
-        return 8;
-    }
-    if !all_put(r) {
-        return 12;
-    }
-    if s.blob < f.0 {
-        return 13;
-    }
-    if 4096 < capped_sum(f.0, r.n) {
+    if past_the_end(s, l, f) { 13 } else { 19 }
+}
+
+// The rows from 14 on, for n pages at page f of line l.
+fn room_refusal(s: Store, l: Line, f: PageIndex, n: u64) -> u64
+    ensures { λ k. ⌜ k ≡ roomRefusal s (l .0) (f .0) n ⌝ }
+{
+    let b = line_state(s, l);
+    if 4096 < capped_sum(f.0, n) {
         return 14;
     }
-    if no_places(s, count_at(s, f, r.n)) {
+    if no_places(s, count_at(b.blob, f, n)) {
         return 15;
     }
-    if s.updates <= s.assigned.0 {
+    if s.updates <= s.assigned {
+        return 19;
+    }
+    if s.updates <= b.assigned.0 {
         return 19;
     }
     0
 }
 
-// What ASSIGN gives back for n pages at page f, by the table's number k.
-fn assigned_by(s: Store, f: PageIndex, n: u64, k: u64) -> AssignOut
-    requires { ⌜ (k ≡ 0 → (f .0 + n ≤ 4096) × (s .assigned .0 < s .updates) × (s .places + countOf (updateAt s (f .0) n) ≤ s .nodes)) ⌝ }
-    ensures { λ r. ⌜ r ≡ assignedBy s (f .0) n k ⌝ }
+// The refusal of ASSIGN at page f of line l, with the ticket's record r.
+fn assign_refusal(s: Store, g: Lengths, r: Record, l: Line, t: Ticket, f: PageIndex) -> u64
+    ensures { λ k. ⌜ k ≡ assignRefusal s g r (l .0) (t .0) (f .0) ⌝ }
+{
+    let k = ticket_refusal(s, g, t);
+    if k != 0 {
+        return k;
+    }
+    if s.updates < t.0 {
+        return past_refusal(s, l, f);
+    }
+    if r.update != 0 {
+        return 8;
+    }
+    if lines_begun(s) <= l.0 {
+        return 20;
+    }
+    if !all_put(r) {
+        return 12;
+    }
+    if past_the_end(s, l, f) {
+        return 13;
+    }
+    room_refusal(s, l, f, r.n)
+}
+
+// The store with one update more, on line l: so many nodes, and so many pages after it.
+fn with_update(s: Store, l: Line, count: u64, size: u64) -> Store
+    requires { ⌜ (s .assigned < s .updates) × (lineIn s (l .0) .assigned .0 < s .updates) × (s .places + count ≤ s .nodes) ⌝ }
+    ensures { λ r. ⌜ r ≡ withUpdate s (l .0) count size ⌝ }
+{
+    let mut b = line_state(s, l);
+    let next = Version(b.assigned.0 + 1);
+    b.assigned = next;
+    b.blob = size;
+    let mut done = with_line(s, l, b);
+    done.assigned = s.assigned + 1;
+    done.places = s.places + count;
+    done
+}
+
+// What ASSIGN gives back for n pages at page f of line l, by the table's number k.
+fn assigned_by(s: Store, l: Line, f: PageIndex, n: u64, k: u64) -> AssignOut
+    requires { ⌜ (k ≡ 0 → Roomy s (l .0) (f .0) n) ⌝ }
+    ensures { λ r. ⌜ r ≡ assignedBy s (l .0) (f .0) n k ⌝ }
 {
     if k != 0 {
         return AssignOut {
@@ -126,40 +181,32 @@ fn assigned_by(s: Store, f: PageIndex, n: u64, k: u64) -> AssignOut
             answer: Assigned::Refused(k),
         };
     }
-    let count = count_at(s, f, n);
-    let version = Version(s.assigned.0 + 1);
-    let mut done = s;
-    done.assigned = version;
-    done.places = s.places + count;
-    done.blob = size_after(s, f, n);
+    let b = line_state(s, l);
+    let count = count_at(b.blob, f, n);
     AssignOut {
-        store: done,
-        answer: Assigned::Given(version, count),
+        store: with_update(s, l, count, size_after(b.blob, f, n)),
+        answer: Assigned::Given(Version(b.assigned.0 + 1), count),
     }
 }
 
-// A record with its ticket's version.
-fn with_version(r: Record, v: Version) -> Record
-    ensures { λ q. ⌜ q ≡ withVersionOf r (v .0) ⌝ }
+// A record with its ticket's update.
+fn ticket_part(r: Record, k: u64) -> Record
+    ensures { λ q. ⌜ q ≡ withUpdateOf r k ⌝ }
 {
     let mut q = r;
-    q.version = v;
+    q.update = k;
     q
 }
 
-// A record with a version's part anew: its ticket, pages, size after, first node place, none woven.
-fn version_part(
-    r: Record,
-    t: Ticket,
-    f: PageIndex,
-    last: PageIndex,
-    size: u64,
-    place: u64,
-) -> Record
-    ensures { λ q. ⌜ q ≡ withVersionPart r (t .0) (f .0) (last .0) size place ⌝ }
+// A record with an update's part anew, of ticket t, numbered c: n pages at page f of a blob of so many pages, its first node place, none woven.
+fn update_part(r: Record, t: Ticket, c: u64, f: PageIndex, n: u64, blob: u64, place: u64) -> Record
+    ensures { λ q. ⌜ q ≡ withUpdatePart r (t .0) c (f .0) (min (f .0 + n) (2 ^ 64 - 1) - 1) (max blob (min (f .0 + n) (2 ^ 64 - 1))) place ⌝ }
 {
+    let last = last_page(f, n);
+    let size = size_after(blob, f, n);
     let mut q = r;
     q.ticket = t;
+    q.name = c;
     q.f = f;
     q.last = last;
     q.size = size;
@@ -168,51 +215,88 @@ fn version_part(
     q
 }
 
-// ASSIGN ticket as a write at page f: the ticket's record gets the version, and the version's record, which may be the same one, its part.
-pub fn write(
-    s: Store,
-    pages: &[u8],
-    nodes: &[u32],
+// A record with update k as line l's own version.
+fn entry_part(r: Record, l: Line, k: u64) -> Record
+    ensures { λ q. ⌜ q ≡ withEntryOf r (l .0) k ⌝ }
+{
+    let entries = with_entry(r.entries, l, k);
+    let mut q = r;
+    q.entries = entries;
+    q
+}
+
+// The number of the version after the last assigned one of line l, whose state is b.
+fn next_number(l: Line, b: Branch) -> u64
+    ensures { λ r. ⌜ r ≡ numberBy (l .0) b ⌝ }
+{
+    number_of(l, Version(capped_sum(b.assigned.0, 1)))
+}
+
+// Writes what an update of ticket t, whose record is r, leaves in the register, where the table's number k is 0: the ticket's record gets the number of the next
+// update, that update's record its part, and the record of the line's next version the number. The three may be one.
+fn note_update(
     register: &mut [Record],
+    k: u64,
+    s: Store,
+    l: Line,
     t: Ticket,
     f: PageIndex,
-) -> AssignOut
-    ensures { λ r.
-        let a = areasOf (now (pages .entry)) (now (nodes .entry)) (now (register .entry)) in
-        ⌜ (r ≡ assignOut s a (t .0) (f .0)) × (now (register .exit) ≡ assignRegister s a (t .0) (f .0)) ⌝ }
+    r: Record,
+)
+    requires { ⌜ (k ≡ 0 → Roomy s (l .0) (f .0) (r .n)) ⌝ }
+    ensures { λ _. ⌜ now (register .exit) ≡ unless k (now (register .entry)) (withAssigned s (now (register .entry)) r (l .0) (t .0) (f .0)) ⌝ }
 {
-    let r = ticket_record(register, t);
-    let l = lengths_of(pages, nodes, register);
-    let k = assign_refusal(s, l, r, t, f);
-    let out = assigned_by(s, f, r.n, k);
-    put_record(
-        register,
-        k,
-        ticket_index(t),
-        with_version(r, out.store.assigned),
-    );
-    let i = s.assigned.0 as usize;
+    let b = line_state(s, l);
+    let next = capped_sum(s.assigned, 1);
+    put_record(register, k, ticket_index(t), ticket_part(r, next));
+    let i = s.assigned as usize;
     let q = record_at(register, i);
     put_record(
         register,
         k,
         i,
-        version_part(q, t, f, last_page(f, r.n), out.store.blob, s.places),
+        update_part(q, t, next_number(l, b), f, r.n, b.blob, s.places),
     );
-    out
+    let j = b.assigned.0 as usize;
+    let e = record_at(register, j);
+    put_record(register, k, j, entry_part(e, l, next));
 }
 
-// ASSIGN ticket as an append: a write at the size of the last assigned version.
+// ASSIGN ticket to line l as a write at page f.
+pub fn write(
+    s: Store,
+    pages: &[u8],
+    nodes: &[u32],
+    register: &mut [Record],
+    l: Line,
+    t: Ticket,
+    f: PageIndex,
+) -> AssignOut
+    ensures { λ r.
+        let a = areasOf (now (pages .entry)) (now (nodes .entry)) (now (register .entry)) in
+        ⌜ (r ≡ assignOut s a (l .0) (t .0) (f .0)) × (now (register .exit) ≡ assignRegister s a (l .0) (t .0) (f .0)) ⌝ }
+{
+    let r = ticket_record(register, t);
+    let g = lengths_of(pages, nodes, register);
+    let k = assign_refusal(s, g, r, l, t, f);
+    note_update(register, k, s, l, t, f, r);
+    assigned_by(s, l, f, r.n, k)
+}
+
+// ASSIGN ticket to line l as an append: a write at the size of the line's last assigned version.
 pub fn append(
     s: Store,
     pages: &[u8],
     nodes: &[u32],
     register: &mut [Record],
+    l: Line,
     t: Ticket,
 ) -> AssignOut
     ensures { λ r.
         let a = areasOf (now (pages .entry)) (now (nodes .entry)) (now (register .entry)) in
-        ⌜ (r ≡ assignOut s a (t .0) (s .blob)) × (now (register .exit) ≡ assignRegister s a (t .0) (s .blob)) ⌝ }
+        let f = lineIn s (l .0) .blob in
+        ⌜ (r ≡ assignOut s a (l .0) (t .0) f) × (now (register .exit) ≡ assignRegister s a (l .0) (t .0) f) ⌝ }
 {
-    write(s, pages, nodes, register, t, PageIndex(s.blob))
+    let b = line_state(s, l);
+    write(s, pages, nodes, register, l, t, PageIndex(b.blob))
 }

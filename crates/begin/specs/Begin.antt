@@ -33,23 +33,25 @@ withTicket s n = record {
   taken = s .taken + n;
   assigned = s .assigned;
   places = s .places;
-  published = s .published;
-  blob = s .blob;
+  begun = s .begun;
+  lines = s .lines;
 }
 
--- A record with a ticket's part anew: n pages from a page number on, none put, no version.
+-- A record with a ticket's part anew: n pages from a page number on, none put, no update.
 abbrev pub withTicketPart : Record → ℕ → ℕ → Record
 withTicketPart r n number = record {
   n = n;
   number = number;
   put = 0;
-  version = record { 0 = 0 };
+  update = 0;
   ticket = r .ticket;
+  name = r .name;
   f = r .f;
   last = r .last;
   size = r .size;
   place = r .place;
   woven = r .woven;
+  entries = r .entries;
 }
 
 -- What BEGIN gives back, by the table's number k.

@@ -6,7 +6,6 @@ ghost use Rattle.begin.specs.Begin.{beginRefusal, withTicketPart, begunB
 use register::Record;
 use register::record_at;
 use tree::Ticket;
-use tree::Version;
 use versions::Lengths;
 use versions::Store;
 use versions::areas_differ;
@@ -49,16 +48,15 @@ fn begin_refusal(s: Store, l: Lengths, n: u64) -> u64
     0
 }
 
-// A record with a ticket's part anew: n pages from a page number on, none put, no version.
+// A record with a ticket's part anew: n pages from a page number on, none put, no update.
 fn ticket_part(r: Record, n: u64, number: u64) -> Record
     ensures { λ q. ⌜ q ≡ withTicketPart r n number ⌝ }
 {
-    let unassigned = Version(0);
     let mut q = r;
     q.n = n;
     q.number = number;
     q.put = 0;
-    q.version = unassigned;
+    q.update = 0;
     q
 }
 

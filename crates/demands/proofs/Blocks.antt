@@ -1,96 +1,41 @@
--- Blocks of one size, one after another: their length, a byte, a block taken out, and a block put.
+-- A block put among blocks of one size, one after another, and a block as a part of them.
 -- Assumes nothing.
-use mathlib.Core.Path.{_≡_, refl, sym, ap, _∙_}
+use mathlib.Core.Path.{_≡_, sym, ap, _∙_}
 use mathlib.Core.Logic.{_≢_}
 use mathlib.Core.List.{List, [], _∷_, _++_, append-assoc}
-use Prim.Native.Nat.{ℕ, suc, _+_, _*_, _/_, _%_, _≤_, _<_}
-use native.Mathlib.Nat.{mul-zero, mul-suc, mul-comm, mul-le-mul-left, div-add-mod, mod-lt, div-lt-iff-lt-mul}
-use native.Mathlib.Omega.{arith}
+use Prim.Native.Nat.{ℕ, suc, _+_, _*_, _<_}
 use borrow.Author.Tests.{le-leb}
-use lib.ListN.{length, getD, take, drop, set, length-append, List·getD-append}
-use lib.Seq.{split-at, set-split, take-at, drop-at, length-take-le, getD-take, getD-drop, drop-drop}
+use lib.ListN.{length, getD, take, drop, set}
+use lib.Seq.{set-split, take-at, drop-at, drop-drop}
 use Rattle.pages.specs.Pages.{put, part}
-use Rattle.demands.specs.Model.{Page}
-use Rattle.demands.specs.InTurn.{joined}
+use Rattle.model.specs.History.{Page}
+use Rattle.model.specs.InTurn.{joined}
 use Rattle.model.proofs.Laid.{tab}
 use Rattle.model.proofs.Tab.{length-tab, getD-tab, tab-set}
-
-pub joined-append : (xs ys : List Page) → joined (xs ++ ys) ≡ joined xs ++ joined ys
-unfolding joined
-joined-append [] ys = refl
-joined-append (x ∷ xs) ys = rw (joined-append xs ys, append-assoc)
-
--- Every block is S long.
-abbrev pub Blocks : ℕ → List Page → Type 0
-Blocks S xs = (i : ℕ) → i < length xs → length (getD xs i []) ≡ S
-
-pub length-joined : (S : ℕ) (xs : List Page) → Blocks S xs → length (joined xs) ≡ S * length xs
-unfolding joined
-length-joined S [] h = sym (mul-zero S)
-length-joined S (x ∷ xs) h =
-    let e = h 0 (omega arith) in
-    rw (length-append, length-joined S xs (λ i l. h (suc i) (omega arith)), mul-suc) (omega arith)
-
-pub joined-split : (xs : List Page) (q : ℕ) → q < length xs → joined xs ≡ joined (take q xs) ++ (getD xs q [] ++ joined (drop (suc q) xs))
-unfolding joined
-joined-split xs q h = ap joined (split-at xs q [] h) ∙ joined-append (take q xs) (getD xs q [] ∷ drop (suc q) xs)
+use Rattle.model.proofs.Blocks.{Blocks, joined-append, joined-split, length-front, block-drop, block-room, block-part as block-taken, blocks-tab}
 
 module _ (S : ℕ) (xs : List Page) (sized : Blocks S xs) (q : ℕ) (there : q < length xs) where
-  length-front : length (joined (take q xs)) ≡ S * q
-  length-front =
-      let e = length-take-le q xs (omega arith) in
-      let front : Blocks S (take q xs) = λ i l. let l′ : i < q = rw e at l in rw (getD-take q xs i []) (sized i (omega arith)) in
-      length-joined S (take q xs) front ∙ rw e
-
-  pub block-drop : drop (S * q) (joined xs) ≡ getD xs q [] ++ joined (drop (suc q) xs)
-  block-drop = rw (joined-split xs q there) (drop-at (joined (take q xs)) (getD xs q [] ++ joined (drop (suc q) xs)) (S * q) length-front)
-
-  pub block-room : S * q + S ≤ length (joined xs)
-  block-room = rw (length-joined S xs sized, ← mul-suc S q) (mul-le-mul-left S there)
-
-  pub block-byte : (j : ℕ) → j < S → getD (joined xs) (S * q + j) 0 ≡ getD (getD xs q []) j 0
-  block-byte j h =
-      rw (← getD-drop (S * q) (joined xs) j 0, block-drop) (List·getD-append (getD xs q []) (joined (drop (suc q) xs)) 0 j (rw (sized q there) h))
-
-  pub block-part : part (joined xs) (S * q) S ≡ getD xs q []
+  block-part : part (joined xs) (S * q) S ≡ getD xs q []
   unfolding part
-  block-part = rw (le-leb (S * q + S) (length (joined xs)) block-room, block-drop) (take-at (getD xs q []) (joined (drop (suc q) xs)) S (sized q there))
+  block-part = rw (le-leb (S * q + S) (length (joined xs)) (block-room S xs sized q there)) (block-taken S xs sized q there)
 
   block-take : take (S * q) (joined xs) ≡ joined (take q xs)
-  block-take = rw (joined-split xs q there) (take-at (joined (take q xs)) (getD xs q [] ++ joined (drop (suc q) xs)) (S * q) length-front)
+  block-take = rw (joined-split xs q there) (take-at (joined (take q xs)) (getD xs q [] ++ joined (drop (suc q) xs)) (S * q) (length-front S xs sized q there))
 
   block-after : drop (S * q + S) (joined xs) ≡ joined (drop (suc q) xs)
-  block-after = rw (← drop-drop S (S * q) (joined xs), block-drop) (drop-at (getD xs q []) (joined (drop (suc q) xs)) S (sized q there))
+  block-after = rw (← drop-drop S (S * q) (joined xs), block-drop S xs sized q there) (drop-at (getD xs q []) (joined (drop (suc q) xs)) S (sized q there))
 
-  pub block-put : (x : Page) → length x ≡ S → put (joined xs) (S * q) x ≡ joined (set xs q x)
+  block-put : (x : Page) → length x ≡ S → put (joined xs) (S * q) x ≡ joined (set xs q x)
   unfolding put joined
   block-put x e =
-      rw (e, le-leb (S * q + S) (length (joined xs)) block-room, block-take, block-after, append-assoc, set-split xs q x there)
+      rw (e, le-leb (S * q + S) (length (joined xs)) (block-room S xs sized q there), block-take, block-after, append-assoc, set-split xs q x there)
       (sym (joined-append (take q xs) (x ∷ drop (suc q) xs)))
-
--- Byte j is byte j % S of block j / S.
-abbrev pub pageByte : ℕ → List Page → ℕ → ℕ
-pageByte S xs j = getD (getD xs (j / S) []) (j % S) 0
-
-pub blocks-byte : (S : ℕ) (xs : List Page) → Blocks S xs → 0 < S → (j : ℕ) → j < S * length xs → getD (joined xs) j 0 ≡ pageByte S xs j
-blocks-byte S xs sized some j h =
-    let l : j / S < length xs = div-lt-iff-lt-mul some .1 (rw mul-comm h) in
-    rw (div-add-mod j S) at (block-byte S xs sized (j / S) l (j % S) (mod-lt j some))
 
 -- Blocks by a rule of their number.
 module _ (S n : ℕ) (g : ℕ → Page) (sized : (i : ℕ) → i < n → length (g i) ≡ S) where
-  pub blocks-tab : Blocks S (tab n g)
-  blocks-tab i l = let l′ : i < n = rw length-tab at l in rw (getD-tab n g i [] l′) (sized i l′)
-
-  pub length-blocks : length (joined (tab n g)) ≡ S * n
-  length-blocks = length-joined S (tab n g) blocks-tab ∙ rw length-tab
-
-  pub tab-byte : (q j : ℕ) → q < n → j < S → getD (joined (tab n g)) (S * q + j) 0 ≡ getD (g q) j 0
-  tab-byte q j h l = block-byte S (tab n g) blocks-tab q (rw length-tab h) j l ∙ rw (getD-tab n g q [] h)
-
   pub tab-part : (q : ℕ) → q < n → part (joined (tab n g)) (S * q) S ≡ g q
-  tab-part q h = block-part S (tab n g) blocks-tab q (rw length-tab h) ∙ getD-tab n g q [] h
+  tab-part q h = block-part S (tab n g) (blocks-tab S n g sized) q (rw length-tab h) ∙ getD-tab n g q [] h
 
   pub tab-put : (h : ℕ → Page) (q : ℕ) (x : Page) → length x ≡ S → q < n → ((j : ℕ) → j < n → j ≢ q → g j ≡ h j) → h q ≡ x
       → put (joined (tab n g)) (S * q) x ≡ joined (tab n h)
-  tab-put h q x e l others p = block-put S (tab n g) blocks-tab q (rw length-tab l) x e ∙ ap joined (tab-set n g h q x l others p)
+  tab-put h q x e l others p = block-put S (tab n g) (blocks-tab S n g sized) q (rw length-tab l) x e ∙ ap joined (tab-set n g h q x l others p)

@@ -7,11 +7,12 @@ use mathlib.Core.Logic.{_≢_}
 use Prim.Native.Nat.{ℕ, zero, suc, _<_}
 use native.Mathlib.Omega.{arith}
 use lib.ListN.{length, getD}
-use Rattle.table.specs.Table.{holds, Row, _gives_, firstRefusal, beginRows, putRows, assignRows, weaveRows, sizeRows, readRows, pageRows}
-use Rattle.demands.specs.Answers.{Call, BEGIN, PUT, WRITE, APPEND, WEAVE, PUBLISH, READ, SIZE, RECENT, STAMP, VIEW, Answer, refused, publishedIs, waiting, says, answers}
-use Rattle.demands.specs.Model.{Limits, Model, due}
-use Rattle.demands.specs.OnModel.{onModel, either}
-use Rattle.demands.specs.Run.{outcomes}
+use Rattle.table.specs.Table.{holds, Row, _gives_, firstRefusal, beginRows, putRows, assignRows, weaveRows, lineRows, branchRows, sizeRows, readRows, pageRows}
+use Rattle.model.specs.Calls.{Call, BEGIN, PUT, WEAVE, on, Act, WRITE, APPEND, PUBLISH, BRANCH, READ, SIZE, RECENT, STAMP, VIEW, Answer, refused, publishedIs, waiting, says, answers}
+use Rattle.model.specs.History.{due}
+use Rattle.model.specs.Model.{Limits, Model, history}
+use Rattle.model.specs.OnModel.{onLine, onModel, either}
+use Rattle.model.specs.Run.{outcomes}
 use Rattle.demands.specs.Demands.{NoFault}
 
 -- No row gives k.
@@ -50,19 +51,24 @@ published-fine : (b : Bool) (v : ℕ) → NoFault (either b (publishedIs v) wait
 published-fine true v = fine _ λ k e. zero-one (cc)
 published-fine false v = fine _ λ k e. zero-one (cc)
 
+line-fine : (L : Limits) (m : Model) (l : ℕ) (a : Act) → NoFault (onLine L m l a .1 .answer)
+unfolding onLine assignRows lineRows branchRows sizeRows readRows pageRows
+line-fine L m l (WRITE t f) = by-rows _ _ (omega arith) (omega arith) (fine _ λ k e. zero-one (cc))
+line-fine L m l (APPEND t) = by-rows _ _ (omega arith) (omega arith) (fine _ λ k e. zero-one (cc))
+line-fine L m l PUBLISH = by-rows _ _ (omega arith) (omega arith) (published-fine (due (history m l)) _)
+line-fine L m l (BRANCH v) = by-rows _ _ (omega arith) (omega arith) (fine _ λ k e. zero-one (cc))
+line-fine L m l (READ v offset len buffer) = by-rows _ _ (omega arith) (omega arith) (fine _ λ k e. zero-one (cc))
+line-fine L m l (SIZE v) = by-rows _ _ (omega arith) (omega arith) (fine _ λ k e. zero-one (cc))
+line-fine L m l RECENT = by-rows _ _ (omega arith) (omega arith) (fine _ λ k e. zero-one (cc))
+line-fine L m l (STAMP v p) = by-rows _ _ (omega arith) (omega arith) (fine _ λ k e. zero-one (cc))
+line-fine L m l (VIEW v p) = fine _ λ k e. zero-one (cc)
+
 pub step-fine : (L : Limits) (m : Model) (c : Call) → NoFault (onModel L m c .1 .answer)
-unfolding onModel beginRows putRows assignRows weaveRows sizeRows readRows pageRows
+unfolding onModel beginRows putRows weaveRows
 step-fine L m (BEGIN n) = by-rows _ _ (omega arith) (omega arith) (fine _ λ k e. zero-one (cc))
 step-fine L m (PUT t i bytes) = by-rows _ _ (omega arith) (omega arith) (fine _ λ k e. zero-one (cc))
-step-fine L m (WRITE t f) = by-rows _ _ (omega arith) (omega arith) (fine _ λ k e. zero-one (cc))
-step-fine L m (APPEND t) = by-rows _ _ (omega arith) (omega arith) (fine _ λ k e. zero-one (cc))
 step-fine L m (WEAVE t) = by-rows _ _ (omega arith) (omega arith) (fine _ λ k e. zero-one (cc))
-step-fine L m PUBLISH = published-fine (due m) _
-step-fine L m (READ v offset len buffer) = by-rows _ _ (omega arith) (omega arith) (fine _ λ k e. zero-one (cc))
-step-fine L m (SIZE v) = by-rows _ _ (omega arith) (omega arith) (fine _ λ k e. zero-one (cc))
-step-fine L m RECENT = fine _ λ k e. zero-one (cc)
-step-fine L m (STAMP v p) = by-rows _ _ (omega arith) (omega arith) (fine _ λ k e. zero-one (cc))
-step-fine L m (VIEW v p) = fine _ λ k e. zero-one (cc)
+step-fine L m (on l a) = line-fine L m l a
 
 pub run-fine : (L : Limits) (m : Model) (cs : List Call) (i : ℕ) → i < length cs → NoFault (getD (outcomes (onModel L) m cs) i (says waiting) .answer)
 unfolding outcomes

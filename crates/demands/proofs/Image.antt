@@ -1,86 +1,79 @@
--- The store that a model stands for, to the last byte: counters, register, pages and nodes. A page not put is zeros, a node not woven all ones.
+-- The store that a model stands for, to the last byte: counters, lines, register, pages and nodes.
 -- Assumes nothing.
-use mathlib.Core.Option.{Option, none, some}
+use mathlib.Core.Option.{Option}
 use mathlib.Core.List.{List, [], _∷_}
-use Prim.Native.Nat.{ℕ, suc, pred, _+_, _*_}
+use Prim.Native.Nat.{ℕ, suc, _+_, _*_}
 use lib.Dec.{ltb}
-use lib.ListN.{length, getD, replicate}
-use Rattle.tree.specs.Tree.{Node, node, countOf, weaving, update}
+use lib.ListN.{length, getD}
+use Rattle.tree.specs.Tree.{nth}
 use Rattle.tree.specs.Walk.{used}
-use Rattle.model.proofs.Laid.{tab, cellIn, oneTo, Pair, onesPair, flat}
+use Rattle.lines.specs.Lines.{entriesOf}
+use Rattle.lines.specs.declared.Branch.{Branch}
 use Rattle.register.specs.declared.Record.{Record}
 use Rattle.versions.specs.declared.Store.{Store}
 use Rattle.versions.specs.Store.{Areas}
-use Rattle.demands.specs.Model.{Limits, Page, Ticket, Model, noTicket, noVersion, pagesOf, ticketAt, versionAt, taken, versionOf, updateOf, updates, blobSize, places, isFilled, bitIf}
-use Rattle.demands.specs.InTurn.{joined}
-use Rattle.demands.specs.OnModel.{leftOf, rightOf, either}
+use Rattle.model.specs.History.{Page, pagesOf, taken, updateOf as toUpdate, updates, blobSize, isFilled, bitIf}
+use Rattle.model.specs.Model.{Limits, Model, lineAt, updateAt, history, every, places, updateOf, numbered}
+use Rattle.model.specs.OnModel.{ticketIn, either}
+use Rattle.model.proofs.Laid.{tab}
+use Rattle.model.proofs.Image.{pagesImage, nodesImage}
 use Rattle.demands.specs.Run.{State}
 
--- ---- pages: the slots in the order of their page numbers
-
-abbrev pub blank : ℕ → Page
-blank size = replicate size 0
-
-abbrev pub orBlank : ℕ → Option Page → Page
-orBlank size none = blank size
-orBlank size (some x) = x
-
-abbrev pub slotCell : ℕ → Ticket → ℕ → Page
-slotCell size k i = orBlank size (getD (k .slots) i none)
-
-abbrev pub pageCell : ℕ → List Ticket → ℕ → Page
-pageCell size ks q = cellIn pagesOf (slotCell size) (blank size) ks q
-
-unfoldable pub pagesImage : Limits → Model → List ℕ
-pagesImage L m = joined (tab (L .pages) (pageCell (L .size) (m .tickets)))
-
--- ---- nodes: the versions' nodes in weaving order, one version after another
-
--- The two numbers of node x of version v.
-abbrev pub numbersOf : Model → ℕ → Node → Pair
-numbersOf m v x = (leftOf (updates m) v (taken (m .tickets) (pred (versionAt m v .ticket))) x, rightOf (updates m) v x)
-
-abbrev pub wovenOf : Model → ℕ → ℕ
-wovenOf m v = ticketAt m (versionAt m v .ticket) .woven
-
-abbrev pub weaveCell : Model → ℕ → ℕ → Pair
-weaveCell m v j = either (ltb j (wovenOf m v)) (numbersOf m v (getD (weaving (update (updates m) v)) j (node 0 0))) onesPair
-
-abbrev pub countAt : Model → ℕ → ℕ
-countAt m v = countOf (update (updates m) v)
-
-abbrev pub nodeCell : Model → ℕ → Pair
-nodeCell m q = cellIn (countAt m) (weaveCell m) onesPair (oneTo (length (m .versions))) q
-
-unfoldable pub nodesImage : Limits → Model → List ℕ
-nodesImage L m = flat (tab (L .nodes) (nodeCell m))
-
--- ---- the register: record i has ticket i + 1's part and version i + 1's
+-- ---- the register: record i has ticket i + 1's part, update i + 1's, and for each line its own version i + 1
 
 -- Bit i is 1 where slot i is filled.
 unfoldable pub maskOf : List (Option Page) → ℕ
 maskOf [] = 0
 maskOf (x ∷ xs) = bitIf (isFilled x) + 2 * maskOf xs
 
+-- The number at which the pages of the ticket at index i begin, and the place at which the nodes of the update there do; 0 where there is none.
+abbrev pub numberAt : Model → ℕ → ℕ
+numberAt m i = either (ltb i (length (m .tickets))) (taken (m .tickets) i) 0
+
+abbrev pub placeAt : Model → ℕ → ℕ
+placeAt m i = either (ltb i (length (m .updates))) (used (updates (every m)) i) 0
+
+-- The update that is line l's own version v; 0 where that is shared or not there.
+abbrev pub ownAt : Model → ℕ → ℕ → ℕ
+ownAt m l v = either (ltb (lineAt m l .start) v) (nth 0 (lineAt m l .shown) v) 0
+
 abbrev pub recordImage : Model → ℕ → Record
 recordImage m i =
-    let k = getD (m .tickets) i noTicket in
-    let v = getD (m .versions) i noVersion in
+    let k = ticketIn m (suc i) in
+    let u = updateAt m (suc i) in
     record {
       n = pagesOf k;
-      number = either (ltb i (length (m .tickets))) (taken (m .tickets) i) 0;
+      number = numberAt m i;
       put = maskOf (k .slots);
-      version = record { 0 = versionOf m (suc i) };
-      ticket = record { 0 = v .ticket };
-      f = record { 0 = v .f };
-      last = record { 0 = updateOf (m .tickets) v .last };
-      size = v .size;
-      place = either (ltb i (length (m .versions))) (used (updates m) i) 0;
-      woven = ticketAt m (v .ticket) .woven;
+      update = updateOf m (suc i);
+      ticket = record { 0 = u .ticket };
+      name = numbered (u .line) (u .number);
+      f = record { 0 = u .f };
+      last = record { 0 = toUpdate (m .tickets) u .last };
+      size = u .size;
+      place = placeAt m i;
+      woven = ticketIn m (u .ticket) .woven;
+      entries = entriesOf (λ l. ownAt m l (suc i));
     }
 
 unfoldable pub registerImage : Limits → Model → List Record
 registerImage L m = tab (L .updates) (recordImage m)
+
+-- ---- the lines
+
+abbrev pub branchImage : Model → ℕ → Branch
+branchImage m l =
+    let x = lineAt m l in
+    record {
+      source = record { 0 = x .source };
+      start = record { 0 = x .start };
+      assigned = record { 0 = length (x .shown) };
+      published = record { 0 = x .published };
+      blob = blobSize (history m l);
+    }
+
+unfoldable pub linesImage : Model → List Branch
+linesImage m = tab 16 (branchImage m)
 
 -- ---- the whole
 
@@ -92,10 +85,10 @@ storeImage L m = record {
   updates = L .updates;
   tickets = record { 0 = length (m .tickets) };
   taken = taken (m .tickets) (length (m .tickets));
-  assigned = record { 0 = length (m .versions) };
+  assigned = length (m .updates);
   places = places m;
-  published = record { 0 = m .published };
-  blob = blobSize m;
+  begun = length (m .lines);
+  lines = linesImage m;
 }
 
 abbrev pub areasImage : Limits → Model → Areas

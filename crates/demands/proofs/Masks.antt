@@ -13,7 +13,7 @@ use lib.ListN.{length, getD, set, replicate, length-set}
 use lib.Pow.{pow-mono}
 use Rattle.tree.proofs.Count.{halved}
 use Rattle.put.specs.Put.{bitOf, withBit}
-use Rattle.demands.specs.Model.{Page, isFilled, bitIf, allFilled}
+use Rattle.model.specs.History.{Page, isFilled, bitIf, allFilled}
 use Rattle.demands.proofs.Image.{maskOf}
 
 -- One slot more doubles the masks.

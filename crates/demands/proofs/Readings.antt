@@ -13,11 +13,13 @@ use Rattle.assign.specs.Assign.{assigned}
 use Rattle.weave.specs.declared.WovenNode.{WovenNode}
 use Rattle.weave.specs.Weave.{wove}
 use Rattle.publish.specs.Publish.{published}
+use Rattle.branch.specs.Branch.{branched}
 use Rattle.read.specs.Read.{filledBy}
 use Rattle.stamp.specs.Stamp.{stamped}
 use Rattle.view.specs.View.{viewed}
-use Rattle.demands.specs.Answers.{Answer, formatDone, ticketIs, putDone, versionIs, nodeIs, publishedIs, waiting, filled, sizeIs, recentIs, stampIs, partAt, answers, formattedAnswer, begunAnswer, putAnswer, assignedAnswer, wovenAnswer, publishedAnswer, filledAnswer, sizedAnswer, latestAnswer, stampedAnswer, viewedAnswer}
-use Rattle.demands.specs.OnModel.{either}
+use Rattle.demands.specs.Answers.{formattedAnswer, begunAnswer, putAnswer, assignedAnswer, wovenAnswer, publishedAnswer, branchedAnswer, filledAnswer, sizedAnswer, latestAnswer, stampedAnswer, viewedAnswer}
+use Rattle.model.specs.Calls.{Answer, formatDone, ticketIs, putDone, versionIs, nodeIs, publishedIs, waiting, lineIs, filled, sizeIs, recentIs, stampIs, partAt, answers}
+use Rattle.model.specs.OnModel.{either}
 
 -- Values need be the same only where the table's number is 0.
 pub answers-same : (k : ℕ) (a b : Answer) → (k ≡ 0 → a ≡ b) → answers k a ≡ answers k b
@@ -40,7 +42,7 @@ pub assigned-reads : (k v count : ℕ) → assignedAnswer (assigned k v count) �
 assigned-reads zero v count = refl
 assigned-reads (suc k) v count = refl
 
-pub woven-reads : (k : ℕ) (x : WovenNode) → wovenAnswer (wove k x) ≡ answers k (nodeIs (x .version .0) (x .first .0) (x .span) (x .left) (x .right) (x .rest))
+pub woven-reads : (k : ℕ) (x : WovenNode) → wovenAnswer (wove k x) ≡ answers k (nodeIs (x .version) (x .first .0) (x .span) (x .left) (x .right) (x .rest))
 woven-reads zero x = refl
 woven-reads (suc k) x = refl
 
@@ -48,6 +50,10 @@ pub published-reads : (k : ℕ) (due : Bool) (v : ℕ) → publishedAnswer (publ
 published-reads zero true v = refl
 published-reads zero false v = refl
 published-reads (suc k) due v = refl
+
+pub branched-reads : (k l : ℕ) → branchedAnswer (branched k l) ≡ answers k (lineIs l)
+branched-reads zero l = refl
+branched-reads (suc k) l = refl
 
 pub filled-reads : (k : ℕ) → filledAnswer (filledBy k) ≡ answers k filled
 filled-reads zero = refl

@@ -1,34 +1,27 @@
 -- What the calls read of a model's image: the areas' lengths, the records, and the updates that the records say.
 -- Assumes nothing.
-use mathlib.Core.Path.{_≡_, refl, _∙_}
+use mathlib.Core.Path.{_≡_, refl, ap, _∙_}
 use mathlib.Core.Bool.{false}
-use mathlib.Core.Option.{Option, none, some}
 use Prim.Native.Nat.{ℕ, zero, suc, pred, _*_, _≤_, _<_, min, max}
 use native.Mathlib.Omega.{arith}
 use borrow.Author.Tests.{lt-ltb, eq-eqb}
-use lib.ListN.{length, getD, take, length-replicate}
-use Rattle.tree.specs.Tree.{noUpdate, update, newest}
-use Rattle.tree.specs.Walk.{used}
-use Rattle.register.specs.Register.{noRecord, mostPage, limited, updateOf, updatesOf}
+use lib.ListN.{length, getD}
+use Rattle.register.specs.Register.{noRecord, partOf, mostPage, limited, updateOf}
 use Rattle.table.specs.Table.{holds}
 use Rattle.versions.specs.Store.{areasDiffer, recordOf}
-use Rattle.demands.specs.Model.{Limits, Page, Model, noTicket, pagesOf, taken, updates}
-use Rattle.model.proofs.Laid.{tab}
-use Rattle.demands.proofs.Image.{orBlank, slotCell, pageCell, pagesImage, nodesImage, nodeCell, registerImage, recordImage, storeImage, areasImage}
-use Rattle.demands.proofs.Sound.{Sound}
-use Rattle.model.proofs.Tab.{length-tab, getD-tab, tab-same, take-tab, map-tab, tab-list}
-use Rattle.model.proofs.Pairs.{length-pairs}
-use Rattle.model.proofs.Cells.{locate, inside, outside, cell-at, cell-past}
-use Rattle.demands.proofs.Blocks.{length-blocks}
-use Rattle.demands.proofs.Updates.{newest-same, length-updates, update-at}
-
--- ---- lengths
+use Rattle.model.specs.History.{taken, updateOf as toUpdate, updates}
+use Rattle.model.specs.Model.{Limits, Model, lineAt, updateAt, history, numbered}
+use Rattle.model.specs.OnModel.{ticketIn}
+use Rattle.model.specs.Snapshot.{firstPlace}
+use Rattle.model.proofs.Image.{pagesImage, nodesImage}
+use Rattle.model.proofs.Areas.{length-nodes, length-pages}
+use Rattle.model.proofs.Sound.{Sound}
+use Rattle.model.proofs.Tab.{length-tab, getD-tab}
+use Rattle.model.proofs.Kept.Same.{number-upto}
+use Rattle.model.proofs.Owner.{own-update}
+use Rattle.demands.proofs.Image.{registerImage, recordImage, storeImage, areasImage}
 
 module _ (L : Limits) (m : Model) where
-  pub length-nodes : length (nodesImage L m) ≡ 2 * L .nodes
-  unfolding nodesImage
-  length-nodes = length-pairs (L .nodes) (nodeCell m)
-
   pub length-register : length (registerImage L m) ≡ L .updates
   unfolding registerImage
   length-register = length-tab (L .updates) (recordImage m)
@@ -37,39 +30,9 @@ module _ (L : Limits) (m : Model) where
   unfolding registerImage
   record-at i h = getD-tab (L .updates) (recordImage m) i noRecord h
 
-  pub record-of : (t : ℕ) → 0 < t → t ≤ L .updates → recordOf (areasImage L m) t ≡ recordImage m (pred t)
+  pub record-of : (k : ℕ) → 0 < k → k ≤ L .updates → recordOf (areasImage L m) k ≡ recordImage m (pred k)
   record-of zero p h = absurd (omega arith)
-  record-of (suc t) p h = record-at t h
-
-length-slot : (size : ℕ) (o : Option Page) → ((x : Page) → o ≡ some x → length x ≡ size) → length (orBlank size o) ≡ size
-length-slot size none h = length-replicate size 0
-length-slot size (some x) h = h x refl
-
-module _ (L : Limits) (m : Model) (sound : Sound L m) where
-  -- Every page cell is S long.
-  pub cells-length : (q : ℕ) → length (pageCell (L .size) (m .tickets) q) ≡ L .size
-  cells-length q = elim (locate pagesOf (m .tickets) noTicket q) [
-    | inside t i l k e ↦
-        rw (e, cell-at pagesOf (slotCell (L .size)) (orBlank (L .size) none) (m .tickets) t i noTicket l k)
-        (length-slot (L .size) (getD (getD (m .tickets) t noTicket .slots) i none) (sound .tickets (suc t) (omega arith) l .bytes i))
-    | outside k ↦ rw (cell-past pagesOf (slotCell (L .size)) (orBlank (L .size) none) (m .tickets) q k) (length-replicate (L .size) 0)
-  ]
-
-  pub length-pages : length (pagesImage L m) ≡ L .size * L .pages
-  unfolding pagesImage
-  length-pages = length-blocks (L .size) (L .pages) (pageCell (L .size) (m .tickets)) (λ q l. cells-length q)
-
-  -- Row 3 holds of no image.
-  pub areas-agree : holds (areasDiffer (storeImage L m) (areasImage L m)) ≡ false
-  unfolding holds
-  areas-agree =
-      rw (
-        eq-eqb (length (pagesImage L m)) (L .size * L .pages) length-pages,
-        eq-eqb (length (nodesImage L m)) (2 * L .nodes) (length-nodes L m),
-        eq-eqb (length (registerImage L m)) (L .updates) (length-register L m),
-      )
-
--- ---- updates
+  record-of (suc k) p h = record-at k h
 
 -- What the calls accept lies within the limits.
 pub limited-same : (f last size : ℕ) → f ≤ last → last < size → size ≤ 4096 → limited f last size ≡ record { f = f; last = last; size = size }
@@ -79,51 +42,67 @@ limited-same f last size p q r =
     let c : max (suc last) (min size (suc mostPage)) ≡ size = omega arith in
     rw (a, b, c)
 
-module _ (L : Limits) (m : Model) (sound : Sound L m) where
-  pub update-record : (i : ℕ) → i < length (m .versions) → updateOf (recordImage m i) ≡ update (updates m) (suc i)
-  unfolding updateOf
-  update-record i h =
-      let e = update-at m (suc i) in
-      let k = sound .accepted i h in
-      let w = sound .versions (suc i) (omega arith) h in
-      let a = rw e at (k .some-pages) in
-      let g = rw e at (k .grows) in
-      rw e (limited-same _ _ _ a (omega arith) (w .upward))
+module _ (L : Limits) (m : Model) (S : Sound L m) where
+  -- Row 3 holds of no image.
+  pub areas-agree : holds (areasDiffer (storeImage L m) (areasImage L m)) ≡ false
+  unfolding holds
+  areas-agree =
+      rw (
+        eq-eqb (length (pagesImage L m)) (L .size * L .pages) (length-pages L m S),
+        eq-eqb (length (nodesImage L m)) (2 * L .nodes) (length-nodes L m),
+        eq-eqb (length (registerImage L m)) (L .updates) (length-register L m),
+      )
 
-  within-updates : (v : ℕ) → v ≤ length (m .versions) → v ≤ L .updates
-  within-updates v h = omega (arith, sound .fewer, sound .records)
+  -- The records of tickets and updates lie within the register.
+  pub ticket-room : (t : ℕ) → t ≤ length (m .tickets) → t ≤ L .updates
+  ticket-room t h = omega (arith, S .records)
 
-  -- The update that version v's record says.
-  pub update-image : (v : ℕ) → 0 < v → v ≤ length (m .versions) → updateOf (recordOf (areasImage L m) v) ≡ update (updates m) v
-  update-image zero o h = absurd (omega arith)
-  update-image (suc v) o h = rw (record-of L m (suc v) o (within-updates (suc v) h)) (update-record v h)
+  pub update-room : (k : ℕ) → k ≤ length (m .updates) → k ≤ L .updates
+  update-room k h = omega (arith, S .fewer, S .records)
 
-  updates-register : updatesOf (registerImage L m) ≡ tab (L .updates) (λ i. updateOf (recordImage m i))
-  unfolding registerImage
-  updates-register = map-tab updateOf (L .updates) (recordImage m)
-
-  pub update-register : (v : ℕ) → v ≤ length (m .versions) → update (updatesOf (registerImage L m)) v ≡ update (updates m) v
-  unfolding update
-  update-register zero h = refl
-  update-register (suc i) h =
-      rw (updates-register) (getD-tab (L .updates) (λ j. updateOf (recordImage m j)) i noUpdate (within-updates (suc i) h) ∙ update-record i h)
-
-  pub newest-register : (v a s : ℕ) → v ≤ length (m .versions) → newest (updatesOf (registerImage L m)) v a s ≡ newest (updates m) v a s
-  newest-register v a s h = newest-same (updatesOf (registerImage L m)) (updates m) (length (m .versions)) update-register v h a s
-
-  pub updates-taken : updatesOf (take (length (m .versions)) (registerImage L m)) ≡ updates m
-  unfolding registerImage update
-  updates-taken =
-      let n = length (m .versions) in
-      rw (take-tab n (L .updates) (recordImage m) (within-updates n (omega arith)), map-tab updateOf n (recordImage m))
-      (tab-same n (λ i. updateOf (recordImage m i)) (λ i. getD (updates m) i noUpdate) (λ i l. update-record i l)
-      ∙ rw (length-updates m) at (tab-list (updates m) noUpdate))
-
-  -- The numbers at which a ticket's pages and a version's nodes begin.
+  -- The number at which a ticket's pages begin.
   pub number-of : (t : ℕ) → 0 < t → t ≤ length (m .tickets) → recordOf (areasImage L m) t .number ≡ taken (m .tickets) (pred t)
   number-of zero p h = absurd (omega arith)
-  number-of (suc t) p h = rw (record-of L m (suc t) p (omega (arith, sound .records)), lt-ltb t (length (m .tickets)) h)
+  number-of (suc t) p h = rw (record-of L m (suc t) p (ticket-room (suc t) h), lt-ltb t (length (m .tickets)) h)
 
-  pub place-of : (v : ℕ) → 0 < v → v ≤ length (m .versions) → recordOf (areasImage L m) v .place ≡ used (updates m) (pred v)
-  place-of zero p h = absurd (omega arith)
-  place-of (suc v) p h = rw (record-of L m (suc v) p (within-updates (suc v) h), lt-ltb v (length (m .versions)) h)
+module _ (L : Limits) (m : Model) (S : Sound L m) (k : ℕ) (o : 0 < k) (h : k ≤ length (m .updates)) where
+  -- Update k is a version of its line.
+  pub own-upto : updateAt m k .number ≤ length (lineAt m (updateAt m k .line) .shown)
+  own-upto = number-upto m k o (S .updated k o h)
+
+  -- Its pages lie in the blob after it, as its line's versions are accepted one after the other.
+  pub update-order : updateAt m k .f ≤ toUpdate (m .tickets) (updateAt m k) .last
+  update-order = let s = S .updated k o h in omega (arith, S .tickets (updateAt m k .ticket) (s .from) (s .upto) .some-pages)
+
+  pub update-fits : toUpdate (m .tickets) (updateAt m k) .last < updateAt m k .size
+  update-fits =
+      let s = S .updated k o h in
+      let v = updateAt m k .number in
+      let us = updates (history m (updateAt m k .line)) in
+      let e = own-update L m S k o h in
+      let n : suc (pred v) ≡ v = omega (arith, s .own) in
+      let g = rw n at (S .lines (updateAt m k .line) (s .line) .accepted (pred v) (omega (arith, own-upto, s .own)) .grows) in
+      let g′ = rw e at g in
+      omega arith
+
+  -- What its record says.
+  pub part-image : partOf (recordOf (areasImage L m) k) ≡ partOf (recordImage m (pred k))
+  part-image = ap partOf (record-of L m k o (update-room L m S k h))
+
+  at-pred : suc (pred k) ≡ k
+  at-pred = omega arith
+
+  pub update-image : updateOf (partOf (recordImage m (pred k))) ≡ toUpdate (m .tickets) (updateAt m k)
+  unfolding updateOf
+  update-image =
+      ap (λ (j : ℕ). limited (updateAt m j .f) (toUpdate (m .tickets) (updateAt m j) .last) (updateAt m j .size)) at-pred
+      ∙ limited-same _ _ _ update-order update-fits (S .updated k o h .upward)
+
+  pub name-image : recordImage m (pred k) .name ≡ numbered (updateAt m k .line) (updateAt m k .number)
+  name-image = ap (λ (j : ℕ). numbered (updateAt m j .line) (updateAt m j .number)) at-pred
+
+  pub woven-image : recordImage m (pred k) .woven ≡ ticketIn m (updateAt m k .ticket) .woven
+  woven-image = ap (λ (j : ℕ). ticketIn m (updateAt m j .ticket) .woven) at-pred
+
+  pub place-image : recordImage m (pred k) .place ≡ firstPlace m k
+  place-image = rw (lt-ltb (pred k) (length (m .updates)) (omega arith))

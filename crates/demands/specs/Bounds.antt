@@ -3,14 +3,16 @@ use mathlib.Core.Path.{_≡_, refl}
 use mathlib.Core.List.{List, [], _∷_}
 use Prim.Native.Nat.{ℕ}
 use lib.ListN.{replicate}
+use Rattle.lines.specs.Lines.{noLines, noEntries}
 use Rattle.register.specs.Register.{noRecord}
-use Rattle.demands.specs.Answers.{Call, BEGIN, PUT, WRITE, APPEND, WEAVE, PUBLISH, READ, SIZE, STAMP, ticketIs, putDone, versionIs, nodeIs, publishedIs, filled, sizeIs, stampIs, Outcome, says}
-use Rattle.demands.specs.Model.{Limits, noModel}
-use Rattle.demands.specs.OnModel.{onModel}
+use Rattle.model.specs.Calls.{Call, BEGIN, PUT, WEAVE, on, WRITE, APPEND, PUBLISH, READ, SIZE, STAMP, ticketIs, putDone, versionIs, nodeIs, publishedIs, filled, sizeIs, stampIs, Outcome, says}
+use Rattle.model.specs.Model.{Limits, noModel}
+use Rattle.model.specs.OnModel.{onModel}
+use Rattle.model.specs.Run.{outcomes}
 use Rattle.versions.specs.Store.{Areas}
 use Rattle.demands.specs.Computes.{computes}
-use Rattle.demands.specs.Run.{State, onStore, outcomes, formattedState}
-use Rattle.demands.specs.Rows.{page, no, noRead, fullModel, fullState}
+use Rattle.demands.specs.Run.{State, onStore, formattedState}
+use Rattle.demands.specs.Rows.{page, no, noRead, fullLimits, fullModel, fullState}
 
 -- An update of 64 pages and one of two use every record and every page number; the second has as many nodes as there are places.
 unfoldable pub limits : Limits
@@ -35,23 +37,23 @@ calls =
     ∷ PUT 2 1 page
     ∷ PUT 2 1 short
     ∷ PUT 2 0 short
-    ∷ WRITE 2 1
+    ∷ on 0 (WRITE 2 1)
     ∷ PUT 2 0 page
-    ∷ WRITE 2 1
-    ∷ WRITE 2 0
-    ∷ READ 1 32 1 []
-    ∷ STAMP 1 2
+    ∷ on 0 (WRITE 2 1)
+    ∷ on 0 (WRITE 2 0)
+    ∷ on 0 (READ 1 32 1 [])
+    ∷ on 0 (STAMP 1 2)
     ∷ WEAVE 2
     ∷ WEAVE 2
     ∷ WEAVE 2
-    ∷ PUBLISH
-    ∷ READ 1 32 1 []
-    ∷ READ 1 31 1 []
-    ∷ READ 1 31 1 (9 ∷ [])
-    ∷ READ 1 32 0 []
-    ∷ STAMP 1 2
-    ∷ STAMP 1 1
-    ∷ SIZE 1
+    ∷ on 0 PUBLISH
+    ∷ on 0 (READ 1 32 1 [])
+    ∷ on 0 (READ 1 31 1 [])
+    ∷ on 0 (READ 1 31 1 (9 ∷ []))
+    ∷ on 0 (READ 1 32 0 [])
+    ∷ on 0 (STAMP 1 2)
+    ∷ on 0 (STAMP 1 1)
+    ∷ on 0 (SIZE 1)
     ∷ []
 
 -- In order: 64 pages; 6; two pages; 4 before 5 and 6, twice; 5 before 6; 9 before 11; the last page of two; 10 before 11; 11; 12 before 13; a page; 13; a write at
@@ -96,34 +98,12 @@ unfolding computes limits areas calls given
 bounds-by-calls = refl
 
 -- 14 before 15: the blob of 4,096 pages of row 14, with one node place. A write of its last page is within 4,096 pages, and 15 answers.
-unfoldable pub crowdedLimits : Limits
-crowdedLimits = record { size = 16; pages = 5; nodes = 1; updates = 2 }
-
-unfoldable pub crowdedState : State
-crowdedState =
-    let s = fullState .store in
-    record {
-      store = record {
-        size = s .size;
-        pages = s .pages;
-        nodes = 1;
-        updates = s .updates;
-        tickets = s .tickets;
-        taken = s .taken;
-        assigned = s .assigned;
-        places = s .places;
-        published = s .published;
-        blob = s .blob;
-      };
-      areas = record { pages = fullState .areas .pages; nodes = replicate 2 0; register = fullState .areas .register };
-    }
-
-pub crowded-by-model : outcomes (onModel crowdedLimits) fullModel (APPEND 1 ∷ WRITE 1 4095 ∷ []) ≡ (no 14 ∷ no 15 ∷ [])
-unfolding computes crowdedLimits fullModel
+pub crowded-by-model : outcomes (onModel (fullLimits 1)) fullModel (on 0 (APPEND 1) ∷ on 0 (WRITE 1 4095) ∷ []) ≡ (no 14 ∷ no 15 ∷ [])
+unfolding computes fullLimits fullModel
 crowded-by-model = refl
 
-pub crowded-by-calls : outcomes onStore crowdedState (APPEND 1 ∷ WRITE 1 4095 ∷ []) ≡ (no 14 ∷ no 15 ∷ [])
-unfolding computes crowdedState fullState
+pub crowded-by-calls : outcomes onStore (fullState 1) (on 0 (APPEND 1) ∷ on 0 (WRITE 1 4095) ∷ []) ≡ (no 14 ∷ no 15 ∷ [])
+unfolding computes fullState
 crowded-by-calls = refl
 
 -- The low n bits decide, in 10 as in 12: a ticket of one page whose mask has a bit above that page's, as a register that was never formatted may have.
@@ -137,10 +117,10 @@ strayState =
         updates = 1;
         tickets = record { 0 = 1 };
         taken = 1;
-        assigned = record { 0 = 0 };
+        assigned = 0;
         places = 0;
-        published = record { 0 = 0 };
-        blob = 0;
+        begun = 1;
+        lines = noLines;
       };
       areas = record {
         pages = page;
@@ -149,17 +129,19 @@ strayState =
           n = 1;
           number = 0;
           put = 3;
-          version = record { 0 = 0 };
+          update = 0;
           ticket = record { 0 = 0 };
+          name = 0;
           f = record { 0 = 0 };
           last = record { 0 = 0 };
           size = 0;
           place = 0;
           woven = 0;
+          entries = noEntries;
         } ∷ [];
       };
     }
 
-pub stray-by-calls : outcomes onStore strayState (PUT 1 0 page ∷ APPEND 1 ∷ []) ≡ (no 10 ∷ says (versionIs 1 1) ∷ [])
+pub stray-by-calls : outcomes onStore strayState (PUT 1 0 page ∷ on 0 (APPEND 1) ∷ []) ≡ (no 10 ∷ says (versionIs 1 1) ∷ [])
 unfolding computes strayState
 stray-by-calls = refl

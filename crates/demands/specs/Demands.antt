@@ -1,30 +1,40 @@
--- The three demands of document 01 as types, over any list of calls of all ten kinds from an accepted FORMAT, refused calls included.
+-- The three demands of document 01 as types, over any list of calls of all kinds from an accepted FORMAT, refused calls included, for every line; and Slip 1's
+-- isolation of lines.
 use mathlib.Core.Path.{_≡_}
-use mathlib.Core.List.{List, [], _++_}
+use mathlib.Core.List.{List, [], _∷_, _++_}
 use Prim.Native.Nat.{ℕ, zero, suc, _+_, _*_, _≤_, _<_}
 use lib.ListN.{length, getD, take, drop, replicate}
 use Rattle.tree.specs.Tree.{heightOf}
-use Rattle.demands.specs.Answers.{Call, PUBLISH, READ, SIZE, RECENT, STAMP, VIEW, Answer, refused, waiting, filled, sizeIs, recentIs, partIs, Outcome, says}
-use Rattle.demands.specs.Model.{Limits, Model, noModel, versionAt, updates, complete}
-use Rattle.demands.specs.OnModel.{onModel, either}
-use Rattle.demands.specs.InTurn.{blobAt, bytesAt}
+use Rattle.model.specs.Calls.{Call, on, PUBLISH, BRANCH, READ, SIZE, RECENT, STAMP, VIEW, Answer, refused, waiting, lineIs, filled, sizeIs, recentIs, partIs, says}
+use Rattle.model.specs.History.{History, versionAt, updates, complete}
+use Rattle.model.specs.Model.{Limits, Model, noModel, lineAt, history, numberIn}
+use Rattle.model.specs.OnModel.{onModel, either}
+use Rattle.model.specs.InTurn.{blobAt, bytesAt}
+use Rattle.model.specs.Snapshot.{treeIn, placeIn, snapshotAt}
+use Rattle.model.specs.Run.{outcomes, modelAfter}
+use Rattle.model.specs.Due.{lastDue}
+use Rattle.isolation.specs.Isolation.{IsolatedBy}
 use Rattle.versions.specs.Store.{Areas}
 use Rattle.format.specs.Format.{formatNumber}
-use Rattle.demands.specs.Run.{State, onStore, outcomes, freshOf, formattedState, storeAfter, modelAfter}
-use Rattle.demands.specs.Snapshot.{treeIn, snapshotAt}
+use Rattle.demands.specs.Run.{onStore, freshOf, formattedState, storeAfter, asked}
 
 -- FORMAT of these limits accepts the areas.
 abbrev pub Accepted : Limits → Areas → Type 0
 Accepted L a = formatNumber (freshOf L) a ≡ 0
 
--- What a call gives back in a state.
-abbrev pub asked : State → Call → Outcome
-asked x c = onStore x c .1
-
 -- An answer that is neither 3 nor 19.
 pub record NoFault (a : Answer) : Type 0 where
   pub not3 : a ≡ refused 3 → ⊥
   pub not19 : a ≡ refused 19 → ⊥
+
+-- What line l reads as after a list of calls.
+abbrev pub historyAfter : Limits → List Call → ℕ → History
+historyAfter L cs l = history (modelAfter L cs) l
+
+-- The line has begun, and its version k is published.
+pub record Published (L : Limits) (cs : List Call) (l k : ℕ) : Type 0 where
+  pub line : l < length (modelAfter L cs .lines)
+  pub upto : k ≤ historyAfter L cs l .published
 
 module _ (L : Limits) (a : Areas) where
   -- Demand 1, over lists (call by call it is the promises): every answer, refusal numbers included, and every buffer is the model's; 3 and 19 never arise.
@@ -32,55 +42,63 @@ module _ (L : Limits) (a : Areas) where
     pub same : outcomes onStore (formattedState L a) cs ≡ outcomes (onModel L) noModel cs
     pub sound : (i : ℕ) → i < length cs → NoFault (getD (outcomes onStore (formattedState L a) cs) i (says waiting) .answer)
 
-  -- Demand 2: published version k reads, byte for byte, as updates 1 .. k applied in turn to an empty blob; its size agrees; its tree has exactly the
-  -- nodes, child versions and page numbers of the tree rule, a node lying where the accepted ASSIGNs and their counts put it.
-  pub record ReadsInTurn (cs : List Call) (k : ℕ) : Type 0 where
-    pub reads : (offset len : ℕ) (buffer : List ℕ) → offset + len ≤ L .size * versionAt (modelAfter L cs) k .size → len ≤ length buffer
-        → asked (storeAfter L a cs) (READ k offset len buffer)
-        ≡ record { answer = filled; buffer = take len (drop offset (bytesAt (modelAfter L cs) k)) ++ drop len buffer }
-    pub views : (p : ℕ) → p < versionAt (modelAfter L cs) k .size → asked (storeAfter L a cs) (VIEW k p) ≡ says (partIs (getD (blobAt (modelAfter L cs) k) p []))
-    pub sizes : asked (storeAfter L a cs) (SIZE k) ≡ says (sizeIs (L .size * versionAt (modelAfter L cs) k .size))
-    pub whole : length (bytesAt (modelAfter L cs) k) ≡ L .size * versionAt (modelAfter L cs) k .size
-    pub tree : treeIn (updates (modelAfter L cs)) (storeAfter L a cs .areas .nodes) (heightOf (updates (modelAfter L cs)) k) k 0
-        ≡ snapshotAt (modelAfter L cs) k .tree
+  -- Demand 2: published version k of line l reads, byte for byte, as the updates that the line shows as its versions 1 .. k applied in turn to an empty blob; its size
+  -- agrees; its tree has exactly the nodes, child numbers and page numbers of the tree rule, a node lying where the accepted ASSIGNs and their counts put it.
+  pub record ReadsInTurn (cs : List Call) (l k : ℕ) : Type 0 where
+    pub reads : (offset len : ℕ) (buffer : List ℕ) → offset + len ≤ L .size * versionAt (historyAfter L cs l) k .size → len ≤ length buffer
+        → asked (storeAfter L a cs) (on l (READ k offset len buffer))
+        ≡ record { answer = filled; buffer = take len (drop offset (bytesAt (historyAfter L cs l) k)) ++ drop len buffer }
+    pub views : (p : ℕ) → p < versionAt (historyAfter L cs l) k .size
+        → asked (storeAfter L a cs) (on l (VIEW k p)) ≡ says (partIs (getD (blobAt (historyAfter L cs l) k) p []))
+    pub sizes : asked (storeAfter L a cs) (on l (SIZE k)) ≡ says (sizeIs (L .size * versionAt (historyAfter L cs l) k .size))
+    pub whole : length (bytesAt (historyAfter L cs l) k) ≡ L .size * versionAt (historyAfter L cs l) k .size
+    pub tree : let h = historyAfter L cs l in
+        treeIn (placeIn (modelAfter L cs)) (storeAfter L a cs .areas .nodes) (heightOf (updates h) k) (numberIn h k) 0
+        ≡ snapshotAt (modelAfter L cs) l k .tree
 
-  -- All of "Compared", for every k up to the number published.
-  pub record Compared (cs : List Call) : Type 0 where
-    pub recent : asked (storeAfter L a cs) RECENT ≡ says (recentIs (modelAfter L cs .published))
-    pub versions : (k : ℕ) → k ≤ modelAfter L cs .published → ReadsInTurn cs k
+  -- All of "Compared", for every line and every k up to its number published.
+  pub record Compared (cs : List Call) (l : ℕ) : Type 0 where
+    pub recent : asked (storeAfter L a cs) (on l RECENT) ≡ says (recentIs (historyAfter L cs l .published))
+    pub versions : (k : ℕ) → k ≤ historyAfter L cs l .published → ReadsInTurn cs l k
 
-  -- Later calls never change a published version: neither what stands in the one-after-the-other run, nor what the store gives back for it.
-  pub record Kept (cs more : List Call) (k : ℕ) : Type 0 where
-    pub published : k ≤ modelAfter L (cs ++ more) .published
-    pub snapshot : snapshotAt (modelAfter L (cs ++ more)) k ≡ snapshotAt (modelAfter L cs) k
-    pub reads : (offset len : ℕ) (buffer : List ℕ) → asked (storeAfter L a (cs ++ more)) (READ k offset len buffer) ≡ asked (storeAfter L a cs) (READ k offset len buffer)
-    pub views : (p : ℕ) → asked (storeAfter L a (cs ++ more)) (VIEW k p) ≡ asked (storeAfter L a cs) (VIEW k p)
-    pub stamps : (p : ℕ) → asked (storeAfter L a (cs ++ more)) (STAMP k p) ≡ asked (storeAfter L a cs) (STAMP k p)
-    pub sizes : asked (storeAfter L a (cs ++ more)) (SIZE k) ≡ asked (storeAfter L a cs) (SIZE k)
+  -- Later calls, on whatever line, never change a published version: neither what stands in the one-after-the-other run, nor what the store gives back for it.
+  pub record Kept (cs more : List Call) (l k : ℕ) : Type 0 where
+    pub published : Published L (cs ++ more) l k
+    pub snapshot : snapshotAt (modelAfter L (cs ++ more)) l k ≡ snapshotAt (modelAfter L cs) l k
+    pub reads : (offset len : ℕ) (buffer : List ℕ)
+        → asked (storeAfter L a (cs ++ more)) (on l (READ k offset len buffer)) ≡ asked (storeAfter L a cs) (on l (READ k offset len buffer))
+    pub views : (p : ℕ) → asked (storeAfter L a (cs ++ more)) (on l (VIEW k p)) ≡ asked (storeAfter L a cs) (on l (VIEW k p))
+    pub stamps : (p : ℕ) → asked (storeAfter L a (cs ++ more)) (on l (STAMP k p)) ≡ asked (storeAfter L a cs) (on l (STAMP k p))
+    pub sizes : asked (storeAfter L a (cs ++ more)) (on l (SIZE k)) ≡ asked (storeAfter L a cs) (on l (SIZE k))
 
--- The last of the versions from k + 1 on, so many of them, before the first that is not complete.
-unfoldable pub completeUpTo : Model → ℕ → ℕ → ℕ
-completeUpTo m zero k = k
-completeUpTo m (suc n) k = either (complete m (suc k)) (completeUpTo m n (suc k)) k
+  -- PUBLISH of a line repeated until "waiting": when it says so, the line's number published is its last version before its first incomplete one, or its last
+  -- assigned; and it comes to say so.
+  pub record Reaches (cs : List Call) (l : ℕ) : Type 0 where
+    pub exact : (n : ℕ) → asked (storeAfter L a (cs ++ replicate n (on l PUBLISH))) (on l PUBLISH) ≡ says waiting
+        → asked (storeAfter L a (cs ++ replicate n (on l PUBLISH))) (on l RECENT) ≡ says (recentIs (lastDue (historyAfter L cs l)))
+    pub comes : asked (storeAfter L a (cs ++ replicate (length (historyAfter L cs l .versions)) (on l PUBLISH))) (on l PUBLISH) ≡ says waiting
 
--- The last version before the first incomplete one, or the last assigned.
-abbrev pub lastDue : Model → ℕ
-lastDue m = completeUpTo m (length (m .versions)) 0
+  -- A line that begins from version v of line l has v published at once, and reads up to v as line l does.
+  pub record BeginsFrom (cs : List Call) (l v k : ℕ) : Type 0 where
+    pub recent : asked (storeAfter L a (cs ++ on l (BRANCH v) ∷ [])) (on k RECENT) ≡ says (recentIs v)
+    pub reads : (w offset len : ℕ) (buffer : List ℕ) → w ≤ v
+        → asked (storeAfter L a (cs ++ on l (BRANCH v) ∷ [])) (on k (READ w offset len buffer)) ≡ asked (storeAfter L a cs) (on l (READ w offset len buffer))
+    pub views : (w p : ℕ) → w ≤ v → asked (storeAfter L a (cs ++ on l (BRANCH v) ∷ [])) (on k (VIEW w p)) ≡ asked (storeAfter L a cs) (on l (VIEW w p))
+    pub stamps : (w p : ℕ) → w ≤ v → asked (storeAfter L a (cs ++ on l (BRANCH v) ∷ [])) (on k (STAMP w p)) ≡ asked (storeAfter L a cs) (on l (STAMP w p))
+    pub sizes : (w : ℕ) → w ≤ v → asked (storeAfter L a (cs ++ on l (BRANCH v) ∷ [])) (on k (SIZE w)) ≡ asked (storeAfter L a cs) (on l (SIZE w))
 
-module _ (L : Limits) (a : Areas) where
-  -- PUBLISH repeated until "waiting": when it says so, the number published is the last version before the first incomplete one; and it comes to say so.
-  pub record Reaches (cs : List Call) : Type 0 where
-    pub exact : (n : ℕ) → asked (storeAfter L a (cs ++ replicate n PUBLISH)) PUBLISH ≡ says waiting
-        → asked (storeAfter L a (cs ++ replicate n PUBLISH)) RECENT ≡ says (recentIs (lastDue (modelAfter L cs)))
-    pub comes : asked (storeAfter L a (cs ++ replicate (length (modelAfter L cs .versions)) PUBLISH)) PUBLISH ≡ says waiting
-
--- Demand 3, one claim about the whole list.
+-- Demand 3, one claim about the whole list, for every line that has begun.
 pub record ThirdDemand (L : Limits) (a : Areas) (cs : List Call) : Type 0 where
   pub answers : AnswersAsModel L a cs
-  pub compared : Compared L a cs
-  pub kept : (more : List Call) (k : ℕ) → k ≤ modelAfter L cs .published → Kept L a cs more k
-  pub reaches : Reaches L a cs
+  pub compared : (l : ℕ) → l < length (modelAfter L cs .lines) → Compared L a cs l
+  pub kept : (more : List Call) (l k : ℕ) → Published L cs l k → Kept L a cs more l k
+  pub reaches : (l : ℕ) → l < length (modelAfter L cs .lines) → Reaches L a cs l
+  pub begins : (l v k : ℕ) → asked (storeAfter L a cs) (on l (BRANCH v)) ≡ says (lineIs k) → BeginsFrom L a cs l v k
 
 -- The theorem owed: for any limits and areas that FORMAT accepts, and any list of calls.
 abbrev pub Demanded : Type 0
 Demanded = (L : Limits) (a : Areas) → Accepted L a → (cs : List Call) → ThirdDemand L a cs
+
+-- Slip 1's theorem, over the calls of a store: what is done on other lines reaches a line's answers only through what the request lists.
+abbrev pub Isolated : Type 0
+Isolated = (L : Limits) (a : Areas) → Accepted L a → IsolatedBy L (λ cs c. asked (storeAfter L a cs) c)

@@ -1,16 +1,17 @@
--- Document 01's example input as a list of calls: its answers, by computation, on the model and on the calls' definitions.
+-- Document 01's example input as a list of calls, all on line 0: its answers, by computation, on the model and on the calls' definitions.
 use mathlib.Core.Path.{_≡_, refl}
 use mathlib.Core.List.{List, [], _∷_}
-use Prim.Native.Nat.{ℕ}
 use lib.ListN.{replicate}
 use Rattle.register.specs.Register.{noRecord}
-use Rattle.demands.specs.Answers.{Call, BEGIN, PUT, APPEND, WEAVE, PUBLISH, READ, STAMP, VIEW, SIZE, RECENT, refused, ticketIs, putDone, versionIs, nodeIs, publishedIs, waiting, filled, sizeIs, recentIs, stampIs, partIs, Outcome, says}
-use Rattle.demands.specs.Model.{Limits, noModel}
-use Rattle.demands.specs.OnModel.{onModel}
+use Rattle.model.specs.Calls.{Call, BEGIN, PUT, WEAVE, on, APPEND, PUBLISH, READ, STAMP, VIEW, SIZE, RECENT, refused, ticketIs, putDone, versionIs, nodeIs, publishedIs, waiting, filled, sizeIs, recentIs, stampIs, partIs, Outcome, says}
+use Rattle.model.specs.Model.{Limits, noModel}
+use Rattle.model.specs.OnModel.{onModel}
+use Rattle.model.specs.Run.{outcomes}
+use Rattle.model.specs.Example.{pageOf}
 use Rattle.versions.specs.Store.{Areas}
 use Rattle.format.specs.Format.{formatNumber}
 use Rattle.demands.specs.Computes.{computes}
-use Rattle.demands.specs.Run.{onStore, outcomes, freshOf, formattedState}
+use Rattle.demands.specs.Run.{onStore, freshOf, formattedState}
 
 -- FORMAT,16,4,8,2 and areas of its lengths, with anything in them.
 unfoldable pub limits : Limits
@@ -19,32 +20,28 @@ limits = record { size = 16; pages = 4; nodes = 8; updates = 2 }
 unfoldable pub areas : Areas
 areas = record { pages = replicate 64 7; nodes = replicate 16 7; register = replicate 2 noRecord }
 
--- 16 bytes of one value; 34 is 22 in hexadecimal and 17 is 11.
-abbrev pub pageOf : ℕ → List ℕ
-pageOf x = replicate 16 x
-
--- The document's lines, and after them SIZE, RECENT and VIEW.
+-- The document's steps, and after them SIZE, RECENT and VIEW; 34 is 22 in hexadecimal and 17 is 11.
 unfoldable pub calls : List Call
 calls =
     BEGIN 1
     ∷ BEGIN 1
     ∷ PUT 2 0 (pageOf 34)
     ∷ PUT 1 0 (pageOf 17)
-    ∷ APPEND 2
-    ∷ APPEND 1
+    ∷ on 0 (APPEND 2)
+    ∷ on 0 (APPEND 1)
     ∷ WEAVE 1
-    ∷ PUBLISH
+    ∷ on 0 PUBLISH
     ∷ WEAVE 2
-    ∷ PUBLISH
-    ∷ READ 2 0 0 []
+    ∷ on 0 PUBLISH
+    ∷ on 0 (READ 2 0 0 [])
     ∷ WEAVE 1
-    ∷ PUBLISH
-    ∷ READ 2 14 4 (replicate 6 9)
-    ∷ STAMP 2 0
+    ∷ on 0 PUBLISH
+    ∷ on 0 (READ 2 14 4 (replicate 6 9))
+    ∷ on 0 (STAMP 2 0)
     ∷ BEGIN 1
-    ∷ SIZE 2
-    ∷ RECENT
-    ∷ VIEW 2 1
+    ∷ on 0 (SIZE 2)
+    ∷ on 0 RECENT
+    ∷ on 0 (VIEW 2 1)
     ∷ []
 
 -- READ's bytes stand at the front of the buffer, and its last two bytes stay.

@@ -1,17 +1,18 @@
--- 001's figure 1 by calls, woven newest version first: pages 0-3, then a write of pages 1-2 inside the blob, then an append of one. Its answers, on the model
+-- 001's figure 1 by calls on line 0, woven newest version first: pages 0-3, then a write of pages 1-2 inside the blob, then an append of one. Its answers, on the model
 -- and on the calls' definitions, and the whole tree of version 3, by the rule and as the node area holds it.
 use mathlib.Core.Path.{_≡_, refl}
 use mathlib.Core.List.{List, [], _∷_, _++_}
-use Prim.Native.Nat.{ℕ}
 use lib.ListN.{replicate}
 use Rattle.register.specs.Register.{noRecord}
-use Rattle.demands.specs.Answers.{Call, BEGIN, PUT, WRITE, APPEND, WEAVE, PUBLISH, READ, STAMP, ticketIs, putDone, versionIs, nodeIs, publishedIs, waiting, filled, stampIs, Outcome, says}
-use Rattle.demands.specs.Model.{Limits, noModel, leafNumber, updates}
-use Rattle.demands.specs.OnModel.{onModel}
+use Rattle.model.specs.Calls.{Call, BEGIN, PUT, WEAVE, on, WRITE, APPEND, PUBLISH, READ, STAMP, ticketIs, putDone, versionIs, nodeIs, publishedIs, waiting, filled, stampIs, Outcome, says}
+use Rattle.model.specs.Model.{Limits, noModel}
+use Rattle.model.specs.OnModel.{onModel}
+use Rattle.model.specs.Run.{outcomes, modelAfter}
+use Rattle.model.specs.Example.{pageOf}
+use Rattle.model.specs.Snapshot.{Tree, noPage, leaf, inner, treeOf, treeIn, placeIn, treeAt}
 use Rattle.versions.specs.Store.{Areas}
 use Rattle.demands.specs.Computes.{computes}
-use Rattle.demands.specs.Run.{onStore, outcomes, formattedState, storeAfter, modelAfter}
-use Rattle.demands.specs.Snapshot.{Tree, noPage, leaf, inner, treeOf, treeIn}
+use Rattle.demands.specs.Run.{onStore, formattedState, storeAfter}
 
 unfoldable pub limits : Limits
 limits = record { size = 16; pages = 7; nodes = 16; updates = 3 }
@@ -19,25 +20,21 @@ limits = record { size = 16; pages = 7; nodes = 16; updates = 3 }
 unfoldable pub areas : Areas
 areas = record { pages = replicate 112 9; nodes = replicate 32 9; register = replicate 3 noRecord }
 
--- A page of 16 bytes of one value.
-abbrev of : ℕ → List ℕ
-of x = replicate 16 x
-
 unfoldable pub calls : List Call
 calls =
     BEGIN 4
     ∷ BEGIN 2
     ∷ BEGIN 1
-    ∷ PUT 1 0 (of 1)
-    ∷ PUT 1 1 (of 2)
-    ∷ PUT 1 2 (of 3)
-    ∷ PUT 1 3 (of 4)
-    ∷ PUT 2 0 (of 5)
-    ∷ PUT 2 1 (of 6)
-    ∷ PUT 3 0 (of 7)
-    ∷ WRITE 1 0
-    ∷ WRITE 2 1
-    ∷ APPEND 3
+    ∷ PUT 1 0 (pageOf 1)
+    ∷ PUT 1 1 (pageOf 2)
+    ∷ PUT 1 2 (pageOf 3)
+    ∷ PUT 1 3 (pageOf 4)
+    ∷ PUT 2 0 (pageOf 5)
+    ∷ PUT 2 1 (pageOf 6)
+    ∷ PUT 3 0 (pageOf 7)
+    ∷ on 0 (WRITE 1 0)
+    ∷ on 0 (WRITE 2 1)
+    ∷ on 0 (APPEND 3)
     ∷ WEAVE 3
     ∷ WEAVE 3
     ∷ WEAVE 3
@@ -47,7 +44,7 @@ calls =
     ∷ WEAVE 2
     ∷ WEAVE 2
     ∷ WEAVE 2
-    ∷ PUBLISH
+    ∷ on 0 PUBLISH
     ∷ WEAVE 1
     ∷ WEAVE 1
     ∷ WEAVE 1
@@ -55,10 +52,10 @@ calls =
     ∷ WEAVE 1
     ∷ WEAVE 1
     ∷ WEAVE 1
-    ∷ PUBLISH
-    ∷ PUBLISH
-    ∷ PUBLISH
-    ∷ PUBLISH
+    ∷ on 0 PUBLISH
+    ∷ on 0 PUBLISH
+    ∷ on 0 PUBLISH
+    ∷ on 0 PUBLISH
     ∷ []
 
 unfoldable pub given : List Outcome
@@ -109,12 +106,12 @@ figure-by-calls = refl
 
 -- Version 3 whole, version 2 over two edges of pages, and the versions that last wrote pages 0, 1 and 4.
 abbrev looks : List Call
-looks = READ 3 0 80 (replicate 80 0) ∷ READ 2 15 18 (replicate 18 0) ∷ STAMP 3 0 ∷ STAMP 3 1 ∷ STAMP 3 4 ∷ []
+looks = on 0 (READ 3 0 80 (replicate 80 0)) ∷ on 0 (READ 2 15 18 (replicate 18 0)) ∷ on 0 (STAMP 3 0) ∷ on 0 (STAMP 3 1) ∷ on 0 (STAMP 3 4) ∷ []
 
 abbrev seen : List Outcome
 seen =
-    record { answer = filled; buffer = of 1 ++ (of 5 ++ (of 6 ++ (of 4 ++ of 7))) }
-    ∷ record { answer = filled; buffer = 1 ∷ (of 5 ++ (6 ∷ [])) }
+    record { answer = filled; buffer = pageOf 1 ++ (pageOf 5 ++ (pageOf 6 ++ (pageOf 4 ++ pageOf 7))) }
+    ∷ record { answer = filled; buffer = 1 ∷ (pageOf 5 ++ (6 ∷ [])) }
     ∷ says (stampIs 1)
     ∷ says (stampIs 2)
     ∷ says (stampIs 3)
@@ -135,10 +132,10 @@ figure =
     (inner 2 0 2 2 2 (inner 2 0 1 1 2 (leaf 1 0 0 0) (leaf 2 1 4 0)) (inner 2 2 1 2 1 (leaf 2 2 5 0) (leaf 1 3 3 0)))
     (inner 3 4 2 3 0 (inner 3 4 1 3 0 (leaf 3 4 6 0) noPage) noPage)
 
-pub tree-by-rule : treeOf (updates (modelAfter limits calls)) (leafNumber (modelAfter limits calls)) 3 3 0 ≡ figure
+pub tree-by-rule : treeAt (modelAfter limits calls) 0 3 ≡ figure
 unfolding computes limits calls treeOf
 tree-by-rule = refl
 
-pub tree-by-area : treeIn (updates (modelAfter limits calls)) (storeAfter limits areas calls .areas .nodes) 3 3 0 ≡ figure
-unfolding computes limits areas calls treeIn
+pub tree-by-area : treeIn (placeIn (modelAfter limits calls)) (storeAfter limits areas calls .areas .nodes) 3 3 0 ≡ figure
+unfolding computes limits areas calls treeIn placeIn
 tree-by-area = refl

@@ -1,12 +1,9 @@
 pub mod Answers
-pub mod Model
-pub mod InTurn
-pub mod OnModel
 pub mod Run
-pub mod Snapshot
 pub mod Demands
 pub mod Computes
 pub mod Example
 pub mod Rows
 pub mod Bounds
 pub mod Figure
+pub mod Lines

@@ -1,23 +1,27 @@
--- Every row of the table of refusals, by computation: on the model and on the calls' definitions where a formatted store can give it, and 3 and 19 on
+-- Every row of the table of refusals but 20 and 21, by computation: on the model and on the calls' definitions where a formatted store can give it, and 3 and 19 on
 -- areas that no run left.
 use mathlib.Core.Path.{_≡_, refl}
 use mathlib.Core.Option.{some}
 use mathlib.Core.List.{List, [], _∷_}
-use Prim.Native.Nat.{ℕ}
+use Prim.Native.Nat.{ℕ, _*_}
 use lib.ListN.{replicate}
+use Rattle.lines.specs.Lines.{noBranch}
+use Rattle.lines.specs.declared.Branch.{Branch}
 use Rattle.register.specs.Register.{noRecord}
-use Rattle.demands.specs.Answers.{Call, BEGIN, PUT, WRITE, APPEND, WEAVE, PUBLISH, READ, SIZE, RECENT, STAMP, VIEW, refused, ticketIs, putDone, versionIs, nodeIs, publishedIs, waiting, filled, sizeIs, recentIs, partIs, Outcome, says}
-use Rattle.demands.specs.Model.{Limits, Model, noModel}
-use Rattle.demands.specs.OnModel.{onModel}
+use Rattle.model.specs.Calls.{Call, BEGIN, PUT, WEAVE, on, WRITE, APPEND, PUBLISH, BRANCH, READ, SIZE, RECENT, STAMP, VIEW, refused, ticketIs, putDone, versionIs, nodeIs, publishedIs, waiting, filled, sizeIs, recentIs, partIs, Outcome, says}
+use Rattle.model.specs.Model.{Limits, Model, noModel}
+use Rattle.model.specs.OnModel.{onModel}
+use Rattle.model.specs.Run.{outcomes}
+use Rattle.model.specs.Example.{pageOf}
 use Rattle.versions.specs.Store.{Areas}
 use Rattle.format.specs.Format.{fresh, formatNumber}
 use Rattle.begin.specs.Begin.{withTicketPart}
 use Rattle.put.specs.Put.{withPut}
 use Rattle.demands.specs.Computes.{computes}
-use Rattle.demands.specs.Run.{State, onStore, outcomes, formattedState, storeAfter}
+use Rattle.demands.specs.Run.{State, onStore, formattedState, storeAfter}
 
 abbrev pub page : List ℕ
-page = replicate 16 5
+page = pageOf 5
 
 abbrev pub no : ℕ → Outcome
 no k = says (refused k)
@@ -57,46 +61,46 @@ calls =
     ∷ BEGIN 6
     ∷ PUT 1 0 page
     ∷ WEAVE 0
-    ∷ WRITE 1 0
+    ∷ on 0 (WRITE 1 0)
     ∷ BEGIN 2
     ∷ WEAVE 1
     ∷ PUT 1 2 page
     ∷ PUT 1 0 (replicate 15 5)
     ∷ PUT 1 0 page
     ∷ PUT 1 0 page
-    ∷ APPEND 1
+    ∷ on 0 (APPEND 1)
     ∷ PUT 1 1 page
-    ∷ WRITE 1 1
-    ∷ APPEND 1
+    ∷ on 0 (WRITE 1 1)
+    ∷ on 0 (APPEND 1)
     ∷ PUT 1 0 page
-    ∷ WRITE 1 0
-    ∷ READ 1 0 1 (9 ∷ [])
-    ∷ SIZE 1
-    ∷ STAMP 1 0
-    ∷ VIEW 1 0
+    ∷ on 0 (WRITE 1 0)
+    ∷ on 0 (READ 1 0 1 (9 ∷ []))
+    ∷ on 0 (SIZE 1)
+    ∷ on 0 (STAMP 1 0)
+    ∷ on 0 (VIEW 1 0)
     ∷ WEAVE 1
     ∷ WEAVE 1
-    ∷ PUBLISH
+    ∷ on 0 PUBLISH
     ∷ WEAVE 1
     ∷ WEAVE 1
-    ∷ PUBLISH
-    ∷ PUBLISH
-    ∷ READ 1 31 2 (9 ∷ 9 ∷ [])
-    ∷ READ 1 0 3 (9 ∷ 9 ∷ [])
-    ∷ READ 1 31 1 (9 ∷ 9 ∷ [])
-    ∷ STAMP 1 2
-    ∷ VIEW 1 2
-    ∷ READ 0 0 0 (9 ∷ [])
-    ∷ READ 0 1 0 (9 ∷ [])
-    ∷ SIZE 0
+    ∷ on 0 PUBLISH
+    ∷ on 0 PUBLISH
+    ∷ on 0 (READ 1 31 2 (9 ∷ 9 ∷ []))
+    ∷ on 0 (READ 1 0 3 (9 ∷ 9 ∷ []))
+    ∷ on 0 (READ 1 31 1 (9 ∷ 9 ∷ []))
+    ∷ on 0 (STAMP 1 2)
+    ∷ on 0 (VIEW 1 2)
+    ∷ on 0 (READ 0 0 0 (9 ∷ []))
+    ∷ on 0 (READ 0 1 0 (9 ∷ []))
+    ∷ on 0 (SIZE 0)
     ∷ BEGIN 1
     ∷ PUT 2 0 page
-    ∷ WRITE 2 2
+    ∷ on 0 (WRITE 2 2)
     ∷ BEGIN 1
     ∷ PUT 3 0 page
-    ∷ APPEND 3
+    ∷ on 0 (APPEND 3)
     ∷ BEGIN 1
-    ∷ RECENT
+    ∷ on 0 RECENT
     ∷ []
 
 unfoldable pub given : List Outcome
@@ -156,45 +160,56 @@ pub rows-by-calls : outcomes onStore (formattedState limits areas) calls ≡ giv
 unfolding computes limits areas calls given
 rows-by-calls = refl
 
--- ---- row 14: a blob of 4,096 pages, given (64 updates of 64 pages lead there). Ticket 1 has one page, put; version 1 is ticket 2's.
+-- Line 0's state: so many versions assigned, so many published, and so many pages.
+abbrev lineWith : ℕ → ℕ → ℕ → Branch
+lineWith assigned published blob = record {
+  source = record { 0 = 0 };
+  start = record { 0 = 0 };
+  assigned = record { 0 = assigned };
+  published = record { 0 = published };
+  blob = blob;
+}
 
-unfoldable pub fullLimits : Limits
-fullLimits = record { size = 16; pages = 5; nodes = 20; updates = 2 }
+-- ---- row 14: a blob of 4,096 pages, given (64 updates of 64 pages lead there), with so many node places. Ticket 1 has one page, put;
+-- version 1 is ticket 2's.
+
+unfoldable pub fullLimits : ℕ → Limits
+fullLimits nodes = record { size = 16; pages = 5; nodes = nodes; updates = 2 }
 
 unfoldable pub fullModel : Model
 fullModel = record {
   tickets = record { slots = some page ∷ []; woven = 0 } ∷ record { slots = some page ∷ []; woven = 0 } ∷ [];
-  versions = record { ticket = 2; f = 0; size = 4096 } ∷ [];
-  published = 0;
+  updates = record { ticket = 2; line = 0; number = 1; f = 0; size = 4096 } ∷ [];
+  lines = record { source = 0; start = 0; shown = 1 ∷ []; published = 0 } ∷ [];
 }
 
-unfoldable pub fullState : State
-fullState = record {
+unfoldable pub fullState : ℕ → State
+fullState nodes = record {
   store = record {
     size = 16;
     pages = 5;
-    nodes = 20;
+    nodes = nodes;
     updates = 2;
     tickets = record { 0 = 2 };
     taken = 2;
-    assigned = record { 0 = 1 };
+    assigned = 1;
     places = 1;
-    published = record { 0 = 0 };
-    blob = 4096;
+    begun = 1;
+    lines = lineWith 1 0 4096 ∷ replicate 15 noBranch;
   };
   areas = record {
     pages = replicate 80 5;
-    nodes = replicate 40 0;
+    nodes = replicate (2 * nodes) 0;
     register = withPut (withTicketPart noRecord 1 0) 0 ∷ noRecord ∷ [];
   };
 }
 
 -- An append and a write past 4,096 pages are refused, a write of the last page has 13 nodes.
-pub row14-by-model : (outcomes (onModel fullLimits) fullModel (APPEND 1 ∷ WRITE 1 4097 ∷ []) ≡ (no 14 ∷ no 13 ∷ []))
+pub row14-by-model : (outcomes (onModel (fullLimits 20)) fullModel (on 0 (APPEND 1) ∷ on 0 (WRITE 1 4097) ∷ []) ≡ (no 14 ∷ no 13 ∷ []))
 unfolding computes fullLimits fullModel
 row14-by-model = refl
 
-pub row14-by-calls : (outcomes onStore fullState (APPEND 1 ∷ WRITE 1 4097 ∷ WRITE 1 4095 ∷ []) ≡ (no 14 ∷ no 13 ∷ says (versionIs 2 13) ∷ []))
+pub row14-by-calls : (outcomes onStore (fullState 20) (on 0 (APPEND 1) ∷ on 0 (WRITE 1 4097) ∷ on 0 (WRITE 1 4095) ∷ []) ≡ (no 14 ∷ no 13 ∷ says (versionIs 2 13) ∷ []))
 unfolding computes fullState
 row14-by-calls = refl
 
@@ -204,12 +219,25 @@ row14-by-calls = refl
 abbrev damaged : (Areas → Areas) → State
 damaged g = let x = storeAfter limits areas calls in record { store = x .store; areas = g (x .areas) }
 
--- What every call says where an area's length differs.
+-- What every call says where an area's length differs, its line begun or not.
 abbrev each : List Call
-each = BEGIN 0 ∷ PUT 9 0 [] ∷ WRITE 9 0 ∷ APPEND 9 ∷ WEAVE 9 ∷ PUBLISH ∷ READ 9 0 1 [] ∷ SIZE 9 ∷ RECENT ∷ STAMP 9 0 ∷ VIEW 9 0 ∷ []
+each =
+    BEGIN 0
+    ∷ PUT 9 0 []
+    ∷ on 0 (WRITE 9 0)
+    ∷ on 7 (APPEND 9)
+    ∷ WEAVE 9
+    ∷ on 7 PUBLISH
+    ∷ on 7 (BRANCH 9)
+    ∷ on 0 (READ 9 0 1 [])
+    ∷ on 0 (SIZE 9)
+    ∷ on 0 RECENT
+    ∷ on 7 (STAMP 9 0)
+    ∷ on 0 (VIEW 9 0)
+    ∷ []
 
 abbrev threes : List Outcome
-threes = no 3 ∷ no 3 ∷ no 3 ∷ no 3 ∷ no 3 ∷ no 3 ∷ no 3 ∷ no 3 ∷ no 3 ∷ no 3 ∷ says (partIs []) ∷ []
+threes = no 3 ∷ no 3 ∷ no 3 ∷ no 3 ∷ no 3 ∷ no 3 ∷ no 3 ∷ no 3 ∷ no 3 ∷ no 3 ∷ no 3 ∷ says (partIs []) ∷ []
 
 pub row3 :
     outcomes onStore (damaged (λ a. record { pages = 1 ∷ a .pages; nodes = a .nodes; register = a .register })) each ≡ threes
@@ -220,7 +248,7 @@ row3 = (refl, refl, refl)
 
 -- The calls that walk version 1's tree, and a READ of no byte, which does not.
 abbrev walks : List Call
-walks = READ 1 16 1 (9 ∷ []) ∷ STAMP 1 1 ∷ VIEW 1 1 ∷ READ 1 16 0 (9 ∷ []) ∷ []
+walks = on 0 (READ 1 16 1 (9 ∷ [])) ∷ on 0 (STAMP 1 1) ∷ on 0 (VIEW 1 1) ∷ on 0 (READ 1 16 0 (9 ∷ [])) ∷ []
 
 abbrev lost : List Outcome
 lost = noRead 19 (9 ∷ []) ∷ no 19 ∷ says (partIs []) ∷ record { answer = filled; buffer = 9 ∷ [] } ∷ []
@@ -245,17 +273,19 @@ overrun =
         updates = s .updates;
         tickets = record { 0 = 9 };
         taken = s .taken;
-        assigned = record { 0 = 9 };
+        assigned = 9;
         places = s .places;
-        published = record { 0 = 8 };
-        blob = s .blob;
+        begun = 1;
+        lines = lineWith 9 8 3 ∷ replicate 15 noBranch;
       };
       areas = storeAfter limits areas calls .areas;
     }
 
 -- A record past the register; the rows that need no record still come first.
 pub row19-records :
-    outcomes onStore overrun (PUT 9 0 [] ∷ PUT 9 0 page ∷ WRITE 9 4 ∷ WRITE 9 0 ∷ WRITE 3 0 ∷ WEAVE 9 ∷ PUBLISH ∷ SIZE 8 ∷ READ 8 0 1 [] ∷ READ 8 0 0 [] ∷ STAMP 8 0 ∷ [])
-    ≡ (no 11 ∷ no 19 ∷ no 13 ∷ no 19 ∷ no 15 ∷ no 19 ∷ no 19 ∷ no 19 ∷ no 18 ∷ no 19 ∷ no 19 ∷ [])
+    outcomes onStore overrun
+    (PUT 9 0 [] ∷ PUT 9 0 page ∷ on 0 (WRITE 9 4) ∷ on 0 (WRITE 9 0) ∷ on 0 (WRITE 3 0) ∷ WEAVE 9 ∷ on 0 PUBLISH ∷ on 0 (BRANCH 8) ∷ on 0 (SIZE 8)
+    ∷ on 0 (READ 8 0 1 []) ∷ on 0 (READ 8 0 0 []) ∷ on 0 (STAMP 8 0) ∷ [])
+    ≡ (no 11 ∷ no 19 ∷ no 13 ∷ no 19 ∷ no 15 ∷ no 19 ∷ no 19 ∷ no 19 ∷ no 19 ∷ no 18 ∷ no 19 ∷ no 19 ∷ [])
 unfolding computes limits areas calls overrun
 row19-records = refl

@@ -1,18 +1,20 @@
 -- Lists of calls, on a store and on the model.
-use mathlib.Core.List.{List, [], _∷_}
+use mathlib.Core.List.{List}
 use Prim.Native.Nat.{ℕ}
 use Rattle.versions.specs.declared.Store.{Store}
 use Rattle.register.specs.declared.Record.{Record}
-use Rattle.demands.specs.Answers.{Call, BEGIN, PUT, WRITE, APPEND, WEAVE, PUBLISH, READ, SIZE, RECENT, STAMP, VIEW, partIs, Outcome, says, begunAnswer, putAnswer, assignedAnswer, wovenAnswer, publishedAnswer, filledAnswer, sizedAnswer, latestAnswer, stampedAnswer}
-use Rattle.demands.specs.Model.{Limits, Model, noModel}
-use Rattle.demands.specs.OnModel.{onModel}
-use Rattle.versions.specs.Store.{Areas}
+use Rattle.model.specs.Calls.{Call, BEGIN, PUT, WEAVE, on, Act, WRITE, APPEND, PUBLISH, BRANCH, READ, SIZE, RECENT, STAMP, VIEW, partIs, Outcome, says}
+use Rattle.model.specs.Model.{Limits}
+use Rattle.model.specs.Run.{run}
+use Rattle.demands.specs.Answers.{begunAnswer, putAnswer, assignedAnswer, wovenAnswer, publishedAnswer, branchedAnswer, filledAnswer, sizedAnswer, latestAnswer, stampedAnswer}
+use Rattle.versions.specs.Store.{Areas, lineIn}
 use Rattle.format.specs.Format.{fresh, formatAreas}
 use Rattle.begin.specs.Begin.{beginOut, beginRegister}
 use Rattle.put.specs.Put.{putOut, putPages, putRegister}
 use Rattle.assign.specs.Assign.{assignOut, assignRegister}
 use Rattle.weave.specs.Weave.{weaveOut, weaveNodes, weaveRegister}
 use Rattle.publish.specs.Publish.{publishOut}
+use Rattle.branch.specs.Branch.{branchOut}
 use Rattle.read.specs.Read.{readOut, readBuffer}
 use Rattle.versions.specs.Size.{sizeOut}
 use Rattle.versions.specs.Recent.{recentOut}
@@ -27,12 +29,34 @@ pub record State : Type 0 where
 abbrev pub withRegister : Areas → List Record → Areas
 withRegister a r = record { pages = a .pages; nodes = a .nodes; register = r }
 
-abbrev pub assignCall : Store → Areas → ℕ → ℕ → State × Outcome
-assignCall s a t f =
-    let o = assignOut s a t f in
-    (record { store = o .store; areas = withRegister a (assignRegister s a t f) }, says (assignedAnswer (o .answer)))
+abbrev pub assignCall : Store → Areas → ℕ → ℕ → ℕ → State × Outcome
+assignCall s a l t f =
+    let o = assignOut s a l t f in
+    (record { store = o .store; areas = withRegister a (assignRegister s a l t f) }, says (assignedAnswer (o .answer)))
 
--- One call on a store: what its promise says it answers and leaves.
+-- One call on line l of a store: what its promise says it answers and leaves.
+unfoldable pub onLineOf : State → ℕ → Act → State × Outcome
+onLineOf x l (WRITE t f) = assignCall (x .store) (x .areas) l t f
+onLineOf x l (APPEND t) = assignCall (x .store) (x .areas) l t (lineIn (x .store) l .blob)
+onLineOf x l PUBLISH =
+    let o = publishOut (x .store) (x .areas) l in
+    (record { store = o .store; areas = x .areas }, says (publishedAnswer (o .answer)))
+onLineOf x l (BRANCH v) =
+    let o = branchOut (x .store) (x .areas) l v in
+    (record { store = o .store; areas = x .areas }, says (branchedAnswer (o .answer)))
+onLineOf x l (READ v offset len buffer) = (
+  x,
+  record {
+    answer = filledAnswer (readOut (x .store) (x .areas) l v offset len buffer);
+    buffer = readBuffer (x .store) (x .areas) l v offset len buffer;
+  },
+)
+onLineOf x l (SIZE v) = (x, says (sizedAnswer (sizeOut (x .store) (x .areas) l v)))
+onLineOf x l RECENT = (x, says (latestAnswer (recentOut (x .store) (x .areas) l)))
+onLineOf x l (STAMP v p) = (x, says (stampedAnswer (stampOut (x .store) (x .areas) l v p)))
+onLineOf x l (VIEW v p) = (x, says (partIs (viewPart (x .store) (x .areas) l v p)))
+
+-- One call on a store.
 unfoldable pub onStore : State → Call → State × Outcome
 onStore x (BEGIN n) =
     let o = beginOut (x .store) (x .areas) n in
@@ -48,8 +72,6 @@ onStore x (PUT t i bytes) = (
   },
   says (putAnswer (putOut (x .store) (x .areas) t i bytes)),
 )
-onStore x (WRITE t f) = assignCall (x .store) (x .areas) t f
-onStore x (APPEND t) = assignCall (x .store) (x .areas) t (x .store .blob)
 onStore x (WEAVE t) = (
   record {
     store = x .store;
@@ -61,30 +83,7 @@ onStore x (WEAVE t) = (
   },
   says (wovenAnswer (weaveOut (x .store) (x .areas) t)),
 )
-onStore x PUBLISH =
-    let o = publishOut (x .store) (x .areas) in
-    (record { store = o .store; areas = x .areas }, says (publishedAnswer (o .answer)))
-onStore x (READ v offset len buffer) = (
-  x,
-  record {
-    answer = filledAnswer (readOut (x .store) (x .areas) v offset len buffer);
-    buffer = readBuffer (x .store) (x .areas) v offset len buffer;
-  },
-)
-onStore x (SIZE v) = (x, says (sizedAnswer (sizeOut (x .store) (x .areas) v)))
-onStore x RECENT = (x, says (latestAnswer (recentOut (x .store) (x .areas))))
-onStore x (STAMP v p) = (x, says (stampedAnswer (stampOut (x .store) (x .areas) v p)))
-onStore x (VIEW v p) = (x, says (partIs (viewPart (x .store) (x .areas) v p)))
-
--- A list of calls: the state after it, and what the calls gave back.
-module _ {S : Type 0} (step : S → Call → S × Outcome) where
-  unfoldable pub run : S → List Call → S
-  run s [] = s
-  run s (c ∷ cs) = run (step s c .0) cs
-
-  unfoldable pub outcomes : S → List Call → List Outcome
-  outcomes s [] = []
-  outcomes s (c ∷ cs) = let o = step s c in o .1 ∷ outcomes (o .0) cs
+onStore x (on l a) = onLineOf x l a
 
 -- The store that FORMAT of these limits makes.
 abbrev pub freshOf : Limits → Store
@@ -94,9 +93,10 @@ freshOf L = fresh (L .size) (L .pages) (L .nodes) (L .updates)
 unfoldable pub formattedState : Limits → Areas → State
 formattedState L a = record { store = freshOf L; areas = formatAreas (freshOf L) a }
 
--- The state after a list of calls from FORMAT on, and the model's.
+-- The state after a list of calls from FORMAT on.
 abbrev pub storeAfter : Limits → Areas → List Call → State
 storeAfter L a cs = run onStore (formattedState L a) cs
 
-abbrev pub modelAfter : Limits → List Call → Model
-modelAfter L cs = run (onModel L) noModel cs
+-- What one call more gives back.
+abbrev pub asked : State → Call → Outcome
+asked x c = onStore x c .1

@@ -3,22 +3,25 @@
 // no pointer is null, and the areas of one call do not overlap.
 ghost use mathlib.Core.Path.{_≡_};
 ghost use Rattle.pages.specs.Pages.{part};
-ghost use Rattle.versions.specs.Store.{areasOf};
+ghost use Rattle.versions.specs.Store.{areasOf, lineIn};
 ghost use Rattle.format.specs.Format.{fresh, formatAnswer, formatAreas};
 ghost use Rattle.begin.specs.Begin.{beginOut, beginRegister};
 ghost use Rattle.put.specs.Put.{putOut, putPages, putRegister};
 ghost use Rattle.assign.specs.Assign.{assignOut, assignRegister};
 ghost use Rattle.weave.specs.Weave.{weaveOut, weaveNodes, weaveRegister};
 ghost use Rattle.publish.specs.Publish.{publishOut};
+ghost use Rattle.branch.specs.Branch.{branchOut};
 ghost use Rattle.read.specs.Read.{readOut, readBuffer};
 ghost use Rattle.versions.specs.Size.{sizeOut};
 ghost use Rattle.versions.specs.Recent.{recentOut};
 ghost use Rattle.stamp.specs.Stamp.{stampOut};
 ghost use Rattle.view.specs.View.{viewPart, viewAt};
-ghost use Rattle.replies.specs.Replies.{formatReply, beginReply, putReply, assignReply, weaveReply, publishReply, readReply, sizeReply, recentReply, stampReply, viewReply};
+ghost use Rattle.replies.specs.Replies.{formatReply, beginReply, putReply, assignReply, weaveReply, publishReply, branchReply, readReply, sizeReply, recentReply, stampReply, viewReply};
+use lines::Line;
 use register::Record;
 use replies::AssignReply;
 use replies::BeginReply;
+use replies::BranchReply;
 use replies::FormatReply;
 use replies::PublishReply;
 use replies::SizeReply;
@@ -27,6 +30,7 @@ use replies::ViewReply;
 use replies::WeaveReply;
 use replies::assign_reply;
 use replies::begin_reply;
+use replies::branch_reply;
 use replies::format_reply;
 use replies::publish_reply;
 use replies::put_reply;
@@ -115,14 +119,23 @@ pub extern "C" fn pit_write(
     pages: &[u8],
     nodes: &[u32],
     register: &mut [Record],
+    line: u64,
     ticket: u64,
     f: u64,
 ) -> AssignReply
     ensures { λ r.
         let a = areasOf (now (pages .entry)) (now (nodes .entry)) (now (register .entry)) in
-        ⌜ (r ≡ assignReply (assignOut s a ticket f)) × (now (register .exit) ≡ assignRegister s a ticket f) ⌝ }
+        ⌜ (r ≡ assignReply (assignOut s a line ticket f)) × (now (register .exit) ≡ assignRegister s a line ticket f) ⌝ }
 {
-    assign_reply(assign::write(s, pages, nodes, register, Ticket(ticket), PageIndex(f)))
+    assign_reply(assign::write(
+        s,
+        pages,
+        nodes,
+        register,
+        Line(line),
+        Ticket(ticket),
+        PageIndex(f),
+    ))
 }
 
 // ASSIGN as an append.
@@ -132,13 +145,15 @@ pub extern "C" fn pit_append(
     pages: &[u8],
     nodes: &[u32],
     register: &mut [Record],
+    line: u64,
     ticket: u64,
 ) -> AssignReply
     ensures { λ r.
         let a = areasOf (now (pages .entry)) (now (nodes .entry)) (now (register .entry)) in
-        ⌜ (r ≡ assignReply (assignOut s a ticket (s .blob))) × (now (register .exit) ≡ assignRegister s a ticket (s .blob)) ⌝ }
+        let f = lineIn s line .blob in
+        ⌜ (r ≡ assignReply (assignOut s a line ticket f)) × (now (register .exit) ≡ assignRegister s a line ticket f) ⌝ }
 {
-    assign_reply(assign::append(s, pages, nodes, register, Ticket(ticket)))
+    assign_reply(assign::append(s, pages, nodes, register, Line(line), Ticket(ticket)))
 }
 
 // WEAVE.
@@ -164,12 +179,30 @@ pub extern "C" fn pit_publish(
     pages: &[u8],
     nodes: &[u32],
     register: &[Record],
+    line: u64,
 ) -> PublishReply
     ensures { λ r.
         let a = areasOf (now (pages .entry)) (now (nodes .entry)) (now (register .entry)) in
-        ⌜ r ≡ publishReply (publishOut s a) ⌝ }
+        ⌜ r ≡ publishReply (publishOut s a line) ⌝ }
 {
-    publish_reply(publish::publish(s, pages, nodes, register))
+    publish_reply(publish::publish(s, pages, nodes, register, Line(line)))
+}
+
+// BRANCH.
+#[no_mangle]
+pub extern "C" fn pit_branch(
+    s: Store,
+    pages: &[u8],
+    nodes: &[u32],
+    register: &[Record],
+    line: u64,
+    version: u64,
+) -> BranchReply
+    ensures { λ r.
+        let a = areasOf (now (pages .entry)) (now (nodes .entry)) (now (register .entry)) in
+        ⌜ r ≡ branchReply (branchOut s a line version) ⌝ }
+{
+    branch_reply(branch::branch(s, pages, nodes, register, Line(line), Version(version)))
 }
 
 // READ: the number of the refusal, or 0.
@@ -179,6 +212,7 @@ pub extern "C" fn pit_read(
     pages: &[u8],
     nodes: &[u32],
     register: &[Record],
+    line: u64,
     version: u64,
     offset: u64,
     len: u64,
@@ -186,14 +220,15 @@ pub extern "C" fn pit_read(
 ) -> u64
     ensures { λ r.
         let a = areasOf (now (pages .entry)) (now (nodes .entry)) (now (register .entry)) in
-        ⌜ (r ≡ readReply (readOut s a version offset len (now (buffer .entry))))
-        × (now (buffer .exit) ≡ readBuffer s a version offset len (now (buffer .entry))) ⌝ }
+        ⌜ (r ≡ readReply (readOut s a line version offset len (now (buffer .entry))))
+        × (now (buffer .exit) ≡ readBuffer s a line version offset len (now (buffer .entry))) ⌝ }
 {
     read_reply(read::read(
         s,
         pages,
         nodes,
         register,
+        Line(line),
         Version(version),
         ByteOffset(offset),
         len,
@@ -208,13 +243,14 @@ pub extern "C" fn pit_size(
     pages: &[u8],
     nodes: &[u32],
     register: &[Record],
+    line: u64,
     version: u64,
 ) -> SizeReply
     ensures { λ r.
         let a = areasOf (now (pages .entry)) (now (nodes .entry)) (now (register .entry)) in
-        ⌜ r ≡ sizeReply (sizeOut s a version) ⌝ }
+        ⌜ r ≡ sizeReply (sizeOut s a line version) ⌝ }
 {
-    size_reply(versions::size(s, pages, nodes, register, Version(version)))
+    size_reply(versions::size(s, pages, nodes, register, Line(line), Version(version)))
 }
 
 // RECENT.
@@ -224,12 +260,13 @@ pub extern "C" fn pit_recent(
     pages: &[u8],
     nodes: &[u32],
     register: &[Record],
+    line: u64,
 ) -> VersionReply
     ensures { λ r.
         let a = areasOf (now (pages .entry)) (now (nodes .entry)) (now (register .entry)) in
-        ⌜ r ≡ recentReply (recentOut s a) ⌝ }
+        ⌜ r ≡ recentReply (recentOut s a line) ⌝ }
 {
-    recent_reply(versions::recent(s, pages, nodes, register))
+    recent_reply(versions::recent(s, pages, nodes, register, Line(line)))
 }
 
 // STAMP.
@@ -239,14 +276,23 @@ pub extern "C" fn pit_stamp(
     pages: &[u8],
     nodes: &[u32],
     register: &[Record],
+    line: u64,
     version: u64,
     page: u64,
 ) -> VersionReply
     ensures { λ r.
         let a = areasOf (now (pages .entry)) (now (nodes .entry)) (now (register .entry)) in
-        ⌜ r ≡ stampReply (stampOut s a version page) ⌝ }
+        ⌜ r ≡ stampReply (stampOut s a line version page) ⌝ }
 {
-    stamp_reply(stamp::stamp(s, pages, nodes, register, Version(version), PageIndex(page)))
+    stamp_reply(stamp::stamp(
+        s,
+        pages,
+        nodes,
+        register,
+        Line(line),
+        Version(version),
+        PageIndex(page),
+    ))
 }
 
 // VIEW: an exported function hands out no part of an area, so this says where the part begins.
@@ -256,15 +302,24 @@ pub extern "C" fn pit_view(
     pages: &[u8],
     nodes: &[u32],
     register: &[Record],
+    line: u64,
     version: u64,
     page: u64,
 ) -> ViewReply
     ensures { λ r.
         let a = areasOf (now (pages .entry)) (now (nodes .entry)) (now (register .entry)) in
-        ⌜ (r ≡ viewReply (s .size) (viewAt s a version page)) × (part (now (pages .entry)) (r .begin) (r .length) ≡ viewPart s a version page) ⌝ }
+        ⌜ (r ≡ viewReply (s .size) (viewAt s a line version page)) × (part (now (pages .entry)) (r .begin) (r .length) ≡ viewPart s a line version page) ⌝ }
 {
     view_reply(
         s.size,
-        view::view_at(s, pages, nodes, register, Version(version), PageIndex(page)),
+        view::view_at(
+            s,
+            pages,
+            nodes,
+            register,
+            Line(line),
+            Version(version),
+            PageIndex(page),
+        ),
     )
 }

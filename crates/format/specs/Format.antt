@@ -2,6 +2,7 @@
 use Prim.Native.Nat.{ℕ, zero, suc}
 use lib.ListN.{length, replicate}
 use Rattle.tree.specs.NodeArea.{allOnes}
+use Rattle.lines.specs.Lines.{noLines}
 use Rattle.register.specs.Register.{noRecord}
 use Rattle.table.specs.Table.{firstRefusal, unless, formatRows}
 use Rattle.versions.specs.declared.Store.{Store}
@@ -10,7 +11,7 @@ use Rattle.format.specs.declared.Formatted.{Formatted}
 use Rattle.format.specs.declared.Formatted.the-variants as Formatted
 use Rattle.versions.specs.Store.{Areas, lengthsOf, differ}
 
--- The store that FORMAT makes: nothing given, taken, assigned or published.
+-- The store that FORMAT makes: nothing given, taken or assigned, and line 0 alone, which begins from nothing.
 abbrev pub fresh : ℕ → ℕ → ℕ → ℕ → Store
 fresh size pages nodes updates = record {
   size = size;
@@ -19,10 +20,10 @@ fresh size pages nodes updates = record {
   updates = updates;
   tickets = record { 0 = 0 };
   taken = 0;
-  assigned = record { 0 = 0 };
+  assigned = 0;
   places = 0;
-  published = record { 0 = 0 };
-  blob = 0;
+  begun = 1;
+  lines = noLines;
 }
 
 unfoldable pub formatRefusal : Store → Lengths → ℕ

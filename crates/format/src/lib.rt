@@ -6,10 +6,10 @@ ghost use Rattle.register.specs.Register.{noRecord};
 ghost use Rattle.table.specs.Table.{holds, outside};
 ghost use Rattle.versions.specs.Store.{areasOf};
 ghost use Rattle.format.specs.Format.{fresh, formatRefusal, formatted, formatAnswer, formatAreas};
+use lines::no_branch;
 use register::Record;
 use register::no_record;
 use tree::Ticket;
-use tree::Version;
 use tree::node_count;
 use versions::Lengths;
 use versions::Store;
@@ -58,6 +58,8 @@ fn format_refusal(s: Store, l: Lengths) -> u64
 pub fn fresh_store(size: u64, pages: u64, nodes: u64, updates: u64) -> Store
     ensures { λ r. ⌜ r ≡ fresh size pages nodes updates ⌝ }
 {
+    let none = no_branch();
+    let lines = [none; 16];
     Store {
         size,
         pages,
@@ -65,10 +67,10 @@ pub fn fresh_store(size: u64, pages: u64, nodes: u64, updates: u64) -> Store
         updates,
         tickets: Ticket(0),
         taken: 0,
-        assigned: Version(0),
+        assigned: 0,
         places: 0,
-        published: Version(0),
-        blob: 0,
+        begun: 1,
+        lines,
     }
 }
 

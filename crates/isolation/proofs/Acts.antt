@@ -12,7 +12,7 @@ use lib.ListN.{length, getD, take, drop, length-set}
 use Rattle.tree.specs.Tree.{countOf}
 use Rattle.tree.specs.Walk.{stampOf}
 use Rattle.table.specs.Table.{holds, firstRefusal, unless}
-use Rattle.table.specs.Lines.{lineRows, branchRows, assignOn, sizeOn, readOn, pageOn}
+use Rattle.table.specs.Table.{lineRows, branchRows, assignRows, sizeRows, readRows, pageRows}
 use Rattle.model.specs.Calls.{Call, on, WRITE, APPEND, PUBLISH, BRANCH, READ, SIZE, RECENT, STAMP, VIEW, publishedIs, waiting, filled, sizeIs, recentIs, stampIs, partIs, says, answers}
 use Rattle.model.specs.History.{Version, History, noVersion, ticketAt, pagesOf, blobSize, allFilled, due}
 use Rattle.model.specs.InTurn.{joined}
@@ -54,15 +54,15 @@ module _ (L : Limits) {l l′ : ℕ} {m m′ : Model} (M : Match l l′ m m′) 
   line-0 = rw there
 
   read-same : (v offset len : ℕ) (buffer : List ℕ) → readNumber L m l v offset len buffer ≡ readNumber L m′ l′ v offset len buffer
-  unfolding firstRefusal readOn holds
+  unfolding firstRefusal readRows holds
   read-same v offset len buffer = rw (there, there′, M .published, size-same M v)
 
   bytes-same : (v : ℕ) → sizeNumber L m l v ≡ sizeNumber L m′ l′ v
-  unfolding firstRefusal sizeOn holds
+  unfolding firstRefusal sizeRows holds
   bytes-same v = rw (there, there′, M .published)
 
   page-same : (v p : ℕ) → pageNumber L m l v p ≡ pageNumber L m′ l′ v p
-  unfolding firstRefusal pageOn holds
+  unfolding firstRefusal pageRows holds
   page-same v p = rw (there, there′, M .published, size-same M v)
 
   alike-branch : (v : ℕ) → Alike l l′ m m′ (on l (BRANCH v)) (on l′ (BRANCH v)) (branchNumber L m l v) (branchNumber L m′ l′ v)
@@ -152,7 +152,7 @@ module _ (L : Limits) {l l′ : ℕ} {m m′ : Model} (M : Match l l′ m m′) 
         (M .published)
 
     alike-assign : {c c′ : Call} (t f : ℕ) → named c ≡ t → named c′ ≡ t → Alike l l′ m m′ c c′ (assignNumber L m l t f) (assignNumber L m′ l′ t f)
-    unfolding firstRefusal assignOn holds
+    unfolding firstRefusal assignRows holds
     alike-assign t f n n′ =
         rw (count-same t f, tickets-same M, slots-same M t, blob-same M, there, there′) (alike-row l l′ m m′ (eqb t 0 || ltb (length (m′ .tickets)) t) 7 (alike-open L M S S′ t n n′ (
         alike-row l l′ m m′ (not (allFilled (ticketIn m′ t .slots))) 12 (alike-row l l′ m m′ (ltb (blobSize (history m′ l′)) f) 13 (

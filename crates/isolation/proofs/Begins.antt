@@ -9,7 +9,9 @@ use borrow.Author.Tests.{ne-eqb}
 use lib.ListN.{length, getD, take, length-take}
 use Rattle.tree.proofs.Meets.{lt-or-le}
 use Rattle.table.specs.Table.{unless}
-use Rattle.model.specs.Calls.{on, BRANCH, refused, lineIs, says, answers}
+use Rattle.table.proofs.Table.{unless-0}
+use Rattle.model.specs.Calls.{on, BRANCH, lineIs, says, answers}
+use Rattle.model.proofs.Passed.{line-answered}
 use Rattle.model.specs.History.{Version, History, noVersion, ticketAt}
 use Rattle.model.specs.Model.{Limits, Model, history}
 use Rattle.model.specs.OnModel.{branchNumber, branched, onLine, onModel}
@@ -25,9 +27,7 @@ use Rattle.isolation.proofs.Match.{match-by}
 
 -- Where BRANCH answers a line, that line has begun.
 took : (r n k : ℕ) (m m₁ : Model) → says (answers r (lineIs n)) ≡ says (lineIs k) → (n ≡ k) × (unless r m m₁ ≡ m₁)
-unfolding unless
-took zero n k m m₁ e = let q : lineIs n ≡ lineIs k = ap (λ o. o .answer) e in (cc, refl)
-took (suc r) n k m m₁ e = let q : refused (suc r) ≡ lineIs k = ap (λ o. o .answer) e in let z : _≡_ {A = ℕ} 0 1 = cc in absurd (omega arith)
+took r n k m m₁ e = let q = line-answered r n k e in (q .1, unless-0 r m m₁ (q .0))
 
 -- A version that is shared, as a line shows it.
 abbrev sharedAs : Version → Version

@@ -6,10 +6,12 @@ ghost use Rattle.lines.specs.Lines.{noBranch, lineOf, versionOf, numberO
 use tree::Version;
 
 // A line, counted from 0 in the order in which they begin.
+#[repr(C)]
 pub struct Line(pub u64);
 
 // A line's state: the line and the version that it begins from, the last version assigned, the last one published, and the size in pages of the last
 // assigned one.
+#[repr(C)]
 pub struct Branch {
     pub source: Line,
     pub start: Version,
@@ -18,7 +20,8 @@ pub struct Branch {
     pub blob: u64,
 }
 
-// For each line the number of the record of its own version, 16 bits a line, four lines a word; 0 where it has none.
+// For each line the number of the update that is its own version, 16 bits a line, four lines a word; 0 where it has none.
+#[repr(C)]
 pub struct Entries {
     pub from0: u64,
     pub from4: u64,

@@ -12,7 +12,7 @@ use lib.Dec.{leb, ltb}
 use lib.ListN.{length, getD, take, drop}
 use Rattle.tree.specs.Walk.{stampOf}
 use Rattle.table.specs.Table.{holds, firstRefusal, unless}
-use Rattle.table.specs.Lines.{sizeOn, readOn, pageOn, lineRows}
+use Rattle.table.specs.Table.{sizeRows, readRows, pageRows, lineRows}
 use Rattle.table.proofs.Table.{none, skip, first}
 use Rattle.model.specs.Calls.{on, READ, SIZE, RECENT, STAMP, VIEW, filled, sizeIs, recentIs, stampIs, partIs, says}
 use Rattle.model.specs.History.{versionAt, updates}
@@ -32,18 +32,18 @@ module _ (L : Limits) (m : Model) (l : ℕ) (there : l < length (m .lines)) wher
     pub read-accepted : (offset len : ℕ) (buffer : List ℕ) → offset + len ≤ L .size * versionAt (history m l) v .size → len ≤ length buffer
         → onModel L m (on l (READ v offset len buffer)) .1
         ≡ record { answer = filled; buffer = take len (drop offset (bytesAt (history m l) v)) ++ drop len buffer }
-    unfolding onModel onLine readOn unless
+    unfolding onModel onLine readRows unless
     read-accepted offset len buffer q r =
         let z : readNumber L m l v offset len buffer ≡ 0 = sym (first (skip there (skip p (skip (inr q) (skip r none))))) in
         rw z
 
     pub size-accepted : onModel L m (on l (SIZE v)) .1 ≡ says (sizeIs (L .size * versionAt (history m l) v .size))
-    unfolding onModel onLine sizeOn
+    unfolding onModel onLine sizeRows
     size-accepted = let z : sizeNumber L m l v ≡ 0 = sym (first (skip there (skip p none))) in rw z
 
     module _ (i : ℕ) (q : i < versionAt (history m l) v .size) where
       page-there : pageNumber L m l v i ≡ 0
-      unfolding pageOn
+      unfolding pageRows
       page-there = sym (first (skip there (skip p (skip (inr q) none))))
 
       pub view-accepted : onModel L m (on l (VIEW v i)) .1 ≡ says (partIs (getD (blobAt (history m l) v) i []))
@@ -78,18 +78,18 @@ module _ (L : Limits) (m w : Model) (l k v : ℕ) (there : l < length (m .lines)
 
   pub read-alike : (offset len : ℕ) (buffer : List ℕ)
       → onModel L w (on k (READ v offset len buffer)) .1 ≡ onModel L m (on l (READ v offset len buffer)) .1
-  unfolding onModel onLine readOn firstRefusal holds
+  unfolding onModel onLine readRows firstRefusal holds
   read-alike offset len buffer = rw (line-w, line-m, published-w, published-m, blob-alike, version-alike)
 
   pub view-alike : (i : ℕ) → onModel L w (on k (VIEW v i)) .1 ≡ onModel L m (on l (VIEW v i)) .1
-  unfolding onModel onLine pageOn firstRefusal holds
+  unfolding onModel onLine pageRows firstRefusal holds
   view-alike i = rw (line-w, line-m, published-w, published-m, blob-alike, version-alike)
 
   pub stamp-alike : (i : ℕ) → onModel L w (on k (STAMP v i)) .1 ≡ onModel L m (on l (STAMP v i)) .1
-  unfolding onModel onLine pageOn firstRefusal holds
+  unfolding onModel onLine pageRows firstRefusal holds
   stamp-alike i =
       rw (line-w, line-m, published-w, published-m, stamp-stays (history w k) (history m l) v same v (omega arith) i, version-alike)
 
   pub size-alike : onModel L w (on k (SIZE v)) .1 ≡ onModel L m (on l (SIZE v)) .1
-  unfolding onModel onLine sizeOn firstRefusal holds
+  unfolding onModel onLine sizeRows firstRefusal holds
   size-alike = rw (line-w, line-m, published-w, published-m, version-alike)

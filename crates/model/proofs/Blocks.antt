@@ -33,7 +33,7 @@ unfolding joined
 joined-split xs q h = ap joined (split-at xs q [] h) ∙ joined-append (take q xs) (getD xs q [] ∷ drop (suc q) xs)
 
 module _ (S : ℕ) (xs : List Page) (sized : Blocks S xs) (q : ℕ) (there : q < length xs) where
-  length-front : length (joined (take q xs)) ≡ S * q
+  pub length-front : length (joined (take q xs)) ≡ S * q
   length-front =
       let e = length-take-le q xs (omega arith) in
       let front : Blocks S (take q xs) = λ i l. let l′ : i < q = rw e at l in rw (getD-take q xs i []) (sized i (omega arith)) in
@@ -63,7 +63,7 @@ blocks-byte S xs sized some j h =
 
 -- Blocks by a rule of their number.
 module _ (S n : ℕ) (g : ℕ → Page) (sized : (i : ℕ) → i < n → length (g i) ≡ S) where
-  blocks-tab : Blocks S (tab n g)
+  pub blocks-tab : Blocks S (tab n g)
   blocks-tab i l = let l′ : i < n = rw length-tab at l in rw (getD-tab n g i [] l′) (sized i l′)
 
   pub length-blocks : length (joined (tab n g)) ≡ S * n

@@ -51,3 +51,8 @@ module _ (L : Limits) (m : Model) (S : Sound L m) (l v : ℕ) (there : l < lengt
       let u = update-shown m l v in
       let e′ = rw u at e in
       number-place p j ∙ rw (u, lt-ltb 0 (shownAt m l v) (S .lines l there .some v o h), e′)
+
+-- So is the number of every version up to the last; version 0 has the number 0.
+pub number-below : (L : Limits) (m : Model) → Sound L m → (l v : ℕ) → l < length (m .lines) → v ≤ length (lineAt m l .shown) → numberIn (history m l) v < 1048576
+number-below L m S l zero there h = omega arith
+number-below L m S l (suc v) there h = number-low L m S l (suc v) there (omega arith) h

@@ -1,19 +1,20 @@
 -- What the rows of a call, passed, say of the model: the facts that number 0 gives.
 -- Assumes nothing.
-use mathlib.Core.Path.{_≡_, refl}
+use mathlib.Core.Path.{_≡_, refl, ap}
 use mathlib.Core.Logic.{_⊎_, inl, inr}
 use mathlib.Core.Bool.{true, and-eq-true-iff}
 use mathlib.Core.Option.{Option, none, some}
 use mathlib.Core.List.{List}
-use Prim.Native.Nat.{ℕ, suc, _+_, _*_, _≤_, _<_}
+use Prim.Native.Nat.{ℕ, suc, _+_, _*_, _≤_, _<_, zero}
 use native.Mathlib.Omega.{arith}
 use borrow.Author.Tests.{ltb-true, not-false}
 use lib.Dec.{ltb}
 use lib.ListN.{length, getD}
 use Rattle.tree.specs.Tree.{countOf}
 use Rattle.table.specs.Table.{beginRows, putRows, weaveRows}
-use Rattle.table.specs.Lines.{lineRows, branchRows, assignOn, sizeOn, readOn, pageOn}
+use Rattle.table.specs.Table.{lineRows, branchRows, assignRows, sizeRows, readRows, pageRows}
 use Rattle.table.proofs.Table.{passed}
+use Rattle.model.specs.Calls.{refused, lineIs, says, answers}
 use Rattle.model.specs.History.{Page, History, pagesOf, versionAt, taken, updateOf as toUpdate, blobSize, isFilled, bitIf, allFilled, complete, due}
 use Rattle.model.specs.Model.{Limits, Model, lineAt, updateAt, history, places, updateOf}
 use Rattle.model.specs.OnModel.{ticketIn, beginNumber, putNumber, weaveNumber, nextUpdate, assignNumber, lineNumber, branchNumber, readNumber, sizeNumber, pageNumber}
@@ -114,7 +115,7 @@ module _ (L : Limits) (m : Model) where
       }
 
   pub assign-passed : (l t f : ℕ) → assignNumber L m l t f ≡ 0 → AssignPassed L m l t f
-  unfolding assignOn
+  unfolding assignRows
   assign-passed l t f e =
       let r = passed _ tt e in
       record {
@@ -139,19 +140,19 @@ module _ (L : Limits) (m : Model) where
       record { line = r .0; published = r .1 .0; line-left = r .1 .1 .0 }
 
   pub size-passed : (l v : ℕ) → sizeNumber L m l v ≡ 0 → SizePassed m l v
-  unfolding sizeOn
+  unfolding sizeRows
   size-passed l v e =
       let r = passed _ tt e in
       record { line = r .0; published = r .1 .0 }
 
   pub read-passed : (l v offset len : ℕ) (buffer : List ℕ) → readNumber L m l v offset len buffer ≡ 0 → ReadPassed L m l v offset len buffer
-  unfolding readOn
+  unfolding readRows
   read-passed l v offset len buffer e =
       let r = passed _ tt e in
       record { line = r .0; published = r .1 .0; inside = there-fails (r .1 .1 .0); fits = r .1 .1 .1 .0 }
 
   pub page-passed : (l v p : ℕ) → pageNumber L m l v p ≡ 0 → PagePassed m l v p
-  unfolding pageOn
+  unfolding pageRows
   page-passed l v p e =
       let r = passed _ tt e in
       record { line = r .0; published = r .1 .0; inside = there-fails (r .1 .1 .0) }
@@ -161,3 +162,8 @@ unfolding due
 due-passed h e =
     let r = and-eq-true-iff (ltb (h .published) (length (h .versions))) _ .0 e in
     record { left = ltb-true _ _ (r .0); whole = r .1 }
+
+-- An answer that is a new line's number was not refused, and is that number.
+pub line-answered : (r n k : ℕ) → says (answers r (lineIs n)) ≡ says (lineIs k) → (r ≡ 0) × (n ≡ k)
+line-answered zero n k e = let q : lineIs n ≡ lineIs k = ap (λ o. o .answer) e in (refl, cc)
+line-answered (suc r) n k e = let q : refused (suc r) ≡ lineIs k = ap (λ o. o .answer) e in let z : _≡_ {A = ℕ} 0 1 = cc in absurd (omega arith)

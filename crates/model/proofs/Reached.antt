@@ -10,7 +10,7 @@ use borrow.Author.Tests.{lt-ltb}
 use lib.ListN.{length, set, replicate}
 use lib.Seq.{set-getD, set-set}
 use Rattle.tree.proofs.Meets.{lt-or-le}
-use Rattle.table.specs.Lines.{lineRows}
+use Rattle.table.specs.Table.{lineRows}
 use Rattle.table.proofs.Table.{none, skip, first, unless-0}
 use Rattle.model.specs.Calls.{on, PUBLISH, waiting, publishedIs, Outcome, says, answers}
 use Rattle.model.specs.History.{History, complete, due}

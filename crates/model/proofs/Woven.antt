@@ -12,7 +12,7 @@ use Rattle.tree.specs.Walk.{leftBy, rightBy, WovenBy}
 use Rattle.tree.specs.declared.NodeAt.the-variants.{Stored}
 use Rattle.tree.proofs.Newest.{newest-le}
 use Rattle.model.specs.History.{taken, updates}
-use Rattle.model.specs.Model.{Limits, Model, lineAt, updateAt, history, numberIn}
+use Rattle.model.specs.Model.{Limits, Model, lineAt, updateAt, history}
 use Rattle.model.specs.OnModel.{leftOf, rightOf}
 use Rattle.model.specs.Snapshot.{firstPlace, numbersOn}
 use Rattle.model.proofs.Image.{numbersOf, wovenOf, nodeOf, countAt, nodeCell, nodesImage}
@@ -26,7 +26,7 @@ use Rattle.model.proofs.Shown.{shownAt, Whole, versions-length, version
 use Rattle.model.proofs.Stay.{left-stays, right-stays}
 use Rattle.model.proofs.Owner.{ownerOf}
 use Rattle.model.proofs.Owned.{owner-reads}
-use Rattle.model.proofs.Numbers.{number-low}
+use Rattle.model.proofs.Numbers.{number-below}
 
 module _ (L : Limits) (m : Model) (S : Sound L m) (l : ℕ) (there : l < length (m .lines)) where
   -- ---- the numbers of a version's nodes, as the line on which it got its number has them
@@ -57,13 +57,11 @@ module _ (L : Limits) (m : Model) (S : Sound L m) (l : ℕ) (there : l < length 
         ∙ right-here x
 
     -- A node's right number is not all ones.
-    low : (w : ℕ) → w ≤ v → numberIn (history m l) w < 1048576
-    low zero q = omega arith
-    low (suc w) q = number-low L m S l (suc w) there (omega arith) (omega arith)
-
     right-low : (x : Node) → rightBy (updates (history m l)) (numbersOn m l) v x < 1048576
     right-low (node a zero) = omega arith
-    right-low (node a (suc j)) = low (newest (updates (history m l)) v (a + 2 ^ j) (2 ^ j)) (newest-le (updates (history m l)) v (a + 2 ^ j) (2 ^ j))
+    right-low (node a (suc j)) =
+        let us = updates (history m l) in
+        number-below L m S l (newest us v (a + 2 ^ j) (2 ^ j)) there (omega (arith, newest-le us v (a + 2 ^ j) (2 ^ j)))
 
     pub count-shown : countAt m (shownAt m l v) ≡ countOf (update (updates (history m l)) v)
     count-shown = rw (every-update m (shownAt m l v), update-shown m l v)

@@ -6,7 +6,7 @@ use lib.ListN.{replicate}
 use Rattle.tree.specs.Tree.{heightFrom, rootHeight, meets, nodes, count, update, newest}
 use Rattle.tree.specs.Walk.{used}
 use Rattle.table.specs.Table.{unless, firstRefusal, holds, beginRows, putRows, weaveRows}
-use Rattle.table.specs.Lines.{lineRows, branchRows, assignOn, sizeOn, readOn, pageOn}
+use Rattle.table.specs.Table.{lineRows, branchRows, assignRows, sizeRows, readRows, pageRows}
 use Rattle.model.specs.Calls.{Call, BEGIN, PUT, WEAVE, on, WRITE, APPEND, PUBLISH, BRANCH, READ, SIZE, RECENT, STAMP, VIEW, refused, ticketIs, putDone, versionIs, nodeIs, publishedIs, waiting, lineIs, filled, sizeIs, recentIs, stampIs, partIs, Outcome, says}
 use Rattle.model.specs.History.{taken, allFilled, complete, due}
 use Rattle.model.specs.InTurn.{applied, blobAt, joined}
@@ -16,7 +16,7 @@ use Rattle.model.specs.Run.{outcomes}
 
 -- All that a list of calls computes with on the model: what unfolds this unfolds every definition listed here.
 unfoldable pub computes : ℕ
-unfolding outcomes onModel onLine unless firstRefusal holds lineRows branchRows beginRows putRows assignOn weaveRows sizeOn readOn pageOn taken allFilled
+unfolding outcomes onModel onLine unless firstRefusal holds lineRows branchRows beginRows putRows assignRows weaveRows sizeRows readRows pageRows taken allFilled
     complete due applied blobAt joined updateFrom heightFrom rootHeight meets nodes count update newest used
 computes = 0
 

@@ -7,7 +7,7 @@ use lib.ListN.{length, getD, set, replicate, take, drop}
 use Rattle.tree.specs.Tree.{Update, Node, node, countOf, weaving, update, newest}
 use Rattle.tree.specs.Walk.{stampOf}
 use Rattle.table.specs.Table.{always, firstRefusal, unless, beginRows, putRows, weaveRows}
-use Rattle.table.specs.Lines.{lineRows, branchRows, assignOn, sizeOn, readOn, pageOn}
+use Rattle.table.specs.Table.{lineRows, branchRows, assignRows, sizeRows, readRows, pageRows}
 use Rattle.model.specs.Calls.{Call, BEGIN, PUT, WEAVE, on, Act, WRITE, APPEND, PUBLISH, BRANCH, READ, SIZE, RECENT, STAMP, VIEW, Answer, ticketIs, putDone, versionIs, nodeIs, publishedIs, waiting, lineIs, filled, sizeIs, recentIs, stampIs, partIs, Outcome, says, answers}
 use Rattle.model.specs.History.{Ticket, Version, History, noTicket, pagesOf, versionAt, taken, updateOf as toUpdate, updates, blobSize, isFilled, bitIf, allFilled, due}
 use Rattle.model.specs.InTurn.{blobAt, bytesAt}
@@ -112,7 +112,7 @@ module _ (L : Limits) where
   assignNumber m l t f =
       let k = ticketIn m t in
       firstRefusal
-      (assignOn
+      (assignRows
       always
       t
       (length (m .tickets))
@@ -161,13 +161,13 @@ module _ (L : Limits) where
   abbrev pub readNumber : Model → ℕ → ℕ → ℕ → ℕ → List ℕ → ℕ
   readNumber m l v offset len buffer =
       let h = history m l in
-      firstRefusal (readOn always l (length (m .lines)) v (h .published) (L .size * versionAt h v .size) offset len (length buffer))
+      firstRefusal (readRows always l (length (m .lines)) v (h .published) (L .size * versionAt h v .size) offset len (length buffer))
 
   abbrev pub sizeNumber : Model → ℕ → ℕ → ℕ
-  sizeNumber m l v = firstRefusal (sizeOn l (length (m .lines)) v (lineAt m l .published))
+  sizeNumber m l v = firstRefusal (sizeRows l (length (m .lines)) v (lineAt m l .published))
 
   abbrev pub pageNumber : Model → ℕ → ℕ → ℕ → ℕ
-  pageNumber m l v p = let h = history m l in firstRefusal (pageOn always l (length (m .lines)) v (h .published) (versionAt h v .size) p)
+  pageNumber m l v p = let h = history m l in firstRefusal (pageRows always l (length (m .lines)) v (h .published) (versionAt h v .size) p)
 
   abbrev pub assignStep : Model → ℕ → ℕ → ℕ → Stepped
   assignStep m l t f =

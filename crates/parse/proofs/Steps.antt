@@ -7,7 +7,7 @@ use native.Mathlib.Omega.{arith}
 use lib.ListN.{length, getD}
 use borrow.Author.Tests.{le-leb, lt-leb}
 use Rattle.fields.specs.Fields.{fieldsOf, numberOf, isHex, unhex, hexOf, decodedIn}
-use Rattle.parse.specs.Steps.{Meant, plainly, aloneOf, oneOf, twoOf, threeOf, fourOf, putOf, meantBy, meantOf}
+use Rattle.parse.specs.Steps.{Meant, plainly, oneOf, twoOf, putOrThree, fourOf, putOf, meantBy, meantOf}
 use Rattle.text.specs.Buffer.{front}
 use Rattle.fields.specs.declared.Number.{Number}
 use Rattle.fields.specs.declared.Number.the-variants.{Is}
@@ -55,12 +55,6 @@ unfolding meantOf
 meant-short l h = rw (le-leb (length l) 600 h)
 
 -- what n fields mean
-one-field : (fs : List (List ℕ)) → length fs ≡ 1 → meantBy fs ≡ plainly (aloneOf (getD fs 0 []))
-unfolding meantBy
-one-field [] h = let z : ⊥ = omega arith in elim z [ ]
-one-field (w ∷ []) h = refl
-one-field (w ∷ e ∷ fs) h = let z : ⊥ = omega arith in elim z [ ]
-
 two-fields : (fs : List (List ℕ)) → length fs ≡ 2 → meantBy fs ≡ plainly (oneOf (getD fs 0 []) (numberOf (getD fs 1 [])))
 unfolding meantBy
 two-fields [] h = let z : ⊥ = omega arith in elim z [ ]
@@ -76,7 +70,7 @@ three-fields (w ∷ a ∷ []) h = let z : ⊥ = omega arith in elim z [ ]
 three-fields (w ∷ a ∷ b ∷ []) h = refl
 three-fields (w ∷ a ∷ b ∷ e ∷ fs) h = let z : ⊥ = omega arith in elim z [ ]
 
-four-fields : (fs : List (List ℕ)) → length fs ≡ 4 → meantBy fs ≡ threeOf (getD fs 0 []) (getD fs 1 []) (getD fs 2 []) (getD fs 3 [])
+four-fields : (fs : List (List ℕ)) → length fs ≡ 4 → meantBy fs ≡ putOrThree (getD fs 0 []) (getD fs 1 []) (getD fs 2 []) (getD fs 3 [])
 unfolding meantBy
 four-fields [] h = let z : ⊥ = omega arith in elim z [ ]
 four-fields (w ∷ []) h = let z : ⊥ = omega arith in elim z [ ]
@@ -95,23 +89,20 @@ five-fields (w ∷ a ∷ b ∷ c ∷ []) h = let z : ⊥ = omega arith in elim z
 five-fields (w ∷ a ∷ b ∷ c ∷ d ∷ []) h = refl
 five-fields (w ∷ a ∷ b ∷ c ∷ d ∷ e ∷ fs) h = let z : ⊥ = omega arith in elim z [ ]
 
-other-fields : (fs : List (List ℕ)) → (length fs ≡ 1 → ⊥) → (length fs ≡ 2 → ⊥) → (length fs ≡ 3 → ⊥) → (length fs ≡ 4 → ⊥) → (length fs ≡ 5 → ⊥) → meantBy fs ≡ plainly Malformed
+other-fields : (fs : List (List ℕ)) → (length fs ≡ 2 → ⊥) → (length fs ≡ 3 → ⊥) → (length fs ≡ 4 → ⊥) → (length fs ≡ 5 → ⊥) → meantBy fs ≡ plainly Malformed
 unfolding meantBy
-other-fields [] h1 h2 h3 h4 h5 = refl
-other-fields (w ∷ []) h1 h2 h3 h4 h5 = elim (h1 refl) [ ]
-other-fields (w ∷ a ∷ []) h1 h2 h3 h4 h5 = elim (h2 refl) [ ]
-other-fields (w ∷ a ∷ b ∷ []) h1 h2 h3 h4 h5 = elim (h3 refl) [ ]
-other-fields (w ∷ a ∷ b ∷ c ∷ []) h1 h2 h3 h4 h5 = elim (h4 refl) [ ]
-other-fields (w ∷ a ∷ b ∷ c ∷ d ∷ []) h1 h2 h3 h4 h5 = elim (h5 refl) [ ]
-other-fields (w ∷ a ∷ b ∷ c ∷ d ∷ e ∷ fs) h1 h2 h3 h4 h5 = refl
+other-fields [] h2 h3 h4 h5 = refl
+other-fields (w ∷ []) h2 h3 h4 h5 = refl
+other-fields (w ∷ a ∷ []) h2 h3 h4 h5 = elim (h2 refl) [ ]
+other-fields (w ∷ a ∷ b ∷ []) h2 h3 h4 h5 = elim (h3 refl) [ ]
+other-fields (w ∷ a ∷ b ∷ c ∷ []) h2 h3 h4 h5 = elim (h4 refl) [ ]
+other-fields (w ∷ a ∷ b ∷ c ∷ d ∷ []) h2 h3 h4 h5 = elim (h5 refl) [ ]
+other-fields (w ∷ a ∷ b ∷ c ∷ d ∷ e ∷ fs) h2 h3 h4 h5 = refl
 
 -- the same of a line; field k of it is `at k`
 module _ (l : List ℕ) (short : length l ≤ 600) where
   abbrev at : ℕ → List ℕ
   at k = getD (fieldsOf l) k []
-
-  pub means-one : length (fieldsOf l) ≡ 1 → meantOf l ≡ plainly (aloneOf (at 0))
-  means-one h = meant-short l short ∙ one-field (fieldsOf l) h
 
   pub means-two : length (fieldsOf l) ≡ 2 → meantOf l ≡ plainly (oneOf (at 0) (numberOf (at 1)))
   means-two h = meant-short l short ∙ two-fields (fieldsOf l) h
@@ -119,11 +110,11 @@ module _ (l : List ℕ) (short : length l ≤ 600) where
   pub means-three : length (fieldsOf l) ≡ 3 → meantOf l ≡ plainly (twoOf (at 0) (numberOf (at 1)) (numberOf (at 2)))
   means-three h = meant-short l short ∙ three-fields (fieldsOf l) h
 
-  pub means-four : length (fieldsOf l) ≡ 4 → meantOf l ≡ threeOf (at 0) (at 1) (at 2) (at 3)
+  pub means-four : length (fieldsOf l) ≡ 4 → meantOf l ≡ putOrThree (at 0) (at 1) (at 2) (at 3)
   means-four h = meant-short l short ∙ four-fields (fieldsOf l) h
 
   pub means-five : length (fieldsOf l) ≡ 5 → meantOf l ≡ plainly (fourOf (at 0) (numberOf (at 1)) (numberOf (at 2)) (numberOf (at 3)) (numberOf (at 4)))
   means-five h = meant-short l short ∙ five-fields (fieldsOf l) h
 
-  pub means-none : (length (fieldsOf l) ≡ 1 → ⊥) → (length (fieldsOf l) ≡ 2 → ⊥) → (length (fieldsOf l) ≡ 3 → ⊥) → (length (fieldsOf l) ≡ 4 → ⊥) → (length (fieldsOf l) ≡ 5 → ⊥) → meantOf l ≡ plainly Malformed
-  means-none h1 h2 h3 h4 h5 = meant-short l short ∙ other-fields (fieldsOf l) h1 h2 h3 h4 h5
+  pub means-none : (length (fieldsOf l) ≡ 2 → ⊥) → (length (fieldsOf l) ≡ 3 → ⊥) → (length (fieldsOf l) ≡ 4 → ⊥) → (length (fieldsOf l) ≡ 5 → ⊥) → meantOf l ≡ plainly Malformed
+  means-none h2 h3 h4 h5 = meant-short l short ∙ other-fields (fieldsOf l) h2 h3 h4 h5

@@ -9,7 +9,7 @@ use Rattle.text.specs.Text.{pick, same}
 use Rattle.fields.specs.declared.Number.{Number}
 use Rattle.fields.specs.declared.Number.the-variants.{Is, Not}
 use Rattle.parse.specs.declared.Step.{Step}
-use Rattle.parse.specs.declared.Step.the-variants.{Format, Begin, Put, Write, Append, Weave, Publish, Read, Size, Recent, Stamp, Malformed}
+use Rattle.parse.specs.declared.Step.the-variants.{Format, Begin, Put, Write, Append, Weave, Publish, Branch, Read, Size, Recent, Stamp, Malformed}
 use Rattle.fields.specs.Fields.{fieldsOf, numberOf, hexOf}
 
 -- what a line means: its step and, for PUT, the page bytes
@@ -21,31 +21,30 @@ pub record Meant : Type 0 where
 abbrev pub plainly : Step → Meant
 plainly s = record { step = s; bytes = [] }
 
--- the step of a word alone
-unfoldable pub aloneOf : List ℕ → Step
-aloneOf w = pick (same w (text "PUBLISH")) Publish (pick (same w (text "RECENT")) Recent Malformed)
-
 -- the step of a word and a number
 unfoldable pub oneOf : List ℕ → Number → Step
 oneOf w Not = Malformed
 oneOf w (Is a) =
     pick (same w (text "BEGIN")) (Begin a)
-    (pick (same w (text "APPEND")) (Append a)
     (pick (same w (text "WEAVE")) (Weave a)
-    (pick (same w (text "SIZE")) (Size a) Malformed)))
+    (pick (same w (text "PUBLISH")) (Publish a)
+    (pick (same w (text "RECENT")) (Recent a) Malformed)))
 
 -- the step of a word and two numbers
 unfoldable pub twoOf : List ℕ → Number → Number → Step
 twoOf w Not b = Malformed
 twoOf w (Is a) Not = Malformed
-twoOf w (Is a) (Is b) = pick (same w (text "WRITE")) (Write a b) (pick (same w (text "STAMP")) (Stamp a b) Malformed)
+twoOf w (Is a) (Is b) =
+    pick (same w (text "APPEND")) (Append a b)
+    (pick (same w (text "BRANCH")) (Branch a b)
+    (pick (same w (text "SIZE")) (Size a b) Malformed))
 
--- the step of READ's three numbers
-unfoldable pub readOf : Number → Number → Number → Step
-readOf Not b c = Malformed
-readOf (Is a) Not c = Malformed
-readOf (Is a) (Is b) Not = Malformed
-readOf (Is a) (Is b) (Is c) = Read a b c
+-- the step of a word and three numbers
+unfoldable pub threeOf : List ℕ → Number → Number → Number → Step
+threeOf w Not b c = Malformed
+threeOf w (Is a) Not c = Malformed
+threeOf w (Is a) (Is b) Not = Malformed
+threeOf w (Is a) (Is b) (Is c) = pick (same w (text "WRITE")) (Write a b c) (pick (same w (text "STAMP")) (Stamp a b c) Malformed)
 
 -- what PUT's two numbers and its page bytes mean
 unfoldable pub putOf : Number → Number → Option (List ℕ) → Meant
@@ -54,31 +53,27 @@ putOf (Is a) Not h = plainly Malformed
 putOf (Is a) (Is b) none = plainly Malformed
 putOf (Is a) (Is b) (some l) = record { step = Put a b (length l); bytes = l }
 
--- what a word and three fields mean
-unfoldable pub threeOf : List ℕ → List ℕ → List ℕ → List ℕ → Meant
-threeOf w a b c =
+-- what a word and three fields mean: PUT's last are its page bytes, and any other word's are numbers
+unfoldable pub putOrThree : List ℕ → List ℕ → List ℕ → List ℕ → Meant
+putOrThree w a b c =
     pick (same w (text "PUT")) (putOf (numberOf a) (numberOf b) (hexOf c))
-    (pick (same w (text "READ")) (plainly (readOf (numberOf a) (numberOf b) (numberOf c))) (plainly Malformed))
-
--- the step of FORMAT's four numbers
-unfoldable pub formatOf : Number → Number → Number → Number → Step
-formatOf Not b c d = Malformed
-formatOf (Is a) Not c d = Malformed
-formatOf (Is a) (Is b) Not d = Malformed
-formatOf (Is a) (Is b) (Is c) Not = Malformed
-formatOf (Is a) (Is b) (Is c) (Is d) = Format a b c d
+    (plainly (threeOf w (numberOf a) (numberOf b) (numberOf c)))
 
 -- the step of a word and four numbers
 unfoldable pub fourOf : List ℕ → Number → Number → Number → Number → Step
-fourOf w a b c d = pick (same w (text "FORMAT")) (formatOf a b c d) Malformed
+fourOf w Not b c d = Malformed
+fourOf w (Is a) Not c d = Malformed
+fourOf w (Is a) (Is b) Not d = Malformed
+fourOf w (Is a) (Is b) (Is c) Not = Malformed
+fourOf w (Is a) (Is b) (Is c) (Is d) = pick (same w (text "FORMAT")) (Format a b c d) (pick (same w (text "READ")) (Read a b c d) Malformed)
 
 -- what the fields of a line mean
 unfoldable pub meantBy : List (List ℕ) → Meant
 meantBy [] = plainly Malformed
-meantBy (w ∷ []) = plainly (aloneOf w)
+meantBy (w ∷ []) = plainly Malformed
 meantBy (w ∷ a ∷ []) = plainly (oneOf w (numberOf a))
 meantBy (w ∷ a ∷ b ∷ []) = plainly (twoOf w (numberOf a) (numberOf b))
-meantBy (w ∷ a ∷ b ∷ c ∷ []) = threeOf w a b c
+meantBy (w ∷ a ∷ b ∷ c ∷ []) = putOrThree w a b c
 meantBy (w ∷ a ∷ b ∷ c ∷ d ∷ []) = plainly (fourOf w (numberOf a) (numberOf b) (numberOf c) (numberOf d))
 meantBy (w ∷ a ∷ b ∷ c ∷ d ∷ e ∷ fs) = plainly Malformed
 

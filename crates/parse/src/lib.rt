@@ -3,7 +3,7 @@ ghost use mathlib.Core.Path.{_≡_};
 ghost use lib.ListN.{length};
 ghost use Rattle.text.specs.Buffer.{front};
 ghost use Rattle.fields.specs.Fields.{hexOf};
-ghost use Rattle.parse.specs.Steps.{aloneOf, oneOf, twoOf, readOf, putOf, threeOf, formatOf, fourOf, stepOf, bytesOf};
+ghost use Rattle.parse.specs.Steps.{oneOf, twoOf, threeOf, putOf, putOrThree, fourOf, stepOf, bytesOf};
 ghost use Rattle.parse.specs.Cut.{fresh, fedBy, keptBy, unendedIn, cutMeant, CutMeans};
 use fields::Number;
 use fields::decode;
@@ -12,19 +12,20 @@ use fields::field_count;
 use fields::number_in;
 use fields::word_is;
 
-// What a line asks for. Put holds how many page bytes the line has.
+// What a line of text asks for. A step that names a planning line has it first. Put holds how many page bytes the text has.
 pub enum Step {
     Format(u64, u64, u64, u64),
     Begin(u64),
     Put(u64, u64, usize),
-    Write(u64, u64),
-    Append(u64),
+    Write(u64, u64, u64),
+    Append(u64, u64),
     Weave(u64),
-    Publish,
-    Read(u64, u64, u64),
-    Size(u64),
-    Recent,
-    Stamp(u64, u64),
+    Publish(u64),
+    Branch(u64, u64),
+    Read(u64, u64, u64, u64),
+    Size(u64, u64),
+    Recent(u64),
+    Stamp(u64, u64, u64),
     Malformed,
 }
 
@@ -47,19 +48,6 @@ const MOST: usize = 600;
 // The byte that ends a line.
 const LINE_FEED: u8 = 10;
 
-// The step of a word alone.
-fn alone(w: &[u8]) -> Step
-    ensures { λ r. ⌜ r ≡ aloneOf (now (w .entry)) ⌝ }
-{
-    if word_is(w, b"PUBLISH") {
-        return Step::Publish;
-    }
-    if word_is(w, b"RECENT") {
-        return Step::Recent;
-    }
-    Step::Malformed
-}
-
 // The step of a word and a number.
 fn one(w: &[u8], a: Number) -> Step
     ensures { λ r. ⌜ r ≡ oneOf (now (w .entry)) a ⌝ }
@@ -70,14 +58,14 @@ fn one(w: &[u8], a: Number) -> Step
     if word_is(w, b"BEGIN") {
         return Step::Begin(a);
     }
-    if word_is(w, b"APPEND") {
-        return Step::Append(a);
-    }
     if word_is(w, b"WEAVE") {
         return Step::Weave(a);
     }
-    if word_is(w, b"SIZE") {
-        return Step::Size(a);
+    if word_is(w, b"PUBLISH") {
+        return Step::Publish(a);
+    }
+    if word_is(w, b"RECENT") {
+        return Step::Recent(a);
     }
     Step::Malformed
 }
@@ -92,18 +80,21 @@ fn two(w: &[u8], a: Number, b: Number) -> Step
     let Number::Is(b) = b else {
         return Step::Malformed;
     };
-    if word_is(w, b"WRITE") {
-        return Step::Write(a, b);
+    if word_is(w, b"APPEND") {
+        return Step::Append(a, b);
     }
-    if word_is(w, b"STAMP") {
-        return Step::Stamp(a, b);
+    if word_is(w, b"BRANCH") {
+        return Step::Branch(a, b);
+    }
+    if word_is(w, b"SIZE") {
+        return Step::Size(a, b);
     }
     Step::Malformed
 }
 
-// The step of READ's three numbers.
-fn read(a: Number, b: Number, c: Number) -> Step
-    ensures { λ r. ⌜ r ≡ readOf a b c ⌝ }
+// The step of a word and three numbers.
+fn three(w: &[u8], a: Number, b: Number, c: Number) -> Step
+    ensures { λ r. ⌜ r ≡ threeOf (now (w .entry)) a b c ⌝ }
 {
     let Number::Is(a) = a else {
         return Step::Malformed;
@@ -114,26 +105,13 @@ fn read(a: Number, b: Number, c: Number) -> Step
     let Number::Is(c) = c else {
         return Step::Malformed;
     };
-    Step::Read(a, b, c)
-}
-
-// The step of FORMAT's four numbers.
-fn format(a: Number, b: Number, c: Number, d: Number) -> Step
-    ensures { λ r. ⌜ r ≡ formatOf a b c d ⌝ }
-{
-    let Number::Is(a) = a else {
-        return Step::Malformed;
-    };
-    let Number::Is(b) = b else {
-        return Step::Malformed;
-    };
-    let Number::Is(c) = c else {
-        return Step::Malformed;
-    };
-    let Number::Is(d) = d else {
-        return Step::Malformed;
-    };
-    Step::Format(a, b, c, d)
+    if word_is(w, b"WRITE") {
+        return Step::Write(a, b, c);
+    }
+    if word_is(w, b"STAMP") {
+        return Step::Stamp(a, b, c);
+    }
+    Step::Malformed
 }
 
 // The step of PUT's two numbers and its page bytes, which go to the front of the buffer where they fit.
@@ -153,24 +131,36 @@ fn put(a: Number, b: Number, h: &[u8], bytes: &mut [u8]) -> Step
 }
 
 // The step of a word and three fields; PUT's page bytes go to the front of the buffer where they fit.
-fn three(w: &[u8], a: &[u8], b: &[u8], c: &[u8], bytes: &mut [u8]) -> Step
-    ensures { λ r. ⌜ (r ≡ threeOf (now (w .entry)) (now (a .entry)) (now (b .entry)) (now (c .entry)) .step) × (now (bytes .exit) ≡ front (threeOf (now (w .entry)) (now (a .entry)) (now (b .entry)) (now (c .entry)) .bytes) (now (bytes .entry))) ⌝ }
+fn put_or_three(w: &[u8], a: &[u8], b: &[u8], c: &[u8], bytes: &mut [u8]) -> Step
+    ensures { λ r. ⌜ (r ≡ putOrThree (now (w .entry)) (now (a .entry)) (now (b .entry)) (now (c .entry)) .step) × (now (bytes .exit) ≡ front (putOrThree (now (w .entry)) (now (a .entry)) (now (b .entry)) (now (c .entry)) .bytes) (now (bytes .entry))) ⌝ }
 {
     if word_is(w, b"PUT") {
         return put(number_in(a), number_in(b), c, bytes);
     }
-    if word_is(w, b"READ") {
-        return read(number_in(a), number_in(b), number_in(c));
-    }
-    Step::Malformed
+    three(w, number_in(a), number_in(b), number_in(c))
 }
 
 // The step of a word and four numbers.
 fn four(w: &[u8], a: Number, b: Number, c: Number, d: Number) -> Step
     ensures { λ r. ⌜ r ≡ fourOf (now (w .entry)) a b c d ⌝ }
 {
+    let Number::Is(a) = a else {
+        return Step::Malformed;
+    };
+    let Number::Is(b) = b else {
+        return Step::Malformed;
+    };
+    let Number::Is(c) = c else {
+        return Step::Malformed;
+    };
+    let Number::Is(d) = d else {
+        return Step::Malformed;
+    };
     if word_is(w, b"FORMAT") {
-        return format(a, b, c, d);
+        return Step::Format(a, b, c, d);
+    }
+    if word_is(w, b"READ") {
+        return Step::Read(a, b, c, d);
     }
     Step::Malformed
 }
@@ -189,10 +179,9 @@ pub fn step_of(line: &[u8], bytes: &mut [u8]) -> Step
     let c = field(line, 3);
     let d = field(line, 4);
     match field_count(line) {
-        1 => alone(w),
         2 => one(w, number_in(a)),
         3 => two(w, number_in(a), number_in(b)),
-        4 => three(w, a, b, c, bytes),
+        4 => put_or_three(w, a, b, c, bytes),
         5 => four(w, number_in(a), number_in(b), number_in(c), number_in(d)),
         _ => Step::Malformed,
     }

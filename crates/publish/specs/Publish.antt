@@ -1,44 +1,46 @@
--- PUBLISH: what it answers and leaves, over any store and areas.
+-- PUBLISH line: what it answers and leaves, over any store and areas.
 use mathlib.Core.Bool.{Bool, true, false, _&&_}
-use mathlib.Core.List.{[]}
-use Prim.Native.Nat.{ℕ, zero, suc}
+use Prim.Native.Nat.{ℕ, zero, suc, _+_, _-_, _^_, min}
 use lib.Dec.{ltb, eqb}
 use Rattle.tree.specs.Tree.{countOf}
-use Rattle.register.specs.Register.{updateOf}
-use Rattle.register.specs.declared.Record.{Record}
-use Rattle.table.specs.Table.{_≤?_, _and_, test, everyCall, firstRefusal, unless}
+use Rattle.lines.specs.Lines.{numberOf}
+use Rattle.lines.specs.declared.Branch.{Branch}
+use Rattle.register.specs.Register.{updateOf, versionPart}
+use Rattle.register.specs.declared.Part.{Part}
+use Rattle.table.specs.Table.{_and_, test, everyCall, firstRefusal, unless, lineRows}
 use Rattle.versions.specs.declared.Store.{Store}
-use Rattle.versions.specs.declared.Lengths.{Lengths}
 use Rattle.publish.specs.declared.Published.{Published}
 use Rattle.publish.specs.declared.Published.the-variants as Published
 use Rattle.publish.specs.declared.PublishOut.{PublishOut}
-use Rattle.versions.specs.Store.{Areas, lengthsOf, differ, recordOf}
+use Rattle.versions.specs.Store.{Areas, areasDiffer, linesIn, lineIn, withLine}
+use Rattle.versions.specs.Size.{notThere}
 
--- There is a version after the last published one.
-abbrev pub hasNext : Store → Bool
-hasNext s = ltb (s .published .0) (s .assigned .0)
+-- There is a version after the line's last published one.
+abbrev pub hasNext : Branch → Bool
+hasNext b = ltb (b .published .0) (b .assigned .0)
 
-unfoldable pub publishRefusal : Store → Lengths → ℕ
-publishRefusal s l = firstRefusal (everyCall (differ s l) [] (test (hasNext s) and s .updates ≤? s .published .0))
+-- Its number, in 64 bits as the code has it, and what its record says: what is published on a line reaches at least to where it begins, so that the next version is the line's own.
+abbrev pub numberBy : ℕ → Branch → ℕ
+numberBy l b = numberOf l (min (b .published .0 + 1) (2 ^ 64 - 1))
 
--- It is there, and as many of its nodes are woven as it has; q is its record.
-abbrev pub dueBy : Store → Record → Bool
-dueBy s q = hasNext s && eqb (q .woven) (countOf (updateOf q))
+abbrev pub nextNumber : Store → ℕ → ℕ
+nextNumber s l = numberBy l (lineIn s l)
 
--- The store with one version more published.
-abbrev pub withPublished : Store → Store
-withPublished s = record {
-  size = s .size;
-  pages = s .pages;
-  nodes = s .nodes;
-  updates = s .updates;
-  tickets = s .tickets;
-  taken = s .taken;
-  assigned = s .assigned;
-  places = s .places;
-  published = record { 0 = suc (s .published .0) };
-  blob = s .blob;
-}
+abbrev pub nextPart : Store → Areas → ℕ → Part
+nextPart s a l = versionPart (a .register) (nextNumber s l)
+
+unfoldable pub publishNumber : Store → Areas → ℕ → ℕ
+publishNumber s a l =
+    firstRefusal
+    (everyCall (areasDiffer s a) (lineRows l (linesIn s)) (test (hasNext (lineIn s l)) and notThere (nextPart s a l) (nextNumber s l)))
+
+-- It is there, and as many of its nodes are woven as it has; q is its record's part.
+unfoldable pub dueBy : Branch → Part → Bool
+dueBy b q = hasNext b && eqb (q .woven) (countOf (updateOf q))
+
+-- A line's state with one version more published.
+abbrev pub withPublished : Branch → Branch
+withPublished b = record { source = b .source; start = b .start; assigned = b .assigned; published = record { 0 = suc (b .published .0) }; blob = b .blob }
 
 abbrev pub published : ℕ → Bool → ℕ → Published
 published zero true v = Published.Now (record { 0 = v })
@@ -49,11 +51,12 @@ abbrev pub storeIf : Bool → Store → Store → Store
 storeIf true s r = s
 storeIf false s r = r
 
-unfoldable pub publishedBy : Store → Lengths → Record → PublishOut
-publishedBy s l q = record {
-  store = unless (publishRefusal s l) s (storeIf (dueBy s q) (withPublished s) s);
-  answer = published (publishRefusal s l) (dueBy s q) (suc (s .published .0));
+-- What PUBLISH gives back, by the table's number k and whether the next version is due.
+abbrev pub publishedBy : Store → ℕ → ℕ → Bool → PublishOut
+publishedBy s l k due = record {
+  store = unless k s (storeIf due (withLine s l (withPublished (lineIn s l))) s);
+  answer = published k due (suc (lineIn s l .published .0));
 }
 
-abbrev pub publishOut : Store → Areas → PublishOut
-publishOut s a = publishedBy s (lengthsOf a) (recordOf a (suc (s .published .0)))
+abbrev pub publishOut : Store → Areas → ℕ → PublishOut
+publishOut s a l = publishedBy s l (publishNumber s a l) (dueBy (lineIn s l) (nextPart s a l))

@@ -1,15 +1,25 @@
-// PUBLISH: the version after the last published one, if it is woven whole.
+// PUBLISH: the version after a line's last published one, if it is woven whole.
 ghost use mathlib.Core.Path.{_≡_};
-ghost use Rattle.versions.specs.Store.{areasOf};
-ghost use Rattle.publish.specs.Publish.{publishRefusal, dueBy, publishedBy, publishOut};
+ghost use mathlib.Core.Bool.{true};
+ghost use mathlib.Core.List.{[], _∷_};
+ghost use Rattle.table.specs.Table.{_gives_, _and_, test, firstRefusal, orElse};
+ghost use Rattle.versions.specs.Store.{areasOf, lineIn};
+ghost use Rattle.versions.specs.Size.{notThere};
+ghost use Rattle.publish.specs.Publish.{hasNext, numberBy, dueBy, publishedBy, publishOut};
+use lines::Branch;
+use lines::Line;
+use lines::number_of;
+use register::Part;
 use register::Record;
-use register::record_at;
+use register::version_part;
 use tree::Version;
-use versions::Lengths;
 use versions::Store;
-use versions::areas_differ;
+use versions::capped_sum;
 use versions::count_of;
 use versions::lengths_of;
+use versions::line_refusal;
+use versions::line_state;
+use versions::with_line;
 
 // What PUBLISH answers.
 pub enum Published {
@@ -23,76 +33,75 @@ pub struct PublishOut {
     pub answer: Published,
 }
 
-// The refusal of PUBLISH.
-fn publish_refusal(s: Store, l: Lengths) -> u64
-    ensures { λ k. ⌜ k ≡ publishRefusal s l ⌝ }
+// The number of the version after the last published one of line l, whose state is b.
+fn next_number(l: Line, b: Branch) -> u64
+    ensures { λ r. ⌜ r ≡ numberBy (l .0) b ⌝ }
 {
-    if areas_differ(s, l) {
-        return 3;
+    number_of(l, Version(capped_sum(b.published.0, 1)))
+}
+
+// The refusal of PUBLISH, by the number k of rows 3 and 20, with the line's state b and the part q of its next version, numbered c.
+fn publish_refusal(k: u64, b: Branch, q: Part, c: u64) -> u64
+    ensures { λ r. ⌜ r ≡ orElse k (firstRefusal ((test (hasNext b) and notThere q c gives 19) ∷ [])) ⌝ }
+{
+    if k != 0 {
+        return k;
     }
-    if s.assigned.0 <= s.published.0 {
+    if b.assigned.0 <= b.published.0 {
         return 0;
     }
-    if s.updates <= s.published.0 {
+    if q.name != c {
         return 19;
     }
     0
 }
 
-// Whether there is a version after the last published one, with as many nodes woven as it has. Its record is q.
-fn is_due(s: Store, q: Record) -> bool
-    ensures { λ b. ⌜ b ≡ dueBy s q ⌝ }
+// Whether there is a version after the last published one, with as many nodes woven as it has. Its record's part is q.
+fn is_due(b: Branch, q: Part) -> bool
+    ensures { λ r. ⌜ r ≡ dueBy b q ⌝ }
 {
-    if s.assigned.0 <= s.published.0 {
+    if b.assigned.0 <= b.published.0 {
         return false;
     }
     q.woven == count_of(q)
 }
 
-// What PUBLISH gives back, with the record q of the version after the last published one.
-fn published_by(s: Store, l: Lengths, q: Record) -> PublishOut
-    ensures { λ r. ⌜ r ≡ publishedBy s l q ⌝ }
+// What PUBLISH gives back, by the table's number k and whether the next version is due, so that there is one.
+fn published_by(s: Store, l: Line, k: u64, due: bool) -> PublishOut
+    requires { ⌜ (due ≡ true → hasNext (lineIn s (l .0)) ≡ true) ⌝ }
+    ensures { λ r. ⌜ r ≡ publishedBy s (l .0) k due ⌝ }
 {
-    let k = publish_refusal(s, l);
     if k != 0 {
         return PublishOut {
             store: s,
             answer: Published::Refused(k),
         };
     }
-    if !is_due(s, q) {
+    if !due {
         return PublishOut {
             store: s,
             answer: Published::Waiting,
         };
     }
-    let next = Version(s.published.0 + 1);
-    let tickets = s.tickets;
-    let assigned = s.assigned;
+    let mut b = line_state(s, l);
+    let next = Version(b.published.0 + 1);
+    b.published = next;
     PublishOut {
-        store: Store {
-            size: s.size,
-            pages: s.pages,
-            nodes: s.nodes,
-            updates: s.updates,
-            tickets,
-            taken: s.taken,
-            assigned,
-            places: s.places,
-            published: next,
-            blob: s.blob,
-        },
+        store: with_line(s, l, b),
         answer: Published::Now(next),
     }
 }
 
-// PUBLISH: the version after the last published one, if it is woven whole.
-pub fn publish(s: Store, pages: &[u8], nodes: &[u32], register: &[Record]) -> PublishOut
+// PUBLISH line: the version after the last published one of the line, if it is woven whole.
+pub fn publish(s: Store, pages: &[u8], nodes: &[u32], register: &[Record], l: Line) -> PublishOut
     ensures { λ r.
         let a = areasOf (now (pages .entry)) (now (nodes .entry)) (now (register .entry)) in
-        ⌜ r ≡ publishOut s a ⌝ }
+        ⌜ r ≡ publishOut s a (l .0) ⌝ }
 {
-    let last = s.published;
-    let q = record_at(register, last.0 as usize);
-    published_by(s, lengths_of(pages, nodes, register), q)
+    let g = lengths_of(pages, nodes, register);
+    let b = line_state(s, l);
+    let c = next_number(l, b);
+    let q = version_part(register, c);
+    let k = publish_refusal(line_refusal(s, g, l), b, q, c);
+    published_by(s, l, k, is_due(b, q))
 }

@@ -25,7 +25,7 @@ putRefusal s l r t i bytes =
     firstRefusal
     (everyCall
     (differ s l)
-    (putRows (t ≤? s .updates) t (s .tickets .0) (r .version .0) (r .n) i (bitOf (r .put) i) bytes (s .size))
+    (putRows (t ≤? s .updates) t (s .tickets .0) (r .update) (r .n) i (bitOf (r .put) i) bytes (s .size))
     (s .updates <? t or s .pages ≤? r .number + i))
 
 abbrev pub putNumber : Store → Areas → ℕ → ℕ → List ℕ → ℕ
@@ -45,13 +45,15 @@ withPut r i = record {
   n = r .n;
   number = r .number;
   put = withBit (r .put) i;
-  version = r .version;
+  update = r .update;
   ticket = r .ticket;
+  name = r .name;
   f = r .f;
   last = r .last;
   size = r .size;
   place = r .place;
   woven = r .woven;
+  entries = r .entries;
 }
 
 abbrev pub putOut : Store → Areas → ℕ → ℕ → List ℕ → PutIn

@@ -52,7 +52,7 @@ fn put_refusal(s: Store, l: Lengths, r: Record, t: Ticket, i: u64, bytes: usize)
     if s.updates < t.0 {
         return if bytes as u64 != s.size { 11 } else { 19 };
     }
-    if r.version.0 != 0 {
+    if r.update != 0 {
         return 8;
     }
     if r.n <= i {

@@ -16,7 +16,6 @@ use Rattle.tree.specs.declared.Found.{Found}
 use Rattle.tree.specs.declared.Found.the-variants.{Leaf, Lost}
 use Rattle.tree.proofs.Meets.{lt-or-le}
 use mathlib.Core.Logic.{inl, inr}
-use Rattle.versions.specs.declared.Store.{Store}
 use Rattle.versions.specs.Store.{Areas, areasOf}
 use Rattle.walk.specs.FindPage.{numberWithin, isLost, orZero, pageNumberOf, findPage}
 use Rattle.read.specs.Read.{byteOf, bytesFrom}
@@ -42,13 +41,13 @@ behind x b d n ex h =
     ∙ drop-drop (n - length x) (length x) b
     ∙ ap (λ (k : ℕ). drop k b) e)
 
-module _ (s : Store) (a : Areas) (v : ℕ) where
-  pub length-bytes : (j n : ℕ) → length (bytesFrom s a v j n) ≡ n
+module _ (size count : ℕ) (a : Areas) (c : ℕ) where
+  pub length-bytes : (j n : ℕ) → length (bytesFrom size count a c j n) ≡ n
   unfolding bytesFrom
   length-bytes j zero = refl
   length-bytes j (suc n) = ap suc (length-bytes (suc j) n)
 
-  bytes-add : (j m n : ℕ) → bytesFrom s a v j (m + n) ≡ bytesFrom s a v j m ++ bytesFrom s a v (j + m) n
+  bytes-add : (j m n : ℕ) → bytesFrom size count a c j (m + n) ≡ bytesFrom size count a c j m ++ bytesFrom size count a c (j + m) n
   unfolding bytesFrom
   bytes-add j zero n = rw (zero-add, add-zero)
   bytes-add j (suc m) n =
@@ -56,21 +55,21 @@ module _ (s : Store) (a : Areas) (v : ℕ) where
       rw (suc-add, bytes-add (suc j) m n, e)
 
   -- n bytes of page q, from its byte r on
-  chunk : (q r n : ℕ) → r + n ≤ s .size → s .size * orZero (pageNumberOf s a v q) + r + n ≤ length (a .pages)
-      → take n (drop (s .size * orZero (pageNumberOf s a v q) + r) (a .pages)) ≡ bytesFrom s a v (q * s .size + r) n
+  chunk : (q r n : ℕ) → r + n ≤ size → size * orZero (pageNumberOf count a c q) + r + n ≤ length (a .pages)
+      → take n (drop (size * orZero (pageNumberOf count a c q) + r) (a .pages)) ≡ bytesFrom size count a c (q * size + r) n
   unfolding bytesFrom byteOf
   chunk q r zero h k = refl
   chunk q r (suc n) h k =
-      let at = s .size * orZero (pageNumberOf s a v q) + r in
-      let within : r < s .size = omega arith in
-      let next : suc at ≡ s .size * orZero (pageNumberOf s a v q) + suc r = omega arith in
-      let next-byte : suc (q * s .size + r) ≡ q * s .size + suc r = omega arith in
+      let at = size * orZero (pageNumberOf count a c q) + r in
+      let within : r < size = omega arith in
+      let next : suc at ≡ size * orZero (pageNumberOf count a c q) + suc r = omega arith in
+      let next-byte : suc (q * size + r) ≡ q * size + suc r = omega arith in
       rw (drop-cons (a .pages) at 0 (omega arith), digits-div q within, digits-mod q within, next, next-byte, chunk q (suc r) n (omega arith) (omega arith))
 
   -- One turn of the copy: n bytes more.
   pub grow-bytes : (b : List ℕ) (d n j : ℕ) → d + n ≤ length b
-      → put (bytesFrom s a v j d ++ drop d b) d (bytesFrom s a v (j + d) n) ≡ bytesFrom s a v j (d + n) ++ drop (d + n) b
-  grow-bytes b d n j h = rw (bytes-add j d n) (grow (bytesFrom s a v j d) b (bytesFrom s a v (j + d) n) d n (length-bytes j d) (length-bytes (j + d) n) h)
+      → put (bytesFrom size count a c j d ++ drop d b) d (bytesFrom size count a c (j + d) n) ≡ bytesFrom size count a c j (d + n) ++ drop (d + n) b
+  grow-bytes b d n j h = rw (bytes-add j d n) (grow (bytesFrom size count a c j d) b (bytesFrom size count a c (j + d) n) d n (length-bytes j d) (length-bytes (j + d) n) h)
 
 -- What lies within the first `size` elements does not need the others.
 front : (d : List ℕ) (size r n : ℕ) → size ≤ length d → r + n ≤ size → take n (drop r d) ≡ take n (drop r (take size d))
@@ -96,55 +95,55 @@ no-part l at = go (leb (at + 0) (length l))
     go true = refl
     go false = refl
 
-module _ (s : Store) (pages nodes : List ℕ) (register : List Record) (v offset len room : ℕ) (need : Readable s pages nodes register v offset len room)
+module _ (size count : ℕ) (pages nodes : List ℕ) (register : List Record) (c offset len room : ℕ) (need : Readable size count pages nodes register c offset len room)
     (done : ℕ) (below : done < len) where
-  some-size : 0 < s .size
+  some-size : 0 < size
   some-size = need .range .some (omega arith)
 
   -- The page of the next byte is found, and lies within the page area.
-  page-in : s .size * orZero (pageNumberOf s (areasOf [] nodes register) v ((offset + done) / s .size)) + s .size ≤ length pages
+  page-in : size * orZero (pageNumberOf count (areasOf [] nodes register) c ((offset + done) / size)) + size ≤ length pages
   unfolding pageNumberOf
   page-in =
       let j = offset + done in
-      let x = findPage s (areasOf [] nodes register) v (j / s .size) in
-      let t = touches (s .size) offset len some-size (omega arith) j (omega arith) (omega arith) in
-      let e : offset / s .size + (j / s .size - offset / s .size) ≡ j / s .size = omega arith in
-      let f = rw e at (none-lost s (areasOf [] nodes register) v (offset / s .size) _ (j / s .size - offset / s .size) (need .found) (t .1)) in
-      let k = mul-le-mul-left (s .size) (found-inside (s .pages) x f) in
+      let x = findPage (areasOf [] nodes register) c (j / size) in
+      let t = touches size offset len some-size (omega arith) j (omega arith) (omega arith) in
+      let e : offset / size + (j / size - offset / size) ≡ j / size = omega arith in
+      let f = rw e at (none-lost count (areasOf [] nodes register) c (offset / size) _ (j / size - offset / size) (need .found) (t .1)) in
+      let k = mul-le-mul-left size (found-inside count x f) in
       omega (arith, rw mul-suc at k, need .area (omega arith))
 
   -- What is copied of the page of the next byte are the bytes from there on.
-  pub next-bytes : let j = offset + done in let n = min (s .size - j % s .size) (len - done) in
-      part (part pages (s .size * orZero (numberWithin (s .pages) (findPage s (areasOf [] nodes register) v (j / s .size)))) (s .size)) (j % s .size) n
-      ≡ bytesFrom s (areasOf pages nodes register) v j n
+  pub next-bytes : let j = offset + done in let n = min (size - j % size) (len - done) in
+      part (part pages (size * orZero (numberWithin count (findPage (areasOf [] nodes register) c (j / size)))) size) (j % size) n
+      ≡ bytesFrom size count (areasOf pages nodes register) c j n
   unfolding pageNumberOf findPage
   next-bytes =
       let j = offset + done in
-      let n = min (s .size - j % s .size) (len - done) in
+      let n = min (size - j % size) (len - done) in
       let m = mod-lt j some-size in
-      let number = orZero (pageNumberOf s (areasOf [] nodes register) v (j / s .size)) in
-      part-in-part pages (s .size * number) (s .size) (j % s .size) n page-in (omega arith)
-      ∙ chunk s (areasOf pages nodes register) v (j / s .size) (j % s .size) n (omega arith) (omega (arith, page-in))
-      ∙ ap (λ (i : ℕ). bytesFrom s (areasOf pages nodes register) v i n) (div-add-mod' j (s .size))
+      let number = orZero (pageNumberOf count (areasOf [] nodes register) c (j / size)) in
+      part-in-part pages (size * number) size (j % size) n page-in (omega arith)
+      ∙ chunk size count (areasOf pages nodes register) c (j / size) (j % size) n (omega arith) (omega (arith, page-in))
+      ∙ ap (λ (i : ℕ). bytesFrom size count (areasOf pages nodes register) c i n) (div-add-mod' j size)
 
 -- The first page's bytes of a range, copied to the front of a buffer; of an empty range, none.
-module _ (s : Store) (pages nodes : List ℕ) (register : List Record) (v offset len : ℕ) (buffer : List ℕ)
-    (need : Readable s pages nodes register v offset len (length buffer)) where
-  first-part : let n = min (s .size - offset % s .size) len in
-      part (part pages (s .size * orZero (numberWithin (s .pages) (findPage s (areasOf [] nodes register) v (offset / s .size)))) (s .size)) (offset % s .size) n
-      ≡ bytesFrom s (areasOf pages nodes register) v offset n
+module _ (size count : ℕ) (pages nodes : List ℕ) (register : List Record) (c offset len : ℕ) (buffer : List ℕ)
+    (need : Readable size count pages nodes register c offset len (length buffer)) where
+  first-part : let n = min (size - offset % size) len in
+      part (part pages (size * orZero (numberWithin count (findPage (areasOf [] nodes register) c (offset / size)))) size) (offset % size) n
+      ≡ bytesFrom size count (areasOf pages nodes register) c offset n
   unfolding bytesFrom
   first-part = elim (lt-or-le 0 len) [
-    | inl h ↦ rw (add-zero, sub-zero) at (next-bytes s pages nodes register v offset len (length buffer) need 0 h)
-    | inr h ↦ let none : min (s .size - offset % s .size) len ≡ 0 = omega arith in rw none (no-part _ _)
+    | inl h ↦ rw (add-zero, sub-zero) at (next-bytes size count pages nodes register c offset len (length buffer) need 0 h)
+    | inr h ↦ let none : min (size - offset % size) len ≡ 0 = omega arith in rw none (no-part _ _)
   ]
 
-  pub first-bytes : let n = min (s .size - offset % s .size) len in
+  pub first-bytes : let n = min (size - offset % size) len in
       put buffer 0
-      (part (part pages (s .size * orZero (numberWithin (s .pages) (findPage s (areasOf [] nodes register) v (offset / s .size)))) (s .size)) (offset % s .size) n)
-      ≡ bytesFrom s (areasOf pages nodes register) v offset n ++ drop n buffer
+      (part (part pages (size * orZero (numberWithin count (findPage (areasOf [] nodes register) c (offset / size)))) size) (offset % size) n)
+      ≡ bytesFrom size count (areasOf pages nodes register) c offset n ++ drop n buffer
   unfolding bytesFrom
   first-bytes =
-      let n = min (s .size - offset % s .size) len in
+      let n = min (size - offset % size) len in
       rw first-part
-      (rw (add-zero, zero-add) at (grow-bytes s (areasOf pages nodes register) v buffer 0 n offset (omega (arith, need .within))))
+      (rw (add-zero, zero-add) at (grow-bytes size count (areasOf pages nodes register) c buffer 0 n offset (omega (arith, need .within))))

@@ -1,5 +1,5 @@
 -- A range of bytes: what the rows of READ, passed, say of it, the pages that it touches, and its number with the walks. Assumes nothing.
-use mathlib.Core.Path.{_≡_, refl}
+use mathlib.Core.Path.{_≡_, refl, ap, _∙_}
 use mathlib.Core.Logic.{_⊎_, inl, inr}
 use mathlib.Core.Bool.{Bool, true, false, cond, _||_}
 use mathlib.Core.List.{List, [], _∷_, _++_}
@@ -7,15 +7,13 @@ use Prim.Native.Nat.{ℕ, zero, suc, _+_, _-_, _*_, _/_, _^_, _<_, _≤_, min}
 use native.Mathlib.Nat.{zero-mul, div-mul-le-self, le-div-iff-mul-le, div-le-self}
 use native.Mathlib.Omega.{arith}
 use lib.ListN.{length}
-use Rattle.register.specs.declared.Record.{Record}
-use Rattle.table.specs.Table.{Cond, _or_, test, _<?_, _≤?_, holds, Row, _gives_, firstRefusal, unless, everyCall, readRows}
-use Rattle.versions.specs.Store.{Areas, differ, lengthsOf, recordOf}
-use Rattle.versions.specs.Size.{pagesBy, bytesBy}
+use Rattle.table.specs.Table.{Cond, _and_, _or_, test, _<?_, holds, Row, _gives_, firstRefusal, unless, everyCall, sizeRows, readRows}
+use Rattle.versions.specs.Store.{Areas, areasDiffer, linesIn, lineIn, numberOn, partOn}
+use Rattle.versions.specs.Size.{isThere, notThere, refusalBy, pagesIn, bytesBy, bytesIn}
 use Rattle.read.specs.Read.{pagesTouched, someLost, readNumber}
-use Rattle.read.specs.Range.{rangeRefusal, Ranged, orLost}
+use Rattle.read.specs.Range.{rangeNumber, Ranged, orLost}
 use Rattle.versions.specs.declared.Store.{Store}
-use Rattle.versions.specs.declared.Lengths.{Lengths}
-use Rattle.table.proofs.Table.{Numbered, passed}
+use Rattle.table.proofs.Table.{Fails, Numbered, passed, call-parts}
 
 -- ---- the rows
 
@@ -36,16 +34,31 @@ or-last ((d gives suc k) ∷ rows) t c b = go (holds d) (firstRefusal (rows ++ (
     go true m n e = refl
     go false m n e = e
 
-pub read-number : (s : Store) (a : Areas) (v offset len : ℕ) (buffer : List ℕ)
-    → readNumber s a v offset len buffer
-    ≡ orLost (rangeRefusal s (lengthsOf a) (recordOf a v) v offset len (length buffer)) (someLost s a v (offset / s .size) (pagesTouched (s .size) offset len))
-unfolding readNumber rangeRefusal readRows
-read-number s a v offset len buffer =
-    or-last
-    ((differ s (lengthsOf a) gives 3) ∷ readRows (v ≤? s .updates) v (s .published .0) (bytesBy s (pagesBy v (recordOf a v))) offset len (length buffer))
-    tt
-    (s .updates <? v)
-    (someLost s a v (offset / s .size) (pagesTouched (s .size) offset len))
+module _ (s : Store) (a : Areas) (l v offset len room : ℕ) where
+  abbrev rows : List Row
+  rows = readRows (isThere (partOn s a l v) (numberOn s l v)) l (linesIn s) v (lineIn s l .published .0) (bytesIn s a l v) offset len room
+
+  -- READ's number but for the walks: the rows up to 16, and those after them.
+  range-number : firstRefusal (everyCall (areasDiffer s a) rows (notThere (partOn s a l v) (numberOn s l v))) ≡ rangeNumber s a l v (numberOn s l v) offset len room
+  unfolding refusalBy readRows sizeRows
+  range-number =
+      let c = numberOn s l v in
+      let q = partOn s a l v in
+      call-parts
+      (areasDiffer s a)
+      (sizeRows l (linesIn s) v (lineIn s l .published .0))
+      ((isThere q c and bytesIn s a l v <? offset + len gives 17) ∷ (room <? len gives 18) ∷ [])
+      (notThere q c)
+      tt
+
+pub read-number : (s : Store) (a : Areas) (l v offset len : ℕ) (buffer : List ℕ)
+    → readNumber s a l v offset len buffer
+    ≡ orLost (rangeNumber s a l v (numberOn s l v) offset len (length buffer)) (someLost (s .pages) a (numberOn s l v) (offset / s .size) (pagesTouched (s .size) offset len))
+unfolding readNumber readRows
+read-number s a l v offset len buffer =
+    let lost = someLost (s .pages) a (numberOn s l v) (offset / s .size) (pagesTouched (s .size) offset len) in
+    or-last ((areasDiffer s a gives 3) ∷ rows s a l v offset len (length buffer)) tt (notThere (partOn s a l v) (numberOn s l v)) lost
+    ∙ ap (λ (k : ℕ). orLost k lost) (range-number s a l v offset len (length buffer))
 
 -- Where the rows before the walks refuse, the walks do not count.
 pub or-lost-gate : (k n : ℕ) (lost : ℕ → Bool) → orLost k (lost (unless k 0 n)) ≡ orLost k (lost n)
@@ -58,24 +71,23 @@ or-lost-0 zero true e = absurd (omega arith)
 or-lost-0 zero false e = (refl, refl)
 or-lost-0 (suc k) b e = absurd (omega arith)
 
-module _ (s : Store) (l : Lengths) (q : Record) (v offset len room : ℕ) (e : rangeRefusal s l q v offset len room ≡ 0) where
-  pub range-passed : (l .pages ≡ s .size * s .pages) × (offset + len ≤ bytesBy s (pagesBy v q)) × (len ≤ room)
-  unfolding rangeRefusal readRows
+module _ (s : Store) (a : Areas) (l v offset len room : ℕ) (e : rangeNumber s a l v (numberOn s l v) offset len room ≡ 0) where
+  pub range-passed : (length (a .pages) ≡ s .size * s .pages) × (offset + len ≤ bytesIn s a l v) × (len ≤ room)
+  unfolding readRows
   range-passed =
-      let rows = everyCall (differ s l) (readRows (v ≤? s .updates) v (s .published .0) (bytesBy s (pagesBy v q)) offset len room) (s .updates <? v) in
-      let all = passed rows tt e in
-      (omega arith, there (all .1 .1 .0) (omega arith), omega arith)
+      let all = passed (everyCall (areasDiffer s a) (rows s a l v offset len room) (notThere (partOn s a l v) (numberOn s l v))) tt (range-number s a l v offset len room ∙ e) in
+      (omega arith, there (all .1 .1 .1 .0) (all .1 .1 .1 .1 .1 .0), omega arith)
     where
       -- the version's record is there, so that 17 has been asked
-      there : (s .updates < v) ⊎ (offset + len ≤ bytesBy s (pagesBy v q)) → v ≤ s .updates → offset + len ≤ bytesBy s (pagesBy v q)
-      there (inl h) k = absurd (omega arith)
+      there : Fails (isThere (partOn s a l v) (numberOn s l v)) ⊎ (offset + len ≤ bytesIn s a l v) → Fails (notThere (partOn s a l v) (numberOn s l v)) → offset + len ≤ bytesIn s a l v
+      there (inl h) k = absurd (h k)
       there (inr h) k = h
 
   pub range-ranged : Ranged (s .size) offset len
   unfolding bytesBy
   range-ranged = record { fits = omega (arith, range-passed .1); some = λ h. go (s .size) (range-passed .1) h }
     where
-      go : (size : ℕ) → offset + len ≤ min (size * pagesBy v q) (2 ^ 64 - 1) → 0 < len → 0 < size
+      go : (size : ℕ) → offset + len ≤ min (size * pagesIn s a l v) (2 ^ 64 - 1) → 0 < len → 0 < size
       go zero p h = absurd (omega (arith, rw zero-mul at p))
       go (suc size) p h = omega arith
 

@@ -9,10 +9,10 @@ use lib.ListN.{length, drop}
 use Rattle.pages.specs.Pages.{put, part}
 use Rattle.register.specs.declared.Record.{Record}
 use Rattle.table.specs.Table.{unless}
-use Rattle.versions.specs.Store.{areasOf, lengthsOf, recordOf}
+use Rattle.versions.specs.Store.{areasOf, numberOn}
 use Rattle.walk.specs.FindPage.{findPage, numberWithin, orZero}
 use Rattle.read.specs.Read.{pagesTouched, someLost, bytesFrom, readNumber}
-use Rattle.read.specs.Range.{rangeRefusal, Ranged, orLost, Readable}
+use Rattle.read.specs.Range.{rangeNumber, Ranged, orLost, Readable}
 use Rattle.versions.specs.declared.Store.{Store}
 use Rattle.table.proofs.Table.{unless-0}
 use Rattle.read.proofs.Lost.{lost-apart}
@@ -26,30 +26,32 @@ walked-fit zero size offset zero r h = omega (arith, div-le-self offset size)
 walked-fit zero size offset (suc len) r h = let g = r refl in omega (arith, touched-below size offset (suc len) (g .some (omega arith)) (omega arith), g .fits)
 walked-fit (suc k) size offset len r h = omega (arith, div-le-self offset size)
 
-module _ (s : Store) (pages nodes : List ℕ) (register : List Record) (v offset len : ℕ) (buffer : List ℕ) where
+module _ (s : Store) (pages nodes : List ℕ) (register : List Record) (l v offset len : ℕ) (buffer : List ℕ) where
+  abbrev c : ℕ
+  c = numberOn s l v
+
   -- The number before the walks, whether one of them is lost, and the number with them.
   abbrev pub rows : ℕ
-  rows = rangeRefusal s (lengthsOf (areasOf pages nodes register)) (recordOf (areasOf pages nodes register) v) v offset len (length buffer)
+  rows = rangeNumber s (areasOf pages nodes register) l v c offset len (length buffer)
 
   abbrev pub walks : Bool
-  walks = someLost s (areasOf [] nodes register) v (offset / s .size) (unless rows 0 (pagesTouched (s .size) offset len))
+  walks = someLost (s .pages) (areasOf [] nodes register) c (offset / s .size) (unless rows 0 (pagesTouched (s .size) offset len))
 
-  pub number-is : orLost rows walks ≡ readNumber s (areasOf pages nodes register) v offset len buffer
+  pub number-is : orLost rows walks ≡ readNumber s (areasOf pages nodes register) l v offset len buffer
   number-is =
       let n = pagesTouched (s .size) offset len in
       let p = offset / s .size in
-      or-lost-gate rows n (λ (m : ℕ). someLost s (areasOf [] nodes register) v p m)
-      ∙ ap (orLost rows) (sym (lost-apart s pages nodes register v p n))
-      ∙ sym (read-number s (areasOf pages nodes register) v offset len buffer)
+      or-lost-gate rows n (λ (m : ℕ). someLost (s .pages) (areasOf [] nodes register) c p m)
+      ∙ ap (orLost rows) (sym (lost-apart (s .pages) pages nodes register c p n))
+      ∙ sym (read-number s (areasOf pages nodes register) l v offset len buffer)
 
-  pub readable : offset < 2 ^ 64 → (number : ℕ) → number ≡ orLost rows walks → Readable s pages nodes register v offset (unless number 0 len) (length buffer)
+  pub readable : offset < 2 ^ 64 → (number : ℕ) → number ≡ orLost rows walks → Readable (s .size) (s .pages) pages nodes register c offset (unless number 0 len) (length buffer)
   unfolding unless someLost
   readable h zero e =
       let z = or-lost-0 rows walks (sym e) in
-      let l = lengthsOf (areasOf pages nodes register) in
-      let q = recordOf (areasOf pages nodes register) v in
-      let p = range-passed s l q v offset len (length buffer) (z .0) in record {
-        range = range-ranged s l q v offset len (length buffer) (z .0);
+      let a = areasOf pages nodes register in
+      let p = range-passed s a l v offset len (length buffer) (z .0) in record {
+        range = range-ranged s a l v offset len (length buffer) (z .0);
         within = p .2;
         area = λ _. p .0;
         found = rw (unless-0 rows 0 (pagesTouched (s .size) offset len) (z .0)) at (z .1);
@@ -62,8 +64,8 @@ module _ (s : Store) (pages nodes : List ℕ) (register : List Record) (v offset
   }
 
   copied-is : (number : ℕ)
-      → bytesFrom s (areasOf pages nodes register) v offset (unless number 0 len) ++ drop (unless number 0 len) buffer
-      ≡ unless number buffer (bytesFrom s (areasOf pages nodes register) v offset len ++ drop len buffer)
+      → bytesFrom (s .size) (s .pages) (areasOf pages nodes register) c offset (unless number 0 len) ++ drop (unless number 0 len) buffer
+      ≡ unless number buffer (bytesFrom (s .size) (s .pages) (areasOf pages nodes register) c offset len ++ drop len buffer)
   unfolding unless bytesFrom
   copied-is zero = refl
   copied-is (suc k) = refl
@@ -76,7 +78,7 @@ module _ (s : Store) (pages nodes : List ℕ) (register : List Record) (v offset
   begun number =
       put buffer 0
       (part
-      (part pages (s .size * orZero (numberWithin (s .pages) (findPage s (areasOf [] nodes register) v (offset / s .size)))) (s .size))
+      (part pages (s .size * orZero (numberWithin (s .pages) (findPage (areasOf [] nodes register) c (offset / s .size)))) (s .size))
       (offset % s .size)
       (ready number))
 
@@ -90,15 +92,15 @@ module _ (s : Store) (pages nodes : List ℕ) (register : List Record) (v offset
 
   module _ (number : ℕ) (h : offset < 2 ^ 64) (e : number ≡ orLost rows walks) where
     abbrev bytes : ℕ → List ℕ
-    bytes n = bytesFrom s (areasOf pages nodes register) v offset n
+    bytes n = bytesFrom (s .size) (s .pages) (areasOf pages nodes register) c offset n
 
     begun-is : begun number ≡ bytes (ready number) ++ drop (ready number) buffer
-    begun-is = rw (ready-is number) (first-bytes s pages nodes register v offset (unless number 0 len) buffer (readable h number e))
+    begun-is = rw (ready-is number) (first-bytes (s .size) (s .pages) pages nodes register c offset (unless number 0 len) buffer (readable h number e))
 
     begun-behind : (n : ℕ) → ready number ≤ n → drop n (begun number) ≡ drop n buffer
     begun-behind n k =
         ap (drop n) begun-is
-        ∙ behind (bytes (ready number)) buffer (ready number) n (length-bytes s (areasOf pages nodes register) v offset (ready number)) k
+        ∙ behind (bytes (ready number)) buffer (ready number) n (length-bytes (s .size) (s .pages) (areasOf pages nodes register) c offset (ready number)) k
 
     pub begun-front : begun number ≡ bytes (ready number) ++ drop (ready number) (begun number)
     begun-front = begun-is ∙ ap (λ (b : List ℕ). bytes (ready number) ++ b) (sym (begun-behind (ready number) (omega arith)))

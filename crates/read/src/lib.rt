@@ -5,23 +5,25 @@ ghost use mathlib.Core.List.{[], _++_};
 ghost use lib.Dec.{ltb};
 ghost use lib.ListN.{length, drop};
 ghost use Rattle.table.specs.Table.{unless};
-ghost use Rattle.read.specs.Range.{rangeRefusal, Ranged, orLost, chunkAt, Readable};
+ghost use Rattle.read.specs.Range.{rangeRefusal, rangeNumber, Ranged, orLost, chunkAt, Readable};
 ghost use Rattle.versions.specs.Store.{areasOf};
 ghost use Rattle.walk.specs.FindPage.{findPage, numberWithin, isLost};
 ghost use Rattle.read.specs.Read.{someLost, pagesTouched, bytesFrom, filledBy, readOut, readBuffer};
+use lines::Line;
 use pages::copy_page;
+use register::Part;
 use register::Record;
-use register::version_record;
+use register::version_part;
 use tree::PageIndex;
 use tree::Version;
 use tree::smaller;
 use versions::ByteOffset;
-use versions::Lengths;
 use versions::Store;
-use versions::areas_differ;
 use versions::bytes_by;
 use versions::lengths_of;
+use versions::number_on;
 use versions::pages_by;
+use versions::snapshot_refusal;
 use walk::find_page;
 use walk::is_lost;
 use walk::number_found;
@@ -56,30 +58,46 @@ fn runs_past(total: u64, offset: ByteOffset, len: u64) -> bool
     total - offset.0 < len
 }
 
-// The refusal of READ but for the walks to its pages, with version v's record q.
-fn range_refusal(s: Store, l: Lengths, q: Record, v: Version, g: Range) -> u64
-    ensures { λ k. ⌜ k ≡ rangeRefusal s l q (v .0) (g .offset .0) (g .len) (g .room) ⌝ }
+// The refusal of READ but for the walks to its pages, of pages of a size, by the number k of the rows up to 16, with the part q of version v, numbered c.
+fn range_refusal(k: u64, size: u64, q: Part, c: u64, v: Version, g: Range) -> u64
+    ensures { λ r. ⌜ r ≡ rangeRefusal k size q c (v .0) (g .offset .0) (g .len) (g .room) ⌝ }
 {
-    if areas_differ(s, l) {
-        return 3;
+    if k != 0 {
+        return k;
     }
-    let last = s.published;
-    if last.0 < v.0 {
-        return 16;
-    }
-    if s.updates < v.0 {
+    if q.name != c {
         if (g.room as u64) < g.len {
             return 18;
         }
         return 19;
     }
-    if runs_past(bytes_by(s, pages_by(v, q)), g.offset, g.len) {
+    if runs_past(bytes_by(size, pages_by(v, q)), g.offset, g.len) {
         return 17;
     }
     if (g.room as u64) < g.len {
         return 18;
     }
     0
+}
+
+// The same of version v of line l, numbered c, with the rows up to 16.
+fn range_number(
+    s: Store,
+    pages: &[u8],
+    nodes: &[u32],
+    register: &[Record],
+    l: Line,
+    v: Version,
+    c: u64,
+    g: Range,
+) -> u64
+    ensures { λ r.
+        let a = areasOf (now (pages .entry)) (now (nodes .entry)) (now (register .entry)) in
+        ⌜ r ≡ rangeNumber s a (l .0) (v .0) c (g .offset .0) (g .len) (g .room) ⌝ }
+{
+    let q = version_part(register, c);
+    let k = snapshot_refusal(s, lengths_of(pages, nodes, register), l, v);
+    range_refusal(k, s.size, q, c, v, g)
 }
 
 // How many pages a range touches where the table's number k is 0; else none are walked to.
@@ -97,18 +115,18 @@ fn touched(k: u64, size: u64, offset: ByteOffset, len: u64) -> u64
     end / size - offset.0 / size + 1
 }
 
-// Whether one of the n pages from a page on is not found as of version v; `first` says it of the first of them.
+// Whether one of the n pages from a page on of the version numbered c is not found, in a page area of so many pages; `first` says it of the first of them.
 fn some_lost(
-    s: Store,
+    count: u64,
     nodes: &[u32],
     register: &[Record],
-    v: Version,
+    c: u64,
     from: PageIndex,
     n: u64,
     first: bool,
 ) -> bool
-    requires { ⌜ (from .0 + n < 2 ^ 64) × (first ≡ isLost (numberWithin (s .pages) (findPage s (areasOf [] (now nodes) (now register)) (v .0) (from .0)))) ⌝ }
-    ensures { λ b. ⌜ b ≡ someLost s (areasOf [] (now (nodes .entry)) (now (register .entry))) (v .0) (from .0) n ⌝ }
+    requires { ⌜ (from .0 + n < 2 ^ 64) × (first ≡ isLost (numberWithin count (findPage (areasOf [] (now nodes) (now register)) c (from .0)))) ⌝ }
+    ensures { λ b. ⌜ b ≡ someLost count (areasOf [] (now (nodes .entry)) (now (register .entry))) c (from .0) n ⌝ }
 {
     if n == 0 {
         return false;
@@ -118,10 +136,7 @@ fn some_lost(
     }
     let mut i = 1u64;
     while i < n {
-        if is_lost(
-            s.pages,
-            find_page(s, nodes, register, v, PageIndex(from.0 + i)),
-        ) {
+        if is_lost(count, find_page(nodes, register, c, PageIndex(from.0 + i))) {
             return true;
         }
         i = i + 1;
@@ -165,38 +180,40 @@ fn chunk_at(size: u64, at: ByteOffset, len: u64) -> Chunk
     }
 }
 
-// Copies a range of version v's bytes to the front of the buffer, page by page. Its first `from` bytes are there already.
+// Copies a range of the bytes of the version numbered c to the front of the buffer, page by page: pages of a size, and so many of them. Its first `from` bytes are
+// there already.
 fn copy_range(
-    s: Store,
+    size: u64,
+    count: u64,
     pages: &[u8],
     nodes: &[u32],
     register: &[Record],
-    v: Version,
+    c: u64,
     offset: ByteOffset,
     len: u64,
     from: u64,
     buffer: &mut [u8],
 )
-    requires { ⌜ Readable s (now pages) (now nodes) (now register) (v .0) (offset .0) len (length (now buffer)) × (from ≤ len)
-        × (now buffer ≡ bytesFrom s (areasOf (now pages) (now nodes) (now register)) (v .0) (offset .0) from ++ drop from (now buffer)) ⌝ }
+    requires { ⌜ Readable size count (now pages) (now nodes) (now register) c (offset .0) len (length (now buffer)) × (from ≤ len)
+        × (now buffer ≡ bytesFrom size count (areasOf (now pages) (now nodes) (now register)) c (offset .0) from ++ drop from (now buffer)) ⌝ }
     ensures { λ _.
         let a = areasOf (now (pages .entry)) (now (nodes .entry)) (now (register .entry)) in
-        ⌜ now (buffer .exit) ≡ bytesFrom s a (v .0) (offset .0) len ++ drop len (now (buffer .entry)) ⌝ }
+        ⌜ now (buffer .exit) ≡ bytesFrom size count a c (offset .0) len ++ drop len (now (buffer .entry)) ⌝ }
 {
     let mut done = from;
     while done < len {
-        let c = chunk_at(s.size, ByteOffset(offset.0 + done), len - done);
-        let x = find_page(s, nodes, register, v, c.page);
+        let part = chunk_at(size, ByteOffset(offset.0 + done), len - done);
+        let x = find_page(nodes, register, c, part.page);
         copy_page(
             pages,
-            s.size,
-            number_found(s.pages, x),
-            c.from,
-            c.count,
+            size,
+            number_found(count, x),
+            part.from,
+            part.count,
             buffer,
             done,
         );
-        done = done + c.count;
+        done = done + part.count;
     }
 }
 
@@ -211,12 +228,13 @@ fn filled_by(k: u64) -> Filled
     }
 }
 
-// READ v, offset, len: fills the front of the buffer with a range of version v's bytes. It finds every page of the range before it copies any.
+// READ line, v, offset, len: fills the front of the buffer with a range of the version's bytes. It finds every page of the range before it copies any.
 pub fn read(
     s: Store,
     pages: &[u8],
     nodes: &[u32],
     register: &[Record],
+    l: Line,
     v: Version,
     offset: ByteOffset,
     len: u64,
@@ -224,37 +242,46 @@ pub fn read(
 ) -> Filled
     ensures { λ r.
         let a = areasOf (now (pages .entry)) (now (nodes .entry)) (now (register .entry)) in
-        ⌜ (r ≡ readOut s a (v .0) (offset .0) len (now (buffer .entry)))
-        × (now (buffer .exit) ≡ readBuffer s a (v .0) (offset .0) len (now (buffer .entry))) ⌝ }
+        ⌜ (r ≡ readOut s a (l .0) (v .0) (offset .0) len (now (buffer .entry)))
+        × (now (buffer .exit) ≡ readBuffer s a (l .0) (v .0) (offset .0) len (now (buffer .entry))) ⌝ }
 {
-    let l = lengths_of(pages, nodes, register);
     let g = Range {
         offset,
         len,
         room: buffer.len(),
     };
-    let k = range_refusal(s, l, version_record(register, v), v, g);
+    let c = number_on(s, l, v);
+    let k = range_number(s, pages, nodes, register, l, v, c, g);
     let n = touched(k, s.size, offset, len);
-    let c = chunk_at(s.size, offset, len);
-    let x = find_page(s, nodes, register, v, c.page);
-    let lost = some_lost(s, nodes, register, v, c.page, n, is_lost(s.pages, x));
+    let part = chunk_at(s.size, offset, len);
+    let x = find_page(nodes, register, c, part.page);
+    let lost = some_lost(
+        s.pages,
+        nodes,
+        register,
+        c,
+        part.page,
+        n,
+        is_lost(s.pages, x),
+    );
     let number = or_lost(k, lost);
-    let count = copied(number, c.count);
+    let count = copied(number, part.count);
     copy_page(
         pages,
         s.size,
         number_found(s.pages, x),
-        c.from,
+        part.from,
         count,
         buffer,
         0,
     );
     copy_range(
-        s,
+        s.size,
+        s.pages,
         pages,
         nodes,
         register,
-        v,
+        c,
         offset,
         copied(number, len),
         count,

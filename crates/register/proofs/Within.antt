@@ -1,4 +1,4 @@
--- A record's update meets some pages exactly where its pages, as they stand in the record, pass one comparison of a larger and a smaller number.
+-- A part's update meets some pages exactly where its pages, as they stand in it, pass one comparison of a larger and a smaller number.
 -- Assumes nothing.
 use mathlib.Core.Path.{_≡_}
 use mathlib.Core.Logic.{inl, inr}
@@ -9,7 +9,7 @@ use lib.Dec.{leb}
 use Rattle.tree.specs.Tree.{meets}
 use Rattle.register.specs.Register.{updateOf}
 use Rattle.register.specs.Register.{highest}
-use Rattle.register.specs.declared.Record.{Record}
+use Rattle.register.specs.declared.Part.{Part}
 use Rattle.tree.proofs.Meets.{lt-or-le, within, before, after, side, meets-within, meets-before, meets-after}
 
 module _ (a s : ℕ) where
@@ -28,19 +28,19 @@ module _ (a s : ℕ) where
   before-end : 0 < s → a + s ≤ 4095 → highest a s + 1 ≡ a + s
   before-end p q = omega (arith, highest-last (omega arith) q)
 
-module _ (r : Record) (a s : ℕ) (fits : r .f .0 < 2 ^ 64) (some : 0 < s) where
+module _ (q : Part) (a s : ℕ) (fits : q .f .0 < 2 ^ 64) (some : 0 < s) where
   abbrev from : ℕ
-  from = max (r .f .0) a
+  from = max (q .f .0) a
 
   abbrev to : ℕ
-  to = min (max (r .f .0) (r .last .0)) (highest a s)
+  to = min (max (q .f .0) (q .last .0)) (highest a s)
 
-  pub within-meets : leb from to ≡ meets (updateOf r .f) (updateOf r .last) a s
+  pub within-meets : leb from to ≡ meets (updateOf q .f) (updateOf q .last) a s
   unfolding updateOf
-  within-meets = elim (side (updateOf r .f) (updateOf r .last) a s) [
-    | within p q ↦ elim (lt-or-le 4095 (a + s)) [
-      | inl t ↦ rw (meets-within _ _ a s p q, le-leb from to (omega (arith, highest-free a s (omega arith) t)))
-      | inr t ↦ rw (meets-within _ _ a s p q, le-leb from to (omega (arith, before-end a s some t)))
+  within-meets = elim (side (updateOf q .f) (updateOf q .last) a s) [
+    | within p w ↦ elim (lt-or-le 4095 (a + s)) [
+      | inl t ↦ rw (meets-within _ _ a s p w, le-leb from to (omega (arith, highest-free a s (omega arith) t)))
+      | inr t ↦ rw (meets-within _ _ a s p w, le-leb from to (omega (arith, before-end a s some t)))
     ]
     | before p ↦ rw (meets-before _ _ a s p, lt-leb from to (omega (arith, before-end a s some (omega arith))))
     | after p ↦ elim (lt-or-le 4095 a) [

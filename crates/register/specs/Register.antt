@@ -1,14 +1,15 @@
--- The register of updates: record k holds the k-th ticket's part and the k-th version's part.
-use Prim.Native.Nat.{ℕ, suc, min, max, _+_, _-_, _^_}
-use mathlib.Core.List.{List, map}
-use lib.Dec.{leb, ltb}
+-- The register of updates. Record k holds the k-th ticket's part, the part of the k-th update in the order of ASSIGN on all lines, and for each line which update
+-- is its own version k.
+use Prim.Native.Nat.{ℕ, zero, suc, min, max, _+_, _-_, _^_}
+use mathlib.Core.List.{List}
+use lib.Dec.{leb, ltb, eqb}
 use lib.ListN.{length, set}
 use mathlib.Core.Bool.{Bool, true, false, _&&_}
-use Rattle.tree.specs.Tree.{Update, newest}
+use Rattle.tree.specs.Tree.{Update, nth, meets}
+use Rattle.lines.specs.Lines.{pick, numberOf, lineOf, versionOf, noEntries, entryAt}
 use Rattle.register.specs.declared.Record.{Record}
+use Rattle.register.specs.declared.Part.{Part}
 use Rattle.register.specs.declared.Extent.{Extent}
-use Rattle.tree.specs.declared.Version.{Version}
-use Rattle.tree.specs.declared.PageIndex.{PageIndex}
 
 -- An empty record, as FORMAT fills them.
 abbrev pub noRecord : Record
@@ -16,14 +17,20 @@ noRecord = record {
   n = 0;
   number = 0;
   put = 0;
-  version = record { 0 = 0 };
+  update = 0;
   ticket = record { 0 = 0 };
+  name = 0;
   f = record { 0 = 0 };
   last = record { 0 = 0 };
   size = 0;
   place = 0;
   woven = 0;
+  entries = noEntries;
 }
+
+-- What a record says of its update: the number of its version, its pages, the size after it, its first node place, and how many of its nodes are woven.
+abbrev pub partOf : Record → Part
+partOf r = record { name = r .name; f = r .f; last = r .last; size = r .size; place = r .place; woven = r .woven }
 
 -- The last page that a blob can have.
 abbrev pub mostPage : ℕ
@@ -40,17 +47,13 @@ limited f last size =
     let l = max g (min last mostPage) in
     record { f = g; last = l; size = max (suc l) (min size (suc mostPage)) }
 
--- What a record says of an update.
-unfoldable pub updateOf : Record → Update
-updateOf r = limited (r .f .0) (r .last .0) (r .size)
+-- The update of a record's part.
+unfoldable pub updateOf : Part → Update
+updateOf q = limited (q .f .0) (q .last .0) (q .size)
 
 -- An update as the code has it.
 abbrev pub extentOf : Update → Extent
 extentOf u = record { f = record { 0 = u .f }; last = record { 0 = u .last }; size = u .size }
-
--- The updates of a run of records, by version.
-abbrev pub updatesOf : List Record → List Update
-updatesOf rs = map updateOf rs
 
 abbrev pub setIf : Bool → List Record → ℕ → Record → List Record
 setIf true rs i r = set rs i r
@@ -60,11 +63,28 @@ setIf false rs i r = rs
 unfoldable pub withRecord : List Record → ℕ → Record → List Record
 withRecord rs i r = setIf (ltb i (length rs)) rs i r
 
--- The newest version up to v whose update, as the register has it, meets the s pages from a on, or 0.
-abbrev pub newestIn : List Record → Version → PageIndex → ℕ → Version
-newestIn rs v a s = record { 0 = newest (updatesOf rs) (v .0) (a .0) s }
+-- The record of the version numbered c: record c % 65536 where that update has this number, as it always has while one line alone has updates; else the one that
+-- line c / 65536's entry there names.
+unfoldable pub versionRecord : List Record → ℕ → Record
+versionRecord rs c =
+    let r = nth noRecord rs (versionOf c) in
+    pick (eqb (r .name) c) r (nth noRecord rs (entryAt (r .entries) (lineOf c)))
 
--- The highest page that a record may begin at to meet the s pages from a on: none where a is past the last page of any blob, and any page where the s
+abbrev pub versionPart : List Record → ℕ → Part
+versionPart rs c = partOf (versionRecord rs c)
+
+-- The part is that of the version numbered c; else there is no such record.
+abbrev pub isOf : Part → ℕ → Bool
+isOf q c = eqb (q .name) c
+
+-- The newest of line l's own versions above `start` and up to v whose update, as the register has it, meets the s pages from a on; 0 for none.
+unfoldable pub newestOwn : List Record → ℕ → ℕ → ℕ → ℕ → ℕ → ℕ
+newestOwn rs l start zero a s = 0
+newestOwn rs l start (suc v) a s =
+    let u = updateOf (versionPart rs (numberOf l (suc v))) in
+    pick (ltb start (suc v)) (pick (meets (u .f) (u .last) a s) (suc v) (newestOwn rs l start v a s)) 0
+
+-- The highest page that an update may begin at to meet the s pages from a on: none where a is past the last page of any blob, and any page where the s
 -- pages reach past it.
 unfoldable pub highest : ℕ → ℕ → ℕ
 highest a s = elim (ltb mostPage a) [ true ↦ 0 | false ↦ elim (ltb mostPage (a + s)) [ true ↦ 2 ^ 64 - 1 | false ↦ a + s - 1 ] ]

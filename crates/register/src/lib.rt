@@ -1,10 +1,17 @@
 // The register of updates: a lent run of records, one an update, and the search in it for the newest update over a range.
 ghost use mathlib.Core.Path.{_≡_};
-ghost use Prim.Native.Nat.{_+_, _^_, _<_, _≤_, min, max};
+ghost use Prim.Native.Nat.{_+_, _-_, _^_, _<_, min, max};
 ghost use lib.Dec.{leb};
-ghost use lib.ListN.{length, getD};
+ghost use lib.ListN.{getD};
 ghost use Rattle.tree.specs.Tree.{nth};
-ghost use Rattle.register.specs.Register.{noRecord, inLimits, limited, updateOf, extentOf, withRecord, newestIn, highest};
+ghost use Rattle.register.specs.Register.{noRecord, partOf, inLimits, limited, updateOf, extentOf, withRecord, versionPart, newestOwn, highest};
+use lines::Entries;
+use lines::Line;
+use lines::entry_at;
+use lines::line_of;
+use lines::no_entries;
+use lines::number_of;
+use lines::version_of;
 use tree::LAST_PAGE;
 use tree::MOST_PAGES;
 use tree::PageIndex;
@@ -13,17 +20,31 @@ use tree::Version;
 use tree::saturating_sub;
 use tree::smaller;
 
-// A record of the register: the k-th ticket's part and the k-th version's part. Tickets and versions are given in different orders, each up to
-// the number of updates, so both parts fit and each is found in one step.
+// A record of the register. Record k holds the k-th ticket's part, the part of the k-th update in the order of ASSIGN on all lines, and for each line which update is
+// its own version k. Each is counted up to the number of updates, so all fit, and each is found with no search.
 #[repr(C)]
 pub struct Record {
-    // The ticket's pages, its first page number, which pages are put (bit i for page i), and its version (0: none yet).
+    // The ticket's pages, its first page number, which pages are put (bit i for page i), and the number of its update (0: none yet).
     pub n: u64,
     pub number: u64,
     pub put: u64,
-    pub version: Version,
-    // The version's ticket, first and last page, size in pages after it, first node place, and how many of its nodes are woven.
+    pub update: u64,
+    // The update's ticket, its version as line x 65,536 + version, its first and last page, the size in pages after it, its first node place, and how many of its
+    // nodes are woven.
     pub ticket: Ticket,
+    pub name: u64,
+    pub f: PageIndex,
+    pub last: PageIndex,
+    pub size: u64,
+    pub place: u64,
+    pub woven: u64,
+    // The lines' own versions.
+    pub entries: Entries,
+}
+
+// What a record says of its update: what a reader needs, so that no record is copied on the way to it.
+pub struct Part {
+    pub name: u64,
     pub f: PageIndex,
     pub last: PageIndex,
     pub size: u64,
@@ -82,28 +103,47 @@ pub fn within_limits(f: PageIndex, last: PageIndex, size: u64) -> Extent
     brought_within(f, last, size)
 }
 
-// What a record says of an update.
-pub fn extent_of(r: Record) -> Extent
-    ensures { λ e. ⌜ e ≡ extentOf (updateOf r) ⌝ }
+// The update of a record's part.
+pub fn extent_of(q: Part) -> Extent
+    ensures { λ e. ⌜ e ≡ extentOf (updateOf q) ⌝ }
 {
-    within_limits(r.f, r.last, r.size)
+    within_limits(q.f, q.last, q.size)
+}
+
+// What a record says of its update.
+pub fn part_of(r: Record) -> Part
+    ensures { λ q. ⌜ q ≡ partOf r ⌝ }
+{
+    let f = r.f;
+    let last = r.last;
+    Part {
+        name: r.name,
+        f,
+        last,
+        size: r.size,
+        place: r.place,
+        woven: r.woven,
+    }
 }
 
 // The empty record.
 pub fn no_record() -> Record
     ensures { λ r. ⌜ r ≡ noRecord ⌝ }
 {
+    let entries = no_entries();
     Record {
         n: 0,
         number: 0,
         put: 0,
-        version: Version(0),
+        update: 0,
         ticket: Ticket(0),
+        name: 0,
         f: PageIndex(0),
         last: PageIndex(0),
         size: 0,
         place: 0,
         woven: 0,
+        entries,
     }
 }
 
@@ -119,7 +159,7 @@ pub fn record_at(register: &[Record], i: usize) -> Record
 }
 
 // The k-th record, counted from 1; the empty one where there is none.
-fn nth_record(register: &[Record], k: u64) -> Record
+pub fn nth_record(register: &[Record], k: u64) -> Record
     ensures { λ r. ⌜ r ≡ nth noRecord (now (register .entry)) k ⌝ }
 {
     if k == 0 {
@@ -136,11 +176,39 @@ pub fn ticket_record(register: &[Record], t: Ticket) -> Record
     nth_record(register, t.0)
 }
 
-// The record that has a version's part.
-pub fn version_record(register: &[Record], v: Version) -> Record
-    ensures { λ r. ⌜ r ≡ nth noRecord (now (register .entry)) (v .0) ⌝ }
+// The part of the k-th update.
+pub fn update_part(register: &[Record], k: u64) -> Part
+    ensures { λ q. ⌜ q ≡ partOf (nth noRecord (now (register .entry)) k) ⌝ }
 {
-    nth_record(register, v.0)
+    part_of(nth_record(register, k))
+}
+
+// The index of the k-th record. There is no record 0, and no register reaches its index.
+fn index_of(k: u64) -> usize
+    ensures { λ r. ⌜ (0 < k → r ≡ k - 1) × (k ≡ 0 → r ≡ 2 ^ 64 - 1) ⌝ }
+{
+    if k == 0 {
+        u64::MAX as usize
+    } else {
+        (k - 1) as usize
+    }
+}
+
+// The part of the version numbered c: the record of the version's own number is tried first, so that a store with one line reads one record, and no more of it than
+// the part.
+pub fn version_part(register: &[Record], c: u64) -> Part
+    ensures { λ q. ⌜ q ≡ versionPart (now (register .entry)) c ⌝ }
+{
+    let v = version_of(c);
+    let i = index_of(v.0);
+    if i < register.len() {
+        let r = register[i];
+        if r.name == c {
+            return part_of(r);
+        }
+        return update_part(register, entry_at(r.entries, line_of(c)));
+    }
+    part_of(no_record())
 }
 
 // Writes the record at an index; past the register's end nothing changes.
@@ -168,25 +236,32 @@ fn highest(first: PageIndex, span: u64) -> PageIndex
 
 // Whether a record's update, its pages as they stand in the record, meets the pages lo .. hi. One comparison of a larger and a smaller number is one
 // branch, which goes the same way for most records.
-fn record_within(r: Record, lo: PageIndex, hi: PageIndex) -> bool
-    ensures { λ b. ⌜ b ≡ leb (max (r .f .0) (lo .0)) (min (max (r .f .0) (r .last .0)) (hi .0)) ⌝ }
+fn part_within(q: Part, lo: PageIndex, hi: PageIndex) -> bool
+    ensures { λ b. ⌜ b ≡ leb (max (q .f .0) (lo .0)) (min (max (q .f .0) (q .last .0)) (hi .0)) ⌝ }
 {
-    larger(r.f.0, lo.0) <= smaller(larger(r.f.0, r.last.0), hi.0)
+    larger(q.f.0, lo.0) <= smaller(larger(q.f.0, q.last.0), hi.0)
 }
 
-// The newest version up to `below` whose update meets the `span` pages from `first` on, or 0.
-pub fn newest_update(register: &[Record], below: Version, first: PageIndex, span: u64) -> Version
-    requires { ⌜ (below .0 ≤ length (now register)) × (first .0 + span < 2 ^ 64) × (0 < below .0 → 0 < span) ⌝ }
-    ensures { λ r. ⌜ r ≡ newestIn (now (register .entry)) below first span ⌝ }
+// The newest of line l's own versions above `start` and up to `below` whose update meets the `span` pages from `first` on, or 0.
+pub fn newest_own(
+    register: &[Record],
+    l: Line,
+    start: Version,
+    below: Version,
+    first: PageIndex,
+    span: u64,
+) -> Version
+    requires { ⌜ (first .0 + span < 2 ^ 64) × (0 < below .0 → 0 < span) ⌝ }
+    ensures { λ r. ⌜ r ≡ record { 0 = newestOwn (now (register .entry)) (l .0) (start .0) (below .0) (first .0) span } ⌝ }
 {
     let hi = highest(first, span);
     let mut v = below.0;
-    while v > 0 {
-        let older = v - 1;
-        if record_within(record_at(register, older as usize), first, hi) {
+    while v > start.0 {
+        let q = version_part(register, number_of(l, Version(v)));
+        if part_within(q, first, hi) {
             return Version(v);
         }
-        v = older;
+        v = v - 1;
     }
     Version(0)
 }

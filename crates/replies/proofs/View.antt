@@ -7,7 +7,7 @@ use borrow.Author.Tests.{le-leb}
 use lib.ListN.{length}
 use Rattle.pages.specs.Pages.{part}
 use Rattle.table.specs.Table.{unless}
-use Rattle.versions.specs.Store.{Areas}
+use Rattle.versions.specs.Store.{Areas, numberOn}
 use Rattle.walk.specs.FindPage.{orZero, pageNumberOf}
 use Rattle.stamp.specs.Stamp.{stampNumber}
 use Rattle.view.specs.View.{viewPart, viewed, viewAt}
@@ -25,6 +25,6 @@ unfolding unless
 by-number l zero at n = refl
 by-number l (suc k) at n = no-part l
 
-pub view-part : (s : Store) (a : Areas) (v p : ℕ)
-    → part (a .pages) (viewReply (s .size) (viewAt s a v p) .begin) (viewReply (s .size) (viewAt s a v p) .length) ≡ viewPart s a v p
-view-part s a v p = by-number (a .pages) (stampNumber s a v p) (s .size * orZero (pageNumberOf s a v p)) (s .size)
+pub view-part : (s : Store) (a : Areas) (l v p : ℕ)
+    → part (a .pages) (viewReply (s .size) (viewAt s a l v p) .begin) (viewReply (s .size) (viewAt s a l v p) .length) ≡ viewPart s a l v p
+view-part s a l v p = by-number (a .pages) (stampNumber s a l v p) (s .size * orZero (pageNumberOf (s .pages) a (numberOn s l v) p)) (s .size)

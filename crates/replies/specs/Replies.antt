@@ -16,6 +16,9 @@ use Rattle.weave.specs.declared.Woven.the-variants as Woven
 use Rattle.publish.specs.declared.Published.{Published}
 use Rattle.publish.specs.declared.Published.the-variants as Published
 use Rattle.publish.specs.declared.PublishOut.{PublishOut}
+use Rattle.branch.specs.declared.Branched.{Branched}
+use Rattle.branch.specs.declared.Branched.the-variants as Branched
+use Rattle.branch.specs.declared.BranchOut.{BranchOut}
 use Rattle.read.specs.declared.Filled.{Filled}
 use Rattle.read.specs.declared.Filled.the-variants as Filled
 use Rattle.versions.specs.declared.Sized.{Sized}
@@ -26,19 +29,31 @@ use Rattle.stamp.specs.declared.Stamped.{Stamped}
 use Rattle.stamp.specs.declared.Stamped.the-variants as Stamped
 use Rattle.view.specs.declared.Viewed.{Viewed}
 use Rattle.view.specs.declared.Viewed.the-variants as Viewed
-use Rattle.format.specs.Format.{fresh}
+use Rattle.lines.specs.Lines.{noLines}
 use Rattle.replies.specs.declared.FormatReply.{FormatReply}
 use Rattle.replies.specs.declared.BeginReply.{BeginReply}
 use Rattle.replies.specs.declared.AssignReply.{AssignReply}
 use Rattle.replies.specs.declared.WeaveReply.{WeaveReply}
 use Rattle.replies.specs.declared.PublishReply.{PublishReply}
+use Rattle.replies.specs.declared.BranchReply.{BranchReply}
 use Rattle.replies.specs.declared.SizeReply.{SizeReply}
 use Rattle.replies.specs.declared.VersionReply.{VersionReply}
 use Rattle.replies.specs.declared.ViewReply.{ViewReply}
 
 -- A store of all zeros.
 abbrev pub noStore : Store
-noStore = fresh 0 0 0 0
+noStore = record {
+  size = 0;
+  pages = 0;
+  nodes = 0;
+  updates = 0;
+  tickets = record { 0 = 0 };
+  taken = 0;
+  assigned = 0;
+  places = 0;
+  begun = 0;
+  lines = noLines;
+}
 
 -- FORMAT: the store that it made; where it is refused, all zeros.
 abbrev pub formatReply : Formatted → FormatReply
@@ -66,11 +81,11 @@ assignedReply s (Assigned.Refused k) = record { refusal = k; store = s; version 
 abbrev pub assignReply : AssignOut → AssignReply
 assignReply out = assignedReply (out .store) (out .answer)
 
--- WEAVE: the node's name, its two numbers and how many nodes are left; all 0 where it is refused.
+-- WEAVE: the node's name, with its version's number; its two numbers and how many nodes are left; all 0 where it is refused.
 abbrev pub weaveReply : Woven → WeaveReply
 weaveReply (Woven.Node x) = record {
   refusal = 0;
-  version = x .version .0;
+  version = x .version;
   first = x .first .0;
   span = x .span;
   left = x .left;
@@ -87,6 +102,14 @@ publishedReply s (Published.Refused k) = record { refusal = k; store = s; versio
 
 abbrev pub publishReply : PublishOut → PublishReply
 publishReply out = publishedReply (out .store) (out .answer)
+
+-- BRANCH: the store, and the new line; 0 where it is refused.
+abbrev pub branchedReply : Store → Branched → BranchReply
+branchedReply s (Branched.Begun l) = record { refusal = 0; store = s; line = l .0 }
+branchedReply s (Branched.Refused k) = record { refusal = k; store = s; line = 0 }
+
+abbrev pub branchReply : BranchOut → BranchReply
+branchReply out = branchedReply (out .store) (out .answer)
 
 -- READ: the refusal alone; the bytes are in the buffer.
 abbrev pub readReply : Filled → ℕ

@@ -1,11 +1,13 @@
 // What each call replies to C: structs of plain numbers, from the call's own answer, each by its definition in specs/Replies.
 // A reply begins with the number of the refusal, 0 where the call was accepted.
 ghost use mathlib.Core.Path.{_≡_};
-ghost use Rattle.replies.specs.Replies.{noStore, formatReply, beginReply, putReply, assignReply, weaveReply, publishReply, readReply, sizeReply, recentReply, stampReply, viewReply};
+ghost use Rattle.replies.specs.Replies.{noStore, formatReply, beginReply, putReply, assignReply, weaveReply, publishReply, branchReply, readReply, sizeReply, recentReply, stampReply, viewReply};
 use assign::AssignOut;
 use assign::Assigned;
 use begin::BeginOut;
 use begin::Begun;
+use branch::BranchOut;
+use branch::Branched;
 use format::Formatted;
 use format::fresh_store;
 use publish::PublishOut;
@@ -43,7 +45,7 @@ pub struct AssignReply {
     pub nodes: u64,
 }
 
-// What WEAVE replies: the node's name, its two numbers and how many nodes are left; all 0 where it is refused.
+// What WEAVE replies: the node's name, its version as line x 65,536 + version; its two numbers and how many nodes are left; all 0 where it is refused.
 #[repr(C)]
 pub struct WeaveReply {
     pub refusal: u64,
@@ -61,6 +63,14 @@ pub struct PublishReply {
     pub refusal: u64,
     pub store: Store,
     pub version: u64,
+}
+
+// What BRANCH replies: the new line; 0 where it is refused.
+#[repr(C)]
+pub struct BranchReply {
+    pub refusal: u64,
+    pub store: Store,
+    pub line: u64,
 }
 
 // What SIZE replies, in bytes.
@@ -85,10 +95,13 @@ pub struct ViewReply {
     pub length: u64,
 }
 
+// A store of all zeros: not even line 0 has begun.
 fn no_store() -> Store
     ensures { λ r. ⌜ r ≡ noStore ⌝ }
 {
-    fresh_store(0, 0, 0, 0)
+    let mut store = fresh_store(0, 0, 0, 0);
+    store.begun = 0;
+    store
 }
 
 pub fn format_reply(out: Formatted) -> FormatReply
@@ -158,7 +171,7 @@ pub fn weave_reply(out: Woven) -> WeaveReply
     match out {
         Woven::Node(x) => WeaveReply {
             refusal: 0,
-            version: x.version.0,
+            version: x.version,
             first: x.first.0,
             span: x.span,
             left: x.left as u64,
@@ -197,6 +210,25 @@ pub fn publish_reply(out: PublishOut) -> PublishReply
             refusal: k,
             store,
             version: 0,
+        },
+    }
+}
+
+pub fn branch_reply(out: BranchOut) -> BranchReply
+    ensures { λ r. ⌜ r ≡ branchReply out ⌝ }
+{
+    let store = out.store;
+    let answer = out.answer;
+    match answer {
+        Branched::Begun(l) => BranchReply {
+            refusal: 0,
+            store,
+            line: l.0,
+        },
+        Branched::Refused(k) => BranchReply {
+            refusal: k,
+            store,
+            line: 0,
         },
     }
 }

@@ -23,33 +23,34 @@ nothingKept = record { «open» = false; store = fresh 0 0 0 0 }
 unfoldable pub beyond : ℕ → ℕ → ℕ → ℕ → Bool
 beyond size pages nodes updates = ltb 256 size || (ltb 32768 (size * pages) || (ltb 2048 nodes || ltb 256 updates))
 
--- FORMAT holds the store that it would make.
+-- FORMAT holds the limits of the store that it would make.
 unfoldable pub formatWanted : ℕ → ℕ → ℕ → ℕ → Wanted
 formatWanted size pages nodes updates =
-    pick (beyond size pages nodes updates) Wanted.Nothing (Wanted.Fill (Fill.Format (fresh size pages nodes updates)))
+    pick (beyond size pages nodes updates) Wanted.Nothing (Wanted.Fill (Fill.Format size pages nodes updates))
 
 -- READ gives at most 256 bytes.
-unfoldable pub readWanted : ℕ → ℕ → ℕ → Wanted
-readWanted v offset n = pick (ltb 256 n) Wanted.Nothing (Wanted.Look (Look.Read (record { 0 = v }) (record { 0 = offset }) n))
+unfoldable pub readWanted : ℕ → ℕ → ℕ → ℕ → Wanted
+readWanted l v offset n = pick (ltb 256 n) Wanted.Nothing (Wanted.Look (Look.Read l v offset n))
 
 -- What a step asks for.
 unfoldable pub wantedBy : Step → Wanted
 wantedBy (Step.Format s p n u) = formatWanted s p n u
 wantedBy (Step.Begin n) = Wanted.Note (Note.Begin n)
-wantedBy (Step.Put t i n) = Wanted.Fill (Fill.Put (record { 0 = t }) i n)
-wantedBy (Step.Write t f) = Wanted.Note (Note.Write (record { 0 = t }) (record { 0 = f }))
-wantedBy (Step.Append t) = Wanted.Note (Note.Append (record { 0 = t }))
-wantedBy (Step.Weave t) = Wanted.Fill (Fill.Weave (record { 0 = t }))
-wantedBy Step.Publish = Wanted.Look Look.Publish
-wantedBy (Step.Read v o n) = readWanted v o n
-wantedBy (Step.Size v) = Wanted.Look (Look.Size (record { 0 = v }))
-wantedBy Step.Recent = Wanted.Look Look.Recent
-wantedBy (Step.Stamp v p) = Wanted.Look (Look.Stamp (record { 0 = v }) (record { 0 = p }))
+wantedBy (Step.Put t i n) = Wanted.Fill (Fill.Put t i n)
+wantedBy (Step.Write l t f) = Wanted.Note (Note.Write l t f)
+wantedBy (Step.Append l t) = Wanted.Note (Note.Append l t)
+wantedBy (Step.Weave t) = Wanted.Fill (Fill.Weave t)
+wantedBy (Step.Publish l) = Wanted.Look (Look.Publish l)
+wantedBy (Step.Branch l v) = Wanted.Look (Look.Branch l v)
+wantedBy (Step.Read l v o n) = readWanted l v o n
+wantedBy (Step.Size l v) = Wanted.Look (Look.Size l v)
+wantedBy (Step.Recent l) = Wanted.Look (Look.Recent l)
+wantedBy (Step.Stamp l v p) = Wanted.Look (Look.Stamp l v p)
 wantedBy Step.Malformed = Wanted.Nothing
 
 -- The store whose areas a step is lent: the one that is kept, and for FORMAT the one that it would make.
 unfoldable pub storeFor : Kept → Wanted → Store
-storeFor k (Wanted.Fill (Fill.Format s)) = s
+storeFor k (Wanted.Fill (Fill.Format s p n u)) = fresh s p n u
 storeFor k (Wanted.Fill (Fill.Put t i n)) = k .store
 storeFor k (Wanted.Fill (Fill.Weave t)) = k .store
 storeFor k (Wanted.Note w) = k .store

@@ -2,19 +2,25 @@
 // asks the store and writes the answer.
 ghost use mathlib.Core.Path.{_≡_};
 ghost use Prim.Native.Nat.{_*_, min};
+ghost use Rattle.text.specs.Buffer.{front};
+ghost use Rattle.parse.specs.Cut.{cutMeant};
 ghost use Rattle.respond.specs.Wanted.{nothingKept, beyond, formatWanted, readWanted, wantedBy, storeFor, lengthsFor};
 use answers::Kept;
 use answers::Turn;
 use answers::capped;
 use answers::refused_turn;
 use format::fresh_store;
+use lines::Line;
+use parse::Cutter;
 use parse::Step;
+use parse::step_cut;
 use register::Record;
 use tree::PageIndex;
 use tree::Ticket;
 use tree::Version;
 use turns::append_step;
 use turns::begin_step;
+use turns::branch_step;
 use turns::format_step;
 use turns::publish_step;
 use turns::put_step;
@@ -28,7 +34,8 @@ use versions::ByteOffset;
 use versions::Lengths;
 use versions::Store;
 
-// What a step asks for, in the sorts that the store takes, by the areas that it changes.
+// What a step asks for, by the areas that it changes. The numbers get their sorts where the call is made: with structs in an enum in an enum the proof of
+// `step_within` takes more steps than antt allows.
 pub enum Wanted {
     Fill(Fill),
     Note(Note),
@@ -36,27 +43,28 @@ pub enum Wanted {
     Nothing,
 }
 
-// The steps that change pages or nodes. FORMAT holds the store that it would make, PUT how many page bytes the line has.
+// The steps that change pages or nodes. FORMAT holds the limits of the store that it would make, PUT how many page bytes the line has.
 pub enum Fill {
-    Format(Store),
-    Put(Ticket, u64, usize),
-    Weave(Ticket),
+    Format(u64, u64, u64, u64),
+    Put(u64, u64, usize),
+    Weave(u64),
 }
 
 // Those that change the register alone.
 pub enum Note {
     Begin(u64),
-    Write(Ticket, PageIndex),
-    Append(Ticket),
+    Write(u64, u64, u64),
+    Append(u64, u64),
 }
 
 // Those that change no area.
 pub enum Look {
-    Publish,
-    Read(Version, ByteOffset, u64),
-    Size(Version),
-    Recent,
-    Stamp(Version, PageIndex),
+    Publish(u64),
+    Branch(u64, u64),
+    Read(u64, u64, u64, u64),
+    Size(u64, u64),
+    Recent(u64),
+    Stamp(u64, u64, u64),
 }
 
 // The program's own limits: page size, page bytes, nodes and updates of a store.
@@ -103,37 +111,46 @@ fn format_wanted(size: u64, pages: u64, nodes: u64, updates: u64) -> Wanted
     if is_beyond(size, pages, nodes, updates) {
         return Wanted::Nothing;
     }
-    Wanted::Fill(Fill::Format(fresh_store(size, pages, nodes, updates)))
+    Wanted::Fill(Fill::Format(size, pages, nodes, updates))
 }
 
 // READ is asked only within the program's own limit.
-fn read_wanted(v: u64, offset: u64, n: u64) -> Wanted
-    ensures { λ r. ⌜ r ≡ readWanted v offset n ⌝ }
+fn read_wanted(l: u64, v: u64, offset: u64, n: u64) -> Wanted
+    ensures { λ r. ⌜ r ≡ readWanted l v offset n ⌝ }
 {
     if n > MOST_READ {
         return Wanted::Nothing;
     }
-    Wanted::Look(Look::Read(Version(v), ByteOffset(offset), n))
+    Wanted::Look(Look::Read(l, v, offset, n))
 }
 
 // What a step asks for.
-pub fn wanted_by(step: Step) -> Wanted
+fn wanted_by(step: Step) -> Wanted
     ensures { λ r. ⌜ r ≡ wantedBy step ⌝ }
 {
     match step {
         Step::Format(s, p, n, u) => format_wanted(s, p, n, u),
         Step::Begin(n) => Wanted::Note(Note::Begin(n)),
-        Step::Put(t, i, n) => Wanted::Fill(Fill::Put(Ticket(t), i, n)),
-        Step::Write(t, f) => Wanted::Note(Note::Write(Ticket(t), PageIndex(f))),
-        Step::Append(t) => Wanted::Note(Note::Append(Ticket(t))),
-        Step::Weave(t) => Wanted::Fill(Fill::Weave(Ticket(t))),
-        Step::Publish => Wanted::Look(Look::Publish),
-        Step::Read(v, o, n) => read_wanted(v, o, n),
-        Step::Size(v) => Wanted::Look(Look::Size(Version(v))),
-        Step::Recent => Wanted::Look(Look::Recent),
-        Step::Stamp(v, p) => Wanted::Look(Look::Stamp(Version(v), PageIndex(p))),
+        Step::Put(t, i, n) => Wanted::Fill(Fill::Put(t, i, n)),
+        Step::Write(l, t, f) => Wanted::Note(Note::Write(l, t, f)),
+        Step::Append(l, t) => Wanted::Note(Note::Append(l, t)),
+        Step::Weave(t) => Wanted::Fill(Fill::Weave(t)),
+        Step::Publish(l) => Wanted::Look(Look::Publish(l)),
+        Step::Branch(l, v) => Wanted::Look(Look::Branch(l, v)),
+        Step::Read(l, v, o, n) => read_wanted(l, v, o, n),
+        Step::Size(l, v) => Wanted::Look(Look::Size(l, v)),
+        Step::Recent(l) => Wanted::Look(Look::Recent(l)),
+        Step::Stamp(l, v, p) => Wanted::Look(Look::Stamp(l, v, p)),
         Step::Malformed => Wanted::Nothing,
     }
+}
+
+// What the line of text that the cutter holds asks for; its page bytes go to the front of the buffer, where they fit.
+pub fn wanted_cut(c: Cutter, text: &[u8], out: &mut [u8]) -> Wanted
+    ensures { λ r. ⌜ (r ≡ wantedBy (cutMeant c (now (text .entry)) .step)) × (now (out .exit) ≡ front (cutMeant c (now (text .entry)) .bytes) (now (out .entry))) ⌝ }
+{
+    let step = step_cut(c, text, out);
+    wanted_by(step)
 }
 
 // ---- the areas that a step is lent
@@ -169,7 +186,7 @@ fn store_for(kept: Kept, wanted: Wanted) -> Store
     let store = kept.store;
     match wanted {
         Wanted::Fill(step) => match step {
-            Fill::Format(asked) => asked,
+            Fill::Format(s, p, n, u) => fresh_store(s, p, n, u),
             Fill::Put(_, _, _) => store,
             Fill::Weave(_) => store,
         },
@@ -190,9 +207,9 @@ fn fill_step(
     out: &mut [u8],
 ) -> Turn {
     match step {
-        Fill::Format(s) => format_step(kept, s, pages, nodes, register, out),
-        Fill::Put(t, i, n) => put_step(kept, t, i, n, pages, nodes, register, out),
-        Fill::Weave(t) => weave_step(kept, t, pages, nodes, register, out),
+        Fill::Format(s, p, n, u) => format_step(kept, s, p, n, u, pages, nodes, register, out),
+        Fill::Put(t, i, n) => put_step(kept, Ticket(t), i, n, pages, nodes, register, out),
+        Fill::Weave(t) => weave_step(kept, Ticket(t), pages, nodes, register, out),
     }
 }
 
@@ -206,8 +223,17 @@ fn note_step(
 ) -> Turn {
     match step {
         Note::Begin(n) => begin_step(kept, n, pages, nodes, register, out),
-        Note::Write(t, f) => write_step(kept, t, f, pages, nodes, register, out),
-        Note::Append(t) => append_step(kept, t, pages, nodes, register, out),
+        Note::Write(l, t, f) => write_step(
+            kept,
+            Line(l),
+            Ticket(t),
+            PageIndex(f),
+            pages,
+            nodes,
+            register,
+            out,
+        ),
+        Note::Append(l, t) => append_step(kept, Line(l), Ticket(t), pages, nodes, register, out),
     }
 }
 
@@ -220,11 +246,31 @@ fn look_step(
     out: &mut [u8],
 ) -> Turn {
     match step {
-        Look::Publish => publish_step(kept, pages, nodes, register, out),
-        Look::Read(v, o, n) => read_step(kept, v, o, n, pages, nodes, register, out),
-        Look::Size(v) => size_step(kept, v, pages, nodes, register, out),
-        Look::Recent => recent_step(kept, pages, nodes, register, out),
-        Look::Stamp(v, p) => stamp_step(kept, v, p, pages, nodes, register, out),
+        Look::Publish(l) => publish_step(kept, Line(l), pages, nodes, register, out),
+        Look::Branch(l, v) => branch_step(kept, Line(l), Version(v), pages, nodes, register, out),
+        Look::Read(l, v, o, n) => read_step(
+            kept,
+            Line(l),
+            Version(v),
+            ByteOffset(o),
+            n,
+            pages,
+            nodes,
+            register,
+            out,
+        ),
+        Look::Size(l, v) => size_step(kept, Line(l), Version(v), pages, nodes, register, out),
+        Look::Recent(l) => recent_step(kept, Line(l), pages, nodes, register, out),
+        Look::Stamp(l, v, p) => stamp_step(
+            kept,
+            Line(l),
+            Version(v),
+            PageIndex(p),
+            pages,
+            nodes,
+            register,
+            out,
+        ),
     }
 }
 

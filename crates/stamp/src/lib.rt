@@ -1,17 +1,20 @@
-// STAMP: the version that last wrote a page, as of a version.
+// STAMP: the version that last wrote a page, as of a version of a line.
 ghost use mathlib.Core.Path.{_≡_};
 ghost use Rattle.stamp.specs.Stamp.{pageRefusal, versionFound, stamped, stampOut};
 ghost use Rattle.versions.specs.Store.{areasOf};
+use lines::Line;
+use lines::version_of;
+use register::Part;
 use register::Record;
-use register::version_record;
+use register::version_part;
 use tree::Found;
 use tree::PageIndex;
 use tree::Version;
-use versions::Lengths;
 use versions::Store;
-use versions::areas_differ;
 use versions::lengths_of;
+use versions::number_on;
 use versions::pages_by;
+use versions::snapshot_refusal;
 use walk::find_page;
 use walk::is_lost;
 
@@ -21,24 +24,29 @@ pub enum Stamped {
     Refused(u64),
 }
 
-// The refusal of STAMP and of VIEW, with version v's record q and where the walk ends.
-pub fn page_refusal(s: Store, l: Lengths, q: Record, v: Version, page: PageIndex, x: Found) -> u64
-    ensures { λ k. ⌜ k ≡ pageRefusal s l q (v .0) (page .0) x ⌝ }
+// The refusal of STAMP and of VIEW in a page area of so many pages, by the number k of the rows up to 16, with the part q of version v, numbered c, and where the walk
+// ends.
+pub fn page_refusal(
+    k: u64,
+    pages: u64,
+    q: Part,
+    c: u64,
+    v: Version,
+    page: PageIndex,
+    x: Found,
+) -> u64
+    ensures { λ r. ⌜ r ≡ pageRefusal k pages q c (v .0) (page .0) x ⌝ }
 {
-    if areas_differ(s, l) {
-        return 3;
+    if k != 0 {
+        return k;
     }
-    let last = s.published;
-    if last.0 < v.0 {
-        return 16;
-    }
-    if s.updates < v.0 {
+    if q.name != c {
         return 19;
     }
     if pages_by(v, q) <= page.0 {
         return 17;
     }
-    if is_lost(s.pages, x) {
+    if is_lost(pages, x) {
         return 19;
     }
     0
@@ -53,25 +61,28 @@ fn stamped_by(k: u64, x: Found) -> Stamped
     }
     match x {
         Found::Lost => Stamped::Is(Version(0)),
-        Found::Leaf(version, _) => Stamped::Is(version),
+        Found::Leaf(version, _) => Stamped::Is(version_of(version.0)),
     }
 }
 
-// STAMP v, page: the version that last wrote the page, as of version v.
+// STAMP line, v, page: the version that last wrote the page, as of version v of the line.
 pub fn stamp(
     s: Store,
     pages: &[u8],
     nodes: &[u32],
     register: &[Record],
+    l: Line,
     v: Version,
     page: PageIndex,
 ) -> Stamped
     ensures { λ r.
         let a = areasOf (now (pages .entry)) (now (nodes .entry)) (now (register .entry)) in
-        ⌜ r ≡ stampOut s a (v .0) (page .0) ⌝ }
+        ⌜ r ≡ stampOut s a (l .0) (v .0) (page .0) ⌝ }
 {
-    let q = version_record(register, v);
-    let x = find_page(s, nodes, register, v, page);
-    let l = lengths_of(pages, nodes, register);
-    stamped_by(page_refusal(s, l, q, v, page, x), x)
+    let g = lengths_of(pages, nodes, register);
+    let c = number_on(s, l, v);
+    let q = version_part(register, c);
+    let x = find_page(nodes, register, c, page);
+    let k = snapshot_refusal(s, g, l, v);
+    stamped_by(page_refusal(k, s.pages, q, c, v, page, x), x)
 }

@@ -5,6 +5,7 @@ ghost use Prim.Native.Nat.{_≤_};
 ghost use lib.ListN.{length};
 ghost use Rattle.steps.specs.Places.{nextPlace, samePlace, isDue};
 use answers::Kept;
+use answers::Turn;
 use parse::Cutter;
 use parse::Fed;
 use register::Record;
@@ -55,6 +56,20 @@ fn same_place(kept: Kept, cutter: Cutter) -> Place
     }
 }
 
+// The turn of the line that the cutter holds, with its answer at the front of out.
+fn turn(
+    kept: Kept,
+    c: Cutter,
+    text: &[u8],
+    pages: &mut [u8],
+    nodes: &mut [u32],
+    register: &mut [Record],
+    out: &mut [u8],
+) -> Turn {
+    let wanted = respond::wanted_cut(c, text, out);
+    respond::respond(kept, wanted, pages, nodes, register, out)
+}
+
 // Answers the line that the cutter holds, and writes the answer out.
 fn answer(
     kept: Kept,
@@ -65,8 +80,7 @@ fn answer(
     register: &mut [Record],
 ) -> Place {
     let mut out = [0u8; 1024];
-    let wanted = respond::wanted_by(parse::step_cut(c, text, &mut out));
-    let t = respond::respond(kept, wanted, pages, nodes, register, &mut out);
+    let t = turn(kept, c, text, pages, nodes, register, &mut out);
     let written = write_out(&out, t.len);
     next_place(t.kept, written)
 }

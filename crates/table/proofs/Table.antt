@@ -1,13 +1,13 @@
 -- The laws by which a chain of tests in the code is read off the table, a row at a time.
 -- Assumes nothing.
-use mathlib.Core.Path.{_≡_, refl, sym}
+use mathlib.Core.Path.{_≡_, refl, sym, _∙_}
 use mathlib.Core.Bool.{Bool, true, false, cond, _&&_, _||_, or-true, and-false}
-use mathlib.Core.List.{List, [], _∷_, _++_}
+use mathlib.Core.List.{List, [], _∷_, _++_, append-assoc}
 use mathlib.Core.Logic.{_⊎_, inl, inr, ⊎-map}
 use Prim.Native.Nat.{ℕ, zero, suc, _≤_, _<_}
 use native.Mathlib.Omega.{arith}
 use borrow.Author.Tests.{le-leb, lt-leb, lt-ltb, le-ltb, eq-eqb, ne-eqb, leb-false, ltb-false, eqb-false, eqb-true, not-false}
-use Rattle.table.specs.Table.{Cond, _≤?_, _<?_, _≡?_, _≢?_, _and_, _or_, test, holds, Row, _gives_, firstRefusal, unless, everyCall}
+use Rattle.table.specs.Table.{Cond, _≤?_, _<?_, _≡?_, _≢?_, _and_, _or_, test, holds, Row, _gives_, firstRefusal, orElse, unless, everyCall}
 
 -- A condition as a statement, and its denial: what `omega` and the code's tests speak of.
 abbrev pub Holds : Cond → Type 0
@@ -115,9 +115,42 @@ passed [] t e = tt
 passed ((c gives zero) ∷ rows) t e = absurd t
 passed ((c gives suc k) ∷ rows) t e = let p = one-row (holds c) k (firstRefusal rows) e in (fails c (p .0), passed rows t (p .1))
 
+-- ---- rows in two parts: the number of the first decides where it is not 0, else that of the second
+
+pub orElse-0 : (k r : ℕ) → k ≡ 0 → orElse k r ≡ r
+unfolding orElse
+orElse-0 zero r e = refl
+orElse-0 (suc k) r e = absurd (omega arith)
+
+pub orElse-suc : (k r : ℕ) → (k ≡ 0 → ⊥) → orElse k r ≡ k
+unfolding orElse
+orElse-suc zero r h = absurd (h refl)
+orElse-suc (suc k) r h = refl
+
+row-parts : (b : Bool) (k m r : ℕ) → cond b (suc k) (orElse m r) ≡ orElse (cond b (suc k) m) r
+unfolding orElse
+row-parts true k m r = refl
+row-parts false k m r = refl
+
+pub parts : (rows more : List Row) → Numbered rows → firstRefusal (rows ++ more) ≡ orElse (firstRefusal rows) (firstRefusal more)
+unfolding firstRefusal
+parts [] more t = sym (orElse-0 0 (firstRefusal more) refl)
+parts ((c gives zero) ∷ rows) more t = absurd t
+parts ((c gives suc k) ∷ rows) more t = rw (parts rows more t) (row-parts (holds c) k (firstRefusal rows) (firstRefusal more))
+
+-- At a return of a function that is handed the first part's number: that is 0, and the rows after it decide.
+pub second : {k r : ℕ} {rows : List Row} → k ≡ 0 → First rows r → r ≡ orElse k (firstRefusal rows)
+second {k} {r} {rows} e f = first f ∙ sym (orElse-0 k (firstRefusal rows) e)
+
+-- A call's rows, where a callee has tested row 3 and the rows after it that several calls share. (Written-out rows are `rows ++ more` by computing.)
+pub call-parts : (differ : Cond) (rows more : List Row) (lost : Cond) → Numbered rows
+    → firstRefusal (everyCall differ (rows ++ more) lost) ≡ orElse (firstRefusal ((differ gives 3) ∷ rows)) (firstRefusal (more ++ (lost gives 19) ∷ []))
+call-parts differ rows more lost t = rw (append-assoc rows more ((lost gives 19) ∷ [])) (parts ((differ gives 3) ∷ rows) (more ++ (lost gives 19) ∷ []) t)
+
 -- ---- where rows 3 and 19 fail, a call's number is that of its own rows
 
-last-fails : (rows : List Row) (c : Cond) (k : ℕ) → holds c ≡ false → firstRefusal (rows ++ (c gives k) ∷ []) ≡ firstRefusal rows
+-- A last row that fails gives nothing.
+pub last-fails : (rows : List Row) (c : Cond) (k : ℕ) → holds c ≡ false → firstRefusal (rows ++ (c gives k) ∷ []) ≡ firstRefusal rows
 unfolding firstRefusal
 last-fails [] c k e = rw e
 last-fails ((d gives r) ∷ rows) c k e = rw (last-fails rows c k e)

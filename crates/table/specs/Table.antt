@@ -40,6 +40,11 @@ unfoldable pub firstRefusal : List Row → ℕ
 firstRefusal [] = 0
 firstRefusal ((c gives k) ∷ rows) = cond (holds c) k (firstRefusal rows)
 
+-- Rows in two parts: the number of the first part stands, and where that is 0 the second part's.
+unfoldable pub orElse : ℕ → ℕ → ℕ
+orElse zero r = r
+orElse (suc k) r = suc k
+
 -- Where the table refuses, nothing moves: what there was, and what an accepted call leaves.
 unfoldable pub unless : {A : Type 0} → ℕ → A → A → A
 unless zero was done = done
@@ -100,12 +105,17 @@ putRows there t tickets version n i bit bytes size =
     ∷ (bytes ≢? size gives 11)
     ∷ []
 
--- ASSIGN ticket t at page f: `all` where its n pages are put; the size of the last assigned version; node places taken, capacity, and the count wanted.
--- An append's f is that size, so that 13 never holds of it.
-unfoldable pub assignRows : Cond → ℕ → ℕ → ℕ → Bool → ℕ → ℕ → ℕ → ℕ → ℕ → ℕ → List Row
-assignRows there t tickets version all f blob n places nodes count =
+-- No such line, of so many: lines count from 0.
+abbrev pub noLine : ℕ → ℕ → Cond
+noLine l lines = lines ≤? l
+
+-- ASSIGN ticket t at page f of line l: `all` where its n pages are put; the size of the line's last assigned version; node places taken, capacity, and the count
+-- wanted. An append's f is that size, so that 13 never holds of it.
+unfoldable pub assignRows : Cond → ℕ → ℕ → ℕ → ℕ → ℕ → Bool → ℕ → ℕ → ℕ → ℕ → ℕ → ℕ → List Row
+assignRows there t tickets version l lines all f blob n places nodes count =
     (noTicket t tickets gives 7)
     ∷ (there and version ≢? 0 gives 8)
+    ∷ (noLine l lines gives 20)
     ∷ (there and test (not all) gives 12)
     ∷ (blob <? f gives 13)
     ∷ (there and 4096 <? f + n gives 14)
@@ -119,22 +129,38 @@ weaveRows there kept t tickets version woven count =
     ∷ (there and version ≡? 0 or there and kept and count ≤? woven gives 8)
     ∷ []
 
--- ---- READ, SIZE, STAMP, VIEW. `there` is that the version's record lies within the register (version 0 needs none).
+-- ---- PUBLISH and RECENT of line l, of so many lines
 
-unfoldable pub sizeRows : ℕ → ℕ → List Row
-sizeRows v published = (published <? v gives 16) ∷ []
+unfoldable pub lineRows : ℕ → ℕ → List Row
+lineRows l lines = (noLine l lines gives 20) ∷ []
+
+-- ---- BRANCH from version v of line l; at most sixteen lines
+
+unfoldable pub branchRows : ℕ → ℕ → ℕ → ℕ → List Row
+branchRows l lines v published =
+    (noLine l lines gives 20)
+    ∷ (published <? v gives 16)
+    ∷ (16 ≤? lines gives 21)
+    ∷ []
+
+-- ---- READ, SIZE, STAMP, VIEW of version v of line l. `there` is that the version's record is there (version 0 needs none).
+
+unfoldable pub sizeRows : ℕ → ℕ → ℕ → ℕ → List Row
+sizeRows l lines v published = (noLine l lines gives 20) ∷ (published <? v gives 16) ∷ []
 
 -- A range of bytes in a snapshot of so many bytes, and a buffer.
-unfoldable pub readRows : Cond → ℕ → ℕ → ℕ → ℕ → ℕ → ℕ → List Row
-readRows there v published total offset len buffer =
-    (published <? v gives 16)
+unfoldable pub readRows : Cond → ℕ → ℕ → ℕ → ℕ → ℕ → ℕ → ℕ → ℕ → List Row
+readRows there l lines v published total offset len buffer =
+    (noLine l lines gives 20)
+    ∷ (published <? v gives 16)
     ∷ (there and total <? offset + len gives 17)
     ∷ (buffer <? len gives 18)
     ∷ []
 
 -- A page of a snapshot of so many pages.
-unfoldable pub pageRows : Cond → ℕ → ℕ → ℕ → ℕ → List Row
-pageRows there v published pages p =
-    (published <? v gives 16)
+unfoldable pub pageRows : Cond → ℕ → ℕ → ℕ → ℕ → ℕ → ℕ → List Row
+pageRows there l lines v published pages p =
+    (noLine l lines gives 20)
+    ∷ (published <? v gives 16)
     ∷ (there and pages ≤? p gives 17)
     ∷ []

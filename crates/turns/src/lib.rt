@@ -4,6 +4,7 @@ use answers::Kept;
 use answers::Turn;
 use answers::assign_turn;
 use answers::begin_turn;
+use answers::branch_turn;
 use answers::capped;
 use answers::format_turn;
 use answers::publish_turn;
@@ -13,27 +14,29 @@ use answers::recent_turn;
 use answers::size_turn;
 use answers::stamp_turn;
 use answers::weave_turn;
+use lines::Line;
 use register::Record;
 use tree::PageIndex;
 use tree::Ticket;
 use tree::Version;
 use versions::ByteOffset;
-use versions::Store;
 
-// FORMAT, for the store that it would make.
 pub fn format_step(
     kept: Kept,
-    asked: Store,
+    size: u64,
+    page_count: u64,
+    node_count: u64,
+    updates: u64,
     pages: &mut [u8],
     nodes: &mut [u32],
     register: &mut [Record],
     out: &mut [u8],
 ) -> Turn {
     let a = format::format(
-        asked.size,
-        asked.pages,
-        asked.nodes,
-        asked.updates,
+        size,
+        page_count,
+        node_count,
+        updates,
         pages,
         nodes,
         register,
@@ -71,6 +74,7 @@ pub fn put_step(
 
 pub fn write_step(
     kept: Kept,
+    l: Line,
     t: Ticket,
     f: PageIndex,
     pages: &[u8],
@@ -78,19 +82,20 @@ pub fn write_step(
     register: &mut [Record],
     out: &mut [u8],
 ) -> Turn {
-    let a = assign::write(kept.store, pages, nodes, register, t, f);
+    let a = assign::write(kept.store, pages, nodes, register, l, t, f);
     assign_turn(kept, a, out)
 }
 
 pub fn append_step(
     kept: Kept,
+    l: Line,
     t: Ticket,
     pages: &[u8],
     nodes: &[u32],
     register: &mut [Record],
     out: &mut [u8],
 ) -> Turn {
-    let a = assign::append(kept.store, pages, nodes, register, t);
+    let a = assign::append(kept.store, pages, nodes, register, l, t);
     assign_turn(kept, a, out)
 }
 
@@ -108,40 +113,57 @@ pub fn weave_step(
 
 pub fn publish_step(
     kept: Kept,
+    l: Line,
     pages: &[u8],
     nodes: &[u32],
     register: &[Record],
     out: &mut [u8],
 ) -> Turn {
-    let a = publish::publish(kept.store, pages, nodes, register);
+    let a = publish::publish(kept.store, pages, nodes, register, l);
     publish_turn(kept, a, out)
 }
 
-pub fn size_step(
+pub fn branch_step(
     kept: Kept,
+    l: Line,
     v: Version,
     pages: &[u8],
     nodes: &[u32],
     register: &[Record],
     out: &mut [u8],
 ) -> Turn {
-    let a = versions::size(kept.store, pages, nodes, register, v);
-    size_turn(kept, a, out)
+    let a = branch::branch(kept.store, pages, nodes, register, l, v);
+    branch_turn(kept, a, out)
 }
 
-pub fn recent_step(
+pub fn size_step(
     kept: Kept,
+    l: Line,
+    v: Version,
     pages: &[u8],
     nodes: &[u32],
     register: &[Record],
     out: &mut [u8],
 ) -> Turn {
-    let a = versions::recent(kept.store, pages, nodes, register);
+    let a = versions::size(kept.store, pages, nodes, register, l, v);
+    size_turn(kept, a, out)
+}
+
+pub fn recent_step(
+    kept: Kept,
+    l: Line,
+    pages: &[u8],
+    nodes: &[u32],
+    register: &[Record],
+    out: &mut [u8],
+) -> Turn {
+    let a = versions::recent(kept.store, pages, nodes, register, l);
     recent_turn(kept, a, out)
 }
 
 pub fn stamp_step(
     kept: Kept,
+    l: Line,
     v: Version,
     page: PageIndex,
     pages: &[u8],
@@ -149,12 +171,13 @@ pub fn stamp_step(
     register: &[Record],
     out: &mut [u8],
 ) -> Turn {
-    let a = stamp::stamp(kept.store, pages, nodes, register, v, page);
+    let a = stamp::stamp(kept.store, pages, nodes, register, l, v, page);
     stamp_turn(kept, a, out)
 }
 
 pub fn read_step(
     kept: Kept,
+    l: Line,
     v: Version,
     offset: ByteOffset,
     n: u64,
@@ -164,6 +187,16 @@ pub fn read_step(
     out: &mut [u8],
 ) -> Turn {
     let mut bytes = [0u8; 256];
-    let a = read::read(kept.store, pages, nodes, register, v, offset, n, &mut bytes);
+    let a = read::read(
+        kept.store,
+        pages,
+        nodes,
+        register,
+        l,
+        v,
+        offset,
+        n,
+        &mut bytes,
+    );
     read_turn(kept, n, a, &bytes, out)
 }

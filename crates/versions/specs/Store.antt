@@ -1,11 +1,14 @@
--- The areas that a call is lent, row 3, and the records of tickets and versions: what every call reads.
+-- The areas that a call is lent, row 3, the lines, and the records of tickets, updates and versions: what every call reads.
 -- Where a row reads a record that lies past its area the row does not hold, and 19 does; a number past a limit is read as within it (`updateOf`).
 use mathlib.Core.List.{List}
-use Prim.Native.Nat.{ℕ, _*_}
-use lib.ListN.{length}
+use Prim.Native.Nat.{ℕ, _*_, min}
+use lib.ListN.{length, set}
 use Rattle.tree.specs.Tree.{nth}
-use Rattle.register.specs.Register.{noRecord}
+use Rattle.lines.specs.Lines.{branchAt, ownerOf, numberOf}
+use Rattle.lines.specs.declared.Branch.{Branch}
+use Rattle.register.specs.Register.{noRecord, versionPart}
 use Rattle.register.specs.declared.Record.{Record}
+use Rattle.register.specs.declared.Part.{Part}
 use Rattle.table.specs.Table.{Cond, _≢?_, _or_}
 use Rattle.versions.specs.declared.Store.{Store}
 use Rattle.versions.specs.declared.Lengths.{Lengths}
@@ -24,11 +27,42 @@ lengthsOf a = record { pages = length (a .pages); nodes = length (a .nodes); reg
 
 -- Row 3: the areas' lengths are not those of the store. The page area is S bytes a page, the node area two numbers a node.
 abbrev pub differ : Store → Lengths → Cond
-differ s l = l .pages ≢? s .size * s .pages or l .nodes ≢? 2 * s .nodes or l .register ≢? s .updates
+differ s g = g .pages ≢? s .size * s .pages or g .nodes ≢? 2 * s .nodes or g .register ≢? s .updates
 
 abbrev pub areasDiffer : Store → Areas → Cond
 areasDiffer s a = differ s (lengthsOf a)
 
--- Ticket t's record and version v's, counted from 1.
+-- Record k, counted from 1: ticket k's part, and update k's.
 abbrev pub recordOf : Areas → ℕ → Record
-recordOf a t = nth noRecord (a .register) t
+recordOf a k = nth noRecord (a .register) k
+
+-- ---- the lines
+
+-- How many have begun, at most sixteen.
+abbrev pub linesIn : Store → ℕ
+linesIn s = min (s .begun) 16
+
+-- Line l's state, and the store with it anew.
+abbrev pub lineIn : Store → ℕ → Branch
+lineIn s l = branchAt (s .lines) l
+
+abbrev pub withLine : Store → ℕ → Branch → Store
+withLine s l b = record {
+  size = s .size;
+  pages = s .pages;
+  nodes = s .nodes;
+  updates = s .updates;
+  tickets = s .tickets;
+  taken = s .taken;
+  assigned = s .assigned;
+  places = s .places;
+  begun = s .begun;
+  lines = set (s .lines) l b;
+}
+
+-- The number of version v of line l, by the line on which it got its version, and what its record says.
+abbrev pub numberOn : Store → ℕ → ℕ → ℕ
+numberOn s l v = numberOf (ownerOf (s .lines) l v) v
+
+abbrev pub partOn : Store → Areas → ℕ → ℕ → Part
+partOn s a l v = versionPart (a .register) (numberOn s l v)

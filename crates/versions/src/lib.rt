@@ -1,4 +1,4 @@
-// The version keeper: the store, its areas and records, and what every call asks of them; SIZE and RECENT. The other calls stand above, a crate each.
+// The version keeper: the store, its lines, areas and records, and what every call asks of them; SIZE and RECENT. The other calls stand above, a crate each.
 // A call takes the store by value and its areas lent, and hands the store back. No call has a `requires`. A covered function finds the refusal, by the rows
 // of the table in their order; the call acts where it finds none.
 ghost use mathlib.Core.Path.{_≡_};
@@ -6,25 +6,32 @@ ghost use Prim.Native.Nat.{pred, min, _+_, _-_, _*_, _^_};
 ghost use mathlib.Core.List.{[], _∷_};
 ghost use lib.Dec.{eqb};
 ghost use Rattle.tree.specs.Tree.{countOf};
+ghost use Rattle.lines.specs.Lines.{ownerOf};
 ghost use Rattle.register.specs.Register.{updateOf, withRecord};
-ghost use Rattle.table.specs.Table.{_gives_, firstRefusal, holds, noTicket, unless};
-ghost use Rattle.versions.specs.Store.{areasOf, lengthsOf, differ};
-ghost use Rattle.versions.specs.Size.{sizeRefusal, pagesBy, bytesBy, sizedBy, sizeOut};
-ghost use Rattle.versions.specs.Recent.{recentBy, recentOut};
+ghost use Rattle.table.specs.Table.{_gives_, firstRefusal, orElse, holds, noTicket, unless};
+ghost use Rattle.versions.specs.Store.{areasOf, lengthsOf, differ, linesIn, lineIn, withLine, numberOn};
+ghost use Rattle.versions.specs.Size.{notThere, refusalBy, snapshotRefusal, openedBy, pagesBy, bytesBy, sized, sizeOut};
+ghost use Rattle.versions.specs.Recent.{lineRefusal, latest, recentOut};
+use lines::Branch;
+use lines::Line;
+use lines::no_branch;
+use lines::number_of;
+use register::Part;
 use register::Record;
 use register::extent_of;
 use register::set_record;
-use register::version_record;
+use register::version_part;
 use tree::Ticket;
 use tree::Version;
 use tree::node_count;
 use tree::root_height;
+use tree::smaller;
 
 // A byte's place in the blob.
 pub struct ByteOffset(pub u64);
 
-// One store: page size and capacities; the last ticket given and how many page numbers are taken; the last version assigned, how many node places
-// are taken, the last version published, and the size in pages of the last version assigned.
+// One store: page size and capacities; the last ticket given and how many page numbers are taken; how many updates are assigned, on all lines, and how many node
+// places are taken; how many lines have begun, and their states.
 #[repr(C)]
 pub struct Store {
     pub size: u64,
@@ -33,10 +40,10 @@ pub struct Store {
     pub updates: u64,
     pub tickets: Ticket,
     pub taken: u64,
-    pub assigned: Version,
+    pub assigned: u64,
     pub places: u64,
-    pub published: Version,
-    pub blob: u64,
+    pub begun: u64,
+    pub lines: [Branch; 16],
 }
 
 // The lengths of the areas that a call is lent: bytes, numbers and records.
@@ -44,6 +51,12 @@ pub struct Lengths {
     pub pages: usize,
     pub nodes: usize,
     pub register: usize,
+}
+
+// What a call on a version begins with: the number of its refusal by rows 3, 20 and 16, and the version's number.
+pub struct Opened {
+    pub refusal: u64,
+    pub number: u64,
 }
 
 // What SIZE answers, in bytes.
@@ -75,16 +88,16 @@ fn is_product(x: u64, a: u64, b: u64) -> bool
 }
 
 // Row 3: the areas' lengths are not those of the store.
-pub fn areas_differ(s: Store, l: Lengths) -> bool
-    ensures { λ r. ⌜ r ≡ holds (differ s l) ⌝ }
+pub fn areas_differ(s: Store, g: Lengths) -> bool
+    ensures { λ r. ⌜ r ≡ holds (differ s g) ⌝ }
 {
-    if !is_product(l.pages as u64, s.size, s.pages) {
+    if !is_product(g.pages as u64, s.size, s.pages) {
         return true;
     }
-    if !is_product(l.nodes as u64, 2, s.nodes) {
+    if !is_product(g.nodes as u64, 2, s.nodes) {
         return true;
     }
-    l.register as u64 != s.updates
+    g.register as u64 != s.updates
 }
 
 // The index of the record that has a ticket's part.
@@ -94,18 +107,18 @@ pub fn ticket_index(t: Ticket) -> usize
     if t.0 == 0 { 0 } else { (t.0 - 1) as usize }
 }
 
-// The index of the record that has a version's part.
-pub fn version_index(v: Version) -> usize
-    ensures { λ r. ⌜ r ≡ pred (v .0) ⌝ }
+// The index of the k-th record.
+pub fn record_index(k: u64) -> usize
+    ensures { λ r. ⌜ r ≡ pred k ⌝ }
 {
-    if v.0 == 0 { 0 } else { (v.0 - 1) as usize }
+    if k == 0 { 0 } else { (k - 1) as usize }
 }
 
 // The lengths of the areas that a call is lent.
 pub fn lengths_of(pages: &[u8], nodes: &[u32], register: &[Record]) -> Lengths
-    ensures { λ l.
+    ensures { λ g.
         let a = areasOf (now (pages .entry)) (now (nodes .entry)) (now (register .entry)) in
-        ⌜ l ≡ lengthsOf a ⌝ }
+        ⌜ g ≡ lengthsOf a ⌝ }
 {
     Lengths {
         pages: pages.len(),
@@ -131,10 +144,10 @@ pub fn capped_sum(a: u64, b: u64) -> u64
 }
 
 // Rows 3 and 7, with which the calls on a ticket begin.
-pub fn ticket_refusal(s: Store, l: Lengths, t: Ticket) -> u64
-    ensures { λ k. ⌜ k ≡ firstRefusal ((differ s l gives 3) ∷ (noTicket (t .0) (s .tickets .0) gives 7) ∷ []) ⌝ }
+pub fn ticket_refusal(s: Store, g: Lengths, t: Ticket) -> u64
+    ensures { λ k. ⌜ k ≡ firstRefusal ((differ s g gives 3) ∷ (noTicket (t .0) (s .tickets .0) gives 7) ∷ []) ⌝ }
 {
-    if areas_differ(s, l) {
+    if areas_differ(s, g) {
         return 3;
     }
     if t.0 == 0 {
@@ -146,32 +159,148 @@ pub fn ticket_refusal(s: Store, l: Lengths, t: Ticket) -> u64
     0
 }
 
-// The node count of a record's update.
-pub fn count_of(q: Record) -> u64
+// The node count of an update.
+pub fn count_of(q: Part) -> u64
     ensures { λ r. ⌜ r ≡ countOf (updateOf q) ⌝ }
 {
     let e = extent_of(q);
     node_count(e.f, e.last, root_height(e.size))
 }
 
-// The refusal of SIZE.
-fn size_refusal(s: Store, l: Lengths, v: Version) -> u64
-    ensures { λ k. ⌜ k ≡ sizeRefusal s l (v .0) ⌝ }
+// ---- the lines
+
+// How many lines have begun: at most sixteen.
+pub fn lines_begun(s: Store) -> u64
+    ensures { λ r. ⌜ r ≡ linesIn s ⌝ }
 {
-    if areas_differ(s, l) {
+    smaller(s.begun, 16)
+}
+
+// A line's state; past the sixteen that of a line that has not begun.
+pub fn line_state(s: Store, l: Line) -> Branch
+    ensures { λ r. ⌜ r ≡ lineIn s (l .0) ⌝ }
+{
+    let i = l.0;
+    if i < 16 {
+        s.lines[i as usize]
+    } else {
+        no_branch()
+    }
+}
+
+// The store with a line's state anew; past the sixteen nothing changes.
+pub fn with_line(s: Store, l: Line, b: Branch) -> Store
+    ensures { λ r. ⌜ r ≡ withLine s (l .0) b ⌝ }
+{
+    let i = l.0;
+    let mut done = s;
+    if i < 16 {
+        done.lines[i as usize] = b;
+    }
+    done
+}
+
+// The line on which version v of line l got its number.
+pub fn owner_of(s: Store, l: Line, v: Version) -> Line
+    ensures { λ r. ⌜ r ≡ record { 0 = ownerOf (s .lines) (l .0) (v .0) } ⌝ }
+{
+    let mut at = l.0;
+    let mut left = 15u64;
+    while left > 0 {
+        let b = line_state(s, Line(at));
+        if b.start.0 < v.0 {
+            return Line(at);
+        }
+        at = smaller(b.source.0, 15);
+        left = left - 1;
+    }
+    Line(at)
+}
+
+// The number of version v of line l. One of the line's own has its number by the line; a shared one is looked for on the lines that the line comes from.
+pub fn number_on(s: Store, l: Line, v: Version) -> u64
+    ensures { λ r. ⌜ r ≡ numberOn s (l .0) (v .0) ⌝ }
+{
+    let i = l.0;
+    if i < 16 {
+        let b = s.lines[i as usize];
+        if b.start.0 < v.0 {
+            return number_of(l, v);
+        }
+    }
+    number_of(owner_of(s, l, v), v)
+}
+
+// Rows 3 and 20, with which PUBLISH and RECENT begin.
+pub fn line_refusal(s: Store, g: Lengths, l: Line) -> u64
+    ensures { λ k. ⌜ k ≡ lineRefusal s g (l .0) ⌝ }
+{
+    if areas_differ(s, g) {
         return 3;
     }
-    if s.published.0 < v.0 {
-        return 16;
-    }
-    if s.updates < v.0 {
-        return 19;
+    if lines_begun(s) <= l.0 {
+        return 20;
     }
     0
 }
 
-// The size in pages of version v, as its record q says; version 0 is empty.
-pub fn pages_by(v: Version, q: Record) -> u64
+// Rows 3, 20 and 16, with which every call on a version begins; the line's last published version is given.
+fn refusal_by(s: Store, g: Lengths, l: Line, v: Version, published: Version) -> u64
+    ensures { λ k. ⌜ k ≡ refusalBy s g (l .0) (v .0) (published .0) ⌝ }
+{
+    if areas_differ(s, g) {
+        return 3;
+    }
+    if lines_begun(s) <= l.0 {
+        return 20;
+    }
+    if published.0 < v.0 {
+        return 16;
+    }
+    0
+}
+
+// The same.
+pub fn snapshot_refusal(s: Store, g: Lengths, l: Line, v: Version) -> u64
+    ensures { λ k. ⌜ k ≡ snapshotRefusal s g (l .0) (v .0) ⌝ }
+{
+    let b = line_state(s, l);
+    refusal_by(s, g, l, v, b.published)
+}
+
+// What a call on a version begins with, for any version: a shared one is looked for on the lines that its line comes from.
+fn open_shared(s: Store, g: Lengths, l: Line, v: Version) -> Opened
+    ensures { λ r. ⌜ r ≡ openedBy s g (l .0) (v .0) ⌝ }
+{
+    Opened {
+        refusal: snapshot_refusal(s, g, l, v),
+        number: number_on(s, l, v),
+    }
+}
+
+// The same, for VIEW alone; a version of the line's own has its number by the line. The array of lines is indexed here and nowhere else on the way of such a call: by an index
+// that is computed the compiler copies it, once for each function that does so, and it takes a function that is called from one place into its caller.
+pub fn open_version(s: Store, g: Lengths, l: Line, v: Version) -> Opened
+    ensures { λ r. ⌜ r ≡ openedBy s g (l .0) (v .0) ⌝ }
+{
+    let i = l.0;
+    if i >= 16 {
+        return open_shared(s, g, l, v);
+    }
+    let b = s.lines[i as usize];
+    if v.0 <= b.start.0 {
+        return open_shared(s, g, l, v);
+    }
+    Opened {
+        refusal: refusal_by(s, g, l, v, b.published),
+        number: number_of(l, v),
+    }
+}
+
+// ---- SIZE
+
+// The size in pages of version v, as its record's part q says; version 0 is empty.
+pub fn pages_by(v: Version, q: Part) -> u64
     ensures { λ r. ⌜ r ≡ pagesBy (v .0) q ⌝ }
 {
     if v.0 == 0 {
@@ -183,55 +312,69 @@ pub fn pages_by(v: Version, q: Record) -> u64
 }
 
 // So many pages in bytes. A product that would wrap answers the largest number.
-pub fn bytes_by(s: Store, pages: u64) -> u64
-    ensures { λ r. ⌜ r ≡ bytesBy s pages ⌝ }
+pub fn bytes_by(size: u64, pages: u64) -> u64
+    ensures { λ r. ⌜ r ≡ bytesBy size pages ⌝ }
 {
-    if s.size == 0 {
+    if size == 0 {
         return 0;
     }
-    if pages > u64::MAX / s.size {
+    if pages > u64::MAX / size {
         return u64::MAX;
     }
-    s.size * pages
+    size * pages
 }
 
-// What SIZE answers, with the record q of version v.
-fn sized_by(s: Store, l: Lengths, q: Record, v: Version) -> Sized
-    ensures { λ r. ⌜ r ≡ sizedBy s l q (v .0) ⌝ }
+// What SIZE answers of pages of a size, by the number k of the rows up to 16, with the part q of version v, numbered c.
+fn sized_by(k: u64, size: u64, q: Part, c: u64, v: Version) -> Sized
+    ensures { λ r. ⌜ r ≡ sized (orElse k (firstRefusal ((notThere q c gives 19) ∷ []))) (bytesBy size (pagesBy (v .0) q)) ⌝ }
 {
-    let k = size_refusal(s, l, v);
     if k != 0 {
         return Sized::Refused(k);
     }
-    Sized::Bytes(bytes_by(s, pages_by(v, q)))
+    if q.name != c {
+        return Sized::Refused(19);
+    }
+    Sized::Bytes(bytes_by(size, pages_by(v, q)))
 }
 
-// SIZE v: the bytes of a published version.
-pub fn size(s: Store, pages: &[u8], nodes: &[u32], register: &[Record], v: Version) -> Sized
+// SIZE line, v: the bytes of a published version.
+pub fn size(
+    s: Store,
+    pages: &[u8],
+    nodes: &[u32],
+    register: &[Record],
+    l: Line,
+    v: Version,
+) -> Sized
     ensures { λ r.
         let a = areasOf (now (pages .entry)) (now (nodes .entry)) (now (register .entry)) in
-        ⌜ r ≡ sizeOut s a (v .0) ⌝ }
+        ⌜ r ≡ sizeOut s a (l .0) (v .0) ⌝ }
 {
-    let q = version_record(register, v);
-    sized_by(s, lengths_of(pages, nodes, register), q, v)
+    let g = lengths_of(pages, nodes, register);
+    let c = number_on(s, l, v);
+    let q = version_part(register, c);
+    sized_by(snapshot_refusal(s, g, l, v), s.size, q, c, v)
 }
 
-// What RECENT answers.
-fn recent_by(s: Store, l: Lengths) -> Latest
-    ensures { λ r. ⌜ r ≡ recentBy s l ⌝ }
+// ---- RECENT
+
+// What RECENT answers, by the table's number k.
+fn recent_by(k: u64, newest: Version) -> Latest
+    ensures { λ r. ⌜ r ≡ latest k (newest .0) ⌝ }
 {
-    if areas_differ(s, l) {
-        return Latest::Refused(3);
+    if k != 0 {
+        return Latest::Refused(k);
     }
-    let newest = s.published;
     Latest::Is(newest)
 }
 
-// RECENT: the last version published; 0 before the first.
-pub fn recent(s: Store, pages: &[u8], nodes: &[u32], register: &[Record]) -> Latest
+// RECENT line: the last version published on a line; 0 before the first.
+pub fn recent(s: Store, pages: &[u8], nodes: &[u32], register: &[Record], l: Line) -> Latest
     ensures { λ r.
         let a = areasOf (now (pages .entry)) (now (nodes .entry)) (now (register .entry)) in
-        ⌜ r ≡ recentOut s a ⌝ }
+        ⌜ r ≡ recentOut s a (l .0) ⌝ }
 {
-    recent_by(s, lengths_of(pages, nodes, register))
+    let g = lengths_of(pages, nodes, register);
+    let b = line_state(s, l);
+    recent_by(line_refusal(s, g, l), b.published)
 }

@@ -1,4 +1,4 @@
--- The walk to a page one level at a time, as the code goes: by spans for heights, by a version's record for its update, and by the place's number.
+-- The walk to a page one level at a time, as the code goes: by spans for heights, by a version's part of its record for its update, and by the place's number.
 -- Assumes nothing.
 use mathlib.Core.Path.{_≡_, refl, sym, ap, _∙_}
 use mathlib.Core.Logic.{inl, inr}
@@ -8,19 +8,18 @@ use mathlib.Core.List.{List, []}
 use Prim.Native.Nat.{ℕ, zero, suc, _+_, _-_, _*_, _/_, _%_, _^_, _≤_, _<_, min}
 use native.Mathlib.Nat.{mod-eq-of-lt, min-eq-left, min-eq-right}
 use native.Mathlib.Omega.{arith}
-use borrow.Author.Tests.{lt-ltb, le-ltb, le-leb, lt-leb, ne-eqb}
+use borrow.Author.Tests.{lt-ltb, le-ltb, le-leb, eq-eqb, ne-eqb}
 use lib.Dec.{ltb}
-use lib.ListN.{length, take, length-map}
-use lib.Seq.{length-take-le, getD-take, take-all}
+use lib.ListN.{length}
 use lib.Pow.{pow-pos, pow-mono}
 use lib.Arith.{digits-div, digits-mod}
-use Rattle.tree.specs.Tree.{nth, update, rootHeight}
-use Rattle.tree.specs.Place.{first}
+use Rattle.tree.specs.Tree.{rootHeight}
+use Rattle.tree.specs.Place.{first, index}
 use Rattle.tree.specs.NodeArea.{nodeAt}
-use Rattle.tree.specs.Walk.{walkBy, placeOf, placeWhere, hasNode, visit, goes, ends}
-use Rattle.register.specs.Register.{noRecord, updateOf, updatesOf}
+use Rattle.tree.specs.Walk.{walkBy, placeWhere, hasNode, visit, goes, ends}
+use Rattle.register.specs.Register.{updateOf, versionPart}
 use Rattle.register.specs.declared.Record.{Record}
-use Rattle.tree.specs.declared.Version.{Version}
+use Rattle.register.specs.declared.Part.{Part}
 use Rattle.tree.specs.declared.Found.{Found}
 use Rattle.tree.specs.declared.Found.the-variants.{Leaf, Lost}
 use Rattle.tree.specs.declared.NodeAt.{NodeAt}
@@ -28,12 +27,11 @@ use Rattle.tree.specs.declared.NodeAt.the-variants.{Stored, Missing}
 use Rattle.tree.proofs.Area.{placed-out}
 use Rattle.tree.proofs.First.{first-le, first-root, first-nest, lt-root}
 use Rattle.tree.proofs.Meets.{lt-or-le, meets-within}
-use Rattle.register.proofs.Records.{updateOf-inside, update-of-record}
+use Rattle.register.proofs.Records.{updateOf-inside}
 use Rattle.tree.proofs.Root.{root-pow, root-fits, root-low}
 use Rattle.versions.specs.Store.{areasOf}
-use Rattle.walk.specs.FindPage.{findPage}
-use Rattle.walk.specs.Descent.{Spanned, placeIn, placeNumber, halfNumber, turnOf, foundIn, walkDown}
-use Rattle.versions.specs.declared.Store.{Store}
+use Rattle.walk.specs.FindPage.{mostNumber, isNumber, placeIn, placeAt, findPage}
+use Rattle.walk.specs.Descent.{Spanned, placeNumber, halfNumber, turnOf, foundIn, walkDown}
 use Rattle.walk.specs.declared.Turn.{Turn}
 use Rattle.walk.specs.declared.Turn.the-variants as Turn
 
@@ -67,9 +65,9 @@ first-room span p s b c =
     let low = span-low span s b in
     omega (arith, first-nest p 64 (rootHeight span) (omega arith), first-root p 64 c, span-height span s)
 
--- ---- a record's nodes
+-- ---- an update's nodes
 
-module _ (q : Record) where
+module _ (q : Part) where
   -- The root of the largest blob has 4,096 pages.
   pub root-most : 2 ^ rootHeight (updateOf q .size) ≤ 4096
   root-most = let i = updateOf-inside q in pow-mono (root-low (updateOf q .size) (i .2))
@@ -83,18 +81,11 @@ module _ (q : Record) where
 
 -- ---- a node's place
 
-module _ (rs : List Record) (known : ℕ) (inside : known ≤ length rs) where
-  -- A version's update is what its record says.
-  place-by-record : (v p h : ℕ)
-      → placeOf (updatesOf (take known rs)) (λ (c : ℕ). nth noRecord rs c .place) v p h ≡ placeIn known (nth noRecord rs v) v p h
-  unfolding placeOf placeIn
-  place-by-record zero p h = refl
-  place-by-record (suc i) p h =
-      let len = length-take-le known rs inside in
-      elim (lt-or-le i known) [
-        | inl k ↦ rw (length-map, len, update-of-record (take known rs) i (omega arith), getD-take known rs i noRecord k)
-        | inr k ↦ rw (length-map, len, lt-leb (suc i) known (omega arith), and-false)
-      ]
+-- The place of a node of the version numbered c, where its record has this number and its update makes the node.
+pub place-there : (rs : List Record) (c p h : ℕ) → 0 < c → c < mostNumber → versionPart rs c .name ≡ c → hasNode (updateOf (versionPart rs c)) p h ≡ true
+    → let u = updateOf (versionPart rs c) in placeAt rs c p h ≡ some (versionPart rs c .place + index (u .f) (u .last) 0 (rootHeight (u .size)) p h)
+unfolding placeIn
+place-there rs c p h some-number low named has = rw (lt-ltb 0 c some-number, lt-ltb c mostNumber low, eq-eqb (versionPart rs c .name) c named, has)
 
 -- A place's number, by what `place_in` promises of it.
 pub place-number : (b : Bool) (place r : ℕ) → r < 2 ^ 64 → (b ≡ true → r ≡ min place (2 ^ 64 - 1)) → (r < 2 ^ 64 - 1 → b ≡ true) → r ≡ placeNumber (placeWhere b place)
@@ -115,13 +106,13 @@ module _ (area : List ℕ) (fits : length area < 2 ^ 64) where
 
 -- ---- one level
 
--- Where a walk is after a turn at a node of version v.
+-- Where a walk is after a turn at a node of the version numbered c.
 abbrev pub after : Turn → ℕ → (ℕ → ℕ → Found) → Found
-after (Turn.Leaf n) v k = Leaf (record { 0 = v }) n
-after (Turn.Down d half) v k = k (d .0) half
-after Turn.Lost v k = Lost
+after (Turn.Leaf n) c k = Leaf (record { 0 = c }) n
+after (Turn.Down d half) c k = k d half
+after Turn.Lost c k = Lost
 
-pub turn-down : (x : NodeAt) (p span : ℕ) (d : Version) (half : ℕ) → turnOf x p span ≡ Turn.Down d half → (half ≡ span / 2) × (2 ≤ span)
+pub turn-down : (x : NodeAt) (p span d half : ℕ) → turnOf x p span ≡ Turn.Down d half → (half ≡ span / 2) × (2 ≤ span)
 turn-down Missing p span d half e = let z : _≡_ {A = ℕ} 0 1 = cc in absurd (omega arith)
 turn-down (Stored l r) p span d half e = elim (lt-or-le span 2) [
   | inl k ↦ let t = rw (lt-ltb span 2 k) at e in let z : _≡_ {A = ℕ} 0 1 = cc in absurd (omega arith)
@@ -152,30 +143,33 @@ module _ (at : ℕ → ℕ → ℕ → Option ℕ) (area : List ℕ) (v p : ℕ)
   walk-turn zero = at-leaf (visit area (at v p 0))
   walk-turn (suc h) = at-inner h (visit area (at v p (suc h)))
 
--- The walk from version v's node of a span: the record's place, the node there, and the turn.
-pub walk-step : (rs : List Record) (area : List ℕ) (known v span p : ℕ) → known ≤ length rs → length area < 2 ^ 64 → Spanned span
-    → walkDown rs area known v span p
-    ≡ after (turnOf (nodeAt area (placeNumber (placeIn known (nth noRecord rs v) v p (rootHeight span)))) p span) v (λ d half. walkDown rs area known d half p)
-walk-step rs area known v span p inside fits s =
-    let at = placeOf (updatesOf (take known rs)) (λ (c : ℕ). nth noRecord rs c .place) in
-    let k : ℕ → ℕ → Found = λ d half. walkDown rs area known d half p in
-    let e : visit area (at v p (rootHeight span)) ≡ nodeAt area (placeNumber (placeIn known (nth noRecord rs v) v p (rootHeight span))) = ap (visit area) (place-by-record rs known inside v p (rootHeight span)) ∙ visit-number area fits (placeIn known (nth noRecord rs v) v p (rootHeight span)) in
-    walk-turn at area v p (rootHeight span)
-    ∙ ap (λ (n : ℕ). after (turnOf (visit area (at v p (rootHeight span))) p n) v k) (sym (span-height span s))
-    ∙ ap (λ (x : NodeAt). after (turnOf x p span) v k) e
+-- The walk from the node of a span of the version numbered c: the place by its part, the node there, and the turn.
+pub walk-step : (rs : List Record) (area : List ℕ) (c span p : ℕ) → length area < 2 ^ 64 → Spanned span
+    → walkDown rs area c span p
+    ≡ after (turnOf (nodeAt area (placeNumber (placeAt rs c p (rootHeight span)))) p span) c (λ d half. walkDown rs area d half p)
+walk-step rs area c span p fits s =
+    let k : ℕ → ℕ → Found = λ d half. walkDown rs area d half p in
+    walk-turn (placeAt rs) area c p (rootHeight span)
+    ∙ ap (λ (n : ℕ). after (turnOf (visit area (placeAt rs c p (rootHeight span))) p n) c k) (sym (span-height span s))
+    ∙ ap (λ (x : NodeAt). after (turnOf x p span) c k) (visit-number area fits (placeAt rs c p (rootHeight span)))
+
+-- A number that no version has leads nowhere.
+pub walk-lost : (rs : List Record) (area : List ℕ) (c span p : ℕ) → length area < 2 ^ 64 → Spanned span → isNumber c ≡ false → walkDown rs area c span p ≡ Lost
+unfolding placeIn
+walk-lost rs area c span p fits s out = rw (out, missing-past area fits (2 ^ 64 - 1) (omega arith)) at (walk-step rs area c span p fits s)
 
 -- ---- where a walk ends, in one number
 
--- A version that a walk ends at is known: others have no place.
-pub leaf-known : (area : List ℕ) (known : ℕ) (q : Record) (v p h span n : ℕ) → length area < 2 ^ 64
-    → turnOf (nodeAt area (placeNumber (placeIn known q v p h))) p span ≡ Turn.Leaf n → v ≤ known
+-- A version that a walk ends at has a number below the most: others have no place.
+pub leaf-low : (area : List ℕ) (q : Part) (c p h span n : ℕ) → length area < 2 ^ 64
+    → turnOf (nodeAt area (placeNumber (placeIn q c p h))) p span ≡ Turn.Leaf n → c < mostNumber
 unfolding placeIn
-leaf-known area known q v p h span n fits e = elim (lt-or-le known v) [
-  | inl k ↦
-      let t = rw (lt-leb v known k, and-false, missing-past area fits (2 ^ 64 - 1) (omega arith)) at e in
+leaf-low area q c p h span n fits e = elim (lt-or-le c mostNumber) [
+  | inl k ↦ k
+  | inr k ↦
+      let t = rw (le-ltb c mostNumber k, and-false, missing-past area fits (2 ^ 64 - 1) (omega arith)) at e in
       let z : _≡_ {A = ℕ} 0 1 = cc in
       absurd (omega arith)
-  | inr k ↦ k
 ]
 
 -- A leaf's page number is one of the node's two numbers.
@@ -186,21 +180,12 @@ leaf-number (Stored l r) p span n e most low = elim (lt-or-le span 2) [
   | inr k ↦ let t = rw (le-ltb span 2 k) at e in let z : _≡_ {A = ℕ} 0 1 = cc in absurd (omega arith)
 ]
 
-pub found-leaf : (v n : ℕ) → v ≤ 4096 → n < 2 ^ 32 → foundIn (v * 2 ^ 32 + n) ≡ Leaf (record { 0 = v }) n
-found-leaf v n a b = rw (ne-eqb (v * 2 ^ 32 + n) (2 ^ 64 - 1) (λ e. omega arith), digits-div v b, digits-mod v b)
+pub found-leaf : (c n : ℕ) → c < mostNumber → n < 2 ^ 32 → foundIn (c * 2 ^ 32 + n) ≡ Leaf (record { 0 = c }) n
+found-leaf c n a b = rw (ne-eqb (c * 2 ^ 32 + n) (2 ^ 64 - 1) (λ e. omega arith), digits-div c b, digits-mod c b)
 
 -- ---- from the root
 
-take-min : (n : ℕ) (rs : List Record) → take (min n (length rs)) rs ≡ take n rs
-take-min n rs = elim (lt-or-le n (length rs)) [
-  | inl h ↦ rw (min-eq-left {n = n} {m = length rs} (omega arith))
-  | inr h ↦ rw (min-eq-right {n = length rs} {m = n} h, take-all (length rs) rs (omega arith), take-all n rs h)
-]
-
-pub find-from-root : (s : Store) (nodes : List ℕ) (register : List Record) (v p : ℕ)
-    → walkDown register nodes (min (min (s .assigned .0) 4096) (length register)) v (2 ^ rootHeight (updateOf (nth noRecord register v) .size)) p
-    ≡ findPage s (areasOf [] nodes register) v p
+pub find-from-root : (nodes : List ℕ) (register : List Record) (c p : ℕ)
+    → walkDown register nodes c (2 ^ rootHeight (updateOf (versionPart register c) .size)) p ≡ findPage (areasOf [] nodes register) c p
 unfolding findPage
-find-from-root s nodes register v p =
-    let h = rootHeight (updateOf (nth noRecord register v) .size) in
-    rw (take-min (min (s .assigned .0) 4096) register, ← root-pow h)
+find-from-root nodes register c p = rw (← root-pow (rootHeight (updateOf (versionPart register c) .size)))

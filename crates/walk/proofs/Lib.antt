@@ -1,3 +1,4 @@
 pub mod Descent
 pub mod Ends
+pub mod Kept
 pub mod Generated

@@ -1,19 +1,19 @@
 // The walk from a version's root to a page, for READ, STAMP and VIEW.
 ghost use mathlib.Core.Path.{_≡_};
-ghost use Prim.Native.Nat.{min, _+_, _-_, _^_, _<_, _≤_};
+ghost use Prim.Native.Nat.{min, _+_, _-_, _^_, _<_};
 ghost use mathlib.Core.Bool.{true};
 ghost use mathlib.Core.List.{[]};
-ghost use lib.ListN.{length};
 ghost use Rattle.tree.specs.Tree.{rootHeight};
 ghost use Rattle.tree.specs.Place.{first, index};
 ghost use Rattle.tree.specs.Walk.{hasNode};
 ghost use Rattle.register.specs.Register.{updateOf};
-ghost use Rattle.walk.specs.Descent.{Spanned, placeIn, placeNumber, turnOf, foundIn, walkDown};
+ghost use Rattle.walk.specs.Descent.{Spanned, placeNumber, turnOf, foundIn, walkDown};
 ghost use Rattle.versions.specs.Store.{areasOf};
-ghost use Rattle.walk.specs.FindPage.{findPage, numberWithin, isLost, orZero};
+ghost use Rattle.walk.specs.FindPage.{isNumber, placeIn, findPage, numberWithin, isLost, orZero};
+use register::Part;
 use register::Record;
 use register::extent_of;
-use register::version_record;
+use register::version_part;
 use tree::Found;
 use tree::NodeAt;
 use tree::PageIndex;
@@ -23,18 +23,19 @@ use tree::node_at;
 use tree::node_index;
 use tree::root_height;
 use tree::root_span;
-use tree::smaller;
-use versions::Store;
 
-// Where a walk goes from a node: it ends at a leaf with a page number, goes down to a version's node of half the span, or is lost.
+// The numbers of versions lie below this one: sixteen lines, and 16 bits a version.
+const MOST_NUMBER: u64 = 1048576;
+
+// Where a walk goes from a node: it ends at a leaf with a page number, goes down to the node of half the span of a version, by its number, or is lost.
 enum Turn {
     Leaf(u64),
-    Down(Version, u64),
+    Down(u64, u64),
     Lost,
 }
 
-// The span of the root of a record's update.
-fn root_of(q: Record) -> u64
+// The span of the root of an update.
+fn root_of(q: Part) -> u64
     ensures { λ r. ⌜ r ≡ 2 ^ rootHeight (updateOf q .size) ⌝ }
 {
     let e = extent_of(q);
@@ -50,10 +51,10 @@ fn first_of(page: PageIndex, span: u64) -> PageIndex
     PageIndex((page.0 >> h) << h)
 }
 
-// The place of the node of this span over a page in a record's update, by its index in weaving order; the largest number, which lies past any area, where
+// The place of the node of this span over a page in an update, by its index in weaving order; the largest number, which lies past any area, where
 // the place would wrap or the update makes no such node. It makes one that is no higher than the root and meets the update, so its page lies in the root;
 // it is compared with the last page first, so that the sum cannot wrap.
-fn place_in(q: Record, page: PageIndex, span: u64) -> u64
+fn place_in(q: Part, page: PageIndex, span: u64) -> u64
     requires { ⌜ Spanned span ⌝ }
     ensures { λ r.
         let u = updateOf q in
@@ -81,15 +82,22 @@ fn place_in(q: Record, page: PageIndex, span: u64) -> u64
     q.place + i
 }
 
-// The same with version v's record, where versions 1 .. known are there; the largest number where there is no such node.
-fn place_of(q: Record, known: Version, v: Version, page: PageIndex, span: u64) -> u64
-    requires { ⌜ Spanned span ⌝ }
-    ensures { λ r. ⌜ r ≡ placeNumber (placeIn (known .0) q (v .0) (page .0) (rootHeight span)) ⌝ }
+// Whether a version may have this number.
+fn is_number(c: u64) -> bool
+    ensures { λ r. ⌜ r ≡ isNumber c ⌝ }
 {
-    if v.0 == 0 {
-        return u64::MAX;
+    if c == 0 {
+        return false;
     }
-    if known.0 < v.0 {
+    c < MOST_NUMBER
+}
+
+// The same of the version numbered c, whose part q should be; the largest number where it is not, or there is no such node.
+fn place_of(q: Part, c: u64, page: PageIndex, span: u64) -> u64
+    requires { ⌜ (isNumber c ≡ true) × Spanned span ⌝ }
+    ensures { λ r. ⌜ r ≡ placeNumber (placeIn q c (page .0) (rootHeight span)) ⌝ }
+{
+    if q.name != c {
         return u64::MAX;
     }
     place_in(q, page, span)
@@ -109,33 +117,30 @@ fn turn_at(x: NodeAt, page: PageIndex, span: u64) -> Turn
             let half = span / 2;
             let first = first_of(page, span);
             if page.0 < first.0 + half {
-                Turn::Down(Version(left as u64), half)
+                Turn::Down(left as u64, half)
             } else {
-                Turn::Down(Version(right as u64), half)
+                Turn::Down(right as u64, half)
             }
         }
     }
 }
 
-// The walk to a page from version v's node of this span, which halves at each call: one record and one place a level.
-// Where it ends is one number, the leaf's version and page number in 32 bits each, so that no level copies more; lost is the largest number.
-fn find(
-    register: &[Record],
-    nodes: &[u32],
-    known: Version,
-    v: Version,
-    span: u64,
-    page: PageIndex,
-) -> u64
-    requires { ⌜ (known .0 ≤ length (now register)) × Spanned span × (known .0 ≤ 4096) ⌝ }
-    ensures { λ r. ⌜ foundIn r ≡ walkDown (now (register .entry)) (now (nodes .entry)) (known .0) (v .0) span (page .0) ⌝ }
+// The walk to a page from the node of this span, which halves at each call, of the version numbered c: one record and one place a level. The number's
+// range is asked before the record is read, so that the record's name is compared once.
+// Where it ends is one number, that of the leaf's version and the page number in 32 bits each, so that no level copies more; lost is the largest number.
+fn find(register: &[Record], nodes: &[u32], c: u64, span: u64, page: PageIndex) -> u64
+    requires { ⌜ Spanned span ⌝ }
+    ensures { λ r. ⌜ foundIn r ≡ walkDown (now (register .entry)) (now (nodes .entry)) c span (page .0) ⌝ }
 {
-    let q = version_record(register, v);
-    let place = place_of(q, known, v, page, span);
+    if !is_number(c) {
+        return u64::MAX;
+    }
+    let q = version_part(register, c);
+    let place = place_of(q, c, page, span);
     let t = turn_at(node_at(nodes, place), page, span);
     match t {
-        Turn::Leaf(number) => v.0 * 4294967296 + number,
-        Turn::Down(below, half) => find(register, nodes, known, below, half, page),
+        Turn::Leaf(number) => c * 4294967296 + number,
+        Turn::Down(below, half) => find(register, nodes, below, half, page),
         Turn::Lost => u64::MAX,
     }
 }
@@ -150,13 +155,12 @@ fn found_in(x: u64) -> Found
     Found::Leaf(Version(x / 4294967296), x % 4294967296)
 }
 
-// The walk to a page from version v's root. A version above 4,096, the most updates of a store, has no node.
-pub fn find_page(s: Store, nodes: &[u32], register: &[Record], v: Version, page: PageIndex) -> Found
-    ensures { λ r. ⌜ r ≡ findPage s (areasOf [] (now (nodes .entry)) (now (register .entry))) (v .0) (page .0) ⌝ }
+// The walk to a page from the root of the version numbered c.
+pub fn find_page(nodes: &[u32], register: &[Record], c: u64, page: PageIndex) -> Found
+    ensures { λ r. ⌜ r ≡ findPage (areasOf [] (now (nodes .entry)) (now (register .entry))) c (page .0) ⌝ }
 {
-    let q = version_record(register, v);
-    let known = smaller(smaller(s.assigned.0, 4096), register.len() as u64);
-    found_in(find(register, nodes, Version(known), v, root_of(q), page))
+    let q = version_part(register, c);
+    found_in(find(register, nodes, c, root_of(q), page))
 }
 
 // Whether a walk ends at no page of an area of so many.

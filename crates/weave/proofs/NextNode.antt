@@ -1,4 +1,4 @@
--- The next node of a version lies within the version's root, so that sums of its pages have room.
+-- The next node of an update lies within the root of its version, so that sums of its pages have room.
 -- Assumes nothing.
 use mathlib.Core.Path.{_≡_, refl, _∙_}
 use mathlib.Core.Logic.{inl, inr}
@@ -11,7 +11,7 @@ use Rattle.tree.specs.Place.{below, kth}
 use Rattle.register.specs.Register.{updateOf}
 use Rattle.tree.specs.Contract.{WovenAt, firstOf}
 use Rattle.tree.specs.Contract as Contract
-use Rattle.register.specs.declared.Record.{Record}
+use Rattle.register.specs.declared.Part.{Part}
 use Rattle.tree.proofs.Meets.{lt-or-le}
 use Rattle.register.proofs.Records.{updateOf-inside}
 use Rattle.tree.proofs.Root.{root-low}
@@ -36,7 +36,7 @@ kth-inside f l a (suc h) (suc i) = elim (lt-or-le i (below f l a h)) [
   | inr p ↦ rw (le-ltb i (below f l a h) p, kth) (let t = kth-inside f l (a + 2 ^ h) h (i - below f l a h) in (omega arith, omega arith))
 ]
 
-next-inside : (q : Record) → firstPage (nextNode q) + spanOf (nextNode q) ≤ 4096
+next-inside : (q : Part) → firstPage (nextNode q) + spanOf (nextNode q) ≤ 4096
 unfolding nextNode
 next-inside q =
     let u = updateOf q in
@@ -48,7 +48,7 @@ abbrev pub named : ℕ → ℕ → Next
 named b s = record { first = record { 0 = b }; span = s; right = record { 0 = b + s / 2 }; half = s / 2 }
 
 -- What `woven_at` finds at as many nodes as are woven is the next node.
-pub next-of : (q : Record) (b s : ℕ) → WovenAt (updateOf q .f) (updateOf q .last) (updateOf q .size) (q .woven) b s → NextOf q (named b s)
+pub next-of : (q : Part) (b s : ℕ) → WovenAt (updateOf q .f) (updateOf q .last) (updateOf q .size) (q .woven) b s → NextOf q (named b s)
 unfolding nextNode
 next-of q b s w =
     let e = w .first ∙ same-first (nextNode q) in
@@ -57,13 +57,13 @@ next-of q b s w =
 
 -- ---- the next node as the code has it: a leaf, or a node with two halves
 
-pub data Shape (q : Record) (x : Next) : Type 0 where
+pub data Shape (q : Part) (x : Next) : Type 0 where
   leaf : nextNode q ≡ node (x .first .0) 0 → x .span ≡ 1 → x .half ≡ 0 → Shape q x
   inner : (h : ℕ) → nextNode q ≡ node (x .first .0) (suc h) → x .span ≡ 2 ^ suc h → x .half ≡ 2 ^ h → Shape q x
 
-shape-at : (q : Record) (x : Next) (y : Node) → nextNode q ≡ y → x .first .0 ≡ firstPage y → x .span ≡ spanOf y → x .half ≡ x .span / 2 → Shape q x
+shape-at : (q : Part) (x : Next) (y : Node) → nextNode q ≡ y → x .first .0 ≡ firstPage y → x .span ≡ spanOf y → x .half ≡ x .span / 2 → Shape q x
 shape-at q x (node p zero) e f s d = leaf (rw f e) s (omega arith)
 shape-at q x (node p (suc h)) e f s d = let g : x .span ≡ 2 ^ suc h = s in inner h (rw f e) g (omega arith)
 
-pub shape : (q : Record) (x : Next) → NextOf q x → Shape q x
+pub shape : (q : Part) (x : Next) → NextOf q x → Shape q x
 shape q x n = shape-at q x (nextNode q) refl (n .first) (n .spans) (n .halves)

@@ -1,4 +1,4 @@
--- The numbers of the next node: its children's versions, or a leaf's page number; and where that number lies past the page area.
+-- The numbers of the next node: its children's, or a leaf's page number; and where that number lies past the page area.
 -- Assumes nothing.
 use mathlib.Core.Path.{_≡_}
 use mathlib.Core.Bool.{false}
@@ -11,7 +11,7 @@ use lib.Pow.{pow-pos}
 use Rattle.tree.specs.Tree.{countOf}
 use Rattle.register.specs.Register.{updateOf}
 use Rattle.register.specs.declared.Record.{Record}
-use Rattle.tree.specs.declared.Version.{Version}
+use Rattle.register.specs.declared.Part.{Part}
 use Rattle.table.specs.Table.{holds}
 use Rattle.weave.specs.Weave.{nextNode, leafPast, kept, wovenNode}
 use Rattle.weave.specs.Plan.{NextOf, Children}
@@ -20,7 +20,7 @@ use Rattle.weave.specs.declared.Next.{Next}
 use Rattle.weave.specs.declared.WovenNode.{WovenNode}
 use Rattle.weave.proofs.NextNode.{leaf, inner, shape}
 
-module _ (r q : Record) (x : Next) (n : NextOf q x) where
+module _ (r : Record) (q : Part) (x : Next) (n : NextOf q x) where
   pub inner-not-past : (s : Store) → 0 < x .half → holds (leafPast s r q (nextNode q)) ≡ false
   unfolding holds
   inner-not-past s p = elim (shape q x n) [ leaf e d z ↦ absurd (omega arith) | inner h e d z ↦ rw e ]
@@ -32,7 +32,7 @@ module _ (r q : Record) (x : Next) (n : NextOf q x) where
   -- The node with these two numbers.
   abbrev withNumbers : ℕ → ℕ → WovenNode
   withNumbers left right = record {
-    version = r .version;
+    version = q .name;
     first = x .first;
     span = x .span;
     left = left;
@@ -40,14 +40,14 @@ module _ (r q : Record) (x : Next) (n : NextOf q x) where
     rest = countOf (updateOf q) - suc (q .woven);
   }
 
-  module _ (rs : List Record) (a b : Version) (c : Children rs (r .version) x a b) where
-    pub inner-numbers : 0 < x .half → withNumbers (kept (a .0)) (kept (b .0)) ≡ wovenNode rs r q (nextNode q)
+  module _ (s : Store) (rs : List Record) (a b : ℕ) (c : Children s rs (q .name) x a b) where
+    pub inner-numbers : 0 < x .half → withNumbers (kept a) (kept b) ≡ wovenNode s rs r q (nextNode q)
     inner-numbers p = elim (shape q x n) [
       | leaf e d z ↦ absurd (omega arith)
       | inner h e d z ↦ rw (e, d, c .left p, c .right p, n .right, z)
     ]
 
-    pub leaf-numbers : x .half ≡ 0 → withNumbers (kept (r .number % 2 ^ 32 + (x .first .0 - updateOf q .f))) 0 ≡ wovenNode rs r q (nextNode q)
+    pub leaf-numbers : x .half ≡ 0 → withNumbers (kept (r .number % 2 ^ 32 + (x .first .0 - updateOf q .f))) 0 ≡ wovenNode s rs r q (nextNode q)
     leaf-numbers p = elim (shape q x n) [
       | leaf e d z ↦ rw (e, d, mod-add-mod)
       | inner h e d z ↦ absurd (omega (arith, pow-pos h))

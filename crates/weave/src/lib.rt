@@ -1,24 +1,33 @@
 // WEAVE: one node of a version's tree, stored at its place.
 ghost use mathlib.Core.Path.{_≡_};
-ghost use Prim.Native.Nat.{suc, _+_, _-_, _^_, _<_};
+ghost use Prim.Native.Nat.{suc, pred, _+_, _-_, _^_, _<_, min};
 ghost use mathlib.Core.List.{List};
 ghost use lib.Dec.{leb};
-ghost use Rattle.tree.specs.Tree.{countOf};
+ghost use Rattle.tree.specs.Tree.{countOf, nth};
 ghost use Rattle.tree.specs.NodeArea.{withNode};
-ghost use Rattle.register.specs.Register.{updateOf};
+ghost use Rattle.register.specs.Register.{noRecord, updateOf, withRecord};
 ghost use Rattle.register.specs.declared.Record.{Record};
+ghost use Rattle.versions.specs.declared.Store.{Store};
 ghost use Rattle.table.specs.Table.{_≤?_, _or_, holds, unless};
-ghost use Rattle.weave.specs.Plan.{NextOf, Planned, Children};
+ghost use Rattle.weave.specs.Plan.{NextOf, Aimed, Planned, Children, NextFound, linesLeft};
 ghost use Rattle.versions.specs.Store.{areasOf};
-ghost use Rattle.weave.specs.Weave.{nextNode, nextPlace, leafPast, weaveRefusal, kept, wovenNode, wove, withWoven, weaveOut, weaveNodes, weaveRegister};
+ghost use Rattle.weave.specs.Weave.{nextNode, nextPlace, leafPast, weaveRefusal, newestOn, kept, wovenNode, wove, withWoven, weaveOut, weaveNodes, weaveRegister};
+use lines::Branch;
+use lines::Line;
+use lines::line_of;
+use lines::number_of;
+use lines::version_of;
+use register::Part;
 use register::Record;
 use register::extent_of;
-use register::newest_update;
+use register::newest_own;
+use register::nth_record;
 use register::ticket_record;
-use register::version_record;
+use register::update_part;
 use tree::PageIndex;
 use tree::Ticket;
 use tree::Version;
+use tree::smaller;
 use tree::store_node;
 use tree::woven_at;
 use versions::Lengths;
@@ -26,12 +35,13 @@ use versions::Store;
 use versions::areas_differ;
 use versions::count_of;
 use versions::lengths_of;
+use versions::line_state;
 use versions::put_record;
-use versions::version_index;
+use versions::record_index;
 
-// A node that was stored: its name, its two numbers, and how many nodes of its version are left.
+// A node that was stored: its name, its version as line x 65,536 + version; its two numbers, and how many nodes of its version are left.
 pub struct WovenNode {
-    pub version: Version,
+    pub version: u64,
     pub first: PageIndex,
     pub span: u64,
     pub left: u32,
@@ -53,16 +63,25 @@ struct Next {
     half: u64,
 }
 
-// What WEAVE is to do: the number of its refusal, the next node, and the version up to which its children's versions are looked for, which is 0, so
+// What WEAVE is to do: the number of its refusal, the next node, and the line and the version up to which its children are looked for, which is version 0, so
 // that none is looked for, where the call is refused or the node is a leaf.
 struct Plan {
     k: u64,
     next: Next,
+    line: Line,
     limit: Version,
 }
 
-// The next node, in weaving order, of the version with this record.
-fn next_node(q: Record) -> Next
+// What WEAVE has found: the number of its refusal, the ticket's update, that update's part, and its next node with its numbers.
+struct Found {
+    k: u64,
+    update: u64,
+    part: Part,
+    node: WovenNode,
+}
+
+// The next node, in weaving order, of the update with this part.
+fn next_node(q: Part) -> Next
     ensures { λ x. ⌜ NextOf q x ⌝ }
 {
     let e = extent_of(q);
@@ -77,8 +96,8 @@ fn next_node(q: Record) -> Next
     }
 }
 
-// How far page p lies from the first page of a record's update.
-fn pages_from(q: Record, p: PageIndex) -> u64
+// How far page p lies from the first page of an update.
+fn pages_from(q: Part, p: PageIndex) -> u64
     ensures { λ r. ⌜ r ≡ p .0 - updateOf q .f ⌝ }
 {
     let e = extent_of(q);
@@ -94,7 +113,7 @@ fn sum_reaches(n: u64, a: u64, b: u64) -> bool
 }
 
 // Whether the next node, x, has no place in the node area, or is a leaf whose page number lies past the page area.
-fn node_lost(s: Store, r: Record, q: Record, x: Next) -> bool
+fn node_lost(s: Store, r: Record, q: Part, x: Next) -> bool
     requires { ⌜ NextOf q x ⌝ }
     ensures { λ b. ⌜ b ≡ holds (s .nodes ≤? nextPlace q or leafPast s r q (nextNode q)) ⌝ }
 {
@@ -107,14 +126,14 @@ fn node_lost(s: Store, r: Record, q: Record, x: Next) -> bool
     sum_reaches(s.pages, r.number, pages_from(q, x.first))
 }
 
-// The refusal of WEAVE, with the ticket's record r, its version's record q and that version's next node x.
-fn weave_refusal(s: Store, l: Lengths, r: Record, q: Record, x: Next, t: Ticket) -> u64
+// The refusal of WEAVE, with the ticket's record r, the part q of its update and that update's next node x.
+fn weave_refusal(s: Store, g: Lengths, r: Record, q: Part, x: Next, t: Ticket) -> u64
     requires { ⌜ NextOf q x ⌝ }
-    ensures { λ k. ⌜ k ≡ weaveRefusal s l r q (t .0) ⌝ }
+    ensures { λ k. ⌜ k ≡ weaveRefusal s g r q (t .0) ⌝ }
 {
     let last = s.tickets;
-    let v = r.version;
-    if areas_differ(s, l) {
+    let update = r.update;
+    if areas_differ(s, g) {
         return 3;
     }
     if t.0 == 0 {
@@ -126,10 +145,10 @@ fn weave_refusal(s: Store, l: Lengths, r: Record, q: Record, x: Next, t: Ticket)
     if s.updates < t.0 {
         return 19;
     }
-    if v.0 == 0 {
+    if update == 0 {
         return 8;
     }
-    if s.updates < v.0 {
+    if s.updates < update {
         return 19;
     }
     if count_of(q) <= q.woven {
@@ -138,22 +157,73 @@ fn weave_refusal(s: Store, l: Lengths, r: Record, q: Record, x: Next, t: Ticket)
     if node_lost(s, r, q, x) { 19 } else { 0 }
 }
 
-// What WEAVE is to do, with the ticket's record r and its version's record q.
-fn weave_plan(s: Store, l: Lengths, r: Record, q: Record, t: Ticket) -> Plan
-    ensures { λ p. ⌜ Planned s l r q (t .0) p ⌝ }
+// What WEAVE is to do, with the ticket's record r and the part q of its update.
+fn weave_plan(s: Store, g: Lengths, r: Record, q: Part, t: Ticket) -> Plan
+    ensures { λ p. ⌜ Planned s g r q (t .0) p ⌝ }
 {
-    let own = r.version;
+    let own = version_of(q.name);
+    let line = line_of(q.name);
     let next = next_node(q);
-    let k = weave_refusal(s, l, r, q, next, t);
+    let k = weave_refusal(s, g, r, q, next, t);
     if k > 0 {
         return Plan {
             k,
             next,
+            line,
             limit: Version(0),
         };
     }
     let limit = if next.half == 0 { Version(0) } else { own };
-    Plan { k, next, limit }
+    Plan {
+        k,
+        next,
+        line,
+        limit,
+    }
+}
+
+// The line that a line comes from.
+fn source_of(b: Branch) -> Line
+    ensures { λ r. ⌜ r ≡ record { 0 = min (b .source .0) 15 } ⌝ }
+{
+    Line(smaller(b.source.0, 15))
+}
+
+// Version v, or the one that a line begins from where that is lower.
+fn shared_of(b: Branch, v: Version) -> Version
+    ensures { λ r. ⌜ r ≡ record { 0 = min (v .0) (b .start .0) } ⌝ }
+{
+    Version(smaller(v.0, b.start.0))
+}
+
+// How many lines are still to be looked at: none below version 0.
+fn lines_left(left: u64, v: Version) -> u64
+    requires { ⌜ 0 < left ⌝ }
+    ensures { λ r. ⌜ r ≡ linesLeft left (v .0) ⌝ }
+{
+    if v.0 == 0 { 0 } else { left - 1 }
+}
+
+// The number of the newest update up to version v of line l that meets the `span` pages from `first` on, or 0: the line's own versions first, then the line's that it
+// comes from as far as they are shared.
+fn newest_on(s: Store, register: &[Record], l: Line, v: Version, first: PageIndex, span: u64) -> u64
+    requires { ⌜ (first .0 + span < 2 ^ 64) × (0 < v .0 → 0 < span) ⌝ }
+    ensures { λ r. ⌜ r ≡ newestOn s (now (register .entry)) 16 (l .0) (v .0) (first .0) span ⌝ }
+{
+    let mut line = l;
+    let mut below = v;
+    let mut left = 16u64;
+    while left > 0 {
+        let b = line_state(s, line);
+        let own = newest_own(register, line, b.start, below, first, span);
+        if own.0 > 0 {
+            return number_of(line, own);
+        }
+        line = source_of(b);
+        below = shared_of(b, below);
+        left = lines_left(left, below);
+    }
+    0
 }
 
 // A number as the node area keeps it.
@@ -164,7 +234,7 @@ fn kept_of(x: u64) -> u32
 }
 
 // How many nodes are left after the next.
-fn nodes_left(q: Record) -> u64
+fn nodes_left(q: Part) -> u64
     ensures { λ r. ⌜ r ≡ countOf (updateOf q) - suc (q .woven) ⌝ }
 {
     let count = count_of(q);
@@ -175,12 +245,12 @@ fn nodes_left(q: Record) -> u64
     }
 }
 
-// The next node, x, with its numbers: its children's versions, or a leaf's page number.
-fn woven_node(r: Record, q: Record, x: Next, left: Version, right: Version) -> WovenNode
+// The next node, x, with its numbers: its children's, or a leaf's page number.
+fn woven_node(r: Record, q: Part, x: Next, left: u64, right: u64) -> WovenNode
     requires { ⌜ NextOf q x ⌝ }
-    ensures { λ n. ⌜ ((rs : List Record) → Children rs (r .version) x left right → n ≡ wovenNode rs r q (nextNode q)) ⌝ }
+    ensures { λ n. ⌜ ((s : Store) (rs : List Record) → Children s rs (q .name) x left right → n ≡ wovenNode s rs r q (nextNode q)) ⌝ }
 {
-    let version = r.version;
+    let version = q.name;
     let first = x.first;
     let rest = nodes_left(q);
     if x.half > 0 {
@@ -188,8 +258,8 @@ fn woven_node(r: Record, q: Record, x: Next, left: Version, right: Version) -> W
             version,
             first,
             span: x.span,
-            left: kept_of(left.0),
-            right: kept_of(right.0),
+            left: kept_of(left),
+            right: kept_of(right),
             rest,
         };
     }
@@ -205,8 +275,36 @@ fn woven_node(r: Record, q: Record, x: Next, left: Version, right: Version) -> W
     }
 }
 
+// The next node, as the plan p has it, with its numbers. An update counts from when its version is assigned, whether or not its nodes are stored.
+fn node_by(s: Store, register: &[Record], r: Record, q: Part, p: Plan) -> WovenNode
+    requires { ⌜ Aimed q p ⌝ }
+    ensures { λ n. ⌜ (p .k ≡ 0 → n ≡ wovenNode s (now (register .entry)) r q (nextNode q)) ⌝ }
+{
+    let x = p.next;
+    let left = newest_on(s, register, p.line, p.limit, x.first, x.half);
+    let right = newest_on(s, register, p.line, p.limit, x.right, x.half);
+    woven_node(r, q, x, left, right)
+}
+
+// What WEAVE finds in the register: nothing is stored yet.
+fn find_next(s: Store, g: Lengths, register: &[Record], t: Ticket) -> Found
+    ensures { λ w. ⌜ NextFound s g (now (register .entry)) (t .0) w ⌝ }
+{
+    let r = ticket_record(register, t);
+    let update = r.update;
+    let part = update_part(register, update);
+    let p = weave_plan(s, g, r, part, t);
+    let node = node_by(s, register, r, part, p);
+    Found {
+        k: p.k,
+        update,
+        part,
+        node,
+    }
+}
+
 // Stores the next node's numbers at its place where the number k is 0.
-fn store_woven(nodes: &mut [u32], k: u64, q: Record, x: WovenNode)
+fn store_woven(nodes: &mut [u32], k: u64, q: Part, x: WovenNode)
     requires { ⌜ (k ≡ 0 → nextPlace q < 2 ^ 64) ⌝ }
     ensures { λ _. ⌜ now (nodes .exit) ≡ unless k (now (nodes .entry)) (withNode (now (nodes .entry)) (nextPlace q) (x .left) (x .right)) ⌝ }
 {
@@ -227,6 +325,17 @@ fn with_woven(k: u64, q: Record) -> Record
     next
 }
 
+// Counts one node more as woven in the record of the update of this number where the number k is 0.
+fn count_woven(register: &mut [Record], k: u64, update: u64)
+    requires { ⌜ (k ≡ 0 → suc (nth noRecord (now register) update .woven) < 2 ^ 64) ⌝ }
+    ensures { λ _.
+        let rs = now (register .entry) in
+        ⌜ now (register .exit) ≡ unless k rs (withRecord rs (pred update) (withWoven (nth noRecord rs update))) ⌝ }
+{
+    let u = nth_record(register, update);
+    put_record(register, k, record_index(update), with_woven(k, u));
+}
+
 // What WEAVE answers, by the number k.
 fn woven_answer(k: u64, x: WovenNode) -> Woven
     ensures { λ r. ⌜ r ≡ wove k x ⌝ }
@@ -238,23 +347,15 @@ fn woven_answer(k: u64, x: WovenNode) -> Woven
     }
 }
 
-// WEAVE ticket: stores the next node of the ticket's version at its place. The children's versions are read from the register: an update counts
-// from when its version is assigned, whether or not its nodes are stored.
+// WEAVE ticket: stores the next node of the ticket's update at its place. The children's numbers are read from the register.
 pub fn weave(s: Store, pages: &[u8], nodes: &mut [u32], register: &mut [Record], t: Ticket) -> Woven
     ensures { λ r.
         let a = areasOf (now (pages .entry)) (now (nodes .entry)) (now (register .entry)) in
         ⌜ (r ≡ weaveOut s a (t .0)) × (now (nodes .exit) ≡ weaveNodes s a (t .0)) × (now (register .exit) ≡ weaveRegister s a (t .0)) ⌝ }
 {
-    let l = lengths_of(pages, nodes, register);
-    let r = ticket_record(register, t);
-    let v = r.version;
-    let q = version_record(register, v);
-    let p = weave_plan(s, l, r, q, t);
-    let x = p.next;
-    let left = newest_update(register, p.limit, x.first, x.half);
-    let right = newest_update(register, p.limit, x.right, x.half);
-    let node = woven_node(r, q, x, left, right);
-    store_woven(nodes, p.k, q, node);
-    put_record(register, p.k, version_index(v), with_woven(p.k, q));
-    woven_answer(p.k, node)
+    let g = lengths_of(pages, nodes, register);
+    let w = find_next(s, g, register, t);
+    store_woven(nodes, w.k, w.part, w.node);
+    count_woven(register, w.k, w.update);
+    woven_answer(w.k, w.node)
 }

@@ -1,27 +1,61 @@
 //! The form of a store's file: the header, and the areas as bytes. [`Keeper::save`](crate::Keeper::save) shows it.
 
+use super::old;
 use super::FileError;
 use crate::areas::{Areas, Lend, Limits, Parts, MOST_PAGES};
 use crate::checksum::Checksum;
-use crate::ffi::{Record, State};
+use crate::ffi::{Entries, LineState, Record, State, LINES};
 use std::convert::Infallible;
 use std::io::{self, Read};
 
 /// The first eight bytes of every file.
 const MAGIC: [u8; 8] = *b"PITSTORE";
-/// The form of the files that are written here.
-pub const FORM: u64 = 1;
-/// The header's length in bytes, and in numbers of 64 bits.
-const HEADER: usize = 128;
-const HEADER_NUMBERS: usize = HEADER / 8;
-/// A node's length in bytes, and a record's.
+/// How many numbers of 64 bits a state and a record have, in the files that are written here.
+const STATE: usize = 9 + 5 * LINES;
+const RECORD: usize = 15;
+/// The header's numbers: the magic and the form, the state, three lengths and the checksum.
+const HEADER_NUMBERS: usize = 2 + STATE + 4;
+const HEADER: usize = 8 * HEADER_NUMBERS;
+/// A node's length in bytes.
 const NODE: u64 = 8;
-const RECORD: usize = 80;
 /// How many numbers of the node area are turned into bytes at a time.
 const NUMBERS_AT_A_TIME: usize = 2_048;
 
+/// The forms of file that are read.
+#[derive(Clone, Copy)]
+enum Form {
+    /// Of a store from before there were lines.
+    OneLine = 1,
+    /// As files are written here.
+    Lines = 2,
+}
+
+impl Form {
+    fn of(number: u64) -> Option<Form> {
+        let forms = [Form::OneLine, Form::Lines];
+        forms.into_iter().find(|form| *form as u64 == number)
+    }
+
+    /// The header's length in bytes.
+    fn header(self) -> usize {
+        match self {
+            Form::OneLine => 8 * (2 + old::STATE + 4),
+            Form::Lines => HEADER,
+        }
+    }
+
+    /// A record's length in bytes.
+    fn record(self) -> u64 {
+        match self {
+            Form::OneLine => 8 * old::RECORD as u64,
+            Form::Lines => 8 * RECORD as u64,
+        }
+    }
+}
+
 /// What stands before the areas.
 pub struct Header {
+    form: Form,
     pub state: State,
     /// In bytes: the page area, the node area, the register.
     lengths: [u64; 3],
@@ -34,9 +68,10 @@ impl Header {
         let lengths = [
             areas.pages.len(),
             4 * areas.nodes.len(),
-            RECORD * areas.register.len(),
+            8 * RECORD * areas.register.len(),
         ];
         let mut header = Header {
+            form: Form::Lines,
             state,
             lengths: lengths.map(|length| length as u64),
             checksum: 0,
@@ -45,37 +80,52 @@ impl Header {
         header
     }
 
-    /// The header at the front of a file of `found` bytes.
-    pub fn read(file: &mut impl Read, found: u64) -> Result<Header, FileError> {
+    /// The header at the front of a file of `found` bytes, and the checksum up to its end.
+    pub fn read(file: &mut impl Read, found: u64) -> Result<(Header, Checksum), FileError> {
         let mut bytes = Vec::with_capacity(HEADER);
-        file.take(HEADER as u64).read_to_end(&mut bytes)?;
+        file.take(16).read_to_end(&mut bytes)?;
         let magic = bytes.len().min(MAGIC.len());
         if bytes[..magic] != MAGIC[..magic] {
             return Err(FileError::Foreign);
         }
-        if bytes.len() < HEADER {
-            let expected = HEADER as u64;
+        let form = match numbers_of(&bytes).nth(1) {
+            Some(number) => Form::of(number).ok_or(FileError::Form(number))?,
+            None => Form::Lines, // cut off before it
+        };
+        let rest = form.header() - bytes.len();
+        file.take(rest as u64).read_to_end(&mut bytes)?;
+        if bytes.len() < form.header() {
+            let expected = form.header() as u64;
             return Err(FileError::Truncated { expected, found });
         }
-        let [_, form, rest @ ..] = from_bytes::<HEADER_NUMBERS>(&bytes);
-        if form != FORM {
-            return Err(FileError::Form(form));
-        }
-        let [state @ .., pages, nodes, register, checksum] = rest;
-        Ok(Header {
-            state: state_of(state),
-            lengths: [pages, nodes, register],
+        let mut sum = Checksum::new();
+        sum.add(&bytes[..form.header() - 8]);
+        Ok((Header::from_bytes(form, &bytes), sum))
+    }
+
+    fn from_bytes(form: Form, bytes: &[u8]) -> Header {
+        let mut numbers = numbers_of(&bytes[16..]);
+        let state = match form {
+            Form::OneLine => old::state_of(next(&mut numbers)),
+            Form::Lines => state_of(next(&mut numbers)),
+        };
+        let lengths = next(&mut numbers);
+        let [checksum] = next(&mut numbers);
+        Header {
+            form,
+            state,
+            lengths,
             checksum,
-        })
+        }
     }
 
     pub fn to_bytes(&self) -> [u8; HEADER] {
         let mut numbers = [0; HEADER_NUMBERS];
         numbers[0] = u64::from_le_bytes(MAGIC);
-        numbers[1] = FORM;
-        numbers[2..12].copy_from_slice(&numbers_of_state(&self.state));
-        numbers[12..15].copy_from_slice(&self.lengths);
-        numbers[15] = self.checksum;
+        numbers[1] = Form::Lines as u64;
+        numbers[2..2 + STATE].copy_from_slice(&numbers_of_state(&self.state));
+        numbers[2 + STATE..HEADER_NUMBERS - 1].copy_from_slice(&self.lengths);
+        numbers[HEADER_NUMBERS - 1] = self.checksum;
         to_bytes(&numbers)
     }
 
@@ -87,7 +137,8 @@ impl Header {
     pub fn check_limits(&self) -> Result<(), FileError> {
         self.limits().check().map_err(FileError::Limits)?;
         let s = &self.state; // of limits that FORMAT accepts, no product is above 2^28
-        if self.lengths != [s.size * s.pages, NODE * s.nodes, RECORD as u64 * s.updates] {
+        let register = self.form.record() * s.updates;
+        if self.lengths != [s.size * s.pages, NODE * s.nodes, register] {
             return Err(FileError::AreaLengths);
         }
         Ok(())
@@ -95,7 +146,7 @@ impl Header {
 
     /// The file is as long as header and areas. After `check_limits`, so that the lengths have a sum.
     pub fn check_length(&self, found: u64) -> Result<(), FileError> {
-        let expected = HEADER as u64 + self.lengths.iter().sum::<u64>();
+        let expected = self.form.header() as u64 + self.lengths.iter().sum::<u64>();
         match found {
             _ if found < expected => Err(FileError::Truncated { expected, found }),
             _ if found > expected => Err(FileError::TooLong { expected, found }),
@@ -103,9 +154,9 @@ impl Header {
         }
     }
 
-    /// The checksum is that of this header and these areas.
-    pub fn check_checksum(&self, areas: Parts<'_>) -> Result<(), FileError> {
-        if self.checksum != self.checksum_with(areas) {
+    /// The checksum is that of the file.
+    pub fn check_checksum(&self, sum: &Checksum) -> Result<(), FileError> {
+        if self.checksum != sum.value() {
             return Err(FileError::Checksum);
         }
         Ok(())
@@ -115,8 +166,8 @@ impl Header {
     pub fn check_counters(&self) -> Result<(), FileError> {
         let s = &self.state;
         let given = s.tickets <= s.updates && s.taken <= s.pages;
-        let assigned = s.assigned <= s.tickets && s.places <= s.nodes && s.blob <= MOST_PAGES;
-        if given && assigned && s.published <= s.assigned {
+        let assigned = s.assigned <= s.tickets && s.places <= s.nodes;
+        if given && assigned && lines_agree(s) {
             Ok(())
         } else {
             Err(FileError::Counters)
@@ -133,6 +184,63 @@ impl Header {
         });
         sum.value()
     }
+
+    /// Fills areas from a file that stands where they begin, and adds what it reads to the checksum.
+    pub fn fill(
+        &self,
+        areas: &mut Areas,
+        file: &mut impl Read,
+        sum: &mut Checksum,
+    ) -> io::Result<()> {
+        let areas = areas.lend();
+        file.read_exact(areas.pages)?;
+        sum.add(areas.pages);
+        let mut piece = [0; 4 * NUMBERS_AT_A_TIME];
+        for numbers in areas.nodes.chunks_mut(NUMBERS_AT_A_TIME) {
+            let piece = &mut piece[..4 * numbers.len()];
+            file.read_exact(piece)?;
+            sum.add(piece);
+            for (number, four) in numbers.iter_mut().zip(piece.chunks_exact(4)) {
+                let mut bytes = [0; 4];
+                bytes.copy_from_slice(four);
+                *number = u32::from_le_bytes(bytes);
+            }
+        }
+        let mut bytes = vec![0; self.form.record() as usize];
+        for (number, record) in (1..).zip(areas.register) {
+            file.read_exact(&mut bytes)?;
+            sum.add(&bytes);
+            let numbers = &mut numbers_of(&bytes);
+            *record = match self.form {
+                Form::OneLine => old::record_of(next(numbers), number, self.state.assigned),
+                Form::Lines => record_of(next(numbers)),
+            };
+        }
+        Ok(())
+    }
+}
+
+/// The lines are such as calls leave: each begins from a version that an earlier one has published, and their own versions
+/// together are the updates that have a version. Those that have not begun are zeros.
+fn lines_agree(s: &State) -> bool {
+    if s.begun == 0 || s.begun > LINES as u64 {
+        return false;
+    }
+    let (begun, unbegun) = s.lines.split_at(s.begun as usize);
+    let mut own = 0;
+    for (at, line) in begun.iter().enumerate() {
+        let source = begun[..at].get(line.source as usize);
+        let starts = match source {
+            Some(source) => line.start <= source.published,
+            None => at == 0 && (line.source, line.start) == (0, 0),
+        };
+        let counts = line.start <= line.published && line.published <= line.assigned;
+        if !(starts && counts && line.assigned <= s.assigned && line.blob <= MOST_PAGES) {
+            return false;
+        }
+        own += line.assigned - line.start;
+    }
+    own == s.assigned && unbegun.iter().all(|line| *line == LineState::default())
 }
 
 /// Hands on the areas as the file has them, a piece at a time, up to the first error.
@@ -148,29 +256,8 @@ pub fn each_piece<E>(
         take(&piece)?;
     }
     for record in areas.register {
-        take(&to_bytes::<10, RECORD>(&numbers_of_record(record)))?;
-    }
-    Ok(())
-}
-
-/// Fills areas from a file that stands where they begin.
-pub fn fill(areas: &mut Areas, file: &mut impl Read) -> io::Result<()> {
-    let areas = areas.lend();
-    file.read_exact(areas.pages)?;
-    let mut piece = [0; 4 * NUMBERS_AT_A_TIME];
-    for numbers in areas.nodes.chunks_mut(NUMBERS_AT_A_TIME) {
-        let piece = &mut piece[..4 * numbers.len()];
-        file.read_exact(piece)?;
-        for (number, four) in numbers.iter_mut().zip(piece.chunks_exact(4)) {
-            let mut bytes = [0; 4];
-            bytes.copy_from_slice(four);
-            *number = u32::from_le_bytes(bytes);
-        }
-    }
-    for record in areas.register {
-        let mut bytes = [0; RECORD];
-        file.read_exact(&mut bytes)?;
-        *record = record_of(from_bytes(&bytes));
+        let bytes: [u8; 8 * RECORD] = to_bytes(&numbers_of_record(record));
+        take(&bytes)?;
     }
     Ok(())
 }
@@ -184,35 +271,50 @@ fn to_bytes<const NUMBERS: usize, const BYTES: usize>(numbers: &[u64; NUMBERS]) 
     bytes
 }
 
-/// Numbers from bytes, lowest first.
-fn from_bytes<const NUMBERS: usize>(bytes: &[u8]) -> [u64; NUMBERS] {
-    let mut numbers = [0; NUMBERS];
-    for (number, eight) in numbers.iter_mut().zip(bytes.chunks_exact(8)) {
+/// The numbers that bytes are, lowest byte first.
+fn numbers_of(bytes: &[u8]) -> impl Iterator<Item = u64> + '_ {
+    bytes.chunks_exact(8).map(|eight| {
         let mut bytes = [0; 8];
         bytes.copy_from_slice(eight);
-        *number = u64::from_le_bytes(bytes);
-    }
-    numbers
+        u64::from_le_bytes(bytes)
+    })
+}
+
+/// The next of the numbers; zeros where there are too few, which the lengths rule out.
+fn next<const NUMBERS: usize>(numbers: &mut impl Iterator<Item = u64>) -> [u64; NUMBERS] {
+    [(); NUMBERS].map(|()| numbers.next().unwrap_or_default())
+}
+
+fn numbers_of_state(s: &State) -> [u64; STATE] {
+    #[rustfmt::skip]
+    let counters = [s.size, s.pages, s.nodes, s.updates, s.tickets, s.taken, s.assigned, s.places, s.begun];
+    let of_line = |l: &LineState| [l.source, l.start, l.assigned, l.published, l.blob];
+    next(&mut counters.into_iter().chain(s.lines.iter().flat_map(of_line)))
 }
 
 #[rustfmt::skip]
-fn numbers_of_state(s: &State) -> [u64; 10] {
-    [s.size, s.pages, s.nodes, s.updates, s.tickets, s.taken, s.assigned, s.places, s.published, s.blob]
+fn state_of(numbers: [u64; STATE]) -> State {
+    let [size, pages, nodes, updates, tickets, taken, assigned, places, begun, lines @ ..] = numbers;
+    let numbers = &mut lines.into_iter();
+    let lines = [(); LINES].map(|()| {
+        let [source, start, assigned, published, blob] = next(numbers);
+        LineState { source, start, assigned, published, blob }
+    });
+    State { size, pages, nodes, updates, tickets, taken, assigned, places, begun, lines }
 }
 
 #[rustfmt::skip]
-fn state_of(numbers: [u64; 10]) -> State {
-    let [size, pages, nodes, updates, tickets, taken, assigned, places, published, blob] = numbers;
-    State { size, pages, nodes, updates, tickets, taken, assigned, places, published, blob }
+fn numbers_of_record(r: &Record) -> [u64; RECORD] {
+    let e = &r.entries;
+    [
+        r.n, r.number, r.put, r.update, r.ticket, r.name, r.f, r.last, r.size, r.place, r.woven,
+        e.from0, e.from4, e.from8, e.from12,
+    ]
 }
 
 #[rustfmt::skip]
-fn numbers_of_record(r: &Record) -> [u64; 10] {
-    [r.n, r.number, r.put, r.version, r.ticket, r.f, r.last, r.size, r.place, r.woven]
-}
-
-#[rustfmt::skip]
-fn record_of(numbers: [u64; 10]) -> Record {
-    let [n, number, put, version, ticket, f, last, size, place, woven] = numbers;
-    Record { n, number, put, version, ticket, f, last, size, place, woven }
+fn record_of(numbers: [u64; RECORD]) -> Record {
+    let [n, number, put, update, ticket, name, f, last, size, place, woven, from0, from4, from8, from12] = numbers;
+    let entries = Entries { from0, from4, from8, from12 };
+    Record { n, number, put, update, ticket, name, f, last, size, place, woven, entries }
 }

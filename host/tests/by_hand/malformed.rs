@@ -8,34 +8,47 @@ const TOO_LARGE: &str = "18446744073709551616";
 
 #[test]
 fn malformed_lines() {
-    let bad: [&[u8]; 76] = [
+    let bad: [&[u8]; 91] = [
         b"",
         b",",
         b"\0",
         b"\r",
         b" ",
         b"\t",
-        b"RECENT\r",
-        b"RECENT\0",
-        b"RECENT ",
-        b" RECENT",
-        b"\0RECENT",
+        b"RECENT",
         b"RECENT,",
-        b",RECENT",
-        b"RECENT,0",
-        b"RECENTRECENT",
-        b"RECEN",
-        b"RECENTS",
-        b"recent",
-        b"Recent",
-        b"\xefRECENT",
-        b"\xef\xbb\xbfRECENT",
-        b"RECENT\x80",
+        b"RECENT,,0",
+        b"RECENT,0\r",
+        b"RECENT,0\0",
+        b"RECENT,0 ",
+        b" RECENT,0",
+        b"\0RECENT,0",
+        b"RECENT,0,",
+        b",RECENT,0",
+        b"RECENT,0,0",
+        b"RECENT,0RECENT,0",
+        b"RECEN,0",
+        b"RECENTS,0",
+        b"recent,0",
+        b"Recent,0",
+        b"\xefRECENT,0",
+        b"\xef\xbb\xbfRECENT,0",
+        b"RECENT,0\x80",
         b"\xff",
-        b"\xd2ECENT",
+        b"\xd2ECENT,0",
+        b"PUBLISH",
         b"PUBLISH,",
-        b"PUBLISH,1",
-        b"publish",
+        b"PUBLISH,0,",
+        b"PUBLISH,0,1",
+        b"publish,0",
+        b"BRANCH",
+        b"BRANCH,",
+        b"BRANCH,0",
+        b"BRANCH,0,",
+        b"BRANCH,0,0,0",
+        b"BRANCH,,0",
+        b"branch,0,0",
+        b"LINE,0,0",
         b"BEGIN",
         b"BEGIN,",
         b"BEGIN,,",
@@ -58,15 +71,17 @@ fn malformed_lines() {
         b"BEGIN,1/",
         b"BEGIN,:",
         b"SIZE",
-        b"SIZE,0,0",
-        b"READ,0,0",
-        b"READ,0,0,0,0",
-        b"STAMP,0",
-        b"STAMP,0,0,0",
-        b"WRITE,1",
-        b"WRITE,1,0,0",
+        b"SIZE,0",
+        b"SIZE,0,0,0",
+        b"READ,0,0,0",
+        b"READ,0,0,0,0,0",
+        b"STAMP,0,0",
+        b"STAMP,0,0,0,0",
+        b"WRITE,0,1",
+        b"WRITE,0,1,0,0",
         b"APPEND",
-        b"APPEND,1,0",
+        b"APPEND,1",
+        b"APPEND,0,1,0",
         b"WEAVE",
         b"WEAVE,1,1",
         b"FORMAT",
@@ -74,9 +89,9 @@ fn malformed_lines() {
         b"FORMAT,16,4,8,2,1",
         b"FORMAT,16,4,8,2,",
         b"format,16,4,8,2",
-        b"VIEW,0,0",
-        b"ASSIGN,1",
-        b"ASSIGN,1,0",
+        b"VIEW,0,0,0",
+        b"ASSIGN,0,1",
+        b"ASSIGN,0,1,0",
         b"HELLO",
         b"PUT,1",
         b"PUT,1,0",
@@ -108,16 +123,19 @@ fn malformed_page_bytes() {
 }
 
 /// Lines of every word that is read as numbers, in the state that `all_refused_with_0` makes.
-const NUMBERED: [&str; 9] = [
+const NUMBERED: [&str; 12] = [
     "FORMAT,16,4,8,2",
     "BEGIN,1",
     "PUT,1,0,11111111111111111111111111111111",
-    "WRITE,1,0",
-    "APPEND,1",
+    "WRITE,0,1,0",
+    "APPEND,0,1",
     "WEAVE,1",
-    "READ,0,0,0",
-    "SIZE,0",
-    "STAMP,0,0",
+    "PUBLISH,0",
+    "BRANCH,0,0",
+    "READ,0,0,0,0",
+    "SIZE,0,0",
+    "RECENT,0",
+    "STAMP,0,0,0",
 ];
 
 /// The numbered lines with one number after the other replaced.
@@ -192,28 +210,42 @@ fn the_largest_number_in_every_field() {
         PUT,M,0,<11> > refused,7
         PUT,1,M,<11> > refused,9
         PUT,1,0,<11> > put
-        WRITE,M,0 > refused,7
-        WRITE,1,M > refused,13
-        APPEND,M > refused,7
+        WRITE,0,M,0 > refused,7
+        WRITE,M,1,0 > refused,20
+        WRITE,0,1,M > refused,13
+        APPEND,0,M > refused,7
+        APPEND,M,1 > refused,20
         WEAVE,M > refused,7
-        APPEND,1 > version,1,1
+        PUBLISH,M > refused,20
+        BRANCH,M,0 > refused,20
+        BRANCH,0,M > refused,16
+        APPEND,0,1 > version,1,1
         WEAVE,1 > node,1,0,1,0,0,0
-        PUBLISH > published,1
-        READ,M,0,0 > refused,16
-        READ,1,M,0 > refused,17
-        READ,1,M,1 > refused,17
-        READ,1,M,256 > refused,17
-        READ,1,0,M > refused,0
-        READ,M,M,M > refused,0
-        SIZE,M > refused,16
-        STAMP,M,0 > refused,16
-        STAMP,1,M > refused,17
-        STAMP,M,M > refused,16
+        PUBLISH,0 > published,1
+        READ,M,1,0,0 > refused,20
+        READ,0,M,0,0 > refused,16
+        READ,0,1,M,0 > refused,17
+        READ,0,1,M,1 > refused,17
+        READ,0,1,M,256 > refused,17
+        READ,0,1,0,M > refused,0
+        READ,M,M,M,M > refused,0
+        SIZE,M,1 > refused,20
+        SIZE,0,M > refused,16
+        RECENT,M > refused,20
+        STAMP,M,1,0 > refused,20
+        STAMP,0,M,0 > refused,16
+        STAMP,0,1,M > refused,17
+        STAMP,0,M,M > refused,16
         BEGIN,Z > refused,0
         WEAVE,Z > refused,0
-        SIZE,Z > refused,0
-        READ,1,Z,0 > refused,0
-        STAMP,1,Z > refused,0";
+        PUBLISH,Z > refused,0
+        BRANCH,Z,0 > refused,0
+        BRANCH,0,Z > refused,0
+        RECENT,Z > refused,0
+        SIZE,0,Z > refused,0
+        READ,Z,1,0,0 > refused,0
+        READ,0,1,Z,0 > refused,0
+        STAMP,0,1,Z > refused,0";
     agree_on(
         &text
             .replace(",M", &format!(",{LARGEST}"))
@@ -226,7 +258,7 @@ fn every_byte_at_every_place_of_a_line() {
     let mut lines = vec![b"FORMAT,16,4,8,2".to_vec()];
     for byte in (0..=255).filter(|byte| *byte != b'\n') {
         lines.push(vec![byte]);
-        for line in [&b"SIZE,0"[..], b"RECENT", b"PUT,0,0,1f"] {
+        for line in [&b"SIZE,0,0"[..], b"RECENT,0", b"PUT,0,0,1f"] {
             for at in 0..=line.len() {
                 lines.push([&line[..at], &[byte], &line[at..]].concat());
                 lines.push([&line[..at], &[byte], &line[(at + 1).min(line.len())..]].concat());
@@ -251,7 +283,7 @@ fn lines_of_600_and_601_bytes() {
     text += &format!("PUT,1,0,{} > refused,0\n", digits(593));
     text += &format!("PUT,1,0,{} > refused,0\n", digits(594));
     text += &format!("PUT,1,0,{} > put\n", digits(512));
-    text += "RECENT > recent,0";
+    text += "RECENT,0 > recent,0";
     agree_on(&text);
 }
 
@@ -263,11 +295,11 @@ fn lines_far_above_600_bytes() {
         [&put[..], b"1"].concat(),
         [b"1", &put[..]].concat(),
         [&put[..], &put[..]].concat(),
-        [&b"A".repeat(600)[..], b"RECENT"].concat(),
-        [&b"A".repeat(601)[..], b"RECENT"].concat(),
-        [&b"RECENT\0"[..], &b"\0".repeat(600)].concat(),
-        [&b"RECENT,"[..], &b",".repeat(600)].concat(),
-        b"RECENT".repeat(200),
+        [&b"A".repeat(600)[..], b"RECENT,0"].concat(),
+        [&b"A".repeat(601)[..], b"RECENT,0"].concat(),
+        [&b"RECENT,0\0"[..], &b"\0".repeat(600)].concat(),
+        [&b"RECENT,0,"[..], &b",".repeat(600)].concat(),
+        b"RECENT,0".repeat(200),
         b"\r".repeat(700),
         b"\xff".repeat(5_000),
         b"0".repeat(1_000_000),
@@ -277,7 +309,7 @@ fn lines_far_above_600_bytes() {
     ];
     for length in around {
         bad.extend((length - 1..=length + 2).map(|length| b"A".repeat(length)));
-        bad.push([&b"A".repeat(length)[..], b"RECENT"].concat());
+        bad.push([&b"A".repeat(length)[..], b"RECENT,0"].concat());
     }
     all_refused_with_0(bad);
 }

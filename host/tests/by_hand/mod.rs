@@ -4,6 +4,7 @@ mod boundaries;
 mod ends;
 mod faults;
 mod limits;
+mod lines;
 mod malformed;
 mod rows;
 
@@ -73,7 +74,7 @@ fn count(answers: &[String], wanted: &str) -> usize {
 fn all_refused_with_0<L: Into<Vec<u8>>>(bad: impl IntoIterator<Item = L>) {
     let (mut lines, mut answers) = transcript("FORMAT,16,4,8,2 > ok\nBEGIN,1 > ticket,1");
     for line in bad {
-        lines.extend([line.into(), b"RECENT".to_vec()]);
+        lines.extend([line.into(), b"RECENT,0".to_vec()]);
         answers.extend(["refused,0", "recent,0"].map(String::from));
     }
     agree(lines, answers);

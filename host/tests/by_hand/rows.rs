@@ -17,7 +17,7 @@ fn row_1_page_size_not_allowed() {
         FORMAT,255,1,1,1 > refused,1
         FORMAT,17,0,0,0 > refused,1
         FORMAT,0,0,1,1 > refused,1
-        RECENT > refused,0
+        RECENT,0 > refused,0
         FORMAT,16,1,1,1 > ok
         FORMAT,32,1,1,1 > ok
         FORMAT,64,1,1,1 > ok
@@ -34,7 +34,7 @@ fn row_2_capacity_not_allowed() {
         FORMAT,16,1,0,1 > refused,2
         FORMAT,16,1,1,0 > refused,2
         FORMAT,256,0,0,0 > refused,2
-        RECENT > refused,0
+        RECENT,0 > refused,0
         FORMAT,16,1,1,1 > ok
         FORMAT,256,128,2048,256 > ok
         FORMAT,16,2048,2048,256 > ok",
@@ -85,7 +85,7 @@ fn row_6_too_few_page_numbers() {
         BEGIN,1 > ticket,2
         BEGIN,1 > refused,6
         PUT,2,0,<21> > put
-        APPEND,2 > version,1,1
+        APPEND,0,2 > version,1,1
         WEAVE,2 > node,1,0,1,3,0,0
         BEGIN,1 > refused,6",
     );
@@ -97,24 +97,24 @@ fn row_7_no_such_ticket() {
         "
         FORMAT,16,4,8,2 > ok
         PUT,1,0,<11> > refused,7
-        WRITE,1,0 > refused,7
-        APPEND,1 > refused,7
+        WRITE,0,1,0 > refused,7
+        APPEND,0,1 > refused,7
         WEAVE,1 > refused,7
         BEGIN,1 > ticket,1
         PUT,0,0,<11> > refused,7
-        WRITE,0,0 > refused,7
-        APPEND,0 > refused,7
+        WRITE,0,0,0 > refused,7
+        APPEND,0,0 > refused,7
         WEAVE,0 > refused,7
         PUT,2,9, > refused,7
-        WRITE,2,9 > refused,7
-        APPEND,2 > refused,7
+        WRITE,0,2,9 > refused,7
+        APPEND,0,2 > refused,7
         WEAVE,2 > refused,7
         PUT,4294967297,0,<11> > refused,7
-        WRITE,4294967297,0 > refused,7
-        APPEND,4294967297 > refused,7
+        WRITE,0,4294967297,0 > refused,7
+        APPEND,0,4294967297 > refused,7
         WEAVE,4294967297 > refused,7
         PUT,1,0,<11> > put
-        APPEND,1 > version,1,1",
+        APPEND,0,1 > version,1,1",
     );
 }
 
@@ -128,26 +128,26 @@ fn row_8_out_of_turn() {
         PUT,1,0,<11> > put
         PUT,1,1,<12> > put
         WEAVE,1 > refused,8
-        APPEND,1 > version,1,3
+        APPEND,0,1 > version,1,3
         PUT,1,0,<11> > refused,8
         PUT,1,2,<11> > refused,8
         PUT,1,0, > refused,8
-        APPEND,1 > refused,8
-        WRITE,1,0 > refused,8
-        WRITE,1,9 > refused,8
+        APPEND,0,1 > refused,8
+        WRITE,0,1,0 > refused,8
+        WRITE,0,1,9 > refused,8
         WEAVE,1 > node,1,0,2,1,1,2
-        APPEND,1 > refused,8
+        APPEND,0,1 > refused,8
         WEAVE,1 > node,1,0,1,0,0,1
         PUT,1,0,<11> > refused,8
         WEAVE,1 > node,1,1,1,1,0,0
         WEAVE,1 > refused,8
-        PUBLISH > published,1
+        PUBLISH,0 > published,1
         WEAVE,1 > refused,8
-        APPEND,1 > refused,8
+        APPEND,0,1 > refused,8
         PUT,1,0,<11> > refused,8
-        PUBLISH > waiting
-        RECENT > recent,1
-        READ,1,15,2 > bytes,1112",
+        PUBLISH,0 > waiting
+        RECENT,0 > recent,1
+        READ,0,1,15,2 > bytes,1112",
     );
 }
 
@@ -181,12 +181,12 @@ fn row_10_page_already_put() {
         PUT,1,1, > refused,10
         PUT,1,0,<11> > put
         PUT,1,0,<33> > refused,10
-        APPEND,1 > version,1,3
+        APPEND,0,1 > version,1,3
         WEAVE,1 > node,1,0,2,1,1,2
         WEAVE,1 > node,1,0,1,0,0,1
         WEAVE,1 > node,1,1,1,1,0,0
-        PUBLISH > published,1
-        READ,1,15,2 > bytes,1122",
+        PUBLISH,0 > published,1
+        READ,0,1,15,2 > bytes,1122",
     );
 }
 
@@ -200,7 +200,7 @@ fn row_11_bytes_not_of_the_page_size() {
         PUT,1,0,11 > refused,11
         PUT,1,0,111111111111111111111111111111 > refused,11
         PUT,1,0,1111111111111111111111111111111111 > refused,11
-        APPEND,1 > refused,12
+        APPEND,0,1 > refused,12
         PUT,1,0,<11> > put
         FORMAT,32,4,8,2 > ok
         BEGIN,1 > ticket,1
@@ -215,15 +215,15 @@ fn row_12_page_not_yet_put() {
         "
         FORMAT,16,4,1,2 > ok
         BEGIN,2 > ticket,1
-        APPEND,1 > refused,12
-        WRITE,1,0 > refused,12
-        WRITE,1,9 > refused,12
+        APPEND,0,1 > refused,12
+        WRITE,0,1,0 > refused,12
+        WRITE,0,1,9 > refused,12
         PUT,1,1,<11> > put
-        APPEND,1 > refused,12
-        WRITE,1,9 > refused,12
+        APPEND,0,1 > refused,12
+        WRITE,0,1,9 > refused,12
         PUT,1,0,<11> > put
-        WRITE,1,9 > refused,13
-        APPEND,1 > refused,15",
+        WRITE,0,1,9 > refused,13
+        APPEND,0,1 > refused,15",
     );
 }
 
@@ -239,14 +239,14 @@ fn row_13_write_past_the_last_assigned_size() {
         PUT,1,2,<11> > put
         PUT,1,3,<11> > put
         PUT,2,0,<21> > put
-        WRITE,1,1 > refused,13
-        WRITE,1,4096 > refused,13
-        WRITE,1,4294967296 > refused,13
-        WRITE,2,1 > refused,13
-        WRITE,2,0 > version,1,1
-        WRITE,1,2 > refused,13
-        WRITE,1,1 > refused,15
-        APPEND,1 > refused,15",
+        WRITE,0,1,1 > refused,13
+        WRITE,0,1,4096 > refused,13
+        WRITE,0,1,4294967296 > refused,13
+        WRITE,0,2,1 > refused,13
+        WRITE,0,2,0 > version,1,1
+        WRITE,0,1,2 > refused,13
+        WRITE,0,1,1 > refused,15
+        APPEND,0,1 > refused,15",
     );
 }
 
@@ -260,19 +260,19 @@ fn row_15_too_few_node_places() {
         PUT,1,1,<11> > put
         PUT,1,2,<11> > put
         PUT,1,3,<11> > put
-        APPEND,1 > refused,15
-        WRITE,1,0 > refused,15
+        APPEND,0,1 > refused,15
+        WRITE,0,1,0 > refused,15
         BEGIN,1 > ticket,2
         PUT,2,0,<21> > put
-        APPEND,2 > version,1,1
+        APPEND,0,2 > version,1,1
         BEGIN,2 > ticket,3
         PUT,3,0,<31> > put
         PUT,3,1,<32> > put
-        APPEND,3 > version,2,5
+        APPEND,0,3 > version,2,5
         BEGIN,1 > ticket,4
         PUT,4,0,<41> > put
-        WRITE,4,0 > refused,15
-        APPEND,4 > refused,15
+        WRITE,0,4,0 > refused,15
+        APPEND,0,4 > refused,15
         WEAVE,1 > refused,8
         FORMAT,16,8,7,4 > ok
         BEGIN,4 > ticket,1
@@ -280,7 +280,7 @@ fn row_15_too_few_node_places() {
         PUT,1,1,<11> > put
         PUT,1,2,<11> > put
         PUT,1,3,<11> > put
-        APPEND,1 > version,1,7",
+        APPEND,0,1 > version,1,7",
     );
 }
 
@@ -289,36 +289,36 @@ fn row_16_version_not_published() {
     agree_on(
         "
         FORMAT,16,4,8,2 > ok
-        READ,0,0,0 > bytes,
-        SIZE,0 > size,0
-        STAMP,0,0 > refused,17
-        READ,1,0,0 > refused,16
-        SIZE,1 > refused,16
-        STAMP,1,0 > refused,16
+        READ,0,0,0,0 > bytes,
+        SIZE,0,0 > size,0
+        STAMP,0,0,0 > refused,17
+        READ,0,1,0,0 > refused,16
+        SIZE,0,1 > refused,16
+        STAMP,0,1,0 > refused,16
         BEGIN,1 > ticket,1
         PUT,1,0,<11> > put
-        APPEND,1 > version,1,1
-        SIZE,1 > refused,16
+        APPEND,0,1 > version,1,1
+        SIZE,0,1 > refused,16
         WEAVE,1 > node,1,0,1,0,0,0
-        READ,1,0,1 > refused,16
-        READ,1,17,1 > refused,16
-        SIZE,1 > refused,16
-        STAMP,1,0 > refused,16
-        STAMP,1,1 > refused,16
-        RECENT > recent,0
-        PUBLISH > published,1
-        READ,1,0,1 > bytes,11
-        SIZE,1 > size,16
-        STAMP,1,0 > stamp,1
-        RECENT > recent,1
-        READ,2,17,1 > refused,16
-        SIZE,2 > refused,16
-        STAMP,2,1 > refused,16
-        SIZE,4294967297 > refused,16
-        READ,4294967297,0,1 > refused,16
-        STAMP,4294967297,0 > refused,16
-        READ,0,0,0 > bytes,
-        SIZE,0 > size,0",
+        READ,0,1,0,1 > refused,16
+        READ,0,1,17,1 > refused,16
+        SIZE,0,1 > refused,16
+        STAMP,0,1,0 > refused,16
+        STAMP,0,1,1 > refused,16
+        RECENT,0 > recent,0
+        PUBLISH,0 > published,1
+        READ,0,1,0,1 > bytes,11
+        SIZE,0,1 > size,16
+        STAMP,0,1,0 > stamp,1
+        RECENT,0 > recent,1
+        READ,0,2,17,1 > refused,16
+        SIZE,0,2 > refused,16
+        STAMP,0,2,1 > refused,16
+        SIZE,0,4294967297 > refused,16
+        READ,0,4294967297,0,1 > refused,16
+        STAMP,0,4294967297,0 > refused,16
+        READ,0,0,0,0 > bytes,
+        SIZE,0,0 > size,0",
     );
 }
 
@@ -331,27 +331,27 @@ fn row_17_not_inside_the_snapshot() {
         BEGIN,1 > ticket,2
         PUT,1,0,<11> > put
         PUT,2,0,<22> > put
-        APPEND,1 > version,1,1
-        APPEND,2 > version,2,2
+        APPEND,0,1 > version,1,1
+        APPEND,0,2 > version,2,2
         WEAVE,1 > node,1,0,1,0,0,0
         WEAVE,2 > node,2,0,2,1,2,1
         WEAVE,2 > node,2,1,1,1,0,0
-        PUBLISH > published,1
-        PUBLISH > published,2
-        READ,1,0,17 > refused,17
-        READ,1,16,1 > refused,17
-        READ,1,17,0 > refused,17
-        READ,1,4294967296,0 > refused,17
-        STAMP,1,1 > refused,17
-        STAMP,1,4294967296 > refused,17
-        READ,2,0,17 > bytes,1111111111111111111111111111111122
-        READ,2,32,1 > refused,17
-        STAMP,2,0 > stamp,1
-        STAMP,2,1 > stamp,2
-        STAMP,2,2 > refused,17
-        STAMP,2,16 > refused,17
-        READ,0,0,1 > refused,17
-        STAMP,0,0 > refused,17",
+        PUBLISH,0 > published,1
+        PUBLISH,0 > published,2
+        READ,0,1,0,17 > refused,17
+        READ,0,1,16,1 > refused,17
+        READ,0,1,17,0 > refused,17
+        READ,0,1,4294967296,0 > refused,17
+        STAMP,0,1,1 > refused,17
+        STAMP,0,1,4294967296 > refused,17
+        READ,0,2,0,17 > bytes,1111111111111111111111111111111122
+        READ,0,2,32,1 > refused,17
+        STAMP,0,2,0 > stamp,1
+        STAMP,0,2,1 > stamp,2
+        STAMP,0,2,2 > refused,17
+        STAMP,0,2,16 > refused,17
+        READ,0,0,0,1 > refused,17
+        STAMP,0,0,0 > refused,17",
     );
 }
 
@@ -361,8 +361,8 @@ fn row_17_not_inside_the_snapshot() {
 fn row_14_is_out_of_reach() {
     let mut lines = vec!["FORMAT,16,2048,2048,256".to_string()];
     for ticket in 1..=32 {
-        lines.extend(update(ticket, 64, &format!("APPEND,{ticket}")));
-        lines.push(format!("WRITE,{ticket},4096"));
+        lines.extend(update(ticket, 64, &format!("APPEND,0,{ticket}")));
+        lines.push(format!("WRITE,0,{ticket},4096"));
     }
     lines.push("BEGIN,1".to_string());
     let answers = same_as_model(lines);
@@ -379,16 +379,16 @@ fn row_14_is_out_of_reach() {
 #[test]
 fn row_18_is_out_of_reach() {
     let mut lines = vec!["FORMAT,16,17,64,1".to_string()];
-    lines.extend(update(1, 17, "APPEND,1"));
+    lines.extend(update(1, 17, "APPEND,0,1"));
     lines.extend(vec!["WEAVE,1".to_string(); 38]);
     let whole: String = (1..=16).map(|i| page(1, i)).collect();
     let last = [
-        ("PUBLISH", "published,1".to_string()),
-        ("READ,1,16,256", format!("bytes,{whole}")),
-        ("READ,1,0,257", "refused,0".to_string()),
-        ("READ,1,16,257", "refused,0".to_string()),
-        ("READ,1,17,256", "refused,17".to_string()),
-        ("READ,1,272,0", "bytes,".to_string()),
+        ("PUBLISH,0", "published,1".to_string()),
+        ("READ,0,1,16,256", format!("bytes,{whole}")),
+        ("READ,0,1,0,257", "refused,0".to_string()),
+        ("READ,0,1,16,257", "refused,0".to_string()),
+        ("READ,0,1,17,256", "refused,17".to_string()),
+        ("READ,0,1,272,0", "bytes,".to_string()),
     ];
     lines.extend(last.iter().map(|(line, _)| line.to_string()));
     let answers = same_as_model(lines);

@@ -147,7 +147,7 @@ fn a_try_answers_ones_own_input_without_proof() {
     assert_eq!(text(&end.stdout).lines().last(), Some("bytes,2222"));
     assert!(text(&end.stderr).contains("NOT PROVED"));
 
-    let input = b"FORMAT,16,2,2,2\nBEGIN,1\nPUT,1,0,ab\nRECENT";
+    let input = b"FORMAT,16,2,2,2\nBEGIN,1\nPUT,1,0,ab\nRECENT,0";
     let (answers, told, well) = steps(&["--try"], input);
     assert!(well, "{told}");
     assert_eq!(answers, "ok\nticket,1\nrefused,11\nrecent,0\n");

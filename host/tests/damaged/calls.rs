@@ -2,24 +2,26 @@
 
 use crate::memory::{Fenced, Memory};
 use pit_host::{
-    ByteOffset, Error, Keeper, Lent, LentAreas, Limits, PageIndex, Record, State, Ticket, Version,
+    ByteOffset, Error, Keeper, Lent, LentAreas, Limits, Line, LineVersion, PageIndex, Record,
+    State, Ticket, Version,
 };
 
-/// A call with its arguments. PUT and READ come with the length of their bytes or buffer.
+/// A call with its arguments, the line first. PUT and READ come with the length of their bytes or buffer.
 #[derive(Clone, Copy, Debug)]
 pub enum Call {
     Format(Limits),
     Begin(u64),
     Put(u64, u64, usize),
-    Write(u64, u64),
-    Append(u64),
+    Write(u64, u64, u64),
+    Append(u64, u64),
     Weave(u64),
-    Publish,
-    Read(u64, u64, u64, usize),
-    Size(u64),
-    Recent,
-    Stamp(u64, u64),
-    View(u64, u64),
+    Publish(u64),
+    Branch(u64, u64),
+    Read([u64; 4], usize),
+    Size(u64, u64),
+    Recent(u64),
+    Stamp(u64, u64, u64),
+    View(u64, u64, u64),
 }
 
 impl Call {
@@ -31,10 +33,11 @@ impl Call {
             Call::Write(..) => "WRITE",
             Call::Append(..) => "APPEND",
             Call::Weave(..) => "WEAVE",
-            Call::Publish => "PUBLISH",
+            Call::Publish(..) => "PUBLISH",
+            Call::Branch(..) => "BRANCH",
             Call::Read(..) => "READ",
             Call::Size(..) => "SIZE",
-            Call::Recent => "RECENT",
+            Call::Recent(..) => "RECENT",
             Call::Stamp(..) => "STAMP",
             Call::View(..) => "VIEW",
         }
@@ -60,12 +63,23 @@ impl Call {
                 due.tickets += 1;
                 due.taken += n;
             }
-            Call::Write(..) | Call::Append(..) => {
+            Call::Write(line, ..) | Call::Append(line, _) => {
                 due.assigned += 1;
                 due.places = after.places.max(before.places + 1);
-                due.blob = after.blob.max(before.blob);
+                let (of, after) = (&mut due.lines[line as usize], &after.lines[line as usize]);
+                of.assigned += 1;
+                of.blob = after.blob.max(of.blob);
             }
-            Call::Publish => due.published = due.published.wrapping_add(1), // if it is not waiting
+            Call::Publish(line) => {
+                let of = &mut due.lines[line as usize];
+                of.published = of.published.wrapping_add(1); // if it is not waiting
+            }
+            Call::Branch(line, v) => {
+                let new = &mut due.lines[before.begun as usize];
+                (new.source, new.start, new.assigned, new.published) = (line, v, v, v);
+                new.blob = after.lines[before.begun as usize].blob;
+                due.begun += 1;
+            }
             _ => (),
         }
         *after == due
@@ -74,7 +88,7 @@ impl Call {
     /// How long its bytes or its buffer are.
     fn room(&self) -> usize {
         match *self {
-            Call::Put(_, _, room) | Call::Read(_, _, _, room) => room,
+            Call::Put(_, _, room) | Call::Read(_, room) => room,
             _ => 0,
         }
     }
@@ -86,43 +100,98 @@ impl Call {
             Call::Format(limits) => vec![format_row(&limits, memory)],
             _ if lengths_differ(s, memory) => vec![3],
             Call::Begin(n) => vec![begin_row(s, n)],
-            Call::Publish => vec![publish_row(s)],
-            Call::Recent => vec![0],
-            Call::Put(t, ..) | Call::Write(t, _) | Call::Append(t) | Call::Weave(t) => {
-                self.may_answer_for_ticket(t, s)
+            Call::Recent(line) => vec![if no_line(s, line) { 20 } else { 0 }],
+            Call::Publish(line) => publish_rows(s, memory, line),
+            Call::Put(t, ..) | Call::Write(_, t, _) | Call::Append(_, t) | Call::Weave(t) => {
+                self.may_answer_for_ticket(t, s, memory)
             }
-            Call::Read(v, ..) | Call::Size(v) | Call::Stamp(v, _) | Call::View(v, _) => {
-                self.may_answer_for_version(v, s)
-            }
+            Call::Read([line, v, ..], _)
+            | Call::Branch(line, v)
+            | Call::Size(line, v)
+            | Call::Stamp(line, v, _)
+            | Call::View(line, v, _) => self.may_answer_for_version(line, v, s, memory),
         }
     }
 
     /// A row that would read a record past the register does not hold: 19 does, in its turn as the last.
-    fn may_answer_for_ticket(&self, ticket: u64, s: &State) -> Vec<u64> {
-        let past = s.updates < ticket;
+    fn may_answer_for_ticket(&self, ticket: u64, s: &State, memory: &Memory) -> Vec<u64> {
+        if ticket == 0 || s.tickets < ticket {
+            return vec![7];
+        }
+        let record = memory.register.part().get(ticket as usize - 1);
+        let past = record.is_none();
+        if record.map_or(false, |r| r.update != 0) && !matches!(self, Call::Weave(_)) {
+            return vec![8];
+        }
         match *self {
-            _ if ticket == 0 || s.tickets < ticket => vec![7],
+            Call::Write(line, ..) | Call::Append(line, _) if no_line(s, line) => vec![20],
             Call::Put(_, _, room) if past && room as u64 != s.size => vec![11],
-            Call::Write(_, f) if past && s.blob < f => vec![13],
+            Call::Write(line, _, f) if past && s.lines[line as usize].blob < f => vec![13],
             _ if past => vec![19],
-            Call::Put(..) => vec![0, 8, 9, 10, 11, 19],
-            Call::Write(..) => vec![0, 8, 12, 13, 14, 15, 19],
-            Call::Append(_) => vec![0, 8, 12, 14, 15, 19],
+            Call::Put(..) => vec![0, 9, 10, 11, 19],
+            Call::Write(..) => vec![0, 12, 13, 14, 15, 19],
+            Call::Append(..) => vec![0, 12, 14, 15, 19],
             _ => vec![0, 8, 19],
         }
     }
 
-    fn may_answer_for_version(&self, version: u64, s: &State) -> Vec<u64> {
-        let past = s.updates < version;
+    /// BRANCH, READ, SIZE, STAMP and VIEW. Where the register does not name the version's update at once, it may name one
+    /// that is not there.
+    fn may_answer_for_version(
+        &self,
+        line: u64,
+        version: u64,
+        s: &State,
+        memory: &Memory,
+    ) -> Vec<u64> {
+        if no_line(s, line) {
+            return vec![20];
+        }
+        let past = past_register(s, version);
         match *self {
-            _ if s.published < version => vec![16],
-            Call::Read(_, _, len, room) if past && (room as u64) < len => vec![18],
+            _ if s.lines[line as usize].published < version => vec![16],
+            Call::Branch(..) if s.begun >= 16 => vec![21],
+            Call::Read([.., len], room) if past && (room as u64) < len => vec![18],
             _ if past => vec![19],
             Call::Read(..) => vec![0, 17, 18, 19],
-            Call::Size(_) => vec![0],
+            Call::Size(..) | Call::Branch(..) if at_once(s, memory, line, version) => vec![0],
+            Call::Size(..) | Call::Branch(..) => vec![0, 19],
             _ => vec![0, 17, 19],
         }
     }
+}
+
+/// Row 20. No store has more than sixteen lines, whatever its state says.
+fn no_line(s: &State, line: u64) -> bool {
+    s.begun.min(16) <= line
+}
+
+/// Whether a version lies past the register, so that its record cannot be there. Numbers of versions have 16 bits: what is
+/// more, on a state that no run of calls left, is read by its low bits.
+fn past_register(s: &State, version: u64) -> bool {
+    s.updates < version && version < 65_536
+}
+
+/// Whether a version's record is that of its own number: the version is 0, or the record of that number names it.
+fn at_once(s: &State, memory: &Memory, line: u64, version: u64) -> bool {
+    if version == 0 {
+        return true;
+    }
+    let own = LineVersion::new(Line(owner_of(s, line, version)), Version(version));
+    let record = memory.register.part().get(version as usize - 1);
+    record.map(|r| r.name) == Some(own.0)
+}
+
+/// The line on which a version got its number: from line to source as long as the version is not above the start.
+fn owner_of(s: &State, mut line: u64, version: u64) -> u64 {
+    for _ in 0..15 {
+        let of = &s.lines[line as usize];
+        if of.start < version {
+            break;
+        }
+        line = of.source.min(15);
+    }
+    line
 }
 
 /// Row 3. Products are compared in 128 bits, where none wraps.
@@ -162,11 +231,19 @@ fn begin_row(s: &State, n: u64) -> u64 {
 }
 
 /// Waiting is no refusal.
-fn publish_row(s: &State) -> u64 {
-    if s.published < s.assigned && s.updates <= s.published {
-        19
+fn publish_rows(s: &State, memory: &Memory, line: u64) -> Vec<u64> {
+    if no_line(s, line) {
+        return vec![20];
+    }
+    let of = &s.lines[line as usize];
+    if of.assigned <= of.published {
+        vec![0]
+    } else if past_register(s, of.published + 1) {
+        vec![19]
+    } else if of.start <= of.published && at_once(s, memory, line, of.published + 1) {
+        vec![0]
     } else {
-        0
+        vec![0, 19]
     }
 }
 
@@ -175,6 +252,7 @@ fn fresh(limits: &Limits) -> State {
     let mut state = State::default();
     (state.size, state.pages) = (limits.page_size, limits.pages);
     (state.nodes, state.updates) = (limits.nodes, limits.updates);
+    state.begun = 1;
     state
 }
 
@@ -225,7 +303,7 @@ impl Scene {
         let moved = refusal == 0 && call.moves(&before.state, &self.state);
         claim(moved || self.state == before.state, "state changed")?;
         let filled = match call {
-            Call::Read(_, _, len, _) if refusal == 0 => len as usize,
+            Call::Read([.., len], _) if refusal == 0 => len as usize,
             _ => 0,
         };
         claim(
@@ -246,7 +324,7 @@ impl Scene {
         let records = differing(old.register.part(), new.register.part());
         let most = match call {
             Call::Format(..) => return Ok(()),       // it has been looked at
-            Call::Write(..) | Call::Append(..) => 2, // the ticket's and the version's
+            Call::Write(..) | Call::Append(..) => 3, // the ticket's, the update's and the version's
             _ => 1,
         };
         claim(records.len() <= most, "too many records changed")?;
@@ -273,15 +351,20 @@ impl Scene {
         let done = match call {
             Call::Begin(n) => store.begin(n).map(drop),
             Call::Put(t, i, _) => store.put(Ticket(t), i, buffer.part()),
-            Call::Write(t, f) => store.write(Ticket(t), PageIndex(f)).map(drop),
-            Call::Append(t) => store.append(Ticket(t)).map(drop),
+            Call::Write(l, t, f) => store.write(Line(l), Ticket(t), PageIndex(f)).map(drop),
+            Call::Append(l, t) => store.append(Line(l), Ticket(t)).map(drop),
             Call::Weave(t) => weave(&mut store, t)?,
-            Call::Publish => store.publish().map(drop),
-            Call::Read(v, offset, len, _) => read(&store, [v, offset, len], buffer.lend())?,
-            Call::Size(v) => store.size(Version(v)).map(drop),
-            Call::Stamp(v, page) => store.stamp(Version(v), PageIndex(page)).map(drop),
-            Call::View(v, page) => view(&store, v, page)?,
-            Call::Recent | Call::Format(..) => store.recent().map(drop),
+            Call::Publish(l) => store.publish(Line(l)).map(drop),
+            Call::Branch(l, v) => store.branch(Line(l), Version(v)).map(drop),
+            Call::Read(range, _) => read(&store, range, buffer.lend())?,
+            Call::Size(l, v) => store.size(Line(l), Version(v)).map(drop),
+            Call::Stamp(l, v, page) => {
+                let stamp = store.stamp(Line(l), Version(v), PageIndex(page));
+                stamp.map(drop)
+            }
+            Call::View(l, v, page) => view(&store, Line(l), Version(v), PageIndex(page))?,
+            Call::Recent(l) => store.recent(Line(l)).map(drop),
+            Call::Format(..) => unreachable!("it has its own way"),
         };
         self.state = store.state();
         Ok(done.err().map_or(0, |refused| refused.number()))
@@ -318,8 +401,8 @@ fn weave(store: &mut Store<'_>, ticket: u64) -> Outcome {
         let at = number.checked_sub(1)? as usize;
         store.areas().register.get(at).copied()
     };
-    let version = record_of(store, ticket).map_or(0, |r| r.version);
-    let record = record_of(store, version).unwrap_or_default();
+    let update = record_of(store, ticket).map_or(0, |r| r.update);
+    let record = record_of(store, update).unwrap_or_default();
     let woven = store.weave(Ticket(ticket));
     if let Ok(node) = woven {
         let place = (record.place + record.woven) as usize;
@@ -337,12 +420,14 @@ fn weave(store: &mut Store<'_>, ticket: u64) -> Outcome {
 }
 
 /// READ. Accepted, it gives the bytes that VIEW shows, whatever the areas hold.
-fn read(store: &Store<'_>, [v, offset, len]: [u64; 3], buffer: &mut [u8]) -> Outcome {
-    let done = store.read(Version(v), ByteOffset(offset), len, buffer);
+fn read(store: &Store<'_>, range: [u64; 4], buffer: &mut [u8]) -> Outcome {
+    let [line, v, offset, len] = range;
+    let (line, version) = (Line(line), Version(v));
+    let done = store.read(line, version, ByteOffset(offset), len, buffer);
     let (size, filled) = (store.state().size, len.min(buffer.len() as u64));
     if done.is_ok() {
         for (at, byte) in (offset..).zip(&buffer[..filled as usize]) {
-            let shown = store.view(Version(v), PageIndex(at / size));
+            let shown = store.view(line, version, PageIndex(at / size));
             let shown = shown.map(|page| page[(at % size) as usize]);
             claim(shown == Ok(*byte), "READ and VIEW differ")?;
         }
@@ -351,9 +436,9 @@ fn read(store: &Store<'_>, [v, offset, len]: [u64; 3], buffer: &mut [u8]) -> Out
 }
 
 /// VIEW. It gives a page of the page area, and refuses as STAMP does.
-fn view(store: &Store<'_>, v: u64, page: u64) -> Outcome {
-    let (view, size) = (store.view(Version(v), PageIndex(page)), store.state().size);
-    let stamp = store.stamp(Version(v), PageIndex(page));
+fn view(store: &Store<'_>, line: Line, version: Version, page: PageIndex) -> Outcome {
+    let (view, size) = (store.view(line, version, page), store.state().size);
+    let stamp = store.stamp(line, version, page);
     claim(view.err() == stamp.err(), "VIEW and STAMP differ")?;
     if let Ok(part) = view {
         let area = store.areas().pages.as_ptr() as usize;

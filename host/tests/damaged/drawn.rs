@@ -3,10 +3,10 @@
 use crate::calls::{Call, Scene};
 use crate::memory::{Memory, Numbers};
 use crate::random::Random;
-use pit_host::{Error, Lent, Limits, PageIndex, Record, State};
+use pit_host::{Error, Lent, Limits, Line, PageIndex, Record, State, Version};
 
 /// Numbers at which a limit, a width or a sum can go wrong.
-const EDGES: [u64; 20] = [
+const EDGES: [u64; 22] = [
     15,
     16,
     63,
@@ -16,6 +16,8 @@ const EDGES: [u64; 20] = [
     4_096,
     4_097,
     65_535,
+    65_536,
+    65_537,
     131_072,
     (1 << 32) - 1,
     1 << 32,
@@ -51,7 +53,33 @@ fn near(random: &mut Random, number: u64) -> u64 {
 // Scenes that are wholly random.
 
 fn any_numbers<T: Numbers>(random: &mut Random) -> T {
-    T::of([(); 10].map(|()| any_number(random)))
+    let mut of = T::default();
+    for number in of.each() {
+        *number = any_number(random);
+    }
+    of
+}
+
+/// A state of random numbers. So many lines have begun as there are, or fewer, or more; the first one's versions are mostly
+/// its own.
+fn any_state(random: &mut Random) -> State {
+    let mut s: State = any_numbers(random);
+    if !random.one_in(4) {
+        s.begun = random.below(18);
+        (s.lines[0].start, s.lines[0].published) = (0, random.below(9));
+    }
+    s
+}
+
+/// The number of a version on one of the first lines, or on one that no store has.
+fn any_name(random: &mut Random) -> u64 {
+    let line = match random.below(8) {
+        0 => random.below(20),
+        1 => random.below(65_536),
+        2 | 3 => random.below(3),
+        _ => 0,
+    };
+    65_536 * line + random.below(8)
 }
 
 /// Random bytes as node numbers: mostly low ones, as versions are, or not stored.
@@ -59,29 +87,41 @@ fn any_node(random: &mut Random) -> u32 {
     match random.below(8) {
         0 => u32::MAX,
         1 => random.next() as u32,
+        2 => any_name(random) as u32,
         _ => random.below(8) as u32,
     }
 }
 
-/// Random numbers, or such as an update might have.
-fn any_record(random: &mut Random) -> Record {
-    if random.one_in(3) {
+/// Four low numbers of 16 bits.
+fn any_entries(random: &mut Random) -> u64 {
+    (0..4).fold(0, |word, _| 65_536 * word + random.below(9))
+}
+
+/// Random numbers, or such as an update might have; of the k-th record mostly such as line 0's version k has.
+fn any_record(random: &mut Random, k: u64) -> Record {
+    if random.one_in(6) {
         return any_numbers(random);
     }
     let (n, f) = (1 + random.below(4), random.below(3));
     let last = f + random.below(2);
     let mut record = Record::default();
     (record.n, record.number, record.put) = (n, random.below(6), (1 << n) - 1);
-    (record.version, record.ticket) = (random.below(5), random.below(5));
+    (record.update, record.ticket) = (random.below(5), random.below(5));
+    record.name = any_name(random);
     (record.f, record.last, record.size) = (f, last, last + 1 + random.below(2));
     (record.place, record.woven) = (random.below(12), random.below(10));
+    record.entries.from0 = any_entries(random);
+    record.entries.from12 = any_entries(random);
+    if !random.one_in(6) {
+        record.name = k;
+    }
     record
 }
 
 fn any_memory(random: &mut Random, lengths: [u64; 3]) -> Memory {
     let [pages, nodes, records] = lengths;
     let nodes: Vec<u32> = (0..nodes).map(|_| any_node(random)).collect();
-    let records: Vec<Record> = (0..records).map(|_| any_record(random)).collect();
+    let records: Vec<Record> = (1..=records).map(|k| any_record(random, k)).collect();
     Memory::new(&random.bytes(pages as usize), &nodes, &records)
 }
 
@@ -89,7 +129,7 @@ fn any_memory(random: &mut Random, lengths: [u64; 3]) -> Memory {
 pub fn random_scene(random: &mut Random) -> Scene {
     let lengths = [200, 50, 12].map(|most| random.below(most));
     Scene {
-        state: any_numbers(random),
+        state: any_state(random),
         memory: any_memory(random, lengths),
     }
 }
@@ -98,7 +138,7 @@ pub fn random_scene(random: &mut Random) -> Scene {
 pub fn fitting_scene(random: &mut Random) -> Scene {
     let size = random.pick(&[0, 1, 2, 3, 7, 16, 16, 16, 24, 64]);
     let capacities = [9, 40, 9].map(|above| random.below(above));
-    let mut s: State = any_numbers(random);
+    let mut s = any_state(random);
     s.size = size;
     [s.pages, s.nodes, s.updates] = capacities;
     Scene {
@@ -129,8 +169,15 @@ pub fn valid_scene(random: &mut Random, limits: Limits) -> Scene {
     Scene { state, memory }
 }
 
-/// An update, which may stop at any stage; an error where the store is full.
+/// An update on one of the lines, which may stop at any stage; now and then a new line before. An error where the store is
+/// full.
 fn update(random: &mut Random, store: &mut Lent<'_>) -> Result<(), Error> {
+    let line = random.below(2) * random.below(store.state().begun);
+    let mut line = Line(line);
+    if random.one_in(3) && store.state().begun < 16 {
+        let recent = store.recent(line)?;
+        line = store.branch(line, Version(random.below(recent.0 + 1)))?;
+    }
     let (n, size) = (1 + random.below(4), store.state().size as usize);
     let ticket = store.begin(n)?;
     let puts = if random.one_in(6) { n - 1 } else { n };
@@ -140,8 +187,8 @@ fn update(random: &mut Random, store: &mut Lent<'_>) -> Result<(), Error> {
     if puts < n || random.one_in(4) {
         return Ok(());
     }
-    let f = random.below(store.state().blob + 1);
-    let nodes = store.write(ticket, PageIndex(f))?.nodes;
+    let f = random.below(store.state().lines[line.0 as usize].blob + 1);
+    let nodes = store.write(line, ticket, PageIndex(f))?.nodes;
     let woven = if random.one_in(8) {
         random.below(nodes)
     } else {
@@ -150,7 +197,7 @@ fn update(random: &mut Random, store: &mut Lent<'_>) -> Result<(), Error> {
     for _ in 0..woven {
         store.weave(ticket)?;
     }
-    while !random.one_in(8) && store.publish()?.is_some() {}
+    while !random.one_in(8) && store.publish(line)?.is_some() {}
     Ok(())
 }
 
@@ -175,23 +222,32 @@ fn change(random: &mut Random, scene: &mut Scene) {
         // products with these wrap to what they were
         0 => s.size = s.size.wrapping_add(1 << 62),
         1 => s.nodes = s.nodes.wrapping_add(1 << 63),
-        2..=5 => *s = with_one_changed(random, *s),
+        2..=5 => {
+            let used = numbers_of(s).len();
+            change_one(random, &mut s.each()[..used]);
+        }
         6..=12 => {
             let record = pick_mut(random, scene.memory.register.lend());
-            *record = with_one_changed(random, *record);
+            change_one(random, &mut record.each());
         }
         _ => *pick_mut(random, scene.memory.nodes.lend()) = any_node(random),
     }
 }
 
-fn with_one_changed<T: Numbers>(random: &mut Random, whole: T) -> T {
-    let mut numbers = whole.numbers();
-    let number = pick_mut(random, &mut numbers);
-    *number = match random.below(3) {
+/// The numbers of a state up to the last line that has begun.
+fn numbers_of(s: &State) -> Vec<u64> {
+    let mut numbers = s.numbers();
+    numbers.truncate(9 + 5 * s.begun.clamp(1, 16) as usize);
+    numbers
+}
+
+fn change_one(random: &mut Random, numbers: &mut [&mut u64]) {
+    let number = pick_mut(random, numbers);
+    **number = match random.below(4) {
         0 => any_number(random),
-        _ => near(random, *number),
+        1 => any_name(random),
+        _ => near(random, **number),
     };
-    T::of(numbers)
 }
 
 fn pick_mut<'a, T>(random: &mut Random, from: &'a mut [T]) -> &'a mut T {
@@ -255,7 +311,7 @@ fn argument(random: &mut Random, scene: &Scene) -> u64 {
         0..=2 => return random.below(7),
         3 => return any_number(random),
         4 if !register.is_empty() => random.pick(register).numbers(),
-        _ => scene.state.numbers(),
+        _ => numbers_of(&scene.state),
     };
     let known = random.pick(&known);
     if random.one_in(2) {
@@ -274,26 +330,40 @@ fn up_to(random: &mut Random, scene: &Scene, last: u64) -> u64 {
     }
 }
 
+/// A line: mostly one that has begun, the first one most.
+fn some_line(random: &mut Random, scene: &Scene) -> u64 {
+    match random.below(8) {
+        0 => argument(random, scene),
+        1 => random.below(17),
+        2..=4 => 0,
+        _ => random.below(scene.state.begun.clamp(1, 16)),
+    }
+}
+
 pub fn call(random: &mut Random, scene: &Scene) -> Call {
     let s = &scene.state;
+    let line = some_line(random, scene);
+    let published = s.lines.get(line as usize).map_or(0, |l| l.published);
     let (ticket, version) = (
         up_to(random, scene, s.tickets),
-        up_to(random, scene, s.published),
+        up_to(random, scene, published),
     );
     let other = argument(random, scene);
-    match random.below(24) {
+    match random.below(26) {
         0 if random.one_in(4) => Call::Format(limits_of(random, scene)),
         0 | 1 => Call::Begin(up_to(random, scene, 6)),
         2..=4 => Call::Put(ticket, other, bytes_length(random, s)),
-        5 | 6 => Call::Write(ticket, other),
-        7 | 8 => Call::Append(ticket),
+        5 | 6 => Call::Write(line, ticket, other),
+        7 | 8 => Call::Append(line, ticket),
         9..=12 => Call::Weave(ticket),
-        13 | 14 => Call::Publish,
-        15..=17 => read(random, scene, version),
-        18 => Call::Size(version),
-        19 => Call::Recent,
-        20 | 21 => Call::Stamp(version, other),
-        _ => Call::View(version, other),
+        13 | 14 => Call::Publish(line),
+        15..=17 => read(random, scene, line, version),
+        18 => Call::Size(line, version),
+        19 => Call::Recent(line),
+        20 | 21 => Call::Stamp(line, version, other),
+        22 if random.one_in(2) => Call::Branch(line, 0),
+        22 | 23 => Call::Branch(line, version),
+        _ => Call::View(line, version, other),
     }
 }
 
@@ -317,7 +387,7 @@ fn bytes_length(random: &mut Random, s: &State) -> usize {
 }
 
 /// A range within a page or over some, or any; a buffer that has room for it, or not.
-fn read(random: &mut Random, scene: &Scene, version: u64) -> Call {
+fn read(random: &mut Random, scene: &Scene, line: u64, version: u64) -> Call {
     let size = scene.state.size.clamp(1, 4_096);
     let (offset, len) = match random.below(4) {
         0 => (argument(random, scene), argument(random, scene)),
@@ -332,5 +402,6 @@ fn read(random: &mut Random, scene: &Scene, version: u64) -> Call {
     } else {
         len
     };
-    Call::Read(version, offset, len, room.min(300) as usize)
+    let range = [line, version, offset, len];
+    Call::Read(range, room.min(300) as usize)
 }

@@ -61,7 +61,10 @@ pub struct Memory {
 
 impl Memory {
     pub fn new(pages: &[u8], nodes: &[u32], register: &[Record]) -> Memory {
-        let mark = Record::of([0xfe9c_e002; 10]);
+        let mut mark = Record::default();
+        mark.each()
+            .into_iter()
+            .for_each(|number| *number = 0xfe9c_e002);
         Memory {
             pages: Fenced::new(pages, 0xfe),
             nodes: Fenced::new(nodes, 0xfe9c_e001),
@@ -84,27 +87,39 @@ impl Memory {
     }
 }
 
-/// A struct that is ten numbers, in the order of its fields.
-pub trait Numbers: Copy {
-    fn of(numbers: [u64; 10]) -> Self;
-    fn numbers(self) -> [u64; 10];
+/// A struct that is numbers, in the order of its fields.
+pub trait Numbers: Copy + Default {
+    fn each(&mut self) -> Vec<&mut u64>;
+
+    fn numbers(mut self) -> Vec<u64> {
+        self.each().into_iter().map(|number| *number).collect()
+    }
 }
 
-macro_rules! ten_numbers {
-    ($kind:ident: $($field:ident),*) => {
-        impl Numbers for $kind {
-            fn of(numbers: [u64; 10]) -> $kind {
-                let mut of = $kind::default();
-                [$(of.$field),*] = numbers;
-                of
-            }
-
-            fn numbers(self) -> [u64; 10] {
-                [$(self.$field),*]
-            }
-        }
+macro_rules! numbers {
+    ($of:ident: $($field:ident),*) => {
+        vec![$(&mut $of.$field),*]
     };
 }
 
-ten_numbers!(State: size, pages, nodes, updates, tickets, taken, assigned, places, published, blob);
-ten_numbers!(Record: n, number, put, version, ticket, f, last, size, place, woven);
+impl Numbers for State {
+    #[rustfmt::skip]
+    fn each(&mut self) -> Vec<&mut u64> {
+        let mut numbers =
+            numbers!(self: size, pages, nodes, updates, tickets, taken, assigned, places, begun);
+        for line in &mut self.lines {
+            numbers.extend(numbers!(line: source, start, assigned, published, blob));
+        }
+        numbers
+    }
+}
+
+impl Numbers for Record {
+    fn each(&mut self) -> Vec<&mut u64> {
+        let e = &mut self.entries;
+        let mut numbers =
+            numbers!(self: n, number, put, update, ticket, name, f, last, size, place, woven);
+        numbers.extend(numbers!(e: from0, from4, from8, from12));
+        numbers
+    }
+}

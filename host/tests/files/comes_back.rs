@@ -1,8 +1,8 @@
 //! What was saved comes back just as it was.
 
-use crate::scene::{checksum, in_work, number, saved, Folder};
-use crate::updates::{fills, limits, put_all, update};
-use pit_host::{Error, Keeper, Lend, Lent, Limits, Record, Store, Ticket, Version};
+use crate::scene::{checksum, in_the_old_form, in_work, in_work_on_lines, number, saved, Folder};
+use crate::updates::{fills, limits, of_three_versions, put_all, update, LIVE};
+use pit_host::{Error, Keeper, Lend, Lent, Limits, Line, Record, Store, Ticket, Version};
 use std::fs;
 
 #[test]
@@ -15,7 +15,7 @@ fn a_store_comes_back_at_every_stage() {
         assert_eq!(folder.names(), ["store"]);
     };
     again(&store);
-    update(&mut store, None, &[1, 2]).unwrap();
+    update(&mut store, LIVE, None, &[1, 2]).unwrap();
     again(&store);
     let ticket = store.begin(2).unwrap();
     again(&store);
@@ -23,12 +23,12 @@ fn a_store_comes_back_at_every_stage() {
         store.put(ticket, i, &[3 + i as u8; 16]).unwrap();
         again(&store);
     }
-    for _ in 0..store.append(ticket).unwrap().nodes {
+    for _ in 0..store.append(LIVE, ticket).unwrap().nodes {
         again(&store);
         store.weave(ticket).unwrap();
     }
     again(&store);
-    store.publish().unwrap();
+    store.publish(LIVE).unwrap();
     again(&store);
 }
 
@@ -40,14 +40,38 @@ fn a_loaded_store_goes_on_as_the_saved_one() {
     let mut loaded = Store::load(folder.file()).unwrap();
     for store in [&mut store, &mut loaded] {
         while store.weave(Ticket(2)).unwrap().rest > 0 {}
-        assert_eq!(store.publish(), Ok(Some(Version(2))));
+        assert_eq!(store.publish(LIVE), Ok(Some(Version(2))));
         store.put(Ticket(3), 0, &[6; 16]).unwrap();
-        for _ in 0..store.append(Ticket(3)).unwrap().nodes {
+        for _ in 0..store.append(LIVE, Ticket(3)).unwrap().nodes {
             store.weave(Ticket(3)).unwrap();
         }
-        assert_eq!(store.publish(), Ok(Some(Version(3))));
-        assert_eq!(fills(store, Version(3)), Ok(vec![1, 3, 4, 6, 5]));
+        assert_eq!(store.publish(LIVE), Ok(Some(Version(3))));
+        assert_eq!(fills(store, LIVE, Version(3)), Ok(vec![1, 3, 4, 6, 5]));
         assert_eq!(put_all(store, &[7]), Err(Error::PagesFull));
+    }
+    assert!(store == loaded);
+}
+
+#[test]
+fn lines_come_back_and_go_on() {
+    let folder = Folder::new("lines");
+    let mut store = in_work_on_lines();
+    store.save(folder.file()).unwrap();
+    let mut loaded = Store::load(folder.file()).unwrap();
+    assert!(loaded == store);
+    for store in [&mut store, &mut loaded] {
+        for ticket in [2, 4].map(Ticket) {
+            while store.weave(ticket).unwrap().rest > 0 {}
+        }
+        assert_eq!(store.publish(LIVE), Ok(Some(Version(2))));
+        assert_eq!(store.publish(Line(1)), Ok(None));
+        assert_eq!(store.publish(Line(2)), Ok(Some(Version(1))));
+        assert_eq!(store.branch(Line(1), Version(2)), Ok(Line(3)));
+        let pages = [(0, 2, &[1, 3, 4][..]), (1, 2, &[1, 2, 5]), (2, 1, &[6, 7])];
+        for (line, version, pages) in pages.into_iter().chain([(3, 2, &[1, 2, 5][..])]) {
+            let read = fills(store, Line(line), Version(version));
+            assert_eq!(read.as_deref(), Ok(pages), "line {line}");
+        }
     }
     assert!(store == loaded);
 }
@@ -55,35 +79,32 @@ fn a_loaded_store_goes_on_as_the_saved_one() {
 #[test]
 fn the_file_is_as_documented() {
     let folder = Folder::new("documented");
-    let store = in_work();
+    let store = in_work_on_lines();
     let bytes = saved(&folder, &store);
     let (s, areas) = (store.state(), store.areas());
     assert_eq!(&bytes[..8], b"PITSTORE");
-    let header = [
-        1,
-        s.size,
-        s.pages,
-        s.nodes,
-        s.updates,
-        s.tickets,
-        s.taken,
-        s.assigned,
-        s.places,
-        s.published,
-        s.blob,
-    ];
-    assert_eq!(header, [1, 16, 6, 16, 4, 3, 6, 2, 8, 1, 3]);
-    for (index, wanted) in (1..).zip(header.into_iter().chain([96, 128, 320])) {
+    #[rustfmt::skip]
+    let counters = [2, s.size, s.pages, s.nodes, s.updates, s.tickets, s.taken, s.assigned, s.places, s.begun];
+    assert_eq!(counters, [2, 16, 12, 32, 6, 5, 9, 4, 14, 3]);
+    let lines = s.lines.iter();
+    let lines = lines.flat_map(|l| [l.source, l.start, l.assigned, l.published, l.blob]);
+    let begun = [[0, 0, 2, 1, 3], [0, 1, 2, 2, 3], [1, 0, 1, 0, 2]].concat();
+    assert!(lines.clone().take(15).eq(begun) && lines.clone().skip(15).all(|n| n == 0));
+    let header = counters.into_iter().chain(lines).chain([192, 256, 720]);
+    for (index, wanted) in (1..).zip(header) {
         assert_eq!(number(&bytes, index), wanted, "number {index}");
     }
     assert_eq!(
-        number(&bytes, 15),
-        checksum(bytes[..120].iter().chain(&bytes[128..]).copied())
+        number(&bytes, 94),
+        checksum(bytes[..752].iter().chain(&bytes[760..]).copied())
     );
     let nodes = areas.nodes().iter().flat_map(|number| number.to_le_bytes());
+    #[rustfmt::skip]
     let of_record = |r: &Record| {
+        let e = r.entries;
         [
-            r.n, r.number, r.put, r.version, r.ticket, r.f, r.last, r.size, r.place, r.woven,
+            r.n, r.number, r.put, r.update, r.ticket, r.name, r.f, r.last, r.size, r.place, r.woven,
+            e.from0, e.from4, e.from8, e.from12,
         ]
     };
     let register = areas
@@ -92,7 +113,7 @@ fn the_file_is_as_documented() {
         .flat_map(of_record)
         .flat_map(u64::to_le_bytes);
     assert_eq!(
-        bytes[128..],
+        bytes[760..],
         areas
             .pages()
             .iter()
@@ -101,6 +122,41 @@ fn the_file_is_as_documented() {
             .chain(register)
             .collect::<Vec<_>>()
     );
+}
+
+/// A file from before there were lines is loaded as just the store that the same calls on line 0 leave, at every stage.
+#[test]
+fn a_file_of_the_old_form_is_loaded_with_line_0_alone() {
+    let folder = Folder::new("old");
+    let again = |store: &Store| {
+        fs::write(folder.file(), in_the_old_form(store)).unwrap();
+        assert!(Store::load(folder.file()).unwrap() == *store);
+    };
+    again(&Store::format(limits(1, 1, 1)).unwrap());
+    again(&of_three_versions());
+    let mut store = in_work();
+    again(&store);
+    while store.weave(Ticket(2)).unwrap().rest > 0 {}
+    again(&store);
+    store.publish(LIVE).unwrap();
+    again(&store);
+
+    fs::write(folder.file(), in_the_old_form(&store)).unwrap();
+    let mut loaded = Store::load(folder.file()).unwrap();
+    for store in [&mut store, &mut loaded] {
+        let plan = store.branch(LIVE, Version(1)).unwrap();
+        assert_eq!(plan, Line(1));
+        store.put(Ticket(3), 0, &[6; 16]).unwrap();
+        for _ in 0..store.append(plan, Ticket(3)).unwrap().nodes {
+            store.weave(Ticket(3)).unwrap();
+        }
+        assert_eq!(store.publish(plan), Ok(Some(Version(2))));
+        assert_eq!(fills(store, plan, Version(2)), Ok(vec![1, 2, 6, 5]));
+        assert_eq!(fills(store, LIVE, Version(2)), Ok(vec![1, 3, 4]));
+        store.save(folder.file()).unwrap(); // in the form of now
+        assert!(Store::load(folder.file()).unwrap() == *store);
+    }
+    assert!(store == loaded);
 }
 
 #[test]
@@ -117,11 +173,11 @@ fn the_most_of(page_size: u64) {
     let folder = Folder::new(&format!("most_{page_size}"));
     let most = Limits::new(page_size, 65_535, 131_072, 4_096);
     let mut store = Store::format(most).unwrap();
-    update(&mut store, None, &[9; 64]).unwrap();
+    update(&mut store, LIVE, None, &[9; 64]).unwrap();
     store.save(folder.file()).unwrap();
     assert_eq!(
         fs::metadata(folder.file()).unwrap().len(),
-        128 + 65_535 * page_size + 131_072 * 8 + 4_096 * 80
+        760 + 65_535 * page_size + 131_072 * 8 + 4_096 * 120
     );
     assert!(Store::load(folder.file()).unwrap() == store);
 }

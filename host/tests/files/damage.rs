@@ -1,33 +1,43 @@
 //! Damaged, cut off, contradictory and foreign files are refused, each with its reason.
 
-use crate::scene::{in_work, refused, saved, sealed, set_number, Folder};
-use crate::updates::update;
+use crate::scene::{
+    in_the_old_form, in_work, in_work_on_lines, refused, saved, sealed, sealed_after, set_number,
+    Folder, HEADER, OLD_HEADER,
+};
+use crate::updates::{update, LIVE};
 use pit_host::{Error, FileError, Limits, Store};
 use std::fs;
 
-/// Whether a file is refused for the right reason where the header's number `index`, or what follows the header, is wrong.
-fn due(index: usize, error: &FileError) -> bool {
+/// Whether a file is refused for the right reason where the number `index` of a header of so many bytes, or what follows
+/// the header, is wrong.
+fn due(header: usize, index: usize, error: &FileError) -> bool {
     use FileError::*;
+    let lengths = header / 8 - 4..header / 8 - 1;
     match index {
         0 => matches!(error, Foreign),
         1 => matches!(error, Form(_)),
         2 => matches!(error, Limits(Error::PageSize) | AreaLengths),
         3..=5 => matches!(error, Limits(Error::Capacity) | AreaLengths),
-        12..=14 => matches!(error, AreaLengths),
+        _ if lengths.contains(&index) => matches!(error, AreaLengths),
         _ => matches!(error, Checksum),
+    }
+}
+
+/// Every bit of a file whose header has so many bytes, flipped. The forms' numbers differ in two.
+fn flip_every_bit(folder: &Folder, header: usize, bytes: &[u8]) {
+    for bit in 0..8 * bytes.len() {
+        let mut damaged = bytes.to_vec();
+        damaged[bit / 8] ^= 1 << (bit % 8);
+        let error = refused(folder, &damaged);
+        assert!(due(header, bit / 64, &error), "bit {bit}: {error}");
     }
 }
 
 #[test]
 fn every_flipped_bit_is_found() {
     let folder = Folder::new("bits");
-    let bytes = saved(&folder, &in_work());
-    for bit in 0..8 * bytes.len() {
-        let mut damaged = bytes.clone();
-        damaged[bit / 8] ^= 1 << (bit % 8);
-        let error = refused(&folder, &damaged);
-        assert!(due(bit / 64, &error), "bit {bit}: {error}");
-    }
+    flip_every_bit(&folder, HEADER, &saved(&folder, &in_work_on_lines()));
+    flip_every_bit(&folder, OLD_HEADER, &in_the_old_form(&in_work()));
 }
 
 #[test]
@@ -35,7 +45,7 @@ fn a_flipped_bit_anywhere_in_a_larger_store_is_found() {
     let folder = Folder::new("larger");
     let mut store = Store::format(Limits::worst(4_096, 64, 40, 8).unwrap()).unwrap();
     for k in 0..40 {
-        update(&mut store, (k > 4).then_some(k % 30), &[k as u8; 8]).unwrap();
+        update(&mut store, LIVE, (k > 4).then_some(k % 30), &[k as u8; 8]).unwrap();
     }
     let mut bytes = saved(&folder, &store);
     let mut at = 12_345;
@@ -44,75 +54,106 @@ fn a_flipped_bit_anywhere_in_a_larger_store_is_found() {
         bytes[at / 8] ^= 1 << (at % 8);
         let error = refused(&folder, &bytes);
         assert!(
-            at < 8 * 128 || matches!(error, FileError::Checksum),
+            at < 8 * HEADER || matches!(error, FileError::Checksum),
             "bit {at}: {error}"
         );
         bytes[at / 8] ^= 1 << (at % 8);
     }
 }
 
-/// Each number of the header damaged; and once more with the checksum made right for it: it is still not believed.
-#[test]
-fn a_header_that_contradicts_itself_is_refused() {
-    let folder = Folder::new("header");
-    let bytes = saved(&folder, &in_work());
-    for index in 0..16 {
+/// Each number of a header of so many bytes damaged; and once more with the checksum made right for it: it is still not
+/// believed.
+fn contradict(folder: &Folder, header: usize, bytes: &[u8]) {
+    let counters = 6..header / 8 - 4;
+    for index in 0..header / 8 {
         for other in [5_000, 1 << 32, 1 << 63, u64::MAX] {
-            let mut changed = bytes.clone();
+            let mut changed = bytes.to_vec();
             set_number(&mut changed, index, other);
-            let error = refused(&folder, &changed);
-            assert!(due(index, &error), "number {index} as {other}: {error}");
-            if index == 15 {
+            let error = refused(folder, &changed);
+            assert!(due(header, index, &error), "{index} as {other}: {error}");
+            if index == header / 8 - 1 {
                 continue; // the checksum itself
             }
-            let error = refused(&folder, &sealed(changed));
-            let counter = (6..12).contains(&index) && matches!(error, FileError::Counters);
+            let error = refused(folder, &sealed_after(header, changed));
+            let counter = counters.contains(&index) && matches!(error, FileError::Counters);
             assert!(
-                counter || due(index, &error),
+                counter || due(header, index, &error),
                 "number {index} as {other}: {error}"
             );
             assert!(!matches!(error, FileError::Checksum), "number {index}");
         }
     }
-    fs::write(folder.file(), sealed(bytes)).unwrap();
-    assert!(Store::load(folder.file()).unwrap() == in_work());
 }
 
 #[test]
-fn counters_that_no_calls_leave_are_refused() {
-    let folder = Folder::new("counters");
-    let bytes = saved(&folder, &in_work());
-    // tickets, page numbers taken, versions assigned, node places taken, versions published, size in pages
-    for (index, above) in [
-        (6, 5),
-        (7, 7),
-        (8, 4),
-        (9, 17),
-        (10, 3),
-        (11, 4_097),
-        (6, 1),
-        (8, 0),
-    ] {
-        let mut changed = bytes.clone();
-        set_number(&mut changed, index, above);
-        let error = refused(&folder, &sealed(changed));
+fn a_header_that_contradicts_itself_is_refused() {
+    let folder = Folder::new("header");
+    let bytes = saved(&folder, &in_work_on_lines());
+    contradict(&folder, HEADER, &bytes);
+    fs::write(folder.file(), sealed(bytes)).unwrap();
+    assert!(Store::load(folder.file()).unwrap() == in_work_on_lines());
+    contradict(&folder, OLD_HEADER, &in_the_old_form(&in_work()));
+}
+
+/// Each of the numbers, with its checksum made right, is refused as a counter that no calls leave.
+fn no_calls_leave(folder: &Folder, header: usize, bytes: &[u8], numbers: &[(usize, u64)]) {
+    for (index, number) in numbers {
+        let mut changed = bytes.to_vec();
+        set_number(&mut changed, *index, *number);
+        let error = refused(folder, &sealed_after(header, changed));
         assert!(
             matches!(error, FileError::Counters),
-            "number {index} as {above}: {error}"
+            "number {index} as {number}: {error}"
         );
     }
 }
 
 #[test]
-fn every_truncation_is_found() {
-    let folder = Folder::new("truncation");
-    let bytes = saved(&folder, &in_work());
+fn counters_that_no_calls_leave_are_refused() {
+    let folder = Folder::new("counters");
+    let bytes = saved(&folder, &in_work_on_lines());
+    // tickets, page numbers taken, updates with a version, node places taken, lines begun
+    let counters = [(6, 7), (7, 13), (8, 6), (9, 33), (6, 3), (8, 3), (8, 5)];
+    no_calls_leave(&folder, HEADER, &bytes, &counters);
+    let begun = [(10, 0), (10, 1), (10, 2), (10, 17), (10, 1 << 32)];
+    no_calls_leave(&folder, HEADER, &bytes, &begun);
+    // source, start, last version assigned, last published, size in pages: of line 0, which begins from nothing,
+    let line_0 = [(11, 1), (12, 1), (13, 1), (13, 3), (14, 3), (15, 4_097)];
+    no_calls_leave(&folder, HEADER, &bytes, &line_0);
+    // of line 1, from version 1 of line 0, where that is the last published one,
+    let line_1 = [(16, 1), (16, 2), (17, 0), (17, 2), (18, 1), (18, 3)];
+    no_calls_leave(&folder, HEADER, &bytes, &line_1);
+    no_calls_leave(&folder, HEADER, &bytes, &[(19, 0), (19, 3), (20, 4_097)]);
+    // of line 2, from version 0 of line 1, and of lines that have not begun
+    let line_2 = [(21, 2), (21, 15), (22, 1), (23, 0), (24, 2), (25, u64::MAX)];
+    no_calls_leave(&folder, HEADER, &bytes, &line_2);
+    no_calls_leave(&folder, HEADER, &bytes, &[(26, 1), (30, 1), (90, 1)]);
+}
+
+#[test]
+fn counters_of_the_old_form_that_no_calls_leave_are_refused() {
+    let folder = Folder::new("old-counters");
+    let bytes = in_the_old_form(&in_work());
+    // tickets, page numbers taken, versions assigned, node places taken, versions published, size in pages
+    let over = [(6, 5), (7, 7), (8, 4), (9, 17), (10, 3), (11, 4_097)];
+    no_calls_leave(&folder, OLD_HEADER, &bytes, &over);
+    no_calls_leave(&folder, OLD_HEADER, &bytes, &[(6, 1), (8, 0)]);
+}
+
+/// Every length that is too short, of a file whose header has so many bytes. Of the forms the one that is written is
+/// expected where not even the form's number is there.
+fn cut_off(folder: &Folder, header: usize, bytes: &[u8]) {
     let whole = bytes.len() as u64;
     for length in 0..bytes.len() {
-        match refused(&folder, &bytes[..length]) {
+        match refused(folder, &bytes[..length]) {
             FileError::Truncated { expected, found } => {
                 assert_eq!(found, length as u64);
-                assert_eq!(expected, if length < 128 { 128 } else { whole });
+                let due = match length {
+                    0..=15 => HEADER as u64,
+                    _ if length < header => header as u64,
+                    _ => whole,
+                };
+                assert_eq!(expected, due, "{length} bytes");
             }
             other => panic!("{length} bytes of {whole}: {other}"),
         }
@@ -120,16 +161,24 @@ fn every_truncation_is_found() {
 }
 
 #[test]
+fn every_truncation_is_found() {
+    let folder = Folder::new("truncation");
+    cut_off(&folder, HEADER, &saved(&folder, &in_work()));
+    cut_off(&folder, OLD_HEADER, &in_the_old_form(&in_work()));
+}
+
+#[test]
 fn extra_bytes_are_found() {
     let folder = Folder::new("extra");
-    let bytes = saved(&folder, &in_work());
-    for extra in [1, 8, 80, 4_096] {
-        let longer = [&bytes[..], &vec![0; extra]].concat();
-        let error = refused(&folder, &longer);
-        let (expected, found) = (bytes.len() as u64, longer.len() as u64);
-        assert!(
-            matches!(error, FileError::TooLong { expected: e, found: f } if (e, f) == (expected, found))
-        );
+    for bytes in [saved(&folder, &in_work()), in_the_old_form(&in_work())] {
+        for extra in [1, 8, 80, 120, 4_096] {
+            let longer = [&bytes[..], &vec![0; extra]].concat();
+            let error = refused(&folder, &longer);
+            let (expected, found) = (bytes.len() as u64, longer.len() as u64);
+            assert!(
+                matches!(error, FileError::TooLong { expected: e, found: f } if (e, f) == (expected, found))
+            );
+        }
     }
 }
 
@@ -141,16 +190,16 @@ fn other_files_are_refused() {
         b"PITSTONE",
         b"FORMAT,16,4,8,2\n",
         &[0; 5_000],
-        &[0xff; 128],
+        &[0xff; 760],
     ] {
         assert!(matches!(refused(&folder, bytes), FileError::Foreign));
     }
-    let mut later = saved(&folder, &in_work());
-    set_number(&mut later, 1, 2);
-    assert!(matches!(
-        refused(&folder, &sealed(later)),
-        FileError::Form(2)
-    ));
+    for form in [0, 3, u64::MAX] {
+        let mut other = saved(&folder, &in_work());
+        set_number(&mut other, 1, form);
+        let error = refused(&folder, &sealed(other));
+        assert!(matches!(error, FileError::Form(f) if f == form));
+    }
     let missing = Store::load(folder.0.join("none")).unwrap_err();
     assert!(matches!(missing, FileError::Io(e) if e.kind() == std::io::ErrorKind::NotFound));
     assert!(matches!(Store::load(&folder.0), Err(FileError::Io(_))));
@@ -160,24 +209,24 @@ fn other_files_are_refused() {
 #[test]
 fn a_short_file_of_large_lengths_is_refused() {
     let folder = Folder::new("large");
-    let mut bytes = saved(&folder, &in_work())[..128].to_vec();
+    let mut bytes = saved(&folder, &in_work())[..HEADER].to_vec();
     let (pages, nodes, updates) = (65_535, 131_072, 4_096);
     for (index, number) in [
         (2, 4_096),
         (3, pages),
         (4, nodes),
         (5, updates),
-        (12, 4_096 * pages),
-        (13, 8 * nodes),
-        (14, 80 * updates),
+        (91, 4_096 * pages),
+        (92, 8 * nodes),
+        (93, 120 * updates),
     ] {
         set_number(&mut bytes, index, number);
     }
     assert!(matches!(
         refused(&folder, &sealed(bytes)),
         FileError::Truncated {
-            expected: 269_807_744,
-            found: 128
+            expected: 269_972_216,
+            found: 760
         }
     ));
 }

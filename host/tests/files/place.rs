@@ -1,7 +1,7 @@
 //! Where a saved file lands: in the old one's place, with its mode, at the end of links; and what beside it is cleared.
 
 use crate::scene::{in_work, Folder};
-use crate::updates::of_three_versions;
+use crate::updates::{of_three_versions, LIVE};
 use pit_host::{FileError, Store, Version};
 use std::fs::{self, Permissions};
 use std::os::unix::fs::{symlink, FileTypeExt, PermissionsExt};
@@ -18,7 +18,7 @@ fn a_save_gives_the_version_that_the_file_holds() {
     for (store, version) in [(in_work(), 1), (of_three_versions(), 3)] {
         assert_eq!(store.save(folder.file()).unwrap(), Version(version));
         let loaded = Store::load(folder.file()).unwrap();
-        assert_eq!(loaded.recent(), Ok(Version(version)));
+        assert_eq!(loaded.recent(LIVE), Ok(Version(version)));
     }
 }
 

@@ -1,7 +1,7 @@
 //! What the tests share: a folder each, a store in work, and the file's numbers and checksum as documented.
 
-use crate::updates::{assign, limits, update};
-use pit_host::{FileError, Store};
+use crate::updates::{assign, limits, update, LIVE};
+use pit_host::{FileError, Line, Record, Store, Version};
 use std::fs;
 use std::path::PathBuf;
 
@@ -43,7 +43,12 @@ pub fn checksum(bytes: impl Iterator<Item = u8>) -> u64 {
     })
 }
 
-/// A number of the header, which has sixteen.
+/// A file's header in bytes; its last number is the checksum, and there are three lengths before that.
+pub const HEADER: usize = 760;
+/// The same of a file of form 1.
+pub const OLD_HEADER: usize = 128;
+
+/// A number of the header, which has 95.
 pub fn number(bytes: &[u8], index: usize) -> u64 {
     u64::from_le_bytes(bytes[8 * index..8 * index + 8].try_into().unwrap())
 }
@@ -53,10 +58,53 @@ pub fn set_number(bytes: &mut [u8], index: usize, number: u64) {
 }
 
 /// The file with its checksum made right for what it holds.
-pub fn sealed(mut bytes: Vec<u8>) -> Vec<u8> {
-    let sum = checksum(bytes[..120].iter().chain(&bytes[128..]).copied());
-    set_number(&mut bytes, 15, sum);
+pub fn sealed(bytes: Vec<u8>) -> Vec<u8> {
+    sealed_after(HEADER, bytes)
+}
+
+/// The same where the header has so many bytes.
+pub fn sealed_after(header: usize, mut bytes: Vec<u8>) -> Vec<u8> {
+    let covered = bytes[..header - 8].iter().chain(&bytes[header..]);
+    let sum = checksum(covered.copied());
+    set_number(&mut bytes, header / 8 - 1, sum);
     bytes
+}
+
+/// A store with line 0 alone as a file of form 1 has it: written from that form's description, in which a ticket has its
+/// version, and the k-th version's part stands in record k.
+pub fn in_the_old_form(store: &Store) -> Vec<u8> {
+    let (s, areas) = (store.state(), store.areas());
+    assert_eq!(s.begun, 1, "form 1 has one line");
+    let live = s.lines[0];
+    let of_record = |r: &Record| {
+        [
+            r.n, r.number, r.put, r.update, r.ticket, r.f, r.last, r.size, r.place, r.woven,
+        ]
+    };
+    let numbers = [
+        u64::from_le_bytes(*b"PITSTORE"),
+        1,
+        s.size,
+        s.pages,
+        s.nodes,
+        s.updates,
+        s.tickets,
+        s.taken,
+        live.assigned,
+        s.places,
+        live.published,
+        live.blob,
+        s.size * s.pages,
+        8 * s.nodes,
+        80 * s.updates,
+        0,
+    ];
+    let mut bytes: Vec<u8> = numbers.into_iter().flat_map(u64::to_le_bytes).collect();
+    bytes.extend(areas.pages());
+    bytes.extend(areas.nodes().iter().flat_map(|n| n.to_le_bytes()));
+    let register = areas.register().iter().flat_map(of_record);
+    bytes.extend(register.flat_map(u64::to_le_bytes));
+    sealed_after(OLD_HEADER, bytes)
 }
 
 /// The bytes of a saved store.
@@ -74,10 +122,26 @@ pub fn refused(folder: &Folder, bytes: &[u8]) -> FileError {
 /// A small store in work: one version published, one half woven, one ticket open.
 pub fn in_work() -> Store {
     let mut store = Store::format(limits(6, 16, 4)).unwrap();
-    update(&mut store, None, &[1, 2]).unwrap();
-    let (ticket, _) = assign(&mut store, Some(1), &[3, 4]).unwrap();
+    update(&mut store, LIVE, None, &[1, 2]).unwrap();
+    let (ticket, _) = assign(&mut store, LIVE, Some(1), &[3, 4]).unwrap();
     store.weave(ticket).unwrap();
     let open = store.begin(2).unwrap();
     store.put(open, 1, &[5; 16]).unwrap();
+    store
+}
+
+/// A small store in work on three lines: line 1 from version 1 of line 0, line 2 empty. Each has a version of its own, line
+/// 1's published.
+pub fn in_work_on_lines() -> Store {
+    let mut store = Store::format(limits(12, 32, 6)).unwrap();
+    update(&mut store, LIVE, None, &[1, 2]).unwrap();
+    let plan = store.branch(LIVE, Version(1)).unwrap();
+    let other = store.branch(plan, Version(0)).unwrap();
+    assert_eq!((plan, other), (Line(1), Line(2)));
+    assign(&mut store, LIVE, Some(1), &[3, 4]).unwrap();
+    update(&mut store, plan, None, &[5]).unwrap();
+    let (ticket, _) = assign(&mut store, other, None, &[6, 7]).unwrap();
+    store.weave(ticket).unwrap();
+    store.begin(2).unwrap();
     store
 }

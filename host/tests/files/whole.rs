@@ -1,7 +1,7 @@
 //! The old file or the new one stands there whole, whatever happens while a store is saved.
 
 use crate::scene::{in_work, saved, Folder};
-use crate::updates::{fills, limits, of_three_versions};
+use crate::updates::{fills, limits, of_three_versions, LIVE};
 use pit_host::{Error, FileError, Keeper, PageIndex, State, Store, Ticket, Version};
 use std::fs;
 use std::path::Path;
@@ -29,7 +29,15 @@ fn what_would_not_load_is_not_saved() {
         FileError::Limits(Error::Capacity)
     ));
     assert!(matches!(save(|s| s.pages = 7), FileError::AreaLengths));
-    assert!(matches!(save(|s| s.published = 4), FileError::Counters));
+    let counters: [fn(&mut State); 4] = [
+        |s| s.lines[0].published = 4,
+        |s| s.begun = 0,
+        |s| s.begun = 17,
+        |s| s.lines[15].blob = 1,
+    ];
+    for spoil in counters {
+        assert!(matches!(save(spoil), FileError::Counters));
+    }
     assert_eq!(fs::read(folder.file()).unwrap(), kept);
     assert_eq!(folder.names(), ["store"]);
 }
@@ -103,7 +111,7 @@ fn as_a_child() {
         "has no room" => assert!(matches!(store.save(&file), Err(FileError::Io(_)))),
         "dies" => {
             store.save(&file).unwrap();
-            store.append(ticket).unwrap();
+            store.append(LIVE, ticket).unwrap();
             std::process::abort();
         }
         "saves" => loop {
@@ -164,17 +172,17 @@ fn a_restart_loses_nothing_that_was_saved() {
     let mut dies = child("dies", Path::new("store")); // a bare name, in the folder it runs in
     assert!(!dies.current_dir(&folder.0).status().unwrap().success());
     let mut store = Store::load(folder.file()).unwrap();
-    assert_eq!(store.recent(), Ok(Version(3)));
+    assert_eq!(store.recent(LIVE), Ok(Version(3)));
     let pages = [&[][..], &[1, 2, 3, 4], &[1, 5, 6, 4], &[1, 5, 6, 4, 7]];
     for (version, pages) in (0..).map(Version).zip(pages) {
-        assert_eq!(fills(&store, version).unwrap(), pages);
+        assert_eq!(fills(&store, LIVE, version).unwrap(), pages);
     }
     // the ticket is still open, with its page put
-    for _ in 0..store.write(Ticket(4), PageIndex(0)).unwrap().nodes {
+    for _ in 0..store.write(LIVE, Ticket(4), PageIndex(0)).unwrap().nodes {
         store.weave(Ticket(4)).unwrap();
     }
-    assert_eq!(store.publish(), Ok(Some(Version(4))));
-    assert_eq!(fills(&store, Version(4)), Ok(vec![8, 5, 6, 4, 7]));
+    assert_eq!(store.publish(LIVE), Ok(Some(Version(4))));
+    assert_eq!(fills(&store, LIVE, Version(4)), Ok(vec![8, 5, 6, 4, 7]));
 }
 
 #[test]
@@ -192,7 +200,10 @@ fn a_process_killed_while_saving_leaves_a_whole_file() {
         saving.kill().unwrap();
         saving.wait().unwrap();
         let store = Store::load(folder.file()).unwrap();
-        assert_eq!((store.state().tickets, store.recent()), (4, Ok(Version(3))));
+        assert_eq!(
+            (store.state().tickets, store.recent(LIVE)),
+            (4, Ok(Version(3)))
+        );
     }
     of_three_versions().save(folder.file()).unwrap();
     assert_eq!(folder.names(), ["store"]);

@@ -82,8 +82,21 @@ static void show(const char *name, uint64_t value)
 
 #define SHOW(whole, field) show(#field, (whole).field)
 
+static void show_line(uint64_t line, pit_line l)
+{
+    printf("; line %" PRIu64 ":", line);
+    SHOW(l, source);
+    SHOW(l, start);
+    SHOW(l, assigned);
+    SHOW(l, published);
+    SHOW(l, blob);
+}
+
+/* The lines that have begun, and any other that is not all zeros. */
 static void show_store(pit_store s)
 {
+    static const pit_line none;
+    uint64_t line;
     SHOW(s, size);
     SHOW(s, pages);
     SHOW(s, nodes);
@@ -92,8 +105,12 @@ static void show_store(pit_store s)
     SHOW(s, taken);
     SHOW(s, assigned);
     SHOW(s, places);
-    SHOW(s, published);
-    SHOW(s, blob);
+    SHOW(s, begun);
+    for (line = 0; line < 16; line++) {
+        if (line < s.begun || memcmp(&s.lines[line], &none, sizeof none) != 0) {
+            show_line(line, s.lines[line]);
+        }
+    }
 }
 
 static void show_record(const host *h, size_t index)
@@ -103,13 +120,18 @@ static void show_record(const host *h, size_t index)
     SHOW(r, n);
     SHOW(r, number);
     SHOW(r, put);
-    SHOW(r, version);
+    SHOW(r, update);
     SHOW(r, ticket);
+    SHOW(r, name);
     SHOW(r, f);
     SHOW(r, last);
     SHOW(r, size);
     SHOW(r, place);
     SHOW(r, woven);
+    SHOW(r.entries, from0);
+    SHOW(r.entries, from4);
+    SHOW(r.entries, from8);
+    SHOW(r.entries, from12);
     printf("\n");
 }
 
@@ -158,16 +180,16 @@ static void assigned(host *h, pit_assign_reply reply)
     end_line(h);
 }
 
-static void write_at(host *h, uint64_t ticket, uint64_t f)
+static void write_at(host *h, uint64_t line, uint64_t ticket, uint64_t f)
 {
-    printf("WRITE %" PRIu64 " %" PRIu64 ":", ticket, f);
-    assigned(h, pit_write(STORE(h), ticket, f));
+    printf("WRITE %" PRIu64 " %" PRIu64 " %" PRIu64 ":", line, ticket, f);
+    assigned(h, pit_write(STORE(h), line, ticket, f));
 }
 
-static void append(host *h, uint64_t ticket)
+static void append(host *h, uint64_t line, uint64_t ticket)
 {
-    printf("APPEND %" PRIu64 ":", ticket);
-    assigned(h, pit_append(STORE(h), ticket));
+    printf("APPEND %" PRIu64 " %" PRIu64 ":", line, ticket);
+    assigned(h, pit_append(STORE(h), line, ticket));
 }
 
 static void weave(host *h, uint64_t ticket)
@@ -184,10 +206,10 @@ static void weave(host *h, uint64_t ticket)
     end_line(h);
 }
 
-static void publish(host *h)
+static void publish(host *h, uint64_t line)
 {
-    pit_publish_reply reply = pit_publish(STORE(h));
-    printf("PUBLISH:");
+    pit_publish_reply reply = pit_publish(STORE(h), line);
+    printf("PUBLISH %" PRIu64 ":", line);
     SHOW(reply, refusal);
     SHOW(reply, version);
     show_store(reply.store);
@@ -195,13 +217,24 @@ static void publish(host *h)
     end_line(h);
 }
 
+static void branch(host *h, uint64_t line, uint64_t version)
+{
+    pit_branch_reply reply = pit_branch(STORE(h), line, version);
+    printf("BRANCH %" PRIu64 " %" PRIu64 ":", line, version);
+    SHOW(reply, refusal);
+    SHOW(reply, line);
+    show_store(reply.store);
+    h->s = reply.store;
+    end_line(h);
+}
+
 /* Reads into a buffer of ee, and shows all of it. */
-static void read_range(host *h, uint64_t version, uint64_t offset, uint64_t len, size_t room)
+static void read_range(host *h, uint64_t line, uint64_t version, uint64_t offset, uint64_t len, size_t room)
 {
     uint8_t *buffer = lent(room, 0xee);
-    uint64_t refusal = pit_read(STORE(h), version, offset, len, buffer, room);
+    uint64_t refusal = pit_read(STORE(h), line, version, offset, len, buffer, room);
     size_t i;
-    printf("READ %" PRIu64 " %" PRIu64 " %" PRIu64 ":", version, offset, len);
+    printf("READ %" PRIu64 " %" PRIu64 " %" PRIu64 " %" PRIu64 ":", line, version, offset, len);
     show("refusal", refusal);
     printf(" buffer=");
     for (i = 0; i < room; i++) {
@@ -211,37 +244,37 @@ static void read_range(host *h, uint64_t version, uint64_t offset, uint64_t len,
     free(buffer);
 }
 
-static void size(host *h, uint64_t version)
+static void size(host *h, uint64_t line, uint64_t version)
 {
-    pit_size_reply reply = pit_size(STORE(h), version);
-    printf("SIZE %" PRIu64 ":", version);
+    pit_size_reply reply = pit_size(STORE(h), line, version);
+    printf("SIZE %" PRIu64 " %" PRIu64 ":", line, version);
     SHOW(reply, refusal);
     SHOW(reply, bytes);
     end_line(h);
 }
 
-static void recent(host *h)
+static void recent(host *h, uint64_t line)
 {
-    pit_version_reply reply = pit_recent(STORE(h));
-    printf("RECENT:");
+    pit_version_reply reply = pit_recent(STORE(h), line);
+    printf("RECENT %" PRIu64 ":", line);
     SHOW(reply, refusal);
     SHOW(reply, version);
     end_line(h);
 }
 
-static void stamp(host *h, uint64_t version, uint64_t page)
+static void stamp(host *h, uint64_t line, uint64_t version, uint64_t page)
 {
-    pit_version_reply reply = pit_stamp(STORE(h), version, page);
-    printf("STAMP %" PRIu64 " %" PRIu64 ":", version, page);
+    pit_version_reply reply = pit_stamp(STORE(h), line, version, page);
+    printf("STAMP %" PRIu64 " %" PRIu64 " %" PRIu64 ":", line, version, page);
     SHOW(reply, refusal);
     SHOW(reply, version);
     end_line(h);
 }
 
-static void view(host *h, uint64_t version, uint64_t page)
+static void view(host *h, uint64_t line, uint64_t version, uint64_t page)
 {
-    pit_view_reply reply = pit_view(STORE(h), version, page);
-    printf("VIEW %" PRIu64 " %" PRIu64 ":", version, page);
+    pit_view_reply reply = pit_view(STORE(h), line, version, page);
+    printf("VIEW %" PRIu64 " %" PRIu64 " %" PRIu64 ":", line, version, page);
     SHOW(reply, refusal);
     SHOW(reply, begin);
     SHOW(reply, length);
@@ -256,7 +289,13 @@ static void view(host *h, uint64_t version, uint64_t page)
 
 static void layout_of_stores(void)
 {
-    printf("pit_store, %zu bytes:", sizeof(pit_store));
+    printf("pit_line, %zu bytes:", sizeof(pit_line));
+    AT(pit_line, source);
+    AT(pit_line, start);
+    AT(pit_line, assigned);
+    AT(pit_line, published);
+    AT(pit_line, blob);
+    printf("\npit_store, %zu bytes:", sizeof(pit_store));
     AT(pit_store, size);
     AT(pit_store, pages);
     AT(pit_store, nodes);
@@ -265,19 +304,31 @@ static void layout_of_stores(void)
     AT(pit_store, taken);
     AT(pit_store, assigned);
     AT(pit_store, places);
-    AT(pit_store, published);
-    AT(pit_store, blob);
+    AT(pit_store, begun);
+    AT(pit_store, lines);
+    printf("\n");
+}
+
+static void layout_of_records(void)
+{
+    printf("pit_entries, %zu bytes:", sizeof(pit_entries));
+    AT(pit_entries, from0);
+    AT(pit_entries, from4);
+    AT(pit_entries, from8);
+    AT(pit_entries, from12);
     printf("\npit_record, %zu bytes:", sizeof(pit_record));
     AT(pit_record, n);
     AT(pit_record, number);
     AT(pit_record, put);
-    AT(pit_record, version);
+    AT(pit_record, update);
     AT(pit_record, ticket);
+    AT(pit_record, name);
     AT(pit_record, f);
     AT(pit_record, last);
     AT(pit_record, size);
     AT(pit_record, place);
     AT(pit_record, woven);
+    AT(pit_record, entries);
     printf("\n");
 }
 
@@ -307,6 +358,10 @@ static void layout_of_replies(void)
     AT(pit_publish_reply, refusal);
     AT(pit_publish_reply, store);
     AT(pit_publish_reply, version);
+    printf("\npit_branch_reply, %zu bytes:", sizeof(pit_branch_reply));
+    AT(pit_branch_reply, refusal);
+    AT(pit_branch_reply, store);
+    AT(pit_branch_reply, line);
     printf("\n");
 }
 
@@ -325,7 +380,7 @@ static void layout_of_readers_replies(void)
     printf("\n");
 }
 
-/* Document 01's example, with refused calls between its steps. */
+/* Document 01's example on line 0, with refused calls between its steps. */
 static void example(void)
 {
     host h = new_host(64, 16, 2);
@@ -338,25 +393,25 @@ static void example(void)
     begin(&h, 1);
     put(&h, 2, 0, 0x22, 16);
     put(&h, 1, 0, 0x11, 15);
-    append(&h, 1);
+    append(&h, 0, 1);
     put(&h, 1, 0, 0x11, 16);
     put(&h, 1, 0, 0x33, 16);
-    append(&h, 2);
-    append(&h, 1);
+    append(&h, 0, 2);
+    append(&h, 0, 1);
     weave(&h, 1);
-    publish(&h);
+    publish(&h, 0);
     weave(&h, 2);
-    publish(&h);
-    read_range(&h, 2, 0, 0, 2);
+    publish(&h, 0);
+    read_range(&h, 0, 2, 0, 0, 2);
     weave(&h, 1);
     weave(&h, 1);
-    publish(&h);
-    read_range(&h, 2, 14, 4, 6);
-    stamp(&h, 2, 0);
-    stamp(&h, 2, 2);
-    view(&h, 2, 1);
+    publish(&h, 0);
+    read_range(&h, 0, 2, 14, 4, 6);
+    stamp(&h, 0, 2, 0);
+    stamp(&h, 0, 2, 2);
+    view(&h, 0, 2, 1);
     begin(&h, 1);
-    recent(&h);
+    recent(&h, 0);
     free_host(&h);
 }
 
@@ -366,7 +421,7 @@ static void update(host *h, uint64_t ticket, uint64_t n)
     uint64_t i;
     begin(h, n);
     for (i = n; i > 0; i--) {
-        put(h, ticket, i - 1, (int)(16 * ticket + i - 1), 32);
+        put(h, ticket, i - 1, (int)(16 * ticket + i - 1), (size_t)h->s.size);
     }
 }
 
@@ -382,14 +437,14 @@ static void weave_all(host *h, uint64_t ticket, int nodes)
 static void damaged(host *h)
 {
     h->records_len -= 1;
-    recent(h);
-    size(h, 1);
-    publish(h);
+    recent(h, 0);
+    size(h, 0, 1);
+    publish(h, 0);
     weave(h, 4);
     h->records_len += 1;
     h->s.nodes += 1;
     begin(h, 1);
-    write_at(h, 2, 0);
+    write_at(h, 0, 2, 0);
     h->s.nodes -= 1;
     h->s.pages -= 1;
     put(h, 2, 0, 0, 32);
@@ -397,10 +452,10 @@ static void damaged(host *h)
     h->nodes[2 * 27] = h->nodes[2 * 27 + 1] = UINT32_MAX; /* version 2's leaf of page 11 */
     printf("a node lost");
     end_line(h);
-    stamp(h, 3, 11);
-    view(h, 3, 11);
-    read_range(h, 3, 350, 4, 4);
-    read_range(h, 3, 348, 4, 4);
+    stamp(h, 0, 3, 11);
+    view(h, 0, 3, 11);
+    read_range(h, 0, 3, 350, 4, 4);
+    read_range(h, 0, 3, 348, 4, 4);
 }
 
 /* A store in which no two numbers of the store are the same, nor of record 2. */
@@ -412,12 +467,12 @@ static void all_different(void)
     begin(&h, 4);
     update(&h, 3, 3);
     update(&h, 4, 6);
-    append(&h, 1);
-    append(&h, 3);
-    write_at(&h, 4, 13);
-    write_at(&h, 4, 5);
+    append(&h, 0, 1);
+    append(&h, 0, 3);
+    write_at(&h, 0, 4, 13);
+    write_at(&h, 0, 4, 5);
     weave_all(&h, 1, 20);
-    publish(&h);
+    publish(&h, 0);
     weave_all(&h, 4, 1);
     show_record(&h, 0);
     show_record(&h, 1);
@@ -425,28 +480,96 @@ static void all_different(void)
     show_record(&h, 3);
     weave_all(&h, 4, 14);
     weave_all(&h, 3, 8);
-    publish(&h);
-    publish(&h);
-    publish(&h);
-    size(&h, 3);
-    size(&h, 4);
-    stamp(&h, 3, 11);
-    view(&h, 3, 11);
-    view(&h, 3, 12);
-    read_range(&h, 3, 350, 4, 6);
-    read_range(&h, 3, 350, 35, 6);
-    read_range(&h, 3, 350, 7, 6);
+    publish(&h, 0);
+    publish(&h, 0);
+    publish(&h, 0);
+    size(&h, 0, 3);
+    size(&h, 0, 4);
+    stamp(&h, 0, 3, 11);
+    view(&h, 0, 3, 11);
+    view(&h, 0, 3, 12);
+    read_range(&h, 0, 3, 350, 4, 6);
+    read_range(&h, 0, 3, 350, 35, 6);
+    read_range(&h, 0, 3, 350, 7, 6);
     damaged(&h);
+    free_host(&h);
+}
+
+/* Lines 1 and 2 from versions 1 and 0, with updates of their own, and line 3 from line 1's. */
+static void planned(host *h)
+{
+    update(h, 1, 3);
+    append(h, 0, 1);
+    branch(h, 0, 1);
+    weave_all(h, 1, 6);
+    publish(h, 0);
+    branch(h, 0, 1);
+    branch(h, 2, 1);
+    branch(h, 1, 0);
+    update(h, 2, 2);
+    write_at(h, 3, 2, 1);
+    write_at(h, 2, 2, 1);
+    write_at(h, 1, 2, 1);
+    write_at(h, 3, 2, 1);
+    update(h, 3, 1);
+    append(h, 2, 3);
+    update(h, 4, 1);
+    append(h, 1, 4);
+    weave_all(h, 4, 3);
+    publish(h, 1);
+    weave_all(h, 2, 5);
+    publish(h, 0);
+    publish(h, 1);
+    publish(h, 1);
+    weave_all(h, 3, 1);
+    publish(h, 2);
+    branch(h, 1, 3);
+}
+
+/* What each line reads, and sixteen of them. */
+static void planning(void)
+{
+    host h = new_host(16 * 16, 2 * 40, 6);
+    uint64_t i;
+    format(&h, 16, 16, 40, 6);
+    planned(&h);
+    for (i = 0; i < 4; i++) {
+        show_record(&h, i);
+        recent(&h, i);
+        size(&h, i, 3);
+    }
+    recent(&h, 4);
+    publish(&h, 4);
+    size(&h, 4, 0);
+    read_range(&h, 4, 0, 0, 0, 1);
+    read_range(&h, 0, 1, 15, 2, 3);
+    read_range(&h, 1, 3, 15, 2, 3);
+    read_range(&h, 2, 1, 15, 1, 3);
+    read_range(&h, 3, 3, 47, 2, 3);
+    stamp(&h, 3, 3, 1);
+    stamp(&h, 3, 3, 4);
+    stamp(&h, 5, 3, 1);
+    view(&h, 3, 2, 2);
+    view(&h, 2, 1, 0);
+    view(&h, 16, 1, 0);
+    for (i = 4; i < 15; i++) {
+        h.s = pit_branch(STORE(&h), i / 2, 0).store;
+    }
+    branch(&h, 3, 2);
+    branch(&h, 0, 1);
+    branch(&h, 0, 2);
     free_host(&h);
 }
 
 int main(void)
 {
     layout_of_stores();
+    layout_of_records();
     layout_of_replies();
     layout_of_readers_replies();
     example();
     all_different();
+    planning();
     printf("root span of 5 and 4097: %" PRIu64 " %" PRIu64 "\n", pit_root_span(5), pit_root_span(4097));
     printf("nodes of 31 2 64 and 31 2 32: %" PRIu64 " %" PRIu64 "\n", pit_node_count(31, 2, 64), pit_node_count(31, 2, 32));
     return 0;

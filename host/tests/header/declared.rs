@@ -129,6 +129,9 @@ fn c_variable(text: &str) -> String {
 /// The same from `pages : * const u8`.
 fn rust_variable(text: &str) -> String {
     let (name, kind) = named(text);
+    if let Some(array) = array_of(name, kind) {
+        return array;
+    }
     let kind = match (kind.strip_prefix("* const "), kind.strip_prefix("* mut ")) {
         (Some(kind), _) => format!("const {} *", c_type(kind)),
         (_, Some(kind)) => format!("{} *", c_type(kind)),
@@ -137,9 +140,18 @@ fn rust_variable(text: &str) -> String {
     format!("{kind} {name}")
 }
 
+/// `pit_line lines [ 16 ]` from `lines` and `[ LineState ; 16 ]`, if it is an array.
+fn array_of(name: &str, kind: &str) -> Option<String> {
+    let (element, length) = kind.strip_prefix("[ ")?.split_once(" ; ")?;
+    Some(format!("{} {name} [ {length}", c_type(element)))
+}
+
 /// The same from `pages : & [ u8 ]`, which is two parameters. `held` has each tuple struct with what it holds.
 fn rattle_variable(text: &str, held: &[(&str, &str)]) -> String {
     let (name, kind) = named(text);
+    if let Some(array) = array_of(name, kind) {
+        return array;
+    }
     let whole = |kind: &str| match held.iter().find(|(tuple, _)| *tuple == kind) {
         Some((_, inside)) => c_type(inside),
         None => c_type(kind),
@@ -169,6 +181,7 @@ fn c_type(kind: &str) -> String {
         "u8" | "u32" | "u64" => format!("uint{}_t", &kind[1..]),
         "usize" => "size_t".to_string(),
         "State" => "pit_store".to_string(),
+        "LineState" | "Branch" => "pit_line".to_string(), // C has the call's name for both
         named => named.chars().fold("pit".to_string(), |name, c| {
             let gap = if c.is_uppercase() { "_" } else { "" };
             name + gap + &c.to_lowercase().to_string()

@@ -7,11 +7,12 @@ use crate::store::text::{
 use crate::store::Store;
 
 /// Numbers at which a limit, a width or a sum can go wrong.
-const EDGES: [u64; 26] = [
+const EDGES: [u64; 28] = [
     0,
     1,
     2,
     3,
+    14,
     15,
     16,
     17,
@@ -26,6 +27,7 @@ const EDGES: [u64; 26] = [
     2_048,
     2_049,
     32_768,
+    65_536,
     1 << 32,
     (1 << 32) + 1,
     (1 << 32) + 16,
@@ -37,18 +39,19 @@ const EDGES: [u64; 26] = [
 ];
 
 /// Each word, with how many numbers follow it.
-const WORDS: [(&str, usize); 11] = [
+const WORDS: [(&str, usize); 12] = [
     ("FORMAT", 4),
     ("BEGIN", 1),
     ("PUT", 2),
-    ("WRITE", 2),
-    ("APPEND", 1),
+    ("WRITE", 3),
+    ("APPEND", 2),
     ("WEAVE", 1),
-    ("PUBLISH", 0),
-    ("READ", 3),
-    ("SIZE", 1),
-    ("RECENT", 0),
-    ("STAMP", 2),
+    ("PUBLISH", 1),
+    ("BRANCH", 2),
+    ("READ", 4),
+    ("SIZE", 2),
+    ("RECENT", 1),
+    ("STAMP", 3),
 ];
 
 /// Lines without their line feed, and their answers.
@@ -147,8 +150,12 @@ impl Author {
 
     fn main_part(&mut self) {
         let steps = self.accepted_format();
-        for _ in 0..steps {
+        let many_lines = self.random.one_in(8);
+        for at in 0..steps {
             self.step();
+            if many_lines && at > steps / 4 {
+                self.branch();
+            }
         }
         if !self.random.one_in(4) {
             self.finish();
@@ -190,13 +197,14 @@ impl Author {
             13..=17 => self.assign(),
             18..=21 => self.weave(1),
             22..=24 => self.weave(200),
-            25..=28 => self.say("PUBLISH"),
+            25..=28 => self.publish(),
             29..=31 => self.read(),
             32..=33 => self.stamp(),
             34 => self.size(),
-            35 => self.say("RECENT"),
+            35 => self.recent(),
             36 => self.odd_format(),
-            37..=38 => self.any_numbers(),
+            37 => self.branch(),
+            38 => self.any_numbers(),
             _ => self.damaged(),
         }
     }
@@ -244,6 +252,40 @@ impl Author {
             }
             None => vec![],
         }
+    }
+
+    /// A line that has begun: line 0 and the last one most.
+    fn line(&mut self) -> u64 {
+        let last = self.store().lines.len() as u64 - 1;
+        match self.random.below(4) {
+            0 => self.random.between(0, last),
+            1 => last,
+            _ => 0,
+        }
+    }
+
+    fn publish(&mut self) {
+        let line = self.line();
+        let line = self.bent(line);
+        self.say(format!("PUBLISH,{line}"));
+    }
+
+    fn recent(&mut self) {
+        let line = self.line();
+        let line = self.bent(line);
+        self.say(format!("RECENT,{line}"));
+    }
+
+    /// Mostly from a published version, an assigned one among the others.
+    fn branch(&mut self) {
+        let line = self.line();
+        let v = if self.random.one_in(8) {
+            self.store().lines[line as usize].shown.len() as u64
+        } else {
+            self.published_version(line)
+        };
+        let line = self.bent(line);
+        self.say(format!("BRANCH,{line},{v}"));
     }
 
     fn begin(&mut self) {
@@ -299,27 +341,28 @@ impl Author {
     fn assign(&mut self) {
         let ticket = self.ticket(|store, ticket| {
             let slots = &store.tickets[ticket as usize - 1].slots;
-            !slots.contains(&None) && store.version_of(ticket).is_none()
+            !slots.contains(&None) && store.update_of(ticket).is_none()
         });
-        let ticket = self.bent(ticket);
+        let line = self.line();
+        let size = self.store().last_size(line);
+        let (line, ticket) = (self.bent(line), self.bent(ticket));
         if self.random.one_in(3) {
-            return self.say(format!("APPEND,{ticket}"));
+            return self.say(format!("APPEND,{line},{ticket}"));
         }
-        let size = self.store().last_size();
         let f = match self.random.below(12) {
             0 => size + 1,
             1..=3 => size,
             _ => self.random.between(0, size),
         };
         let f = self.bent(f);
-        self.say(format!("WRITE,{ticket},{f}"));
+        self.say(format!("WRITE,{line},{ticket},{f}"));
     }
 
     /// Weaves up to so many nodes of one ticket.
     fn weave(&mut self, most: u64) {
         let unfinished = |store: &Store, ticket| {
-            let version = store.version_of(ticket);
-            version.map_or(false, |v| store.nodes_left(v) > 0)
+            let update = store.update_of(ticket);
+            update.map_or(false, |update| store.nodes_left(update) > 0)
         };
         let ticket = self.ticket(unfinished);
         for _ in 0..most {
@@ -332,9 +375,9 @@ impl Author {
         }
     }
 
-    /// Mostly a published version, the last ones most.
-    fn published_version(&mut self) -> u64 {
-        let published = self.store().published;
+    /// Mostly a published version of a line, the last ones most.
+    fn published_version(&mut self, line: u64) -> u64 {
+        let published = self.store().lines[line as usize].published;
         let back = self.random.below(published + 1);
         let back = if self.random.one_in(2) {
             back
@@ -345,13 +388,14 @@ impl Author {
     }
 
     /// The size in bytes of a version that may not be there.
-    fn bytes_of(&self, v: u64) -> u64 {
-        self.store().size(v).unwrap_or(64)
+    fn bytes_of(&self, line: u64, v: u64) -> u64 {
+        self.store().size(line, v).unwrap_or(64)
     }
 
     fn read(&mut self) {
-        let v = self.published_version();
-        let size = self.bytes_of(v);
+        let line = self.line();
+        let v = self.published_version(line);
+        let size = self.bytes_of(line, v);
         let offset = self.random.between(0, size);
         let most = (size - offset).min(LONGEST_READ);
         let length = match self.random.below(8) {
@@ -360,21 +404,24 @@ impl Author {
             2 => 0,
             _ => self.random.between(0, most),
         };
-        let (offset, length) = (self.bent(offset), self.bent(length));
-        self.say(format!("READ,{v},{offset},{length}"));
+        let (line, offset, length) = (self.bent(line), self.bent(offset), self.bent(length));
+        self.say(format!("READ,{line},{v},{offset},{length}"));
     }
 
     fn stamp(&mut self) {
-        let v = self.published_version();
-        let pages = self.bytes_of(v) / self.store().page_size;
+        let line = self.line();
+        let v = self.published_version(line);
+        let pages = self.bytes_of(line, v) / self.store().page_size;
         let page = self.random.between(0, pages);
-        let page = self.bent(page);
-        self.say(format!("STAMP,{v},{page}"));
+        let (line, page) = (self.bent(line), self.bent(page));
+        self.say(format!("STAMP,{line},{v},{page}"));
     }
 
     fn size(&mut self) {
-        let v = self.published_version();
-        self.say(format!("SIZE,{v}"));
+        let line = self.line();
+        let v = self.published_version(line);
+        let line = self.bent(line);
+        self.say(format!("SIZE,{line},{v}"));
     }
 
     /// A FORMAT that is refused, most often; the store goes on then.
@@ -434,7 +481,7 @@ impl Author {
         self.say(line);
     }
 
-    /// Brings every ticket as far as it goes, publishes, and reads what is published.
+    /// Brings every ticket as far as it goes, publishes on every line, and reads what is published.
     fn finish(&mut self) {
         let tickets = 1..=self.store().tickets.len() as u64;
         for ticket in self.random.shuffled(tickets) {
@@ -446,15 +493,24 @@ impl Author {
         for ticket in self.unfinished() {
             self.say(format!("WEAVE,{ticket}"));
             if self.random.one_in(8) {
-                self.say("PUBLISH");
+                self.publish();
             }
         }
-        while self.script.answers.last().map_or(true, |a| a != "waiting") {
-            self.say("PUBLISH");
+        for line in 0..self.store().lines.len() as u64 {
+            self.publish_all(line);
+            let published = self.store().lines[line as usize].published;
+            let first = if line == 0 { 6 } else { 2 };
+            for v in (0..=published).filter(|v| *v < first || v + 3 > published) {
+                self.read_whole(line, v);
+            }
         }
-        for v in 0..=self.store().published {
-            if v < 6 || v + 3 > self.store().published {
-                self.read_whole(v);
+    }
+
+    fn publish_all(&mut self, line: u64) {
+        loop {
+            self.say(format!("PUBLISH,{line}"));
+            if self.script.answers.last().map_or(true, |a| a == "waiting") {
+                return;
             }
         }
     }
@@ -463,29 +519,29 @@ impl Author {
     fn unfinished(&mut self) -> Vec<u64> {
         let store = self.model.store.as_ref().expect("FORMAT was accepted");
         let mut tickets = vec![];
-        for (place, version) in store.versions.iter().enumerate() {
-            let left = store.nodes_left(place as u64 + 1);
-            tickets.extend(vec![version.ticket; left as usize]);
+        for update in &store.updates {
+            let left = store.nodes_left(update);
+            tickets.extend(vec![update.ticket; left as usize]);
         }
         self.random.shuffled(tickets.into_iter())
     }
 
     /// Size, bytes and stamps of a published version, up to a length; and just past its end.
-    fn read_whole(&mut self, v: u64) {
-        self.say(format!("SIZE,{v}"));
-        let (s, size) = (self.store().page_size, self.bytes_of(v));
+    fn read_whole(&mut self, line: u64, v: u64) {
+        self.say(format!("SIZE,{line},{v}"));
+        let (s, size) = (self.store().page_size, self.bytes_of(line, v));
         let mut offset = 0;
         while offset < size.min(2_048) {
             let most = (size - offset).min(LONGEST_READ);
             let length = self.random.between(most / 2, most).max(1);
-            self.say(format!("READ,{v},{offset},{length}"));
+            self.say(format!("READ,{line},{v},{offset},{length}"));
             offset += length;
         }
         for page in (0..size / s).take(20) {
-            self.say(format!("STAMP,{v},{page}"));
+            self.say(format!("STAMP,{line},{v},{page}"));
         }
-        self.say(format!("READ,{v},{size},0"));
-        self.say(format!("READ,{v},{size},1"));
-        self.say(format!("STAMP,{v},{}", size / s));
+        self.say(format!("READ,{line},{v},{size},0"));
+        self.say(format!("READ,{line},{v},{size},1"));
+        self.say(format!("STAMP,{line},{v},{}", size / s));
     }
 }

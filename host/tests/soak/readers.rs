@@ -2,17 +2,24 @@
 
 use crate::random::Random;
 use crate::PAGE_SIZE;
-use pit_host::{ByteOffset, Error, PageIndex, Shared, Version};
+use pit_host::{ByteOffset, Error, Line, PageIndex, Shared, Version};
 use std::sync::RwLock;
 use std::thread;
 
-/// A reader's call, of a version that was published then.
+/// A reader's call, on a version that was published then.
 #[derive(Clone, Copy, Debug)]
-pub enum Asked {
-    Size(u64),
-    Stamp(u64, u64),
-    View(u64, u64),
-    Read(u64, u64, u64),
+pub struct Asked {
+    pub line: u64,
+    pub version: u64,
+    pub what: What,
+}
+
+#[derive(Clone, Copy, Debug)]
+pub enum What {
+    Size,
+    Stamp(u64),
+    View(u64),
+    Read(u64, u64),
 }
 
 /// What it answered: a number or bytes.
@@ -27,43 +34,40 @@ pub enum Answer {
 const UNFILLED: u8 = 0xee;
 
 impl Asked {
-    pub fn version(&self) -> u64 {
-        match *self {
-            Asked::Size(v) | Asked::Stamp(v, _) | Asked::View(v, _) | Asked::Read(v, ..) => v,
-        }
-    }
-
     pub fn of(&self, shared: &Shared) -> Answer {
-        let answer = match *self {
-            Asked::Size(v) => shared.size(Version(v)).map(Answer::Number),
-            Asked::Stamp(v, page) => {
-                let stamp = shared.stamp(Version(v), PageIndex(page));
+        let (line, version) = (Line(self.line), Version(self.version));
+        let answer = match self.what {
+            What::Size => shared.size(line, version).map(Answer::Number),
+            What::Stamp(page) => {
+                let stamp = shared.stamp(line, version, PageIndex(page));
                 stamp.map(|stamp| Answer::Number(stamp.0))
             }
-            Asked::View(v, page) => {
-                let bytes = shared.with_view(Version(v), PageIndex(page), <[u8]>::to_vec);
+            What::View(page) => {
+                let bytes = shared.with_view(line, version, PageIndex(page), <[u8]>::to_vec);
                 bytes.map(Answer::Bytes)
             }
-            Asked::Read(v, offset, len) => read(shared, v, offset, len).map(Answer::Bytes),
+            What::Read(offset, len) => self.read(shared, offset, len).map(Answer::Bytes),
         };
         answer.unwrap_or_else(|refused| Answer::Refused(refused.number()))
     }
-}
 
-/// READ into a buffer that is a little too long; the rest of it stays.
-fn read(shared: &Shared, v: u64, offset: u64, len: u64) -> Result<Vec<u8>, Error> {
-    let mut buffer = vec![UNFILLED; len as usize + 5];
-    let done = shared.read(Version(v), ByteOffset(offset), len, &mut buffer);
-    let filled = if done.is_ok() { len as usize } else { 0 };
-    assert_eq!(buffer[filled..], vec![UNFILLED; buffer.len() - filled]);
-    buffer.truncate(filled);
-    done.map(|()| buffer)
+    /// READ into a buffer that is a little too long; the rest of it stays.
+    fn read(&self, shared: &Shared, offset: u64, len: u64) -> Result<Vec<u8>, Error> {
+        let (line, version) = (Line(self.line), Version(self.version));
+        let mut buffer = vec![UNFILLED; len as usize + 5];
+        let done = shared.read(line, version, ByteOffset(offset), len, &mut buffer);
+        let filled = if done.is_ok() { len as usize } else { 0 };
+        assert_eq!(buffer[filled..], vec![UNFILLED; buffer.len() - filled]);
+        buffer.truncate(filled);
+        done.map(|()| buffer)
+    }
 }
 
 pub struct Reader<'a> {
     shared: &'a Shared,
     random: Random,
-    newest: Version,
+    /// For each line that it has met, the last version that was published.
+    newest: Vec<Version>,
     answers: Vec<(Asked, Answer)>,
 }
 
@@ -72,7 +76,7 @@ impl<'a> Reader<'a> {
         Reader {
             shared,
             random,
-            newest: Version(0),
+            newest: vec![Version(0)],
             answers: vec![],
         }
     }
@@ -97,13 +101,14 @@ impl<'a> Reader<'a> {
         for _ in 0..self.random.below(12) {
             thread::yield_now();
         }
-        let recent = self.recent();
+        let line = self.line();
+        let recent = self.recent(line);
         let version = if self.random.one_in(2) {
             recent.0
         } else {
             self.random.below(recent.0 + 1)
         };
-        let asked = self.draw(version);
+        let asked = self.draw(line, version);
         let answer = asked.of(self.shared);
         self.answers.push((asked, answer));
         let at = self.random.below(self.answers.len() as u64);
@@ -111,31 +116,49 @@ impl<'a> Reader<'a> {
         assert_eq!(asked.of(self.shared), *answer, "{asked:?} a second time");
     }
 
+    /// Line 0 half the time, else any that has begun. A line that it has met is there for good.
+    fn line(&mut self) -> Line {
+        let met = self.newest.len() as u64;
+        match self.shared.recent(Line(met)) {
+            Ok(_) => self.newest.push(Version(0)),
+            Err(refused) => assert_eq!(refused, Error::NoSuchLine),
+        }
+        let met = self.newest.len() as u64;
+        Line(self.random.below(2) * self.random.below(met))
+    }
+
     /// The last published version: never lower than before, and the one after it is published only if it is higher then.
-    fn recent(&mut self) -> Version {
-        let recent = self.shared.recent().expect("a store");
-        assert!(recent >= self.newest, "{recent} after {}", self.newest);
-        self.newest = recent;
-        let next = self.shared.size(Version(recent.0 + 1));
-        let now = self.shared.recent().expect("a store");
+    fn recent(&mut self, line: Line) -> Version {
+        let recent = self.shared.recent(line).expect("a line that has begun");
+        let newest = &mut self.newest[line.0 as usize];
+        assert!(recent >= *newest, "{recent} after {newest} on line {line}");
+        *newest = recent;
+        let next = self.shared.size(line, Version(recent.0 + 1));
+        let now = self.shared.recent(line).expect("a line that has begun");
         assert!(next == Err(Error::NotPublished) || now > recent, "{next:?}");
         recent
     }
 
     /// A call on a version; its page or range is inside the version, but for one in ten.
-    fn draw(&mut self, version: u64) -> Asked {
-        let size = self.shared.size(Version(version));
+    fn draw(&mut self, line: Line, version: u64) -> Asked {
+        let size = self.shared.size(line, Version(version));
         let size = size.expect("a published version");
         let outside = u64::from(self.random.one_in(10));
         let page = self.random.below(size / PAGE_SIZE + outside + 1);
         let page = page.saturating_sub(1 - outside);
         let offset = self.random.below(size + 1);
         let len = self.random.below(size - offset + 1) + outside;
-        match self.random.below(8) {
-            0 => Asked::Size(version),
-            1 | 2 => Asked::Stamp(version, page),
-            3 | 4 => Asked::View(version, page),
-            _ => Asked::Read(version, offset, len),
+        let what = match self.random.below(8) {
+            0 => What::Size,
+            1 | 2 => What::Stamp(page),
+            3 | 4 => What::View(page),
+            _ => What::Read(offset, len),
+        };
+        let line = line.0;
+        Asked {
+            line,
+            version,
+            what,
         }
     }
 }

@@ -1,13 +1,14 @@
-//! The verdict: all that writers and readers were answered, against the plain model.
+//! The verdict: all that writers, planners and readers were answered, against the plain model.
 
-use crate::readers::{Answer, Asked};
+use crate::readers::{Answer, Asked, What};
 use crate::store;
-use crate::writers::{Log, Update};
+use crate::writers::{Begun, Log, Update};
 use crate::PAGE_SIZE;
-use pit_host::{Error, Limits, Node, Shared, Version};
+use pit_host::{Error, Limits, Line, Node, Shared, Version};
 
 /// The model after what the logs tell, each answer in them compared with its own. Tickets and versions are told in the
-/// order of their numbers; when a node was woven makes no difference to what it is.
+/// order of their numbers, and lines one after the other, each when its source is there whole; when a node was woven makes
+/// no difference to what it is, nor does what other lines have done meanwhile.
 pub fn replayed(limits: Limits, logs: &[&Log]) -> store::Store {
     let formatted =
         store::Store::format(limits.page_size, limits.pages, limits.nodes, limits.updates);
@@ -25,18 +26,31 @@ pub fn replayed(limits: Limits, logs: &[&Log]) -> store::Store {
     }
     updates.retain(|update| update.assigned.is_some());
     updates.sort_by_key(|update| update.assigned.map(|(assigned, _)| assigned.version));
-    for update in &updates {
+    let mut begun: Vec<Begun> = logs.iter().filter_map(|log| log.begun).collect();
+    begun.sort_by_key(|begun| begun.line);
+    replay_line(&mut model, Line(0), &updates);
+    for begun in begun {
+        let line = model.branch(begun.source.0, begun.version.0);
+        assert_eq!(line, Ok(begun.line.0));
+        replay_line(&mut model, begun.line, &updates);
+    }
+    model
+}
+
+/// Assigns a line's updates, which come in the order of their versions; weaves what was woven, and publishes.
+fn replay_line(model: &mut store::Store, line: Line, updates: &[&Update]) {
+    let own = updates.iter().filter(|update| update.line == line);
+    for update in own.clone() {
         let (assigned, first) = update.assigned.expect("those without have gone");
-        let due = model.assign(update.ticket.0, first.map(|first| first.0));
+        let due = model.assign(line.0, update.ticket.0, first.map(|first| first.0));
         assert_eq!(due, Ok((assigned.version.0, assigned.nodes)));
     }
-    for update in &updates {
+    for update in own {
         for node in &update.woven {
             assert_eq!(model.weave(update.ticket.0), Ok(plain(node)));
         }
     }
-    while model.publish().is_some() {}
-    model
+    while model.publish(line.0) != Ok(None) {}
 }
 
 /// A woven node in the model's form.
@@ -50,23 +64,37 @@ fn plain(node: &Node) -> store::Node {
     }
 }
 
-/// Each version was published once, up to the last before the first that is not complete.
+/// On each line each of its own versions was published once, up to the last before the first that is not complete.
 pub fn published(shared: &Shared, model: &store::Store, logs: &[&Log]) {
+    let lines = model.lines.len() as u64;
+    for line in (0..lines).map(Line) {
+        let mut begun = logs.iter().filter_map(|log| log.begun);
+        let start = begun.find(|begun| begun.line == line);
+        let start = start.map_or(0, |begun| begun.version.0);
+        published_on(shared, model, logs, line, start);
+    }
+    assert_eq!(shared.recent(Line(lines)), Err(Error::NoSuchLine));
+}
+
+/// The same on a line that began with so many versions.
+fn published_on(shared: &Shared, model: &store::Store, logs: &[&Log], line: Line, start: u64) {
     let updates = logs.iter().flat_map(|log| &log.updates);
-    let incomplete = updates.filter(|update| update.rest() > 0);
+    let incomplete = updates.filter(|update| update.line == line && update.rest() > 0);
     let incomplete = incomplete.filter_map(|update| update.assigned);
     let first = incomplete.map(|(assigned, _)| assigned.version.0).min();
-    let due = first.map_or(model.versions.len() as u64, |first| first - 1);
-    assert_eq!(shared.recent(), Ok(Version(due)));
-    assert_eq!(shared.publish(), Ok(None));
-    assert_eq!(model.recent(), due);
+    let last = model.lines[line.0 as usize].shown.len() as u64;
+    let due = first.map_or(last, |first| first - 1);
+    assert_eq!(shared.recent(line), Ok(Version(due)));
+    assert_eq!(shared.publish(line), Ok(None));
+    assert_eq!(model.recent(line.0), Ok(due));
 
     let told = logs.iter().flat_map(|log| &log.published);
-    let mut told: Vec<u64> = told.map(|version| version.0).collect();
+    let told = told.filter(|(on, _)| *on == line);
+    let mut told: Vec<u64> = told.map(|(_, version)| version.0).collect();
     told.sort_unstable();
-    assert!(told.iter().copied().eq(1..=due), "{told:?}");
-    for v in due + 1..model.versions.len() as u64 + 2 {
-        assert_eq!(shared.size(Version(v)), Err(Error::NotPublished));
+    assert!(told.iter().copied().eq(start + 1..=due), "{line}: {told:?}");
+    for v in due + 1..last + 2 {
+        assert_eq!(shared.size(line, Version(v)), Err(Error::NotPublished));
     }
 }
 
@@ -76,17 +104,22 @@ pub struct Snapshot {
     stamps: Vec<u64>,
 }
 
-pub fn snapshots(model: &store::Store) -> Vec<Snapshot> {
-    let snapshot = |v| {
-        let mut bytes = vec![0; model.size(v)? as usize];
-        model.read(v, 0, bytes.len() as u64, &mut bytes)?;
-        let stamps = (0..model.size_in_pages(v)).map(|page| model.stamp(v, page));
+/// Every published version of every line.
+pub fn snapshots(model: &store::Store) -> Vec<Vec<Snapshot>> {
+    let snapshot = |line, v| {
+        let mut bytes = vec![0; model.size(line, v)? as usize];
+        model.read(line, v, 0, bytes.len() as u64, &mut bytes)?;
+        let stamps = (0..model.size_in_pages(line, v)).map(|page| model.stamp(line, v, page));
         let stamps = stamps.collect::<store::Answer<_>>()?;
         Ok(Snapshot { bytes, stamps })
     };
-    let snapshots = (0..=model.recent()).map(snapshot);
-    let snapshots: store::Answer<Vec<Snapshot>> = snapshots.collect();
-    snapshots.expect("every version up to the last published")
+    let of_line = |line| {
+        let snapshots = (0..=model.recent(line)?).map(|v| snapshot(line, v));
+        snapshots.collect::<store::Answer<Vec<Snapshot>>>()
+    };
+    let lines = (0..model.lines.len() as u64).map(of_line);
+    let lines: store::Answer<_> = lines.collect();
+    lines.expect("every version up to the last published")
 }
 
 impl Snapshot {
@@ -98,29 +131,36 @@ impl Snapshot {
 }
 
 /// What the model answers.
-pub fn due(snapshots: &[Snapshot], asked: Asked) -> Answer {
-    let of = |v: u64| &snapshots[v as usize];
-    match asked {
-        Asked::Size(v) => Answer::Number(of(v).bytes.len() as u64),
-        Asked::Stamp(v, page) => {
-            let stamp = of(v).stamps.get(page as usize);
+pub fn due(snapshots: &[Vec<Snapshot>], asked: Asked) -> Answer {
+    let of = &snapshots[asked.line as usize][asked.version as usize];
+    match asked.what {
+        What::Size => Answer::Number(of.bytes.len() as u64),
+        What::Stamp(page) => {
+            let stamp = of.stamps.get(page as usize);
             stamp.map_or(Answer::Refused(17), |stamp| Answer::Number(*stamp))
         }
-        Asked::View(v, page) => of(v).part(page * PAGE_SIZE, PAGE_SIZE),
-        Asked::Read(v, offset, len) => of(v).part(offset, len),
+        What::View(page) => of.part(page * PAGE_SIZE, PAGE_SIZE),
+        What::Read(offset, len) => of.part(offset, len),
     }
 }
 
-/// Every published version, whole.
-pub fn compare_all(shared: &Shared, snapshots: &[Snapshot]) {
-    for (v, snapshot) in (0..).zip(snapshots) {
-        let size = snapshot.bytes.len() as u64;
-        let mut calls = vec![Asked::Size(v), Asked::Read(v, 0, size)];
-        for page in 0..=size / PAGE_SIZE {
-            calls.extend([Asked::Stamp(v, page), Asked::View(v, page)]);
-        }
-        for asked in calls {
-            assert_eq!(asked.of(shared), due(snapshots, asked), "{asked:?}");
+/// Every published version of every line, whole.
+pub fn compare_all(shared: &Shared, snapshots: &[Vec<Snapshot>]) {
+    for (line, versions) in (0..).zip(snapshots) {
+        for (version, snapshot) in (0..).zip(versions) {
+            let size = snapshot.bytes.len() as u64;
+            let mut calls = vec![What::Size, What::Read(0, size)];
+            for page in 0..=size / PAGE_SIZE {
+                calls.extend([What::Stamp(page), What::View(page)]);
+            }
+            for what in calls {
+                let asked = Asked {
+                    line,
+                    version,
+                    what,
+                };
+                assert_eq!(asked.of(shared), due(snapshots, asked), "{asked:?}");
+            }
         }
     }
 }

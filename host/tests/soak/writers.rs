@@ -1,13 +1,15 @@
-//! Writers, each on its own tickets. What one has done stands in a log that outlives it.
+//! Writers, each on its own tickets, and planners, who begin lines of their own first. What one has done stands in a log
+//! that outlives it.
 
 use crate::random::Random;
 use crate::PAGE_SIZE;
-use pit_host::{Assigned, Error, Node, PageIndex, Shared, Ticket, Version};
+use pit_host::{Assigned, Error, Line, Node, PageIndex, Shared, Ticket, Version};
 use std::sync::{Mutex, MutexGuard};
 use std::thread;
 
-/// An update as far as it came. A write has its first page, an append has none.
+/// An update as far as it came, for a line. A write has its first page, an append has none.
 pub struct Update {
+    pub line: Line,
     pub ticket: Ticket,
     pub pages: Vec<Option<Vec<u8>>>,
     pub assigned: Option<(Assigned, Option<PageIndex>)>,
@@ -22,11 +24,20 @@ impl Update {
     }
 }
 
-/// A writer's updates, and the versions that it has published.
+/// A line that a planner has begun, and from what.
+#[derive(Clone, Copy)]
+pub struct Begun {
+    pub line: Line,
+    pub source: Line,
+    pub version: Version,
+}
+
+/// A writer's updates, the versions that it has published, and the line that it has begun.
 #[derive(Default)]
 pub struct Log {
     pub updates: Vec<Update>,
-    pub published: Vec<Version>,
+    pub published: Vec<(Line, Version)>,
+    pub begun: Option<Begun>,
 }
 
 /// Where in an update a writer dies.
@@ -70,6 +81,7 @@ pub struct Writer<'a> {
     shared: &'a Shared,
     log: &'a Mutex<Log>,
     random: Random,
+    line: Line,
     /// Where the update in work ends, if the writer is to die in it.
     end: Option<Stage>,
 }
@@ -80,8 +92,46 @@ impl<'a> Writer<'a> {
             shared,
             log,
             random,
+            line: Line(0),
             end: None,
         }
+    }
+
+    /// Begins a line from a published version, while others write, and goes on there; where sixteen lines exist, on the
+    /// last of them, beside its planner.
+    pub fn plan(mut self) -> Writer<'a> {
+        for _ in 0..self.random.below(300) {
+            thread::yield_now();
+        }
+        let (source, version) = self.some_version();
+        match self.shared.branch(source, version) {
+            Ok(line) => {
+                self.line = line;
+                self.log().begun = Some(Begun {
+                    line,
+                    source,
+                    version,
+                });
+            }
+            Err(refused) => {
+                assert_eq!(refused, Error::LinesFull);
+                self.line = Line(15);
+            }
+        }
+        self
+    }
+
+    /// A published version, of line 0 half the time, among the last ones most.
+    fn some_version(&mut self) -> (Line, Version) {
+        let lines = (0..).map(|line| self.shared.recent(Line(line)));
+        let begun = lines.take_while(|recent| recent.is_ok()).count() as u64;
+        let line = Line(self.random.below(2) * self.random.below(begun));
+        let recent = self.shared.recent(line).expect("a line that has begun").0;
+        let back = match self.random.below(4) {
+            0 => self.random.below(recent + 1),
+            _ => self.random.below(3).min(recent),
+        };
+        (line, Version(recent - back))
     }
 
     /// Makes so many updates of up to so many pages, or dies before.
@@ -109,6 +159,7 @@ impl<'a> Writer<'a> {
     fn update(&mut self, n: u64) -> Result<(), Died> {
         let ticket = self.shared.begin(n).expect("room for all updates");
         self.log().updates.push(Update {
+            line: self.line,
             ticket,
             pages: vec![None; n as usize],
             assigned: None,
@@ -127,9 +178,11 @@ impl<'a> Writer<'a> {
 
     /// Weaves what is left of the log's last update, if anything is, and publishes.
     pub fn finish(&mut self) -> bool {
-        let left = self.log().updates.last().map(|u| (u.ticket, u.rest()));
+        let last = |u: &Update| (u.line, u.ticket, u.rest());
+        let left = self.log().updates.last().map(last);
         match left {
-            Some((ticket, 1..)) => {
+            Some((line, ticket, 1..)) => {
+                self.line = line;
                 let _ = self.weave_all(ticket);
                 self.publish();
                 true
@@ -185,15 +238,16 @@ impl<'a> Writer<'a> {
 
     /// A write within what is published, or right after it; or an append.
     fn assign(&mut self, ticket: Ticket) {
-        let recent = self.shared.recent().expect("a store");
-        let size = self.shared.size(recent).expect("a published version");
+        let recent = self.shared.recent(self.line).expect("a line");
+        let size = self.shared.size(self.line, recent);
+        let size = size.expect("a published version");
         let first = match self.random.below(8) {
             0 => None,
             _ => Some(PageIndex(self.random.below(size / PAGE_SIZE + 1))),
         };
         let assigned = match first {
-            Some(first) => self.shared.write(ticket, first),
-            None => self.shared.append(ticket),
+            Some(first) => self.shared.write(self.line, ticket, first),
+            None => self.shared.append(self.line, ticket),
         };
         let assigned = assigned.expect("room for all versions");
         self.last(|update| update.assigned = Some((assigned, first)));
@@ -216,10 +270,21 @@ impl<'a> Writer<'a> {
         Ok(())
     }
 
-    /// Publishes all that is due.
-    pub fn publish(&mut self) {
-        while let Some(version) = self.shared.publish().expect("a store") {
-            self.log().published.push(version);
+    /// Publishes all that is due on its line.
+    fn publish(&mut self) {
+        while let Some(version) = self.shared.publish(self.line).expect("a line") {
+            self.log().published.push((self.line, version));
+        }
+    }
+
+    /// Publishes all that is due on any line.
+    pub fn publish_all(&mut self) {
+        for line in (0..).map(Line) {
+            if self.shared.recent(line) == Err(Error::NoSuchLine) {
+                return;
+            }
+            self.line = line;
+            self.publish();
         }
     }
 }

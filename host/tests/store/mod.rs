@@ -1,6 +1,6 @@
-//! Document 01's plain model of the store, written from the document alone: tickets, versions and the
-//! number published. Refusals follow the table row by row, nodes come from building the tree, and a
-//! version is read by applying the updates up to it in turn.
+//! The plain model of the store, document 01's with the lines of document 02, written from the documents alone: tickets,
+//! updates, and for each line the updates that it shows and the number published. Refusals follow the table row by row,
+//! nodes come from building the tree, and a version is read by applying the updates of its line up to it in turn.
 
 #[cfg(test)]
 mod tests;
@@ -10,6 +10,8 @@ pub mod text;
 const MOST_PAGES: u64 = 4_096;
 /// An update has at most this many pages.
 const MOST_UPDATE: u64 = 64;
+/// A store has at most this many lines.
+pub const MOST_LINES: u64 = 16;
 
 /// The number of the row that refuses a step.
 #[derive(Debug, PartialEq)]
@@ -33,14 +35,31 @@ pub struct Ticket {
     pub woven: u64,
 }
 
-/// What ASSIGN gave: a ticket's update, of the pages from `f` on, and the blob's size in pages after it.
-pub struct Version {
+/// What ASSIGN gave: a ticket's update, of the pages from `f` on, and the blob's size in pages after it; and the line and
+/// version that it is.
+pub struct Update {
     pub ticket: u64,
     pub f: u64,
     pub size: u64,
+    line: u64,
+    version: u64,
 }
 
-/// A woven node: its name, its two numbers and how many nodes of its version are left.
+impl Update {
+    /// Its version's number in the node area.
+    fn number(&self) -> u64 {
+        self.line * 65_536 + self.version
+    }
+}
+
+/// A line: the updates that are its versions 1, 2 .., the shared ones first, by their places among all; and how many are
+/// published.
+pub struct Line {
+    pub shown: Vec<usize>,
+    pub published: u64,
+}
+
+/// A woven node: its name, its two numbers and how many nodes of its version are left. Versions say their line too.
 #[derive(Debug, PartialEq)]
 pub struct Node {
     pub version: u64,
@@ -54,10 +73,11 @@ pub struct Store {
     pub page_size: u64,
     pub pages: u64,
     nodes: u64,
-    updates: u64,
+    most_updates: u64,
     pub tickets: Vec<Ticket>,
-    pub versions: Vec<Version>,
-    pub published: u64,
+    /// In the order of ASSIGN, over all lines.
+    pub updates: Vec<Update>,
+    pub lines: Vec<Line>,
 }
 
 /// Whether the `span` pages from `first` on and the `n` pages from `f` on have a page in common.
@@ -104,16 +124,19 @@ impl Store {
             page_size,
             pages,
             nodes,
-            updates,
+            most_updates: updates,
             tickets: vec![],
-            versions: vec![],
-            published: 0,
+            updates: vec![],
+            lines: vec![Line {
+                shown: vec![],
+                published: 0,
+            }],
         })
     }
 
     pub fn begin(&mut self, n: u64) -> Answer<u64> {
         row(4, n == 0 || n > MOST_UPDATE)?;
-        row(5, self.tickets.len() as u64 == self.updates)?;
+        row(5, self.tickets.len() as u64 == self.most_updates)?;
         row(6, self.page_numbers_unused() < n)?;
         self.tickets.push(Ticket {
             n,
@@ -125,7 +148,7 @@ impl Store {
 
     pub fn put(&mut self, ticket: u64, i: u64, bytes: &[u8]) -> Answer<()> {
         let at = self.place_of(ticket)?;
-        row(8, self.version_of(ticket).is_some())?;
+        row(8, self.update_of(ticket).is_some())?;
         row(9, i >= self.tickets[at].n)?;
         row(10, self.tickets[at].slots[i as usize].is_some())?;
         row(11, bytes.len() as u64 != self.page_size)?;
@@ -133,75 +156,101 @@ impl Store {
         Ok(())
     }
 
-    /// A write at page `f`, or an append where there is none. Gives the version and its node count.
-    pub fn assign(&mut self, ticket: u64, f: Option<u64>) -> Answer<(u64, u64)> {
+    /// A write at page `f`, or an append where there is none. Gives the line's version and its node count.
+    pub fn assign(&mut self, line: u64, ticket: u64, f: Option<u64>) -> Answer<(u64, u64)> {
         let at = self.place_of(ticket)?;
-        row(8, self.version_of(ticket).is_some())?;
+        row(8, self.update_of(ticket).is_some())?;
+        let shown = self.line(line)?.shown.len() as u64;
         row(12, self.tickets[at].slots.contains(&None))?;
-        let (n, size) = (self.tickets[at].n, self.last_size());
+        let (n, size) = (self.tickets[at].n, self.size_in_pages(line, shown));
         let f = f.unwrap_or(size);
         row(13, f > size)?;
         row(14, f + n > MOST_PAGES)?;
-        let version = Version {
+        let update = Update {
             ticket,
             f,
             size: size.max(f + n),
+            line,
+            version: shown + 1,
         };
-        let count = self.names(&version).len() as u64;
+        let count = self.names(&update).len() as u64;
         row(15, self.node_places_unused() < count)?;
-        self.versions.push(version);
-        Ok((self.versions.len() as u64, count))
+        let place = self.updates.len();
+        self.lines[line as usize].shown.push(place);
+        self.updates.push(update);
+        Ok((shown + 1, count))
     }
 
     pub fn weave(&mut self, ticket: u64) -> Answer<Node> {
         let at = self.place_of(ticket)?;
-        let v = self.version_of(ticket).ok_or(Refused(8))?;
-        let names = self.names(self.version(v));
+        let update = self.update_of(ticket).ok_or(Refused(8))?;
+        let names = self.names(update);
         let woven = self.tickets[at].woven;
         row(8, woven == names.len() as u64)?;
         let (first, span) = names[woven as usize];
-        self.tickets[at].woven += 1;
-        Ok(Node {
-            version: v,
+        let node = Node {
+            version: update.number(),
             first,
             span,
-            numbers: self.numbers(v, first, span),
-            left: names.len() as u64 - self.tickets[at].woven,
-        })
+            numbers: self.numbers(update, first, span),
+            left: names.len() as u64 - woven - 1,
+        };
+        self.tickets[at].woven += 1;
+        Ok(node)
     }
 
     /// The version published now, if there is one to publish.
-    pub fn publish(&mut self) -> Option<u64> {
-        let next = self.versions.get(self.published as usize)?;
-        if self.woven(next) < self.names(next).len() as u64 {
-            return None;
+    pub fn publish(&mut self, line: u64) -> Answer<Option<u64>> {
+        let next = self.line(line)?.published + 1;
+        if self.shown(line, next).map_or(true, |u| !self.complete(u)) {
+            return Ok(None);
         }
-        self.published += 1;
-        Some(self.published)
+        self.lines[line as usize].published = next;
+        Ok(Some(next))
     }
 
-    pub fn read(&self, v: u64, offset: u64, length: u64, buffer: &mut [u8]) -> Answer<()> {
-        let size = self.size(v)?;
+    /// The new line: it shows what the line shows up to `v`, all of it published.
+    pub fn branch(&mut self, line: u64, v: u64) -> Answer<u64> {
+        let source = self.published(line, v)?;
+        row(21, self.lines.len() as u64 == MOST_LINES)?;
+        let shown = source.shown[..v as usize].to_vec();
+        self.lines.push(Line {
+            shown,
+            published: v,
+        });
+        Ok(self.lines.len() as u64 - 1)
+    }
+
+    pub fn read(
+        &self,
+        line: u64,
+        v: u64,
+        offset: u64,
+        length: u64,
+        buffer: &mut [u8],
+    ) -> Answer<()> {
+        let size = self.size(line, v)?;
         row(17, offset > size || length > size - offset)?;
         row(18, (buffer.len() as u64) < length)?;
         let (offset, length) = (offset as usize, length as usize);
-        buffer[..length].copy_from_slice(&self.blob(v)[offset..offset + length]);
+        buffer[..length].copy_from_slice(&self.blob(line, v)[offset..offset + length]);
         Ok(())
     }
 
-    pub fn size(&self, v: u64) -> Answer<u64> {
-        row(16, v > self.published)?;
-        Ok(self.page_size * self.size_in_pages(v))
+    pub fn size(&self, line: u64, v: u64) -> Answer<u64> {
+        self.published(line, v)?;
+        Ok(self.page_size * self.size_in_pages(line, v))
     }
 
-    pub fn recent(&self) -> u64 {
-        self.published
+    pub fn recent(&self, line: u64) -> Answer<u64> {
+        Ok(self.line(line)?.published)
     }
 
-    pub fn stamp(&self, v: u64, page: u64) -> Answer<u64> {
-        row(16, v > self.published)?;
-        row(17, page >= self.size_in_pages(v))?;
-        Ok(self.newest_meeting(v, page, 1))
+    pub fn stamp(&self, line: u64, v: u64, page: u64) -> Answer<u64> {
+        self.published(line, v)?;
+        row(17, page >= self.size_in_pages(line, v))?;
+        let newest = self.newest_meeting(line, v, page, 1);
+        Ok(newest.map_or(0, |update| update.version))
     }
 
     /// Where the ticket stands among the tickets.
@@ -210,35 +259,49 @@ impl Store {
         Ok(ticket as usize - 1)
     }
 
-    fn version(&self, v: u64) -> &Version {
-        &self.versions[v as usize - 1]
+    fn line(&self, line: u64) -> Answer<&Line> {
+        row(20, line >= self.lines.len() as u64)?;
+        Ok(&self.lines[line as usize])
     }
 
-    /// The version that ASSIGN gave to the ticket.
-    pub fn version_of(&self, ticket: u64) -> Option<u64> {
-        let place = self.versions.iter().position(|v| v.ticket == ticket)?;
-        Some(place as u64 + 1)
+    /// A line on which version `v` is published.
+    fn published(&self, line: u64, v: u64) -> Answer<&Line> {
+        let of = self.line(line)?;
+        row(16, v > of.published)?;
+        Ok(of)
     }
 
-    fn n(&self, version: &Version) -> u64 {
-        self.tickets[version.ticket as usize - 1].n
+    /// The update that a line shows as version `v`.
+    fn shown(&self, line: u64, v: u64) -> Option<&Update> {
+        let shown = &self.lines[line as usize].shown;
+        let place = shown.get((v as usize).checked_sub(1)?)?;
+        Some(&self.updates[*place])
     }
 
-    fn woven(&self, version: &Version) -> u64 {
-        self.tickets[version.ticket as usize - 1].woven
+    /// The update that ASSIGN made of the ticket.
+    pub fn update_of(&self, ticket: u64) -> Option<&Update> {
+        self.updates.iter().find(|update| update.ticket == ticket)
     }
 
-    pub fn size_in_pages(&self, v: u64) -> u64 {
-        if v == 0 {
-            0
-        } else {
-            self.version(v).size
-        }
+    fn n(&self, update: &Update) -> u64 {
+        self.tickets[update.ticket as usize - 1].n
     }
 
-    /// The size in pages of the last assigned version.
-    pub fn last_size(&self) -> u64 {
-        self.size_in_pages(self.versions.len() as u64)
+    fn woven(&self, update: &Update) -> u64 {
+        self.tickets[update.ticket as usize - 1].woven
+    }
+
+    fn complete(&self, update: &Update) -> bool {
+        self.nodes_left(update) == 0
+    }
+
+    pub fn size_in_pages(&self, line: u64, v: u64) -> u64 {
+        self.shown(line, v).map_or(0, |update| update.size)
+    }
+
+    /// The size in pages of a line's last assigned version.
+    pub fn last_size(&self, line: u64) -> u64 {
+        self.size_in_pages(line, self.lines[line as usize].shown.len() as u64)
     }
 
     /// How many page numbers the tickets before this place took.
@@ -251,51 +314,51 @@ impl Store {
     }
 
     fn node_places_unused(&self) -> u64 {
-        let used = self.versions.iter().map(|v| self.names(v).len() as u64);
+        let used = self.updates.iter().map(|u| self.names(u).len() as u64);
         self.nodes - used.sum::<u64>()
     }
 
-    /// The nodes that a version makes, in weaving order.
-    fn names(&self, version: &Version) -> Vec<(u64, u64)> {
-        weaving_order(0, root_span(version.size), version.f, self.n(version))
+    /// The nodes that an update makes, in weaving order.
+    fn names(&self, update: &Update) -> Vec<(u64, u64)> {
+        weaving_order(0, root_span(update.size), update.f, self.n(update))
     }
 
-    /// How many nodes of a version are still to be woven.
-    pub fn nodes_left(&self, v: u64) -> u64 {
-        let version = self.version(v);
-        self.names(version).len() as u64 - self.woven(version)
+    /// How many nodes of an update are still to be woven.
+    pub fn nodes_left(&self, update: &Update) -> u64 {
+        self.names(update).len() as u64 - self.woven(update)
     }
 
-    /// A node's two numbers: its children's versions, or a leaf's page number and 0.
-    fn numbers(&self, v: u64, first: u64, span: u64) -> (u64, u64) {
+    /// A node's two numbers: its children's versions, each of the line on which it got its version, or a leaf's page
+    /// number and 0. Below it are the versions of the line on which its own update got one.
+    fn numbers(&self, update: &Update, first: u64, span: u64) -> (u64, u64) {
         let half = span / 2;
         if span > 1 {
-            let left = self.newest_meeting(v, first, half);
-            (left, self.newest_meeting(v, first + half, half))
+            let newest = |first| {
+                let newest = self.newest_meeting(update.line, update.version, first, half);
+                newest.map_or(0, Update::number)
+            };
+            (newest(first), newest(first + half))
         } else {
-            let version = self.version(v);
-            let base = self.page_numbers_before(version.ticket as usize - 1);
-            (base + first - version.f, 0)
+            let base = self.page_numbers_before(update.ticket as usize - 1);
+            (base + first - update.f, 0)
         }
     }
 
-    /// The newest version up to `v` whose update meets the range; 0 where none does.
-    fn newest_meeting(&self, v: u64, first: u64, span: u64) -> u64 {
-        let meets = |w: &u64| {
-            let version = self.version(*w);
-            meet(first, span, version.f, self.n(version))
-        };
-        (1..=v).rev().find(meets).unwrap_or(0)
+    /// Of a line's versions up to `v` the newest whose update meets the range.
+    fn newest_meeting(&self, line: u64, v: u64, first: u64, span: u64) -> Option<&Update> {
+        let versions = (1..=v).rev().filter_map(|w| self.shown(line, w));
+        let mut meeting = versions.filter(|u| meet(first, span, u.f, self.n(u)));
+        meeting.next()
     }
 
-    /// The bytes of version `v`: updates 1 to `v` applied in turn to an empty blob.
-    fn blob(&self, v: u64) -> Vec<u8> {
+    /// The bytes of version `v` of a line: its updates 1 to `v` applied in turn to an empty blob.
+    fn blob(&self, line: u64, v: u64) -> Vec<u8> {
         let (s, mut blob) = (self.page_size as usize, vec![]);
-        for version in &self.versions[..v as usize] {
-            blob.resize(s * version.size as usize, 0);
-            let slots = &self.tickets[version.ticket as usize - 1].slots;
+        for update in (1..=v).filter_map(|w| self.shown(line, w)) {
+            blob.resize(s * update.size as usize, 0);
+            let slots = &self.tickets[update.ticket as usize - 1].slots;
             for (i, slot) in slots.iter().enumerate() {
-                let at = s * (version.f as usize + i);
+                let at = s * (update.f as usize + i);
                 let bytes = slot.as_ref().expect("ASSIGN comes after every PUT");
                 blob[at..at + s].copy_from_slice(bytes);
             }

@@ -1,4 +1,4 @@
-//! The model by itself: document 01's example and proved cases, and rows that the program never meets.
+//! The model by itself: document 01's example and proved cases, rows that the program never meets, and lines.
 
 use super::text::{lines_of, Program};
 use super::{root_span, weaving_order, Node, Refused, Store};
@@ -10,17 +10,17 @@ BEGIN,1
 BEGIN,1
 PUT,2,0,22222222222222222222222222222222
 PUT,1,0,11111111111111111111111111111111
-APPEND,2
-APPEND,1
+APPEND,0,2
+APPEND,0,1
 WEAVE,1
-PUBLISH
+PUBLISH,0
 WEAVE,2
-PUBLISH
-READ,2,0,0
+PUBLISH,0
+READ,0,2,0,0
 WEAVE,1
-PUBLISH
-READ,2,14,4
-STAMP,2,0
+PUBLISH,0
+READ,0,2,14,4
+STAMP,0,2,0
 BEGIN,1
 ";
 
@@ -44,14 +44,14 @@ stamp,1
 refused,5
 ";
 
-/// Makes, puts and assigns an update of `n` pages, each full of one byte; gives its ticket.
-fn update(store: &mut Store, n: u64, f: Option<u64>, byte: u8) -> u64 {
+/// Makes and puts an update of `n` pages, each full of one byte, and assigns it on a line; gives its ticket.
+fn update(store: &mut Store, line: u64, n: u64, f: Option<u64>, byte: u8) -> u64 {
     let ticket = store.begin(n).expect("there is room");
     let bytes = vec![byte; store.page_size as usize];
     for i in 0..n {
         assert_eq!(store.put(ticket, i, &bytes), Ok(()));
     }
-    assert!(store.assign(ticket, f).is_ok());
+    assert!(store.assign(line, ticket, f).is_ok());
     ticket
 }
 
@@ -67,9 +67,9 @@ fn weave_all(store: &mut Store, ticket: u64) -> Vec<Node> {
 /// The store of figure 1: pages 0-3, then 1-2, then an append of one.
 fn figure_1() -> (Store, Vec<Node>) {
     let mut store = Store::format(16, 16, 64, 4).expect("allowed");
-    let first = update(&mut store, 4, None, 0x11);
-    let second = update(&mut store, 2, Some(1), 0x22);
-    let third = update(&mut store, 1, None, 0x33);
+    let first = update(&mut store, 0, 4, None, 0x11);
+    let second = update(&mut store, 0, 2, Some(1), 0x22);
+    let third = update(&mut store, 0, 1, None, 0x33);
     let nodes = [third, first, second].map(|ticket| weave_all(&mut store, ticket));
     (store, nodes.into_iter().flatten().collect())
 }
@@ -151,14 +151,14 @@ fn model_weaves_root_first_and_left_before_right() {
 #[test]
 fn model_tree_leads_to_the_bytes_and_stamps() {
     let (mut store, nodes) = figure_1();
-    while store.publish().is_some() {}
+    while store.publish(0) != Ok(None) {}
     let place = |node: &Node| ((node.version, node.first, node.span), node.numbers);
     let tree: HashMap<_, _> = nodes.iter().map(place).collect();
     let put = [0x11, 0x11, 0x11, 0x11, 0x22, 0x22, 0x33];
     for v in 1..=3 {
-        for page in 0..store.size_in_pages(v) {
+        for page in 0..store.size_in_pages(0, v) {
             let (mut version, mut first) = (v, 0);
-            let mut span = root_span(store.size_in_pages(v));
+            let mut span = root_span(store.size_in_pages(0, v));
             while span > 1 {
                 let (left, right) = tree[&(version, first, span)];
                 span /= 2;
@@ -166,9 +166,9 @@ fn model_tree_leads_to_the_bytes_and_stamps() {
                 first = page / span * span;
             }
             let (number, _) = tree[&(version, first, 1)];
-            assert_eq!(store.stamp(v, page), Ok(version));
+            assert_eq!(store.stamp(0, v, page), Ok(version));
             let mut buffer = [0; 20];
-            assert_eq!(store.read(v, 16 * page, 16, &mut buffer), Ok(()));
+            assert_eq!(store.read(0, v, 16 * page, 16, &mut buffer), Ok(()));
             assert_eq!(buffer[..16], [put[number as usize]; 16]);
             assert_eq!(buffer[16..], [0; 4], "the rest of the buffer stays");
         }
@@ -179,27 +179,85 @@ fn model_tree_leads_to_the_bytes_and_stamps() {
 fn model_refuses_a_blob_above_4096_pages() {
     let mut store = Store::format(16, 65_535, 131_072, 4_096).expect("allowed");
     for _ in 0..64 {
-        update(&mut store, 64, None, 0);
+        update(&mut store, 0, 64, None, 0);
     }
     let ticket = store.begin(1).expect("there is room");
     assert_eq!(store.put(ticket, 0, &[0; 16]), Ok(()));
-    assert_eq!(store.assign(ticket, Some(4_097)), Err(Refused(13)));
-    assert_eq!(store.assign(ticket, Some(4_096)), Err(Refused(14)));
-    assert_eq!(store.assign(ticket, None), Err(Refused(14)));
-    assert_eq!(store.assign(ticket, Some(4_095)), Ok((65, 13)));
+    assert_eq!(store.assign(0, ticket, Some(4_097)), Err(Refused(13)));
+    assert_eq!(store.assign(0, ticket, Some(4_096)), Err(Refused(14)));
+    assert_eq!(store.assign(0, ticket, None), Err(Refused(14)));
+    assert_eq!(store.assign(0, ticket, Some(4_095)), Ok((65, 13)));
 }
 
 #[test]
 fn model_refuses_a_short_buffer() {
     let (mut store, _) = figure_1();
-    assert_eq!(store.publish(), Some(1));
+    assert_eq!(store.publish(0), Ok(Some(1)));
     let mut buffer = [7; 3];
-    assert_eq!(store.read(2, 0, 4, &mut buffer), Err(Refused(16)));
-    assert_eq!(store.read(1, 61, 4, &mut buffer), Err(Refused(17)));
-    assert_eq!(store.read(1, 60, 4, &mut buffer), Err(Refused(18)));
+    assert_eq!(store.read(0, 2, 0, 4, &mut buffer), Err(Refused(16)));
+    assert_eq!(store.read(0, 1, 61, 4, &mut buffer), Err(Refused(17)));
+    assert_eq!(store.read(0, 1, 60, 4, &mut buffer), Err(Refused(18)));
     assert_eq!(buffer, [7; 3]);
-    assert_eq!(store.read(1, 61, 3, &mut buffer), Ok(()));
+    assert_eq!(store.read(0, 1, 61, 3, &mut buffer), Ok(()));
     assert_eq!(buffer, [0x11; 3]);
+}
+
+/// Two lines from version 1: both name it by line 0, each its own by itself, and neither reads the other's.
+#[test]
+fn model_shows_shared_updates_followed_by_a_lines_own() {
+    let mut store = Store::format(16, 16, 64, 8).expect("allowed");
+    let first = update(&mut store, 0, 2, None, 0x11);
+    weave_all(&mut store, first);
+    assert_eq!(store.publish(0), Ok(Some(1)));
+    assert_eq!(store.branch(0, 1), Ok(1));
+    let live = update(&mut store, 0, 1, Some(0), 0x22);
+    let plan = update(&mut store, 1, 1, Some(1), 0x33);
+    let numbers = |nodes: Vec<Node>| (nodes[0].version, nodes[0].numbers);
+    assert_eq!(numbers(weave_all(&mut store, plan)), (65_538, (1, 65_538)));
+    assert_eq!(store.publish(1), Ok(Some(2)));
+    assert_eq!(store.publish(0), Ok(None), "one line waits for no other");
+    assert_eq!(numbers(weave_all(&mut store, live)), (2, (2, 1)));
+    assert_eq!(store.publish(0), Ok(Some(2)));
+    let pages = |line, v| {
+        let mut bytes = [0; 32];
+        assert_eq!(store.read(line, v, 0, 32, &mut bytes), Ok(()));
+        (bytes[0], bytes[16])
+    };
+    assert_eq!((pages(0, 1), pages(1, 1)), ((0x11, 0x11), (0x11, 0x11)));
+    assert_eq!((pages(0, 2), pages(1, 2)), ((0x22, 0x11), (0x11, 0x33)));
+}
+
+#[test]
+fn model_refuses_by_the_rows_of_lines() {
+    let mut store = Store::format(16, 16, 64, 8).expect("allowed");
+    let open = store.begin(1).expect("there is room");
+    let done = update(&mut store, 0, 1, None, 0);
+    assert_eq!(store.assign(1, 9, None), Err(Refused(7)));
+    assert_eq!(store.assign(1, done, None), Err(Refused(8)));
+    assert_eq!(store.assign(1, open, Some(9)), Err(Refused(20)));
+    assert_eq!(store.assign(0, open, Some(9)), Err(Refused(12)));
+    assert_eq!(store.publish(1), Err(Refused(20)));
+    assert_eq!(store.recent(u64::MAX), Err(Refused(20)));
+    assert_eq!(store.stamp(1, 9, 9), Err(Refused(20)));
+    assert_eq!(store.branch(1, 9), Err(Refused(20)));
+    assert_eq!(
+        store.branch(0, 1),
+        Err(Refused(16)),
+        "assigned, not published"
+    );
+    for line in 1..16 {
+        assert_eq!(store.branch(line - 1, 0), Ok(line));
+    }
+    assert_eq!(store.branch(16, 9), Err(Refused(20)));
+    assert_eq!(store.branch(15, 1), Err(Refused(16)));
+    assert_eq!(store.branch(15, 0), Err(Refused(21)));
+    assert_eq!(store.put(open, 0, &[0; 16]), Ok(()));
+    assert_eq!(
+        store.assign(15, open, Some(1)),
+        Err(Refused(13)),
+        "15 is empty"
+    );
+    assert_eq!(store.assign(15, open, None), Ok((1, 1)));
 }
 
 #[test]

@@ -17,9 +17,15 @@ enum Step {
     Format([u64; 4]),
     Begin(u64),
     Put(u64, u64, Vec<u8>),
-    Assign(u64, Option<u64>),
     Weave(u64),
+    On(u64, OnLine),
+}
+
+/// A step that names a line, which is its first field.
+enum OnLine {
+    Assign(u64, Option<u64>),
     Publish,
+    Branch(u64),
     Read(u64, u64, u64),
     Size(u64),
     Recent,
@@ -63,17 +69,30 @@ fn step(line: &[u8]) -> Option<Step> {
         }
         [b"BEGIN", n] => Step::Begin(number(n)?),
         [b"PUT", ticket, i, bytes] => Step::Put(number(ticket)?, number(i)?, page_bytes(bytes)?),
-        [b"WRITE", ticket, f] => Step::Assign(number(ticket)?, Some(number(f)?)),
-        [b"APPEND", ticket] => Step::Assign(number(ticket)?, None),
         [b"WEAVE", ticket] => Step::Weave(number(ticket)?),
-        [b"PUBLISH"] => Step::Publish,
-        [b"READ", v, offset, length] => Step::Read(number(v)?, number(offset)?, number(length)?),
-        [b"SIZE", v] => Step::Size(number(v)?),
-        [b"RECENT"] => Step::Recent,
-        [b"STAMP", v, page] => Step::Stamp(number(v)?, number(page)?),
+        [word, line, ref rest @ ..] => {
+            let on = step_on_a_line(word, rest)?;
+            Step::On(number(line)?, on)
+        }
         _ => return None,
     };
     Some(step)
+}
+
+/// The same of a step that names a line, from its word and the fields after the line.
+fn step_on_a_line(word: &[u8], fields: &[&[u8]]) -> Option<OnLine> {
+    let numbers: Option<Vec<u64>> = fields.iter().map(|field| number(field)).collect();
+    Some(match (word, &numbers?[..]) {
+        (b"WRITE", &[ticket, f]) => OnLine::Assign(ticket, Some(f)),
+        (b"APPEND", &[ticket]) => OnLine::Assign(ticket, None),
+        (b"PUBLISH", []) => OnLine::Publish,
+        (b"BRANCH", &[v]) => OnLine::Branch(v),
+        (b"READ", &[v, offset, length]) => OnLine::Read(v, offset, length),
+        (b"SIZE", &[v]) => OnLine::Size(v),
+        (b"RECENT", []) => OnLine::Recent,
+        (b"STAMP", &[v, page]) => OnLine::Stamp(v, page),
+        _ => return None,
+    })
 }
 
 /// Whether the program can keep a store of this form at all.
@@ -96,12 +115,12 @@ fn node_line(node: Node) -> String {
 }
 
 /// The READ line: the program lends a buffer of the longest read.
-fn read_line(store: &Store, v: u64, offset: u64, length: u64) -> Answer<String> {
+fn read_line(store: &Store, line: u64, v: u64, offset: u64, length: u64) -> Answer<String> {
     if length > LONGEST_READ {
         return Err(BEYOND);
     }
     let mut buffer = [0; LONGEST_READ as usize];
-    store.read(v, offset, length, &mut buffer)?;
+    store.read(line, v, offset, length, &mut buffer)?;
     let bytes = hexadecimal(&buffer[..length as usize]);
     Ok(format!("bytes,{bytes}"))
 }
@@ -115,19 +134,27 @@ fn step_on(store: &mut Store, step: Step) -> Answer<String> {
             store.put(ticket, i, &bytes)?;
             "put".to_string()
         }
-        Step::Assign(ticket, f) => {
-            let (version, nodes) = store.assign(ticket, f)?;
+        Step::Weave(ticket) => node_line(store.weave(ticket)?),
+        Step::On(line, step) => step_on_line(store, line, step)?,
+    })
+}
+
+/// A step that names a line.
+fn step_on_line(store: &mut Store, line: u64, step: OnLine) -> Answer<String> {
+    Ok(match step {
+        OnLine::Assign(ticket, f) => {
+            let (version, nodes) = store.assign(line, ticket, f)?;
             format!("version,{version},{nodes}")
         }
-        Step::Weave(ticket) => node_line(store.weave(ticket)?),
-        Step::Publish => match store.publish() {
+        OnLine::Publish => match store.publish(line)? {
             Some(version) => format!("published,{version}"),
             None => "waiting".to_string(),
         },
-        Step::Read(v, offset, length) => read_line(store, v, offset, length)?,
-        Step::Size(v) => format!("size,{}", store.size(v)?),
-        Step::Recent => format!("recent,{}", store.recent()),
-        Step::Stamp(v, page) => format!("stamp,{}", store.stamp(v, page)?),
+        OnLine::Branch(v) => format!("line,{}", store.branch(line, v)?),
+        OnLine::Read(v, offset, length) => read_line(store, line, v, offset, length)?,
+        OnLine::Size(v) => format!("size,{}", store.size(line, v)?),
+        OnLine::Recent => format!("recent,{}", store.recent(line)?),
+        OnLine::Stamp(v, page) => format!("stamp,{}", store.stamp(line, v, page)?),
     })
 }
 

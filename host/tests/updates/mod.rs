@@ -1,7 +1,10 @@
 //! Whole updates in one step, for the tests of the library.
 #![allow(dead_code)] // each test program uses some of it
 
-use pit_host::{Assigned, Error, Keeper, Lend, Limits, PageIndex, Store, Ticket, Version};
+use pit_host::{Assigned, Error, Keeper, Lend, Limits, Line, PageIndex, Store, Ticket, Version};
+
+/// The line that begins with the store.
+pub const LIVE: Line = Line(0);
 
 /// Small limits: pages of 16 bytes.
 pub fn limits(pages: u64, nodes: u64, updates: u64) -> Limits {
@@ -21,13 +24,14 @@ pub fn put_all<A: Lend>(store: &mut Keeper<A>, fills: &[u8]) -> Result<Ticket, E
 /// A write at page `at`, or an append where there is none, with every page put.
 pub fn assign<A: Lend>(
     store: &mut Keeper<A>,
+    line: Line,
     at: Option<u64>,
     fills: &[u8],
 ) -> Result<(Ticket, Assigned), Error> {
     let ticket = put_all(store, fills)?;
     let assigned = match at {
-        Some(first) => store.write(ticket, PageIndex(first))?,
-        None => store.append(ticket)?,
+        Some(first) => store.write(line, ticket, PageIndex(first))?,
+        None => store.append(line, ticket)?,
     };
     Ok((ticket, assigned))
 }
@@ -35,22 +39,23 @@ pub fn assign<A: Lend>(
 /// An update from BEGIN to PUBLISH.
 pub fn update<A: Lend>(
     store: &mut Keeper<A>,
+    line: Line,
     at: Option<u64>,
     fills: &[u8],
 ) -> Result<Version, Error> {
-    let (ticket, assigned) = assign(store, at, fills)?;
+    let (ticket, assigned) = assign(store, line, at, fills)?;
     for _ in 0..assigned.nodes {
         store.weave(ticket)?;
     }
-    assert_eq!(store.publish()?, Some(assigned.version));
+    assert_eq!(store.publish(line)?, Some(assigned.version));
     Ok(assigned.version)
 }
 
 /// The first byte of each page of a version.
-pub fn fills<A: Lend>(store: &Keeper<A>, version: Version) -> Result<Vec<u8>, Error> {
-    let pages = store.size(version)? / store.state().size;
+pub fn fills<A: Lend>(store: &Keeper<A>, line: Line, version: Version) -> Result<Vec<u8>, Error> {
+    let pages = store.size(line, version)? / store.state().size;
     (0..pages)
-        .map(|page| Ok(store.view(version, PageIndex(page))?[0]))
+        .map(|page| Ok(store.view(line, version, PageIndex(page))?[0]))
         .collect()
 }
 
@@ -62,7 +67,7 @@ pub fn of_three_versions() -> Store {
         (Some(1), &[5, 6]),
         (None, &[7]),
     ] {
-        update(&mut store, at, pages).expect("room for all");
+        update(&mut store, LIVE, at, pages).expect("room for all");
     }
     store
 }

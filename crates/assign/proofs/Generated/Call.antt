@@ -2,7 +2,9 @@
 pub mod append
 pub mod assign_refusal
 pub mod assigned_by
-pub mod last_page
-pub mod version_part
-pub mod with_version
+pub mod entry_part
+pub mod next_number
+pub mod note_update
+pub mod ticket_part
+pub mod update_part
 pub mod write

@@ -1,217 +1,219 @@
 -- ASSIGN on the image of a sound model, as a write or an append, is the model's.
 -- Assumes nothing.
-use mathlib.Core.Path.{_≡_, refl, ap, ap₂, sym, _∙_}
-use mathlib.Core.Logic.{_≢_}
+use mathlib.Core.Path.{_≡_, refl, sym, ap, ap₂, _∙_}
+use mathlib.Core.Logic.{inl, inr, _≢_}
 use mathlib.Core.List.{List}
-use Prim.Native.Nat.{ℕ, zero, suc, pred, _+_, _-_, _≤_, _<_, max}
+use Prim.Native.Nat.{ℕ, zero, suc, _+_, _-_, _≤_, _<_, max}
 use native.Mathlib.Omega.{arith}
 use borrow.Author.Tests.{le-ltb}
 use lib.Dec.{ltb}
-use lib.ListN.{length, getD}
-use Rattle.register.specs.Register.{noRecord, withRecord}
-use Rattle.tree.specs.Tree.{Node, countOf}
-use Rattle.tree.specs.Walk.{used}
+use lib.ListN.{length, set, List·getD-eq-default}
+use Rattle.tree.specs.Tree.{countOf}
+use Rattle.tree.proofs.Meets.{lt-or-le}
+use Rattle.lines.specs.declared.Branch.{Branch}
 use Rattle.register.specs.declared.Record.{Record}
-use Rattle.demands.specs.Answers.{WRITE, APPEND, versionIs, answers, assignedAnswer}
 use Rattle.table.specs.Table.{_<?_, _≤?_, _or_, always, assignRows, unless}
 use Rattle.versions.specs.Store.{lengthsOf, recordOf}
-use Rattle.assign.specs.Assign.{updateAt, sizeAfter, allPut, assignRefusal, assigned as assignedCase, withVersion, withVersionOf, withVersionPart, assignedRegister}
-use Rattle.demands.specs.Model.{Limits, Version, Model, noVersion, pagesOf, ticketAt, versionAt, versionOf, updates, places, blobSize, allFilled, taken}
-use Rattle.demands.specs.OnModel.{nextUpdate, sizeAfter as sizeIn, assignNumber, assigned, either, leftOf, rightOf, assignStep, onModel}
-use Rattle.demands.specs.Run.{onStore, assignCall}
-use Rattle.model.proofs.Laid.{tab, Pair, onesPair, flat}
-use Rattle.demands.proofs.Image.{numbersOf, wovenOf, weaveCell, countAt, pagesImage, nodeCell, maskOf, nodesImage, recordImage, registerImage, storeImage, areasImage, image}
-use Rattle.demands.proofs.Sound.{Sound}
-use Rattle.demands.proofs.Passed.{AssignPassed, assign-passed}
-use Rattle.demands.proofs.Facts.{blob-small}
-use Rattle.model.proofs.Tab.{getD-tab, tab-same}
+use Rattle.assign.specs.Assign.{updateAt, sizeAfter, allPut, assignRefusal, assigned as assignedCase, withVersion, withUpdate, assignedRegister}
+use Rattle.model.specs.Calls.{on, WRITE, APPEND, versionIs, Outcome, answers}
+use Rattle.model.specs.History.{Version, pagesOf, blobSize, allFilled}
+use Rattle.model.specs.Model.{Limits, Line, Model, noLine, lineAt, updateAt as updateIn, history, places, updateOf}
+use Rattle.model.specs.OnModel.{either, ticketIn, sizeAfter as sizeIn, nextUpdate, assignNumber, assigned, assignStep, onLine, onModel}
+use Rattle.model.proofs.Laid.{Pair, onesPair, flat}
+use Rattle.model.proofs.Image.{wovenOf, countAt, weaveCell, pagesImage, nodeCell, nodesImage}
+use Rattle.model.proofs.Sound.{Sound}
+use Rattle.model.proofs.Passed.{AssignPassed, assign-passed}
+use Rattle.model.proofs.Facts.{shown-small}
+use Rattle.model.proofs.Nth.{length-snoc}
+use Rattle.model.proofs.Tab.{tab-set, tab-same}
 use Rattle.model.proofs.Cells.{numbered-more}
+use Rattle.model.proofs.Shown.{shownAt, blob-shown}
+use Rattle.model.proofs.Histories.{assigned-apart}
+use Rattle.model.proofs.Kept.Assign.{assigned-length, assigned-older, assigned-new, assigned-places, assigned-lines, assigned-this, assigned-other, assigned-versions, assigned-next-version, assigned-grown}
+use Rattle.demands.specs.Answers.{assignedAnswer}
+use Rattle.demands.specs.Run.{State, assignCall, onLineOf, onStore}
+use Rattle.demands.proofs.Image.{registerImage, branchImage, linesImage, storeImage, areasImage, image}
 use Rattle.demands.proofs.Masks.{mask-all}
-use Rattle.demands.proofs.Updates.{length-updates}
-use Rattle.demands.proofs.Versions.{version-other}
-use Rattle.demands.proofs.Append.{left-append, right-append, used-append}
 use Rattle.demands.proofs.Records.{record-at, limited-same}
-use Rattle.demands.proofs.Puts.{record-put}
-use Rattle.demands.proofs.Kept.Assign.{newVersion, assigned-length, assigned-updates, assigned-older, assigned-new, assigned-gets, assigned-places, assigned-version, assigned-passed}
+use Rattle.demands.proofs.Lines.{lines-in, line-in}
 use Rattle.demands.proofs.Steps.Numbers.{AssignReads, assign-alike, image-number}
 use Rattle.demands.proofs.Steps.States.{leaves, stateOf, state-same}
-use Rattle.demands.proofs.Steps.Parts.{both, numberAt, placeAt, partOf, ticketPart, versionPart, ticket-part, version-part, other-at, other-begins, new-begins, nodes-stay}
+use Rattle.demands.proofs.Steps.Parts.{nodes-stay}
+use Rattle.demands.proofs.Steps.Grown.{numbers-grown}
+use Rattle.demands.proofs.Steps.Assigned.{update-there, version-there, assigned-register}
 
+-- A node of an update that has none woven.
 none-woven : (i w : ℕ) (x : Pair) → w ≡ 0 → either (ltb i w) x onesPair ≡ onesPair
 none-woven i w x e = rw (e, le-ltb i 0 (omega arith))
 
-module _ (L : Limits) (m : Model) (S : Sound L m) (f : ℕ) where
+-- The state of a line, with the size of its blob.
+abbrev stateBy : Line → ℕ → Branch
+stateBy x blob = record {
+  source = record { 0 = x .source };
+  start = record { 0 = x .start };
+  assigned = record { 0 = length (x .shown) };
+  published = record { 0 = x .published };
+  blob = blob;
+}
+
+module _ (L : Limits) (m : Model) (S : Sound L m) (l f : ℕ) where
   -- ---- the number
 
+  -- A line's blob is within the limit; one that has not begun has none.
+  blob-small : blobSize (history m l) ≤ 4096
+  blob-small = elim (lt-or-le l (length (m .lines))) [
+    | inl h ↦ omega (arith, blob-shown m l, shown-small L m S l h (length (lineAt m l .shown)) (omega arith))
+    | inr h ↦ rw (List·getD-eq-default (m .lines) noLine h) (omega arith)
+  ]
+
   -- The update that would be made, where it ends within the limit.
-  update-same : (t : ℕ) → 0 < t → t ≤ length (m .tickets) → f + pagesOf (ticketAt m t) ≤ 4096 → updateAt (storeImage L m) f (pagesOf (ticketAt m t)) ≡ nextUpdate L m t f
-  update-same t o h l =
-      let n = pagesOf (ticketAt m t) in
+  update-same : (t : ℕ) → 0 < t → t ≤ length (m .tickets) → f + pagesOf (ticketIn m t) ≤ 4096
+      → updateAt (blobSize (history m l)) f (pagesOf (ticketIn m t)) ≡ nextUpdate L m l t f
+  update-same t o h i =
+      let n = pagesOf (ticketIn m t) in
       let s = S .tickets t o h .some-pages in
-      limited-same f (f + n - 1) (max (blobSize m) (f + n)) (omega arith) (omega arith) (omega (arith, blob-small L m S))
+      limited-same f (f + n - 1) (max (blobSize (history m l)) (f + n)) (omega arith) (omega arith) (omega (arith, blob-small))
 
   assign-reads : (t : ℕ) → 0 < t → t ≤ length (m .tickets)
       → let r = recordOf (areasImage L m) t in
-      AssignReads t (L .updates) (r .version .0) (versionOf m t) (allPut r) (allFilled (ticketAt m t .slots)) f (r .n) (pagesOf (ticketAt m t))
-      (countOf (updateAt (storeImage L m) f (r .n))) (countOf (nextUpdate L m t f))
+      AssignReads t (L .updates) (r .update) (updateOf m t) (allPut r) (allFilled (ticketIn m t .slots)) f (r .n) (pagesOf (ticketIn m t))
+      (countOf (updateAt (blobSize (history m l)) f (r .n))) (countOf (nextUpdate L m l t f))
   assign-reads zero o h = absurd (omega arith)
   assign-reads (suc t) o h =
       let e = record-at L m t (omega (arith, S .records)) in
       record {
         there = omega (arith, S .records);
         version = rw e;
-        puts = rw e (mask-all (ticketAt m (suc t) .slots));
+        puts = rw e (mask-all (ticketIn m (suc t) .slots));
         pages = rw e;
-        count = λ l. rw e (ap countOf (update-same (suc t) o h l));
+        count = λ i. rw e (ap countOf (update-same (suc t) o h i));
       }
 
-  -- The next version's record is there.
-  record-left : (t : ℕ) → AssignPassed L m t f → length (m .versions) < L .updates
-  record-left t p = omega (arith, assigned-passed L m t f S p .fewer, assigned-length L m t f, S .records)
+  -- The next update's record is there, and that of the line's next version.
+  record-left : (t : ℕ) → AssignPassed L m l t f → (length (m .updates) < L .updates) × (length (lineAt m l .shown) < L .updates)
+  record-left zero p = absurd (omega (arith, p .from))
+  record-left (suc t) p = (update-there L m S l t f p, version-there L m S l t f p)
 
-  assign-number : (t : ℕ) → assignRefusal (storeImage L m) (lengthsOf (areasImage L m)) (recordOf (areasImage L m) t) t f ≡ assignNumber L m t f
+  assign-number : (t : ℕ) → assignRefusal (storeImage L m) (lengthsOf (areasImage L m)) (recordOf (areasImage L m) t) l t f ≡ assignNumber L m l t f
   unfolding assignRefusal
   assign-number t =
       let r = recordOf (areasImage L m) t in
-      image-number
-      L
-      m
-      S
-      (assignRows (t ≤? L .updates) t (length (m .tickets)) (r .version .0) (allPut r) f (blobSize m) (r .n) (places m) (L .nodes) (countOf (updateAt (storeImage L m) f (r .n))))
-      (assignRows always t (length (m .tickets)) (versionOf m t) (allFilled (ticketAt m t .slots)) f (blobSize m) (pagesOf (ticketAt m t)) (places m) (L .nodes) (countOf (nextUpdate L m t f)))
-      (L .updates <? t or L .updates ≤? length (m .versions))
-      (assign-alike _ _ _ _ _ _ _ _ _ _ _ _ _ _ _ (assign-reads t))
+      let blob = blobSize (history m l) in
+      rw (lines-in L m S, line-in L m S l)
+      (image-number L m S
+      (assignRows (t ≤? L .updates) t (length (m .tickets)) (r .update) l (length (m .lines)) (allPut r) f blob (r .n) (places m) (L .nodes) (countOf (updateAt blob f (r .n))))
+      (assignRows always t (length (m .tickets)) (updateOf m t) l (length (m .lines)) (allFilled (ticketIn m t .slots)) f blob (pagesOf (ticketIn m t)) (places m) (L .nodes)
+      (countOf (nextUpdate L m l t f)))
+      (L .updates <? t or L .updates ≤? length (m .updates) or L .updates ≤? length (lineAt m l .shown))
+      (assign-alike _ _ _ _ _ _ _ _ _ _ _ _ _ _ _ _ _ (assign-reads t))
       (λ z.
-      let p = assign-passed L m t f z in
-      (omega (arith, p .upto, S .records), record-left t p))
+      let p = assign-passed L m l t f z in
+      (omega (arith, p .upto, S .records), record-left t p)))
 
   -- ---- what it leaves
 
-  module _ (t : ℕ) (p : AssignPassed L m (suc t) f) where
-    unwoven : ticketAt m (suc t) .woven ≡ 0
-    unwoven = S .tickets (suc t) (p .from) (p .upto) .unwoven (p .unassigned)
+  module _ (t : ℕ) (p : AssignPassed L m l (suc t) f) where
+    -- The model after.
+    abbrev after : Model
+    after = assigned L m l (suc t) f
 
-    assigned-blob : blobSize (assigned L m (suc t) f) ≡ sizeIn L m (suc t) f
-    assigned-blob =
-        ap (λ v. versionAt (assigned L m (suc t) f) v .size) (assigned-length L m (suc t) f) ∙ ap (λ (v : Version). v .size) (assigned-new L m (suc t) f)
+    -- The line's state has one version more, and the size after it; the other lines' stay.
+    blob-gets : blobSize (history after l) ≡ sizeIn L m l (suc t) f
+    blob-gets =
+        blob-shown after l
+        ∙ ap (λ (v : ℕ). updateIn after (shownAt after l v) .size) (assigned-versions L m l (suc t) f (p .line))
+        ∙ ap (λ (u : Version). u .size) (assigned-next-version L m l (suc t) f (p .line))
 
-    assigned-store : withVersion (storeImage L m) (countOf (nextUpdate L m (suc t) f)) (sizeIn L m (suc t) f) ≡ storeImage L (assigned L m (suc t) f)
-    assigned-store = rw (assigned-places L m (suc t) f, assigned-blob, assigned-length L m (suc t) f)
+    line-gets : branchImage after l ≡ withVersion (branchImage m l) (sizeIn L m l (suc t) f)
+    line-gets = ap₂ stateBy (assigned-this L m l (suc t) f (p .line)) blob-gets ∙ rw (length-snoc (lineAt m l .shown) (suc (length (m .updates))))
 
-    assigned-pages : pagesImage L m ≡ pagesImage L (assigned L m (suc t) f)
+    blob-stays : (k : ℕ) → k ≢ l → blobSize (history after k) ≡ blobSize (history m k)
+    blob-stays k n = elim (lt-or-le k (length (m .lines))) [
+      | inl h ↦ ap blobSize (assigned-apart L m S l (suc t) f (p .line) k h n)
+      | inr h ↦ rw (assigned-other L m l (suc t) f (p .line) k n, List·getD-eq-default (m .lines) noLine h)
+    ]
+
+    line-stays : (k : ℕ) → k ≢ l → branchImage m k ≡ branchImage after k
+    line-stays k n = sym (ap₂ stateBy (assigned-other L m l (suc t) f (p .line) k n) (blob-stays k n))
+
+    assigned-states : set (linesImage m) l (withVersion (branchImage m l) (sizeIn L m l (suc t) f)) ≡ linesImage after
+    unfolding linesImage
+    assigned-states = tab-set 16 (branchImage m) (branchImage after) l _ (omega (arith, p .line, S .few)) (λ k h n. line-stays k n) line-gets
+
+    assigned-store : withUpdate (storeImage L m) l (countOf (nextUpdate L m l (suc t) f)) (sizeIn L m l (suc t) f) ≡ storeImage L after
+    assigned-store =
+        rw (line-in L m S l, assigned-states, assigned-places L m l (suc t) f, assigned-length L m l (suc t) f, assigned-lines L m l (suc t) f)
+
+    assigned-pages : pagesImage L m ≡ pagesImage L after
     unfolding pagesImage
     assigned-pages = refl
 
-    -- The numbers of the nodes of the versions before it stay.
-    assigned-numbers : (v : ℕ) (x : Node) → v ≤ length (m .versions) → numbersOf (assigned L m (suc t) f) v x ≡ numbersOf m v x
-    assigned-numbers v x h =
-        let u = nextUpdate L m (suc t) f in
-        let e = assigned-updates L m (suc t) f in
-        let l : v ≤ length (updates m) = omega (arith, length-updates m) in
-        let n = taken (m .tickets) (pred (versionAt m v .ticket)) in
-        let left = ap (λ us. leftOf us v n x) e ∙ left-append (updates m) u v n x l in
-        let right = ap (λ us. rightOf us v x) e ∙ right-append (updates m) u v x l in
-        rw (assigned-older L m (suc t) f v h) (ap₂ (λ (a b : ℕ). (a, b)) left right)
+    -- None of the new update's nodes is woven.
+    new-woven : wovenOf after (suc (length (m .updates))) ≡ 0
+    new-woven =
+        ap (λ (u : Version). ticketIn m (u .ticket) .woven) (assigned-new L m l (suc t) f) ∙ S .tickets (suc t) (p .from) (p .upto) .unwoven (p .unassigned)
 
-    -- None of its nodes is woven.
-    new-woven : wovenOf (assigned L m (suc t) f) (suc (length (m .versions))) ≡ 0
-    new-woven = ap (λ (v : Version). ticketAt m (v .ticket) .woven) (assigned-new L m (suc t) f) ∙ unwoven
-
-    assigned-nodes : nodesImage L m ≡ nodesImage L (assigned L m (suc t) f)
+    assigned-nodes : nodesImage L m ≡ nodesImage L after
     unfolding nodesImage
     assigned-nodes =
-        let m′ = assigned L m (suc t) f in
         ap flat
-        (tab-same (L .nodes) (nodeCell m) (nodeCell m′)
+        (tab-same (L .nodes) (nodeCell m) (nodeCell after)
         (λ q h.
-        sym (rw (assigned-length L m (suc t) f)
-        (numbered-more (countAt m′) (weaveCell m′) onesPair (length (m .versions)) (λ i l. none-woven i _ _ new-woven) q
-        ∙ nodes-stay m m′ (assigned-version L m (suc t) f S) (λ v x o l. assigned-numbers v x l) q))))
+        sym (rw (assigned-length L m l (suc t) f)
+        (numbered-more (countAt after) (weaveCell after) onesPair (length (m .updates)) (λ i s. none-woven i _ _ new-woven) q
+        ∙ nodes-stay m after (λ k o s. assigned-older L m l (suc t) f k s) (λ k o s. refl) (numbers-grown L m after S (assigned-grown L m l (suc t) f (p .line))) q))))
 
-    -- The ticket's part of the records, then the version's.
-    assigned-ticket-part : (j : ℕ) → j ≢ t → ticketPart m j ≡ ticketPart (assigned L m (suc t) f) j
-    assigned-ticket-part j n =
-        ticket-part m (assigned L m (suc t) f) j refl refl (version-other 1 (m .versions) (newVersion L m (suc t) f) (suc j) (λ e. n (omega arith)))
-
-    assigned-place : (j : ℕ) → j ≤ length (m .versions) → used (updates (assigned L m (suc t) f)) j ≡ used (updates m) j
-    assigned-place j h = rw (assigned-updates L m (suc t) f, used-append (updates m) (nextUpdate L m (suc t) f) j (omega (arith, length-updates m)))
-
-    assigned-version-part : (j : ℕ) → j ≢ length (m .versions) → versionPart m j ≡ versionPart (assigned L m (suc t) f) j
-    assigned-version-part j n =
-        version-part m (assigned L m (suc t) f) j (other-at noVersion (m .versions) (newVersion L m (suc t) f) j n) refl
-        (rw (assigned-length L m (suc t) f) (other-begins j (length (m .versions)) _ _ n (λ l. assigned-place j (omega arith))))
-
-    got-part : ticketPart (assigned L m (suc t) f) t
-        ≡ record { n = pagesOf (ticketAt m (suc t)); number = numberAt m t; put = maskOf (ticketAt m (suc t) .slots); version = suc (length (m .versions)) }
-    got-part = rw (assigned-gets L m (suc t) f (p .unassigned))
-
-    new-part : versionPart (assigned L m (suc t) f) (length (m .versions))
-        ≡ record { ticket = suc t; f = f; last = f + pagesOf (ticketAt m (suc t)) - 1; size = sizeIn L m (suc t) f; place = places m; woven = 0 }
-    new-part =
-        let n = length (m .versions) in
-        let place : placeAt (assigned L m (suc t) f) n ≡ places m = rw (assigned-length L m (suc t) f) (new-begins n _ ∙ assigned-place n (omega arith)) in
-        ap₂ (partOf (m .tickets)) (assigned-new L m (suc t) f) place ∙ rw unwoven
-
-    -- The records with the ticket's version, before the version's part is written.
-    abbrev halfway : ℕ → Record
-    halfway j = both (ticketPart (assigned L m (suc t) f) j) (versionPart m j)
-
-    register-first : withRecord (registerImage L m) t (withVersionOf (recordOf (areasImage L m) (suc t)) (suc (length (m .versions)))) ≡ tab (L .updates) halfway
-    unfolding registerImage
-    register-first =
-        let h : t < L .updates = omega (arith, p .upto, S .records) in
-        record-put (L .updates) t (recordImage m) halfway _ h (λ j l n. ap (λ k. both k (versionPart m j)) (assigned-ticket-part j n))
-        (rw (getD-tab (L .updates) (recordImage m) t noRecord h) (ap (λ k. both k (versionPart m t)) got-part))
-
-    register-second : withRecord (tab (L .updates) halfway) (length (m .versions))
-        (withVersionPart (getD (tab (L .updates) halfway) (length (m .versions)) noRecord) (suc t) f (f + pagesOf (ticketAt m (suc t)) - 1) (sizeIn L m (suc t) f) (places m))
-        ≡ registerImage L (assigned L m (suc t) f)
-    unfolding registerImage
-    register-second =
-        let v = length (m .versions) in
-        let h = record-left (suc t) p in
-        record-put (L .updates) v halfway (recordImage (assigned L m (suc t) f)) _ h (λ j l n. ap (both (ticketPart (assigned L m (suc t) f) j)) (assigned-version-part j n))
-        (rw (getD-tab (L .updates) halfway v noRecord h) (ap (both (ticketPart (assigned L m (suc t) f) v)) new-part))
-
-    assigned-register : assignedRegister (storeImage L m) (areasImage L m) (suc t) f ≡ registerImage L (assigned L m (suc t) f)
-    assigned-register =
-        let e : recordOf (areasImage L m) (suc t) .n ≡ pagesOf (ticketAt m (suc t)) = ap (λ (r : Record). r .n) (record-at L m t (omega (arith, p .upto, S .records))) in
-        rw (register-first, e) register-second
-
-  assign-image : (t : ℕ) → AssignPassed L m t f
-      → stateOf (withVersion (storeImage L m) (countOf (nextUpdate L m t f)) (sizeIn L m t f)) (pagesImage L m) (nodesImage L m) (assignedRegister (storeImage L m) (areasImage L m) t f)
-      ≡ image L (assigned L m t f)
+  assign-image : (t : ℕ) → AssignPassed L m l t f
+      → stateOf (withUpdate (storeImage L m) l (countOf (nextUpdate L m l t f)) (sizeIn L m l t f)) (pagesImage L m) (nodesImage L m)
+      (assignedRegister (storeImage L m) (areasImage L m) l t f)
+      ≡ image L (assigned L m l t f)
   assign-image zero p = absurd (omega (arith, p .from))
-  assign-image (suc t) p = state-same (assigned-store t p) (assigned-pages t p) (assigned-nodes t p) (assigned-register t p)
+  assign-image (suc t) p = state-same (assigned-store t p) (assigned-pages t p) (assigned-nodes t p) (assigned-register L m S l t f p)
 
   -- The pages and the count of nodes that the record says, where the table accepts.
-  pages-said : (t : ℕ) → AssignPassed L m t f → recordOf (areasImage L m) t .n ≡ pagesOf (ticketAt m t)
+  pages-said : (t : ℕ) → AssignPassed L m l t f → recordOf (areasImage L m) t .n ≡ pagesOf (ticketIn m t)
   pages-said t p = assign-reads t (p .from) (p .upto) .pages
 
-  count-said : (t : ℕ) → AssignPassed L m t f → countOf (updateAt (storeImage L m) f (recordOf (areasImage L m) t .n)) ≡ countOf (nextUpdate L m t f)
+  count-said : (t : ℕ) → AssignPassed L m l t f → countOf (updateAt (blobSize (history m l)) f (recordOf (areasImage L m) t .n)) ≡ countOf (nextUpdate L m l t f)
   count-said t p = assign-reads t (p .from) (p .upto) .count (p .inside)
 
-  assign-leaves : (t k n c : ℕ) (r : List Record) → (k ≡ 0 → n ≡ pagesOf (ticketAt m t)) → (k ≡ 0 → c ≡ countOf (nextUpdate L m t f))
-      → (k ≡ 0 → stateOf (withVersion (storeImage L m) (countOf (nextUpdate L m t f)) (sizeIn L m t f)) (pagesImage L m) (nodesImage L m) r ≡ image L (assigned L m t f))
+  -- What it leaves and answers by the table's number.
+  assign-leaves : (t k n c : ℕ) (r : List Record) → (k ≡ 0 → n ≡ pagesOf (ticketIn m t)) → (k ≡ 0 → c ≡ countOf (nextUpdate L m l t f))
+      → (k ≡ 0 → stateOf (withUpdate (storeImage L m) l (countOf (nextUpdate L m l t f)) (sizeIn L m l t f)) (pagesImage L m) (nodesImage L m) r ≡ image L (assigned L m l t f))
       → leaves
-      (stateOf (unless k (storeImage L m) (withVersion (storeImage L m) c (sizeAfter (storeImage L m) f n))) (pagesImage L m) (nodesImage L m) (unless k (registerImage L m) r))
-      (assignedAnswer (assignedCase k (suc (length (m .versions))) c))
-      ≡ leaves (image L (unless k m (assigned L m t f))) (answers k (versionIs (suc (length (m .versions))) (countOf (nextUpdate L m t f))))
+      (stateOf (unless k (storeImage L m) (withUpdate (storeImage L m) l c (sizeAfter (blobSize (history m l)) f n))) (pagesImage L m) (nodesImage L m)
+      (unless k (registerImage L m) r))
+      (assignedAnswer (assignedCase k (suc (length (lineAt m l .shown))) c))
+      ≡ leaves (image L (unless k m (assigned L m l t f))) (answers k (versionIs (suc (length (lineAt m l .shown))) (countOf (nextUpdate L m l t f))))
   unfolding unless
-  assign-leaves t zero n c r a b h = rw (a refl, b refl) (ap (λ x. leaves x (versionIs (suc (length (m .versions))) (countOf (nextUpdate L m t f)))) (h refl))
+  assign-leaves t zero n c r a b h =
+      rw (a refl, b refl) (ap (λ x. leaves x (versionIs (suc (length (lineAt m l .shown))) (countOf (nextUpdate L m l t f)))) (h refl))
   assign-leaves t (suc k) n c r a b h = refl
 
-  assign-step : (t : ℕ) → assignCall (storeImage L m) (areasImage L m) t f ≡ (image L (assignStep L m t f .0), assignStep L m t f .1)
+  -- What ASSIGN leaves and answers, by the line's state and the table's number.
+  abbrev leftBy : ℕ → Branch → ℕ → State × Outcome
+  leftBy t b k =
+      let n = recordOf (areasImage L m) t .n in
+      let c = countOf (updateAt (b .blob) f n) in
+      leaves
+      (stateOf (unless k (storeImage L m) (withUpdate (storeImage L m) l c (sizeAfter (b .blob) f n))) (pagesImage L m) (nodesImage L m)
+      (unless k (registerImage L m) (assignedRegister (storeImage L m) (areasImage L m) l t f)))
+      (assignedAnswer (assignedCase k (suc (b .assigned .0)) c))
+
+  assign-step : (t : ℕ) → assignCall (storeImage L m) (areasImage L m) l t f ≡ (image L (assignStep L m l t f .0), assignStep L m l t f .1)
   assign-step t =
-      let p : assignNumber L m t f ≡ 0 → AssignPassed L m t f = assign-passed L m t f in
-      rw (assign-number t)
-      (assign-leaves t (assignNumber L m t f) (recordOf (areasImage L m) t .n) _ _ (λ z. pages-said t (p z)) (λ z. count-said t (p z)) (λ z. assign-image t (p z)))
+      let p : assignNumber L m l t f ≡ 0 → AssignPassed L m l t f = assign-passed L m l t f in
+      ap₂ (leftBy t) (line-in L m S l) (assign-number t)
+      ∙ assign-leaves t (assignNumber L m l t f) (recordOf (areasImage L m) t .n) _ _ (λ z. pages-said t (p z)) (λ z. count-said t (p z)) (λ z. assign-image t (p z))
 
 module _ (L : Limits) (m : Model) (S : Sound L m) where
-  pub write-step : (t f : ℕ) → onStore (image L m) (WRITE t f) ≡ (image L (onModel L m (WRITE t f) .0), onModel L m (WRITE t f) .1)
-  unfolding onStore onModel
-  write-step t f = assign-step L m S f t
+  pub write-step : (l t f : ℕ) → onStore (image L m) (on l (WRITE t f)) ≡ (image L (onModel L m (on l (WRITE t f)) .0), onModel L m (on l (WRITE t f)) .1)
+  unfolding onStore onLineOf onModel onLine
+  write-step l t f = assign-step L m S l f t
 
-  pub append-step : (t : ℕ) → onStore (image L m) (APPEND t) ≡ (image L (onModel L m (APPEND t) .0), onModel L m (APPEND t) .1)
-  unfolding onStore onModel
-  append-step t = assign-step L m S (blobSize m) t
+  -- An append is a write at the size that the line's state says.
+  pub append-step : (l t : ℕ) → onStore (image L m) (on l (APPEND t)) ≡ (image L (onModel L m (on l (APPEND t)) .0), onModel L m (on l (APPEND t)) .1)
+  unfolding onStore onLineOf onModel onLine
+  append-step l t =
+      ap (λ (b : Branch). assignCall (storeImage L m) (areasImage L m) l t (b .blob)) (line-in L m S l)
+      ∙ assign-step L m S l (blobSize (history m l)) t

@@ -1,39 +1,41 @@
 -- BEGIN on the image of a sound model is the model's.
 -- Assumes nothing.
-use mathlib.Core.Path.{_≡_, refl, ap, ap₂, sym}
+use mathlib.Core.Path.{_≡_, refl, ap, sym, _∙_}
 use mathlib.Core.Logic.{_≢_}
 use mathlib.Core.List.{List}
-use Prim.Native.Nat.{ℕ, zero, suc, pred}
+use Prim.Native.Nat.{ℕ, zero, suc, pred, _≤_}
 use native.Mathlib.Omega.{arith}
 use lib.ListN.{length, getD, length-replicate}
 use Rattle.register.specs.Register.{noRecord, withRecord}
-use Rattle.tree.specs.Tree.{Node}
 use Rattle.register.specs.declared.Record.{Record}
-use Rattle.demands.specs.Answers.{BEGIN, ticketIs, answers, begunAnswer}
 use Rattle.table.specs.Table.{never, beginRows, unless}
 use Rattle.versions.specs.Store.{lengthsOf}
 use Rattle.begin.specs.Begin.{beginRefusal, withTicket, withTicketPart, begun as begunCase}
-use Rattle.demands.specs.Model.{Limits, Ticket, Model, noTicket, pagesOf, versionAt, taken}
-use Rattle.demands.specs.InTurn.{joined}
-use Rattle.demands.specs.OnModel.{beginNumber, begun, onModel}
-use Rattle.demands.specs.Run.{onStore}
-use Rattle.model.proofs.Laid.{flat}
-use Rattle.demands.proofs.Image.{blank, slotCell, pageCell, pagesImage, numbersOf, nodeCell, nodesImage, registerImage, storeImage, areasImage, image}
-use Rattle.demands.proofs.Sound.{Sound}
-use Rattle.demands.proofs.Passed.{BeginPassed, begin-passed}
-use Rattle.demands.proofs.Facts.{ticket-past}
-use Rattle.demands.proofs.Nth.{length-snoc}
+use Rattle.model.specs.Calls.{BEGIN, ticketIs, answers}
+use Rattle.model.specs.History.{Ticket, noTicket, pagesOf, taken}
+use Rattle.model.specs.InTurn.{joined}
+use Rattle.model.specs.Model.{Limits, Model, updateAt}
+use Rattle.model.specs.OnModel.{beginNumber, begun, onModel}
+use Rattle.model.proofs.Image.{blank, slotCell, pageCell, pagesImage, nodesImage}
+use Rattle.model.proofs.Sound.{Sound}
+use Rattle.model.proofs.Passed.{BeginPassed, begin-passed}
+use Rattle.model.proofs.Facts.{ticket-past}
+use Rattle.model.proofs.Nth.{length-snoc}
 use Rattle.model.proofs.Tab.{tab-same}
 use Rattle.model.proofs.Cells.{cell-append}
-use Rattle.demands.proofs.Slots.{none-there}
+use Rattle.model.proofs.Slots.{none-there}
+use Rattle.model.proofs.Tickets.{taken-append, taken-all}
+use Rattle.model.proofs.Kept.Begin.{newTicket, begun-ticket, begun-new, begun-updates, begun-old, begun-grown}
+use Rattle.demands.specs.Answers.{begunAnswer}
+use Rattle.demands.specs.Run.{onStore}
+use Rattle.demands.proofs.Image.{registerImage, linesImage, storeImage, areasImage, image}
 use Rattle.demands.proofs.Masks.{mask-none}
-use Rattle.demands.proofs.Tickets.{taken-append, taken-all}
 use Rattle.demands.proofs.Records.{record-at}
 use Rattle.demands.proofs.Puts.{register-put}
-use Rattle.demands.proofs.Kept.Begin.{newTicket, begun-ticket, begun-new, begun-updates, begun-version}
 use Rattle.demands.proofs.Steps.Numbers.{alike-same, image-number}
 use Rattle.demands.proofs.Steps.States.{leaves, stateOf, state-same}
-use Rattle.demands.proofs.Steps.Parts.{other-at, other-begins, new-begins, both, ticketPart, versionPart, ticket-part, version-part, ticket-within, nodes-stay}
+use Rattle.demands.proofs.Steps.Parts.{other-at, other-begins, new-begins, all-same, ticketPart, updatePart, entriesAt, ticket-part, update-part, ticket-within}
+use Rattle.demands.proofs.Steps.Grown.{nodes-grown}
 
 module _ (L : Limits) (m : Model) (S : Sound L m) (n : ℕ) where
   -- A new ticket's pages are blank.
@@ -44,22 +46,20 @@ module _ (L : Limits) (m : Model) (S : Sound L m) (n : ℕ) where
       (tab-same (L .pages) (pageCell (L .size) (m .tickets)) (pageCell (L .size) (begun L m n .tickets))
       (λ q h. sym (cell-append pagesOf (slotCell (L .size)) (blank (L .size)) (m .tickets) (newTicket L m n) (λ i l. rw (none-there n i)) q)))
 
-  begun-store : withTicket (storeImage L m) n ≡ storeImage L (begun L m n)
-  begun-store = rw (taken-all (m .tickets) (newTicket L m n), length-replicate, length-snoc, begun-updates L m n S)
+  -- The lines do not tell of tickets.
+  begun-lines : linesImage m ≡ linesImage (begun L m n)
+  unfolding linesImage
+  begun-lines = refl
 
-  begun-numbers : (v : ℕ) (x : Node) → numbersOf (begun L m n) v x ≡ numbersOf m v x
-  begun-numbers v x = rw (begun-updates L m n S, taken-append (m .tickets) (newTicket L m n) (pred (versionAt m v .ticket)) (omega (arith, ticket-within L m S v)))
+  begun-store : withTicket (storeImage L m) n ≡ storeImage L (begun L m n)
+  begun-store = rw (taken-all (m .tickets) (newTicket L m n), length-replicate, length-snoc, begun-updates L m n S, begun-lines)
 
   begun-nodes : nodesImage L m ≡ nodesImage L (begun L m n)
-  unfolding nodesImage
-  begun-nodes =
-      ap flat
-      (tab-same (L .nodes) (nodeCell m) (nodeCell (begun L m n))
-      (λ q h. sym (nodes-stay m (begun L m n) (begun-version L m n S) (λ v x o h. begun-numbers v x) q)))
+  begun-nodes = nodes-grown L m (begun L m n) S (begun-grown L m n S) refl (begun-old L m n S)
 
-  begun-version-part : (j : ℕ) → versionPart m j ≡ versionPart (begun L m n) j
-  begun-version-part j =
-      version-part m (begun L m n) j refl (begun-ticket L m n (versionAt m (suc j) .ticket) (ticket-within L m S (suc j))) (rw (begun-updates L m n S))
+  begun-update-part : (j : ℕ) → updatePart m j ≡ updatePart (begun L m n) j
+  begun-update-part j =
+      update-part m (begun L m n) j refl (begun-ticket L m n (updateAt m (suc j) .ticket) (ticket-within L m S (suc j))) (rw (begun-updates L m n S))
 
   begun-ticket-part : (j : ℕ) → j ≢ length (m .tickets) → ticketPart m j ≡ ticketPart (begun L m n) j
   begun-ticket-part j h =
@@ -69,8 +69,8 @@ module _ (L : Limits) (m : Model) (S : Sound L m) (n : ℕ) where
       (rw (length-snoc (m .tickets) k) (other-begins j (length (m .tickets)) _ _ h (λ l. taken-append (m .tickets) k j (omega arith))))
       refl
 
-  -- The new ticket's part: n pages from a page number on, none put, no version.
-  begun-new-part : ticketPart (begun L m n) (length (m .tickets)) ≡ record { n = n; number = taken (m .tickets) (length (m .tickets)); put = 0; version = 0 }
+  -- The new ticket's part: n pages from a page number on, none put, no update.
+  begun-new-part : ticketPart (begun L m n) (length (m .tickets)) ≡ record { n = n; number = taken (m .tickets) (length (m .tickets)); put = 0; update = 0 }
   begun-new-part =
       let t = length (m .tickets) in
       rw (
@@ -88,8 +88,8 @@ module _ (L : Limits) (m : Model) (S : Sound L m) (n : ℕ) where
       ≡ registerImage L (begun L m n)
   begun-register p =
       let t = length (m .tickets) in
-      register-put L m (begun L m n) t _ (p .record-left) (λ j l h. ap₂ both (begun-ticket-part j h) (begun-version-part j))
-      (rw (record-at L m t (p .record-left)) (ap₂ both begun-new-part (sym (begun-version-part t))))
+      register-put L m (begun L m n) t _ (p .record-left) (λ j l h. all-same (begun-ticket-part j h) (begun-update-part j) refl)
+      (rw (record-at L m t (p .record-left)) (all-same begun-new-part (sym (begun-update-part t)) refl))
 
   begun-image : BeginPassed L m n
       → stateOf (withTicket (storeImage L m) n) (pagesImage L m) (nodesImage L m)

@@ -4,20 +4,24 @@ use mathlib.Core.Path.{_≡_, refl, sym, _∙_}
 use Prim.Native.Nat.{ℕ, zero, suc, _+_, _*_}
 use native.Mathlib.Nat.{mul-zero, mul-suc}
 use native.Mathlib.Omega.{arith}
-use borrow.Author.Tests.{le-ltb}
+use borrow.Author.Tests.{lt-ltb, le-ltb}
 use lib.ListN.{replicate, replicate-append-replicate}
 use Rattle.tree.specs.NodeArea.{allOnes}
+use Rattle.lines.specs.Lines.{noLines}
+use Rattle.lines.proofs.Packed.{entries-same}
 use Rattle.register.specs.Register.{noRecord}
 use Rattle.tree.specs.Walk.{used}
 use Rattle.table.specs.Table.{formatRows}
 use Rattle.versions.specs.Store.{Areas}
 use Rattle.format.specs.Format.{formatRefusal, formatNumber}
 use Rattle.table.proofs.Table.{passed, unless-0}
-use Rattle.demands.specs.Model.{Limits, noModel, taken, versionFrom}
-use Rattle.demands.specs.InTurn.{joined}
+use Rattle.model.specs.History.{taken}
+use Rattle.model.specs.InTurn.{joined}
+use Rattle.model.specs.Model.{Limits, noModel, noLine, lineAt, updateFrom}
 use Rattle.demands.specs.Run.{freshOf, formattedState}
 use Rattle.model.proofs.Laid.{tab, cellIn, onesPair, flat}
-use Rattle.demands.proofs.Image.{blank, pagesImage, nodesImage, maskOf, recordImage, registerImage, storeImage, image}
+use Rattle.model.proofs.Image.{blank, pagesImage, nodesImage}
+use Rattle.demands.proofs.Image.{maskOf, ownAt, recordImage, registerImage, linesImage, storeImage, image}
 use Rattle.demands.proofs.Steps.States.{state-same}
 use Rattle.model.proofs.Tab.{tab-same, replicate-tab}
 
@@ -35,6 +39,14 @@ ones (suc n) =
     let e : 2 * suc n ≡ suc (suc (2 * n)) = omega arith in
     rw (e, ones n)
 
+-- No line but line 0 has begun, and that shows nothing.
+line-blank : (l : ℕ) → lineAt noModel l ≡ noLine
+line-blank zero = refl
+line-blank (suc l) = refl
+
+own-blank : (i l : ℕ) → ownAt noModel l (suc i) ≡ 0
+own-blank i l = rw (line-blank l, lt-ltb 0 (suc i) (omega arith))
+
 module _ (L : Limits) where
   pages-blank : pagesImage L noModel ≡ replicate (L .size * L .pages) 0
   unfolding pagesImage cellIn
@@ -45,12 +57,16 @@ module _ (L : Limits) where
   nodes-blank = ones (L .nodes)
 
   register-blank : registerImage L noModel ≡ replicate (L .updates) noRecord
-  unfolding registerImage versionFrom maskOf
-  register-blank = tab-same (L .updates) (recordImage noModel) (λ (i : ℕ). noRecord) (λ i h. rw (le-ltb i 0 (omega arith))) ∙ sym (replicate-tab (L .updates) noRecord)
+  unfolding registerImage updateFrom maskOf
+  register-blank = tab-same (L .updates) (recordImage noModel) (λ (i : ℕ). noRecord) (λ i h. rw (le-ltb i 0 (omega arith), entries-same (λ l. ownAt noModel l (suc i)) (λ _. 0) (λ l z. own-blank i l))) ∙ sym (replicate-tab (L .updates) noRecord)
+
+  lines-blank : linesImage noModel ≡ noLines
+  unfolding linesImage tab
+  lines-blank = refl
 
   store-blank : freshOf L ≡ storeImage L noModel
   unfolding taken used
-  store-blank = refl
+  store-blank = rw lines-blank
 
   pub format-image : (a : Areas) → formatNumber (freshOf L) a ≡ 0 → formattedState L a ≡ image L noModel
   unfolding formattedState formatRefusal formatRows

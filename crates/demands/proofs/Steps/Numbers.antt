@@ -6,12 +6,13 @@ use mathlib.Core.Bool.{Bool, true, false, cond}
 use mathlib.Core.List.{List, [], _∷_, _++_}
 use Prim.Native.Nat.{ℕ, _+_, _≤_, _<_}
 use native.Mathlib.Omega.{arith}
-use Rattle.table.specs.Table.{Cond, _≤?_, always, holds, Row, _gives_, firstRefusal, everyCall, putRows, assignRows, weaveRows, readRows, pageRows}
+use borrow.Author.Tests.{eq-eqb}
+use Rattle.table.specs.Table.{Cond, _≤?_, _≡?_, always, holds, Row, _gives_, firstRefusal, everyCall, putRows, assignRows, weaveRows, readRows, pageRows}
 use Rattle.versions.specs.Store.{areasDiffer}
 use Rattle.table.proofs.Table.{Fails, holds-true, holds-false, fails, every-call, number-cases}
-use Rattle.demands.specs.Model.{Limits, Model}
+use Rattle.model.specs.Model.{Limits, Model}
+use Rattle.model.proofs.Sound.{Sound}
 use Rattle.demands.proofs.Image.{storeImage, areasImage}
-use Rattle.demands.proofs.Sound.{Sound}
 use Rattle.demands.proofs.Records.{areas-agree}
 
 -- ---- two tables row by row
@@ -103,11 +104,11 @@ pub record AssignReads (t most v v′ : ℕ) (all all′ : Bool) (f n n′ c c�
   pub pages : n ≡ n′
   pub count : f + n′ ≤ 4096 → c ≡ c′
 
-pub assign-alike : (t tickets most v v′ : ℕ) (all all′ : Bool) (f blob n n′ places nodes c c′ : ℕ)
+pub assign-alike : (t tickets most v v′ l lines : ℕ) (all all′ : Bool) (f blob n n′ places nodes c c′ : ℕ)
     → (0 < t → t ≤ tickets → AssignReads t most v v′ all all′ f n n′ c c′)
-    → Alike (assignRows (t ≤? most) t tickets v all f blob n places nodes c) (assignRows always t tickets v′ all′ f blob n′ places nodes c′)
+    → Alike (assignRows (t ≤? most) t tickets v l lines all f blob n places nodes c) (assignRows always t tickets v′ l lines all′ f blob n′ places nodes c′)
 unfolding assignRows holds
-assign-alike t tickets most v v′ all all′ f blob n n′ places nodes c c′ h = (
+assign-alike t tickets most v v′ l lines all all′ f blob n n′ places nodes c c′ h = (
   refl,
   refl,
   λ z.
@@ -117,16 +118,20 @@ assign-alike t tickets most v v′ all all′ f blob n n′ places nodes c c′ 
         rw (o, r .version),
         λ z. (
           refl,
-          rw (o, r .puts),
+          refl,
           λ z. (
             refl,
-            refl,
+            rw (o, r .puts),
             λ z. (
               refl,
-              rw (o, r .pages),
-              λ z.
-                  let k : f + n′ ≤ 4096 = elim z [ inl x ↦ absurd (omega arith) | inr l ↦ l ] in
-                  (refl, rw (o, r .count k), λ z. tt),
+              refl,
+              λ z. (
+                refl,
+                rw (o, r .pages),
+                λ z.
+                    let k : f + n′ ≤ 4096 = elim z [ inl x ↦ absurd (omega arith) | inr l ↦ l ] in
+                    (refl, rw (o, r .count k), λ z. tt),
+              ),
             ),
           ),
         ),
@@ -159,25 +164,33 @@ weave-alike t tickets most v v′ w w′ c c′ h = (
       ),
 )
 
--- READ, STAMP and VIEW: the version's record is read only where it is published.
-pub read-alike : (v published most total total′ offset len buffer : ℕ) → (v ≤ published → (v ≤ most) × (total ≡ total′))
-    → Alike (readRows (v ≤? most) v published total offset len buffer) (readRows always v published total′ offset len buffer)
+-- READ, STAMP and VIEW: the version's record is read only where the line has begun and the version is published; there is then its part, which has its number.
+pub read-alike : (name c l lines v published total total′ offset len buffer : ℕ) → (l < lines → v ≤ published → (name ≡ c) × (total ≡ total′))
+    → Alike (readRows (name ≡? c) l lines v published total offset len buffer) (readRows always l lines v published total′ offset len buffer)
 unfolding readRows holds
-read-alike v published most total total′ offset len buffer h = (
+read-alike name c l lines v published total total′ offset len buffer h = (
   refl,
   refl,
-  λ z.
-      let r = h z in
-      (refl, rw (there-holds v most (r .0), r .1), λ z. (refl, refl, λ z. tt)),
+  λ y. (
+    refl,
+    refl,
+    λ z.
+        let r = h y z in
+        (refl, rw (eq-eqb name c (r .0), r .1), λ z. (refl, refl, λ z. tt)),
+  ),
 )
 
-pub page-alike : (v published most pages pages′ p : ℕ) → (v ≤ published → (v ≤ most) × (pages ≡ pages′))
-    → Alike (pageRows (v ≤? most) v published pages p) (pageRows always v published pages′ p)
+pub page-alike : (name c l lines v published pages pages′ p : ℕ) → (l < lines → v ≤ published → (name ≡ c) × (pages ≡ pages′))
+    → Alike (pageRows (name ≡? c) l lines v published pages p) (pageRows always l lines v published pages′ p)
 unfolding pageRows holds
-page-alike v published most pages pages′ p h = (
+page-alike name c l lines v published pages pages′ p h = (
   refl,
   refl,
-  λ z.
-      let r = h z in
-      (refl, rw (there-holds v most (r .0), r .1), λ z. tt),
+  λ y. (
+    refl,
+    refl,
+    λ z.
+        let r = h y z in
+        (refl, rw (eq-eqb name c (r .0), r .1), λ z. tt),
+  ),
 )

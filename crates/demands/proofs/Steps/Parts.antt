@@ -1,4 +1,4 @@
--- The parts of an image that a call leaves as they were: a ticket's part of a record, a version's, and a version's nodes.
+-- The parts of an image that a call leaves as they were: a ticket's part of a record, an update's, the lines' entries, and an update's nodes.
 -- Assumes nothing.
 use mathlib.Core.Path.{_≡_, sym, ap, _∙_}
 use mathlib.Core.Logic.{inl, inr, _≢_}
@@ -9,17 +9,21 @@ use borrow.Author.Tests.{lt-ltb, le-ltb}
 use lib.Dec.{ltb}
 use lib.ListN.{length, getD}
 use Rattle.tree.proofs.Meets.{lt-or-le}
-use Rattle.tree.specs.Tree.{Update, Node, node, weaving, nth, update}
-use Rattle.tree.specs.Walk.{used}
+use Rattle.tree.specs.Tree.{Update, Node, node, countOf, weaving, nth}
+use Rattle.model.proofs.Shown.{every-update}
+use Rattle.lines.specs.Lines.{entriesOf}
+use Rattle.lines.specs.declared.Entries.{Entries}
+use Rattle.lines.proofs.Packed.{entries-same}
 use Rattle.register.specs.declared.Record.{Record}
-use Rattle.demands.specs.Model.{Limits, Ticket, Version, Model, noTicket, noVersion, pagesOf, ticketAt, versionAt, taken, versionOf, updateOf, updates}
-use Rattle.demands.specs.OnModel.{either}
+use Rattle.model.specs.History.{Ticket, Version, noTicket, noVersion, pagesOf, updateOf as toUpdate, updates}
+use Rattle.model.specs.Model.{Limits, Model, lineAt, updateAt, every, updateOf, numbered}
+use Rattle.model.specs.OnModel.{ticketIn, either}
 use Rattle.model.proofs.Laid.{Pair, onesPair, cellIn, oneTo}
-use Rattle.demands.proofs.Image.{numbersOf, wovenOf, weaveCell, countAt, maskOf}
-use Rattle.demands.proofs.Sound.{Sound}
-use Rattle.demands.proofs.Nth.{length-snoc, nth-append, nth-past}
+use Rattle.model.proofs.Image.{numbersOf, wovenOf, weaveCell, countAt}
+use Rattle.model.proofs.Sound.{Sound}
+use Rattle.model.proofs.Nth.{length-snoc, nth-append, nth-past}
 use Rattle.model.proofs.Cells.{numbered-same}
-use Rattle.demands.proofs.Kept.Same.{VersionSame}
+use Rattle.demands.proofs.Image.{maskOf, numberAt, placeAt, ownAt}
 
 -- ---- records
 
@@ -27,65 +31,72 @@ pub record TicketPart : Type 0 where
   pub n : ℕ
   pub number : ℕ
   pub put : ℕ
-  pub version : ℕ
+  pub update : ℕ
 
-pub record VersionPart : Type 0 where
+pub record UpdatePart : Type 0 where
   pub ticket : ℕ
+  pub name : ℕ
   pub f : ℕ
   pub last : ℕ
   pub size : ℕ
   pub place : ℕ
   pub woven : ℕ
 
--- A record of the image has both: `recordImage m i` is `both (ticketPart m i) (versionPart m i)`.
-abbrev pub both : TicketPart → VersionPart → Record
-both k v = record {
+-- A record of the image has all three: `recordImage m i` is `all (ticketPart m i) (updatePart m i) (entriesAt m i)`.
+abbrev pub all : TicketPart → UpdatePart → Entries → Record
+all k u e = record {
   n = k .n;
   number = k .number;
   put = k .put;
-  version = record { 0 = k .version };
-  ticket = record { 0 = v .ticket };
-  f = record { 0 = v .f };
-  last = record { 0 = v .last };
-  size = v .size;
-  place = v .place;
-  woven = v .woven;
+  update = k .update;
+  ticket = record { 0 = u .ticket };
+  name = u .name;
+  f = record { 0 = u .f };
+  last = record { 0 = u .last };
+  size = u .size;
+  place = u .place;
+  woven = u .woven;
+  entries = e;
 }
 
--- The number at which the pages of the ticket at index i begin, and the place at which the nodes of the version there do; 0 where there is none.
-abbrev pub numberAt : Model → ℕ → ℕ
-numberAt m i = either (ltb i (length (m .tickets))) (taken (m .tickets) i) 0
-
-abbrev pub placeAt : Model → ℕ → ℕ
-placeAt m i = either (ltb i (length (m .versions))) (used (updates m) i) 0
+pub all-same : {k k′ : TicketPart} {u u′ : UpdatePart} {e e′ : Entries} → k ≡ k′ → u ≡ u′ → e ≡ e′ → all k u e ≡ all k′ u′ e′
+all-same a b c = λ i. all (a i) (b i) (c i)
 
 abbrev pub ticketPart : Model → ℕ → TicketPart
 ticketPart m i =
-    let k = ticketAt m (suc i) in
-    record { n = pagesOf k; number = numberAt m i; put = maskOf (k .slots); version = versionOf m (suc i) }
+    let k = ticketIn m (suc i) in
+    record { n = pagesOf k; number = numberAt m i; put = maskOf (k .slots); update = updateOf m (suc i) }
 
--- The part of a version of these tickets, with the place at which its nodes begin.
-abbrev pub partOf : List Ticket → Version → ℕ → VersionPart
-partOf ks v place = record {
-  ticket = v .ticket;
-  f = v .f;
-  last = updateOf ks v .last;
-  size = v .size;
+-- The part of an update of these tickets, with the place at which its nodes begin.
+abbrev pub partOf : List Ticket → Version → ℕ → UpdatePart
+partOf ks u place = record {
+  ticket = u .ticket;
+  name = numbered (u .line) (u .number);
+  f = u .f;
+  last = toUpdate ks u .last;
+  size = u .size;
   place = place;
-  woven = nth noTicket ks (v .ticket) .woven;
+  woven = nth noTicket ks (u .ticket) .woven;
 }
 
-abbrev pub versionPart : Model → ℕ → VersionPart
-versionPart m i = partOf (m .tickets) (versionAt m (suc i)) (placeAt m i)
+abbrev pub updatePart : Model → ℕ → UpdatePart
+updatePart m i = partOf (m .tickets) (updateAt m (suc i)) (placeAt m i)
+
+abbrev pub entriesAt : Model → ℕ → Entries
+entriesAt m i = entriesOf (λ l. ownAt m l (suc i))
 
 module _ (m m′ : Model) (i : ℕ) where
-  pub ticket-part : ticketAt m′ (suc i) .slots ≡ ticketAt m (suc i) .slots → numberAt m′ i ≡ numberAt m i → versionOf m′ (suc i) ≡ versionOf m (suc i)
+  pub ticket-part : ticketIn m′ (suc i) .slots ≡ ticketIn m (suc i) .slots → numberAt m′ i ≡ numberAt m i → updateOf m′ (suc i) ≡ updateOf m (suc i)
       → ticketPart m i ≡ ticketPart m′ i
-  ticket-part s n v = rw (s, n, v)
+  ticket-part s n u = rw (s, n, u)
 
-  pub version-part : versionAt m′ (suc i) ≡ versionAt m (suc i) → ticketAt m′ (versionAt m (suc i) .ticket) ≡ ticketAt m (versionAt m (suc i) .ticket)
-      → placeAt m′ i ≡ placeAt m i → versionPart m i ≡ versionPart m′ i
-  version-part v t p = rw (v, t, p)
+  pub update-part : updateAt m′ (suc i) ≡ updateAt m (suc i) → ticketIn m′ (updateAt m (suc i) .ticket) ≡ ticketIn m (updateAt m (suc i) .ticket)
+      → placeAt m′ i ≡ placeAt m i → updatePart m i ≡ updatePart m′ i
+  update-part u t p = rw (u, t, p)
+
+  -- The lines' own versions, where each line's is the same.
+  pub entries-stay : ((l : ℕ) → l < 16 → ownAt m l (suc i) ≡ ownAt m′ l (suc i)) → entriesAt m i ≡ entriesAt m′ i
+  entries-stay h = entries-same (λ l. ownAt m l (suc i)) (λ l. ownAt m′ l (suc i)) h
 
 -- One element more leaves those at other indexes, also past the end, and where they begin.
 pub other-at : {A : Type 0} (d : A) (xs : List A) (x : A) (i : ℕ) → i ≢ length xs → nth d (xs ++ x ∷ []) (suc i) ≡ nth d xs (suc i)
@@ -105,12 +116,12 @@ other-begins i n x y h e = elim (lt-or-le i n) [
 pub new-begins : (n x : ℕ) → either (ltb n (suc n)) x 0 ≡ x
 new-begins n x = rw (lt-ltb n (suc n) (omega arith))
 
--- The ticket of a version is one of those given; that of no version is 0.
-pub ticket-within : (L : Limits) (m : Model) → Sound L m → (v : ℕ) → versionAt m v .ticket ≤ length (m .tickets)
+-- The ticket of an update is one of those given; that of no update is 0.
+pub ticket-within : (L : Limits) (m : Model) → Sound L m → (k : ℕ) → updateAt m k .ticket ≤ length (m .tickets)
 ticket-within L m S zero = omega arith
-ticket-within L m S (suc i) = elim (lt-or-le (length (m .versions)) (suc i)) [
-  | inl l ↦ rw (nth-past noVersion (m .versions) (suc i) l) (omega arith)
-  | inr l ↦ S .versions (suc i) (omega arith) l .upto
+ticket-within L m S (suc i) = elim (lt-or-le (length (m .updates)) (suc i)) [
+  | inl l ↦ rw (nth-past noVersion (m .updates) (suc i) l) (omega arith)
+  | inr l ↦ S .updated (suc i) (omega arith) l .upto
 ]
 
 -- ---- nodes
@@ -119,17 +130,21 @@ cell-same : (i w w′ : ℕ) (u u′ : Update) (g g′ : Node → Pair) → w �
     → either (ltb i w) (g (getD (weaving u) i (node 0 0))) onesPair ≡ either (ltb i w′) (g′ (getD (weaving u′) i (node 0 0))) onesPair
 cell-same i w w′ u u′ g g′ a b c = λ k. either (ltb i (a k)) (c (getD (weaving (b k)) i (node 0 0)) k) onesPair
 
--- The nodes of versions that stay the same, and have the same numbers, stay the same.
+-- The nodes of updates that stay the same, their tickets too, and have the same numbers, stay the same.
 module _ (m m′ : Model)
-    (same : (v : ℕ) → 0 < v → v ≤ length (m .versions) → VersionSame m m′ v)
-    (numbers : (v : ℕ) (x : Node) → 0 < v → v ≤ length (m .versions) → numbersOf m′ v x ≡ numbersOf m v x) where
-  pub nodes-stay : (q : ℕ) → cellIn (countAt m′) (weaveCell m′) onesPair (oneTo (length (m .versions))) q
-      ≡ cellIn (countAt m) (weaveCell m) onesPair (oneTo (length (m .versions))) q
+    (same : (k : ℕ) → 0 < k → k ≤ length (m .updates) → updateAt m′ k ≡ updateAt m k)
+    (tickets : (k : ℕ) → 0 < k → k ≤ length (m .updates) → ticketIn m′ (updateAt m k .ticket) ≡ ticketIn m (updateAt m k .ticket))
+    (numbers : (k : ℕ) (x : Node) → 0 < k → k ≤ length (m .updates) → numbersOf m′ k x ≡ numbersOf m k x) where
+  updated : (k : ℕ) → 0 < k → k ≤ length (m .updates) → toUpdate (m′ .tickets) (updateAt m′ k) ≡ toUpdate (m .tickets) (updateAt m k)
+  updated k o h = rw (same k o h, tickets k o h)
+
+  pub nodes-stay : (q : ℕ) → cellIn (countAt m′) (weaveCell m′) onesPair (oneTo (length (m .updates))) q
+      ≡ cellIn (countAt m) (weaveCell m) onesPair (oneTo (length (m .updates))) q
   nodes-stay q =
-      numbered-same (countAt m′) (weaveCell m′) (countAt m) (weaveCell m) onesPair (length (m .versions))
-      (λ v o h. rw (same v o h .updated))
-      (λ v i o h l.
-      let e = same v o h in
-      let w : wovenOf m′ v ≡ wovenOf m v = ap (λ (x : Version). ticketAt m′ (x .ticket) .woven) (e .version) ∙ ap (λ (k : Ticket). k .woven) (e .ticket) in
-      cell-same i (wovenOf m′ v) (wovenOf m v) (update (updates m′) v) (update (updates m) v) (numbersOf m′ v) (numbersOf m v) w (e .updated) (λ x. numbers v x o h))
+      numbered-same (countAt m′) (weaveCell m′) (countAt m) (weaveCell m) onesPair (length (m .updates))
+      (λ k o h. ap countOf (every-update m′ k ∙ updated k o h ∙ sym (every-update m k)))
+      (λ k i o h l.
+      let w : wovenOf m′ k ≡ wovenOf m k = ap (λ (x : Version). ticketIn m′ (x .ticket) .woven) (same k o h) ∙ ap (λ (t : Ticket). t .woven) (tickets k o h) in
+      cell-same i (wovenOf m′ k) (wovenOf m k) (toUpdate (m′ .tickets) (updateAt m′ k)) (toUpdate (m .tickets) (updateAt m k)) (numbersOf m′ k) (numbersOf m k) w (updated k o h)
+      (λ x. numbers k x o h))
       q

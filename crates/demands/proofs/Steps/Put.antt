@@ -1,6 +1,6 @@
 -- PUT on the image of a sound model is the model's.
 -- Assumes nothing.
-use mathlib.Core.Path.{_≡_, refl, ap, ap₂, sym}
+use mathlib.Core.Path.{_≡_, refl, ap, sym}
 use mathlib.Core.Logic.{inl, inr, _≢_}
 use mathlib.Core.Option.{none}
 use mathlib.Core.List.{List}
@@ -12,40 +12,42 @@ use Rattle.pages.specs.Pages.{put}
 use Rattle.tree.proofs.Meets.{lt-or-le}
 use Rattle.register.specs.Register.{withRecord}
 use Rattle.register.specs.declared.Record.{Record}
-use Rattle.demands.specs.Answers.{PUT, putDone, answers, putAnswer}
 use Rattle.table.specs.Table.{_<?_, _≤?_, _or_, always, putRows, unless}
 use Rattle.versions.specs.Store.{lengthsOf, recordOf}
 use Rattle.put.specs.Put.{numberOf, bitOf, putRefusal, putIn, withPut, withBit}
-use Rattle.demands.specs.Model.{Limits, Version, Model, noVersion, pagesOf, ticketAt, versionAt, versionOf, isFilled, bitIf}
-use Rattle.demands.specs.OnModel.{putNumber, filledAt, onModel}
+use Rattle.model.specs.Calls.{PUT, putDone, answers}
+use Rattle.model.specs.History.{Version, noVersion, pagesOf, isFilled, bitIf}
+use Rattle.model.specs.Model.{Limits, Model, updateAt, updateOf}
+use Rattle.model.specs.OnModel.{ticketIn, putNumber, filledAt, onModel}
+use Rattle.model.proofs.Image.{pagesImage, nodesImage}
+use Rattle.model.proofs.Sound.{Sound}
+use Rattle.model.proofs.Passed.{PutPassed, put-passed}
+use Rattle.model.proofs.Facts.{number-room}
+use Rattle.model.proofs.Nth.{nth-past}
+use Rattle.model.proofs.Kept.Change.{changed-other}
+use Rattle.model.proofs.Kept.Put.{filledTicket, filled-pages, put-apart, filled-this, filled-grown}
+use Rattle.demands.specs.Answers.{putAnswer}
 use Rattle.demands.specs.Run.{onStore}
-use Rattle.model.proofs.Laid.{flat}
-use Rattle.demands.proofs.Image.{pagesImage, nodeCell, nodesImage, maskOf, registerImage, storeImage, areasImage, image}
-use Rattle.demands.proofs.Sound.{Sound}
-use Rattle.demands.proofs.Passed.{PutPassed, put-passed}
-use Rattle.demands.proofs.Facts.{number-room}
-use Rattle.demands.proofs.Nth.{nth-past}
-use Rattle.model.proofs.Tab.{tab-same}
+use Rattle.demands.proofs.Image.{maskOf, numberAt, registerImage, storeImage, areasImage, image}
 use Rattle.demands.proofs.Masks.{mask-bit, mask-put}
 use Rattle.demands.proofs.Records.{record-at, number-of}
 use Rattle.demands.proofs.Puts.{pages-put, register-put}
-use Rattle.demands.proofs.Kept.Change.{changed-version}
-use Rattle.demands.proofs.Kept.Put.{filledTicket, filled-pages, put-apart, filled-this}
 use Rattle.demands.proofs.Steps.Numbers.{PutReads, put-alike, image-number}
 use Rattle.demands.proofs.Steps.States.{leaves, stateOf, state-same}
-use Rattle.demands.proofs.Steps.Parts.{both, numberAt, ticketPart, versionPart, nodes-stay}
-use Rattle.demands.proofs.Steps.Changed.{changed-store, changed-numbers, changed-number, changed-ticket-part, changed-version-part}
+use Rattle.demands.proofs.Steps.Parts.{all-same, ticketPart, updatePart}
+use Rattle.demands.proofs.Steps.Changed.{changed-store, changed-number, changed-ticket-part, changed-update-part}
+use Rattle.demands.proofs.Steps.Grown.{nodes-grown}
 
 module _ (L : Limits) (m : Model) (S : Sound L m) (i : ℕ) (bytes : List ℕ) where
   -- ---- the number
 
   put-reads : (t : ℕ) → 0 < t → t ≤ length (m .tickets)
       → let r = recordOf (areasImage L m) t in
-      PutReads t (L .updates) (r .version .0) (versionOf m t) (r .n) (pagesOf (ticketAt m t)) (bitOf (r .put) i) (bitIf (isFilled (getD (ticketAt m t .slots) i none)))
+      PutReads t (L .updates) (r .update) (updateOf m t) (r .n) (pagesOf (ticketIn m t)) (bitOf (r .put) i) (bitIf (isFilled (getD (ticketIn m t .slots) i none)))
   put-reads zero o h = absurd (omega arith)
   put-reads (suc t) o h =
       let e = record-at L m t (omega (arith, S .records)) in
-      record { there = omega (arith, S .records); version = rw e; pages = rw e; bit = rw e (mask-bit (ticketAt m (suc t) .slots) i) }
+      record { there = omega (arith, S .records); version = rw e; pages = rw e; bit = rw e (mask-bit (ticketIn m (suc t) .slots) i) }
 
   put-number : (t : ℕ) → putRefusal (storeImage L m) (lengthsOf (areasImage L m)) (recordOf (areasImage L m) t) t i (length bytes) ≡ putNumber L m t i bytes
   unfolding putRefusal
@@ -55,8 +57,8 @@ module _ (L : Limits) (m : Model) (S : Sound L m) (i : ℕ) (bytes : List ℕ) w
       L
       m
       S
-      (putRows (t ≤? L .updates) t (length (m .tickets)) (r .version .0) (r .n) i (bitOf (r .put) i) (length bytes) (L .size))
-      (putRows always t (length (m .tickets)) (versionOf m t) (pagesOf (ticketAt m t)) i (bitIf (isFilled (getD (ticketAt m t .slots) i none))) (length bytes) (L .size))
+      (putRows (t ≤? L .updates) t (length (m .tickets)) (r .update) (r .n) i (bitOf (r .put) i) (length bytes) (L .size))
+      (putRows always t (length (m .tickets)) (updateOf m t) (pagesOf (ticketIn m t)) i (bitIf (isFilled (getD (ticketIn m t .slots) i none))) (length bytes) (L .size))
       (L .updates <? t or L .pages ≤? r .number + i)
       (put-alike _ _ _ _ _ _ _ _ _ _ _ _ (put-reads t))
       (λ z.
@@ -66,11 +68,11 @@ module _ (L : Limits) (m : Model) (S : Sound L m) (i : ℕ) (bytes : List ℕ) w
   -- ---- what it leaves
 
   module _ (t : ℕ) (p : PutPassed L m (suc t) i bytes) where
-    -- No version, and no index past the last, has the ticket.
-    apart : (v : ℕ) → versionAt m v .ticket ≢ suc t
+    -- No update, and no index past the last, has the ticket.
+    apart : (v : ℕ) → updateAt m v .ticket ≢ suc t
     apart zero e = omega arith
-    apart (suc v) e = elim (lt-or-le (length (m .versions)) (suc v)) [
-      | inl l ↦ let z = ap (λ (x : Version). x .ticket) (nth-past noVersion (m .versions) (suc v) l) in omega arith
+    apart (suc v) e = elim (lt-or-le (length (m .updates)) (suc v)) [
+      | inl l ↦ let z = ap (λ (x : Version). x .ticket) (nth-past noVersion (m .updates) (suc v) l) in omega arith
       | inr l ↦ put-apart L m (suc t) i bytes S p (suc v) (omega arith) l e
     ]
 
@@ -78,25 +80,20 @@ module _ (L : Limits) (m : Model) (S : Sound L m) (i : ℕ) (bytes : List ℕ) w
     put-pages = rw (number-of L m S (suc t) (p .from) (p .upto)) (pages-put L m S t i bytes (p .upto) (p .slot) (p .whole))
 
     put-nodes : nodesImage L m ≡ nodesImage L (filledAt L m (suc t) i bytes)
-    unfolding nodesImage
     put-nodes =
-        let k = filledTicket L m (suc t) i bytes in
-        let s = filled-pages L m (suc t) i bytes in
-        let m′ = filledAt L m (suc t) i bytes in
-        ap flat
-        (tab-same (L .nodes) (nodeCell m) (nodeCell m′)
-        (λ q h. sym (nodes-stay m m′ (λ v o l. changed-version m (suc t) k (p .from) s v (apart v)) (λ v x o l. changed-numbers m (suc t) k (p .from) s v x) q)))
+        nodes-grown L m (filledAt L m (suc t) i bytes) S (filled-grown L m (suc t) i bytes S p) refl
+        (λ k o h. changed-other m (suc t) (filledTicket L m (suc t) i bytes) (p .from) (filled-pages L m (suc t) i bytes) (updateAt m k .ticket) (apart k))
 
     -- The ticket's part, with bit i set.
     put-part : ticketPart (filledAt L m (suc t) i bytes) t
-        ≡ record { n = pagesOf (ticketAt m (suc t)); number = numberAt m t; put = withBit (maskOf (ticketAt m (suc t) .slots)) i; version = versionOf m (suc t) }
+        ≡ record { n = pagesOf (ticketIn m (suc t)); number = numberAt m t; put = withBit (maskOf (ticketIn m (suc t) .slots)) i; update = updateOf m (suc t) }
     put-part =
         let s = filled-pages L m (suc t) i bytes in
         rw (
           changed-number m (suc t) (filledTicket L m (suc t) i bytes) (p .from) s t,
           filled-this L m (suc t) i bytes S p,
           s,
-          mask-put (ticketAt m (suc t) .slots) i bytes (S .tickets (suc t) (p .from) (p .upto) .few) (p .slot) (p .empty),
+          mask-put (ticketIn m (suc t) .slots) i bytes (S .tickets (suc t) (p .from) (p .upto) .few) (p .slot) (p .empty),
         )
 
     put-register : withRecord (registerImage L m) t (withPut (recordOf (areasImage L m) (suc t)) i) ≡ registerImage L (filledAt L m (suc t) i bytes)
@@ -104,10 +101,10 @@ module _ (L : Limits) (m : Model) (S : Sound L m) (i : ℕ) (bytes : List ℕ) w
         let k = filledTicket L m (suc t) i bytes in
         let s = filled-pages L m (suc t) i bytes in
         let h : t < L .updates = omega (arith, p .upto, S .records) in
-        let version : (j : ℕ) → versionPart m j ≡ versionPart (filledAt L m (suc t) i bytes) j = λ j. changed-version-part m (suc t) k (p .from) s j (apart (suc j)) in
+        let updated : (j : ℕ) → updatePart m j ≡ updatePart (filledAt L m (suc t) i bytes) j = λ j. changed-update-part m (suc t) k (p .from) s j (apart (suc j)) in
         register-put L m (filledAt L m (suc t) i bytes) t _ h
-        (λ j l n. ap₂ both (changed-ticket-part m (suc t) k (p .from) s j (λ e. n (suc-inj e))) (version j))
-        (rw (record-at L m t h) (ap₂ both put-part (sym (version t))))
+        (λ j l n. all-same (changed-ticket-part m (suc t) k (p .from) s j (λ e. n (suc-inj e))) (updated j) refl)
+        (rw (record-at L m t h) (all-same put-part (sym (updated t)) refl))
 
   put-image : (t : ℕ) → PutPassed L m t i bytes
       → stateOf (storeImage L m) (put (pagesImage L m) (L .size * numberOf (areasImage L m) t i) bytes) (nodesImage L m)

@@ -1,24 +1,27 @@
 -- RECENT on the image of a sound model is the model's.
 -- Assumes nothing.
-use mathlib.Core.Path.{_≡_}
-use mathlib.Core.List.{[]}
+use mathlib.Core.Path.{_≡_, ap}
+use Prim.Native.Nat.{ℕ}
 use native.Mathlib.Omega.{arith}
-use Rattle.demands.specs.Answers.{RECENT}
-use Rattle.table.specs.Table.{never, firstRefusal}
-use Rattle.versions.specs.Store.{lengthsOf}
-use Rattle.versions.specs.Recent.{recentRefusal, recentBy}
-use Rattle.demands.specs.Model.{Limits, Model}
-use Rattle.demands.specs.OnModel.{onModel}
-use Rattle.demands.specs.Run.{onStore}
+use lib.ListN.{length}
+use Rattle.table.specs.Table.{never, lineRows}
+use Rattle.versions.specs.Recent.{recentNumber}
+use Rattle.model.specs.Calls.{on, RECENT, says}
+use Rattle.model.specs.Model.{Limits, Model, lineAt}
+use Rattle.model.specs.OnModel.{onLine, onModel, lineNumber}
+use Rattle.model.proofs.Sound.{Sound}
+use Rattle.demands.specs.Run.{onLineOf, onStore}
 use Rattle.demands.proofs.Image.{storeImage, areasImage, image}
-use Rattle.demands.proofs.Sound.{Sound}
-use Rattle.demands.proofs.Steps.Numbers.{image-number}
+use Rattle.demands.proofs.Lines.{lines-in, line-in}
+use Rattle.demands.proofs.Readings.{latest-reads}
+use Rattle.demands.proofs.Steps.Numbers.{alike-same, image-number}
 
-module _ (L : Limits) (m : Model) (S : Sound L m) where
-  recent-number : recentRefusal (storeImage L m) (lengthsOf (areasImage L m)) ≡ 0
-  unfolding recentRefusal firstRefusal
-  recent-number = image-number L m S [] [] never tt (λ z. omega arith)
+module _ (L : Limits) (m : Model) (S : Sound L m) (l : ℕ) where
+  recent-number : recentNumber (storeImage L m) (areasImage L m) l ≡ lineNumber L m l
+  unfolding recentNumber
+  recent-number =
+      rw (lines-in L m S) (let rows = lineRows l (length (m .lines)) in image-number L m S rows rows never (alike-same rows) (λ z. omega arith))
 
-  pub recent-step : onStore (image L m) RECENT ≡ (image L (onModel L m RECENT .0), onModel L m RECENT .1)
-  unfolding onStore onModel recentBy
-  recent-step = rw recent-number
+  pub recent-step : onStore (image L m) (on l RECENT) ≡ (image L (onModel L m (on l RECENT) .0), onModel L m (on l RECENT) .1)
+  unfolding onStore onLineOf onModel onLine
+  recent-step = rw (recent-number, line-in L m S l) (ap (λ x. (image L m, says x)) (latest-reads (lineNumber L m l) (lineAt m l .published)))

@@ -1,50 +1,76 @@
 -- SIZE on the image of a sound model is the model's; the sizes of versions, in pages and in bytes, as the image's register has them.
 -- Assumes nothing.
-use mathlib.Core.Path.{_≡_, refl, ap, _∙_}
-use Prim.Native.Nat.{ℕ, zero, suc, _*_, _≤_}
+use mathlib.Core.Path.{_≡_, refl, sym, ap, _∙_}
+use Prim.Native.Nat.{ℕ, zero, suc, _*_, _≤_, _<_}
 use native.Mathlib.Nat.{mul-le-mul}
 use native.Mathlib.Omega.{arith}
 use lib.ListN.{length}
 use Rattle.tree.specs.Tree.{Update}
-use Rattle.versions.specs.Size.{pagesIn, bytesBy, bytesIn, sizeRefusal, sized, sizedBy}
-use Rattle.demands.specs.Model.{Limits, Model, versionAt}
-use Rattle.demands.specs.OnModel.{onModel}
-use Rattle.demands.proofs.Image.{storeImage, areasImage, image}
-use Rattle.demands.proofs.Sound.{Sound}
-use Rattle.demands.proofs.Facts.{size-small}
-use Rattle.demands.proofs.Updates.{update-at}
-use Rattle.demands.proofs.Records.{update-image}
-use Rattle.demands.specs.Answers.{SIZE, sizeIs, says, answers, sizedAnswer}
-use Rattle.table.specs.Table.{_<?_, firstRefusal, sizeRows}
-use Rattle.versions.specs.Store.{lengthsOf}
-use Rattle.demands.specs.Run.{onStore}
-use Rattle.demands.proofs.Passed.{size-passed}
-use Rattle.demands.proofs.Steps.Numbers.{alike-same, image-number}
+use Rattle.register.specs.Register.{noRecord, partOf, versionRecord}
+use Rattle.register.specs.declared.Part.{Part}
+use Rattle.register.proofs.Records.{version-own}
+use Rattle.versions.specs.Store.{linesIn, lineIn, numberOn, partOn}
+use Rattle.versions.specs.Size.{pagesBy, pagesIn, bytesBy, bytesIn, notThere, sizeNumber, sized}
+use Rattle.table.specs.Table.{firstRefusal, sizeRows}
+use Rattle.model.specs.Calls.{on, SIZE, sizeIs, says, answers}
+use Rattle.model.specs.History.{versionAt}
+use Rattle.model.specs.Model.{Limits, Model, lineAt, history, numberIn}
+use Rattle.model.specs.OnModel.{onLine, onModel, sizeNumber as modelNumber}
+use Rattle.model.proofs.Sound.{Sound}
+use Rattle.model.proofs.SoundHistory.{line-history, size-small}
+use Rattle.model.proofs.Shown.{shownAt, versions-length}
+use Rattle.model.proofs.Updates.{update-at}
+use Rattle.model.proofs.Passed.{size-passed}
+use Rattle.model.proofs.Woven.{published-upto}
+use Rattle.demands.specs.Answers.{sizedAnswer}
+use Rattle.demands.specs.Run.{onLineOf, onStore}
+use Rattle.demands.proofs.Image.{recordImage, registerImage, storeImage, areasImage, image}
+use Rattle.demands.proofs.Lines.{lines-in, line-in, number-on, part-on, name-shown}
 use Rattle.demands.proofs.Readings.{answers-same, sized-reads}
+use Rattle.demands.proofs.Steps.Numbers.{alike-same, image-number}
+use Rattle.demands.proofs.Steps.Found.{update-found}
 
 size-answer : (k a b : ℕ) → (k ≡ 0 → a ≡ b) → sizedAnswer (sized k a) ≡ answers k (sizeIs b)
 size-answer k a b h = sized-reads k a ∙ answers-same k (sizeIs a) (sizeIs b) (λ z. ap sizeIs (h z))
 
-module _ (L : Limits) (m : Model) (S : Sound L m) where
-  pub pages-in : (v : ℕ) → v ≤ length (m .versions) → pagesIn (areasImage L m) v ≡ versionAt m v .size
+module _ (L : Limits) (m : Model) (S : Sound L m) (l : ℕ) (there : l < length (m .lines)) where
+  -- The record of a version is there.
+  pub name-there : (v : ℕ) → v ≤ length (lineAt m l .shown) → partOn (storeImage L m) (areasImage L m) l v .name ≡ numberOn (storeImage L m) l v
+  name-there zero h = ap (λ r. partOf r .name) (version-own (registerImage L m) 0 refl)
+  name-there (suc v) h =
+      ap (λ (q : Part). q .name) (part-on L m S l (suc v) there (omega arith) h)
+      ∙ name-shown L m S l (suc v) there (omega arith) h
+      ∙ sym (number-on L m S l there (suc v) h)
+
+  pub pages-in : (v : ℕ) → v ≤ length (lineAt m l .shown) → pagesIn (storeImage L m) (areasImage L m) l v ≡ versionAt (history m l) v .size
   pages-in zero h = refl
-  pages-in (suc i) h = ap (λ (u : Update). u .size) (update-image L m S (suc i) (omega arith) h ∙ update-at m (suc i))
+  pages-in (suc v) h =
+      ap (pagesBy (suc v)) (part-on L m S l (suc v) there (omega arith) h)
+      ∙ ap (λ (u : Update). u .size) (update-found L m S l there (suc v) (omega arith) h ∙ update-at (history m l) (suc v))
 
   -- A size in bytes fits in 64 bits.
-  pub bytes-in : (v : ℕ) → v ≤ length (m .versions) → bytesIn (storeImage L m) (areasImage L m) v ≡ L .size * versionAt m v .size
+  pub bytes-in : (v : ℕ) → v ≤ length (lineAt m l .shown) → bytesIn (storeImage L m) (areasImage L m) l v ≡ L .size * versionAt (history m l) v .size
   unfolding bytesBy
-  bytes-in v h = rw (pages-in v h) (omega (arith, mul-le-mul (S .allowed .pageSize) (size-small L m S v h)))
+  bytes-in v h =
+      rw (pages-in v h)
+      (omega (arith, mul-le-mul (S .allowed .pageSize) (size-small L (history m l) (line-history L m S l there) v (omega (arith, versions-length m l)))))
 
-  size-number : (v : ℕ) → sizeRefusal (storeImage L m) (lengthsOf (areasImage L m)) v ≡ firstRefusal (sizeRows v (m .published))
-  unfolding sizeRefusal
+module _ (L : Limits) (m : Model) (S : Sound L m) (l : ℕ) where
+  size-number : (v : ℕ) → sizeNumber (storeImage L m) (areasImage L m) l v ≡ modelNumber L m l v
+  unfolding sizeNumber
   size-number v =
-      let rows = sizeRows v (m .published) in
-      image-number L m S rows rows (L .updates <? v) (alike-same rows) (λ z. omega (arith, size-passed L m v z, S .published, S .fewer, S .records))
+      rw (lines-in L m S, line-in L m S l)
+      (let rows = sizeRows l (length (m .lines)) v (lineAt m l .published) in
+      image-number L m S rows rows (notThere (partOn (storeImage L m) (areasImage L m) l v) (numberOn (storeImage L m) l v)) (alike-same rows)
+      (λ z. let p = size-passed L m l v z in name-there L m S l (p .line) v (published-upto L m S l (p .line) v (p .published))))
 
-  pub size-step : (v : ℕ) → onStore (image L m) (SIZE v) ≡ (image L (onModel L m (SIZE v) .0), onModel L m (SIZE v) .1)
-  unfolding onStore onModel sizedBy
+  pub size-step : (v : ℕ) → onStore (image L m) (on l (SIZE v)) ≡ (image L (onModel L m (on l (SIZE v)) .0), onModel L m (on l (SIZE v)) .1)
+  unfolding onStore onLineOf onModel onLine
   size-step v =
-      let k = firstRefusal (sizeRows v (m .published)) in
-      let bytes : k ≡ 0 → bytesIn (storeImage L m) (areasImage L m) v ≡ L .size * versionAt m v .size = λ z. bytes-in v (omega (arith, size-passed L m v z, S .published)) in
-      let done = size-answer k (bytesIn (storeImage L m) (areasImage L m) v) (L .size * versionAt m v .size) bytes in
-      rw (size-number v) (ap (λ a. (image L m, says a)) done)
+      let k = modelNumber L m l v in
+      let s = storeImage L m in
+      let a = areasImage L m in
+      let bytes : k ≡ 0 → bytesIn s a l v ≡ L .size * versionAt (history m l) v .size =
+      λ z. let p = size-passed L m l v z in bytes-in L m S l (p .line) v (published-upto L m S l (p .line) v (p .published)) in
+      let done = size-answer k (bytesIn s a l v) (L .size * versionAt (history m l) v .size) bytes in
+      rw (size-number v) (ap (λ x. (image L m, says x)) done)

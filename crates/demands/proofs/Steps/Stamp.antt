@@ -1,51 +1,77 @@
 -- STAMP on a model's image: the number and the version are the model's.
 -- Assumes nothing.
 use mathlib.Core.Path.{_≡_, ap, _∙_}
-use Prim.Native.Nat.{ℕ}
+use Prim.Native.Nat.{ℕ, _≤_, _<_}
+use native.Mathlib.Omega.{arith}
+use lib.ListN.{length}
 use Rattle.tree.specs.Walk.{stampOf}
-use Rattle.table.specs.Table.{_≤?_, _<?_, _or_, test, always, pageRows}
-use Rattle.demands.specs.Answers.{STAMP, stampIs, answers, stampedAnswer}
-use Rattle.versions.specs.Size.{pagesIn}
-use Rattle.walk.specs.FindPage.{pageNumberOf, isLost, findPage}
+use Rattle.table.specs.Table.{_or_, test, always, pageRows}
+use Rattle.versions.specs.Store.{numberOn, partOn}
+use Rattle.versions.specs.Size.{isThere, notThere, pagesIn}
+use Rattle.walk.specs.FindPage.{findPage, pageNumberOf, isLost}
 use Rattle.stamp.specs.Stamp.{stampNumber, versionFound, stamped}
-use Rattle.demands.specs.Model.{Limits, Model, versionAt, updates}
-use Rattle.demands.specs.OnModel.{pageNumber, onModel}
-use Rattle.demands.specs.Run.{onStore}
+use Rattle.model.specs.Calls.{on, STAMP, stampIs, answers}
+use Rattle.model.specs.History.{versionAt, updates}
+use Rattle.model.specs.Model.{Limits, Model, lineAt, history, numberIn}
+use Rattle.model.specs.OnModel.{onLine, onModel, pageNumber}
+use Rattle.model.proofs.Sound.{Sound}
+use Rattle.model.proofs.SoundHistory.{line-history}
+use Rattle.model.proofs.Shown.{versions-length}
+use Rattle.model.proofs.Blob.{stamp-bounds}
+use Rattle.model.proofs.Numbers.{number-version}
+use Rattle.model.proofs.Passed.{PagePassed, page-passed}
+use Rattle.model.proofs.Woven.{published-upto}
+use Rattle.demands.specs.Answers.{stampedAnswer}
+use Rattle.demands.specs.Run.{onLineOf, onStore}
 use Rattle.demands.proofs.Image.{storeImage, areasImage, image}
-use Rattle.demands.proofs.Sound.{Sound}
-use Rattle.demands.proofs.Passed.{page-passed}
-use Rattle.demands.proofs.Steps.Numbers.{image-number, page-alike}
-use Rattle.demands.proofs.Steps.Size.{pages-in}
-use Rattle.demands.proofs.Steps.Found.{published-within, some-version, find-page, page-number}
+use Rattle.demands.proofs.Lines.{lines-in, line-in, number-on}
 use Rattle.demands.proofs.Readings.{answers-same, stamped-reads}
+use Rattle.demands.proofs.Steps.Numbers.{page-alike, image-number}
+use Rattle.demands.proofs.Steps.Found.{find-page, page-number}
+use Rattle.demands.proofs.Steps.Size.{name-there, pages-in}
 
 -- ---- the number
 
-module _ (L : Limits) (m : Model) (sound : Sound L m) where
-  module _ (v p : ℕ) where
-    pub stamp-number : stampNumber (storeImage L m) (areasImage L m) v p ≡ pageNumber L m v p
-    unfolding stampNumber
-    stamp-number =
-        image-number L m sound
-        (pageRows (v ≤? L .updates) v (m .published) (pagesIn (areasImage L m) v) p) (pageRows always v (m .published) (versionAt m v .size) p)
-        (L .updates <? v or test (isLost (pageNumberOf (storeImage L m) (areasImage L m) v p)))
-        (page-alike v (m .published) (L .updates) (pagesIn (areasImage L m) v) (versionAt m v .size) p (λ h.
-        let w = published-within L m sound v h in
-        (w .1, pages-in L m sound v (w .0)))) (λ z.
-        let q = page-passed L m v p z in
-        (published-within L m sound v (q .published) .1, rw (page-number L m sound v p (some-version m v p (q .inside)) (q .published) (q .inside))))
+module _ (L : Limits) (m : Model) (S : Sound L m) (l v p : ℕ) where
+  pub stamp-number : stampNumber (storeImage L m) (areasImage L m) l v p ≡ pageNumber L m l v p
+  unfolding stampNumber
+  stamp-number =
+      let s = storeImage L m in
+      let a = areasImage L m in
+      let q = partOn s a l v in
+      let c = numberOn s l v in
+      rw (lines-in L m S, line-in L m S l)
+      (image-number L m S
+      (pageRows (isThere q c) l (length (m .lines)) v (lineAt m l .published) (pagesIn s a l v) p)
+      (pageRows always l (length (m .lines)) v (lineAt m l .published) (versionAt (history m l) v .size) p)
+      (notThere q c or test (isLost (pageNumberOf (L .pages) a c p)))
+      (page-alike (q .name) c l (length (m .lines)) v (lineAt m l .published) (pagesIn s a l v) (versionAt (history m l) v .size) p (λ there h.
+      let w = published-upto L m S l there v h in
+      (name-there L m S l there v w, pages-in L m S l there v w)))
+      (λ z.
+      let g = page-passed L m l v p z in
+      let w = published-upto L m S l (g .line) v (g .published) in
+      (name-there L m S l (g .line) v w, rw (number-on L m S l (g .line) v w, page-number L m S l (g .line) v p (g .published) (g .inside)))))
 
 -- ---- the answers
 
 stamp-says : (k n w : ℕ) → (k ≡ 0 → n ≡ w) → stampedAnswer (stamped k n) ≡ answers k (stampIs w)
 stamp-says k n w e = stamped-reads k n ∙ answers-same k (stampIs n) (stampIs w) (λ z. ap stampIs (e z))
 
-module _ (L : Limits) (m : Model) (sound : Sound L m) (v p : ℕ) where
-  pub stamp-step : onStore (image L m) (STAMP v p) ≡ (image L (onModel L m (STAMP v p) .0), onModel L m (STAMP v p) .1)
-  unfolding onStore onModel
+module _ (L : Limits) (m : Model) (S : Sound L m) (l v p : ℕ) where
+  -- The walk's number says the version that the model has.
+  version-found : PagePassed m l v p → versionFound (findPage (areasImage L m) (numberOn (storeImage L m) l v) p) ≡ stampOf (updates (history m l)) v p
+  version-found g =
+      let w = published-upto L m S l (g .line) v (g .published) in
+      let b = stamp-bounds L (history m l) (line-history L m S l (g .line)) v p (omega (arith, versions-length m l)) (g .inside) in
+      rw (number-on L m S l (g .line) v w, find-page L m S l (g .line) v p (g .published) (g .inside))
+      (number-version L m S l (stampOf (updates (history m l)) v p) (g .line) (b .above) (omega arith))
+
+  pub stamp-step : onStore (image L m) (on l (STAMP v p)) ≡ (image L (onModel L m (on l (STAMP v p)) .0), onModel L m (on l (STAMP v p)) .1)
+  unfolding onStore onLineOf onModel onLine
   stamp-step =
       rw (
-        stamp-number L m sound v p,
-        stamp-says (pageNumber L m v p) (versionFound (findPage (storeImage L m) (areasImage L m) v p)) (stampOf (updates m) v p)
-            (λ z. let q = page-passed L m v p z in rw (find-page L m sound v p (some-version m v p (q .inside)) (q .published) (q .inside))),
+        stamp-number L m S l v p,
+        stamp-says (pageNumber L m l v p) (versionFound (findPage (areasImage L m) (numberOn (storeImage L m) l v) p)) (stampOf (updates (history m l)) v p)
+            (λ z. version-found (page-passed L m l v p z)),
       )

@@ -6,7 +6,7 @@ use Prim.Native.Nat.{ℕ}
 use Rattle.register.specs.declared.Record.{Record}
 use Rattle.versions.specs.declared.Store.{Store}
 use Rattle.versions.specs.Store.{areasOf}
-use Rattle.demands.specs.Answers.{Answer, Outcome, says}
+use Rattle.model.specs.Calls.{Answer, Outcome, says}
 use Rattle.demands.specs.Run.{State}
 
 abbrev pub leaves : State → Answer → State × Outcome

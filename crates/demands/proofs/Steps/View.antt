@@ -6,28 +6,33 @@ use Prim.Native.Nat.{ℕ, _*_}
 use lib.ListN.{getD}
 use Rattle.pages.specs.Pages.{part}
 use Rattle.table.proofs.Table.{unless-same}
-use Rattle.demands.specs.Answers.{VIEW}
+use Rattle.versions.specs.Store.{numberOn}
 use Rattle.walk.specs.FindPage.{pageNumberOf, orZero}
-use Rattle.demands.specs.Model.{Limits, Model}
-use Rattle.demands.specs.InTurn.{blobAt}
-use Rattle.demands.specs.OnModel.{pageNumber, onModel}
-use Rattle.demands.specs.Run.{onStore}
-use Rattle.demands.proofs.Image.{pagesImage, storeImage, areasImage, image}
-use Rattle.demands.proofs.Sound.{Sound}
-use Rattle.demands.proofs.Passed.{page-passed}
-use Rattle.demands.proofs.Steps.Found.{some-version, page-number, view-bytes}
+use Rattle.model.specs.Calls.{on, VIEW}
+use Rattle.model.specs.InTurn.{blobAt}
+use Rattle.model.specs.Model.{Limits, Model, history}
+use Rattle.model.specs.OnModel.{onLine, onModel, pageNumber}
+use Rattle.model.proofs.Image.{pagesImage}
+use Rattle.model.proofs.Sound.{Sound}
+use Rattle.model.proofs.Passed.{page-passed}
+use Rattle.model.proofs.Woven.{published-upto}
+use Rattle.demands.specs.Run.{onLineOf, onStore}
+use Rattle.demands.proofs.Image.{storeImage, areasImage, image}
+use Rattle.demands.proofs.Lines.{number-on}
+use Rattle.demands.proofs.Steps.Found.{page-number, view-bytes}
 use Rattle.demands.proofs.Steps.Stamp.{stamp-number}
 
-module _ (L : Limits) (m : Model) (sound : Sound L m) (v p : ℕ) where
-  pub view-step : onStore (image L m) (VIEW v p) ≡ (image L (onModel L m (VIEW v p) .0), onModel L m (VIEW v p) .1)
-  unfolding onStore onModel
+module _ (L : Limits) (m : Model) (S : Sound L m) (l v p : ℕ) where
+  pub view-step : onStore (image L m) (on l (VIEW v p)) ≡ (image L (onModel L m (on l (VIEW v p)) .0), onModel L m (on l (VIEW v p)) .1)
+  unfolding onStore onLineOf onModel onLine
   view-step =
       rw (
-        stamp-number L m sound v p,
-        unless-same (pageNumber L m v p) []
-            (part (pagesImage L m) (L .size * orZero (pageNumberOf (storeImage L m) (areasImage L m) v p)) (L .size)) (getD (blobAt m v) p [])
+        stamp-number L m S l v p,
+        unless-same (pageNumber L m l v p) []
+            (part (pagesImage L m) (L .size * orZero (pageNumberOf (L .pages) (areasImage L m) (numberOn (storeImage L m) l v) p)) (L .size))
+            (getD (blobAt (history m l) v) p [])
             (λ z.
-            let q = page-passed L m v p z in
-            let o = some-version m v p (q .inside) in
-            rw (page-number L m sound v p o (q .published) (q .inside)) (view-bytes L m sound v p o (q .published) (q .inside))),
+            let g = page-passed L m l v p z in
+            rw (number-on L m S l (g .line) v (published-upto L m S l (g .line) v (g .published)), page-number L m S l (g .line) v p (g .published) (g .inside))
+            (view-bytes L m S l (g .line) v p (g .published) (g .inside))),
       )

@@ -42,17 +42,23 @@ use denote.Triple.Spec.{Meets, tripleOf}
 use denote.Triple.Table.{entered, cited}
 use denote.Triple.Walked.{says, needs, Stays, stay-slice, stay-none-slice, stay-none, walkOf, Walks, ends-at, walked, goes-slice, goes-none-slice, goes-none, walk-meets}
 use Rattle.replies.specs.declared.FormatReply.{FormatReply}
-use Rattle.exports.proofs.Generated.Kind.FormatReply as FormatReply′
+use Rattle.replies.proofs.Generated.Kind.FormatReply as FormatReply′
 use Rattle.versions.specs.declared.Store.{Store}
 use Rattle.versions.proofs.Generated.Kind.Store as Store′
 use Rattle.tree.specs.declared.Ticket.{Ticket}
 use Rattle.register.proofs.Generated.Kind.Ticket as Ticket′
+use Rattle.lines.specs.declared.Branch.{Branch}
+use Rattle.versions.proofs.Generated.Kind.Branch as Branch′
+use Rattle.lines.specs.declared.Line.{Line}
+use Rattle.register.proofs.Generated.Kind.Line as Line′
 use Rattle.tree.specs.declared.Version.{Version}
 use Rattle.register.proofs.Generated.Kind.Version as Version′
 use Rattle.register.specs.declared.Record.{Record}
 use Rattle.register.proofs.Generated.Kind.Record as Record′
 use Rattle.tree.specs.declared.PageIndex.{PageIndex}
 use Rattle.register.proofs.Generated.Kind.PageIndex as PageIndex′
+use Rattle.lines.specs.declared.Entries.{Entries}
+use Rattle.register.proofs.Generated.Kind.Entries as Entries′
 use Rattle.format.specs.declared.Formatted.{Formatted}
 use Rattle.format.proofs.Generated.Kind.Formatted as Formatted′
 use Rattle.register.proofs.Generated.Flow.{ref, MutAt, ShrAt, lend-mut, back-mut, lend-shr, back-shr, branches-on, regroup, skips-on, returns-on, plus-nothing, holds, empty, less-fits, is-true, is-false, differ, above-0, twice-not, switches-to, switches-last, big-lit, here, blocks-on, resume, scaled-2, scaled-4, scaled-8, opens-shr, shuts-shr, opens-mut, shuts-mut, puts-mut, keeps-shr, fills, empties, tyAt}
@@ -62,8 +68,8 @@ use Rattle.format.proofs.Generated.Call.format as Call-format
 use Rattle.format.proofs.format.Symbol as def-format
 use Rattle.format.proofs.format.Symbol.{name as #format}
 use Rattle.format.proofs.format.Met as thm-format
-use Rattle.exports.proofs.Generated.Say.format_reply as format-reply″
-use Rattle.exports.proofs.Generated.Call.format_reply as Call-format-reply
+use Rattle.replies.proofs.Generated.Say.format_reply as format-reply″
+use Rattle.replies.proofs.Generated.Call.format_reply as Call-format-reply
 use Rattle.replies.proofs.format_reply.Symbol as def-format-reply
 use Rattle.replies.proofs.format_reply.Symbol.{name as #format-reply}
 use Rattle.replies.proofs.format_reply.Met as thm-format-reply

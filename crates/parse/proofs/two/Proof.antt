@@ -44,9 +44,19 @@ returns-4 : tie.Need-returns-4
 unfolding twoOf
 returns-4 c = rw (c .before .before .before .before .before .before .before .before .before .before .a .given .1, c .before .before .before .before .before .before .before .b .given .1, ← c .before .before .before .before .word-is .ensures, c .before .before .before .if1 .left, ← c .before .word-is2 .ensures, c .if2 .taken)
 
+slice-aggregate-word-is-3 : tie.Need-slice-aggregate-word-is-3
+slice-aggregate-word-is-3 c = search needs
+
+word-is-requires-3 : tie.Need-word-is-requires-3
+word-is-requires-3 c κs = search needs
+
 returns-5 : tie.Need-returns-5
 unfolding twoOf
-returns-5 c = rw (c .before .before .before .before .before .before .before .before .before .before .a .given .1, c .before .before .before .before .before .before .before .b .given .1, ← c .before .before .before .before .word-is .ensures, c .before .before .before .if1 .left, ← c .before .word-is2 .ensures, c .if2 .left)
+returns-5 c = rw (c .before .before .before .before .before .before .before .before .before .before .before .before .before .a .given .1, c .before .before .before .before .before .before .before .before .before .before .b .given .1, ← c .before .before .before .before .before .before .before .word-is .ensures, c .before .before .before .before .before .before .if1 .left, ← c .before .before .before .before .word-is2 .ensures, c .before .before .before .if2 .left, ← c .before .word-is3 .ensures, c .if3 .taken)
+
+returns-6 : tie.Need-returns-6
+unfolding twoOf
+returns-6 c = rw (c .before .before .before .before .before .before .before .before .before .before .before .before .before .a .given .1, c .before .before .before .before .before .before .before .before .before .before .b .given .1, ← c .before .before .before .before .before .before .before .word-is .ensures, c .before .before .before .before .before .before .if1 .left, ← c .before .before .before .before .word-is2 .ensures, c .before .before .before .if2 .left, ← c .before .word-is3 .ensures, c .if3 .left)
 
 pub two-spec : {M : Type 1} → statement M
 two-spec =
@@ -64,4 +74,7 @@ two-spec =
     slice-aggregate-word-is-2
     word-is-requires-2
     returns-4
-    returns-5)
+    slice-aggregate-word-is-3
+    word-is-requires-3
+    returns-5
+    returns-6)

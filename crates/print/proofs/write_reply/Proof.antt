@@ -136,6 +136,18 @@ slice-aggregate-write-line-22 c = search needs
 write-line-requires-11 : tie.Need-write-line-requires-11
 write-line-requires-11 c κs = search needs
 
+enum-known-r-9 : tie.Need-enum-known-r-9
+enum-known-r-9 c = search needs
+
+slice-aggregate-write-line-23 : tie.Need-slice-aggregate-write-line-23
+slice-aggregate-write-line-23 c = search needs
+
+slice-aggregate-write-line-24 : tie.Need-slice-aggregate-write-line-24
+slice-aggregate-write-line-24 c = search needs
+
+write-line-requires-12 : tie.Need-write-line-requires-12
+write-line-requires-12 c κs = search needs
+
 same-length : tie.Need-same-length
 same-length c = search needs
 
@@ -213,6 +225,13 @@ returns-11 : tie.Need-returns-11
 unfolding replyLine
 returns-11 c = rw (c .before .before .before .before .before .before .before .r8 .given .1) (c .before .before .write-line11 .ensures)
 
+same-length-12 : tie.Need-same-length-12
+same-length-12 c = search needs
+
+returns-12 : tie.Need-returns-12
+unfolding replyLine
+returns-12 c = rw (c .before .before .before .before .before .before .before .r9 .given .1) (c .before .before .write-line12 .ensures)
+
 pub write-reply-spec : {M : Type 1} → statement M
 write-reply-spec =
     tie.close
@@ -261,6 +280,10 @@ write-reply-spec =
     slice-aggregate-write-line-21
     slice-aggregate-write-line-22
     write-line-requires-11
+    enum-known-r-9
+    slice-aggregate-write-line-23
+    slice-aggregate-write-line-24
+    write-line-requires-12
     same-length
     returns
     same-length-2
@@ -282,4 +305,6 @@ write-reply-spec =
     same-length-10
     returns-10
     same-length-11
-    returns-11)
+    returns-11
+    same-length-12
+    returns-12)

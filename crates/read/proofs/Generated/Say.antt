@@ -5,6 +5,7 @@ pub mod copy_page
 pub mod copy_range
 pub mod filled_by
 pub mod or_lost
+pub mod range_number
 pub mod range_refusal
 pub mod read
 pub mod some_lost

@@ -42,22 +42,22 @@ use denote.Steps.{owned, nothing, heard}
 use denote.Triple.Spec.{Meets, tripleOf}
 use denote.Triple.Table.{entered, cited}
 use denote.Triple.Walked.{says, needs, Stays, stay-slice, stay-none-slice, stay-none, walkOf, Walks, ends-at, walked, goes-slice, goes-none-slice, goes-none, walk-meets}
-use Rattle.versions.specs.declared.Store.{Store}
-use Rattle.versions.proofs.Generated.Kind.Store as Store′
-use Rattle.tree.specs.declared.Ticket.{Ticket}
-use Rattle.register.proofs.Generated.Kind.Ticket as Ticket′
-use Rattle.tree.specs.declared.Version.{Version}
-use Rattle.register.proofs.Generated.Kind.Version as Version′
 use Rattle.register.specs.declared.Record.{Record}
 use Rattle.register.proofs.Generated.Kind.Record as Record′
+use Rattle.tree.specs.declared.Ticket.{Ticket}
+use Rattle.register.proofs.Generated.Kind.Ticket as Ticket′
 use Rattle.tree.specs.declared.PageIndex.{PageIndex}
 use Rattle.register.proofs.Generated.Kind.PageIndex as PageIndex′
+use Rattle.lines.specs.declared.Entries.{Entries}
+use Rattle.register.proofs.Generated.Kind.Entries as Entries′
 use Rattle.versions.specs.declared.ByteOffset.{ByteOffset}
 use Rattle.read.proofs.Generated.Kind.ByteOffset as ByteOffset′
 use Rattle.read.specs.declared.Chunk.{Chunk}
 use Rattle.read.proofs.Generated.Kind.Chunk as Chunk′
 use Rattle.tree.specs.declared.Found.{Found}
 use Rattle.walk.proofs.Generated.Kind.Found as Found′
+use Rattle.tree.specs.declared.Version.{Version}
+use Rattle.register.proofs.Generated.Kind.Version as Version′
 use Rattle.register.proofs.Generated.Flow.{ref, MutAt, ShrAt, lend-mut, back-mut, lend-shr, back-shr, branches-on, regroup, skips-on, returns-on, plus-nothing, holds, empty, less-fits, is-true, is-false, differ, above-0, twice-not, switches-to, switches-last, big-lit, here, blocks-on, resume, scaled-2, scaled-4, scaled-8, opens-shr, shuts-shr, opens-mut, shuts-mut, puts-mut, keeps-shr, fills, empties, tyAt}
 use Rattle.read.proofs.Generated.Say.copy_range as copy-range″
 use Rattle.read.proofs.Generated.Say.chunk_at as chunk-at″
@@ -93,14 +93,14 @@ use Rattle.read.proofs.copy_range.Proof.Loop as Loop
 use Rattle.read.proofs.copy_range.Proof.Asks.{r1, r2, r3, r4, buffer₄}
 
 abbrev stayed : Stays (copy-range‴.ended .signature .params) (copy-range‴.ended .kept)
-stayed = (stay-none (λ _. Store′.row) yes, (stay-none-slice (0 ∷ []) tt (plain (λ _. u8)) yes, (stay-none-slice (1 ∷ []) tt (plain (λ _. u32)) yes, (stay-none-slice (2 ∷ []) tt (plain (λ _. Record′.row)) yes, (stay-none (λ _. Version′.row) yes, (stay-none (λ _. ByteOffset′.row) yes, (stay-none (λ _. u64) yes, (stay-none (λ _. u64) yes, (stay-slice (3 ∷ []) tt (plain (λ _. u8)), tt)))))))))
+stayed = (stay-none (λ _. u64) yes, (stay-none (λ _. u64) yes, (stay-none-slice (0 ∷ []) tt (plain (λ _. u8)) yes, (stay-none-slice (1 ∷ []) tt (plain (λ _. u32)) yes, (stay-none-slice (2 ∷ []) tt (plain (λ _. Record′.row)) yes, (stay-none (λ _. u64) yes, (stay-none (λ _. ByteOffset′.row) yes, (stay-none (λ _. u64) yes, (stay-none (λ _. u64) yes, (stay-slice (3 ∷ []) tt (plain (λ _. u8)), tt))))))))))
 
-module _ {M : Type 1} (𝓤 : URA M) (H : Heap 𝓤) (A : Atoms 𝓤) (W : Given 𝓤 H A) (mem : Memory → SProp 𝓤) (run : Routine → Fun 𝓤) (s : Store) (κ·pages : Lft) (q·pages : Share) (b·pages o·pages : ℕ) (γ·pages : GName) (pages : List ℕ) (κ·nodes : Lft) (q·nodes : Share) (b·nodes o·nodes : ℕ) (γ·nodes : GName) (nodes : List ℕ) (κ·register : Lft) (q·register : Share) (b·register o·register : ℕ) (γ·register : GName) (register : List Record) (x-v : Version) (offset : ByteOffset) (len : ℕ) (x-from : ℕ) (κ·buffer : Lft) (q·buffer : Share) (b·buffer o·buffer : ℕ) (γ·buffer : GName) (buffer : List ℕ) (ok·s : Is Store′.row s (Store′.vals s)) (room·pages : Room u8 (length pages)) (room·nodes : Room u32 (length nodes)) (room·register : Room Record′.row (length register)) (ok·x-v : Is Version′.row x-v (Version′.vals x-v)) (ok·offset : Is ByteOffset′.row offset (ByteOffset′.vals offset)) (ok·len : Is u64 len (uint-vals w64 len)) (ok·x-from : Is u64 x-from (uint-vals w64 x-from)) (room·buffer : Room u8 (length buffer)) (need : copy-range″.req s pages nodes register x-v offset len x-from buffer) where
+module _ {M : Type 1} (𝓤 : URA M) (H : Heap 𝓤) (A : Atoms 𝓤) (W : Given 𝓤 H A) (mem : Memory → SProp 𝓤) (run : Routine → Fun 𝓤) (size : ℕ) (count : ℕ) (κ·pages : Lft) (q·pages : Share) (b·pages o·pages : ℕ) (γ·pages : GName) (pages : List ℕ) (κ·nodes : Lft) (q·nodes : Share) (b·nodes o·nodes : ℕ) (γ·nodes : GName) (nodes : List ℕ) (κ·register : Lft) (q·register : Share) (b·register o·register : ℕ) (γ·register : GName) (register : List Record) (c : ℕ) (offset : ByteOffset) (len : ℕ) (x-from : ℕ) (κ·buffer : Lft) (q·buffer : Share) (b·buffer o·buffer : ℕ) (γ·buffer : GName) (buffer : List ℕ) (ok·size : Is u64 size (uint-vals w64 size)) (ok·count : Is u64 count (uint-vals w64 count)) (room·pages : Room u8 (length pages)) (room·nodes : Room u32 (length nodes)) (room·register : Room Record′.row (length register)) (ok·c : Is u64 c (uint-vals w64 c)) (ok·offset : Is ByteOffset′.row offset (ByteOffset′.vals offset)) (ok·len : Is u64 len (uint-vals w64 len)) (ok·x-from : Is u64 x-from (uint-vals w64 x-from)) (room·buffer : Room u8 (length buffer)) (need : copy-range″.req size count pages nodes register c offset len x-from buffer) where
   abbrev all-args : Args copy-range‴.signature (κ·pages, (κ·nodes, (κ·register, (κ·buffer, tt))))
-  all-args = (s, (ref b·pages o·pages γ·pages pages, (ref b·nodes o·nodes γ·nodes nodes, (ref b·register o·register γ·register register, (x-v, (offset, (len, (x-from, (ref b·buffer o·buffer γ·buffer buffer, tt)))))))))
+  all-args = (size, (count, (ref b·pages o·pages γ·pages pages, (ref b·nodes o·nodes γ·nodes nodes, (ref b·register o·register γ·register register, (c, (offset, (len, (x-from, (ref b·buffer o·buffer γ·buffer buffer, tt))))))))))
 
   abbrev all-vals : Vals copy-range‴.signature (κ·pages, (κ·nodes, (κ·register, (κ·buffer, tt))))
-  all-vals = (Store′.mach s ∷ [], (sliceVal (b·pages, o·pages) (length pages) ∷ [], (sliceVal (b·nodes, o·nodes) (length nodes) ∷ [], (sliceVal (b·register, o·register) (length register) ∷ [], (Version′.mach x-v ∷ [], (ByteOffset′.mach offset ∷ [], (vint w64 len ∷ [], (vint w64 x-from ∷ [], (sliceVal (b·buffer, o·buffer) (length buffer) ∷ [], tt)))))))))
+  all-vals = (vint w64 size ∷ [], (vint w64 count ∷ [], (sliceVal (b·pages, o·pages) (length pages) ∷ [], (sliceVal (b·nodes, o·nodes) (length nodes) ∷ [], (sliceVal (b·register, o·register) (length register) ∷ [], (vint w64 c ∷ [], (ByteOffset′.mach offset ∷ [], (vint w64 len ∷ [], (vint w64 x-from ∷ [], (sliceVal (b·buffer, o·buffer) (length buffer) ∷ [], tt))))))))))
 
   abbrev bound : walkOf 𝓤 H A copy-range‴.ended stayed (copy-range‴.clauses 𝓤 H A mem run) .Ghost
   bound = (((κ·pages, (κ·nodes, (κ·register, (κ·buffer, tt)))), (q·pages, (q·nodes, (q·register, (q·buffer, tt)))), tt, all-args, all-vals), tt)
@@ -108,83 +108,83 @@ module _ {M : Type 1} (𝓤 : URA M) (H : Heap 𝓤) (A : Atoms 𝓤) (W : Given
   abbrev Post : Val → SProp 𝓤
   Post = walkOf 𝓤 H A copy-range‴.ended stayed (copy-range‴.clauses 𝓤 H A mem run) .post bound
 
-  exits : (zs·buffer : List ℕ) → length zs·buffer ≡ length buffer → copy-range″.ens s pages nodes register x-v offset len x-from buffer zs·buffer tt → ent 𝓤 (⋆ 𝓤 H A (‵ (flft κ·pages q·pages) ∷ ‵ (ShrAt u8 κ·pages b·pages o·pages γ·pages (length pages) pages) ∷ ‵ (flft κ·nodes q·nodes) ∷ ‵ (ShrAt u32 κ·nodes b·nodes o·nodes γ·nodes (length nodes) nodes) ∷ ‵ (flft κ·register q·register) ∷ ‵ (ShrAt Record′.row κ·register b·register o·register γ·register (length register) register) ∷ ‵ (flft κ·buffer q·buffer) ∷ ‵ (MutAt u8 κ·buffer b·buffer o·buffer γ·buffer (length buffer) zs·buffer) ∷ [])) (Post (vunit))
+  exits : (zs·buffer : List ℕ) → length zs·buffer ≡ length buffer → copy-range″.ens size count pages nodes register c offset len x-from buffer zs·buffer tt → ent 𝓤 (⋆ 𝓤 H A (‵ (flft κ·pages q·pages) ∷ ‵ (ShrAt u8 κ·pages b·pages o·pages γ·pages (length pages) pages) ∷ ‵ (flft κ·nodes q·nodes) ∷ ‵ (ShrAt u32 κ·nodes b·nodes o·nodes γ·nodes (length nodes) nodes) ∷ ‵ (flft κ·register q·register) ∷ ‵ (ShrAt Record′.row κ·register b·register o·register γ·register (length register) register) ∷ ‵ (flft κ·buffer q·buffer) ∷ ‵ (MutAt u8 κ·buffer b·buffer o·buffer γ·buffer (length buffer) zs·buffer) ∷ [])) (Post (vunit))
   exits zs·buffer same·buffer said =
-      qed W (‵ (flft κ·pages q·pages) ∷ ‵ (ShrAt u8 κ·pages b·pages o·pages γ·pages (length pages) pages) ∷ ‵ (flft κ·nodes q·nodes) ∷ ‵ (ShrAt u32 κ·nodes b·nodes o·nodes γ·nodes (length nodes) nodes) ∷ ‵ (flft κ·register q·register) ∷ ‵ (ShrAt Record′.row κ·register b·register o·register γ·register (length register) register) ∷ ‵ (flft κ·buffer q·buffer) ∷ ‵ (MutAt u8 κ·buffer b·buffer o·buffer γ·buffer (length buffer) zs·buffer) ∷ []) ∵ suffices ! _ (ends-at 𝓤 H A copy-range‴.ended stayed (copy-range‴.clauses 𝓤 H A mem run) W bound (vunit) tt (tt, (tt, (tt, (tt, (tt, (tt, (tt, (tt, (zs·buffer, tt))))))))) (tt, (tt, (tt, (tt, (tt, (tt, (tt, (tt, (same·buffer, tt)))))))))) $ says ! said $
-      nothing ! $ move ! (7 ∷ 0 ∷ []) $ join ! $ move ! (5 ∷ 0 ∷ []) $ join ! $ move ! (3 ∷ 0 ∷ []) $ join ! $ move ! (1 ∷ 0 ∷ []) $ join ! $ frame ! $ nothing ! $ move ! (4 ∷ 0 ∷ []) $ fjoin ! $ owned ! u64 (Is u64) (uint-makes 𝓤 H A W w64) x-from _ ok·x-from $ fjoin ! $ owned ! u64 (Is u64) (uint-makes 𝓤 H A W w64) len _ ok·len $ fjoin ! $ owned ! ByteOffset′.row (Is ByteOffset′.row) (ByteOffset′.makes 𝓤 H A) offset _ ok·offset $ fjoin ! $ owned ! Version′.row (Is Version′.row) (Version′.makes 𝓤 H A) x-v _ ok·x-v $ fjoin ! $ move ! (3 ∷ 0 ∷ []) $ fjoin ! $ move ! (2 ∷ 0 ∷ []) $ fjoin ! $ move ! (1 ∷ 0 ∷ []) $ fjoin ! $ owned ! Store′.row (Is Store′.row) (Store′.makes 𝓤 H A) s _ ok·s $ fjoin ! $ frame ! $ feqI ! (List Val) (vunit ∷ []) (vunit ∷ []) refl $ done !
+      qed W (‵ (flft κ·pages q·pages) ∷ ‵ (ShrAt u8 κ·pages b·pages o·pages γ·pages (length pages) pages) ∷ ‵ (flft κ·nodes q·nodes) ∷ ‵ (ShrAt u32 κ·nodes b·nodes o·nodes γ·nodes (length nodes) nodes) ∷ ‵ (flft κ·register q·register) ∷ ‵ (ShrAt Record′.row κ·register b·register o·register γ·register (length register) register) ∷ ‵ (flft κ·buffer q·buffer) ∷ ‵ (MutAt u8 κ·buffer b·buffer o·buffer γ·buffer (length buffer) zs·buffer) ∷ []) ∵ suffices ! _ (ends-at 𝓤 H A copy-range‴.ended stayed (copy-range‴.clauses 𝓤 H A mem run) W bound (vunit) tt (tt, (tt, (tt, (tt, (tt, (tt, (tt, (tt, (tt, (zs·buffer, tt)))))))))) (tt, (tt, (tt, (tt, (tt, (tt, (tt, (tt, (tt, (same·buffer, tt))))))))))) $ says ! said $
+      nothing ! $ move ! (7 ∷ 0 ∷ []) $ join ! $ move ! (5 ∷ 0 ∷ []) $ join ! $ move ! (3 ∷ 0 ∷ []) $ join ! $ move ! (1 ∷ 0 ∷ []) $ join ! $ frame ! $ nothing ! $ move ! (4 ∷ 0 ∷ []) $ fjoin ! $ owned ! u64 (Is u64) (uint-makes 𝓤 H A W w64) x-from _ ok·x-from $ fjoin ! $ owned ! u64 (Is u64) (uint-makes 𝓤 H A W w64) len _ ok·len $ fjoin ! $ owned ! ByteOffset′.row (Is ByteOffset′.row) (ByteOffset′.makes 𝓤 H A) offset _ ok·offset $ fjoin ! $ owned ! u64 (Is u64) (uint-makes 𝓤 H A W w64) c _ ok·c $ fjoin ! $ move ! (3 ∷ 0 ∷ []) $ fjoin ! $ move ! (2 ∷ 0 ∷ []) $ fjoin ! $ move ! (1 ∷ 0 ∷ []) $ fjoin ! $ owned ! u64 (Is u64) (uint-makes 𝓤 H A W w64) count _ ok·count $ fjoin ! $ owned ! u64 (Is u64) (uint-makes 𝓤 H A W w64) size _ ok·size $ fjoin ! $ frame ! $ feqI ! (List Val) (vunit ∷ []) (vunit ∷ []) refl $ done !
 
-  module _ (𝓣 : Tables 𝓤 H) (known-chunk-at : Triple 𝓤 (𝓣 .C #chunk-at) (Call-chunk-at.Asked 𝓤 H A mem run)) (known-find-page : Triple 𝓤 (𝓣 .C #find-page) (Call-find-page.Asked 𝓤 H A mem run)) (known-number-found : Triple 𝓤 (𝓣 .C #number-found) (Call-number-found.Asked 𝓤 H A mem run)) (known-copy-page : Triple 𝓤 (𝓣 .C #copy-page) (Call-copy-page.Asked 𝓤 H A mem run)) (l₀ l₁ l₂ l₃ l₄ l₅ l₆ l₇ l₈ l₉ l₁₀ l₁₁ l₁₂ l₁₃ l₁₄ l₁₅ l₁₆ l₁₇ l₁₈ : ℕ) where
+  module _ (𝓣 : Tables 𝓤 H) (known-chunk-at : Triple 𝓤 (𝓣 .C #chunk-at) (Call-chunk-at.Asked 𝓤 H A mem run)) (known-find-page : Triple 𝓤 (𝓣 .C #find-page) (Call-find-page.Asked 𝓤 H A mem run)) (known-number-found : Triple 𝓤 (𝓣 .C #number-found) (Call-number-found.Asked 𝓤 H A mem run)) (known-copy-page : Triple 𝓤 (𝓣 .C #copy-page) (Call-copy-page.Asked 𝓤 H A mem run)) (l₀ l₁ l₂ l₃ l₄ l₅ l₆ l₇ l₈ l₉ l₁₀ l₁₁ l₁₂ l₁₃ l₁₄ l₁₅ l₁₆ l₁₇ l₁₈ l₁₉ : ℕ) where
     abbrev E : Env 𝓤 H
-    E = (tyUnit, l₀) ∷ (tyAt (code.function .locals) 1, l₁) ∷ (sliceTy (tyRef (named 0) imm (pointee (u8 .written))), l₂) ∷ (sliceTy (tyRef (named 1) imm (pointee (u32 .written))), l₃) ∷ (sliceTy (tyRef (named 2) imm (pointee (Record′.row .written))), l₄) ∷ (tyAt (code.function .locals) 5, l₅) ∷ (tyAt (code.function .locals) 6, l₆) ∷ (tyInt w64, l₇) ∷ (tyInt w64, l₈) ∷ (sliceTy (tyRef (named 3) mut (pointee (u8 .written))), l₉) ∷ (tyInt w64, l₁₀) ∷ (tyAt (code.function .locals) 11, l₁₁) ∷ (tyAt (code.function .locals) 12, l₁₂) ∷ (tyBool, l₁₃) ∷ (tyInt w64, l₁₄) ∷ (tyAt (code.function .locals) 15, l₁₅) ∷ (tyInt w64, l₁₆) ∷ (tyRef erased mut (pointee (u8 .written)), l₁₇) ∷ (sliceTy (tyRef erased mut (pointee (u8 .written))), l₁₈) ∷ []
+    E = (tyUnit, l₀) ∷ (tyInt w64, l₁) ∷ (tyInt w64, l₂) ∷ (sliceTy (tyRef (named 0) imm (pointee (u8 .written))), l₃) ∷ (sliceTy (tyRef (named 1) imm (pointee (u32 .written))), l₄) ∷ (sliceTy (tyRef (named 2) imm (pointee (Record′.row .written))), l₅) ∷ (tyInt w64, l₆) ∷ (tyAt (code.function .locals) 7, l₇) ∷ (tyInt w64, l₈) ∷ (tyInt w64, l₉) ∷ (sliceTy (tyRef (named 3) mut (pointee (u8 .written))), l₁₀) ∷ (tyInt w64, l₁₁) ∷ (tyAt (code.function .locals) 12, l₁₂) ∷ (tyAt (code.function .locals) 13, l₁₃) ∷ (tyBool, l₁₄) ∷ (tyInt w64, l₁₅) ∷ (tyAt (code.function .locals) 16, l₁₆) ∷ (tyInt w64, l₁₇) ∷ (tyRef erased mut (pointee (u8 .written)), l₁₈) ∷ (sliceTy (tyRef erased mut (pointee (u8 .written))), l₁₉) ∷ []
 
     abbrev Var : Type 0
     Var = ℕ × ((List ℕ) × (Unit {0}))
 
     abbrev lesser : Var → Var → Type 0
-    lesser t′ t = Loop.measure-1 s pages nodes register x-v offset len x-from buffer (t′ .0) (t′ .1 .0) < Loop.measure-1 s pages nodes register x-v offset len x-from buffer (t .0) (t .1 .0)
+    lesser t′ t = Loop.measure-1 size count pages nodes register c offset len x-from buffer (t′ .0) (t′ .1 .0) < Loop.measure-1 size count pages nodes register c offset len x-from buffer (t .0) (t .1 .0)
 
     falls : WellFounded lesser
-    falls = InvImage·wf (λ (t : Var). Loop.measure-1 s pages nodes register x-v offset len x-from buffer (t .0) (t .1 .0)) (Nat·lt-wfRel .wf)
+    falls = InvImage·wf (λ (t : Var). Loop.measure-1 size count pages nodes register c offset len x-from buffer (t .0) (t .1 .0)) (Nat·lt-wfRel .wf)
 
     abbrev I : Var → List (Item 𝓤)
-    I t = raw (fact 𝓤 ((Is u64 (t .0) (uint-vals w64 (t .0))) × ((length buffer ≡ length (t .1 .0)) × (Loop.inv-1 s pages nodes register x-v offset len x-from buffer (t .0) (t .1 .0))))) ∷ ‵ (flft κ·pages q·pages) ∷ ‵ (ShrAt u8 κ·pages b·pages o·pages γ·pages (length pages) pages) ∷ ‵ (flft κ·nodes q·nodes) ∷ ‵ (ShrAt u32 κ·nodes b·nodes o·nodes γ·nodes (length nodes) nodes) ∷ ‵ (flft κ·register q·register) ∷ ‵ (ShrAt Record′.row κ·register b·register o·register γ·register (length register) register) ∷ ‵ (flft κ·buffer q·buffer) ∷ ‵ (MutAt u8 κ·buffer b·buffer o·buffer γ·buffer (length buffer) (t .1 .0)) ∷ empty (sliceTy (tyRef erased mut (pointee (u8 .written)))) l₁₈ (empty (tyRef erased mut (pointee (u8 .written))) l₁₇ (empty (tyInt w64) l₁₆ (empty (tyAt (code.function .locals) 15) l₁₅ (empty (tyInt w64) l₁₄ (empty tyBool l₁₃ (empty (tyAt (code.function .locals) 12) l₁₂ (empty (tyAt (code.function .locals) 11) l₁₁ (holds (tyInt w64) l₁₀ (vint w64 (t .0)) (holds (sliceTy (tyRef (named 3) mut (pointee (u8 .written)))) l₉ (sliceVal (b·buffer, o·buffer) (length buffer)) (holds (tyInt w64) l₈ (vint w64 x-from) (holds (tyInt w64) l₇ (vint w64 len) (holds (tyAt (code.function .locals) 6) l₆ (ByteOffset′.mach offset) (holds (tyAt (code.function .locals) 5) l₅ (Version′.mach x-v) (holds (sliceTy (tyRef (named 2) imm (pointee (Record′.row .written)))) l₄ (sliceVal (b·register, o·register) (length register)) (holds (sliceTy (tyRef (named 1) imm (pointee (u32 .written)))) l₃ (sliceVal (b·nodes, o·nodes) (length nodes)) (holds (sliceTy (tyRef (named 0) imm (pointee (u8 .written)))) l₂ (sliceVal (b·pages, o·pages) (length pages)) (holds (tyAt (code.function .locals) 1) l₁ (Store′.mach s) (empty tyUnit l₀ []))))))))))))))))))
+    I t = raw (fact 𝓤 ((Is u64 (t .0) (uint-vals w64 (t .0))) × ((length buffer ≡ length (t .1 .0)) × (Loop.inv-1 size count pages nodes register c offset len x-from buffer (t .0) (t .1 .0))))) ∷ ‵ (flft κ·pages q·pages) ∷ ‵ (ShrAt u8 κ·pages b·pages o·pages γ·pages (length pages) pages) ∷ ‵ (flft κ·nodes q·nodes) ∷ ‵ (ShrAt u32 κ·nodes b·nodes o·nodes γ·nodes (length nodes) nodes) ∷ ‵ (flft κ·register q·register) ∷ ‵ (ShrAt Record′.row κ·register b·register o·register γ·register (length register) register) ∷ ‵ (flft κ·buffer q·buffer) ∷ ‵ (MutAt u8 κ·buffer b·buffer o·buffer γ·buffer (length buffer) (t .1 .0)) ∷ empty (sliceTy (tyRef erased mut (pointee (u8 .written)))) l₁₉ (empty (tyRef erased mut (pointee (u8 .written))) l₁₈ (empty (tyInt w64) l₁₇ (empty (tyAt (code.function .locals) 16) l₁₆ (empty (tyInt w64) l₁₅ (empty tyBool l₁₄ (empty (tyAt (code.function .locals) 13) l₁₃ (empty (tyAt (code.function .locals) 12) l₁₂ (holds (tyInt w64) l₁₁ (vint w64 (t .0)) (holds (sliceTy (tyRef (named 3) mut (pointee (u8 .written)))) l₁₀ (sliceVal (b·buffer, o·buffer) (length buffer)) (holds (tyInt w64) l₉ (vint w64 x-from) (holds (tyInt w64) l₈ (vint w64 len) (holds (tyAt (code.function .locals) 7) l₇ (ByteOffset′.mach offset) (holds (tyInt w64) l₆ (vint w64 c) (holds (sliceTy (tyRef (named 2) imm (pointee (Record′.row .written)))) l₅ (sliceVal (b·register, o·register) (length register)) (holds (sliceTy (tyRef (named 1) imm (pointee (u32 .written)))) l₄ (sliceVal (b·nodes, o·nodes) (length nodes)) (holds (sliceTy (tyRef (named 0) imm (pointee (u8 .written)))) l₃ (sliceVal (b·pages, o·pages) (length pages)) (holds (tyInt w64) l₂ (vint w64 count) (holds (tyInt w64) l₁ (vint w64 size) (empty tyUnit l₀ [])))))))))))))))))))
 
     abbrev Left : Out → SProp 𝓤
     Left = afterBlock 𝓤 H (afterSeq 𝓤 H (Wp 𝓤 H (𝓣 .C) (𝓣 .Λ) E parts.t-3 (atReturn 𝓤 H E Post)) (atReturn 𝓤 H E Post))
 
-    turn : (v10 : ℕ) (buffer-now : List ℕ) → Sq W (I (v10, (buffer-now, tt))) (runs (𝓣 .C) (𝓣 .Λ) E parts.turn-1 (anyQ (afterTurn 𝓤 H (Below 𝓤 H A lesser I (v10, (buffer-now, tt))) Left)))
+    turn : (v11 : ℕ) (buffer-now : List ℕ) → Sq W (I (v11, (buffer-now, tt))) (runs (𝓣 .C) (𝓣 .Λ) E parts.turn-1 (anyQ (afterTurn 𝓤 H (Below 𝓤 H A lesser I (v11, (buffer-now, tt))) Left)))
     unfolding afterTurn
-    turn v10 buffer-now = heard ! ((Is u64 v10 (uint-vals w64 v10)) × ((length buffer ≡ length buffer-now) × (Loop.inv-1 s pages nodes register x-v offset len x-from buffer v10 buffer-now))) (λ f·1.
+    turn v11 buffer-now = heard ! ((Is u64 v11 (uint-vals w64 v11)) × ((length buffer ≡ length buffer-now) × (Loop.inv-1 size count pages nodes register c offset len x-from buffer v11 buffer-now))) (λ f·1.
         assigns ! (bin ! (load ! (from ! (stop !)) (look ! 24 refl)) (load ! (from ! (stop !)) (look ! 30 refl)) tt) (from ! (stop !)) (init ! 18 refl (tt, tt)) $
         branches-on ! (load ! (from ! (stop !)) (look ! 18 refl))
-        (λ h·1. skips-on ! $ assigns ! (bin ! (load ! (from ! (fld ! refl (stop !))) (look-in ! 32 (sub ! 0 refl (whole !)))) (load ! (from ! (stop !)) (look ! 24 refl)) record { fits = Facts.add-1 s pages nodes register x-v offset len x-from buffer ok·s (room·pages .0) (room·nodes .0) (room·register .0) ok·x-v ok·offset (ok·len .1) (ok·x-from .1) (room·buffer .0) need v10 buffer-now ((f·1 .0) .1) (f·1 .1 .0) (f·1 .1 .1) (is-true (ltb v10 len) h·1) (ltb→lt v10 len h·1) }) (from ! (stop !)) (init ! 16 refl (tt, record { fits = Facts.add-1 s pages nodes register x-v offset len x-from buffer ok·s (room·pages .0) (room·nodes .0) (room·register .0) ok·x-v ok·offset (ok·len .1) (ok·x-from .1) (room·buffer .0) need v10 buffer-now ((f·1 .0) .1) (f·1 .1 .0) (f·1 .1 .1) (is-true (ltb v10 len) h·1) (ltb→lt v10 len h·1) })) $
-        assigns ! (agg ! (and-then ! (load ! (from ! (stop !)) (look ! 16 refl)) (no-more !))) (from ! (stop !)) (init ! 14 refl (ByteOffset′.typed 𝓤 H A W (ByteOffset′.build ((offset .0) + v10)) (ByteOffset′.make ((offset .0) + v10) (refl, Facts.add-1 s pages nodes register x-v offset len x-from buffer ok·s (room·pages .0) (room·nodes .0) (room·register .0) ok·x-v ok·offset (ok·len .1) (ok·x-from .1) (room·buffer .0) need v10 buffer-now ((f·1 .0) .1) (f·1 .1 .0) (f·1 .1 .1) (is-true (ltb v10 len) h·1) (ltb→lt v10 len h·1))))) $
-        assigns ! (bin ! (load ! (from ! (stop !)) (look ! 30 refl)) (load ! (from ! (stop !)) (look ! 24 refl)) (Facts.sub-1 s pages nodes register x-v offset len x-from buffer ok·s (room·pages .0) (room·nodes .0) (room·register .0) ok·x-v ok·offset (ok·len .1) (ok·x-from .1) (room·buffer .0) need v10 buffer-now ((f·1 .0) .1) (f·1 .1 .0) (f·1 .1 .1) (is-true (ltb v10 len) h·1) (ltb→lt v10 len h·1))) (from ! (stop !)) (init ! 12 refl (tt, record { fits = less-fits len v10 (2 ^ 64) (ok·len .1) })) $
-        Call-chunk-at.calls ! mem run (fmOf 𝓤 H (W .laws) 𝓣) known-chunk-at (s .size) (ByteOffset′.build ((offset .0) + v10)) (len - v10) (Store′.ok-size s ok·s) (ByteOffset′.make ((offset .0) + v10) (refl, Facts.add-1 s pages nodes register x-v offset len x-from buffer ok·s (room·pages .0) (room·nodes .0) (room·register .0) ok·x-v ok·offset (ok·len .1) (ok·x-from .1) (room·buffer .0) need v10 buffer-now ((f·1 .0) .1) (f·1 .1 .0) (f·1 .1 .1) (is-true (ltb v10 len) h·1) (ltb→lt v10 len h·1))) (refl, less-fits len v10 (2 ^ 64) (ok·len .1)) (and-then ! (load ! (from ! (fld ! refl (stop !))) (look-in ! 43 (sub ! 0 refl (whole !)))) (and-then ! (load ! (from ! (stop !)) (look ! 15 refl)) (and-then ! (load ! (from ! (stop !)) (look ! 13 refl)) (no-more !))))
-        (λ ok·1. land ! (from ! (stop !)) (init ! 22 refl (Chunk′.typed 𝓤 H A W (r1 s pages nodes register x-v offset len x-from buffer v10 buffer-now) ok·1)) $
-        here ! (‵ (flft κ·pages q·pages) ∷ ‵ (ShrAt u8 κ·pages b·pages o·pages γ·pages (length pages) pages) ∷ ‵ (flft κ·nodes q·nodes) ∷ ‵ (ShrAt u32 κ·nodes b·nodes o·nodes γ·nodes (length nodes) nodes) ∷ ‵ (flft κ·register q·register) ∷ ‵ (ShrAt Record′.row κ·register b·register o·register γ·register (length register) register) ∷ ‵ (flft κ·buffer q·buffer) ∷ ‵ (MutAt u8 κ·buffer b·buffer o·buffer γ·buffer (length buffer) buffer-now) ∷ empty (sliceTy (tyRef erased mut (pointee (u8 .written)))) l₁₈ (empty (tyRef erased mut (pointee (u8 .written))) l₁₇ (holds (tyInt w64) l₁₆ (vint w64 (len - v10)) (holds (tyAt (code.function .locals) 15) l₁₅ (ByteOffset′.mach (ByteOffset′.build ((offset .0) + v10))) (holds (tyInt w64) l₁₄ (vint w64 ((offset .0) + v10)) (holds tyBool l₁₃ (vbool (ltb v10 len)) (empty (tyAt (code.function .locals) 12) l₁₂ (holds (tyAt (code.function .locals) 11) l₁₁ (Chunk′.mach (r1 s pages nodes register x-v offset len x-from buffer v10 buffer-now)) (holds (tyInt w64) l₁₀ (vint w64 v10) (holds (sliceTy (tyRef (named 3) mut (pointee (u8 .written)))) l₉ (sliceVal (b·buffer, o·buffer) (length buffer)) (holds (tyInt w64) l₈ (vint w64 x-from) (holds (tyInt w64) l₇ (vint w64 len) (holds (tyAt (code.function .locals) 6) l₆ (ByteOffset′.mach offset) (holds (tyAt (code.function .locals) 5) l₅ (Version′.mach x-v) (holds (sliceTy (tyRef (named 2) imm (pointee (Record′.row .written)))) l₄ (sliceVal (b·register, o·register) (length register)) (holds (sliceTy (tyRef (named 1) imm (pointee (u32 .written)))) l₃ (sliceVal (b·nodes, o·nodes) (length nodes)) (holds (sliceTy (tyRef (named 0) imm (pointee (u8 .written)))) l₂ (sliceVal (b·pages, o·pages) (length pages)) (holds (tyAt (code.function .locals) 1) l₁ (Store′.mach s) (empty tyUnit l₀ []))))))))))))))))))) $
+        (λ h·1. skips-on ! $ assigns ! (bin ! (load ! (from ! (fld ! refl (stop !))) (look-in ! 32 (sub ! 0 refl (whole !)))) (load ! (from ! (stop !)) (look ! 24 refl)) record { fits = Facts.add-1 size count pages nodes register c offset len x-from buffer (ok·size .1) (ok·count .1) (room·pages .0) (room·nodes .0) (room·register .0) (ok·c .1) ok·offset (ok·len .1) (ok·x-from .1) (room·buffer .0) need v11 buffer-now ((f·1 .0) .1) (f·1 .1 .0) (f·1 .1 .1) (is-true (ltb v11 len) h·1) (ltb→lt v11 len h·1) }) (from ! (stop !)) (init ! 16 refl (tt, record { fits = Facts.add-1 size count pages nodes register c offset len x-from buffer (ok·size .1) (ok·count .1) (room·pages .0) (room·nodes .0) (room·register .0) (ok·c .1) ok·offset (ok·len .1) (ok·x-from .1) (room·buffer .0) need v11 buffer-now ((f·1 .0) .1) (f·1 .1 .0) (f·1 .1 .1) (is-true (ltb v11 len) h·1) (ltb→lt v11 len h·1) })) $
+        assigns ! (agg ! (and-then ! (load ! (from ! (stop !)) (look ! 16 refl)) (no-more !))) (from ! (stop !)) (init ! 14 refl (ByteOffset′.typed 𝓤 H A W (ByteOffset′.build ((offset .0) + v11)) (ByteOffset′.make ((offset .0) + v11) (refl, Facts.add-1 size count pages nodes register c offset len x-from buffer (ok·size .1) (ok·count .1) (room·pages .0) (room·nodes .0) (room·register .0) (ok·c .1) ok·offset (ok·len .1) (ok·x-from .1) (room·buffer .0) need v11 buffer-now ((f·1 .0) .1) (f·1 .1 .0) (f·1 .1 .1) (is-true (ltb v11 len) h·1) (ltb→lt v11 len h·1))))) $
+        assigns ! (bin ! (load ! (from ! (stop !)) (look ! 30 refl)) (load ! (from ! (stop !)) (look ! 24 refl)) (Facts.sub-1 size count pages nodes register c offset len x-from buffer (ok·size .1) (ok·count .1) (room·pages .0) (room·nodes .0) (room·register .0) (ok·c .1) ok·offset (ok·len .1) (ok·x-from .1) (room·buffer .0) need v11 buffer-now ((f·1 .0) .1) (f·1 .1 .0) (f·1 .1 .1) (is-true (ltb v11 len) h·1) (ltb→lt v11 len h·1))) (from ! (stop !)) (init ! 12 refl (tt, record { fits = less-fits len v11 (2 ^ 64) (ok·len .1) })) $
+        Call-chunk-at.calls ! mem run (fmOf 𝓤 H (W .laws) 𝓣) known-chunk-at size (ByteOffset′.build ((offset .0) + v11)) (len - v11) ok·size (ByteOffset′.make ((offset .0) + v11) (refl, Facts.add-1 size count pages nodes register c offset len x-from buffer (ok·size .1) (ok·count .1) (room·pages .0) (room·nodes .0) (room·register .0) (ok·c .1) ok·offset (ok·len .1) (ok·x-from .1) (room·buffer .0) need v11 buffer-now ((f·1 .0) .1) (f·1 .1 .0) (f·1 .1 .1) (is-true (ltb v11 len) h·1) (ltb→lt v11 len h·1))) (refl, less-fits len v11 (2 ^ 64) (ok·len .1)) (and-then ! (load ! (from ! (stop !)) (look ! 45 refl)) (and-then ! (load ! (from ! (stop !)) (look ! 15 refl)) (and-then ! (load ! (from ! (stop !)) (look ! 13 refl)) (no-more !))))
+        (λ ok·1. land ! (from ! (stop !)) (init ! 22 refl (Chunk′.typed 𝓤 H A W (r1 size count pages nodes register c offset len x-from buffer v11 buffer-now) ok·1)) $
+        here ! (‵ (flft κ·pages q·pages) ∷ ‵ (ShrAt u8 κ·pages b·pages o·pages γ·pages (length pages) pages) ∷ ‵ (flft κ·nodes q·nodes) ∷ ‵ (ShrAt u32 κ·nodes b·nodes o·nodes γ·nodes (length nodes) nodes) ∷ ‵ (flft κ·register q·register) ∷ ‵ (ShrAt Record′.row κ·register b·register o·register γ·register (length register) register) ∷ ‵ (flft κ·buffer q·buffer) ∷ ‵ (MutAt u8 κ·buffer b·buffer o·buffer γ·buffer (length buffer) buffer-now) ∷ empty (sliceTy (tyRef erased mut (pointee (u8 .written)))) l₁₉ (empty (tyRef erased mut (pointee (u8 .written))) l₁₈ (holds (tyInt w64) l₁₇ (vint w64 (len - v11)) (holds (tyAt (code.function .locals) 16) l₁₆ (ByteOffset′.mach (ByteOffset′.build ((offset .0) + v11))) (holds (tyInt w64) l₁₅ (vint w64 ((offset .0) + v11)) (holds tyBool l₁₄ (vbool (ltb v11 len)) (empty (tyAt (code.function .locals) 13) l₁₃ (holds (tyAt (code.function .locals) 12) l₁₂ (Chunk′.mach (r1 size count pages nodes register c offset len x-from buffer v11 buffer-now)) (holds (tyInt w64) l₁₁ (vint w64 v11) (holds (sliceTy (tyRef (named 3) mut (pointee (u8 .written)))) l₁₀ (sliceVal (b·buffer, o·buffer) (length buffer)) (holds (tyInt w64) l₉ (vint w64 x-from) (holds (tyInt w64) l₈ (vint w64 len) (holds (tyAt (code.function .locals) 7) l₇ (ByteOffset′.mach offset) (holds (tyInt w64) l₆ (vint w64 c) (holds (sliceTy (tyRef (named 2) imm (pointee (Record′.row .written)))) l₅ (sliceVal (b·register, o·register) (length register)) (holds (sliceTy (tyRef (named 1) imm (pointee (u32 .written)))) l₄ (sliceVal (b·nodes, o·nodes) (length nodes)) (holds (sliceTy (tyRef (named 0) imm (pointee (u8 .written)))) l₃ (sliceVal (b·pages, o·pages) (length pages)) (holds (tyInt w64) l₂ (vint w64 count) (holds (tyInt w64) l₁ (vint w64 size) (empty tyUnit l₀ [])))))))))))))))))))) $
         move ! (2 ∷ 3 ∷ 4 ∷ 5 ∷ []) $
-        Call-find-page.calls ! mem run (fmOf 𝓤 H (W .laws) 𝓣) known-find-page s κ·nodes q·nodes b·nodes o·nodes γ·nodes (length nodes) nodes κ·register q·register b·register o·register γ·register (length register) register x-v ((r1 s pages nodes register x-v offset len x-from buffer v10 buffer-now) .page) ok·s ok·x-v (Chunk′.ok-page (r1 s pages nodes register x-v offset len x-from buffer v10 buffer-now) ok·1) (and-then ! (load ! (from ! (stop !)) (look ! 41 refl)) (and-then ! (load ! (from ! (stop !)) (look ! 37 refl)) (and-then ! (load ! (from ! (stop !)) (look ! 35 refl)) (and-then ! (load ! (from ! (stop !)) (look ! 33 refl)) (and-then ! (load ! (from ! (fld ! refl (stop !))) (look-in ! 21 (sub ! 0 refl (whole !)))) (no-more !))))))
-        (λ ok·2. move ! (4 ∷ 5 ∷ 0 ∷ 1 ∷ 2 ∷ 3 ∷ 6 ∷ 7 ∷ []) $ land ! (from ! (stop !)) (init ! 20 refl (Found′.typed 𝓤 H A W (r2 s pages nodes register x-v offset len x-from buffer v10 buffer-now) ok·2)) $
-        here ! (‵ (flft κ·pages q·pages) ∷ ‵ (ShrAt u8 κ·pages b·pages o·pages γ·pages (length pages) pages) ∷ ‵ (flft κ·nodes q·nodes) ∷ ‵ (ShrAt u32 κ·nodes b·nodes o·nodes γ·nodes (length nodes) nodes) ∷ ‵ (flft κ·register q·register) ∷ ‵ (ShrAt Record′.row κ·register b·register o·register γ·register (length register) register) ∷ ‵ (flft κ·buffer q·buffer) ∷ ‵ (MutAt u8 κ·buffer b·buffer o·buffer γ·buffer (length buffer) buffer-now) ∷ empty (sliceTy (tyRef erased mut (pointee (u8 .written)))) l₁₈ (empty (tyRef erased mut (pointee (u8 .written))) l₁₇ (holds (tyInt w64) l₁₆ (vint w64 (len - v10)) (holds (tyAt (code.function .locals) 15) l₁₅ (ByteOffset′.mach (ByteOffset′.build ((offset .0) + v10))) (holds (tyInt w64) l₁₄ (vint w64 ((offset .0) + v10)) (holds tyBool l₁₃ (vbool (ltb v10 len)) (holds (tyAt (code.function .locals) 12) l₁₂ (Found′.mach (r2 s pages nodes register x-v offset len x-from buffer v10 buffer-now)) (holds (tyAt (code.function .locals) 11) l₁₁ (Chunk′.mach (r1 s pages nodes register x-v offset len x-from buffer v10 buffer-now)) (holds (tyInt w64) l₁₀ (vint w64 v10) (holds (sliceTy (tyRef (named 3) mut (pointee (u8 .written)))) l₉ (sliceVal (b·buffer, o·buffer) (length buffer)) (holds (tyInt w64) l₈ (vint w64 x-from) (holds (tyInt w64) l₇ (vint w64 len) (holds (tyAt (code.function .locals) 6) l₆ (ByteOffset′.mach offset) (holds (tyAt (code.function .locals) 5) l₅ (Version′.mach x-v) (holds (sliceTy (tyRef (named 2) imm (pointee (Record′.row .written)))) l₄ (sliceVal (b·register, o·register) (length register)) (holds (sliceTy (tyRef (named 1) imm (pointee (u32 .written)))) l₃ (sliceVal (b·nodes, o·nodes) (length nodes)) (holds (sliceTy (tyRef (named 0) imm (pointee (u8 .written)))) l₂ (sliceVal (b·pages, o·pages) (length pages)) (holds (tyAt (code.function .locals) 1) l₁ (Store′.mach s) (empty tyUnit l₀ []))))))))))))))))))) $
-        Call-number-found.calls ! mem run (fmOf 𝓤 H (W .laws) 𝓣) known-number-found (s .pages) (r2 s pages nodes register x-v offset len x-from buffer v10 buffer-now) (Store′.ok-pages s ok·s) ok·2 (and-then ! (load ! (from ! (fld ! refl (stop !))) (look-in ! 43 (sub ! 1 refl (whole !)))) (and-then ! (load ! (from ! (stop !)) (look ! 21 refl)) (no-more !)))
+        Call-find-page.calls ! mem run (fmOf 𝓤 H (W .laws) 𝓣) known-find-page κ·nodes q·nodes b·nodes o·nodes γ·nodes (length nodes) nodes κ·register q·register b·register o·register γ·register (length register) register c ((r1 size count pages nodes register c offset len x-from buffer v11 buffer-now) .page) ok·c (Chunk′.ok-page (r1 size count pages nodes register c offset len x-from buffer v11 buffer-now) ok·1) (and-then ! (load ! (from ! (stop !)) (look ! 37 refl)) (and-then ! (load ! (from ! (stop !)) (look ! 35 refl)) (and-then ! (load ! (from ! (stop !)) (look ! 33 refl)) (and-then ! (load ! (from ! (fld ! refl (stop !))) (look-in ! 21 (sub ! 0 refl (whole !)))) (no-more !)))))
+        (λ ok·2. move ! (4 ∷ 5 ∷ 0 ∷ 1 ∷ 2 ∷ 3 ∷ 6 ∷ 7 ∷ []) $ land ! (from ! (stop !)) (init ! 20 refl (Found′.typed 𝓤 H A W (r2 size count pages nodes register c offset len x-from buffer v11 buffer-now) ok·2)) $
+        here ! (‵ (flft κ·pages q·pages) ∷ ‵ (ShrAt u8 κ·pages b·pages o·pages γ·pages (length pages) pages) ∷ ‵ (flft κ·nodes q·nodes) ∷ ‵ (ShrAt u32 κ·nodes b·nodes o·nodes γ·nodes (length nodes) nodes) ∷ ‵ (flft κ·register q·register) ∷ ‵ (ShrAt Record′.row κ·register b·register o·register γ·register (length register) register) ∷ ‵ (flft κ·buffer q·buffer) ∷ ‵ (MutAt u8 κ·buffer b·buffer o·buffer γ·buffer (length buffer) buffer-now) ∷ empty (sliceTy (tyRef erased mut (pointee (u8 .written)))) l₁₉ (empty (tyRef erased mut (pointee (u8 .written))) l₁₈ (holds (tyInt w64) l₁₇ (vint w64 (len - v11)) (holds (tyAt (code.function .locals) 16) l₁₆ (ByteOffset′.mach (ByteOffset′.build ((offset .0) + v11))) (holds (tyInt w64) l₁₅ (vint w64 ((offset .0) + v11)) (holds tyBool l₁₄ (vbool (ltb v11 len)) (holds (tyAt (code.function .locals) 13) l₁₃ (Found′.mach (r2 size count pages nodes register c offset len x-from buffer v11 buffer-now)) (holds (tyAt (code.function .locals) 12) l₁₂ (Chunk′.mach (r1 size count pages nodes register c offset len x-from buffer v11 buffer-now)) (holds (tyInt w64) l₁₁ (vint w64 v11) (holds (sliceTy (tyRef (named 3) mut (pointee (u8 .written)))) l₁₀ (sliceVal (b·buffer, o·buffer) (length buffer)) (holds (tyInt w64) l₉ (vint w64 x-from) (holds (tyInt w64) l₈ (vint w64 len) (holds (tyAt (code.function .locals) 7) l₇ (ByteOffset′.mach offset) (holds (tyInt w64) l₆ (vint w64 c) (holds (sliceTy (tyRef (named 2) imm (pointee (Record′.row .written)))) l₅ (sliceVal (b·register, o·register) (length register)) (holds (sliceTy (tyRef (named 1) imm (pointee (u32 .written)))) l₄ (sliceVal (b·nodes, o·nodes) (length nodes)) (holds (sliceTy (tyRef (named 0) imm (pointee (u8 .written)))) l₃ (sliceVal (b·pages, o·pages) (length pages)) (holds (tyInt w64) l₂ (vint w64 count) (holds (tyInt w64) l₁ (vint w64 size) (empty tyUnit l₀ [])))))))))))))))))))) $
+        Call-number-found.calls ! mem run (fmOf 𝓤 H (W .laws) 𝓣) known-number-found count (r2 size count pages nodes register c offset len x-from buffer v11 buffer-now) ok·count ok·2 (and-then ! (load ! (from ! (stop !)) (look ! 43 refl)) (and-then ! (load ! (from ! (stop !)) (look ! 21 refl)) (no-more !)))
         (λ ok·3. land ! (from ! (stop !)) (store ! 12 refl (tt, record { fits = ok·3 .1 })) $
-        here ! (‵ (flft κ·pages q·pages) ∷ ‵ (ShrAt u8 κ·pages b·pages o·pages γ·pages (length pages) pages) ∷ ‵ (flft κ·nodes q·nodes) ∷ ‵ (ShrAt u32 κ·nodes b·nodes o·nodes γ·nodes (length nodes) nodes) ∷ ‵ (flft κ·register q·register) ∷ ‵ (ShrAt Record′.row κ·register b·register o·register γ·register (length register) register) ∷ ‵ (flft κ·buffer q·buffer) ∷ ‵ (MutAt u8 κ·buffer b·buffer o·buffer γ·buffer (length buffer) buffer-now) ∷ empty (sliceTy (tyRef erased mut (pointee (u8 .written)))) l₁₈ (empty (tyRef erased mut (pointee (u8 .written))) l₁₇ (holds (tyInt w64) l₁₆ (vint w64 (r3 s pages nodes register x-v offset len x-from buffer v10 buffer-now)) (holds (tyAt (code.function .locals) 15) l₁₅ (ByteOffset′.mach (ByteOffset′.build ((offset .0) + v10))) (holds (tyInt w64) l₁₄ (vint w64 ((offset .0) + v10)) (holds tyBool l₁₃ (vbool (ltb v10 len)) (holds (tyAt (code.function .locals) 12) l₁₂ (Found′.mach (r2 s pages nodes register x-v offset len x-from buffer v10 buffer-now)) (holds (tyAt (code.function .locals) 11) l₁₁ (Chunk′.mach (r1 s pages nodes register x-v offset len x-from buffer v10 buffer-now)) (holds (tyInt w64) l₁₀ (vint w64 v10) (holds (sliceTy (tyRef (named 3) mut (pointee (u8 .written)))) l₉ (sliceVal (b·buffer, o·buffer) (length buffer)) (holds (tyInt w64) l₈ (vint w64 x-from) (holds (tyInt w64) l₇ (vint w64 len) (holds (tyAt (code.function .locals) 6) l₆ (ByteOffset′.mach offset) (holds (tyAt (code.function .locals) 5) l₅ (Version′.mach x-v) (holds (sliceTy (tyRef (named 2) imm (pointee (Record′.row .written)))) l₄ (sliceVal (b·register, o·register) (length register)) (holds (sliceTy (tyRef (named 1) imm (pointee (u32 .written)))) l₃ (sliceVal (b·nodes, o·nodes) (length nodes)) (holds (sliceTy (tyRef (named 0) imm (pointee (u8 .written)))) l₂ (sliceVal (b·pages, o·pages) (length pages)) (holds (tyAt (code.function .locals) 1) l₁ (Store′.mach s) (empty tyUnit l₀ []))))))))))))))))))) $
+        here ! (‵ (flft κ·pages q·pages) ∷ ‵ (ShrAt u8 κ·pages b·pages o·pages γ·pages (length pages) pages) ∷ ‵ (flft κ·nodes q·nodes) ∷ ‵ (ShrAt u32 κ·nodes b·nodes o·nodes γ·nodes (length nodes) nodes) ∷ ‵ (flft κ·register q·register) ∷ ‵ (ShrAt Record′.row κ·register b·register o·register γ·register (length register) register) ∷ ‵ (flft κ·buffer q·buffer) ∷ ‵ (MutAt u8 κ·buffer b·buffer o·buffer γ·buffer (length buffer) buffer-now) ∷ empty (sliceTy (tyRef erased mut (pointee (u8 .written)))) l₁₉ (empty (tyRef erased mut (pointee (u8 .written))) l₁₈ (holds (tyInt w64) l₁₇ (vint w64 (r3 size count pages nodes register c offset len x-from buffer v11 buffer-now)) (holds (tyAt (code.function .locals) 16) l₁₆ (ByteOffset′.mach (ByteOffset′.build ((offset .0) + v11))) (holds (tyInt w64) l₁₅ (vint w64 ((offset .0) + v11)) (holds tyBool l₁₄ (vbool (ltb v11 len)) (holds (tyAt (code.function .locals) 13) l₁₃ (Found′.mach (r2 size count pages nodes register c offset len x-from buffer v11 buffer-now)) (holds (tyAt (code.function .locals) 12) l₁₂ (Chunk′.mach (r1 size count pages nodes register c offset len x-from buffer v11 buffer-now)) (holds (tyInt w64) l₁₁ (vint w64 v11) (holds (sliceTy (tyRef (named 3) mut (pointee (u8 .written)))) l₁₀ (sliceVal (b·buffer, o·buffer) (length buffer)) (holds (tyInt w64) l₉ (vint w64 x-from) (holds (tyInt w64) l₈ (vint w64 len) (holds (tyAt (code.function .locals) 7) l₇ (ByteOffset′.mach offset) (holds (tyInt w64) l₆ (vint w64 c) (holds (sliceTy (tyRef (named 2) imm (pointee (Record′.row .written)))) l₅ (sliceVal (b·register, o·register) (length register)) (holds (sliceTy (tyRef (named 1) imm (pointee (u32 .written)))) l₄ (sliceVal (b·nodes, o·nodes) (length nodes)) (holds (sliceTy (tyRef (named 0) imm (pointee (u8 .written)))) l₃ (sliceVal (b·pages, o·pages) (length pages)) (holds (tyInt w64) l₂ (vint w64 count) (holds (tyInt w64) l₁ (vint w64 size) (empty tyUnit l₀ [])))))))))))))))))))) $
         assigns ! (addr ! (from ! (fld ! refl (hop ! (look-in ! 26 (sub ! 0 refl (whole !))) (stop !))))) (from ! (stop !)) (init ! 10 refl (tt, tt)) $
         assigns ! (agg ! (and-then ! (load ! (from ! (stop !)) (look ! 10 refl)) (and-then ! (load ! (from ! (fld ! refl (stop !))) (look-in ! 26 (sub ! 1 refl (whole !)))) (no-more !)))) (from ! (stop !)) (init ! 8 refl (tt, (tt, (record { fits = room·buffer .0 }, tt)))) $
         move ! (6 ∷ 7 ∷ []) $ lend-mut ! tt u8 κ·buffer q·buffer b·buffer o·buffer γ·buffer (length buffer) buffer-now (f·1 .1 .0) (λ ν·4-buffer γ·4-buffer. move ! (3 ∷ 4 ∷ 0 ∷ 1 ∷ []) $
-        Call-copy-page.calls ! mem run (fmOf 𝓤 H (W .laws) 𝓣) known-copy-page κ·pages q·pages b·pages o·pages γ·pages (length pages) pages (s .size) (r3 s pages nodes register x-v offset len x-from buffer v10 buffer-now) ((r1 s pages nodes register x-v offset len x-from buffer v10 buffer-now) .from) ((r1 s pages nodes register x-v offset len x-from buffer v10 buffer-now) .count) (ν·4-buffer ∷ []) fullShare b·buffer o·buffer γ·4-buffer (length buffer) buffer-now v10 (Store′.ok-size s ok·s) ok·3 (Chunk′.ok-from (r1 s pages nodes register x-v offset len x-from buffer v10 buffer-now) ok·1) (Chunk′.ok-count (r1 s pages nodes register x-v offset len x-from buffer v10 buffer-now) ok·1) (f·1 .0) (and-then ! (load ! (from ! (stop !)) (look ! 39 refl)) (and-then ! (load ! (from ! (fld ! refl (stop !))) (look-in ! 41 (sub ! 0 refl (whole !)))) (and-then ! (load ! (from ! (stop !)) (look ! 11 refl)) (and-then ! (load ! (from ! (fld ! refl (stop !))) (look-in ! 21 (sub ! 1 refl (whole !)))) (and-then ! (load ! (from ! (fld ! refl (stop !))) (look-in ! 21 (sub ! 2 refl (whole !)))) (and-then ! (load ! (from ! (stop !)) (look ! 7 refl)) (and-then ! (load ! (from ! (stop !)) (look ! 23 refl)) (no-more !))))))))
-        (λ ok·4 same·4-buffer. move ! (2 ∷ 3 ∷ 4 ∷ []) $ back-mut ! tt u8 κ·buffer q·buffer b·buffer o·buffer γ·buffer (length buffer) buffer-now (buffer₄ s pages nodes register x-v offset len x-from buffer v10 buffer-now) ν·4-buffer γ·4-buffer (f·1 .1 .0) same·4-buffer room·buffer $ move ! (2 ∷ 3 ∷ 4 ∷ 5 ∷ 6 ∷ 7 ∷ 0 ∷ 1 ∷ []) $ land ! (from ! (stop !)) (store ! 18 refl (tt, tt)) $
-        here ! (‵ (flft κ·pages q·pages) ∷ ‵ (ShrAt u8 κ·pages b·pages o·pages γ·pages (length pages) pages) ∷ ‵ (flft κ·nodes q·nodes) ∷ ‵ (ShrAt u32 κ·nodes b·nodes o·nodes γ·nodes (length nodes) nodes) ∷ ‵ (flft κ·register q·register) ∷ ‵ (ShrAt Record′.row κ·register b·register o·register γ·register (length register) register) ∷ ‵ (flft κ·buffer q·buffer) ∷ ‵ (MutAt u8 κ·buffer b·buffer o·buffer γ·buffer (length buffer) (buffer₄ s pages nodes register x-v offset len x-from buffer v10 buffer-now)) ∷ holds (sliceTy (tyRef erased mut (pointee (u8 .written)))) l₁₈ (sliceVal (b·buffer, o·buffer) (length buffer)) (holds (tyRef erased mut (pointee (u8 .written))) l₁₇ (vptr b·buffer o·buffer) (holds (tyInt w64) l₁₆ (vint w64 (r3 s pages nodes register x-v offset len x-from buffer v10 buffer-now)) (holds (tyAt (code.function .locals) 15) l₁₅ (ByteOffset′.mach (ByteOffset′.build ((offset .0) + v10))) (holds (tyInt w64) l₁₄ (vint w64 ((offset .0) + v10)) (holds tyBool l₁₃ (vbool (r4 s pages nodes register x-v offset len x-from buffer v10 buffer-now)) (holds (tyAt (code.function .locals) 12) l₁₂ (Found′.mach (r2 s pages nodes register x-v offset len x-from buffer v10 buffer-now)) (holds (tyAt (code.function .locals) 11) l₁₁ (Chunk′.mach (r1 s pages nodes register x-v offset len x-from buffer v10 buffer-now)) (holds (tyInt w64) l₁₀ (vint w64 v10) (holds (sliceTy (tyRef (named 3) mut (pointee (u8 .written)))) l₉ (sliceVal (b·buffer, o·buffer) (length buffer)) (holds (tyInt w64) l₈ (vint w64 x-from) (holds (tyInt w64) l₇ (vint w64 len) (holds (tyAt (code.function .locals) 6) l₆ (ByteOffset′.mach offset) (holds (tyAt (code.function .locals) 5) l₅ (Version′.mach x-v) (holds (sliceTy (tyRef (named 2) imm (pointee (Record′.row .written)))) l₄ (sliceVal (b·register, o·register) (length register)) (holds (sliceTy (tyRef (named 1) imm (pointee (u32 .written)))) l₃ (sliceVal (b·nodes, o·nodes) (length nodes)) (holds (sliceTy (tyRef (named 0) imm (pointee (u8 .written)))) l₂ (sliceVal (b·pages, o·pages) (length pages)) (holds (tyAt (code.function .locals) 1) l₁ (Store′.mach s) (empty tyUnit l₀ []))))))))))))))))))) $
-        assigns-last ! (bin ! (load ! (from ! (stop !)) (look ! 24 refl)) (load ! (from ! (fld ! refl (stop !))) (look-in ! 22 (sub ! 2 refl (whole !)))) record { fits = Facts.add-2 s pages nodes register x-v offset len x-from buffer ok·s (room·pages .0) (room·nodes .0) (room·register .0) ok·x-v ok·offset (ok·len .1) (ok·x-from .1) (room·buffer .0) need v10 buffer-now ((f·1 .0) .1) (f·1 .1 .0) (f·1 .1 .1) (is-true (ltb v10 len) h·1) (ltb→lt v10 len h·1) ok·1 ok·2 (ok·3 .1) same·4-buffer }) (from ! (stop !)) (store ! 24 refl (tt, record { fits = Facts.add-2 s pages nodes register x-v offset len x-from buffer ok·s (room·pages .0) (room·nodes .0) (room·register .0) ok·x-v ok·offset (ok·len .1) (ok·x-from .1) (room·buffer .0) need v10 buffer-now ((f·1 .0) .1) (f·1 .1 .0) (f·1 .1 .1) (is-true (ltb v10 len) h·1) (ltb→lt v10 len h·1) ok·1 ok·2 (ok·3 .1) same·4-buffer })) $
+        Call-copy-page.calls ! mem run (fmOf 𝓤 H (W .laws) 𝓣) known-copy-page κ·pages q·pages b·pages o·pages γ·pages (length pages) pages size (r3 size count pages nodes register c offset len x-from buffer v11 buffer-now) ((r1 size count pages nodes register c offset len x-from buffer v11 buffer-now) .from) ((r1 size count pages nodes register c offset len x-from buffer v11 buffer-now) .count) (ν·4-buffer ∷ []) fullShare b·buffer o·buffer γ·4-buffer (length buffer) buffer-now v11 ok·size ok·3 (Chunk′.ok-from (r1 size count pages nodes register c offset len x-from buffer v11 buffer-now) ok·1) (Chunk′.ok-count (r1 size count pages nodes register c offset len x-from buffer v11 buffer-now) ok·1) (f·1 .0) (and-then ! (load ! (from ! (stop !)) (look ! 39 refl)) (and-then ! (load ! (from ! (stop !)) (look ! 43 refl)) (and-then ! (load ! (from ! (stop !)) (look ! 11 refl)) (and-then ! (load ! (from ! (fld ! refl (stop !))) (look-in ! 21 (sub ! 1 refl (whole !)))) (and-then ! (load ! (from ! (fld ! refl (stop !))) (look-in ! 21 (sub ! 2 refl (whole !)))) (and-then ! (load ! (from ! (stop !)) (look ! 7 refl)) (and-then ! (load ! (from ! (stop !)) (look ! 23 refl)) (no-more !))))))))
+        (λ ok·4 same·4-buffer. move ! (2 ∷ 3 ∷ 4 ∷ []) $ back-mut ! tt u8 κ·buffer q·buffer b·buffer o·buffer γ·buffer (length buffer) buffer-now (buffer₄ size count pages nodes register c offset len x-from buffer v11 buffer-now) ν·4-buffer γ·4-buffer (f·1 .1 .0) same·4-buffer room·buffer $ move ! (2 ∷ 3 ∷ 4 ∷ 5 ∷ 6 ∷ 7 ∷ 0 ∷ 1 ∷ []) $ land ! (from ! (stop !)) (store ! 18 refl (tt, tt)) $
+        here ! (‵ (flft κ·pages q·pages) ∷ ‵ (ShrAt u8 κ·pages b·pages o·pages γ·pages (length pages) pages) ∷ ‵ (flft κ·nodes q·nodes) ∷ ‵ (ShrAt u32 κ·nodes b·nodes o·nodes γ·nodes (length nodes) nodes) ∷ ‵ (flft κ·register q·register) ∷ ‵ (ShrAt Record′.row κ·register b·register o·register γ·register (length register) register) ∷ ‵ (flft κ·buffer q·buffer) ∷ ‵ (MutAt u8 κ·buffer b·buffer o·buffer γ·buffer (length buffer) (buffer₄ size count pages nodes register c offset len x-from buffer v11 buffer-now)) ∷ holds (sliceTy (tyRef erased mut (pointee (u8 .written)))) l₁₉ (sliceVal (b·buffer, o·buffer) (length buffer)) (holds (tyRef erased mut (pointee (u8 .written))) l₁₈ (vptr b·buffer o·buffer) (holds (tyInt w64) l₁₇ (vint w64 (r3 size count pages nodes register c offset len x-from buffer v11 buffer-now)) (holds (tyAt (code.function .locals) 16) l₁₆ (ByteOffset′.mach (ByteOffset′.build ((offset .0) + v11))) (holds (tyInt w64) l₁₅ (vint w64 ((offset .0) + v11)) (holds tyBool l₁₄ (vbool (r4 size count pages nodes register c offset len x-from buffer v11 buffer-now)) (holds (tyAt (code.function .locals) 13) l₁₃ (Found′.mach (r2 size count pages nodes register c offset len x-from buffer v11 buffer-now)) (holds (tyAt (code.function .locals) 12) l₁₂ (Chunk′.mach (r1 size count pages nodes register c offset len x-from buffer v11 buffer-now)) (holds (tyInt w64) l₁₁ (vint w64 v11) (holds (sliceTy (tyRef (named 3) mut (pointee (u8 .written)))) l₁₀ (sliceVal (b·buffer, o·buffer) (length buffer)) (holds (tyInt w64) l₉ (vint w64 x-from) (holds (tyInt w64) l₈ (vint w64 len) (holds (tyAt (code.function .locals) 7) l₇ (ByteOffset′.mach offset) (holds (tyInt w64) l₆ (vint w64 c) (holds (sliceTy (tyRef (named 2) imm (pointee (Record′.row .written)))) l₅ (sliceVal (b·register, o·register) (length register)) (holds (sliceTy (tyRef (named 1) imm (pointee (u32 .written)))) l₄ (sliceVal (b·nodes, o·nodes) (length nodes)) (holds (sliceTy (tyRef (named 0) imm (pointee (u8 .written)))) l₃ (sliceVal (b·pages, o·pages) (length pages)) (holds (tyInt w64) l₂ (vint w64 count) (holds (tyInt w64) l₁ (vint w64 size) (empty tyUnit l₀ [])))))))))))))))))))) $
+        assigns-last ! (bin ! (load ! (from ! (stop !)) (look ! 24 refl)) (load ! (from ! (fld ! refl (stop !))) (look-in ! 22 (sub ! 2 refl (whole !)))) record { fits = Facts.add-2 size count pages nodes register c offset len x-from buffer (ok·size .1) (ok·count .1) (room·pages .0) (room·nodes .0) (room·register .0) (ok·c .1) ok·offset (ok·len .1) (ok·x-from .1) (room·buffer .0) need v11 buffer-now ((f·1 .0) .1) (f·1 .1 .0) (f·1 .1 .1) (is-true (ltb v11 len) h·1) (ltb→lt v11 len h·1) ok·1 ok·2 (ok·3 .1) same·4-buffer }) (from ! (stop !)) (store ! 24 refl (tt, record { fits = Facts.add-2 size count pages nodes register c offset len x-from buffer (ok·size .1) (ok·count .1) (room·pages .0) (room·nodes .0) (room·register .0) (ok·c .1) ok·offset (ok·len .1) (ok·x-from .1) (room·buffer .0) need v11 buffer-now ((f·1 .0) .1) (f·1 .1 .0) (f·1 .1 .1) (is-true (ltb v11 len) h·1) (ltb→lt v11 len h·1) ok·1 ok·2 (ok·3 .1) same·4-buffer })) $
         forget ! 22 refl $ forget ! 20 refl $ forget ! 18 refl $ forget ! 16 refl $ forget ! 14 refl $ forget ! 12 refl $ forget ! 10 refl $ forget ! 8 refl $
-        use0 W (raw (fact 𝓤 ((Is u64 (v10 + ((r1 s pages nodes register x-v offset len x-from buffer v10 buffer-now) .count)) (uint-vals w64 (v10 + ((r1 s pages nodes register x-v offset len x-from buffer v10 buffer-now) .count)))) × ((length buffer ≡ length (buffer₄ s pages nodes register x-v offset len x-from buffer v10 buffer-now)) × (Loop.inv-1 s pages nodes register x-v offset len x-from buffer (v10 + ((r1 s pages nodes register x-v offset len x-from buffer v10 buffer-now) .count)) (buffer₄ s pages nodes register x-v offset len x-from buffer v10 buffer-now)))))) (factI 𝓤 _ (emp 𝓤) ((refl, Facts.add-2 s pages nodes register x-v offset len x-from buffer ok·s (room·pages .0) (room·nodes .0) (room·register .0) ok·x-v ok·offset (ok·len .1) (ok·x-from .1) (room·buffer .0) need v10 buffer-now ((f·1 .0) .1) (f·1 .1 .0) (f·1 .1 .1) (is-true (ltb v10 len) h·1) (ltb→lt v10 len h·1) ok·1 ok·2 (ok·3 .1) same·4-buffer), ((f·1 .1 .0 ∙ sym same·4-buffer), Facts.again-1 s pages nodes register x-v offset len x-from buffer ok·s (room·pages .0) (room·nodes .0) (room·register .0) ok·x-v ok·offset (ok·len .1) (ok·x-from .1) (room·buffer .0) need v10 buffer-now ((f·1 .0) .1) (f·1 .1 .0) (f·1 .1 .1) (is-true (ltb v10 len) h·1) (ltb→lt v10 len h·1) ok·1 ok·2 (ok·3 .1) same·4-buffer))) $ again ! lesser I (v10, (buffer-now, tt)) (v10 + ((r1 s pages nodes register x-v offset len x-from buffer v10 buffer-now) .count), (buffer₄ s pages nodes register x-v offset len x-from buffer v10 buffer-now, tt)) (Facts.less-1 s pages nodes register x-v offset len x-from buffer ok·s (room·pages .0) (room·nodes .0) (room·register .0) ok·x-v ok·offset (ok·len .1) (ok·x-from .1) (room·buffer .0) need v10 buffer-now ((f·1 .0) .1) (f·1 .1 .0) (f·1 .1 .1) (is-true (ltb v10 len) h·1) (ltb→lt v10 len h·1) ok·1 ok·2 (ok·3 .1) same·4-buffer)))))))
+        use0 W (raw (fact 𝓤 ((Is u64 (v11 + ((r1 size count pages nodes register c offset len x-from buffer v11 buffer-now) .count)) (uint-vals w64 (v11 + ((r1 size count pages nodes register c offset len x-from buffer v11 buffer-now) .count)))) × ((length buffer ≡ length (buffer₄ size count pages nodes register c offset len x-from buffer v11 buffer-now)) × (Loop.inv-1 size count pages nodes register c offset len x-from buffer (v11 + ((r1 size count pages nodes register c offset len x-from buffer v11 buffer-now) .count)) (buffer₄ size count pages nodes register c offset len x-from buffer v11 buffer-now)))))) (factI 𝓤 _ (emp 𝓤) ((refl, Facts.add-2 size count pages nodes register c offset len x-from buffer (ok·size .1) (ok·count .1) (room·pages .0) (room·nodes .0) (room·register .0) (ok·c .1) ok·offset (ok·len .1) (ok·x-from .1) (room·buffer .0) need v11 buffer-now ((f·1 .0) .1) (f·1 .1 .0) (f·1 .1 .1) (is-true (ltb v11 len) h·1) (ltb→lt v11 len h·1) ok·1 ok·2 (ok·3 .1) same·4-buffer), ((f·1 .1 .0 ∙ sym same·4-buffer), Facts.again-1 size count pages nodes register c offset len x-from buffer (ok·size .1) (ok·count .1) (room·pages .0) (room·nodes .0) (room·register .0) (ok·c .1) ok·offset (ok·len .1) (ok·x-from .1) (room·buffer .0) need v11 buffer-now ((f·1 .0) .1) (f·1 .1 .0) (f·1 .1 .1) (is-true (ltb v11 len) h·1) (ltb→lt v11 len h·1) ok·1 ok·2 (ok·3 .1) same·4-buffer))) $ again ! lesser I (v11, (buffer-now, tt)) (v11 + ((r1 size count pages nodes register c offset len x-from buffer v11 buffer-now) .count), (buffer₄ size count pages nodes register c offset len x-from buffer v11 buffer-now, tt)) (Facts.less-1 size count pages nodes register c offset len x-from buffer (ok·size .1) (ok·count .1) (room·pages .0) (room·nodes .0) (room·register .0) (ok·c .1) ok·offset (ok·len .1) (ok·x-from .1) (room·buffer .0) need v11 buffer-now ((f·1 .0) .1) (f·1 .1 .0) (f·1 .1 .1) (is-true (ltb v11 len) h·1) (ltb→lt v11 len h·1) ok·1 ok·2 (ok·3 .1) same·4-buffer)))))))
         (λ h·1. first ! $ jumps ! $ exec ! (𝓣 .C) (𝓣 .Λ) E parts.t-3 (atRet E Post) $
-        assigns ! (of-opd ! (unit-lit !)) (from ! (stop !)) (init ! 44 refl (tt, tt)) $
-        returns ! (look ! 44 refl) $
-        move ! (44 ∷ 45 ∷ []) $ forget ! 0 refl $ free1 ! $ move ! (42 ∷ 43 ∷ []) $ forget ! 0 refl $ free1 ! $ move ! (40 ∷ 41 ∷ []) $ forget ! 0 refl $ free1 ! $ move ! (38 ∷ 39 ∷ []) $ forget ! 0 refl $ free1 ! $ move ! (36 ∷ 37 ∷ []) $ forget ! 0 refl $ free1 ! $ move ! (34 ∷ 35 ∷ []) $ forget ! 0 refl $ free1 ! $ move ! (32 ∷ 33 ∷ []) $ forget ! 0 refl $ free1 ! $ move ! (30 ∷ 31 ∷ []) $ forget ! 0 refl $ free1 ! $ move ! (28 ∷ 29 ∷ []) $ forget ! 0 refl $ free1 ! $ move ! (26 ∷ 27 ∷ []) $ forget ! 0 refl $ free1 ! $ move ! (24 ∷ 25 ∷ []) $ forget ! 0 refl $ free1 ! $ move ! (22 ∷ 23 ∷ []) $ free1 ! $ move ! (20 ∷ 21 ∷ []) $ free1 ! $ move ! (18 ∷ 19 ∷ []) $ forget ! 0 refl $ free1 ! $ move ! (16 ∷ 17 ∷ []) $ free1 ! $ move ! (14 ∷ 15 ∷ []) $ free1 ! $ move ! (12 ∷ 13 ∷ []) $ free1 ! $ move ! (10 ∷ 11 ∷ []) $ free1 ! $ move ! (8 ∷ 9 ∷ []) $ free1 ! $ free0 ! $ by ! (exits buffer-now (sym (f·1 .1 .0)) (Facts.exit-1 s pages nodes register x-v offset len x-from buffer ok·s (room·pages .0) (room·nodes .0) (room·register .0) ok·x-v ok·offset (ok·len .1) (ok·x-from .1) (room·buffer .0) need v10 buffer-now ((f·1 .0) .1) (f·1 .1 .0) (f·1 .1 .1) (is-false (ltb v10 len) h·1) (nltb→le v10 len h·1)))))
+        assigns ! (of-opd ! (unit-lit !)) (from ! (stop !)) (init ! 46 refl (tt, tt)) $
+        returns ! (look ! 46 refl) $
+        move ! (46 ∷ 47 ∷ []) $ forget ! 0 refl $ free1 ! $ move ! (44 ∷ 45 ∷ []) $ forget ! 0 refl $ free1 ! $ move ! (42 ∷ 43 ∷ []) $ forget ! 0 refl $ free1 ! $ move ! (40 ∷ 41 ∷ []) $ forget ! 0 refl $ free1 ! $ move ! (38 ∷ 39 ∷ []) $ forget ! 0 refl $ free1 ! $ move ! (36 ∷ 37 ∷ []) $ forget ! 0 refl $ free1 ! $ move ! (34 ∷ 35 ∷ []) $ forget ! 0 refl $ free1 ! $ move ! (32 ∷ 33 ∷ []) $ forget ! 0 refl $ free1 ! $ move ! (30 ∷ 31 ∷ []) $ forget ! 0 refl $ free1 ! $ move ! (28 ∷ 29 ∷ []) $ forget ! 0 refl $ free1 ! $ move ! (26 ∷ 27 ∷ []) $ forget ! 0 refl $ free1 ! $ move ! (24 ∷ 25 ∷ []) $ forget ! 0 refl $ free1 ! $ move ! (22 ∷ 23 ∷ []) $ free1 ! $ move ! (20 ∷ 21 ∷ []) $ free1 ! $ move ! (18 ∷ 19 ∷ []) $ forget ! 0 refl $ free1 ! $ move ! (16 ∷ 17 ∷ []) $ free1 ! $ move ! (14 ∷ 15 ∷ []) $ free1 ! $ move ! (12 ∷ 13 ∷ []) $ free1 ! $ move ! (10 ∷ 11 ∷ []) $ free1 ! $ move ! (8 ∷ 9 ∷ []) $ free1 ! $ free0 ! $ by ! (exits buffer-now (sym (f·1 .1 .0)) (Facts.exit-1 size count pages nodes register c offset len x-from buffer (ok·size .1) (ok·count .1) (room·pages .0) (room·nodes .0) (room·register .0) (ok·c .1) ok·offset (ok·len .1) (ok·x-from .1) (room·buffer .0) need v11 buffer-now ((f·1 .0) .1) (f·1 .1 .0) (f·1 .1 .1) (is-false (ltb v11 len) h·1) (nltb→le v11 len h·1)))))
 
   walk : (𝓣 : Tables 𝓤 H) (known-chunk-at : Triple 𝓤 (𝓣 .C #chunk-at) (Call-chunk-at.Asked 𝓤 H A mem run)) (known-find-page : Triple 𝓤 (𝓣 .C #find-page) (Call-find-page.Asked 𝓤 H A mem run)) (known-number-found : Triple 𝓤 (𝓣 .C #number-found) (Call-number-found.Asked 𝓤 H A mem run)) (known-copy-page : Triple 𝓤 (𝓣 .C #copy-page) (Call-copy-page.Asked 𝓤 H A mem run)) → ent 𝓤 (onEntry 𝓤 H A copy-range‴.signature (κ·pages, (κ·nodes, (κ·register, (κ·buffer, tt)))) (q·pages, (q·nodes, (q·register, (q·buffer, tt)))) all-args all-vals)
-      (WpFn 𝓤 H (𝓣 .C) (𝓣 .Λ) code.function (Store′.mach s ∷ sliceVal (b·pages, o·pages) (length pages) ∷ sliceVal (b·nodes, o·nodes) (length nodes) ∷ sliceVal (b·register, o·register) (length register) ∷ Version′.mach x-v ∷ ByteOffset′.mach offset ∷ vint w64 len ∷ vint w64 x-from ∷ sliceVal (b·buffer, o·buffer) (length buffer) ∷ []) Post)
+      (WpFn 𝓤 H (𝓣 .C) (𝓣 .Λ) code.function (vint w64 size ∷ vint w64 count ∷ sliceVal (b·pages, o·pages) (length pages) ∷ sliceVal (b·nodes, o·nodes) (length nodes) ∷ sliceVal (b·register, o·register) (length register) ∷ vint w64 c ∷ ByteOffset′.mach offset ∷ vint w64 len ∷ vint w64 x-from ∷ sliceVal (b·buffer, o·buffer) (length buffer) ∷ []) Post)
   walk 𝓣 known-chunk-at known-find-page known-number-found known-copy-page =
-      qed W ((‵ (flft κ·pages q·pages) ⊛ ‵ (flft κ·nodes q·nodes) ⊛ ‵ (flft κ·register q·register) ⊛ ‵ (flft κ·buffer q·buffer) ⊛ ‵ ftrue) ∷ ‵ (owns (Store′.row ∷ ShrSlice (named 0) κ·pages u8 ∷ ShrSlice (named 0) κ·nodes u32 ∷ ShrSlice (named 0) κ·register Record′.row ∷ Version′.row ∷ ByteOffset′.row ∷ u64 ∷ u64 ∷ MutSlice (named 0) κ·buffer u8 ∷ []) all-args all-vals) ∷ []) ∵ enter ! (𝓣 .C) (𝓣 .Λ) code.function (Store′.mach s ∷ sliceVal (b·pages, o·pages) (length pages) ∷ sliceVal (b·nodes, o·nodes) (length nodes) ∷ sliceVal (b·register, o·register) (length register) ∷ Version′.mach x-v ∷ ByteOffset′.mach offset ∷ vint w64 len ∷ vint w64 x-from ∷ sliceVal (b·buffer, o·buffer) (length buffer) ∷ []) _ $
-      alloc1 ! (λ l₀. alloc1 ! (λ l₁. alloc1 ! (λ l₂. alloc1 ! (λ l₃. alloc1 ! (λ l₄. alloc1 ! (λ l₅. alloc1 ! (λ l₆. alloc1 ! (λ l₇. alloc1 ! (λ l₈. alloc1 ! (λ l₉. alloc1 ! (λ l₁₀. alloc1 ! (λ l₁₁. alloc1 ! (λ l₁₂. alloc1 ! (λ l₁₃. alloc1 ! (λ l₁₄. alloc1 ! (λ l₁₅. alloc1 ! (λ l₁₆. alloc1 ! (λ l₁₇. alloc1 ! (λ l₁₈. alloc0 ! $ params1 ! $
-      pass1 ! (init ! 34 refl (Store′.typed 𝓤 H A W s ok·s)) $ pass1 ! (init ! 32 refl (tt, (tt, (record { fits = room·pages .0 }, tt)))) $ pass1 ! (init ! 30 refl (tt, (tt, (record { fits = room·nodes .0 }, tt)))) $ pass1 ! (init ! 28 refl (tt, (tt, (record { fits = room·register .0 }, tt)))) $ pass1 ! (init ! 26 refl (Version′.typed 𝓤 H A W x-v ok·x-v)) $ pass1 ! (init ! 24 refl (ByteOffset′.typed 𝓤 H A W offset ok·offset)) $ pass1 ! (init ! 22 refl (tt, record { fits = ok·len .1 })) $ pass1 ! (init ! 20 refl (tt, record { fits = ok·x-from .1 })) $ pass1 ! (init ! 18 refl (tt, (tt, (record { fits = room·buffer .0 }, tt)))) $ pass0 ! $
-      move ! (39 ∷ []) $ fsplit ! $ drop ! $ fsplit ! $ move ! (1 ∷ []) $ fsplit ! $ move ! (1 ∷ []) $ fsplit ! $ move ! (1 ∷ []) $ fsplit ! $ drop ! $ fsplit ! $ drop ! $ fsplit ! $ drop ! $ fsplit ! $ drop ! $ fsplit ! $ move ! (1 ∷ []) $ drop ! $ move ! (42 ∷ []) $ split ! $ move ! (1 ∷ []) $ split ! $ move ! (1 ∷ []) $ split ! $ move ! (1 ∷ []) $ split ! $ move ! (1 ∷ []) $ drop ! $ move ! (3 ∷ 7 ∷ 2 ∷ 6 ∷ 1 ∷ 5 ∷ 0 ∷ 4 ∷ []) $
+      qed W ((‵ (flft κ·pages q·pages) ⊛ ‵ (flft κ·nodes q·nodes) ⊛ ‵ (flft κ·register q·register) ⊛ ‵ (flft κ·buffer q·buffer) ⊛ ‵ ftrue) ∷ ‵ (owns (u64 ∷ u64 ∷ ShrSlice (named 0) κ·pages u8 ∷ ShrSlice (named 0) κ·nodes u32 ∷ ShrSlice (named 0) κ·register Record′.row ∷ u64 ∷ ByteOffset′.row ∷ u64 ∷ u64 ∷ MutSlice (named 0) κ·buffer u8 ∷ []) all-args all-vals) ∷ []) ∵ enter ! (𝓣 .C) (𝓣 .Λ) code.function (vint w64 size ∷ vint w64 count ∷ sliceVal (b·pages, o·pages) (length pages) ∷ sliceVal (b·nodes, o·nodes) (length nodes) ∷ sliceVal (b·register, o·register) (length register) ∷ vint w64 c ∷ ByteOffset′.mach offset ∷ vint w64 len ∷ vint w64 x-from ∷ sliceVal (b·buffer, o·buffer) (length buffer) ∷ []) _ $
+      alloc1 ! (λ l₀. alloc1 ! (λ l₁. alloc1 ! (λ l₂. alloc1 ! (λ l₃. alloc1 ! (λ l₄. alloc1 ! (λ l₅. alloc1 ! (λ l₆. alloc1 ! (λ l₇. alloc1 ! (λ l₈. alloc1 ! (λ l₉. alloc1 ! (λ l₁₀. alloc1 ! (λ l₁₁. alloc1 ! (λ l₁₂. alloc1 ! (λ l₁₃. alloc1 ! (λ l₁₄. alloc1 ! (λ l₁₅. alloc1 ! (λ l₁₆. alloc1 ! (λ l₁₇. alloc1 ! (λ l₁₈. alloc1 ! (λ l₁₉. alloc0 ! $ params1 ! $
+      pass1 ! (init ! 36 refl (tt, record { fits = ok·size .1 })) $ pass1 ! (init ! 34 refl (tt, record { fits = ok·count .1 })) $ pass1 ! (init ! 32 refl (tt, (tt, (record { fits = room·pages .0 }, tt)))) $ pass1 ! (init ! 30 refl (tt, (tt, (record { fits = room·nodes .0 }, tt)))) $ pass1 ! (init ! 28 refl (tt, (tt, (record { fits = room·register .0 }, tt)))) $ pass1 ! (init ! 26 refl (tt, record { fits = ok·c .1 })) $ pass1 ! (init ! 24 refl (ByteOffset′.typed 𝓤 H A W offset ok·offset)) $ pass1 ! (init ! 22 refl (tt, record { fits = ok·len .1 })) $ pass1 ! (init ! 20 refl (tt, record { fits = ok·x-from .1 })) $ pass1 ! (init ! 18 refl (tt, (tt, (record { fits = room·buffer .0 }, tt)))) $ pass0 ! $
+      move ! (41 ∷ []) $ fsplit ! $ drop ! $ fsplit ! $ drop ! $ fsplit ! $ move ! (1 ∷ []) $ fsplit ! $ move ! (1 ∷ []) $ fsplit ! $ move ! (1 ∷ []) $ fsplit ! $ drop ! $ fsplit ! $ drop ! $ fsplit ! $ drop ! $ fsplit ! $ drop ! $ fsplit ! $ move ! (1 ∷ []) $ drop ! $ move ! (44 ∷ []) $ split ! $ move ! (1 ∷ []) $ split ! $ move ! (1 ∷ []) $ split ! $ move ! (1 ∷ []) $ split ! $ move ! (1 ∷ []) $ drop ! $ move ! (3 ∷ 7 ∷ 2 ∷ 6 ∷ 1 ∷ 5 ∷ 0 ∷ 4 ∷ []) $
       assigns ! (of-opd ! (load ! (from ! (stop !)) (look ! 28 refl))) (from ! (stop !)) (init ! 24 refl (tt, record { fits = ok·x-from .1 })) $
-      here ! (‵ (flft κ·pages q·pages) ∷ ‵ (ShrAt u8 κ·pages b·pages o·pages γ·pages (length pages) pages) ∷ ‵ (flft κ·nodes q·nodes) ∷ ‵ (ShrAt u32 κ·nodes b·nodes o·nodes γ·nodes (length nodes) nodes) ∷ ‵ (flft κ·register q·register) ∷ ‵ (ShrAt Record′.row κ·register b·register o·register γ·register (length register) register) ∷ ‵ (flft κ·buffer q·buffer) ∷ ‵ (MutAt u8 κ·buffer b·buffer o·buffer γ·buffer (length buffer) buffer) ∷ empty (sliceTy (tyRef erased mut (pointee (u8 .written)))) l₁₈ (empty (tyRef erased mut (pointee (u8 .written))) l₁₇ (empty (tyInt w64) l₁₆ (empty (tyAt (code.function .locals) 15) l₁₅ (empty (tyInt w64) l₁₄ (empty tyBool l₁₃ (empty (tyAt (code.function .locals) 12) l₁₂ (empty (tyAt (code.function .locals) 11) l₁₁ (holds (tyInt w64) l₁₀ (vint w64 x-from) (holds (sliceTy (tyRef (named 3) mut (pointee (u8 .written)))) l₉ (sliceVal (b·buffer, o·buffer) (length buffer)) (holds (tyInt w64) l₈ (vint w64 x-from) (holds (tyInt w64) l₇ (vint w64 len) (holds (tyAt (code.function .locals) 6) l₆ (ByteOffset′.mach offset) (holds (tyAt (code.function .locals) 5) l₅ (Version′.mach x-v) (holds (sliceTy (tyRef (named 2) imm (pointee (Record′.row .written)))) l₄ (sliceVal (b·register, o·register) (length register)) (holds (sliceTy (tyRef (named 1) imm (pointee (u32 .written)))) l₃ (sliceVal (b·nodes, o·nodes) (length nodes)) (holds (sliceTy (tyRef (named 0) imm (pointee (u8 .written)))) l₂ (sliceVal (b·pages, o·pages) (length pages)) (holds (tyAt (code.function .locals) 1) l₁ (Store′.mach s) (empty tyUnit l₀ []))))))))))))))))))) $
-      first ! $ blocks ! $ use0 W (raw (fact 𝓤 ((Is u64 x-from (uint-vals w64 x-from)) × ((length buffer ≡ length buffer) × (Loop.inv-1 s pages nodes register x-v offset len x-from buffer x-from buffer))))) (factI 𝓤 _ (emp 𝓤) (ok·x-from, (refl, Facts.start-1 s pages nodes register x-v offset len x-from buffer ok·s (room·pages .0) (room·nodes .0) (room·register .0) ok·x-v ok·offset (ok·len .1) (ok·x-from .1) (room·buffer .0) need))) $
-      loops ! 𝓣 (lesser 𝓣 known-chunk-at known-find-page known-number-found known-copy-page l₀ l₁ l₂ l₃ l₄ l₅ l₆ l₇ l₈ l₉ l₁₀ l₁₁ l₁₂ l₁₃ l₁₄ l₁₅ l₁₆ l₁₇ l₁₈) (falls 𝓣 known-chunk-at known-find-page known-number-found known-copy-page l₀ l₁ l₂ l₃ l₄ l₅ l₆ l₇ l₈ l₉ l₁₀ l₁₁ l₁₂ l₁₃ l₁₄ l₁₅ l₁₆ l₁₇ l₁₈) (I 𝓣 known-chunk-at known-find-page known-number-found known-copy-page l₀ l₁ l₂ l₃ l₄ l₅ l₆ l₇ l₈ l₉ l₁₀ l₁₁ l₁₂ l₁₃ l₁₄ l₁₅ l₁₆ l₁₇ l₁₈) (λ t. turn 𝓣 known-chunk-at known-find-page known-number-found known-copy-page l₀ l₁ l₂ l₃ l₄ l₅ l₆ l₇ l₈ l₉ l₁₀ l₁₁ l₁₂ l₁₃ l₁₄ l₁₅ l₁₆ l₁₇ l₁₈ (t .0) (t .1 .0)) (x-from, (buffer, tt)))))))))))))))))))))
+      here ! (‵ (flft κ·pages q·pages) ∷ ‵ (ShrAt u8 κ·pages b·pages o·pages γ·pages (length pages) pages) ∷ ‵ (flft κ·nodes q·nodes) ∷ ‵ (ShrAt u32 κ·nodes b·nodes o·nodes γ·nodes (length nodes) nodes) ∷ ‵ (flft κ·register q·register) ∷ ‵ (ShrAt Record′.row κ·register b·register o·register γ·register (length register) register) ∷ ‵ (flft κ·buffer q·buffer) ∷ ‵ (MutAt u8 κ·buffer b·buffer o·buffer γ·buffer (length buffer) buffer) ∷ empty (sliceTy (tyRef erased mut (pointee (u8 .written)))) l₁₉ (empty (tyRef erased mut (pointee (u8 .written))) l₁₈ (empty (tyInt w64) l₁₇ (empty (tyAt (code.function .locals) 16) l₁₆ (empty (tyInt w64) l₁₅ (empty tyBool l₁₄ (empty (tyAt (code.function .locals) 13) l₁₃ (empty (tyAt (code.function .locals) 12) l₁₂ (holds (tyInt w64) l₁₁ (vint w64 x-from) (holds (sliceTy (tyRef (named 3) mut (pointee (u8 .written)))) l₁₀ (sliceVal (b·buffer, o·buffer) (length buffer)) (holds (tyInt w64) l₉ (vint w64 x-from) (holds (tyInt w64) l₈ (vint w64 len) (holds (tyAt (code.function .locals) 7) l₇ (ByteOffset′.mach offset) (holds (tyInt w64) l₆ (vint w64 c) (holds (sliceTy (tyRef (named 2) imm (pointee (Record′.row .written)))) l₅ (sliceVal (b·register, o·register) (length register)) (holds (sliceTy (tyRef (named 1) imm (pointee (u32 .written)))) l₄ (sliceVal (b·nodes, o·nodes) (length nodes)) (holds (sliceTy (tyRef (named 0) imm (pointee (u8 .written)))) l₃ (sliceVal (b·pages, o·pages) (length pages)) (holds (tyInt w64) l₂ (vint w64 count) (holds (tyInt w64) l₁ (vint w64 size) (empty tyUnit l₀ [])))))))))))))))))))) $
+      first ! $ blocks ! $ use0 W (raw (fact 𝓤 ((Is u64 x-from (uint-vals w64 x-from)) × ((length buffer ≡ length buffer) × (Loop.inv-1 size count pages nodes register c offset len x-from buffer x-from buffer))))) (factI 𝓤 _ (emp 𝓤) (ok·x-from, (refl, Facts.start-1 size count pages nodes register c offset len x-from buffer (ok·size .1) (ok·count .1) (room·pages .0) (room·nodes .0) (room·register .0) (ok·c .1) ok·offset (ok·len .1) (ok·x-from .1) (room·buffer .0) need))) $
+      loops ! 𝓣 (lesser 𝓣 known-chunk-at known-find-page known-number-found known-copy-page l₀ l₁ l₂ l₃ l₄ l₅ l₆ l₇ l₈ l₉ l₁₀ l₁₁ l₁₂ l₁₃ l₁₄ l₁₅ l₁₆ l₁₇ l₁₈ l₁₉) (falls 𝓣 known-chunk-at known-find-page known-number-found known-copy-page l₀ l₁ l₂ l₃ l₄ l₅ l₆ l₇ l₈ l₉ l₁₀ l₁₁ l₁₂ l₁₃ l₁₄ l₁₅ l₁₆ l₁₇ l₁₈ l₁₉) (I 𝓣 known-chunk-at known-find-page known-number-found known-copy-page l₀ l₁ l₂ l₃ l₄ l₅ l₆ l₇ l₈ l₉ l₁₀ l₁₁ l₁₂ l₁₃ l₁₄ l₁₅ l₁₆ l₁₇ l₁₈ l₁₉) (λ t. turn 𝓣 known-chunk-at known-find-page known-number-found known-copy-page l₀ l₁ l₂ l₃ l₄ l₅ l₆ l₇ l₈ l₉ l₁₀ l₁₁ l₁₂ l₁₃ l₁₄ l₁₅ l₁₆ l₁₇ l₁₈ l₁₉ (t .0) (t .1 .0)) (x-from, (buffer, tt))))))))))))))))))))))
 
 module _ {M : Type 1} (𝓤 : URA M) (H : Heap 𝓤) (A : Atoms 𝓤) (W : Given 𝓤 H A) (mem : Memory → SProp 𝓤) (run : Routine → Fun 𝓤) where
   walks : (𝓣 : Tables 𝓤 H) → Triple 𝓤 (𝓣 .C #chunk-at) (Call-chunk-at.Asked 𝓤 H A mem run) → Triple 𝓤 (𝓣 .C #find-page) (Call-find-page.Asked 𝓤 H A mem run) → Triple 𝓤 (𝓣 .C #number-found) (Call-number-found.Asked 𝓤 H A mem run) → Triple 𝓤 (𝓣 .C #copy-page) (Call-copy-page.Asked 𝓤 H A mem run) → Walks 𝓤 H A copy-range‴.ended stayed (WpFn 𝓤 H (𝓣 .C) (𝓣 .Λ) code.function) (copy-range‴.clauses 𝓤 H A mem run)
-  walks 𝓣 known-chunk-at known-find-page known-number-found known-copy-page = walked 𝓤 H A copy-range‴.ended stayed (copy-range‴.clauses 𝓤 H A mem run) (WpFn 𝓤 H (𝓣 .C) (𝓣 .Λ) code.function) (λ κs. (Store′.vals, (slice-vals, (slice-vals, (slice-vals, (Version′.vals, (ByteOffset′.vals, (uint-vals w64, (uint-vals w64, (slice-vals, tt)))))))))) (λ κs. (Store′.tells, (shr-slice-tells (named 0) (κs .0) u8, (shr-slice-tells (named 0) (κs .1 .0) u32, (shr-slice-tells (named 0) (κs .1 .1 .0) Record′.row, (Version′.tells, (ByteOffset′.tells, (uint-tells w64, (uint-tells w64, (mut-slice-tells (named 0) (κs .1 .1 .1 .0) u8, tt))))))))))
-      (λ κs qs bounds a g are. needs 𝓤 (copy-range″.req (a .0) (a .1 .0 .now) (a .1 .1 .0 .now) (a .1 .1 .1 .0 .now) (a .1 .1 .1 .1 .0) (a .1 .1 .1 .1 .1 .0) (a .1 .1 .1 .1 .1 .1 .0) (a .1 .1 .1 .1 .1 .1 .1 .0) (a .1 .1 .1 .1 .1 .1 .1 .1 .0 .now)) _ (λ need. walk 𝓤 H A W mem run (a .0) (κs .0) (qs .0) (a .1 .0 .ptr .0) (a .1 .0 .ptr .1) (a .1 .0 .name) (a .1 .0 .now) (κs .1 .0) (qs .1 .0) (a .1 .1 .0 .ptr .0) (a .1 .1 .0 .ptr .1) (a .1 .1 .0 .name) (a .1 .1 .0 .now) (κs .1 .1 .0) (qs .1 .1 .0) (a .1 .1 .1 .0 .ptr .0) (a .1 .1 .1 .0 .ptr .1) (a .1 .1 .1 .0 .name) (a .1 .1 .1 .0 .now) (a .1 .1 .1 .1 .0) (a .1 .1 .1 .1 .1 .0) (a .1 .1 .1 .1 .1 .1 .0) (a .1 .1 .1 .1 .1 .1 .1 .0) (κs .1 .1 .1 .0) (qs .1 .1 .1 .0) (a .1 .1 .1 .1 .1 .1 .1 .1 .0 .ptr .0) (a .1 .1 .1 .1 .1 .1 .1 .1 .0 .ptr .1) (a .1 .1 .1 .1 .1 .1 .1 .1 .0 .name) (a .1 .1 .1 .1 .1 .1 .1 .1 .0 .now) (are .0) (are .1 .0 .0 .1) (are .1 .1 .0 .0 .1) (are .1 .1 .1 .0 .0 .1) (are .1 .1 .1 .1 .0) (are .1 .1 .1 .1 .1 .0) (are .1 .1 .1 .1 .1 .1 .0) (are .1 .1 .1 .1 .1 .1 .1 .0) (are .1 .1 .1 .1 .1 .1 .1 .1 .0 .0 .1) need 𝓣 known-chunk-at known-find-page known-number-found known-copy-page))
+  walks 𝓣 known-chunk-at known-find-page known-number-found known-copy-page = walked 𝓤 H A copy-range‴.ended stayed (copy-range‴.clauses 𝓤 H A mem run) (WpFn 𝓤 H (𝓣 .C) (𝓣 .Λ) code.function) (λ κs. (uint-vals w64, (uint-vals w64, (slice-vals, (slice-vals, (slice-vals, (uint-vals w64, (ByteOffset′.vals, (uint-vals w64, (uint-vals w64, (slice-vals, tt))))))))))) (λ κs. (uint-tells w64, (uint-tells w64, (shr-slice-tells (named 0) (κs .0) u8, (shr-slice-tells (named 0) (κs .1 .0) u32, (shr-slice-tells (named 0) (κs .1 .1 .0) Record′.row, (uint-tells w64, (ByteOffset′.tells, (uint-tells w64, (uint-tells w64, (mut-slice-tells (named 0) (κs .1 .1 .1 .0) u8, tt)))))))))))
+      (λ κs qs bounds a g are. needs 𝓤 (copy-range″.req (a .0) (a .1 .0) (a .1 .1 .0 .now) (a .1 .1 .1 .0 .now) (a .1 .1 .1 .1 .0 .now) (a .1 .1 .1 .1 .1 .0) (a .1 .1 .1 .1 .1 .1 .0) (a .1 .1 .1 .1 .1 .1 .1 .0) (a .1 .1 .1 .1 .1 .1 .1 .1 .0) (a .1 .1 .1 .1 .1 .1 .1 .1 .1 .0 .now)) _ (λ need. walk 𝓤 H A W mem run (a .0) (a .1 .0) (κs .0) (qs .0) (a .1 .1 .0 .ptr .0) (a .1 .1 .0 .ptr .1) (a .1 .1 .0 .name) (a .1 .1 .0 .now) (κs .1 .0) (qs .1 .0) (a .1 .1 .1 .0 .ptr .0) (a .1 .1 .1 .0 .ptr .1) (a .1 .1 .1 .0 .name) (a .1 .1 .1 .0 .now) (κs .1 .1 .0) (qs .1 .1 .0) (a .1 .1 .1 .1 .0 .ptr .0) (a .1 .1 .1 .1 .0 .ptr .1) (a .1 .1 .1 .1 .0 .name) (a .1 .1 .1 .1 .0 .now) (a .1 .1 .1 .1 .1 .0) (a .1 .1 .1 .1 .1 .1 .0) (a .1 .1 .1 .1 .1 .1 .1 .0) (a .1 .1 .1 .1 .1 .1 .1 .1 .0) (κs .1 .1 .1 .0) (qs .1 .1 .1 .0) (a .1 .1 .1 .1 .1 .1 .1 .1 .1 .0 .ptr .0) (a .1 .1 .1 .1 .1 .1 .1 .1 .1 .0 .ptr .1) (a .1 .1 .1 .1 .1 .1 .1 .1 .1 .0 .name) (a .1 .1 .1 .1 .1 .1 .1 .1 .1 .0 .now) (are .0) (are .1 .0) (are .1 .1 .0 .0 .1) (are .1 .1 .1 .0 .0 .1) (are .1 .1 .1 .1 .0 .0 .1) (are .1 .1 .1 .1 .1 .0) (are .1 .1 .1 .1 .1 .1 .0) (are .1 .1 .1 .1 .1 .1 .1 .0) (are .1 .1 .1 .1 .1 .1 .1 .1 .0) (are .1 .1 .1 .1 .1 .1 .1 .1 .1 .0 .0 .1) need 𝓣 known-chunk-at known-find-page known-number-found known-copy-page))
 
 meets : {M : Type 1} (𝓤 : URA M) (H : Heap 𝓤) (A : Atoms 𝓤) → Given 𝓤 H A → (mem : Memory → SProp 𝓤) (run : Routine → Fun 𝓤) (𝓣 : Tables 𝓤 H) → Triple 𝓤 (𝓣 .C #chunk-at) (Call-chunk-at.Asked 𝓤 H A mem run) → Triple 𝓤 (𝓣 .C #find-page) (Call-find-page.Asked 𝓤 H A mem run) → Triple 𝓤 (𝓣 .C #number-found) (Call-number-found.Asked 𝓤 H A mem run) → Triple 𝓤 (𝓣 .C #copy-page) (Call-copy-page.Asked 𝓤 H A mem run)
     → Meets 𝓤 H A copy-range‴.signature (WpFn 𝓤 H (𝓣 .C) (𝓣 .Λ) code.function) (copy-range‴.spec 𝓤 H A mem run)
 meets 𝓤 H A W mem run 𝓣 known-chunk-at known-find-page known-number-found known-copy-page =
-    walk-meets 𝓤 H A copy-range‴.ended stayed W (goes-none 𝓤 H A W 4 (λ _. Store′.row) yes (λ κs x f. refl), (goes-none-slice 𝓤 H A W 4 (0 ∷ []) tt (plain (λ _. u8)) yes, (goes-none-slice 𝓤 H A W 4 (1 ∷ []) tt (plain (λ _. u32)) yes, (goes-none-slice 𝓤 H A W 4 (2 ∷ []) tt (plain (λ _. Record′.row)) yes, (goes-none 𝓤 H A W 4 (λ _. Version′.row) yes (λ κs x f. refl), (goes-none 𝓤 H A W 4 (λ _. ByteOffset′.row) yes (λ κs x f. refl), (goes-none 𝓤 H A W 4 (λ _. u64) yes (λ κs x f. refl), (goes-none 𝓤 H A W 4 (λ _. u64) yes (λ κs x f. refl), (goes-slice 𝓤 H A W 4 3 tt (plain (λ _. u8)), tt))))))))) (copy-range‴.clauses 𝓤 H A mem run)
+    walk-meets 𝓤 H A copy-range‴.ended stayed W (goes-none 𝓤 H A W 4 (λ _. u64) yes (λ κs x f. refl), (goes-none 𝓤 H A W 4 (λ _. u64) yes (λ κs x f. refl), (goes-none-slice 𝓤 H A W 4 (0 ∷ []) tt (plain (λ _. u8)) yes, (goes-none-slice 𝓤 H A W 4 (1 ∷ []) tt (plain (λ _. u32)) yes, (goes-none-slice 𝓤 H A W 4 (2 ∷ []) tt (plain (λ _. Record′.row)) yes, (goes-none 𝓤 H A W 4 (λ _. u64) yes (λ κs x f. refl), (goes-none 𝓤 H A W 4 (λ _. ByteOffset′.row) yes (λ κs x f. refl), (goes-none 𝓤 H A W 4 (λ _. u64) yes (λ κs x f. refl), (goes-none 𝓤 H A W 4 (λ _. u64) yes (λ κs x f. refl), (goes-slice 𝓤 H A W 4 3 tt (plain (λ _. u8)), tt)))))))))) (copy-range‴.clauses 𝓤 H A mem run)
     (WpFn 𝓤 H (𝓣 .C) (𝓣 .Λ) code.function) (WpFn-mono 𝓤 H (W .laws) 𝓣 code.function) (walks 𝓤 H A W mem run 𝓣 known-chunk-at known-find-page known-number-found known-copy-page)
 
 pub copy-range-spec : {M : Type 1} → stated.statement M

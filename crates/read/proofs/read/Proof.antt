@@ -47,16 +47,20 @@ use Rattle.versions.specs.declared.Store.{Store}
 use Rattle.versions.proofs.Generated.Kind.Store as Store′
 use Rattle.tree.specs.declared.Ticket.{Ticket}
 use Rattle.register.proofs.Generated.Kind.Ticket as Ticket′
+use Rattle.lines.specs.declared.Branch.{Branch}
+use Rattle.versions.proofs.Generated.Kind.Branch as Branch′
+use Rattle.lines.specs.declared.Line.{Line}
+use Rattle.register.proofs.Generated.Kind.Line as Line′
 use Rattle.tree.specs.declared.Version.{Version}
 use Rattle.register.proofs.Generated.Kind.Version as Version′
 use Rattle.register.specs.declared.Record.{Record}
 use Rattle.register.proofs.Generated.Kind.Record as Record′
 use Rattle.tree.specs.declared.PageIndex.{PageIndex}
 use Rattle.register.proofs.Generated.Kind.PageIndex as PageIndex′
+use Rattle.lines.specs.declared.Entries.{Entries}
+use Rattle.register.proofs.Generated.Kind.Entries as Entries′
 use Rattle.versions.specs.declared.ByteOffset.{ByteOffset}
 use Rattle.read.proofs.Generated.Kind.ByteOffset as ByteOffset′
-use Rattle.versions.specs.declared.Lengths.{Lengths}
-use Rattle.versions.proofs.Generated.Kind.Lengths as Lengths′
 use Rattle.read.specs.declared.Range.{Range}
 use Rattle.read.proofs.Generated.Kind.Range as Range′
 use Rattle.read.specs.declared.Chunk.{Chunk}
@@ -65,21 +69,16 @@ use Rattle.tree.specs.declared.Found.{Found}
 use Rattle.walk.proofs.Generated.Kind.Found as Found′
 use Rattle.register.proofs.Generated.Flow.{ref, MutAt, ShrAt, lend-mut, back-mut, lend-shr, back-shr, branches-on, regroup, skips-on, returns-on, plus-nothing, holds, empty, less-fits, is-true, is-false, differ, above-0, twice-not, switches-to, switches-last, big-lit, here, blocks-on, resume, scaled-2, scaled-4, scaled-8, opens-shr, shuts-shr, opens-mut, shuts-mut, puts-mut, keeps-shr, fills, empties, tyAt}
 use Rattle.read.proofs.Generated.Say.read as read″
-use Rattle.versions.proofs.Generated.Say.lengths_of as lengths-of″
-use Rattle.versions.proofs.Generated.Call.lengths_of as Call-lengths-of
-use Rattle.versions.proofs.lengths_of.Symbol as def-lengths-of
-use Rattle.versions.proofs.lengths_of.Symbol.{name as #lengths-of}
-use Rattle.versions.proofs.lengths_of.Met as thm-lengths-of
-use Rattle.register.proofs.Generated.Say.version_record as version-record″
-use Rattle.register.proofs.Generated.Call.version_record as Call-version-record
-use Rattle.register.proofs.version_record.Symbol as def-version-record
-use Rattle.register.proofs.version_record.Symbol.{name as #version-record}
-use Rattle.register.proofs.version_record.Met as thm-version-record
-use Rattle.read.proofs.Generated.Say.range_refusal as range-refusal″
-use Rattle.read.proofs.Generated.Call.range_refusal as Call-range-refusal
-use Rattle.read.proofs.range_refusal.Symbol as def-range-refusal
-use Rattle.read.proofs.range_refusal.Symbol.{name as #range-refusal}
-use Rattle.read.proofs.range_refusal.Met as thm-range-refusal
+use Rattle.versions.proofs.Generated.Say.number_on as number-on″
+use Rattle.versions.proofs.Generated.Call.number_on as Call-number-on
+use Rattle.versions.proofs.number_on.Symbol as def-number-on
+use Rattle.versions.proofs.number_on.Symbol.{name as #number-on}
+use Rattle.versions.proofs.number_on.Met as thm-number-on
+use Rattle.read.proofs.Generated.Say.range_number as range-number″
+use Rattle.read.proofs.Generated.Call.range_number as Call-range-number
+use Rattle.read.proofs.range_number.Symbol as def-range-number
+use Rattle.read.proofs.range_number.Symbol.{name as #range-number}
+use Rattle.read.proofs.range_number.Met as thm-range-number
 use Rattle.read.proofs.Generated.Say.touched as touched″
 use Rattle.read.proofs.Generated.Call.touched as Call-touched
 use Rattle.read.proofs.touched.Symbol as def-touched
@@ -141,17 +140,17 @@ use Rattle.read.proofs.read.Statement as stated
 use Rattle.read.proofs.read.Code as code
 use Rattle.read.proofs.read.Proof.Facts as Facts
 use denote.Memory.{pointee}
-use Rattle.read.proofs.read.Proof.Asks.{r1, r2, r3, r4, r5, r6, r7, r8, r9, r10, r11, r12, buffer₁₂, r13, buffer₁₄, r15}
+use Rattle.read.proofs.read.Proof.Asks.{r1, r2, r3, r4, r5, r6, r7, r8, r9, r10, r11, buffer₁₁, r12, buffer₁₃, r14}
 
 abbrev stayed : Stays (read‴.ended .signature .params) (read‴.ended .kept)
-stayed = (stay-none (λ _. Store′.row) yes, (stay-none-slice (0 ∷ []) tt (plain (λ _. u8)) yes, (stay-none-slice (1 ∷ []) tt (plain (λ _. u32)) yes, (stay-none-slice (2 ∷ []) tt (plain (λ _. Record′.row)) yes, (stay-none (λ _. Version′.row) yes, (stay-none (λ _. ByteOffset′.row) yes, (stay-none (λ _. u64) yes, (stay-slice (3 ∷ []) tt (plain (λ _. u8)), tt))))))))
+stayed = (stay-none (λ _. Store′.row) yes, (stay-none-slice (0 ∷ []) tt (plain (λ _. u8)) yes, (stay-none-slice (1 ∷ []) tt (plain (λ _. u32)) yes, (stay-none-slice (2 ∷ []) tt (plain (λ _. Record′.row)) yes, (stay-none (λ _. Line′.row) yes, (stay-none (λ _. Version′.row) yes, (stay-none (λ _. ByteOffset′.row) yes, (stay-none (λ _. u64) yes, (stay-slice (3 ∷ []) tt (plain (λ _. u8)), tt)))))))))
 
-module _ {M : Type 1} (𝓤 : URA M) (H : Heap 𝓤) (A : Atoms 𝓤) (W : Given 𝓤 H A) (mem : Memory → SProp 𝓤) (run : Routine → Fun 𝓤) (s : Store) (κ·pages : Lft) (q·pages : Share) (b·pages o·pages : ℕ) (γ·pages : GName) (pages : List ℕ) (κ·nodes : Lft) (q·nodes : Share) (b·nodes o·nodes : ℕ) (γ·nodes : GName) (nodes : List ℕ) (κ·register : Lft) (q·register : Share) (b·register o·register : ℕ) (γ·register : GName) (register : List Record) (x-v : Version) (offset : ByteOffset) (len : ℕ) (κ·buffer : Lft) (q·buffer : Share) (b·buffer o·buffer : ℕ) (γ·buffer : GName) (buffer : List ℕ) (ok·s : Is Store′.row s (Store′.vals s)) (room·pages : Room u8 (length pages)) (room·nodes : Room u32 (length nodes)) (room·register : Room Record′.row (length register)) (ok·x-v : Is Version′.row x-v (Version′.vals x-v)) (ok·offset : Is ByteOffset′.row offset (ByteOffset′.vals offset)) (ok·len : Is u64 len (uint-vals w64 len)) (room·buffer : Room u8 (length buffer)) where
+module _ {M : Type 1} (𝓤 : URA M) (H : Heap 𝓤) (A : Atoms 𝓤) (W : Given 𝓤 H A) (mem : Memory → SProp 𝓤) (run : Routine → Fun 𝓤) (s : Store) (κ·pages : Lft) (q·pages : Share) (b·pages o·pages : ℕ) (γ·pages : GName) (pages : List ℕ) (κ·nodes : Lft) (q·nodes : Share) (b·nodes o·nodes : ℕ) (γ·nodes : GName) (nodes : List ℕ) (κ·register : Lft) (q·register : Share) (b·register o·register : ℕ) (γ·register : GName) (register : List Record) (x-l : Line) (x-v : Version) (offset : ByteOffset) (len : ℕ) (κ·buffer : Lft) (q·buffer : Share) (b·buffer o·buffer : ℕ) (γ·buffer : GName) (buffer : List ℕ) (ok·s : Is Store′.row s (Store′.vals s)) (room·pages : Room u8 (length pages)) (room·nodes : Room u32 (length nodes)) (room·register : Room Record′.row (length register)) (ok·x-l : Is Line′.row x-l (Line′.vals x-l)) (ok·x-v : Is Version′.row x-v (Version′.vals x-v)) (ok·offset : Is ByteOffset′.row offset (ByteOffset′.vals offset)) (ok·len : Is u64 len (uint-vals w64 len)) (room·buffer : Room u8 (length buffer)) where
   abbrev all-args : Args read‴.signature (κ·pages, (κ·nodes, (κ·register, (κ·buffer, tt))))
-  all-args = (s, (ref b·pages o·pages γ·pages pages, (ref b·nodes o·nodes γ·nodes nodes, (ref b·register o·register γ·register register, (x-v, (offset, (len, (ref b·buffer o·buffer γ·buffer buffer, tt))))))))
+  all-args = (s, (ref b·pages o·pages γ·pages pages, (ref b·nodes o·nodes γ·nodes nodes, (ref b·register o·register γ·register register, (x-l, (x-v, (offset, (len, (ref b·buffer o·buffer γ·buffer buffer, tt)))))))))
 
   abbrev all-vals : Vals read‴.signature (κ·pages, (κ·nodes, (κ·register, (κ·buffer, tt))))
-  all-vals = (Store′.mach s ∷ [], (sliceVal (b·pages, o·pages) (length pages) ∷ [], (sliceVal (b·nodes, o·nodes) (length nodes) ∷ [], (sliceVal (b·register, o·register) (length register) ∷ [], (Version′.mach x-v ∷ [], (ByteOffset′.mach offset ∷ [], (vint w64 len ∷ [], (sliceVal (b·buffer, o·buffer) (length buffer) ∷ [], tt))))))))
+  all-vals = (Store′.mach s ∷ [], (sliceVal (b·pages, o·pages) (length pages) ∷ [], (sliceVal (b·nodes, o·nodes) (length nodes) ∷ [], (sliceVal (b·register, o·register) (length register) ∷ [], (Line′.mach x-l ∷ [], (Version′.mach x-v ∷ [], (ByteOffset′.mach offset ∷ [], (vint w64 len ∷ [], (sliceVal (b·buffer, o·buffer) (length buffer) ∷ [], tt)))))))))
 
   abbrev bound : walkOf 𝓤 H A read‴.ended stayed (read‴.clauses 𝓤 H A mem run) .Ghost
   bound = (((κ·pages, (κ·nodes, (κ·register, (κ·buffer, tt)))), (q·pages, (q·nodes, (q·register, (q·buffer, tt)))), tt, all-args, all-vals), tt)
@@ -159,87 +158,83 @@ module _ {M : Type 1} (𝓤 : URA M) (H : Heap 𝓤) (A : Atoms 𝓤) (W : Given
   abbrev Post : Val → SProp 𝓤
   Post = walkOf 𝓤 H A read‴.ended stayed (read‴.clauses 𝓤 H A mem run) .post bound
 
-  exits : (r : Filled) → Is Filled′.row r (Filled′.vals r) → (zs·buffer : List ℕ) → length zs·buffer ≡ length buffer → read″.ens s pages nodes register x-v offset len buffer zs·buffer r → ent 𝓤 (⋆ 𝓤 H A (‵ (flft κ·pages q·pages) ∷ ‵ (ShrAt u8 κ·pages b·pages o·pages γ·pages (length pages) pages) ∷ ‵ (flft κ·nodes q·nodes) ∷ ‵ (ShrAt u32 κ·nodes b·nodes o·nodes γ·nodes (length nodes) nodes) ∷ ‵ (flft κ·register q·register) ∷ ‵ (ShrAt Record′.row κ·register b·register o·register γ·register (length register) register) ∷ ‵ (flft κ·buffer q·buffer) ∷ ‵ (MutAt u8 κ·buffer b·buffer o·buffer γ·buffer (length buffer) zs·buffer) ∷ [])) (Post (Filled′.mach r))
+  exits : (r : Filled) → Is Filled′.row r (Filled′.vals r) → (zs·buffer : List ℕ) → length zs·buffer ≡ length buffer → read″.ens s pages nodes register x-l x-v offset len buffer zs·buffer r → ent 𝓤 (⋆ 𝓤 H A (‵ (flft κ·pages q·pages) ∷ ‵ (ShrAt u8 κ·pages b·pages o·pages γ·pages (length pages) pages) ∷ ‵ (flft κ·nodes q·nodes) ∷ ‵ (ShrAt u32 κ·nodes b·nodes o·nodes γ·nodes (length nodes) nodes) ∷ ‵ (flft κ·register q·register) ∷ ‵ (ShrAt Record′.row κ·register b·register o·register γ·register (length register) register) ∷ ‵ (flft κ·buffer q·buffer) ∷ ‵ (MutAt u8 κ·buffer b·buffer o·buffer γ·buffer (length buffer) zs·buffer) ∷ [])) (Post (Filled′.mach r))
   exits r ok·r zs·buffer same·buffer said =
-      qed W (‵ (flft κ·pages q·pages) ∷ ‵ (ShrAt u8 κ·pages b·pages o·pages γ·pages (length pages) pages) ∷ ‵ (flft κ·nodes q·nodes) ∷ ‵ (ShrAt u32 κ·nodes b·nodes o·nodes γ·nodes (length nodes) nodes) ∷ ‵ (flft κ·register q·register) ∷ ‵ (ShrAt Record′.row κ·register b·register o·register γ·register (length register) register) ∷ ‵ (flft κ·buffer q·buffer) ∷ ‵ (MutAt u8 κ·buffer b·buffer o·buffer γ·buffer (length buffer) zs·buffer) ∷ []) ∵ suffices ! _ (ends-at 𝓤 H A read‴.ended stayed (read‴.clauses 𝓤 H A mem run) W bound (Filled′.mach r) r (tt, (tt, (tt, (tt, (tt, (tt, (tt, (zs·buffer, tt)))))))) (tt, (tt, (tt, (tt, (tt, (tt, (tt, (same·buffer, tt))))))))) $ says ! said $
-      nothing ! $ move ! (7 ∷ 0 ∷ []) $ join ! $ move ! (5 ∷ 0 ∷ []) $ join ! $ move ! (3 ∷ 0 ∷ []) $ join ! $ move ! (1 ∷ 0 ∷ []) $ join ! $ frame ! $ nothing ! $ move ! (4 ∷ 0 ∷ []) $ fjoin ! $ owned ! u64 (Is u64) (uint-makes 𝓤 H A W w64) len _ ok·len $ fjoin ! $ owned ! ByteOffset′.row (Is ByteOffset′.row) (ByteOffset′.makes 𝓤 H A) offset _ ok·offset $ fjoin ! $ owned ! Version′.row (Is Version′.row) (Version′.makes 𝓤 H A) x-v _ ok·x-v $ fjoin ! $ move ! (3 ∷ 0 ∷ []) $ fjoin ! $ move ! (2 ∷ 0 ∷ []) $ fjoin ! $ move ! (1 ∷ 0 ∷ []) $ fjoin ! $ owned ! Store′.row (Is Store′.row) (Store′.makes 𝓤 H A) s _ ok·s $ fjoin ! $ frame ! $ owned ! Filled′.row (Is Filled′.row) (Filled′.makes 𝓤 H A) r _ ok·r $ done !
+      qed W (‵ (flft κ·pages q·pages) ∷ ‵ (ShrAt u8 κ·pages b·pages o·pages γ·pages (length pages) pages) ∷ ‵ (flft κ·nodes q·nodes) ∷ ‵ (ShrAt u32 κ·nodes b·nodes o·nodes γ·nodes (length nodes) nodes) ∷ ‵ (flft κ·register q·register) ∷ ‵ (ShrAt Record′.row κ·register b·register o·register γ·register (length register) register) ∷ ‵ (flft κ·buffer q·buffer) ∷ ‵ (MutAt u8 κ·buffer b·buffer o·buffer γ·buffer (length buffer) zs·buffer) ∷ []) ∵ suffices ! _ (ends-at 𝓤 H A read‴.ended stayed (read‴.clauses 𝓤 H A mem run) W bound (Filled′.mach r) r (tt, (tt, (tt, (tt, (tt, (tt, (tt, (tt, (zs·buffer, tt))))))))) (tt, (tt, (tt, (tt, (tt, (tt, (tt, (tt, (same·buffer, tt)))))))))) $ says ! said $
+      nothing ! $ move ! (7 ∷ 0 ∷ []) $ join ! $ move ! (5 ∷ 0 ∷ []) $ join ! $ move ! (3 ∷ 0 ∷ []) $ join ! $ move ! (1 ∷ 0 ∷ []) $ join ! $ frame ! $ nothing ! $ move ! (4 ∷ 0 ∷ []) $ fjoin ! $ owned ! u64 (Is u64) (uint-makes 𝓤 H A W w64) len _ ok·len $ fjoin ! $ owned ! ByteOffset′.row (Is ByteOffset′.row) (ByteOffset′.makes 𝓤 H A) offset _ ok·offset $ fjoin ! $ owned ! Version′.row (Is Version′.row) (Version′.makes 𝓤 H A) x-v _ ok·x-v $ fjoin ! $ owned ! Line′.row (Is Line′.row) (Line′.makes 𝓤 H A) x-l _ ok·x-l $ fjoin ! $ move ! (3 ∷ 0 ∷ []) $ fjoin ! $ move ! (2 ∷ 0 ∷ []) $ fjoin ! $ move ! (1 ∷ 0 ∷ []) $ fjoin ! $ owned ! Store′.row (Is Store′.row) (Store′.makes 𝓤 H A) s _ ok·s $ fjoin ! $ frame ! $ owned ! Filled′.row (Is Filled′.row) (Filled′.makes 𝓤 H A) r _ ok·r $ done !
 
-  walk : (𝓣 : Tables 𝓤 H) (known-lengths-of : Triple 𝓤 (𝓣 .C #lengths-of) (Call-lengths-of.Asked 𝓤 H A mem run)) (known-version-record : Triple 𝓤 (𝓣 .C #version-record) (Call-version-record.Asked 𝓤 H A mem run)) (known-range-refusal : Triple 𝓤 (𝓣 .C #range-refusal) (Call-range-refusal.Asked 𝓤 H A mem run)) (known-touched : Triple 𝓤 (𝓣 .C #touched) (Call-touched.Asked 𝓤 H A mem run)) (known-chunk-at : Triple 𝓤 (𝓣 .C #chunk-at) (Call-chunk-at.Asked 𝓤 H A mem run)) (known-find-page : Triple 𝓤 (𝓣 .C #find-page) (Call-find-page.Asked 𝓤 H A mem run)) (known-is-lost : Triple 𝓤 (𝓣 .C #is-lost) (Call-is-lost.Asked 𝓤 H A mem run)) (known-some-lost : Triple 𝓤 (𝓣 .C #some-lost) (Call-some-lost.Asked 𝓤 H A mem run)) (known-or-lost : Triple 𝓤 (𝓣 .C #or-lost) (Call-or-lost.Asked 𝓤 H A mem run)) (known-copied : Triple 𝓤 (𝓣 .C #copied) (Call-copied.Asked 𝓤 H A mem run)) (known-number-found : Triple 𝓤 (𝓣 .C #number-found) (Call-number-found.Asked 𝓤 H A mem run)) (known-copy-page : Triple 𝓤 (𝓣 .C #copy-page) (Call-copy-page.Asked 𝓤 H A mem run)) (known-copy-range : Triple 𝓤 (𝓣 .C #copy-range) (Call-copy-range.Asked 𝓤 H A mem run)) (known-filled-by : Triple 𝓤 (𝓣 .C #filled-by) (Call-filled-by.Asked 𝓤 H A mem run)) → ent 𝓤 (onEntry 𝓤 H A read‴.signature (κ·pages, (κ·nodes, (κ·register, (κ·buffer, tt)))) (q·pages, (q·nodes, (q·register, (q·buffer, tt)))) all-args all-vals)
-      (WpFn 𝓤 H (𝓣 .C) (𝓣 .Λ) code.function (Store′.mach s ∷ sliceVal (b·pages, o·pages) (length pages) ∷ sliceVal (b·nodes, o·nodes) (length nodes) ∷ sliceVal (b·register, o·register) (length register) ∷ Version′.mach x-v ∷ ByteOffset′.mach offset ∷ vint w64 len ∷ sliceVal (b·buffer, o·buffer) (length buffer) ∷ []) Post)
-  walk 𝓣 known-lengths-of known-version-record known-range-refusal known-touched known-chunk-at known-find-page known-is-lost known-some-lost known-or-lost known-copied known-number-found known-copy-page known-copy-range known-filled-by =
-      qed W ((‵ (flft κ·pages q·pages) ⊛ ‵ (flft κ·nodes q·nodes) ⊛ ‵ (flft κ·register q·register) ⊛ ‵ (flft κ·buffer q·buffer) ⊛ ‵ ftrue) ∷ ‵ (owns (Store′.row ∷ ShrSlice (named 0) κ·pages u8 ∷ ShrSlice (named 0) κ·nodes u32 ∷ ShrSlice (named 0) κ·register Record′.row ∷ Version′.row ∷ ByteOffset′.row ∷ u64 ∷ MutSlice (named 0) κ·buffer u8 ∷ []) all-args all-vals) ∷ []) ∵ enter ! (𝓣 .C) (𝓣 .Λ) code.function (Store′.mach s ∷ sliceVal (b·pages, o·pages) (length pages) ∷ sliceVal (b·nodes, o·nodes) (length nodes) ∷ sliceVal (b·register, o·register) (length register) ∷ Version′.mach x-v ∷ ByteOffset′.mach offset ∷ vint w64 len ∷ sliceVal (b·buffer, o·buffer) (length buffer) ∷ []) _ $
+  walk : (𝓣 : Tables 𝓤 H) (known-number-on : Triple 𝓤 (𝓣 .C #number-on) (Call-number-on.Asked 𝓤 H A mem run)) (known-range-number : Triple 𝓤 (𝓣 .C #range-number) (Call-range-number.Asked 𝓤 H A mem run)) (known-touched : Triple 𝓤 (𝓣 .C #touched) (Call-touched.Asked 𝓤 H A mem run)) (known-chunk-at : Triple 𝓤 (𝓣 .C #chunk-at) (Call-chunk-at.Asked 𝓤 H A mem run)) (known-find-page : Triple 𝓤 (𝓣 .C #find-page) (Call-find-page.Asked 𝓤 H A mem run)) (known-is-lost : Triple 𝓤 (𝓣 .C #is-lost) (Call-is-lost.Asked 𝓤 H A mem run)) (known-some-lost : Triple 𝓤 (𝓣 .C #some-lost) (Call-some-lost.Asked 𝓤 H A mem run)) (known-or-lost : Triple 𝓤 (𝓣 .C #or-lost) (Call-or-lost.Asked 𝓤 H A mem run)) (known-copied : Triple 𝓤 (𝓣 .C #copied) (Call-copied.Asked 𝓤 H A mem run)) (known-number-found : Triple 𝓤 (𝓣 .C #number-found) (Call-number-found.Asked 𝓤 H A mem run)) (known-copy-page : Triple 𝓤 (𝓣 .C #copy-page) (Call-copy-page.Asked 𝓤 H A mem run)) (known-copy-range : Triple 𝓤 (𝓣 .C #copy-range) (Call-copy-range.Asked 𝓤 H A mem run)) (known-filled-by : Triple 𝓤 (𝓣 .C #filled-by) (Call-filled-by.Asked 𝓤 H A mem run)) → ent 𝓤 (onEntry 𝓤 H A read‴.signature (κ·pages, (κ·nodes, (κ·register, (κ·buffer, tt)))) (q·pages, (q·nodes, (q·register, (q·buffer, tt)))) all-args all-vals)
+      (WpFn 𝓤 H (𝓣 .C) (𝓣 .Λ) code.function (Store′.mach s ∷ sliceVal (b·pages, o·pages) (length pages) ∷ sliceVal (b·nodes, o·nodes) (length nodes) ∷ sliceVal (b·register, o·register) (length register) ∷ Line′.mach x-l ∷ Version′.mach x-v ∷ ByteOffset′.mach offset ∷ vint w64 len ∷ sliceVal (b·buffer, o·buffer) (length buffer) ∷ []) Post)
+  walk 𝓣 known-number-on known-range-number known-touched known-chunk-at known-find-page known-is-lost known-some-lost known-or-lost known-copied known-number-found known-copy-page known-copy-range known-filled-by =
+      qed W ((‵ (flft κ·pages q·pages) ⊛ ‵ (flft κ·nodes q·nodes) ⊛ ‵ (flft κ·register q·register) ⊛ ‵ (flft κ·buffer q·buffer) ⊛ ‵ ftrue) ∷ ‵ (owns (Store′.row ∷ ShrSlice (named 0) κ·pages u8 ∷ ShrSlice (named 0) κ·nodes u32 ∷ ShrSlice (named 0) κ·register Record′.row ∷ Line′.row ∷ Version′.row ∷ ByteOffset′.row ∷ u64 ∷ MutSlice (named 0) κ·buffer u8 ∷ []) all-args all-vals) ∷ []) ∵ enter ! (𝓣 .C) (𝓣 .Λ) code.function (Store′.mach s ∷ sliceVal (b·pages, o·pages) (length pages) ∷ sliceVal (b·nodes, o·nodes) (length nodes) ∷ sliceVal (b·register, o·register) (length register) ∷ Line′.mach x-l ∷ Version′.mach x-v ∷ ByteOffset′.mach offset ∷ vint w64 len ∷ sliceVal (b·buffer, o·buffer) (length buffer) ∷ []) _ $
       alloc1 ! (λ l₀. alloc1 ! (λ l₁. alloc1 ! (λ l₂. alloc1 ! (λ l₃. alloc1 ! (λ l₄. alloc1 ! (λ l₅. alloc1 ! (λ l₆. alloc1 ! (λ l₇. alloc1 ! (λ l₈. alloc1 ! (λ l₉. alloc1 ! (λ l₁₀. alloc1 ! (λ l₁₁. alloc1 ! (λ l₁₂. alloc1 ! (λ l₁₃. alloc1 ! (λ l₁₄. alloc1 ! (λ l₁₅. alloc1 ! (λ l₁₆. alloc1 ! (λ l₁₇. alloc1 ! (λ l₁₈. alloc1 ! (λ l₁₉. alloc1 ! (λ l₂₀. alloc1 ! (λ l₂₁. alloc1 ! (λ l₂₂. alloc1 ! (λ l₂₃. alloc1 ! (λ l₂₄. alloc1 ! (λ l₂₅. alloc1 ! (λ l₂₆. alloc0 ! $ params1 ! $
-      pass1 ! (init ! 50 refl (Store′.typed 𝓤 H A W s ok·s)) $ pass1 ! (init ! 48 refl (tt, (tt, (record { fits = room·pages .0 }, tt)))) $ pass1 ! (init ! 46 refl (tt, (tt, (record { fits = room·nodes .0 }, tt)))) $ pass1 ! (init ! 44 refl (tt, (tt, (record { fits = room·register .0 }, tt)))) $ pass1 ! (init ! 42 refl (Version′.typed 𝓤 H A W x-v ok·x-v)) $ pass1 ! (init ! 40 refl (ByteOffset′.typed 𝓤 H A W offset ok·offset)) $ pass1 ! (init ! 38 refl (tt, record { fits = ok·len .1 })) $ pass1 ! (init ! 36 refl (tt, (tt, (record { fits = room·buffer .0 }, tt)))) $ pass0 ! $
-      move ! (55 ∷ []) $ fsplit ! $ drop ! $ fsplit ! $ move ! (1 ∷ []) $ fsplit ! $ move ! (1 ∷ []) $ fsplit ! $ move ! (1 ∷ []) $ fsplit ! $ drop ! $ fsplit ! $ drop ! $ fsplit ! $ drop ! $ fsplit ! $ move ! (1 ∷ []) $ drop ! $ move ! (58 ∷ []) $ split ! $ move ! (1 ∷ []) $ split ! $ move ! (1 ∷ []) $ split ! $ move ! (1 ∷ []) $ split ! $ move ! (1 ∷ []) $ drop ! $ move ! (3 ∷ 7 ∷ 2 ∷ 6 ∷ 1 ∷ 5 ∷ 0 ∷ 4 ∷ []) $
-      Call-lengths-of.calls ! mem run (fmOf 𝓤 H (W .laws) 𝓣) known-lengths-of κ·pages q·pages b·pages o·pages γ·pages (length pages) pages κ·nodes q·nodes b·nodes o·nodes γ·nodes (length nodes) nodes κ·register q·register b·register o·register γ·register (length register) register (and-then ! (load ! (from ! (stop !)) (look ! 54 refl)) (and-then ! (load ! (from ! (stop !)) (look ! 52 refl)) (and-then ! (load ! (from ! (stop !)) (look ! 50 refl)) (no-more !))))
-      (λ ok·1. land ! (from ! (stop !)) (init ! 42 refl (Lengths′.typed 𝓤 H A W (r1 s pages nodes register x-v offset len buffer) ok·1)) $
-      here ! (‵ (flft κ·pages q·pages) ∷ ‵ (ShrAt u8 κ·pages b·pages o·pages γ·pages (length pages) pages) ∷ ‵ (flft κ·nodes q·nodes) ∷ ‵ (ShrAt u32 κ·nodes b·nodes o·nodes γ·nodes (length nodes) nodes) ∷ ‵ (flft κ·register q·register) ∷ ‵ (ShrAt Record′.row κ·register b·register o·register γ·register (length register) register) ∷ ‵ (flft κ·buffer q·buffer) ∷ ‵ (MutAt u8 κ·buffer b·buffer o·buffer γ·buffer (length buffer) buffer) ∷ empty (sliceTy (tyRef erased mut (pointee (u8 .written)))) l₂₆ (empty (tyRef erased mut (pointee (u8 .written))) l₂₅ (empty tyUnit l₂₄ (empty (sliceTy (tyRef erased mut (pointee (u8 .written)))) l₂₃ (empty (tyRef erased mut (pointee (u8 .written))) l₂₂ (empty (tyInt w64) l₂₁ (empty tyBool l₂₀ (empty (tyAt (code.function .locals) 19) l₁₉ (empty (tyInt w64) l₁₈ (empty (tyInt w64) l₁₇ (empty (tyInt w64) l₁₆ (empty tyBool l₁₅ (empty (tyAt (code.function .locals) 14) l₁₄ (empty (tyAt (code.function .locals) 13) l₁₃ (empty (tyInt w64) l₁₂ (empty (tyInt w64) l₁₁ (empty (tyAt (code.function .locals) 10) l₁₀ (holds (tyAt (code.function .locals) 9) l₉ (Lengths′.mach (r1 s pages nodes register x-v offset len buffer)) (holds (sliceTy (tyRef (named 3) mut (pointee (u8 .written)))) l₈ (sliceVal (b·buffer, o·buffer) (length buffer)) (holds (tyInt w64) l₇ (vint w64 len) (holds (tyAt (code.function .locals) 6) l₆ (ByteOffset′.mach offset) (holds (tyAt (code.function .locals) 5) l₅ (Version′.mach x-v) (holds (sliceTy (tyRef (named 2) imm (pointee (Record′.row .written)))) l₄ (sliceVal (b·register, o·register) (length register)) (holds (sliceTy (tyRef (named 1) imm (pointee (u32 .written)))) l₃ (sliceVal (b·nodes, o·nodes) (length nodes)) (holds (sliceTy (tyRef (named 0) imm (pointee (u8 .written)))) l₂ (sliceVal (b·pages, o·pages) (length pages)) (holds (tyAt (code.function .locals) 1) l₁ (Store′.mach s) (empty (tyAt (code.function .locals) 0) l₀ []))))))))))))))))))))))))))) $
-      assigns ! (of-opd ! (load ! (from ! (fld ! refl (stop !))) (look-in ! 44 (sub ! 1 refl (whole !))))) (from ! (stop !)) (init ! 24 refl (tt, record { fits = room·buffer .0 })) $
-      assigns ! (agg ! (and-then ! (load ! (from ! (stop !)) (look ! 48 refl)) (and-then ! (load ! (from ! (stop !)) (look ! 46 refl)) (and-then ! (load ! (from ! (stop !)) (look ! 24 refl)) (no-more !))))) (from ! (stop !)) (init ! 40 refl (Range′.typed 𝓤 H A W (Range′.build offset len (length buffer)) (Range′.make offset len (length buffer) ok·offset ok·len (refl, room·buffer .0)))) $
-      move ! (4 ∷ 5 ∷ []) $
-      Call-version-record.calls ! mem run (fmOf 𝓤 H (W .laws) 𝓣) known-version-record κ·register q·register b·register o·register γ·register (length register) register x-v ok·x-v (and-then ! (load ! (from ! (stop !)) (look ! 52 refl)) (and-then ! (load ! (from ! (stop !)) (look ! 50 refl)) (no-more !)))
-      (λ ok·2. move ! (2 ∷ 3 ∷ 4 ∷ 5 ∷ 0 ∷ 1 ∷ 6 ∷ 7 ∷ []) $ land ! (from ! (stop !)) (init ! 22 refl (Record′.typed 𝓤 H A W (r2 s pages nodes register x-v offset len buffer) ok·2)) $
-      here ! (‵ (flft κ·pages q·pages) ∷ ‵ (ShrAt u8 κ·pages b·pages o·pages γ·pages (length pages) pages) ∷ ‵ (flft κ·nodes q·nodes) ∷ ‵ (ShrAt u32 κ·nodes b·nodes o·nodes γ·nodes (length nodes) nodes) ∷ ‵ (flft κ·register q·register) ∷ ‵ (ShrAt Record′.row κ·register b·register o·register γ·register (length register) register) ∷ ‵ (flft κ·buffer q·buffer) ∷ ‵ (MutAt u8 κ·buffer b·buffer o·buffer γ·buffer (length buffer) buffer) ∷ empty (sliceTy (tyRef erased mut (pointee (u8 .written)))) l₂₆ (empty (tyRef erased mut (pointee (u8 .written))) l₂₅ (empty tyUnit l₂₄ (empty (sliceTy (tyRef erased mut (pointee (u8 .written)))) l₂₃ (empty (tyRef erased mut (pointee (u8 .written))) l₂₂ (empty (tyInt w64) l₂₁ (empty tyBool l₂₀ (holds (tyAt (code.function .locals) 19) l₁₉ (Record′.mach (r2 s pages nodes register x-v offset len buffer)) (holds (tyInt w64) l₁₈ (vint w64 (length buffer)) (empty (tyInt w64) l₁₇ (empty (tyInt w64) l₁₆ (empty tyBool l₁₅ (empty (tyAt (code.function .locals) 14) l₁₄ (empty (tyAt (code.function .locals) 13) l₁₃ (empty (tyInt w64) l₁₂ (empty (tyInt w64) l₁₁ (holds (tyAt (code.function .locals) 10) l₁₀ (Range′.mach (Range′.build offset len (length buffer))) (holds (tyAt (code.function .locals) 9) l₉ (Lengths′.mach (r1 s pages nodes register x-v offset len buffer)) (holds (sliceTy (tyRef (named 3) mut (pointee (u8 .written)))) l₈ (sliceVal (b·buffer, o·buffer) (length buffer)) (holds (tyInt w64) l₇ (vint w64 len) (holds (tyAt (code.function .locals) 6) l₆ (ByteOffset′.mach offset) (holds (tyAt (code.function .locals) 5) l₅ (Version′.mach x-v) (holds (sliceTy (tyRef (named 2) imm (pointee (Record′.row .written)))) l₄ (sliceVal (b·register, o·register) (length register)) (holds (sliceTy (tyRef (named 1) imm (pointee (u32 .written)))) l₃ (sliceVal (b·nodes, o·nodes) (length nodes)) (holds (sliceTy (tyRef (named 0) imm (pointee (u8 .written)))) l₂ (sliceVal (b·pages, o·pages) (length pages)) (holds (tyAt (code.function .locals) 1) l₁ (Store′.mach s) (empty (tyAt (code.function .locals) 0) l₀ []))))))))))))))))))))))))))) $
-      Call-range-refusal.calls ! mem run (fmOf 𝓤 H (W .laws) 𝓣) known-range-refusal s (r1 s pages nodes register x-v offset len buffer) (r2 s pages nodes register x-v offset len buffer) x-v (Range′.build offset len (length buffer)) ok·s ok·1 ok·2 ok·x-v (Range′.make offset len (length buffer) ok·offset ok·len (refl, room·buffer .0)) (and-then ! (load ! (from ! (stop !)) (look ! 59 refl)) (and-then ! (load ! (from ! (stop !)) (look ! 43 refl)) (and-then ! (load ! (from ! (stop !)) (look ! 23 refl)) (and-then ! (load ! (from ! (stop !)) (look ! 51 refl)) (and-then ! (load ! (from ! (stop !)) (look ! 41 refl)) (no-more !))))))
-      (λ ok·3. land ! (from ! (stop !)) (init ! 38 refl (tt, record { fits = ok·3 .1 })) $
-      here ! (‵ (flft κ·pages q·pages) ∷ ‵ (ShrAt u8 κ·pages b·pages o·pages γ·pages (length pages) pages) ∷ ‵ (flft κ·nodes q·nodes) ∷ ‵ (ShrAt u32 κ·nodes b·nodes o·nodes γ·nodes (length nodes) nodes) ∷ ‵ (flft κ·register q·register) ∷ ‵ (ShrAt Record′.row κ·register b·register o·register γ·register (length register) register) ∷ ‵ (flft κ·buffer q·buffer) ∷ ‵ (MutAt u8 κ·buffer b·buffer o·buffer γ·buffer (length buffer) buffer) ∷ empty (sliceTy (tyRef erased mut (pointee (u8 .written)))) l₂₆ (empty (tyRef erased mut (pointee (u8 .written))) l₂₅ (empty tyUnit l₂₄ (empty (sliceTy (tyRef erased mut (pointee (u8 .written)))) l₂₃ (empty (tyRef erased mut (pointee (u8 .written))) l₂₂ (empty (tyInt w64) l₂₁ (empty tyBool l₂₀ (holds (tyAt (code.function .locals) 19) l₁₉ (Record′.mach (r2 s pages nodes register x-v offset len buffer)) (holds (tyInt w64) l₁₈ (vint w64 (length buffer)) (empty (tyInt w64) l₁₇ (empty (tyInt w64) l₁₆ (empty tyBool l₁₅ (empty (tyAt (code.function .locals) 14) l₁₄ (empty (tyAt (code.function .locals) 13) l₁₃ (empty (tyInt w64) l₁₂ (holds (tyInt w64) l₁₁ (vint w64 (r3 s pages nodes register x-v offset len buffer)) (holds (tyAt (code.function .locals) 10) l₁₀ (Range′.mach (Range′.build offset len (length buffer))) (holds (tyAt (code.function .locals) 9) l₉ (Lengths′.mach (r1 s pages nodes register x-v offset len buffer)) (holds (sliceTy (tyRef (named 3) mut (pointee (u8 .written)))) l₈ (sliceVal (b·buffer, o·buffer) (length buffer)) (holds (tyInt w64) l₇ (vint w64 len) (holds (tyAt (code.function .locals) 6) l₆ (ByteOffset′.mach offset) (holds (tyAt (code.function .locals) 5) l₅ (Version′.mach x-v) (holds (sliceTy (tyRef (named 2) imm (pointee (Record′.row .written)))) l₄ (sliceVal (b·register, o·register) (length register)) (holds (sliceTy (tyRef (named 1) imm (pointee (u32 .written)))) l₃ (sliceVal (b·nodes, o·nodes) (length nodes)) (holds (sliceTy (tyRef (named 0) imm (pointee (u8 .written)))) l₂ (sliceVal (b·pages, o·pages) (length pages)) (holds (tyAt (code.function .locals) 1) l₁ (Store′.mach s) (empty (tyAt (code.function .locals) 0) l₀ []))))))))))))))))))))))))))) $
-      Call-touched.calls ! mem run (fmOf 𝓤 H (W .laws) 𝓣) known-touched (r3 s pages nodes register x-v offset len buffer) (s .size) offset len ok·3 (Store′.ok-size s ok·s) ok·offset ok·len (Facts.touched-1 s pages nodes register x-v offset len buffer ok·s (room·pages .0) (room·nodes .0) (room·register .0) ok·x-v ok·offset (ok·len .1) (room·buffer .0) ok·1 ok·2 (ok·3 .1)) (and-then ! (load ! (from ! (stop !)) (look ! 39 refl)) (and-then ! (load ! (from ! (fld ! refl (stop !))) (look-in ! 59 (sub ! 0 refl (whole !)))) (and-then ! (load ! (from ! (stop !)) (look ! 49 refl)) (and-then ! (load ! (from ! (stop !)) (look ! 47 refl)) (no-more !)))))
-      (λ ok·4. land ! (from ! (stop !)) (init ! 36 refl (tt, record { fits = ok·4 .1 })) $
-      here ! (‵ (flft κ·pages q·pages) ∷ ‵ (ShrAt u8 κ·pages b·pages o·pages γ·pages (length pages) pages) ∷ ‵ (flft κ·nodes q·nodes) ∷ ‵ (ShrAt u32 κ·nodes b·nodes o·nodes γ·nodes (length nodes) nodes) ∷ ‵ (flft κ·register q·register) ∷ ‵ (ShrAt Record′.row κ·register b·register o·register γ·register (length register) register) ∷ ‵ (flft κ·buffer q·buffer) ∷ ‵ (MutAt u8 κ·buffer b·buffer o·buffer γ·buffer (length buffer) buffer) ∷ empty (sliceTy (tyRef erased mut (pointee (u8 .written)))) l₂₆ (empty (tyRef erased mut (pointee (u8 .written))) l₂₅ (empty tyUnit l₂₄ (empty (sliceTy (tyRef erased mut (pointee (u8 .written)))) l₂₃ (empty (tyRef erased mut (pointee (u8 .written))) l₂₂ (empty (tyInt w64) l₂₁ (empty tyBool l₂₀ (holds (tyAt (code.function .locals) 19) l₁₉ (Record′.mach (r2 s pages nodes register x-v offset len buffer)) (holds (tyInt w64) l₁₈ (vint w64 (length buffer)) (empty (tyInt w64) l₁₇ (empty (tyInt w64) l₁₆ (empty tyBool l₁₅ (empty (tyAt (code.function .locals) 14) l₁₄ (empty (tyAt (code.function .locals) 13) l₁₃ (holds (tyInt w64) l₁₂ (vint w64 (r4 s pages nodes register x-v offset len buffer)) (holds (tyInt w64) l₁₁ (vint w64 (r3 s pages nodes register x-v offset len buffer)) (holds (tyAt (code.function .locals) 10) l₁₀ (Range′.mach (Range′.build offset len (length buffer))) (holds (tyAt (code.function .locals) 9) l₉ (Lengths′.mach (r1 s pages nodes register x-v offset len buffer)) (holds (sliceTy (tyRef (named 3) mut (pointee (u8 .written)))) l₈ (sliceVal (b·buffer, o·buffer) (length buffer)) (holds (tyInt w64) l₇ (vint w64 len) (holds (tyAt (code.function .locals) 6) l₆ (ByteOffset′.mach offset) (holds (tyAt (code.function .locals) 5) l₅ (Version′.mach x-v) (holds (sliceTy (tyRef (named 2) imm (pointee (Record′.row .written)))) l₄ (sliceVal (b·register, o·register) (length register)) (holds (sliceTy (tyRef (named 1) imm (pointee (u32 .written)))) l₃ (sliceVal (b·nodes, o·nodes) (length nodes)) (holds (sliceTy (tyRef (named 0) imm (pointee (u8 .written)))) l₂ (sliceVal (b·pages, o·pages) (length pages)) (holds (tyAt (code.function .locals) 1) l₁ (Store′.mach s) (empty (tyAt (code.function .locals) 0) l₀ []))))))))))))))))))))))))))) $
-      Call-chunk-at.calls ! mem run (fmOf 𝓤 H (W .laws) 𝓣) known-chunk-at (s .size) offset len (Store′.ok-size s ok·s) ok·offset ok·len (and-then ! (load ! (from ! (fld ! refl (stop !))) (look-in ! 59 (sub ! 0 refl (whole !)))) (and-then ! (load ! (from ! (stop !)) (look ! 49 refl)) (and-then ! (load ! (from ! (stop !)) (look ! 47 refl)) (no-more !))))
-      (λ ok·5. land ! (from ! (stop !)) (init ! 34 refl (Chunk′.typed 𝓤 H A W (r5 s pages nodes register x-v offset len buffer) ok·5)) $
-      here ! (‵ (flft κ·pages q·pages) ∷ ‵ (ShrAt u8 κ·pages b·pages o·pages γ·pages (length pages) pages) ∷ ‵ (flft κ·nodes q·nodes) ∷ ‵ (ShrAt u32 κ·nodes b·nodes o·nodes γ·nodes (length nodes) nodes) ∷ ‵ (flft κ·register q·register) ∷ ‵ (ShrAt Record′.row κ·register b·register o·register γ·register (length register) register) ∷ ‵ (flft κ·buffer q·buffer) ∷ ‵ (MutAt u8 κ·buffer b·buffer o·buffer γ·buffer (length buffer) buffer) ∷ empty (sliceTy (tyRef erased mut (pointee (u8 .written)))) l₂₆ (empty (tyRef erased mut (pointee (u8 .written))) l₂₅ (empty tyUnit l₂₄ (empty (sliceTy (tyRef erased mut (pointee (u8 .written)))) l₂₃ (empty (tyRef erased mut (pointee (u8 .written))) l₂₂ (empty (tyInt w64) l₂₁ (empty tyBool l₂₀ (holds (tyAt (code.function .locals) 19) l₁₉ (Record′.mach (r2 s pages nodes register x-v offset len buffer)) (holds (tyInt w64) l₁₈ (vint w64 (length buffer)) (empty (tyInt w64) l₁₇ (empty (tyInt w64) l₁₆ (empty tyBool l₁₅ (empty (tyAt (code.function .locals) 14) l₁₄ (holds (tyAt (code.function .locals) 13) l₁₃ (Chunk′.mach (r5 s pages nodes register x-v offset len buffer)) (holds (tyInt w64) l₁₂ (vint w64 (r4 s pages nodes register x-v offset len buffer)) (holds (tyInt w64) l₁₁ (vint w64 (r3 s pages nodes register x-v offset len buffer)) (holds (tyAt (code.function .locals) 10) l₁₀ (Range′.mach (Range′.build offset len (length buffer))) (holds (tyAt (code.function .locals) 9) l₉ (Lengths′.mach (r1 s pages nodes register x-v offset len buffer)) (holds (sliceTy (tyRef (named 3) mut (pointee (u8 .written)))) l₈ (sliceVal (b·buffer, o·buffer) (length buffer)) (holds (tyInt w64) l₇ (vint w64 len) (holds (tyAt (code.function .locals) 6) l₆ (ByteOffset′.mach offset) (holds (tyAt (code.function .locals) 5) l₅ (Version′.mach x-v) (holds (sliceTy (tyRef (named 2) imm (pointee (Record′.row .written)))) l₄ (sliceVal (b·register, o·register) (length register)) (holds (sliceTy (tyRef (named 1) imm (pointee (u32 .written)))) l₃ (sliceVal (b·nodes, o·nodes) (length nodes)) (holds (sliceTy (tyRef (named 0) imm (pointee (u8 .written)))) l₂ (sliceVal (b·pages, o·pages) (length pages)) (holds (tyAt (code.function .locals) 1) l₁ (Store′.mach s) (empty (tyAt (code.function .locals) 0) l₀ []))))))))))))))))))))))))))) $
+      pass1 ! (init ! 50 refl (Store′.typed 𝓤 H A W s ok·s)) $ pass1 ! (init ! 48 refl (tt, (tt, (record { fits = room·pages .0 }, tt)))) $ pass1 ! (init ! 46 refl (tt, (tt, (record { fits = room·nodes .0 }, tt)))) $ pass1 ! (init ! 44 refl (tt, (tt, (record { fits = room·register .0 }, tt)))) $ pass1 ! (init ! 42 refl (Line′.typed 𝓤 H A W x-l ok·x-l)) $ pass1 ! (init ! 40 refl (Version′.typed 𝓤 H A W x-v ok·x-v)) $ pass1 ! (init ! 38 refl (ByteOffset′.typed 𝓤 H A W offset ok·offset)) $ pass1 ! (init ! 36 refl (tt, record { fits = ok·len .1 })) $ pass1 ! (init ! 34 refl (tt, (tt, (record { fits = room·buffer .0 }, tt)))) $ pass0 ! $
+      move ! (55 ∷ []) $ fsplit ! $ drop ! $ fsplit ! $ move ! (1 ∷ []) $ fsplit ! $ move ! (1 ∷ []) $ fsplit ! $ move ! (1 ∷ []) $ fsplit ! $ drop ! $ fsplit ! $ drop ! $ fsplit ! $ drop ! $ fsplit ! $ drop ! $ fsplit ! $ move ! (1 ∷ []) $ drop ! $ move ! (58 ∷ []) $ split ! $ move ! (1 ∷ []) $ split ! $ move ! (1 ∷ []) $ split ! $ move ! (1 ∷ []) $ split ! $ move ! (1 ∷ []) $ drop ! $ move ! (3 ∷ 7 ∷ 2 ∷ 6 ∷ 1 ∷ 5 ∷ 0 ∷ 4 ∷ []) $
+      assigns ! (of-opd ! (load ! (from ! (fld ! refl (stop !))) (look-in ! 42 (sub ! 1 refl (whole !))))) (from ! (stop !)) (init ! 22 refl (tt, record { fits = room·buffer .0 })) $
+      assigns ! (agg ! (and-then ! (load ! (from ! (stop !)) (look ! 46 refl)) (and-then ! (load ! (from ! (stop !)) (look ! 44 refl)) (and-then ! (load ! (from ! (stop !)) (look ! 22 refl)) (no-more !))))) (from ! (stop !)) (init ! 40 refl (Range′.typed 𝓤 H A W (Range′.build offset len (length buffer)) (Range′.make offset len (length buffer) ok·offset ok·len (refl, room·buffer .0)))) $
+      Call-number-on.calls ! mem run (fmOf 𝓤 H (W .laws) 𝓣) known-number-on s x-l x-v ok·s ok·x-l ok·x-v (and-then ! (load ! (from ! (stop !)) (look ! 59 refl)) (and-then ! (load ! (from ! (stop !)) (look ! 51 refl)) (and-then ! (load ! (from ! (stop !)) (look ! 49 refl)) (no-more !))))
+      (λ ok·1. land ! (from ! (stop !)) (init ! 38 refl (tt, record { fits = ok·1 .1 })) $
+      here ! (‵ (flft κ·pages q·pages) ∷ ‵ (ShrAt u8 κ·pages b·pages o·pages γ·pages (length pages) pages) ∷ ‵ (flft κ·nodes q·nodes) ∷ ‵ (ShrAt u32 κ·nodes b·nodes o·nodes γ·nodes (length nodes) nodes) ∷ ‵ (flft κ·register q·register) ∷ ‵ (ShrAt Record′.row κ·register b·register o·register γ·register (length register) register) ∷ ‵ (flft κ·buffer q·buffer) ∷ ‵ (MutAt u8 κ·buffer b·buffer o·buffer γ·buffer (length buffer) buffer) ∷ empty (sliceTy (tyRef erased mut (pointee (u8 .written)))) l₂₆ (empty (tyRef erased mut (pointee (u8 .written))) l₂₅ (empty tyUnit l₂₄ (empty (sliceTy (tyRef erased mut (pointee (u8 .written)))) l₂₃ (empty (tyRef erased mut (pointee (u8 .written))) l₂₂ (empty (tyInt w64) l₂₁ (empty tyBool l₂₀ (holds (tyInt w64) l₁₉ (vint w64 (length buffer)) (empty (tyInt w64) l₁₈ (empty (tyInt w64) l₁₇ (empty tyBool l₁₆ (empty (tyAt (code.function .locals) 15) l₁₅ (empty (tyAt (code.function .locals) 14) l₁₄ (empty (tyInt w64) l₁₃ (empty (tyInt w64) l₁₂ (holds (tyInt w64) l₁₁ (vint w64 (r1 s pages nodes register x-l x-v offset len buffer)) (holds (tyAt (code.function .locals) 10) l₁₀ (Range′.mach (Range′.build offset len (length buffer))) (holds (sliceTy (tyRef (named 3) mut (pointee (u8 .written)))) l₉ (sliceVal (b·buffer, o·buffer) (length buffer)) (holds (tyInt w64) l₈ (vint w64 len) (holds (tyAt (code.function .locals) 7) l₇ (ByteOffset′.mach offset) (holds (tyAt (code.function .locals) 6) l₆ (Version′.mach x-v) (holds (tyAt (code.function .locals) 5) l₅ (Line′.mach x-l) (holds (sliceTy (tyRef (named 2) imm (pointee (Record′.row .written)))) l₄ (sliceVal (b·register, o·register) (length register)) (holds (sliceTy (tyRef (named 1) imm (pointee (u32 .written)))) l₃ (sliceVal (b·nodes, o·nodes) (length nodes)) (holds (sliceTy (tyRef (named 0) imm (pointee (u8 .written)))) l₂ (sliceVal (b·pages, o·pages) (length pages)) (holds (tyAt (code.function .locals) 1) l₁ (Store′.mach s) (empty (tyAt (code.function .locals) 0) l₀ []))))))))))))))))))))))))))) $
+      Call-range-number.calls ! mem run (fmOf 𝓤 H (W .laws) 𝓣) known-range-number s κ·pages q·pages b·pages o·pages γ·pages (length pages) pages κ·nodes q·nodes b·nodes o·nodes γ·nodes (length nodes) nodes κ·register q·register b·register o·register γ·register (length register) register x-l x-v (r1 s pages nodes register x-l x-v offset len buffer) (Range′.build offset len (length buffer)) ok·s ok·x-l ok·x-v ok·1 (Range′.make offset len (length buffer) ok·offset ok·len (refl, room·buffer .0)) (and-then ! (load ! (from ! (stop !)) (look ! 56 refl)) (and-then ! (load ! (from ! (stop !)) (look ! 54 refl)) (and-then ! (load ! (from ! (stop !)) (look ! 52 refl)) (and-then ! (load ! (from ! (stop !)) (look ! 50 refl)) (and-then ! (load ! (from ! (stop !)) (look ! 48 refl)) (and-then ! (load ! (from ! (stop !)) (look ! 46 refl)) (and-then ! (load ! (from ! (stop !)) (look ! 36 refl)) (and-then ! (load ! (from ! (stop !)) (look ! 38 refl)) (no-more !)))))))))
+      (λ ok·2. land ! (from ! (stop !)) (init ! 36 refl (tt, record { fits = ok·2 .1 })) $
+      here ! (‵ (flft κ·pages q·pages) ∷ ‵ (ShrAt u8 κ·pages b·pages o·pages γ·pages (length pages) pages) ∷ ‵ (flft κ·nodes q·nodes) ∷ ‵ (ShrAt u32 κ·nodes b·nodes o·nodes γ·nodes (length nodes) nodes) ∷ ‵ (flft κ·register q·register) ∷ ‵ (ShrAt Record′.row κ·register b·register o·register γ·register (length register) register) ∷ ‵ (flft κ·buffer q·buffer) ∷ ‵ (MutAt u8 κ·buffer b·buffer o·buffer γ·buffer (length buffer) buffer) ∷ empty (sliceTy (tyRef erased mut (pointee (u8 .written)))) l₂₆ (empty (tyRef erased mut (pointee (u8 .written))) l₂₅ (empty tyUnit l₂₄ (empty (sliceTy (tyRef erased mut (pointee (u8 .written)))) l₂₃ (empty (tyRef erased mut (pointee (u8 .written))) l₂₂ (empty (tyInt w64) l₂₁ (empty tyBool l₂₀ (holds (tyInt w64) l₁₉ (vint w64 (length buffer)) (empty (tyInt w64) l₁₈ (empty (tyInt w64) l₁₇ (empty tyBool l₁₆ (empty (tyAt (code.function .locals) 15) l₁₅ (empty (tyAt (code.function .locals) 14) l₁₄ (empty (tyInt w64) l₁₃ (holds (tyInt w64) l₁₂ (vint w64 (r2 s pages nodes register x-l x-v offset len buffer)) (holds (tyInt w64) l₁₁ (vint w64 (r1 s pages nodes register x-l x-v offset len buffer)) (holds (tyAt (code.function .locals) 10) l₁₀ (Range′.mach (Range′.build offset len (length buffer))) (holds (sliceTy (tyRef (named 3) mut (pointee (u8 .written)))) l₉ (sliceVal (b·buffer, o·buffer) (length buffer)) (holds (tyInt w64) l₈ (vint w64 len) (holds (tyAt (code.function .locals) 7) l₇ (ByteOffset′.mach offset) (holds (tyAt (code.function .locals) 6) l₆ (Version′.mach x-v) (holds (tyAt (code.function .locals) 5) l₅ (Line′.mach x-l) (holds (sliceTy (tyRef (named 2) imm (pointee (Record′.row .written)))) l₄ (sliceVal (b·register, o·register) (length register)) (holds (sliceTy (tyRef (named 1) imm (pointee (u32 .written)))) l₃ (sliceVal (b·nodes, o·nodes) (length nodes)) (holds (sliceTy (tyRef (named 0) imm (pointee (u8 .written)))) l₂ (sliceVal (b·pages, o·pages) (length pages)) (holds (tyAt (code.function .locals) 1) l₁ (Store′.mach s) (empty (tyAt (code.function .locals) 0) l₀ []))))))))))))))))))))))))))) $
+      Call-touched.calls ! mem run (fmOf 𝓤 H (W .laws) 𝓣) known-touched (r2 s pages nodes register x-l x-v offset len buffer) (s .size) offset len ok·2 (Store′.ok-size s ok·s) ok·offset ok·len (Facts.touched-1 s pages nodes register x-l x-v offset len buffer ok·s (room·pages .0) (room·nodes .0) (room·register .0) ok·x-l ok·x-v ok·offset (ok·len .1) (room·buffer .0) (ok·1 .1) (ok·2 .1)) (and-then ! (load ! (from ! (stop !)) (look ! 37 refl)) (and-then ! (load ! (from ! (fld ! refl (stop !))) (look-in ! 59 (sub ! 0 refl (whole !)))) (and-then ! (load ! (from ! (stop !)) (look ! 47 refl)) (and-then ! (load ! (from ! (stop !)) (look ! 45 refl)) (no-more !)))))
+      (λ ok·3. land ! (from ! (stop !)) (init ! 34 refl (tt, record { fits = ok·3 .1 })) $
+      here ! (‵ (flft κ·pages q·pages) ∷ ‵ (ShrAt u8 κ·pages b·pages o·pages γ·pages (length pages) pages) ∷ ‵ (flft κ·nodes q·nodes) ∷ ‵ (ShrAt u32 κ·nodes b·nodes o·nodes γ·nodes (length nodes) nodes) ∷ ‵ (flft κ·register q·register) ∷ ‵ (ShrAt Record′.row κ·register b·register o·register γ·register (length register) register) ∷ ‵ (flft κ·buffer q·buffer) ∷ ‵ (MutAt u8 κ·buffer b·buffer o·buffer γ·buffer (length buffer) buffer) ∷ empty (sliceTy (tyRef erased mut (pointee (u8 .written)))) l₂₆ (empty (tyRef erased mut (pointee (u8 .written))) l₂₅ (empty tyUnit l₂₄ (empty (sliceTy (tyRef erased mut (pointee (u8 .written)))) l₂₃ (empty (tyRef erased mut (pointee (u8 .written))) l₂₂ (empty (tyInt w64) l₂₁ (empty tyBool l₂₀ (holds (tyInt w64) l₁₉ (vint w64 (length buffer)) (empty (tyInt w64) l₁₈ (empty (tyInt w64) l₁₇ (empty tyBool l₁₆ (empty (tyAt (code.function .locals) 15) l₁₅ (empty (tyAt (code.function .locals) 14) l₁₄ (holds (tyInt w64) l₁₃ (vint w64 (r3 s pages nodes register x-l x-v offset len buffer)) (holds (tyInt w64) l₁₂ (vint w64 (r2 s pages nodes register x-l x-v offset len buffer)) (holds (tyInt w64) l₁₁ (vint w64 (r1 s pages nodes register x-l x-v offset len buffer)) (holds (tyAt (code.function .locals) 10) l₁₀ (Range′.mach (Range′.build offset len (length buffer))) (holds (sliceTy (tyRef (named 3) mut (pointee (u8 .written)))) l₉ (sliceVal (b·buffer, o·buffer) (length buffer)) (holds (tyInt w64) l₈ (vint w64 len) (holds (tyAt (code.function .locals) 7) l₇ (ByteOffset′.mach offset) (holds (tyAt (code.function .locals) 6) l₆ (Version′.mach x-v) (holds (tyAt (code.function .locals) 5) l₅ (Line′.mach x-l) (holds (sliceTy (tyRef (named 2) imm (pointee (Record′.row .written)))) l₄ (sliceVal (b·register, o·register) (length register)) (holds (sliceTy (tyRef (named 1) imm (pointee (u32 .written)))) l₃ (sliceVal (b·nodes, o·nodes) (length nodes)) (holds (sliceTy (tyRef (named 0) imm (pointee (u8 .written)))) l₂ (sliceVal (b·pages, o·pages) (length pages)) (holds (tyAt (code.function .locals) 1) l₁ (Store′.mach s) (empty (tyAt (code.function .locals) 0) l₀ []))))))))))))))))))))))))))) $
+      Call-chunk-at.calls ! mem run (fmOf 𝓤 H (W .laws) 𝓣) known-chunk-at (s .size) offset len (Store′.ok-size s ok·s) ok·offset ok·len (and-then ! (load ! (from ! (fld ! refl (stop !))) (look-in ! 59 (sub ! 0 refl (whole !)))) (and-then ! (load ! (from ! (stop !)) (look ! 47 refl)) (and-then ! (load ! (from ! (stop !)) (look ! 45 refl)) (no-more !))))
+      (λ ok·4. land ! (from ! (stop !)) (init ! 32 refl (Chunk′.typed 𝓤 H A W (r4 s pages nodes register x-l x-v offset len buffer) ok·4)) $
+      here ! (‵ (flft κ·pages q·pages) ∷ ‵ (ShrAt u8 κ·pages b·pages o·pages γ·pages (length pages) pages) ∷ ‵ (flft κ·nodes q·nodes) ∷ ‵ (ShrAt u32 κ·nodes b·nodes o·nodes γ·nodes (length nodes) nodes) ∷ ‵ (flft κ·register q·register) ∷ ‵ (ShrAt Record′.row κ·register b·register o·register γ·register (length register) register) ∷ ‵ (flft κ·buffer q·buffer) ∷ ‵ (MutAt u8 κ·buffer b·buffer o·buffer γ·buffer (length buffer) buffer) ∷ empty (sliceTy (tyRef erased mut (pointee (u8 .written)))) l₂₆ (empty (tyRef erased mut (pointee (u8 .written))) l₂₅ (empty tyUnit l₂₄ (empty (sliceTy (tyRef erased mut (pointee (u8 .written)))) l₂₃ (empty (tyRef erased mut (pointee (u8 .written))) l₂₂ (empty (tyInt w64) l₂₁ (empty tyBool l₂₀ (holds (tyInt w64) l₁₉ (vint w64 (length buffer)) (empty (tyInt w64) l₁₈ (empty (tyInt w64) l₁₇ (empty tyBool l₁₆ (empty (tyAt (code.function .locals) 15) l₁₅ (holds (tyAt (code.function .locals) 14) l₁₄ (Chunk′.mach (r4 s pages nodes register x-l x-v offset len buffer)) (holds (tyInt w64) l₁₃ (vint w64 (r3 s pages nodes register x-l x-v offset len buffer)) (holds (tyInt w64) l₁₂ (vint w64 (r2 s pages nodes register x-l x-v offset len buffer)) (holds (tyInt w64) l₁₁ (vint w64 (r1 s pages nodes register x-l x-v offset len buffer)) (holds (tyAt (code.function .locals) 10) l₁₀ (Range′.mach (Range′.build offset len (length buffer))) (holds (sliceTy (tyRef (named 3) mut (pointee (u8 .written)))) l₉ (sliceVal (b·buffer, o·buffer) (length buffer)) (holds (tyInt w64) l₈ (vint w64 len) (holds (tyAt (code.function .locals) 7) l₇ (ByteOffset′.mach offset) (holds (tyAt (code.function .locals) 6) l₆ (Version′.mach x-v) (holds (tyAt (code.function .locals) 5) l₅ (Line′.mach x-l) (holds (sliceTy (tyRef (named 2) imm (pointee (Record′.row .written)))) l₄ (sliceVal (b·register, o·register) (length register)) (holds (sliceTy (tyRef (named 1) imm (pointee (u32 .written)))) l₃ (sliceVal (b·nodes, o·nodes) (length nodes)) (holds (sliceTy (tyRef (named 0) imm (pointee (u8 .written)))) l₂ (sliceVal (b·pages, o·pages) (length pages)) (holds (tyAt (code.function .locals) 1) l₁ (Store′.mach s) (empty (tyAt (code.function .locals) 0) l₀ []))))))))))))))))))))))))))) $
       move ! (2 ∷ 3 ∷ 4 ∷ 5 ∷ []) $
-      Call-find-page.calls ! mem run (fmOf 𝓤 H (W .laws) 𝓣) known-find-page s κ·nodes q·nodes b·nodes o·nodes γ·nodes (length nodes) nodes κ·register q·register b·register o·register γ·register (length register) register x-v ((r5 s pages nodes register x-v offset len buffer) .page) ok·s ok·x-v (Chunk′.ok-page (r5 s pages nodes register x-v offset len buffer) ok·5) (and-then ! (load ! (from ! (stop !)) (look ! 57 refl)) (and-then ! (load ! (from ! (stop !)) (look ! 53 refl)) (and-then ! (load ! (from ! (stop !)) (look ! 51 refl)) (and-then ! (load ! (from ! (stop !)) (look ! 49 refl)) (and-then ! (load ! (from ! (fld ! refl (stop !))) (look-in ! 33 (sub ! 0 refl (whole !)))) (no-more !))))))
-      (λ ok·6. move ! (4 ∷ 5 ∷ 0 ∷ 1 ∷ 2 ∷ 3 ∷ 6 ∷ 7 ∷ []) $ land ! (from ! (stop !)) (init ! 32 refl (Found′.typed 𝓤 H A W (r6 s pages nodes register x-v offset len buffer) ok·6)) $
-      here ! (‵ (flft κ·pages q·pages) ∷ ‵ (ShrAt u8 κ·pages b·pages o·pages γ·pages (length pages) pages) ∷ ‵ (flft κ·nodes q·nodes) ∷ ‵ (ShrAt u32 κ·nodes b·nodes o·nodes γ·nodes (length nodes) nodes) ∷ ‵ (flft κ·register q·register) ∷ ‵ (ShrAt Record′.row κ·register b·register o·register γ·register (length register) register) ∷ ‵ (flft κ·buffer q·buffer) ∷ ‵ (MutAt u8 κ·buffer b·buffer o·buffer γ·buffer (length buffer) buffer) ∷ empty (sliceTy (tyRef erased mut (pointee (u8 .written)))) l₂₆ (empty (tyRef erased mut (pointee (u8 .written))) l₂₅ (empty tyUnit l₂₄ (empty (sliceTy (tyRef erased mut (pointee (u8 .written)))) l₂₃ (empty (tyRef erased mut (pointee (u8 .written))) l₂₂ (empty (tyInt w64) l₂₁ (empty tyBool l₂₀ (holds (tyAt (code.function .locals) 19) l₁₉ (Record′.mach (r2 s pages nodes register x-v offset len buffer)) (holds (tyInt w64) l₁₈ (vint w64 (length buffer)) (empty (tyInt w64) l₁₇ (empty (tyInt w64) l₁₆ (empty tyBool l₁₅ (holds (tyAt (code.function .locals) 14) l₁₄ (Found′.mach (r6 s pages nodes register x-v offset len buffer)) (holds (tyAt (code.function .locals) 13) l₁₃ (Chunk′.mach (r5 s pages nodes register x-v offset len buffer)) (holds (tyInt w64) l₁₂ (vint w64 (r4 s pages nodes register x-v offset len buffer)) (holds (tyInt w64) l₁₁ (vint w64 (r3 s pages nodes register x-v offset len buffer)) (holds (tyAt (code.function .locals) 10) l₁₀ (Range′.mach (Range′.build offset len (length buffer))) (holds (tyAt (code.function .locals) 9) l₉ (Lengths′.mach (r1 s pages nodes register x-v offset len buffer)) (holds (sliceTy (tyRef (named 3) mut (pointee (u8 .written)))) l₈ (sliceVal (b·buffer, o·buffer) (length buffer)) (holds (tyInt w64) l₇ (vint w64 len) (holds (tyAt (code.function .locals) 6) l₆ (ByteOffset′.mach offset) (holds (tyAt (code.function .locals) 5) l₅ (Version′.mach x-v) (holds (sliceTy (tyRef (named 2) imm (pointee (Record′.row .written)))) l₄ (sliceVal (b·register, o·register) (length register)) (holds (sliceTy (tyRef (named 1) imm (pointee (u32 .written)))) l₃ (sliceVal (b·nodes, o·nodes) (length nodes)) (holds (sliceTy (tyRef (named 0) imm (pointee (u8 .written)))) l₂ (sliceVal (b·pages, o·pages) (length pages)) (holds (tyAt (code.function .locals) 1) l₁ (Store′.mach s) (empty (tyAt (code.function .locals) 0) l₀ []))))))))))))))))))))))))))) $
-      Call-is-lost.calls ! mem run (fmOf 𝓤 H (W .laws) 𝓣) known-is-lost (s .pages) (r6 s pages nodes register x-v offset len buffer) (Store′.ok-pages s ok·s) ok·6 (and-then ! (load ! (from ! (fld ! refl (stop !))) (look-in ! 59 (sub ! 1 refl (whole !)))) (and-then ! (load ! (from ! (stop !)) (look ! 33 refl)) (no-more !)))
-      (λ ok·7. land ! (from ! (stop !)) (init ! 20 refl (tt, tt)) $
-      here ! (‵ (flft κ·pages q·pages) ∷ ‵ (ShrAt u8 κ·pages b·pages o·pages γ·pages (length pages) pages) ∷ ‵ (flft κ·nodes q·nodes) ∷ ‵ (ShrAt u32 κ·nodes b·nodes o·nodes γ·nodes (length nodes) nodes) ∷ ‵ (flft κ·register q·register) ∷ ‵ (ShrAt Record′.row κ·register b·register o·register γ·register (length register) register) ∷ ‵ (flft κ·buffer q·buffer) ∷ ‵ (MutAt u8 κ·buffer b·buffer o·buffer γ·buffer (length buffer) buffer) ∷ empty (sliceTy (tyRef erased mut (pointee (u8 .written)))) l₂₆ (empty (tyRef erased mut (pointee (u8 .written))) l₂₅ (empty tyUnit l₂₄ (empty (sliceTy (tyRef erased mut (pointee (u8 .written)))) l₂₃ (empty (tyRef erased mut (pointee (u8 .written))) l₂₂ (empty (tyInt w64) l₂₁ (holds tyBool l₂₀ (vbool (r7 s pages nodes register x-v offset len buffer)) (holds (tyAt (code.function .locals) 19) l₁₉ (Record′.mach (r2 s pages nodes register x-v offset len buffer)) (holds (tyInt w64) l₁₈ (vint w64 (length buffer)) (empty (tyInt w64) l₁₇ (empty (tyInt w64) l₁₆ (empty tyBool l₁₅ (holds (tyAt (code.function .locals) 14) l₁₄ (Found′.mach (r6 s pages nodes register x-v offset len buffer)) (holds (tyAt (code.function .locals) 13) l₁₃ (Chunk′.mach (r5 s pages nodes register x-v offset len buffer)) (holds (tyInt w64) l₁₂ (vint w64 (r4 s pages nodes register x-v offset len buffer)) (holds (tyInt w64) l₁₁ (vint w64 (r3 s pages nodes register x-v offset len buffer)) (holds (tyAt (code.function .locals) 10) l₁₀ (Range′.mach (Range′.build offset len (length buffer))) (holds (tyAt (code.function .locals) 9) l₉ (Lengths′.mach (r1 s pages nodes register x-v offset len buffer)) (holds (sliceTy (tyRef (named 3) mut (pointee (u8 .written)))) l₈ (sliceVal (b·buffer, o·buffer) (length buffer)) (holds (tyInt w64) l₇ (vint w64 len) (holds (tyAt (code.function .locals) 6) l₆ (ByteOffset′.mach offset) (holds (tyAt (code.function .locals) 5) l₅ (Version′.mach x-v) (holds (sliceTy (tyRef (named 2) imm (pointee (Record′.row .written)))) l₄ (sliceVal (b·register, o·register) (length register)) (holds (sliceTy (tyRef (named 1) imm (pointee (u32 .written)))) l₃ (sliceVal (b·nodes, o·nodes) (length nodes)) (holds (sliceTy (tyRef (named 0) imm (pointee (u8 .written)))) l₂ (sliceVal (b·pages, o·pages) (length pages)) (holds (tyAt (code.function .locals) 1) l₁ (Store′.mach s) (empty (tyAt (code.function .locals) 0) l₀ []))))))))))))))))))))))))))) $
+      Call-find-page.calls ! mem run (fmOf 𝓤 H (W .laws) 𝓣) known-find-page κ·nodes q·nodes b·nodes o·nodes γ·nodes (length nodes) nodes κ·register q·register b·register o·register γ·register (length register) register (r1 s pages nodes register x-l x-v offset len buffer) ((r4 s pages nodes register x-l x-v offset len buffer) .page) ok·1 (Chunk′.ok-page (r4 s pages nodes register x-l x-v offset len buffer) ok·4) (and-then ! (load ! (from ! (stop !)) (look ! 53 refl)) (and-then ! (load ! (from ! (stop !)) (look ! 51 refl)) (and-then ! (load ! (from ! (stop !)) (look ! 37 refl)) (and-then ! (load ! (from ! (fld ! refl (stop !))) (look-in ! 31 (sub ! 0 refl (whole !)))) (no-more !)))))
+      (λ ok·5. move ! (4 ∷ 5 ∷ 0 ∷ 1 ∷ 2 ∷ 3 ∷ 6 ∷ 7 ∷ []) $ land ! (from ! (stop !)) (init ! 30 refl (Found′.typed 𝓤 H A W (r5 s pages nodes register x-l x-v offset len buffer) ok·5)) $
+      here ! (‵ (flft κ·pages q·pages) ∷ ‵ (ShrAt u8 κ·pages b·pages o·pages γ·pages (length pages) pages) ∷ ‵ (flft κ·nodes q·nodes) ∷ ‵ (ShrAt u32 κ·nodes b·nodes o·nodes γ·nodes (length nodes) nodes) ∷ ‵ (flft κ·register q·register) ∷ ‵ (ShrAt Record′.row κ·register b·register o·register γ·register (length register) register) ∷ ‵ (flft κ·buffer q·buffer) ∷ ‵ (MutAt u8 κ·buffer b·buffer o·buffer γ·buffer (length buffer) buffer) ∷ empty (sliceTy (tyRef erased mut (pointee (u8 .written)))) l₂₆ (empty (tyRef erased mut (pointee (u8 .written))) l₂₅ (empty tyUnit l₂₄ (empty (sliceTy (tyRef erased mut (pointee (u8 .written)))) l₂₃ (empty (tyRef erased mut (pointee (u8 .written))) l₂₂ (empty (tyInt w64) l₂₁ (empty tyBool l₂₀ (holds (tyInt w64) l₁₉ (vint w64 (length buffer)) (empty (tyInt w64) l₁₈ (empty (tyInt w64) l₁₇ (empty tyBool l₁₆ (holds (tyAt (code.function .locals) 15) l₁₅ (Found′.mach (r5 s pages nodes register x-l x-v offset len buffer)) (holds (tyAt (code.function .locals) 14) l₁₄ (Chunk′.mach (r4 s pages nodes register x-l x-v offset len buffer)) (holds (tyInt w64) l₁₃ (vint w64 (r3 s pages nodes register x-l x-v offset len buffer)) (holds (tyInt w64) l₁₂ (vint w64 (r2 s pages nodes register x-l x-v offset len buffer)) (holds (tyInt w64) l₁₁ (vint w64 (r1 s pages nodes register x-l x-v offset len buffer)) (holds (tyAt (code.function .locals) 10) l₁₀ (Range′.mach (Range′.build offset len (length buffer))) (holds (sliceTy (tyRef (named 3) mut (pointee (u8 .written)))) l₉ (sliceVal (b·buffer, o·buffer) (length buffer)) (holds (tyInt w64) l₈ (vint w64 len) (holds (tyAt (code.function .locals) 7) l₇ (ByteOffset′.mach offset) (holds (tyAt (code.function .locals) 6) l₆ (Version′.mach x-v) (holds (tyAt (code.function .locals) 5) l₅ (Line′.mach x-l) (holds (sliceTy (tyRef (named 2) imm (pointee (Record′.row .written)))) l₄ (sliceVal (b·register, o·register) (length register)) (holds (sliceTy (tyRef (named 1) imm (pointee (u32 .written)))) l₃ (sliceVal (b·nodes, o·nodes) (length nodes)) (holds (sliceTy (tyRef (named 0) imm (pointee (u8 .written)))) l₂ (sliceVal (b·pages, o·pages) (length pages)) (holds (tyAt (code.function .locals) 1) l₁ (Store′.mach s) (empty (tyAt (code.function .locals) 0) l₀ []))))))))))))))))))))))))))) $
+      Call-is-lost.calls ! mem run (fmOf 𝓤 H (W .laws) 𝓣) known-is-lost (s .pages) (r5 s pages nodes register x-l x-v offset len buffer) (Store′.ok-pages s ok·s) ok·5 (and-then ! (load ! (from ! (fld ! refl (stop !))) (look-in ! 59 (sub ! 1 refl (whole !)))) (and-then ! (load ! (from ! (stop !)) (look ! 31 refl)) (no-more !)))
+      (λ ok·6. land ! (from ! (stop !)) (init ! 20 refl (tt, tt)) $
+      here ! (‵ (flft κ·pages q·pages) ∷ ‵ (ShrAt u8 κ·pages b·pages o·pages γ·pages (length pages) pages) ∷ ‵ (flft κ·nodes q·nodes) ∷ ‵ (ShrAt u32 κ·nodes b·nodes o·nodes γ·nodes (length nodes) nodes) ∷ ‵ (flft κ·register q·register) ∷ ‵ (ShrAt Record′.row κ·register b·register o·register γ·register (length register) register) ∷ ‵ (flft κ·buffer q·buffer) ∷ ‵ (MutAt u8 κ·buffer b·buffer o·buffer γ·buffer (length buffer) buffer) ∷ empty (sliceTy (tyRef erased mut (pointee (u8 .written)))) l₂₆ (empty (tyRef erased mut (pointee (u8 .written))) l₂₅ (empty tyUnit l₂₄ (empty (sliceTy (tyRef erased mut (pointee (u8 .written)))) l₂₃ (empty (tyRef erased mut (pointee (u8 .written))) l₂₂ (empty (tyInt w64) l₂₁ (holds tyBool l₂₀ (vbool (r6 s pages nodes register x-l x-v offset len buffer)) (holds (tyInt w64) l₁₉ (vint w64 (length buffer)) (empty (tyInt w64) l₁₈ (empty (tyInt w64) l₁₇ (empty tyBool l₁₆ (holds (tyAt (code.function .locals) 15) l₁₅ (Found′.mach (r5 s pages nodes register x-l x-v offset len buffer)) (holds (tyAt (code.function .locals) 14) l₁₄ (Chunk′.mach (r4 s pages nodes register x-l x-v offset len buffer)) (holds (tyInt w64) l₁₃ (vint w64 (r3 s pages nodes register x-l x-v offset len buffer)) (holds (tyInt w64) l₁₂ (vint w64 (r2 s pages nodes register x-l x-v offset len buffer)) (holds (tyInt w64) l₁₁ (vint w64 (r1 s pages nodes register x-l x-v offset len buffer)) (holds (tyAt (code.function .locals) 10) l₁₀ (Range′.mach (Range′.build offset len (length buffer))) (holds (sliceTy (tyRef (named 3) mut (pointee (u8 .written)))) l₉ (sliceVal (b·buffer, o·buffer) (length buffer)) (holds (tyInt w64) l₈ (vint w64 len) (holds (tyAt (code.function .locals) 7) l₇ (ByteOffset′.mach offset) (holds (tyAt (code.function .locals) 6) l₆ (Version′.mach x-v) (holds (tyAt (code.function .locals) 5) l₅ (Line′.mach x-l) (holds (sliceTy (tyRef (named 2) imm (pointee (Record′.row .written)))) l₄ (sliceVal (b·register, o·register) (length register)) (holds (sliceTy (tyRef (named 1) imm (pointee (u32 .written)))) l₃ (sliceVal (b·nodes, o·nodes) (length nodes)) (holds (sliceTy (tyRef (named 0) imm (pointee (u8 .written)))) l₂ (sliceVal (b·pages, o·pages) (length pages)) (holds (tyAt (code.function .locals) 1) l₁ (Store′.mach s) (empty (tyAt (code.function .locals) 0) l₀ []))))))))))))))))))))))))))) $
       move ! (2 ∷ 3 ∷ 4 ∷ 5 ∷ []) $
-      Call-some-lost.calls ! mem run (fmOf 𝓤 H (W .laws) 𝓣) known-some-lost s κ·nodes q·nodes b·nodes o·nodes γ·nodes (length nodes) nodes κ·register q·register b·register o·register γ·register (length register) register x-v ((r5 s pages nodes register x-v offset len buffer) .page) (r4 s pages nodes register x-v offset len buffer) (r7 s pages nodes register x-v offset len buffer) ok·s ok·x-v (Chunk′.ok-page (r5 s pages nodes register x-v offset len buffer) ok·5) ok·4 ok·7 (Facts.some-lost-1 s pages nodes register x-v offset len buffer ok·s (room·pages .0) (room·nodes .0) (room·register .0) ok·x-v ok·offset (ok·len .1) (room·buffer .0) ok·1 ok·2 (ok·3 .1) (ok·4 .1) ok·5 ok·6) (and-then ! (load ! (from ! (stop !)) (look ! 57 refl)) (and-then ! (load ! (from ! (stop !)) (look ! 53 refl)) (and-then ! (load ! (from ! (stop !)) (look ! 51 refl)) (and-then ! (load ! (from ! (stop !)) (look ! 49 refl)) (and-then ! (load ! (from ! (fld ! refl (stop !))) (look-in ! 33 (sub ! 0 refl (whole !)))) (and-then ! (load ! (from ! (stop !)) (look ! 35 refl)) (and-then ! (load ! (from ! (stop !)) (look ! 19 refl)) (no-more !))))))))
-      (λ ok·8. move ! (4 ∷ 5 ∷ 0 ∷ 1 ∷ 2 ∷ 3 ∷ 6 ∷ 7 ∷ []) $ land ! (from ! (stop !)) (init ! 30 refl (tt, tt)) $
-      here ! (‵ (flft κ·pages q·pages) ∷ ‵ (ShrAt u8 κ·pages b·pages o·pages γ·pages (length pages) pages) ∷ ‵ (flft κ·nodes q·nodes) ∷ ‵ (ShrAt u32 κ·nodes b·nodes o·nodes γ·nodes (length nodes) nodes) ∷ ‵ (flft κ·register q·register) ∷ ‵ (ShrAt Record′.row κ·register b·register o·register γ·register (length register) register) ∷ ‵ (flft κ·buffer q·buffer) ∷ ‵ (MutAt u8 κ·buffer b·buffer o·buffer γ·buffer (length buffer) buffer) ∷ empty (sliceTy (tyRef erased mut (pointee (u8 .written)))) l₂₆ (empty (tyRef erased mut (pointee (u8 .written))) l₂₅ (empty tyUnit l₂₄ (empty (sliceTy (tyRef erased mut (pointee (u8 .written)))) l₂₃ (empty (tyRef erased mut (pointee (u8 .written))) l₂₂ (empty (tyInt w64) l₂₁ (holds tyBool l₂₀ (vbool (r7 s pages nodes register x-v offset len buffer)) (holds (tyAt (code.function .locals) 19) l₁₉ (Record′.mach (r2 s pages nodes register x-v offset len buffer)) (holds (tyInt w64) l₁₈ (vint w64 (length buffer)) (empty (tyInt w64) l₁₇ (empty (tyInt w64) l₁₆ (holds tyBool l₁₅ (vbool (r8 s pages nodes register x-v offset len buffer)) (holds (tyAt (code.function .locals) 14) l₁₄ (Found′.mach (r6 s pages nodes register x-v offset len buffer)) (holds (tyAt (code.function .locals) 13) l₁₃ (Chunk′.mach (r5 s pages nodes register x-v offset len buffer)) (holds (tyInt w64) l₁₂ (vint w64 (r4 s pages nodes register x-v offset len buffer)) (holds (tyInt w64) l₁₁ (vint w64 (r3 s pages nodes register x-v offset len buffer)) (holds (tyAt (code.function .locals) 10) l₁₀ (Range′.mach (Range′.build offset len (length buffer))) (holds (tyAt (code.function .locals) 9) l₉ (Lengths′.mach (r1 s pages nodes register x-v offset len buffer)) (holds (sliceTy (tyRef (named 3) mut (pointee (u8 .written)))) l₈ (sliceVal (b·buffer, o·buffer) (length buffer)) (holds (tyInt w64) l₇ (vint w64 len) (holds (tyAt (code.function .locals) 6) l₆ (ByteOffset′.mach offset) (holds (tyAt (code.function .locals) 5) l₅ (Version′.mach x-v) (holds (sliceTy (tyRef (named 2) imm (pointee (Record′.row .written)))) l₄ (sliceVal (b·register, o·register) (length register)) (holds (sliceTy (tyRef (named 1) imm (pointee (u32 .written)))) l₃ (sliceVal (b·nodes, o·nodes) (length nodes)) (holds (sliceTy (tyRef (named 0) imm (pointee (u8 .written)))) l₂ (sliceVal (b·pages, o·pages) (length pages)) (holds (tyAt (code.function .locals) 1) l₁ (Store′.mach s) (empty (tyAt (code.function .locals) 0) l₀ []))))))))))))))))))))))))))) $
-      Call-or-lost.calls ! mem run (fmOf 𝓤 H (W .laws) 𝓣) known-or-lost (r3 s pages nodes register x-v offset len buffer) (r8 s pages nodes register x-v offset len buffer) ok·3 ok·8 (and-then ! (load ! (from ! (stop !)) (look ! 39 refl)) (and-then ! (load ! (from ! (stop !)) (look ! 31 refl)) (no-more !)))
-      (λ ok·9. land ! (from ! (stop !)) (init ! 28 refl (tt, record { fits = ok·9 .1 })) $
-      here ! (‵ (flft κ·pages q·pages) ∷ ‵ (ShrAt u8 κ·pages b·pages o·pages γ·pages (length pages) pages) ∷ ‵ (flft κ·nodes q·nodes) ∷ ‵ (ShrAt u32 κ·nodes b·nodes o·nodes γ·nodes (length nodes) nodes) ∷ ‵ (flft κ·register q·register) ∷ ‵ (ShrAt Record′.row κ·register b·register o·register γ·register (length register) register) ∷ ‵ (flft κ·buffer q·buffer) ∷ ‵ (MutAt u8 κ·buffer b·buffer o·buffer γ·buffer (length buffer) buffer) ∷ empty (sliceTy (tyRef erased mut (pointee (u8 .written)))) l₂₆ (empty (tyRef erased mut (pointee (u8 .written))) l₂₅ (empty tyUnit l₂₄ (empty (sliceTy (tyRef erased mut (pointee (u8 .written)))) l₂₃ (empty (tyRef erased mut (pointee (u8 .written))) l₂₂ (empty (tyInt w64) l₂₁ (holds tyBool l₂₀ (vbool (r7 s pages nodes register x-v offset len buffer)) (holds (tyAt (code.function .locals) 19) l₁₉ (Record′.mach (r2 s pages nodes register x-v offset len buffer)) (holds (tyInt w64) l₁₈ (vint w64 (length buffer)) (empty (tyInt w64) l₁₇ (holds (tyInt w64) l₁₆ (vint w64 (r9 s pages nodes register x-v offset len buffer)) (holds tyBool l₁₅ (vbool (r8 s pages nodes register x-v offset len buffer)) (holds (tyAt (code.function .locals) 14) l₁₄ (Found′.mach (r6 s pages nodes register x-v offset len buffer)) (holds (tyAt (code.function .locals) 13) l₁₃ (Chunk′.mach (r5 s pages nodes register x-v offset len buffer)) (holds (tyInt w64) l₁₂ (vint w64 (r4 s pages nodes register x-v offset len buffer)) (holds (tyInt w64) l₁₁ (vint w64 (r3 s pages nodes register x-v offset len buffer)) (holds (tyAt (code.function .locals) 10) l₁₀ (Range′.mach (Range′.build offset len (length buffer))) (holds (tyAt (code.function .locals) 9) l₉ (Lengths′.mach (r1 s pages nodes register x-v offset len buffer)) (holds (sliceTy (tyRef (named 3) mut (pointee (u8 .written)))) l₈ (sliceVal (b·buffer, o·buffer) (length buffer)) (holds (tyInt w64) l₇ (vint w64 len) (holds (tyAt (code.function .locals) 6) l₆ (ByteOffset′.mach offset) (holds (tyAt (code.function .locals) 5) l₅ (Version′.mach x-v) (holds (sliceTy (tyRef (named 2) imm (pointee (Record′.row .written)))) l₄ (sliceVal (b·register, o·register) (length register)) (holds (sliceTy (tyRef (named 1) imm (pointee (u32 .written)))) l₃ (sliceVal (b·nodes, o·nodes) (length nodes)) (holds (sliceTy (tyRef (named 0) imm (pointee (u8 .written)))) l₂ (sliceVal (b·pages, o·pages) (length pages)) (holds (tyAt (code.function .locals) 1) l₁ (Store′.mach s) (empty (tyAt (code.function .locals) 0) l₀ []))))))))))))))))))))))))))) $
-      Call-copied.calls ! mem run (fmOf 𝓤 H (W .laws) 𝓣) known-copied (r9 s pages nodes register x-v offset len buffer) ((r5 s pages nodes register x-v offset len buffer) .count) ok·9 (Chunk′.ok-count (r5 s pages nodes register x-v offset len buffer) ok·5) (and-then ! (load ! (from ! (stop !)) (look ! 29 refl)) (and-then ! (load ! (from ! (fld ! refl (stop !))) (look-in ! 35 (sub ! 2 refl (whole !)))) (no-more !)))
-      (λ ok·10. land ! (from ! (stop !)) (init ! 26 refl (tt, record { fits = ok·10 .1 })) $
-      here ! (‵ (flft κ·pages q·pages) ∷ ‵ (ShrAt u8 κ·pages b·pages o·pages γ·pages (length pages) pages) ∷ ‵ (flft κ·nodes q·nodes) ∷ ‵ (ShrAt u32 κ·nodes b·nodes o·nodes γ·nodes (length nodes) nodes) ∷ ‵ (flft κ·register q·register) ∷ ‵ (ShrAt Record′.row κ·register b·register o·register γ·register (length register) register) ∷ ‵ (flft κ·buffer q·buffer) ∷ ‵ (MutAt u8 κ·buffer b·buffer o·buffer γ·buffer (length buffer) buffer) ∷ empty (sliceTy (tyRef erased mut (pointee (u8 .written)))) l₂₆ (empty (tyRef erased mut (pointee (u8 .written))) l₂₅ (empty tyUnit l₂₄ (empty (sliceTy (tyRef erased mut (pointee (u8 .written)))) l₂₃ (empty (tyRef erased mut (pointee (u8 .written))) l₂₂ (empty (tyInt w64) l₂₁ (holds tyBool l₂₀ (vbool (r7 s pages nodes register x-v offset len buffer)) (holds (tyAt (code.function .locals) 19) l₁₉ (Record′.mach (r2 s pages nodes register x-v offset len buffer)) (holds (tyInt w64) l₁₈ (vint w64 (length buffer)) (holds (tyInt w64) l₁₇ (vint w64 (r10 s pages nodes register x-v offset len buffer)) (holds (tyInt w64) l₁₆ (vint w64 (r9 s pages nodes register x-v offset len buffer)) (holds tyBool l₁₅ (vbool (r8 s pages nodes register x-v offset len buffer)) (holds (tyAt (code.function .locals) 14) l₁₄ (Found′.mach (r6 s pages nodes register x-v offset len buffer)) (holds (tyAt (code.function .locals) 13) l₁₃ (Chunk′.mach (r5 s pages nodes register x-v offset len buffer)) (holds (tyInt w64) l₁₂ (vint w64 (r4 s pages nodes register x-v offset len buffer)) (holds (tyInt w64) l₁₁ (vint w64 (r3 s pages nodes register x-v offset len buffer)) (holds (tyAt (code.function .locals) 10) l₁₀ (Range′.mach (Range′.build offset len (length buffer))) (holds (tyAt (code.function .locals) 9) l₉ (Lengths′.mach (r1 s pages nodes register x-v offset len buffer)) (holds (sliceTy (tyRef (named 3) mut (pointee (u8 .written)))) l₈ (sliceVal (b·buffer, o·buffer) (length buffer)) (holds (tyInt w64) l₇ (vint w64 len) (holds (tyAt (code.function .locals) 6) l₆ (ByteOffset′.mach offset) (holds (tyAt (code.function .locals) 5) l₅ (Version′.mach x-v) (holds (sliceTy (tyRef (named 2) imm (pointee (Record′.row .written)))) l₄ (sliceVal (b·register, o·register) (length register)) (holds (sliceTy (tyRef (named 1) imm (pointee (u32 .written)))) l₃ (sliceVal (b·nodes, o·nodes) (length nodes)) (holds (sliceTy (tyRef (named 0) imm (pointee (u8 .written)))) l₂ (sliceVal (b·pages, o·pages) (length pages)) (holds (tyAt (code.function .locals) 1) l₁ (Store′.mach s) (empty (tyAt (code.function .locals) 0) l₀ []))))))))))))))))))))))))))) $
-      Call-number-found.calls ! mem run (fmOf 𝓤 H (W .laws) 𝓣) known-number-found (s .pages) (r6 s pages nodes register x-v offset len buffer) (Store′.ok-pages s ok·s) ok·6 (and-then ! (load ! (from ! (fld ! refl (stop !))) (look-in ! 59 (sub ! 1 refl (whole !)))) (and-then ! (load ! (from ! (stop !)) (look ! 33 refl)) (no-more !)))
-      (λ ok·11. land ! (from ! (stop !)) (init ! 18 refl (tt, record { fits = ok·11 .1 })) $
-      here ! (‵ (flft κ·pages q·pages) ∷ ‵ (ShrAt u8 κ·pages b·pages o·pages γ·pages (length pages) pages) ∷ ‵ (flft κ·nodes q·nodes) ∷ ‵ (ShrAt u32 κ·nodes b·nodes o·nodes γ·nodes (length nodes) nodes) ∷ ‵ (flft κ·register q·register) ∷ ‵ (ShrAt Record′.row κ·register b·register o·register γ·register (length register) register) ∷ ‵ (flft κ·buffer q·buffer) ∷ ‵ (MutAt u8 κ·buffer b·buffer o·buffer γ·buffer (length buffer) buffer) ∷ empty (sliceTy (tyRef erased mut (pointee (u8 .written)))) l₂₆ (empty (tyRef erased mut (pointee (u8 .written))) l₂₅ (empty tyUnit l₂₄ (empty (sliceTy (tyRef erased mut (pointee (u8 .written)))) l₂₃ (empty (tyRef erased mut (pointee (u8 .written))) l₂₂ (holds (tyInt w64) l₂₁ (vint w64 (r11 s pages nodes register x-v offset len buffer)) (holds tyBool l₂₀ (vbool (r7 s pages nodes register x-v offset len buffer)) (holds (tyAt (code.function .locals) 19) l₁₉ (Record′.mach (r2 s pages nodes register x-v offset len buffer)) (holds (tyInt w64) l₁₈ (vint w64 (length buffer)) (holds (tyInt w64) l₁₇ (vint w64 (r10 s pages nodes register x-v offset len buffer)) (holds (tyInt w64) l₁₆ (vint w64 (r9 s pages nodes register x-v offset len buffer)) (holds tyBool l₁₅ (vbool (r8 s pages nodes register x-v offset len buffer)) (holds (tyAt (code.function .locals) 14) l₁₄ (Found′.mach (r6 s pages nodes register x-v offset len buffer)) (holds (tyAt (code.function .locals) 13) l₁₃ (Chunk′.mach (r5 s pages nodes register x-v offset len buffer)) (holds (tyInt w64) l₁₂ (vint w64 (r4 s pages nodes register x-v offset len buffer)) (holds (tyInt w64) l₁₁ (vint w64 (r3 s pages nodes register x-v offset len buffer)) (holds (tyAt (code.function .locals) 10) l₁₀ (Range′.mach (Range′.build offset len (length buffer))) (holds (tyAt (code.function .locals) 9) l₉ (Lengths′.mach (r1 s pages nodes register x-v offset len buffer)) (holds (sliceTy (tyRef (named 3) mut (pointee (u8 .written)))) l₈ (sliceVal (b·buffer, o·buffer) (length buffer)) (holds (tyInt w64) l₇ (vint w64 len) (holds (tyAt (code.function .locals) 6) l₆ (ByteOffset′.mach offset) (holds (tyAt (code.function .locals) 5) l₅ (Version′.mach x-v) (holds (sliceTy (tyRef (named 2) imm (pointee (Record′.row .written)))) l₄ (sliceVal (b·register, o·register) (length register)) (holds (sliceTy (tyRef (named 1) imm (pointee (u32 .written)))) l₃ (sliceVal (b·nodes, o·nodes) (length nodes)) (holds (sliceTy (tyRef (named 0) imm (pointee (u8 .written)))) l₂ (sliceVal (b·pages, o·pages) (length pages)) (holds (tyAt (code.function .locals) 1) l₁ (Store′.mach s) (empty (tyAt (code.function .locals) 0) l₀ []))))))))))))))))))))))))))) $
-      assigns ! (addr ! (from ! (fld ! refl (hop ! (look-in ! 44 (sub ! 0 refl (whole !))) (stop !))))) (from ! (stop !)) (init ! 16 refl (tt, tt)) $
-      assigns ! (agg ! (and-then ! (load ! (from ! (stop !)) (look ! 16 refl)) (and-then ! (load ! (from ! (fld ! refl (stop !))) (look-in ! 44 (sub ! 1 refl (whole !)))) (no-more !)))) (from ! (stop !)) (init ! 14 refl (tt, (tt, (record { fits = room·buffer .0 }, tt)))) $
-      move ! (6 ∷ 7 ∷ []) $ lend-mut ! tt u8 κ·buffer q·buffer b·buffer o·buffer γ·buffer (length buffer) buffer (refl) (λ ν·12-buffer γ·12-buffer. move ! (3 ∷ 4 ∷ 0 ∷ 1 ∷ []) $
-      Call-copy-page.calls ! mem run (fmOf 𝓤 H (W .laws) 𝓣) known-copy-page κ·pages q·pages b·pages o·pages γ·pages (length pages) pages (s .size) (r11 s pages nodes register x-v offset len buffer) ((r5 s pages nodes register x-v offset len buffer) .from) (r10 s pages nodes register x-v offset len buffer) (ν·12-buffer ∷ []) fullShare b·buffer o·buffer γ·12-buffer (length buffer) buffer 0 (Store′.ok-size s ok·s) ok·11 (Chunk′.ok-from (r5 s pages nodes register x-v offset len buffer) ok·5) ok·10 (refl, lit< tt) (and-then ! (load ! (from ! (stop !)) (look ! 55 refl)) (and-then ! (load ! (from ! (fld ! refl (stop !))) (look-in ! 57 (sub ! 0 refl (whole !)))) (and-then ! (load ! (from ! (stop !)) (look ! 17 refl)) (and-then ! (load ! (from ! (fld ! refl (stop !))) (look-in ! 33 (sub ! 1 refl (whole !)))) (and-then ! (load ! (from ! (stop !)) (look ! 25 refl)) (and-then ! (load ! (from ! (stop !)) (look ! 13 refl)) (and-then ! (lit ! tt) (no-more !))))))))
-      (λ ok·12 same·12-buffer. move ! (2 ∷ 3 ∷ 4 ∷ []) $ back-mut ! tt u8 κ·buffer q·buffer b·buffer o·buffer γ·buffer (length buffer) buffer (buffer₁₂ s pages nodes register x-v offset len buffer) ν·12-buffer γ·12-buffer (refl) same·12-buffer room·buffer $ move ! (2 ∷ 3 ∷ 4 ∷ 5 ∷ 6 ∷ 7 ∷ 0 ∷ 1 ∷ []) $ land ! (from ! (stop !)) (store ! 20 refl (tt, tt)) $
-      here ! (‵ (flft κ·pages q·pages) ∷ ‵ (ShrAt u8 κ·pages b·pages o·pages γ·pages (length pages) pages) ∷ ‵ (flft κ·nodes q·nodes) ∷ ‵ (ShrAt u32 κ·nodes b·nodes o·nodes γ·nodes (length nodes) nodes) ∷ ‵ (flft κ·register q·register) ∷ ‵ (ShrAt Record′.row κ·register b·register o·register γ·register (length register) register) ∷ ‵ (flft κ·buffer q·buffer) ∷ ‵ (MutAt u8 κ·buffer b·buffer o·buffer γ·buffer (length buffer) (buffer₁₂ s pages nodes register x-v offset len buffer)) ∷ empty (sliceTy (tyRef erased mut (pointee (u8 .written)))) l₂₆ (empty (tyRef erased mut (pointee (u8 .written))) l₂₅ (empty tyUnit l₂₄ (holds (sliceTy (tyRef erased mut (pointee (u8 .written)))) l₂₃ (sliceVal (b·buffer, o·buffer) (length buffer)) (holds (tyRef erased mut (pointee (u8 .written))) l₂₂ (vptr b·buffer o·buffer) (holds (tyInt w64) l₂₁ (vint w64 (r11 s pages nodes register x-v offset len buffer)) (holds tyBool l₂₀ (vbool (r12 s pages nodes register x-v offset len buffer)) (holds (tyAt (code.function .locals) 19) l₁₉ (Record′.mach (r2 s pages nodes register x-v offset len buffer)) (holds (tyInt w64) l₁₈ (vint w64 (length buffer)) (holds (tyInt w64) l₁₇ (vint w64 (r10 s pages nodes register x-v offset len buffer)) (holds (tyInt w64) l₁₆ (vint w64 (r9 s pages nodes register x-v offset len buffer)) (holds tyBool l₁₅ (vbool (r8 s pages nodes register x-v offset len buffer)) (holds (tyAt (code.function .locals) 14) l₁₄ (Found′.mach (r6 s pages nodes register x-v offset len buffer)) (holds (tyAt (code.function .locals) 13) l₁₃ (Chunk′.mach (r5 s pages nodes register x-v offset len buffer)) (holds (tyInt w64) l₁₂ (vint w64 (r4 s pages nodes register x-v offset len buffer)) (holds (tyInt w64) l₁₁ (vint w64 (r3 s pages nodes register x-v offset len buffer)) (holds (tyAt (code.function .locals) 10) l₁₀ (Range′.mach (Range′.build offset len (length buffer))) (holds (tyAt (code.function .locals) 9) l₉ (Lengths′.mach (r1 s pages nodes register x-v offset len buffer)) (holds (sliceTy (tyRef (named 3) mut (pointee (u8 .written)))) l₈ (sliceVal (b·buffer, o·buffer) (length buffer)) (holds (tyInt w64) l₇ (vint w64 len) (holds (tyAt (code.function .locals) 6) l₆ (ByteOffset′.mach offset) (holds (tyAt (code.function .locals) 5) l₅ (Version′.mach x-v) (holds (sliceTy (tyRef (named 2) imm (pointee (Record′.row .written)))) l₄ (sliceVal (b·register, o·register) (length register)) (holds (sliceTy (tyRef (named 1) imm (pointee (u32 .written)))) l₃ (sliceVal (b·nodes, o·nodes) (length nodes)) (holds (sliceTy (tyRef (named 0) imm (pointee (u8 .written)))) l₂ (sliceVal (b·pages, o·pages) (length pages)) (holds (tyAt (code.function .locals) 1) l₁ (Store′.mach s) (empty (tyAt (code.function .locals) 0) l₀ []))))))))))))))))))))))))))) $
-      Call-copied.calls ! mem run (fmOf 𝓤 H (W .laws) 𝓣) known-copied (r9 s pages nodes register x-v offset len buffer) len ok·9 ok·len (and-then ! (load ! (from ! (stop !)) (look ! 29 refl)) (and-then ! (load ! (from ! (stop !)) (look ! 47 refl)) (no-more !)))
-      (λ ok·13. land ! (from ! (stop !)) (store ! 18 refl (tt, record { fits = ok·13 .1 })) $
-      here ! (‵ (flft κ·pages q·pages) ∷ ‵ (ShrAt u8 κ·pages b·pages o·pages γ·pages (length pages) pages) ∷ ‵ (flft κ·nodes q·nodes) ∷ ‵ (ShrAt u32 κ·nodes b·nodes o·nodes γ·nodes (length nodes) nodes) ∷ ‵ (flft κ·register q·register) ∷ ‵ (ShrAt Record′.row κ·register b·register o·register γ·register (length register) register) ∷ ‵ (flft κ·buffer q·buffer) ∷ ‵ (MutAt u8 κ·buffer b·buffer o·buffer γ·buffer (length buffer) (buffer₁₂ s pages nodes register x-v offset len buffer)) ∷ empty (sliceTy (tyRef erased mut (pointee (u8 .written)))) l₂₆ (empty (tyRef erased mut (pointee (u8 .written))) l₂₅ (empty tyUnit l₂₄ (holds (sliceTy (tyRef erased mut (pointee (u8 .written)))) l₂₃ (sliceVal (b·buffer, o·buffer) (length buffer)) (holds (tyRef erased mut (pointee (u8 .written))) l₂₂ (vptr b·buffer o·buffer) (holds (tyInt w64) l₂₁ (vint w64 (r13 s pages nodes register x-v offset len buffer)) (holds tyBool l₂₀ (vbool (r12 s pages nodes register x-v offset len buffer)) (holds (tyAt (code.function .locals) 19) l₁₉ (Record′.mach (r2 s pages nodes register x-v offset len buffer)) (holds (tyInt w64) l₁₈ (vint w64 (length buffer)) (holds (tyInt w64) l₁₇ (vint w64 (r10 s pages nodes register x-v offset len buffer)) (holds (tyInt w64) l₁₆ (vint w64 (r9 s pages nodes register x-v offset len buffer)) (holds tyBool l₁₅ (vbool (r8 s pages nodes register x-v offset len buffer)) (holds (tyAt (code.function .locals) 14) l₁₄ (Found′.mach (r6 s pages nodes register x-v offset len buffer)) (holds (tyAt (code.function .locals) 13) l₁₃ (Chunk′.mach (r5 s pages nodes register x-v offset len buffer)) (holds (tyInt w64) l₁₂ (vint w64 (r4 s pages nodes register x-v offset len buffer)) (holds (tyInt w64) l₁₁ (vint w64 (r3 s pages nodes register x-v offset len buffer)) (holds (tyAt (code.function .locals) 10) l₁₀ (Range′.mach (Range′.build offset len (length buffer))) (holds (tyAt (code.function .locals) 9) l₉ (Lengths′.mach (r1 s pages nodes register x-v offset len buffer)) (holds (sliceTy (tyRef (named 3) mut (pointee (u8 .written)))) l₈ (sliceVal (b·buffer, o·buffer) (length buffer)) (holds (tyInt w64) l₇ (vint w64 len) (holds (tyAt (code.function .locals) 6) l₆ (ByteOffset′.mach offset) (holds (tyAt (code.function .locals) 5) l₅ (Version′.mach x-v) (holds (sliceTy (tyRef (named 2) imm (pointee (Record′.row .written)))) l₄ (sliceVal (b·register, o·register) (length register)) (holds (sliceTy (tyRef (named 1) imm (pointee (u32 .written)))) l₃ (sliceVal (b·nodes, o·nodes) (length nodes)) (holds (sliceTy (tyRef (named 0) imm (pointee (u8 .written)))) l₂ (sliceVal (b·pages, o·pages) (length pages)) (holds (tyAt (code.function .locals) 1) l₁ (Store′.mach s) (empty (tyAt (code.function .locals) 0) l₀ []))))))))))))))))))))))))))) $
-      assigns ! (addr ! (from ! (fld ! refl (hop ! (look-in ! 44 (sub ! 0 refl (whole !))) (stop !))))) (from ! (stop !)) (init ! 10 refl (tt, tt)) $
-      assigns ! (agg ! (and-then ! (load ! (from ! (stop !)) (look ! 10 refl)) (and-then ! (load ! (from ! (fld ! refl (stop !))) (look-in ! 44 (sub ! 1 refl (whole !)))) (no-more !)))) (from ! (stop !)) (init ! 8 refl (tt, (tt, (record { fits = room·buffer .0 }, tt)))) $
-      move ! (6 ∷ 7 ∷ []) $ lend-mut ! tt u8 κ·buffer q·buffer b·buffer o·buffer γ·buffer (length buffer) (buffer₁₂ s pages nodes register x-v offset len buffer) (refl ∙ sym same·12-buffer) (λ ν·14-buffer γ·14-buffer. move ! (3 ∷ 4 ∷ 5 ∷ 6 ∷ 7 ∷ 8 ∷ 0 ∷ 1 ∷ []) $
-      Call-copy-range.calls ! mem run (fmOf 𝓤 H (W .laws) 𝓣) known-copy-range s κ·pages q·pages b·pages o·pages γ·pages (length pages) pages κ·nodes q·nodes b·nodes o·nodes γ·nodes (length nodes) nodes κ·register q·register b·register o·register γ·register (length register) register x-v offset (r13 s pages nodes register x-v offset len buffer) (r10 s pages nodes register x-v offset len buffer) (ν·14-buffer ∷ []) fullShare b·buffer o·buffer γ·14-buffer (length buffer) (buffer₁₂ s pages nodes register x-v offset len buffer) ok·s ok·x-v ok·offset ok·13 ok·10 (Facts.copy-range-1 s pages nodes register x-v offset len buffer ok·s (room·pages .0) (room·nodes .0) (room·register .0) ok·x-v ok·offset (ok·len .1) (room·buffer .0) ok·1 ok·2 (ok·3 .1) (ok·4 .1) ok·5 ok·6 (ok·9 .1) (ok·10 .1) (ok·11 .1) same·12-buffer (ok·13 .1)) (and-then ! (load ! (from ! (stop !)) (look ! 55 refl)) (and-then ! (load ! (from ! (stop !)) (look ! 53 refl)) (and-then ! (load ! (from ! (stop !)) (look ! 51 refl)) (and-then ! (load ! (from ! (stop !)) (look ! 49 refl)) (and-then ! (load ! (from ! (stop !)) (look ! 47 refl)) (and-then ! (load ! (from ! (stop !)) (look ! 45 refl)) (and-then ! (load ! (from ! (stop !)) (look ! 15 refl)) (and-then ! (load ! (from ! (stop !)) (look ! 23 refl)) (and-then ! (load ! (from ! (stop !)) (look ! 5 refl)) (no-more !))))))))))
-      (λ same·14-buffer. move ! (6 ∷ 7 ∷ 8 ∷ []) $ back-mut ! tt u8 κ·buffer q·buffer b·buffer o·buffer γ·buffer (length buffer) (buffer₁₂ s pages nodes register x-v offset len buffer) (buffer₁₄ s pages nodes register x-v offset len buffer) ν·14-buffer γ·14-buffer (refl ∙ sym same·12-buffer) same·14-buffer room·buffer $ move ! (2 ∷ 3 ∷ 4 ∷ 5 ∷ 6 ∷ 7 ∷ 0 ∷ 1 ∷ []) $ land ! (from ! (stop !)) (init ! 12 refl (tt, tt)) $
-      here ! (‵ (flft κ·pages q·pages) ∷ ‵ (ShrAt u8 κ·pages b·pages o·pages γ·pages (length pages) pages) ∷ ‵ (flft κ·nodes q·nodes) ∷ ‵ (ShrAt u32 κ·nodes b·nodes o·nodes γ·nodes (length nodes) nodes) ∷ ‵ (flft κ·register q·register) ∷ ‵ (ShrAt Record′.row κ·register b·register o·register γ·register (length register) register) ∷ ‵ (flft κ·buffer q·buffer) ∷ ‵ (MutAt u8 κ·buffer b·buffer o·buffer γ·buffer (length buffer) (buffer₁₄ s pages nodes register x-v offset len buffer)) ∷ holds (sliceTy (tyRef erased mut (pointee (u8 .written)))) l₂₆ (sliceVal (b·buffer, o·buffer) (length buffer)) (holds (tyRef erased mut (pointee (u8 .written))) l₂₅ (vptr b·buffer o·buffer) (holds tyUnit l₂₄ vunit (holds (sliceTy (tyRef erased mut (pointee (u8 .written)))) l₂₃ (sliceVal (b·buffer, o·buffer) (length buffer)) (holds (tyRef erased mut (pointee (u8 .written))) l₂₂ (vptr b·buffer o·buffer) (holds (tyInt w64) l₂₁ (vint w64 (r13 s pages nodes register x-v offset len buffer)) (holds tyBool l₂₀ (vbool (r12 s pages nodes register x-v offset len buffer)) (holds (tyAt (code.function .locals) 19) l₁₉ (Record′.mach (r2 s pages nodes register x-v offset len buffer)) (holds (tyInt w64) l₁₈ (vint w64 (length buffer)) (holds (tyInt w64) l₁₇ (vint w64 (r10 s pages nodes register x-v offset len buffer)) (holds (tyInt w64) l₁₆ (vint w64 (r9 s pages nodes register x-v offset len buffer)) (holds tyBool l₁₅ (vbool (r8 s pages nodes register x-v offset len buffer)) (holds (tyAt (code.function .locals) 14) l₁₄ (Found′.mach (r6 s pages nodes register x-v offset len buffer)) (holds (tyAt (code.function .locals) 13) l₁₃ (Chunk′.mach (r5 s pages nodes register x-v offset len buffer)) (holds (tyInt w64) l₁₂ (vint w64 (r4 s pages nodes register x-v offset len buffer)) (holds (tyInt w64) l₁₁ (vint w64 (r3 s pages nodes register x-v offset len buffer)) (holds (tyAt (code.function .locals) 10) l₁₀ (Range′.mach (Range′.build offset len (length buffer))) (holds (tyAt (code.function .locals) 9) l₉ (Lengths′.mach (r1 s pages nodes register x-v offset len buffer)) (holds (sliceTy (tyRef (named 3) mut (pointee (u8 .written)))) l₈ (sliceVal (b·buffer, o·buffer) (length buffer)) (holds (tyInt w64) l₇ (vint w64 len) (holds (tyAt (code.function .locals) 6) l₆ (ByteOffset′.mach offset) (holds (tyAt (code.function .locals) 5) l₅ (Version′.mach x-v) (holds (sliceTy (tyRef (named 2) imm (pointee (Record′.row .written)))) l₄ (sliceVal (b·register, o·register) (length register)) (holds (sliceTy (tyRef (named 1) imm (pointee (u32 .written)))) l₃ (sliceVal (b·nodes, o·nodes) (length nodes)) (holds (sliceTy (tyRef (named 0) imm (pointee (u8 .written)))) l₂ (sliceVal (b·pages, o·pages) (length pages)) (holds (tyAt (code.function .locals) 1) l₁ (Store′.mach s) (empty (tyAt (code.function .locals) 0) l₀ []))))))))))))))))))))))))))) $
-      Call-filled-by.calls ! mem run (fmOf 𝓤 H (W .laws) 𝓣) known-filled-by (r9 s pages nodes register x-v offset len buffer) ok·9 (and-then ! (load ! (from ! (stop !)) (look ! 29 refl)) (no-more !))
-      (λ ok·15. land ! (from ! (stop !)) (init ! 60 refl (Filled′.typed 𝓤 H A W (r15 s pages nodes register x-v offset len buffer) ok·15)) $
-      here ! (‵ (flft κ·pages q·pages) ∷ ‵ (ShrAt u8 κ·pages b·pages o·pages γ·pages (length pages) pages) ∷ ‵ (flft κ·nodes q·nodes) ∷ ‵ (ShrAt u32 κ·nodes b·nodes o·nodes γ·nodes (length nodes) nodes) ∷ ‵ (flft κ·register q·register) ∷ ‵ (ShrAt Record′.row κ·register b·register o·register γ·register (length register) register) ∷ ‵ (flft κ·buffer q·buffer) ∷ ‵ (MutAt u8 κ·buffer b·buffer o·buffer γ·buffer (length buffer) (buffer₁₄ s pages nodes register x-v offset len buffer)) ∷ holds (sliceTy (tyRef erased mut (pointee (u8 .written)))) l₂₆ (sliceVal (b·buffer, o·buffer) (length buffer)) (holds (tyRef erased mut (pointee (u8 .written))) l₂₅ (vptr b·buffer o·buffer) (holds tyUnit l₂₄ vunit (holds (sliceTy (tyRef erased mut (pointee (u8 .written)))) l₂₃ (sliceVal (b·buffer, o·buffer) (length buffer)) (holds (tyRef erased mut (pointee (u8 .written))) l₂₂ (vptr b·buffer o·buffer) (holds (tyInt w64) l₂₁ (vint w64 (r13 s pages nodes register x-v offset len buffer)) (holds tyBool l₂₀ (vbool (r12 s pages nodes register x-v offset len buffer)) (holds (tyAt (code.function .locals) 19) l₁₉ (Record′.mach (r2 s pages nodes register x-v offset len buffer)) (holds (tyInt w64) l₁₈ (vint w64 (length buffer)) (holds (tyInt w64) l₁₇ (vint w64 (r10 s pages nodes register x-v offset len buffer)) (holds (tyInt w64) l₁₆ (vint w64 (r9 s pages nodes register x-v offset len buffer)) (holds tyBool l₁₅ (vbool (r8 s pages nodes register x-v offset len buffer)) (holds (tyAt (code.function .locals) 14) l₁₄ (Found′.mach (r6 s pages nodes register x-v offset len buffer)) (holds (tyAt (code.function .locals) 13) l₁₃ (Chunk′.mach (r5 s pages nodes register x-v offset len buffer)) (holds (tyInt w64) l₁₂ (vint w64 (r4 s pages nodes register x-v offset len buffer)) (holds (tyInt w64) l₁₁ (vint w64 (r3 s pages nodes register x-v offset len buffer)) (holds (tyAt (code.function .locals) 10) l₁₀ (Range′.mach (Range′.build offset len (length buffer))) (holds (tyAt (code.function .locals) 9) l₉ (Lengths′.mach (r1 s pages nodes register x-v offset len buffer)) (holds (sliceTy (tyRef (named 3) mut (pointee (u8 .written)))) l₈ (sliceVal (b·buffer, o·buffer) (length buffer)) (holds (tyInt w64) l₇ (vint w64 len) (holds (tyAt (code.function .locals) 6) l₆ (ByteOffset′.mach offset) (holds (tyAt (code.function .locals) 5) l₅ (Version′.mach x-v) (holds (sliceTy (tyRef (named 2) imm (pointee (Record′.row .written)))) l₄ (sliceVal (b·register, o·register) (length register)) (holds (sliceTy (tyRef (named 1) imm (pointee (u32 .written)))) l₃ (sliceVal (b·nodes, o·nodes) (length nodes)) (holds (sliceTy (tyRef (named 0) imm (pointee (u8 .written)))) l₂ (sliceVal (b·pages, o·pages) (length pages)) (holds (tyAt (code.function .locals) 1) l₁ (Store′.mach s) (holds (tyAt (code.function .locals) 0) l₀ (Filled′.mach (r15 s pages nodes register x-v offset len buffer)) []))))))))))))))))))))))))))) $
+      Call-some-lost.calls ! mem run (fmOf 𝓤 H (W .laws) 𝓣) known-some-lost (s .pages) κ·nodes q·nodes b·nodes o·nodes γ·nodes (length nodes) nodes κ·register q·register b·register o·register γ·register (length register) register (r1 s pages nodes register x-l x-v offset len buffer) ((r4 s pages nodes register x-l x-v offset len buffer) .page) (r3 s pages nodes register x-l x-v offset len buffer) (r6 s pages nodes register x-l x-v offset len buffer) (Store′.ok-pages s ok·s) ok·1 (Chunk′.ok-page (r4 s pages nodes register x-l x-v offset len buffer) ok·4) ok·3 ok·6 (Facts.some-lost-1 s pages nodes register x-l x-v offset len buffer ok·s (room·pages .0) (room·nodes .0) (room·register .0) ok·x-l ok·x-v ok·offset (ok·len .1) (room·buffer .0) (ok·1 .1) (ok·2 .1) (ok·3 .1) ok·4 ok·5) (and-then ! (load ! (from ! (fld ! refl (stop !))) (look-in ! 57 (sub ! 1 refl (whole !)))) (and-then ! (load ! (from ! (stop !)) (look ! 53 refl)) (and-then ! (load ! (from ! (stop !)) (look ! 51 refl)) (and-then ! (load ! (from ! (stop !)) (look ! 37 refl)) (and-then ! (load ! (from ! (fld ! refl (stop !))) (look-in ! 31 (sub ! 0 refl (whole !)))) (and-then ! (load ! (from ! (stop !)) (look ! 33 refl)) (and-then ! (load ! (from ! (stop !)) (look ! 19 refl)) (no-more !))))))))
+      (λ ok·7. move ! (4 ∷ 5 ∷ 0 ∷ 1 ∷ 2 ∷ 3 ∷ 6 ∷ 7 ∷ []) $ land ! (from ! (stop !)) (init ! 28 refl (tt, tt)) $
+      here ! (‵ (flft κ·pages q·pages) ∷ ‵ (ShrAt u8 κ·pages b·pages o·pages γ·pages (length pages) pages) ∷ ‵ (flft κ·nodes q·nodes) ∷ ‵ (ShrAt u32 κ·nodes b·nodes o·nodes γ·nodes (length nodes) nodes) ∷ ‵ (flft κ·register q·register) ∷ ‵ (ShrAt Record′.row κ·register b·register o·register γ·register (length register) register) ∷ ‵ (flft κ·buffer q·buffer) ∷ ‵ (MutAt u8 κ·buffer b·buffer o·buffer γ·buffer (length buffer) buffer) ∷ empty (sliceTy (tyRef erased mut (pointee (u8 .written)))) l₂₆ (empty (tyRef erased mut (pointee (u8 .written))) l₂₅ (empty tyUnit l₂₄ (empty (sliceTy (tyRef erased mut (pointee (u8 .written)))) l₂₃ (empty (tyRef erased mut (pointee (u8 .written))) l₂₂ (empty (tyInt w64) l₂₁ (holds tyBool l₂₀ (vbool (r6 s pages nodes register x-l x-v offset len buffer)) (holds (tyInt w64) l₁₉ (vint w64 (length buffer)) (empty (tyInt w64) l₁₈ (empty (tyInt w64) l₁₇ (holds tyBool l₁₆ (vbool (r7 s pages nodes register x-l x-v offset len buffer)) (holds (tyAt (code.function .locals) 15) l₁₅ (Found′.mach (r5 s pages nodes register x-l x-v offset len buffer)) (holds (tyAt (code.function .locals) 14) l₁₄ (Chunk′.mach (r4 s pages nodes register x-l x-v offset len buffer)) (holds (tyInt w64) l₁₃ (vint w64 (r3 s pages nodes register x-l x-v offset len buffer)) (holds (tyInt w64) l₁₂ (vint w64 (r2 s pages nodes register x-l x-v offset len buffer)) (holds (tyInt w64) l₁₁ (vint w64 (r1 s pages nodes register x-l x-v offset len buffer)) (holds (tyAt (code.function .locals) 10) l₁₀ (Range′.mach (Range′.build offset len (length buffer))) (holds (sliceTy (tyRef (named 3) mut (pointee (u8 .written)))) l₉ (sliceVal (b·buffer, o·buffer) (length buffer)) (holds (tyInt w64) l₈ (vint w64 len) (holds (tyAt (code.function .locals) 7) l₇ (ByteOffset′.mach offset) (holds (tyAt (code.function .locals) 6) l₆ (Version′.mach x-v) (holds (tyAt (code.function .locals) 5) l₅ (Line′.mach x-l) (holds (sliceTy (tyRef (named 2) imm (pointee (Record′.row .written)))) l₄ (sliceVal (b·register, o·register) (length register)) (holds (sliceTy (tyRef (named 1) imm (pointee (u32 .written)))) l₃ (sliceVal (b·nodes, o·nodes) (length nodes)) (holds (sliceTy (tyRef (named 0) imm (pointee (u8 .written)))) l₂ (sliceVal (b·pages, o·pages) (length pages)) (holds (tyAt (code.function .locals) 1) l₁ (Store′.mach s) (empty (tyAt (code.function .locals) 0) l₀ []))))))))))))))))))))))))))) $
+      Call-or-lost.calls ! mem run (fmOf 𝓤 H (W .laws) 𝓣) known-or-lost (r2 s pages nodes register x-l x-v offset len buffer) (r7 s pages nodes register x-l x-v offset len buffer) ok·2 ok·7 (and-then ! (load ! (from ! (stop !)) (look ! 37 refl)) (and-then ! (load ! (from ! (stop !)) (look ! 29 refl)) (no-more !)))
+      (λ ok·8. land ! (from ! (stop !)) (init ! 26 refl (tt, record { fits = ok·8 .1 })) $
+      here ! (‵ (flft κ·pages q·pages) ∷ ‵ (ShrAt u8 κ·pages b·pages o·pages γ·pages (length pages) pages) ∷ ‵ (flft κ·nodes q·nodes) ∷ ‵ (ShrAt u32 κ·nodes b·nodes o·nodes γ·nodes (length nodes) nodes) ∷ ‵ (flft κ·register q·register) ∷ ‵ (ShrAt Record′.row κ·register b·register o·register γ·register (length register) register) ∷ ‵ (flft κ·buffer q·buffer) ∷ ‵ (MutAt u8 κ·buffer b·buffer o·buffer γ·buffer (length buffer) buffer) ∷ empty (sliceTy (tyRef erased mut (pointee (u8 .written)))) l₂₆ (empty (tyRef erased mut (pointee (u8 .written))) l₂₅ (empty tyUnit l₂₄ (empty (sliceTy (tyRef erased mut (pointee (u8 .written)))) l₂₃ (empty (tyRef erased mut (pointee (u8 .written))) l₂₂ (empty (tyInt w64) l₂₁ (holds tyBool l₂₀ (vbool (r6 s pages nodes register x-l x-v offset len buffer)) (holds (tyInt w64) l₁₉ (vint w64 (length buffer)) (empty (tyInt w64) l₁₈ (holds (tyInt w64) l₁₇ (vint w64 (r8 s pages nodes register x-l x-v offset len buffer)) (holds tyBool l₁₆ (vbool (r7 s pages nodes register x-l x-v offset len buffer)) (holds (tyAt (code.function .locals) 15) l₁₅ (Found′.mach (r5 s pages nodes register x-l x-v offset len buffer)) (holds (tyAt (code.function .locals) 14) l₁₄ (Chunk′.mach (r4 s pages nodes register x-l x-v offset len buffer)) (holds (tyInt w64) l₁₃ (vint w64 (r3 s pages nodes register x-l x-v offset len buffer)) (holds (tyInt w64) l₁₂ (vint w64 (r2 s pages nodes register x-l x-v offset len buffer)) (holds (tyInt w64) l₁₁ (vint w64 (r1 s pages nodes register x-l x-v offset len buffer)) (holds (tyAt (code.function .locals) 10) l₁₀ (Range′.mach (Range′.build offset len (length buffer))) (holds (sliceTy (tyRef (named 3) mut (pointee (u8 .written)))) l₉ (sliceVal (b·buffer, o·buffer) (length buffer)) (holds (tyInt w64) l₈ (vint w64 len) (holds (tyAt (code.function .locals) 7) l₇ (ByteOffset′.mach offset) (holds (tyAt (code.function .locals) 6) l₆ (Version′.mach x-v) (holds (tyAt (code.function .locals) 5) l₅ (Line′.mach x-l) (holds (sliceTy (tyRef (named 2) imm (pointee (Record′.row .written)))) l₄ (sliceVal (b·register, o·register) (length register)) (holds (sliceTy (tyRef (named 1) imm (pointee (u32 .written)))) l₃ (sliceVal (b·nodes, o·nodes) (length nodes)) (holds (sliceTy (tyRef (named 0) imm (pointee (u8 .written)))) l₂ (sliceVal (b·pages, o·pages) (length pages)) (holds (tyAt (code.function .locals) 1) l₁ (Store′.mach s) (empty (tyAt (code.function .locals) 0) l₀ []))))))))))))))))))))))))))) $
+      Call-copied.calls ! mem run (fmOf 𝓤 H (W .laws) 𝓣) known-copied (r8 s pages nodes register x-l x-v offset len buffer) ((r4 s pages nodes register x-l x-v offset len buffer) .count) ok·8 (Chunk′.ok-count (r4 s pages nodes register x-l x-v offset len buffer) ok·4) (and-then ! (load ! (from ! (stop !)) (look ! 27 refl)) (and-then ! (load ! (from ! (fld ! refl (stop !))) (look-in ! 33 (sub ! 2 refl (whole !)))) (no-more !)))
+      (λ ok·9. land ! (from ! (stop !)) (init ! 24 refl (tt, record { fits = ok·9 .1 })) $
+      here ! (‵ (flft κ·pages q·pages) ∷ ‵ (ShrAt u8 κ·pages b·pages o·pages γ·pages (length pages) pages) ∷ ‵ (flft κ·nodes q·nodes) ∷ ‵ (ShrAt u32 κ·nodes b·nodes o·nodes γ·nodes (length nodes) nodes) ∷ ‵ (flft κ·register q·register) ∷ ‵ (ShrAt Record′.row κ·register b·register o·register γ·register (length register) register) ∷ ‵ (flft κ·buffer q·buffer) ∷ ‵ (MutAt u8 κ·buffer b·buffer o·buffer γ·buffer (length buffer) buffer) ∷ empty (sliceTy (tyRef erased mut (pointee (u8 .written)))) l₂₆ (empty (tyRef erased mut (pointee (u8 .written))) l₂₅ (empty tyUnit l₂₄ (empty (sliceTy (tyRef erased mut (pointee (u8 .written)))) l₂₃ (empty (tyRef erased mut (pointee (u8 .written))) l₂₂ (empty (tyInt w64) l₂₁ (holds tyBool l₂₀ (vbool (r6 s pages nodes register x-l x-v offset len buffer)) (holds (tyInt w64) l₁₉ (vint w64 (length buffer)) (holds (tyInt w64) l₁₈ (vint w64 (r9 s pages nodes register x-l x-v offset len buffer)) (holds (tyInt w64) l₁₇ (vint w64 (r8 s pages nodes register x-l x-v offset len buffer)) (holds tyBool l₁₆ (vbool (r7 s pages nodes register x-l x-v offset len buffer)) (holds (tyAt (code.function .locals) 15) l₁₅ (Found′.mach (r5 s pages nodes register x-l x-v offset len buffer)) (holds (tyAt (code.function .locals) 14) l₁₄ (Chunk′.mach (r4 s pages nodes register x-l x-v offset len buffer)) (holds (tyInt w64) l₁₃ (vint w64 (r3 s pages nodes register x-l x-v offset len buffer)) (holds (tyInt w64) l₁₂ (vint w64 (r2 s pages nodes register x-l x-v offset len buffer)) (holds (tyInt w64) l₁₁ (vint w64 (r1 s pages nodes register x-l x-v offset len buffer)) (holds (tyAt (code.function .locals) 10) l₁₀ (Range′.mach (Range′.build offset len (length buffer))) (holds (sliceTy (tyRef (named 3) mut (pointee (u8 .written)))) l₉ (sliceVal (b·buffer, o·buffer) (length buffer)) (holds (tyInt w64) l₈ (vint w64 len) (holds (tyAt (code.function .locals) 7) l₇ (ByteOffset′.mach offset) (holds (tyAt (code.function .locals) 6) l₆ (Version′.mach x-v) (holds (tyAt (code.function .locals) 5) l₅ (Line′.mach x-l) (holds (sliceTy (tyRef (named 2) imm (pointee (Record′.row .written)))) l₄ (sliceVal (b·register, o·register) (length register)) (holds (sliceTy (tyRef (named 1) imm (pointee (u32 .written)))) l₃ (sliceVal (b·nodes, o·nodes) (length nodes)) (holds (sliceTy (tyRef (named 0) imm (pointee (u8 .written)))) l₂ (sliceVal (b·pages, o·pages) (length pages)) (holds (tyAt (code.function .locals) 1) l₁ (Store′.mach s) (empty (tyAt (code.function .locals) 0) l₀ []))))))))))))))))))))))))))) $
+      Call-number-found.calls ! mem run (fmOf 𝓤 H (W .laws) 𝓣) known-number-found (s .pages) (r5 s pages nodes register x-l x-v offset len buffer) (Store′.ok-pages s ok·s) ok·5 (and-then ! (load ! (from ! (fld ! refl (stop !))) (look-in ! 59 (sub ! 1 refl (whole !)))) (and-then ! (load ! (from ! (stop !)) (look ! 31 refl)) (no-more !)))
+      (λ ok·10. land ! (from ! (stop !)) (init ! 18 refl (tt, record { fits = ok·10 .1 })) $
+      here ! (‵ (flft κ·pages q·pages) ∷ ‵ (ShrAt u8 κ·pages b·pages o·pages γ·pages (length pages) pages) ∷ ‵ (flft κ·nodes q·nodes) ∷ ‵ (ShrAt u32 κ·nodes b·nodes o·nodes γ·nodes (length nodes) nodes) ∷ ‵ (flft κ·register q·register) ∷ ‵ (ShrAt Record′.row κ·register b·register o·register γ·register (length register) register) ∷ ‵ (flft κ·buffer q·buffer) ∷ ‵ (MutAt u8 κ·buffer b·buffer o·buffer γ·buffer (length buffer) buffer) ∷ empty (sliceTy (tyRef erased mut (pointee (u8 .written)))) l₂₆ (empty (tyRef erased mut (pointee (u8 .written))) l₂₅ (empty tyUnit l₂₄ (empty (sliceTy (tyRef erased mut (pointee (u8 .written)))) l₂₃ (empty (tyRef erased mut (pointee (u8 .written))) l₂₂ (holds (tyInt w64) l₂₁ (vint w64 (r10 s pages nodes register x-l x-v offset len buffer)) (holds tyBool l₂₀ (vbool (r6 s pages nodes register x-l x-v offset len buffer)) (holds (tyInt w64) l₁₉ (vint w64 (length buffer)) (holds (tyInt w64) l₁₈ (vint w64 (r9 s pages nodes register x-l x-v offset len buffer)) (holds (tyInt w64) l₁₇ (vint w64 (r8 s pages nodes register x-l x-v offset len buffer)) (holds tyBool l₁₆ (vbool (r7 s pages nodes register x-l x-v offset len buffer)) (holds (tyAt (code.function .locals) 15) l₁₅ (Found′.mach (r5 s pages nodes register x-l x-v offset len buffer)) (holds (tyAt (code.function .locals) 14) l₁₄ (Chunk′.mach (r4 s pages nodes register x-l x-v offset len buffer)) (holds (tyInt w64) l₁₃ (vint w64 (r3 s pages nodes register x-l x-v offset len buffer)) (holds (tyInt w64) l₁₂ (vint w64 (r2 s pages nodes register x-l x-v offset len buffer)) (holds (tyInt w64) l₁₁ (vint w64 (r1 s pages nodes register x-l x-v offset len buffer)) (holds (tyAt (code.function .locals) 10) l₁₀ (Range′.mach (Range′.build offset len (length buffer))) (holds (sliceTy (tyRef (named 3) mut (pointee (u8 .written)))) l₉ (sliceVal (b·buffer, o·buffer) (length buffer)) (holds (tyInt w64) l₈ (vint w64 len) (holds (tyAt (code.function .locals) 7) l₇ (ByteOffset′.mach offset) (holds (tyAt (code.function .locals) 6) l₆ (Version′.mach x-v) (holds (tyAt (code.function .locals) 5) l₅ (Line′.mach x-l) (holds (sliceTy (tyRef (named 2) imm (pointee (Record′.row .written)))) l₄ (sliceVal (b·register, o·register) (length register)) (holds (sliceTy (tyRef (named 1) imm (pointee (u32 .written)))) l₃ (sliceVal (b·nodes, o·nodes) (length nodes)) (holds (sliceTy (tyRef (named 0) imm (pointee (u8 .written)))) l₂ (sliceVal (b·pages, o·pages) (length pages)) (holds (tyAt (code.function .locals) 1) l₁ (Store′.mach s) (empty (tyAt (code.function .locals) 0) l₀ []))))))))))))))))))))))))))) $
+      assigns ! (addr ! (from ! (fld ! refl (hop ! (look-in ! 42 (sub ! 0 refl (whole !))) (stop !))))) (from ! (stop !)) (init ! 16 refl (tt, tt)) $
+      assigns ! (agg ! (and-then ! (load ! (from ! (stop !)) (look ! 16 refl)) (and-then ! (load ! (from ! (fld ! refl (stop !))) (look-in ! 42 (sub ! 1 refl (whole !)))) (no-more !)))) (from ! (stop !)) (init ! 14 refl (tt, (tt, (record { fits = room·buffer .0 }, tt)))) $
+      move ! (6 ∷ 7 ∷ []) $ lend-mut ! tt u8 κ·buffer q·buffer b·buffer o·buffer γ·buffer (length buffer) buffer (refl) (λ ν·11-buffer γ·11-buffer. move ! (3 ∷ 4 ∷ 0 ∷ 1 ∷ []) $
+      Call-copy-page.calls ! mem run (fmOf 𝓤 H (W .laws) 𝓣) known-copy-page κ·pages q·pages b·pages o·pages γ·pages (length pages) pages (s .size) (r10 s pages nodes register x-l x-v offset len buffer) ((r4 s pages nodes register x-l x-v offset len buffer) .from) (r9 s pages nodes register x-l x-v offset len buffer) (ν·11-buffer ∷ []) fullShare b·buffer o·buffer γ·11-buffer (length buffer) buffer 0 (Store′.ok-size s ok·s) ok·10 (Chunk′.ok-from (r4 s pages nodes register x-l x-v offset len buffer) ok·4) ok·9 (refl, lit< tt) (and-then ! (load ! (from ! (stop !)) (look ! 55 refl)) (and-then ! (load ! (from ! (fld ! refl (stop !))) (look-in ! 57 (sub ! 0 refl (whole !)))) (and-then ! (load ! (from ! (stop !)) (look ! 17 refl)) (and-then ! (load ! (from ! (fld ! refl (stop !))) (look-in ! 31 (sub ! 1 refl (whole !)))) (and-then ! (load ! (from ! (stop !)) (look ! 23 refl)) (and-then ! (load ! (from ! (stop !)) (look ! 13 refl)) (and-then ! (lit ! tt) (no-more !))))))))
+      (λ ok·11 same·11-buffer. move ! (2 ∷ 3 ∷ 4 ∷ []) $ back-mut ! tt u8 κ·buffer q·buffer b·buffer o·buffer γ·buffer (length buffer) buffer (buffer₁₁ s pages nodes register x-l x-v offset len buffer) ν·11-buffer γ·11-buffer (refl) same·11-buffer room·buffer $ move ! (2 ∷ 3 ∷ 4 ∷ 5 ∷ 6 ∷ 7 ∷ 0 ∷ 1 ∷ []) $ land ! (from ! (stop !)) (store ! 20 refl (tt, tt)) $
+      here ! (‵ (flft κ·pages q·pages) ∷ ‵ (ShrAt u8 κ·pages b·pages o·pages γ·pages (length pages) pages) ∷ ‵ (flft κ·nodes q·nodes) ∷ ‵ (ShrAt u32 κ·nodes b·nodes o·nodes γ·nodes (length nodes) nodes) ∷ ‵ (flft κ·register q·register) ∷ ‵ (ShrAt Record′.row κ·register b·register o·register γ·register (length register) register) ∷ ‵ (flft κ·buffer q·buffer) ∷ ‵ (MutAt u8 κ·buffer b·buffer o·buffer γ·buffer (length buffer) (buffer₁₁ s pages nodes register x-l x-v offset len buffer)) ∷ empty (sliceTy (tyRef erased mut (pointee (u8 .written)))) l₂₆ (empty (tyRef erased mut (pointee (u8 .written))) l₂₅ (empty tyUnit l₂₄ (holds (sliceTy (tyRef erased mut (pointee (u8 .written)))) l₂₃ (sliceVal (b·buffer, o·buffer) (length buffer)) (holds (tyRef erased mut (pointee (u8 .written))) l₂₂ (vptr b·buffer o·buffer) (holds (tyInt w64) l₂₁ (vint w64 (r10 s pages nodes register x-l x-v offset len buffer)) (holds tyBool l₂₀ (vbool (r11 s pages nodes register x-l x-v offset len buffer)) (holds (tyInt w64) l₁₉ (vint w64 (length buffer)) (holds (tyInt w64) l₁₈ (vint w64 (r9 s pages nodes register x-l x-v offset len buffer)) (holds (tyInt w64) l₁₇ (vint w64 (r8 s pages nodes register x-l x-v offset len buffer)) (holds tyBool l₁₆ (vbool (r7 s pages nodes register x-l x-v offset len buffer)) (holds (tyAt (code.function .locals) 15) l₁₅ (Found′.mach (r5 s pages nodes register x-l x-v offset len buffer)) (holds (tyAt (code.function .locals) 14) l₁₄ (Chunk′.mach (r4 s pages nodes register x-l x-v offset len buffer)) (holds (tyInt w64) l₁₃ (vint w64 (r3 s pages nodes register x-l x-v offset len buffer)) (holds (tyInt w64) l₁₂ (vint w64 (r2 s pages nodes register x-l x-v offset len buffer)) (holds (tyInt w64) l₁₁ (vint w64 (r1 s pages nodes register x-l x-v offset len buffer)) (holds (tyAt (code.function .locals) 10) l₁₀ (Range′.mach (Range′.build offset len (length buffer))) (holds (sliceTy (tyRef (named 3) mut (pointee (u8 .written)))) l₉ (sliceVal (b·buffer, o·buffer) (length buffer)) (holds (tyInt w64) l₈ (vint w64 len) (holds (tyAt (code.function .locals) 7) l₇ (ByteOffset′.mach offset) (holds (tyAt (code.function .locals) 6) l₆ (Version′.mach x-v) (holds (tyAt (code.function .locals) 5) l₅ (Line′.mach x-l) (holds (sliceTy (tyRef (named 2) imm (pointee (Record′.row .written)))) l₄ (sliceVal (b·register, o·register) (length register)) (holds (sliceTy (tyRef (named 1) imm (pointee (u32 .written)))) l₃ (sliceVal (b·nodes, o·nodes) (length nodes)) (holds (sliceTy (tyRef (named 0) imm (pointee (u8 .written)))) l₂ (sliceVal (b·pages, o·pages) (length pages)) (holds (tyAt (code.function .locals) 1) l₁ (Store′.mach s) (empty (tyAt (code.function .locals) 0) l₀ []))))))))))))))))))))))))))) $
+      Call-copied.calls ! mem run (fmOf 𝓤 H (W .laws) 𝓣) known-copied (r8 s pages nodes register x-l x-v offset len buffer) len ok·8 ok·len (and-then ! (load ! (from ! (stop !)) (look ! 27 refl)) (and-then ! (load ! (from ! (stop !)) (look ! 45 refl)) (no-more !)))
+      (λ ok·12. land ! (from ! (stop !)) (store ! 18 refl (tt, record { fits = ok·12 .1 })) $
+      here ! (‵ (flft κ·pages q·pages) ∷ ‵ (ShrAt u8 κ·pages b·pages o·pages γ·pages (length pages) pages) ∷ ‵ (flft κ·nodes q·nodes) ∷ ‵ (ShrAt u32 κ·nodes b·nodes o·nodes γ·nodes (length nodes) nodes) ∷ ‵ (flft κ·register q·register) ∷ ‵ (ShrAt Record′.row κ·register b·register o·register γ·register (length register) register) ∷ ‵ (flft κ·buffer q·buffer) ∷ ‵ (MutAt u8 κ·buffer b·buffer o·buffer γ·buffer (length buffer) (buffer₁₁ s pages nodes register x-l x-v offset len buffer)) ∷ empty (sliceTy (tyRef erased mut (pointee (u8 .written)))) l₂₆ (empty (tyRef erased mut (pointee (u8 .written))) l₂₅ (empty tyUnit l₂₄ (holds (sliceTy (tyRef erased mut (pointee (u8 .written)))) l₂₃ (sliceVal (b·buffer, o·buffer) (length buffer)) (holds (tyRef erased mut (pointee (u8 .written))) l₂₂ (vptr b·buffer o·buffer) (holds (tyInt w64) l₂₁ (vint w64 (r12 s pages nodes register x-l x-v offset len buffer)) (holds tyBool l₂₀ (vbool (r11 s pages nodes register x-l x-v offset len buffer)) (holds (tyInt w64) l₁₉ (vint w64 (length buffer)) (holds (tyInt w64) l₁₈ (vint w64 (r9 s pages nodes register x-l x-v offset len buffer)) (holds (tyInt w64) l₁₇ (vint w64 (r8 s pages nodes register x-l x-v offset len buffer)) (holds tyBool l₁₆ (vbool (r7 s pages nodes register x-l x-v offset len buffer)) (holds (tyAt (code.function .locals) 15) l₁₅ (Found′.mach (r5 s pages nodes register x-l x-v offset len buffer)) (holds (tyAt (code.function .locals) 14) l₁₄ (Chunk′.mach (r4 s pages nodes register x-l x-v offset len buffer)) (holds (tyInt w64) l₁₃ (vint w64 (r3 s pages nodes register x-l x-v offset len buffer)) (holds (tyInt w64) l₁₂ (vint w64 (r2 s pages nodes register x-l x-v offset len buffer)) (holds (tyInt w64) l₁₁ (vint w64 (r1 s pages nodes register x-l x-v offset len buffer)) (holds (tyAt (code.function .locals) 10) l₁₀ (Range′.mach (Range′.build offset len (length buffer))) (holds (sliceTy (tyRef (named 3) mut (pointee (u8 .written)))) l₉ (sliceVal (b·buffer, o·buffer) (length buffer)) (holds (tyInt w64) l₈ (vint w64 len) (holds (tyAt (code.function .locals) 7) l₇ (ByteOffset′.mach offset) (holds (tyAt (code.function .locals) 6) l₆ (Version′.mach x-v) (holds (tyAt (code.function .locals) 5) l₅ (Line′.mach x-l) (holds (sliceTy (tyRef (named 2) imm (pointee (Record′.row .written)))) l₄ (sliceVal (b·register, o·register) (length register)) (holds (sliceTy (tyRef (named 1) imm (pointee (u32 .written)))) l₃ (sliceVal (b·nodes, o·nodes) (length nodes)) (holds (sliceTy (tyRef (named 0) imm (pointee (u8 .written)))) l₂ (sliceVal (b·pages, o·pages) (length pages)) (holds (tyAt (code.function .locals) 1) l₁ (Store′.mach s) (empty (tyAt (code.function .locals) 0) l₀ []))))))))))))))))))))))))))) $
+      assigns ! (addr ! (from ! (fld ! refl (hop ! (look-in ! 42 (sub ! 0 refl (whole !))) (stop !))))) (from ! (stop !)) (init ! 10 refl (tt, tt)) $
+      assigns ! (agg ! (and-then ! (load ! (from ! (stop !)) (look ! 10 refl)) (and-then ! (load ! (from ! (fld ! refl (stop !))) (look-in ! 42 (sub ! 1 refl (whole !)))) (no-more !)))) (from ! (stop !)) (init ! 8 refl (tt, (tt, (record { fits = room·buffer .0 }, tt)))) $
+      move ! (6 ∷ 7 ∷ []) $ lend-mut ! tt u8 κ·buffer q·buffer b·buffer o·buffer γ·buffer (length buffer) (buffer₁₁ s pages nodes register x-l x-v offset len buffer) (refl ∙ sym same·11-buffer) (λ ν·13-buffer γ·13-buffer. move ! (3 ∷ 4 ∷ 5 ∷ 6 ∷ 7 ∷ 8 ∷ 0 ∷ 1 ∷ []) $
+      Call-copy-range.calls ! mem run (fmOf 𝓤 H (W .laws) 𝓣) known-copy-range (s .size) (s .pages) κ·pages q·pages b·pages o·pages γ·pages (length pages) pages κ·nodes q·nodes b·nodes o·nodes γ·nodes (length nodes) nodes κ·register q·register b·register o·register γ·register (length register) register (r1 s pages nodes register x-l x-v offset len buffer) offset (r12 s pages nodes register x-l x-v offset len buffer) (r9 s pages nodes register x-l x-v offset len buffer) (ν·13-buffer ∷ []) fullShare b·buffer o·buffer γ·13-buffer (length buffer) (buffer₁₁ s pages nodes register x-l x-v offset len buffer) (Store′.ok-size s ok·s) (Store′.ok-pages s ok·s) ok·1 ok·offset ok·12 ok·9 (Facts.copy-range-1 s pages nodes register x-l x-v offset len buffer ok·s (room·pages .0) (room·nodes .0) (room·register .0) ok·x-l ok·x-v ok·offset (ok·len .1) (room·buffer .0) (ok·1 .1) (ok·2 .1) (ok·3 .1) ok·4 ok·5 (ok·8 .1) (ok·9 .1) (ok·10 .1) same·11-buffer (ok·12 .1)) (and-then ! (load ! (from ! (fld ! refl (stop !))) (look-in ! 55 (sub ! 0 refl (whole !)))) (and-then ! (load ! (from ! (fld ! refl (stop !))) (look-in ! 55 (sub ! 1 refl (whole !)))) (and-then ! (load ! (from ! (stop !)) (look ! 53 refl)) (and-then ! (load ! (from ! (stop !)) (look ! 51 refl)) (and-then ! (load ! (from ! (stop !)) (look ! 49 refl)) (and-then ! (load ! (from ! (stop !)) (look ! 35 refl)) (and-then ! (load ! (from ! (stop !)) (look ! 43 refl)) (and-then ! (load ! (from ! (stop !)) (look ! 15 refl)) (and-then ! (load ! (from ! (stop !)) (look ! 21 refl)) (and-then ! (load ! (from ! (stop !)) (look ! 5 refl)) (no-more !)))))))))))
+      (λ same·13-buffer. move ! (6 ∷ 7 ∷ 8 ∷ []) $ back-mut ! tt u8 κ·buffer q·buffer b·buffer o·buffer γ·buffer (length buffer) (buffer₁₁ s pages nodes register x-l x-v offset len buffer) (buffer₁₃ s pages nodes register x-l x-v offset len buffer) ν·13-buffer γ·13-buffer (refl ∙ sym same·11-buffer) same·13-buffer room·buffer $ move ! (2 ∷ 3 ∷ 4 ∷ 5 ∷ 6 ∷ 7 ∷ 0 ∷ 1 ∷ []) $ land ! (from ! (stop !)) (init ! 12 refl (tt, tt)) $
+      here ! (‵ (flft κ·pages q·pages) ∷ ‵ (ShrAt u8 κ·pages b·pages o·pages γ·pages (length pages) pages) ∷ ‵ (flft κ·nodes q·nodes) ∷ ‵ (ShrAt u32 κ·nodes b·nodes o·nodes γ·nodes (length nodes) nodes) ∷ ‵ (flft κ·register q·register) ∷ ‵ (ShrAt Record′.row κ·register b·register o·register γ·register (length register) register) ∷ ‵ (flft κ·buffer q·buffer) ∷ ‵ (MutAt u8 κ·buffer b·buffer o·buffer γ·buffer (length buffer) (buffer₁₃ s pages nodes register x-l x-v offset len buffer)) ∷ holds (sliceTy (tyRef erased mut (pointee (u8 .written)))) l₂₆ (sliceVal (b·buffer, o·buffer) (length buffer)) (holds (tyRef erased mut (pointee (u8 .written))) l₂₅ (vptr b·buffer o·buffer) (holds tyUnit l₂₄ vunit (holds (sliceTy (tyRef erased mut (pointee (u8 .written)))) l₂₃ (sliceVal (b·buffer, o·buffer) (length buffer)) (holds (tyRef erased mut (pointee (u8 .written))) l₂₂ (vptr b·buffer o·buffer) (holds (tyInt w64) l₂₁ (vint w64 (r12 s pages nodes register x-l x-v offset len buffer)) (holds tyBool l₂₀ (vbool (r11 s pages nodes register x-l x-v offset len buffer)) (holds (tyInt w64) l₁₉ (vint w64 (length buffer)) (holds (tyInt w64) l₁₈ (vint w64 (r9 s pages nodes register x-l x-v offset len buffer)) (holds (tyInt w64) l₁₇ (vint w64 (r8 s pages nodes register x-l x-v offset len buffer)) (holds tyBool l₁₆ (vbool (r7 s pages nodes register x-l x-v offset len buffer)) (holds (tyAt (code.function .locals) 15) l₁₅ (Found′.mach (r5 s pages nodes register x-l x-v offset len buffer)) (holds (tyAt (code.function .locals) 14) l₁₄ (Chunk′.mach (r4 s pages nodes register x-l x-v offset len buffer)) (holds (tyInt w64) l₁₃ (vint w64 (r3 s pages nodes register x-l x-v offset len buffer)) (holds (tyInt w64) l₁₂ (vint w64 (r2 s pages nodes register x-l x-v offset len buffer)) (holds (tyInt w64) l₁₁ (vint w64 (r1 s pages nodes register x-l x-v offset len buffer)) (holds (tyAt (code.function .locals) 10) l₁₀ (Range′.mach (Range′.build offset len (length buffer))) (holds (sliceTy (tyRef (named 3) mut (pointee (u8 .written)))) l₉ (sliceVal (b·buffer, o·buffer) (length buffer)) (holds (tyInt w64) l₈ (vint w64 len) (holds (tyAt (code.function .locals) 7) l₇ (ByteOffset′.mach offset) (holds (tyAt (code.function .locals) 6) l₆ (Version′.mach x-v) (holds (tyAt (code.function .locals) 5) l₅ (Line′.mach x-l) (holds (sliceTy (tyRef (named 2) imm (pointee (Record′.row .written)))) l₄ (sliceVal (b·register, o·register) (length register)) (holds (sliceTy (tyRef (named 1) imm (pointee (u32 .written)))) l₃ (sliceVal (b·nodes, o·nodes) (length nodes)) (holds (sliceTy (tyRef (named 0) imm (pointee (u8 .written)))) l₂ (sliceVal (b·pages, o·pages) (length pages)) (holds (tyAt (code.function .locals) 1) l₁ (Store′.mach s) (empty (tyAt (code.function .locals) 0) l₀ []))))))))))))))))))))))))))) $
+      Call-filled-by.calls ! mem run (fmOf 𝓤 H (W .laws) 𝓣) known-filled-by (r8 s pages nodes register x-l x-v offset len buffer) ok·8 (and-then ! (load ! (from ! (stop !)) (look ! 27 refl)) (no-more !))
+      (λ ok·14. land ! (from ! (stop !)) (init ! 60 refl (Filled′.typed 𝓤 H A W (r14 s pages nodes register x-l x-v offset len buffer) ok·14)) $
+      here ! (‵ (flft κ·pages q·pages) ∷ ‵ (ShrAt u8 κ·pages b·pages o·pages γ·pages (length pages) pages) ∷ ‵ (flft κ·nodes q·nodes) ∷ ‵ (ShrAt u32 κ·nodes b·nodes o·nodes γ·nodes (length nodes) nodes) ∷ ‵ (flft κ·register q·register) ∷ ‵ (ShrAt Record′.row κ·register b·register o·register γ·register (length register) register) ∷ ‵ (flft κ·buffer q·buffer) ∷ ‵ (MutAt u8 κ·buffer b·buffer o·buffer γ·buffer (length buffer) (buffer₁₃ s pages nodes register x-l x-v offset len buffer)) ∷ holds (sliceTy (tyRef erased mut (pointee (u8 .written)))) l₂₆ (sliceVal (b·buffer, o·buffer) (length buffer)) (holds (tyRef erased mut (pointee (u8 .written))) l₂₅ (vptr b·buffer o·buffer) (holds tyUnit l₂₄ vunit (holds (sliceTy (tyRef erased mut (pointee (u8 .written)))) l₂₃ (sliceVal (b·buffer, o·buffer) (length buffer)) (holds (tyRef erased mut (pointee (u8 .written))) l₂₂ (vptr b·buffer o·buffer) (holds (tyInt w64) l₂₁ (vint w64 (r12 s pages nodes register x-l x-v offset len buffer)) (holds tyBool l₂₀ (vbool (r11 s pages nodes register x-l x-v offset len buffer)) (holds (tyInt w64) l₁₉ (vint w64 (length buffer)) (holds (tyInt w64) l₁₈ (vint w64 (r9 s pages nodes register x-l x-v offset len buffer)) (holds (tyInt w64) l₁₇ (vint w64 (r8 s pages nodes register x-l x-v offset len buffer)) (holds tyBool l₁₆ (vbool (r7 s pages nodes register x-l x-v offset len buffer)) (holds (tyAt (code.function .locals) 15) l₁₅ (Found′.mach (r5 s pages nodes register x-l x-v offset len buffer)) (holds (tyAt (code.function .locals) 14) l₁₄ (Chunk′.mach (r4 s pages nodes register x-l x-v offset len buffer)) (holds (tyInt w64) l₁₃ (vint w64 (r3 s pages nodes register x-l x-v offset len buffer)) (holds (tyInt w64) l₁₂ (vint w64 (r2 s pages nodes register x-l x-v offset len buffer)) (holds (tyInt w64) l₁₁ (vint w64 (r1 s pages nodes register x-l x-v offset len buffer)) (holds (tyAt (code.function .locals) 10) l₁₀ (Range′.mach (Range′.build offset len (length buffer))) (holds (sliceTy (tyRef (named 3) mut (pointee (u8 .written)))) l₉ (sliceVal (b·buffer, o·buffer) (length buffer)) (holds (tyInt w64) l₈ (vint w64 len) (holds (tyAt (code.function .locals) 7) l₇ (ByteOffset′.mach offset) (holds (tyAt (code.function .locals) 6) l₆ (Version′.mach x-v) (holds (tyAt (code.function .locals) 5) l₅ (Line′.mach x-l) (holds (sliceTy (tyRef (named 2) imm (pointee (Record′.row .written)))) l₄ (sliceVal (b·register, o·register) (length register)) (holds (sliceTy (tyRef (named 1) imm (pointee (u32 .written)))) l₃ (sliceVal (b·nodes, o·nodes) (length nodes)) (holds (sliceTy (tyRef (named 0) imm (pointee (u8 .written)))) l₂ (sliceVal (b·pages, o·pages) (length pages)) (holds (tyAt (code.function .locals) 1) l₁ (Store′.mach s) (holds (tyAt (code.function .locals) 0) l₀ (Filled′.mach (r14 s pages nodes register x-l x-v offset len buffer)) []))))))))))))))))))))))))))) $
       returns ! (look ! 60 refl) $
-      move ! (60 ∷ 61 ∷ []) $ forget ! 0 refl $ free1 ! $ move ! (58 ∷ 59 ∷ []) $ forget ! 0 refl $ free1 ! $ move ! (56 ∷ 57 ∷ []) $ forget ! 0 refl $ free1 ! $ move ! (54 ∷ 55 ∷ []) $ forget ! 0 refl $ free1 ! $ move ! (52 ∷ 53 ∷ []) $ forget ! 0 refl $ free1 ! $ move ! (50 ∷ 51 ∷ []) $ forget ! 0 refl $ free1 ! $ move ! (48 ∷ 49 ∷ []) $ forget ! 0 refl $ free1 ! $ move ! (46 ∷ 47 ∷ []) $ forget ! 0 refl $ free1 ! $ move ! (44 ∷ 45 ∷ []) $ forget ! 0 refl $ free1 ! $ move ! (42 ∷ 43 ∷ []) $ forget ! 0 refl $ free1 ! $ move ! (40 ∷ 41 ∷ []) $ forget ! 0 refl $ free1 ! $ move ! (38 ∷ 39 ∷ []) $ forget ! 0 refl $ free1 ! $ move ! (36 ∷ 37 ∷ []) $ forget ! 0 refl $ free1 ! $ move ! (34 ∷ 35 ∷ []) $ forget ! 0 refl $ free1 ! $ move ! (32 ∷ 33 ∷ []) $ forget ! 0 refl $ free1 ! $ move ! (30 ∷ 31 ∷ []) $ forget ! 0 refl $ free1 ! $ move ! (28 ∷ 29 ∷ []) $ forget ! 0 refl $ free1 ! $ move ! (26 ∷ 27 ∷ []) $ forget ! 0 refl $ free1 ! $ move ! (24 ∷ 25 ∷ []) $ forget ! 0 refl $ free1 ! $ move ! (22 ∷ 23 ∷ []) $ forget ! 0 refl $ free1 ! $ move ! (20 ∷ 21 ∷ []) $ forget ! 0 refl $ free1 ! $ move ! (18 ∷ 19 ∷ []) $ forget ! 0 refl $ free1 ! $ move ! (16 ∷ 17 ∷ []) $ forget ! 0 refl $ free1 ! $ move ! (14 ∷ 15 ∷ []) $ forget ! 0 refl $ free1 ! $ move ! (12 ∷ 13 ∷ []) $ forget ! 0 refl $ free1 ! $ move ! (10 ∷ 11 ∷ []) $ forget ! 0 refl $ free1 ! $ move ! (8 ∷ 9 ∷ []) $ forget ! 0 refl $ free1 ! $ free0 ! $ by ! (exits (r15 s pages nodes register x-v offset len buffer) ok·15 (buffer₁₄ s pages nodes register x-v offset len buffer) (sym (refl ∙ sym same·12-buffer ∙ sym same·14-buffer)) (Facts.exit-1 s pages nodes register x-v offset len buffer ok·s (room·pages .0) (room·nodes .0) (room·register .0) ok·x-v ok·offset (ok·len .1) (room·buffer .0) ok·1 ok·2 (ok·3 .1) (ok·4 .1) ok·5 ok·6 (ok·9 .1) (ok·10 .1) (ok·11 .1) same·12-buffer (ok·13 .1) same·14-buffer ok·15))))))))))))))))))))))))))))))))))))))))))))))
+      move ! (60 ∷ 61 ∷ []) $ forget ! 0 refl $ free1 ! $ move ! (58 ∷ 59 ∷ []) $ forget ! 0 refl $ free1 ! $ move ! (56 ∷ 57 ∷ []) $ forget ! 0 refl $ free1 ! $ move ! (54 ∷ 55 ∷ []) $ forget ! 0 refl $ free1 ! $ move ! (52 ∷ 53 ∷ []) $ forget ! 0 refl $ free1 ! $ move ! (50 ∷ 51 ∷ []) $ forget ! 0 refl $ free1 ! $ move ! (48 ∷ 49 ∷ []) $ forget ! 0 refl $ free1 ! $ move ! (46 ∷ 47 ∷ []) $ forget ! 0 refl $ free1 ! $ move ! (44 ∷ 45 ∷ []) $ forget ! 0 refl $ free1 ! $ move ! (42 ∷ 43 ∷ []) $ forget ! 0 refl $ free1 ! $ move ! (40 ∷ 41 ∷ []) $ forget ! 0 refl $ free1 ! $ move ! (38 ∷ 39 ∷ []) $ forget ! 0 refl $ free1 ! $ move ! (36 ∷ 37 ∷ []) $ forget ! 0 refl $ free1 ! $ move ! (34 ∷ 35 ∷ []) $ forget ! 0 refl $ free1 ! $ move ! (32 ∷ 33 ∷ []) $ forget ! 0 refl $ free1 ! $ move ! (30 ∷ 31 ∷ []) $ forget ! 0 refl $ free1 ! $ move ! (28 ∷ 29 ∷ []) $ forget ! 0 refl $ free1 ! $ move ! (26 ∷ 27 ∷ []) $ forget ! 0 refl $ free1 ! $ move ! (24 ∷ 25 ∷ []) $ forget ! 0 refl $ free1 ! $ move ! (22 ∷ 23 ∷ []) $ forget ! 0 refl $ free1 ! $ move ! (20 ∷ 21 ∷ []) $ forget ! 0 refl $ free1 ! $ move ! (18 ∷ 19 ∷ []) $ forget ! 0 refl $ free1 ! $ move ! (16 ∷ 17 ∷ []) $ forget ! 0 refl $ free1 ! $ move ! (14 ∷ 15 ∷ []) $ forget ! 0 refl $ free1 ! $ move ! (12 ∷ 13 ∷ []) $ forget ! 0 refl $ free1 ! $ move ! (10 ∷ 11 ∷ []) $ forget ! 0 refl $ free1 ! $ move ! (8 ∷ 9 ∷ []) $ forget ! 0 refl $ free1 ! $ free0 ! $ by ! (exits (r14 s pages nodes register x-l x-v offset len buffer) ok·14 (buffer₁₃ s pages nodes register x-l x-v offset len buffer) (sym (refl ∙ sym same·11-buffer ∙ sym same·13-buffer)) (Facts.exit-1 s pages nodes register x-l x-v offset len buffer ok·s (room·pages .0) (room·nodes .0) (room·register .0) ok·x-l ok·x-v ok·offset (ok·len .1) (room·buffer .0) (ok·1 .1) (ok·2 .1) (ok·3 .1) ok·4 ok·5 (ok·8 .1) (ok·9 .1) (ok·10 .1) same·11-buffer (ok·12 .1) same·13-buffer ok·14)))))))))))))))))))))))))))))))))))))))))))))
 
 module _ {M : Type 1} (𝓤 : URA M) (H : Heap 𝓤) (A : Atoms 𝓤) (W : Given 𝓤 H A) (mem : Memory → SProp 𝓤) (run : Routine → Fun 𝓤) where
-  walks : (𝓣 : Tables 𝓤 H) → Triple 𝓤 (𝓣 .C #lengths-of) (Call-lengths-of.Asked 𝓤 H A mem run) → Triple 𝓤 (𝓣 .C #version-record) (Call-version-record.Asked 𝓤 H A mem run) → Triple 𝓤 (𝓣 .C #range-refusal) (Call-range-refusal.Asked 𝓤 H A mem run) → Triple 𝓤 (𝓣 .C #touched) (Call-touched.Asked 𝓤 H A mem run) → Triple 𝓤 (𝓣 .C #chunk-at) (Call-chunk-at.Asked 𝓤 H A mem run) → Triple 𝓤 (𝓣 .C #find-page) (Call-find-page.Asked 𝓤 H A mem run) → Triple 𝓤 (𝓣 .C #is-lost) (Call-is-lost.Asked 𝓤 H A mem run) → Triple 𝓤 (𝓣 .C #some-lost) (Call-some-lost.Asked 𝓤 H A mem run) → Triple 𝓤 (𝓣 .C #or-lost) (Call-or-lost.Asked 𝓤 H A mem run) → Triple 𝓤 (𝓣 .C #copied) (Call-copied.Asked 𝓤 H A mem run) → Triple 𝓤 (𝓣 .C #number-found) (Call-number-found.Asked 𝓤 H A mem run) → Triple 𝓤 (𝓣 .C #copy-page) (Call-copy-page.Asked 𝓤 H A mem run) → Triple 𝓤 (𝓣 .C #copy-range) (Call-copy-range.Asked 𝓤 H A mem run) → Triple 𝓤 (𝓣 .C #filled-by) (Call-filled-by.Asked 𝓤 H A mem run) → Walks 𝓤 H A read‴.ended stayed (WpFn 𝓤 H (𝓣 .C) (𝓣 .Λ) code.function) (read‴.clauses 𝓤 H A mem run)
-  walks 𝓣 known-lengths-of known-version-record known-range-refusal known-touched known-chunk-at known-find-page known-is-lost known-some-lost known-or-lost known-copied known-number-found known-copy-page known-copy-range known-filled-by = walked 𝓤 H A read‴.ended stayed (read‴.clauses 𝓤 H A mem run) (WpFn 𝓤 H (𝓣 .C) (𝓣 .Λ) code.function) (λ κs. (Store′.vals, (slice-vals, (slice-vals, (slice-vals, (Version′.vals, (ByteOffset′.vals, (uint-vals w64, (slice-vals, tt))))))))) (λ κs. (Store′.tells, (shr-slice-tells (named 0) (κs .0) u8, (shr-slice-tells (named 0) (κs .1 .0) u32, (shr-slice-tells (named 0) (κs .1 .1 .0) Record′.row, (Version′.tells, (ByteOffset′.tells, (uint-tells w64, (mut-slice-tells (named 0) (κs .1 .1 .1 .0) u8, tt)))))))))
-      (λ κs qs bounds a g are. via 𝓤 _ (fst∗ 𝓤 _ (emp 𝓤)) (walk 𝓤 H A W mem run (a .0) (κs .0) (qs .0) (a .1 .0 .ptr .0) (a .1 .0 .ptr .1) (a .1 .0 .name) (a .1 .0 .now) (κs .1 .0) (qs .1 .0) (a .1 .1 .0 .ptr .0) (a .1 .1 .0 .ptr .1) (a .1 .1 .0 .name) (a .1 .1 .0 .now) (κs .1 .1 .0) (qs .1 .1 .0) (a .1 .1 .1 .0 .ptr .0) (a .1 .1 .1 .0 .ptr .1) (a .1 .1 .1 .0 .name) (a .1 .1 .1 .0 .now) (a .1 .1 .1 .1 .0) (a .1 .1 .1 .1 .1 .0) (a .1 .1 .1 .1 .1 .1 .0) (κs .1 .1 .1 .0) (qs .1 .1 .1 .0) (a .1 .1 .1 .1 .1 .1 .1 .0 .ptr .0) (a .1 .1 .1 .1 .1 .1 .1 .0 .ptr .1) (a .1 .1 .1 .1 .1 .1 .1 .0 .name) (a .1 .1 .1 .1 .1 .1 .1 .0 .now) (are .0) (are .1 .0 .0 .1) (are .1 .1 .0 .0 .1) (are .1 .1 .1 .0 .0 .1) (are .1 .1 .1 .1 .0) (are .1 .1 .1 .1 .1 .0) (are .1 .1 .1 .1 .1 .1 .0) (are .1 .1 .1 .1 .1 .1 .1 .0 .0 .1) 𝓣 known-lengths-of known-version-record known-range-refusal known-touched known-chunk-at known-find-page known-is-lost known-some-lost known-or-lost known-copied known-number-found known-copy-page known-copy-range known-filled-by))
+  walks : (𝓣 : Tables 𝓤 H) → Triple 𝓤 (𝓣 .C #number-on) (Call-number-on.Asked 𝓤 H A mem run) → Triple 𝓤 (𝓣 .C #range-number) (Call-range-number.Asked 𝓤 H A mem run) → Triple 𝓤 (𝓣 .C #touched) (Call-touched.Asked 𝓤 H A mem run) → Triple 𝓤 (𝓣 .C #chunk-at) (Call-chunk-at.Asked 𝓤 H A mem run) → Triple 𝓤 (𝓣 .C #find-page) (Call-find-page.Asked 𝓤 H A mem run) → Triple 𝓤 (𝓣 .C #is-lost) (Call-is-lost.Asked 𝓤 H A mem run) → Triple 𝓤 (𝓣 .C #some-lost) (Call-some-lost.Asked 𝓤 H A mem run) → Triple 𝓤 (𝓣 .C #or-lost) (Call-or-lost.Asked 𝓤 H A mem run) → Triple 𝓤 (𝓣 .C #copied) (Call-copied.Asked 𝓤 H A mem run) → Triple 𝓤 (𝓣 .C #number-found) (Call-number-found.Asked 𝓤 H A mem run) → Triple 𝓤 (𝓣 .C #copy-page) (Call-copy-page.Asked 𝓤 H A mem run) → Triple 𝓤 (𝓣 .C #copy-range) (Call-copy-range.Asked 𝓤 H A mem run) → Triple 𝓤 (𝓣 .C #filled-by) (Call-filled-by.Asked 𝓤 H A mem run) → Walks 𝓤 H A read‴.ended stayed (WpFn 𝓤 H (𝓣 .C) (𝓣 .Λ) code.function) (read‴.clauses 𝓤 H A mem run)
+  walks 𝓣 known-number-on known-range-number known-touched known-chunk-at known-find-page known-is-lost known-some-lost known-or-lost known-copied known-number-found known-copy-page known-copy-range known-filled-by = walked 𝓤 H A read‴.ended stayed (read‴.clauses 𝓤 H A mem run) (WpFn 𝓤 H (𝓣 .C) (𝓣 .Λ) code.function) (λ κs. (Store′.vals, (slice-vals, (slice-vals, (slice-vals, (Line′.vals, (Version′.vals, (ByteOffset′.vals, (uint-vals w64, (slice-vals, tt)))))))))) (λ κs. (Store′.tells, (shr-slice-tells (named 0) (κs .0) u8, (shr-slice-tells (named 0) (κs .1 .0) u32, (shr-slice-tells (named 0) (κs .1 .1 .0) Record′.row, (Line′.tells, (Version′.tells, (ByteOffset′.tells, (uint-tells w64, (mut-slice-tells (named 0) (κs .1 .1 .1 .0) u8, tt))))))))))
+      (λ κs qs bounds a g are. via 𝓤 _ (fst∗ 𝓤 _ (emp 𝓤)) (walk 𝓤 H A W mem run (a .0) (κs .0) (qs .0) (a .1 .0 .ptr .0) (a .1 .0 .ptr .1) (a .1 .0 .name) (a .1 .0 .now) (κs .1 .0) (qs .1 .0) (a .1 .1 .0 .ptr .0) (a .1 .1 .0 .ptr .1) (a .1 .1 .0 .name) (a .1 .1 .0 .now) (κs .1 .1 .0) (qs .1 .1 .0) (a .1 .1 .1 .0 .ptr .0) (a .1 .1 .1 .0 .ptr .1) (a .1 .1 .1 .0 .name) (a .1 .1 .1 .0 .now) (a .1 .1 .1 .1 .0) (a .1 .1 .1 .1 .1 .0) (a .1 .1 .1 .1 .1 .1 .0) (a .1 .1 .1 .1 .1 .1 .1 .0) (κs .1 .1 .1 .0) (qs .1 .1 .1 .0) (a .1 .1 .1 .1 .1 .1 .1 .1 .0 .ptr .0) (a .1 .1 .1 .1 .1 .1 .1 .1 .0 .ptr .1) (a .1 .1 .1 .1 .1 .1 .1 .1 .0 .name) (a .1 .1 .1 .1 .1 .1 .1 .1 .0 .now) (are .0) (are .1 .0 .0 .1) (are .1 .1 .0 .0 .1) (are .1 .1 .1 .0 .0 .1) (are .1 .1 .1 .1 .0) (are .1 .1 .1 .1 .1 .0) (are .1 .1 .1 .1 .1 .1 .0) (are .1 .1 .1 .1 .1 .1 .1 .0) (are .1 .1 .1 .1 .1 .1 .1 .1 .0 .0 .1) 𝓣 known-number-on known-range-number known-touched known-chunk-at known-find-page known-is-lost known-some-lost known-or-lost known-copied known-number-found known-copy-page known-copy-range known-filled-by))
 
-meets : {M : Type 1} (𝓤 : URA M) (H : Heap 𝓤) (A : Atoms 𝓤) → Given 𝓤 H A → (mem : Memory → SProp 𝓤) (run : Routine → Fun 𝓤) (𝓣 : Tables 𝓤 H) → Triple 𝓤 (𝓣 .C #lengths-of) (Call-lengths-of.Asked 𝓤 H A mem run) → Triple 𝓤 (𝓣 .C #version-record) (Call-version-record.Asked 𝓤 H A mem run) → Triple 𝓤 (𝓣 .C #range-refusal) (Call-range-refusal.Asked 𝓤 H A mem run) → Triple 𝓤 (𝓣 .C #touched) (Call-touched.Asked 𝓤 H A mem run) → Triple 𝓤 (𝓣 .C #chunk-at) (Call-chunk-at.Asked 𝓤 H A mem run) → Triple 𝓤 (𝓣 .C #find-page) (Call-find-page.Asked 𝓤 H A mem run) → Triple 𝓤 (𝓣 .C #is-lost) (Call-is-lost.Asked 𝓤 H A mem run) → Triple 𝓤 (𝓣 .C #some-lost) (Call-some-lost.Asked 𝓤 H A mem run) → Triple 𝓤 (𝓣 .C #or-lost) (Call-or-lost.Asked 𝓤 H A mem run) → Triple 𝓤 (𝓣 .C #copied) (Call-copied.Asked 𝓤 H A mem run) → Triple 𝓤 (𝓣 .C #number-found) (Call-number-found.Asked 𝓤 H A mem run) → Triple 𝓤 (𝓣 .C #copy-page) (Call-copy-page.Asked 𝓤 H A mem run) → Triple 𝓤 (𝓣 .C #copy-range) (Call-copy-range.Asked 𝓤 H A mem run) → Triple 𝓤 (𝓣 .C #filled-by) (Call-filled-by.Asked 𝓤 H A mem run)
+meets : {M : Type 1} (𝓤 : URA M) (H : Heap 𝓤) (A : Atoms 𝓤) → Given 𝓤 H A → (mem : Memory → SProp 𝓤) (run : Routine → Fun 𝓤) (𝓣 : Tables 𝓤 H) → Triple 𝓤 (𝓣 .C #number-on) (Call-number-on.Asked 𝓤 H A mem run) → Triple 𝓤 (𝓣 .C #range-number) (Call-range-number.Asked 𝓤 H A mem run) → Triple 𝓤 (𝓣 .C #touched) (Call-touched.Asked 𝓤 H A mem run) → Triple 𝓤 (𝓣 .C #chunk-at) (Call-chunk-at.Asked 𝓤 H A mem run) → Triple 𝓤 (𝓣 .C #find-page) (Call-find-page.Asked 𝓤 H A mem run) → Triple 𝓤 (𝓣 .C #is-lost) (Call-is-lost.Asked 𝓤 H A mem run) → Triple 𝓤 (𝓣 .C #some-lost) (Call-some-lost.Asked 𝓤 H A mem run) → Triple 𝓤 (𝓣 .C #or-lost) (Call-or-lost.Asked 𝓤 H A mem run) → Triple 𝓤 (𝓣 .C #copied) (Call-copied.Asked 𝓤 H A mem run) → Triple 𝓤 (𝓣 .C #number-found) (Call-number-found.Asked 𝓤 H A mem run) → Triple 𝓤 (𝓣 .C #copy-page) (Call-copy-page.Asked 𝓤 H A mem run) → Triple 𝓤 (𝓣 .C #copy-range) (Call-copy-range.Asked 𝓤 H A mem run) → Triple 𝓤 (𝓣 .C #filled-by) (Call-filled-by.Asked 𝓤 H A mem run)
     → Meets 𝓤 H A read‴.signature (WpFn 𝓤 H (𝓣 .C) (𝓣 .Λ) code.function) (read‴.spec 𝓤 H A mem run)
-meets 𝓤 H A W mem run 𝓣 known-lengths-of known-version-record known-range-refusal known-touched known-chunk-at known-find-page known-is-lost known-some-lost known-or-lost known-copied known-number-found known-copy-page known-copy-range known-filled-by =
-    walk-meets 𝓤 H A read‴.ended stayed W (goes-none 𝓤 H A W 4 (λ _. Store′.row) yes (λ κs x f. refl), (goes-none-slice 𝓤 H A W 4 (0 ∷ []) tt (plain (λ _. u8)) yes, (goes-none-slice 𝓤 H A W 4 (1 ∷ []) tt (plain (λ _. u32)) yes, (goes-none-slice 𝓤 H A W 4 (2 ∷ []) tt (plain (λ _. Record′.row)) yes, (goes-none 𝓤 H A W 4 (λ _. Version′.row) yes (λ κs x f. refl), (goes-none 𝓤 H A W 4 (λ _. ByteOffset′.row) yes (λ κs x f. refl), (goes-none 𝓤 H A W 4 (λ _. u64) yes (λ κs x f. refl), (goes-slice 𝓤 H A W 4 3 tt (plain (λ _. u8)), tt)))))))) (read‴.clauses 𝓤 H A mem run)
-    (WpFn 𝓤 H (𝓣 .C) (𝓣 .Λ) code.function) (WpFn-mono 𝓤 H (W .laws) 𝓣 code.function) (walks 𝓤 H A W mem run 𝓣 known-lengths-of known-version-record known-range-refusal known-touched known-chunk-at known-find-page known-is-lost known-some-lost known-or-lost known-copied known-number-found known-copy-page known-copy-range known-filled-by)
+meets 𝓤 H A W mem run 𝓣 known-number-on known-range-number known-touched known-chunk-at known-find-page known-is-lost known-some-lost known-or-lost known-copied known-number-found known-copy-page known-copy-range known-filled-by =
+    walk-meets 𝓤 H A read‴.ended stayed W (goes-none 𝓤 H A W 4 (λ _. Store′.row) yes (λ κs x f. refl), (goes-none-slice 𝓤 H A W 4 (0 ∷ []) tt (plain (λ _. u8)) yes, (goes-none-slice 𝓤 H A W 4 (1 ∷ []) tt (plain (λ _. u32)) yes, (goes-none-slice 𝓤 H A W 4 (2 ∷ []) tt (plain (λ _. Record′.row)) yes, (goes-none 𝓤 H A W 4 (λ _. Line′.row) yes (λ κs x f. refl), (goes-none 𝓤 H A W 4 (λ _. Version′.row) yes (λ κs x f. refl), (goes-none 𝓤 H A W 4 (λ _. ByteOffset′.row) yes (λ κs x f. refl), (goes-none 𝓤 H A W 4 (λ _. u64) yes (λ κs x f. refl), (goes-slice 𝓤 H A W 4 3 tt (plain (λ _. u8)), tt))))))))) (read‴.clauses 𝓤 H A mem run)
+    (WpFn 𝓤 H (𝓣 .C) (𝓣 .Λ) code.function) (WpFn-mono 𝓤 H (W .laws) 𝓣 code.function) (walks 𝓤 H A W mem run 𝓣 known-number-on known-range-number known-touched known-chunk-at known-find-page known-is-lost known-some-lost known-or-lost known-copied known-number-found known-copy-page known-copy-range known-filled-by)
 
 pub read-spec : {M : Type 1} → stated.statement M
 unfolding code.routine tablesOf
@@ -247,9 +242,8 @@ read-spec 𝓤 H 𝓜 𝓖 𝓡 =
     entered 𝓤 H (tripleOf 𝓤 H (𝓖 .A) read‴.signature (read‴.spec 𝓤 H (𝓖 .A) (𝓜 .mem) (𝓡 .run)))
     (tables 𝓤 H 𝓜 𝓡 code.env .C) (tables 𝓤 H 𝓜 𝓡 code.env .Λ) #self code.function (code.unfolded 𝓤 H 𝓜 𝓡)
     (meets 𝓤 H (𝓖 .A) (givenOf 𝓤 H 𝓜 𝓖) (𝓜 .mem) (𝓡 .run) (tablesOf 𝓤 H 𝓜 (tables 𝓤 H 𝓜 𝓡 code.env))
-    (cited 𝓤 H (Call-lengths-of.Asked 𝓤 H (𝓖 .A) (𝓜 .mem) (𝓡 .run)) 𝓜 𝓡 code.env #lengths-of def-lengths-of.routine code.calls-versions·lengths-of (thm-lengths-of.met 𝓤 H 𝓜 𝓖 𝓡))
-    (cited 𝓤 H (Call-version-record.Asked 𝓤 H (𝓖 .A) (𝓜 .mem) (𝓡 .run)) 𝓜 𝓡 code.env #version-record def-version-record.routine code.calls-register·version-record (thm-version-record.met 𝓤 H 𝓜 𝓖 𝓡))
-    (cited 𝓤 H (Call-range-refusal.Asked 𝓤 H (𝓖 .A) (𝓜 .mem) (𝓡 .run)) 𝓜 𝓡 code.env #range-refusal def-range-refusal.routine code.calls-read·range-refusal (thm-range-refusal.met 𝓤 H 𝓜 𝓖 𝓡))
+    (cited 𝓤 H (Call-number-on.Asked 𝓤 H (𝓖 .A) (𝓜 .mem) (𝓡 .run)) 𝓜 𝓡 code.env #number-on def-number-on.routine code.calls-versions·number-on (thm-number-on.met 𝓤 H 𝓜 𝓖 𝓡))
+    (cited 𝓤 H (Call-range-number.Asked 𝓤 H (𝓖 .A) (𝓜 .mem) (𝓡 .run)) 𝓜 𝓡 code.env #range-number def-range-number.routine code.calls-read·range-number (thm-range-number.met 𝓤 H 𝓜 𝓖 𝓡))
     (cited 𝓤 H (Call-touched.Asked 𝓤 H (𝓖 .A) (𝓜 .mem) (𝓡 .run)) 𝓜 𝓡 code.env #touched def-touched.routine code.calls-read·touched (thm-touched.met 𝓤 H 𝓜 𝓖 𝓡))
     (cited 𝓤 H (Call-chunk-at.Asked 𝓤 H (𝓖 .A) (𝓜 .mem) (𝓡 .run)) 𝓜 𝓡 code.env #chunk-at def-chunk-at.routine code.calls-read·chunk-at (thm-chunk-at.met 𝓤 H 𝓜 𝓖 𝓡))
     (cited 𝓤 H (Call-find-page.Asked 𝓤 H (𝓖 .A) (𝓜 .mem) (𝓡 .run)) 𝓜 𝓡 code.env #find-page def-find-page.routine code.calls-walk·find-page (thm-find-page.met 𝓤 H 𝓜 𝓖 𝓡))

@@ -42,18 +42,18 @@ use denote.Steps.{owned, nothing, heard}
 use denote.Triple.Spec.{Meets, tripleOf}
 use denote.Triple.Table.{entered, cited}
 use denote.Triple.Walked.{says, needs, Stays, stay-slice, stay-none-slice, stay-none, walkOf, Walks, ends-at, walked, goes-slice, goes-none-slice, goes-none, walk-meets}
-use Rattle.versions.specs.declared.Store.{Store}
-use Rattle.versions.proofs.Generated.Kind.Store as Store′
-use Rattle.tree.specs.declared.Ticket.{Ticket}
-use Rattle.register.proofs.Generated.Kind.Ticket as Ticket′
-use Rattle.tree.specs.declared.Version.{Version}
-use Rattle.register.proofs.Generated.Kind.Version as Version′
 use Rattle.register.specs.declared.Record.{Record}
 use Rattle.register.proofs.Generated.Kind.Record as Record′
+use Rattle.tree.specs.declared.Ticket.{Ticket}
+use Rattle.register.proofs.Generated.Kind.Ticket as Ticket′
 use Rattle.tree.specs.declared.PageIndex.{PageIndex}
 use Rattle.register.proofs.Generated.Kind.PageIndex as PageIndex′
+use Rattle.lines.specs.declared.Entries.{Entries}
+use Rattle.register.proofs.Generated.Kind.Entries as Entries′
 use Rattle.tree.specs.declared.Found.{Found}
 use Rattle.walk.proofs.Generated.Kind.Found as Found′
+use Rattle.tree.specs.declared.Version.{Version}
+use Rattle.register.proofs.Generated.Kind.Version as Version′
 use Rattle.register.proofs.Generated.Flow.{ref, MutAt, ShrAt, lend-mut, back-mut, lend-shr, back-shr, branches-on, regroup, skips-on, returns-on, plus-nothing, holds, empty, less-fits, is-true, is-false, differ, above-0, twice-not, switches-to, switches-last, big-lit, here, blocks-on, resume, scaled-2, scaled-4, scaled-8, opens-shr, shuts-shr, opens-mut, shuts-mut, puts-mut, keeps-shr, fills, empties, tyAt}
 use Rattle.read.proofs.Generated.Say.some_lost as some-lost″
 use Rattle.walk.proofs.Generated.Say.find_page as find-page″
@@ -79,14 +79,14 @@ use Rattle.read.proofs.some_lost.Proof.Loop as Loop
 use Rattle.read.proofs.some_lost.Proof.Asks.{r1, r2}
 
 abbrev stayed : Stays (some-lost‴.ended .signature .params) (some-lost‴.ended .kept)
-stayed = (stay-none (λ _. Store′.row) yes, (stay-none-slice (0 ∷ []) tt (plain (λ _. u32)) yes, (stay-none-slice (1 ∷ []) tt (plain (λ _. Record′.row)) yes, (stay-none (λ _. Version′.row) yes, (stay-none (λ _. PageIndex′.row) yes, (stay-none (λ _. u64) yes, (stay-none (λ _. bool) yes, tt)))))))
+stayed = (stay-none (λ _. u64) yes, (stay-none-slice (0 ∷ []) tt (plain (λ _. u32)) yes, (stay-none-slice (1 ∷ []) tt (plain (λ _. Record′.row)) yes, (stay-none (λ _. u64) yes, (stay-none (λ _. PageIndex′.row) yes, (stay-none (λ _. u64) yes, (stay-none (λ _. bool) yes, tt)))))))
 
-module _ {M : Type 1} (𝓤 : URA M) (H : Heap 𝓤) (A : Atoms 𝓤) (W : Given 𝓤 H A) (mem : Memory → SProp 𝓤) (run : Routine → Fun 𝓤) (s : Store) (κ·nodes : Lft) (q·nodes : Share) (b·nodes o·nodes : ℕ) (γ·nodes : GName) (nodes : List ℕ) (κ·register : Lft) (q·register : Share) (b·register o·register : ℕ) (γ·register : GName) (register : List Record) (x-v : Version) (x-from : PageIndex) (n : ℕ) (x-first : Bool) (ok·s : Is Store′.row s (Store′.vals s)) (room·nodes : Room u32 (length nodes)) (room·register : Room Record′.row (length register)) (ok·x-v : Is Version′.row x-v (Version′.vals x-v)) (ok·x-from : Is PageIndex′.row x-from (PageIndex′.vals x-from)) (ok·n : Is u64 n (uint-vals w64 n)) (ok·x-first : Is bool x-first (bool-vals x-first)) (need : some-lost″.req s nodes register x-v x-from n x-first) where
+module _ {M : Type 1} (𝓤 : URA M) (H : Heap 𝓤) (A : Atoms 𝓤) (W : Given 𝓤 H A) (mem : Memory → SProp 𝓤) (run : Routine → Fun 𝓤) (count : ℕ) (κ·nodes : Lft) (q·nodes : Share) (b·nodes o·nodes : ℕ) (γ·nodes : GName) (nodes : List ℕ) (κ·register : Lft) (q·register : Share) (b·register o·register : ℕ) (γ·register : GName) (register : List Record) (c : ℕ) (x-from : PageIndex) (n : ℕ) (x-first : Bool) (ok·count : Is u64 count (uint-vals w64 count)) (room·nodes : Room u32 (length nodes)) (room·register : Room Record′.row (length register)) (ok·c : Is u64 c (uint-vals w64 c)) (ok·x-from : Is PageIndex′.row x-from (PageIndex′.vals x-from)) (ok·n : Is u64 n (uint-vals w64 n)) (ok·x-first : Is bool x-first (bool-vals x-first)) (need : some-lost″.req count nodes register c x-from n x-first) where
   abbrev all-args : Args some-lost‴.signature (κ·nodes, (κ·register, tt))
-  all-args = (s, (ref b·nodes o·nodes γ·nodes nodes, (ref b·register o·register γ·register register, (x-v, (x-from, (n, (x-first, tt)))))))
+  all-args = (count, (ref b·nodes o·nodes γ·nodes nodes, (ref b·register o·register γ·register register, (c, (x-from, (n, (x-first, tt)))))))
 
   abbrev all-vals : Vals some-lost‴.signature (κ·nodes, (κ·register, tt))
-  all-vals = (Store′.mach s ∷ [], (sliceVal (b·nodes, o·nodes) (length nodes) ∷ [], (sliceVal (b·register, o·register) (length register) ∷ [], (Version′.mach x-v ∷ [], (PageIndex′.mach x-from ∷ [], (vint w64 n ∷ [], (vbool x-first ∷ [], tt)))))))
+  all-vals = (vint w64 count ∷ [], (sliceVal (b·nodes, o·nodes) (length nodes) ∷ [], (sliceVal (b·register, o·register) (length register) ∷ [], (vint w64 c ∷ [], (PageIndex′.mach x-from ∷ [], (vint w64 n ∷ [], (vbool x-first ∷ [], tt)))))))
 
   abbrev bound : walkOf 𝓤 H A some-lost‴.ended stayed (some-lost‴.clauses 𝓤 H A mem run) .Ghost
   bound = (((κ·nodes, (κ·register, tt)), (q·nodes, (q·register, tt)), tt, all-args, all-vals), tt)
@@ -94,89 +94,89 @@ module _ {M : Type 1} (𝓤 : URA M) (H : Heap 𝓤) (A : Atoms 𝓤) (W : Given
   abbrev Post : Val → SProp 𝓤
   Post = walkOf 𝓤 H A some-lost‴.ended stayed (some-lost‴.clauses 𝓤 H A mem run) .post bound
 
-  exits : (r : Bool) → Is bool r (bool-vals r) → some-lost″.ens s nodes register x-v x-from n x-first r → ent 𝓤 (⋆ 𝓤 H A (‵ (flft κ·nodes q·nodes) ∷ ‵ (ShrAt u32 κ·nodes b·nodes o·nodes γ·nodes (length nodes) nodes) ∷ ‵ (flft κ·register q·register) ∷ ‵ (ShrAt Record′.row κ·register b·register o·register γ·register (length register) register) ∷ [])) (Post (vbool r))
+  exits : (r : Bool) → Is bool r (bool-vals r) → some-lost″.ens count nodes register c x-from n x-first r → ent 𝓤 (⋆ 𝓤 H A (‵ (flft κ·nodes q·nodes) ∷ ‵ (ShrAt u32 κ·nodes b·nodes o·nodes γ·nodes (length nodes) nodes) ∷ ‵ (flft κ·register q·register) ∷ ‵ (ShrAt Record′.row κ·register b·register o·register γ·register (length register) register) ∷ [])) (Post (vbool r))
   exits r ok·r said =
       qed W (‵ (flft κ·nodes q·nodes) ∷ ‵ (ShrAt u32 κ·nodes b·nodes o·nodes γ·nodes (length nodes) nodes) ∷ ‵ (flft κ·register q·register) ∷ ‵ (ShrAt Record′.row κ·register b·register o·register γ·register (length register) register) ∷ []) ∵ suffices ! _ (ends-at 𝓤 H A some-lost‴.ended stayed (some-lost‴.clauses 𝓤 H A mem run) W bound (vbool r) r (tt, (tt, (tt, (tt, (tt, (tt, (tt, tt))))))) (tt, (tt, (tt, (tt, (tt, (tt, (tt, tt)))))))) $ says ! said $
-      nothing ! $ move ! (3 ∷ 0 ∷ []) $ join ! $ move ! (1 ∷ 0 ∷ []) $ join ! $ frame ! $ nothing ! $ owned ! bool (Is bool) (bool-makes 𝓤 H A W) x-first _ ok·x-first $ fjoin ! $ owned ! u64 (Is u64) (uint-makes 𝓤 H A W w64) n _ ok·n $ fjoin ! $ owned ! PageIndex′.row (Is PageIndex′.row) (PageIndex′.makes 𝓤 H A) x-from _ ok·x-from $ fjoin ! $ owned ! Version′.row (Is Version′.row) (Version′.makes 𝓤 H A) x-v _ ok·x-v $ fjoin ! $ move ! (2 ∷ 0 ∷ []) $ fjoin ! $ move ! (1 ∷ 0 ∷ []) $ fjoin ! $ owned ! Store′.row (Is Store′.row) (Store′.makes 𝓤 H A) s _ ok·s $ fjoin ! $ frame ! $ owned ! bool (Is bool) (bool-makes 𝓤 H A W) r _ ok·r $ done !
+      nothing ! $ move ! (3 ∷ 0 ∷ []) $ join ! $ move ! (1 ∷ 0 ∷ []) $ join ! $ frame ! $ nothing ! $ owned ! bool (Is bool) (bool-makes 𝓤 H A W) x-first _ ok·x-first $ fjoin ! $ owned ! u64 (Is u64) (uint-makes 𝓤 H A W w64) n _ ok·n $ fjoin ! $ owned ! PageIndex′.row (Is PageIndex′.row) (PageIndex′.makes 𝓤 H A) x-from _ ok·x-from $ fjoin ! $ owned ! u64 (Is u64) (uint-makes 𝓤 H A W w64) c _ ok·c $ fjoin ! $ move ! (2 ∷ 0 ∷ []) $ fjoin ! $ move ! (1 ∷ 0 ∷ []) $ fjoin ! $ owned ! u64 (Is u64) (uint-makes 𝓤 H A W w64) count _ ok·count $ fjoin ! $ frame ! $ owned ! bool (Is bool) (bool-makes 𝓤 H A W) r _ ok·r $ done !
 
   module _ (𝓣 : Tables 𝓤 H) (known-find-page : Triple 𝓤 (𝓣 .C #find-page) (Call-find-page.Asked 𝓤 H A mem run)) (known-is-lost : Triple 𝓤 (𝓣 .C #is-lost) (Call-is-lost.Asked 𝓤 H A mem run)) (h·1 : T (not (eqb n 0))) (h·2 : T (not x-first)) (l₀ l₁ l₂ l₃ l₄ l₅ l₆ l₇ l₈ l₉ l₁₀ l₁₁ l₁₂ l₁₃ l₁₄ : ℕ) where
     abbrev E : Env 𝓤 H
-    E = (tyBool, l₀) ∷ (tyAt (code.function .locals) 1, l₁) ∷ (sliceTy (tyRef (named 0) imm (pointee (u32 .written))), l₂) ∷ (sliceTy (tyRef (named 1) imm (pointee (Record′.row .written))), l₃) ∷ (tyAt (code.function .locals) 4, l₄) ∷ (tyAt (code.function .locals) 5, l₅) ∷ (tyInt w64, l₆) ∷ (tyBool, l₇) ∷ (tyInt w64, l₈) ∷ (tyBool, l₉) ∷ (tyBool, l₁₀) ∷ (tyBool, l₁₁) ∷ (tyAt (code.function .locals) 12, l₁₂) ∷ (tyInt w64, l₁₃) ∷ (tyAt (code.function .locals) 14, l₁₄) ∷ []
+    E = (tyBool, l₀) ∷ (tyInt w64, l₁) ∷ (sliceTy (tyRef (named 0) imm (pointee (u32 .written))), l₂) ∷ (sliceTy (tyRef (named 1) imm (pointee (Record′.row .written))), l₃) ∷ (tyInt w64, l₄) ∷ (tyAt (code.function .locals) 5, l₅) ∷ (tyInt w64, l₆) ∷ (tyBool, l₇) ∷ (tyInt w64, l₈) ∷ (tyBool, l₉) ∷ (tyBool, l₁₀) ∷ (tyBool, l₁₁) ∷ (tyAt (code.function .locals) 12, l₁₂) ∷ (tyInt w64, l₁₃) ∷ (tyAt (code.function .locals) 14, l₁₄) ∷ []
 
     abbrev Var : Type 0
     Var = ℕ × (Unit {0})
 
     abbrev lesser : Var → Var → Type 0
-    lesser t′ t = Loop.measure-1 s nodes register x-v x-from n x-first (t′ .0) < Loop.measure-1 s nodes register x-v x-from n x-first (t .0)
+    lesser t′ t = Loop.measure-1 count nodes register c x-from n x-first (t′ .0) < Loop.measure-1 count nodes register c x-from n x-first (t .0)
 
     falls : WellFounded lesser
-    falls = InvImage·wf (λ (t : Var). Loop.measure-1 s nodes register x-v x-from n x-first (t .0)) (Nat·lt-wfRel .wf)
+    falls = InvImage·wf (λ (t : Var). Loop.measure-1 count nodes register c x-from n x-first (t .0)) (Nat·lt-wfRel .wf)
 
     abbrev I : Var → List (Item 𝓤)
-    I t = raw (fact 𝓤 ((Is u64 (t .0) (uint-vals w64 (t .0))) × (Loop.inv-1 s nodes register x-v x-from n x-first (t .0)))) ∷ ‵ (flft κ·nodes q·nodes) ∷ ‵ (ShrAt u32 κ·nodes b·nodes o·nodes γ·nodes (length nodes) nodes) ∷ ‵ (flft κ·register q·register) ∷ ‵ (ShrAt Record′.row κ·register b·register o·register γ·register (length register) register) ∷ empty (tyAt (code.function .locals) 14) l₁₄ (empty (tyInt w64) l₁₃ (empty (tyAt (code.function .locals) 12) l₁₂ (empty tyBool l₁₁ (empty tyBool l₁₀ (holds tyBool l₉ (vbool x-first) (holds (tyInt w64) l₈ (vint w64 (t .0)) (holds tyBool l₇ (vbool x-first) (holds (tyInt w64) l₆ (vint w64 n) (holds (tyAt (code.function .locals) 5) l₅ (PageIndex′.mach x-from) (holds (tyAt (code.function .locals) 4) l₄ (Version′.mach x-v) (holds (sliceTy (tyRef (named 1) imm (pointee (Record′.row .written)))) l₃ (sliceVal (b·register, o·register) (length register)) (holds (sliceTy (tyRef (named 0) imm (pointee (u32 .written)))) l₂ (sliceVal (b·nodes, o·nodes) (length nodes)) (holds (tyAt (code.function .locals) 1) l₁ (Store′.mach s) (empty tyBool l₀ []))))))))))))))
+    I t = raw (fact 𝓤 ((Is u64 (t .0) (uint-vals w64 (t .0))) × (Loop.inv-1 count nodes register c x-from n x-first (t .0)))) ∷ ‵ (flft κ·nodes q·nodes) ∷ ‵ (ShrAt u32 κ·nodes b·nodes o·nodes γ·nodes (length nodes) nodes) ∷ ‵ (flft κ·register q·register) ∷ ‵ (ShrAt Record′.row κ·register b·register o·register γ·register (length register) register) ∷ empty (tyAt (code.function .locals) 14) l₁₄ (empty (tyInt w64) l₁₃ (empty (tyAt (code.function .locals) 12) l₁₂ (empty tyBool l₁₁ (empty tyBool l₁₀ (holds tyBool l₉ (vbool x-first) (holds (tyInt w64) l₈ (vint w64 (t .0)) (holds tyBool l₇ (vbool x-first) (holds (tyInt w64) l₆ (vint w64 n) (holds (tyAt (code.function .locals) 5) l₅ (PageIndex′.mach x-from) (holds (tyInt w64) l₄ (vint w64 c) (holds (sliceTy (tyRef (named 1) imm (pointee (Record′.row .written)))) l₃ (sliceVal (b·register, o·register) (length register)) (holds (sliceTy (tyRef (named 0) imm (pointee (u32 .written)))) l₂ (sliceVal (b·nodes, o·nodes) (length nodes)) (holds (tyInt w64) l₁ (vint w64 count) (empty tyBool l₀ []))))))))))))))
 
     abbrev Left : Out → SProp 𝓤
     Left = afterBlock 𝓤 H (afterSeq 𝓤 H (Wp 𝓤 H (𝓣 .C) (𝓣 .Λ) E parts.t-7 (atReturn 𝓤 H E Post)) (atReturn 𝓤 H E Post))
 
     turn : (v8 : ℕ) → Sq W (I (v8, tt)) (runs (𝓣 .C) (𝓣 .Λ) E parts.turn-1 (anyQ (afterTurn 𝓤 H (Below 𝓤 H A lesser I (v8, tt)) Left)))
     unfolding afterTurn
-    turn v8 = heard ! ((Is u64 v8 (uint-vals w64 v8)) × (Loop.inv-1 s nodes register x-v x-from n x-first v8)) (λ f·1.
+    turn v8 = heard ! ((Is u64 v8 (uint-vals w64 v8)) × (Loop.inv-1 count nodes register c x-from n x-first v8)) (λ f·1.
         assigns ! (bin ! (load ! (from ! (stop !)) (look ! 16 refl)) (load ! (from ! (stop !)) (look ! 20 refl)) tt) (from ! (stop !)) (init ! 12 refl (tt, tt)) $
         branches-on ! (load ! (from ! (stop !)) (look ! 12 refl))
-        (λ h·3. skips-on ! $ assigns ! (bin ! (load ! (from ! (fld ! refl (stop !))) (look-in ! 22 (sub ! 0 refl (whole !)))) (load ! (from ! (stop !)) (look ! 16 refl)) record { fits = Facts.add-1 s nodes register x-v x-from n x-first ok·s (room·nodes .0) (room·register .0) ok·x-v ok·x-from (ok·n .1) need (is-false (eqb n 0) h·1) (above-0 n h·1) (is-false x-first h·2) v8 ((f·1 .0) .1) (f·1 .1) (is-true (ltb v8 n) h·3) (ltb→lt v8 n h·3) }) (from ! (stop !)) (init ! 6 refl (tt, record { fits = Facts.add-1 s nodes register x-v x-from n x-first ok·s (room·nodes .0) (room·register .0) ok·x-v ok·x-from (ok·n .1) need (is-false (eqb n 0) h·1) (above-0 n h·1) (is-false x-first h·2) v8 ((f·1 .0) .1) (f·1 .1) (is-true (ltb v8 n) h·3) (ltb→lt v8 n h·3) })) $
-        assigns ! (agg ! (and-then ! (load ! (from ! (stop !)) (look ! 6 refl)) (no-more !))) (from ! (stop !)) (init ! 4 refl (PageIndex′.typed 𝓤 H A W (PageIndex′.build ((x-from .0) + v8)) (PageIndex′.make ((x-from .0) + v8) (refl, Facts.add-1 s nodes register x-v x-from n x-first ok·s (room·nodes .0) (room·register .0) ok·x-v ok·x-from (ok·n .1) need (is-false (eqb n 0) h·1) (above-0 n h·1) (is-false x-first h·2) v8 ((f·1 .0) .1) (f·1 .1) (is-true (ltb v8 n) h·3) (ltb→lt v8 n h·3))))) $
-        Call-find-page.calls ! mem run (fmOf 𝓤 H (W .laws) 𝓣) known-find-page s κ·nodes q·nodes b·nodes o·nodes γ·nodes (length nodes) nodes κ·register q·register b·register o·register γ·register (length register) register x-v (PageIndex′.build ((x-from .0) + v8)) ok·s ok·x-v (PageIndex′.make ((x-from .0) + v8) (refl, Facts.add-1 s nodes register x-v x-from n x-first ok·s (room·nodes .0) (room·register .0) ok·x-v ok·x-from (ok·n .1) need (is-false (eqb n 0) h·1) (above-0 n h·1) (is-false x-first h·2) v8 ((f·1 .0) .1) (f·1 .1) (is-true (ltb v8 n) h·3) (ltb→lt v8 n h·3))) (and-then ! (load ! (from ! (stop !)) (look ! 29 refl)) (and-then ! (load ! (from ! (stop !)) (look ! 27 refl)) (and-then ! (load ! (from ! (stop !)) (look ! 25 refl)) (and-then ! (load ! (from ! (stop !)) (look ! 23 refl)) (and-then ! (load ! (from ! (stop !)) (look ! 3 refl)) (no-more !))))))
-        (λ ok·1. land ! (from ! (stop !)) (init ! 8 refl (Found′.typed 𝓤 H A W (r1 s nodes register x-v x-from n x-first v8) ok·1)) $
-        here ! (‵ (flft κ·nodes q·nodes) ∷ ‵ (ShrAt u32 κ·nodes b·nodes o·nodes γ·nodes (length nodes) nodes) ∷ ‵ (flft κ·register q·register) ∷ ‵ (ShrAt Record′.row κ·register b·register o·register γ·register (length register) register) ∷ holds (tyAt (code.function .locals) 14) l₁₄ (PageIndex′.mach (PageIndex′.build ((x-from .0) + v8))) (holds (tyInt w64) l₁₃ (vint w64 ((x-from .0) + v8)) (holds (tyAt (code.function .locals) 12) l₁₂ (Found′.mach (r1 s nodes register x-v x-from n x-first v8)) (empty tyBool l₁₁ (holds tyBool l₁₀ (vbool (ltb v8 n)) (holds tyBool l₉ (vbool x-first) (holds (tyInt w64) l₈ (vint w64 v8) (holds tyBool l₇ (vbool x-first) (holds (tyInt w64) l₆ (vint w64 n) (holds (tyAt (code.function .locals) 5) l₅ (PageIndex′.mach x-from) (holds (tyAt (code.function .locals) 4) l₄ (Version′.mach x-v) (holds (sliceTy (tyRef (named 1) imm (pointee (Record′.row .written)))) l₃ (sliceVal (b·register, o·register) (length register)) (holds (sliceTy (tyRef (named 0) imm (pointee (u32 .written)))) l₂ (sliceVal (b·nodes, o·nodes) (length nodes)) (holds (tyAt (code.function .locals) 1) l₁ (Store′.mach s) (empty tyBool l₀ []))))))))))))))) $
-        Call-is-lost.calls ! mem run (fmOf 𝓤 H (W .laws) 𝓣) known-is-lost (s .pages) (r1 s nodes register x-v x-from n x-first v8) (Store′.ok-pages s ok·s) ok·1 (and-then ! (load ! (from ! (fld ! refl (stop !))) (look-in ! 31 (sub ! 1 refl (whole !)))) (and-then ! (load ! (from ! (stop !)) (look ! 9 refl)) (no-more !)))
+        (λ h·3. skips-on ! $ assigns ! (bin ! (load ! (from ! (fld ! refl (stop !))) (look-in ! 22 (sub ! 0 refl (whole !)))) (load ! (from ! (stop !)) (look ! 16 refl)) record { fits = Facts.add-1 count nodes register c x-from n x-first (ok·count .1) (room·nodes .0) (room·register .0) (ok·c .1) ok·x-from (ok·n .1) need (is-false (eqb n 0) h·1) (above-0 n h·1) (is-false x-first h·2) v8 ((f·1 .0) .1) (f·1 .1) (is-true (ltb v8 n) h·3) (ltb→lt v8 n h·3) }) (from ! (stop !)) (init ! 6 refl (tt, record { fits = Facts.add-1 count nodes register c x-from n x-first (ok·count .1) (room·nodes .0) (room·register .0) (ok·c .1) ok·x-from (ok·n .1) need (is-false (eqb n 0) h·1) (above-0 n h·1) (is-false x-first h·2) v8 ((f·1 .0) .1) (f·1 .1) (is-true (ltb v8 n) h·3) (ltb→lt v8 n h·3) })) $
+        assigns ! (agg ! (and-then ! (load ! (from ! (stop !)) (look ! 6 refl)) (no-more !))) (from ! (stop !)) (init ! 4 refl (PageIndex′.typed 𝓤 H A W (PageIndex′.build ((x-from .0) + v8)) (PageIndex′.make ((x-from .0) + v8) (refl, Facts.add-1 count nodes register c x-from n x-first (ok·count .1) (room·nodes .0) (room·register .0) (ok·c .1) ok·x-from (ok·n .1) need (is-false (eqb n 0) h·1) (above-0 n h·1) (is-false x-first h·2) v8 ((f·1 .0) .1) (f·1 .1) (is-true (ltb v8 n) h·3) (ltb→lt v8 n h·3))))) $
+        Call-find-page.calls ! mem run (fmOf 𝓤 H (W .laws) 𝓣) known-find-page κ·nodes q·nodes b·nodes o·nodes γ·nodes (length nodes) nodes κ·register q·register b·register o·register γ·register (length register) register c (PageIndex′.build ((x-from .0) + v8)) ok·c (PageIndex′.make ((x-from .0) + v8) (refl, Facts.add-1 count nodes register c x-from n x-first (ok·count .1) (room·nodes .0) (room·register .0) (ok·c .1) ok·x-from (ok·n .1) need (is-false (eqb n 0) h·1) (above-0 n h·1) (is-false x-first h·2) v8 ((f·1 .0) .1) (f·1 .1) (is-true (ltb v8 n) h·3) (ltb→lt v8 n h·3))) (and-then ! (load ! (from ! (stop !)) (look ! 27 refl)) (and-then ! (load ! (from ! (stop !)) (look ! 25 refl)) (and-then ! (load ! (from ! (stop !)) (look ! 23 refl)) (and-then ! (load ! (from ! (stop !)) (look ! 3 refl)) (no-more !)))))
+        (λ ok·1. land ! (from ! (stop !)) (init ! 8 refl (Found′.typed 𝓤 H A W (r1 count nodes register c x-from n x-first v8) ok·1)) $
+        here ! (‵ (flft κ·nodes q·nodes) ∷ ‵ (ShrAt u32 κ·nodes b·nodes o·nodes γ·nodes (length nodes) nodes) ∷ ‵ (flft κ·register q·register) ∷ ‵ (ShrAt Record′.row κ·register b·register o·register γ·register (length register) register) ∷ holds (tyAt (code.function .locals) 14) l₁₄ (PageIndex′.mach (PageIndex′.build ((x-from .0) + v8))) (holds (tyInt w64) l₁₃ (vint w64 ((x-from .0) + v8)) (holds (tyAt (code.function .locals) 12) l₁₂ (Found′.mach (r1 count nodes register c x-from n x-first v8)) (empty tyBool l₁₁ (holds tyBool l₁₀ (vbool (ltb v8 n)) (holds tyBool l₉ (vbool x-first) (holds (tyInt w64) l₈ (vint w64 v8) (holds tyBool l₇ (vbool x-first) (holds (tyInt w64) l₆ (vint w64 n) (holds (tyAt (code.function .locals) 5) l₅ (PageIndex′.mach x-from) (holds (tyInt w64) l₄ (vint w64 c) (holds (sliceTy (tyRef (named 1) imm (pointee (Record′.row .written)))) l₃ (sliceVal (b·register, o·register) (length register)) (holds (sliceTy (tyRef (named 0) imm (pointee (u32 .written)))) l₂ (sliceVal (b·nodes, o·nodes) (length nodes)) (holds (tyInt w64) l₁ (vint w64 count) (empty tyBool l₀ []))))))))))))))) $
+        Call-is-lost.calls ! mem run (fmOf 𝓤 H (W .laws) 𝓣) known-is-lost count (r1 count nodes register c x-from n x-first v8) ok·count ok·1 (and-then ! (load ! (from ! (stop !)) (look ! 31 refl)) (and-then ! (load ! (from ! (stop !)) (look ! 9 refl)) (no-more !)))
         (λ ok·2. land ! (from ! (stop !)) (init ! 10 refl (tt, tt)) $
-        here ! (‵ (flft κ·nodes q·nodes) ∷ ‵ (ShrAt u32 κ·nodes b·nodes o·nodes γ·nodes (length nodes) nodes) ∷ ‵ (flft κ·register q·register) ∷ ‵ (ShrAt Record′.row κ·register b·register o·register γ·register (length register) register) ∷ holds (tyAt (code.function .locals) 14) l₁₄ (PageIndex′.mach (PageIndex′.build ((x-from .0) + v8))) (holds (tyInt w64) l₁₃ (vint w64 ((x-from .0) + v8)) (holds (tyAt (code.function .locals) 12) l₁₂ (Found′.mach (r1 s nodes register x-v x-from n x-first v8)) (holds tyBool l₁₁ (vbool (r2 s nodes register x-v x-from n x-first v8)) (holds tyBool l₁₀ (vbool (ltb v8 n)) (holds tyBool l₉ (vbool x-first) (holds (tyInt w64) l₈ (vint w64 v8) (holds tyBool l₇ (vbool x-first) (holds (tyInt w64) l₆ (vint w64 n) (holds (tyAt (code.function .locals) 5) l₅ (PageIndex′.mach x-from) (holds (tyAt (code.function .locals) 4) l₄ (Version′.mach x-v) (holds (sliceTy (tyRef (named 1) imm (pointee (Record′.row .written)))) l₃ (sliceVal (b·register, o·register) (length register)) (holds (sliceTy (tyRef (named 0) imm (pointee (u32 .written)))) l₂ (sliceVal (b·nodes, o·nodes) (length nodes)) (holds (tyAt (code.function .locals) 1) l₁ (Store′.mach s) (empty tyBool l₀ []))))))))))))))) $
+        here ! (‵ (flft κ·nodes q·nodes) ∷ ‵ (ShrAt u32 κ·nodes b·nodes o·nodes γ·nodes (length nodes) nodes) ∷ ‵ (flft κ·register q·register) ∷ ‵ (ShrAt Record′.row κ·register b·register o·register γ·register (length register) register) ∷ holds (tyAt (code.function .locals) 14) l₁₄ (PageIndex′.mach (PageIndex′.build ((x-from .0) + v8))) (holds (tyInt w64) l₁₃ (vint w64 ((x-from .0) + v8)) (holds (tyAt (code.function .locals) 12) l₁₂ (Found′.mach (r1 count nodes register c x-from n x-first v8)) (holds tyBool l₁₁ (vbool (r2 count nodes register c x-from n x-first v8)) (holds tyBool l₁₀ (vbool (ltb v8 n)) (holds tyBool l₉ (vbool x-first) (holds (tyInt w64) l₈ (vint w64 v8) (holds tyBool l₇ (vbool x-first) (holds (tyInt w64) l₆ (vint w64 n) (holds (tyAt (code.function .locals) 5) l₅ (PageIndex′.mach x-from) (holds (tyInt w64) l₄ (vint w64 c) (holds (sliceTy (tyRef (named 1) imm (pointee (Record′.row .written)))) l₃ (sliceVal (b·register, o·register) (length register)) (holds (sliceTy (tyRef (named 0) imm (pointee (u32 .written)))) l₂ (sliceVal (b·nodes, o·nodes) (length nodes)) (holds (tyInt w64) l₁ (vint w64 count) (empty tyBool l₀ []))))))))))))))) $
         branches-on ! (load ! (from ! (stop !)) (look ! 10 refl))
         (λ h·4. regroup ! $
         assigns ! (of-opd ! (true-lit !)) (from ! (stop !)) (init ! 32 refl (tt, tt)) $
         first ! $ returns-within ! Post refl (look ! 32 refl) $
-        move ! (32 ∷ 33 ∷ []) $ forget ! 0 refl $ free1 ! $ move ! (30 ∷ 31 ∷ []) $ forget ! 0 refl $ free1 ! $ move ! (28 ∷ 29 ∷ []) $ forget ! 0 refl $ free1 ! $ move ! (26 ∷ 27 ∷ []) $ forget ! 0 refl $ free1 ! $ move ! (24 ∷ 25 ∷ []) $ forget ! 0 refl $ free1 ! $ move ! (22 ∷ 23 ∷ []) $ forget ! 0 refl $ free1 ! $ move ! (20 ∷ 21 ∷ []) $ forget ! 0 refl $ free1 ! $ move ! (18 ∷ 19 ∷ []) $ forget ! 0 refl $ free1 ! $ move ! (16 ∷ 17 ∷ []) $ forget ! 0 refl $ free1 ! $ move ! (14 ∷ 15 ∷ []) $ forget ! 0 refl $ free1 ! $ move ! (12 ∷ 13 ∷ []) $ forget ! 0 refl $ free1 ! $ move ! (10 ∷ 11 ∷ []) $ forget ! 0 refl $ free1 ! $ move ! (8 ∷ 9 ∷ []) $ forget ! 0 refl $ free1 ! $ move ! (6 ∷ 7 ∷ []) $ forget ! 0 refl $ free1 ! $ move ! (4 ∷ 5 ∷ []) $ forget ! 0 refl $ free1 ! $ free0 ! $ by ! (exits true refl (Facts.exit-3 s nodes register x-v x-from n x-first ok·s (room·nodes .0) (room·register .0) ok·x-v ok·x-from (ok·n .1) need (is-false (eqb n 0) h·1) (above-0 n h·1) (is-false x-first h·2) v8 ((f·1 .0) .1) (f·1 .1) (is-true (ltb v8 n) h·3) (ltb→lt v8 n h·3) ok·1 (is-true (r2 s nodes register x-v x-from n x-first v8) h·4))))
-        (λ h·4. skips-on ! $ assigns-last ! (bin ! (load ! (from ! (stop !)) (look ! 16 refl)) (lit ! tt) record { fits = Facts.add-2 s nodes register x-v x-from n x-first ok·s (room·nodes .0) (room·register .0) ok·x-v ok·x-from (ok·n .1) need (is-false (eqb n 0) h·1) (above-0 n h·1) (is-false x-first h·2) v8 ((f·1 .0) .1) (f·1 .1) (is-true (ltb v8 n) h·3) (ltb→lt v8 n h·3) ok·1 (is-false (r2 s nodes register x-v x-from n x-first v8) h·4) }) (from ! (stop !)) (store ! 16 refl (tt, record { fits = Facts.add-2 s nodes register x-v x-from n x-first ok·s (room·nodes .0) (room·register .0) ok·x-v ok·x-from (ok·n .1) need (is-false (eqb n 0) h·1) (above-0 n h·1) (is-false x-first h·2) v8 ((f·1 .0) .1) (f·1 .1) (is-true (ltb v8 n) h·3) (ltb→lt v8 n h·3) ok·1 (is-false (r2 s nodes register x-v x-from n x-first v8) h·4) })) $
+        move ! (32 ∷ 33 ∷ []) $ forget ! 0 refl $ free1 ! $ move ! (30 ∷ 31 ∷ []) $ forget ! 0 refl $ free1 ! $ move ! (28 ∷ 29 ∷ []) $ forget ! 0 refl $ free1 ! $ move ! (26 ∷ 27 ∷ []) $ forget ! 0 refl $ free1 ! $ move ! (24 ∷ 25 ∷ []) $ forget ! 0 refl $ free1 ! $ move ! (22 ∷ 23 ∷ []) $ forget ! 0 refl $ free1 ! $ move ! (20 ∷ 21 ∷ []) $ forget ! 0 refl $ free1 ! $ move ! (18 ∷ 19 ∷ []) $ forget ! 0 refl $ free1 ! $ move ! (16 ∷ 17 ∷ []) $ forget ! 0 refl $ free1 ! $ move ! (14 ∷ 15 ∷ []) $ forget ! 0 refl $ free1 ! $ move ! (12 ∷ 13 ∷ []) $ forget ! 0 refl $ free1 ! $ move ! (10 ∷ 11 ∷ []) $ forget ! 0 refl $ free1 ! $ move ! (8 ∷ 9 ∷ []) $ forget ! 0 refl $ free1 ! $ move ! (6 ∷ 7 ∷ []) $ forget ! 0 refl $ free1 ! $ move ! (4 ∷ 5 ∷ []) $ forget ! 0 refl $ free1 ! $ free0 ! $ by ! (exits true refl (Facts.exit-3 count nodes register c x-from n x-first (ok·count .1) (room·nodes .0) (room·register .0) (ok·c .1) ok·x-from (ok·n .1) need (is-false (eqb n 0) h·1) (above-0 n h·1) (is-false x-first h·2) v8 ((f·1 .0) .1) (f·1 .1) (is-true (ltb v8 n) h·3) (ltb→lt v8 n h·3) ok·1 (is-true (r2 count nodes register c x-from n x-first v8) h·4))))
+        (λ h·4. skips-on ! $ assigns-last ! (bin ! (load ! (from ! (stop !)) (look ! 16 refl)) (lit ! tt) record { fits = Facts.add-2 count nodes register c x-from n x-first (ok·count .1) (room·nodes .0) (room·register .0) (ok·c .1) ok·x-from (ok·n .1) need (is-false (eqb n 0) h·1) (above-0 n h·1) (is-false x-first h·2) v8 ((f·1 .0) .1) (f·1 .1) (is-true (ltb v8 n) h·3) (ltb→lt v8 n h·3) ok·1 (is-false (r2 count nodes register c x-from n x-first v8) h·4) }) (from ! (stop !)) (store ! 16 refl (tt, record { fits = Facts.add-2 count nodes register c x-from n x-first (ok·count .1) (room·nodes .0) (room·register .0) (ok·c .1) ok·x-from (ok·n .1) need (is-false (eqb n 0) h·1) (above-0 n h·1) (is-false x-first h·2) v8 ((f·1 .0) .1) (f·1 .1) (is-true (ltb v8 n) h·3) (ltb→lt v8 n h·3) ok·1 (is-false (r2 count nodes register c x-from n x-first v8) h·4) })) $
         forget ! 12 refl $ forget ! 10 refl $ forget ! 8 refl $ forget ! 6 refl $ forget ! 4 refl $
-        use0 W (raw (fact 𝓤 ((Is u64 (v8 + 1) (uint-vals w64 (v8 + 1))) × (Loop.inv-1 s nodes register x-v x-from n x-first (v8 + 1))))) (factI 𝓤 _ (emp 𝓤) ((refl, Facts.add-2 s nodes register x-v x-from n x-first ok·s (room·nodes .0) (room·register .0) ok·x-v ok·x-from (ok·n .1) need (is-false (eqb n 0) h·1) (above-0 n h·1) (is-false x-first h·2) v8 ((f·1 .0) .1) (f·1 .1) (is-true (ltb v8 n) h·3) (ltb→lt v8 n h·3) ok·1 (is-false (r2 s nodes register x-v x-from n x-first v8) h·4)), Facts.again-1 s nodes register x-v x-from n x-first ok·s (room·nodes .0) (room·register .0) ok·x-v ok·x-from (ok·n .1) need (is-false (eqb n 0) h·1) (above-0 n h·1) (is-false x-first h·2) v8 ((f·1 .0) .1) (f·1 .1) (is-true (ltb v8 n) h·3) (ltb→lt v8 n h·3) ok·1 (is-false (r2 s nodes register x-v x-from n x-first v8) h·4))) $ again ! lesser I (v8, tt) (v8 + 1, tt) (Facts.less-1 s nodes register x-v x-from n x-first ok·s (room·nodes .0) (room·register .0) ok·x-v ok·x-from (ok·n .1) need (is-false (eqb n 0) h·1) (above-0 n h·1) (is-false x-first h·2) v8 ((f·1 .0) .1) (f·1 .1) (is-true (ltb v8 n) h·3) (ltb→lt v8 n h·3) ok·1 (is-false (r2 s nodes register x-v x-from n x-first v8) h·4))))))
+        use0 W (raw (fact 𝓤 ((Is u64 (v8 + 1) (uint-vals w64 (v8 + 1))) × (Loop.inv-1 count nodes register c x-from n x-first (v8 + 1))))) (factI 𝓤 _ (emp 𝓤) ((refl, Facts.add-2 count nodes register c x-from n x-first (ok·count .1) (room·nodes .0) (room·register .0) (ok·c .1) ok·x-from (ok·n .1) need (is-false (eqb n 0) h·1) (above-0 n h·1) (is-false x-first h·2) v8 ((f·1 .0) .1) (f·1 .1) (is-true (ltb v8 n) h·3) (ltb→lt v8 n h·3) ok·1 (is-false (r2 count nodes register c x-from n x-first v8) h·4)), Facts.again-1 count nodes register c x-from n x-first (ok·count .1) (room·nodes .0) (room·register .0) (ok·c .1) ok·x-from (ok·n .1) need (is-false (eqb n 0) h·1) (above-0 n h·1) (is-false x-first h·2) v8 ((f·1 .0) .1) (f·1 .1) (is-true (ltb v8 n) h·3) (ltb→lt v8 n h·3) ok·1 (is-false (r2 count nodes register c x-from n x-first v8) h·4))) $ again ! lesser I (v8, tt) (v8 + 1, tt) (Facts.less-1 count nodes register c x-from n x-first (ok·count .1) (room·nodes .0) (room·register .0) (ok·c .1) ok·x-from (ok·n .1) need (is-false (eqb n 0) h·1) (above-0 n h·1) (is-false x-first h·2) v8 ((f·1 .0) .1) (f·1 .1) (is-true (ltb v8 n) h·3) (ltb→lt v8 n h·3) ok·1 (is-false (r2 count nodes register c x-from n x-first v8) h·4))))))
         (λ h·3. first ! $ jumps ! $ exec ! (𝓣 .C) (𝓣 .Λ) E parts.t-7 (atRet E Post) $
         assigns ! (of-opd ! (false-lit !)) (from ! (stop !)) (init ! 32 refl (tt, tt)) $
         returns ! (look ! 32 refl) $
-        move ! (32 ∷ 33 ∷ []) $ forget ! 0 refl $ free1 ! $ move ! (30 ∷ 31 ∷ []) $ forget ! 0 refl $ free1 ! $ move ! (28 ∷ 29 ∷ []) $ forget ! 0 refl $ free1 ! $ move ! (26 ∷ 27 ∷ []) $ forget ! 0 refl $ free1 ! $ move ! (24 ∷ 25 ∷ []) $ forget ! 0 refl $ free1 ! $ move ! (22 ∷ 23 ∷ []) $ forget ! 0 refl $ free1 ! $ move ! (20 ∷ 21 ∷ []) $ forget ! 0 refl $ free1 ! $ move ! (18 ∷ 19 ∷ []) $ forget ! 0 refl $ free1 ! $ move ! (16 ∷ 17 ∷ []) $ forget ! 0 refl $ free1 ! $ move ! (14 ∷ 15 ∷ []) $ forget ! 0 refl $ free1 ! $ move ! (12 ∷ 13 ∷ []) $ forget ! 0 refl $ free1 ! $ move ! (10 ∷ 11 ∷ []) $ free1 ! $ move ! (8 ∷ 9 ∷ []) $ free1 ! $ move ! (6 ∷ 7 ∷ []) $ free1 ! $ move ! (4 ∷ 5 ∷ []) $ free1 ! $ free0 ! $ by ! (exits false refl (Facts.exit-4 s nodes register x-v x-from n x-first ok·s (room·nodes .0) (room·register .0) ok·x-v ok·x-from (ok·n .1) need (is-false (eqb n 0) h·1) (above-0 n h·1) (is-false x-first h·2) v8 ((f·1 .0) .1) (f·1 .1) (is-false (ltb v8 n) h·3) (nltb→le v8 n h·3)))))
+        move ! (32 ∷ 33 ∷ []) $ forget ! 0 refl $ free1 ! $ move ! (30 ∷ 31 ∷ []) $ forget ! 0 refl $ free1 ! $ move ! (28 ∷ 29 ∷ []) $ forget ! 0 refl $ free1 ! $ move ! (26 ∷ 27 ∷ []) $ forget ! 0 refl $ free1 ! $ move ! (24 ∷ 25 ∷ []) $ forget ! 0 refl $ free1 ! $ move ! (22 ∷ 23 ∷ []) $ forget ! 0 refl $ free1 ! $ move ! (20 ∷ 21 ∷ []) $ forget ! 0 refl $ free1 ! $ move ! (18 ∷ 19 ∷ []) $ forget ! 0 refl $ free1 ! $ move ! (16 ∷ 17 ∷ []) $ forget ! 0 refl $ free1 ! $ move ! (14 ∷ 15 ∷ []) $ forget ! 0 refl $ free1 ! $ move ! (12 ∷ 13 ∷ []) $ forget ! 0 refl $ free1 ! $ move ! (10 ∷ 11 ∷ []) $ free1 ! $ move ! (8 ∷ 9 ∷ []) $ free1 ! $ move ! (6 ∷ 7 ∷ []) $ free1 ! $ move ! (4 ∷ 5 ∷ []) $ free1 ! $ free0 ! $ by ! (exits false refl (Facts.exit-4 count nodes register c x-from n x-first (ok·count .1) (room·nodes .0) (room·register .0) (ok·c .1) ok·x-from (ok·n .1) need (is-false (eqb n 0) h·1) (above-0 n h·1) (is-false x-first h·2) v8 ((f·1 .0) .1) (f·1 .1) (is-false (ltb v8 n) h·3) (nltb→le v8 n h·3)))))
 
   walk : (𝓣 : Tables 𝓤 H) (known-find-page : Triple 𝓤 (𝓣 .C #find-page) (Call-find-page.Asked 𝓤 H A mem run)) (known-is-lost : Triple 𝓤 (𝓣 .C #is-lost) (Call-is-lost.Asked 𝓤 H A mem run)) → ent 𝓤 (onEntry 𝓤 H A some-lost‴.signature (κ·nodes, (κ·register, tt)) (q·nodes, (q·register, tt)) all-args all-vals)
-      (WpFn 𝓤 H (𝓣 .C) (𝓣 .Λ) code.function (Store′.mach s ∷ sliceVal (b·nodes, o·nodes) (length nodes) ∷ sliceVal (b·register, o·register) (length register) ∷ Version′.mach x-v ∷ PageIndex′.mach x-from ∷ vint w64 n ∷ vbool x-first ∷ []) Post)
+      (WpFn 𝓤 H (𝓣 .C) (𝓣 .Λ) code.function (vint w64 count ∷ sliceVal (b·nodes, o·nodes) (length nodes) ∷ sliceVal (b·register, o·register) (length register) ∷ vint w64 c ∷ PageIndex′.mach x-from ∷ vint w64 n ∷ vbool x-first ∷ []) Post)
   walk 𝓣 known-find-page known-is-lost =
-      qed W ((‵ (flft κ·nodes q·nodes) ⊛ ‵ (flft κ·register q·register) ⊛ ‵ ftrue) ∷ ‵ (owns (Store′.row ∷ ShrSlice (named 0) κ·nodes u32 ∷ ShrSlice (named 0) κ·register Record′.row ∷ Version′.row ∷ PageIndex′.row ∷ u64 ∷ bool ∷ []) all-args all-vals) ∷ []) ∵ enter ! (𝓣 .C) (𝓣 .Λ) code.function (Store′.mach s ∷ sliceVal (b·nodes, o·nodes) (length nodes) ∷ sliceVal (b·register, o·register) (length register) ∷ Version′.mach x-v ∷ PageIndex′.mach x-from ∷ vint w64 n ∷ vbool x-first ∷ []) _ $
+      qed W ((‵ (flft κ·nodes q·nodes) ⊛ ‵ (flft κ·register q·register) ⊛ ‵ ftrue) ∷ ‵ (owns (u64 ∷ ShrSlice (named 0) κ·nodes u32 ∷ ShrSlice (named 0) κ·register Record′.row ∷ u64 ∷ PageIndex′.row ∷ u64 ∷ bool ∷ []) all-args all-vals) ∷ []) ∵ enter ! (𝓣 .C) (𝓣 .Λ) code.function (vint w64 count ∷ sliceVal (b·nodes, o·nodes) (length nodes) ∷ sliceVal (b·register, o·register) (length register) ∷ vint w64 c ∷ PageIndex′.mach x-from ∷ vint w64 n ∷ vbool x-first ∷ []) _ $
       alloc1 ! (λ l₀. alloc1 ! (λ l₁. alloc1 ! (λ l₂. alloc1 ! (λ l₃. alloc1 ! (λ l₄. alloc1 ! (λ l₅. alloc1 ! (λ l₆. alloc1 ! (λ l₇. alloc1 ! (λ l₈. alloc1 ! (λ l₉. alloc1 ! (λ l₁₀. alloc1 ! (λ l₁₁. alloc1 ! (λ l₁₂. alloc1 ! (λ l₁₃. alloc1 ! (λ l₁₄. alloc0 ! $ params1 ! $
-      pass1 ! (init ! 26 refl (Store′.typed 𝓤 H A W s ok·s)) $ pass1 ! (init ! 24 refl (tt, (tt, (record { fits = room·nodes .0 }, tt)))) $ pass1 ! (init ! 22 refl (tt, (tt, (record { fits = room·register .0 }, tt)))) $ pass1 ! (init ! 20 refl (Version′.typed 𝓤 H A W x-v ok·x-v)) $ pass1 ! (init ! 18 refl (PageIndex′.typed 𝓤 H A W x-from ok·x-from)) $ pass1 ! (init ! 16 refl (tt, record { fits = ok·n .1 })) $ pass1 ! (init ! 14 refl (tt, tt)) $ pass0 ! $
+      pass1 ! (init ! 26 refl (tt, record { fits = ok·count .1 })) $ pass1 ! (init ! 24 refl (tt, (tt, (record { fits = room·nodes .0 }, tt)))) $ pass1 ! (init ! 22 refl (tt, (tt, (record { fits = room·register .0 }, tt)))) $ pass1 ! (init ! 20 refl (tt, record { fits = ok·c .1 })) $ pass1 ! (init ! 18 refl (PageIndex′.typed 𝓤 H A W x-from ok·x-from)) $ pass1 ! (init ! 16 refl (tt, record { fits = ok·n .1 })) $ pass1 ! (init ! 14 refl (tt, tt)) $ pass0 ! $
       move ! (31 ∷ []) $ fsplit ! $ drop ! $ fsplit ! $ move ! (1 ∷ []) $ fsplit ! $ move ! (1 ∷ []) $ fsplit ! $ drop ! $ fsplit ! $ drop ! $ fsplit ! $ drop ! $ fsplit ! $ drop ! $ drop ! $ move ! (32 ∷ []) $ split ! $ move ! (1 ∷ []) $ split ! $ move ! (1 ∷ []) $ drop ! $ move ! (1 ∷ 3 ∷ 0 ∷ 2 ∷ []) $
       assigns ! (bin ! (load ! (from ! (stop !)) (look ! 20 refl)) (lit ! tt) tt) (from ! (stop !)) (init ! 14 refl (tt, tt)) $
       branches-on ! (load ! (from ! (stop !)) (look ! 14 refl))
       (λ h·1. regroup ! $
       assigns ! (of-opd ! (false-lit !)) (from ! (stop !)) (init ! 32 refl (tt, tt)) $
       returns-on ! (look ! 32 refl) $
-      move ! (32 ∷ 33 ∷ []) $ forget ! 0 refl $ free1 ! $ move ! (30 ∷ 31 ∷ []) $ forget ! 0 refl $ free1 ! $ move ! (28 ∷ 29 ∷ []) $ forget ! 0 refl $ free1 ! $ move ! (26 ∷ 27 ∷ []) $ forget ! 0 refl $ free1 ! $ move ! (24 ∷ 25 ∷ []) $ forget ! 0 refl $ free1 ! $ move ! (22 ∷ 23 ∷ []) $ forget ! 0 refl $ free1 ! $ move ! (20 ∷ 21 ∷ []) $ forget ! 0 refl $ free1 ! $ move ! (18 ∷ 19 ∷ []) $ forget ! 0 refl $ free1 ! $ move ! (16 ∷ 17 ∷ []) $ free1 ! $ move ! (14 ∷ 15 ∷ []) $ forget ! 0 refl $ free1 ! $ move ! (12 ∷ 13 ∷ []) $ free1 ! $ move ! (10 ∷ 11 ∷ []) $ free1 ! $ move ! (8 ∷ 9 ∷ []) $ free1 ! $ move ! (6 ∷ 7 ∷ []) $ free1 ! $ move ! (4 ∷ 5 ∷ []) $ free1 ! $ free0 ! $ by ! (exits false refl (Facts.exit-1 s nodes register x-v x-from n x-first ok·s (room·nodes .0) (room·register .0) ok·x-v ok·x-from (ok·n .1) need (is-true (eqb n 0) h·1) (eqb→eq n 0 h·1))))
+      move ! (32 ∷ 33 ∷ []) $ forget ! 0 refl $ free1 ! $ move ! (30 ∷ 31 ∷ []) $ forget ! 0 refl $ free1 ! $ move ! (28 ∷ 29 ∷ []) $ forget ! 0 refl $ free1 ! $ move ! (26 ∷ 27 ∷ []) $ forget ! 0 refl $ free1 ! $ move ! (24 ∷ 25 ∷ []) $ forget ! 0 refl $ free1 ! $ move ! (22 ∷ 23 ∷ []) $ forget ! 0 refl $ free1 ! $ move ! (20 ∷ 21 ∷ []) $ forget ! 0 refl $ free1 ! $ move ! (18 ∷ 19 ∷ []) $ forget ! 0 refl $ free1 ! $ move ! (16 ∷ 17 ∷ []) $ free1 ! $ move ! (14 ∷ 15 ∷ []) $ forget ! 0 refl $ free1 ! $ move ! (12 ∷ 13 ∷ []) $ free1 ! $ move ! (10 ∷ 11 ∷ []) $ free1 ! $ move ! (8 ∷ 9 ∷ []) $ free1 ! $ move ! (6 ∷ 7 ∷ []) $ free1 ! $ move ! (4 ∷ 5 ∷ []) $ free1 ! $ free0 ! $ by ! (exits false refl (Facts.exit-1 count nodes register c x-from n x-first (ok·count .1) (room·nodes .0) (room·register .0) (ok·c .1) ok·x-from (ok·n .1) need (is-true (eqb n 0) h·1) (eqb→eq n 0 h·1))))
       (λ h·1. skips-on ! $ assigns ! (of-opd ! (load ! (from ! (stop !)) (look ! 18 refl))) (from ! (stop !)) (store ! 14 refl (tt, tt)) $
       branches-on ! (load ! (from ! (stop !)) (look ! 14 refl))
       (λ h·2. regroup ! $
       assigns ! (of-opd ! (true-lit !)) (from ! (stop !)) (init ! 32 refl (tt, tt)) $
       returns-on ! (look ! 32 refl) $
-      move ! (32 ∷ 33 ∷ []) $ forget ! 0 refl $ free1 ! $ move ! (30 ∷ 31 ∷ []) $ forget ! 0 refl $ free1 ! $ move ! (28 ∷ 29 ∷ []) $ forget ! 0 refl $ free1 ! $ move ! (26 ∷ 27 ∷ []) $ forget ! 0 refl $ free1 ! $ move ! (24 ∷ 25 ∷ []) $ forget ! 0 refl $ free1 ! $ move ! (22 ∷ 23 ∷ []) $ forget ! 0 refl $ free1 ! $ move ! (20 ∷ 21 ∷ []) $ forget ! 0 refl $ free1 ! $ move ! (18 ∷ 19 ∷ []) $ forget ! 0 refl $ free1 ! $ move ! (16 ∷ 17 ∷ []) $ free1 ! $ move ! (14 ∷ 15 ∷ []) $ forget ! 0 refl $ free1 ! $ move ! (12 ∷ 13 ∷ []) $ free1 ! $ move ! (10 ∷ 11 ∷ []) $ free1 ! $ move ! (8 ∷ 9 ∷ []) $ free1 ! $ move ! (6 ∷ 7 ∷ []) $ free1 ! $ move ! (4 ∷ 5 ∷ []) $ free1 ! $ free0 ! $ by ! (exits true refl (Facts.exit-2 s nodes register x-v x-from n x-first ok·s (room·nodes .0) (room·register .0) ok·x-v ok·x-from (ok·n .1) need (is-false (eqb n 0) h·1) (above-0 n h·1) (is-true x-first h·2))))
+      move ! (32 ∷ 33 ∷ []) $ forget ! 0 refl $ free1 ! $ move ! (30 ∷ 31 ∷ []) $ forget ! 0 refl $ free1 ! $ move ! (28 ∷ 29 ∷ []) $ forget ! 0 refl $ free1 ! $ move ! (26 ∷ 27 ∷ []) $ forget ! 0 refl $ free1 ! $ move ! (24 ∷ 25 ∷ []) $ forget ! 0 refl $ free1 ! $ move ! (22 ∷ 23 ∷ []) $ forget ! 0 refl $ free1 ! $ move ! (20 ∷ 21 ∷ []) $ forget ! 0 refl $ free1 ! $ move ! (18 ∷ 19 ∷ []) $ forget ! 0 refl $ free1 ! $ move ! (16 ∷ 17 ∷ []) $ free1 ! $ move ! (14 ∷ 15 ∷ []) $ forget ! 0 refl $ free1 ! $ move ! (12 ∷ 13 ∷ []) $ free1 ! $ move ! (10 ∷ 11 ∷ []) $ free1 ! $ move ! (8 ∷ 9 ∷ []) $ free1 ! $ move ! (6 ∷ 7 ∷ []) $ free1 ! $ move ! (4 ∷ 5 ∷ []) $ free1 ! $ free0 ! $ by ! (exits true refl (Facts.exit-2 count nodes register c x-from n x-first (ok·count .1) (room·nodes .0) (room·register .0) (ok·c .1) ok·x-from (ok·n .1) need (is-false (eqb n 0) h·1) (above-0 n h·1) (is-true x-first h·2))))
       (λ h·2. skips-on ! $ assigns ! (of-opd ! (lit ! tt)) (from ! (stop !)) (init ! 16 refl (tt, record { fits = lit< tt })) $
-      here ! (‵ (flft κ·nodes q·nodes) ∷ ‵ (ShrAt u32 κ·nodes b·nodes o·nodes γ·nodes (length nodes) nodes) ∷ ‵ (flft κ·register q·register) ∷ ‵ (ShrAt Record′.row κ·register b·register o·register γ·register (length register) register) ∷ empty (tyAt (code.function .locals) 14) l₁₄ (empty (tyInt w64) l₁₃ (empty (tyAt (code.function .locals) 12) l₁₂ (empty tyBool l₁₁ (empty tyBool l₁₀ (holds tyBool l₉ (vbool x-first) (holds (tyInt w64) l₈ (vint w64 1) (holds tyBool l₇ (vbool x-first) (holds (tyInt w64) l₆ (vint w64 n) (holds (tyAt (code.function .locals) 5) l₅ (PageIndex′.mach x-from) (holds (tyAt (code.function .locals) 4) l₄ (Version′.mach x-v) (holds (sliceTy (tyRef (named 1) imm (pointee (Record′.row .written)))) l₃ (sliceVal (b·register, o·register) (length register)) (holds (sliceTy (tyRef (named 0) imm (pointee (u32 .written)))) l₂ (sliceVal (b·nodes, o·nodes) (length nodes)) (holds (tyAt (code.function .locals) 1) l₁ (Store′.mach s) (empty tyBool l₀ []))))))))))))))) $
-      first ! $ blocks ! $ use0 W (raw (fact 𝓤 ((Is u64 1 (uint-vals w64 1)) × (Loop.inv-1 s nodes register x-v x-from n x-first 1)))) (factI 𝓤 _ (emp 𝓤) ((refl, lit< tt), Facts.start-1 s nodes register x-v x-from n x-first ok·s (room·nodes .0) (room·register .0) ok·x-v ok·x-from (ok·n .1) need (is-false (eqb n 0) h·1) (above-0 n h·1) (is-false x-first h·2))) $
+      here ! (‵ (flft κ·nodes q·nodes) ∷ ‵ (ShrAt u32 κ·nodes b·nodes o·nodes γ·nodes (length nodes) nodes) ∷ ‵ (flft κ·register q·register) ∷ ‵ (ShrAt Record′.row κ·register b·register o·register γ·register (length register) register) ∷ empty (tyAt (code.function .locals) 14) l₁₄ (empty (tyInt w64) l₁₃ (empty (tyAt (code.function .locals) 12) l₁₂ (empty tyBool l₁₁ (empty tyBool l₁₀ (holds tyBool l₉ (vbool x-first) (holds (tyInt w64) l₈ (vint w64 1) (holds tyBool l₇ (vbool x-first) (holds (tyInt w64) l₆ (vint w64 n) (holds (tyAt (code.function .locals) 5) l₅ (PageIndex′.mach x-from) (holds (tyInt w64) l₄ (vint w64 c) (holds (sliceTy (tyRef (named 1) imm (pointee (Record′.row .written)))) l₃ (sliceVal (b·register, o·register) (length register)) (holds (sliceTy (tyRef (named 0) imm (pointee (u32 .written)))) l₂ (sliceVal (b·nodes, o·nodes) (length nodes)) (holds (tyInt w64) l₁ (vint w64 count) (empty tyBool l₀ []))))))))))))))) $
+      first ! $ blocks ! $ use0 W (raw (fact 𝓤 ((Is u64 1 (uint-vals w64 1)) × (Loop.inv-1 count nodes register c x-from n x-first 1)))) (factI 𝓤 _ (emp 𝓤) ((refl, lit< tt), Facts.start-1 count nodes register c x-from n x-first (ok·count .1) (room·nodes .0) (room·register .0) (ok·c .1) ok·x-from (ok·n .1) need (is-false (eqb n 0) h·1) (above-0 n h·1) (is-false x-first h·2))) $
       loops ! 𝓣 (lesser 𝓣 known-find-page known-is-lost h·1 h·2 l₀ l₁ l₂ l₃ l₄ l₅ l₆ l₇ l₈ l₉ l₁₀ l₁₁ l₁₂ l₁₃ l₁₄) (falls 𝓣 known-find-page known-is-lost h·1 h·2 l₀ l₁ l₂ l₃ l₄ l₅ l₆ l₇ l₈ l₉ l₁₀ l₁₁ l₁₂ l₁₃ l₁₄) (I 𝓣 known-find-page known-is-lost h·1 h·2 l₀ l₁ l₂ l₃ l₄ l₅ l₆ l₇ l₈ l₉ l₁₀ l₁₁ l₁₂ l₁₃ l₁₄) (λ t. turn 𝓣 known-find-page known-is-lost h·1 h·2 l₀ l₁ l₂ l₃ l₄ l₅ l₆ l₇ l₈ l₉ l₁₀ l₁₁ l₁₂ l₁₃ l₁₄ (t .0)) (1, tt))))))))))))))))))
 
 module _ {M : Type 1} (𝓤 : URA M) (H : Heap 𝓤) (A : Atoms 𝓤) (W : Given 𝓤 H A) (mem : Memory → SProp 𝓤) (run : Routine → Fun 𝓤) where
   walks : (𝓣 : Tables 𝓤 H) → Triple 𝓤 (𝓣 .C #find-page) (Call-find-page.Asked 𝓤 H A mem run) → Triple 𝓤 (𝓣 .C #is-lost) (Call-is-lost.Asked 𝓤 H A mem run) → Walks 𝓤 H A some-lost‴.ended stayed (WpFn 𝓤 H (𝓣 .C) (𝓣 .Λ) code.function) (some-lost‴.clauses 𝓤 H A mem run)
-  walks 𝓣 known-find-page known-is-lost = walked 𝓤 H A some-lost‴.ended stayed (some-lost‴.clauses 𝓤 H A mem run) (WpFn 𝓤 H (𝓣 .C) (𝓣 .Λ) code.function) (λ κs. (Store′.vals, (slice-vals, (slice-vals, (Version′.vals, (PageIndex′.vals, (uint-vals w64, (bool-vals, tt)))))))) (λ κs. (Store′.tells, (shr-slice-tells (named 0) (κs .0) u32, (shr-slice-tells (named 0) (κs .1 .0) Record′.row, (Version′.tells, (PageIndex′.tells, (uint-tells w64, (bool-tells, tt))))))))
+  walks 𝓣 known-find-page known-is-lost = walked 𝓤 H A some-lost‴.ended stayed (some-lost‴.clauses 𝓤 H A mem run) (WpFn 𝓤 H (𝓣 .C) (𝓣 .Λ) code.function) (λ κs. (uint-vals w64, (slice-vals, (slice-vals, (uint-vals w64, (PageIndex′.vals, (uint-vals w64, (bool-vals, tt)))))))) (λ κs. (uint-tells w64, (shr-slice-tells (named 0) (κs .0) u32, (shr-slice-tells (named 0) (κs .1 .0) Record′.row, (uint-tells w64, (PageIndex′.tells, (uint-tells w64, (bool-tells, tt))))))))
       (λ κs qs bounds a g are. needs 𝓤 (some-lost″.req (a .0) (a .1 .0 .now) (a .1 .1 .0 .now) (a .1 .1 .1 .0) (a .1 .1 .1 .1 .0) (a .1 .1 .1 .1 .1 .0) (a .1 .1 .1 .1 .1 .1 .0)) _ (λ need. walk 𝓤 H A W mem run (a .0) (κs .0) (qs .0) (a .1 .0 .ptr .0) (a .1 .0 .ptr .1) (a .1 .0 .name) (a .1 .0 .now) (κs .1 .0) (qs .1 .0) (a .1 .1 .0 .ptr .0) (a .1 .1 .0 .ptr .1) (a .1 .1 .0 .name) (a .1 .1 .0 .now) (a .1 .1 .1 .0) (a .1 .1 .1 .1 .0) (a .1 .1 .1 .1 .1 .0) (a .1 .1 .1 .1 .1 .1 .0) (are .0) (are .1 .0 .0 .1) (are .1 .1 .0 .0 .1) (are .1 .1 .1 .0) (are .1 .1 .1 .1 .0) (are .1 .1 .1 .1 .1 .0) (are .1 .1 .1 .1 .1 .1 .0) need 𝓣 known-find-page known-is-lost))
 
 meets : {M : Type 1} (𝓤 : URA M) (H : Heap 𝓤) (A : Atoms 𝓤) → Given 𝓤 H A → (mem : Memory → SProp 𝓤) (run : Routine → Fun 𝓤) (𝓣 : Tables 𝓤 H) → Triple 𝓤 (𝓣 .C #find-page) (Call-find-page.Asked 𝓤 H A mem run) → Triple 𝓤 (𝓣 .C #is-lost) (Call-is-lost.Asked 𝓤 H A mem run)
     → Meets 𝓤 H A some-lost‴.signature (WpFn 𝓤 H (𝓣 .C) (𝓣 .Λ) code.function) (some-lost‴.spec 𝓤 H A mem run)
 meets 𝓤 H A W mem run 𝓣 known-find-page known-is-lost =
-    walk-meets 𝓤 H A some-lost‴.ended stayed W (goes-none 𝓤 H A W 2 (λ _. Store′.row) yes (λ κs x f. refl), (goes-none-slice 𝓤 H A W 2 (0 ∷ []) tt (plain (λ _. u32)) yes, (goes-none-slice 𝓤 H A W 2 (1 ∷ []) tt (plain (λ _. Record′.row)) yes, (goes-none 𝓤 H A W 2 (λ _. Version′.row) yes (λ κs x f. refl), (goes-none 𝓤 H A W 2 (λ _. PageIndex′.row) yes (λ κs x f. refl), (goes-none 𝓤 H A W 2 (λ _. u64) yes (λ κs x f. refl), (goes-none 𝓤 H A W 2 (λ _. bool) yes (λ κs x f. refl), tt))))))) (some-lost‴.clauses 𝓤 H A mem run)
+    walk-meets 𝓤 H A some-lost‴.ended stayed W (goes-none 𝓤 H A W 2 (λ _. u64) yes (λ κs x f. refl), (goes-none-slice 𝓤 H A W 2 (0 ∷ []) tt (plain (λ _. u32)) yes, (goes-none-slice 𝓤 H A W 2 (1 ∷ []) tt (plain (λ _. Record′.row)) yes, (goes-none 𝓤 H A W 2 (λ _. u64) yes (λ κs x f. refl), (goes-none 𝓤 H A W 2 (λ _. PageIndex′.row) yes (λ κs x f. refl), (goes-none 𝓤 H A W 2 (λ _. u64) yes (λ κs x f. refl), (goes-none 𝓤 H A W 2 (λ _. bool) yes (λ κs x f. refl), tt))))))) (some-lost‴.clauses 𝓤 H A mem run)
     (WpFn 𝓤 H (𝓣 .C) (𝓣 .Λ) code.function) (WpFn-mono 𝓤 H (W .laws) 𝓣 code.function) (walks 𝓤 H A W mem run 𝓣 known-find-page known-is-lost)
 
 pub some-lost-spec : {M : Type 1} → stated.statement M

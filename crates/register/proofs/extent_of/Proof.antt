@@ -1,4 +1,4 @@
--- `extent_of` meets its contract: `updateOf` is `limited` of the record's numbers. Assumes nothing.
+-- `extent_of` meets its contract: `updateOf` is `limited` of the part's numbers. Assumes nothing.
 use borrow.Author.Needs.{needs}
 use Rattle.register.specs.Register.{updateOf}
 use Rattle.register.proofs.extent_of.Statement.{statement}

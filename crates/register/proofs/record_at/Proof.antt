@@ -43,12 +43,12 @@ use denote.Triple.Table.{entered, cited}
 use denote.Triple.Walked.{says, needs, Stays, stay-slice, stay-none-slice, stay-none, walkOf, Walks, ends-at, walked, goes-slice, goes-none-slice, goes-none, walk-meets}
 use Rattle.register.specs.declared.Record.{Record}
 use Rattle.register.proofs.Generated.Kind.Record as Record′
-use Rattle.tree.specs.declared.Version.{Version}
-use Rattle.register.proofs.Generated.Kind.Version as Version′
 use Rattle.tree.specs.declared.Ticket.{Ticket}
 use Rattle.register.proofs.Generated.Kind.Ticket as Ticket′
 use Rattle.tree.specs.declared.PageIndex.{PageIndex}
 use Rattle.register.proofs.Generated.Kind.PageIndex as PageIndex′
+use Rattle.lines.specs.declared.Entries.{Entries}
+use Rattle.register.proofs.Generated.Kind.Entries as Entries′
 use Rattle.register.proofs.Generated.Flow.{ref, MutAt, ShrAt, lend-mut, back-mut, lend-shr, back-shr, branches-on, regroup, skips-on, returns-on, plus-nothing, holds, empty, less-fits, is-true, is-false, differ, above-0, twice-not, switches-to, switches-last, big-lit, here, blocks-on, resume, scaled-2, scaled-4, scaled-8, opens-shr, shuts-shr, opens-mut, shuts-mut, puts-mut, keeps-shr, fills, empties, tyAt}
 use Rattle.register.proofs.Generated.Say.record_at as record-at″
 use Rattle.register.proofs.Generated.Say.no_record as no-record″
@@ -97,7 +97,7 @@ module _ {M : Type 1} (𝓤 : URA M) (H : Heap 𝓤) (A : Atoms 𝓤) (W : Given
       (λ h·1. regroup ! $
       assigns ! (bin ! (load ! (from ! (stop !)) (look ! 14 refl)) (lit ! tt) record { fits = Record′.scaled (length register) i (subst (λ (m : ℕ). i < m) (sym (refl)) (Facts.index-1 register i (room·register .0) (ok·i .1) (is-true (ltb i (length register)) h·1) (ltb→lt i (length register) h·1))) (room·register .1) }) (from ! (stop !)) (init ! 6 refl (tt, record { fits = Record′.scaled (length register) i (subst (λ (m : ℕ). i < m) (sym (refl)) (Facts.index-1 register i (room·register .0) (ok·i .1) (is-true (ltb i (length register)) h·1) (ltb→lt i (length register) h·1))) (room·register .1) })) $
       regroup ! $
-      assigns ! (bin ! (load ! (from ! (fld ! refl (stop !))) (look-in ! 16 (sub ! 0 refl (whole !)))) (load ! (from ! (stop !)) (look ! 6 refl)) tt) (from ! (stop !)) (init ! 4 refl (tt, tt)) $ rewrite ! 4 (λ (z : ℕ). ‵ (fat fullShare tyPtr l₇ 0 (vptr b·register z))) (sym (place-is 80 o·register i)) refl $
+      assigns ! (bin ! (load ! (from ! (fld ! refl (stop !))) (look-in ! 16 (sub ! 0 refl (whole !)))) (load ! (from ! (stop !)) (look ! 6 refl)) tt) (from ! (stop !)) (init ! 4 refl (tt, tt)) $ rewrite ! 4 (λ (z : ℕ). ‵ (fat fullShare tyPtr l₇ 0 (vptr b·register z))) (sym (place-is 120 o·register i)) refl $
       regroup ! $
       opens-shr ! tt Record′.row Record′.vals Record′.tells (Record′.copy 𝓤 H A W) κ·register q·register b·register o·register γ·register (length register) register i Record′.none (Facts.index-1 register i (room·register .0) (ok·i .1) (is-true (ltb i (length register)) h·1) (ltb→lt i (length register) h·1)) (λ q′ g·8. assigns ! (of-opd ! (load ! (from ! (hop ! (look ! 9 refl) (stop !))) (look-raw ! 0 refl))) (from ! (stop !)) (init ! 7 refl (Record′.typed 𝓤 H A W (getD register i Record′.none) g·8)) $
       shuts-shr ! tt Record′.row κ·register q·register b·register o·register γ·register (length register) register i Record′.none q′ (Record′.vals (getD register i Record′.none)) (Facts.index-1 register i (room·register .0) (ok·i .1) (is-true (ltb i (length register)) h·1) (ltb→lt i (length register) h·1)) $ assigns ! (of-opd ! (load ! (from ! (stop !)) (look ! 2 refl))) (from ! (stop !)) (init ! 8 refl (Record′.typed 𝓤 H A W (getD register i Record′.none) g·8)) $

@@ -40,13 +40,17 @@ use denote.Triple.Spec.{Meets, tripleOf}
 use denote.Triple.Table.{entered, cited}
 use denote.Triple.Walked.{says, needs, Stays, stay-slice, stay-none-slice, stay-none, walkOf, Walks, ends-at, walked, goes-slice, goes-none-slice, goes-none, walk-meets}
 use Rattle.answers.specs.declared.Turn.{Turn}
-use Rattle.turns.proofs.Generated.Kind.Turn as Turn′
+use Rattle.answers.proofs.Generated.Kind.Turn as Turn′
 use Rattle.answers.specs.declared.Kept.{Kept}
-use Rattle.turns.proofs.Generated.Kind.Kept as Kept′
+use Rattle.answers.proofs.Generated.Kind.Kept as Kept′
 use Rattle.versions.specs.declared.Store.{Store}
 use Rattle.versions.proofs.Generated.Kind.Store as Store′
 use Rattle.tree.specs.declared.Ticket.{Ticket}
 use Rattle.register.proofs.Generated.Kind.Ticket as Ticket′
+use Rattle.lines.specs.declared.Branch.{Branch}
+use Rattle.versions.proofs.Generated.Kind.Branch as Branch′
+use Rattle.lines.specs.declared.Line.{Line}
+use Rattle.register.proofs.Generated.Kind.Line as Line′
 use Rattle.tree.specs.declared.Version.{Version}
 use Rattle.register.proofs.Generated.Kind.Version as Version′
 use Rattle.respond.specs.declared.Fill.{Fill}
@@ -55,6 +59,8 @@ use Rattle.register.specs.declared.Record.{Record}
 use Rattle.register.proofs.Generated.Kind.Record as Record′
 use Rattle.tree.specs.declared.PageIndex.{PageIndex}
 use Rattle.register.proofs.Generated.Kind.PageIndex as PageIndex′
+use Rattle.lines.specs.declared.Entries.{Entries}
+use Rattle.register.proofs.Generated.Kind.Entries as Entries′
 use Rattle.register.proofs.Generated.Flow.{ref, MutAt, ShrAt, lend-mut, back-mut, lend-shr, back-shr, branches-on, regroup, skips-on, returns-on, plus-nothing, holds, empty, less-fits, is-true, is-false, differ, above-0, twice-not, switches-to, switches-last, big-lit, here, blocks-on, resume, scaled-2, scaled-4, scaled-8, opens-shr, shuts-shr, opens-mut, shuts-mut, puts-mut, keeps-shr, fills, empties, tyAt}
 use Rattle.respond.proofs.Generated.Say.fill_step as fill-step″
 use Rattle.turns.proofs.Generated.Say.format_step as format-step″
@@ -103,92 +109,102 @@ module _ {M : Type 1} (𝓤 : URA M) (H : Heap 𝓤) (A : Atoms 𝓤) (W : Given
       (WpFn 𝓤 H (𝓣 .C) (𝓣 .Λ) code.function (Kept′.mach kept ∷ Fill′.mach step ∷ sliceVal (b·pages, o·pages) (length pages) ∷ sliceVal (b·nodes, o·nodes) (length nodes) ∷ sliceVal (b·register, o·register) (length register) ∷ sliceVal (b·out, o·out) (length out) ∷ []) Post)
   walk 𝓣 known-format-step known-put-step known-weave-step =
       qed W ((‵ (flft κ·pages q·pages) ⊛ ‵ (flft κ·nodes q·nodes) ⊛ ‵ (flft κ·register q·register) ⊛ ‵ (flft κ·out q·out) ⊛ ‵ ftrue) ∷ ‵ (owns (Kept′.row ∷ Fill′.row ∷ MutSlice (named 0) κ·pages u8 ∷ MutSlice (named 0) κ·nodes u32 ∷ MutSlice (named 0) κ·register Record′.row ∷ MutSlice (named 0) κ·out u8 ∷ []) all-args all-vals) ∷ []) ∵ enter ! (𝓣 .C) (𝓣 .Λ) code.function (Kept′.mach kept ∷ Fill′.mach step ∷ sliceVal (b·pages, o·pages) (length pages) ∷ sliceVal (b·nodes, o·nodes) (length nodes) ∷ sliceVal (b·register, o·register) (length register) ∷ sliceVal (b·out, o·out) (length out) ∷ []) _ $
-      alloc1 ! (λ l₀. alloc1 ! (λ l₁. alloc1 ! (λ l₂. alloc1 ! (λ l₃. alloc1 ! (λ l₄. alloc1 ! (λ l₅. alloc1 ! (λ l₆. alloc1 ! (λ l₇. alloc1 ! (λ l₈. alloc1 ! (λ l₉. alloc1 ! (λ l₁₀. alloc1 ! (λ l₁₁. alloc1 ! (λ l₁₂. alloc1 ! (λ l₁₃. alloc1 ! (λ l₁₄. alloc1 ! (λ l₁₅. alloc1 ! (λ l₁₆. alloc1 ! (λ l₁₇. alloc1 ! (λ l₁₈. alloc1 ! (λ l₁₉. alloc1 ! (λ l₂₀. alloc1 ! (λ l₂₁. alloc1 ! (λ l₂₂. alloc1 ! (λ l₂₃. alloc1 ! (λ l₂₄. alloc1 ! (λ l₂₅. alloc1 ! (λ l₂₆. alloc1 ! (λ l₂₇. alloc1 ! (λ l₂₈. alloc1 ! (λ l₂₉. alloc1 ! (λ l₃₀. alloc1 ! (λ l₃₁. alloc1 ! (λ l₃₂. alloc1 ! (λ l₃₃. alloc1 ! (λ l₃₄. alloc1 ! (λ l₃₅. alloc1 ! (λ l₃₆. alloc0 ! $ params1 ! $
-      pass1 ! (init ! 70 refl (Kept′.typed 𝓤 H A W kept ok·kept)) $ pass1 ! (init ! 68 refl (Fill′.typed 𝓤 H A W step ok·step)) $ pass1 ! (init ! 66 refl (tt, (tt, (record { fits = room·pages .0 }, tt)))) $ pass1 ! (init ! 64 refl (tt, (tt, (record { fits = room·nodes .0 }, tt)))) $ pass1 ! (init ! 62 refl (tt, (tt, (record { fits = room·register .0 }, tt)))) $ pass1 ! (init ! 60 refl (tt, (tt, (record { fits = room·out .0 }, tt)))) $ pass0 ! $
-      move ! (75 ∷ []) $ fsplit ! $ drop ! $ fsplit ! $ drop ! $ fsplit ! $ move ! (1 ∷ []) $ fsplit ! $ move ! (1 ∷ []) $ fsplit ! $ move ! (1 ∷ []) $ fsplit ! $ move ! (1 ∷ []) $ drop ! $ move ! (78 ∷ []) $ split ! $ move ! (1 ∷ []) $ split ! $ move ! (1 ∷ []) $ split ! $ move ! (1 ∷ []) $ split ! $ move ! (1 ∷ []) $ drop ! $ move ! (3 ∷ 7 ∷ 2 ∷ 6 ∷ 1 ∷ 5 ∷ 0 ∷ 4 ∷ []) $
+      alloc1 ! (λ l₀. alloc1 ! (λ l₁. alloc1 ! (λ l₂. alloc1 ! (λ l₃. alloc1 ! (λ l₄. alloc1 ! (λ l₅. alloc1 ! (λ l₆. alloc1 ! (λ l₇. alloc1 ! (λ l₈. alloc1 ! (λ l₉. alloc1 ! (λ l₁₀. alloc1 ! (λ l₁₁. alloc1 ! (λ l₁₂. alloc1 ! (λ l₁₃. alloc1 ! (λ l₁₄. alloc1 ! (λ l₁₅. alloc1 ! (λ l₁₆. alloc1 ! (λ l₁₇. alloc1 ! (λ l₁₈. alloc1 ! (λ l₁₉. alloc1 ! (λ l₂₀. alloc1 ! (λ l₂₁. alloc1 ! (λ l₂₂. alloc1 ! (λ l₂₃. alloc1 ! (λ l₂₄. alloc1 ! (λ l₂₅. alloc1 ! (λ l₂₆. alloc1 ! (λ l₂₇. alloc1 ! (λ l₂₈. alloc1 ! (λ l₂₉. alloc1 ! (λ l₃₀. alloc1 ! (λ l₃₁. alloc1 ! (λ l₃₂. alloc1 ! (λ l₃₃. alloc1 ! (λ l₃₄. alloc1 ! (λ l₃₅. alloc1 ! (λ l₃₆. alloc1 ! (λ l₃₇. alloc1 ! (λ l₃₈. alloc1 ! (λ l₃₉. alloc1 ! (λ l₄₀. alloc1 ! (λ l₄₁. alloc0 ! $ params1 ! $
+      pass1 ! (init ! 80 refl (Kept′.typed 𝓤 H A W kept ok·kept)) $ pass1 ! (init ! 78 refl (Fill′.typed 𝓤 H A W step ok·step)) $ pass1 ! (init ! 76 refl (tt, (tt, (record { fits = room·pages .0 }, tt)))) $ pass1 ! (init ! 74 refl (tt, (tt, (record { fits = room·nodes .0 }, tt)))) $ pass1 ! (init ! 72 refl (tt, (tt, (record { fits = room·register .0 }, tt)))) $ pass1 ! (init ! 70 refl (tt, (tt, (record { fits = room·out .0 }, tt)))) $ pass0 ! $
+      move ! (85 ∷ []) $ fsplit ! $ drop ! $ fsplit ! $ drop ! $ fsplit ! $ move ! (1 ∷ []) $ fsplit ! $ move ! (1 ∷ []) $ fsplit ! $ move ! (1 ∷ []) $ fsplit ! $ move ! (1 ∷ []) $ drop ! $ move ! (88 ∷ []) $ split ! $ move ! (1 ∷ []) $ split ! $ move ! (1 ∷ []) $ split ! $ move ! (1 ∷ []) $ split ! $ move ! (1 ∷ []) $ drop ! $ move ! (3 ∷ 7 ∷ 2 ∷ 6 ∷ 1 ∷ 5 ∷ 0 ∷ 4 ∷ []) $
       Fill′.cases ! step
-      (λ y1-0 m·1. rewrite ! 76 (λ (u : Fill). ‵ (fat fullShare Fill′.ty l₂ 0 (Fill′.mach u))) m·1 refl $ switches-to ! 0 (load ! (from ! (vrt ! refl (fld ! refl (stop !)))) (look-tag ! 76 (whole !))) (
+      (λ y1-0 y1-1 y1-2 y1-3 m·1. rewrite ! 86 (λ (u : Fill). ‵ (fat fullShare Fill′.ty l₂ 0 (Fill′.mach u))) m·1 refl $ switches-to ! 0 (load ! (from ! (vrt ! refl (fld ! refl (stop !)))) (look-tag ! 86 (whole !))) (
       regroup ! $
-      assigns ! (of-opd ! (load ! (from ! (vrt ! refl (fld ! refl (stop !)))) (look-in ! 76 (in-variant ! 0 0 refl refl (whole !))))) (from ! (stop !)) (init ! 66 refl (Store′.typed 𝓤 H A W y1-0 (Fill′.ok-Format-0 y1-0 (subst Fill′.Ok m·1 ok·step)))) $
+      assigns ! (of-opd ! (load ! (from ! (vrt ! refl (fld ! refl (stop !)))) (look-in ! 86 (in-variant ! 0 0 refl refl (whole !))))) (from ! (stop !)) (init ! 76 refl (tt, record { fits = (Fill′.ok-Format-0 y1-0 y1-1 y1-2 y1-3 (subst Fill′.Ok m·1 ok·step)) .1 })) $
       regroup ! $
-      assigns ! (addr ! (from ! (fld ! refl (hop ! (look-in ! 74 (sub ! 0 refl (whole !))) (stop !))))) (from ! (stop !)) (init ! 54 refl (tt, tt)) $
+      assigns ! (of-opd ! (load ! (from ! (vrt ! refl (fld ! refl (stop !)))) (look-in ! 86 (in-variant ! 0 1 refl refl (whole !))))) (from ! (stop !)) (init ! 74 refl (tt, record { fits = (Fill′.ok-Format-1 y1-0 y1-1 y1-2 y1-3 (subst Fill′.Ok m·1 ok·step)) .1 })) $
       regroup ! $
-      assigns ! (agg ! (and-then ! (load ! (from ! (stop !)) (look ! 54 refl)) (and-then ! (load ! (from ! (fld ! refl (stop !))) (look-in ! 74 (sub ! 1 refl (whole !)))) (no-more !)))) (from ! (stop !)) (init ! 52 refl (tt, (tt, (record { fits = room·pages .0 }, tt)))) $
+      assigns ! (of-opd ! (load ! (from ! (vrt ! refl (fld ! refl (stop !)))) (look-in ! 86 (in-variant ! 0 2 refl refl (whole !))))) (from ! (stop !)) (init ! 72 refl (tt, record { fits = (Fill′.ok-Format-2 y1-0 y1-1 y1-2 y1-3 (subst Fill′.Ok m·1 ok·step)) .1 })) $
       regroup ! $
-      assigns ! (addr ! (from ! (fld ! refl (hop ! (look-in ! 72 (sub ! 0 refl (whole !))) (stop !))))) (from ! (stop !)) (init ! 50 refl (tt, tt)) $
+      assigns ! (of-opd ! (load ! (from ! (vrt ! refl (fld ! refl (stop !)))) (look-in ! 86 (in-variant ! 0 3 refl refl (whole !))))) (from ! (stop !)) (init ! 70 refl (tt, record { fits = (Fill′.ok-Format-3 y1-0 y1-1 y1-2 y1-3 (subst Fill′.Ok m·1 ok·step)) .1 })) $
       regroup ! $
-      assigns ! (agg ! (and-then ! (load ! (from ! (stop !)) (look ! 50 refl)) (and-then ! (load ! (from ! (fld ! refl (stop !))) (look-in ! 72 (sub ! 1 refl (whole !)))) (no-more !)))) (from ! (stop !)) (init ! 48 refl (tt, (tt, (record { fits = room·nodes .0 }, tt)))) $
+      assigns ! (addr ! (from ! (fld ! refl (hop ! (look-in ! 84 (sub ! 0 refl (whole !))) (stop !))))) (from ! (stop !)) (init ! 58 refl (tt, tt)) $
       regroup ! $
-      assigns ! (addr ! (from ! (fld ! refl (hop ! (look-in ! 70 (sub ! 0 refl (whole !))) (stop !))))) (from ! (stop !)) (init ! 46 refl (tt, tt)) $
+      assigns ! (agg ! (and-then ! (load ! (from ! (stop !)) (look ! 58 refl)) (and-then ! (load ! (from ! (fld ! refl (stop !))) (look-in ! 84 (sub ! 1 refl (whole !)))) (no-more !)))) (from ! (stop !)) (init ! 56 refl (tt, (tt, (record { fits = room·pages .0 }, tt)))) $
       regroup ! $
-      assigns ! (agg ! (and-then ! (load ! (from ! (stop !)) (look ! 46 refl)) (and-then ! (load ! (from ! (fld ! refl (stop !))) (look-in ! 70 (sub ! 1 refl (whole !)))) (no-more !)))) (from ! (stop !)) (init ! 44 refl (tt, (tt, (record { fits = room·register .0 }, tt)))) $
+      assigns ! (addr ! (from ! (fld ! refl (hop ! (look-in ! 82 (sub ! 0 refl (whole !))) (stop !))))) (from ! (stop !)) (init ! 54 refl (tt, tt)) $
       regroup ! $
-      assigns ! (addr ! (from ! (fld ! refl (hop ! (look-in ! 68 (sub ! 0 refl (whole !))) (stop !))))) (from ! (stop !)) (init ! 42 refl (tt, tt)) $
+      assigns ! (agg ! (and-then ! (load ! (from ! (stop !)) (look ! 54 refl)) (and-then ! (load ! (from ! (fld ! refl (stop !))) (look-in ! 82 (sub ! 1 refl (whole !)))) (no-more !)))) (from ! (stop !)) (init ! 52 refl (tt, (tt, (record { fits = room·nodes .0 }, tt)))) $
       regroup ! $
-      assigns ! (agg ! (and-then ! (load ! (from ! (stop !)) (look ! 42 refl)) (and-then ! (load ! (from ! (fld ! refl (stop !))) (look-in ! 68 (sub ! 1 refl (whole !)))) (no-more !)))) (from ! (stop !)) (init ! 40 refl (tt, (tt, (record { fits = room·out .0 }, tt)))) $
+      assigns ! (addr ! (from ! (fld ! refl (hop ! (look-in ! 80 (sub ! 0 refl (whole !))) (stop !))))) (from ! (stop !)) (init ! 50 refl (tt, tt)) $
+      regroup ! $
+      assigns ! (agg ! (and-then ! (load ! (from ! (stop !)) (look ! 50 refl)) (and-then ! (load ! (from ! (fld ! refl (stop !))) (look-in ! 80 (sub ! 1 refl (whole !)))) (no-more !)))) (from ! (stop !)) (init ! 48 refl (tt, (tt, (record { fits = room·register .0 }, tt)))) $
+      regroup ! $
+      assigns ! (addr ! (from ! (fld ! refl (hop ! (look-in ! 78 (sub ! 0 refl (whole !))) (stop !))))) (from ! (stop !)) (init ! 46 refl (tt, tt)) $
+      regroup ! $
+      assigns ! (agg ! (and-then ! (load ! (from ! (stop !)) (look ! 46 refl)) (and-then ! (load ! (from ! (fld ! refl (stop !))) (look-in ! 78 (sub ! 1 refl (whole !)))) (no-more !)))) (from ! (stop !)) (init ! 44 refl (tt, (tt, (record { fits = room·out .0 }, tt)))) $
       lend-mut ! tt u8 κ·pages q·pages b·pages o·pages γ·pages (length pages) pages (refl) (λ ν·1-pages γ·1-pages. move ! (3 ∷ 4 ∷ []) $ lend-mut ! tt u32 κ·nodes q·nodes b·nodes o·nodes γ·nodes (length nodes) nodes (refl) (λ ν·1-nodes γ·1-nodes. move ! (6 ∷ 7 ∷ []) $ lend-mut ! tt Record′.row κ·register q·register b·register o·register γ·register (length register) register (refl) (λ ν·1-register γ·1-register. move ! (9 ∷ 10 ∷ []) $ lend-mut ! tt u8 κ·out q·out b·out o·out γ·out (length out) out (refl) (λ ν·1-out γ·1-out. move ! (9 ∷ 10 ∷ 6 ∷ 7 ∷ 3 ∷ 4 ∷ 0 ∷ 1 ∷ []) $
-      Call-format-step.calls ! mem run (fmOf 𝓤 H (W .laws) 𝓣) known-format-step kept y1-0 (ν·1-pages ∷ []) fullShare b·pages o·pages γ·1-pages (length pages) pages (ν·1-nodes ∷ []) fullShare b·nodes o·nodes γ·1-nodes (length nodes) nodes (ν·1-register ∷ []) fullShare b·register o·register γ·1-register (length register) register (ν·1-out ∷ []) fullShare b·out o·out γ·1-out (length out) out ok·kept (Fill′.ok-Format-0 y1-0 (subst Fill′.Ok m·1 ok·step)) (and-then ! (load ! (from ! (stop !)) (look ! 75 refl)) (and-then ! (load ! (from ! (stop !)) (look ! 63 refl)) (and-then ! (load ! (from ! (stop !)) (look ! 49 refl)) (and-then ! (load ! (from ! (stop !)) (look ! 45 refl)) (and-then ! (load ! (from ! (stop !)) (look ! 41 refl)) (and-then ! (load ! (from ! (stop !)) (look ! 37 refl)) (no-more !)))))))
-      (λ r1 pages₁ nodes₁ register₁ out₁ ok·1 same·1-pages same·1-nodes same·1-register same·1-out. move ! (0 ∷ 1 ∷ 11 ∷ []) $ back-mut ! tt u8 κ·pages q·pages b·pages o·pages γ·pages (length pages) pages pages₁ ν·1-pages γ·1-pages (refl) same·1-pages room·pages $ move ! (2 ∷ 3 ∷ 10 ∷ []) $ back-mut ! tt u32 κ·nodes q·nodes b·nodes o·nodes γ·nodes (length nodes) nodes nodes₁ ν·1-nodes γ·1-nodes (refl) same·1-nodes room·nodes $ move ! (4 ∷ 5 ∷ 9 ∷ []) $ back-mut ! tt Record′.row κ·register q·register b·register o·register γ·register (length register) register register₁ ν·1-register γ·1-register (refl) same·1-register room·register $ move ! (6 ∷ 7 ∷ 8 ∷ []) $ back-mut ! tt u8 κ·out q·out b·out o·out γ·out (length out) out out₁ ν·1-out γ·1-out (refl) same·1-out room·out $ move ! (6 ∷ 7 ∷ 4 ∷ 5 ∷ 2 ∷ 3 ∷ 0 ∷ 1 ∷ []) $ land ! (from ! (stop !)) (init ! 56 refl (Turn′.typed 𝓤 H A W r1 ok·1)) $
-      here ! (‵ (flft κ·pages q·pages) ∷ ‵ (MutAt u8 κ·pages b·pages o·pages γ·pages (length pages) pages₁) ∷ ‵ (flft κ·nodes q·nodes) ∷ ‵ (MutAt u32 κ·nodes b·nodes o·nodes γ·nodes (length nodes) nodes₁) ∷ ‵ (flft κ·register q·register) ∷ ‵ (MutAt Record′.row κ·register b·register o·register γ·register (length register) register₁) ∷ ‵ (flft κ·out q·out) ∷ ‵ (MutAt u8 κ·out b·out o·out γ·out (length out) out₁) ∷ empty (sliceTy (tyRef erased mut (pointee (u8 .written)))) l₃₆ (empty (tyRef erased mut (pointee (u8 .written))) l₃₅ (empty (sliceTy (tyRef erased mut (pointee (Record′.row .written)))) l₃₄ (empty (tyRef erased mut (pointee (Record′.row .written))) l₃₃ (empty (sliceTy (tyRef erased mut (pointee (u32 .written)))) l₃₂ (empty (tyRef erased mut (pointee (u32 .written))) l₃₁ (empty (sliceTy (tyRef erased imm (pointee (u8 .written)))) l₃₀ (empty (tyRef erased imm (pointee (u8 .written))) l₂₉ (empty (sliceTy (tyRef erased mut (pointee (u8 .written)))) l₂₈ (empty (tyRef erased mut (pointee (u8 .written))) l₂₇ (empty (sliceTy (tyRef erased mut (pointee (Record′.row .written)))) l₂₆ (empty (tyRef erased mut (pointee (Record′.row .written))) l₂₅ (empty (sliceTy (tyRef erased imm (pointee (u32 .written)))) l₂₄ (empty (tyRef erased imm (pointee (u32 .written))) l₂₃ (empty (sliceTy (tyRef erased mut (pointee (u8 .written)))) l₂₂ (empty (tyRef erased mut (pointee (u8 .written))) l₂₁ (holds (sliceTy (tyRef erased mut (pointee (u8 .written)))) l₂₀ (sliceVal (b·out, o·out) (length out)) (holds (tyRef erased mut (pointee (u8 .written))) l₁₉ (vptr b·out o·out) (holds (sliceTy (tyRef erased mut (pointee (Record′.row .written)))) l₁₈ (sliceVal (b·register, o·register) (length register)) (holds (tyRef erased mut (pointee (Record′.row .written))) l₁₇ (vptr b·register o·register) (holds (sliceTy (tyRef erased mut (pointee (u32 .written)))) l₁₆ (sliceVal (b·nodes, o·nodes) (length nodes)) (holds (tyRef erased mut (pointee (u32 .written))) l₁₅ (vptr b·nodes o·nodes) (holds (sliceTy (tyRef erased mut (pointee (u8 .written)))) l₁₄ (sliceVal (b·pages, o·pages) (length pages)) (holds (tyRef erased mut (pointee (u8 .written))) l₁₃ (vptr b·pages o·pages) (holds (tyAt (code.function .locals) 12) l₁₂ (Turn′.mach r1) (empty (tyAt (code.function .locals) 11) l₁₁ (empty (tyInt w64) l₁₀ (empty (tyInt w64) l₉ (empty (tyAt (code.function .locals) 8) l₈ (holds (tyAt (code.function .locals) 7) l₇ (Store′.mach y1-0) (holds (sliceTy (tyRef (named 3) mut (pointee (u8 .written)))) l₆ (sliceVal (b·out, o·out) (length out)) (holds (sliceTy (tyRef (named 2) mut (pointee (Record′.row .written)))) l₅ (sliceVal (b·register, o·register) (length register)) (holds (sliceTy (tyRef (named 1) mut (pointee (u32 .written)))) l₄ (sliceVal (b·nodes, o·nodes) (length nodes)) (holds (sliceTy (tyRef (named 0) mut (pointee (u8 .written)))) l₃ (sliceVal (b·pages, o·pages) (length pages)) (holds (tyAt (code.function .locals) 2) l₂ (Fill′.mach (Fill.Format y1-0)) (holds (tyAt (code.function .locals) 1) l₁ (Kept′.mach kept) (empty (tyAt (code.function .locals) 0) l₀ []))))))))))))))))))))))))))))))))))))) $
-      assigns ! (of-opd ! (load ! (from ! (stop !)) (look ! 56 refl))) (from ! (stop !)) (init ! 80 refl (Turn′.typed 𝓤 H A W r1 ok·1)) $
-      returns ! (look ! 80 refl) $
-      move ! (80 ∷ 81 ∷ []) $ forget ! 0 refl $ free1 ! $ move ! (78 ∷ 79 ∷ []) $ forget ! 0 refl $ free1 ! $ move ! (76 ∷ 77 ∷ []) $ forget ! 0 refl $ free1 ! $ move ! (74 ∷ 75 ∷ []) $ forget ! 0 refl $ free1 ! $ move ! (72 ∷ 73 ∷ []) $ forget ! 0 refl $ free1 ! $ move ! (70 ∷ 71 ∷ []) $ forget ! 0 refl $ free1 ! $ move ! (68 ∷ 69 ∷ []) $ forget ! 0 refl $ free1 ! $ move ! (66 ∷ 67 ∷ []) $ forget ! 0 refl $ free1 ! $ move ! (64 ∷ 65 ∷ []) $ free1 ! $ move ! (62 ∷ 63 ∷ []) $ free1 ! $ move ! (60 ∷ 61 ∷ []) $ free1 ! $ move ! (58 ∷ 59 ∷ []) $ free1 ! $ move ! (56 ∷ 57 ∷ []) $ forget ! 0 refl $ free1 ! $ move ! (54 ∷ 55 ∷ []) $ forget ! 0 refl $ free1 ! $ move ! (52 ∷ 53 ∷ []) $ forget ! 0 refl $ free1 ! $ move ! (50 ∷ 51 ∷ []) $ forget ! 0 refl $ free1 ! $ move ! (48 ∷ 49 ∷ []) $ forget ! 0 refl $ free1 ! $ move ! (46 ∷ 47 ∷ []) $ forget ! 0 refl $ free1 ! $ move ! (44 ∷ 45 ∷ []) $ forget ! 0 refl $ free1 ! $ move ! (42 ∷ 43 ∷ []) $ forget ! 0 refl $ free1 ! $ move ! (40 ∷ 41 ∷ []) $ forget ! 0 refl $ free1 ! $ move ! (38 ∷ 39 ∷ []) $ free1 ! $ move ! (36 ∷ 37 ∷ []) $ free1 ! $ move ! (34 ∷ 35 ∷ []) $ free1 ! $ move ! (32 ∷ 33 ∷ []) $ free1 ! $ move ! (30 ∷ 31 ∷ []) $ free1 ! $ move ! (28 ∷ 29 ∷ []) $ free1 ! $ move ! (26 ∷ 27 ∷ []) $ free1 ! $ move ! (24 ∷ 25 ∷ []) $ free1 ! $ move ! (22 ∷ 23 ∷ []) $ free1 ! $ move ! (20 ∷ 21 ∷ []) $ free1 ! $ move ! (18 ∷ 19 ∷ []) $ free1 ! $ move ! (16 ∷ 17 ∷ []) $ free1 ! $ move ! (14 ∷ 15 ∷ []) $ free1 ! $ move ! (12 ∷ 13 ∷ []) $ free1 ! $ move ! (10 ∷ 11 ∷ []) $ free1 ! $ move ! (8 ∷ 9 ∷ []) $ free1 ! $ free0 ! $ by ! (exits r1 ok·1 pages₁ (sym (refl ∙ sym same·1-pages)) nodes₁ (sym (refl ∙ sym same·1-nodes)) register₁ (sym (refl ∙ sym same·1-register)) out₁ (sym (refl ∙ sym same·1-out))))))))))
-      (λ y1-0 y1-1 y1-2 m·1. rewrite ! 76 (λ (u : Fill). ‵ (fat fullShare Fill′.ty l₂ 0 (Fill′.mach u))) m·1 refl $ switches-to ! 1 (load ! (from ! (vrt ! refl (fld ! refl (stop !)))) (look-tag ! 76 (whole !))) (
+      Call-format-step.calls ! mem run (fmOf 𝓤 H (W .laws) 𝓣) known-format-step kept y1-0 y1-1 y1-2 y1-3 (ν·1-pages ∷ []) fullShare b·pages o·pages γ·1-pages (length pages) pages (ν·1-nodes ∷ []) fullShare b·nodes o·nodes γ·1-nodes (length nodes) nodes (ν·1-register ∷ []) fullShare b·register o·register γ·1-register (length register) register (ν·1-out ∷ []) fullShare b·out o·out γ·1-out (length out) out ok·kept (Fill′.ok-Format-0 y1-0 y1-1 y1-2 y1-3 (subst Fill′.Ok m·1 ok·step)) (Fill′.ok-Format-1 y1-0 y1-1 y1-2 y1-3 (subst Fill′.Ok m·1 ok·step)) (Fill′.ok-Format-2 y1-0 y1-1 y1-2 y1-3 (subst Fill′.Ok m·1 ok·step)) (Fill′.ok-Format-3 y1-0 y1-1 y1-2 y1-3 (subst Fill′.Ok m·1 ok·step)) (and-then ! (load ! (from ! (stop !)) (look ! 85 refl)) (and-then ! (load ! (from ! (stop !)) (look ! 73 refl)) (and-then ! (load ! (from ! (stop !)) (look ! 71 refl)) (and-then ! (load ! (from ! (stop !)) (look ! 69 refl)) (and-then ! (load ! (from ! (stop !)) (look ! 67 refl)) (and-then ! (load ! (from ! (stop !)) (look ! 53 refl)) (and-then ! (load ! (from ! (stop !)) (look ! 49 refl)) (and-then ! (load ! (from ! (stop !)) (look ! 45 refl)) (and-then ! (load ! (from ! (stop !)) (look ! 41 refl)) (no-more !))))))))))
+      (λ r1 pages₁ nodes₁ register₁ out₁ ok·1 same·1-pages same·1-nodes same·1-register same·1-out. move ! (0 ∷ 1 ∷ 11 ∷ []) $ back-mut ! tt u8 κ·pages q·pages b·pages o·pages γ·pages (length pages) pages pages₁ ν·1-pages γ·1-pages (refl) same·1-pages room·pages $ move ! (2 ∷ 3 ∷ 10 ∷ []) $ back-mut ! tt u32 κ·nodes q·nodes b·nodes o·nodes γ·nodes (length nodes) nodes nodes₁ ν·1-nodes γ·1-nodes (refl) same·1-nodes room·nodes $ move ! (4 ∷ 5 ∷ 9 ∷ []) $ back-mut ! tt Record′.row κ·register q·register b·register o·register γ·register (length register) register register₁ ν·1-register γ·1-register (refl) same·1-register room·register $ move ! (6 ∷ 7 ∷ 8 ∷ []) $ back-mut ! tt u8 κ·out q·out b·out o·out γ·out (length out) out out₁ ν·1-out γ·1-out (refl) same·1-out room·out $ move ! (6 ∷ 7 ∷ 4 ∷ 5 ∷ 2 ∷ 3 ∷ 0 ∷ 1 ∷ []) $ land ! (from ! (stop !)) (init ! 60 refl (Turn′.typed 𝓤 H A W r1 ok·1)) $
+      here ! (‵ (flft κ·pages q·pages) ∷ ‵ (MutAt u8 κ·pages b·pages o·pages γ·pages (length pages) pages₁) ∷ ‵ (flft κ·nodes q·nodes) ∷ ‵ (MutAt u32 κ·nodes b·nodes o·nodes γ·nodes (length nodes) nodes₁) ∷ ‵ (flft κ·register q·register) ∷ ‵ (MutAt Record′.row κ·register b·register o·register γ·register (length register) register₁) ∷ ‵ (flft κ·out q·out) ∷ ‵ (MutAt u8 κ·out b·out o·out γ·out (length out) out₁) ∷ empty (sliceTy (tyRef erased mut (pointee (u8 .written)))) l₄₁ (empty (tyRef erased mut (pointee (u8 .written))) l₄₀ (empty (sliceTy (tyRef erased mut (pointee (Record′.row .written)))) l₃₉ (empty (tyRef erased mut (pointee (Record′.row .written))) l₃₈ (empty (sliceTy (tyRef erased mut (pointee (u32 .written)))) l₃₇ (empty (tyRef erased mut (pointee (u32 .written))) l₃₆ (empty (sliceTy (tyRef erased imm (pointee (u8 .written)))) l₃₅ (empty (tyRef erased imm (pointee (u8 .written))) l₃₄ (empty (tyAt (code.function .locals) 33) l₃₃ (empty (sliceTy (tyRef erased mut (pointee (u8 .written)))) l₃₂ (empty (tyRef erased mut (pointee (u8 .written))) l₃₁ (empty (sliceTy (tyRef erased mut (pointee (Record′.row .written)))) l₃₀ (empty (tyRef erased mut (pointee (Record′.row .written))) l₂₉ (empty (sliceTy (tyRef erased imm (pointee (u32 .written)))) l₂₈ (empty (tyRef erased imm (pointee (u32 .written))) l₂₇ (empty (sliceTy (tyRef erased mut (pointee (u8 .written)))) l₂₆ (empty (tyRef erased mut (pointee (u8 .written))) l₂₅ (empty (tyAt (code.function .locals) 24) l₂₄ (holds (sliceTy (tyRef erased mut (pointee (u8 .written)))) l₂₃ (sliceVal (b·out, o·out) (length out)) (holds (tyRef erased mut (pointee (u8 .written))) l₂₂ (vptr b·out o·out) (holds (sliceTy (tyRef erased mut (pointee (Record′.row .written)))) l₂₁ (sliceVal (b·register, o·register) (length register)) (holds (tyRef erased mut (pointee (Record′.row .written))) l₂₀ (vptr b·register o·register) (holds (sliceTy (tyRef erased mut (pointee (u32 .written)))) l₁₉ (sliceVal (b·nodes, o·nodes) (length nodes)) (holds (tyRef erased mut (pointee (u32 .written))) l₁₈ (vptr b·nodes o·nodes) (holds (sliceTy (tyRef erased mut (pointee (u8 .written)))) l₁₇ (sliceVal (b·pages, o·pages) (length pages)) (holds (tyRef erased mut (pointee (u8 .written))) l₁₆ (vptr b·pages o·pages) (holds (tyAt (code.function .locals) 15) l₁₅ (Turn′.mach r1) (empty (tyInt w64) l₁₄ (empty (tyInt w64) l₁₃ (empty (tyInt w64) l₁₂ (empty (tyInt w64) l₁₁ (holds (tyInt w64) l₁₀ (vint w64 y1-3) (holds (tyInt w64) l₉ (vint w64 y1-2) (holds (tyInt w64) l₈ (vint w64 y1-1) (holds (tyInt w64) l₇ (vint w64 y1-0) (holds (sliceTy (tyRef (named 3) mut (pointee (u8 .written)))) l₆ (sliceVal (b·out, o·out) (length out)) (holds (sliceTy (tyRef (named 2) mut (pointee (Record′.row .written)))) l₅ (sliceVal (b·register, o·register) (length register)) (holds (sliceTy (tyRef (named 1) mut (pointee (u32 .written)))) l₄ (sliceVal (b·nodes, o·nodes) (length nodes)) (holds (sliceTy (tyRef (named 0) mut (pointee (u8 .written)))) l₃ (sliceVal (b·pages, o·pages) (length pages)) (holds (tyAt (code.function .locals) 2) l₂ (Fill′.mach (Fill.Format y1-0 y1-1 y1-2 y1-3)) (holds (tyAt (code.function .locals) 1) l₁ (Kept′.mach kept) (empty (tyAt (code.function .locals) 0) l₀ [])))))))))))))))))))))))))))))))))))))))))) $
+      assigns ! (of-opd ! (load ! (from ! (stop !)) (look ! 60 refl))) (from ! (stop !)) (init ! 90 refl (Turn′.typed 𝓤 H A W r1 ok·1)) $
+      returns ! (look ! 90 refl) $
+      move ! (90 ∷ 91 ∷ []) $ forget ! 0 refl $ free1 ! $ move ! (88 ∷ 89 ∷ []) $ forget ! 0 refl $ free1 ! $ move ! (86 ∷ 87 ∷ []) $ forget ! 0 refl $ free1 ! $ move ! (84 ∷ 85 ∷ []) $ forget ! 0 refl $ free1 ! $ move ! (82 ∷ 83 ∷ []) $ forget ! 0 refl $ free1 ! $ move ! (80 ∷ 81 ∷ []) $ forget ! 0 refl $ free1 ! $ move ! (78 ∷ 79 ∷ []) $ forget ! 0 refl $ free1 ! $ move ! (76 ∷ 77 ∷ []) $ forget ! 0 refl $ free1 ! $ move ! (74 ∷ 75 ∷ []) $ forget ! 0 refl $ free1 ! $ move ! (72 ∷ 73 ∷ []) $ forget ! 0 refl $ free1 ! $ move ! (70 ∷ 71 ∷ []) $ forget ! 0 refl $ free1 ! $ move ! (68 ∷ 69 ∷ []) $ free1 ! $ move ! (66 ∷ 67 ∷ []) $ free1 ! $ move ! (64 ∷ 65 ∷ []) $ free1 ! $ move ! (62 ∷ 63 ∷ []) $ free1 ! $ move ! (60 ∷ 61 ∷ []) $ forget ! 0 refl $ free1 ! $ move ! (58 ∷ 59 ∷ []) $ forget ! 0 refl $ free1 ! $ move ! (56 ∷ 57 ∷ []) $ forget ! 0 refl $ free1 ! $ move ! (54 ∷ 55 ∷ []) $ forget ! 0 refl $ free1 ! $ move ! (52 ∷ 53 ∷ []) $ forget ! 0 refl $ free1 ! $ move ! (50 ∷ 51 ∷ []) $ forget ! 0 refl $ free1 ! $ move ! (48 ∷ 49 ∷ []) $ forget ! 0 refl $ free1 ! $ move ! (46 ∷ 47 ∷ []) $ forget ! 0 refl $ free1 ! $ move ! (44 ∷ 45 ∷ []) $ forget ! 0 refl $ free1 ! $ move ! (42 ∷ 43 ∷ []) $ free1 ! $ move ! (40 ∷ 41 ∷ []) $ free1 ! $ move ! (38 ∷ 39 ∷ []) $ free1 ! $ move ! (36 ∷ 37 ∷ []) $ free1 ! $ move ! (34 ∷ 35 ∷ []) $ free1 ! $ move ! (32 ∷ 33 ∷ []) $ free1 ! $ move ! (30 ∷ 31 ∷ []) $ free1 ! $ move ! (28 ∷ 29 ∷ []) $ free1 ! $ move ! (26 ∷ 27 ∷ []) $ free1 ! $ move ! (24 ∷ 25 ∷ []) $ free1 ! $ move ! (22 ∷ 23 ∷ []) $ free1 ! $ move ! (20 ∷ 21 ∷ []) $ free1 ! $ move ! (18 ∷ 19 ∷ []) $ free1 ! $ move ! (16 ∷ 17 ∷ []) $ free1 ! $ move ! (14 ∷ 15 ∷ []) $ free1 ! $ move ! (12 ∷ 13 ∷ []) $ free1 ! $ move ! (10 ∷ 11 ∷ []) $ free1 ! $ move ! (8 ∷ 9 ∷ []) $ free1 ! $ free0 ! $ by ! (exits r1 ok·1 pages₁ (sym (refl ∙ sym same·1-pages)) nodes₁ (sym (refl ∙ sym same·1-nodes)) register₁ (sym (refl ∙ sym same·1-register)) out₁ (sym (refl ∙ sym same·1-out))))))))))
+      (λ y1-0 y1-1 y1-2 m·1. rewrite ! 86 (λ (u : Fill). ‵ (fat fullShare Fill′.ty l₂ 0 (Fill′.mach u))) m·1 refl $ switches-to ! 1 (load ! (from ! (vrt ! refl (fld ! refl (stop !)))) (look-tag ! 86 (whole !))) (
       regroup ! $
-      assigns ! (of-opd ! (load ! (from ! (vrt ! refl (fld ! refl (stop !)))) (look-in ! 76 (in-variant ! 1 0 refl refl (whole !))))) (from ! (stop !)) (init ! 64 refl (Ticket′.typed 𝓤 H A W y1-0 (Fill′.ok-Put-0 y1-0 y1-1 y1-2 (subst Fill′.Ok m·1 ok·step)))) $
+      assigns ! (of-opd ! (load ! (from ! (vrt ! refl (fld ! refl (stop !)))) (look-in ! 86 (in-variant ! 1 0 refl refl (whole !))))) (from ! (stop !)) (init ! 68 refl (tt, record { fits = (Fill′.ok-Put-0 y1-0 y1-1 y1-2 (subst Fill′.Ok m·1 ok·step)) .1 })) $
       regroup ! $
-      assigns ! (of-opd ! (load ! (from ! (vrt ! refl (fld ! refl (stop !)))) (look-in ! 76 (in-variant ! 1 1 refl refl (whole !))))) (from ! (stop !)) (init ! 62 refl (tt, record { fits = (Fill′.ok-Put-1 y1-0 y1-1 y1-2 (subst Fill′.Ok m·1 ok·step)) .1 })) $
+      assigns ! (of-opd ! (load ! (from ! (vrt ! refl (fld ! refl (stop !)))) (look-in ! 86 (in-variant ! 1 1 refl refl (whole !))))) (from ! (stop !)) (init ! 66 refl (tt, record { fits = (Fill′.ok-Put-1 y1-0 y1-1 y1-2 (subst Fill′.Ok m·1 ok·step)) .1 })) $
       regroup ! $
-      assigns ! (of-opd ! (load ! (from ! (vrt ! refl (fld ! refl (stop !)))) (look-in ! 76 (in-variant ! 1 2 refl refl (whole !))))) (from ! (stop !)) (init ! 60 refl (tt, record { fits = (Fill′.ok-Put-2 y1-0 y1-1 y1-2 (subst Fill′.Ok m·1 ok·step)) .1 })) $
+      assigns ! (of-opd ! (load ! (from ! (vrt ! refl (fld ! refl (stop !)))) (look-in ! 86 (in-variant ! 1 2 refl refl (whole !))))) (from ! (stop !)) (init ! 64 refl (tt, record { fits = (Fill′.ok-Put-2 y1-0 y1-1 y1-2 (subst Fill′.Ok m·1 ok·step)) .1 })) $
       regroup ! $
-      assigns ! (addr ! (from ! (fld ! refl (hop ! (look-in ! 74 (sub ! 0 refl (whole !))) (stop !))))) (from ! (stop !)) (init ! 38 refl (tt, tt)) $
+      assigns ! (agg ! (and-then ! (load ! (from ! (stop !)) (look ! 68 refl)) (no-more !))) (from ! (stop !)) (init ! 42 refl (Ticket′.typed 𝓤 H A W (Ticket′.build y1-0) (Ticket′.make y1-0 (Fill′.ok-Put-0 y1-0 y1-1 y1-2 (subst Fill′.Ok m·1 ok·step))))) $
       regroup ! $
-      assigns ! (agg ! (and-then ! (load ! (from ! (stop !)) (look ! 38 refl)) (and-then ! (load ! (from ! (fld ! refl (stop !))) (look-in ! 74 (sub ! 1 refl (whole !)))) (no-more !)))) (from ! (stop !)) (init ! 36 refl (tt, (tt, (record { fits = room·pages .0 }, tt)))) $
+      assigns ! (addr ! (from ! (fld ! refl (hop ! (look-in ! 84 (sub ! 0 refl (whole !))) (stop !))))) (from ! (stop !)) (init ! 40 refl (tt, tt)) $
       regroup ! $
-      assigns ! (addr ! (from ! (fld ! refl (hop ! (look-in ! 72 (sub ! 0 refl (whole !))) (stop !))))) (from ! (stop !)) (init ! 34 refl (tt, tt)) $
+      assigns ! (agg ! (and-then ! (load ! (from ! (stop !)) (look ! 40 refl)) (and-then ! (load ! (from ! (fld ! refl (stop !))) (look-in ! 84 (sub ! 1 refl (whole !)))) (no-more !)))) (from ! (stop !)) (init ! 38 refl (tt, (tt, (record { fits = room·pages .0 }, tt)))) $
       regroup ! $
-      assigns ! (agg ! (and-then ! (load ! (from ! (stop !)) (look ! 34 refl)) (and-then ! (load ! (from ! (fld ! refl (stop !))) (look-in ! 72 (sub ! 1 refl (whole !)))) (no-more !)))) (from ! (stop !)) (init ! 32 refl (tt, (tt, (record { fits = room·nodes .0 }, tt)))) $
+      assigns ! (addr ! (from ! (fld ! refl (hop ! (look-in ! 82 (sub ! 0 refl (whole !))) (stop !))))) (from ! (stop !)) (init ! 36 refl (tt, tt)) $
       regroup ! $
-      assigns ! (addr ! (from ! (fld ! refl (hop ! (look-in ! 70 (sub ! 0 refl (whole !))) (stop !))))) (from ! (stop !)) (init ! 30 refl (tt, tt)) $
+      assigns ! (agg ! (and-then ! (load ! (from ! (stop !)) (look ! 36 refl)) (and-then ! (load ! (from ! (fld ! refl (stop !))) (look-in ! 82 (sub ! 1 refl (whole !)))) (no-more !)))) (from ! (stop !)) (init ! 34 refl (tt, (tt, (record { fits = room·nodes .0 }, tt)))) $
       regroup ! $
-      assigns ! (agg ! (and-then ! (load ! (from ! (stop !)) (look ! 30 refl)) (and-then ! (load ! (from ! (fld ! refl (stop !))) (look-in ! 70 (sub ! 1 refl (whole !)))) (no-more !)))) (from ! (stop !)) (init ! 28 refl (tt, (tt, (record { fits = room·register .0 }, tt)))) $
+      assigns ! (addr ! (from ! (fld ! refl (hop ! (look-in ! 80 (sub ! 0 refl (whole !))) (stop !))))) (from ! (stop !)) (init ! 32 refl (tt, tt)) $
       regroup ! $
-      assigns ! (addr ! (from ! (fld ! refl (hop ! (look-in ! 68 (sub ! 0 refl (whole !))) (stop !))))) (from ! (stop !)) (init ! 26 refl (tt, tt)) $
+      assigns ! (agg ! (and-then ! (load ! (from ! (stop !)) (look ! 32 refl)) (and-then ! (load ! (from ! (fld ! refl (stop !))) (look-in ! 80 (sub ! 1 refl (whole !)))) (no-more !)))) (from ! (stop !)) (init ! 30 refl (tt, (tt, (record { fits = room·register .0 }, tt)))) $
       regroup ! $
-      assigns ! (agg ! (and-then ! (load ! (from ! (stop !)) (look ! 26 refl)) (and-then ! (load ! (from ! (fld ! refl (stop !))) (look-in ! 68 (sub ! 1 refl (whole !)))) (no-more !)))) (from ! (stop !)) (init ! 24 refl (tt, (tt, (record { fits = room·out .0 }, tt)))) $
+      assigns ! (addr ! (from ! (fld ! refl (hop ! (look-in ! 78 (sub ! 0 refl (whole !))) (stop !))))) (from ! (stop !)) (init ! 28 refl (tt, tt)) $
+      regroup ! $
+      assigns ! (agg ! (and-then ! (load ! (from ! (stop !)) (look ! 28 refl)) (and-then ! (load ! (from ! (fld ! refl (stop !))) (look-in ! 78 (sub ! 1 refl (whole !)))) (no-more !)))) (from ! (stop !)) (init ! 26 refl (tt, (tt, (record { fits = room·out .0 }, tt)))) $
       lend-mut ! tt u8 κ·pages q·pages b·pages o·pages γ·pages (length pages) pages (refl) (λ ν·2-pages γ·2-pages. move ! (3 ∷ 4 ∷ []) $ lend-shr ! tt u32 κ·nodes q·nodes b·nodes o·nodes γ·nodes (length nodes) nodes (refl) (λ ν·2-nodes γ·2-nodes. move ! (6 ∷ 7 ∷ []) $ lend-mut ! tt Record′.row κ·register q·register b·register o·register γ·register (length register) register (refl) (λ ν·2-register γ·2-register. move ! (9 ∷ 10 ∷ []) $ lend-mut ! tt u8 κ·out q·out b·out o·out γ·out (length out) out (refl) (λ ν·2-out γ·2-out. move ! (9 ∷ 10 ∷ 6 ∷ 7 ∷ 3 ∷ 4 ∷ 0 ∷ 1 ∷ []) $
-      Call-put-step.calls ! mem run (fmOf 𝓤 H (W .laws) 𝓣) known-put-step kept y1-0 y1-1 y1-2 (ν·2-pages ∷ []) fullShare b·pages o·pages γ·2-pages (length pages) pages (ν·2-nodes ∷ []) fullShare b·nodes o·nodes γ·2-nodes (length nodes) nodes (ν·2-register ∷ []) fullShare b·register o·register γ·2-register (length register) register (ν·2-out ∷ []) fullShare b·out o·out γ·2-out (length out) out ok·kept (Fill′.ok-Put-0 y1-0 y1-1 y1-2 (subst Fill′.Ok m·1 ok·step)) (Fill′.ok-Put-1 y1-0 y1-1 y1-2 (subst Fill′.Ok m·1 ok·step)) (Fill′.ok-Put-2 y1-0 y1-1 y1-2 (subst Fill′.Ok m·1 ok·step)) (and-then ! (load ! (from ! (stop !)) (look ! 76 refl)) (and-then ! (load ! (from ! (stop !)) (look ! 62 refl)) (and-then ! (load ! (from ! (stop !)) (look ! 60 refl)) (and-then ! (load ! (from ! (stop !)) (look ! 58 refl)) (and-then ! (load ! (from ! (stop !)) (look ! 34 refl)) (and-then ! (load ! (from ! (stop !)) (look ! 30 refl)) (and-then ! (load ! (from ! (stop !)) (look ! 26 refl)) (and-then ! (load ! (from ! (stop !)) (look ! 22 refl)) (no-more !)))))))))
-      (λ r2 pages₂ register₂ out₂ ok·2 same·2-pages same·2-register same·2-out. move ! (0 ∷ 1 ∷ 11 ∷ []) $ back-mut ! tt u8 κ·pages q·pages b·pages o·pages γ·pages (length pages) pages pages₂ ν·2-pages γ·2-pages (refl) same·2-pages room·pages $ move ! (2 ∷ 3 ∷ 10 ∷ []) $ back-shr ! tt u32 κ·nodes q·nodes b·nodes o·nodes γ·nodes (length nodes) nodes ν·2-nodes (refl) room·nodes $ move ! (4 ∷ 5 ∷ 9 ∷ []) $ back-mut ! tt Record′.row κ·register q·register b·register o·register γ·register (length register) register register₂ ν·2-register γ·2-register (refl) same·2-register room·register $ move ! (6 ∷ 7 ∷ 8 ∷ []) $ back-mut ! tt u8 κ·out q·out b·out o·out γ·out (length out) out out₂ ν·2-out γ·2-out (refl) same·2-out room·out $ move ! (6 ∷ 7 ∷ 4 ∷ 5 ∷ 2 ∷ 3 ∷ 0 ∷ 1 ∷ []) $ land ! (from ! (stop !)) (init ! 56 refl (Turn′.typed 𝓤 H A W r2 ok·2)) $
-      here ! (‵ (flft κ·pages q·pages) ∷ ‵ (MutAt u8 κ·pages b·pages o·pages γ·pages (length pages) pages₂) ∷ ‵ (flft κ·nodes q·nodes) ∷ ‵ (MutAt u32 κ·nodes b·nodes o·nodes γ·nodes (length nodes) nodes) ∷ ‵ (flft κ·register q·register) ∷ ‵ (MutAt Record′.row κ·register b·register o·register γ·register (length register) register₂) ∷ ‵ (flft κ·out q·out) ∷ ‵ (MutAt u8 κ·out b·out o·out γ·out (length out) out₂) ∷ empty (sliceTy (tyRef erased mut (pointee (u8 .written)))) l₃₆ (empty (tyRef erased mut (pointee (u8 .written))) l₃₅ (empty (sliceTy (tyRef erased mut (pointee (Record′.row .written)))) l₃₄ (empty (tyRef erased mut (pointee (Record′.row .written))) l₃₃ (empty (sliceTy (tyRef erased mut (pointee (u32 .written)))) l₃₂ (empty (tyRef erased mut (pointee (u32 .written))) l₃₁ (empty (sliceTy (tyRef erased imm (pointee (u8 .written)))) l₃₀ (empty (tyRef erased imm (pointee (u8 .written))) l₂₉ (holds (sliceTy (tyRef erased mut (pointee (u8 .written)))) l₂₈ (sliceVal (b·out, o·out) (length out)) (holds (tyRef erased mut (pointee (u8 .written))) l₂₇ (vptr b·out o·out) (holds (sliceTy (tyRef erased mut (pointee (Record′.row .written)))) l₂₆ (sliceVal (b·register, o·register) (length register)) (holds (tyRef erased mut (pointee (Record′.row .written))) l₂₅ (vptr b·register o·register) (holds (sliceTy (tyRef erased imm (pointee (u32 .written)))) l₂₄ (sliceVal (b·nodes, o·nodes) (length nodes)) (holds (tyRef erased imm (pointee (u32 .written))) l₂₃ (vptr b·nodes o·nodes) (holds (sliceTy (tyRef erased mut (pointee (u8 .written)))) l₂₂ (sliceVal (b·pages, o·pages) (length pages)) (holds (tyRef erased mut (pointee (u8 .written))) l₂₁ (vptr b·pages o·pages) (empty (sliceTy (tyRef erased mut (pointee (u8 .written)))) l₂₀ (empty (tyRef erased mut (pointee (u8 .written))) l₁₉ (empty (sliceTy (tyRef erased mut (pointee (Record′.row .written)))) l₁₈ (empty (tyRef erased mut (pointee (Record′.row .written))) l₁₇ (empty (sliceTy (tyRef erased mut (pointee (u32 .written)))) l₁₆ (empty (tyRef erased mut (pointee (u32 .written))) l₁₅ (empty (sliceTy (tyRef erased mut (pointee (u8 .written)))) l₁₄ (empty (tyRef erased mut (pointee (u8 .written))) l₁₃ (holds (tyAt (code.function .locals) 12) l₁₂ (Turn′.mach r2) (empty (tyAt (code.function .locals) 11) l₁₁ (holds (tyInt w64) l₁₀ (vint w64 y1-2) (holds (tyInt w64) l₉ (vint w64 y1-1) (holds (tyAt (code.function .locals) 8) l₈ (Ticket′.mach y1-0) (empty (tyAt (code.function .locals) 7) l₇ (holds (sliceTy (tyRef (named 3) mut (pointee (u8 .written)))) l₆ (sliceVal (b·out, o·out) (length out)) (holds (sliceTy (tyRef (named 2) mut (pointee (Record′.row .written)))) l₅ (sliceVal (b·register, o·register) (length register)) (holds (sliceTy (tyRef (named 1) mut (pointee (u32 .written)))) l₄ (sliceVal (b·nodes, o·nodes) (length nodes)) (holds (sliceTy (tyRef (named 0) mut (pointee (u8 .written)))) l₃ (sliceVal (b·pages, o·pages) (length pages)) (holds (tyAt (code.function .locals) 2) l₂ (Fill′.mach (Fill.Put y1-0 y1-1 y1-2)) (holds (tyAt (code.function .locals) 1) l₁ (Kept′.mach kept) (empty (tyAt (code.function .locals) 0) l₀ []))))))))))))))))))))))))))))))))))))) $
-      assigns ! (of-opd ! (load ! (from ! (stop !)) (look ! 56 refl))) (from ! (stop !)) (init ! 80 refl (Turn′.typed 𝓤 H A W r2 ok·2)) $
-      returns ! (look ! 80 refl) $
-      move ! (80 ∷ 81 ∷ []) $ forget ! 0 refl $ free1 ! $ move ! (78 ∷ 79 ∷ []) $ forget ! 0 refl $ free1 ! $ move ! (76 ∷ 77 ∷ []) $ forget ! 0 refl $ free1 ! $ move ! (74 ∷ 75 ∷ []) $ forget ! 0 refl $ free1 ! $ move ! (72 ∷ 73 ∷ []) $ forget ! 0 refl $ free1 ! $ move ! (70 ∷ 71 ∷ []) $ forget ! 0 refl $ free1 ! $ move ! (68 ∷ 69 ∷ []) $ forget ! 0 refl $ free1 ! $ move ! (66 ∷ 67 ∷ []) $ free1 ! $ move ! (64 ∷ 65 ∷ []) $ forget ! 0 refl $ free1 ! $ move ! (62 ∷ 63 ∷ []) $ forget ! 0 refl $ free1 ! $ move ! (60 ∷ 61 ∷ []) $ forget ! 0 refl $ free1 ! $ move ! (58 ∷ 59 ∷ []) $ free1 ! $ move ! (56 ∷ 57 ∷ []) $ forget ! 0 refl $ free1 ! $ move ! (54 ∷ 55 ∷ []) $ free1 ! $ move ! (52 ∷ 53 ∷ []) $ free1 ! $ move ! (50 ∷ 51 ∷ []) $ free1 ! $ move ! (48 ∷ 49 ∷ []) $ free1 ! $ move ! (46 ∷ 47 ∷ []) $ free1 ! $ move ! (44 ∷ 45 ∷ []) $ free1 ! $ move ! (42 ∷ 43 ∷ []) $ free1 ! $ move ! (40 ∷ 41 ∷ []) $ free1 ! $ move ! (38 ∷ 39 ∷ []) $ forget ! 0 refl $ free1 ! $ move ! (36 ∷ 37 ∷ []) $ forget ! 0 refl $ free1 ! $ move ! (34 ∷ 35 ∷ []) $ forget ! 0 refl $ free1 ! $ move ! (32 ∷ 33 ∷ []) $ forget ! 0 refl $ free1 ! $ move ! (30 ∷ 31 ∷ []) $ forget ! 0 refl $ free1 ! $ move ! (28 ∷ 29 ∷ []) $ forget ! 0 refl $ free1 ! $ move ! (26 ∷ 27 ∷ []) $ forget ! 0 refl $ free1 ! $ move ! (24 ∷ 25 ∷ []) $ forget ! 0 refl $ free1 ! $ move ! (22 ∷ 23 ∷ []) $ free1 ! $ move ! (20 ∷ 21 ∷ []) $ free1 ! $ move ! (18 ∷ 19 ∷ []) $ free1 ! $ move ! (16 ∷ 17 ∷ []) $ free1 ! $ move ! (14 ∷ 15 ∷ []) $ free1 ! $ move ! (12 ∷ 13 ∷ []) $ free1 ! $ move ! (10 ∷ 11 ∷ []) $ free1 ! $ move ! (8 ∷ 9 ∷ []) $ free1 ! $ free0 ! $ by ! (exits r2 ok·2 pages₂ (sym (refl ∙ sym same·2-pages)) nodes (sym (refl)) register₂ (sym (refl ∙ sym same·2-register)) out₂ (sym (refl ∙ sym same·2-out))))))))))
-      (λ y1-0 m·1. rewrite ! 76 (λ (u : Fill). ‵ (fat fullShare Fill′.ty l₂ 0 (Fill′.mach u))) m·1 refl $ switches-to ! 2 (load ! (from ! (vrt ! refl (fld ! refl (stop !)))) (look-tag ! 76 (whole !))) (
+      Call-put-step.calls ! mem run (fmOf 𝓤 H (W .laws) 𝓣) known-put-step kept (Ticket′.build y1-0) y1-1 y1-2 (ν·2-pages ∷ []) fullShare b·pages o·pages γ·2-pages (length pages) pages (ν·2-nodes ∷ []) fullShare b·nodes o·nodes γ·2-nodes (length nodes) nodes (ν·2-register ∷ []) fullShare b·register o·register γ·2-register (length register) register (ν·2-out ∷ []) fullShare b·out o·out γ·2-out (length out) out ok·kept (Ticket′.make y1-0 (Fill′.ok-Put-0 y1-0 y1-1 y1-2 (subst Fill′.Ok m·1 ok·step))) (Fill′.ok-Put-1 y1-0 y1-1 y1-2 (subst Fill′.Ok m·1 ok·step)) (Fill′.ok-Put-2 y1-0 y1-1 y1-2 (subst Fill′.Ok m·1 ok·step)) (and-then ! (load ! (from ! (stop !)) (look ! 86 refl)) (and-then ! (load ! (from ! (stop !)) (look ! 40 refl)) (and-then ! (load ! (from ! (stop !)) (look ! 64 refl)) (and-then ! (load ! (from ! (stop !)) (look ! 62 refl)) (and-then ! (load ! (from ! (stop !)) (look ! 36 refl)) (and-then ! (load ! (from ! (stop !)) (look ! 32 refl)) (and-then ! (load ! (from ! (stop !)) (look ! 28 refl)) (and-then ! (load ! (from ! (stop !)) (look ! 24 refl)) (no-more !)))))))))
+      (λ r2 pages₂ register₂ out₂ ok·2 same·2-pages same·2-register same·2-out. move ! (0 ∷ 1 ∷ 11 ∷ []) $ back-mut ! tt u8 κ·pages q·pages b·pages o·pages γ·pages (length pages) pages pages₂ ν·2-pages γ·2-pages (refl) same·2-pages room·pages $ move ! (2 ∷ 3 ∷ 10 ∷ []) $ back-shr ! tt u32 κ·nodes q·nodes b·nodes o·nodes γ·nodes (length nodes) nodes ν·2-nodes (refl) room·nodes $ move ! (4 ∷ 5 ∷ 9 ∷ []) $ back-mut ! tt Record′.row κ·register q·register b·register o·register γ·register (length register) register register₂ ν·2-register γ·2-register (refl) same·2-register room·register $ move ! (6 ∷ 7 ∷ 8 ∷ []) $ back-mut ! tt u8 κ·out q·out b·out o·out γ·out (length out) out out₂ ν·2-out γ·2-out (refl) same·2-out room·out $ move ! (6 ∷ 7 ∷ 4 ∷ 5 ∷ 2 ∷ 3 ∷ 0 ∷ 1 ∷ []) $ land ! (from ! (stop !)) (init ! 60 refl (Turn′.typed 𝓤 H A W r2 ok·2)) $
+      here ! (‵ (flft κ·pages q·pages) ∷ ‵ (MutAt u8 κ·pages b·pages o·pages γ·pages (length pages) pages₂) ∷ ‵ (flft κ·nodes q·nodes) ∷ ‵ (MutAt u32 κ·nodes b·nodes o·nodes γ·nodes (length nodes) nodes) ∷ ‵ (flft κ·register q·register) ∷ ‵ (MutAt Record′.row κ·register b·register o·register γ·register (length register) register₂) ∷ ‵ (flft κ·out q·out) ∷ ‵ (MutAt u8 κ·out b·out o·out γ·out (length out) out₂) ∷ empty (sliceTy (tyRef erased mut (pointee (u8 .written)))) l₄₁ (empty (tyRef erased mut (pointee (u8 .written))) l₄₀ (empty (sliceTy (tyRef erased mut (pointee (Record′.row .written)))) l₃₉ (empty (tyRef erased mut (pointee (Record′.row .written))) l₃₈ (empty (sliceTy (tyRef erased mut (pointee (u32 .written)))) l₃₇ (empty (tyRef erased mut (pointee (u32 .written))) l₃₆ (empty (sliceTy (tyRef erased imm (pointee (u8 .written)))) l₃₅ (empty (tyRef erased imm (pointee (u8 .written))) l₃₄ (empty (tyAt (code.function .locals) 33) l₃₃ (holds (sliceTy (tyRef erased mut (pointee (u8 .written)))) l₃₂ (sliceVal (b·out, o·out) (length out)) (holds (tyRef erased mut (pointee (u8 .written))) l₃₁ (vptr b·out o·out) (holds (sliceTy (tyRef erased mut (pointee (Record′.row .written)))) l₃₀ (sliceVal (b·register, o·register) (length register)) (holds (tyRef erased mut (pointee (Record′.row .written))) l₂₉ (vptr b·register o·register) (holds (sliceTy (tyRef erased imm (pointee (u32 .written)))) l₂₈ (sliceVal (b·nodes, o·nodes) (length nodes)) (holds (tyRef erased imm (pointee (u32 .written))) l₂₇ (vptr b·nodes o·nodes) (holds (sliceTy (tyRef erased mut (pointee (u8 .written)))) l₂₆ (sliceVal (b·pages, o·pages) (length pages)) (holds (tyRef erased mut (pointee (u8 .written))) l₂₅ (vptr b·pages o·pages) (holds (tyAt (code.function .locals) 24) l₂₄ (Ticket′.mach (Ticket′.build y1-0)) (empty (sliceTy (tyRef erased mut (pointee (u8 .written)))) l₂₃ (empty (tyRef erased mut (pointee (u8 .written))) l₂₂ (empty (sliceTy (tyRef erased mut (pointee (Record′.row .written)))) l₂₁ (empty (tyRef erased mut (pointee (Record′.row .written))) l₂₀ (empty (sliceTy (tyRef erased mut (pointee (u32 .written)))) l₁₉ (empty (tyRef erased mut (pointee (u32 .written))) l₁₈ (empty (sliceTy (tyRef erased mut (pointee (u8 .written)))) l₁₇ (empty (tyRef erased mut (pointee (u8 .written))) l₁₆ (holds (tyAt (code.function .locals) 15) l₁₅ (Turn′.mach r2) (empty (tyInt w64) l₁₄ (holds (tyInt w64) l₁₃ (vint w64 y1-2) (holds (tyInt w64) l₁₂ (vint w64 y1-1) (holds (tyInt w64) l₁₁ (vint w64 y1-0) (empty (tyInt w64) l₁₀ (empty (tyInt w64) l₉ (empty (tyInt w64) l₈ (empty (tyInt w64) l₇ (holds (sliceTy (tyRef (named 3) mut (pointee (u8 .written)))) l₆ (sliceVal (b·out, o·out) (length out)) (holds (sliceTy (tyRef (named 2) mut (pointee (Record′.row .written)))) l₅ (sliceVal (b·register, o·register) (length register)) (holds (sliceTy (tyRef (named 1) mut (pointee (u32 .written)))) l₄ (sliceVal (b·nodes, o·nodes) (length nodes)) (holds (sliceTy (tyRef (named 0) mut (pointee (u8 .written)))) l₃ (sliceVal (b·pages, o·pages) (length pages)) (holds (tyAt (code.function .locals) 2) l₂ (Fill′.mach (Fill.Put y1-0 y1-1 y1-2)) (holds (tyAt (code.function .locals) 1) l₁ (Kept′.mach kept) (empty (tyAt (code.function .locals) 0) l₀ [])))))))))))))))))))))))))))))))))))))))))) $
+      assigns ! (of-opd ! (load ! (from ! (stop !)) (look ! 60 refl))) (from ! (stop !)) (init ! 90 refl (Turn′.typed 𝓤 H A W r2 ok·2)) $
+      returns ! (look ! 90 refl) $
+      move ! (90 ∷ 91 ∷ []) $ forget ! 0 refl $ free1 ! $ move ! (88 ∷ 89 ∷ []) $ forget ! 0 refl $ free1 ! $ move ! (86 ∷ 87 ∷ []) $ forget ! 0 refl $ free1 ! $ move ! (84 ∷ 85 ∷ []) $ forget ! 0 refl $ free1 ! $ move ! (82 ∷ 83 ∷ []) $ forget ! 0 refl $ free1 ! $ move ! (80 ∷ 81 ∷ []) $ forget ! 0 refl $ free1 ! $ move ! (78 ∷ 79 ∷ []) $ forget ! 0 refl $ free1 ! $ move ! (76 ∷ 77 ∷ []) $ free1 ! $ move ! (74 ∷ 75 ∷ []) $ free1 ! $ move ! (72 ∷ 73 ∷ []) $ free1 ! $ move ! (70 ∷ 71 ∷ []) $ free1 ! $ move ! (68 ∷ 69 ∷ []) $ forget ! 0 refl $ free1 ! $ move ! (66 ∷ 67 ∷ []) $ forget ! 0 refl $ free1 ! $ move ! (64 ∷ 65 ∷ []) $ forget ! 0 refl $ free1 ! $ move ! (62 ∷ 63 ∷ []) $ free1 ! $ move ! (60 ∷ 61 ∷ []) $ forget ! 0 refl $ free1 ! $ move ! (58 ∷ 59 ∷ []) $ free1 ! $ move ! (56 ∷ 57 ∷ []) $ free1 ! $ move ! (54 ∷ 55 ∷ []) $ free1 ! $ move ! (52 ∷ 53 ∷ []) $ free1 ! $ move ! (50 ∷ 51 ∷ []) $ free1 ! $ move ! (48 ∷ 49 ∷ []) $ free1 ! $ move ! (46 ∷ 47 ∷ []) $ free1 ! $ move ! (44 ∷ 45 ∷ []) $ free1 ! $ move ! (42 ∷ 43 ∷ []) $ forget ! 0 refl $ free1 ! $ move ! (40 ∷ 41 ∷ []) $ forget ! 0 refl $ free1 ! $ move ! (38 ∷ 39 ∷ []) $ forget ! 0 refl $ free1 ! $ move ! (36 ∷ 37 ∷ []) $ forget ! 0 refl $ free1 ! $ move ! (34 ∷ 35 ∷ []) $ forget ! 0 refl $ free1 ! $ move ! (32 ∷ 33 ∷ []) $ forget ! 0 refl $ free1 ! $ move ! (30 ∷ 31 ∷ []) $ forget ! 0 refl $ free1 ! $ move ! (28 ∷ 29 ∷ []) $ forget ! 0 refl $ free1 ! $ move ! (26 ∷ 27 ∷ []) $ forget ! 0 refl $ free1 ! $ move ! (24 ∷ 25 ∷ []) $ free1 ! $ move ! (22 ∷ 23 ∷ []) $ free1 ! $ move ! (20 ∷ 21 ∷ []) $ free1 ! $ move ! (18 ∷ 19 ∷ []) $ free1 ! $ move ! (16 ∷ 17 ∷ []) $ free1 ! $ move ! (14 ∷ 15 ∷ []) $ free1 ! $ move ! (12 ∷ 13 ∷ []) $ free1 ! $ move ! (10 ∷ 11 ∷ []) $ free1 ! $ move ! (8 ∷ 9 ∷ []) $ free1 ! $ free0 ! $ by ! (exits r2 ok·2 pages₂ (sym (refl ∙ sym same·2-pages)) nodes (sym (refl)) register₂ (sym (refl ∙ sym same·2-register)) out₂ (sym (refl ∙ sym same·2-out))))))))))
+      (λ y1-0 m·1. rewrite ! 86 (λ (u : Fill). ‵ (fat fullShare Fill′.ty l₂ 0 (Fill′.mach u))) m·1 refl $ switches-to ! 2 (load ! (from ! (vrt ! refl (fld ! refl (stop !)))) (look-tag ! 86 (whole !))) (
       regroup ! $
-      assigns ! (of-opd ! (load ! (from ! (vrt ! refl (fld ! refl (stop !)))) (look-in ! 76 (in-variant ! 2 0 refl refl (whole !))))) (from ! (stop !)) (init ! 58 refl (Ticket′.typed 𝓤 H A W y1-0 (Fill′.ok-Weave-0 y1-0 (subst Fill′.Ok m·1 ok·step)))) $
+      assigns ! (of-opd ! (load ! (from ! (vrt ! refl (fld ! refl (stop !)))) (look-in ! 86 (in-variant ! 2 0 refl refl (whole !))))) (from ! (stop !)) (init ! 62 refl (tt, record { fits = (Fill′.ok-Weave-0 y1-0 (subst Fill′.Ok m·1 ok·step)) .1 })) $
       regroup ! $
-      assigns ! (addr ! (from ! (fld ! refl (hop ! (look-in ! 74 (sub ! 0 refl (whole !))) (stop !))))) (from ! (stop !)) (init ! 22 refl (tt, tt)) $
+      assigns ! (agg ! (and-then ! (load ! (from ! (stop !)) (look ! 62 refl)) (no-more !))) (from ! (stop !)) (init ! 24 refl (Ticket′.typed 𝓤 H A W (Ticket′.build y1-0) (Ticket′.make y1-0 (Fill′.ok-Weave-0 y1-0 (subst Fill′.Ok m·1 ok·step))))) $
       regroup ! $
-      assigns ! (agg ! (and-then ! (load ! (from ! (stop !)) (look ! 22 refl)) (and-then ! (load ! (from ! (fld ! refl (stop !))) (look-in ! 74 (sub ! 1 refl (whole !)))) (no-more !)))) (from ! (stop !)) (init ! 20 refl (tt, (tt, (record { fits = room·pages .0 }, tt)))) $
+      assigns ! (addr ! (from ! (fld ! refl (hop ! (look-in ! 84 (sub ! 0 refl (whole !))) (stop !))))) (from ! (stop !)) (init ! 22 refl (tt, tt)) $
       regroup ! $
-      assigns ! (addr ! (from ! (fld ! refl (hop ! (look-in ! 72 (sub ! 0 refl (whole !))) (stop !))))) (from ! (stop !)) (init ! 18 refl (tt, tt)) $
+      assigns ! (agg ! (and-then ! (load ! (from ! (stop !)) (look ! 22 refl)) (and-then ! (load ! (from ! (fld ! refl (stop !))) (look-in ! 84 (sub ! 1 refl (whole !)))) (no-more !)))) (from ! (stop !)) (init ! 20 refl (tt, (tt, (record { fits = room·pages .0 }, tt)))) $
       regroup ! $
-      assigns ! (agg ! (and-then ! (load ! (from ! (stop !)) (look ! 18 refl)) (and-then ! (load ! (from ! (fld ! refl (stop !))) (look-in ! 72 (sub ! 1 refl (whole !)))) (no-more !)))) (from ! (stop !)) (init ! 16 refl (tt, (tt, (record { fits = room·nodes .0 }, tt)))) $
+      assigns ! (addr ! (from ! (fld ! refl (hop ! (look-in ! 82 (sub ! 0 refl (whole !))) (stop !))))) (from ! (stop !)) (init ! 18 refl (tt, tt)) $
       regroup ! $
-      assigns ! (addr ! (from ! (fld ! refl (hop ! (look-in ! 70 (sub ! 0 refl (whole !))) (stop !))))) (from ! (stop !)) (init ! 14 refl (tt, tt)) $
+      assigns ! (agg ! (and-then ! (load ! (from ! (stop !)) (look ! 18 refl)) (and-then ! (load ! (from ! (fld ! refl (stop !))) (look-in ! 82 (sub ! 1 refl (whole !)))) (no-more !)))) (from ! (stop !)) (init ! 16 refl (tt, (tt, (record { fits = room·nodes .0 }, tt)))) $
       regroup ! $
-      assigns ! (agg ! (and-then ! (load ! (from ! (stop !)) (look ! 14 refl)) (and-then ! (load ! (from ! (fld ! refl (stop !))) (look-in ! 70 (sub ! 1 refl (whole !)))) (no-more !)))) (from ! (stop !)) (init ! 12 refl (tt, (tt, (record { fits = room·register .0 }, tt)))) $
+      assigns ! (addr ! (from ! (fld ! refl (hop ! (look-in ! 80 (sub ! 0 refl (whole !))) (stop !))))) (from ! (stop !)) (init ! 14 refl (tt, tt)) $
       regroup ! $
-      assigns ! (addr ! (from ! (fld ! refl (hop ! (look-in ! 68 (sub ! 0 refl (whole !))) (stop !))))) (from ! (stop !)) (init ! 10 refl (tt, tt)) $
+      assigns ! (agg ! (and-then ! (load ! (from ! (stop !)) (look ! 14 refl)) (and-then ! (load ! (from ! (fld ! refl (stop !))) (look-in ! 80 (sub ! 1 refl (whole !)))) (no-more !)))) (from ! (stop !)) (init ! 12 refl (tt, (tt, (record { fits = room·register .0 }, tt)))) $
       regroup ! $
-      assigns ! (agg ! (and-then ! (load ! (from ! (stop !)) (look ! 10 refl)) (and-then ! (load ! (from ! (fld ! refl (stop !))) (look-in ! 68 (sub ! 1 refl (whole !)))) (no-more !)))) (from ! (stop !)) (init ! 8 refl (tt, (tt, (record { fits = room·out .0 }, tt)))) $
+      assigns ! (addr ! (from ! (fld ! refl (hop ! (look-in ! 78 (sub ! 0 refl (whole !))) (stop !))))) (from ! (stop !)) (init ! 10 refl (tt, tt)) $
+      regroup ! $
+      assigns ! (agg ! (and-then ! (load ! (from ! (stop !)) (look ! 10 refl)) (and-then ! (load ! (from ! (fld ! refl (stop !))) (look-in ! 78 (sub ! 1 refl (whole !)))) (no-more !)))) (from ! (stop !)) (init ! 8 refl (tt, (tt, (record { fits = room·out .0 }, tt)))) $
       lend-shr ! tt u8 κ·pages q·pages b·pages o·pages γ·pages (length pages) pages (refl) (λ ν·3-pages γ·3-pages. move ! (3 ∷ 4 ∷ []) $ lend-mut ! tt u32 κ·nodes q·nodes b·nodes o·nodes γ·nodes (length nodes) nodes (refl) (λ ν·3-nodes γ·3-nodes. move ! (6 ∷ 7 ∷ []) $ lend-mut ! tt Record′.row κ·register q·register b·register o·register γ·register (length register) register (refl) (λ ν·3-register γ·3-register. move ! (9 ∷ 10 ∷ []) $ lend-mut ! tt u8 κ·out q·out b·out o·out γ·out (length out) out (refl) (λ ν·3-out γ·3-out. move ! (9 ∷ 10 ∷ 6 ∷ 7 ∷ 3 ∷ 4 ∷ 0 ∷ 1 ∷ []) $
-      Call-weave-step.calls ! mem run (fmOf 𝓤 H (W .laws) 𝓣) known-weave-step kept y1-0 (ν·3-pages ∷ []) fullShare b·pages o·pages γ·3-pages (length pages) pages (ν·3-nodes ∷ []) fullShare b·nodes o·nodes γ·3-nodes (length nodes) nodes (ν·3-register ∷ []) fullShare b·register o·register γ·3-register (length register) register (ν·3-out ∷ []) fullShare b·out o·out γ·3-out (length out) out ok·kept (Fill′.ok-Weave-0 y1-0 (subst Fill′.Ok m·1 ok·step)) (and-then ! (load ! (from ! (stop !)) (look ! 76 refl)) (and-then ! (load ! (from ! (stop !)) (look ! 56 refl)) (and-then ! (load ! (from ! (stop !)) (look ! 18 refl)) (and-then ! (load ! (from ! (stop !)) (look ! 14 refl)) (and-then ! (load ! (from ! (stop !)) (look ! 10 refl)) (and-then ! (load ! (from ! (stop !)) (look ! 6 refl)) (no-more !)))))))
-      (λ r3 nodes₃ register₃ out₃ ok·3 same·3-nodes same·3-register same·3-out. move ! (0 ∷ 1 ∷ 11 ∷ []) $ back-shr ! tt u8 κ·pages q·pages b·pages o·pages γ·pages (length pages) pages ν·3-pages (refl) room·pages $ move ! (2 ∷ 3 ∷ 10 ∷ []) $ back-mut ! tt u32 κ·nodes q·nodes b·nodes o·nodes γ·nodes (length nodes) nodes nodes₃ ν·3-nodes γ·3-nodes (refl) same·3-nodes room·nodes $ move ! (4 ∷ 5 ∷ 9 ∷ []) $ back-mut ! tt Record′.row κ·register q·register b·register o·register γ·register (length register) register register₃ ν·3-register γ·3-register (refl) same·3-register room·register $ move ! (6 ∷ 7 ∷ 8 ∷ []) $ back-mut ! tt u8 κ·out q·out b·out o·out γ·out (length out) out out₃ ν·3-out γ·3-out (refl) same·3-out room·out $ move ! (6 ∷ 7 ∷ 4 ∷ 5 ∷ 2 ∷ 3 ∷ 0 ∷ 1 ∷ []) $ land ! (from ! (stop !)) (init ! 56 refl (Turn′.typed 𝓤 H A W r3 ok·3)) $
-      here ! (‵ (flft κ·pages q·pages) ∷ ‵ (MutAt u8 κ·pages b·pages o·pages γ·pages (length pages) pages) ∷ ‵ (flft κ·nodes q·nodes) ∷ ‵ (MutAt u32 κ·nodes b·nodes o·nodes γ·nodes (length nodes) nodes₃) ∷ ‵ (flft κ·register q·register) ∷ ‵ (MutAt Record′.row κ·register b·register o·register γ·register (length register) register₃) ∷ ‵ (flft κ·out q·out) ∷ ‵ (MutAt u8 κ·out b·out o·out γ·out (length out) out₃) ∷ holds (sliceTy (tyRef erased mut (pointee (u8 .written)))) l₃₆ (sliceVal (b·out, o·out) (length out)) (holds (tyRef erased mut (pointee (u8 .written))) l₃₅ (vptr b·out o·out) (holds (sliceTy (tyRef erased mut (pointee (Record′.row .written)))) l₃₄ (sliceVal (b·register, o·register) (length register)) (holds (tyRef erased mut (pointee (Record′.row .written))) l₃₃ (vptr b·register o·register) (holds (sliceTy (tyRef erased mut (pointee (u32 .written)))) l₃₂ (sliceVal (b·nodes, o·nodes) (length nodes)) (holds (tyRef erased mut (pointee (u32 .written))) l₃₁ (vptr b·nodes o·nodes) (holds (sliceTy (tyRef erased imm (pointee (u8 .written)))) l₃₀ (sliceVal (b·pages, o·pages) (length pages)) (holds (tyRef erased imm (pointee (u8 .written))) l₂₉ (vptr b·pages o·pages) (empty (sliceTy (tyRef erased mut (pointee (u8 .written)))) l₂₈ (empty (tyRef erased mut (pointee (u8 .written))) l₂₇ (empty (sliceTy (tyRef erased mut (pointee (Record′.row .written)))) l₂₆ (empty (tyRef erased mut (pointee (Record′.row .written))) l₂₅ (empty (sliceTy (tyRef erased imm (pointee (u32 .written)))) l₂₄ (empty (tyRef erased imm (pointee (u32 .written))) l₂₃ (empty (sliceTy (tyRef erased mut (pointee (u8 .written)))) l₂₂ (empty (tyRef erased mut (pointee (u8 .written))) l₂₁ (empty (sliceTy (tyRef erased mut (pointee (u8 .written)))) l₂₀ (empty (tyRef erased mut (pointee (u8 .written))) l₁₉ (empty (sliceTy (tyRef erased mut (pointee (Record′.row .written)))) l₁₈ (empty (tyRef erased mut (pointee (Record′.row .written))) l₁₇ (empty (sliceTy (tyRef erased mut (pointee (u32 .written)))) l₁₆ (empty (tyRef erased mut (pointee (u32 .written))) l₁₅ (empty (sliceTy (tyRef erased mut (pointee (u8 .written)))) l₁₄ (empty (tyRef erased mut (pointee (u8 .written))) l₁₃ (holds (tyAt (code.function .locals) 12) l₁₂ (Turn′.mach r3) (holds (tyAt (code.function .locals) 11) l₁₁ (Ticket′.mach y1-0) (empty (tyInt w64) l₁₀ (empty (tyInt w64) l₉ (empty (tyAt (code.function .locals) 8) l₈ (empty (tyAt (code.function .locals) 7) l₇ (holds (sliceTy (tyRef (named 3) mut (pointee (u8 .written)))) l₆ (sliceVal (b·out, o·out) (length out)) (holds (sliceTy (tyRef (named 2) mut (pointee (Record′.row .written)))) l₅ (sliceVal (b·register, o·register) (length register)) (holds (sliceTy (tyRef (named 1) mut (pointee (u32 .written)))) l₄ (sliceVal (b·nodes, o·nodes) (length nodes)) (holds (sliceTy (tyRef (named 0) mut (pointee (u8 .written)))) l₃ (sliceVal (b·pages, o·pages) (length pages)) (holds (tyAt (code.function .locals) 2) l₂ (Fill′.mach (Fill.Weave y1-0)) (holds (tyAt (code.function .locals) 1) l₁ (Kept′.mach kept) (empty (tyAt (code.function .locals) 0) l₀ []))))))))))))))))))))))))))))))))))))) $
-      assigns ! (of-opd ! (load ! (from ! (stop !)) (look ! 56 refl))) (from ! (stop !)) (init ! 80 refl (Turn′.typed 𝓤 H A W r3 ok·3)) $
-      returns ! (look ! 80 refl) $
-      move ! (80 ∷ 81 ∷ []) $ forget ! 0 refl $ free1 ! $ move ! (78 ∷ 79 ∷ []) $ forget ! 0 refl $ free1 ! $ move ! (76 ∷ 77 ∷ []) $ forget ! 0 refl $ free1 ! $ move ! (74 ∷ 75 ∷ []) $ forget ! 0 refl $ free1 ! $ move ! (72 ∷ 73 ∷ []) $ forget ! 0 refl $ free1 ! $ move ! (70 ∷ 71 ∷ []) $ forget ! 0 refl $ free1 ! $ move ! (68 ∷ 69 ∷ []) $ forget ! 0 refl $ free1 ! $ move ! (66 ∷ 67 ∷ []) $ free1 ! $ move ! (64 ∷ 65 ∷ []) $ free1 ! $ move ! (62 ∷ 63 ∷ []) $ free1 ! $ move ! (60 ∷ 61 ∷ []) $ free1 ! $ move ! (58 ∷ 59 ∷ []) $ forget ! 0 refl $ free1 ! $ move ! (56 ∷ 57 ∷ []) $ forget ! 0 refl $ free1 ! $ move ! (54 ∷ 55 ∷ []) $ free1 ! $ move ! (52 ∷ 53 ∷ []) $ free1 ! $ move ! (50 ∷ 51 ∷ []) $ free1 ! $ move ! (48 ∷ 49 ∷ []) $ free1 ! $ move ! (46 ∷ 47 ∷ []) $ free1 ! $ move ! (44 ∷ 45 ∷ []) $ free1 ! $ move ! (42 ∷ 43 ∷ []) $ free1 ! $ move ! (40 ∷ 41 ∷ []) $ free1 ! $ move ! (38 ∷ 39 ∷ []) $ free1 ! $ move ! (36 ∷ 37 ∷ []) $ free1 ! $ move ! (34 ∷ 35 ∷ []) $ free1 ! $ move ! (32 ∷ 33 ∷ []) $ free1 ! $ move ! (30 ∷ 31 ∷ []) $ free1 ! $ move ! (28 ∷ 29 ∷ []) $ free1 ! $ move ! (26 ∷ 27 ∷ []) $ free1 ! $ move ! (24 ∷ 25 ∷ []) $ free1 ! $ move ! (22 ∷ 23 ∷ []) $ forget ! 0 refl $ free1 ! $ move ! (20 ∷ 21 ∷ []) $ forget ! 0 refl $ free1 ! $ move ! (18 ∷ 19 ∷ []) $ forget ! 0 refl $ free1 ! $ move ! (16 ∷ 17 ∷ []) $ forget ! 0 refl $ free1 ! $ move ! (14 ∷ 15 ∷ []) $ forget ! 0 refl $ free1 ! $ move ! (12 ∷ 13 ∷ []) $ forget ! 0 refl $ free1 ! $ move ! (10 ∷ 11 ∷ []) $ forget ! 0 refl $ free1 ! $ move ! (8 ∷ 9 ∷ []) $ forget ! 0 refl $ free1 ! $ free0 ! $ by ! (exits r3 ok·3 pages (sym (refl)) nodes₃ (sym (refl ∙ sym same·3-nodes)) register₃ (sym (refl ∙ sym same·3-register)) out₃ (sym (refl ∙ sym same·3-out)))))))))))))))))))))))))))))))))))))))))))))))
+      Call-weave-step.calls ! mem run (fmOf 𝓤 H (W .laws) 𝓣) known-weave-step kept (Ticket′.build y1-0) (ν·3-pages ∷ []) fullShare b·pages o·pages γ·3-pages (length pages) pages (ν·3-nodes ∷ []) fullShare b·nodes o·nodes γ·3-nodes (length nodes) nodes (ν·3-register ∷ []) fullShare b·register o·register γ·3-register (length register) register (ν·3-out ∷ []) fullShare b·out o·out γ·3-out (length out) out ok·kept (Ticket′.make y1-0 (Fill′.ok-Weave-0 y1-0 (subst Fill′.Ok m·1 ok·step))) (and-then ! (load ! (from ! (stop !)) (look ! 86 refl)) (and-then ! (load ! (from ! (stop !)) (look ! 22 refl)) (and-then ! (load ! (from ! (stop !)) (look ! 18 refl)) (and-then ! (load ! (from ! (stop !)) (look ! 14 refl)) (and-then ! (load ! (from ! (stop !)) (look ! 10 refl)) (and-then ! (load ! (from ! (stop !)) (look ! 6 refl)) (no-more !)))))))
+      (λ r3 nodes₃ register₃ out₃ ok·3 same·3-nodes same·3-register same·3-out. move ! (0 ∷ 1 ∷ 11 ∷ []) $ back-shr ! tt u8 κ·pages q·pages b·pages o·pages γ·pages (length pages) pages ν·3-pages (refl) room·pages $ move ! (2 ∷ 3 ∷ 10 ∷ []) $ back-mut ! tt u32 κ·nodes q·nodes b·nodes o·nodes γ·nodes (length nodes) nodes nodes₃ ν·3-nodes γ·3-nodes (refl) same·3-nodes room·nodes $ move ! (4 ∷ 5 ∷ 9 ∷ []) $ back-mut ! tt Record′.row κ·register q·register b·register o·register γ·register (length register) register register₃ ν·3-register γ·3-register (refl) same·3-register room·register $ move ! (6 ∷ 7 ∷ 8 ∷ []) $ back-mut ! tt u8 κ·out q·out b·out o·out γ·out (length out) out out₃ ν·3-out γ·3-out (refl) same·3-out room·out $ move ! (6 ∷ 7 ∷ 4 ∷ 5 ∷ 2 ∷ 3 ∷ 0 ∷ 1 ∷ []) $ land ! (from ! (stop !)) (init ! 60 refl (Turn′.typed 𝓤 H A W r3 ok·3)) $
+      here ! (‵ (flft κ·pages q·pages) ∷ ‵ (MutAt u8 κ·pages b·pages o·pages γ·pages (length pages) pages) ∷ ‵ (flft κ·nodes q·nodes) ∷ ‵ (MutAt u32 κ·nodes b·nodes o·nodes γ·nodes (length nodes) nodes₃) ∷ ‵ (flft κ·register q·register) ∷ ‵ (MutAt Record′.row κ·register b·register o·register γ·register (length register) register₃) ∷ ‵ (flft κ·out q·out) ∷ ‵ (MutAt u8 κ·out b·out o·out γ·out (length out) out₃) ∷ holds (sliceTy (tyRef erased mut (pointee (u8 .written)))) l₄₁ (sliceVal (b·out, o·out) (length out)) (holds (tyRef erased mut (pointee (u8 .written))) l₄₀ (vptr b·out o·out) (holds (sliceTy (tyRef erased mut (pointee (Record′.row .written)))) l₃₉ (sliceVal (b·register, o·register) (length register)) (holds (tyRef erased mut (pointee (Record′.row .written))) l₃₈ (vptr b·register o·register) (holds (sliceTy (tyRef erased mut (pointee (u32 .written)))) l₃₇ (sliceVal (b·nodes, o·nodes) (length nodes)) (holds (tyRef erased mut (pointee (u32 .written))) l₃₆ (vptr b·nodes o·nodes) (holds (sliceTy (tyRef erased imm (pointee (u8 .written)))) l₃₅ (sliceVal (b·pages, o·pages) (length pages)) (holds (tyRef erased imm (pointee (u8 .written))) l₃₄ (vptr b·pages o·pages) (holds (tyAt (code.function .locals) 33) l₃₃ (Ticket′.mach (Ticket′.build y1-0)) (empty (sliceTy (tyRef erased mut (pointee (u8 .written)))) l₃₂ (empty (tyRef erased mut (pointee (u8 .written))) l₃₁ (empty (sliceTy (tyRef erased mut (pointee (Record′.row .written)))) l₃₀ (empty (tyRef erased mut (pointee (Record′.row .written))) l₂₉ (empty (sliceTy (tyRef erased imm (pointee (u32 .written)))) l₂₈ (empty (tyRef erased imm (pointee (u32 .written))) l₂₇ (empty (sliceTy (tyRef erased mut (pointee (u8 .written)))) l₂₆ (empty (tyRef erased mut (pointee (u8 .written))) l₂₅ (empty (tyAt (code.function .locals) 24) l₂₄ (empty (sliceTy (tyRef erased mut (pointee (u8 .written)))) l₂₃ (empty (tyRef erased mut (pointee (u8 .written))) l₂₂ (empty (sliceTy (tyRef erased mut (pointee (Record′.row .written)))) l₂₁ (empty (tyRef erased mut (pointee (Record′.row .written))) l₂₀ (empty (sliceTy (tyRef erased mut (pointee (u32 .written)))) l₁₉ (empty (tyRef erased mut (pointee (u32 .written))) l₁₈ (empty (sliceTy (tyRef erased mut (pointee (u8 .written)))) l₁₇ (empty (tyRef erased mut (pointee (u8 .written))) l₁₆ (holds (tyAt (code.function .locals) 15) l₁₅ (Turn′.mach r3) (holds (tyInt w64) l₁₄ (vint w64 y1-0) (empty (tyInt w64) l₁₃ (empty (tyInt w64) l₁₂ (empty (tyInt w64) l₁₁ (empty (tyInt w64) l₁₀ (empty (tyInt w64) l₉ (empty (tyInt w64) l₈ (empty (tyInt w64) l₇ (holds (sliceTy (tyRef (named 3) mut (pointee (u8 .written)))) l₆ (sliceVal (b·out, o·out) (length out)) (holds (sliceTy (tyRef (named 2) mut (pointee (Record′.row .written)))) l₅ (sliceVal (b·register, o·register) (length register)) (holds (sliceTy (tyRef (named 1) mut (pointee (u32 .written)))) l₄ (sliceVal (b·nodes, o·nodes) (length nodes)) (holds (sliceTy (tyRef (named 0) mut (pointee (u8 .written)))) l₃ (sliceVal (b·pages, o·pages) (length pages)) (holds (tyAt (code.function .locals) 2) l₂ (Fill′.mach (Fill.Weave y1-0)) (holds (tyAt (code.function .locals) 1) l₁ (Kept′.mach kept) (empty (tyAt (code.function .locals) 0) l₀ [])))))))))))))))))))))))))))))))))))))))))) $
+      assigns ! (of-opd ! (load ! (from ! (stop !)) (look ! 60 refl))) (from ! (stop !)) (init ! 90 refl (Turn′.typed 𝓤 H A W r3 ok·3)) $
+      returns ! (look ! 90 refl) $
+      move ! (90 ∷ 91 ∷ []) $ forget ! 0 refl $ free1 ! $ move ! (88 ∷ 89 ∷ []) $ forget ! 0 refl $ free1 ! $ move ! (86 ∷ 87 ∷ []) $ forget ! 0 refl $ free1 ! $ move ! (84 ∷ 85 ∷ []) $ forget ! 0 refl $ free1 ! $ move ! (82 ∷ 83 ∷ []) $ forget ! 0 refl $ free1 ! $ move ! (80 ∷ 81 ∷ []) $ forget ! 0 refl $ free1 ! $ move ! (78 ∷ 79 ∷ []) $ forget ! 0 refl $ free1 ! $ move ! (76 ∷ 77 ∷ []) $ free1 ! $ move ! (74 ∷ 75 ∷ []) $ free1 ! $ move ! (72 ∷ 73 ∷ []) $ free1 ! $ move ! (70 ∷ 71 ∷ []) $ free1 ! $ move ! (68 ∷ 69 ∷ []) $ free1 ! $ move ! (66 ∷ 67 ∷ []) $ free1 ! $ move ! (64 ∷ 65 ∷ []) $ free1 ! $ move ! (62 ∷ 63 ∷ []) $ forget ! 0 refl $ free1 ! $ move ! (60 ∷ 61 ∷ []) $ forget ! 0 refl $ free1 ! $ move ! (58 ∷ 59 ∷ []) $ free1 ! $ move ! (56 ∷ 57 ∷ []) $ free1 ! $ move ! (54 ∷ 55 ∷ []) $ free1 ! $ move ! (52 ∷ 53 ∷ []) $ free1 ! $ move ! (50 ∷ 51 ∷ []) $ free1 ! $ move ! (48 ∷ 49 ∷ []) $ free1 ! $ move ! (46 ∷ 47 ∷ []) $ free1 ! $ move ! (44 ∷ 45 ∷ []) $ free1 ! $ move ! (42 ∷ 43 ∷ []) $ free1 ! $ move ! (40 ∷ 41 ∷ []) $ free1 ! $ move ! (38 ∷ 39 ∷ []) $ free1 ! $ move ! (36 ∷ 37 ∷ []) $ free1 ! $ move ! (34 ∷ 35 ∷ []) $ free1 ! $ move ! (32 ∷ 33 ∷ []) $ free1 ! $ move ! (30 ∷ 31 ∷ []) $ free1 ! $ move ! (28 ∷ 29 ∷ []) $ free1 ! $ move ! (26 ∷ 27 ∷ []) $ free1 ! $ move ! (24 ∷ 25 ∷ []) $ forget ! 0 refl $ free1 ! $ move ! (22 ∷ 23 ∷ []) $ forget ! 0 refl $ free1 ! $ move ! (20 ∷ 21 ∷ []) $ forget ! 0 refl $ free1 ! $ move ! (18 ∷ 19 ∷ []) $ forget ! 0 refl $ free1 ! $ move ! (16 ∷ 17 ∷ []) $ forget ! 0 refl $ free1 ! $ move ! (14 ∷ 15 ∷ []) $ forget ! 0 refl $ free1 ! $ move ! (12 ∷ 13 ∷ []) $ forget ! 0 refl $ free1 ! $ move ! (10 ∷ 11 ∷ []) $ forget ! 0 refl $ free1 ! $ move ! (8 ∷ 9 ∷ []) $ forget ! 0 refl $ free1 ! $ free0 ! $ by ! (exits r3 ok·3 pages (sym (refl)) nodes₃ (sym (refl ∙ sym same·3-nodes)) register₃ (sym (refl ∙ sym same·3-register)) out₃ (sym (refl ∙ sym same·3-out))))))))))))))))))))))))))))))))))))))))))))))))))))
 
 module _ {M : Type 1} (𝓤 : URA M) (H : Heap 𝓤) (A : Atoms 𝓤) (W : Given 𝓤 H A) (mem : Memory → SProp 𝓤) (run : Routine → Fun 𝓤) where
   walks : (𝓣 : Tables 𝓤 H) → Triple 𝓤 (𝓣 .C #format-step) (Call-format-step.Asked 𝓤 H A mem run) → Triple 𝓤 (𝓣 .C #put-step) (Call-put-step.Asked 𝓤 H A mem run) → Triple 𝓤 (𝓣 .C #weave-step) (Call-weave-step.Asked 𝓤 H A mem run) → Walks 𝓤 H A fill-step‴.ended stayed (WpFn 𝓤 H (𝓣 .C) (𝓣 .Λ) code.function) (fill-step‴.clauses 𝓤 H A mem run)

@@ -11,12 +11,9 @@ returns : tie.Need-returns
 unfolding formatWanted
 returns c = rw (← c .before .is-beyond .ensures, c .if1 .taken)
 
-fresh-store-requires : tie.Need-fresh-store-requires
-fresh-store-requires c κs = search needs
-
 returns-2 : tie.Need-returns-2
 unfolding formatWanted
-returns-2 c = rw (← c .before .before .is-beyond .ensures, c .before .if1 .left, c .fresh-store .ensures)
+returns-2 c = rw (← c .before .is-beyond .ensures, c .if1 .left)
 
 pub format-wanted-spec : {M : Type 1} → statement M
-format-wanted-spec = tie.close (tie.spec is-beyond-requires returns fresh-store-requires returns-2)
+format-wanted-spec = tie.close (tie.spec is-beyond-requires returns returns-2)

@@ -40,23 +40,29 @@ use denote.Triple.Spec.{Meets, tripleOf}
 use denote.Triple.Table.{entered, cited}
 use denote.Triple.Walked.{says, needs, Stays, stay-slice, stay-none-slice, stay-none, walkOf, Walks, ends-at, walked, goes-slice, goes-none-slice, goes-none, walk-meets}
 use Rattle.answers.specs.declared.Turn.{Turn}
-use Rattle.turns.proofs.Generated.Kind.Turn as Turn′
+use Rattle.answers.proofs.Generated.Kind.Turn as Turn′
 use Rattle.answers.specs.declared.Kept.{Kept}
-use Rattle.turns.proofs.Generated.Kind.Kept as Kept′
+use Rattle.answers.proofs.Generated.Kind.Kept as Kept′
 use Rattle.versions.specs.declared.Store.{Store}
 use Rattle.versions.proofs.Generated.Kind.Store as Store′
 use Rattle.tree.specs.declared.Ticket.{Ticket}
 use Rattle.register.proofs.Generated.Kind.Ticket as Ticket′
+use Rattle.lines.specs.declared.Branch.{Branch}
+use Rattle.versions.proofs.Generated.Kind.Branch as Branch′
+use Rattle.lines.specs.declared.Line.{Line}
+use Rattle.register.proofs.Generated.Kind.Line as Line′
 use Rattle.tree.specs.declared.Version.{Version}
 use Rattle.register.proofs.Generated.Kind.Version as Version′
 use Rattle.respond.specs.declared.Look.{Look}
 use Rattle.respond.proofs.Generated.Kind.Look as Look′
-use Rattle.versions.specs.declared.ByteOffset.{ByteOffset}
-use Rattle.respond.proofs.Generated.Kind.ByteOffset as ByteOffset′
-use Rattle.tree.specs.declared.PageIndex.{PageIndex}
-use Rattle.register.proofs.Generated.Kind.PageIndex as PageIndex′
 use Rattle.register.specs.declared.Record.{Record}
 use Rattle.register.proofs.Generated.Kind.Record as Record′
+use Rattle.tree.specs.declared.PageIndex.{PageIndex}
+use Rattle.register.proofs.Generated.Kind.PageIndex as PageIndex′
+use Rattle.lines.specs.declared.Entries.{Entries}
+use Rattle.register.proofs.Generated.Kind.Entries as Entries′
+use Rattle.versions.specs.declared.ByteOffset.{ByteOffset}
+use Rattle.respond.proofs.Generated.Kind.ByteOffset as ByteOffset′
 use Rattle.register.proofs.Generated.Flow.{ref, MutAt, ShrAt, lend-mut, back-mut, lend-shr, back-shr, branches-on, regroup, skips-on, returns-on, plus-nothing, holds, empty, less-fits, is-true, is-false, differ, above-0, twice-not, switches-to, switches-last, big-lit, here, blocks-on, resume, scaled-2, scaled-4, scaled-8, opens-shr, shuts-shr, opens-mut, shuts-mut, puts-mut, keeps-shr, fills, empties, tyAt}
 use Rattle.respond.proofs.Generated.Say.look_step as look-step″
 use Rattle.turns.proofs.Generated.Say.publish_step as publish-step″
@@ -64,6 +70,11 @@ use Rattle.turns.proofs.Generated.Call.publish_step as Call-publish-step
 use Rattle.turns.proofs.publish_step.Symbol as def-publish-step
 use Rattle.turns.proofs.publish_step.Symbol.{name as #publish-step}
 use Rattle.turns.proofs.publish_step.Met as thm-publish-step
+use Rattle.turns.proofs.Generated.Say.branch_step as branch-step″
+use Rattle.turns.proofs.Generated.Call.branch_step as Call-branch-step
+use Rattle.turns.proofs.branch_step.Symbol as def-branch-step
+use Rattle.turns.proofs.branch_step.Symbol.{name as #branch-step}
+use Rattle.turns.proofs.branch_step.Met as thm-branch-step
 use Rattle.turns.proofs.Generated.Say.read_step as read-step″
 use Rattle.turns.proofs.Generated.Call.read_step as Call-read-step
 use Rattle.turns.proofs.read_step.Symbol as def-read-step
@@ -111,97 +122,147 @@ module _ {M : Type 1} (𝓤 : URA M) (H : Heap 𝓤) (A : Atoms 𝓤) (W : Given
       qed W (‵ (flft κ·pages q·pages) ∷ ‵ (ShrAt u8 κ·pages b·pages o·pages γ·pages (length pages) pages) ∷ ‵ (flft κ·nodes q·nodes) ∷ ‵ (ShrAt u32 κ·nodes b·nodes o·nodes γ·nodes (length nodes) nodes) ∷ ‵ (flft κ·register q·register) ∷ ‵ (ShrAt Record′.row κ·register b·register o·register γ·register (length register) register) ∷ ‵ (flft κ·out q·out) ∷ ‵ (MutAt u8 κ·out b·out o·out γ·out (length out) zs·out) ∷ []) ∵ suffices ! _ (ends-at 𝓤 H A look-step‴.ended stayed (look-step‴.clauses 𝓤 H A mem run) W bound (Turn′.mach r) r (tt, (tt, (tt, (tt, (tt, (zs·out, tt)))))) (tt, (tt, (tt, (tt, (tt, (same·out, tt))))))) $ plus-nothing ! $
       nothing ! $ move ! (7 ∷ 0 ∷ []) $ join ! $ move ! (5 ∷ 0 ∷ []) $ join ! $ move ! (3 ∷ 0 ∷ []) $ join ! $ move ! (1 ∷ 0 ∷ []) $ join ! $ frame ! $ nothing ! $ move ! (4 ∷ 0 ∷ []) $ fjoin ! $ move ! (3 ∷ 0 ∷ []) $ fjoin ! $ move ! (2 ∷ 0 ∷ []) $ fjoin ! $ move ! (1 ∷ 0 ∷ []) $ fjoin ! $ owned ! Look′.row (Is Look′.row) (Look′.makes 𝓤 H A) step _ ok·step $ fjoin ! $ owned ! Kept′.row (Is Kept′.row) (Kept′.makes 𝓤 H A) kept _ ok·kept $ fjoin ! $ frame ! $ owned ! Turn′.row (Is Turn′.row) (Turn′.makes 𝓤 H A) r _ ok·r $ done !
 
-  walk : (𝓣 : Tables 𝓤 H) (known-publish-step : Triple 𝓤 (𝓣 .C #publish-step) (Call-publish-step.Asked 𝓤 H A mem run)) (known-read-step : Triple 𝓤 (𝓣 .C #read-step) (Call-read-step.Asked 𝓤 H A mem run)) (known-size-step : Triple 𝓤 (𝓣 .C #size-step) (Call-size-step.Asked 𝓤 H A mem run)) (known-recent-step : Triple 𝓤 (𝓣 .C #recent-step) (Call-recent-step.Asked 𝓤 H A mem run)) (known-stamp-step : Triple 𝓤 (𝓣 .C #stamp-step) (Call-stamp-step.Asked 𝓤 H A mem run)) → ent 𝓤 (onEntry 𝓤 H A look-step‴.signature (κ·pages, (κ·nodes, (κ·register, (κ·out, tt)))) (q·pages, (q·nodes, (q·register, (q·out, tt)))) all-args all-vals)
+  walk : (𝓣 : Tables 𝓤 H) (known-publish-step : Triple 𝓤 (𝓣 .C #publish-step) (Call-publish-step.Asked 𝓤 H A mem run)) (known-branch-step : Triple 𝓤 (𝓣 .C #branch-step) (Call-branch-step.Asked 𝓤 H A mem run)) (known-read-step : Triple 𝓤 (𝓣 .C #read-step) (Call-read-step.Asked 𝓤 H A mem run)) (known-size-step : Triple 𝓤 (𝓣 .C #size-step) (Call-size-step.Asked 𝓤 H A mem run)) (known-recent-step : Triple 𝓤 (𝓣 .C #recent-step) (Call-recent-step.Asked 𝓤 H A mem run)) (known-stamp-step : Triple 𝓤 (𝓣 .C #stamp-step) (Call-stamp-step.Asked 𝓤 H A mem run)) → ent 𝓤 (onEntry 𝓤 H A look-step‴.signature (κ·pages, (κ·nodes, (κ·register, (κ·out, tt)))) (q·pages, (q·nodes, (q·register, (q·out, tt)))) all-args all-vals)
       (WpFn 𝓤 H (𝓣 .C) (𝓣 .Λ) code.function (Kept′.mach kept ∷ Look′.mach step ∷ sliceVal (b·pages, o·pages) (length pages) ∷ sliceVal (b·nodes, o·nodes) (length nodes) ∷ sliceVal (b·register, o·register) (length register) ∷ sliceVal (b·out, o·out) (length out) ∷ []) Post)
-  walk 𝓣 known-publish-step known-read-step known-size-step known-recent-step known-stamp-step =
+  walk 𝓣 known-publish-step known-branch-step known-read-step known-size-step known-recent-step known-stamp-step =
       qed W ((‵ (flft κ·pages q·pages) ⊛ ‵ (flft κ·nodes q·nodes) ⊛ ‵ (flft κ·register q·register) ⊛ ‵ (flft κ·out q·out) ⊛ ‵ ftrue) ∷ ‵ (owns (Kept′.row ∷ Look′.row ∷ ShrSlice (named 0) κ·pages u8 ∷ ShrSlice (named 0) κ·nodes u32 ∷ ShrSlice (named 0) κ·register Record′.row ∷ MutSlice (named 0) κ·out u8 ∷ []) all-args all-vals) ∷ []) ∵ enter ! (𝓣 .C) (𝓣 .Λ) code.function (Kept′.mach kept ∷ Look′.mach step ∷ sliceVal (b·pages, o·pages) (length pages) ∷ sliceVal (b·nodes, o·nodes) (length nodes) ∷ sliceVal (b·register, o·register) (length register) ∷ sliceVal (b·out, o·out) (length out) ∷ []) _ $
-      alloc1 ! (λ l₀. alloc1 ! (λ l₁. alloc1 ! (λ l₂. alloc1 ! (λ l₃. alloc1 ! (λ l₄. alloc1 ! (λ l₅. alloc1 ! (λ l₆. alloc1 ! (λ l₇. alloc1 ! (λ l₈. alloc1 ! (λ l₉. alloc1 ! (λ l₁₀. alloc1 ! (λ l₁₁. alloc1 ! (λ l₁₂. alloc1 ! (λ l₁₃. alloc1 ! (λ l₁₄. alloc1 ! (λ l₁₅. alloc1 ! (λ l₁₆. alloc1 ! (λ l₁₇. alloc1 ! (λ l₁₈. alloc1 ! (λ l₁₉. alloc1 ! (λ l₂₀. alloc1 ! (λ l₂₁. alloc1 ! (λ l₂₂. alloc1 ! (λ l₂₃. alloc0 ! $ params1 ! $
-      pass1 ! (init ! 44 refl (Kept′.typed 𝓤 H A W kept ok·kept)) $ pass1 ! (init ! 42 refl (Look′.typed 𝓤 H A W step ok·step)) $ pass1 ! (init ! 40 refl (tt, (tt, (record { fits = room·pages .0 }, tt)))) $ pass1 ! (init ! 38 refl (tt, (tt, (record { fits = room·nodes .0 }, tt)))) $ pass1 ! (init ! 36 refl (tt, (tt, (record { fits = room·register .0 }, tt)))) $ pass1 ! (init ! 34 refl (tt, (tt, (record { fits = room·out .0 }, tt)))) $ pass0 ! $
-      move ! (49 ∷ []) $ fsplit ! $ drop ! $ fsplit ! $ drop ! $ fsplit ! $ move ! (1 ∷ []) $ fsplit ! $ move ! (1 ∷ []) $ fsplit ! $ move ! (1 ∷ []) $ fsplit ! $ move ! (1 ∷ []) $ drop ! $ move ! (52 ∷ []) $ split ! $ move ! (1 ∷ []) $ split ! $ move ! (1 ∷ []) $ split ! $ move ! (1 ∷ []) $ split ! $ move ! (1 ∷ []) $ drop ! $ move ! (3 ∷ 7 ∷ 2 ∷ 6 ∷ 1 ∷ 5 ∷ 0 ∷ 4 ∷ []) $
+      alloc1 ! (λ l₀. alloc1 ! (λ l₁. alloc1 ! (λ l₂. alloc1 ! (λ l₃. alloc1 ! (λ l₄. alloc1 ! (λ l₅. alloc1 ! (λ l₆. alloc1 ! (λ l₇. alloc1 ! (λ l₈. alloc1 ! (λ l₉. alloc1 ! (λ l₁₀. alloc1 ! (λ l₁₁. alloc1 ! (λ l₁₂. alloc1 ! (λ l₁₃. alloc1 ! (λ l₁₄. alloc1 ! (λ l₁₅. alloc1 ! (λ l₁₆. alloc1 ! (λ l₁₇. alloc1 ! (λ l₁₈. alloc1 ! (λ l₁₉. alloc1 ! (λ l₂₀. alloc1 ! (λ l₂₁. alloc1 ! (λ l₂₂. alloc1 ! (λ l₂₃. alloc1 ! (λ l₂₄. alloc1 ! (λ l₂₅. alloc1 ! (λ l₂₆. alloc1 ! (λ l₂₇. alloc1 ! (λ l₂₈. alloc1 ! (λ l₂₉. alloc1 ! (λ l₃₀. alloc1 ! (λ l₃₁. alloc1 ! (λ l₃₂. alloc1 ! (λ l₃₃. alloc1 ! (λ l₃₄. alloc1 ! (λ l₃₅. alloc1 ! (λ l₃₆. alloc1 ! (λ l₃₇. alloc1 ! (λ l₃₈. alloc1 ! (λ l₃₉. alloc1 ! (λ l₄₀. alloc1 ! (λ l₄₁. alloc1 ! (λ l₄₂. alloc1 ! (λ l₄₃. alloc1 ! (λ l₄₄. alloc0 ! $ params1 ! $
+      pass1 ! (init ! 86 refl (Kept′.typed 𝓤 H A W kept ok·kept)) $ pass1 ! (init ! 84 refl (Look′.typed 𝓤 H A W step ok·step)) $ pass1 ! (init ! 82 refl (tt, (tt, (record { fits = room·pages .0 }, tt)))) $ pass1 ! (init ! 80 refl (tt, (tt, (record { fits = room·nodes .0 }, tt)))) $ pass1 ! (init ! 78 refl (tt, (tt, (record { fits = room·register .0 }, tt)))) $ pass1 ! (init ! 76 refl (tt, (tt, (record { fits = room·out .0 }, tt)))) $ pass0 ! $
+      move ! (91 ∷ []) $ fsplit ! $ drop ! $ fsplit ! $ drop ! $ fsplit ! $ move ! (1 ∷ []) $ fsplit ! $ move ! (1 ∷ []) $ fsplit ! $ move ! (1 ∷ []) $ fsplit ! $ move ! (1 ∷ []) $ drop ! $ move ! (94 ∷ []) $ split ! $ move ! (1 ∷ []) $ split ! $ move ! (1 ∷ []) $ split ! $ move ! (1 ∷ []) $ split ! $ move ! (1 ∷ []) $ drop ! $ move ! (3 ∷ 7 ∷ 2 ∷ 6 ∷ 1 ∷ 5 ∷ 0 ∷ 4 ∷ []) $
       Look′.cases ! step
-      (λ m·1. rewrite ! 50 (λ (u : Look). ‵ (fat fullShare Look′.ty l₂ 0 (Look′.mach u))) m·1 refl $ switches-to ! 0 (load ! (from ! (vrt ! refl (fld ! refl (stop !)))) (look-tag ! 50 (whole !))) (
+      (λ y1-0 m·1. rewrite ! 92 (λ (u : Look). ‵ (fat fullShare Look′.ty l₂ 0 (Look′.mach u))) m·1 refl $ switches-to ! 0 (load ! (from ! (vrt ! refl (fld ! refl (stop !)))) (look-tag ! 92 (whole !))) (
       regroup ! $
-      assigns ! (addr ! (from ! (fld ! refl (hop ! (look-in ! 42 (sub ! 0 refl (whole !))) (stop !))))) (from ! (stop !)) (init ! 26 refl (tt, tt)) $
+      assigns ! (of-opd ! (load ! (from ! (vrt ! refl (fld ! refl (stop !)))) (look-in ! 92 (in-variant ! 0 0 refl refl (whole !))))) (from ! (stop !)) (init ! 82 refl (tt, record { fits = (Look′.ok-Publish-0 y1-0 (subst Look′.Ok m·1 ok·step)) .1 })) $
       regroup ! $
-      assigns ! (agg ! (and-then ! (load ! (from ! (stop !)) (look ! 26 refl)) (and-then ! (load ! (from ! (fld ! refl (stop !))) (look-in ! 42 (sub ! 1 refl (whole !)))) (no-more !)))) (from ! (stop !)) (init ! 24 refl (tt, (tt, (record { fits = room·out .0 }, tt)))) $
+      assigns ! (agg ! (and-then ! (load ! (from ! (stop !)) (look ! 82 refl)) (no-more !))) (from ! (stop !)) (init ! 54 refl (Line′.typed 𝓤 H A W (Line′.build y1-0) (Line′.make y1-0 (Look′.ok-Publish-0 y1-0 (subst Look′.Ok m·1 ok·step))))) $
+      regroup ! $
+      assigns ! (addr ! (from ! (fld ! refl (hop ! (look-in ! 84 (sub ! 0 refl (whole !))) (stop !))))) (from ! (stop !)) (init ! 52 refl (tt, tt)) $
+      regroup ! $
+      assigns ! (agg ! (and-then ! (load ! (from ! (stop !)) (look ! 52 refl)) (and-then ! (load ! (from ! (fld ! refl (stop !))) (look-in ! 84 (sub ! 1 refl (whole !)))) (no-more !)))) (from ! (stop !)) (init ! 50 refl (tt, (tt, (record { fits = room·out .0 }, tt)))) $
       move ! (6 ∷ 7 ∷ []) $ lend-mut ! tt u8 κ·out q·out b·out o·out γ·out (length out) out (refl) (λ ν·1-out γ·1-out. move ! (3 ∷ 4 ∷ 5 ∷ 6 ∷ 7 ∷ 8 ∷ 0 ∷ 1 ∷ []) $
-      Call-publish-step.calls ! mem run (fmOf 𝓤 H (W .laws) 𝓣) known-publish-step kept κ·pages q·pages b·pages o·pages γ·pages (length pages) pages κ·nodes q·nodes b·nodes o·nodes γ·nodes (length nodes) nodes κ·register q·register b·register o·register γ·register (length register) register (ν·1-out ∷ []) fullShare b·out o·out γ·1-out (length out) out ok·kept (and-then ! (load ! (from ! (stop !)) (look ! 49 refl)) (and-then ! (load ! (from ! (stop !)) (look ! 45 refl)) (and-then ! (load ! (from ! (stop !)) (look ! 43 refl)) (and-then ! (load ! (from ! (stop !)) (look ! 41 refl)) (and-then ! (load ! (from ! (stop !)) (look ! 21 refl)) (no-more !))))))
-      (λ r1 out₁ ok·1 same·1-out. move ! (6 ∷ 7 ∷ 8 ∷ []) $ back-mut ! tt u8 κ·out q·out b·out o·out γ·out (length out) out out₁ ν·1-out γ·1-out (refl) same·1-out room·out $ move ! (2 ∷ 3 ∷ 4 ∷ 5 ∷ 6 ∷ 7 ∷ 0 ∷ 1 ∷ []) $ land ! (from ! (stop !)) (init ! 28 refl (Turn′.typed 𝓤 H A W r1 ok·1)) $
-      here ! (‵ (flft κ·pages q·pages) ∷ ‵ (ShrAt u8 κ·pages b·pages o·pages γ·pages (length pages) pages) ∷ ‵ (flft κ·nodes q·nodes) ∷ ‵ (ShrAt u32 κ·nodes b·nodes o·nodes γ·nodes (length nodes) nodes) ∷ ‵ (flft κ·register q·register) ∷ ‵ (ShrAt Record′.row κ·register b·register o·register γ·register (length register) register) ∷ ‵ (flft κ·out q·out) ∷ ‵ (MutAt u8 κ·out b·out o·out γ·out (length out) out₁) ∷ empty (sliceTy (tyRef erased mut (pointee (u8 .written)))) l₂₃ (empty (tyRef erased mut (pointee (u8 .written))) l₂₂ (empty (sliceTy (tyRef erased mut (pointee (u8 .written)))) l₂₁ (empty (tyRef erased mut (pointee (u8 .written))) l₂₀ (empty (sliceTy (tyRef erased mut (pointee (u8 .written)))) l₁₉ (empty (tyRef erased mut (pointee (u8 .written))) l₁₈ (empty (sliceTy (tyRef erased mut (pointee (u8 .written)))) l₁₇ (empty (tyRef erased mut (pointee (u8 .written))) l₁₆ (holds (sliceTy (tyRef erased mut (pointee (u8 .written)))) l₁₅ (sliceVal (b·out, o·out) (length out)) (holds (tyRef erased mut (pointee (u8 .written))) l₁₄ (vptr b·out o·out) (holds (tyAt (code.function .locals) 13) l₁₃ (Turn′.mach r1) (empty (tyAt (code.function .locals) 12) l₁₂ (empty (tyAt (code.function .locals) 11) l₁₁ (empty (tyAt (code.function .locals) 10) l₁₀ (empty (tyInt w64) l₉ (empty (tyAt (code.function .locals) 8) l₈ (empty (tyAt (code.function .locals) 7) l₇ (holds (sliceTy (tyRef (named 3) mut (pointee (u8 .written)))) l₆ (sliceVal (b·out, o·out) (length out)) (holds (sliceTy (tyRef (named 2) imm (pointee (Record′.row .written)))) l₅ (sliceVal (b·register, o·register) (length register)) (holds (sliceTy (tyRef (named 1) imm (pointee (u32 .written)))) l₄ (sliceVal (b·nodes, o·nodes) (length nodes)) (holds (sliceTy (tyRef (named 0) imm (pointee (u8 .written)))) l₃ (sliceVal (b·pages, o·pages) (length pages)) (holds (tyAt (code.function .locals) 2) l₂ (Look′.mach Look.Publish) (holds (tyAt (code.function .locals) 1) l₁ (Kept′.mach kept) (empty (tyAt (code.function .locals) 0) l₀ [])))))))))))))))))))))))) $
-      assigns ! (of-opd ! (load ! (from ! (stop !)) (look ! 28 refl))) (from ! (stop !)) (init ! 54 refl (Turn′.typed 𝓤 H A W r1 ok·1)) $
-      returns ! (look ! 54 refl) $
-      move ! (54 ∷ 55 ∷ []) $ forget ! 0 refl $ free1 ! $ move ! (52 ∷ 53 ∷ []) $ forget ! 0 refl $ free1 ! $ move ! (50 ∷ 51 ∷ []) $ forget ! 0 refl $ free1 ! $ move ! (48 ∷ 49 ∷ []) $ forget ! 0 refl $ free1 ! $ move ! (46 ∷ 47 ∷ []) $ forget ! 0 refl $ free1 ! $ move ! (44 ∷ 45 ∷ []) $ forget ! 0 refl $ free1 ! $ move ! (42 ∷ 43 ∷ []) $ forget ! 0 refl $ free1 ! $ move ! (40 ∷ 41 ∷ []) $ free1 ! $ move ! (38 ∷ 39 ∷ []) $ free1 ! $ move ! (36 ∷ 37 ∷ []) $ free1 ! $ move ! (34 ∷ 35 ∷ []) $ free1 ! $ move ! (32 ∷ 33 ∷ []) $ free1 ! $ move ! (30 ∷ 31 ∷ []) $ free1 ! $ move ! (28 ∷ 29 ∷ []) $ forget ! 0 refl $ free1 ! $ move ! (26 ∷ 27 ∷ []) $ forget ! 0 refl $ free1 ! $ move ! (24 ∷ 25 ∷ []) $ forget ! 0 refl $ free1 ! $ move ! (22 ∷ 23 ∷ []) $ free1 ! $ move ! (20 ∷ 21 ∷ []) $ free1 ! $ move ! (18 ∷ 19 ∷ []) $ free1 ! $ move ! (16 ∷ 17 ∷ []) $ free1 ! $ move ! (14 ∷ 15 ∷ []) $ free1 ! $ move ! (12 ∷ 13 ∷ []) $ free1 ! $ move ! (10 ∷ 11 ∷ []) $ free1 ! $ move ! (8 ∷ 9 ∷ []) $ free1 ! $ free0 ! $ by ! (exits r1 ok·1 out₁ (sym (refl ∙ sym same·1-out)))))))
-      (λ y1-0 y1-1 y1-2 m·1. rewrite ! 50 (λ (u : Look). ‵ (fat fullShare Look′.ty l₂ 0 (Look′.mach u))) m·1 refl $ switches-to ! 1 (load ! (from ! (vrt ! refl (fld ! refl (stop !)))) (look-tag ! 50 (whole !))) (
+      Call-publish-step.calls ! mem run (fmOf 𝓤 H (W .laws) 𝓣) known-publish-step kept (Line′.build y1-0) κ·pages q·pages b·pages o·pages γ·pages (length pages) pages κ·nodes q·nodes b·nodes o·nodes γ·nodes (length nodes) nodes κ·register q·register b·register o·register γ·register (length register) register (ν·1-out ∷ []) fullShare b·out o·out γ·1-out (length out) out ok·kept (Line′.make y1-0 (Look′.ok-Publish-0 y1-0 (subst Look′.Ok m·1 ok·step))) (and-then ! (load ! (from ! (stop !)) (look ! 91 refl)) (and-then ! (load ! (from ! (stop !)) (look ! 51 refl)) (and-then ! (load ! (from ! (stop !)) (look ! 87 refl)) (and-then ! (load ! (from ! (stop !)) (look ! 85 refl)) (and-then ! (load ! (from ! (stop !)) (look ! 83 refl)) (and-then ! (load ! (from ! (stop !)) (look ! 47 refl)) (no-more !)))))))
+      (λ r1 out₁ ok·1 same·1-out. move ! (6 ∷ 7 ∷ 8 ∷ []) $ back-mut ! tt u8 κ·out q·out b·out o·out γ·out (length out) out out₁ ν·1-out γ·1-out (refl) same·1-out room·out $ move ! (2 ∷ 3 ∷ 4 ∷ 5 ∷ 6 ∷ 7 ∷ 0 ∷ 1 ∷ []) $ land ! (from ! (stop !)) (init ! 56 refl (Turn′.typed 𝓤 H A W r1 ok·1)) $
+      here ! (‵ (flft κ·pages q·pages) ∷ ‵ (ShrAt u8 κ·pages b·pages o·pages γ·pages (length pages) pages) ∷ ‵ (flft κ·nodes q·nodes) ∷ ‵ (ShrAt u32 κ·nodes b·nodes o·nodes γ·nodes (length nodes) nodes) ∷ ‵ (flft κ·register q·register) ∷ ‵ (ShrAt Record′.row κ·register b·register o·register γ·register (length register) register) ∷ ‵ (flft κ·out q·out) ∷ ‵ (MutAt u8 κ·out b·out o·out γ·out (length out) out₁) ∷ empty (sliceTy (tyRef erased mut (pointee (u8 .written)))) l₄₄ (empty (tyRef erased mut (pointee (u8 .written))) l₄₃ (empty (tyAt (code.function .locals) 42) l₄₂ (empty (tyAt (code.function .locals) 41) l₄₁ (empty (tyAt (code.function .locals) 40) l₄₀ (empty (sliceTy (tyRef erased mut (pointee (u8 .written)))) l₃₉ (empty (tyRef erased mut (pointee (u8 .written))) l₃₈ (empty (tyAt (code.function .locals) 37) l₃₇ (empty (sliceTy (tyRef erased mut (pointee (u8 .written)))) l₃₆ (empty (tyRef erased mut (pointee (u8 .written))) l₃₅ (empty (tyAt (code.function .locals) 34) l₃₄ (empty (tyAt (code.function .locals) 33) l₃₃ (empty (sliceTy (tyRef erased mut (pointee (u8 .written)))) l₃₂ (empty (tyRef erased mut (pointee (u8 .written))) l₃₁ (empty (tyAt (code.function .locals) 30) l₃₀ (empty (tyAt (code.function .locals) 29) l₂₉ (empty (tyAt (code.function .locals) 28) l₂₈ (empty (sliceTy (tyRef erased mut (pointee (u8 .written)))) l₂₇ (empty (tyRef erased mut (pointee (u8 .written))) l₂₆ (empty (tyAt (code.function .locals) 25) l₂₅ (empty (tyAt (code.function .locals) 24) l₂₄ (holds (sliceTy (tyRef erased mut (pointee (u8 .written)))) l₂₃ (sliceVal (b·out, o·out) (length out)) (holds (tyRef erased mut (pointee (u8 .written))) l₂₂ (vptr b·out o·out) (holds (tyAt (code.function .locals) 21) l₂₁ (Line′.mach (Line′.build y1-0)) (holds (tyAt (code.function .locals) 20) l₂₀ (Turn′.mach r1) (empty (tyInt w64) l₁₉ (empty (tyInt w64) l₁₈ (empty (tyInt w64) l₁₇ (empty (tyInt w64) l₁₆ (empty (tyInt w64) l₁₅ (empty (tyInt w64) l₁₄ (empty (tyInt w64) l₁₃ (empty (tyInt w64) l₁₂ (empty (tyInt w64) l₁₁ (empty (tyInt w64) l₁₀ (empty (tyInt w64) l₉ (empty (tyInt w64) l₈ (holds (tyInt w64) l₇ (vint w64 y1-0) (holds (sliceTy (tyRef (named 3) mut (pointee (u8 .written)))) l₆ (sliceVal (b·out, o·out) (length out)) (holds (sliceTy (tyRef (named 2) imm (pointee (Record′.row .written)))) l₅ (sliceVal (b·register, o·register) (length register)) (holds (sliceTy (tyRef (named 1) imm (pointee (u32 .written)))) l₄ (sliceVal (b·nodes, o·nodes) (length nodes)) (holds (sliceTy (tyRef (named 0) imm (pointee (u8 .written)))) l₃ (sliceVal (b·pages, o·pages) (length pages)) (holds (tyAt (code.function .locals) 2) l₂ (Look′.mach (Look.Publish y1-0)) (holds (tyAt (code.function .locals) 1) l₁ (Kept′.mach kept) (empty (tyAt (code.function .locals) 0) l₀ []))))))))))))))))))))))))))))))))))))))))))))) $
+      assigns ! (of-opd ! (load ! (from ! (stop !)) (look ! 56 refl))) (from ! (stop !)) (init ! 96 refl (Turn′.typed 𝓤 H A W r1 ok·1)) $
+      returns ! (look ! 96 refl) $
+      move ! (96 ∷ 97 ∷ []) $ forget ! 0 refl $ free1 ! $ move ! (94 ∷ 95 ∷ []) $ forget ! 0 refl $ free1 ! $ move ! (92 ∷ 93 ∷ []) $ forget ! 0 refl $ free1 ! $ move ! (90 ∷ 91 ∷ []) $ forget ! 0 refl $ free1 ! $ move ! (88 ∷ 89 ∷ []) $ forget ! 0 refl $ free1 ! $ move ! (86 ∷ 87 ∷ []) $ forget ! 0 refl $ free1 ! $ move ! (84 ∷ 85 ∷ []) $ forget ! 0 refl $ free1 ! $ move ! (82 ∷ 83 ∷ []) $ forget ! 0 refl $ free1 ! $ move ! (80 ∷ 81 ∷ []) $ free1 ! $ move ! (78 ∷ 79 ∷ []) $ free1 ! $ move ! (76 ∷ 77 ∷ []) $ free1 ! $ move ! (74 ∷ 75 ∷ []) $ free1 ! $ move ! (72 ∷ 73 ∷ []) $ free1 ! $ move ! (70 ∷ 71 ∷ []) $ free1 ! $ move ! (68 ∷ 69 ∷ []) $ free1 ! $ move ! (66 ∷ 67 ∷ []) $ free1 ! $ move ! (64 ∷ 65 ∷ []) $ free1 ! $ move ! (62 ∷ 63 ∷ []) $ free1 ! $ move ! (60 ∷ 61 ∷ []) $ free1 ! $ move ! (58 ∷ 59 ∷ []) $ free1 ! $ move ! (56 ∷ 57 ∷ []) $ forget ! 0 refl $ free1 ! $ move ! (54 ∷ 55 ∷ []) $ forget ! 0 refl $ free1 ! $ move ! (52 ∷ 53 ∷ []) $ forget ! 0 refl $ free1 ! $ move ! (50 ∷ 51 ∷ []) $ forget ! 0 refl $ free1 ! $ move ! (48 ∷ 49 ∷ []) $ free1 ! $ move ! (46 ∷ 47 ∷ []) $ free1 ! $ move ! (44 ∷ 45 ∷ []) $ free1 ! $ move ! (42 ∷ 43 ∷ []) $ free1 ! $ move ! (40 ∷ 41 ∷ []) $ free1 ! $ move ! (38 ∷ 39 ∷ []) $ free1 ! $ move ! (36 ∷ 37 ∷ []) $ free1 ! $ move ! (34 ∷ 35 ∷ []) $ free1 ! $ move ! (32 ∷ 33 ∷ []) $ free1 ! $ move ! (30 ∷ 31 ∷ []) $ free1 ! $ move ! (28 ∷ 29 ∷ []) $ free1 ! $ move ! (26 ∷ 27 ∷ []) $ free1 ! $ move ! (24 ∷ 25 ∷ []) $ free1 ! $ move ! (22 ∷ 23 ∷ []) $ free1 ! $ move ! (20 ∷ 21 ∷ []) $ free1 ! $ move ! (18 ∷ 19 ∷ []) $ free1 ! $ move ! (16 ∷ 17 ∷ []) $ free1 ! $ move ! (14 ∷ 15 ∷ []) $ free1 ! $ move ! (12 ∷ 13 ∷ []) $ free1 ! $ move ! (10 ∷ 11 ∷ []) $ free1 ! $ move ! (8 ∷ 9 ∷ []) $ free1 ! $ free0 ! $ by ! (exits r1 ok·1 out₁ (sym (refl ∙ sym same·1-out)))))))
+      (λ y1-0 y1-1 m·1. rewrite ! 92 (λ (u : Look). ‵ (fat fullShare Look′.ty l₂ 0 (Look′.mach u))) m·1 refl $ switches-to ! 1 (load ! (from ! (vrt ! refl (fld ! refl (stop !)))) (look-tag ! 92 (whole !))) (
       regroup ! $
-      assigns ! (of-opd ! (load ! (from ! (vrt ! refl (fld ! refl (stop !)))) (look-in ! 50 (in-variant ! 1 0 refl refl (whole !))))) (from ! (stop !)) (init ! 40 refl (Version′.typed 𝓤 H A W y1-0 (Look′.ok-Read-0 y1-0 y1-1 y1-2 (subst Look′.Ok m·1 ok·step)))) $
+      assigns ! (of-opd ! (load ! (from ! (vrt ! refl (fld ! refl (stop !)))) (look-in ! 92 (in-variant ! 1 0 refl refl (whole !))))) (from ! (stop !)) (init ! 80 refl (tt, record { fits = (Look′.ok-Branch-0 y1-0 y1-1 (subst Look′.Ok m·1 ok·step)) .1 })) $
       regroup ! $
-      assigns ! (of-opd ! (load ! (from ! (vrt ! refl (fld ! refl (stop !)))) (look-in ! 50 (in-variant ! 1 1 refl refl (whole !))))) (from ! (stop !)) (init ! 38 refl (ByteOffset′.typed 𝓤 H A W y1-1 (Look′.ok-Read-1 y1-0 y1-1 y1-2 (subst Look′.Ok m·1 ok·step)))) $
+      assigns ! (of-opd ! (load ! (from ! (vrt ! refl (fld ! refl (stop !)))) (look-in ! 92 (in-variant ! 1 1 refl refl (whole !))))) (from ! (stop !)) (init ! 78 refl (tt, record { fits = (Look′.ok-Branch-1 y1-0 y1-1 (subst Look′.Ok m·1 ok·step)) .1 })) $
       regroup ! $
-      assigns ! (of-opd ! (load ! (from ! (vrt ! refl (fld ! refl (stop !)))) (look-in ! 50 (in-variant ! 1 2 refl refl (whole !))))) (from ! (stop !)) (init ! 36 refl (tt, record { fits = (Look′.ok-Read-2 y1-0 y1-1 y1-2 (subst Look′.Ok m·1 ok·step)) .1 })) $
+      assigns ! (agg ! (and-then ! (load ! (from ! (stop !)) (look ! 80 refl)) (no-more !))) (from ! (stop !)) (init ! 48 refl (Line′.typed 𝓤 H A W (Line′.build y1-0) (Line′.make y1-0 (Look′.ok-Branch-0 y1-0 y1-1 (subst Look′.Ok m·1 ok·step))))) $
       regroup ! $
-      assigns ! (addr ! (from ! (fld ! refl (hop ! (look-in ! 42 (sub ! 0 refl (whole !))) (stop !))))) (from ! (stop !)) (init ! 22 refl (tt, tt)) $
+      assigns ! (agg ! (and-then ! (load ! (from ! (stop !)) (look ! 78 refl)) (no-more !))) (from ! (stop !)) (init ! 46 refl (Version′.typed 𝓤 H A W (Version′.build y1-1) (Version′.make y1-1 (Look′.ok-Branch-1 y1-0 y1-1 (subst Look′.Ok m·1 ok·step))))) $
       regroup ! $
-      assigns ! (agg ! (and-then ! (load ! (from ! (stop !)) (look ! 22 refl)) (and-then ! (load ! (from ! (fld ! refl (stop !))) (look-in ! 42 (sub ! 1 refl (whole !)))) (no-more !)))) (from ! (stop !)) (init ! 20 refl (tt, (tt, (record { fits = room·out .0 }, tt)))) $
+      assigns ! (addr ! (from ! (fld ! refl (hop ! (look-in ! 84 (sub ! 0 refl (whole !))) (stop !))))) (from ! (stop !)) (init ! 44 refl (tt, tt)) $
+      regroup ! $
+      assigns ! (agg ! (and-then ! (load ! (from ! (stop !)) (look ! 44 refl)) (and-then ! (load ! (from ! (fld ! refl (stop !))) (look-in ! 84 (sub ! 1 refl (whole !)))) (no-more !)))) (from ! (stop !)) (init ! 42 refl (tt, (tt, (record { fits = room·out .0 }, tt)))) $
       move ! (6 ∷ 7 ∷ []) $ lend-mut ! tt u8 κ·out q·out b·out o·out γ·out (length out) out (refl) (λ ν·2-out γ·2-out. move ! (3 ∷ 4 ∷ 5 ∷ 6 ∷ 7 ∷ 8 ∷ 0 ∷ 1 ∷ []) $
-      Call-read-step.calls ! mem run (fmOf 𝓤 H (W .laws) 𝓣) known-read-step kept y1-0 y1-1 y1-2 κ·pages q·pages b·pages o·pages γ·pages (length pages) pages κ·nodes q·nodes b·nodes o·nodes γ·nodes (length nodes) nodes κ·register q·register b·register o·register γ·register (length register) register (ν·2-out ∷ []) fullShare b·out o·out γ·2-out (length out) out ok·kept (Look′.ok-Read-0 y1-0 y1-1 y1-2 (subst Look′.Ok m·1 ok·step)) (Look′.ok-Read-1 y1-0 y1-1 y1-2 (subst Look′.Ok m·1 ok·step)) (Look′.ok-Read-2 y1-0 y1-1 y1-2 (subst Look′.Ok m·1 ok·step)) (and-then ! (load ! (from ! (stop !)) (look ! 49 refl)) (and-then ! (load ! (from ! (stop !)) (look ! 37 refl)) (and-then ! (load ! (from ! (stop !)) (look ! 35 refl)) (and-then ! (load ! (from ! (stop !)) (look ! 33 refl)) (and-then ! (load ! (from ! (stop !)) (look ! 45 refl)) (and-then ! (load ! (from ! (stop !)) (look ! 43 refl)) (and-then ! (load ! (from ! (stop !)) (look ! 41 refl)) (and-then ! (load ! (from ! (stop !)) (look ! 17 refl)) (no-more !)))))))))
-      (λ r2 out₂ ok·2 same·2-out. move ! (6 ∷ 7 ∷ 8 ∷ []) $ back-mut ! tt u8 κ·out q·out b·out o·out γ·out (length out) out out₂ ν·2-out γ·2-out (refl) same·2-out room·out $ move ! (2 ∷ 3 ∷ 4 ∷ 5 ∷ 6 ∷ 7 ∷ 0 ∷ 1 ∷ []) $ land ! (from ! (stop !)) (init ! 28 refl (Turn′.typed 𝓤 H A W r2 ok·2)) $
-      here ! (‵ (flft κ·pages q·pages) ∷ ‵ (ShrAt u8 κ·pages b·pages o·pages γ·pages (length pages) pages) ∷ ‵ (flft κ·nodes q·nodes) ∷ ‵ (ShrAt u32 κ·nodes b·nodes o·nodes γ·nodes (length nodes) nodes) ∷ ‵ (flft κ·register q·register) ∷ ‵ (ShrAt Record′.row κ·register b·register o·register γ·register (length register) register) ∷ ‵ (flft κ·out q·out) ∷ ‵ (MutAt u8 κ·out b·out o·out γ·out (length out) out₂) ∷ empty (sliceTy (tyRef erased mut (pointee (u8 .written)))) l₂₃ (empty (tyRef erased mut (pointee (u8 .written))) l₂₂ (empty (sliceTy (tyRef erased mut (pointee (u8 .written)))) l₂₁ (empty (tyRef erased mut (pointee (u8 .written))) l₂₀ (empty (sliceTy (tyRef erased mut (pointee (u8 .written)))) l₁₉ (empty (tyRef erased mut (pointee (u8 .written))) l₁₈ (holds (sliceTy (tyRef erased mut (pointee (u8 .written)))) l₁₇ (sliceVal (b·out, o·out) (length out)) (holds (tyRef erased mut (pointee (u8 .written))) l₁₆ (vptr b·out o·out) (empty (sliceTy (tyRef erased mut (pointee (u8 .written)))) l₁₅ (empty (tyRef erased mut (pointee (u8 .written))) l₁₄ (holds (tyAt (code.function .locals) 13) l₁₃ (Turn′.mach r2) (empty (tyAt (code.function .locals) 12) l₁₂ (empty (tyAt (code.function .locals) 11) l₁₁ (empty (tyAt (code.function .locals) 10) l₁₀ (holds (tyInt w64) l₉ (vint w64 y1-2) (holds (tyAt (code.function .locals) 8) l₈ (ByteOffset′.mach y1-1) (holds (tyAt (code.function .locals) 7) l₇ (Version′.mach y1-0) (holds (sliceTy (tyRef (named 3) mut (pointee (u8 .written)))) l₆ (sliceVal (b·out, o·out) (length out)) (holds (sliceTy (tyRef (named 2) imm (pointee (Record′.row .written)))) l₅ (sliceVal (b·register, o·register) (length register)) (holds (sliceTy (tyRef (named 1) imm (pointee (u32 .written)))) l₄ (sliceVal (b·nodes, o·nodes) (length nodes)) (holds (sliceTy (tyRef (named 0) imm (pointee (u8 .written)))) l₃ (sliceVal (b·pages, o·pages) (length pages)) (holds (tyAt (code.function .locals) 2) l₂ (Look′.mach (Look.Read y1-0 y1-1 y1-2)) (holds (tyAt (code.function .locals) 1) l₁ (Kept′.mach kept) (empty (tyAt (code.function .locals) 0) l₀ [])))))))))))))))))))))))) $
-      assigns ! (of-opd ! (load ! (from ! (stop !)) (look ! 28 refl))) (from ! (stop !)) (init ! 54 refl (Turn′.typed 𝓤 H A W r2 ok·2)) $
-      returns ! (look ! 54 refl) $
-      move ! (54 ∷ 55 ∷ []) $ forget ! 0 refl $ free1 ! $ move ! (52 ∷ 53 ∷ []) $ forget ! 0 refl $ free1 ! $ move ! (50 ∷ 51 ∷ []) $ forget ! 0 refl $ free1 ! $ move ! (48 ∷ 49 ∷ []) $ forget ! 0 refl $ free1 ! $ move ! (46 ∷ 47 ∷ []) $ forget ! 0 refl $ free1 ! $ move ! (44 ∷ 45 ∷ []) $ forget ! 0 refl $ free1 ! $ move ! (42 ∷ 43 ∷ []) $ forget ! 0 refl $ free1 ! $ move ! (40 ∷ 41 ∷ []) $ forget ! 0 refl $ free1 ! $ move ! (38 ∷ 39 ∷ []) $ forget ! 0 refl $ free1 ! $ move ! (36 ∷ 37 ∷ []) $ forget ! 0 refl $ free1 ! $ move ! (34 ∷ 35 ∷ []) $ free1 ! $ move ! (32 ∷ 33 ∷ []) $ free1 ! $ move ! (30 ∷ 31 ∷ []) $ free1 ! $ move ! (28 ∷ 29 ∷ []) $ forget ! 0 refl $ free1 ! $ move ! (26 ∷ 27 ∷ []) $ free1 ! $ move ! (24 ∷ 25 ∷ []) $ free1 ! $ move ! (22 ∷ 23 ∷ []) $ forget ! 0 refl $ free1 ! $ move ! (20 ∷ 21 ∷ []) $ forget ! 0 refl $ free1 ! $ move ! (18 ∷ 19 ∷ []) $ free1 ! $ move ! (16 ∷ 17 ∷ []) $ free1 ! $ move ! (14 ∷ 15 ∷ []) $ free1 ! $ move ! (12 ∷ 13 ∷ []) $ free1 ! $ move ! (10 ∷ 11 ∷ []) $ free1 ! $ move ! (8 ∷ 9 ∷ []) $ free1 ! $ free0 ! $ by ! (exits r2 ok·2 out₂ (sym (refl ∙ sym same·2-out)))))))
-      (λ y1-0 m·1. rewrite ! 50 (λ (u : Look). ‵ (fat fullShare Look′.ty l₂ 0 (Look′.mach u))) m·1 refl $ switches-to ! 2 (load ! (from ! (vrt ! refl (fld ! refl (stop !)))) (look-tag ! 50 (whole !))) (
+      Call-branch-step.calls ! mem run (fmOf 𝓤 H (W .laws) 𝓣) known-branch-step kept (Line′.build y1-0) (Version′.build y1-1) κ·pages q·pages b·pages o·pages γ·pages (length pages) pages κ·nodes q·nodes b·nodes o·nodes γ·nodes (length nodes) nodes κ·register q·register b·register o·register γ·register (length register) register (ν·2-out ∷ []) fullShare b·out o·out γ·2-out (length out) out ok·kept (Line′.make y1-0 (Look′.ok-Branch-0 y1-0 y1-1 (subst Look′.Ok m·1 ok·step))) (Version′.make y1-1 (Look′.ok-Branch-1 y1-0 y1-1 (subst Look′.Ok m·1 ok·step))) (and-then ! (load ! (from ! (stop !)) (look ! 91 refl)) (and-then ! (load ! (from ! (stop !)) (look ! 45 refl)) (and-then ! (load ! (from ! (stop !)) (look ! 43 refl)) (and-then ! (load ! (from ! (stop !)) (look ! 87 refl)) (and-then ! (load ! (from ! (stop !)) (look ! 85 refl)) (and-then ! (load ! (from ! (stop !)) (look ! 83 refl)) (and-then ! (load ! (from ! (stop !)) (look ! 39 refl)) (no-more !))))))))
+      (λ r2 out₂ ok·2 same·2-out. move ! (6 ∷ 7 ∷ 8 ∷ []) $ back-mut ! tt u8 κ·out q·out b·out o·out γ·out (length out) out out₂ ν·2-out γ·2-out (refl) same·2-out room·out $ move ! (2 ∷ 3 ∷ 4 ∷ 5 ∷ 6 ∷ 7 ∷ 0 ∷ 1 ∷ []) $ land ! (from ! (stop !)) (init ! 56 refl (Turn′.typed 𝓤 H A W r2 ok·2)) $
+      here ! (‵ (flft κ·pages q·pages) ∷ ‵ (ShrAt u8 κ·pages b·pages o·pages γ·pages (length pages) pages) ∷ ‵ (flft κ·nodes q·nodes) ∷ ‵ (ShrAt u32 κ·nodes b·nodes o·nodes γ·nodes (length nodes) nodes) ∷ ‵ (flft κ·register q·register) ∷ ‵ (ShrAt Record′.row κ·register b·register o·register γ·register (length register) register) ∷ ‵ (flft κ·out q·out) ∷ ‵ (MutAt u8 κ·out b·out o·out γ·out (length out) out₂) ∷ empty (sliceTy (tyRef erased mut (pointee (u8 .written)))) l₄₄ (empty (tyRef erased mut (pointee (u8 .written))) l₄₃ (empty (tyAt (code.function .locals) 42) l₄₂ (empty (tyAt (code.function .locals) 41) l₄₁ (empty (tyAt (code.function .locals) 40) l₄₀ (empty (sliceTy (tyRef erased mut (pointee (u8 .written)))) l₃₉ (empty (tyRef erased mut (pointee (u8 .written))) l₃₈ (empty (tyAt (code.function .locals) 37) l₃₇ (empty (sliceTy (tyRef erased mut (pointee (u8 .written)))) l₃₆ (empty (tyRef erased mut (pointee (u8 .written))) l₃₅ (empty (tyAt (code.function .locals) 34) l₃₄ (empty (tyAt (code.function .locals) 33) l₃₃ (empty (sliceTy (tyRef erased mut (pointee (u8 .written)))) l₃₂ (empty (tyRef erased mut (pointee (u8 .written))) l₃₁ (empty (tyAt (code.function .locals) 30) l₃₀ (empty (tyAt (code.function .locals) 29) l₂₉ (empty (tyAt (code.function .locals) 28) l₂₈ (holds (sliceTy (tyRef erased mut (pointee (u8 .written)))) l₂₇ (sliceVal (b·out, o·out) (length out)) (holds (tyRef erased mut (pointee (u8 .written))) l₂₆ (vptr b·out o·out) (holds (tyAt (code.function .locals) 25) l₂₅ (Version′.mach (Version′.build y1-1)) (holds (tyAt (code.function .locals) 24) l₂₄ (Line′.mach (Line′.build y1-0)) (empty (sliceTy (tyRef erased mut (pointee (u8 .written)))) l₂₃ (empty (tyRef erased mut (pointee (u8 .written))) l₂₂ (empty (tyAt (code.function .locals) 21) l₂₁ (holds (tyAt (code.function .locals) 20) l₂₀ (Turn′.mach r2) (empty (tyInt w64) l₁₉ (empty (tyInt w64) l₁₈ (empty (tyInt w64) l₁₇ (empty (tyInt w64) l₁₆ (empty (tyInt w64) l₁₅ (empty (tyInt w64) l₁₄ (empty (tyInt w64) l₁₃ (empty (tyInt w64) l₁₂ (empty (tyInt w64) l₁₁ (empty (tyInt w64) l₁₀ (holds (tyInt w64) l₉ (vint w64 y1-1) (holds (tyInt w64) l₈ (vint w64 y1-0) (empty (tyInt w64) l₇ (holds (sliceTy (tyRef (named 3) mut (pointee (u8 .written)))) l₆ (sliceVal (b·out, o·out) (length out)) (holds (sliceTy (tyRef (named 2) imm (pointee (Record′.row .written)))) l₅ (sliceVal (b·register, o·register) (length register)) (holds (sliceTy (tyRef (named 1) imm (pointee (u32 .written)))) l₄ (sliceVal (b·nodes, o·nodes) (length nodes)) (holds (sliceTy (tyRef (named 0) imm (pointee (u8 .written)))) l₃ (sliceVal (b·pages, o·pages) (length pages)) (holds (tyAt (code.function .locals) 2) l₂ (Look′.mach (Look.Branch y1-0 y1-1)) (holds (tyAt (code.function .locals) 1) l₁ (Kept′.mach kept) (empty (tyAt (code.function .locals) 0) l₀ []))))))))))))))))))))))))))))))))))))))))))))) $
+      assigns ! (of-opd ! (load ! (from ! (stop !)) (look ! 56 refl))) (from ! (stop !)) (init ! 96 refl (Turn′.typed 𝓤 H A W r2 ok·2)) $
+      returns ! (look ! 96 refl) $
+      move ! (96 ∷ 97 ∷ []) $ forget ! 0 refl $ free1 ! $ move ! (94 ∷ 95 ∷ []) $ forget ! 0 refl $ free1 ! $ move ! (92 ∷ 93 ∷ []) $ forget ! 0 refl $ free1 ! $ move ! (90 ∷ 91 ∷ []) $ forget ! 0 refl $ free1 ! $ move ! (88 ∷ 89 ∷ []) $ forget ! 0 refl $ free1 ! $ move ! (86 ∷ 87 ∷ []) $ forget ! 0 refl $ free1 ! $ move ! (84 ∷ 85 ∷ []) $ forget ! 0 refl $ free1 ! $ move ! (82 ∷ 83 ∷ []) $ free1 ! $ move ! (80 ∷ 81 ∷ []) $ forget ! 0 refl $ free1 ! $ move ! (78 ∷ 79 ∷ []) $ forget ! 0 refl $ free1 ! $ move ! (76 ∷ 77 ∷ []) $ free1 ! $ move ! (74 ∷ 75 ∷ []) $ free1 ! $ move ! (72 ∷ 73 ∷ []) $ free1 ! $ move ! (70 ∷ 71 ∷ []) $ free1 ! $ move ! (68 ∷ 69 ∷ []) $ free1 ! $ move ! (66 ∷ 67 ∷ []) $ free1 ! $ move ! (64 ∷ 65 ∷ []) $ free1 ! $ move ! (62 ∷ 63 ∷ []) $ free1 ! $ move ! (60 ∷ 61 ∷ []) $ free1 ! $ move ! (58 ∷ 59 ∷ []) $ free1 ! $ move ! (56 ∷ 57 ∷ []) $ forget ! 0 refl $ free1 ! $ move ! (54 ∷ 55 ∷ []) $ free1 ! $ move ! (52 ∷ 53 ∷ []) $ free1 ! $ move ! (50 ∷ 51 ∷ []) $ free1 ! $ move ! (48 ∷ 49 ∷ []) $ forget ! 0 refl $ free1 ! $ move ! (46 ∷ 47 ∷ []) $ forget ! 0 refl $ free1 ! $ move ! (44 ∷ 45 ∷ []) $ forget ! 0 refl $ free1 ! $ move ! (42 ∷ 43 ∷ []) $ forget ! 0 refl $ free1 ! $ move ! (40 ∷ 41 ∷ []) $ free1 ! $ move ! (38 ∷ 39 ∷ []) $ free1 ! $ move ! (36 ∷ 37 ∷ []) $ free1 ! $ move ! (34 ∷ 35 ∷ []) $ free1 ! $ move ! (32 ∷ 33 ∷ []) $ free1 ! $ move ! (30 ∷ 31 ∷ []) $ free1 ! $ move ! (28 ∷ 29 ∷ []) $ free1 ! $ move ! (26 ∷ 27 ∷ []) $ free1 ! $ move ! (24 ∷ 25 ∷ []) $ free1 ! $ move ! (22 ∷ 23 ∷ []) $ free1 ! $ move ! (20 ∷ 21 ∷ []) $ free1 ! $ move ! (18 ∷ 19 ∷ []) $ free1 ! $ move ! (16 ∷ 17 ∷ []) $ free1 ! $ move ! (14 ∷ 15 ∷ []) $ free1 ! $ move ! (12 ∷ 13 ∷ []) $ free1 ! $ move ! (10 ∷ 11 ∷ []) $ free1 ! $ move ! (8 ∷ 9 ∷ []) $ free1 ! $ free0 ! $ by ! (exits r2 ok·2 out₂ (sym (refl ∙ sym same·2-out)))))))
+      (λ y1-0 y1-1 y1-2 y1-3 m·1. rewrite ! 92 (λ (u : Look). ‵ (fat fullShare Look′.ty l₂ 0 (Look′.mach u))) m·1 refl $ switches-to ! 2 (load ! (from ! (vrt ! refl (fld ! refl (stop !)))) (look-tag ! 92 (whole !))) (
       regroup ! $
-      assigns ! (of-opd ! (load ! (from ! (vrt ! refl (fld ! refl (stop !)))) (look-in ! 50 (in-variant ! 2 0 refl refl (whole !))))) (from ! (stop !)) (init ! 34 refl (Version′.typed 𝓤 H A W y1-0 (Look′.ok-Size-0 y1-0 (subst Look′.Ok m·1 ok·step)))) $
+      assigns ! (of-opd ! (load ! (from ! (vrt ! refl (fld ! refl (stop !)))) (look-in ! 92 (in-variant ! 2 0 refl refl (whole !))))) (from ! (stop !)) (init ! 76 refl (tt, record { fits = (Look′.ok-Read-0 y1-0 y1-1 y1-2 y1-3 (subst Look′.Ok m·1 ok·step)) .1 })) $
       regroup ! $
-      assigns ! (addr ! (from ! (fld ! refl (hop ! (look-in ! 42 (sub ! 0 refl (whole !))) (stop !))))) (from ! (stop !)) (init ! 18 refl (tt, tt)) $
+      assigns ! (of-opd ! (load ! (from ! (vrt ! refl (fld ! refl (stop !)))) (look-in ! 92 (in-variant ! 2 1 refl refl (whole !))))) (from ! (stop !)) (init ! 74 refl (tt, record { fits = (Look′.ok-Read-1 y1-0 y1-1 y1-2 y1-3 (subst Look′.Ok m·1 ok·step)) .1 })) $
       regroup ! $
-      assigns ! (agg ! (and-then ! (load ! (from ! (stop !)) (look ! 18 refl)) (and-then ! (load ! (from ! (fld ! refl (stop !))) (look-in ! 42 (sub ! 1 refl (whole !)))) (no-more !)))) (from ! (stop !)) (init ! 16 refl (tt, (tt, (record { fits = room·out .0 }, tt)))) $
+      assigns ! (of-opd ! (load ! (from ! (vrt ! refl (fld ! refl (stop !)))) (look-in ! 92 (in-variant ! 2 2 refl refl (whole !))))) (from ! (stop !)) (init ! 72 refl (tt, record { fits = (Look′.ok-Read-2 y1-0 y1-1 y1-2 y1-3 (subst Look′.Ok m·1 ok·step)) .1 })) $
+      regroup ! $
+      assigns ! (of-opd ! (load ! (from ! (vrt ! refl (fld ! refl (stop !)))) (look-in ! 92 (in-variant ! 2 3 refl refl (whole !))))) (from ! (stop !)) (init ! 70 refl (tt, record { fits = (Look′.ok-Read-3 y1-0 y1-1 y1-2 y1-3 (subst Look′.Ok m·1 ok·step)) .1 })) $
+      regroup ! $
+      assigns ! (agg ! (and-then ! (load ! (from ! (stop !)) (look ! 76 refl)) (no-more !))) (from ! (stop !)) (init ! 40 refl (Line′.typed 𝓤 H A W (Line′.build y1-0) (Line′.make y1-0 (Look′.ok-Read-0 y1-0 y1-1 y1-2 y1-3 (subst Look′.Ok m·1 ok·step))))) $
+      regroup ! $
+      assigns ! (agg ! (and-then ! (load ! (from ! (stop !)) (look ! 74 refl)) (no-more !))) (from ! (stop !)) (init ! 38 refl (Version′.typed 𝓤 H A W (Version′.build y1-1) (Version′.make y1-1 (Look′.ok-Read-1 y1-0 y1-1 y1-2 y1-3 (subst Look′.Ok m·1 ok·step))))) $
+      regroup ! $
+      assigns ! (agg ! (and-then ! (load ! (from ! (stop !)) (look ! 72 refl)) (no-more !))) (from ! (stop !)) (init ! 36 refl (ByteOffset′.typed 𝓤 H A W (ByteOffset′.build y1-2) (ByteOffset′.make y1-2 (Look′.ok-Read-2 y1-0 y1-1 y1-2 y1-3 (subst Look′.Ok m·1 ok·step))))) $
+      regroup ! $
+      assigns ! (addr ! (from ! (fld ! refl (hop ! (look-in ! 84 (sub ! 0 refl (whole !))) (stop !))))) (from ! (stop !)) (init ! 34 refl (tt, tt)) $
+      regroup ! $
+      assigns ! (agg ! (and-then ! (load ! (from ! (stop !)) (look ! 34 refl)) (and-then ! (load ! (from ! (fld ! refl (stop !))) (look-in ! 84 (sub ! 1 refl (whole !)))) (no-more !)))) (from ! (stop !)) (init ! 32 refl (tt, (tt, (record { fits = room·out .0 }, tt)))) $
       move ! (6 ∷ 7 ∷ []) $ lend-mut ! tt u8 κ·out q·out b·out o·out γ·out (length out) out (refl) (λ ν·3-out γ·3-out. move ! (3 ∷ 4 ∷ 5 ∷ 6 ∷ 7 ∷ 8 ∷ 0 ∷ 1 ∷ []) $
-      Call-size-step.calls ! mem run (fmOf 𝓤 H (W .laws) 𝓣) known-size-step kept y1-0 κ·pages q·pages b·pages o·pages γ·pages (length pages) pages κ·nodes q·nodes b·nodes o·nodes γ·nodes (length nodes) nodes κ·register q·register b·register o·register γ·register (length register) register (ν·3-out ∷ []) fullShare b·out o·out γ·3-out (length out) out ok·kept (Look′.ok-Size-0 y1-0 (subst Look′.Ok m·1 ok·step)) (and-then ! (load ! (from ! (stop !)) (look ! 49 refl)) (and-then ! (load ! (from ! (stop !)) (look ! 31 refl)) (and-then ! (load ! (from ! (stop !)) (look ! 45 refl)) (and-then ! (load ! (from ! (stop !)) (look ! 43 refl)) (and-then ! (load ! (from ! (stop !)) (look ! 41 refl)) (and-then ! (load ! (from ! (stop !)) (look ! 13 refl)) (no-more !)))))))
-      (λ r3 out₃ ok·3 same·3-out. move ! (6 ∷ 7 ∷ 8 ∷ []) $ back-mut ! tt u8 κ·out q·out b·out o·out γ·out (length out) out out₃ ν·3-out γ·3-out (refl) same·3-out room·out $ move ! (2 ∷ 3 ∷ 4 ∷ 5 ∷ 6 ∷ 7 ∷ 0 ∷ 1 ∷ []) $ land ! (from ! (stop !)) (init ! 28 refl (Turn′.typed 𝓤 H A W r3 ok·3)) $
-      here ! (‵ (flft κ·pages q·pages) ∷ ‵ (ShrAt u8 κ·pages b·pages o·pages γ·pages (length pages) pages) ∷ ‵ (flft κ·nodes q·nodes) ∷ ‵ (ShrAt u32 κ·nodes b·nodes o·nodes γ·nodes (length nodes) nodes) ∷ ‵ (flft κ·register q·register) ∷ ‵ (ShrAt Record′.row κ·register b·register o·register γ·register (length register) register) ∷ ‵ (flft κ·out q·out) ∷ ‵ (MutAt u8 κ·out b·out o·out γ·out (length out) out₃) ∷ empty (sliceTy (tyRef erased mut (pointee (u8 .written)))) l₂₃ (empty (tyRef erased mut (pointee (u8 .written))) l₂₂ (empty (sliceTy (tyRef erased mut (pointee (u8 .written)))) l₂₁ (empty (tyRef erased mut (pointee (u8 .written))) l₂₀ (holds (sliceTy (tyRef erased mut (pointee (u8 .written)))) l₁₉ (sliceVal (b·out, o·out) (length out)) (holds (tyRef erased mut (pointee (u8 .written))) l₁₈ (vptr b·out o·out) (empty (sliceTy (tyRef erased mut (pointee (u8 .written)))) l₁₇ (empty (tyRef erased mut (pointee (u8 .written))) l₁₆ (empty (sliceTy (tyRef erased mut (pointee (u8 .written)))) l₁₅ (empty (tyRef erased mut (pointee (u8 .written))) l₁₄ (holds (tyAt (code.function .locals) 13) l₁₃ (Turn′.mach r3) (empty (tyAt (code.function .locals) 12) l₁₂ (empty (tyAt (code.function .locals) 11) l₁₁ (holds (tyAt (code.function .locals) 10) l₁₀ (Version′.mach y1-0) (empty (tyInt w64) l₉ (empty (tyAt (code.function .locals) 8) l₈ (empty (tyAt (code.function .locals) 7) l₇ (holds (sliceTy (tyRef (named 3) mut (pointee (u8 .written)))) l₆ (sliceVal (b·out, o·out) (length out)) (holds (sliceTy (tyRef (named 2) imm (pointee (Record′.row .written)))) l₅ (sliceVal (b·register, o·register) (length register)) (holds (sliceTy (tyRef (named 1) imm (pointee (u32 .written)))) l₄ (sliceVal (b·nodes, o·nodes) (length nodes)) (holds (sliceTy (tyRef (named 0) imm (pointee (u8 .written)))) l₃ (sliceVal (b·pages, o·pages) (length pages)) (holds (tyAt (code.function .locals) 2) l₂ (Look′.mach (Look.Size y1-0)) (holds (tyAt (code.function .locals) 1) l₁ (Kept′.mach kept) (empty (tyAt (code.function .locals) 0) l₀ [])))))))))))))))))))))))) $
-      assigns ! (of-opd ! (load ! (from ! (stop !)) (look ! 28 refl))) (from ! (stop !)) (init ! 54 refl (Turn′.typed 𝓤 H A W r3 ok·3)) $
-      returns ! (look ! 54 refl) $
-      move ! (54 ∷ 55 ∷ []) $ forget ! 0 refl $ free1 ! $ move ! (52 ∷ 53 ∷ []) $ forget ! 0 refl $ free1 ! $ move ! (50 ∷ 51 ∷ []) $ forget ! 0 refl $ free1 ! $ move ! (48 ∷ 49 ∷ []) $ forget ! 0 refl $ free1 ! $ move ! (46 ∷ 47 ∷ []) $ forget ! 0 refl $ free1 ! $ move ! (44 ∷ 45 ∷ []) $ forget ! 0 refl $ free1 ! $ move ! (42 ∷ 43 ∷ []) $ forget ! 0 refl $ free1 ! $ move ! (40 ∷ 41 ∷ []) $ free1 ! $ move ! (38 ∷ 39 ∷ []) $ free1 ! $ move ! (36 ∷ 37 ∷ []) $ free1 ! $ move ! (34 ∷ 35 ∷ []) $ forget ! 0 refl $ free1 ! $ move ! (32 ∷ 33 ∷ []) $ free1 ! $ move ! (30 ∷ 31 ∷ []) $ free1 ! $ move ! (28 ∷ 29 ∷ []) $ forget ! 0 refl $ free1 ! $ move ! (26 ∷ 27 ∷ []) $ free1 ! $ move ! (24 ∷ 25 ∷ []) $ free1 ! $ move ! (22 ∷ 23 ∷ []) $ free1 ! $ move ! (20 ∷ 21 ∷ []) $ free1 ! $ move ! (18 ∷ 19 ∷ []) $ forget ! 0 refl $ free1 ! $ move ! (16 ∷ 17 ∷ []) $ forget ! 0 refl $ free1 ! $ move ! (14 ∷ 15 ∷ []) $ free1 ! $ move ! (12 ∷ 13 ∷ []) $ free1 ! $ move ! (10 ∷ 11 ∷ []) $ free1 ! $ move ! (8 ∷ 9 ∷ []) $ free1 ! $ free0 ! $ by ! (exits r3 ok·3 out₃ (sym (refl ∙ sym same·3-out)))))))
-      (λ m·1. rewrite ! 50 (λ (u : Look). ‵ (fat fullShare Look′.ty l₂ 0 (Look′.mach u))) m·1 refl $ switches-to ! 3 (load ! (from ! (vrt ! refl (fld ! refl (stop !)))) (look-tag ! 50 (whole !))) (
+      Call-read-step.calls ! mem run (fmOf 𝓤 H (W .laws) 𝓣) known-read-step kept (Line′.build y1-0) (Version′.build y1-1) (ByteOffset′.build y1-2) y1-3 κ·pages q·pages b·pages o·pages γ·pages (length pages) pages κ·nodes q·nodes b·nodes o·nodes γ·nodes (length nodes) nodes κ·register q·register b·register o·register γ·register (length register) register (ν·3-out ∷ []) fullShare b·out o·out γ·3-out (length out) out ok·kept (Line′.make y1-0 (Look′.ok-Read-0 y1-0 y1-1 y1-2 y1-3 (subst Look′.Ok m·1 ok·step))) (Version′.make y1-1 (Look′.ok-Read-1 y1-0 y1-1 y1-2 y1-3 (subst Look′.Ok m·1 ok·step))) (ByteOffset′.make y1-2 (Look′.ok-Read-2 y1-0 y1-1 y1-2 y1-3 (subst Look′.Ok m·1 ok·step))) (Look′.ok-Read-3 y1-0 y1-1 y1-2 y1-3 (subst Look′.Ok m·1 ok·step)) (and-then ! (load ! (from ! (stop !)) (look ! 91 refl)) (and-then ! (load ! (from ! (stop !)) (look ! 37 refl)) (and-then ! (load ! (from ! (stop !)) (look ! 35 refl)) (and-then ! (load ! (from ! (stop !)) (look ! 33 refl)) (and-then ! (load ! (from ! (stop !)) (look ! 67 refl)) (and-then ! (load ! (from ! (stop !)) (look ! 87 refl)) (and-then ! (load ! (from ! (stop !)) (look ! 85 refl)) (and-then ! (load ! (from ! (stop !)) (look ! 83 refl)) (and-then ! (load ! (from ! (stop !)) (look ! 29 refl)) (no-more !))))))))))
+      (λ r3 out₃ ok·3 same·3-out. move ! (6 ∷ 7 ∷ 8 ∷ []) $ back-mut ! tt u8 κ·out q·out b·out o·out γ·out (length out) out out₃ ν·3-out γ·3-out (refl) same·3-out room·out $ move ! (2 ∷ 3 ∷ 4 ∷ 5 ∷ 6 ∷ 7 ∷ 0 ∷ 1 ∷ []) $ land ! (from ! (stop !)) (init ! 56 refl (Turn′.typed 𝓤 H A W r3 ok·3)) $
+      here ! (‵ (flft κ·pages q·pages) ∷ ‵ (ShrAt u8 κ·pages b·pages o·pages γ·pages (length pages) pages) ∷ ‵ (flft κ·nodes q·nodes) ∷ ‵ (ShrAt u32 κ·nodes b·nodes o·nodes γ·nodes (length nodes) nodes) ∷ ‵ (flft κ·register q·register) ∷ ‵ (ShrAt Record′.row κ·register b·register o·register γ·register (length register) register) ∷ ‵ (flft κ·out q·out) ∷ ‵ (MutAt u8 κ·out b·out o·out γ·out (length out) out₃) ∷ empty (sliceTy (tyRef erased mut (pointee (u8 .written)))) l₄₄ (empty (tyRef erased mut (pointee (u8 .written))) l₄₃ (empty (tyAt (code.function .locals) 42) l₄₂ (empty (tyAt (code.function .locals) 41) l₄₁ (empty (tyAt (code.function .locals) 40) l₄₀ (empty (sliceTy (tyRef erased mut (pointee (u8 .written)))) l₃₉ (empty (tyRef erased mut (pointee (u8 .written))) l₃₈ (empty (tyAt (code.function .locals) 37) l₃₇ (empty (sliceTy (tyRef erased mut (pointee (u8 .written)))) l₃₆ (empty (tyRef erased mut (pointee (u8 .written))) l₃₅ (empty (tyAt (code.function .locals) 34) l₃₄ (empty (tyAt (code.function .locals) 33) l₃₃ (holds (sliceTy (tyRef erased mut (pointee (u8 .written)))) l₃₂ (sliceVal (b·out, o·out) (length out)) (holds (tyRef erased mut (pointee (u8 .written))) l₃₁ (vptr b·out o·out) (holds (tyAt (code.function .locals) 30) l₃₀ (ByteOffset′.mach (ByteOffset′.build y1-2)) (holds (tyAt (code.function .locals) 29) l₂₉ (Version′.mach (Version′.build y1-1)) (holds (tyAt (code.function .locals) 28) l₂₈ (Line′.mach (Line′.build y1-0)) (empty (sliceTy (tyRef erased mut (pointee (u8 .written)))) l₂₇ (empty (tyRef erased mut (pointee (u8 .written))) l₂₆ (empty (tyAt (code.function .locals) 25) l₂₅ (empty (tyAt (code.function .locals) 24) l₂₄ (empty (sliceTy (tyRef erased mut (pointee (u8 .written)))) l₂₃ (empty (tyRef erased mut (pointee (u8 .written))) l₂₂ (empty (tyAt (code.function .locals) 21) l₂₁ (holds (tyAt (code.function .locals) 20) l₂₀ (Turn′.mach r3) (empty (tyInt w64) l₁₉ (empty (tyInt w64) l₁₈ (empty (tyInt w64) l₁₇ (empty (tyInt w64) l₁₆ (empty (tyInt w64) l₁₅ (empty (tyInt w64) l₁₄ (holds (tyInt w64) l₁₃ (vint w64 y1-3) (holds (tyInt w64) l₁₂ (vint w64 y1-2) (holds (tyInt w64) l₁₁ (vint w64 y1-1) (holds (tyInt w64) l₁₀ (vint w64 y1-0) (empty (tyInt w64) l₉ (empty (tyInt w64) l₈ (empty (tyInt w64) l₇ (holds (sliceTy (tyRef (named 3) mut (pointee (u8 .written)))) l₆ (sliceVal (b·out, o·out) (length out)) (holds (sliceTy (tyRef (named 2) imm (pointee (Record′.row .written)))) l₅ (sliceVal (b·register, o·register) (length register)) (holds (sliceTy (tyRef (named 1) imm (pointee (u32 .written)))) l₄ (sliceVal (b·nodes, o·nodes) (length nodes)) (holds (sliceTy (tyRef (named 0) imm (pointee (u8 .written)))) l₃ (sliceVal (b·pages, o·pages) (length pages)) (holds (tyAt (code.function .locals) 2) l₂ (Look′.mach (Look.Read y1-0 y1-1 y1-2 y1-3)) (holds (tyAt (code.function .locals) 1) l₁ (Kept′.mach kept) (empty (tyAt (code.function .locals) 0) l₀ []))))))))))))))))))))))))))))))))))))))))))))) $
+      assigns ! (of-opd ! (load ! (from ! (stop !)) (look ! 56 refl))) (from ! (stop !)) (init ! 96 refl (Turn′.typed 𝓤 H A W r3 ok·3)) $
+      returns ! (look ! 96 refl) $
+      move ! (96 ∷ 97 ∷ []) $ forget ! 0 refl $ free1 ! $ move ! (94 ∷ 95 ∷ []) $ forget ! 0 refl $ free1 ! $ move ! (92 ∷ 93 ∷ []) $ forget ! 0 refl $ free1 ! $ move ! (90 ∷ 91 ∷ []) $ forget ! 0 refl $ free1 ! $ move ! (88 ∷ 89 ∷ []) $ forget ! 0 refl $ free1 ! $ move ! (86 ∷ 87 ∷ []) $ forget ! 0 refl $ free1 ! $ move ! (84 ∷ 85 ∷ []) $ forget ! 0 refl $ free1 ! $ move ! (82 ∷ 83 ∷ []) $ free1 ! $ move ! (80 ∷ 81 ∷ []) $ free1 ! $ move ! (78 ∷ 79 ∷ []) $ free1 ! $ move ! (76 ∷ 77 ∷ []) $ forget ! 0 refl $ free1 ! $ move ! (74 ∷ 75 ∷ []) $ forget ! 0 refl $ free1 ! $ move ! (72 ∷ 73 ∷ []) $ forget ! 0 refl $ free1 ! $ move ! (70 ∷ 71 ∷ []) $ forget ! 0 refl $ free1 ! $ move ! (68 ∷ 69 ∷ []) $ free1 ! $ move ! (66 ∷ 67 ∷ []) $ free1 ! $ move ! (64 ∷ 65 ∷ []) $ free1 ! $ move ! (62 ∷ 63 ∷ []) $ free1 ! $ move ! (60 ∷ 61 ∷ []) $ free1 ! $ move ! (58 ∷ 59 ∷ []) $ free1 ! $ move ! (56 ∷ 57 ∷ []) $ forget ! 0 refl $ free1 ! $ move ! (54 ∷ 55 ∷ []) $ free1 ! $ move ! (52 ∷ 53 ∷ []) $ free1 ! $ move ! (50 ∷ 51 ∷ []) $ free1 ! $ move ! (48 ∷ 49 ∷ []) $ free1 ! $ move ! (46 ∷ 47 ∷ []) $ free1 ! $ move ! (44 ∷ 45 ∷ []) $ free1 ! $ move ! (42 ∷ 43 ∷ []) $ free1 ! $ move ! (40 ∷ 41 ∷ []) $ forget ! 0 refl $ free1 ! $ move ! (38 ∷ 39 ∷ []) $ forget ! 0 refl $ free1 ! $ move ! (36 ∷ 37 ∷ []) $ forget ! 0 refl $ free1 ! $ move ! (34 ∷ 35 ∷ []) $ forget ! 0 refl $ free1 ! $ move ! (32 ∷ 33 ∷ []) $ forget ! 0 refl $ free1 ! $ move ! (30 ∷ 31 ∷ []) $ free1 ! $ move ! (28 ∷ 29 ∷ []) $ free1 ! $ move ! (26 ∷ 27 ∷ []) $ free1 ! $ move ! (24 ∷ 25 ∷ []) $ free1 ! $ move ! (22 ∷ 23 ∷ []) $ free1 ! $ move ! (20 ∷ 21 ∷ []) $ free1 ! $ move ! (18 ∷ 19 ∷ []) $ free1 ! $ move ! (16 ∷ 17 ∷ []) $ free1 ! $ move ! (14 ∷ 15 ∷ []) $ free1 ! $ move ! (12 ∷ 13 ∷ []) $ free1 ! $ move ! (10 ∷ 11 ∷ []) $ free1 ! $ move ! (8 ∷ 9 ∷ []) $ free1 ! $ free0 ! $ by ! (exits r3 ok·3 out₃ (sym (refl ∙ sym same·3-out)))))))
+      (λ y1-0 y1-1 m·1. rewrite ! 92 (λ (u : Look). ‵ (fat fullShare Look′.ty l₂ 0 (Look′.mach u))) m·1 refl $ switches-to ! 3 (load ! (from ! (vrt ! refl (fld ! refl (stop !)))) (look-tag ! 92 (whole !))) (
       regroup ! $
-      assigns ! (addr ! (from ! (fld ! refl (hop ! (look-in ! 42 (sub ! 0 refl (whole !))) (stop !))))) (from ! (stop !)) (init ! 14 refl (tt, tt)) $
+      assigns ! (of-opd ! (load ! (from ! (vrt ! refl (fld ! refl (stop !)))) (look-in ! 92 (in-variant ! 3 0 refl refl (whole !))))) (from ! (stop !)) (init ! 68 refl (tt, record { fits = (Look′.ok-Size-0 y1-0 y1-1 (subst Look′.Ok m·1 ok·step)) .1 })) $
       regroup ! $
-      assigns ! (agg ! (and-then ! (load ! (from ! (stop !)) (look ! 14 refl)) (and-then ! (load ! (from ! (fld ! refl (stop !))) (look-in ! 42 (sub ! 1 refl (whole !)))) (no-more !)))) (from ! (stop !)) (init ! 12 refl (tt, (tt, (record { fits = room·out .0 }, tt)))) $
+      assigns ! (of-opd ! (load ! (from ! (vrt ! refl (fld ! refl (stop !)))) (look-in ! 92 (in-variant ! 3 1 refl refl (whole !))))) (from ! (stop !)) (init ! 66 refl (tt, record { fits = (Look′.ok-Size-1 y1-0 y1-1 (subst Look′.Ok m·1 ok·step)) .1 })) $
+      regroup ! $
+      assigns ! (agg ! (and-then ! (load ! (from ! (stop !)) (look ! 68 refl)) (no-more !))) (from ! (stop !)) (init ! 30 refl (Line′.typed 𝓤 H A W (Line′.build y1-0) (Line′.make y1-0 (Look′.ok-Size-0 y1-0 y1-1 (subst Look′.Ok m·1 ok·step))))) $
+      regroup ! $
+      assigns ! (agg ! (and-then ! (load ! (from ! (stop !)) (look ! 66 refl)) (no-more !))) (from ! (stop !)) (init ! 28 refl (Version′.typed 𝓤 H A W (Version′.build y1-1) (Version′.make y1-1 (Look′.ok-Size-1 y1-0 y1-1 (subst Look′.Ok m·1 ok·step))))) $
+      regroup ! $
+      assigns ! (addr ! (from ! (fld ! refl (hop ! (look-in ! 84 (sub ! 0 refl (whole !))) (stop !))))) (from ! (stop !)) (init ! 26 refl (tt, tt)) $
+      regroup ! $
+      assigns ! (agg ! (and-then ! (load ! (from ! (stop !)) (look ! 26 refl)) (and-then ! (load ! (from ! (fld ! refl (stop !))) (look-in ! 84 (sub ! 1 refl (whole !)))) (no-more !)))) (from ! (stop !)) (init ! 24 refl (tt, (tt, (record { fits = room·out .0 }, tt)))) $
       move ! (6 ∷ 7 ∷ []) $ lend-mut ! tt u8 κ·out q·out b·out o·out γ·out (length out) out (refl) (λ ν·4-out γ·4-out. move ! (3 ∷ 4 ∷ 5 ∷ 6 ∷ 7 ∷ 8 ∷ 0 ∷ 1 ∷ []) $
-      Call-recent-step.calls ! mem run (fmOf 𝓤 H (W .laws) 𝓣) known-recent-step kept κ·pages q·pages b·pages o·pages γ·pages (length pages) pages κ·nodes q·nodes b·nodes o·nodes γ·nodes (length nodes) nodes κ·register q·register b·register o·register γ·register (length register) register (ν·4-out ∷ []) fullShare b·out o·out γ·4-out (length out) out ok·kept (and-then ! (load ! (from ! (stop !)) (look ! 49 refl)) (and-then ! (load ! (from ! (stop !)) (look ! 45 refl)) (and-then ! (load ! (from ! (stop !)) (look ! 43 refl)) (and-then ! (load ! (from ! (stop !)) (look ! 41 refl)) (and-then ! (load ! (from ! (stop !)) (look ! 9 refl)) (no-more !))))))
-      (λ r4 out₄ ok·4 same·4-out. move ! (6 ∷ 7 ∷ 8 ∷ []) $ back-mut ! tt u8 κ·out q·out b·out o·out γ·out (length out) out out₄ ν·4-out γ·4-out (refl) same·4-out room·out $ move ! (2 ∷ 3 ∷ 4 ∷ 5 ∷ 6 ∷ 7 ∷ 0 ∷ 1 ∷ []) $ land ! (from ! (stop !)) (init ! 28 refl (Turn′.typed 𝓤 H A W r4 ok·4)) $
-      here ! (‵ (flft κ·pages q·pages) ∷ ‵ (ShrAt u8 κ·pages b·pages o·pages γ·pages (length pages) pages) ∷ ‵ (flft κ·nodes q·nodes) ∷ ‵ (ShrAt u32 κ·nodes b·nodes o·nodes γ·nodes (length nodes) nodes) ∷ ‵ (flft κ·register q·register) ∷ ‵ (ShrAt Record′.row κ·register b·register o·register γ·register (length register) register) ∷ ‵ (flft κ·out q·out) ∷ ‵ (MutAt u8 κ·out b·out o·out γ·out (length out) out₄) ∷ empty (sliceTy (tyRef erased mut (pointee (u8 .written)))) l₂₃ (empty (tyRef erased mut (pointee (u8 .written))) l₂₂ (holds (sliceTy (tyRef erased mut (pointee (u8 .written)))) l₂₁ (sliceVal (b·out, o·out) (length out)) (holds (tyRef erased mut (pointee (u8 .written))) l₂₀ (vptr b·out o·out) (empty (sliceTy (tyRef erased mut (pointee (u8 .written)))) l₁₉ (empty (tyRef erased mut (pointee (u8 .written))) l₁₈ (empty (sliceTy (tyRef erased mut (pointee (u8 .written)))) l₁₇ (empty (tyRef erased mut (pointee (u8 .written))) l₁₆ (empty (sliceTy (tyRef erased mut (pointee (u8 .written)))) l₁₅ (empty (tyRef erased mut (pointee (u8 .written))) l₁₄ (holds (tyAt (code.function .locals) 13) l₁₃ (Turn′.mach r4) (empty (tyAt (code.function .locals) 12) l₁₂ (empty (tyAt (code.function .locals) 11) l₁₁ (empty (tyAt (code.function .locals) 10) l₁₀ (empty (tyInt w64) l₉ (empty (tyAt (code.function .locals) 8) l₈ (empty (tyAt (code.function .locals) 7) l₇ (holds (sliceTy (tyRef (named 3) mut (pointee (u8 .written)))) l₆ (sliceVal (b·out, o·out) (length out)) (holds (sliceTy (tyRef (named 2) imm (pointee (Record′.row .written)))) l₅ (sliceVal (b·register, o·register) (length register)) (holds (sliceTy (tyRef (named 1) imm (pointee (u32 .written)))) l₄ (sliceVal (b·nodes, o·nodes) (length nodes)) (holds (sliceTy (tyRef (named 0) imm (pointee (u8 .written)))) l₃ (sliceVal (b·pages, o·pages) (length pages)) (holds (tyAt (code.function .locals) 2) l₂ (Look′.mach Look.Recent) (holds (tyAt (code.function .locals) 1) l₁ (Kept′.mach kept) (empty (tyAt (code.function .locals) 0) l₀ [])))))))))))))))))))))))) $
-      assigns ! (of-opd ! (load ! (from ! (stop !)) (look ! 28 refl))) (from ! (stop !)) (init ! 54 refl (Turn′.typed 𝓤 H A W r4 ok·4)) $
-      returns ! (look ! 54 refl) $
-      move ! (54 ∷ 55 ∷ []) $ forget ! 0 refl $ free1 ! $ move ! (52 ∷ 53 ∷ []) $ forget ! 0 refl $ free1 ! $ move ! (50 ∷ 51 ∷ []) $ forget ! 0 refl $ free1 ! $ move ! (48 ∷ 49 ∷ []) $ forget ! 0 refl $ free1 ! $ move ! (46 ∷ 47 ∷ []) $ forget ! 0 refl $ free1 ! $ move ! (44 ∷ 45 ∷ []) $ forget ! 0 refl $ free1 ! $ move ! (42 ∷ 43 ∷ []) $ forget ! 0 refl $ free1 ! $ move ! (40 ∷ 41 ∷ []) $ free1 ! $ move ! (38 ∷ 39 ∷ []) $ free1 ! $ move ! (36 ∷ 37 ∷ []) $ free1 ! $ move ! (34 ∷ 35 ∷ []) $ free1 ! $ move ! (32 ∷ 33 ∷ []) $ free1 ! $ move ! (30 ∷ 31 ∷ []) $ free1 ! $ move ! (28 ∷ 29 ∷ []) $ forget ! 0 refl $ free1 ! $ move ! (26 ∷ 27 ∷ []) $ free1 ! $ move ! (24 ∷ 25 ∷ []) $ free1 ! $ move ! (22 ∷ 23 ∷ []) $ free1 ! $ move ! (20 ∷ 21 ∷ []) $ free1 ! $ move ! (18 ∷ 19 ∷ []) $ free1 ! $ move ! (16 ∷ 17 ∷ []) $ free1 ! $ move ! (14 ∷ 15 ∷ []) $ forget ! 0 refl $ free1 ! $ move ! (12 ∷ 13 ∷ []) $ forget ! 0 refl $ free1 ! $ move ! (10 ∷ 11 ∷ []) $ free1 ! $ move ! (8 ∷ 9 ∷ []) $ free1 ! $ free0 ! $ by ! (exits r4 ok·4 out₄ (sym (refl ∙ sym same·4-out)))))))
-      (λ y1-0 y1-1 m·1. rewrite ! 50 (λ (u : Look). ‵ (fat fullShare Look′.ty l₂ 0 (Look′.mach u))) m·1 refl $ switches-to ! 4 (load ! (from ! (vrt ! refl (fld ! refl (stop !)))) (look-tag ! 50 (whole !))) (
+      Call-size-step.calls ! mem run (fmOf 𝓤 H (W .laws) 𝓣) known-size-step kept (Line′.build y1-0) (Version′.build y1-1) κ·pages q·pages b·pages o·pages γ·pages (length pages) pages κ·nodes q·nodes b·nodes o·nodes γ·nodes (length nodes) nodes κ·register q·register b·register o·register γ·register (length register) register (ν·4-out ∷ []) fullShare b·out o·out γ·4-out (length out) out ok·kept (Line′.make y1-0 (Look′.ok-Size-0 y1-0 y1-1 (subst Look′.Ok m·1 ok·step))) (Version′.make y1-1 (Look′.ok-Size-1 y1-0 y1-1 (subst Look′.Ok m·1 ok·step))) (and-then ! (load ! (from ! (stop !)) (look ! 91 refl)) (and-then ! (load ! (from ! (stop !)) (look ! 27 refl)) (and-then ! (load ! (from ! (stop !)) (look ! 25 refl)) (and-then ! (load ! (from ! (stop !)) (look ! 87 refl)) (and-then ! (load ! (from ! (stop !)) (look ! 85 refl)) (and-then ! (load ! (from ! (stop !)) (look ! 83 refl)) (and-then ! (load ! (from ! (stop !)) (look ! 21 refl)) (no-more !))))))))
+      (λ r4 out₄ ok·4 same·4-out. move ! (6 ∷ 7 ∷ 8 ∷ []) $ back-mut ! tt u8 κ·out q·out b·out o·out γ·out (length out) out out₄ ν·4-out γ·4-out (refl) same·4-out room·out $ move ! (2 ∷ 3 ∷ 4 ∷ 5 ∷ 6 ∷ 7 ∷ 0 ∷ 1 ∷ []) $ land ! (from ! (stop !)) (init ! 56 refl (Turn′.typed 𝓤 H A W r4 ok·4)) $
+      here ! (‵ (flft κ·pages q·pages) ∷ ‵ (ShrAt u8 κ·pages b·pages o·pages γ·pages (length pages) pages) ∷ ‵ (flft κ·nodes q·nodes) ∷ ‵ (ShrAt u32 κ·nodes b·nodes o·nodes γ·nodes (length nodes) nodes) ∷ ‵ (flft κ·register q·register) ∷ ‵ (ShrAt Record′.row κ·register b·register o·register γ·register (length register) register) ∷ ‵ (flft κ·out q·out) ∷ ‵ (MutAt u8 κ·out b·out o·out γ·out (length out) out₄) ∷ empty (sliceTy (tyRef erased mut (pointee (u8 .written)))) l₄₄ (empty (tyRef erased mut (pointee (u8 .written))) l₄₃ (empty (tyAt (code.function .locals) 42) l₄₂ (empty (tyAt (code.function .locals) 41) l₄₁ (empty (tyAt (code.function .locals) 40) l₄₀ (empty (sliceTy (tyRef erased mut (pointee (u8 .written)))) l₃₉ (empty (tyRef erased mut (pointee (u8 .written))) l₃₈ (empty (tyAt (code.function .locals) 37) l₃₇ (holds (sliceTy (tyRef erased mut (pointee (u8 .written)))) l₃₆ (sliceVal (b·out, o·out) (length out)) (holds (tyRef erased mut (pointee (u8 .written))) l₃₅ (vptr b·out o·out) (holds (tyAt (code.function .locals) 34) l₃₄ (Version′.mach (Version′.build y1-1)) (holds (tyAt (code.function .locals) 33) l₃₃ (Line′.mach (Line′.build y1-0)) (empty (sliceTy (tyRef erased mut (pointee (u8 .written)))) l₃₂ (empty (tyRef erased mut (pointee (u8 .written))) l₃₁ (empty (tyAt (code.function .locals) 30) l₃₀ (empty (tyAt (code.function .locals) 29) l₂₉ (empty (tyAt (code.function .locals) 28) l₂₈ (empty (sliceTy (tyRef erased mut (pointee (u8 .written)))) l₂₇ (empty (tyRef erased mut (pointee (u8 .written))) l₂₆ (empty (tyAt (code.function .locals) 25) l₂₅ (empty (tyAt (code.function .locals) 24) l₂₄ (empty (sliceTy (tyRef erased mut (pointee (u8 .written)))) l₂₃ (empty (tyRef erased mut (pointee (u8 .written))) l₂₂ (empty (tyAt (code.function .locals) 21) l₂₁ (holds (tyAt (code.function .locals) 20) l₂₀ (Turn′.mach r4) (empty (tyInt w64) l₁₉ (empty (tyInt w64) l₁₈ (empty (tyInt w64) l₁₇ (empty (tyInt w64) l₁₆ (holds (tyInt w64) l₁₅ (vint w64 y1-1) (holds (tyInt w64) l₁₄ (vint w64 y1-0) (empty (tyInt w64) l₁₃ (empty (tyInt w64) l₁₂ (empty (tyInt w64) l₁₁ (empty (tyInt w64) l₁₀ (empty (tyInt w64) l₉ (empty (tyInt w64) l₈ (empty (tyInt w64) l₇ (holds (sliceTy (tyRef (named 3) mut (pointee (u8 .written)))) l₆ (sliceVal (b·out, o·out) (length out)) (holds (sliceTy (tyRef (named 2) imm (pointee (Record′.row .written)))) l₅ (sliceVal (b·register, o·register) (length register)) (holds (sliceTy (tyRef (named 1) imm (pointee (u32 .written)))) l₄ (sliceVal (b·nodes, o·nodes) (length nodes)) (holds (sliceTy (tyRef (named 0) imm (pointee (u8 .written)))) l₃ (sliceVal (b·pages, o·pages) (length pages)) (holds (tyAt (code.function .locals) 2) l₂ (Look′.mach (Look.Size y1-0 y1-1)) (holds (tyAt (code.function .locals) 1) l₁ (Kept′.mach kept) (empty (tyAt (code.function .locals) 0) l₀ []))))))))))))))))))))))))))))))))))))))))))))) $
+      assigns ! (of-opd ! (load ! (from ! (stop !)) (look ! 56 refl))) (from ! (stop !)) (init ! 96 refl (Turn′.typed 𝓤 H A W r4 ok·4)) $
+      returns ! (look ! 96 refl) $
+      move ! (96 ∷ 97 ∷ []) $ forget ! 0 refl $ free1 ! $ move ! (94 ∷ 95 ∷ []) $ forget ! 0 refl $ free1 ! $ move ! (92 ∷ 93 ∷ []) $ forget ! 0 refl $ free1 ! $ move ! (90 ∷ 91 ∷ []) $ forget ! 0 refl $ free1 ! $ move ! (88 ∷ 89 ∷ []) $ forget ! 0 refl $ free1 ! $ move ! (86 ∷ 87 ∷ []) $ forget ! 0 refl $ free1 ! $ move ! (84 ∷ 85 ∷ []) $ forget ! 0 refl $ free1 ! $ move ! (82 ∷ 83 ∷ []) $ free1 ! $ move ! (80 ∷ 81 ∷ []) $ free1 ! $ move ! (78 ∷ 79 ∷ []) $ free1 ! $ move ! (76 ∷ 77 ∷ []) $ free1 ! $ move ! (74 ∷ 75 ∷ []) $ free1 ! $ move ! (72 ∷ 73 ∷ []) $ free1 ! $ move ! (70 ∷ 71 ∷ []) $ free1 ! $ move ! (68 ∷ 69 ∷ []) $ forget ! 0 refl $ free1 ! $ move ! (66 ∷ 67 ∷ []) $ forget ! 0 refl $ free1 ! $ move ! (64 ∷ 65 ∷ []) $ free1 ! $ move ! (62 ∷ 63 ∷ []) $ free1 ! $ move ! (60 ∷ 61 ∷ []) $ free1 ! $ move ! (58 ∷ 59 ∷ []) $ free1 ! $ move ! (56 ∷ 57 ∷ []) $ forget ! 0 refl $ free1 ! $ move ! (54 ∷ 55 ∷ []) $ free1 ! $ move ! (52 ∷ 53 ∷ []) $ free1 ! $ move ! (50 ∷ 51 ∷ []) $ free1 ! $ move ! (48 ∷ 49 ∷ []) $ free1 ! $ move ! (46 ∷ 47 ∷ []) $ free1 ! $ move ! (44 ∷ 45 ∷ []) $ free1 ! $ move ! (42 ∷ 43 ∷ []) $ free1 ! $ move ! (40 ∷ 41 ∷ []) $ free1 ! $ move ! (38 ∷ 39 ∷ []) $ free1 ! $ move ! (36 ∷ 37 ∷ []) $ free1 ! $ move ! (34 ∷ 35 ∷ []) $ free1 ! $ move ! (32 ∷ 33 ∷ []) $ free1 ! $ move ! (30 ∷ 31 ∷ []) $ forget ! 0 refl $ free1 ! $ move ! (28 ∷ 29 ∷ []) $ forget ! 0 refl $ free1 ! $ move ! (26 ∷ 27 ∷ []) $ forget ! 0 refl $ free1 ! $ move ! (24 ∷ 25 ∷ []) $ forget ! 0 refl $ free1 ! $ move ! (22 ∷ 23 ∷ []) $ free1 ! $ move ! (20 ∷ 21 ∷ []) $ free1 ! $ move ! (18 ∷ 19 ∷ []) $ free1 ! $ move ! (16 ∷ 17 ∷ []) $ free1 ! $ move ! (14 ∷ 15 ∷ []) $ free1 ! $ move ! (12 ∷ 13 ∷ []) $ free1 ! $ move ! (10 ∷ 11 ∷ []) $ free1 ! $ move ! (8 ∷ 9 ∷ []) $ free1 ! $ free0 ! $ by ! (exits r4 ok·4 out₄ (sym (refl ∙ sym same·4-out)))))))
+      (λ y1-0 m·1. rewrite ! 92 (λ (u : Look). ‵ (fat fullShare Look′.ty l₂ 0 (Look′.mach u))) m·1 refl $ switches-to ! 4 (load ! (from ! (vrt ! refl (fld ! refl (stop !)))) (look-tag ! 92 (whole !))) (
       regroup ! $
-      assigns ! (of-opd ! (load ! (from ! (vrt ! refl (fld ! refl (stop !)))) (look-in ! 50 (in-variant ! 4 0 refl refl (whole !))))) (from ! (stop !)) (init ! 32 refl (Version′.typed 𝓤 H A W y1-0 (Look′.ok-Stamp-0 y1-0 y1-1 (subst Look′.Ok m·1 ok·step)))) $
+      assigns ! (of-opd ! (load ! (from ! (vrt ! refl (fld ! refl (stop !)))) (look-in ! 92 (in-variant ! 4 0 refl refl (whole !))))) (from ! (stop !)) (init ! 64 refl (tt, record { fits = (Look′.ok-Recent-0 y1-0 (subst Look′.Ok m·1 ok·step)) .1 })) $
       regroup ! $
-      assigns ! (of-opd ! (load ! (from ! (vrt ! refl (fld ! refl (stop !)))) (look-in ! 50 (in-variant ! 4 1 refl refl (whole !))))) (from ! (stop !)) (init ! 30 refl (PageIndex′.typed 𝓤 H A W y1-1 (Look′.ok-Stamp-1 y1-0 y1-1 (subst Look′.Ok m·1 ok·step)))) $
+      assigns ! (agg ! (and-then ! (load ! (from ! (stop !)) (look ! 64 refl)) (no-more !))) (from ! (stop !)) (init ! 22 refl (Line′.typed 𝓤 H A W (Line′.build y1-0) (Line′.make y1-0 (Look′.ok-Recent-0 y1-0 (subst Look′.Ok m·1 ok·step))))) $
       regroup ! $
-      assigns ! (addr ! (from ! (fld ! refl (hop ! (look-in ! 42 (sub ! 0 refl (whole !))) (stop !))))) (from ! (stop !)) (init ! 10 refl (tt, tt)) $
+      assigns ! (addr ! (from ! (fld ! refl (hop ! (look-in ! 84 (sub ! 0 refl (whole !))) (stop !))))) (from ! (stop !)) (init ! 20 refl (tt, tt)) $
       regroup ! $
-      assigns ! (agg ! (and-then ! (load ! (from ! (stop !)) (look ! 10 refl)) (and-then ! (load ! (from ! (fld ! refl (stop !))) (look-in ! 42 (sub ! 1 refl (whole !)))) (no-more !)))) (from ! (stop !)) (init ! 8 refl (tt, (tt, (record { fits = room·out .0 }, tt)))) $
+      assigns ! (agg ! (and-then ! (load ! (from ! (stop !)) (look ! 20 refl)) (and-then ! (load ! (from ! (fld ! refl (stop !))) (look-in ! 84 (sub ! 1 refl (whole !)))) (no-more !)))) (from ! (stop !)) (init ! 18 refl (tt, (tt, (record { fits = room·out .0 }, tt)))) $
       move ! (6 ∷ 7 ∷ []) $ lend-mut ! tt u8 κ·out q·out b·out o·out γ·out (length out) out (refl) (λ ν·5-out γ·5-out. move ! (3 ∷ 4 ∷ 5 ∷ 6 ∷ 7 ∷ 8 ∷ 0 ∷ 1 ∷ []) $
-      Call-stamp-step.calls ! mem run (fmOf 𝓤 H (W .laws) 𝓣) known-stamp-step kept y1-0 y1-1 κ·pages q·pages b·pages o·pages γ·pages (length pages) pages κ·nodes q·nodes b·nodes o·nodes γ·nodes (length nodes) nodes κ·register q·register b·register o·register γ·register (length register) register (ν·5-out ∷ []) fullShare b·out o·out γ·5-out (length out) out ok·kept (Look′.ok-Stamp-0 y1-0 y1-1 (subst Look′.Ok m·1 ok·step)) (Look′.ok-Stamp-1 y1-0 y1-1 (subst Look′.Ok m·1 ok·step)) (and-then ! (load ! (from ! (stop !)) (look ! 49 refl)) (and-then ! (load ! (from ! (stop !)) (look ! 29 refl)) (and-then ! (load ! (from ! (stop !)) (look ! 27 refl)) (and-then ! (load ! (from ! (stop !)) (look ! 45 refl)) (and-then ! (load ! (from ! (stop !)) (look ! 43 refl)) (and-then ! (load ! (from ! (stop !)) (look ! 41 refl)) (and-then ! (load ! (from ! (stop !)) (look ! 5 refl)) (no-more !))))))))
-      (λ r5 out₅ ok·5 same·5-out. move ! (6 ∷ 7 ∷ 8 ∷ []) $ back-mut ! tt u8 κ·out q·out b·out o·out γ·out (length out) out out₅ ν·5-out γ·5-out (refl) same·5-out room·out $ move ! (2 ∷ 3 ∷ 4 ∷ 5 ∷ 6 ∷ 7 ∷ 0 ∷ 1 ∷ []) $ land ! (from ! (stop !)) (init ! 28 refl (Turn′.typed 𝓤 H A W r5 ok·5)) $
-      here ! (‵ (flft κ·pages q·pages) ∷ ‵ (ShrAt u8 κ·pages b·pages o·pages γ·pages (length pages) pages) ∷ ‵ (flft κ·nodes q·nodes) ∷ ‵ (ShrAt u32 κ·nodes b·nodes o·nodes γ·nodes (length nodes) nodes) ∷ ‵ (flft κ·register q·register) ∷ ‵ (ShrAt Record′.row κ·register b·register o·register γ·register (length register) register) ∷ ‵ (flft κ·out q·out) ∷ ‵ (MutAt u8 κ·out b·out o·out γ·out (length out) out₅) ∷ holds (sliceTy (tyRef erased mut (pointee (u8 .written)))) l₂₃ (sliceVal (b·out, o·out) (length out)) (holds (tyRef erased mut (pointee (u8 .written))) l₂₂ (vptr b·out o·out) (empty (sliceTy (tyRef erased mut (pointee (u8 .written)))) l₂₁ (empty (tyRef erased mut (pointee (u8 .written))) l₂₀ (empty (sliceTy (tyRef erased mut (pointee (u8 .written)))) l₁₉ (empty (tyRef erased mut (pointee (u8 .written))) l₁₈ (empty (sliceTy (tyRef erased mut (pointee (u8 .written)))) l₁₇ (empty (tyRef erased mut (pointee (u8 .written))) l₁₆ (empty (sliceTy (tyRef erased mut (pointee (u8 .written)))) l₁₅ (empty (tyRef erased mut (pointee (u8 .written))) l₁₄ (holds (tyAt (code.function .locals) 13) l₁₃ (Turn′.mach r5) (holds (tyAt (code.function .locals) 12) l₁₂ (PageIndex′.mach y1-1) (holds (tyAt (code.function .locals) 11) l₁₁ (Version′.mach y1-0) (empty (tyAt (code.function .locals) 10) l₁₀ (empty (tyInt w64) l₉ (empty (tyAt (code.function .locals) 8) l₈ (empty (tyAt (code.function .locals) 7) l₇ (holds (sliceTy (tyRef (named 3) mut (pointee (u8 .written)))) l₆ (sliceVal (b·out, o·out) (length out)) (holds (sliceTy (tyRef (named 2) imm (pointee (Record′.row .written)))) l₅ (sliceVal (b·register, o·register) (length register)) (holds (sliceTy (tyRef (named 1) imm (pointee (u32 .written)))) l₄ (sliceVal (b·nodes, o·nodes) (length nodes)) (holds (sliceTy (tyRef (named 0) imm (pointee (u8 .written)))) l₃ (sliceVal (b·pages, o·pages) (length pages)) (holds (tyAt (code.function .locals) 2) l₂ (Look′.mach (Look.Stamp y1-0 y1-1)) (holds (tyAt (code.function .locals) 1) l₁ (Kept′.mach kept) (empty (tyAt (code.function .locals) 0) l₀ [])))))))))))))))))))))))) $
-      assigns ! (of-opd ! (load ! (from ! (stop !)) (look ! 28 refl))) (from ! (stop !)) (init ! 54 refl (Turn′.typed 𝓤 H A W r5 ok·5)) $
-      returns ! (look ! 54 refl) $
-      move ! (54 ∷ 55 ∷ []) $ forget ! 0 refl $ free1 ! $ move ! (52 ∷ 53 ∷ []) $ forget ! 0 refl $ free1 ! $ move ! (50 ∷ 51 ∷ []) $ forget ! 0 refl $ free1 ! $ move ! (48 ∷ 49 ∷ []) $ forget ! 0 refl $ free1 ! $ move ! (46 ∷ 47 ∷ []) $ forget ! 0 refl $ free1 ! $ move ! (44 ∷ 45 ∷ []) $ forget ! 0 refl $ free1 ! $ move ! (42 ∷ 43 ∷ []) $ forget ! 0 refl $ free1 ! $ move ! (40 ∷ 41 ∷ []) $ free1 ! $ move ! (38 ∷ 39 ∷ []) $ free1 ! $ move ! (36 ∷ 37 ∷ []) $ free1 ! $ move ! (34 ∷ 35 ∷ []) $ free1 ! $ move ! (32 ∷ 33 ∷ []) $ forget ! 0 refl $ free1 ! $ move ! (30 ∷ 31 ∷ []) $ forget ! 0 refl $ free1 ! $ move ! (28 ∷ 29 ∷ []) $ forget ! 0 refl $ free1 ! $ move ! (26 ∷ 27 ∷ []) $ free1 ! $ move ! (24 ∷ 25 ∷ []) $ free1 ! $ move ! (22 ∷ 23 ∷ []) $ free1 ! $ move ! (20 ∷ 21 ∷ []) $ free1 ! $ move ! (18 ∷ 19 ∷ []) $ free1 ! $ move ! (16 ∷ 17 ∷ []) $ free1 ! $ move ! (14 ∷ 15 ∷ []) $ free1 ! $ move ! (12 ∷ 13 ∷ []) $ free1 ! $ move ! (10 ∷ 11 ∷ []) $ forget ! 0 refl $ free1 ! $ move ! (8 ∷ 9 ∷ []) $ forget ! 0 refl $ free1 ! $ free0 ! $ by ! (exits r5 ok·5 out₅ (sym (refl ∙ sym same·5-out)))))))))))))))))))))))))))))))
+      Call-recent-step.calls ! mem run (fmOf 𝓤 H (W .laws) 𝓣) known-recent-step kept (Line′.build y1-0) κ·pages q·pages b·pages o·pages γ·pages (length pages) pages κ·nodes q·nodes b·nodes o·nodes γ·nodes (length nodes) nodes κ·register q·register b·register o·register γ·register (length register) register (ν·5-out ∷ []) fullShare b·out o·out γ·5-out (length out) out ok·kept (Line′.make y1-0 (Look′.ok-Recent-0 y1-0 (subst Look′.Ok m·1 ok·step))) (and-then ! (load ! (from ! (stop !)) (look ! 91 refl)) (and-then ! (load ! (from ! (stop !)) (look ! 19 refl)) (and-then ! (load ! (from ! (stop !)) (look ! 87 refl)) (and-then ! (load ! (from ! (stop !)) (look ! 85 refl)) (and-then ! (load ! (from ! (stop !)) (look ! 83 refl)) (and-then ! (load ! (from ! (stop !)) (look ! 15 refl)) (no-more !)))))))
+      (λ r5 out₅ ok·5 same·5-out. move ! (6 ∷ 7 ∷ 8 ∷ []) $ back-mut ! tt u8 κ·out q·out b·out o·out γ·out (length out) out out₅ ν·5-out γ·5-out (refl) same·5-out room·out $ move ! (2 ∷ 3 ∷ 4 ∷ 5 ∷ 6 ∷ 7 ∷ 0 ∷ 1 ∷ []) $ land ! (from ! (stop !)) (init ! 56 refl (Turn′.typed 𝓤 H A W r5 ok·5)) $
+      here ! (‵ (flft κ·pages q·pages) ∷ ‵ (ShrAt u8 κ·pages b·pages o·pages γ·pages (length pages) pages) ∷ ‵ (flft κ·nodes q·nodes) ∷ ‵ (ShrAt u32 κ·nodes b·nodes o·nodes γ·nodes (length nodes) nodes) ∷ ‵ (flft κ·register q·register) ∷ ‵ (ShrAt Record′.row κ·register b·register o·register γ·register (length register) register) ∷ ‵ (flft κ·out q·out) ∷ ‵ (MutAt u8 κ·out b·out o·out γ·out (length out) out₅) ∷ empty (sliceTy (tyRef erased mut (pointee (u8 .written)))) l₄₄ (empty (tyRef erased mut (pointee (u8 .written))) l₄₃ (empty (tyAt (code.function .locals) 42) l₄₂ (empty (tyAt (code.function .locals) 41) l₄₁ (empty (tyAt (code.function .locals) 40) l₄₀ (holds (sliceTy (tyRef erased mut (pointee (u8 .written)))) l₃₉ (sliceVal (b·out, o·out) (length out)) (holds (tyRef erased mut (pointee (u8 .written))) l₃₈ (vptr b·out o·out) (holds (tyAt (code.function .locals) 37) l₃₇ (Line′.mach (Line′.build y1-0)) (empty (sliceTy (tyRef erased mut (pointee (u8 .written)))) l₃₆ (empty (tyRef erased mut (pointee (u8 .written))) l₃₅ (empty (tyAt (code.function .locals) 34) l₃₄ (empty (tyAt (code.function .locals) 33) l₃₃ (empty (sliceTy (tyRef erased mut (pointee (u8 .written)))) l₃₂ (empty (tyRef erased mut (pointee (u8 .written))) l₃₁ (empty (tyAt (code.function .locals) 30) l₃₀ (empty (tyAt (code.function .locals) 29) l₂₉ (empty (tyAt (code.function .locals) 28) l₂₈ (empty (sliceTy (tyRef erased mut (pointee (u8 .written)))) l₂₇ (empty (tyRef erased mut (pointee (u8 .written))) l₂₆ (empty (tyAt (code.function .locals) 25) l₂₅ (empty (tyAt (code.function .locals) 24) l₂₄ (empty (sliceTy (tyRef erased mut (pointee (u8 .written)))) l₂₃ (empty (tyRef erased mut (pointee (u8 .written))) l₂₂ (empty (tyAt (code.function .locals) 21) l₂₁ (holds (tyAt (code.function .locals) 20) l₂₀ (Turn′.mach r5) (empty (tyInt w64) l₁₉ (empty (tyInt w64) l₁₈ (empty (tyInt w64) l₁₇ (holds (tyInt w64) l₁₆ (vint w64 y1-0) (empty (tyInt w64) l₁₅ (empty (tyInt w64) l₁₄ (empty (tyInt w64) l₁₃ (empty (tyInt w64) l₁₂ (empty (tyInt w64) l₁₁ (empty (tyInt w64) l₁₀ (empty (tyInt w64) l₉ (empty (tyInt w64) l₈ (empty (tyInt w64) l₇ (holds (sliceTy (tyRef (named 3) mut (pointee (u8 .written)))) l₆ (sliceVal (b·out, o·out) (length out)) (holds (sliceTy (tyRef (named 2) imm (pointee (Record′.row .written)))) l₅ (sliceVal (b·register, o·register) (length register)) (holds (sliceTy (tyRef (named 1) imm (pointee (u32 .written)))) l₄ (sliceVal (b·nodes, o·nodes) (length nodes)) (holds (sliceTy (tyRef (named 0) imm (pointee (u8 .written)))) l₃ (sliceVal (b·pages, o·pages) (length pages)) (holds (tyAt (code.function .locals) 2) l₂ (Look′.mach (Look.Recent y1-0)) (holds (tyAt (code.function .locals) 1) l₁ (Kept′.mach kept) (empty (tyAt (code.function .locals) 0) l₀ []))))))))))))))))))))))))))))))))))))))))))))) $
+      assigns ! (of-opd ! (load ! (from ! (stop !)) (look ! 56 refl))) (from ! (stop !)) (init ! 96 refl (Turn′.typed 𝓤 H A W r5 ok·5)) $
+      returns ! (look ! 96 refl) $
+      move ! (96 ∷ 97 ∷ []) $ forget ! 0 refl $ free1 ! $ move ! (94 ∷ 95 ∷ []) $ forget ! 0 refl $ free1 ! $ move ! (92 ∷ 93 ∷ []) $ forget ! 0 refl $ free1 ! $ move ! (90 ∷ 91 ∷ []) $ forget ! 0 refl $ free1 ! $ move ! (88 ∷ 89 ∷ []) $ forget ! 0 refl $ free1 ! $ move ! (86 ∷ 87 ∷ []) $ forget ! 0 refl $ free1 ! $ move ! (84 ∷ 85 ∷ []) $ forget ! 0 refl $ free1 ! $ move ! (82 ∷ 83 ∷ []) $ free1 ! $ move ! (80 ∷ 81 ∷ []) $ free1 ! $ move ! (78 ∷ 79 ∷ []) $ free1 ! $ move ! (76 ∷ 77 ∷ []) $ free1 ! $ move ! (74 ∷ 75 ∷ []) $ free1 ! $ move ! (72 ∷ 73 ∷ []) $ free1 ! $ move ! (70 ∷ 71 ∷ []) $ free1 ! $ move ! (68 ∷ 69 ∷ []) $ free1 ! $ move ! (66 ∷ 67 ∷ []) $ free1 ! $ move ! (64 ∷ 65 ∷ []) $ forget ! 0 refl $ free1 ! $ move ! (62 ∷ 63 ∷ []) $ free1 ! $ move ! (60 ∷ 61 ∷ []) $ free1 ! $ move ! (58 ∷ 59 ∷ []) $ free1 ! $ move ! (56 ∷ 57 ∷ []) $ forget ! 0 refl $ free1 ! $ move ! (54 ∷ 55 ∷ []) $ free1 ! $ move ! (52 ∷ 53 ∷ []) $ free1 ! $ move ! (50 ∷ 51 ∷ []) $ free1 ! $ move ! (48 ∷ 49 ∷ []) $ free1 ! $ move ! (46 ∷ 47 ∷ []) $ free1 ! $ move ! (44 ∷ 45 ∷ []) $ free1 ! $ move ! (42 ∷ 43 ∷ []) $ free1 ! $ move ! (40 ∷ 41 ∷ []) $ free1 ! $ move ! (38 ∷ 39 ∷ []) $ free1 ! $ move ! (36 ∷ 37 ∷ []) $ free1 ! $ move ! (34 ∷ 35 ∷ []) $ free1 ! $ move ! (32 ∷ 33 ∷ []) $ free1 ! $ move ! (30 ∷ 31 ∷ []) $ free1 ! $ move ! (28 ∷ 29 ∷ []) $ free1 ! $ move ! (26 ∷ 27 ∷ []) $ free1 ! $ move ! (24 ∷ 25 ∷ []) $ free1 ! $ move ! (22 ∷ 23 ∷ []) $ forget ! 0 refl $ free1 ! $ move ! (20 ∷ 21 ∷ []) $ forget ! 0 refl $ free1 ! $ move ! (18 ∷ 19 ∷ []) $ forget ! 0 refl $ free1 ! $ move ! (16 ∷ 17 ∷ []) $ free1 ! $ move ! (14 ∷ 15 ∷ []) $ free1 ! $ move ! (12 ∷ 13 ∷ []) $ free1 ! $ move ! (10 ∷ 11 ∷ []) $ free1 ! $ move ! (8 ∷ 9 ∷ []) $ free1 ! $ free0 ! $ by ! (exits r5 ok·5 out₅ (sym (refl ∙ sym same·5-out)))))))
+      (λ y1-0 y1-1 y1-2 m·1. rewrite ! 92 (λ (u : Look). ‵ (fat fullShare Look′.ty l₂ 0 (Look′.mach u))) m·1 refl $ switches-to ! 5 (load ! (from ! (vrt ! refl (fld ! refl (stop !)))) (look-tag ! 92 (whole !))) (
+      regroup ! $
+      assigns ! (of-opd ! (load ! (from ! (vrt ! refl (fld ! refl (stop !)))) (look-in ! 92 (in-variant ! 5 0 refl refl (whole !))))) (from ! (stop !)) (init ! 62 refl (tt, record { fits = (Look′.ok-Stamp-0 y1-0 y1-1 y1-2 (subst Look′.Ok m·1 ok·step)) .1 })) $
+      regroup ! $
+      assigns ! (of-opd ! (load ! (from ! (vrt ! refl (fld ! refl (stop !)))) (look-in ! 92 (in-variant ! 5 1 refl refl (whole !))))) (from ! (stop !)) (init ! 60 refl (tt, record { fits = (Look′.ok-Stamp-1 y1-0 y1-1 y1-2 (subst Look′.Ok m·1 ok·step)) .1 })) $
+      regroup ! $
+      assigns ! (of-opd ! (load ! (from ! (vrt ! refl (fld ! refl (stop !)))) (look-in ! 92 (in-variant ! 5 2 refl refl (whole !))))) (from ! (stop !)) (init ! 58 refl (tt, record { fits = (Look′.ok-Stamp-2 y1-0 y1-1 y1-2 (subst Look′.Ok m·1 ok·step)) .1 })) $
+      regroup ! $
+      assigns ! (agg ! (and-then ! (load ! (from ! (stop !)) (look ! 62 refl)) (no-more !))) (from ! (stop !)) (init ! 16 refl (Line′.typed 𝓤 H A W (Line′.build y1-0) (Line′.make y1-0 (Look′.ok-Stamp-0 y1-0 y1-1 y1-2 (subst Look′.Ok m·1 ok·step))))) $
+      regroup ! $
+      assigns ! (agg ! (and-then ! (load ! (from ! (stop !)) (look ! 60 refl)) (no-more !))) (from ! (stop !)) (init ! 14 refl (Version′.typed 𝓤 H A W (Version′.build y1-1) (Version′.make y1-1 (Look′.ok-Stamp-1 y1-0 y1-1 y1-2 (subst Look′.Ok m·1 ok·step))))) $
+      regroup ! $
+      assigns ! (agg ! (and-then ! (load ! (from ! (stop !)) (look ! 58 refl)) (no-more !))) (from ! (stop !)) (init ! 12 refl (PageIndex′.typed 𝓤 H A W (PageIndex′.build y1-2) (PageIndex′.make y1-2 (Look′.ok-Stamp-2 y1-0 y1-1 y1-2 (subst Look′.Ok m·1 ok·step))))) $
+      regroup ! $
+      assigns ! (addr ! (from ! (fld ! refl (hop ! (look-in ! 84 (sub ! 0 refl (whole !))) (stop !))))) (from ! (stop !)) (init ! 10 refl (tt, tt)) $
+      regroup ! $
+      assigns ! (agg ! (and-then ! (load ! (from ! (stop !)) (look ! 10 refl)) (and-then ! (load ! (from ! (fld ! refl (stop !))) (look-in ! 84 (sub ! 1 refl (whole !)))) (no-more !)))) (from ! (stop !)) (init ! 8 refl (tt, (tt, (record { fits = room·out .0 }, tt)))) $
+      move ! (6 ∷ 7 ∷ []) $ lend-mut ! tt u8 κ·out q·out b·out o·out γ·out (length out) out (refl) (λ ν·6-out γ·6-out. move ! (3 ∷ 4 ∷ 5 ∷ 6 ∷ 7 ∷ 8 ∷ 0 ∷ 1 ∷ []) $
+      Call-stamp-step.calls ! mem run (fmOf 𝓤 H (W .laws) 𝓣) known-stamp-step kept (Line′.build y1-0) (Version′.build y1-1) (PageIndex′.build y1-2) κ·pages q·pages b·pages o·pages γ·pages (length pages) pages κ·nodes q·nodes b·nodes o·nodes γ·nodes (length nodes) nodes κ·register q·register b·register o·register γ·register (length register) register (ν·6-out ∷ []) fullShare b·out o·out γ·6-out (length out) out ok·kept (Line′.make y1-0 (Look′.ok-Stamp-0 y1-0 y1-1 y1-2 (subst Look′.Ok m·1 ok·step))) (Version′.make y1-1 (Look′.ok-Stamp-1 y1-0 y1-1 y1-2 (subst Look′.Ok m·1 ok·step))) (PageIndex′.make y1-2 (Look′.ok-Stamp-2 y1-0 y1-1 y1-2 (subst Look′.Ok m·1 ok·step))) (and-then ! (load ! (from ! (stop !)) (look ! 91 refl)) (and-then ! (load ! (from ! (stop !)) (look ! 13 refl)) (and-then ! (load ! (from ! (stop !)) (look ! 11 refl)) (and-then ! (load ! (from ! (stop !)) (look ! 9 refl)) (and-then ! (load ! (from ! (stop !)) (look ! 87 refl)) (and-then ! (load ! (from ! (stop !)) (look ! 85 refl)) (and-then ! (load ! (from ! (stop !)) (look ! 83 refl)) (and-then ! (load ! (from ! (stop !)) (look ! 5 refl)) (no-more !)))))))))
+      (λ r6 out₆ ok·6 same·6-out. move ! (6 ∷ 7 ∷ 8 ∷ []) $ back-mut ! tt u8 κ·out q·out b·out o·out γ·out (length out) out out₆ ν·6-out γ·6-out (refl) same·6-out room·out $ move ! (2 ∷ 3 ∷ 4 ∷ 5 ∷ 6 ∷ 7 ∷ 0 ∷ 1 ∷ []) $ land ! (from ! (stop !)) (init ! 56 refl (Turn′.typed 𝓤 H A W r6 ok·6)) $
+      here ! (‵ (flft κ·pages q·pages) ∷ ‵ (ShrAt u8 κ·pages b·pages o·pages γ·pages (length pages) pages) ∷ ‵ (flft κ·nodes q·nodes) ∷ ‵ (ShrAt u32 κ·nodes b·nodes o·nodes γ·nodes (length nodes) nodes) ∷ ‵ (flft κ·register q·register) ∷ ‵ (ShrAt Record′.row κ·register b·register o·register γ·register (length register) register) ∷ ‵ (flft κ·out q·out) ∷ ‵ (MutAt u8 κ·out b·out o·out γ·out (length out) out₆) ∷ holds (sliceTy (tyRef erased mut (pointee (u8 .written)))) l₄₄ (sliceVal (b·out, o·out) (length out)) (holds (tyRef erased mut (pointee (u8 .written))) l₄₃ (vptr b·out o·out) (holds (tyAt (code.function .locals) 42) l₄₂ (PageIndex′.mach (PageIndex′.build y1-2)) (holds (tyAt (code.function .locals) 41) l₄₁ (Version′.mach (Version′.build y1-1)) (holds (tyAt (code.function .locals) 40) l₄₀ (Line′.mach (Line′.build y1-0)) (empty (sliceTy (tyRef erased mut (pointee (u8 .written)))) l₃₉ (empty (tyRef erased mut (pointee (u8 .written))) l₃₈ (empty (tyAt (code.function .locals) 37) l₃₇ (empty (sliceTy (tyRef erased mut (pointee (u8 .written)))) l₃₆ (empty (tyRef erased mut (pointee (u8 .written))) l₃₅ (empty (tyAt (code.function .locals) 34) l₃₄ (empty (tyAt (code.function .locals) 33) l₃₃ (empty (sliceTy (tyRef erased mut (pointee (u8 .written)))) l₃₂ (empty (tyRef erased mut (pointee (u8 .written))) l₃₁ (empty (tyAt (code.function .locals) 30) l₃₀ (empty (tyAt (code.function .locals) 29) l₂₉ (empty (tyAt (code.function .locals) 28) l₂₈ (empty (sliceTy (tyRef erased mut (pointee (u8 .written)))) l₂₇ (empty (tyRef erased mut (pointee (u8 .written))) l₂₆ (empty (tyAt (code.function .locals) 25) l₂₅ (empty (tyAt (code.function .locals) 24) l₂₄ (empty (sliceTy (tyRef erased mut (pointee (u8 .written)))) l₂₃ (empty (tyRef erased mut (pointee (u8 .written))) l₂₂ (empty (tyAt (code.function .locals) 21) l₂₁ (holds (tyAt (code.function .locals) 20) l₂₀ (Turn′.mach r6) (holds (tyInt w64) l₁₉ (vint w64 y1-2) (holds (tyInt w64) l₁₈ (vint w64 y1-1) (holds (tyInt w64) l₁₇ (vint w64 y1-0) (empty (tyInt w64) l₁₆ (empty (tyInt w64) l₁₅ (empty (tyInt w64) l₁₄ (empty (tyInt w64) l₁₃ (empty (tyInt w64) l₁₂ (empty (tyInt w64) l₁₁ (empty (tyInt w64) l₁₀ (empty (tyInt w64) l₉ (empty (tyInt w64) l₈ (empty (tyInt w64) l₇ (holds (sliceTy (tyRef (named 3) mut (pointee (u8 .written)))) l₆ (sliceVal (b·out, o·out) (length out)) (holds (sliceTy (tyRef (named 2) imm (pointee (Record′.row .written)))) l₅ (sliceVal (b·register, o·register) (length register)) (holds (sliceTy (tyRef (named 1) imm (pointee (u32 .written)))) l₄ (sliceVal (b·nodes, o·nodes) (length nodes)) (holds (sliceTy (tyRef (named 0) imm (pointee (u8 .written)))) l₃ (sliceVal (b·pages, o·pages) (length pages)) (holds (tyAt (code.function .locals) 2) l₂ (Look′.mach (Look.Stamp y1-0 y1-1 y1-2)) (holds (tyAt (code.function .locals) 1) l₁ (Kept′.mach kept) (empty (tyAt (code.function .locals) 0) l₀ []))))))))))))))))))))))))))))))))))))))))))))) $
+      assigns ! (of-opd ! (load ! (from ! (stop !)) (look ! 56 refl))) (from ! (stop !)) (init ! 96 refl (Turn′.typed 𝓤 H A W r6 ok·6)) $
+      returns ! (look ! 96 refl) $
+      move ! (96 ∷ 97 ∷ []) $ forget ! 0 refl $ free1 ! $ move ! (94 ∷ 95 ∷ []) $ forget ! 0 refl $ free1 ! $ move ! (92 ∷ 93 ∷ []) $ forget ! 0 refl $ free1 ! $ move ! (90 ∷ 91 ∷ []) $ forget ! 0 refl $ free1 ! $ move ! (88 ∷ 89 ∷ []) $ forget ! 0 refl $ free1 ! $ move ! (86 ∷ 87 ∷ []) $ forget ! 0 refl $ free1 ! $ move ! (84 ∷ 85 ∷ []) $ forget ! 0 refl $ free1 ! $ move ! (82 ∷ 83 ∷ []) $ free1 ! $ move ! (80 ∷ 81 ∷ []) $ free1 ! $ move ! (78 ∷ 79 ∷ []) $ free1 ! $ move ! (76 ∷ 77 ∷ []) $ free1 ! $ move ! (74 ∷ 75 ∷ []) $ free1 ! $ move ! (72 ∷ 73 ∷ []) $ free1 ! $ move ! (70 ∷ 71 ∷ []) $ free1 ! $ move ! (68 ∷ 69 ∷ []) $ free1 ! $ move ! (66 ∷ 67 ∷ []) $ free1 ! $ move ! (64 ∷ 65 ∷ []) $ free1 ! $ move ! (62 ∷ 63 ∷ []) $ forget ! 0 refl $ free1 ! $ move ! (60 ∷ 61 ∷ []) $ forget ! 0 refl $ free1 ! $ move ! (58 ∷ 59 ∷ []) $ forget ! 0 refl $ free1 ! $ move ! (56 ∷ 57 ∷ []) $ forget ! 0 refl $ free1 ! $ move ! (54 ∷ 55 ∷ []) $ free1 ! $ move ! (52 ∷ 53 ∷ []) $ free1 ! $ move ! (50 ∷ 51 ∷ []) $ free1 ! $ move ! (48 ∷ 49 ∷ []) $ free1 ! $ move ! (46 ∷ 47 ∷ []) $ free1 ! $ move ! (44 ∷ 45 ∷ []) $ free1 ! $ move ! (42 ∷ 43 ∷ []) $ free1 ! $ move ! (40 ∷ 41 ∷ []) $ free1 ! $ move ! (38 ∷ 39 ∷ []) $ free1 ! $ move ! (36 ∷ 37 ∷ []) $ free1 ! $ move ! (34 ∷ 35 ∷ []) $ free1 ! $ move ! (32 ∷ 33 ∷ []) $ free1 ! $ move ! (30 ∷ 31 ∷ []) $ free1 ! $ move ! (28 ∷ 29 ∷ []) $ free1 ! $ move ! (26 ∷ 27 ∷ []) $ free1 ! $ move ! (24 ∷ 25 ∷ []) $ free1 ! $ move ! (22 ∷ 23 ∷ []) $ free1 ! $ move ! (20 ∷ 21 ∷ []) $ free1 ! $ move ! (18 ∷ 19 ∷ []) $ free1 ! $ move ! (16 ∷ 17 ∷ []) $ forget ! 0 refl $ free1 ! $ move ! (14 ∷ 15 ∷ []) $ forget ! 0 refl $ free1 ! $ move ! (12 ∷ 13 ∷ []) $ forget ! 0 refl $ free1 ! $ move ! (10 ∷ 11 ∷ []) $ forget ! 0 refl $ free1 ! $ move ! (8 ∷ 9 ∷ []) $ forget ! 0 refl $ free1 ! $ free0 ! $ by ! (exits r6 ok·6 out₆ (sym (refl ∙ sym same·6-out))))))))))))))))))))))))))))))))))))))))))))))))))))
 
 module _ {M : Type 1} (𝓤 : URA M) (H : Heap 𝓤) (A : Atoms 𝓤) (W : Given 𝓤 H A) (mem : Memory → SProp 𝓤) (run : Routine → Fun 𝓤) where
-  walks : (𝓣 : Tables 𝓤 H) → Triple 𝓤 (𝓣 .C #publish-step) (Call-publish-step.Asked 𝓤 H A mem run) → Triple 𝓤 (𝓣 .C #read-step) (Call-read-step.Asked 𝓤 H A mem run) → Triple 𝓤 (𝓣 .C #size-step) (Call-size-step.Asked 𝓤 H A mem run) → Triple 𝓤 (𝓣 .C #recent-step) (Call-recent-step.Asked 𝓤 H A mem run) → Triple 𝓤 (𝓣 .C #stamp-step) (Call-stamp-step.Asked 𝓤 H A mem run) → Walks 𝓤 H A look-step‴.ended stayed (WpFn 𝓤 H (𝓣 .C) (𝓣 .Λ) code.function) (look-step‴.clauses 𝓤 H A mem run)
-  walks 𝓣 known-publish-step known-read-step known-size-step known-recent-step known-stamp-step = walked 𝓤 H A look-step‴.ended stayed (look-step‴.clauses 𝓤 H A mem run) (WpFn 𝓤 H (𝓣 .C) (𝓣 .Λ) code.function) (λ κs. (Kept′.vals, (Look′.vals, (slice-vals, (slice-vals, (slice-vals, (slice-vals, tt))))))) (λ κs. (Kept′.tells, (Look′.tells, (shr-slice-tells (named 0) (κs .0) u8, (shr-slice-tells (named 0) (κs .1 .0) u32, (shr-slice-tells (named 0) (κs .1 .1 .0) Record′.row, (mut-slice-tells (named 0) (κs .1 .1 .1 .0) u8, tt)))))))
-      (λ κs qs bounds a g are. via 𝓤 _ (fst∗ 𝓤 _ (emp 𝓤)) (walk 𝓤 H A W mem run (a .0) (a .1 .0) (κs .0) (qs .0) (a .1 .1 .0 .ptr .0) (a .1 .1 .0 .ptr .1) (a .1 .1 .0 .name) (a .1 .1 .0 .now) (κs .1 .0) (qs .1 .0) (a .1 .1 .1 .0 .ptr .0) (a .1 .1 .1 .0 .ptr .1) (a .1 .1 .1 .0 .name) (a .1 .1 .1 .0 .now) (κs .1 .1 .0) (qs .1 .1 .0) (a .1 .1 .1 .1 .0 .ptr .0) (a .1 .1 .1 .1 .0 .ptr .1) (a .1 .1 .1 .1 .0 .name) (a .1 .1 .1 .1 .0 .now) (κs .1 .1 .1 .0) (qs .1 .1 .1 .0) (a .1 .1 .1 .1 .1 .0 .ptr .0) (a .1 .1 .1 .1 .1 .0 .ptr .1) (a .1 .1 .1 .1 .1 .0 .name) (a .1 .1 .1 .1 .1 .0 .now) (are .0) (are .1 .0) (are .1 .1 .0 .0 .1) (are .1 .1 .1 .0 .0 .1) (are .1 .1 .1 .1 .0 .0 .1) (are .1 .1 .1 .1 .1 .0 .0 .1) 𝓣 known-publish-step known-read-step known-size-step known-recent-step known-stamp-step))
+  walks : (𝓣 : Tables 𝓤 H) → Triple 𝓤 (𝓣 .C #publish-step) (Call-publish-step.Asked 𝓤 H A mem run) → Triple 𝓤 (𝓣 .C #branch-step) (Call-branch-step.Asked 𝓤 H A mem run) → Triple 𝓤 (𝓣 .C #read-step) (Call-read-step.Asked 𝓤 H A mem run) → Triple 𝓤 (𝓣 .C #size-step) (Call-size-step.Asked 𝓤 H A mem run) → Triple 𝓤 (𝓣 .C #recent-step) (Call-recent-step.Asked 𝓤 H A mem run) → Triple 𝓤 (𝓣 .C #stamp-step) (Call-stamp-step.Asked 𝓤 H A mem run) → Walks 𝓤 H A look-step‴.ended stayed (WpFn 𝓤 H (𝓣 .C) (𝓣 .Λ) code.function) (look-step‴.clauses 𝓤 H A mem run)
+  walks 𝓣 known-publish-step known-branch-step known-read-step known-size-step known-recent-step known-stamp-step = walked 𝓤 H A look-step‴.ended stayed (look-step‴.clauses 𝓤 H A mem run) (WpFn 𝓤 H (𝓣 .C) (𝓣 .Λ) code.function) (λ κs. (Kept′.vals, (Look′.vals, (slice-vals, (slice-vals, (slice-vals, (slice-vals, tt))))))) (λ κs. (Kept′.tells, (Look′.tells, (shr-slice-tells (named 0) (κs .0) u8, (shr-slice-tells (named 0) (κs .1 .0) u32, (shr-slice-tells (named 0) (κs .1 .1 .0) Record′.row, (mut-slice-tells (named 0) (κs .1 .1 .1 .0) u8, tt)))))))
+      (λ κs qs bounds a g are. via 𝓤 _ (fst∗ 𝓤 _ (emp 𝓤)) (walk 𝓤 H A W mem run (a .0) (a .1 .0) (κs .0) (qs .0) (a .1 .1 .0 .ptr .0) (a .1 .1 .0 .ptr .1) (a .1 .1 .0 .name) (a .1 .1 .0 .now) (κs .1 .0) (qs .1 .0) (a .1 .1 .1 .0 .ptr .0) (a .1 .1 .1 .0 .ptr .1) (a .1 .1 .1 .0 .name) (a .1 .1 .1 .0 .now) (κs .1 .1 .0) (qs .1 .1 .0) (a .1 .1 .1 .1 .0 .ptr .0) (a .1 .1 .1 .1 .0 .ptr .1) (a .1 .1 .1 .1 .0 .name) (a .1 .1 .1 .1 .0 .now) (κs .1 .1 .1 .0) (qs .1 .1 .1 .0) (a .1 .1 .1 .1 .1 .0 .ptr .0) (a .1 .1 .1 .1 .1 .0 .ptr .1) (a .1 .1 .1 .1 .1 .0 .name) (a .1 .1 .1 .1 .1 .0 .now) (are .0) (are .1 .0) (are .1 .1 .0 .0 .1) (are .1 .1 .1 .0 .0 .1) (are .1 .1 .1 .1 .0 .0 .1) (are .1 .1 .1 .1 .1 .0 .0 .1) 𝓣 known-publish-step known-branch-step known-read-step known-size-step known-recent-step known-stamp-step))
 
-meets : {M : Type 1} (𝓤 : URA M) (H : Heap 𝓤) (A : Atoms 𝓤) → Given 𝓤 H A → (mem : Memory → SProp 𝓤) (run : Routine → Fun 𝓤) (𝓣 : Tables 𝓤 H) → Triple 𝓤 (𝓣 .C #publish-step) (Call-publish-step.Asked 𝓤 H A mem run) → Triple 𝓤 (𝓣 .C #read-step) (Call-read-step.Asked 𝓤 H A mem run) → Triple 𝓤 (𝓣 .C #size-step) (Call-size-step.Asked 𝓤 H A mem run) → Triple 𝓤 (𝓣 .C #recent-step) (Call-recent-step.Asked 𝓤 H A mem run) → Triple 𝓤 (𝓣 .C #stamp-step) (Call-stamp-step.Asked 𝓤 H A mem run)
+meets : {M : Type 1} (𝓤 : URA M) (H : Heap 𝓤) (A : Atoms 𝓤) → Given 𝓤 H A → (mem : Memory → SProp 𝓤) (run : Routine → Fun 𝓤) (𝓣 : Tables 𝓤 H) → Triple 𝓤 (𝓣 .C #publish-step) (Call-publish-step.Asked 𝓤 H A mem run) → Triple 𝓤 (𝓣 .C #branch-step) (Call-branch-step.Asked 𝓤 H A mem run) → Triple 𝓤 (𝓣 .C #read-step) (Call-read-step.Asked 𝓤 H A mem run) → Triple 𝓤 (𝓣 .C #size-step) (Call-size-step.Asked 𝓤 H A mem run) → Triple 𝓤 (𝓣 .C #recent-step) (Call-recent-step.Asked 𝓤 H A mem run) → Triple 𝓤 (𝓣 .C #stamp-step) (Call-stamp-step.Asked 𝓤 H A mem run)
     → Meets 𝓤 H A look-step‴.signature (WpFn 𝓤 H (𝓣 .C) (𝓣 .Λ) code.function) (look-step‴.spec 𝓤 H A mem run)
-meets 𝓤 H A W mem run 𝓣 known-publish-step known-read-step known-size-step known-recent-step known-stamp-step =
+meets 𝓤 H A W mem run 𝓣 known-publish-step known-branch-step known-read-step known-size-step known-recent-step known-stamp-step =
     walk-meets 𝓤 H A look-step‴.ended stayed W (goes-none 𝓤 H A W 4 (λ _. Kept′.row) yes (λ κs x f. refl), (goes-none 𝓤 H A W 4 (λ _. Look′.row) yes (λ κs x f. refl), (goes-none-slice 𝓤 H A W 4 (0 ∷ []) tt (plain (λ _. u8)) yes, (goes-none-slice 𝓤 H A W 4 (1 ∷ []) tt (plain (λ _. u32)) yes, (goes-none-slice 𝓤 H A W 4 (2 ∷ []) tt (plain (λ _. Record′.row)) yes, (goes-slice 𝓤 H A W 4 3 tt (plain (λ _. u8)), tt)))))) (look-step‴.clauses 𝓤 H A mem run)
-    (WpFn 𝓤 H (𝓣 .C) (𝓣 .Λ) code.function) (WpFn-mono 𝓤 H (W .laws) 𝓣 code.function) (walks 𝓤 H A W mem run 𝓣 known-publish-step known-read-step known-size-step known-recent-step known-stamp-step)
+    (WpFn 𝓤 H (𝓣 .C) (𝓣 .Λ) code.function) (WpFn-mono 𝓤 H (W .laws) 𝓣 code.function) (walks 𝓤 H A W mem run 𝓣 known-publish-step known-branch-step known-read-step known-size-step known-recent-step known-stamp-step)
 
 pub look-step-spec : {M : Type 1} → stated.statement M
 unfolding code.routine tablesOf
@@ -210,6 +271,7 @@ look-step-spec 𝓤 H 𝓜 𝓖 𝓡 =
     (tables 𝓤 H 𝓜 𝓡 code.env .C) (tables 𝓤 H 𝓜 𝓡 code.env .Λ) #self code.function (code.unfolded 𝓤 H 𝓜 𝓡)
     (meets 𝓤 H (𝓖 .A) (givenOf 𝓤 H 𝓜 𝓖) (𝓜 .mem) (𝓡 .run) (tablesOf 𝓤 H 𝓜 (tables 𝓤 H 𝓜 𝓡 code.env))
     (cited 𝓤 H (Call-publish-step.Asked 𝓤 H (𝓖 .A) (𝓜 .mem) (𝓡 .run)) 𝓜 𝓡 code.env #publish-step def-publish-step.routine code.calls-turns·publish-step (thm-publish-step.met 𝓤 H 𝓜 𝓖 𝓡))
+    (cited 𝓤 H (Call-branch-step.Asked 𝓤 H (𝓖 .A) (𝓜 .mem) (𝓡 .run)) 𝓜 𝓡 code.env #branch-step def-branch-step.routine code.calls-turns·branch-step (thm-branch-step.met 𝓤 H 𝓜 𝓖 𝓡))
     (cited 𝓤 H (Call-read-step.Asked 𝓤 H (𝓖 .A) (𝓜 .mem) (𝓡 .run)) 𝓜 𝓡 code.env #read-step def-read-step.routine code.calls-turns·read-step (thm-read-step.met 𝓤 H 𝓜 𝓖 𝓡))
     (cited 𝓤 H (Call-size-step.Asked 𝓤 H (𝓖 .A) (𝓜 .mem) (𝓡 .run)) 𝓜 𝓡 code.env #size-step def-size-step.routine code.calls-turns·size-step (thm-size-step.met 𝓤 H 𝓜 𝓖 𝓡))
     (cited 𝓤 H (Call-recent-step.Asked 𝓤 H (𝓖 .A) (𝓜 .mem) (𝓡 .run)) 𝓜 𝓡 code.env #recent-step def-recent-step.routine code.calls-turns·recent-step (thm-recent-step.met 𝓤 H 𝓜 𝓖 𝓡))

@@ -40,21 +40,27 @@ use denote.Triple.Spec.{Meets, tripleOf}
 use denote.Triple.Table.{entered, cited}
 use denote.Triple.Walked.{says, needs, Stays, stay-slice, stay-none-slice, stay-none, walkOf, Walks, ends-at, walked, goes-slice, goes-none-slice, goes-none, walk-meets}
 use Rattle.answers.specs.declared.Turn.{Turn}
-use Rattle.turns.proofs.Generated.Kind.Turn as Turn′
+use Rattle.answers.proofs.Generated.Kind.Turn as Turn′
 use Rattle.answers.specs.declared.Kept.{Kept}
-use Rattle.turns.proofs.Generated.Kind.Kept as Kept′
+use Rattle.answers.proofs.Generated.Kind.Kept as Kept′
 use Rattle.versions.specs.declared.Store.{Store}
 use Rattle.versions.proofs.Generated.Kind.Store as Store′
 use Rattle.tree.specs.declared.Ticket.{Ticket}
 use Rattle.register.proofs.Generated.Kind.Ticket as Ticket′
+use Rattle.lines.specs.declared.Branch.{Branch}
+use Rattle.versions.proofs.Generated.Kind.Branch as Branch′
+use Rattle.lines.specs.declared.Line.{Line}
+use Rattle.register.proofs.Generated.Kind.Line as Line′
 use Rattle.tree.specs.declared.Version.{Version}
 use Rattle.register.proofs.Generated.Kind.Version as Version′
 use Rattle.respond.specs.declared.Note.{Note}
 use Rattle.respond.proofs.Generated.Kind.Note as Note′
-use Rattle.tree.specs.declared.PageIndex.{PageIndex}
-use Rattle.register.proofs.Generated.Kind.PageIndex as PageIndex′
 use Rattle.register.specs.declared.Record.{Record}
 use Rattle.register.proofs.Generated.Kind.Record as Record′
+use Rattle.tree.specs.declared.PageIndex.{PageIndex}
+use Rattle.register.proofs.Generated.Kind.PageIndex as PageIndex′
+use Rattle.lines.specs.declared.Entries.{Entries}
+use Rattle.register.proofs.Generated.Kind.Entries as Entries′
 use Rattle.register.proofs.Generated.Flow.{ref, MutAt, ShrAt, lend-mut, back-mut, lend-shr, back-shr, branches-on, regroup, skips-on, returns-on, plus-nothing, holds, empty, less-fits, is-true, is-false, differ, above-0, twice-not, switches-to, switches-last, big-lit, here, blocks-on, resume, scaled-2, scaled-4, scaled-8, opens-shr, shuts-shr, opens-mut, shuts-mut, puts-mut, keeps-shr, fills, empties, tyAt}
 use Rattle.respond.proofs.Generated.Say.note_step as note-step″
 use Rattle.turns.proofs.Generated.Say.begin_step as begin-step″
@@ -103,66 +109,80 @@ module _ {M : Type 1} (𝓤 : URA M) (H : Heap 𝓤) (A : Atoms 𝓤) (W : Given
       (WpFn 𝓤 H (𝓣 .C) (𝓣 .Λ) code.function (Kept′.mach kept ∷ Note′.mach step ∷ sliceVal (b·pages, o·pages) (length pages) ∷ sliceVal (b·nodes, o·nodes) (length nodes) ∷ sliceVal (b·register, o·register) (length register) ∷ sliceVal (b·out, o·out) (length out) ∷ []) Post)
   walk 𝓣 known-begin-step known-write-step known-append-step =
       qed W ((‵ (flft κ·pages q·pages) ⊛ ‵ (flft κ·nodes q·nodes) ⊛ ‵ (flft κ·register q·register) ⊛ ‵ (flft κ·out q·out) ⊛ ‵ ftrue) ∷ ‵ (owns (Kept′.row ∷ Note′.row ∷ ShrSlice (named 0) κ·pages u8 ∷ ShrSlice (named 0) κ·nodes u32 ∷ MutSlice (named 0) κ·register Record′.row ∷ MutSlice (named 0) κ·out u8 ∷ []) all-args all-vals) ∷ []) ∵ enter ! (𝓣 .C) (𝓣 .Λ) code.function (Kept′.mach kept ∷ Note′.mach step ∷ sliceVal (b·pages, o·pages) (length pages) ∷ sliceVal (b·nodes, o·nodes) (length nodes) ∷ sliceVal (b·register, o·register) (length register) ∷ sliceVal (b·out, o·out) (length out) ∷ []) _ $
-      alloc1 ! (λ l₀. alloc1 ! (λ l₁. alloc1 ! (λ l₂. alloc1 ! (λ l₃. alloc1 ! (λ l₄. alloc1 ! (λ l₅. alloc1 ! (λ l₆. alloc1 ! (λ l₇. alloc1 ! (λ l₈. alloc1 ! (λ l₉. alloc1 ! (λ l₁₀. alloc1 ! (λ l₁₁. alloc1 ! (λ l₁₂. alloc1 ! (λ l₁₃. alloc1 ! (λ l₁₄. alloc1 ! (λ l₁₅. alloc1 ! (λ l₁₆. alloc1 ! (λ l₁₇. alloc1 ! (λ l₁₈. alloc1 ! (λ l₁₉. alloc1 ! (λ l₂₀. alloc1 ! (λ l₂₁. alloc1 ! (λ l₂₂. alloc1 ! (λ l₂₃. alloc0 ! $ params1 ! $
-      pass1 ! (init ! 44 refl (Kept′.typed 𝓤 H A W kept ok·kept)) $ pass1 ! (init ! 42 refl (Note′.typed 𝓤 H A W step ok·step)) $ pass1 ! (init ! 40 refl (tt, (tt, (record { fits = room·pages .0 }, tt)))) $ pass1 ! (init ! 38 refl (tt, (tt, (record { fits = room·nodes .0 }, tt)))) $ pass1 ! (init ! 36 refl (tt, (tt, (record { fits = room·register .0 }, tt)))) $ pass1 ! (init ! 34 refl (tt, (tt, (record { fits = room·out .0 }, tt)))) $ pass0 ! $
-      move ! (49 ∷ []) $ fsplit ! $ drop ! $ fsplit ! $ drop ! $ fsplit ! $ move ! (1 ∷ []) $ fsplit ! $ move ! (1 ∷ []) $ fsplit ! $ move ! (1 ∷ []) $ fsplit ! $ move ! (1 ∷ []) $ drop ! $ move ! (52 ∷ []) $ split ! $ move ! (1 ∷ []) $ split ! $ move ! (1 ∷ []) $ split ! $ move ! (1 ∷ []) $ split ! $ move ! (1 ∷ []) $ drop ! $ move ! (3 ∷ 7 ∷ 2 ∷ 6 ∷ 1 ∷ 5 ∷ 0 ∷ 4 ∷ []) $
+      alloc1 ! (λ l₀. alloc1 ! (λ l₁. alloc1 ! (λ l₂. alloc1 ! (λ l₃. alloc1 ! (λ l₄. alloc1 ! (λ l₅. alloc1 ! (λ l₆. alloc1 ! (λ l₇. alloc1 ! (λ l₈. alloc1 ! (λ l₉. alloc1 ! (λ l₁₀. alloc1 ! (λ l₁₁. alloc1 ! (λ l₁₂. alloc1 ! (λ l₁₃. alloc1 ! (λ l₁₄. alloc1 ! (λ l₁₅. alloc1 ! (λ l₁₆. alloc1 ! (λ l₁₇. alloc1 ! (λ l₁₈. alloc1 ! (λ l₁₉. alloc1 ! (λ l₂₀. alloc1 ! (λ l₂₁. alloc1 ! (λ l₂₂. alloc1 ! (λ l₂₃. alloc1 ! (λ l₂₄. alloc1 ! (λ l₂₅. alloc1 ! (λ l₂₆. alloc1 ! (λ l₂₇. alloc1 ! (λ l₂₈. alloc1 ! (λ l₂₉. alloc1 ! (λ l₃₀. alloc0 ! $ params1 ! $
+      pass1 ! (init ! 58 refl (Kept′.typed 𝓤 H A W kept ok·kept)) $ pass1 ! (init ! 56 refl (Note′.typed 𝓤 H A W step ok·step)) $ pass1 ! (init ! 54 refl (tt, (tt, (record { fits = room·pages .0 }, tt)))) $ pass1 ! (init ! 52 refl (tt, (tt, (record { fits = room·nodes .0 }, tt)))) $ pass1 ! (init ! 50 refl (tt, (tt, (record { fits = room·register .0 }, tt)))) $ pass1 ! (init ! 48 refl (tt, (tt, (record { fits = room·out .0 }, tt)))) $ pass0 ! $
+      move ! (63 ∷ []) $ fsplit ! $ drop ! $ fsplit ! $ drop ! $ fsplit ! $ move ! (1 ∷ []) $ fsplit ! $ move ! (1 ∷ []) $ fsplit ! $ move ! (1 ∷ []) $ fsplit ! $ move ! (1 ∷ []) $ drop ! $ move ! (66 ∷ []) $ split ! $ move ! (1 ∷ []) $ split ! $ move ! (1 ∷ []) $ split ! $ move ! (1 ∷ []) $ split ! $ move ! (1 ∷ []) $ drop ! $ move ! (3 ∷ 7 ∷ 2 ∷ 6 ∷ 1 ∷ 5 ∷ 0 ∷ 4 ∷ []) $
       Note′.cases ! step
-      (λ y1-0 m·1. rewrite ! 50 (λ (u : Note). ‵ (fat fullShare Note′.ty l₂ 0 (Note′.mach u))) m·1 refl $ switches-to ! 0 (load ! (from ! (vrt ! refl (fld ! refl (stop !)))) (look-tag ! 50 (whole !))) (
+      (λ y1-0 m·1. rewrite ! 64 (λ (u : Note). ‵ (fat fullShare Note′.ty l₂ 0 (Note′.mach u))) m·1 refl $ switches-to ! 0 (load ! (from ! (vrt ! refl (fld ! refl (stop !)))) (look-tag ! 64 (whole !))) (
       regroup ! $
-      assigns ! (of-opd ! (load ! (from ! (vrt ! refl (fld ! refl (stop !)))) (look-in ! 50 (in-variant ! 0 0 refl refl (whole !))))) (from ! (stop !)) (init ! 40 refl (tt, record { fits = (Note′.ok-Begin-0 y1-0 (subst Note′.Ok m·1 ok·step)) .1 })) $
+      assigns ! (of-opd ! (load ! (from ! (vrt ! refl (fld ! refl (stop !)))) (look-in ! 64 (in-variant ! 0 0 refl refl (whole !))))) (from ! (stop !)) (init ! 54 refl (tt, record { fits = (Note′.ok-Begin-0 y1-0 (subst Note′.Ok m·1 ok·step)) .1 })) $
       regroup ! $
-      assigns ! (addr ! (from ! (fld ! refl (hop ! (look-in ! 44 (sub ! 0 refl (whole !))) (stop !))))) (from ! (stop !)) (init ! 30 refl (tt, tt)) $
+      assigns ! (addr ! (from ! (fld ! refl (hop ! (look-in ! 58 (sub ! 0 refl (whole !))) (stop !))))) (from ! (stop !)) (init ! 40 refl (tt, tt)) $
       regroup ! $
-      assigns ! (agg ! (and-then ! (load ! (from ! (stop !)) (look ! 30 refl)) (and-then ! (load ! (from ! (fld ! refl (stop !))) (look-in ! 44 (sub ! 1 refl (whole !)))) (no-more !)))) (from ! (stop !)) (init ! 28 refl (tt, (tt, (record { fits = room·register .0 }, tt)))) $
+      assigns ! (agg ! (and-then ! (load ! (from ! (stop !)) (look ! 40 refl)) (and-then ! (load ! (from ! (fld ! refl (stop !))) (look-in ! 58 (sub ! 1 refl (whole !)))) (no-more !)))) (from ! (stop !)) (init ! 38 refl (tt, (tt, (record { fits = room·register .0 }, tt)))) $
       regroup ! $
-      assigns ! (addr ! (from ! (fld ! refl (hop ! (look-in ! 42 (sub ! 0 refl (whole !))) (stop !))))) (from ! (stop !)) (init ! 26 refl (tt, tt)) $
+      assigns ! (addr ! (from ! (fld ! refl (hop ! (look-in ! 56 (sub ! 0 refl (whole !))) (stop !))))) (from ! (stop !)) (init ! 36 refl (tt, tt)) $
       regroup ! $
-      assigns ! (agg ! (and-then ! (load ! (from ! (stop !)) (look ! 26 refl)) (and-then ! (load ! (from ! (fld ! refl (stop !))) (look-in ! 42 (sub ! 1 refl (whole !)))) (no-more !)))) (from ! (stop !)) (init ! 24 refl (tt, (tt, (record { fits = room·out .0 }, tt)))) $
+      assigns ! (agg ! (and-then ! (load ! (from ! (stop !)) (look ! 36 refl)) (and-then ! (load ! (from ! (fld ! refl (stop !))) (look-in ! 56 (sub ! 1 refl (whole !)))) (no-more !)))) (from ! (stop !)) (init ! 34 refl (tt, (tt, (record { fits = room·out .0 }, tt)))) $
       move ! (4 ∷ 5 ∷ []) $ lend-mut ! tt Record′.row κ·register q·register b·register o·register γ·register (length register) register (refl) (λ ν·1-register γ·1-register. move ! (7 ∷ 8 ∷ []) $ lend-mut ! tt u8 κ·out q·out b·out o·out γ·out (length out) out (refl) (λ ν·1-out γ·1-out. move ! (6 ∷ 7 ∷ 8 ∷ 9 ∷ 3 ∷ 4 ∷ 0 ∷ 1 ∷ []) $
-      Call-begin-step.calls ! mem run (fmOf 𝓤 H (W .laws) 𝓣) known-begin-step kept y1-0 κ·pages q·pages b·pages o·pages γ·pages (length pages) pages κ·nodes q·nodes b·nodes o·nodes γ·nodes (length nodes) nodes (ν·1-register ∷ []) fullShare b·register o·register γ·1-register (length register) register (ν·1-out ∷ []) fullShare b·out o·out γ·1-out (length out) out ok·kept (Note′.ok-Begin-0 y1-0 (subst Note′.Ok m·1 ok·step)) (and-then ! (load ! (from ! (stop !)) (look ! 49 refl)) (and-then ! (load ! (from ! (stop !)) (look ! 37 refl)) (and-then ! (load ! (from ! (stop !)) (look ! 45 refl)) (and-then ! (load ! (from ! (stop !)) (look ! 43 refl)) (and-then ! (load ! (from ! (stop !)) (look ! 25 refl)) (and-then ! (load ! (from ! (stop !)) (look ! 21 refl)) (no-more !)))))))
-      (λ r1 register₁ out₁ ok·1 same·1-register same·1-out. move ! (4 ∷ 5 ∷ 9 ∷ []) $ back-mut ! tt Record′.row κ·register q·register b·register o·register γ·register (length register) register register₁ ν·1-register γ·1-register (refl) same·1-register room·register $ move ! (6 ∷ 7 ∷ 8 ∷ []) $ back-mut ! tt u8 κ·out q·out b·out o·out γ·out (length out) out out₁ ν·1-out γ·1-out (refl) same·1-out room·out $ move ! (4 ∷ 5 ∷ 6 ∷ 7 ∷ 2 ∷ 3 ∷ 0 ∷ 1 ∷ []) $ land ! (from ! (stop !)) (init ! 32 refl (Turn′.typed 𝓤 H A W r1 ok·1)) $
-      here ! (‵ (flft κ·pages q·pages) ∷ ‵ (ShrAt u8 κ·pages b·pages o·pages γ·pages (length pages) pages) ∷ ‵ (flft κ·nodes q·nodes) ∷ ‵ (ShrAt u32 κ·nodes b·nodes o·nodes γ·nodes (length nodes) nodes) ∷ ‵ (flft κ·register q·register) ∷ ‵ (MutAt Record′.row κ·register b·register o·register γ·register (length register) register₁) ∷ ‵ (flft κ·out q·out) ∷ ‵ (MutAt u8 κ·out b·out o·out γ·out (length out) out₁) ∷ empty (sliceTy (tyRef erased mut (pointee (u8 .written)))) l₂₃ (empty (tyRef erased mut (pointee (u8 .written))) l₂₂ (empty (sliceTy (tyRef erased mut (pointee (Record′.row .written)))) l₂₁ (empty (tyRef erased mut (pointee (Record′.row .written))) l₂₀ (empty (sliceTy (tyRef erased mut (pointee (u8 .written)))) l₁₉ (empty (tyRef erased mut (pointee (u8 .written))) l₁₈ (empty (sliceTy (tyRef erased mut (pointee (Record′.row .written)))) l₁₇ (empty (tyRef erased mut (pointee (Record′.row .written))) l₁₆ (holds (sliceTy (tyRef erased mut (pointee (u8 .written)))) l₁₅ (sliceVal (b·out, o·out) (length out)) (holds (tyRef erased mut (pointee (u8 .written))) l₁₄ (vptr b·out o·out) (holds (sliceTy (tyRef erased mut (pointee (Record′.row .written)))) l₁₃ (sliceVal (b·register, o·register) (length register)) (holds (tyRef erased mut (pointee (Record′.row .written))) l₁₂ (vptr b·register o·register) (holds (tyAt (code.function .locals) 11) l₁₁ (Turn′.mach r1) (empty (tyAt (code.function .locals) 10) l₁₀ (empty (tyAt (code.function .locals) 9) l₉ (empty (tyAt (code.function .locals) 8) l₈ (holds (tyInt w64) l₇ (vint w64 y1-0) (holds (sliceTy (tyRef (named 3) mut (pointee (u8 .written)))) l₆ (sliceVal (b·out, o·out) (length out)) (holds (sliceTy (tyRef (named 2) mut (pointee (Record′.row .written)))) l₅ (sliceVal (b·register, o·register) (length register)) (holds (sliceTy (tyRef (named 1) imm (pointee (u32 .written)))) l₄ (sliceVal (b·nodes, o·nodes) (length nodes)) (holds (sliceTy (tyRef (named 0) imm (pointee (u8 .written)))) l₃ (sliceVal (b·pages, o·pages) (length pages)) (holds (tyAt (code.function .locals) 2) l₂ (Note′.mach (Note.Begin y1-0)) (holds (tyAt (code.function .locals) 1) l₁ (Kept′.mach kept) (empty (tyAt (code.function .locals) 0) l₀ [])))))))))))))))))))))))) $
-      assigns ! (of-opd ! (load ! (from ! (stop !)) (look ! 32 refl))) (from ! (stop !)) (init ! 54 refl (Turn′.typed 𝓤 H A W r1 ok·1)) $
-      returns ! (look ! 54 refl) $
-      move ! (54 ∷ 55 ∷ []) $ forget ! 0 refl $ free1 ! $ move ! (52 ∷ 53 ∷ []) $ forget ! 0 refl $ free1 ! $ move ! (50 ∷ 51 ∷ []) $ forget ! 0 refl $ free1 ! $ move ! (48 ∷ 49 ∷ []) $ forget ! 0 refl $ free1 ! $ move ! (46 ∷ 47 ∷ []) $ forget ! 0 refl $ free1 ! $ move ! (44 ∷ 45 ∷ []) $ forget ! 0 refl $ free1 ! $ move ! (42 ∷ 43 ∷ []) $ forget ! 0 refl $ free1 ! $ move ! (40 ∷ 41 ∷ []) $ forget ! 0 refl $ free1 ! $ move ! (38 ∷ 39 ∷ []) $ free1 ! $ move ! (36 ∷ 37 ∷ []) $ free1 ! $ move ! (34 ∷ 35 ∷ []) $ free1 ! $ move ! (32 ∷ 33 ∷ []) $ forget ! 0 refl $ free1 ! $ move ! (30 ∷ 31 ∷ []) $ forget ! 0 refl $ free1 ! $ move ! (28 ∷ 29 ∷ []) $ forget ! 0 refl $ free1 ! $ move ! (26 ∷ 27 ∷ []) $ forget ! 0 refl $ free1 ! $ move ! (24 ∷ 25 ∷ []) $ forget ! 0 refl $ free1 ! $ move ! (22 ∷ 23 ∷ []) $ free1 ! $ move ! (20 ∷ 21 ∷ []) $ free1 ! $ move ! (18 ∷ 19 ∷ []) $ free1 ! $ move ! (16 ∷ 17 ∷ []) $ free1 ! $ move ! (14 ∷ 15 ∷ []) $ free1 ! $ move ! (12 ∷ 13 ∷ []) $ free1 ! $ move ! (10 ∷ 11 ∷ []) $ free1 ! $ move ! (8 ∷ 9 ∷ []) $ free1 ! $ free0 ! $ by ! (exits r1 ok·1 register₁ (sym (refl ∙ sym same·1-register)) out₁ (sym (refl ∙ sym same·1-out))))))))
-      (λ y1-0 y1-1 m·1. rewrite ! 50 (λ (u : Note). ‵ (fat fullShare Note′.ty l₂ 0 (Note′.mach u))) m·1 refl $ switches-to ! 1 (load ! (from ! (vrt ! refl (fld ! refl (stop !)))) (look-tag ! 50 (whole !))) (
+      Call-begin-step.calls ! mem run (fmOf 𝓤 H (W .laws) 𝓣) known-begin-step kept y1-0 κ·pages q·pages b·pages o·pages γ·pages (length pages) pages κ·nodes q·nodes b·nodes o·nodes γ·nodes (length nodes) nodes (ν·1-register ∷ []) fullShare b·register o·register γ·1-register (length register) register (ν·1-out ∷ []) fullShare b·out o·out γ·1-out (length out) out ok·kept (Note′.ok-Begin-0 y1-0 (subst Note′.Ok m·1 ok·step)) (and-then ! (load ! (from ! (stop !)) (look ! 63 refl)) (and-then ! (load ! (from ! (stop !)) (look ! 51 refl)) (and-then ! (load ! (from ! (stop !)) (look ! 59 refl)) (and-then ! (load ! (from ! (stop !)) (look ! 57 refl)) (and-then ! (load ! (from ! (stop !)) (look ! 35 refl)) (and-then ! (load ! (from ! (stop !)) (look ! 31 refl)) (no-more !)))))))
+      (λ r1 register₁ out₁ ok·1 same·1-register same·1-out. move ! (4 ∷ 5 ∷ 9 ∷ []) $ back-mut ! tt Record′.row κ·register q·register b·register o·register γ·register (length register) register register₁ ν·1-register γ·1-register (refl) same·1-register room·register $ move ! (6 ∷ 7 ∷ 8 ∷ []) $ back-mut ! tt u8 κ·out q·out b·out o·out γ·out (length out) out out₁ ν·1-out γ·1-out (refl) same·1-out room·out $ move ! (4 ∷ 5 ∷ 6 ∷ 7 ∷ 2 ∷ 3 ∷ 0 ∷ 1 ∷ []) $ land ! (from ! (stop !)) (init ! 42 refl (Turn′.typed 𝓤 H A W r1 ok·1)) $
+      here ! (‵ (flft κ·pages q·pages) ∷ ‵ (ShrAt u8 κ·pages b·pages o·pages γ·pages (length pages) pages) ∷ ‵ (flft κ·nodes q·nodes) ∷ ‵ (ShrAt u32 κ·nodes b·nodes o·nodes γ·nodes (length nodes) nodes) ∷ ‵ (flft κ·register q·register) ∷ ‵ (MutAt Record′.row κ·register b·register o·register γ·register (length register) register₁) ∷ ‵ (flft κ·out q·out) ∷ ‵ (MutAt u8 κ·out b·out o·out γ·out (length out) out₁) ∷ empty (sliceTy (tyRef erased mut (pointee (u8 .written)))) l₃₀ (empty (tyRef erased mut (pointee (u8 .written))) l₂₉ (empty (sliceTy (tyRef erased mut (pointee (Record′.row .written)))) l₂₈ (empty (tyRef erased mut (pointee (Record′.row .written))) l₂₇ (empty (tyAt (code.function .locals) 26) l₂₆ (empty (tyAt (code.function .locals) 25) l₂₅ (empty (sliceTy (tyRef erased mut (pointee (u8 .written)))) l₂₄ (empty (tyRef erased mut (pointee (u8 .written))) l₂₃ (empty (sliceTy (tyRef erased mut (pointee (Record′.row .written)))) l₂₂ (empty (tyRef erased mut (pointee (Record′.row .written))) l₂₁ (empty (tyAt (code.function .locals) 20) l₂₀ (empty (tyAt (code.function .locals) 19) l₁₉ (empty (tyAt (code.function .locals) 18) l₁₈ (holds (sliceTy (tyRef erased mut (pointee (u8 .written)))) l₁₇ (sliceVal (b·out, o·out) (length out)) (holds (tyRef erased mut (pointee (u8 .written))) l₁₆ (vptr b·out o·out) (holds (sliceTy (tyRef erased mut (pointee (Record′.row .written)))) l₁₅ (sliceVal (b·register, o·register) (length register)) (holds (tyRef erased mut (pointee (Record′.row .written))) l₁₄ (vptr b·register o·register) (holds (tyAt (code.function .locals) 13) l₁₃ (Turn′.mach r1) (empty (tyInt w64) l₁₂ (empty (tyInt w64) l₁₁ (empty (tyInt w64) l₁₀ (empty (tyInt w64) l₉ (empty (tyInt w64) l₈ (holds (tyInt w64) l₇ (vint w64 y1-0) (holds (sliceTy (tyRef (named 3) mut (pointee (u8 .written)))) l₆ (sliceVal (b·out, o·out) (length out)) (holds (sliceTy (tyRef (named 2) mut (pointee (Record′.row .written)))) l₅ (sliceVal (b·register, o·register) (length register)) (holds (sliceTy (tyRef (named 1) imm (pointee (u32 .written)))) l₄ (sliceVal (b·nodes, o·nodes) (length nodes)) (holds (sliceTy (tyRef (named 0) imm (pointee (u8 .written)))) l₃ (sliceVal (b·pages, o·pages) (length pages)) (holds (tyAt (code.function .locals) 2) l₂ (Note′.mach (Note.Begin y1-0)) (holds (tyAt (code.function .locals) 1) l₁ (Kept′.mach kept) (empty (tyAt (code.function .locals) 0) l₀ []))))))))))))))))))))))))))))))) $
+      assigns ! (of-opd ! (load ! (from ! (stop !)) (look ! 42 refl))) (from ! (stop !)) (init ! 68 refl (Turn′.typed 𝓤 H A W r1 ok·1)) $
+      returns ! (look ! 68 refl) $
+      move ! (68 ∷ 69 ∷ []) $ forget ! 0 refl $ free1 ! $ move ! (66 ∷ 67 ∷ []) $ forget ! 0 refl $ free1 ! $ move ! (64 ∷ 65 ∷ []) $ forget ! 0 refl $ free1 ! $ move ! (62 ∷ 63 ∷ []) $ forget ! 0 refl $ free1 ! $ move ! (60 ∷ 61 ∷ []) $ forget ! 0 refl $ free1 ! $ move ! (58 ∷ 59 ∷ []) $ forget ! 0 refl $ free1 ! $ move ! (56 ∷ 57 ∷ []) $ forget ! 0 refl $ free1 ! $ move ! (54 ∷ 55 ∷ []) $ forget ! 0 refl $ free1 ! $ move ! (52 ∷ 53 ∷ []) $ free1 ! $ move ! (50 ∷ 51 ∷ []) $ free1 ! $ move ! (48 ∷ 49 ∷ []) $ free1 ! $ move ! (46 ∷ 47 ∷ []) $ free1 ! $ move ! (44 ∷ 45 ∷ []) $ free1 ! $ move ! (42 ∷ 43 ∷ []) $ forget ! 0 refl $ free1 ! $ move ! (40 ∷ 41 ∷ []) $ forget ! 0 refl $ free1 ! $ move ! (38 ∷ 39 ∷ []) $ forget ! 0 refl $ free1 ! $ move ! (36 ∷ 37 ∷ []) $ forget ! 0 refl $ free1 ! $ move ! (34 ∷ 35 ∷ []) $ forget ! 0 refl $ free1 ! $ move ! (32 ∷ 33 ∷ []) $ free1 ! $ move ! (30 ∷ 31 ∷ []) $ free1 ! $ move ! (28 ∷ 29 ∷ []) $ free1 ! $ move ! (26 ∷ 27 ∷ []) $ free1 ! $ move ! (24 ∷ 25 ∷ []) $ free1 ! $ move ! (22 ∷ 23 ∷ []) $ free1 ! $ move ! (20 ∷ 21 ∷ []) $ free1 ! $ move ! (18 ∷ 19 ∷ []) $ free1 ! $ move ! (16 ∷ 17 ∷ []) $ free1 ! $ move ! (14 ∷ 15 ∷ []) $ free1 ! $ move ! (12 ∷ 13 ∷ []) $ free1 ! $ move ! (10 ∷ 11 ∷ []) $ free1 ! $ move ! (8 ∷ 9 ∷ []) $ free1 ! $ free0 ! $ by ! (exits r1 ok·1 register₁ (sym (refl ∙ sym same·1-register)) out₁ (sym (refl ∙ sym same·1-out))))))))
+      (λ y1-0 y1-1 y1-2 m·1. rewrite ! 64 (λ (u : Note). ‵ (fat fullShare Note′.ty l₂ 0 (Note′.mach u))) m·1 refl $ switches-to ! 1 (load ! (from ! (vrt ! refl (fld ! refl (stop !)))) (look-tag ! 64 (whole !))) (
       regroup ! $
-      assigns ! (of-opd ! (load ! (from ! (vrt ! refl (fld ! refl (stop !)))) (look-in ! 50 (in-variant ! 1 0 refl refl (whole !))))) (from ! (stop !)) (init ! 38 refl (Ticket′.typed 𝓤 H A W y1-0 (Note′.ok-Write-0 y1-0 y1-1 (subst Note′.Ok m·1 ok·step)))) $
+      assigns ! (of-opd ! (load ! (from ! (vrt ! refl (fld ! refl (stop !)))) (look-in ! 64 (in-variant ! 1 0 refl refl (whole !))))) (from ! (stop !)) (init ! 52 refl (tt, record { fits = (Note′.ok-Write-0 y1-0 y1-1 y1-2 (subst Note′.Ok m·1 ok·step)) .1 })) $
       regroup ! $
-      assigns ! (of-opd ! (load ! (from ! (vrt ! refl (fld ! refl (stop !)))) (look-in ! 50 (in-variant ! 1 1 refl refl (whole !))))) (from ! (stop !)) (init ! 36 refl (PageIndex′.typed 𝓤 H A W y1-1 (Note′.ok-Write-1 y1-0 y1-1 (subst Note′.Ok m·1 ok·step)))) $
+      assigns ! (of-opd ! (load ! (from ! (vrt ! refl (fld ! refl (stop !)))) (look-in ! 64 (in-variant ! 1 1 refl refl (whole !))))) (from ! (stop !)) (init ! 50 refl (tt, record { fits = (Note′.ok-Write-1 y1-0 y1-1 y1-2 (subst Note′.Ok m·1 ok·step)) .1 })) $
       regroup ! $
-      assigns ! (addr ! (from ! (fld ! refl (hop ! (look-in ! 44 (sub ! 0 refl (whole !))) (stop !))))) (from ! (stop !)) (init ! 22 refl (tt, tt)) $
+      assigns ! (of-opd ! (load ! (from ! (vrt ! refl (fld ! refl (stop !)))) (look-in ! 64 (in-variant ! 1 2 refl refl (whole !))))) (from ! (stop !)) (init ! 48 refl (tt, record { fits = (Note′.ok-Write-2 y1-0 y1-1 y1-2 (subst Note′.Ok m·1 ok·step)) .1 })) $
       regroup ! $
-      assigns ! (agg ! (and-then ! (load ! (from ! (stop !)) (look ! 22 refl)) (and-then ! (load ! (from ! (fld ! refl (stop !))) (look-in ! 44 (sub ! 1 refl (whole !)))) (no-more !)))) (from ! (stop !)) (init ! 20 refl (tt, (tt, (record { fits = room·register .0 }, tt)))) $
+      assigns ! (agg ! (and-then ! (load ! (from ! (stop !)) (look ! 52 refl)) (no-more !))) (from ! (stop !)) (init ! 32 refl (Line′.typed 𝓤 H A W (Line′.build y1-0) (Line′.make y1-0 (Note′.ok-Write-0 y1-0 y1-1 y1-2 (subst Note′.Ok m·1 ok·step))))) $
       regroup ! $
-      assigns ! (addr ! (from ! (fld ! refl (hop ! (look-in ! 42 (sub ! 0 refl (whole !))) (stop !))))) (from ! (stop !)) (init ! 18 refl (tt, tt)) $
+      assigns ! (agg ! (and-then ! (load ! (from ! (stop !)) (look ! 50 refl)) (no-more !))) (from ! (stop !)) (init ! 30 refl (Ticket′.typed 𝓤 H A W (Ticket′.build y1-1) (Ticket′.make y1-1 (Note′.ok-Write-1 y1-0 y1-1 y1-2 (subst Note′.Ok m·1 ok·step))))) $
       regroup ! $
-      assigns ! (agg ! (and-then ! (load ! (from ! (stop !)) (look ! 18 refl)) (and-then ! (load ! (from ! (fld ! refl (stop !))) (look-in ! 42 (sub ! 1 refl (whole !)))) (no-more !)))) (from ! (stop !)) (init ! 16 refl (tt, (tt, (record { fits = room·out .0 }, tt)))) $
+      assigns ! (agg ! (and-then ! (load ! (from ! (stop !)) (look ! 48 refl)) (no-more !))) (from ! (stop !)) (init ! 28 refl (PageIndex′.typed 𝓤 H A W (PageIndex′.build y1-2) (PageIndex′.make y1-2 (Note′.ok-Write-2 y1-0 y1-1 y1-2 (subst Note′.Ok m·1 ok·step))))) $
+      regroup ! $
+      assigns ! (addr ! (from ! (fld ! refl (hop ! (look-in ! 58 (sub ! 0 refl (whole !))) (stop !))))) (from ! (stop !)) (init ! 26 refl (tt, tt)) $
+      regroup ! $
+      assigns ! (agg ! (and-then ! (load ! (from ! (stop !)) (look ! 26 refl)) (and-then ! (load ! (from ! (fld ! refl (stop !))) (look-in ! 58 (sub ! 1 refl (whole !)))) (no-more !)))) (from ! (stop !)) (init ! 24 refl (tt, (tt, (record { fits = room·register .0 }, tt)))) $
+      regroup ! $
+      assigns ! (addr ! (from ! (fld ! refl (hop ! (look-in ! 56 (sub ! 0 refl (whole !))) (stop !))))) (from ! (stop !)) (init ! 22 refl (tt, tt)) $
+      regroup ! $
+      assigns ! (agg ! (and-then ! (load ! (from ! (stop !)) (look ! 22 refl)) (and-then ! (load ! (from ! (fld ! refl (stop !))) (look-in ! 56 (sub ! 1 refl (whole !)))) (no-more !)))) (from ! (stop !)) (init ! 20 refl (tt, (tt, (record { fits = room·out .0 }, tt)))) $
       move ! (4 ∷ 5 ∷ []) $ lend-mut ! tt Record′.row κ·register q·register b·register o·register γ·register (length register) register (refl) (λ ν·2-register γ·2-register. move ! (7 ∷ 8 ∷ []) $ lend-mut ! tt u8 κ·out q·out b·out o·out γ·out (length out) out (refl) (λ ν·2-out γ·2-out. move ! (6 ∷ 7 ∷ 8 ∷ 9 ∷ 3 ∷ 4 ∷ 0 ∷ 1 ∷ []) $
-      Call-write-step.calls ! mem run (fmOf 𝓤 H (W .laws) 𝓣) known-write-step kept y1-0 y1-1 κ·pages q·pages b·pages o·pages γ·pages (length pages) pages κ·nodes q·nodes b·nodes o·nodes γ·nodes (length nodes) nodes (ν·2-register ∷ []) fullShare b·register o·register γ·2-register (length register) register (ν·2-out ∷ []) fullShare b·out o·out γ·2-out (length out) out ok·kept (Note′.ok-Write-0 y1-0 y1-1 (subst Note′.Ok m·1 ok·step)) (Note′.ok-Write-1 y1-0 y1-1 (subst Note′.Ok m·1 ok·step)) (and-then ! (load ! (from ! (stop !)) (look ! 49 refl)) (and-then ! (load ! (from ! (stop !)) (look ! 35 refl)) (and-then ! (load ! (from ! (stop !)) (look ! 33 refl)) (and-then ! (load ! (from ! (stop !)) (look ! 45 refl)) (and-then ! (load ! (from ! (stop !)) (look ! 43 refl)) (and-then ! (load ! (from ! (stop !)) (look ! 17 refl)) (and-then ! (load ! (from ! (stop !)) (look ! 13 refl)) (no-more !))))))))
-      (λ r2 register₂ out₂ ok·2 same·2-register same·2-out. move ! (4 ∷ 5 ∷ 9 ∷ []) $ back-mut ! tt Record′.row κ·register q·register b·register o·register γ·register (length register) register register₂ ν·2-register γ·2-register (refl) same·2-register room·register $ move ! (6 ∷ 7 ∷ 8 ∷ []) $ back-mut ! tt u8 κ·out q·out b·out o·out γ·out (length out) out out₂ ν·2-out γ·2-out (refl) same·2-out room·out $ move ! (4 ∷ 5 ∷ 6 ∷ 7 ∷ 2 ∷ 3 ∷ 0 ∷ 1 ∷ []) $ land ! (from ! (stop !)) (init ! 32 refl (Turn′.typed 𝓤 H A W r2 ok·2)) $
-      here ! (‵ (flft κ·pages q·pages) ∷ ‵ (ShrAt u8 κ·pages b·pages o·pages γ·pages (length pages) pages) ∷ ‵ (flft κ·nodes q·nodes) ∷ ‵ (ShrAt u32 κ·nodes b·nodes o·nodes γ·nodes (length nodes) nodes) ∷ ‵ (flft κ·register q·register) ∷ ‵ (MutAt Record′.row κ·register b·register o·register γ·register (length register) register₂) ∷ ‵ (flft κ·out q·out) ∷ ‵ (MutAt u8 κ·out b·out o·out γ·out (length out) out₂) ∷ empty (sliceTy (tyRef erased mut (pointee (u8 .written)))) l₂₃ (empty (tyRef erased mut (pointee (u8 .written))) l₂₂ (empty (sliceTy (tyRef erased mut (pointee (Record′.row .written)))) l₂₁ (empty (tyRef erased mut (pointee (Record′.row .written))) l₂₀ (holds (sliceTy (tyRef erased mut (pointee (u8 .written)))) l₁₉ (sliceVal (b·out, o·out) (length out)) (holds (tyRef erased mut (pointee (u8 .written))) l₁₈ (vptr b·out o·out) (holds (sliceTy (tyRef erased mut (pointee (Record′.row .written)))) l₁₇ (sliceVal (b·register, o·register) (length register)) (holds (tyRef erased mut (pointee (Record′.row .written))) l₁₆ (vptr b·register o·register) (empty (sliceTy (tyRef erased mut (pointee (u8 .written)))) l₁₅ (empty (tyRef erased mut (pointee (u8 .written))) l₁₄ (empty (sliceTy (tyRef erased mut (pointee (Record′.row .written)))) l₁₃ (empty (tyRef erased mut (pointee (Record′.row .written))) l₁₂ (holds (tyAt (code.function .locals) 11) l₁₁ (Turn′.mach r2) (empty (tyAt (code.function .locals) 10) l₁₀ (holds (tyAt (code.function .locals) 9) l₉ (PageIndex′.mach y1-1) (holds (tyAt (code.function .locals) 8) l₈ (Ticket′.mach y1-0) (empty (tyInt w64) l₇ (holds (sliceTy (tyRef (named 3) mut (pointee (u8 .written)))) l₆ (sliceVal (b·out, o·out) (length out)) (holds (sliceTy (tyRef (named 2) mut (pointee (Record′.row .written)))) l₅ (sliceVal (b·register, o·register) (length register)) (holds (sliceTy (tyRef (named 1) imm (pointee (u32 .written)))) l₄ (sliceVal (b·nodes, o·nodes) (length nodes)) (holds (sliceTy (tyRef (named 0) imm (pointee (u8 .written)))) l₃ (sliceVal (b·pages, o·pages) (length pages)) (holds (tyAt (code.function .locals) 2) l₂ (Note′.mach (Note.Write y1-0 y1-1)) (holds (tyAt (code.function .locals) 1) l₁ (Kept′.mach kept) (empty (tyAt (code.function .locals) 0) l₀ [])))))))))))))))))))))))) $
-      assigns ! (of-opd ! (load ! (from ! (stop !)) (look ! 32 refl))) (from ! (stop !)) (init ! 54 refl (Turn′.typed 𝓤 H A W r2 ok·2)) $
-      returns ! (look ! 54 refl) $
-      move ! (54 ∷ 55 ∷ []) $ forget ! 0 refl $ free1 ! $ move ! (52 ∷ 53 ∷ []) $ forget ! 0 refl $ free1 ! $ move ! (50 ∷ 51 ∷ []) $ forget ! 0 refl $ free1 ! $ move ! (48 ∷ 49 ∷ []) $ forget ! 0 refl $ free1 ! $ move ! (46 ∷ 47 ∷ []) $ forget ! 0 refl $ free1 ! $ move ! (44 ∷ 45 ∷ []) $ forget ! 0 refl $ free1 ! $ move ! (42 ∷ 43 ∷ []) $ forget ! 0 refl $ free1 ! $ move ! (40 ∷ 41 ∷ []) $ free1 ! $ move ! (38 ∷ 39 ∷ []) $ forget ! 0 refl $ free1 ! $ move ! (36 ∷ 37 ∷ []) $ forget ! 0 refl $ free1 ! $ move ! (34 ∷ 35 ∷ []) $ free1 ! $ move ! (32 ∷ 33 ∷ []) $ forget ! 0 refl $ free1 ! $ move ! (30 ∷ 31 ∷ []) $ free1 ! $ move ! (28 ∷ 29 ∷ []) $ free1 ! $ move ! (26 ∷ 27 ∷ []) $ free1 ! $ move ! (24 ∷ 25 ∷ []) $ free1 ! $ move ! (22 ∷ 23 ∷ []) $ forget ! 0 refl $ free1 ! $ move ! (20 ∷ 21 ∷ []) $ forget ! 0 refl $ free1 ! $ move ! (18 ∷ 19 ∷ []) $ forget ! 0 refl $ free1 ! $ move ! (16 ∷ 17 ∷ []) $ forget ! 0 refl $ free1 ! $ move ! (14 ∷ 15 ∷ []) $ free1 ! $ move ! (12 ∷ 13 ∷ []) $ free1 ! $ move ! (10 ∷ 11 ∷ []) $ free1 ! $ move ! (8 ∷ 9 ∷ []) $ free1 ! $ free0 ! $ by ! (exits r2 ok·2 register₂ (sym (refl ∙ sym same·2-register)) out₂ (sym (refl ∙ sym same·2-out))))))))
-      (λ y1-0 m·1. rewrite ! 50 (λ (u : Note). ‵ (fat fullShare Note′.ty l₂ 0 (Note′.mach u))) m·1 refl $ switches-to ! 2 (load ! (from ! (vrt ! refl (fld ! refl (stop !)))) (look-tag ! 50 (whole !))) (
+      Call-write-step.calls ! mem run (fmOf 𝓤 H (W .laws) 𝓣) known-write-step kept (Line′.build y1-0) (Ticket′.build y1-1) (PageIndex′.build y1-2) κ·pages q·pages b·pages o·pages γ·pages (length pages) pages κ·nodes q·nodes b·nodes o·nodes γ·nodes (length nodes) nodes (ν·2-register ∷ []) fullShare b·register o·register γ·2-register (length register) register (ν·2-out ∷ []) fullShare b·out o·out γ·2-out (length out) out ok·kept (Line′.make y1-0 (Note′.ok-Write-0 y1-0 y1-1 y1-2 (subst Note′.Ok m·1 ok·step))) (Ticket′.make y1-1 (Note′.ok-Write-1 y1-0 y1-1 y1-2 (subst Note′.Ok m·1 ok·step))) (PageIndex′.make y1-2 (Note′.ok-Write-2 y1-0 y1-1 y1-2 (subst Note′.Ok m·1 ok·step))) (and-then ! (load ! (from ! (stop !)) (look ! 63 refl)) (and-then ! (load ! (from ! (stop !)) (look ! 29 refl)) (and-then ! (load ! (from ! (stop !)) (look ! 27 refl)) (and-then ! (load ! (from ! (stop !)) (look ! 25 refl)) (and-then ! (load ! (from ! (stop !)) (look ! 59 refl)) (and-then ! (load ! (from ! (stop !)) (look ! 57 refl)) (and-then ! (load ! (from ! (stop !)) (look ! 21 refl)) (and-then ! (load ! (from ! (stop !)) (look ! 17 refl)) (no-more !)))))))))
+      (λ r2 register₂ out₂ ok·2 same·2-register same·2-out. move ! (4 ∷ 5 ∷ 9 ∷ []) $ back-mut ! tt Record′.row κ·register q·register b·register o·register γ·register (length register) register register₂ ν·2-register γ·2-register (refl) same·2-register room·register $ move ! (6 ∷ 7 ∷ 8 ∷ []) $ back-mut ! tt u8 κ·out q·out b·out o·out γ·out (length out) out out₂ ν·2-out γ·2-out (refl) same·2-out room·out $ move ! (4 ∷ 5 ∷ 6 ∷ 7 ∷ 2 ∷ 3 ∷ 0 ∷ 1 ∷ []) $ land ! (from ! (stop !)) (init ! 42 refl (Turn′.typed 𝓤 H A W r2 ok·2)) $
+      here ! (‵ (flft κ·pages q·pages) ∷ ‵ (ShrAt u8 κ·pages b·pages o·pages γ·pages (length pages) pages) ∷ ‵ (flft κ·nodes q·nodes) ∷ ‵ (ShrAt u32 κ·nodes b·nodes o·nodes γ·nodes (length nodes) nodes) ∷ ‵ (flft κ·register q·register) ∷ ‵ (MutAt Record′.row κ·register b·register o·register γ·register (length register) register₂) ∷ ‵ (flft κ·out q·out) ∷ ‵ (MutAt u8 κ·out b·out o·out γ·out (length out) out₂) ∷ empty (sliceTy (tyRef erased mut (pointee (u8 .written)))) l₃₀ (empty (tyRef erased mut (pointee (u8 .written))) l₂₉ (empty (sliceTy (tyRef erased mut (pointee (Record′.row .written)))) l₂₈ (empty (tyRef erased mut (pointee (Record′.row .written))) l₂₇ (empty (tyAt (code.function .locals) 26) l₂₆ (empty (tyAt (code.function .locals) 25) l₂₅ (holds (sliceTy (tyRef erased mut (pointee (u8 .written)))) l₂₄ (sliceVal (b·out, o·out) (length out)) (holds (tyRef erased mut (pointee (u8 .written))) l₂₃ (vptr b·out o·out) (holds (sliceTy (tyRef erased mut (pointee (Record′.row .written)))) l₂₂ (sliceVal (b·register, o·register) (length register)) (holds (tyRef erased mut (pointee (Record′.row .written))) l₂₁ (vptr b·register o·register) (holds (tyAt (code.function .locals) 20) l₂₀ (PageIndex′.mach (PageIndex′.build y1-2)) (holds (tyAt (code.function .locals) 19) l₁₉ (Ticket′.mach (Ticket′.build y1-1)) (holds (tyAt (code.function .locals) 18) l₁₈ (Line′.mach (Line′.build y1-0)) (empty (sliceTy (tyRef erased mut (pointee (u8 .written)))) l₁₇ (empty (tyRef erased mut (pointee (u8 .written))) l₁₆ (empty (sliceTy (tyRef erased mut (pointee (Record′.row .written)))) l₁₅ (empty (tyRef erased mut (pointee (Record′.row .written))) l₁₄ (holds (tyAt (code.function .locals) 13) l₁₃ (Turn′.mach r2) (empty (tyInt w64) l₁₂ (empty (tyInt w64) l₁₁ (holds (tyInt w64) l₁₀ (vint w64 y1-2) (holds (tyInt w64) l₉ (vint w64 y1-1) (holds (tyInt w64) l₈ (vint w64 y1-0) (empty (tyInt w64) l₇ (holds (sliceTy (tyRef (named 3) mut (pointee (u8 .written)))) l₆ (sliceVal (b·out, o·out) (length out)) (holds (sliceTy (tyRef (named 2) mut (pointee (Record′.row .written)))) l₅ (sliceVal (b·register, o·register) (length register)) (holds (sliceTy (tyRef (named 1) imm (pointee (u32 .written)))) l₄ (sliceVal (b·nodes, o·nodes) (length nodes)) (holds (sliceTy (tyRef (named 0) imm (pointee (u8 .written)))) l₃ (sliceVal (b·pages, o·pages) (length pages)) (holds (tyAt (code.function .locals) 2) l₂ (Note′.mach (Note.Write y1-0 y1-1 y1-2)) (holds (tyAt (code.function .locals) 1) l₁ (Kept′.mach kept) (empty (tyAt (code.function .locals) 0) l₀ []))))))))))))))))))))))))))))))) $
+      assigns ! (of-opd ! (load ! (from ! (stop !)) (look ! 42 refl))) (from ! (stop !)) (init ! 68 refl (Turn′.typed 𝓤 H A W r2 ok·2)) $
+      returns ! (look ! 68 refl) $
+      move ! (68 ∷ 69 ∷ []) $ forget ! 0 refl $ free1 ! $ move ! (66 ∷ 67 ∷ []) $ forget ! 0 refl $ free1 ! $ move ! (64 ∷ 65 ∷ []) $ forget ! 0 refl $ free1 ! $ move ! (62 ∷ 63 ∷ []) $ forget ! 0 refl $ free1 ! $ move ! (60 ∷ 61 ∷ []) $ forget ! 0 refl $ free1 ! $ move ! (58 ∷ 59 ∷ []) $ forget ! 0 refl $ free1 ! $ move ! (56 ∷ 57 ∷ []) $ forget ! 0 refl $ free1 ! $ move ! (54 ∷ 55 ∷ []) $ free1 ! $ move ! (52 ∷ 53 ∷ []) $ forget ! 0 refl $ free1 ! $ move ! (50 ∷ 51 ∷ []) $ forget ! 0 refl $ free1 ! $ move ! (48 ∷ 49 ∷ []) $ forget ! 0 refl $ free1 ! $ move ! (46 ∷ 47 ∷ []) $ free1 ! $ move ! (44 ∷ 45 ∷ []) $ free1 ! $ move ! (42 ∷ 43 ∷ []) $ forget ! 0 refl $ free1 ! $ move ! (40 ∷ 41 ∷ []) $ free1 ! $ move ! (38 ∷ 39 ∷ []) $ free1 ! $ move ! (36 ∷ 37 ∷ []) $ free1 ! $ move ! (34 ∷ 35 ∷ []) $ free1 ! $ move ! (32 ∷ 33 ∷ []) $ forget ! 0 refl $ free1 ! $ move ! (30 ∷ 31 ∷ []) $ forget ! 0 refl $ free1 ! $ move ! (28 ∷ 29 ∷ []) $ forget ! 0 refl $ free1 ! $ move ! (26 ∷ 27 ∷ []) $ forget ! 0 refl $ free1 ! $ move ! (24 ∷ 25 ∷ []) $ forget ! 0 refl $ free1 ! $ move ! (22 ∷ 23 ∷ []) $ forget ! 0 refl $ free1 ! $ move ! (20 ∷ 21 ∷ []) $ forget ! 0 refl $ free1 ! $ move ! (18 ∷ 19 ∷ []) $ free1 ! $ move ! (16 ∷ 17 ∷ []) $ free1 ! $ move ! (14 ∷ 15 ∷ []) $ free1 ! $ move ! (12 ∷ 13 ∷ []) $ free1 ! $ move ! (10 ∷ 11 ∷ []) $ free1 ! $ move ! (8 ∷ 9 ∷ []) $ free1 ! $ free0 ! $ by ! (exits r2 ok·2 register₂ (sym (refl ∙ sym same·2-register)) out₂ (sym (refl ∙ sym same·2-out))))))))
+      (λ y1-0 y1-1 m·1. rewrite ! 64 (λ (u : Note). ‵ (fat fullShare Note′.ty l₂ 0 (Note′.mach u))) m·1 refl $ switches-to ! 2 (load ! (from ! (vrt ! refl (fld ! refl (stop !)))) (look-tag ! 64 (whole !))) (
       regroup ! $
-      assigns ! (of-opd ! (load ! (from ! (vrt ! refl (fld ! refl (stop !)))) (look-in ! 50 (in-variant ! 2 0 refl refl (whole !))))) (from ! (stop !)) (init ! 34 refl (Ticket′.typed 𝓤 H A W y1-0 (Note′.ok-Append-0 y1-0 (subst Note′.Ok m·1 ok·step)))) $
+      assigns ! (of-opd ! (load ! (from ! (vrt ! refl (fld ! refl (stop !)))) (look-in ! 64 (in-variant ! 2 0 refl refl (whole !))))) (from ! (stop !)) (init ! 46 refl (tt, record { fits = (Note′.ok-Append-0 y1-0 y1-1 (subst Note′.Ok m·1 ok·step)) .1 })) $
       regroup ! $
-      assigns ! (addr ! (from ! (fld ! refl (hop ! (look-in ! 44 (sub ! 0 refl (whole !))) (stop !))))) (from ! (stop !)) (init ! 14 refl (tt, tt)) $
+      assigns ! (of-opd ! (load ! (from ! (vrt ! refl (fld ! refl (stop !)))) (look-in ! 64 (in-variant ! 2 1 refl refl (whole !))))) (from ! (stop !)) (init ! 44 refl (tt, record { fits = (Note′.ok-Append-1 y1-0 y1-1 (subst Note′.Ok m·1 ok·step)) .1 })) $
       regroup ! $
-      assigns ! (agg ! (and-then ! (load ! (from ! (stop !)) (look ! 14 refl)) (and-then ! (load ! (from ! (fld ! refl (stop !))) (look-in ! 44 (sub ! 1 refl (whole !)))) (no-more !)))) (from ! (stop !)) (init ! 12 refl (tt, (tt, (record { fits = room·register .0 }, tt)))) $
+      assigns ! (agg ! (and-then ! (load ! (from ! (stop !)) (look ! 46 refl)) (no-more !))) (from ! (stop !)) (init ! 18 refl (Line′.typed 𝓤 H A W (Line′.build y1-0) (Line′.make y1-0 (Note′.ok-Append-0 y1-0 y1-1 (subst Note′.Ok m·1 ok·step))))) $
       regroup ! $
-      assigns ! (addr ! (from ! (fld ! refl (hop ! (look-in ! 42 (sub ! 0 refl (whole !))) (stop !))))) (from ! (stop !)) (init ! 10 refl (tt, tt)) $
+      assigns ! (agg ! (and-then ! (load ! (from ! (stop !)) (look ! 44 refl)) (no-more !))) (from ! (stop !)) (init ! 16 refl (Ticket′.typed 𝓤 H A W (Ticket′.build y1-1) (Ticket′.make y1-1 (Note′.ok-Append-1 y1-0 y1-1 (subst Note′.Ok m·1 ok·step))))) $
       regroup ! $
-      assigns ! (agg ! (and-then ! (load ! (from ! (stop !)) (look ! 10 refl)) (and-then ! (load ! (from ! (fld ! refl (stop !))) (look-in ! 42 (sub ! 1 refl (whole !)))) (no-more !)))) (from ! (stop !)) (init ! 8 refl (tt, (tt, (record { fits = room·out .0 }, tt)))) $
+      assigns ! (addr ! (from ! (fld ! refl (hop ! (look-in ! 58 (sub ! 0 refl (whole !))) (stop !))))) (from ! (stop !)) (init ! 14 refl (tt, tt)) $
+      regroup ! $
+      assigns ! (agg ! (and-then ! (load ! (from ! (stop !)) (look ! 14 refl)) (and-then ! (load ! (from ! (fld ! refl (stop !))) (look-in ! 58 (sub ! 1 refl (whole !)))) (no-more !)))) (from ! (stop !)) (init ! 12 refl (tt, (tt, (record { fits = room·register .0 }, tt)))) $
+      regroup ! $
+      assigns ! (addr ! (from ! (fld ! refl (hop ! (look-in ! 56 (sub ! 0 refl (whole !))) (stop !))))) (from ! (stop !)) (init ! 10 refl (tt, tt)) $
+      regroup ! $
+      assigns ! (agg ! (and-then ! (load ! (from ! (stop !)) (look ! 10 refl)) (and-then ! (load ! (from ! (fld ! refl (stop !))) (look-in ! 56 (sub ! 1 refl (whole !)))) (no-more !)))) (from ! (stop !)) (init ! 8 refl (tt, (tt, (record { fits = room·out .0 }, tt)))) $
       move ! (4 ∷ 5 ∷ []) $ lend-mut ! tt Record′.row κ·register q·register b·register o·register γ·register (length register) register (refl) (λ ν·3-register γ·3-register. move ! (7 ∷ 8 ∷ []) $ lend-mut ! tt u8 κ·out q·out b·out o·out γ·out (length out) out (refl) (λ ν·3-out γ·3-out. move ! (6 ∷ 7 ∷ 8 ∷ 9 ∷ 3 ∷ 4 ∷ 0 ∷ 1 ∷ []) $
-      Call-append-step.calls ! mem run (fmOf 𝓤 H (W .laws) 𝓣) known-append-step kept y1-0 κ·pages q·pages b·pages o·pages γ·pages (length pages) pages κ·nodes q·nodes b·nodes o·nodes γ·nodes (length nodes) nodes (ν·3-register ∷ []) fullShare b·register o·register γ·3-register (length register) register (ν·3-out ∷ []) fullShare b·out o·out γ·3-out (length out) out ok·kept (Note′.ok-Append-0 y1-0 (subst Note′.Ok m·1 ok·step)) (and-then ! (load ! (from ! (stop !)) (look ! 49 refl)) (and-then ! (load ! (from ! (stop !)) (look ! 31 refl)) (and-then ! (load ! (from ! (stop !)) (look ! 45 refl)) (and-then ! (load ! (from ! (stop !)) (look ! 43 refl)) (and-then ! (load ! (from ! (stop !)) (look ! 9 refl)) (and-then ! (load ! (from ! (stop !)) (look ! 5 refl)) (no-more !)))))))
-      (λ r3 register₃ out₃ ok·3 same·3-register same·3-out. move ! (4 ∷ 5 ∷ 9 ∷ []) $ back-mut ! tt Record′.row κ·register q·register b·register o·register γ·register (length register) register register₃ ν·3-register γ·3-register (refl) same·3-register room·register $ move ! (6 ∷ 7 ∷ 8 ∷ []) $ back-mut ! tt u8 κ·out q·out b·out o·out γ·out (length out) out out₃ ν·3-out γ·3-out (refl) same·3-out room·out $ move ! (4 ∷ 5 ∷ 6 ∷ 7 ∷ 2 ∷ 3 ∷ 0 ∷ 1 ∷ []) $ land ! (from ! (stop !)) (init ! 32 refl (Turn′.typed 𝓤 H A W r3 ok·3)) $
-      here ! (‵ (flft κ·pages q·pages) ∷ ‵ (ShrAt u8 κ·pages b·pages o·pages γ·pages (length pages) pages) ∷ ‵ (flft κ·nodes q·nodes) ∷ ‵ (ShrAt u32 κ·nodes b·nodes o·nodes γ·nodes (length nodes) nodes) ∷ ‵ (flft κ·register q·register) ∷ ‵ (MutAt Record′.row κ·register b·register o·register γ·register (length register) register₃) ∷ ‵ (flft κ·out q·out) ∷ ‵ (MutAt u8 κ·out b·out o·out γ·out (length out) out₃) ∷ holds (sliceTy (tyRef erased mut (pointee (u8 .written)))) l₂₃ (sliceVal (b·out, o·out) (length out)) (holds (tyRef erased mut (pointee (u8 .written))) l₂₂ (vptr b·out o·out) (holds (sliceTy (tyRef erased mut (pointee (Record′.row .written)))) l₂₁ (sliceVal (b·register, o·register) (length register)) (holds (tyRef erased mut (pointee (Record′.row .written))) l₂₀ (vptr b·register o·register) (empty (sliceTy (tyRef erased mut (pointee (u8 .written)))) l₁₉ (empty (tyRef erased mut (pointee (u8 .written))) l₁₈ (empty (sliceTy (tyRef erased mut (pointee (Record′.row .written)))) l₁₇ (empty (tyRef erased mut (pointee (Record′.row .written))) l₁₆ (empty (sliceTy (tyRef erased mut (pointee (u8 .written)))) l₁₅ (empty (tyRef erased mut (pointee (u8 .written))) l₁₄ (empty (sliceTy (tyRef erased mut (pointee (Record′.row .written)))) l₁₃ (empty (tyRef erased mut (pointee (Record′.row .written))) l₁₂ (holds (tyAt (code.function .locals) 11) l₁₁ (Turn′.mach r3) (holds (tyAt (code.function .locals) 10) l₁₀ (Ticket′.mach y1-0) (empty (tyAt (code.function .locals) 9) l₉ (empty (tyAt (code.function .locals) 8) l₈ (empty (tyInt w64) l₇ (holds (sliceTy (tyRef (named 3) mut (pointee (u8 .written)))) l₆ (sliceVal (b·out, o·out) (length out)) (holds (sliceTy (tyRef (named 2) mut (pointee (Record′.row .written)))) l₅ (sliceVal (b·register, o·register) (length register)) (holds (sliceTy (tyRef (named 1) imm (pointee (u32 .written)))) l₄ (sliceVal (b·nodes, o·nodes) (length nodes)) (holds (sliceTy (tyRef (named 0) imm (pointee (u8 .written)))) l₃ (sliceVal (b·pages, o·pages) (length pages)) (holds (tyAt (code.function .locals) 2) l₂ (Note′.mach (Note.Append y1-0)) (holds (tyAt (code.function .locals) 1) l₁ (Kept′.mach kept) (empty (tyAt (code.function .locals) 0) l₀ [])))))))))))))))))))))))) $
-      assigns ! (of-opd ! (load ! (from ! (stop !)) (look ! 32 refl))) (from ! (stop !)) (init ! 54 refl (Turn′.typed 𝓤 H A W r3 ok·3)) $
-      returns ! (look ! 54 refl) $
-      move ! (54 ∷ 55 ∷ []) $ forget ! 0 refl $ free1 ! $ move ! (52 ∷ 53 ∷ []) $ forget ! 0 refl $ free1 ! $ move ! (50 ∷ 51 ∷ []) $ forget ! 0 refl $ free1 ! $ move ! (48 ∷ 49 ∷ []) $ forget ! 0 refl $ free1 ! $ move ! (46 ∷ 47 ∷ []) $ forget ! 0 refl $ free1 ! $ move ! (44 ∷ 45 ∷ []) $ forget ! 0 refl $ free1 ! $ move ! (42 ∷ 43 ∷ []) $ forget ! 0 refl $ free1 ! $ move ! (40 ∷ 41 ∷ []) $ free1 ! $ move ! (38 ∷ 39 ∷ []) $ free1 ! $ move ! (36 ∷ 37 ∷ []) $ free1 ! $ move ! (34 ∷ 35 ∷ []) $ forget ! 0 refl $ free1 ! $ move ! (32 ∷ 33 ∷ []) $ forget ! 0 refl $ free1 ! $ move ! (30 ∷ 31 ∷ []) $ free1 ! $ move ! (28 ∷ 29 ∷ []) $ free1 ! $ move ! (26 ∷ 27 ∷ []) $ free1 ! $ move ! (24 ∷ 25 ∷ []) $ free1 ! $ move ! (22 ∷ 23 ∷ []) $ free1 ! $ move ! (20 ∷ 21 ∷ []) $ free1 ! $ move ! (18 ∷ 19 ∷ []) $ free1 ! $ move ! (16 ∷ 17 ∷ []) $ free1 ! $ move ! (14 ∷ 15 ∷ []) $ forget ! 0 refl $ free1 ! $ move ! (12 ∷ 13 ∷ []) $ forget ! 0 refl $ free1 ! $ move ! (10 ∷ 11 ∷ []) $ forget ! 0 refl $ free1 ! $ move ! (8 ∷ 9 ∷ []) $ forget ! 0 refl $ free1 ! $ free0 ! $ by ! (exits r3 ok·3 register₃ (sym (refl ∙ sym same·3-register)) out₃ (sym (refl ∙ sym same·3-out))))))))))))))))))))))))))))))))
+      Call-append-step.calls ! mem run (fmOf 𝓤 H (W .laws) 𝓣) known-append-step kept (Line′.build y1-0) (Ticket′.build y1-1) κ·pages q·pages b·pages o·pages γ·pages (length pages) pages κ·nodes q·nodes b·nodes o·nodes γ·nodes (length nodes) nodes (ν·3-register ∷ []) fullShare b·register o·register γ·3-register (length register) register (ν·3-out ∷ []) fullShare b·out o·out γ·3-out (length out) out ok·kept (Line′.make y1-0 (Note′.ok-Append-0 y1-0 y1-1 (subst Note′.Ok m·1 ok·step))) (Ticket′.make y1-1 (Note′.ok-Append-1 y1-0 y1-1 (subst Note′.Ok m·1 ok·step))) (and-then ! (load ! (from ! (stop !)) (look ! 63 refl)) (and-then ! (load ! (from ! (stop !)) (look ! 15 refl)) (and-then ! (load ! (from ! (stop !)) (look ! 13 refl)) (and-then ! (load ! (from ! (stop !)) (look ! 59 refl)) (and-then ! (load ! (from ! (stop !)) (look ! 57 refl)) (and-then ! (load ! (from ! (stop !)) (look ! 9 refl)) (and-then ! (load ! (from ! (stop !)) (look ! 5 refl)) (no-more !))))))))
+      (λ r3 register₃ out₃ ok·3 same·3-register same·3-out. move ! (4 ∷ 5 ∷ 9 ∷ []) $ back-mut ! tt Record′.row κ·register q·register b·register o·register γ·register (length register) register register₃ ν·3-register γ·3-register (refl) same·3-register room·register $ move ! (6 ∷ 7 ∷ 8 ∷ []) $ back-mut ! tt u8 κ·out q·out b·out o·out γ·out (length out) out out₃ ν·3-out γ·3-out (refl) same·3-out room·out $ move ! (4 ∷ 5 ∷ 6 ∷ 7 ∷ 2 ∷ 3 ∷ 0 ∷ 1 ∷ []) $ land ! (from ! (stop !)) (init ! 42 refl (Turn′.typed 𝓤 H A W r3 ok·3)) $
+      here ! (‵ (flft κ·pages q·pages) ∷ ‵ (ShrAt u8 κ·pages b·pages o·pages γ·pages (length pages) pages) ∷ ‵ (flft κ·nodes q·nodes) ∷ ‵ (ShrAt u32 κ·nodes b·nodes o·nodes γ·nodes (length nodes) nodes) ∷ ‵ (flft κ·register q·register) ∷ ‵ (MutAt Record′.row κ·register b·register o·register γ·register (length register) register₃) ∷ ‵ (flft κ·out q·out) ∷ ‵ (MutAt u8 κ·out b·out o·out γ·out (length out) out₃) ∷ holds (sliceTy (tyRef erased mut (pointee (u8 .written)))) l₃₀ (sliceVal (b·out, o·out) (length out)) (holds (tyRef erased mut (pointee (u8 .written))) l₂₉ (vptr b·out o·out) (holds (sliceTy (tyRef erased mut (pointee (Record′.row .written)))) l₂₈ (sliceVal (b·register, o·register) (length register)) (holds (tyRef erased mut (pointee (Record′.row .written))) l₂₇ (vptr b·register o·register) (holds (tyAt (code.function .locals) 26) l₂₆ (Ticket′.mach (Ticket′.build y1-1)) (holds (tyAt (code.function .locals) 25) l₂₅ (Line′.mach (Line′.build y1-0)) (empty (sliceTy (tyRef erased mut (pointee (u8 .written)))) l₂₄ (empty (tyRef erased mut (pointee (u8 .written))) l₂₃ (empty (sliceTy (tyRef erased mut (pointee (Record′.row .written)))) l₂₂ (empty (tyRef erased mut (pointee (Record′.row .written))) l₂₁ (empty (tyAt (code.function .locals) 20) l₂₀ (empty (tyAt (code.function .locals) 19) l₁₉ (empty (tyAt (code.function .locals) 18) l₁₈ (empty (sliceTy (tyRef erased mut (pointee (u8 .written)))) l₁₇ (empty (tyRef erased mut (pointee (u8 .written))) l₁₆ (empty (sliceTy (tyRef erased mut (pointee (Record′.row .written)))) l₁₅ (empty (tyRef erased mut (pointee (Record′.row .written))) l₁₄ (holds (tyAt (code.function .locals) 13) l₁₃ (Turn′.mach r3) (holds (tyInt w64) l₁₂ (vint w64 y1-1) (holds (tyInt w64) l₁₁ (vint w64 y1-0) (empty (tyInt w64) l₁₀ (empty (tyInt w64) l₉ (empty (tyInt w64) l₈ (empty (tyInt w64) l₇ (holds (sliceTy (tyRef (named 3) mut (pointee (u8 .written)))) l₆ (sliceVal (b·out, o·out) (length out)) (holds (sliceTy (tyRef (named 2) mut (pointee (Record′.row .written)))) l₅ (sliceVal (b·register, o·register) (length register)) (holds (sliceTy (tyRef (named 1) imm (pointee (u32 .written)))) l₄ (sliceVal (b·nodes, o·nodes) (length nodes)) (holds (sliceTy (tyRef (named 0) imm (pointee (u8 .written)))) l₃ (sliceVal (b·pages, o·pages) (length pages)) (holds (tyAt (code.function .locals) 2) l₂ (Note′.mach (Note.Append y1-0 y1-1)) (holds (tyAt (code.function .locals) 1) l₁ (Kept′.mach kept) (empty (tyAt (code.function .locals) 0) l₀ []))))))))))))))))))))))))))))))) $
+      assigns ! (of-opd ! (load ! (from ! (stop !)) (look ! 42 refl))) (from ! (stop !)) (init ! 68 refl (Turn′.typed 𝓤 H A W r3 ok·3)) $
+      returns ! (look ! 68 refl) $
+      move ! (68 ∷ 69 ∷ []) $ forget ! 0 refl $ free1 ! $ move ! (66 ∷ 67 ∷ []) $ forget ! 0 refl $ free1 ! $ move ! (64 ∷ 65 ∷ []) $ forget ! 0 refl $ free1 ! $ move ! (62 ∷ 63 ∷ []) $ forget ! 0 refl $ free1 ! $ move ! (60 ∷ 61 ∷ []) $ forget ! 0 refl $ free1 ! $ move ! (58 ∷ 59 ∷ []) $ forget ! 0 refl $ free1 ! $ move ! (56 ∷ 57 ∷ []) $ forget ! 0 refl $ free1 ! $ move ! (54 ∷ 55 ∷ []) $ free1 ! $ move ! (52 ∷ 53 ∷ []) $ free1 ! $ move ! (50 ∷ 51 ∷ []) $ free1 ! $ move ! (48 ∷ 49 ∷ []) $ free1 ! $ move ! (46 ∷ 47 ∷ []) $ forget ! 0 refl $ free1 ! $ move ! (44 ∷ 45 ∷ []) $ forget ! 0 refl $ free1 ! $ move ! (42 ∷ 43 ∷ []) $ forget ! 0 refl $ free1 ! $ move ! (40 ∷ 41 ∷ []) $ free1 ! $ move ! (38 ∷ 39 ∷ []) $ free1 ! $ move ! (36 ∷ 37 ∷ []) $ free1 ! $ move ! (34 ∷ 35 ∷ []) $ free1 ! $ move ! (32 ∷ 33 ∷ []) $ free1 ! $ move ! (30 ∷ 31 ∷ []) $ free1 ! $ move ! (28 ∷ 29 ∷ []) $ free1 ! $ move ! (26 ∷ 27 ∷ []) $ free1 ! $ move ! (24 ∷ 25 ∷ []) $ free1 ! $ move ! (22 ∷ 23 ∷ []) $ free1 ! $ move ! (20 ∷ 21 ∷ []) $ free1 ! $ move ! (18 ∷ 19 ∷ []) $ forget ! 0 refl $ free1 ! $ move ! (16 ∷ 17 ∷ []) $ forget ! 0 refl $ free1 ! $ move ! (14 ∷ 15 ∷ []) $ forget ! 0 refl $ free1 ! $ move ! (12 ∷ 13 ∷ []) $ forget ! 0 refl $ free1 ! $ move ! (10 ∷ 11 ∷ []) $ forget ! 0 refl $ free1 ! $ move ! (8 ∷ 9 ∷ []) $ forget ! 0 refl $ free1 ! $ free0 ! $ by ! (exits r3 ok·3 register₃ (sym (refl ∙ sym same·3-register)) out₃ (sym (refl ∙ sym same·3-out)))))))))))))))))))))))))))))))))))))))
 
 module _ {M : Type 1} (𝓤 : URA M) (H : Heap 𝓤) (A : Atoms 𝓤) (W : Given 𝓤 H A) (mem : Memory → SProp 𝓤) (run : Routine → Fun 𝓤) where
   walks : (𝓣 : Tables 𝓤 H) → Triple 𝓤 (𝓣 .C #begin-step) (Call-begin-step.Asked 𝓤 H A mem run) → Triple 𝓤 (𝓣 .C #write-step) (Call-write-step.Asked 𝓤 H A mem run) → Triple 𝓤 (𝓣 .C #append-step) (Call-append-step.Asked 𝓤 H A mem run) → Walks 𝓤 H A note-step‴.ended stayed (WpFn 𝓤 H (𝓣 .C) (𝓣 .Λ) code.function) (note-step‴.clauses 𝓤 H A mem run)

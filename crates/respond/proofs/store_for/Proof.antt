@@ -10,6 +10,9 @@ enum-known-wanted c = search needs
 enum-known-step : tie.Need-enum-known-step
 enum-known-step c = search needs
 
+fresh-store-requires : tie.Need-fresh-store-requires
+fresh-store-requires c κs = search needs
+
 enum-told : tie.Need-enum-told
 enum-told c = search needs
 
@@ -27,7 +30,7 @@ enum-told-5 c = search needs
 
 returns : tie.Need-returns
 unfolding storeFor
-returns c = rw (c .before .before .before .before .wanted .given .1, c .before .step .given .1)
+returns c = rw (c .before .before .before .before .before .wanted .given .1, c .before .before .step .given .1, c .fresh-store .ensures)
 
 returns-2 : tie.Need-returns-2
 unfolding storeFor
@@ -55,6 +58,7 @@ store-for-spec =
     (tie.spec
     enum-known-wanted
     enum-known-step
+    fresh-store-requires
     enum-told
     enum-told-2
     enum-told-3

@@ -25,26 +25,29 @@ enum-known-step-5 c = search needs
 enum-known-step-6 : tie.Need-enum-known-step-6
 enum-known-step-6 c = search needs
 
-enum-told : tie.Need-enum-told
-enum-told c = search needs
-
 enum-known-step-7 : tie.Need-enum-known-step-7
 enum-known-step-7 c = search needs
-
-read-wanted-requires : tie.Need-read-wanted-requires
-read-wanted-requires c κs = search needs
 
 enum-known-step-8 : tie.Need-enum-known-step-8
 enum-known-step-8 c = search needs
 
-enum-told-2 : tie.Need-enum-told-2
-enum-told-2 c = search needs
-
 enum-known-step-9 : tie.Need-enum-known-step-9
 enum-known-step-9 c = search needs
 
-enum-told-3 : tie.Need-enum-told-3
-enum-told-3 c = search needs
+read-wanted-requires : tie.Need-read-wanted-requires
+read-wanted-requires c κs = search needs
+
+enum-known-step-10 : tie.Need-enum-known-step-10
+enum-known-step-10 c = search needs
+
+enum-known-step-11 : tie.Need-enum-known-step-11
+enum-known-step-11 c = search needs
+
+enum-known-step-12 : tie.Need-enum-known-step-12
+enum-known-step-12 c = search needs
+
+enum-told : tie.Need-enum-told
+enum-told c = search needs
 
 returns : tie.Need-returns
 unfolding wantedBy
@@ -72,27 +75,31 @@ returns-6 c = rw (c .before .step6 .given .1)
 
 returns-7 : tie.Need-returns-7
 unfolding wantedBy
-returns-7 c = rw (c .enum-told .given .1)
+returns-7 c = rw (c .before .step7 .given .1)
 
 returns-8 : tie.Need-returns-8
 unfolding wantedBy
-returns-8 c = rw (c .before .before .step7 .given .1) (c .read-wanted .ensures)
+returns-8 c = rw (c .before .step8 .given .1)
 
 returns-9 : tie.Need-returns-9
 unfolding wantedBy
-returns-9 c = rw (c .before .step8 .given .1)
+returns-9 c = rw (c .before .before .step9 .given .1) (c .read-wanted .ensures)
 
 returns-10 : tie.Need-returns-10
 unfolding wantedBy
-returns-10 c = rw (c .enum-told2 .given .1)
+returns-10 c = rw (c .before .step10 .given .1)
 
 returns-11 : tie.Need-returns-11
 unfolding wantedBy
-returns-11 c = rw (c .before .step9 .given .1)
+returns-11 c = rw (c .before .step11 .given .1)
 
 returns-12 : tie.Need-returns-12
 unfolding wantedBy
-returns-12 c = rw (c .enum-told3 .given .1)
+returns-12 c = rw (c .before .step12 .given .1)
+
+returns-13 : tie.Need-returns-13
+unfolding wantedBy
+returns-13 c = rw (c .enum-told .given .1)
 
 pub wanted-by-spec : {M : Type 1} → statement M
 wanted-by-spec =
@@ -105,13 +112,14 @@ wanted-by-spec =
     enum-known-step-4
     enum-known-step-5
     enum-known-step-6
-    enum-told
     enum-known-step-7
-    read-wanted-requires
     enum-known-step-8
-    enum-told-2
     enum-known-step-9
-    enum-told-3
+    read-wanted-requires
+    enum-known-step-10
+    enum-known-step-11
+    enum-known-step-12
+    enum-told
     returns
     returns-2
     returns-3
@@ -123,4 +131,5 @@ wanted-by-spec =
     returns-9
     returns-10
     returns-11
-    returns-12)
+    returns-12
+    returns-13)

@@ -17,11 +17,14 @@ enum-told c = search needs
 enum-known-x : tie.Need-enum-known-x
 enum-known-x c = search needs
 
+version-of-requires : tie.Need-version-of-requires
+version-of-requires c κs = search needs
+
 returns-2 : tie.Need-returns-2
 returns-2 c = rw (c .before .before .if1 .left, c .enum-told .given .1)
 
 returns-3 : tie.Need-returns-3
-returns-3 c = rw (c .before .before .before .if1 .left, c .before .x .given .1)
+returns-3 c = rw (c .before .before .before .before .if1 .left, c .before .before .x .given .1, ← c .version-of .ensures)
 
 pub stamped-by-spec : {M : Type 1} → statement M
-stamped-by-spec = tie.close (tie.spec returns enum-told enum-known-x returns-2 returns-3)
+stamped-by-spec = tie.close (tie.spec returns enum-told enum-known-x version-of-requires returns-2 returns-3)

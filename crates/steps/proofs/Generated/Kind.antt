@@ -2,4 +2,3 @@
 pub mod Cutter
 pub mod Fed
 pub mod Place
-pub mod Step

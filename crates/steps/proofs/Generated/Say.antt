@@ -7,9 +7,9 @@ pub mod next_place
 pub mod nothing_kept
 pub mod read_block
 pub mod same_place
-pub mod step_cut
 pub mod take_all
 pub mod take_block
 pub mod take_byte
-pub mod wanted_by
+pub mod turn
+pub mod wanted_cut
 pub mod write_out

@@ -3,9 +3,10 @@ pub mod append_step
 pub mod assign_turn
 pub mod begin_step
 pub mod begin_turn
+pub mod branch_step
+pub mod branch_turn
 pub mod capped
 pub mod format_step
-pub mod format_turn
 pub mod publish_step
 pub mod publish_turn
 pub mod put_step

@@ -41,19 +41,25 @@ use denote.Triple.Spec.{Meets, tripleOf}
 use denote.Triple.Table.{entered, cited}
 use denote.Triple.Walked.{says, needs, Stays, stay-slice, stay-none-slice, stay-none, walkOf, Walks, ends-at, walked, goes-slice, goes-none-slice, goes-none, walk-meets}
 use Rattle.answers.specs.declared.Turn.{Turn}
-use Rattle.turns.proofs.Generated.Kind.Turn as Turn′
+use Rattle.answers.proofs.Generated.Kind.Turn as Turn′
 use Rattle.answers.specs.declared.Kept.{Kept}
-use Rattle.turns.proofs.Generated.Kind.Kept as Kept′
+use Rattle.answers.proofs.Generated.Kind.Kept as Kept′
 use Rattle.versions.specs.declared.Store.{Store}
 use Rattle.versions.proofs.Generated.Kind.Store as Store′
 use Rattle.tree.specs.declared.Ticket.{Ticket}
 use Rattle.register.proofs.Generated.Kind.Ticket as Ticket′
+use Rattle.lines.specs.declared.Branch.{Branch}
+use Rattle.versions.proofs.Generated.Kind.Branch as Branch′
+use Rattle.lines.specs.declared.Line.{Line}
+use Rattle.register.proofs.Generated.Kind.Line as Line′
 use Rattle.tree.specs.declared.Version.{Version}
 use Rattle.register.proofs.Generated.Kind.Version as Version′
 use Rattle.register.specs.declared.Record.{Record}
 use Rattle.register.proofs.Generated.Kind.Record as Record′
 use Rattle.tree.specs.declared.PageIndex.{PageIndex}
 use Rattle.register.proofs.Generated.Kind.PageIndex as PageIndex′
+use Rattle.lines.specs.declared.Entries.{Entries}
+use Rattle.register.proofs.Generated.Kind.Entries as Entries′
 use Rattle.format.specs.declared.Formatted.{Formatted}
 use Rattle.format.proofs.Generated.Kind.Formatted as Formatted′
 use Rattle.register.proofs.Generated.Flow.{ref, MutAt, ShrAt, lend-mut, back-mut, lend-shr, back-shr, branches-on, regroup, skips-on, returns-on, plus-nothing, holds, empty, less-fits, is-true, is-false, differ, above-0, twice-not, switches-to, switches-last, big-lit, here, blocks-on, resume, scaled-2, scaled-4, scaled-8, opens-shr, shuts-shr, opens-mut, shuts-mut, puts-mut, keeps-shr, fills, empties, tyAt}
@@ -63,8 +69,8 @@ use Rattle.format.proofs.Generated.Call.format as Call-format
 use Rattle.format.proofs.format.Symbol as def-format
 use Rattle.format.proofs.format.Symbol.{name as #format}
 use Rattle.format.proofs.format.Met as thm-format
-use Rattle.turns.proofs.Generated.Say.format_turn as format-turn″
-use Rattle.turns.proofs.Generated.Call.format_turn as Call-format-turn
+use Rattle.answers.proofs.Generated.Say.format_turn as format-turn″
+use Rattle.answers.proofs.Generated.Call.format_turn as Call-format-turn
 use Rattle.answers.proofs.format_turn.Symbol as def-format-turn
 use Rattle.answers.proofs.format_turn.Symbol.{name as #format-turn}
 use Rattle.answers.proofs.format_turn.Met as thm-format-turn
@@ -76,14 +82,14 @@ use denote.Memory.{pointee}
 use Rattle.turns.proofs.format_step.Proof.Asks.{r1, pages₁, nodes₁, register₁, r2, out₂}
 
 abbrev stayed : Stays (format-step‴.ended .signature .params) (format-step‴.ended .kept)
-stayed = (stay-none (λ _. Kept′.row) yes, (stay-none (λ _. Store′.row) yes, (stay-slice (0 ∷ []) tt (plain (λ _. u8)), (stay-slice (1 ∷ []) tt (plain (λ _. u32)), (stay-slice (2 ∷ []) tt (plain (λ _. Record′.row)), (stay-slice (3 ∷ []) tt (plain (λ _. u8)), tt))))))
+stayed = (stay-none (λ _. Kept′.row) yes, (stay-none (λ _. u64) yes, (stay-none (λ _. u64) yes, (stay-none (λ _. u64) yes, (stay-none (λ _. u64) yes, (stay-slice (0 ∷ []) tt (plain (λ _. u8)), (stay-slice (1 ∷ []) tt (plain (λ _. u32)), (stay-slice (2 ∷ []) tt (plain (λ _. Record′.row)), (stay-slice (3 ∷ []) tt (plain (λ _. u8)), tt)))))))))
 
-module _ {M : Type 1} (𝓤 : URA M) (H : Heap 𝓤) (A : Atoms 𝓤) (W : Given 𝓤 H A) (mem : Memory → SProp 𝓤) (run : Routine → Fun 𝓤) (kept : Kept) (asked : Store) (κ·pages : Lft) (q·pages : Share) (b·pages o·pages : ℕ) (γ·pages : GName) (pages : List ℕ) (κ·nodes : Lft) (q·nodes : Share) (b·nodes o·nodes : ℕ) (γ·nodes : GName) (nodes : List ℕ) (κ·register : Lft) (q·register : Share) (b·register o·register : ℕ) (γ·register : GName) (register : List Record) (κ·out : Lft) (q·out : Share) (b·out o·out : ℕ) (γ·out : GName) (out : List ℕ) (ok·kept : Is Kept′.row kept (Kept′.vals kept)) (ok·asked : Is Store′.row asked (Store′.vals asked)) (room·pages : Room u8 (length pages)) (room·nodes : Room u32 (length nodes)) (room·register : Room Record′.row (length register)) (room·out : Room u8 (length out)) where
+module _ {M : Type 1} (𝓤 : URA M) (H : Heap 𝓤) (A : Atoms 𝓤) (W : Given 𝓤 H A) (mem : Memory → SProp 𝓤) (run : Routine → Fun 𝓤) (kept : Kept) (size : ℕ) (page-count : ℕ) (node-count : ℕ) (updates : ℕ) (κ·pages : Lft) (q·pages : Share) (b·pages o·pages : ℕ) (γ·pages : GName) (pages : List ℕ) (κ·nodes : Lft) (q·nodes : Share) (b·nodes o·nodes : ℕ) (γ·nodes : GName) (nodes : List ℕ) (κ·register : Lft) (q·register : Share) (b·register o·register : ℕ) (γ·register : GName) (register : List Record) (κ·out : Lft) (q·out : Share) (b·out o·out : ℕ) (γ·out : GName) (out : List ℕ) (ok·kept : Is Kept′.row kept (Kept′.vals kept)) (ok·size : Is u64 size (uint-vals w64 size)) (ok·page-count : Is u64 page-count (uint-vals w64 page-count)) (ok·node-count : Is u64 node-count (uint-vals w64 node-count)) (ok·updates : Is u64 updates (uint-vals w64 updates)) (room·pages : Room u8 (length pages)) (room·nodes : Room u32 (length nodes)) (room·register : Room Record′.row (length register)) (room·out : Room u8 (length out)) where
   abbrev all-args : Args format-step‴.signature (κ·pages, (κ·nodes, (κ·register, (κ·out, tt))))
-  all-args = (kept, (asked, (ref b·pages o·pages γ·pages pages, (ref b·nodes o·nodes γ·nodes nodes, (ref b·register o·register γ·register register, (ref b·out o·out γ·out out, tt))))))
+  all-args = (kept, (size, (page-count, (node-count, (updates, (ref b·pages o·pages γ·pages pages, (ref b·nodes o·nodes γ·nodes nodes, (ref b·register o·register γ·register register, (ref b·out o·out γ·out out, tt)))))))))
 
   abbrev all-vals : Vals format-step‴.signature (κ·pages, (κ·nodes, (κ·register, (κ·out, tt))))
-  all-vals = (Kept′.mach kept ∷ [], (Store′.mach asked ∷ [], (sliceVal (b·pages, o·pages) (length pages) ∷ [], (sliceVal (b·nodes, o·nodes) (length nodes) ∷ [], (sliceVal (b·register, o·register) (length register) ∷ [], (sliceVal (b·out, o·out) (length out) ∷ [], tt))))))
+  all-vals = (Kept′.mach kept ∷ [], (vint w64 size ∷ [], (vint w64 page-count ∷ [], (vint w64 node-count ∷ [], (vint w64 updates ∷ [], (sliceVal (b·pages, o·pages) (length pages) ∷ [], (sliceVal (b·nodes, o·nodes) (length nodes) ∷ [], (sliceVal (b·register, o·register) (length register) ∷ [], (sliceVal (b·out, o·out) (length out) ∷ [], tt)))))))))
 
   abbrev bound : walkOf 𝓤 H A format-step‴.ended stayed (format-step‴.clauses 𝓤 H A mem run) .Ghost
   bound = (((κ·pages, (κ·nodes, (κ·register, (κ·out, tt)))), (q·pages, (q·nodes, (q·register, (q·out, tt)))), tt, all-args, all-vals), tt)
@@ -93,16 +99,16 @@ module _ {M : Type 1} (𝓤 : URA M) (H : Heap 𝓤) (A : Atoms 𝓤) (W : Given
 
   exits : (r : Turn) → Is Turn′.row r (Turn′.vals r) → (zs·pages : List ℕ) → length zs·pages ≡ length pages → (zs·nodes : List ℕ) → length zs·nodes ≡ length nodes → (zs·register : List Record) → length zs·register ≡ length register → (zs·out : List ℕ) → length zs·out ≡ length out → ent 𝓤 (⋆ 𝓤 H A (‵ (flft κ·pages q·pages) ∷ ‵ (MutAt u8 κ·pages b·pages o·pages γ·pages (length pages) zs·pages) ∷ ‵ (flft κ·nodes q·nodes) ∷ ‵ (MutAt u32 κ·nodes b·nodes o·nodes γ·nodes (length nodes) zs·nodes) ∷ ‵ (flft κ·register q·register) ∷ ‵ (MutAt Record′.row κ·register b·register o·register γ·register (length register) zs·register) ∷ ‵ (flft κ·out q·out) ∷ ‵ (MutAt u8 κ·out b·out o·out γ·out (length out) zs·out) ∷ [])) (Post (Turn′.mach r))
   exits r ok·r zs·pages same·pages zs·nodes same·nodes zs·register same·register zs·out same·out =
-      qed W (‵ (flft κ·pages q·pages) ∷ ‵ (MutAt u8 κ·pages b·pages o·pages γ·pages (length pages) zs·pages) ∷ ‵ (flft κ·nodes q·nodes) ∷ ‵ (MutAt u32 κ·nodes b·nodes o·nodes γ·nodes (length nodes) zs·nodes) ∷ ‵ (flft κ·register q·register) ∷ ‵ (MutAt Record′.row κ·register b·register o·register γ·register (length register) zs·register) ∷ ‵ (flft κ·out q·out) ∷ ‵ (MutAt u8 κ·out b·out o·out γ·out (length out) zs·out) ∷ []) ∵ suffices ! _ (ends-at 𝓤 H A format-step‴.ended stayed (format-step‴.clauses 𝓤 H A mem run) W bound (Turn′.mach r) r (tt, (tt, (zs·pages, (zs·nodes, (zs·register, (zs·out, tt)))))) (tt, (tt, (same·pages, (same·nodes, (same·register, (same·out, tt))))))) $ plus-nothing ! $
-      nothing ! $ move ! (7 ∷ 0 ∷ []) $ join ! $ move ! (5 ∷ 0 ∷ []) $ join ! $ move ! (3 ∷ 0 ∷ []) $ join ! $ move ! (1 ∷ 0 ∷ []) $ join ! $ frame ! $ nothing ! $ move ! (4 ∷ 0 ∷ []) $ fjoin ! $ move ! (3 ∷ 0 ∷ []) $ fjoin ! $ move ! (2 ∷ 0 ∷ []) $ fjoin ! $ move ! (1 ∷ 0 ∷ []) $ fjoin ! $ owned ! Store′.row (Is Store′.row) (Store′.makes 𝓤 H A) asked _ ok·asked $ fjoin ! $ owned ! Kept′.row (Is Kept′.row) (Kept′.makes 𝓤 H A) kept _ ok·kept $ fjoin ! $ frame ! $ owned ! Turn′.row (Is Turn′.row) (Turn′.makes 𝓤 H A) r _ ok·r $ done !
+      qed W (‵ (flft κ·pages q·pages) ∷ ‵ (MutAt u8 κ·pages b·pages o·pages γ·pages (length pages) zs·pages) ∷ ‵ (flft κ·nodes q·nodes) ∷ ‵ (MutAt u32 κ·nodes b·nodes o·nodes γ·nodes (length nodes) zs·nodes) ∷ ‵ (flft κ·register q·register) ∷ ‵ (MutAt Record′.row κ·register b·register o·register γ·register (length register) zs·register) ∷ ‵ (flft κ·out q·out) ∷ ‵ (MutAt u8 κ·out b·out o·out γ·out (length out) zs·out) ∷ []) ∵ suffices ! _ (ends-at 𝓤 H A format-step‴.ended stayed (format-step‴.clauses 𝓤 H A mem run) W bound (Turn′.mach r) r (tt, (tt, (tt, (tt, (tt, (zs·pages, (zs·nodes, (zs·register, (zs·out, tt))))))))) (tt, (tt, (tt, (tt, (tt, (same·pages, (same·nodes, (same·register, (same·out, tt)))))))))) $ plus-nothing ! $
+      nothing ! $ move ! (7 ∷ 0 ∷ []) $ join ! $ move ! (5 ∷ 0 ∷ []) $ join ! $ move ! (3 ∷ 0 ∷ []) $ join ! $ move ! (1 ∷ 0 ∷ []) $ join ! $ frame ! $ nothing ! $ move ! (4 ∷ 0 ∷ []) $ fjoin ! $ move ! (3 ∷ 0 ∷ []) $ fjoin ! $ move ! (2 ∷ 0 ∷ []) $ fjoin ! $ move ! (1 ∷ 0 ∷ []) $ fjoin ! $ owned ! u64 (Is u64) (uint-makes 𝓤 H A W w64) updates _ ok·updates $ fjoin ! $ owned ! u64 (Is u64) (uint-makes 𝓤 H A W w64) node-count _ ok·node-count $ fjoin ! $ owned ! u64 (Is u64) (uint-makes 𝓤 H A W w64) page-count _ ok·page-count $ fjoin ! $ owned ! u64 (Is u64) (uint-makes 𝓤 H A W w64) size _ ok·size $ fjoin ! $ owned ! Kept′.row (Is Kept′.row) (Kept′.makes 𝓤 H A) kept _ ok·kept $ fjoin ! $ frame ! $ owned ! Turn′.row (Is Turn′.row) (Turn′.makes 𝓤 H A) r _ ok·r $ done !
 
   walk : (𝓣 : Tables 𝓤 H) (known-format : Triple 𝓤 (𝓣 .C #format) (Call-format.Asked 𝓤 H A mem run)) (known-format-turn : Triple 𝓤 (𝓣 .C #format-turn) (Call-format-turn.Asked 𝓤 H A mem run)) → ent 𝓤 (onEntry 𝓤 H A format-step‴.signature (κ·pages, (κ·nodes, (κ·register, (κ·out, tt)))) (q·pages, (q·nodes, (q·register, (q·out, tt)))) all-args all-vals)
-      (WpFn 𝓤 H (𝓣 .C) (𝓣 .Λ) code.function (Kept′.mach kept ∷ Store′.mach asked ∷ sliceVal (b·pages, o·pages) (length pages) ∷ sliceVal (b·nodes, o·nodes) (length nodes) ∷ sliceVal (b·register, o·register) (length register) ∷ sliceVal (b·out, o·out) (length out) ∷ []) Post)
+      (WpFn 𝓤 H (𝓣 .C) (𝓣 .Λ) code.function (Kept′.mach kept ∷ vint w64 size ∷ vint w64 page-count ∷ vint w64 node-count ∷ vint w64 updates ∷ sliceVal (b·pages, o·pages) (length pages) ∷ sliceVal (b·nodes, o·nodes) (length nodes) ∷ sliceVal (b·register, o·register) (length register) ∷ sliceVal (b·out, o·out) (length out) ∷ []) Post)
   walk 𝓣 known-format known-format-turn =
-      qed W ((‵ (flft κ·pages q·pages) ⊛ ‵ (flft κ·nodes q·nodes) ⊛ ‵ (flft κ·register q·register) ⊛ ‵ (flft κ·out q·out) ⊛ ‵ ftrue) ∷ ‵ (owns (Kept′.row ∷ Store′.row ∷ MutSlice (named 0) κ·pages u8 ∷ MutSlice (named 0) κ·nodes u32 ∷ MutSlice (named 0) κ·register Record′.row ∷ MutSlice (named 0) κ·out u8 ∷ []) all-args all-vals) ∷ []) ∵ enter ! (𝓣 .C) (𝓣 .Λ) code.function (Kept′.mach kept ∷ Store′.mach asked ∷ sliceVal (b·pages, o·pages) (length pages) ∷ sliceVal (b·nodes, o·nodes) (length nodes) ∷ sliceVal (b·register, o·register) (length register) ∷ sliceVal (b·out, o·out) (length out) ∷ []) _ $
-      alloc1 ! (λ l₀. alloc1 ! (λ l₁. alloc1 ! (λ l₂. alloc1 ! (λ l₃. alloc1 ! (λ l₄. alloc1 ! (λ l₅. alloc1 ! (λ l₆. alloc1 ! (λ l₇. alloc1 ! (λ l₈. alloc1 ! (λ l₉. alloc1 ! (λ l₁₀. alloc1 ! (λ l₁₁. alloc1 ! (λ l₁₂. alloc1 ! (λ l₁₃. alloc1 ! (λ l₁₄. alloc1 ! (λ l₁₅. alloc0 ! $ params1 ! $
-      pass1 ! (init ! 28 refl (Kept′.typed 𝓤 H A W kept ok·kept)) $ pass1 ! (init ! 26 refl (Store′.typed 𝓤 H A W asked ok·asked)) $ pass1 ! (init ! 24 refl (tt, (tt, (record { fits = room·pages .0 }, tt)))) $ pass1 ! (init ! 22 refl (tt, (tt, (record { fits = room·nodes .0 }, tt)))) $ pass1 ! (init ! 20 refl (tt, (tt, (record { fits = room·register .0 }, tt)))) $ pass1 ! (init ! 18 refl (tt, (tt, (record { fits = room·out .0 }, tt)))) $ pass0 ! $
-      move ! (33 ∷ []) $ fsplit ! $ drop ! $ fsplit ! $ drop ! $ fsplit ! $ move ! (1 ∷ []) $ fsplit ! $ move ! (1 ∷ []) $ fsplit ! $ move ! (1 ∷ []) $ fsplit ! $ move ! (1 ∷ []) $ drop ! $ move ! (36 ∷ []) $ split ! $ move ! (1 ∷ []) $ split ! $ move ! (1 ∷ []) $ split ! $ move ! (1 ∷ []) $ split ! $ move ! (1 ∷ []) $ drop ! $ move ! (3 ∷ 7 ∷ 2 ∷ 6 ∷ 1 ∷ 5 ∷ 0 ∷ 4 ∷ []) $
+      qed W ((‵ (flft κ·pages q·pages) ⊛ ‵ (flft κ·nodes q·nodes) ⊛ ‵ (flft κ·register q·register) ⊛ ‵ (flft κ·out q·out) ⊛ ‵ ftrue) ∷ ‵ (owns (Kept′.row ∷ u64 ∷ u64 ∷ u64 ∷ u64 ∷ MutSlice (named 0) κ·pages u8 ∷ MutSlice (named 0) κ·nodes u32 ∷ MutSlice (named 0) κ·register Record′.row ∷ MutSlice (named 0) κ·out u8 ∷ []) all-args all-vals) ∷ []) ∵ enter ! (𝓣 .C) (𝓣 .Λ) code.function (Kept′.mach kept ∷ vint w64 size ∷ vint w64 page-count ∷ vint w64 node-count ∷ vint w64 updates ∷ sliceVal (b·pages, o·pages) (length pages) ∷ sliceVal (b·nodes, o·nodes) (length nodes) ∷ sliceVal (b·register, o·register) (length register) ∷ sliceVal (b·out, o·out) (length out) ∷ []) _ $
+      alloc1 ! (λ l₀. alloc1 ! (λ l₁. alloc1 ! (λ l₂. alloc1 ! (λ l₃. alloc1 ! (λ l₄. alloc1 ! (λ l₅. alloc1 ! (λ l₆. alloc1 ! (λ l₇. alloc1 ! (λ l₈. alloc1 ! (λ l₉. alloc1 ! (λ l₁₀. alloc1 ! (λ l₁₁. alloc1 ! (λ l₁₂. alloc1 ! (λ l₁₃. alloc1 ! (λ l₁₄. alloc1 ! (λ l₁₅. alloc1 ! (λ l₁₆. alloc1 ! (λ l₁₇. alloc1 ! (λ l₁₈. alloc0 ! $ params1 ! $
+      pass1 ! (init ! 34 refl (Kept′.typed 𝓤 H A W kept ok·kept)) $ pass1 ! (init ! 32 refl (tt, record { fits = ok·size .1 })) $ pass1 ! (init ! 30 refl (tt, record { fits = ok·page-count .1 })) $ pass1 ! (init ! 28 refl (tt, record { fits = ok·node-count .1 })) $ pass1 ! (init ! 26 refl (tt, record { fits = ok·updates .1 })) $ pass1 ! (init ! 24 refl (tt, (tt, (record { fits = room·pages .0 }, tt)))) $ pass1 ! (init ! 22 refl (tt, (tt, (record { fits = room·nodes .0 }, tt)))) $ pass1 ! (init ! 20 refl (tt, (tt, (record { fits = room·register .0 }, tt)))) $ pass1 ! (init ! 18 refl (tt, (tt, (record { fits = room·out .0 }, tt)))) $ pass0 ! $
+      move ! (39 ∷ []) $ fsplit ! $ drop ! $ fsplit ! $ drop ! $ fsplit ! $ drop ! $ fsplit ! $ drop ! $ fsplit ! $ drop ! $ fsplit ! $ move ! (1 ∷ []) $ fsplit ! $ move ! (1 ∷ []) $ fsplit ! $ move ! (1 ∷ []) $ fsplit ! $ move ! (1 ∷ []) $ drop ! $ move ! (42 ∷ []) $ split ! $ move ! (1 ∷ []) $ split ! $ move ! (1 ∷ []) $ split ! $ move ! (1 ∷ []) $ split ! $ move ! (1 ∷ []) $ drop ! $ move ! (3 ∷ 7 ∷ 2 ∷ 6 ∷ 1 ∷ 5 ∷ 0 ∷ 4 ∷ []) $
       assigns ! (addr ! (from ! (fld ! refl (hop ! (look-in ! 32 (sub ! 0 refl (whole !))) (stop !))))) (from ! (stop !)) (init ! 22 refl (tt, tt)) $
       assigns ! (agg ! (and-then ! (load ! (from ! (stop !)) (look ! 22 refl)) (and-then ! (load ! (from ! (fld ! refl (stop !))) (look-in ! 32 (sub ! 1 refl (whole !)))) (no-more !)))) (from ! (stop !)) (init ! 20 refl (tt, (tt, (record { fits = room·pages .0 }, tt)))) $
       assigns ! (addr ! (from ! (fld ! refl (hop ! (look-in ! 30 (sub ! 0 refl (whole !))) (stop !))))) (from ! (stop !)) (init ! 18 refl (tt, tt)) $
@@ -110,27 +116,27 @@ module _ {M : Type 1} (𝓤 : URA M) (H : Heap 𝓤) (A : Atoms 𝓤) (W : Given
       assigns ! (addr ! (from ! (fld ! refl (hop ! (look-in ! 28 (sub ! 0 refl (whole !))) (stop !))))) (from ! (stop !)) (init ! 14 refl (tt, tt)) $
       assigns ! (agg ! (and-then ! (load ! (from ! (stop !)) (look ! 14 refl)) (and-then ! (load ! (from ! (fld ! refl (stop !))) (look-in ! 28 (sub ! 1 refl (whole !)))) (no-more !)))) (from ! (stop !)) (init ! 12 refl (tt, (tt, (record { fits = room·register .0 }, tt)))) $
       lend-mut ! tt u8 κ·pages q·pages b·pages o·pages γ·pages (length pages) pages (refl) (λ ν·1-pages γ·1-pages. move ! (3 ∷ 4 ∷ []) $ lend-mut ! tt u32 κ·nodes q·nodes b·nodes o·nodes γ·nodes (length nodes) nodes (refl) (λ ν·1-nodes γ·1-nodes. move ! (6 ∷ 7 ∷ []) $ lend-mut ! tt Record′.row κ·register q·register b·register o·register γ·register (length register) register (refl) (λ ν·1-register γ·1-register. move ! (6 ∷ 7 ∷ 3 ∷ 4 ∷ 0 ∷ 1 ∷ []) $
-      Call-format.calls ! mem run (fmOf 𝓤 H (W .laws) 𝓣) known-format (asked .size) (asked .pages) (asked .nodes) (asked .updates) (ν·1-pages ∷ []) fullShare b·pages o·pages γ·1-pages (length pages) pages (ν·1-nodes ∷ []) fullShare b·nodes o·nodes γ·1-nodes (length nodes) nodes (ν·1-register ∷ []) fullShare b·register o·register γ·1-register (length register) register (Store′.ok-size asked ok·asked) (Store′.ok-pages asked ok·asked) (Store′.ok-nodes asked ok·asked) (Store′.ok-updates asked ok·asked) (and-then ! (load ! (from ! (fld ! refl (stop !))) (look-in ! 32 (sub ! 0 refl (whole !)))) (and-then ! (load ! (from ! (fld ! refl (stop !))) (look-in ! 32 (sub ! 1 refl (whole !)))) (and-then ! (load ! (from ! (fld ! refl (stop !))) (look-in ! 32 (sub ! 2 refl (whole !)))) (and-then ! (load ! (from ! (fld ! refl (stop !))) (look-in ! 32 (sub ! 3 refl (whole !)))) (and-then ! (load ! (from ! (stop !)) (look ! 18 refl)) (and-then ! (load ! (from ! (stop !)) (look ! 14 refl)) (and-then ! (load ! (from ! (stop !)) (look ! 10 refl)) (no-more !))))))))
-      (λ ok·1 same·1-pages same·1-nodes same·1-register. move ! (0 ∷ 1 ∷ 8 ∷ []) $ back-mut ! tt u8 κ·pages q·pages b·pages o·pages γ·pages (length pages) pages (pages₁ kept asked pages nodes register out) ν·1-pages γ·1-pages (refl) same·1-pages room·pages $ move ! (2 ∷ 3 ∷ 7 ∷ []) $ back-mut ! tt u32 κ·nodes q·nodes b·nodes o·nodes γ·nodes (length nodes) nodes (nodes₁ kept asked pages nodes register out) ν·1-nodes γ·1-nodes (refl) same·1-nodes room·nodes $ move ! (4 ∷ 5 ∷ 6 ∷ []) $ back-mut ! tt Record′.row κ·register q·register b·register o·register γ·register (length register) register (register₁ kept asked pages nodes register out) ν·1-register γ·1-register (refl) same·1-register room·register $ move ! (4 ∷ 5 ∷ 2 ∷ 3 ∷ 0 ∷ 1 ∷ 6 ∷ 7 ∷ []) $ land ! (from ! (stop !)) (init ! 24 refl (Formatted′.typed 𝓤 H A W (r1 kept asked pages nodes register out) ok·1)) $
-      here ! (‵ (flft κ·pages q·pages) ∷ ‵ (MutAt u8 κ·pages b·pages o·pages γ·pages (length pages) (pages₁ kept asked pages nodes register out)) ∷ ‵ (flft κ·nodes q·nodes) ∷ ‵ (MutAt u32 κ·nodes b·nodes o·nodes γ·nodes (length nodes) (nodes₁ kept asked pages nodes register out)) ∷ ‵ (flft κ·register q·register) ∷ ‵ (MutAt Record′.row κ·register b·register o·register γ·register (length register) (register₁ kept asked pages nodes register out)) ∷ ‵ (flft κ·out q·out) ∷ ‵ (MutAt u8 κ·out b·out o·out γ·out (length out) out) ∷ empty (sliceTy (tyRef erased mut (pointee (u8 .written)))) l₁₅ (empty (tyRef erased mut (pointee (u8 .written))) l₁₄ (holds (sliceTy (tyRef erased mut (pointee (Record′.row .written)))) l₁₃ (sliceVal (b·register, o·register) (length register)) (holds (tyRef erased mut (pointee (Record′.row .written))) l₁₂ (vptr b·register o·register) (holds (sliceTy (tyRef erased mut (pointee (u32 .written)))) l₁₁ (sliceVal (b·nodes, o·nodes) (length nodes)) (holds (tyRef erased mut (pointee (u32 .written))) l₁₀ (vptr b·nodes o·nodes) (holds (sliceTy (tyRef erased mut (pointee (u8 .written)))) l₉ (sliceVal (b·pages, o·pages) (length pages)) (holds (tyRef erased mut (pointee (u8 .written))) l₈ (vptr b·pages o·pages) (holds (tyAt (code.function .locals) 7) l₇ (Formatted′.mach (r1 kept asked pages nodes register out)) (holds (sliceTy (tyRef (named 3) mut (pointee (u8 .written)))) l₆ (sliceVal (b·out, o·out) (length out)) (holds (sliceTy (tyRef (named 2) mut (pointee (Record′.row .written)))) l₅ (sliceVal (b·register, o·register) (length register)) (holds (sliceTy (tyRef (named 1) mut (pointee (u32 .written)))) l₄ (sliceVal (b·nodes, o·nodes) (length nodes)) (holds (sliceTy (tyRef (named 0) mut (pointee (u8 .written)))) l₃ (sliceVal (b·pages, o·pages) (length pages)) (holds (tyAt (code.function .locals) 2) l₂ (Store′.mach asked) (holds (tyAt (code.function .locals) 1) l₁ (Kept′.mach kept) (empty (tyAt (code.function .locals) 0) l₀ [])))))))))))))))) $
+      Call-format.calls ! mem run (fmOf 𝓤 H (W .laws) 𝓣) known-format size page-count node-count updates (ν·1-pages ∷ []) fullShare b·pages o·pages γ·1-pages (length pages) pages (ν·1-nodes ∷ []) fullShare b·nodes o·nodes γ·1-nodes (length nodes) nodes (ν·1-register ∷ []) fullShare b·register o·register γ·1-register (length register) register ok·size ok·page-count ok·node-count ok·updates (and-then ! (load ! (from ! (stop !)) (look ! 38 refl)) (and-then ! (load ! (from ! (stop !)) (look ! 36 refl)) (and-then ! (load ! (from ! (stop !)) (look ! 34 refl)) (and-then ! (load ! (from ! (stop !)) (look ! 32 refl)) (and-then ! (load ! (from ! (stop !)) (look ! 18 refl)) (and-then ! (load ! (from ! (stop !)) (look ! 14 refl)) (and-then ! (load ! (from ! (stop !)) (look ! 10 refl)) (no-more !))))))))
+      (λ ok·1 same·1-pages same·1-nodes same·1-register. move ! (0 ∷ 1 ∷ 8 ∷ []) $ back-mut ! tt u8 κ·pages q·pages b·pages o·pages γ·pages (length pages) pages (pages₁ kept size page-count node-count updates pages nodes register out) ν·1-pages γ·1-pages (refl) same·1-pages room·pages $ move ! (2 ∷ 3 ∷ 7 ∷ []) $ back-mut ! tt u32 κ·nodes q·nodes b·nodes o·nodes γ·nodes (length nodes) nodes (nodes₁ kept size page-count node-count updates pages nodes register out) ν·1-nodes γ·1-nodes (refl) same·1-nodes room·nodes $ move ! (4 ∷ 5 ∷ 6 ∷ []) $ back-mut ! tt Record′.row κ·register q·register b·register o·register γ·register (length register) register (register₁ kept size page-count node-count updates pages nodes register out) ν·1-register γ·1-register (refl) same·1-register room·register $ move ! (4 ∷ 5 ∷ 2 ∷ 3 ∷ 0 ∷ 1 ∷ 6 ∷ 7 ∷ []) $ land ! (from ! (stop !)) (init ! 24 refl (Formatted′.typed 𝓤 H A W (r1 kept size page-count node-count updates pages nodes register out) ok·1)) $
+      here ! (‵ (flft κ·pages q·pages) ∷ ‵ (MutAt u8 κ·pages b·pages o·pages γ·pages (length pages) (pages₁ kept size page-count node-count updates pages nodes register out)) ∷ ‵ (flft κ·nodes q·nodes) ∷ ‵ (MutAt u32 κ·nodes b·nodes o·nodes γ·nodes (length nodes) (nodes₁ kept size page-count node-count updates pages nodes register out)) ∷ ‵ (flft κ·register q·register) ∷ ‵ (MutAt Record′.row κ·register b·register o·register γ·register (length register) (register₁ kept size page-count node-count updates pages nodes register out)) ∷ ‵ (flft κ·out q·out) ∷ ‵ (MutAt u8 κ·out b·out o·out γ·out (length out) out) ∷ empty (sliceTy (tyRef erased mut (pointee (u8 .written)))) l₁₈ (empty (tyRef erased mut (pointee (u8 .written))) l₁₇ (holds (sliceTy (tyRef erased mut (pointee (Record′.row .written)))) l₁₆ (sliceVal (b·register, o·register) (length register)) (holds (tyRef erased mut (pointee (Record′.row .written))) l₁₅ (vptr b·register o·register) (holds (sliceTy (tyRef erased mut (pointee (u32 .written)))) l₁₄ (sliceVal (b·nodes, o·nodes) (length nodes)) (holds (tyRef erased mut (pointee (u32 .written))) l₁₃ (vptr b·nodes o·nodes) (holds (sliceTy (tyRef erased mut (pointee (u8 .written)))) l₁₂ (sliceVal (b·pages, o·pages) (length pages)) (holds (tyRef erased mut (pointee (u8 .written))) l₁₁ (vptr b·pages o·pages) (holds (tyAt (code.function .locals) 10) l₁₀ (Formatted′.mach (r1 kept size page-count node-count updates pages nodes register out)) (holds (sliceTy (tyRef (named 3) mut (pointee (u8 .written)))) l₉ (sliceVal (b·out, o·out) (length out)) (holds (sliceTy (tyRef (named 2) mut (pointee (Record′.row .written)))) l₈ (sliceVal (b·register, o·register) (length register)) (holds (sliceTy (tyRef (named 1) mut (pointee (u32 .written)))) l₇ (sliceVal (b·nodes, o·nodes) (length nodes)) (holds (sliceTy (tyRef (named 0) mut (pointee (u8 .written)))) l₆ (sliceVal (b·pages, o·pages) (length pages)) (holds (tyInt w64) l₅ (vint w64 updates) (holds (tyInt w64) l₄ (vint w64 node-count) (holds (tyInt w64) l₃ (vint w64 page-count) (holds (tyInt w64) l₂ (vint w64 size) (holds (tyAt (code.function .locals) 1) l₁ (Kept′.mach kept) (empty (tyAt (code.function .locals) 0) l₀ []))))))))))))))))))) $
       assigns ! (addr ! (from ! (fld ! refl (hop ! (look-in ! 26 (sub ! 0 refl (whole !))) (stop !))))) (from ! (stop !)) (init ! 10 refl (tt, tt)) $
       assigns ! (agg ! (and-then ! (load ! (from ! (stop !)) (look ! 10 refl)) (and-then ! (load ! (from ! (fld ! refl (stop !))) (look-in ! 26 (sub ! 1 refl (whole !)))) (no-more !)))) (from ! (stop !)) (init ! 8 refl (tt, (tt, (record { fits = room·out .0 }, tt)))) $
       move ! (6 ∷ 7 ∷ []) $ lend-mut ! tt u8 κ·out q·out b·out o·out γ·out (length out) out (refl) (λ ν·2-out γ·2-out.
-      Call-format-turn.calls ! mem run (fmOf 𝓤 H (W .laws) 𝓣) known-format-turn kept (r1 kept asked pages nodes register out) (ν·2-out ∷ []) fullShare b·out o·out γ·2-out (length out) out ok·kept ok·1 (and-then ! (load ! (from ! (stop !)) (look ! 36 refl)) (and-then ! (load ! (from ! (stop !)) (look ! 24 refl)) (and-then ! (load ! (from ! (stop !)) (look ! 8 refl)) (no-more !))))
-      (λ ok·2 same·2-out. back-mut ! tt u8 κ·out q·out b·out o·out γ·out (length out) out (out₂ kept asked pages nodes register out) ν·2-out γ·2-out (refl) same·2-out room·out $ move ! (2 ∷ 3 ∷ 4 ∷ 5 ∷ 6 ∷ 7 ∷ 0 ∷ 1 ∷ []) $ land ! (from ! (stop !)) (init ! 38 refl (Turn′.typed 𝓤 H A W (r2 kept asked pages nodes register out) ok·2)) $
-      here ! (‵ (flft κ·pages q·pages) ∷ ‵ (MutAt u8 κ·pages b·pages o·pages γ·pages (length pages) (pages₁ kept asked pages nodes register out)) ∷ ‵ (flft κ·nodes q·nodes) ∷ ‵ (MutAt u32 κ·nodes b·nodes o·nodes γ·nodes (length nodes) (nodes₁ kept asked pages nodes register out)) ∷ ‵ (flft κ·register q·register) ∷ ‵ (MutAt Record′.row κ·register b·register o·register γ·register (length register) (register₁ kept asked pages nodes register out)) ∷ ‵ (flft κ·out q·out) ∷ ‵ (MutAt u8 κ·out b·out o·out γ·out (length out) (out₂ kept asked pages nodes register out)) ∷ holds (sliceTy (tyRef erased mut (pointee (u8 .written)))) l₁₅ (sliceVal (b·out, o·out) (length out)) (holds (tyRef erased mut (pointee (u8 .written))) l₁₄ (vptr b·out o·out) (holds (sliceTy (tyRef erased mut (pointee (Record′.row .written)))) l₁₃ (sliceVal (b·register, o·register) (length register)) (holds (tyRef erased mut (pointee (Record′.row .written))) l₁₂ (vptr b·register o·register) (holds (sliceTy (tyRef erased mut (pointee (u32 .written)))) l₁₁ (sliceVal (b·nodes, o·nodes) (length nodes)) (holds (tyRef erased mut (pointee (u32 .written))) l₁₀ (vptr b·nodes o·nodes) (holds (sliceTy (tyRef erased mut (pointee (u8 .written)))) l₉ (sliceVal (b·pages, o·pages) (length pages)) (holds (tyRef erased mut (pointee (u8 .written))) l₈ (vptr b·pages o·pages) (holds (tyAt (code.function .locals) 7) l₇ (Formatted′.mach (r1 kept asked pages nodes register out)) (holds (sliceTy (tyRef (named 3) mut (pointee (u8 .written)))) l₆ (sliceVal (b·out, o·out) (length out)) (holds (sliceTy (tyRef (named 2) mut (pointee (Record′.row .written)))) l₅ (sliceVal (b·register, o·register) (length register)) (holds (sliceTy (tyRef (named 1) mut (pointee (u32 .written)))) l₄ (sliceVal (b·nodes, o·nodes) (length nodes)) (holds (sliceTy (tyRef (named 0) mut (pointee (u8 .written)))) l₃ (sliceVal (b·pages, o·pages) (length pages)) (holds (tyAt (code.function .locals) 2) l₂ (Store′.mach asked) (holds (tyAt (code.function .locals) 1) l₁ (Kept′.mach kept) (holds (tyAt (code.function .locals) 0) l₀ (Turn′.mach (r2 kept asked pages nodes register out)) [])))))))))))))))) $
-      returns ! (look ! 38 refl) $
-      move ! (38 ∷ 39 ∷ []) $ forget ! 0 refl $ free1 ! $ move ! (36 ∷ 37 ∷ []) $ forget ! 0 refl $ free1 ! $ move ! (34 ∷ 35 ∷ []) $ forget ! 0 refl $ free1 ! $ move ! (32 ∷ 33 ∷ []) $ forget ! 0 refl $ free1 ! $ move ! (30 ∷ 31 ∷ []) $ forget ! 0 refl $ free1 ! $ move ! (28 ∷ 29 ∷ []) $ forget ! 0 refl $ free1 ! $ move ! (26 ∷ 27 ∷ []) $ forget ! 0 refl $ free1 ! $ move ! (24 ∷ 25 ∷ []) $ forget ! 0 refl $ free1 ! $ move ! (22 ∷ 23 ∷ []) $ forget ! 0 refl $ free1 ! $ move ! (20 ∷ 21 ∷ []) $ forget ! 0 refl $ free1 ! $ move ! (18 ∷ 19 ∷ []) $ forget ! 0 refl $ free1 ! $ move ! (16 ∷ 17 ∷ []) $ forget ! 0 refl $ free1 ! $ move ! (14 ∷ 15 ∷ []) $ forget ! 0 refl $ free1 ! $ move ! (12 ∷ 13 ∷ []) $ forget ! 0 refl $ free1 ! $ move ! (10 ∷ 11 ∷ []) $ forget ! 0 refl $ free1 ! $ move ! (8 ∷ 9 ∷ []) $ forget ! 0 refl $ free1 ! $ free0 ! $ by ! (exits (r2 kept asked pages nodes register out) ok·2 (pages₁ kept asked pages nodes register out) (sym (refl ∙ sym same·1-pages)) (nodes₁ kept asked pages nodes register out) (sym (refl ∙ sym same·1-nodes)) (register₁ kept asked pages nodes register out) (sym (refl ∙ sym same·1-register)) (out₂ kept asked pages nodes register out) (sym (refl ∙ sym same·2-out)))))))))))))))))))))))))
+      Call-format-turn.calls ! mem run (fmOf 𝓤 H (W .laws) 𝓣) known-format-turn kept (r1 kept size page-count node-count updates pages nodes register out) (ν·2-out ∷ []) fullShare b·out o·out γ·2-out (length out) out ok·kept ok·1 (and-then ! (load ! (from ! (stop !)) (look ! 42 refl)) (and-then ! (load ! (from ! (stop !)) (look ! 24 refl)) (and-then ! (load ! (from ! (stop !)) (look ! 8 refl)) (no-more !))))
+      (λ ok·2 same·2-out. back-mut ! tt u8 κ·out q·out b·out o·out γ·out (length out) out (out₂ kept size page-count node-count updates pages nodes register out) ν·2-out γ·2-out (refl) same·2-out room·out $ move ! (2 ∷ 3 ∷ 4 ∷ 5 ∷ 6 ∷ 7 ∷ 0 ∷ 1 ∷ []) $ land ! (from ! (stop !)) (init ! 44 refl (Turn′.typed 𝓤 H A W (r2 kept size page-count node-count updates pages nodes register out) ok·2)) $
+      here ! (‵ (flft κ·pages q·pages) ∷ ‵ (MutAt u8 κ·pages b·pages o·pages γ·pages (length pages) (pages₁ kept size page-count node-count updates pages nodes register out)) ∷ ‵ (flft κ·nodes q·nodes) ∷ ‵ (MutAt u32 κ·nodes b·nodes o·nodes γ·nodes (length nodes) (nodes₁ kept size page-count node-count updates pages nodes register out)) ∷ ‵ (flft κ·register q·register) ∷ ‵ (MutAt Record′.row κ·register b·register o·register γ·register (length register) (register₁ kept size page-count node-count updates pages nodes register out)) ∷ ‵ (flft κ·out q·out) ∷ ‵ (MutAt u8 κ·out b·out o·out γ·out (length out) (out₂ kept size page-count node-count updates pages nodes register out)) ∷ holds (sliceTy (tyRef erased mut (pointee (u8 .written)))) l₁₈ (sliceVal (b·out, o·out) (length out)) (holds (tyRef erased mut (pointee (u8 .written))) l₁₇ (vptr b·out o·out) (holds (sliceTy (tyRef erased mut (pointee (Record′.row .written)))) l₁₆ (sliceVal (b·register, o·register) (length register)) (holds (tyRef erased mut (pointee (Record′.row .written))) l₁₅ (vptr b·register o·register) (holds (sliceTy (tyRef erased mut (pointee (u32 .written)))) l₁₄ (sliceVal (b·nodes, o·nodes) (length nodes)) (holds (tyRef erased mut (pointee (u32 .written))) l₁₃ (vptr b·nodes o·nodes) (holds (sliceTy (tyRef erased mut (pointee (u8 .written)))) l₁₂ (sliceVal (b·pages, o·pages) (length pages)) (holds (tyRef erased mut (pointee (u8 .written))) l₁₁ (vptr b·pages o·pages) (holds (tyAt (code.function .locals) 10) l₁₀ (Formatted′.mach (r1 kept size page-count node-count updates pages nodes register out)) (holds (sliceTy (tyRef (named 3) mut (pointee (u8 .written)))) l₉ (sliceVal (b·out, o·out) (length out)) (holds (sliceTy (tyRef (named 2) mut (pointee (Record′.row .written)))) l₈ (sliceVal (b·register, o·register) (length register)) (holds (sliceTy (tyRef (named 1) mut (pointee (u32 .written)))) l₇ (sliceVal (b·nodes, o·nodes) (length nodes)) (holds (sliceTy (tyRef (named 0) mut (pointee (u8 .written)))) l₆ (sliceVal (b·pages, o·pages) (length pages)) (holds (tyInt w64) l₅ (vint w64 updates) (holds (tyInt w64) l₄ (vint w64 node-count) (holds (tyInt w64) l₃ (vint w64 page-count) (holds (tyInt w64) l₂ (vint w64 size) (holds (tyAt (code.function .locals) 1) l₁ (Kept′.mach kept) (holds (tyAt (code.function .locals) 0) l₀ (Turn′.mach (r2 kept size page-count node-count updates pages nodes register out)) []))))))))))))))))))) $
+      returns ! (look ! 44 refl) $
+      move ! (44 ∷ 45 ∷ []) $ forget ! 0 refl $ free1 ! $ move ! (42 ∷ 43 ∷ []) $ forget ! 0 refl $ free1 ! $ move ! (40 ∷ 41 ∷ []) $ forget ! 0 refl $ free1 ! $ move ! (38 ∷ 39 ∷ []) $ forget ! 0 refl $ free1 ! $ move ! (36 ∷ 37 ∷ []) $ forget ! 0 refl $ free1 ! $ move ! (34 ∷ 35 ∷ []) $ forget ! 0 refl $ free1 ! $ move ! (32 ∷ 33 ∷ []) $ forget ! 0 refl $ free1 ! $ move ! (30 ∷ 31 ∷ []) $ forget ! 0 refl $ free1 ! $ move ! (28 ∷ 29 ∷ []) $ forget ! 0 refl $ free1 ! $ move ! (26 ∷ 27 ∷ []) $ forget ! 0 refl $ free1 ! $ move ! (24 ∷ 25 ∷ []) $ forget ! 0 refl $ free1 ! $ move ! (22 ∷ 23 ∷ []) $ forget ! 0 refl $ free1 ! $ move ! (20 ∷ 21 ∷ []) $ forget ! 0 refl $ free1 ! $ move ! (18 ∷ 19 ∷ []) $ forget ! 0 refl $ free1 ! $ move ! (16 ∷ 17 ∷ []) $ forget ! 0 refl $ free1 ! $ move ! (14 ∷ 15 ∷ []) $ forget ! 0 refl $ free1 ! $ move ! (12 ∷ 13 ∷ []) $ forget ! 0 refl $ free1 ! $ move ! (10 ∷ 11 ∷ []) $ forget ! 0 refl $ free1 ! $ move ! (8 ∷ 9 ∷ []) $ forget ! 0 refl $ free1 ! $ free0 ! $ by ! (exits (r2 kept size page-count node-count updates pages nodes register out) ok·2 (pages₁ kept size page-count node-count updates pages nodes register out) (sym (refl ∙ sym same·1-pages)) (nodes₁ kept size page-count node-count updates pages nodes register out) (sym (refl ∙ sym same·1-nodes)) (register₁ kept size page-count node-count updates pages nodes register out) (sym (refl ∙ sym same·1-register)) (out₂ kept size page-count node-count updates pages nodes register out) (sym (refl ∙ sym same·2-out))))))))))))))))))))))))))))
 
 module _ {M : Type 1} (𝓤 : URA M) (H : Heap 𝓤) (A : Atoms 𝓤) (W : Given 𝓤 H A) (mem : Memory → SProp 𝓤) (run : Routine → Fun 𝓤) where
   walks : (𝓣 : Tables 𝓤 H) → Triple 𝓤 (𝓣 .C #format) (Call-format.Asked 𝓤 H A mem run) → Triple 𝓤 (𝓣 .C #format-turn) (Call-format-turn.Asked 𝓤 H A mem run) → Walks 𝓤 H A format-step‴.ended stayed (WpFn 𝓤 H (𝓣 .C) (𝓣 .Λ) code.function) (format-step‴.clauses 𝓤 H A mem run)
-  walks 𝓣 known-format known-format-turn = walked 𝓤 H A format-step‴.ended stayed (format-step‴.clauses 𝓤 H A mem run) (WpFn 𝓤 H (𝓣 .C) (𝓣 .Λ) code.function) (λ κs. (Kept′.vals, (Store′.vals, (slice-vals, (slice-vals, (slice-vals, (slice-vals, tt))))))) (λ κs. (Kept′.tells, (Store′.tells, (mut-slice-tells (named 0) (κs .0) u8, (mut-slice-tells (named 0) (κs .1 .0) u32, (mut-slice-tells (named 0) (κs .1 .1 .0) Record′.row, (mut-slice-tells (named 0) (κs .1 .1 .1 .0) u8, tt)))))))
-      (λ κs qs bounds a g are. via 𝓤 _ (fst∗ 𝓤 _ (emp 𝓤)) (walk 𝓤 H A W mem run (a .0) (a .1 .0) (κs .0) (qs .0) (a .1 .1 .0 .ptr .0) (a .1 .1 .0 .ptr .1) (a .1 .1 .0 .name) (a .1 .1 .0 .now) (κs .1 .0) (qs .1 .0) (a .1 .1 .1 .0 .ptr .0) (a .1 .1 .1 .0 .ptr .1) (a .1 .1 .1 .0 .name) (a .1 .1 .1 .0 .now) (κs .1 .1 .0) (qs .1 .1 .0) (a .1 .1 .1 .1 .0 .ptr .0) (a .1 .1 .1 .1 .0 .ptr .1) (a .1 .1 .1 .1 .0 .name) (a .1 .1 .1 .1 .0 .now) (κs .1 .1 .1 .0) (qs .1 .1 .1 .0) (a .1 .1 .1 .1 .1 .0 .ptr .0) (a .1 .1 .1 .1 .1 .0 .ptr .1) (a .1 .1 .1 .1 .1 .0 .name) (a .1 .1 .1 .1 .1 .0 .now) (are .0) (are .1 .0) (are .1 .1 .0 .0 .1) (are .1 .1 .1 .0 .0 .1) (are .1 .1 .1 .1 .0 .0 .1) (are .1 .1 .1 .1 .1 .0 .0 .1) 𝓣 known-format known-format-turn))
+  walks 𝓣 known-format known-format-turn = walked 𝓤 H A format-step‴.ended stayed (format-step‴.clauses 𝓤 H A mem run) (WpFn 𝓤 H (𝓣 .C) (𝓣 .Λ) code.function) (λ κs. (Kept′.vals, (uint-vals w64, (uint-vals w64, (uint-vals w64, (uint-vals w64, (slice-vals, (slice-vals, (slice-vals, (slice-vals, tt)))))))))) (λ κs. (Kept′.tells, (uint-tells w64, (uint-tells w64, (uint-tells w64, (uint-tells w64, (mut-slice-tells (named 0) (κs .0) u8, (mut-slice-tells (named 0) (κs .1 .0) u32, (mut-slice-tells (named 0) (κs .1 .1 .0) Record′.row, (mut-slice-tells (named 0) (κs .1 .1 .1 .0) u8, tt))))))))))
+      (λ κs qs bounds a g are. via 𝓤 _ (fst∗ 𝓤 _ (emp 𝓤)) (walk 𝓤 H A W mem run (a .0) (a .1 .0) (a .1 .1 .0) (a .1 .1 .1 .0) (a .1 .1 .1 .1 .0) (κs .0) (qs .0) (a .1 .1 .1 .1 .1 .0 .ptr .0) (a .1 .1 .1 .1 .1 .0 .ptr .1) (a .1 .1 .1 .1 .1 .0 .name) (a .1 .1 .1 .1 .1 .0 .now) (κs .1 .0) (qs .1 .0) (a .1 .1 .1 .1 .1 .1 .0 .ptr .0) (a .1 .1 .1 .1 .1 .1 .0 .ptr .1) (a .1 .1 .1 .1 .1 .1 .0 .name) (a .1 .1 .1 .1 .1 .1 .0 .now) (κs .1 .1 .0) (qs .1 .1 .0) (a .1 .1 .1 .1 .1 .1 .1 .0 .ptr .0) (a .1 .1 .1 .1 .1 .1 .1 .0 .ptr .1) (a .1 .1 .1 .1 .1 .1 .1 .0 .name) (a .1 .1 .1 .1 .1 .1 .1 .0 .now) (κs .1 .1 .1 .0) (qs .1 .1 .1 .0) (a .1 .1 .1 .1 .1 .1 .1 .1 .0 .ptr .0) (a .1 .1 .1 .1 .1 .1 .1 .1 .0 .ptr .1) (a .1 .1 .1 .1 .1 .1 .1 .1 .0 .name) (a .1 .1 .1 .1 .1 .1 .1 .1 .0 .now) (are .0) (are .1 .0) (are .1 .1 .0) (are .1 .1 .1 .0) (are .1 .1 .1 .1 .0) (are .1 .1 .1 .1 .1 .0 .0 .1) (are .1 .1 .1 .1 .1 .1 .0 .0 .1) (are .1 .1 .1 .1 .1 .1 .1 .0 .0 .1) (are .1 .1 .1 .1 .1 .1 .1 .1 .0 .0 .1) 𝓣 known-format known-format-turn))
 
 meets : {M : Type 1} (𝓤 : URA M) (H : Heap 𝓤) (A : Atoms 𝓤) → Given 𝓤 H A → (mem : Memory → SProp 𝓤) (run : Routine → Fun 𝓤) (𝓣 : Tables 𝓤 H) → Triple 𝓤 (𝓣 .C #format) (Call-format.Asked 𝓤 H A mem run) → Triple 𝓤 (𝓣 .C #format-turn) (Call-format-turn.Asked 𝓤 H A mem run)
     → Meets 𝓤 H A format-step‴.signature (WpFn 𝓤 H (𝓣 .C) (𝓣 .Λ) code.function) (format-step‴.spec 𝓤 H A mem run)
 meets 𝓤 H A W mem run 𝓣 known-format known-format-turn =
-    walk-meets 𝓤 H A format-step‴.ended stayed W (goes-none 𝓤 H A W 4 (λ _. Kept′.row) yes (λ κs x f. refl), (goes-none 𝓤 H A W 4 (λ _. Store′.row) yes (λ κs x f. refl), (goes-slice 𝓤 H A W 4 0 tt (plain (λ _. u8)), (goes-slice 𝓤 H A W 4 1 tt (plain (λ _. u32)), (goes-slice 𝓤 H A W 4 2 tt (plain (λ _. Record′.row)), (goes-slice 𝓤 H A W 4 3 tt (plain (λ _. u8)), tt)))))) (format-step‴.clauses 𝓤 H A mem run)
+    walk-meets 𝓤 H A format-step‴.ended stayed W (goes-none 𝓤 H A W 4 (λ _. Kept′.row) yes (λ κs x f. refl), (goes-none 𝓤 H A W 4 (λ _. u64) yes (λ κs x f. refl), (goes-none 𝓤 H A W 4 (λ _. u64) yes (λ κs x f. refl), (goes-none 𝓤 H A W 4 (λ _. u64) yes (λ κs x f. refl), (goes-none 𝓤 H A W 4 (λ _. u64) yes (λ κs x f. refl), (goes-slice 𝓤 H A W 4 0 tt (plain (λ _. u8)), (goes-slice 𝓤 H A W 4 1 tt (plain (λ _. u32)), (goes-slice 𝓤 H A W 4 2 tt (plain (λ _. Record′.row)), (goes-slice 𝓤 H A W 4 3 tt (plain (λ _. u8)), tt))))))))) (format-step‴.clauses 𝓤 H A mem run)
     (WpFn 𝓤 H (𝓣 .C) (𝓣 .Λ) code.function) (WpFn-mono 𝓤 H (W .laws) 𝓣 code.function) (walks 𝓤 H A W mem run 𝓣 known-format known-format-turn)
 
 pub format-step-spec : {M : Type 1} → stated.statement M

@@ -41,13 +41,17 @@ use denote.Triple.Spec.{Meets, tripleOf}
 use denote.Triple.Table.{entered, cited}
 use denote.Triple.Walked.{says, needs, Stays, stay-slice, stay-none-slice, stay-none, walkOf, Walks, ends-at, walked, goes-slice, goes-none-slice, goes-none, walk-meets}
 use Rattle.answers.specs.declared.Turn.{Turn}
-use Rattle.turns.proofs.Generated.Kind.Turn as Turn′
+use Rattle.answers.proofs.Generated.Kind.Turn as Turn′
 use Rattle.answers.specs.declared.Kept.{Kept}
-use Rattle.turns.proofs.Generated.Kind.Kept as Kept′
+use Rattle.answers.proofs.Generated.Kind.Kept as Kept′
 use Rattle.versions.specs.declared.Store.{Store}
 use Rattle.versions.proofs.Generated.Kind.Store as Store′
 use Rattle.tree.specs.declared.Ticket.{Ticket}
 use Rattle.register.proofs.Generated.Kind.Ticket as Ticket′
+use Rattle.lines.specs.declared.Branch.{Branch}
+use Rattle.versions.proofs.Generated.Kind.Branch as Branch′
+use Rattle.lines.specs.declared.Line.{Line}
+use Rattle.register.proofs.Generated.Kind.Line as Line′
 use Rattle.tree.specs.declared.Version.{Version}
 use Rattle.register.proofs.Generated.Kind.Version as Version′
 use Rattle.versions.specs.declared.ByteOffset.{ByteOffset}
@@ -56,6 +60,8 @@ use Rattle.register.specs.declared.Record.{Record}
 use Rattle.register.proofs.Generated.Kind.Record as Record′
 use Rattle.tree.specs.declared.PageIndex.{PageIndex}
 use Rattle.register.proofs.Generated.Kind.PageIndex as PageIndex′
+use Rattle.lines.specs.declared.Entries.{Entries}
+use Rattle.register.proofs.Generated.Kind.Entries as Entries′
 use Rattle.read.specs.declared.Filled.{Filled}
 use Rattle.read.proofs.Generated.Kind.Filled as Filled′
 use Rattle.register.proofs.Generated.Flow.{ref, MutAt, ShrAt, lend-mut, back-mut, lend-shr, back-shr, branches-on, regroup, skips-on, returns-on, plus-nothing, holds, empty, less-fits, is-true, is-false, differ, above-0, twice-not, switches-to, switches-last, big-lit, here, blocks-on, resume, scaled-2, scaled-4, scaled-8, opens-shr, shuts-shr, opens-mut, shuts-mut, puts-mut, keeps-shr, fills, empties, tyAt}
@@ -76,17 +82,17 @@ use Rattle.turns.proofs.read_step.Statement as stated
 use Rattle.turns.proofs.read_step.Code as code
 use denote.Memory.{pointee}
 use denote.Lend.{Held}
-use Rattle.turns.proofs.read_step.Proof.Asks.{r1, arr9₁, r2, out₂}
+use Rattle.turns.proofs.read_step.Proof.Asks.{r1, arr10₁, r2, out₂}
 
 abbrev stayed : Stays (read-step‴.ended .signature .params) (read-step‴.ended .kept)
-stayed = (stay-none (λ _. Kept′.row) yes, (stay-none (λ _. Version′.row) yes, (stay-none (λ _. ByteOffset′.row) yes, (stay-none (λ _. u64) yes, (stay-none-slice (0 ∷ []) tt (plain (λ _. u8)) yes, (stay-none-slice (1 ∷ []) tt (plain (λ _. u32)) yes, (stay-none-slice (2 ∷ []) tt (plain (λ _. Record′.row)) yes, (stay-slice (3 ∷ []) tt (plain (λ _. u8)), tt))))))))
+stayed = (stay-none (λ _. Kept′.row) yes, (stay-none (λ _. Line′.row) yes, (stay-none (λ _. Version′.row) yes, (stay-none (λ _. ByteOffset′.row) yes, (stay-none (λ _. u64) yes, (stay-none-slice (0 ∷ []) tt (plain (λ _. u8)) yes, (stay-none-slice (1 ∷ []) tt (plain (λ _. u32)) yes, (stay-none-slice (2 ∷ []) tt (plain (λ _. Record′.row)) yes, (stay-slice (3 ∷ []) tt (plain (λ _. u8)), tt)))))))))
 
-module _ {M : Type 1} (𝓤 : URA M) (H : Heap 𝓤) (A : Atoms 𝓤) (W : Given 𝓤 H A) (mem : Memory → SProp 𝓤) (run : Routine → Fun 𝓤) (kept : Kept) (x-v : Version) (offset : ByteOffset) (n : ℕ) (κ·pages : Lft) (q·pages : Share) (b·pages o·pages : ℕ) (γ·pages : GName) (pages : List ℕ) (κ·nodes : Lft) (q·nodes : Share) (b·nodes o·nodes : ℕ) (γ·nodes : GName) (nodes : List ℕ) (κ·register : Lft) (q·register : Share) (b·register o·register : ℕ) (γ·register : GName) (register : List Record) (κ·out : Lft) (q·out : Share) (b·out o·out : ℕ) (γ·out : GName) (out : List ℕ) (ok·kept : Is Kept′.row kept (Kept′.vals kept)) (ok·x-v : Is Version′.row x-v (Version′.vals x-v)) (ok·offset : Is ByteOffset′.row offset (ByteOffset′.vals offset)) (ok·n : Is u64 n (uint-vals w64 n)) (room·pages : Room u8 (length pages)) (room·nodes : Room u32 (length nodes)) (room·register : Room Record′.row (length register)) (room·out : Room u8 (length out)) where
+module _ {M : Type 1} (𝓤 : URA M) (H : Heap 𝓤) (A : Atoms 𝓤) (W : Given 𝓤 H A) (mem : Memory → SProp 𝓤) (run : Routine → Fun 𝓤) (kept : Kept) (x-l : Line) (x-v : Version) (offset : ByteOffset) (n : ℕ) (κ·pages : Lft) (q·pages : Share) (b·pages o·pages : ℕ) (γ·pages : GName) (pages : List ℕ) (κ·nodes : Lft) (q·nodes : Share) (b·nodes o·nodes : ℕ) (γ·nodes : GName) (nodes : List ℕ) (κ·register : Lft) (q·register : Share) (b·register o·register : ℕ) (γ·register : GName) (register : List Record) (κ·out : Lft) (q·out : Share) (b·out o·out : ℕ) (γ·out : GName) (out : List ℕ) (ok·kept : Is Kept′.row kept (Kept′.vals kept)) (ok·x-l : Is Line′.row x-l (Line′.vals x-l)) (ok·x-v : Is Version′.row x-v (Version′.vals x-v)) (ok·offset : Is ByteOffset′.row offset (ByteOffset′.vals offset)) (ok·n : Is u64 n (uint-vals w64 n)) (room·pages : Room u8 (length pages)) (room·nodes : Room u32 (length nodes)) (room·register : Room Record′.row (length register)) (room·out : Room u8 (length out)) where
   abbrev all-args : Args read-step‴.signature (κ·pages, (κ·nodes, (κ·register, (κ·out, tt))))
-  all-args = (kept, (x-v, (offset, (n, (ref b·pages o·pages γ·pages pages, (ref b·nodes o·nodes γ·nodes nodes, (ref b·register o·register γ·register register, (ref b·out o·out γ·out out, tt))))))))
+  all-args = (kept, (x-l, (x-v, (offset, (n, (ref b·pages o·pages γ·pages pages, (ref b·nodes o·nodes γ·nodes nodes, (ref b·register o·register γ·register register, (ref b·out o·out γ·out out, tt)))))))))
 
   abbrev all-vals : Vals read-step‴.signature (κ·pages, (κ·nodes, (κ·register, (κ·out, tt))))
-  all-vals = (Kept′.mach kept ∷ [], (Version′.mach x-v ∷ [], (ByteOffset′.mach offset ∷ [], (vint w64 n ∷ [], (sliceVal (b·pages, o·pages) (length pages) ∷ [], (sliceVal (b·nodes, o·nodes) (length nodes) ∷ [], (sliceVal (b·register, o·register) (length register) ∷ [], (sliceVal (b·out, o·out) (length out) ∷ [], tt))))))))
+  all-vals = (Kept′.mach kept ∷ [], (Line′.mach x-l ∷ [], (Version′.mach x-v ∷ [], (ByteOffset′.mach offset ∷ [], (vint w64 n ∷ [], (sliceVal (b·pages, o·pages) (length pages) ∷ [], (sliceVal (b·nodes, o·nodes) (length nodes) ∷ [], (sliceVal (b·register, o·register) (length register) ∷ [], (sliceVal (b·out, o·out) (length out) ∷ [], tt)))))))))
 
   abbrev bound : walkOf 𝓤 H A read-step‴.ended stayed (read-step‴.clauses 𝓤 H A mem run) .Ghost
   bound = (((κ·pages, (κ·nodes, (κ·register, (κ·out, tt)))), (q·pages, (q·nodes, (q·register, (q·out, tt)))), tt, all-args, all-vals), tt)
@@ -96,44 +102,44 @@ module _ {M : Type 1} (𝓤 : URA M) (H : Heap 𝓤) (A : Atoms 𝓤) (W : Given
 
   exits : (r : Turn) → Is Turn′.row r (Turn′.vals r) → (zs·out : List ℕ) → length zs·out ≡ length out → ent 𝓤 (⋆ 𝓤 H A (‵ (flft κ·pages q·pages) ∷ ‵ (ShrAt u8 κ·pages b·pages o·pages γ·pages (length pages) pages) ∷ ‵ (flft κ·nodes q·nodes) ∷ ‵ (ShrAt u32 κ·nodes b·nodes o·nodes γ·nodes (length nodes) nodes) ∷ ‵ (flft κ·register q·register) ∷ ‵ (ShrAt Record′.row κ·register b·register o·register γ·register (length register) register) ∷ ‵ (flft κ·out q·out) ∷ ‵ (MutAt u8 κ·out b·out o·out γ·out (length out) zs·out) ∷ [])) (Post (Turn′.mach r))
   exits r ok·r zs·out same·out =
-      qed W (‵ (flft κ·pages q·pages) ∷ ‵ (ShrAt u8 κ·pages b·pages o·pages γ·pages (length pages) pages) ∷ ‵ (flft κ·nodes q·nodes) ∷ ‵ (ShrAt u32 κ·nodes b·nodes o·nodes γ·nodes (length nodes) nodes) ∷ ‵ (flft κ·register q·register) ∷ ‵ (ShrAt Record′.row κ·register b·register o·register γ·register (length register) register) ∷ ‵ (flft κ·out q·out) ∷ ‵ (MutAt u8 κ·out b·out o·out γ·out (length out) zs·out) ∷ []) ∵ suffices ! _ (ends-at 𝓤 H A read-step‴.ended stayed (read-step‴.clauses 𝓤 H A mem run) W bound (Turn′.mach r) r (tt, (tt, (tt, (tt, (tt, (tt, (tt, (zs·out, tt)))))))) (tt, (tt, (tt, (tt, (tt, (tt, (tt, (same·out, tt))))))))) $ plus-nothing ! $
-      nothing ! $ move ! (7 ∷ 0 ∷ []) $ join ! $ move ! (5 ∷ 0 ∷ []) $ join ! $ move ! (3 ∷ 0 ∷ []) $ join ! $ move ! (1 ∷ 0 ∷ []) $ join ! $ frame ! $ nothing ! $ move ! (4 ∷ 0 ∷ []) $ fjoin ! $ move ! (3 ∷ 0 ∷ []) $ fjoin ! $ move ! (2 ∷ 0 ∷ []) $ fjoin ! $ move ! (1 ∷ 0 ∷ []) $ fjoin ! $ owned ! u64 (Is u64) (uint-makes 𝓤 H A W w64) n _ ok·n $ fjoin ! $ owned ! ByteOffset′.row (Is ByteOffset′.row) (ByteOffset′.makes 𝓤 H A) offset _ ok·offset $ fjoin ! $ owned ! Version′.row (Is Version′.row) (Version′.makes 𝓤 H A) x-v _ ok·x-v $ fjoin ! $ owned ! Kept′.row (Is Kept′.row) (Kept′.makes 𝓤 H A) kept _ ok·kept $ fjoin ! $ frame ! $ owned ! Turn′.row (Is Turn′.row) (Turn′.makes 𝓤 H A) r _ ok·r $ done !
+      qed W (‵ (flft κ·pages q·pages) ∷ ‵ (ShrAt u8 κ·pages b·pages o·pages γ·pages (length pages) pages) ∷ ‵ (flft κ·nodes q·nodes) ∷ ‵ (ShrAt u32 κ·nodes b·nodes o·nodes γ·nodes (length nodes) nodes) ∷ ‵ (flft κ·register q·register) ∷ ‵ (ShrAt Record′.row κ·register b·register o·register γ·register (length register) register) ∷ ‵ (flft κ·out q·out) ∷ ‵ (MutAt u8 κ·out b·out o·out γ·out (length out) zs·out) ∷ []) ∵ suffices ! _ (ends-at 𝓤 H A read-step‴.ended stayed (read-step‴.clauses 𝓤 H A mem run) W bound (Turn′.mach r) r (tt, (tt, (tt, (tt, (tt, (tt, (tt, (tt, (zs·out, tt))))))))) (tt, (tt, (tt, (tt, (tt, (tt, (tt, (tt, (same·out, tt)))))))))) $ plus-nothing ! $
+      nothing ! $ move ! (7 ∷ 0 ∷ []) $ join ! $ move ! (5 ∷ 0 ∷ []) $ join ! $ move ! (3 ∷ 0 ∷ []) $ join ! $ move ! (1 ∷ 0 ∷ []) $ join ! $ frame ! $ nothing ! $ move ! (4 ∷ 0 ∷ []) $ fjoin ! $ move ! (3 ∷ 0 ∷ []) $ fjoin ! $ move ! (2 ∷ 0 ∷ []) $ fjoin ! $ move ! (1 ∷ 0 ∷ []) $ fjoin ! $ owned ! u64 (Is u64) (uint-makes 𝓤 H A W w64) n _ ok·n $ fjoin ! $ owned ! ByteOffset′.row (Is ByteOffset′.row) (ByteOffset′.makes 𝓤 H A) offset _ ok·offset $ fjoin ! $ owned ! Version′.row (Is Version′.row) (Version′.makes 𝓤 H A) x-v _ ok·x-v $ fjoin ! $ owned ! Line′.row (Is Line′.row) (Line′.makes 𝓤 H A) x-l _ ok·x-l $ fjoin ! $ owned ! Kept′.row (Is Kept′.row) (Kept′.makes 𝓤 H A) kept _ ok·kept $ fjoin ! $ frame ! $ owned ! Turn′.row (Is Turn′.row) (Turn′.makes 𝓤 H A) r _ ok·r $ done !
 
   walk : (𝓣 : Tables 𝓤 H) (known-read : Triple 𝓤 (𝓣 .C #read) (Call-read.Asked 𝓤 H A mem run)) (known-read-turn : Triple 𝓤 (𝓣 .C #read-turn) (Call-read-turn.Asked 𝓤 H A mem run)) → ent 𝓤 (onEntry 𝓤 H A read-step‴.signature (κ·pages, (κ·nodes, (κ·register, (κ·out, tt)))) (q·pages, (q·nodes, (q·register, (q·out, tt)))) all-args all-vals)
-      (WpFn 𝓤 H (𝓣 .C) (𝓣 .Λ) code.function (Kept′.mach kept ∷ Version′.mach x-v ∷ ByteOffset′.mach offset ∷ vint w64 n ∷ sliceVal (b·pages, o·pages) (length pages) ∷ sliceVal (b·nodes, o·nodes) (length nodes) ∷ sliceVal (b·register, o·register) (length register) ∷ sliceVal (b·out, o·out) (length out) ∷ []) Post)
+      (WpFn 𝓤 H (𝓣 .C) (𝓣 .Λ) code.function (Kept′.mach kept ∷ Line′.mach x-l ∷ Version′.mach x-v ∷ ByteOffset′.mach offset ∷ vint w64 n ∷ sliceVal (b·pages, o·pages) (length pages) ∷ sliceVal (b·nodes, o·nodes) (length nodes) ∷ sliceVal (b·register, o·register) (length register) ∷ sliceVal (b·out, o·out) (length out) ∷ []) Post)
   walk 𝓣 known-read known-read-turn =
-      qed W ((‵ (flft κ·pages q·pages) ⊛ ‵ (flft κ·nodes q·nodes) ⊛ ‵ (flft κ·register q·register) ⊛ ‵ (flft κ·out q·out) ⊛ ‵ ftrue) ∷ ‵ (owns (Kept′.row ∷ Version′.row ∷ ByteOffset′.row ∷ u64 ∷ ShrSlice (named 0) κ·pages u8 ∷ ShrSlice (named 0) κ·nodes u32 ∷ ShrSlice (named 0) κ·register Record′.row ∷ MutSlice (named 0) κ·out u8 ∷ []) all-args all-vals) ∷ []) ∵ enter ! (𝓣 .C) (𝓣 .Λ) code.function (Kept′.mach kept ∷ Version′.mach x-v ∷ ByteOffset′.mach offset ∷ vint w64 n ∷ sliceVal (b·pages, o·pages) (length pages) ∷ sliceVal (b·nodes, o·nodes) (length nodes) ∷ sliceVal (b·register, o·register) (length register) ∷ sliceVal (b·out, o·out) (length out) ∷ []) _ $
-      alloc1 ! (λ l₀. alloc1 ! (λ l₁. alloc1 ! (λ l₂. alloc1 ! (λ l₃. alloc1 ! (λ l₄. alloc1 ! (λ l₅. alloc1 ! (λ l₆. alloc1 ! (λ l₇. alloc1 ! (λ l₈. alloc1 ! (λ l₉. alloc1 ! (λ l₁₀. alloc1 ! (λ l₁₁. alloc1 ! (λ l₁₂. alloc1 ! (λ l₁₃. alloc1 ! (λ l₁₄. alloc1 ! (λ l₁₅. alloc1 ! (λ l₁₆. alloc0 ! $ params1 ! $
-      pass1 ! (init ! 30 refl (Kept′.typed 𝓤 H A W kept ok·kept)) $ pass1 ! (init ! 28 refl (Version′.typed 𝓤 H A W x-v ok·x-v)) $ pass1 ! (init ! 26 refl (ByteOffset′.typed 𝓤 H A W offset ok·offset)) $ pass1 ! (init ! 24 refl (tt, record { fits = ok·n .1 })) $ pass1 ! (init ! 22 refl (tt, (tt, (record { fits = room·pages .0 }, tt)))) $ pass1 ! (init ! 20 refl (tt, (tt, (record { fits = room·nodes .0 }, tt)))) $ pass1 ! (init ! 18 refl (tt, (tt, (record { fits = room·register .0 }, tt)))) $ pass1 ! (init ! 16 refl (tt, (tt, (record { fits = room·out .0 }, tt)))) $ pass0 ! $
-      move ! (35 ∷ []) $ fsplit ! $ drop ! $ fsplit ! $ drop ! $ fsplit ! $ drop ! $ fsplit ! $ drop ! $ fsplit ! $ move ! (1 ∷ []) $ fsplit ! $ move ! (1 ∷ []) $ fsplit ! $ move ! (1 ∷ []) $ fsplit ! $ move ! (1 ∷ []) $ drop ! $ move ! (38 ∷ []) $ split ! $ move ! (1 ∷ []) $ split ! $ move ! (1 ∷ []) $ split ! $ move ! (1 ∷ []) $ split ! $ move ! (1 ∷ []) $ drop ! $ move ! (3 ∷ 7 ∷ 2 ∷ 6 ∷ 1 ∷ 5 ∷ 0 ∷ 4 ∷ []) $
-      move ! (22 ∷ []) $ fills ! u8 (uint-makes 𝓤 H A W w8) (uint-copy 𝓤 H A W w8) tt 256 0 (vint w8 0) (refl, lit< tt) (tt, record { fits = lit< tt }) (lit< tt, lit< tt) l₉ (lit ! tt) (from ! (stop !)) (λ ν·arr9 γ·arr9 arr9 made·arr9 count·arr9 room·arr9. move ! (3 ∷ 4 ∷ 5 ∷ 6 ∷ 7 ∷ 8 ∷ 9 ∷ 10 ∷ 0 ∷ 1 ∷ 2 ∷ []) $
+      qed W ((‵ (flft κ·pages q·pages) ⊛ ‵ (flft κ·nodes q·nodes) ⊛ ‵ (flft κ·register q·register) ⊛ ‵ (flft κ·out q·out) ⊛ ‵ ftrue) ∷ ‵ (owns (Kept′.row ∷ Line′.row ∷ Version′.row ∷ ByteOffset′.row ∷ u64 ∷ ShrSlice (named 0) κ·pages u8 ∷ ShrSlice (named 0) κ·nodes u32 ∷ ShrSlice (named 0) κ·register Record′.row ∷ MutSlice (named 0) κ·out u8 ∷ []) all-args all-vals) ∷ []) ∵ enter ! (𝓣 .C) (𝓣 .Λ) code.function (Kept′.mach kept ∷ Line′.mach x-l ∷ Version′.mach x-v ∷ ByteOffset′.mach offset ∷ vint w64 n ∷ sliceVal (b·pages, o·pages) (length pages) ∷ sliceVal (b·nodes, o·nodes) (length nodes) ∷ sliceVal (b·register, o·register) (length register) ∷ sliceVal (b·out, o·out) (length out) ∷ []) _ $
+      alloc1 ! (λ l₀. alloc1 ! (λ l₁. alloc1 ! (λ l₂. alloc1 ! (λ l₃. alloc1 ! (λ l₄. alloc1 ! (λ l₅. alloc1 ! (λ l₆. alloc1 ! (λ l₇. alloc1 ! (λ l₈. alloc1 ! (λ l₉. alloc1 ! (λ l₁₀. alloc1 ! (λ l₁₁. alloc1 ! (λ l₁₂. alloc1 ! (λ l₁₃. alloc1 ! (λ l₁₄. alloc1 ! (λ l₁₅. alloc1 ! (λ l₁₆. alloc1 ! (λ l₁₇. alloc0 ! $ params1 ! $
+      pass1 ! (init ! 32 refl (Kept′.typed 𝓤 H A W kept ok·kept)) $ pass1 ! (init ! 30 refl (Line′.typed 𝓤 H A W x-l ok·x-l)) $ pass1 ! (init ! 28 refl (Version′.typed 𝓤 H A W x-v ok·x-v)) $ pass1 ! (init ! 26 refl (ByteOffset′.typed 𝓤 H A W offset ok·offset)) $ pass1 ! (init ! 24 refl (tt, record { fits = ok·n .1 })) $ pass1 ! (init ! 22 refl (tt, (tt, (record { fits = room·pages .0 }, tt)))) $ pass1 ! (init ! 20 refl (tt, (tt, (record { fits = room·nodes .0 }, tt)))) $ pass1 ! (init ! 18 refl (tt, (tt, (record { fits = room·register .0 }, tt)))) $ pass1 ! (init ! 16 refl (tt, (tt, (record { fits = room·out .0 }, tt)))) $ pass0 ! $
+      move ! (37 ∷ []) $ fsplit ! $ drop ! $ fsplit ! $ drop ! $ fsplit ! $ drop ! $ fsplit ! $ drop ! $ fsplit ! $ drop ! $ fsplit ! $ move ! (1 ∷ []) $ fsplit ! $ move ! (1 ∷ []) $ fsplit ! $ move ! (1 ∷ []) $ fsplit ! $ move ! (1 ∷ []) $ drop ! $ move ! (40 ∷ []) $ split ! $ move ! (1 ∷ []) $ split ! $ move ! (1 ∷ []) $ split ! $ move ! (1 ∷ []) $ split ! $ move ! (1 ∷ []) $ drop ! $ move ! (3 ∷ 7 ∷ 2 ∷ 6 ∷ 1 ∷ 5 ∷ 0 ∷ 4 ∷ []) $
+      move ! (22 ∷ []) $ fills ! u8 (uint-makes 𝓤 H A W w8) (uint-copy 𝓤 H A W w8) tt 256 0 (vint w8 0) (refl, lit< tt) (tt, record { fits = lit< tt }) (lit< tt, lit< tt) l₁₀ (lit ! tt) (from ! (stop !)) (λ ν·arr10 γ·arr10 arr10 made·arr10 count·arr10 room·arr10. move ! (3 ∷ 4 ∷ 5 ∷ 6 ∷ 7 ∷ 8 ∷ 9 ∷ 10 ∷ 0 ∷ 1 ∷ 2 ∷ []) $
       assigns ! (addr ! (from ! (stop !))) (from ! (stop !)) (init ! 21 refl (tt, tt)) $
-      assigns ! (agg ! (and-then ! (load ! (from ! (stop !)) (look ! 21 refl)) (and-then ! (lit ! tt) (no-more !)))) (from ! (stop !)) (init ! 19 refl (tt, (tt, (record { fits = room·arr9 .0 }, tt)))) $
-      move ! (8 ∷ 9 ∷ []) $ lend-mut ! tt u8 (ν·arr9 ∷ []) fullShare l₉ 0 γ·arr9 256 arr9 (count·arr9) (λ ν·1-arr9 γ·1-arr9. move ! (3 ∷ 4 ∷ 5 ∷ 6 ∷ 7 ∷ 8 ∷ 0 ∷ 1 ∷ []) $
-      Call-read.calls ! mem run (fmOf 𝓤 H (W .laws) 𝓣) known-read (kept .store) κ·pages q·pages b·pages o·pages γ·pages (length pages) pages κ·nodes q·nodes b·nodes o·nodes γ·nodes (length nodes) nodes κ·register q·register b·register o·register γ·register (length register) register x-v offset n (ν·1-arr9 ∷ []) fullShare l₉ 0 γ·1-arr9 256 arr9 (Kept′.ok-store kept ok·kept) ok·x-v ok·offset ok·n (and-then ! (load ! (from ! (fld ! refl (stop !))) (look-in ! 37 (sub ! 1 refl (whole !)))) (and-then ! (load ! (from ! (stop !)) (look ! 29 refl)) (and-then ! (load ! (from ! (stop !)) (look ! 27 refl)) (and-then ! (load ! (from ! (stop !)) (look ! 25 refl)) (and-then ! (load ! (from ! (stop !)) (look ! 35 refl)) (and-then ! (load ! (from ! (stop !)) (look ! 33 refl)) (and-then ! (load ! (from ! (stop !)) (look ! 31 refl)) (and-then ! (load ! (from ! (stop !)) (look ! 16 refl)) (no-more !)))))))))
-      (λ ok·1 same·1-arr9. move ! (6 ∷ 7 ∷ 8 ∷ []) $ back-mut ! tt u8 (ν·arr9 ∷ []) fullShare l₉ 0 γ·arr9 256 arr9 (arr9₁ kept x-v offset n pages nodes register out arr9) ν·1-arr9 γ·1-arr9 (count·arr9) same·1-arr9 room·arr9 $ move ! (2 ∷ 3 ∷ 4 ∷ 5 ∷ 6 ∷ 7 ∷ 8 ∷ 9 ∷ 0 ∷ 1 ∷ 10 ∷ []) $ land ! (from ! (stop !)) (init ! 23 refl (Filled′.typed 𝓤 H A W (r1 kept x-v offset n pages nodes register out arr9) ok·1)) $
-      here ! (‵ (flft κ·pages q·pages) ∷ ‵ (ShrAt u8 κ·pages b·pages o·pages γ·pages (length pages) pages) ∷ ‵ (flft κ·nodes q·nodes) ∷ ‵ (ShrAt u32 κ·nodes b·nodes o·nodes γ·nodes (length nodes) nodes) ∷ ‵ (flft κ·register q·register) ∷ ‵ (ShrAt Record′.row κ·register b·register o·register γ·register (length register) register) ∷ ‵ (flft κ·out q·out) ∷ ‵ (MutAt u8 κ·out b·out o·out γ·out (length out) out) ∷ ‵ (flft (ν·arr9 ∷ []) fullShare) ∷ ‵ (MutAt u8 (ν·arr9 ∷ []) l₉ 0 γ·arr9 256 (arr9₁ kept x-v offset n pages nodes register out arr9)) ∷ ‵ (flent (ν·arr9 ∷ []) (Held u8 256 l₉ 0 γ·arr9)) ∷ empty (sliceTy (tyRef erased mut (pointee (u8 .written)))) l₁₆ (empty (tyRef erased mut (pointee (u8 .written))) l₁₅ (empty (sliceTy (tyRef erased imm (pointee (u8 .written)))) l₁₄ (empty (tyRef erased imm (tyArray (pointee (u8 .written)) 256)) l₁₃ (holds (sliceTy (tyRef erased mut (pointee (u8 .written)))) l₁₂ (sliceVal (l₉, 0) 256) (holds (tyRef erased mut (tyArray (pointee (u8 .written)) 256)) l₁₁ (vptr l₉ 0) (holds (tyAt (code.function .locals) 10) l₁₀ (Filled′.mach (r1 kept x-v offset n pages nodes register out arr9)) (‵ (fdies (tyAt (code.function .locals) 9) l₉) ∷ holds (sliceTy (tyRef (named 3) mut (pointee (u8 .written)))) l₈ (sliceVal (b·out, o·out) (length out)) (holds (sliceTy (tyRef (named 2) imm (pointee (Record′.row .written)))) l₇ (sliceVal (b·register, o·register) (length register)) (holds (sliceTy (tyRef (named 1) imm (pointee (u32 .written)))) l₆ (sliceVal (b·nodes, o·nodes) (length nodes)) (holds (sliceTy (tyRef (named 0) imm (pointee (u8 .written)))) l₅ (sliceVal (b·pages, o·pages) (length pages)) (holds (tyInt w64) l₄ (vint w64 n) (holds (tyAt (code.function .locals) 3) l₃ (ByteOffset′.mach offset) (holds (tyAt (code.function .locals) 2) l₂ (Version′.mach x-v) (holds (tyAt (code.function .locals) 1) l₁ (Kept′.mach kept) (empty (tyAt (code.function .locals) 0) l₀ [])))))))))))))))) $
+      assigns ! (agg ! (and-then ! (load ! (from ! (stop !)) (look ! 21 refl)) (and-then ! (lit ! tt) (no-more !)))) (from ! (stop !)) (init ! 19 refl (tt, (tt, (record { fits = room·arr10 .0 }, tt)))) $
+      move ! (8 ∷ 9 ∷ []) $ lend-mut ! tt u8 (ν·arr10 ∷ []) fullShare l₁₀ 0 γ·arr10 256 arr10 (count·arr10) (λ ν·1-arr10 γ·1-arr10. move ! (3 ∷ 4 ∷ 5 ∷ 6 ∷ 7 ∷ 8 ∷ 0 ∷ 1 ∷ []) $
+      Call-read.calls ! mem run (fmOf 𝓤 H (W .laws) 𝓣) known-read (kept .store) κ·pages q·pages b·pages o·pages γ·pages (length pages) pages κ·nodes q·nodes b·nodes o·nodes γ·nodes (length nodes) nodes κ·register q·register b·register o·register γ·register (length register) register x-l x-v offset n (ν·1-arr10 ∷ []) fullShare l₁₀ 0 γ·1-arr10 256 arr10 (Kept′.ok-store kept ok·kept) ok·x-l ok·x-v ok·offset ok·n (and-then ! (load ! (from ! (fld ! refl (stop !))) (look-in ! 39 (sub ! 1 refl (whole !)))) (and-then ! (load ! (from ! (stop !)) (look ! 29 refl)) (and-then ! (load ! (from ! (stop !)) (look ! 27 refl)) (and-then ! (load ! (from ! (stop !)) (look ! 25 refl)) (and-then ! (load ! (from ! (stop !)) (look ! 37 refl)) (and-then ! (load ! (from ! (stop !)) (look ! 35 refl)) (and-then ! (load ! (from ! (stop !)) (look ! 33 refl)) (and-then ! (load ! (from ! (stop !)) (look ! 31 refl)) (and-then ! (load ! (from ! (stop !)) (look ! 16 refl)) (no-more !))))))))))
+      (λ ok·1 same·1-arr10. move ! (6 ∷ 7 ∷ 8 ∷ []) $ back-mut ! tt u8 (ν·arr10 ∷ []) fullShare l₁₀ 0 γ·arr10 256 arr10 (arr10₁ kept x-l x-v offset n pages nodes register out arr10) ν·1-arr10 γ·1-arr10 (count·arr10) same·1-arr10 room·arr10 $ move ! (2 ∷ 3 ∷ 4 ∷ 5 ∷ 6 ∷ 7 ∷ 8 ∷ 9 ∷ 0 ∷ 1 ∷ 10 ∷ []) $ land ! (from ! (stop !)) (init ! 23 refl (Filled′.typed 𝓤 H A W (r1 kept x-l x-v offset n pages nodes register out arr10) ok·1)) $
+      here ! (‵ (flft κ·pages q·pages) ∷ ‵ (ShrAt u8 κ·pages b·pages o·pages γ·pages (length pages) pages) ∷ ‵ (flft κ·nodes q·nodes) ∷ ‵ (ShrAt u32 κ·nodes b·nodes o·nodes γ·nodes (length nodes) nodes) ∷ ‵ (flft κ·register q·register) ∷ ‵ (ShrAt Record′.row κ·register b·register o·register γ·register (length register) register) ∷ ‵ (flft κ·out q·out) ∷ ‵ (MutAt u8 κ·out b·out o·out γ·out (length out) out) ∷ ‵ (flft (ν·arr10 ∷ []) fullShare) ∷ ‵ (MutAt u8 (ν·arr10 ∷ []) l₁₀ 0 γ·arr10 256 (arr10₁ kept x-l x-v offset n pages nodes register out arr10)) ∷ ‵ (flent (ν·arr10 ∷ []) (Held u8 256 l₁₀ 0 γ·arr10)) ∷ empty (sliceTy (tyRef erased mut (pointee (u8 .written)))) l₁₇ (empty (tyRef erased mut (pointee (u8 .written))) l₁₆ (empty (sliceTy (tyRef erased imm (pointee (u8 .written)))) l₁₅ (empty (tyRef erased imm (tyArray (pointee (u8 .written)) 256)) l₁₄ (holds (sliceTy (tyRef erased mut (pointee (u8 .written)))) l₁₃ (sliceVal (l₁₀, 0) 256) (holds (tyRef erased mut (tyArray (pointee (u8 .written)) 256)) l₁₂ (vptr l₁₀ 0) (holds (tyAt (code.function .locals) 11) l₁₁ (Filled′.mach (r1 kept x-l x-v offset n pages nodes register out arr10)) (‵ (fdies (tyAt (code.function .locals) 10) l₁₀) ∷ holds (sliceTy (tyRef (named 3) mut (pointee (u8 .written)))) l₉ (sliceVal (b·out, o·out) (length out)) (holds (sliceTy (tyRef (named 2) imm (pointee (Record′.row .written)))) l₈ (sliceVal (b·register, o·register) (length register)) (holds (sliceTy (tyRef (named 1) imm (pointee (u32 .written)))) l₇ (sliceVal (b·nodes, o·nodes) (length nodes)) (holds (sliceTy (tyRef (named 0) imm (pointee (u8 .written)))) l₆ (sliceVal (b·pages, o·pages) (length pages)) (holds (tyInt w64) l₅ (vint w64 n) (holds (tyAt (code.function .locals) 4) l₄ (ByteOffset′.mach offset) (holds (tyAt (code.function .locals) 3) l₃ (Version′.mach x-v) (holds (tyAt (code.function .locals) 2) l₂ (Line′.mach x-l) (holds (tyAt (code.function .locals) 1) l₁ (Kept′.mach kept) (empty (tyAt (code.function .locals) 0) l₀ []))))))))))))))))) $
       assigns ! (addr ! (from ! (stop !))) (from ! (stop !)) (init ! 17 refl (tt, tt)) $
-      assigns ! (agg ! (and-then ! (load ! (from ! (stop !)) (look ! 17 refl)) (and-then ! (lit ! tt) (no-more !)))) (from ! (stop !)) (init ! 15 refl (tt, (tt, (record { fits = room·arr9 .0 }, tt)))) $
+      assigns ! (agg ! (and-then ! (load ! (from ! (stop !)) (look ! 17 refl)) (and-then ! (lit ! tt) (no-more !)))) (from ! (stop !)) (init ! 15 refl (tt, (tt, (record { fits = room·arr10 .0 }, tt)))) $
       assigns ! (addr ! (from ! (fld ! refl (hop ! (look-in ! 26 (sub ! 0 refl (whole !))) (stop !))))) (from ! (stop !)) (init ! 13 refl (tt, tt)) $
       assigns ! (agg ! (and-then ! (load ! (from ! (stop !)) (look ! 13 refl)) (and-then ! (load ! (from ! (fld ! refl (stop !))) (look-in ! 26 (sub ! 1 refl (whole !)))) (no-more !)))) (from ! (stop !)) (init ! 11 refl (tt, (tt, (record { fits = room·out .0 }, tt)))) $
-      move ! (8 ∷ 9 ∷ []) $ lend-shr ! tt u8 (ν·arr9 ∷ []) fullShare l₉ 0 γ·arr9 256 (arr9₁ kept x-v offset n pages nodes register out arr9) (count·arr9 ∙ sym same·1-arr9) (λ ν·2-arr9 γ·2-arr9. move ! (9 ∷ 10 ∷ []) $ lend-mut ! tt u8 κ·out q·out b·out o·out γ·out (length out) out (refl) (λ ν·2-out γ·2-out. move ! (3 ∷ 4 ∷ 0 ∷ 1 ∷ []) $
-      Call-read-turn.calls ! mem run (fmOf 𝓤 H (W .laws) 𝓣) known-read-turn kept n (r1 kept x-v offset n pages nodes register out arr9) (ν·2-arr9 ∷ []) fullShare l₉ 0 γ·2-arr9 256 (arr9₁ kept x-v offset n pages nodes register out arr9) (ν·2-out ∷ []) fullShare b·out o·out γ·2-out (length out) out ok·kept ok·n ok·1 (and-then ! (load ! (from ! (stop !)) (look ! 40 refl)) (and-then ! (load ! (from ! (stop !)) (look ! 34 refl)) (and-then ! (load ! (from ! (stop !)) (look ! 23 refl)) (and-then ! (load ! (from ! (stop !)) (look ! 15 refl)) (and-then ! (load ! (from ! (stop !)) (look ! 11 refl)) (no-more !))))))
-      (λ ok·2 same·2-out. move ! (0 ∷ 1 ∷ 5 ∷ []) $ back-shr ! tt u8 (ν·arr9 ∷ []) fullShare l₉ 0 γ·arr9 256 (arr9₁ kept x-v offset n pages nodes register out arr9) ν·2-arr9 (count·arr9 ∙ sym same·1-arr9) room·arr9 $ move ! (2 ∷ 3 ∷ 4 ∷ []) $ back-mut ! tt u8 κ·out q·out b·out o·out γ·out (length out) out (out₂ kept x-v offset n pages nodes register out arr9) ν·2-out γ·2-out (refl) same·2-out room·out $ move ! (4 ∷ 5 ∷ 6 ∷ 7 ∷ 8 ∷ 9 ∷ 0 ∷ 1 ∷ 2 ∷ 3 ∷ 10 ∷ []) $ land ! (from ! (stop !)) (init ! 42 refl (Turn′.typed 𝓤 H A W (r2 kept x-v offset n pages nodes register out arr9) ok·2)) $
-      here ! (‵ (flft κ·pages q·pages) ∷ ‵ (ShrAt u8 κ·pages b·pages o·pages γ·pages (length pages) pages) ∷ ‵ (flft κ·nodes q·nodes) ∷ ‵ (ShrAt u32 κ·nodes b·nodes o·nodes γ·nodes (length nodes) nodes) ∷ ‵ (flft κ·register q·register) ∷ ‵ (ShrAt Record′.row κ·register b·register o·register γ·register (length register) register) ∷ ‵ (flft κ·out q·out) ∷ ‵ (MutAt u8 κ·out b·out o·out γ·out (length out) (out₂ kept x-v offset n pages nodes register out arr9)) ∷ ‵ (flft (ν·arr9 ∷ []) fullShare) ∷ ‵ (MutAt u8 (ν·arr9 ∷ []) l₉ 0 γ·arr9 256 (arr9₁ kept x-v offset n pages nodes register out arr9)) ∷ ‵ (flent (ν·arr9 ∷ []) (Held u8 256 l₉ 0 γ·arr9)) ∷ holds (sliceTy (tyRef erased mut (pointee (u8 .written)))) l₁₆ (sliceVal (b·out, o·out) (length out)) (holds (tyRef erased mut (pointee (u8 .written))) l₁₅ (vptr b·out o·out) (holds (sliceTy (tyRef erased imm (pointee (u8 .written)))) l₁₄ (sliceVal (l₉, 0) 256) (holds (tyRef erased imm (tyArray (pointee (u8 .written)) 256)) l₁₃ (vptr l₉ 0) (holds (sliceTy (tyRef erased mut (pointee (u8 .written)))) l₁₂ (sliceVal (l₉, 0) 256) (holds (tyRef erased mut (tyArray (pointee (u8 .written)) 256)) l₁₁ (vptr l₉ 0) (holds (tyAt (code.function .locals) 10) l₁₀ (Filled′.mach (r1 kept x-v offset n pages nodes register out arr9)) (‵ (fdies (tyAt (code.function .locals) 9) l₉) ∷ holds (sliceTy (tyRef (named 3) mut (pointee (u8 .written)))) l₈ (sliceVal (b·out, o·out) (length out)) (holds (sliceTy (tyRef (named 2) imm (pointee (Record′.row .written)))) l₇ (sliceVal (b·register, o·register) (length register)) (holds (sliceTy (tyRef (named 1) imm (pointee (u32 .written)))) l₆ (sliceVal (b·nodes, o·nodes) (length nodes)) (holds (sliceTy (tyRef (named 0) imm (pointee (u8 .written)))) l₅ (sliceVal (b·pages, o·pages) (length pages)) (holds (tyInt w64) l₄ (vint w64 n) (holds (tyAt (code.function .locals) 3) l₃ (ByteOffset′.mach offset) (holds (tyAt (code.function .locals) 2) l₂ (Version′.mach x-v) (holds (tyAt (code.function .locals) 1) l₁ (Kept′.mach kept) (holds (tyAt (code.function .locals) 0) l₀ (Turn′.mach (r2 kept x-v offset n pages nodes register out arr9)) [])))))))))))))))) $
-      move ! (8 ∷ 9 ∷ 10 ∷ []) $ empties ! tt u8 256 l₉ γ·arr9 (arr9₁ kept x-v offset n pages nodes register out arr9) ν·arr9 $ move ! (1 ∷ 2 ∷ 3 ∷ 4 ∷ 5 ∷ 6 ∷ 7 ∷ 8 ∷ 9 ∷ 10 ∷ 11 ∷ 12 ∷ 13 ∷ 14 ∷ 15 ∷ 16 ∷ 17 ∷ 18 ∷ 19 ∷ 20 ∷ 21 ∷ 22 ∷ 0 ∷ 23 ∷ 24 ∷ 25 ∷ 26 ∷ 27 ∷ 28 ∷ 29 ∷ 30 ∷ 31 ∷ 32 ∷ 33 ∷ 34 ∷ 35 ∷ 36 ∷ 37 ∷ 38 ∷ 39 ∷ 40 ∷ 41 ∷ []) $
-      returns ! (look ! 40 refl) $
-      move ! (40 ∷ 41 ∷ []) $ forget ! 0 refl $ free1 ! $ move ! (38 ∷ 39 ∷ []) $ forget ! 0 refl $ free1 ! $ move ! (36 ∷ 37 ∷ []) $ forget ! 0 refl $ free1 ! $ move ! (34 ∷ 35 ∷ []) $ forget ! 0 refl $ free1 ! $ move ! (32 ∷ 33 ∷ []) $ forget ! 0 refl $ free1 ! $ move ! (30 ∷ 31 ∷ []) $ forget ! 0 refl $ free1 ! $ move ! (28 ∷ 29 ∷ []) $ forget ! 0 refl $ free1 ! $ move ! (26 ∷ 27 ∷ []) $ forget ! 0 refl $ free1 ! $ move ! (24 ∷ 25 ∷ []) $ forget ! 0 refl $ free1 ! $ move ! (22 ∷ 23 ∷ []) $ free1 ! $ move ! (20 ∷ 21 ∷ []) $ forget ! 0 refl $ free1 ! $ move ! (18 ∷ 19 ∷ []) $ forget ! 0 refl $ free1 ! $ move ! (16 ∷ 17 ∷ []) $ forget ! 0 refl $ free1 ! $ move ! (14 ∷ 15 ∷ []) $ forget ! 0 refl $ free1 ! $ move ! (12 ∷ 13 ∷ []) $ forget ! 0 refl $ free1 ! $ move ! (10 ∷ 11 ∷ []) $ forget ! 0 refl $ free1 ! $ move ! (8 ∷ 9 ∷ []) $ forget ! 0 refl $ free1 ! $ free0 ! $ by ! (exits (r2 kept x-v offset n pages nodes register out arr9) ok·2 (out₂ kept x-v offset n pages nodes register out arr9) (sym (refl ∙ sym same·2-out))))))))))))))))))))))))))
+      move ! (8 ∷ 9 ∷ []) $ lend-shr ! tt u8 (ν·arr10 ∷ []) fullShare l₁₀ 0 γ·arr10 256 (arr10₁ kept x-l x-v offset n pages nodes register out arr10) (count·arr10 ∙ sym same·1-arr10) (λ ν·2-arr10 γ·2-arr10. move ! (9 ∷ 10 ∷ []) $ lend-mut ! tt u8 κ·out q·out b·out o·out γ·out (length out) out (refl) (λ ν·2-out γ·2-out. move ! (3 ∷ 4 ∷ 0 ∷ 1 ∷ []) $
+      Call-read-turn.calls ! mem run (fmOf 𝓤 H (W .laws) 𝓣) known-read-turn kept n (r1 kept x-l x-v offset n pages nodes register out arr10) (ν·2-arr10 ∷ []) fullShare l₁₀ 0 γ·2-arr10 256 (arr10₁ kept x-l x-v offset n pages nodes register out arr10) (ν·2-out ∷ []) fullShare b·out o·out γ·2-out (length out) out ok·kept ok·n ok·1 (and-then ! (load ! (from ! (stop !)) (look ! 42 refl)) (and-then ! (load ! (from ! (stop !)) (look ! 34 refl)) (and-then ! (load ! (from ! (stop !)) (look ! 23 refl)) (and-then ! (load ! (from ! (stop !)) (look ! 15 refl)) (and-then ! (load ! (from ! (stop !)) (look ! 11 refl)) (no-more !))))))
+      (λ ok·2 same·2-out. move ! (0 ∷ 1 ∷ 5 ∷ []) $ back-shr ! tt u8 (ν·arr10 ∷ []) fullShare l₁₀ 0 γ·arr10 256 (arr10₁ kept x-l x-v offset n pages nodes register out arr10) ν·2-arr10 (count·arr10 ∙ sym same·1-arr10) room·arr10 $ move ! (2 ∷ 3 ∷ 4 ∷ []) $ back-mut ! tt u8 κ·out q·out b·out o·out γ·out (length out) out (out₂ kept x-l x-v offset n pages nodes register out arr10) ν·2-out γ·2-out (refl) same·2-out room·out $ move ! (4 ∷ 5 ∷ 6 ∷ 7 ∷ 8 ∷ 9 ∷ 0 ∷ 1 ∷ 2 ∷ 3 ∷ 10 ∷ []) $ land ! (from ! (stop !)) (init ! 44 refl (Turn′.typed 𝓤 H A W (r2 kept x-l x-v offset n pages nodes register out arr10) ok·2)) $
+      here ! (‵ (flft κ·pages q·pages) ∷ ‵ (ShrAt u8 κ·pages b·pages o·pages γ·pages (length pages) pages) ∷ ‵ (flft κ·nodes q·nodes) ∷ ‵ (ShrAt u32 κ·nodes b·nodes o·nodes γ·nodes (length nodes) nodes) ∷ ‵ (flft κ·register q·register) ∷ ‵ (ShrAt Record′.row κ·register b·register o·register γ·register (length register) register) ∷ ‵ (flft κ·out q·out) ∷ ‵ (MutAt u8 κ·out b·out o·out γ·out (length out) (out₂ kept x-l x-v offset n pages nodes register out arr10)) ∷ ‵ (flft (ν·arr10 ∷ []) fullShare) ∷ ‵ (MutAt u8 (ν·arr10 ∷ []) l₁₀ 0 γ·arr10 256 (arr10₁ kept x-l x-v offset n pages nodes register out arr10)) ∷ ‵ (flent (ν·arr10 ∷ []) (Held u8 256 l₁₀ 0 γ·arr10)) ∷ holds (sliceTy (tyRef erased mut (pointee (u8 .written)))) l₁₇ (sliceVal (b·out, o·out) (length out)) (holds (tyRef erased mut (pointee (u8 .written))) l₁₆ (vptr b·out o·out) (holds (sliceTy (tyRef erased imm (pointee (u8 .written)))) l₁₅ (sliceVal (l₁₀, 0) 256) (holds (tyRef erased imm (tyArray (pointee (u8 .written)) 256)) l₁₄ (vptr l₁₀ 0) (holds (sliceTy (tyRef erased mut (pointee (u8 .written)))) l₁₃ (sliceVal (l₁₀, 0) 256) (holds (tyRef erased mut (tyArray (pointee (u8 .written)) 256)) l₁₂ (vptr l₁₀ 0) (holds (tyAt (code.function .locals) 11) l₁₁ (Filled′.mach (r1 kept x-l x-v offset n pages nodes register out arr10)) (‵ (fdies (tyAt (code.function .locals) 10) l₁₀) ∷ holds (sliceTy (tyRef (named 3) mut (pointee (u8 .written)))) l₉ (sliceVal (b·out, o·out) (length out)) (holds (sliceTy (tyRef (named 2) imm (pointee (Record′.row .written)))) l₈ (sliceVal (b·register, o·register) (length register)) (holds (sliceTy (tyRef (named 1) imm (pointee (u32 .written)))) l₇ (sliceVal (b·nodes, o·nodes) (length nodes)) (holds (sliceTy (tyRef (named 0) imm (pointee (u8 .written)))) l₆ (sliceVal (b·pages, o·pages) (length pages)) (holds (tyInt w64) l₅ (vint w64 n) (holds (tyAt (code.function .locals) 4) l₄ (ByteOffset′.mach offset) (holds (tyAt (code.function .locals) 3) l₃ (Version′.mach x-v) (holds (tyAt (code.function .locals) 2) l₂ (Line′.mach x-l) (holds (tyAt (code.function .locals) 1) l₁ (Kept′.mach kept) (holds (tyAt (code.function .locals) 0) l₀ (Turn′.mach (r2 kept x-l x-v offset n pages nodes register out arr10)) []))))))))))))))))) $
+      move ! (8 ∷ 9 ∷ 10 ∷ []) $ empties ! tt u8 256 l₁₀ γ·arr10 (arr10₁ kept x-l x-v offset n pages nodes register out arr10) ν·arr10 $ move ! (1 ∷ 2 ∷ 3 ∷ 4 ∷ 5 ∷ 6 ∷ 7 ∷ 8 ∷ 9 ∷ 10 ∷ 11 ∷ 12 ∷ 13 ∷ 14 ∷ 15 ∷ 16 ∷ 17 ∷ 18 ∷ 19 ∷ 20 ∷ 21 ∷ 22 ∷ 0 ∷ 23 ∷ 24 ∷ 25 ∷ 26 ∷ 27 ∷ 28 ∷ 29 ∷ 30 ∷ 31 ∷ 32 ∷ 33 ∷ 34 ∷ 35 ∷ 36 ∷ 37 ∷ 38 ∷ 39 ∷ 40 ∷ 41 ∷ 42 ∷ 43 ∷ []) $
+      returns ! (look ! 42 refl) $
+      move ! (42 ∷ 43 ∷ []) $ forget ! 0 refl $ free1 ! $ move ! (40 ∷ 41 ∷ []) $ forget ! 0 refl $ free1 ! $ move ! (38 ∷ 39 ∷ []) $ forget ! 0 refl $ free1 ! $ move ! (36 ∷ 37 ∷ []) $ forget ! 0 refl $ free1 ! $ move ! (34 ∷ 35 ∷ []) $ forget ! 0 refl $ free1 ! $ move ! (32 ∷ 33 ∷ []) $ forget ! 0 refl $ free1 ! $ move ! (30 ∷ 31 ∷ []) $ forget ! 0 refl $ free1 ! $ move ! (28 ∷ 29 ∷ []) $ forget ! 0 refl $ free1 ! $ move ! (26 ∷ 27 ∷ []) $ forget ! 0 refl $ free1 ! $ move ! (24 ∷ 25 ∷ []) $ forget ! 0 refl $ free1 ! $ move ! (22 ∷ 23 ∷ []) $ free1 ! $ move ! (20 ∷ 21 ∷ []) $ forget ! 0 refl $ free1 ! $ move ! (18 ∷ 19 ∷ []) $ forget ! 0 refl $ free1 ! $ move ! (16 ∷ 17 ∷ []) $ forget ! 0 refl $ free1 ! $ move ! (14 ∷ 15 ∷ []) $ forget ! 0 refl $ free1 ! $ move ! (12 ∷ 13 ∷ []) $ forget ! 0 refl $ free1 ! $ move ! (10 ∷ 11 ∷ []) $ forget ! 0 refl $ free1 ! $ move ! (8 ∷ 9 ∷ []) $ forget ! 0 refl $ free1 ! $ free0 ! $ by ! (exits (r2 kept x-l x-v offset n pages nodes register out arr10) ok·2 (out₂ kept x-l x-v offset n pages nodes register out arr10) (sym (refl ∙ sym same·2-out)))))))))))))))))))))))))))
 
 module _ {M : Type 1} (𝓤 : URA M) (H : Heap 𝓤) (A : Atoms 𝓤) (W : Given 𝓤 H A) (mem : Memory → SProp 𝓤) (run : Routine → Fun 𝓤) where
   walks : (𝓣 : Tables 𝓤 H) → Triple 𝓤 (𝓣 .C #read) (Call-read.Asked 𝓤 H A mem run) → Triple 𝓤 (𝓣 .C #read-turn) (Call-read-turn.Asked 𝓤 H A mem run) → Walks 𝓤 H A read-step‴.ended stayed (WpFn 𝓤 H (𝓣 .C) (𝓣 .Λ) code.function) (read-step‴.clauses 𝓤 H A mem run)
-  walks 𝓣 known-read known-read-turn = walked 𝓤 H A read-step‴.ended stayed (read-step‴.clauses 𝓤 H A mem run) (WpFn 𝓤 H (𝓣 .C) (𝓣 .Λ) code.function) (λ κs. (Kept′.vals, (Version′.vals, (ByteOffset′.vals, (uint-vals w64, (slice-vals, (slice-vals, (slice-vals, (slice-vals, tt))))))))) (λ κs. (Kept′.tells, (Version′.tells, (ByteOffset′.tells, (uint-tells w64, (shr-slice-tells (named 0) (κs .0) u8, (shr-slice-tells (named 0) (κs .1 .0) u32, (shr-slice-tells (named 0) (κs .1 .1 .0) Record′.row, (mut-slice-tells (named 0) (κs .1 .1 .1 .0) u8, tt)))))))))
-      (λ κs qs bounds a g are. via 𝓤 _ (fst∗ 𝓤 _ (emp 𝓤)) (walk 𝓤 H A W mem run (a .0) (a .1 .0) (a .1 .1 .0) (a .1 .1 .1 .0) (κs .0) (qs .0) (a .1 .1 .1 .1 .0 .ptr .0) (a .1 .1 .1 .1 .0 .ptr .1) (a .1 .1 .1 .1 .0 .name) (a .1 .1 .1 .1 .0 .now) (κs .1 .0) (qs .1 .0) (a .1 .1 .1 .1 .1 .0 .ptr .0) (a .1 .1 .1 .1 .1 .0 .ptr .1) (a .1 .1 .1 .1 .1 .0 .name) (a .1 .1 .1 .1 .1 .0 .now) (κs .1 .1 .0) (qs .1 .1 .0) (a .1 .1 .1 .1 .1 .1 .0 .ptr .0) (a .1 .1 .1 .1 .1 .1 .0 .ptr .1) (a .1 .1 .1 .1 .1 .1 .0 .name) (a .1 .1 .1 .1 .1 .1 .0 .now) (κs .1 .1 .1 .0) (qs .1 .1 .1 .0) (a .1 .1 .1 .1 .1 .1 .1 .0 .ptr .0) (a .1 .1 .1 .1 .1 .1 .1 .0 .ptr .1) (a .1 .1 .1 .1 .1 .1 .1 .0 .name) (a .1 .1 .1 .1 .1 .1 .1 .0 .now) (are .0) (are .1 .0) (are .1 .1 .0) (are .1 .1 .1 .0) (are .1 .1 .1 .1 .0 .0 .1) (are .1 .1 .1 .1 .1 .0 .0 .1) (are .1 .1 .1 .1 .1 .1 .0 .0 .1) (are .1 .1 .1 .1 .1 .1 .1 .0 .0 .1) 𝓣 known-read known-read-turn))
+  walks 𝓣 known-read known-read-turn = walked 𝓤 H A read-step‴.ended stayed (read-step‴.clauses 𝓤 H A mem run) (WpFn 𝓤 H (𝓣 .C) (𝓣 .Λ) code.function) (λ κs. (Kept′.vals, (Line′.vals, (Version′.vals, (ByteOffset′.vals, (uint-vals w64, (slice-vals, (slice-vals, (slice-vals, (slice-vals, tt)))))))))) (λ κs. (Kept′.tells, (Line′.tells, (Version′.tells, (ByteOffset′.tells, (uint-tells w64, (shr-slice-tells (named 0) (κs .0) u8, (shr-slice-tells (named 0) (κs .1 .0) u32, (shr-slice-tells (named 0) (κs .1 .1 .0) Record′.row, (mut-slice-tells (named 0) (κs .1 .1 .1 .0) u8, tt))))))))))
+      (λ κs qs bounds a g are. via 𝓤 _ (fst∗ 𝓤 _ (emp 𝓤)) (walk 𝓤 H A W mem run (a .0) (a .1 .0) (a .1 .1 .0) (a .1 .1 .1 .0) (a .1 .1 .1 .1 .0) (κs .0) (qs .0) (a .1 .1 .1 .1 .1 .0 .ptr .0) (a .1 .1 .1 .1 .1 .0 .ptr .1) (a .1 .1 .1 .1 .1 .0 .name) (a .1 .1 .1 .1 .1 .0 .now) (κs .1 .0) (qs .1 .0) (a .1 .1 .1 .1 .1 .1 .0 .ptr .0) (a .1 .1 .1 .1 .1 .1 .0 .ptr .1) (a .1 .1 .1 .1 .1 .1 .0 .name) (a .1 .1 .1 .1 .1 .1 .0 .now) (κs .1 .1 .0) (qs .1 .1 .0) (a .1 .1 .1 .1 .1 .1 .1 .0 .ptr .0) (a .1 .1 .1 .1 .1 .1 .1 .0 .ptr .1) (a .1 .1 .1 .1 .1 .1 .1 .0 .name) (a .1 .1 .1 .1 .1 .1 .1 .0 .now) (κs .1 .1 .1 .0) (qs .1 .1 .1 .0) (a .1 .1 .1 .1 .1 .1 .1 .1 .0 .ptr .0) (a .1 .1 .1 .1 .1 .1 .1 .1 .0 .ptr .1) (a .1 .1 .1 .1 .1 .1 .1 .1 .0 .name) (a .1 .1 .1 .1 .1 .1 .1 .1 .0 .now) (are .0) (are .1 .0) (are .1 .1 .0) (are .1 .1 .1 .0) (are .1 .1 .1 .1 .0) (are .1 .1 .1 .1 .1 .0 .0 .1) (are .1 .1 .1 .1 .1 .1 .0 .0 .1) (are .1 .1 .1 .1 .1 .1 .1 .0 .0 .1) (are .1 .1 .1 .1 .1 .1 .1 .1 .0 .0 .1) 𝓣 known-read known-read-turn))
 
 meets : {M : Type 1} (𝓤 : URA M) (H : Heap 𝓤) (A : Atoms 𝓤) → Given 𝓤 H A → (mem : Memory → SProp 𝓤) (run : Routine → Fun 𝓤) (𝓣 : Tables 𝓤 H) → Triple 𝓤 (𝓣 .C #read) (Call-read.Asked 𝓤 H A mem run) → Triple 𝓤 (𝓣 .C #read-turn) (Call-read-turn.Asked 𝓤 H A mem run)
     → Meets 𝓤 H A read-step‴.signature (WpFn 𝓤 H (𝓣 .C) (𝓣 .Λ) code.function) (read-step‴.spec 𝓤 H A mem run)
 meets 𝓤 H A W mem run 𝓣 known-read known-read-turn =
-    walk-meets 𝓤 H A read-step‴.ended stayed W (goes-none 𝓤 H A W 4 (λ _. Kept′.row) yes (λ κs x f. refl), (goes-none 𝓤 H A W 4 (λ _. Version′.row) yes (λ κs x f. refl), (goes-none 𝓤 H A W 4 (λ _. ByteOffset′.row) yes (λ κs x f. refl), (goes-none 𝓤 H A W 4 (λ _. u64) yes (λ κs x f. refl), (goes-none-slice 𝓤 H A W 4 (0 ∷ []) tt (plain (λ _. u8)) yes, (goes-none-slice 𝓤 H A W 4 (1 ∷ []) tt (plain (λ _. u32)) yes, (goes-none-slice 𝓤 H A W 4 (2 ∷ []) tt (plain (λ _. Record′.row)) yes, (goes-slice 𝓤 H A W 4 3 tt (plain (λ _. u8)), tt)))))))) (read-step‴.clauses 𝓤 H A mem run)
+    walk-meets 𝓤 H A read-step‴.ended stayed W (goes-none 𝓤 H A W 4 (λ _. Kept′.row) yes (λ κs x f. refl), (goes-none 𝓤 H A W 4 (λ _. Line′.row) yes (λ κs x f. refl), (goes-none 𝓤 H A W 4 (λ _. Version′.row) yes (λ κs x f. refl), (goes-none 𝓤 H A W 4 (λ _. ByteOffset′.row) yes (λ κs x f. refl), (goes-none 𝓤 H A W 4 (λ _. u64) yes (λ κs x f. refl), (goes-none-slice 𝓤 H A W 4 (0 ∷ []) tt (plain (λ _. u8)) yes, (goes-none-slice 𝓤 H A W 4 (1 ∷ []) tt (plain (λ _. u32)) yes, (goes-none-slice 𝓤 H A W 4 (2 ∷ []) tt (plain (λ _. Record′.row)) yes, (goes-slice 𝓤 H A W 4 3 tt (plain (λ _. u8)), tt))))))))) (read-step‴.clauses 𝓤 H A mem run)
     (WpFn 𝓤 H (𝓣 .C) (𝓣 .Λ) code.function) (WpFn-mono 𝓤 H (W .laws) 𝓣 code.function) (walks 𝓤 H A W mem run 𝓣 known-read known-read-turn)
 
 pub read-step-spec : {M : Type 1} → stated.statement M

@@ -17,14 +17,14 @@ div-if2 c = search needs
 
 returns-2 : tie.Need-returns-2
 unfolding bytesBy
-returns-2 c = sym (min-eq-right (le-of-lt (product-past _ _ _ (c .before .before .if1 .left) (c .if2 .taken))))
+returns-2 c = sym (min-eq-right (le-of-lt (product-past _ _ _ (c .before .if1 .left) (c .if2 .taken))))
 
 mul-result : tie.Need-mul-result
-mul-result c = omega (arith, product-within _ _ _ (c .before .before .before .if1 .left) (c .before .if2 .left))
+mul-result c = omega (arith, product-within _ _ _ (c .before .if1 .left) (c .if2 .left))
 
 returns-3 : tie.Need-returns-3
 unfolding bytesBy
-returns-3 c = sym (min-eq-left (product-within _ _ _ (c .before .before .before .if1 .left) (c .before .if2 .left)))
+returns-3 c = sym (min-eq-left (product-within _ _ _ (c .before .if1 .left) (c .if2 .left)))
 
 pub bytes-by-spec : {M : Type 1} → statement M
 bytes-by-spec = tie.close (tie.spec returns div-if2 returns-2 mul-result returns-3)

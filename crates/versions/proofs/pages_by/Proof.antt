@@ -3,13 +3,13 @@ use mathlib.Core.Path.{_≡_, refl}
 use Prim.Native.Nat.{ℕ, zero, suc}
 use borrow.Author.Needs.{needs}
 use Rattle.register.specs.Register.{updateOf}
-use Rattle.register.specs.declared.Record.{Record}
+use Rattle.register.specs.declared.Part.{Part}
 use Rattle.versions.specs.Size.{pagesBy}
 use Rattle.versions.proofs.pages_by.Statement.{statement}
 use Rattle.versions.proofs.pages_by.Tie as tie
 
 -- Every version but 0 has the size that its record says.
-of-record : (v : ℕ) (q : Record) → (v ≡ 0 → ⊥) → updateOf q .size ≡ pagesBy v q
+of-record : (v : ℕ) (q : Part) → (v ≡ 0 → ⊥) → updateOf q .size ≡ pagesBy v q
 of-record zero q h = absurd (h refl)
 of-record (suc v) q h = refl
 

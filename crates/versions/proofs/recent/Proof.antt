@@ -49,10 +49,16 @@ use Rattle.versions.specs.declared.Store.{Store}
 use Rattle.versions.proofs.Generated.Kind.Store as Store′
 use Rattle.tree.specs.declared.Ticket.{Ticket}
 use Rattle.register.proofs.Generated.Kind.Ticket as Ticket′
+use Rattle.lines.specs.declared.Branch.{Branch}
+use Rattle.versions.proofs.Generated.Kind.Branch as Branch′
+use Rattle.lines.specs.declared.Line.{Line}
+use Rattle.register.proofs.Generated.Kind.Line as Line′
 use Rattle.register.specs.declared.Record.{Record}
 use Rattle.register.proofs.Generated.Kind.Record as Record′
 use Rattle.tree.specs.declared.PageIndex.{PageIndex}
 use Rattle.register.proofs.Generated.Kind.PageIndex as PageIndex′
+use Rattle.lines.specs.declared.Entries.{Entries}
+use Rattle.register.proofs.Generated.Kind.Entries as Entries′
 use Rattle.versions.specs.declared.Lengths.{Lengths}
 use Rattle.versions.proofs.Generated.Kind.Lengths as Lengths′
 use Rattle.register.proofs.Generated.Flow.{ref, MutAt, ShrAt, lend-mut, back-mut, lend-shr, back-shr, branches-on, regroup, skips-on, returns-on, plus-nothing, holds, empty, less-fits, is-true, is-false, differ, above-0, twice-not, switches-to, switches-last, big-lit, here, blocks-on, resume, scaled-2, scaled-4, scaled-8, opens-shr, shuts-shr, opens-mut, shuts-mut, puts-mut, keeps-shr, fills, empties, tyAt}
@@ -62,6 +68,16 @@ use Rattle.versions.proofs.Generated.Call.lengths_of as Call-lengths-of
 use Rattle.versions.proofs.lengths_of.Symbol as def-lengths-of
 use Rattle.versions.proofs.lengths_of.Symbol.{name as #lengths-of}
 use Rattle.versions.proofs.lengths_of.Met as thm-lengths-of
+use Rattle.versions.proofs.Generated.Say.line_state as line-state″
+use Rattle.versions.proofs.Generated.Call.line_state as Call-line-state
+use Rattle.versions.proofs.line_state.Symbol as def-line-state
+use Rattle.versions.proofs.line_state.Symbol.{name as #line-state}
+use Rattle.versions.proofs.line_state.Met as thm-line-state
+use Rattle.versions.proofs.Generated.Say.line_refusal as line-refusal″
+use Rattle.versions.proofs.Generated.Call.line_refusal as Call-line-refusal
+use Rattle.versions.proofs.line_refusal.Symbol as def-line-refusal
+use Rattle.versions.proofs.line_refusal.Symbol.{name as #line-refusal}
+use Rattle.versions.proofs.line_refusal.Met as thm-line-refusal
 use Rattle.versions.proofs.Generated.Say.recent_by as recent-by″
 use Rattle.versions.proofs.Generated.Call.recent_by as Call-recent-by
 use Rattle.versions.proofs.recent_by.Symbol as def-recent-by
@@ -72,17 +88,17 @@ use Rattle.versions.proofs.recent as recent‴
 use Rattle.versions.proofs.recent.Statement as stated
 use Rattle.versions.proofs.recent.Code as code
 use Rattle.versions.proofs.recent.Proof.Facts as Facts
-use Rattle.versions.proofs.recent.Proof.Asks.{r1, r2}
+use Rattle.versions.proofs.recent.Proof.Asks.{r1, r2, r3, r4}
 
 abbrev stayed : Stays (recent‴.ended .signature .params) (recent‴.ended .kept)
-stayed = (stay-none (λ _. Store′.row) yes, (stay-none-slice (0 ∷ []) tt (plain (λ _. u8)) yes, (stay-none-slice (1 ∷ []) tt (plain (λ _. u32)) yes, (stay-none-slice (2 ∷ []) tt (plain (λ _. Record′.row)) yes, tt))))
+stayed = (stay-none (λ _. Store′.row) yes, (stay-none-slice (0 ∷ []) tt (plain (λ _. u8)) yes, (stay-none-slice (1 ∷ []) tt (plain (λ _. u32)) yes, (stay-none-slice (2 ∷ []) tt (plain (λ _. Record′.row)) yes, (stay-none (λ _. Line′.row) yes, tt)))))
 
-module _ {M : Type 1} (𝓤 : URA M) (H : Heap 𝓤) (A : Atoms 𝓤) (W : Given 𝓤 H A) (mem : Memory → SProp 𝓤) (run : Routine → Fun 𝓤) (s : Store) (κ·pages : Lft) (q·pages : Share) (b·pages o·pages : ℕ) (γ·pages : GName) (pages : List ℕ) (κ·nodes : Lft) (q·nodes : Share) (b·nodes o·nodes : ℕ) (γ·nodes : GName) (nodes : List ℕ) (κ·register : Lft) (q·register : Share) (b·register o·register : ℕ) (γ·register : GName) (register : List Record) (ok·s : Is Store′.row s (Store′.vals s)) (room·pages : Room u8 (length pages)) (room·nodes : Room u32 (length nodes)) (room·register : Room Record′.row (length register)) where
+module _ {M : Type 1} (𝓤 : URA M) (H : Heap 𝓤) (A : Atoms 𝓤) (W : Given 𝓤 H A) (mem : Memory → SProp 𝓤) (run : Routine → Fun 𝓤) (s : Store) (κ·pages : Lft) (q·pages : Share) (b·pages o·pages : ℕ) (γ·pages : GName) (pages : List ℕ) (κ·nodes : Lft) (q·nodes : Share) (b·nodes o·nodes : ℕ) (γ·nodes : GName) (nodes : List ℕ) (κ·register : Lft) (q·register : Share) (b·register o·register : ℕ) (γ·register : GName) (register : List Record) (x-l : Line) (ok·s : Is Store′.row s (Store′.vals s)) (room·pages : Room u8 (length pages)) (room·nodes : Room u32 (length nodes)) (room·register : Room Record′.row (length register)) (ok·x-l : Is Line′.row x-l (Line′.vals x-l)) where
   abbrev all-args : Args recent‴.signature (κ·pages, (κ·nodes, (κ·register, tt)))
-  all-args = (s, (ref b·pages o·pages γ·pages pages, (ref b·nodes o·nodes γ·nodes nodes, (ref b·register o·register γ·register register, tt))))
+  all-args = (s, (ref b·pages o·pages γ·pages pages, (ref b·nodes o·nodes γ·nodes nodes, (ref b·register o·register γ·register register, (x-l, tt)))))
 
   abbrev all-vals : Vals recent‴.signature (κ·pages, (κ·nodes, (κ·register, tt)))
-  all-vals = (Store′.mach s ∷ [], (sliceVal (b·pages, o·pages) (length pages) ∷ [], (sliceVal (b·nodes, o·nodes) (length nodes) ∷ [], (sliceVal (b·register, o·register) (length register) ∷ [], tt))))
+  all-vals = (Store′.mach s ∷ [], (sliceVal (b·pages, o·pages) (length pages) ∷ [], (sliceVal (b·nodes, o·nodes) (length nodes) ∷ [], (sliceVal (b·register, o·register) (length register) ∷ [], (Line′.mach x-l ∷ [], tt)))))
 
   abbrev bound : walkOf 𝓤 H A recent‴.ended stayed (recent‴.clauses 𝓤 H A mem run) .Ghost
   bound = (((κ·pages, (κ·nodes, (κ·register, tt))), (q·pages, (q·nodes, (q·register, tt))), tt, all-args, all-vals), tt)
@@ -90,35 +106,39 @@ module _ {M : Type 1} (𝓤 : URA M) (H : Heap 𝓤) (A : Atoms 𝓤) (W : Given
   abbrev Post : Val → SProp 𝓤
   Post = walkOf 𝓤 H A recent‴.ended stayed (recent‴.clauses 𝓤 H A mem run) .post bound
 
-  exits : (r : Latest) → Is Latest′.row r (Latest′.vals r) → recent″.ens s pages nodes register r → ent 𝓤 (⋆ 𝓤 H A (‵ (flft κ·pages q·pages) ∷ ‵ (ShrAt u8 κ·pages b·pages o·pages γ·pages (length pages) pages) ∷ ‵ (flft κ·nodes q·nodes) ∷ ‵ (ShrAt u32 κ·nodes b·nodes o·nodes γ·nodes (length nodes) nodes) ∷ ‵ (flft κ·register q·register) ∷ ‵ (ShrAt Record′.row κ·register b·register o·register γ·register (length register) register) ∷ [])) (Post (Latest′.mach r))
+  exits : (r : Latest) → Is Latest′.row r (Latest′.vals r) → recent″.ens s pages nodes register x-l r → ent 𝓤 (⋆ 𝓤 H A (‵ (flft κ·pages q·pages) ∷ ‵ (ShrAt u8 κ·pages b·pages o·pages γ·pages (length pages) pages) ∷ ‵ (flft κ·nodes q·nodes) ∷ ‵ (ShrAt u32 κ·nodes b·nodes o·nodes γ·nodes (length nodes) nodes) ∷ ‵ (flft κ·register q·register) ∷ ‵ (ShrAt Record′.row κ·register b·register o·register γ·register (length register) register) ∷ [])) (Post (Latest′.mach r))
   exits r ok·r said =
-      qed W (‵ (flft κ·pages q·pages) ∷ ‵ (ShrAt u8 κ·pages b·pages o·pages γ·pages (length pages) pages) ∷ ‵ (flft κ·nodes q·nodes) ∷ ‵ (ShrAt u32 κ·nodes b·nodes o·nodes γ·nodes (length nodes) nodes) ∷ ‵ (flft κ·register q·register) ∷ ‵ (ShrAt Record′.row κ·register b·register o·register γ·register (length register) register) ∷ []) ∵ suffices ! _ (ends-at 𝓤 H A recent‴.ended stayed (recent‴.clauses 𝓤 H A mem run) W bound (Latest′.mach r) r (tt, (tt, (tt, (tt, tt)))) (tt, (tt, (tt, (tt, tt))))) $ says ! said $
-      nothing ! $ move ! (5 ∷ 0 ∷ []) $ join ! $ move ! (3 ∷ 0 ∷ []) $ join ! $ move ! (1 ∷ 0 ∷ []) $ join ! $ frame ! $ nothing ! $ move ! (3 ∷ 0 ∷ []) $ fjoin ! $ move ! (2 ∷ 0 ∷ []) $ fjoin ! $ move ! (1 ∷ 0 ∷ []) $ fjoin ! $ owned ! Store′.row (Is Store′.row) (Store′.makes 𝓤 H A) s _ ok·s $ fjoin ! $ frame ! $ owned ! Latest′.row (Is Latest′.row) (Latest′.makes 𝓤 H A) r _ ok·r $ done !
+      qed W (‵ (flft κ·pages q·pages) ∷ ‵ (ShrAt u8 κ·pages b·pages o·pages γ·pages (length pages) pages) ∷ ‵ (flft κ·nodes q·nodes) ∷ ‵ (ShrAt u32 κ·nodes b·nodes o·nodes γ·nodes (length nodes) nodes) ∷ ‵ (flft κ·register q·register) ∷ ‵ (ShrAt Record′.row κ·register b·register o·register γ·register (length register) register) ∷ []) ∵ suffices ! _ (ends-at 𝓤 H A recent‴.ended stayed (recent‴.clauses 𝓤 H A mem run) W bound (Latest′.mach r) r (tt, (tt, (tt, (tt, (tt, tt))))) (tt, (tt, (tt, (tt, (tt, tt)))))) $ says ! said $
+      nothing ! $ move ! (5 ∷ 0 ∷ []) $ join ! $ move ! (3 ∷ 0 ∷ []) $ join ! $ move ! (1 ∷ 0 ∷ []) $ join ! $ frame ! $ nothing ! $ owned ! Line′.row (Is Line′.row) (Line′.makes 𝓤 H A) x-l _ ok·x-l $ fjoin ! $ move ! (3 ∷ 0 ∷ []) $ fjoin ! $ move ! (2 ∷ 0 ∷ []) $ fjoin ! $ move ! (1 ∷ 0 ∷ []) $ fjoin ! $ owned ! Store′.row (Is Store′.row) (Store′.makes 𝓤 H A) s _ ok·s $ fjoin ! $ frame ! $ owned ! Latest′.row (Is Latest′.row) (Latest′.makes 𝓤 H A) r _ ok·r $ done !
 
-  walk : (𝓣 : Tables 𝓤 H) (known-lengths-of : Triple 𝓤 (𝓣 .C #lengths-of) (Call-lengths-of.Asked 𝓤 H A mem run)) (known-recent-by : Triple 𝓤 (𝓣 .C #recent-by) (Call-recent-by.Asked 𝓤 H A mem run)) → ent 𝓤 (onEntry 𝓤 H A recent‴.signature (κ·pages, (κ·nodes, (κ·register, tt))) (q·pages, (q·nodes, (q·register, tt))) all-args all-vals)
-      (WpFn 𝓤 H (𝓣 .C) (𝓣 .Λ) code.function (Store′.mach s ∷ sliceVal (b·pages, o·pages) (length pages) ∷ sliceVal (b·nodes, o·nodes) (length nodes) ∷ sliceVal (b·register, o·register) (length register) ∷ []) Post)
-  walk 𝓣 known-lengths-of known-recent-by =
-      qed W ((‵ (flft κ·pages q·pages) ⊛ ‵ (flft κ·nodes q·nodes) ⊛ ‵ (flft κ·register q·register) ⊛ ‵ ftrue) ∷ ‵ (owns (Store′.row ∷ ShrSlice (named 0) κ·pages u8 ∷ ShrSlice (named 0) κ·nodes u32 ∷ ShrSlice (named 0) κ·register Record′.row ∷ []) all-args all-vals) ∷ []) ∵ enter ! (𝓣 .C) (𝓣 .Λ) code.function (Store′.mach s ∷ sliceVal (b·pages, o·pages) (length pages) ∷ sliceVal (b·nodes, o·nodes) (length nodes) ∷ sliceVal (b·register, o·register) (length register) ∷ []) _ $
-      alloc1 ! (λ l₀. alloc1 ! (λ l₁. alloc1 ! (λ l₂. alloc1 ! (λ l₃. alloc1 ! (λ l₄. alloc1 ! (λ l₅. alloc0 ! $ params1 ! $
-      pass1 ! (init ! 8 refl (Store′.typed 𝓤 H A W s ok·s)) $ pass1 ! (init ! 6 refl (tt, (tt, (record { fits = room·pages .0 }, tt)))) $ pass1 ! (init ! 4 refl (tt, (tt, (record { fits = room·nodes .0 }, tt)))) $ pass1 ! (init ! 2 refl (tt, (tt, (record { fits = room·register .0 }, tt)))) $ pass0 ! $
-      move ! (13 ∷ []) $ fsplit ! $ drop ! $ fsplit ! $ move ! (1 ∷ []) $ fsplit ! $ move ! (1 ∷ []) $ fsplit ! $ move ! (1 ∷ []) $ drop ! $ move ! (15 ∷ []) $ split ! $ move ! (1 ∷ []) $ split ! $ move ! (1 ∷ []) $ split ! $ move ! (1 ∷ []) $ drop ! $ move ! (2 ∷ 5 ∷ 1 ∷ 4 ∷ 0 ∷ 3 ∷ []) $
-      Call-lengths-of.calls ! mem run (fmOf 𝓤 H (W .laws) 𝓣) known-lengths-of κ·pages q·pages b·pages o·pages γ·pages (length pages) pages κ·nodes q·nodes b·nodes o·nodes γ·nodes (length nodes) nodes κ·register q·register b·register o·register γ·register (length register) register (and-then ! (load ! (from ! (stop !)) (look ! 10 refl)) (and-then ! (load ! (from ! (stop !)) (look ! 8 refl)) (and-then ! (load ! (from ! (stop !)) (look ! 6 refl)) (no-more !))))
-      (λ ok·1. land ! (from ! (stop !)) (init ! 6 refl (Lengths′.typed 𝓤 H A W (r1 s pages nodes register) ok·1)) $
-      Call-recent-by.calls ! mem run (fmOf 𝓤 H (W .laws) 𝓣) known-recent-by s (r1 s pages nodes register) ok·s ok·1 (and-then ! (load ! (from ! (stop !)) (look ! 15 refl)) (and-then ! (load ! (from ! (stop !)) (look ! 7 refl)) (no-more !)))
-      (λ ok·2. land ! (from ! (stop !)) (init ! 16 refl (Latest′.typed 𝓤 H A W (r2 s pages nodes register) ok·2)) $
-      returns ! (look ! 16 refl) $
-      move ! (16 ∷ 17 ∷ []) $ forget ! 0 refl $ free1 ! $ move ! (14 ∷ 15 ∷ []) $ forget ! 0 refl $ free1 ! $ move ! (12 ∷ 13 ∷ []) $ forget ! 0 refl $ free1 ! $ move ! (10 ∷ 11 ∷ []) $ forget ! 0 refl $ free1 ! $ move ! (8 ∷ 9 ∷ []) $ forget ! 0 refl $ free1 ! $ move ! (6 ∷ 7 ∷ []) $ forget ! 0 refl $ free1 ! $ free0 ! $ by ! (exits (r2 s pages nodes register) ok·2 (Facts.exit-1 s pages nodes register ok·s (room·pages .0) (room·nodes .0) (room·register .0) ok·1 ok·2))))))))))
+  walk : (𝓣 : Tables 𝓤 H) (known-lengths-of : Triple 𝓤 (𝓣 .C #lengths-of) (Call-lengths-of.Asked 𝓤 H A mem run)) (known-line-state : Triple 𝓤 (𝓣 .C #line-state) (Call-line-state.Asked 𝓤 H A mem run)) (known-line-refusal : Triple 𝓤 (𝓣 .C #line-refusal) (Call-line-refusal.Asked 𝓤 H A mem run)) (known-recent-by : Triple 𝓤 (𝓣 .C #recent-by) (Call-recent-by.Asked 𝓤 H A mem run)) → ent 𝓤 (onEntry 𝓤 H A recent‴.signature (κ·pages, (κ·nodes, (κ·register, tt))) (q·pages, (q·nodes, (q·register, tt))) all-args all-vals)
+      (WpFn 𝓤 H (𝓣 .C) (𝓣 .Λ) code.function (Store′.mach s ∷ sliceVal (b·pages, o·pages) (length pages) ∷ sliceVal (b·nodes, o·nodes) (length nodes) ∷ sliceVal (b·register, o·register) (length register) ∷ Line′.mach x-l ∷ []) Post)
+  walk 𝓣 known-lengths-of known-line-state known-line-refusal known-recent-by =
+      qed W ((‵ (flft κ·pages q·pages) ⊛ ‵ (flft κ·nodes q·nodes) ⊛ ‵ (flft κ·register q·register) ⊛ ‵ ftrue) ∷ ‵ (owns (Store′.row ∷ ShrSlice (named 0) κ·pages u8 ∷ ShrSlice (named 0) κ·nodes u32 ∷ ShrSlice (named 0) κ·register Record′.row ∷ Line′.row ∷ []) all-args all-vals) ∷ []) ∵ enter ! (𝓣 .C) (𝓣 .Λ) code.function (Store′.mach s ∷ sliceVal (b·pages, o·pages) (length pages) ∷ sliceVal (b·nodes, o·nodes) (length nodes) ∷ sliceVal (b·register, o·register) (length register) ∷ Line′.mach x-l ∷ []) _ $
+      alloc1 ! (λ l₀. alloc1 ! (λ l₁. alloc1 ! (λ l₂. alloc1 ! (λ l₃. alloc1 ! (λ l₄. alloc1 ! (λ l₅. alloc1 ! (λ l₆. alloc1 ! (λ l₇. alloc1 ! (λ l₈. alloc0 ! $ params1 ! $
+      pass1 ! (init ! 14 refl (Store′.typed 𝓤 H A W s ok·s)) $ pass1 ! (init ! 12 refl (tt, (tt, (record { fits = room·pages .0 }, tt)))) $ pass1 ! (init ! 10 refl (tt, (tt, (record { fits = room·nodes .0 }, tt)))) $ pass1 ! (init ! 8 refl (tt, (tt, (record { fits = room·register .0 }, tt)))) $ pass1 ! (init ! 6 refl (Line′.typed 𝓤 H A W x-l ok·x-l)) $ pass0 ! $
+      move ! (19 ∷ []) $ fsplit ! $ drop ! $ fsplit ! $ move ! (1 ∷ []) $ fsplit ! $ move ! (1 ∷ []) $ fsplit ! $ move ! (1 ∷ []) $ fsplit ! $ drop ! $ drop ! $ move ! (21 ∷ []) $ split ! $ move ! (1 ∷ []) $ split ! $ move ! (1 ∷ []) $ split ! $ move ! (1 ∷ []) $ drop ! $ move ! (2 ∷ 5 ∷ 1 ∷ 4 ∷ 0 ∷ 3 ∷ []) $
+      Call-lengths-of.calls ! mem run (fmOf 𝓤 H (W .laws) 𝓣) known-lengths-of κ·pages q·pages b·pages o·pages γ·pages (length pages) pages κ·nodes q·nodes b·nodes o·nodes γ·nodes (length nodes) nodes κ·register q·register b·register o·register γ·register (length register) register (and-then ! (load ! (from ! (stop !)) (look ! 16 refl)) (and-then ! (load ! (from ! (stop !)) (look ! 14 refl)) (and-then ! (load ! (from ! (stop !)) (look ! 12 refl)) (no-more !))))
+      (λ ok·1. land ! (from ! (stop !)) (init ! 10 refl (Lengths′.typed 𝓤 H A W (r1 s pages nodes register x-l) ok·1)) $
+      Call-line-state.calls ! mem run (fmOf 𝓤 H (W .laws) 𝓣) known-line-state s x-l ok·s ok·x-l (and-then ! (load ! (from ! (stop !)) (look ! 21 refl)) (and-then ! (load ! (from ! (stop !)) (look ! 13 refl)) (no-more !)))
+      (λ ok·2. land ! (from ! (stop !)) (init ! 8 refl (Branch′.typed 𝓤 H A W (r2 s pages nodes register x-l) ok·2)) $
+      Call-line-refusal.calls ! mem run (fmOf 𝓤 H (W .laws) 𝓣) known-line-refusal s (r1 s pages nodes register x-l) x-l ok·s ok·1 ok·x-l (and-then ! (load ! (from ! (stop !)) (look ! 21 refl)) (and-then ! (load ! (from ! (stop !)) (look ! 11 refl)) (and-then ! (load ! (from ! (stop !)) (look ! 13 refl)) (no-more !))))
+      (λ ok·3. land ! (from ! (stop !)) (init ! 6 refl (tt, record { fits = ok·3 .1 })) $
+      Call-recent-by.calls ! mem run (fmOf 𝓤 H (W .laws) 𝓣) known-recent-by (r3 s pages nodes register x-l) ((r2 s pages nodes register x-l) .published) ok·3 (Branch′.ok-published (r2 s pages nodes register x-l) ok·2) (and-then ! (load ! (from ! (stop !)) (look ! 7 refl)) (and-then ! (load ! (from ! (fld ! refl (stop !))) (look-in ! 9 (sub ! 3 refl (whole !)))) (no-more !)))
+      (λ ok·4. land ! (from ! (stop !)) (init ! 22 refl (Latest′.typed 𝓤 H A W (r4 s pages nodes register x-l) ok·4)) $
+      returns ! (look ! 22 refl) $
+      move ! (22 ∷ 23 ∷ []) $ forget ! 0 refl $ free1 ! $ move ! (20 ∷ 21 ∷ []) $ forget ! 0 refl $ free1 ! $ move ! (18 ∷ 19 ∷ []) $ forget ! 0 refl $ free1 ! $ move ! (16 ∷ 17 ∷ []) $ forget ! 0 refl $ free1 ! $ move ! (14 ∷ 15 ∷ []) $ forget ! 0 refl $ free1 ! $ move ! (12 ∷ 13 ∷ []) $ forget ! 0 refl $ free1 ! $ move ! (10 ∷ 11 ∷ []) $ forget ! 0 refl $ free1 ! $ move ! (8 ∷ 9 ∷ []) $ forget ! 0 refl $ free1 ! $ move ! (6 ∷ 7 ∷ []) $ forget ! 0 refl $ free1 ! $ free0 ! $ by ! (exits (r4 s pages nodes register x-l) ok·4 (Facts.exit-1 s pages nodes register x-l ok·s (room·pages .0) (room·nodes .0) (room·register .0) ok·x-l ok·1 ok·2 (ok·3 .1) ok·4)))))))))))))))
 
 module _ {M : Type 1} (𝓤 : URA M) (H : Heap 𝓤) (A : Atoms 𝓤) (W : Given 𝓤 H A) (mem : Memory → SProp 𝓤) (run : Routine → Fun 𝓤) where
-  walks : (𝓣 : Tables 𝓤 H) → Triple 𝓤 (𝓣 .C #lengths-of) (Call-lengths-of.Asked 𝓤 H A mem run) → Triple 𝓤 (𝓣 .C #recent-by) (Call-recent-by.Asked 𝓤 H A mem run) → Walks 𝓤 H A recent‴.ended stayed (WpFn 𝓤 H (𝓣 .C) (𝓣 .Λ) code.function) (recent‴.clauses 𝓤 H A mem run)
-  walks 𝓣 known-lengths-of known-recent-by = walked 𝓤 H A recent‴.ended stayed (recent‴.clauses 𝓤 H A mem run) (WpFn 𝓤 H (𝓣 .C) (𝓣 .Λ) code.function) (λ κs. (Store′.vals, (slice-vals, (slice-vals, (slice-vals, tt))))) (λ κs. (Store′.tells, (shr-slice-tells (named 0) (κs .0) u8, (shr-slice-tells (named 0) (κs .1 .0) u32, (shr-slice-tells (named 0) (κs .1 .1 .0) Record′.row, tt)))))
-      (λ κs qs bounds a g are. via 𝓤 _ (fst∗ 𝓤 _ (emp 𝓤)) (walk 𝓤 H A W mem run (a .0) (κs .0) (qs .0) (a .1 .0 .ptr .0) (a .1 .0 .ptr .1) (a .1 .0 .name) (a .1 .0 .now) (κs .1 .0) (qs .1 .0) (a .1 .1 .0 .ptr .0) (a .1 .1 .0 .ptr .1) (a .1 .1 .0 .name) (a .1 .1 .0 .now) (κs .1 .1 .0) (qs .1 .1 .0) (a .1 .1 .1 .0 .ptr .0) (a .1 .1 .1 .0 .ptr .1) (a .1 .1 .1 .0 .name) (a .1 .1 .1 .0 .now) (are .0) (are .1 .0 .0 .1) (are .1 .1 .0 .0 .1) (are .1 .1 .1 .0 .0 .1) 𝓣 known-lengths-of known-recent-by))
+  walks : (𝓣 : Tables 𝓤 H) → Triple 𝓤 (𝓣 .C #lengths-of) (Call-lengths-of.Asked 𝓤 H A mem run) → Triple 𝓤 (𝓣 .C #line-state) (Call-line-state.Asked 𝓤 H A mem run) → Triple 𝓤 (𝓣 .C #line-refusal) (Call-line-refusal.Asked 𝓤 H A mem run) → Triple 𝓤 (𝓣 .C #recent-by) (Call-recent-by.Asked 𝓤 H A mem run) → Walks 𝓤 H A recent‴.ended stayed (WpFn 𝓤 H (𝓣 .C) (𝓣 .Λ) code.function) (recent‴.clauses 𝓤 H A mem run)
+  walks 𝓣 known-lengths-of known-line-state known-line-refusal known-recent-by = walked 𝓤 H A recent‴.ended stayed (recent‴.clauses 𝓤 H A mem run) (WpFn 𝓤 H (𝓣 .C) (𝓣 .Λ) code.function) (λ κs. (Store′.vals, (slice-vals, (slice-vals, (slice-vals, (Line′.vals, tt)))))) (λ κs. (Store′.tells, (shr-slice-tells (named 0) (κs .0) u8, (shr-slice-tells (named 0) (κs .1 .0) u32, (shr-slice-tells (named 0) (κs .1 .1 .0) Record′.row, (Line′.tells, tt))))))
+      (λ κs qs bounds a g are. via 𝓤 _ (fst∗ 𝓤 _ (emp 𝓤)) (walk 𝓤 H A W mem run (a .0) (κs .0) (qs .0) (a .1 .0 .ptr .0) (a .1 .0 .ptr .1) (a .1 .0 .name) (a .1 .0 .now) (κs .1 .0) (qs .1 .0) (a .1 .1 .0 .ptr .0) (a .1 .1 .0 .ptr .1) (a .1 .1 .0 .name) (a .1 .1 .0 .now) (κs .1 .1 .0) (qs .1 .1 .0) (a .1 .1 .1 .0 .ptr .0) (a .1 .1 .1 .0 .ptr .1) (a .1 .1 .1 .0 .name) (a .1 .1 .1 .0 .now) (a .1 .1 .1 .1 .0) (are .0) (are .1 .0 .0 .1) (are .1 .1 .0 .0 .1) (are .1 .1 .1 .0 .0 .1) (are .1 .1 .1 .1 .0) 𝓣 known-lengths-of known-line-state known-line-refusal known-recent-by))
 
-meets : {M : Type 1} (𝓤 : URA M) (H : Heap 𝓤) (A : Atoms 𝓤) → Given 𝓤 H A → (mem : Memory → SProp 𝓤) (run : Routine → Fun 𝓤) (𝓣 : Tables 𝓤 H) → Triple 𝓤 (𝓣 .C #lengths-of) (Call-lengths-of.Asked 𝓤 H A mem run) → Triple 𝓤 (𝓣 .C #recent-by) (Call-recent-by.Asked 𝓤 H A mem run)
+meets : {M : Type 1} (𝓤 : URA M) (H : Heap 𝓤) (A : Atoms 𝓤) → Given 𝓤 H A → (mem : Memory → SProp 𝓤) (run : Routine → Fun 𝓤) (𝓣 : Tables 𝓤 H) → Triple 𝓤 (𝓣 .C #lengths-of) (Call-lengths-of.Asked 𝓤 H A mem run) → Triple 𝓤 (𝓣 .C #line-state) (Call-line-state.Asked 𝓤 H A mem run) → Triple 𝓤 (𝓣 .C #line-refusal) (Call-line-refusal.Asked 𝓤 H A mem run) → Triple 𝓤 (𝓣 .C #recent-by) (Call-recent-by.Asked 𝓤 H A mem run)
     → Meets 𝓤 H A recent‴.signature (WpFn 𝓤 H (𝓣 .C) (𝓣 .Λ) code.function) (recent‴.spec 𝓤 H A mem run)
-meets 𝓤 H A W mem run 𝓣 known-lengths-of known-recent-by =
-    walk-meets 𝓤 H A recent‴.ended stayed W (goes-none 𝓤 H A W 3 (λ _. Store′.row) yes (λ κs x f. refl), (goes-none-slice 𝓤 H A W 3 (0 ∷ []) tt (plain (λ _. u8)) yes, (goes-none-slice 𝓤 H A W 3 (1 ∷ []) tt (plain (λ _. u32)) yes, (goes-none-slice 𝓤 H A W 3 (2 ∷ []) tt (plain (λ _. Record′.row)) yes, tt)))) (recent‴.clauses 𝓤 H A mem run)
-    (WpFn 𝓤 H (𝓣 .C) (𝓣 .Λ) code.function) (WpFn-mono 𝓤 H (W .laws) 𝓣 code.function) (walks 𝓤 H A W mem run 𝓣 known-lengths-of known-recent-by)
+meets 𝓤 H A W mem run 𝓣 known-lengths-of known-line-state known-line-refusal known-recent-by =
+    walk-meets 𝓤 H A recent‴.ended stayed W (goes-none 𝓤 H A W 3 (λ _. Store′.row) yes (λ κs x f. refl), (goes-none-slice 𝓤 H A W 3 (0 ∷ []) tt (plain (λ _. u8)) yes, (goes-none-slice 𝓤 H A W 3 (1 ∷ []) tt (plain (λ _. u32)) yes, (goes-none-slice 𝓤 H A W 3 (2 ∷ []) tt (plain (λ _. Record′.row)) yes, (goes-none 𝓤 H A W 3 (λ _. Line′.row) yes (λ κs x f. refl), tt))))) (recent‴.clauses 𝓤 H A mem run)
+    (WpFn 𝓤 H (𝓣 .C) (𝓣 .Λ) code.function) (WpFn-mono 𝓤 H (W .laws) 𝓣 code.function) (walks 𝓤 H A W mem run 𝓣 known-lengths-of known-line-state known-line-refusal known-recent-by)
 
 pub recent-spec : {M : Type 1} → stated.statement M
 unfolding code.routine tablesOf
@@ -127,4 +147,6 @@ recent-spec 𝓤 H 𝓜 𝓖 𝓡 =
     (tables 𝓤 H 𝓜 𝓡 code.env .C) (tables 𝓤 H 𝓜 𝓡 code.env .Λ) #self code.function (code.unfolded 𝓤 H 𝓜 𝓡)
     (meets 𝓤 H (𝓖 .A) (givenOf 𝓤 H 𝓜 𝓖) (𝓜 .mem) (𝓡 .run) (tablesOf 𝓤 H 𝓜 (tables 𝓤 H 𝓜 𝓡 code.env))
     (cited 𝓤 H (Call-lengths-of.Asked 𝓤 H (𝓖 .A) (𝓜 .mem) (𝓡 .run)) 𝓜 𝓡 code.env #lengths-of def-lengths-of.routine code.calls-versions·lengths-of (thm-lengths-of.met 𝓤 H 𝓜 𝓖 𝓡))
+    (cited 𝓤 H (Call-line-state.Asked 𝓤 H (𝓖 .A) (𝓜 .mem) (𝓡 .run)) 𝓜 𝓡 code.env #line-state def-line-state.routine code.calls-versions·line-state (thm-line-state.met 𝓤 H 𝓜 𝓖 𝓡))
+    (cited 𝓤 H (Call-line-refusal.Asked 𝓤 H (𝓖 .A) (𝓜 .mem) (𝓡 .run)) 𝓜 𝓡 code.env #line-refusal def-line-refusal.routine code.calls-versions·line-refusal (thm-line-refusal.met 𝓤 H 𝓜 𝓖 𝓡))
     (cited 𝓤 H (Call-recent-by.Asked 𝓤 H (𝓖 .A) (𝓜 .mem) (𝓡 .run)) 𝓜 𝓡 code.env #recent-by def-recent-by.routine code.calls-versions·recent-by (thm-recent-by.met 𝓤 H 𝓜 𝓖 𝓡)))

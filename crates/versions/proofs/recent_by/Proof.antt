@@ -1,23 +1,18 @@
--- `versions::recent_by` meets its contract: 3 is its only row. Assumes nothing.
-use mathlib.Core.Path.{_≡_, sym, ap, _∙_}
+-- `versions::recent_by` meets its contract. Assumes nothing.
+use mathlib.Core.Path.{_≡_, refl}
 use Prim.Native.Nat.{ℕ}
 use borrow.Author.Needs.{needs}
-use native.Mathlib.Omega.{arith}
-use Rattle.versions.specs.Recent.{latest, recentRefusal, recentBy}
-use Rattle.table.proofs.Table.{none, skip, hit-flag, skip-flag, first}
+use Rattle.versions.specs.Recent.{latest}
+use Rattle.versions.specs.declared.Latest.the-variants as Latest
+use Rattle.table.proofs.Table.{refused-by}
 use Rattle.versions.proofs.recent_by.Statement.{statement}
 use Rattle.versions.proofs.recent_by.Tie as tie
 
-areas-differ-requires : tie.Need-areas-differ-requires
-areas-differ-requires c κs = search needs
-
 returns : tie.Need-returns
-unfolding recentRefusal recentBy
-returns c = ap (λ (k : ℕ). latest k (c .before .before .args .s .published .0)) (first (hit-flag (sym (c .before .areas-differ .ensures) ∙ c .if1 .taken)))
+returns c = refused-by Latest.Refused (λ (n : ℕ). latest n (c .before .args .newest .0)) (λ (n : ℕ). refl) _ (c .if1 .taken)
 
 returns-2 : tie.Need-returns-2
-unfolding recentRefusal recentBy
-returns-2 c = ap (λ (k : ℕ). latest k (c .before .before .before .args .s .published .0)) (first (skip-flag (sym (c .before .before .areas-differ .ensures) ∙ c .before .if1 .left) (skip (omega arith) none)))
+returns-2 c = rw (c .if1 .left)
 
 pub recent-by-spec : {M : Type 1} → statement M
-recent-by-spec = tie.close (tie.spec areas-differ-requires returns returns-2)
+recent-by-spec = tie.close (tie.spec returns returns-2)

@@ -1,22 +1,24 @@
--- `versions::sized_by` meets its contract. Assumes nothing.
-use mathlib.Core.Path.{_≡_, refl}
+-- `versions::sized_by` meets its contract: the number of the rows before stands, or row 19 decides. Assumes nothing.
+use mathlib.Core.Path.{_≡_, refl, sym, ap, _∙_}
 use Prim.Native.Nat.{ℕ}
 use borrow.Author.Needs.{needs}
-use Rattle.versions.specs.Size.{pagesBy, bytesBy, sized, sizedBy}
+use Rattle.versions.specs.Size.{pagesBy, bytesBy, sized}
+use Rattle.versions.specs.declared.Sized.{Sized}
 use Rattle.versions.specs.declared.Sized.the-variants as Sized
-use Rattle.table.proofs.Table.{refused-by}
+use Rattle.table.proofs.Table.{none, hit, skip, orElse-suc, second, refused-by}
 use Rattle.versions.proofs.sized_by.Statement.{statement}
 use Rattle.versions.proofs.sized_by.Tie as tie
 
-size-refusal-requires : tie.Need-size-refusal-requires
-size-refusal-requires c κs = search needs
+-- What the contract answers by the table's number.
+abbrev by-number : tie.Start → ℕ → Sized
+by-number c n = sized n (bytesBy (c .args .size) (pagesBy (c .args .v .0) (c .args .q)))
 
 returns : tie.Need-returns
-unfolding sizedBy
 returns c =
-    let a = c .before .before .args in
-    rw (← c .before .size-refusal .ensures)
-    (refused-by Sized.Refused (λ (n : ℕ). sized n (bytesBy (a .s) (pagesBy (a .v .0) (a .q)))) (λ (n : ℕ). refl) _ (c .if1 .taken))
+    refused-by Sized.Refused (by-number (c .before)) (λ (n : ℕ). refl) _ (c .if1 .taken) ∙ ap (by-number (c .before)) (sym (orElse-suc _ _ (c .if1 .taken)))
+
+returns-2 : tie.Need-returns-2
+returns-2 c = ap (by-number (c .before .before .before)) (second (c .before .before .if1 .left) (hit (c .if2 .taken)))
 
 pages-by-requires : tie.Need-pages-by-requires
 pages-by-requires c κs = search needs
@@ -24,11 +26,12 @@ pages-by-requires c κs = search needs
 bytes-by-requires : tie.Need-bytes-by-requires
 bytes-by-requires c κs = search needs
 
-returns-2 : tie.Need-returns-2
-unfolding sizedBy
-returns-2 c = rw (← c .before .before .before .size-refusal .ensures, c .before .before .if1 .left, ← c .before .pages-by .ensures, ← c .bytes-by .ensures)
+returns-3 : tie.Need-returns-3
+returns-3 c =
+    let at = c .before .before .before .before in
+    rw (c .bytes-by .ensures, c .before .pages-by .ensures) (ap (by-number (at .before)) (second (at .if1 .left) (skip (c .before .before .if2 .left) none)))
 
 pub sized-by-spec : {M : Type 1} → statement M
 sized-by-spec =
     tie.close
-    (tie.spec size-refusal-requires returns pages-by-requires bytes-by-requires returns-2)
+    (tie.spec returns returns-2 pages-by-requires bytes-by-requires returns-3)

@@ -44,23 +44,30 @@ use denote.Triple.Table.{entered, cited}
 use denote.Triple.Walked.{says, needs, Stays, stay-slice, stay-none-slice, stay-none, walkOf, Walks, ends-at, walked, goes-slice, goes-none-slice, goes-none, walk-meets, walked-at, walk-meets-at}
 use Rattle.register.specs.declared.Record.{Record}
 use Rattle.register.proofs.Generated.Kind.Record as Record′
-use Rattle.tree.specs.declared.Version.{Version}
-use Rattle.register.proofs.Generated.Kind.Version as Version′
 use Rattle.tree.specs.declared.Ticket.{Ticket}
 use Rattle.register.proofs.Generated.Kind.Ticket as Ticket′
 use Rattle.tree.specs.declared.PageIndex.{PageIndex}
 use Rattle.register.proofs.Generated.Kind.PageIndex as PageIndex′
+use Rattle.lines.specs.declared.Entries.{Entries}
+use Rattle.register.proofs.Generated.Kind.Entries as Entries′
+use Rattle.register.specs.declared.Part.{Part}
+use Rattle.register.proofs.Generated.Kind.Part as Part′
 use Rattle.walk.specs.declared.Turn.{Turn}
 use Rattle.walk.proofs.Generated.Kind.Turn as Turn′
 use Rattle.tree.specs.declared.NodeAt.{NodeAt}
 use Rattle.walk.proofs.Generated.Kind.NodeAt as NodeAt′
 use Rattle.register.proofs.Generated.Flow.{ref, MutAt, ShrAt, lend-mut, back-mut, lend-shr, back-shr, branches-on, regroup, skips-on, returns-on, plus-nothing, holds, empty, less-fits, is-true, is-false, differ, above-0, twice-not, switches-to, switches-last, big-lit, here, blocks-on, resume, scaled-2, scaled-4, scaled-8, opens-shr, shuts-shr, opens-mut, shuts-mut, puts-mut, keeps-shr, fills, empties, tyAt}
 use Rattle.walk.proofs.Generated.Say.find as find″
-use Rattle.register.proofs.Generated.Say.version_record as version-record″
-use Rattle.register.proofs.Generated.Call.version_record as Call-version-record
-use Rattle.register.proofs.version_record.Symbol as def-version-record
-use Rattle.register.proofs.version_record.Symbol.{name as #version-record}
-use Rattle.register.proofs.version_record.Met as thm-version-record
+use Rattle.walk.proofs.Generated.Say.is_number as is-number″
+use Rattle.walk.proofs.Generated.Call.is_number as Call-is-number
+use Rattle.walk.proofs.is_number.Symbol as def-is-number
+use Rattle.walk.proofs.is_number.Symbol.{name as #is-number}
+use Rattle.walk.proofs.is_number.Met as thm-is-number
+use Rattle.register.proofs.Generated.Say.version_part as version-part″
+use Rattle.register.proofs.Generated.Call.version_part as Call-version-part
+use Rattle.register.proofs.version_part.Symbol as def-version-part
+use Rattle.register.proofs.version_part.Symbol.{name as #version-part}
+use Rattle.register.proofs.version_part.Met as thm-version-part
 use Rattle.walk.proofs.Generated.Say.place_of as place-of″
 use Rattle.walk.proofs.Generated.Call.place_of as Call-place-of
 use Rattle.walk.proofs.place_of.Symbol as def-place-of
@@ -89,17 +96,17 @@ use denote.Memory.{pointee}
 use mathlib.Core.WellFounded.{WellFounded, InvImage·wf}
 use Rattle.walk.proofs.+find.Code.find as parts
 use Rattle.walk.proofs.+find.Proof.Loop as Loop
-use Rattle.walk.proofs.+find.Proof.Asks.{r1, r2, r3, r4}
+use Rattle.walk.proofs.+find.Proof.Asks.{r1, r2, r3, r4, r5}
 
 abbrev stayed : Stays (find‴.ended .signature .params) (find‴.ended .kept)
-stayed = (stay-none-slice (0 ∷ []) tt (plain (λ _. Record′.row)) yes, (stay-none-slice (1 ∷ []) tt (plain (λ _. u32)) yes, (stay-none (λ _. Version′.row) yes, (stay-none (λ _. Version′.row) yes, (stay-none (λ _. u64) yes, (stay-none (λ _. PageIndex′.row) yes, tt))))))
+stayed = (stay-none-slice (0 ∷ []) tt (plain (λ _. Record′.row)) yes, (stay-none-slice (1 ∷ []) tt (plain (λ _. u32)) yes, (stay-none (λ _. u64) yes, (stay-none (λ _. u64) yes, (stay-none (λ _. PageIndex′.row) yes, tt)))))
 
-module _ {M : Type 1} (𝓤 : URA M) (H : Heap 𝓤) (A : Atoms 𝓤) (W : Given 𝓤 H A) (mem : Memory → SProp 𝓤) (run : Routine → Fun 𝓤) (κ·register : Lft) (q·register : Share) (b·register o·register : ℕ) (γ·register : GName) (register : List Record) (κ·nodes : Lft) (q·nodes : Share) (b·nodes o·nodes : ℕ) (γ·nodes : GName) (nodes : List ℕ) (x-known : Version) (x-v : Version) (span : ℕ) (page : PageIndex) (room·register : Room Record′.row (length register)) (room·nodes : Room u32 (length nodes)) (ok·x-known : Is Version′.row x-known (Version′.vals x-known)) (ok·x-v : Is Version′.row x-v (Version′.vals x-v)) (ok·span : Is u64 span (uint-vals w64 span)) (ok·page : Is PageIndex′.row page (PageIndex′.vals page)) (need : find″.req register nodes x-known x-v span page) where
+module _ {M : Type 1} (𝓤 : URA M) (H : Heap 𝓤) (A : Atoms 𝓤) (W : Given 𝓤 H A) (mem : Memory → SProp 𝓤) (run : Routine → Fun 𝓤) (κ·register : Lft) (q·register : Share) (b·register o·register : ℕ) (γ·register : GName) (register : List Record) (κ·nodes : Lft) (q·nodes : Share) (b·nodes o·nodes : ℕ) (γ·nodes : GName) (nodes : List ℕ) (c : ℕ) (span : ℕ) (page : PageIndex) (room·register : Room Record′.row (length register)) (room·nodes : Room u32 (length nodes)) (ok·c : Is u64 c (uint-vals w64 c)) (ok·span : Is u64 span (uint-vals w64 span)) (ok·page : Is PageIndex′.row page (PageIndex′.vals page)) (need : find″.req register nodes c span page) where
   abbrev all-args : Args find‴.signature (κ·register, (κ·nodes, tt))
-  all-args = (ref b·register o·register γ·register register, (ref b·nodes o·nodes γ·nodes nodes, (x-known, (x-v, (span, (page, tt))))))
+  all-args = (ref b·register o·register γ·register register, (ref b·nodes o·nodes γ·nodes nodes, (c, (span, (page, tt)))))
 
   abbrev all-vals : Vals find‴.signature (κ·register, (κ·nodes, tt))
-  all-vals = (sliceVal (b·register, o·register) (length register) ∷ [], (sliceVal (b·nodes, o·nodes) (length nodes) ∷ [], (Version′.mach x-known ∷ [], (Version′.mach x-v ∷ [], (vint w64 span ∷ [], (PageIndex′.mach page ∷ [], tt))))))
+  all-vals = (sliceVal (b·register, o·register) (length register) ∷ [], (sliceVal (b·nodes, o·nodes) (length nodes) ∷ [], (vint w64 c ∷ [], (vint w64 span ∷ [], (PageIndex′.mach page ∷ [], tt)))))
 
   abbrev bound : walkOf 𝓤 H A find‴.ended stayed (find‴.clauses 𝓤 H A mem run) .Ghost
   bound = (((κ·register, (κ·nodes, tt)), (q·register, (q·nodes, tt)), tt, all-args, all-vals), tt)
@@ -107,80 +114,91 @@ module _ {M : Type 1} (𝓤 : URA M) (H : Heap 𝓤) (A : Atoms 𝓤) (W : Given
   abbrev Post : Val → SProp 𝓤
   Post = walkOf 𝓤 H A find‴.ended stayed (find‴.clauses 𝓤 H A mem run) .post bound
 
-  exits : (r : ℕ) → Is u64 r (uint-vals w64 r) → find″.ens register nodes x-known x-v span page r → ent 𝓤 (⋆ 𝓤 H A (‵ (flft κ·register q·register) ∷ ‵ (ShrAt Record′.row κ·register b·register o·register γ·register (length register) register) ∷ ‵ (flft κ·nodes q·nodes) ∷ ‵ (ShrAt u32 κ·nodes b·nodes o·nodes γ·nodes (length nodes) nodes) ∷ [])) (Post (vint w64 r))
+  exits : (r : ℕ) → Is u64 r (uint-vals w64 r) → find″.ens register nodes c span page r → ent 𝓤 (⋆ 𝓤 H A (‵ (flft κ·register q·register) ∷ ‵ (ShrAt Record′.row κ·register b·register o·register γ·register (length register) register) ∷ ‵ (flft κ·nodes q·nodes) ∷ ‵ (ShrAt u32 κ·nodes b·nodes o·nodes γ·nodes (length nodes) nodes) ∷ [])) (Post (vint w64 r))
   exits r ok·r said =
-      qed W (‵ (flft κ·register q·register) ∷ ‵ (ShrAt Record′.row κ·register b·register o·register γ·register (length register) register) ∷ ‵ (flft κ·nodes q·nodes) ∷ ‵ (ShrAt u32 κ·nodes b·nodes o·nodes γ·nodes (length nodes) nodes) ∷ []) ∵ suffices ! _ (ends-at 𝓤 H A find‴.ended stayed (find‴.clauses 𝓤 H A mem run) W bound (vint w64 r) r (tt, (tt, (tt, (tt, (tt, (tt, tt)))))) (tt, (tt, (tt, (tt, (tt, (tt, tt))))))) $ says ! said $
-      nothing ! $ move ! (3 ∷ 0 ∷ []) $ join ! $ move ! (1 ∷ 0 ∷ []) $ join ! $ frame ! $ nothing ! $ owned ! PageIndex′.row (Is PageIndex′.row) (PageIndex′.makes 𝓤 H A) page _ ok·page $ fjoin ! $ owned ! u64 (Is u64) (uint-makes 𝓤 H A W w64) span _ ok·span $ fjoin ! $ owned ! Version′.row (Is Version′.row) (Version′.makes 𝓤 H A) x-v _ ok·x-v $ fjoin ! $ owned ! Version′.row (Is Version′.row) (Version′.makes 𝓤 H A) x-known _ ok·x-known $ fjoin ! $ move ! (2 ∷ 0 ∷ []) $ fjoin ! $ move ! (1 ∷ 0 ∷ []) $ fjoin ! $ frame ! $ owned ! u64 (Is u64) (uint-makes 𝓤 H A W w64) r _ ok·r $ done !
+      qed W (‵ (flft κ·register q·register) ∷ ‵ (ShrAt Record′.row κ·register b·register o·register γ·register (length register) register) ∷ ‵ (flft κ·nodes q·nodes) ∷ ‵ (ShrAt u32 κ·nodes b·nodes o·nodes γ·nodes (length nodes) nodes) ∷ []) ∵ suffices ! _ (ends-at 𝓤 H A find‴.ended stayed (find‴.clauses 𝓤 H A mem run) W bound (vint w64 r) r (tt, (tt, (tt, (tt, (tt, tt))))) (tt, (tt, (tt, (tt, (tt, tt)))))) $ says ! said $
+      nothing ! $ move ! (3 ∷ 0 ∷ []) $ join ! $ move ! (1 ∷ 0 ∷ []) $ join ! $ frame ! $ nothing ! $ owned ! PageIndex′.row (Is PageIndex′.row) (PageIndex′.makes 𝓤 H A) page _ ok·page $ fjoin ! $ owned ! u64 (Is u64) (uint-makes 𝓤 H A W w64) span _ ok·span $ fjoin ! $ owned ! u64 (Is u64) (uint-makes 𝓤 H A W w64) c _ ok·c $ fjoin ! $ move ! (2 ∷ 0 ∷ []) $ fjoin ! $ move ! (1 ∷ 0 ∷ []) $ fjoin ! $ frame ! $ owned ! u64 (Is u64) (uint-makes 𝓤 H A W w64) r _ ok·r $ done !
 
-  walk : (𝓣 : Tables 𝓤 H) (known-version-record : Triple 𝓤 (𝓣 .C #version-record) (Call-version-record.Asked 𝓤 H A mem run)) (known-place-of : Triple 𝓤 (𝓣 .C #place-of) (Call-place-of.Asked 𝓤 H A mem run)) (known-node-at : Triple 𝓤 (𝓣 .C #node-at) (Call-node-at.Asked 𝓤 H A mem run)) (known-turn-at : Triple 𝓤 (𝓣 .C #turn-at) (Call-turn-at.Asked 𝓤 H A mem run)) (known-self : (y : Call-find.Asked 𝓤 H A mem run .Ghost) → Loop.measure-0 (y .0 .3 .0 .now) (y .0 .3 .1 .0 .now) (y .0 .3 .1 .1 .0) (y .0 .3 .1 .1 .1 .0) (y .0 .3 .1 .1 .1 .1 .0) (y .0 .3 .1 .1 .1 .1 .1 .0) < Loop.measure-0 register nodes x-known x-v span page → ent 𝓤 (Call-find.Asked 𝓤 H A mem run .pre y) (𝓣 .C #self (Call-find.Asked 𝓤 H A mem run .args y) (Call-find.Asked 𝓤 H A mem run .post y))) → ent 𝓤 (onEntry 𝓤 H A find‴.signature (κ·register, (κ·nodes, tt)) (q·register, (q·nodes, tt)) all-args all-vals)
-      (WpFn 𝓤 H (𝓣 .C) (𝓣 .Λ) code.find-function (sliceVal (b·register, o·register) (length register) ∷ sliceVal (b·nodes, o·nodes) (length nodes) ∷ Version′.mach x-known ∷ Version′.mach x-v ∷ vint w64 span ∷ PageIndex′.mach page ∷ []) Post)
-  walk 𝓣 known-version-record known-place-of known-node-at known-turn-at known-self =
-      qed W ((‵ (flft κ·register q·register) ⊛ ‵ (flft κ·nodes q·nodes) ⊛ ‵ ftrue) ∷ ‵ (owns (ShrSlice (named 0) κ·register Record′.row ∷ ShrSlice (named 0) κ·nodes u32 ∷ Version′.row ∷ Version′.row ∷ u64 ∷ PageIndex′.row ∷ []) all-args all-vals) ∷ []) ∵ enter ! (𝓣 .C) (𝓣 .Λ) code.find-function (sliceVal (b·register, o·register) (length register) ∷ sliceVal (b·nodes, o·nodes) (length nodes) ∷ Version′.mach x-known ∷ Version′.mach x-v ∷ vint w64 span ∷ PageIndex′.mach page ∷ []) _ $
-      alloc1 ! (λ l₀. alloc1 ! (λ l₁. alloc1 ! (λ l₂. alloc1 ! (λ l₃. alloc1 ! (λ l₄. alloc1 ! (λ l₅. alloc1 ! (λ l₆. alloc1 ! (λ l₇. alloc1 ! (λ l₈. alloc1 ! (λ l₉. alloc1 ! (λ l₁₀. alloc1 ! (λ l₁₁. alloc1 ! (λ l₁₂. alloc1 ! (λ l₁₃. alloc1 ! (λ l₁₄. alloc1 ! (λ l₁₅. alloc0 ! $ params1 ! $
-      pass1 ! (init ! 28 refl (tt, (tt, (record { fits = room·register .0 }, tt)))) $ pass1 ! (init ! 26 refl (tt, (tt, (record { fits = room·nodes .0 }, tt)))) $ pass1 ! (init ! 24 refl (Version′.typed 𝓤 H A W x-known ok·x-known)) $ pass1 ! (init ! 22 refl (Version′.typed 𝓤 H A W x-v ok·x-v)) $ pass1 ! (init ! 20 refl (tt, record { fits = ok·span .1 })) $ pass1 ! (init ! 18 refl (PageIndex′.typed 𝓤 H A W page ok·page)) $ pass0 ! $
-      move ! (33 ∷ []) $ fsplit ! $ move ! (1 ∷ []) $ fsplit ! $ move ! (1 ∷ []) $ fsplit ! $ drop ! $ fsplit ! $ drop ! $ fsplit ! $ drop ! $ fsplit ! $ drop ! $ drop ! $ move ! (34 ∷ []) $ split ! $ move ! (1 ∷ []) $ split ! $ move ! (1 ∷ []) $ drop ! $ move ! (1 ∷ 3 ∷ 0 ∷ 2 ∷ []) $
-      Call-version-record.calls ! mem run (fmOf 𝓤 H (W .laws) 𝓣) known-version-record κ·register q·register b·register o·register γ·register (length register) register x-v ok·x-v (and-then ! (load ! (from ! (stop !)) (look ! 32 refl)) (and-then ! (load ! (from ! (stop !)) (look ! 26 refl)) (no-more !)))
-      (λ ok·1. land ! (from ! (stop !)) (init ! 20 refl (Record′.typed 𝓤 H A W (r1 register nodes x-known x-v span page) ok·1)) $
-      here ! (‵ (flft κ·register q·register) ∷ ‵ (ShrAt Record′.row κ·register b·register o·register γ·register (length register) register) ∷ ‵ (flft κ·nodes q·nodes) ∷ ‵ (ShrAt u32 κ·nodes b·nodes o·nodes γ·nodes (length nodes) nodes) ∷ empty (tyInt w64) l₁₅ (empty (tyInt w64) l₁₄ (empty (tyAt (code.find-function .locals) 13) l₁₃ (empty (tyInt w64) l₁₂ (empty (tyAt (code.find-function .locals) 11) l₁₁ (empty (tyInt w64) l₁₀ (empty (tyAt (code.find-function .locals) 9) l₉ (empty (tyInt w64) l₈ (holds (tyAt (code.find-function .locals) 7) l₇ (Record′.mach (r1 register nodes x-known x-v span page)) (holds (tyAt (code.find-function .locals) 6) l₆ (PageIndex′.mach page) (holds (tyInt w64) l₅ (vint w64 span) (holds (tyAt (code.find-function .locals) 4) l₄ (Version′.mach x-v) (holds (tyAt (code.find-function .locals) 3) l₃ (Version′.mach x-known) (holds (sliceTy (tyRef (named 1) imm (pointee (u32 .written)))) l₂ (sliceVal (b·nodes, o·nodes) (length nodes)) (holds (sliceTy (tyRef (named 0) imm (pointee (Record′.row .written)))) l₁ (sliceVal (b·register, o·register) (length register)) (empty (tyInt w64) l₀ [])))))))))))))))) $
-      Call-place-of.calls ! mem run (fmOf 𝓤 H (W .laws) 𝓣) known-place-of (r1 register nodes x-known x-v span page) x-known x-v page span ok·1 ok·x-known ok·x-v ok·page ok·span (Facts.place-of-1 register nodes x-known x-v span page (room·register .0) (room·nodes .0) ok·x-known ok·x-v (ok·span .1) ok·page need ok·1) (and-then ! (load ! (from ! (stop !)) (look ! 21 refl)) (and-then ! (load ! (from ! (stop !)) (look ! 29 refl)) (and-then ! (load ! (from ! (stop !)) (look ! 27 refl)) (and-then ! (load ! (from ! (stop !)) (look ! 23 refl)) (and-then ! (load ! (from ! (stop !)) (look ! 25 refl)) (no-more !))))))
-      (λ ok·2. land ! (from ! (stop !)) (init ! 18 refl (tt, record { fits = ok·2 .1 })) $
-      here ! (‵ (flft κ·register q·register) ∷ ‵ (ShrAt Record′.row κ·register b·register o·register γ·register (length register) register) ∷ ‵ (flft κ·nodes q·nodes) ∷ ‵ (ShrAt u32 κ·nodes b·nodes o·nodes γ·nodes (length nodes) nodes) ∷ empty (tyInt w64) l₁₅ (empty (tyInt w64) l₁₄ (empty (tyAt (code.find-function .locals) 13) l₁₃ (empty (tyInt w64) l₁₂ (empty (tyAt (code.find-function .locals) 11) l₁₁ (empty (tyInt w64) l₁₀ (empty (tyAt (code.find-function .locals) 9) l₉ (holds (tyInt w64) l₈ (vint w64 (r2 register nodes x-known x-v span page)) (holds (tyAt (code.find-function .locals) 7) l₇ (Record′.mach (r1 register nodes x-known x-v span page)) (holds (tyAt (code.find-function .locals) 6) l₆ (PageIndex′.mach page) (holds (tyInt w64) l₅ (vint w64 span) (holds (tyAt (code.find-function .locals) 4) l₄ (Version′.mach x-v) (holds (tyAt (code.find-function .locals) 3) l₃ (Version′.mach x-known) (holds (sliceTy (tyRef (named 1) imm (pointee (u32 .written)))) l₂ (sliceVal (b·nodes, o·nodes) (length nodes)) (holds (sliceTy (tyRef (named 0) imm (pointee (Record′.row .written)))) l₁ (sliceVal (b·register, o·register) (length register)) (empty (tyInt w64) l₀ [])))))))))))))))) $
+  walk : (𝓣 : Tables 𝓤 H) (known-is-number : Triple 𝓤 (𝓣 .C #is-number) (Call-is-number.Asked 𝓤 H A mem run)) (known-version-part : Triple 𝓤 (𝓣 .C #version-part) (Call-version-part.Asked 𝓤 H A mem run)) (known-place-of : Triple 𝓤 (𝓣 .C #place-of) (Call-place-of.Asked 𝓤 H A mem run)) (known-node-at : Triple 𝓤 (𝓣 .C #node-at) (Call-node-at.Asked 𝓤 H A mem run)) (known-turn-at : Triple 𝓤 (𝓣 .C #turn-at) (Call-turn-at.Asked 𝓤 H A mem run)) (known-self : (y : Call-find.Asked 𝓤 H A mem run .Ghost) → Loop.measure-0 (y .0 .3 .0 .now) (y .0 .3 .1 .0 .now) (y .0 .3 .1 .1 .0) (y .0 .3 .1 .1 .1 .0) (y .0 .3 .1 .1 .1 .1 .0) < Loop.measure-0 register nodes c span page → ent 𝓤 (Call-find.Asked 𝓤 H A mem run .pre y) (𝓣 .C #self (Call-find.Asked 𝓤 H A mem run .args y) (Call-find.Asked 𝓤 H A mem run .post y))) → ent 𝓤 (onEntry 𝓤 H A find‴.signature (κ·register, (κ·nodes, tt)) (q·register, (q·nodes, tt)) all-args all-vals)
+      (WpFn 𝓤 H (𝓣 .C) (𝓣 .Λ) code.find-function (sliceVal (b·register, o·register) (length register) ∷ sliceVal (b·nodes, o·nodes) (length nodes) ∷ vint w64 c ∷ vint w64 span ∷ PageIndex′.mach page ∷ []) Post)
+  walk 𝓣 known-is-number known-version-part known-place-of known-node-at known-turn-at known-self =
+      qed W ((‵ (flft κ·register q·register) ⊛ ‵ (flft κ·nodes q·nodes) ⊛ ‵ ftrue) ∷ ‵ (owns (ShrSlice (named 0) κ·register Record′.row ∷ ShrSlice (named 0) κ·nodes u32 ∷ u64 ∷ u64 ∷ PageIndex′.row ∷ []) all-args all-vals) ∷ []) ∵ enter ! (𝓣 .C) (𝓣 .Λ) code.find-function (sliceVal (b·register, o·register) (length register) ∷ sliceVal (b·nodes, o·nodes) (length nodes) ∷ vint w64 c ∷ vint w64 span ∷ PageIndex′.mach page ∷ []) _ $
+      alloc1 ! (λ l₀. alloc1 ! (λ l₁. alloc1 ! (λ l₂. alloc1 ! (λ l₃. alloc1 ! (λ l₄. alloc1 ! (λ l₅. alloc1 ! (λ l₆. alloc1 ! (λ l₇. alloc1 ! (λ l₈. alloc1 ! (λ l₉. alloc1 ! (λ l₁₀. alloc1 ! (λ l₁₁. alloc1 ! (λ l₁₂. alloc1 ! (λ l₁₃. alloc1 ! (λ l₁₄. alloc1 ! (λ l₁₅. alloc1 ! (λ l₁₆. alloc0 ! $ params1 ! $
+      pass1 ! (init ! 30 refl (tt, (tt, (record { fits = room·register .0 }, tt)))) $ pass1 ! (init ! 28 refl (tt, (tt, (record { fits = room·nodes .0 }, tt)))) $ pass1 ! (init ! 26 refl (tt, record { fits = ok·c .1 })) $ pass1 ! (init ! 24 refl (tt, record { fits = ok·span .1 })) $ pass1 ! (init ! 22 refl (PageIndex′.typed 𝓤 H A W page ok·page)) $ pass0 ! $
+      move ! (35 ∷ []) $ fsplit ! $ move ! (1 ∷ []) $ fsplit ! $ move ! (1 ∷ []) $ fsplit ! $ drop ! $ fsplit ! $ drop ! $ fsplit ! $ drop ! $ drop ! $ move ! (36 ∷ []) $ split ! $ move ! (1 ∷ []) $ split ! $ move ! (1 ∷ []) $ drop ! $ move ! (1 ∷ 3 ∷ 0 ∷ 2 ∷ []) $
+      Call-is-number.calls ! mem run (fmOf 𝓤 H (W .laws) 𝓣) known-is-number c ok·c (and-then ! (load ! (from ! (stop !)) (look ! 31 refl)) (no-more !))
+      (λ ok·1. land ! (from ! (stop !)) (init ! 12 refl (tt, tt)) $
+      here ! (‵ (flft κ·register q·register) ∷ ‵ (ShrAt Record′.row κ·register b·register o·register γ·register (length register) register) ∷ ‵ (flft κ·nodes q·nodes) ∷ ‵ (ShrAt u32 κ·nodes b·nodes o·nodes γ·nodes (length nodes) nodes) ∷ empty (tyInt w64) l₁₆ (empty (tyInt w64) l₁₅ (empty (tyAt (code.find-function .locals) 14) l₁₄ (empty tyBool l₁₃ (holds tyBool l₁₂ (vbool (r1 register nodes c span page)) (empty (tyInt w64) l₁₁ (empty (tyInt w64) l₁₀ (empty (tyInt w64) l₉ (empty (tyAt (code.find-function .locals) 8) l₈ (empty (tyInt w64) l₇ (empty (tyAt (code.find-function .locals) 6) l₆ (holds (tyAt (code.find-function .locals) 5) l₅ (PageIndex′.mach page) (holds (tyInt w64) l₄ (vint w64 span) (holds (tyInt w64) l₃ (vint w64 c) (holds (sliceTy (tyRef (named 1) imm (pointee (u32 .written)))) l₂ (sliceVal (b·nodes, o·nodes) (length nodes)) (holds (sliceTy (tyRef (named 0) imm (pointee (Record′.row .written)))) l₁ (sliceVal (b·register, o·register) (length register)) (empty (tyInt w64) l₀ []))))))))))))))))) $
+      assigns ! (un ! (load ! (from ! (stop !)) (look ! 12 refl)) tt) (from ! (stop !)) (init ! 10 refl (tt, tt)) $
+      branches-on ! (load ! (from ! (stop !)) (look ! 10 refl))
+      (λ h·1. regroup ! $
+      assigns ! (of-opd ! (neg-lit ! tt)) (from ! (stop !)) (init ! 36 refl (tt, record { fits = lit< tt })) $
+      returns-on ! (look ! 36 refl) $
+      move ! (36 ∷ 37 ∷ []) $ forget ! 0 refl $ free1 ! $ move ! (34 ∷ 35 ∷ []) $ forget ! 0 refl $ free1 ! $ move ! (32 ∷ 33 ∷ []) $ forget ! 0 refl $ free1 ! $ move ! (30 ∷ 31 ∷ []) $ forget ! 0 refl $ free1 ! $ move ! (28 ∷ 29 ∷ []) $ forget ! 0 refl $ free1 ! $ move ! (26 ∷ 27 ∷ []) $ forget ! 0 refl $ free1 ! $ move ! (24 ∷ 25 ∷ []) $ free1 ! $ move ! (22 ∷ 23 ∷ []) $ free1 ! $ move ! (20 ∷ 21 ∷ []) $ free1 ! $ move ! (18 ∷ 19 ∷ []) $ free1 ! $ move ! (16 ∷ 17 ∷ []) $ free1 ! $ move ! (14 ∷ 15 ∷ []) $ free1 ! $ move ! (12 ∷ 13 ∷ []) $ forget ! 0 refl $ free1 ! $ move ! (10 ∷ 11 ∷ []) $ forget ! 0 refl $ free1 ! $ move ! (8 ∷ 9 ∷ []) $ free1 ! $ move ! (6 ∷ 7 ∷ []) $ free1 ! $ move ! (4 ∷ 5 ∷ []) $ free1 ! $ free0 ! $ by ! (exits 18446744073709551615 (refl, lit< tt) (Facts.exit-1 register nodes c span page (room·register .0) (room·nodes .0) (ok·c .1) (ok·span .1) ok·page need (is-true (not (r1 register nodes c span page)) h·1))))
+      (λ h·1. skips-on ! $
+      Call-version-part.calls ! mem run (fmOf 𝓤 H (W .laws) 𝓣) known-version-part κ·register q·register b·register o·register γ·register (length register) register c ok·c (and-then ! (load ! (from ! (stop !)) (look ! 34 refl)) (and-then ! (load ! (from ! (stop !)) (look ! 30 refl)) (no-more !)))
+      (λ ok·2. land ! (from ! (stop !)) (init ! 24 refl (Part′.typed 𝓤 H A W (r2 register nodes c span page) ok·2)) $
+      here ! (‵ (flft κ·register q·register) ∷ ‵ (ShrAt Record′.row κ·register b·register o·register γ·register (length register) register) ∷ ‵ (flft κ·nodes q·nodes) ∷ ‵ (ShrAt u32 κ·nodes b·nodes o·nodes γ·nodes (length nodes) nodes) ∷ empty (tyInt w64) l₁₆ (empty (tyInt w64) l₁₅ (empty (tyAt (code.find-function .locals) 14) l₁₄ (holds tyBool l₁₃ (vbool (not (r1 register nodes c span page))) (holds tyBool l₁₂ (vbool (r1 register nodes c span page)) (empty (tyInt w64) l₁₁ (empty (tyInt w64) l₁₀ (empty (tyInt w64) l₉ (empty (tyAt (code.find-function .locals) 8) l₈ (empty (tyInt w64) l₇ (holds (tyAt (code.find-function .locals) 6) l₆ (Part′.mach (r2 register nodes c span page)) (holds (tyAt (code.find-function .locals) 5) l₅ (PageIndex′.mach page) (holds (tyInt w64) l₄ (vint w64 span) (holds (tyInt w64) l₃ (vint w64 c) (holds (sliceTy (tyRef (named 1) imm (pointee (u32 .written)))) l₂ (sliceVal (b·nodes, o·nodes) (length nodes)) (holds (sliceTy (tyRef (named 0) imm (pointee (Record′.row .written)))) l₁ (sliceVal (b·register, o·register) (length register)) (empty (tyInt w64) l₀ []))))))))))))))))) $
+      Call-place-of.calls ! mem run (fmOf 𝓤 H (W .laws) 𝓣) known-place-of (r2 register nodes c span page) c page span ok·2 ok·c ok·page ok·span (Facts.place-of-1 register nodes c span page (room·register .0) (room·nodes .0) (ok·c .1) (ok·span .1) ok·page need (is-false (not (r1 register nodes c span page)) h·1) ok·2) (and-then ! (load ! (from ! (stop !)) (look ! 25 refl)) (and-then ! (load ! (from ! (stop !)) (look ! 31 refl)) (and-then ! (load ! (from ! (stop !)) (look ! 27 refl)) (and-then ! (load ! (from ! (stop !)) (look ! 29 refl)) (no-more !)))))
+      (λ ok·3. land ! (from ! (stop !)) (init ! 22 refl (tt, record { fits = ok·3 .1 })) $
+      here ! (‵ (flft κ·register q·register) ∷ ‵ (ShrAt Record′.row κ·register b·register o·register γ·register (length register) register) ∷ ‵ (flft κ·nodes q·nodes) ∷ ‵ (ShrAt u32 κ·nodes b·nodes o·nodes γ·nodes (length nodes) nodes) ∷ empty (tyInt w64) l₁₆ (empty (tyInt w64) l₁₅ (empty (tyAt (code.find-function .locals) 14) l₁₄ (holds tyBool l₁₃ (vbool (not (r1 register nodes c span page))) (holds tyBool l₁₂ (vbool (r1 register nodes c span page)) (empty (tyInt w64) l₁₁ (empty (tyInt w64) l₁₀ (empty (tyInt w64) l₉ (empty (tyAt (code.find-function .locals) 8) l₈ (holds (tyInt w64) l₇ (vint w64 (r3 register nodes c span page)) (holds (tyAt (code.find-function .locals) 6) l₆ (Part′.mach (r2 register nodes c span page)) (holds (tyAt (code.find-function .locals) 5) l₅ (PageIndex′.mach page) (holds (tyInt w64) l₄ (vint w64 span) (holds (tyInt w64) l₃ (vint w64 c) (holds (sliceTy (tyRef (named 1) imm (pointee (u32 .written)))) l₂ (sliceVal (b·nodes, o·nodes) (length nodes)) (holds (sliceTy (tyRef (named 0) imm (pointee (Record′.row .written)))) l₁ (sliceVal (b·register, o·register) (length register)) (empty (tyInt w64) l₀ []))))))))))))))))) $
       move ! (2 ∷ 3 ∷ []) $
-      Call-node-at.calls ! mem run (fmOf 𝓤 H (W .laws) 𝓣) known-node-at κ·nodes q·nodes b·nodes o·nodes γ·nodes (length nodes) nodes (r2 register nodes x-known x-v span page) ok·2 (and-then ! (load ! (from ! (stop !)) (look ! 30 refl)) (and-then ! (load ! (from ! (stop !)) (look ! 18 refl)) (no-more !)))
-      (λ ok·3. move ! (2 ∷ 3 ∷ 0 ∷ 1 ∷ []) $ land ! (from ! (stop !)) (init ! 8 refl (NodeAt′.typed 𝓤 H A W (r3 register nodes x-known x-v span page) ok·3)) $
-      here ! (‵ (flft κ·register q·register) ∷ ‵ (ShrAt Record′.row κ·register b·register o·register γ·register (length register) register) ∷ ‵ (flft κ·nodes q·nodes) ∷ ‵ (ShrAt u32 κ·nodes b·nodes o·nodes γ·nodes (length nodes) nodes) ∷ empty (tyInt w64) l₁₅ (empty (tyInt w64) l₁₄ (holds (tyAt (code.find-function .locals) 13) l₁₃ (NodeAt′.mach (r3 register nodes x-known x-v span page)) (empty (tyInt w64) l₁₂ (empty (tyAt (code.find-function .locals) 11) l₁₁ (empty (tyInt w64) l₁₀ (empty (tyAt (code.find-function .locals) 9) l₉ (holds (tyInt w64) l₈ (vint w64 (r2 register nodes x-known x-v span page)) (holds (tyAt (code.find-function .locals) 7) l₇ (Record′.mach (r1 register nodes x-known x-v span page)) (holds (tyAt (code.find-function .locals) 6) l₆ (PageIndex′.mach page) (holds (tyInt w64) l₅ (vint w64 span) (holds (tyAt (code.find-function .locals) 4) l₄ (Version′.mach x-v) (holds (tyAt (code.find-function .locals) 3) l₃ (Version′.mach x-known) (holds (sliceTy (tyRef (named 1) imm (pointee (u32 .written)))) l₂ (sliceVal (b·nodes, o·nodes) (length nodes)) (holds (sliceTy (tyRef (named 0) imm (pointee (Record′.row .written)))) l₁ (sliceVal (b·register, o·register) (length register)) (empty (tyInt w64) l₀ [])))))))))))))))) $
-      Call-turn-at.calls ! mem run (fmOf 𝓤 H (W .laws) 𝓣) known-turn-at (r3 register nodes x-known x-v span page) page span ok·3 ok·page ok·span (Facts.turn-at-1 register nodes x-known x-v span page (room·register .0) (room·nodes .0) ok·x-known ok·x-v (ok·span .1) ok·page need ok·1 (ok·2 .1) ok·3) (and-then ! (load ! (from ! (stop !)) (look ! 9 refl)) (and-then ! (load ! (from ! (stop !)) (look ! 23 refl)) (and-then ! (load ! (from ! (stop !)) (look ! 25 refl)) (no-more !))))
-      (λ ok·4. land ! (from ! (stop !)) (init ! 16 refl (Turn′.typed 𝓤 H A W (r4 register nodes x-known x-v span page) ok·4)) $
-      here ! (‵ (flft κ·register q·register) ∷ ‵ (ShrAt Record′.row κ·register b·register o·register γ·register (length register) register) ∷ ‵ (flft κ·nodes q·nodes) ∷ ‵ (ShrAt u32 κ·nodes b·nodes o·nodes γ·nodes (length nodes) nodes) ∷ empty (tyInt w64) l₁₅ (empty (tyInt w64) l₁₄ (holds (tyAt (code.find-function .locals) 13) l₁₃ (NodeAt′.mach (r3 register nodes x-known x-v span page)) (empty (tyInt w64) l₁₂ (empty (tyAt (code.find-function .locals) 11) l₁₁ (empty (tyInt w64) l₁₀ (holds (tyAt (code.find-function .locals) 9) l₉ (Turn′.mach (r4 register nodes x-known x-v span page)) (holds (tyInt w64) l₈ (vint w64 (r2 register nodes x-known x-v span page)) (holds (tyAt (code.find-function .locals) 7) l₇ (Record′.mach (r1 register nodes x-known x-v span page)) (holds (tyAt (code.find-function .locals) 6) l₆ (PageIndex′.mach page) (holds (tyInt w64) l₅ (vint w64 span) (holds (tyAt (code.find-function .locals) 4) l₄ (Version′.mach x-v) (holds (tyAt (code.find-function .locals) 3) l₃ (Version′.mach x-known) (holds (sliceTy (tyRef (named 1) imm (pointee (u32 .written)))) l₂ (sliceVal (b·nodes, o·nodes) (length nodes)) (holds (sliceTy (tyRef (named 0) imm (pointee (Record′.row .written)))) l₁ (sliceVal (b·register, o·register) (length register)) (empty (tyInt w64) l₀ [])))))))))))))))) $
-      Turn′.cases ! (r4 register nodes x-known x-v span page)
-      (λ y1-0 m·1. rewrite ! 16 (λ (u : Turn). ‵ (fat fullShare Turn′.ty l₉ 0 (Turn′.mach u))) m·1 refl $ switches-to ! 0 (load ! (from ! (vrt ! refl (fld ! refl (stop !)))) (look-tag ! 16 (whole !))) (
+      Call-node-at.calls ! mem run (fmOf 𝓤 H (W .laws) 𝓣) known-node-at κ·nodes q·nodes b·nodes o·nodes γ·nodes (length nodes) nodes (r3 register nodes c span page) ok·3 (and-then ! (load ! (from ! (stop !)) (look ! 32 refl)) (and-then ! (load ! (from ! (stop !)) (look ! 22 refl)) (no-more !)))
+      (λ ok·4. move ! (2 ∷ 3 ∷ 0 ∷ 1 ∷ []) $ land ! (from ! (stop !)) (init ! 8 refl (NodeAt′.typed 𝓤 H A W (r4 register nodes c span page) ok·4)) $
+      here ! (‵ (flft κ·register q·register) ∷ ‵ (ShrAt Record′.row κ·register b·register o·register γ·register (length register) register) ∷ ‵ (flft κ·nodes q·nodes) ∷ ‵ (ShrAt u32 κ·nodes b·nodes o·nodes γ·nodes (length nodes) nodes) ∷ empty (tyInt w64) l₁₆ (empty (tyInt w64) l₁₅ (holds (tyAt (code.find-function .locals) 14) l₁₄ (NodeAt′.mach (r4 register nodes c span page)) (holds tyBool l₁₃ (vbool (not (r1 register nodes c span page))) (holds tyBool l₁₂ (vbool (r1 register nodes c span page)) (empty (tyInt w64) l₁₁ (empty (tyInt w64) l₁₀ (empty (tyInt w64) l₉ (empty (tyAt (code.find-function .locals) 8) l₈ (holds (tyInt w64) l₇ (vint w64 (r3 register nodes c span page)) (holds (tyAt (code.find-function .locals) 6) l₆ (Part′.mach (r2 register nodes c span page)) (holds (tyAt (code.find-function .locals) 5) l₅ (PageIndex′.mach page) (holds (tyInt w64) l₄ (vint w64 span) (holds (tyInt w64) l₃ (vint w64 c) (holds (sliceTy (tyRef (named 1) imm (pointee (u32 .written)))) l₂ (sliceVal (b·nodes, o·nodes) (length nodes)) (holds (sliceTy (tyRef (named 0) imm (pointee (Record′.row .written)))) l₁ (sliceVal (b·register, o·register) (length register)) (empty (tyInt w64) l₀ []))))))))))))))))) $
+      Call-turn-at.calls ! mem run (fmOf 𝓤 H (W .laws) 𝓣) known-turn-at (r4 register nodes c span page) page span ok·4 ok·page ok·span (Facts.turn-at-1 register nodes c span page (room·register .0) (room·nodes .0) (ok·c .1) (ok·span .1) ok·page need (is-false (not (r1 register nodes c span page)) h·1) ok·2 (ok·3 .1) ok·4) (and-then ! (load ! (from ! (stop !)) (look ! 9 refl)) (and-then ! (load ! (from ! (stop !)) (look ! 27 refl)) (and-then ! (load ! (from ! (stop !)) (look ! 29 refl)) (no-more !))))
+      (λ ok·5. land ! (from ! (stop !)) (init ! 20 refl (Turn′.typed 𝓤 H A W (r5 register nodes c span page) ok·5)) $
+      here ! (‵ (flft κ·register q·register) ∷ ‵ (ShrAt Record′.row κ·register b·register o·register γ·register (length register) register) ∷ ‵ (flft κ·nodes q·nodes) ∷ ‵ (ShrAt u32 κ·nodes b·nodes o·nodes γ·nodes (length nodes) nodes) ∷ empty (tyInt w64) l₁₆ (empty (tyInt w64) l₁₅ (holds (tyAt (code.find-function .locals) 14) l₁₄ (NodeAt′.mach (r4 register nodes c span page)) (holds tyBool l₁₃ (vbool (not (r1 register nodes c span page))) (holds tyBool l₁₂ (vbool (r1 register nodes c span page)) (empty (tyInt w64) l₁₁ (empty (tyInt w64) l₁₀ (empty (tyInt w64) l₉ (holds (tyAt (code.find-function .locals) 8) l₈ (Turn′.mach (r5 register nodes c span page)) (holds (tyInt w64) l₇ (vint w64 (r3 register nodes c span page)) (holds (tyAt (code.find-function .locals) 6) l₆ (Part′.mach (r2 register nodes c span page)) (holds (tyAt (code.find-function .locals) 5) l₅ (PageIndex′.mach page) (holds (tyInt w64) l₄ (vint w64 span) (holds (tyInt w64) l₃ (vint w64 c) (holds (sliceTy (tyRef (named 1) imm (pointee (u32 .written)))) l₂ (sliceVal (b·nodes, o·nodes) (length nodes)) (holds (sliceTy (tyRef (named 0) imm (pointee (Record′.row .written)))) l₁ (sliceVal (b·register, o·register) (length register)) (empty (tyInt w64) l₀ []))))))))))))))))) $
+      Turn′.cases ! (r5 register nodes c span page)
+      (λ y2-0 m·2. rewrite ! 20 (λ (u : Turn). ‵ (fat fullShare Turn′.ty l₈ 0 (Turn′.mach u))) m·2 refl $ switches-to ! 0 (load ! (from ! (vrt ! refl (fld ! refl (stop !)))) (look-tag ! 20 (whole !))) (
       regroup ! $
-      assigns ! (of-opd ! (load ! (from ! (vrt ! refl (fld ! refl (stop !)))) (look-in ! 16 (in-variant ! 0 0 refl refl (whole !))))) (from ! (stop !)) (init ! 14 refl (tt, record { fits = (Turn′.ok-Leaf-0 y1-0 (subst Turn′.Ok m·1 ok·4)) .1 })) $
+      assigns ! (of-opd ! (load ! (from ! (vrt ! refl (fld ! refl (stop !)))) (look-in ! 20 (in-variant ! 0 0 refl refl (whole !))))) (from ! (stop !)) (init ! 18 refl (tt, record { fits = (Turn′.ok-Leaf-0 y2-0 (subst Turn′.Ok m·2 ok·5)) .1 })) $
       regroup ! $
-      assigns ! (bin ! (load ! (from ! (fld ! refl (stop !))) (look-in ! 26 (sub ! 0 refl (whole !)))) (big-lit ! (record { fits = lit< tt })) record { fits = Facts.mul-1 register nodes x-known x-v span page (room·register .0) (room·nodes .0) ok·x-known ok·x-v (ok·span .1) ok·page need ok·1 (ok·2 .1) ok·3 ok·4 y1-0 m·1 ((Turn′.ok-Leaf-0 y1-0 (subst Turn′.Ok m·1 ok·4)) .1) }) (from ! (stop !)) (init ! 4 refl (tt, record { fits = Facts.mul-1 register nodes x-known x-v span page (room·register .0) (room·nodes .0) ok·x-known ok·x-v (ok·span .1) ok·page need ok·1 (ok·2 .1) ok·3 ok·4 y1-0 m·1 ((Turn′.ok-Leaf-0 y1-0 (subst Turn′.Ok m·1 ok·4)) .1) })) $
-      assigns ! (bin ! (load ! (from ! (stop !)) (look ! 4 refl)) (load ! (from ! (stop !)) (look ! 14 refl)) record { fits = Facts.add-1 register nodes x-known x-v span page (room·register .0) (room·nodes .0) ok·x-known ok·x-v (ok·span .1) ok·page need ok·1 (ok·2 .1) ok·3 ok·4 y1-0 m·1 ((Turn′.ok-Leaf-0 y1-0 (subst Turn′.Ok m·1 ok·4)) .1) }) (from ! (stop !)) (init ! 6 refl (tt, record { fits = Facts.add-1 register nodes x-known x-v span page (room·register .0) (room·nodes .0) ok·x-known ok·x-v (ok·span .1) ok·page need ok·1 (ok·2 .1) ok·3 ok·4 y1-0 m·1 ((Turn′.ok-Leaf-0 y1-0 (subst Turn′.Ok m·1 ok·4)) .1) })) $
-      assigns ! (of-opd ! (load ! (from ! (stop !)) (look ! 6 refl))) (from ! (stop !)) (init ! 34 refl (tt, record { fits = Facts.add-1 register nodes x-known x-v span page (room·register .0) (room·nodes .0) ok·x-known ok·x-v (ok·span .1) ok·page need ok·1 (ok·2 .1) ok·3 ok·4 y1-0 m·1 ((Turn′.ok-Leaf-0 y1-0 (subst Turn′.Ok m·1 ok·4)) .1) })) $
-      returns ! (look ! 34 refl) $
-      move ! (34 ∷ 35 ∷ []) $ forget ! 0 refl $ free1 ! $ move ! (32 ∷ 33 ∷ []) $ forget ! 0 refl $ free1 ! $ move ! (30 ∷ 31 ∷ []) $ forget ! 0 refl $ free1 ! $ move ! (28 ∷ 29 ∷ []) $ forget ! 0 refl $ free1 ! $ move ! (26 ∷ 27 ∷ []) $ forget ! 0 refl $ free1 ! $ move ! (24 ∷ 25 ∷ []) $ forget ! 0 refl $ free1 ! $ move ! (22 ∷ 23 ∷ []) $ forget ! 0 refl $ free1 ! $ move ! (20 ∷ 21 ∷ []) $ forget ! 0 refl $ free1 ! $ move ! (18 ∷ 19 ∷ []) $ forget ! 0 refl $ free1 ! $ move ! (16 ∷ 17 ∷ []) $ forget ! 0 refl $ free1 ! $ move ! (14 ∷ 15 ∷ []) $ forget ! 0 refl $ free1 ! $ move ! (12 ∷ 13 ∷ []) $ free1 ! $ move ! (10 ∷ 11 ∷ []) $ free1 ! $ move ! (8 ∷ 9 ∷ []) $ forget ! 0 refl $ free1 ! $ move ! (6 ∷ 7 ∷ []) $ forget ! 0 refl $ free1 ! $ move ! (4 ∷ 5 ∷ []) $ forget ! 0 refl $ free1 ! $ free0 ! $ by ! (exits (((x-v .0) * 4294967296) + y1-0) (refl, Facts.add-1 register nodes x-known x-v span page (room·register .0) (room·nodes .0) ok·x-known ok·x-v (ok·span .1) ok·page need ok·1 (ok·2 .1) ok·3 ok·4 y1-0 m·1 ((Turn′.ok-Leaf-0 y1-0 (subst Turn′.Ok m·1 ok·4)) .1)) (Facts.exit-1 register nodes x-known x-v span page (room·register .0) (room·nodes .0) ok·x-known ok·x-v (ok·span .1) ok·page need ok·1 (ok·2 .1) ok·3 ok·4 y1-0 m·1 ((Turn′.ok-Leaf-0 y1-0 (subst Turn′.Ok m·1 ok·4)) .1)))))
-      (λ y1-0 y1-1 m·1. rewrite ! 16 (λ (u : Turn). ‵ (fat fullShare Turn′.ty l₉ 0 (Turn′.mach u))) m·1 refl $ switches-to ! 1 (load ! (from ! (vrt ! refl (fld ! refl (stop !)))) (look-tag ! 16 (whole !))) (
+      assigns ! (bin ! (load ! (from ! (stop !)) (look ! 30 refl)) (big-lit ! (record { fits = lit< tt })) record { fits = Facts.mul-1 register nodes c span page (room·register .0) (room·nodes .0) (ok·c .1) (ok·span .1) ok·page need (is-false (not (r1 register nodes c span page)) h·1) ok·2 (ok·3 .1) ok·4 ok·5 y2-0 m·2 ((Turn′.ok-Leaf-0 y2-0 (subst Turn′.Ok m·2 ok·5)) .1) }) (from ! (stop !)) (init ! 4 refl (tt, record { fits = Facts.mul-1 register nodes c span page (room·register .0) (room·nodes .0) (ok·c .1) (ok·span .1) ok·page need (is-false (not (r1 register nodes c span page)) h·1) ok·2 (ok·3 .1) ok·4 ok·5 y2-0 m·2 ((Turn′.ok-Leaf-0 y2-0 (subst Turn′.Ok m·2 ok·5)) .1) })) $
+      assigns ! (bin ! (load ! (from ! (stop !)) (look ! 4 refl)) (load ! (from ! (stop !)) (look ! 18 refl)) record { fits = Facts.add-1 register nodes c span page (room·register .0) (room·nodes .0) (ok·c .1) (ok·span .1) ok·page need (is-false (not (r1 register nodes c span page)) h·1) ok·2 (ok·3 .1) ok·4 ok·5 y2-0 m·2 ((Turn′.ok-Leaf-0 y2-0 (subst Turn′.Ok m·2 ok·5)) .1) }) (from ! (stop !)) (init ! 6 refl (tt, record { fits = Facts.add-1 register nodes c span page (room·register .0) (room·nodes .0) (ok·c .1) (ok·span .1) ok·page need (is-false (not (r1 register nodes c span page)) h·1) ok·2 (ok·3 .1) ok·4 ok·5 y2-0 m·2 ((Turn′.ok-Leaf-0 y2-0 (subst Turn′.Ok m·2 ok·5)) .1) })) $
+      assigns ! (of-opd ! (load ! (from ! (stop !)) (look ! 6 refl))) (from ! (stop !)) (init ! 36 refl (tt, record { fits = Facts.add-1 register nodes c span page (room·register .0) (room·nodes .0) (ok·c .1) (ok·span .1) ok·page need (is-false (not (r1 register nodes c span page)) h·1) ok·2 (ok·3 .1) ok·4 ok·5 y2-0 m·2 ((Turn′.ok-Leaf-0 y2-0 (subst Turn′.Ok m·2 ok·5)) .1) })) $
+      returns ! (look ! 36 refl) $
+      move ! (36 ∷ 37 ∷ []) $ forget ! 0 refl $ free1 ! $ move ! (34 ∷ 35 ∷ []) $ forget ! 0 refl $ free1 ! $ move ! (32 ∷ 33 ∷ []) $ forget ! 0 refl $ free1 ! $ move ! (30 ∷ 31 ∷ []) $ forget ! 0 refl $ free1 ! $ move ! (28 ∷ 29 ∷ []) $ forget ! 0 refl $ free1 ! $ move ! (26 ∷ 27 ∷ []) $ forget ! 0 refl $ free1 ! $ move ! (24 ∷ 25 ∷ []) $ forget ! 0 refl $ free1 ! $ move ! (22 ∷ 23 ∷ []) $ forget ! 0 refl $ free1 ! $ move ! (20 ∷ 21 ∷ []) $ forget ! 0 refl $ free1 ! $ move ! (18 ∷ 19 ∷ []) $ forget ! 0 refl $ free1 ! $ move ! (16 ∷ 17 ∷ []) $ free1 ! $ move ! (14 ∷ 15 ∷ []) $ free1 ! $ move ! (12 ∷ 13 ∷ []) $ forget ! 0 refl $ free1 ! $ move ! (10 ∷ 11 ∷ []) $ forget ! 0 refl $ free1 ! $ move ! (8 ∷ 9 ∷ []) $ forget ! 0 refl $ free1 ! $ move ! (6 ∷ 7 ∷ []) $ forget ! 0 refl $ free1 ! $ move ! (4 ∷ 5 ∷ []) $ forget ! 0 refl $ free1 ! $ free0 ! $ by ! (exits ((c * 4294967296) + y2-0) (refl, Facts.add-1 register nodes c span page (room·register .0) (room·nodes .0) (ok·c .1) (ok·span .1) ok·page need (is-false (not (r1 register nodes c span page)) h·1) ok·2 (ok·3 .1) ok·4 ok·5 y2-0 m·2 ((Turn′.ok-Leaf-0 y2-0 (subst Turn′.Ok m·2 ok·5)) .1)) (Facts.exit-2 register nodes c span page (room·register .0) (room·nodes .0) (ok·c .1) (ok·span .1) ok·page need (is-false (not (r1 register nodes c span page)) h·1) ok·2 (ok·3 .1) ok·4 ok·5 y2-0 m·2 ((Turn′.ok-Leaf-0 y2-0 (subst Turn′.Ok m·2 ok·5)) .1)))))
+      (λ y2-0 y2-1 m·2. rewrite ! 20 (λ (u : Turn). ‵ (fat fullShare Turn′.ty l₈ 0 (Turn′.mach u))) m·2 refl $ switches-to ! 1 (load ! (from ! (vrt ! refl (fld ! refl (stop !)))) (look-tag ! 20 (whole !))) (
       regroup ! $
-      assigns ! (of-opd ! (load ! (from ! (vrt ! refl (fld ! refl (stop !)))) (look-in ! 16 (in-variant ! 1 0 refl refl (whole !))))) (from ! (stop !)) (init ! 12 refl (Version′.typed 𝓤 H A W y1-0 (Turn′.ok-Down-0 y1-0 y1-1 (subst Turn′.Ok m·1 ok·4)))) $
+      assigns ! (of-opd ! (load ! (from ! (vrt ! refl (fld ! refl (stop !)))) (look-in ! 20 (in-variant ! 1 0 refl refl (whole !))))) (from ! (stop !)) (init ! 16 refl (tt, record { fits = (Turn′.ok-Down-0 y2-0 y2-1 (subst Turn′.Ok m·2 ok·5)) .1 })) $
       regroup ! $
-      assigns ! (of-opd ! (load ! (from ! (vrt ! refl (fld ! refl (stop !)))) (look-in ! 16 (in-variant ! 1 1 refl refl (whole !))))) (from ! (stop !)) (init ! 10 refl (tt, record { fits = (Turn′.ok-Down-1 y1-0 y1-1 (subst Turn′.Ok m·1 ok·4)) .1 })) $
-      Call-find.calls-by ! mem run (fmOf 𝓤 H (W .laws) 𝓣) κ·register q·register b·register o·register γ·register (length register) register κ·nodes q·nodes b·nodes o·nodes γ·nodes (length nodes) nodes x-known y1-0 y1-1 page (known-self (Call-find.to 𝓤 H A mem run κ·register q·register b·register o·register γ·register (length register) register κ·nodes q·nodes b·nodes o·nodes γ·nodes (length nodes) nodes x-known y1-0 y1-1 page) (Facts.smaller-1 register nodes x-known x-v span page (room·register .0) (room·nodes .0) ok·x-known ok·x-v (ok·span .1) ok·page need ok·1 (ok·2 .1) ok·3 ok·4 y1-0 y1-1 m·1 (Turn′.ok-Down-0 y1-0 y1-1 (subst Turn′.Ok m·1 ok·4)) ((Turn′.ok-Down-1 y1-0 y1-1 (subst Turn′.Ok m·1 ok·4)) .1))) ok·x-known (Turn′.ok-Down-0 y1-0 y1-1 (subst Turn′.Ok m·1 ok·4)) (Turn′.ok-Down-1 y1-0 y1-1 (subst Turn′.Ok m·1 ok·4)) ok·page (Facts.find-1 register nodes x-known x-v span page (room·register .0) (room·nodes .0) ok·x-known ok·x-v (ok·span .1) ok·page need ok·1 (ok·2 .1) ok·3 ok·4 y1-0 y1-1 m·1 (Turn′.ok-Down-0 y1-0 y1-1 (subst Turn′.Ok m·1 ok·4)) ((Turn′.ok-Down-1 y1-0 y1-1 (subst Turn′.Ok m·1 ok·4)) .1)) (and-then ! (load ! (from ! (stop !)) (look ! 31 refl)) (and-then ! (load ! (from ! (stop !)) (look ! 29 refl)) (and-then ! (load ! (from ! (stop !)) (look ! 27 refl)) (and-then ! (load ! (from ! (stop !)) (look ! 11 refl)) (and-then ! (load ! (from ! (stop !)) (look ! 9 refl)) (and-then ! (load ! (from ! (stop !)) (look ! 21 refl)) (no-more !)))))))
-      (λ r5 ok·5 says·5. land ! (from ! (stop !)) (init ! 6 refl (tt, record { fits = ok·5 .1 })) $
-      here ! (‵ (flft κ·register q·register) ∷ ‵ (ShrAt Record′.row κ·register b·register o·register γ·register (length register) register) ∷ ‵ (flft κ·nodes q·nodes) ∷ ‵ (ShrAt u32 κ·nodes b·nodes o·nodes γ·nodes (length nodes) nodes) ∷ empty (tyInt w64) l₁₅ (holds (tyInt w64) l₁₄ (vint w64 r5) (holds (tyAt (code.find-function .locals) 13) l₁₃ (NodeAt′.mach (r3 register nodes x-known x-v span page)) (holds (tyInt w64) l₁₂ (vint w64 y1-1) (holds (tyAt (code.find-function .locals) 11) l₁₁ (Version′.mach y1-0) (empty (tyInt w64) l₁₀ (holds (tyAt (code.find-function .locals) 9) l₉ (Turn′.mach (Turn.Down y1-0 y1-1)) (holds (tyInt w64) l₈ (vint w64 (r2 register nodes x-known x-v span page)) (holds (tyAt (code.find-function .locals) 7) l₇ (Record′.mach (r1 register nodes x-known x-v span page)) (holds (tyAt (code.find-function .locals) 6) l₆ (PageIndex′.mach page) (holds (tyInt w64) l₅ (vint w64 span) (holds (tyAt (code.find-function .locals) 4) l₄ (Version′.mach x-v) (holds (tyAt (code.find-function .locals) 3) l₃ (Version′.mach x-known) (holds (sliceTy (tyRef (named 1) imm (pointee (u32 .written)))) l₂ (sliceVal (b·nodes, o·nodes) (length nodes)) (holds (sliceTy (tyRef (named 0) imm (pointee (Record′.row .written)))) l₁ (sliceVal (b·register, o·register) (length register)) (empty (tyInt w64) l₀ [])))))))))))))))) $
-      assigns ! (of-opd ! (load ! (from ! (stop !)) (look ! 6 refl))) (from ! (stop !)) (init ! 34 refl (tt, record { fits = ok·5 .1 })) $
-      returns ! (look ! 34 refl) $
-      move ! (34 ∷ 35 ∷ []) $ forget ! 0 refl $ free1 ! $ move ! (32 ∷ 33 ∷ []) $ forget ! 0 refl $ free1 ! $ move ! (30 ∷ 31 ∷ []) $ forget ! 0 refl $ free1 ! $ move ! (28 ∷ 29 ∷ []) $ forget ! 0 refl $ free1 ! $ move ! (26 ∷ 27 ∷ []) $ forget ! 0 refl $ free1 ! $ move ! (24 ∷ 25 ∷ []) $ forget ! 0 refl $ free1 ! $ move ! (22 ∷ 23 ∷ []) $ forget ! 0 refl $ free1 ! $ move ! (20 ∷ 21 ∷ []) $ forget ! 0 refl $ free1 ! $ move ! (18 ∷ 19 ∷ []) $ forget ! 0 refl $ free1 ! $ move ! (16 ∷ 17 ∷ []) $ forget ! 0 refl $ free1 ! $ move ! (14 ∷ 15 ∷ []) $ free1 ! $ move ! (12 ∷ 13 ∷ []) $ forget ! 0 refl $ free1 ! $ move ! (10 ∷ 11 ∷ []) $ forget ! 0 refl $ free1 ! $ move ! (8 ∷ 9 ∷ []) $ forget ! 0 refl $ free1 ! $ move ! (6 ∷ 7 ∷ []) $ forget ! 0 refl $ free1 ! $ move ! (4 ∷ 5 ∷ []) $ free1 ! $ free0 ! $ by ! (exits r5 ok·5 (Facts.exit-2 register nodes x-known x-v span page (room·register .0) (room·nodes .0) ok·x-known ok·x-v (ok·span .1) ok·page need ok·1 (ok·2 .1) ok·3 ok·4 y1-0 y1-1 m·1 (Turn′.ok-Down-0 y1-0 y1-1 (subst Turn′.Ok m·1 ok·4)) ((Turn′.ok-Down-1 y1-0 y1-1 (subst Turn′.Ok m·1 ok·4)) .1) r5 (ok·5 .1) says·5)))))
-      (λ m·1. rewrite ! 16 (λ (u : Turn). ‵ (fat fullShare Turn′.ty l₉ 0 (Turn′.mach u))) m·1 refl $ switches-to ! 2 (load ! (from ! (vrt ! refl (fld ! refl (stop !)))) (look-tag ! 16 (whole !))) (
+      assigns ! (of-opd ! (load ! (from ! (vrt ! refl (fld ! refl (stop !)))) (look-in ! 20 (in-variant ! 1 1 refl refl (whole !))))) (from ! (stop !)) (init ! 14 refl (tt, record { fits = (Turn′.ok-Down-1 y2-0 y2-1 (subst Turn′.Ok m·2 ok·5)) .1 })) $
+      Call-find.calls-by ! mem run (fmOf 𝓤 H (W .laws) 𝓣) κ·register q·register b·register o·register γ·register (length register) register κ·nodes q·nodes b·nodes o·nodes γ·nodes (length nodes) nodes y2-0 y2-1 page (known-self (Call-find.to 𝓤 H A mem run κ·register q·register b·register o·register γ·register (length register) register κ·nodes q·nodes b·nodes o·nodes γ·nodes (length nodes) nodes y2-0 y2-1 page) (Facts.smaller-1 register nodes c span page (room·register .0) (room·nodes .0) (ok·c .1) (ok·span .1) ok·page need (is-false (not (r1 register nodes c span page)) h·1) ok·2 (ok·3 .1) ok·4 ok·5 y2-0 y2-1 m·2 ((Turn′.ok-Down-0 y2-0 y2-1 (subst Turn′.Ok m·2 ok·5)) .1) ((Turn′.ok-Down-1 y2-0 y2-1 (subst Turn′.Ok m·2 ok·5)) .1))) (Turn′.ok-Down-0 y2-0 y2-1 (subst Turn′.Ok m·2 ok·5)) (Turn′.ok-Down-1 y2-0 y2-1 (subst Turn′.Ok m·2 ok·5)) ok·page (Facts.find-1 register nodes c span page (room·register .0) (room·nodes .0) (ok·c .1) (ok·span .1) ok·page need (is-false (not (r1 register nodes c span page)) h·1) ok·2 (ok·3 .1) ok·4 ok·5 y2-0 y2-1 m·2 ((Turn′.ok-Down-0 y2-0 y2-1 (subst Turn′.Ok m·2 ok·5)) .1) ((Turn′.ok-Down-1 y2-0 y2-1 (subst Turn′.Ok m·2 ok·5)) .1)) (and-then ! (load ! (from ! (stop !)) (look ! 33 refl)) (and-then ! (load ! (from ! (stop !)) (look ! 31 refl)) (and-then ! (load ! (from ! (stop !)) (look ! 15 refl)) (and-then ! (load ! (from ! (stop !)) (look ! 13 refl)) (and-then ! (load ! (from ! (stop !)) (look ! 25 refl)) (no-more !))))))
+      (λ r6 ok·6 says·6. land ! (from ! (stop !)) (init ! 6 refl (tt, record { fits = ok·6 .1 })) $
+      here ! (‵ (flft κ·register q·register) ∷ ‵ (ShrAt Record′.row κ·register b·register o·register γ·register (length register) register) ∷ ‵ (flft κ·nodes q·nodes) ∷ ‵ (ShrAt u32 κ·nodes b·nodes o·nodes γ·nodes (length nodes) nodes) ∷ empty (tyInt w64) l₁₆ (holds (tyInt w64) l₁₅ (vint w64 r6) (holds (tyAt (code.find-function .locals) 14) l₁₄ (NodeAt′.mach (r4 register nodes c span page)) (holds tyBool l₁₃ (vbool (not (r1 register nodes c span page))) (holds tyBool l₁₂ (vbool (r1 register nodes c span page)) (holds (tyInt w64) l₁₁ (vint w64 y2-1) (holds (tyInt w64) l₁₀ (vint w64 y2-0) (empty (tyInt w64) l₉ (holds (tyAt (code.find-function .locals) 8) l₈ (Turn′.mach (Turn.Down y2-0 y2-1)) (holds (tyInt w64) l₇ (vint w64 (r3 register nodes c span page)) (holds (tyAt (code.find-function .locals) 6) l₆ (Part′.mach (r2 register nodes c span page)) (holds (tyAt (code.find-function .locals) 5) l₅ (PageIndex′.mach page) (holds (tyInt w64) l₄ (vint w64 span) (holds (tyInt w64) l₃ (vint w64 c) (holds (sliceTy (tyRef (named 1) imm (pointee (u32 .written)))) l₂ (sliceVal (b·nodes, o·nodes) (length nodes)) (holds (sliceTy (tyRef (named 0) imm (pointee (Record′.row .written)))) l₁ (sliceVal (b·register, o·register) (length register)) (empty (tyInt w64) l₀ []))))))))))))))))) $
+      assigns ! (of-opd ! (load ! (from ! (stop !)) (look ! 6 refl))) (from ! (stop !)) (init ! 36 refl (tt, record { fits = ok·6 .1 })) $
+      returns ! (look ! 36 refl) $
+      move ! (36 ∷ 37 ∷ []) $ forget ! 0 refl $ free1 ! $ move ! (34 ∷ 35 ∷ []) $ forget ! 0 refl $ free1 ! $ move ! (32 ∷ 33 ∷ []) $ forget ! 0 refl $ free1 ! $ move ! (30 ∷ 31 ∷ []) $ forget ! 0 refl $ free1 ! $ move ! (28 ∷ 29 ∷ []) $ forget ! 0 refl $ free1 ! $ move ! (26 ∷ 27 ∷ []) $ forget ! 0 refl $ free1 ! $ move ! (24 ∷ 25 ∷ []) $ forget ! 0 refl $ free1 ! $ move ! (22 ∷ 23 ∷ []) $ forget ! 0 refl $ free1 ! $ move ! (20 ∷ 21 ∷ []) $ forget ! 0 refl $ free1 ! $ move ! (18 ∷ 19 ∷ []) $ free1 ! $ move ! (16 ∷ 17 ∷ []) $ forget ! 0 refl $ free1 ! $ move ! (14 ∷ 15 ∷ []) $ forget ! 0 refl $ free1 ! $ move ! (12 ∷ 13 ∷ []) $ forget ! 0 refl $ free1 ! $ move ! (10 ∷ 11 ∷ []) $ forget ! 0 refl $ free1 ! $ move ! (8 ∷ 9 ∷ []) $ forget ! 0 refl $ free1 ! $ move ! (6 ∷ 7 ∷ []) $ forget ! 0 refl $ free1 ! $ move ! (4 ∷ 5 ∷ []) $ free1 ! $ free0 ! $ by ! (exits r6 ok·6 (Facts.exit-3 register nodes c span page (room·register .0) (room·nodes .0) (ok·c .1) (ok·span .1) ok·page need (is-false (not (r1 register nodes c span page)) h·1) ok·2 (ok·3 .1) ok·4 ok·5 y2-0 y2-1 m·2 ((Turn′.ok-Down-0 y2-0 y2-1 (subst Turn′.Ok m·2 ok·5)) .1) ((Turn′.ok-Down-1 y2-0 y2-1 (subst Turn′.Ok m·2 ok·5)) .1) r6 (ok·6 .1) says·6)))))
+      (λ m·2. rewrite ! 20 (λ (u : Turn). ‵ (fat fullShare Turn′.ty l₈ 0 (Turn′.mach u))) m·2 refl $ switches-to ! 2 (load ! (from ! (vrt ! refl (fld ! refl (stop !)))) (look-tag ! 20 (whole !))) (
       assigns ! (of-opd ! (neg-lit ! tt)) (from ! (stop !)) (init ! 6 refl (tt, record { fits = lit< tt })) $
-      assigns ! (of-opd ! (load ! (from ! (stop !)) (look ! 6 refl))) (from ! (stop !)) (init ! 34 refl (tt, record { fits = lit< tt })) $
-      returns ! (look ! 34 refl) $
-      move ! (34 ∷ 35 ∷ []) $ forget ! 0 refl $ free1 ! $ move ! (32 ∷ 33 ∷ []) $ forget ! 0 refl $ free1 ! $ move ! (30 ∷ 31 ∷ []) $ forget ! 0 refl $ free1 ! $ move ! (28 ∷ 29 ∷ []) $ forget ! 0 refl $ free1 ! $ move ! (26 ∷ 27 ∷ []) $ forget ! 0 refl $ free1 ! $ move ! (24 ∷ 25 ∷ []) $ forget ! 0 refl $ free1 ! $ move ! (22 ∷ 23 ∷ []) $ forget ! 0 refl $ free1 ! $ move ! (20 ∷ 21 ∷ []) $ forget ! 0 refl $ free1 ! $ move ! (18 ∷ 19 ∷ []) $ forget ! 0 refl $ free1 ! $ move ! (16 ∷ 17 ∷ []) $ forget ! 0 refl $ free1 ! $ move ! (14 ∷ 15 ∷ []) $ free1 ! $ move ! (12 ∷ 13 ∷ []) $ free1 ! $ move ! (10 ∷ 11 ∷ []) $ free1 ! $ move ! (8 ∷ 9 ∷ []) $ forget ! 0 refl $ free1 ! $ move ! (6 ∷ 7 ∷ []) $ forget ! 0 refl $ free1 ! $ move ! (4 ∷ 5 ∷ []) $ free1 ! $ free0 ! $ by ! (exits 18446744073709551615 (refl, lit< tt) (Facts.exit-3 register nodes x-known x-v span page (room·register .0) (room·nodes .0) ok·x-known ok·x-v (ok·span .1) ok·page need ok·1 (ok·2 .1) ok·3 ok·4 m·1))))))))))))))))))))))))
+      assigns ! (of-opd ! (load ! (from ! (stop !)) (look ! 6 refl))) (from ! (stop !)) (init ! 36 refl (tt, record { fits = lit< tt })) $
+      returns ! (look ! 36 refl) $
+      move ! (36 ∷ 37 ∷ []) $ forget ! 0 refl $ free1 ! $ move ! (34 ∷ 35 ∷ []) $ forget ! 0 refl $ free1 ! $ move ! (32 ∷ 33 ∷ []) $ forget ! 0 refl $ free1 ! $ move ! (30 ∷ 31 ∷ []) $ forget ! 0 refl $ free1 ! $ move ! (28 ∷ 29 ∷ []) $ forget ! 0 refl $ free1 ! $ move ! (26 ∷ 27 ∷ []) $ forget ! 0 refl $ free1 ! $ move ! (24 ∷ 25 ∷ []) $ forget ! 0 refl $ free1 ! $ move ! (22 ∷ 23 ∷ []) $ forget ! 0 refl $ free1 ! $ move ! (20 ∷ 21 ∷ []) $ forget ! 0 refl $ free1 ! $ move ! (18 ∷ 19 ∷ []) $ free1 ! $ move ! (16 ∷ 17 ∷ []) $ free1 ! $ move ! (14 ∷ 15 ∷ []) $ free1 ! $ move ! (12 ∷ 13 ∷ []) $ forget ! 0 refl $ free1 ! $ move ! (10 ∷ 11 ∷ []) $ forget ! 0 refl $ free1 ! $ move ! (8 ∷ 9 ∷ []) $ forget ! 0 refl $ free1 ! $ move ! (6 ∷ 7 ∷ []) $ forget ! 0 refl $ free1 ! $ move ! (4 ∷ 5 ∷ []) $ free1 ! $ free0 ! $ by ! (exits 18446744073709551615 (refl, lit< tt) (Facts.exit-4 register nodes c span page (room·register .0) (room·nodes .0) (ok·c .1) (ok·span .1) ok·page need (is-false (not (r1 register nodes c span page)) h·1) ok·2 (ok·3 .1) ok·4 ok·5 m·2)))))))))))))))))))))))))))
 
 module _ {M : Type 1} (𝓤 : URA M) (H : Heap 𝓤) (A : Atoms 𝓤) (mem : Memory → SProp 𝓤) (run : Routine → Fun 𝓤) where
   abbrev measure : Call-find.Asked 𝓤 H A mem run .Ghost → ℕ
-  measure y = Loop.measure-0 (y .0 .3 .0 .now) (y .0 .3 .1 .0 .now) (y .0 .3 .1 .1 .0) (y .0 .3 .1 .1 .1 .0) (y .0 .3 .1 .1 .1 .1 .0) (y .0 .3 .1 .1 .1 .1 .1 .0)
+  measure y = Loop.measure-0 (y .0 .3 .0 .now) (y .0 .3 .1 .0 .now) (y .0 .3 .1 .1 .0) (y .0 .3 .1 .1 .1 .0) (y .0 .3 .1 .1 .1 .1 .0)
 
   abbrev grade : (r : Fun 𝓤) → Graded 𝓤 H A ℕ (record { signature = find‴.signature; run = r; spec = find‴.spec 𝓤 H A mem run })
   grade r = measured 𝓤 H A (record { signature = find‴.signature; run = r; spec = find‴.spec 𝓤 H A mem run }) measure
 
-module _ {M : Type 1} (𝓤 : URA M) (H : Heap 𝓤) (A : Atoms 𝓤) (W : Given 𝓤 H A) (mem : Memory → SProp 𝓤) (run : Routine → Fun 𝓤) (𝓣 : Tables 𝓤 H) (known-version-record : Triple 𝓤 (𝓣 .C #version-record) (Call-version-record.Asked 𝓤 H A mem run)) (known-place-of : Triple 𝓤 (𝓣 .C #place-of) (Call-place-of.Asked 𝓤 H A mem run)) (known-node-at : Triple 𝓤 (𝓣 .C #node-at) (Call-node-at.Asked 𝓤 H A mem run)) (known-turn-at : Triple 𝓤 (𝓣 .C #turn-at) (Call-turn-at.Asked 𝓤 H A mem run)) where
+module _ {M : Type 1} (𝓤 : URA M) (H : Heap 𝓤) (A : Atoms 𝓤) (W : Given 𝓤 H A) (mem : Memory → SProp 𝓤) (run : Routine → Fun 𝓤) (𝓣 : Tables 𝓤 H) (known-is-number : Triple 𝓤 (𝓣 .C #is-number) (Call-is-number.Asked 𝓤 H A mem run)) (known-version-part : Triple 𝓤 (𝓣 .C #version-part) (Call-version-part.Asked 𝓤 H A mem run)) (known-place-of : Triple 𝓤 (𝓣 .C #place-of) (Call-place-of.Asked 𝓤 H A mem run)) (known-node-at : Triple 𝓤 (𝓣 .C #node-at) (Call-node-at.Asked 𝓤 H A mem run)) (known-turn-at : Triple 𝓤 (𝓣 .C #turn-at) (Call-turn-at.Asked 𝓤 H A mem run)) where
   -- the contract at each smaller measure gives the contract at the measure t
   method : Closed 𝓤 H (𝓣 .C) (𝓣 .Λ) #self code.find-function → (t : ℕ) → Cycle.Below 𝓤 H A (grade 𝓤 H A mem run (𝓣 .C #self)) (λ s. s < t) → grade 𝓤 H A mem run (𝓣 .C #self) .At t
   method closed t below =
       at-on 𝓤 H A find‴.signature (find‴.spec 𝓤 H A mem run) (WpFn 𝓤 H (𝓣 .C) (𝓣 .Λ) code.find-function) (𝓣 .C #self) closed (measure 𝓤 H A mem run) t (λ y e.
-      walk-meets-at 𝓤 H A find‴.ended stayed W (goes-none-slice 𝓤 H A W 2 (0 ∷ []) tt (plain (λ _. Record′.row)) yes, (goes-none-slice 𝓤 H A W 2 (1 ∷ []) tt (plain (λ _. u32)) yes, (goes-none 𝓤 H A W 2 (λ _. Version′.row) yes (λ κs x f. refl), (goes-none 𝓤 H A W 2 (λ _. Version′.row) yes (λ κs x f. refl), (goes-none 𝓤 H A W 2 (λ _. u64) yes (λ κs x f. refl), (goes-none 𝓤 H A W 2 (λ _. PageIndex′.row) yes (λ κs x f. refl), tt)))))) (find‴.clauses 𝓤 H A mem run) (WpFn 𝓤 H (𝓣 .C) (𝓣 .Λ) code.find-function) (WpFn-mono 𝓤 H (W .laws) 𝓣 code.find-function) y
-      (walked-at 𝓤 H A find‴.ended stayed (find‴.clauses 𝓤 H A mem run) (WpFn 𝓤 H (𝓣 .C) (𝓣 .Λ) code.find-function) y (slice-vals, (slice-vals, (Version′.vals, (Version′.vals, (uint-vals w64, (PageIndex′.vals, tt)))))) (shr-slice-tells (named 0) (y .0 .0 .0) Record′.row, (shr-slice-tells (named 0) (y .0 .0 .1 .0) u32, (Version′.tells, (Version′.tells, (uint-tells w64, (PageIndex′.tells, tt))))))
-      (λ are. needs 𝓤 (find″.req (y .0 .3 .0 .now) (y .0 .3 .1 .0 .now) (y .0 .3 .1 .1 .0) (y .0 .3 .1 .1 .1 .0) (y .0 .3 .1 .1 .1 .1 .0) (y .0 .3 .1 .1 .1 .1 .1 .0)) _ (λ need. walk 𝓤 H A W mem run (y .0 .0 .0) (y .0 .1 .0) (y .0 .3 .0 .ptr .0) (y .0 .3 .0 .ptr .1) (y .0 .3 .0 .name) (y .0 .3 .0 .now) (y .0 .0 .1 .0) (y .0 .1 .1 .0) (y .0 .3 .1 .0 .ptr .0) (y .0 .3 .1 .0 .ptr .1) (y .0 .3 .1 .0 .name) (y .0 .3 .1 .0 .now) (y .0 .3 .1 .1 .0) (y .0 .3 .1 .1 .1 .0) (y .0 .3 .1 .1 .1 .1 .0) (y .0 .3 .1 .1 .1 .1 .1 .0) (are .0 .0 .1) (are .1 .0 .0 .1) (are .1 .1 .0) (are .1 .1 .1 .0) (are .1 .1 .1 .1 .0) (are .1 .1 .1 .1 .1 .0) need 𝓣 known-version-record known-place-of known-node-at known-turn-at (λ y′ lt. below (measure 𝓤 H A mem run y′) (subst (λ (s : ℕ). measure 𝓤 H A mem run y′ < s) e lt) y′ refl)))))
+      walk-meets-at 𝓤 H A find‴.ended stayed W (goes-none-slice 𝓤 H A W 2 (0 ∷ []) tt (plain (λ _. Record′.row)) yes, (goes-none-slice 𝓤 H A W 2 (1 ∷ []) tt (plain (λ _. u32)) yes, (goes-none 𝓤 H A W 2 (λ _. u64) yes (λ κs x f. refl), (goes-none 𝓤 H A W 2 (λ _. u64) yes (λ κs x f. refl), (goes-none 𝓤 H A W 2 (λ _. PageIndex′.row) yes (λ κs x f. refl), tt))))) (find‴.clauses 𝓤 H A mem run) (WpFn 𝓤 H (𝓣 .C) (𝓣 .Λ) code.find-function) (WpFn-mono 𝓤 H (W .laws) 𝓣 code.find-function) y
+      (walked-at 𝓤 H A find‴.ended stayed (find‴.clauses 𝓤 H A mem run) (WpFn 𝓤 H (𝓣 .C) (𝓣 .Λ) code.find-function) y (slice-vals, (slice-vals, (uint-vals w64, (uint-vals w64, (PageIndex′.vals, tt))))) (shr-slice-tells (named 0) (y .0 .0 .0) Record′.row, (shr-slice-tells (named 0) (y .0 .0 .1 .0) u32, (uint-tells w64, (uint-tells w64, (PageIndex′.tells, tt)))))
+      (λ are. needs 𝓤 (find″.req (y .0 .3 .0 .now) (y .0 .3 .1 .0 .now) (y .0 .3 .1 .1 .0) (y .0 .3 .1 .1 .1 .0) (y .0 .3 .1 .1 .1 .1 .0)) _ (λ need. walk 𝓤 H A W mem run (y .0 .0 .0) (y .0 .1 .0) (y .0 .3 .0 .ptr .0) (y .0 .3 .0 .ptr .1) (y .0 .3 .0 .name) (y .0 .3 .0 .now) (y .0 .0 .1 .0) (y .0 .1 .1 .0) (y .0 .3 .1 .0 .ptr .0) (y .0 .3 .1 .0 .ptr .1) (y .0 .3 .1 .0 .name) (y .0 .3 .1 .0 .now) (y .0 .3 .1 .1 .0) (y .0 .3 .1 .1 .1 .0) (y .0 .3 .1 .1 .1 .1 .0) (are .0 .0 .1) (are .1 .0 .0 .1) (are .1 .1 .0) (are .1 .1 .1 .0) (are .1 .1 .1 .1 .0) need 𝓣 known-is-number known-version-part known-place-of known-node-at known-turn-at (λ y′ lt. below (measure 𝓤 H A mem run y′) (subst (λ (s : ℕ). measure 𝓤 H A mem run y′ < s) e lt) y′ refl)))))
 
 pub +find-spec : {M : Type 1} → cycle.statement M
 unfolding code.find-routine tablesOf
 +find-spec 𝓤 H 𝓜 𝓖 𝓡 =
     mutual-elim 𝓤 H (𝓖 .A) (cycle.functions 𝓤 H (𝓖 .A) (𝓜 .mem) (𝓡 .run)) _<_ (Nat·lt-wfRel .wf) (grade 𝓤 H (𝓖 .A) (𝓜 .mem) (𝓡 .run) (tables 𝓤 H 𝓜 𝓡 code.env .C #self))
     (λ t below. method 𝓤 H (𝓖 .A) (givenOf 𝓤 H 𝓜 𝓖) (𝓜 .mem) (𝓡 .run) (tablesOf 𝓤 H 𝓜 (tables 𝓤 H 𝓜 𝓡 code.env))
-    (cited 𝓤 H (Call-version-record.Asked 𝓤 H (𝓖 .A) (𝓜 .mem) (𝓡 .run)) 𝓜 𝓡 code.env #version-record def-version-record.routine code.calls-register·version-record (thm-version-record.met 𝓤 H 𝓜 𝓖 𝓡))
+    (cited 𝓤 H (Call-is-number.Asked 𝓤 H (𝓖 .A) (𝓜 .mem) (𝓡 .run)) 𝓜 𝓡 code.env #is-number def-is-number.routine code.calls-walk·is-number (thm-is-number.met 𝓤 H 𝓜 𝓖 𝓡))
+    (cited 𝓤 H (Call-version-part.Asked 𝓤 H (𝓖 .A) (𝓜 .mem) (𝓡 .run)) 𝓜 𝓡 code.env #version-part def-version-part.routine code.calls-register·version-part (thm-version-part.met 𝓤 H 𝓜 𝓖 𝓡))
     (cited 𝓤 H (Call-place-of.Asked 𝓤 H (𝓖 .A) (𝓜 .mem) (𝓡 .run)) 𝓜 𝓡 code.env #place-of def-place-of.routine code.calls-walk·place-of (thm-place-of.met 𝓤 H 𝓜 𝓖 𝓡))
     (cited 𝓤 H (Call-node-at.Asked 𝓤 H (𝓖 .A) (𝓜 .mem) (𝓡 .run)) 𝓜 𝓡 code.env #node-at def-node-at.routine code.calls-tree·node-at (thm-node-at.met 𝓤 H 𝓜 𝓖 𝓡))
     (cited 𝓤 H (Call-turn-at.Asked 𝓤 H (𝓖 .A) (𝓜 .mem) (𝓡 .run)) 𝓜 𝓡 code.env #turn-at def-turn-at.routine code.calls-walk·turn-at (thm-turn-at.met 𝓤 H 𝓜 𝓖 𝓡))

@@ -3,9 +3,9 @@ pub mod find
 pub mod find_page
 pub mod found_in
 pub mod is_lost
+pub mod is_number
 pub mod node_at
 pub mod number_found
 pub mod place_of
 pub mod root_of
-pub mod smaller
 pub mod turn_at

@@ -2,29 +2,25 @@
 use mathlib.Core.Bool.{and-false}
 use native.Mathlib.Omega.{arith}
 use borrow.Author.Needs.{needs}
-use borrow.Author.Tests.{lt-ltb, le-leb, lt-leb}
-use Rattle.walk.specs.Descent.{placeIn}
+use borrow.Author.Tests.{eq-eqb, ne-eqb}
+use Rattle.walk.specs.FindPage.{placeIn}
 use Rattle.walk.proofs.Descent.{place-number}
 use Rattle.walk.proofs.place_of.Statement.{statement}
 use Rattle.walk.proofs.place_of.Tie as tie
 
 returns : tie.Need-returns
 unfolding placeIn
-returns c = rw (c .if1 .taken)
+returns c = let a = c .before .before .args in rw (ne-eqb (a .q .name) (a .c) (c .if1 .taken), and-false)
+
+place-in-requires : tie.Need-place-in-requires
+place-in-requires c κs = c .before .before .pre .1
 
 returns-2 : tie.Need-returns-2
 unfolding placeIn
-returns-2 c = let a = c .before .before .before .before .before .args in rw (lt-leb (a .v .0) (a .known .0) (c .if2 .taken), and-false)
-
-place-in-requires : tie.Need-place-in-requires
-place-in-requires c κs = search needs
-
-returns-3 : tie.Need-returns-3
-unfolding placeIn
-returns-3 c =
-    let a = c .before .before .before .before .before .before .args in
-    rw (lt-ltb 0 (a .v .0) (omega arith), le-leb (a .v .0) (a .known .0) (c .before .if2 .left))
+returns-2 c =
+    let a = c .before .before .before .args in
+    rw (c .before .before .before .pre .0, eq-eqb (a .q .name) (a .c) (omega arith))
     (place-number _ _ _ (omega arith) (c .place-in .ensures .0) (c .place-in .ensures .1))
 
 pub place-of-spec : {M : Type 1} → statement M
-place-of-spec = tie.close (tie.spec returns returns-2 place-in-requires returns-3)
+place-of-spec = tie.close (tie.spec returns place-in-requires returns-2)

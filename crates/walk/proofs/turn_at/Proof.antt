@@ -29,8 +29,8 @@ add-if2 c =
 cast-t13 : tie.Need-cast-t13
 cast-t13 c = search needs
 
-cast-t15 : tie.Need-cast-t15
-cast-t15 c = search needs
+cast-t14 : tie.Need-cast-t14
+cast-t14 c = search needs
 
 returns-2 : tie.Need-returns-2
 returns-2 c = search needs
@@ -56,7 +56,7 @@ turn-at-spec =
     first-of-requires
     add-if2
     cast-t13
-    cast-t15
+    cast-t14
     returns-2
     returns-3
     returns-4)

@@ -45,22 +45,28 @@ use Rattle.weave.specs.declared.Woven.{Woven}
 use Rattle.weave.proofs.Generated.Kind.Woven as Woven′
 use Rattle.weave.specs.declared.WovenNode.{WovenNode}
 use Rattle.weave.proofs.Generated.Kind.WovenNode as WovenNode′
-use Rattle.tree.specs.declared.Version.{Version}
-use Rattle.register.proofs.Generated.Kind.Version as Version′
 use Rattle.tree.specs.declared.PageIndex.{PageIndex}
 use Rattle.register.proofs.Generated.Kind.PageIndex as PageIndex′
 use Rattle.versions.specs.declared.Store.{Store}
 use Rattle.versions.proofs.Generated.Kind.Store as Store′
 use Rattle.tree.specs.declared.Ticket.{Ticket}
 use Rattle.register.proofs.Generated.Kind.Ticket as Ticket′
+use Rattle.lines.specs.declared.Branch.{Branch}
+use Rattle.versions.proofs.Generated.Kind.Branch as Branch′
+use Rattle.lines.specs.declared.Line.{Line}
+use Rattle.register.proofs.Generated.Kind.Line as Line′
+use Rattle.tree.specs.declared.Version.{Version}
+use Rattle.register.proofs.Generated.Kind.Version as Version′
 use Rattle.register.specs.declared.Record.{Record}
 use Rattle.register.proofs.Generated.Kind.Record as Record′
+use Rattle.lines.specs.declared.Entries.{Entries}
+use Rattle.register.proofs.Generated.Kind.Entries as Entries′
 use Rattle.versions.specs.declared.Lengths.{Lengths}
 use Rattle.versions.proofs.Generated.Kind.Lengths as Lengths′
-use Rattle.weave.specs.declared.Plan.{Plan}
-use Rattle.weave.proofs.Generated.Kind.Plan as Plan′
-use Rattle.weave.specs.declared.Next.{Next}
-use Rattle.weave.proofs.Generated.Kind.Next as Next′
+use Rattle.weave.specs.declared.Found.{Found}
+use Rattle.weave.proofs.Generated.Kind.Found as Found′
+use Rattle.register.specs.declared.Part.{Part}
+use Rattle.register.proofs.Generated.Kind.Part as Part′
 use Rattle.register.proofs.Generated.Flow.{ref, MutAt, ShrAt, lend-mut, back-mut, lend-shr, back-shr, branches-on, regroup, skips-on, returns-on, plus-nothing, holds, empty, less-fits, is-true, is-false, differ, above-0, twice-not, switches-to, switches-last, big-lit, here, blocks-on, resume, scaled-2, scaled-4, scaled-8, opens-shr, shuts-shr, opens-mut, shuts-mut, puts-mut, keeps-shr, fills, empties, tyAt}
 use Rattle.weave.proofs.Generated.Say.weave as weave″
 use Rattle.versions.proofs.Generated.Say.lengths_of as lengths-of″
@@ -68,51 +74,21 @@ use Rattle.versions.proofs.Generated.Call.lengths_of as Call-lengths-of
 use Rattle.versions.proofs.lengths_of.Symbol as def-lengths-of
 use Rattle.versions.proofs.lengths_of.Symbol.{name as #lengths-of}
 use Rattle.versions.proofs.lengths_of.Met as thm-lengths-of
-use Rattle.register.proofs.Generated.Say.ticket_record as ticket-record″
-use Rattle.register.proofs.Generated.Call.ticket_record as Call-ticket-record
-use Rattle.register.proofs.ticket_record.Symbol as def-ticket-record
-use Rattle.register.proofs.ticket_record.Symbol.{name as #ticket-record}
-use Rattle.register.proofs.ticket_record.Met as thm-ticket-record
-use Rattle.register.proofs.Generated.Say.version_record as version-record″
-use Rattle.register.proofs.Generated.Call.version_record as Call-version-record
-use Rattle.register.proofs.version_record.Symbol as def-version-record
-use Rattle.register.proofs.version_record.Symbol.{name as #version-record}
-use Rattle.register.proofs.version_record.Met as thm-version-record
-use Rattle.weave.proofs.Generated.Say.weave_plan as weave-plan″
-use Rattle.weave.proofs.Generated.Call.weave_plan as Call-weave-plan
-use Rattle.weave.proofs.weave_plan.Symbol as def-weave-plan
-use Rattle.weave.proofs.weave_plan.Symbol.{name as #weave-plan}
-use Rattle.weave.proofs.weave_plan.Met as thm-weave-plan
-use Rattle.register.proofs.Generated.Say.newest_update as newest-update″
-use Rattle.register.proofs.Generated.Call.newest_update as Call-newest-update
-use Rattle.register.proofs.newest_update.Symbol as def-newest-update
-use Rattle.register.proofs.newest_update.Symbol.{name as #newest-update}
-use Rattle.register.proofs.newest_update.Met as thm-newest-update
-use Rattle.weave.proofs.Generated.Say.woven_node as woven-node″
-use Rattle.weave.proofs.Generated.Call.woven_node as Call-woven-node
-use Rattle.weave.proofs.woven_node.Symbol as def-woven-node
-use Rattle.weave.proofs.woven_node.Symbol.{name as #woven-node}
-use Rattle.weave.proofs.woven_node.Met as thm-woven-node
+use Rattle.weave.proofs.Generated.Say.find_next as find-next″
+use Rattle.weave.proofs.Generated.Call.find_next as Call-find-next
+use Rattle.weave.proofs.find_next.Symbol as def-find-next
+use Rattle.weave.proofs.find_next.Symbol.{name as #find-next}
+use Rattle.weave.proofs.find_next.Met as thm-find-next
 use Rattle.weave.proofs.Generated.Say.store_woven as store-woven″
 use Rattle.weave.proofs.Generated.Call.store_woven as Call-store-woven
 use Rattle.weave.proofs.store_woven.Symbol as def-store-woven
 use Rattle.weave.proofs.store_woven.Symbol.{name as #store-woven}
 use Rattle.weave.proofs.store_woven.Met as thm-store-woven
-use Rattle.versions.proofs.Generated.Say.version_index as version-index″
-use Rattle.versions.proofs.Generated.Call.version_index as Call-version-index
-use Rattle.versions.proofs.version_index.Symbol as def-version-index
-use Rattle.versions.proofs.version_index.Symbol.{name as #version-index}
-use Rattle.versions.proofs.version_index.Met as thm-version-index
-use Rattle.weave.proofs.Generated.Say.with_woven as with-woven″
-use Rattle.weave.proofs.Generated.Call.with_woven as Call-with-woven
-use Rattle.weave.proofs.with_woven.Symbol as def-with-woven
-use Rattle.weave.proofs.with_woven.Symbol.{name as #with-woven}
-use Rattle.weave.proofs.with_woven.Met as thm-with-woven
-use Rattle.versions.proofs.Generated.Say.put_record as put-record″
-use Rattle.versions.proofs.Generated.Call.put_record as Call-put-record
-use Rattle.versions.proofs.put_record.Symbol as def-put-record
-use Rattle.versions.proofs.put_record.Symbol.{name as #put-record}
-use Rattle.versions.proofs.put_record.Met as thm-put-record
+use Rattle.weave.proofs.Generated.Say.count_woven as count-woven″
+use Rattle.weave.proofs.Generated.Call.count_woven as Call-count-woven
+use Rattle.weave.proofs.count_woven.Symbol as def-count-woven
+use Rattle.weave.proofs.count_woven.Symbol.{name as #count-woven}
+use Rattle.weave.proofs.count_woven.Met as thm-count-woven
 use Rattle.weave.proofs.Generated.Say.woven_answer as woven-answer″
 use Rattle.weave.proofs.Generated.Call.woven_answer as Call-woven-answer
 use Rattle.weave.proofs.woven_answer.Symbol as def-woven-answer
@@ -124,7 +100,7 @@ use Rattle.weave.proofs.weave.Statement as stated
 use Rattle.weave.proofs.weave.Code as code
 use Rattle.weave.proofs.weave.Proof.Facts as Facts
 use denote.Memory.{pointee}
-use Rattle.weave.proofs.weave.Proof.Asks.{r1, r2, r3, r5, r6, nodes₈, r9, r10, register₁₁, r12}
+use Rattle.weave.proofs.weave.Proof.Asks.{r1, nodes₃, register₄, r5}
 
 abbrev stayed : Stays (weave‴.ended .signature .params) (weave‴.ended .kept)
 stayed = (stay-none (λ _. Store′.row) yes, (stay-none-slice (0 ∷ []) tt (plain (λ _. u8)) yes, (stay-slice (1 ∷ []) tt (plain (λ _. u32)), (stay-slice (2 ∷ []) tt (plain (λ _. Record′.row)), (stay-none (λ _. Ticket′.row) yes, tt)))))
@@ -147,87 +123,55 @@ module _ {M : Type 1} (𝓤 : URA M) (H : Heap 𝓤) (A : Atoms 𝓤) (W : Given
       qed W (‵ (flft κ·pages q·pages) ∷ ‵ (ShrAt u8 κ·pages b·pages o·pages γ·pages (length pages) pages) ∷ ‵ (flft κ·nodes q·nodes) ∷ ‵ (MutAt u32 κ·nodes b·nodes o·nodes γ·nodes (length nodes) zs·nodes) ∷ ‵ (flft κ·register q·register) ∷ ‵ (MutAt Record′.row κ·register b·register o·register γ·register (length register) zs·register) ∷ []) ∵ suffices ! _ (ends-at 𝓤 H A weave‴.ended stayed (weave‴.clauses 𝓤 H A mem run) W bound (Woven′.mach r) r (tt, (tt, (zs·nodes, (zs·register, (tt, tt))))) (tt, (tt, (same·nodes, (same·register, (tt, tt)))))) $ says ! said $
       nothing ! $ move ! (5 ∷ 0 ∷ []) $ join ! $ move ! (3 ∷ 0 ∷ []) $ join ! $ move ! (1 ∷ 0 ∷ []) $ join ! $ frame ! $ nothing ! $ owned ! Ticket′.row (Is Ticket′.row) (Ticket′.makes 𝓤 H A) x-t _ ok·x-t $ fjoin ! $ move ! (3 ∷ 0 ∷ []) $ fjoin ! $ move ! (2 ∷ 0 ∷ []) $ fjoin ! $ move ! (1 ∷ 0 ∷ []) $ fjoin ! $ owned ! Store′.row (Is Store′.row) (Store′.makes 𝓤 H A) s _ ok·s $ fjoin ! $ frame ! $ owned ! Woven′.row (Is Woven′.row) (Woven′.makes 𝓤 H A) r _ ok·r $ done !
 
-  walk : (𝓣 : Tables 𝓤 H) (known-lengths-of : Triple 𝓤 (𝓣 .C #lengths-of) (Call-lengths-of.Asked 𝓤 H A mem run)) (known-ticket-record : Triple 𝓤 (𝓣 .C #ticket-record) (Call-ticket-record.Asked 𝓤 H A mem run)) (known-version-record : Triple 𝓤 (𝓣 .C #version-record) (Call-version-record.Asked 𝓤 H A mem run)) (known-weave-plan : Triple 𝓤 (𝓣 .C #weave-plan) (Call-weave-plan.Asked 𝓤 H A mem run)) (known-newest-update : Triple 𝓤 (𝓣 .C #newest-update) (Call-newest-update.Asked 𝓤 H A mem run)) (known-woven-node : Triple 𝓤 (𝓣 .C #woven-node) (Call-woven-node.Asked 𝓤 H A mem run)) (known-store-woven : Triple 𝓤 (𝓣 .C #store-woven) (Call-store-woven.Asked 𝓤 H A mem run)) (known-version-index : Triple 𝓤 (𝓣 .C #version-index) (Call-version-index.Asked 𝓤 H A mem run)) (known-with-woven : Triple 𝓤 (𝓣 .C #with-woven) (Call-with-woven.Asked 𝓤 H A mem run)) (known-put-record : Triple 𝓤 (𝓣 .C #put-record) (Call-put-record.Asked 𝓤 H A mem run)) (known-woven-answer : Triple 𝓤 (𝓣 .C #woven-answer) (Call-woven-answer.Asked 𝓤 H A mem run)) → ent 𝓤 (onEntry 𝓤 H A weave‴.signature (κ·pages, (κ·nodes, (κ·register, tt))) (q·pages, (q·nodes, (q·register, tt))) all-args all-vals)
+  walk : (𝓣 : Tables 𝓤 H) (known-lengths-of : Triple 𝓤 (𝓣 .C #lengths-of) (Call-lengths-of.Asked 𝓤 H A mem run)) (known-find-next : Triple 𝓤 (𝓣 .C #find-next) (Call-find-next.Asked 𝓤 H A mem run)) (known-store-woven : Triple 𝓤 (𝓣 .C #store-woven) (Call-store-woven.Asked 𝓤 H A mem run)) (known-count-woven : Triple 𝓤 (𝓣 .C #count-woven) (Call-count-woven.Asked 𝓤 H A mem run)) (known-woven-answer : Triple 𝓤 (𝓣 .C #woven-answer) (Call-woven-answer.Asked 𝓤 H A mem run)) → ent 𝓤 (onEntry 𝓤 H A weave‴.signature (κ·pages, (κ·nodes, (κ·register, tt))) (q·pages, (q·nodes, (q·register, tt))) all-args all-vals)
       (WpFn 𝓤 H (𝓣 .C) (𝓣 .Λ) code.function (Store′.mach s ∷ sliceVal (b·pages, o·pages) (length pages) ∷ sliceVal (b·nodes, o·nodes) (length nodes) ∷ sliceVal (b·register, o·register) (length register) ∷ Ticket′.mach x-t ∷ []) Post)
-  walk 𝓣 known-lengths-of known-ticket-record known-version-record known-weave-plan known-newest-update known-woven-node known-store-woven known-version-index known-with-woven known-put-record known-woven-answer =
+  walk 𝓣 known-lengths-of known-find-next known-store-woven known-count-woven known-woven-answer =
       qed W ((‵ (flft κ·pages q·pages) ⊛ ‵ (flft κ·nodes q·nodes) ⊛ ‵ (flft κ·register q·register) ⊛ ‵ ftrue) ∷ ‵ (owns (Store′.row ∷ ShrSlice (named 0) κ·pages u8 ∷ MutSlice (named 0) κ·nodes u32 ∷ MutSlice (named 0) κ·register Record′.row ∷ Ticket′.row ∷ []) all-args all-vals) ∷ []) ∵ enter ! (𝓣 .C) (𝓣 .Λ) code.function (Store′.mach s ∷ sliceVal (b·pages, o·pages) (length pages) ∷ sliceVal (b·nodes, o·nodes) (length nodes) ∷ sliceVal (b·register, o·register) (length register) ∷ Ticket′.mach x-t ∷ []) _ $
-      alloc1 ! (λ l₀. alloc1 ! (λ l₁. alloc1 ! (λ l₂. alloc1 ! (λ l₃. alloc1 ! (λ l₄. alloc1 ! (λ l₅. alloc1 ! (λ l₆. alloc1 ! (λ l₇. alloc1 ! (λ l₈. alloc1 ! (λ l₉. alloc1 ! (λ l₁₀. alloc1 ! (λ l₁₁. alloc1 ! (λ l₁₂. alloc1 ! (λ l₁₃. alloc1 ! (λ l₁₄. alloc1 ! (λ l₁₅. alloc1 ! (λ l₁₆. alloc1 ! (λ l₁₇. alloc1 ! (λ l₁₈. alloc1 ! (λ l₁₉. alloc1 ! (λ l₂₀. alloc1 ! (λ l₂₁. alloc1 ! (λ l₂₂. alloc1 ! (λ l₂₃. alloc1 ! (λ l₂₄. alloc1 ! (λ l₂₅. alloc1 ! (λ l₂₆. alloc1 ! (λ l₂₇. alloc1 ! (λ l₂₈. alloc1 ! (λ l₂₉. alloc1 ! (λ l₃₀. alloc1 ! (λ l₃₁. alloc1 ! (λ l₃₂. alloc1 ! (λ l₃₃. alloc0 ! $ params1 ! $
-      pass1 ! (init ! 64 refl (Store′.typed 𝓤 H A W s ok·s)) $ pass1 ! (init ! 62 refl (tt, (tt, (record { fits = room·pages .0 }, tt)))) $ pass1 ! (init ! 60 refl (tt, (tt, (record { fits = room·nodes .0 }, tt)))) $ pass1 ! (init ! 58 refl (tt, (tt, (record { fits = room·register .0 }, tt)))) $ pass1 ! (init ! 56 refl (Ticket′.typed 𝓤 H A W x-t ok·x-t)) $ pass0 ! $
-      move ! (69 ∷ []) $ fsplit ! $ drop ! $ fsplit ! $ move ! (1 ∷ []) $ fsplit ! $ move ! (1 ∷ []) $ fsplit ! $ move ! (1 ∷ []) $ fsplit ! $ drop ! $ drop ! $ move ! (71 ∷ []) $ split ! $ move ! (1 ∷ []) $ split ! $ move ! (1 ∷ []) $ split ! $ move ! (1 ∷ []) $ drop ! $ move ! (2 ∷ 5 ∷ 1 ∷ 4 ∷ 0 ∷ 3 ∷ []) $
-      assigns ! (addr ! (from ! (fld ! refl (hop ! (look-in ! 66 (sub ! 0 refl (whole !))) (stop !))))) (from ! (stop !)) (init ! 42 refl (tt, tt)) $
-      assigns ! (agg ! (and-then ! (load ! (from ! (stop !)) (look ! 42 refl)) (and-then ! (load ! (from ! (fld ! refl (stop !))) (look-in ! 66 (sub ! 1 refl (whole !)))) (no-more !)))) (from ! (stop !)) (init ! 40 refl (tt, (tt, (record { fits = room·nodes .0 }, tt)))) $
-      assigns ! (addr ! (from ! (fld ! refl (hop ! (look-in ! 64 (sub ! 0 refl (whole !))) (stop !))))) (from ! (stop !)) (init ! 38 refl (tt, tt)) $
-      assigns ! (agg ! (and-then ! (load ! (from ! (stop !)) (look ! 38 refl)) (and-then ! (load ! (from ! (fld ! refl (stop !))) (look-in ! 64 (sub ! 1 refl (whole !)))) (no-more !)))) (from ! (stop !)) (init ! 36 refl (tt, (tt, (record { fits = room·register .0 }, tt)))) $
+      alloc1 ! (λ l₀. alloc1 ! (λ l₁. alloc1 ! (λ l₂. alloc1 ! (λ l₃. alloc1 ! (λ l₄. alloc1 ! (λ l₅. alloc1 ! (λ l₆. alloc1 ! (λ l₇. alloc1 ! (λ l₈. alloc1 ! (λ l₉. alloc1 ! (λ l₁₀. alloc1 ! (λ l₁₁. alloc1 ! (λ l₁₂. alloc1 ! (λ l₁₃. alloc1 ! (λ l₁₄. alloc1 ! (λ l₁₅. alloc1 ! (λ l₁₆. alloc1 ! (λ l₁₇. alloc1 ! (λ l₁₈. alloc0 ! $ params1 ! $
+      pass1 ! (init ! 34 refl (Store′.typed 𝓤 H A W s ok·s)) $ pass1 ! (init ! 32 refl (tt, (tt, (record { fits = room·pages .0 }, tt)))) $ pass1 ! (init ! 30 refl (tt, (tt, (record { fits = room·nodes .0 }, tt)))) $ pass1 ! (init ! 28 refl (tt, (tt, (record { fits = room·register .0 }, tt)))) $ pass1 ! (init ! 26 refl (Ticket′.typed 𝓤 H A W x-t ok·x-t)) $ pass0 ! $
+      move ! (39 ∷ []) $ fsplit ! $ drop ! $ fsplit ! $ move ! (1 ∷ []) $ fsplit ! $ move ! (1 ∷ []) $ fsplit ! $ move ! (1 ∷ []) $ fsplit ! $ drop ! $ drop ! $ move ! (41 ∷ []) $ split ! $ move ! (1 ∷ []) $ split ! $ move ! (1 ∷ []) $ split ! $ move ! (1 ∷ []) $ drop ! $ move ! (2 ∷ 5 ∷ 1 ∷ 4 ∷ 0 ∷ 3 ∷ []) $
+      assigns ! (addr ! (from ! (fld ! refl (hop ! (look-in ! 36 (sub ! 0 refl (whole !))) (stop !))))) (from ! (stop !)) (init ! 26 refl (tt, tt)) $
+      assigns ! (agg ! (and-then ! (load ! (from ! (stop !)) (look ! 26 refl)) (and-then ! (load ! (from ! (fld ! refl (stop !))) (look-in ! 36 (sub ! 1 refl (whole !)))) (no-more !)))) (from ! (stop !)) (init ! 24 refl (tt, (tt, (record { fits = room·nodes .0 }, tt)))) $
+      assigns ! (addr ! (from ! (fld ! refl (hop ! (look-in ! 34 (sub ! 0 refl (whole !))) (stop !))))) (from ! (stop !)) (init ! 22 refl (tt, tt)) $
+      assigns ! (agg ! (and-then ! (load ! (from ! (stop !)) (look ! 22 refl)) (and-then ! (load ! (from ! (fld ! refl (stop !))) (look-in ! 34 (sub ! 1 refl (whole !)))) (no-more !)))) (from ! (stop !)) (init ! 20 refl (tt, (tt, (record { fits = room·register .0 }, tt)))) $
       move ! (2 ∷ 3 ∷ []) $ lend-shr ! tt u32 κ·nodes q·nodes b·nodes o·nodes γ·nodes (length nodes) nodes (refl) (λ ν·1-nodes γ·1-nodes. move ! (5 ∷ 6 ∷ []) $ lend-shr ! tt Record′.row κ·register q·register b·register o·register γ·register (length register) register (refl) (λ ν·1-register γ·1-register. move ! (6 ∷ 7 ∷ 3 ∷ 4 ∷ 0 ∷ 1 ∷ []) $
-      Call-lengths-of.calls ! mem run (fmOf 𝓤 H (W .laws) 𝓣) known-lengths-of κ·pages q·pages b·pages o·pages γ·pages (length pages) pages (ν·1-nodes ∷ []) fullShare b·nodes o·nodes γ·1-nodes (length nodes) nodes (ν·1-register ∷ []) fullShare b·register o·register γ·1-register (length register) register (and-then ! (load ! (from ! (stop !)) (look ! 68 refl)) (and-then ! (load ! (from ! (stop !)) (look ! 40 refl)) (and-then ! (load ! (from ! (stop !)) (look ! 36 refl)) (no-more !))))
-      (λ ok·1. move ! (2 ∷ 3 ∷ 7 ∷ []) $ back-shr ! tt u32 κ·nodes q·nodes b·nodes o·nodes γ·nodes (length nodes) nodes ν·1-nodes (refl) room·nodes $ move ! (4 ∷ 5 ∷ 6 ∷ []) $ back-shr ! tt Record′.row κ·register q·register b·register o·register γ·register (length register) register ν·1-register (refl) room·register $ move ! (4 ∷ 5 ∷ 2 ∷ 3 ∷ 0 ∷ 1 ∷ []) $ land ! (from ! (stop !)) (init ! 60 refl (Lengths′.typed 𝓤 H A W (r1 s pages nodes register x-t) ok·1)) $
-      here ! (‵ (flft κ·pages q·pages) ∷ ‵ (ShrAt u8 κ·pages b·pages o·pages γ·pages (length pages) pages) ∷ ‵ (flft κ·nodes q·nodes) ∷ ‵ (MutAt u32 κ·nodes b·nodes o·nodes γ·nodes (length nodes) nodes) ∷ ‵ (flft κ·register q·register) ∷ ‵ (MutAt Record′.row κ·register b·register o·register γ·register (length register) register) ∷ empty (tyAt (code.function .locals) 33) l₃₃ (empty (tyInt w64) l₃₂ (empty (sliceTy (tyRef erased mut (pointee (Record′.row .written)))) l₃₁ (empty (tyRef erased mut (pointee (Record′.row .written))) l₃₀ (empty (sliceTy (tyRef erased mut (pointee (u32 .written)))) l₂₉ (empty (tyRef erased mut (pointee (u32 .written))) l₂₈ (empty tyUnit l₂₇ (empty (sliceTy (tyRef erased imm (pointee (Record′.row .written)))) l₂₆ (empty (tyRef erased imm (pointee (Record′.row .written))) l₂₅ (empty (sliceTy (tyRef erased imm (pointee (Record′.row .written)))) l₂₄ (empty (tyRef erased imm (pointee (Record′.row .written))) l₂₃ (empty (sliceTy (tyRef erased imm (pointee (Record′.row .written)))) l₂₂ (empty (tyRef erased imm (pointee (Record′.row .written))) l₂₁ (empty (sliceTy (tyRef erased imm (pointee (Record′.row .written)))) l₂₀ (empty (tyRef erased imm (pointee (Record′.row .written))) l₁₉ (holds (sliceTy (tyRef erased imm (pointee (Record′.row .written)))) l₁₈ (sliceVal (b·register, o·register) (length register)) (holds (tyRef erased imm (pointee (Record′.row .written))) l₁₇ (vptr b·register o·register) (holds (sliceTy (tyRef erased imm (pointee (u32 .written)))) l₁₆ (sliceVal (b·nodes, o·nodes) (length nodes)) (holds (tyRef erased imm (pointee (u32 .written))) l₁₅ (vptr b·nodes o·nodes) (empty (tyAt (code.function .locals) 14) l₁₄ (empty (tyAt (code.function .locals) 13) l₁₃ (empty (tyAt (code.function .locals) 12) l₁₂ (empty (tyAt (code.function .locals) 11) l₁₁ (empty (tyAt (code.function .locals) 10) l₁₀ (empty (tyAt (code.function .locals) 9) l₉ (empty (tyAt (code.function .locals) 8) l₈ (empty (tyAt (code.function .locals) 7) l₇ (holds (tyAt (code.function .locals) 6) l₆ (Lengths′.mach (r1 s pages nodes register x-t)) (holds (tyAt (code.function .locals) 5) l₅ (Ticket′.mach x-t) (holds (sliceTy (tyRef (named 2) mut (pointee (Record′.row .written)))) l₄ (sliceVal (b·register, o·register) (length register)) (holds (sliceTy (tyRef (named 1) mut (pointee (u32 .written)))) l₃ (sliceVal (b·nodes, o·nodes) (length nodes)) (holds (sliceTy (tyRef (named 0) imm (pointee (u8 .written)))) l₂ (sliceVal (b·pages, o·pages) (length pages)) (holds (tyAt (code.function .locals) 1) l₁ (Store′.mach s) (empty (tyAt (code.function .locals) 0) l₀ [])))))))))))))))))))))))))))))))))) $
-      assigns ! (addr ! (from ! (fld ! refl (hop ! (look-in ! 64 (sub ! 0 refl (whole !))) (stop !))))) (from ! (stop !)) (init ! 34 refl (tt, tt)) $
-      assigns ! (agg ! (and-then ! (load ! (from ! (stop !)) (look ! 34 refl)) (and-then ! (load ! (from ! (fld ! refl (stop !))) (look-in ! 64 (sub ! 1 refl (whole !)))) (no-more !)))) (from ! (stop !)) (init ! 32 refl (tt, (tt, (record { fits = room·register .0 }, tt)))) $
+      Call-lengths-of.calls ! mem run (fmOf 𝓤 H (W .laws) 𝓣) known-lengths-of κ·pages q·pages b·pages o·pages γ·pages (length pages) pages (ν·1-nodes ∷ []) fullShare b·nodes o·nodes γ·1-nodes (length nodes) nodes (ν·1-register ∷ []) fullShare b·register o·register γ·1-register (length register) register (and-then ! (load ! (from ! (stop !)) (look ! 38 refl)) (and-then ! (load ! (from ! (stop !)) (look ! 24 refl)) (and-then ! (load ! (from ! (stop !)) (look ! 20 refl)) (no-more !))))
+      (λ ok·1. move ! (2 ∷ 3 ∷ 7 ∷ []) $ back-shr ! tt u32 κ·nodes q·nodes b·nodes o·nodes γ·nodes (length nodes) nodes ν·1-nodes (refl) room·nodes $ move ! (4 ∷ 5 ∷ 6 ∷ []) $ back-shr ! tt Record′.row κ·register q·register b·register o·register γ·register (length register) register ν·1-register (refl) room·register $ move ! (4 ∷ 5 ∷ 2 ∷ 3 ∷ 0 ∷ 1 ∷ []) $ land ! (from ! (stop !)) (init ! 30 refl (Lengths′.typed 𝓤 H A W (r1 s pages nodes register x-t) ok·1)) $
+      here ! (‵ (flft κ·pages q·pages) ∷ ‵ (ShrAt u8 κ·pages b·pages o·pages γ·pages (length pages) pages) ∷ ‵ (flft κ·nodes q·nodes) ∷ ‵ (MutAt u32 κ·nodes b·nodes o·nodes γ·nodes (length nodes) nodes) ∷ ‵ (flft κ·register q·register) ∷ ‵ (MutAt Record′.row κ·register b·register o·register γ·register (length register) register) ∷ empty (sliceTy (tyRef erased mut (pointee (Record′.row .written)))) l₁₈ (empty (tyRef erased mut (pointee (Record′.row .written))) l₁₇ (empty (sliceTy (tyRef erased mut (pointee (u32 .written)))) l₁₆ (empty (tyRef erased mut (pointee (u32 .written))) l₁₅ (empty tyUnit l₁₄ (empty (sliceTy (tyRef erased imm (pointee (Record′.row .written)))) l₁₃ (empty (tyRef erased imm (pointee (Record′.row .written))) l₁₂ (holds (sliceTy (tyRef erased imm (pointee (Record′.row .written)))) l₁₁ (sliceVal (b·register, o·register) (length register)) (holds (tyRef erased imm (pointee (Record′.row .written))) l₁₀ (vptr b·register o·register) (holds (sliceTy (tyRef erased imm (pointee (u32 .written)))) l₉ (sliceVal (b·nodes, o·nodes) (length nodes)) (holds (tyRef erased imm (pointee (u32 .written))) l₈ (vptr b·nodes o·nodes) (empty (tyAt (code.function .locals) 7) l₇ (holds (tyAt (code.function .locals) 6) l₆ (Lengths′.mach (r1 s pages nodes register x-t)) (holds (tyAt (code.function .locals) 5) l₅ (Ticket′.mach x-t) (holds (sliceTy (tyRef (named 2) mut (pointee (Record′.row .written)))) l₄ (sliceVal (b·register, o·register) (length register)) (holds (sliceTy (tyRef (named 1) mut (pointee (u32 .written)))) l₃ (sliceVal (b·nodes, o·nodes) (length nodes)) (holds (sliceTy (tyRef (named 0) imm (pointee (u8 .written)))) l₂ (sliceVal (b·pages, o·pages) (length pages)) (holds (tyAt (code.function .locals) 1) l₁ (Store′.mach s) (empty (tyAt (code.function .locals) 0) l₀ []))))))))))))))))))) $
+      assigns ! (addr ! (from ! (fld ! refl (hop ! (look-in ! 34 (sub ! 0 refl (whole !))) (stop !))))) (from ! (stop !)) (init ! 18 refl (tt, tt)) $
+      assigns ! (agg ! (and-then ! (load ! (from ! (stop !)) (look ! 18 refl)) (and-then ! (load ! (from ! (fld ! refl (stop !))) (look-in ! 34 (sub ! 1 refl (whole !)))) (no-more !)))) (from ! (stop !)) (init ! 16 refl (tt, (tt, (record { fits = room·register .0 }, tt)))) $
       move ! (4 ∷ 5 ∷ []) $ lend-shr ! tt Record′.row κ·register q·register b·register o·register γ·register (length register) register (refl) (λ ν·2-register γ·2-register.
-      Call-ticket-record.calls ! mem run (fmOf 𝓤 H (W .laws) 𝓣) known-ticket-record (ν·2-register ∷ []) fullShare b·register o·register γ·2-register (length register) register x-t ok·x-t (and-then ! (load ! (from ! (stop !)) (look ! 33 refl)) (and-then ! (load ! (from ! (stop !)) (look ! 63 refl)) (no-more !)))
-      (λ ok·2. back-shr ! tt Record′.row κ·register q·register b·register o·register γ·register (length register) register ν·2-register (refl) room·register $ move ! (2 ∷ 3 ∷ 4 ∷ 5 ∷ 0 ∷ 1 ∷ []) $ land ! (from ! (stop !)) (init ! 58 refl (Record′.typed 𝓤 H A W (r2 s pages nodes register x-t) ok·2)) $
-      here ! (‵ (flft κ·pages q·pages) ∷ ‵ (ShrAt u8 κ·pages b·pages o·pages γ·pages (length pages) pages) ∷ ‵ (flft κ·nodes q·nodes) ∷ ‵ (MutAt u32 κ·nodes b·nodes o·nodes γ·nodes (length nodes) nodes) ∷ ‵ (flft κ·register q·register) ∷ ‵ (MutAt Record′.row κ·register b·register o·register γ·register (length register) register) ∷ empty (tyAt (code.function .locals) 33) l₃₃ (empty (tyInt w64) l₃₂ (empty (sliceTy (tyRef erased mut (pointee (Record′.row .written)))) l₃₁ (empty (tyRef erased mut (pointee (Record′.row .written))) l₃₀ (empty (sliceTy (tyRef erased mut (pointee (u32 .written)))) l₂₉ (empty (tyRef erased mut (pointee (u32 .written))) l₂₈ (empty tyUnit l₂₇ (empty (sliceTy (tyRef erased imm (pointee (Record′.row .written)))) l₂₆ (empty (tyRef erased imm (pointee (Record′.row .written))) l₂₅ (empty (sliceTy (tyRef erased imm (pointee (Record′.row .written)))) l₂₄ (empty (tyRef erased imm (pointee (Record′.row .written))) l₂₃ (empty (sliceTy (tyRef erased imm (pointee (Record′.row .written)))) l₂₂ (empty (tyRef erased imm (pointee (Record′.row .written))) l₂₁ (holds (sliceTy (tyRef erased imm (pointee (Record′.row .written)))) l₂₀ (sliceVal (b·register, o·register) (length register)) (holds (tyRef erased imm (pointee (Record′.row .written))) l₁₉ (vptr b·register o·register) (holds (sliceTy (tyRef erased imm (pointee (Record′.row .written)))) l₁₈ (sliceVal (b·register, o·register) (length register)) (holds (tyRef erased imm (pointee (Record′.row .written))) l₁₇ (vptr b·register o·register) (holds (sliceTy (tyRef erased imm (pointee (u32 .written)))) l₁₆ (sliceVal (b·nodes, o·nodes) (length nodes)) (holds (tyRef erased imm (pointee (u32 .written))) l₁₅ (vptr b·nodes o·nodes) (empty (tyAt (code.function .locals) 14) l₁₄ (empty (tyAt (code.function .locals) 13) l₁₃ (empty (tyAt (code.function .locals) 12) l₁₂ (empty (tyAt (code.function .locals) 11) l₁₁ (empty (tyAt (code.function .locals) 10) l₁₀ (empty (tyAt (code.function .locals) 9) l₉ (empty (tyAt (code.function .locals) 8) l₈ (holds (tyAt (code.function .locals) 7) l₇ (Record′.mach (r2 s pages nodes register x-t)) (holds (tyAt (code.function .locals) 6) l₆ (Lengths′.mach (r1 s pages nodes register x-t)) (holds (tyAt (code.function .locals) 5) l₅ (Ticket′.mach x-t) (holds (sliceTy (tyRef (named 2) mut (pointee (Record′.row .written)))) l₄ (sliceVal (b·register, o·register) (length register)) (holds (sliceTy (tyRef (named 1) mut (pointee (u32 .written)))) l₃ (sliceVal (b·nodes, o·nodes) (length nodes)) (holds (sliceTy (tyRef (named 0) imm (pointee (u8 .written)))) l₂ (sliceVal (b·pages, o·pages) (length pages)) (holds (tyAt (code.function .locals) 1) l₁ (Store′.mach s) (empty (tyAt (code.function .locals) 0) l₀ [])))))))))))))))))))))))))))))))))) $
-      assigns ! (of-opd ! (load ! (from ! (fld ! refl (stop !))) (look-in ! 58 (sub ! 3 refl (whole !))))) (from ! (stop !)) (init ! 56 refl (Version′.typed 𝓤 H A W ((r2 s pages nodes register x-t) .version) (Record′.ok-version (r2 s pages nodes register x-t) ok·2))) $
-      assigns ! (addr ! (from ! (fld ! refl (hop ! (look-in ! 64 (sub ! 0 refl (whole !))) (stop !))))) (from ! (stop !)) (init ! 30 refl (tt, tt)) $
-      assigns ! (agg ! (and-then ! (load ! (from ! (stop !)) (look ! 30 refl)) (and-then ! (load ! (from ! (fld ! refl (stop !))) (look-in ! 64 (sub ! 1 refl (whole !)))) (no-more !)))) (from ! (stop !)) (init ! 28 refl (tt, (tt, (record { fits = room·register .0 }, tt)))) $
-      move ! (4 ∷ 5 ∷ []) $ lend-shr ! tt Record′.row κ·register q·register b·register o·register γ·register (length register) register (refl) (λ ν·3-register γ·3-register.
-      Call-version-record.calls ! mem run (fmOf 𝓤 H (W .laws) 𝓣) known-version-record (ν·3-register ∷ []) fullShare b·register o·register γ·3-register (length register) register ((r2 s pages nodes register x-t) .version) (Record′.ok-version (r2 s pages nodes register x-t) ok·2) (and-then ! (load ! (from ! (stop !)) (look ! 29 refl)) (and-then ! (load ! (from ! (stop !)) (look ! 57 refl)) (no-more !)))
-      (λ ok·3. back-shr ! tt Record′.row κ·register q·register b·register o·register γ·register (length register) register ν·3-register (refl) room·register $ move ! (2 ∷ 3 ∷ 4 ∷ 5 ∷ 0 ∷ 1 ∷ []) $ land ! (from ! (stop !)) (init ! 54 refl (Record′.typed 𝓤 H A W (r3 s pages nodes register x-t) ok·3)) $
-      here ! (‵ (flft κ·pages q·pages) ∷ ‵ (ShrAt u8 κ·pages b·pages o·pages γ·pages (length pages) pages) ∷ ‵ (flft κ·nodes q·nodes) ∷ ‵ (MutAt u32 κ·nodes b·nodes o·nodes γ·nodes (length nodes) nodes) ∷ ‵ (flft κ·register q·register) ∷ ‵ (MutAt Record′.row κ·register b·register o·register γ·register (length register) register) ∷ empty (tyAt (code.function .locals) 33) l₃₃ (empty (tyInt w64) l₃₂ (empty (sliceTy (tyRef erased mut (pointee (Record′.row .written)))) l₃₁ (empty (tyRef erased mut (pointee (Record′.row .written))) l₃₀ (empty (sliceTy (tyRef erased mut (pointee (u32 .written)))) l₂₉ (empty (tyRef erased mut (pointee (u32 .written))) l₂₈ (empty tyUnit l₂₇ (empty (sliceTy (tyRef erased imm (pointee (Record′.row .written)))) l₂₆ (empty (tyRef erased imm (pointee (Record′.row .written))) l₂₅ (empty (sliceTy (tyRef erased imm (pointee (Record′.row .written)))) l₂₄ (empty (tyRef erased imm (pointee (Record′.row .written))) l₂₃ (holds (sliceTy (tyRef erased imm (pointee (Record′.row .written)))) l₂₂ (sliceVal (b·register, o·register) (length register)) (holds (tyRef erased imm (pointee (Record′.row .written))) l₂₁ (vptr b·register o·register) (holds (sliceTy (tyRef erased imm (pointee (Record′.row .written)))) l₂₀ (sliceVal (b·register, o·register) (length register)) (holds (tyRef erased imm (pointee (Record′.row .written))) l₁₉ (vptr b·register o·register) (holds (sliceTy (tyRef erased imm (pointee (Record′.row .written)))) l₁₈ (sliceVal (b·register, o·register) (length register)) (holds (tyRef erased imm (pointee (Record′.row .written))) l₁₇ (vptr b·register o·register) (holds (sliceTy (tyRef erased imm (pointee (u32 .written)))) l₁₆ (sliceVal (b·nodes, o·nodes) (length nodes)) (holds (tyRef erased imm (pointee (u32 .written))) l₁₅ (vptr b·nodes o·nodes) (empty (tyAt (code.function .locals) 14) l₁₄ (empty (tyAt (code.function .locals) 13) l₁₃ (empty (tyAt (code.function .locals) 12) l₁₂ (empty (tyAt (code.function .locals) 11) l₁₁ (empty (tyAt (code.function .locals) 10) l₁₀ (holds (tyAt (code.function .locals) 9) l₉ (Record′.mach (r3 s pages nodes register x-t)) (holds (tyAt (code.function .locals) 8) l₈ (Version′.mach ((r2 s pages nodes register x-t) .version)) (holds (tyAt (code.function .locals) 7) l₇ (Record′.mach (r2 s pages nodes register x-t)) (holds (tyAt (code.function .locals) 6) l₆ (Lengths′.mach (r1 s pages nodes register x-t)) (holds (tyAt (code.function .locals) 5) l₅ (Ticket′.mach x-t) (holds (sliceTy (tyRef (named 2) mut (pointee (Record′.row .written)))) l₄ (sliceVal (b·register, o·register) (length register)) (holds (sliceTy (tyRef (named 1) mut (pointee (u32 .written)))) l₃ (sliceVal (b·nodes, o·nodes) (length nodes)) (holds (sliceTy (tyRef (named 0) imm (pointee (u8 .written)))) l₂ (sliceVal (b·pages, o·pages) (length pages)) (holds (tyAt (code.function .locals) 1) l₁ (Store′.mach s) (empty (tyAt (code.function .locals) 0) l₀ [])))))))))))))))))))))))))))))))))) $
-      Call-weave-plan.calls ! mem run (fmOf 𝓤 H (W .laws) 𝓣) known-weave-plan s (r1 s pages nodes register x-t) (r2 s pages nodes register x-t) (r3 s pages nodes register x-t) x-t ok·s ok·1 ok·2 ok·3 ok·x-t (and-then ! (load ! (from ! (stop !)) (look ! 71 refl)) (and-then ! (load ! (from ! (stop !)) (look ! 61 refl)) (and-then ! (load ! (from ! (stop !)) (look ! 59 refl)) (and-then ! (load ! (from ! (stop !)) (look ! 55 refl)) (and-then ! (load ! (from ! (stop !)) (look ! 63 refl)) (no-more !))))))
-      (λ r4 ok·4 says·4. land ! (from ! (stop !)) (init ! 52 refl (Plan′.typed 𝓤 H A W r4 ok·4)) $
-      here ! (‵ (flft κ·pages q·pages) ∷ ‵ (ShrAt u8 κ·pages b·pages o·pages γ·pages (length pages) pages) ∷ ‵ (flft κ·nodes q·nodes) ∷ ‵ (MutAt u32 κ·nodes b·nodes o·nodes γ·nodes (length nodes) nodes) ∷ ‵ (flft κ·register q·register) ∷ ‵ (MutAt Record′.row κ·register b·register o·register γ·register (length register) register) ∷ empty (tyAt (code.function .locals) 33) l₃₃ (empty (tyInt w64) l₃₂ (empty (sliceTy (tyRef erased mut (pointee (Record′.row .written)))) l₃₁ (empty (tyRef erased mut (pointee (Record′.row .written))) l₃₀ (empty (sliceTy (tyRef erased mut (pointee (u32 .written)))) l₂₉ (empty (tyRef erased mut (pointee (u32 .written))) l₂₈ (empty tyUnit l₂₇ (empty (sliceTy (tyRef erased imm (pointee (Record′.row .written)))) l₂₆ (empty (tyRef erased imm (pointee (Record′.row .written))) l₂₅ (empty (sliceTy (tyRef erased imm (pointee (Record′.row .written)))) l₂₄ (empty (tyRef erased imm (pointee (Record′.row .written))) l₂₃ (holds (sliceTy (tyRef erased imm (pointee (Record′.row .written)))) l₂₂ (sliceVal (b·register, o·register) (length register)) (holds (tyRef erased imm (pointee (Record′.row .written))) l₂₁ (vptr b·register o·register) (holds (sliceTy (tyRef erased imm (pointee (Record′.row .written)))) l₂₀ (sliceVal (b·register, o·register) (length register)) (holds (tyRef erased imm (pointee (Record′.row .written))) l₁₉ (vptr b·register o·register) (holds (sliceTy (tyRef erased imm (pointee (Record′.row .written)))) l₁₈ (sliceVal (b·register, o·register) (length register)) (holds (tyRef erased imm (pointee (Record′.row .written))) l₁₇ (vptr b·register o·register) (holds (sliceTy (tyRef erased imm (pointee (u32 .written)))) l₁₆ (sliceVal (b·nodes, o·nodes) (length nodes)) (holds (tyRef erased imm (pointee (u32 .written))) l₁₅ (vptr b·nodes o·nodes) (empty (tyAt (code.function .locals) 14) l₁₄ (empty (tyAt (code.function .locals) 13) l₁₃ (empty (tyAt (code.function .locals) 12) l₁₂ (empty (tyAt (code.function .locals) 11) l₁₁ (holds (tyAt (code.function .locals) 10) l₁₀ (Plan′.mach r4) (holds (tyAt (code.function .locals) 9) l₉ (Record′.mach (r3 s pages nodes register x-t)) (holds (tyAt (code.function .locals) 8) l₈ (Version′.mach ((r2 s pages nodes register x-t) .version)) (holds (tyAt (code.function .locals) 7) l₇ (Record′.mach (r2 s pages nodes register x-t)) (holds (tyAt (code.function .locals) 6) l₆ (Lengths′.mach (r1 s pages nodes register x-t)) (holds (tyAt (code.function .locals) 5) l₅ (Ticket′.mach x-t) (holds (sliceTy (tyRef (named 2) mut (pointee (Record′.row .written)))) l₄ (sliceVal (b·register, o·register) (length register)) (holds (sliceTy (tyRef (named 1) mut (pointee (u32 .written)))) l₃ (sliceVal (b·nodes, o·nodes) (length nodes)) (holds (sliceTy (tyRef (named 0) imm (pointee (u8 .written)))) l₂ (sliceVal (b·pages, o·pages) (length pages)) (holds (tyAt (code.function .locals) 1) l₁ (Store′.mach s) (empty (tyAt (code.function .locals) 0) l₀ [])))))))))))))))))))))))))))))))))) $
-      assigns ! (of-opd ! (load ! (from ! (fld ! refl (stop !))) (look-in ! 52 (sub ! 1 refl (whole !))))) (from ! (stop !)) (init ! 50 refl (Next′.typed 𝓤 H A W (r4 .next) (Plan′.ok-next r4 ok·4))) $
-      assigns ! (addr ! (from ! (fld ! refl (hop ! (look-in ! 64 (sub ! 0 refl (whole !))) (stop !))))) (from ! (stop !)) (init ! 26 refl (tt, tt)) $
-      assigns ! (agg ! (and-then ! (load ! (from ! (stop !)) (look ! 26 refl)) (and-then ! (load ! (from ! (fld ! refl (stop !))) (look-in ! 64 (sub ! 1 refl (whole !)))) (no-more !)))) (from ! (stop !)) (init ! 24 refl (tt, (tt, (record { fits = room·register .0 }, tt)))) $
-      move ! (4 ∷ 5 ∷ []) $ lend-shr ! tt Record′.row κ·register q·register b·register o·register γ·register (length register) register (refl) (λ ν·5-register γ·5-register.
-      Call-newest-update.calls ! mem run (fmOf 𝓤 H (W .laws) 𝓣) known-newest-update (ν·5-register ∷ []) fullShare b·register o·register γ·5-register (length register) register (r4 .limit) (r4 .next .first) (r4 .next .half) (Plan′.ok-limit r4 ok·4) (Next′.ok-first (r4 .next) (Plan′.ok-next r4 ok·4)) (Next′.ok-half (r4 .next) (Plan′.ok-next r4 ok·4)) (Facts.newest-update-1 s pages nodes register x-t ok·s (room·pages .0) (room·nodes .0) (room·register .0) ok·x-t ok·1 ok·2 ok·3 r4 ok·4 says·4) (and-then ! (load ! (from ! (stop !)) (look ! 25 refl)) (and-then ! (load ! (from ! (fld ! refl (stop !))) (look-in ! 53 (sub ! 2 refl (whole !)))) (and-then ! (load ! (from ! (fld ! refl (stop !))) (look-in ! 51 (sub ! 0 refl (whole !)))) (and-then ! (load ! (from ! (fld ! refl (stop !))) (look-in ! 51 (sub ! 3 refl (whole !)))) (no-more !)))))
-      (λ ok·5. back-shr ! tt Record′.row κ·register q·register b·register o·register γ·register (length register) register ν·5-register (refl) room·register $ move ! (2 ∷ 3 ∷ 4 ∷ 5 ∷ 0 ∷ 1 ∷ []) $ land ! (from ! (stop !)) (init ! 48 refl (Version′.typed 𝓤 H A W (r5 s pages nodes register x-t r4) ok·5)) $
-      here ! (‵ (flft κ·pages q·pages) ∷ ‵ (ShrAt u8 κ·pages b·pages o·pages γ·pages (length pages) pages) ∷ ‵ (flft κ·nodes q·nodes) ∷ ‵ (MutAt u32 κ·nodes b·nodes o·nodes γ·nodes (length nodes) nodes) ∷ ‵ (flft κ·register q·register) ∷ ‵ (MutAt Record′.row κ·register b·register o·register γ·register (length register) register) ∷ empty (tyAt (code.function .locals) 33) l₃₃ (empty (tyInt w64) l₃₂ (empty (sliceTy (tyRef erased mut (pointee (Record′.row .written)))) l₃₁ (empty (tyRef erased mut (pointee (Record′.row .written))) l₃₀ (empty (sliceTy (tyRef erased mut (pointee (u32 .written)))) l₂₉ (empty (tyRef erased mut (pointee (u32 .written))) l₂₈ (empty tyUnit l₂₇ (empty (sliceTy (tyRef erased imm (pointee (Record′.row .written)))) l₂₆ (empty (tyRef erased imm (pointee (Record′.row .written))) l₂₅ (holds (sliceTy (tyRef erased imm (pointee (Record′.row .written)))) l₂₄ (sliceVal (b·register, o·register) (length register)) (holds (tyRef erased imm (pointee (Record′.row .written))) l₂₃ (vptr b·register o·register) (holds (sliceTy (tyRef erased imm (pointee (Record′.row .written)))) l₂₂ (sliceVal (b·register, o·register) (length register)) (holds (tyRef erased imm (pointee (Record′.row .written))) l₂₁ (vptr b·register o·register) (holds (sliceTy (tyRef erased imm (pointee (Record′.row .written)))) l₂₀ (sliceVal (b·register, o·register) (length register)) (holds (tyRef erased imm (pointee (Record′.row .written))) l₁₉ (vptr b·register o·register) (holds (sliceTy (tyRef erased imm (pointee (Record′.row .written)))) l₁₈ (sliceVal (b·register, o·register) (length register)) (holds (tyRef erased imm (pointee (Record′.row .written))) l₁₇ (vptr b·register o·register) (holds (sliceTy (tyRef erased imm (pointee (u32 .written)))) l₁₆ (sliceVal (b·nodes, o·nodes) (length nodes)) (holds (tyRef erased imm (pointee (u32 .written))) l₁₅ (vptr b·nodes o·nodes) (empty (tyAt (code.function .locals) 14) l₁₄ (empty (tyAt (code.function .locals) 13) l₁₃ (holds (tyAt (code.function .locals) 12) l₁₂ (Version′.mach (r5 s pages nodes register x-t r4)) (holds (tyAt (code.function .locals) 11) l₁₁ (Next′.mach (r4 .next)) (holds (tyAt (code.function .locals) 10) l₁₀ (Plan′.mach r4) (holds (tyAt (code.function .locals) 9) l₉ (Record′.mach (r3 s pages nodes register x-t)) (holds (tyAt (code.function .locals) 8) l₈ (Version′.mach ((r2 s pages nodes register x-t) .version)) (holds (tyAt (code.function .locals) 7) l₇ (Record′.mach (r2 s pages nodes register x-t)) (holds (tyAt (code.function .locals) 6) l₆ (Lengths′.mach (r1 s pages nodes register x-t)) (holds (tyAt (code.function .locals) 5) l₅ (Ticket′.mach x-t) (holds (sliceTy (tyRef (named 2) mut (pointee (Record′.row .written)))) l₄ (sliceVal (b·register, o·register) (length register)) (holds (sliceTy (tyRef (named 1) mut (pointee (u32 .written)))) l₃ (sliceVal (b·nodes, o·nodes) (length nodes)) (holds (sliceTy (tyRef (named 0) imm (pointee (u8 .written)))) l₂ (sliceVal (b·pages, o·pages) (length pages)) (holds (tyAt (code.function .locals) 1) l₁ (Store′.mach s) (empty (tyAt (code.function .locals) 0) l₀ [])))))))))))))))))))))))))))))))))) $
-      assigns ! (addr ! (from ! (fld ! refl (hop ! (look-in ! 64 (sub ! 0 refl (whole !))) (stop !))))) (from ! (stop !)) (init ! 22 refl (tt, tt)) $
-      assigns ! (agg ! (and-then ! (load ! (from ! (stop !)) (look ! 22 refl)) (and-then ! (load ! (from ! (fld ! refl (stop !))) (look-in ! 64 (sub ! 1 refl (whole !)))) (no-more !)))) (from ! (stop !)) (init ! 20 refl (tt, (tt, (record { fits = room·register .0 }, tt)))) $
-      move ! (4 ∷ 5 ∷ []) $ lend-shr ! tt Record′.row κ·register q·register b·register o·register γ·register (length register) register (refl) (λ ν·6-register γ·6-register.
-      Call-newest-update.calls ! mem run (fmOf 𝓤 H (W .laws) 𝓣) known-newest-update (ν·6-register ∷ []) fullShare b·register o·register γ·6-register (length register) register (r4 .limit) (r4 .next .right) (r4 .next .half) (Plan′.ok-limit r4 ok·4) (Next′.ok-right (r4 .next) (Plan′.ok-next r4 ok·4)) (Next′.ok-half (r4 .next) (Plan′.ok-next r4 ok·4)) (Facts.newest-update-2 s pages nodes register x-t ok·s (room·pages .0) (room·nodes .0) (room·register .0) ok·x-t ok·1 ok·2 ok·3 r4 ok·4 says·4 ok·5) (and-then ! (load ! (from ! (stop !)) (look ! 21 refl)) (and-then ! (load ! (from ! (fld ! refl (stop !))) (look-in ! 53 (sub ! 2 refl (whole !)))) (and-then ! (load ! (from ! (fld ! refl (stop !))) (look-in ! 51 (sub ! 2 refl (whole !)))) (and-then ! (load ! (from ! (fld ! refl (stop !))) (look-in ! 51 (sub ! 3 refl (whole !)))) (no-more !)))))
-      (λ ok·6. back-shr ! tt Record′.row κ·register q·register b·register o·register γ·register (length register) register ν·6-register (refl) room·register $ move ! (2 ∷ 3 ∷ 4 ∷ 5 ∷ 0 ∷ 1 ∷ []) $ land ! (from ! (stop !)) (init ! 46 refl (Version′.typed 𝓤 H A W (r6 s pages nodes register x-t r4) ok·6)) $
-      here ! (‵ (flft κ·pages q·pages) ∷ ‵ (ShrAt u8 κ·pages b·pages o·pages γ·pages (length pages) pages) ∷ ‵ (flft κ·nodes q·nodes) ∷ ‵ (MutAt u32 κ·nodes b·nodes o·nodes γ·nodes (length nodes) nodes) ∷ ‵ (flft κ·register q·register) ∷ ‵ (MutAt Record′.row κ·register b·register o·register γ·register (length register) register) ∷ empty (tyAt (code.function .locals) 33) l₃₃ (empty (tyInt w64) l₃₂ (empty (sliceTy (tyRef erased mut (pointee (Record′.row .written)))) l₃₁ (empty (tyRef erased mut (pointee (Record′.row .written))) l₃₀ (empty (sliceTy (tyRef erased mut (pointee (u32 .written)))) l₂₉ (empty (tyRef erased mut (pointee (u32 .written))) l₂₈ (empty tyUnit l₂₇ (holds (sliceTy (tyRef erased imm (pointee (Record′.row .written)))) l₂₆ (sliceVal (b·register, o·register) (length register)) (holds (tyRef erased imm (pointee (Record′.row .written))) l₂₅ (vptr b·register o·register) (holds (sliceTy (tyRef erased imm (pointee (Record′.row .written)))) l₂₄ (sliceVal (b·register, o·register) (length register)) (holds (tyRef erased imm (pointee (Record′.row .written))) l₂₃ (vptr b·register o·register) (holds (sliceTy (tyRef erased imm (pointee (Record′.row .written)))) l₂₂ (sliceVal (b·register, o·register) (length register)) (holds (tyRef erased imm (pointee (Record′.row .written))) l₂₁ (vptr b·register o·register) (holds (sliceTy (tyRef erased imm (pointee (Record′.row .written)))) l₂₀ (sliceVal (b·register, o·register) (length register)) (holds (tyRef erased imm (pointee (Record′.row .written))) l₁₉ (vptr b·register o·register) (holds (sliceTy (tyRef erased imm (pointee (Record′.row .written)))) l₁₈ (sliceVal (b·register, o·register) (length register)) (holds (tyRef erased imm (pointee (Record′.row .written))) l₁₇ (vptr b·register o·register) (holds (sliceTy (tyRef erased imm (pointee (u32 .written)))) l₁₆ (sliceVal (b·nodes, o·nodes) (length nodes)) (holds (tyRef erased imm (pointee (u32 .written))) l₁₅ (vptr b·nodes o·nodes) (empty (tyAt (code.function .locals) 14) l₁₄ (holds (tyAt (code.function .locals) 13) l₁₃ (Version′.mach (r6 s pages nodes register x-t r4)) (holds (tyAt (code.function .locals) 12) l₁₂ (Version′.mach (r5 s pages nodes register x-t r4)) (holds (tyAt (code.function .locals) 11) l₁₁ (Next′.mach (r4 .next)) (holds (tyAt (code.function .locals) 10) l₁₀ (Plan′.mach r4) (holds (tyAt (code.function .locals) 9) l₉ (Record′.mach (r3 s pages nodes register x-t)) (holds (tyAt (code.function .locals) 8) l₈ (Version′.mach ((r2 s pages nodes register x-t) .version)) (holds (tyAt (code.function .locals) 7) l₇ (Record′.mach (r2 s pages nodes register x-t)) (holds (tyAt (code.function .locals) 6) l₆ (Lengths′.mach (r1 s pages nodes register x-t)) (holds (tyAt (code.function .locals) 5) l₅ (Ticket′.mach x-t) (holds (sliceTy (tyRef (named 2) mut (pointee (Record′.row .written)))) l₄ (sliceVal (b·register, o·register) (length register)) (holds (sliceTy (tyRef (named 1) mut (pointee (u32 .written)))) l₃ (sliceVal (b·nodes, o·nodes) (length nodes)) (holds (sliceTy (tyRef (named 0) imm (pointee (u8 .written)))) l₂ (sliceVal (b·pages, o·pages) (length pages)) (holds (tyAt (code.function .locals) 1) l₁ (Store′.mach s) (empty (tyAt (code.function .locals) 0) l₀ [])))))))))))))))))))))))))))))))))) $
-      Call-woven-node.calls ! mem run (fmOf 𝓤 H (W .laws) 𝓣) known-woven-node (r2 s pages nodes register x-t) (r3 s pages nodes register x-t) (r4 .next) (r5 s pages nodes register x-t r4) (r6 s pages nodes register x-t r4) ok·2 ok·3 (Plan′.ok-next r4 ok·4) ok·5 ok·6 (Facts.woven-node-1 s pages nodes register x-t ok·s (room·pages .0) (room·nodes .0) (room·register .0) ok·x-t ok·1 ok·2 ok·3 r4 ok·4 says·4 ok·5 ok·6) (and-then ! (load ! (from ! (stop !)) (look ! 59 refl)) (and-then ! (load ! (from ! (stop !)) (look ! 55 refl)) (and-then ! (load ! (from ! (stop !)) (look ! 51 refl)) (and-then ! (load ! (from ! (stop !)) (look ! 49 refl)) (and-then ! (load ! (from ! (stop !)) (look ! 47 refl)) (no-more !))))))
-      (λ r7 ok·7 says·7. land ! (from ! (stop !)) (init ! 44 refl (WovenNode′.typed 𝓤 H A W r7 ok·7)) $
-      here ! (‵ (flft κ·pages q·pages) ∷ ‵ (ShrAt u8 κ·pages b·pages o·pages γ·pages (length pages) pages) ∷ ‵ (flft κ·nodes q·nodes) ∷ ‵ (MutAt u32 κ·nodes b·nodes o·nodes γ·nodes (length nodes) nodes) ∷ ‵ (flft κ·register q·register) ∷ ‵ (MutAt Record′.row κ·register b·register o·register γ·register (length register) register) ∷ empty (tyAt (code.function .locals) 33) l₃₃ (empty (tyInt w64) l₃₂ (empty (sliceTy (tyRef erased mut (pointee (Record′.row .written)))) l₃₁ (empty (tyRef erased mut (pointee (Record′.row .written))) l₃₀ (empty (sliceTy (tyRef erased mut (pointee (u32 .written)))) l₂₉ (empty (tyRef erased mut (pointee (u32 .written))) l₂₈ (empty tyUnit l₂₇ (holds (sliceTy (tyRef erased imm (pointee (Record′.row .written)))) l₂₆ (sliceVal (b·register, o·register) (length register)) (holds (tyRef erased imm (pointee (Record′.row .written))) l₂₅ (vptr b·register o·register) (holds (sliceTy (tyRef erased imm (pointee (Record′.row .written)))) l₂₄ (sliceVal (b·register, o·register) (length register)) (holds (tyRef erased imm (pointee (Record′.row .written))) l₂₃ (vptr b·register o·register) (holds (sliceTy (tyRef erased imm (pointee (Record′.row .written)))) l₂₂ (sliceVal (b·register, o·register) (length register)) (holds (tyRef erased imm (pointee (Record′.row .written))) l₂₁ (vptr b·register o·register) (holds (sliceTy (tyRef erased imm (pointee (Record′.row .written)))) l₂₀ (sliceVal (b·register, o·register) (length register)) (holds (tyRef erased imm (pointee (Record′.row .written))) l₁₉ (vptr b·register o·register) (holds (sliceTy (tyRef erased imm (pointee (Record′.row .written)))) l₁₈ (sliceVal (b·register, o·register) (length register)) (holds (tyRef erased imm (pointee (Record′.row .written))) l₁₇ (vptr b·register o·register) (holds (sliceTy (tyRef erased imm (pointee (u32 .written)))) l₁₆ (sliceVal (b·nodes, o·nodes) (length nodes)) (holds (tyRef erased imm (pointee (u32 .written))) l₁₅ (vptr b·nodes o·nodes) (holds (tyAt (code.function .locals) 14) l₁₄ (WovenNode′.mach r7) (holds (tyAt (code.function .locals) 13) l₁₃ (Version′.mach (r6 s pages nodes register x-t r4)) (holds (tyAt (code.function .locals) 12) l₁₂ (Version′.mach (r5 s pages nodes register x-t r4)) (holds (tyAt (code.function .locals) 11) l₁₁ (Next′.mach (r4 .next)) (holds (tyAt (code.function .locals) 10) l₁₀ (Plan′.mach r4) (holds (tyAt (code.function .locals) 9) l₉ (Record′.mach (r3 s pages nodes register x-t)) (holds (tyAt (code.function .locals) 8) l₈ (Version′.mach ((r2 s pages nodes register x-t) .version)) (holds (tyAt (code.function .locals) 7) l₇ (Record′.mach (r2 s pages nodes register x-t)) (holds (tyAt (code.function .locals) 6) l₆ (Lengths′.mach (r1 s pages nodes register x-t)) (holds (tyAt (code.function .locals) 5) l₅ (Ticket′.mach x-t) (holds (sliceTy (tyRef (named 2) mut (pointee (Record′.row .written)))) l₄ (sliceVal (b·register, o·register) (length register)) (holds (sliceTy (tyRef (named 1) mut (pointee (u32 .written)))) l₃ (sliceVal (b·nodes, o·nodes) (length nodes)) (holds (sliceTy (tyRef (named 0) imm (pointee (u8 .written)))) l₂ (sliceVal (b·pages, o·pages) (length pages)) (holds (tyAt (code.function .locals) 1) l₁ (Store′.mach s) (empty (tyAt (code.function .locals) 0) l₀ [])))))))))))))))))))))))))))))))))) $
-      assigns ! (addr ! (from ! (fld ! refl (hop ! (look-in ! 66 (sub ! 0 refl (whole !))) (stop !))))) (from ! (stop !)) (init ! 16 refl (tt, tt)) $
-      assigns ! (agg ! (and-then ! (load ! (from ! (stop !)) (look ! 16 refl)) (and-then ! (load ! (from ! (fld ! refl (stop !))) (look-in ! 66 (sub ! 1 refl (whole !)))) (no-more !)))) (from ! (stop !)) (init ! 14 refl (tt, (tt, (record { fits = room·nodes .0 }, tt)))) $
-      move ! (2 ∷ 3 ∷ []) $ lend-mut ! tt u32 κ·nodes q·nodes b·nodes o·nodes γ·nodes (length nodes) nodes (refl) (λ ν·8-nodes γ·8-nodes.
-      Call-store-woven.calls ! mem run (fmOf 𝓤 H (W .laws) 𝓣) known-store-woven (ν·8-nodes ∷ []) fullShare b·nodes o·nodes γ·8-nodes (length nodes) nodes (r4 .k) (r3 s pages nodes register x-t) r7 (Plan′.ok-k r4 ok·4) ok·3 ok·7 (Facts.store-woven-1 s pages nodes register x-t ok·s (room·pages .0) (room·nodes .0) (room·register .0) ok·x-t ok·1 ok·2 ok·3 r4 ok·4 says·4 ok·5 ok·6 r7 ok·7 says·7) (and-then ! (load ! (from ! (stop !)) (look ! 14 refl)) (and-then ! (load ! (from ! (fld ! refl (stop !))) (look-in ! 52 (sub ! 0 refl (whole !)))) (and-then ! (load ! (from ! (stop !)) (look ! 54 refl)) (and-then ! (load ! (from ! (stop !)) (look ! 44 refl)) (no-more !)))))
-      (λ same·8-nodes. back-mut ! tt u32 κ·nodes q·nodes b·nodes o·nodes γ·nodes (length nodes) nodes (nodes₈ s pages nodes register x-t r4 r7) ν·8-nodes γ·8-nodes (refl) same·8-nodes room·nodes $ move ! (2 ∷ 3 ∷ 0 ∷ 1 ∷ 4 ∷ 5 ∷ []) $ land ! (from ! (stop !)) (init ! 18 refl (tt, tt)) $
-      here ! (‵ (flft κ·pages q·pages) ∷ ‵ (ShrAt u8 κ·pages b·pages o·pages γ·pages (length pages) pages) ∷ ‵ (flft κ·nodes q·nodes) ∷ ‵ (MutAt u32 κ·nodes b·nodes o·nodes γ·nodes (length nodes) (nodes₈ s pages nodes register x-t r4 r7)) ∷ ‵ (flft κ·register q·register) ∷ ‵ (MutAt Record′.row κ·register b·register o·register γ·register (length register) register) ∷ empty (tyAt (code.function .locals) 33) l₃₃ (empty (tyInt w64) l₃₂ (empty (sliceTy (tyRef erased mut (pointee (Record′.row .written)))) l₃₁ (empty (tyRef erased mut (pointee (Record′.row .written))) l₃₀ (holds (sliceTy (tyRef erased mut (pointee (u32 .written)))) l₂₉ (sliceVal (b·nodes, o·nodes) (length nodes)) (holds (tyRef erased mut (pointee (u32 .written))) l₂₈ (vptr b·nodes o·nodes) (holds tyUnit l₂₇ vunit (holds (sliceTy (tyRef erased imm (pointee (Record′.row .written)))) l₂₆ (sliceVal (b·register, o·register) (length register)) (holds (tyRef erased imm (pointee (Record′.row .written))) l₂₅ (vptr b·register o·register) (holds (sliceTy (tyRef erased imm (pointee (Record′.row .written)))) l₂₄ (sliceVal (b·register, o·register) (length register)) (holds (tyRef erased imm (pointee (Record′.row .written))) l₂₃ (vptr b·register o·register) (holds (sliceTy (tyRef erased imm (pointee (Record′.row .written)))) l₂₂ (sliceVal (b·register, o·register) (length register)) (holds (tyRef erased imm (pointee (Record′.row .written))) l₂₁ (vptr b·register o·register) (holds (sliceTy (tyRef erased imm (pointee (Record′.row .written)))) l₂₀ (sliceVal (b·register, o·register) (length register)) (holds (tyRef erased imm (pointee (Record′.row .written))) l₁₉ (vptr b·register o·register) (holds (sliceTy (tyRef erased imm (pointee (Record′.row .written)))) l₁₈ (sliceVal (b·register, o·register) (length register)) (holds (tyRef erased imm (pointee (Record′.row .written))) l₁₇ (vptr b·register o·register) (holds (sliceTy (tyRef erased imm (pointee (u32 .written)))) l₁₆ (sliceVal (b·nodes, o·nodes) (length nodes)) (holds (tyRef erased imm (pointee (u32 .written))) l₁₅ (vptr b·nodes o·nodes) (holds (tyAt (code.function .locals) 14) l₁₄ (WovenNode′.mach r7) (holds (tyAt (code.function .locals) 13) l₁₃ (Version′.mach (r6 s pages nodes register x-t r4)) (holds (tyAt (code.function .locals) 12) l₁₂ (Version′.mach (r5 s pages nodes register x-t r4)) (holds (tyAt (code.function .locals) 11) l₁₁ (Next′.mach (r4 .next)) (holds (tyAt (code.function .locals) 10) l₁₀ (Plan′.mach r4) (holds (tyAt (code.function .locals) 9) l₉ (Record′.mach (r3 s pages nodes register x-t)) (holds (tyAt (code.function .locals) 8) l₈ (Version′.mach ((r2 s pages nodes register x-t) .version)) (holds (tyAt (code.function .locals) 7) l₇ (Record′.mach (r2 s pages nodes register x-t)) (holds (tyAt (code.function .locals) 6) l₆ (Lengths′.mach (r1 s pages nodes register x-t)) (holds (tyAt (code.function .locals) 5) l₅ (Ticket′.mach x-t) (holds (sliceTy (tyRef (named 2) mut (pointee (Record′.row .written)))) l₄ (sliceVal (b·register, o·register) (length register)) (holds (sliceTy (tyRef (named 1) mut (pointee (u32 .written)))) l₃ (sliceVal (b·nodes, o·nodes) (length nodes)) (holds (sliceTy (tyRef (named 0) imm (pointee (u8 .written)))) l₂ (sliceVal (b·pages, o·pages) (length pages)) (holds (tyAt (code.function .locals) 1) l₁ (Store′.mach s) (empty (tyAt (code.function .locals) 0) l₀ [])))))))))))))))))))))))))))))))))) $
-      assigns ! (addr ! (from ! (fld ! refl (hop ! (look-in ! 64 (sub ! 0 refl (whole !))) (stop !))))) (from ! (stop !)) (init ! 12 refl (tt, tt)) $
-      assigns ! (agg ! (and-then ! (load ! (from ! (stop !)) (look ! 12 refl)) (and-then ! (load ! (from ! (fld ! refl (stop !))) (look-in ! 64 (sub ! 1 refl (whole !)))) (no-more !)))) (from ! (stop !)) (init ! 10 refl (tt, (tt, (record { fits = room·register .0 }, tt)))) $
-      Call-version-index.calls ! mem run (fmOf 𝓤 H (W .laws) 𝓣) known-version-index ((r2 s pages nodes register x-t) .version) (Record′.ok-version (r2 s pages nodes register x-t) ok·2) (and-then ! (load ! (from ! (stop !)) (look ! 57 refl)) (no-more !))
-      (λ ok·9. land ! (from ! (stop !)) (init ! 8 refl (tt, record { fits = ok·9 .1 })) $
-      here ! (‵ (flft κ·pages q·pages) ∷ ‵ (ShrAt u8 κ·pages b·pages o·pages γ·pages (length pages) pages) ∷ ‵ (flft κ·nodes q·nodes) ∷ ‵ (MutAt u32 κ·nodes b·nodes o·nodes γ·nodes (length nodes) (nodes₈ s pages nodes register x-t r4 r7)) ∷ ‵ (flft κ·register q·register) ∷ ‵ (MutAt Record′.row κ·register b·register o·register γ·register (length register) register) ∷ empty (tyAt (code.function .locals) 33) l₃₃ (holds (tyInt w64) l₃₂ (vint w64 (r9 s pages nodes register x-t r4 r7)) (holds (sliceTy (tyRef erased mut (pointee (Record′.row .written)))) l₃₁ (sliceVal (b·register, o·register) (length register)) (holds (tyRef erased mut (pointee (Record′.row .written))) l₃₀ (vptr b·register o·register) (holds (sliceTy (tyRef erased mut (pointee (u32 .written)))) l₂₉ (sliceVal (b·nodes, o·nodes) (length nodes)) (holds (tyRef erased mut (pointee (u32 .written))) l₂₈ (vptr b·nodes o·nodes) (holds tyUnit l₂₇ vunit (holds (sliceTy (tyRef erased imm (pointee (Record′.row .written)))) l₂₆ (sliceVal (b·register, o·register) (length register)) (holds (tyRef erased imm (pointee (Record′.row .written))) l₂₅ (vptr b·register o·register) (holds (sliceTy (tyRef erased imm (pointee (Record′.row .written)))) l₂₄ (sliceVal (b·register, o·register) (length register)) (holds (tyRef erased imm (pointee (Record′.row .written))) l₂₃ (vptr b·register o·register) (holds (sliceTy (tyRef erased imm (pointee (Record′.row .written)))) l₂₂ (sliceVal (b·register, o·register) (length register)) (holds (tyRef erased imm (pointee (Record′.row .written))) l₂₁ (vptr b·register o·register) (holds (sliceTy (tyRef erased imm (pointee (Record′.row .written)))) l₂₀ (sliceVal (b·register, o·register) (length register)) (holds (tyRef erased imm (pointee (Record′.row .written))) l₁₉ (vptr b·register o·register) (holds (sliceTy (tyRef erased imm (pointee (Record′.row .written)))) l₁₈ (sliceVal (b·register, o·register) (length register)) (holds (tyRef erased imm (pointee (Record′.row .written))) l₁₇ (vptr b·register o·register) (holds (sliceTy (tyRef erased imm (pointee (u32 .written)))) l₁₆ (sliceVal (b·nodes, o·nodes) (length nodes)) (holds (tyRef erased imm (pointee (u32 .written))) l₁₅ (vptr b·nodes o·nodes) (holds (tyAt (code.function .locals) 14) l₁₄ (WovenNode′.mach r7) (holds (tyAt (code.function .locals) 13) l₁₃ (Version′.mach (r6 s pages nodes register x-t r4)) (holds (tyAt (code.function .locals) 12) l₁₂ (Version′.mach (r5 s pages nodes register x-t r4)) (holds (tyAt (code.function .locals) 11) l₁₁ (Next′.mach (r4 .next)) (holds (tyAt (code.function .locals) 10) l₁₀ (Plan′.mach r4) (holds (tyAt (code.function .locals) 9) l₉ (Record′.mach (r3 s pages nodes register x-t)) (holds (tyAt (code.function .locals) 8) l₈ (Version′.mach ((r2 s pages nodes register x-t) .version)) (holds (tyAt (code.function .locals) 7) l₇ (Record′.mach (r2 s pages nodes register x-t)) (holds (tyAt (code.function .locals) 6) l₆ (Lengths′.mach (r1 s pages nodes register x-t)) (holds (tyAt (code.function .locals) 5) l₅ (Ticket′.mach x-t) (holds (sliceTy (tyRef (named 2) mut (pointee (Record′.row .written)))) l₄ (sliceVal (b·register, o·register) (length register)) (holds (sliceTy (tyRef (named 1) mut (pointee (u32 .written)))) l₃ (sliceVal (b·nodes, o·nodes) (length nodes)) (holds (sliceTy (tyRef (named 0) imm (pointee (u8 .written)))) l₂ (sliceVal (b·pages, o·pages) (length pages)) (holds (tyAt (code.function .locals) 1) l₁ (Store′.mach s) (empty (tyAt (code.function .locals) 0) l₀ [])))))))))))))))))))))))))))))))))) $
-      Call-with-woven.calls ! mem run (fmOf 𝓤 H (W .laws) 𝓣) known-with-woven (r4 .k) (r3 s pages nodes register x-t) (Plan′.ok-k r4 ok·4) ok·3 (Facts.with-woven-1 s pages nodes register x-t ok·s (room·pages .0) (room·nodes .0) (room·register .0) ok·x-t ok·1 ok·2 ok·3 r4 ok·4 says·4 ok·5 ok·6 r7 ok·7 says·7 same·8-nodes (ok·9 .1)) (and-then ! (load ! (from ! (fld ! refl (stop !))) (look-in ! 53 (sub ! 0 refl (whole !)))) (and-then ! (load ! (from ! (stop !)) (look ! 55 refl)) (no-more !)))
-      (λ ok·10. land ! (from ! (stop !)) (init ! 6 refl (Record′.typed 𝓤 H A W (r10 s pages nodes register x-t r4 r7) ok·10)) $
-      here ! (‵ (flft κ·pages q·pages) ∷ ‵ (ShrAt u8 κ·pages b·pages o·pages γ·pages (length pages) pages) ∷ ‵ (flft κ·nodes q·nodes) ∷ ‵ (MutAt u32 κ·nodes b·nodes o·nodes γ·nodes (length nodes) (nodes₈ s pages nodes register x-t r4 r7)) ∷ ‵ (flft κ·register q·register) ∷ ‵ (MutAt Record′.row κ·register b·register o·register γ·register (length register) register) ∷ holds (tyAt (code.function .locals) 33) l₃₃ (Record′.mach (r10 s pages nodes register x-t r4 r7)) (holds (tyInt w64) l₃₂ (vint w64 (r9 s pages nodes register x-t r4 r7)) (holds (sliceTy (tyRef erased mut (pointee (Record′.row .written)))) l₃₁ (sliceVal (b·register, o·register) (length register)) (holds (tyRef erased mut (pointee (Record′.row .written))) l₃₀ (vptr b·register o·register) (holds (sliceTy (tyRef erased mut (pointee (u32 .written)))) l₂₉ (sliceVal (b·nodes, o·nodes) (length nodes)) (holds (tyRef erased mut (pointee (u32 .written))) l₂₈ (vptr b·nodes o·nodes) (holds tyUnit l₂₇ vunit (holds (sliceTy (tyRef erased imm (pointee (Record′.row .written)))) l₂₆ (sliceVal (b·register, o·register) (length register)) (holds (tyRef erased imm (pointee (Record′.row .written))) l₂₅ (vptr b·register o·register) (holds (sliceTy (tyRef erased imm (pointee (Record′.row .written)))) l₂₄ (sliceVal (b·register, o·register) (length register)) (holds (tyRef erased imm (pointee (Record′.row .written))) l₂₃ (vptr b·register o·register) (holds (sliceTy (tyRef erased imm (pointee (Record′.row .written)))) l₂₂ (sliceVal (b·register, o·register) (length register)) (holds (tyRef erased imm (pointee (Record′.row .written))) l₂₁ (vptr b·register o·register) (holds (sliceTy (tyRef erased imm (pointee (Record′.row .written)))) l₂₀ (sliceVal (b·register, o·register) (length register)) (holds (tyRef erased imm (pointee (Record′.row .written))) l₁₉ (vptr b·register o·register) (holds (sliceTy (tyRef erased imm (pointee (Record′.row .written)))) l₁₈ (sliceVal (b·register, o·register) (length register)) (holds (tyRef erased imm (pointee (Record′.row .written))) l₁₇ (vptr b·register o·register) (holds (sliceTy (tyRef erased imm (pointee (u32 .written)))) l₁₆ (sliceVal (b·nodes, o·nodes) (length nodes)) (holds (tyRef erased imm (pointee (u32 .written))) l₁₅ (vptr b·nodes o·nodes) (holds (tyAt (code.function .locals) 14) l₁₄ (WovenNode′.mach r7) (holds (tyAt (code.function .locals) 13) l₁₃ (Version′.mach (r6 s pages nodes register x-t r4)) (holds (tyAt (code.function .locals) 12) l₁₂ (Version′.mach (r5 s pages nodes register x-t r4)) (holds (tyAt (code.function .locals) 11) l₁₁ (Next′.mach (r4 .next)) (holds (tyAt (code.function .locals) 10) l₁₀ (Plan′.mach r4) (holds (tyAt (code.function .locals) 9) l₉ (Record′.mach (r3 s pages nodes register x-t)) (holds (tyAt (code.function .locals) 8) l₈ (Version′.mach ((r2 s pages nodes register x-t) .version)) (holds (tyAt (code.function .locals) 7) l₇ (Record′.mach (r2 s pages nodes register x-t)) (holds (tyAt (code.function .locals) 6) l₆ (Lengths′.mach (r1 s pages nodes register x-t)) (holds (tyAt (code.function .locals) 5) l₅ (Ticket′.mach x-t) (holds (sliceTy (tyRef (named 2) mut (pointee (Record′.row .written)))) l₄ (sliceVal (b·register, o·register) (length register)) (holds (sliceTy (tyRef (named 1) mut (pointee (u32 .written)))) l₃ (sliceVal (b·nodes, o·nodes) (length nodes)) (holds (sliceTy (tyRef (named 0) imm (pointee (u8 .written)))) l₂ (sliceVal (b·pages, o·pages) (length pages)) (holds (tyAt (code.function .locals) 1) l₁ (Store′.mach s) (empty (tyAt (code.function .locals) 0) l₀ [])))))))))))))))))))))))))))))))))) $
-      move ! (4 ∷ 5 ∷ []) $ lend-mut ! tt Record′.row κ·register q·register b·register o·register γ·register (length register) register (refl) (λ ν·11-register γ·11-register.
-      Call-put-record.calls ! mem run (fmOf 𝓤 H (W .laws) 𝓣) known-put-record (ν·11-register ∷ []) fullShare b·register o·register γ·11-register (length register) register (r4 .k) (r9 s pages nodes register x-t r4 r7) (r10 s pages nodes register x-t r4 r7) (Plan′.ok-k r4 ok·4) ok·9 ok·10 (and-then ! (load ! (from ! (stop !)) (look ! 10 refl)) (and-then ! (load ! (from ! (fld ! refl (stop !))) (look-in ! 52 (sub ! 0 refl (whole !)))) (and-then ! (load ! (from ! (stop !)) (look ! 8 refl)) (and-then ! (load ! (from ! (stop !)) (look ! 6 refl)) (no-more !)))))
-      (λ same·11-register. back-mut ! tt Record′.row κ·register q·register b·register o·register γ·register (length register) register (register₁₁ s pages nodes register x-t r4 r7) ν·11-register γ·11-register (refl) same·11-register room·register $ move ! (2 ∷ 3 ∷ 4 ∷ 5 ∷ 0 ∷ 1 ∷ []) $ land ! (from ! (stop !)) (store ! 18 refl (tt, tt)) $
-      here ! (‵ (flft κ·pages q·pages) ∷ ‵ (ShrAt u8 κ·pages b·pages o·pages γ·pages (length pages) pages) ∷ ‵ (flft κ·nodes q·nodes) ∷ ‵ (MutAt u32 κ·nodes b·nodes o·nodes γ·nodes (length nodes) (nodes₈ s pages nodes register x-t r4 r7)) ∷ ‵ (flft κ·register q·register) ∷ ‵ (MutAt Record′.row κ·register b·register o·register γ·register (length register) (register₁₁ s pages nodes register x-t r4 r7)) ∷ holds (tyAt (code.function .locals) 33) l₃₃ (Record′.mach (r10 s pages nodes register x-t r4 r7)) (holds (tyInt w64) l₃₂ (vint w64 (r9 s pages nodes register x-t r4 r7)) (holds (sliceTy (tyRef erased mut (pointee (Record′.row .written)))) l₃₁ (sliceVal (b·register, o·register) (length register)) (holds (tyRef erased mut (pointee (Record′.row .written))) l₃₀ (vptr b·register o·register) (holds (sliceTy (tyRef erased mut (pointee (u32 .written)))) l₂₉ (sliceVal (b·nodes, o·nodes) (length nodes)) (holds (tyRef erased mut (pointee (u32 .written))) l₂₈ (vptr b·nodes o·nodes) (holds tyUnit l₂₇ vunit (holds (sliceTy (tyRef erased imm (pointee (Record′.row .written)))) l₂₆ (sliceVal (b·register, o·register) (length register)) (holds (tyRef erased imm (pointee (Record′.row .written))) l₂₅ (vptr b·register o·register) (holds (sliceTy (tyRef erased imm (pointee (Record′.row .written)))) l₂₄ (sliceVal (b·register, o·register) (length register)) (holds (tyRef erased imm (pointee (Record′.row .written))) l₂₃ (vptr b·register o·register) (holds (sliceTy (tyRef erased imm (pointee (Record′.row .written)))) l₂₂ (sliceVal (b·register, o·register) (length register)) (holds (tyRef erased imm (pointee (Record′.row .written))) l₂₁ (vptr b·register o·register) (holds (sliceTy (tyRef erased imm (pointee (Record′.row .written)))) l₂₀ (sliceVal (b·register, o·register) (length register)) (holds (tyRef erased imm (pointee (Record′.row .written))) l₁₉ (vptr b·register o·register) (holds (sliceTy (tyRef erased imm (pointee (Record′.row .written)))) l₁₈ (sliceVal (b·register, o·register) (length register)) (holds (tyRef erased imm (pointee (Record′.row .written))) l₁₇ (vptr b·register o·register) (holds (sliceTy (tyRef erased imm (pointee (u32 .written)))) l₁₆ (sliceVal (b·nodes, o·nodes) (length nodes)) (holds (tyRef erased imm (pointee (u32 .written))) l₁₅ (vptr b·nodes o·nodes) (holds (tyAt (code.function .locals) 14) l₁₄ (WovenNode′.mach r7) (holds (tyAt (code.function .locals) 13) l₁₃ (Version′.mach (r6 s pages nodes register x-t r4)) (holds (tyAt (code.function .locals) 12) l₁₂ (Version′.mach (r5 s pages nodes register x-t r4)) (holds (tyAt (code.function .locals) 11) l₁₁ (Next′.mach (r4 .next)) (holds (tyAt (code.function .locals) 10) l₁₀ (Plan′.mach r4) (holds (tyAt (code.function .locals) 9) l₉ (Record′.mach (r3 s pages nodes register x-t)) (holds (tyAt (code.function .locals) 8) l₈ (Version′.mach ((r2 s pages nodes register x-t) .version)) (holds (tyAt (code.function .locals) 7) l₇ (Record′.mach (r2 s pages nodes register x-t)) (holds (tyAt (code.function .locals) 6) l₆ (Lengths′.mach (r1 s pages nodes register x-t)) (holds (tyAt (code.function .locals) 5) l₅ (Ticket′.mach x-t) (holds (sliceTy (tyRef (named 2) mut (pointee (Record′.row .written)))) l₄ (sliceVal (b·register, o·register) (length register)) (holds (sliceTy (tyRef (named 1) mut (pointee (u32 .written)))) l₃ (sliceVal (b·nodes, o·nodes) (length nodes)) (holds (sliceTy (tyRef (named 0) imm (pointee (u8 .written)))) l₂ (sliceVal (b·pages, o·pages) (length pages)) (holds (tyAt (code.function .locals) 1) l₁ (Store′.mach s) (empty (tyAt (code.function .locals) 0) l₀ [])))))))))))))))))))))))))))))))))) $
-      Call-woven-answer.calls ! mem run (fmOf 𝓤 H (W .laws) 𝓣) known-woven-answer (r4 .k) r7 (Plan′.ok-k r4 ok·4) ok·7 (and-then ! (load ! (from ! (fld ! refl (stop !))) (look-in ! 53 (sub ! 0 refl (whole !)))) (and-then ! (load ! (from ! (stop !)) (look ! 45 refl)) (no-more !)))
-      (λ ok·12. land ! (from ! (stop !)) (init ! 72 refl (Woven′.typed 𝓤 H A W (r12 s pages nodes register x-t r4 r7) ok·12)) $
-      here ! (‵ (flft κ·pages q·pages) ∷ ‵ (ShrAt u8 κ·pages b·pages o·pages γ·pages (length pages) pages) ∷ ‵ (flft κ·nodes q·nodes) ∷ ‵ (MutAt u32 κ·nodes b·nodes o·nodes γ·nodes (length nodes) (nodes₈ s pages nodes register x-t r4 r7)) ∷ ‵ (flft κ·register q·register) ∷ ‵ (MutAt Record′.row κ·register b·register o·register γ·register (length register) (register₁₁ s pages nodes register x-t r4 r7)) ∷ holds (tyAt (code.function .locals) 33) l₃₃ (Record′.mach (r10 s pages nodes register x-t r4 r7)) (holds (tyInt w64) l₃₂ (vint w64 (r9 s pages nodes register x-t r4 r7)) (holds (sliceTy (tyRef erased mut (pointee (Record′.row .written)))) l₃₁ (sliceVal (b·register, o·register) (length register)) (holds (tyRef erased mut (pointee (Record′.row .written))) l₃₀ (vptr b·register o·register) (holds (sliceTy (tyRef erased mut (pointee (u32 .written)))) l₂₉ (sliceVal (b·nodes, o·nodes) (length nodes)) (holds (tyRef erased mut (pointee (u32 .written))) l₂₈ (vptr b·nodes o·nodes) (holds tyUnit l₂₇ vunit (holds (sliceTy (tyRef erased imm (pointee (Record′.row .written)))) l₂₆ (sliceVal (b·register, o·register) (length register)) (holds (tyRef erased imm (pointee (Record′.row .written))) l₂₅ (vptr b·register o·register) (holds (sliceTy (tyRef erased imm (pointee (Record′.row .written)))) l₂₄ (sliceVal (b·register, o·register) (length register)) (holds (tyRef erased imm (pointee (Record′.row .written))) l₂₃ (vptr b·register o·register) (holds (sliceTy (tyRef erased imm (pointee (Record′.row .written)))) l₂₂ (sliceVal (b·register, o·register) (length register)) (holds (tyRef erased imm (pointee (Record′.row .written))) l₂₁ (vptr b·register o·register) (holds (sliceTy (tyRef erased imm (pointee (Record′.row .written)))) l₂₀ (sliceVal (b·register, o·register) (length register)) (holds (tyRef erased imm (pointee (Record′.row .written))) l₁₉ (vptr b·register o·register) (holds (sliceTy (tyRef erased imm (pointee (Record′.row .written)))) l₁₈ (sliceVal (b·register, o·register) (length register)) (holds (tyRef erased imm (pointee (Record′.row .written))) l₁₇ (vptr b·register o·register) (holds (sliceTy (tyRef erased imm (pointee (u32 .written)))) l₁₆ (sliceVal (b·nodes, o·nodes) (length nodes)) (holds (tyRef erased imm (pointee (u32 .written))) l₁₅ (vptr b·nodes o·nodes) (holds (tyAt (code.function .locals) 14) l₁₄ (WovenNode′.mach r7) (holds (tyAt (code.function .locals) 13) l₁₃ (Version′.mach (r6 s pages nodes register x-t r4)) (holds (tyAt (code.function .locals) 12) l₁₂ (Version′.mach (r5 s pages nodes register x-t r4)) (holds (tyAt (code.function .locals) 11) l₁₁ (Next′.mach (r4 .next)) (holds (tyAt (code.function .locals) 10) l₁₀ (Plan′.mach r4) (holds (tyAt (code.function .locals) 9) l₉ (Record′.mach (r3 s pages nodes register x-t)) (holds (tyAt (code.function .locals) 8) l₈ (Version′.mach ((r2 s pages nodes register x-t) .version)) (holds (tyAt (code.function .locals) 7) l₇ (Record′.mach (r2 s pages nodes register x-t)) (holds (tyAt (code.function .locals) 6) l₆ (Lengths′.mach (r1 s pages nodes register x-t)) (holds (tyAt (code.function .locals) 5) l₅ (Ticket′.mach x-t) (holds (sliceTy (tyRef (named 2) mut (pointee (Record′.row .written)))) l₄ (sliceVal (b·register, o·register) (length register)) (holds (sliceTy (tyRef (named 1) mut (pointee (u32 .written)))) l₃ (sliceVal (b·nodes, o·nodes) (length nodes)) (holds (sliceTy (tyRef (named 0) imm (pointee (u8 .written)))) l₂ (sliceVal (b·pages, o·pages) (length pages)) (holds (tyAt (code.function .locals) 1) l₁ (Store′.mach s) (holds (tyAt (code.function .locals) 0) l₀ (Woven′.mach (r12 s pages nodes register x-t r4 r7)) [])))))))))))))))))))))))))))))))))) $
-      returns ! (look ! 72 refl) $
-      move ! (72 ∷ 73 ∷ []) $ forget ! 0 refl $ free1 ! $ move ! (70 ∷ 71 ∷ []) $ forget ! 0 refl $ free1 ! $ move ! (68 ∷ 69 ∷ []) $ forget ! 0 refl $ free1 ! $ move ! (66 ∷ 67 ∷ []) $ forget ! 0 refl $ free1 ! $ move ! (64 ∷ 65 ∷ []) $ forget ! 0 refl $ free1 ! $ move ! (62 ∷ 63 ∷ []) $ forget ! 0 refl $ free1 ! $ move ! (60 ∷ 61 ∷ []) $ forget ! 0 refl $ free1 ! $ move ! (58 ∷ 59 ∷ []) $ forget ! 0 refl $ free1 ! $ move ! (56 ∷ 57 ∷ []) $ forget ! 0 refl $ free1 ! $ move ! (54 ∷ 55 ∷ []) $ forget ! 0 refl $ free1 ! $ move ! (52 ∷ 53 ∷ []) $ forget ! 0 refl $ free1 ! $ move ! (50 ∷ 51 ∷ []) $ forget ! 0 refl $ free1 ! $ move ! (48 ∷ 49 ∷ []) $ forget ! 0 refl $ free1 ! $ move ! (46 ∷ 47 ∷ []) $ forget ! 0 refl $ free1 ! $ move ! (44 ∷ 45 ∷ []) $ forget ! 0 refl $ free1 ! $ move ! (42 ∷ 43 ∷ []) $ forget ! 0 refl $ free1 ! $ move ! (40 ∷ 41 ∷ []) $ forget ! 0 refl $ free1 ! $ move ! (38 ∷ 39 ∷ []) $ forget ! 0 refl $ free1 ! $ move ! (36 ∷ 37 ∷ []) $ forget ! 0 refl $ free1 ! $ move ! (34 ∷ 35 ∷ []) $ forget ! 0 refl $ free1 ! $ move ! (32 ∷ 33 ∷ []) $ forget ! 0 refl $ free1 ! $ move ! (30 ∷ 31 ∷ []) $ forget ! 0 refl $ free1 ! $ move ! (28 ∷ 29 ∷ []) $ forget ! 0 refl $ free1 ! $ move ! (26 ∷ 27 ∷ []) $ forget ! 0 refl $ free1 ! $ move ! (24 ∷ 25 ∷ []) $ forget ! 0 refl $ free1 ! $ move ! (22 ∷ 23 ∷ []) $ forget ! 0 refl $ free1 ! $ move ! (20 ∷ 21 ∷ []) $ forget ! 0 refl $ free1 ! $ move ! (18 ∷ 19 ∷ []) $ forget ! 0 refl $ free1 ! $ move ! (16 ∷ 17 ∷ []) $ forget ! 0 refl $ free1 ! $ move ! (14 ∷ 15 ∷ []) $ forget ! 0 refl $ free1 ! $ move ! (12 ∷ 13 ∷ []) $ forget ! 0 refl $ free1 ! $ move ! (10 ∷ 11 ∷ []) $ forget ! 0 refl $ free1 ! $ move ! (8 ∷ 9 ∷ []) $ forget ! 0 refl $ free1 ! $ move ! (6 ∷ 7 ∷ []) $ forget ! 0 refl $ free1 ! $ free0 ! $ by ! (exits (r12 s pages nodes register x-t r4 r7) ok·12 (nodes₈ s pages nodes register x-t r4 r7) (sym (refl ∙ sym same·8-nodes)) (register₁₁ s pages nodes register x-t r4 r7) (sym (refl ∙ sym same·11-register)) (Facts.exit-1 s pages nodes register x-t ok·s (room·pages .0) (room·nodes .0) (room·register .0) ok·x-t ok·1 ok·2 ok·3 r4 ok·4 says·4 ok·5 ok·6 r7 ok·7 says·7 same·8-nodes (ok·9 .1) ok·10 same·11-register ok·12))))))))))))))))))))))))))))))))))))))))))))))))))))))))
+      Call-find-next.calls ! mem run (fmOf 𝓤 H (W .laws) 𝓣) known-find-next s (r1 s pages nodes register x-t) (ν·2-register ∷ []) fullShare b·register o·register γ·2-register (length register) register x-t ok·s ok·1 ok·x-t (and-then ! (load ! (from ! (stop !)) (look ! 41 refl)) (and-then ! (load ! (from ! (stop !)) (look ! 31 refl)) (and-then ! (load ! (from ! (stop !)) (look ! 17 refl)) (and-then ! (load ! (from ! (stop !)) (look ! 33 refl)) (no-more !)))))
+      (λ r2 ok·2 says·2. back-shr ! tt Record′.row κ·register q·register b·register o·register γ·register (length register) register ν·2-register (refl) room·register $ move ! (2 ∷ 3 ∷ 4 ∷ 5 ∷ 0 ∷ 1 ∷ []) $ land ! (from ! (stop !)) (init ! 28 refl (Found′.typed 𝓤 H A W r2 ok·2)) $
+      here ! (‵ (flft κ·pages q·pages) ∷ ‵ (ShrAt u8 κ·pages b·pages o·pages γ·pages (length pages) pages) ∷ ‵ (flft κ·nodes q·nodes) ∷ ‵ (MutAt u32 κ·nodes b·nodes o·nodes γ·nodes (length nodes) nodes) ∷ ‵ (flft κ·register q·register) ∷ ‵ (MutAt Record′.row κ·register b·register o·register γ·register (length register) register) ∷ empty (sliceTy (tyRef erased mut (pointee (Record′.row .written)))) l₁₈ (empty (tyRef erased mut (pointee (Record′.row .written))) l₁₇ (empty (sliceTy (tyRef erased mut (pointee (u32 .written)))) l₁₆ (empty (tyRef erased mut (pointee (u32 .written))) l₁₅ (empty tyUnit l₁₄ (holds (sliceTy (tyRef erased imm (pointee (Record′.row .written)))) l₁₃ (sliceVal (b·register, o·register) (length register)) (holds (tyRef erased imm (pointee (Record′.row .written))) l₁₂ (vptr b·register o·register) (holds (sliceTy (tyRef erased imm (pointee (Record′.row .written)))) l₁₁ (sliceVal (b·register, o·register) (length register)) (holds (tyRef erased imm (pointee (Record′.row .written))) l₁₀ (vptr b·register o·register) (holds (sliceTy (tyRef erased imm (pointee (u32 .written)))) l₉ (sliceVal (b·nodes, o·nodes) (length nodes)) (holds (tyRef erased imm (pointee (u32 .written))) l₈ (vptr b·nodes o·nodes) (holds (tyAt (code.function .locals) 7) l₇ (Found′.mach r2) (holds (tyAt (code.function .locals) 6) l₆ (Lengths′.mach (r1 s pages nodes register x-t)) (holds (tyAt (code.function .locals) 5) l₅ (Ticket′.mach x-t) (holds (sliceTy (tyRef (named 2) mut (pointee (Record′.row .written)))) l₄ (sliceVal (b·register, o·register) (length register)) (holds (sliceTy (tyRef (named 1) mut (pointee (u32 .written)))) l₃ (sliceVal (b·nodes, o·nodes) (length nodes)) (holds (sliceTy (tyRef (named 0) imm (pointee (u8 .written)))) l₂ (sliceVal (b·pages, o·pages) (length pages)) (holds (tyAt (code.function .locals) 1) l₁ (Store′.mach s) (empty (tyAt (code.function .locals) 0) l₀ []))))))))))))))))))) $
+      assigns ! (addr ! (from ! (fld ! refl (hop ! (look-in ! 36 (sub ! 0 refl (whole !))) (stop !))))) (from ! (stop !)) (init ! 12 refl (tt, tt)) $
+      assigns ! (agg ! (and-then ! (load ! (from ! (stop !)) (look ! 12 refl)) (and-then ! (load ! (from ! (fld ! refl (stop !))) (look-in ! 36 (sub ! 1 refl (whole !)))) (no-more !)))) (from ! (stop !)) (init ! 10 refl (tt, (tt, (record { fits = room·nodes .0 }, tt)))) $
+      move ! (2 ∷ 3 ∷ []) $ lend-mut ! tt u32 κ·nodes q·nodes b·nodes o·nodes γ·nodes (length nodes) nodes (refl) (λ ν·3-nodes γ·3-nodes.
+      Call-store-woven.calls ! mem run (fmOf 𝓤 H (W .laws) 𝓣) known-store-woven (ν·3-nodes ∷ []) fullShare b·nodes o·nodes γ·3-nodes (length nodes) nodes (r2 .k) (r2 .part) (r2 .node) (Found′.ok-k r2 ok·2) (Found′.ok-part r2 ok·2) (Found′.ok-node r2 ok·2) (Facts.store-woven-1 s pages nodes register x-t ok·s (room·pages .0) (room·nodes .0) (room·register .0) ok·x-t ok·1 r2 ok·2 says·2) (and-then ! (load ! (from ! (stop !)) (look ! 10 refl)) (and-then ! (load ! (from ! (fld ! refl (stop !))) (look-in ! 28 (sub ! 0 refl (whole !)))) (and-then ! (load ! (from ! (fld ! refl (stop !))) (look-in ! 28 (sub ! 2 refl (whole !)))) (and-then ! (load ! (from ! (fld ! refl (stop !))) (look-in ! 28 (sub ! 3 refl (whole !)))) (no-more !)))))
+      (λ same·3-nodes. back-mut ! tt u32 κ·nodes q·nodes b·nodes o·nodes γ·nodes (length nodes) nodes (nodes₃ s pages nodes register x-t r2) ν·3-nodes γ·3-nodes (refl) same·3-nodes room·nodes $ move ! (2 ∷ 3 ∷ 0 ∷ 1 ∷ 4 ∷ 5 ∷ []) $ land ! (from ! (stop !)) (init ! 14 refl (tt, tt)) $
+      here ! (‵ (flft κ·pages q·pages) ∷ ‵ (ShrAt u8 κ·pages b·pages o·pages γ·pages (length pages) pages) ∷ ‵ (flft κ·nodes q·nodes) ∷ ‵ (MutAt u32 κ·nodes b·nodes o·nodes γ·nodes (length nodes) (nodes₃ s pages nodes register x-t r2)) ∷ ‵ (flft κ·register q·register) ∷ ‵ (MutAt Record′.row κ·register b·register o·register γ·register (length register) register) ∷ empty (sliceTy (tyRef erased mut (pointee (Record′.row .written)))) l₁₈ (empty (tyRef erased mut (pointee (Record′.row .written))) l₁₇ (holds (sliceTy (tyRef erased mut (pointee (u32 .written)))) l₁₆ (sliceVal (b·nodes, o·nodes) (length nodes)) (holds (tyRef erased mut (pointee (u32 .written))) l₁₅ (vptr b·nodes o·nodes) (holds tyUnit l₁₄ vunit (holds (sliceTy (tyRef erased imm (pointee (Record′.row .written)))) l₁₃ (sliceVal (b·register, o·register) (length register)) (holds (tyRef erased imm (pointee (Record′.row .written))) l₁₂ (vptr b·register o·register) (holds (sliceTy (tyRef erased imm (pointee (Record′.row .written)))) l₁₁ (sliceVal (b·register, o·register) (length register)) (holds (tyRef erased imm (pointee (Record′.row .written))) l₁₀ (vptr b·register o·register) (holds (sliceTy (tyRef erased imm (pointee (u32 .written)))) l₉ (sliceVal (b·nodes, o·nodes) (length nodes)) (holds (tyRef erased imm (pointee (u32 .written))) l₈ (vptr b·nodes o·nodes) (holds (tyAt (code.function .locals) 7) l₇ (Found′.mach r2) (holds (tyAt (code.function .locals) 6) l₆ (Lengths′.mach (r1 s pages nodes register x-t)) (holds (tyAt (code.function .locals) 5) l₅ (Ticket′.mach x-t) (holds (sliceTy (tyRef (named 2) mut (pointee (Record′.row .written)))) l₄ (sliceVal (b·register, o·register) (length register)) (holds (sliceTy (tyRef (named 1) mut (pointee (u32 .written)))) l₃ (sliceVal (b·nodes, o·nodes) (length nodes)) (holds (sliceTy (tyRef (named 0) imm (pointee (u8 .written)))) l₂ (sliceVal (b·pages, o·pages) (length pages)) (holds (tyAt (code.function .locals) 1) l₁ (Store′.mach s) (empty (tyAt (code.function .locals) 0) l₀ []))))))))))))))))))) $
+      assigns ! (addr ! (from ! (fld ! refl (hop ! (look-in ! 34 (sub ! 0 refl (whole !))) (stop !))))) (from ! (stop !)) (init ! 8 refl (tt, tt)) $
+      assigns ! (agg ! (and-then ! (load ! (from ! (stop !)) (look ! 8 refl)) (and-then ! (load ! (from ! (fld ! refl (stop !))) (look-in ! 34 (sub ! 1 refl (whole !)))) (no-more !)))) (from ! (stop !)) (init ! 6 refl (tt, (tt, (record { fits = room·register .0 }, tt)))) $
+      move ! (4 ∷ 5 ∷ []) $ lend-mut ! tt Record′.row κ·register q·register b·register o·register γ·register (length register) register (refl) (λ ν·4-register γ·4-register.
+      Call-count-woven.calls ! mem run (fmOf 𝓤 H (W .laws) 𝓣) known-count-woven (ν·4-register ∷ []) fullShare b·register o·register γ·4-register (length register) register (r2 .k) (r2 .update) (Found′.ok-k r2 ok·2) (Found′.ok-update r2 ok·2) (Facts.count-woven-1 s pages nodes register x-t ok·s (room·pages .0) (room·nodes .0) (room·register .0) ok·x-t ok·1 r2 ok·2 says·2 same·3-nodes) (and-then ! (load ! (from ! (stop !)) (look ! 6 refl)) (and-then ! (load ! (from ! (fld ! refl (stop !))) (look-in ! 28 (sub ! 0 refl (whole !)))) (and-then ! (load ! (from ! (fld ! refl (stop !))) (look-in ! 28 (sub ! 1 refl (whole !)))) (no-more !))))
+      (λ same·4-register. back-mut ! tt Record′.row κ·register q·register b·register o·register γ·register (length register) register (register₄ s pages nodes register x-t r2) ν·4-register γ·4-register (refl) same·4-register room·register $ move ! (2 ∷ 3 ∷ 4 ∷ 5 ∷ 0 ∷ 1 ∷ []) $ land ! (from ! (stop !)) (store ! 14 refl (tt, tt)) $
+      here ! (‵ (flft κ·pages q·pages) ∷ ‵ (ShrAt u8 κ·pages b·pages o·pages γ·pages (length pages) pages) ∷ ‵ (flft κ·nodes q·nodes) ∷ ‵ (MutAt u32 κ·nodes b·nodes o·nodes γ·nodes (length nodes) (nodes₃ s pages nodes register x-t r2)) ∷ ‵ (flft κ·register q·register) ∷ ‵ (MutAt Record′.row κ·register b·register o·register γ·register (length register) (register₄ s pages nodes register x-t r2)) ∷ holds (sliceTy (tyRef erased mut (pointee (Record′.row .written)))) l₁₈ (sliceVal (b·register, o·register) (length register)) (holds (tyRef erased mut (pointee (Record′.row .written))) l₁₇ (vptr b·register o·register) (holds (sliceTy (tyRef erased mut (pointee (u32 .written)))) l₁₆ (sliceVal (b·nodes, o·nodes) (length nodes)) (holds (tyRef erased mut (pointee (u32 .written))) l₁₅ (vptr b·nodes o·nodes) (holds tyUnit l₁₄ vunit (holds (sliceTy (tyRef erased imm (pointee (Record′.row .written)))) l₁₃ (sliceVal (b·register, o·register) (length register)) (holds (tyRef erased imm (pointee (Record′.row .written))) l₁₂ (vptr b·register o·register) (holds (sliceTy (tyRef erased imm (pointee (Record′.row .written)))) l₁₁ (sliceVal (b·register, o·register) (length register)) (holds (tyRef erased imm (pointee (Record′.row .written))) l₁₀ (vptr b·register o·register) (holds (sliceTy (tyRef erased imm (pointee (u32 .written)))) l₉ (sliceVal (b·nodes, o·nodes) (length nodes)) (holds (tyRef erased imm (pointee (u32 .written))) l₈ (vptr b·nodes o·nodes) (holds (tyAt (code.function .locals) 7) l₇ (Found′.mach r2) (holds (tyAt (code.function .locals) 6) l₆ (Lengths′.mach (r1 s pages nodes register x-t)) (holds (tyAt (code.function .locals) 5) l₅ (Ticket′.mach x-t) (holds (sliceTy (tyRef (named 2) mut (pointee (Record′.row .written)))) l₄ (sliceVal (b·register, o·register) (length register)) (holds (sliceTy (tyRef (named 1) mut (pointee (u32 .written)))) l₃ (sliceVal (b·nodes, o·nodes) (length nodes)) (holds (sliceTy (tyRef (named 0) imm (pointee (u8 .written)))) l₂ (sliceVal (b·pages, o·pages) (length pages)) (holds (tyAt (code.function .locals) 1) l₁ (Store′.mach s) (empty (tyAt (code.function .locals) 0) l₀ []))))))))))))))))))) $
+      Call-woven-answer.calls ! mem run (fmOf 𝓤 H (W .laws) 𝓣) known-woven-answer (r2 .k) (r2 .node) (Found′.ok-k r2 ok·2) (Found′.ok-node r2 ok·2) (and-then ! (load ! (from ! (fld ! refl (stop !))) (look-in ! 29 (sub ! 0 refl (whole !)))) (and-then ! (load ! (from ! (fld ! refl (stop !))) (look-in ! 29 (sub ! 3 refl (whole !)))) (no-more !)))
+      (λ ok·5. land ! (from ! (stop !)) (init ! 42 refl (Woven′.typed 𝓤 H A W (r5 s pages nodes register x-t r2) ok·5)) $
+      here ! (‵ (flft κ·pages q·pages) ∷ ‵ (ShrAt u8 κ·pages b·pages o·pages γ·pages (length pages) pages) ∷ ‵ (flft κ·nodes q·nodes) ∷ ‵ (MutAt u32 κ·nodes b·nodes o·nodes γ·nodes (length nodes) (nodes₃ s pages nodes register x-t r2)) ∷ ‵ (flft κ·register q·register) ∷ ‵ (MutAt Record′.row κ·register b·register o·register γ·register (length register) (register₄ s pages nodes register x-t r2)) ∷ holds (sliceTy (tyRef erased mut (pointee (Record′.row .written)))) l₁₈ (sliceVal (b·register, o·register) (length register)) (holds (tyRef erased mut (pointee (Record′.row .written))) l₁₇ (vptr b·register o·register) (holds (sliceTy (tyRef erased mut (pointee (u32 .written)))) l₁₆ (sliceVal (b·nodes, o·nodes) (length nodes)) (holds (tyRef erased mut (pointee (u32 .written))) l₁₅ (vptr b·nodes o·nodes) (holds tyUnit l₁₄ vunit (holds (sliceTy (tyRef erased imm (pointee (Record′.row .written)))) l₁₃ (sliceVal (b·register, o·register) (length register)) (holds (tyRef erased imm (pointee (Record′.row .written))) l₁₂ (vptr b·register o·register) (holds (sliceTy (tyRef erased imm (pointee (Record′.row .written)))) l₁₁ (sliceVal (b·register, o·register) (length register)) (holds (tyRef erased imm (pointee (Record′.row .written))) l₁₀ (vptr b·register o·register) (holds (sliceTy (tyRef erased imm (pointee (u32 .written)))) l₉ (sliceVal (b·nodes, o·nodes) (length nodes)) (holds (tyRef erased imm (pointee (u32 .written))) l₈ (vptr b·nodes o·nodes) (holds (tyAt (code.function .locals) 7) l₇ (Found′.mach r2) (holds (tyAt (code.function .locals) 6) l₆ (Lengths′.mach (r1 s pages nodes register x-t)) (holds (tyAt (code.function .locals) 5) l₅ (Ticket′.mach x-t) (holds (sliceTy (tyRef (named 2) mut (pointee (Record′.row .written)))) l₄ (sliceVal (b·register, o·register) (length register)) (holds (sliceTy (tyRef (named 1) mut (pointee (u32 .written)))) l₃ (sliceVal (b·nodes, o·nodes) (length nodes)) (holds (sliceTy (tyRef (named 0) imm (pointee (u8 .written)))) l₂ (sliceVal (b·pages, o·pages) (length pages)) (holds (tyAt (code.function .locals) 1) l₁ (Store′.mach s) (holds (tyAt (code.function .locals) 0) l₀ (Woven′.mach (r5 s pages nodes register x-t r2)) []))))))))))))))))))) $
+      returns ! (look ! 42 refl) $
+      move ! (42 ∷ 43 ∷ []) $ forget ! 0 refl $ free1 ! $ move ! (40 ∷ 41 ∷ []) $ forget ! 0 refl $ free1 ! $ move ! (38 ∷ 39 ∷ []) $ forget ! 0 refl $ free1 ! $ move ! (36 ∷ 37 ∷ []) $ forget ! 0 refl $ free1 ! $ move ! (34 ∷ 35 ∷ []) $ forget ! 0 refl $ free1 ! $ move ! (32 ∷ 33 ∷ []) $ forget ! 0 refl $ free1 ! $ move ! (30 ∷ 31 ∷ []) $ forget ! 0 refl $ free1 ! $ move ! (28 ∷ 29 ∷ []) $ forget ! 0 refl $ free1 ! $ move ! (26 ∷ 27 ∷ []) $ forget ! 0 refl $ free1 ! $ move ! (24 ∷ 25 ∷ []) $ forget ! 0 refl $ free1 ! $ move ! (22 ∷ 23 ∷ []) $ forget ! 0 refl $ free1 ! $ move ! (20 ∷ 21 ∷ []) $ forget ! 0 refl $ free1 ! $ move ! (18 ∷ 19 ∷ []) $ forget ! 0 refl $ free1 ! $ move ! (16 ∷ 17 ∷ []) $ forget ! 0 refl $ free1 ! $ move ! (14 ∷ 15 ∷ []) $ forget ! 0 refl $ free1 ! $ move ! (12 ∷ 13 ∷ []) $ forget ! 0 refl $ free1 ! $ move ! (10 ∷ 11 ∷ []) $ forget ! 0 refl $ free1 ! $ move ! (8 ∷ 9 ∷ []) $ forget ! 0 refl $ free1 ! $ move ! (6 ∷ 7 ∷ []) $ forget ! 0 refl $ free1 ! $ free0 ! $ by ! (exits (r5 s pages nodes register x-t r2) ok·5 (nodes₃ s pages nodes register x-t r2) (sym (refl ∙ sym same·3-nodes)) (register₄ s pages nodes register x-t r2) (sym (refl ∙ sym same·4-register)) (Facts.exit-1 s pages nodes register x-t ok·s (room·pages .0) (room·nodes .0) (room·register .0) ok·x-t ok·1 r2 ok·2 says·2 same·3-nodes same·4-register ok·5)))))))))))))))))))))))))))))))
 
 module _ {M : Type 1} (𝓤 : URA M) (H : Heap 𝓤) (A : Atoms 𝓤) (W : Given 𝓤 H A) (mem : Memory → SProp 𝓤) (run : Routine → Fun 𝓤) where
-  walks : (𝓣 : Tables 𝓤 H) → Triple 𝓤 (𝓣 .C #lengths-of) (Call-lengths-of.Asked 𝓤 H A mem run) → Triple 𝓤 (𝓣 .C #ticket-record) (Call-ticket-record.Asked 𝓤 H A mem run) → Triple 𝓤 (𝓣 .C #version-record) (Call-version-record.Asked 𝓤 H A mem run) → Triple 𝓤 (𝓣 .C #weave-plan) (Call-weave-plan.Asked 𝓤 H A mem run) → Triple 𝓤 (𝓣 .C #newest-update) (Call-newest-update.Asked 𝓤 H A mem run) → Triple 𝓤 (𝓣 .C #woven-node) (Call-woven-node.Asked 𝓤 H A mem run) → Triple 𝓤 (𝓣 .C #store-woven) (Call-store-woven.Asked 𝓤 H A mem run) → Triple 𝓤 (𝓣 .C #version-index) (Call-version-index.Asked 𝓤 H A mem run) → Triple 𝓤 (𝓣 .C #with-woven) (Call-with-woven.Asked 𝓤 H A mem run) → Triple 𝓤 (𝓣 .C #put-record) (Call-put-record.Asked 𝓤 H A mem run) → Triple 𝓤 (𝓣 .C #woven-answer) (Call-woven-answer.Asked 𝓤 H A mem run) → Walks 𝓤 H A weave‴.ended stayed (WpFn 𝓤 H (𝓣 .C) (𝓣 .Λ) code.function) (weave‴.clauses 𝓤 H A mem run)
-  walks 𝓣 known-lengths-of known-ticket-record known-version-record known-weave-plan known-newest-update known-woven-node known-store-woven known-version-index known-with-woven known-put-record known-woven-answer = walked 𝓤 H A weave‴.ended stayed (weave‴.clauses 𝓤 H A mem run) (WpFn 𝓤 H (𝓣 .C) (𝓣 .Λ) code.function) (λ κs. (Store′.vals, (slice-vals, (slice-vals, (slice-vals, (Ticket′.vals, tt)))))) (λ κs. (Store′.tells, (shr-slice-tells (named 0) (κs .0) u8, (mut-slice-tells (named 0) (κs .1 .0) u32, (mut-slice-tells (named 0) (κs .1 .1 .0) Record′.row, (Ticket′.tells, tt))))))
-      (λ κs qs bounds a g are. via 𝓤 _ (fst∗ 𝓤 _ (emp 𝓤)) (walk 𝓤 H A W mem run (a .0) (κs .0) (qs .0) (a .1 .0 .ptr .0) (a .1 .0 .ptr .1) (a .1 .0 .name) (a .1 .0 .now) (κs .1 .0) (qs .1 .0) (a .1 .1 .0 .ptr .0) (a .1 .1 .0 .ptr .1) (a .1 .1 .0 .name) (a .1 .1 .0 .now) (κs .1 .1 .0) (qs .1 .1 .0) (a .1 .1 .1 .0 .ptr .0) (a .1 .1 .1 .0 .ptr .1) (a .1 .1 .1 .0 .name) (a .1 .1 .1 .0 .now) (a .1 .1 .1 .1 .0) (are .0) (are .1 .0 .0 .1) (are .1 .1 .0 .0 .1) (are .1 .1 .1 .0 .0 .1) (are .1 .1 .1 .1 .0) 𝓣 known-lengths-of known-ticket-record known-version-record known-weave-plan known-newest-update known-woven-node known-store-woven known-version-index known-with-woven known-put-record known-woven-answer))
+  walks : (𝓣 : Tables 𝓤 H) → Triple 𝓤 (𝓣 .C #lengths-of) (Call-lengths-of.Asked 𝓤 H A mem run) → Triple 𝓤 (𝓣 .C #find-next) (Call-find-next.Asked 𝓤 H A mem run) → Triple 𝓤 (𝓣 .C #store-woven) (Call-store-woven.Asked 𝓤 H A mem run) → Triple 𝓤 (𝓣 .C #count-woven) (Call-count-woven.Asked 𝓤 H A mem run) → Triple 𝓤 (𝓣 .C #woven-answer) (Call-woven-answer.Asked 𝓤 H A mem run) → Walks 𝓤 H A weave‴.ended stayed (WpFn 𝓤 H (𝓣 .C) (𝓣 .Λ) code.function) (weave‴.clauses 𝓤 H A mem run)
+  walks 𝓣 known-lengths-of known-find-next known-store-woven known-count-woven known-woven-answer = walked 𝓤 H A weave‴.ended stayed (weave‴.clauses 𝓤 H A mem run) (WpFn 𝓤 H (𝓣 .C) (𝓣 .Λ) code.function) (λ κs. (Store′.vals, (slice-vals, (slice-vals, (slice-vals, (Ticket′.vals, tt)))))) (λ κs. (Store′.tells, (shr-slice-tells (named 0) (κs .0) u8, (mut-slice-tells (named 0) (κs .1 .0) u32, (mut-slice-tells (named 0) (κs .1 .1 .0) Record′.row, (Ticket′.tells, tt))))))
+      (λ κs qs bounds a g are. via 𝓤 _ (fst∗ 𝓤 _ (emp 𝓤)) (walk 𝓤 H A W mem run (a .0) (κs .0) (qs .0) (a .1 .0 .ptr .0) (a .1 .0 .ptr .1) (a .1 .0 .name) (a .1 .0 .now) (κs .1 .0) (qs .1 .0) (a .1 .1 .0 .ptr .0) (a .1 .1 .0 .ptr .1) (a .1 .1 .0 .name) (a .1 .1 .0 .now) (κs .1 .1 .0) (qs .1 .1 .0) (a .1 .1 .1 .0 .ptr .0) (a .1 .1 .1 .0 .ptr .1) (a .1 .1 .1 .0 .name) (a .1 .1 .1 .0 .now) (a .1 .1 .1 .1 .0) (are .0) (are .1 .0 .0 .1) (are .1 .1 .0 .0 .1) (are .1 .1 .1 .0 .0 .1) (are .1 .1 .1 .1 .0) 𝓣 known-lengths-of known-find-next known-store-woven known-count-woven known-woven-answer))
 
-meets : {M : Type 1} (𝓤 : URA M) (H : Heap 𝓤) (A : Atoms 𝓤) → Given 𝓤 H A → (mem : Memory → SProp 𝓤) (run : Routine → Fun 𝓤) (𝓣 : Tables 𝓤 H) → Triple 𝓤 (𝓣 .C #lengths-of) (Call-lengths-of.Asked 𝓤 H A mem run) → Triple 𝓤 (𝓣 .C #ticket-record) (Call-ticket-record.Asked 𝓤 H A mem run) → Triple 𝓤 (𝓣 .C #version-record) (Call-version-record.Asked 𝓤 H A mem run) → Triple 𝓤 (𝓣 .C #weave-plan) (Call-weave-plan.Asked 𝓤 H A mem run) → Triple 𝓤 (𝓣 .C #newest-update) (Call-newest-update.Asked 𝓤 H A mem run) → Triple 𝓤 (𝓣 .C #woven-node) (Call-woven-node.Asked 𝓤 H A mem run) → Triple 𝓤 (𝓣 .C #store-woven) (Call-store-woven.Asked 𝓤 H A mem run) → Triple 𝓤 (𝓣 .C #version-index) (Call-version-index.Asked 𝓤 H A mem run) → Triple 𝓤 (𝓣 .C #with-woven) (Call-with-woven.Asked 𝓤 H A mem run) → Triple 𝓤 (𝓣 .C #put-record) (Call-put-record.Asked 𝓤 H A mem run) → Triple 𝓤 (𝓣 .C #woven-answer) (Call-woven-answer.Asked 𝓤 H A mem run)
+meets : {M : Type 1} (𝓤 : URA M) (H : Heap 𝓤) (A : Atoms 𝓤) → Given 𝓤 H A → (mem : Memory → SProp 𝓤) (run : Routine → Fun 𝓤) (𝓣 : Tables 𝓤 H) → Triple 𝓤 (𝓣 .C #lengths-of) (Call-lengths-of.Asked 𝓤 H A mem run) → Triple 𝓤 (𝓣 .C #find-next) (Call-find-next.Asked 𝓤 H A mem run) → Triple 𝓤 (𝓣 .C #store-woven) (Call-store-woven.Asked 𝓤 H A mem run) → Triple 𝓤 (𝓣 .C #count-woven) (Call-count-woven.Asked 𝓤 H A mem run) → Triple 𝓤 (𝓣 .C #woven-answer) (Call-woven-answer.Asked 𝓤 H A mem run)
     → Meets 𝓤 H A weave‴.signature (WpFn 𝓤 H (𝓣 .C) (𝓣 .Λ) code.function) (weave‴.spec 𝓤 H A mem run)
-meets 𝓤 H A W mem run 𝓣 known-lengths-of known-ticket-record known-version-record known-weave-plan known-newest-update known-woven-node known-store-woven known-version-index known-with-woven known-put-record known-woven-answer =
+meets 𝓤 H A W mem run 𝓣 known-lengths-of known-find-next known-store-woven known-count-woven known-woven-answer =
     walk-meets 𝓤 H A weave‴.ended stayed W (goes-none 𝓤 H A W 3 (λ _. Store′.row) yes (λ κs x f. refl), (goes-none-slice 𝓤 H A W 3 (0 ∷ []) tt (plain (λ _. u8)) yes, (goes-slice 𝓤 H A W 3 1 tt (plain (λ _. u32)), (goes-slice 𝓤 H A W 3 2 tt (plain (λ _. Record′.row)), (goes-none 𝓤 H A W 3 (λ _. Ticket′.row) yes (λ κs x f. refl), tt))))) (weave‴.clauses 𝓤 H A mem run)
-    (WpFn 𝓤 H (𝓣 .C) (𝓣 .Λ) code.function) (WpFn-mono 𝓤 H (W .laws) 𝓣 code.function) (walks 𝓤 H A W mem run 𝓣 known-lengths-of known-ticket-record known-version-record known-weave-plan known-newest-update known-woven-node known-store-woven known-version-index known-with-woven known-put-record known-woven-answer)
+    (WpFn 𝓤 H (𝓣 .C) (𝓣 .Λ) code.function) (WpFn-mono 𝓤 H (W .laws) 𝓣 code.function) (walks 𝓤 H A W mem run 𝓣 known-lengths-of known-find-next known-store-woven known-count-woven known-woven-answer)
 
 pub weave-spec : {M : Type 1} → stated.statement M
 unfolding code.routine tablesOf
@@ -236,13 +180,7 @@ weave-spec 𝓤 H 𝓜 𝓖 𝓡 =
     (tables 𝓤 H 𝓜 𝓡 code.env .C) (tables 𝓤 H 𝓜 𝓡 code.env .Λ) #self code.function (code.unfolded 𝓤 H 𝓜 𝓡)
     (meets 𝓤 H (𝓖 .A) (givenOf 𝓤 H 𝓜 𝓖) (𝓜 .mem) (𝓡 .run) (tablesOf 𝓤 H 𝓜 (tables 𝓤 H 𝓜 𝓡 code.env))
     (cited 𝓤 H (Call-lengths-of.Asked 𝓤 H (𝓖 .A) (𝓜 .mem) (𝓡 .run)) 𝓜 𝓡 code.env #lengths-of def-lengths-of.routine code.calls-versions·lengths-of (thm-lengths-of.met 𝓤 H 𝓜 𝓖 𝓡))
-    (cited 𝓤 H (Call-ticket-record.Asked 𝓤 H (𝓖 .A) (𝓜 .mem) (𝓡 .run)) 𝓜 𝓡 code.env #ticket-record def-ticket-record.routine code.calls-register·ticket-record (thm-ticket-record.met 𝓤 H 𝓜 𝓖 𝓡))
-    (cited 𝓤 H (Call-version-record.Asked 𝓤 H (𝓖 .A) (𝓜 .mem) (𝓡 .run)) 𝓜 𝓡 code.env #version-record def-version-record.routine code.calls-register·version-record (thm-version-record.met 𝓤 H 𝓜 𝓖 𝓡))
-    (cited 𝓤 H (Call-weave-plan.Asked 𝓤 H (𝓖 .A) (𝓜 .mem) (𝓡 .run)) 𝓜 𝓡 code.env #weave-plan def-weave-plan.routine code.calls-weave·weave-plan (thm-weave-plan.met 𝓤 H 𝓜 𝓖 𝓡))
-    (cited 𝓤 H (Call-newest-update.Asked 𝓤 H (𝓖 .A) (𝓜 .mem) (𝓡 .run)) 𝓜 𝓡 code.env #newest-update def-newest-update.routine code.calls-register·newest-update (thm-newest-update.met 𝓤 H 𝓜 𝓖 𝓡))
-    (cited 𝓤 H (Call-woven-node.Asked 𝓤 H (𝓖 .A) (𝓜 .mem) (𝓡 .run)) 𝓜 𝓡 code.env #woven-node def-woven-node.routine code.calls-weave·woven-node (thm-woven-node.met 𝓤 H 𝓜 𝓖 𝓡))
+    (cited 𝓤 H (Call-find-next.Asked 𝓤 H (𝓖 .A) (𝓜 .mem) (𝓡 .run)) 𝓜 𝓡 code.env #find-next def-find-next.routine code.calls-weave·find-next (thm-find-next.met 𝓤 H 𝓜 𝓖 𝓡))
     (cited 𝓤 H (Call-store-woven.Asked 𝓤 H (𝓖 .A) (𝓜 .mem) (𝓡 .run)) 𝓜 𝓡 code.env #store-woven def-store-woven.routine code.calls-weave·store-woven (thm-store-woven.met 𝓤 H 𝓜 𝓖 𝓡))
-    (cited 𝓤 H (Call-version-index.Asked 𝓤 H (𝓖 .A) (𝓜 .mem) (𝓡 .run)) 𝓜 𝓡 code.env #version-index def-version-index.routine code.calls-versions·version-index (thm-version-index.met 𝓤 H 𝓜 𝓖 𝓡))
-    (cited 𝓤 H (Call-with-woven.Asked 𝓤 H (𝓖 .A) (𝓜 .mem) (𝓡 .run)) 𝓜 𝓡 code.env #with-woven def-with-woven.routine code.calls-weave·with-woven (thm-with-woven.met 𝓤 H 𝓜 𝓖 𝓡))
-    (cited 𝓤 H (Call-put-record.Asked 𝓤 H (𝓖 .A) (𝓜 .mem) (𝓡 .run)) 𝓜 𝓡 code.env #put-record def-put-record.routine code.calls-versions·put-record (thm-put-record.met 𝓤 H 𝓜 𝓖 𝓡))
+    (cited 𝓤 H (Call-count-woven.Asked 𝓤 H (𝓖 .A) (𝓜 .mem) (𝓡 .run)) 𝓜 𝓡 code.env #count-woven def-count-woven.routine code.calls-weave·count-woven (thm-count-woven.met 𝓤 H 𝓜 𝓖 𝓡))
     (cited 𝓤 H (Call-woven-answer.Asked 𝓤 H (𝓖 .A) (𝓜 .mem) (𝓡 .run)) 𝓜 𝓡 code.env #woven-answer def-woven-answer.routine code.calls-weave·woven-answer (thm-woven-answer.met 𝓤 H 𝓜 𝓖 𝓡)))

@@ -17,7 +17,7 @@ areas-differ-requires : tie.Need-areas-differ-requires
 areas-differ-requires c κs = search needs
 
 -- The areas have the store's lengths.
-fits : (c : tie.Else1) → holds (differ (c .before .before .before .before .args .s) (c .before .before .before .before .args .l)) ≡ false
+fits : (c : tie.Else1) → holds (differ (c .before .before .before .args .s) (c .before .before .before .args .g)) ≡ false
 fits c = sym (c .before .areas-differ .ensures) ∙ c .if1 .left
 
 -- Row 19 where the two records lie within the register.
@@ -43,29 +43,29 @@ returns-4 c = first (skip-flag (fits (c .before .before .before .before .before 
 
 returns-5 : tie.Need-returns-5
 unfolding weaveRefusal weaveRows
-returns-5 c = first (skip-flag (fits (c .before .before .before .before .before .before .before .before .before .before)) (skip (omega arith, omega arith) (hit (inl (omega arith, omega arith)))))
+returns-5 c = first (skip-flag (fits (c .before .before .before .before .before .before .before .before .before)) (skip (omega arith, omega arith) (hit (inl (omega arith, omega arith)))))
 
 returns-6 : tie.Need-returns-6
 unfolding weaveRefusal weaveRows
-returns-6 c = first (skip-flag (fits (c .before .before .before .before .before .before .before .before .before .before .before .before .before)) (skip (omega arith, omega arith) (skip (inr (omega arith), inr (inl (omega arith))) (hit (inr (inl (omega arith)))))))
+returns-6 c = first (skip-flag (fits (c .before .before .before .before .before .before .before .before .before .before .before)) (skip (omega arith, omega arith) (skip (inr (omega arith), inr (inl (omega arith))) (hit (inr (inl (omega arith)))))))
 
 count-of-requires : tie.Need-count-of-requires
 count-of-requires c κs = search needs
 
 returns-7 : tie.Need-returns-7
 unfolding weaveRefusal weaveRows
-returns-7 c = first (skip-flag (fits (c .before .before .before .before .before .before .before .before .before .before .before .before .before .before .before .before)) (skip (omega arith, omega arith) (hit (inr (omega arith, (omega arith, omega (arith, c .before .before .count-of .ensures)))))))
+returns-7 c = first (skip-flag (fits (c .before .before .before .before .before .before .before .before .before .before .before .before .before .before)) (skip (omega arith, omega arith) (hit (inr (omega arith, (omega arith, omega (arith, c .before .before .count-of .ensures)))))))
 
 node-lost-requires : tie.Need-node-lost-requires
 node-lost-requires c κs = search needs
 
 returns-8 : tie.Need-returns-8
 unfolding weaveRefusal weaveRows
-returns-8 c = first (skip-flag (fits (c .before .before .before .before .before .before .before .before .before .before .before .before .before .before .before .before .before .before)) (skip (omega arith, omega arith) (skip (inr (omega arith), inr (inr (omega (arith, c .before .before .before .before .count-of .ensures)))) (hit-flag (lost _ _ _ _ _ (omega arith) (omega arith) (sym (c .before .node-lost .ensures) ∙ c .if8 .taken))))))
+returns-8 c = first (skip-flag (fits (c .before .before .before .before .before .before .before .before .before .before .before .before .before .before .before .before)) (skip (omega arith, omega arith) (skip (inr (omega arith), inr (inr (omega (arith, c .before .before .before .before .count-of .ensures)))) (hit-flag (lost _ _ _ _ _ (omega arith) (omega arith) (sym (c .before .node-lost .ensures) ∙ c .if8 .taken))))))
 
 returns-9 : tie.Need-returns-9
 unfolding weaveRefusal weaveRows
-returns-9 c = first (skip-flag (fits (c .before .before .before .before .before .before .before .before .before .before .before .before .before .before .before .before .before .before)) (skip (omega arith, omega arith) (skip (inr (omega arith), inr (inr (omega (arith, c .before .before .before .before .count-of .ensures)))) (skip-flag (lost _ _ _ _ _ (omega arith) (omega arith) (sym (c .before .node-lost .ensures) ∙ c .if8 .left)) none))))
+returns-9 c = first (skip-flag (fits (c .before .before .before .before .before .before .before .before .before .before .before .before .before .before .before .before)) (skip (omega arith, omega arith) (skip (inr (omega arith), inr (inr (omega (arith, c .before .before .before .before .count-of .ensures)))) (skip-flag (lost _ _ _ _ _ (omega arith) (omega arith) (sym (c .before .node-lost .ensures) ∙ c .if8 .left)) none))))
 
 pub weave-refusal-spec : {M : Type 1} → statement M
 weave-refusal-spec =

@@ -2,26 +2,30 @@
 -- The contract of `assign::append`, over lists and plain values: a slice stands for its list, and P′ is the list of P at exit.
 -- Assumes nothing.
 use Prim.Native.Nat.{ℕ, min, max, _+_, _-_, _^_, _<_, _≤_}
-use mathlib.Core.List.{List}
+use mathlib.Core.List.{List, [], _∷_}
 use mathlib.Core.Bool.{Bool}
 use mathlib.Core.Path.{_≡_}
 use lib.Dec.{ltb}
 use Rattle.tree.specs.Tree.{countOf}
-use Rattle.versions.specs.Store.{areasOf}
-use Rattle.assign.specs.Assign.{updateAt, allPut, assignRefusal, withVersionOf, withVersionPart, assignedBy, assignOut, assignRegister}
+use Rattle.table.specs.Table.{_<?_, _gives_, noLine, always, firstRefusal, unless}
+use Rattle.versions.specs.Store.{areasOf, linesIn, lineIn}
+use Rattle.assign.specs.Assign.{updateAt, numberBy, Roomy, allPut, roomRefusal, assignRefusal, withUpdate, withUpdateOf, withUpdatePart, withEntryOf, withAssigned, assignedBy, assignOut, assignRegister}
 use Rattle.assign.specs.declared.AssignOut.{AssignOut}
 use Rattle.assign.specs.declared.Assigned.{Assigned}
+use Rattle.lines.specs.declared.Branch.{Branch}
+use Rattle.lines.specs.declared.Entries.{Entries}
+use Rattle.lines.specs.declared.Line.{Line}
 use Rattle.register.specs.declared.Record.{Record}
 use Rattle.tree.specs.declared.PageIndex.{PageIndex}
 use Rattle.tree.specs.declared.Ticket.{Ticket}
 use Rattle.tree.specs.declared.Version.{Version}
 use Rattle.versions.specs.declared.Store.{Store}
 
-abbrev pub ens : Store → List ℕ → List ℕ → List Record → Ticket → List Record → AssignOut → Type 0
-ens s pages nodes register t register′ r = (r ≡ assignOut s (areasOf pages nodes register) (t .0) (s .blob)) × (register′ ≡ assignRegister s (areasOf pages nodes register) (t .0) (s .blob))
+abbrev pub ens : Store → List ℕ → List ℕ → List Record → Line → Ticket → List Record → AssignOut → Type 0
+ens s pages nodes register l t register′ r = (r ≡ assignOut s (areasOf pages nodes register) (l .0) (t .0) (lineIn s (l .0) .blob)) × (register′ ≡ assignRegister s (areasOf pages nodes register) (l .0) (t .0) (lineIn s (l .0) .blob))
 
-abbrev pub res : Store → List ℕ → List ℕ → List Record → Ticket → AssignOut
-res s pages nodes register t = assignOut s (areasOf pages nodes register) (t .0) (s .blob)
+abbrev pub res : Store → List ℕ → List ℕ → List Record → Line → Ticket → AssignOut
+res s pages nodes register l t = assignOut s (areasOf pages nodes register) (l .0) (t .0) (lineIn s (l .0) .blob)
 
-abbrev pub out-register : Store → List ℕ → List ℕ → List Record → Ticket → List Record
-out-register s pages nodes register t = assignRegister s (areasOf pages nodes register) (t .0) (s .blob)
+abbrev pub out-register : Store → List ℕ → List ℕ → List Record → Line → Ticket → List Record
+out-register s pages nodes register l t = assignRegister s (areasOf pages nodes register) (l .0) (t .0) (lineIn s (l .0) .blob)

@@ -2,15 +2,19 @@
 -- The contract of `assign::assign_refusal`, over lists and plain values: a slice stands for its list, and P′ is the list of P at exit.
 -- Assumes nothing.
 use Prim.Native.Nat.{ℕ, min, max, _+_, _-_, _^_, _<_, _≤_}
-use mathlib.Core.List.{List}
+use mathlib.Core.List.{List, [], _∷_}
 use mathlib.Core.Bool.{Bool}
 use mathlib.Core.Path.{_≡_}
 use lib.Dec.{ltb}
 use Rattle.tree.specs.Tree.{countOf}
-use Rattle.versions.specs.Store.{areasOf}
-use Rattle.assign.specs.Assign.{updateAt, allPut, assignRefusal, withVersionOf, withVersionPart, assignedBy, assignOut, assignRegister}
+use Rattle.table.specs.Table.{_<?_, _gives_, noLine, always, firstRefusal, unless}
+use Rattle.versions.specs.Store.{areasOf, linesIn, lineIn}
+use Rattle.assign.specs.Assign.{updateAt, numberBy, Roomy, allPut, roomRefusal, assignRefusal, withUpdate, withUpdateOf, withUpdatePart, withEntryOf, withAssigned, assignedBy, assignOut, assignRegister}
 use Rattle.assign.specs.declared.AssignOut.{AssignOut}
 use Rattle.assign.specs.declared.Assigned.{Assigned}
+use Rattle.lines.specs.declared.Branch.{Branch}
+use Rattle.lines.specs.declared.Entries.{Entries}
+use Rattle.lines.specs.declared.Line.{Line}
 use Rattle.register.specs.declared.Record.{Record}
 use Rattle.tree.specs.declared.PageIndex.{PageIndex}
 use Rattle.tree.specs.declared.Ticket.{Ticket}
@@ -18,8 +22,8 @@ use Rattle.tree.specs.declared.Version.{Version}
 use Rattle.versions.specs.declared.Lengths.{Lengths}
 use Rattle.versions.specs.declared.Store.{Store}
 
-abbrev pub ens : Store → Lengths → Record → Ticket → PageIndex → ℕ → Type 0
-ens s l r t f k = k ≡ assignRefusal s l r (t .0) (f .0)
+abbrev pub ens : Store → Lengths → Record → Line → Ticket → PageIndex → ℕ → Type 0
+ens s g r l t f k = k ≡ assignRefusal s g r (l .0) (t .0) (f .0)
 
-abbrev pub res : Store → Lengths → Record → Ticket → PageIndex → ℕ
-res s l r t f = assignRefusal s l r (t .0) (f .0)
+abbrev pub res : Store → Lengths → Record → Line → Ticket → PageIndex → ℕ
+res s g r l t f = assignRefusal s g r (l .0) (t .0) (f .0)

@@ -2,25 +2,28 @@
 -- The contract of `assign::assigned_by`, over lists and plain values: a slice stands for its list, and P′ is the list of P at exit.
 -- Assumes nothing.
 use Prim.Native.Nat.{ℕ, min, max, _+_, _-_, _^_, _<_, _≤_}
-use mathlib.Core.List.{List}
+use mathlib.Core.List.{List, [], _∷_}
 use mathlib.Core.Bool.{Bool}
 use mathlib.Core.Path.{_≡_}
 use lib.Dec.{ltb}
 use Rattle.tree.specs.Tree.{countOf}
-use Rattle.versions.specs.Store.{areasOf}
-use Rattle.assign.specs.Assign.{updateAt, allPut, assignRefusal, withVersionOf, withVersionPart, assignedBy, assignOut, assignRegister}
+use Rattle.table.specs.Table.{_<?_, _gives_, noLine, always, firstRefusal, unless}
+use Rattle.versions.specs.Store.{areasOf, linesIn, lineIn}
+use Rattle.assign.specs.Assign.{updateAt, numberBy, Roomy, allPut, roomRefusal, assignRefusal, withUpdate, withUpdateOf, withUpdatePart, withEntryOf, withAssigned, assignedBy, assignOut, assignRegister}
 use Rattle.assign.specs.declared.AssignOut.{AssignOut}
 use Rattle.assign.specs.declared.Assigned.{Assigned}
+use Rattle.lines.specs.declared.Branch.{Branch}
+use Rattle.lines.specs.declared.Line.{Line}
 use Rattle.tree.specs.declared.PageIndex.{PageIndex}
 use Rattle.tree.specs.declared.Ticket.{Ticket}
 use Rattle.tree.specs.declared.Version.{Version}
 use Rattle.versions.specs.declared.Store.{Store}
 
-abbrev pub req : Store → PageIndex → ℕ → ℕ → Type 0
-req s f n k = (k ≡ 0 → (f .0 + n ≤ 4096) × (s .assigned .0 < s .updates) × (s .places + countOf (updateAt s (f .0) n) ≤ s .nodes))
+abbrev pub req : Store → Line → PageIndex → ℕ → ℕ → Type 0
+req s l f n k = (k ≡ 0 → Roomy s (l .0) (f .0) n)
 
-abbrev pub ens : Store → PageIndex → ℕ → ℕ → AssignOut → Type 0
-ens s f n k r = r ≡ assignedBy s (f .0) n k
+abbrev pub ens : Store → Line → PageIndex → ℕ → ℕ → AssignOut → Type 0
+ens s l f n k r = r ≡ assignedBy s (l .0) (f .0) n k
 
-abbrev pub res : Store → PageIndex → ℕ → ℕ → AssignOut
-res s f n k = assignedBy s (f .0) n k
+abbrev pub res : Store → Line → PageIndex → ℕ → ℕ → AssignOut
+res s l f n k = assignedBy s (l .0) (f .0) n k

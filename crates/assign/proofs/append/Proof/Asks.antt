@@ -14,6 +14,10 @@ use Rattle.versions.specs.declared.Store.{Store}
 use Rattle.versions.proofs.Generated.Kind.Store as Store′
 use Rattle.tree.specs.declared.Ticket.{Ticket}
 use Rattle.register.proofs.Generated.Kind.Ticket as Ticket′
+use Rattle.lines.specs.declared.Branch.{Branch}
+use Rattle.versions.proofs.Generated.Kind.Branch as Branch′
+use Rattle.lines.specs.declared.Line.{Line}
+use Rattle.register.proofs.Generated.Kind.Line as Line′
 use Rattle.tree.specs.declared.Version.{Version}
 use Rattle.register.proofs.Generated.Kind.Version as Version′
 use Rattle.assign.specs.declared.Assigned.{Assigned}
@@ -22,17 +26,23 @@ use Rattle.register.specs.declared.Record.{Record}
 use Rattle.register.proofs.Generated.Kind.Record as Record′
 use Rattle.tree.specs.declared.PageIndex.{PageIndex}
 use Rattle.register.proofs.Generated.Kind.PageIndex as PageIndex′
+use Rattle.lines.specs.declared.Entries.{Entries}
+use Rattle.register.proofs.Generated.Kind.Entries as Entries′
 use Rattle.assign.proofs.Generated.Say.append as append″
+use Rattle.versions.proofs.Generated.Say.line_state as line-state″
 use Rattle.assign.proofs.Generated.Say.write as write″
 
-abbrev pub r1 : Store → List ℕ → List ℕ → List Record → Ticket → AssignOut
-r1 s pages nodes register x-t = write″.res s pages nodes register x-t (PageIndex′.build (s .blob))
+abbrev pub r1 : Store → List ℕ → List ℕ → List Record → Line → Ticket → Branch
+r1 s pages nodes register x-l x-t = line-state″.res s x-l
 
-abbrev pub register₁ : Store → List ℕ → List ℕ → List Record → Ticket → List Record
-register₁ s pages nodes register x-t = write″.out-register s pages nodes register x-t (PageIndex′.build (s .blob))
+abbrev pub r2 : Store → List ℕ → List ℕ → List Record → Line → Ticket → AssignOut
+r2 s pages nodes register x-l x-t = write″.res s pages nodes register x-l x-t (PageIndex′.build ((r1 s pages nodes register x-l x-t) .blob))
 
--- the function ensures: (r ≡ assignOut s (areasOf pages nodes register) (t .0) (s .blob)) × (register′ ≡ assignRegister s (areasOf pages nodes register) (t .0) (s .blob))
+abbrev pub register₂ : Store → List ℕ → List ℕ → List Record → Line → Ticket → List Record
+register₂ s pages nodes register x-l x-t = write″.out-register s pages nodes register x-l x-t (PageIndex′.build ((r1 s pages nodes register x-l x-t) .blob))
+
+-- the function ensures: (r ≡ assignOut s (areasOf pages nodes register) (l .0) (t .0) (lineIn s (l .0) .blob)) × (register′ ≡ assignRegister s (areasOf pages nodes register) (l .0) (t .0) (lineIn s (l .0) .blob))
 abbrev pub exit-1 : Type 0
 exit-1 =
-    (s : Store) (pages : List ℕ) (nodes : List ℕ) (register : List Record) (x-t : Ticket) (ok-s : Store′.Ok s) (len-pages : length pages < 2 ^ 64) (len-nodes : length nodes < 2 ^ 64) (len-register : length register < 2 ^ 64) (ok-x-t : Ticket′.Ok x-t) (ok-r1 : AssignOut′.Ok (r1 s pages nodes register x-t)) (same1-register : length (register₁ s pages nodes register x-t) ≡ length register)
-    → append″.ens s pages nodes register x-t (register₁ s pages nodes register x-t) (r1 s pages nodes register x-t)
+    (s : Store) (pages : List ℕ) (nodes : List ℕ) (register : List Record) (x-l : Line) (x-t : Ticket) (ok-s : Store′.Ok s) (len-pages : length pages < 2 ^ 64) (len-nodes : length nodes < 2 ^ 64) (len-register : length register < 2 ^ 64) (ok-x-l : Line′.Ok x-l) (ok-x-t : Ticket′.Ok x-t) (ok-r1 : Branch′.Ok (r1 s pages nodes register x-l x-t)) (ok-r2 : AssignOut′.Ok (r2 s pages nodes register x-l x-t)) (same2-register : length (register₂ s pages nodes register x-l x-t) ≡ length register)
+    → append″.ens s pages nodes register x-l x-t (register₂ s pages nodes register x-l x-t) (r2 s pages nodes register x-l x-t)

@@ -14,6 +14,10 @@ use Rattle.versions.specs.declared.Store.{Store}
 use Rattle.versions.proofs.Generated.Kind.Store as Store′
 use Rattle.tree.specs.declared.Ticket.{Ticket}
 use Rattle.register.proofs.Generated.Kind.Ticket as Ticket′
+use Rattle.lines.specs.declared.Branch.{Branch}
+use Rattle.versions.proofs.Generated.Kind.Branch as Branch′
+use Rattle.lines.specs.declared.Line.{Line}
+use Rattle.register.proofs.Generated.Kind.Line as Line′
 use Rattle.tree.specs.declared.Version.{Version}
 use Rattle.register.proofs.Generated.Kind.Version as Version′
 use Rattle.assign.specs.declared.Assigned.{Assigned}
@@ -22,61 +26,46 @@ use Rattle.register.specs.declared.Record.{Record}
 use Rattle.register.proofs.Generated.Kind.Record as Record′
 use Rattle.tree.specs.declared.PageIndex.{PageIndex}
 use Rattle.register.proofs.Generated.Kind.PageIndex as PageIndex′
+use Rattle.lines.specs.declared.Entries.{Entries}
+use Rattle.register.proofs.Generated.Kind.Entries as Entries′
 use Rattle.versions.specs.declared.Lengths.{Lengths}
 use Rattle.versions.proofs.Generated.Kind.Lengths as Lengths′
 use Rattle.assign.proofs.Generated.Say.write as write″
 use Rattle.register.proofs.Generated.Say.ticket_record as ticket-record″
 use Rattle.versions.proofs.Generated.Say.lengths_of as lengths-of″
 use Rattle.assign.proofs.Generated.Say.assign_refusal as assign-refusal″
+use Rattle.assign.proofs.Generated.Say.note_update as note-update″
 use Rattle.assign.proofs.Generated.Say.assigned_by as assigned-by″
-use Rattle.versions.proofs.Generated.Say.ticket_index as ticket-index″
-use Rattle.assign.proofs.Generated.Say.with_version as with-version″
-use Rattle.versions.proofs.Generated.Say.put_record as put-record″
-use Rattle.register.proofs.Generated.Say.record_at as record-at″
-use Rattle.assign.proofs.Generated.Say.last_page as last-page″
-use Rattle.assign.proofs.Generated.Say.version_part as version-part″
 
-abbrev pub r1 : Store → List ℕ → List ℕ → List Record → Ticket → PageIndex → Record
-r1 s pages nodes register x-t f = ticket-record″.res register x-t
+abbrev pub r1 : Store → List ℕ → List ℕ → List Record → Line → Ticket → PageIndex → Record
+r1 s pages nodes register x-l x-t f = ticket-record″.res register x-t
 
-abbrev pub r2 : Store → List ℕ → List ℕ → List Record → Ticket → PageIndex → Lengths
-r2 s pages nodes register x-t f = lengths-of″.res pages nodes register
+abbrev pub r2 : Store → List ℕ → List ℕ → List Record → Line → Ticket → PageIndex → Lengths
+r2 s pages nodes register x-l x-t f = lengths-of″.res pages nodes register
 
-abbrev pub r3 : Store → List ℕ → List ℕ → List Record → Ticket → PageIndex → ℕ
-r3 s pages nodes register x-t f = assign-refusal″.res s (r2 s pages nodes register x-t f) (r1 s pages nodes register x-t f) x-t f
+abbrev pub r3 : Store → List ℕ → List ℕ → List Record → Line → Ticket → PageIndex → ℕ
+r3 s pages nodes register x-l x-t f = assign-refusal″.res s (r2 s pages nodes register x-l x-t f) (r1 s pages nodes register x-l x-t f) x-l x-t f
 
-abbrev pub r4 : Store → List ℕ → List ℕ → List Record → Ticket → PageIndex → AssignOut
-r4 s pages nodes register x-t f = assigned-by″.res s f ((r1 s pages nodes register x-t f) .n) (r3 s pages nodes register x-t f)
+abbrev pub register₄ : Store → List ℕ → List ℕ → List Record → Line → Ticket → PageIndex → List Record
+register₄ s pages nodes register x-l x-t f = note-update″.out-register register (r3 s pages nodes register x-l x-t f) s x-l x-t f (r1 s pages nodes register x-l x-t f)
 
-abbrev pub r5 : Store → List ℕ → List ℕ → List Record → Ticket → PageIndex → ℕ
-r5 s pages nodes register x-t f = ticket-index″.res x-t
+abbrev pub r5 : Store → List ℕ → List ℕ → List Record → Line → Ticket → PageIndex → AssignOut
+r5 s pages nodes register x-l x-t f = assigned-by″.res s x-l f ((r1 s pages nodes register x-l x-t f) .n) (r3 s pages nodes register x-l x-t f)
 
-abbrev pub r6 : Store → List ℕ → List ℕ → List Record → Ticket → PageIndex → Record
-r6 s pages nodes register x-t f = with-version″.res (r1 s pages nodes register x-t f) (((r4 s pages nodes register x-t f) .store) .assigned)
+-- `note_update` asks: (k ≡ 0 → Roomy s (l .0) (f .0) (r .n))
+abbrev pub note-update-1 : Type 0
+note-update-1 =
+    (s : Store) (pages : List ℕ) (nodes : List ℕ) (register : List Record) (x-l : Line) (x-t : Ticket) (f : PageIndex) (ok-s : Store′.Ok s) (len-pages : length pages < 2 ^ 64) (len-nodes : length nodes < 2 ^ 64) (len-register : length register < 2 ^ 64) (ok-x-l : Line′.Ok x-l) (ok-x-t : Ticket′.Ok x-t) (ok-f : PageIndex′.Ok f) (ok-r1 : Record′.Ok (r1 s pages nodes register x-l x-t f)) (ok-r2 : Lengths′.Ok (r2 s pages nodes register x-l x-t f)) (fits-r3 : (r3 s pages nodes register x-l x-t f) < 2 ^ 64)
+    → note-update″.req register (r3 s pages nodes register x-l x-t f) s x-l x-t f (r1 s pages nodes register x-l x-t f)
 
-abbrev pub register₇ : Store → List ℕ → List ℕ → List Record → Ticket → PageIndex → List Record
-register₇ s pages nodes register x-t f = put-record″.out-register register (r3 s pages nodes register x-t f) (r5 s pages nodes register x-t f) (r6 s pages nodes register x-t f)
-
-abbrev pub r8 : Store → List ℕ → List ℕ → List Record → Ticket → PageIndex → Record
-r8 s pages nodes register x-t f = record-at″.res (register₇ s pages nodes register x-t f) (s .assigned .0)
-
-abbrev pub r9 : Store → List ℕ → List ℕ → List Record → Ticket → PageIndex → PageIndex
-r9 s pages nodes register x-t f = last-page″.res f ((r1 s pages nodes register x-t f) .n)
-
-abbrev pub r10 : Store → List ℕ → List ℕ → List Record → Ticket → PageIndex → Record
-r10 s pages nodes register x-t f = version-part″.res (r8 s pages nodes register x-t f) x-t f (r9 s pages nodes register x-t f) (((r4 s pages nodes register x-t f) .store) .blob) (s .places)
-
-abbrev pub register₁₁ : Store → List ℕ → List ℕ → List Record → Ticket → PageIndex → List Record
-register₁₁ s pages nodes register x-t f = put-record″.out-register (register₇ s pages nodes register x-t f) (r3 s pages nodes register x-t f) (s .assigned .0) (r10 s pages nodes register x-t f)
-
--- `assigned_by` asks: (k ≡ 0 → (f .0 + n ≤ 4096) × (s .assigned .0 < s .updates) × (s .places + countOf (updateAt s (f .0) n) ≤ s .nodes))
+-- `assigned_by` asks: (k ≡ 0 → Roomy s (l .0) (f .0) n)
 abbrev pub assigned-by-1 : Type 0
 assigned-by-1 =
-    (s : Store) (pages : List ℕ) (nodes : List ℕ) (register : List Record) (x-t : Ticket) (f : PageIndex) (ok-s : Store′.Ok s) (len-pages : length pages < 2 ^ 64) (len-nodes : length nodes < 2 ^ 64) (len-register : length register < 2 ^ 64) (ok-x-t : Ticket′.Ok x-t) (ok-f : PageIndex′.Ok f) (ok-r1 : Record′.Ok (r1 s pages nodes register x-t f)) (ok-r2 : Lengths′.Ok (r2 s pages nodes register x-t f)) (fits-r3 : (r3 s pages nodes register x-t f) < 2 ^ 64)
-    → assigned-by″.req s f ((r1 s pages nodes register x-t f) .n) (r3 s pages nodes register x-t f)
+    (s : Store) (pages : List ℕ) (nodes : List ℕ) (register : List Record) (x-l : Line) (x-t : Ticket) (f : PageIndex) (ok-s : Store′.Ok s) (len-pages : length pages < 2 ^ 64) (len-nodes : length nodes < 2 ^ 64) (len-register : length register < 2 ^ 64) (ok-x-l : Line′.Ok x-l) (ok-x-t : Ticket′.Ok x-t) (ok-f : PageIndex′.Ok f) (ok-r1 : Record′.Ok (r1 s pages nodes register x-l x-t f)) (ok-r2 : Lengths′.Ok (r2 s pages nodes register x-l x-t f)) (fits-r3 : (r3 s pages nodes register x-l x-t f) < 2 ^ 64) (same4-register : length (register₄ s pages nodes register x-l x-t f) ≡ length register)
+    → assigned-by″.req s x-l f ((r1 s pages nodes register x-l x-t f) .n) (r3 s pages nodes register x-l x-t f)
 
--- the function ensures: (r ≡ assignOut s (areasOf pages nodes register) (t .0) (f .0)) × (register′ ≡ assignRegister s (areasOf pages nodes register) (t .0) (f .0))
+-- the function ensures: (r ≡ assignOut s (areasOf pages nodes register) (l .0) (t .0) (f .0)) × (register′ ≡ assignRegister s (areasOf pages nodes register) (l .0) (t .0) (f .0))
 abbrev pub exit-1 : Type 0
 exit-1 =
-    (s : Store) (pages : List ℕ) (nodes : List ℕ) (register : List Record) (x-t : Ticket) (f : PageIndex) (ok-s : Store′.Ok s) (len-pages : length pages < 2 ^ 64) (len-nodes : length nodes < 2 ^ 64) (len-register : length register < 2 ^ 64) (ok-x-t : Ticket′.Ok x-t) (ok-f : PageIndex′.Ok f) (ok-r1 : Record′.Ok (r1 s pages nodes register x-t f)) (ok-r2 : Lengths′.Ok (r2 s pages nodes register x-t f)) (fits-r3 : (r3 s pages nodes register x-t f) < 2 ^ 64) (ok-r4 : AssignOut′.Ok (r4 s pages nodes register x-t f)) (fits-r5 : (r5 s pages nodes register x-t f) < 2 ^ 64) (ok-r6 : Record′.Ok (r6 s pages nodes register x-t f)) (same7-register : length (register₇ s pages nodes register x-t f) ≡ length register) (ok-r8 : Record′.Ok (r8 s pages nodes register x-t f)) (ok-r9 : PageIndex′.Ok (r9 s pages nodes register x-t f)) (ok-r10 : Record′.Ok (r10 s pages nodes register x-t f)) (same11-register : length (register₁₁ s pages nodes register x-t f) ≡ length (register₇ s pages nodes register x-t f))
-    → write″.ens s pages nodes register x-t f (register₁₁ s pages nodes register x-t f) (r4 s pages nodes register x-t f)
+    (s : Store) (pages : List ℕ) (nodes : List ℕ) (register : List Record) (x-l : Line) (x-t : Ticket) (f : PageIndex) (ok-s : Store′.Ok s) (len-pages : length pages < 2 ^ 64) (len-nodes : length nodes < 2 ^ 64) (len-register : length register < 2 ^ 64) (ok-x-l : Line′.Ok x-l) (ok-x-t : Ticket′.Ok x-t) (ok-f : PageIndex′.Ok f) (ok-r1 : Record′.Ok (r1 s pages nodes register x-l x-t f)) (ok-r2 : Lengths′.Ok (r2 s pages nodes register x-l x-t f)) (fits-r3 : (r3 s pages nodes register x-l x-t f) < 2 ^ 64) (same4-register : length (register₄ s pages nodes register x-l x-t f) ≡ length register) (ok-r5 : AssignOut′.Ok (r5 s pages nodes register x-l x-t f))
+    → write″.ens s pages nodes register x-l x-t f (register₄ s pages nodes register x-l x-t f) (r5 s pages nodes register x-l x-t f)

@@ -9,10 +9,10 @@ use Rattle.versions.specs.Store.{areasOf}
 use Rattle.begin.specs.Begin.{beginRefusal, withTicketPart, begunBy, beginOut, beginRegister}
 use Rattle.begin.specs.declared.BeginOut.{BeginOut}
 use Rattle.begin.specs.declared.Begun.{Begun}
+use Rattle.lines.specs.declared.Entries.{Entries}
 use Rattle.register.specs.declared.Record.{Record}
 use Rattle.tree.specs.declared.PageIndex.{PageIndex}
 use Rattle.tree.specs.declared.Ticket.{Ticket}
-use Rattle.tree.specs.declared.Version.{Version}
 
 abbrev pub ens : Record → ℕ → ℕ → Record → Type 0
 ens r n number q = q ≡ withTicketPart r n number

@@ -36,8 +36,6 @@ use Rattle.weave.specs.declared.Woven.{Woven}
 use Rattle.weave.proofs.Generated.Kind.Woven as Woven′
 use Rattle.weave.specs.declared.WovenNode.{WovenNode}
 use Rattle.weave.proofs.Generated.Kind.WovenNode as WovenNode′
-use Rattle.tree.specs.declared.Version.{Version}
-use Rattle.register.proofs.Generated.Kind.Version as Version′
 use Rattle.tree.specs.declared.PageIndex.{PageIndex}
 use Rattle.register.proofs.Generated.Kind.PageIndex as PageIndex′
 use Rattle.replies.specs.declared.WeaveReply.{WeaveReply}

@@ -5,9 +5,10 @@ use Prim.Native.Nat.{ℕ}
 use mathlib.Core.List.{List}
 use mathlib.Core.Bool.{Bool}
 use mathlib.Core.Path.{_≡_}
-use Rattle.replies.specs.Replies.{noStore, formatReply, beginReply, putReply, assignReply, weaveReply, publishReply, readReply, sizeReply, recentReply, stampReply, viewReply}
+use Rattle.replies.specs.Replies.{noStore, formatReply, beginReply, putReply, assignReply, weaveReply, publishReply, branchReply, readReply, sizeReply, recentReply, stampReply, viewReply}
 use Rattle.replies.specs.declared.AssignReply.{AssignReply}
 use Rattle.replies.specs.declared.BeginReply.{BeginReply}
+use Rattle.replies.specs.declared.BranchReply.{BranchReply}
 use Rattle.replies.specs.declared.FormatReply.{FormatReply}
 use Rattle.replies.specs.declared.PublishReply.{PublishReply}
 use Rattle.replies.specs.declared.SizeReply.{SizeReply}
@@ -15,7 +16,6 @@ use Rattle.replies.specs.declared.VersionReply.{VersionReply}
 use Rattle.replies.specs.declared.ViewReply.{ViewReply}
 use Rattle.replies.specs.declared.WeaveReply.{WeaveReply}
 use Rattle.tree.specs.declared.PageIndex.{PageIndex}
-use Rattle.tree.specs.declared.Version.{Version}
 use Rattle.weave.specs.declared.Woven.{Woven}
 use Rattle.weave.specs.declared.WovenNode.{WovenNode}
 

@@ -14,12 +14,18 @@ use Rattle.versions.specs.declared.Store.{Store}
 use Rattle.versions.proofs.Generated.Kind.Store as Store′
 use Rattle.tree.specs.declared.Ticket.{Ticket}
 use Rattle.register.proofs.Generated.Kind.Ticket as Ticket′
+use Rattle.lines.specs.declared.Branch.{Branch}
+use Rattle.versions.proofs.Generated.Kind.Branch as Branch′
+use Rattle.lines.specs.declared.Line.{Line}
+use Rattle.register.proofs.Generated.Kind.Line as Line′
 use Rattle.tree.specs.declared.Version.{Version}
 use Rattle.register.proofs.Generated.Kind.Version as Version′
 use Rattle.register.specs.declared.Record.{Record}
 use Rattle.register.proofs.Generated.Kind.Record as Record′
 use Rattle.tree.specs.declared.PageIndex.{PageIndex}
 use Rattle.register.proofs.Generated.Kind.PageIndex as PageIndex′
+use Rattle.lines.specs.declared.Entries.{Entries}
+use Rattle.register.proofs.Generated.Kind.Entries as Entries′
 use Rattle.assign.specs.declared.AssignOut.{AssignOut}
 use Rattle.assign.proofs.Generated.Kind.AssignOut as AssignOut′
 use Rattle.assign.specs.declared.Assigned.{Assigned}
@@ -28,17 +34,17 @@ use Rattle.exports.proofs.Generated.Say.pit_append as pit-append″
 use Rattle.assign.proofs.Generated.Say.append as append″
 use Rattle.exports.proofs.Generated.Say.assign_reply as assign-reply″
 
-abbrev pub r1 : Store → List ℕ → List ℕ → List Record → ℕ → AssignOut
-r1 s pages nodes register ticket = append″.res s pages nodes register (Ticket′.build ticket)
+abbrev pub r1 : Store → List ℕ → List ℕ → List Record → ℕ → ℕ → AssignOut
+r1 s pages nodes register line ticket = append″.res s pages nodes register (Line′.build line) (Ticket′.build ticket)
 
-abbrev pub register₁ : Store → List ℕ → List ℕ → List Record → ℕ → List Record
-register₁ s pages nodes register ticket = append″.out-register s pages nodes register (Ticket′.build ticket)
+abbrev pub register₁ : Store → List ℕ → List ℕ → List Record → ℕ → ℕ → List Record
+register₁ s pages nodes register line ticket = append″.out-register s pages nodes register (Line′.build line) (Ticket′.build ticket)
 
-abbrev pub r2 : Store → List ℕ → List ℕ → List Record → ℕ → AssignReply
-r2 s pages nodes register ticket = assign-reply″.res (r1 s pages nodes register ticket)
+abbrev pub r2 : Store → List ℕ → List ℕ → List Record → ℕ → ℕ → AssignReply
+r2 s pages nodes register line ticket = assign-reply″.res (r1 s pages nodes register line ticket)
 
--- the function ensures: (r ≡ assignReply (assignOut s (areasOf pages nodes register) ticket (s .blob))) × (register′ ≡ assignRegister s (areasOf pages nodes register) ticket (s .blob))
+-- the function ensures: (r ≡ assignReply (assignOut s (areasOf pages nodes register) line ticket (lineIn s line .blob))) × (register′ ≡ assignRegister s (areasOf pages nodes register) line ticket (lineIn s line .blob))
 abbrev pub exit-1 : Type 0
 exit-1 =
-    (s : Store) (pages : List ℕ) (nodes : List ℕ) (register : List Record) (ticket : ℕ) (ok-s : Store′.Ok s) (len-pages : length pages < 2 ^ 64) (len-nodes : length nodes < 2 ^ 64) (len-register : length register < 2 ^ 64) (fits-ticket : ticket < 2 ^ 64) (ok-r1 : AssignOut′.Ok (r1 s pages nodes register ticket)) (same1-register : length (register₁ s pages nodes register ticket) ≡ length register) (ok-r2 : AssignReply′.Ok (r2 s pages nodes register ticket))
-    → pit-append″.ens s pages nodes register ticket (register₁ s pages nodes register ticket) (r2 s pages nodes register ticket)
+    (s : Store) (pages : List ℕ) (nodes : List ℕ) (register : List Record) (line : ℕ) (ticket : ℕ) (ok-s : Store′.Ok s) (len-pages : length pages < 2 ^ 64) (len-nodes : length nodes < 2 ^ 64) (len-register : length register < 2 ^ 64) (fits-line : line < 2 ^ 64) (fits-ticket : ticket < 2 ^ 64) (ok-r1 : AssignOut′.Ok (r1 s pages nodes register line ticket)) (same1-register : length (register₁ s pages nodes register line ticket) ≡ length register) (ok-r2 : AssignReply′.Ok (r2 s pages nodes register line ticket))
+    → pit-append″.ens s pages nodes register line ticket (register₁ s pages nodes register line ticket) (r2 s pages nodes register line ticket)

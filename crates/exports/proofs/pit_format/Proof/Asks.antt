@@ -9,22 +9,28 @@ use mathlib.Core.Bool.{Bool, true, false, not}
 use lib.Dec.{ltb, leb, eqb}
 use lib.ListN.{length, getD, set}
 use Rattle.replies.specs.declared.FormatReply.{FormatReply}
-use Rattle.exports.proofs.Generated.Kind.FormatReply as FormatReply′
+use Rattle.replies.proofs.Generated.Kind.FormatReply as FormatReply′
 use Rattle.versions.specs.declared.Store.{Store}
 use Rattle.versions.proofs.Generated.Kind.Store as Store′
 use Rattle.tree.specs.declared.Ticket.{Ticket}
 use Rattle.register.proofs.Generated.Kind.Ticket as Ticket′
+use Rattle.lines.specs.declared.Branch.{Branch}
+use Rattle.versions.proofs.Generated.Kind.Branch as Branch′
+use Rattle.lines.specs.declared.Line.{Line}
+use Rattle.register.proofs.Generated.Kind.Line as Line′
 use Rattle.tree.specs.declared.Version.{Version}
 use Rattle.register.proofs.Generated.Kind.Version as Version′
 use Rattle.register.specs.declared.Record.{Record}
 use Rattle.register.proofs.Generated.Kind.Record as Record′
 use Rattle.tree.specs.declared.PageIndex.{PageIndex}
 use Rattle.register.proofs.Generated.Kind.PageIndex as PageIndex′
+use Rattle.lines.specs.declared.Entries.{Entries}
+use Rattle.register.proofs.Generated.Kind.Entries as Entries′
 use Rattle.format.specs.declared.Formatted.{Formatted}
 use Rattle.format.proofs.Generated.Kind.Formatted as Formatted′
 use Rattle.exports.proofs.Generated.Say.pit_format as pit-format″
 use Rattle.format.proofs.Generated.Say.format as format″
-use Rattle.exports.proofs.Generated.Say.format_reply as format-reply″
+use Rattle.replies.proofs.Generated.Say.format_reply as format-reply″
 
 abbrev pub r1 : ℕ → ℕ → ℕ → ℕ → List ℕ → List ℕ → List Record → Formatted
 r1 size page-count node-count updates pages nodes register = format″.res size page-count node-count updates pages nodes register

@@ -14,12 +14,18 @@ use Rattle.versions.specs.declared.Store.{Store}
 use Rattle.versions.proofs.Generated.Kind.Store as Store′
 use Rattle.tree.specs.declared.Ticket.{Ticket}
 use Rattle.register.proofs.Generated.Kind.Ticket as Ticket′
+use Rattle.lines.specs.declared.Branch.{Branch}
+use Rattle.versions.proofs.Generated.Kind.Branch as Branch′
+use Rattle.lines.specs.declared.Line.{Line}
+use Rattle.register.proofs.Generated.Kind.Line as Line′
 use Rattle.tree.specs.declared.Version.{Version}
 use Rattle.register.proofs.Generated.Kind.Version as Version′
 use Rattle.register.specs.declared.Record.{Record}
 use Rattle.register.proofs.Generated.Kind.Record as Record′
 use Rattle.tree.specs.declared.PageIndex.{PageIndex}
 use Rattle.register.proofs.Generated.Kind.PageIndex as PageIndex′
+use Rattle.lines.specs.declared.Entries.{Entries}
+use Rattle.register.proofs.Generated.Kind.Entries as Entries′
 use Rattle.publish.specs.declared.PublishOut.{PublishOut}
 use Rattle.publish.proofs.Generated.Kind.PublishOut as PublishOut′
 use Rattle.publish.specs.declared.Published.{Published}
@@ -28,14 +34,14 @@ use Rattle.exports.proofs.Generated.Say.pit_publish as pit-publish″
 use Rattle.publish.proofs.Generated.Say.publish as publish″
 use Rattle.exports.proofs.Generated.Say.publish_reply as publish-reply″
 
-abbrev pub r1 : Store → List ℕ → List ℕ → List Record → PublishOut
-r1 s pages nodes register = publish″.res s pages nodes register
+abbrev pub r1 : Store → List ℕ → List ℕ → List Record → ℕ → PublishOut
+r1 s pages nodes register line = publish″.res s pages nodes register (Line′.build line)
 
-abbrev pub r2 : Store → List ℕ → List ℕ → List Record → PublishReply
-r2 s pages nodes register = publish-reply″.res (r1 s pages nodes register)
+abbrev pub r2 : Store → List ℕ → List ℕ → List Record → ℕ → PublishReply
+r2 s pages nodes register line = publish-reply″.res (r1 s pages nodes register line)
 
--- the function ensures: r ≡ publishReply (publishOut s (areasOf pages nodes register))
+-- the function ensures: r ≡ publishReply (publishOut s (areasOf pages nodes register) line)
 abbrev pub exit-1 : Type 0
 exit-1 =
-    (s : Store) (pages : List ℕ) (nodes : List ℕ) (register : List Record) (ok-s : Store′.Ok s) (len-pages : length pages < 2 ^ 64) (len-nodes : length nodes < 2 ^ 64) (len-register : length register < 2 ^ 64) (ok-r1 : PublishOut′.Ok (r1 s pages nodes register)) (ok-r2 : PublishReply′.Ok (r2 s pages nodes register))
-    → pit-publish″.ens s pages nodes register (r2 s pages nodes register)
+    (s : Store) (pages : List ℕ) (nodes : List ℕ) (register : List Record) (line : ℕ) (ok-s : Store′.Ok s) (len-pages : length pages < 2 ^ 64) (len-nodes : length nodes < 2 ^ 64) (len-register : length register < 2 ^ 64) (fits-line : line < 2 ^ 64) (ok-r1 : PublishOut′.Ok (r1 s pages nodes register line)) (ok-r2 : PublishReply′.Ok (r2 s pages nodes register line))
+    → pit-publish″.ens s pages nodes register line (r2 s pages nodes register line)

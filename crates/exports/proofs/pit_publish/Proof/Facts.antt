@@ -2,7 +2,7 @@
 use mathlib.Core.Path.{refl}
 use Rattle.exports.proofs.pit_publish.Proof.Asks as Asks
 
--- the function ensures: r ≡ publishReply (publishOut s (areasOf pages nodes register))
--- here: pit-publish″.ens s pages nodes register (r2 s pages nodes register)
+-- the function ensures: r ≡ publishReply (publishOut s (areasOf pages nodes register) line)
+-- here: pit-publish″.ens s pages nodes register line (r2 s pages nodes register line)
 pub exit-1 : Asks.exit-1
-exit-1 s pages nodes register ok-s len-pages len-nodes len-register ok-r1 ok-r2 = refl
+exit-1 s pages nodes register line ok-s len-pages len-nodes len-register fits-line ok-r1 ok-r2 = refl

@@ -12,12 +12,18 @@ use Rattle.versions.specs.declared.Store.{Store}
 use Rattle.versions.proofs.Generated.Kind.Store as Store′
 use Rattle.tree.specs.declared.Ticket.{Ticket}
 use Rattle.register.proofs.Generated.Kind.Ticket as Ticket′
+use Rattle.lines.specs.declared.Branch.{Branch}
+use Rattle.versions.proofs.Generated.Kind.Branch as Branch′
+use Rattle.lines.specs.declared.Line.{Line}
+use Rattle.register.proofs.Generated.Kind.Line as Line′
 use Rattle.tree.specs.declared.Version.{Version}
 use Rattle.register.proofs.Generated.Kind.Version as Version′
 use Rattle.register.specs.declared.Record.{Record}
 use Rattle.register.proofs.Generated.Kind.Record as Record′
 use Rattle.tree.specs.declared.PageIndex.{PageIndex}
 use Rattle.register.proofs.Generated.Kind.PageIndex as PageIndex′
+use Rattle.lines.specs.declared.Entries.{Entries}
+use Rattle.register.proofs.Generated.Kind.Entries as Entries′
 use Rattle.read.specs.declared.Filled.{Filled}
 use Rattle.read.proofs.Generated.Kind.Filled as Filled′
 use Rattle.versions.specs.declared.ByteOffset.{ByteOffset}
@@ -26,17 +32,17 @@ use Rattle.exports.proofs.Generated.Say.pit_read as pit-read″
 use Rattle.read.proofs.Generated.Say.read as read″
 use Rattle.exports.proofs.Generated.Say.read_reply as read-reply″
 
-abbrev pub r1 : Store → List ℕ → List ℕ → List Record → ℕ → ℕ → ℕ → List ℕ → Filled
-r1 s pages nodes register version offset len buffer = read″.res s pages nodes register (Version′.build version) (ByteOffset′.build offset) len buffer
+abbrev pub r1 : Store → List ℕ → List ℕ → List Record → ℕ → ℕ → ℕ → ℕ → List ℕ → Filled
+r1 s pages nodes register line version offset len buffer = read″.res s pages nodes register (Line′.build line) (Version′.build version) (ByteOffset′.build offset) len buffer
 
-abbrev pub buffer₁ : Store → List ℕ → List ℕ → List Record → ℕ → ℕ → ℕ → List ℕ → List ℕ
-buffer₁ s pages nodes register version offset len buffer = read″.out-buffer s pages nodes register (Version′.build version) (ByteOffset′.build offset) len buffer
+abbrev pub buffer₁ : Store → List ℕ → List ℕ → List Record → ℕ → ℕ → ℕ → ℕ → List ℕ → List ℕ
+buffer₁ s pages nodes register line version offset len buffer = read″.out-buffer s pages nodes register (Line′.build line) (Version′.build version) (ByteOffset′.build offset) len buffer
 
-abbrev pub r2 : Store → List ℕ → List ℕ → List Record → ℕ → ℕ → ℕ → List ℕ → ℕ
-r2 s pages nodes register version offset len buffer = read-reply″.res (r1 s pages nodes register version offset len buffer)
+abbrev pub r2 : Store → List ℕ → List ℕ → List Record → ℕ → ℕ → ℕ → ℕ → List ℕ → ℕ
+r2 s pages nodes register line version offset len buffer = read-reply″.res (r1 s pages nodes register line version offset len buffer)
 
--- the function ensures: (r ≡ readReply (readOut s (areasOf pages nodes register) version offset len buffer)) × (buffer′ ≡ readBuffer s (areasOf pages nodes register) version offset len buffer)
+-- the function ensures: (r ≡ readReply (readOut s (areasOf pages nodes register) line version offset len buffer)) × (buffer′ ≡ readBuffer s (areasOf pages nodes register) line version offset len buffer)
 abbrev pub exit-1 : Type 0
 exit-1 =
-    (s : Store) (pages : List ℕ) (nodes : List ℕ) (register : List Record) (version : ℕ) (offset : ℕ) (len : ℕ) (buffer : List ℕ) (ok-s : Store′.Ok s) (len-pages : length pages < 2 ^ 64) (len-nodes : length nodes < 2 ^ 64) (len-register : length register < 2 ^ 64) (fits-version : version < 2 ^ 64) (fits-offset : offset < 2 ^ 64) (fits-len : len < 2 ^ 64) (len-buffer : length buffer < 2 ^ 64) (ok-r1 : Filled′.Ok (r1 s pages nodes register version offset len buffer)) (same1-buffer : length (buffer₁ s pages nodes register version offset len buffer) ≡ length buffer) (fits-r2 : (r2 s pages nodes register version offset len buffer) < 2 ^ 64)
-    → pit-read″.ens s pages nodes register version offset len buffer (buffer₁ s pages nodes register version offset len buffer) (r2 s pages nodes register version offset len buffer)
+    (s : Store) (pages : List ℕ) (nodes : List ℕ) (register : List Record) (line : ℕ) (version : ℕ) (offset : ℕ) (len : ℕ) (buffer : List ℕ) (ok-s : Store′.Ok s) (len-pages : length pages < 2 ^ 64) (len-nodes : length nodes < 2 ^ 64) (len-register : length register < 2 ^ 64) (fits-line : line < 2 ^ 64) (fits-version : version < 2 ^ 64) (fits-offset : offset < 2 ^ 64) (fits-len : len < 2 ^ 64) (len-buffer : length buffer < 2 ^ 64) (ok-r1 : Filled′.Ok (r1 s pages nodes register line version offset len buffer)) (same1-buffer : length (buffer₁ s pages nodes register line version offset len buffer) ≡ length buffer) (fits-r2 : (r2 s pages nodes register line version offset len buffer) < 2 ^ 64)
+    → pit-read″.ens s pages nodes register line version offset len buffer (buffer₁ s pages nodes register line version offset len buffer) (r2 s pages nodes register line version offset len buffer)

@@ -14,26 +14,32 @@ use Rattle.versions.specs.declared.Store.{Store}
 use Rattle.versions.proofs.Generated.Kind.Store as Store′
 use Rattle.tree.specs.declared.Ticket.{Ticket}
 use Rattle.register.proofs.Generated.Kind.Ticket as Ticket′
+use Rattle.lines.specs.declared.Branch.{Branch}
+use Rattle.versions.proofs.Generated.Kind.Branch as Branch′
+use Rattle.lines.specs.declared.Line.{Line}
+use Rattle.register.proofs.Generated.Kind.Line as Line′
 use Rattle.tree.specs.declared.Version.{Version}
 use Rattle.register.proofs.Generated.Kind.Version as Version′
 use Rattle.register.specs.declared.Record.{Record}
 use Rattle.register.proofs.Generated.Kind.Record as Record′
 use Rattle.tree.specs.declared.PageIndex.{PageIndex}
 use Rattle.register.proofs.Generated.Kind.PageIndex as PageIndex′
+use Rattle.lines.specs.declared.Entries.{Entries}
+use Rattle.register.proofs.Generated.Kind.Entries as Entries′
 use Rattle.versions.specs.declared.Latest.{Latest}
 use Rattle.versions.proofs.Generated.Kind.Latest as Latest′
 use Rattle.exports.proofs.Generated.Say.pit_recent as pit-recent″
 use Rattle.versions.proofs.Generated.Say.recent as recent″
 use Rattle.exports.proofs.Generated.Say.recent_reply as recent-reply″
 
-abbrev pub r1 : Store → List ℕ → List ℕ → List Record → Latest
-r1 s pages nodes register = recent″.res s pages nodes register
+abbrev pub r1 : Store → List ℕ → List ℕ → List Record → ℕ → Latest
+r1 s pages nodes register line = recent″.res s pages nodes register (Line′.build line)
 
-abbrev pub r2 : Store → List ℕ → List ℕ → List Record → VersionReply
-r2 s pages nodes register = recent-reply″.res (r1 s pages nodes register)
+abbrev pub r2 : Store → List ℕ → List ℕ → List Record → ℕ → VersionReply
+r2 s pages nodes register line = recent-reply″.res (r1 s pages nodes register line)
 
--- the function ensures: r ≡ recentReply (recentOut s (areasOf pages nodes register))
+-- the function ensures: r ≡ recentReply (recentOut s (areasOf pages nodes register) line)
 abbrev pub exit-1 : Type 0
 exit-1 =
-    (s : Store) (pages : List ℕ) (nodes : List ℕ) (register : List Record) (ok-s : Store′.Ok s) (len-pages : length pages < 2 ^ 64) (len-nodes : length nodes < 2 ^ 64) (len-register : length register < 2 ^ 64) (ok-r1 : Latest′.Ok (r1 s pages nodes register)) (ok-r2 : VersionReply′.Ok (r2 s pages nodes register))
-    → pit-recent″.ens s pages nodes register (r2 s pages nodes register)
+    (s : Store) (pages : List ℕ) (nodes : List ℕ) (register : List Record) (line : ℕ) (ok-s : Store′.Ok s) (len-pages : length pages < 2 ^ 64) (len-nodes : length nodes < 2 ^ 64) (len-register : length register < 2 ^ 64) (fits-line : line < 2 ^ 64) (ok-r1 : Latest′.Ok (r1 s pages nodes register line)) (ok-r2 : VersionReply′.Ok (r2 s pages nodes register line))
+    → pit-recent″.ens s pages nodes register line (r2 s pages nodes register line)

@@ -14,26 +14,32 @@ use Rattle.versions.specs.declared.Store.{Store}
 use Rattle.versions.proofs.Generated.Kind.Store as Store′
 use Rattle.tree.specs.declared.Ticket.{Ticket}
 use Rattle.register.proofs.Generated.Kind.Ticket as Ticket′
+use Rattle.lines.specs.declared.Branch.{Branch}
+use Rattle.versions.proofs.Generated.Kind.Branch as Branch′
+use Rattle.lines.specs.declared.Line.{Line}
+use Rattle.register.proofs.Generated.Kind.Line as Line′
 use Rattle.tree.specs.declared.Version.{Version}
 use Rattle.register.proofs.Generated.Kind.Version as Version′
 use Rattle.register.specs.declared.Record.{Record}
 use Rattle.register.proofs.Generated.Kind.Record as Record′
 use Rattle.tree.specs.declared.PageIndex.{PageIndex}
 use Rattle.register.proofs.Generated.Kind.PageIndex as PageIndex′
+use Rattle.lines.specs.declared.Entries.{Entries}
+use Rattle.register.proofs.Generated.Kind.Entries as Entries′
 use Rattle.versions.specs.declared.Sized.{Sized}
 use Rattle.versions.proofs.Generated.Kind.Sized as Sized′
 use Rattle.exports.proofs.Generated.Say.pit_size as pit-size″
 use Rattle.versions.proofs.Generated.Say.size as size″
 use Rattle.exports.proofs.Generated.Say.size_reply as size-reply″
 
-abbrev pub r1 : Store → List ℕ → List ℕ → List Record → ℕ → Sized
-r1 s pages nodes register version = size″.res s pages nodes register (Version′.build version)
+abbrev pub r1 : Store → List ℕ → List ℕ → List Record → ℕ → ℕ → Sized
+r1 s pages nodes register line version = size″.res s pages nodes register (Line′.build line) (Version′.build version)
 
-abbrev pub r2 : Store → List ℕ → List ℕ → List Record → ℕ → SizeReply
-r2 s pages nodes register version = size-reply″.res (r1 s pages nodes register version)
+abbrev pub r2 : Store → List ℕ → List ℕ → List Record → ℕ → ℕ → SizeReply
+r2 s pages nodes register line version = size-reply″.res (r1 s pages nodes register line version)
 
--- the function ensures: r ≡ sizeReply (sizeOut s (areasOf pages nodes register) version)
+-- the function ensures: r ≡ sizeReply (sizeOut s (areasOf pages nodes register) line version)
 abbrev pub exit-1 : Type 0
 exit-1 =
-    (s : Store) (pages : List ℕ) (nodes : List ℕ) (register : List Record) (version : ℕ) (ok-s : Store′.Ok s) (len-pages : length pages < 2 ^ 64) (len-nodes : length nodes < 2 ^ 64) (len-register : length register < 2 ^ 64) (fits-version : version < 2 ^ 64) (ok-r1 : Sized′.Ok (r1 s pages nodes register version)) (ok-r2 : SizeReply′.Ok (r2 s pages nodes register version))
-    → pit-size″.ens s pages nodes register version (r2 s pages nodes register version)
+    (s : Store) (pages : List ℕ) (nodes : List ℕ) (register : List Record) (line : ℕ) (version : ℕ) (ok-s : Store′.Ok s) (len-pages : length pages < 2 ^ 64) (len-nodes : length nodes < 2 ^ 64) (len-register : length register < 2 ^ 64) (fits-line : line < 2 ^ 64) (fits-version : version < 2 ^ 64) (ok-r1 : Sized′.Ok (r1 s pages nodes register line version)) (ok-r2 : SizeReply′.Ok (r2 s pages nodes register line version))
+    → pit-size″.ens s pages nodes register line version (r2 s pages nodes register line version)

@@ -2,7 +2,7 @@
 use mathlib.Core.Path.{refl}
 use Rattle.exports.proofs.pit_size.Proof.Asks as Asks
 
--- the function ensures: r ≡ sizeReply (sizeOut s (areasOf pages nodes register) version)
--- here: pit-size″.ens s pages nodes register version (r2 s pages nodes register version)
+-- the function ensures: r ≡ sizeReply (sizeOut s (areasOf pages nodes register) line version)
+-- here: pit-size″.ens s pages nodes register line version (r2 s pages nodes register line version)
 pub exit-1 : Asks.exit-1
-exit-1 s pages nodes register version ok-s len-pages len-nodes len-register fits-version ok-r1 ok-r2 = refl
+exit-1 s pages nodes register line version ok-s len-pages len-nodes len-register fits-line fits-version ok-r1 ok-r2 = refl

@@ -14,26 +14,32 @@ use Rattle.versions.specs.declared.Store.{Store}
 use Rattle.versions.proofs.Generated.Kind.Store as Store′
 use Rattle.tree.specs.declared.Ticket.{Ticket}
 use Rattle.register.proofs.Generated.Kind.Ticket as Ticket′
+use Rattle.lines.specs.declared.Branch.{Branch}
+use Rattle.versions.proofs.Generated.Kind.Branch as Branch′
+use Rattle.lines.specs.declared.Line.{Line}
+use Rattle.register.proofs.Generated.Kind.Line as Line′
 use Rattle.tree.specs.declared.Version.{Version}
 use Rattle.register.proofs.Generated.Kind.Version as Version′
 use Rattle.register.specs.declared.Record.{Record}
 use Rattle.register.proofs.Generated.Kind.Record as Record′
 use Rattle.tree.specs.declared.PageIndex.{PageIndex}
 use Rattle.register.proofs.Generated.Kind.PageIndex as PageIndex′
+use Rattle.lines.specs.declared.Entries.{Entries}
+use Rattle.register.proofs.Generated.Kind.Entries as Entries′
 use Rattle.stamp.specs.declared.Stamped.{Stamped}
 use Rattle.stamp.proofs.Generated.Kind.Stamped as Stamped′
 use Rattle.exports.proofs.Generated.Say.pit_stamp as pit-stamp″
 use Rattle.stamp.proofs.Generated.Say.stamp as stamp″
 use Rattle.exports.proofs.Generated.Say.stamp_reply as stamp-reply″
 
-abbrev pub r1 : Store → List ℕ → List ℕ → List Record → ℕ → ℕ → Stamped
-r1 s pages nodes register version page = stamp″.res s pages nodes register (Version′.build version) (PageIndex′.build page)
+abbrev pub r1 : Store → List ℕ → List ℕ → List Record → ℕ → ℕ → ℕ → Stamped
+r1 s pages nodes register line version page = stamp″.res s pages nodes register (Line′.build line) (Version′.build version) (PageIndex′.build page)
 
-abbrev pub r2 : Store → List ℕ → List ℕ → List Record → ℕ → ℕ → VersionReply
-r2 s pages nodes register version page = stamp-reply″.res (r1 s pages nodes register version page)
+abbrev pub r2 : Store → List ℕ → List ℕ → List Record → ℕ → ℕ → ℕ → VersionReply
+r2 s pages nodes register line version page = stamp-reply″.res (r1 s pages nodes register line version page)
 
--- the function ensures: r ≡ stampReply (stampOut s (areasOf pages nodes register) version page)
+-- the function ensures: r ≡ stampReply (stampOut s (areasOf pages nodes register) line version page)
 abbrev pub exit-1 : Type 0
 exit-1 =
-    (s : Store) (pages : List ℕ) (nodes : List ℕ) (register : List Record) (version : ℕ) (page : ℕ) (ok-s : Store′.Ok s) (len-pages : length pages < 2 ^ 64) (len-nodes : length nodes < 2 ^ 64) (len-register : length register < 2 ^ 64) (fits-version : version < 2 ^ 64) (fits-page : page < 2 ^ 64) (ok-r1 : Stamped′.Ok (r1 s pages nodes register version page)) (ok-r2 : VersionReply′.Ok (r2 s pages nodes register version page))
-    → pit-stamp″.ens s pages nodes register version page (r2 s pages nodes register version page)
+    (s : Store) (pages : List ℕ) (nodes : List ℕ) (register : List Record) (line : ℕ) (version : ℕ) (page : ℕ) (ok-s : Store′.Ok s) (len-pages : length pages < 2 ^ 64) (len-nodes : length nodes < 2 ^ 64) (len-register : length register < 2 ^ 64) (fits-line : line < 2 ^ 64) (fits-version : version < 2 ^ 64) (fits-page : page < 2 ^ 64) (ok-r1 : Stamped′.Ok (r1 s pages nodes register line version page)) (ok-r2 : VersionReply′.Ok (r2 s pages nodes register line version page))
+    → pit-stamp″.ens s pages nodes register line version page (r2 s pages nodes register line version page)

@@ -14,26 +14,32 @@ use Rattle.versions.specs.declared.Store.{Store}
 use Rattle.versions.proofs.Generated.Kind.Store as Store′
 use Rattle.tree.specs.declared.Ticket.{Ticket}
 use Rattle.register.proofs.Generated.Kind.Ticket as Ticket′
+use Rattle.lines.specs.declared.Branch.{Branch}
+use Rattle.versions.proofs.Generated.Kind.Branch as Branch′
+use Rattle.lines.specs.declared.Line.{Line}
+use Rattle.register.proofs.Generated.Kind.Line as Line′
 use Rattle.tree.specs.declared.Version.{Version}
 use Rattle.register.proofs.Generated.Kind.Version as Version′
 use Rattle.register.specs.declared.Record.{Record}
 use Rattle.register.proofs.Generated.Kind.Record as Record′
 use Rattle.tree.specs.declared.PageIndex.{PageIndex}
 use Rattle.register.proofs.Generated.Kind.PageIndex as PageIndex′
+use Rattle.lines.specs.declared.Entries.{Entries}
+use Rattle.register.proofs.Generated.Kind.Entries as Entries′
 use Rattle.view.specs.declared.Viewed.{Viewed}
 use Rattle.view.proofs.Generated.Kind.Viewed as Viewed′
 use Rattle.exports.proofs.Generated.Say.pit_view as pit-view″
 use Rattle.view.proofs.Generated.Say.view_at as view-at″
 use Rattle.exports.proofs.Generated.Say.view_reply as view-reply″
 
-abbrev pub r1 : Store → List ℕ → List ℕ → List Record → ℕ → ℕ → Viewed
-r1 s pages nodes register version page = view-at″.res s pages nodes register (Version′.build version) (PageIndex′.build page)
+abbrev pub r1 : Store → List ℕ → List ℕ → List Record → ℕ → ℕ → ℕ → Viewed
+r1 s pages nodes register line version page = view-at″.res s pages nodes register (Line′.build line) (Version′.build version) (PageIndex′.build page)
 
-abbrev pub r2 : Store → List ℕ → List ℕ → List Record → ℕ → ℕ → ViewReply
-r2 s pages nodes register version page = view-reply″.res (s .size) (r1 s pages nodes register version page)
+abbrev pub r2 : Store → List ℕ → List ℕ → List Record → ℕ → ℕ → ℕ → ViewReply
+r2 s pages nodes register line version page = view-reply″.res (s .size) (r1 s pages nodes register line version page)
 
--- the function ensures: (r ≡ viewReply (s .size) (viewAt s (areasOf pages nodes register) version page)) × (part pages (r .begin) (r .length) ≡ viewPart s (areasOf pages nodes register) version page)
+-- the function ensures: (r ≡ viewReply (s .size) (viewAt s (areasOf pages nodes register) line version page)) × (part pages (r .begin) (r .length) ≡ viewPart s (areasOf pages nodes register) line version page)
 abbrev pub exit-1 : Type 0
 exit-1 =
-    (s : Store) (pages : List ℕ) (nodes : List ℕ) (register : List Record) (version : ℕ) (page : ℕ) (ok-s : Store′.Ok s) (len-pages : length pages < 2 ^ 64) (len-nodes : length nodes < 2 ^ 64) (len-register : length register < 2 ^ 64) (fits-version : version < 2 ^ 64) (fits-page : page < 2 ^ 64) (ok-r1 : Viewed′.Ok (r1 s pages nodes register version page)) (ok-r2 : ViewReply′.Ok (r2 s pages nodes register version page))
-    → pit-view″.ens s pages nodes register version page (r2 s pages nodes register version page)
+    (s : Store) (pages : List ℕ) (nodes : List ℕ) (register : List Record) (line : ℕ) (version : ℕ) (page : ℕ) (ok-s : Store′.Ok s) (len-pages : length pages < 2 ^ 64) (len-nodes : length nodes < 2 ^ 64) (len-register : length register < 2 ^ 64) (fits-line : line < 2 ^ 64) (fits-version : version < 2 ^ 64) (fits-page : page < 2 ^ 64) (ok-r1 : Viewed′.Ok (r1 s pages nodes register line version page)) (ok-r2 : ViewReply′.Ok (r2 s pages nodes register line version page))
+    → pit-view″.ens s pages nodes register line version page (r2 s pages nodes register line version page)

@@ -14,12 +14,18 @@ use Rattle.versions.specs.declared.Store.{Store}
 use Rattle.versions.proofs.Generated.Kind.Store as Store′
 use Rattle.tree.specs.declared.Ticket.{Ticket}
 use Rattle.register.proofs.Generated.Kind.Ticket as Ticket′
+use Rattle.lines.specs.declared.Branch.{Branch}
+use Rattle.versions.proofs.Generated.Kind.Branch as Branch′
+use Rattle.lines.specs.declared.Line.{Line}
+use Rattle.register.proofs.Generated.Kind.Line as Line′
 use Rattle.tree.specs.declared.Version.{Version}
 use Rattle.register.proofs.Generated.Kind.Version as Version′
 use Rattle.register.specs.declared.Record.{Record}
 use Rattle.register.proofs.Generated.Kind.Record as Record′
 use Rattle.tree.specs.declared.PageIndex.{PageIndex}
 use Rattle.register.proofs.Generated.Kind.PageIndex as PageIndex′
+use Rattle.lines.specs.declared.Entries.{Entries}
+use Rattle.register.proofs.Generated.Kind.Entries as Entries′
 use Rattle.assign.specs.declared.AssignOut.{AssignOut}
 use Rattle.assign.proofs.Generated.Kind.AssignOut as AssignOut′
 use Rattle.assign.specs.declared.Assigned.{Assigned}
@@ -28,17 +34,17 @@ use Rattle.exports.proofs.Generated.Say.pit_write as pit-write″
 use Rattle.assign.proofs.Generated.Say.write as write″
 use Rattle.exports.proofs.Generated.Say.assign_reply as assign-reply″
 
-abbrev pub r1 : Store → List ℕ → List ℕ → List Record → ℕ → ℕ → AssignOut
-r1 s pages nodes register ticket f = write″.res s pages nodes register (Ticket′.build ticket) (PageIndex′.build f)
+abbrev pub r1 : Store → List ℕ → List ℕ → List Record → ℕ → ℕ → ℕ → AssignOut
+r1 s pages nodes register line ticket f = write″.res s pages nodes register (Line′.build line) (Ticket′.build ticket) (PageIndex′.build f)
 
-abbrev pub register₁ : Store → List ℕ → List ℕ → List Record → ℕ → ℕ → List Record
-register₁ s pages nodes register ticket f = write″.out-register s pages nodes register (Ticket′.build ticket) (PageIndex′.build f)
+abbrev pub register₁ : Store → List ℕ → List ℕ → List Record → ℕ → ℕ → ℕ → List Record
+register₁ s pages nodes register line ticket f = write″.out-register s pages nodes register (Line′.build line) (Ticket′.build ticket) (PageIndex′.build f)
 
-abbrev pub r2 : Store → List ℕ → List ℕ → List Record → ℕ → ℕ → AssignReply
-r2 s pages nodes register ticket f = assign-reply″.res (r1 s pages nodes register ticket f)
+abbrev pub r2 : Store → List ℕ → List ℕ → List Record → ℕ → ℕ → ℕ → AssignReply
+r2 s pages nodes register line ticket f = assign-reply″.res (r1 s pages nodes register line ticket f)
 
--- the function ensures: (r ≡ assignReply (assignOut s (areasOf pages nodes register) ticket f)) × (register′ ≡ assignRegister s (areasOf pages nodes register) ticket f)
+-- the function ensures: (r ≡ assignReply (assignOut s (areasOf pages nodes register) line ticket f)) × (register′ ≡ assignRegister s (areasOf pages nodes register) line ticket f)
 abbrev pub exit-1 : Type 0
 exit-1 =
-    (s : Store) (pages : List ℕ) (nodes : List ℕ) (register : List Record) (ticket : ℕ) (f : ℕ) (ok-s : Store′.Ok s) (len-pages : length pages < 2 ^ 64) (len-nodes : length nodes < 2 ^ 64) (len-register : length register < 2 ^ 64) (fits-ticket : ticket < 2 ^ 64) (fits-f : f < 2 ^ 64) (ok-r1 : AssignOut′.Ok (r1 s pages nodes register ticket f)) (same1-register : length (register₁ s pages nodes register ticket f) ≡ length register) (ok-r2 : AssignReply′.Ok (r2 s pages nodes register ticket f))
-    → pit-write″.ens s pages nodes register ticket f (register₁ s pages nodes register ticket f) (r2 s pages nodes register ticket f)
+    (s : Store) (pages : List ℕ) (nodes : List ℕ) (register : List Record) (line : ℕ) (ticket : ℕ) (f : ℕ) (ok-s : Store′.Ok s) (len-pages : length pages < 2 ^ 64) (len-nodes : length nodes < 2 ^ 64) (len-register : length register < 2 ^ 64) (fits-line : line < 2 ^ 64) (fits-ticket : ticket < 2 ^ 64) (fits-f : f < 2 ^ 64) (ok-r1 : AssignOut′.Ok (r1 s pages nodes register line ticket f)) (same1-register : length (register₁ s pages nodes register line ticket f) ≡ length register) (ok-r2 : AssignReply′.Ok (r2 s pages nodes register line ticket f))
+    → pit-write″.ens s pages nodes register line ticket f (register₁ s pages nodes register line ticket f) (r2 s pages nodes register line ticket f)

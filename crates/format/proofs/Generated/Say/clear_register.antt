@@ -12,10 +12,10 @@ use Rattle.table.specs.Table.{holds, outside}
 use Rattle.versions.specs.Store.{areasOf}
 use Rattle.format.specs.Format.{fresh, formatRefusal, formatted, formatAnswer, formatAreas}
 use Rattle.format.specs.declared.Formatted.{Formatted}
+use Rattle.lines.specs.declared.Entries.{Entries}
 use Rattle.register.specs.declared.Record.{Record}
 use Rattle.tree.specs.declared.PageIndex.{PageIndex}
 use Rattle.tree.specs.declared.Ticket.{Ticket}
-use Rattle.tree.specs.declared.Version.{Version}
 
 abbrev pub ens : List Record → List Record → Unit {0} → Type 0
 ens register register′ result = register′ ≡ replicate (length register) noRecord

@@ -36,14 +36,12 @@ use Rattle.versions.specs.declared.Store.{Store}
 use Rattle.versions.proofs.Generated.Kind.Store as Store′
 use Rattle.tree.specs.declared.Ticket.{Ticket}
 use Rattle.register.proofs.Generated.Kind.Ticket as Ticket′
+use Rattle.lines.specs.declared.Branch.{Branch}
+use Rattle.versions.proofs.Generated.Kind.Branch as Branch′
+use Rattle.lines.specs.declared.Line.{Line}
+use Rattle.register.proofs.Generated.Kind.Line as Line′
 use Rattle.tree.specs.declared.Version.{Version}
 use Rattle.register.proofs.Generated.Kind.Version as Version′
-use Rattle.versions.specs.declared.Lengths.{Lengths}
-use Rattle.versions.proofs.Generated.Kind.Lengths as Lengths′
-use Rattle.register.specs.declared.Record.{Record}
-use Rattle.register.proofs.Generated.Kind.Record as Record′
-use Rattle.tree.specs.declared.PageIndex.{PageIndex}
-use Rattle.register.proofs.Generated.Kind.PageIndex as PageIndex′
 use Rattle.publish.specs.declared.PublishOut.{PublishOut}
 use Rattle.publish.proofs.Generated.Kind.PublishOut as PublishOut′
 use Rattle.publish.specs.declared.Published.{Published}
@@ -56,53 +54,53 @@ module _ {M : Type 1} (𝓤 : URA M) (H : Heap 𝓤) (A : Atoms 𝓤) (mem : Mem
   abbrev pub Asked : Contract 𝓤
   Asked = tripleOf 𝓤 H A callee.signature (callee.spec 𝓤 H A mem run)
 
-  abbrev pub to : (s : Store) (x-l : Lengths) (q : Record) → Asked .Ghost
-  to s x-l q = ((tt, tt, tt, (s, (x-l, (q, tt))), (Store′.mach s ∷ [], (Lengths′.mach x-l ∷ [], (Record′.mach q ∷ [], tt)))), tt)
+  abbrev pub to : (s : Store) (x-l : Line) (x-k : ℕ) (due : Bool) → Asked .Ghost
+  to s x-l x-k due = ((tt, tt, tt, (s, (x-l, (x-k, (due, tt)))), (Store′.mach s ∷ [], (Line′.mach x-l ∷ [], (vint w64 x-k ∷ [], (vbool due ∷ [], tt))))), tt)
 
 module _ {M : Type 1} {𝓤 : URA M} {H : Heap 𝓤} {A : Atoms 𝓤} {K : Type 0} {W : Given 𝓤 H A} {Γ : List (Item 𝓤)} where
   -- the call itself is made by `by-call`, from what the callee asks to what it has ensured
-  core : K → (mem : Memory → SProp 𝓤) (run : Routine → Fun 𝓤) → (s : Store) (x-l : Lengths) (q : Record) → (G : Goal 𝓤 H) (after : Val → Goal 𝓤 H) → ((v : Val) → Soaks (after v))
-      → (((v : Val) → Seq K W (raw (Asked 𝓤 H A mem run .post (to 𝓤 H A mem run s x-l q) v) ∷ Γ) (after v)) → Seq K W (raw (Asked 𝓤 H A mem run .pre (to 𝓤 H A mem run s x-l q)) ∷ Γ) G) → Is Store′.row s (Store′.vals s) → Is Lengths′.row x-l (Lengths′.vals x-l) → Is Record′.row q (Record′.vals q) →
-      (Is PublishOut′.row (published-by″.res s x-l q) (PublishOut′.vals (published-by″.res s x-l q)) → Seq K W (Γ) (after (PublishOut′.mach (published-by″.res s x-l q)))) → Seq K W (Γ) G
-  core t mem run s x-l q G after soaks by-call ok·s ok·x-l ok·q k =
-      use0 W (raw (Asked 𝓤 H A mem run .pre (to 𝓤 H A mem run s x-l q))) goes $
+  core : K → (mem : Memory → SProp 𝓤) (run : Routine → Fun 𝓤) → (s : Store) (x-l : Line) (x-k : ℕ) (due : Bool) → (G : Goal 𝓤 H) (after : Val → Goal 𝓤 H) → ((v : Val) → Soaks (after v))
+      → (((v : Val) → Seq K W (raw (Asked 𝓤 H A mem run .post (to 𝓤 H A mem run s x-l x-k due) v) ∷ Γ) (after v)) → Seq K W (raw (Asked 𝓤 H A mem run .pre (to 𝓤 H A mem run s x-l x-k due)) ∷ Γ) G) → Is Store′.row s (Store′.vals s) → Is Line′.row x-l (Line′.vals x-l) → Is u64 x-k (uint-vals w64 x-k) → Is bool due (bool-vals due) → published-by″.req s x-l x-k due →
+      (Is PublishOut′.row (published-by″.res s x-l x-k due) (PublishOut′.vals (published-by″.res s x-l x-k due)) → Seq K W (Γ) (after (PublishOut′.mach (published-by″.res s x-l x-k due)))) → Seq K W (Γ) G
+  core t mem run s x-l x-k due G after soaks by-call ok·s ok·x-l ok·x-k ok·due need k =
+      use0 W (raw (Asked 𝓤 H A mem run .pre (to 𝓤 H A mem run s x-l x-k due))) goes $
       by-call (λ v.
-      use1 W (later (some (λ (r· : PublishOut). ((‵ ftrue) ⊛ ‵ (PublishOut′.row .own r· (v ∷ []))) ⊛ raw (ensured 𝓤 H A callee.ended (callee.clauses 𝓤 H A mem run) tt (s, (x-l, (q, tt))) tt r·)))) (id⊢ 𝓤 _) $ await t (soaks v) $ pick t (λ r·. split t $ move t (1 ∷ []) $
-      use1 W (some (λ (ws : Lasts callee.ended tt (s, (x-l, (q, tt)))). ‵ (lasts callee.ended tt (s, (x-l, (q, tt))) ws) ⊛ raw (fact 𝓤 (published-by″.ens s x-l q r·)))) (id⊢ 𝓤 _) $ pick t (λ ws. split t $ move t (1 ∷ []) $
-      heard t (published-by″.ens s x-l q r·) (λ e. drop t $ split t $ move t (1 ∷ []) $ facts t PublishOut′.row (Is PublishOut′.row) (shows 𝓤 H A PublishOut′.row) r· (v ∷ []) (λ is. drop t $
+      use1 W (later (some (λ (r· : PublishOut). ((‵ ftrue) ⊛ ‵ (PublishOut′.row .own r· (v ∷ []))) ⊛ raw (ensured 𝓤 H A callee.ended (callee.clauses 𝓤 H A mem run) tt (s, (x-l, (x-k, (due, tt)))) tt r·)))) (id⊢ 𝓤 _) $ await t (soaks v) $ pick t (λ r·. split t $ move t (1 ∷ []) $
+      use1 W (some (λ (ws : Lasts callee.ended tt (s, (x-l, (x-k, (due, tt))))). ‵ (lasts callee.ended tt (s, (x-l, (x-k, (due, tt)))) ws) ⊛ raw (fact 𝓤 (published-by″.ens s x-l x-k due r·)))) (id⊢ 𝓤 _) $ pick t (λ ws. split t $ move t (1 ∷ []) $
+      heard t (published-by″.ens s x-l x-k due r·) (λ e. drop t $ split t $ move t (1 ∷ []) $ facts t PublishOut′.row (Is PublishOut′.row) (shows 𝓤 H A PublishOut′.row) r· (v ∷ []) (λ is. drop t $
       subst (λ (u : Val). Seq K W (Γ) (after u)) (sym (ap only (PublishOut′.tells r· (v ∷ []) is) ∙ ap (λ (z : PublishOut). PublishOut′.mach z) (e))) (k (subst (λ (z : PublishOut). Is PublishOut′.row z (PublishOut′.vals z)) (e) (subst (Is PublishOut′.row r·) (PublishOut′.tells r· (v ∷ []) is) is))))))))
     where
-      goes : ent 𝓤 (⋆ 𝓤 H A ([])) (Asked 𝓤 H A mem run .pre (to 𝓤 H A mem run s x-l q))
-      goes = qed W ([]) ∵ plus-nothing ! $ nothing ! $ frame ! $ nothing ! $ owned ! Record′.row (Is Record′.row) (Record′.makes 𝓤 H A) q _ ok·q $ fjoin ! $ owned ! Lengths′.row (Is Lengths′.row) (Lengths′.makes 𝓤 H A) x-l _ ok·x-l $ fjoin ! $ owned ! Store′.row (Is Store′.row) (Store′.makes 𝓤 H A) s _ ok·s $ fjoin ! $ done !
+      goes : ent 𝓤 (⋆ 𝓤 H A ([])) (Asked 𝓤 H A mem run .pre (to 𝓤 H A mem run s x-l x-k due))
+      goes = qed W ([]) ∵ says ! need $ nothing ! $ frame ! $ nothing ! $ owned ! bool (Is bool) (bool-makes 𝓤 H A W) due _ ok·due $ fjoin ! $ owned ! u64 (Is u64) (uint-makes 𝓤 H A W w64) x-k _ ok·x-k $ fjoin ! $ owned ! Line′.row (Is Line′.row) (Line′.makes 𝓤 H A) x-l _ ok·x-l $ fjoin ! $ owned ! Store′.row (Is Store′.row) (Store′.makes 𝓤 H A) s _ ok·s $ fjoin ! $ done !
 
 module _ {M : Type 1} {𝓤 : URA M} {H : Heap 𝓤} {A : Atoms 𝓤} {K : Type 0} {W : Given 𝓤 H A} {Γ : List (Item 𝓤)} {E : Env 𝓤 H} {C : Calls 𝓤 H} {Λ : Loops 𝓤 H} {Q : Post 𝓤 H} {xs : List Operand} {d : Place} {rest : Body} where
   -- by one instance of the callee's contract, which is what a function that calls itself has
-  pub calls-by : K → (mem : Memory → SProp 𝓤) (run : Routine → Fun 𝓤) → FmC 𝓤 H (W .laws) C → (s : Store) (x-l : Lengths) (q : Record) → ent 𝓤 (Asked 𝓤 H A mem run .pre (to 𝓤 H A mem run s x-l q)) (C #callee (Asked 𝓤 H A mem run .args (to 𝓤 H A mem run s x-l q)) (Asked 𝓤 H A mem run .post (to 𝓤 H A mem run s x-l q))) → Is Store′.row s (Store′.vals s) → Is Lengths′.row x-l (Lengths′.vals x-l) → Is Record′.row q (Record′.vals q) →
-      Opds K W (raw (Asked 𝓤 H A mem run .pre (to 𝓤 H A mem run s x-l q)) ∷ Γ) E xs (Store′.mach s ∷ Lengths′.mach x-l ∷ Record′.mach q ∷ [])
-      → (Is PublishOut′.row (published-by″.res s x-l q) (PublishOut′.vals (published-by″.res s x-l q)) → Seq K W (Γ) (lands C Λ E d (PublishOut′.mach (published-by″.res s x-l q)) rest Q))
+  pub calls-by : K → (mem : Memory → SProp 𝓤) (run : Routine → Fun 𝓤) → FmC 𝓤 H (W .laws) C → (s : Store) (x-l : Line) (x-k : ℕ) (due : Bool) → ent 𝓤 (Asked 𝓤 H A mem run .pre (to 𝓤 H A mem run s x-l x-k due)) (C #callee (Asked 𝓤 H A mem run .args (to 𝓤 H A mem run s x-l x-k due)) (Asked 𝓤 H A mem run .post (to 𝓤 H A mem run s x-l x-k due))) → Is Store′.row s (Store′.vals s) → Is Line′.row x-l (Line′.vals x-l) → Is u64 x-k (uint-vals w64 x-k) → Is bool due (bool-vals due) → published-by″.req s x-l x-k due →
+      Opds K W (raw (Asked 𝓤 H A mem run .pre (to 𝓤 H A mem run s x-l x-k due)) ∷ Γ) E xs (Store′.mach s ∷ Line′.mach x-l ∷ vint w64 x-k ∷ vbool due ∷ [])
+      → (Is PublishOut′.row (published-by″.res s x-l x-k due) (PublishOut′.vals (published-by″.res s x-l x-k due)) → Seq K W (Γ) (lands C Λ E d (PublishOut′.mach (published-by″.res s x-l x-k due)) rest Q))
       → Seq K W (Γ) (runs C Λ E (seq (call #callee xs d) rest) Q)
-  calls-by t mem run fm s x-l q known ok·s ok·x-l ok·q os k =
-      core t mem run s x-l q (runs C Λ E (seq (call #callee xs d) rest) Q) (λ v. lands C Λ E d v rest Q) (λ v. tt)
-      (λ h. calls-from t fm (raw (Asked 𝓤 H A mem run .pre (to 𝓤 H A mem run s x-l q))) (Asked 𝓤 H A mem run .args (to 𝓤 H A mem run s x-l q)) (Asked 𝓤 H A mem run .post (to 𝓤 H A mem run s x-l q)) known os h) ok·s ok·x-l ok·q k
+  calls-by t mem run fm s x-l x-k due known ok·s ok·x-l ok·x-k ok·due need os k =
+      core t mem run s x-l x-k due (runs C Λ E (seq (call #callee xs d) rest) Q) (λ v. lands C Λ E d v rest Q) (λ v. tt)
+      (λ h. calls-from t fm (raw (Asked 𝓤 H A mem run .pre (to 𝓤 H A mem run s x-l x-k due))) (Asked 𝓤 H A mem run .args (to 𝓤 H A mem run s x-l x-k due)) (Asked 𝓤 H A mem run .post (to 𝓤 H A mem run s x-l x-k due)) known os h) ok·s ok·x-l ok·x-k ok·due need k
 
-  pub calls : K → (mem : Memory → SProp 𝓤) (run : Routine → Fun 𝓤) → FmC 𝓤 H (W .laws) C → Triple 𝓤 (C #callee) (Asked 𝓤 H A mem run) → (s : Store) (x-l : Lengths) (q : Record) → Is Store′.row s (Store′.vals s) → Is Lengths′.row x-l (Lengths′.vals x-l) → Is Record′.row q (Record′.vals q) →
-      Opds K W (raw (Asked 𝓤 H A mem run .pre (to 𝓤 H A mem run s x-l q)) ∷ Γ) E xs (Store′.mach s ∷ Lengths′.mach x-l ∷ Record′.mach q ∷ [])
-      → (Is PublishOut′.row (published-by″.res s x-l q) (PublishOut′.vals (published-by″.res s x-l q)) → Seq K W (Γ) (lands C Λ E d (PublishOut′.mach (published-by″.res s x-l q)) rest Q))
+  pub calls : K → (mem : Memory → SProp 𝓤) (run : Routine → Fun 𝓤) → FmC 𝓤 H (W .laws) C → Triple 𝓤 (C #callee) (Asked 𝓤 H A mem run) → (s : Store) (x-l : Line) (x-k : ℕ) (due : Bool) → Is Store′.row s (Store′.vals s) → Is Line′.row x-l (Line′.vals x-l) → Is u64 x-k (uint-vals w64 x-k) → Is bool due (bool-vals due) → published-by″.req s x-l x-k due →
+      Opds K W (raw (Asked 𝓤 H A mem run .pre (to 𝓤 H A mem run s x-l x-k due)) ∷ Γ) E xs (Store′.mach s ∷ Line′.mach x-l ∷ vint w64 x-k ∷ vbool due ∷ [])
+      → (Is PublishOut′.row (published-by″.res s x-l x-k due) (PublishOut′.vals (published-by″.res s x-l x-k due)) → Seq K W (Γ) (lands C Λ E d (PublishOut′.mach (published-by″.res s x-l x-k due)) rest Q))
       → Seq K W (Γ) (runs C Λ E (seq (call #callee xs d) rest) Q)
-  calls t mem run fm known s x-l q = calls-by t mem run fm s x-l q (known (to 𝓤 H A mem run s x-l q))
+  calls t mem run fm known s x-l x-k due = calls-by t mem run fm s x-l x-k due (known (to 𝓤 H A mem run s x-l x-k due))
 
 module _ {M : Type 1} {𝓤 : URA M} {H : Heap 𝓤} {A : Atoms 𝓤} {K : Type 0} {W : Given 𝓤 H A} {Γ : List (Item 𝓤)} {E : Env 𝓤 H} {C : Calls 𝓤 H} {Λ : Loops 𝓤 H} {Q : Post 𝓤 H} {xs : List Operand} {d : Place} where
   -- by one instance of the callee's contract, which is what a function that calls itself has. The call ends a part of the code
-  pub calls-last-by : K → (mem : Memory → SProp 𝓤) (run : Routine → Fun 𝓤) → FmC 𝓤 H (W .laws) C → (s : Store) (x-l : Lengths) (q : Record) → ent 𝓤 (Asked 𝓤 H A mem run .pre (to 𝓤 H A mem run s x-l q)) (C #callee (Asked 𝓤 H A mem run .args (to 𝓤 H A mem run s x-l q)) (Asked 𝓤 H A mem run .post (to 𝓤 H A mem run s x-l q))) → Is Store′.row s (Store′.vals s) → Is Lengths′.row x-l (Lengths′.vals x-l) → Is Record′.row q (Record′.vals q) →
-      Opds K W (raw (Asked 𝓤 H A mem run .pre (to 𝓤 H A mem run s x-l q)) ∷ Γ) E xs (Store′.mach s ∷ Lengths′.mach x-l ∷ Record′.mach q ∷ [])
-      → (Is PublishOut′.row (published-by″.res s x-l q) (PublishOut′.vals (published-by″.res s x-l q)) → Seq K W (Γ) (settles E d (PublishOut′.mach (published-by″.res s x-l q)) Q))
+  pub calls-last-by : K → (mem : Memory → SProp 𝓤) (run : Routine → Fun 𝓤) → FmC 𝓤 H (W .laws) C → (s : Store) (x-l : Line) (x-k : ℕ) (due : Bool) → ent 𝓤 (Asked 𝓤 H A mem run .pre (to 𝓤 H A mem run s x-l x-k due)) (C #callee (Asked 𝓤 H A mem run .args (to 𝓤 H A mem run s x-l x-k due)) (Asked 𝓤 H A mem run .post (to 𝓤 H A mem run s x-l x-k due))) → Is Store′.row s (Store′.vals s) → Is Line′.row x-l (Line′.vals x-l) → Is u64 x-k (uint-vals w64 x-k) → Is bool due (bool-vals due) → published-by″.req s x-l x-k due →
+      Opds K W (raw (Asked 𝓤 H A mem run .pre (to 𝓤 H A mem run s x-l x-k due)) ∷ Γ) E xs (Store′.mach s ∷ Line′.mach x-l ∷ vint w64 x-k ∷ vbool due ∷ [])
+      → (Is PublishOut′.row (published-by″.res s x-l x-k due) (PublishOut′.vals (published-by″.res s x-l x-k due)) → Seq K W (Γ) (settles E d (PublishOut′.mach (published-by″.res s x-l x-k due)) Q))
       → Seq K W (Γ) (runs C Λ E (call #callee xs d) Q)
-  calls-last-by t mem run fm s x-l q known ok·s ok·x-l ok·q os k =
-      core t mem run s x-l q (runs C Λ E (call #callee xs d) Q) (λ v. settles E d v Q) (λ v. tt)
-      (λ h. calls-from-last t fm (raw (Asked 𝓤 H A mem run .pre (to 𝓤 H A mem run s x-l q))) (Asked 𝓤 H A mem run .args (to 𝓤 H A mem run s x-l q)) (Asked 𝓤 H A mem run .post (to 𝓤 H A mem run s x-l q)) known os h) ok·s ok·x-l ok·q k
+  calls-last-by t mem run fm s x-l x-k due known ok·s ok·x-l ok·x-k ok·due need os k =
+      core t mem run s x-l x-k due (runs C Λ E (call #callee xs d) Q) (λ v. settles E d v Q) (λ v. tt)
+      (λ h. calls-from-last t fm (raw (Asked 𝓤 H A mem run .pre (to 𝓤 H A mem run s x-l x-k due))) (Asked 𝓤 H A mem run .args (to 𝓤 H A mem run s x-l x-k due)) (Asked 𝓤 H A mem run .post (to 𝓤 H A mem run s x-l x-k due)) known os h) ok·s ok·x-l ok·x-k ok·due need k
 
-  pub calls-last : K → (mem : Memory → SProp 𝓤) (run : Routine → Fun 𝓤) → FmC 𝓤 H (W .laws) C → Triple 𝓤 (C #callee) (Asked 𝓤 H A mem run) → (s : Store) (x-l : Lengths) (q : Record) → Is Store′.row s (Store′.vals s) → Is Lengths′.row x-l (Lengths′.vals x-l) → Is Record′.row q (Record′.vals q) →
-      Opds K W (raw (Asked 𝓤 H A mem run .pre (to 𝓤 H A mem run s x-l q)) ∷ Γ) E xs (Store′.mach s ∷ Lengths′.mach x-l ∷ Record′.mach q ∷ [])
-      → (Is PublishOut′.row (published-by″.res s x-l q) (PublishOut′.vals (published-by″.res s x-l q)) → Seq K W (Γ) (settles E d (PublishOut′.mach (published-by″.res s x-l q)) Q))
+  pub calls-last : K → (mem : Memory → SProp 𝓤) (run : Routine → Fun 𝓤) → FmC 𝓤 H (W .laws) C → Triple 𝓤 (C #callee) (Asked 𝓤 H A mem run) → (s : Store) (x-l : Line) (x-k : ℕ) (due : Bool) → Is Store′.row s (Store′.vals s) → Is Line′.row x-l (Line′.vals x-l) → Is u64 x-k (uint-vals w64 x-k) → Is bool due (bool-vals due) → published-by″.req s x-l x-k due →
+      Opds K W (raw (Asked 𝓤 H A mem run .pre (to 𝓤 H A mem run s x-l x-k due)) ∷ Γ) E xs (Store′.mach s ∷ Line′.mach x-l ∷ vint w64 x-k ∷ vbool due ∷ [])
+      → (Is PublishOut′.row (published-by″.res s x-l x-k due) (PublishOut′.vals (published-by″.res s x-l x-k due)) → Seq K W (Γ) (settles E d (PublishOut′.mach (published-by″.res s x-l x-k due)) Q))
       → Seq K W (Γ) (runs C Λ E (call #callee xs d) Q)
-  calls-last t mem run fm known s x-l q = calls-last-by t mem run fm s x-l q (known (to 𝓤 H A mem run s x-l q))
+  calls-last t mem run fm known s x-l x-k due = calls-last-by t mem run fm s x-l x-k due (known (to 𝓤 H A mem run s x-l x-k due))

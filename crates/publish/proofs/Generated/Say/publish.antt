@@ -2,11 +2,16 @@
 -- The contract of `publish::publish`, over lists and plain values: a slice stands for its list, and P′ is the list of P at exit.
 -- Assumes nothing.
 use Prim.Native.Nat.{ℕ}
-use mathlib.Core.List.{List}
-use mathlib.Core.Bool.{Bool}
+use mathlib.Core.List.{List, [], _∷_}
+use mathlib.Core.Bool.{Bool, true}
 use mathlib.Core.Path.{_≡_}
-use Rattle.versions.specs.Store.{areasOf}
-use Rattle.publish.specs.Publish.{publishRefusal, dueBy, publishedBy, publishOut}
+use Rattle.table.specs.Table.{_gives_, _and_, test, firstRefusal, orElse}
+use Rattle.versions.specs.Store.{areasOf, lineIn}
+use Rattle.versions.specs.Size.{notThere}
+use Rattle.publish.specs.Publish.{hasNext, numberBy, dueBy, publishedBy, publishOut}
+use Rattle.lines.specs.declared.Branch.{Branch}
+use Rattle.lines.specs.declared.Entries.{Entries}
+use Rattle.lines.specs.declared.Line.{Line}
 use Rattle.publish.specs.declared.PublishOut.{PublishOut}
 use Rattle.publish.specs.declared.Published.{Published}
 use Rattle.register.specs.declared.Record.{Record}
@@ -15,8 +20,8 @@ use Rattle.tree.specs.declared.Ticket.{Ticket}
 use Rattle.tree.specs.declared.Version.{Version}
 use Rattle.versions.specs.declared.Store.{Store}
 
-abbrev pub ens : Store → List ℕ → List ℕ → List Record → PublishOut → Type 0
-ens s pages nodes register r = r ≡ publishOut s (areasOf pages nodes register)
+abbrev pub ens : Store → List ℕ → List ℕ → List Record → Line → PublishOut → Type 0
+ens s pages nodes register l r = r ≡ publishOut s (areasOf pages nodes register) (l .0)
 
-abbrev pub res : Store → List ℕ → List ℕ → List Record → PublishOut
-res s pages nodes register = publishOut s (areasOf pages nodes register)
+abbrev pub res : Store → List ℕ → List ℕ → List Record → Line → PublishOut
+res s pages nodes register l = publishOut s (areasOf pages nodes register) (l .0)

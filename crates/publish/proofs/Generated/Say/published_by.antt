@@ -2,22 +2,26 @@
 -- The contract of `publish::published_by`, over lists and plain values: a slice stands for its list, and P′ is the list of P at exit.
 -- Assumes nothing.
 use Prim.Native.Nat.{ℕ}
-use mathlib.Core.List.{List}
-use mathlib.Core.Bool.{Bool}
+use mathlib.Core.List.{List, [], _∷_}
+use mathlib.Core.Bool.{Bool, true}
 use mathlib.Core.Path.{_≡_}
-use Rattle.versions.specs.Store.{areasOf}
-use Rattle.publish.specs.Publish.{publishRefusal, dueBy, publishedBy, publishOut}
+use Rattle.table.specs.Table.{_gives_, _and_, test, firstRefusal, orElse}
+use Rattle.versions.specs.Store.{areasOf, lineIn}
+use Rattle.versions.specs.Size.{notThere}
+use Rattle.publish.specs.Publish.{hasNext, numberBy, dueBy, publishedBy, publishOut}
+use Rattle.lines.specs.declared.Branch.{Branch}
+use Rattle.lines.specs.declared.Line.{Line}
 use Rattle.publish.specs.declared.PublishOut.{PublishOut}
 use Rattle.publish.specs.declared.Published.{Published}
-use Rattle.register.specs.declared.Record.{Record}
-use Rattle.tree.specs.declared.PageIndex.{PageIndex}
 use Rattle.tree.specs.declared.Ticket.{Ticket}
 use Rattle.tree.specs.declared.Version.{Version}
-use Rattle.versions.specs.declared.Lengths.{Lengths}
 use Rattle.versions.specs.declared.Store.{Store}
 
-abbrev pub ens : Store → Lengths → Record → PublishOut → Type 0
-ens s l q r = r ≡ publishedBy s l q
+abbrev pub req : Store → Line → ℕ → Bool → Type 0
+req s l k due = (due ≡ true → hasNext (lineIn s (l .0)) ≡ true)
 
-abbrev pub res : Store → Lengths → Record → PublishOut
-res s l q = publishedBy s l q
+abbrev pub ens : Store → Line → ℕ → Bool → PublishOut → Type 0
+ens s l k due r = r ≡ publishedBy s (l .0) k due
+
+abbrev pub res : Store → Line → ℕ → Bool → PublishOut
+res s l k due = publishedBy s (l .0) k due

@@ -14,6 +14,10 @@ use Rattle.versions.specs.declared.Store.{Store}
 use Rattle.versions.proofs.Generated.Kind.Store as Store′
 use Rattle.tree.specs.declared.Ticket.{Ticket}
 use Rattle.register.proofs.Generated.Kind.Ticket as Ticket′
+use Rattle.lines.specs.declared.Branch.{Branch}
+use Rattle.versions.proofs.Generated.Kind.Branch as Branch′
+use Rattle.lines.specs.declared.Line.{Line}
+use Rattle.register.proofs.Generated.Kind.Line as Line′
 use Rattle.tree.specs.declared.Version.{Version}
 use Rattle.register.proofs.Generated.Kind.Version as Version′
 use Rattle.publish.specs.declared.Published.{Published}
@@ -22,24 +26,54 @@ use Rattle.register.specs.declared.Record.{Record}
 use Rattle.register.proofs.Generated.Kind.Record as Record′
 use Rattle.tree.specs.declared.PageIndex.{PageIndex}
 use Rattle.register.proofs.Generated.Kind.PageIndex as PageIndex′
+use Rattle.lines.specs.declared.Entries.{Entries}
+use Rattle.register.proofs.Generated.Kind.Entries as Entries′
 use Rattle.versions.specs.declared.Lengths.{Lengths}
 use Rattle.versions.proofs.Generated.Kind.Lengths as Lengths′
+use Rattle.register.specs.declared.Part.{Part}
+use Rattle.register.proofs.Generated.Kind.Part as Part′
 use Rattle.publish.proofs.Generated.Say.publish as publish″
-use Rattle.register.proofs.Generated.Say.record_at as record-at″
 use Rattle.versions.proofs.Generated.Say.lengths_of as lengths-of″
+use Rattle.versions.proofs.Generated.Say.line_state as line-state″
+use Rattle.publish.proofs.Generated.Say.next_number as next-number″
+use Rattle.register.proofs.Generated.Say.version_part as version-part″
+use Rattle.versions.proofs.Generated.Say.line_refusal as line-refusal″
+use Rattle.publish.proofs.Generated.Say.publish_refusal as publish-refusal″
+use Rattle.publish.proofs.Generated.Say.is_due as is-due″
 use Rattle.publish.proofs.Generated.Say.published_by as published-by″
 
-abbrev pub r1 : Store → List ℕ → List ℕ → List Record → Record
-r1 s pages nodes register = record-at″.res register (s .published .0)
+abbrev pub r1 : Store → List ℕ → List ℕ → List Record → Line → Lengths
+r1 s pages nodes register x-l = lengths-of″.res pages nodes register
 
-abbrev pub r2 : Store → List ℕ → List ℕ → List Record → Lengths
-r2 s pages nodes register = lengths-of″.res pages nodes register
+abbrev pub r2 : Store → List ℕ → List ℕ → List Record → Line → Branch
+r2 s pages nodes register x-l = line-state″.res s x-l
 
-abbrev pub r3 : Store → List ℕ → List ℕ → List Record → PublishOut
-r3 s pages nodes register = published-by″.res s (r2 s pages nodes register) (r1 s pages nodes register)
+abbrev pub r3 : Store → List ℕ → List ℕ → List Record → Line → ℕ
+r3 s pages nodes register x-l = next-number″.res x-l (r2 s pages nodes register x-l)
 
--- the function ensures: r ≡ publishOut s (areasOf pages nodes register)
+abbrev pub r4 : Store → List ℕ → List ℕ → List Record → Line → Part
+r4 s pages nodes register x-l = version-part″.res register (r3 s pages nodes register x-l)
+
+abbrev pub r5 : Store → List ℕ → List ℕ → List Record → Line → ℕ
+r5 s pages nodes register x-l = line-refusal″.res s (r1 s pages nodes register x-l) x-l
+
+abbrev pub r6 : Store → List ℕ → List ℕ → List Record → Line → ℕ
+r6 s pages nodes register x-l = publish-refusal″.res (r5 s pages nodes register x-l) (r2 s pages nodes register x-l) (r4 s pages nodes register x-l) (r3 s pages nodes register x-l)
+
+abbrev pub r7 : Store → List ℕ → List ℕ → List Record → Line → Bool
+r7 s pages nodes register x-l = is-due″.res (r2 s pages nodes register x-l) (r4 s pages nodes register x-l)
+
+abbrev pub r8 : Store → List ℕ → List ℕ → List Record → Line → PublishOut
+r8 s pages nodes register x-l = published-by″.res s x-l (r6 s pages nodes register x-l) (r7 s pages nodes register x-l)
+
+-- `published_by` asks: (due ≡ true → hasNext (lineIn s (l .0)) ≡ true)
+abbrev pub published-by-1 : Type 0
+published-by-1 =
+    (s : Store) (pages : List ℕ) (nodes : List ℕ) (register : List Record) (x-l : Line) (ok-s : Store′.Ok s) (len-pages : length pages < 2 ^ 64) (len-nodes : length nodes < 2 ^ 64) (len-register : length register < 2 ^ 64) (ok-x-l : Line′.Ok x-l) (ok-r1 : Lengths′.Ok (r1 s pages nodes register x-l)) (ok-r2 : Branch′.Ok (r2 s pages nodes register x-l)) (fits-r3 : (r3 s pages nodes register x-l) < 2 ^ 64) (ok-r4 : Part′.Ok (r4 s pages nodes register x-l)) (fits-r5 : (r5 s pages nodes register x-l) < 2 ^ 64) (fits-r6 : (r6 s pages nodes register x-l) < 2 ^ 64)
+    → published-by″.req s x-l (r6 s pages nodes register x-l) (r7 s pages nodes register x-l)
+
+-- the function ensures: r ≡ publishOut s (areasOf pages nodes register) (l .0)
 abbrev pub exit-1 : Type 0
 exit-1 =
-    (s : Store) (pages : List ℕ) (nodes : List ℕ) (register : List Record) (ok-s : Store′.Ok s) (len-pages : length pages < 2 ^ 64) (len-nodes : length nodes < 2 ^ 64) (len-register : length register < 2 ^ 64) (ok-r1 : Record′.Ok (r1 s pages nodes register)) (ok-r2 : Lengths′.Ok (r2 s pages nodes register)) (ok-r3 : PublishOut′.Ok (r3 s pages nodes register))
-    → publish″.ens s pages nodes register (r3 s pages nodes register)
+    (s : Store) (pages : List ℕ) (nodes : List ℕ) (register : List Record) (x-l : Line) (ok-s : Store′.Ok s) (len-pages : length pages < 2 ^ 64) (len-nodes : length nodes < 2 ^ 64) (len-register : length register < 2 ^ 64) (ok-x-l : Line′.Ok x-l) (ok-r1 : Lengths′.Ok (r1 s pages nodes register x-l)) (ok-r2 : Branch′.Ok (r2 s pages nodes register x-l)) (fits-r3 : (r3 s pages nodes register x-l) < 2 ^ 64) (ok-r4 : Part′.Ok (r4 s pages nodes register x-l)) (fits-r5 : (r5 s pages nodes register x-l) < 2 ^ 64) (fits-r6 : (r6 s pages nodes register x-l) < 2 ^ 64) (ok-r8 : PublishOut′.Ok (r8 s pages nodes register x-l))
+    → publish″.ens s pages nodes register x-l (r8 s pages nodes register x-l)

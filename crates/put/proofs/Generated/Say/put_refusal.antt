@@ -9,6 +9,9 @@ use Rattle.pages.specs.Pages.{put}
 use Rattle.table.specs.Table.{unless}
 use Rattle.versions.specs.Store.{areasOf}
 use Rattle.put.specs.Put.{bitOf, withBit, putRefusal, withPut, putIn, putOut, putPages, putRegister}
+use Rattle.lines.specs.declared.Branch.{Branch}
+use Rattle.lines.specs.declared.Entries.{Entries}
+use Rattle.lines.specs.declared.Line.{Line}
 use Rattle.put.specs.declared.PutIn.{PutIn}
 use Rattle.register.specs.declared.Record.{Record}
 use Rattle.tree.specs.declared.PageIndex.{PageIndex}

@@ -9,11 +9,11 @@ use Rattle.pages.specs.Pages.{put}
 use Rattle.table.specs.Table.{unless}
 use Rattle.versions.specs.Store.{areasOf}
 use Rattle.put.specs.Put.{bitOf, withBit, putRefusal, withPut, putIn, putOut, putPages, putRegister}
+use Rattle.lines.specs.declared.Entries.{Entries}
 use Rattle.put.specs.declared.PutIn.{PutIn}
 use Rattle.register.specs.declared.Record.{Record}
 use Rattle.tree.specs.declared.PageIndex.{PageIndex}
 use Rattle.tree.specs.declared.Ticket.{Ticket}
-use Rattle.tree.specs.declared.Version.{Version}
 
 abbrev pub ens : Record → ℕ → Record → Type 0
 ens r i q = q ≡ withPut r i

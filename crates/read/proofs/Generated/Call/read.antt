@@ -36,12 +36,18 @@ use Rattle.versions.specs.declared.Store.{Store}
 use Rattle.versions.proofs.Generated.Kind.Store as Store′
 use Rattle.tree.specs.declared.Ticket.{Ticket}
 use Rattle.register.proofs.Generated.Kind.Ticket as Ticket′
+use Rattle.lines.specs.declared.Branch.{Branch}
+use Rattle.versions.proofs.Generated.Kind.Branch as Branch′
+use Rattle.lines.specs.declared.Line.{Line}
+use Rattle.register.proofs.Generated.Kind.Line as Line′
 use Rattle.tree.specs.declared.Version.{Version}
 use Rattle.register.proofs.Generated.Kind.Version as Version′
 use Rattle.register.specs.declared.Record.{Record}
 use Rattle.register.proofs.Generated.Kind.Record as Record′
 use Rattle.tree.specs.declared.PageIndex.{PageIndex}
 use Rattle.register.proofs.Generated.Kind.PageIndex as PageIndex′
+use Rattle.lines.specs.declared.Entries.{Entries}
+use Rattle.register.proofs.Generated.Kind.Entries as Entries′
 use Rattle.versions.specs.declared.ByteOffset.{ByteOffset}
 use Rattle.read.proofs.Generated.Kind.ByteOffset as ByteOffset′
 use Rattle.read.specs.declared.Filled.{Filled}
@@ -54,54 +60,54 @@ module _ {M : Type 1} (𝓤 : URA M) (H : Heap 𝓤) (A : Atoms 𝓤) (mem : Mem
   abbrev pub Asked : Contract 𝓤
   Asked = tripleOf 𝓤 H A callee.signature (callee.spec 𝓤 H A mem run)
 
-  abbrev pub to : (s : Store) (κ·pages : Lft) (q·pages : Share) (b·pages o·pages : ℕ) (γ·pages : GName) (n·pages : ℕ) (pages : List ℕ) (κ·nodes : Lft) (q·nodes : Share) (b·nodes o·nodes : ℕ) (γ·nodes : GName) (n·nodes : ℕ) (nodes : List ℕ) (κ·register : Lft) (q·register : Share) (b·register o·register : ℕ) (γ·register : GName) (n·register : ℕ) (register : List Record) (x-v : Version) (offset : ByteOffset) (len : ℕ) (κ·buffer : Lft) (q·buffer : Share) (b·buffer o·buffer : ℕ) (γ·buffer : GName) (n·buffer : ℕ) (buffer : List ℕ) → Asked .Ghost
-  to s κ·pages q·pages b·pages o·pages γ·pages n·pages pages κ·nodes q·nodes b·nodes o·nodes γ·nodes n·nodes nodes κ·register q·register b·register o·register γ·register n·register register x-v offset len κ·buffer q·buffer b·buffer o·buffer γ·buffer n·buffer buffer = (((κ·pages, (κ·nodes, (κ·register, (κ·buffer, tt)))), (q·pages, (q·nodes, (q·register, (q·buffer, tt)))), tt, (s, (ref b·pages o·pages γ·pages pages, (ref b·nodes o·nodes γ·nodes nodes, (ref b·register o·register γ·register register, (x-v, (offset, (len, (ref b·buffer o·buffer γ·buffer buffer, tt)))))))), (Store′.mach s ∷ [], (sliceVal (b·pages, o·pages) n·pages ∷ [], (sliceVal (b·nodes, o·nodes) n·nodes ∷ [], (sliceVal (b·register, o·register) n·register ∷ [], (Version′.mach x-v ∷ [], (ByteOffset′.mach offset ∷ [], (vint w64 len ∷ [], (sliceVal (b·buffer, o·buffer) n·buffer ∷ [], tt))))))))), tt)
+  abbrev pub to : (s : Store) (κ·pages : Lft) (q·pages : Share) (b·pages o·pages : ℕ) (γ·pages : GName) (n·pages : ℕ) (pages : List ℕ) (κ·nodes : Lft) (q·nodes : Share) (b·nodes o·nodes : ℕ) (γ·nodes : GName) (n·nodes : ℕ) (nodes : List ℕ) (κ·register : Lft) (q·register : Share) (b·register o·register : ℕ) (γ·register : GName) (n·register : ℕ) (register : List Record) (x-l : Line) (x-v : Version) (offset : ByteOffset) (len : ℕ) (κ·buffer : Lft) (q·buffer : Share) (b·buffer o·buffer : ℕ) (γ·buffer : GName) (n·buffer : ℕ) (buffer : List ℕ) → Asked .Ghost
+  to s κ·pages q·pages b·pages o·pages γ·pages n·pages pages κ·nodes q·nodes b·nodes o·nodes γ·nodes n·nodes nodes κ·register q·register b·register o·register γ·register n·register register x-l x-v offset len κ·buffer q·buffer b·buffer o·buffer γ·buffer n·buffer buffer = (((κ·pages, (κ·nodes, (κ·register, (κ·buffer, tt)))), (q·pages, (q·nodes, (q·register, (q·buffer, tt)))), tt, (s, (ref b·pages o·pages γ·pages pages, (ref b·nodes o·nodes γ·nodes nodes, (ref b·register o·register γ·register register, (x-l, (x-v, (offset, (len, (ref b·buffer o·buffer γ·buffer buffer, tt))))))))), (Store′.mach s ∷ [], (sliceVal (b·pages, o·pages) n·pages ∷ [], (sliceVal (b·nodes, o·nodes) n·nodes ∷ [], (sliceVal (b·register, o·register) n·register ∷ [], (Line′.mach x-l ∷ [], (Version′.mach x-v ∷ [], (ByteOffset′.mach offset ∷ [], (vint w64 len ∷ [], (sliceVal (b·buffer, o·buffer) n·buffer ∷ [], tt)))))))))), tt)
 
 module _ {M : Type 1} {𝓤 : URA M} {H : Heap 𝓤} {A : Atoms 𝓤} {K : Type 0} {W : Given 𝓤 H A} {Γ : List (Item 𝓤)} where
   -- the call itself is made by `by-call`, from what the callee asks to what it has ensured
-  core : K → (mem : Memory → SProp 𝓤) (run : Routine → Fun 𝓤) → (s : Store) (κ·pages : Lft) (q·pages : Share) (b·pages o·pages : ℕ) (γ·pages : GName) (n·pages : ℕ) (pages : List ℕ) (κ·nodes : Lft) (q·nodes : Share) (b·nodes o·nodes : ℕ) (γ·nodes : GName) (n·nodes : ℕ) (nodes : List ℕ) (κ·register : Lft) (q·register : Share) (b·register o·register : ℕ) (γ·register : GName) (n·register : ℕ) (register : List Record) (x-v : Version) (offset : ByteOffset) (len : ℕ) (κ·buffer : Lft) (q·buffer : Share) (b·buffer o·buffer : ℕ) (γ·buffer : GName) (n·buffer : ℕ) (buffer : List ℕ) → (G : Goal 𝓤 H) (after : Val → Goal 𝓤 H) → ((v : Val) → Soaks (after v))
-      → (((v : Val) → Seq K W (raw (Asked 𝓤 H A mem run .post (to 𝓤 H A mem run s κ·pages q·pages b·pages o·pages γ·pages n·pages pages κ·nodes q·nodes b·nodes o·nodes γ·nodes n·nodes nodes κ·register q·register b·register o·register γ·register n·register register x-v offset len κ·buffer q·buffer b·buffer o·buffer γ·buffer n·buffer buffer) v) ∷ ‵ (ShrAt u8 κ·pages b·pages o·pages γ·pages n·pages pages) ∷ ‵ (ShrAt u32 κ·nodes b·nodes o·nodes γ·nodes n·nodes nodes) ∷ ‵ (ShrAt Record′.row κ·register b·register o·register γ·register n·register register) ∷ Γ) (after v)) → Seq K W (raw (Asked 𝓤 H A mem run .pre (to 𝓤 H A mem run s κ·pages q·pages b·pages o·pages γ·pages n·pages pages κ·nodes q·nodes b·nodes o·nodes γ·nodes n·nodes nodes κ·register q·register b·register o·register γ·register n·register register x-v offset len κ·buffer q·buffer b·buffer o·buffer γ·buffer n·buffer buffer)) ∷ ‵ (ShrAt u8 κ·pages b·pages o·pages γ·pages n·pages pages) ∷ ‵ (ShrAt u32 κ·nodes b·nodes o·nodes γ·nodes n·nodes nodes) ∷ ‵ (ShrAt Record′.row κ·register b·register o·register γ·register n·register register) ∷ Γ) G) → Is Store′.row s (Store′.vals s) → Is Version′.row x-v (Version′.vals x-v) → Is ByteOffset′.row offset (ByteOffset′.vals offset) → Is u64 len (uint-vals w64 len) →
-      (Is Filled′.row (read″.res s pages nodes register x-v offset len buffer) (Filled′.vals (read″.res s pages nodes register x-v offset len buffer)) → length (read″.out-buffer s pages nodes register x-v offset len buffer) ≡ length buffer → Seq K W (‵ (flft κ·pages q·pages) ∷ ‵ (ShrAt u8 κ·pages b·pages o·pages γ·pages n·pages pages) ∷ ‵ (flft κ·nodes q·nodes) ∷ ‵ (ShrAt u32 κ·nodes b·nodes o·nodes γ·nodes n·nodes nodes) ∷ ‵ (flft κ·register q·register) ∷ ‵ (ShrAt Record′.row κ·register b·register o·register γ·register n·register register) ∷ ‵ (flft κ·buffer q·buffer) ∷ ‵ (finally u8 γ·buffer (read″.out-buffer s pages nodes register x-v offset len buffer)) ∷ Γ) (after (Filled′.mach (read″.res s pages nodes register x-v offset len buffer)))) → Seq K W (‵ (flft κ·pages q·pages) ∷ ‵ (ShrAt u8 κ·pages b·pages o·pages γ·pages n·pages pages) ∷ ‵ (flft κ·nodes q·nodes) ∷ ‵ (ShrAt u32 κ·nodes b·nodes o·nodes γ·nodes n·nodes nodes) ∷ ‵ (flft κ·register q·register) ∷ ‵ (ShrAt Record′.row κ·register b·register o·register γ·register n·register register) ∷ ‵ (flft κ·buffer q·buffer) ∷ ‵ (MutAt u8 κ·buffer b·buffer o·buffer γ·buffer n·buffer buffer) ∷ Γ) G
-  core t mem run s κ·pages q·pages b·pages o·pages γ·pages n·pages pages κ·nodes q·nodes b·nodes o·nodes γ·nodes n·nodes nodes κ·register q·register b·register o·register γ·register n·register register x-v offset len κ·buffer q·buffer b·buffer o·buffer γ·buffer n·buffer buffer G after soaks by-call ok·s ok·x-v ok·offset ok·len k =
+  core : K → (mem : Memory → SProp 𝓤) (run : Routine → Fun 𝓤) → (s : Store) (κ·pages : Lft) (q·pages : Share) (b·pages o·pages : ℕ) (γ·pages : GName) (n·pages : ℕ) (pages : List ℕ) (κ·nodes : Lft) (q·nodes : Share) (b·nodes o·nodes : ℕ) (γ·nodes : GName) (n·nodes : ℕ) (nodes : List ℕ) (κ·register : Lft) (q·register : Share) (b·register o·register : ℕ) (γ·register : GName) (n·register : ℕ) (register : List Record) (x-l : Line) (x-v : Version) (offset : ByteOffset) (len : ℕ) (κ·buffer : Lft) (q·buffer : Share) (b·buffer o·buffer : ℕ) (γ·buffer : GName) (n·buffer : ℕ) (buffer : List ℕ) → (G : Goal 𝓤 H) (after : Val → Goal 𝓤 H) → ((v : Val) → Soaks (after v))
+      → (((v : Val) → Seq K W (raw (Asked 𝓤 H A mem run .post (to 𝓤 H A mem run s κ·pages q·pages b·pages o·pages γ·pages n·pages pages κ·nodes q·nodes b·nodes o·nodes γ·nodes n·nodes nodes κ·register q·register b·register o·register γ·register n·register register x-l x-v offset len κ·buffer q·buffer b·buffer o·buffer γ·buffer n·buffer buffer) v) ∷ ‵ (ShrAt u8 κ·pages b·pages o·pages γ·pages n·pages pages) ∷ ‵ (ShrAt u32 κ·nodes b·nodes o·nodes γ·nodes n·nodes nodes) ∷ ‵ (ShrAt Record′.row κ·register b·register o·register γ·register n·register register) ∷ Γ) (after v)) → Seq K W (raw (Asked 𝓤 H A mem run .pre (to 𝓤 H A mem run s κ·pages q·pages b·pages o·pages γ·pages n·pages pages κ·nodes q·nodes b·nodes o·nodes γ·nodes n·nodes nodes κ·register q·register b·register o·register γ·register n·register register x-l x-v offset len κ·buffer q·buffer b·buffer o·buffer γ·buffer n·buffer buffer)) ∷ ‵ (ShrAt u8 κ·pages b·pages o·pages γ·pages n·pages pages) ∷ ‵ (ShrAt u32 κ·nodes b·nodes o·nodes γ·nodes n·nodes nodes) ∷ ‵ (ShrAt Record′.row κ·register b·register o·register γ·register n·register register) ∷ Γ) G) → Is Store′.row s (Store′.vals s) → Is Line′.row x-l (Line′.vals x-l) → Is Version′.row x-v (Version′.vals x-v) → Is ByteOffset′.row offset (ByteOffset′.vals offset) → Is u64 len (uint-vals w64 len) →
+      (Is Filled′.row (read″.res s pages nodes register x-l x-v offset len buffer) (Filled′.vals (read″.res s pages nodes register x-l x-v offset len buffer)) → length (read″.out-buffer s pages nodes register x-l x-v offset len buffer) ≡ length buffer → Seq K W (‵ (flft κ·pages q·pages) ∷ ‵ (ShrAt u8 κ·pages b·pages o·pages γ·pages n·pages pages) ∷ ‵ (flft κ·nodes q·nodes) ∷ ‵ (ShrAt u32 κ·nodes b·nodes o·nodes γ·nodes n·nodes nodes) ∷ ‵ (flft κ·register q·register) ∷ ‵ (ShrAt Record′.row κ·register b·register o·register γ·register n·register register) ∷ ‵ (flft κ·buffer q·buffer) ∷ ‵ (finally u8 γ·buffer (read″.out-buffer s pages nodes register x-l x-v offset len buffer)) ∷ Γ) (after (Filled′.mach (read″.res s pages nodes register x-l x-v offset len buffer)))) → Seq K W (‵ (flft κ·pages q·pages) ∷ ‵ (ShrAt u8 κ·pages b·pages o·pages γ·pages n·pages pages) ∷ ‵ (flft κ·nodes q·nodes) ∷ ‵ (ShrAt u32 κ·nodes b·nodes o·nodes γ·nodes n·nodes nodes) ∷ ‵ (flft κ·register q·register) ∷ ‵ (ShrAt Record′.row κ·register b·register o·register γ·register n·register register) ∷ ‵ (flft κ·buffer q·buffer) ∷ ‵ (MutAt u8 κ·buffer b·buffer o·buffer γ·buffer n·buffer buffer) ∷ Γ) G
+  core t mem run s κ·pages q·pages b·pages o·pages γ·pages n·pages pages κ·nodes q·nodes b·nodes o·nodes γ·nodes n·nodes nodes κ·register q·register b·register o·register γ·register n·register register x-l x-v offset len κ·buffer q·buffer b·buffer o·buffer γ·buffer n·buffer buffer G after soaks by-call ok·s ok·x-l ok·x-v ok·offset ok·len k =
       move t (1 ∷ []) $ keeps-shr t u8 κ·pages b·pages o·pages γ·pages n·pages pages $ move t (4 ∷ []) $ keeps-shr t u32 κ·nodes b·nodes o·nodes γ·nodes n·nodes nodes $ move t (7 ∷ []) $ keeps-shr t Record′.row κ·register b·register o·register γ·register n·register register $ move t (6 ∷ 4 ∷ 7 ∷ 2 ∷ 8 ∷ 0 ∷ 9 ∷ 10 ∷ 5 ∷ 3 ∷ 1 ∷ []) $
-      move t (6 ∷ 7 ∷ []) $ join t $ move t (6 ∷ 0 ∷ []) $ join t $ move t (5 ∷ 0 ∷ []) $ join t $ move t (4 ∷ 0 ∷ []) $ join t $ move t (3 ∷ 0 ∷ []) $ join t $ move t (2 ∷ 0 ∷ []) $ join t $ move t (1 ∷ 0 ∷ []) $ join t $ use1 W (raw (Asked 𝓤 H A mem run .pre (to 𝓤 H A mem run s κ·pages q·pages b·pages o·pages γ·pages n·pages pages κ·nodes q·nodes b·nodes o·nodes γ·nodes n·nodes nodes κ·register q·register b·register o·register γ·register n·register register x-v offset len κ·buffer q·buffer b·buffer o·buffer γ·buffer n·buffer buffer))) goes $
+      move t (6 ∷ 7 ∷ []) $ join t $ move t (6 ∷ 0 ∷ []) $ join t $ move t (5 ∷ 0 ∷ []) $ join t $ move t (4 ∷ 0 ∷ []) $ join t $ move t (3 ∷ 0 ∷ []) $ join t $ move t (2 ∷ 0 ∷ []) $ join t $ move t (1 ∷ 0 ∷ []) $ join t $ use1 W (raw (Asked 𝓤 H A mem run .pre (to 𝓤 H A mem run s κ·pages q·pages b·pages o·pages γ·pages n·pages pages κ·nodes q·nodes b·nodes o·nodes γ·nodes n·nodes nodes κ·register q·register b·register o·register γ·register n·register register x-l x-v offset len κ·buffer q·buffer b·buffer o·buffer γ·buffer n·buffer buffer))) goes $
       by-call (λ v.
-      use1 W (later (some (λ (r· : Filled). ((‵ (flft κ·pages q·pages) ⊛ ‵ (flft κ·nodes q·nodes) ⊛ ‵ (flft κ·register q·register) ⊛ ‵ (flft κ·buffer q·buffer) ⊛ ‵ ftrue) ⊛ ‵ (Filled′.row .own r· (v ∷ []))) ⊛ raw (ensured 𝓤 H A callee.ended (callee.clauses 𝓤 H A mem run) (κ·pages, (κ·nodes, (κ·register, (κ·buffer, tt)))) (s, (ref b·pages o·pages γ·pages pages, (ref b·nodes o·nodes γ·nodes nodes, (ref b·register o·register γ·register register, (x-v, (offset, (len, (ref b·buffer o·buffer γ·buffer buffer, tt)))))))) tt r·)))) (id⊢ 𝓤 _) $ await t (soaks v) $ pick t (λ r·. split t $ move t (1 ∷ []) $
-      use1 W (some (λ (ws : Lasts callee.ended (κ·pages, (κ·nodes, (κ·register, (κ·buffer, tt)))) (s, (ref b·pages o·pages γ·pages pages, (ref b·nodes o·nodes γ·nodes nodes, (ref b·register o·register γ·register register, (x-v, (offset, (len, (ref b·buffer o·buffer γ·buffer buffer, tt))))))))). ‵ (lasts callee.ended (κ·pages, (κ·nodes, (κ·register, (κ·buffer, tt)))) (s, (ref b·pages o·pages γ·pages pages, (ref b·nodes o·nodes γ·nodes nodes, (ref b·register o·register γ·register register, (x-v, (offset, (len, (ref b·buffer o·buffer γ·buffer buffer, tt)))))))) ws) ⊛ raw (fact 𝓤 (read″.ens s pages nodes register x-v offset len buffer (ws .1 .1 .1 .1 .1 .1 .1 .0) r·)))) (id⊢ 𝓤 _) $ pick t (λ ws. split t $ move t (1 ∷ []) $
-      heard t (read″.ens s pages nodes register x-v offset len buffer (ws .1 .1 .1 .1 .1 .1 .1 .0) r·) (λ e. fsplit t $ drop t $ fsplit t $ drop t $ fsplit t $ drop t $ fsplit t $ drop t $ fsplit t $ drop t $ fsplit t $ drop t $ fsplit t $ drop t $ fsplit t $ fsplit t $ move t (1 ∷ []) $ feqL t (λ same·buffer. move t (1 ∷ []) $ drop t $ move t (1 ∷ []) $ split t $ move t (1 ∷ []) $ facts t Filled′.row (Is Filled′.row) (shows 𝓤 H A Filled′.row) r· (v ∷ []) (λ is. split t $ move t (1 ∷ []) $ split t $ move t (1 ∷ []) $ split t $ move t (1 ∷ []) $ split t $ move t (1 ∷ []) $ drop t $ move t (3 ∷ 5 ∷ 2 ∷ 6 ∷ 1 ∷ 7 ∷ 0 ∷ 4 ∷ []) $
-      rewrite t 7 (λ (zs : List ℕ). ‵ (finally u8 γ·buffer zs)) (e .1) refl $ subst (λ (u : Val). Seq K W (‵ (flft κ·pages q·pages) ∷ ‵ (ShrAt u8 κ·pages b·pages o·pages γ·pages n·pages pages) ∷ ‵ (flft κ·nodes q·nodes) ∷ ‵ (ShrAt u32 κ·nodes b·nodes o·nodes γ·nodes n·nodes nodes) ∷ ‵ (flft κ·register q·register) ∷ ‵ (ShrAt Record′.row κ·register b·register o·register γ·register n·register register) ∷ ‵ (flft κ·buffer q·buffer) ∷ ‵ (finally u8 γ·buffer (read″.out-buffer s pages nodes register x-v offset len buffer)) ∷ Γ) (after u)) (sym (ap only (Filled′.tells r· (v ∷ []) is) ∙ ap (λ (z : Filled). Filled′.mach z) (e .0))) (k (subst (λ (z : Filled). Is Filled′.row z (Filled′.vals z)) (e .0) (subst (Is Filled′.row r·) (Filled′.tells r· (v ∷ []) is) is)) (subst (λ (zs : List ℕ). length zs ≡ length buffer) (e .1) same·buffer))))))))
+      use1 W (later (some (λ (r· : Filled). ((‵ (flft κ·pages q·pages) ⊛ ‵ (flft κ·nodes q·nodes) ⊛ ‵ (flft κ·register q·register) ⊛ ‵ (flft κ·buffer q·buffer) ⊛ ‵ ftrue) ⊛ ‵ (Filled′.row .own r· (v ∷ []))) ⊛ raw (ensured 𝓤 H A callee.ended (callee.clauses 𝓤 H A mem run) (κ·pages, (κ·nodes, (κ·register, (κ·buffer, tt)))) (s, (ref b·pages o·pages γ·pages pages, (ref b·nodes o·nodes γ·nodes nodes, (ref b·register o·register γ·register register, (x-l, (x-v, (offset, (len, (ref b·buffer o·buffer γ·buffer buffer, tt))))))))) tt r·)))) (id⊢ 𝓤 _) $ await t (soaks v) $ pick t (λ r·. split t $ move t (1 ∷ []) $
+      use1 W (some (λ (ws : Lasts callee.ended (κ·pages, (κ·nodes, (κ·register, (κ·buffer, tt)))) (s, (ref b·pages o·pages γ·pages pages, (ref b·nodes o·nodes γ·nodes nodes, (ref b·register o·register γ·register register, (x-l, (x-v, (offset, (len, (ref b·buffer o·buffer γ·buffer buffer, tt)))))))))). ‵ (lasts callee.ended (κ·pages, (κ·nodes, (κ·register, (κ·buffer, tt)))) (s, (ref b·pages o·pages γ·pages pages, (ref b·nodes o·nodes γ·nodes nodes, (ref b·register o·register γ·register register, (x-l, (x-v, (offset, (len, (ref b·buffer o·buffer γ·buffer buffer, tt))))))))) ws) ⊛ raw (fact 𝓤 (read″.ens s pages nodes register x-l x-v offset len buffer (ws .1 .1 .1 .1 .1 .1 .1 .1 .0) r·)))) (id⊢ 𝓤 _) $ pick t (λ ws. split t $ move t (1 ∷ []) $
+      heard t (read″.ens s pages nodes register x-l x-v offset len buffer (ws .1 .1 .1 .1 .1 .1 .1 .1 .0) r·) (λ e. fsplit t $ drop t $ fsplit t $ drop t $ fsplit t $ drop t $ fsplit t $ drop t $ fsplit t $ drop t $ fsplit t $ drop t $ fsplit t $ drop t $ fsplit t $ drop t $ fsplit t $ fsplit t $ move t (1 ∷ []) $ feqL t (λ same·buffer. move t (1 ∷ []) $ drop t $ move t (1 ∷ []) $ split t $ move t (1 ∷ []) $ facts t Filled′.row (Is Filled′.row) (shows 𝓤 H A Filled′.row) r· (v ∷ []) (λ is. split t $ move t (1 ∷ []) $ split t $ move t (1 ∷ []) $ split t $ move t (1 ∷ []) $ split t $ move t (1 ∷ []) $ drop t $ move t (3 ∷ 5 ∷ 2 ∷ 6 ∷ 1 ∷ 7 ∷ 0 ∷ 4 ∷ []) $
+      rewrite t 7 (λ (zs : List ℕ). ‵ (finally u8 γ·buffer zs)) (e .1) refl $ subst (λ (u : Val). Seq K W (‵ (flft κ·pages q·pages) ∷ ‵ (ShrAt u8 κ·pages b·pages o·pages γ·pages n·pages pages) ∷ ‵ (flft κ·nodes q·nodes) ∷ ‵ (ShrAt u32 κ·nodes b·nodes o·nodes γ·nodes n·nodes nodes) ∷ ‵ (flft κ·register q·register) ∷ ‵ (ShrAt Record′.row κ·register b·register o·register γ·register n·register register) ∷ ‵ (flft κ·buffer q·buffer) ∷ ‵ (finally u8 γ·buffer (read″.out-buffer s pages nodes register x-l x-v offset len buffer)) ∷ Γ) (after u)) (sym (ap only (Filled′.tells r· (v ∷ []) is) ∙ ap (λ (z : Filled). Filled′.mach z) (e .0))) (k (subst (λ (z : Filled). Is Filled′.row z (Filled′.vals z)) (e .0) (subst (Is Filled′.row r·) (Filled′.tells r· (v ∷ []) is) is)) (subst (λ (zs : List ℕ). length zs ≡ length buffer) (e .1) same·buffer))))))))
     where
-      goes : ent 𝓤 (⋆ 𝓤 H A (‵ (flft κ·pages q·pages) ∷ ‵ (ShrAt u8 κ·pages b·pages o·pages γ·pages n·pages pages) ∷ ‵ (flft κ·nodes q·nodes) ∷ ‵ (ShrAt u32 κ·nodes b·nodes o·nodes γ·nodes n·nodes nodes) ∷ ‵ (flft κ·register q·register) ∷ ‵ (ShrAt Record′.row κ·register b·register o·register γ·register n·register register) ∷ ‵ (flft κ·buffer q·buffer) ∷ ‵ (MutAt u8 κ·buffer b·buffer o·buffer γ·buffer n·buffer buffer) ∷ [])) (Asked 𝓤 H A mem run .pre (to 𝓤 H A mem run s κ·pages q·pages b·pages o·pages γ·pages n·pages pages κ·nodes q·nodes b·nodes o·nodes γ·nodes n·nodes nodes κ·register q·register b·register o·register γ·register n·register register x-v offset len κ·buffer q·buffer b·buffer o·buffer γ·buffer n·buffer buffer))
-      goes = qed W (‵ (flft κ·pages q·pages) ∷ ‵ (ShrAt u8 κ·pages b·pages o·pages γ·pages n·pages pages) ∷ ‵ (flft κ·nodes q·nodes) ∷ ‵ (ShrAt u32 κ·nodes b·nodes o·nodes γ·nodes n·nodes nodes) ∷ ‵ (flft κ·register q·register) ∷ ‵ (ShrAt Record′.row κ·register b·register o·register γ·register n·register register) ∷ ‵ (flft κ·buffer q·buffer) ∷ ‵ (MutAt u8 κ·buffer b·buffer o·buffer γ·buffer n·buffer buffer) ∷ []) ∵ plus-nothing ! $ nothing ! $ move ! (7 ∷ 0 ∷ []) $ join ! $ move ! (5 ∷ 0 ∷ []) $ join ! $ move ! (3 ∷ 0 ∷ []) $ join ! $ move ! (1 ∷ 0 ∷ []) $ join ! $ frame ! $ nothing ! $ move ! (4 ∷ 0 ∷ []) $ fjoin ! $ owned ! u64 (Is u64) (uint-makes 𝓤 H A W w64) len _ ok·len $ fjoin ! $ owned ! ByteOffset′.row (Is ByteOffset′.row) (ByteOffset′.makes 𝓤 H A) offset _ ok·offset $ fjoin ! $ owned ! Version′.row (Is Version′.row) (Version′.makes 𝓤 H A) x-v _ ok·x-v $ fjoin ! $ move ! (3 ∷ 0 ∷ []) $ fjoin ! $ move ! (2 ∷ 0 ∷ []) $ fjoin ! $ move ! (1 ∷ 0 ∷ []) $ fjoin ! $ owned ! Store′.row (Is Store′.row) (Store′.makes 𝓤 H A) s _ ok·s $ fjoin ! $ done !
+      goes : ent 𝓤 (⋆ 𝓤 H A (‵ (flft κ·pages q·pages) ∷ ‵ (ShrAt u8 κ·pages b·pages o·pages γ·pages n·pages pages) ∷ ‵ (flft κ·nodes q·nodes) ∷ ‵ (ShrAt u32 κ·nodes b·nodes o·nodes γ·nodes n·nodes nodes) ∷ ‵ (flft κ·register q·register) ∷ ‵ (ShrAt Record′.row κ·register b·register o·register γ·register n·register register) ∷ ‵ (flft κ·buffer q·buffer) ∷ ‵ (MutAt u8 κ·buffer b·buffer o·buffer γ·buffer n·buffer buffer) ∷ [])) (Asked 𝓤 H A mem run .pre (to 𝓤 H A mem run s κ·pages q·pages b·pages o·pages γ·pages n·pages pages κ·nodes q·nodes b·nodes o·nodes γ·nodes n·nodes nodes κ·register q·register b·register o·register γ·register n·register register x-l x-v offset len κ·buffer q·buffer b·buffer o·buffer γ·buffer n·buffer buffer))
+      goes = qed W (‵ (flft κ·pages q·pages) ∷ ‵ (ShrAt u8 κ·pages b·pages o·pages γ·pages n·pages pages) ∷ ‵ (flft κ·nodes q·nodes) ∷ ‵ (ShrAt u32 κ·nodes b·nodes o·nodes γ·nodes n·nodes nodes) ∷ ‵ (flft κ·register q·register) ∷ ‵ (ShrAt Record′.row κ·register b·register o·register γ·register n·register register) ∷ ‵ (flft κ·buffer q·buffer) ∷ ‵ (MutAt u8 κ·buffer b·buffer o·buffer γ·buffer n·buffer buffer) ∷ []) ∵ plus-nothing ! $ nothing ! $ move ! (7 ∷ 0 ∷ []) $ join ! $ move ! (5 ∷ 0 ∷ []) $ join ! $ move ! (3 ∷ 0 ∷ []) $ join ! $ move ! (1 ∷ 0 ∷ []) $ join ! $ frame ! $ nothing ! $ move ! (4 ∷ 0 ∷ []) $ fjoin ! $ owned ! u64 (Is u64) (uint-makes 𝓤 H A W w64) len _ ok·len $ fjoin ! $ owned ! ByteOffset′.row (Is ByteOffset′.row) (ByteOffset′.makes 𝓤 H A) offset _ ok·offset $ fjoin ! $ owned ! Version′.row (Is Version′.row) (Version′.makes 𝓤 H A) x-v _ ok·x-v $ fjoin ! $ owned ! Line′.row (Is Line′.row) (Line′.makes 𝓤 H A) x-l _ ok·x-l $ fjoin ! $ move ! (3 ∷ 0 ∷ []) $ fjoin ! $ move ! (2 ∷ 0 ∷ []) $ fjoin ! $ move ! (1 ∷ 0 ∷ []) $ fjoin ! $ owned ! Store′.row (Is Store′.row) (Store′.makes 𝓤 H A) s _ ok·s $ fjoin ! $ done !
 
 module _ {M : Type 1} {𝓤 : URA M} {H : Heap 𝓤} {A : Atoms 𝓤} {K : Type 0} {W : Given 𝓤 H A} {Γ : List (Item 𝓤)} {E : Env 𝓤 H} {C : Calls 𝓤 H} {Λ : Loops 𝓤 H} {Q : Post 𝓤 H} {xs : List Operand} {d : Place} {rest : Body} where
   -- by one instance of the callee's contract, which is what a function that calls itself has
-  pub calls-by : K → (mem : Memory → SProp 𝓤) (run : Routine → Fun 𝓤) → FmC 𝓤 H (W .laws) C → (s : Store) (κ·pages : Lft) (q·pages : Share) (b·pages o·pages : ℕ) (γ·pages : GName) (n·pages : ℕ) (pages : List ℕ) (κ·nodes : Lft) (q·nodes : Share) (b·nodes o·nodes : ℕ) (γ·nodes : GName) (n·nodes : ℕ) (nodes : List ℕ) (κ·register : Lft) (q·register : Share) (b·register o·register : ℕ) (γ·register : GName) (n·register : ℕ) (register : List Record) (x-v : Version) (offset : ByteOffset) (len : ℕ) (κ·buffer : Lft) (q·buffer : Share) (b·buffer o·buffer : ℕ) (γ·buffer : GName) (n·buffer : ℕ) (buffer : List ℕ) → ent 𝓤 (Asked 𝓤 H A mem run .pre (to 𝓤 H A mem run s κ·pages q·pages b·pages o·pages γ·pages n·pages pages κ·nodes q·nodes b·nodes o·nodes γ·nodes n·nodes nodes κ·register q·register b·register o·register γ·register n·register register x-v offset len κ·buffer q·buffer b·buffer o·buffer γ·buffer n·buffer buffer)) (C #callee (Asked 𝓤 H A mem run .args (to 𝓤 H A mem run s κ·pages q·pages b·pages o·pages γ·pages n·pages pages κ·nodes q·nodes b·nodes o·nodes γ·nodes n·nodes nodes κ·register q·register b·register o·register γ·register n·register register x-v offset len κ·buffer q·buffer b·buffer o·buffer γ·buffer n·buffer buffer)) (Asked 𝓤 H A mem run .post (to 𝓤 H A mem run s κ·pages q·pages b·pages o·pages γ·pages n·pages pages κ·nodes q·nodes b·nodes o·nodes γ·nodes n·nodes nodes κ·register q·register b·register o·register γ·register n·register register x-v offset len κ·buffer q·buffer b·buffer o·buffer γ·buffer n·buffer buffer))) → Is Store′.row s (Store′.vals s) → Is Version′.row x-v (Version′.vals x-v) → Is ByteOffset′.row offset (ByteOffset′.vals offset) → Is u64 len (uint-vals w64 len) →
-      Opds K W (raw (Asked 𝓤 H A mem run .pre (to 𝓤 H A mem run s κ·pages q·pages b·pages o·pages γ·pages n·pages pages κ·nodes q·nodes b·nodes o·nodes γ·nodes n·nodes nodes κ·register q·register b·register o·register γ·register n·register register x-v offset len κ·buffer q·buffer b·buffer o·buffer γ·buffer n·buffer buffer)) ∷ ‵ (ShrAt u8 κ·pages b·pages o·pages γ·pages n·pages pages) ∷ ‵ (ShrAt u32 κ·nodes b·nodes o·nodes γ·nodes n·nodes nodes) ∷ ‵ (ShrAt Record′.row κ·register b·register o·register γ·register n·register register) ∷ Γ) E xs (Store′.mach s ∷ sliceVal (b·pages, o·pages) n·pages ∷ sliceVal (b·nodes, o·nodes) n·nodes ∷ sliceVal (b·register, o·register) n·register ∷ Version′.mach x-v ∷ ByteOffset′.mach offset ∷ vint w64 len ∷ sliceVal (b·buffer, o·buffer) n·buffer ∷ [])
-      → (Is Filled′.row (read″.res s pages nodes register x-v offset len buffer) (Filled′.vals (read″.res s pages nodes register x-v offset len buffer)) → length (read″.out-buffer s pages nodes register x-v offset len buffer) ≡ length buffer → Seq K W (‵ (flft κ·pages q·pages) ∷ ‵ (ShrAt u8 κ·pages b·pages o·pages γ·pages n·pages pages) ∷ ‵ (flft κ·nodes q·nodes) ∷ ‵ (ShrAt u32 κ·nodes b·nodes o·nodes γ·nodes n·nodes nodes) ∷ ‵ (flft κ·register q·register) ∷ ‵ (ShrAt Record′.row κ·register b·register o·register γ·register n·register register) ∷ ‵ (flft κ·buffer q·buffer) ∷ ‵ (finally u8 γ·buffer (read″.out-buffer s pages nodes register x-v offset len buffer)) ∷ Γ) (lands C Λ E d (Filled′.mach (read″.res s pages nodes register x-v offset len buffer)) rest Q))
+  pub calls-by : K → (mem : Memory → SProp 𝓤) (run : Routine → Fun 𝓤) → FmC 𝓤 H (W .laws) C → (s : Store) (κ·pages : Lft) (q·pages : Share) (b·pages o·pages : ℕ) (γ·pages : GName) (n·pages : ℕ) (pages : List ℕ) (κ·nodes : Lft) (q·nodes : Share) (b·nodes o·nodes : ℕ) (γ·nodes : GName) (n·nodes : ℕ) (nodes : List ℕ) (κ·register : Lft) (q·register : Share) (b·register o·register : ℕ) (γ·register : GName) (n·register : ℕ) (register : List Record) (x-l : Line) (x-v : Version) (offset : ByteOffset) (len : ℕ) (κ·buffer : Lft) (q·buffer : Share) (b·buffer o·buffer : ℕ) (γ·buffer : GName) (n·buffer : ℕ) (buffer : List ℕ) → ent 𝓤 (Asked 𝓤 H A mem run .pre (to 𝓤 H A mem run s κ·pages q·pages b·pages o·pages γ·pages n·pages pages κ·nodes q·nodes b·nodes o·nodes γ·nodes n·nodes nodes κ·register q·register b·register o·register γ·register n·register register x-l x-v offset len κ·buffer q·buffer b·buffer o·buffer γ·buffer n·buffer buffer)) (C #callee (Asked 𝓤 H A mem run .args (to 𝓤 H A mem run s κ·pages q·pages b·pages o·pages γ·pages n·pages pages κ·nodes q·nodes b·nodes o·nodes γ·nodes n·nodes nodes κ·register q·register b·register o·register γ·register n·register register x-l x-v offset len κ·buffer q·buffer b·buffer o·buffer γ·buffer n·buffer buffer)) (Asked 𝓤 H A mem run .post (to 𝓤 H A mem run s κ·pages q·pages b·pages o·pages γ·pages n·pages pages κ·nodes q·nodes b·nodes o·nodes γ·nodes n·nodes nodes κ·register q·register b·register o·register γ·register n·register register x-l x-v offset len κ·buffer q·buffer b·buffer o·buffer γ·buffer n·buffer buffer))) → Is Store′.row s (Store′.vals s) → Is Line′.row x-l (Line′.vals x-l) → Is Version′.row x-v (Version′.vals x-v) → Is ByteOffset′.row offset (ByteOffset′.vals offset) → Is u64 len (uint-vals w64 len) →
+      Opds K W (raw (Asked 𝓤 H A mem run .pre (to 𝓤 H A mem run s κ·pages q·pages b·pages o·pages γ·pages n·pages pages κ·nodes q·nodes b·nodes o·nodes γ·nodes n·nodes nodes κ·register q·register b·register o·register γ·register n·register register x-l x-v offset len κ·buffer q·buffer b·buffer o·buffer γ·buffer n·buffer buffer)) ∷ ‵ (ShrAt u8 κ·pages b·pages o·pages γ·pages n·pages pages) ∷ ‵ (ShrAt u32 κ·nodes b·nodes o·nodes γ·nodes n·nodes nodes) ∷ ‵ (ShrAt Record′.row κ·register b·register o·register γ·register n·register register) ∷ Γ) E xs (Store′.mach s ∷ sliceVal (b·pages, o·pages) n·pages ∷ sliceVal (b·nodes, o·nodes) n·nodes ∷ sliceVal (b·register, o·register) n·register ∷ Line′.mach x-l ∷ Version′.mach x-v ∷ ByteOffset′.mach offset ∷ vint w64 len ∷ sliceVal (b·buffer, o·buffer) n·buffer ∷ [])
+      → (Is Filled′.row (read″.res s pages nodes register x-l x-v offset len buffer) (Filled′.vals (read″.res s pages nodes register x-l x-v offset len buffer)) → length (read″.out-buffer s pages nodes register x-l x-v offset len buffer) ≡ length buffer → Seq K W (‵ (flft κ·pages q·pages) ∷ ‵ (ShrAt u8 κ·pages b·pages o·pages γ·pages n·pages pages) ∷ ‵ (flft κ·nodes q·nodes) ∷ ‵ (ShrAt u32 κ·nodes b·nodes o·nodes γ·nodes n·nodes nodes) ∷ ‵ (flft κ·register q·register) ∷ ‵ (ShrAt Record′.row κ·register b·register o·register γ·register n·register register) ∷ ‵ (flft κ·buffer q·buffer) ∷ ‵ (finally u8 γ·buffer (read″.out-buffer s pages nodes register x-l x-v offset len buffer)) ∷ Γ) (lands C Λ E d (Filled′.mach (read″.res s pages nodes register x-l x-v offset len buffer)) rest Q))
       → Seq K W (‵ (flft κ·pages q·pages) ∷ ‵ (ShrAt u8 κ·pages b·pages o·pages γ·pages n·pages pages) ∷ ‵ (flft κ·nodes q·nodes) ∷ ‵ (ShrAt u32 κ·nodes b·nodes o·nodes γ·nodes n·nodes nodes) ∷ ‵ (flft κ·register q·register) ∷ ‵ (ShrAt Record′.row κ·register b·register o·register γ·register n·register register) ∷ ‵ (flft κ·buffer q·buffer) ∷ ‵ (MutAt u8 κ·buffer b·buffer o·buffer γ·buffer n·buffer buffer) ∷ Γ) (runs C Λ E (seq (call #callee xs d) rest) Q)
-  calls-by t mem run fm s κ·pages q·pages b·pages o·pages γ·pages n·pages pages κ·nodes q·nodes b·nodes o·nodes γ·nodes n·nodes nodes κ·register q·register b·register o·register γ·register n·register register x-v offset len κ·buffer q·buffer b·buffer o·buffer γ·buffer n·buffer buffer known ok·s ok·x-v ok·offset ok·len os k =
-      core t mem run s κ·pages q·pages b·pages o·pages γ·pages n·pages pages κ·nodes q·nodes b·nodes o·nodes γ·nodes n·nodes nodes κ·register q·register b·register o·register γ·register n·register register x-v offset len κ·buffer q·buffer b·buffer o·buffer γ·buffer n·buffer buffer (runs C Λ E (seq (call #callee xs d) rest) Q) (λ v. lands C Λ E d v rest Q) (λ v. tt)
-      (λ h. calls-from t fm (raw (Asked 𝓤 H A mem run .pre (to 𝓤 H A mem run s κ·pages q·pages b·pages o·pages γ·pages n·pages pages κ·nodes q·nodes b·nodes o·nodes γ·nodes n·nodes nodes κ·register q·register b·register o·register γ·register n·register register x-v offset len κ·buffer q·buffer b·buffer o·buffer γ·buffer n·buffer buffer))) (Asked 𝓤 H A mem run .args (to 𝓤 H A mem run s κ·pages q·pages b·pages o·pages γ·pages n·pages pages κ·nodes q·nodes b·nodes o·nodes γ·nodes n·nodes nodes κ·register q·register b·register o·register γ·register n·register register x-v offset len κ·buffer q·buffer b·buffer o·buffer γ·buffer n·buffer buffer)) (Asked 𝓤 H A mem run .post (to 𝓤 H A mem run s κ·pages q·pages b·pages o·pages γ·pages n·pages pages κ·nodes q·nodes b·nodes o·nodes γ·nodes n·nodes nodes κ·register q·register b·register o·register γ·register n·register register x-v offset len κ·buffer q·buffer b·buffer o·buffer γ·buffer n·buffer buffer)) known os h) ok·s ok·x-v ok·offset ok·len k
+  calls-by t mem run fm s κ·pages q·pages b·pages o·pages γ·pages n·pages pages κ·nodes q·nodes b·nodes o·nodes γ·nodes n·nodes nodes κ·register q·register b·register o·register γ·register n·register register x-l x-v offset len κ·buffer q·buffer b·buffer o·buffer γ·buffer n·buffer buffer known ok·s ok·x-l ok·x-v ok·offset ok·len os k =
+      core t mem run s κ·pages q·pages b·pages o·pages γ·pages n·pages pages κ·nodes q·nodes b·nodes o·nodes γ·nodes n·nodes nodes κ·register q·register b·register o·register γ·register n·register register x-l x-v offset len κ·buffer q·buffer b·buffer o·buffer γ·buffer n·buffer buffer (runs C Λ E (seq (call #callee xs d) rest) Q) (λ v. lands C Λ E d v rest Q) (λ v. tt)
+      (λ h. calls-from t fm (raw (Asked 𝓤 H A mem run .pre (to 𝓤 H A mem run s κ·pages q·pages b·pages o·pages γ·pages n·pages pages κ·nodes q·nodes b·nodes o·nodes γ·nodes n·nodes nodes κ·register q·register b·register o·register γ·register n·register register x-l x-v offset len κ·buffer q·buffer b·buffer o·buffer γ·buffer n·buffer buffer))) (Asked 𝓤 H A mem run .args (to 𝓤 H A mem run s κ·pages q·pages b·pages o·pages γ·pages n·pages pages κ·nodes q·nodes b·nodes o·nodes γ·nodes n·nodes nodes κ·register q·register b·register o·register γ·register n·register register x-l x-v offset len κ·buffer q·buffer b·buffer o·buffer γ·buffer n·buffer buffer)) (Asked 𝓤 H A mem run .post (to 𝓤 H A mem run s κ·pages q·pages b·pages o·pages γ·pages n·pages pages κ·nodes q·nodes b·nodes o·nodes γ·nodes n·nodes nodes κ·register q·register b·register o·register γ·register n·register register x-l x-v offset len κ·buffer q·buffer b·buffer o·buffer γ·buffer n·buffer buffer)) known os h) ok·s ok·x-l ok·x-v ok·offset ok·len k
 
-  pub calls : K → (mem : Memory → SProp 𝓤) (run : Routine → Fun 𝓤) → FmC 𝓤 H (W .laws) C → Triple 𝓤 (C #callee) (Asked 𝓤 H A mem run) → (s : Store) (κ·pages : Lft) (q·pages : Share) (b·pages o·pages : ℕ) (γ·pages : GName) (n·pages : ℕ) (pages : List ℕ) (κ·nodes : Lft) (q·nodes : Share) (b·nodes o·nodes : ℕ) (γ·nodes : GName) (n·nodes : ℕ) (nodes : List ℕ) (κ·register : Lft) (q·register : Share) (b·register o·register : ℕ) (γ·register : GName) (n·register : ℕ) (register : List Record) (x-v : Version) (offset : ByteOffset) (len : ℕ) (κ·buffer : Lft) (q·buffer : Share) (b·buffer o·buffer : ℕ) (γ·buffer : GName) (n·buffer : ℕ) (buffer : List ℕ) → Is Store′.row s (Store′.vals s) → Is Version′.row x-v (Version′.vals x-v) → Is ByteOffset′.row offset (ByteOffset′.vals offset) → Is u64 len (uint-vals w64 len) →
-      Opds K W (raw (Asked 𝓤 H A mem run .pre (to 𝓤 H A mem run s κ·pages q·pages b·pages o·pages γ·pages n·pages pages κ·nodes q·nodes b·nodes o·nodes γ·nodes n·nodes nodes κ·register q·register b·register o·register γ·register n·register register x-v offset len κ·buffer q·buffer b·buffer o·buffer γ·buffer n·buffer buffer)) ∷ ‵ (ShrAt u8 κ·pages b·pages o·pages γ·pages n·pages pages) ∷ ‵ (ShrAt u32 κ·nodes b·nodes o·nodes γ·nodes n·nodes nodes) ∷ ‵ (ShrAt Record′.row κ·register b·register o·register γ·register n·register register) ∷ Γ) E xs (Store′.mach s ∷ sliceVal (b·pages, o·pages) n·pages ∷ sliceVal (b·nodes, o·nodes) n·nodes ∷ sliceVal (b·register, o·register) n·register ∷ Version′.mach x-v ∷ ByteOffset′.mach offset ∷ vint w64 len ∷ sliceVal (b·buffer, o·buffer) n·buffer ∷ [])
-      → (Is Filled′.row (read″.res s pages nodes register x-v offset len buffer) (Filled′.vals (read″.res s pages nodes register x-v offset len buffer)) → length (read″.out-buffer s pages nodes register x-v offset len buffer) ≡ length buffer → Seq K W (‵ (flft κ·pages q·pages) ∷ ‵ (ShrAt u8 κ·pages b·pages o·pages γ·pages n·pages pages) ∷ ‵ (flft κ·nodes q·nodes) ∷ ‵ (ShrAt u32 κ·nodes b·nodes o·nodes γ·nodes n·nodes nodes) ∷ ‵ (flft κ·register q·register) ∷ ‵ (ShrAt Record′.row κ·register b·register o·register γ·register n·register register) ∷ ‵ (flft κ·buffer q·buffer) ∷ ‵ (finally u8 γ·buffer (read″.out-buffer s pages nodes register x-v offset len buffer)) ∷ Γ) (lands C Λ E d (Filled′.mach (read″.res s pages nodes register x-v offset len buffer)) rest Q))
+  pub calls : K → (mem : Memory → SProp 𝓤) (run : Routine → Fun 𝓤) → FmC 𝓤 H (W .laws) C → Triple 𝓤 (C #callee) (Asked 𝓤 H A mem run) → (s : Store) (κ·pages : Lft) (q·pages : Share) (b·pages o·pages : ℕ) (γ·pages : GName) (n·pages : ℕ) (pages : List ℕ) (κ·nodes : Lft) (q·nodes : Share) (b·nodes o·nodes : ℕ) (γ·nodes : GName) (n·nodes : ℕ) (nodes : List ℕ) (κ·register : Lft) (q·register : Share) (b·register o·register : ℕ) (γ·register : GName) (n·register : ℕ) (register : List Record) (x-l : Line) (x-v : Version) (offset : ByteOffset) (len : ℕ) (κ·buffer : Lft) (q·buffer : Share) (b·buffer o·buffer : ℕ) (γ·buffer : GName) (n·buffer : ℕ) (buffer : List ℕ) → Is Store′.row s (Store′.vals s) → Is Line′.row x-l (Line′.vals x-l) → Is Version′.row x-v (Version′.vals x-v) → Is ByteOffset′.row offset (ByteOffset′.vals offset) → Is u64 len (uint-vals w64 len) →
+      Opds K W (raw (Asked 𝓤 H A mem run .pre (to 𝓤 H A mem run s κ·pages q·pages b·pages o·pages γ·pages n·pages pages κ·nodes q·nodes b·nodes o·nodes γ·nodes n·nodes nodes κ·register q·register b·register o·register γ·register n·register register x-l x-v offset len κ·buffer q·buffer b·buffer o·buffer γ·buffer n·buffer buffer)) ∷ ‵ (ShrAt u8 κ·pages b·pages o·pages γ·pages n·pages pages) ∷ ‵ (ShrAt u32 κ·nodes b·nodes o·nodes γ·nodes n·nodes nodes) ∷ ‵ (ShrAt Record′.row κ·register b·register o·register γ·register n·register register) ∷ Γ) E xs (Store′.mach s ∷ sliceVal (b·pages, o·pages) n·pages ∷ sliceVal (b·nodes, o·nodes) n·nodes ∷ sliceVal (b·register, o·register) n·register ∷ Line′.mach x-l ∷ Version′.mach x-v ∷ ByteOffset′.mach offset ∷ vint w64 len ∷ sliceVal (b·buffer, o·buffer) n·buffer ∷ [])
+      → (Is Filled′.row (read″.res s pages nodes register x-l x-v offset len buffer) (Filled′.vals (read″.res s pages nodes register x-l x-v offset len buffer)) → length (read″.out-buffer s pages nodes register x-l x-v offset len buffer) ≡ length buffer → Seq K W (‵ (flft κ·pages q·pages) ∷ ‵ (ShrAt u8 κ·pages b·pages o·pages γ·pages n·pages pages) ∷ ‵ (flft κ·nodes q·nodes) ∷ ‵ (ShrAt u32 κ·nodes b·nodes o·nodes γ·nodes n·nodes nodes) ∷ ‵ (flft κ·register q·register) ∷ ‵ (ShrAt Record′.row κ·register b·register o·register γ·register n·register register) ∷ ‵ (flft κ·buffer q·buffer) ∷ ‵ (finally u8 γ·buffer (read″.out-buffer s pages nodes register x-l x-v offset len buffer)) ∷ Γ) (lands C Λ E d (Filled′.mach (read″.res s pages nodes register x-l x-v offset len buffer)) rest Q))
       → Seq K W (‵ (flft κ·pages q·pages) ∷ ‵ (ShrAt u8 κ·pages b·pages o·pages γ·pages n·pages pages) ∷ ‵ (flft κ·nodes q·nodes) ∷ ‵ (ShrAt u32 κ·nodes b·nodes o·nodes γ·nodes n·nodes nodes) ∷ ‵ (flft κ·register q·register) ∷ ‵ (ShrAt Record′.row κ·register b·register o·register γ·register n·register register) ∷ ‵ (flft κ·buffer q·buffer) ∷ ‵ (MutAt u8 κ·buffer b·buffer o·buffer γ·buffer n·buffer buffer) ∷ Γ) (runs C Λ E (seq (call #callee xs d) rest) Q)
-  calls t mem run fm known s κ·pages q·pages b·pages o·pages γ·pages n·pages pages κ·nodes q·nodes b·nodes o·nodes γ·nodes n·nodes nodes κ·register q·register b·register o·register γ·register n·register register x-v offset len κ·buffer q·buffer b·buffer o·buffer γ·buffer n·buffer buffer = calls-by t mem run fm s κ·pages q·pages b·pages o·pages γ·pages n·pages pages κ·nodes q·nodes b·nodes o·nodes γ·nodes n·nodes nodes κ·register q·register b·register o·register γ·register n·register register x-v offset len κ·buffer q·buffer b·buffer o·buffer γ·buffer n·buffer buffer (known (to 𝓤 H A mem run s κ·pages q·pages b·pages o·pages γ·pages n·pages pages κ·nodes q·nodes b·nodes o·nodes γ·nodes n·nodes nodes κ·register q·register b·register o·register γ·register n·register register x-v offset len κ·buffer q·buffer b·buffer o·buffer γ·buffer n·buffer buffer))
+  calls t mem run fm known s κ·pages q·pages b·pages o·pages γ·pages n·pages pages κ·nodes q·nodes b·nodes o·nodes γ·nodes n·nodes nodes κ·register q·register b·register o·register γ·register n·register register x-l x-v offset len κ·buffer q·buffer b·buffer o·buffer γ·buffer n·buffer buffer = calls-by t mem run fm s κ·pages q·pages b·pages o·pages γ·pages n·pages pages κ·nodes q·nodes b·nodes o·nodes γ·nodes n·nodes nodes κ·register q·register b·register o·register γ·register n·register register x-l x-v offset len κ·buffer q·buffer b·buffer o·buffer γ·buffer n·buffer buffer (known (to 𝓤 H A mem run s κ·pages q·pages b·pages o·pages γ·pages n·pages pages κ·nodes q·nodes b·nodes o·nodes γ·nodes n·nodes nodes κ·register q·register b·register o·register γ·register n·register register x-l x-v offset len κ·buffer q·buffer b·buffer o·buffer γ·buffer n·buffer buffer))
 
 module _ {M : Type 1} {𝓤 : URA M} {H : Heap 𝓤} {A : Atoms 𝓤} {K : Type 0} {W : Given 𝓤 H A} {Γ : List (Item 𝓤)} {E : Env 𝓤 H} {C : Calls 𝓤 H} {Λ : Loops 𝓤 H} {Q : Post 𝓤 H} {xs : List Operand} {d : Place} where
   -- by one instance of the callee's contract, which is what a function that calls itself has. The call ends a part of the code
-  pub calls-last-by : K → (mem : Memory → SProp 𝓤) (run : Routine → Fun 𝓤) → FmC 𝓤 H (W .laws) C → (s : Store) (κ·pages : Lft) (q·pages : Share) (b·pages o·pages : ℕ) (γ·pages : GName) (n·pages : ℕ) (pages : List ℕ) (κ·nodes : Lft) (q·nodes : Share) (b·nodes o·nodes : ℕ) (γ·nodes : GName) (n·nodes : ℕ) (nodes : List ℕ) (κ·register : Lft) (q·register : Share) (b·register o·register : ℕ) (γ·register : GName) (n·register : ℕ) (register : List Record) (x-v : Version) (offset : ByteOffset) (len : ℕ) (κ·buffer : Lft) (q·buffer : Share) (b·buffer o·buffer : ℕ) (γ·buffer : GName) (n·buffer : ℕ) (buffer : List ℕ) → ent 𝓤 (Asked 𝓤 H A mem run .pre (to 𝓤 H A mem run s κ·pages q·pages b·pages o·pages γ·pages n·pages pages κ·nodes q·nodes b·nodes o·nodes γ·nodes n·nodes nodes κ·register q·register b·register o·register γ·register n·register register x-v offset len κ·buffer q·buffer b·buffer o·buffer γ·buffer n·buffer buffer)) (C #callee (Asked 𝓤 H A mem run .args (to 𝓤 H A mem run s κ·pages q·pages b·pages o·pages γ·pages n·pages pages κ·nodes q·nodes b·nodes o·nodes γ·nodes n·nodes nodes κ·register q·register b·register o·register γ·register n·register register x-v offset len κ·buffer q·buffer b·buffer o·buffer γ·buffer n·buffer buffer)) (Asked 𝓤 H A mem run .post (to 𝓤 H A mem run s κ·pages q·pages b·pages o·pages γ·pages n·pages pages κ·nodes q·nodes b·nodes o·nodes γ·nodes n·nodes nodes κ·register q·register b·register o·register γ·register n·register register x-v offset len κ·buffer q·buffer b·buffer o·buffer γ·buffer n·buffer buffer))) → Is Store′.row s (Store′.vals s) → Is Version′.row x-v (Version′.vals x-v) → Is ByteOffset′.row offset (ByteOffset′.vals offset) → Is u64 len (uint-vals w64 len) →
-      Opds K W (raw (Asked 𝓤 H A mem run .pre (to 𝓤 H A mem run s κ·pages q·pages b·pages o·pages γ·pages n·pages pages κ·nodes q·nodes b·nodes o·nodes γ·nodes n·nodes nodes κ·register q·register b·register o·register γ·register n·register register x-v offset len κ·buffer q·buffer b·buffer o·buffer γ·buffer n·buffer buffer)) ∷ ‵ (ShrAt u8 κ·pages b·pages o·pages γ·pages n·pages pages) ∷ ‵ (ShrAt u32 κ·nodes b·nodes o·nodes γ·nodes n·nodes nodes) ∷ ‵ (ShrAt Record′.row κ·register b·register o·register γ·register n·register register) ∷ Γ) E xs (Store′.mach s ∷ sliceVal (b·pages, o·pages) n·pages ∷ sliceVal (b·nodes, o·nodes) n·nodes ∷ sliceVal (b·register, o·register) n·register ∷ Version′.mach x-v ∷ ByteOffset′.mach offset ∷ vint w64 len ∷ sliceVal (b·buffer, o·buffer) n·buffer ∷ [])
-      → (Is Filled′.row (read″.res s pages nodes register x-v offset len buffer) (Filled′.vals (read″.res s pages nodes register x-v offset len buffer)) → length (read″.out-buffer s pages nodes register x-v offset len buffer) ≡ length buffer → Seq K W (‵ (flft κ·pages q·pages) ∷ ‵ (ShrAt u8 κ·pages b·pages o·pages γ·pages n·pages pages) ∷ ‵ (flft κ·nodes q·nodes) ∷ ‵ (ShrAt u32 κ·nodes b·nodes o·nodes γ·nodes n·nodes nodes) ∷ ‵ (flft κ·register q·register) ∷ ‵ (ShrAt Record′.row κ·register b·register o·register γ·register n·register register) ∷ ‵ (flft κ·buffer q·buffer) ∷ ‵ (finally u8 γ·buffer (read″.out-buffer s pages nodes register x-v offset len buffer)) ∷ Γ) (settles E d (Filled′.mach (read″.res s pages nodes register x-v offset len buffer)) Q))
+  pub calls-last-by : K → (mem : Memory → SProp 𝓤) (run : Routine → Fun 𝓤) → FmC 𝓤 H (W .laws) C → (s : Store) (κ·pages : Lft) (q·pages : Share) (b·pages o·pages : ℕ) (γ·pages : GName) (n·pages : ℕ) (pages : List ℕ) (κ·nodes : Lft) (q·nodes : Share) (b·nodes o·nodes : ℕ) (γ·nodes : GName) (n·nodes : ℕ) (nodes : List ℕ) (κ·register : Lft) (q·register : Share) (b·register o·register : ℕ) (γ·register : GName) (n·register : ℕ) (register : List Record) (x-l : Line) (x-v : Version) (offset : ByteOffset) (len : ℕ) (κ·buffer : Lft) (q·buffer : Share) (b·buffer o·buffer : ℕ) (γ·buffer : GName) (n·buffer : ℕ) (buffer : List ℕ) → ent 𝓤 (Asked 𝓤 H A mem run .pre (to 𝓤 H A mem run s κ·pages q·pages b·pages o·pages γ·pages n·pages pages κ·nodes q·nodes b·nodes o·nodes γ·nodes n·nodes nodes κ·register q·register b·register o·register γ·register n·register register x-l x-v offset len κ·buffer q·buffer b·buffer o·buffer γ·buffer n·buffer buffer)) (C #callee (Asked 𝓤 H A mem run .args (to 𝓤 H A mem run s κ·pages q·pages b·pages o·pages γ·pages n·pages pages κ·nodes q·nodes b·nodes o·nodes γ·nodes n·nodes nodes κ·register q·register b·register o·register γ·register n·register register x-l x-v offset len κ·buffer q·buffer b·buffer o·buffer γ·buffer n·buffer buffer)) (Asked 𝓤 H A mem run .post (to 𝓤 H A mem run s κ·pages q·pages b·pages o·pages γ·pages n·pages pages κ·nodes q·nodes b·nodes o·nodes γ·nodes n·nodes nodes κ·register q·register b·register o·register γ·register n·register register x-l x-v offset len κ·buffer q·buffer b·buffer o·buffer γ·buffer n·buffer buffer))) → Is Store′.row s (Store′.vals s) → Is Line′.row x-l (Line′.vals x-l) → Is Version′.row x-v (Version′.vals x-v) → Is ByteOffset′.row offset (ByteOffset′.vals offset) → Is u64 len (uint-vals w64 len) →
+      Opds K W (raw (Asked 𝓤 H A mem run .pre (to 𝓤 H A mem run s κ·pages q·pages b·pages o·pages γ·pages n·pages pages κ·nodes q·nodes b·nodes o·nodes γ·nodes n·nodes nodes κ·register q·register b·register o·register γ·register n·register register x-l x-v offset len κ·buffer q·buffer b·buffer o·buffer γ·buffer n·buffer buffer)) ∷ ‵ (ShrAt u8 κ·pages b·pages o·pages γ·pages n·pages pages) ∷ ‵ (ShrAt u32 κ·nodes b·nodes o·nodes γ·nodes n·nodes nodes) ∷ ‵ (ShrAt Record′.row κ·register b·register o·register γ·register n·register register) ∷ Γ) E xs (Store′.mach s ∷ sliceVal (b·pages, o·pages) n·pages ∷ sliceVal (b·nodes, o·nodes) n·nodes ∷ sliceVal (b·register, o·register) n·register ∷ Line′.mach x-l ∷ Version′.mach x-v ∷ ByteOffset′.mach offset ∷ vint w64 len ∷ sliceVal (b·buffer, o·buffer) n·buffer ∷ [])
+      → (Is Filled′.row (read″.res s pages nodes register x-l x-v offset len buffer) (Filled′.vals (read″.res s pages nodes register x-l x-v offset len buffer)) → length (read″.out-buffer s pages nodes register x-l x-v offset len buffer) ≡ length buffer → Seq K W (‵ (flft κ·pages q·pages) ∷ ‵ (ShrAt u8 κ·pages b·pages o·pages γ·pages n·pages pages) ∷ ‵ (flft κ·nodes q·nodes) ∷ ‵ (ShrAt u32 κ·nodes b·nodes o·nodes γ·nodes n·nodes nodes) ∷ ‵ (flft κ·register q·register) ∷ ‵ (ShrAt Record′.row κ·register b·register o·register γ·register n·register register) ∷ ‵ (flft κ·buffer q·buffer) ∷ ‵ (finally u8 γ·buffer (read″.out-buffer s pages nodes register x-l x-v offset len buffer)) ∷ Γ) (settles E d (Filled′.mach (read″.res s pages nodes register x-l x-v offset len buffer)) Q))
       → Seq K W (‵ (flft κ·pages q·pages) ∷ ‵ (ShrAt u8 κ·pages b·pages o·pages γ·pages n·pages pages) ∷ ‵ (flft κ·nodes q·nodes) ∷ ‵ (ShrAt u32 κ·nodes b·nodes o·nodes γ·nodes n·nodes nodes) ∷ ‵ (flft κ·register q·register) ∷ ‵ (ShrAt Record′.row κ·register b·register o·register γ·register n·register register) ∷ ‵ (flft κ·buffer q·buffer) ∷ ‵ (MutAt u8 κ·buffer b·buffer o·buffer γ·buffer n·buffer buffer) ∷ Γ) (runs C Λ E (call #callee xs d) Q)
-  calls-last-by t mem run fm s κ·pages q·pages b·pages o·pages γ·pages n·pages pages κ·nodes q·nodes b·nodes o·nodes γ·nodes n·nodes nodes κ·register q·register b·register o·register γ·register n·register register x-v offset len κ·buffer q·buffer b·buffer o·buffer γ·buffer n·buffer buffer known ok·s ok·x-v ok·offset ok·len os k =
-      core t mem run s κ·pages q·pages b·pages o·pages γ·pages n·pages pages κ·nodes q·nodes b·nodes o·nodes γ·nodes n·nodes nodes κ·register q·register b·register o·register γ·register n·register register x-v offset len κ·buffer q·buffer b·buffer o·buffer γ·buffer n·buffer buffer (runs C Λ E (call #callee xs d) Q) (λ v. settles E d v Q) (λ v. tt)
-      (λ h. calls-from-last t fm (raw (Asked 𝓤 H A mem run .pre (to 𝓤 H A mem run s κ·pages q·pages b·pages o·pages γ·pages n·pages pages κ·nodes q·nodes b·nodes o·nodes γ·nodes n·nodes nodes κ·register q·register b·register o·register γ·register n·register register x-v offset len κ·buffer q·buffer b·buffer o·buffer γ·buffer n·buffer buffer))) (Asked 𝓤 H A mem run .args (to 𝓤 H A mem run s κ·pages q·pages b·pages o·pages γ·pages n·pages pages κ·nodes q·nodes b·nodes o·nodes γ·nodes n·nodes nodes κ·register q·register b·register o·register γ·register n·register register x-v offset len κ·buffer q·buffer b·buffer o·buffer γ·buffer n·buffer buffer)) (Asked 𝓤 H A mem run .post (to 𝓤 H A mem run s κ·pages q·pages b·pages o·pages γ·pages n·pages pages κ·nodes q·nodes b·nodes o·nodes γ·nodes n·nodes nodes κ·register q·register b·register o·register γ·register n·register register x-v offset len κ·buffer q·buffer b·buffer o·buffer γ·buffer n·buffer buffer)) known os h) ok·s ok·x-v ok·offset ok·len k
+  calls-last-by t mem run fm s κ·pages q·pages b·pages o·pages γ·pages n·pages pages κ·nodes q·nodes b·nodes o·nodes γ·nodes n·nodes nodes κ·register q·register b·register o·register γ·register n·register register x-l x-v offset len κ·buffer q·buffer b·buffer o·buffer γ·buffer n·buffer buffer known ok·s ok·x-l ok·x-v ok·offset ok·len os k =
+      core t mem run s κ·pages q·pages b·pages o·pages γ·pages n·pages pages κ·nodes q·nodes b·nodes o·nodes γ·nodes n·nodes nodes κ·register q·register b·register o·register γ·register n·register register x-l x-v offset len κ·buffer q·buffer b·buffer o·buffer γ·buffer n·buffer buffer (runs C Λ E (call #callee xs d) Q) (λ v. settles E d v Q) (λ v. tt)
+      (λ h. calls-from-last t fm (raw (Asked 𝓤 H A mem run .pre (to 𝓤 H A mem run s κ·pages q·pages b·pages o·pages γ·pages n·pages pages κ·nodes q·nodes b·nodes o·nodes γ·nodes n·nodes nodes κ·register q·register b·register o·register γ·register n·register register x-l x-v offset len κ·buffer q·buffer b·buffer o·buffer γ·buffer n·buffer buffer))) (Asked 𝓤 H A mem run .args (to 𝓤 H A mem run s κ·pages q·pages b·pages o·pages γ·pages n·pages pages κ·nodes q·nodes b·nodes o·nodes γ·nodes n·nodes nodes κ·register q·register b·register o·register γ·register n·register register x-l x-v offset len κ·buffer q·buffer b·buffer o·buffer γ·buffer n·buffer buffer)) (Asked 𝓤 H A mem run .post (to 𝓤 H A mem run s κ·pages q·pages b·pages o·pages γ·pages n·pages pages κ·nodes q·nodes b·nodes o·nodes γ·nodes n·nodes nodes κ·register q·register b·register o·register γ·register n·register register x-l x-v offset len κ·buffer q·buffer b·buffer o·buffer γ·buffer n·buffer buffer)) known os h) ok·s ok·x-l ok·x-v ok·offset ok·len k
 
-  pub calls-last : K → (mem : Memory → SProp 𝓤) (run : Routine → Fun 𝓤) → FmC 𝓤 H (W .laws) C → Triple 𝓤 (C #callee) (Asked 𝓤 H A mem run) → (s : Store) (κ·pages : Lft) (q·pages : Share) (b·pages o·pages : ℕ) (γ·pages : GName) (n·pages : ℕ) (pages : List ℕ) (κ·nodes : Lft) (q·nodes : Share) (b·nodes o·nodes : ℕ) (γ·nodes : GName) (n·nodes : ℕ) (nodes : List ℕ) (κ·register : Lft) (q·register : Share) (b·register o·register : ℕ) (γ·register : GName) (n·register : ℕ) (register : List Record) (x-v : Version) (offset : ByteOffset) (len : ℕ) (κ·buffer : Lft) (q·buffer : Share) (b·buffer o·buffer : ℕ) (γ·buffer : GName) (n·buffer : ℕ) (buffer : List ℕ) → Is Store′.row s (Store′.vals s) → Is Version′.row x-v (Version′.vals x-v) → Is ByteOffset′.row offset (ByteOffset′.vals offset) → Is u64 len (uint-vals w64 len) →
-      Opds K W (raw (Asked 𝓤 H A mem run .pre (to 𝓤 H A mem run s κ·pages q·pages b·pages o·pages γ·pages n·pages pages κ·nodes q·nodes b·nodes o·nodes γ·nodes n·nodes nodes κ·register q·register b·register o·register γ·register n·register register x-v offset len κ·buffer q·buffer b·buffer o·buffer γ·buffer n·buffer buffer)) ∷ ‵ (ShrAt u8 κ·pages b·pages o·pages γ·pages n·pages pages) ∷ ‵ (ShrAt u32 κ·nodes b·nodes o·nodes γ·nodes n·nodes nodes) ∷ ‵ (ShrAt Record′.row κ·register b·register o·register γ·register n·register register) ∷ Γ) E xs (Store′.mach s ∷ sliceVal (b·pages, o·pages) n·pages ∷ sliceVal (b·nodes, o·nodes) n·nodes ∷ sliceVal (b·register, o·register) n·register ∷ Version′.mach x-v ∷ ByteOffset′.mach offset ∷ vint w64 len ∷ sliceVal (b·buffer, o·buffer) n·buffer ∷ [])
-      → (Is Filled′.row (read″.res s pages nodes register x-v offset len buffer) (Filled′.vals (read″.res s pages nodes register x-v offset len buffer)) → length (read″.out-buffer s pages nodes register x-v offset len buffer) ≡ length buffer → Seq K W (‵ (flft κ·pages q·pages) ∷ ‵ (ShrAt u8 κ·pages b·pages o·pages γ·pages n·pages pages) ∷ ‵ (flft κ·nodes q·nodes) ∷ ‵ (ShrAt u32 κ·nodes b·nodes o·nodes γ·nodes n·nodes nodes) ∷ ‵ (flft κ·register q·register) ∷ ‵ (ShrAt Record′.row κ·register b·register o·register γ·register n·register register) ∷ ‵ (flft κ·buffer q·buffer) ∷ ‵ (finally u8 γ·buffer (read″.out-buffer s pages nodes register x-v offset len buffer)) ∷ Γ) (settles E d (Filled′.mach (read″.res s pages nodes register x-v offset len buffer)) Q))
+  pub calls-last : K → (mem : Memory → SProp 𝓤) (run : Routine → Fun 𝓤) → FmC 𝓤 H (W .laws) C → Triple 𝓤 (C #callee) (Asked 𝓤 H A mem run) → (s : Store) (κ·pages : Lft) (q·pages : Share) (b·pages o·pages : ℕ) (γ·pages : GName) (n·pages : ℕ) (pages : List ℕ) (κ·nodes : Lft) (q·nodes : Share) (b·nodes o·nodes : ℕ) (γ·nodes : GName) (n·nodes : ℕ) (nodes : List ℕ) (κ·register : Lft) (q·register : Share) (b·register o·register : ℕ) (γ·register : GName) (n·register : ℕ) (register : List Record) (x-l : Line) (x-v : Version) (offset : ByteOffset) (len : ℕ) (κ·buffer : Lft) (q·buffer : Share) (b·buffer o·buffer : ℕ) (γ·buffer : GName) (n·buffer : ℕ) (buffer : List ℕ) → Is Store′.row s (Store′.vals s) → Is Line′.row x-l (Line′.vals x-l) → Is Version′.row x-v (Version′.vals x-v) → Is ByteOffset′.row offset (ByteOffset′.vals offset) → Is u64 len (uint-vals w64 len) →
+      Opds K W (raw (Asked 𝓤 H A mem run .pre (to 𝓤 H A mem run s κ·pages q·pages b·pages o·pages γ·pages n·pages pages κ·nodes q·nodes b·nodes o·nodes γ·nodes n·nodes nodes κ·register q·register b·register o·register γ·register n·register register x-l x-v offset len κ·buffer q·buffer b·buffer o·buffer γ·buffer n·buffer buffer)) ∷ ‵ (ShrAt u8 κ·pages b·pages o·pages γ·pages n·pages pages) ∷ ‵ (ShrAt u32 κ·nodes b·nodes o·nodes γ·nodes n·nodes nodes) ∷ ‵ (ShrAt Record′.row κ·register b·register o·register γ·register n·register register) ∷ Γ) E xs (Store′.mach s ∷ sliceVal (b·pages, o·pages) n·pages ∷ sliceVal (b·nodes, o·nodes) n·nodes ∷ sliceVal (b·register, o·register) n·register ∷ Line′.mach x-l ∷ Version′.mach x-v ∷ ByteOffset′.mach offset ∷ vint w64 len ∷ sliceVal (b·buffer, o·buffer) n·buffer ∷ [])
+      → (Is Filled′.row (read″.res s pages nodes register x-l x-v offset len buffer) (Filled′.vals (read″.res s pages nodes register x-l x-v offset len buffer)) → length (read″.out-buffer s pages nodes register x-l x-v offset len buffer) ≡ length buffer → Seq K W (‵ (flft κ·pages q·pages) ∷ ‵ (ShrAt u8 κ·pages b·pages o·pages γ·pages n·pages pages) ∷ ‵ (flft κ·nodes q·nodes) ∷ ‵ (ShrAt u32 κ·nodes b·nodes o·nodes γ·nodes n·nodes nodes) ∷ ‵ (flft κ·register q·register) ∷ ‵ (ShrAt Record′.row κ·register b·register o·register γ·register n·register register) ∷ ‵ (flft κ·buffer q·buffer) ∷ ‵ (finally u8 γ·buffer (read″.out-buffer s pages nodes register x-l x-v offset len buffer)) ∷ Γ) (settles E d (Filled′.mach (read″.res s pages nodes register x-l x-v offset len buffer)) Q))
       → Seq K W (‵ (flft κ·pages q·pages) ∷ ‵ (ShrAt u8 κ·pages b·pages o·pages γ·pages n·pages pages) ∷ ‵ (flft κ·nodes q·nodes) ∷ ‵ (ShrAt u32 κ·nodes b·nodes o·nodes γ·nodes n·nodes nodes) ∷ ‵ (flft κ·register q·register) ∷ ‵ (ShrAt Record′.row κ·register b·register o·register γ·register n·register register) ∷ ‵ (flft κ·buffer q·buffer) ∷ ‵ (MutAt u8 κ·buffer b·buffer o·buffer γ·buffer n·buffer buffer) ∷ Γ) (runs C Λ E (call #callee xs d) Q)
-  calls-last t mem run fm known s κ·pages q·pages b·pages o·pages γ·pages n·pages pages κ·nodes q·nodes b·nodes o·nodes γ·nodes n·nodes nodes κ·register q·register b·register o·register γ·register n·register register x-v offset len κ·buffer q·buffer b·buffer o·buffer γ·buffer n·buffer buffer = calls-last-by t mem run fm s κ·pages q·pages b·pages o·pages γ·pages n·pages pages κ·nodes q·nodes b·nodes o·nodes γ·nodes n·nodes nodes κ·register q·register b·register o·register γ·register n·register register x-v offset len κ·buffer q·buffer b·buffer o·buffer γ·buffer n·buffer buffer (known (to 𝓤 H A mem run s κ·pages q·pages b·pages o·pages γ·pages n·pages pages κ·nodes q·nodes b·nodes o·nodes γ·nodes n·nodes nodes κ·register q·register b·register o·register γ·register n·register register x-v offset len κ·buffer q·buffer b·buffer o·buffer γ·buffer n·buffer buffer))
+  calls-last t mem run fm known s κ·pages q·pages b·pages o·pages γ·pages n·pages pages κ·nodes q·nodes b·nodes o·nodes γ·nodes n·nodes nodes κ·register q·register b·register o·register γ·register n·register register x-l x-v offset len κ·buffer q·buffer b·buffer o·buffer γ·buffer n·buffer buffer = calls-last-by t mem run fm s κ·pages q·pages b·pages o·pages γ·pages n·pages pages κ·nodes q·nodes b·nodes o·nodes γ·nodes n·nodes nodes κ·register q·register b·register o·register γ·register n·register register x-l x-v offset len κ·buffer q·buffer b·buffer o·buffer γ·buffer n·buffer buffer (known (to 𝓤 H A mem run s κ·pages q·pages b·pages o·pages γ·pages n·pages pages κ·nodes q·nodes b·nodes o·nodes γ·nodes n·nodes nodes κ·register q·register b·register o·register γ·register n·register register x-l x-v offset len κ·buffer q·buffer b·buffer o·buffer γ·buffer n·buffer buffer))

@@ -32,16 +32,14 @@ use denote.Triple.Clauses.{Lasts, ensured, lasts}
 use denote.Triple.Spec.{tripleOf}
 use denote.Triple.Walked.{says}
 use Rattle.read.proofs.Generated.Say.some_lost as some-lost″
-use Rattle.versions.specs.declared.Store.{Store}
-use Rattle.versions.proofs.Generated.Kind.Store as Store′
-use Rattle.tree.specs.declared.Ticket.{Ticket}
-use Rattle.register.proofs.Generated.Kind.Ticket as Ticket′
-use Rattle.tree.specs.declared.Version.{Version}
-use Rattle.register.proofs.Generated.Kind.Version as Version′
 use Rattle.register.specs.declared.Record.{Record}
 use Rattle.register.proofs.Generated.Kind.Record as Record′
+use Rattle.tree.specs.declared.Ticket.{Ticket}
+use Rattle.register.proofs.Generated.Kind.Ticket as Ticket′
 use Rattle.tree.specs.declared.PageIndex.{PageIndex}
 use Rattle.register.proofs.Generated.Kind.PageIndex as PageIndex′
+use Rattle.lines.specs.declared.Entries.{Entries}
+use Rattle.register.proofs.Generated.Kind.Entries as Entries′
 use Rattle.register.proofs.Generated.Flow.{ref, MutAt, ShrAt, keeps-shr, plus-nothing}
 use Rattle.read.proofs.some_lost as callee
 use Rattle.read.proofs.some_lost.Symbol.{name as #callee}
@@ -50,54 +48,54 @@ module _ {M : Type 1} (𝓤 : URA M) (H : Heap 𝓤) (A : Atoms 𝓤) (mem : Mem
   abbrev pub Asked : Contract 𝓤
   Asked = tripleOf 𝓤 H A callee.signature (callee.spec 𝓤 H A mem run)
 
-  abbrev pub to : (s : Store) (κ·nodes : Lft) (q·nodes : Share) (b·nodes o·nodes : ℕ) (γ·nodes : GName) (n·nodes : ℕ) (nodes : List ℕ) (κ·register : Lft) (q·register : Share) (b·register o·register : ℕ) (γ·register : GName) (n·register : ℕ) (register : List Record) (x-v : Version) (x-from : PageIndex) (n : ℕ) (x-first : Bool) → Asked .Ghost
-  to s κ·nodes q·nodes b·nodes o·nodes γ·nodes n·nodes nodes κ·register q·register b·register o·register γ·register n·register register x-v x-from n x-first = (((κ·nodes, (κ·register, tt)), (q·nodes, (q·register, tt)), tt, (s, (ref b·nodes o·nodes γ·nodes nodes, (ref b·register o·register γ·register register, (x-v, (x-from, (n, (x-first, tt))))))), (Store′.mach s ∷ [], (sliceVal (b·nodes, o·nodes) n·nodes ∷ [], (sliceVal (b·register, o·register) n·register ∷ [], (Version′.mach x-v ∷ [], (PageIndex′.mach x-from ∷ [], (vint w64 n ∷ [], (vbool x-first ∷ [], tt)))))))), tt)
+  abbrev pub to : (count : ℕ) (κ·nodes : Lft) (q·nodes : Share) (b·nodes o·nodes : ℕ) (γ·nodes : GName) (n·nodes : ℕ) (nodes : List ℕ) (κ·register : Lft) (q·register : Share) (b·register o·register : ℕ) (γ·register : GName) (n·register : ℕ) (register : List Record) (c : ℕ) (x-from : PageIndex) (n : ℕ) (x-first : Bool) → Asked .Ghost
+  to count κ·nodes q·nodes b·nodes o·nodes γ·nodes n·nodes nodes κ·register q·register b·register o·register γ·register n·register register c x-from n x-first = (((κ·nodes, (κ·register, tt)), (q·nodes, (q·register, tt)), tt, (count, (ref b·nodes o·nodes γ·nodes nodes, (ref b·register o·register γ·register register, (c, (x-from, (n, (x-first, tt))))))), (vint w64 count ∷ [], (sliceVal (b·nodes, o·nodes) n·nodes ∷ [], (sliceVal (b·register, o·register) n·register ∷ [], (vint w64 c ∷ [], (PageIndex′.mach x-from ∷ [], (vint w64 n ∷ [], (vbool x-first ∷ [], tt)))))))), tt)
 
 module _ {M : Type 1} {𝓤 : URA M} {H : Heap 𝓤} {A : Atoms 𝓤} {K : Type 0} {W : Given 𝓤 H A} {Γ : List (Item 𝓤)} where
   -- the call itself is made by `by-call`, from what the callee asks to what it has ensured
-  core : K → (mem : Memory → SProp 𝓤) (run : Routine → Fun 𝓤) → (s : Store) (κ·nodes : Lft) (q·nodes : Share) (b·nodes o·nodes : ℕ) (γ·nodes : GName) (n·nodes : ℕ) (nodes : List ℕ) (κ·register : Lft) (q·register : Share) (b·register o·register : ℕ) (γ·register : GName) (n·register : ℕ) (register : List Record) (x-v : Version) (x-from : PageIndex) (n : ℕ) (x-first : Bool) → (G : Goal 𝓤 H) (after : Val → Goal 𝓤 H) → ((v : Val) → Soaks (after v))
-      → (((v : Val) → Seq K W (raw (Asked 𝓤 H A mem run .post (to 𝓤 H A mem run s κ·nodes q·nodes b·nodes o·nodes γ·nodes n·nodes nodes κ·register q·register b·register o·register γ·register n·register register x-v x-from n x-first) v) ∷ ‵ (ShrAt u32 κ·nodes b·nodes o·nodes γ·nodes n·nodes nodes) ∷ ‵ (ShrAt Record′.row κ·register b·register o·register γ·register n·register register) ∷ Γ) (after v)) → Seq K W (raw (Asked 𝓤 H A mem run .pre (to 𝓤 H A mem run s κ·nodes q·nodes b·nodes o·nodes γ·nodes n·nodes nodes κ·register q·register b·register o·register γ·register n·register register x-v x-from n x-first)) ∷ ‵ (ShrAt u32 κ·nodes b·nodes o·nodes γ·nodes n·nodes nodes) ∷ ‵ (ShrAt Record′.row κ·register b·register o·register γ·register n·register register) ∷ Γ) G) → Is Store′.row s (Store′.vals s) → Is Version′.row x-v (Version′.vals x-v) → Is PageIndex′.row x-from (PageIndex′.vals x-from) → Is u64 n (uint-vals w64 n) → Is bool x-first (bool-vals x-first) → some-lost″.req s nodes register x-v x-from n x-first →
-      (Is bool (some-lost″.res s nodes register x-v x-from n x-first) (bool-vals (some-lost″.res s nodes register x-v x-from n x-first)) → Seq K W (‵ (flft κ·nodes q·nodes) ∷ ‵ (ShrAt u32 κ·nodes b·nodes o·nodes γ·nodes n·nodes nodes) ∷ ‵ (flft κ·register q·register) ∷ ‵ (ShrAt Record′.row κ·register b·register o·register γ·register n·register register) ∷ Γ) (after (vbool (some-lost″.res s nodes register x-v x-from n x-first)))) → Seq K W (‵ (flft κ·nodes q·nodes) ∷ ‵ (ShrAt u32 κ·nodes b·nodes o·nodes γ·nodes n·nodes nodes) ∷ ‵ (flft κ·register q·register) ∷ ‵ (ShrAt Record′.row κ·register b·register o·register γ·register n·register register) ∷ Γ) G
-  core t mem run s κ·nodes q·nodes b·nodes o·nodes γ·nodes n·nodes nodes κ·register q·register b·register o·register γ·register n·register register x-v x-from n x-first G after soaks by-call ok·s ok·x-v ok·x-from ok·n ok·x-first need k =
+  core : K → (mem : Memory → SProp 𝓤) (run : Routine → Fun 𝓤) → (count : ℕ) (κ·nodes : Lft) (q·nodes : Share) (b·nodes o·nodes : ℕ) (γ·nodes : GName) (n·nodes : ℕ) (nodes : List ℕ) (κ·register : Lft) (q·register : Share) (b·register o·register : ℕ) (γ·register : GName) (n·register : ℕ) (register : List Record) (c : ℕ) (x-from : PageIndex) (n : ℕ) (x-first : Bool) → (G : Goal 𝓤 H) (after : Val → Goal 𝓤 H) → ((v : Val) → Soaks (after v))
+      → (((v : Val) → Seq K W (raw (Asked 𝓤 H A mem run .post (to 𝓤 H A mem run count κ·nodes q·nodes b·nodes o·nodes γ·nodes n·nodes nodes κ·register q·register b·register o·register γ·register n·register register c x-from n x-first) v) ∷ ‵ (ShrAt u32 κ·nodes b·nodes o·nodes γ·nodes n·nodes nodes) ∷ ‵ (ShrAt Record′.row κ·register b·register o·register γ·register n·register register) ∷ Γ) (after v)) → Seq K W (raw (Asked 𝓤 H A mem run .pre (to 𝓤 H A mem run count κ·nodes q·nodes b·nodes o·nodes γ·nodes n·nodes nodes κ·register q·register b·register o·register γ·register n·register register c x-from n x-first)) ∷ ‵ (ShrAt u32 κ·nodes b·nodes o·nodes γ·nodes n·nodes nodes) ∷ ‵ (ShrAt Record′.row κ·register b·register o·register γ·register n·register register) ∷ Γ) G) → Is u64 count (uint-vals w64 count) → Is u64 c (uint-vals w64 c) → Is PageIndex′.row x-from (PageIndex′.vals x-from) → Is u64 n (uint-vals w64 n) → Is bool x-first (bool-vals x-first) → some-lost″.req count nodes register c x-from n x-first →
+      (Is bool (some-lost″.res count nodes register c x-from n x-first) (bool-vals (some-lost″.res count nodes register c x-from n x-first)) → Seq K W (‵ (flft κ·nodes q·nodes) ∷ ‵ (ShrAt u32 κ·nodes b·nodes o·nodes γ·nodes n·nodes nodes) ∷ ‵ (flft κ·register q·register) ∷ ‵ (ShrAt Record′.row κ·register b·register o·register γ·register n·register register) ∷ Γ) (after (vbool (some-lost″.res count nodes register c x-from n x-first)))) → Seq K W (‵ (flft κ·nodes q·nodes) ∷ ‵ (ShrAt u32 κ·nodes b·nodes o·nodes γ·nodes n·nodes nodes) ∷ ‵ (flft κ·register q·register) ∷ ‵ (ShrAt Record′.row κ·register b·register o·register γ·register n·register register) ∷ Γ) G
+  core t mem run count κ·nodes q·nodes b·nodes o·nodes γ·nodes n·nodes nodes κ·register q·register b·register o·register γ·register n·register register c x-from n x-first G after soaks by-call ok·count ok·c ok·x-from ok·n ok·x-first need k =
       move t (1 ∷ []) $ keeps-shr t u32 κ·nodes b·nodes o·nodes γ·nodes n·nodes nodes $ move t (4 ∷ []) $ keeps-shr t Record′.row κ·register b·register o·register γ·register n·register register $ move t (4 ∷ 2 ∷ 5 ∷ 0 ∷ 3 ∷ 1 ∷ []) $
-      move t (2 ∷ 3 ∷ []) $ join t $ move t (2 ∷ 0 ∷ []) $ join t $ move t (1 ∷ 0 ∷ []) $ join t $ use1 W (raw (Asked 𝓤 H A mem run .pre (to 𝓤 H A mem run s κ·nodes q·nodes b·nodes o·nodes γ·nodes n·nodes nodes κ·register q·register b·register o·register γ·register n·register register x-v x-from n x-first))) goes $
+      move t (2 ∷ 3 ∷ []) $ join t $ move t (2 ∷ 0 ∷ []) $ join t $ move t (1 ∷ 0 ∷ []) $ join t $ use1 W (raw (Asked 𝓤 H A mem run .pre (to 𝓤 H A mem run count κ·nodes q·nodes b·nodes o·nodes γ·nodes n·nodes nodes κ·register q·register b·register o·register γ·register n·register register c x-from n x-first))) goes $
       by-call (λ v.
-      use1 W (later (some (λ (r· : Bool). ((‵ (flft κ·nodes q·nodes) ⊛ ‵ (flft κ·register q·register) ⊛ ‵ ftrue) ⊛ ‵ (bool .own r· (v ∷ []))) ⊛ raw (ensured 𝓤 H A callee.ended (callee.clauses 𝓤 H A mem run) (κ·nodes, (κ·register, tt)) (s, (ref b·nodes o·nodes γ·nodes nodes, (ref b·register o·register γ·register register, (x-v, (x-from, (n, (x-first, tt))))))) tt r·)))) (id⊢ 𝓤 _) $ await t (soaks v) $ pick t (λ r·. split t $ move t (1 ∷ []) $
-      use1 W (some (λ (ws : Lasts callee.ended (κ·nodes, (κ·register, tt)) (s, (ref b·nodes o·nodes γ·nodes nodes, (ref b·register o·register γ·register register, (x-v, (x-from, (n, (x-first, tt)))))))). ‵ (lasts callee.ended (κ·nodes, (κ·register, tt)) (s, (ref b·nodes o·nodes γ·nodes nodes, (ref b·register o·register γ·register register, (x-v, (x-from, (n, (x-first, tt))))))) ws) ⊛ raw (fact 𝓤 (some-lost″.ens s nodes register x-v x-from n x-first r·)))) (id⊢ 𝓤 _) $ pick t (λ ws. split t $ move t (1 ∷ []) $
-      heard t (some-lost″.ens s nodes register x-v x-from n x-first r·) (λ e. drop t $ split t $ move t (1 ∷ []) $ facts t bool (Is bool) (shows 𝓤 H A bool) r· (v ∷ []) (λ is. split t $ move t (1 ∷ []) $ split t $ move t (1 ∷ []) $ drop t $ move t (1 ∷ 2 ∷ 0 ∷ 3 ∷ []) $
+      use1 W (later (some (λ (r· : Bool). ((‵ (flft κ·nodes q·nodes) ⊛ ‵ (flft κ·register q·register) ⊛ ‵ ftrue) ⊛ ‵ (bool .own r· (v ∷ []))) ⊛ raw (ensured 𝓤 H A callee.ended (callee.clauses 𝓤 H A mem run) (κ·nodes, (κ·register, tt)) (count, (ref b·nodes o·nodes γ·nodes nodes, (ref b·register o·register γ·register register, (c, (x-from, (n, (x-first, tt))))))) tt r·)))) (id⊢ 𝓤 _) $ await t (soaks v) $ pick t (λ r·. split t $ move t (1 ∷ []) $
+      use1 W (some (λ (ws : Lasts callee.ended (κ·nodes, (κ·register, tt)) (count, (ref b·nodes o·nodes γ·nodes nodes, (ref b·register o·register γ·register register, (c, (x-from, (n, (x-first, tt)))))))). ‵ (lasts callee.ended (κ·nodes, (κ·register, tt)) (count, (ref b·nodes o·nodes γ·nodes nodes, (ref b·register o·register γ·register register, (c, (x-from, (n, (x-first, tt))))))) ws) ⊛ raw (fact 𝓤 (some-lost″.ens count nodes register c x-from n x-first r·)))) (id⊢ 𝓤 _) $ pick t (λ ws. split t $ move t (1 ∷ []) $
+      heard t (some-lost″.ens count nodes register c x-from n x-first r·) (λ e. drop t $ split t $ move t (1 ∷ []) $ facts t bool (Is bool) (shows 𝓤 H A bool) r· (v ∷ []) (λ is. split t $ move t (1 ∷ []) $ split t $ move t (1 ∷ []) $ drop t $ move t (1 ∷ 2 ∷ 0 ∷ 3 ∷ []) $
       subst (λ (u : Val). Seq K W (‵ (flft κ·nodes q·nodes) ∷ ‵ (ShrAt u32 κ·nodes b·nodes o·nodes γ·nodes n·nodes nodes) ∷ ‵ (flft κ·register q·register) ∷ ‵ (ShrAt Record′.row κ·register b·register o·register γ·register n·register register) ∷ Γ) (after u)) (sym (ap only (bool-tells r· (v ∷ []) is) ∙ ap (λ (z : Bool). vbool z) (e))) (k (subst (λ (z : Bool). Is bool z (bool-vals z)) (e) (subst (Is bool r·) (bool-tells r· (v ∷ []) is) is))))))))
     where
-      goes : ent 𝓤 (⋆ 𝓤 H A (‵ (flft κ·nodes q·nodes) ∷ ‵ (ShrAt u32 κ·nodes b·nodes o·nodes γ·nodes n·nodes nodes) ∷ ‵ (flft κ·register q·register) ∷ ‵ (ShrAt Record′.row κ·register b·register o·register γ·register n·register register) ∷ [])) (Asked 𝓤 H A mem run .pre (to 𝓤 H A mem run s κ·nodes q·nodes b·nodes o·nodes γ·nodes n·nodes nodes κ·register q·register b·register o·register γ·register n·register register x-v x-from n x-first))
-      goes = qed W (‵ (flft κ·nodes q·nodes) ∷ ‵ (ShrAt u32 κ·nodes b·nodes o·nodes γ·nodes n·nodes nodes) ∷ ‵ (flft κ·register q·register) ∷ ‵ (ShrAt Record′.row κ·register b·register o·register γ·register n·register register) ∷ []) ∵ says ! need $ nothing ! $ move ! (3 ∷ 0 ∷ []) $ join ! $ move ! (1 ∷ 0 ∷ []) $ join ! $ frame ! $ nothing ! $ owned ! bool (Is bool) (bool-makes 𝓤 H A W) x-first _ ok·x-first $ fjoin ! $ owned ! u64 (Is u64) (uint-makes 𝓤 H A W w64) n _ ok·n $ fjoin ! $ owned ! PageIndex′.row (Is PageIndex′.row) (PageIndex′.makes 𝓤 H A) x-from _ ok·x-from $ fjoin ! $ owned ! Version′.row (Is Version′.row) (Version′.makes 𝓤 H A) x-v _ ok·x-v $ fjoin ! $ move ! (2 ∷ 0 ∷ []) $ fjoin ! $ move ! (1 ∷ 0 ∷ []) $ fjoin ! $ owned ! Store′.row (Is Store′.row) (Store′.makes 𝓤 H A) s _ ok·s $ fjoin ! $ done !
+      goes : ent 𝓤 (⋆ 𝓤 H A (‵ (flft κ·nodes q·nodes) ∷ ‵ (ShrAt u32 κ·nodes b·nodes o·nodes γ·nodes n·nodes nodes) ∷ ‵ (flft κ·register q·register) ∷ ‵ (ShrAt Record′.row κ·register b·register o·register γ·register n·register register) ∷ [])) (Asked 𝓤 H A mem run .pre (to 𝓤 H A mem run count κ·nodes q·nodes b·nodes o·nodes γ·nodes n·nodes nodes κ·register q·register b·register o·register γ·register n·register register c x-from n x-first))
+      goes = qed W (‵ (flft κ·nodes q·nodes) ∷ ‵ (ShrAt u32 κ·nodes b·nodes o·nodes γ·nodes n·nodes nodes) ∷ ‵ (flft κ·register q·register) ∷ ‵ (ShrAt Record′.row κ·register b·register o·register γ·register n·register register) ∷ []) ∵ says ! need $ nothing ! $ move ! (3 ∷ 0 ∷ []) $ join ! $ move ! (1 ∷ 0 ∷ []) $ join ! $ frame ! $ nothing ! $ owned ! bool (Is bool) (bool-makes 𝓤 H A W) x-first _ ok·x-first $ fjoin ! $ owned ! u64 (Is u64) (uint-makes 𝓤 H A W w64) n _ ok·n $ fjoin ! $ owned ! PageIndex′.row (Is PageIndex′.row) (PageIndex′.makes 𝓤 H A) x-from _ ok·x-from $ fjoin ! $ owned ! u64 (Is u64) (uint-makes 𝓤 H A W w64) c _ ok·c $ fjoin ! $ move ! (2 ∷ 0 ∷ []) $ fjoin ! $ move ! (1 ∷ 0 ∷ []) $ fjoin ! $ owned ! u64 (Is u64) (uint-makes 𝓤 H A W w64) count _ ok·count $ fjoin ! $ done !
 
 module _ {M : Type 1} {𝓤 : URA M} {H : Heap 𝓤} {A : Atoms 𝓤} {K : Type 0} {W : Given 𝓤 H A} {Γ : List (Item 𝓤)} {E : Env 𝓤 H} {C : Calls 𝓤 H} {Λ : Loops 𝓤 H} {Q : Post 𝓤 H} {xs : List Operand} {d : Place} {rest : Body} where
   -- by one instance of the callee's contract, which is what a function that calls itself has
-  pub calls-by : K → (mem : Memory → SProp 𝓤) (run : Routine → Fun 𝓤) → FmC 𝓤 H (W .laws) C → (s : Store) (κ·nodes : Lft) (q·nodes : Share) (b·nodes o·nodes : ℕ) (γ·nodes : GName) (n·nodes : ℕ) (nodes : List ℕ) (κ·register : Lft) (q·register : Share) (b·register o·register : ℕ) (γ·register : GName) (n·register : ℕ) (register : List Record) (x-v : Version) (x-from : PageIndex) (n : ℕ) (x-first : Bool) → ent 𝓤 (Asked 𝓤 H A mem run .pre (to 𝓤 H A mem run s κ·nodes q·nodes b·nodes o·nodes γ·nodes n·nodes nodes κ·register q·register b·register o·register γ·register n·register register x-v x-from n x-first)) (C #callee (Asked 𝓤 H A mem run .args (to 𝓤 H A mem run s κ·nodes q·nodes b·nodes o·nodes γ·nodes n·nodes nodes κ·register q·register b·register o·register γ·register n·register register x-v x-from n x-first)) (Asked 𝓤 H A mem run .post (to 𝓤 H A mem run s κ·nodes q·nodes b·nodes o·nodes γ·nodes n·nodes nodes κ·register q·register b·register o·register γ·register n·register register x-v x-from n x-first))) → Is Store′.row s (Store′.vals s) → Is Version′.row x-v (Version′.vals x-v) → Is PageIndex′.row x-from (PageIndex′.vals x-from) → Is u64 n (uint-vals w64 n) → Is bool x-first (bool-vals x-first) → some-lost″.req s nodes register x-v x-from n x-first →
-      Opds K W (raw (Asked 𝓤 H A mem run .pre (to 𝓤 H A mem run s κ·nodes q·nodes b·nodes o·nodes γ·nodes n·nodes nodes κ·register q·register b·register o·register γ·register n·register register x-v x-from n x-first)) ∷ ‵ (ShrAt u32 κ·nodes b·nodes o·nodes γ·nodes n·nodes nodes) ∷ ‵ (ShrAt Record′.row κ·register b·register o·register γ·register n·register register) ∷ Γ) E xs (Store′.mach s ∷ sliceVal (b·nodes, o·nodes) n·nodes ∷ sliceVal (b·register, o·register) n·register ∷ Version′.mach x-v ∷ PageIndex′.mach x-from ∷ vint w64 n ∷ vbool x-first ∷ [])
-      → (Is bool (some-lost″.res s nodes register x-v x-from n x-first) (bool-vals (some-lost″.res s nodes register x-v x-from n x-first)) → Seq K W (‵ (flft κ·nodes q·nodes) ∷ ‵ (ShrAt u32 κ·nodes b·nodes o·nodes γ·nodes n·nodes nodes) ∷ ‵ (flft κ·register q·register) ∷ ‵ (ShrAt Record′.row κ·register b·register o·register γ·register n·register register) ∷ Γ) (lands C Λ E d (vbool (some-lost″.res s nodes register x-v x-from n x-first)) rest Q))
+  pub calls-by : K → (mem : Memory → SProp 𝓤) (run : Routine → Fun 𝓤) → FmC 𝓤 H (W .laws) C → (count : ℕ) (κ·nodes : Lft) (q·nodes : Share) (b·nodes o·nodes : ℕ) (γ·nodes : GName) (n·nodes : ℕ) (nodes : List ℕ) (κ·register : Lft) (q·register : Share) (b·register o·register : ℕ) (γ·register : GName) (n·register : ℕ) (register : List Record) (c : ℕ) (x-from : PageIndex) (n : ℕ) (x-first : Bool) → ent 𝓤 (Asked 𝓤 H A mem run .pre (to 𝓤 H A mem run count κ·nodes q·nodes b·nodes o·nodes γ·nodes n·nodes nodes κ·register q·register b·register o·register γ·register n·register register c x-from n x-first)) (C #callee (Asked 𝓤 H A mem run .args (to 𝓤 H A mem run count κ·nodes q·nodes b·nodes o·nodes γ·nodes n·nodes nodes κ·register q·register b·register o·register γ·register n·register register c x-from n x-first)) (Asked 𝓤 H A mem run .post (to 𝓤 H A mem run count κ·nodes q·nodes b·nodes o·nodes γ·nodes n·nodes nodes κ·register q·register b·register o·register γ·register n·register register c x-from n x-first))) → Is u64 count (uint-vals w64 count) → Is u64 c (uint-vals w64 c) → Is PageIndex′.row x-from (PageIndex′.vals x-from) → Is u64 n (uint-vals w64 n) → Is bool x-first (bool-vals x-first) → some-lost″.req count nodes register c x-from n x-first →
+      Opds K W (raw (Asked 𝓤 H A mem run .pre (to 𝓤 H A mem run count κ·nodes q·nodes b·nodes o·nodes γ·nodes n·nodes nodes κ·register q·register b·register o·register γ·register n·register register c x-from n x-first)) ∷ ‵ (ShrAt u32 κ·nodes b·nodes o·nodes γ·nodes n·nodes nodes) ∷ ‵ (ShrAt Record′.row κ·register b·register o·register γ·register n·register register) ∷ Γ) E xs (vint w64 count ∷ sliceVal (b·nodes, o·nodes) n·nodes ∷ sliceVal (b·register, o·register) n·register ∷ vint w64 c ∷ PageIndex′.mach x-from ∷ vint w64 n ∷ vbool x-first ∷ [])
+      → (Is bool (some-lost″.res count nodes register c x-from n x-first) (bool-vals (some-lost″.res count nodes register c x-from n x-first)) → Seq K W (‵ (flft κ·nodes q·nodes) ∷ ‵ (ShrAt u32 κ·nodes b·nodes o·nodes γ·nodes n·nodes nodes) ∷ ‵ (flft κ·register q·register) ∷ ‵ (ShrAt Record′.row κ·register b·register o·register γ·register n·register register) ∷ Γ) (lands C Λ E d (vbool (some-lost″.res count nodes register c x-from n x-first)) rest Q))
       → Seq K W (‵ (flft κ·nodes q·nodes) ∷ ‵ (ShrAt u32 κ·nodes b·nodes o·nodes γ·nodes n·nodes nodes) ∷ ‵ (flft κ·register q·register) ∷ ‵ (ShrAt Record′.row κ·register b·register o·register γ·register n·register register) ∷ Γ) (runs C Λ E (seq (call #callee xs d) rest) Q)
-  calls-by t mem run fm s κ·nodes q·nodes b·nodes o·nodes γ·nodes n·nodes nodes κ·register q·register b·register o·register γ·register n·register register x-v x-from n x-first known ok·s ok·x-v ok·x-from ok·n ok·x-first need os k =
-      core t mem run s κ·nodes q·nodes b·nodes o·nodes γ·nodes n·nodes nodes κ·register q·register b·register o·register γ·register n·register register x-v x-from n x-first (runs C Λ E (seq (call #callee xs d) rest) Q) (λ v. lands C Λ E d v rest Q) (λ v. tt)
-      (λ h. calls-from t fm (raw (Asked 𝓤 H A mem run .pre (to 𝓤 H A mem run s κ·nodes q·nodes b·nodes o·nodes γ·nodes n·nodes nodes κ·register q·register b·register o·register γ·register n·register register x-v x-from n x-first))) (Asked 𝓤 H A mem run .args (to 𝓤 H A mem run s κ·nodes q·nodes b·nodes o·nodes γ·nodes n·nodes nodes κ·register q·register b·register o·register γ·register n·register register x-v x-from n x-first)) (Asked 𝓤 H A mem run .post (to 𝓤 H A mem run s κ·nodes q·nodes b·nodes o·nodes γ·nodes n·nodes nodes κ·register q·register b·register o·register γ·register n·register register x-v x-from n x-first)) known os h) ok·s ok·x-v ok·x-from ok·n ok·x-first need k
+  calls-by t mem run fm count κ·nodes q·nodes b·nodes o·nodes γ·nodes n·nodes nodes κ·register q·register b·register o·register γ·register n·register register c x-from n x-first known ok·count ok·c ok·x-from ok·n ok·x-first need os k =
+      core t mem run count κ·nodes q·nodes b·nodes o·nodes γ·nodes n·nodes nodes κ·register q·register b·register o·register γ·register n·register register c x-from n x-first (runs C Λ E (seq (call #callee xs d) rest) Q) (λ v. lands C Λ E d v rest Q) (λ v. tt)
+      (λ h. calls-from t fm (raw (Asked 𝓤 H A mem run .pre (to 𝓤 H A mem run count κ·nodes q·nodes b·nodes o·nodes γ·nodes n·nodes nodes κ·register q·register b·register o·register γ·register n·register register c x-from n x-first))) (Asked 𝓤 H A mem run .args (to 𝓤 H A mem run count κ·nodes q·nodes b·nodes o·nodes γ·nodes n·nodes nodes κ·register q·register b·register o·register γ·register n·register register c x-from n x-first)) (Asked 𝓤 H A mem run .post (to 𝓤 H A mem run count κ·nodes q·nodes b·nodes o·nodes γ·nodes n·nodes nodes κ·register q·register b·register o·register γ·register n·register register c x-from n x-first)) known os h) ok·count ok·c ok·x-from ok·n ok·x-first need k
 
-  pub calls : K → (mem : Memory → SProp 𝓤) (run : Routine → Fun 𝓤) → FmC 𝓤 H (W .laws) C → Triple 𝓤 (C #callee) (Asked 𝓤 H A mem run) → (s : Store) (κ·nodes : Lft) (q·nodes : Share) (b·nodes o·nodes : ℕ) (γ·nodes : GName) (n·nodes : ℕ) (nodes : List ℕ) (κ·register : Lft) (q·register : Share) (b·register o·register : ℕ) (γ·register : GName) (n·register : ℕ) (register : List Record) (x-v : Version) (x-from : PageIndex) (n : ℕ) (x-first : Bool) → Is Store′.row s (Store′.vals s) → Is Version′.row x-v (Version′.vals x-v) → Is PageIndex′.row x-from (PageIndex′.vals x-from) → Is u64 n (uint-vals w64 n) → Is bool x-first (bool-vals x-first) → some-lost″.req s nodes register x-v x-from n x-first →
-      Opds K W (raw (Asked 𝓤 H A mem run .pre (to 𝓤 H A mem run s κ·nodes q·nodes b·nodes o·nodes γ·nodes n·nodes nodes κ·register q·register b·register o·register γ·register n·register register x-v x-from n x-first)) ∷ ‵ (ShrAt u32 κ·nodes b·nodes o·nodes γ·nodes n·nodes nodes) ∷ ‵ (ShrAt Record′.row κ·register b·register o·register γ·register n·register register) ∷ Γ) E xs (Store′.mach s ∷ sliceVal (b·nodes, o·nodes) n·nodes ∷ sliceVal (b·register, o·register) n·register ∷ Version′.mach x-v ∷ PageIndex′.mach x-from ∷ vint w64 n ∷ vbool x-first ∷ [])
-      → (Is bool (some-lost″.res s nodes register x-v x-from n x-first) (bool-vals (some-lost″.res s nodes register x-v x-from n x-first)) → Seq K W (‵ (flft κ·nodes q·nodes) ∷ ‵ (ShrAt u32 κ·nodes b·nodes o·nodes γ·nodes n·nodes nodes) ∷ ‵ (flft κ·register q·register) ∷ ‵ (ShrAt Record′.row κ·register b·register o·register γ·register n·register register) ∷ Γ) (lands C Λ E d (vbool (some-lost″.res s nodes register x-v x-from n x-first)) rest Q))
+  pub calls : K → (mem : Memory → SProp 𝓤) (run : Routine → Fun 𝓤) → FmC 𝓤 H (W .laws) C → Triple 𝓤 (C #callee) (Asked 𝓤 H A mem run) → (count : ℕ) (κ·nodes : Lft) (q·nodes : Share) (b·nodes o·nodes : ℕ) (γ·nodes : GName) (n·nodes : ℕ) (nodes : List ℕ) (κ·register : Lft) (q·register : Share) (b·register o·register : ℕ) (γ·register : GName) (n·register : ℕ) (register : List Record) (c : ℕ) (x-from : PageIndex) (n : ℕ) (x-first : Bool) → Is u64 count (uint-vals w64 count) → Is u64 c (uint-vals w64 c) → Is PageIndex′.row x-from (PageIndex′.vals x-from) → Is u64 n (uint-vals w64 n) → Is bool x-first (bool-vals x-first) → some-lost″.req count nodes register c x-from n x-first →
+      Opds K W (raw (Asked 𝓤 H A mem run .pre (to 𝓤 H A mem run count κ·nodes q·nodes b·nodes o·nodes γ·nodes n·nodes nodes κ·register q·register b·register o·register γ·register n·register register c x-from n x-first)) ∷ ‵ (ShrAt u32 κ·nodes b·nodes o·nodes γ·nodes n·nodes nodes) ∷ ‵ (ShrAt Record′.row κ·register b·register o·register γ·register n·register register) ∷ Γ) E xs (vint w64 count ∷ sliceVal (b·nodes, o·nodes) n·nodes ∷ sliceVal (b·register, o·register) n·register ∷ vint w64 c ∷ PageIndex′.mach x-from ∷ vint w64 n ∷ vbool x-first ∷ [])
+      → (Is bool (some-lost″.res count nodes register c x-from n x-first) (bool-vals (some-lost″.res count nodes register c x-from n x-first)) → Seq K W (‵ (flft κ·nodes q·nodes) ∷ ‵ (ShrAt u32 κ·nodes b·nodes o·nodes γ·nodes n·nodes nodes) ∷ ‵ (flft κ·register q·register) ∷ ‵ (ShrAt Record′.row κ·register b·register o·register γ·register n·register register) ∷ Γ) (lands C Λ E d (vbool (some-lost″.res count nodes register c x-from n x-first)) rest Q))
       → Seq K W (‵ (flft κ·nodes q·nodes) ∷ ‵ (ShrAt u32 κ·nodes b·nodes o·nodes γ·nodes n·nodes nodes) ∷ ‵ (flft κ·register q·register) ∷ ‵ (ShrAt Record′.row κ·register b·register o·register γ·register n·register register) ∷ Γ) (runs C Λ E (seq (call #callee xs d) rest) Q)
-  calls t mem run fm known s κ·nodes q·nodes b·nodes o·nodes γ·nodes n·nodes nodes κ·register q·register b·register o·register γ·register n·register register x-v x-from n x-first = calls-by t mem run fm s κ·nodes q·nodes b·nodes o·nodes γ·nodes n·nodes nodes κ·register q·register b·register o·register γ·register n·register register x-v x-from n x-first (known (to 𝓤 H A mem run s κ·nodes q·nodes b·nodes o·nodes γ·nodes n·nodes nodes κ·register q·register b·register o·register γ·register n·register register x-v x-from n x-first))
+  calls t mem run fm known count κ·nodes q·nodes b·nodes o·nodes γ·nodes n·nodes nodes κ·register q·register b·register o·register γ·register n·register register c x-from n x-first = calls-by t mem run fm count κ·nodes q·nodes b·nodes o·nodes γ·nodes n·nodes nodes κ·register q·register b·register o·register γ·register n·register register c x-from n x-first (known (to 𝓤 H A mem run count κ·nodes q·nodes b·nodes o·nodes γ·nodes n·nodes nodes κ·register q·register b·register o·register γ·register n·register register c x-from n x-first))
 
 module _ {M : Type 1} {𝓤 : URA M} {H : Heap 𝓤} {A : Atoms 𝓤} {K : Type 0} {W : Given 𝓤 H A} {Γ : List (Item 𝓤)} {E : Env 𝓤 H} {C : Calls 𝓤 H} {Λ : Loops 𝓤 H} {Q : Post 𝓤 H} {xs : List Operand} {d : Place} where
   -- by one instance of the callee's contract, which is what a function that calls itself has. The call ends a part of the code
-  pub calls-last-by : K → (mem : Memory → SProp 𝓤) (run : Routine → Fun 𝓤) → FmC 𝓤 H (W .laws) C → (s : Store) (κ·nodes : Lft) (q·nodes : Share) (b·nodes o·nodes : ℕ) (γ·nodes : GName) (n·nodes : ℕ) (nodes : List ℕ) (κ·register : Lft) (q·register : Share) (b·register o·register : ℕ) (γ·register : GName) (n·register : ℕ) (register : List Record) (x-v : Version) (x-from : PageIndex) (n : ℕ) (x-first : Bool) → ent 𝓤 (Asked 𝓤 H A mem run .pre (to 𝓤 H A mem run s κ·nodes q·nodes b·nodes o·nodes γ·nodes n·nodes nodes κ·register q·register b·register o·register γ·register n·register register x-v x-from n x-first)) (C #callee (Asked 𝓤 H A mem run .args (to 𝓤 H A mem run s κ·nodes q·nodes b·nodes o·nodes γ·nodes n·nodes nodes κ·register q·register b·register o·register γ·register n·register register x-v x-from n x-first)) (Asked 𝓤 H A mem run .post (to 𝓤 H A mem run s κ·nodes q·nodes b·nodes o·nodes γ·nodes n·nodes nodes κ·register q·register b·register o·register γ·register n·register register x-v x-from n x-first))) → Is Store′.row s (Store′.vals s) → Is Version′.row x-v (Version′.vals x-v) → Is PageIndex′.row x-from (PageIndex′.vals x-from) → Is u64 n (uint-vals w64 n) → Is bool x-first (bool-vals x-first) → some-lost″.req s nodes register x-v x-from n x-first →
-      Opds K W (raw (Asked 𝓤 H A mem run .pre (to 𝓤 H A mem run s κ·nodes q·nodes b·nodes o·nodes γ·nodes n·nodes nodes κ·register q·register b·register o·register γ·register n·register register x-v x-from n x-first)) ∷ ‵ (ShrAt u32 κ·nodes b·nodes o·nodes γ·nodes n·nodes nodes) ∷ ‵ (ShrAt Record′.row κ·register b·register o·register γ·register n·register register) ∷ Γ) E xs (Store′.mach s ∷ sliceVal (b·nodes, o·nodes) n·nodes ∷ sliceVal (b·register, o·register) n·register ∷ Version′.mach x-v ∷ PageIndex′.mach x-from ∷ vint w64 n ∷ vbool x-first ∷ [])
-      → (Is bool (some-lost″.res s nodes register x-v x-from n x-first) (bool-vals (some-lost″.res s nodes register x-v x-from n x-first)) → Seq K W (‵ (flft κ·nodes q·nodes) ∷ ‵ (ShrAt u32 κ·nodes b·nodes o·nodes γ·nodes n·nodes nodes) ∷ ‵ (flft κ·register q·register) ∷ ‵ (ShrAt Record′.row κ·register b·register o·register γ·register n·register register) ∷ Γ) (settles E d (vbool (some-lost″.res s nodes register x-v x-from n x-first)) Q))
+  pub calls-last-by : K → (mem : Memory → SProp 𝓤) (run : Routine → Fun 𝓤) → FmC 𝓤 H (W .laws) C → (count : ℕ) (κ·nodes : Lft) (q·nodes : Share) (b·nodes o·nodes : ℕ) (γ·nodes : GName) (n·nodes : ℕ) (nodes : List ℕ) (κ·register : Lft) (q·register : Share) (b·register o·register : ℕ) (γ·register : GName) (n·register : ℕ) (register : List Record) (c : ℕ) (x-from : PageIndex) (n : ℕ) (x-first : Bool) → ent 𝓤 (Asked 𝓤 H A mem run .pre (to 𝓤 H A mem run count κ·nodes q·nodes b·nodes o·nodes γ·nodes n·nodes nodes κ·register q·register b·register o·register γ·register n·register register c x-from n x-first)) (C #callee (Asked 𝓤 H A mem run .args (to 𝓤 H A mem run count κ·nodes q·nodes b·nodes o·nodes γ·nodes n·nodes nodes κ·register q·register b·register o·register γ·register n·register register c x-from n x-first)) (Asked 𝓤 H A mem run .post (to 𝓤 H A mem run count κ·nodes q·nodes b·nodes o·nodes γ·nodes n·nodes nodes κ·register q·register b·register o·register γ·register n·register register c x-from n x-first))) → Is u64 count (uint-vals w64 count) → Is u64 c (uint-vals w64 c) → Is PageIndex′.row x-from (PageIndex′.vals x-from) → Is u64 n (uint-vals w64 n) → Is bool x-first (bool-vals x-first) → some-lost″.req count nodes register c x-from n x-first →
+      Opds K W (raw (Asked 𝓤 H A mem run .pre (to 𝓤 H A mem run count κ·nodes q·nodes b·nodes o·nodes γ·nodes n·nodes nodes κ·register q·register b·register o·register γ·register n·register register c x-from n x-first)) ∷ ‵ (ShrAt u32 κ·nodes b·nodes o·nodes γ·nodes n·nodes nodes) ∷ ‵ (ShrAt Record′.row κ·register b·register o·register γ·register n·register register) ∷ Γ) E xs (vint w64 count ∷ sliceVal (b·nodes, o·nodes) n·nodes ∷ sliceVal (b·register, o·register) n·register ∷ vint w64 c ∷ PageIndex′.mach x-from ∷ vint w64 n ∷ vbool x-first ∷ [])
+      → (Is bool (some-lost″.res count nodes register c x-from n x-first) (bool-vals (some-lost″.res count nodes register c x-from n x-first)) → Seq K W (‵ (flft κ·nodes q·nodes) ∷ ‵ (ShrAt u32 κ·nodes b·nodes o·nodes γ·nodes n·nodes nodes) ∷ ‵ (flft κ·register q·register) ∷ ‵ (ShrAt Record′.row κ·register b·register o·register γ·register n·register register) ∷ Γ) (settles E d (vbool (some-lost″.res count nodes register c x-from n x-first)) Q))
       → Seq K W (‵ (flft κ·nodes q·nodes) ∷ ‵ (ShrAt u32 κ·nodes b·nodes o·nodes γ·nodes n·nodes nodes) ∷ ‵ (flft κ·register q·register) ∷ ‵ (ShrAt Record′.row κ·register b·register o·register γ·register n·register register) ∷ Γ) (runs C Λ E (call #callee xs d) Q)
-  calls-last-by t mem run fm s κ·nodes q·nodes b·nodes o·nodes γ·nodes n·nodes nodes κ·register q·register b·register o·register γ·register n·register register x-v x-from n x-first known ok·s ok·x-v ok·x-from ok·n ok·x-first need os k =
-      core t mem run s κ·nodes q·nodes b·nodes o·nodes γ·nodes n·nodes nodes κ·register q·register b·register o·register γ·register n·register register x-v x-from n x-first (runs C Λ E (call #callee xs d) Q) (λ v. settles E d v Q) (λ v. tt)
-      (λ h. calls-from-last t fm (raw (Asked 𝓤 H A mem run .pre (to 𝓤 H A mem run s κ·nodes q·nodes b·nodes o·nodes γ·nodes n·nodes nodes κ·register q·register b·register o·register γ·register n·register register x-v x-from n x-first))) (Asked 𝓤 H A mem run .args (to 𝓤 H A mem run s κ·nodes q·nodes b·nodes o·nodes γ·nodes n·nodes nodes κ·register q·register b·register o·register γ·register n·register register x-v x-from n x-first)) (Asked 𝓤 H A mem run .post (to 𝓤 H A mem run s κ·nodes q·nodes b·nodes o·nodes γ·nodes n·nodes nodes κ·register q·register b·register o·register γ·register n·register register x-v x-from n x-first)) known os h) ok·s ok·x-v ok·x-from ok·n ok·x-first need k
+  calls-last-by t mem run fm count κ·nodes q·nodes b·nodes o·nodes γ·nodes n·nodes nodes κ·register q·register b·register o·register γ·register n·register register c x-from n x-first known ok·count ok·c ok·x-from ok·n ok·x-first need os k =
+      core t mem run count κ·nodes q·nodes b·nodes o·nodes γ·nodes n·nodes nodes κ·register q·register b·register o·register γ·register n·register register c x-from n x-first (runs C Λ E (call #callee xs d) Q) (λ v. settles E d v Q) (λ v. tt)
+      (λ h. calls-from-last t fm (raw (Asked 𝓤 H A mem run .pre (to 𝓤 H A mem run count κ·nodes q·nodes b·nodes o·nodes γ·nodes n·nodes nodes κ·register q·register b·register o·register γ·register n·register register c x-from n x-first))) (Asked 𝓤 H A mem run .args (to 𝓤 H A mem run count κ·nodes q·nodes b·nodes o·nodes γ·nodes n·nodes nodes κ·register q·register b·register o·register γ·register n·register register c x-from n x-first)) (Asked 𝓤 H A mem run .post (to 𝓤 H A mem run count κ·nodes q·nodes b·nodes o·nodes γ·nodes n·nodes nodes κ·register q·register b·register o·register γ·register n·register register c x-from n x-first)) known os h) ok·count ok·c ok·x-from ok·n ok·x-first need k
 
-  pub calls-last : K → (mem : Memory → SProp 𝓤) (run : Routine → Fun 𝓤) → FmC 𝓤 H (W .laws) C → Triple 𝓤 (C #callee) (Asked 𝓤 H A mem run) → (s : Store) (κ·nodes : Lft) (q·nodes : Share) (b·nodes o·nodes : ℕ) (γ·nodes : GName) (n·nodes : ℕ) (nodes : List ℕ) (κ·register : Lft) (q·register : Share) (b·register o·register : ℕ) (γ·register : GName) (n·register : ℕ) (register : List Record) (x-v : Version) (x-from : PageIndex) (n : ℕ) (x-first : Bool) → Is Store′.row s (Store′.vals s) → Is Version′.row x-v (Version′.vals x-v) → Is PageIndex′.row x-from (PageIndex′.vals x-from) → Is u64 n (uint-vals w64 n) → Is bool x-first (bool-vals x-first) → some-lost″.req s nodes register x-v x-from n x-first →
-      Opds K W (raw (Asked 𝓤 H A mem run .pre (to 𝓤 H A mem run s κ·nodes q·nodes b·nodes o·nodes γ·nodes n·nodes nodes κ·register q·register b·register o·register γ·register n·register register x-v x-from n x-first)) ∷ ‵ (ShrAt u32 κ·nodes b·nodes o·nodes γ·nodes n·nodes nodes) ∷ ‵ (ShrAt Record′.row κ·register b·register o·register γ·register n·register register) ∷ Γ) E xs (Store′.mach s ∷ sliceVal (b·nodes, o·nodes) n·nodes ∷ sliceVal (b·register, o·register) n·register ∷ Version′.mach x-v ∷ PageIndex′.mach x-from ∷ vint w64 n ∷ vbool x-first ∷ [])
-      → (Is bool (some-lost″.res s nodes register x-v x-from n x-first) (bool-vals (some-lost″.res s nodes register x-v x-from n x-first)) → Seq K W (‵ (flft κ·nodes q·nodes) ∷ ‵ (ShrAt u32 κ·nodes b·nodes o·nodes γ·nodes n·nodes nodes) ∷ ‵ (flft κ·register q·register) ∷ ‵ (ShrAt Record′.row κ·register b·register o·register γ·register n·register register) ∷ Γ) (settles E d (vbool (some-lost″.res s nodes register x-v x-from n x-first)) Q))
+  pub calls-last : K → (mem : Memory → SProp 𝓤) (run : Routine → Fun 𝓤) → FmC 𝓤 H (W .laws) C → Triple 𝓤 (C #callee) (Asked 𝓤 H A mem run) → (count : ℕ) (κ·nodes : Lft) (q·nodes : Share) (b·nodes o·nodes : ℕ) (γ·nodes : GName) (n·nodes : ℕ) (nodes : List ℕ) (κ·register : Lft) (q·register : Share) (b·register o·register : ℕ) (γ·register : GName) (n·register : ℕ) (register : List Record) (c : ℕ) (x-from : PageIndex) (n : ℕ) (x-first : Bool) → Is u64 count (uint-vals w64 count) → Is u64 c (uint-vals w64 c) → Is PageIndex′.row x-from (PageIndex′.vals x-from) → Is u64 n (uint-vals w64 n) → Is bool x-first (bool-vals x-first) → some-lost″.req count nodes register c x-from n x-first →
+      Opds K W (raw (Asked 𝓤 H A mem run .pre (to 𝓤 H A mem run count κ·nodes q·nodes b·nodes o·nodes γ·nodes n·nodes nodes κ·register q·register b·register o·register γ·register n·register register c x-from n x-first)) ∷ ‵ (ShrAt u32 κ·nodes b·nodes o·nodes γ·nodes n·nodes nodes) ∷ ‵ (ShrAt Record′.row κ·register b·register o·register γ·register n·register register) ∷ Γ) E xs (vint w64 count ∷ sliceVal (b·nodes, o·nodes) n·nodes ∷ sliceVal (b·register, o·register) n·register ∷ vint w64 c ∷ PageIndex′.mach x-from ∷ vint w64 n ∷ vbool x-first ∷ [])
+      → (Is bool (some-lost″.res count nodes register c x-from n x-first) (bool-vals (some-lost″.res count nodes register c x-from n x-first)) → Seq K W (‵ (flft κ·nodes q·nodes) ∷ ‵ (ShrAt u32 κ·nodes b·nodes o·nodes γ·nodes n·nodes nodes) ∷ ‵ (flft κ·register q·register) ∷ ‵ (ShrAt Record′.row κ·register b·register o·register γ·register n·register register) ∷ Γ) (settles E d (vbool (some-lost″.res count nodes register c x-from n x-first)) Q))
       → Seq K W (‵ (flft κ·nodes q·nodes) ∷ ‵ (ShrAt u32 κ·nodes b·nodes o·nodes γ·nodes n·nodes nodes) ∷ ‵ (flft κ·register q·register) ∷ ‵ (ShrAt Record′.row κ·register b·register o·register γ·register n·register register) ∷ Γ) (runs C Λ E (call #callee xs d) Q)
-  calls-last t mem run fm known s κ·nodes q·nodes b·nodes o·nodes γ·nodes n·nodes nodes κ·register q·register b·register o·register γ·register n·register register x-v x-from n x-first = calls-last-by t mem run fm s κ·nodes q·nodes b·nodes o·nodes γ·nodes n·nodes nodes κ·register q·register b·register o·register γ·register n·register register x-v x-from n x-first (known (to 𝓤 H A mem run s κ·nodes q·nodes b·nodes o·nodes γ·nodes n·nodes nodes κ·register q·register b·register o·register γ·register n·register register x-v x-from n x-first))
+  calls-last t mem run fm known count κ·nodes q·nodes b·nodes o·nodes γ·nodes n·nodes nodes κ·register q·register b·register o·register γ·register n·register register c x-from n x-first = calls-last-by t mem run fm count κ·nodes q·nodes b·nodes o·nodes γ·nodes n·nodes nodes κ·register q·register b·register o·register γ·register n·register register c x-from n x-first (known (to 𝓤 H A mem run count κ·nodes q·nodes b·nodes o·nodes γ·nodes n·nodes nodes κ·register q·register b·register o·register γ·register n·register register c x-from n x-first))

@@ -8,25 +8,24 @@ use mathlib.Core.Path.{_≡_}
 use lib.Dec.{ltb}
 use lib.ListN.{length, drop}
 use Rattle.table.specs.Table.{unless}
-use Rattle.read.specs.Range.{rangeRefusal, Ranged, orLost, chunkAt, Readable}
+use Rattle.read.specs.Range.{rangeRefusal, rangeNumber, Ranged, orLost, chunkAt, Readable}
 use Rattle.versions.specs.Store.{areasOf}
 use Rattle.walk.specs.FindPage.{findPage, numberWithin, isLost}
 use Rattle.read.specs.Read.{someLost, pagesTouched, bytesFrom, filledBy, readOut, readBuffer}
+use Rattle.lines.specs.declared.Entries.{Entries}
 use Rattle.read.specs.declared.Chunk.{Chunk}
 use Rattle.read.specs.declared.Filled.{Filled}
 use Rattle.read.specs.declared.Range.{Range}
 use Rattle.register.specs.declared.Record.{Record}
 use Rattle.tree.specs.declared.PageIndex.{PageIndex}
 use Rattle.tree.specs.declared.Ticket.{Ticket}
-use Rattle.tree.specs.declared.Version.{Version}
 use Rattle.versions.specs.declared.ByteOffset.{ByteOffset}
-use Rattle.versions.specs.declared.Store.{Store}
 
-abbrev pub req : Store → List ℕ → List ℕ → List Record → Version → ByteOffset → ℕ → ℕ → List ℕ → Type 0
-req s pages nodes register v offset len from buffer = Readable s pages nodes register (v .0) (offset .0) len (length buffer) × (from ≤ len) × (buffer ≡ bytesFrom s (areasOf pages nodes register) (v .0) (offset .0) from ++ drop from buffer)
+abbrev pub req : ℕ → ℕ → List ℕ → List ℕ → List Record → ℕ → ByteOffset → ℕ → ℕ → List ℕ → Type 0
+req size count pages nodes register c offset len from buffer = Readable size count pages nodes register c (offset .0) len (length buffer) × (from ≤ len) × (buffer ≡ bytesFrom size count (areasOf pages nodes register) c (offset .0) from ++ drop from buffer)
 
-abbrev pub ens : Store → List ℕ → List ℕ → List Record → Version → ByteOffset → ℕ → ℕ → List ℕ → List ℕ → Unit {0} → Type 0
-ens s pages nodes register v offset len from buffer buffer′ result = buffer′ ≡ bytesFrom s (areasOf pages nodes register) (v .0) (offset .0) len ++ drop len buffer
+abbrev pub ens : ℕ → ℕ → List ℕ → List ℕ → List Record → ℕ → ByteOffset → ℕ → ℕ → List ℕ → List ℕ → Unit {0} → Type 0
+ens size count pages nodes register c offset len from buffer buffer′ result = buffer′ ≡ bytesFrom size count (areasOf pages nodes register) c (offset .0) len ++ drop len buffer
 
-abbrev pub out-buffer : Store → List ℕ → List ℕ → List Record → Version → ByteOffset → ℕ → ℕ → List ℕ → List ℕ
-out-buffer s pages nodes register v offset len from buffer = bytesFrom s (areasOf pages nodes register) (v .0) (offset .0) len ++ drop len buffer
+abbrev pub out-buffer : ℕ → ℕ → List ℕ → List ℕ → List Record → ℕ → ByteOffset → ℕ → ℕ → List ℕ → List ℕ
+out-buffer size count pages nodes register c offset len from buffer = bytesFrom size count (areasOf pages nodes register) c (offset .0) len ++ drop len buffer

@@ -8,7 +8,7 @@ use mathlib.Core.Path.{_≡_}
 use lib.Dec.{ltb}
 use lib.ListN.{length, drop}
 use Rattle.table.specs.Table.{unless}
-use Rattle.read.specs.Range.{rangeRefusal, Ranged, orLost, chunkAt, Readable}
+use Rattle.read.specs.Range.{rangeRefusal, rangeNumber, Ranged, orLost, chunkAt, Readable}
 use Rattle.versions.specs.Store.{areasOf}
 use Rattle.walk.specs.FindPage.{findPage, numberWithin, isLost}
 use Rattle.read.specs.Read.{someLost, pagesTouched, bytesFrom, filledBy, readOut, readBuffer}

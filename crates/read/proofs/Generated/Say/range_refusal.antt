@@ -8,23 +8,20 @@ use mathlib.Core.Path.{_≡_}
 use lib.Dec.{ltb}
 use lib.ListN.{length, drop}
 use Rattle.table.specs.Table.{unless}
-use Rattle.read.specs.Range.{rangeRefusal, Ranged, orLost, chunkAt, Readable}
+use Rattle.read.specs.Range.{rangeRefusal, rangeNumber, Ranged, orLost, chunkAt, Readable}
 use Rattle.versions.specs.Store.{areasOf}
 use Rattle.walk.specs.FindPage.{findPage, numberWithin, isLost}
 use Rattle.read.specs.Read.{someLost, pagesTouched, bytesFrom, filledBy, readOut, readBuffer}
 use Rattle.read.specs.declared.Chunk.{Chunk}
 use Rattle.read.specs.declared.Filled.{Filled}
 use Rattle.read.specs.declared.Range.{Range}
-use Rattle.register.specs.declared.Record.{Record}
+use Rattle.register.specs.declared.Part.{Part}
 use Rattle.tree.specs.declared.PageIndex.{PageIndex}
-use Rattle.tree.specs.declared.Ticket.{Ticket}
 use Rattle.tree.specs.declared.Version.{Version}
 use Rattle.versions.specs.declared.ByteOffset.{ByteOffset}
-use Rattle.versions.specs.declared.Lengths.{Lengths}
-use Rattle.versions.specs.declared.Store.{Store}
 
-abbrev pub ens : Store → Lengths → Record → Version → Range → ℕ → Type 0
-ens s l q v g k = k ≡ rangeRefusal s l q (v .0) (g .offset .0) (g .len) (g .room)
+abbrev pub ens : ℕ → ℕ → Part → ℕ → Version → Range → ℕ → Type 0
+ens k size q c v g r = r ≡ rangeRefusal k size q c (v .0) (g .offset .0) (g .len) (g .room)
 
-abbrev pub res : Store → Lengths → Record → Version → Range → ℕ
-res s l q v g = rangeRefusal s l q (v .0) (g .offset .0) (g .len) (g .room)
+abbrev pub res : ℕ → ℕ → Part → ℕ → Version → Range → ℕ
+res k size q c v g = rangeRefusal k size q c (v .0) (g .offset .0) (g .len) (g .room)

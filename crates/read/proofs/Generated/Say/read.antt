@@ -8,10 +8,13 @@ use mathlib.Core.Path.{_≡_}
 use lib.Dec.{ltb}
 use lib.ListN.{length, drop}
 use Rattle.table.specs.Table.{unless}
-use Rattle.read.specs.Range.{rangeRefusal, Ranged, orLost, chunkAt, Readable}
+use Rattle.read.specs.Range.{rangeRefusal, rangeNumber, Ranged, orLost, chunkAt, Readable}
 use Rattle.versions.specs.Store.{areasOf}
 use Rattle.walk.specs.FindPage.{findPage, numberWithin, isLost}
 use Rattle.read.specs.Read.{someLost, pagesTouched, bytesFrom, filledBy, readOut, readBuffer}
+use Rattle.lines.specs.declared.Branch.{Branch}
+use Rattle.lines.specs.declared.Entries.{Entries}
+use Rattle.lines.specs.declared.Line.{Line}
 use Rattle.read.specs.declared.Chunk.{Chunk}
 use Rattle.read.specs.declared.Filled.{Filled}
 use Rattle.read.specs.declared.Range.{Range}
@@ -22,11 +25,11 @@ use Rattle.tree.specs.declared.Version.{Version}
 use Rattle.versions.specs.declared.ByteOffset.{ByteOffset}
 use Rattle.versions.specs.declared.Store.{Store}
 
-abbrev pub ens : Store → List ℕ → List ℕ → List Record → Version → ByteOffset → ℕ → List ℕ → List ℕ → Filled → Type 0
-ens s pages nodes register v offset len buffer buffer′ r = (r ≡ readOut s (areasOf pages nodes register) (v .0) (offset .0) len buffer) × (buffer′ ≡ readBuffer s (areasOf pages nodes register) (v .0) (offset .0) len buffer)
+abbrev pub ens : Store → List ℕ → List ℕ → List Record → Line → Version → ByteOffset → ℕ → List ℕ → List ℕ → Filled → Type 0
+ens s pages nodes register l v offset len buffer buffer′ r = (r ≡ readOut s (areasOf pages nodes register) (l .0) (v .0) (offset .0) len buffer) × (buffer′ ≡ readBuffer s (areasOf pages nodes register) (l .0) (v .0) (offset .0) len buffer)
 
-abbrev pub res : Store → List ℕ → List ℕ → List Record → Version → ByteOffset → ℕ → List ℕ → Filled
-res s pages nodes register v offset len buffer = readOut s (areasOf pages nodes register) (v .0) (offset .0) len buffer
+abbrev pub res : Store → List ℕ → List ℕ → List Record → Line → Version → ByteOffset → ℕ → List ℕ → Filled
+res s pages nodes register l v offset len buffer = readOut s (areasOf pages nodes register) (l .0) (v .0) (offset .0) len buffer
 
-abbrev pub out-buffer : Store → List ℕ → List ℕ → List Record → Version → ByteOffset → ℕ → List ℕ → List ℕ
-out-buffer s pages nodes register v offset len buffer = readBuffer s (areasOf pages nodes register) (v .0) (offset .0) len buffer
+abbrev pub out-buffer : Store → List ℕ → List ℕ → List Record → Line → Version → ByteOffset → ℕ → List ℕ → List ℕ
+out-buffer s pages nodes register l v offset len buffer = readBuffer s (areasOf pages nodes register) (l .0) (v .0) (offset .0) len buffer

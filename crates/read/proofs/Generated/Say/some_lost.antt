@@ -8,24 +8,23 @@ use mathlib.Core.Path.{_≡_}
 use lib.Dec.{ltb}
 use lib.ListN.{length, drop}
 use Rattle.table.specs.Table.{unless}
-use Rattle.read.specs.Range.{rangeRefusal, Ranged, orLost, chunkAt, Readable}
+use Rattle.read.specs.Range.{rangeRefusal, rangeNumber, Ranged, orLost, chunkAt, Readable}
 use Rattle.versions.specs.Store.{areasOf}
 use Rattle.walk.specs.FindPage.{findPage, numberWithin, isLost}
 use Rattle.read.specs.Read.{someLost, pagesTouched, bytesFrom, filledBy, readOut, readBuffer}
+use Rattle.lines.specs.declared.Entries.{Entries}
 use Rattle.read.specs.declared.Chunk.{Chunk}
 use Rattle.read.specs.declared.Filled.{Filled}
 use Rattle.read.specs.declared.Range.{Range}
 use Rattle.register.specs.declared.Record.{Record}
 use Rattle.tree.specs.declared.PageIndex.{PageIndex}
 use Rattle.tree.specs.declared.Ticket.{Ticket}
-use Rattle.tree.specs.declared.Version.{Version}
-use Rattle.versions.specs.declared.Store.{Store}
 
-abbrev pub req : Store → List ℕ → List Record → Version → PageIndex → ℕ → Bool → Type 0
-req s nodes register v from n first = (from .0 + n < 2 ^ 64) × (first ≡ isLost (numberWithin (s .pages) (findPage s (areasOf [] nodes register) (v .0) (from .0))))
+abbrev pub req : ℕ → List ℕ → List Record → ℕ → PageIndex → ℕ → Bool → Type 0
+req count nodes register c from n first = (from .0 + n < 2 ^ 64) × (first ≡ isLost (numberWithin count (findPage (areasOf [] nodes register) c (from .0))))
 
-abbrev pub ens : Store → List ℕ → List Record → Version → PageIndex → ℕ → Bool → Bool → Type 0
-ens s nodes register v from n first b = b ≡ someLost s (areasOf [] nodes register) (v .0) (from .0) n
+abbrev pub ens : ℕ → List ℕ → List Record → ℕ → PageIndex → ℕ → Bool → Bool → Type 0
+ens count nodes register c from n first b = b ≡ someLost count (areasOf [] nodes register) c (from .0) n
 
-abbrev pub res : Store → List ℕ → List Record → Version → PageIndex → ℕ → Bool → Bool
-res s nodes register v from n first = someLost s (areasOf [] nodes register) (v .0) (from .0) n
+abbrev pub res : ℕ → List ℕ → List Record → ℕ → PageIndex → ℕ → Bool → Bool
+res count nodes register c from n first = someLost count (areasOf [] nodes register) c (from .0) n

@@ -8,22 +8,22 @@ use mathlib.Core.List.{List, [], _∷_}
 use mathlib.Core.Bool.{Bool, true, false, not}
 use lib.Dec.{ltb, leb, eqb}
 use lib.ListN.{length, getD, set}
-use Rattle.versions.specs.declared.Store.{Store}
-use Rattle.versions.proofs.Generated.Kind.Store as Store′
-use Rattle.tree.specs.declared.Ticket.{Ticket}
-use Rattle.register.proofs.Generated.Kind.Ticket as Ticket′
-use Rattle.tree.specs.declared.Version.{Version}
-use Rattle.register.proofs.Generated.Kind.Version as Version′
 use Rattle.register.specs.declared.Record.{Record}
 use Rattle.register.proofs.Generated.Kind.Record as Record′
+use Rattle.tree.specs.declared.Ticket.{Ticket}
+use Rattle.register.proofs.Generated.Kind.Ticket as Ticket′
 use Rattle.tree.specs.declared.PageIndex.{PageIndex}
 use Rattle.register.proofs.Generated.Kind.PageIndex as PageIndex′
+use Rattle.lines.specs.declared.Entries.{Entries}
+use Rattle.register.proofs.Generated.Kind.Entries as Entries′
 use Rattle.versions.specs.declared.ByteOffset.{ByteOffset}
 use Rattle.read.proofs.Generated.Kind.ByteOffset as ByteOffset′
 use Rattle.read.specs.declared.Chunk.{Chunk}
 use Rattle.read.proofs.Generated.Kind.Chunk as Chunk′
 use Rattle.tree.specs.declared.Found.{Found}
 use Rattle.walk.proofs.Generated.Kind.Found as Found′
+use Rattle.tree.specs.declared.Version.{Version}
+use Rattle.register.proofs.Generated.Kind.Version as Version′
 use Rattle.read.proofs.Generated.Say.copy_range as copy-range″
 use Rattle.read.proofs.Generated.Say.chunk_at as chunk-at″
 use Rattle.walk.proofs.Generated.Say.find_page as find-page″
@@ -31,59 +31,59 @@ use Rattle.walk.proofs.Generated.Say.number_found as number-found″
 use Rattle.read.proofs.Generated.Say.copy_page as copy-page″
 use Rattle.read.proofs.copy_range.Proof.Loop as Loop
 
-abbrev pub r1 : Store → List ℕ → List ℕ → List Record → Version → ByteOffset → ℕ → ℕ → List ℕ → ℕ → List ℕ → Chunk
-r1 s pages nodes register x-v offset len x-from buffer v10 buffer-now = chunk-at″.res (s .size) (ByteOffset′.build ((offset .0) + v10)) (len - v10)
+abbrev pub r1 : ℕ → ℕ → List ℕ → List ℕ → List Record → ℕ → ByteOffset → ℕ → ℕ → List ℕ → ℕ → List ℕ → Chunk
+r1 size count pages nodes register c offset len x-from buffer v11 buffer-now = chunk-at″.res size (ByteOffset′.build ((offset .0) + v11)) (len - v11)
 
-abbrev pub r2 : Store → List ℕ → List ℕ → List Record → Version → ByteOffset → ℕ → ℕ → List ℕ → ℕ → List ℕ → Found
-r2 s pages nodes register x-v offset len x-from buffer v10 buffer-now = find-page″.res s nodes register x-v ((r1 s pages nodes register x-v offset len x-from buffer v10 buffer-now) .page)
+abbrev pub r2 : ℕ → ℕ → List ℕ → List ℕ → List Record → ℕ → ByteOffset → ℕ → ℕ → List ℕ → ℕ → List ℕ → Found
+r2 size count pages nodes register c offset len x-from buffer v11 buffer-now = find-page″.res nodes register c ((r1 size count pages nodes register c offset len x-from buffer v11 buffer-now) .page)
 
-abbrev pub r3 : Store → List ℕ → List ℕ → List Record → Version → ByteOffset → ℕ → ℕ → List ℕ → ℕ → List ℕ → ℕ
-r3 s pages nodes register x-v offset len x-from buffer v10 buffer-now = number-found″.res (s .pages) (r2 s pages nodes register x-v offset len x-from buffer v10 buffer-now)
+abbrev pub r3 : ℕ → ℕ → List ℕ → List ℕ → List Record → ℕ → ByteOffset → ℕ → ℕ → List ℕ → ℕ → List ℕ → ℕ
+r3 size count pages nodes register c offset len x-from buffer v11 buffer-now = number-found″.res count (r2 size count pages nodes register c offset len x-from buffer v11 buffer-now)
 
-abbrev pub r4 : Store → List ℕ → List ℕ → List Record → Version → ByteOffset → ℕ → ℕ → List ℕ → ℕ → List ℕ → Bool
-r4 s pages nodes register x-v offset len x-from buffer v10 buffer-now = copy-page″.res pages (s .size) (r3 s pages nodes register x-v offset len x-from buffer v10 buffer-now) ((r1 s pages nodes register x-v offset len x-from buffer v10 buffer-now) .from) ((r1 s pages nodes register x-v offset len x-from buffer v10 buffer-now) .count) buffer-now v10
+abbrev pub r4 : ℕ → ℕ → List ℕ → List ℕ → List Record → ℕ → ByteOffset → ℕ → ℕ → List ℕ → ℕ → List ℕ → Bool
+r4 size count pages nodes register c offset len x-from buffer v11 buffer-now = copy-page″.res pages size (r3 size count pages nodes register c offset len x-from buffer v11 buffer-now) ((r1 size count pages nodes register c offset len x-from buffer v11 buffer-now) .from) ((r1 size count pages nodes register c offset len x-from buffer v11 buffer-now) .count) buffer-now v11
 
-abbrev pub buffer₄ : Store → List ℕ → List ℕ → List Record → Version → ByteOffset → ℕ → ℕ → List ℕ → ℕ → List ℕ → List ℕ
-buffer₄ s pages nodes register x-v offset len x-from buffer v10 buffer-now = copy-page″.out-buf pages (s .size) (r3 s pages nodes register x-v offset len x-from buffer v10 buffer-now) ((r1 s pages nodes register x-v offset len x-from buffer v10 buffer-now) .from) ((r1 s pages nodes register x-v offset len x-from buffer v10 buffer-now) .count) buffer-now v10
+abbrev pub buffer₄ : ℕ → ℕ → List ℕ → List ℕ → List Record → ℕ → ByteOffset → ℕ → ℕ → List ℕ → ℕ → List ℕ → List ℕ
+buffer₄ size count pages nodes register c offset len x-from buffer v11 buffer-now = copy-page″.out-buf pages size (r3 size count pages nodes register c offset len x-from buffer v11 buffer-now) ((r1 size count pages nodes register c offset len x-from buffer v11 buffer-now) .from) ((r1 size count pages nodes register c offset len x-from buffer v11 buffer-now) .count) buffer-now v11
 
 -- the sum does not wrap
 abbrev pub add-1 : Type 0
 add-1 =
-    (s : Store) (pages : List ℕ) (nodes : List ℕ) (register : List Record) (x-v : Version) (offset : ByteOffset) (len : ℕ) (x-from : ℕ) (buffer : List ℕ) (ok-s : Store′.Ok s) (len-pages : length pages < 2 ^ 64) (len-nodes : length nodes < 2 ^ 64) (len-register : length register < 2 ^ 64) (ok-x-v : Version′.Ok x-v) (ok-offset : ByteOffset′.Ok offset) (fits-len : len < 2 ^ 64) (fits-x-from : x-from < 2 ^ 64) (len-buffer : length buffer < 2 ^ 64) (need : copy-range″.req s pages nodes register x-v offset len x-from buffer) (v10 : ℕ) (buffer-now : List ℕ) (fits-v10 : v10 < 2 ^ 64) (same-buffer-now : length buffer ≡ length buffer-now) (inv1 : Loop.inv-1 s pages nodes register x-v offset len x-from buffer v10 buffer-now) (c1 : ltb v10 len ≡ true) (n1 : v10 < len)
-    → (offset .0) + v10 < 2 ^ 64
+    (size : ℕ) (count : ℕ) (pages : List ℕ) (nodes : List ℕ) (register : List Record) (c : ℕ) (offset : ByteOffset) (len : ℕ) (x-from : ℕ) (buffer : List ℕ) (fits-size : size < 2 ^ 64) (fits-count : count < 2 ^ 64) (len-pages : length pages < 2 ^ 64) (len-nodes : length nodes < 2 ^ 64) (len-register : length register < 2 ^ 64) (fits-c : c < 2 ^ 64) (ok-offset : ByteOffset′.Ok offset) (fits-len : len < 2 ^ 64) (fits-x-from : x-from < 2 ^ 64) (len-buffer : length buffer < 2 ^ 64) (need : copy-range″.req size count pages nodes register c offset len x-from buffer) (v11 : ℕ) (buffer-now : List ℕ) (fits-v11 : v11 < 2 ^ 64) (same-buffer-now : length buffer ≡ length buffer-now) (inv1 : Loop.inv-1 size count pages nodes register c offset len x-from buffer v11 buffer-now) (c1 : ltb v11 len ≡ true) (n1 : v11 < len)
+    → (offset .0) + v11 < 2 ^ 64
 
 -- a difference does not fall below 0
 abbrev pub sub-1 : Type 0
 sub-1 =
-    (s : Store) (pages : List ℕ) (nodes : List ℕ) (register : List Record) (x-v : Version) (offset : ByteOffset) (len : ℕ) (x-from : ℕ) (buffer : List ℕ) (ok-s : Store′.Ok s) (len-pages : length pages < 2 ^ 64) (len-nodes : length nodes < 2 ^ 64) (len-register : length register < 2 ^ 64) (ok-x-v : Version′.Ok x-v) (ok-offset : ByteOffset′.Ok offset) (fits-len : len < 2 ^ 64) (fits-x-from : x-from < 2 ^ 64) (len-buffer : length buffer < 2 ^ 64) (need : copy-range″.req s pages nodes register x-v offset len x-from buffer) (v10 : ℕ) (buffer-now : List ℕ) (fits-v10 : v10 < 2 ^ 64) (same-buffer-now : length buffer ≡ length buffer-now) (inv1 : Loop.inv-1 s pages nodes register x-v offset len x-from buffer v10 buffer-now) (c1 : ltb v10 len ≡ true) (n1 : v10 < len)
-    → v10 ≤ len
+    (size : ℕ) (count : ℕ) (pages : List ℕ) (nodes : List ℕ) (register : List Record) (c : ℕ) (offset : ByteOffset) (len : ℕ) (x-from : ℕ) (buffer : List ℕ) (fits-size : size < 2 ^ 64) (fits-count : count < 2 ^ 64) (len-pages : length pages < 2 ^ 64) (len-nodes : length nodes < 2 ^ 64) (len-register : length register < 2 ^ 64) (fits-c : c < 2 ^ 64) (ok-offset : ByteOffset′.Ok offset) (fits-len : len < 2 ^ 64) (fits-x-from : x-from < 2 ^ 64) (len-buffer : length buffer < 2 ^ 64) (need : copy-range″.req size count pages nodes register c offset len x-from buffer) (v11 : ℕ) (buffer-now : List ℕ) (fits-v11 : v11 < 2 ^ 64) (same-buffer-now : length buffer ≡ length buffer-now) (inv1 : Loop.inv-1 size count pages nodes register c offset len x-from buffer v11 buffer-now) (c1 : ltb v11 len ≡ true) (n1 : v11 < len)
+    → v11 ≤ len
 
 -- the sum does not wrap
 abbrev pub add-2 : Type 0
 add-2 =
-    (s : Store) (pages : List ℕ) (nodes : List ℕ) (register : List Record) (x-v : Version) (offset : ByteOffset) (len : ℕ) (x-from : ℕ) (buffer : List ℕ) (ok-s : Store′.Ok s) (len-pages : length pages < 2 ^ 64) (len-nodes : length nodes < 2 ^ 64) (len-register : length register < 2 ^ 64) (ok-x-v : Version′.Ok x-v) (ok-offset : ByteOffset′.Ok offset) (fits-len : len < 2 ^ 64) (fits-x-from : x-from < 2 ^ 64) (len-buffer : length buffer < 2 ^ 64) (need : copy-range″.req s pages nodes register x-v offset len x-from buffer) (v10 : ℕ) (buffer-now : List ℕ) (fits-v10 : v10 < 2 ^ 64) (same-buffer-now : length buffer ≡ length buffer-now) (inv1 : Loop.inv-1 s pages nodes register x-v offset len x-from buffer v10 buffer-now) (c1 : ltb v10 len ≡ true) (n1 : v10 < len) (ok-r1 : Chunk′.Ok (r1 s pages nodes register x-v offset len x-from buffer v10 buffer-now)) (ok-r2 : Found′.Ok (r2 s pages nodes register x-v offset len x-from buffer v10 buffer-now)) (fits-r3 : (r3 s pages nodes register x-v offset len x-from buffer v10 buffer-now) < 2 ^ 64) (same4-buffer : length (buffer₄ s pages nodes register x-v offset len x-from buffer v10 buffer-now) ≡ length buffer-now)
-    → v10 + ((r1 s pages nodes register x-v offset len x-from buffer v10 buffer-now) .count) < 2 ^ 64
+    (size : ℕ) (count : ℕ) (pages : List ℕ) (nodes : List ℕ) (register : List Record) (c : ℕ) (offset : ByteOffset) (len : ℕ) (x-from : ℕ) (buffer : List ℕ) (fits-size : size < 2 ^ 64) (fits-count : count < 2 ^ 64) (len-pages : length pages < 2 ^ 64) (len-nodes : length nodes < 2 ^ 64) (len-register : length register < 2 ^ 64) (fits-c : c < 2 ^ 64) (ok-offset : ByteOffset′.Ok offset) (fits-len : len < 2 ^ 64) (fits-x-from : x-from < 2 ^ 64) (len-buffer : length buffer < 2 ^ 64) (need : copy-range″.req size count pages nodes register c offset len x-from buffer) (v11 : ℕ) (buffer-now : List ℕ) (fits-v11 : v11 < 2 ^ 64) (same-buffer-now : length buffer ≡ length buffer-now) (inv1 : Loop.inv-1 size count pages nodes register c offset len x-from buffer v11 buffer-now) (c1 : ltb v11 len ≡ true) (n1 : v11 < len) (ok-r1 : Chunk′.Ok (r1 size count pages nodes register c offset len x-from buffer v11 buffer-now)) (ok-r2 : Found′.Ok (r2 size count pages nodes register c offset len x-from buffer v11 buffer-now)) (fits-r3 : (r3 size count pages nodes register c offset len x-from buffer v11 buffer-now) < 2 ^ 64) (same4-buffer : length (buffer₄ size count pages nodes register c offset len x-from buffer v11 buffer-now) ≡ length buffer-now)
+    → v11 + ((r1 size count pages nodes register c offset len x-from buffer v11 buffer-now) .count) < 2 ^ 64
 
 -- the invariant holds after a turn
 abbrev pub again-1 : Type 0
 again-1 =
-    (s : Store) (pages : List ℕ) (nodes : List ℕ) (register : List Record) (x-v : Version) (offset : ByteOffset) (len : ℕ) (x-from : ℕ) (buffer : List ℕ) (ok-s : Store′.Ok s) (len-pages : length pages < 2 ^ 64) (len-nodes : length nodes < 2 ^ 64) (len-register : length register < 2 ^ 64) (ok-x-v : Version′.Ok x-v) (ok-offset : ByteOffset′.Ok offset) (fits-len : len < 2 ^ 64) (fits-x-from : x-from < 2 ^ 64) (len-buffer : length buffer < 2 ^ 64) (need : copy-range″.req s pages nodes register x-v offset len x-from buffer) (v10 : ℕ) (buffer-now : List ℕ) (fits-v10 : v10 < 2 ^ 64) (same-buffer-now : length buffer ≡ length buffer-now) (inv1 : Loop.inv-1 s pages nodes register x-v offset len x-from buffer v10 buffer-now) (c1 : ltb v10 len ≡ true) (n1 : v10 < len) (ok-r1 : Chunk′.Ok (r1 s pages nodes register x-v offset len x-from buffer v10 buffer-now)) (ok-r2 : Found′.Ok (r2 s pages nodes register x-v offset len x-from buffer v10 buffer-now)) (fits-r3 : (r3 s pages nodes register x-v offset len x-from buffer v10 buffer-now) < 2 ^ 64) (same4-buffer : length (buffer₄ s pages nodes register x-v offset len x-from buffer v10 buffer-now) ≡ length buffer-now)
-    → Loop.inv-1 s pages nodes register x-v offset len x-from buffer (v10 + ((r1 s pages nodes register x-v offset len x-from buffer v10 buffer-now) .count)) (buffer₄ s pages nodes register x-v offset len x-from buffer v10 buffer-now)
+    (size : ℕ) (count : ℕ) (pages : List ℕ) (nodes : List ℕ) (register : List Record) (c : ℕ) (offset : ByteOffset) (len : ℕ) (x-from : ℕ) (buffer : List ℕ) (fits-size : size < 2 ^ 64) (fits-count : count < 2 ^ 64) (len-pages : length pages < 2 ^ 64) (len-nodes : length nodes < 2 ^ 64) (len-register : length register < 2 ^ 64) (fits-c : c < 2 ^ 64) (ok-offset : ByteOffset′.Ok offset) (fits-len : len < 2 ^ 64) (fits-x-from : x-from < 2 ^ 64) (len-buffer : length buffer < 2 ^ 64) (need : copy-range″.req size count pages nodes register c offset len x-from buffer) (v11 : ℕ) (buffer-now : List ℕ) (fits-v11 : v11 < 2 ^ 64) (same-buffer-now : length buffer ≡ length buffer-now) (inv1 : Loop.inv-1 size count pages nodes register c offset len x-from buffer v11 buffer-now) (c1 : ltb v11 len ≡ true) (n1 : v11 < len) (ok-r1 : Chunk′.Ok (r1 size count pages nodes register c offset len x-from buffer v11 buffer-now)) (ok-r2 : Found′.Ok (r2 size count pages nodes register c offset len x-from buffer v11 buffer-now)) (fits-r3 : (r3 size count pages nodes register c offset len x-from buffer v11 buffer-now) < 2 ^ 64) (same4-buffer : length (buffer₄ size count pages nodes register c offset len x-from buffer v11 buffer-now) ≡ length buffer-now)
+    → Loop.inv-1 size count pages nodes register c offset len x-from buffer (v11 + ((r1 size count pages nodes register c offset len x-from buffer v11 buffer-now) .count)) (buffer₄ size count pages nodes register c offset len x-from buffer v11 buffer-now)
 
 -- the measure falls
 abbrev pub less-1 : Type 0
 less-1 =
-    (s : Store) (pages : List ℕ) (nodes : List ℕ) (register : List Record) (x-v : Version) (offset : ByteOffset) (len : ℕ) (x-from : ℕ) (buffer : List ℕ) (ok-s : Store′.Ok s) (len-pages : length pages < 2 ^ 64) (len-nodes : length nodes < 2 ^ 64) (len-register : length register < 2 ^ 64) (ok-x-v : Version′.Ok x-v) (ok-offset : ByteOffset′.Ok offset) (fits-len : len < 2 ^ 64) (fits-x-from : x-from < 2 ^ 64) (len-buffer : length buffer < 2 ^ 64) (need : copy-range″.req s pages nodes register x-v offset len x-from buffer) (v10 : ℕ) (buffer-now : List ℕ) (fits-v10 : v10 < 2 ^ 64) (same-buffer-now : length buffer ≡ length buffer-now) (inv1 : Loop.inv-1 s pages nodes register x-v offset len x-from buffer v10 buffer-now) (c1 : ltb v10 len ≡ true) (n1 : v10 < len) (ok-r1 : Chunk′.Ok (r1 s pages nodes register x-v offset len x-from buffer v10 buffer-now)) (ok-r2 : Found′.Ok (r2 s pages nodes register x-v offset len x-from buffer v10 buffer-now)) (fits-r3 : (r3 s pages nodes register x-v offset len x-from buffer v10 buffer-now) < 2 ^ 64) (same4-buffer : length (buffer₄ s pages nodes register x-v offset len x-from buffer v10 buffer-now) ≡ length buffer-now)
-    → Loop.measure-1 s pages nodes register x-v offset len x-from buffer (v10 + ((r1 s pages nodes register x-v offset len x-from buffer v10 buffer-now) .count)) (buffer₄ s pages nodes register x-v offset len x-from buffer v10 buffer-now) < Loop.measure-1 s pages nodes register x-v offset len x-from buffer v10 buffer-now
+    (size : ℕ) (count : ℕ) (pages : List ℕ) (nodes : List ℕ) (register : List Record) (c : ℕ) (offset : ByteOffset) (len : ℕ) (x-from : ℕ) (buffer : List ℕ) (fits-size : size < 2 ^ 64) (fits-count : count < 2 ^ 64) (len-pages : length pages < 2 ^ 64) (len-nodes : length nodes < 2 ^ 64) (len-register : length register < 2 ^ 64) (fits-c : c < 2 ^ 64) (ok-offset : ByteOffset′.Ok offset) (fits-len : len < 2 ^ 64) (fits-x-from : x-from < 2 ^ 64) (len-buffer : length buffer < 2 ^ 64) (need : copy-range″.req size count pages nodes register c offset len x-from buffer) (v11 : ℕ) (buffer-now : List ℕ) (fits-v11 : v11 < 2 ^ 64) (same-buffer-now : length buffer ≡ length buffer-now) (inv1 : Loop.inv-1 size count pages nodes register c offset len x-from buffer v11 buffer-now) (c1 : ltb v11 len ≡ true) (n1 : v11 < len) (ok-r1 : Chunk′.Ok (r1 size count pages nodes register c offset len x-from buffer v11 buffer-now)) (ok-r2 : Found′.Ok (r2 size count pages nodes register c offset len x-from buffer v11 buffer-now)) (fits-r3 : (r3 size count pages nodes register c offset len x-from buffer v11 buffer-now) < 2 ^ 64) (same4-buffer : length (buffer₄ size count pages nodes register c offset len x-from buffer v11 buffer-now) ≡ length buffer-now)
+    → Loop.measure-1 size count pages nodes register c offset len x-from buffer (v11 + ((r1 size count pages nodes register c offset len x-from buffer v11 buffer-now) .count)) (buffer₄ size count pages nodes register c offset len x-from buffer v11 buffer-now) < Loop.measure-1 size count pages nodes register c offset len x-from buffer v11 buffer-now
 
--- the function ensures: buffer′ ≡ bytesFrom s (areasOf pages nodes register) (v .0) (offset .0) len ++ drop len buffer
+-- the function ensures: buffer′ ≡ bytesFrom size count (areasOf pages nodes register) c (offset .0) len ++ drop len buffer
 abbrev pub exit-1 : Type 0
 exit-1 =
-    (s : Store) (pages : List ℕ) (nodes : List ℕ) (register : List Record) (x-v : Version) (offset : ByteOffset) (len : ℕ) (x-from : ℕ) (buffer : List ℕ) (ok-s : Store′.Ok s) (len-pages : length pages < 2 ^ 64) (len-nodes : length nodes < 2 ^ 64) (len-register : length register < 2 ^ 64) (ok-x-v : Version′.Ok x-v) (ok-offset : ByteOffset′.Ok offset) (fits-len : len < 2 ^ 64) (fits-x-from : x-from < 2 ^ 64) (len-buffer : length buffer < 2 ^ 64) (need : copy-range″.req s pages nodes register x-v offset len x-from buffer) (v10 : ℕ) (buffer-now : List ℕ) (fits-v10 : v10 < 2 ^ 64) (same-buffer-now : length buffer ≡ length buffer-now) (inv1 : Loop.inv-1 s pages nodes register x-v offset len x-from buffer v10 buffer-now) (c1 : ltb v10 len ≡ false) (n1 : len ≤ v10)
-    → copy-range″.ens s pages nodes register x-v offset len x-from buffer buffer-now tt
+    (size : ℕ) (count : ℕ) (pages : List ℕ) (nodes : List ℕ) (register : List Record) (c : ℕ) (offset : ByteOffset) (len : ℕ) (x-from : ℕ) (buffer : List ℕ) (fits-size : size < 2 ^ 64) (fits-count : count < 2 ^ 64) (len-pages : length pages < 2 ^ 64) (len-nodes : length nodes < 2 ^ 64) (len-register : length register < 2 ^ 64) (fits-c : c < 2 ^ 64) (ok-offset : ByteOffset′.Ok offset) (fits-len : len < 2 ^ 64) (fits-x-from : x-from < 2 ^ 64) (len-buffer : length buffer < 2 ^ 64) (need : copy-range″.req size count pages nodes register c offset len x-from buffer) (v11 : ℕ) (buffer-now : List ℕ) (fits-v11 : v11 < 2 ^ 64) (same-buffer-now : length buffer ≡ length buffer-now) (inv1 : Loop.inv-1 size count pages nodes register c offset len x-from buffer v11 buffer-now) (c1 : ltb v11 len ≡ false) (n1 : len ≤ v11)
+    → copy-range″.ens size count pages nodes register c offset len x-from buffer buffer-now tt
 
 -- the invariant holds where the loop begins
 abbrev pub start-1 : Type 0
 start-1 =
-    (s : Store) (pages : List ℕ) (nodes : List ℕ) (register : List Record) (x-v : Version) (offset : ByteOffset) (len : ℕ) (x-from : ℕ) (buffer : List ℕ) (ok-s : Store′.Ok s) (len-pages : length pages < 2 ^ 64) (len-nodes : length nodes < 2 ^ 64) (len-register : length register < 2 ^ 64) (ok-x-v : Version′.Ok x-v) (ok-offset : ByteOffset′.Ok offset) (fits-len : len < 2 ^ 64) (fits-x-from : x-from < 2 ^ 64) (len-buffer : length buffer < 2 ^ 64) (need : copy-range″.req s pages nodes register x-v offset len x-from buffer)
-    → Loop.inv-1 s pages nodes register x-v offset len x-from buffer x-from buffer
+    (size : ℕ) (count : ℕ) (pages : List ℕ) (nodes : List ℕ) (register : List Record) (c : ℕ) (offset : ByteOffset) (len : ℕ) (x-from : ℕ) (buffer : List ℕ) (fits-size : size < 2 ^ 64) (fits-count : count < 2 ^ 64) (len-pages : length pages < 2 ^ 64) (len-nodes : length nodes < 2 ^ 64) (len-register : length register < 2 ^ 64) (fits-c : c < 2 ^ 64) (ok-offset : ByteOffset′.Ok offset) (fits-len : len < 2 ^ 64) (fits-x-from : x-from < 2 ^ 64) (len-buffer : length buffer < 2 ^ 64) (need : copy-range″.req size count pages nodes register c offset len x-from buffer)
+    → Loop.inv-1 size count pages nodes register c offset len x-from buffer x-from buffer

@@ -11,38 +11,38 @@ use Rattle.read.proofs.Chunks.{next-bytes, grow-bytes}
 use Rattle.read.proofs.copy_range.Proof.Asks as Asks
 
 -- the sum does not wrap
--- here: (offset .0) + v10 < 2 ^ 64
+-- here: (offset .0) + v11 < 2 ^ 64
 pub add-1 : Asks.add-1
-add-1 s pages nodes register x-v offset len x-from buffer ok-s len-pages len-nodes len-register ok-x-v ok-offset fits-len fits-x-from len-buffer need v10 buffer-now fits-v10 same-buffer-now inv1 c1 n1 = omega (arith, need .0 .range .fits)
+add-1 size count pages nodes register c offset len x-from buffer fits-size fits-count len-pages len-nodes len-register fits-c ok-offset fits-len fits-x-from len-buffer need v11 buffer-now fits-v11 same-buffer-now inv1 c1 n1 = omega (arith, need .0 .range .fits)
 
 -- a difference does not fall below 0
--- here: v10 ≤ len
+-- here: v11 ≤ len
 pub sub-1 : Asks.sub-1
-sub-1 s pages nodes register x-v offset len x-from buffer ok-s len-pages len-nodes len-register ok-x-v ok-offset fits-len fits-x-from len-buffer need v10 buffer-now fits-v10 same-buffer-now inv1 c1 n1 = omega arith
+sub-1 size count pages nodes register c offset len x-from buffer fits-size fits-count len-pages len-nodes len-register fits-c ok-offset fits-len fits-x-from len-buffer need v11 buffer-now fits-v11 same-buffer-now inv1 c1 n1 = omega arith
 
 -- the sum does not wrap
--- here: v10 + ((r1 s pages nodes register x-v offset len x-from buffer v10 buffer-now) .count) < 2 ^ 64
+-- here: v11 + ((r1 size count pages nodes register c offset len x-from buffer v11 buffer-now) .count) < 2 ^ 64
 pub add-2 : Asks.add-2
-add-2 s pages nodes register x-v offset len x-from buffer ok-s len-pages len-nodes len-register ok-x-v ok-offset fits-len fits-x-from len-buffer need v10 buffer-now fits-v10 same-buffer-now inv1 c1 n1 ok-r1 ok-r2 fits-r3 same4-buffer = omega arith
+add-2 size count pages nodes register c offset len x-from buffer fits-size fits-count len-pages len-nodes len-register fits-c ok-offset fits-len fits-x-from len-buffer need v11 buffer-now fits-v11 same-buffer-now inv1 c1 n1 ok-r1 ok-r2 fits-r3 same4-buffer = omega arith
 
 -- the invariant holds after a turn
--- here: Loop.inv-1 s pages nodes register x-v offset len x-from buffer (v10 + ((r1 s pages nodes register x-v offset len x-from buffer v10 buffer-now) .count)) (buffer₄ s pages nodes register x-v offset len x-from buffer v10 buffer-now)
+-- here: Loop.inv-1 size count pages nodes register c offset len x-from buffer (v11 + ((r1 size count pages nodes register c offset len x-from buffer v11 buffer-now) .count)) (buffer₄ size count pages nodes register c offset len x-from buffer v11 buffer-now)
 pub again-1 : Asks.again-1
-again-1 s pages nodes register x-v offset len x-from buffer ok-s len-pages len-nodes len-register ok-x-v ok-offset fits-len fits-x-from len-buffer need v10 buffer-now fits-v10 same-buffer-now inv1 c1 n1 ok-r1 ok-r2 fits-r3 same4-buffer =
-    let count = min (s .size - (offset .0 + v10) % s .size) (len - v10) in
-    (omega arith, rw (next-bytes s pages nodes register (x-v .0) (offset .0) len (length buffer) (need .0) v10 n1, inv1 .1) (grow-bytes s (areasOf pages nodes register) (x-v .0) buffer v10 count (offset .0) (omega (arith, need .0 .within))))
+again-1 size count pages nodes register c offset len x-from buffer fits-size fits-count len-pages len-nodes len-register fits-c ok-offset fits-len fits-x-from len-buffer need v11 buffer-now fits-v11 same-buffer-now inv1 c1 n1 ok-r1 ok-r2 fits-r3 same4-buffer =
+    let more = min (size - (offset .0 + v11) % size) (len - v11) in
+    (omega arith, rw (next-bytes size count pages nodes register c (offset .0) len (length buffer) (need .0) v11 n1, inv1 .1) (grow-bytes size count (areasOf pages nodes register) c buffer v11 more (offset .0) (omega (arith, need .0 .within))))
 
 -- the measure falls
--- here: Loop.measure-1 s pages nodes register x-v offset len x-from buffer (v10 + ((r1 s pages nodes register x-v offset len x-from buffer v10 buffer-now) .count)) (buffer₄ s pages nodes register x-v offset len x-from buffer v10 buffer-now) < Loop.measure-1 s pages nodes register x-v offset len x-from buffer v10 buffer-now
+-- here: Loop.measure-1 size count pages nodes register c offset len x-from buffer (v11 + ((r1 size count pages nodes register c offset len x-from buffer v11 buffer-now) .count)) (buffer₄ size count pages nodes register c offset len x-from buffer v11 buffer-now) < Loop.measure-1 size count pages nodes register c offset len x-from buffer v11 buffer-now
 pub less-1 : Asks.less-1
-less-1 s pages nodes register x-v offset len x-from buffer ok-s len-pages len-nodes len-register ok-x-v ok-offset fits-len fits-x-from len-buffer need v10 buffer-now fits-v10 same-buffer-now inv1 c1 n1 ok-r1 ok-r2 fits-r3 same4-buffer = let m = mod-lt (offset .0 + v10) (need .0 .range .some (omega arith)) in omega arith
+less-1 size count pages nodes register c offset len x-from buffer fits-size fits-count len-pages len-nodes len-register fits-c ok-offset fits-len fits-x-from len-buffer need v11 buffer-now fits-v11 same-buffer-now inv1 c1 n1 ok-r1 ok-r2 fits-r3 same4-buffer = let m = mod-lt (offset .0 + v11) (need .0 .range .some (omega arith)) in omega arith
 
--- the function ensures: buffer′ ≡ bytesFrom s (areasOf pages nodes register) (v .0) (offset .0) len ++ drop len buffer
--- here: copy-range″.ens s pages nodes register x-v offset len x-from buffer buffer-now tt
+-- the function ensures: buffer′ ≡ bytesFrom size count (areasOf pages nodes register) c (offset .0) len ++ drop len buffer
+-- here: copy-range″.ens size count pages nodes register c offset len x-from buffer buffer-now tt
 pub exit-1 : Asks.exit-1
-exit-1 s pages nodes register x-v offset len x-from buffer ok-s len-pages len-nodes len-register ok-x-v ok-offset fits-len fits-x-from len-buffer need v10 buffer-now fits-v10 same-buffer-now inv1 c1 n1 = let all : v10 ≡ len = omega arith in rw all at (inv1 .1)
+exit-1 size count pages nodes register c offset len x-from buffer fits-size fits-count len-pages len-nodes len-register fits-c ok-offset fits-len fits-x-from len-buffer need v11 buffer-now fits-v11 same-buffer-now inv1 c1 n1 = let all : v11 ≡ len = omega arith in rw all at (inv1 .1)
 
 -- the invariant holds where the loop begins
--- here: Loop.inv-1 s pages nodes register x-v offset len x-from buffer x-from buffer
+-- here: Loop.inv-1 size count pages nodes register c offset len x-from buffer x-from buffer
 pub start-1 : Asks.start-1
-start-1 s pages nodes register x-v offset len x-from buffer ok-s len-pages len-nodes len-register ok-x-v ok-offset fits-len fits-x-from len-buffer need = (need .1, need .2)
+start-1 size count pages nodes register c offset len x-from buffer fits-size fits-count len-pages len-nodes len-register fits-c ok-offset fits-len fits-x-from len-buffer need = (need .1, need .2)

@@ -14,16 +14,20 @@ use Rattle.versions.specs.declared.Store.{Store}
 use Rattle.versions.proofs.Generated.Kind.Store as Store′
 use Rattle.tree.specs.declared.Ticket.{Ticket}
 use Rattle.register.proofs.Generated.Kind.Ticket as Ticket′
+use Rattle.lines.specs.declared.Branch.{Branch}
+use Rattle.versions.proofs.Generated.Kind.Branch as Branch′
+use Rattle.lines.specs.declared.Line.{Line}
+use Rattle.register.proofs.Generated.Kind.Line as Line′
 use Rattle.tree.specs.declared.Version.{Version}
 use Rattle.register.proofs.Generated.Kind.Version as Version′
 use Rattle.register.specs.declared.Record.{Record}
 use Rattle.register.proofs.Generated.Kind.Record as Record′
 use Rattle.tree.specs.declared.PageIndex.{PageIndex}
 use Rattle.register.proofs.Generated.Kind.PageIndex as PageIndex′
+use Rattle.lines.specs.declared.Entries.{Entries}
+use Rattle.register.proofs.Generated.Kind.Entries as Entries′
 use Rattle.versions.specs.declared.ByteOffset.{ByteOffset}
 use Rattle.read.proofs.Generated.Kind.ByteOffset as ByteOffset′
-use Rattle.versions.specs.declared.Lengths.{Lengths}
-use Rattle.versions.proofs.Generated.Kind.Lengths as Lengths′
 use Rattle.read.specs.declared.Range.{Range}
 use Rattle.read.proofs.Generated.Kind.Range as Range′
 use Rattle.read.specs.declared.Chunk.{Chunk}
@@ -31,9 +35,8 @@ use Rattle.read.proofs.Generated.Kind.Chunk as Chunk′
 use Rattle.tree.specs.declared.Found.{Found}
 use Rattle.walk.proofs.Generated.Kind.Found as Found′
 use Rattle.read.proofs.Generated.Say.read as read″
-use Rattle.versions.proofs.Generated.Say.lengths_of as lengths-of″
-use Rattle.register.proofs.Generated.Say.version_record as version-record″
-use Rattle.read.proofs.Generated.Say.range_refusal as range-refusal″
+use Rattle.versions.proofs.Generated.Say.number_on as number-on″
+use Rattle.read.proofs.Generated.Say.range_number as range-number″
 use Rattle.read.proofs.Generated.Say.touched as touched″
 use Rattle.read.proofs.Generated.Say.chunk_at as chunk-at″
 use Rattle.walk.proofs.Generated.Say.find_page as find-page″
@@ -46,74 +49,71 @@ use Rattle.read.proofs.Generated.Say.copy_page as copy-page″
 use Rattle.read.proofs.Generated.Say.copy_range as copy-range″
 use Rattle.read.proofs.Generated.Say.filled_by as filled-by″
 
-abbrev pub r1 : Store → List ℕ → List ℕ → List Record → Version → ByteOffset → ℕ → List ℕ → Lengths
-r1 s pages nodes register x-v offset len buffer = lengths-of″.res pages nodes register
+abbrev pub r1 : Store → List ℕ → List ℕ → List Record → Line → Version → ByteOffset → ℕ → List ℕ → ℕ
+r1 s pages nodes register x-l x-v offset len buffer = number-on″.res s x-l x-v
 
-abbrev pub r2 : Store → List ℕ → List ℕ → List Record → Version → ByteOffset → ℕ → List ℕ → Record
-r2 s pages nodes register x-v offset len buffer = version-record″.res register x-v
+abbrev pub r2 : Store → List ℕ → List ℕ → List Record → Line → Version → ByteOffset → ℕ → List ℕ → ℕ
+r2 s pages nodes register x-l x-v offset len buffer = range-number″.res s pages nodes register x-l x-v (r1 s pages nodes register x-l x-v offset len buffer) (Range′.build offset len (length buffer))
 
-abbrev pub r3 : Store → List ℕ → List ℕ → List Record → Version → ByteOffset → ℕ → List ℕ → ℕ
-r3 s pages nodes register x-v offset len buffer = range-refusal″.res s (r1 s pages nodes register x-v offset len buffer) (r2 s pages nodes register x-v offset len buffer) x-v (Range′.build offset len (length buffer))
+abbrev pub r3 : Store → List ℕ → List ℕ → List Record → Line → Version → ByteOffset → ℕ → List ℕ → ℕ
+r3 s pages nodes register x-l x-v offset len buffer = touched″.res (r2 s pages nodes register x-l x-v offset len buffer) (s .size) offset len
 
-abbrev pub r4 : Store → List ℕ → List ℕ → List Record → Version → ByteOffset → ℕ → List ℕ → ℕ
-r4 s pages nodes register x-v offset len buffer = touched″.res (r3 s pages nodes register x-v offset len buffer) (s .size) offset len
+abbrev pub r4 : Store → List ℕ → List ℕ → List Record → Line → Version → ByteOffset → ℕ → List ℕ → Chunk
+r4 s pages nodes register x-l x-v offset len buffer = chunk-at″.res (s .size) offset len
 
-abbrev pub r5 : Store → List ℕ → List ℕ → List Record → Version → ByteOffset → ℕ → List ℕ → Chunk
-r5 s pages nodes register x-v offset len buffer = chunk-at″.res (s .size) offset len
+abbrev pub r5 : Store → List ℕ → List ℕ → List Record → Line → Version → ByteOffset → ℕ → List ℕ → Found
+r5 s pages nodes register x-l x-v offset len buffer = find-page″.res nodes register (r1 s pages nodes register x-l x-v offset len buffer) ((r4 s pages nodes register x-l x-v offset len buffer) .page)
 
-abbrev pub r6 : Store → List ℕ → List ℕ → List Record → Version → ByteOffset → ℕ → List ℕ → Found
-r6 s pages nodes register x-v offset len buffer = find-page″.res s nodes register x-v ((r5 s pages nodes register x-v offset len buffer) .page)
+abbrev pub r6 : Store → List ℕ → List ℕ → List Record → Line → Version → ByteOffset → ℕ → List ℕ → Bool
+r6 s pages nodes register x-l x-v offset len buffer = is-lost″.res (s .pages) (r5 s pages nodes register x-l x-v offset len buffer)
 
-abbrev pub r7 : Store → List ℕ → List ℕ → List Record → Version → ByteOffset → ℕ → List ℕ → Bool
-r7 s pages nodes register x-v offset len buffer = is-lost″.res (s .pages) (r6 s pages nodes register x-v offset len buffer)
+abbrev pub r7 : Store → List ℕ → List ℕ → List Record → Line → Version → ByteOffset → ℕ → List ℕ → Bool
+r7 s pages nodes register x-l x-v offset len buffer = some-lost″.res (s .pages) nodes register (r1 s pages nodes register x-l x-v offset len buffer) ((r4 s pages nodes register x-l x-v offset len buffer) .page) (r3 s pages nodes register x-l x-v offset len buffer) (r6 s pages nodes register x-l x-v offset len buffer)
 
-abbrev pub r8 : Store → List ℕ → List ℕ → List Record → Version → ByteOffset → ℕ → List ℕ → Bool
-r8 s pages nodes register x-v offset len buffer = some-lost″.res s nodes register x-v ((r5 s pages nodes register x-v offset len buffer) .page) (r4 s pages nodes register x-v offset len buffer) (r7 s pages nodes register x-v offset len buffer)
+abbrev pub r8 : Store → List ℕ → List ℕ → List Record → Line → Version → ByteOffset → ℕ → List ℕ → ℕ
+r8 s pages nodes register x-l x-v offset len buffer = or-lost″.res (r2 s pages nodes register x-l x-v offset len buffer) (r7 s pages nodes register x-l x-v offset len buffer)
 
-abbrev pub r9 : Store → List ℕ → List ℕ → List Record → Version → ByteOffset → ℕ → List ℕ → ℕ
-r9 s pages nodes register x-v offset len buffer = or-lost″.res (r3 s pages nodes register x-v offset len buffer) (r8 s pages nodes register x-v offset len buffer)
+abbrev pub r9 : Store → List ℕ → List ℕ → List Record → Line → Version → ByteOffset → ℕ → List ℕ → ℕ
+r9 s pages nodes register x-l x-v offset len buffer = copied″.res (r8 s pages nodes register x-l x-v offset len buffer) ((r4 s pages nodes register x-l x-v offset len buffer) .count)
 
-abbrev pub r10 : Store → List ℕ → List ℕ → List Record → Version → ByteOffset → ℕ → List ℕ → ℕ
-r10 s pages nodes register x-v offset len buffer = copied″.res (r9 s pages nodes register x-v offset len buffer) ((r5 s pages nodes register x-v offset len buffer) .count)
+abbrev pub r10 : Store → List ℕ → List ℕ → List Record → Line → Version → ByteOffset → ℕ → List ℕ → ℕ
+r10 s pages nodes register x-l x-v offset len buffer = number-found″.res (s .pages) (r5 s pages nodes register x-l x-v offset len buffer)
 
-abbrev pub r11 : Store → List ℕ → List ℕ → List Record → Version → ByteOffset → ℕ → List ℕ → ℕ
-r11 s pages nodes register x-v offset len buffer = number-found″.res (s .pages) (r6 s pages nodes register x-v offset len buffer)
+abbrev pub r11 : Store → List ℕ → List ℕ → List Record → Line → Version → ByteOffset → ℕ → List ℕ → Bool
+r11 s pages nodes register x-l x-v offset len buffer = copy-page″.res pages (s .size) (r10 s pages nodes register x-l x-v offset len buffer) ((r4 s pages nodes register x-l x-v offset len buffer) .from) (r9 s pages nodes register x-l x-v offset len buffer) buffer 0
 
-abbrev pub r12 : Store → List ℕ → List ℕ → List Record → Version → ByteOffset → ℕ → List ℕ → Bool
-r12 s pages nodes register x-v offset len buffer = copy-page″.res pages (s .size) (r11 s pages nodes register x-v offset len buffer) ((r5 s pages nodes register x-v offset len buffer) .from) (r10 s pages nodes register x-v offset len buffer) buffer 0
+abbrev pub buffer₁₁ : Store → List ℕ → List ℕ → List Record → Line → Version → ByteOffset → ℕ → List ℕ → List ℕ
+buffer₁₁ s pages nodes register x-l x-v offset len buffer = copy-page″.out-buf pages (s .size) (r10 s pages nodes register x-l x-v offset len buffer) ((r4 s pages nodes register x-l x-v offset len buffer) .from) (r9 s pages nodes register x-l x-v offset len buffer) buffer 0
 
-abbrev pub buffer₁₂ : Store → List ℕ → List ℕ → List Record → Version → ByteOffset → ℕ → List ℕ → List ℕ
-buffer₁₂ s pages nodes register x-v offset len buffer = copy-page″.out-buf pages (s .size) (r11 s pages nodes register x-v offset len buffer) ((r5 s pages nodes register x-v offset len buffer) .from) (r10 s pages nodes register x-v offset len buffer) buffer 0
+abbrev pub r12 : Store → List ℕ → List ℕ → List Record → Line → Version → ByteOffset → ℕ → List ℕ → ℕ
+r12 s pages nodes register x-l x-v offset len buffer = copied″.res (r8 s pages nodes register x-l x-v offset len buffer) len
 
-abbrev pub r13 : Store → List ℕ → List ℕ → List Record → Version → ByteOffset → ℕ → List ℕ → ℕ
-r13 s pages nodes register x-v offset len buffer = copied″.res (r9 s pages nodes register x-v offset len buffer) len
+abbrev pub buffer₁₃ : Store → List ℕ → List ℕ → List Record → Line → Version → ByteOffset → ℕ → List ℕ → List ℕ
+buffer₁₃ s pages nodes register x-l x-v offset len buffer = copy-range″.out-buffer (s .size) (s .pages) pages nodes register (r1 s pages nodes register x-l x-v offset len buffer) offset (r12 s pages nodes register x-l x-v offset len buffer) (r9 s pages nodes register x-l x-v offset len buffer) (buffer₁₁ s pages nodes register x-l x-v offset len buffer)
 
-abbrev pub buffer₁₄ : Store → List ℕ → List ℕ → List Record → Version → ByteOffset → ℕ → List ℕ → List ℕ
-buffer₁₄ s pages nodes register x-v offset len buffer = copy-range″.out-buffer s pages nodes register x-v offset (r13 s pages nodes register x-v offset len buffer) (r10 s pages nodes register x-v offset len buffer) (buffer₁₂ s pages nodes register x-v offset len buffer)
-
-abbrev pub r15 : Store → List ℕ → List ℕ → List Record → Version → ByteOffset → ℕ → List ℕ → Filled
-r15 s pages nodes register x-v offset len buffer = filled-by″.res (r9 s pages nodes register x-v offset len buffer)
+abbrev pub r14 : Store → List ℕ → List ℕ → List Record → Line → Version → ByteOffset → ℕ → List ℕ → Filled
+r14 s pages nodes register x-l x-v offset len buffer = filled-by″.res (r8 s pages nodes register x-l x-v offset len buffer)
 
 -- `touched` asks: (k ≡ 0 → Ranged size (offset .0) len)
 abbrev pub touched-1 : Type 0
 touched-1 =
-    (s : Store) (pages : List ℕ) (nodes : List ℕ) (register : List Record) (x-v : Version) (offset : ByteOffset) (len : ℕ) (buffer : List ℕ) (ok-s : Store′.Ok s) (len-pages : length pages < 2 ^ 64) (len-nodes : length nodes < 2 ^ 64) (len-register : length register < 2 ^ 64) (ok-x-v : Version′.Ok x-v) (ok-offset : ByteOffset′.Ok offset) (fits-len : len < 2 ^ 64) (len-buffer : length buffer < 2 ^ 64) (ok-r1 : Lengths′.Ok (r1 s pages nodes register x-v offset len buffer)) (ok-r2 : Record′.Ok (r2 s pages nodes register x-v offset len buffer)) (fits-r3 : (r3 s pages nodes register x-v offset len buffer) < 2 ^ 64)
-    → touched″.req (r3 s pages nodes register x-v offset len buffer) (s .size) offset len
+    (s : Store) (pages : List ℕ) (nodes : List ℕ) (register : List Record) (x-l : Line) (x-v : Version) (offset : ByteOffset) (len : ℕ) (buffer : List ℕ) (ok-s : Store′.Ok s) (len-pages : length pages < 2 ^ 64) (len-nodes : length nodes < 2 ^ 64) (len-register : length register < 2 ^ 64) (ok-x-l : Line′.Ok x-l) (ok-x-v : Version′.Ok x-v) (ok-offset : ByteOffset′.Ok offset) (fits-len : len < 2 ^ 64) (len-buffer : length buffer < 2 ^ 64) (fits-r1 : (r1 s pages nodes register x-l x-v offset len buffer) < 2 ^ 64) (fits-r2 : (r2 s pages nodes register x-l x-v offset len buffer) < 2 ^ 64)
+    → touched″.req (r2 s pages nodes register x-l x-v offset len buffer) (s .size) offset len
 
--- `some_lost` asks: (from .0 + n < 2 ^ 64) × (first ≡ isLost (numberWithin (s .pages) (findPage s (areasOf [] nodes register) (v .0) (from .0))))
+-- `some_lost` asks: (from .0 + n < 2 ^ 64) × (first ≡ isLost (numberWithin count (findPage (areasOf [] nodes register) c (from .0))))
 abbrev pub some-lost-1 : Type 0
 some-lost-1 =
-    (s : Store) (pages : List ℕ) (nodes : List ℕ) (register : List Record) (x-v : Version) (offset : ByteOffset) (len : ℕ) (buffer : List ℕ) (ok-s : Store′.Ok s) (len-pages : length pages < 2 ^ 64) (len-nodes : length nodes < 2 ^ 64) (len-register : length register < 2 ^ 64) (ok-x-v : Version′.Ok x-v) (ok-offset : ByteOffset′.Ok offset) (fits-len : len < 2 ^ 64) (len-buffer : length buffer < 2 ^ 64) (ok-r1 : Lengths′.Ok (r1 s pages nodes register x-v offset len buffer)) (ok-r2 : Record′.Ok (r2 s pages nodes register x-v offset len buffer)) (fits-r3 : (r3 s pages nodes register x-v offset len buffer) < 2 ^ 64) (fits-r4 : (r4 s pages nodes register x-v offset len buffer) < 2 ^ 64) (ok-r5 : Chunk′.Ok (r5 s pages nodes register x-v offset len buffer)) (ok-r6 : Found′.Ok (r6 s pages nodes register x-v offset len buffer))
-    → some-lost″.req s nodes register x-v ((r5 s pages nodes register x-v offset len buffer) .page) (r4 s pages nodes register x-v offset len buffer) (r7 s pages nodes register x-v offset len buffer)
+    (s : Store) (pages : List ℕ) (nodes : List ℕ) (register : List Record) (x-l : Line) (x-v : Version) (offset : ByteOffset) (len : ℕ) (buffer : List ℕ) (ok-s : Store′.Ok s) (len-pages : length pages < 2 ^ 64) (len-nodes : length nodes < 2 ^ 64) (len-register : length register < 2 ^ 64) (ok-x-l : Line′.Ok x-l) (ok-x-v : Version′.Ok x-v) (ok-offset : ByteOffset′.Ok offset) (fits-len : len < 2 ^ 64) (len-buffer : length buffer < 2 ^ 64) (fits-r1 : (r1 s pages nodes register x-l x-v offset len buffer) < 2 ^ 64) (fits-r2 : (r2 s pages nodes register x-l x-v offset len buffer) < 2 ^ 64) (fits-r3 : (r3 s pages nodes register x-l x-v offset len buffer) < 2 ^ 64) (ok-r4 : Chunk′.Ok (r4 s pages nodes register x-l x-v offset len buffer)) (ok-r5 : Found′.Ok (r5 s pages nodes register x-l x-v offset len buffer))
+    → some-lost″.req (s .pages) nodes register (r1 s pages nodes register x-l x-v offset len buffer) ((r4 s pages nodes register x-l x-v offset len buffer) .page) (r3 s pages nodes register x-l x-v offset len buffer) (r6 s pages nodes register x-l x-v offset len buffer)
 
--- `copy_range` asks: Readable s pages nodes register (v .0) (offset .0) len (length buffer) × (from ≤ len) × (buffer ≡ bytesFrom s (areasOf pages nodes register) (v .0) (offset .0) from ++ drop from buffer)
+-- `copy_range` asks: Readable size count pages nodes register c (offset .0) len (length buffer) × (from ≤ len) × (buffer ≡ bytesFrom size count (areasOf pages nodes register) c (offset .0) from ++ drop from buffer)
 abbrev pub copy-range-1 : Type 0
 copy-range-1 =
-    (s : Store) (pages : List ℕ) (nodes : List ℕ) (register : List Record) (x-v : Version) (offset : ByteOffset) (len : ℕ) (buffer : List ℕ) (ok-s : Store′.Ok s) (len-pages : length pages < 2 ^ 64) (len-nodes : length nodes < 2 ^ 64) (len-register : length register < 2 ^ 64) (ok-x-v : Version′.Ok x-v) (ok-offset : ByteOffset′.Ok offset) (fits-len : len < 2 ^ 64) (len-buffer : length buffer < 2 ^ 64) (ok-r1 : Lengths′.Ok (r1 s pages nodes register x-v offset len buffer)) (ok-r2 : Record′.Ok (r2 s pages nodes register x-v offset len buffer)) (fits-r3 : (r3 s pages nodes register x-v offset len buffer) < 2 ^ 64) (fits-r4 : (r4 s pages nodes register x-v offset len buffer) < 2 ^ 64) (ok-r5 : Chunk′.Ok (r5 s pages nodes register x-v offset len buffer)) (ok-r6 : Found′.Ok (r6 s pages nodes register x-v offset len buffer)) (fits-r9 : (r9 s pages nodes register x-v offset len buffer) < 2 ^ 64) (fits-r10 : (r10 s pages nodes register x-v offset len buffer) < 2 ^ 64) (fits-r11 : (r11 s pages nodes register x-v offset len buffer) < 2 ^ 64) (same12-buffer : length (buffer₁₂ s pages nodes register x-v offset len buffer) ≡ length buffer) (fits-r13 : (r13 s pages nodes register x-v offset len buffer) < 2 ^ 64)
-    → copy-range″.req s pages nodes register x-v offset (r13 s pages nodes register x-v offset len buffer) (r10 s pages nodes register x-v offset len buffer) (buffer₁₂ s pages nodes register x-v offset len buffer)
+    (s : Store) (pages : List ℕ) (nodes : List ℕ) (register : List Record) (x-l : Line) (x-v : Version) (offset : ByteOffset) (len : ℕ) (buffer : List ℕ) (ok-s : Store′.Ok s) (len-pages : length pages < 2 ^ 64) (len-nodes : length nodes < 2 ^ 64) (len-register : length register < 2 ^ 64) (ok-x-l : Line′.Ok x-l) (ok-x-v : Version′.Ok x-v) (ok-offset : ByteOffset′.Ok offset) (fits-len : len < 2 ^ 64) (len-buffer : length buffer < 2 ^ 64) (fits-r1 : (r1 s pages nodes register x-l x-v offset len buffer) < 2 ^ 64) (fits-r2 : (r2 s pages nodes register x-l x-v offset len buffer) < 2 ^ 64) (fits-r3 : (r3 s pages nodes register x-l x-v offset len buffer) < 2 ^ 64) (ok-r4 : Chunk′.Ok (r4 s pages nodes register x-l x-v offset len buffer)) (ok-r5 : Found′.Ok (r5 s pages nodes register x-l x-v offset len buffer)) (fits-r8 : (r8 s pages nodes register x-l x-v offset len buffer) < 2 ^ 64) (fits-r9 : (r9 s pages nodes register x-l x-v offset len buffer) < 2 ^ 64) (fits-r10 : (r10 s pages nodes register x-l x-v offset len buffer) < 2 ^ 64) (same11-buffer : length (buffer₁₁ s pages nodes register x-l x-v offset len buffer) ≡ length buffer) (fits-r12 : (r12 s pages nodes register x-l x-v offset len buffer) < 2 ^ 64)
+    → copy-range″.req (s .size) (s .pages) pages nodes register (r1 s pages nodes register x-l x-v offset len buffer) offset (r12 s pages nodes register x-l x-v offset len buffer) (r9 s pages nodes register x-l x-v offset len buffer) (buffer₁₁ s pages nodes register x-l x-v offset len buffer)
 
--- the function ensures: (r ≡ readOut s (areasOf pages nodes register) (v .0) (offset .0) len buffer) × (buffer′ ≡ readBuffer s (areasOf pages nodes register) (v .0) (offset .0) len buffer)
+-- the function ensures: (r ≡ readOut s (areasOf pages nodes register) (l .0) (v .0) (offset .0) len buffer) × (buffer′ ≡ readBuffer s (areasOf pages nodes register) (l .0) (v .0) (offset .0) len buffer)
 abbrev pub exit-1 : Type 0
 exit-1 =
-    (s : Store) (pages : List ℕ) (nodes : List ℕ) (register : List Record) (x-v : Version) (offset : ByteOffset) (len : ℕ) (buffer : List ℕ) (ok-s : Store′.Ok s) (len-pages : length pages < 2 ^ 64) (len-nodes : length nodes < 2 ^ 64) (len-register : length register < 2 ^ 64) (ok-x-v : Version′.Ok x-v) (ok-offset : ByteOffset′.Ok offset) (fits-len : len < 2 ^ 64) (len-buffer : length buffer < 2 ^ 64) (ok-r1 : Lengths′.Ok (r1 s pages nodes register x-v offset len buffer)) (ok-r2 : Record′.Ok (r2 s pages nodes register x-v offset len buffer)) (fits-r3 : (r3 s pages nodes register x-v offset len buffer) < 2 ^ 64) (fits-r4 : (r4 s pages nodes register x-v offset len buffer) < 2 ^ 64) (ok-r5 : Chunk′.Ok (r5 s pages nodes register x-v offset len buffer)) (ok-r6 : Found′.Ok (r6 s pages nodes register x-v offset len buffer)) (fits-r9 : (r9 s pages nodes register x-v offset len buffer) < 2 ^ 64) (fits-r10 : (r10 s pages nodes register x-v offset len buffer) < 2 ^ 64) (fits-r11 : (r11 s pages nodes register x-v offset len buffer) < 2 ^ 64) (same12-buffer : length (buffer₁₂ s pages nodes register x-v offset len buffer) ≡ length buffer) (fits-r13 : (r13 s pages nodes register x-v offset len buffer) < 2 ^ 64) (same14-buffer : length (buffer₁₄ s pages nodes register x-v offset len buffer) ≡ length (buffer₁₂ s pages nodes register x-v offset len buffer)) (ok-r15 : Filled′.Ok (r15 s pages nodes register x-v offset len buffer))
-    → read″.ens s pages nodes register x-v offset len buffer (buffer₁₄ s pages nodes register x-v offset len buffer) (r15 s pages nodes register x-v offset len buffer)
+    (s : Store) (pages : List ℕ) (nodes : List ℕ) (register : List Record) (x-l : Line) (x-v : Version) (offset : ByteOffset) (len : ℕ) (buffer : List ℕ) (ok-s : Store′.Ok s) (len-pages : length pages < 2 ^ 64) (len-nodes : length nodes < 2 ^ 64) (len-register : length register < 2 ^ 64) (ok-x-l : Line′.Ok x-l) (ok-x-v : Version′.Ok x-v) (ok-offset : ByteOffset′.Ok offset) (fits-len : len < 2 ^ 64) (len-buffer : length buffer < 2 ^ 64) (fits-r1 : (r1 s pages nodes register x-l x-v offset len buffer) < 2 ^ 64) (fits-r2 : (r2 s pages nodes register x-l x-v offset len buffer) < 2 ^ 64) (fits-r3 : (r3 s pages nodes register x-l x-v offset len buffer) < 2 ^ 64) (ok-r4 : Chunk′.Ok (r4 s pages nodes register x-l x-v offset len buffer)) (ok-r5 : Found′.Ok (r5 s pages nodes register x-l x-v offset len buffer)) (fits-r8 : (r8 s pages nodes register x-l x-v offset len buffer) < 2 ^ 64) (fits-r9 : (r9 s pages nodes register x-l x-v offset len buffer) < 2 ^ 64) (fits-r10 : (r10 s pages nodes register x-l x-v offset len buffer) < 2 ^ 64) (same11-buffer : length (buffer₁₁ s pages nodes register x-l x-v offset len buffer) ≡ length buffer) (fits-r12 : (r12 s pages nodes register x-l x-v offset len buffer) < 2 ^ 64) (same13-buffer : length (buffer₁₃ s pages nodes register x-l x-v offset len buffer) ≡ length (buffer₁₁ s pages nodes register x-l x-v offset len buffer)) (ok-r14 : Filled′.Ok (r14 s pages nodes register x-l x-v offset len buffer))
+    → read″.ens s pages nodes register x-l x-v offset len buffer (buffer₁₃ s pages nodes register x-l x-v offset len buffer) (r14 s pages nodes register x-l x-v offset len buffer)

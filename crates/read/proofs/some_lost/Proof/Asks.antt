@@ -8,79 +8,79 @@ use mathlib.Core.List.{List, [], _∷_}
 use mathlib.Core.Bool.{Bool, true, false, not}
 use lib.Dec.{ltb, leb, eqb}
 use lib.ListN.{length, getD, set}
-use Rattle.versions.specs.declared.Store.{Store}
-use Rattle.versions.proofs.Generated.Kind.Store as Store′
-use Rattle.tree.specs.declared.Ticket.{Ticket}
-use Rattle.register.proofs.Generated.Kind.Ticket as Ticket′
-use Rattle.tree.specs.declared.Version.{Version}
-use Rattle.register.proofs.Generated.Kind.Version as Version′
 use Rattle.register.specs.declared.Record.{Record}
 use Rattle.register.proofs.Generated.Kind.Record as Record′
+use Rattle.tree.specs.declared.Ticket.{Ticket}
+use Rattle.register.proofs.Generated.Kind.Ticket as Ticket′
 use Rattle.tree.specs.declared.PageIndex.{PageIndex}
 use Rattle.register.proofs.Generated.Kind.PageIndex as PageIndex′
+use Rattle.lines.specs.declared.Entries.{Entries}
+use Rattle.register.proofs.Generated.Kind.Entries as Entries′
 use Rattle.tree.specs.declared.Found.{Found}
 use Rattle.walk.proofs.Generated.Kind.Found as Found′
+use Rattle.tree.specs.declared.Version.{Version}
+use Rattle.register.proofs.Generated.Kind.Version as Version′
 use Rattle.read.proofs.Generated.Say.some_lost as some-lost″
 use Rattle.walk.proofs.Generated.Say.find_page as find-page″
 use Rattle.walk.proofs.Generated.Say.is_lost as is-lost″
 use Rattle.read.proofs.some_lost.Proof.Loop as Loop
 
-abbrev pub r1 : Store → List ℕ → List Record → Version → PageIndex → ℕ → Bool → ℕ → Found
-r1 s nodes register x-v x-from n x-first v8 = find-page″.res s nodes register x-v (PageIndex′.build ((x-from .0) + v8))
+abbrev pub r1 : ℕ → List ℕ → List Record → ℕ → PageIndex → ℕ → Bool → ℕ → Found
+r1 count nodes register c x-from n x-first v8 = find-page″.res nodes register c (PageIndex′.build ((x-from .0) + v8))
 
-abbrev pub r2 : Store → List ℕ → List Record → Version → PageIndex → ℕ → Bool → ℕ → Bool
-r2 s nodes register x-v x-from n x-first v8 = is-lost″.res (s .pages) (r1 s nodes register x-v x-from n x-first v8)
+abbrev pub r2 : ℕ → List ℕ → List Record → ℕ → PageIndex → ℕ → Bool → ℕ → Bool
+r2 count nodes register c x-from n x-first v8 = is-lost″.res count (r1 count nodes register c x-from n x-first v8)
 
--- the function ensures: b ≡ someLost s (areasOf [] nodes register) (v .0) (from .0) n
+-- the function ensures: b ≡ someLost count (areasOf [] nodes register) c (from .0) n
 abbrev pub exit-1 : Type 0
 exit-1 =
-    (s : Store) (nodes : List ℕ) (register : List Record) (x-v : Version) (x-from : PageIndex) (n : ℕ) (x-first : Bool) (ok-s : Store′.Ok s) (len-nodes : length nodes < 2 ^ 64) (len-register : length register < 2 ^ 64) (ok-x-v : Version′.Ok x-v) (ok-x-from : PageIndex′.Ok x-from) (fits-n : n < 2 ^ 64) (need : some-lost″.req s nodes register x-v x-from n x-first) (c1 : eqb n 0 ≡ true) (n1 : n ≡ 0)
-    → some-lost″.ens s nodes register x-v x-from n x-first false
+    (count : ℕ) (nodes : List ℕ) (register : List Record) (c : ℕ) (x-from : PageIndex) (n : ℕ) (x-first : Bool) (fits-count : count < 2 ^ 64) (len-nodes : length nodes < 2 ^ 64) (len-register : length register < 2 ^ 64) (fits-c : c < 2 ^ 64) (ok-x-from : PageIndex′.Ok x-from) (fits-n : n < 2 ^ 64) (need : some-lost″.req count nodes register c x-from n x-first) (c1 : eqb n 0 ≡ true) (n1 : n ≡ 0)
+    → some-lost″.ens count nodes register c x-from n x-first false
 
--- the function ensures: b ≡ someLost s (areasOf [] nodes register) (v .0) (from .0) n
+-- the function ensures: b ≡ someLost count (areasOf [] nodes register) c (from .0) n
 abbrev pub exit-2 : Type 0
 exit-2 =
-    (s : Store) (nodes : List ℕ) (register : List Record) (x-v : Version) (x-from : PageIndex) (n : ℕ) (x-first : Bool) (ok-s : Store′.Ok s) (len-nodes : length nodes < 2 ^ 64) (len-register : length register < 2 ^ 64) (ok-x-v : Version′.Ok x-v) (ok-x-from : PageIndex′.Ok x-from) (fits-n : n < 2 ^ 64) (need : some-lost″.req s nodes register x-v x-from n x-first) (c1 : eqb n 0 ≡ false) (n1 : 0 < n) (c2 : x-first ≡ true)
-    → some-lost″.ens s nodes register x-v x-from n x-first true
+    (count : ℕ) (nodes : List ℕ) (register : List Record) (c : ℕ) (x-from : PageIndex) (n : ℕ) (x-first : Bool) (fits-count : count < 2 ^ 64) (len-nodes : length nodes < 2 ^ 64) (len-register : length register < 2 ^ 64) (fits-c : c < 2 ^ 64) (ok-x-from : PageIndex′.Ok x-from) (fits-n : n < 2 ^ 64) (need : some-lost″.req count nodes register c x-from n x-first) (c1 : eqb n 0 ≡ false) (n1 : 0 < n) (c2 : x-first ≡ true)
+    → some-lost″.ens count nodes register c x-from n x-first true
 
 -- the sum does not wrap
 abbrev pub add-1 : Type 0
 add-1 =
-    (s : Store) (nodes : List ℕ) (register : List Record) (x-v : Version) (x-from : PageIndex) (n : ℕ) (x-first : Bool) (ok-s : Store′.Ok s) (len-nodes : length nodes < 2 ^ 64) (len-register : length register < 2 ^ 64) (ok-x-v : Version′.Ok x-v) (ok-x-from : PageIndex′.Ok x-from) (fits-n : n < 2 ^ 64) (need : some-lost″.req s nodes register x-v x-from n x-first) (c1 : eqb n 0 ≡ false) (n1 : 0 < n) (c2 : x-first ≡ false) (v8 : ℕ) (fits-v8 : v8 < 2 ^ 64) (inv1 : Loop.inv-1 s nodes register x-v x-from n x-first v8) (c3 : ltb v8 n ≡ true) (n3 : v8 < n)
+    (count : ℕ) (nodes : List ℕ) (register : List Record) (c : ℕ) (x-from : PageIndex) (n : ℕ) (x-first : Bool) (fits-count : count < 2 ^ 64) (len-nodes : length nodes < 2 ^ 64) (len-register : length register < 2 ^ 64) (fits-c : c < 2 ^ 64) (ok-x-from : PageIndex′.Ok x-from) (fits-n : n < 2 ^ 64) (need : some-lost″.req count nodes register c x-from n x-first) (c1 : eqb n 0 ≡ false) (n1 : 0 < n) (c2 : x-first ≡ false) (v8 : ℕ) (fits-v8 : v8 < 2 ^ 64) (inv1 : Loop.inv-1 count nodes register c x-from n x-first v8) (c3 : ltb v8 n ≡ true) (n3 : v8 < n)
     → (x-from .0) + v8 < 2 ^ 64
 
--- the function ensures: b ≡ someLost s (areasOf [] nodes register) (v .0) (from .0) n
+-- the function ensures: b ≡ someLost count (areasOf [] nodes register) c (from .0) n
 abbrev pub exit-3 : Type 0
 exit-3 =
-    (s : Store) (nodes : List ℕ) (register : List Record) (x-v : Version) (x-from : PageIndex) (n : ℕ) (x-first : Bool) (ok-s : Store′.Ok s) (len-nodes : length nodes < 2 ^ 64) (len-register : length register < 2 ^ 64) (ok-x-v : Version′.Ok x-v) (ok-x-from : PageIndex′.Ok x-from) (fits-n : n < 2 ^ 64) (need : some-lost″.req s nodes register x-v x-from n x-first) (c1 : eqb n 0 ≡ false) (n1 : 0 < n) (c2 : x-first ≡ false) (v8 : ℕ) (fits-v8 : v8 < 2 ^ 64) (inv1 : Loop.inv-1 s nodes register x-v x-from n x-first v8) (c3 : ltb v8 n ≡ true) (n3 : v8 < n) (ok-r1 : Found′.Ok (r1 s nodes register x-v x-from n x-first v8)) (c4 : r2 s nodes register x-v x-from n x-first v8 ≡ true)
-    → some-lost″.ens s nodes register x-v x-from n x-first true
+    (count : ℕ) (nodes : List ℕ) (register : List Record) (c : ℕ) (x-from : PageIndex) (n : ℕ) (x-first : Bool) (fits-count : count < 2 ^ 64) (len-nodes : length nodes < 2 ^ 64) (len-register : length register < 2 ^ 64) (fits-c : c < 2 ^ 64) (ok-x-from : PageIndex′.Ok x-from) (fits-n : n < 2 ^ 64) (need : some-lost″.req count nodes register c x-from n x-first) (c1 : eqb n 0 ≡ false) (n1 : 0 < n) (c2 : x-first ≡ false) (v8 : ℕ) (fits-v8 : v8 < 2 ^ 64) (inv1 : Loop.inv-1 count nodes register c x-from n x-first v8) (c3 : ltb v8 n ≡ true) (n3 : v8 < n) (ok-r1 : Found′.Ok (r1 count nodes register c x-from n x-first v8)) (c4 : r2 count nodes register c x-from n x-first v8 ≡ true)
+    → some-lost″.ens count nodes register c x-from n x-first true
 
 -- the sum does not wrap
 abbrev pub add-2 : Type 0
 add-2 =
-    (s : Store) (nodes : List ℕ) (register : List Record) (x-v : Version) (x-from : PageIndex) (n : ℕ) (x-first : Bool) (ok-s : Store′.Ok s) (len-nodes : length nodes < 2 ^ 64) (len-register : length register < 2 ^ 64) (ok-x-v : Version′.Ok x-v) (ok-x-from : PageIndex′.Ok x-from) (fits-n : n < 2 ^ 64) (need : some-lost″.req s nodes register x-v x-from n x-first) (c1 : eqb n 0 ≡ false) (n1 : 0 < n) (c2 : x-first ≡ false) (v8 : ℕ) (fits-v8 : v8 < 2 ^ 64) (inv1 : Loop.inv-1 s nodes register x-v x-from n x-first v8) (c3 : ltb v8 n ≡ true) (n3 : v8 < n) (ok-r1 : Found′.Ok (r1 s nodes register x-v x-from n x-first v8)) (c4 : r2 s nodes register x-v x-from n x-first v8 ≡ false)
+    (count : ℕ) (nodes : List ℕ) (register : List Record) (c : ℕ) (x-from : PageIndex) (n : ℕ) (x-first : Bool) (fits-count : count < 2 ^ 64) (len-nodes : length nodes < 2 ^ 64) (len-register : length register < 2 ^ 64) (fits-c : c < 2 ^ 64) (ok-x-from : PageIndex′.Ok x-from) (fits-n : n < 2 ^ 64) (need : some-lost″.req count nodes register c x-from n x-first) (c1 : eqb n 0 ≡ false) (n1 : 0 < n) (c2 : x-first ≡ false) (v8 : ℕ) (fits-v8 : v8 < 2 ^ 64) (inv1 : Loop.inv-1 count nodes register c x-from n x-first v8) (c3 : ltb v8 n ≡ true) (n3 : v8 < n) (ok-r1 : Found′.Ok (r1 count nodes register c x-from n x-first v8)) (c4 : r2 count nodes register c x-from n x-first v8 ≡ false)
     → v8 + 1 < 2 ^ 64
 
 -- the invariant holds after a turn
 abbrev pub again-1 : Type 0
 again-1 =
-    (s : Store) (nodes : List ℕ) (register : List Record) (x-v : Version) (x-from : PageIndex) (n : ℕ) (x-first : Bool) (ok-s : Store′.Ok s) (len-nodes : length nodes < 2 ^ 64) (len-register : length register < 2 ^ 64) (ok-x-v : Version′.Ok x-v) (ok-x-from : PageIndex′.Ok x-from) (fits-n : n < 2 ^ 64) (need : some-lost″.req s nodes register x-v x-from n x-first) (c1 : eqb n 0 ≡ false) (n1 : 0 < n) (c2 : x-first ≡ false) (v8 : ℕ) (fits-v8 : v8 < 2 ^ 64) (inv1 : Loop.inv-1 s nodes register x-v x-from n x-first v8) (c3 : ltb v8 n ≡ true) (n3 : v8 < n) (ok-r1 : Found′.Ok (r1 s nodes register x-v x-from n x-first v8)) (c4 : r2 s nodes register x-v x-from n x-first v8 ≡ false)
-    → Loop.inv-1 s nodes register x-v x-from n x-first (v8 + 1)
+    (count : ℕ) (nodes : List ℕ) (register : List Record) (c : ℕ) (x-from : PageIndex) (n : ℕ) (x-first : Bool) (fits-count : count < 2 ^ 64) (len-nodes : length nodes < 2 ^ 64) (len-register : length register < 2 ^ 64) (fits-c : c < 2 ^ 64) (ok-x-from : PageIndex′.Ok x-from) (fits-n : n < 2 ^ 64) (need : some-lost″.req count nodes register c x-from n x-first) (c1 : eqb n 0 ≡ false) (n1 : 0 < n) (c2 : x-first ≡ false) (v8 : ℕ) (fits-v8 : v8 < 2 ^ 64) (inv1 : Loop.inv-1 count nodes register c x-from n x-first v8) (c3 : ltb v8 n ≡ true) (n3 : v8 < n) (ok-r1 : Found′.Ok (r1 count nodes register c x-from n x-first v8)) (c4 : r2 count nodes register c x-from n x-first v8 ≡ false)
+    → Loop.inv-1 count nodes register c x-from n x-first (v8 + 1)
 
 -- the measure falls
 abbrev pub less-1 : Type 0
 less-1 =
-    (s : Store) (nodes : List ℕ) (register : List Record) (x-v : Version) (x-from : PageIndex) (n : ℕ) (x-first : Bool) (ok-s : Store′.Ok s) (len-nodes : length nodes < 2 ^ 64) (len-register : length register < 2 ^ 64) (ok-x-v : Version′.Ok x-v) (ok-x-from : PageIndex′.Ok x-from) (fits-n : n < 2 ^ 64) (need : some-lost″.req s nodes register x-v x-from n x-first) (c1 : eqb n 0 ≡ false) (n1 : 0 < n) (c2 : x-first ≡ false) (v8 : ℕ) (fits-v8 : v8 < 2 ^ 64) (inv1 : Loop.inv-1 s nodes register x-v x-from n x-first v8) (c3 : ltb v8 n ≡ true) (n3 : v8 < n) (ok-r1 : Found′.Ok (r1 s nodes register x-v x-from n x-first v8)) (c4 : r2 s nodes register x-v x-from n x-first v8 ≡ false)
-    → Loop.measure-1 s nodes register x-v x-from n x-first (v8 + 1) < Loop.measure-1 s nodes register x-v x-from n x-first v8
+    (count : ℕ) (nodes : List ℕ) (register : List Record) (c : ℕ) (x-from : PageIndex) (n : ℕ) (x-first : Bool) (fits-count : count < 2 ^ 64) (len-nodes : length nodes < 2 ^ 64) (len-register : length register < 2 ^ 64) (fits-c : c < 2 ^ 64) (ok-x-from : PageIndex′.Ok x-from) (fits-n : n < 2 ^ 64) (need : some-lost″.req count nodes register c x-from n x-first) (c1 : eqb n 0 ≡ false) (n1 : 0 < n) (c2 : x-first ≡ false) (v8 : ℕ) (fits-v8 : v8 < 2 ^ 64) (inv1 : Loop.inv-1 count nodes register c x-from n x-first v8) (c3 : ltb v8 n ≡ true) (n3 : v8 < n) (ok-r1 : Found′.Ok (r1 count nodes register c x-from n x-first v8)) (c4 : r2 count nodes register c x-from n x-first v8 ≡ false)
+    → Loop.measure-1 count nodes register c x-from n x-first (v8 + 1) < Loop.measure-1 count nodes register c x-from n x-first v8
 
--- the function ensures: b ≡ someLost s (areasOf [] nodes register) (v .0) (from .0) n
+-- the function ensures: b ≡ someLost count (areasOf [] nodes register) c (from .0) n
 abbrev pub exit-4 : Type 0
 exit-4 =
-    (s : Store) (nodes : List ℕ) (register : List Record) (x-v : Version) (x-from : PageIndex) (n : ℕ) (x-first : Bool) (ok-s : Store′.Ok s) (len-nodes : length nodes < 2 ^ 64) (len-register : length register < 2 ^ 64) (ok-x-v : Version′.Ok x-v) (ok-x-from : PageIndex′.Ok x-from) (fits-n : n < 2 ^ 64) (need : some-lost″.req s nodes register x-v x-from n x-first) (c1 : eqb n 0 ≡ false) (n1 : 0 < n) (c2 : x-first ≡ false) (v8 : ℕ) (fits-v8 : v8 < 2 ^ 64) (inv1 : Loop.inv-1 s nodes register x-v x-from n x-first v8) (c3 : ltb v8 n ≡ false) (n3 : n ≤ v8)
-    → some-lost″.ens s nodes register x-v x-from n x-first false
+    (count : ℕ) (nodes : List ℕ) (register : List Record) (c : ℕ) (x-from : PageIndex) (n : ℕ) (x-first : Bool) (fits-count : count < 2 ^ 64) (len-nodes : length nodes < 2 ^ 64) (len-register : length register < 2 ^ 64) (fits-c : c < 2 ^ 64) (ok-x-from : PageIndex′.Ok x-from) (fits-n : n < 2 ^ 64) (need : some-lost″.req count nodes register c x-from n x-first) (c1 : eqb n 0 ≡ false) (n1 : 0 < n) (c2 : x-first ≡ false) (v8 : ℕ) (fits-v8 : v8 < 2 ^ 64) (inv1 : Loop.inv-1 count nodes register c x-from n x-first v8) (c3 : ltb v8 n ≡ false) (n3 : n ≤ v8)
+    → some-lost″.ens count nodes register c x-from n x-first false
 
 -- the invariant holds where the loop begins
 abbrev pub start-1 : Type 0
 start-1 =
-    (s : Store) (nodes : List ℕ) (register : List Record) (x-v : Version) (x-from : PageIndex) (n : ℕ) (x-first : Bool) (ok-s : Store′.Ok s) (len-nodes : length nodes < 2 ^ 64) (len-register : length register < 2 ^ 64) (ok-x-v : Version′.Ok x-v) (ok-x-from : PageIndex′.Ok x-from) (fits-n : n < 2 ^ 64) (need : some-lost″.req s nodes register x-v x-from n x-first) (c1 : eqb n 0 ≡ false) (n1 : 0 < n) (c2 : x-first ≡ false)
-    → Loop.inv-1 s nodes register x-v x-from n x-first 1
+    (count : ℕ) (nodes : List ℕ) (register : List Record) (c : ℕ) (x-from : PageIndex) (n : ℕ) (x-first : Bool) (fits-count : count < 2 ^ 64) (len-nodes : length nodes < 2 ^ 64) (len-register : length register < 2 ^ 64) (fits-c : c < 2 ^ 64) (ok-x-from : PageIndex′.Ok x-from) (fits-n : n < 2 ^ 64) (need : some-lost″.req count nodes register c x-from n x-first) (c1 : eqb n 0 ≡ false) (n1 : 0 < n) (c2 : x-first ≡ false)
+    → Loop.inv-1 count nodes register c x-from n x-first 1

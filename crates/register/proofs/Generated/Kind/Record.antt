@@ -20,12 +20,12 @@ use denote.Laws.{Is, Tells, Copy, Makes}
 use denote.Plain.{uint-vals, bool-vals, nothing-vals}
 use denote.Builtin.{u8, u16, u32, u64, bool, unit}
 use denote.Struct.Laws as LL
+use Rattle.lines.specs.declared.Entries.{Entries}
+use Rattle.register.proofs.Generated.Kind.Entries as Entries′
 use Rattle.register.proofs.Generated.Kind.PageIndex as PageIndex′
 use Rattle.register.proofs.Generated.Kind.Ticket as Ticket′
-use Rattle.register.proofs.Generated.Kind.Version as Version′
 use Rattle.tree.specs.declared.PageIndex.{PageIndex}
 use Rattle.tree.specs.declared.Ticket.{Ticket}
-use Rattle.tree.specs.declared.Version.{Version}
 use Rattle.register.specs.declared.Record.{Record}
 use Rattle.register.proofs.Record as T′
 use Rattle.register.proofs.Record.Laws as T″
@@ -59,7 +59,7 @@ makes = LL.makes T′.the-type T″.the-plain
 
 -- a value to stand past the end of a list
 abbrev pub none : Record
-none = record { n = 0; number = 0; put = 0; version = Version′.none; ticket = Ticket′.none; f = PageIndex′.none; last = PageIndex′.none; size = 0; place = 0; woven = 0 }
+none = record { n = 0; number = 0; put = 0; update = 0; ticket = Ticket′.none; name = 0; f = PageIndex′.none; last = PageIndex′.none; size = 0; place = 0; woven = 0; entries = Entries′.none }
 
 pub ok-n : (d : Record) → Ok d → Is u64 (d .n) (uint-vals w64 (d .n))
 ok-n d g = LL.owed T′.the-type T″.the-laws d _ g .0
@@ -70,35 +70,41 @@ ok-number d g = LL.owed T′.the-type T″.the-laws d _ g .1 .0
 pub ok-put : (d : Record) → Ok d → Is u64 (d .put) (uint-vals w64 (d .put))
 ok-put d g = LL.owed T′.the-type T″.the-laws d _ g .1 .1 .0
 
-pub ok-version : (d : Record) → Ok d → Is Version′.row (d .version) (Version′.vals (d .version))
-ok-version d g = LL.owed T′.the-type T″.the-laws d _ g .1 .1 .1 .0
+pub ok-update : (d : Record) → Ok d → Is u64 (d .update) (uint-vals w64 (d .update))
+ok-update d g = LL.owed T′.the-type T″.the-laws d _ g .1 .1 .1 .0
 
 pub ok-ticket : (d : Record) → Ok d → Is Ticket′.row (d .ticket) (Ticket′.vals (d .ticket))
 ok-ticket d g = LL.owed T′.the-type T″.the-laws d _ g .1 .1 .1 .1 .0
 
+pub ok-name : (d : Record) → Ok d → Is u64 (d .name) (uint-vals w64 (d .name))
+ok-name d g = LL.owed T′.the-type T″.the-laws d _ g .1 .1 .1 .1 .1 .0
+
 pub ok-f : (d : Record) → Ok d → Is PageIndex′.row (d .f) (PageIndex′.vals (d .f))
-ok-f d g = LL.owed T′.the-type T″.the-laws d _ g .1 .1 .1 .1 .1 .0
+ok-f d g = LL.owed T′.the-type T″.the-laws d _ g .1 .1 .1 .1 .1 .1 .0
 
 pub ok-last : (d : Record) → Ok d → Is PageIndex′.row (d .last) (PageIndex′.vals (d .last))
-ok-last d g = LL.owed T′.the-type T″.the-laws d _ g .1 .1 .1 .1 .1 .1 .0
+ok-last d g = LL.owed T′.the-type T″.the-laws d _ g .1 .1 .1 .1 .1 .1 .1 .0
 
 pub ok-size : (d : Record) → Ok d → Is u64 (d .size) (uint-vals w64 (d .size))
-ok-size d g = LL.owed T′.the-type T″.the-laws d _ g .1 .1 .1 .1 .1 .1 .1 .0
+ok-size d g = LL.owed T′.the-type T″.the-laws d _ g .1 .1 .1 .1 .1 .1 .1 .1 .0
 
 pub ok-place : (d : Record) → Ok d → Is u64 (d .place) (uint-vals w64 (d .place))
-ok-place d g = LL.owed T′.the-type T″.the-laws d _ g .1 .1 .1 .1 .1 .1 .1 .1 .0
+ok-place d g = LL.owed T′.the-type T″.the-laws d _ g .1 .1 .1 .1 .1 .1 .1 .1 .1 .0
 
 pub ok-woven : (d : Record) → Ok d → Is u64 (d .woven) (uint-vals w64 (d .woven))
-ok-woven d g = LL.owed T′.the-type T″.the-laws d _ g .1 .1 .1 .1 .1 .1 .1 .1 .1 .0
+ok-woven d g = LL.owed T′.the-type T″.the-laws d _ g .1 .1 .1 .1 .1 .1 .1 .1 .1 .1 .0
 
-abbrev pub build : ℕ → ℕ → ℕ → Version → Ticket → PageIndex → PageIndex → ℕ → ℕ → ℕ → Record
-build y0 y1 y2 y3 y4 y5 y6 y7 y8 y9 = record { n = y0; number = y1; put = y2; version = y3; ticket = y4; f = y5; last = y6; size = y7; place = y8; woven = y9 }
+pub ok-entries : (d : Record) → Ok d → Is Entries′.row (d .entries) (Entries′.vals (d .entries))
+ok-entries d g = LL.owed T′.the-type T″.the-laws d _ g .1 .1 .1 .1 .1 .1 .1 .1 .1 .1 .1 .0
 
-pub make : (y0 : ℕ) (y1 : ℕ) (y2 : ℕ) (y3 : Version) (y4 : Ticket) (y5 : PageIndex) (y6 : PageIndex) (y7 : ℕ) (y8 : ℕ) (y9 : ℕ) → Is u64 y0 (uint-vals w64 y0) → Is u64 y1 (uint-vals w64 y1) → Is u64 y2 (uint-vals w64 y2) → Is Version′.row y3 (Version′.vals y3) → Is Ticket′.row y4 (Ticket′.vals y4) → Is PageIndex′.row y5 (PageIndex′.vals y5) → Is PageIndex′.row y6 (PageIndex′.vals y6) → Is u64 y7 (uint-vals w64 y7) → Is u64 y8 (uint-vals w64 y8) → Is u64 y9 (uint-vals w64 y9) → Ok (build y0 y1 y2 y3 y4 y5 y6 y7 y8 y9)
-make y0 y1 y2 y3 y4 y5 y6 y7 y8 y9 g0 g1 g2 g3 g4 g5 g6 g7 g8 g9 = LL.owes T′.the-type T″.the-laws (build y0 y1 y2 y3 y4 y5 y6 y7 y8 y9) (g0, (g1, (g2, (g3, (g4, (g5, (g6, (g7, (g8, (g9, tt))))))))))
+abbrev pub build : ℕ → ℕ → ℕ → ℕ → Ticket → ℕ → PageIndex → PageIndex → ℕ → ℕ → ℕ → Entries → Record
+build y0 y1 y2 y3 y4 y5 y6 y7 y8 y9 y10 y11 = record { n = y0; number = y1; put = y2; update = y3; ticket = y4; name = y5; f = y6; last = y7; size = y8; place = y9; woven = y10; entries = y11 }
+
+pub make : (y0 : ℕ) (y1 : ℕ) (y2 : ℕ) (y3 : ℕ) (y4 : Ticket) (y5 : ℕ) (y6 : PageIndex) (y7 : PageIndex) (y8 : ℕ) (y9 : ℕ) (y10 : ℕ) (y11 : Entries) → Is u64 y0 (uint-vals w64 y0) → Is u64 y1 (uint-vals w64 y1) → Is u64 y2 (uint-vals w64 y2) → Is u64 y3 (uint-vals w64 y3) → Is Ticket′.row y4 (Ticket′.vals y4) → Is u64 y5 (uint-vals w64 y5) → Is PageIndex′.row y6 (PageIndex′.vals y6) → Is PageIndex′.row y7 (PageIndex′.vals y7) → Is u64 y8 (uint-vals w64 y8) → Is u64 y9 (uint-vals w64 y9) → Is u64 y10 (uint-vals w64 y10) → Is Entries′.row y11 (Entries′.vals y11) → Ok (build y0 y1 y2 y3 y4 y5 y6 y7 y8 y9 y10 y11)
+make y0 y1 y2 y3 y4 y5 y6 y7 y8 y9 y10 y11 g0 g1 g2 g3 g4 g5 g6 g7 g8 g9 g10 g11 = LL.owes T′.the-type T″.the-laws (build y0 y1 y2 y3 y4 y5 y6 y7 y8 y9 y10 y11) (g0, (g1, (g2, (g3, (g4, (g5, (g6, (g7, (g8, (g9, (g10, (g11, tt))))))))))))
 
 abbrev pub stride : ℕ
-stride = 80
+stride = 120
 
 -- the byte offset of an element of a slice does not wrap
 pub scaled : (n i : ℕ) → i < n → n * stride < 2 ^ 63 → i * stride < 2 ^ 64

@@ -33,11 +33,15 @@ use denote.Triple.Spec.{tripleOf}
 use denote.Triple.Walked.{says}
 use Rattle.respond.proofs.Generated.Say.step_within as step-within″
 use Rattle.answers.specs.declared.Kept.{Kept}
-use Rattle.turns.proofs.Generated.Kind.Kept as Kept′
+use Rattle.answers.proofs.Generated.Kind.Kept as Kept′
 use Rattle.versions.specs.declared.Store.{Store}
 use Rattle.versions.proofs.Generated.Kind.Store as Store′
 use Rattle.tree.specs.declared.Ticket.{Ticket}
 use Rattle.register.proofs.Generated.Kind.Ticket as Ticket′
+use Rattle.lines.specs.declared.Branch.{Branch}
+use Rattle.versions.proofs.Generated.Kind.Branch as Branch′
+use Rattle.lines.specs.declared.Line.{Line}
+use Rattle.register.proofs.Generated.Kind.Line as Line′
 use Rattle.tree.specs.declared.Version.{Version}
 use Rattle.register.proofs.Generated.Kind.Version as Version′
 use Rattle.respond.specs.declared.Wanted.{Wanted}
@@ -46,16 +50,16 @@ use Rattle.respond.specs.declared.Fill.{Fill}
 use Rattle.respond.proofs.Generated.Kind.Fill as Fill′
 use Rattle.respond.specs.declared.Note.{Note}
 use Rattle.respond.proofs.Generated.Kind.Note as Note′
-use Rattle.tree.specs.declared.PageIndex.{PageIndex}
-use Rattle.register.proofs.Generated.Kind.PageIndex as PageIndex′
 use Rattle.respond.specs.declared.Look.{Look}
 use Rattle.respond.proofs.Generated.Kind.Look as Look′
-use Rattle.versions.specs.declared.ByteOffset.{ByteOffset}
-use Rattle.respond.proofs.Generated.Kind.ByteOffset as ByteOffset′
 use Rattle.register.specs.declared.Record.{Record}
 use Rattle.register.proofs.Generated.Kind.Record as Record′
+use Rattle.tree.specs.declared.PageIndex.{PageIndex}
+use Rattle.register.proofs.Generated.Kind.PageIndex as PageIndex′
+use Rattle.lines.specs.declared.Entries.{Entries}
+use Rattle.register.proofs.Generated.Kind.Entries as Entries′
 use Rattle.answers.specs.declared.Turn.{Turn}
-use Rattle.turns.proofs.Generated.Kind.Turn as Turn′
+use Rattle.answers.proofs.Generated.Kind.Turn as Turn′
 use Rattle.register.proofs.Generated.Flow.{ref, MutAt, ShrAt, keeps-shr, plus-nothing}
 use Rattle.respond.proofs.step_within as callee
 use Rattle.respond.proofs.step_within.Symbol.{name as #callee}

@@ -20,10 +20,6 @@ use denote.Laws.{Is, Tells, Copy, Makes}
 use denote.Plain.{uint-vals, bool-vals, nothing-vals}
 use denote.Builtin.{u8, u16, u32, u64, bool, unit}
 use denote.Enum.Laws as LL
-use Rattle.register.proofs.Generated.Kind.Ticket as Ticket′
-use Rattle.tree.specs.declared.Ticket.{Ticket}
-use Rattle.versions.proofs.Generated.Kind.Store as Store′
-use Rattle.versions.specs.declared.Store.{Store}
 use Rattle.respond.specs.declared.Fill.{Fill}
 use Rattle.respond.proofs.Fill as T′
 use Rattle.respond.proofs.Fill.Laws as T″
@@ -57,41 +53,50 @@ makes = LL.makes T′.the-type T″.the-plain
 
 -- a value to stand past the end of a list
 abbrev pub none : Fill
-none = Fill.Format Store′.none
+none = Fill.Format 0 0 0 0
 
 -- by cases on a value, within a walk
 module _ {M : Type 1} {𝓤 : URA M} {H : Heap 𝓤} {A : Atoms 𝓤} {K : Type 0} {W : Given 𝓤 H A} {Γ : List (Item 𝓤)} {G : Goal 𝓤 H} where
-  pub cases : K → (d : Fill) → ((y0 : Store) → d ≡ Fill.Format y0 → Seq K W Γ G) → ((y0 : Ticket) → (y1 : ℕ) → (y2 : ℕ) → d ≡ Fill.Put y0 y1 y2 → Seq K W Γ G) → ((y0 : Ticket) → d ≡ Fill.Weave y0 → Seq K W Γ G) → Seq K W Γ G
-  cases t (Fill.Format y0) k0 k1 k2 = k0 y0 refl
+  pub cases : K → (d : Fill) → ((y0 : ℕ) → (y1 : ℕ) → (y2 : ℕ) → (y3 : ℕ) → d ≡ Fill.Format y0 y1 y2 y3 → Seq K W Γ G) → ((y0 : ℕ) → (y1 : ℕ) → (y2 : ℕ) → d ≡ Fill.Put y0 y1 y2 → Seq K W Γ G) → ((y0 : ℕ) → d ≡ Fill.Weave y0 → Seq K W Γ G) → Seq K W Γ G
+  cases t (Fill.Format y0 y1 y2 y3) k0 k1 k2 = k0 y0 y1 y2 y3 refl
   cases t (Fill.Put y0 y1 y2) k0 k1 k2 = k1 y0 y1 y2 refl
   cases t (Fill.Weave y0) k0 k1 k2 = k2 y0 refl
 
-pub make-Format : (y0 : Store) → Is Store′.row y0 (Store′.vals y0) → Ok (Fill.Format y0)
-make-Format y0 g0 = LL.owes T′.the-type T″.the-laws (Fill.Format y0) (g0, tt)
+pub make-Format : (y0 : ℕ) → (y1 : ℕ) → (y2 : ℕ) → (y3 : ℕ) → Is u64 y0 (uint-vals w64 y0) → Is u64 y1 (uint-vals w64 y1) → Is u64 y2 (uint-vals w64 y2) → Is u64 y3 (uint-vals w64 y3) → Ok (Fill.Format y0 y1 y2 y3)
+make-Format y0 y1 y2 y3 g0 g1 g2 g3 = LL.owes T′.the-type T″.the-laws (Fill.Format y0 y1 y2 y3) (g0, (g1, (g2, (g3, tt))))
 
-pub ok-Format-0 : (y0 : Store) → Ok (Fill.Format y0) → Is Store′.row y0 (Store′.vals y0)
-ok-Format-0 y0 g = LL.owed T′.the-type T″.the-laws (Fill.Format y0) _ g .0
+pub ok-Format-0 : (y0 : ℕ) → (y1 : ℕ) → (y2 : ℕ) → (y3 : ℕ) → Ok (Fill.Format y0 y1 y2 y3) → Is u64 y0 (uint-vals w64 y0)
+ok-Format-0 y0 y1 y2 y3 g = LL.owed T′.the-type T″.the-laws (Fill.Format y0 y1 y2 y3) _ g .0
 
-pub make-Put : (y0 : Ticket) → (y1 : ℕ) → (y2 : ℕ) → Is Ticket′.row y0 (Ticket′.vals y0) → Is u64 y1 (uint-vals w64 y1) → Is u64 y2 (uint-vals w64 y2) → Ok (Fill.Put y0 y1 y2)
+pub ok-Format-1 : (y0 : ℕ) → (y1 : ℕ) → (y2 : ℕ) → (y3 : ℕ) → Ok (Fill.Format y0 y1 y2 y3) → Is u64 y1 (uint-vals w64 y1)
+ok-Format-1 y0 y1 y2 y3 g = LL.owed T′.the-type T″.the-laws (Fill.Format y0 y1 y2 y3) _ g .1 .0
+
+pub ok-Format-2 : (y0 : ℕ) → (y1 : ℕ) → (y2 : ℕ) → (y3 : ℕ) → Ok (Fill.Format y0 y1 y2 y3) → Is u64 y2 (uint-vals w64 y2)
+ok-Format-2 y0 y1 y2 y3 g = LL.owed T′.the-type T″.the-laws (Fill.Format y0 y1 y2 y3) _ g .1 .1 .0
+
+pub ok-Format-3 : (y0 : ℕ) → (y1 : ℕ) → (y2 : ℕ) → (y3 : ℕ) → Ok (Fill.Format y0 y1 y2 y3) → Is u64 y3 (uint-vals w64 y3)
+ok-Format-3 y0 y1 y2 y3 g = LL.owed T′.the-type T″.the-laws (Fill.Format y0 y1 y2 y3) _ g .1 .1 .1 .0
+
+pub make-Put : (y0 : ℕ) → (y1 : ℕ) → (y2 : ℕ) → Is u64 y0 (uint-vals w64 y0) → Is u64 y1 (uint-vals w64 y1) → Is u64 y2 (uint-vals w64 y2) → Ok (Fill.Put y0 y1 y2)
 make-Put y0 y1 y2 g0 g1 g2 = LL.owes T′.the-type T″.the-laws (Fill.Put y0 y1 y2) (g0, (g1, (g2, tt)))
 
-pub ok-Put-0 : (y0 : Ticket) → (y1 : ℕ) → (y2 : ℕ) → Ok (Fill.Put y0 y1 y2) → Is Ticket′.row y0 (Ticket′.vals y0)
+pub ok-Put-0 : (y0 : ℕ) → (y1 : ℕ) → (y2 : ℕ) → Ok (Fill.Put y0 y1 y2) → Is u64 y0 (uint-vals w64 y0)
 ok-Put-0 y0 y1 y2 g = LL.owed T′.the-type T″.the-laws (Fill.Put y0 y1 y2) _ g .0
 
-pub ok-Put-1 : (y0 : Ticket) → (y1 : ℕ) → (y2 : ℕ) → Ok (Fill.Put y0 y1 y2) → Is u64 y1 (uint-vals w64 y1)
+pub ok-Put-1 : (y0 : ℕ) → (y1 : ℕ) → (y2 : ℕ) → Ok (Fill.Put y0 y1 y2) → Is u64 y1 (uint-vals w64 y1)
 ok-Put-1 y0 y1 y2 g = LL.owed T′.the-type T″.the-laws (Fill.Put y0 y1 y2) _ g .1 .0
 
-pub ok-Put-2 : (y0 : Ticket) → (y1 : ℕ) → (y2 : ℕ) → Ok (Fill.Put y0 y1 y2) → Is u64 y2 (uint-vals w64 y2)
+pub ok-Put-2 : (y0 : ℕ) → (y1 : ℕ) → (y2 : ℕ) → Ok (Fill.Put y0 y1 y2) → Is u64 y2 (uint-vals w64 y2)
 ok-Put-2 y0 y1 y2 g = LL.owed T′.the-type T″.the-laws (Fill.Put y0 y1 y2) _ g .1 .1 .0
 
-pub make-Weave : (y0 : Ticket) → Is Ticket′.row y0 (Ticket′.vals y0) → Ok (Fill.Weave y0)
+pub make-Weave : (y0 : ℕ) → Is u64 y0 (uint-vals w64 y0) → Ok (Fill.Weave y0)
 make-Weave y0 g0 = LL.owes T′.the-type T″.the-laws (Fill.Weave y0) (g0, tt)
 
-pub ok-Weave-0 : (y0 : Ticket) → Ok (Fill.Weave y0) → Is Ticket′.row y0 (Ticket′.vals y0)
+pub ok-Weave-0 : (y0 : ℕ) → Ok (Fill.Weave y0) → Is u64 y0 (uint-vals w64 y0)
 ok-Weave-0 y0 g = LL.owed T′.the-type T″.the-laws (Fill.Weave y0) _ g .0
 
 abbrev pub stride : ℕ
-stride = 88
+stride = 40
 
 -- the byte offset of an element of a slice does not wrap
 pub scaled : (n i : ℕ) → i < n → n * stride < 2 ^ 63 → i * stride < 2 ^ 64

@@ -20,12 +20,6 @@ use denote.Laws.{Is, Tells, Copy, Makes}
 use denote.Plain.{uint-vals, bool-vals, nothing-vals}
 use denote.Builtin.{u8, u16, u32, u64, bool, unit}
 use denote.Enum.Laws as LL
-use Rattle.register.proofs.Generated.Kind.PageIndex as PageIndex′
-use Rattle.register.proofs.Generated.Kind.Version as Version′
-use Rattle.respond.proofs.Generated.Kind.ByteOffset as ByteOffset′
-use Rattle.tree.specs.declared.PageIndex.{PageIndex}
-use Rattle.tree.specs.declared.Version.{Version}
-use Rattle.versions.specs.declared.ByteOffset.{ByteOffset}
 use Rattle.respond.specs.declared.Look.{Look}
 use Rattle.respond.proofs.Look as T′
 use Rattle.respond.proofs.Look.Laws as T″
@@ -59,52 +53,77 @@ makes = LL.makes T′.the-type T″.the-plain
 
 -- a value to stand past the end of a list
 abbrev pub none : Look
-none = Look.Publish
+none = Look.Publish 0
 
 -- by cases on a value, within a walk
 module _ {M : Type 1} {𝓤 : URA M} {H : Heap 𝓤} {A : Atoms 𝓤} {K : Type 0} {W : Given 𝓤 H A} {Γ : List (Item 𝓤)} {G : Goal 𝓤 H} where
-  pub cases : K → (d : Look) → (d ≡ Look.Publish → Seq K W Γ G) → ((y0 : Version) → (y1 : ByteOffset) → (y2 : ℕ) → d ≡ Look.Read y0 y1 y2 → Seq K W Γ G) → ((y0 : Version) → d ≡ Look.Size y0 → Seq K W Γ G) → (d ≡ Look.Recent → Seq K W Γ G) → ((y0 : Version) → (y1 : PageIndex) → d ≡ Look.Stamp y0 y1 → Seq K W Γ G) → Seq K W Γ G
-  cases t (Look.Publish) k0 k1 k2 k3 k4 = k0 refl
-  cases t (Look.Read y0 y1 y2) k0 k1 k2 k3 k4 = k1 y0 y1 y2 refl
-  cases t (Look.Size y0) k0 k1 k2 k3 k4 = k2 y0 refl
-  cases t (Look.Recent) k0 k1 k2 k3 k4 = k3 refl
-  cases t (Look.Stamp y0 y1) k0 k1 k2 k3 k4 = k4 y0 y1 refl
+  pub cases : K → (d : Look) → ((y0 : ℕ) → d ≡ Look.Publish y0 → Seq K W Γ G) → ((y0 : ℕ) → (y1 : ℕ) → d ≡ Look.Branch y0 y1 → Seq K W Γ G) → ((y0 : ℕ) → (y1 : ℕ) → (y2 : ℕ) → (y3 : ℕ) → d ≡ Look.Read y0 y1 y2 y3 → Seq K W Γ G) → ((y0 : ℕ) → (y1 : ℕ) → d ≡ Look.Size y0 y1 → Seq K W Γ G) → ((y0 : ℕ) → d ≡ Look.Recent y0 → Seq K W Γ G) → ((y0 : ℕ) → (y1 : ℕ) → (y2 : ℕ) → d ≡ Look.Stamp y0 y1 y2 → Seq K W Γ G) → Seq K W Γ G
+  cases t (Look.Publish y0) k0 k1 k2 k3 k4 k5 = k0 y0 refl
+  cases t (Look.Branch y0 y1) k0 k1 k2 k3 k4 k5 = k1 y0 y1 refl
+  cases t (Look.Read y0 y1 y2 y3) k0 k1 k2 k3 k4 k5 = k2 y0 y1 y2 y3 refl
+  cases t (Look.Size y0 y1) k0 k1 k2 k3 k4 k5 = k3 y0 y1 refl
+  cases t (Look.Recent y0) k0 k1 k2 k3 k4 k5 = k4 y0 refl
+  cases t (Look.Stamp y0 y1 y2) k0 k1 k2 k3 k4 k5 = k5 y0 y1 y2 refl
 
-pub make-Publish : Ok Look.Publish
-make-Publish = LL.owes T′.the-type T″.the-laws Look.Publish tt
+pub make-Publish : (y0 : ℕ) → Is u64 y0 (uint-vals w64 y0) → Ok (Look.Publish y0)
+make-Publish y0 g0 = LL.owes T′.the-type T″.the-laws (Look.Publish y0) (g0, tt)
 
-pub make-Read : (y0 : Version) → (y1 : ByteOffset) → (y2 : ℕ) → Is Version′.row y0 (Version′.vals y0) → Is ByteOffset′.row y1 (ByteOffset′.vals y1) → Is u64 y2 (uint-vals w64 y2) → Ok (Look.Read y0 y1 y2)
-make-Read y0 y1 y2 g0 g1 g2 = LL.owes T′.the-type T″.the-laws (Look.Read y0 y1 y2) (g0, (g1, (g2, tt)))
+pub ok-Publish-0 : (y0 : ℕ) → Ok (Look.Publish y0) → Is u64 y0 (uint-vals w64 y0)
+ok-Publish-0 y0 g = LL.owed T′.the-type T″.the-laws (Look.Publish y0) _ g .0
 
-pub ok-Read-0 : (y0 : Version) → (y1 : ByteOffset) → (y2 : ℕ) → Ok (Look.Read y0 y1 y2) → Is Version′.row y0 (Version′.vals y0)
-ok-Read-0 y0 y1 y2 g = LL.owed T′.the-type T″.the-laws (Look.Read y0 y1 y2) _ g .0
+pub make-Branch : (y0 : ℕ) → (y1 : ℕ) → Is u64 y0 (uint-vals w64 y0) → Is u64 y1 (uint-vals w64 y1) → Ok (Look.Branch y0 y1)
+make-Branch y0 y1 g0 g1 = LL.owes T′.the-type T″.the-laws (Look.Branch y0 y1) (g0, (g1, tt))
 
-pub ok-Read-1 : (y0 : Version) → (y1 : ByteOffset) → (y2 : ℕ) → Ok (Look.Read y0 y1 y2) → Is ByteOffset′.row y1 (ByteOffset′.vals y1)
-ok-Read-1 y0 y1 y2 g = LL.owed T′.the-type T″.the-laws (Look.Read y0 y1 y2) _ g .1 .0
+pub ok-Branch-0 : (y0 : ℕ) → (y1 : ℕ) → Ok (Look.Branch y0 y1) → Is u64 y0 (uint-vals w64 y0)
+ok-Branch-0 y0 y1 g = LL.owed T′.the-type T″.the-laws (Look.Branch y0 y1) _ g .0
 
-pub ok-Read-2 : (y0 : Version) → (y1 : ByteOffset) → (y2 : ℕ) → Ok (Look.Read y0 y1 y2) → Is u64 y2 (uint-vals w64 y2)
-ok-Read-2 y0 y1 y2 g = LL.owed T′.the-type T″.the-laws (Look.Read y0 y1 y2) _ g .1 .1 .0
+pub ok-Branch-1 : (y0 : ℕ) → (y1 : ℕ) → Ok (Look.Branch y0 y1) → Is u64 y1 (uint-vals w64 y1)
+ok-Branch-1 y0 y1 g = LL.owed T′.the-type T″.the-laws (Look.Branch y0 y1) _ g .1 .0
 
-pub make-Size : (y0 : Version) → Is Version′.row y0 (Version′.vals y0) → Ok (Look.Size y0)
-make-Size y0 g0 = LL.owes T′.the-type T″.the-laws (Look.Size y0) (g0, tt)
+pub make-Read : (y0 : ℕ) → (y1 : ℕ) → (y2 : ℕ) → (y3 : ℕ) → Is u64 y0 (uint-vals w64 y0) → Is u64 y1 (uint-vals w64 y1) → Is u64 y2 (uint-vals w64 y2) → Is u64 y3 (uint-vals w64 y3) → Ok (Look.Read y0 y1 y2 y3)
+make-Read y0 y1 y2 y3 g0 g1 g2 g3 = LL.owes T′.the-type T″.the-laws (Look.Read y0 y1 y2 y3) (g0, (g1, (g2, (g3, tt))))
 
-pub ok-Size-0 : (y0 : Version) → Ok (Look.Size y0) → Is Version′.row y0 (Version′.vals y0)
-ok-Size-0 y0 g = LL.owed T′.the-type T″.the-laws (Look.Size y0) _ g .0
+pub ok-Read-0 : (y0 : ℕ) → (y1 : ℕ) → (y2 : ℕ) → (y3 : ℕ) → Ok (Look.Read y0 y1 y2 y3) → Is u64 y0 (uint-vals w64 y0)
+ok-Read-0 y0 y1 y2 y3 g = LL.owed T′.the-type T″.the-laws (Look.Read y0 y1 y2 y3) _ g .0
 
-pub make-Recent : Ok Look.Recent
-make-Recent = LL.owes T′.the-type T″.the-laws Look.Recent tt
+pub ok-Read-1 : (y0 : ℕ) → (y1 : ℕ) → (y2 : ℕ) → (y3 : ℕ) → Ok (Look.Read y0 y1 y2 y3) → Is u64 y1 (uint-vals w64 y1)
+ok-Read-1 y0 y1 y2 y3 g = LL.owed T′.the-type T″.the-laws (Look.Read y0 y1 y2 y3) _ g .1 .0
 
-pub make-Stamp : (y0 : Version) → (y1 : PageIndex) → Is Version′.row y0 (Version′.vals y0) → Is PageIndex′.row y1 (PageIndex′.vals y1) → Ok (Look.Stamp y0 y1)
-make-Stamp y0 y1 g0 g1 = LL.owes T′.the-type T″.the-laws (Look.Stamp y0 y1) (g0, (g1, tt))
+pub ok-Read-2 : (y0 : ℕ) → (y1 : ℕ) → (y2 : ℕ) → (y3 : ℕ) → Ok (Look.Read y0 y1 y2 y3) → Is u64 y2 (uint-vals w64 y2)
+ok-Read-2 y0 y1 y2 y3 g = LL.owed T′.the-type T″.the-laws (Look.Read y0 y1 y2 y3) _ g .1 .1 .0
 
-pub ok-Stamp-0 : (y0 : Version) → (y1 : PageIndex) → Ok (Look.Stamp y0 y1) → Is Version′.row y0 (Version′.vals y0)
-ok-Stamp-0 y0 y1 g = LL.owed T′.the-type T″.the-laws (Look.Stamp y0 y1) _ g .0
+pub ok-Read-3 : (y0 : ℕ) → (y1 : ℕ) → (y2 : ℕ) → (y3 : ℕ) → Ok (Look.Read y0 y1 y2 y3) → Is u64 y3 (uint-vals w64 y3)
+ok-Read-3 y0 y1 y2 y3 g = LL.owed T′.the-type T″.the-laws (Look.Read y0 y1 y2 y3) _ g .1 .1 .1 .0
 
-pub ok-Stamp-1 : (y0 : Version) → (y1 : PageIndex) → Ok (Look.Stamp y0 y1) → Is PageIndex′.row y1 (PageIndex′.vals y1)
-ok-Stamp-1 y0 y1 g = LL.owed T′.the-type T″.the-laws (Look.Stamp y0 y1) _ g .1 .0
+pub make-Size : (y0 : ℕ) → (y1 : ℕ) → Is u64 y0 (uint-vals w64 y0) → Is u64 y1 (uint-vals w64 y1) → Ok (Look.Size y0 y1)
+make-Size y0 y1 g0 g1 = LL.owes T′.the-type T″.the-laws (Look.Size y0 y1) (g0, (g1, tt))
+
+pub ok-Size-0 : (y0 : ℕ) → (y1 : ℕ) → Ok (Look.Size y0 y1) → Is u64 y0 (uint-vals w64 y0)
+ok-Size-0 y0 y1 g = LL.owed T′.the-type T″.the-laws (Look.Size y0 y1) _ g .0
+
+pub ok-Size-1 : (y0 : ℕ) → (y1 : ℕ) → Ok (Look.Size y0 y1) → Is u64 y1 (uint-vals w64 y1)
+ok-Size-1 y0 y1 g = LL.owed T′.the-type T″.the-laws (Look.Size y0 y1) _ g .1 .0
+
+pub make-Recent : (y0 : ℕ) → Is u64 y0 (uint-vals w64 y0) → Ok (Look.Recent y0)
+make-Recent y0 g0 = LL.owes T′.the-type T″.the-laws (Look.Recent y0) (g0, tt)
+
+pub ok-Recent-0 : (y0 : ℕ) → Ok (Look.Recent y0) → Is u64 y0 (uint-vals w64 y0)
+ok-Recent-0 y0 g = LL.owed T′.the-type T″.the-laws (Look.Recent y0) _ g .0
+
+pub make-Stamp : (y0 : ℕ) → (y1 : ℕ) → (y2 : ℕ) → Is u64 y0 (uint-vals w64 y0) → Is u64 y1 (uint-vals w64 y1) → Is u64 y2 (uint-vals w64 y2) → Ok (Look.Stamp y0 y1 y2)
+make-Stamp y0 y1 y2 g0 g1 g2 = LL.owes T′.the-type T″.the-laws (Look.Stamp y0 y1 y2) (g0, (g1, (g2, tt)))
+
+pub ok-Stamp-0 : (y0 : ℕ) → (y1 : ℕ) → (y2 : ℕ) → Ok (Look.Stamp y0 y1 y2) → Is u64 y0 (uint-vals w64 y0)
+ok-Stamp-0 y0 y1 y2 g = LL.owed T′.the-type T″.the-laws (Look.Stamp y0 y1 y2) _ g .0
+
+pub ok-Stamp-1 : (y0 : ℕ) → (y1 : ℕ) → (y2 : ℕ) → Ok (Look.Stamp y0 y1 y2) → Is u64 y1 (uint-vals w64 y1)
+ok-Stamp-1 y0 y1 y2 g = LL.owed T′.the-type T″.the-laws (Look.Stamp y0 y1 y2) _ g .1 .0
+
+pub ok-Stamp-2 : (y0 : ℕ) → (y1 : ℕ) → (y2 : ℕ) → Ok (Look.Stamp y0 y1 y2) → Is u64 y2 (uint-vals w64 y2)
+ok-Stamp-2 y0 y1 y2 g = LL.owed T′.the-type T″.the-laws (Look.Stamp y0 y1 y2) _ g .1 .1 .0
 
 abbrev pub stride : ℕ
-stride = 32
+stride = 40
 
 -- the byte offset of an element of a slice does not wrap
 pub scaled : (n i : ℕ) → i < n → n * stride < 2 ^ 63 → i * stride < 2 ^ 64

@@ -20,10 +20,6 @@ use denote.Laws.{Is, Tells, Copy, Makes}
 use denote.Plain.{uint-vals, bool-vals, nothing-vals}
 use denote.Builtin.{u8, u16, u32, u64, bool, unit}
 use denote.Enum.Laws as LL
-use Rattle.register.proofs.Generated.Kind.PageIndex as PageIndex′
-use Rattle.register.proofs.Generated.Kind.Ticket as Ticket′
-use Rattle.tree.specs.declared.PageIndex.{PageIndex}
-use Rattle.tree.specs.declared.Ticket.{Ticket}
 use Rattle.respond.specs.declared.Note.{Note}
 use Rattle.respond.proofs.Note as T′
 use Rattle.respond.proofs.Note.Laws as T″
@@ -61,10 +57,10 @@ none = Note.Begin 0
 
 -- by cases on a value, within a walk
 module _ {M : Type 1} {𝓤 : URA M} {H : Heap 𝓤} {A : Atoms 𝓤} {K : Type 0} {W : Given 𝓤 H A} {Γ : List (Item 𝓤)} {G : Goal 𝓤 H} where
-  pub cases : K → (d : Note) → ((y0 : ℕ) → d ≡ Note.Begin y0 → Seq K W Γ G) → ((y0 : Ticket) → (y1 : PageIndex) → d ≡ Note.Write y0 y1 → Seq K W Γ G) → ((y0 : Ticket) → d ≡ Note.Append y0 → Seq K W Γ G) → Seq K W Γ G
+  pub cases : K → (d : Note) → ((y0 : ℕ) → d ≡ Note.Begin y0 → Seq K W Γ G) → ((y0 : ℕ) → (y1 : ℕ) → (y2 : ℕ) → d ≡ Note.Write y0 y1 y2 → Seq K W Γ G) → ((y0 : ℕ) → (y1 : ℕ) → d ≡ Note.Append y0 y1 → Seq K W Γ G) → Seq K W Γ G
   cases t (Note.Begin y0) k0 k1 k2 = k0 y0 refl
-  cases t (Note.Write y0 y1) k0 k1 k2 = k1 y0 y1 refl
-  cases t (Note.Append y0) k0 k1 k2 = k2 y0 refl
+  cases t (Note.Write y0 y1 y2) k0 k1 k2 = k1 y0 y1 y2 refl
+  cases t (Note.Append y0 y1) k0 k1 k2 = k2 y0 y1 refl
 
 pub make-Begin : (y0 : ℕ) → Is u64 y0 (uint-vals w64 y0) → Ok (Note.Begin y0)
 make-Begin y0 g0 = LL.owes T′.the-type T″.the-laws (Note.Begin y0) (g0, tt)
@@ -72,23 +68,29 @@ make-Begin y0 g0 = LL.owes T′.the-type T″.the-laws (Note.Begin y0) (g0, tt)
 pub ok-Begin-0 : (y0 : ℕ) → Ok (Note.Begin y0) → Is u64 y0 (uint-vals w64 y0)
 ok-Begin-0 y0 g = LL.owed T′.the-type T″.the-laws (Note.Begin y0) _ g .0
 
-pub make-Write : (y0 : Ticket) → (y1 : PageIndex) → Is Ticket′.row y0 (Ticket′.vals y0) → Is PageIndex′.row y1 (PageIndex′.vals y1) → Ok (Note.Write y0 y1)
-make-Write y0 y1 g0 g1 = LL.owes T′.the-type T″.the-laws (Note.Write y0 y1) (g0, (g1, tt))
+pub make-Write : (y0 : ℕ) → (y1 : ℕ) → (y2 : ℕ) → Is u64 y0 (uint-vals w64 y0) → Is u64 y1 (uint-vals w64 y1) → Is u64 y2 (uint-vals w64 y2) → Ok (Note.Write y0 y1 y2)
+make-Write y0 y1 y2 g0 g1 g2 = LL.owes T′.the-type T″.the-laws (Note.Write y0 y1 y2) (g0, (g1, (g2, tt)))
 
-pub ok-Write-0 : (y0 : Ticket) → (y1 : PageIndex) → Ok (Note.Write y0 y1) → Is Ticket′.row y0 (Ticket′.vals y0)
-ok-Write-0 y0 y1 g = LL.owed T′.the-type T″.the-laws (Note.Write y0 y1) _ g .0
+pub ok-Write-0 : (y0 : ℕ) → (y1 : ℕ) → (y2 : ℕ) → Ok (Note.Write y0 y1 y2) → Is u64 y0 (uint-vals w64 y0)
+ok-Write-0 y0 y1 y2 g = LL.owed T′.the-type T″.the-laws (Note.Write y0 y1 y2) _ g .0
 
-pub ok-Write-1 : (y0 : Ticket) → (y1 : PageIndex) → Ok (Note.Write y0 y1) → Is PageIndex′.row y1 (PageIndex′.vals y1)
-ok-Write-1 y0 y1 g = LL.owed T′.the-type T″.the-laws (Note.Write y0 y1) _ g .1 .0
+pub ok-Write-1 : (y0 : ℕ) → (y1 : ℕ) → (y2 : ℕ) → Ok (Note.Write y0 y1 y2) → Is u64 y1 (uint-vals w64 y1)
+ok-Write-1 y0 y1 y2 g = LL.owed T′.the-type T″.the-laws (Note.Write y0 y1 y2) _ g .1 .0
 
-pub make-Append : (y0 : Ticket) → Is Ticket′.row y0 (Ticket′.vals y0) → Ok (Note.Append y0)
-make-Append y0 g0 = LL.owes T′.the-type T″.the-laws (Note.Append y0) (g0, tt)
+pub ok-Write-2 : (y0 : ℕ) → (y1 : ℕ) → (y2 : ℕ) → Ok (Note.Write y0 y1 y2) → Is u64 y2 (uint-vals w64 y2)
+ok-Write-2 y0 y1 y2 g = LL.owed T′.the-type T″.the-laws (Note.Write y0 y1 y2) _ g .1 .1 .0
 
-pub ok-Append-0 : (y0 : Ticket) → Ok (Note.Append y0) → Is Ticket′.row y0 (Ticket′.vals y0)
-ok-Append-0 y0 g = LL.owed T′.the-type T″.the-laws (Note.Append y0) _ g .0
+pub make-Append : (y0 : ℕ) → (y1 : ℕ) → Is u64 y0 (uint-vals w64 y0) → Is u64 y1 (uint-vals w64 y1) → Ok (Note.Append y0 y1)
+make-Append y0 y1 g0 g1 = LL.owes T′.the-type T″.the-laws (Note.Append y0 y1) (g0, (g1, tt))
+
+pub ok-Append-0 : (y0 : ℕ) → (y1 : ℕ) → Ok (Note.Append y0 y1) → Is u64 y0 (uint-vals w64 y0)
+ok-Append-0 y0 y1 g = LL.owed T′.the-type T″.the-laws (Note.Append y0 y1) _ g .0
+
+pub ok-Append-1 : (y0 : ℕ) → (y1 : ℕ) → Ok (Note.Append y0 y1) → Is u64 y1 (uint-vals w64 y1)
+ok-Append-1 y0 y1 g = LL.owed T′.the-type T″.the-laws (Note.Append y0 y1) _ g .1 .0
 
 abbrev pub stride : ℕ
-stride = 24
+stride = 32
 
 -- the byte offset of an element of a slice does not wrap
 pub scaled : (n i : ℕ) → i < n → n * stride < 2 ^ 63 → i * stride < 2 ^ 64

@@ -91,7 +91,7 @@ pub make-Nothing : Ok Wanted.Nothing
 make-Nothing = LL.owes T′.the-type T″.the-laws Wanted.Nothing tt
 
 abbrev pub stride : ℕ
-stride = 96
+stride = 48
 
 -- the byte offset of an element of a slice does not wrap
 pub scaled : (n i : ℕ) → i < n → n * stride < 2 ^ 63 → i * stride < 2 ^ 64

@@ -5,16 +5,18 @@ use Prim.Native.Nat.{ℕ, _*_, min}
 use mathlib.Core.List.{List}
 use mathlib.Core.Bool.{Bool}
 use mathlib.Core.Path.{_≡_}
+use Rattle.text.specs.Buffer.{front}
+use Rattle.parse.specs.Cut.{cutMeant}
 use Rattle.respond.specs.Wanted.{nothingKept, beyond, formatWanted, readWanted, wantedBy, storeFor, lengthsFor}
 use Rattle.answers.specs.declared.Kept.{Kept}
+use Rattle.lines.specs.declared.Branch.{Branch}
+use Rattle.lines.specs.declared.Line.{Line}
 use Rattle.respond.specs.declared.Fill.{Fill}
 use Rattle.respond.specs.declared.Look.{Look}
 use Rattle.respond.specs.declared.Note.{Note}
 use Rattle.respond.specs.declared.Wanted.{Wanted}
-use Rattle.tree.specs.declared.PageIndex.{PageIndex}
 use Rattle.tree.specs.declared.Ticket.{Ticket}
 use Rattle.tree.specs.declared.Version.{Version}
-use Rattle.versions.specs.declared.ByteOffset.{ByteOffset}
 use Rattle.versions.specs.declared.Store.{Store}
 
 abbrev pub ens : Kept → Wanted → Store → Type 0

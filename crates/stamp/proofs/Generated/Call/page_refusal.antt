@@ -32,18 +32,12 @@ use denote.Triple.Clauses.{Lasts, ensured, lasts}
 use denote.Triple.Spec.{tripleOf}
 use denote.Triple.Walked.{says}
 use Rattle.stamp.proofs.Generated.Say.page_refusal as page-refusal″
-use Rattle.versions.specs.declared.Store.{Store}
-use Rattle.versions.proofs.Generated.Kind.Store as Store′
-use Rattle.tree.specs.declared.Ticket.{Ticket}
-use Rattle.register.proofs.Generated.Kind.Ticket as Ticket′
-use Rattle.tree.specs.declared.Version.{Version}
-use Rattle.register.proofs.Generated.Kind.Version as Version′
-use Rattle.versions.specs.declared.Lengths.{Lengths}
-use Rattle.versions.proofs.Generated.Kind.Lengths as Lengths′
-use Rattle.register.specs.declared.Record.{Record}
-use Rattle.register.proofs.Generated.Kind.Record as Record′
+use Rattle.register.specs.declared.Part.{Part}
+use Rattle.register.proofs.Generated.Kind.Part as Part′
 use Rattle.tree.specs.declared.PageIndex.{PageIndex}
 use Rattle.register.proofs.Generated.Kind.PageIndex as PageIndex′
+use Rattle.tree.specs.declared.Version.{Version}
+use Rattle.register.proofs.Generated.Kind.Version as Version′
 use Rattle.tree.specs.declared.Found.{Found}
 use Rattle.walk.proofs.Generated.Kind.Found as Found′
 use Rattle.register.proofs.Generated.Flow.{ref, MutAt, ShrAt, keeps-shr, plus-nothing}
@@ -54,53 +48,53 @@ module _ {M : Type 1} (𝓤 : URA M) (H : Heap 𝓤) (A : Atoms 𝓤) (mem : Mem
   abbrev pub Asked : Contract 𝓤
   Asked = tripleOf 𝓤 H A callee.signature (callee.spec 𝓤 H A mem run)
 
-  abbrev pub to : (s : Store) (x-l : Lengths) (q : Record) (x-v : Version) (page : PageIndex) (x : Found) → Asked .Ghost
-  to s x-l q x-v page x = ((tt, tt, tt, (s, (x-l, (q, (x-v, (page, (x, tt)))))), (Store′.mach s ∷ [], (Lengths′.mach x-l ∷ [], (Record′.mach q ∷ [], (Version′.mach x-v ∷ [], (PageIndex′.mach page ∷ [], (Found′.mach x ∷ [], tt))))))), tt)
+  abbrev pub to : (x-k : ℕ) (pages : ℕ) (q : Part) (c : ℕ) (x-v : Version) (page : PageIndex) (x : Found) → Asked .Ghost
+  to x-k pages q c x-v page x = ((tt, tt, tt, (x-k, (pages, (q, (c, (x-v, (page, (x, tt))))))), (vint w64 x-k ∷ [], (vint w64 pages ∷ [], (Part′.mach q ∷ [], (vint w64 c ∷ [], (Version′.mach x-v ∷ [], (PageIndex′.mach page ∷ [], (Found′.mach x ∷ [], tt)))))))), tt)
 
 module _ {M : Type 1} {𝓤 : URA M} {H : Heap 𝓤} {A : Atoms 𝓤} {K : Type 0} {W : Given 𝓤 H A} {Γ : List (Item 𝓤)} where
   -- the call itself is made by `by-call`, from what the callee asks to what it has ensured
-  core : K → (mem : Memory → SProp 𝓤) (run : Routine → Fun 𝓤) → (s : Store) (x-l : Lengths) (q : Record) (x-v : Version) (page : PageIndex) (x : Found) → (G : Goal 𝓤 H) (after : Val → Goal 𝓤 H) → ((v : Val) → Soaks (after v))
-      → (((v : Val) → Seq K W (raw (Asked 𝓤 H A mem run .post (to 𝓤 H A mem run s x-l q x-v page x) v) ∷ Γ) (after v)) → Seq K W (raw (Asked 𝓤 H A mem run .pre (to 𝓤 H A mem run s x-l q x-v page x)) ∷ Γ) G) → Is Store′.row s (Store′.vals s) → Is Lengths′.row x-l (Lengths′.vals x-l) → Is Record′.row q (Record′.vals q) → Is Version′.row x-v (Version′.vals x-v) → Is PageIndex′.row page (PageIndex′.vals page) → Is Found′.row x (Found′.vals x) →
-      (Is u64 (page-refusal″.res s x-l q x-v page x) (uint-vals w64 (page-refusal″.res s x-l q x-v page x)) → Seq K W (Γ) (after (vint w64 (page-refusal″.res s x-l q x-v page x)))) → Seq K W (Γ) G
-  core t mem run s x-l q x-v page x G after soaks by-call ok·s ok·x-l ok·q ok·x-v ok·page ok·x k =
-      use0 W (raw (Asked 𝓤 H A mem run .pre (to 𝓤 H A mem run s x-l q x-v page x))) goes $
+  core : K → (mem : Memory → SProp 𝓤) (run : Routine → Fun 𝓤) → (x-k : ℕ) (pages : ℕ) (q : Part) (c : ℕ) (x-v : Version) (page : PageIndex) (x : Found) → (G : Goal 𝓤 H) (after : Val → Goal 𝓤 H) → ((v : Val) → Soaks (after v))
+      → (((v : Val) → Seq K W (raw (Asked 𝓤 H A mem run .post (to 𝓤 H A mem run x-k pages q c x-v page x) v) ∷ Γ) (after v)) → Seq K W (raw (Asked 𝓤 H A mem run .pre (to 𝓤 H A mem run x-k pages q c x-v page x)) ∷ Γ) G) → Is u64 x-k (uint-vals w64 x-k) → Is u64 pages (uint-vals w64 pages) → Is Part′.row q (Part′.vals q) → Is u64 c (uint-vals w64 c) → Is Version′.row x-v (Version′.vals x-v) → Is PageIndex′.row page (PageIndex′.vals page) → Is Found′.row x (Found′.vals x) →
+      (Is u64 (page-refusal″.res x-k pages q c x-v page x) (uint-vals w64 (page-refusal″.res x-k pages q c x-v page x)) → Seq K W (Γ) (after (vint w64 (page-refusal″.res x-k pages q c x-v page x)))) → Seq K W (Γ) G
+  core t mem run x-k pages q c x-v page x G after soaks by-call ok·x-k ok·pages ok·q ok·c ok·x-v ok·page ok·x k =
+      use0 W (raw (Asked 𝓤 H A mem run .pre (to 𝓤 H A mem run x-k pages q c x-v page x))) goes $
       by-call (λ v.
-      use1 W (later (some (λ (r· : ℕ). ((‵ ftrue) ⊛ ‵ (u64 .own r· (v ∷ []))) ⊛ raw (ensured 𝓤 H A callee.ended (callee.clauses 𝓤 H A mem run) tt (s, (x-l, (q, (x-v, (page, (x, tt)))))) tt r·)))) (id⊢ 𝓤 _) $ await t (soaks v) $ pick t (λ r·. split t $ move t (1 ∷ []) $
-      use1 W (some (λ (ws : Lasts callee.ended tt (s, (x-l, (q, (x-v, (page, (x, tt))))))). ‵ (lasts callee.ended tt (s, (x-l, (q, (x-v, (page, (x, tt)))))) ws) ⊛ raw (fact 𝓤 (page-refusal″.ens s x-l q x-v page x r·)))) (id⊢ 𝓤 _) $ pick t (λ ws. split t $ move t (1 ∷ []) $
-      heard t (page-refusal″.ens s x-l q x-v page x r·) (λ e. drop t $ split t $ move t (1 ∷ []) $ facts t u64 (Is u64) (shows 𝓤 H A u64) r· (v ∷ []) (λ is. drop t $
+      use1 W (later (some (λ (r· : ℕ). ((‵ ftrue) ⊛ ‵ (u64 .own r· (v ∷ []))) ⊛ raw (ensured 𝓤 H A callee.ended (callee.clauses 𝓤 H A mem run) tt (x-k, (pages, (q, (c, (x-v, (page, (x, tt))))))) tt r·)))) (id⊢ 𝓤 _) $ await t (soaks v) $ pick t (λ r·. split t $ move t (1 ∷ []) $
+      use1 W (some (λ (ws : Lasts callee.ended tt (x-k, (pages, (q, (c, (x-v, (page, (x, tt)))))))). ‵ (lasts callee.ended tt (x-k, (pages, (q, (c, (x-v, (page, (x, tt))))))) ws) ⊛ raw (fact 𝓤 (page-refusal″.ens x-k pages q c x-v page x r·)))) (id⊢ 𝓤 _) $ pick t (λ ws. split t $ move t (1 ∷ []) $
+      heard t (page-refusal″.ens x-k pages q c x-v page x r·) (λ e. drop t $ split t $ move t (1 ∷ []) $ facts t u64 (Is u64) (shows 𝓤 H A u64) r· (v ∷ []) (λ is. drop t $
       subst (λ (u : Val). Seq K W (Γ) (after u)) (sym (ap only (uint-tells w64 r· (v ∷ []) is) ∙ ap (λ (z : ℕ). vint w64 z) (e))) (k (subst (λ (z : ℕ). Is u64 z (uint-vals w64 z)) (e) (subst (Is u64 r·) (uint-tells w64 r· (v ∷ []) is) is))))))))
     where
-      goes : ent 𝓤 (⋆ 𝓤 H A ([])) (Asked 𝓤 H A mem run .pre (to 𝓤 H A mem run s x-l q x-v page x))
-      goes = qed W ([]) ∵ plus-nothing ! $ nothing ! $ frame ! $ nothing ! $ owned ! Found′.row (Is Found′.row) (Found′.makes 𝓤 H A) x _ ok·x $ fjoin ! $ owned ! PageIndex′.row (Is PageIndex′.row) (PageIndex′.makes 𝓤 H A) page _ ok·page $ fjoin ! $ owned ! Version′.row (Is Version′.row) (Version′.makes 𝓤 H A) x-v _ ok·x-v $ fjoin ! $ owned ! Record′.row (Is Record′.row) (Record′.makes 𝓤 H A) q _ ok·q $ fjoin ! $ owned ! Lengths′.row (Is Lengths′.row) (Lengths′.makes 𝓤 H A) x-l _ ok·x-l $ fjoin ! $ owned ! Store′.row (Is Store′.row) (Store′.makes 𝓤 H A) s _ ok·s $ fjoin ! $ done !
+      goes : ent 𝓤 (⋆ 𝓤 H A ([])) (Asked 𝓤 H A mem run .pre (to 𝓤 H A mem run x-k pages q c x-v page x))
+      goes = qed W ([]) ∵ plus-nothing ! $ nothing ! $ frame ! $ nothing ! $ owned ! Found′.row (Is Found′.row) (Found′.makes 𝓤 H A) x _ ok·x $ fjoin ! $ owned ! PageIndex′.row (Is PageIndex′.row) (PageIndex′.makes 𝓤 H A) page _ ok·page $ fjoin ! $ owned ! Version′.row (Is Version′.row) (Version′.makes 𝓤 H A) x-v _ ok·x-v $ fjoin ! $ owned ! u64 (Is u64) (uint-makes 𝓤 H A W w64) c _ ok·c $ fjoin ! $ owned ! Part′.row (Is Part′.row) (Part′.makes 𝓤 H A) q _ ok·q $ fjoin ! $ owned ! u64 (Is u64) (uint-makes 𝓤 H A W w64) pages _ ok·pages $ fjoin ! $ owned ! u64 (Is u64) (uint-makes 𝓤 H A W w64) x-k _ ok·x-k $ fjoin ! $ done !
 
 module _ {M : Type 1} {𝓤 : URA M} {H : Heap 𝓤} {A : Atoms 𝓤} {K : Type 0} {W : Given 𝓤 H A} {Γ : List (Item 𝓤)} {E : Env 𝓤 H} {C : Calls 𝓤 H} {Λ : Loops 𝓤 H} {Q : Post 𝓤 H} {xs : List Operand} {d : Place} {rest : Body} where
   -- by one instance of the callee's contract, which is what a function that calls itself has
-  pub calls-by : K → (mem : Memory → SProp 𝓤) (run : Routine → Fun 𝓤) → FmC 𝓤 H (W .laws) C → (s : Store) (x-l : Lengths) (q : Record) (x-v : Version) (page : PageIndex) (x : Found) → ent 𝓤 (Asked 𝓤 H A mem run .pre (to 𝓤 H A mem run s x-l q x-v page x)) (C #callee (Asked 𝓤 H A mem run .args (to 𝓤 H A mem run s x-l q x-v page x)) (Asked 𝓤 H A mem run .post (to 𝓤 H A mem run s x-l q x-v page x))) → Is Store′.row s (Store′.vals s) → Is Lengths′.row x-l (Lengths′.vals x-l) → Is Record′.row q (Record′.vals q) → Is Version′.row x-v (Version′.vals x-v) → Is PageIndex′.row page (PageIndex′.vals page) → Is Found′.row x (Found′.vals x) →
-      Opds K W (raw (Asked 𝓤 H A mem run .pre (to 𝓤 H A mem run s x-l q x-v page x)) ∷ Γ) E xs (Store′.mach s ∷ Lengths′.mach x-l ∷ Record′.mach q ∷ Version′.mach x-v ∷ PageIndex′.mach page ∷ Found′.mach x ∷ [])
-      → (Is u64 (page-refusal″.res s x-l q x-v page x) (uint-vals w64 (page-refusal″.res s x-l q x-v page x)) → Seq K W (Γ) (lands C Λ E d (vint w64 (page-refusal″.res s x-l q x-v page x)) rest Q))
+  pub calls-by : K → (mem : Memory → SProp 𝓤) (run : Routine → Fun 𝓤) → FmC 𝓤 H (W .laws) C → (x-k : ℕ) (pages : ℕ) (q : Part) (c : ℕ) (x-v : Version) (page : PageIndex) (x : Found) → ent 𝓤 (Asked 𝓤 H A mem run .pre (to 𝓤 H A mem run x-k pages q c x-v page x)) (C #callee (Asked 𝓤 H A mem run .args (to 𝓤 H A mem run x-k pages q c x-v page x)) (Asked 𝓤 H A mem run .post (to 𝓤 H A mem run x-k pages q c x-v page x))) → Is u64 x-k (uint-vals w64 x-k) → Is u64 pages (uint-vals w64 pages) → Is Part′.row q (Part′.vals q) → Is u64 c (uint-vals w64 c) → Is Version′.row x-v (Version′.vals x-v) → Is PageIndex′.row page (PageIndex′.vals page) → Is Found′.row x (Found′.vals x) →
+      Opds K W (raw (Asked 𝓤 H A mem run .pre (to 𝓤 H A mem run x-k pages q c x-v page x)) ∷ Γ) E xs (vint w64 x-k ∷ vint w64 pages ∷ Part′.mach q ∷ vint w64 c ∷ Version′.mach x-v ∷ PageIndex′.mach page ∷ Found′.mach x ∷ [])
+      → (Is u64 (page-refusal″.res x-k pages q c x-v page x) (uint-vals w64 (page-refusal″.res x-k pages q c x-v page x)) → Seq K W (Γ) (lands C Λ E d (vint w64 (page-refusal″.res x-k pages q c x-v page x)) rest Q))
       → Seq K W (Γ) (runs C Λ E (seq (call #callee xs d) rest) Q)
-  calls-by t mem run fm s x-l q x-v page x known ok·s ok·x-l ok·q ok·x-v ok·page ok·x os k =
-      core t mem run s x-l q x-v page x (runs C Λ E (seq (call #callee xs d) rest) Q) (λ v. lands C Λ E d v rest Q) (λ v. tt)
-      (λ h. calls-from t fm (raw (Asked 𝓤 H A mem run .pre (to 𝓤 H A mem run s x-l q x-v page x))) (Asked 𝓤 H A mem run .args (to 𝓤 H A mem run s x-l q x-v page x)) (Asked 𝓤 H A mem run .post (to 𝓤 H A mem run s x-l q x-v page x)) known os h) ok·s ok·x-l ok·q ok·x-v ok·page ok·x k
+  calls-by t mem run fm x-k pages q c x-v page x known ok·x-k ok·pages ok·q ok·c ok·x-v ok·page ok·x os k =
+      core t mem run x-k pages q c x-v page x (runs C Λ E (seq (call #callee xs d) rest) Q) (λ v. lands C Λ E d v rest Q) (λ v. tt)
+      (λ h. calls-from t fm (raw (Asked 𝓤 H A mem run .pre (to 𝓤 H A mem run x-k pages q c x-v page x))) (Asked 𝓤 H A mem run .args (to 𝓤 H A mem run x-k pages q c x-v page x)) (Asked 𝓤 H A mem run .post (to 𝓤 H A mem run x-k pages q c x-v page x)) known os h) ok·x-k ok·pages ok·q ok·c ok·x-v ok·page ok·x k
 
-  pub calls : K → (mem : Memory → SProp 𝓤) (run : Routine → Fun 𝓤) → FmC 𝓤 H (W .laws) C → Triple 𝓤 (C #callee) (Asked 𝓤 H A mem run) → (s : Store) (x-l : Lengths) (q : Record) (x-v : Version) (page : PageIndex) (x : Found) → Is Store′.row s (Store′.vals s) → Is Lengths′.row x-l (Lengths′.vals x-l) → Is Record′.row q (Record′.vals q) → Is Version′.row x-v (Version′.vals x-v) → Is PageIndex′.row page (PageIndex′.vals page) → Is Found′.row x (Found′.vals x) →
-      Opds K W (raw (Asked 𝓤 H A mem run .pre (to 𝓤 H A mem run s x-l q x-v page x)) ∷ Γ) E xs (Store′.mach s ∷ Lengths′.mach x-l ∷ Record′.mach q ∷ Version′.mach x-v ∷ PageIndex′.mach page ∷ Found′.mach x ∷ [])
-      → (Is u64 (page-refusal″.res s x-l q x-v page x) (uint-vals w64 (page-refusal″.res s x-l q x-v page x)) → Seq K W (Γ) (lands C Λ E d (vint w64 (page-refusal″.res s x-l q x-v page x)) rest Q))
+  pub calls : K → (mem : Memory → SProp 𝓤) (run : Routine → Fun 𝓤) → FmC 𝓤 H (W .laws) C → Triple 𝓤 (C #callee) (Asked 𝓤 H A mem run) → (x-k : ℕ) (pages : ℕ) (q : Part) (c : ℕ) (x-v : Version) (page : PageIndex) (x : Found) → Is u64 x-k (uint-vals w64 x-k) → Is u64 pages (uint-vals w64 pages) → Is Part′.row q (Part′.vals q) → Is u64 c (uint-vals w64 c) → Is Version′.row x-v (Version′.vals x-v) → Is PageIndex′.row page (PageIndex′.vals page) → Is Found′.row x (Found′.vals x) →
+      Opds K W (raw (Asked 𝓤 H A mem run .pre (to 𝓤 H A mem run x-k pages q c x-v page x)) ∷ Γ) E xs (vint w64 x-k ∷ vint w64 pages ∷ Part′.mach q ∷ vint w64 c ∷ Version′.mach x-v ∷ PageIndex′.mach page ∷ Found′.mach x ∷ [])
+      → (Is u64 (page-refusal″.res x-k pages q c x-v page x) (uint-vals w64 (page-refusal″.res x-k pages q c x-v page x)) → Seq K W (Γ) (lands C Λ E d (vint w64 (page-refusal″.res x-k pages q c x-v page x)) rest Q))
       → Seq K W (Γ) (runs C Λ E (seq (call #callee xs d) rest) Q)
-  calls t mem run fm known s x-l q x-v page x = calls-by t mem run fm s x-l q x-v page x (known (to 𝓤 H A mem run s x-l q x-v page x))
+  calls t mem run fm known x-k pages q c x-v page x = calls-by t mem run fm x-k pages q c x-v page x (known (to 𝓤 H A mem run x-k pages q c x-v page x))
 
 module _ {M : Type 1} {𝓤 : URA M} {H : Heap 𝓤} {A : Atoms 𝓤} {K : Type 0} {W : Given 𝓤 H A} {Γ : List (Item 𝓤)} {E : Env 𝓤 H} {C : Calls 𝓤 H} {Λ : Loops 𝓤 H} {Q : Post 𝓤 H} {xs : List Operand} {d : Place} where
   -- by one instance of the callee's contract, which is what a function that calls itself has. The call ends a part of the code
-  pub calls-last-by : K → (mem : Memory → SProp 𝓤) (run : Routine → Fun 𝓤) → FmC 𝓤 H (W .laws) C → (s : Store) (x-l : Lengths) (q : Record) (x-v : Version) (page : PageIndex) (x : Found) → ent 𝓤 (Asked 𝓤 H A mem run .pre (to 𝓤 H A mem run s x-l q x-v page x)) (C #callee (Asked 𝓤 H A mem run .args (to 𝓤 H A mem run s x-l q x-v page x)) (Asked 𝓤 H A mem run .post (to 𝓤 H A mem run s x-l q x-v page x))) → Is Store′.row s (Store′.vals s) → Is Lengths′.row x-l (Lengths′.vals x-l) → Is Record′.row q (Record′.vals q) → Is Version′.row x-v (Version′.vals x-v) → Is PageIndex′.row page (PageIndex′.vals page) → Is Found′.row x (Found′.vals x) →
-      Opds K W (raw (Asked 𝓤 H A mem run .pre (to 𝓤 H A mem run s x-l q x-v page x)) ∷ Γ) E xs (Store′.mach s ∷ Lengths′.mach x-l ∷ Record′.mach q ∷ Version′.mach x-v ∷ PageIndex′.mach page ∷ Found′.mach x ∷ [])
-      → (Is u64 (page-refusal″.res s x-l q x-v page x) (uint-vals w64 (page-refusal″.res s x-l q x-v page x)) → Seq K W (Γ) (settles E d (vint w64 (page-refusal″.res s x-l q x-v page x)) Q))
+  pub calls-last-by : K → (mem : Memory → SProp 𝓤) (run : Routine → Fun 𝓤) → FmC 𝓤 H (W .laws) C → (x-k : ℕ) (pages : ℕ) (q : Part) (c : ℕ) (x-v : Version) (page : PageIndex) (x : Found) → ent 𝓤 (Asked 𝓤 H A mem run .pre (to 𝓤 H A mem run x-k pages q c x-v page x)) (C #callee (Asked 𝓤 H A mem run .args (to 𝓤 H A mem run x-k pages q c x-v page x)) (Asked 𝓤 H A mem run .post (to 𝓤 H A mem run x-k pages q c x-v page x))) → Is u64 x-k (uint-vals w64 x-k) → Is u64 pages (uint-vals w64 pages) → Is Part′.row q (Part′.vals q) → Is u64 c (uint-vals w64 c) → Is Version′.row x-v (Version′.vals x-v) → Is PageIndex′.row page (PageIndex′.vals page) → Is Found′.row x (Found′.vals x) →
+      Opds K W (raw (Asked 𝓤 H A mem run .pre (to 𝓤 H A mem run x-k pages q c x-v page x)) ∷ Γ) E xs (vint w64 x-k ∷ vint w64 pages ∷ Part′.mach q ∷ vint w64 c ∷ Version′.mach x-v ∷ PageIndex′.mach page ∷ Found′.mach x ∷ [])
+      → (Is u64 (page-refusal″.res x-k pages q c x-v page x) (uint-vals w64 (page-refusal″.res x-k pages q c x-v page x)) → Seq K W (Γ) (settles E d (vint w64 (page-refusal″.res x-k pages q c x-v page x)) Q))
       → Seq K W (Γ) (runs C Λ E (call #callee xs d) Q)
-  calls-last-by t mem run fm s x-l q x-v page x known ok·s ok·x-l ok·q ok·x-v ok·page ok·x os k =
-      core t mem run s x-l q x-v page x (runs C Λ E (call #callee xs d) Q) (λ v. settles E d v Q) (λ v. tt)
-      (λ h. calls-from-last t fm (raw (Asked 𝓤 H A mem run .pre (to 𝓤 H A mem run s x-l q x-v page x))) (Asked 𝓤 H A mem run .args (to 𝓤 H A mem run s x-l q x-v page x)) (Asked 𝓤 H A mem run .post (to 𝓤 H A mem run s x-l q x-v page x)) known os h) ok·s ok·x-l ok·q ok·x-v ok·page ok·x k
+  calls-last-by t mem run fm x-k pages q c x-v page x known ok·x-k ok·pages ok·q ok·c ok·x-v ok·page ok·x os k =
+      core t mem run x-k pages q c x-v page x (runs C Λ E (call #callee xs d) Q) (λ v. settles E d v Q) (λ v. tt)
+      (λ h. calls-from-last t fm (raw (Asked 𝓤 H A mem run .pre (to 𝓤 H A mem run x-k pages q c x-v page x))) (Asked 𝓤 H A mem run .args (to 𝓤 H A mem run x-k pages q c x-v page x)) (Asked 𝓤 H A mem run .post (to 𝓤 H A mem run x-k pages q c x-v page x)) known os h) ok·x-k ok·pages ok·q ok·c ok·x-v ok·page ok·x k
 
-  pub calls-last : K → (mem : Memory → SProp 𝓤) (run : Routine → Fun 𝓤) → FmC 𝓤 H (W .laws) C → Triple 𝓤 (C #callee) (Asked 𝓤 H A mem run) → (s : Store) (x-l : Lengths) (q : Record) (x-v : Version) (page : PageIndex) (x : Found) → Is Store′.row s (Store′.vals s) → Is Lengths′.row x-l (Lengths′.vals x-l) → Is Record′.row q (Record′.vals q) → Is Version′.row x-v (Version′.vals x-v) → Is PageIndex′.row page (PageIndex′.vals page) → Is Found′.row x (Found′.vals x) →
-      Opds K W (raw (Asked 𝓤 H A mem run .pre (to 𝓤 H A mem run s x-l q x-v page x)) ∷ Γ) E xs (Store′.mach s ∷ Lengths′.mach x-l ∷ Record′.mach q ∷ Version′.mach x-v ∷ PageIndex′.mach page ∷ Found′.mach x ∷ [])
-      → (Is u64 (page-refusal″.res s x-l q x-v page x) (uint-vals w64 (page-refusal″.res s x-l q x-v page x)) → Seq K W (Γ) (settles E d (vint w64 (page-refusal″.res s x-l q x-v page x)) Q))
+  pub calls-last : K → (mem : Memory → SProp 𝓤) (run : Routine → Fun 𝓤) → FmC 𝓤 H (W .laws) C → Triple 𝓤 (C #callee) (Asked 𝓤 H A mem run) → (x-k : ℕ) (pages : ℕ) (q : Part) (c : ℕ) (x-v : Version) (page : PageIndex) (x : Found) → Is u64 x-k (uint-vals w64 x-k) → Is u64 pages (uint-vals w64 pages) → Is Part′.row q (Part′.vals q) → Is u64 c (uint-vals w64 c) → Is Version′.row x-v (Version′.vals x-v) → Is PageIndex′.row page (PageIndex′.vals page) → Is Found′.row x (Found′.vals x) →
+      Opds K W (raw (Asked 𝓤 H A mem run .pre (to 𝓤 H A mem run x-k pages q c x-v page x)) ∷ Γ) E xs (vint w64 x-k ∷ vint w64 pages ∷ Part′.mach q ∷ vint w64 c ∷ Version′.mach x-v ∷ PageIndex′.mach page ∷ Found′.mach x ∷ [])
+      → (Is u64 (page-refusal″.res x-k pages q c x-v page x) (uint-vals w64 (page-refusal″.res x-k pages q c x-v page x)) → Seq K W (Γ) (settles E d (vint w64 (page-refusal″.res x-k pages q c x-v page x)) Q))
       → Seq K W (Γ) (runs C Λ E (call #callee xs d) Q)
-  calls-last t mem run fm known s x-l q x-v page x = calls-last-by t mem run fm s x-l q x-v page x (known (to 𝓤 H A mem run s x-l q x-v page x))
+  calls-last t mem run fm known x-k pages q c x-v page x = calls-last-by t mem run fm x-k pages q c x-v page x (known (to 𝓤 H A mem run x-k pages q c x-v page x))

@@ -36,12 +36,18 @@ use Rattle.versions.specs.declared.Store.{Store}
 use Rattle.versions.proofs.Generated.Kind.Store as Store′
 use Rattle.tree.specs.declared.Ticket.{Ticket}
 use Rattle.register.proofs.Generated.Kind.Ticket as Ticket′
+use Rattle.lines.specs.declared.Branch.{Branch}
+use Rattle.versions.proofs.Generated.Kind.Branch as Branch′
+use Rattle.lines.specs.declared.Line.{Line}
+use Rattle.register.proofs.Generated.Kind.Line as Line′
 use Rattle.tree.specs.declared.Version.{Version}
 use Rattle.register.proofs.Generated.Kind.Version as Version′
 use Rattle.register.specs.declared.Record.{Record}
 use Rattle.register.proofs.Generated.Kind.Record as Record′
 use Rattle.tree.specs.declared.PageIndex.{PageIndex}
 use Rattle.register.proofs.Generated.Kind.PageIndex as PageIndex′
+use Rattle.lines.specs.declared.Entries.{Entries}
+use Rattle.register.proofs.Generated.Kind.Entries as Entries′
 use Rattle.stamp.specs.declared.Stamped.{Stamped}
 use Rattle.stamp.proofs.Generated.Kind.Stamped as Stamped′
 use Rattle.register.proofs.Generated.Flow.{ref, MutAt, ShrAt, keeps-shr, plus-nothing}
@@ -52,54 +58,54 @@ module _ {M : Type 1} (𝓤 : URA M) (H : Heap 𝓤) (A : Atoms 𝓤) (mem : Mem
   abbrev pub Asked : Contract 𝓤
   Asked = tripleOf 𝓤 H A callee.signature (callee.spec 𝓤 H A mem run)
 
-  abbrev pub to : (s : Store) (κ·pages : Lft) (q·pages : Share) (b·pages o·pages : ℕ) (γ·pages : GName) (n·pages : ℕ) (pages : List ℕ) (κ·nodes : Lft) (q·nodes : Share) (b·nodes o·nodes : ℕ) (γ·nodes : GName) (n·nodes : ℕ) (nodes : List ℕ) (κ·register : Lft) (q·register : Share) (b·register o·register : ℕ) (γ·register : GName) (n·register : ℕ) (register : List Record) (x-v : Version) (page : PageIndex) → Asked .Ghost
-  to s κ·pages q·pages b·pages o·pages γ·pages n·pages pages κ·nodes q·nodes b·nodes o·nodes γ·nodes n·nodes nodes κ·register q·register b·register o·register γ·register n·register register x-v page = (((κ·pages, (κ·nodes, (κ·register, tt))), (q·pages, (q·nodes, (q·register, tt))), tt, (s, (ref b·pages o·pages γ·pages pages, (ref b·nodes o·nodes γ·nodes nodes, (ref b·register o·register γ·register register, (x-v, (page, tt)))))), (Store′.mach s ∷ [], (sliceVal (b·pages, o·pages) n·pages ∷ [], (sliceVal (b·nodes, o·nodes) n·nodes ∷ [], (sliceVal (b·register, o·register) n·register ∷ [], (Version′.mach x-v ∷ [], (PageIndex′.mach page ∷ [], tt))))))), tt)
+  abbrev pub to : (s : Store) (κ·pages : Lft) (q·pages : Share) (b·pages o·pages : ℕ) (γ·pages : GName) (n·pages : ℕ) (pages : List ℕ) (κ·nodes : Lft) (q·nodes : Share) (b·nodes o·nodes : ℕ) (γ·nodes : GName) (n·nodes : ℕ) (nodes : List ℕ) (κ·register : Lft) (q·register : Share) (b·register o·register : ℕ) (γ·register : GName) (n·register : ℕ) (register : List Record) (x-l : Line) (x-v : Version) (page : PageIndex) → Asked .Ghost
+  to s κ·pages q·pages b·pages o·pages γ·pages n·pages pages κ·nodes q·nodes b·nodes o·nodes γ·nodes n·nodes nodes κ·register q·register b·register o·register γ·register n·register register x-l x-v page = (((κ·pages, (κ·nodes, (κ·register, tt))), (q·pages, (q·nodes, (q·register, tt))), tt, (s, (ref b·pages o·pages γ·pages pages, (ref b·nodes o·nodes γ·nodes nodes, (ref b·register o·register γ·register register, (x-l, (x-v, (page, tt))))))), (Store′.mach s ∷ [], (sliceVal (b·pages, o·pages) n·pages ∷ [], (sliceVal (b·nodes, o·nodes) n·nodes ∷ [], (sliceVal (b·register, o·register) n·register ∷ [], (Line′.mach x-l ∷ [], (Version′.mach x-v ∷ [], (PageIndex′.mach page ∷ [], tt)))))))), tt)
 
 module _ {M : Type 1} {𝓤 : URA M} {H : Heap 𝓤} {A : Atoms 𝓤} {K : Type 0} {W : Given 𝓤 H A} {Γ : List (Item 𝓤)} where
   -- the call itself is made by `by-call`, from what the callee asks to what it has ensured
-  core : K → (mem : Memory → SProp 𝓤) (run : Routine → Fun 𝓤) → (s : Store) (κ·pages : Lft) (q·pages : Share) (b·pages o·pages : ℕ) (γ·pages : GName) (n·pages : ℕ) (pages : List ℕ) (κ·nodes : Lft) (q·nodes : Share) (b·nodes o·nodes : ℕ) (γ·nodes : GName) (n·nodes : ℕ) (nodes : List ℕ) (κ·register : Lft) (q·register : Share) (b·register o·register : ℕ) (γ·register : GName) (n·register : ℕ) (register : List Record) (x-v : Version) (page : PageIndex) → (G : Goal 𝓤 H) (after : Val → Goal 𝓤 H) → ((v : Val) → Soaks (after v))
-      → (((v : Val) → Seq K W (raw (Asked 𝓤 H A mem run .post (to 𝓤 H A mem run s κ·pages q·pages b·pages o·pages γ·pages n·pages pages κ·nodes q·nodes b·nodes o·nodes γ·nodes n·nodes nodes κ·register q·register b·register o·register γ·register n·register register x-v page) v) ∷ ‵ (ShrAt u8 κ·pages b·pages o·pages γ·pages n·pages pages) ∷ ‵ (ShrAt u32 κ·nodes b·nodes o·nodes γ·nodes n·nodes nodes) ∷ ‵ (ShrAt Record′.row κ·register b·register o·register γ·register n·register register) ∷ Γ) (after v)) → Seq K W (raw (Asked 𝓤 H A mem run .pre (to 𝓤 H A mem run s κ·pages q·pages b·pages o·pages γ·pages n·pages pages κ·nodes q·nodes b·nodes o·nodes γ·nodes n·nodes nodes κ·register q·register b·register o·register γ·register n·register register x-v page)) ∷ ‵ (ShrAt u8 κ·pages b·pages o·pages γ·pages n·pages pages) ∷ ‵ (ShrAt u32 κ·nodes b·nodes o·nodes γ·nodes n·nodes nodes) ∷ ‵ (ShrAt Record′.row κ·register b·register o·register γ·register n·register register) ∷ Γ) G) → Is Store′.row s (Store′.vals s) → Is Version′.row x-v (Version′.vals x-v) → Is PageIndex′.row page (PageIndex′.vals page) →
-      (Is Stamped′.row (stamp″.res s pages nodes register x-v page) (Stamped′.vals (stamp″.res s pages nodes register x-v page)) → Seq K W (‵ (flft κ·pages q·pages) ∷ ‵ (ShrAt u8 κ·pages b·pages o·pages γ·pages n·pages pages) ∷ ‵ (flft κ·nodes q·nodes) ∷ ‵ (ShrAt u32 κ·nodes b·nodes o·nodes γ·nodes n·nodes nodes) ∷ ‵ (flft κ·register q·register) ∷ ‵ (ShrAt Record′.row κ·register b·register o·register γ·register n·register register) ∷ Γ) (after (Stamped′.mach (stamp″.res s pages nodes register x-v page)))) → Seq K W (‵ (flft κ·pages q·pages) ∷ ‵ (ShrAt u8 κ·pages b·pages o·pages γ·pages n·pages pages) ∷ ‵ (flft κ·nodes q·nodes) ∷ ‵ (ShrAt u32 κ·nodes b·nodes o·nodes γ·nodes n·nodes nodes) ∷ ‵ (flft κ·register q·register) ∷ ‵ (ShrAt Record′.row κ·register b·register o·register γ·register n·register register) ∷ Γ) G
-  core t mem run s κ·pages q·pages b·pages o·pages γ·pages n·pages pages κ·nodes q·nodes b·nodes o·nodes γ·nodes n·nodes nodes κ·register q·register b·register o·register γ·register n·register register x-v page G after soaks by-call ok·s ok·x-v ok·page k =
+  core : K → (mem : Memory → SProp 𝓤) (run : Routine → Fun 𝓤) → (s : Store) (κ·pages : Lft) (q·pages : Share) (b·pages o·pages : ℕ) (γ·pages : GName) (n·pages : ℕ) (pages : List ℕ) (κ·nodes : Lft) (q·nodes : Share) (b·nodes o·nodes : ℕ) (γ·nodes : GName) (n·nodes : ℕ) (nodes : List ℕ) (κ·register : Lft) (q·register : Share) (b·register o·register : ℕ) (γ·register : GName) (n·register : ℕ) (register : List Record) (x-l : Line) (x-v : Version) (page : PageIndex) → (G : Goal 𝓤 H) (after : Val → Goal 𝓤 H) → ((v : Val) → Soaks (after v))
+      → (((v : Val) → Seq K W (raw (Asked 𝓤 H A mem run .post (to 𝓤 H A mem run s κ·pages q·pages b·pages o·pages γ·pages n·pages pages κ·nodes q·nodes b·nodes o·nodes γ·nodes n·nodes nodes κ·register q·register b·register o·register γ·register n·register register x-l x-v page) v) ∷ ‵ (ShrAt u8 κ·pages b·pages o·pages γ·pages n·pages pages) ∷ ‵ (ShrAt u32 κ·nodes b·nodes o·nodes γ·nodes n·nodes nodes) ∷ ‵ (ShrAt Record′.row κ·register b·register o·register γ·register n·register register) ∷ Γ) (after v)) → Seq K W (raw (Asked 𝓤 H A mem run .pre (to 𝓤 H A mem run s κ·pages q·pages b·pages o·pages γ·pages n·pages pages κ·nodes q·nodes b·nodes o·nodes γ·nodes n·nodes nodes κ·register q·register b·register o·register γ·register n·register register x-l x-v page)) ∷ ‵ (ShrAt u8 κ·pages b·pages o·pages γ·pages n·pages pages) ∷ ‵ (ShrAt u32 κ·nodes b·nodes o·nodes γ·nodes n·nodes nodes) ∷ ‵ (ShrAt Record′.row κ·register b·register o·register γ·register n·register register) ∷ Γ) G) → Is Store′.row s (Store′.vals s) → Is Line′.row x-l (Line′.vals x-l) → Is Version′.row x-v (Version′.vals x-v) → Is PageIndex′.row page (PageIndex′.vals page) →
+      (Is Stamped′.row (stamp″.res s pages nodes register x-l x-v page) (Stamped′.vals (stamp″.res s pages nodes register x-l x-v page)) → Seq K W (‵ (flft κ·pages q·pages) ∷ ‵ (ShrAt u8 κ·pages b·pages o·pages γ·pages n·pages pages) ∷ ‵ (flft κ·nodes q·nodes) ∷ ‵ (ShrAt u32 κ·nodes b·nodes o·nodes γ·nodes n·nodes nodes) ∷ ‵ (flft κ·register q·register) ∷ ‵ (ShrAt Record′.row κ·register b·register o·register γ·register n·register register) ∷ Γ) (after (Stamped′.mach (stamp″.res s pages nodes register x-l x-v page)))) → Seq K W (‵ (flft κ·pages q·pages) ∷ ‵ (ShrAt u8 κ·pages b·pages o·pages γ·pages n·pages pages) ∷ ‵ (flft κ·nodes q·nodes) ∷ ‵ (ShrAt u32 κ·nodes b·nodes o·nodes γ·nodes n·nodes nodes) ∷ ‵ (flft κ·register q·register) ∷ ‵ (ShrAt Record′.row κ·register b·register o·register γ·register n·register register) ∷ Γ) G
+  core t mem run s κ·pages q·pages b·pages o·pages γ·pages n·pages pages κ·nodes q·nodes b·nodes o·nodes γ·nodes n·nodes nodes κ·register q·register b·register o·register γ·register n·register register x-l x-v page G after soaks by-call ok·s ok·x-l ok·x-v ok·page k =
       move t (1 ∷ []) $ keeps-shr t u8 κ·pages b·pages o·pages γ·pages n·pages pages $ move t (4 ∷ []) $ keeps-shr t u32 κ·nodes b·nodes o·nodes γ·nodes n·nodes nodes $ move t (7 ∷ []) $ keeps-shr t Record′.row κ·register b·register o·register γ·register n·register register $ move t (6 ∷ 4 ∷ 7 ∷ 2 ∷ 8 ∷ 0 ∷ 5 ∷ 3 ∷ 1 ∷ []) $
-      move t (4 ∷ 5 ∷ []) $ join t $ move t (4 ∷ 0 ∷ []) $ join t $ move t (3 ∷ 0 ∷ []) $ join t $ move t (2 ∷ 0 ∷ []) $ join t $ move t (1 ∷ 0 ∷ []) $ join t $ use1 W (raw (Asked 𝓤 H A mem run .pre (to 𝓤 H A mem run s κ·pages q·pages b·pages o·pages γ·pages n·pages pages κ·nodes q·nodes b·nodes o·nodes γ·nodes n·nodes nodes κ·register q·register b·register o·register γ·register n·register register x-v page))) goes $
+      move t (4 ∷ 5 ∷ []) $ join t $ move t (4 ∷ 0 ∷ []) $ join t $ move t (3 ∷ 0 ∷ []) $ join t $ move t (2 ∷ 0 ∷ []) $ join t $ move t (1 ∷ 0 ∷ []) $ join t $ use1 W (raw (Asked 𝓤 H A mem run .pre (to 𝓤 H A mem run s κ·pages q·pages b·pages o·pages γ·pages n·pages pages κ·nodes q·nodes b·nodes o·nodes γ·nodes n·nodes nodes κ·register q·register b·register o·register γ·register n·register register x-l x-v page))) goes $
       by-call (λ v.
-      use1 W (later (some (λ (r· : Stamped). ((‵ (flft κ·pages q·pages) ⊛ ‵ (flft κ·nodes q·nodes) ⊛ ‵ (flft κ·register q·register) ⊛ ‵ ftrue) ⊛ ‵ (Stamped′.row .own r· (v ∷ []))) ⊛ raw (ensured 𝓤 H A callee.ended (callee.clauses 𝓤 H A mem run) (κ·pages, (κ·nodes, (κ·register, tt))) (s, (ref b·pages o·pages γ·pages pages, (ref b·nodes o·nodes γ·nodes nodes, (ref b·register o·register γ·register register, (x-v, (page, tt)))))) tt r·)))) (id⊢ 𝓤 _) $ await t (soaks v) $ pick t (λ r·. split t $ move t (1 ∷ []) $
-      use1 W (some (λ (ws : Lasts callee.ended (κ·pages, (κ·nodes, (κ·register, tt))) (s, (ref b·pages o·pages γ·pages pages, (ref b·nodes o·nodes γ·nodes nodes, (ref b·register o·register γ·register register, (x-v, (page, tt))))))). ‵ (lasts callee.ended (κ·pages, (κ·nodes, (κ·register, tt))) (s, (ref b·pages o·pages γ·pages pages, (ref b·nodes o·nodes γ·nodes nodes, (ref b·register o·register γ·register register, (x-v, (page, tt)))))) ws) ⊛ raw (fact 𝓤 (stamp″.ens s pages nodes register x-v page r·)))) (id⊢ 𝓤 _) $ pick t (λ ws. split t $ move t (1 ∷ []) $
-      heard t (stamp″.ens s pages nodes register x-v page r·) (λ e. drop t $ split t $ move t (1 ∷ []) $ facts t Stamped′.row (Is Stamped′.row) (shows 𝓤 H A Stamped′.row) r· (v ∷ []) (λ is. split t $ move t (1 ∷ []) $ split t $ move t (1 ∷ []) $ split t $ move t (1 ∷ []) $ drop t $ move t (2 ∷ 3 ∷ 1 ∷ 4 ∷ 0 ∷ 5 ∷ []) $
+      use1 W (later (some (λ (r· : Stamped). ((‵ (flft κ·pages q·pages) ⊛ ‵ (flft κ·nodes q·nodes) ⊛ ‵ (flft κ·register q·register) ⊛ ‵ ftrue) ⊛ ‵ (Stamped′.row .own r· (v ∷ []))) ⊛ raw (ensured 𝓤 H A callee.ended (callee.clauses 𝓤 H A mem run) (κ·pages, (κ·nodes, (κ·register, tt))) (s, (ref b·pages o·pages γ·pages pages, (ref b·nodes o·nodes γ·nodes nodes, (ref b·register o·register γ·register register, (x-l, (x-v, (page, tt))))))) tt r·)))) (id⊢ 𝓤 _) $ await t (soaks v) $ pick t (λ r·. split t $ move t (1 ∷ []) $
+      use1 W (some (λ (ws : Lasts callee.ended (κ·pages, (κ·nodes, (κ·register, tt))) (s, (ref b·pages o·pages γ·pages pages, (ref b·nodes o·nodes γ·nodes nodes, (ref b·register o·register γ·register register, (x-l, (x-v, (page, tt)))))))). ‵ (lasts callee.ended (κ·pages, (κ·nodes, (κ·register, tt))) (s, (ref b·pages o·pages γ·pages pages, (ref b·nodes o·nodes γ·nodes nodes, (ref b·register o·register γ·register register, (x-l, (x-v, (page, tt))))))) ws) ⊛ raw (fact 𝓤 (stamp″.ens s pages nodes register x-l x-v page r·)))) (id⊢ 𝓤 _) $ pick t (λ ws. split t $ move t (1 ∷ []) $
+      heard t (stamp″.ens s pages nodes register x-l x-v page r·) (λ e. drop t $ split t $ move t (1 ∷ []) $ facts t Stamped′.row (Is Stamped′.row) (shows 𝓤 H A Stamped′.row) r· (v ∷ []) (λ is. split t $ move t (1 ∷ []) $ split t $ move t (1 ∷ []) $ split t $ move t (1 ∷ []) $ drop t $ move t (2 ∷ 3 ∷ 1 ∷ 4 ∷ 0 ∷ 5 ∷ []) $
       subst (λ (u : Val). Seq K W (‵ (flft κ·pages q·pages) ∷ ‵ (ShrAt u8 κ·pages b·pages o·pages γ·pages n·pages pages) ∷ ‵ (flft κ·nodes q·nodes) ∷ ‵ (ShrAt u32 κ·nodes b·nodes o·nodes γ·nodes n·nodes nodes) ∷ ‵ (flft κ·register q·register) ∷ ‵ (ShrAt Record′.row κ·register b·register o·register γ·register n·register register) ∷ Γ) (after u)) (sym (ap only (Stamped′.tells r· (v ∷ []) is) ∙ ap (λ (z : Stamped). Stamped′.mach z) (e))) (k (subst (λ (z : Stamped). Is Stamped′.row z (Stamped′.vals z)) (e) (subst (Is Stamped′.row r·) (Stamped′.tells r· (v ∷ []) is) is))))))))
     where
-      goes : ent 𝓤 (⋆ 𝓤 H A (‵ (flft κ·pages q·pages) ∷ ‵ (ShrAt u8 κ·pages b·pages o·pages γ·pages n·pages pages) ∷ ‵ (flft κ·nodes q·nodes) ∷ ‵ (ShrAt u32 κ·nodes b·nodes o·nodes γ·nodes n·nodes nodes) ∷ ‵ (flft κ·register q·register) ∷ ‵ (ShrAt Record′.row κ·register b·register o·register γ·register n·register register) ∷ [])) (Asked 𝓤 H A mem run .pre (to 𝓤 H A mem run s κ·pages q·pages b·pages o·pages γ·pages n·pages pages κ·nodes q·nodes b·nodes o·nodes γ·nodes n·nodes nodes κ·register q·register b·register o·register γ·register n·register register x-v page))
-      goes = qed W (‵ (flft κ·pages q·pages) ∷ ‵ (ShrAt u8 κ·pages b·pages o·pages γ·pages n·pages pages) ∷ ‵ (flft κ·nodes q·nodes) ∷ ‵ (ShrAt u32 κ·nodes b·nodes o·nodes γ·nodes n·nodes nodes) ∷ ‵ (flft κ·register q·register) ∷ ‵ (ShrAt Record′.row κ·register b·register o·register γ·register n·register register) ∷ []) ∵ plus-nothing ! $ nothing ! $ move ! (5 ∷ 0 ∷ []) $ join ! $ move ! (3 ∷ 0 ∷ []) $ join ! $ move ! (1 ∷ 0 ∷ []) $ join ! $ frame ! $ nothing ! $ owned ! PageIndex′.row (Is PageIndex′.row) (PageIndex′.makes 𝓤 H A) page _ ok·page $ fjoin ! $ owned ! Version′.row (Is Version′.row) (Version′.makes 𝓤 H A) x-v _ ok·x-v $ fjoin ! $ move ! (3 ∷ 0 ∷ []) $ fjoin ! $ move ! (2 ∷ 0 ∷ []) $ fjoin ! $ move ! (1 ∷ 0 ∷ []) $ fjoin ! $ owned ! Store′.row (Is Store′.row) (Store′.makes 𝓤 H A) s _ ok·s $ fjoin ! $ done !
+      goes : ent 𝓤 (⋆ 𝓤 H A (‵ (flft κ·pages q·pages) ∷ ‵ (ShrAt u8 κ·pages b·pages o·pages γ·pages n·pages pages) ∷ ‵ (flft κ·nodes q·nodes) ∷ ‵ (ShrAt u32 κ·nodes b·nodes o·nodes γ·nodes n·nodes nodes) ∷ ‵ (flft κ·register q·register) ∷ ‵ (ShrAt Record′.row κ·register b·register o·register γ·register n·register register) ∷ [])) (Asked 𝓤 H A mem run .pre (to 𝓤 H A mem run s κ·pages q·pages b·pages o·pages γ·pages n·pages pages κ·nodes q·nodes b·nodes o·nodes γ·nodes n·nodes nodes κ·register q·register b·register o·register γ·register n·register register x-l x-v page))
+      goes = qed W (‵ (flft κ·pages q·pages) ∷ ‵ (ShrAt u8 κ·pages b·pages o·pages γ·pages n·pages pages) ∷ ‵ (flft κ·nodes q·nodes) ∷ ‵ (ShrAt u32 κ·nodes b·nodes o·nodes γ·nodes n·nodes nodes) ∷ ‵ (flft κ·register q·register) ∷ ‵ (ShrAt Record′.row κ·register b·register o·register γ·register n·register register) ∷ []) ∵ plus-nothing ! $ nothing ! $ move ! (5 ∷ 0 ∷ []) $ join ! $ move ! (3 ∷ 0 ∷ []) $ join ! $ move ! (1 ∷ 0 ∷ []) $ join ! $ frame ! $ nothing ! $ owned ! PageIndex′.row (Is PageIndex′.row) (PageIndex′.makes 𝓤 H A) page _ ok·page $ fjoin ! $ owned ! Version′.row (Is Version′.row) (Version′.makes 𝓤 H A) x-v _ ok·x-v $ fjoin ! $ owned ! Line′.row (Is Line′.row) (Line′.makes 𝓤 H A) x-l _ ok·x-l $ fjoin ! $ move ! (3 ∷ 0 ∷ []) $ fjoin ! $ move ! (2 ∷ 0 ∷ []) $ fjoin ! $ move ! (1 ∷ 0 ∷ []) $ fjoin ! $ owned ! Store′.row (Is Store′.row) (Store′.makes 𝓤 H A) s _ ok·s $ fjoin ! $ done !
 
 module _ {M : Type 1} {𝓤 : URA M} {H : Heap 𝓤} {A : Atoms 𝓤} {K : Type 0} {W : Given 𝓤 H A} {Γ : List (Item 𝓤)} {E : Env 𝓤 H} {C : Calls 𝓤 H} {Λ : Loops 𝓤 H} {Q : Post 𝓤 H} {xs : List Operand} {d : Place} {rest : Body} where
   -- by one instance of the callee's contract, which is what a function that calls itself has
-  pub calls-by : K → (mem : Memory → SProp 𝓤) (run : Routine → Fun 𝓤) → FmC 𝓤 H (W .laws) C → (s : Store) (κ·pages : Lft) (q·pages : Share) (b·pages o·pages : ℕ) (γ·pages : GName) (n·pages : ℕ) (pages : List ℕ) (κ·nodes : Lft) (q·nodes : Share) (b·nodes o·nodes : ℕ) (γ·nodes : GName) (n·nodes : ℕ) (nodes : List ℕ) (κ·register : Lft) (q·register : Share) (b·register o·register : ℕ) (γ·register : GName) (n·register : ℕ) (register : List Record) (x-v : Version) (page : PageIndex) → ent 𝓤 (Asked 𝓤 H A mem run .pre (to 𝓤 H A mem run s κ·pages q·pages b·pages o·pages γ·pages n·pages pages κ·nodes q·nodes b·nodes o·nodes γ·nodes n·nodes nodes κ·register q·register b·register o·register γ·register n·register register x-v page)) (C #callee (Asked 𝓤 H A mem run .args (to 𝓤 H A mem run s κ·pages q·pages b·pages o·pages γ·pages n·pages pages κ·nodes q·nodes b·nodes o·nodes γ·nodes n·nodes nodes κ·register q·register b·register o·register γ·register n·register register x-v page)) (Asked 𝓤 H A mem run .post (to 𝓤 H A mem run s κ·pages q·pages b·pages o·pages γ·pages n·pages pages κ·nodes q·nodes b·nodes o·nodes γ·nodes n·nodes nodes κ·register q·register b·register o·register γ·register n·register register x-v page))) → Is Store′.row s (Store′.vals s) → Is Version′.row x-v (Version′.vals x-v) → Is PageIndex′.row page (PageIndex′.vals page) →
-      Opds K W (raw (Asked 𝓤 H A mem run .pre (to 𝓤 H A mem run s κ·pages q·pages b·pages o·pages γ·pages n·pages pages κ·nodes q·nodes b·nodes o·nodes γ·nodes n·nodes nodes κ·register q·register b·register o·register γ·register n·register register x-v page)) ∷ ‵ (ShrAt u8 κ·pages b·pages o·pages γ·pages n·pages pages) ∷ ‵ (ShrAt u32 κ·nodes b·nodes o·nodes γ·nodes n·nodes nodes) ∷ ‵ (ShrAt Record′.row κ·register b·register o·register γ·register n·register register) ∷ Γ) E xs (Store′.mach s ∷ sliceVal (b·pages, o·pages) n·pages ∷ sliceVal (b·nodes, o·nodes) n·nodes ∷ sliceVal (b·register, o·register) n·register ∷ Version′.mach x-v ∷ PageIndex′.mach page ∷ [])
-      → (Is Stamped′.row (stamp″.res s pages nodes register x-v page) (Stamped′.vals (stamp″.res s pages nodes register x-v page)) → Seq K W (‵ (flft κ·pages q·pages) ∷ ‵ (ShrAt u8 κ·pages b·pages o·pages γ·pages n·pages pages) ∷ ‵ (flft κ·nodes q·nodes) ∷ ‵ (ShrAt u32 κ·nodes b·nodes o·nodes γ·nodes n·nodes nodes) ∷ ‵ (flft κ·register q·register) ∷ ‵ (ShrAt Record′.row κ·register b·register o·register γ·register n·register register) ∷ Γ) (lands C Λ E d (Stamped′.mach (stamp″.res s pages nodes register x-v page)) rest Q))
+  pub calls-by : K → (mem : Memory → SProp 𝓤) (run : Routine → Fun 𝓤) → FmC 𝓤 H (W .laws) C → (s : Store) (κ·pages : Lft) (q·pages : Share) (b·pages o·pages : ℕ) (γ·pages : GName) (n·pages : ℕ) (pages : List ℕ) (κ·nodes : Lft) (q·nodes : Share) (b·nodes o·nodes : ℕ) (γ·nodes : GName) (n·nodes : ℕ) (nodes : List ℕ) (κ·register : Lft) (q·register : Share) (b·register o·register : ℕ) (γ·register : GName) (n·register : ℕ) (register : List Record) (x-l : Line) (x-v : Version) (page : PageIndex) → ent 𝓤 (Asked 𝓤 H A mem run .pre (to 𝓤 H A mem run s κ·pages q·pages b·pages o·pages γ·pages n·pages pages κ·nodes q·nodes b·nodes o·nodes γ·nodes n·nodes nodes κ·register q·register b·register o·register γ·register n·register register x-l x-v page)) (C #callee (Asked 𝓤 H A mem run .args (to 𝓤 H A mem run s κ·pages q·pages b·pages o·pages γ·pages n·pages pages κ·nodes q·nodes b·nodes o·nodes γ·nodes n·nodes nodes κ·register q·register b·register o·register γ·register n·register register x-l x-v page)) (Asked 𝓤 H A mem run .post (to 𝓤 H A mem run s κ·pages q·pages b·pages o·pages γ·pages n·pages pages κ·nodes q·nodes b·nodes o·nodes γ·nodes n·nodes nodes κ·register q·register b·register o·register γ·register n·register register x-l x-v page))) → Is Store′.row s (Store′.vals s) → Is Line′.row x-l (Line′.vals x-l) → Is Version′.row x-v (Version′.vals x-v) → Is PageIndex′.row page (PageIndex′.vals page) →
+      Opds K W (raw (Asked 𝓤 H A mem run .pre (to 𝓤 H A mem run s κ·pages q·pages b·pages o·pages γ·pages n·pages pages κ·nodes q·nodes b·nodes o·nodes γ·nodes n·nodes nodes κ·register q·register b·register o·register γ·register n·register register x-l x-v page)) ∷ ‵ (ShrAt u8 κ·pages b·pages o·pages γ·pages n·pages pages) ∷ ‵ (ShrAt u32 κ·nodes b·nodes o·nodes γ·nodes n·nodes nodes) ∷ ‵ (ShrAt Record′.row κ·register b·register o·register γ·register n·register register) ∷ Γ) E xs (Store′.mach s ∷ sliceVal (b·pages, o·pages) n·pages ∷ sliceVal (b·nodes, o·nodes) n·nodes ∷ sliceVal (b·register, o·register) n·register ∷ Line′.mach x-l ∷ Version′.mach x-v ∷ PageIndex′.mach page ∷ [])
+      → (Is Stamped′.row (stamp″.res s pages nodes register x-l x-v page) (Stamped′.vals (stamp″.res s pages nodes register x-l x-v page)) → Seq K W (‵ (flft κ·pages q·pages) ∷ ‵ (ShrAt u8 κ·pages b·pages o·pages γ·pages n·pages pages) ∷ ‵ (flft κ·nodes q·nodes) ∷ ‵ (ShrAt u32 κ·nodes b·nodes o·nodes γ·nodes n·nodes nodes) ∷ ‵ (flft κ·register q·register) ∷ ‵ (ShrAt Record′.row κ·register b·register o·register γ·register n·register register) ∷ Γ) (lands C Λ E d (Stamped′.mach (stamp″.res s pages nodes register x-l x-v page)) rest Q))
       → Seq K W (‵ (flft κ·pages q·pages) ∷ ‵ (ShrAt u8 κ·pages b·pages o·pages γ·pages n·pages pages) ∷ ‵ (flft κ·nodes q·nodes) ∷ ‵ (ShrAt u32 κ·nodes b·nodes o·nodes γ·nodes n·nodes nodes) ∷ ‵ (flft κ·register q·register) ∷ ‵ (ShrAt Record′.row κ·register b·register o·register γ·register n·register register) ∷ Γ) (runs C Λ E (seq (call #callee xs d) rest) Q)
-  calls-by t mem run fm s κ·pages q·pages b·pages o·pages γ·pages n·pages pages κ·nodes q·nodes b·nodes o·nodes γ·nodes n·nodes nodes κ·register q·register b·register o·register γ·register n·register register x-v page known ok·s ok·x-v ok·page os k =
-      core t mem run s κ·pages q·pages b·pages o·pages γ·pages n·pages pages κ·nodes q·nodes b·nodes o·nodes γ·nodes n·nodes nodes κ·register q·register b·register o·register γ·register n·register register x-v page (runs C Λ E (seq (call #callee xs d) rest) Q) (λ v. lands C Λ E d v rest Q) (λ v. tt)
-      (λ h. calls-from t fm (raw (Asked 𝓤 H A mem run .pre (to 𝓤 H A mem run s κ·pages q·pages b·pages o·pages γ·pages n·pages pages κ·nodes q·nodes b·nodes o·nodes γ·nodes n·nodes nodes κ·register q·register b·register o·register γ·register n·register register x-v page))) (Asked 𝓤 H A mem run .args (to 𝓤 H A mem run s κ·pages q·pages b·pages o·pages γ·pages n·pages pages κ·nodes q·nodes b·nodes o·nodes γ·nodes n·nodes nodes κ·register q·register b·register o·register γ·register n·register register x-v page)) (Asked 𝓤 H A mem run .post (to 𝓤 H A mem run s κ·pages q·pages b·pages o·pages γ·pages n·pages pages κ·nodes q·nodes b·nodes o·nodes γ·nodes n·nodes nodes κ·register q·register b·register o·register γ·register n·register register x-v page)) known os h) ok·s ok·x-v ok·page k
+  calls-by t mem run fm s κ·pages q·pages b·pages o·pages γ·pages n·pages pages κ·nodes q·nodes b·nodes o·nodes γ·nodes n·nodes nodes κ·register q·register b·register o·register γ·register n·register register x-l x-v page known ok·s ok·x-l ok·x-v ok·page os k =
+      core t mem run s κ·pages q·pages b·pages o·pages γ·pages n·pages pages κ·nodes q·nodes b·nodes o·nodes γ·nodes n·nodes nodes κ·register q·register b·register o·register γ·register n·register register x-l x-v page (runs C Λ E (seq (call #callee xs d) rest) Q) (λ v. lands C Λ E d v rest Q) (λ v. tt)
+      (λ h. calls-from t fm (raw (Asked 𝓤 H A mem run .pre (to 𝓤 H A mem run s κ·pages q·pages b·pages o·pages γ·pages n·pages pages κ·nodes q·nodes b·nodes o·nodes γ·nodes n·nodes nodes κ·register q·register b·register o·register γ·register n·register register x-l x-v page))) (Asked 𝓤 H A mem run .args (to 𝓤 H A mem run s κ·pages q·pages b·pages o·pages γ·pages n·pages pages κ·nodes q·nodes b·nodes o·nodes γ·nodes n·nodes nodes κ·register q·register b·register o·register γ·register n·register register x-l x-v page)) (Asked 𝓤 H A mem run .post (to 𝓤 H A mem run s κ·pages q·pages b·pages o·pages γ·pages n·pages pages κ·nodes q·nodes b·nodes o·nodes γ·nodes n·nodes nodes κ·register q·register b·register o·register γ·register n·register register x-l x-v page)) known os h) ok·s ok·x-l ok·x-v ok·page k
 
-  pub calls : K → (mem : Memory → SProp 𝓤) (run : Routine → Fun 𝓤) → FmC 𝓤 H (W .laws) C → Triple 𝓤 (C #callee) (Asked 𝓤 H A mem run) → (s : Store) (κ·pages : Lft) (q·pages : Share) (b·pages o·pages : ℕ) (γ·pages : GName) (n·pages : ℕ) (pages : List ℕ) (κ·nodes : Lft) (q·nodes : Share) (b·nodes o·nodes : ℕ) (γ·nodes : GName) (n·nodes : ℕ) (nodes : List ℕ) (κ·register : Lft) (q·register : Share) (b·register o·register : ℕ) (γ·register : GName) (n·register : ℕ) (register : List Record) (x-v : Version) (page : PageIndex) → Is Store′.row s (Store′.vals s) → Is Version′.row x-v (Version′.vals x-v) → Is PageIndex′.row page (PageIndex′.vals page) →
-      Opds K W (raw (Asked 𝓤 H A mem run .pre (to 𝓤 H A mem run s κ·pages q·pages b·pages o·pages γ·pages n·pages pages κ·nodes q·nodes b·nodes o·nodes γ·nodes n·nodes nodes κ·register q·register b·register o·register γ·register n·register register x-v page)) ∷ ‵ (ShrAt u8 κ·pages b·pages o·pages γ·pages n·pages pages) ∷ ‵ (ShrAt u32 κ·nodes b·nodes o·nodes γ·nodes n·nodes nodes) ∷ ‵ (ShrAt Record′.row κ·register b·register o·register γ·register n·register register) ∷ Γ) E xs (Store′.mach s ∷ sliceVal (b·pages, o·pages) n·pages ∷ sliceVal (b·nodes, o·nodes) n·nodes ∷ sliceVal (b·register, o·register) n·register ∷ Version′.mach x-v ∷ PageIndex′.mach page ∷ [])
-      → (Is Stamped′.row (stamp″.res s pages nodes register x-v page) (Stamped′.vals (stamp″.res s pages nodes register x-v page)) → Seq K W (‵ (flft κ·pages q·pages) ∷ ‵ (ShrAt u8 κ·pages b·pages o·pages γ·pages n·pages pages) ∷ ‵ (flft κ·nodes q·nodes) ∷ ‵ (ShrAt u32 κ·nodes b·nodes o·nodes γ·nodes n·nodes nodes) ∷ ‵ (flft κ·register q·register) ∷ ‵ (ShrAt Record′.row κ·register b·register o·register γ·register n·register register) ∷ Γ) (lands C Λ E d (Stamped′.mach (stamp″.res s pages nodes register x-v page)) rest Q))
+  pub calls : K → (mem : Memory → SProp 𝓤) (run : Routine → Fun 𝓤) → FmC 𝓤 H (W .laws) C → Triple 𝓤 (C #callee) (Asked 𝓤 H A mem run) → (s : Store) (κ·pages : Lft) (q·pages : Share) (b·pages o·pages : ℕ) (γ·pages : GName) (n·pages : ℕ) (pages : List ℕ) (κ·nodes : Lft) (q·nodes : Share) (b·nodes o·nodes : ℕ) (γ·nodes : GName) (n·nodes : ℕ) (nodes : List ℕ) (κ·register : Lft) (q·register : Share) (b·register o·register : ℕ) (γ·register : GName) (n·register : ℕ) (register : List Record) (x-l : Line) (x-v : Version) (page : PageIndex) → Is Store′.row s (Store′.vals s) → Is Line′.row x-l (Line′.vals x-l) → Is Version′.row x-v (Version′.vals x-v) → Is PageIndex′.row page (PageIndex′.vals page) →
+      Opds K W (raw (Asked 𝓤 H A mem run .pre (to 𝓤 H A mem run s κ·pages q·pages b·pages o·pages γ·pages n·pages pages κ·nodes q·nodes b·nodes o·nodes γ·nodes n·nodes nodes κ·register q·register b·register o·register γ·register n·register register x-l x-v page)) ∷ ‵ (ShrAt u8 κ·pages b·pages o·pages γ·pages n·pages pages) ∷ ‵ (ShrAt u32 κ·nodes b·nodes o·nodes γ·nodes n·nodes nodes) ∷ ‵ (ShrAt Record′.row κ·register b·register o·register γ·register n·register register) ∷ Γ) E xs (Store′.mach s ∷ sliceVal (b·pages, o·pages) n·pages ∷ sliceVal (b·nodes, o·nodes) n·nodes ∷ sliceVal (b·register, o·register) n·register ∷ Line′.mach x-l ∷ Version′.mach x-v ∷ PageIndex′.mach page ∷ [])
+      → (Is Stamped′.row (stamp″.res s pages nodes register x-l x-v page) (Stamped′.vals (stamp″.res s pages nodes register x-l x-v page)) → Seq K W (‵ (flft κ·pages q·pages) ∷ ‵ (ShrAt u8 κ·pages b·pages o·pages γ·pages n·pages pages) ∷ ‵ (flft κ·nodes q·nodes) ∷ ‵ (ShrAt u32 κ·nodes b·nodes o·nodes γ·nodes n·nodes nodes) ∷ ‵ (flft κ·register q·register) ∷ ‵ (ShrAt Record′.row κ·register b·register o·register γ·register n·register register) ∷ Γ) (lands C Λ E d (Stamped′.mach (stamp″.res s pages nodes register x-l x-v page)) rest Q))
       → Seq K W (‵ (flft κ·pages q·pages) ∷ ‵ (ShrAt u8 κ·pages b·pages o·pages γ·pages n·pages pages) ∷ ‵ (flft κ·nodes q·nodes) ∷ ‵ (ShrAt u32 κ·nodes b·nodes o·nodes γ·nodes n·nodes nodes) ∷ ‵ (flft κ·register q·register) ∷ ‵ (ShrAt Record′.row κ·register b·register o·register γ·register n·register register) ∷ Γ) (runs C Λ E (seq (call #callee xs d) rest) Q)
-  calls t mem run fm known s κ·pages q·pages b·pages o·pages γ·pages n·pages pages κ·nodes q·nodes b·nodes o·nodes γ·nodes n·nodes nodes κ·register q·register b·register o·register γ·register n·register register x-v page = calls-by t mem run fm s κ·pages q·pages b·pages o·pages γ·pages n·pages pages κ·nodes q·nodes b·nodes o·nodes γ·nodes n·nodes nodes κ·register q·register b·register o·register γ·register n·register register x-v page (known (to 𝓤 H A mem run s κ·pages q·pages b·pages o·pages γ·pages n·pages pages κ·nodes q·nodes b·nodes o·nodes γ·nodes n·nodes nodes κ·register q·register b·register o·register γ·register n·register register x-v page))
+  calls t mem run fm known s κ·pages q·pages b·pages o·pages γ·pages n·pages pages κ·nodes q·nodes b·nodes o·nodes γ·nodes n·nodes nodes κ·register q·register b·register o·register γ·register n·register register x-l x-v page = calls-by t mem run fm s κ·pages q·pages b·pages o·pages γ·pages n·pages pages κ·nodes q·nodes b·nodes o·nodes γ·nodes n·nodes nodes κ·register q·register b·register o·register γ·register n·register register x-l x-v page (known (to 𝓤 H A mem run s κ·pages q·pages b·pages o·pages γ·pages n·pages pages κ·nodes q·nodes b·nodes o·nodes γ·nodes n·nodes nodes κ·register q·register b·register o·register γ·register n·register register x-l x-v page))
 
 module _ {M : Type 1} {𝓤 : URA M} {H : Heap 𝓤} {A : Atoms 𝓤} {K : Type 0} {W : Given 𝓤 H A} {Γ : List (Item 𝓤)} {E : Env 𝓤 H} {C : Calls 𝓤 H} {Λ : Loops 𝓤 H} {Q : Post 𝓤 H} {xs : List Operand} {d : Place} where
   -- by one instance of the callee's contract, which is what a function that calls itself has. The call ends a part of the code
-  pub calls-last-by : K → (mem : Memory → SProp 𝓤) (run : Routine → Fun 𝓤) → FmC 𝓤 H (W .laws) C → (s : Store) (κ·pages : Lft) (q·pages : Share) (b·pages o·pages : ℕ) (γ·pages : GName) (n·pages : ℕ) (pages : List ℕ) (κ·nodes : Lft) (q·nodes : Share) (b·nodes o·nodes : ℕ) (γ·nodes : GName) (n·nodes : ℕ) (nodes : List ℕ) (κ·register : Lft) (q·register : Share) (b·register o·register : ℕ) (γ·register : GName) (n·register : ℕ) (register : List Record) (x-v : Version) (page : PageIndex) → ent 𝓤 (Asked 𝓤 H A mem run .pre (to 𝓤 H A mem run s κ·pages q·pages b·pages o·pages γ·pages n·pages pages κ·nodes q·nodes b·nodes o·nodes γ·nodes n·nodes nodes κ·register q·register b·register o·register γ·register n·register register x-v page)) (C #callee (Asked 𝓤 H A mem run .args (to 𝓤 H A mem run s κ·pages q·pages b·pages o·pages γ·pages n·pages pages κ·nodes q·nodes b·nodes o·nodes γ·nodes n·nodes nodes κ·register q·register b·register o·register γ·register n·register register x-v page)) (Asked 𝓤 H A mem run .post (to 𝓤 H A mem run s κ·pages q·pages b·pages o·pages γ·pages n·pages pages κ·nodes q·nodes b·nodes o·nodes γ·nodes n·nodes nodes κ·register q·register b·register o·register γ·register n·register register x-v page))) → Is Store′.row s (Store′.vals s) → Is Version′.row x-v (Version′.vals x-v) → Is PageIndex′.row page (PageIndex′.vals page) →
-      Opds K W (raw (Asked 𝓤 H A mem run .pre (to 𝓤 H A mem run s κ·pages q·pages b·pages o·pages γ·pages n·pages pages κ·nodes q·nodes b·nodes o·nodes γ·nodes n·nodes nodes κ·register q·register b·register o·register γ·register n·register register x-v page)) ∷ ‵ (ShrAt u8 κ·pages b·pages o·pages γ·pages n·pages pages) ∷ ‵ (ShrAt u32 κ·nodes b·nodes o·nodes γ·nodes n·nodes nodes) ∷ ‵ (ShrAt Record′.row κ·register b·register o·register γ·register n·register register) ∷ Γ) E xs (Store′.mach s ∷ sliceVal (b·pages, o·pages) n·pages ∷ sliceVal (b·nodes, o·nodes) n·nodes ∷ sliceVal (b·register, o·register) n·register ∷ Version′.mach x-v ∷ PageIndex′.mach page ∷ [])
-      → (Is Stamped′.row (stamp″.res s pages nodes register x-v page) (Stamped′.vals (stamp″.res s pages nodes register x-v page)) → Seq K W (‵ (flft κ·pages q·pages) ∷ ‵ (ShrAt u8 κ·pages b·pages o·pages γ·pages n·pages pages) ∷ ‵ (flft κ·nodes q·nodes) ∷ ‵ (ShrAt u32 κ·nodes b·nodes o·nodes γ·nodes n·nodes nodes) ∷ ‵ (flft κ·register q·register) ∷ ‵ (ShrAt Record′.row κ·register b·register o·register γ·register n·register register) ∷ Γ) (settles E d (Stamped′.mach (stamp″.res s pages nodes register x-v page)) Q))
+  pub calls-last-by : K → (mem : Memory → SProp 𝓤) (run : Routine → Fun 𝓤) → FmC 𝓤 H (W .laws) C → (s : Store) (κ·pages : Lft) (q·pages : Share) (b·pages o·pages : ℕ) (γ·pages : GName) (n·pages : ℕ) (pages : List ℕ) (κ·nodes : Lft) (q·nodes : Share) (b·nodes o·nodes : ℕ) (γ·nodes : GName) (n·nodes : ℕ) (nodes : List ℕ) (κ·register : Lft) (q·register : Share) (b·register o·register : ℕ) (γ·register : GName) (n·register : ℕ) (register : List Record) (x-l : Line) (x-v : Version) (page : PageIndex) → ent 𝓤 (Asked 𝓤 H A mem run .pre (to 𝓤 H A mem run s κ·pages q·pages b·pages o·pages γ·pages n·pages pages κ·nodes q·nodes b·nodes o·nodes γ·nodes n·nodes nodes κ·register q·register b·register o·register γ·register n·register register x-l x-v page)) (C #callee (Asked 𝓤 H A mem run .args (to 𝓤 H A mem run s κ·pages q·pages b·pages o·pages γ·pages n·pages pages κ·nodes q·nodes b·nodes o·nodes γ·nodes n·nodes nodes κ·register q·register b·register o·register γ·register n·register register x-l x-v page)) (Asked 𝓤 H A mem run .post (to 𝓤 H A mem run s κ·pages q·pages b·pages o·pages γ·pages n·pages pages κ·nodes q·nodes b·nodes o·nodes γ·nodes n·nodes nodes κ·register q·register b·register o·register γ·register n·register register x-l x-v page))) → Is Store′.row s (Store′.vals s) → Is Line′.row x-l (Line′.vals x-l) → Is Version′.row x-v (Version′.vals x-v) → Is PageIndex′.row page (PageIndex′.vals page) →
+      Opds K W (raw (Asked 𝓤 H A mem run .pre (to 𝓤 H A mem run s κ·pages q·pages b·pages o·pages γ·pages n·pages pages κ·nodes q·nodes b·nodes o·nodes γ·nodes n·nodes nodes κ·register q·register b·register o·register γ·register n·register register x-l x-v page)) ∷ ‵ (ShrAt u8 κ·pages b·pages o·pages γ·pages n·pages pages) ∷ ‵ (ShrAt u32 κ·nodes b·nodes o·nodes γ·nodes n·nodes nodes) ∷ ‵ (ShrAt Record′.row κ·register b·register o·register γ·register n·register register) ∷ Γ) E xs (Store′.mach s ∷ sliceVal (b·pages, o·pages) n·pages ∷ sliceVal (b·nodes, o·nodes) n·nodes ∷ sliceVal (b·register, o·register) n·register ∷ Line′.mach x-l ∷ Version′.mach x-v ∷ PageIndex′.mach page ∷ [])
+      → (Is Stamped′.row (stamp″.res s pages nodes register x-l x-v page) (Stamped′.vals (stamp″.res s pages nodes register x-l x-v page)) → Seq K W (‵ (flft κ·pages q·pages) ∷ ‵ (ShrAt u8 κ·pages b·pages o·pages γ·pages n·pages pages) ∷ ‵ (flft κ·nodes q·nodes) ∷ ‵ (ShrAt u32 κ·nodes b·nodes o·nodes γ·nodes n·nodes nodes) ∷ ‵ (flft κ·register q·register) ∷ ‵ (ShrAt Record′.row κ·register b·register o·register γ·register n·register register) ∷ Γ) (settles E d (Stamped′.mach (stamp″.res s pages nodes register x-l x-v page)) Q))
       → Seq K W (‵ (flft κ·pages q·pages) ∷ ‵ (ShrAt u8 κ·pages b·pages o·pages γ·pages n·pages pages) ∷ ‵ (flft κ·nodes q·nodes) ∷ ‵ (ShrAt u32 κ·nodes b·nodes o·nodes γ·nodes n·nodes nodes) ∷ ‵ (flft κ·register q·register) ∷ ‵ (ShrAt Record′.row κ·register b·register o·register γ·register n·register register) ∷ Γ) (runs C Λ E (call #callee xs d) Q)
-  calls-last-by t mem run fm s κ·pages q·pages b·pages o·pages γ·pages n·pages pages κ·nodes q·nodes b·nodes o·nodes γ·nodes n·nodes nodes κ·register q·register b·register o·register γ·register n·register register x-v page known ok·s ok·x-v ok·page os k =
-      core t mem run s κ·pages q·pages b·pages o·pages γ·pages n·pages pages κ·nodes q·nodes b·nodes o·nodes γ·nodes n·nodes nodes κ·register q·register b·register o·register γ·register n·register register x-v page (runs C Λ E (call #callee xs d) Q) (λ v. settles E d v Q) (λ v. tt)
-      (λ h. calls-from-last t fm (raw (Asked 𝓤 H A mem run .pre (to 𝓤 H A mem run s κ·pages q·pages b·pages o·pages γ·pages n·pages pages κ·nodes q·nodes b·nodes o·nodes γ·nodes n·nodes nodes κ·register q·register b·register o·register γ·register n·register register x-v page))) (Asked 𝓤 H A mem run .args (to 𝓤 H A mem run s κ·pages q·pages b·pages o·pages γ·pages n·pages pages κ·nodes q·nodes b·nodes o·nodes γ·nodes n·nodes nodes κ·register q·register b·register o·register γ·register n·register register x-v page)) (Asked 𝓤 H A mem run .post (to 𝓤 H A mem run s κ·pages q·pages b·pages o·pages γ·pages n·pages pages κ·nodes q·nodes b·nodes o·nodes γ·nodes n·nodes nodes κ·register q·register b·register o·register γ·register n·register register x-v page)) known os h) ok·s ok·x-v ok·page k
+  calls-last-by t mem run fm s κ·pages q·pages b·pages o·pages γ·pages n·pages pages κ·nodes q·nodes b·nodes o·nodes γ·nodes n·nodes nodes κ·register q·register b·register o·register γ·register n·register register x-l x-v page known ok·s ok·x-l ok·x-v ok·page os k =
+      core t mem run s κ·pages q·pages b·pages o·pages γ·pages n·pages pages κ·nodes q·nodes b·nodes o·nodes γ·nodes n·nodes nodes κ·register q·register b·register o·register γ·register n·register register x-l x-v page (runs C Λ E (call #callee xs d) Q) (λ v. settles E d v Q) (λ v. tt)
+      (λ h. calls-from-last t fm (raw (Asked 𝓤 H A mem run .pre (to 𝓤 H A mem run s κ·pages q·pages b·pages o·pages γ·pages n·pages pages κ·nodes q·nodes b·nodes o·nodes γ·nodes n·nodes nodes κ·register q·register b·register o·register γ·register n·register register x-l x-v page))) (Asked 𝓤 H A mem run .args (to 𝓤 H A mem run s κ·pages q·pages b·pages o·pages γ·pages n·pages pages κ·nodes q·nodes b·nodes o·nodes γ·nodes n·nodes nodes κ·register q·register b·register o·register γ·register n·register register x-l x-v page)) (Asked 𝓤 H A mem run .post (to 𝓤 H A mem run s κ·pages q·pages b·pages o·pages γ·pages n·pages pages κ·nodes q·nodes b·nodes o·nodes γ·nodes n·nodes nodes κ·register q·register b·register o·register γ·register n·register register x-l x-v page)) known os h) ok·s ok·x-l ok·x-v ok·page k
 
-  pub calls-last : K → (mem : Memory → SProp 𝓤) (run : Routine → Fun 𝓤) → FmC 𝓤 H (W .laws) C → Triple 𝓤 (C #callee) (Asked 𝓤 H A mem run) → (s : Store) (κ·pages : Lft) (q·pages : Share) (b·pages o·pages : ℕ) (γ·pages : GName) (n·pages : ℕ) (pages : List ℕ) (κ·nodes : Lft) (q·nodes : Share) (b·nodes o·nodes : ℕ) (γ·nodes : GName) (n·nodes : ℕ) (nodes : List ℕ) (κ·register : Lft) (q·register : Share) (b·register o·register : ℕ) (γ·register : GName) (n·register : ℕ) (register : List Record) (x-v : Version) (page : PageIndex) → Is Store′.row s (Store′.vals s) → Is Version′.row x-v (Version′.vals x-v) → Is PageIndex′.row page (PageIndex′.vals page) →
-      Opds K W (raw (Asked 𝓤 H A mem run .pre (to 𝓤 H A mem run s κ·pages q·pages b·pages o·pages γ·pages n·pages pages κ·nodes q·nodes b·nodes o·nodes γ·nodes n·nodes nodes κ·register q·register b·register o·register γ·register n·register register x-v page)) ∷ ‵ (ShrAt u8 κ·pages b·pages o·pages γ·pages n·pages pages) ∷ ‵ (ShrAt u32 κ·nodes b·nodes o·nodes γ·nodes n·nodes nodes) ∷ ‵ (ShrAt Record′.row κ·register b·register o·register γ·register n·register register) ∷ Γ) E xs (Store′.mach s ∷ sliceVal (b·pages, o·pages) n·pages ∷ sliceVal (b·nodes, o·nodes) n·nodes ∷ sliceVal (b·register, o·register) n·register ∷ Version′.mach x-v ∷ PageIndex′.mach page ∷ [])
-      → (Is Stamped′.row (stamp″.res s pages nodes register x-v page) (Stamped′.vals (stamp″.res s pages nodes register x-v page)) → Seq K W (‵ (flft κ·pages q·pages) ∷ ‵ (ShrAt u8 κ·pages b·pages o·pages γ·pages n·pages pages) ∷ ‵ (flft κ·nodes q·nodes) ∷ ‵ (ShrAt u32 κ·nodes b·nodes o·nodes γ·nodes n·nodes nodes) ∷ ‵ (flft κ·register q·register) ∷ ‵ (ShrAt Record′.row κ·register b·register o·register γ·register n·register register) ∷ Γ) (settles E d (Stamped′.mach (stamp″.res s pages nodes register x-v page)) Q))
+  pub calls-last : K → (mem : Memory → SProp 𝓤) (run : Routine → Fun 𝓤) → FmC 𝓤 H (W .laws) C → Triple 𝓤 (C #callee) (Asked 𝓤 H A mem run) → (s : Store) (κ·pages : Lft) (q·pages : Share) (b·pages o·pages : ℕ) (γ·pages : GName) (n·pages : ℕ) (pages : List ℕ) (κ·nodes : Lft) (q·nodes : Share) (b·nodes o·nodes : ℕ) (γ·nodes : GName) (n·nodes : ℕ) (nodes : List ℕ) (κ·register : Lft) (q·register : Share) (b·register o·register : ℕ) (γ·register : GName) (n·register : ℕ) (register : List Record) (x-l : Line) (x-v : Version) (page : PageIndex) → Is Store′.row s (Store′.vals s) → Is Line′.row x-l (Line′.vals x-l) → Is Version′.row x-v (Version′.vals x-v) → Is PageIndex′.row page (PageIndex′.vals page) →
+      Opds K W (raw (Asked 𝓤 H A mem run .pre (to 𝓤 H A mem run s κ·pages q·pages b·pages o·pages γ·pages n·pages pages κ·nodes q·nodes b·nodes o·nodes γ·nodes n·nodes nodes κ·register q·register b·register o·register γ·register n·register register x-l x-v page)) ∷ ‵ (ShrAt u8 κ·pages b·pages o·pages γ·pages n·pages pages) ∷ ‵ (ShrAt u32 κ·nodes b·nodes o·nodes γ·nodes n·nodes nodes) ∷ ‵ (ShrAt Record′.row κ·register b·register o·register γ·register n·register register) ∷ Γ) E xs (Store′.mach s ∷ sliceVal (b·pages, o·pages) n·pages ∷ sliceVal (b·nodes, o·nodes) n·nodes ∷ sliceVal (b·register, o·register) n·register ∷ Line′.mach x-l ∷ Version′.mach x-v ∷ PageIndex′.mach page ∷ [])
+      → (Is Stamped′.row (stamp″.res s pages nodes register x-l x-v page) (Stamped′.vals (stamp″.res s pages nodes register x-l x-v page)) → Seq K W (‵ (flft κ·pages q·pages) ∷ ‵ (ShrAt u8 κ·pages b·pages o·pages γ·pages n·pages pages) ∷ ‵ (flft κ·nodes q·nodes) ∷ ‵ (ShrAt u32 κ·nodes b·nodes o·nodes γ·nodes n·nodes nodes) ∷ ‵ (flft κ·register q·register) ∷ ‵ (ShrAt Record′.row κ·register b·register o·register γ·register n·register register) ∷ Γ) (settles E d (Stamped′.mach (stamp″.res s pages nodes register x-l x-v page)) Q))
       → Seq K W (‵ (flft κ·pages q·pages) ∷ ‵ (ShrAt u8 κ·pages b·pages o·pages γ·pages n·pages pages) ∷ ‵ (flft κ·nodes q·nodes) ∷ ‵ (ShrAt u32 κ·nodes b·nodes o·nodes γ·nodes n·nodes nodes) ∷ ‵ (flft κ·register q·register) ∷ ‵ (ShrAt Record′.row κ·register b·register o·register γ·register n·register register) ∷ Γ) (runs C Λ E (call #callee xs d) Q)
-  calls-last t mem run fm known s κ·pages q·pages b·pages o·pages γ·pages n·pages pages κ·nodes q·nodes b·nodes o·nodes γ·nodes n·nodes nodes κ·register q·register b·register o·register γ·register n·register register x-v page = calls-last-by t mem run fm s κ·pages q·pages b·pages o·pages γ·pages n·pages pages κ·nodes q·nodes b·nodes o·nodes γ·nodes n·nodes nodes κ·register q·register b·register o·register γ·register n·register register x-v page (known (to 𝓤 H A mem run s κ·pages q·pages b·pages o·pages γ·pages n·pages pages κ·nodes q·nodes b·nodes o·nodes γ·nodes n·nodes nodes κ·register q·register b·register o·register γ·register n·register register x-v page))
+  calls-last t mem run fm known s κ·pages q·pages b·pages o·pages γ·pages n·pages pages κ·nodes q·nodes b·nodes o·nodes γ·nodes n·nodes nodes κ·register q·register b·register o·register γ·register n·register register x-l x-v page = calls-last-by t mem run fm s κ·pages q·pages b·pages o·pages γ·pages n·pages pages κ·nodes q·nodes b·nodes o·nodes γ·nodes n·nodes nodes κ·register q·register b·register o·register γ·register n·register register x-l x-v page (known (to 𝓤 H A mem run s κ·pages q·pages b·pages o·pages γ·pages n·pages pages κ·nodes q·nodes b·nodes o·nodes γ·nodes n·nodes nodes κ·register q·register b·register o·register γ·register n·register register x-l x-v page))

@@ -7,17 +7,14 @@ use mathlib.Core.Bool.{Bool}
 use mathlib.Core.Path.{_≡_}
 use Rattle.stamp.specs.Stamp.{pageRefusal, versionFound, stamped, stampOut}
 use Rattle.versions.specs.Store.{areasOf}
-use Rattle.register.specs.declared.Record.{Record}
+use Rattle.register.specs.declared.Part.{Part}
 use Rattle.stamp.specs.declared.Stamped.{Stamped}
 use Rattle.tree.specs.declared.Found.{Found}
 use Rattle.tree.specs.declared.PageIndex.{PageIndex}
-use Rattle.tree.specs.declared.Ticket.{Ticket}
 use Rattle.tree.specs.declared.Version.{Version}
-use Rattle.versions.specs.declared.Lengths.{Lengths}
-use Rattle.versions.specs.declared.Store.{Store}
 
-abbrev pub ens : Store → Lengths → Record → Version → PageIndex → Found → ℕ → Type 0
-ens s l q v page x k = k ≡ pageRefusal s l q (v .0) (page .0) x
+abbrev pub ens : ℕ → ℕ → Part → ℕ → Version → PageIndex → Found → ℕ → Type 0
+ens k pages q c v page x r = r ≡ pageRefusal k pages q c (v .0) (page .0) x
 
-abbrev pub res : Store → Lengths → Record → Version → PageIndex → Found → ℕ
-res s l q v page x = pageRefusal s l q (v .0) (page .0) x
+abbrev pub res : ℕ → ℕ → Part → ℕ → Version → PageIndex → Found → ℕ
+res k pages q c v page x = pageRefusal k pages q c (v .0) (page .0) x

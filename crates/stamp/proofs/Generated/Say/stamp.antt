@@ -7,6 +7,9 @@ use mathlib.Core.Bool.{Bool}
 use mathlib.Core.Path.{_≡_}
 use Rattle.stamp.specs.Stamp.{pageRefusal, versionFound, stamped, stampOut}
 use Rattle.versions.specs.Store.{areasOf}
+use Rattle.lines.specs.declared.Branch.{Branch}
+use Rattle.lines.specs.declared.Entries.{Entries}
+use Rattle.lines.specs.declared.Line.{Line}
 use Rattle.register.specs.declared.Record.{Record}
 use Rattle.stamp.specs.declared.Stamped.{Stamped}
 use Rattle.tree.specs.declared.PageIndex.{PageIndex}
@@ -14,8 +17,8 @@ use Rattle.tree.specs.declared.Ticket.{Ticket}
 use Rattle.tree.specs.declared.Version.{Version}
 use Rattle.versions.specs.declared.Store.{Store}
 
-abbrev pub ens : Store → List ℕ → List ℕ → List Record → Version → PageIndex → Stamped → Type 0
-ens s pages nodes register v page r = r ≡ stampOut s (areasOf pages nodes register) (v .0) (page .0)
+abbrev pub ens : Store → List ℕ → List ℕ → List Record → Line → Version → PageIndex → Stamped → Type 0
+ens s pages nodes register l v page r = r ≡ stampOut s (areasOf pages nodes register) (l .0) (v .0) (page .0)
 
-abbrev pub res : Store → List ℕ → List ℕ → List Record → Version → PageIndex → Stamped
-res s pages nodes register v page = stampOut s (areasOf pages nodes register) (v .0) (page .0)
+abbrev pub res : Store → List ℕ → List ℕ → List Record → Line → Version → PageIndex → Stamped
+res s pages nodes register l v page = stampOut s (areasOf pages nodes register) (l .0) (v .0) (page .0)

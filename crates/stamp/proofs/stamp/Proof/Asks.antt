@@ -16,38 +16,54 @@ use Rattle.versions.specs.declared.Store.{Store}
 use Rattle.versions.proofs.Generated.Kind.Store as Store′
 use Rattle.tree.specs.declared.Ticket.{Ticket}
 use Rattle.register.proofs.Generated.Kind.Ticket as Ticket′
+use Rattle.lines.specs.declared.Branch.{Branch}
+use Rattle.versions.proofs.Generated.Kind.Branch as Branch′
+use Rattle.lines.specs.declared.Line.{Line}
+use Rattle.register.proofs.Generated.Kind.Line as Line′
 use Rattle.register.specs.declared.Record.{Record}
 use Rattle.register.proofs.Generated.Kind.Record as Record′
 use Rattle.tree.specs.declared.PageIndex.{PageIndex}
 use Rattle.register.proofs.Generated.Kind.PageIndex as PageIndex′
-use Rattle.tree.specs.declared.Found.{Found}
-use Rattle.walk.proofs.Generated.Kind.Found as Found′
+use Rattle.lines.specs.declared.Entries.{Entries}
+use Rattle.register.proofs.Generated.Kind.Entries as Entries′
 use Rattle.versions.specs.declared.Lengths.{Lengths}
 use Rattle.versions.proofs.Generated.Kind.Lengths as Lengths′
+use Rattle.register.specs.declared.Part.{Part}
+use Rattle.register.proofs.Generated.Kind.Part as Part′
+use Rattle.tree.specs.declared.Found.{Found}
+use Rattle.walk.proofs.Generated.Kind.Found as Found′
 use Rattle.stamp.proofs.Generated.Say.stamp as stamp″
-use Rattle.register.proofs.Generated.Say.version_record as version-record″
-use Rattle.walk.proofs.Generated.Say.find_page as find-page″
 use Rattle.versions.proofs.Generated.Say.lengths_of as lengths-of″
+use Rattle.versions.proofs.Generated.Say.number_on as number-on″
+use Rattle.register.proofs.Generated.Say.version_part as version-part″
+use Rattle.walk.proofs.Generated.Say.find_page as find-page″
+use Rattle.versions.proofs.Generated.Say.snapshot_refusal as snapshot-refusal″
 use Rattle.stamp.proofs.Generated.Say.page_refusal as page-refusal″
 use Rattle.stamp.proofs.Generated.Say.stamped_by as stamped-by″
 
-abbrev pub r1 : Store → List ℕ → List ℕ → List Record → Version → PageIndex → Record
-r1 s pages nodes register x-v page = version-record″.res register x-v
+abbrev pub r1 : Store → List ℕ → List ℕ → List Record → Line → Version → PageIndex → Lengths
+r1 s pages nodes register x-l x-v page = lengths-of″.res pages nodes register
 
-abbrev pub r2 : Store → List ℕ → List ℕ → List Record → Version → PageIndex → Found
-r2 s pages nodes register x-v page = find-page″.res s nodes register x-v page
+abbrev pub r2 : Store → List ℕ → List ℕ → List Record → Line → Version → PageIndex → ℕ
+r2 s pages nodes register x-l x-v page = number-on″.res s x-l x-v
 
-abbrev pub r3 : Store → List ℕ → List ℕ → List Record → Version → PageIndex → Lengths
-r3 s pages nodes register x-v page = lengths-of″.res pages nodes register
+abbrev pub r3 : Store → List ℕ → List ℕ → List Record → Line → Version → PageIndex → Part
+r3 s pages nodes register x-l x-v page = version-part″.res register (r2 s pages nodes register x-l x-v page)
 
-abbrev pub r4 : Store → List ℕ → List ℕ → List Record → Version → PageIndex → ℕ
-r4 s pages nodes register x-v page = page-refusal″.res s (r3 s pages nodes register x-v page) (r1 s pages nodes register x-v page) x-v page (r2 s pages nodes register x-v page)
+abbrev pub r4 : Store → List ℕ → List ℕ → List Record → Line → Version → PageIndex → Found
+r4 s pages nodes register x-l x-v page = find-page″.res nodes register (r2 s pages nodes register x-l x-v page) page
 
-abbrev pub r5 : Store → List ℕ → List ℕ → List Record → Version → PageIndex → Stamped
-r5 s pages nodes register x-v page = stamped-by″.res (r4 s pages nodes register x-v page) (r2 s pages nodes register x-v page)
+abbrev pub r5 : Store → List ℕ → List ℕ → List Record → Line → Version → PageIndex → ℕ
+r5 s pages nodes register x-l x-v page = snapshot-refusal″.res s (r1 s pages nodes register x-l x-v page) x-l x-v
 
--- the function ensures: r ≡ stampOut s (areasOf pages nodes register) (v .0) (page .0)
+abbrev pub r6 : Store → List ℕ → List ℕ → List Record → Line → Version → PageIndex → ℕ
+r6 s pages nodes register x-l x-v page = page-refusal″.res (r5 s pages nodes register x-l x-v page) (s .pages) (r3 s pages nodes register x-l x-v page) (r2 s pages nodes register x-l x-v page) x-v page (r4 s pages nodes register x-l x-v page)
+
+abbrev pub r7 : Store → List ℕ → List ℕ → List Record → Line → Version → PageIndex → Stamped
+r7 s pages nodes register x-l x-v page = stamped-by″.res (r6 s pages nodes register x-l x-v page) (r4 s pages nodes register x-l x-v page)
+
+-- the function ensures: r ≡ stampOut s (areasOf pages nodes register) (l .0) (v .0) (page .0)
 abbrev pub exit-1 : Type 0
 exit-1 =
-    (s : Store) (pages : List ℕ) (nodes : List ℕ) (register : List Record) (x-v : Version) (page : PageIndex) (ok-s : Store′.Ok s) (len-pages : length pages < 2 ^ 64) (len-nodes : length nodes < 2 ^ 64) (len-register : length register < 2 ^ 64) (ok-x-v : Version′.Ok x-v) (ok-page : PageIndex′.Ok page) (ok-r1 : Record′.Ok (r1 s pages nodes register x-v page)) (ok-r2 : Found′.Ok (r2 s pages nodes register x-v page)) (ok-r3 : Lengths′.Ok (r3 s pages nodes register x-v page)) (fits-r4 : (r4 s pages nodes register x-v page) < 2 ^ 64) (ok-r5 : Stamped′.Ok (r5 s pages nodes register x-v page))
-    → stamp″.ens s pages nodes register x-v page (r5 s pages nodes register x-v page)
+    (s : Store) (pages : List ℕ) (nodes : List ℕ) (register : List Record) (x-l : Line) (x-v : Version) (page : PageIndex) (ok-s : Store′.Ok s) (len-pages : length pages < 2 ^ 64) (len-nodes : length nodes < 2 ^ 64) (len-register : length register < 2 ^ 64) (ok-x-l : Line′.Ok x-l) (ok-x-v : Version′.Ok x-v) (ok-page : PageIndex′.Ok page) (ok-r1 : Lengths′.Ok (r1 s pages nodes register x-l x-v page)) (fits-r2 : (r2 s pages nodes register x-l x-v page) < 2 ^ 64) (ok-r3 : Part′.Ok (r3 s pages nodes register x-l x-v page)) (ok-r4 : Found′.Ok (r4 s pages nodes register x-l x-v page)) (fits-r5 : (r5 s pages nodes register x-l x-v page) < 2 ^ 64) (fits-r6 : (r6 s pages nodes register x-l x-v page) < 2 ^ 64) (ok-r7 : Stamped′.Ok (r7 s pages nodes register x-l x-v page))
+    → stamp″.ens s pages nodes register x-l x-v page (r7 s pages nodes register x-l x-v page)

@@ -20,10 +20,10 @@ use denote.Laws.{Is, Tells, Copy, Makes}
 use denote.Plain.{uint-vals, bool-vals, nothing-vals}
 use denote.Builtin.{u8, u16, u32, u64, bool, unit}
 use denote.Struct.Laws as LL
+use Rattle.answers.proofs.Generated.Kind.Kept as Kept′
 use Rattle.answers.specs.declared.Kept.{Kept}
 use Rattle.parse.specs.declared.Cutter.{Cutter}
 use Rattle.steps.proofs.Generated.Kind.Cutter as Cutter′
-use Rattle.turns.proofs.Generated.Kind.Kept as Kept′
 use Rattle.steps.specs.declared.Place.{Place as Place‴}
 use Rattle.steps.proofs.Place as T′
 use Rattle.steps.proofs.Place.Laws as T″
@@ -75,7 +75,7 @@ pub make : (y0 : Kept) (y1 : Cutter) (y2 : Bool) → Is Kept′.row y0 (Kept′.
 make y0 y1 y2 g0 g1 g2 = LL.owes T′.the-type T″.the-laws (build y0 y1 y2) (g0, (g1, (g2, tt)))
 
 abbrev pub stride : ℕ
-stride = 112
+stride = 744
 
 -- the byte offset of an element of a slice does not wrap
 pub scaled : (n i : ℕ) → i < n → n * stride < 2 ^ 63 → i * stride < 2 ^ 64

@@ -8,7 +8,7 @@ use mathlib.Core.Path.{_≡_}
 use lib.ListN.{length}
 use Rattle.text.specs.Buffer.{front}
 use Rattle.fields.specs.Fields.{hexOf}
-use Rattle.parse.specs.Steps.{aloneOf, oneOf, twoOf, readOf, putOf, threeOf, formatOf, fourOf, stepOf, bytesOf}
+use Rattle.parse.specs.Steps.{oneOf, twoOf, threeOf, putOf, putOrThree, fourOf, stepOf, bytesOf}
 use Rattle.parse.specs.Cut.{fresh, fedBy, keptBy, unendedIn, cutMeant, CutMeans}
 use Rattle.parse.specs.declared.Cutter.{Cutter}
 use Rattle.parse.specs.declared.Fed.{Fed}

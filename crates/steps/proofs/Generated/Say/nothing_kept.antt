@@ -5,8 +5,12 @@ use Prim.Native.Nat.{ℕ, _*_, min}
 use mathlib.Core.List.{List}
 use mathlib.Core.Bool.{Bool}
 use mathlib.Core.Path.{_≡_}
+use Rattle.text.specs.Buffer.{front}
+use Rattle.parse.specs.Cut.{cutMeant}
 use Rattle.respond.specs.Wanted.{nothingKept, beyond, formatWanted, readWanted, wantedBy, storeFor, lengthsFor}
 use Rattle.answers.specs.declared.Kept.{Kept}
+use Rattle.lines.specs.declared.Branch.{Branch}
+use Rattle.lines.specs.declared.Line.{Line}
 use Rattle.respond.specs.declared.Fill.{Fill}
 use Rattle.respond.specs.declared.Look.{Look}
 use Rattle.respond.specs.declared.Note.{Note}

@@ -11,11 +11,15 @@ use lib.ListN.{length, getD, set, replicate}
 use Rattle.steps.specs.declared.Place.{Place as Place‴}
 use Rattle.steps.proofs.Generated.Kind.Place as Place′
 use Rattle.answers.specs.declared.Kept.{Kept}
-use Rattle.turns.proofs.Generated.Kind.Kept as Kept′
+use Rattle.answers.proofs.Generated.Kind.Kept as Kept′
 use Rattle.versions.specs.declared.Store.{Store}
 use Rattle.versions.proofs.Generated.Kind.Store as Store′
 use Rattle.tree.specs.declared.Ticket.{Ticket}
 use Rattle.register.proofs.Generated.Kind.Ticket as Ticket′
+use Rattle.lines.specs.declared.Branch.{Branch}
+use Rattle.versions.proofs.Generated.Kind.Branch as Branch′
+use Rattle.lines.specs.declared.Line.{Line}
+use Rattle.register.proofs.Generated.Kind.Line as Line′
 use Rattle.tree.specs.declared.Version.{Version}
 use Rattle.register.proofs.Generated.Kind.Version as Version′
 use Rattle.parse.specs.declared.Cutter.{Cutter}
@@ -24,35 +28,14 @@ use Rattle.register.specs.declared.Record.{Record}
 use Rattle.register.proofs.Generated.Kind.Record as Record′
 use Rattle.tree.specs.declared.PageIndex.{PageIndex}
 use Rattle.register.proofs.Generated.Kind.PageIndex as PageIndex′
-use Rattle.respond.specs.declared.Wanted.{Wanted}
-use Rattle.respond.proofs.Generated.Kind.Wanted as Wanted′
-use Rattle.respond.specs.declared.Fill.{Fill}
-use Rattle.respond.proofs.Generated.Kind.Fill as Fill′
-use Rattle.respond.specs.declared.Note.{Note}
-use Rattle.respond.proofs.Generated.Kind.Note as Note′
-use Rattle.respond.specs.declared.Look.{Look}
-use Rattle.respond.proofs.Generated.Kind.Look as Look′
-use Rattle.versions.specs.declared.ByteOffset.{ByteOffset}
-use Rattle.respond.proofs.Generated.Kind.ByteOffset as ByteOffset′
+use Rattle.lines.specs.declared.Entries.{Entries}
+use Rattle.register.proofs.Generated.Kind.Entries as Entries′
 use Rattle.answers.specs.declared.Turn.{Turn}
-use Rattle.turns.proofs.Generated.Kind.Turn as Turn′
-use Rattle.parse.specs.declared.Step.{Step}
-use Rattle.steps.proofs.Generated.Kind.Step as Step′
+use Rattle.answers.proofs.Generated.Kind.Turn as Turn′
 use Rattle.steps.proofs.Generated.Say.answer as answer″
-use Rattle.steps.proofs.Generated.Say.step_cut as step-cut″
-use Rattle.steps.proofs.Generated.Say.wanted_by as wanted-by″
-use Rattle.respond.proofs.Generated.Say.respond as respond″
+use Rattle.steps.proofs.Generated.Say.turn as turn″
 use Rattle.steps.proofs.Generated.Say.write_out as write-out″
 use Rattle.steps.proofs.Generated.Say.next_place as next-place″
 
-abbrev pub r1 : Kept → Cutter → List ℕ → List ℕ → List ℕ → List Record → List ℕ → Step
-r1 kept c text pages nodes register arr7 = step-cut″.res c text arr7
-
-abbrev pub arr7₁ : Kept → Cutter → List ℕ → List ℕ → List ℕ → List Record → List ℕ → List ℕ
-arr7₁ kept c text pages nodes register arr7 = step-cut″.out-bytes c text arr7
-
-abbrev pub r2 : Kept → Cutter → List ℕ → List ℕ → List ℕ → List Record → List ℕ → Wanted
-r2 kept c text pages nodes register arr7 = wanted-by″.res (r1 kept c text pages nodes register arr7)
-
-abbrev pub r5 : Kept → Cutter → List ℕ → List ℕ → List ℕ → List Record → List ℕ → Turn → List ℕ → List ℕ → List Record → List ℕ → Bool → Place‴
-r5 kept c text pages nodes register arr7 r3 pages₃ nodes₃ register₃ arr7₃ r4 = next-place″.res (r3 .kept) r4
+abbrev pub r3 : Kept → Cutter → List ℕ → List ℕ → List ℕ → List Record → List ℕ → Turn → List ℕ → List ℕ → List Record → List ℕ → Bool → Place‴
+r3 kept c text pages nodes register arr7 r1 pages₁ nodes₁ register₁ arr7₁ r2 = next-place″.res (r1 .kept) r2

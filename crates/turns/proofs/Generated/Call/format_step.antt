@@ -33,19 +33,25 @@ use denote.Triple.Spec.{tripleOf}
 use denote.Triple.Walked.{says}
 use Rattle.turns.proofs.Generated.Say.format_step as format-step″
 use Rattle.answers.specs.declared.Kept.{Kept}
-use Rattle.turns.proofs.Generated.Kind.Kept as Kept′
+use Rattle.answers.proofs.Generated.Kind.Kept as Kept′
 use Rattle.versions.specs.declared.Store.{Store}
 use Rattle.versions.proofs.Generated.Kind.Store as Store′
 use Rattle.tree.specs.declared.Ticket.{Ticket}
 use Rattle.register.proofs.Generated.Kind.Ticket as Ticket′
+use Rattle.lines.specs.declared.Branch.{Branch}
+use Rattle.versions.proofs.Generated.Kind.Branch as Branch′
+use Rattle.lines.specs.declared.Line.{Line}
+use Rattle.register.proofs.Generated.Kind.Line as Line′
 use Rattle.tree.specs.declared.Version.{Version}
 use Rattle.register.proofs.Generated.Kind.Version as Version′
 use Rattle.register.specs.declared.Record.{Record}
 use Rattle.register.proofs.Generated.Kind.Record as Record′
 use Rattle.tree.specs.declared.PageIndex.{PageIndex}
 use Rattle.register.proofs.Generated.Kind.PageIndex as PageIndex′
+use Rattle.lines.specs.declared.Entries.{Entries}
+use Rattle.register.proofs.Generated.Kind.Entries as Entries′
 use Rattle.answers.specs.declared.Turn.{Turn}
-use Rattle.turns.proofs.Generated.Kind.Turn as Turn′
+use Rattle.answers.proofs.Generated.Kind.Turn as Turn′
 use Rattle.register.proofs.Generated.Flow.{ref, MutAt, ShrAt, keeps-shr, plus-nothing}
 use Rattle.turns.proofs.format_step as callee
 use Rattle.turns.proofs.format_step.Symbol.{name as #callee}
@@ -54,53 +60,53 @@ module _ {M : Type 1} (𝓤 : URA M) (H : Heap 𝓤) (A : Atoms 𝓤) (mem : Mem
   abbrev pub Asked : Contract 𝓤
   Asked = tripleOf 𝓤 H A callee.signature (callee.spec 𝓤 H A mem run)
 
-  abbrev pub to : (kept : Kept) (asked : Store) (κ·pages : Lft) (q·pages : Share) (b·pages o·pages : ℕ) (γ·pages : GName) (n·pages : ℕ) (pages : List ℕ) (κ·nodes : Lft) (q·nodes : Share) (b·nodes o·nodes : ℕ) (γ·nodes : GName) (n·nodes : ℕ) (nodes : List ℕ) (κ·register : Lft) (q·register : Share) (b·register o·register : ℕ) (γ·register : GName) (n·register : ℕ) (register : List Record) (κ·out : Lft) (q·out : Share) (b·out o·out : ℕ) (γ·out : GName) (n·out : ℕ) (out : List ℕ) → Asked .Ghost
-  to kept asked κ·pages q·pages b·pages o·pages γ·pages n·pages pages κ·nodes q·nodes b·nodes o·nodes γ·nodes n·nodes nodes κ·register q·register b·register o·register γ·register n·register register κ·out q·out b·out o·out γ·out n·out out = (((κ·pages, (κ·nodes, (κ·register, (κ·out, tt)))), (q·pages, (q·nodes, (q·register, (q·out, tt)))), tt, (kept, (asked, (ref b·pages o·pages γ·pages pages, (ref b·nodes o·nodes γ·nodes nodes, (ref b·register o·register γ·register register, (ref b·out o·out γ·out out, tt)))))), (Kept′.mach kept ∷ [], (Store′.mach asked ∷ [], (sliceVal (b·pages, o·pages) n·pages ∷ [], (sliceVal (b·nodes, o·nodes) n·nodes ∷ [], (sliceVal (b·register, o·register) n·register ∷ [], (sliceVal (b·out, o·out) n·out ∷ [], tt))))))), tt)
+  abbrev pub to : (kept : Kept) (size : ℕ) (page-count : ℕ) (node-count : ℕ) (updates : ℕ) (κ·pages : Lft) (q·pages : Share) (b·pages o·pages : ℕ) (γ·pages : GName) (n·pages : ℕ) (pages : List ℕ) (κ·nodes : Lft) (q·nodes : Share) (b·nodes o·nodes : ℕ) (γ·nodes : GName) (n·nodes : ℕ) (nodes : List ℕ) (κ·register : Lft) (q·register : Share) (b·register o·register : ℕ) (γ·register : GName) (n·register : ℕ) (register : List Record) (κ·out : Lft) (q·out : Share) (b·out o·out : ℕ) (γ·out : GName) (n·out : ℕ) (out : List ℕ) → Asked .Ghost
+  to kept size page-count node-count updates κ·pages q·pages b·pages o·pages γ·pages n·pages pages κ·nodes q·nodes b·nodes o·nodes γ·nodes n·nodes nodes κ·register q·register b·register o·register γ·register n·register register κ·out q·out b·out o·out γ·out n·out out = (((κ·pages, (κ·nodes, (κ·register, (κ·out, tt)))), (q·pages, (q·nodes, (q·register, (q·out, tt)))), tt, (kept, (size, (page-count, (node-count, (updates, (ref b·pages o·pages γ·pages pages, (ref b·nodes o·nodes γ·nodes nodes, (ref b·register o·register γ·register register, (ref b·out o·out γ·out out, tt))))))))), (Kept′.mach kept ∷ [], (vint w64 size ∷ [], (vint w64 page-count ∷ [], (vint w64 node-count ∷ [], (vint w64 updates ∷ [], (sliceVal (b·pages, o·pages) n·pages ∷ [], (sliceVal (b·nodes, o·nodes) n·nodes ∷ [], (sliceVal (b·register, o·register) n·register ∷ [], (sliceVal (b·out, o·out) n·out ∷ [], tt)))))))))), tt)
 
 module _ {M : Type 1} {𝓤 : URA M} {H : Heap 𝓤} {A : Atoms 𝓤} {K : Type 0} {W : Given 𝓤 H A} {Γ : List (Item 𝓤)} where
   -- the call itself is made by `by-call`, from what the callee asks to what it has ensured
-  core : K → (mem : Memory → SProp 𝓤) (run : Routine → Fun 𝓤) → (kept : Kept) (asked : Store) (κ·pages : Lft) (q·pages : Share) (b·pages o·pages : ℕ) (γ·pages : GName) (n·pages : ℕ) (pages : List ℕ) (κ·nodes : Lft) (q·nodes : Share) (b·nodes o·nodes : ℕ) (γ·nodes : GName) (n·nodes : ℕ) (nodes : List ℕ) (κ·register : Lft) (q·register : Share) (b·register o·register : ℕ) (γ·register : GName) (n·register : ℕ) (register : List Record) (κ·out : Lft) (q·out : Share) (b·out o·out : ℕ) (γ·out : GName) (n·out : ℕ) (out : List ℕ) → (G : Goal 𝓤 H) (after : Val → Goal 𝓤 H) → ((v : Val) → Soaks (after v))
-      → (((v : Val) → Seq K W (raw (Asked 𝓤 H A mem run .post (to 𝓤 H A mem run kept asked κ·pages q·pages b·pages o·pages γ·pages n·pages pages κ·nodes q·nodes b·nodes o·nodes γ·nodes n·nodes nodes κ·register q·register b·register o·register γ·register n·register register κ·out q·out b·out o·out γ·out n·out out) v) ∷ Γ) (after v)) → Seq K W (raw (Asked 𝓤 H A mem run .pre (to 𝓤 H A mem run kept asked κ·pages q·pages b·pages o·pages γ·pages n·pages pages κ·nodes q·nodes b·nodes o·nodes γ·nodes n·nodes nodes κ·register q·register b·register o·register γ·register n·register register κ·out q·out b·out o·out γ·out n·out out)) ∷ Γ) G) → Is Kept′.row kept (Kept′.vals kept) → Is Store′.row asked (Store′.vals asked) →
+  core : K → (mem : Memory → SProp 𝓤) (run : Routine → Fun 𝓤) → (kept : Kept) (size : ℕ) (page-count : ℕ) (node-count : ℕ) (updates : ℕ) (κ·pages : Lft) (q·pages : Share) (b·pages o·pages : ℕ) (γ·pages : GName) (n·pages : ℕ) (pages : List ℕ) (κ·nodes : Lft) (q·nodes : Share) (b·nodes o·nodes : ℕ) (γ·nodes : GName) (n·nodes : ℕ) (nodes : List ℕ) (κ·register : Lft) (q·register : Share) (b·register o·register : ℕ) (γ·register : GName) (n·register : ℕ) (register : List Record) (κ·out : Lft) (q·out : Share) (b·out o·out : ℕ) (γ·out : GName) (n·out : ℕ) (out : List ℕ) → (G : Goal 𝓤 H) (after : Val → Goal 𝓤 H) → ((v : Val) → Soaks (after v))
+      → (((v : Val) → Seq K W (raw (Asked 𝓤 H A mem run .post (to 𝓤 H A mem run kept size page-count node-count updates κ·pages q·pages b·pages o·pages γ·pages n·pages pages κ·nodes q·nodes b·nodes o·nodes γ·nodes n·nodes nodes κ·register q·register b·register o·register γ·register n·register register κ·out q·out b·out o·out γ·out n·out out) v) ∷ Γ) (after v)) → Seq K W (raw (Asked 𝓤 H A mem run .pre (to 𝓤 H A mem run kept size page-count node-count updates κ·pages q·pages b·pages o·pages γ·pages n·pages pages κ·nodes q·nodes b·nodes o·nodes γ·nodes n·nodes nodes κ·register q·register b·register o·register γ·register n·register register κ·out q·out b·out o·out γ·out n·out out)) ∷ Γ) G) → Is Kept′.row kept (Kept′.vals kept) → Is u64 size (uint-vals w64 size) → Is u64 page-count (uint-vals w64 page-count) → Is u64 node-count (uint-vals w64 node-count) → Is u64 updates (uint-vals w64 updates) →
       ((x·res : Turn) → (zs·pages : List ℕ) → (zs·nodes : List ℕ) → (zs·register : List Record) → (zs·out : List ℕ) → Is Turn′.row x·res (Turn′.vals x·res) → length zs·pages ≡ length pages → length zs·nodes ≡ length nodes → length zs·register ≡ length register → length zs·out ≡ length out → Seq K W (‵ (flft κ·pages q·pages) ∷ ‵ (finally u8 γ·pages zs·pages) ∷ ‵ (flft κ·nodes q·nodes) ∷ ‵ (finally u32 γ·nodes zs·nodes) ∷ ‵ (flft κ·register q·register) ∷ ‵ (finally Record′.row γ·register zs·register) ∷ ‵ (flft κ·out q·out) ∷ ‵ (finally u8 γ·out zs·out) ∷ Γ) (after (Turn′.mach x·res))) → Seq K W (‵ (flft κ·pages q·pages) ∷ ‵ (MutAt u8 κ·pages b·pages o·pages γ·pages n·pages pages) ∷ ‵ (flft κ·nodes q·nodes) ∷ ‵ (MutAt u32 κ·nodes b·nodes o·nodes γ·nodes n·nodes nodes) ∷ ‵ (flft κ·register q·register) ∷ ‵ (MutAt Record′.row κ·register b·register o·register γ·register n·register register) ∷ ‵ (flft κ·out q·out) ∷ ‵ (MutAt u8 κ·out b·out o·out γ·out n·out out) ∷ Γ) G
-  core t mem run kept asked κ·pages q·pages b·pages o·pages γ·pages n·pages pages κ·nodes q·nodes b·nodes o·nodes γ·nodes n·nodes nodes κ·register q·register b·register o·register γ·register n·register register κ·out q·out b·out o·out γ·out n·out out G after soaks by-call ok·kept ok·asked k =
-      move t (6 ∷ 7 ∷ []) $ join t $ move t (6 ∷ 0 ∷ []) $ join t $ move t (5 ∷ 0 ∷ []) $ join t $ move t (4 ∷ 0 ∷ []) $ join t $ move t (3 ∷ 0 ∷ []) $ join t $ move t (2 ∷ 0 ∷ []) $ join t $ move t (1 ∷ 0 ∷ []) $ join t $ use1 W (raw (Asked 𝓤 H A mem run .pre (to 𝓤 H A mem run kept asked κ·pages q·pages b·pages o·pages γ·pages n·pages pages κ·nodes q·nodes b·nodes o·nodes γ·nodes n·nodes nodes κ·register q·register b·register o·register γ·register n·register register κ·out q·out b·out o·out γ·out n·out out))) goes $
+  core t mem run kept size page-count node-count updates κ·pages q·pages b·pages o·pages γ·pages n·pages pages κ·nodes q·nodes b·nodes o·nodes γ·nodes n·nodes nodes κ·register q·register b·register o·register γ·register n·register register κ·out q·out b·out o·out γ·out n·out out G after soaks by-call ok·kept ok·size ok·page-count ok·node-count ok·updates k =
+      move t (6 ∷ 7 ∷ []) $ join t $ move t (6 ∷ 0 ∷ []) $ join t $ move t (5 ∷ 0 ∷ []) $ join t $ move t (4 ∷ 0 ∷ []) $ join t $ move t (3 ∷ 0 ∷ []) $ join t $ move t (2 ∷ 0 ∷ []) $ join t $ move t (1 ∷ 0 ∷ []) $ join t $ use1 W (raw (Asked 𝓤 H A mem run .pre (to 𝓤 H A mem run kept size page-count node-count updates κ·pages q·pages b·pages o·pages γ·pages n·pages pages κ·nodes q·nodes b·nodes o·nodes γ·nodes n·nodes nodes κ·register q·register b·register o·register γ·register n·register register κ·out q·out b·out o·out γ·out n·out out))) goes $
       by-call (λ v.
-      use1 W (later (some (λ (r· : Turn). ((‵ (flft κ·pages q·pages) ⊛ ‵ (flft κ·nodes q·nodes) ⊛ ‵ (flft κ·register q·register) ⊛ ‵ (flft κ·out q·out) ⊛ ‵ ftrue) ⊛ ‵ (Turn′.row .own r· (v ∷ []))) ⊛ raw (ensured 𝓤 H A callee.ended (callee.clauses 𝓤 H A mem run) (κ·pages, (κ·nodes, (κ·register, (κ·out, tt)))) (kept, (asked, (ref b·pages o·pages γ·pages pages, (ref b·nodes o·nodes γ·nodes nodes, (ref b·register o·register γ·register register, (ref b·out o·out γ·out out, tt)))))) tt r·)))) (id⊢ 𝓤 _) $ await t (soaks v) $ pick t (λ r·. split t $ move t (1 ∷ []) $
-      use1 W (some (λ (ws : Lasts callee.ended (κ·pages, (κ·nodes, (κ·register, (κ·out, tt)))) (kept, (asked, (ref b·pages o·pages γ·pages pages, (ref b·nodes o·nodes γ·nodes nodes, (ref b·register o·register γ·register register, (ref b·out o·out γ·out out, tt))))))). ‵ (lasts callee.ended (κ·pages, (κ·nodes, (κ·register, (κ·out, tt)))) (kept, (asked, (ref b·pages o·pages γ·pages pages, (ref b·nodes o·nodes γ·nodes nodes, (ref b·register o·register γ·register register, (ref b·out o·out γ·out out, tt)))))) ws) ⊛ raw (emp 𝓤))) (id⊢ 𝓤 _) $ pick t (λ ws. split t $ move t (1 ∷ []) $
-      drop t $ fsplit t $ drop t $ fsplit t $ drop t $ fsplit t $ fsplit t $ move t (1 ∷ []) $ feqL t (λ same·pages. move t (1 ∷ []) $ fsplit t $ fsplit t $ move t (1 ∷ []) $ feqL t (λ same·nodes. move t (1 ∷ []) $ fsplit t $ fsplit t $ move t (1 ∷ []) $ feqL t (λ same·register. move t (1 ∷ []) $ fsplit t $ fsplit t $ move t (1 ∷ []) $ feqL t (λ same·out. move t (1 ∷ []) $ drop t $ move t (4 ∷ []) $ split t $ move t (1 ∷ []) $ facts t Turn′.row (Is Turn′.row) (shows 𝓤 H A Turn′.row) r· (v ∷ []) (λ is. split t $ move t (1 ∷ []) $ split t $ move t (1 ∷ []) $ split t $ move t (1 ∷ []) $ split t $ move t (1 ∷ []) $ drop t $ move t (3 ∷ 7 ∷ 2 ∷ 6 ∷ 1 ∷ 5 ∷ 0 ∷ 4 ∷ []) $
-      subst (λ (u : Val). Seq K W (‵ (flft κ·pages q·pages) ∷ ‵ (finally u8 γ·pages (ws .1 .1 .0)) ∷ ‵ (flft κ·nodes q·nodes) ∷ ‵ (finally u32 γ·nodes (ws .1 .1 .1 .0)) ∷ ‵ (flft κ·register q·register) ∷ ‵ (finally Record′.row γ·register (ws .1 .1 .1 .1 .0)) ∷ ‵ (flft κ·out q·out) ∷ ‵ (finally u8 γ·out (ws .1 .1 .1 .1 .1 .0)) ∷ Γ) (after u)) (sym (ap only (Turn′.tells r· (v ∷ []) is))) (k r· (ws .1 .1 .0) (ws .1 .1 .1 .0) (ws .1 .1 .1 .1 .0) (ws .1 .1 .1 .1 .1 .0) (subst (Is Turn′.row r·) (Turn′.tells r· (v ∷ []) is) is) same·pages same·nodes same·register same·out)))))))))
+      use1 W (later (some (λ (r· : Turn). ((‵ (flft κ·pages q·pages) ⊛ ‵ (flft κ·nodes q·nodes) ⊛ ‵ (flft κ·register q·register) ⊛ ‵ (flft κ·out q·out) ⊛ ‵ ftrue) ⊛ ‵ (Turn′.row .own r· (v ∷ []))) ⊛ raw (ensured 𝓤 H A callee.ended (callee.clauses 𝓤 H A mem run) (κ·pages, (κ·nodes, (κ·register, (κ·out, tt)))) (kept, (size, (page-count, (node-count, (updates, (ref b·pages o·pages γ·pages pages, (ref b·nodes o·nodes γ·nodes nodes, (ref b·register o·register γ·register register, (ref b·out o·out γ·out out, tt))))))))) tt r·)))) (id⊢ 𝓤 _) $ await t (soaks v) $ pick t (λ r·. split t $ move t (1 ∷ []) $
+      use1 W (some (λ (ws : Lasts callee.ended (κ·pages, (κ·nodes, (κ·register, (κ·out, tt)))) (kept, (size, (page-count, (node-count, (updates, (ref b·pages o·pages γ·pages pages, (ref b·nodes o·nodes γ·nodes nodes, (ref b·register o·register γ·register register, (ref b·out o·out γ·out out, tt)))))))))). ‵ (lasts callee.ended (κ·pages, (κ·nodes, (κ·register, (κ·out, tt)))) (kept, (size, (page-count, (node-count, (updates, (ref b·pages o·pages γ·pages pages, (ref b·nodes o·nodes γ·nodes nodes, (ref b·register o·register γ·register register, (ref b·out o·out γ·out out, tt))))))))) ws) ⊛ raw (emp 𝓤))) (id⊢ 𝓤 _) $ pick t (λ ws. split t $ move t (1 ∷ []) $
+      drop t $ fsplit t $ drop t $ fsplit t $ drop t $ fsplit t $ drop t $ fsplit t $ drop t $ fsplit t $ drop t $ fsplit t $ fsplit t $ move t (1 ∷ []) $ feqL t (λ same·pages. move t (1 ∷ []) $ fsplit t $ fsplit t $ move t (1 ∷ []) $ feqL t (λ same·nodes. move t (1 ∷ []) $ fsplit t $ fsplit t $ move t (1 ∷ []) $ feqL t (λ same·register. move t (1 ∷ []) $ fsplit t $ fsplit t $ move t (1 ∷ []) $ feqL t (λ same·out. move t (1 ∷ []) $ drop t $ move t (4 ∷ []) $ split t $ move t (1 ∷ []) $ facts t Turn′.row (Is Turn′.row) (shows 𝓤 H A Turn′.row) r· (v ∷ []) (λ is. split t $ move t (1 ∷ []) $ split t $ move t (1 ∷ []) $ split t $ move t (1 ∷ []) $ split t $ move t (1 ∷ []) $ drop t $ move t (3 ∷ 7 ∷ 2 ∷ 6 ∷ 1 ∷ 5 ∷ 0 ∷ 4 ∷ []) $
+      subst (λ (u : Val). Seq K W (‵ (flft κ·pages q·pages) ∷ ‵ (finally u8 γ·pages (ws .1 .1 .1 .1 .1 .0)) ∷ ‵ (flft κ·nodes q·nodes) ∷ ‵ (finally u32 γ·nodes (ws .1 .1 .1 .1 .1 .1 .0)) ∷ ‵ (flft κ·register q·register) ∷ ‵ (finally Record′.row γ·register (ws .1 .1 .1 .1 .1 .1 .1 .0)) ∷ ‵ (flft κ·out q·out) ∷ ‵ (finally u8 γ·out (ws .1 .1 .1 .1 .1 .1 .1 .1 .0)) ∷ Γ) (after u)) (sym (ap only (Turn′.tells r· (v ∷ []) is))) (k r· (ws .1 .1 .1 .1 .1 .0) (ws .1 .1 .1 .1 .1 .1 .0) (ws .1 .1 .1 .1 .1 .1 .1 .0) (ws .1 .1 .1 .1 .1 .1 .1 .1 .0) (subst (Is Turn′.row r·) (Turn′.tells r· (v ∷ []) is) is) same·pages same·nodes same·register same·out)))))))))
     where
-      goes : ent 𝓤 (⋆ 𝓤 H A (‵ (flft κ·pages q·pages) ∷ ‵ (MutAt u8 κ·pages b·pages o·pages γ·pages n·pages pages) ∷ ‵ (flft κ·nodes q·nodes) ∷ ‵ (MutAt u32 κ·nodes b·nodes o·nodes γ·nodes n·nodes nodes) ∷ ‵ (flft κ·register q·register) ∷ ‵ (MutAt Record′.row κ·register b·register o·register γ·register n·register register) ∷ ‵ (flft κ·out q·out) ∷ ‵ (MutAt u8 κ·out b·out o·out γ·out n·out out) ∷ [])) (Asked 𝓤 H A mem run .pre (to 𝓤 H A mem run kept asked κ·pages q·pages b·pages o·pages γ·pages n·pages pages κ·nodes q·nodes b·nodes o·nodes γ·nodes n·nodes nodes κ·register q·register b·register o·register γ·register n·register register κ·out q·out b·out o·out γ·out n·out out))
-      goes = qed W (‵ (flft κ·pages q·pages) ∷ ‵ (MutAt u8 κ·pages b·pages o·pages γ·pages n·pages pages) ∷ ‵ (flft κ·nodes q·nodes) ∷ ‵ (MutAt u32 κ·nodes b·nodes o·nodes γ·nodes n·nodes nodes) ∷ ‵ (flft κ·register q·register) ∷ ‵ (MutAt Record′.row κ·register b·register o·register γ·register n·register register) ∷ ‵ (flft κ·out q·out) ∷ ‵ (MutAt u8 κ·out b·out o·out γ·out n·out out) ∷ []) ∵ plus-nothing ! $ nothing ! $ move ! (7 ∷ 0 ∷ []) $ join ! $ move ! (5 ∷ 0 ∷ []) $ join ! $ move ! (3 ∷ 0 ∷ []) $ join ! $ move ! (1 ∷ 0 ∷ []) $ join ! $ frame ! $ nothing ! $ move ! (4 ∷ 0 ∷ []) $ fjoin ! $ move ! (3 ∷ 0 ∷ []) $ fjoin ! $ move ! (2 ∷ 0 ∷ []) $ fjoin ! $ move ! (1 ∷ 0 ∷ []) $ fjoin ! $ owned ! Store′.row (Is Store′.row) (Store′.makes 𝓤 H A) asked _ ok·asked $ fjoin ! $ owned ! Kept′.row (Is Kept′.row) (Kept′.makes 𝓤 H A) kept _ ok·kept $ fjoin ! $ done !
+      goes : ent 𝓤 (⋆ 𝓤 H A (‵ (flft κ·pages q·pages) ∷ ‵ (MutAt u8 κ·pages b·pages o·pages γ·pages n·pages pages) ∷ ‵ (flft κ·nodes q·nodes) ∷ ‵ (MutAt u32 κ·nodes b·nodes o·nodes γ·nodes n·nodes nodes) ∷ ‵ (flft κ·register q·register) ∷ ‵ (MutAt Record′.row κ·register b·register o·register γ·register n·register register) ∷ ‵ (flft κ·out q·out) ∷ ‵ (MutAt u8 κ·out b·out o·out γ·out n·out out) ∷ [])) (Asked 𝓤 H A mem run .pre (to 𝓤 H A mem run kept size page-count node-count updates κ·pages q·pages b·pages o·pages γ·pages n·pages pages κ·nodes q·nodes b·nodes o·nodes γ·nodes n·nodes nodes κ·register q·register b·register o·register γ·register n·register register κ·out q·out b·out o·out γ·out n·out out))
+      goes = qed W (‵ (flft κ·pages q·pages) ∷ ‵ (MutAt u8 κ·pages b·pages o·pages γ·pages n·pages pages) ∷ ‵ (flft κ·nodes q·nodes) ∷ ‵ (MutAt u32 κ·nodes b·nodes o·nodes γ·nodes n·nodes nodes) ∷ ‵ (flft κ·register q·register) ∷ ‵ (MutAt Record′.row κ·register b·register o·register γ·register n·register register) ∷ ‵ (flft κ·out q·out) ∷ ‵ (MutAt u8 κ·out b·out o·out γ·out n·out out) ∷ []) ∵ plus-nothing ! $ nothing ! $ move ! (7 ∷ 0 ∷ []) $ join ! $ move ! (5 ∷ 0 ∷ []) $ join ! $ move ! (3 ∷ 0 ∷ []) $ join ! $ move ! (1 ∷ 0 ∷ []) $ join ! $ frame ! $ nothing ! $ move ! (4 ∷ 0 ∷ []) $ fjoin ! $ move ! (3 ∷ 0 ∷ []) $ fjoin ! $ move ! (2 ∷ 0 ∷ []) $ fjoin ! $ move ! (1 ∷ 0 ∷ []) $ fjoin ! $ owned ! u64 (Is u64) (uint-makes 𝓤 H A W w64) updates _ ok·updates $ fjoin ! $ owned ! u64 (Is u64) (uint-makes 𝓤 H A W w64) node-count _ ok·node-count $ fjoin ! $ owned ! u64 (Is u64) (uint-makes 𝓤 H A W w64) page-count _ ok·page-count $ fjoin ! $ owned ! u64 (Is u64) (uint-makes 𝓤 H A W w64) size _ ok·size $ fjoin ! $ owned ! Kept′.row (Is Kept′.row) (Kept′.makes 𝓤 H A) kept _ ok·kept $ fjoin ! $ done !
 
 module _ {M : Type 1} {𝓤 : URA M} {H : Heap 𝓤} {A : Atoms 𝓤} {K : Type 0} {W : Given 𝓤 H A} {Γ : List (Item 𝓤)} {E : Env 𝓤 H} {C : Calls 𝓤 H} {Λ : Loops 𝓤 H} {Q : Post 𝓤 H} {xs : List Operand} {d : Place} {rest : Body} where
   -- by one instance of the callee's contract, which is what a function that calls itself has
-  pub calls-by : K → (mem : Memory → SProp 𝓤) (run : Routine → Fun 𝓤) → FmC 𝓤 H (W .laws) C → (kept : Kept) (asked : Store) (κ·pages : Lft) (q·pages : Share) (b·pages o·pages : ℕ) (γ·pages : GName) (n·pages : ℕ) (pages : List ℕ) (κ·nodes : Lft) (q·nodes : Share) (b·nodes o·nodes : ℕ) (γ·nodes : GName) (n·nodes : ℕ) (nodes : List ℕ) (κ·register : Lft) (q·register : Share) (b·register o·register : ℕ) (γ·register : GName) (n·register : ℕ) (register : List Record) (κ·out : Lft) (q·out : Share) (b·out o·out : ℕ) (γ·out : GName) (n·out : ℕ) (out : List ℕ) → ent 𝓤 (Asked 𝓤 H A mem run .pre (to 𝓤 H A mem run kept asked κ·pages q·pages b·pages o·pages γ·pages n·pages pages κ·nodes q·nodes b·nodes o·nodes γ·nodes n·nodes nodes κ·register q·register b·register o·register γ·register n·register register κ·out q·out b·out o·out γ·out n·out out)) (C #callee (Asked 𝓤 H A mem run .args (to 𝓤 H A mem run kept asked κ·pages q·pages b·pages o·pages γ·pages n·pages pages κ·nodes q·nodes b·nodes o·nodes γ·nodes n·nodes nodes κ·register q·register b·register o·register γ·register n·register register κ·out q·out b·out o·out γ·out n·out out)) (Asked 𝓤 H A mem run .post (to 𝓤 H A mem run kept asked κ·pages q·pages b·pages o·pages γ·pages n·pages pages κ·nodes q·nodes b·nodes o·nodes γ·nodes n·nodes nodes κ·register q·register b·register o·register γ·register n·register register κ·out q·out b·out o·out γ·out n·out out))) → Is Kept′.row kept (Kept′.vals kept) → Is Store′.row asked (Store′.vals asked) →
-      Opds K W (raw (Asked 𝓤 H A mem run .pre (to 𝓤 H A mem run kept asked κ·pages q·pages b·pages o·pages γ·pages n·pages pages κ·nodes q·nodes b·nodes o·nodes γ·nodes n·nodes nodes κ·register q·register b·register o·register γ·register n·register register κ·out q·out b·out o·out γ·out n·out out)) ∷ Γ) E xs (Kept′.mach kept ∷ Store′.mach asked ∷ sliceVal (b·pages, o·pages) n·pages ∷ sliceVal (b·nodes, o·nodes) n·nodes ∷ sliceVal (b·register, o·register) n·register ∷ sliceVal (b·out, o·out) n·out ∷ [])
+  pub calls-by : K → (mem : Memory → SProp 𝓤) (run : Routine → Fun 𝓤) → FmC 𝓤 H (W .laws) C → (kept : Kept) (size : ℕ) (page-count : ℕ) (node-count : ℕ) (updates : ℕ) (κ·pages : Lft) (q·pages : Share) (b·pages o·pages : ℕ) (γ·pages : GName) (n·pages : ℕ) (pages : List ℕ) (κ·nodes : Lft) (q·nodes : Share) (b·nodes o·nodes : ℕ) (γ·nodes : GName) (n·nodes : ℕ) (nodes : List ℕ) (κ·register : Lft) (q·register : Share) (b·register o·register : ℕ) (γ·register : GName) (n·register : ℕ) (register : List Record) (κ·out : Lft) (q·out : Share) (b·out o·out : ℕ) (γ·out : GName) (n·out : ℕ) (out : List ℕ) → ent 𝓤 (Asked 𝓤 H A mem run .pre (to 𝓤 H A mem run kept size page-count node-count updates κ·pages q·pages b·pages o·pages γ·pages n·pages pages κ·nodes q·nodes b·nodes o·nodes γ·nodes n·nodes nodes κ·register q·register b·register o·register γ·register n·register register κ·out q·out b·out o·out γ·out n·out out)) (C #callee (Asked 𝓤 H A mem run .args (to 𝓤 H A mem run kept size page-count node-count updates κ·pages q·pages b·pages o·pages γ·pages n·pages pages κ·nodes q·nodes b·nodes o·nodes γ·nodes n·nodes nodes κ·register q·register b·register o·register γ·register n·register register κ·out q·out b·out o·out γ·out n·out out)) (Asked 𝓤 H A mem run .post (to 𝓤 H A mem run kept size page-count node-count updates κ·pages q·pages b·pages o·pages γ·pages n·pages pages κ·nodes q·nodes b·nodes o·nodes γ·nodes n·nodes nodes κ·register q·register b·register o·register γ·register n·register register κ·out q·out b·out o·out γ·out n·out out))) → Is Kept′.row kept (Kept′.vals kept) → Is u64 size (uint-vals w64 size) → Is u64 page-count (uint-vals w64 page-count) → Is u64 node-count (uint-vals w64 node-count) → Is u64 updates (uint-vals w64 updates) →
+      Opds K W (raw (Asked 𝓤 H A mem run .pre (to 𝓤 H A mem run kept size page-count node-count updates κ·pages q·pages b·pages o·pages γ·pages n·pages pages κ·nodes q·nodes b·nodes o·nodes γ·nodes n·nodes nodes κ·register q·register b·register o·register γ·register n·register register κ·out q·out b·out o·out γ·out n·out out)) ∷ Γ) E xs (Kept′.mach kept ∷ vint w64 size ∷ vint w64 page-count ∷ vint w64 node-count ∷ vint w64 updates ∷ sliceVal (b·pages, o·pages) n·pages ∷ sliceVal (b·nodes, o·nodes) n·nodes ∷ sliceVal (b·register, o·register) n·register ∷ sliceVal (b·out, o·out) n·out ∷ [])
       → ((x·res : Turn) → (zs·pages : List ℕ) → (zs·nodes : List ℕ) → (zs·register : List Record) → (zs·out : List ℕ) → Is Turn′.row x·res (Turn′.vals x·res) → length zs·pages ≡ length pages → length zs·nodes ≡ length nodes → length zs·register ≡ length register → length zs·out ≡ length out → Seq K W (‵ (flft κ·pages q·pages) ∷ ‵ (finally u8 γ·pages zs·pages) ∷ ‵ (flft κ·nodes q·nodes) ∷ ‵ (finally u32 γ·nodes zs·nodes) ∷ ‵ (flft κ·register q·register) ∷ ‵ (finally Record′.row γ·register zs·register) ∷ ‵ (flft κ·out q·out) ∷ ‵ (finally u8 γ·out zs·out) ∷ Γ) (lands C Λ E d (Turn′.mach x·res) rest Q))
       → Seq K W (‵ (flft κ·pages q·pages) ∷ ‵ (MutAt u8 κ·pages b·pages o·pages γ·pages n·pages pages) ∷ ‵ (flft κ·nodes q·nodes) ∷ ‵ (MutAt u32 κ·nodes b·nodes o·nodes γ·nodes n·nodes nodes) ∷ ‵ (flft κ·register q·register) ∷ ‵ (MutAt Record′.row κ·register b·register o·register γ·register n·register register) ∷ ‵ (flft κ·out q·out) ∷ ‵ (MutAt u8 κ·out b·out o·out γ·out n·out out) ∷ Γ) (runs C Λ E (seq (call #callee xs d) rest) Q)
-  calls-by t mem run fm kept asked κ·pages q·pages b·pages o·pages γ·pages n·pages pages κ·nodes q·nodes b·nodes o·nodes γ·nodes n·nodes nodes κ·register q·register b·register o·register γ·register n·register register κ·out q·out b·out o·out γ·out n·out out known ok·kept ok·asked os k =
-      core t mem run kept asked κ·pages q·pages b·pages o·pages γ·pages n·pages pages κ·nodes q·nodes b·nodes o·nodes γ·nodes n·nodes nodes κ·register q·register b·register o·register γ·register n·register register κ·out q·out b·out o·out γ·out n·out out (runs C Λ E (seq (call #callee xs d) rest) Q) (λ v. lands C Λ E d v rest Q) (λ v. tt)
-      (λ h. calls-from t fm (raw (Asked 𝓤 H A mem run .pre (to 𝓤 H A mem run kept asked κ·pages q·pages b·pages o·pages γ·pages n·pages pages κ·nodes q·nodes b·nodes o·nodes γ·nodes n·nodes nodes κ·register q·register b·register o·register γ·register n·register register κ·out q·out b·out o·out γ·out n·out out))) (Asked 𝓤 H A mem run .args (to 𝓤 H A mem run kept asked κ·pages q·pages b·pages o·pages γ·pages n·pages pages κ·nodes q·nodes b·nodes o·nodes γ·nodes n·nodes nodes κ·register q·register b·register o·register γ·register n·register register κ·out q·out b·out o·out γ·out n·out out)) (Asked 𝓤 H A mem run .post (to 𝓤 H A mem run kept asked κ·pages q·pages b·pages o·pages γ·pages n·pages pages κ·nodes q·nodes b·nodes o·nodes γ·nodes n·nodes nodes κ·register q·register b·register o·register γ·register n·register register κ·out q·out b·out o·out γ·out n·out out)) known os h) ok·kept ok·asked k
+  calls-by t mem run fm kept size page-count node-count updates κ·pages q·pages b·pages o·pages γ·pages n·pages pages κ·nodes q·nodes b·nodes o·nodes γ·nodes n·nodes nodes κ·register q·register b·register o·register γ·register n·register register κ·out q·out b·out o·out γ·out n·out out known ok·kept ok·size ok·page-count ok·node-count ok·updates os k =
+      core t mem run kept size page-count node-count updates κ·pages q·pages b·pages o·pages γ·pages n·pages pages κ·nodes q·nodes b·nodes o·nodes γ·nodes n·nodes nodes κ·register q·register b·register o·register γ·register n·register register κ·out q·out b·out o·out γ·out n·out out (runs C Λ E (seq (call #callee xs d) rest) Q) (λ v. lands C Λ E d v rest Q) (λ v. tt)
+      (λ h. calls-from t fm (raw (Asked 𝓤 H A mem run .pre (to 𝓤 H A mem run kept size page-count node-count updates κ·pages q·pages b·pages o·pages γ·pages n·pages pages κ·nodes q·nodes b·nodes o·nodes γ·nodes n·nodes nodes κ·register q·register b·register o·register γ·register n·register register κ·out q·out b·out o·out γ·out n·out out))) (Asked 𝓤 H A mem run .args (to 𝓤 H A mem run kept size page-count node-count updates κ·pages q·pages b·pages o·pages γ·pages n·pages pages κ·nodes q·nodes b·nodes o·nodes γ·nodes n·nodes nodes κ·register q·register b·register o·register γ·register n·register register κ·out q·out b·out o·out γ·out n·out out)) (Asked 𝓤 H A mem run .post (to 𝓤 H A mem run kept size page-count node-count updates κ·pages q·pages b·pages o·pages γ·pages n·pages pages κ·nodes q·nodes b·nodes o·nodes γ·nodes n·nodes nodes κ·register q·register b·register o·register γ·register n·register register κ·out q·out b·out o·out γ·out n·out out)) known os h) ok·kept ok·size ok·page-count ok·node-count ok·updates k
 
-  pub calls : K → (mem : Memory → SProp 𝓤) (run : Routine → Fun 𝓤) → FmC 𝓤 H (W .laws) C → Triple 𝓤 (C #callee) (Asked 𝓤 H A mem run) → (kept : Kept) (asked : Store) (κ·pages : Lft) (q·pages : Share) (b·pages o·pages : ℕ) (γ·pages : GName) (n·pages : ℕ) (pages : List ℕ) (κ·nodes : Lft) (q·nodes : Share) (b·nodes o·nodes : ℕ) (γ·nodes : GName) (n·nodes : ℕ) (nodes : List ℕ) (κ·register : Lft) (q·register : Share) (b·register o·register : ℕ) (γ·register : GName) (n·register : ℕ) (register : List Record) (κ·out : Lft) (q·out : Share) (b·out o·out : ℕ) (γ·out : GName) (n·out : ℕ) (out : List ℕ) → Is Kept′.row kept (Kept′.vals kept) → Is Store′.row asked (Store′.vals asked) →
-      Opds K W (raw (Asked 𝓤 H A mem run .pre (to 𝓤 H A mem run kept asked κ·pages q·pages b·pages o·pages γ·pages n·pages pages κ·nodes q·nodes b·nodes o·nodes γ·nodes n·nodes nodes κ·register q·register b·register o·register γ·register n·register register κ·out q·out b·out o·out γ·out n·out out)) ∷ Γ) E xs (Kept′.mach kept ∷ Store′.mach asked ∷ sliceVal (b·pages, o·pages) n·pages ∷ sliceVal (b·nodes, o·nodes) n·nodes ∷ sliceVal (b·register, o·register) n·register ∷ sliceVal (b·out, o·out) n·out ∷ [])
+  pub calls : K → (mem : Memory → SProp 𝓤) (run : Routine → Fun 𝓤) → FmC 𝓤 H (W .laws) C → Triple 𝓤 (C #callee) (Asked 𝓤 H A mem run) → (kept : Kept) (size : ℕ) (page-count : ℕ) (node-count : ℕ) (updates : ℕ) (κ·pages : Lft) (q·pages : Share) (b·pages o·pages : ℕ) (γ·pages : GName) (n·pages : ℕ) (pages : List ℕ) (κ·nodes : Lft) (q·nodes : Share) (b·nodes o·nodes : ℕ) (γ·nodes : GName) (n·nodes : ℕ) (nodes : List ℕ) (κ·register : Lft) (q·register : Share) (b·register o·register : ℕ) (γ·register : GName) (n·register : ℕ) (register : List Record) (κ·out : Lft) (q·out : Share) (b·out o·out : ℕ) (γ·out : GName) (n·out : ℕ) (out : List ℕ) → Is Kept′.row kept (Kept′.vals kept) → Is u64 size (uint-vals w64 size) → Is u64 page-count (uint-vals w64 page-count) → Is u64 node-count (uint-vals w64 node-count) → Is u64 updates (uint-vals w64 updates) →
+      Opds K W (raw (Asked 𝓤 H A mem run .pre (to 𝓤 H A mem run kept size page-count node-count updates κ·pages q·pages b·pages o·pages γ·pages n·pages pages κ·nodes q·nodes b·nodes o·nodes γ·nodes n·nodes nodes κ·register q·register b·register o·register γ·register n·register register κ·out q·out b·out o·out γ·out n·out out)) ∷ Γ) E xs (Kept′.mach kept ∷ vint w64 size ∷ vint w64 page-count ∷ vint w64 node-count ∷ vint w64 updates ∷ sliceVal (b·pages, o·pages) n·pages ∷ sliceVal (b·nodes, o·nodes) n·nodes ∷ sliceVal (b·register, o·register) n·register ∷ sliceVal (b·out, o·out) n·out ∷ [])
       → ((x·res : Turn) → (zs·pages : List ℕ) → (zs·nodes : List ℕ) → (zs·register : List Record) → (zs·out : List ℕ) → Is Turn′.row x·res (Turn′.vals x·res) → length zs·pages ≡ length pages → length zs·nodes ≡ length nodes → length zs·register ≡ length register → length zs·out ≡ length out → Seq K W (‵ (flft κ·pages q·pages) ∷ ‵ (finally u8 γ·pages zs·pages) ∷ ‵ (flft κ·nodes q·nodes) ∷ ‵ (finally u32 γ·nodes zs·nodes) ∷ ‵ (flft κ·register q·register) ∷ ‵ (finally Record′.row γ·register zs·register) ∷ ‵ (flft κ·out q·out) ∷ ‵ (finally u8 γ·out zs·out) ∷ Γ) (lands C Λ E d (Turn′.mach x·res) rest Q))
       → Seq K W (‵ (flft κ·pages q·pages) ∷ ‵ (MutAt u8 κ·pages b·pages o·pages γ·pages n·pages pages) ∷ ‵ (flft κ·nodes q·nodes) ∷ ‵ (MutAt u32 κ·nodes b·nodes o·nodes γ·nodes n·nodes nodes) ∷ ‵ (flft κ·register q·register) ∷ ‵ (MutAt Record′.row κ·register b·register o·register γ·register n·register register) ∷ ‵ (flft κ·out q·out) ∷ ‵ (MutAt u8 κ·out b·out o·out γ·out n·out out) ∷ Γ) (runs C Λ E (seq (call #callee xs d) rest) Q)
-  calls t mem run fm known kept asked κ·pages q·pages b·pages o·pages γ·pages n·pages pages κ·nodes q·nodes b·nodes o·nodes γ·nodes n·nodes nodes κ·register q·register b·register o·register γ·register n·register register κ·out q·out b·out o·out γ·out n·out out = calls-by t mem run fm kept asked κ·pages q·pages b·pages o·pages γ·pages n·pages pages κ·nodes q·nodes b·nodes o·nodes γ·nodes n·nodes nodes κ·register q·register b·register o·register γ·register n·register register κ·out q·out b·out o·out γ·out n·out out (known (to 𝓤 H A mem run kept asked κ·pages q·pages b·pages o·pages γ·pages n·pages pages κ·nodes q·nodes b·nodes o·nodes γ·nodes n·nodes nodes κ·register q·register b·register o·register γ·register n·register register κ·out q·out b·out o·out γ·out n·out out))
+  calls t mem run fm known kept size page-count node-count updates κ·pages q·pages b·pages o·pages γ·pages n·pages pages κ·nodes q·nodes b·nodes o·nodes γ·nodes n·nodes nodes κ·register q·register b·register o·register γ·register n·register register κ·out q·out b·out o·out γ·out n·out out = calls-by t mem run fm kept size page-count node-count updates κ·pages q·pages b·pages o·pages γ·pages n·pages pages κ·nodes q·nodes b·nodes o·nodes γ·nodes n·nodes nodes κ·register q·register b·register o·register γ·register n·register register κ·out q·out b·out o·out γ·out n·out out (known (to 𝓤 H A mem run kept size page-count node-count updates κ·pages q·pages b·pages o·pages γ·pages n·pages pages κ·nodes q·nodes b·nodes o·nodes γ·nodes n·nodes nodes κ·register q·register b·register o·register γ·register n·register register κ·out q·out b·out o·out γ·out n·out out))
 
 module _ {M : Type 1} {𝓤 : URA M} {H : Heap 𝓤} {A : Atoms 𝓤} {K : Type 0} {W : Given 𝓤 H A} {Γ : List (Item 𝓤)} {E : Env 𝓤 H} {C : Calls 𝓤 H} {Λ : Loops 𝓤 H} {Q : Post 𝓤 H} {xs : List Operand} {d : Place} where
   -- by one instance of the callee's contract, which is what a function that calls itself has. The call ends a part of the code
-  pub calls-last-by : K → (mem : Memory → SProp 𝓤) (run : Routine → Fun 𝓤) → FmC 𝓤 H (W .laws) C → (kept : Kept) (asked : Store) (κ·pages : Lft) (q·pages : Share) (b·pages o·pages : ℕ) (γ·pages : GName) (n·pages : ℕ) (pages : List ℕ) (κ·nodes : Lft) (q·nodes : Share) (b·nodes o·nodes : ℕ) (γ·nodes : GName) (n·nodes : ℕ) (nodes : List ℕ) (κ·register : Lft) (q·register : Share) (b·register o·register : ℕ) (γ·register : GName) (n·register : ℕ) (register : List Record) (κ·out : Lft) (q·out : Share) (b·out o·out : ℕ) (γ·out : GName) (n·out : ℕ) (out : List ℕ) → ent 𝓤 (Asked 𝓤 H A mem run .pre (to 𝓤 H A mem run kept asked κ·pages q·pages b·pages o·pages γ·pages n·pages pages κ·nodes q·nodes b·nodes o·nodes γ·nodes n·nodes nodes κ·register q·register b·register o·register γ·register n·register register κ·out q·out b·out o·out γ·out n·out out)) (C #callee (Asked 𝓤 H A mem run .args (to 𝓤 H A mem run kept asked κ·pages q·pages b·pages o·pages γ·pages n·pages pages κ·nodes q·nodes b·nodes o·nodes γ·nodes n·nodes nodes κ·register q·register b·register o·register γ·register n·register register κ·out q·out b·out o·out γ·out n·out out)) (Asked 𝓤 H A mem run .post (to 𝓤 H A mem run kept asked κ·pages q·pages b·pages o·pages γ·pages n·pages pages κ·nodes q·nodes b·nodes o·nodes γ·nodes n·nodes nodes κ·register q·register b·register o·register γ·register n·register register κ·out q·out b·out o·out γ·out n·out out))) → Is Kept′.row kept (Kept′.vals kept) → Is Store′.row asked (Store′.vals asked) →
-      Opds K W (raw (Asked 𝓤 H A mem run .pre (to 𝓤 H A mem run kept asked κ·pages q·pages b·pages o·pages γ·pages n·pages pages κ·nodes q·nodes b·nodes o·nodes γ·nodes n·nodes nodes κ·register q·register b·register o·register γ·register n·register register κ·out q·out b·out o·out γ·out n·out out)) ∷ Γ) E xs (Kept′.mach kept ∷ Store′.mach asked ∷ sliceVal (b·pages, o·pages) n·pages ∷ sliceVal (b·nodes, o·nodes) n·nodes ∷ sliceVal (b·register, o·register) n·register ∷ sliceVal (b·out, o·out) n·out ∷ [])
+  pub calls-last-by : K → (mem : Memory → SProp 𝓤) (run : Routine → Fun 𝓤) → FmC 𝓤 H (W .laws) C → (kept : Kept) (size : ℕ) (page-count : ℕ) (node-count : ℕ) (updates : ℕ) (κ·pages : Lft) (q·pages : Share) (b·pages o·pages : ℕ) (γ·pages : GName) (n·pages : ℕ) (pages : List ℕ) (κ·nodes : Lft) (q·nodes : Share) (b·nodes o·nodes : ℕ) (γ·nodes : GName) (n·nodes : ℕ) (nodes : List ℕ) (κ·register : Lft) (q·register : Share) (b·register o·register : ℕ) (γ·register : GName) (n·register : ℕ) (register : List Record) (κ·out : Lft) (q·out : Share) (b·out o·out : ℕ) (γ·out : GName) (n·out : ℕ) (out : List ℕ) → ent 𝓤 (Asked 𝓤 H A mem run .pre (to 𝓤 H A mem run kept size page-count node-count updates κ·pages q·pages b·pages o·pages γ·pages n·pages pages κ·nodes q·nodes b·nodes o·nodes γ·nodes n·nodes nodes κ·register q·register b·register o·register γ·register n·register register κ·out q·out b·out o·out γ·out n·out out)) (C #callee (Asked 𝓤 H A mem run .args (to 𝓤 H A mem run kept size page-count node-count updates κ·pages q·pages b·pages o·pages γ·pages n·pages pages κ·nodes q·nodes b·nodes o·nodes γ·nodes n·nodes nodes κ·register q·register b·register o·register γ·register n·register register κ·out q·out b·out o·out γ·out n·out out)) (Asked 𝓤 H A mem run .post (to 𝓤 H A mem run kept size page-count node-count updates κ·pages q·pages b·pages o·pages γ·pages n·pages pages κ·nodes q·nodes b·nodes o·nodes γ·nodes n·nodes nodes κ·register q·register b·register o·register γ·register n·register register κ·out q·out b·out o·out γ·out n·out out))) → Is Kept′.row kept (Kept′.vals kept) → Is u64 size (uint-vals w64 size) → Is u64 page-count (uint-vals w64 page-count) → Is u64 node-count (uint-vals w64 node-count) → Is u64 updates (uint-vals w64 updates) →
+      Opds K W (raw (Asked 𝓤 H A mem run .pre (to 𝓤 H A mem run kept size page-count node-count updates κ·pages q·pages b·pages o·pages γ·pages n·pages pages κ·nodes q·nodes b·nodes o·nodes γ·nodes n·nodes nodes κ·register q·register b·register o·register γ·register n·register register κ·out q·out b·out o·out γ·out n·out out)) ∷ Γ) E xs (Kept′.mach kept ∷ vint w64 size ∷ vint w64 page-count ∷ vint w64 node-count ∷ vint w64 updates ∷ sliceVal (b·pages, o·pages) n·pages ∷ sliceVal (b·nodes, o·nodes) n·nodes ∷ sliceVal (b·register, o·register) n·register ∷ sliceVal (b·out, o·out) n·out ∷ [])
       → ((x·res : Turn) → (zs·pages : List ℕ) → (zs·nodes : List ℕ) → (zs·register : List Record) → (zs·out : List ℕ) → Is Turn′.row x·res (Turn′.vals x·res) → length zs·pages ≡ length pages → length zs·nodes ≡ length nodes → length zs·register ≡ length register → length zs·out ≡ length out → Seq K W (‵ (flft κ·pages q·pages) ∷ ‵ (finally u8 γ·pages zs·pages) ∷ ‵ (flft κ·nodes q·nodes) ∷ ‵ (finally u32 γ·nodes zs·nodes) ∷ ‵ (flft κ·register q·register) ∷ ‵ (finally Record′.row γ·register zs·register) ∷ ‵ (flft κ·out q·out) ∷ ‵ (finally u8 γ·out zs·out) ∷ Γ) (settles E d (Turn′.mach x·res) Q))
       → Seq K W (‵ (flft κ·pages q·pages) ∷ ‵ (MutAt u8 κ·pages b·pages o·pages γ·pages n·pages pages) ∷ ‵ (flft κ·nodes q·nodes) ∷ ‵ (MutAt u32 κ·nodes b·nodes o·nodes γ·nodes n·nodes nodes) ∷ ‵ (flft κ·register q·register) ∷ ‵ (MutAt Record′.row κ·register b·register o·register γ·register n·register register) ∷ ‵ (flft κ·out q·out) ∷ ‵ (MutAt u8 κ·out b·out o·out γ·out n·out out) ∷ Γ) (runs C Λ E (call #callee xs d) Q)
-  calls-last-by t mem run fm kept asked κ·pages q·pages b·pages o·pages γ·pages n·pages pages κ·nodes q·nodes b·nodes o·nodes γ·nodes n·nodes nodes κ·register q·register b·register o·register γ·register n·register register κ·out q·out b·out o·out γ·out n·out out known ok·kept ok·asked os k =
-      core t mem run kept asked κ·pages q·pages b·pages o·pages γ·pages n·pages pages κ·nodes q·nodes b·nodes o·nodes γ·nodes n·nodes nodes κ·register q·register b·register o·register γ·register n·register register κ·out q·out b·out o·out γ·out n·out out (runs C Λ E (call #callee xs d) Q) (λ v. settles E d v Q) (λ v. tt)
-      (λ h. calls-from-last t fm (raw (Asked 𝓤 H A mem run .pre (to 𝓤 H A mem run kept asked κ·pages q·pages b·pages o·pages γ·pages n·pages pages κ·nodes q·nodes b·nodes o·nodes γ·nodes n·nodes nodes κ·register q·register b·register o·register γ·register n·register register κ·out q·out b·out o·out γ·out n·out out))) (Asked 𝓤 H A mem run .args (to 𝓤 H A mem run kept asked κ·pages q·pages b·pages o·pages γ·pages n·pages pages κ·nodes q·nodes b·nodes o·nodes γ·nodes n·nodes nodes κ·register q·register b·register o·register γ·register n·register register κ·out q·out b·out o·out γ·out n·out out)) (Asked 𝓤 H A mem run .post (to 𝓤 H A mem run kept asked κ·pages q·pages b·pages o·pages γ·pages n·pages pages κ·nodes q·nodes b·nodes o·nodes γ·nodes n·nodes nodes κ·register q·register b·register o·register γ·register n·register register κ·out q·out b·out o·out γ·out n·out out)) known os h) ok·kept ok·asked k
+  calls-last-by t mem run fm kept size page-count node-count updates κ·pages q·pages b·pages o·pages γ·pages n·pages pages κ·nodes q·nodes b·nodes o·nodes γ·nodes n·nodes nodes κ·register q·register b·register o·register γ·register n·register register κ·out q·out b·out o·out γ·out n·out out known ok·kept ok·size ok·page-count ok·node-count ok·updates os k =
+      core t mem run kept size page-count node-count updates κ·pages q·pages b·pages o·pages γ·pages n·pages pages κ·nodes q·nodes b·nodes o·nodes γ·nodes n·nodes nodes κ·register q·register b·register o·register γ·register n·register register κ·out q·out b·out o·out γ·out n·out out (runs C Λ E (call #callee xs d) Q) (λ v. settles E d v Q) (λ v. tt)
+      (λ h. calls-from-last t fm (raw (Asked 𝓤 H A mem run .pre (to 𝓤 H A mem run kept size page-count node-count updates κ·pages q·pages b·pages o·pages γ·pages n·pages pages κ·nodes q·nodes b·nodes o·nodes γ·nodes n·nodes nodes κ·register q·register b·register o·register γ·register n·register register κ·out q·out b·out o·out γ·out n·out out))) (Asked 𝓤 H A mem run .args (to 𝓤 H A mem run kept size page-count node-count updates κ·pages q·pages b·pages o·pages γ·pages n·pages pages κ·nodes q·nodes b·nodes o·nodes γ·nodes n·nodes nodes κ·register q·register b·register o·register γ·register n·register register κ·out q·out b·out o·out γ·out n·out out)) (Asked 𝓤 H A mem run .post (to 𝓤 H A mem run kept size page-count node-count updates κ·pages q·pages b·pages o·pages γ·pages n·pages pages κ·nodes q·nodes b·nodes o·nodes γ·nodes n·nodes nodes κ·register q·register b·register o·register γ·register n·register register κ·out q·out b·out o·out γ·out n·out out)) known os h) ok·kept ok·size ok·page-count ok·node-count ok·updates k
 
-  pub calls-last : K → (mem : Memory → SProp 𝓤) (run : Routine → Fun 𝓤) → FmC 𝓤 H (W .laws) C → Triple 𝓤 (C #callee) (Asked 𝓤 H A mem run) → (kept : Kept) (asked : Store) (κ·pages : Lft) (q·pages : Share) (b·pages o·pages : ℕ) (γ·pages : GName) (n·pages : ℕ) (pages : List ℕ) (κ·nodes : Lft) (q·nodes : Share) (b·nodes o·nodes : ℕ) (γ·nodes : GName) (n·nodes : ℕ) (nodes : List ℕ) (κ·register : Lft) (q·register : Share) (b·register o·register : ℕ) (γ·register : GName) (n·register : ℕ) (register : List Record) (κ·out : Lft) (q·out : Share) (b·out o·out : ℕ) (γ·out : GName) (n·out : ℕ) (out : List ℕ) → Is Kept′.row kept (Kept′.vals kept) → Is Store′.row asked (Store′.vals asked) →
-      Opds K W (raw (Asked 𝓤 H A mem run .pre (to 𝓤 H A mem run kept asked κ·pages q·pages b·pages o·pages γ·pages n·pages pages κ·nodes q·nodes b·nodes o·nodes γ·nodes n·nodes nodes κ·register q·register b·register o·register γ·register n·register register κ·out q·out b·out o·out γ·out n·out out)) ∷ Γ) E xs (Kept′.mach kept ∷ Store′.mach asked ∷ sliceVal (b·pages, o·pages) n·pages ∷ sliceVal (b·nodes, o·nodes) n·nodes ∷ sliceVal (b·register, o·register) n·register ∷ sliceVal (b·out, o·out) n·out ∷ [])
+  pub calls-last : K → (mem : Memory → SProp 𝓤) (run : Routine → Fun 𝓤) → FmC 𝓤 H (W .laws) C → Triple 𝓤 (C #callee) (Asked 𝓤 H A mem run) → (kept : Kept) (size : ℕ) (page-count : ℕ) (node-count : ℕ) (updates : ℕ) (κ·pages : Lft) (q·pages : Share) (b·pages o·pages : ℕ) (γ·pages : GName) (n·pages : ℕ) (pages : List ℕ) (κ·nodes : Lft) (q·nodes : Share) (b·nodes o·nodes : ℕ) (γ·nodes : GName) (n·nodes : ℕ) (nodes : List ℕ) (κ·register : Lft) (q·register : Share) (b·register o·register : ℕ) (γ·register : GName) (n·register : ℕ) (register : List Record) (κ·out : Lft) (q·out : Share) (b·out o·out : ℕ) (γ·out : GName) (n·out : ℕ) (out : List ℕ) → Is Kept′.row kept (Kept′.vals kept) → Is u64 size (uint-vals w64 size) → Is u64 page-count (uint-vals w64 page-count) → Is u64 node-count (uint-vals w64 node-count) → Is u64 updates (uint-vals w64 updates) →
+      Opds K W (raw (Asked 𝓤 H A mem run .pre (to 𝓤 H A mem run kept size page-count node-count updates κ·pages q·pages b·pages o·pages γ·pages n·pages pages κ·nodes q·nodes b·nodes o·nodes γ·nodes n·nodes nodes κ·register q·register b·register o·register γ·register n·register register κ·out q·out b·out o·out γ·out n·out out)) ∷ Γ) E xs (Kept′.mach kept ∷ vint w64 size ∷ vint w64 page-count ∷ vint w64 node-count ∷ vint w64 updates ∷ sliceVal (b·pages, o·pages) n·pages ∷ sliceVal (b·nodes, o·nodes) n·nodes ∷ sliceVal (b·register, o·register) n·register ∷ sliceVal (b·out, o·out) n·out ∷ [])
       → ((x·res : Turn) → (zs·pages : List ℕ) → (zs·nodes : List ℕ) → (zs·register : List Record) → (zs·out : List ℕ) → Is Turn′.row x·res (Turn′.vals x·res) → length zs·pages ≡ length pages → length zs·nodes ≡ length nodes → length zs·register ≡ length register → length zs·out ≡ length out → Seq K W (‵ (flft κ·pages q·pages) ∷ ‵ (finally u8 γ·pages zs·pages) ∷ ‵ (flft κ·nodes q·nodes) ∷ ‵ (finally u32 γ·nodes zs·nodes) ∷ ‵ (flft κ·register q·register) ∷ ‵ (finally Record′.row γ·register zs·register) ∷ ‵ (flft κ·out q·out) ∷ ‵ (finally u8 γ·out zs·out) ∷ Γ) (settles E d (Turn′.mach x·res) Q))
       → Seq K W (‵ (flft κ·pages q·pages) ∷ ‵ (MutAt u8 κ·pages b·pages o·pages γ·pages n·pages pages) ∷ ‵ (flft κ·nodes q·nodes) ∷ ‵ (MutAt u32 κ·nodes b·nodes o·nodes γ·nodes n·nodes nodes) ∷ ‵ (flft κ·register q·register) ∷ ‵ (MutAt Record′.row κ·register b·register o·register γ·register n·register register) ∷ ‵ (flft κ·out q·out) ∷ ‵ (MutAt u8 κ·out b·out o·out γ·out n·out out) ∷ Γ) (runs C Λ E (call #callee xs d) Q)
-  calls-last t mem run fm known kept asked κ·pages q·pages b·pages o·pages γ·pages n·pages pages κ·nodes q·nodes b·nodes o·nodes γ·nodes n·nodes nodes κ·register q·register b·register o·register γ·register n·register register κ·out q·out b·out o·out γ·out n·out out = calls-last-by t mem run fm kept asked κ·pages q·pages b·pages o·pages γ·pages n·pages pages κ·nodes q·nodes b·nodes o·nodes γ·nodes n·nodes nodes κ·register q·register b·register o·register γ·register n·register register κ·out q·out b·out o·out γ·out n·out out (known (to 𝓤 H A mem run kept asked κ·pages q·pages b·pages o·pages γ·pages n·pages pages κ·nodes q·nodes b·nodes o·nodes γ·nodes n·nodes nodes κ·register q·register b·register o·register γ·register n·register register κ·out q·out b·out o·out γ·out n·out out))
+  calls-last t mem run fm known kept size page-count node-count updates κ·pages q·pages b·pages o·pages γ·pages n·pages pages κ·nodes q·nodes b·nodes o·nodes γ·nodes n·nodes nodes κ·register q·register b·register o·register γ·register n·register register κ·out q·out b·out o·out γ·out n·out out = calls-last-by t mem run fm kept size page-count node-count updates κ·pages q·pages b·pages o·pages γ·pages n·pages pages κ·nodes q·nodes b·nodes o·nodes γ·nodes n·nodes nodes κ·register q·register b·register o·register γ·register n·register register κ·out q·out b·out o·out γ·out n·out out (known (to 𝓤 H A mem run kept size page-count node-count updates κ·pages q·pages b·pages o·pages γ·pages n·pages pages κ·nodes q·nodes b·nodes o·nodes γ·nodes n·nodes nodes κ·register q·register b·register o·register γ·register n·register register κ·out q·out b·out o·out γ·out n·out out))

@@ -9,39 +9,45 @@ use mathlib.Core.Bool.{Bool, true, false, not}
 use lib.Dec.{ltb, leb, eqb}
 use lib.ListN.{length, getD, set}
 use Rattle.answers.specs.declared.Turn.{Turn}
-use Rattle.turns.proofs.Generated.Kind.Turn as Turn′
+use Rattle.answers.proofs.Generated.Kind.Turn as Turn′
 use Rattle.answers.specs.declared.Kept.{Kept}
-use Rattle.turns.proofs.Generated.Kind.Kept as Kept′
+use Rattle.answers.proofs.Generated.Kind.Kept as Kept′
 use Rattle.versions.specs.declared.Store.{Store}
 use Rattle.versions.proofs.Generated.Kind.Store as Store′
 use Rattle.tree.specs.declared.Ticket.{Ticket}
 use Rattle.register.proofs.Generated.Kind.Ticket as Ticket′
+use Rattle.lines.specs.declared.Branch.{Branch}
+use Rattle.versions.proofs.Generated.Kind.Branch as Branch′
+use Rattle.lines.specs.declared.Line.{Line}
+use Rattle.register.proofs.Generated.Kind.Line as Line′
 use Rattle.tree.specs.declared.Version.{Version}
 use Rattle.register.proofs.Generated.Kind.Version as Version′
 use Rattle.register.specs.declared.Record.{Record}
 use Rattle.register.proofs.Generated.Kind.Record as Record′
 use Rattle.tree.specs.declared.PageIndex.{PageIndex}
 use Rattle.register.proofs.Generated.Kind.PageIndex as PageIndex′
+use Rattle.lines.specs.declared.Entries.{Entries}
+use Rattle.register.proofs.Generated.Kind.Entries as Entries′
 use Rattle.format.specs.declared.Formatted.{Formatted}
 use Rattle.format.proofs.Generated.Kind.Formatted as Formatted′
 use Rattle.turns.proofs.Generated.Say.format_step as format-step″
 use Rattle.format.proofs.Generated.Say.format as format″
-use Rattle.turns.proofs.Generated.Say.format_turn as format-turn″
+use Rattle.answers.proofs.Generated.Say.format_turn as format-turn″
 
-abbrev pub r1 : Kept → Store → List ℕ → List ℕ → List Record → List ℕ → Formatted
-r1 kept asked pages nodes register out = format″.res (asked .size) (asked .pages) (asked .nodes) (asked .updates) pages nodes register
+abbrev pub r1 : Kept → ℕ → ℕ → ℕ → ℕ → List ℕ → List ℕ → List Record → List ℕ → Formatted
+r1 kept size page-count node-count updates pages nodes register out = format″.res size page-count node-count updates pages nodes register
 
-abbrev pub pages₁ : Kept → Store → List ℕ → List ℕ → List Record → List ℕ → List ℕ
-pages₁ kept asked pages nodes register out = format″.out-pages (asked .size) (asked .pages) (asked .nodes) (asked .updates) pages nodes register
+abbrev pub pages₁ : Kept → ℕ → ℕ → ℕ → ℕ → List ℕ → List ℕ → List Record → List ℕ → List ℕ
+pages₁ kept size page-count node-count updates pages nodes register out = format″.out-pages size page-count node-count updates pages nodes register
 
-abbrev pub nodes₁ : Kept → Store → List ℕ → List ℕ → List Record → List ℕ → List ℕ
-nodes₁ kept asked pages nodes register out = format″.out-nodes (asked .size) (asked .pages) (asked .nodes) (asked .updates) pages nodes register
+abbrev pub nodes₁ : Kept → ℕ → ℕ → ℕ → ℕ → List ℕ → List ℕ → List Record → List ℕ → List ℕ
+nodes₁ kept size page-count node-count updates pages nodes register out = format″.out-nodes size page-count node-count updates pages nodes register
 
-abbrev pub register₁ : Kept → Store → List ℕ → List ℕ → List Record → List ℕ → List Record
-register₁ kept asked pages nodes register out = format″.out-register (asked .size) (asked .pages) (asked .nodes) (asked .updates) pages nodes register
+abbrev pub register₁ : Kept → ℕ → ℕ → ℕ → ℕ → List ℕ → List ℕ → List Record → List ℕ → List Record
+register₁ kept size page-count node-count updates pages nodes register out = format″.out-register size page-count node-count updates pages nodes register
 
-abbrev pub r2 : Kept → Store → List ℕ → List ℕ → List Record → List ℕ → Turn
-r2 kept asked pages nodes register out = format-turn″.res kept (r1 kept asked pages nodes register out) out
+abbrev pub r2 : Kept → ℕ → ℕ → ℕ → ℕ → List ℕ → List ℕ → List Record → List ℕ → Turn
+r2 kept size page-count node-count updates pages nodes register out = format-turn″.res kept (r1 kept size page-count node-count updates pages nodes register out) out
 
-abbrev pub out₂ : Kept → Store → List ℕ → List ℕ → List Record → List ℕ → List ℕ
-out₂ kept asked pages nodes register out = format-turn″.out-out kept (r1 kept asked pages nodes register out) out
+abbrev pub out₂ : Kept → ℕ → ℕ → ℕ → ℕ → List ℕ → List ℕ → List Record → List ℕ → List ℕ
+out₂ kept size page-count node-count updates pages nodes register out = format-turn″.out-out kept (r1 kept size page-count node-count updates pages nodes register out) out

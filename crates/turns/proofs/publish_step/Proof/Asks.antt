@@ -9,19 +9,25 @@ use mathlib.Core.Bool.{Bool, true, false, not}
 use lib.Dec.{ltb, leb, eqb}
 use lib.ListN.{length, getD, set}
 use Rattle.answers.specs.declared.Turn.{Turn}
-use Rattle.turns.proofs.Generated.Kind.Turn as Turn′
+use Rattle.answers.proofs.Generated.Kind.Turn as Turn′
 use Rattle.answers.specs.declared.Kept.{Kept}
-use Rattle.turns.proofs.Generated.Kind.Kept as Kept′
+use Rattle.answers.proofs.Generated.Kind.Kept as Kept′
 use Rattle.versions.specs.declared.Store.{Store}
 use Rattle.versions.proofs.Generated.Kind.Store as Store′
 use Rattle.tree.specs.declared.Ticket.{Ticket}
 use Rattle.register.proofs.Generated.Kind.Ticket as Ticket′
+use Rattle.lines.specs.declared.Branch.{Branch}
+use Rattle.versions.proofs.Generated.Kind.Branch as Branch′
+use Rattle.lines.specs.declared.Line.{Line}
+use Rattle.register.proofs.Generated.Kind.Line as Line′
 use Rattle.tree.specs.declared.Version.{Version}
 use Rattle.register.proofs.Generated.Kind.Version as Version′
 use Rattle.register.specs.declared.Record.{Record}
 use Rattle.register.proofs.Generated.Kind.Record as Record′
 use Rattle.tree.specs.declared.PageIndex.{PageIndex}
 use Rattle.register.proofs.Generated.Kind.PageIndex as PageIndex′
+use Rattle.lines.specs.declared.Entries.{Entries}
+use Rattle.register.proofs.Generated.Kind.Entries as Entries′
 use Rattle.publish.specs.declared.PublishOut.{PublishOut}
 use Rattle.publish.proofs.Generated.Kind.PublishOut as PublishOut′
 use Rattle.publish.specs.declared.Published.{Published}
@@ -30,11 +36,11 @@ use Rattle.turns.proofs.Generated.Say.publish_step as publish-step″
 use Rattle.publish.proofs.Generated.Say.publish as publish″
 use Rattle.turns.proofs.Generated.Say.publish_turn as publish-turn″
 
-abbrev pub r1 : Kept → List ℕ → List ℕ → List Record → List ℕ → PublishOut
-r1 kept pages nodes register out = publish″.res (kept .store) pages nodes register
+abbrev pub r1 : Kept → Line → List ℕ → List ℕ → List Record → List ℕ → PublishOut
+r1 kept x-l pages nodes register out = publish″.res (kept .store) pages nodes register x-l
 
-abbrev pub r2 : Kept → List ℕ → List ℕ → List Record → List ℕ → Turn
-r2 kept pages nodes register out = publish-turn″.res kept (r1 kept pages nodes register out) out
+abbrev pub r2 : Kept → Line → List ℕ → List ℕ → List Record → List ℕ → Turn
+r2 kept x-l pages nodes register out = publish-turn″.res kept (r1 kept x-l pages nodes register out) out
 
-abbrev pub out₂ : Kept → List ℕ → List ℕ → List Record → List ℕ → List ℕ
-out₂ kept pages nodes register out = publish-turn″.out-out kept (r1 kept pages nodes register out) out
+abbrev pub out₂ : Kept → Line → List ℕ → List ℕ → List Record → List ℕ → List ℕ
+out₂ kept x-l pages nodes register out = publish-turn″.out-out kept (r1 kept x-l pages nodes register out) out

@@ -9,13 +9,17 @@ use mathlib.Core.Bool.{Bool, true, false, not}
 use lib.Dec.{ltb, leb, eqb}
 use lib.ListN.{length, getD, set, replicate}
 use Rattle.answers.specs.declared.Turn.{Turn}
-use Rattle.turns.proofs.Generated.Kind.Turn as Turn′
+use Rattle.answers.proofs.Generated.Kind.Turn as Turn′
 use Rattle.answers.specs.declared.Kept.{Kept}
-use Rattle.turns.proofs.Generated.Kind.Kept as Kept′
+use Rattle.answers.proofs.Generated.Kind.Kept as Kept′
 use Rattle.versions.specs.declared.Store.{Store}
 use Rattle.versions.proofs.Generated.Kind.Store as Store′
 use Rattle.tree.specs.declared.Ticket.{Ticket}
 use Rattle.register.proofs.Generated.Kind.Ticket as Ticket′
+use Rattle.lines.specs.declared.Branch.{Branch}
+use Rattle.versions.proofs.Generated.Kind.Branch as Branch′
+use Rattle.lines.specs.declared.Line.{Line}
+use Rattle.register.proofs.Generated.Kind.Line as Line′
 use Rattle.tree.specs.declared.Version.{Version}
 use Rattle.register.proofs.Generated.Kind.Version as Version′
 use Rattle.versions.specs.declared.ByteOffset.{ByteOffset}
@@ -24,20 +28,22 @@ use Rattle.register.specs.declared.Record.{Record}
 use Rattle.register.proofs.Generated.Kind.Record as Record′
 use Rattle.tree.specs.declared.PageIndex.{PageIndex}
 use Rattle.register.proofs.Generated.Kind.PageIndex as PageIndex′
+use Rattle.lines.specs.declared.Entries.{Entries}
+use Rattle.register.proofs.Generated.Kind.Entries as Entries′
 use Rattle.read.specs.declared.Filled.{Filled}
 use Rattle.read.proofs.Generated.Kind.Filled as Filled′
 use Rattle.turns.proofs.Generated.Say.read_step as read-step″
 use Rattle.read.proofs.Generated.Say.read as read″
 use Rattle.turns.proofs.Generated.Say.read_turn as read-turn″
 
-abbrev pub r1 : Kept → Version → ByteOffset → ℕ → List ℕ → List ℕ → List Record → List ℕ → List ℕ → Filled
-r1 kept x-v offset n pages nodes register out arr9 = read″.res (kept .store) pages nodes register x-v offset n arr9
+abbrev pub r1 : Kept → Line → Version → ByteOffset → ℕ → List ℕ → List ℕ → List Record → List ℕ → List ℕ → Filled
+r1 kept x-l x-v offset n pages nodes register out arr10 = read″.res (kept .store) pages nodes register x-l x-v offset n arr10
 
-abbrev pub arr9₁ : Kept → Version → ByteOffset → ℕ → List ℕ → List ℕ → List Record → List ℕ → List ℕ → List ℕ
-arr9₁ kept x-v offset n pages nodes register out arr9 = read″.out-buffer (kept .store) pages nodes register x-v offset n arr9
+abbrev pub arr10₁ : Kept → Line → Version → ByteOffset → ℕ → List ℕ → List ℕ → List Record → List ℕ → List ℕ → List ℕ
+arr10₁ kept x-l x-v offset n pages nodes register out arr10 = read″.out-buffer (kept .store) pages nodes register x-l x-v offset n arr10
 
-abbrev pub r2 : Kept → Version → ByteOffset → ℕ → List ℕ → List ℕ → List Record → List ℕ → List ℕ → Turn
-r2 kept x-v offset n pages nodes register out arr9 = read-turn″.res kept n (r1 kept x-v offset n pages nodes register out arr9) (arr9₁ kept x-v offset n pages nodes register out arr9) out
+abbrev pub r2 : Kept → Line → Version → ByteOffset → ℕ → List ℕ → List ℕ → List Record → List ℕ → List ℕ → Turn
+r2 kept x-l x-v offset n pages nodes register out arr10 = read-turn″.res kept n (r1 kept x-l x-v offset n pages nodes register out arr10) (arr10₁ kept x-l x-v offset n pages nodes register out arr10) out
 
-abbrev pub out₂ : Kept → Version → ByteOffset → ℕ → List ℕ → List ℕ → List Record → List ℕ → List ℕ → List ℕ
-out₂ kept x-v offset n pages nodes register out arr9 = read-turn″.out-out kept n (r1 kept x-v offset n pages nodes register out arr9) (arr9₁ kept x-v offset n pages nodes register out arr9) out
+abbrev pub out₂ : Kept → Line → Version → ByteOffset → ℕ → List ℕ → List ℕ → List Record → List ℕ → List ℕ → List ℕ
+out₂ kept x-l x-v offset n pages nodes register out arr10 = read-turn″.out-out kept n (r1 kept x-l x-v offset n pages nodes register out arr10) (arr10₁ kept x-l x-v offset n pages nodes register out arr10) out

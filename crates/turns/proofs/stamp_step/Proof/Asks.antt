@@ -9,30 +9,36 @@ use mathlib.Core.Bool.{Bool, true, false, not}
 use lib.Dec.{ltb, leb, eqb}
 use lib.ListN.{length, getD, set}
 use Rattle.answers.specs.declared.Turn.{Turn}
-use Rattle.turns.proofs.Generated.Kind.Turn as Turn′
+use Rattle.answers.proofs.Generated.Kind.Turn as Turn′
 use Rattle.answers.specs.declared.Kept.{Kept}
-use Rattle.turns.proofs.Generated.Kind.Kept as Kept′
+use Rattle.answers.proofs.Generated.Kind.Kept as Kept′
 use Rattle.versions.specs.declared.Store.{Store}
 use Rattle.versions.proofs.Generated.Kind.Store as Store′
 use Rattle.tree.specs.declared.Ticket.{Ticket}
 use Rattle.register.proofs.Generated.Kind.Ticket as Ticket′
+use Rattle.lines.specs.declared.Branch.{Branch}
+use Rattle.versions.proofs.Generated.Kind.Branch as Branch′
+use Rattle.lines.specs.declared.Line.{Line}
+use Rattle.register.proofs.Generated.Kind.Line as Line′
 use Rattle.tree.specs.declared.Version.{Version}
 use Rattle.register.proofs.Generated.Kind.Version as Version′
 use Rattle.tree.specs.declared.PageIndex.{PageIndex}
 use Rattle.register.proofs.Generated.Kind.PageIndex as PageIndex′
 use Rattle.register.specs.declared.Record.{Record}
 use Rattle.register.proofs.Generated.Kind.Record as Record′
+use Rattle.lines.specs.declared.Entries.{Entries}
+use Rattle.register.proofs.Generated.Kind.Entries as Entries′
 use Rattle.stamp.specs.declared.Stamped.{Stamped}
 use Rattle.stamp.proofs.Generated.Kind.Stamped as Stamped′
 use Rattle.turns.proofs.Generated.Say.stamp_step as stamp-step″
 use Rattle.stamp.proofs.Generated.Say.stamp as stamp″
 use Rattle.turns.proofs.Generated.Say.stamp_turn as stamp-turn″
 
-abbrev pub r1 : Kept → Version → PageIndex → List ℕ → List ℕ → List Record → List ℕ → Stamped
-r1 kept x-v page pages nodes register out = stamp″.res (kept .store) pages nodes register x-v page
+abbrev pub r1 : Kept → Line → Version → PageIndex → List ℕ → List ℕ → List Record → List ℕ → Stamped
+r1 kept x-l x-v page pages nodes register out = stamp″.res (kept .store) pages nodes register x-l x-v page
 
-abbrev pub r2 : Kept → Version → PageIndex → List ℕ → List ℕ → List Record → List ℕ → Turn
-r2 kept x-v page pages nodes register out = stamp-turn″.res kept (r1 kept x-v page pages nodes register out) out
+abbrev pub r2 : Kept → Line → Version → PageIndex → List ℕ → List ℕ → List Record → List ℕ → Turn
+r2 kept x-l x-v page pages nodes register out = stamp-turn″.res kept (r1 kept x-l x-v page pages nodes register out) out
 
-abbrev pub out₂ : Kept → Version → PageIndex → List ℕ → List ℕ → List Record → List ℕ → List ℕ
-out₂ kept x-v page pages nodes register out = stamp-turn″.out-out kept (r1 kept x-v page pages nodes register out) out
+abbrev pub out₂ : Kept → Line → Version → PageIndex → List ℕ → List ℕ → List Record → List ℕ → List ℕ
+out₂ kept x-l x-v page pages nodes register out = stamp-turn″.out-out kept (r1 kept x-l x-v page pages nodes register out) out

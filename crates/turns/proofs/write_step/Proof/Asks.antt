@@ -9,19 +9,25 @@ use mathlib.Core.Bool.{Bool, true, false, not}
 use lib.Dec.{ltb, leb, eqb}
 use lib.ListN.{length, getD, set}
 use Rattle.answers.specs.declared.Turn.{Turn}
-use Rattle.turns.proofs.Generated.Kind.Turn as Turn′
+use Rattle.answers.proofs.Generated.Kind.Turn as Turn′
 use Rattle.answers.specs.declared.Kept.{Kept}
-use Rattle.turns.proofs.Generated.Kind.Kept as Kept′
+use Rattle.answers.proofs.Generated.Kind.Kept as Kept′
 use Rattle.versions.specs.declared.Store.{Store}
 use Rattle.versions.proofs.Generated.Kind.Store as Store′
 use Rattle.tree.specs.declared.Ticket.{Ticket}
 use Rattle.register.proofs.Generated.Kind.Ticket as Ticket′
+use Rattle.lines.specs.declared.Branch.{Branch}
+use Rattle.versions.proofs.Generated.Kind.Branch as Branch′
+use Rattle.lines.specs.declared.Line.{Line}
+use Rattle.register.proofs.Generated.Kind.Line as Line′
 use Rattle.tree.specs.declared.Version.{Version}
 use Rattle.register.proofs.Generated.Kind.Version as Version′
 use Rattle.tree.specs.declared.PageIndex.{PageIndex}
 use Rattle.register.proofs.Generated.Kind.PageIndex as PageIndex′
 use Rattle.register.specs.declared.Record.{Record}
 use Rattle.register.proofs.Generated.Kind.Record as Record′
+use Rattle.lines.specs.declared.Entries.{Entries}
+use Rattle.register.proofs.Generated.Kind.Entries as Entries′
 use Rattle.assign.specs.declared.AssignOut.{AssignOut}
 use Rattle.assign.proofs.Generated.Kind.AssignOut as AssignOut′
 use Rattle.assign.specs.declared.Assigned.{Assigned}
@@ -30,14 +36,14 @@ use Rattle.turns.proofs.Generated.Say.write_step as write-step″
 use Rattle.assign.proofs.Generated.Say.write as write″
 use Rattle.turns.proofs.Generated.Say.assign_turn as assign-turn″
 
-abbrev pub r1 : Kept → Ticket → PageIndex → List ℕ → List ℕ → List Record → List ℕ → AssignOut
-r1 kept x-t f pages nodes register out = write″.res (kept .store) pages nodes register x-t f
+abbrev pub r1 : Kept → Line → Ticket → PageIndex → List ℕ → List ℕ → List Record → List ℕ → AssignOut
+r1 kept x-l x-t f pages nodes register out = write″.res (kept .store) pages nodes register x-l x-t f
 
-abbrev pub register₁ : Kept → Ticket → PageIndex → List ℕ → List ℕ → List Record → List ℕ → List Record
-register₁ kept x-t f pages nodes register out = write″.out-register (kept .store) pages nodes register x-t f
+abbrev pub register₁ : Kept → Line → Ticket → PageIndex → List ℕ → List ℕ → List Record → List ℕ → List Record
+register₁ kept x-l x-t f pages nodes register out = write″.out-register (kept .store) pages nodes register x-l x-t f
 
-abbrev pub r2 : Kept → Ticket → PageIndex → List ℕ → List ℕ → List Record → List ℕ → Turn
-r2 kept x-t f pages nodes register out = assign-turn″.res kept (r1 kept x-t f pages nodes register out) out
+abbrev pub r2 : Kept → Line → Ticket → PageIndex → List ℕ → List ℕ → List Record → List ℕ → Turn
+r2 kept x-l x-t f pages nodes register out = assign-turn″.res kept (r1 kept x-l x-t f pages nodes register out) out
 
-abbrev pub out₂ : Kept → Ticket → PageIndex → List ℕ → List ℕ → List Record → List ℕ → List ℕ
-out₂ kept x-t f pages nodes register out = assign-turn″.out-out kept (r1 kept x-t f pages nodes register out) out
+abbrev pub out₂ : Kept → Line → Ticket → PageIndex → List ℕ → List ℕ → List Record → List ℕ → List ℕ
+out₂ kept x-l x-t f pages nodes register out = assign-turn″.out-out kept (r1 kept x-l x-t f pages nodes register out) out

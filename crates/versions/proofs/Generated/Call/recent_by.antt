@@ -32,14 +32,8 @@ use denote.Triple.Clauses.{Lasts, ensured, lasts}
 use denote.Triple.Spec.{tripleOf}
 use denote.Triple.Walked.{says}
 use Rattle.versions.proofs.Generated.Say.recent_by as recent-by″
-use Rattle.versions.specs.declared.Store.{Store}
-use Rattle.versions.proofs.Generated.Kind.Store as Store′
-use Rattle.tree.specs.declared.Ticket.{Ticket}
-use Rattle.register.proofs.Generated.Kind.Ticket as Ticket′
 use Rattle.tree.specs.declared.Version.{Version}
 use Rattle.register.proofs.Generated.Kind.Version as Version′
-use Rattle.versions.specs.declared.Lengths.{Lengths}
-use Rattle.versions.proofs.Generated.Kind.Lengths as Lengths′
 use Rattle.versions.specs.declared.Latest.{Latest}
 use Rattle.versions.proofs.Generated.Kind.Latest as Latest′
 use Rattle.register.proofs.Generated.Flow.{ref, MutAt, ShrAt, keeps-shr, plus-nothing}
@@ -50,53 +44,53 @@ module _ {M : Type 1} (𝓤 : URA M) (H : Heap 𝓤) (A : Atoms 𝓤) (mem : Mem
   abbrev pub Asked : Contract 𝓤
   Asked = tripleOf 𝓤 H A callee.signature (callee.spec 𝓤 H A mem run)
 
-  abbrev pub to : (s : Store) (x-l : Lengths) → Asked .Ghost
-  to s x-l = ((tt, tt, tt, (s, (x-l, tt)), (Store′.mach s ∷ [], (Lengths′.mach x-l ∷ [], tt))), tt)
+  abbrev pub to : (x-k : ℕ) (newest : Version) → Asked .Ghost
+  to x-k newest = ((tt, tt, tt, (x-k, (newest, tt)), (vint w64 x-k ∷ [], (Version′.mach newest ∷ [], tt))), tt)
 
 module _ {M : Type 1} {𝓤 : URA M} {H : Heap 𝓤} {A : Atoms 𝓤} {K : Type 0} {W : Given 𝓤 H A} {Γ : List (Item 𝓤)} where
   -- the call itself is made by `by-call`, from what the callee asks to what it has ensured
-  core : K → (mem : Memory → SProp 𝓤) (run : Routine → Fun 𝓤) → (s : Store) (x-l : Lengths) → (G : Goal 𝓤 H) (after : Val → Goal 𝓤 H) → ((v : Val) → Soaks (after v))
-      → (((v : Val) → Seq K W (raw (Asked 𝓤 H A mem run .post (to 𝓤 H A mem run s x-l) v) ∷ Γ) (after v)) → Seq K W (raw (Asked 𝓤 H A mem run .pre (to 𝓤 H A mem run s x-l)) ∷ Γ) G) → Is Store′.row s (Store′.vals s) → Is Lengths′.row x-l (Lengths′.vals x-l) →
-      (Is Latest′.row (recent-by″.res s x-l) (Latest′.vals (recent-by″.res s x-l)) → Seq K W (Γ) (after (Latest′.mach (recent-by″.res s x-l)))) → Seq K W (Γ) G
-  core t mem run s x-l G after soaks by-call ok·s ok·x-l k =
-      use0 W (raw (Asked 𝓤 H A mem run .pre (to 𝓤 H A mem run s x-l))) goes $
+  core : K → (mem : Memory → SProp 𝓤) (run : Routine → Fun 𝓤) → (x-k : ℕ) (newest : Version) → (G : Goal 𝓤 H) (after : Val → Goal 𝓤 H) → ((v : Val) → Soaks (after v))
+      → (((v : Val) → Seq K W (raw (Asked 𝓤 H A mem run .post (to 𝓤 H A mem run x-k newest) v) ∷ Γ) (after v)) → Seq K W (raw (Asked 𝓤 H A mem run .pre (to 𝓤 H A mem run x-k newest)) ∷ Γ) G) → Is u64 x-k (uint-vals w64 x-k) → Is Version′.row newest (Version′.vals newest) →
+      (Is Latest′.row (recent-by″.res x-k newest) (Latest′.vals (recent-by″.res x-k newest)) → Seq K W (Γ) (after (Latest′.mach (recent-by″.res x-k newest)))) → Seq K W (Γ) G
+  core t mem run x-k newest G after soaks by-call ok·x-k ok·newest k =
+      use0 W (raw (Asked 𝓤 H A mem run .pre (to 𝓤 H A mem run x-k newest))) goes $
       by-call (λ v.
-      use1 W (later (some (λ (r· : Latest). ((‵ ftrue) ⊛ ‵ (Latest′.row .own r· (v ∷ []))) ⊛ raw (ensured 𝓤 H A callee.ended (callee.clauses 𝓤 H A mem run) tt (s, (x-l, tt)) tt r·)))) (id⊢ 𝓤 _) $ await t (soaks v) $ pick t (λ r·. split t $ move t (1 ∷ []) $
-      use1 W (some (λ (ws : Lasts callee.ended tt (s, (x-l, tt))). ‵ (lasts callee.ended tt (s, (x-l, tt)) ws) ⊛ raw (fact 𝓤 (recent-by″.ens s x-l r·)))) (id⊢ 𝓤 _) $ pick t (λ ws. split t $ move t (1 ∷ []) $
-      heard t (recent-by″.ens s x-l r·) (λ e. drop t $ split t $ move t (1 ∷ []) $ facts t Latest′.row (Is Latest′.row) (shows 𝓤 H A Latest′.row) r· (v ∷ []) (λ is. drop t $
+      use1 W (later (some (λ (r· : Latest). ((‵ ftrue) ⊛ ‵ (Latest′.row .own r· (v ∷ []))) ⊛ raw (ensured 𝓤 H A callee.ended (callee.clauses 𝓤 H A mem run) tt (x-k, (newest, tt)) tt r·)))) (id⊢ 𝓤 _) $ await t (soaks v) $ pick t (λ r·. split t $ move t (1 ∷ []) $
+      use1 W (some (λ (ws : Lasts callee.ended tt (x-k, (newest, tt))). ‵ (lasts callee.ended tt (x-k, (newest, tt)) ws) ⊛ raw (fact 𝓤 (recent-by″.ens x-k newest r·)))) (id⊢ 𝓤 _) $ pick t (λ ws. split t $ move t (1 ∷ []) $
+      heard t (recent-by″.ens x-k newest r·) (λ e. drop t $ split t $ move t (1 ∷ []) $ facts t Latest′.row (Is Latest′.row) (shows 𝓤 H A Latest′.row) r· (v ∷ []) (λ is. drop t $
       subst (λ (u : Val). Seq K W (Γ) (after u)) (sym (ap only (Latest′.tells r· (v ∷ []) is) ∙ ap (λ (z : Latest). Latest′.mach z) (e))) (k (subst (λ (z : Latest). Is Latest′.row z (Latest′.vals z)) (e) (subst (Is Latest′.row r·) (Latest′.tells r· (v ∷ []) is) is))))))))
     where
-      goes : ent 𝓤 (⋆ 𝓤 H A ([])) (Asked 𝓤 H A mem run .pre (to 𝓤 H A mem run s x-l))
-      goes = qed W ([]) ∵ plus-nothing ! $ nothing ! $ frame ! $ nothing ! $ owned ! Lengths′.row (Is Lengths′.row) (Lengths′.makes 𝓤 H A) x-l _ ok·x-l $ fjoin ! $ owned ! Store′.row (Is Store′.row) (Store′.makes 𝓤 H A) s _ ok·s $ fjoin ! $ done !
+      goes : ent 𝓤 (⋆ 𝓤 H A ([])) (Asked 𝓤 H A mem run .pre (to 𝓤 H A mem run x-k newest))
+      goes = qed W ([]) ∵ plus-nothing ! $ nothing ! $ frame ! $ nothing ! $ owned ! Version′.row (Is Version′.row) (Version′.makes 𝓤 H A) newest _ ok·newest $ fjoin ! $ owned ! u64 (Is u64) (uint-makes 𝓤 H A W w64) x-k _ ok·x-k $ fjoin ! $ done !
 
 module _ {M : Type 1} {𝓤 : URA M} {H : Heap 𝓤} {A : Atoms 𝓤} {K : Type 0} {W : Given 𝓤 H A} {Γ : List (Item 𝓤)} {E : Env 𝓤 H} {C : Calls 𝓤 H} {Λ : Loops 𝓤 H} {Q : Post 𝓤 H} {xs : List Operand} {d : Place} {rest : Body} where
   -- by one instance of the callee's contract, which is what a function that calls itself has
-  pub calls-by : K → (mem : Memory → SProp 𝓤) (run : Routine → Fun 𝓤) → FmC 𝓤 H (W .laws) C → (s : Store) (x-l : Lengths) → ent 𝓤 (Asked 𝓤 H A mem run .pre (to 𝓤 H A mem run s x-l)) (C #callee (Asked 𝓤 H A mem run .args (to 𝓤 H A mem run s x-l)) (Asked 𝓤 H A mem run .post (to 𝓤 H A mem run s x-l))) → Is Store′.row s (Store′.vals s) → Is Lengths′.row x-l (Lengths′.vals x-l) →
-      Opds K W (raw (Asked 𝓤 H A mem run .pre (to 𝓤 H A mem run s x-l)) ∷ Γ) E xs (Store′.mach s ∷ Lengths′.mach x-l ∷ [])
-      → (Is Latest′.row (recent-by″.res s x-l) (Latest′.vals (recent-by″.res s x-l)) → Seq K W (Γ) (lands C Λ E d (Latest′.mach (recent-by″.res s x-l)) rest Q))
+  pub calls-by : K → (mem : Memory → SProp 𝓤) (run : Routine → Fun 𝓤) → FmC 𝓤 H (W .laws) C → (x-k : ℕ) (newest : Version) → ent 𝓤 (Asked 𝓤 H A mem run .pre (to 𝓤 H A mem run x-k newest)) (C #callee (Asked 𝓤 H A mem run .args (to 𝓤 H A mem run x-k newest)) (Asked 𝓤 H A mem run .post (to 𝓤 H A mem run x-k newest))) → Is u64 x-k (uint-vals w64 x-k) → Is Version′.row newest (Version′.vals newest) →
+      Opds K W (raw (Asked 𝓤 H A mem run .pre (to 𝓤 H A mem run x-k newest)) ∷ Γ) E xs (vint w64 x-k ∷ Version′.mach newest ∷ [])
+      → (Is Latest′.row (recent-by″.res x-k newest) (Latest′.vals (recent-by″.res x-k newest)) → Seq K W (Γ) (lands C Λ E d (Latest′.mach (recent-by″.res x-k newest)) rest Q))
       → Seq K W (Γ) (runs C Λ E (seq (call #callee xs d) rest) Q)
-  calls-by t mem run fm s x-l known ok·s ok·x-l os k =
-      core t mem run s x-l (runs C Λ E (seq (call #callee xs d) rest) Q) (λ v. lands C Λ E d v rest Q) (λ v. tt)
-      (λ h. calls-from t fm (raw (Asked 𝓤 H A mem run .pre (to 𝓤 H A mem run s x-l))) (Asked 𝓤 H A mem run .args (to 𝓤 H A mem run s x-l)) (Asked 𝓤 H A mem run .post (to 𝓤 H A mem run s x-l)) known os h) ok·s ok·x-l k
+  calls-by t mem run fm x-k newest known ok·x-k ok·newest os k =
+      core t mem run x-k newest (runs C Λ E (seq (call #callee xs d) rest) Q) (λ v. lands C Λ E d v rest Q) (λ v. tt)
+      (λ h. calls-from t fm (raw (Asked 𝓤 H A mem run .pre (to 𝓤 H A mem run x-k newest))) (Asked 𝓤 H A mem run .args (to 𝓤 H A mem run x-k newest)) (Asked 𝓤 H A mem run .post (to 𝓤 H A mem run x-k newest)) known os h) ok·x-k ok·newest k
 
-  pub calls : K → (mem : Memory → SProp 𝓤) (run : Routine → Fun 𝓤) → FmC 𝓤 H (W .laws) C → Triple 𝓤 (C #callee) (Asked 𝓤 H A mem run) → (s : Store) (x-l : Lengths) → Is Store′.row s (Store′.vals s) → Is Lengths′.row x-l (Lengths′.vals x-l) →
-      Opds K W (raw (Asked 𝓤 H A mem run .pre (to 𝓤 H A mem run s x-l)) ∷ Γ) E xs (Store′.mach s ∷ Lengths′.mach x-l ∷ [])
-      → (Is Latest′.row (recent-by″.res s x-l) (Latest′.vals (recent-by″.res s x-l)) → Seq K W (Γ) (lands C Λ E d (Latest′.mach (recent-by″.res s x-l)) rest Q))
+  pub calls : K → (mem : Memory → SProp 𝓤) (run : Routine → Fun 𝓤) → FmC 𝓤 H (W .laws) C → Triple 𝓤 (C #callee) (Asked 𝓤 H A mem run) → (x-k : ℕ) (newest : Version) → Is u64 x-k (uint-vals w64 x-k) → Is Version′.row newest (Version′.vals newest) →
+      Opds K W (raw (Asked 𝓤 H A mem run .pre (to 𝓤 H A mem run x-k newest)) ∷ Γ) E xs (vint w64 x-k ∷ Version′.mach newest ∷ [])
+      → (Is Latest′.row (recent-by″.res x-k newest) (Latest′.vals (recent-by″.res x-k newest)) → Seq K W (Γ) (lands C Λ E d (Latest′.mach (recent-by″.res x-k newest)) rest Q))
       → Seq K W (Γ) (runs C Λ E (seq (call #callee xs d) rest) Q)
-  calls t mem run fm known s x-l = calls-by t mem run fm s x-l (known (to 𝓤 H A mem run s x-l))
+  calls t mem run fm known x-k newest = calls-by t mem run fm x-k newest (known (to 𝓤 H A mem run x-k newest))
 
 module _ {M : Type 1} {𝓤 : URA M} {H : Heap 𝓤} {A : Atoms 𝓤} {K : Type 0} {W : Given 𝓤 H A} {Γ : List (Item 𝓤)} {E : Env 𝓤 H} {C : Calls 𝓤 H} {Λ : Loops 𝓤 H} {Q : Post 𝓤 H} {xs : List Operand} {d : Place} where
   -- by one instance of the callee's contract, which is what a function that calls itself has. The call ends a part of the code
-  pub calls-last-by : K → (mem : Memory → SProp 𝓤) (run : Routine → Fun 𝓤) → FmC 𝓤 H (W .laws) C → (s : Store) (x-l : Lengths) → ent 𝓤 (Asked 𝓤 H A mem run .pre (to 𝓤 H A mem run s x-l)) (C #callee (Asked 𝓤 H A mem run .args (to 𝓤 H A mem run s x-l)) (Asked 𝓤 H A mem run .post (to 𝓤 H A mem run s x-l))) → Is Store′.row s (Store′.vals s) → Is Lengths′.row x-l (Lengths′.vals x-l) →
-      Opds K W (raw (Asked 𝓤 H A mem run .pre (to 𝓤 H A mem run s x-l)) ∷ Γ) E xs (Store′.mach s ∷ Lengths′.mach x-l ∷ [])
-      → (Is Latest′.row (recent-by″.res s x-l) (Latest′.vals (recent-by″.res s x-l)) → Seq K W (Γ) (settles E d (Latest′.mach (recent-by″.res s x-l)) Q))
+  pub calls-last-by : K → (mem : Memory → SProp 𝓤) (run : Routine → Fun 𝓤) → FmC 𝓤 H (W .laws) C → (x-k : ℕ) (newest : Version) → ent 𝓤 (Asked 𝓤 H A mem run .pre (to 𝓤 H A mem run x-k newest)) (C #callee (Asked 𝓤 H A mem run .args (to 𝓤 H A mem run x-k newest)) (Asked 𝓤 H A mem run .post (to 𝓤 H A mem run x-k newest))) → Is u64 x-k (uint-vals w64 x-k) → Is Version′.row newest (Version′.vals newest) →
+      Opds K W (raw (Asked 𝓤 H A mem run .pre (to 𝓤 H A mem run x-k newest)) ∷ Γ) E xs (vint w64 x-k ∷ Version′.mach newest ∷ [])
+      → (Is Latest′.row (recent-by″.res x-k newest) (Latest′.vals (recent-by″.res x-k newest)) → Seq K W (Γ) (settles E d (Latest′.mach (recent-by″.res x-k newest)) Q))
       → Seq K W (Γ) (runs C Λ E (call #callee xs d) Q)
-  calls-last-by t mem run fm s x-l known ok·s ok·x-l os k =
-      core t mem run s x-l (runs C Λ E (call #callee xs d) Q) (λ v. settles E d v Q) (λ v. tt)
-      (λ h. calls-from-last t fm (raw (Asked 𝓤 H A mem run .pre (to 𝓤 H A mem run s x-l))) (Asked 𝓤 H A mem run .args (to 𝓤 H A mem run s x-l)) (Asked 𝓤 H A mem run .post (to 𝓤 H A mem run s x-l)) known os h) ok·s ok·x-l k
+  calls-last-by t mem run fm x-k newest known ok·x-k ok·newest os k =
+      core t mem run x-k newest (runs C Λ E (call #callee xs d) Q) (λ v. settles E d v Q) (λ v. tt)
+      (λ h. calls-from-last t fm (raw (Asked 𝓤 H A mem run .pre (to 𝓤 H A mem run x-k newest))) (Asked 𝓤 H A mem run .args (to 𝓤 H A mem run x-k newest)) (Asked 𝓤 H A mem run .post (to 𝓤 H A mem run x-k newest)) known os h) ok·x-k ok·newest k
 
-  pub calls-last : K → (mem : Memory → SProp 𝓤) (run : Routine → Fun 𝓤) → FmC 𝓤 H (W .laws) C → Triple 𝓤 (C #callee) (Asked 𝓤 H A mem run) → (s : Store) (x-l : Lengths) → Is Store′.row s (Store′.vals s) → Is Lengths′.row x-l (Lengths′.vals x-l) →
-      Opds K W (raw (Asked 𝓤 H A mem run .pre (to 𝓤 H A mem run s x-l)) ∷ Γ) E xs (Store′.mach s ∷ Lengths′.mach x-l ∷ [])
-      → (Is Latest′.row (recent-by″.res s x-l) (Latest′.vals (recent-by″.res s x-l)) → Seq K W (Γ) (settles E d (Latest′.mach (recent-by″.res s x-l)) Q))
+  pub calls-last : K → (mem : Memory → SProp 𝓤) (run : Routine → Fun 𝓤) → FmC 𝓤 H (W .laws) C → Triple 𝓤 (C #callee) (Asked 𝓤 H A mem run) → (x-k : ℕ) (newest : Version) → Is u64 x-k (uint-vals w64 x-k) → Is Version′.row newest (Version′.vals newest) →
+      Opds K W (raw (Asked 𝓤 H A mem run .pre (to 𝓤 H A mem run x-k newest)) ∷ Γ) E xs (vint w64 x-k ∷ Version′.mach newest ∷ [])
+      → (Is Latest′.row (recent-by″.res x-k newest) (Latest′.vals (recent-by″.res x-k newest)) → Seq K W (Γ) (settles E d (Latest′.mach (recent-by″.res x-k newest)) Q))
       → Seq K W (Γ) (runs C Λ E (call #callee xs d) Q)
-  calls-last t mem run fm known s x-l = calls-last-by t mem run fm s x-l (known (to 𝓤 H A mem run s x-l))
+  calls-last t mem run fm known x-k newest = calls-last-by t mem run fm x-k newest (known (to 𝓤 H A mem run x-k newest))

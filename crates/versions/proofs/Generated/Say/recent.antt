@@ -7,22 +7,27 @@ use mathlib.Core.Bool.{Bool}
 use mathlib.Core.Path.{_≡_}
 use lib.Dec.{eqb}
 use Rattle.tree.specs.Tree.{countOf}
+use Rattle.lines.specs.Lines.{ownerOf}
 use Rattle.register.specs.Register.{updateOf, withRecord}
-use Rattle.table.specs.Table.{_gives_, firstRefusal, holds, noTicket, unless}
-use Rattle.versions.specs.Store.{areasOf, lengthsOf, differ}
-use Rattle.versions.specs.Size.{sizeRefusal, pagesBy, bytesBy, sizedBy, sizeOut}
-use Rattle.versions.specs.Recent.{recentBy, recentOut}
+use Rattle.table.specs.Table.{_gives_, firstRefusal, orElse, holds, noTicket, unless}
+use Rattle.versions.specs.Store.{areasOf, lengthsOf, differ, linesIn, lineIn, withLine, numberOn}
+use Rattle.versions.specs.Size.{notThere, refusalBy, snapshotRefusal, openedBy, pagesBy, bytesBy, sized, sizeOut}
+use Rattle.versions.specs.Recent.{lineRefusal, latest, recentOut}
+use Rattle.lines.specs.declared.Branch.{Branch}
+use Rattle.lines.specs.declared.Entries.{Entries}
+use Rattle.lines.specs.declared.Line.{Line}
 use Rattle.register.specs.declared.Record.{Record}
 use Rattle.tree.specs.declared.PageIndex.{PageIndex}
 use Rattle.tree.specs.declared.Ticket.{Ticket}
 use Rattle.tree.specs.declared.Version.{Version}
 use Rattle.versions.specs.declared.Latest.{Latest}
 use Rattle.versions.specs.declared.Lengths.{Lengths}
+use Rattle.versions.specs.declared.Opened.{Opened}
 use Rattle.versions.specs.declared.Sized.{Sized}
 use Rattle.versions.specs.declared.Store.{Store}
 
-abbrev pub ens : Store → List ℕ → List ℕ → List Record → Latest → Type 0
-ens s pages nodes register r = r ≡ recentOut s (areasOf pages nodes register)
+abbrev pub ens : Store → List ℕ → List ℕ → List Record → Line → Latest → Type 0
+ens s pages nodes register l r = r ≡ recentOut s (areasOf pages nodes register) (l .0)
 
-abbrev pub res : Store → List ℕ → List ℕ → List Record → Latest
-res s pages nodes register = recentOut s (areasOf pages nodes register)
+abbrev pub res : Store → List ℕ → List ℕ → List Record → Line → Latest
+res s pages nodes register l = recentOut s (areasOf pages nodes register) (l .0)

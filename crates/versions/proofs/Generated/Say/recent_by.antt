@@ -7,20 +7,21 @@ use mathlib.Core.Bool.{Bool}
 use mathlib.Core.Path.{_≡_}
 use lib.Dec.{eqb}
 use Rattle.tree.specs.Tree.{countOf}
+use Rattle.lines.specs.Lines.{ownerOf}
 use Rattle.register.specs.Register.{updateOf, withRecord}
-use Rattle.table.specs.Table.{_gives_, firstRefusal, holds, noTicket, unless}
-use Rattle.versions.specs.Store.{areasOf, lengthsOf, differ}
-use Rattle.versions.specs.Size.{sizeRefusal, pagesBy, bytesBy, sizedBy, sizeOut}
-use Rattle.versions.specs.Recent.{recentBy, recentOut}
-use Rattle.tree.specs.declared.Ticket.{Ticket}
+use Rattle.table.specs.Table.{_gives_, firstRefusal, orElse, holds, noTicket, unless}
+use Rattle.versions.specs.Store.{areasOf, lengthsOf, differ, linesIn, lineIn, withLine, numberOn}
+use Rattle.versions.specs.Size.{notThere, refusalBy, snapshotRefusal, openedBy, pagesBy, bytesBy, sized, sizeOut}
+use Rattle.versions.specs.Recent.{lineRefusal, latest, recentOut}
 use Rattle.tree.specs.declared.Version.{Version}
 use Rattle.versions.specs.declared.Latest.{Latest}
 use Rattle.versions.specs.declared.Lengths.{Lengths}
+use Rattle.versions.specs.declared.Opened.{Opened}
 use Rattle.versions.specs.declared.Sized.{Sized}
 use Rattle.versions.specs.declared.Store.{Store}
 
-abbrev pub ens : Store → Lengths → Latest → Type 0
-ens s l r = r ≡ recentBy s l
+abbrev pub ens : ℕ → Version → Latest → Type 0
+ens k newest r = r ≡ latest k (newest .0)
 
-abbrev pub res : Store → Lengths → Latest
-res s l = recentBy s l
+abbrev pub res : ℕ → Version → Latest
+res k newest = latest k (newest .0)

@@ -7,22 +7,23 @@ use mathlib.Core.Bool.{Bool}
 use mathlib.Core.Path.{_≡_}
 use lib.Dec.{eqb}
 use Rattle.tree.specs.Tree.{countOf}
+use Rattle.lines.specs.Lines.{ownerOf}
 use Rattle.register.specs.Register.{updateOf, withRecord}
-use Rattle.table.specs.Table.{_gives_, firstRefusal, holds, noTicket, unless}
-use Rattle.versions.specs.Store.{areasOf, lengthsOf, differ}
-use Rattle.versions.specs.Size.{sizeRefusal, pagesBy, bytesBy, sizedBy, sizeOut}
-use Rattle.versions.specs.Recent.{recentBy, recentOut}
-use Rattle.register.specs.declared.Record.{Record}
+use Rattle.table.specs.Table.{_gives_, firstRefusal, orElse, holds, noTicket, unless}
+use Rattle.versions.specs.Store.{areasOf, lengthsOf, differ, linesIn, lineIn, withLine, numberOn}
+use Rattle.versions.specs.Size.{notThere, refusalBy, snapshotRefusal, openedBy, pagesBy, bytesBy, sized, sizeOut}
+use Rattle.versions.specs.Recent.{lineRefusal, latest, recentOut}
+use Rattle.register.specs.declared.Part.{Part}
 use Rattle.tree.specs.declared.PageIndex.{PageIndex}
-use Rattle.tree.specs.declared.Ticket.{Ticket}
 use Rattle.tree.specs.declared.Version.{Version}
 use Rattle.versions.specs.declared.Latest.{Latest}
 use Rattle.versions.specs.declared.Lengths.{Lengths}
+use Rattle.versions.specs.declared.Opened.{Opened}
 use Rattle.versions.specs.declared.Sized.{Sized}
 use Rattle.versions.specs.declared.Store.{Store}
 
-abbrev pub ens : Store → Lengths → Record → Version → Sized → Type 0
-ens s l q v r = r ≡ sizedBy s l q (v .0)
+abbrev pub ens : ℕ → ℕ → Part → ℕ → Version → Sized → Type 0
+ens k size q c v r = r ≡ sized (orElse k (firstRefusal ((notThere q c gives 19) ∷ []))) (bytesBy size (pagesBy (v .0) q))
 
-abbrev pub res : Store → Lengths → Record → Version → Sized
-res s l q v = sizedBy s l q (v .0)
+abbrev pub res : ℕ → ℕ → Part → ℕ → Version → Sized
+res k size q c v = sized (orElse k (firstRefusal ((notThere q c gives 19) ∷ []))) (bytesBy size (pagesBy (v .0) q))

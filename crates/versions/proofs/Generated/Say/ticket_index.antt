@@ -7,14 +7,16 @@ use mathlib.Core.Bool.{Bool}
 use mathlib.Core.Path.{_≡_}
 use lib.Dec.{eqb}
 use Rattle.tree.specs.Tree.{countOf}
+use Rattle.lines.specs.Lines.{ownerOf}
 use Rattle.register.specs.Register.{updateOf, withRecord}
-use Rattle.table.specs.Table.{_gives_, firstRefusal, holds, noTicket, unless}
-use Rattle.versions.specs.Store.{areasOf, lengthsOf, differ}
-use Rattle.versions.specs.Size.{sizeRefusal, pagesBy, bytesBy, sizedBy, sizeOut}
-use Rattle.versions.specs.Recent.{recentBy, recentOut}
+use Rattle.table.specs.Table.{_gives_, firstRefusal, orElse, holds, noTicket, unless}
+use Rattle.versions.specs.Store.{areasOf, lengthsOf, differ, linesIn, lineIn, withLine, numberOn}
+use Rattle.versions.specs.Size.{notThere, refusalBy, snapshotRefusal, openedBy, pagesBy, bytesBy, sized, sizeOut}
+use Rattle.versions.specs.Recent.{lineRefusal, latest, recentOut}
 use Rattle.tree.specs.declared.Ticket.{Ticket}
 use Rattle.versions.specs.declared.Latest.{Latest}
 use Rattle.versions.specs.declared.Lengths.{Lengths}
+use Rattle.versions.specs.declared.Opened.{Opened}
 use Rattle.versions.specs.declared.Sized.{Sized}
 use Rattle.versions.specs.declared.Store.{Store}
 

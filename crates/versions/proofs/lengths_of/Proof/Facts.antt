@@ -2,7 +2,7 @@
 use mathlib.Core.Path.{refl}
 use Rattle.versions.proofs.lengths_of.Proof.Asks as Asks
 
--- the function ensures: l ≡ lengthsOf (areasOf pages nodes register)
+-- the function ensures: g ≡ lengthsOf (areasOf pages nodes register)
 -- here: lengths-of″.ens pages nodes register (Lengths′.build (length pages) (length nodes) (length register))
 pub exit-1 : Asks.exit-1
 exit-1 pages nodes register len-pages len-nodes len-register = refl

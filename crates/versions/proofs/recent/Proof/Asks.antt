@@ -16,24 +16,38 @@ use Rattle.versions.specs.declared.Store.{Store}
 use Rattle.versions.proofs.Generated.Kind.Store as Store′
 use Rattle.tree.specs.declared.Ticket.{Ticket}
 use Rattle.register.proofs.Generated.Kind.Ticket as Ticket′
+use Rattle.lines.specs.declared.Branch.{Branch}
+use Rattle.versions.proofs.Generated.Kind.Branch as Branch′
+use Rattle.lines.specs.declared.Line.{Line}
+use Rattle.register.proofs.Generated.Kind.Line as Line′
 use Rattle.register.specs.declared.Record.{Record}
 use Rattle.register.proofs.Generated.Kind.Record as Record′
 use Rattle.tree.specs.declared.PageIndex.{PageIndex}
 use Rattle.register.proofs.Generated.Kind.PageIndex as PageIndex′
+use Rattle.lines.specs.declared.Entries.{Entries}
+use Rattle.register.proofs.Generated.Kind.Entries as Entries′
 use Rattle.versions.specs.declared.Lengths.{Lengths}
 use Rattle.versions.proofs.Generated.Kind.Lengths as Lengths′
 use Rattle.versions.proofs.Generated.Say.recent as recent″
 use Rattle.versions.proofs.Generated.Say.lengths_of as lengths-of″
+use Rattle.versions.proofs.Generated.Say.line_state as line-state″
+use Rattle.versions.proofs.Generated.Say.line_refusal as line-refusal″
 use Rattle.versions.proofs.Generated.Say.recent_by as recent-by″
 
-abbrev pub r1 : Store → List ℕ → List ℕ → List Record → Lengths
-r1 s pages nodes register = lengths-of″.res pages nodes register
+abbrev pub r1 : Store → List ℕ → List ℕ → List Record → Line → Lengths
+r1 s pages nodes register x-l = lengths-of″.res pages nodes register
 
-abbrev pub r2 : Store → List ℕ → List ℕ → List Record → Latest
-r2 s pages nodes register = recent-by″.res s (r1 s pages nodes register)
+abbrev pub r2 : Store → List ℕ → List ℕ → List Record → Line → Branch
+r2 s pages nodes register x-l = line-state″.res s x-l
 
--- the function ensures: r ≡ recentOut s (areasOf pages nodes register)
+abbrev pub r3 : Store → List ℕ → List ℕ → List Record → Line → ℕ
+r3 s pages nodes register x-l = line-refusal″.res s (r1 s pages nodes register x-l) x-l
+
+abbrev pub r4 : Store → List ℕ → List ℕ → List Record → Line → Latest
+r4 s pages nodes register x-l = recent-by″.res (r3 s pages nodes register x-l) ((r2 s pages nodes register x-l) .published)
+
+-- the function ensures: r ≡ recentOut s (areasOf pages nodes register) (l .0)
 abbrev pub exit-1 : Type 0
 exit-1 =
-    (s : Store) (pages : List ℕ) (nodes : List ℕ) (register : List Record) (ok-s : Store′.Ok s) (len-pages : length pages < 2 ^ 64) (len-nodes : length nodes < 2 ^ 64) (len-register : length register < 2 ^ 64) (ok-r1 : Lengths′.Ok (r1 s pages nodes register)) (ok-r2 : Latest′.Ok (r2 s pages nodes register))
-    → recent″.ens s pages nodes register (r2 s pages nodes register)
+    (s : Store) (pages : List ℕ) (nodes : List ℕ) (register : List Record) (x-l : Line) (ok-s : Store′.Ok s) (len-pages : length pages < 2 ^ 64) (len-nodes : length nodes < 2 ^ 64) (len-register : length register < 2 ^ 64) (ok-x-l : Line′.Ok x-l) (ok-r1 : Lengths′.Ok (r1 s pages nodes register x-l)) (ok-r2 : Branch′.Ok (r2 s pages nodes register x-l)) (fits-r3 : (r3 s pages nodes register x-l) < 2 ^ 64) (ok-r4 : Latest′.Ok (r4 s pages nodes register x-l))
+    → recent″.ens s pages nodes register x-l (r4 s pages nodes register x-l)

@@ -14,30 +14,46 @@ use Rattle.versions.specs.declared.Store.{Store}
 use Rattle.versions.proofs.Generated.Kind.Store as Store′
 use Rattle.tree.specs.declared.Ticket.{Ticket}
 use Rattle.register.proofs.Generated.Kind.Ticket as Ticket′
+use Rattle.lines.specs.declared.Branch.{Branch}
+use Rattle.versions.proofs.Generated.Kind.Branch as Branch′
+use Rattle.lines.specs.declared.Line.{Line}
+use Rattle.register.proofs.Generated.Kind.Line as Line′
 use Rattle.tree.specs.declared.Version.{Version}
 use Rattle.register.proofs.Generated.Kind.Version as Version′
 use Rattle.register.specs.declared.Record.{Record}
 use Rattle.register.proofs.Generated.Kind.Record as Record′
 use Rattle.tree.specs.declared.PageIndex.{PageIndex}
 use Rattle.register.proofs.Generated.Kind.PageIndex as PageIndex′
+use Rattle.lines.specs.declared.Entries.{Entries}
+use Rattle.register.proofs.Generated.Kind.Entries as Entries′
 use Rattle.versions.specs.declared.Lengths.{Lengths}
 use Rattle.versions.proofs.Generated.Kind.Lengths as Lengths′
+use Rattle.register.specs.declared.Part.{Part}
+use Rattle.register.proofs.Generated.Kind.Part as Part′
 use Rattle.versions.proofs.Generated.Say.size as size″
-use Rattle.register.proofs.Generated.Say.version_record as version-record″
 use Rattle.versions.proofs.Generated.Say.lengths_of as lengths-of″
+use Rattle.versions.proofs.Generated.Say.number_on as number-on″
+use Rattle.register.proofs.Generated.Say.version_part as version-part″
+use Rattle.versions.proofs.Generated.Say.snapshot_refusal as snapshot-refusal″
 use Rattle.versions.proofs.Generated.Say.sized_by as sized-by″
 
-abbrev pub r1 : Store → List ℕ → List ℕ → List Record → Version → Record
-r1 s pages nodes register x-v = version-record″.res register x-v
+abbrev pub r1 : Store → List ℕ → List ℕ → List Record → Line → Version → Lengths
+r1 s pages nodes register x-l x-v = lengths-of″.res pages nodes register
 
-abbrev pub r2 : Store → List ℕ → List ℕ → List Record → Version → Lengths
-r2 s pages nodes register x-v = lengths-of″.res pages nodes register
+abbrev pub r2 : Store → List ℕ → List ℕ → List Record → Line → Version → ℕ
+r2 s pages nodes register x-l x-v = number-on″.res s x-l x-v
 
-abbrev pub r3 : Store → List ℕ → List ℕ → List Record → Version → Sized
-r3 s pages nodes register x-v = sized-by″.res s (r2 s pages nodes register x-v) (r1 s pages nodes register x-v) x-v
+abbrev pub r3 : Store → List ℕ → List ℕ → List Record → Line → Version → Part
+r3 s pages nodes register x-l x-v = version-part″.res register (r2 s pages nodes register x-l x-v)
 
--- the function ensures: r ≡ sizeOut s (areasOf pages nodes register) (v .0)
+abbrev pub r4 : Store → List ℕ → List ℕ → List Record → Line → Version → ℕ
+r4 s pages nodes register x-l x-v = snapshot-refusal″.res s (r1 s pages nodes register x-l x-v) x-l x-v
+
+abbrev pub r5 : Store → List ℕ → List ℕ → List Record → Line → Version → Sized
+r5 s pages nodes register x-l x-v = sized-by″.res (r4 s pages nodes register x-l x-v) (s .size) (r3 s pages nodes register x-l x-v) (r2 s pages nodes register x-l x-v) x-v
+
+-- the function ensures: r ≡ sizeOut s (areasOf pages nodes register) (l .0) (v .0)
 abbrev pub exit-1 : Type 0
 exit-1 =
-    (s : Store) (pages : List ℕ) (nodes : List ℕ) (register : List Record) (x-v : Version) (ok-s : Store′.Ok s) (len-pages : length pages < 2 ^ 64) (len-nodes : length nodes < 2 ^ 64) (len-register : length register < 2 ^ 64) (ok-x-v : Version′.Ok x-v) (ok-r1 : Record′.Ok (r1 s pages nodes register x-v)) (ok-r2 : Lengths′.Ok (r2 s pages nodes register x-v)) (ok-r3 : Sized′.Ok (r3 s pages nodes register x-v))
-    → size″.ens s pages nodes register x-v (r3 s pages nodes register x-v)
+    (s : Store) (pages : List ℕ) (nodes : List ℕ) (register : List Record) (x-l : Line) (x-v : Version) (ok-s : Store′.Ok s) (len-pages : length pages < 2 ^ 64) (len-nodes : length nodes < 2 ^ 64) (len-register : length register < 2 ^ 64) (ok-x-l : Line′.Ok x-l) (ok-x-v : Version′.Ok x-v) (ok-r1 : Lengths′.Ok (r1 s pages nodes register x-l x-v)) (fits-r2 : (r2 s pages nodes register x-l x-v) < 2 ^ 64) (ok-r3 : Part′.Ok (r3 s pages nodes register x-l x-v)) (fits-r4 : (r4 s pages nodes register x-l x-v) < 2 ^ 64) (ok-r5 : Sized′.Ok (r5 s pages nodes register x-l x-v))
+    → size″.ens s pages nodes register x-l x-v (r5 s pages nodes register x-l x-v)

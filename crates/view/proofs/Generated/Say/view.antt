@@ -9,6 +9,9 @@ use Rattle.pages.specs.Pages.{part}
 use Rattle.table.specs.Table.{unless}
 use Rattle.versions.specs.Store.{areasOf}
 use Rattle.view.specs.View.{viewPart, viewed, viewAt}
+use Rattle.lines.specs.declared.Branch.{Branch}
+use Rattle.lines.specs.declared.Entries.{Entries}
+use Rattle.lines.specs.declared.Line.{Line}
 use Rattle.register.specs.declared.Record.{Record}
 use Rattle.tree.specs.declared.PageIndex.{PageIndex}
 use Rattle.tree.specs.declared.Ticket.{Ticket}
@@ -16,8 +19,8 @@ use Rattle.tree.specs.declared.Version.{Version}
 use Rattle.versions.specs.declared.Store.{Store}
 use Rattle.view.specs.declared.Viewed.{Viewed}
 
-abbrev pub ens : Store → List ℕ → List ℕ → List Record → Version → PageIndex → List ℕ → Type 0
-ens s pages nodes register v page r = r ≡ viewPart s (areasOf pages nodes register) (v .0) (page .0)
+abbrev pub ens : Store → List ℕ → List ℕ → List Record → Line → Version → PageIndex → List ℕ → Type 0
+ens s pages nodes register l v page r = r ≡ viewPart s (areasOf pages nodes register) (l .0) (v .0) (page .0)
 
-abbrev pub res : Store → List ℕ → List ℕ → List Record → Version → PageIndex → List ℕ
-res s pages nodes register v page = viewPart s (areasOf pages nodes register) (v .0) (page .0)
+abbrev pub res : Store → List ℕ → List ℕ → List Record → Line → Version → PageIndex → List ℕ
+res s pages nodes register l v page = viewPart s (areasOf pages nodes register) (l .0) (v .0) (page .0)

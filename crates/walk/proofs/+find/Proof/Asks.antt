@@ -10,85 +10,97 @@ use lib.Dec.{ltb, leb, eqb}
 use lib.ListN.{length, getD, set}
 use Rattle.register.specs.declared.Record.{Record}
 use Rattle.register.proofs.Generated.Kind.Record as Record′
-use Rattle.tree.specs.declared.Version.{Version}
-use Rattle.register.proofs.Generated.Kind.Version as Version′
 use Rattle.tree.specs.declared.Ticket.{Ticket}
 use Rattle.register.proofs.Generated.Kind.Ticket as Ticket′
 use Rattle.tree.specs.declared.PageIndex.{PageIndex}
 use Rattle.register.proofs.Generated.Kind.PageIndex as PageIndex′
+use Rattle.lines.specs.declared.Entries.{Entries}
+use Rattle.register.proofs.Generated.Kind.Entries as Entries′
+use Rattle.register.specs.declared.Part.{Part}
+use Rattle.register.proofs.Generated.Kind.Part as Part′
 use Rattle.walk.specs.declared.Turn.{Turn}
 use Rattle.walk.proofs.Generated.Kind.Turn as Turn′
 use Rattle.tree.specs.declared.NodeAt.{NodeAt}
 use Rattle.walk.proofs.Generated.Kind.NodeAt as NodeAt′
 use Rattle.walk.proofs.Generated.Say.find as find″
-use Rattle.register.proofs.Generated.Say.version_record as version-record″
+use Rattle.walk.proofs.Generated.Say.is_number as is-number″
+use Rattle.register.proofs.Generated.Say.version_part as version-part″
 use Rattle.walk.proofs.Generated.Say.place_of as place-of″
 use Rattle.walk.proofs.Generated.Say.node_at as node-at″
 use Rattle.walk.proofs.Generated.Say.turn_at as turn-at″
 use Rattle.walk.proofs.+find.Proof.Loop as Loop
 
-abbrev pub r1 : List Record → List ℕ → Version → Version → ℕ → PageIndex → Record
-r1 register nodes x-known x-v span page = version-record″.res register x-v
+abbrev pub r1 : List Record → List ℕ → ℕ → ℕ → PageIndex → Bool
+r1 register nodes c span page = is-number″.res c
 
-abbrev pub r2 : List Record → List ℕ → Version → Version → ℕ → PageIndex → ℕ
-r2 register nodes x-known x-v span page = place-of″.res (r1 register nodes x-known x-v span page) x-known x-v page span
+abbrev pub r2 : List Record → List ℕ → ℕ → ℕ → PageIndex → Part
+r2 register nodes c span page = version-part″.res register c
 
-abbrev pub r3 : List Record → List ℕ → Version → Version → ℕ → PageIndex → NodeAt
-r3 register nodes x-known x-v span page = node-at″.res nodes (r2 register nodes x-known x-v span page)
+abbrev pub r3 : List Record → List ℕ → ℕ → ℕ → PageIndex → ℕ
+r3 register nodes c span page = place-of″.res (r2 register nodes c span page) c page span
 
-abbrev pub r4 : List Record → List ℕ → Version → Version → ℕ → PageIndex → Turn
-r4 register nodes x-known x-v span page = turn-at″.res (r3 register nodes x-known x-v span page) page span
+abbrev pub r4 : List Record → List ℕ → ℕ → ℕ → PageIndex → NodeAt
+r4 register nodes c span page = node-at″.res nodes (r3 register nodes c span page)
 
--- `place_of` asks: Spanned span
+abbrev pub r5 : List Record → List ℕ → ℕ → ℕ → PageIndex → Turn
+r5 register nodes c span page = turn-at″.res (r4 register nodes c span page) page span
+
+-- the function ensures: foundIn r ≡ walkDown register nodes c span (page .0)
+abbrev pub exit-1 : Type 0
+exit-1 =
+    (register : List Record) (nodes : List ℕ) (c : ℕ) (span : ℕ) (page : PageIndex) (len-register : length register < 2 ^ 64) (len-nodes : length nodes < 2 ^ 64) (fits-c : c < 2 ^ 64) (fits-span : span < 2 ^ 64) (ok-page : PageIndex′.Ok page) (need : find″.req register nodes c span page) (c1 : not (r1 register nodes c span page) ≡ true)
+    → find″.ens register nodes c span page 18446744073709551615
+
+-- `place_of` asks: (isNumber c ≡ true) × Spanned span
 abbrev pub place-of-1 : Type 0
 place-of-1 =
-    (register : List Record) (nodes : List ℕ) (x-known : Version) (x-v : Version) (span : ℕ) (page : PageIndex) (len-register : length register < 2 ^ 64) (len-nodes : length nodes < 2 ^ 64) (ok-x-known : Version′.Ok x-known) (ok-x-v : Version′.Ok x-v) (fits-span : span < 2 ^ 64) (ok-page : PageIndex′.Ok page) (need : find″.req register nodes x-known x-v span page) (ok-r1 : Record′.Ok (r1 register nodes x-known x-v span page))
-    → place-of″.req (r1 register nodes x-known x-v span page) x-known x-v page span
+    (register : List Record) (nodes : List ℕ) (c : ℕ) (span : ℕ) (page : PageIndex) (len-register : length register < 2 ^ 64) (len-nodes : length nodes < 2 ^ 64) (fits-c : c < 2 ^ 64) (fits-span : span < 2 ^ 64) (ok-page : PageIndex′.Ok page) (need : find″.req register nodes c span page) (c1 : not (r1 register nodes c span page) ≡ false) (ok-r2 : Part′.Ok (r2 register nodes c span page))
+    → place-of″.req (r2 register nodes c span page) c page span
 
 -- `turn_at` asks: Spanned span
 abbrev pub turn-at-1 : Type 0
 turn-at-1 =
-    (register : List Record) (nodes : List ℕ) (x-known : Version) (x-v : Version) (span : ℕ) (page : PageIndex) (len-register : length register < 2 ^ 64) (len-nodes : length nodes < 2 ^ 64) (ok-x-known : Version′.Ok x-known) (ok-x-v : Version′.Ok x-v) (fits-span : span < 2 ^ 64) (ok-page : PageIndex′.Ok page) (need : find″.req register nodes x-known x-v span page) (ok-r1 : Record′.Ok (r1 register nodes x-known x-v span page)) (fits-r2 : (r2 register nodes x-known x-v span page) < 2 ^ 64) (ok-r3 : NodeAt′.Ok (r3 register nodes x-known x-v span page))
-    → turn-at″.req (r3 register nodes x-known x-v span page) page span
+    (register : List Record) (nodes : List ℕ) (c : ℕ) (span : ℕ) (page : PageIndex) (len-register : length register < 2 ^ 64) (len-nodes : length nodes < 2 ^ 64) (fits-c : c < 2 ^ 64) (fits-span : span < 2 ^ 64) (ok-page : PageIndex′.Ok page) (need : find″.req register nodes c span page) (c1 : not (r1 register nodes c span page) ≡ false) (ok-r2 : Part′.Ok (r2 register nodes c span page)) (fits-r3 : (r3 register nodes c span page) < 2 ^ 64) (ok-r4 : NodeAt′.Ok (r4 register nodes c span page))
+    → turn-at″.req (r4 register nodes c span page) page span
 
 -- the product does not wrap
 abbrev pub mul-1 : Type 0
 mul-1 =
-    (register : List Record) (nodes : List ℕ) (x-known : Version) (x-v : Version) (span : ℕ) (page : PageIndex) (len-register : length register < 2 ^ 64) (len-nodes : length nodes < 2 ^ 64) (ok-x-known : Version′.Ok x-known) (ok-x-v : Version′.Ok x-v) (fits-span : span < 2 ^ 64) (ok-page : PageIndex′.Ok page) (need : find″.req register nodes x-known x-v span page) (ok-r1 : Record′.Ok (r1 register nodes x-known x-v span page)) (fits-r2 : (r2 register nodes x-known x-v span page) < 2 ^ 64) (ok-r3 : NodeAt′.Ok (r3 register nodes x-known x-v span page)) (ok-r4 : Turn′.Ok (r4 register nodes x-known x-v span page)) (y1-0 : ℕ) (m1 : r4 register nodes x-known x-v span page ≡ Turn.Leaf y1-0) (fits-y1-0 : y1-0 < 2 ^ 64)
-    → (x-v .0) * 4294967296 < 2 ^ 64
+    (register : List Record) (nodes : List ℕ) (c : ℕ) (span : ℕ) (page : PageIndex) (len-register : length register < 2 ^ 64) (len-nodes : length nodes < 2 ^ 64) (fits-c : c < 2 ^ 64) (fits-span : span < 2 ^ 64) (ok-page : PageIndex′.Ok page) (need : find″.req register nodes c span page) (c1 : not (r1 register nodes c span page) ≡ false) (ok-r2 : Part′.Ok (r2 register nodes c span page)) (fits-r3 : (r3 register nodes c span page) < 2 ^ 64) (ok-r4 : NodeAt′.Ok (r4 register nodes c span page)) (ok-r5 : Turn′.Ok (r5 register nodes c span page)) (y2-0 : ℕ) (m2 : r5 register nodes c span page ≡ Turn.Leaf y2-0) (fits-y2-0 : y2-0 < 2 ^ 64)
+    → c * 4294967296 < 2 ^ 64
 
 -- the sum does not wrap
 abbrev pub add-1 : Type 0
 add-1 =
-    (register : List Record) (nodes : List ℕ) (x-known : Version) (x-v : Version) (span : ℕ) (page : PageIndex) (len-register : length register < 2 ^ 64) (len-nodes : length nodes < 2 ^ 64) (ok-x-known : Version′.Ok x-known) (ok-x-v : Version′.Ok x-v) (fits-span : span < 2 ^ 64) (ok-page : PageIndex′.Ok page) (need : find″.req register nodes x-known x-v span page) (ok-r1 : Record′.Ok (r1 register nodes x-known x-v span page)) (fits-r2 : (r2 register nodes x-known x-v span page) < 2 ^ 64) (ok-r3 : NodeAt′.Ok (r3 register nodes x-known x-v span page)) (ok-r4 : Turn′.Ok (r4 register nodes x-known x-v span page)) (y1-0 : ℕ) (m1 : r4 register nodes x-known x-v span page ≡ Turn.Leaf y1-0) (fits-y1-0 : y1-0 < 2 ^ 64)
-    → ((x-v .0) * 4294967296) + y1-0 < 2 ^ 64
+    (register : List Record) (nodes : List ℕ) (c : ℕ) (span : ℕ) (page : PageIndex) (len-register : length register < 2 ^ 64) (len-nodes : length nodes < 2 ^ 64) (fits-c : c < 2 ^ 64) (fits-span : span < 2 ^ 64) (ok-page : PageIndex′.Ok page) (need : find″.req register nodes c span page) (c1 : not (r1 register nodes c span page) ≡ false) (ok-r2 : Part′.Ok (r2 register nodes c span page)) (fits-r3 : (r3 register nodes c span page) < 2 ^ 64) (ok-r4 : NodeAt′.Ok (r4 register nodes c span page)) (ok-r5 : Turn′.Ok (r5 register nodes c span page)) (y2-0 : ℕ) (m2 : r5 register nodes c span page ≡ Turn.Leaf y2-0) (fits-y2-0 : y2-0 < 2 ^ 64)
+    → (c * 4294967296) + y2-0 < 2 ^ 64
 
--- the function ensures: foundIn r ≡ walkDown register nodes (known .0) (v .0) span (page .0)
-abbrev pub exit-1 : Type 0
-exit-1 =
-    (register : List Record) (nodes : List ℕ) (x-known : Version) (x-v : Version) (span : ℕ) (page : PageIndex) (len-register : length register < 2 ^ 64) (len-nodes : length nodes < 2 ^ 64) (ok-x-known : Version′.Ok x-known) (ok-x-v : Version′.Ok x-v) (fits-span : span < 2 ^ 64) (ok-page : PageIndex′.Ok page) (need : find″.req register nodes x-known x-v span page) (ok-r1 : Record′.Ok (r1 register nodes x-known x-v span page)) (fits-r2 : (r2 register nodes x-known x-v span page) < 2 ^ 64) (ok-r3 : NodeAt′.Ok (r3 register nodes x-known x-v span page)) (ok-r4 : Turn′.Ok (r4 register nodes x-known x-v span page)) (y1-0 : ℕ) (m1 : r4 register nodes x-known x-v span page ≡ Turn.Leaf y1-0) (fits-y1-0 : y1-0 < 2 ^ 64)
-    → find″.ens register nodes x-known x-v span page (((x-v .0) * 4294967296) + y1-0)
+-- the function ensures: foundIn r ≡ walkDown register nodes c span (page .0)
+abbrev pub exit-2 : Type 0
+exit-2 =
+    (register : List Record) (nodes : List ℕ) (c : ℕ) (span : ℕ) (page : PageIndex) (len-register : length register < 2 ^ 64) (len-nodes : length nodes < 2 ^ 64) (fits-c : c < 2 ^ 64) (fits-span : span < 2 ^ 64) (ok-page : PageIndex′.Ok page) (need : find″.req register nodes c span page) (c1 : not (r1 register nodes c span page) ≡ false) (ok-r2 : Part′.Ok (r2 register nodes c span page)) (fits-r3 : (r3 register nodes c span page) < 2 ^ 64) (ok-r4 : NodeAt′.Ok (r4 register nodes c span page)) (ok-r5 : Turn′.Ok (r5 register nodes c span page)) (y2-0 : ℕ) (m2 : r5 register nodes c span page ≡ Turn.Leaf y2-0) (fits-y2-0 : y2-0 < 2 ^ 64)
+    → find″.ens register nodes c span page ((c * 4294967296) + y2-0)
 
--- `find` asks: (known .0 ≤ length register) × Spanned span × (known .0 ≤ 4096)
+-- `find` asks: Spanned span
 abbrev pub find-1 : Type 0
 find-1 =
-    (register : List Record) (nodes : List ℕ) (x-known : Version) (x-v : Version) (span : ℕ) (page : PageIndex) (len-register : length register < 2 ^ 64) (len-nodes : length nodes < 2 ^ 64) (ok-x-known : Version′.Ok x-known) (ok-x-v : Version′.Ok x-v) (fits-span : span < 2 ^ 64) (ok-page : PageIndex′.Ok page) (need : find″.req register nodes x-known x-v span page) (ok-r1 : Record′.Ok (r1 register nodes x-known x-v span page)) (fits-r2 : (r2 register nodes x-known x-v span page) < 2 ^ 64) (ok-r3 : NodeAt′.Ok (r3 register nodes x-known x-v span page)) (ok-r4 : Turn′.Ok (r4 register nodes x-known x-v span page)) (y1-0 : Version) (y1-1 : ℕ) (m1 : r4 register nodes x-known x-v span page ≡ Turn.Down y1-0 y1-1) (ok-y1-0 : Version′.Ok y1-0) (fits-y1-1 : y1-1 < 2 ^ 64)
-    → find″.req register nodes x-known y1-0 y1-1 page
+    (register : List Record) (nodes : List ℕ) (c : ℕ) (span : ℕ) (page : PageIndex) (len-register : length register < 2 ^ 64) (len-nodes : length nodes < 2 ^ 64) (fits-c : c < 2 ^ 64) (fits-span : span < 2 ^ 64) (ok-page : PageIndex′.Ok page) (need : find″.req register nodes c span page) (c1 : not (r1 register nodes c span page) ≡ false) (ok-r2 : Part′.Ok (r2 register nodes c span page)) (fits-r3 : (r3 register nodes c span page) < 2 ^ 64) (ok-r4 : NodeAt′.Ok (r4 register nodes c span page)) (ok-r5 : Turn′.Ok (r5 register nodes c span page)) (y2-0 : ℕ) (y2-1 : ℕ) (m2 : r5 register nodes c span page ≡ Turn.Down y2-0 y2-1) (fits-y2-0 : y2-0 < 2 ^ 64) (fits-y2-1 : y2-1 < 2 ^ 64)
+    → find″.req register nodes y2-0 y2-1 page
 
 -- the measure of the call of itself is smaller
 abbrev pub smaller-1 : Type 0
 smaller-1 =
-    (register : List Record) (nodes : List ℕ) (x-known : Version) (x-v : Version) (span : ℕ) (page : PageIndex) (len-register : length register < 2 ^ 64) (len-nodes : length nodes < 2 ^ 64) (ok-x-known : Version′.Ok x-known) (ok-x-v : Version′.Ok x-v) (fits-span : span < 2 ^ 64) (ok-page : PageIndex′.Ok page) (need : find″.req register nodes x-known x-v span page) (ok-r1 : Record′.Ok (r1 register nodes x-known x-v span page)) (fits-r2 : (r2 register nodes x-known x-v span page) < 2 ^ 64) (ok-r3 : NodeAt′.Ok (r3 register nodes x-known x-v span page)) (ok-r4 : Turn′.Ok (r4 register nodes x-known x-v span page)) (y1-0 : Version) (y1-1 : ℕ) (m1 : r4 register nodes x-known x-v span page ≡ Turn.Down y1-0 y1-1) (ok-y1-0 : Version′.Ok y1-0) (fits-y1-1 : y1-1 < 2 ^ 64)
-    → Loop.measure-0 register nodes x-known y1-0 y1-1 page < Loop.measure-0 register nodes x-known x-v span page
+    (register : List Record) (nodes : List ℕ) (c : ℕ) (span : ℕ) (page : PageIndex) (len-register : length register < 2 ^ 64) (len-nodes : length nodes < 2 ^ 64) (fits-c : c < 2 ^ 64) (fits-span : span < 2 ^ 64) (ok-page : PageIndex′.Ok page) (need : find″.req register nodes c span page) (c1 : not (r1 register nodes c span page) ≡ false) (ok-r2 : Part′.Ok (r2 register nodes c span page)) (fits-r3 : (r3 register nodes c span page) < 2 ^ 64) (ok-r4 : NodeAt′.Ok (r4 register nodes c span page)) (ok-r5 : Turn′.Ok (r5 register nodes c span page)) (y2-0 : ℕ) (y2-1 : ℕ) (m2 : r5 register nodes c span page ≡ Turn.Down y2-0 y2-1) (fits-y2-0 : y2-0 < 2 ^ 64) (fits-y2-1 : y2-1 < 2 ^ 64)
+    → Loop.measure-0 register nodes y2-0 y2-1 page < Loop.measure-0 register nodes c span page
 
--- the function ensures: foundIn r ≡ walkDown register nodes (known .0) (v .0) span (page .0)
-abbrev pub exit-2 : Type 0
-exit-2 =
-    (register : List Record) (nodes : List ℕ) (x-known : Version) (x-v : Version) (span : ℕ) (page : PageIndex) (len-register : length register < 2 ^ 64) (len-nodes : length nodes < 2 ^ 64) (ok-x-known : Version′.Ok x-known) (ok-x-v : Version′.Ok x-v) (fits-span : span < 2 ^ 64) (ok-page : PageIndex′.Ok page) (need : find″.req register nodes x-known x-v span page) (ok-r1 : Record′.Ok (r1 register nodes x-known x-v span page)) (fits-r2 : (r2 register nodes x-known x-v span page) < 2 ^ 64) (ok-r3 : NodeAt′.Ok (r3 register nodes x-known x-v span page)) (ok-r4 : Turn′.Ok (r4 register nodes x-known x-v span page)) (y1-0 : Version) (y1-1 : ℕ) (m1 : r4 register nodes x-known x-v span page ≡ Turn.Down y1-0 y1-1) (ok-y1-0 : Version′.Ok y1-0) (fits-y1-1 : y1-1 < 2 ^ 64) (r5 : ℕ) (fits-r5 : r5 < 2 ^ 64) (says5 : find″.ens register nodes x-known y1-0 y1-1 page r5)
-    → find″.ens register nodes x-known x-v span page r5
-
--- the function ensures: foundIn r ≡ walkDown register nodes (known .0) (v .0) span (page .0)
+-- the function ensures: foundIn r ≡ walkDown register nodes c span (page .0)
 abbrev pub exit-3 : Type 0
 exit-3 =
-    (register : List Record) (nodes : List ℕ) (x-known : Version) (x-v : Version) (span : ℕ) (page : PageIndex) (len-register : length register < 2 ^ 64) (len-nodes : length nodes < 2 ^ 64) (ok-x-known : Version′.Ok x-known) (ok-x-v : Version′.Ok x-v) (fits-span : span < 2 ^ 64) (ok-page : PageIndex′.Ok page) (need : find″.req register nodes x-known x-v span page) (ok-r1 : Record′.Ok (r1 register nodes x-known x-v span page)) (fits-r2 : (r2 register nodes x-known x-v span page) < 2 ^ 64) (ok-r3 : NodeAt′.Ok (r3 register nodes x-known x-v span page)) (ok-r4 : Turn′.Ok (r4 register nodes x-known x-v span page)) (m1 : r4 register nodes x-known x-v span page ≡ Turn.Lost)
-    → find″.ens register nodes x-known x-v span page 18446744073709551615
+    (register : List Record) (nodes : List ℕ) (c : ℕ) (span : ℕ) (page : PageIndex) (len-register : length register < 2 ^ 64) (len-nodes : length nodes < 2 ^ 64) (fits-c : c < 2 ^ 64) (fits-span : span < 2 ^ 64) (ok-page : PageIndex′.Ok page) (need : find″.req register nodes c span page) (c1 : not (r1 register nodes c span page) ≡ false) (ok-r2 : Part′.Ok (r2 register nodes c span page)) (fits-r3 : (r3 register nodes c span page) < 2 ^ 64) (ok-r4 : NodeAt′.Ok (r4 register nodes c span page)) (ok-r5 : Turn′.Ok (r5 register nodes c span page)) (y2-0 : ℕ) (y2-1 : ℕ) (m2 : r5 register nodes c span page ≡ Turn.Down y2-0 y2-1) (fits-y2-0 : y2-0 < 2 ^ 64) (fits-y2-1 : y2-1 < 2 ^ 64) (r6 : ℕ) (fits-r6 : r6 < 2 ^ 64) (says6 : find″.ens register nodes y2-0 y2-1 page r6)
+    → find″.ens register nodes c span page r6
+
+-- the function ensures: foundIn r ≡ walkDown register nodes c span (page .0)
+abbrev pub exit-4 : Type 0
+exit-4 =
+    (register : List Record) (nodes : List ℕ) (c : ℕ) (span : ℕ) (page : PageIndex) (len-register : length register < 2 ^ 64) (len-nodes : length nodes < 2 ^ 64) (fits-c : c < 2 ^ 64) (fits-span : span < 2 ^ 64) (ok-page : PageIndex′.Ok page) (need : find″.req register nodes c span page) (c1 : not (r1 register nodes c span page) ≡ false) (ok-r2 : Part′.Ok (r2 register nodes c span page)) (fits-r3 : (r3 register nodes c span page) < 2 ^ 64) (ok-r4 : NodeAt′.Ok (r4 register nodes c span page)) (ok-r5 : Turn′.Ok (r5 register nodes c span page)) (m2 : r5 register nodes c span page ≡ Turn.Lost)
+    → find″.ens register nodes c span page 18446744073709551615

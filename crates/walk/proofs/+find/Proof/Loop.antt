@@ -3,8 +3,7 @@ use Prim.Native.Nat.{ℕ}
 use mathlib.Core.List.{List}
 use Rattle.register.specs.declared.Record.{Record}
 use Rattle.tree.specs.declared.PageIndex.{PageIndex}
-use Rattle.tree.specs.declared.Version.{Version}
 
 -- what falls with each call of itself
-abbrev pub measure-0 : List Record → List ℕ → Version → Version → ℕ → PageIndex → ℕ
-measure-0 register nodes x-known x-v span page = span
+abbrev pub measure-0 : List Record → List ℕ → ℕ → ℕ → PageIndex → ℕ
+measure-0 register nodes c span page = span

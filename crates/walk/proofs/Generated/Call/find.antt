@@ -34,12 +34,12 @@ use denote.Triple.Walked.{says}
 use Rattle.walk.proofs.Generated.Say.find as find″
 use Rattle.register.specs.declared.Record.{Record}
 use Rattle.register.proofs.Generated.Kind.Record as Record′
-use Rattle.tree.specs.declared.Version.{Version}
-use Rattle.register.proofs.Generated.Kind.Version as Version′
 use Rattle.tree.specs.declared.Ticket.{Ticket}
 use Rattle.register.proofs.Generated.Kind.Ticket as Ticket′
 use Rattle.tree.specs.declared.PageIndex.{PageIndex}
 use Rattle.register.proofs.Generated.Kind.PageIndex as PageIndex′
+use Rattle.lines.specs.declared.Entries.{Entries}
+use Rattle.register.proofs.Generated.Kind.Entries as Entries′
 use Rattle.register.proofs.Generated.Flow.{ref, MutAt, ShrAt, keeps-shr, plus-nothing}
 use Rattle.walk.proofs.find as callee
 use Rattle.walk.proofs.find.Symbol.{name as #callee}
@@ -48,54 +48,54 @@ module _ {M : Type 1} (𝓤 : URA M) (H : Heap 𝓤) (A : Atoms 𝓤) (mem : Mem
   abbrev pub Asked : Contract 𝓤
   Asked = tripleOf 𝓤 H A callee.signature (callee.spec 𝓤 H A mem run)
 
-  abbrev pub to : (κ·register : Lft) (q·register : Share) (b·register o·register : ℕ) (γ·register : GName) (n·register : ℕ) (register : List Record) (κ·nodes : Lft) (q·nodes : Share) (b·nodes o·nodes : ℕ) (γ·nodes : GName) (n·nodes : ℕ) (nodes : List ℕ) (x-known : Version) (x-v : Version) (span : ℕ) (page : PageIndex) → Asked .Ghost
-  to κ·register q·register b·register o·register γ·register n·register register κ·nodes q·nodes b·nodes o·nodes γ·nodes n·nodes nodes x-known x-v span page = (((κ·register, (κ·nodes, tt)), (q·register, (q·nodes, tt)), tt, (ref b·register o·register γ·register register, (ref b·nodes o·nodes γ·nodes nodes, (x-known, (x-v, (span, (page, tt)))))), (sliceVal (b·register, o·register) n·register ∷ [], (sliceVal (b·nodes, o·nodes) n·nodes ∷ [], (Version′.mach x-known ∷ [], (Version′.mach x-v ∷ [], (vint w64 span ∷ [], (PageIndex′.mach page ∷ [], tt))))))), tt)
+  abbrev pub to : (κ·register : Lft) (q·register : Share) (b·register o·register : ℕ) (γ·register : GName) (n·register : ℕ) (register : List Record) (κ·nodes : Lft) (q·nodes : Share) (b·nodes o·nodes : ℕ) (γ·nodes : GName) (n·nodes : ℕ) (nodes : List ℕ) (c : ℕ) (span : ℕ) (page : PageIndex) → Asked .Ghost
+  to κ·register q·register b·register o·register γ·register n·register register κ·nodes q·nodes b·nodes o·nodes γ·nodes n·nodes nodes c span page = (((κ·register, (κ·nodes, tt)), (q·register, (q·nodes, tt)), tt, (ref b·register o·register γ·register register, (ref b·nodes o·nodes γ·nodes nodes, (c, (span, (page, tt))))), (sliceVal (b·register, o·register) n·register ∷ [], (sliceVal (b·nodes, o·nodes) n·nodes ∷ [], (vint w64 c ∷ [], (vint w64 span ∷ [], (PageIndex′.mach page ∷ [], tt)))))), tt)
 
 module _ {M : Type 1} {𝓤 : URA M} {H : Heap 𝓤} {A : Atoms 𝓤} {K : Type 0} {W : Given 𝓤 H A} {Γ : List (Item 𝓤)} where
   -- the call itself is made by `by-call`, from what the callee asks to what it has ensured
-  core : K → (mem : Memory → SProp 𝓤) (run : Routine → Fun 𝓤) → (κ·register : Lft) (q·register : Share) (b·register o·register : ℕ) (γ·register : GName) (n·register : ℕ) (register : List Record) (κ·nodes : Lft) (q·nodes : Share) (b·nodes o·nodes : ℕ) (γ·nodes : GName) (n·nodes : ℕ) (nodes : List ℕ) (x-known : Version) (x-v : Version) (span : ℕ) (page : PageIndex) → (G : Goal 𝓤 H) (after : Val → Goal 𝓤 H) → ((v : Val) → Soaks (after v))
-      → (((v : Val) → Seq K W (raw (Asked 𝓤 H A mem run .post (to 𝓤 H A mem run κ·register q·register b·register o·register γ·register n·register register κ·nodes q·nodes b·nodes o·nodes γ·nodes n·nodes nodes x-known x-v span page) v) ∷ ‵ (ShrAt Record′.row κ·register b·register o·register γ·register n·register register) ∷ ‵ (ShrAt u32 κ·nodes b·nodes o·nodes γ·nodes n·nodes nodes) ∷ Γ) (after v)) → Seq K W (raw (Asked 𝓤 H A mem run .pre (to 𝓤 H A mem run κ·register q·register b·register o·register γ·register n·register register κ·nodes q·nodes b·nodes o·nodes γ·nodes n·nodes nodes x-known x-v span page)) ∷ ‵ (ShrAt Record′.row κ·register b·register o·register γ·register n·register register) ∷ ‵ (ShrAt u32 κ·nodes b·nodes o·nodes γ·nodes n·nodes nodes) ∷ Γ) G) → Is Version′.row x-known (Version′.vals x-known) → Is Version′.row x-v (Version′.vals x-v) → Is u64 span (uint-vals w64 span) → Is PageIndex′.row page (PageIndex′.vals page) → find″.req register nodes x-known x-v span page →
-      ((x·res : ℕ) → Is u64 x·res (uint-vals w64 x·res) → find″.ens register nodes x-known x-v span page x·res → Seq K W (‵ (flft κ·register q·register) ∷ ‵ (ShrAt Record′.row κ·register b·register o·register γ·register n·register register) ∷ ‵ (flft κ·nodes q·nodes) ∷ ‵ (ShrAt u32 κ·nodes b·nodes o·nodes γ·nodes n·nodes nodes) ∷ Γ) (after (vint w64 x·res))) → Seq K W (‵ (flft κ·register q·register) ∷ ‵ (ShrAt Record′.row κ·register b·register o·register γ·register n·register register) ∷ ‵ (flft κ·nodes q·nodes) ∷ ‵ (ShrAt u32 κ·nodes b·nodes o·nodes γ·nodes n·nodes nodes) ∷ Γ) G
-  core t mem run κ·register q·register b·register o·register γ·register n·register register κ·nodes q·nodes b·nodes o·nodes γ·nodes n·nodes nodes x-known x-v span page G after soaks by-call ok·x-known ok·x-v ok·span ok·page need k =
+  core : K → (mem : Memory → SProp 𝓤) (run : Routine → Fun 𝓤) → (κ·register : Lft) (q·register : Share) (b·register o·register : ℕ) (γ·register : GName) (n·register : ℕ) (register : List Record) (κ·nodes : Lft) (q·nodes : Share) (b·nodes o·nodes : ℕ) (γ·nodes : GName) (n·nodes : ℕ) (nodes : List ℕ) (c : ℕ) (span : ℕ) (page : PageIndex) → (G : Goal 𝓤 H) (after : Val → Goal 𝓤 H) → ((v : Val) → Soaks (after v))
+      → (((v : Val) → Seq K W (raw (Asked 𝓤 H A mem run .post (to 𝓤 H A mem run κ·register q·register b·register o·register γ·register n·register register κ·nodes q·nodes b·nodes o·nodes γ·nodes n·nodes nodes c span page) v) ∷ ‵ (ShrAt Record′.row κ·register b·register o·register γ·register n·register register) ∷ ‵ (ShrAt u32 κ·nodes b·nodes o·nodes γ·nodes n·nodes nodes) ∷ Γ) (after v)) → Seq K W (raw (Asked 𝓤 H A mem run .pre (to 𝓤 H A mem run κ·register q·register b·register o·register γ·register n·register register κ·nodes q·nodes b·nodes o·nodes γ·nodes n·nodes nodes c span page)) ∷ ‵ (ShrAt Record′.row κ·register b·register o·register γ·register n·register register) ∷ ‵ (ShrAt u32 κ·nodes b·nodes o·nodes γ·nodes n·nodes nodes) ∷ Γ) G) → Is u64 c (uint-vals w64 c) → Is u64 span (uint-vals w64 span) → Is PageIndex′.row page (PageIndex′.vals page) → find″.req register nodes c span page →
+      ((x·res : ℕ) → Is u64 x·res (uint-vals w64 x·res) → find″.ens register nodes c span page x·res → Seq K W (‵ (flft κ·register q·register) ∷ ‵ (ShrAt Record′.row κ·register b·register o·register γ·register n·register register) ∷ ‵ (flft κ·nodes q·nodes) ∷ ‵ (ShrAt u32 κ·nodes b·nodes o·nodes γ·nodes n·nodes nodes) ∷ Γ) (after (vint w64 x·res))) → Seq K W (‵ (flft κ·register q·register) ∷ ‵ (ShrAt Record′.row κ·register b·register o·register γ·register n·register register) ∷ ‵ (flft κ·nodes q·nodes) ∷ ‵ (ShrAt u32 κ·nodes b·nodes o·nodes γ·nodes n·nodes nodes) ∷ Γ) G
+  core t mem run κ·register q·register b·register o·register γ·register n·register register κ·nodes q·nodes b·nodes o·nodes γ·nodes n·nodes nodes c span page G after soaks by-call ok·c ok·span ok·page need k =
       move t (1 ∷ []) $ keeps-shr t Record′.row κ·register b·register o·register γ·register n·register register $ move t (4 ∷ []) $ keeps-shr t u32 κ·nodes b·nodes o·nodes γ·nodes n·nodes nodes $ move t (4 ∷ 2 ∷ 5 ∷ 0 ∷ 3 ∷ 1 ∷ []) $
-      move t (2 ∷ 3 ∷ []) $ join t $ move t (2 ∷ 0 ∷ []) $ join t $ move t (1 ∷ 0 ∷ []) $ join t $ use1 W (raw (Asked 𝓤 H A mem run .pre (to 𝓤 H A mem run κ·register q·register b·register o·register γ·register n·register register κ·nodes q·nodes b·nodes o·nodes γ·nodes n·nodes nodes x-known x-v span page))) goes $
+      move t (2 ∷ 3 ∷ []) $ join t $ move t (2 ∷ 0 ∷ []) $ join t $ move t (1 ∷ 0 ∷ []) $ join t $ use1 W (raw (Asked 𝓤 H A mem run .pre (to 𝓤 H A mem run κ·register q·register b·register o·register γ·register n·register register κ·nodes q·nodes b·nodes o·nodes γ·nodes n·nodes nodes c span page))) goes $
       by-call (λ v.
-      use1 W (later (some (λ (r· : ℕ). ((‵ (flft κ·register q·register) ⊛ ‵ (flft κ·nodes q·nodes) ⊛ ‵ ftrue) ⊛ ‵ (u64 .own r· (v ∷ []))) ⊛ raw (ensured 𝓤 H A callee.ended (callee.clauses 𝓤 H A mem run) (κ·register, (κ·nodes, tt)) (ref b·register o·register γ·register register, (ref b·nodes o·nodes γ·nodes nodes, (x-known, (x-v, (span, (page, tt)))))) tt r·)))) (id⊢ 𝓤 _) $ await t (soaks v) $ pick t (λ r·. split t $ move t (1 ∷ []) $
-      use1 W (some (λ (ws : Lasts callee.ended (κ·register, (κ·nodes, tt)) (ref b·register o·register γ·register register, (ref b·nodes o·nodes γ·nodes nodes, (x-known, (x-v, (span, (page, tt))))))). ‵ (lasts callee.ended (κ·register, (κ·nodes, tt)) (ref b·register o·register γ·register register, (ref b·nodes o·nodes γ·nodes nodes, (x-known, (x-v, (span, (page, tt)))))) ws) ⊛ raw (fact 𝓤 (find″.ens register nodes x-known x-v span page r·)))) (id⊢ 𝓤 _) $ pick t (λ ws. split t $ move t (1 ∷ []) $
-      heard t (find″.ens register nodes x-known x-v span page r·) (λ e. drop t $ split t $ move t (1 ∷ []) $ facts t u64 (Is u64) (shows 𝓤 H A u64) r· (v ∷ []) (λ is. split t $ move t (1 ∷ []) $ split t $ move t (1 ∷ []) $ drop t $ move t (1 ∷ 2 ∷ 0 ∷ 3 ∷ []) $
+      use1 W (later (some (λ (r· : ℕ). ((‵ (flft κ·register q·register) ⊛ ‵ (flft κ·nodes q·nodes) ⊛ ‵ ftrue) ⊛ ‵ (u64 .own r· (v ∷ []))) ⊛ raw (ensured 𝓤 H A callee.ended (callee.clauses 𝓤 H A mem run) (κ·register, (κ·nodes, tt)) (ref b·register o·register γ·register register, (ref b·nodes o·nodes γ·nodes nodes, (c, (span, (page, tt))))) tt r·)))) (id⊢ 𝓤 _) $ await t (soaks v) $ pick t (λ r·. split t $ move t (1 ∷ []) $
+      use1 W (some (λ (ws : Lasts callee.ended (κ·register, (κ·nodes, tt)) (ref b·register o·register γ·register register, (ref b·nodes o·nodes γ·nodes nodes, (c, (span, (page, tt)))))). ‵ (lasts callee.ended (κ·register, (κ·nodes, tt)) (ref b·register o·register γ·register register, (ref b·nodes o·nodes γ·nodes nodes, (c, (span, (page, tt))))) ws) ⊛ raw (fact 𝓤 (find″.ens register nodes c span page r·)))) (id⊢ 𝓤 _) $ pick t (λ ws. split t $ move t (1 ∷ []) $
+      heard t (find″.ens register nodes c span page r·) (λ e. drop t $ split t $ move t (1 ∷ []) $ facts t u64 (Is u64) (shows 𝓤 H A u64) r· (v ∷ []) (λ is. split t $ move t (1 ∷ []) $ split t $ move t (1 ∷ []) $ drop t $ move t (1 ∷ 2 ∷ 0 ∷ 3 ∷ []) $
       subst (λ (u : Val). Seq K W (‵ (flft κ·register q·register) ∷ ‵ (ShrAt Record′.row κ·register b·register o·register γ·register n·register register) ∷ ‵ (flft κ·nodes q·nodes) ∷ ‵ (ShrAt u32 κ·nodes b·nodes o·nodes γ·nodes n·nodes nodes) ∷ Γ) (after u)) (sym (ap only (uint-tells w64 r· (v ∷ []) is))) (k r· (subst (Is u64 r·) (uint-tells w64 r· (v ∷ []) is) is) e))))))
     where
-      goes : ent 𝓤 (⋆ 𝓤 H A (‵ (flft κ·register q·register) ∷ ‵ (ShrAt Record′.row κ·register b·register o·register γ·register n·register register) ∷ ‵ (flft κ·nodes q·nodes) ∷ ‵ (ShrAt u32 κ·nodes b·nodes o·nodes γ·nodes n·nodes nodes) ∷ [])) (Asked 𝓤 H A mem run .pre (to 𝓤 H A mem run κ·register q·register b·register o·register γ·register n·register register κ·nodes q·nodes b·nodes o·nodes γ·nodes n·nodes nodes x-known x-v span page))
-      goes = qed W (‵ (flft κ·register q·register) ∷ ‵ (ShrAt Record′.row κ·register b·register o·register γ·register n·register register) ∷ ‵ (flft κ·nodes q·nodes) ∷ ‵ (ShrAt u32 κ·nodes b·nodes o·nodes γ·nodes n·nodes nodes) ∷ []) ∵ says ! need $ nothing ! $ move ! (3 ∷ 0 ∷ []) $ join ! $ move ! (1 ∷ 0 ∷ []) $ join ! $ frame ! $ nothing ! $ owned ! PageIndex′.row (Is PageIndex′.row) (PageIndex′.makes 𝓤 H A) page _ ok·page $ fjoin ! $ owned ! u64 (Is u64) (uint-makes 𝓤 H A W w64) span _ ok·span $ fjoin ! $ owned ! Version′.row (Is Version′.row) (Version′.makes 𝓤 H A) x-v _ ok·x-v $ fjoin ! $ owned ! Version′.row (Is Version′.row) (Version′.makes 𝓤 H A) x-known _ ok·x-known $ fjoin ! $ move ! (2 ∷ 0 ∷ []) $ fjoin ! $ move ! (1 ∷ 0 ∷ []) $ fjoin ! $ done !
+      goes : ent 𝓤 (⋆ 𝓤 H A (‵ (flft κ·register q·register) ∷ ‵ (ShrAt Record′.row κ·register b·register o·register γ·register n·register register) ∷ ‵ (flft κ·nodes q·nodes) ∷ ‵ (ShrAt u32 κ·nodes b·nodes o·nodes γ·nodes n·nodes nodes) ∷ [])) (Asked 𝓤 H A mem run .pre (to 𝓤 H A mem run κ·register q·register b·register o·register γ·register n·register register κ·nodes q·nodes b·nodes o·nodes γ·nodes n·nodes nodes c span page))
+      goes = qed W (‵ (flft κ·register q·register) ∷ ‵ (ShrAt Record′.row κ·register b·register o·register γ·register n·register register) ∷ ‵ (flft κ·nodes q·nodes) ∷ ‵ (ShrAt u32 κ·nodes b·nodes o·nodes γ·nodes n·nodes nodes) ∷ []) ∵ says ! need $ nothing ! $ move ! (3 ∷ 0 ∷ []) $ join ! $ move ! (1 ∷ 0 ∷ []) $ join ! $ frame ! $ nothing ! $ owned ! PageIndex′.row (Is PageIndex′.row) (PageIndex′.makes 𝓤 H A) page _ ok·page $ fjoin ! $ owned ! u64 (Is u64) (uint-makes 𝓤 H A W w64) span _ ok·span $ fjoin ! $ owned ! u64 (Is u64) (uint-makes 𝓤 H A W w64) c _ ok·c $ fjoin ! $ move ! (2 ∷ 0 ∷ []) $ fjoin ! $ move ! (1 ∷ 0 ∷ []) $ fjoin ! $ done !
 
 module _ {M : Type 1} {𝓤 : URA M} {H : Heap 𝓤} {A : Atoms 𝓤} {K : Type 0} {W : Given 𝓤 H A} {Γ : List (Item 𝓤)} {E : Env 𝓤 H} {C : Calls 𝓤 H} {Λ : Loops 𝓤 H} {Q : Post 𝓤 H} {xs : List Operand} {d : Place} {rest : Body} where
   -- by one instance of the callee's contract, which is what a function that calls itself has
-  pub calls-by : K → (mem : Memory → SProp 𝓤) (run : Routine → Fun 𝓤) → FmC 𝓤 H (W .laws) C → (κ·register : Lft) (q·register : Share) (b·register o·register : ℕ) (γ·register : GName) (n·register : ℕ) (register : List Record) (κ·nodes : Lft) (q·nodes : Share) (b·nodes o·nodes : ℕ) (γ·nodes : GName) (n·nodes : ℕ) (nodes : List ℕ) (x-known : Version) (x-v : Version) (span : ℕ) (page : PageIndex) → ent 𝓤 (Asked 𝓤 H A mem run .pre (to 𝓤 H A mem run κ·register q·register b·register o·register γ·register n·register register κ·nodes q·nodes b·nodes o·nodes γ·nodes n·nodes nodes x-known x-v span page)) (C #callee (Asked 𝓤 H A mem run .args (to 𝓤 H A mem run κ·register q·register b·register o·register γ·register n·register register κ·nodes q·nodes b·nodes o·nodes γ·nodes n·nodes nodes x-known x-v span page)) (Asked 𝓤 H A mem run .post (to 𝓤 H A mem run κ·register q·register b·register o·register γ·register n·register register κ·nodes q·nodes b·nodes o·nodes γ·nodes n·nodes nodes x-known x-v span page))) → Is Version′.row x-known (Version′.vals x-known) → Is Version′.row x-v (Version′.vals x-v) → Is u64 span (uint-vals w64 span) → Is PageIndex′.row page (PageIndex′.vals page) → find″.req register nodes x-known x-v span page →
-      Opds K W (raw (Asked 𝓤 H A mem run .pre (to 𝓤 H A mem run κ·register q·register b·register o·register γ·register n·register register κ·nodes q·nodes b·nodes o·nodes γ·nodes n·nodes nodes x-known x-v span page)) ∷ ‵ (ShrAt Record′.row κ·register b·register o·register γ·register n·register register) ∷ ‵ (ShrAt u32 κ·nodes b·nodes o·nodes γ·nodes n·nodes nodes) ∷ Γ) E xs (sliceVal (b·register, o·register) n·register ∷ sliceVal (b·nodes, o·nodes) n·nodes ∷ Version′.mach x-known ∷ Version′.mach x-v ∷ vint w64 span ∷ PageIndex′.mach page ∷ [])
-      → ((x·res : ℕ) → Is u64 x·res (uint-vals w64 x·res) → find″.ens register nodes x-known x-v span page x·res → Seq K W (‵ (flft κ·register q·register) ∷ ‵ (ShrAt Record′.row κ·register b·register o·register γ·register n·register register) ∷ ‵ (flft κ·nodes q·nodes) ∷ ‵ (ShrAt u32 κ·nodes b·nodes o·nodes γ·nodes n·nodes nodes) ∷ Γ) (lands C Λ E d (vint w64 x·res) rest Q))
+  pub calls-by : K → (mem : Memory → SProp 𝓤) (run : Routine → Fun 𝓤) → FmC 𝓤 H (W .laws) C → (κ·register : Lft) (q·register : Share) (b·register o·register : ℕ) (γ·register : GName) (n·register : ℕ) (register : List Record) (κ·nodes : Lft) (q·nodes : Share) (b·nodes o·nodes : ℕ) (γ·nodes : GName) (n·nodes : ℕ) (nodes : List ℕ) (c : ℕ) (span : ℕ) (page : PageIndex) → ent 𝓤 (Asked 𝓤 H A mem run .pre (to 𝓤 H A mem run κ·register q·register b·register o·register γ·register n·register register κ·nodes q·nodes b·nodes o·nodes γ·nodes n·nodes nodes c span page)) (C #callee (Asked 𝓤 H A mem run .args (to 𝓤 H A mem run κ·register q·register b·register o·register γ·register n·register register κ·nodes q·nodes b·nodes o·nodes γ·nodes n·nodes nodes c span page)) (Asked 𝓤 H A mem run .post (to 𝓤 H A mem run κ·register q·register b·register o·register γ·register n·register register κ·nodes q·nodes b·nodes o·nodes γ·nodes n·nodes nodes c span page))) → Is u64 c (uint-vals w64 c) → Is u64 span (uint-vals w64 span) → Is PageIndex′.row page (PageIndex′.vals page) → find″.req register nodes c span page →
+      Opds K W (raw (Asked 𝓤 H A mem run .pre (to 𝓤 H A mem run κ·register q·register b·register o·register γ·register n·register register κ·nodes q·nodes b·nodes o·nodes γ·nodes n·nodes nodes c span page)) ∷ ‵ (ShrAt Record′.row κ·register b·register o·register γ·register n·register register) ∷ ‵ (ShrAt u32 κ·nodes b·nodes o·nodes γ·nodes n·nodes nodes) ∷ Γ) E xs (sliceVal (b·register, o·register) n·register ∷ sliceVal (b·nodes, o·nodes) n·nodes ∷ vint w64 c ∷ vint w64 span ∷ PageIndex′.mach page ∷ [])
+      → ((x·res : ℕ) → Is u64 x·res (uint-vals w64 x·res) → find″.ens register nodes c span page x·res → Seq K W (‵ (flft κ·register q·register) ∷ ‵ (ShrAt Record′.row κ·register b·register o·register γ·register n·register register) ∷ ‵ (flft κ·nodes q·nodes) ∷ ‵ (ShrAt u32 κ·nodes b·nodes o·nodes γ·nodes n·nodes nodes) ∷ Γ) (lands C Λ E d (vint w64 x·res) rest Q))
       → Seq K W (‵ (flft κ·register q·register) ∷ ‵ (ShrAt Record′.row κ·register b·register o·register γ·register n·register register) ∷ ‵ (flft κ·nodes q·nodes) ∷ ‵ (ShrAt u32 κ·nodes b·nodes o·nodes γ·nodes n·nodes nodes) ∷ Γ) (runs C Λ E (seq (call #callee xs d) rest) Q)
-  calls-by t mem run fm κ·register q·register b·register o·register γ·register n·register register κ·nodes q·nodes b·nodes o·nodes γ·nodes n·nodes nodes x-known x-v span page known ok·x-known ok·x-v ok·span ok·page need os k =
-      core t mem run κ·register q·register b·register o·register γ·register n·register register κ·nodes q·nodes b·nodes o·nodes γ·nodes n·nodes nodes x-known x-v span page (runs C Λ E (seq (call #callee xs d) rest) Q) (λ v. lands C Λ E d v rest Q) (λ v. tt)
-      (λ h. calls-from t fm (raw (Asked 𝓤 H A mem run .pre (to 𝓤 H A mem run κ·register q·register b·register o·register γ·register n·register register κ·nodes q·nodes b·nodes o·nodes γ·nodes n·nodes nodes x-known x-v span page))) (Asked 𝓤 H A mem run .args (to 𝓤 H A mem run κ·register q·register b·register o·register γ·register n·register register κ·nodes q·nodes b·nodes o·nodes γ·nodes n·nodes nodes x-known x-v span page)) (Asked 𝓤 H A mem run .post (to 𝓤 H A mem run κ·register q·register b·register o·register γ·register n·register register κ·nodes q·nodes b·nodes o·nodes γ·nodes n·nodes nodes x-known x-v span page)) known os h) ok·x-known ok·x-v ok·span ok·page need k
+  calls-by t mem run fm κ·register q·register b·register o·register γ·register n·register register κ·nodes q·nodes b·nodes o·nodes γ·nodes n·nodes nodes c span page known ok·c ok·span ok·page need os k =
+      core t mem run κ·register q·register b·register o·register γ·register n·register register κ·nodes q·nodes b·nodes o·nodes γ·nodes n·nodes nodes c span page (runs C Λ E (seq (call #callee xs d) rest) Q) (λ v. lands C Λ E d v rest Q) (λ v. tt)
+      (λ h. calls-from t fm (raw (Asked 𝓤 H A mem run .pre (to 𝓤 H A mem run κ·register q·register b·register o·register γ·register n·register register κ·nodes q·nodes b·nodes o·nodes γ·nodes n·nodes nodes c span page))) (Asked 𝓤 H A mem run .args (to 𝓤 H A mem run κ·register q·register b·register o·register γ·register n·register register κ·nodes q·nodes b·nodes o·nodes γ·nodes n·nodes nodes c span page)) (Asked 𝓤 H A mem run .post (to 𝓤 H A mem run κ·register q·register b·register o·register γ·register n·register register κ·nodes q·nodes b·nodes o·nodes γ·nodes n·nodes nodes c span page)) known os h) ok·c ok·span ok·page need k
 
-  pub calls : K → (mem : Memory → SProp 𝓤) (run : Routine → Fun 𝓤) → FmC 𝓤 H (W .laws) C → Triple 𝓤 (C #callee) (Asked 𝓤 H A mem run) → (κ·register : Lft) (q·register : Share) (b·register o·register : ℕ) (γ·register : GName) (n·register : ℕ) (register : List Record) (κ·nodes : Lft) (q·nodes : Share) (b·nodes o·nodes : ℕ) (γ·nodes : GName) (n·nodes : ℕ) (nodes : List ℕ) (x-known : Version) (x-v : Version) (span : ℕ) (page : PageIndex) → Is Version′.row x-known (Version′.vals x-known) → Is Version′.row x-v (Version′.vals x-v) → Is u64 span (uint-vals w64 span) → Is PageIndex′.row page (PageIndex′.vals page) → find″.req register nodes x-known x-v span page →
-      Opds K W (raw (Asked 𝓤 H A mem run .pre (to 𝓤 H A mem run κ·register q·register b·register o·register γ·register n·register register κ·nodes q·nodes b·nodes o·nodes γ·nodes n·nodes nodes x-known x-v span page)) ∷ ‵ (ShrAt Record′.row κ·register b·register o·register γ·register n·register register) ∷ ‵ (ShrAt u32 κ·nodes b·nodes o·nodes γ·nodes n·nodes nodes) ∷ Γ) E xs (sliceVal (b·register, o·register) n·register ∷ sliceVal (b·nodes, o·nodes) n·nodes ∷ Version′.mach x-known ∷ Version′.mach x-v ∷ vint w64 span ∷ PageIndex′.mach page ∷ [])
-      → ((x·res : ℕ) → Is u64 x·res (uint-vals w64 x·res) → find″.ens register nodes x-known x-v span page x·res → Seq K W (‵ (flft κ·register q·register) ∷ ‵ (ShrAt Record′.row κ·register b·register o·register γ·register n·register register) ∷ ‵ (flft κ·nodes q·nodes) ∷ ‵ (ShrAt u32 κ·nodes b·nodes o·nodes γ·nodes n·nodes nodes) ∷ Γ) (lands C Λ E d (vint w64 x·res) rest Q))
+  pub calls : K → (mem : Memory → SProp 𝓤) (run : Routine → Fun 𝓤) → FmC 𝓤 H (W .laws) C → Triple 𝓤 (C #callee) (Asked 𝓤 H A mem run) → (κ·register : Lft) (q·register : Share) (b·register o·register : ℕ) (γ·register : GName) (n·register : ℕ) (register : List Record) (κ·nodes : Lft) (q·nodes : Share) (b·nodes o·nodes : ℕ) (γ·nodes : GName) (n·nodes : ℕ) (nodes : List ℕ) (c : ℕ) (span : ℕ) (page : PageIndex) → Is u64 c (uint-vals w64 c) → Is u64 span (uint-vals w64 span) → Is PageIndex′.row page (PageIndex′.vals page) → find″.req register nodes c span page →
+      Opds K W (raw (Asked 𝓤 H A mem run .pre (to 𝓤 H A mem run κ·register q·register b·register o·register γ·register n·register register κ·nodes q·nodes b·nodes o·nodes γ·nodes n·nodes nodes c span page)) ∷ ‵ (ShrAt Record′.row κ·register b·register o·register γ·register n·register register) ∷ ‵ (ShrAt u32 κ·nodes b·nodes o·nodes γ·nodes n·nodes nodes) ∷ Γ) E xs (sliceVal (b·register, o·register) n·register ∷ sliceVal (b·nodes, o·nodes) n·nodes ∷ vint w64 c ∷ vint w64 span ∷ PageIndex′.mach page ∷ [])
+      → ((x·res : ℕ) → Is u64 x·res (uint-vals w64 x·res) → find″.ens register nodes c span page x·res → Seq K W (‵ (flft κ·register q·register) ∷ ‵ (ShrAt Record′.row κ·register b·register o·register γ·register n·register register) ∷ ‵ (flft κ·nodes q·nodes) ∷ ‵ (ShrAt u32 κ·nodes b·nodes o·nodes γ·nodes n·nodes nodes) ∷ Γ) (lands C Λ E d (vint w64 x·res) rest Q))
       → Seq K W (‵ (flft κ·register q·register) ∷ ‵ (ShrAt Record′.row κ·register b·register o·register γ·register n·register register) ∷ ‵ (flft κ·nodes q·nodes) ∷ ‵ (ShrAt u32 κ·nodes b·nodes o·nodes γ·nodes n·nodes nodes) ∷ Γ) (runs C Λ E (seq (call #callee xs d) rest) Q)
-  calls t mem run fm known κ·register q·register b·register o·register γ·register n·register register κ·nodes q·nodes b·nodes o·nodes γ·nodes n·nodes nodes x-known x-v span page = calls-by t mem run fm κ·register q·register b·register o·register γ·register n·register register κ·nodes q·nodes b·nodes o·nodes γ·nodes n·nodes nodes x-known x-v span page (known (to 𝓤 H A mem run κ·register q·register b·register o·register γ·register n·register register κ·nodes q·nodes b·nodes o·nodes γ·nodes n·nodes nodes x-known x-v span page))
+  calls t mem run fm known κ·register q·register b·register o·register γ·register n·register register κ·nodes q·nodes b·nodes o·nodes γ·nodes n·nodes nodes c span page = calls-by t mem run fm κ·register q·register b·register o·register γ·register n·register register κ·nodes q·nodes b·nodes o·nodes γ·nodes n·nodes nodes c span page (known (to 𝓤 H A mem run κ·register q·register b·register o·register γ·register n·register register κ·nodes q·nodes b·nodes o·nodes γ·nodes n·nodes nodes c span page))
 
 module _ {M : Type 1} {𝓤 : URA M} {H : Heap 𝓤} {A : Atoms 𝓤} {K : Type 0} {W : Given 𝓤 H A} {Γ : List (Item 𝓤)} {E : Env 𝓤 H} {C : Calls 𝓤 H} {Λ : Loops 𝓤 H} {Q : Post 𝓤 H} {xs : List Operand} {d : Place} where
   -- by one instance of the callee's contract, which is what a function that calls itself has. The call ends a part of the code
-  pub calls-last-by : K → (mem : Memory → SProp 𝓤) (run : Routine → Fun 𝓤) → FmC 𝓤 H (W .laws) C → (κ·register : Lft) (q·register : Share) (b·register o·register : ℕ) (γ·register : GName) (n·register : ℕ) (register : List Record) (κ·nodes : Lft) (q·nodes : Share) (b·nodes o·nodes : ℕ) (γ·nodes : GName) (n·nodes : ℕ) (nodes : List ℕ) (x-known : Version) (x-v : Version) (span : ℕ) (page : PageIndex) → ent 𝓤 (Asked 𝓤 H A mem run .pre (to 𝓤 H A mem run κ·register q·register b·register o·register γ·register n·register register κ·nodes q·nodes b·nodes o·nodes γ·nodes n·nodes nodes x-known x-v span page)) (C #callee (Asked 𝓤 H A mem run .args (to 𝓤 H A mem run κ·register q·register b·register o·register γ·register n·register register κ·nodes q·nodes b·nodes o·nodes γ·nodes n·nodes nodes x-known x-v span page)) (Asked 𝓤 H A mem run .post (to 𝓤 H A mem run κ·register q·register b·register o·register γ·register n·register register κ·nodes q·nodes b·nodes o·nodes γ·nodes n·nodes nodes x-known x-v span page))) → Is Version′.row x-known (Version′.vals x-known) → Is Version′.row x-v (Version′.vals x-v) → Is u64 span (uint-vals w64 span) → Is PageIndex′.row page (PageIndex′.vals page) → find″.req register nodes x-known x-v span page →
-      Opds K W (raw (Asked 𝓤 H A mem run .pre (to 𝓤 H A mem run κ·register q·register b·register o·register γ·register n·register register κ·nodes q·nodes b·nodes o·nodes γ·nodes n·nodes nodes x-known x-v span page)) ∷ ‵ (ShrAt Record′.row κ·register b·register o·register γ·register n·register register) ∷ ‵ (ShrAt u32 κ·nodes b·nodes o·nodes γ·nodes n·nodes nodes) ∷ Γ) E xs (sliceVal (b·register, o·register) n·register ∷ sliceVal (b·nodes, o·nodes) n·nodes ∷ Version′.mach x-known ∷ Version′.mach x-v ∷ vint w64 span ∷ PageIndex′.mach page ∷ [])
-      → ((x·res : ℕ) → Is u64 x·res (uint-vals w64 x·res) → find″.ens register nodes x-known x-v span page x·res → Seq K W (‵ (flft κ·register q·register) ∷ ‵ (ShrAt Record′.row κ·register b·register o·register γ·register n·register register) ∷ ‵ (flft κ·nodes q·nodes) ∷ ‵ (ShrAt u32 κ·nodes b·nodes o·nodes γ·nodes n·nodes nodes) ∷ Γ) (settles E d (vint w64 x·res) Q))
+  pub calls-last-by : K → (mem : Memory → SProp 𝓤) (run : Routine → Fun 𝓤) → FmC 𝓤 H (W .laws) C → (κ·register : Lft) (q·register : Share) (b·register o·register : ℕ) (γ·register : GName) (n·register : ℕ) (register : List Record) (κ·nodes : Lft) (q·nodes : Share) (b·nodes o·nodes : ℕ) (γ·nodes : GName) (n·nodes : ℕ) (nodes : List ℕ) (c : ℕ) (span : ℕ) (page : PageIndex) → ent 𝓤 (Asked 𝓤 H A mem run .pre (to 𝓤 H A mem run κ·register q·register b·register o·register γ·register n·register register κ·nodes q·nodes b·nodes o·nodes γ·nodes n·nodes nodes c span page)) (C #callee (Asked 𝓤 H A mem run .args (to 𝓤 H A mem run κ·register q·register b·register o·register γ·register n·register register κ·nodes q·nodes b·nodes o·nodes γ·nodes n·nodes nodes c span page)) (Asked 𝓤 H A mem run .post (to 𝓤 H A mem run κ·register q·register b·register o·register γ·register n·register register κ·nodes q·nodes b·nodes o·nodes γ·nodes n·nodes nodes c span page))) → Is u64 c (uint-vals w64 c) → Is u64 span (uint-vals w64 span) → Is PageIndex′.row page (PageIndex′.vals page) → find″.req register nodes c span page →
+      Opds K W (raw (Asked 𝓤 H A mem run .pre (to 𝓤 H A mem run κ·register q·register b·register o·register γ·register n·register register κ·nodes q·nodes b·nodes o·nodes γ·nodes n·nodes nodes c span page)) ∷ ‵ (ShrAt Record′.row κ·register b·register o·register γ·register n·register register) ∷ ‵ (ShrAt u32 κ·nodes b·nodes o·nodes γ·nodes n·nodes nodes) ∷ Γ) E xs (sliceVal (b·register, o·register) n·register ∷ sliceVal (b·nodes, o·nodes) n·nodes ∷ vint w64 c ∷ vint w64 span ∷ PageIndex′.mach page ∷ [])
+      → ((x·res : ℕ) → Is u64 x·res (uint-vals w64 x·res) → find″.ens register nodes c span page x·res → Seq K W (‵ (flft κ·register q·register) ∷ ‵ (ShrAt Record′.row κ·register b·register o·register γ·register n·register register) ∷ ‵ (flft κ·nodes q·nodes) ∷ ‵ (ShrAt u32 κ·nodes b·nodes o·nodes γ·nodes n·nodes nodes) ∷ Γ) (settles E d (vint w64 x·res) Q))
       → Seq K W (‵ (flft κ·register q·register) ∷ ‵ (ShrAt Record′.row κ·register b·register o·register γ·register n·register register) ∷ ‵ (flft κ·nodes q·nodes) ∷ ‵ (ShrAt u32 κ·nodes b·nodes o·nodes γ·nodes n·nodes nodes) ∷ Γ) (runs C Λ E (call #callee xs d) Q)
-  calls-last-by t mem run fm κ·register q·register b·register o·register γ·register n·register register κ·nodes q·nodes b·nodes o·nodes γ·nodes n·nodes nodes x-known x-v span page known ok·x-known ok·x-v ok·span ok·page need os k =
-      core t mem run κ·register q·register b·register o·register γ·register n·register register κ·nodes q·nodes b·nodes o·nodes γ·nodes n·nodes nodes x-known x-v span page (runs C Λ E (call #callee xs d) Q) (λ v. settles E d v Q) (λ v. tt)
-      (λ h. calls-from-last t fm (raw (Asked 𝓤 H A mem run .pre (to 𝓤 H A mem run κ·register q·register b·register o·register γ·register n·register register κ·nodes q·nodes b·nodes o·nodes γ·nodes n·nodes nodes x-known x-v span page))) (Asked 𝓤 H A mem run .args (to 𝓤 H A mem run κ·register q·register b·register o·register γ·register n·register register κ·nodes q·nodes b·nodes o·nodes γ·nodes n·nodes nodes x-known x-v span page)) (Asked 𝓤 H A mem run .post (to 𝓤 H A mem run κ·register q·register b·register o·register γ·register n·register register κ·nodes q·nodes b·nodes o·nodes γ·nodes n·nodes nodes x-known x-v span page)) known os h) ok·x-known ok·x-v ok·span ok·page need k
+  calls-last-by t mem run fm κ·register q·register b·register o·register γ·register n·register register κ·nodes q·nodes b·nodes o·nodes γ·nodes n·nodes nodes c span page known ok·c ok·span ok·page need os k =
+      core t mem run κ·register q·register b·register o·register γ·register n·register register κ·nodes q·nodes b·nodes o·nodes γ·nodes n·nodes nodes c span page (runs C Λ E (call #callee xs d) Q) (λ v. settles E d v Q) (λ v. tt)
+      (λ h. calls-from-last t fm (raw (Asked 𝓤 H A mem run .pre (to 𝓤 H A mem run κ·register q·register b·register o·register γ·register n·register register κ·nodes q·nodes b·nodes o·nodes γ·nodes n·nodes nodes c span page))) (Asked 𝓤 H A mem run .args (to 𝓤 H A mem run κ·register q·register b·register o·register γ·register n·register register κ·nodes q·nodes b·nodes o·nodes γ·nodes n·nodes nodes c span page)) (Asked 𝓤 H A mem run .post (to 𝓤 H A mem run κ·register q·register b·register o·register γ·register n·register register κ·nodes q·nodes b·nodes o·nodes γ·nodes n·nodes nodes c span page)) known os h) ok·c ok·span ok·page need k
 
-  pub calls-last : K → (mem : Memory → SProp 𝓤) (run : Routine → Fun 𝓤) → FmC 𝓤 H (W .laws) C → Triple 𝓤 (C #callee) (Asked 𝓤 H A mem run) → (κ·register : Lft) (q·register : Share) (b·register o·register : ℕ) (γ·register : GName) (n·register : ℕ) (register : List Record) (κ·nodes : Lft) (q·nodes : Share) (b·nodes o·nodes : ℕ) (γ·nodes : GName) (n·nodes : ℕ) (nodes : List ℕ) (x-known : Version) (x-v : Version) (span : ℕ) (page : PageIndex) → Is Version′.row x-known (Version′.vals x-known) → Is Version′.row x-v (Version′.vals x-v) → Is u64 span (uint-vals w64 span) → Is PageIndex′.row page (PageIndex′.vals page) → find″.req register nodes x-known x-v span page →
-      Opds K W (raw (Asked 𝓤 H A mem run .pre (to 𝓤 H A mem run κ·register q·register b·register o·register γ·register n·register register κ·nodes q·nodes b·nodes o·nodes γ·nodes n·nodes nodes x-known x-v span page)) ∷ ‵ (ShrAt Record′.row κ·register b·register o·register γ·register n·register register) ∷ ‵ (ShrAt u32 κ·nodes b·nodes o·nodes γ·nodes n·nodes nodes) ∷ Γ) E xs (sliceVal (b·register, o·register) n·register ∷ sliceVal (b·nodes, o·nodes) n·nodes ∷ Version′.mach x-known ∷ Version′.mach x-v ∷ vint w64 span ∷ PageIndex′.mach page ∷ [])
-      → ((x·res : ℕ) → Is u64 x·res (uint-vals w64 x·res) → find″.ens register nodes x-known x-v span page x·res → Seq K W (‵ (flft κ·register q·register) ∷ ‵ (ShrAt Record′.row κ·register b·register o·register γ·register n·register register) ∷ ‵ (flft κ·nodes q·nodes) ∷ ‵ (ShrAt u32 κ·nodes b·nodes o·nodes γ·nodes n·nodes nodes) ∷ Γ) (settles E d (vint w64 x·res) Q))
+  pub calls-last : K → (mem : Memory → SProp 𝓤) (run : Routine → Fun 𝓤) → FmC 𝓤 H (W .laws) C → Triple 𝓤 (C #callee) (Asked 𝓤 H A mem run) → (κ·register : Lft) (q·register : Share) (b·register o·register : ℕ) (γ·register : GName) (n·register : ℕ) (register : List Record) (κ·nodes : Lft) (q·nodes : Share) (b·nodes o·nodes : ℕ) (γ·nodes : GName) (n·nodes : ℕ) (nodes : List ℕ) (c : ℕ) (span : ℕ) (page : PageIndex) → Is u64 c (uint-vals w64 c) → Is u64 span (uint-vals w64 span) → Is PageIndex′.row page (PageIndex′.vals page) → find″.req register nodes c span page →
+      Opds K W (raw (Asked 𝓤 H A mem run .pre (to 𝓤 H A mem run κ·register q·register b·register o·register γ·register n·register register κ·nodes q·nodes b·nodes o·nodes γ·nodes n·nodes nodes c span page)) ∷ ‵ (ShrAt Record′.row κ·register b·register o·register γ·register n·register register) ∷ ‵ (ShrAt u32 κ·nodes b·nodes o·nodes γ·nodes n·nodes nodes) ∷ Γ) E xs (sliceVal (b·register, o·register) n·register ∷ sliceVal (b·nodes, o·nodes) n·nodes ∷ vint w64 c ∷ vint w64 span ∷ PageIndex′.mach page ∷ [])
+      → ((x·res : ℕ) → Is u64 x·res (uint-vals w64 x·res) → find″.ens register nodes c span page x·res → Seq K W (‵ (flft κ·register q·register) ∷ ‵ (ShrAt Record′.row κ·register b·register o·register γ·register n·register register) ∷ ‵ (flft κ·nodes q·nodes) ∷ ‵ (ShrAt u32 κ·nodes b·nodes o·nodes γ·nodes n·nodes nodes) ∷ Γ) (settles E d (vint w64 x·res) Q))
       → Seq K W (‵ (flft κ·register q·register) ∷ ‵ (ShrAt Record′.row κ·register b·register o·register γ·register n·register register) ∷ ‵ (flft κ·nodes q·nodes) ∷ ‵ (ShrAt u32 κ·nodes b·nodes o·nodes γ·nodes n·nodes nodes) ∷ Γ) (runs C Λ E (call #callee xs d) Q)
-  calls-last t mem run fm known κ·register q·register b·register o·register γ·register n·register register κ·nodes q·nodes b·nodes o·nodes γ·nodes n·nodes nodes x-known x-v span page = calls-last-by t mem run fm κ·register q·register b·register o·register γ·register n·register register κ·nodes q·nodes b·nodes o·nodes γ·nodes n·nodes nodes x-known x-v span page (known (to 𝓤 H A mem run κ·register q·register b·register o·register γ·register n·register register κ·nodes q·nodes b·nodes o·nodes γ·nodes n·nodes nodes x-known x-v span page))
+  calls-last t mem run fm known κ·register q·register b·register o·register γ·register n·register register κ·nodes q·nodes b·nodes o·nodes γ·nodes n·nodes nodes c span page = calls-last-by t mem run fm κ·register q·register b·register o·register γ·register n·register register κ·nodes q·nodes b·nodes o·nodes γ·nodes n·nodes nodes c span page (known (to 𝓤 H A mem run κ·register q·register b·register o·register γ·register n·register register κ·nodes q·nodes b·nodes o·nodes γ·nodes n·nodes nodes c span page))

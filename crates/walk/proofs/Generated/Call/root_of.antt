@@ -32,12 +32,8 @@ use denote.Triple.Clauses.{Lasts, ensured, lasts}
 use denote.Triple.Spec.{tripleOf}
 use denote.Triple.Walked.{says}
 use Rattle.walk.proofs.Generated.Say.root_of as root-of″
-use Rattle.register.specs.declared.Record.{Record}
-use Rattle.register.proofs.Generated.Kind.Record as Record′
-use Rattle.tree.specs.declared.Version.{Version}
-use Rattle.register.proofs.Generated.Kind.Version as Version′
-use Rattle.tree.specs.declared.Ticket.{Ticket}
-use Rattle.register.proofs.Generated.Kind.Ticket as Ticket′
+use Rattle.register.specs.declared.Part.{Part}
+use Rattle.register.proofs.Generated.Kind.Part as Part′
 use Rattle.tree.specs.declared.PageIndex.{PageIndex}
 use Rattle.register.proofs.Generated.Kind.PageIndex as PageIndex′
 use Rattle.register.proofs.Generated.Flow.{ref, MutAt, ShrAt, keeps-shr, plus-nothing}
@@ -48,13 +44,13 @@ module _ {M : Type 1} (𝓤 : URA M) (H : Heap 𝓤) (A : Atoms 𝓤) (mem : Mem
   abbrev pub Asked : Contract 𝓤
   Asked = tripleOf 𝓤 H A callee.signature (callee.spec 𝓤 H A mem run)
 
-  abbrev pub to : (q : Record) → Asked .Ghost
-  to q = ((tt, tt, tt, (q, tt), (Record′.mach q ∷ [], tt)), tt)
+  abbrev pub to : (q : Part) → Asked .Ghost
+  to q = ((tt, tt, tt, (q, tt), (Part′.mach q ∷ [], tt)), tt)
 
 module _ {M : Type 1} {𝓤 : URA M} {H : Heap 𝓤} {A : Atoms 𝓤} {K : Type 0} {W : Given 𝓤 H A} {Γ : List (Item 𝓤)} where
   -- the call itself is made by `by-call`, from what the callee asks to what it has ensured
-  core : K → (mem : Memory → SProp 𝓤) (run : Routine → Fun 𝓤) → (q : Record) → (G : Goal 𝓤 H) (after : Val → Goal 𝓤 H) → ((v : Val) → Soaks (after v))
-      → (((v : Val) → Seq K W (raw (Asked 𝓤 H A mem run .post (to 𝓤 H A mem run q) v) ∷ Γ) (after v)) → Seq K W (raw (Asked 𝓤 H A mem run .pre (to 𝓤 H A mem run q)) ∷ Γ) G) → Is Record′.row q (Record′.vals q) →
+  core : K → (mem : Memory → SProp 𝓤) (run : Routine → Fun 𝓤) → (q : Part) → (G : Goal 𝓤 H) (after : Val → Goal 𝓤 H) → ((v : Val) → Soaks (after v))
+      → (((v : Val) → Seq K W (raw (Asked 𝓤 H A mem run .post (to 𝓤 H A mem run q) v) ∷ Γ) (after v)) → Seq K W (raw (Asked 𝓤 H A mem run .pre (to 𝓤 H A mem run q)) ∷ Γ) G) → Is Part′.row q (Part′.vals q) →
       (Is u64 (root-of″.res q) (uint-vals w64 (root-of″.res q)) → Seq K W (Γ) (after (vint w64 (root-of″.res q)))) → Seq K W (Γ) G
   core t mem run q G after soaks by-call ok·q k =
       use0 W (raw (Asked 𝓤 H A mem run .pre (to 𝓤 H A mem run q))) goes $
@@ -65,36 +61,36 @@ module _ {M : Type 1} {𝓤 : URA M} {H : Heap 𝓤} {A : Atoms 𝓤} {K : Type 
       subst (λ (u : Val). Seq K W (Γ) (after u)) (sym (ap only (uint-tells w64 r· (v ∷ []) is) ∙ ap (λ (z : ℕ). vint w64 z) (e))) (k (subst (λ (z : ℕ). Is u64 z (uint-vals w64 z)) (e) (subst (Is u64 r·) (uint-tells w64 r· (v ∷ []) is) is))))))))
     where
       goes : ent 𝓤 (⋆ 𝓤 H A ([])) (Asked 𝓤 H A mem run .pre (to 𝓤 H A mem run q))
-      goes = qed W ([]) ∵ plus-nothing ! $ nothing ! $ frame ! $ nothing ! $ owned ! Record′.row (Is Record′.row) (Record′.makes 𝓤 H A) q _ ok·q $ fjoin ! $ done !
+      goes = qed W ([]) ∵ plus-nothing ! $ nothing ! $ frame ! $ nothing ! $ owned ! Part′.row (Is Part′.row) (Part′.makes 𝓤 H A) q _ ok·q $ fjoin ! $ done !
 
 module _ {M : Type 1} {𝓤 : URA M} {H : Heap 𝓤} {A : Atoms 𝓤} {K : Type 0} {W : Given 𝓤 H A} {Γ : List (Item 𝓤)} {E : Env 𝓤 H} {C : Calls 𝓤 H} {Λ : Loops 𝓤 H} {Q : Post 𝓤 H} {xs : List Operand} {d : Place} {rest : Body} where
   -- by one instance of the callee's contract, which is what a function that calls itself has
-  pub calls-by : K → (mem : Memory → SProp 𝓤) (run : Routine → Fun 𝓤) → FmC 𝓤 H (W .laws) C → (q : Record) → ent 𝓤 (Asked 𝓤 H A mem run .pre (to 𝓤 H A mem run q)) (C #callee (Asked 𝓤 H A mem run .args (to 𝓤 H A mem run q)) (Asked 𝓤 H A mem run .post (to 𝓤 H A mem run q))) → Is Record′.row q (Record′.vals q) →
-      Opds K W (raw (Asked 𝓤 H A mem run .pre (to 𝓤 H A mem run q)) ∷ Γ) E xs (Record′.mach q ∷ [])
+  pub calls-by : K → (mem : Memory → SProp 𝓤) (run : Routine → Fun 𝓤) → FmC 𝓤 H (W .laws) C → (q : Part) → ent 𝓤 (Asked 𝓤 H A mem run .pre (to 𝓤 H A mem run q)) (C #callee (Asked 𝓤 H A mem run .args (to 𝓤 H A mem run q)) (Asked 𝓤 H A mem run .post (to 𝓤 H A mem run q))) → Is Part′.row q (Part′.vals q) →
+      Opds K W (raw (Asked 𝓤 H A mem run .pre (to 𝓤 H A mem run q)) ∷ Γ) E xs (Part′.mach q ∷ [])
       → (Is u64 (root-of″.res q) (uint-vals w64 (root-of″.res q)) → Seq K W (Γ) (lands C Λ E d (vint w64 (root-of″.res q)) rest Q))
       → Seq K W (Γ) (runs C Λ E (seq (call #callee xs d) rest) Q)
   calls-by t mem run fm q known ok·q os k =
       core t mem run q (runs C Λ E (seq (call #callee xs d) rest) Q) (λ v. lands C Λ E d v rest Q) (λ v. tt)
       (λ h. calls-from t fm (raw (Asked 𝓤 H A mem run .pre (to 𝓤 H A mem run q))) (Asked 𝓤 H A mem run .args (to 𝓤 H A mem run q)) (Asked 𝓤 H A mem run .post (to 𝓤 H A mem run q)) known os h) ok·q k
 
-  pub calls : K → (mem : Memory → SProp 𝓤) (run : Routine → Fun 𝓤) → FmC 𝓤 H (W .laws) C → Triple 𝓤 (C #callee) (Asked 𝓤 H A mem run) → (q : Record) → Is Record′.row q (Record′.vals q) →
-      Opds K W (raw (Asked 𝓤 H A mem run .pre (to 𝓤 H A mem run q)) ∷ Γ) E xs (Record′.mach q ∷ [])
+  pub calls : K → (mem : Memory → SProp 𝓤) (run : Routine → Fun 𝓤) → FmC 𝓤 H (W .laws) C → Triple 𝓤 (C #callee) (Asked 𝓤 H A mem run) → (q : Part) → Is Part′.row q (Part′.vals q) →
+      Opds K W (raw (Asked 𝓤 H A mem run .pre (to 𝓤 H A mem run q)) ∷ Γ) E xs (Part′.mach q ∷ [])
       → (Is u64 (root-of″.res q) (uint-vals w64 (root-of″.res q)) → Seq K W (Γ) (lands C Λ E d (vint w64 (root-of″.res q)) rest Q))
       → Seq K W (Γ) (runs C Λ E (seq (call #callee xs d) rest) Q)
   calls t mem run fm known q = calls-by t mem run fm q (known (to 𝓤 H A mem run q))
 
 module _ {M : Type 1} {𝓤 : URA M} {H : Heap 𝓤} {A : Atoms 𝓤} {K : Type 0} {W : Given 𝓤 H A} {Γ : List (Item 𝓤)} {E : Env 𝓤 H} {C : Calls 𝓤 H} {Λ : Loops 𝓤 H} {Q : Post 𝓤 H} {xs : List Operand} {d : Place} where
   -- by one instance of the callee's contract, which is what a function that calls itself has. The call ends a part of the code
-  pub calls-last-by : K → (mem : Memory → SProp 𝓤) (run : Routine → Fun 𝓤) → FmC 𝓤 H (W .laws) C → (q : Record) → ent 𝓤 (Asked 𝓤 H A mem run .pre (to 𝓤 H A mem run q)) (C #callee (Asked 𝓤 H A mem run .args (to 𝓤 H A mem run q)) (Asked 𝓤 H A mem run .post (to 𝓤 H A mem run q))) → Is Record′.row q (Record′.vals q) →
-      Opds K W (raw (Asked 𝓤 H A mem run .pre (to 𝓤 H A mem run q)) ∷ Γ) E xs (Record′.mach q ∷ [])
+  pub calls-last-by : K → (mem : Memory → SProp 𝓤) (run : Routine → Fun 𝓤) → FmC 𝓤 H (W .laws) C → (q : Part) → ent 𝓤 (Asked 𝓤 H A mem run .pre (to 𝓤 H A mem run q)) (C #callee (Asked 𝓤 H A mem run .args (to 𝓤 H A mem run q)) (Asked 𝓤 H A mem run .post (to 𝓤 H A mem run q))) → Is Part′.row q (Part′.vals q) →
+      Opds K W (raw (Asked 𝓤 H A mem run .pre (to 𝓤 H A mem run q)) ∷ Γ) E xs (Part′.mach q ∷ [])
       → (Is u64 (root-of″.res q) (uint-vals w64 (root-of″.res q)) → Seq K W (Γ) (settles E d (vint w64 (root-of″.res q)) Q))
       → Seq K W (Γ) (runs C Λ E (call #callee xs d) Q)
   calls-last-by t mem run fm q known ok·q os k =
       core t mem run q (runs C Λ E (call #callee xs d) Q) (λ v. settles E d v Q) (λ v. tt)
       (λ h. calls-from-last t fm (raw (Asked 𝓤 H A mem run .pre (to 𝓤 H A mem run q))) (Asked 𝓤 H A mem run .args (to 𝓤 H A mem run q)) (Asked 𝓤 H A mem run .post (to 𝓤 H A mem run q)) known os h) ok·q k
 
-  pub calls-last : K → (mem : Memory → SProp 𝓤) (run : Routine → Fun 𝓤) → FmC 𝓤 H (W .laws) C → Triple 𝓤 (C #callee) (Asked 𝓤 H A mem run) → (q : Record) → Is Record′.row q (Record′.vals q) →
-      Opds K W (raw (Asked 𝓤 H A mem run .pre (to 𝓤 H A mem run q)) ∷ Γ) E xs (Record′.mach q ∷ [])
+  pub calls-last : K → (mem : Memory → SProp 𝓤) (run : Routine → Fun 𝓤) → FmC 𝓤 H (W .laws) C → Triple 𝓤 (C #callee) (Asked 𝓤 H A mem run) → (q : Part) → Is Part′.row q (Part′.vals q) →
+      Opds K W (raw (Asked 𝓤 H A mem run .pre (to 𝓤 H A mem run q)) ∷ Γ) E xs (Part′.mach q ∷ [])
       → (Is u64 (root-of″.res q) (uint-vals w64 (root-of″.res q)) → Seq K W (Γ) (settles E d (vint w64 (root-of″.res q)) Q))
       → Seq K W (Γ) (runs C Λ E (call #callee xs d) Q)
   calls-last t mem run fm known q = calls-last-by t mem run fm q (known (to 𝓤 H A mem run q))

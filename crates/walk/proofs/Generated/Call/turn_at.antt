@@ -38,8 +38,6 @@ use Rattle.tree.specs.declared.PageIndex.{PageIndex}
 use Rattle.register.proofs.Generated.Kind.PageIndex as PageIndex′
 use Rattle.walk.specs.declared.Turn.{Turn}
 use Rattle.walk.proofs.Generated.Kind.Turn as Turn′
-use Rattle.tree.specs.declared.Version.{Version}
-use Rattle.register.proofs.Generated.Kind.Version as Version′
 use Rattle.register.proofs.Generated.Flow.{ref, MutAt, ShrAt, keeps-shr, plus-nothing}
 use Rattle.walk.proofs.turn_at as callee
 use Rattle.walk.proofs.turn_at.Symbol.{name as #callee}

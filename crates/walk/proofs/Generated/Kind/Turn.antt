@@ -20,8 +20,6 @@ use denote.Laws.{Is, Tells, Copy, Makes}
 use denote.Plain.{uint-vals, bool-vals, nothing-vals}
 use denote.Builtin.{u8, u16, u32, u64, bool, unit}
 use denote.Enum.Laws as LL
-use Rattle.register.proofs.Generated.Kind.Version as Version′
-use Rattle.tree.specs.declared.Version.{Version}
 use Rattle.walk.specs.declared.Turn.{Turn}
 use Rattle.walk.proofs.Turn as T′
 use Rattle.walk.proofs.Turn.Laws as T″
@@ -59,7 +57,7 @@ none = Turn.Leaf 0
 
 -- by cases on a value, within a walk
 module _ {M : Type 1} {𝓤 : URA M} {H : Heap 𝓤} {A : Atoms 𝓤} {K : Type 0} {W : Given 𝓤 H A} {Γ : List (Item 𝓤)} {G : Goal 𝓤 H} where
-  pub cases : K → (d : Turn) → ((y0 : ℕ) → d ≡ Turn.Leaf y0 → Seq K W Γ G) → ((y0 : Version) → (y1 : ℕ) → d ≡ Turn.Down y0 y1 → Seq K W Γ G) → (d ≡ Turn.Lost → Seq K W Γ G) → Seq K W Γ G
+  pub cases : K → (d : Turn) → ((y0 : ℕ) → d ≡ Turn.Leaf y0 → Seq K W Γ G) → ((y0 : ℕ) → (y1 : ℕ) → d ≡ Turn.Down y0 y1 → Seq K W Γ G) → (d ≡ Turn.Lost → Seq K W Γ G) → Seq K W Γ G
   cases t (Turn.Leaf y0) k0 k1 k2 = k0 y0 refl
   cases t (Turn.Down y0 y1) k0 k1 k2 = k1 y0 y1 refl
   cases t (Turn.Lost) k0 k1 k2 = k2 refl
@@ -70,13 +68,13 @@ make-Leaf y0 g0 = LL.owes T′.the-type T″.the-laws (Turn.Leaf y0) (g0, tt)
 pub ok-Leaf-0 : (y0 : ℕ) → Ok (Turn.Leaf y0) → Is u64 y0 (uint-vals w64 y0)
 ok-Leaf-0 y0 g = LL.owed T′.the-type T″.the-laws (Turn.Leaf y0) _ g .0
 
-pub make-Down : (y0 : Version) → (y1 : ℕ) → Is Version′.row y0 (Version′.vals y0) → Is u64 y1 (uint-vals w64 y1) → Ok (Turn.Down y0 y1)
+pub make-Down : (y0 : ℕ) → (y1 : ℕ) → Is u64 y0 (uint-vals w64 y0) → Is u64 y1 (uint-vals w64 y1) → Ok (Turn.Down y0 y1)
 make-Down y0 y1 g0 g1 = LL.owes T′.the-type T″.the-laws (Turn.Down y0 y1) (g0, (g1, tt))
 
-pub ok-Down-0 : (y0 : Version) → (y1 : ℕ) → Ok (Turn.Down y0 y1) → Is Version′.row y0 (Version′.vals y0)
+pub ok-Down-0 : (y0 : ℕ) → (y1 : ℕ) → Ok (Turn.Down y0 y1) → Is u64 y0 (uint-vals w64 y0)
 ok-Down-0 y0 y1 g = LL.owed T′.the-type T″.the-laws (Turn.Down y0 y1) _ g .0
 
-pub ok-Down-1 : (y0 : Version) → (y1 : ℕ) → Ok (Turn.Down y0 y1) → Is u64 y1 (uint-vals w64 y1)
+pub ok-Down-1 : (y0 : ℕ) → (y1 : ℕ) → Ok (Turn.Down y0 y1) → Is u64 y1 (uint-vals w64 y1)
 ok-Down-1 y0 y1 g = LL.owed T′.the-type T″.the-laws (Turn.Down y0 y1) _ g .1 .0
 
 pub make-Lost : Ok Turn.Lost

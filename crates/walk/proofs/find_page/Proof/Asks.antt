@@ -12,44 +12,39 @@ use Rattle.tree.specs.declared.Found.{Found}
 use Rattle.walk.proofs.Generated.Kind.Found as Found′
 use Rattle.tree.specs.declared.Version.{Version}
 use Rattle.register.proofs.Generated.Kind.Version as Version′
-use Rattle.versions.specs.declared.Store.{Store}
-use Rattle.versions.proofs.Generated.Kind.Store as Store′
-use Rattle.tree.specs.declared.Ticket.{Ticket}
-use Rattle.register.proofs.Generated.Kind.Ticket as Ticket′
 use Rattle.register.specs.declared.Record.{Record}
 use Rattle.register.proofs.Generated.Kind.Record as Record′
+use Rattle.tree.specs.declared.Ticket.{Ticket}
+use Rattle.register.proofs.Generated.Kind.Ticket as Ticket′
 use Rattle.tree.specs.declared.PageIndex.{PageIndex}
 use Rattle.register.proofs.Generated.Kind.PageIndex as PageIndex′
+use Rattle.lines.specs.declared.Entries.{Entries}
+use Rattle.register.proofs.Generated.Kind.Entries as Entries′
+use Rattle.register.specs.declared.Part.{Part}
+use Rattle.register.proofs.Generated.Kind.Part as Part′
 use Rattle.walk.proofs.Generated.Say.find_page as find-page″
-use Rattle.register.proofs.Generated.Say.version_record as version-record″
-use Rattle.walk.proofs.Generated.Say.smaller as smaller″
+use Rattle.register.proofs.Generated.Say.version_part as version-part″
 use Rattle.walk.proofs.Generated.Say.root_of as root-of″
 use Rattle.walk.proofs.Generated.Say.find as find″
 use Rattle.walk.proofs.Generated.Say.found_in as found-in″
 
-abbrev pub r1 : Store → List ℕ → List Record → Version → PageIndex → Record
-r1 s nodes register x-v page = version-record″.res register x-v
+abbrev pub r1 : List ℕ → List Record → ℕ → PageIndex → Part
+r1 nodes register c page = version-part″.res register c
 
-abbrev pub r2 : Store → List ℕ → List Record → Version → PageIndex → ℕ
-r2 s nodes register x-v page = smaller″.res (s .assigned .0) 4096
+abbrev pub r2 : List ℕ → List Record → ℕ → PageIndex → ℕ
+r2 nodes register c page = root-of″.res (r1 nodes register c page)
 
-abbrev pub r3 : Store → List ℕ → List Record → Version → PageIndex → ℕ
-r3 s nodes register x-v page = smaller″.res (r2 s nodes register x-v page) (length register)
+abbrev pub r4 : List ℕ → List Record → ℕ → PageIndex → ℕ → Found
+r4 nodes register c page r3 = found-in″.res r3
 
-abbrev pub r4 : Store → List ℕ → List Record → Version → PageIndex → ℕ
-r4 s nodes register x-v page = root-of″.res (r1 s nodes register x-v page)
-
-abbrev pub r6 : Store → List ℕ → List Record → Version → PageIndex → ℕ → Found
-r6 s nodes register x-v page r5 = found-in″.res r5
-
--- `find` asks: (known .0 ≤ length register) × Spanned span × (known .0 ≤ 4096)
+-- `find` asks: Spanned span
 abbrev pub find-1 : Type 0
 find-1 =
-    (s : Store) (nodes : List ℕ) (register : List Record) (x-v : Version) (page : PageIndex) (ok-s : Store′.Ok s) (len-nodes : length nodes < 2 ^ 64) (len-register : length register < 2 ^ 64) (ok-x-v : Version′.Ok x-v) (ok-page : PageIndex′.Ok page) (ok-r1 : Record′.Ok (r1 s nodes register x-v page)) (fits-r2 : (r2 s nodes register x-v page) < 2 ^ 64) (fits-r3 : (r3 s nodes register x-v page) < 2 ^ 64) (fits-r4 : (r4 s nodes register x-v page) < 2 ^ 64)
-    → find″.req register nodes (Version′.build (r3 s nodes register x-v page)) x-v (r4 s nodes register x-v page) page
+    (nodes : List ℕ) (register : List Record) (c : ℕ) (page : PageIndex) (len-nodes : length nodes < 2 ^ 64) (len-register : length register < 2 ^ 64) (fits-c : c < 2 ^ 64) (ok-page : PageIndex′.Ok page) (ok-r1 : Part′.Ok (r1 nodes register c page)) (fits-r2 : (r2 nodes register c page) < 2 ^ 64)
+    → find″.req register nodes c (r2 nodes register c page) page
 
--- the function ensures: r ≡ findPage s (areasOf [] nodes register) (v .0) (page .0)
+-- the function ensures: r ≡ findPage (areasOf [] nodes register) c (page .0)
 abbrev pub exit-1 : Type 0
 exit-1 =
-    (s : Store) (nodes : List ℕ) (register : List Record) (x-v : Version) (page : PageIndex) (ok-s : Store′.Ok s) (len-nodes : length nodes < 2 ^ 64) (len-register : length register < 2 ^ 64) (ok-x-v : Version′.Ok x-v) (ok-page : PageIndex′.Ok page) (ok-r1 : Record′.Ok (r1 s nodes register x-v page)) (fits-r2 : (r2 s nodes register x-v page) < 2 ^ 64) (fits-r3 : (r3 s nodes register x-v page) < 2 ^ 64) (fits-r4 : (r4 s nodes register x-v page) < 2 ^ 64) (r5 : ℕ) (fits-r5 : r5 < 2 ^ 64) (says5 : find″.ens register nodes (Version′.build (r3 s nodes register x-v page)) x-v (r4 s nodes register x-v page) page r5) (ok-r6 : Found′.Ok (r6 s nodes register x-v page r5))
-    → find-page″.ens s nodes register x-v page (r6 s nodes register x-v page r5)
+    (nodes : List ℕ) (register : List Record) (c : ℕ) (page : PageIndex) (len-nodes : length nodes < 2 ^ 64) (len-register : length register < 2 ^ 64) (fits-c : c < 2 ^ 64) (ok-page : PageIndex′.Ok page) (ok-r1 : Part′.Ok (r1 nodes register c page)) (fits-r2 : (r2 nodes register c page) < 2 ^ 64) (r3 : ℕ) (fits-r3 : r3 < 2 ^ 64) (says3 : find″.ens register nodes c (r2 nodes register c page) page r3) (ok-r4 : Found′.Ok (r4 nodes register c page r3))
+    → find-page″.ens nodes register c page (r4 nodes register c page r3)

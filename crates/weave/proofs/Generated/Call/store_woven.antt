@@ -32,12 +32,8 @@ use denote.Triple.Clauses.{Lasts, ensured, lasts}
 use denote.Triple.Spec.{tripleOf}
 use denote.Triple.Walked.{says}
 use Rattle.weave.proofs.Generated.Say.store_woven as store-woven″
-use Rattle.register.specs.declared.Record.{Record}
-use Rattle.register.proofs.Generated.Kind.Record as Record′
-use Rattle.tree.specs.declared.Version.{Version}
-use Rattle.register.proofs.Generated.Kind.Version as Version′
-use Rattle.tree.specs.declared.Ticket.{Ticket}
-use Rattle.register.proofs.Generated.Kind.Ticket as Ticket′
+use Rattle.register.specs.declared.Part.{Part}
+use Rattle.register.proofs.Generated.Kind.Part as Part′
 use Rattle.tree.specs.declared.PageIndex.{PageIndex}
 use Rattle.register.proofs.Generated.Kind.PageIndex as PageIndex′
 use Rattle.weave.specs.declared.WovenNode.{WovenNode}
@@ -50,13 +46,13 @@ module _ {M : Type 1} (𝓤 : URA M) (H : Heap 𝓤) (A : Atoms 𝓤) (mem : Mem
   abbrev pub Asked : Contract 𝓤
   Asked = tripleOf 𝓤 H A callee.signature (callee.spec 𝓤 H A mem run)
 
-  abbrev pub to : (κ·nodes : Lft) (q·nodes : Share) (b·nodes o·nodes : ℕ) (γ·nodes : GName) (n·nodes : ℕ) (nodes : List ℕ) (x-k : ℕ) (q : Record) (x : WovenNode) → Asked .Ghost
-  to κ·nodes q·nodes b·nodes o·nodes γ·nodes n·nodes nodes x-k q x = (((κ·nodes, tt), (q·nodes, tt), tt, (ref b·nodes o·nodes γ·nodes nodes, (x-k, (q, (x, tt)))), (sliceVal (b·nodes, o·nodes) n·nodes ∷ [], (vint w64 x-k ∷ [], (Record′.mach q ∷ [], (WovenNode′.mach x ∷ [], tt))))), tt)
+  abbrev pub to : (κ·nodes : Lft) (q·nodes : Share) (b·nodes o·nodes : ℕ) (γ·nodes : GName) (n·nodes : ℕ) (nodes : List ℕ) (x-k : ℕ) (q : Part) (x : WovenNode) → Asked .Ghost
+  to κ·nodes q·nodes b·nodes o·nodes γ·nodes n·nodes nodes x-k q x = (((κ·nodes, tt), (q·nodes, tt), tt, (ref b·nodes o·nodes γ·nodes nodes, (x-k, (q, (x, tt)))), (sliceVal (b·nodes, o·nodes) n·nodes ∷ [], (vint w64 x-k ∷ [], (Part′.mach q ∷ [], (WovenNode′.mach x ∷ [], tt))))), tt)
 
 module _ {M : Type 1} {𝓤 : URA M} {H : Heap 𝓤} {A : Atoms 𝓤} {K : Type 0} {W : Given 𝓤 H A} {Γ : List (Item 𝓤)} where
   -- the call itself is made by `by-call`, from what the callee asks to what it has ensured
-  core : K → (mem : Memory → SProp 𝓤) (run : Routine → Fun 𝓤) → (κ·nodes : Lft) (q·nodes : Share) (b·nodes o·nodes : ℕ) (γ·nodes : GName) (n·nodes : ℕ) (nodes : List ℕ) (x-k : ℕ) (q : Record) (x : WovenNode) → (G : Goal 𝓤 H) (after : Val → Goal 𝓤 H) → ((v : Val) → Soaks (after v))
-      → (((v : Val) → Seq K W (raw (Asked 𝓤 H A mem run .post (to 𝓤 H A mem run κ·nodes q·nodes b·nodes o·nodes γ·nodes n·nodes nodes x-k q x) v) ∷ Γ) (after v)) → Seq K W (raw (Asked 𝓤 H A mem run .pre (to 𝓤 H A mem run κ·nodes q·nodes b·nodes o·nodes γ·nodes n·nodes nodes x-k q x)) ∷ Γ) G) → Is u64 x-k (uint-vals w64 x-k) → Is Record′.row q (Record′.vals q) → Is WovenNode′.row x (WovenNode′.vals x) → store-woven″.req nodes x-k q x →
+  core : K → (mem : Memory → SProp 𝓤) (run : Routine → Fun 𝓤) → (κ·nodes : Lft) (q·nodes : Share) (b·nodes o·nodes : ℕ) (γ·nodes : GName) (n·nodes : ℕ) (nodes : List ℕ) (x-k : ℕ) (q : Part) (x : WovenNode) → (G : Goal 𝓤 H) (after : Val → Goal 𝓤 H) → ((v : Val) → Soaks (after v))
+      → (((v : Val) → Seq K W (raw (Asked 𝓤 H A mem run .post (to 𝓤 H A mem run κ·nodes q·nodes b·nodes o·nodes γ·nodes n·nodes nodes x-k q x) v) ∷ Γ) (after v)) → Seq K W (raw (Asked 𝓤 H A mem run .pre (to 𝓤 H A mem run κ·nodes q·nodes b·nodes o·nodes γ·nodes n·nodes nodes x-k q x)) ∷ Γ) G) → Is u64 x-k (uint-vals w64 x-k) → Is Part′.row q (Part′.vals q) → Is WovenNode′.row x (WovenNode′.vals x) → store-woven″.req nodes x-k q x →
       (length (store-woven″.out-nodes nodes x-k q x) ≡ length nodes → Seq K W (‵ (flft κ·nodes q·nodes) ∷ ‵ (finally u32 γ·nodes (store-woven″.out-nodes nodes x-k q x)) ∷ Γ) (after (vunit))) → Seq K W (‵ (flft κ·nodes q·nodes) ∷ ‵ (MutAt u32 κ·nodes b·nodes o·nodes γ·nodes n·nodes nodes) ∷ Γ) G
   core t mem run κ·nodes q·nodes b·nodes o·nodes γ·nodes n·nodes nodes x-k q x G after soaks by-call ok·x-k ok·q ok·x need k =
       join t $ use1 W (raw (Asked 𝓤 H A mem run .pre (to 𝓤 H A mem run κ·nodes q·nodes b·nodes o·nodes γ·nodes n·nodes nodes x-k q x))) goes $
@@ -67,36 +63,36 @@ module _ {M : Type 1} {𝓤 : URA M} {H : Heap 𝓤} {A : Atoms 𝓤} {K : Type 
       rewrite t 1 (λ (zs : List ℕ). ‵ (finally u32 γ·nodes zs)) (e) refl $ subst (λ (u : Val). Seq K W (‵ (flft κ·nodes q·nodes) ∷ ‵ (finally u32 γ·nodes (store-woven″.out-nodes nodes x-k q x)) ∷ Γ) (after u)) (sym (ap only (nothing-tells r· (v ∷ []) is))) (k (subst (λ (zs : List ℕ). length zs ≡ length nodes) (e) same·nodes))))))))
     where
       goes : ent 𝓤 (⋆ 𝓤 H A (‵ (flft κ·nodes q·nodes) ∷ ‵ (MutAt u32 κ·nodes b·nodes o·nodes γ·nodes n·nodes nodes) ∷ [])) (Asked 𝓤 H A mem run .pre (to 𝓤 H A mem run κ·nodes q·nodes b·nodes o·nodes γ·nodes n·nodes nodes x-k q x))
-      goes = qed W (‵ (flft κ·nodes q·nodes) ∷ ‵ (MutAt u32 κ·nodes b·nodes o·nodes γ·nodes n·nodes nodes) ∷ []) ∵ says ! need $ nothing ! $ move ! (1 ∷ 0 ∷ []) $ join ! $ frame ! $ nothing ! $ owned ! WovenNode′.row (Is WovenNode′.row) (WovenNode′.makes 𝓤 H A) x _ ok·x $ fjoin ! $ owned ! Record′.row (Is Record′.row) (Record′.makes 𝓤 H A) q _ ok·q $ fjoin ! $ owned ! u64 (Is u64) (uint-makes 𝓤 H A W w64) x-k _ ok·x-k $ fjoin ! $ move ! (1 ∷ 0 ∷ []) $ fjoin ! $ done !
+      goes = qed W (‵ (flft κ·nodes q·nodes) ∷ ‵ (MutAt u32 κ·nodes b·nodes o·nodes γ·nodes n·nodes nodes) ∷ []) ∵ says ! need $ nothing ! $ move ! (1 ∷ 0 ∷ []) $ join ! $ frame ! $ nothing ! $ owned ! WovenNode′.row (Is WovenNode′.row) (WovenNode′.makes 𝓤 H A) x _ ok·x $ fjoin ! $ owned ! Part′.row (Is Part′.row) (Part′.makes 𝓤 H A) q _ ok·q $ fjoin ! $ owned ! u64 (Is u64) (uint-makes 𝓤 H A W w64) x-k _ ok·x-k $ fjoin ! $ move ! (1 ∷ 0 ∷ []) $ fjoin ! $ done !
 
 module _ {M : Type 1} {𝓤 : URA M} {H : Heap 𝓤} {A : Atoms 𝓤} {K : Type 0} {W : Given 𝓤 H A} {Γ : List (Item 𝓤)} {E : Env 𝓤 H} {C : Calls 𝓤 H} {Λ : Loops 𝓤 H} {Q : Post 𝓤 H} {xs : List Operand} {d : Place} {rest : Body} where
   -- by one instance of the callee's contract, which is what a function that calls itself has
-  pub calls-by : K → (mem : Memory → SProp 𝓤) (run : Routine → Fun 𝓤) → FmC 𝓤 H (W .laws) C → (κ·nodes : Lft) (q·nodes : Share) (b·nodes o·nodes : ℕ) (γ·nodes : GName) (n·nodes : ℕ) (nodes : List ℕ) (x-k : ℕ) (q : Record) (x : WovenNode) → ent 𝓤 (Asked 𝓤 H A mem run .pre (to 𝓤 H A mem run κ·nodes q·nodes b·nodes o·nodes γ·nodes n·nodes nodes x-k q x)) (C #callee (Asked 𝓤 H A mem run .args (to 𝓤 H A mem run κ·nodes q·nodes b·nodes o·nodes γ·nodes n·nodes nodes x-k q x)) (Asked 𝓤 H A mem run .post (to 𝓤 H A mem run κ·nodes q·nodes b·nodes o·nodes γ·nodes n·nodes nodes x-k q x))) → Is u64 x-k (uint-vals w64 x-k) → Is Record′.row q (Record′.vals q) → Is WovenNode′.row x (WovenNode′.vals x) → store-woven″.req nodes x-k q x →
-      Opds K W (raw (Asked 𝓤 H A mem run .pre (to 𝓤 H A mem run κ·nodes q·nodes b·nodes o·nodes γ·nodes n·nodes nodes x-k q x)) ∷ Γ) E xs (sliceVal (b·nodes, o·nodes) n·nodes ∷ vint w64 x-k ∷ Record′.mach q ∷ WovenNode′.mach x ∷ [])
+  pub calls-by : K → (mem : Memory → SProp 𝓤) (run : Routine → Fun 𝓤) → FmC 𝓤 H (W .laws) C → (κ·nodes : Lft) (q·nodes : Share) (b·nodes o·nodes : ℕ) (γ·nodes : GName) (n·nodes : ℕ) (nodes : List ℕ) (x-k : ℕ) (q : Part) (x : WovenNode) → ent 𝓤 (Asked 𝓤 H A mem run .pre (to 𝓤 H A mem run κ·nodes q·nodes b·nodes o·nodes γ·nodes n·nodes nodes x-k q x)) (C #callee (Asked 𝓤 H A mem run .args (to 𝓤 H A mem run κ·nodes q·nodes b·nodes o·nodes γ·nodes n·nodes nodes x-k q x)) (Asked 𝓤 H A mem run .post (to 𝓤 H A mem run κ·nodes q·nodes b·nodes o·nodes γ·nodes n·nodes nodes x-k q x))) → Is u64 x-k (uint-vals w64 x-k) → Is Part′.row q (Part′.vals q) → Is WovenNode′.row x (WovenNode′.vals x) → store-woven″.req nodes x-k q x →
+      Opds K W (raw (Asked 𝓤 H A mem run .pre (to 𝓤 H A mem run κ·nodes q·nodes b·nodes o·nodes γ·nodes n·nodes nodes x-k q x)) ∷ Γ) E xs (sliceVal (b·nodes, o·nodes) n·nodes ∷ vint w64 x-k ∷ Part′.mach q ∷ WovenNode′.mach x ∷ [])
       → (length (store-woven″.out-nodes nodes x-k q x) ≡ length nodes → Seq K W (‵ (flft κ·nodes q·nodes) ∷ ‵ (finally u32 γ·nodes (store-woven″.out-nodes nodes x-k q x)) ∷ Γ) (lands C Λ E d (vunit) rest Q))
       → Seq K W (‵ (flft κ·nodes q·nodes) ∷ ‵ (MutAt u32 κ·nodes b·nodes o·nodes γ·nodes n·nodes nodes) ∷ Γ) (runs C Λ E (seq (call #callee xs d) rest) Q)
   calls-by t mem run fm κ·nodes q·nodes b·nodes o·nodes γ·nodes n·nodes nodes x-k q x known ok·x-k ok·q ok·x need os k =
       core t mem run κ·nodes q·nodes b·nodes o·nodes γ·nodes n·nodes nodes x-k q x (runs C Λ E (seq (call #callee xs d) rest) Q) (λ v. lands C Λ E d v rest Q) (λ v. tt)
       (λ h. calls-from t fm (raw (Asked 𝓤 H A mem run .pre (to 𝓤 H A mem run κ·nodes q·nodes b·nodes o·nodes γ·nodes n·nodes nodes x-k q x))) (Asked 𝓤 H A mem run .args (to 𝓤 H A mem run κ·nodes q·nodes b·nodes o·nodes γ·nodes n·nodes nodes x-k q x)) (Asked 𝓤 H A mem run .post (to 𝓤 H A mem run κ·nodes q·nodes b·nodes o·nodes γ·nodes n·nodes nodes x-k q x)) known os h) ok·x-k ok·q ok·x need k
 
-  pub calls : K → (mem : Memory → SProp 𝓤) (run : Routine → Fun 𝓤) → FmC 𝓤 H (W .laws) C → Triple 𝓤 (C #callee) (Asked 𝓤 H A mem run) → (κ·nodes : Lft) (q·nodes : Share) (b·nodes o·nodes : ℕ) (γ·nodes : GName) (n·nodes : ℕ) (nodes : List ℕ) (x-k : ℕ) (q : Record) (x : WovenNode) → Is u64 x-k (uint-vals w64 x-k) → Is Record′.row q (Record′.vals q) → Is WovenNode′.row x (WovenNode′.vals x) → store-woven″.req nodes x-k q x →
-      Opds K W (raw (Asked 𝓤 H A mem run .pre (to 𝓤 H A mem run κ·nodes q·nodes b·nodes o·nodes γ·nodes n·nodes nodes x-k q x)) ∷ Γ) E xs (sliceVal (b·nodes, o·nodes) n·nodes ∷ vint w64 x-k ∷ Record′.mach q ∷ WovenNode′.mach x ∷ [])
+  pub calls : K → (mem : Memory → SProp 𝓤) (run : Routine → Fun 𝓤) → FmC 𝓤 H (W .laws) C → Triple 𝓤 (C #callee) (Asked 𝓤 H A mem run) → (κ·nodes : Lft) (q·nodes : Share) (b·nodes o·nodes : ℕ) (γ·nodes : GName) (n·nodes : ℕ) (nodes : List ℕ) (x-k : ℕ) (q : Part) (x : WovenNode) → Is u64 x-k (uint-vals w64 x-k) → Is Part′.row q (Part′.vals q) → Is WovenNode′.row x (WovenNode′.vals x) → store-woven″.req nodes x-k q x →
+      Opds K W (raw (Asked 𝓤 H A mem run .pre (to 𝓤 H A mem run κ·nodes q·nodes b·nodes o·nodes γ·nodes n·nodes nodes x-k q x)) ∷ Γ) E xs (sliceVal (b·nodes, o·nodes) n·nodes ∷ vint w64 x-k ∷ Part′.mach q ∷ WovenNode′.mach x ∷ [])
       → (length (store-woven″.out-nodes nodes x-k q x) ≡ length nodes → Seq K W (‵ (flft κ·nodes q·nodes) ∷ ‵ (finally u32 γ·nodes (store-woven″.out-nodes nodes x-k q x)) ∷ Γ) (lands C Λ E d (vunit) rest Q))
       → Seq K W (‵ (flft κ·nodes q·nodes) ∷ ‵ (MutAt u32 κ·nodes b·nodes o·nodes γ·nodes n·nodes nodes) ∷ Γ) (runs C Λ E (seq (call #callee xs d) rest) Q)
   calls t mem run fm known κ·nodes q·nodes b·nodes o·nodes γ·nodes n·nodes nodes x-k q x = calls-by t mem run fm κ·nodes q·nodes b·nodes o·nodes γ·nodes n·nodes nodes x-k q x (known (to 𝓤 H A mem run κ·nodes q·nodes b·nodes o·nodes γ·nodes n·nodes nodes x-k q x))
 
 module _ {M : Type 1} {𝓤 : URA M} {H : Heap 𝓤} {A : Atoms 𝓤} {K : Type 0} {W : Given 𝓤 H A} {Γ : List (Item 𝓤)} {E : Env 𝓤 H} {C : Calls 𝓤 H} {Λ : Loops 𝓤 H} {Q : Post 𝓤 H} {xs : List Operand} {d : Place} where
   -- by one instance of the callee's contract, which is what a function that calls itself has. The call ends a part of the code
-  pub calls-last-by : K → (mem : Memory → SProp 𝓤) (run : Routine → Fun 𝓤) → FmC 𝓤 H (W .laws) C → (κ·nodes : Lft) (q·nodes : Share) (b·nodes o·nodes : ℕ) (γ·nodes : GName) (n·nodes : ℕ) (nodes : List ℕ) (x-k : ℕ) (q : Record) (x : WovenNode) → ent 𝓤 (Asked 𝓤 H A mem run .pre (to 𝓤 H A mem run κ·nodes q·nodes b·nodes o·nodes γ·nodes n·nodes nodes x-k q x)) (C #callee (Asked 𝓤 H A mem run .args (to 𝓤 H A mem run κ·nodes q·nodes b·nodes o·nodes γ·nodes n·nodes nodes x-k q x)) (Asked 𝓤 H A mem run .post (to 𝓤 H A mem run κ·nodes q·nodes b·nodes o·nodes γ·nodes n·nodes nodes x-k q x))) → Is u64 x-k (uint-vals w64 x-k) → Is Record′.row q (Record′.vals q) → Is WovenNode′.row x (WovenNode′.vals x) → store-woven″.req nodes x-k q x →
-      Opds K W (raw (Asked 𝓤 H A mem run .pre (to 𝓤 H A mem run κ·nodes q·nodes b·nodes o·nodes γ·nodes n·nodes nodes x-k q x)) ∷ Γ) E xs (sliceVal (b·nodes, o·nodes) n·nodes ∷ vint w64 x-k ∷ Record′.mach q ∷ WovenNode′.mach x ∷ [])
+  pub calls-last-by : K → (mem : Memory → SProp 𝓤) (run : Routine → Fun 𝓤) → FmC 𝓤 H (W .laws) C → (κ·nodes : Lft) (q·nodes : Share) (b·nodes o·nodes : ℕ) (γ·nodes : GName) (n·nodes : ℕ) (nodes : List ℕ) (x-k : ℕ) (q : Part) (x : WovenNode) → ent 𝓤 (Asked 𝓤 H A mem run .pre (to 𝓤 H A mem run κ·nodes q·nodes b·nodes o·nodes γ·nodes n·nodes nodes x-k q x)) (C #callee (Asked 𝓤 H A mem run .args (to 𝓤 H A mem run κ·nodes q·nodes b·nodes o·nodes γ·nodes n·nodes nodes x-k q x)) (Asked 𝓤 H A mem run .post (to 𝓤 H A mem run κ·nodes q·nodes b·nodes o·nodes γ·nodes n·nodes nodes x-k q x))) → Is u64 x-k (uint-vals w64 x-k) → Is Part′.row q (Part′.vals q) → Is WovenNode′.row x (WovenNode′.vals x) → store-woven″.req nodes x-k q x →
+      Opds K W (raw (Asked 𝓤 H A mem run .pre (to 𝓤 H A mem run κ·nodes q·nodes b·nodes o·nodes γ·nodes n·nodes nodes x-k q x)) ∷ Γ) E xs (sliceVal (b·nodes, o·nodes) n·nodes ∷ vint w64 x-k ∷ Part′.mach q ∷ WovenNode′.mach x ∷ [])
       → (length (store-woven″.out-nodes nodes x-k q x) ≡ length nodes → Seq K W (‵ (flft κ·nodes q·nodes) ∷ ‵ (finally u32 γ·nodes (store-woven″.out-nodes nodes x-k q x)) ∷ Γ) (settles E d (vunit) Q))
       → Seq K W (‵ (flft κ·nodes q·nodes) ∷ ‵ (MutAt u32 κ·nodes b·nodes o·nodes γ·nodes n·nodes nodes) ∷ Γ) (runs C Λ E (call #callee xs d) Q)
   calls-last-by t mem run fm κ·nodes q·nodes b·nodes o·nodes γ·nodes n·nodes nodes x-k q x known ok·x-k ok·q ok·x need os k =
       core t mem run κ·nodes q·nodes b·nodes o·nodes γ·nodes n·nodes nodes x-k q x (runs C Λ E (call #callee xs d) Q) (λ v. settles E d v Q) (λ v. tt)
       (λ h. calls-from-last t fm (raw (Asked 𝓤 H A mem run .pre (to 𝓤 H A mem run κ·nodes q·nodes b·nodes o·nodes γ·nodes n·nodes nodes x-k q x))) (Asked 𝓤 H A mem run .args (to 𝓤 H A mem run κ·nodes q·nodes b·nodes o·nodes γ·nodes n·nodes nodes x-k q x)) (Asked 𝓤 H A mem run .post (to 𝓤 H A mem run κ·nodes q·nodes b·nodes o·nodes γ·nodes n·nodes nodes x-k q x)) known os h) ok·x-k ok·q ok·x need k
 
-  pub calls-last : K → (mem : Memory → SProp 𝓤) (run : Routine → Fun 𝓤) → FmC 𝓤 H (W .laws) C → Triple 𝓤 (C #callee) (Asked 𝓤 H A mem run) → (κ·nodes : Lft) (q·nodes : Share) (b·nodes o·nodes : ℕ) (γ·nodes : GName) (n·nodes : ℕ) (nodes : List ℕ) (x-k : ℕ) (q : Record) (x : WovenNode) → Is u64 x-k (uint-vals w64 x-k) → Is Record′.row q (Record′.vals q) → Is WovenNode′.row x (WovenNode′.vals x) → store-woven″.req nodes x-k q x →
-      Opds K W (raw (Asked 𝓤 H A mem run .pre (to 𝓤 H A mem run κ·nodes q·nodes b·nodes o·nodes γ·nodes n·nodes nodes x-k q x)) ∷ Γ) E xs (sliceVal (b·nodes, o·nodes) n·nodes ∷ vint w64 x-k ∷ Record′.mach q ∷ WovenNode′.mach x ∷ [])
+  pub calls-last : K → (mem : Memory → SProp 𝓤) (run : Routine → Fun 𝓤) → FmC 𝓤 H (W .laws) C → Triple 𝓤 (C #callee) (Asked 𝓤 H A mem run) → (κ·nodes : Lft) (q·nodes : Share) (b·nodes o·nodes : ℕ) (γ·nodes : GName) (n·nodes : ℕ) (nodes : List ℕ) (x-k : ℕ) (q : Part) (x : WovenNode) → Is u64 x-k (uint-vals w64 x-k) → Is Part′.row q (Part′.vals q) → Is WovenNode′.row x (WovenNode′.vals x) → store-woven″.req nodes x-k q x →
+      Opds K W (raw (Asked 𝓤 H A mem run .pre (to 𝓤 H A mem run κ·nodes q·nodes b·nodes o·nodes γ·nodes n·nodes nodes x-k q x)) ∷ Γ) E xs (sliceVal (b·nodes, o·nodes) n·nodes ∷ vint w64 x-k ∷ Part′.mach q ∷ WovenNode′.mach x ∷ [])
       → (length (store-woven″.out-nodes nodes x-k q x) ≡ length nodes → Seq K W (‵ (flft κ·nodes q·nodes) ∷ ‵ (finally u32 γ·nodes (store-woven″.out-nodes nodes x-k q x)) ∷ Γ) (settles E d (vunit) Q))
       → Seq K W (‵ (flft κ·nodes q·nodes) ∷ ‵ (MutAt u32 κ·nodes b·nodes o·nodes γ·nodes n·nodes nodes) ∷ Γ) (runs C Λ E (call #callee xs d) Q)
   calls-last t mem run fm known κ·nodes q·nodes b·nodes o·nodes γ·nodes n·nodes nodes x-k q x = calls-last-by t mem run fm κ·nodes q·nodes b·nodes o·nodes γ·nodes n·nodes nodes x-k q x (known (to 𝓤 H A mem run κ·nodes q·nodes b·nodes o·nodes γ·nodes n·nodes nodes x-k q x))

@@ -34,8 +34,6 @@ use denote.Triple.Walked.{says}
 use Rattle.weave.proofs.Generated.Say.woven_answer as woven-answer″
 use Rattle.weave.specs.declared.WovenNode.{WovenNode}
 use Rattle.weave.proofs.Generated.Kind.WovenNode as WovenNode′
-use Rattle.tree.specs.declared.Version.{Version}
-use Rattle.register.proofs.Generated.Kind.Version as Version′
 use Rattle.tree.specs.declared.PageIndex.{PageIndex}
 use Rattle.register.proofs.Generated.Kind.PageIndex as PageIndex′
 use Rattle.weave.specs.declared.Woven.{Woven}

@@ -34,12 +34,14 @@ use denote.Triple.Walked.{says}
 use Rattle.weave.proofs.Generated.Say.woven_node as woven-node″
 use Rattle.register.specs.declared.Record.{Record}
 use Rattle.register.proofs.Generated.Kind.Record as Record′
-use Rattle.tree.specs.declared.Version.{Version}
-use Rattle.register.proofs.Generated.Kind.Version as Version′
 use Rattle.tree.specs.declared.Ticket.{Ticket}
 use Rattle.register.proofs.Generated.Kind.Ticket as Ticket′
 use Rattle.tree.specs.declared.PageIndex.{PageIndex}
 use Rattle.register.proofs.Generated.Kind.PageIndex as PageIndex′
+use Rattle.lines.specs.declared.Entries.{Entries}
+use Rattle.register.proofs.Generated.Kind.Entries as Entries′
+use Rattle.register.specs.declared.Part.{Part}
+use Rattle.register.proofs.Generated.Kind.Part as Part′
 use Rattle.weave.specs.declared.Next.{Next}
 use Rattle.weave.proofs.Generated.Kind.Next as Next′
 use Rattle.weave.specs.declared.WovenNode.{WovenNode}
@@ -52,13 +54,13 @@ module _ {M : Type 1} (𝓤 : URA M) (H : Heap 𝓤) (A : Atoms 𝓤) (mem : Mem
   abbrev pub Asked : Contract 𝓤
   Asked = tripleOf 𝓤 H A callee.signature (callee.spec 𝓤 H A mem run)
 
-  abbrev pub to : (x-r : Record) (q : Record) (x : Next) (left : Version) (right : Version) → Asked .Ghost
-  to x-r q x left right = ((tt, tt, tt, (x-r, (q, (x, (left, (right, tt))))), (Record′.mach x-r ∷ [], (Record′.mach q ∷ [], (Next′.mach x ∷ [], (Version′.mach left ∷ [], (Version′.mach right ∷ [], tt)))))), tt)
+  abbrev pub to : (x-r : Record) (q : Part) (x : Next) (left : ℕ) (right : ℕ) → Asked .Ghost
+  to x-r q x left right = ((tt, tt, tt, (x-r, (q, (x, (left, (right, tt))))), (Record′.mach x-r ∷ [], (Part′.mach q ∷ [], (Next′.mach x ∷ [], (vint w64 left ∷ [], (vint w64 right ∷ [], tt)))))), tt)
 
 module _ {M : Type 1} {𝓤 : URA M} {H : Heap 𝓤} {A : Atoms 𝓤} {K : Type 0} {W : Given 𝓤 H A} {Γ : List (Item 𝓤)} where
   -- the call itself is made by `by-call`, from what the callee asks to what it has ensured
-  core : K → (mem : Memory → SProp 𝓤) (run : Routine → Fun 𝓤) → (x-r : Record) (q : Record) (x : Next) (left : Version) (right : Version) → (G : Goal 𝓤 H) (after : Val → Goal 𝓤 H) → ((v : Val) → Soaks (after v))
-      → (((v : Val) → Seq K W (raw (Asked 𝓤 H A mem run .post (to 𝓤 H A mem run x-r q x left right) v) ∷ Γ) (after v)) → Seq K W (raw (Asked 𝓤 H A mem run .pre (to 𝓤 H A mem run x-r q x left right)) ∷ Γ) G) → Is Record′.row x-r (Record′.vals x-r) → Is Record′.row q (Record′.vals q) → Is Next′.row x (Next′.vals x) → Is Version′.row left (Version′.vals left) → Is Version′.row right (Version′.vals right) → woven-node″.req x-r q x left right →
+  core : K → (mem : Memory → SProp 𝓤) (run : Routine → Fun 𝓤) → (x-r : Record) (q : Part) (x : Next) (left : ℕ) (right : ℕ) → (G : Goal 𝓤 H) (after : Val → Goal 𝓤 H) → ((v : Val) → Soaks (after v))
+      → (((v : Val) → Seq K W (raw (Asked 𝓤 H A mem run .post (to 𝓤 H A mem run x-r q x left right) v) ∷ Γ) (after v)) → Seq K W (raw (Asked 𝓤 H A mem run .pre (to 𝓤 H A mem run x-r q x left right)) ∷ Γ) G) → Is Record′.row x-r (Record′.vals x-r) → Is Part′.row q (Part′.vals q) → Is Next′.row x (Next′.vals x) → Is u64 left (uint-vals w64 left) → Is u64 right (uint-vals w64 right) → woven-node″.req x-r q x left right →
       ((x·res : WovenNode) → Is WovenNode′.row x·res (WovenNode′.vals x·res) → woven-node″.ens x-r q x left right x·res → Seq K W (Γ) (after (WovenNode′.mach x·res))) → Seq K W (Γ) G
   core t mem run x-r q x left right G after soaks by-call ok·x-r ok·q ok·x ok·left ok·right need k =
       use0 W (raw (Asked 𝓤 H A mem run .pre (to 𝓤 H A mem run x-r q x left right))) goes $
@@ -69,36 +71,36 @@ module _ {M : Type 1} {𝓤 : URA M} {H : Heap 𝓤} {A : Atoms 𝓤} {K : Type 
       subst (λ (u : Val). Seq K W (Γ) (after u)) (sym (ap only (WovenNode′.tells r· (v ∷ []) is))) (k r· (subst (Is WovenNode′.row r·) (WovenNode′.tells r· (v ∷ []) is) is) e))))))
     where
       goes : ent 𝓤 (⋆ 𝓤 H A ([])) (Asked 𝓤 H A mem run .pre (to 𝓤 H A mem run x-r q x left right))
-      goes = qed W ([]) ∵ says ! need $ nothing ! $ frame ! $ nothing ! $ owned ! Version′.row (Is Version′.row) (Version′.makes 𝓤 H A) right _ ok·right $ fjoin ! $ owned ! Version′.row (Is Version′.row) (Version′.makes 𝓤 H A) left _ ok·left $ fjoin ! $ owned ! Next′.row (Is Next′.row) (Next′.makes 𝓤 H A) x _ ok·x $ fjoin ! $ owned ! Record′.row (Is Record′.row) (Record′.makes 𝓤 H A) q _ ok·q $ fjoin ! $ owned ! Record′.row (Is Record′.row) (Record′.makes 𝓤 H A) x-r _ ok·x-r $ fjoin ! $ done !
+      goes = qed W ([]) ∵ says ! need $ nothing ! $ frame ! $ nothing ! $ owned ! u64 (Is u64) (uint-makes 𝓤 H A W w64) right _ ok·right $ fjoin ! $ owned ! u64 (Is u64) (uint-makes 𝓤 H A W w64) left _ ok·left $ fjoin ! $ owned ! Next′.row (Is Next′.row) (Next′.makes 𝓤 H A) x _ ok·x $ fjoin ! $ owned ! Part′.row (Is Part′.row) (Part′.makes 𝓤 H A) q _ ok·q $ fjoin ! $ owned ! Record′.row (Is Record′.row) (Record′.makes 𝓤 H A) x-r _ ok·x-r $ fjoin ! $ done !
 
 module _ {M : Type 1} {𝓤 : URA M} {H : Heap 𝓤} {A : Atoms 𝓤} {K : Type 0} {W : Given 𝓤 H A} {Γ : List (Item 𝓤)} {E : Env 𝓤 H} {C : Calls 𝓤 H} {Λ : Loops 𝓤 H} {Q : Post 𝓤 H} {xs : List Operand} {d : Place} {rest : Body} where
   -- by one instance of the callee's contract, which is what a function that calls itself has
-  pub calls-by : K → (mem : Memory → SProp 𝓤) (run : Routine → Fun 𝓤) → FmC 𝓤 H (W .laws) C → (x-r : Record) (q : Record) (x : Next) (left : Version) (right : Version) → ent 𝓤 (Asked 𝓤 H A mem run .pre (to 𝓤 H A mem run x-r q x left right)) (C #callee (Asked 𝓤 H A mem run .args (to 𝓤 H A mem run x-r q x left right)) (Asked 𝓤 H A mem run .post (to 𝓤 H A mem run x-r q x left right))) → Is Record′.row x-r (Record′.vals x-r) → Is Record′.row q (Record′.vals q) → Is Next′.row x (Next′.vals x) → Is Version′.row left (Version′.vals left) → Is Version′.row right (Version′.vals right) → woven-node″.req x-r q x left right →
-      Opds K W (raw (Asked 𝓤 H A mem run .pre (to 𝓤 H A mem run x-r q x left right)) ∷ Γ) E xs (Record′.mach x-r ∷ Record′.mach q ∷ Next′.mach x ∷ Version′.mach left ∷ Version′.mach right ∷ [])
+  pub calls-by : K → (mem : Memory → SProp 𝓤) (run : Routine → Fun 𝓤) → FmC 𝓤 H (W .laws) C → (x-r : Record) (q : Part) (x : Next) (left : ℕ) (right : ℕ) → ent 𝓤 (Asked 𝓤 H A mem run .pre (to 𝓤 H A mem run x-r q x left right)) (C #callee (Asked 𝓤 H A mem run .args (to 𝓤 H A mem run x-r q x left right)) (Asked 𝓤 H A mem run .post (to 𝓤 H A mem run x-r q x left right))) → Is Record′.row x-r (Record′.vals x-r) → Is Part′.row q (Part′.vals q) → Is Next′.row x (Next′.vals x) → Is u64 left (uint-vals w64 left) → Is u64 right (uint-vals w64 right) → woven-node″.req x-r q x left right →
+      Opds K W (raw (Asked 𝓤 H A mem run .pre (to 𝓤 H A mem run x-r q x left right)) ∷ Γ) E xs (Record′.mach x-r ∷ Part′.mach q ∷ Next′.mach x ∷ vint w64 left ∷ vint w64 right ∷ [])
       → ((x·res : WovenNode) → Is WovenNode′.row x·res (WovenNode′.vals x·res) → woven-node″.ens x-r q x left right x·res → Seq K W (Γ) (lands C Λ E d (WovenNode′.mach x·res) rest Q))
       → Seq K W (Γ) (runs C Λ E (seq (call #callee xs d) rest) Q)
   calls-by t mem run fm x-r q x left right known ok·x-r ok·q ok·x ok·left ok·right need os k =
       core t mem run x-r q x left right (runs C Λ E (seq (call #callee xs d) rest) Q) (λ v. lands C Λ E d v rest Q) (λ v. tt)
       (λ h. calls-from t fm (raw (Asked 𝓤 H A mem run .pre (to 𝓤 H A mem run x-r q x left right))) (Asked 𝓤 H A mem run .args (to 𝓤 H A mem run x-r q x left right)) (Asked 𝓤 H A mem run .post (to 𝓤 H A mem run x-r q x left right)) known os h) ok·x-r ok·q ok·x ok·left ok·right need k
 
-  pub calls : K → (mem : Memory → SProp 𝓤) (run : Routine → Fun 𝓤) → FmC 𝓤 H (W .laws) C → Triple 𝓤 (C #callee) (Asked 𝓤 H A mem run) → (x-r : Record) (q : Record) (x : Next) (left : Version) (right : Version) → Is Record′.row x-r (Record′.vals x-r) → Is Record′.row q (Record′.vals q) → Is Next′.row x (Next′.vals x) → Is Version′.row left (Version′.vals left) → Is Version′.row right (Version′.vals right) → woven-node″.req x-r q x left right →
-      Opds K W (raw (Asked 𝓤 H A mem run .pre (to 𝓤 H A mem run x-r q x left right)) ∷ Γ) E xs (Record′.mach x-r ∷ Record′.mach q ∷ Next′.mach x ∷ Version′.mach left ∷ Version′.mach right ∷ [])
+  pub calls : K → (mem : Memory → SProp 𝓤) (run : Routine → Fun 𝓤) → FmC 𝓤 H (W .laws) C → Triple 𝓤 (C #callee) (Asked 𝓤 H A mem run) → (x-r : Record) (q : Part) (x : Next) (left : ℕ) (right : ℕ) → Is Record′.row x-r (Record′.vals x-r) → Is Part′.row q (Part′.vals q) → Is Next′.row x (Next′.vals x) → Is u64 left (uint-vals w64 left) → Is u64 right (uint-vals w64 right) → woven-node″.req x-r q x left right →
+      Opds K W (raw (Asked 𝓤 H A mem run .pre (to 𝓤 H A mem run x-r q x left right)) ∷ Γ) E xs (Record′.mach x-r ∷ Part′.mach q ∷ Next′.mach x ∷ vint w64 left ∷ vint w64 right ∷ [])
       → ((x·res : WovenNode) → Is WovenNode′.row x·res (WovenNode′.vals x·res) → woven-node″.ens x-r q x left right x·res → Seq K W (Γ) (lands C Λ E d (WovenNode′.mach x·res) rest Q))
       → Seq K W (Γ) (runs C Λ E (seq (call #callee xs d) rest) Q)
   calls t mem run fm known x-r q x left right = calls-by t mem run fm x-r q x left right (known (to 𝓤 H A mem run x-r q x left right))
 
 module _ {M : Type 1} {𝓤 : URA M} {H : Heap 𝓤} {A : Atoms 𝓤} {K : Type 0} {W : Given 𝓤 H A} {Γ : List (Item 𝓤)} {E : Env 𝓤 H} {C : Calls 𝓤 H} {Λ : Loops 𝓤 H} {Q : Post 𝓤 H} {xs : List Operand} {d : Place} where
   -- by one instance of the callee's contract, which is what a function that calls itself has. The call ends a part of the code
-  pub calls-last-by : K → (mem : Memory → SProp 𝓤) (run : Routine → Fun 𝓤) → FmC 𝓤 H (W .laws) C → (x-r : Record) (q : Record) (x : Next) (left : Version) (right : Version) → ent 𝓤 (Asked 𝓤 H A mem run .pre (to 𝓤 H A mem run x-r q x left right)) (C #callee (Asked 𝓤 H A mem run .args (to 𝓤 H A mem run x-r q x left right)) (Asked 𝓤 H A mem run .post (to 𝓤 H A mem run x-r q x left right))) → Is Record′.row x-r (Record′.vals x-r) → Is Record′.row q (Record′.vals q) → Is Next′.row x (Next′.vals x) → Is Version′.row left (Version′.vals left) → Is Version′.row right (Version′.vals right) → woven-node″.req x-r q x left right →
-      Opds K W (raw (Asked 𝓤 H A mem run .pre (to 𝓤 H A mem run x-r q x left right)) ∷ Γ) E xs (Record′.mach x-r ∷ Record′.mach q ∷ Next′.mach x ∷ Version′.mach left ∷ Version′.mach right ∷ [])
+  pub calls-last-by : K → (mem : Memory → SProp 𝓤) (run : Routine → Fun 𝓤) → FmC 𝓤 H (W .laws) C → (x-r : Record) (q : Part) (x : Next) (left : ℕ) (right : ℕ) → ent 𝓤 (Asked 𝓤 H A mem run .pre (to 𝓤 H A mem run x-r q x left right)) (C #callee (Asked 𝓤 H A mem run .args (to 𝓤 H A mem run x-r q x left right)) (Asked 𝓤 H A mem run .post (to 𝓤 H A mem run x-r q x left right))) → Is Record′.row x-r (Record′.vals x-r) → Is Part′.row q (Part′.vals q) → Is Next′.row x (Next′.vals x) → Is u64 left (uint-vals w64 left) → Is u64 right (uint-vals w64 right) → woven-node″.req x-r q x left right →
+      Opds K W (raw (Asked 𝓤 H A mem run .pre (to 𝓤 H A mem run x-r q x left right)) ∷ Γ) E xs (Record′.mach x-r ∷ Part′.mach q ∷ Next′.mach x ∷ vint w64 left ∷ vint w64 right ∷ [])
       → ((x·res : WovenNode) → Is WovenNode′.row x·res (WovenNode′.vals x·res) → woven-node″.ens x-r q x left right x·res → Seq K W (Γ) (settles E d (WovenNode′.mach x·res) Q))
       → Seq K W (Γ) (runs C Λ E (call #callee xs d) Q)
   calls-last-by t mem run fm x-r q x left right known ok·x-r ok·q ok·x ok·left ok·right need os k =
       core t mem run x-r q x left right (runs C Λ E (call #callee xs d) Q) (λ v. settles E d v Q) (λ v. tt)
       (λ h. calls-from-last t fm (raw (Asked 𝓤 H A mem run .pre (to 𝓤 H A mem run x-r q x left right))) (Asked 𝓤 H A mem run .args (to 𝓤 H A mem run x-r q x left right)) (Asked 𝓤 H A mem run .post (to 𝓤 H A mem run x-r q x left right)) known os h) ok·x-r ok·q ok·x ok·left ok·right need k
 
-  pub calls-last : K → (mem : Memory → SProp 𝓤) (run : Routine → Fun 𝓤) → FmC 𝓤 H (W .laws) C → Triple 𝓤 (C #callee) (Asked 𝓤 H A mem run) → (x-r : Record) (q : Record) (x : Next) (left : Version) (right : Version) → Is Record′.row x-r (Record′.vals x-r) → Is Record′.row q (Record′.vals q) → Is Next′.row x (Next′.vals x) → Is Version′.row left (Version′.vals left) → Is Version′.row right (Version′.vals right) → woven-node″.req x-r q x left right →
-      Opds K W (raw (Asked 𝓤 H A mem run .pre (to 𝓤 H A mem run x-r q x left right)) ∷ Γ) E xs (Record′.mach x-r ∷ Record′.mach q ∷ Next′.mach x ∷ Version′.mach left ∷ Version′.mach right ∷ [])
+  pub calls-last : K → (mem : Memory → SProp 𝓤) (run : Routine → Fun 𝓤) → FmC 𝓤 H (W .laws) C → Triple 𝓤 (C #callee) (Asked 𝓤 H A mem run) → (x-r : Record) (q : Part) (x : Next) (left : ℕ) (right : ℕ) → Is Record′.row x-r (Record′.vals x-r) → Is Part′.row q (Part′.vals q) → Is Next′.row x (Next′.vals x) → Is u64 left (uint-vals w64 left) → Is u64 right (uint-vals w64 right) → woven-node″.req x-r q x left right →
+      Opds K W (raw (Asked 𝓤 H A mem run .pre (to 𝓤 H A mem run x-r q x left right)) ∷ Γ) E xs (Record′.mach x-r ∷ Part′.mach q ∷ Next′.mach x ∷ vint w64 left ∷ vint w64 right ∷ [])
       → ((x·res : WovenNode) → Is WovenNode′.row x·res (WovenNode′.vals x·res) → woven-node″.ens x-r q x left right x·res → Seq K W (Γ) (settles E d (WovenNode′.mach x·res) Q))
       → Seq K W (Γ) (runs C Λ E (call #callee xs d) Q)
   calls-last t mem run fm known x-r q x left right = calls-last-by t mem run fm x-r q x left right (known (to 𝓤 H A mem run x-r q x left right))

@@ -20,6 +20,8 @@ use denote.Laws.{Is, Tells, Copy, Makes}
 use denote.Plain.{uint-vals, bool-vals, nothing-vals}
 use denote.Builtin.{u8, u16, u32, u64, bool, unit}
 use denote.Struct.Laws as LL
+use Rattle.lines.specs.declared.Line.{Line}
+use Rattle.register.proofs.Generated.Kind.Line as Line′
 use Rattle.register.proofs.Generated.Kind.Version as Version′
 use Rattle.tree.specs.declared.Version.{Version}
 use Rattle.weave.proofs.Generated.Kind.Next as Next′
@@ -57,7 +59,7 @@ makes = LL.makes T′.the-type T″.the-plain
 
 -- a value to stand past the end of a list
 abbrev pub none : Plan
-none = record { k = 0; next = Next′.none; limit = Version′.none }
+none = record { k = 0; next = Next′.none; line = Line′.none; limit = Version′.none }
 
 pub ok-k : (d : Plan) → Ok d → Is u64 (d .k) (uint-vals w64 (d .k))
 ok-k d g = LL.owed T′.the-type T″.the-laws d _ g .0
@@ -65,17 +67,20 @@ ok-k d g = LL.owed T′.the-type T″.the-laws d _ g .0
 pub ok-next : (d : Plan) → Ok d → Is Next′.row (d .next) (Next′.vals (d .next))
 ok-next d g = LL.owed T′.the-type T″.the-laws d _ g .1 .0
 
+pub ok-line : (d : Plan) → Ok d → Is Line′.row (d .line) (Line′.vals (d .line))
+ok-line d g = LL.owed T′.the-type T″.the-laws d _ g .1 .1 .0
+
 pub ok-limit : (d : Plan) → Ok d → Is Version′.row (d .limit) (Version′.vals (d .limit))
-ok-limit d g = LL.owed T′.the-type T″.the-laws d _ g .1 .1 .0
+ok-limit d g = LL.owed T′.the-type T″.the-laws d _ g .1 .1 .1 .0
 
-abbrev pub build : ℕ → Next → Version → Plan
-build y0 y1 y2 = record { k = y0; next = y1; limit = y2 }
+abbrev pub build : ℕ → Next → Line → Version → Plan
+build y0 y1 y2 y3 = record { k = y0; next = y1; line = y2; limit = y3 }
 
-pub make : (y0 : ℕ) (y1 : Next) (y2 : Version) → Is u64 y0 (uint-vals w64 y0) → Is Next′.row y1 (Next′.vals y1) → Is Version′.row y2 (Version′.vals y2) → Ok (build y0 y1 y2)
-make y0 y1 y2 g0 g1 g2 = LL.owes T′.the-type T″.the-laws (build y0 y1 y2) (g0, (g1, (g2, tt)))
+pub make : (y0 : ℕ) (y1 : Next) (y2 : Line) (y3 : Version) → Is u64 y0 (uint-vals w64 y0) → Is Next′.row y1 (Next′.vals y1) → Is Line′.row y2 (Line′.vals y2) → Is Version′.row y3 (Version′.vals y3) → Ok (build y0 y1 y2 y3)
+make y0 y1 y2 y3 g0 g1 g2 g3 = LL.owes T′.the-type T″.the-laws (build y0 y1 y2 y3) (g0, (g1, (g2, (g3, tt))))
 
 abbrev pub stride : ℕ
-stride = 48
+stride = 56
 
 -- the byte offset of an element of a slice does not wrap
 pub scaled : (n i : ℕ) → i < n → n * stride < 2 ^ 63 → i * stride < 2 ^ 64

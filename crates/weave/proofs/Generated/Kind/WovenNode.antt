@@ -21,9 +21,7 @@ use denote.Plain.{uint-vals, bool-vals, nothing-vals}
 use denote.Builtin.{u8, u16, u32, u64, bool, unit}
 use denote.Struct.Laws as LL
 use Rattle.register.proofs.Generated.Kind.PageIndex as PageIndex′
-use Rattle.register.proofs.Generated.Kind.Version as Version′
 use Rattle.tree.specs.declared.PageIndex.{PageIndex}
-use Rattle.tree.specs.declared.Version.{Version}
 use Rattle.weave.specs.declared.WovenNode.{WovenNode}
 use Rattle.weave.proofs.WovenNode as T′
 use Rattle.weave.proofs.WovenNode.Laws as T″
@@ -57,9 +55,9 @@ makes = LL.makes T′.the-type T″.the-plain
 
 -- a value to stand past the end of a list
 abbrev pub none : WovenNode
-none = record { version = Version′.none; first = PageIndex′.none; span = 0; left = 0; right = 0; rest = 0 }
+none = record { version = 0; first = PageIndex′.none; span = 0; left = 0; right = 0; rest = 0 }
 
-pub ok-version : (d : WovenNode) → Ok d → Is Version′.row (d .version) (Version′.vals (d .version))
+pub ok-version : (d : WovenNode) → Ok d → Is u64 (d .version) (uint-vals w64 (d .version))
 ok-version d g = LL.owed T′.the-type T″.the-laws d _ g .0
 
 pub ok-first : (d : WovenNode) → Ok d → Is PageIndex′.row (d .first) (PageIndex′.vals (d .first))
@@ -77,10 +75,10 @@ ok-right d g = LL.owed T′.the-type T″.the-laws d _ g .1 .1 .1 .1 .0
 pub ok-rest : (d : WovenNode) → Ok d → Is u64 (d .rest) (uint-vals w64 (d .rest))
 ok-rest d g = LL.owed T′.the-type T″.the-laws d _ g .1 .1 .1 .1 .1 .0
 
-abbrev pub build : Version → PageIndex → ℕ → ℕ → ℕ → ℕ → WovenNode
+abbrev pub build : ℕ → PageIndex → ℕ → ℕ → ℕ → ℕ → WovenNode
 build y0 y1 y2 y3 y4 y5 = record { version = y0; first = y1; span = y2; left = y3; right = y4; rest = y5 }
 
-pub make : (y0 : Version) (y1 : PageIndex) (y2 : ℕ) (y3 : ℕ) (y4 : ℕ) (y5 : ℕ) → Is Version′.row y0 (Version′.vals y0) → Is PageIndex′.row y1 (PageIndex′.vals y1) → Is u64 y2 (uint-vals w64 y2) → Is u32 y3 (uint-vals w32 y3) → Is u32 y4 (uint-vals w32 y4) → Is u64 y5 (uint-vals w64 y5) → Ok (build y0 y1 y2 y3 y4 y5)
+pub make : (y0 : ℕ) (y1 : PageIndex) (y2 : ℕ) (y3 : ℕ) (y4 : ℕ) (y5 : ℕ) → Is u64 y0 (uint-vals w64 y0) → Is PageIndex′.row y1 (PageIndex′.vals y1) → Is u64 y2 (uint-vals w64 y2) → Is u32 y3 (uint-vals w32 y3) → Is u32 y4 (uint-vals w32 y4) → Is u64 y5 (uint-vals w64 y5) → Ok (build y0 y1 y2 y3 y4 y5)
 make y0 y1 y2 y3 y4 y5 g0 g1 g2 g3 g4 g5 = LL.owes T′.the-type T″.the-laws (build y0 y1 y2 y3 y4 y5) (g0, (g1, (g2, (g3, (g4, (g5, tt))))))
 
 abbrev pub stride : ℕ

@@ -12,97 +12,61 @@ use Rattle.weave.specs.declared.Woven.{Woven}
 use Rattle.weave.proofs.Generated.Kind.Woven as Woven′
 use Rattle.weave.specs.declared.WovenNode.{WovenNode}
 use Rattle.weave.proofs.Generated.Kind.WovenNode as WovenNode′
-use Rattle.tree.specs.declared.Version.{Version}
-use Rattle.register.proofs.Generated.Kind.Version as Version′
 use Rattle.tree.specs.declared.PageIndex.{PageIndex}
 use Rattle.register.proofs.Generated.Kind.PageIndex as PageIndex′
 use Rattle.versions.specs.declared.Store.{Store}
 use Rattle.versions.proofs.Generated.Kind.Store as Store′
 use Rattle.tree.specs.declared.Ticket.{Ticket}
 use Rattle.register.proofs.Generated.Kind.Ticket as Ticket′
+use Rattle.lines.specs.declared.Branch.{Branch}
+use Rattle.versions.proofs.Generated.Kind.Branch as Branch′
+use Rattle.lines.specs.declared.Line.{Line}
+use Rattle.register.proofs.Generated.Kind.Line as Line′
+use Rattle.tree.specs.declared.Version.{Version}
+use Rattle.register.proofs.Generated.Kind.Version as Version′
 use Rattle.register.specs.declared.Record.{Record}
 use Rattle.register.proofs.Generated.Kind.Record as Record′
+use Rattle.lines.specs.declared.Entries.{Entries}
+use Rattle.register.proofs.Generated.Kind.Entries as Entries′
 use Rattle.versions.specs.declared.Lengths.{Lengths}
 use Rattle.versions.proofs.Generated.Kind.Lengths as Lengths′
-use Rattle.weave.specs.declared.Plan.{Plan}
-use Rattle.weave.proofs.Generated.Kind.Plan as Plan′
-use Rattle.weave.specs.declared.Next.{Next}
-use Rattle.weave.proofs.Generated.Kind.Next as Next′
+use Rattle.weave.specs.declared.Found.{Found}
+use Rattle.weave.proofs.Generated.Kind.Found as Found′
+use Rattle.register.specs.declared.Part.{Part}
+use Rattle.register.proofs.Generated.Kind.Part as Part′
 use Rattle.weave.proofs.Generated.Say.weave as weave″
 use Rattle.versions.proofs.Generated.Say.lengths_of as lengths-of″
-use Rattle.register.proofs.Generated.Say.ticket_record as ticket-record″
-use Rattle.register.proofs.Generated.Say.version_record as version-record″
-use Rattle.weave.proofs.Generated.Say.weave_plan as weave-plan″
-use Rattle.register.proofs.Generated.Say.newest_update as newest-update″
-use Rattle.weave.proofs.Generated.Say.woven_node as woven-node″
+use Rattle.weave.proofs.Generated.Say.find_next as find-next″
 use Rattle.weave.proofs.Generated.Say.store_woven as store-woven″
-use Rattle.versions.proofs.Generated.Say.version_index as version-index″
-use Rattle.weave.proofs.Generated.Say.with_woven as with-woven″
-use Rattle.versions.proofs.Generated.Say.put_record as put-record″
+use Rattle.weave.proofs.Generated.Say.count_woven as count-woven″
 use Rattle.weave.proofs.Generated.Say.woven_answer as woven-answer″
 
 abbrev pub r1 : Store → List ℕ → List ℕ → List Record → Ticket → Lengths
 r1 s pages nodes register x-t = lengths-of″.res pages nodes register
 
-abbrev pub r2 : Store → List ℕ → List ℕ → List Record → Ticket → Record
-r2 s pages nodes register x-t = ticket-record″.res register x-t
+abbrev pub nodes₃ : Store → List ℕ → List ℕ → List Record → Ticket → Found → List ℕ
+nodes₃ s pages nodes register x-t r2 = store-woven″.out-nodes nodes (r2 .k) (r2 .part) (r2 .node)
 
-abbrev pub r3 : Store → List ℕ → List ℕ → List Record → Ticket → Record
-r3 s pages nodes register x-t = version-record″.res register ((r2 s pages nodes register x-t) .version)
+abbrev pub register₄ : Store → List ℕ → List ℕ → List Record → Ticket → Found → List Record
+register₄ s pages nodes register x-t r2 = count-woven″.out-register register (r2 .k) (r2 .update)
 
-abbrev pub r5 : Store → List ℕ → List ℕ → List Record → Ticket → Plan → Version
-r5 s pages nodes register x-t r4 = newest-update″.res register (r4 .limit) (r4 .next .first) (r4 .next .half)
-
-abbrev pub r6 : Store → List ℕ → List ℕ → List Record → Ticket → Plan → Version
-r6 s pages nodes register x-t r4 = newest-update″.res register (r4 .limit) (r4 .next .right) (r4 .next .half)
-
-abbrev pub nodes₈ : Store → List ℕ → List ℕ → List Record → Ticket → Plan → WovenNode → List ℕ
-nodes₈ s pages nodes register x-t r4 r7 = store-woven″.out-nodes nodes (r4 .k) (r3 s pages nodes register x-t) r7
-
-abbrev pub r9 : Store → List ℕ → List ℕ → List Record → Ticket → Plan → WovenNode → ℕ
-r9 s pages nodes register x-t r4 r7 = version-index″.res ((r2 s pages nodes register x-t) .version)
-
-abbrev pub r10 : Store → List ℕ → List ℕ → List Record → Ticket → Plan → WovenNode → Record
-r10 s pages nodes register x-t r4 r7 = with-woven″.res (r4 .k) (r3 s pages nodes register x-t)
-
-abbrev pub register₁₁ : Store → List ℕ → List ℕ → List Record → Ticket → Plan → WovenNode → List Record
-register₁₁ s pages nodes register x-t r4 r7 = put-record″.out-register register (r4 .k) (r9 s pages nodes register x-t r4 r7) (r10 s pages nodes register x-t r4 r7)
-
-abbrev pub r12 : Store → List ℕ → List ℕ → List Record → Ticket → Plan → WovenNode → Woven
-r12 s pages nodes register x-t r4 r7 = woven-answer″.res (r4 .k) r7
-
--- `newest_update` asks: (below .0 ≤ length register) × (first .0 + span < 2 ^ 64) × (0 < below .0 → 0 < span)
-abbrev pub newest-update-1 : Type 0
-newest-update-1 =
-    (s : Store) (pages : List ℕ) (nodes : List ℕ) (register : List Record) (x-t : Ticket) (ok-s : Store′.Ok s) (len-pages : length pages < 2 ^ 64) (len-nodes : length nodes < 2 ^ 64) (len-register : length register < 2 ^ 64) (ok-x-t : Ticket′.Ok x-t) (ok-r1 : Lengths′.Ok (r1 s pages nodes register x-t)) (ok-r2 : Record′.Ok (r2 s pages nodes register x-t)) (ok-r3 : Record′.Ok (r3 s pages nodes register x-t)) (r4 : Plan) (ok-r4 : Plan′.Ok r4) (says4 : weave-plan″.ens s (r1 s pages nodes register x-t) (r2 s pages nodes register x-t) (r3 s pages nodes register x-t) x-t r4)
-    → newest-update″.req register (r4 .limit) (r4 .next .first) (r4 .next .half)
-
--- `newest_update` asks: (below .0 ≤ length register) × (first .0 + span < 2 ^ 64) × (0 < below .0 → 0 < span)
-abbrev pub newest-update-2 : Type 0
-newest-update-2 =
-    (s : Store) (pages : List ℕ) (nodes : List ℕ) (register : List Record) (x-t : Ticket) (ok-s : Store′.Ok s) (len-pages : length pages < 2 ^ 64) (len-nodes : length nodes < 2 ^ 64) (len-register : length register < 2 ^ 64) (ok-x-t : Ticket′.Ok x-t) (ok-r1 : Lengths′.Ok (r1 s pages nodes register x-t)) (ok-r2 : Record′.Ok (r2 s pages nodes register x-t)) (ok-r3 : Record′.Ok (r3 s pages nodes register x-t)) (r4 : Plan) (ok-r4 : Plan′.Ok r4) (says4 : weave-plan″.ens s (r1 s pages nodes register x-t) (r2 s pages nodes register x-t) (r3 s pages nodes register x-t) x-t r4) (ok-r5 : Version′.Ok (r5 s pages nodes register x-t r4))
-    → newest-update″.req register (r4 .limit) (r4 .next .right) (r4 .next .half)
-
--- `woven_node` asks: NextOf q x
-abbrev pub woven-node-1 : Type 0
-woven-node-1 =
-    (s : Store) (pages : List ℕ) (nodes : List ℕ) (register : List Record) (x-t : Ticket) (ok-s : Store′.Ok s) (len-pages : length pages < 2 ^ 64) (len-nodes : length nodes < 2 ^ 64) (len-register : length register < 2 ^ 64) (ok-x-t : Ticket′.Ok x-t) (ok-r1 : Lengths′.Ok (r1 s pages nodes register x-t)) (ok-r2 : Record′.Ok (r2 s pages nodes register x-t)) (ok-r3 : Record′.Ok (r3 s pages nodes register x-t)) (r4 : Plan) (ok-r4 : Plan′.Ok r4) (says4 : weave-plan″.ens s (r1 s pages nodes register x-t) (r2 s pages nodes register x-t) (r3 s pages nodes register x-t) x-t r4) (ok-r5 : Version′.Ok (r5 s pages nodes register x-t r4)) (ok-r6 : Version′.Ok (r6 s pages nodes register x-t r4))
-    → woven-node″.req (r2 s pages nodes register x-t) (r3 s pages nodes register x-t) (r4 .next) (r5 s pages nodes register x-t r4) (r6 s pages nodes register x-t r4)
+abbrev pub r5 : Store → List ℕ → List ℕ → List Record → Ticket → Found → Woven
+r5 s pages nodes register x-t r2 = woven-answer″.res (r2 .k) (r2 .node)
 
 -- `store_woven` asks: (k ≡ 0 → nextPlace q < 2 ^ 64)
 abbrev pub store-woven-1 : Type 0
 store-woven-1 =
-    (s : Store) (pages : List ℕ) (nodes : List ℕ) (register : List Record) (x-t : Ticket) (ok-s : Store′.Ok s) (len-pages : length pages < 2 ^ 64) (len-nodes : length nodes < 2 ^ 64) (len-register : length register < 2 ^ 64) (ok-x-t : Ticket′.Ok x-t) (ok-r1 : Lengths′.Ok (r1 s pages nodes register x-t)) (ok-r2 : Record′.Ok (r2 s pages nodes register x-t)) (ok-r3 : Record′.Ok (r3 s pages nodes register x-t)) (r4 : Plan) (ok-r4 : Plan′.Ok r4) (says4 : weave-plan″.ens s (r1 s pages nodes register x-t) (r2 s pages nodes register x-t) (r3 s pages nodes register x-t) x-t r4) (ok-r5 : Version′.Ok (r5 s pages nodes register x-t r4)) (ok-r6 : Version′.Ok (r6 s pages nodes register x-t r4)) (r7 : WovenNode) (ok-r7 : WovenNode′.Ok r7) (says7 : woven-node″.ens (r2 s pages nodes register x-t) (r3 s pages nodes register x-t) (r4 .next) (r5 s pages nodes register x-t r4) (r6 s pages nodes register x-t r4) r7)
-    → store-woven″.req nodes (r4 .k) (r3 s pages nodes register x-t) r7
+    (s : Store) (pages : List ℕ) (nodes : List ℕ) (register : List Record) (x-t : Ticket) (ok-s : Store′.Ok s) (len-pages : length pages < 2 ^ 64) (len-nodes : length nodes < 2 ^ 64) (len-register : length register < 2 ^ 64) (ok-x-t : Ticket′.Ok x-t) (ok-r1 : Lengths′.Ok (r1 s pages nodes register x-t)) (r2 : Found) (ok-r2 : Found′.Ok r2) (says2 : find-next″.ens s (r1 s pages nodes register x-t) register x-t r2)
+    → store-woven″.req nodes (r2 .k) (r2 .part) (r2 .node)
 
--- `with_woven` asks: (k ≡ 0 → suc (q .woven) < 2 ^ 64)
-abbrev pub with-woven-1 : Type 0
-with-woven-1 =
-    (s : Store) (pages : List ℕ) (nodes : List ℕ) (register : List Record) (x-t : Ticket) (ok-s : Store′.Ok s) (len-pages : length pages < 2 ^ 64) (len-nodes : length nodes < 2 ^ 64) (len-register : length register < 2 ^ 64) (ok-x-t : Ticket′.Ok x-t) (ok-r1 : Lengths′.Ok (r1 s pages nodes register x-t)) (ok-r2 : Record′.Ok (r2 s pages nodes register x-t)) (ok-r3 : Record′.Ok (r3 s pages nodes register x-t)) (r4 : Plan) (ok-r4 : Plan′.Ok r4) (says4 : weave-plan″.ens s (r1 s pages nodes register x-t) (r2 s pages nodes register x-t) (r3 s pages nodes register x-t) x-t r4) (ok-r5 : Version′.Ok (r5 s pages nodes register x-t r4)) (ok-r6 : Version′.Ok (r6 s pages nodes register x-t r4)) (r7 : WovenNode) (ok-r7 : WovenNode′.Ok r7) (says7 : woven-node″.ens (r2 s pages nodes register x-t) (r3 s pages nodes register x-t) (r4 .next) (r5 s pages nodes register x-t r4) (r6 s pages nodes register x-t r4) r7) (same8-nodes : length (nodes₈ s pages nodes register x-t r4 r7) ≡ length nodes) (fits-r9 : (r9 s pages nodes register x-t r4 r7) < 2 ^ 64)
-    → with-woven″.req (r4 .k) (r3 s pages nodes register x-t)
+-- `count_woven` asks: (k ≡ 0 → suc (nth noRecord register update .woven) < 2 ^ 64)
+abbrev pub count-woven-1 : Type 0
+count-woven-1 =
+    (s : Store) (pages : List ℕ) (nodes : List ℕ) (register : List Record) (x-t : Ticket) (ok-s : Store′.Ok s) (len-pages : length pages < 2 ^ 64) (len-nodes : length nodes < 2 ^ 64) (len-register : length register < 2 ^ 64) (ok-x-t : Ticket′.Ok x-t) (ok-r1 : Lengths′.Ok (r1 s pages nodes register x-t)) (r2 : Found) (ok-r2 : Found′.Ok r2) (says2 : find-next″.ens s (r1 s pages nodes register x-t) register x-t r2) (same3-nodes : length (nodes₃ s pages nodes register x-t r2) ≡ length nodes)
+    → count-woven″.req register (r2 .k) (r2 .update)
 
 -- the function ensures: (r ≡ weaveOut s (areasOf pages nodes register) (t .0)) × (nodes′ ≡ weaveNodes s (areasOf pages nodes register) (t .0)) × (register′ ≡ weaveRegister s (areasOf pages nodes register) (t .0))
 abbrev pub exit-1 : Type 0
 exit-1 =
-    (s : Store) (pages : List ℕ) (nodes : List ℕ) (register : List Record) (x-t : Ticket) (ok-s : Store′.Ok s) (len-pages : length pages < 2 ^ 64) (len-nodes : length nodes < 2 ^ 64) (len-register : length register < 2 ^ 64) (ok-x-t : Ticket′.Ok x-t) (ok-r1 : Lengths′.Ok (r1 s pages nodes register x-t)) (ok-r2 : Record′.Ok (r2 s pages nodes register x-t)) (ok-r3 : Record′.Ok (r3 s pages nodes register x-t)) (r4 : Plan) (ok-r4 : Plan′.Ok r4) (says4 : weave-plan″.ens s (r1 s pages nodes register x-t) (r2 s pages nodes register x-t) (r3 s pages nodes register x-t) x-t r4) (ok-r5 : Version′.Ok (r5 s pages nodes register x-t r4)) (ok-r6 : Version′.Ok (r6 s pages nodes register x-t r4)) (r7 : WovenNode) (ok-r7 : WovenNode′.Ok r7) (says7 : woven-node″.ens (r2 s pages nodes register x-t) (r3 s pages nodes register x-t) (r4 .next) (r5 s pages nodes register x-t r4) (r6 s pages nodes register x-t r4) r7) (same8-nodes : length (nodes₈ s pages nodes register x-t r4 r7) ≡ length nodes) (fits-r9 : (r9 s pages nodes register x-t r4 r7) < 2 ^ 64) (ok-r10 : Record′.Ok (r10 s pages nodes register x-t r4 r7)) (same11-register : length (register₁₁ s pages nodes register x-t r4 r7) ≡ length register) (ok-r12 : Woven′.Ok (r12 s pages nodes register x-t r4 r7))
-    → weave″.ens s pages nodes register x-t (nodes₈ s pages nodes register x-t r4 r7) (register₁₁ s pages nodes register x-t r4 r7) (r12 s pages nodes register x-t r4 r7)
+    (s : Store) (pages : List ℕ) (nodes : List ℕ) (register : List Record) (x-t : Ticket) (ok-s : Store′.Ok s) (len-pages : length pages < 2 ^ 64) (len-nodes : length nodes < 2 ^ 64) (len-register : length register < 2 ^ 64) (ok-x-t : Ticket′.Ok x-t) (ok-r1 : Lengths′.Ok (r1 s pages nodes register x-t)) (r2 : Found) (ok-r2 : Found′.Ok r2) (says2 : find-next″.ens s (r1 s pages nodes register x-t) register x-t r2) (same3-nodes : length (nodes₃ s pages nodes register x-t r2) ≡ length nodes) (same4-register : length (register₄ s pages nodes register x-t r2) ≡ length register) (ok-r5 : Woven′.Ok (r5 s pages nodes register x-t r2))
+    → weave″.ens s pages nodes register x-t (nodes₃ s pages nodes register x-t r2) (register₄ s pages nodes register x-t r2) (r5 s pages nodes register x-t r2)

@@ -1,0 +1,184 @@
+//! Calls whose instructions `benchmarks/count` counts: `pit-count UPDATES LINES`, where LINES is `1`, `16` or `chain`. It makes
+//! a store of 4,096 pages of 4,096 bytes with so many updates standing, and then in `counted` so many calls of each kind, which
+//! it prints.
+//!
+//! Of 16 lines 15 begin when line 0 has its pages, and the other updates go to all of them in turn. In a chain each line begins
+//! from the one before it, and readers read the versions that are shared by all, which are farthest from their line there.
+
+#[allow(dead_code)]
+mod grouped;
+#[allow(unsafe_code)]
+mod opaque;
+#[allow(dead_code)]
+mod random;
+#[allow(dead_code)]
+mod shape;
+
+use opaque::opaque;
+use pit_host::{ByteOffset, Keeper, Limits, Line, LineState, PageIndex, Store, Ticket, Version};
+use shape::{Shape, Source, Update, MOST};
+use std::env;
+use std::process::ExitCode;
+
+const PAGE_SIZE: usize = 4_096;
+const BLOB: usize = 4_096;
+
+/// How many of each kind are counted: reads, updates of one page, and branches.
+const READS: usize = 512;
+const UPDATES: usize = 32;
+const BRANCHES: usize = 15;
+
+const ACCEPTED: &str = "the store accepts the call";
+
+/// How the lines lie.
+#[derive(Clone, Copy, PartialEq)]
+enum Layout {
+    One,
+    Star,
+    Chain,
+}
+
+fn main() -> ExitCode {
+    let arguments: Vec<String> = env::args().skip(1).collect();
+    let updates = arguments.first().and_then(|number| number.parse().ok());
+    let layout = match arguments.get(1).map(String::as_str) {
+        Some("1") => Some(Layout::One),
+        Some("16") => Some(Layout::Star),
+        Some("chain") => Some(Layout::Chain),
+        _ => None,
+    };
+    match (updates, layout) {
+        (Some(updates @ 64..=4_000), Some(layout)) => {
+            Scene::new(updates, layout).counted();
+            println!("reads {READS} updates {UPDATES} branches {BRANCHES}");
+            ExitCode::SUCCESS
+        }
+        _ => {
+            eprintln!("usage: pit-count UPDATES (1|16|chain), of 64 to 4,000 updates");
+            ExitCode::from(2)
+        }
+    }
+}
+
+/// A store with its updates standing, and what the counted calls ask for.
+struct Scene {
+    store: Store,
+    /// The lines that the updates go to in turn.
+    lines: u64,
+    layout: Layout,
+    shape: Shape,
+    source: Source,
+}
+
+impl Scene {
+    fn new(updates: usize, layout: Layout) -> Scene {
+        let shape = Shape {
+            page_size: PAGE_SIZE,
+            blob: BLOB,
+            updates,
+        };
+        let standing = shape.standing();
+        let pages: usize = standing.iter().map(|update| update.pages).sum();
+        let room = (pages + UPDATES) as u64;
+        let limits = Limits::new(PAGE_SIZE as u64, room, 131_072, 4_096);
+        let mut scene = Scene {
+            store: Store::format(limits).expect(ACCEPTED),
+            lines: 1,
+            layout,
+            shape,
+            source: Source::new(PAGE_SIZE),
+        };
+        let (fill, others) = standing.split_at(BLOB / MOST);
+        scene.updates(fill);
+        scene.begin_lines();
+        scene.updates(others);
+        scene
+    }
+
+    fn begin_lines(&mut self) {
+        if self.layout == Layout::One {
+            return;
+        }
+        let filled = self.store.recent(Line(0)).expect(ACCEPTED);
+        while self.lines < 16 {
+            let from = match self.layout {
+                Layout::Chain => self.lines - 1,
+                _ => 0,
+            };
+            self.store.branch(Line(from), filled).expect(ACCEPTED);
+            self.lines += 1;
+        }
+    }
+
+    /// Updates on all lines in turn, each whole.
+    fn updates(&mut self, updates: &[Update]) {
+        for (k, update) in updates.iter().enumerate() {
+            let line = Line(k as u64 % self.lines);
+            let ticket = self.store.begin(update.pages as u64).expect(ACCEPTED);
+            self.put_all(ticket, k, update.pages);
+            let first = PageIndex(update.first as u64);
+            self.store.write(line, ticket, first).expect(ACCEPTED);
+            while self.store.weave(ticket).expect(ACCEPTED).rest > 0 {}
+            assert!(self.store.publish(line).expect(ACCEPTED).is_some());
+        }
+    }
+
+    fn put_all(&mut self, ticket: Ticket, k: usize, pages: usize) {
+        let bytes = self.source.bytes(k, pages).chunks_exact(PAGE_SIZE);
+        for (i, page) in bytes.enumerate() {
+            self.store.put(ticket, i as u64, page).expect(ACCEPTED);
+        }
+    }
+
+    /// The version that is read of a line: the newest; in a chain, the one that all share.
+    fn version(&self, line: Line) -> Version {
+        match self.layout {
+            Layout::Chain => Version((BLOB / MOST) as u64),
+            _ => self.store.recent(line).expect(ACCEPTED),
+        }
+    }
+
+    /// What is counted, and nothing else.
+    #[inline(never)]
+    fn counted(&mut self) {
+        self.read_all();
+        self.branch_all();
+        let updates = self.shape.random_updates(4, UPDATES, 1);
+        self.updates(&updates);
+    }
+
+    /// VIEW and READ of one page, on all lines in turn; in a chain, on the last.
+    fn read_all(&self) {
+        let mut to = vec![0; PAGE_SIZE];
+        for (k, page) in (0..).zip(self.shape.random_pages(3, READS)) {
+            let line = match self.layout {
+                Layout::Chain => Line(self.lines - 1),
+                _ => Line(k % self.lines),
+            };
+            let (version, page) = (self.version(line), page as u64);
+            let view = self.store.view(line, version, PageIndex(page));
+            opaque(view.expect(ACCEPTED));
+            let offset = ByteOffset(page * PAGE_SIZE as u64);
+            let (store, length) = (&self.store, PAGE_SIZE as u64);
+            let read = store.read(line, version, offset, length, &mut to);
+            read.expect(ACCEPTED);
+            opaque(&mut to);
+        }
+    }
+
+    /// BRANCH from each line's newest version. There is room for one line more, each time: the last is taken away again.
+    fn branch_all(&mut self) {
+        let room = self.lines.min(15);
+        let (mut state, areas) = self.store.clone().into_parts();
+        (state.begun, state.lines[15]) = (room, LineState::default());
+        let mut store = Keeper::resume(state, areas);
+        for k in 0..BRANCHES as u64 {
+            let line = Line(k % room);
+            let version = self.version(line);
+            assert_eq!(store.branch(line, version), Ok(Line(room)));
+            let (mut state, areas) = store.into_parts();
+            (state.begun, state.lines[room as usize]) = (room, LineState::default());
+            store = Keeper::resume(state, areas);
+        }
+    }
+}

@@ -1,0 +1,44 @@
+-- `answers::branch_turn` meets its contract. Assumes nothing.
+use Rattle.answers.specs.Answers.{branchedReply, holding}
+use borrow.Author.Needs.{needs}
+use Rattle.answers.proofs.branch_turn.Statement.{statement}
+use Rattle.answers.proofs.branch_turn.Tie as tie
+
+enum-known-answer : tie.Need-enum-known-answer
+enum-known-answer c = search needs
+
+reply-turn-requires : tie.Need-reply-turn-requires
+reply-turn-requires c κs = search needs
+
+enum-known-answer-2 : tie.Need-enum-known-answer-2
+enum-known-answer-2 c = search needs
+
+reply-turn-requires-2 : tie.Need-reply-turn-requires-2
+reply-turn-requires-2 c κs = search needs
+
+same-length : tie.Need-same-length
+same-length c = search needs
+
+returns : tie.Need-returns
+unfolding branchedReply holding
+returns c = rw (c .before .before .before .before .before .answer .given .1) (c .before .before .reply-turn .ensures)
+
+same-length-2 : tie.Need-same-length-2
+same-length-2 c = search needs
+
+returns-2 : tie.Need-returns-2
+unfolding branchedReply holding
+returns-2 c = rw (c .before .before .before .before .before .answer2 .given .1) (c .before .before .reply-turn2 .ensures)
+
+pub branch-turn-spec : {M : Type 1} → statement M
+branch-turn-spec =
+    tie.close
+    (tie.spec
+    enum-known-answer
+    reply-turn-requires
+    enum-known-answer-2
+    reply-turn-requires-2
+    same-length
+    returns
+    same-length-2
+    returns-2)
