@@ -66,7 +66,7 @@ fn turn(
     register: &mut [Record],
     out: &mut [u8],
 ) -> Turn {
-    let wanted = respond::wanted_cut(c, text, out);
+    let wanted = wanted::wanted_cut(c, text, out);
     respond::respond(kept, wanted, pages, nodes, register, out)
 }
 
@@ -165,7 +165,7 @@ fn main() {
     let mut nodes = [0u32; 4096];
     let empty = register::no_record();
     let mut register = [empty; 256];
-    let start = next_place(respond::nothing_kept(), true);
+    let start = next_place(wanted::nothing_kept(), true);
     let at = take_all(start, &mut text, &mut pages, &mut nodes, &mut register);
     if is_due(at) {
         answer(

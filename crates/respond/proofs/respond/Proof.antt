@@ -55,14 +55,14 @@ use Rattle.lines.specs.declared.Line.{Line}
 use Rattle.register.proofs.Generated.Kind.Line as Line′
 use Rattle.tree.specs.declared.Version.{Version}
 use Rattle.register.proofs.Generated.Kind.Version as Version′
-use Rattle.respond.specs.declared.Wanted.{Wanted}
+use Rattle.wanted.specs.declared.Wanted.{Wanted}
 use Rattle.respond.proofs.Generated.Kind.Wanted as Wanted′
-use Rattle.respond.specs.declared.Fill.{Fill}
-use Rattle.respond.proofs.Generated.Kind.Fill as Fill′
-use Rattle.respond.specs.declared.Note.{Note}
-use Rattle.respond.proofs.Generated.Kind.Note as Note′
-use Rattle.respond.specs.declared.Look.{Look}
-use Rattle.respond.proofs.Generated.Kind.Look as Look′
+use Rattle.wanted.specs.declared.Fill.{Fill}
+use Rattle.changes.proofs.Generated.Kind.Fill as Fill′
+use Rattle.wanted.specs.declared.Note.{Note}
+use Rattle.changes.proofs.Generated.Kind.Note as Note′
+use Rattle.wanted.specs.declared.Look.{Look}
+use Rattle.changes.proofs.Generated.Kind.Look as Look′
 use Rattle.register.specs.declared.Record.{Record}
 use Rattle.register.proofs.Generated.Kind.Record as Record′
 use Rattle.tree.specs.declared.PageIndex.{PageIndex}
@@ -75,14 +75,14 @@ use Rattle.register.proofs.Generated.Flow.{ref, MutAt, ShrAt, lend-mut, back-mu
 use Rattle.respond.proofs.Generated.Say.respond as respond″
 use Rattle.respond.proofs.Generated.Say.store_for as store-for″
 use Rattle.respond.proofs.Generated.Call.store_for as Call-store-for
-use Rattle.respond.proofs.store_for.Symbol as def-store-for
-use Rattle.respond.proofs.store_for.Symbol.{name as #store-for}
-use Rattle.respond.proofs.store_for.Met as thm-store-for
+use Rattle.wanted.proofs.store_for.Symbol as def-store-for
+use Rattle.wanted.proofs.store_for.Symbol.{name as #store-for}
+use Rattle.wanted.proofs.store_for.Met as thm-store-for
 use Rattle.respond.proofs.Generated.Say.lengths_for as lengths-for″
 use Rattle.respond.proofs.Generated.Call.lengths_for as Call-lengths-for
-use Rattle.respond.proofs.lengths_for.Symbol as def-lengths-for
-use Rattle.respond.proofs.lengths_for.Symbol.{name as #lengths-for}
-use Rattle.respond.proofs.lengths_for.Met as thm-lengths-for
+use Rattle.wanted.proofs.lengths_for.Symbol as def-lengths-for
+use Rattle.wanted.proofs.lengths_for.Symbol.{name as #lengths-for}
+use Rattle.wanted.proofs.lengths_for.Met as thm-lengths-for
 use Rattle.respond.proofs.Generated.Say.step_within as step-within″
 use Rattle.respond.proofs.Generated.Call.step_within as Call-step-within
 use Rattle.respond.proofs.step_within.Symbol as def-step-within
@@ -168,6 +168,6 @@ respond-spec 𝓤 H 𝓜 𝓖 𝓡 =
     entered 𝓤 H (tripleOf 𝓤 H (𝓖 .A) respond‴.signature (respond‴.spec 𝓤 H (𝓖 .A) (𝓜 .mem) (𝓡 .run)))
     (tables 𝓤 H 𝓜 𝓡 code.env .C) (tables 𝓤 H 𝓜 𝓡 code.env .Λ) #self code.function (code.unfolded 𝓤 H 𝓜 𝓡)
     (meets 𝓤 H (𝓖 .A) (givenOf 𝓤 H 𝓜 𝓖) (𝓜 .mem) (𝓡 .run) (tablesOf 𝓤 H 𝓜 (tables 𝓤 H 𝓜 𝓡 code.env))
-    (cited 𝓤 H (Call-store-for.Asked 𝓤 H (𝓖 .A) (𝓜 .mem) (𝓡 .run)) 𝓜 𝓡 code.env #store-for def-store-for.routine code.calls-respond·store-for (thm-store-for.met 𝓤 H 𝓜 𝓖 𝓡))
-    (cited 𝓤 H (Call-lengths-for.Asked 𝓤 H (𝓖 .A) (𝓜 .mem) (𝓡 .run)) 𝓜 𝓡 code.env #lengths-for def-lengths-for.routine code.calls-respond·lengths-for (thm-lengths-for.met 𝓤 H 𝓜 𝓖 𝓡))
+    (cited 𝓤 H (Call-store-for.Asked 𝓤 H (𝓖 .A) (𝓜 .mem) (𝓡 .run)) 𝓜 𝓡 code.env #store-for def-store-for.routine code.calls-wanted·store-for (thm-store-for.met 𝓤 H 𝓜 𝓖 𝓡))
+    (cited 𝓤 H (Call-lengths-for.Asked 𝓤 H (𝓖 .A) (𝓜 .mem) (𝓡 .run)) 𝓜 𝓡 code.env #lengths-for def-lengths-for.routine code.calls-wanted·lengths-for (thm-lengths-for.met 𝓤 H 𝓜 𝓖 𝓡))
     (cited 𝓤 H (Call-step-within.Asked 𝓤 H (𝓖 .A) (𝓜 .mem) (𝓡 .run)) 𝓜 𝓡 code.env #step-within def-step-within.routine code.calls-respond·step-within (thm-step-within.met 𝓤 H 𝓜 𝓖 𝓡)))

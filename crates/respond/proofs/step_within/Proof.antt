@@ -54,14 +54,14 @@ use Rattle.lines.specs.declared.Line.{Line}
 use Rattle.register.proofs.Generated.Kind.Line as Line′
 use Rattle.tree.specs.declared.Version.{Version}
 use Rattle.register.proofs.Generated.Kind.Version as Version′
-use Rattle.respond.specs.declared.Wanted.{Wanted}
+use Rattle.wanted.specs.declared.Wanted.{Wanted}
 use Rattle.respond.proofs.Generated.Kind.Wanted as Wanted′
-use Rattle.respond.specs.declared.Fill.{Fill}
-use Rattle.respond.proofs.Generated.Kind.Fill as Fill′
-use Rattle.respond.specs.declared.Note.{Note}
-use Rattle.respond.proofs.Generated.Kind.Note as Note′
-use Rattle.respond.specs.declared.Look.{Look}
-use Rattle.respond.proofs.Generated.Kind.Look as Look′
+use Rattle.wanted.specs.declared.Fill.{Fill}
+use Rattle.changes.proofs.Generated.Kind.Fill as Fill′
+use Rattle.wanted.specs.declared.Note.{Note}
+use Rattle.changes.proofs.Generated.Kind.Note as Note′
+use Rattle.wanted.specs.declared.Look.{Look}
+use Rattle.changes.proofs.Generated.Kind.Look as Look′
 use Rattle.register.specs.declared.Record.{Record}
 use Rattle.register.proofs.Generated.Kind.Record as Record′
 use Rattle.tree.specs.declared.PageIndex.{PageIndex}
@@ -70,21 +70,21 @@ use Rattle.lines.specs.declared.Entries.{Entries}
 use Rattle.register.proofs.Generated.Kind.Entries as Entries′
 use Rattle.register.proofs.Generated.Flow.{ref, MutAt, ShrAt, lend-mut, back-mut, lend-shr, back-shr, branches-on, regroup, skips-on, returns-on, plus-nothing, holds, empty, less-fits, is-true, is-false, differ, above-0, twice-not, switches-to, switches-last, big-lit, here, blocks-on, resume, scaled-2, scaled-4, scaled-8, opens-shr, shuts-shr, opens-mut, shuts-mut, puts-mut, keeps-shr, fills, empties, tyAt}
 use Rattle.respond.proofs.Generated.Say.step_within as step-within″
-use Rattle.respond.proofs.Generated.Say.fill_step as fill-step″
-use Rattle.respond.proofs.Generated.Call.fill_step as Call-fill-step
-use Rattle.respond.proofs.fill_step.Symbol as def-fill-step
-use Rattle.respond.proofs.fill_step.Symbol.{name as #fill-step}
-use Rattle.respond.proofs.fill_step.Met as thm-fill-step
-use Rattle.respond.proofs.Generated.Say.note_step as note-step″
-use Rattle.respond.proofs.Generated.Call.note_step as Call-note-step
-use Rattle.respond.proofs.note_step.Symbol as def-note-step
-use Rattle.respond.proofs.note_step.Symbol.{name as #note-step}
-use Rattle.respond.proofs.note_step.Met as thm-note-step
-use Rattle.respond.proofs.Generated.Say.look_step as look-step″
-use Rattle.respond.proofs.Generated.Call.look_step as Call-look-step
-use Rattle.respond.proofs.look_step.Symbol as def-look-step
-use Rattle.respond.proofs.look_step.Symbol.{name as #look-step}
-use Rattle.respond.proofs.look_step.Met as thm-look-step
+use Rattle.changes.proofs.Generated.Say.fill_step as fill-step″
+use Rattle.changes.proofs.Generated.Call.fill_step as Call-fill-step
+use Rattle.changes.proofs.fill_step.Symbol as def-fill-step
+use Rattle.changes.proofs.fill_step.Symbol.{name as #fill-step}
+use Rattle.changes.proofs.fill_step.Met as thm-fill-step
+use Rattle.changes.proofs.Generated.Say.note_step as note-step″
+use Rattle.changes.proofs.Generated.Call.note_step as Call-note-step
+use Rattle.changes.proofs.note_step.Symbol as def-note-step
+use Rattle.changes.proofs.note_step.Symbol.{name as #note-step}
+use Rattle.changes.proofs.note_step.Met as thm-note-step
+use Rattle.changes.proofs.Generated.Say.look_step as look-step″
+use Rattle.changes.proofs.Generated.Call.look_step as Call-look-step
+use Rattle.changes.proofs.look_step.Symbol as def-look-step
+use Rattle.changes.proofs.look_step.Symbol.{name as #look-step}
+use Rattle.changes.proofs.look_step.Met as thm-look-step
 use Rattle.respond.proofs.Generated.Say.refused_turn as refused-turn″
 use Rattle.respond.proofs.Generated.Call.refused_turn as Call-refused-turn
 use Rattle.answers.proofs.refused_turn.Symbol as def-refused-turn
@@ -234,7 +234,7 @@ step-within-spec 𝓤 H 𝓜 𝓖 𝓡 =
     entered 𝓤 H (tripleOf 𝓤 H (𝓖 .A) step-within‴.signature (step-within‴.spec 𝓤 H (𝓖 .A) (𝓜 .mem) (𝓡 .run)))
     (tables 𝓤 H 𝓜 𝓡 code.env .C) (tables 𝓤 H 𝓜 𝓡 code.env .Λ) #self code.function (code.unfolded 𝓤 H 𝓜 𝓡)
     (meets 𝓤 H (𝓖 .A) (givenOf 𝓤 H 𝓜 𝓖) (𝓜 .mem) (𝓡 .run) (tablesOf 𝓤 H 𝓜 (tables 𝓤 H 𝓜 𝓡 code.env))
-    (cited 𝓤 H (Call-fill-step.Asked 𝓤 H (𝓖 .A) (𝓜 .mem) (𝓡 .run)) 𝓜 𝓡 code.env #fill-step def-fill-step.routine code.calls-respond·fill-step (thm-fill-step.met 𝓤 H 𝓜 𝓖 𝓡))
-    (cited 𝓤 H (Call-note-step.Asked 𝓤 H (𝓖 .A) (𝓜 .mem) (𝓡 .run)) 𝓜 𝓡 code.env #note-step def-note-step.routine code.calls-respond·note-step (thm-note-step.met 𝓤 H 𝓜 𝓖 𝓡))
-    (cited 𝓤 H (Call-look-step.Asked 𝓤 H (𝓖 .A) (𝓜 .mem) (𝓡 .run)) 𝓜 𝓡 code.env #look-step def-look-step.routine code.calls-respond·look-step (thm-look-step.met 𝓤 H 𝓜 𝓖 𝓡))
+    (cited 𝓤 H (Call-fill-step.Asked 𝓤 H (𝓖 .A) (𝓜 .mem) (𝓡 .run)) 𝓜 𝓡 code.env #fill-step def-fill-step.routine code.calls-changes·fill-step (thm-fill-step.met 𝓤 H 𝓜 𝓖 𝓡))
+    (cited 𝓤 H (Call-note-step.Asked 𝓤 H (𝓖 .A) (𝓜 .mem) (𝓡 .run)) 𝓜 𝓡 code.env #note-step def-note-step.routine code.calls-changes·note-step (thm-note-step.met 𝓤 H 𝓜 𝓖 𝓡))
+    (cited 𝓤 H (Call-look-step.Asked 𝓤 H (𝓖 .A) (𝓜 .mem) (𝓡 .run)) 𝓜 𝓡 code.env #look-step def-look-step.routine code.calls-changes·look-step (thm-look-step.met 𝓤 H 𝓜 𝓖 𝓡))
     (cited 𝓤 H (Call-refused-turn.Asked 𝓤 H (𝓖 .A) (𝓜 .mem) (𝓡 .run)) 𝓜 𝓡 code.env #refused-turn def-refused-turn.routine code.calls-answers·refused-turn (thm-refused-turn.met 𝓤 H 𝓜 𝓖 𝓡)))

@@ -71,9 +71,9 @@ use Rattle.register.proofs.no_record.Symbol.{name as #no-record}
 use Rattle.register.proofs.no_record.Met as thm-no-record
 use Rattle.steps.proofs.Generated.Say.nothing_kept as nothing-kept″
 use Rattle.steps.proofs.Generated.Call.nothing_kept as Call-nothing-kept
-use Rattle.respond.proofs.nothing_kept.Symbol as def-nothing-kept
-use Rattle.respond.proofs.nothing_kept.Symbol.{name as #nothing-kept}
-use Rattle.respond.proofs.nothing_kept.Met as thm-nothing-kept
+use Rattle.wanted.proofs.nothing_kept.Symbol as def-nothing-kept
+use Rattle.wanted.proofs.nothing_kept.Symbol.{name as #nothing-kept}
+use Rattle.wanted.proofs.nothing_kept.Met as thm-nothing-kept
 use Rattle.steps.proofs.Generated.Say.next_place as next-place″
 use Rattle.steps.proofs.Generated.Call.next_place as Call-next-place
 use Rattle.steps.proofs.next_place.Symbol as def-next-place
@@ -206,7 +206,7 @@ main-spec 𝓤 H 𝓜 𝓖 𝓡 =
     (tables 𝓤 H 𝓜 𝓡 code.env .C) (tables 𝓤 H 𝓜 𝓡 code.env .Λ) #self code.function (code.unfolded 𝓤 H 𝓜 𝓡)
     (meets 𝓤 H (𝓖 .A) (givenOf 𝓤 H 𝓜 𝓖) (𝓜 .mem) (𝓡 .run) (tablesOf 𝓤 H 𝓜 (tables 𝓤 H 𝓜 𝓡 code.env))
     (cited 𝓤 H (Call-no-record.Asked 𝓤 H (𝓖 .A) (𝓜 .mem) (𝓡 .run)) 𝓜 𝓡 code.env #no-record def-no-record.routine code.calls-register·no-record (thm-no-record.met 𝓤 H 𝓜 𝓖 𝓡))
-    (cited 𝓤 H (Call-nothing-kept.Asked 𝓤 H (𝓖 .A) (𝓜 .mem) (𝓡 .run)) 𝓜 𝓡 code.env #nothing-kept def-nothing-kept.routine code.calls-respond·nothing-kept (thm-nothing-kept.met 𝓤 H 𝓜 𝓖 𝓡))
+    (cited 𝓤 H (Call-nothing-kept.Asked 𝓤 H (𝓖 .A) (𝓜 .mem) (𝓡 .run)) 𝓜 𝓡 code.env #nothing-kept def-nothing-kept.routine code.calls-wanted·nothing-kept (thm-nothing-kept.met 𝓤 H 𝓜 𝓖 𝓡))
     (cited 𝓤 H (Call-next-place.Asked 𝓤 H (𝓖 .A) (𝓜 .mem) (𝓡 .run)) 𝓜 𝓡 code.env #next-place def-next-place.routine code.calls-steps·next-place (thm-next-place.met 𝓤 H 𝓜 𝓖 𝓡))
     (cited 𝓤 H (Call-take-all.Asked 𝓤 H (𝓖 .A) (𝓜 .mem) (𝓡 .run)) 𝓜 𝓡 code.env #take-all def-take-all.routine code.calls-steps·take-all (thm-take-all.met 𝓤 H 𝓜 𝓖 𝓡))
     (cited 𝓤 H (Call-is-due.Asked 𝓤 H (𝓖 .A) (𝓜 .mem) (𝓡 .run)) 𝓜 𝓡 code.env #is-due def-is-due.routine code.calls-steps·is-due (thm-is-due.met 𝓤 H 𝓜 𝓖 𝓡))

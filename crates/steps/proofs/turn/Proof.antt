@@ -62,21 +62,21 @@ use Rattle.tree.specs.declared.PageIndex.{PageIndex}
 use Rattle.register.proofs.Generated.Kind.PageIndex as PageIndex′
 use Rattle.lines.specs.declared.Entries.{Entries}
 use Rattle.register.proofs.Generated.Kind.Entries as Entries′
-use Rattle.respond.specs.declared.Wanted.{Wanted}
+use Rattle.wanted.specs.declared.Wanted.{Wanted}
 use Rattle.respond.proofs.Generated.Kind.Wanted as Wanted′
-use Rattle.respond.specs.declared.Fill.{Fill}
-use Rattle.respond.proofs.Generated.Kind.Fill as Fill′
-use Rattle.respond.specs.declared.Note.{Note}
-use Rattle.respond.proofs.Generated.Kind.Note as Note′
-use Rattle.respond.specs.declared.Look.{Look}
-use Rattle.respond.proofs.Generated.Kind.Look as Look′
+use Rattle.wanted.specs.declared.Fill.{Fill}
+use Rattle.changes.proofs.Generated.Kind.Fill as Fill′
+use Rattle.wanted.specs.declared.Note.{Note}
+use Rattle.changes.proofs.Generated.Kind.Note as Note′
+use Rattle.wanted.specs.declared.Look.{Look}
+use Rattle.changes.proofs.Generated.Kind.Look as Look′
 use Rattle.register.proofs.Generated.Flow.{ref, MutAt, ShrAt, lend-mut, back-mut, lend-shr, back-shr, branches-on, regroup, skips-on, returns-on, plus-nothing, holds, empty, less-fits, is-true, is-false, differ, above-0, twice-not, switches-to, switches-last, big-lit, here, blocks-on, resume, scaled-2, scaled-4, scaled-8, opens-shr, shuts-shr, opens-mut, shuts-mut, puts-mut, keeps-shr, fills, empties, tyAt}
 use Rattle.steps.proofs.Generated.Say.turn as turn″
 use Rattle.steps.proofs.Generated.Say.wanted_cut as wanted-cut″
 use Rattle.steps.proofs.Generated.Call.wanted_cut as Call-wanted-cut
-use Rattle.respond.proofs.wanted_cut.Symbol as def-wanted-cut
-use Rattle.respond.proofs.wanted_cut.Symbol.{name as #wanted-cut}
-use Rattle.respond.proofs.wanted_cut.Met as thm-wanted-cut
+use Rattle.wanted.proofs.wanted_cut.Symbol as def-wanted-cut
+use Rattle.wanted.proofs.wanted_cut.Symbol.{name as #wanted-cut}
+use Rattle.wanted.proofs.wanted_cut.Met as thm-wanted-cut
 use Rattle.respond.proofs.Generated.Say.respond as respond″
 use Rattle.respond.proofs.Generated.Call.respond as Call-respond
 use Rattle.respond.proofs.respond.Symbol as def-respond
@@ -155,5 +155,5 @@ turn-spec 𝓤 H 𝓜 𝓖 𝓡 =
     entered 𝓤 H (tripleOf 𝓤 H (𝓖 .A) turn‴.signature (turn‴.spec 𝓤 H (𝓖 .A) (𝓜 .mem) (𝓡 .run)))
     (tables 𝓤 H 𝓜 𝓡 code.env .C) (tables 𝓤 H 𝓜 𝓡 code.env .Λ) #self code.function (code.unfolded 𝓤 H 𝓜 𝓡)
     (meets 𝓤 H (𝓖 .A) (givenOf 𝓤 H 𝓜 𝓖) (𝓜 .mem) (𝓡 .run) (tablesOf 𝓤 H 𝓜 (tables 𝓤 H 𝓜 𝓡 code.env))
-    (cited 𝓤 H (Call-wanted-cut.Asked 𝓤 H (𝓖 .A) (𝓜 .mem) (𝓡 .run)) 𝓜 𝓡 code.env #wanted-cut def-wanted-cut.routine code.calls-respond·wanted-cut (thm-wanted-cut.met 𝓤 H 𝓜 𝓖 𝓡))
+    (cited 𝓤 H (Call-wanted-cut.Asked 𝓤 H (𝓖 .A) (𝓜 .mem) (𝓡 .run)) 𝓜 𝓡 code.env #wanted-cut def-wanted-cut.routine code.calls-wanted·wanted-cut (thm-wanted-cut.met 𝓤 H 𝓜 𝓖 𝓡))
     (cited 𝓤 H (Call-respond.Asked 𝓤 H (𝓖 .A) (𝓜 .mem) (𝓡 .run)) 𝓜 𝓡 code.env #respond def-respond.routine code.calls-respond·respond (thm-respond.met 𝓤 H 𝓜 𝓖 𝓡)))

@@ -44,14 +44,14 @@ use Rattle.lines.specs.declared.Line.{Line}
 use Rattle.register.proofs.Generated.Kind.Line as Line′
 use Rattle.tree.specs.declared.Version.{Version}
 use Rattle.register.proofs.Generated.Kind.Version as Version′
-use Rattle.respond.specs.declared.Wanted.{Wanted}
+use Rattle.wanted.specs.declared.Wanted.{Wanted}
 use Rattle.respond.proofs.Generated.Kind.Wanted as Wanted′
-use Rattle.respond.specs.declared.Fill.{Fill}
-use Rattle.respond.proofs.Generated.Kind.Fill as Fill′
-use Rattle.respond.specs.declared.Note.{Note}
-use Rattle.respond.proofs.Generated.Kind.Note as Note′
-use Rattle.respond.specs.declared.Look.{Look}
-use Rattle.respond.proofs.Generated.Kind.Look as Look′
+use Rattle.wanted.specs.declared.Fill.{Fill}
+use Rattle.changes.proofs.Generated.Kind.Fill as Fill′
+use Rattle.wanted.specs.declared.Note.{Note}
+use Rattle.changes.proofs.Generated.Kind.Note as Note′
+use Rattle.wanted.specs.declared.Look.{Look}
+use Rattle.changes.proofs.Generated.Kind.Look as Look′
 use Rattle.register.specs.declared.Record.{Record}
 use Rattle.register.proofs.Generated.Kind.Record as Record′
 use Rattle.tree.specs.declared.PageIndex.{PageIndex}

@@ -1,6 +1,6 @@
 -- The facts that the walk of `respond::respond` asks for. The author's file: tools/walkgen wrote its skeleton once, and with --rebind brings the arguments up to date.
 use native.Mathlib.Nat.{min-le-right}
-use Rattle.respond.specs.Wanted.{lengthsFor}
+use Rattle.wanted.specs.Wanted.{lengthsFor}
 use Rattle.respond.proofs.respond.Proof.Asks as Asks
 
 -- pages has as many elements as are lent of it

@@ -30,14 +30,14 @@ use Rattle.tree.specs.declared.PageIndex.{PageIndex}
 use Rattle.register.proofs.Generated.Kind.PageIndex as PageIndex′
 use Rattle.lines.specs.declared.Entries.{Entries}
 use Rattle.register.proofs.Generated.Kind.Entries as Entries′
-use Rattle.respond.specs.declared.Wanted.{Wanted}
+use Rattle.wanted.specs.declared.Wanted.{Wanted}
 use Rattle.respond.proofs.Generated.Kind.Wanted as Wanted′
-use Rattle.respond.specs.declared.Fill.{Fill}
-use Rattle.respond.proofs.Generated.Kind.Fill as Fill′
-use Rattle.respond.specs.declared.Note.{Note}
-use Rattle.respond.proofs.Generated.Kind.Note as Note′
-use Rattle.respond.specs.declared.Look.{Look}
-use Rattle.respond.proofs.Generated.Kind.Look as Look′
+use Rattle.wanted.specs.declared.Fill.{Fill}
+use Rattle.changes.proofs.Generated.Kind.Fill as Fill′
+use Rattle.wanted.specs.declared.Note.{Note}
+use Rattle.changes.proofs.Generated.Kind.Note as Note′
+use Rattle.wanted.specs.declared.Look.{Look}
+use Rattle.changes.proofs.Generated.Kind.Look as Look′
 use Rattle.steps.proofs.Generated.Say.turn as turn″
 use Rattle.steps.proofs.Generated.Say.wanted_cut as wanted-cut″
 use Rattle.respond.proofs.Generated.Say.respond as respond″
