@@ -55,16 +55,7 @@
 extern "C" {
 #endif
 
-/* A line: where it begins, and how far it has come. All zeros where it has not begun. */
-typedef struct pit_line {
-    uint64_t source;    /* the line that it begins from */
-    uint64_t start;     /* the version that it begins from: up to this one its versions are the source's */
-    uint64_t assigned;  /* the last version assigned */
-    uint64_t published; /* the last version published */
-    uint64_t blob;      /* the size in pages of the last version assigned */
-} pit_line;
-
-/* A store: what the calls carry from one to the next. */
+/* A store: what the calls carry from one to the next. A line that has not begun is 0 in `sources` and in `lines`. */
 typedef struct pit_store {
     uint64_t size;      /* the page size in bytes */
     uint64_t pages;     /* how many pages the page area holds */
@@ -75,7 +66,10 @@ typedef struct pit_store {
     uint64_t assigned;  /* how many updates have a version, over all lines */
     uint64_t places;    /* how many node places are taken */
     uint64_t begun;     /* how many lines have begun */
-    pit_line lines[16];
+    uint64_t sources;   /* the line that each line begins from: 4 bits a line, bits 4i to 4i + 3 for line i */
+    uint64_t lines[16]; /* each line: four numbers of 16 bits, the lowest first: the version that it begins from, up to
+                           which its versions are the source's; the last version assigned; the last version published;
+                           the size in pages of the last version assigned */
 } pit_store;
 
 /* For each line the number of an update, 16 bits a line, four lines a number, the lowest first; 0 for none. */
@@ -97,8 +91,11 @@ typedef struct pit_record {
     uint64_t name;   /* the line and version that it got: line x 65,536 + version */
     uint64_t f;      /* its first page */
     uint64_t last;   /* its last page */
+    uint64_t top;    /* its first node place, with its height added */
+    uint64_t past;   /* 2f less the number of one bits in f: the sum of f, f/2, f/4 and so on */
+    uint64_t height; /* the height of its root: 2 to it is the smallest power of two not below the size */
     uint64_t size;   /* the blob's size in pages after it, on that line */
-    uint64_t place;  /* its first node place */
+    uint64_t count;  /* how many nodes it makes */
     uint64_t woven;  /* how many of its nodes are woven */
     pit_entries entries;
 } pit_record;

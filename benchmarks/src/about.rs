@@ -1,7 +1,10 @@
 //! What is said above the table: of the machine, the contenders and the buffers.
 
+use crate::grouped::grouped;
+use crate::in_work::IN_WORK;
 use crate::lmdb;
 use crate::measure::ROUNDS;
+use crate::threads::{PAGES_A_VERSION, UPDATES_A_SECOND};
 use std::fs;
 
 /// What stands above the table.
@@ -22,13 +25,20 @@ Buffers    All memory has been touched before: page area, heap, LMDB's file. REA
            VIEW gives a page's slice and touches no byte of it. An update's bytes come from 128 pages in the cache.
 Blob       Filled by appends of 64 pages, then writes of one random page up to the number of updates. Updates are
            timed on top of these, 64 at random places; then ours and Arc go back to just these for the next round.
+In work    Updates beside {IN_WORK} tickets: each is woven but for its last node, and then the oldest in work gets its last
+           node and is published. So an update has the same calls, and always {IN_WORK} versions between it and the last
+           published one. No other contender has such a state.
 Lines      Of 16 lines 15 begin when the blob is filled on line 0; then updates go to all lines in turn, and so do reads.
+Threads    Readers view random pages, {PAGES_A_VERSION} of one version and then of the newest: ours by one RECENT and a call of the
+           host's Shared a page, LMDB in one read transaction a reader, renewed for these {PAGES_A_VERSION}. Where there is a
+           writer, it is one more thread that makes {} updates of one page a second, or as many as it can.
 bytes      Memory that a version takes, of an update of so many pages, without those pages' own bytes.
 o/..       Ours as a multiple of the other: below 1, ours takes less.
 ",
         processor(),
         caches(),
         lmdb::version(),
+        grouped(UPDATES_A_SECOND as usize),
     )
 }
 

@@ -170,14 +170,16 @@ impl Scene {
     fn branch_all(&mut self) {
         let room = self.lines.min(15);
         let (mut state, areas) = self.store.clone().into_parts();
-        (state.begun, state.lines[15]) = (room, LineState::default());
+        state.begun = room;
+        state.set_line(Line(15), LineState::default());
         let mut store = Keeper::resume(state, areas);
         for k in 0..BRANCHES as u64 {
             let line = Line(k % room);
             let version = self.version(line);
             assert_eq!(store.branch(line, version), Ok(Line(room)));
             let (mut state, areas) = store.into_parts();
-            (state.begun, state.lines[room as usize]) = (room, LineState::default());
+            state.begun = room;
+            state.set_line(Line(room), LineState::default());
             store = Keeper::resume(state, areas);
         }
     }

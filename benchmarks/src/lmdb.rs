@@ -1,5 +1,8 @@
 //! LMDB's C interface, as much of it as is needed, and a safe database of numbered values over it.
 
+mod readers;
+
+pub use readers::Threads;
 use std::ffi::{c_void, CStr, CString};
 use std::mem::size_of;
 use std::os::raw::{c_char, c_int, c_uint};
@@ -102,20 +105,8 @@ impl Database {
     /// Stores values under the keys from `first` on, in one write transaction.
     pub fn write<'a>(&mut self, first: usize, values: impl Iterator<Item = &'a [u8]>) {
         self.end_reads();
-        let mut txn = null_mut();
         // SAFETY: `env` is open, and no other transaction is open on this thread.
-        check(unsafe { mdb_txn_begin(self.env, null_mut(), 0, &mut txn) });
-        for (mut key, bytes) in (first..).zip(values) {
-            let mut key = key_value(&mut key);
-            let mut value = Value {
-                size: bytes.len(),
-                data: bytes.as_ptr() as *mut c_void,
-            };
-            // SAFETY: `txn` is the write transaction above; LMDB only reads key and value, which outlive the call.
-            check(unsafe { mdb_put(txn, self.dbi, &mut key, &mut value, 0) });
-        }
-        // SAFETY: `txn` is open, and not used after this.
-        check(unsafe { mdb_txn_commit(txn) });
+        unsafe { write(self.env, self.dbi, first, values) }
     }
 
     /// Opens the read transaction, where none is open.
@@ -136,18 +127,49 @@ impl Database {
     }
 
     /// The value under a key, where it lies in LMDB's map.
-    pub fn get(&self, mut key: usize) -> &[u8] {
+    pub fn get(&self, key: usize) -> &[u8] {
         assert!(!self.reader.is_null(), "no read transaction is open");
+        // SAFETY: the read transaction is open, and to end it needs `self` mutably.
+        unsafe { get(self.reader, self.dbi, key) }
+    }
+}
+
+/// Stores values under the keys from `first` on, in one write transaction: in an open database, on a thread that has no
+/// other transaction open.
+unsafe fn write<'a>(
+    env: *mut Env,
+    dbi: c_uint,
+    first: usize,
+    values: impl Iterator<Item = &'a [u8]>,
+) {
+    let mut txn = null_mut();
+    // SAFETY: the caller's promise is passed on.
+    check(unsafe { mdb_txn_begin(env, null_mut(), 0, &mut txn) });
+    for (mut key, bytes) in (first..).zip(values) {
         let mut key = key_value(&mut key);
         let mut value = Value {
-            size: 0,
-            data: null_mut(),
+            size: bytes.len(),
+            data: bytes.as_ptr() as *mut c_void,
         };
-        // SAFETY: the read transaction is open, and LMDB only reads the key.
-        check(unsafe { mdb_get(self.reader, self.dbi, &mut key, &mut value) });
-        // SAFETY: the value stays as it is until the read transaction ends, which needs `self` mutably.
-        unsafe { std::slice::from_raw_parts(value.data as *const u8, value.size) }
+        // SAFETY: `txn` is the write transaction above; LMDB only reads key and value, which outlive the call.
+        check(unsafe { mdb_put(txn, dbi, &mut key, &mut value, 0) });
     }
+    // SAFETY: `txn` is open, and not used after this.
+    check(unsafe { mdb_txn_commit(txn) });
+}
+
+/// The value under a key in an open read transaction. It stays as it is until that ends, which must be after `'a`.
+#[inline]
+unsafe fn get<'a>(txn: *mut Txn, dbi: c_uint, mut key: usize) -> &'a [u8] {
+    let mut key = key_value(&mut key);
+    let mut value = Value {
+        size: 0,
+        data: null_mut(),
+    };
+    // SAFETY: the caller's promise is passed on; LMDB only reads the key.
+    check(unsafe { mdb_get(txn, dbi, &mut key, &mut value) });
+    // SAFETY: LMDB gave the value, and by the caller's promise it stays.
+    unsafe { std::slice::from_raw_parts(value.data as *const u8, value.size) }
 }
 
 fn key_value(key: &mut usize) -> Value {

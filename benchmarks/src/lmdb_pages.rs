@@ -3,6 +3,7 @@
 use crate::contender::Contender;
 use crate::lmdb::Database;
 use crate::shape::Shape;
+use crate::sharing::LmdbShared;
 use std::path::Path;
 use std::sync::atomic::{AtomicU32, Ordering};
 use std::{fs, process};
@@ -31,6 +32,14 @@ impl LmdbPages {
         LmdbPages {
             page_size: shape.page_size,
             database,
+        }
+    }
+
+    /// The same for threads.
+    pub fn shared(&mut self) -> LmdbShared<'_> {
+        LmdbShared {
+            page_size: self.page_size,
+            database: self.database.threads(),
         }
     }
 }

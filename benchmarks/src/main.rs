@@ -10,6 +10,7 @@ mod flat;
 mod grouped;
 #[allow(unsafe_code)]
 mod heap;
+mod in_work;
 #[allow(unsafe_code)]
 mod lmdb;
 mod lmdb_pages;
@@ -22,9 +23,11 @@ mod ours;
 mod plot;
 mod random;
 mod shape;
+mod sharing;
 mod svg;
 mod table;
 mod targets;
+mod threads;
 
 use measure::{Field, LineTimes, Times, MEMCPY};
 use shape::Shape;
@@ -76,21 +79,36 @@ impl Report {
         self.say(&table::heading());
         for page_size in [4_096, 256, 16] {
             let mut rows: Vec<Row> = shapes(page_size).into_iter().flat_map(times).collect();
+            if page_size == targets::SHAPE.page_size {
+                rows.extend(UPDATES.into_iter().flat_map(times_in_work));
+            }
             // together what is to be compared: a thing measured, by blob and number of updates
             rows.sort_by_key(|row| (row.what, row.shape.blob, row.shape.updates));
             self.rows(rows);
         }
         self.rows(memory());
-        self.say("\nTargets, in a blob of 4,096 pages of 4,096 bytes with 100 updates:");
-        for line in targets::lines(&self.rows) {
-            self.say(&line);
-        }
         self.say("\nLines: this store on one line, and on 16 lines whose updates interleave:");
         self.say(&table::heading_of_lines());
-        for updates in [100, 1_000, 4_000] {
+        let mut on_lines = Vec::new();
+        for updates in UPDATES {
             for (what, shape, times) in times_of_lines(updates) {
                 self.say(&table::line_of_lines(what, shape, times));
+                on_lines.push((what, shape, times));
             }
+        }
+        self.threads();
+        self.say("\nTargets, in a blob of 4,096 pages of 4,096 bytes with so many updates:");
+        for line in targets::lines(&self.rows, &on_lines) {
+            self.say(&line);
+        }
+    }
+
+    fn threads(&mut self) {
+        eprintln!("pit-bench: measuring {}, by threads", targets::SHAPE);
+        self.say("\nThreads: views a second of all readers; above 1 in the last column, ours gives more:");
+        self.say(&table::heading_of_threads());
+        for (setting, rates) in threads::rates(targets::SHAPE) {
+            self.say(&table::line_of_threads(setting, rates));
         }
     }
 
@@ -112,6 +130,9 @@ impl Report {
         fs::write(folder.join("performance.svg"), plot::svg(&self.rows))
     }
 }
+
+/// The numbers of updates in the targets' blob.
+const UPDATES: [usize; 3] = [100, 1_000, 4_000];
 
 /// The blobs that are timed. Ten updates of at most 64 pages make 640 pages, so all numbers of updates are measured
 /// there, and all but ten in the largest blob.
@@ -151,6 +172,25 @@ fn times(shape: Shape) -> Vec<Row> {
         figures: times.map(Some),
     };
     times.into_iter().map(row).collect()
+}
+
+/// The rows of updates beside tickets in work, in the targets' blob with so many updates published.
+fn times_in_work(updates: usize) -> Vec<Row> {
+    let shape = Shape {
+        updates,
+        ..targets::SHAPE
+    };
+    eprintln!("pit-bench: measuring {shape}, with tickets in work");
+    let mut field = Field::in_work(shape);
+    let row = |pages| {
+        let [ours] = field.updates(pages);
+        Row {
+            what: What::InWork(pages),
+            shape,
+            figures: [Some(ours), None, None, None],
+        }
+    };
+    [1, 8, 64].map(row).into()
 }
 
 /// What is measured on one line and on 16, in the targets' blob with so many updates.

@@ -3,6 +3,7 @@
 use crate::arc_table::ArcTable;
 use crate::contender::Contender;
 use crate::flat::Flat;
+use crate::in_work::{self, InWork};
 use crate::lmdb_pages::LmdbPages;
 use crate::on_lines::OnLines;
 use crate::ours::Ours;
@@ -28,9 +29,10 @@ const READS: usize = 8_192;
 const READ_PIECE: usize = 1_024;
 const WARM_READS: usize = 2_048;
 
-/// A round of updates is so many, the first of them not timed.
-pub const BATCH: usize = WARM_UPDATES + 64;
+/// A round of updates is at most so many, the first of them not timed.
+pub const BATCH: usize = WARM_UPDATES + TIMED;
 const WARM_UPDATES: usize = 8;
+const TIMED: usize = 64;
 
 pub const ROUNDS: usize = 41;
 
@@ -38,6 +40,8 @@ pub const ROUNDS: usize = 41;
 pub struct Field<const N: usize> {
     shape: Shape,
     source: Source,
+    /// How many updates of a round are timed.
+    timed: usize,
     contenders: [Box<dyn Contender>; N],
 }
 
@@ -46,6 +50,7 @@ impl Field<CONTENDERS> {
         let mut field = Field {
             shape,
             source: Source::new(shape.page_size),
+            timed: TIMED,
             contenders: [
                 Box::new(Ours::new(&shape)),
                 Box::new(Flat::new(&shape)),
@@ -74,7 +79,22 @@ impl Field<2> {
         Field {
             shape,
             source,
+            timed: TIMED,
             contenders: [Box::new(one), Box::new(on_lines)],
+        }
+    }
+}
+
+impl Field<1> {
+    /// This repository's store with tickets in work.
+    pub fn in_work(shape: Shape) -> Field<1> {
+        let source = Source::new(shape.page_size);
+        let in_work = InWork::new(&shape, &source);
+        Field {
+            shape,
+            source,
+            timed: in_work::TIMED,
+            contenders: [Box::new(in_work)],
         }
     }
 }
@@ -111,14 +131,15 @@ impl<const N: usize> Field<N> {
     /// Whole updates of `pages` pages at random places, on top of the updates that stand.
     pub fn updates(&mut self, pages: usize) -> [f64; N] {
         let (shape, source) = (self.shape, &self.source);
-        let version = shape.updates + BATCH;
+        let batch = WARM_UPDATES + self.timed;
+        let version = shape.updates + batch;
         let piece = match pages {
             1 => 32,
             8 => 16,
             _ => 8,
         };
         rounds(&mut self.contenders, |contender, round, times| {
-            let updates = shape.random_updates(4 + round as u64, BATCH, pages);
+            let updates = shape.random_updates(4 + round as u64, batch, pages);
             let (warm, timed) = updates.split_at(WARM_UPDATES);
             contender.before_updates();
             contender.updates(warm, source);

@@ -19,14 +19,23 @@ pub struct Ours {
 impl Ours {
     /// Room for the updates that stand and one batch of the longest updates more.
     pub fn new(shape: &Shape) -> Ours {
+        Ours::with_room(shape, BATCH * MOST)
+    }
+
+    /// Room for the updates that stand and so many pages more.
+    pub fn with_room(shape: &Shape, more: usize) -> Ours {
         let pages: usize = shape.standing().iter().map(|update| update.pages).sum();
-        let room = (pages + BATCH * MOST) as u64;
+        let room = (pages + more) as u64;
         let limits = Limits::new(shape.page_size as u64, room, 131_072, 4_096);
         Ours {
             page_size: limits.page_size,
             store: Store::format(limits).expect("the limits are accepted"),
             standing: None,
         }
+    }
+
+    pub fn into_store(self) -> Store {
+        self.store
     }
 
     /// The memory that bookkeeping takes so far, in bytes: a record an update, and its nodes.

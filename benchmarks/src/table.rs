@@ -1,8 +1,10 @@
 //! The table: a row a figure, in plain text.
 
 use crate::grouped::grouped;
+use crate::in_work::IN_WORK;
 use crate::measure::{LineTimes, ARC, CONTENDERS, LMDB, MEMCPY, OURS};
 use crate::shape::Shape;
+use crate::threads::{Rates, Setting};
 
 /// What is measured.
 #[derive(Clone, Copy, Debug, PartialEq, Eq, PartialOrd, Ord)]
@@ -11,6 +13,8 @@ pub enum What {
     View,
     /// A whole update of so many pages.
     Update(usize),
+    /// The same beside tickets in work.
+    InWork(usize),
     /// The bookkeeping of an update of so many pages.
     Memory(usize),
 }
@@ -22,6 +26,8 @@ impl What {
             What::View => "VIEW".into(),
             What::Update(1) => "update of 1 page".into(),
             What::Update(pages) => format!("update of {pages} pages"),
+            What::InWork(1) => format!("1 page, {IN_WORK} in work"),
+            What::InWork(pages) => format!("{pages} pages, {IN_WORK} in work"),
             What::Memory(1) => "bytes, 1 page".into(),
             What::Memory(pages) => format!("bytes, {pages} pages"),
         }
@@ -58,7 +64,7 @@ impl Row {
 /// What a row begins with.
 fn front(what: What, shape: Shape) -> String {
     format!(
-        "{:<19}{:>6}{:>7}{:>9}  ",
+        "{:<21}{:>6}{:>7}{:>9}  ",
         what.name(),
         grouped(shape.page_size),
         grouped(shape.blob),
@@ -67,7 +73,7 @@ fn front(what: What, shape: Shape) -> String {
 }
 
 fn heading_front() -> String {
-    format!("{:<19}{:>6}{:>7}{:>9}  ", "what", "page", "blob", "updates")
+    format!("{:<21}{:>6}{:>7}{:>9}  ", "what", "page", "blob", "updates")
 }
 
 /// A row of what is measured on one line and on 16, and the line above these rows.
@@ -80,6 +86,31 @@ pub fn line_of_lines(what: What, shape: Shape, times: LineTimes) -> String {
 
 pub fn heading_of_lines() -> String {
     heading_front() + &format!("{:>10}{:>10}  {:>10}", "one", "16", "16/one")
+}
+
+/// A row of views a second by threads, and the line above these rows.
+pub fn line_of_threads(setting: Setting, rates: [Rates; 2]) -> String {
+    let Setting { readers, writer } = setting;
+    let [ours, lmdb] = rates;
+    let updates = |rates: Rates| match writer {
+        true => shown(rates.updates),
+        false => "-".into(),
+    };
+    format!(
+        "{readers:<21}{:>13}{:>13}{:>10}{:>15}{:>15}",
+        shown(ours.views),
+        shown(lmdb.views),
+        shown_ratio(ours.views / lmdb.views),
+        updates(ours),
+        updates(lmdb),
+    )
+}
+
+pub fn heading_of_threads() -> String {
+    let columns = ("readers", "ours", "LMDB", "o/LMDB");
+    let (ours, lmdb) = ("ours updates/s", "LMDB updates/s");
+    let (readers, views, others, ratio) = columns;
+    format!("{readers:<21}{views:>13}{others:>13}{ratio:>10}{ours:>15}{lmdb:>15}")
 }
 
 /// The line above the rows.

@@ -7,22 +7,23 @@
 //! `inline`, so that a program that uses them copies no reply twice.
 
 use crate::areas::{LentAreas, Parts};
+use crate::counters::Line;
 use std::mem::size_of;
 
 /// A store's lines are at most so many.
 pub const LINES: usize = 16;
 
-/// What the proved calls carry of one line from one to the next: where it begins, and how far it has come. It is all zeros
-/// where the line has not begun.
+/// One line of a store: where it begins, and how far it has come. It is all zeros where the line has not begun.
+///
+/// A [`State`] keeps its lines packed, and [`State::line`] gives this.
 ///
 /// ```
 /// use pit_host::{Limits, Line, Store, Version};
 /// let mut store = Store::format(Limits::new(16, 4, 8, 2)).unwrap();
 /// store.branch(Line(0), Version(0)).unwrap();
-/// let line = store.state().lines[1];
+/// let line = store.state().line(Line(1));
 /// assert_eq!((line.source, line.start, line.assigned, line.published, line.blob), (0, 0, 0, 0, 0));
 /// ```
-#[repr(C)]
 #[derive(Clone, Copy, Debug, Default, PartialEq, Eq, Hash)]
 #[non_exhaustive]
 pub struct LineState {
@@ -38,23 +39,23 @@ pub struct LineState {
     pub blob: u64,
 }
 
-/// What the proved calls carry from one to the next: the limits that FORMAT accepted, five counters, and the lines. Its
-/// fields are plain numbers, so that a host can keep a store's state wherever it keeps the lent areas.
+/// What the proved calls carry from one to the next: the limits that FORMAT accepted, five counters, and the lines, which
+/// are packed. Its fields are plain numbers, so that a host can keep a store's state wherever it keeps the lent areas.
 ///
 /// ```
-/// use pit_host::{Limits, Store};
+/// use pit_host::{Limits, Line, Store};
 /// let store = Store::format(Limits::new(16, 4, 8, 2)).unwrap();
 /// let state = store.state();
 /// assert_eq!((state.size, state.pages, state.nodes, state.updates), (16, 4, 8, 2));
-/// assert_eq!((state.tickets, state.begun, state.lines[0].published), (0, 1, 0));
+/// assert_eq!((state.tickets, state.begun, state.line(Line(0)).published), (0, 1, 0));
 /// ```
 ///
 /// Later stores may carry more, so a host that puts one together sets the fields of the default, which is all zeros:
 ///
 /// ```compile_fail,E0639
 /// # let (size, pages, nodes, updates, tickets, taken, assigned, places, begun) = (16, 4, 8, 2, 0, 0, 0, 0, 1);
-/// # let lines = [pit_host::LineState::default(); 16];
-/// let state = pit_host::State { size, pages, nodes, updates, tickets, taken, assigned, places, begun, lines };
+/// # let (sources, lines) = (0, [0; 16]);
+/// let state = pit_host::State { size, pages, nodes, updates, tickets, taken, assigned, places, begun, sources, lines };
 /// ```
 #[repr(C)]
 #[derive(Clone, Copy, Debug, Default, PartialEq, Eq, Hash)]
@@ -78,8 +79,60 @@ pub struct State {
     pub places: u64,
     /// How many lines have begun.
     pub begun: u64,
-    /// The lines, in the order in which they begin.
-    pub lines: [LineState; 16],
+    /// The lines that the lines begin from, 4 bits a line, line 0 lowest.
+    pub sources: u64,
+    /// The lines, in the order in which they begin: 16 bits each, the lowest first, for the version that it begins from, the
+    /// last version assigned, the last published, and the size in pages of the last assigned.
+    pub lines: [u64; 16],
+}
+
+/// How many bits of a line's number one of its four takes, and how many of `sources` a line.
+const NUMBER_BITS: u32 = 16;
+const SOURCE_BITS: u32 = 4;
+
+impl State {
+    /// A line, unpacked; all zeros where no such line has begun.
+    pub fn line(&self, line: Line) -> LineState {
+        let at = match usize::try_from(line.0) {
+            Ok(at) if at < LINES => at,
+            _ => return LineState::default(),
+        };
+        let number = |k: u32| (self.lines[at] >> (k * NUMBER_BITS)) % (1 << NUMBER_BITS);
+        LineState {
+            source: (self.sources >> (at as u32 * SOURCE_BITS)) % (1 << SOURCE_BITS),
+            start: number(0),
+            assigned: number(1),
+            published: number(2),
+            blob: number(3),
+        }
+    }
+
+    /// Packs a line in its place. Of each number the bits that there is room for are kept, 4 of the source and 16 of the
+    /// others. Of a line past the last nothing is.
+    ///
+    /// Only the store's calls have a reason to change a line, and a host that puts a state together.
+    ///
+    /// ```
+    /// use pit_host::{Line, State};
+    /// let mut state = State::default();
+    /// let mut line = state.line(Line(2));
+    /// (line.source, line.assigned, line.blob) = (1, 7, 4_096);
+    /// state.set_line(Line(2), line);
+    /// assert_eq!((state.sources, state.lines[2]), (0x100, 0x1000_0000_0007_0000));
+    /// assert_eq!(state.line(Line(2)), line);
+    /// ```
+    pub fn set_line(&mut self, line: Line, to: LineState) {
+        let at = match usize::try_from(line.0) {
+            Ok(at) if at < LINES => at,
+            _ => return,
+        };
+        let numbers = [to.blob, to.published, to.assigned, to.start];
+        let packed = |word, number: u64| (word << NUMBER_BITS) | (number % (1 << NUMBER_BITS));
+        self.lines[at] = numbers.into_iter().fold(0, packed);
+        let shift = at as u32 * SOURCE_BITS;
+        let source = to.source % (1 << SOURCE_BITS);
+        self.sources = (self.sources & !(0xf << shift)) | (source << shift);
+    }
 }
 
 /// For each line the number of an update, 16 bits a line, four lines a number, the lowest first; 0 for none.
@@ -109,9 +162,11 @@ pub struct Entries {
 /// Later records may hold more, so there is no literal of one outside this crate:
 ///
 /// ```compile_fail,E0639
-/// # let (n, number, put, update, ticket, name, f, last, size, place, woven) = (0, 0, 0, 0, 0, 0, 0, 0, 0, 0, 0);
-/// # let entries = pit_host::Entries::default();
-/// let record = pit_host::Record { n, number, put, update, ticket, name, f, last, size, place, woven, entries };
+/// # let (n, number, put, update, ticket, name, f, last) = (0, 0, 0, 0, 0, 0, 0, 0);
+/// # let (top, past, height, size, count, woven, entries) = (0, 0, 0, 0, 0, 0, pit_host::Entries::default());
+/// let record = pit_host::Record {
+///     n, number, put, update, ticket, name, f, last, top, past, height, size, count, woven, entries
+/// };
 /// ```
 #[repr(C)]
 #[derive(Clone, Copy, Debug, Default, PartialEq, Eq, Hash)]
@@ -133,10 +188,16 @@ pub struct Record {
     pub f: u64,
     /// The update's last page.
     pub last: u64,
+    /// The update's first node place, with the height added.
+    pub top: u64,
+    /// 2f less the number of one bits in f: the sum of f, f/2, f/4 and so on.
+    pub past: u64,
+    /// The height of the update's root: 2 to it is the smallest power of two not below the size.
+    pub height: u64,
     /// The blob's size in pages after the update, on its line.
     pub size: u64,
-    /// The update's first node place.
-    pub place: u64,
+    /// How many nodes the update makes.
+    pub count: u64,
     /// How many of the update's nodes are woven.
     pub woven: u64,
     /// For each line the number of the update that is its own version of this record's number.
@@ -215,10 +276,9 @@ pub struct ViewReply {
 
 // Numbers of 64 bits, without gaps: the layout that the libraries were proved and compiled with.
 const _: () = assert!(
-    size_of::<LineState>() == 8 * 5
-        && size_of::<State>() == 8 * (9 + 5 * LINES)
+    size_of::<State>() == 8 * (10 + LINES)
         && size_of::<Entries>() == 8 * 4
-        && size_of::<Record>() == 8 * 15
+        && size_of::<Record>() == 8 * 18
         && size_of::<FormatReply>() == 8 + size_of::<State>()
         && size_of::<BeginReply>() == 8 * 2 + size_of::<State>()
         && size_of::<AssignReply>() == 8 * 3 + size_of::<State>()

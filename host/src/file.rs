@@ -1,5 +1,6 @@
 //! A store in a file: saving it and loading it.
 
+mod derived;
 mod form;
 #[allow(unsafe_code)]
 mod lock;
@@ -7,7 +8,7 @@ mod new;
 mod old;
 
 use crate::areas::{Areas, Lend};
-use crate::counters::Version;
+use crate::counters::{Line, Version};
 use crate::error::Error;
 use crate::keeper::{Keeper, Store};
 use form::{each_piece, Header};
@@ -65,7 +66,8 @@ pub enum FileError {
     },
     /// The checksum is not that of the header and the areas: some byte is damaged.
     Checksum,
-    /// The counters are none that calls on a store of these limits leave.
+    /// The counters are none that calls on a store of these limits leave, or a record's numbers do not follow from each
+    /// other as calls leave them.
     Counters,
 }
 
@@ -75,7 +77,7 @@ impl fmt::Display for FileError {
         match self {
             Io(e) => write!(f, "the file could not be opened, read or written: {e}"),
             Foreign => f.write_str("the file is no store's: it begins otherwise"),
-            Form(form) => write!(f, "the file has form {form}; only forms 1 and 2 are known"),
+            Form(form) => write!(f, "the file has form {form}; only forms 1 to 3 are known"),
             Limits(e) => write!(f, "the store's limits are not allowed; {e}"),
             AreaLengths => f.write_str("the areas' lengths are not those of the store's limits"),
             Truncated { expected, found } => {
@@ -88,7 +90,9 @@ impl fmt::Display for FileError {
                 )
             }
             Checksum => f.write_str("the file is damaged: its checksum differs"),
-            Counters => f.write_str("the store's counters are none that its calls leave"),
+            Counters => {
+                f.write_str("the store's counters or records are none that its calls leave")
+            }
         }
     }
 }
@@ -130,13 +134,13 @@ impl<A: Lend> Keeper<A> {
     /// | Bytes | What |
     /// |---|---|
     /// | 0 to 7 | the letters `PITSTORE` |
-    /// | 8 to 15 | the form, 2 |
+    /// | 8 to 15 | the form, 3 |
     /// | 16 to 47 | page size; capacities in pages, nodes and updates |
     /// | 48 to 87 | last ticket given; page numbers taken; updates that have a version; node places taken; lines begun |
-    /// | 88 to 727 | sixteen lines, five numbers a line, in the order of [`LineState`](crate::LineState)'s fields |
-    /// | 728 to 751 | lengths in bytes of the page area, the node area and the register |
-    /// | 752 to 759 | checksum, CRC-64/XZ, over bytes 0 to 751 and all bytes from 760 on |
-    /// | from 760 | the page area; the node area, its numbers of 32 bits, lowest byte first; the register, fifteen numbers a record, in the order of [`Record`](crate::Record)'s fields |
+    /// | 88 to 223 | the lines, packed as in [`State`](crate::State): the sources in one number, then a number a line |
+    /// | 224 to 247 | lengths in bytes of the page area, the node area and the register |
+    /// | 248 to 255 | checksum, CRC-64/XZ, over bytes 0 to 247 and all bytes from 256 on |
+    /// | from 256 | the page area; the node area, its numbers of 32 bits, lowest byte first; the register, eighteen numbers a record, in the order of [`Record`](crate::Record)'s fields |
     ///
     /// ```
     /// use pit_host::{Limits, Store, Version};
@@ -155,6 +159,7 @@ impl<A: Lend> Keeper<A> {
         let header = Header::of(self.state(), areas);
         header.check_limits()?;
         header.check_counters()?;
+        header.check_records(areas.register)?;
 
         let new = NewFile::for_place_of(path.as_ref())?;
         let mut out = BufWriter::new(&new.file);
@@ -163,7 +168,7 @@ impl<A: Lend> Keeper<A> {
         out.flush()?;
         drop(out);
         new.replace()?;
-        Ok(Version(header.state.lines[0].published))
+        Ok(Version(header.state.line(Line(0)).published))
     }
 }
 
@@ -171,8 +176,8 @@ impl Store {
     /// Loads a store just as [`save`](Keeper::save) found it. Everything is checked before there is a store, and the
     /// lengths before memory is taken; [`FileError`] says what can be wrong.
     ///
-    /// A file of form 1, from before there were lines, is loaded as a store with line 0 alone: just the one that the same
-    /// calls on line 0 leave now.
+    /// A file of an earlier form is loaded as just the store that the same calls leave now. One of form 1, from before there
+    /// were lines, has line 0 alone.
     pub fn load(path: impl AsRef<Path>) -> Result<Store, FileError> {
         let file = File::open(path)?;
         let found = file.metadata()?.len();
@@ -185,6 +190,7 @@ impl Store {
         header.fill(&mut areas, &mut file, &mut sum)?;
         header.check_checksum(&sum)?;
         header.check_counters()?;
+        header.check_records(areas.register())?;
         Ok(Keeper::resume(header.state, areas))
     }
 }

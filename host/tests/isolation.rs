@@ -150,7 +150,7 @@ fn disturb(random: &mut Random, store: &mut Store, planner: Option<Line>) {
         let put = store.put(ticket, i, &[random.next() as u8; 16]);
         put.expect("each page once");
     }
-    let size = store.state().lines[line.0 as usize].blob;
+    let size = store.state().line(line).blob;
     let first = PageIndex(random.below(size + 1));
     let nodes = store
         .write(line, ticket, first)

@@ -4,7 +4,7 @@ mod updates;
 
 use pit_host::{
     Areas, Assigned, ByteOffset, Error, Keeper, Lend, Lent, LentAreas, Limits, Line, LineVersion,
-    Node, PageIndex, Parts, Planned, Record, Store, Ticket, Version,
+    Node, PageIndex, Parts, Planned, Record, State, Store, Ticket, Version,
 };
 use updates::{assign, fills, limits, of_three_versions, put_all, update, LIVE};
 
@@ -83,12 +83,48 @@ fn owned_and_lent_stores_do_the_same() {
             assert_eq!(owned.state(), lent.state());
         }
         assert!(owned.areas().parts() == lent.areas().parts());
-        for (published, line) in published.iter_mut().zip(owned.state().lines) {
+        for (published, line) in published.iter_mut().zip((0..).map(Line)) {
+            let line = owned.state().line(line);
             *published += line.published - line.start;
         }
     }
     let [live, first, second] = published;
     assert!(live > 60 && first > 20 && second > 10, "{published:?}");
+}
+
+/// Each line has its own bits: what is packed comes back, and nothing else changes.
+#[test]
+fn lines_are_packed_beside_each_other() {
+    let (mut state, mut random) = (State::default(), Random(20_260_402));
+    let mut lines = [state.line(LIVE); 16];
+    for _ in 0..500 {
+        let at = random.below(16) as usize;
+        let line = &mut lines[at];
+        line.source = random.below(16);
+        (line.start, line.assigned) = (random.below(65_536), random.below(65_536));
+        (line.published, line.blob) = (random.below(65_536), random.below(65_536));
+        state.set_line(Line(at as u64), *line);
+        for (at, line) in (0..).zip(lines) {
+            assert_eq!(state.line(Line(at)), line, "line {at}");
+        }
+    }
+    // there are no others, and nothing is kept of a bit too many
+    let (kept, mut wide) = (state, lines[3]);
+    for line in [16, 1 << 32, u64::MAX].map(Line) {
+        state.set_line(line, lines[0]);
+        assert_eq!(
+            (state, state.line(line)),
+            (kept, State::default().line(LIVE))
+        );
+    }
+    wide.source += 16;
+    wide.blob += 1 << 16;
+    wide.start += 1 << 63;
+    state.set_line(Line(3), wide);
+    assert_eq!(state, kept);
+    // the last bits are line 15's
+    assert_eq!(state.sources >> 60, lines[15].source);
+    assert_eq!(state.lines[15] >> 48, lines[15].blob);
 }
 
 #[test]

@@ -410,15 +410,16 @@ fn row_19_of_nodes_not_stored() {
 fn row_19_of_page_numbers_places_and_records_past_their_areas() {
     let mut store = spoilt(|_, areas| areas.register[3].number = 16);
     refused(&mut store, 19, |s| s.put(Ticket(4), 0, &[9; 16]));
-    let mut store = spoilt(|_, areas| areas.register[3].place = 64);
+    let mut store = spoilt(|_, areas| areas.register[3].top = 64 + areas.register[3].height);
     refused(&mut store, 19, |s| s.weave(Ticket(6)).map(drop));
     let mut store = spoilt(|state, _| state.tickets = u64::MAX);
     refused(&mut store, 19, |s| s.put(Ticket(9), 0, &[9; 16]));
     refused(&mut store, 19, |s| s.append(LIVE, Ticket(9)).map(drop));
     refused(&mut store, 19, |s| s.weave(Ticket(9)).map(drop));
     let mut store = spoilt(|state, _| {
-        state.lines[0].assigned = 10;
-        state.lines[0].published = 9;
+        let mut live = state.line(LIVE);
+        (live.assigned, live.published) = (10, 9);
+        state.set_line(LIVE, live);
     });
     refused(&mut store, 19, |s| s.publish(LIVE).map(drop));
     refused(&mut store, 19, |s| s.size(LIVE, Version(9)).map(drop));

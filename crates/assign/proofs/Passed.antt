@@ -1,17 +1,19 @@
 -- What the rows of ASSIGN, passed, say of the store and the ticket's record; and the register that it leaves then. Assumes nothing.
-use mathlib.Core.Path.{_≡_, refl, ap}
+use mathlib.Core.Path.{_≡_, refl, ap, _∙_}
 use mathlib.Core.List.{List}
 use mathlib.Core.Logic.{_⊎_, inl, inr}
 use Prim.Native.Nat.{ℕ, zero, suc, pred, _+_, _-_, _^_, _≤_, _<_, min, max}
 use native.Mathlib.Omega.{arith}
 use lib.ListN.{getD}
+use Rattle.tree.specs.Tree.{Update, rootHeight, count}
 use Rattle.lines.specs.Lines.{numberOf}
 use Rattle.lines.specs.declared.Branch.{Branch}
-use Rattle.register.specs.Register.{noRecord, withRecord}
+use Rattle.register.specs.Register.{noRecord, limited, withRecord}
+use Rattle.register.proofs.Counted.{limited-capped}
 use Rattle.register.specs.declared.Record.{Record}
 use Rattle.table.specs.Table.{assignRows, unless}
 use Rattle.versions.specs.Store.{lineIn}
-use Rattle.assign.specs.Assign.{numberBy, Roomy, assignRefusal, withUpdateOf, withUpdatePart, withEntryOf, withAssigned}
+use Rattle.assign.specs.Assign.{updateAt, numberBy, Roomy, assignRefusal, withUpdateOf, withUpdatePart, withEntryOf, withAssigned}
 use Rattle.versions.specs.declared.Store.{Store}
 use Rattle.versions.specs.declared.Lengths.{Lengths}
 use Rattle.table.proofs.Table.{passed}
@@ -37,15 +39,32 @@ assign-passed s g r l t f e =
 pub number-next : (l : ℕ) (b : Branch) → b .assigned .0 < 2 ^ 64 - 1 → numberBy l b ≡ numberOf l (suc (b .assigned .0))
 number-next l b h = let e : min (b .assigned .0 + 1) (2 ^ 64 - 1) ≡ suc (b .assigned .0) = omega arith in ap (numberOf l) e
 
+-- An update has more nodes than its root's height, so that the sum of its first place and the height has 64 bits where there is room for its nodes.
+count-above : (f l h : ℕ) → h < count f l h
+unfolding count
+count-above f l zero = omega arith
+count-above f l (suc h) = omega (arith, count-above f l h)
+
+pub top-fits : (s : Store) (l f n : ℕ) → Roomy s l f n → s .nodes < 2 ^ 64
+    → let end = min (f + n) (2 ^ 64 - 1) in
+    let b = lineIn s l .blob in
+    min (s .places + rootHeight (limited f (end - 1) (max b end) .size)) (2 ^ 64 - 1) ≡ s .places + rootHeight (updateAt b f n .size)
+top-fits s l f n room fits =
+    let u = updateAt (lineIn s l .blob) f n in
+    ap (λ (x : Update). min (s .places + rootHeight (x .size)) (2 ^ 64 - 1)) (limited-capped f (f + n) (lineIn s l .blob))
+    ∙ omega (arith, count-above (u .f) (u .last) (rootHeight (u .size)), room .nodes)
+
 -- ASSIGN writes the ticket's record and then, each over what that left, the next update's and that of the line's next version. The numbers as the code has them
 -- need be those of the definition only where the call is accepted.
 pub all-written :
-    (s : Store) (rs : List Record) (r : Record) (l t f k next c end : ℕ)
+    (s : Store) (rs : List Record) (r : Record) (l t f k next c end top : ℕ)
     → let b = lineIn s l in
     let ps = unless k rs (withRecord rs (pred t) (withUpdateOf r next)) in
-    let qs = unless k ps (withRecord ps (s .assigned) (withUpdatePart (getD ps (s .assigned) noRecord) t c f (end - 1) (max (b .blob) end) (s .places))) in
-    (k ≡ 0 → (next ≡ suc (s .assigned)) × (c ≡ numberOf l (suc (b .assigned .0))) × (end ≡ f + r .n))
+    let qs = unless k ps (withRecord ps (s .assigned) (withUpdatePart (getD ps (s .assigned) noRecord) t c f (end - 1) (max (b .blob) end) top)) in
+    (k ≡ 0
+    → (next ≡ suc (s .assigned)) × (c ≡ numberOf l (suc (b .assigned .0))) × (end ≡ f + r .n)
+    × (top ≡ s .places + rootHeight (updateAt (b .blob) f (r .n) .size)))
     → unless k qs (withRecord qs (b .assigned .0) (withEntryOf (getD qs (b .assigned .0) noRecord) l next)) ≡ unless k rs (withAssigned s rs r l t f)
 unfolding unless
-all-written s rs r l t f zero next c end h = let e = h refl in rw (e .0, e .1, e .2)
-all-written s rs r l t f (suc k) next c end h = refl
+all-written s rs r l t f zero next c end top h = let e = h refl in rw (e .0, e .1, e .2, e .3)
+all-written s rs r l t f (suc k) next c end top h = refl

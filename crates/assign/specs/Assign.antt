@@ -4,8 +4,9 @@ use mathlib.Core.Bool.{Bool}
 use mathlib.Core.List.{List, [], _∷_}
 use Prim.Native.Nat.{ℕ, zero, suc, pred, _+_, _-_, _%_, _^_, _≤_, _<_, min, max}
 use lib.Dec.{eqb}
-use lib.ListN.{getD, set}
-use Rattle.tree.specs.Tree.{Update, countOf}
+use lib.ListN.{getD}
+use Rattle.tree.specs.Tree.{Update, countOf, rootHeight}
+use Rattle.tree.specs.Place.{halvings}
 use Rattle.lines.specs.Lines.{numberOf, withEntry}
 use Rattle.lines.specs.declared.Branch.{Branch}
 use Rattle.register.specs.Register.{noRecord, limited, withRecord}
@@ -16,7 +17,7 @@ use Rattle.versions.specs.declared.Lengths.{Lengths}
 use Rattle.assign.specs.declared.Assigned.{Assigned}
 use Rattle.assign.specs.declared.Assigned.the-variants as Assigned
 use Rattle.assign.specs.declared.AssignOut.{AssignOut}
-use Rattle.versions.specs.Store.{Areas, lengthsOf, differ, recordOf, linesIn, lineIn}
+use Rattle.versions.specs.Store.{Areas, lengthsOf, differ, recordOf, linesIn, lineIn, withLine}
 
 -- The size in pages after n pages from f on, of a blob of so many pages.
 abbrev pub sizeAfter : ℕ → ℕ → ℕ → ℕ
@@ -88,18 +89,21 @@ withVersion b size = record { source = b .source; start = b .start; assigned = r
 
 -- The store with one update more, on line l, its node places taken.
 abbrev pub withUpdate : Store → ℕ → ℕ → ℕ → Store
-withUpdate s l count size = record {
-  size = s .size;
-  pages = s .pages;
-  nodes = s .nodes;
-  updates = s .updates;
-  tickets = s .tickets;
-  taken = s .taken;
-  assigned = suc (s .assigned);
-  places = s .places + count;
-  begun = s .begun;
-  lines = set (s .lines) l (withVersion (lineIn s l) size);
-}
+withUpdate s l count size =
+    let x = withLine s l (withVersion (lineIn s l) size) in
+    record {
+      size = x .size;
+      pages = x .pages;
+      nodes = x .nodes;
+      updates = x .updates;
+      tickets = x .tickets;
+      taken = x .taken;
+      assigned = suc (s .assigned);
+      places = s .places + count;
+      begun = x .begun;
+      sources = x .sources;
+      lines = x .lines;
+    }
 
 -- A record with its ticket's update.
 abbrev pub withUpdateOf : Record → ℕ → Record
@@ -112,28 +116,37 @@ withUpdateOf r k = record {
   name = r .name;
   f = r .f;
   last = r .last;
+  top = r .top;
+  past = r .past;
+  height = r .height;
   size = r .size;
-  place = r .place;
+  count = r .count;
   woven = r .woven;
   entries = r .entries;
 }
 
--- A record with an update's part anew: its ticket, its version's number, pages f .. last, size after, first node place, none woven.
+-- A record with an update's part anew: its ticket, its version's number, pages f .. last, size after, the sum of its first node place and its root's height, and what
+-- follows from its pages and the size; none woven.
 abbrev pub withUpdatePart : Record → ℕ → ℕ → ℕ → ℕ → ℕ → ℕ → Record
-withUpdatePart r t name f last size place = record {
-  n = r .n;
-  number = r .number;
-  put = r .put;
-  update = r .update;
-  ticket = record { 0 = t };
-  name = name;
-  f = record { 0 = f };
-  last = record { 0 = last };
-  size = size;
-  place = place;
-  woven = 0;
-  entries = r .entries;
-}
+withUpdatePart r t name f last size top =
+    let u = limited f last size in
+    record {
+      n = r .n;
+      number = r .number;
+      put = r .put;
+      update = r .update;
+      ticket = record { 0 = t };
+      name = name;
+      f = record { 0 = f };
+      last = record { 0 = last };
+      top = top;
+      past = halvings (u .f);
+      height = rootHeight (u .size);
+      size = size;
+      count = countOf u;
+      woven = 0;
+      entries = r .entries;
+    }
 
 -- A record with update k as line l's own version.
 abbrev pub withEntryOf : Record → ℕ → ℕ → Record
@@ -146,8 +159,11 @@ withEntryOf r l k = record {
   name = r .name;
   f = r .f;
   last = r .last;
+  top = r .top;
+  past = r .past;
+  height = r .height;
   size = r .size;
-  place = r .place;
+  count = r .count;
   woven = r .woven;
   entries = withEntry (r .entries) l k;
 }
@@ -162,7 +178,8 @@ withNextUpdate s rs r l t f =
     let b = lineIn s l in
     let ps = withTicketUpdate s rs r t in
     withRecord ps (s .assigned)
-    (withUpdatePart (getD ps (s .assigned) noRecord) t (numberOf l (suc (b .assigned .0))) f (f + r .n - 1) (sizeAfter (b .blob) f (r .n)) (s .places))
+    (withUpdatePart (getD ps (s .assigned) noRecord) t (numberOf l (suc (b .assigned .0))) f (f + r .n - 1) (sizeAfter (b .blob) f (r .n))
+    (s .places + rootHeight (updateAt (b .blob) f (r .n) .size)))
 
 abbrev pub withAssigned : Store → List Record → Record → ℕ → ℕ → ℕ → List Record
 withAssigned s rs r l t f =

@@ -3,7 +3,8 @@ ghost use mathlib.Core.Path.{_≡_};
 ghost use Prim.Native.Nat.{min, max, _+_, _-_, _^_, _<_, _≤_};
 ghost use lib.Dec.{ltb};
 ghost use mathlib.Core.List.{[], _∷_};
-ghost use Rattle.tree.specs.Tree.{countOf};
+ghost use Rattle.tree.specs.Tree.{countOf, rootHeight};
+ghost use Rattle.register.specs.Register.{limited};
 ghost use Rattle.table.specs.Table.{_<?_, _gives_, noLine, always, firstRefusal, unless};
 ghost use Rattle.versions.specs.Store.{areasOf, linesIn, lineIn};
 ghost use Rattle.assign.specs.Assign.{updateAt, numberBy, Roomy, allPut, roomRefusal, assignRefusal, withUpdate, withUpdateOf, withUpdatePart, withEntryOf, withAssigned, assignedBy, assignOut, assignRegister};
@@ -18,6 +19,7 @@ use register::within_limits;
 use tree::PageIndex;
 use tree::Ticket;
 use tree::Version;
+use tree::halvings;
 use tree::node_count;
 use tree::root_height;
 use versions::Lengths;
@@ -198,19 +200,31 @@ fn ticket_part(r: Record, k: u64) -> Record
     q
 }
 
-// A record with an update's part anew, of ticket t, numbered c: n pages at page f of a blob of so many pages, its first node place, none woven.
+// A record with an update's part anew, of ticket t, numbered c: n pages at page f of a blob of so many pages, its first node place, none woven. What the walk and WEAVE need
+// of its tree is worked out here, once.
 fn update_part(r: Record, t: Ticket, c: u64, f: PageIndex, n: u64, blob: u64, place: u64) -> Record
-    ensures { λ q. ⌜ q ≡ withUpdatePart r (t .0) c (f .0) (min (f .0 + n) (2 ^ 64 - 1) - 1) (max blob (min (f .0 + n) (2 ^ 64 - 1))) place ⌝ }
+    ensures { λ q.
+        let end = min (f .0 + n) (2 ^ 64 - 1) in
+        ⌜ q ≡ withUpdatePart r (t .0) c (f .0) (end - 1) (max blob end) (min (place + rootHeight (limited (f .0) (end - 1) (max blob end) .size)) (2 ^ 64 - 1)) ⌝ }
 {
     let last = last_page(f, n);
     let size = size_after(blob, f, n);
+    let e = within_limits(f, last, size);
+    let height = root_height(e.size);
+    let first = e.f;
+    let past = halvings(first.0);
+    let count = node_count(e.f, e.last, height);
+    let top = capped_sum(place, height);
     let mut q = r;
     q.ticket = t;
     q.name = c;
     q.f = f;
     q.last = last;
+    q.top = top;
+    q.past = past;
+    q.height = height;
     q.size = size;
-    q.place = place;
+    q.count = count;
     q.woven = 0;
     q
 }

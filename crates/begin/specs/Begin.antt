@@ -34,6 +34,7 @@ withTicket s n = record {
   assigned = s .assigned;
   places = s .places;
   begun = s .begun;
+  sources = s .sources;
   lines = s .lines;
 }
 
@@ -48,8 +49,11 @@ withTicketPart r n number = record {
   name = r .name;
   f = r .f;
   last = r .last;
+  top = r .top;
+  past = r .past;
+  height = r .height;
   size = r .size;
-  place = r .place;
+  count = r .count;
   woven = r .woven;
   entries = r .entries;
 }

@@ -1,13 +1,12 @@
 -- BRANCH line, v: what it answers and leaves, over any store and areas. (The thesis' branching: a new line that shares all up to a published version.)
 use Prim.Native.Nat.{ℕ, zero, suc}
-use lib.ListN.{set}
 use Rattle.lines.specs.declared.Branch.{Branch}
 use Rattle.table.specs.Table.{everyCall, firstRefusal, unless, branchRows}
 use Rattle.versions.specs.declared.Store.{Store}
 use Rattle.branch.specs.declared.Branched.{Branched}
 use Rattle.branch.specs.declared.Branched.the-variants as Branched
 use Rattle.branch.specs.declared.BranchOut.{BranchOut}
-use Rattle.versions.specs.Store.{Areas, areasDiffer, linesIn, lineIn, numberOn, partOn}
+use Rattle.versions.specs.Store.{Areas, areasDiffer, linesIn, lineIn, withLine, numberOn, partOn}
 use Rattle.versions.specs.Size.{notThere, pagesIn}
 
 unfoldable pub branchNumber : Store → Areas → ℕ → ℕ → ℕ
@@ -20,18 +19,21 @@ begunFrom l v pages = record { source = record { 0 = l }; start = record { 0 = v
 
 -- The store with one line more.
 abbrev pub withBranch : Store → Branch → Store
-withBranch s b = record {
-  size = s .size;
-  pages = s .pages;
-  nodes = s .nodes;
-  updates = s .updates;
-  tickets = s .tickets;
-  taken = s .taken;
-  assigned = s .assigned;
-  places = s .places;
-  begun = suc (linesIn s);
-  lines = set (s .lines) (linesIn s) b;
-}
+withBranch s b =
+    let x = withLine s (linesIn s) b in
+    record {
+      size = x .size;
+      pages = x .pages;
+      nodes = x .nodes;
+      updates = x .updates;
+      tickets = x .tickets;
+      taken = x .taken;
+      assigned = x .assigned;
+      places = x .places;
+      begun = suc (linesIn s);
+      sources = x .sources;
+      lines = x .lines;
+    }
 
 abbrev pub branched : ℕ → ℕ → Branched
 branched zero l = Branched.Begun (record { 0 = l })

@@ -2,17 +2,19 @@
 -- Assumes nothing.
 use mathlib.Core.Option.{Option}
 use mathlib.Core.List.{List, [], _∷_}
-use Prim.Native.Nat.{ℕ, suc, _+_, _*_}
+use Prim.Native.Nat.{ℕ, suc, _+_, _*_, _%_}
 use lib.Dec.{ltb}
 use lib.ListN.{length, getD}
-use Rattle.tree.specs.Tree.{nth}
+use Rattle.tree.specs.Tree.{countOf, nth, rootHeight}
+use Rattle.tree.specs.Place.{halvings}
 use Rattle.tree.specs.Walk.{used}
-use Rattle.lines.specs.Lines.{entriesOf}
+use Rattle.lines.specs.Lines.{packed, entriesOf}
 use Rattle.lines.specs.declared.Branch.{Branch}
+use Rattle.lines.proofs.States.{sourcesOf}
 use Rattle.register.specs.declared.Record.{Record}
 use Rattle.versions.specs.declared.Store.{Store}
 use Rattle.versions.specs.Store.{Areas}
-use Rattle.model.specs.History.{Page, pagesOf, taken, updateOf as toUpdate, updates, blobSize, isFilled, bitIf}
+use Rattle.model.specs.History.{Page, Ticket, Version, pagesOf, taken, updateOf as toUpdate, updates, blobSize, isFilled, bitIf}
 use Rattle.model.specs.Model.{Limits, Model, lineAt, updateAt, history, every, places, updateOf, numbered}
 use Rattle.model.specs.OnModel.{ticketIn, either}
 use Rattle.model.proofs.Laid.{tab}
@@ -33,6 +35,10 @@ numberAt m i = either (ltb i (length (m .tickets))) (taken (m .tickets) i) 0
 abbrev pub placeAt : Model → ℕ → ℕ
 placeAt m i = either (ltb i (length (m .updates))) (used (updates (every m)) i) 0
 
+-- The node count of an update of these tickets; 0 where there is none, which has no ticket.
+abbrev pub countBy : List Ticket → Version → ℕ
+countBy ks u = either (ltb 0 (u .ticket)) (countOf (toUpdate ks u)) 0
+
 -- The update that is line l's own version v; 0 where that is shared or not there.
 abbrev pub ownAt : Model → ℕ → ℕ → ℕ
 ownAt m l v = either (ltb (lineAt m l .start) v) (nth 0 (lineAt m l .shown) v) 0
@@ -50,8 +56,11 @@ recordImage m i =
       name = numbered (u .line) (u .number);
       f = record { 0 = u .f };
       last = record { 0 = toUpdate (m .tickets) u .last };
+      top = placeAt m i + rootHeight (u .size);
+      past = halvings (u .f);
+      height = rootHeight (u .size);
       size = u .size;
-      place = placeAt m i;
+      count = countBy (m .tickets) u;
       woven = ticketIn m (u .ticket) .woven;
       entries = entriesOf (λ l. ownAt m l (suc i));
     }
@@ -61,19 +70,24 @@ registerImage L m = tab (L .updates) (recordImage m)
 
 -- ---- the lines
 
+-- Line l's state; its source has 4 bits.
 abbrev pub branchImage : Model → ℕ → Branch
 branchImage m l =
     let x = lineAt m l in
     record {
-      source = record { 0 = x .source };
+      source = record { 0 = x .source % 16 };
       start = record { 0 = x .start };
       assigned = record { 0 = length (x .shown) };
       published = record { 0 = x .published };
       blob = blobSize (history m l);
     }
 
-unfoldable pub linesImage : Model → List Branch
-linesImage m = tab 16 (branchImage m)
+-- The states as the store has them: the sources in a word, and a word a line.
+unfoldable pub sourcesImage : Model → ℕ
+sourcesImage m = sourcesOf 16 (λ l. branchImage m l .source .0)
+
+unfoldable pub linesImage : Model → List ℕ
+linesImage m = tab 16 (λ l. packed (branchImage m l))
 
 -- ---- the whole
 
@@ -88,6 +102,7 @@ storeImage L m = record {
   assigned = length (m .updates);
   places = places m;
   begun = length (m .lines);
+  sources = sourcesImage m;
   lines = linesImage m;
 }
 

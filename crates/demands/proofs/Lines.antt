@@ -11,33 +11,32 @@ use lib.Dec.{ltb}
 use lib.ListN.{length, getD, List·getD-eq-default}
 use Rattle.tree.specs.Tree.{nth}
 use Rattle.tree.proofs.Meets.{lt-or-le}
-use Rattle.lines.specs.Lines.{noBranch, branchAt, ownerOf, Rooted, numberOf, lineOf, versionOf, entryAt, entriesOf}
+use Rattle.lines.specs.Lines.{noBranch, packed, unpacked, ownerOf, Rooted, numberOf, lineOf, versionOf, entryAt, entriesOf}
 use Rattle.lines.specs.declared.Branch.{Branch}
 use Rattle.lines.proofs.Numbers.{number-is as code-is}
 use Rattle.lines.proofs.Owner.{owner-own, owner-shared, owner-induction}
 use Rattle.lines.proofs.Packed.{entry-of}
+use Rattle.lines.proofs.States.{Fits, unpacked-packed, source-of, with-source-of}
 use Rattle.register.specs.Register.{noRecord, partOf, versionRecord, versionPart}
 use Rattle.register.specs.declared.Record.{Record}
 use Rattle.register.proofs.Records.{version-own, version-entry}
 use Rattle.table.proofs.Table.{number-cases}
-use Rattle.versions.specs.Store.{recordOf, linesIn, lineIn, numberOn, partOn}
+use Rattle.versions.specs.Store.{recordOf, linesIn, lineIn, withLine, numberOn, partOn}
+use Rattle.versions.proofs.Own.{line-there, line-past}
+use Rattle.model.specs.History.{blobSize}
 use Rattle.model.specs.Model.{Limits, Line, Model, noLine, lineAt, updateAt, history, numbered, numberIn}
 use Rattle.model.specs.OnModel.{either}
 use Rattle.model.proofs.Sound.{Sound}
-use Rattle.model.proofs.Tab.{length-tab, getD-tab}
+use Rattle.model.proofs.Tab.{getD-tab, tab-set}
 use Rattle.model.proofs.Nth.{nth-past}
-use Rattle.model.proofs.Facts.{versions-few, versions-most, shown-sound}
-use Rattle.model.proofs.Shown.{shownAt}
+use Rattle.model.proofs.Facts.{versions-few, versions-most, shown-sound, shown-small}
+use Rattle.model.proofs.Shown.{shownAt, blob-shown}
 use Rattle.model.proofs.Owner.{ownerOf as ownerIn, owner-there, owner-starts, owner-shows, owner-number, source-there, source-has, owner-own as own-here, owner-shared as own-there}
 use Rattle.model.proofs.Numbers.{numbered-is, number-is, number-line, number-version}
-use Rattle.demands.proofs.Image.{ownAt, recordImage, registerImage, branchImage, linesImage, storeImage, areasImage}
+use Rattle.demands.proofs.Image.{ownAt, recordImage, registerImage, branchImage, sourcesImage, linesImage, storeImage, areasImage}
 use Rattle.demands.proofs.Records.{record-of, own-upto, name-image, update-room}
 
 -- ---- the states
-
-pub length-lines : (m : Model) → length (linesImage m) ≡ 16
-unfolding linesImage
-length-lines m = length-tab 16 (branchImage m)
 
 -- A line that has not begun has the state of one.
 line-none : (m : Model) (l : ℕ) → length (m .lines) ≤ l → branchImage m l ≡ noBranch
@@ -47,15 +46,54 @@ module _ (L : Limits) (m : Model) (S : Sound L m) where
   pub lines-in : linesIn (storeImage L m) ≡ length (m .lines)
   lines-in = omega (arith, S .few)
 
-  pub branch-at : (l : ℕ) → branchAt (linesImage m) l ≡ branchImage m l
-  unfolding linesImage
-  branch-at l = elim (lt-or-le l 16) [
-    | inl h ↦ getD-tab 16 (branchImage m) l noBranch h
-    | inr h ↦ List·getD-eq-default (linesImage m) noBranch (omega (arith, length-lines m)) ∙ sym (line-none m l (omega (arith, S .few)))
+  -- A line's blob is within the limit; one that has not begun has none.
+  pub blob-small : (l : ℕ) → blobSize (history m l) ≤ 4096
+  blob-small l = elim (lt-or-le l (length (m .lines))) [
+    | inl h ↦ omega (arith, blob-shown m l, shown-small L m S l h (length (lineAt m l .shown)) (omega arith))
+    | inr h ↦ rw (List·getD-eq-default (m .lines) noLine h) (omega arith)
   ]
 
+  -- A state's numbers have their bits, so that its word has them all.
+  state-fits : (l : ℕ) → Fits (branchImage m l)
+  state-fits l = elim (lt-or-le l (length (m .lines))) [
+    | inl h ↦
+        let x = S .lines l h in
+        let most = versions-most L m S l h in
+        record {
+          start = omega (arith, x .started, x .published);
+          assigned = omega arith;
+          published = omega (arith, x .published);
+          blob = omega (arith, blob-small l);
+        }
+    | inr h ↦ rw (line-none m l h) (record { start = omega arith; assigned = omega arith; published = omega arith; blob = omega arith })
+  ]
+
+  -- What the words say of a line is its state.
   pub line-in : (l : ℕ) → lineIn (storeImage L m) l ≡ branchImage m l
-  line-in l = branch-at l
+  unfolding sourcesImage linesImage
+  line-in l = elim (lt-or-le l 16) [
+    | inl h ↦
+        line-there (storeImage L m) l h
+        ∙ ap₂ unpacked
+        (source-of 16 (λ j. branchImage m j .source .0) (λ j k. omega arith) l h)
+        (getD-tab 16 (λ j. packed (branchImage m j)) l 0 h)
+        ∙ unpacked-packed (branchImage m l) (state-fits l)
+    | inr h ↦ line-past (storeImage L m) l h ∙ sym (line-none m l (omega (arith, S .few)))
+  ]
+
+  -- A state written for a line leaves the words of a model that has it there, and the others' as they were.
+  module _ (m′ : Model) (l : ℕ) (b : Branch) (line : l < 16) (new : branchImage m′ l ≡ b) (old : (j : ℕ) → j ≢ l → branchImage m j ≡ branchImage m′ j) where
+    pub sources-written : withLine (storeImage L m) l b .sources ≡ sourcesImage m′
+    unfolding sourcesImage
+    sources-written =
+        let source : Branch → ℕ = λ x. x .source .0 in
+        rw (lt-ltb l 16 line)
+        (with-source-of 16 (λ j. branchImage m j .source .0) (λ j. branchImage m′ j .source .0) (λ j k. omega arith) l (b .source .0) line
+        (omega (arith, ap source new)) (ap source new) (λ j h n. ap source (old j n)))
+
+    pub words-written : withLine (storeImage L m) l b .lines ≡ linesImage m′
+    unfolding linesImage
+    words-written = tab-set 16 (λ j. packed (branchImage m j)) (λ j. packed (branchImage m′ j)) l (packed b) line (λ j h n. ap packed (old j n)) (ap packed new)
 
   -- Every line but the first comes from a lower one.
   source-low : (l : ℕ) → 0 < l → lineAt m l .source < l
@@ -64,10 +102,10 @@ module _ (L : Limits) (m : Model) (S : Sound L m) where
     | inr h ↦ rw (List·getD-eq-default (m .lines) noLine h) o
   ]
 
-  pub rooted : Rooted (linesImage m)
+  pub rooted : Rooted (lineIn (storeImage L m))
   rooted = record {
-    first = rw (branch-at 0) (S .lines 0 (S .begun) .first refl);
-    earlier = λ l o h. rw (branch-at l) (source-low l o);
+    first = rw (line-in 0) (S .lines 0 (S .begun) .first refl);
+    earlier = λ l o h. rw (line-in l) (omega (arith, source-low l o));
   }
 
   -- ---- version v of line l, one of its own or a shared one
@@ -77,16 +115,16 @@ module _ (L : Limits) (m : Model) (S : Sound L m) where
   shared-above l v there o s = elim (number-cases l) [ inl z ↦ absurd (omega (arith, S .lines l there .first z)) | inr p ↦ p ]
 
   -- The line on which it got its number is found.
-  owner-found : (v : ℕ) → 0 < v → (l : ℕ) → l < 16 → l < length (m .lines) → v ≤ length (lineAt m l .shown) → ownerOf (linesImage m) l v ≡ ownerIn m l v
+  owner-found : (v : ℕ) → 0 < v → (l : ℕ) → l < 16 → l < length (m .lines) → v ≤ length (lineAt m l .shown) → ownerOf (lineIn (storeImage L m)) l v ≡ ownerIn m l v
   owner-found v o =
-      owner-induction (linesImage m) rooted v o (λ l. l < length (m .lines) → v ≤ length (lineAt m l .shown) → ownerOf (linesImage m) l v ≡ ownerIn m l v)
-      (λ l s there h. let s′ = rw (branch-at l) at s in owner-own (linesImage m) rooted v o l s ∙ sym (own-here L m S l v there o h s′))
+      owner-induction (lineIn (storeImage L m)) rooted v o (λ l. l < length (m .lines) → v ≤ length (lineAt m l .shown) → ownerOf (lineIn (storeImage L m)) l v ≡ ownerIn m l v)
+      (λ l s there h. let s′ = rw (line-in l) at s in owner-own (lineIn (storeImage L m)) rooted v o l s ∙ sym (own-here L m S l v there o h s′))
       (λ l f near s ih there h.
-      let s′ = rw (branch-at l) at s in
+      let s′ = rw (line-in l) at s in
       let p = shared-above l v there o s′ in
-      let e = branch-at l in
-      owner-shared (linesImage m) rooted v o l f s
-      ∙ ap (λ (b : Branch). ownerOf (linesImage m) (b .source .0) v) e
+      let e : lineIn (storeImage L m) l .source .0 ≡ lineAt m l .source = ap (λ (b : Branch). b .source .0) (line-in l) ∙ omega (arith, source-low l p) in
+      owner-shared (lineIn (storeImage L m)) rooted v o l f s
+      ∙ ap (λ (k : ℕ). ownerOf (lineIn (storeImage L m)) k v) e
       ∙ (rw e at ih) (source-there L m S l p there) (source-has L m S l v p there s′)
       ∙ sym (own-there L m S l v there o h p s′))
 

@@ -2,11 +2,13 @@
 -- Assumes nothing.
 use mathlib.Core.Path.{_≡_, refl, ap, _∙_}
 use mathlib.Core.Bool.{false}
-use Prim.Native.Nat.{ℕ, zero, suc, pred, _*_, _≤_, _<_, min, max}
+use Prim.Native.Nat.{ℕ, zero, suc, pred, _+_, _*_, _≤_, _<_, min, max}
 use native.Mathlib.Omega.{arith}
 use borrow.Author.Tests.{lt-ltb, eq-eqb}
 use lib.ListN.{length, getD}
-use Rattle.register.specs.Register.{noRecord, partOf, mostPage, limited, updateOf}
+use Rattle.tree.specs.Tree.{countOf, rootHeight}
+use Rattle.tree.specs.Place.{halvings}
+use Rattle.register.specs.Register.{noRecord, partOf, placeOf, mostPage, limited, updateOf}
 use Rattle.table.specs.Table.{holds}
 use Rattle.versions.specs.Store.{areasDiffer, recordOf}
 use Rattle.model.specs.History.{taken, updateOf as toUpdate, updates}
@@ -19,7 +21,7 @@ use Rattle.model.proofs.Sound.{Sound}
 use Rattle.model.proofs.Tab.{length-tab, getD-tab}
 use Rattle.model.proofs.Kept.Same.{number-upto}
 use Rattle.model.proofs.Owner.{own-update}
-use Rattle.demands.proofs.Image.{registerImage, recordImage, storeImage, areasImage}
+use Rattle.demands.proofs.Image.{countBy, registerImage, recordImage, storeImage, areasImage}
 
 module _ (L : Limits) (m : Model) where
   pub length-register : length (registerImage L m) ≡ L .updates
@@ -104,5 +106,18 @@ module _ (L : Limits) (m : Model) (S : Sound L m) (k : ℕ) (o : 0 < k) (h : k �
   pub woven-image : recordImage m (pred k) .woven ≡ ticketIn m (updateAt m k .ticket) .woven
   woven-image = ap (λ (j : ℕ). ticketIn m (updateAt m j .ticket) .woven) at-pred
 
-  pub place-image : recordImage m (pred k) .place ≡ firstPlace m k
-  place-image = rw (lt-ltb (pred k) (length (m .updates)) (omega arith))
+  pub height-image : recordImage m (pred k) .height ≡ rootHeight (updateAt m k .size)
+  height-image = ap (λ (j : ℕ). rootHeight (updateAt m j .size)) at-pred
+
+  pub past-image : recordImage m (pred k) .past ≡ halvings (updateAt m k .f)
+  past-image = ap (λ (j : ℕ). halvings (updateAt m j .f)) at-pred
+
+  pub count-image : recordImage m (pred k) .count ≡ countOf (toUpdate (m .tickets) (updateAt m k))
+  count-image = ap (λ (j : ℕ). countBy (m .tickets) (updateAt m j)) at-pred ∙ rw (lt-ltb 0 (updateAt m k .ticket) (S .updated k o h .from))
+
+  -- Where its nodes lie.
+  pub top-image : recordImage m (pred k) .top ≡ firstPlace m k + rootHeight (updateAt m k .size)
+  top-image = rw (lt-ltb (pred k) (length (m .updates)) (omega arith)) (ap (λ (j : ℕ). firstPlace m k + rootHeight (updateAt m j .size)) at-pred)
+
+  pub place-image : placeOf (partOf (recordImage m (pred k))) ≡ firstPlace m k
+  place-image = rw (top-image, height-image) (omega arith)

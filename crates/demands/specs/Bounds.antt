@@ -120,6 +120,7 @@ strayState =
         assigned = 0;
         places = 0;
         begun = 1;
+        sources = 0;
         lines = noLines;
       };
       areas = record {
@@ -134,8 +135,11 @@ strayState =
           name = 0;
           f = record { 0 = 0 };
           last = record { 0 = 0 };
+          top = 0;
+          past = 0;
+          height = 0;
           size = 0;
-          place = 0;
+          count = 0;
           woven = 0;
           entries = noEntries;
         } ∷ [];

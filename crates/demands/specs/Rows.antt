@@ -5,7 +5,7 @@ use mathlib.Core.Option.{some}
 use mathlib.Core.List.{List, [], _∷_}
 use Prim.Native.Nat.{ℕ, _*_}
 use lib.ListN.{replicate}
-use Rattle.lines.specs.Lines.{noBranch}
+use Rattle.lines.specs.Lines.{packed}
 use Rattle.lines.specs.declared.Branch.{Branch}
 use Rattle.register.specs.Register.{noRecord}
 use Rattle.model.specs.Calls.{Call, BEGIN, PUT, WEAVE, on, WRITE, APPEND, PUBLISH, BRANCH, READ, SIZE, RECENT, STAMP, VIEW, refused, ticketIs, putDone, versionIs, nodeIs, publishedIs, waiting, filled, sizeIs, recentIs, partIs, Outcome, says}
@@ -195,7 +195,8 @@ fullState nodes = record {
     assigned = 1;
     places = 1;
     begun = 1;
-    lines = lineWith 1 0 4096 ∷ replicate 15 noBranch;
+    sources = 0;
+    lines = packed (lineWith 1 0 4096) ∷ replicate 15 0;
   };
   areas = record {
     pages = replicate 80 5;
@@ -276,7 +277,8 @@ overrun =
         assigned = 9;
         places = s .places;
         begun = 1;
-        lines = lineWith 9 8 3 ∷ replicate 15 noBranch;
+        sources = 0;
+        lines = packed (lineWith 9 8 3) ∷ replicate 15 0;
       };
       areas = storeAfter limits areas calls .areas;
     }

@@ -23,6 +23,7 @@ fresh size pages nodes updates = record {
   assigned = 0;
   places = 0;
   begun = 1;
+  sources = 0;
   lines = noLines;
 }
 

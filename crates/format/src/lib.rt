@@ -6,7 +6,6 @@ ghost use Rattle.register.specs.Register.{noRecord};
 ghost use Rattle.table.specs.Table.{holds, outside};
 ghost use Rattle.versions.specs.Store.{areasOf};
 ghost use Rattle.format.specs.Format.{fresh, formatRefusal, formatted, formatAnswer, formatAreas};
-use lines::no_branch;
 use register::Record;
 use register::no_record;
 use tree::Ticket;
@@ -58,8 +57,7 @@ fn format_refusal(s: Store, l: Lengths) -> u64
 pub fn fresh_store(size: u64, pages: u64, nodes: u64, updates: u64) -> Store
     ensures { λ r. ⌜ r ≡ fresh size pages nodes updates ⌝ }
 {
-    let none = no_branch();
-    let lines = [none; 16];
+    let lines = [0u64; 16];
     Store {
         size,
         pages,
@@ -70,6 +68,7 @@ pub fn fresh_store(size: u64, pages: u64, nodes: u64, updates: u64) -> Store
         assigned: 0,
         places: 0,
         begun: 1,
+        sources: 0,
         lines,
     }
 }

@@ -1,5 +1,5 @@
 pub mod Words
 pub mod Packed
+pub mod States
 pub mod Numbers
-pub mod Branches
 pub mod Owner

@@ -1,22 +1,18 @@
 -- The line on which a version got its number: the code's steps, and the laws of sound lines. Assumes nothing.
 use mathlib.Core.Path.{_≡_, refl, sym, _∙_, ap}
 use mathlib.Core.Logic.{inl, inr}
-use mathlib.Core.List.{List}
 use Prim.Native.Nat.{ℕ, zero, suc, _-_, _<_, _≤_, min}
 use native.Mathlib.Nat.{min-eq-left}
-use native.Mathlib.Decide.{ℕ-discrete}
 use native.Mathlib.Omega.{arith}
 use borrow.Author.Tests.{lt-ltb, le-ltb}
 use lib.Dec.{ltb}
-use lib.ListN.{length, set, getD-replicate}
 use Rattle.tree.proofs.Meets.{lt-or-le}
-use Rattle.lines.specs.Lines.{pick, noBranch, noLines, branchAt, ownerFrom, ownerOf, Rooted}
+use Rattle.lines.specs.Lines.{pick, ownerFrom, ownerOf, Rooted}
 use Rattle.lines.specs.declared.Branch.{Branch}
-use Rattle.lines.proofs.Branches.{branch-same, branch-other, branch-field}
 
 -- ---- one step
 
-module _ (ls : List Branch) (l v : ℕ) where
+module _ (ls : ℕ → Branch) (l v : ℕ) where
   -- With no step left the search ends where it stands.
   pub from-none : (left : ℕ) → left ≤ 0 → ownerFrom left ls l v ≡ l
   unfolding ownerFrom
@@ -24,21 +20,21 @@ module _ (ls : List Branch) (l v : ℕ) where
   from-none (suc n) h = absurd (omega arith)
 
   -- One step by its test, for any number of steps: at 15 the definition would unfold through all of them.
-  from-step : (n : ℕ) → ownerFrom (suc n) ls l v ≡ pick (ltb (branchAt ls l .start .0) v) l (ownerFrom n ls (min (branchAt ls l .source .0) 15) v)
+  from-step : (n : ℕ) → ownerFrom (suc n) ls l v ≡ pick (ltb (ls l .start .0) v) l (ownerFrom n ls (min (ls l .source .0) 15) v)
   unfolding ownerFrom
   from-step n = refl
 
   -- A version above the line's start is the line's own.
-  pub from-own : (n : ℕ) → branchAt ls l .start .0 < v → ownerFrom (suc n) ls l v ≡ l
-  from-own n h = from-step n ∙ rw (lt-ltb (branchAt ls l .start .0) v h)
+  pub from-own : (n : ℕ) → ls l .start .0 < v → ownerFrom (suc n) ls l v ≡ l
+  from-own n h = from-step n ∙ rw (lt-ltb (ls l .start .0) v h)
 
   -- Any other is of a line that this one comes from.
-  pub from-shared : (n : ℕ) → v ≤ branchAt ls l .start .0 → ownerFrom (suc n) ls l v ≡ ownerFrom n ls (min (branchAt ls l .source .0) 15) v
-  from-shared n h = from-step n ∙ rw (le-ltb (branchAt ls l .start .0) v h)
+  pub from-shared : (n : ℕ) → v ≤ ls l .start .0 → ownerFrom (suc n) ls l v ≡ ownerFrom n ls (min (ls l .source .0) 15) v
+  from-shared n h = from-step n ∙ rw (le-ltb (ls l .start .0) v h)
 
 -- ---- the code's steps
 
-module _ (ls : List Branch) (l v : ℕ) (b : Branch) (read : b ≡ branchAt ls l) where
+module _ (ls : ℕ → Branch) (l v : ℕ) (b : Branch) (read : b ≡ ls l) where
   -- The loop ends at a line that has the version as its own.
   pub turn-ends : (left : ℕ) → 0 < left → b .start .0 < v → ownerFrom left ls l v ≡ l
   turn-ends zero some h = absurd (omega arith)
@@ -53,16 +49,16 @@ module _ (ls : List Branch) (l v : ℕ) (b : Branch) (read : b ≡ branchAt ls l
 
 -- ---- sound lines
 
-module _ (ls : List Branch) (sound : Rooted ls) (v : ℕ) (some : 0 < v) where
+module _ (ls : ℕ → Branch) (sound : Rooted ls) (v : ℕ) (some : 0 < v) where
   -- A line that shares a version comes from an earlier line, which the steps of the code reach.
-  source-below : (l : ℕ) → l < 16 → v ≤ branchAt ls l .start .0 → branchAt ls l .source .0 < l
+  source-below : (l : ℕ) → l < 16 → v ≤ ls l .start .0 → ls l .source .0 < l
   source-below zero h k = absurd (omega (arith, sound .first))
   source-below (suc l) h k = sound .earlier (suc l) (omega arith) h
 
   -- There the least with 15, which the code takes to stay within the sixteen, changes nothing.
-  source-of : (n l : ℕ) → l < 16 → v ≤ branchAt ls l .start .0 → ownerFrom (suc n) ls l v ≡ ownerFrom n ls (branchAt ls l .source .0) v
+  source-of : (n l : ℕ) → l < 16 → v ≤ ls l .start .0 → ownerFrom (suc n) ls l v ≡ ownerFrom n ls (ls l .source .0) v
   source-of n l h k =
-      let near : branchAt ls l .source .0 ≤ 15 = omega (arith, source-below l h k) in
+      let near : ls l .source .0 ≤ 15 = omega (arith, source-below l h k) in
       from-shared ls l v n k ∙ ap (λ (j : ℕ). ownerFrom n ls j v) (min-eq-left near)
 
   -- Line 0 has every version as its own.
@@ -76,37 +72,37 @@ module _ (ls : List Branch) (sound : Rooted ls) (v : ℕ) (some : 0 < v) where
   pub steps-enough : (n m l : ℕ) → l < 16 → l ≤ n → l ≤ m → ownerFrom n ls l v ≡ ownerFrom m ls l v
   steps-enough zero m l h a b = first-own 0 l a ∙ sym (first-own m l a)
   steps-enough (suc n) zero l h a b = first-own (suc n) l b ∙ sym (first-own 0 l b)
-  steps-enough (suc n) (suc m) l h a b = elim (lt-or-le (branchAt ls l .start .0) v) [
+  steps-enough (suc n) (suc m) l h a b = elim (lt-or-le (ls l .start .0) v) [
     | inl k ↦ from-own ls l v n k ∙ sym (from-own ls l v m k)
     | inr k ↦
         let near = source-below l h k in
-        source-of n l h k ∙ steps-enough n m (branchAt ls l .source .0) (omega arith) (omega arith) (omega arith) ∙ sym (source-of m l h k)
+        source-of n l h k ∙ steps-enough n m (ls l .source .0) (omega arith) (omega arith) (omega arith) ∙ sym (source-of m l h k)
   ]
 
   -- ---- where a version got its number
 
   -- On the line itself where the version is above its start.
-  pub owner-own : (l : ℕ) → branchAt ls l .start .0 < v → ownerOf ls l v ≡ l
+  pub owner-own : (l : ℕ) → ls l .start .0 < v → ownerOf ls l v ≡ l
   owner-own l h = from-own ls l v 14 h
 
   -- On the source's where it is not.
-  pub owner-shared : (l : ℕ) → l < 16 → v ≤ branchAt ls l .start .0 → ownerOf ls l v ≡ ownerOf ls (branchAt ls l .source .0) v
+  pub owner-shared : (l : ℕ) → l < 16 → v ≤ ls l .start .0 → ownerOf ls l v ≡ ownerOf ls (ls l .source .0) v
   owner-shared l h k =
       let near = source-below l h k in
-      source-of 14 l h k ∙ steps-enough 14 15 (branchAt ls l .source .0) (omega arith) (omega arith) (omega arith)
+      source-of 14 l h k ∙ steps-enough 14 15 (ls l .source .0) (omega arith) (omega arith) (omega arith)
 
   -- What holds of a version on its own line, and comes to a line from its source, holds of every line: the lines' induction.
-  pub owner-induction : (P : ℕ → Type 0) → ((l : ℕ) → branchAt ls l .start .0 < v → P l)
-      → ((l : ℕ) → l < 16 → branchAt ls l .source .0 < l → v ≤ branchAt ls l .start .0 → P (branchAt ls l .source .0) → P l) → (l : ℕ) → l < 16 → P l
+  pub owner-induction : (P : ℕ → Type 0) → ((l : ℕ) → ls l .start .0 < v → P l)
+      → ((l : ℕ) → l < 16 → ls l .source .0 < l → v ≤ ls l .start .0 → P (ls l .source .0) → P l) → (l : ℕ) → l < 16 → P l
   owner-induction P own shared l h = go 16 l h h
     where
       go : (n l : ℕ) → l < n → l < 16 → P l
       go zero l a h = absurd (omega arith)
-      go (suc n) l a h = elim (lt-or-le (branchAt ls l .start .0) v) [
+      go (suc n) l a h = elim (lt-or-le (ls l .start .0) v) [
         | inl k ↦ own l k
         | inr k ↦
             let near = source-below l h k in
-            shared l h near k (go n (branchAt ls l .source .0) (omega arith) (omega arith))
+            shared l h near k (go n (ls l .source .0) (omega arith) (omega arith))
       ]
 
   -- A version's line is the line or an earlier one.
@@ -114,72 +110,33 @@ module _ (ls : List Branch) (sound : Rooted ls) (v : ℕ) (some : 0 < v) where
   owner-le = owner-induction (λ l. ownerOf ls l v ≤ l) (λ l k. omega (arith, owner-own l k)) (λ l h near k p. omega (arith, owner-shared l h k))
 
   -- A version is above the start of the line that it got its number on.
-  pub owner-start : (l : ℕ) → l < 16 → branchAt ls (ownerOf ls l v) .start .0 < v
-  owner-start = owner-induction (λ l. branchAt ls (ownerOf ls l v) .start .0 < v) (λ l k. rw (owner-own l k) k) (λ l h near k p. rw (owner-shared l h k) p)
+  pub owner-start : (l : ℕ) → l < 16 → ls (ownerOf ls l v) .start .0 < v
+  owner-start = owner-induction (λ l. ls (ownerOf ls l v) .start .0 < v) (λ l k. rw (owner-own l k) k) (λ l h near k p. rw (owner-shared l h k) p)
 
   -- On the line that it got its number on, a version is that line's own.
   pub owner-owner : (l : ℕ) → l < 16 → ownerOf ls (ownerOf ls l v) v ≡ ownerOf ls l v
   owner-owner l h = owner-own (ownerOf ls l v) (owner-start l h)
 
   -- A search reads only the sources and starts of the lines up to where it begins.
-  from-agrees : (ls′ : List Branch) (n l : ℕ) → l < 16
-      → ((j : ℕ) → j ≤ l → branchAt ls j .source .0 ≡ branchAt ls′ j .source .0)
-      → ((j : ℕ) → j ≤ l → branchAt ls j .start .0 ≡ branchAt ls′ j .start .0)
+  from-agrees : (ls′ : ℕ → Branch) (n l : ℕ) → l < 16
+      → ((j : ℕ) → j ≤ l → ls j .source .0 ≡ ls′ j .source .0)
+      → ((j : ℕ) → j ≤ l → ls j .start .0 ≡ ls′ j .start .0)
       → ownerFrom n ls l v ≡ ownerFrom n ls′ l v
   from-agrees ls′ zero l h sources starts = from-none ls l v 0 (omega arith) ∙ sym (from-none ls′ l v 0 (omega arith))
-  from-agrees ls′ (suc n) l h sources starts = elim (lt-or-le (branchAt ls l .start .0) v) [
+  from-agrees ls′ (suc n) l h sources starts = elim (lt-or-le (ls l .start .0) v) [
     | inl k ↦ from-own ls l v n k ∙ sym (from-own ls′ l v n (omega (arith, starts l (omega arith))))
     | inr k ↦
-        let s = branchAt ls l .source .0 in
+        let s = ls l .source .0 in
         let near : s < l = source-below l h k in
-        let same : min (branchAt ls′ l .source .0) 15 ≡ s = omega (arith, sources l (omega arith)) in
+        let same : min (ls′ l .source .0) 15 ≡ s = omega (arith, sources l (omega arith)) in
         source-of n l h k
         ∙ from-agrees ls′ n s (omega arith) (λ j a. sources j (omega arith)) (λ j a. starts j (omega arith))
         ∙ sym (from-shared ls′ l v n (omega (arith, starts l (omega arith))) ∙ ap (λ (j : ℕ). ownerFrom n ls′ j v) same)
   ]
 
   -- Only the sources and starts up to the line decide, so that the later fields and the later lines may change.
-  pub owner-agrees : (ls′ : List Branch) (l : ℕ) → l < 16
-      → ((j : ℕ) → j ≤ l → branchAt ls j .source .0 ≡ branchAt ls′ j .source .0)
-      → ((j : ℕ) → j ≤ l → branchAt ls j .start .0 ≡ branchAt ls′ j .start .0)
+  pub owner-agrees : (ls′ : ℕ → Branch) (l : ℕ) → l < 16
+      → ((j : ℕ) → j ≤ l → ls j .source .0 ≡ ls′ j .source .0)
+      → ((j : ℕ) → j ≤ l → ls j .start .0 ≡ ls′ j .start .0)
       → ownerOf ls l v ≡ ownerOf ls′ l v
   owner-agrees ls′ l h sources starts = from-agrees ls′ 15 l h sources starts
-
-  module _ (l : ℕ) (line : l < 16) (m : ℕ) (b : Branch) where
-    -- A write of a later line changes nothing.
-    pub owner-later : l < m → ownerOf ls l v ≡ ownerOf (set ls m b) l v
-    owner-later h =
-        owner-agrees (set ls m b) l line
-        (λ j k. ap (λ (x : Branch). x .source .0) (sym (branch-other ls m b j (omega arith))))
-        (λ j k. ap (λ (x : Branch). x .start .0) (sym (branch-other ls m b j (omega arith))))
-
-    -- Nor does a write that keeps its line's source and start.
-    pub owner-kept : b .source .0 ≡ branchAt ls m .source .0 → b .start .0 ≡ branchAt ls m .start .0 → ownerOf ls l v ≡ ownerOf (set ls m b) l v
-    owner-kept p q =
-        owner-agrees (set ls m b) l line
-        (λ j k. sym (branch-field ls m b (λ x. x .source .0) p j))
-        (λ j k. sym (branch-field ls m b (λ x. x .start .0) q j))
-
--- ---- which lines are sound
-
--- Those of a new store are.
-pub rooted-first : Rooted noLines
-rooted-first = record { first = refl; earlier = λ l some h. rw (getD-replicate 16 l noBranch noBranch h) some }
-
-module _ (ls : List Branch) (sound : Rooted ls) (m : ℕ) (b : Branch) where
-  -- Sound lines stay so where a write keeps its line's source and start.
-  pub rooted-kept : b .source .0 ≡ branchAt ls m .source .0 → b .start .0 ≡ branchAt ls m .start .0 → Rooted (set ls m b)
-  rooted-kept p q = record {
-    first = branch-field ls m b (λ x. x .start .0) q 0 ∙ sound .first;
-    earlier = λ l some h. rw (branch-field ls m b (λ x. x .source .0) p l) (sound .earlier l some h);
-  }
-
-  -- And where a line past the first begins from an earlier one.
-  pub rooted-begun : 0 < m → m < length ls → b .source .0 < m → Rooted (set ls m b)
-  rooted-begun some within h = record {
-    first = ap (λ (x : Branch). x .start .0) (branch-other ls m b 0 (omega arith)) ∙ sound .first;
-    earlier = λ l p q. elim (ℕ-discrete l m) [
-      | yes e ↦ rw (e, branch-same ls m b within) h
-      | no n ↦ rw (branch-other ls m b l n) (sound .earlier l p q)
-    ];
-  }

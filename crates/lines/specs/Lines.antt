@@ -5,7 +5,7 @@ use mathlib.Core.Path.{_≡_}
 use mathlib.Core.List.{List}
 use Prim.Native.Nat.{ℕ, zero, suc, _+_, _-_, _*_, _/_, _%_, _^_, _<_, min}
 use lib.Dec.{ltb}
-use lib.ListN.{getD, replicate}
+use lib.ListN.{replicate}
 use Rattle.lines.specs.declared.Branch.{Branch}
 use Rattle.lines.specs.declared.Entries.{Entries}
 
@@ -20,26 +20,18 @@ pick false x y = y
 abbrev pub noBranch : Branch
 noBranch = record { source = record { 0 = 0 }; start = record { 0 = 0 }; assigned = record { 0 = 0 }; published = record { 0 = 0 }; blob = 0 }
 
--- The states of a new store's lines.
-abbrev pub noLines : List Branch
-noLines = replicate 16 noBranch
+-- The line on which version v of line l got its number, by the lines' states b: l where v is above the version that l begins from, else one of those that l comes from.
+unfoldable pub ownerFrom : ℕ → (ℕ → Branch) → ℕ → ℕ → ℕ
+ownerFrom zero b l v = l
+ownerFrom (suc n) b l v = pick (ltb (b l .start .0) v) l (ownerFrom n b (min (b l .source .0) 15) v)
 
--- Line l's state.
-abbrev pub branchAt : List Branch → ℕ → Branch
-branchAt ls l = getD ls l noBranch
-
--- The line on which version v of line l got its number: l where v is above the version that l begins from, else one of those that l comes from.
-unfoldable pub ownerFrom : ℕ → List Branch → ℕ → ℕ → ℕ
-ownerFrom zero ls l v = l
-ownerFrom (suc n) ls l v = pick (ltb (branchAt ls l .start .0) v) l (ownerFrom n ls (min (branchAt ls l .source .0) 15) v)
-
-abbrev pub ownerOf : List Branch → ℕ → ℕ → ℕ
-ownerOf ls l v = ownerFrom 15 ls l v
+abbrev pub ownerOf : (ℕ → Branch) → ℕ → ℕ → ℕ
+ownerOf b l v = ownerFrom 15 b l v
 
 -- Sound lines: line 0 begins from no version, and every other comes from a line before it, so that a version's line is found in at most 15 steps.
-pub record Rooted (ls : List Branch) : Type 0 where
-  pub first : branchAt ls 0 .start .0 ≡ 0
-  pub earlier : (l : ℕ) → 0 < l → l < 16 → branchAt ls l .source .0 < l
+pub record Rooted (b : ℕ → Branch) : Type 0 where
+  pub first : b 0 .start .0 ≡ 0
+  pub earlier : (l : ℕ) → 0 < l → l < 16 → b l .source .0 < l
 
 -- ---- the numbers of versions
 
@@ -54,7 +46,7 @@ lineOf c = c / 65536
 abbrev pub versionOf : ℕ → ℕ
 versionOf c = c % 65536
 
--- ---- the records of a line's own versions
+-- ---- numbers in a word
 
 -- The i-th 16 bits of a word, and the word with them anew.
 abbrev pub fieldOf : ℕ → ℕ → ℕ
@@ -62,6 +54,35 @@ fieldOf w i = w / 2 ^ (16 * i) % 65536
 
 abbrev pub withField : ℕ → ℕ → ℕ → ℕ
 withField w i k = w - fieldOf w i * 2 ^ (16 * i) + k % 65536 * 2 ^ (16 * i)
+
+-- ---- the lines in a store: for each a word, and 4 bits in a word of sources
+
+-- A line's state but its source in a word: start, assigned, published and blob, 16 bits each, the lowest first.
+unfoldable pub packed : Branch → ℕ
+packed b = b .start .0 % 65536 + 65536 * (b .assigned .0 % 65536 + 65536 * (b .published .0 % 65536 + 65536 * (b .blob % 65536)))
+
+-- The state that a source and such a word say.
+abbrev pub unpacked : ℕ → ℕ → Branch
+unpacked source w = record {
+  source = record { 0 = source };
+  start = record { 0 = fieldOf w 0 };
+  assigned = record { 0 = fieldOf w 1 };
+  published = record { 0 = fieldOf w 2 };
+  blob = fieldOf w 3;
+}
+
+-- The words of a new store's lines.
+abbrev pub noLines : List ℕ
+noLines = replicate 16 0
+
+-- The i-th 4 bits of a word, and the word with them anew.
+abbrev pub sourceAt : ℕ → ℕ → ℕ
+sourceAt w i = w / 2 ^ (4 * i) % 16
+
+abbrev pub withSource : ℕ → ℕ → ℕ → ℕ
+withSource w i k = w - sourceAt w i * 2 ^ (4 * i) + k % 16 * 2 ^ (4 * i)
+
+-- ---- the records of a line's own versions
 
 abbrev pub noEntries : Entries
 noEntries = record { from0 = 0; from4 = 0; from8 = 0; from12 = 0 }

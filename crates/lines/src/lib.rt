@@ -1,8 +1,8 @@
-// Planning lines: a line's state, the numbers that name a version of a line, and for each line the record of its own version. A store holds sixteen states in an
-// array, which only what is lent the store can read in place: those functions stand where the store does.
+// Planning lines: a line's state, the numbers that name a version of a line, and for each line the record of its own version. A store holds sixteen states in
+// words; what packs and unpacks one stands here, and what reads the store's where the store does.
 ghost use mathlib.Core.Path.{_≡_};
 ghost use Prim.Native.Nat.{_<_};
-ghost use Rattle.lines.specs.Lines.{noBranch, lineOf, versionOf, numberOf, fieldOf, withField, noEntries, entryAt, withEntry};
+ghost use Rattle.lines.specs.Lines.{noBranch, lineOf, versionOf, numberOf, fieldOf, withField, packed, unpacked, sourceAt, withSource, noEntries, entryAt, withEntry};
 use tree::Version;
 
 // A line, counted from 0 in the order in which they begin.
@@ -11,7 +11,6 @@ pub struct Line(pub u64);
 
 // A line's state: the line and the version that it begins from, the last version assigned, the last one published, and the size in pages of the last
 // assigned one.
-#[repr(C)]
 pub struct Branch {
     pub source: Line,
     pub start: Version,
@@ -70,10 +69,10 @@ pub fn version_of(number: u64) -> Version
     Version(number % 65536)
 }
 
-// ---- the records of a line's own versions
+// ---- numbers in a word
 
 // The i-th 16 bits of a word.
-fn field_of(word: u64, i: u64) -> u64
+pub fn field_of(word: u64, i: u64) -> u64
     requires { ⌜ i < 4 ⌝ }
     ensures { λ r. ⌜ r ≡ fieldOf word i ⌝ }
 {
@@ -87,6 +86,49 @@ fn with_field(word: u64, i: u64, k: u64) -> u64
 {
     word - (field_of(word, i) << (16 * i)) + ((k % 65536) << (16 * i))
 }
+
+// ---- the lines in a store
+
+// A line's state but its source in a word: start, assigned, published and blob, 16 bits each.
+pub fn packed_state(b: Branch) -> u64
+    ensures { λ r. ⌜ r ≡ packed b ⌝ }
+{
+    b.start.0 % 65536
+        + b.assigned.0 % 65536 * 65536
+        + b.published.0 % 65536 * 4294967296
+        + b.blob % 65536 * 281474976710656
+}
+
+// The state that a source and such a word say.
+pub fn unpacked_state(source: u64, word: u64) -> Branch
+    ensures { λ r. ⌜ r ≡ unpacked source word ⌝ }
+{
+    Branch {
+        source: Line(source),
+        start: Version(field_of(word, 0)),
+        assigned: Version(field_of(word, 1)),
+        published: Version(field_of(word, 2)),
+        blob: field_of(word, 3),
+    }
+}
+
+// Line i's source in a word that has those of the sixteen lines, 4 bits each.
+pub fn source_at(word: u64, i: u64) -> u64
+    requires { ⌜ i < 16 ⌝ }
+    ensures { λ r. ⌜ r ≡ sourceAt word i ⌝ }
+{
+    (word >> (4 * i)) % 16
+}
+
+// The word with line i's source anew.
+pub fn with_source(word: u64, i: u64, l: u64) -> u64
+    requires { ⌜ i < 16 ⌝ }
+    ensures { λ r. ⌜ r ≡ withSource word i l ⌝ }
+{
+    word - (source_at(word, i) << (4 * i)) + ((l % 16) << (4 * i))
+}
+
+// ---- the records of a line's own versions
 
 // The empty entries.
 pub fn no_entries() -> Entries

@@ -2,7 +2,6 @@
 use mathlib.Core.Bool.{Bool, true, false, _&&_}
 use Prim.Native.Nat.{ℕ, zero, suc, _+_, _-_, _^_, min}
 use lib.Dec.{ltb, eqb}
-use Rattle.tree.specs.Tree.{countOf}
 use Rattle.lines.specs.Lines.{numberOf}
 use Rattle.lines.specs.declared.Branch.{Branch}
 use Rattle.register.specs.Register.{updateOf, versionPart}
@@ -36,7 +35,7 @@ publishNumber s a l =
 
 -- It is there, and as many of its nodes are woven as it has; q is its record's part.
 unfoldable pub dueBy : Branch → Part → Bool
-dueBy b q = hasNext b && eqb (q .woven) (countOf (updateOf q))
+dueBy b q = hasNext b && eqb (q .woven) (q .count)
 
 -- A line's state with one version more published.
 abbrev pub withPublished : Branch → Branch

@@ -15,7 +15,6 @@ use register::version_part;
 use tree::Version;
 use versions::Store;
 use versions::capped_sum;
-use versions::count_of;
 use versions::lengths_of;
 use versions::line_refusal;
 use versions::line_state;
@@ -63,7 +62,7 @@ fn is_due(b: Branch, q: Part) -> bool
     if b.assigned.0 <= b.published.0 {
         return false;
     }
-    q.woven == count_of(q)
+    q.woven == q.count
 }
 
 // What PUBLISH gives back, by the table's number k and whether the next version is due, so that there is one.

@@ -50,8 +50,11 @@ withPut r i = record {
   name = r .name;
   f = r .f;
   last = r .last;
+  top = r .top;
+  past = r .past;
+  height = r .height;
   size = r .size;
-  place = r .place;
+  count = r .count;
   woven = r .woven;
   entries = r .entries;
 }

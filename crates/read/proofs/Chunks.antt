@@ -17,7 +17,7 @@ use Rattle.tree.specs.declared.Found.the-variants.{Leaf, Lost}
 use Rattle.tree.proofs.Meets.{lt-or-le}
 use mathlib.Core.Logic.{inl, inr}
 use Rattle.versions.specs.Store.{Areas, areasOf}
-use Rattle.walk.specs.FindPage.{numberWithin, isLost, orZero, pageNumberOf, findPage}
+use Rattle.walk.specs.FindPage.{numberWithin, isLost, orZero, pageNumberOf, reachFrom, findPage}
 use Rattle.read.specs.Read.{byteOf, bytesFrom}
 use Rattle.read.specs.Range.{Readable}
 use Rattle.walk.proofs.Ends.{found-inside}
@@ -116,7 +116,7 @@ module _ (size count : ℕ) (pages nodes : List ℕ) (register : List Record) (c
   pub next-bytes : let j = offset + done in let n = min (size - j % size) (len - done) in
       part (part pages (size * orZero (numberWithin count (findPage (areasOf [] nodes register) c (j / size)))) size) (j % size) n
       ≡ bytesFrom size count (areasOf pages nodes register) c j n
-  unfolding pageNumberOf findPage
+  unfolding pageNumberOf findPage reachFrom
   next-bytes =
       let j = offset + done in
       let n = min (size - j % size) (len - done) in

@@ -8,7 +8,7 @@ use native.Mathlib.Numerals.{sub-one}
 use native.Mathlib.Omega.{arith}
 use Rattle.register.specs.declared.Record.{Record}
 use Rattle.versions.specs.Store.{Areas, areasOf}
-use Rattle.walk.specs.FindPage.{findPage, pageNumberOf, isLost}
+use Rattle.walk.specs.FindPage.{reachFrom, findPage, pageNumberOf, isLost}
 use Rattle.read.specs.Read.{someLost}
 
 neither : (x y : Bool) → (x || y) ≡ false → (x ≡ false) × (y ≡ false)
@@ -18,7 +18,7 @@ neither false y e = (refl, e)
 -- A walk does not read the page area.
 module _ (count : ℕ) (pages nodes : List ℕ) (register : List Record) (c : ℕ) where
   pub number-apart : (p : ℕ) → pageNumberOf count (areasOf pages nodes register) c p ≡ pageNumberOf count (areasOf [] nodes register) c p
-  unfolding pageNumberOf findPage
+  unfolding pageNumberOf findPage reachFrom
   number-apart p = refl
 
   pub lost-apart : (p n : ℕ) → someLost count (areasOf pages nodes register) c p n ≡ someLost count (areasOf [] nodes register) c p n

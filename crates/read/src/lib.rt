@@ -136,7 +136,10 @@ fn some_lost(
     }
     let mut i = 1u64;
     while i < n {
-        if is_lost(count, find_page(nodes, register, c, PageIndex(from.0 + i))) {
+        if is_lost(
+            count,
+            find_page(&nodes, &register, c, PageIndex(from.0 + i)),
+        ) {
             return true;
         }
         i = i + 1;
@@ -203,7 +206,7 @@ fn copy_range(
     let mut done = from;
     while done < len {
         let part = chunk_at(size, ByteOffset(offset.0 + done), len - done);
-        let x = find_page(nodes, register, c, part.page);
+        let x = find_page(&nodes, &register, c, part.page);
         copy_page(
             pages,
             size,
@@ -254,7 +257,7 @@ pub fn read(
     let k = range_number(s, pages, nodes, register, l, v, c, g);
     let n = touched(k, s.size, offset, len);
     let part = chunk_at(s.size, offset, len);
-    let x = find_page(nodes, register, c, part.page);
+    let x = find_page(&nodes, &register, c, part.page);
     let lost = some_lost(
         s.pages,
         nodes,

@@ -22,15 +22,33 @@ noRecord = record {
   name = 0;
   f = record { 0 = 0 };
   last = record { 0 = 0 };
+  top = 0;
+  past = 0;
+  height = 0;
   size = 0;
-  place = 0;
+  count = 0;
   woven = 0;
   entries = noEntries;
 }
 
--- What a record says of its update: the number of its version, its pages, the size after it, its first node place, and how many of its nodes are woven.
+-- What a record says of its update: the number of its version, its pages; where its nodes lie, by the sum of its first node place and its root's height, the halvings
+-- of its first page, and that height; the size after it, its node count, and how many of its nodes are woven.
 abbrev pub partOf : Record → Part
-partOf r = record { name = r .name; f = r .f; last = r .last; size = r .size; place = r .place; woven = r .woven }
+partOf r = record {
+  name = r .name;
+  f = r .f;
+  last = r .last;
+  top = r .top;
+  past = r .past;
+  height = r .height;
+  size = r .size;
+  count = r .count;
+  woven = r .woven;
+}
+
+-- The first node place of an update.
+abbrev pub placeOf : Part → ℕ
+placeOf q = q .top - q .height
 
 -- The last page that a blob can have.
 abbrev pub mostPage : ℕ

@@ -29,14 +29,17 @@ pub struct Record {
     pub number: u64,
     pub put: u64,
     pub update: u64,
-    // The update's ticket, its version as line x 65,536 + version, its first and last page, the size in pages after it, its first node place, and how many of its
-    // nodes are woven.
+    // The update's ticket, its version as line x 65,536 + version, its first and last page; where its nodes lie: its first node place and its root's height together,
+    // the halvings of its first page, and the height; the size in pages after it, its node count, and how many of its nodes are woven.
     pub ticket: Ticket,
     pub name: u64,
     pub f: PageIndex,
     pub last: PageIndex,
+    pub top: u64,
+    pub past: u64,
+    pub height: u64,
     pub size: u64,
-    pub place: u64,
+    pub count: u64,
     pub woven: u64,
     // The lines' own versions.
     pub entries: Entries,
@@ -47,8 +50,11 @@ pub struct Part {
     pub name: u64,
     pub f: PageIndex,
     pub last: PageIndex,
+    pub top: u64,
+    pub past: u64,
+    pub height: u64,
     pub size: u64,
-    pub place: u64,
+    pub count: u64,
     pub woven: u64,
 }
 
@@ -120,8 +126,11 @@ pub fn part_of(r: Record) -> Part
         name: r.name,
         f,
         last,
+        top: r.top,
+        past: r.past,
+        height: r.height,
         size: r.size,
-        place: r.place,
+        count: r.count,
         woven: r.woven,
     }
 }
@@ -140,8 +149,11 @@ pub fn no_record() -> Record
         name: 0,
         f: PageIndex(0),
         last: PageIndex(0),
+        top: 0,
+        past: 0,
+        height: 0,
         size: 0,
-        place: 0,
+        count: 0,
         woven: 0,
         entries,
     }

@@ -52,6 +52,7 @@ noStore = record {
   assigned = 0;
   places = 0;
   begun = 0;
+  sources = 0;
   lines = noLines;
 }
 

@@ -82,7 +82,7 @@ pub fn stamp(
     let g = lengths_of(pages, nodes, register);
     let c = number_on(s, l, v);
     let q = version_part(register, c);
-    let x = find_page(nodes, register, c, page);
+    let x = find_page(&nodes, &register, c, page);
     let k = snapshot_refusal(s, g, l, v);
     stamped_by(page_refusal(k, s.pages, q, c, v, page, x), x)
 }

@@ -39,14 +39,3 @@ length-below f l a h p = elim (side f l a (2 ^ h)) [
   | before r ↦ rw (nodes-before f l a h r, meets-before f l a (2 ^ h) r, below)
   | after r ↦ rw (nodes-after f l a h r, meets-after f l a (2 ^ h) r, below)
 ]
-
--- A node's count but for the node itself is that of its two halves.
-pub below-halves : (f l a h : ℕ) → f ≤ l → 0 < h → below f l a h - 1 ≡ below f l a (h - 1) + below f l (a + 2 ^ (h - 1)) (h - 1)
-below-halves f l a zero p q = absurd (omega arith)
-below-halves f l a (suc h) p q =
-    let e : suc h - 1 ≡ h = omega arith in
-    rw (e, ← length-below f l a (suc h) p, ← length-below f l a h p, ← length-below f l (a + 2 ^ h) h p) (elim (side f l a (2 ^ suc h)) [
-      | within r s ↦ rw (length-within f l a h r s) (omega arith)
-      | before r ↦ rw (nodes-before f l a (suc h) r, nodes-before f l a h (omega arith), nodes-before f l (a + 2 ^ h) h (omega arith)) (omega arith)
-      | after r ↦ rw (nodes-after f l a (suc h) r, nodes-after f l a h r, nodes-after f l (a + 2 ^ h) h (omega arith)) (omega arith)
-    ])

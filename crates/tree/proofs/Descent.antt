@@ -1,14 +1,12 @@
--- The laws of `below` and of `kth` by heights and indices counted down, as the code has them, where Place goes by cases.
+-- The laws of `below`, and those of `kth` by heights and indices counted down, as the code has them, where Place goes by cases.
 -- Assumes nothing.
 use mathlib.Core.Path.{_≡_, refl}
 use Prim.Native.Nat.{ℕ, zero, suc, _+_, _-_, _^_, _≤_, _<_, min}
 use native.Mathlib.Numerals.{sub-one}
-use native.Mathlib.Omega.{arith}
 use borrow.Author.Tests.{lt-ltb, le-ltb}
 use Rattle.tree.specs.Tree.{node, count}
 use Rattle.tree.specs.Place.{below, kth}
-use Rattle.tree.specs.Contract.{Part}
-use Rattle.tree.proofs.Meets.{meets-within, meets-before, meets-after}
+use Rattle.tree.proofs.Meets.{meets-within, meets-before}
 
 module _ (f l a h : ℕ) where
   pub below-within : f < a + 2 ^ h → a ≤ l → below f l a h ≡ count (f - a) (min (l - a) (2 ^ h - 1)) h
@@ -18,10 +16,6 @@ module _ (f l a h : ℕ) where
   pub below-before : a + 2 ^ h ≤ f → below f l a h ≡ 0
   unfolding below
   below-before p = rw (meets-before f l a (2 ^ h) p, below)
-
-  pub below-after : l < a → below f l a h ≡ 0
-  unfolding below
-  below-after p = rw (meets-after f l a (2 ^ h) p, below)
 
 module _ (f l a : ℕ) where
   pub kth-leaf : (h i : ℕ) → h ≡ 0 → node a h ≡ kth f l a h i
@@ -41,11 +35,3 @@ module _ (f l a : ℕ) where
       → kth f l (a + 2 ^ (h - 1)) (h - 1) (i - 1 - below f l a (h - 1)) ≡ kth f l a h i
   unfolding kth
   kth-right (suc h) (suc i) p q r = simp sub-one (rw (le-ltb i (below f l a h) (simp sub-one at r), kth))
-
--- A node's halves lie where the node does.
-module _ (f l a : ℕ) where
-  pub part-left : (h : ℕ) → 0 < h → Part f l a h → Part f l a (h - 1)
-  part-left (suc h) p r = simp sub-one (record { order = omega arith; low = omega arith; inside = omega arith })
-
-  pub part-right : (h : ℕ) → 0 < h → Part f l a h → Part f l (a + 2 ^ (h - 1)) (h - 1)
-  part-right (suc h) p r = simp sub-one (record { order = omega arith; low = omega arith; inside = omega arith })

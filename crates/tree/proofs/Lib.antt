@@ -5,12 +5,14 @@ pub mod Below
 pub mod First
 pub mod Place
 pub mod Descent
-pub mod Search
 pub mod Ones
 pub mod Index
+pub mod Halved
 pub mod Root
-pub mod FirstNodes
 pub mod Newest
 pub mod Area
 pub mod Walk
+pub mod Reach
 pub mod Weaving
+pub mod Whole
+pub mod Numbering

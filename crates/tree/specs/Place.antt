@@ -1,6 +1,7 @@
 -- Where a node stands in its version's weaving order, by descent from the root with counts, and which node stands at an index.
 use mathlib.Core.Bool.{true, false}
-use Prim.Native.Nat.{ℕ, zero, suc, _+_, _-_, _*_, _/_, _^_, min}
+use Prim.Native.Nat.{ℕ, zero, suc, _+_, _-_, _*_, _/_, _%_, _^_, min}
+use lib.Count.{ones}
 use lib.Dec.{ltb}
 use Rattle.tree.specs.Tree.{Node, node, meets, count}
 
@@ -25,4 +26,17 @@ index f l a (suc h) p j =
     elim (ltb h j) [
       | true ↦ 0
       | false ↦ elim (ltb p (a + 2 ^ h)) [ true ↦ suc (index f l a h p j) | false ↦ suc (below f l a h + index f l (a + 2 ^ h) h p j) ]
+    ]
+
+-- x + x / 2 + x / 4 + ..: twice x, less its one bits.
+unfoldable pub halvings : ℕ → ℕ
+halvings x = 2 * x - ones x
+
+-- The k-th node of an update from page f on, in a tree of a height, root first: over page f down to its leaf, then by its number in the whole tree, to
+-- which `past`, the halvings of f, leads. The sum is one of 64 bits, so that there is a node for any numbers.
+unfoldable pub nodeNumbered : ℕ → ℕ → ℕ → ℕ → Node
+nodeNumbered f height past k =
+    elim (ltb height k) [
+      | true ↦ kth 0 (2 ^ height - 1) 0 height ((k + past) % 2 ^ 64)
+      | false ↦ node (first f (height - k)) (height - k)
     ]

@@ -78,6 +78,25 @@ unfoldable pub walkBy : (ℕ → ℕ → ℕ → Option ℕ) → List ℕ → �
 walkBy at area zero c p = ends c (visit area (at c p 0))
 walkBy at area (suc h) c p = goes (visit area (at c p (suc h))) (ltb p (first p (suc h) + 2 ^ h)) (λ (d : ℕ). walkBy at area h d p)
 
+-- From an inner node on into the half that the page lies in (true: the left); nowhere where the node is not stored.
+abbrev pub turns : NodeAt → Bool → (ℕ → Option ℕ) → Option ℕ
+turns Missing b k = none
+turns (Stored l r) true k = k l
+turns (Stored l r) false k = k r
+
+-- The number of the node of height j over page p that n levels above is numbered c; 0, no version, has no node below it. None where a node on the
+-- way is not stored.
+unfoldable pub reachBy : (ℕ → ℕ → ℕ → Option ℕ) → List ℕ → ℕ → ℕ → ℕ → ℕ → Option ℕ
+reachBy at area j zero c p = some c
+reachBy at area j (suc n) zero p = some 0
+reachBy at area j (suc n) (suc c) p =
+    turns (visit area (at (suc c) p (suc (n + j)))) (ltb p (first p (suc (n + j)) + 2 ^ (n + j))) (λ (d : ℕ). reachBy at area j n d p)
+
+-- At the leaf that a number reached names.
+abbrev pub leafOf : (ℕ → ℕ → ℕ → Option ℕ) → List ℕ → ℕ → Option ℕ → Found
+leafOf at area p none = Lost
+leafOf at area p (some c) = ends c (visit area (at c p 0))
+
 -- The node of height h over page p that version k's root leads to stands in the area with its two numbers. This is all that a walk asks.
 abbrev pub Stands : List Update → Numbers → (ℕ → ℕ → ℕ → Option ℕ) → List ℕ → ℕ → ℕ → ℕ → Type 0
 Stands us N at area k p h =

@@ -3,11 +3,11 @@ ghost use mathlib.Core.Path.{_≡_};
 ghost use mathlib.Core.Bool.{true};
 ghost use Prim.Native.Nat.{ℕ, _+_, _-_, _*_, _^_, _<_, _≤_, min};
 ghost use lib.Count.{ones};
-ghost use Rattle.tree.specs.Tree.{rootHeight, meets};
-ghost use Rattle.tree.specs.Place.{below, first};
+ghost use Rattle.tree.specs.Tree.{rootHeight};
+ghost use Rattle.tree.specs.Place.{kth, first, halvings, nodeNumbered};
 ghost use Rattle.tree.specs.NodeArea.{nodeAt, withNode};
 ghost use Rattle.tree.specs.Cases.{table, every};
-ghost use Rattle.tree.specs.Contract.{rootSpan, nodesFor, Pages, Counted, Indexed, Part, Spans, Kth, WovenAt};
+ghost use Rattle.tree.specs.Contract.{rootSpan, nodesFor, Pages, Counted, Names};
 
 // A version, a page's index in the blob and a ticket are counters of different sorts, and each has a type of its own.
 #[repr(C)]
@@ -49,7 +49,7 @@ pub const MOST_PAGES: u64 = 4096;
 pub const LAST_PAGE: u64 = 4095;
 
 // The span of a height.
-fn span_of(height: u64) -> u64
+pub fn span_of(height: u64) -> u64
     requires { ⌜ height < 64 ⌝ }
     ensures { λ r. ⌜ r ≡ 2 ^ height ⌝ }
 {
@@ -89,9 +89,9 @@ pub fn root_span(size: u64) -> u64
 }
 
 // x + x / 2 + x / 4 + .., for an x that is not too large to double.
-fn halvings(x: u64) -> u64
+pub fn halvings(x: u64) -> u64
     requires { ⌜ x < 2 ^ 63 ⌝ }
-    ensures { λ r. ⌜ r + ones x ≡ 2 * x ⌝ }
+    ensures { λ r. ⌜ (r ≡ halvings x) × (r + ones x ≡ 2 * x) ⌝ }
 {
     2 * x - u64::count_ones(x) as u64
 }
@@ -102,27 +102,6 @@ pub fn node_count(f: PageIndex, last: PageIndex, height: u64) -> u64
     ensures { λ r. ⌜ Counted (f .0) (last .0) height r ⌝ }
 {
     halvings(last.0) - halvings(f.0) + height + 1
-}
-
-// The index, in weaving order, of the node at a first page and height, in an update whose first page is f.
-pub fn node_index(f: PageIndex, height: u64, first: PageIndex, node_height: u64) -> u64
-    requires { ⌜ («node_height» ≤ height) × (height ≤ 64) × (first .0 < 2 ^ 62) ⌝ }
-    ensures { λ r. ⌜ Indexed (f .0) height (first .0) «node_height» r ⌝ }
-{
-    let over = height - node_height;
-    if first.0 <= f.0 {
-        over
-    } else {
-        over + (halvings(first.0) - halvings(f.0))
-    }
-}
-
-// Whether some page of f .. last lies among the span pages from first on.
-fn range_meets(f: PageIndex, last: PageIndex, first: PageIndex, span: u64) -> bool
-    requires { ⌜ first .0 + span < 2 ^ 64 ⌝ }
-    ensures { λ r. ⌜ r ≡ meets (f .0) (last .0) (first .0) span ⌝ }
-{
-    f.0 < first.0 + span && first.0 <= last.0
 }
 
 // x - y, or 0 where that is below 0.
@@ -139,65 +118,6 @@ pub fn smaller(a: u64, b: u64) -> u64
     if a < b { a } else { b }
 }
 
-// The number of nodes of an update of the pages f .. last at and below a node.
-fn count_below(f: PageIndex, last: PageIndex, first: PageIndex, height: u64) -> u64
-    requires { ⌜ Part (f .0) (last .0) (first .0) height ⌝ }
-    ensures { λ r. ⌜ r ≡ below (f .0) (last .0) (first .0) height ⌝ }
-{
-    let span = span_of(height);
-    if range_meets(f, last, first, span) {
-        let from = saturating_sub(f.0, first.0);
-        let to = smaller(last.0 - first.0, span - 1);
-        node_count(PageIndex(from), PageIndex(to), height)
-    } else {
-        0
-    }
-}
-
-// The nodes at and below the left half of a node that begins at a and has halves of this height; `both` is what the two halves have.
-fn left_count(f: PageIndex, last: PageIndex, a: PageIndex, height: u64, both: u64) -> u64
-    requires { ⌜ Part (f .0) (last .0) (a .0) height × (both ≡ below (f .0) (last .0) (a .0) height + below (f .0) (last .0) (a .0 + 2 ^ height) height) ⌝ }
-    ensures { λ r. ⌜ r ≡ below (f .0) (last .0) (a .0) height ⌝ }
-{
-    let right = a.0 + span_of(height);
-    if f.0 >= right {
-        return 0;
-    }
-    if last.0 < right {
-        return both;
-    }
-    count_below(f, last, a, height)
-}
-
-// The node of an update of the pages f .. last that stands at index k in the weaving order of the node at first with this span. Each turn goes into the
-// half that the index lies in, and keeps the count of the nodes there.
-fn kth(f: PageIndex, last: PageIndex, first: PageIndex, span: u64, k: u64) -> Named
-    requires { ⌜ Spans (f .0) (last .0) (first .0) span ⌝ }
-    ensures { λ r. ⌜ Kth (f .0) (last .0) (first .0) span k (r .first .0) (r .span) ⌝ }
-{
-    let mut a = first.0;
-    let mut height = height_of(span);
-    let mut count = count_below(f, last, first, height);
-    let mut i = k;
-    while height > 0 && i > 0 {
-        height = height - 1;
-        i = i - 1;
-        count = saturating_sub(count, 1);
-        let left = left_count(f, last, PageIndex(a), height, count);
-        if i < left {
-            count = left;
-        } else {
-            i = i - left;
-            a = a + span_of(height);
-            count = count - left;
-        }
-    }
-    Named {
-        first: PageIndex(a),
-        span: span_of(height),
-    }
-}
-
 // The first page of the node of a height over page p.
 fn first_over(p: PageIndex, height: u64) -> PageIndex
     requires { ⌜ height < 64 ⌝ }
@@ -206,15 +126,38 @@ fn first_over(p: PageIndex, height: u64) -> PageIndex
     PageIndex((p.0 >> height) << height)
 }
 
-// The k-th node, in weaving order, of an update of the pages f .. last that leaves the blob at a size in pages. The order begins with the nodes over page
-// f, root first: of these no search is made.
-pub fn woven_at(f: PageIndex, last: PageIndex, size: u64, k: u64) -> Named
-    requires { ⌜ (f .0 ≤ last .0) × (last .0 < size) × (size ≤ 4096) ⌝ }
-    ensures { λ r. ⌜ WovenAt (f .0) (last .0) size k (r .first .0) (r .span) ⌝ }
+// The node at number i, root first, of the whole tree of a height. Each turn goes into the half that the number lies in: a node's left half has one node
+// less than the node has pages.
+fn numbered(height: u64, i: u64) -> Named
+    requires { ⌜ height ≤ 12 ⌝ }
+    ensures { λ r. ⌜ Names (kth 0 (2 ^ height - 1) 0 height i) (r .first .0) (r .span) ⌝ }
 {
-    let height = root_height(size);
+    let mut a = 0;
+    let mut span = span_of(height);
+    let mut k = i;
+    while span > 1 && k > 0 {
+        let left = span - 1;
+        span = span / 2;
+        k = k - 1;
+        if k >= left {
+            k = k - left;
+            a = a + span;
+        }
+    }
+    Named {
+        first: PageIndex(a),
+        span: span,
+    }
+}
+
+// The k-th node, in weaving order, of an update from page f on in a tree of a height; `past` is the halvings of f. The order begins with the nodes over
+// page f, root first: of these no search is made.
+pub fn node_by_number(f: PageIndex, height: u64, past: u64, k: u64) -> Named
+    requires { ⌜ height ≤ 12 ⌝ }
+    ensures { λ r. ⌜ Names (nodeNumbered (f .0) height past k) (r .first .0) (r .span) ⌝ }
+{
     if k > height {
-        return kth(f, last, PageIndex(0), span_of(height), k);
+        return numbered(height, std::num::wrapping_add_u64(k, past));
     }
     let h = height - k;
     Named {

@@ -2,9 +2,10 @@
 -- Where a row reads a record that lies past its area the row does not hold, and 19 does; a number past a limit is read as within it (`updateOf`).
 use mathlib.Core.List.{List}
 use Prim.Native.Nat.{ℕ, _*_, min}
-use lib.ListN.{length, set}
+use lib.Dec.{ltb}
+use lib.ListN.{length, getD, set}
 use Rattle.tree.specs.Tree.{nth}
-use Rattle.lines.specs.Lines.{branchAt, ownerOf, numberOf}
+use Rattle.lines.specs.Lines.{pick, noBranch, ownerOf, numberOf, packed, unpacked, sourceAt, withSource}
 use Rattle.lines.specs.declared.Branch.{Branch}
 use Rattle.register.specs.Register.{noRecord, versionPart}
 use Rattle.register.specs.declared.Record.{Record}
@@ -42,9 +43,9 @@ recordOf a k = nth noRecord (a .register) k
 abbrev pub linesIn : Store → ℕ
 linesIn s = min (s .begun) 16
 
--- Line l's state, and the store with it anew.
-abbrev pub lineIn : Store → ℕ → Branch
-lineIn s l = branchAt (s .lines) l
+-- Line l's state, and the store with it anew. Past the sixteen no line has begun, and nothing changes.
+unfoldable pub lineIn : Store → ℕ → Branch
+lineIn s l = pick (ltb l 16) (unpacked (sourceAt (s .sources) l) (getD (s .lines) l 0)) noBranch
 
 abbrev pub withLine : Store → ℕ → Branch → Store
 withLine s l b = record {
@@ -57,12 +58,13 @@ withLine s l b = record {
   assigned = s .assigned;
   places = s .places;
   begun = s .begun;
-  lines = set (s .lines) l b;
+  sources = pick (ltb l 16) (withSource (s .sources) l (b .source .0)) (s .sources);
+  lines = set (s .lines) l (packed b);
 }
 
 -- The number of version v of line l, by the line on which it got its version, and what its record says.
 abbrev pub numberOn : Store → ℕ → ℕ → ℕ
-numberOn s l v = numberOf (ownerOf (s .lines) l v) v
+numberOn s l v = numberOf (ownerOf (lineIn s) l v) v
 
 abbrev pub partOn : Store → Areas → ℕ → ℕ → Part
 partOn s a l v = versionPart (a .register) (numberOn s l v)

@@ -5,17 +5,21 @@ ghost use mathlib.Core.Path.{_≡_};
 ghost use Prim.Native.Nat.{pred, min, _+_, _-_, _*_, _^_};
 ghost use mathlib.Core.List.{[], _∷_};
 ghost use lib.Dec.{eqb};
-ghost use Rattle.tree.specs.Tree.{countOf};
 ghost use Rattle.lines.specs.Lines.{ownerOf};
-ghost use Rattle.register.specs.Register.{updateOf, withRecord};
+ghost use Rattle.register.specs.Register.{withRecord};
 ghost use Rattle.table.specs.Table.{_gives_, firstRefusal, orElse, holds, noTicket, unless};
 ghost use Rattle.versions.specs.Store.{areasOf, lengthsOf, differ, linesIn, lineIn, withLine, numberOn};
 ghost use Rattle.versions.specs.Size.{notThere, refusalBy, snapshotRefusal, openedBy, pagesBy, bytesBy, sized, sizeOut};
 ghost use Rattle.versions.specs.Recent.{lineRefusal, latest, recentOut};
 use lines::Branch;
 use lines::Line;
+use lines::field_of;
 use lines::no_branch;
 use lines::number_of;
+use lines::packed_state;
+use lines::source_at;
+use lines::unpacked_state;
+use lines::with_source;
 use register::Part;
 use register::Record;
 use register::extent_of;
@@ -23,15 +27,13 @@ use register::set_record;
 use register::version_part;
 use tree::Ticket;
 use tree::Version;
-use tree::node_count;
-use tree::root_height;
 use tree::smaller;
 
 // A byte's place in the blob.
 pub struct ByteOffset(pub u64);
 
 // One store: page size and capacities; the last ticket given and how many page numbers are taken; how many updates are assigned, on all lines, and how many node
-// places are taken; how many lines have begun, and their states.
+// places are taken; how many lines have begun, and their states: the sources, 4 bits a line, and for each line a word with the rest.
 #[repr(C)]
 pub struct Store {
     pub size: u64,
@@ -43,7 +45,8 @@ pub struct Store {
     pub assigned: u64,
     pub places: u64,
     pub begun: u64,
-    pub lines: [Branch; 16],
+    pub sources: u64,
+    pub lines: [u64; 16],
 }
 
 // The lengths of the areas that a call is lent: bytes, numbers and records.
@@ -159,14 +162,6 @@ pub fn ticket_refusal(s: Store, g: Lengths, t: Ticket) -> u64
     0
 }
 
-// The node count of an update.
-pub fn count_of(q: Part) -> u64
-    ensures { λ r. ⌜ r ≡ countOf (updateOf q) ⌝ }
-{
-    let e = extent_of(q);
-    node_count(e.f, e.last, root_height(e.size))
-}
-
 // ---- the lines
 
 // How many lines have begun: at most sixteen.
@@ -182,7 +177,9 @@ pub fn line_state(s: Store, l: Line) -> Branch
 {
     let i = l.0;
     if i < 16 {
-        s.lines[i as usize]
+        let lines = s.lines;
+        let word = lines[i as usize];
+        unpacked_state(source_at(s.sources, i), word)
     } else {
         no_branch()
     }
@@ -195,14 +192,15 @@ pub fn with_line(s: Store, l: Line, b: Branch) -> Store
     let i = l.0;
     let mut done = s;
     if i < 16 {
-        done.lines[i as usize] = b;
+        done.sources = with_source(s.sources, i, b.source.0);
+        done.lines[i as usize] = packed_state(b);
     }
     done
 }
 
 // The line on which version v of line l got its number.
 pub fn owner_of(s: Store, l: Line, v: Version) -> Line
-    ensures { λ r. ⌜ r ≡ record { 0 = ownerOf (s .lines) (l .0) (v .0) } ⌝ }
+    ensures { λ r. ⌜ r ≡ record { 0 = ownerOf (lineIn s) (l .0) (v .0) } ⌝ }
 {
     let mut at = l.0;
     let mut left = 15u64;
@@ -223,8 +221,9 @@ pub fn number_on(s: Store, l: Line, v: Version) -> u64
 {
     let i = l.0;
     if i < 16 {
-        let b = s.lines[i as usize];
-        if b.start.0 < v.0 {
+        let lines = s.lines;
+        let word = lines[i as usize];
+        if field_of(word, 0) < v.0 {
             return number_of(l, v);
         }
     }
@@ -287,12 +286,13 @@ pub fn open_version(s: Store, g: Lengths, l: Line, v: Version) -> Opened
     if i >= 16 {
         return open_shared(s, g, l, v);
     }
-    let b = s.lines[i as usize];
-    if v.0 <= b.start.0 {
+    let lines = s.lines;
+    let word = lines[i as usize];
+    if v.0 <= field_of(word, 0) {
         return open_shared(s, g, l, v);
     }
     Opened {
-        refusal: refusal_by(s, g, l, v, b.published),
+        refusal: refusal_by(s, g, l, v, Version(field_of(word, 2))),
         number: number_of(l, v),
     }
 }

@@ -51,7 +51,7 @@ pub fn view<'a>(
 {
     let o = open_version(s, lengths_of(pages, nodes, register), l, v);
     let q = version_part(register, o.number);
-    let x = find_page(nodes, register, o.number, page);
+    let x = find_page(&nodes, &register, o.number, page);
     view_part(
         pages,
         page_refusal(o.refusal, s.pages, q, o.number, v, page, x),
@@ -88,7 +88,7 @@ pub fn view_at(
 {
     let o = open_version(s, lengths_of(pages, nodes, register), l, v);
     let q = version_part(register, o.number);
-    let x = find_page(nodes, register, o.number, page);
+    let x = find_page(&nodes, &register, o.number, page);
     viewed_by(
         page_refusal(o.refusal, s.pages, q, o.number, v, page, x),
         s.size,

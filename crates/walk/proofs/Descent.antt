@@ -1,191 +1,238 @@
--- The walk to a page one level at a time, as the code goes: by spans for heights, by a version's part of its record for its update, and by the place's number.
+-- The walk one level at a time, as the code goes: the place of a node by its number of 64 bits, and what a level carries down.
 -- Assumes nothing.
 use mathlib.Core.Path.{_≡_, refl, sym, ap, _∙_}
-use mathlib.Core.Logic.{inl, inr}
-use mathlib.Core.Bool.{Bool, true, false, and-false, true≢false}
+use mathlib.Core.Logic.{_≢_, inl, inr}
+use mathlib.Core.Bool.{Bool, true, false}
 use mathlib.Core.Option.{Option, none, some}
 use mathlib.Core.List.{List, []}
-use Prim.Native.Nat.{ℕ, zero, suc, _+_, _-_, _*_, _/_, _%_, _^_, _≤_, _<_, min}
-use native.Mathlib.Nat.{mod-eq-of-lt, min-eq-left, min-eq-right}
+use Prim.Native.Nat.{ℕ, zero, suc, _+_, _-_, _/_, _%_, _^_, _≤_, _<_, min}
 use native.Mathlib.Omega.{arith}
-use borrow.Author.Tests.{lt-ltb, le-ltb, le-leb, eq-eqb, ne-eqb}
+use borrow.Author.Tests.{lt-ltb, le-ltb}
 use lib.Dec.{ltb}
 use lib.ListN.{length}
 use lib.Pow.{pow-pos, pow-mono}
-use lib.Arith.{digits-div, digits-mod}
-use Rattle.tree.specs.Tree.{rootHeight}
-use Rattle.tree.specs.Place.{first, index}
+use Rattle.tree.specs.Place.{first, halvings}
 use Rattle.tree.specs.NodeArea.{nodeAt}
-use Rattle.tree.specs.Walk.{walkBy, placeWhere, hasNode, visit, goes, ends}
-use Rattle.register.specs.Register.{updateOf, versionPart}
-use Rattle.register.specs.declared.Record.{Record}
-use Rattle.register.specs.declared.Part.{Part}
+use Rattle.tree.specs.Walk.{reachBy, leafOf, placeWhere, visit, turns, ends}
 use Rattle.tree.specs.declared.Found.{Found}
-use Rattle.tree.specs.declared.Found.the-variants.{Leaf, Lost}
 use Rattle.tree.specs.declared.NodeAt.{NodeAt}
 use Rattle.tree.specs.declared.NodeAt.the-variants.{Stored, Missing}
 use Rattle.tree.proofs.Area.{placed-out}
-use Rattle.tree.proofs.First.{first-le, first-root, first-nest, lt-root}
-use Rattle.tree.proofs.Meets.{lt-or-le, meets-within}
-use Rattle.register.proofs.Records.{updateOf-inside}
-use Rattle.tree.proofs.Root.{root-pow, root-fits, root-low}
-use Rattle.versions.specs.Store.{areasOf}
-use Rattle.walk.specs.FindPage.{mostNumber, isNumber, placeIn, placeAt, findPage}
-use Rattle.walk.specs.Descent.{Spanned, placeNumber, halfNumber, turnOf, foundIn, walkDown}
-use Rattle.walk.specs.declared.Turn.{Turn}
-use Rattle.walk.specs.declared.Turn.the-variants as Turn
+use Rattle.tree.proofs.First.{first-root}
+use Rattle.tree.proofs.Halved.{halved-zero, halved-small, halved-left, halved-right, halved-step}
+use Rattle.tree.proofs.Meets.{lt-or-le}
+use Rattle.lines.specs.Lines.{pick}
+use Rattle.register.specs.Register.{versionPart}
+use Rattle.register.specs.declared.Record.{Record}
+use Rattle.register.specs.declared.Part.{Part}
+use Rattle.versions.specs.Store.{Areas, areasOf}
+use Rattle.walk.specs.FindPage.{placeIn, placeAt, reachFrom, findPage}
+use Rattle.walk.specs.Descent.{firstOver, Level, orMost, childNumber, leafPlace}
 
--- ---- spans
+-- ---- numbers of 64 bits
 
-pub span-height : (span : ℕ) → Spanned span → span ≡ 2 ^ rootHeight span
-span-height span s = s .spans ∙ ap (λ (h : ℕ). 2 ^ h) (root-pow (s .height) ∙ ap rootHeight (sym (s .spans)))
+pub above-zero : (c : ℕ) → c ≢ 0 → 0 < c
+above-zero zero n = absurd (n refl)
+above-zero (suc c) n = omega arith
 
-pub span-some : (span : ℕ) → Spanned span → 0 < span
-span-some span s = omega (arith, s .spans, pow-pos (s .height))
+pub below-most : (c : ℕ) → c < 2 ^ 64 → c ≢ 2 ^ 64 - 1 → c < 2 ^ 64 - 1
+below-most c l n = elim (lt-or-le c (2 ^ 64 - 1)) [ inl k ↦ k | inr k ↦ absurd (n (omega arith)) ]
 
-pub span-half : (span : ℕ) → Spanned span → 2 ≤ span → Spanned (span / 2)
-span-half span s two = go (s .height) (s .spans)
-  where
-    go : (h : ℕ) → span ≡ 2 ^ h → Spanned (span / 2)
-    go zero e = absurd (omega arith)
-    go (suc h) e = record { height = h; spans = omega arith }
-
--- A span of 64 bits has a height that a number of 64 bits can be shifted by.
-pub span-low : (span : ℕ) → Spanned span → span < 2 ^ 64 → rootHeight span < 64
-span-low span s b = elim (lt-or-le (rootHeight span) 64) [ inl h ↦ h | inr h ↦ absurd (omega (arith, span-height span s, pow-mono h)) ]
-
--- A page shifted down and up again by a height, in 64 bits.
-pub first-by-shifts : (p h : ℕ) → p < 2 ^ 64 → p / 2 ^ h * 2 ^ h % 2 ^ 64 ≡ first p h
-unfolding first
-first-by-shifts p h b = mod-eq-of-lt (omega (arith, first-le p h))
-
--- A node over a page of 64 bits ends within them.
-pub first-room : (span p : ℕ) → Spanned span → span < 2 ^ 64 → p < 2 ^ 64 → first p (rootHeight span) + span ≤ 2 ^ 64
-first-room span p s b c =
-    let low = span-low span s b in
-    omega (arith, first-nest p 64 (rootHeight span) (omega arith), first-root p 64 c, span-height span s)
-
--- ---- an update's nodes
-
-module _ (q : Part) where
-  -- The root of the largest blob has 4,096 pages.
-  pub root-most : 2 ^ rootHeight (updateOf q .size) ≤ 4096
-  root-most = let i = updateOf-inside q in pow-mono (root-low (updateOf q .size) (i .2))
-
-  -- A node that is no higher than the root and meets the update lies in the root.
-  pub node-there : (p h : ℕ) → h ≤ rootHeight (updateOf q .size) → first p h ≤ updateOf q .last → updateOf q .f < first p h + 2 ^ h → hasNode (updateOf q) p h ≡ true
-  unfolding hasNode
-  node-there p h k l m =
-      let inside = lt-root p (rootHeight (updateOf q .size)) h k (omega (arith, updateOf-inside q, root-fits (updateOf q .size))) in
-      rw (le-leb h (rootHeight (updateOf q .size)) k, lt-ltb p (2 ^ rootHeight (updateOf q .size)) inside, meets-within (updateOf q .f) (updateOf q .last) (first p h) (2 ^ h) m l)
-
--- ---- a node's place
-
--- The place of a node of the version numbered c, where its record has this number and its update makes the node.
-pub place-there : (rs : List Record) (c p h : ℕ) → 0 < c → c < mostNumber → versionPart rs c .name ≡ c → hasNode (updateOf (versionPart rs c)) p h ≡ true
-    → let u = updateOf (versionPart rs c) in placeAt rs c p h ≡ some (versionPart rs c .place + index (u .f) (u .last) 0 (rootHeight (u .size)) p h)
-unfolding placeIn
-place-there rs c p h some-number low named has = rw (lt-ltb 0 c some-number, lt-ltb c mostNumber low, eq-eqb (versionPart rs c .name) c named, has)
-
--- A place's number, by what `place_in` promises of it.
-pub place-number : (b : Bool) (place r : ℕ) → r < 2 ^ 64 → (b ≡ true → r ≡ min place (2 ^ 64 - 1)) → (r < 2 ^ 64 - 1 → b ≡ true) → r ≡ placeNumber (placeWhere b place)
-place-number true place r low where-there below-most = where-there refl
-place-number false place r low where-there below-most = elim (lt-or-le r (2 ^ 64 - 1)) [ inl k ↦ absurd (true≢false (sym (below-most k))) | inr k ↦ omega arith ]
+-- ---- a node's place, as a number
 
 module _ (area : List ℕ) (fits : length area < 2 ^ 64) where
-  missing-past : (q : ℕ) → 2 ^ 64 - 1 ≤ q → nodeAt area q ≡ Missing
+  pub missing-most : nodeAt area (2 ^ 64 - 1) ≡ Missing
   unfolding nodeAt
-  missing-past q h = simp (placed-out (length area) q (omega arith))
+  missing-most = simp (placed-out (length area) (2 ^ 64 - 1) (omega arith))
 
-  visit-number : (o : Option ℕ) → visit area o ≡ nodeAt area (placeNumber o)
-  visit-number none = sym (missing-past (2 ^ 64 - 1) (omega arith))
-  visit-number (some q) = elim (lt-or-le q (2 ^ 64 - 1)) [
-    | inl k ↦ ap (nodeAt area) (sym (min-eq-left {n = q} {m = 2 ^ 64 - 1} (omega arith)))
-    | inr k ↦ missing-past q k ∙ sym (ap (nodeAt area) (min-eq-right {n = 2 ^ 64 - 1} {m = q} k) ∙ missing-past (2 ^ 64 - 1) (omega arith))
-  ]
+  pub visit-number : (o : Option ℕ) → visit area o ≡ nodeAt area (orMost o)
+  visit-number none = sym missing-most
+  visit-number (some q) = refl
+
+-- No version is numbered 0 or by the largest number.
+pub place-zero : (rs : List Record) (p h : ℕ) → placeAt rs 0 p h ≡ none
+unfolding placeIn
+place-zero rs p h = refl
+
+pub place-most : (rs : List Record) (p h : ℕ) → placeAt rs (2 ^ 64 - 1) p h ≡ none
+unfolding placeIn
+place-most rs p h = refl
 
 -- ---- one level
 
--- Where a walk is after a turn at a node of the version numbered c.
-abbrev pub after : Turn → ℕ → (ℕ → ℕ → Found) → Found
-after (Turn.Leaf n) c k = Leaf (record { 0 = c }) n
-after (Turn.Down d half) c k = k d half
-after Turn.Lost c k = Lost
+-- The number of the child, where there is a node; and where that is the largest number, there is none.
+pub child-goes : (x : NodeAt) (b : Bool) (k : ℕ → Option ℕ) → childNumber x b ≢ 2 ^ 64 - 1 → turns x b k ≡ k (childNumber x b)
+child-goes Missing b k n = absurd (n refl)
+child-goes (Stored l r) true k n = refl
+child-goes (Stored l r) false k n = refl
 
-pub turn-down : (x : NodeAt) (p span d half : ℕ) → turnOf x p span ≡ Turn.Down d half → (half ≡ span / 2) × (2 ≤ span)
-turn-down Missing p span d half e = let z : _≡_ {A = ℕ} 0 1 = cc in absurd (omega arith)
-turn-down (Stored l r) p span d half e = elim (lt-or-le span 2) [
-  | inl k ↦ let t = rw (lt-ltb span 2 k) at e in let z : _≡_ {A = ℕ} 0 1 = cc in absurd (omega arith)
-  | inr k ↦ let t = rw (le-ltb span 2 k) at e in (cc, k)
-]
+pub child-lost : (x : NodeAt) (b : Bool) (k : ℕ → Option ℕ) → ((l r : ℕ) → x ≡ Stored l r → (l < 2 ^ 32) × (r < 2 ^ 32)) → childNumber x b ≡ 2 ^ 64 - 1 → turns x b k ≡ none
+child-lost Missing b k low e = refl
+child-lost (Stored l r) true k low e = absurd (omega (arith, low l r refl))
+child-lost (Stored l r) false k low e = absurd (omega (arith, low l r refl))
 
-module _ (at : ℕ → ℕ → ℕ → Option ℕ) (area : List ℕ) (v p : ℕ) where
-  abbrev below : ℕ → ℕ → Found
-  below d half = walkBy at area (rootHeight half) d p
+module _ (at : ℕ → ℕ → ℕ → Option ℕ) (area : List ℕ) (to p : ℕ) where
+  pub reach-here : (h c : ℕ) → h ≤ to → reachBy at area to (h - to) c p ≡ some c
+  unfolding reachBy
+  reach-here h c l = let e : h - to ≡ 0 = omega arith in rw e
 
-  at-leaf : (x : NodeAt) → ends v x ≡ after (turnOf x p 1) v below
-  at-leaf Missing = refl
-  at-leaf (Stored l r) = refl
+  pub reach-none : (n : ℕ) → reachBy at area to n 0 p ≡ some 0
+  unfolding reachBy
+  reach-none zero = refl
+  reach-none (suc n) = refl
 
-  goes-on : (l r : ℕ) (b : Bool) (k : ℕ → Found) → goes (Stored l r) b k ≡ k (halfNumber b l r)
-  goes-on l r true k = refl
-  goes-on l r false k = refl
+  down : (n c : ℕ) → 0 < c
+      → reachBy at area to (suc n) c p ≡ turns (visit area (at c p (suc (n + to)))) (ltb p (first p (suc (n + to)) + 2 ^ (n + to))) (λ (d : ℕ). reachBy at area to n d p)
+  unfolding reachBy
+  down n zero o = absurd (omega arith)
+  down n (suc c) o = refl
 
-  at-inner : (h : ℕ) (x : NodeAt) → goes x (ltb p (first p (suc h) + 2 ^ h)) (λ (d : ℕ). walkBy at area h d p) ≡ after (turnOf x p (2 ^ suc h)) v below
-  at-inner h Missing = refl
-  at-inner h (Stored l r) =
-      let half : 2 ^ suc h / 2 ≡ 2 ^ h = omega arith in
-      rw (le-ltb (2 ^ suc h) 2 (omega (arith, pow-pos h)), half, ← root-pow (suc h), ← root-pow h)
-      (goes-on l r (ltb p (first p (suc h) + 2 ^ h)) (λ (d : ℕ). walkBy at area h d p))
+  -- From a node of a height above: the node at its place, and the half that the page lies in.
+  pub reach-step : (h c : ℕ) → to < h → 0 < c
+      → reachBy at area to (h - to) c p ≡ turns (visit area (at c p h)) (ltb p (first p h + 2 ^ (h - 1))) (λ (d : ℕ). reachBy at area to (h - 1 - to) d p)
+  reach-step h c l o =
+      let n = h - 1 - to in
+      let e : h - to ≡ suc n = omega arith in
+      let f : suc (n + to) ≡ h = omega arith in
+      let g : n + to ≡ h - 1 = omega arith in
+      ap (λ (i : ℕ). reachBy at area to i c p) e
+      ∙ down n c o
+      ∙ ap (λ (i : ℕ). turns (visit area (at c p i)) (ltb p (first p i + 2 ^ (n + to))) (λ (d : ℕ). reachBy at area to n d p)) f
+      ∙ ap (λ (i : ℕ). turns (visit area (at c p h)) (ltb p (first p h + 2 ^ i)) (λ (d : ℕ). reachBy at area to n d p)) g
 
-  walk-turn : (h : ℕ) → walkBy at area h v p ≡ after (turnOf (visit area (at v p h)) p (2 ^ h)) v below
-  unfolding walkBy
-  walk-turn zero = at-leaf (visit area (at v p 0))
-  walk-turn (suc h) = at-inner h (visit area (at v p (suc h)))
+-- ---- the leaf
 
--- The walk from the node of a span of the version numbered c: the place by its part, the node there, and the turn.
-pub walk-step : (rs : List Record) (area : List ℕ) (c span p : ℕ) → length area < 2 ^ 64 → Spanned span
-    → walkDown rs area c span p
-    ≡ after (turnOf (nodeAt area (placeNumber (placeAt rs c p (rootHeight span)))) p span) c (λ d half. walkDown rs area d half p)
-walk-step rs area c span p fits s =
-    let k : ℕ → ℕ → Found = λ d half. walkDown rs area d half p in
-    walk-turn (placeAt rs) area c p (rootHeight span)
-    ∙ ap (λ (n : ℕ). after (turnOf (visit area (placeAt rs c p (rootHeight span))) p n) c k) (sym (span-height span s))
-    ∙ ap (λ (x : NodeAt). after (turnOf x p span) c k) (visit-number area fits (placeAt rs c p (rootHeight span)))
+-- The leaf over a page of a version that has a number, of a blob of the largest size at most.
+pub leaf-there : (q : Part) (c p : ℕ) → p < 4096 → orMost (leafPlace q c p) ≡ orMost (placeIn q c p 0)
+leaf-there q c p l = rw (lt-ltb p 4096 l)
 
--- A number that no version has leads nowhere.
-pub walk-lost : (rs : List Record) (area : List ℕ) (c span p : ℕ) → length area < 2 ^ 64 → Spanned span → isNumber c ≡ false → walkDown rs area c span p ≡ Lost
+pub leaf-past : (q : Part) (c p : ℕ) → 4096 ≤ p → orMost (leafPlace q c p) ≡ 2 ^ 64 - 1
+leaf-past q c p l = rw (le-ltb p 4096 l)
+
+either-most : (b : Bool) → orMost (pick b none none) ≡ 2 ^ 64 - 1
+either-most true = refl
+either-most false = refl
+
+pub leaf-zero : (q : Part) (p : ℕ) → orMost (leafPlace q 0 p) ≡ 2 ^ 64 - 1
 unfolding placeIn
-walk-lost rs area c span p fits s out = rw (out, missing-past area fits (2 ^ 64 - 1) (omega arith)) at (walk-step rs area c span p fits s)
+leaf-zero q p = either-most (ltb p 4096)
 
--- ---- where a walk ends, in one number
-
--- A version that a walk ends at has a number below the most: others have no place.
-pub leaf-low : (area : List ℕ) (q : Part) (c p h span n : ℕ) → length area < 2 ^ 64
-    → turnOf (nodeAt area (placeNumber (placeIn q c p h))) p span ≡ Turn.Leaf n → c < mostNumber
+pub leaf-most : (q : Part) (p : ℕ) → orMost (leafPlace q (2 ^ 64 - 1) p) ≡ 2 ^ 64 - 1
 unfolding placeIn
-leaf-low area q c p h span n fits e = elim (lt-or-le c mostNumber) [
-  | inl k ↦ k
-  | inr k ↦
-      let t = rw (le-ltb c mostNumber k, and-false, missing-past area fits (2 ^ 64 - 1) (omega arith)) at e in
-      let z : _≡_ {A = ℕ} 0 1 = cc in
-      absurd (omega arith)
-]
+leaf-most q p = either-most (ltb p 4096)
 
--- A leaf's page number is one of the node's two numbers.
-pub leaf-number : (x : NodeAt) (p span n : ℕ) → turnOf x p span ≡ Turn.Leaf n → (most : ℕ) → ((l r : ℕ) → x ≡ Stored l r → l < most) → n < most
-leaf-number Missing p span n e most low = let z : _≡_ {A = ℕ} 0 1 = cc in absurd (omega arith)
-leaf-number (Stored l r) p span n e most low = elim (lt-or-le span 2) [
-  | inl k ↦ let t = rw (lt-ltb span 2 k) at e in let same : l ≡ n = cc in omega (arith, low l r refl)
-  | inr k ↦ let t = rw (le-ltb span 2 k) at e in let z : _≡_ {A = ℕ} 0 1 = cc in absurd (omega arith)
-]
+-- What a leaf's level carries.
+pub level-leaf : (p : ℕ) → p < 4096 → Level p 1 0 (halvings p) (halvings p)
+level-leaf p l = record {
+  spans = refl;
+  low = omega arith;
+  inside = omega arith;
+  halvings-of = refl;
+  carries = omega (arith, halved-small p);
+}
 
-pub found-leaf : (c n : ℕ) → c < mostNumber → n < 2 ^ 32 → foundIn (c * 2 ^ 32 + n) ≡ Leaf (record { 0 = c }) n
-found-leaf c n a b = rw (ne-eqb (c * 2 ^ 32 + n) (2 ^ 64 - 1) (λ e. omega arith), digits-div c b, digits-mod c b)
+-- ---- what a level carries down
+
+pub half-span : (span h : ℕ) → span ≡ 2 ^ h → 0 < h → span / 2 ≡ 2 ^ (h - 1)
+half-span span zero e o = absurd (omega arith)
+half-span span (suc h) e o = let f : suc h - 1 ≡ h = omega arith in rw f (omega arith)
+
+module _ (p a span h halved carried : ℕ) (o : Level a span (suc h) halved carried) (over : a ≡ firstOver p (suc h)) where
+  half : span / 2 ≡ 2 ^ h
+  half = let f : suc h - 1 ≡ h = omega arith in half-span span (suc h) (o .spans) (omega arith) ∙ ap (λ (i : ℕ). 2 ^ i) f
+
+  left : p < a + span / 2 → Level a (span / 2) h halved ((carried + 1) % 2 ^ 64) × (a ≡ firstOver p h)
+  left l = (
+    record {
+      spans = half;
+      low = omega (arith, o .low);
+      inside = omega (arith, o .inside);
+      halvings-of = o .halvings-of;
+      carries = omega (arith, o .carries, o .low);
+    },
+    over ∙ sym (halved-left p h (omega (arith, half))),
+  )
+
+  right : a + span / 2 ≤ p → Level (a + span / 2) (span / 2) h (halved + (span - 1)) ((carried + span) % 2 ^ 64) × (a + span / 2 ≡ firstOver p h)
+  right l =
+      let step : halvings (a + span / 2) ≡ halvings a + (span - 1) = rw (half, over, o .spans) (halved-step p h) in (
+        record {
+          spans = half;
+          low = omega (arith, o .low);
+          inside = omega (arith, o .inside, o .spans);
+          halvings-of = omega (arith, o .halvings-of);
+          carries = omega (arith, o .carries, o .low, o .spans, pow-pos (suc h));
+        },
+        rw half (ap (λ (x : ℕ). x + 2 ^ h) over ∙ sym (halved-right p h (omega (arith, half)))),
+      )
+
+  both : (b : Bool) → ltb p (a + span / 2) ≡ b
+      → Level (pick b a (a + span / 2)) (span / 2) h (pick b halved (halved + (span - 1))) ((carried + pick b 1 span) % 2 ^ 64) × (pick b a (a + span / 2) ≡ firstOver p h)
+  both b e = elim (lt-or-le p (a + span / 2)) [
+    | inl l ↦ rw (sym e ∙ lt-ltb p (a + span / 2) l) (left l)
+    | inr l ↦ rw (sym e ∙ le-ltb p (a + span / 2) l) (right l)
+  ]
+
+pub level-below : (p a span h halved carried : ℕ) → 0 < h → Level a span h halved carried → a ≡ firstOver p h
+    → let b = ltb p (a + span / 2) in
+    Level (pick b a (a + span / 2)) (span / 2) (h - 1) (pick b halved (halved + (span - 1))) ((carried + pick b 1 span) % 2 ^ 64) × (pick b a (a + span / 2) ≡ firstOver p (h - 1))
+level-below p a span zero halved carried o l e = absurd (omega arith)
+level-below p a span (suc h) halved carried o l e =
+    let f : suc h - 1 ≡ h = omega arith in
+    rw f (both p a span h halved carried l e (ltb p (a + span / 2)) refl)
+
+-- What the root carries.
+pub level-root : (p h carried : ℕ) → h ≤ 12 → p < 2 ^ h → carried < 2 ^ 64 → (carried + h) % 2 ^ 64 ≡ 0 → Level 0 (2 ^ h) h 0 carried × (0 ≡ firstOver p h)
+level-root p h carried low r fits e = (
+  record {
+    spans = refl;
+    low = low;
+    inside = omega (arith, pow-mono low);
+    halvings-of = sym halved-zero;
+    carries = rw halved-zero (omega arith);
+  },
+  sym (first-root p h r),
+)
 
 -- ---- from the root
 
-pub find-from-root : (nodes : List ℕ) (register : List Record) (c p : ℕ)
-    → walkDown register nodes c (2 ^ rootHeight (updateOf (versionPart register c) .size)) p ≡ findPage (areasOf [] nodes register) c p
-unfolding findPage
-find-from-root nodes register c p = rw (← root-pow (rootHeight (updateOf (versionPart register c) .size)))
+module _ (a : Areas) (c height p j : ℕ) where
+  pub from-root : p < 2 ^ min height 12 → reachFrom a c height p j ≡ reachBy (placeAt (a .register)) (a .nodes) j (min height 12 - j) c p
+  unfolding reachFrom
+  from-root l = rw (lt-ltb p (2 ^ min height 12) l)
+
+  pub from-past : 2 ^ min height 12 ≤ p → reachFrom a c height p j ≡ some 0
+  unfolding reachFrom
+  from-past l = rw (le-ltb p (2 ^ min height 12) l)
+
+-- From the largest number nothing is reached.
+reach-most : (rs : List Record) (nodes : List ℕ) (j n p : ℕ) → orMost (reachBy (placeAt rs) nodes j n (2 ^ 64 - 1) p) ≡ 2 ^ 64 - 1
+unfolding reachBy placeIn
+reach-most rs nodes j zero p = refl
+reach-most rs nodes j (suc n) p = refl
+
+pub from-most : (nodes : List ℕ) (rs : List Record) (height p j : ℕ) → p < 2 ^ min height 12 → orMost (reachFrom (areasOf [] nodes rs) (2 ^ 64 - 1) height p j) ≡ 2 ^ 64 - 1
+from-most nodes rs height p j l = rw (from-root (areasOf [] nodes rs) (2 ^ 64 - 1) height p j l) (reach-most rs nodes j (min height 12 - j) p)
+
+-- ---- the end of a walk
+
+module _ (rs : List Record) (nodes : List ℕ) (p : ℕ) (fits : length nodes < 2 ^ 64) where
+  abbrev end : ℕ → Found
+  end d = ends d (nodeAt nodes (orMost (leafPlace (versionPart rs d) d p)))
+
+  end-some : (d : ℕ) → (4096 ≤ p → d ≡ 0) → end d ≡ ends d (visit nodes (placeAt rs d p 0))
+  end-some d past = elim (lt-or-le p 4096) [
+    | inl l ↦ rw (leaf-there (versionPart rs d) d p l, ← visit-number nodes fits (placeAt rs d p 0))
+    | inr l ↦ rw (past l, leaf-zero (versionPart rs 0) p, missing-most nodes fits, place-zero rs p 0)
+  ]
+
+  end-is : (o : Option ℕ) → (4096 ≤ p → o ≡ some 0) → end (orMost o) ≡ leafOf (placeAt rs) nodes p o
+  end-is none past = rw (leaf-most (versionPart rs (2 ^ 64 - 1)) p, missing-most nodes fits)
+  end-is (some d) past = end-some d (λ l. ap orMost (past l))
+
+  pub find-ends : (c : ℕ) → end (orMost (reachFrom (areasOf [] nodes rs) c (versionPart rs c .height) p 0)) ≡ findPage (areasOf [] nodes rs) c p
+  unfolding findPage
+  find-ends c =
+      let h = versionPart rs c .height in
+      let low : min h 12 ≤ 12 = omega arith in
+      end-is (reachFrom (areasOf [] nodes rs) c h p 0) (λ l. from-past (areasOf [] nodes rs) c h p 0 (omega (arith, pow-mono low)))

@@ -1,4 +1,4 @@
 pub mod Descent
 pub mod Ends
-pub mod Kept
+pub mod Places
 pub mod Generated

@@ -1,53 +1,39 @@
--- What the functions of the walk ask and give: the walk to a page one level at a time.
+-- What the functions of the walk ask and give: one level at a time, in numbers of 64 bits.
 use mathlib.Core.Path.{_≡_}
 use mathlib.Core.Bool.{Bool, true, false}
 use mathlib.Core.Option.{Option, none, some}
-use mathlib.Core.List.{List}
-use Prim.Native.Nat.{ℕ, _+_, _-_, _/_, _%_, _^_, min}
-use lib.Dec.{ltb, eqb}
-use Rattle.tree.specs.Tree.{rootHeight}
-use Rattle.tree.specs.Place.{first}
-use Rattle.tree.specs.Walk.{walkBy}
-use Rattle.register.specs.declared.Record.{Record}
-use Rattle.tree.specs.declared.Found.{Found}
-use Rattle.tree.specs.declared.Found.the-variants.{Leaf, Lost}
+use Prim.Native.Nat.{ℕ, _+_, _-_, _%_, _^_, _≤_}
+use lib.Dec.{ltb}
+use Rattle.tree.specs.Place.{first, halvings}
 use Rattle.tree.specs.declared.NodeAt.{NodeAt}
 use Rattle.tree.specs.declared.NodeAt.the-variants.{Stored, Missing}
-use Rattle.walk.specs.declared.Turn.{Turn}
-use Rattle.walk.specs.declared.Turn.the-variants as Turn
-use Rattle.walk.specs.FindPage.{placeAt}
+use Rattle.lines.specs.Lines.{pick}
+use Rattle.register.specs.declared.Part.{Part}
+use Rattle.walk.specs.FindPage.{placeIn}
 
--- A span: a power of two.
-pub record Spanned (span : ℕ) : Type 0 where
-  pub height : ℕ
-  pub spans : span ≡ 2 ^ height
+-- A number, or where there is none the largest of 64 bits, which lies past any area and is no version's.
+abbrev pub orMost : Option ℕ → ℕ
+orMost none = 2 ^ 64 - 1
+orMost (some n) = n
 
--- A place in 64 bits. Where there is none, and where it is past 64 bits, the largest number, which lies past any area.
-abbrev pub placeNumber : Option ℕ → ℕ
-placeNumber none = 2 ^ 64 - 1
-placeNumber (some q) = min q (2 ^ 64 - 1)
+-- The first page of the node of height h over page p.
+abbrev pub firstOver : ℕ → ℕ → ℕ
+firstOver p h = first p h
 
--- Where the walk to page p goes from a node: a leaf has one page; else on into the half that p lies in (true: the left).
-abbrev pub halfNumber : Bool → ℕ → ℕ → ℕ
-halfNumber true l r = l
-halfNumber false l r = r
+-- What a level carries: the first page of its node, the node's span and height, the halvings of that page, and these less the height.
+pub record Level (a span h halved carried : ℕ) : Type 0 where
+  pub spans : span ≡ 2 ^ h
+  pub low : h ≤ 12
+  pub inside : a + span ≤ 4096
+  pub halvings-of : halved ≡ halvings a
+  pub carries : carried ≡ (halvings a + (2 ^ 64 - h)) % 2 ^ 64
 
-abbrev pub turnBy : Bool → ℕ → ℕ → ℕ → ℕ → Turn
-turnBy true l r p span = Turn.Leaf l
-turnBy false l r p span = Turn.Down (halfNumber (ltb p (first p (rootHeight span) + span / 2)) l r) (span / 2)
+-- The number that a node has for its left half (true) or its right one.
+abbrev pub childNumber : NodeAt → Bool → ℕ
+childNumber Missing b = 2 ^ 64 - 1
+childNumber (Stored l r) true = l
+childNumber (Stored l r) false = r
 
-abbrev pub turnOf : NodeAt → ℕ → ℕ → Turn
-turnOf Missing p span = Turn.Lost
-turnOf (Stored l r) p span = turnBy (ltb span 2) l r p span
-
--- Where a walk ends, read from one number: a leaf's version and page number in 32 bits each; the largest number of 64 bits is lost.
-abbrev pub foundBy : Bool → ℕ → Found
-foundBy true x = Lost
-foundBy false x = Leaf (record { 0 = x / 2 ^ 32 }) (x % 2 ^ 32)
-
-abbrev pub foundIn : ℕ → Found
-foundIn x = foundBy (eqb x (2 ^ 64 - 1)) x
-
--- The walk to page p from the node of a span over it of the version numbered c.
-abbrev pub walkDown : List Record → List ℕ → ℕ → ℕ → ℕ → Found
-walkDown rs nodes c span p = walkBy (placeAt rs) nodes (rootHeight span) c p
+-- The place of the leaf over page p of the version numbered c, with the part q that its record should have: no blob has a page past 4,095.
+abbrev pub leafPlace : Part → ℕ → ℕ → Option ℕ
+leafPlace q c p = pick (ltb p 4096) (placeIn q c p 0) none

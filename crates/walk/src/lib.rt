@@ -1,166 +1,227 @@
-// The walk from a version's root to a page, for READ, STAMP and VIEW.
+// The walk from a version's root down the halves: to a page, for READ, STAMP and VIEW; to a node of a height, for WEAVE.
 ghost use mathlib.Core.Path.{_≡_};
-ghost use Prim.Native.Nat.{min, _+_, _-_, _^_, _<_};
-ghost use mathlib.Core.Bool.{true};
+ghost use Prim.Native.Nat.{ℕ, _+_, _-_, _/_, _%_, _^_, _<_, _≤_};
 ghost use mathlib.Core.List.{[]};
-ghost use Rattle.tree.specs.Tree.{rootHeight};
-ghost use Rattle.tree.specs.Place.{first, index};
-ghost use Rattle.tree.specs.Walk.{hasNode};
-ghost use Rattle.register.specs.Register.{updateOf};
-ghost use Rattle.walk.specs.Descent.{Spanned, placeNumber, turnOf, foundIn, walkDown};
+ghost use lib.Dec.{ltb};
+ghost use Rattle.tree.specs.Walk.{reachBy, ends};
+ghost use Rattle.lines.specs.Lines.{pick};
 ghost use Rattle.versions.specs.Store.{areasOf};
-ghost use Rattle.walk.specs.FindPage.{isNumber, placeIn, findPage, numberWithin, isLost, orZero};
+ghost use Rattle.walk.specs.FindPage.{placeIn, placeAt, reachFrom, findPage, numberWithin, isLost, orZero};
+ghost use Rattle.walk.specs.Descent.{firstOver, Level, orMost, childNumber, leafPlace};
 use register::Part;
 use register::Record;
-use register::extent_of;
 use register::version_part;
 use tree::Found;
+use tree::MOST_PAGES;
 use tree::NodeAt;
 use tree::PageIndex;
 use tree::Version;
-use tree::height_of;
+use tree::halvings;
 use tree::node_at;
-use tree::node_index;
-use tree::root_height;
-use tree::root_span;
+use tree::smaller;
+use tree::span_of;
 
-// The numbers of versions lie below this one: sixteen lines, and 16 bits a version.
-const MOST_NUMBER: u64 = 1048576;
+// The height of the root of the largest blob.
+const MOST_HEIGHT: u64 = 12;
 
-// Where a walk goes from a node: it ends at a leaf with a page number, goes down to the node of half the span of a version, by its number, or is lost.
-enum Turn {
-    Leaf(u64),
-    Down(u64, u64),
-    Lost,
-}
-
-// The span of the root of an update.
-fn root_of(q: Part) -> u64
-    ensures { λ r. ⌜ r ≡ 2 ^ rootHeight (updateOf q .size) ⌝ }
-{
-    let e = extent_of(q);
-    root_span(e.size)
-}
-
-// The first page of the node of this span over a page.
-fn first_of(page: PageIndex, span: u64) -> PageIndex
-    requires { ⌜ Spanned span ⌝ }
-    ensures { λ r. ⌜ r .0 ≡ first (page .0) (rootHeight span) ⌝ }
-{
-    let h = height_of(span);
-    PageIndex((page.0 >> h) << h)
-}
-
-// The place of the node of this span over a page in an update, by its index in weaving order; the largest number, which lies past any area, where
-// the place would wrap or the update makes no such node. It makes one that is no higher than the root and meets the update, so its page lies in the root;
-// it is compared with the last page first, so that the sum cannot wrap.
-fn place_in(q: Part, page: PageIndex, span: u64) -> u64
-    requires { ⌜ Spanned span ⌝ }
-    ensures { λ r.
-        let u = updateOf q in
-        let h = rootHeight span in
-        ⌜ (hasNode u (page .0) h ≡ true → r ≡ min (q .place + index (u .f) (u .last) 0 (rootHeight (u .size)) (page .0) h) (2 ^ 64 - 1))
-        × (r < 2 ^ 64 - 1 → hasNode u (page .0) h ≡ true) ⌝ }
-{
-    let e = extent_of(q);
-    let height = root_height(e.size);
-    let h = height_of(span);
-    if height < h {
-        return u64::MAX;
-    }
-    let first = first_of(page, span);
-    if e.last.0 < first.0 {
-        return u64::MAX;
-    }
-    if first.0 + span <= e.f.0 {
-        return u64::MAX;
-    }
-    let i = node_index(e.f, height, first, h);
-    if q.place > u64::MAX - i {
-        return u64::MAX;
-    }
-    q.place + i
-}
-
-// Whether a version may have this number.
-fn is_number(c: u64) -> bool
-    ensures { λ r. ⌜ r ≡ isNumber c ⌝ }
-{
-    if c == 0 {
-        return false;
-    }
-    c < MOST_NUMBER
-}
-
-// The same of the version numbered c, whose part q should be; the largest number where it is not, or there is no such node.
-fn place_of(q: Part, c: u64, page: PageIndex, span: u64) -> u64
-    requires { ⌜ (isNumber c ≡ true) × Spanned span ⌝ }
-    ensures { λ r. ⌜ r ≡ placeNumber (placeIn q c (page .0) (rootHeight span)) ⌝ }
+// The place of the node that begins at a first page, has a span and a height, in the version numbered c, whose part q should be; the largest number, which lies past any area,
+// where it is not, or has no such node. `halved` are the halvings of the first page, and `carried` is these less the height: so two words of the part give the place.
+// Over areas that no call left the sums may wrap.
+fn place_of(q: Part, c: u64, first: u64, span: u64, height: u64, halved: u64, carried: u64) -> u64
+    requires { ⌜ (0 < c) × (c < 2 ^ 64 - 1) × Level first span height halved carried ⌝ }
+    ensures { λ r. ⌜ ((p : ℕ) → first ≡ firstOver p height → r ≡ orMost (placeIn q c p height)) ⌝ }
 {
     if q.name != c {
         return u64::MAX;
     }
-    place_in(q, page, span)
-}
-
-// Where the walk to a page goes from the node x of this span.
-fn turn_at(x: NodeAt, page: PageIndex, span: u64) -> Turn
-    requires { ⌜ Spanned span ⌝ }
-    ensures { λ t. ⌜ t ≡ turnOf x (page .0) span ⌝ }
-{
-    match x {
-        NodeAt::Missing => Turn::Lost,
-        NodeAt::Stored(left, right) => {
-            if span < 2 {
-                return Turn::Leaf(left as u64);
-            }
-            let half = span / 2;
-            let first = first_of(page, span);
-            if page.0 < first.0 + half {
-                Turn::Down(left as u64, half)
-            } else {
-                Turn::Down(right as u64, half)
-            }
-        }
-    }
-}
-
-// The walk to a page from the node of this span, which halves at each call, of the version numbered c: one record and one place a level. The number's
-// range is asked before the record is read, so that the record's name is compared once.
-// Where it ends is one number, that of the leaf's version and the page number in 32 bits each, so that no level copies more; lost is the largest number.
-fn find(register: &[Record], nodes: &[u32], c: u64, span: u64, page: PageIndex) -> u64
-    requires { ⌜ Spanned span ⌝ }
-    ensures { λ r. ⌜ foundIn r ≡ walkDown (now (register .entry)) (now (nodes .entry)) c span (page .0) ⌝ }
-{
-    if !is_number(c) {
+    if q.height < height {
         return u64::MAX;
     }
-    let q = version_part(register, c);
-    let place = place_of(q, c, page, span);
-    let t = turn_at(node_at(nodes, place), page, span);
-    match t {
-        Turn::Leaf(number) => c * 4294967296 + number,
-        Turn::Down(below, half) => find(register, nodes, below, half, page),
-        Turn::Lost => u64::MAX,
+    let last = q.last;
+    if last.0 < first {
+        return u64::MAX;
+    }
+    let f = q.f;
+    if first + span <= f.0 {
+        return u64::MAX;
+    }
+    std::num::wrapping_sub_u64(
+        std::num::wrapping_add_u64(q.top, carried),
+        smaller(halved, q.past),
+    )
+}
+
+// Whether a page lies in the left half of the node at a first page, with halves of this span.
+fn is_left(page: u64, first: u64, half: u64) -> bool
+    requires { ⌜ first + half < 2 ^ 64 ⌝ }
+    ensures { λ r. ⌜ r ≡ ltb page (first + half) ⌝ }
+{
+    page < first + half
+}
+
+// The number that a node has for one of its halves; the largest number where there is no node.
+fn child_at(x: NodeAt, left: bool) -> u64
+    ensures { λ r. ⌜ r ≡ childNumber x left ⌝ }
+{
+    match x {
+        NodeAt::Missing => u64::MAX,
+        NodeAt::Stored(l, r) => if left { l as u64 } else { r as u64 },
     }
 }
 
-// Where a walk ends, from that number.
-fn found_in(x: u64) -> Found
-    ensures { λ r. ⌜ r ≡ foundIn x ⌝ }
+// A number to the left, and so much more to the right. One comparison chooses all that a level carries down, so that there is no branch to foresee.
+fn on_to(left: bool, x: u64, more: u64) -> u64
+    requires { ⌜ x + more < 2 ^ 64 ⌝ }
+    ensures { λ r. ⌜ r ≡ pick left x (x + more) ⌝ }
 {
-    if x == u64::MAX {
-        return Found::Lost;
+    if left { x } else { x + more }
+}
+
+// The halvings less the height, a level further down: one more, and to the right the span less one.
+fn carried_on(left: bool, carried: u64, span: u64) -> u64
+    ensures { λ r. ⌜ r ≡ (carried + pick left 1 span) % 2 ^ 64 ⌝ }
+{
+    if left {
+        return std::num::wrapping_add_u64(carried, 1);
     }
-    Found::Leaf(Version(x / 4294967296), x % 4294967296)
+    std::num::wrapping_add_u64(carried, span)
+}
+
+// Half of a span.
+fn half_of(span: u64) -> u64
+    ensures { λ r. ⌜ r ≡ span / 2 ⌝ }
+{
+    span / 2
+}
+
+// x - 1, or 0.
+fn less_one(x: u64) -> u64
+    ensures { λ r. ⌜ r ≡ x - 1 ⌝ }
+{
+    if x == 0 { 0 } else { x - 1 }
+}
+
+// The number of the node of height `to` over a page, from the node of a greater height over it of the version numbered c: 0 where no version has pages there, and the largest
+// number where a node is not stored. The span halves at each call: one record and one place a level. It takes the slices by reference, and numbers, so that the compiler
+// makes a loop of it.
+fn reach(
+    register: &&[Record],
+    nodes: &&[u32],
+    c: u64,
+    page: u64,
+    first: u64,
+    span: u64,
+    height: u64,
+    halved: u64,
+    carried: u64,
+    to: u64,
+) -> u64
+    requires { ⌜ (c < 2 ^ 64 - 1) × Level first span height halved carried × (first ≡ firstOver page height) ⌝ }
+    ensures { λ r. ⌜ r ≡ orMost (reachBy (placeAt (now (now (register .entry)))) (now (now (nodes .entry))) to (height - to) c page) ⌝ }
+{
+    if height <= to {
+        return c;
+    }
+    if c == 0 {
+        return 0;
+    }
+    let q = version_part(*register, c);
+    let x = node_at(*nodes, place_of(q, c, first, span, height, halved, carried));
+    let half = half_of(span);
+    let left = is_left(page, first, half);
+    let below = child_at(x, left);
+    if below == 18446744073709551615 {
+        return 18446744073709551615;
+    }
+    reach(
+        register,
+        nodes,
+        below,
+        page,
+        on_to(left, first, half),
+        half,
+        less_one(height),
+        on_to(left, halved, less_one(span)),
+        carried_on(left, carried, span),
+        to,
+    )
+}
+
+// The same from the root of the version numbered c, of this height: 0 where the page lies past the root. No root is higher than that of the largest blob.
+pub fn reach_from(
+    nodes: &&[u32],
+    register: &&[Record],
+    c: u64,
+    height: u64,
+    page: PageIndex,
+    to: u64,
+) -> u64
+    ensures { λ r. ⌜ r ≡ orMost (reachFrom (areasOf [] (now (now (nodes .entry))) (now (now (register .entry)))) c height (page .0) to) ⌝ }
+{
+    let h = smaller(height, MOST_HEIGHT);
+    let span = span_of(h);
+    if page.0 >= span {
+        return 0;
+    }
+    if c == 18446744073709551615 {
+        return 18446744073709551615;
+    }
+    reach(
+        register,
+        nodes,
+        c,
+        page.0,
+        0,
+        span,
+        h,
+        0,
+        carried_from(h),
+        to,
+    )
+}
+
+// The halvings of page 0 less a height.
+fn carried_from(height: u64) -> u64
+    ensures { λ r. ⌜ (r + height) % 2 ^ 64 ≡ 0 ⌝ }
+{
+    std::num::wrapping_sub_u64(0, height)
+}
+
+// The place of the leaf over a page of the version numbered c, whose part q should be; the largest number where there is none.
+fn leaf_place(q: Part, c: u64, page: PageIndex) -> u64
+    ensures { λ r. ⌜ r ≡ orMost (leafPlace q c (page .0)) ⌝ }
+{
+    if c == 0 {
+        return u64::MAX;
+    }
+    if c == u64::MAX {
+        return u64::MAX;
+    }
+    if page.0 >= MOST_PAGES {
+        return u64::MAX;
+    }
+    let halved = halvings(page.0);
+    place_of(q, c, page.0, 1, 0, halved, halved)
+}
+
+// Where a walk ends, at the node x of the version numbered c.
+fn leaf_of(x: NodeAt, c: u64) -> Found
+    ensures { λ r. ⌜ r ≡ ends c x ⌝ }
+{
+    match x {
+        NodeAt::Missing => Found::Lost,
+        NodeAt::Stored(number, _) => Found::Leaf(Version(c), number as u64),
+    }
 }
 
 // The walk to a page from the root of the version numbered c.
-pub fn find_page(nodes: &[u32], register: &[Record], c: u64, page: PageIndex) -> Found
-    ensures { λ r. ⌜ r ≡ findPage (areasOf [] (now (nodes .entry)) (now (register .entry))) c (page .0) ⌝ }
+pub fn find_page(nodes: &&[u32], register: &&[Record], c: u64, page: PageIndex) -> Found
+    ensures { λ r. ⌜ r ≡ findPage (areasOf [] (now (now (nodes .entry))) (now (now (register .entry)))) c (page .0) ⌝ }
 {
-    let q = version_part(register, c);
-    found_in(find(register, nodes, c, root_of(q), page))
+    let q = version_part(*register, c);
+    let d = reach_from(nodes, register, c, q.height, page, 0);
+    let b = version_part(*register, d);
+    leaf_of(node_at(*nodes, leaf_place(b, d, page)), d)
 }
 
 // Whether a walk ends at no page of an area of so many.

@@ -1,5 +1,5 @@
 pub mod NextNode
-pub mod Newest
 pub mod Numbers
+pub mod Older
 pub mod Room
 pub mod Generated

@@ -8,7 +8,6 @@ use native.Mathlib.Nat.{mod-add-mod}
 use native.Mathlib.Omega.{arith}
 use lib.Dec.{leb}
 use lib.Pow.{pow-pos}
-use Rattle.tree.specs.Tree.{countOf}
 use Rattle.register.specs.Register.{updateOf}
 use Rattle.register.specs.declared.Record.{Record}
 use Rattle.register.specs.declared.Part.{Part}
@@ -37,17 +36,17 @@ module _ (r : Record) (q : Part) (x : Next) (n : NextOf q x) where
     span = x .span;
     left = left;
     right = right;
-    rest = countOf (updateOf q) - suc (q .woven);
+    rest = q .count - suc (q .woven);
   }
 
-  module _ (s : Store) (rs : List Record) (a b : ℕ) (c : Children s rs (q .name) x a b) where
-    pub inner-numbers : 0 < x .half → withNumbers (kept a) (kept b) ≡ wovenNode s rs r q (nextNode q)
+  module _ (s : Store) (nodes : List ℕ) (rs : List Record) (a b : ℕ) (c : Children s nodes rs q x a b) where
+    pub inner-numbers : 0 < x .half → withNumbers (kept a) (kept b) ≡ wovenNode s nodes rs r q (nextNode q)
     inner-numbers p = elim (shape q x n) [
       | leaf e d z ↦ absurd (omega arith)
-      | inner h e d z ↦ rw (e, d, c .left p, c .right p, n .right, z)
+      | inner h e d z ↦ rw (e, d, c .left h z, c .right h z, n .right, z)
     ]
 
-    pub leaf-numbers : x .half ≡ 0 → withNumbers (kept (r .number % 2 ^ 32 + (x .first .0 - updateOf q .f))) 0 ≡ wovenNode s rs r q (nextNode q)
+    pub leaf-numbers : x .half ≡ 0 → withNumbers (kept (r .number % 2 ^ 32 + (x .first .0 - updateOf q .f))) 0 ≡ wovenNode s nodes rs r q (nextNode q)
     leaf-numbers p = elim (shape q x n) [
       | leaf e d z ↦ rw (e, d, mod-add-mod)
       | inner h e d z ↦ absurd (omega (arith, pow-pos h))

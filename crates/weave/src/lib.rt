@@ -1,19 +1,18 @@
 // WEAVE: one node of a version's tree, stored at its place.
 ghost use mathlib.Core.Path.{_≡_};
-ghost use Prim.Native.Nat.{suc, pred, _+_, _-_, _^_, _<_, min};
+ghost use Prim.Native.Nat.{ℕ, suc, pred, _+_, _-_, _^_, _<_};
 ghost use mathlib.Core.List.{List};
 ghost use lib.Dec.{leb};
-ghost use Rattle.tree.specs.Tree.{countOf, nth};
+ghost use Rattle.tree.specs.Tree.{nth};
 ghost use Rattle.tree.specs.NodeArea.{withNode};
+ghost use Rattle.lines.specs.Lines.{pick, versionOf};
 ghost use Rattle.register.specs.Register.{noRecord, updateOf, withRecord};
 ghost use Rattle.register.specs.declared.Record.{Record};
 ghost use Rattle.versions.specs.declared.Store.{Store};
 ghost use Rattle.table.specs.Table.{_≤?_, _or_, holds, unless};
-ghost use Rattle.weave.specs.Plan.{NextOf, Aimed, Planned, Children, NextFound, linesLeft};
+ghost use Rattle.weave.specs.Plan.{NextOf, spanSought, Planned, Children, lostNumber, FoundBy, NextFound};
 ghost use Rattle.versions.specs.Store.{areasOf};
-ghost use Rattle.weave.specs.Weave.{nextNode, nextPlace, leafPast, weaveRefusal, newestOn, kept, wovenNode, wove, withWoven, weaveOut, weaveNodes, weaveRegister};
-use lines::Branch;
-use lines::Line;
+ghost use Rattle.weave.specs.Weave.{nextNode, nextPlace, leafPast, weaveRefusal, olderNumber, kept, wovenNode, wove, withWoven, weaveOut, weaveNodes, weaveRegister};
 use lines::line_of;
 use lines::number_of;
 use lines::version_of;
@@ -24,20 +23,24 @@ use register::newest_own;
 use register::nth_record;
 use register::ticket_record;
 use register::update_part;
+use register::version_part;
 use tree::PageIndex;
 use tree::Ticket;
 use tree::Version;
+use tree::height_of;
+use tree::node_by_number;
+use tree::saturating_sub;
 use tree::smaller;
 use tree::store_node;
-use tree::woven_at;
 use versions::Lengths;
 use versions::Store;
 use versions::areas_differ;
-use versions::count_of;
 use versions::lengths_of;
 use versions::line_state;
+use versions::number_on;
 use versions::put_record;
 use versions::record_index;
+use walk::reach_from;
 
 // A node that was stored: its name, its version as line x 65,536 + version; its two numbers, and how many nodes of its version are left.
 pub struct WovenNode {
@@ -63,13 +66,15 @@ struct Next {
     half: u64,
 }
 
-// What WEAVE is to do: the number of its refusal, the next node, and the line and the version up to which its children are looked for, which is version 0, so
-// that none is looked for, where the call is refused or the node is a leaf.
+// What WEAVE is to do: the number of its refusal so far, the next node, whether the update meets the node's halves, left and right, and the half that it does not, for which an
+// older version is looked for: its first page and span, of 0 where the call is refused, the node is a leaf, or the update meets both.
 struct Plan {
     k: u64,
     next: Next,
-    line: Line,
-    limit: Version,
+    left: bool,
+    right: bool,
+    first: PageIndex,
+    span: u64,
 }
 
 // What WEAVE has found: the number of its refusal, the ticket's update, that update's part, and its next node with its numbers.
@@ -85,7 +90,7 @@ fn next_node(q: Part) -> Next
     ensures { λ x. ⌜ NextOf q x ⌝ }
 {
     let e = extent_of(q);
-    let x = woven_at(e.f, e.last, e.size, q.woven);
+    let x = node_by_number(e.f, smaller(q.height, 12), q.past, q.woven);
     let first = x.first;
     let half = x.span / 2;
     Next {
@@ -117,7 +122,7 @@ fn node_lost(s: Store, r: Record, q: Part, x: Next) -> bool
     requires { ⌜ NextOf q x ⌝ }
     ensures { λ b. ⌜ b ≡ holds (s .nodes ≤? nextPlace q or leafPast s r q (nextNode q)) ⌝ }
 {
-    if sum_reaches(s.nodes, q.place, q.woven) {
+    if sum_reaches(s.nodes, saturating_sub(q.top, q.height), q.woven) {
         return true;
     }
     if x.half > 0 {
@@ -151,79 +156,91 @@ fn weave_refusal(s: Store, g: Lengths, r: Record, q: Part, x: Next, t: Ticket) -
     if s.updates < update {
         return 19;
     }
-    if count_of(q) <= q.woven {
+    if q.count <= q.woven {
         return 8;
     }
     if node_lost(s, r, q, x) { 19 } else { 0 }
+}
+
+// The half of a node that is looked for: the one that the update does not meet, where it meets one.
+fn half_sought(left: bool, x: Next) -> PageIndex
+    ensures { λ r. ⌜ r ≡ pick left (x .right) (x .first) ⌝ }
+{
+    if left { x.right } else { x.first }
+}
+
+// Its span; 0 where none is looked for.
+fn span_sought(k: u64, left: bool, right: bool, half: u64) -> u64
+    ensures { λ r. ⌜ r ≡ spanSought k left right half ⌝ }
+{
+    if k != 0 {
+        return 0;
+    }
+    if left {
+        if right {
+            return 0;
+        }
+        return half;
+    }
+    half
 }
 
 // What WEAVE is to do, with the ticket's record r and the part q of its update.
 fn weave_plan(s: Store, g: Lengths, r: Record, q: Part, t: Ticket) -> Plan
     ensures { λ p. ⌜ Planned s g r q (t .0) p ⌝ }
 {
-    let own = version_of(q.name);
-    let line = line_of(q.name);
     let next = next_node(q);
     let k = weave_refusal(s, g, r, q, next, t);
-    if k > 0 {
-        return Plan {
-            k,
-            next,
-            line,
-            limit: Version(0),
-        };
-    }
-    let limit = if next.half == 0 { Version(0) } else { own };
+    let e = extent_of(q);
+    let f = e.f;
+    let last = e.last;
+    let middle = next.right;
+    let left = f.0 < middle.0;
+    let right = middle.0 <= last.0;
     Plan {
         k,
         next,
-        line,
-        limit,
+        left,
+        right,
+        first: half_sought(left, next),
+        span: span_sought(k, left, right, next.half),
     }
 }
 
-// The line that a line comes from.
-fn source_of(b: Branch) -> Line
-    ensures { λ r. ⌜ r ≡ record { 0 = min (b .source .0) 15 } ⌝ }
+// The version before the one numbered c, on its line.
+fn version_before(c: u64) -> Version
+    ensures { λ r. ⌜ r ≡ record { 0 = versionOf c - 1 } ⌝ }
 {
-    Line(smaller(b.source.0, 15))
+    let own = version_of(c);
+    Version(saturating_sub(own.0, 1))
 }
 
-// Version v, or the one that a line begins from where that is lower.
-fn shared_of(b: Branch, v: Version) -> Version
-    ensures { λ r. ⌜ r ≡ record { 0 = min (v .0) (b .start .0) } ⌝ }
+// The number of the newest update below the version numbered c, on its line, that meets the `span` pages from `first` on, or 0. Updates after the last published version are in
+// work, or complete and not yet due: the register is walked over these. Where none of them meets the pages, the last published version's tree has the answer; the largest
+// number where a node of it is not there.
+fn far_child(
+    s: Store,
+    nodes: &[u32],
+    register: &[Record],
+    c: u64,
+    first: PageIndex,
+    span: u64,
+) -> u64
+    requires { ⌜ first .0 + span < 2 ^ 64 ⌝ }
+    ensures { λ r. ⌜ ((h : ℕ) → span ≡ 2 ^ h → r ≡ olderNumber s (now (nodes .entry)) (now (register .entry)) c (first .0) h) ⌝ }
 {
-    Version(smaller(v.0, b.start.0))
-}
-
-// How many lines are still to be looked at: none below version 0.
-fn lines_left(left: u64, v: Version) -> u64
-    requires { ⌜ 0 < left ⌝ }
-    ensures { λ r. ⌜ r ≡ linesLeft left (v .0) ⌝ }
-{
-    if v.0 == 0 { 0 } else { left - 1 }
-}
-
-// The number of the newest update up to version v of line l that meets the `span` pages from `first` on, or 0: the line's own versions first, then the line's that it
-// comes from as far as they are shared.
-fn newest_on(s: Store, register: &[Record], l: Line, v: Version, first: PageIndex, span: u64) -> u64
-    requires { ⌜ (first .0 + span < 2 ^ 64) × (0 < v .0 → 0 < span) ⌝ }
-    ensures { λ r. ⌜ r ≡ newestOn s (now (register .entry)) 16 (l .0) (v .0) (first .0) span ⌝ }
-{
-    let mut line = l;
-    let mut below = v;
-    let mut left = 16u64;
-    while left > 0 {
-        let b = line_state(s, line);
-        let own = newest_own(register, line, b.start, below, first, span);
-        if own.0 > 0 {
-            return number_of(line, own);
-        }
-        line = source_of(b);
-        below = shared_of(b, below);
-        left = lines_left(left, below);
+    if span == 0 {
+        return 0;
     }
-    0
+    let l = line_of(c);
+    let b = line_state(s, l);
+    let own = newest_own(register, l, b.published, version_before(c), first, span);
+    if own.0 > 0 {
+        return number_of(l, own);
+    }
+    let d = number_on(s, l, b.published);
+    let q = version_part(register, d);
+    reach_from(&nodes, &register, d, q.height, first, height_of(span))
 }
 
 // A number as the node area keeps it.
@@ -235,20 +252,19 @@ fn kept_of(x: u64) -> u32
 
 // How many nodes are left after the next.
 fn nodes_left(q: Part) -> u64
-    ensures { λ r. ⌜ r ≡ countOf (updateOf q) - suc (q .woven) ⌝ }
+    ensures { λ r. ⌜ r ≡ q .count - suc (q .woven) ⌝ }
 {
-    let count = count_of(q);
-    if count <= q.woven {
+    if q.count <= q.woven {
         0
     } else {
-        count - q.woven - 1
+        q.count - q.woven - 1
     }
 }
 
 // The next node, x, with its numbers: its children's, or a leaf's page number.
 fn woven_node(r: Record, q: Part, x: Next, left: u64, right: u64) -> WovenNode
     requires { ⌜ NextOf q x ⌝ }
-    ensures { λ n. ⌜ ((s : Store) (rs : List Record) → Children s rs (q .name) x left right → n ≡ wovenNode s rs r q (nextNode q)) ⌝ }
+    ensures { λ n. ⌜ ((s : Store) (nodes : List ℕ) (rs : List Record) → Children s nodes rs q x left right → n ≡ wovenNode s nodes rs r q (nextNode q)) ⌝ }
 {
     let version = q.name;
     let first = x.first;
@@ -275,32 +291,52 @@ fn woven_node(r: Record, q: Part, x: Next, left: u64, right: u64) -> WovenNode
     }
 }
 
-// The next node, as the plan p has it, with its numbers. An update counts from when its version is assigned, whether or not its nodes are stored.
-fn node_by(s: Store, register: &[Record], r: Record, q: Part, p: Plan) -> WovenNode
-    requires { ⌜ Aimed q p ⌝ }
-    ensures { λ n. ⌜ (p .k ≡ 0 → n ≡ wovenNode s (now (register .entry)) r q (nextNode q)) ⌝ }
+// One of two numbers.
+fn either(b: bool, x: u64, y: u64) -> u64
+    ensures { λ r. ⌜ r ≡ pick b x y ⌝ }
 {
-    let x = p.next;
-    let left = newest_on(s, register, p.line, p.limit, x.first, x.half);
-    let right = newest_on(s, register, p.line, p.limit, x.right, x.half);
-    woven_node(r, q, x, left, right)
+    if b { x } else { y }
 }
 
-// What WEAVE finds in the register: nothing is stored yet.
-fn find_next(s: Store, g: Lengths, register: &[Record], t: Ticket) -> Found
-    ensures { λ w. ⌜ NextFound s g (now (register .entry)) (t .0) w ⌝ }
+// The refusal with what was looked for: 19 where that is lost.
+fn lost_refusal(k: u64, span: u64, far: u64) -> u64
+    ensures { λ r. ⌜ r ≡ lostNumber k span far ⌝ }
+{
+    if k != 0 {
+        return k;
+    }
+    if span == 0 {
+        return 0;
+    }
+    if far == u64::MAX { 19 } else { 0 }
+}
+
+// What WEAVE finds, by its plan p and the number of the half that was looked for. An update counts from when its version is assigned, whether or not its nodes are stored.
+fn found_by(r: Record, q: Part, update: u64, p: Plan, far: u64) -> Found
+    requires { ⌜ NextOf q (p .next) ⌝ }
+    ensures { λ w. ⌜ FoundBy r q update p far w ⌝ }
+{
+    let next = p.next;
+    let left = either(p.left, q.name, far);
+    let right = either(p.right, q.name, far);
+    Found {
+        k: lost_refusal(p.k, p.span, far),
+        update,
+        part: q,
+        node: woven_node(r, q, next, left, right),
+    }
+}
+
+// What WEAVE finds in the register and the tree of the last published version: nothing is stored yet.
+fn find_next(s: Store, g: Lengths, nodes: &[u32], register: &[Record], t: Ticket) -> Found
+    ensures { λ w. ⌜ NextFound s g (now (nodes .entry)) (now (register .entry)) (t .0) w ⌝ }
 {
     let r = ticket_record(register, t);
     let update = r.update;
     let part = update_part(register, update);
     let p = weave_plan(s, g, r, part, t);
-    let node = node_by(s, register, r, part, p);
-    Found {
-        k: p.k,
-        update,
-        part,
-        node,
-    }
+    let far = far_child(s, nodes, register, part.name, p.first, p.span);
+    found_by(r, part, update, p, far)
 }
 
 // Stores the next node's numbers at its place where the number k is 0.
@@ -309,7 +345,12 @@ fn store_woven(nodes: &mut [u32], k: u64, q: Part, x: WovenNode)
     ensures { λ _. ⌜ now (nodes .exit) ≡ unless k (now (nodes .entry)) (withNode (now (nodes .entry)) (nextPlace q) (x .left) (x .right)) ⌝ }
 {
     if k == 0 {
-        store_node(nodes, q.place + q.woven, x.left, x.right);
+        store_node(
+            nodes,
+            saturating_sub(q.top, q.height) + q.woven,
+            x.left,
+            x.right,
+        );
     }
 }
 
@@ -347,14 +388,14 @@ fn woven_answer(k: u64, x: WovenNode) -> Woven
     }
 }
 
-// WEAVE ticket: stores the next node of the ticket's update at its place. The children's numbers are read from the register.
+// WEAVE ticket: stores the next node of the ticket's update at its place.
 pub fn weave(s: Store, pages: &[u8], nodes: &mut [u32], register: &mut [Record], t: Ticket) -> Woven
     ensures { λ r.
         let a = areasOf (now (pages .entry)) (now (nodes .entry)) (now (register .entry)) in
         ⌜ (r ≡ weaveOut s a (t .0)) × (now (nodes .exit) ≡ weaveNodes s a (t .0)) × (now (register .exit) ≡ weaveRegister s a (t .0)) ⌝ }
 {
     let g = lengths_of(pages, nodes, register);
-    let w = find_next(s, g, register, t);
+    let w = find_next(s, g, nodes, register, t);
     store_woven(nodes, w.k, w.part, w.node);
     count_woven(register, w.k, w.update);
     woven_answer(w.k, w.node)

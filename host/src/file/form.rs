@@ -1,9 +1,10 @@
 //! The form of a store's file: the header, and the areas as bytes. [`Keeper::save`](crate::Keeper::save) shows it.
 
-use super::old;
 use super::FileError;
+use super::{derived, old};
 use crate::areas::{Areas, Lend, Limits, Parts, MOST_PAGES};
 use crate::checksum::Checksum;
+use crate::counters::Line;
 use crate::ffi::{Entries, LineState, Record, State, LINES};
 use std::convert::Infallible;
 use std::io::{self, Read};
@@ -11,8 +12,8 @@ use std::io::{self, Read};
 /// The first eight bytes of every file.
 const MAGIC: [u8; 8] = *b"PITSTORE";
 /// How many numbers of 64 bits a state and a record have, in the files that are written here.
-const STATE: usize = 9 + 5 * LINES;
-const RECORD: usize = 15;
+const STATE: usize = 10 + LINES;
+const RECORD: usize = 18;
 /// The header's numbers: the magic and the form, the state, three lengths and the checksum.
 const HEADER_NUMBERS: usize = 2 + STATE + 4;
 const HEADER: usize = 8 * HEADER_NUMBERS;
@@ -26,29 +27,33 @@ const NUMBERS_AT_A_TIME: usize = 2_048;
 enum Form {
     /// Of a store from before there were lines.
     OneLine = 1,
-    /// As files are written here.
+    /// With lines' numbers one by one, and records without what follows from the rest.
     Lines = 2,
+    /// As files are written here.
+    Packed = 3,
 }
 
 impl Form {
     fn of(number: u64) -> Option<Form> {
-        let forms = [Form::OneLine, Form::Lines];
+        let forms = [Form::OneLine, Form::Lines, Form::Packed];
         forms.into_iter().find(|form| *form as u64 == number)
     }
 
     /// The header's length in bytes.
     fn header(self) -> usize {
         match self {
-            Form::OneLine => 8 * (2 + old::STATE + 4),
-            Form::Lines => HEADER,
+            Form::OneLine => 8 * (2 + old::STATE_1 + 4),
+            Form::Lines => 8 * (2 + old::STATE_2 + 4),
+            Form::Packed => HEADER,
         }
     }
 
     /// A record's length in bytes.
     fn record(self) -> u64 {
         match self {
-            Form::OneLine => 8 * old::RECORD as u64,
-            Form::Lines => 8 * RECORD as u64,
+            Form::OneLine => 8 * old::RECORD_1 as u64,
+            Form::Lines => 8 * old::RECORD_2 as u64,
+            Form::Packed => 8 * RECORD as u64,
         }
     }
 }
@@ -57,6 +62,8 @@ impl Form {
 pub struct Header {
     form: Form,
     pub state: State,
+    /// The state's lines as the file has them: a file of an earlier form may have numbers that cannot be packed.
+    lines: [LineState; LINES],
     /// In bytes: the page area, the node area, the register.
     lengths: [u64; 3],
     checksum: u64,
@@ -71,8 +78,9 @@ impl Header {
             8 * RECORD * areas.register.len(),
         ];
         let mut header = Header {
-            form: Form::Lines,
+            form: Form::Packed,
             state,
+            lines: lines_of(&state),
             lengths: lengths.map(|length| length as u64),
             checksum: 0,
         };
@@ -90,7 +98,7 @@ impl Header {
         }
         let form = match numbers_of(&bytes).nth(1) {
             Some(number) => Form::of(number).ok_or(FileError::Form(number))?,
-            None => Form::Lines, // cut off before it
+            None => Form::Packed, // cut off before it
         };
         let rest = form.header() - bytes.len();
         file.take(rest as u64).read_to_end(&mut bytes)?;
@@ -105,15 +113,23 @@ impl Header {
 
     fn from_bytes(form: Form, bytes: &[u8]) -> Header {
         let mut numbers = numbers_of(&bytes[16..]);
-        let state = match form {
-            Form::OneLine => old::state_of(next(&mut numbers)),
-            Form::Lines => state_of(next(&mut numbers)),
+        let (mut state, lines) = match form {
+            Form::OneLine => old::state_of_1(next(&mut numbers)),
+            Form::Lines => old::state_of_2(next(&mut numbers)),
+            Form::Packed => {
+                let state = state_of(next(&mut numbers));
+                (state, lines_of(&state))
+            }
         };
+        for (at, line) in (0..).zip(lines) {
+            state.set_line(Line(at), line);
+        }
         let lengths = next(&mut numbers);
         let [checksum] = next(&mut numbers);
         Header {
             form,
             state,
+            lines,
             lengths,
             checksum,
         }
@@ -122,7 +138,7 @@ impl Header {
     pub fn to_bytes(&self) -> [u8; HEADER] {
         let mut numbers = [0; HEADER_NUMBERS];
         numbers[0] = u64::from_le_bytes(MAGIC);
-        numbers[1] = Form::Lines as u64;
+        numbers[1] = Form::Packed as u64;
         numbers[2..2 + STATE].copy_from_slice(&numbers_of_state(&self.state));
         numbers[2 + STATE..HEADER_NUMBERS - 1].copy_from_slice(&self.lengths);
         numbers[HEADER_NUMBERS - 1] = self.checksum;
@@ -167,7 +183,16 @@ impl Header {
         let s = &self.state;
         let given = s.tickets <= s.updates && s.taken <= s.pages;
         let assigned = s.assigned <= s.tickets && s.places <= s.nodes;
-        if given && assigned && lines_agree(s) {
+        if given && assigned && lines_agree(s, &self.lines) {
+            Ok(())
+        } else {
+            Err(FileError::Counters)
+        }
+    }
+
+    /// The register's records have what follows from the rest of it. After `check_counters`.
+    pub fn check_records(&self, register: &[Record]) -> Result<(), FileError> {
+        if derived::agrees(register, &self.state) {
             Ok(())
         } else {
             Err(FileError::Counters)
@@ -212,8 +237,9 @@ impl Header {
             sum.add(&bytes);
             let numbers = &mut numbers_of(&bytes);
             *record = match self.form {
-                Form::OneLine => old::record_of(next(numbers), number, self.state.assigned),
-                Form::Lines => record_of(next(numbers)),
+                Form::OneLine => old::record_of_1(next(numbers), number, self.state.assigned),
+                Form::Lines => old::record_of_2(next(numbers)),
+                Form::Packed => record_of(next(numbers)),
             };
         }
         Ok(())
@@ -221,12 +247,12 @@ impl Header {
 }
 
 /// The lines are such as calls leave: each begins from a version that an earlier one has published, and their own versions
-/// together are the updates that have a version. Those that have not begun are zeros.
-fn lines_agree(s: &State) -> bool {
+/// together are the updates that have a version. Those that have not begun are zeros. All of these numbers can be packed.
+fn lines_agree(s: &State, lines: &[LineState; LINES]) -> bool {
     if s.begun == 0 || s.begun > LINES as u64 {
         return false;
     }
-    let (begun, unbegun) = s.lines.split_at(s.begun as usize);
+    let (begun, unbegun) = lines.split_at(s.begun as usize);
     let mut own = 0;
     for (at, line) in begun.iter().enumerate() {
         let source = begun[..at].get(line.source as usize);
@@ -285,36 +311,41 @@ fn next<const NUMBERS: usize>(numbers: &mut impl Iterator<Item = u64>) -> [u64; 
     [(); NUMBERS].map(|()| numbers.next().unwrap_or_default())
 }
 
+fn lines_of(s: &State) -> [LineState; LINES] {
+    let mut lines = [LineState::default(); LINES];
+    for (at, line) in (0..).zip(&mut lines) {
+        *line = s.line(Line(at));
+    }
+    lines
+}
+
+#[rustfmt::skip]
 fn numbers_of_state(s: &State) -> [u64; STATE] {
-    #[rustfmt::skip]
-    let counters = [s.size, s.pages, s.nodes, s.updates, s.tickets, s.taken, s.assigned, s.places, s.begun];
-    let of_line = |l: &LineState| [l.source, l.start, l.assigned, l.published, l.blob];
-    next(&mut counters.into_iter().chain(s.lines.iter().flat_map(of_line)))
+    let counters = [s.size, s.pages, s.nodes, s.updates, s.tickets, s.taken, s.assigned, s.places, s.begun, s.sources];
+    next(&mut counters.into_iter().chain(s.lines))
 }
 
 #[rustfmt::skip]
 fn state_of(numbers: [u64; STATE]) -> State {
-    let [size, pages, nodes, updates, tickets, taken, assigned, places, begun, lines @ ..] = numbers;
-    let numbers = &mut lines.into_iter();
-    let lines = [(); LINES].map(|()| {
-        let [source, start, assigned, published, blob] = next(numbers);
-        LineState { source, start, assigned, published, blob }
-    });
-    State { size, pages, nodes, updates, tickets, taken, assigned, places, begun, lines }
+    let [size, pages, nodes, updates, tickets, taken, assigned, places, begun, sources, lines @ ..] = numbers;
+    State { size, pages, nodes, updates, tickets, taken, assigned, places, begun, sources, lines }
 }
 
 #[rustfmt::skip]
 fn numbers_of_record(r: &Record) -> [u64; RECORD] {
     let e = &r.entries;
     [
-        r.n, r.number, r.put, r.update, r.ticket, r.name, r.f, r.last, r.size, r.place, r.woven,
+        r.n, r.number, r.put, r.update, r.ticket, r.name, r.f, r.last, r.top, r.past, r.height, r.size, r.count, r.woven,
         e.from0, e.from4, e.from8, e.from12,
     ]
 }
 
 #[rustfmt::skip]
 fn record_of(numbers: [u64; RECORD]) -> Record {
-    let [n, number, put, update, ticket, name, f, last, size, place, woven, from0, from4, from8, from12] = numbers;
+    let [
+        n, number, put, update, ticket, name, f, last, top, past, height, size, count, woven,
+        from0, from4, from8, from12,
+    ] = numbers;
     let entries = Entries { from0, from4, from8, from12 };
-    Record { n, number, put, update, ticket, name, f, last, size, place, woven, entries }
+    Record { n, number, put, update, ticket, name, f, last, top, past, height, size, count, woven, entries }
 }

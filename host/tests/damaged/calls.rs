@@ -66,18 +66,21 @@ impl Call {
             Call::Write(line, ..) | Call::Append(line, _) => {
                 due.assigned += 1;
                 due.places = after.places.max(before.places + 1);
-                let (of, after) = (&mut due.lines[line as usize], &after.lines[line as usize]);
+                let (mut of, after) = (due.line(Line(line)), after.line(Line(line)));
                 of.assigned += 1;
                 of.blob = after.blob.max(of.blob);
+                due.set_line(Line(line), of);
             }
             Call::Publish(line) => {
-                let of = &mut due.lines[line as usize];
-                of.published = of.published.wrapping_add(1); // if it is not waiting
+                let mut of = due.line(Line(line));
+                of.published += 1; // if it is not waiting
+                due.set_line(Line(line), of);
             }
             Call::Branch(line, v) => {
-                let new = &mut due.lines[before.begun as usize];
-                (new.source, new.start, new.assigned, new.published) = (line, v, v, v);
-                new.blob = after.lines[before.begun as usize].blob;
+                let new = Line(before.begun);
+                let mut of = after.line(new); // its size in pages
+                (of.source, of.start, of.assigned, of.published) = (line, v, v, v);
+                due.set_line(new, of);
                 due.begun += 1;
             }
             _ => (),
@@ -126,7 +129,7 @@ impl Call {
         match *self {
             Call::Write(line, ..) | Call::Append(line, _) if no_line(s, line) => vec![20],
             Call::Put(_, _, room) if past && room as u64 != s.size => vec![11],
-            Call::Write(line, _, f) if past && s.lines[line as usize].blob < f => vec![13],
+            Call::Write(line, _, f) if past && s.line(Line(line)).blob < f => vec![13],
             _ if past => vec![19],
             Call::Put(..) => vec![0, 9, 10, 11, 19],
             Call::Write(..) => vec![0, 12, 13, 14, 15, 19],
@@ -147,9 +150,9 @@ impl Call {
         if no_line(s, line) {
             return vec![20];
         }
-        let past = past_register(s, version);
+        let past = s.updates < version;
         match *self {
-            _ if s.lines[line as usize].published < version => vec![16],
+            _ if s.line(Line(line)).published < version => vec![16],
             Call::Branch(..) if s.begun >= 16 => vec![21],
             Call::Read([.., len], room) if past && (room as u64) < len => vec![18],
             _ if past => vec![19],
@@ -166,12 +169,6 @@ fn no_line(s: &State, line: u64) -> bool {
     s.begun.min(16) <= line
 }
 
-/// Whether a version lies past the register, so that its record cannot be there. Numbers of versions have 16 bits: what is
-/// more, on a state that no run of calls left, is read by its low bits.
-fn past_register(s: &State, version: u64) -> bool {
-    s.updates < version && version < 65_536
-}
-
 /// Whether a version's record is that of its own number: the version is 0, or the record of that number names it.
 fn at_once(s: &State, memory: &Memory, line: u64, version: u64) -> bool {
     if version == 0 {
@@ -185,11 +182,11 @@ fn at_once(s: &State, memory: &Memory, line: u64, version: u64) -> bool {
 /// The line on which a version got its number: from line to source as long as the version is not above the start.
 fn owner_of(s: &State, mut line: u64, version: u64) -> u64 {
     for _ in 0..15 {
-        let of = &s.lines[line as usize];
+        let of = s.line(Line(line));
         if of.start < version {
             break;
         }
-        line = of.source.min(15);
+        line = of.source;
     }
     line
 }
@@ -235,10 +232,10 @@ fn publish_rows(s: &State, memory: &Memory, line: u64) -> Vec<u64> {
     if no_line(s, line) {
         return vec![20];
     }
-    let of = &s.lines[line as usize];
+    let of = s.line(Line(line));
     if of.assigned <= of.published {
         vec![0]
-    } else if past_register(s, of.published + 1) {
+    } else if s.updates <= of.published {
         vec![19]
     } else if of.start <= of.published && at_once(s, memory, line, of.published + 1) {
         vec![0]
@@ -405,7 +402,8 @@ fn weave(store: &mut Store<'_>, ticket: u64) -> Outcome {
     let record = record_of(store, update).unwrap_or_default();
     let woven = store.weave(Ticket(ticket));
     if let Ok(node) = woven {
-        let place = (record.place + record.woven) as usize;
+        let place = record.top.saturating_sub(record.height);
+        let place = place.wrapping_add(record.woven) as usize;
         let stored = store.areas().nodes.chunks(2).nth(place);
         claim(
             stored == Some(&[node.left, node.right]),

@@ -64,10 +64,16 @@ fn any_numbers<T: Numbers>(random: &mut Random) -> T {
 /// its own.
 fn any_state(random: &mut Random) -> State {
     let mut s: State = any_numbers(random);
-    if !random.one_in(4) {
-        s.begun = random.below(18);
-        (s.lines[0].start, s.lines[0].published) = (0, random.below(9));
+    if random.one_in(4) {
+        return s;
     }
+    for line in (0..16).map(Line) {
+        s.set_line(line, any_numbers(random));
+    }
+    s.begun = random.below(18);
+    let mut first = s.line(Line(0));
+    (first.start, first.published) = (0, random.below(9));
+    s.set_line(Line(0), first);
     s
 }
 
@@ -109,7 +115,12 @@ fn any_record(random: &mut Random, k: u64) -> Record {
     (record.update, record.ticket) = (random.below(5), random.below(5));
     record.name = any_name(random);
     (record.f, record.last, record.size) = (f, last, last + 1 + random.below(2));
-    (record.place, record.woven) = (random.below(12), random.below(10));
+    record.past = 2 * f - u64::from(f.count_ones());
+    (record.height, record.count) = (random.below(4), 1 + random.below(9));
+    (record.top, record.woven) = (record.height + random.below(12), random.below(10));
+    if random.one_in(6) {
+        (record.top, record.past) = (random.below(5), random.below(9));
+    }
     record.entries.from0 = any_entries(random);
     record.entries.from12 = any_entries(random);
     if !random.one_in(6) {
@@ -187,7 +198,7 @@ fn update(random: &mut Random, store: &mut Lent<'_>) -> Result<(), Error> {
     if puts < n || random.one_in(4) {
         return Ok(());
     }
-    let f = random.below(store.state().lines[line.0 as usize].blob + 1);
+    let f = random.below(store.state().line(line).blob + 1);
     let nodes = store.write(line, ticket, PageIndex(f))?.nodes;
     let woven = if random.one_in(8) {
         random.below(nodes)
@@ -222,9 +233,12 @@ fn change(random: &mut Random, scene: &mut Scene) {
         // products with these wrap to what they were
         0 => s.size = s.size.wrapping_add(1 << 62),
         1 => s.nodes = s.nodes.wrapping_add(1 << 63),
-        2..=5 => {
-            let used = numbers_of(s).len();
-            change_one(random, &mut s.each()[..used]);
+        2 | 3 => change_one(random, &mut s.each()[..COUNTERS]),
+        4 | 5 => {
+            let line = Line(random.below(s.begun.clamp(1, 16)));
+            let mut of = s.line(line);
+            change_one(random, &mut of.each());
+            s.set_line(line, of);
         }
         6..=12 => {
             let record = pick_mut(random, scene.memory.register.lend());
@@ -234,10 +248,15 @@ fn change(random: &mut Random, scene: &mut Scene) {
     }
 }
 
-/// The numbers of a state up to the last line that has begun.
+/// How many numbers a state has before its lines: the limits, the counters and the lines' sources.
+const COUNTERS: usize = 10;
+
+/// The numbers of a state, the last line that has begun last.
 fn numbers_of(s: &State) -> Vec<u64> {
     let mut numbers = s.numbers();
-    numbers.truncate(9 + 5 * s.begun.clamp(1, 16) as usize);
+    numbers.truncate(COUNTERS);
+    let lines = (0..s.begun.clamp(1, 16)).map(Line);
+    numbers.extend(lines.flat_map(|line| s.line(line).numbers()));
     numbers
 }
 
@@ -343,7 +362,7 @@ fn some_line(random: &mut Random, scene: &Scene) -> u64 {
 pub fn call(random: &mut Random, scene: &Scene) -> Call {
     let s = &scene.state;
     let line = some_line(random, scene);
-    let published = s.lines.get(line as usize).map_or(0, |l| l.published);
+    let published = s.line(Line(line)).published;
     let (ticket, version) = (
         up_to(random, scene, s.tickets),
         up_to(random, scene, published),

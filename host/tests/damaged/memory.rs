@@ -1,7 +1,7 @@
 //! Memory to lend: each area is the middle of a longer run, and what stands around it must stay.
 
 use crate::random::named;
-use pit_host::{LentAreas, Record, State};
+use pit_host::{LentAreas, LineState, Record, State};
 use std::mem::size_of;
 
 /// How many elements stand before and after an area, in bytes about 400. With a `PIT_FENCE` of 0 the memory ends where
@@ -106,19 +106,23 @@ impl Numbers for State {
     #[rustfmt::skip]
     fn each(&mut self) -> Vec<&mut u64> {
         let mut numbers =
-            numbers!(self: size, pages, nodes, updates, tickets, taken, assigned, places, begun);
-        for line in &mut self.lines {
-            numbers.extend(numbers!(line: source, start, assigned, published, blob));
-        }
+            numbers!(self: size, pages, nodes, updates, tickets, taken, assigned, places, begun, sources);
+        numbers.extend(&mut self.lines);
         numbers
+    }
+}
+
+impl Numbers for LineState {
+    fn each(&mut self) -> Vec<&mut u64> {
+        numbers!(self: source, start, assigned, published, blob)
     }
 }
 
 impl Numbers for Record {
     fn each(&mut self) -> Vec<&mut u64> {
         let e = &mut self.entries;
-        let mut numbers =
-            numbers!(self: n, number, put, update, ticket, name, f, last, size, place, woven);
+        let mut numbers = numbers!(self: n, number, put, update, ticket, name, f, last);
+        numbers.extend(numbers!(self: top, past, height, size, count, woven));
         numbers.extend(numbers!(e: from0, from4, from8, from12));
         numbers
     }

@@ -1,7 +1,9 @@
 //! What was saved comes back just as it was.
 
-use crate::scene::{checksum, in_the_old_form, in_work, in_work_on_lines, number, saved, Folder};
-use crate::updates::{fills, limits, of_three_versions, put_all, update, LIVE};
+use crate::scene::{
+    checksum, in_form_1, in_form_2, in_work, in_work_on_lines, number, saved, Folder, HEADER,
+};
+use crate::updates::{assign, fills, limits, of_three_versions, put_all, update, LIVE};
 use pit_host::{Error, Keeper, Lend, Lent, Limits, Line, Record, Store, Ticket, Version};
 use std::fs;
 
@@ -84,27 +86,27 @@ fn the_file_is_as_documented() {
     let (s, areas) = (store.state(), store.areas());
     assert_eq!(&bytes[..8], b"PITSTORE");
     #[rustfmt::skip]
-    let counters = [2, s.size, s.pages, s.nodes, s.updates, s.tickets, s.taken, s.assigned, s.places, s.begun];
-    assert_eq!(counters, [2, 16, 12, 32, 6, 5, 9, 4, 14, 3]);
-    let lines = s.lines.iter();
-    let lines = lines.flat_map(|l| [l.source, l.start, l.assigned, l.published, l.blob]);
-    let begun = [[0, 0, 2, 1, 3], [0, 1, 2, 2, 3], [1, 0, 1, 0, 2]].concat();
-    assert!(lines.clone().take(15).eq(begun) && lines.clone().skip(15).all(|n| n == 0));
-    let header = counters.into_iter().chain(lines).chain([192, 256, 720]);
+    let counters = [3, s.size, s.pages, s.nodes, s.updates, s.tickets, s.taken, s.assigned, s.places, s.begun];
+    assert_eq!(counters, [3, 16, 12, 32, 6, 5, 9, 4, 14, 3]);
+    // line 2 from line 1; of each line the start, the last version assigned and published, and the size in pages
+    let begun = [[0, 2, 1, 3], [1, 2, 2, 3], [0, 1, 0, 2]];
+    let packed = begun.map(|l| l[0] | l[1] << 16 | l[2] << 32 | l[3] << 48);
+    let lines = [&[0x100], &packed[..], &[0; 13]].concat();
+    let header = counters.into_iter().chain(lines).chain([192, 256, 864]);
     for (index, wanted) in (1..).zip(header) {
         assert_eq!(number(&bytes, index), wanted, "number {index}");
     }
     assert_eq!(
-        number(&bytes, 94),
-        checksum(bytes[..752].iter().chain(&bytes[760..]).copied())
+        number(&bytes, 31),
+        checksum(bytes[..248].iter().chain(&bytes[256..]).copied())
     );
     let nodes = areas.nodes().iter().flat_map(|number| number.to_le_bytes());
     #[rustfmt::skip]
     let of_record = |r: &Record| {
         let e = r.entries;
         [
-            r.n, r.number, r.put, r.update, r.ticket, r.name, r.f, r.last, r.size, r.place, r.woven,
-            e.from0, e.from4, e.from8, e.from12,
+            r.n, r.number, r.put, r.update, r.ticket, r.name, r.f, r.last, r.top, r.past, r.height, r.size, r.count,
+            r.woven, e.from0, e.from4, e.from8, e.from12,
         ]
     };
     let register = areas
@@ -113,7 +115,7 @@ fn the_file_is_as_documented() {
         .flat_map(of_record)
         .flat_map(u64::to_le_bytes);
     assert_eq!(
-        bytes[760..],
+        bytes[HEADER..],
         areas
             .pages()
             .iter()
@@ -126,10 +128,10 @@ fn the_file_is_as_documented() {
 
 /// A file from before there were lines is loaded as just the store that the same calls on line 0 leave, at every stage.
 #[test]
-fn a_file_of_the_old_form_is_loaded_with_line_0_alone() {
-    let folder = Folder::new("old");
+fn a_file_of_form_1_is_loaded_with_line_0_alone() {
+    let folder = Folder::new("form-1");
     let again = |store: &Store| {
-        fs::write(folder.file(), in_the_old_form(store)).unwrap();
+        fs::write(folder.file(), in_form_1(store)).unwrap();
         assert!(Store::load(folder.file()).unwrap() == *store);
     };
     again(&Store::format(limits(1, 1, 1)).unwrap());
@@ -141,7 +143,7 @@ fn a_file_of_the_old_form_is_loaded_with_line_0_alone() {
     store.publish(LIVE).unwrap();
     again(&store);
 
-    fs::write(folder.file(), in_the_old_form(&store)).unwrap();
+    fs::write(folder.file(), in_form_1(&store)).unwrap();
     let mut loaded = Store::load(folder.file()).unwrap();
     for store in [&mut store, &mut loaded] {
         let plan = store.branch(LIVE, Version(1)).unwrap();
@@ -157,6 +159,30 @@ fn a_file_of_the_old_form_is_loaded_with_line_0_alone() {
         assert!(Store::load(folder.file()).unwrap() == *store);
     }
     assert!(store == loaded);
+}
+
+/// A file with its lines' numbers one by one is loaded as just the store that the same calls leave, at every stage.
+#[test]
+fn a_file_of_form_2_is_loaded() {
+    let folder = Folder::new("form-2");
+    let again = |store: &Store| {
+        fs::write(folder.file(), in_form_2(store)).unwrap();
+        assert!(Store::load(folder.file()).unwrap() == *store);
+    };
+    for store in [of_three_versions(), in_work(), in_work_on_lines()] {
+        again(&store);
+    }
+    // sixteen lines in a chain, of which each has a higher tree than the one before, or the same
+    let mut store = Store::format(limits(200, 1_000, 40)).unwrap();
+    again(&store);
+    for line in (0..16).map(Line) {
+        let whole = update(&mut store, line, None, &[7; 9]).unwrap();
+        assign(&mut store, line, Some(line.0), &[8]).unwrap();
+        if line < Line(15) {
+            store.branch(line, whole).unwrap();
+        }
+        again(&store);
+    }
 }
 
 #[test]
@@ -177,7 +203,7 @@ fn the_most_of(page_size: u64) {
     store.save(folder.file()).unwrap();
     assert_eq!(
         fs::metadata(folder.file()).unwrap().len(),
-        760 + 65_535 * page_size + 131_072 * 8 + 4_096 * 120
+        256 + 65_535 * page_size + 131_072 * 8 + 4_096 * 144
     );
     assert!(Store::load(folder.file()).unwrap() == store);
 }

@@ -1,8 +1,8 @@
 //! Damaged, cut off, contradictory and foreign files are refused, each with its reason.
 
 use crate::scene::{
-    in_the_old_form, in_work, in_work_on_lines, refused, saved, sealed, sealed_after, set_number,
-    Folder, HEADER, OLD_HEADER,
+    in_form_1, in_form_2, in_work, in_work_on_lines, number, refused, saved, sealed, sealed_after,
+    set_number, Folder, HEADER, HEADER_1, HEADER_2, RECORD,
 };
 use crate::updates::{update, LIVE};
 use pit_host::{Error, FileError, Limits, Store};
@@ -15,7 +15,8 @@ fn due(header: usize, index: usize, error: &FileError) -> bool {
     let lengths = header / 8 - 4..header / 8 - 1;
     match index {
         0 => matches!(error, Foreign),
-        1 => matches!(error, Form(_)),
+        // where it is another form's number, the rest is not as that form has it
+        1 => matches!(error, Form(_) | AreaLengths | Truncated { .. }),
         2 => matches!(error, Limits(Error::PageSize) | AreaLengths),
         3..=5 => matches!(error, Limits(Error::Capacity) | AreaLengths),
         _ if lengths.contains(&index) => matches!(error, AreaLengths),
@@ -23,7 +24,7 @@ fn due(header: usize, index: usize, error: &FileError) -> bool {
     }
 }
 
-/// Every bit of a file whose header has so many bytes, flipped. The forms' numbers differ in two.
+/// Every bit of a file whose header has so many bytes, flipped.
 fn flip_every_bit(folder: &Folder, header: usize, bytes: &[u8]) {
     for bit in 0..8 * bytes.len() {
         let mut damaged = bytes.to_vec();
@@ -37,7 +38,8 @@ fn flip_every_bit(folder: &Folder, header: usize, bytes: &[u8]) {
 fn every_flipped_bit_is_found() {
     let folder = Folder::new("bits");
     flip_every_bit(&folder, HEADER, &saved(&folder, &in_work_on_lines()));
-    flip_every_bit(&folder, OLD_HEADER, &in_the_old_form(&in_work()));
+    flip_every_bit(&folder, HEADER_1, &in_form_1(&in_work()));
+    flip_every_bit(&folder, HEADER_2, &in_form_2(&in_work()));
 }
 
 #[test]
@@ -92,7 +94,8 @@ fn a_header_that_contradicts_itself_is_refused() {
     contradict(&folder, HEADER, &bytes);
     fs::write(folder.file(), sealed(bytes)).unwrap();
     assert!(Store::load(folder.file()).unwrap() == in_work_on_lines());
-    contradict(&folder, OLD_HEADER, &in_the_old_form(&in_work()));
+    contradict(&folder, HEADER_1, &in_form_1(&in_work()));
+    contradict(&folder, HEADER_2, &in_form_2(&in_work_on_lines()));
 }
 
 /// Each of the numbers, with its checksum made right, is refused as a counter that no calls leave.
@@ -111,33 +114,118 @@ fn no_calls_leave(folder: &Folder, header: usize, bytes: &[u8], numbers: &[(usiz
 #[test]
 fn counters_that_no_calls_leave_are_refused() {
     let folder = Folder::new("counters");
-    let bytes = saved(&folder, &in_work_on_lines());
-    // tickets, page numbers taken, updates with a version, node places taken, lines begun
-    let counters = [(6, 7), (7, 13), (8, 6), (9, 33), (6, 3), (8, 3), (8, 5)];
-    no_calls_leave(&folder, HEADER, &bytes, &counters);
-    let begun = [(10, 0), (10, 1), (10, 2), (10, 17), (10, 1 << 32)];
-    no_calls_leave(&folder, HEADER, &bytes, &begun);
-    // source, start, last version assigned, last published, size in pages: of line 0, which begins from nothing,
-    let line_0 = [(11, 1), (12, 1), (13, 1), (13, 3), (14, 3), (15, 4_097)];
-    no_calls_leave(&folder, HEADER, &bytes, &line_0);
-    // of line 1, from version 1 of line 0, where that is the last published one,
-    let line_1 = [(16, 1), (16, 2), (17, 0), (17, 2), (18, 1), (18, 3)];
-    no_calls_leave(&folder, HEADER, &bytes, &line_1);
-    no_calls_leave(&folder, HEADER, &bytes, &[(19, 0), (19, 3), (20, 4_097)]);
-    // of line 2, from version 0 of line 1, and of lines that have not begun
-    let line_2 = [(21, 2), (21, 15), (22, 1), (23, 0), (24, 2), (25, u64::MAX)];
-    no_calls_leave(&folder, HEADER, &bytes, &line_2);
-    no_calls_leave(&folder, HEADER, &bytes, &[(26, 1), (30, 1), (90, 1)]);
+    let now = saved(&folder, &in_work_on_lines());
+    for (header, bytes) in [(HEADER, now), (HEADER_2, in_form_2(&in_work_on_lines()))] {
+        // tickets, page numbers taken, updates with a version, node places taken, lines begun
+        let counters = [(6, 7), (7, 13), (8, 6), (9, 33), (6, 3), (8, 3), (8, 5)];
+        no_calls_leave(&folder, header, &bytes, &counters);
+        let begun = [(10, 0), (10, 1), (10, 2), (10, 17), (10, 1 << 32)];
+        no_calls_leave(&folder, header, &bytes, &begun);
+        // too few, or too many, for the nodes of the updates
+        no_calls_leave(&folder, header, &bytes, &[(9, 13), (9, 15)]);
+    }
 }
 
 #[test]
-fn counters_of_the_old_form_that_no_calls_leave_are_refused() {
+fn lines_that_no_calls_leave_are_refused() {
+    let folder = Folder::new("lines-that-no-calls-leave");
+    let bytes = in_form_2(&in_work_on_lines());
+    let header = HEADER_2;
+    // source, start, last version assigned, last published, size in pages: of line 0, which begins from nothing,
+    let line_0 = [(11, 1), (12, 1), (13, 1), (13, 3), (14, 3), (15, 4_097)];
+    no_calls_leave(&folder, header, &bytes, &line_0);
+    // of line 1, from version 1 of line 0, where that is the last published one,
+    let line_1 = [(16, 1), (16, 2), (17, 0), (17, 2), (18, 1), (18, 3)];
+    no_calls_leave(&folder, header, &bytes, &line_1);
+    no_calls_leave(&folder, header, &bytes, &[(19, 0), (19, 3), (20, 4_097)]);
+    // of line 2, from version 0 of line 1, and of lines that have not begun
+    let line_2 = [(21, 2), (21, 15), (22, 1), (23, 0), (24, 2), (25, u64::MAX)];
+    no_calls_leave(&folder, header, &bytes, &line_2);
+    no_calls_leave(&folder, header, &bytes, &[(26, 1), (30, 1), (90, 1)]);
+    // numbers that are right in the bits that a line is packed in
+    let wide = [(11, 16), (13, 2 + (1 << 16)), (15, 3 + (1 << 32)), (21, 17)];
+    no_calls_leave(&folder, header, &bytes, &wide);
+}
+
+/// The same in the lines' words: each number off by one, and numbers of lines that have not begun.
+#[test]
+fn packed_lines_that_no_calls_leave_are_refused() {
+    let folder = Folder::new("packed-lines");
+    let bytes = saved(&folder, &in_work_on_lines());
+    let sources = [0x101, 0x110, 0x200, 0xf00, 0x1100, 0x1000_0000_0000_0100];
+    no_calls_leave(&folder, HEADER, &bytes, &sources.map(|word| (11, word)));
+    let word = |index| number(&bytes, index);
+    // the start, the last version assigned, the last published; and a size in pages above the most
+    for index in 12..15 {
+        let start = (index, word(index) + 1);
+        let assigned = [1 << 16, 0xffff_0000].map(|add| word(index).wrapping_add(add));
+        let others = [word(index) | 4 << 32, word(index) | 0x1001 << 48];
+        no_calls_leave(&folder, HEADER, &bytes, &[start]);
+        no_calls_leave(&folder, HEADER, &bytes, &assigned.map(|word| (index, word)));
+        no_calls_leave(&folder, HEADER, &bytes, &others.map(|word| (index, word)));
+    }
+    let unbegun = [(15, 1), (15, 1 << 48), (27, 1 << 16), (27, 1 << 63)];
+    no_calls_leave(&folder, HEADER, &bytes, &unbegun);
+}
+
+/// Where the register begins in a file of these records.
+fn register(bytes: &[u8], records: usize) -> usize {
+    (bytes.len() - records * RECORD) / 8
+}
+
+/// Each number of a record that follows from others, of an update or of none, and each that it follows from.
+#[test]
+fn records_whose_numbers_do_not_follow_are_refused() {
+    let folder = Folder::new("records");
+    let bytes = saved(&folder, &in_work_on_lines());
+    // name, first page, top, past, height, size, count; of the first page and the size those that change what follows
+    let numbers = [5, 6, 8, 9, 10, 11, 12];
+    for record in 0..6 {
+        for of_record in numbers {
+            let index = register(&bytes, 6) + record * RECORD / 8 + of_record;
+            let old = number(&bytes, index);
+            let others = match (of_record, record) {
+                (5, 0..=3) => vec![0],
+                (5, _) => vec![1, 65_537],
+                (6 | 11, 0..=3) => vec![old + 5, 1 << 32, u64::MAX],
+                (6 | 11, _) => vec![], // nothing follows without an update
+                _ => vec![old + 1, old.wrapping_sub(1), old ^ 1 << 40, u64::MAX],
+            };
+            for other in others {
+                no_calls_leave(&folder, HEADER, &bytes, &[(index, other)]);
+            }
+        }
+    }
+}
+
+/// In the earlier forms, a place that the updates before do not lead to, and pages and sizes that no update has.
+#[test]
+fn records_of_earlier_forms_that_no_calls_leave_are_refused() {
+    let folder = Folder::new("old-records");
+    let (one, two) = (in_form_1(&in_work()), in_form_2(&in_work_on_lines()));
+    // the second update's record in both: its first page, last page, size, first place and nodes woven
+    let (at_1, at_2) = ((one.len() - 3 * 80) / 8 + 5, (two.len() - 5 * 120) / 8 + 6);
+    for (header, bytes, at) in [(HEADER_1, one, at_1), (HEADER_2, two, at_2)] {
+        for wrong in [
+            [(at, 4), (at, u64::MAX)],
+            [(at + 1, 0), (at + 1, 4)],
+            [(at + 2, 1), (at + 2, 4_097)],
+            [(at + 3, 0), (at + 3, u64::MAX)],
+            [(at + 4, 40), (at + 4, u64::MAX)],
+        ] {
+            no_calls_leave(&folder, header, &bytes, &wrong);
+        }
+    }
+}
+
+#[test]
+fn counters_of_form_1_that_no_calls_leave_are_refused() {
     let folder = Folder::new("old-counters");
-    let bytes = in_the_old_form(&in_work());
+    let bytes = in_form_1(&in_work());
     // tickets, page numbers taken, versions assigned, node places taken, versions published, size in pages
     let over = [(6, 5), (7, 7), (8, 4), (9, 17), (10, 3), (11, 4_097)];
-    no_calls_leave(&folder, OLD_HEADER, &bytes, &over);
-    no_calls_leave(&folder, OLD_HEADER, &bytes, &[(6, 1), (8, 0)]);
+    no_calls_leave(&folder, HEADER_1, &bytes, &over);
+    no_calls_leave(&folder, HEADER_1, &bytes, &[(6, 1), (8, 0)]);
 }
 
 /// Every length that is too short, of a file whose header has so many bytes. Of the forms the one that is written is
@@ -164,14 +252,16 @@ fn cut_off(folder: &Folder, header: usize, bytes: &[u8]) {
 fn every_truncation_is_found() {
     let folder = Folder::new("truncation");
     cut_off(&folder, HEADER, &saved(&folder, &in_work()));
-    cut_off(&folder, OLD_HEADER, &in_the_old_form(&in_work()));
+    cut_off(&folder, HEADER_1, &in_form_1(&in_work()));
+    cut_off(&folder, HEADER_2, &in_form_2(&in_work()));
 }
 
 #[test]
 fn extra_bytes_are_found() {
     let folder = Folder::new("extra");
-    for bytes in [saved(&folder, &in_work()), in_the_old_form(&in_work())] {
-        for extra in [1, 8, 80, 120, 4_096] {
+    let store = in_work();
+    for bytes in [saved(&folder, &store), in_form_1(&store), in_form_2(&store)] {
+        for extra in [1, 8, 80, 120, 144, 4_096] {
             let longer = [&bytes[..], &vec![0; extra]].concat();
             let error = refused(&folder, &longer);
             let (expected, found) = (bytes.len() as u64, longer.len() as u64);
@@ -194,7 +284,7 @@ fn other_files_are_refused() {
     ] {
         assert!(matches!(refused(&folder, bytes), FileError::Foreign));
     }
-    for form in [0, 3, u64::MAX] {
+    for form in [0, 4, u64::MAX] {
         let mut other = saved(&folder, &in_work());
         set_number(&mut other, 1, form);
         let error = refused(&folder, &sealed(other));
@@ -216,17 +306,17 @@ fn a_short_file_of_large_lengths_is_refused() {
         (3, pages),
         (4, nodes),
         (5, updates),
-        (91, 4_096 * pages),
-        (92, 8 * nodes),
-        (93, 120 * updates),
+        (28, 4_096 * pages),
+        (29, 8 * nodes),
+        (30, 144 * updates),
     ] {
         set_number(&mut bytes, index, number);
     }
     assert!(matches!(
         refused(&folder, &sealed(bytes)),
         FileError::Truncated {
-            expected: 269_972_216,
-            found: 760
+            expected: 270_070_016,
+            found: 256
         }
     ));
 }

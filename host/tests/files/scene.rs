@@ -44,11 +44,15 @@ pub fn checksum(bytes: impl Iterator<Item = u8>) -> u64 {
 }
 
 /// A file's header in bytes; its last number is the checksum, and there are three lengths before that.
-pub const HEADER: usize = 760;
-/// The same of a file of form 1.
-pub const OLD_HEADER: usize = 128;
+pub const HEADER: usize = 256;
+/// The same of files of forms 1 and 2.
+pub const HEADER_1: usize = 128;
+pub const HEADER_2: usize = 760;
 
-/// A number of the header, which has 95.
+/// A record in bytes.
+pub const RECORD: usize = 144;
+
+/// A number of the header, which has 32, or of what follows.
 pub fn number(bytes: &[u8], index: usize) -> u64 {
     u64::from_le_bytes(bytes[8 * index..8 * index + 8].try_into().unwrap())
 }
@@ -70,41 +74,59 @@ pub fn sealed_after(header: usize, mut bytes: Vec<u8>) -> Vec<u8> {
     bytes
 }
 
-/// A store with line 0 alone as a file of form 1 has it: written from that form's description, in which a ticket has its
-/// version, and the k-th version's part stands in record k.
-pub fn in_the_old_form(store: &Store) -> Vec<u8> {
+/// An earlier form's file: a header that ends with three lengths, and a checksum made right; the areas, and a register of
+/// such records, which have a first node place.
+fn in_an_old_form(
+    store: &Store,
+    form: u64,
+    state: &[u64],
+    of_record: impl Fn(&Record, u64) -> Vec<u64>,
+) -> Vec<u8> {
     let (s, areas) = (store.state(), store.areas());
-    assert_eq!(s.begun, 1, "form 1 has one line");
-    let live = s.lines[0];
-    let of_record = |r: &Record| {
-        [
-            r.n, r.number, r.put, r.update, r.ticket, r.f, r.last, r.size, r.place, r.woven,
-        ]
-    };
+    let place = |r: &Record| r.top - r.height;
+    let records = areas.register().iter().map(|r| of_record(r, place(r)));
+    let records: Vec<Vec<u64>> = records.collect();
     let numbers = [
-        u64::from_le_bytes(*b"PITSTORE"),
-        1,
-        s.size,
-        s.pages,
-        s.nodes,
-        s.updates,
-        s.tickets,
-        s.taken,
-        live.assigned,
-        s.places,
-        live.published,
-        live.blob,
-        s.size * s.pages,
-        8 * s.nodes,
-        80 * s.updates,
-        0,
+        &[u64::from_le_bytes(*b"PITSTORE"), form, s.size, s.pages][..],
+        &[s.nodes, s.updates, s.tickets, s.taken, s.assigned, s.places],
+        state,
+        &[s.size * s.pages, 8 * s.nodes],
+        &[8 * s.updates * records[0].len() as u64, 0],
     ];
+    let numbers = numbers.concat();
+    let header = 8 * numbers.len();
     let mut bytes: Vec<u8> = numbers.into_iter().flat_map(u64::to_le_bytes).collect();
     bytes.extend(areas.pages());
     bytes.extend(areas.nodes().iter().flat_map(|n| n.to_le_bytes()));
-    let register = areas.register().iter().flat_map(of_record);
+    let register = records.into_iter().flatten();
     bytes.extend(register.flat_map(u64::to_le_bytes));
-    sealed_after(OLD_HEADER, bytes)
+    sealed_after(header, bytes)
+}
+
+/// A store with line 0 alone as a file of form 1 has it: written from that form's description, in which a ticket has its
+/// version, and the k-th version's part stands in record k.
+pub fn in_form_1(store: &Store) -> Vec<u8> {
+    let s = store.state();
+    assert_eq!(s.begun, 1, "form 1 has one line");
+    let live = s.line(LIVE);
+    let lines = [live.published, live.blob];
+    in_an_old_form(store, 1, &lines, |r, place| {
+        let ticket = [r.n, r.number, r.put, r.update, r.ticket];
+        [&ticket[..], &[r.f, r.last, r.size, place, r.woven]].concat()
+    })
+}
+
+/// A store as a file of form 2 has it: written from that form's description, five numbers a line.
+pub fn in_form_2(store: &Store) -> Vec<u8> {
+    let s = store.state();
+    let lines = (0..16).map(|line| s.line(Line(line)));
+    let lines = lines.flat_map(|l| [l.source, l.start, l.assigned, l.published, l.blob]);
+    let state: Vec<u64> = [s.begun].into_iter().chain(lines).collect();
+    in_an_old_form(store, 2, &state, |r, place| {
+        let (ticket, e) = ([r.n, r.number, r.put, r.update, r.ticket], r.entries);
+        let update = [r.name, r.f, r.last, r.size, place, r.woven];
+        [&ticket[..], &update, &[e.from0, e.from4, e.from8, e.from12]].concat()
+    })
 }
 
 /// The bytes of a saved store.

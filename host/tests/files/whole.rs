@@ -2,7 +2,7 @@
 
 use crate::scene::{in_work, saved, Folder};
 use crate::updates::{fills, limits, of_three_versions, LIVE};
-use pit_host::{Error, FileError, Keeper, PageIndex, State, Store, Ticket, Version};
+use pit_host::{Error, FileError, Keeper, Lend, PageIndex, State, Store, Ticket, Version};
 use std::fs;
 use std::path::Path;
 use std::process::{Command, Stdio};
@@ -30,14 +30,21 @@ fn what_would_not_load_is_not_saved() {
     ));
     assert!(matches!(save(|s| s.pages = 7), FileError::AreaLengths));
     let counters: [fn(&mut State); 4] = [
-        |s| s.lines[0].published = 4,
+        |s| s.lines[0] += 3 << 32, // the last version published
         |s| s.begun = 0,
         |s| s.begun = 17,
-        |s| s.lines[15].blob = 1,
+        |s| s.lines[15] = 1 << 48,
     ];
     for spoil in counters {
         assert!(matches!(save(spoil), FileError::Counters));
     }
+    let (state, mut areas) = in_work().into_parts();
+    areas.lend().register[1].past += 1;
+    let damaged = Keeper::resume(state, areas);
+    assert!(matches!(
+        damaged.save(folder.file()),
+        Err(FileError::Counters)
+    ));
     assert_eq!(fs::read(folder.file()).unwrap(), kept);
     assert_eq!(folder.names(), ["store"]);
 }

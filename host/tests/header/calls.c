@@ -82,20 +82,19 @@ static void show(const char *name, uint64_t value)
 
 #define SHOW(whole, field) show(#field, (whole).field)
 
-static void show_line(uint64_t line, pit_line l)
+static void show_line(uint64_t line, uint64_t source, uint64_t numbers)
 {
     printf("; line %" PRIu64 ":", line);
-    SHOW(l, source);
-    SHOW(l, start);
-    SHOW(l, assigned);
-    SHOW(l, published);
-    SHOW(l, blob);
+    show("source", source);
+    show("start", numbers & 0xffff);
+    show("assigned", numbers >> 16 & 0xffff);
+    show("published", numbers >> 32 & 0xffff);
+    show("blob", numbers >> 48);
 }
 
 /* The lines that have begun, and any other that is not all zeros. */
 static void show_store(pit_store s)
 {
-    static const pit_line none;
     uint64_t line;
     SHOW(s, size);
     SHOW(s, pages);
@@ -107,8 +106,9 @@ static void show_store(pit_store s)
     SHOW(s, places);
     SHOW(s, begun);
     for (line = 0; line < 16; line++) {
-        if (line < s.begun || memcmp(&s.lines[line], &none, sizeof none) != 0) {
-            show_line(line, s.lines[line]);
+        uint64_t source = s.sources >> 4 * line & 0xf;
+        if (line < s.begun || source != 0 || s.lines[line] != 0) {
+            show_line(line, source, s.lines[line]);
         }
     }
 }
@@ -125,8 +125,11 @@ static void show_record(const host *h, size_t index)
     SHOW(r, name);
     SHOW(r, f);
     SHOW(r, last);
+    SHOW(r, top);
+    SHOW(r, past);
+    SHOW(r, height);
     SHOW(r, size);
-    SHOW(r, place);
+    SHOW(r, count);
     SHOW(r, woven);
     SHOW(r.entries, from0);
     SHOW(r.entries, from4);
@@ -289,13 +292,7 @@ static void view(host *h, uint64_t line, uint64_t version, uint64_t page)
 
 static void layout_of_stores(void)
 {
-    printf("pit_line, %zu bytes:", sizeof(pit_line));
-    AT(pit_line, source);
-    AT(pit_line, start);
-    AT(pit_line, assigned);
-    AT(pit_line, published);
-    AT(pit_line, blob);
-    printf("\npit_store, %zu bytes:", sizeof(pit_store));
+    printf("pit_store, %zu bytes:", sizeof(pit_store));
     AT(pit_store, size);
     AT(pit_store, pages);
     AT(pit_store, nodes);
@@ -305,6 +302,7 @@ static void layout_of_stores(void)
     AT(pit_store, assigned);
     AT(pit_store, places);
     AT(pit_store, begun);
+    AT(pit_store, sources);
     AT(pit_store, lines);
     printf("\n");
 }
@@ -325,8 +323,11 @@ static void layout_of_records(void)
     AT(pit_record, name);
     AT(pit_record, f);
     AT(pit_record, last);
+    AT(pit_record, top);
+    AT(pit_record, past);
+    AT(pit_record, height);
     AT(pit_record, size);
-    AT(pit_record, place);
+    AT(pit_record, count);
     AT(pit_record, woven);
     AT(pit_record, entries);
     printf("\n");

@@ -140,7 +140,7 @@ fn rust_variable(text: &str) -> String {
     format!("{kind} {name}")
 }
 
-/// `pit_line lines [ 16 ]` from `lines` and `[ LineState ; 16 ]`, if it is an array.
+/// `uint64_t lines [ 16 ]` from `lines` and `[ u64 ; 16 ]`, if it is an array.
 fn array_of(name: &str, kind: &str) -> Option<String> {
     let (element, length) = kind.strip_prefix("[ ")?.split_once(" ; ")?;
     Some(format!("{} {name} [ {length}", c_type(element)))
@@ -181,7 +181,6 @@ fn c_type(kind: &str) -> String {
         "u8" | "u32" | "u64" => format!("uint{}_t", &kind[1..]),
         "usize" => "size_t".to_string(),
         "State" => "pit_store".to_string(),
-        "LineState" | "Branch" => "pit_line".to_string(), // C has the call's name for both
         named => named.chars().fold("pit".to_string(), |name, c| {
             let gap = if c.is_uppercase() { "_" } else { "" };
             name + gap + &c.to_lowercase().to_string()

@@ -15,7 +15,7 @@ use Rattle.assign.proofs.with_update.Tie as tie
 
 -- A store with so many updates and so many node places taken.
 abbrev counted : Store → ℕ → ℕ → Store
-counted s assigned places = Store′.build (s .size) (s .pages) (s .nodes) (s .updates) (s .tickets) (s .taken) assigned places (s .begun) (s .lines)
+counted s assigned places = Store′.build (s .size) (s .pages) (s .nodes) (s .updates) (s .tickets) (s .taken) assigned places (s .begun) (s .sources) (s .lines)
 
 -- A line's state with a last version and a size.
 abbrev lasting : Branch → ℕ → ℕ → Branch

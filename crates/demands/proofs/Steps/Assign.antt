@@ -3,11 +3,11 @@
 use mathlib.Core.Path.{_≡_, refl, sym, ap, ap₂, _∙_}
 use mathlib.Core.Logic.{inl, inr, _≢_}
 use mathlib.Core.List.{List}
-use Prim.Native.Nat.{ℕ, zero, suc, _+_, _-_, _≤_, _<_, max}
+use Prim.Native.Nat.{ℕ, zero, suc, _+_, _-_, _%_, _≤_, _<_, max}
 use native.Mathlib.Omega.{arith}
 use borrow.Author.Tests.{le-ltb}
 use lib.Dec.{ltb}
-use lib.ListN.{length, set, List·getD-eq-default}
+use lib.ListN.{length, List·getD-eq-default}
 use Rattle.tree.specs.Tree.{countOf}
 use Rattle.tree.proofs.Meets.{lt-or-le}
 use Rattle.lines.specs.declared.Branch.{Branch}
@@ -23,19 +23,18 @@ use Rattle.model.proofs.Laid.{Pair, onesPair, flat}
 use Rattle.model.proofs.Image.{wovenOf, countAt, weaveCell, pagesImage, nodeCell, nodesImage}
 use Rattle.model.proofs.Sound.{Sound}
 use Rattle.model.proofs.Passed.{AssignPassed, assign-passed}
-use Rattle.model.proofs.Facts.{shown-small}
 use Rattle.model.proofs.Nth.{length-snoc}
-use Rattle.model.proofs.Tab.{tab-set, tab-same}
+use Rattle.model.proofs.Tab.{tab-same}
 use Rattle.model.proofs.Cells.{numbered-more}
 use Rattle.model.proofs.Shown.{shownAt, blob-shown}
 use Rattle.model.proofs.Histories.{assigned-apart}
 use Rattle.model.proofs.Kept.Assign.{assigned-length, assigned-older, assigned-new, assigned-places, assigned-lines, assigned-this, assigned-other, assigned-versions, assigned-next-version, assigned-grown}
 use Rattle.demands.specs.Answers.{assignedAnswer}
 use Rattle.demands.specs.Run.{State, assignCall, onLineOf, onStore}
-use Rattle.demands.proofs.Image.{registerImage, branchImage, linesImage, storeImage, areasImage, image}
+use Rattle.demands.proofs.Image.{registerImage, branchImage, storeImage, areasImage, image}
 use Rattle.demands.proofs.Masks.{mask-all}
 use Rattle.demands.proofs.Records.{record-at, limited-same}
-use Rattle.demands.proofs.Lines.{lines-in, line-in}
+use Rattle.demands.proofs.Lines.{lines-in, blob-small, line-in, sources-written, words-written}
 use Rattle.demands.proofs.Steps.Numbers.{AssignReads, assign-alike, image-number}
 use Rattle.demands.proofs.Steps.States.{leaves, stateOf, state-same}
 use Rattle.demands.proofs.Steps.Parts.{nodes-stay}
@@ -49,7 +48,7 @@ none-woven i w x e = rw (e, le-ltb i 0 (omega arith))
 -- The state of a line, with the size of its blob.
 abbrev stateBy : Line → ℕ → Branch
 stateBy x blob = record {
-  source = record { 0 = x .source };
+  source = record { 0 = x .source % 16 };
   start = record { 0 = x .start };
   assigned = record { 0 = length (x .shown) };
   published = record { 0 = x .published };
@@ -59,20 +58,13 @@ stateBy x blob = record {
 module _ (L : Limits) (m : Model) (S : Sound L m) (l f : ℕ) where
   -- ---- the number
 
-  -- A line's blob is within the limit; one that has not begun has none.
-  blob-small : blobSize (history m l) ≤ 4096
-  blob-small = elim (lt-or-le l (length (m .lines))) [
-    | inl h ↦ omega (arith, blob-shown m l, shown-small L m S l h (length (lineAt m l .shown)) (omega arith))
-    | inr h ↦ rw (List·getD-eq-default (m .lines) noLine h) (omega arith)
-  ]
-
   -- The update that would be made, where it ends within the limit.
   update-same : (t : ℕ) → 0 < t → t ≤ length (m .tickets) → f + pagesOf (ticketIn m t) ≤ 4096
       → updateAt (blobSize (history m l)) f (pagesOf (ticketIn m t)) ≡ nextUpdate L m l t f
   update-same t o h i =
       let n = pagesOf (ticketIn m t) in
       let s = S .tickets t o h .some-pages in
-      limited-same f (f + n - 1) (max (blobSize (history m l)) (f + n)) (omega arith) (omega arith) (omega (arith, blob-small))
+      limited-same f (f + n - 1) (max (blobSize (history m l)) (f + n)) (omega arith) (omega arith) (omega (arith, blob-small L m S l))
 
   assign-reads : (t : ℕ) → 0 < t → t ≤ length (m .tickets)
       → let r = recordOf (areasImage L m) t in
@@ -136,13 +128,18 @@ module _ (L : Limits) (m : Model) (S : Sound L m) (l f : ℕ) where
     line-stays : (k : ℕ) → k ≢ l → branchImage m k ≡ branchImage after k
     line-stays k n = sym (ap₂ stateBy (assigned-other L m l (suc t) f (p .line) k n) (blob-stays k n))
 
-    assigned-states : set (linesImage m) l (withVersion (branchImage m l) (sizeIn L m l (suc t) f)) ≡ linesImage after
-    unfolding linesImage
-    assigned-states = tab-set 16 (branchImage m) (branchImage after) l _ (omega (arith, p .line, S .few)) (λ k h n. line-stays k n) line-gets
-
     assigned-store : withUpdate (storeImage L m) l (countOf (nextUpdate L m l (suc t) f)) (sizeIn L m l (suc t) f) ≡ storeImage L after
     assigned-store =
-        rw (line-in L m S l, assigned-states, assigned-places L m l (suc t) f, assigned-length L m l (suc t) f, assigned-lines L m l (suc t) f)
+        let b = withVersion (branchImage m l) (sizeIn L m l (suc t) f) in
+        let near : l < 16 = omega (arith, p .line, S .few) in
+        rw (
+          line-in L m S l,
+          sources-written L m S after l b near line-gets line-stays,
+          words-written L m S after l b near line-gets line-stays,
+          assigned-places L m l (suc t) f,
+          assigned-length L m l (suc t) f,
+          assigned-lines L m l (suc t) f,
+        )
 
     assigned-pages : pagesImage L m ≡ pagesImage L after
     unfolding pagesImage

@@ -1,17 +1,19 @@
 -- The register after ASSIGN on the image of a sound model, three records written one after the other, is that of the model after.
 -- Assumes nothing.
-use mathlib.Core.Path.{_≡_, refl, sym, ap₂, _∙_}
+use mathlib.Core.Path.{_≡_, refl, sym, ap, ap₂, _∙_}
 use mathlib.Core.Logic.{_≢_}
 use Prim.Native.Nat.{ℕ, suc, _+_, _-_, _*_, _≤_, _<_}
 use native.Mathlib.Decide.{ℕ-discrete}
 use native.Mathlib.Omega.{arith}
 use borrow.Author.Tests.{lt-ltb}
 use lib.ListN.{length, getD}
+use Rattle.tree.specs.Tree.{Update, countOf, rootHeight}
+use Rattle.tree.specs.Place.{halvings}
 use Rattle.tree.specs.Walk.{used}
 use Rattle.lines.specs.Lines.{numberOf, withEntry}
 use Rattle.lines.proofs.Numbers.{number-is as code-is}
 use Rattle.lines.proofs.Packed.{with-of}
-use Rattle.register.specs.Register.{noRecord, withRecord}
+use Rattle.register.specs.Register.{noRecord, limited, withRecord}
 use Rattle.register.specs.declared.Record.{Record}
 use Rattle.assign.specs.Assign.{withUpdateOf, withUpdatePart, withEntryOf, assignedRegister}
 use Rattle.model.specs.History.{noVersion, pagesOf, updates}
@@ -28,10 +30,10 @@ use Rattle.model.proofs.Updated.{update-other}
 use Rattle.model.proofs.Append.{used-append}
 use Rattle.model.proofs.Kept.Assign.{assigned-length, assigned-updates, assigned-new, assigned-gets, assigned-this, assigned-other, assigned-passed}
 use Rattle.demands.proofs.Image.{maskOf, numberAt, placeAt, ownAt, recordImage, registerImage, storeImage, areasImage}
-use Rattle.demands.proofs.Records.{record-at}
-use Rattle.demands.proofs.Lines.{line-in, own-low}
+use Rattle.demands.proofs.Records.{record-at, limited-same}
+use Rattle.demands.proofs.Lines.{line-in, blob-small, own-low}
 use Rattle.demands.proofs.Puts.{record-put}
-use Rattle.demands.proofs.Steps.Parts.{all, all-same, ticketPart, partOf, updatePart, entriesAt, ticket-part, update-part, entries-stay, other-at, other-begins, new-begins}
+use Rattle.demands.proofs.Steps.Parts.{UpdatePart, all, all-same, ticketPart, partOf, updatePart, entriesAt, ticket-part, update-part, entries-stay, other-at, other-begins, new-begins}
 
 module _ (L : Limits) (m : Model) (S : Sound L m) (l t f : ℕ) (p : AssignPassed L m l (suc t) f) where
   -- The model after, how many updates there were, and how many versions the line had.
@@ -78,20 +80,35 @@ module _ (L : Limits) (m : Model) (S : Sound L m) (l t f : ℕ) (p : AssignPasse
   next-number : numberOf l (suc last) ≡ l * 65536 + suc last
   next-number = code-is l (suc last) (omega (arith, p .line, S .few)) (omega arith) (omega (arith, versions-most L m S l (p .line)))
 
-  update-new : updatePart after count
-      ≡ record {
-        ticket = suc t;
-        name = numberOf l (suc last);
-        f = f;
-        last = f + pagesOf (ticketIn m (suc t)) - 1;
-        size = sizeAfter L m l (suc t) f;
-        place = places m;
-        woven = 0;
-      }
+  -- The update's part, where its pages and its size are brought within the limits, which leaves them as they are.
+  abbrev newPart : Update → UpdatePart
+  newPart u = record {
+    ticket = suc t;
+    name = numberOf l (suc last);
+    f = f;
+    last = f + pagesOf (ticketIn m (suc t)) - 1;
+    top = places m + rootHeight (u .size);
+    past = halvings (u .f);
+    height = rootHeight (u .size);
+    size = sizeAfter L m l (suc t) f;
+    count = countOf u;
+    woven = 0;
+  }
+
+  abbrev limitedPart : UpdatePart
+  limitedPart = newPart (limited f (f + pagesOf (ticketIn m (suc t)) - 1) (sizeAfter L m l (suc t) f))
+
+  within-limits : limited f (f + pagesOf (ticketIn m (suc t)) - 1) (sizeAfter L m l (suc t) f) ≡ nextUpdate L m l (suc t) f
+  within-limits =
+      let some = S .tickets (suc t) (p .from) (p .upto) .some-pages in
+      limited-same f (f + pagesOf (ticketIn m (suc t)) - 1) (sizeAfter L m l (suc t) f) (omega arith) (omega arith) (omega (arith, p .inside, blob-small L m S l))
+
+  update-new : updatePart after count ≡ limitedPart
   update-new =
       let place : placeAt after count ≡ places m = rw (assigned-length L m l (suc t) f) (new-begins count _ ∙ place-stays count (omega arith)) in
-      ap₂ (partOf (m .tickets)) (assigned-new L m l (suc t) f) place
-      ∙ rw (S .tickets (suc t) (p .from) (p .upto) .unwoven (p .unassigned), next-number)
+      let part : partOf (m .tickets) (nextVersion L m l (suc t) f) (places m) ≡ newPart (nextUpdate L m l (suc t) f) =
+      rw (S .tickets (suc t) (p .from) (p .upto) .unwoven (p .unassigned), next-number, lt-ltb 0 (suc t) (p .from)) in
+      ap₂ (partOf (m .tickets)) (assigned-new L m l (suc t) f) place ∙ part ∙ ap newPart (sym within-limits)
 
   -- The line has one version of its own more.
   own-stays : (k j : ℕ) → (k ≡ l → j ≢ last) → ownAt m k (suc j) ≡ ownAt after k (suc j)
@@ -133,7 +150,8 @@ module _ (L : Limits) (m : Model) (S : Sound L m) (l t f : ℕ) (p : AssignPasse
 
   second-written : withRecord (tab (L .updates) first) count
       (withUpdatePart (getD (tab (L .updates) first) count noRecord) (suc t) (numberOf l (suc last)) f (f + pagesOf (ticketIn m (suc t)) - 1)
-      (sizeAfter L m l (suc t) f) (places m))
+      (sizeAfter L m l (suc t) f)
+      (places m + rootHeight (limited f (f + pagesOf (ticketIn m (suc t)) - 1) (sizeAfter L m l (suc t) f) .size)))
       ≡ tab (L .updates) second
   second-written =
       record-put (L .updates) count first second _ update-there (λ j h n. all-same refl (update-stays j n) refl)

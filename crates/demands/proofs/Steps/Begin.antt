@@ -28,7 +28,7 @@ use Rattle.model.proofs.Tickets.{taken-append, taken-all}
 use Rattle.model.proofs.Kept.Begin.{newTicket, begun-ticket, begun-new, begun-updates, begun-old, begun-grown}
 use Rattle.demands.specs.Answers.{begunAnswer}
 use Rattle.demands.specs.Run.{onStore}
-use Rattle.demands.proofs.Image.{registerImage, linesImage, storeImage, areasImage, image}
+use Rattle.demands.proofs.Image.{registerImage, sourcesImage, linesImage, storeImage, areasImage, image}
 use Rattle.demands.proofs.Masks.{mask-none}
 use Rattle.demands.proofs.Records.{record-at}
 use Rattle.demands.proofs.Puts.{register-put}
@@ -47,12 +47,16 @@ module _ (L : Limits) (m : Model) (S : Sound L m) (n : ℕ) where
       (λ q h. sym (cell-append pagesOf (slotCell (L .size)) (blank (L .size)) (m .tickets) (newTicket L m n) (λ i l. rw (none-there n i)) q)))
 
   -- The lines do not tell of tickets.
+  begun-sources : sourcesImage m ≡ sourcesImage (begun L m n)
+  unfolding sourcesImage
+  begun-sources = refl
+
   begun-lines : linesImage m ≡ linesImage (begun L m n)
   unfolding linesImage
   begun-lines = refl
 
   begun-store : withTicket (storeImage L m) n ≡ storeImage L (begun L m n)
-  begun-store = rw (taken-all (m .tickets) (newTicket L m n), length-replicate, length-snoc, begun-updates L m n S, begun-lines)
+  begun-store = rw (taken-all (m .tickets) (newTicket L m n), length-replicate, length-snoc, begun-updates L m n S, begun-sources, begun-lines)
 
   begun-nodes : nodesImage L m ≡ nodesImage L (begun L m n)
   begun-nodes = nodes-grown L m (begun L m n) S (begun-grown L m n S) refl (begun-old L m n S)

@@ -3,12 +3,13 @@
 use mathlib.Core.Path.{_≡_, refl, sym, ap, _∙_}
 use mathlib.Core.Logic.{inl, inr, _≢_}
 use mathlib.Core.List.{List, []}
-use Prim.Native.Nat.{ℕ, zero, suc, _≤_, _<_}
+use Prim.Native.Nat.{ℕ, zero, suc, _%_, _≤_, _<_}
+use native.Mathlib.Nat.{mod-eq-of-lt}
 use native.Mathlib.Decide.{ℕ-discrete}
 use native.Mathlib.Omega.{arith}
 use borrow.Author.Tests.{lt-ltb, le-ltb}
 use lib.Dec.{ltb}
-use lib.ListN.{length, take, set, List·getD-eq-default}
+use lib.ListN.{length, take, List·getD-eq-default}
 use lib.Seq.{length-take-le}
 use Rattle.tree.specs.Tree.{nth}
 use Rattle.tree.proofs.Meets.{lt-or-le}
@@ -22,7 +23,7 @@ use Rattle.model.specs.Calls.{on, BRANCH, lineIs, answers}
 use Rattle.model.specs.History.{Version, blobSize}
 use Rattle.model.specs.Model.{Limits, Line, Model, noLine, lineAt, updateAt, history}
 use Rattle.model.specs.OnModel.{branchNumber as modelNumber, branched, either, onLine, onModel}
-use Rattle.model.proofs.Tab.{tab-same, tab-set}
+use Rattle.model.proofs.Tab.{tab-same}
 use Rattle.model.proofs.Nth.{nth-past}
 use Rattle.model.proofs.Image.{pagesImage, nodesImage}
 use Rattle.model.proofs.Sound.{Sound}
@@ -32,8 +33,8 @@ use Rattle.model.proofs.Shown.{shownAt, version-shown, blob-shown}
 use Rattle.model.proofs.Kept.Branch.{branched-length, branched-old, branched-new, branched-shown, branched-grown}
 use Rattle.demands.specs.Answers.{branchedAnswer}
 use Rattle.demands.specs.Run.{onLineOf, onStore}
-use Rattle.demands.proofs.Image.{ownAt, recordImage, registerImage, branchImage, linesImage, storeImage, areasImage, image}
-use Rattle.demands.proofs.Lines.{lines-in, line-in}
+use Rattle.demands.proofs.Image.{ownAt, recordImage, registerImage, branchImage, storeImage, areasImage, image}
+use Rattle.demands.proofs.Lines.{lines-in, line-in, sources-written, words-written}
 use Rattle.demands.proofs.Steps.Numbers.{alike-same, image-number}
 use Rattle.demands.proofs.Steps.States.{leaves, stateOf, state-same}
 use Rattle.demands.proofs.Steps.Parts.{all-same, entries-stay}
@@ -113,9 +114,12 @@ module _ (L : Limits) (m : Model) (S : Sound L m) (l v : ℕ) where
         ∙ sym (ap (λ (x : Version). x .size) (version-shown m l v))
         ∙ sym (pages-in L m S l (p .line) v upto)
 
+    near : l < 16
+    near = omega (arith, p .line, S .few)
+
     branched-state : branchImage after (length (m .lines)) ≡ begunFrom l v (pagesIn (storeImage L m) (areasImage L m) l v)
     branched-state = λ i. record {
-      source = record { 0 = branched-new L m l v i .source };
+      source = record { 0 = (ap (λ (x : Line). x .source % 16) (branched-new L m l v) ∙ mod-eq-of-lt near) i };
       start = record { 0 = branched-new L m l v i .start };
       assigned = record { 0 = (ap (λ (x : Line). length (x .shown)) (branched-new L m l v) ∙ shows) i };
       published = record { 0 = branched-new L m l v i .published };
@@ -125,14 +129,16 @@ module _ (L : Limits) (m : Model) (S : Sound L m) (l v : ℕ) where
     branched-other : (j : ℕ) → j ≢ length (m .lines) → branchImage m j ≡ branchImage after j
     branched-other j n = rw (line-stays j n)
 
-    branched-states : set (linesImage m) (length (m .lines)) (begunFrom l v (pagesIn (storeImage L m) (areasImage L m) l v)) ≡ linesImage after
-    unfolding linesImage
-    branched-states =
-        tab-set 16 (branchImage m) (branchImage after) (length (m .lines)) (begunFrom l v (pagesIn (storeImage L m) (areasImage L m) l v)) (p .line-left)
-        (λ j z n. branched-other j n) branched-state
-
     branched-store : withBranch (storeImage L m) (begunFrom l v (pagesIn (storeImage L m) (areasImage L m) l v)) ≡ storeImage L after
-    branched-store = rw (lines-in L m S, branched-length L m l v, branched-states)
+    branched-store =
+        let n = length (m .lines) in
+        let b = begunFrom l v (pagesIn (storeImage L m) (areasImage L m) l v) in
+        rw (
+          lines-in L m S,
+          branched-length L m l v,
+          sources-written L m S after n b (p .line-left) branched-state branched-other,
+          words-written L m S after n b (p .line-left) branched-state branched-other,
+        )
 
     branched-image : stateOf (withBranch (storeImage L m) (begunFrom l v (pagesIn (storeImage L m) (areasImage L m) l v))) (pagesImage L m) (nodesImage L m) (registerImage L m)
         ≡ image L after

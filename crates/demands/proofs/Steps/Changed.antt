@@ -10,12 +10,12 @@ use Rattle.model.specs.OnModel.{ticketIn, leftOf, rightOf}
 use Rattle.model.proofs.Image.{numbersOf}
 use Rattle.model.proofs.Updates.{updates-set}
 use Rattle.model.proofs.Kept.Change.{changed, changed-updates, changed-taken, changed-length, changed-other}
-use Rattle.demands.proofs.Image.{numberAt, linesImage, storeImage}
+use Rattle.demands.proofs.Image.{numberAt, sourcesImage, linesImage, storeImage}
 use Rattle.demands.proofs.Steps.Parts.{ticketPart, updatePart, ticket-part, update-part}
 
 module _ (m : Model) (t : ℕ) (k : Ticket) (o : 0 < t) (same : pagesOf k ≡ pagesOf (ticketIn m t)) where
   pub changed-store : (L : Limits) → storeImage L m ≡ storeImage L (changed m t k)
-  unfolding linesImage
+  unfolding sourcesImage linesImage
   changed-store L = rw (changed-length m t k o same, changed-taken m t k o same, changed-updates m t k o same)
 
   -- A line's versions have the same updates.

@@ -1,39 +1,50 @@
--- WEAVE's search for a child's number on a model's image: the newest of a line's own versions in the register, else the source's, is the model's newest.
+-- WEAVE's search for a child's number on a model's image: the newest of a line's versions after its last published one, else what that one's tree has, is the model's newest.
 -- Assumes nothing.
 use mathlib.Core.Path.{_≡_, refl, sym, ap, _∙_}
 use mathlib.Core.Logic.{_⊎_, inl, inr}
 use mathlib.Core.Bool.{Bool, true, false}
-use mathlib.Core.List.{List}
-use Prim.Native.Nat.{ℕ, zero, suc, _≤_, _<_, min}
+use mathlib.Core.Option.{Option, some}
+use mathlib.Core.List.{List, []}
+use Prim.Native.Nat.{ℕ, zero, suc, _-_, _^_, _≤_, _<_, min}
 use native.Mathlib.Omega.{arith}
 use borrow.Author.Tests.{lt-ltb}
 use lib.Dec.{ltb}
 use lib.ListN.{length}
-use Rattle.tree.specs.Tree.{Update, meets, update, newest}
+use lib.Pow.{pow-mono}
+use Rattle.tree.specs.Tree.{Update, meets, update, newest, heightOf}
+use Rattle.tree.specs.Place.{first}
+use Rattle.tree.specs.Walk.{Accepted, WovenBy, versionOver, Stands, hasNode, placeBy}
+use Rattle.tree.proofs.First.{first-root}
 use Rattle.tree.proofs.Meets.{lt-or-le}
 use Rattle.tree.proofs.Newest.{newest-le}
-use Rattle.table.proofs.Table.{number-cases}
-use Rattle.lines.specs.Lines.{pick, numberOf}
+use Rattle.tree.proofs.Reach.{newest-above, newest-outside, reach-newest}
+use Rattle.tree.proofs.Walk.{stands-woven}
+use Rattle.lines.specs.Lines.{pick, numberOf, lineOf, versionOf}
 use Rattle.lines.specs.declared.Branch.{Branch}
 use Rattle.lines.proofs.Numbers.{number-is as code-is}
 use Rattle.register.specs.Register.{partOf, updateOf, versionPart, newestOwn}
 use Rattle.register.specs.declared.Record.{Record}
 use Rattle.register.proofs.Records.{newest-own-none, newest-own-met, newest-own-unmet}
 use Rattle.versions.specs.declared.Store.{Store}
-use Rattle.versions.specs.Store.{lineIn}
-use Rattle.weave.specs.Weave.{newestOn}
+use Rattle.versions.specs.Store.{Areas, areasOf, lineIn, numberOn}
+use Rattle.walk.specs.FindPage.{placeAt, reachFrom}
+use Rattle.walk.specs.Descent.{orMost}
+use Rattle.walk.proofs.Descent.{reach-here, reach-none, from-root, from-past}
+use Rattle.weave.specs.Weave.{olderNumber}
 use Rattle.model.specs.History.{updates}
 use Rattle.model.specs.Model.{Limits, Model, lineAt, history, numberIn}
+use Rattle.model.specs.Snapshot.{numbersOn}
+use Rattle.model.proofs.Image.{nodesImage}
 use Rattle.model.proofs.Sound.{Sound}
 use Rattle.model.proofs.Facts.{versions-most}
 use Rattle.model.proofs.Shown.{shownAt, update-shown}
-use Rattle.model.proofs.Owner.{source-there, source-has, owner-own}
-use Rattle.model.proofs.Numbers.{number-is}
-use Rattle.model.proofs.Stay.{newest-stays, number-stays}
-use Rattle.model.proofs.Shared.{source-reads}
-use Rattle.demands.proofs.Image.{registerImage, branchImage, storeImage}
+use Rattle.model.proofs.Owner.{owner-own}
+use Rattle.model.proofs.Numbers.{number-is, number-some, place-has}
+use Rattle.model.proofs.Woven.{published-upto, nodes-woven}
+use Rattle.demands.proofs.Image.{registerImage, storeImage}
 use Rattle.demands.proofs.Records.{update-image}
-use Rattle.demands.proofs.Lines.{line-in, version-found}
+use Rattle.demands.proofs.Lines.{line-in, number-on, version-found}
+use Rattle.demands.proofs.Steps.Found.{height-found, height-low, place-found}
 
 -- ---- the newest among updates, by whether the last one meets the pages
 
@@ -74,107 +85,175 @@ module _ (L : Limits) (m : Model) (S : Sound L m) (l : ℕ) (there : l < length 
       ∙ update-image L m S (shownAt m l v) (S .lines l there .some v o h) (S .lines l there .most v o h)
       ∙ sym (update-shown m l v)
 
-  module _ (a s : ℕ) where
+  -- The search above a version b that is not below the line's start.
+  module _ (b : ℕ) (from : lineAt m l .start ≤ b) (a s : ℕ) where
     abbrev newestIn : ℕ → ℕ
     newestIn v = newest (updates (history m l)) v a s
 
     abbrev ownIn : ℕ → ℕ
-    ownIn v = newestOwn (registerImage L m) l (lineAt m l .start) v a s
+    ownIn v = newestOwn (registerImage L m) l b v a s
 
-    -- The newest up to v is one of the line's own, or it is that of the shared versions.
+    -- The newest up to v is above b, or it is that of the versions up to b.
     data Newest (v : ℕ) : Type 0 where
-      own : lineAt m l .start < newestIn v → ownIn v ≡ newestIn v → Newest v
-      shared : ownIn v ≡ 0 → newestIn v ≡ newestIn (min v (lineAt m l .start)) → Newest v
+      above : b < newestIn v → ownIn v ≡ newestIn v → Newest v
+      upto : ownIn v ≡ 0 → newestIn v ≡ newestIn (min v b) → Newest v
 
-    newest-shared : (v : ℕ) → v ≤ lineAt m l .start → Newest v
-    newest-shared v h =
-        let e : min v (lineAt m l .start) ≡ v = omega arith in
-        shared (newest-own-none (registerImage L m) l (lineAt m l .start) a s v h) (rw e)
+    newest-upto : (v : ℕ) → v ≤ b → Newest v
+    newest-upto v h =
+        let e : min v b ≡ v = omega arith in
+        upto (newest-own-none (registerImage L m) l b a s v h) (rw e)
 
-    -- A version of the line's own that does not meet the pages leaves the newest up to the one before it.
-    newest-passed : (v : ℕ) → lineAt m l .start < suc v → ownIn (suc v) ≡ ownIn v → newestIn (suc v) ≡ newestIn v → Newest v → Newest (suc v)
-    newest-passed v o e f (own p q) = own (omega arith) (e ∙ q ∙ sym f)
-    newest-passed v o e f (shared p q) =
-        let k : min (suc v) (lineAt m l .start) ≡ min v (lineAt m l .start) = omega arith in
-        shared (e ∙ p) (rw k (f ∙ q))
+    -- A version above b that does not meet the pages leaves the newest up to the one before it.
+    newest-passed : (v : ℕ) → b < suc v → ownIn (suc v) ≡ ownIn v → newestIn (suc v) ≡ newestIn v → Newest v → Newest (suc v)
+    newest-passed v o e f (above p q) = above (omega arith) (e ∙ q ∙ sym f)
+    newest-passed v o e f (upto p q) =
+        let k : min (suc v) b ≡ min v b = omega arith in
+        upto (e ∙ p) (rw k (f ∙ q))
 
     newest-cases : (v : ℕ) → v ≤ length (lineAt m l .shown) → Newest v
-    newest-cases zero h = newest-shared 0 (omega arith)
-    newest-cases (suc v) h = elim (lt-or-le (lineAt m l .start) (suc v)) [
-      | inr p ↦ newest-shared (suc v) p
+    newest-cases zero h = newest-upto 0 (omega arith)
+    newest-cases (suc v) h = elim (lt-or-le b (suc v)) [
+      | inr p ↦ newest-upto (suc v) p
       | inl p ↦
           let us = updates (history m l) in
           let rs = registerImage L m in
-          let u = own-update (suc v) p h in
+          let u = own-update (suc v) (omega arith) h in
           elim (test-cases (meets (update us (suc v) .f) (update us (suc v) .last) a s)) [
             | inl e ↦
                 let n = newest-met us v a s e in
-                own (omega arith) (newest-own-met rs l (lineAt m l .start) a s v p (rw u e) ∙ sym n)
+                above (omega arith) (newest-own-met rs l b a s v p (rw u e) ∙ sym n)
             | inr e ↦
-                newest-passed v p (newest-own-unmet rs l (lineAt m l .start) a s v p (rw u e)) (newest-unmet us v a s e) (newest-cases v (omega arith))
+                newest-passed v p (newest-own-unmet rs l b a s v p (rw u e)) (newest-unmet us v a s e) (newest-cases v (omega arith))
           ]
     ]
 
--- ---- the search from line to line
+-- ---- the tree of a published version
 
--- One step by its test.
-search-step : (x : Store) (rs : List Record) (n l v a s : ℕ) (b : Branch) → lineIn x l ≡ b
-    → newestOn x rs (suc n) l v a s
-    ≡ pick (ltb 0 (newestOwn rs l (b .start .0) v a s)) (numberOf l (newestOwn rs l (b .start .0) v a s)) (newestOn x rs n (min (b .source .0) 15) (min v (b .start .0)) a s)
-unfolding newestOn
-search-step x rs n l v a s b e = rw e
+-- From no version nothing is reached.
+from-zero : (x : Areas) (height p j : ℕ) → reachFrom x 0 height p j ≡ some 0
+from-zero x height p j = elim (lt-or-le p (2 ^ min height 12)) [
+  | inl q ↦ from-root x 0 height p j q ∙ reach-none (placeAt (x .register)) (x .nodes) j p (min height 12 - j)
+  | inr q ↦ from-past x 0 height p j q
+]
 
--- Up to version 0 there is none.
-search-none : (x : Store) (rs : List Record) (n l a s : ℕ) → newestOn x rs n l 0 a s ≡ 0
-unfolding newestOn
-search-none x rs zero l a s = refl
-search-none x rs (suc n) l a s =
-    let b = lineIn x l in
-    let k : min 0 (b .start .0) ≡ 0 = omega arith in
-    rw (newest-own-none rs l (b .start .0) a s 0 (omega arith), k) (search-none x rs n (min (b .source .0) 15) a s)
+module _ (L : Limits) (m : Model) (S : Sound L m) (l : ℕ) (there : l < length (m .lines)) where
+  module _ (v : ℕ) (o : 0 < v) (h : v ≤ lineAt m l .published) where
+    abbrev at : ℕ → ℕ → ℕ → Option ℕ
+    at = placeAt (registerImage L m)
 
-module _ (L : Limits) (m : Model) (S : Sound L m) (a s : ℕ) where
-  abbrev child : ℕ → ℕ → ℕ
-  child l v = newest (updates (history m l)) v a s
+    accepted : (w : ℕ) → w < v → Accepted (updates (history m l)) w
+    accepted w q = S .lines l there .accepted w (omega (arith, published-upto L m S l there v h))
 
-  abbrev search : ℕ → ℕ → ℕ → ℕ
-  search n l v = newestOn (storeImage L m) (registerImage L m) n l v a s
+    low : heightOf (updates (history m l)) v ≤ 12
+    low = height-low L m S l there v o (published-upto L m S l there v h)
 
-  -- A line's shared versions have the same newest, with the same number, in its source.
-  source-child : (l v : ℕ) → 0 < l → l < length (m .lines) → v ≤ lineAt m l .start
-      → numberIn (history m (lineAt m l .source)) (child (lineAt m l .source) v) ≡ numberIn (history m l) (child l v)
-  source-child l v o there h =
-      let same = source-reads L m S l o there in
-      let c = history m (lineAt m l .source) in
-      let le = newest-le (updates (history m l)) v a s in
-      sym (number-stays (history m l) c (lineAt m l .start) same (child l v) (omega arith) ∙ ap (numberIn c) (newest-stays (history m l) c (lineAt m l .start) same v h a s))
+    capped : min (heightOf (updates (history m l)) v) 12 ≡ heightOf (updates (history m l)) v
+    capped = omega (arith, low)
 
-  search-own : (n l v : ℕ) → lineAt m l .start < child l v → child l v ≤ length (lineAt m l .shown) → l < length (m .lines)
-      → newestOwn (registerImage L m) l (lineAt m l .start) v a s ≡ child l v → search (suc n) l v ≡ numberIn (history m l) (child l v)
-  search-own n l v p h there e =
-      search-step (storeImage L m) (registerImage L m) n l v a s (branchImage m l) (line-in L m S l)
-      ∙ rw (e, lt-ltb 0 (child l v) (omega arith)) (own-number L m S l there (child l v) p h)
+    called : (w : ℕ) → 0 < w → w ≤ v → 0 < numberIn (history m l) w
+    called w p q = number-some L m S l w there p (omega (arith, published-upto L m S l there v h))
 
-  search-shared : (n l v : ℕ) → newestOwn (registerImage L m) l (lineAt m l .start) v a s ≡ 0
-      → search (suc n) l v ≡ search n (min (lineAt m l .source) 15) (min v (lineAt m l .start))
-  search-shared n l v e =
-      search-step (storeImage L m) (registerImage L m) n l v a s (branchImage m l) (line-in L m S l) ∙ rw e
+    woven : (w : ℕ) → 0 < w → w ≤ v → WovenBy (updates (history m l)) (numbersOn m l) (nodesImage L m) w
+    woven w p q = nodes-woven L m S l there w p (omega arith)
 
-  -- The search finds the model's newest.
-  pub newest-on : (n l v : ℕ) → l < n → l < length (m .lines) → v ≤ length (lineAt m l .shown) → search n l v ≡ numberIn (history m l) (child l v)
-  newest-on zero l v near there h = absurd (omega arith)
-  newest-on (suc n) l v near there h = elim (newest-cases L m S l there a s v h) [
-    | own p q ↦ search-own n l v p (omega (arith, newest-le (updates (history m l)) v a s)) there q
-    | shared p q ↦ search-shared n l v p ∙ elim (number-cases l) [
-      | inl z ↦
-          let k : min v (lineAt m l .start) ≡ 0 = omega (arith, S .lines l there .first z) in
-          let none : child l 0 ≡ 0 = omega (arith, newest-le (updates (history m l)) 0 a s) in
-          rw (q, k, none) (search-none (storeImage L m) (registerImage L m) n (min (lineAt m l .source) 15) a s)
-      | inr o ↦
-          let c = lineAt m l .source in
-          let low = S .lines l there .source o in
-          let w = min v (lineAt m l .start) in
-          let k : min c 15 ≡ c = omega (arith, S .few) in
-          rw (k, q) (newest-on n c w (omega arith) (source-there L m S l o there) (source-has L m S l w o there (omega arith)) ∙ source-child l w o there (omega arith))
-    ]
+    places : (w p j : ℕ) → 0 < w → w ≤ v → hasNode (update (updates (history m l)) w) p j ≡ true
+        → at (numberIn (history m l) w) p j ≡ some (placeBy (updates (history m l)) (numbersOn m l) w p j)
+    places w p j q r e =
+        let n : w ≤ length (lineAt m l .shown) = omega (arith, published-upto L m S l there v h) in
+        place-found L m S l there w q n p j e ∙ place-has L m S l w there q n p j e
+
+    stands : (p j : ℕ) → 0 < versionOver (updates (history m l)) v p j → j ≤ heightOf (updates (history m l)) v → p < 2 ^ heightOf (updates (history m l)) v
+        → Stands (updates (history m l)) (numbersOn m l) at (nodesImage L m) v p j
+    stands = stands-woven (updates (history m l)) v accepted (numbersOn m l) at (nodesImage L m) woven places
+
+    module _ (a j : ℕ) (grid : first a j ≡ a) where
+      abbrev us : List Update
+      us = updates (history m l)
+
+      -- Within the root, down from it; from a height above the root's the version itself.
+      reach-inside : a < 2 ^ heightOf us v → reachFrom (areasOf [] (nodesImage L m) (registerImage L m)) (numberIn (history m l) v) (heightOf us v) a j
+          ≡ some (numberIn (history m l) (newest us v a (2 ^ j)))
+      reach-inside r =
+          let x = areasOf [] (nodesImage L m) (registerImage L m) in
+          let d = numberIn (history m l) v in
+          let H = heightOf us v in
+          from-root x d H a j (rw capped r)
+          ∙ elim (lt-or-le H j) [
+            | inl q ↦
+                let zero-first : a ≡ 0 = sym grid ∙ first-root a j (omega (arith, pow-mono {i = H} {j = j} (omega arith))) in
+                let top : newest us v a (2 ^ j) ≡ v = rw zero-first (newest-above us v accepted j o (omega arith)) in
+                reach-here at (nodesImage L m) j a (min H 12) d (omega arith) ∙ sym (ap (λ (w : ℕ). some (numberIn (history m l) w)) top)
+            | inr q ↦
+                let e : min H 12 - j ≡ H - j = omega (arith, capped) in
+                rw e
+                (reach-newest us v accepted (numbersOn m l) at (nodesImage L m) refl called stands j a r (H - j) (omega arith)
+                ∙ ap (λ (b : ℕ). some (numberIn (history m l) (newest us v b (2 ^ j)))) grid)
+          ]
+
+      reach-outside : 2 ^ heightOf us v ≤ a → reachFrom (areasOf [] (nodesImage L m) (registerImage L m)) (numberIn (history m l) v) (heightOf us v) a j
+          ≡ some (numberIn (history m l) (newest us v a (2 ^ j)))
+      reach-outside r =
+          from-past (areasOf [] (nodesImage L m) (registerImage L m)) (numberIn (history m l) v) (heightOf us v) a j (rw capped r)
+          ∙ sym (ap (λ (w : ℕ). some (numberIn (history m l) w)) (newest-outside us v accepted a (2 ^ j) r))
+
+      reach-published : reachFrom (areasOf [] (nodesImage L m) (registerImage L m)) (numberIn (history m l) v) (heightOf us v) a j
+          ≡ some (numberIn (history m l) (newest us v a (2 ^ j)))
+      reach-published = elim (lt-or-le a (2 ^ heightOf us v)) [ inl r ↦ reach-inside r | inr r ↦ reach-outside r ]
+
+  -- The node over a page that stands at a height in the tree of a published version, or of version 0, is the newest's.
+  tree-newest : (v a j : ℕ) → v ≤ lineAt m l .published → first a j ≡ a
+      → let d = numberIn (history m l) v in
+      reachFrom (areasOf [] (nodesImage L m) (registerImage L m)) d (versionPart (registerImage L m) d .height) a j
+      ≡ some (numberIn (history m l) (newest (updates (history m l)) v a (2 ^ j)))
+  tree-newest zero a j h grid =
+      let none : newest (updates (history m l)) 0 a (2 ^ j) ≡ 0 = omega (arith, newest-le (updates (history m l)) 0 a (2 ^ j)) in
+      rw none (from-zero (areasOf [] (nodesImage L m) (registerImage L m)) (versionPart (registerImage L m) 0 .height) a j)
+  tree-newest (suc v) a j h grid =
+      let o : 0 < suc v = omega arith in
+      rw (height-found L m S l there (suc v) o (published-upto L m S l there (suc v) h)) (reach-published (suc v) o h a j grid)
+
+-- ---- the search
+
+-- By the line and the version that a number says.
+older-by : (x : Store) (nodes : List ℕ) (rs : List Record) (c a j l v p d : ℕ) → lineOf c ≡ l → versionOf c ≡ v → lineIn x l .published .0 ≡ p → numberOn x l p ≡ d
+    → olderNumber x nodes rs c a j
+    ≡ pick (ltb 0 (newestOwn rs l p (v - 1) a (2 ^ j))) (numberOf l (newestOwn rs l p (v - 1) a (2 ^ j)))
+    (orMost (reachFrom (areasOf [] nodes rs) d (versionPart rs d .height) a j))
+unfolding olderNumber
+older-by x nodes rs c a j l v p d e f g h = rw (e, f, g, h)
+
+module _ (L : Limits) (m : Model) (S : Sound L m) (l v : ℕ) (there : l < length (m .lines)) (late : lineAt m l .published < v) (h : v ≤ length (lineAt m l .shown))
+    (a j : ℕ) (grid : first a j ≡ a)
+    (misses : meets (update (updates (history m l)) v .f) (update (updates (history m l)) v .last) a (2 ^ j) ≡ false) where
+  abbrev last : ℕ
+  last = lineAt m l .published
+
+  abbrev newestAt : ℕ → ℕ
+  newestAt w = newest (updates (history m l)) w a (2 ^ j)
+
+  -- The version's own update does not meet the pages, so that the newest is one before it.
+  before : newestAt v ≡ newestAt (v - 1)
+  before =
+      let e : suc (v - 1) ≡ v = omega arith in
+      rw e at (newest-unmet (updates (history m l)) (v - 1) a (2 ^ j) (rw e misses))
+
+  search : pick (ltb 0 (newestOwn (registerImage L m) l last (v - 1) a (2 ^ j))) (numberOf l (newestOwn (registerImage L m) l last (v - 1) a (2 ^ j)))
+      (orMost (reachFrom (areasOf [] (nodesImage L m) (registerImage L m)) (numberIn (history m l) last) (versionPart (registerImage L m) (numberIn (history m l) last) .height) a j))
+      ≡ numberIn (history m l) (newestAt v)
+  search = elim (newest-cases L m S l there last (S .lines l there .started) a (2 ^ j) (v - 1) (omega arith)) [
+    | above p q ↦
+        let le = newest-le (updates (history m l)) (v - 1) a (2 ^ j) in
+        rw (q, lt-ltb 0 (newestAt (v - 1)) (omega arith), before) (own-number L m S l there (newestAt (v - 1)) (omega (arith, S .lines l there .started)) (omega arith))
+    | upto p q ↦
+        let e : min (v - 1) last ≡ last = omega arith in
+        let f : newestAt v ≡ newestAt last = before ∙ q ∙ ap newestAt e in
+        rw (p, f) (ap orMost (tree-newest L m S l there last a j (omega arith) grid))
   ]
+
+  -- The number that WEAVE looks for is the newest's, for the version that c numbers.
+  pub older-newest : (c : ℕ) → lineOf c ≡ l → versionOf c ≡ v
+      → olderNumber (storeImage L m) (nodesImage L m) (registerImage L m) c a j ≡ numberIn (history m l) (newestAt v)
+  older-newest c e f =
+      older-by (storeImage L m) (nodesImage L m) (registerImage L m) c a j l v last (numberIn (history m l) last) e f
+      (ap (λ (b : Branch). b .published .0) (line-in L m S l)) (number-on L m S l there last (published-upto L m S l there last (omega arith)))
+      ∙ search

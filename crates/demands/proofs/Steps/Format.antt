@@ -6,8 +6,11 @@ use native.Mathlib.Nat.{mul-zero, mul-suc}
 use native.Mathlib.Omega.{arith}
 use borrow.Author.Tests.{lt-ltb, le-ltb}
 use lib.ListN.{replicate, replicate-append-replicate}
+use Rattle.tree.specs.Tree.{heightFrom, rootHeight}
 use Rattle.tree.specs.NodeArea.{allOnes}
-use Rattle.lines.specs.Lines.{noLines}
+use Rattle.tree.proofs.Halved.{halved-zero}
+use Rattle.lines.specs.Lines.{packed, noLines}
+use Rattle.lines.proofs.States.{sourcesOf}
 use Rattle.lines.proofs.Packed.{entries-same}
 use Rattle.register.specs.Register.{noRecord}
 use Rattle.tree.specs.Walk.{used}
@@ -21,7 +24,7 @@ use Rattle.model.specs.Model.{Limits, noModel, noLine, lineAt, updateFrom}
 use Rattle.demands.specs.Run.{freshOf, formattedState}
 use Rattle.model.proofs.Laid.{tab, cellIn, onesPair, flat}
 use Rattle.model.proofs.Image.{blank, pagesImage, nodesImage}
-use Rattle.demands.proofs.Image.{maskOf, ownAt, recordImage, registerImage, linesImage, storeImage, image}
+use Rattle.demands.proofs.Image.{maskOf, ownAt, recordImage, registerImage, sourcesImage, linesImage, storeImage, image}
 use Rattle.demands.proofs.Steps.States.{state-same}
 use Rattle.model.proofs.Tab.{tab-same, replicate-tab}
 
@@ -57,16 +60,20 @@ module _ (L : Limits) where
   nodes-blank = ones (L .nodes)
 
   register-blank : registerImage L noModel ≡ replicate (L .updates) noRecord
-  unfolding registerImage updateFrom maskOf
-  register-blank = tab-same (L .updates) (recordImage noModel) (λ (i : ℕ). noRecord) (λ i h. rw (le-ltb i 0 (omega arith), entries-same (λ l. ownAt noModel l (suc i)) (λ _. 0) (λ l z. own-blank i l))) ∙ sym (replicate-tab (L .updates) noRecord)
+  unfolding registerImage updateFrom maskOf rootHeight heightFrom
+  register-blank = tab-same (L .updates) (recordImage noModel) (λ (i : ℕ). noRecord) (λ i h. rw (le-ltb i 0 (omega arith), halved-zero, entries-same (λ l. ownAt noModel l (suc i)) (λ _. 0) (λ l z. own-blank i l))) ∙ sym (replicate-tab (L .updates) noRecord)
+
+  sources-blank : sourcesImage noModel ≡ 0
+  unfolding sourcesImage sourcesOf
+  sources-blank = refl
 
   lines-blank : linesImage noModel ≡ noLines
-  unfolding linesImage tab
+  unfolding linesImage tab packed
   lines-blank = refl
 
   store-blank : freshOf L ≡ storeImage L noModel
   unfolding taken used
-  store-blank = rw lines-blank
+  store-blank = rw (sources-blank, lines-blank)
 
   pub format-image : (a : Areas) → formatNumber (freshOf L) a ≡ 0 → formattedState L a ≡ image L noModel
   unfolding formattedState formatRefusal formatRows

@@ -1,36 +1,51 @@
 -- The walk on a model's image: it ends at the leaf of the newest version that covers the page, and its page number is that version's.
 -- Assumes nothing.
 use mathlib.Core.Path.{_≡_, refl, sym, ap, _∙_}
-use mathlib.Core.Bool.{true}
+use mathlib.Core.Bool.{true, _&&_}
 use mathlib.Core.Option.{some}
 use mathlib.Core.List.{[]}
-use Prim.Native.Nat.{ℕ, pred, _+_, _*_, _≤_, _<_}
+use Prim.Native.Nat.{ℕ, suc, pred, _+_, _-_, _*_, _%_, _^_, _≤_, _<_, min}
 use native.Mathlib.Omega.{arith}
-use borrow.Author.Tests.{lt-ltb, eq-eqb}
+use borrow.Author.Tests.{lt-ltb, le-leb, eq-eqb}
+use lib.Dec.{leb}
 use lib.ListN.{length, getD}
+use lib.Pow.{pow-mono}
 use Rattle.pages.specs.Pages.{part}
-use Rattle.tree.specs.Tree.{Update, update, rootHeight}
-use Rattle.tree.specs.Place.{index}
-use Rattle.tree.specs.Walk.{hasNode, stampOf}
+use Rattle.tree.specs.Tree.{Update, meets, update, rootHeight, heightOf}
+use Rattle.tree.specs.Place.{first, index, halvings}
+use Rattle.tree.specs.Walk.{hasNode, stampOf, reachBy, leafOf}
 use Rattle.tree.specs.declared.Found.the-variants.{Leaf}
+use Rattle.tree.proofs.First.{first-le}
+use Rattle.tree.proofs.Halved.{halved-small, index-halved}
+use Rattle.tree.proofs.Meets.{meets-within}
+use Rattle.tree.proofs.Reach.{walk-reach}
+use Rattle.tree.proofs.Root.{root-low}
+use Rattle.tree.proofs.Walk.{node-has, size-in-root}
 use Rattle.register.specs.Register.{partOf, updateOf, versionPart}
 use Rattle.register.specs.declared.Part.{Part}
-use Rattle.walk.specs.FindPage.{placeIn as placeBy, placeAt, findPage, numberWithin, pageNumberOf}
+use Rattle.walk.specs.FindPage.{hasNodeBy, placeBy, placeIn as placeOn, placeAt, findPage, numberWithin, pageNumberOf}
+use Rattle.walk.proofs.Descent.{place-zero, from-root}
 use Rattle.model.specs.History.{versionAt, leafNumber, updateOf as toUpdate, updates}
 use Rattle.model.specs.InTurn.{blobAt}
 use Rattle.model.specs.Model.{Limits, Model, lineAt, updateAt, history, numberIn}
 use Rattle.model.specs.Snapshot.{placeIn, placeAt as placeOf, firstPlace}
-use Rattle.model.proofs.Image.{pageCell, pagesImage}
+use Rattle.model.proofs.Image.{pageCell, pagesImage, nodesImage}
 use Rattle.model.proofs.Areas.{cells-length}
 use Rattle.model.proofs.Sound.{Sound}
+use Rattle.model.proofs.Facts.{place-room, shown-small}
+use Rattle.model.proofs.Updates.{size-at}
 use Rattle.model.proofs.Shown.{shownAt, update-shown}
 use Rattle.model.proofs.Numbers.{number-some, number-low, number-place}
 use Rattle.model.proofs.Woven.{published-upto}
 use Rattle.model.proofs.Found.{some-version, Places, walk-found, number-within, page-found}
 use Rattle.demands.proofs.Image.{recordImage, registerImage, areasImage}
-use Rattle.demands.proofs.Records.{update-image, place-image}
+use Rattle.demands.proofs.Records.{update-image, height-image, past-image, top-image}
 use Rattle.demands.proofs.Lines.{version-found, name-shown}
 use Rattle.demands.proofs.Blocks.{tab-part}
+
+-- The sum in 64 bits is the place: nothing is lost, since places, heights and halvings are small.
+place-sums : (place height j x : ℕ) → j ≤ height → height ≤ 12 → place ≤ 131072 → x ≤ 8192 → (place + height + (2 ^ 64 - j) + x) % 2 ^ 64 ≡ place + ((height - j) + x)
+place-sums place height j x a b c d = omega arith
 
 module _ (L : Limits) (m : Model) (S : Sound L m) (l : ℕ) (there : l < length (m .lines)) where
   module _ (v : ℕ) (o : 0 < v) (h : v ≤ length (lineAt m l .shown)) where
@@ -46,33 +61,79 @@ module _ (L : Limits) (m : Model) (S : Sound L m) (l : ℕ) (there : l < length 
     update-found =
         update-image L m S (shownAt m l v) (S .lines l there .some v o h) (S .lines l there .most v o h) ∙ sym (update-shown m l v)
 
-    -- The walk places the version's nodes where they lie.
-    pub place-found : (p j : ℕ) → hasNode (update (updates (history m l)) v) p j ≡ true → placeAt (registerImage L m) code p j ≡ placeIn m code p j
-    unfolding placeBy
-    place-found p j e =
-        let k = shownAt m l v in
-        let some = S .lines l there .some v o h in
-        let e′ : hasNode (toUpdate (m .tickets) (updateAt m k)) p j ≡ true = rw (← update-shown m l v) e in
-        ap (λ (q : Part). placeBy q code p j) part-found
-        ∙ rw (
-          lt-ltb 0 code (number-some L m S l v there o h),
-          lt-ltb code 1048576 (number-low L m S l v there o h),
-          eq-eqb (recordImage m (pred k) .name) code (name-shown L m S l v there o h),
-          update-found,
-          e,
-          place-image L m S k some (S .lines l there .most v o h),
-          number-place L m S l v there o h p j,
-          lt-ltb 0 k some,
-          e′,
-          update-shown m l v,
-        )
+    -- Its height is that of the version's root, and no higher than that of the largest blob.
+    pub height-found : versionPart (registerImage L m) code .height ≡ heightOf (updates (history m l)) v
+    height-found =
+        ap (λ (q : Part). q .height) part-found
+        ∙ height-image L m S (shownAt m l v) (S .lines l there .some v o h) (S .lines l there .most v o h)
+        ∙ sym (ap (λ (u : Update). rootHeight (u .size)) (update-shown m l v))
 
-  module _ (v p : ℕ) (h : v ≤ lineAt m l .published) (r : p < versionAt (history m l) v .size) where
+    pub height-low : heightOf (updates (history m l)) v ≤ 12
+    height-low = root-low (update (updates (history m l)) v .size) (rw (update-shown m l v) (shown-small L m S l there v h))
+
+    module _ (p j : ℕ) (e : hasNode (update (updates (history m l)) v) p j ≡ true) where
+      abbrev its : ℕ
+      its = shownAt m l v
+
+      some-update : 0 < its
+      some-update = S .lines l there .some v o h
+
+      most-update : its ≤ length (m .updates)
+      most-update = S .lines l there .most v o h
+
+      has-shown : hasNode (toUpdate (m .tickets) (updateAt m its)) p j ≡ true
+      has-shown = rw (← update-shown m l v) e
+
+      -- By what the record says the version has the node.
+      has-found : hasNodeBy (partOf (recordImage m (pred its))) p j ≡ true
+      unfolding hasNodeBy
+      has-found =
+          let u = toUpdate (m .tickets) (updateAt m its) in
+          let n = node-has u p j has-shown in
+          let same : suc (pred its) ≡ its = omega (arith, some-update) in
+          ap (λ (k : ℕ). leb j (rootHeight (updateAt m k .size)) && meets (updateAt m k .f) (toUpdate (m .tickets) (updateAt m k) .last) (first p j) (2 ^ j)) same
+          ∙ rw (le-leb j (rootHeight (u .size)) (n .0), meets-within (u .f) (u .last) (first p j) (2 ^ j) (n .2) (n .3))
+
+      -- And its place.
+      sum-found : placeBy (partOf (recordImage m (pred its))) p j
+          ≡ firstPlace m its
+          + index (updateAt m its .f) (toUpdate (m .tickets) (updateAt m its) .last) 0 (rootHeight (updateAt m its .size)) p j
+      sum-found =
+          let u = toUpdate (m .tickets) (updateAt m its) in
+          let n = node-has u p j has-shown in
+          let low = root-low (u .size) (S .updated its some-update most-update .upward) in
+          let x = halvings (first p j) - halvings (u .f) in
+          let few : x ≤ 8192 = omega (arith, halved-small (first p j), first-le p j, n .1, pow-mono low) in
+          let near : firstPlace m its ≤ 131072 = omega (arith, place-room L m S its some-update most-update, S .allowed .nodes) in
+          rw (
+            top-image L m S its some-update most-update,
+            past-image L m S its some-update most-update,
+            index-halved (u .f) (u .last) (rootHeight (u .size)) p j (n .0) (n .1) (n .3),
+          )
+          (place-sums (firstPlace m its) (rootHeight (u .size)) j x (n .0) low near few)
+
+      -- The walk places the version's nodes where they lie.
+      pub place-found : placeAt (registerImage L m) code p j ≡ placeIn m code p j
+      unfolding placeOn
+      place-found =
+          ap (λ (q : Part). placeOn q code p j) part-found
+          ∙ rw (
+            lt-ltb 0 code (number-some L m S l v there o h),
+            lt-ltb code (2 ^ 64 - 1) (omega (arith, number-low L m S l v there o h)),
+            eq-eqb (recordImage m (pred its) .name) code (name-shown L m S l v there o h),
+            has-found,
+            number-place L m S l v there o h p j,
+            lt-ltb 0 its some-update,
+            has-shown,
+          )
+          (ap some sum-found)
+
+  module _ (v p : ℕ) (h′ : v ≤ lineAt m l .published) (r : p < versionAt (history m l) v .size) where
     above : 0 < v
     above = some-version m l v p r
 
     upto : v ≤ length (lineAt m l .shown)
-    upto = published-upto L m S l there v h
+    upto = published-upto L m S l there v h′
 
     places : Places L m S l there (placeAt (registerImage L m)) v
     places w q j o k e = place-found w o (omega (arith, upto)) q j e
@@ -83,7 +144,20 @@ module _ (L : Limits) (m : Model) (S : Sound L m) (l : ℕ) (there : l < length 
         (record { 0 = numberIn (history m l) (stampOf (updates (history m l)) v p) })
         (leafNumber (history m l) (stampOf (updates (history m l)) v p) p)
     unfolding findPage
-    find-page = rw (part-found v above upto, update-found v above upto) (walk-found L m S l there (placeAt (registerImage L m)) v h places p r)
+    find-page =
+        let us = updates (history m l) in
+        let at = placeAt (registerImage L m) in
+        let area = nodesImage L m in
+        let c = numberIn (history m l) v in
+        let h = heightOf us v in
+        let low = height-low v above upto in
+        let same : min h 12 ≡ h = omega arith in
+        let down : min h 12 - 0 ≡ h = omega arith in
+        let inside : p < 2 ^ h = omega (arith, size-in-root us v, size-at (history m l) v) in
+        rw (height-found v above upto)
+        (ap (leafOf at area p) (from-root (areasImage L m) c h p 0 (rw same inside) ∙ ap (λ (n : ℕ). reachBy at area 0 n c p) down)
+        ∙ sym (walk-reach at area h c p (place-zero (registerImage L m)))
+        ∙ walk-found L m S l there at v h′ places p r)
 
     pub page-number : pageNumberOf (L .pages) (areasImage L m) (numberIn (history m l) v) p ≡ some (leafNumber (history m l) (stampOf (updates (history m l)) v p) p)
     unfolding pageNumberOf

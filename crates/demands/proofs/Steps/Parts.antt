@@ -3,13 +3,14 @@
 use mathlib.Core.Path.{_≡_, sym, ap, _∙_}
 use mathlib.Core.Logic.{inl, inr, _≢_}
 use mathlib.Core.List.{List, [], _∷_, _++_}
-use Prim.Native.Nat.{ℕ, zero, suc, _≤_, _<_}
+use Prim.Native.Nat.{ℕ, zero, suc, _+_, _≤_, _<_}
 use native.Mathlib.Omega.{arith}
 use borrow.Author.Tests.{lt-ltb, le-ltb}
 use lib.Dec.{ltb}
 use lib.ListN.{length, getD}
 use Rattle.tree.proofs.Meets.{lt-or-le}
-use Rattle.tree.specs.Tree.{Update, Node, node, countOf, weaving, nth}
+use Rattle.tree.specs.Tree.{Update, Node, node, countOf, weaving, nth, rootHeight}
+use Rattle.tree.specs.Place.{halvings}
 use Rattle.model.proofs.Shown.{every-update}
 use Rattle.lines.specs.Lines.{entriesOf}
 use Rattle.lines.specs.declared.Entries.{Entries}
@@ -23,7 +24,7 @@ use Rattle.model.proofs.Image.{numbersOf, wovenOf, weaveCell, countAt}
 use Rattle.model.proofs.Sound.{Sound}
 use Rattle.model.proofs.Nth.{length-snoc, nth-append, nth-past}
 use Rattle.model.proofs.Cells.{numbered-same}
-use Rattle.demands.proofs.Image.{maskOf, numberAt, placeAt, ownAt}
+use Rattle.demands.proofs.Image.{countBy, maskOf, numberAt, placeAt, ownAt}
 
 -- ---- records
 
@@ -38,8 +39,11 @@ pub record UpdatePart : Type 0 where
   pub name : ℕ
   pub f : ℕ
   pub last : ℕ
+  pub top : ℕ
+  pub past : ℕ
+  pub height : ℕ
   pub size : ℕ
-  pub place : ℕ
+  pub count : ℕ
   pub woven : ℕ
 
 -- A record of the image has all three: `recordImage m i` is `all (ticketPart m i) (updatePart m i) (entriesAt m i)`.
@@ -53,8 +57,11 @@ all k u e = record {
   name = u .name;
   f = record { 0 = u .f };
   last = record { 0 = u .last };
+  top = u .top;
+  past = u .past;
+  height = u .height;
   size = u .size;
-  place = u .place;
+  count = u .count;
   woven = u .woven;
   entries = e;
 }
@@ -74,8 +81,11 @@ partOf ks u place = record {
   name = numbered (u .line) (u .number);
   f = u .f;
   last = toUpdate ks u .last;
+  top = place + rootHeight (u .size);
+  past = halvings (u .f);
+  height = rootHeight (u .size);
   size = u .size;
-  place = place;
+  count = countBy ks u;
   woven = nth noTicket ks (u .ticket) .woven;
 }
 

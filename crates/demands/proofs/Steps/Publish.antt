@@ -8,8 +8,7 @@ use native.Mathlib.Nat.{min-eq-left}
 use native.Mathlib.Decide.{ℕ-discrete}
 use native.Mathlib.Omega.{arith}
 use borrow.Author.Tests.{lt-ltb, le-ltb}
-use lib.ListN.{length, set}
-use Rattle.tree.specs.Tree.{countOf, update}
+use lib.ListN.{length}
 use Rattle.tree.proofs.Meets.{lt-or-le}
 use Rattle.lines.specs.Lines.{numberOf}
 use Rattle.lines.specs.declared.Branch.{Branch}
@@ -25,26 +24,26 @@ use Rattle.model.specs.Calls.{on, PUBLISH, publishedIs, waiting, answers}
 use Rattle.model.specs.History.{updates, complete, due}
 use Rattle.model.specs.Model.{Limits, Model, lineAt, history, numberIn}
 use Rattle.model.specs.OnModel.{lineNumber, published as publishedModel, either, onLine, onModel}
-use Rattle.model.proofs.Tab.{tab-same, tab-set}
+use Rattle.model.proofs.Tab.{tab-same}
 use Rattle.model.proofs.Image.{pagesImage, nodesImage}
 use Rattle.model.proofs.Sound.{Sound}
 use Rattle.model.proofs.Passed.{line-passed}
 use Rattle.model.proofs.Facts.{versions-most}
-use Rattle.model.proofs.Shown.{shownAt, versions-length, version-shown}
+use Rattle.model.proofs.Shown.{shownAt, versions-length, version-shown, update-shown}
 use Rattle.model.proofs.Numbers.{number-is}
 use Rattle.model.proofs.Owner.{owner-own}
 use Rattle.model.proofs.Kept.Publish.{published-this, published-other, published-lines, published-grown}
 use Rattle.demands.specs.Answers.{publishedAnswer}
 use Rattle.demands.specs.Run.{onLineOf, onStore}
-use Rattle.demands.proofs.Image.{ownAt, recordImage, registerImage, branchImage, linesImage, storeImage, areasImage, image}
-use Rattle.demands.proofs.Records.{woven-image}
-use Rattle.demands.proofs.Lines.{lines-in, branch-at, line-in, name-shown}
+use Rattle.demands.proofs.Image.{ownAt, recordImage, registerImage, branchImage, storeImage, areasImage, image}
+use Rattle.demands.proofs.Records.{woven-image, count-image}
+use Rattle.demands.proofs.Lines.{lines-in, line-in, sources-written, words-written, name-shown}
 use Rattle.demands.proofs.Readings.{published-reads}
 use Rattle.demands.proofs.Steps.Numbers.{alike-same, image-number}
 use Rattle.demands.proofs.Steps.States.{leaves, stateOf, state-same}
 use Rattle.demands.proofs.Steps.Parts.{all-same, entries-stay}
 use Rattle.demands.proofs.Steps.Grown.{nodes-grown}
-use Rattle.demands.proofs.Steps.Found.{part-found, update-found}
+use Rattle.demands.proofs.Steps.Found.{part-found}
 
 module _ (L : Limits) (m : Model) (S : Sound L m) (l : ℕ) where
   -- ---- the next version
@@ -98,10 +97,11 @@ module _ (L : Limits) (m : Model) (S : Sound L m) (l : ℕ) where
       let v = suc (lineAt m l .published) in
       let k = shownAt m l v in
       rw (
-        update-found L m S l there v (omega arith) h,
         woven-image L m S k (S .lines l there .some v (omega arith) h) (S .lines l there .most v (omega arith) h),
+        count-image L m S k (S .lines l there .some v (omega arith) h) (S .lines l there .most v (omega arith) h),
         versions-length m l,
         version-shown m l v,
+        update-shown m l v,
       )
 
   due-none : length (lineAt m l .shown) ≤ lineAt m l .published → (q : Part) → dueBy (branchImage m l) q ≡ due (history m l)
@@ -141,16 +141,21 @@ module _ (L : Limits) (m : Model) (S : Sound L m) (l : ℕ) where
     published-nodes = nodes-grown L m (publishedModel L m l) S (published-grown L m l there) refl (λ k o h. refl)
 
     -- The line's state alone moves.
-    published-states : set (linesImage m) l (withPublished (branchImage m l)) ≡ linesImage (publishedModel L m l)
-    unfolding linesImage
-    published-states =
-        let m′ = publishedModel L m l in
-        tab-set 16 (branchImage m) (branchImage m′) l (withPublished (branchImage m l)) (omega (arith, S .few))
-        (λ j z n. rw (published-other L m l there j n))
-        (rw (published-this L m l there))
+    published-state : branchImage (publishedModel L m l) l ≡ withPublished (branchImage m l)
+    published-state = rw (published-this L m l there)
+
+    state-stays : (j : ℕ) → j ≢ l → branchImage m j ≡ branchImage (publishedModel L m l) j
+    state-stays j n = rw (published-other L m l there j n)
 
     published-store : withLine (storeImage L m) l (withPublished (branchImage m l)) ≡ storeImage L (publishedModel L m l)
-    published-store = rw (published-lines L m l there, published-states)
+    published-store =
+        let m′ = publishedModel L m l in
+        let b = withPublished (branchImage m l) in
+        rw (
+          published-lines L m l there,
+          sources-written L m S m′ l b (omega (arith, S .few)) published-state state-stays,
+          words-written L m S m′ l b (omega (arith, S .few)) published-state state-stays,
+        )
 
     published-image : stateOf (withLine (storeImage L m) l (withPublished (lineIn (storeImage L m) l))) (pagesImage L m) (nodesImage L m) (registerImage L m)
         ≡ image L (publishedModel L m l)

@@ -1,28 +1,35 @@
 -- WEAVE on a model's image: the number and the node are the model's, and the areas after are those of the model after.
 -- Assumes nothing.
-use mathlib.Core.Path.{_≡_, refl, sym, ap, ap₂, _∙_}
+use mathlib.Core.Path.{_≡_, refl, sym, ap, _∙_}
+use mathlib.Core.Logic.{inl, inr}
+use mathlib.Core.Bool.{Bool, true, false}
 use mathlib.Core.List.{List}
-use Prim.Native.Nat.{ℕ, zero, suc, pred, _+_, _-_, _*_, _^_, _≤_, _<_}
+use Prim.Native.Nat.{ℕ, zero, suc, pred, _+_, _-_, _*_, _^_, _≤_, _<_, min}
 use native.Mathlib.Nat.{mod-eq-of-lt}
 use native.Mathlib.Omega.{arith}
+use borrow.Author.Tests.{lt-ltb, le-ltb, le-leb, lt-leb, ne-eqb}
 use lib.ListN.{length}
-use Rattle.tree.specs.Tree.{Update, Node, node, countOf, update, newest, rootHeight}
-use Rattle.tree.specs.Place.{kth}
+use Rattle.tree.specs.Tree.{Update, Node, node, countOf, meets, update, newest, rootHeight}
+use Rattle.tree.specs.Place.{first, halvings, kth}
+use Rattle.tree.specs.Walk.{hasNode}
 use Rattle.tree.specs.NodeArea.{withNode}
 use Rattle.tree.proofs.First.{first-leaf}
-use Rattle.tree.proofs.Newest.{newest-le}
+use Rattle.tree.proofs.Meets.{lt-or-le, meets-before, meets-after}
+use Rattle.tree.proofs.Newest.{newest-le, newest-within}
+use Rattle.tree.proofs.Root.{root-low}
 use Rattle.tree.proofs.Walk.{node-has}
-use Rattle.tree.proofs.Weaving.{Inside, weaving-kth, kth-node}
-use Rattle.lines.specs.Lines.{lineOf, versionOf}
-use Rattle.register.specs.Register.{partOf, updateOf, withRecord}
+use Rattle.tree.proofs.Weaving.{Inside, grid-left, grid-right, weaving-kth, kth-node}
+use Rattle.tree.proofs.Whole.{numbered-kth}
+use Rattle.lines.specs.Lines.{pick, lineOf, versionOf}
+use Rattle.register.specs.Register.{partOf, updateOf, placeOf, withRecord}
 use Rattle.register.specs.declared.Record.{Record}
 use Rattle.register.specs.declared.Part.{Part}
 use Rattle.table.specs.Table.{_≤?_, _<?_, _or_, always, unless, weaveRows}
-use Rattle.table.proofs.Table.{Fails}
+use Rattle.table.proofs.Table.{Fails, number-cases, orElse-0, orElse-suc}
 use Rattle.weave.specs.declared.Woven.the-variants as Woven
 use Rattle.versions.specs.declared.Store.{Store}
-use Rattle.versions.specs.Store.{recordOf}
-use Rattle.weave.specs.Weave.{nextNode, nextPlace, leafPast, weaveRefusal, wovenUpdate, wovenRecord, wovenPart, weaveNumber, newestOn, childNumber, kept, leftNumber, rightNumber, firstPage, spanOf, withWoven, nodeOf}
+use Rattle.versions.specs.Store.{lengthsOf, recordOf}
+use Rattle.weave.specs.Weave.{nextNode, nextPlace, leafPast, weaveRefusal, wovenUpdate, wovenRecord, wovenPart, olderNumber, meetsLeft, meetsRight, lostHalf, lostChild, lostBy, weaveNumber, kept, leftNumber, rightNumber, firstPage, spanOf, withWoven, nodeOf}
 use Rattle.model.specs.Calls.{WEAVE, nodeIs, says}
 use Rattle.model.specs.History.{History, pagesOf, taken, updateOf as toUpdate, updates}
 use Rattle.model.specs.Model.{Limits, Model, lineAt, updateAt, history, updateOf as updateIn, numbered, numberIn}
@@ -32,7 +39,7 @@ use Rattle.model.proofs.Image.{pagesImage, nodeOf as nodeIn, nodesImage}
 use Rattle.model.proofs.Sound.{Sound, UpdateSound}
 use Rattle.model.proofs.SoundHistory.{line-history, update-inside}
 use Rattle.model.proofs.Facts.{number-room, pages-end, place-room, versions-most}
-use Rattle.model.proofs.Shown.{versions-length, every-update}
+use Rattle.model.proofs.Shown.{versions-length, complete-whole, every-update}
 use Rattle.model.proofs.Updated.{update-le, update-ticket}
 use Rattle.model.proofs.Owner.{own-version, own-update}
 use Rattle.model.proofs.Numbers.{numbered-is, number-below}
@@ -40,18 +47,21 @@ use Rattle.model.proofs.Passed.{WeavePassed, weave-passed}
 use Rattle.demands.specs.Answers.{wovenAnswer}
 use Rattle.demands.specs.Run.{onStore}
 use Rattle.demands.proofs.Image.{recordImage, registerImage, storeImage, areasImage, image}
-use Rattle.demands.proofs.Records.{record-of, ticket-room, update-room, number-of, own-upto, part-image, update-image, name-image, woven-image, place-image}
+use Rattle.demands.proofs.Records.{record-of, ticket-room, update-room, number-of, own-upto, part-image, update-image, name-image, woven-image, height-image, past-image, count-image, place-image}
 use Rattle.demands.proofs.Readings.{answers-same, woven-reads}
 use Rattle.demands.proofs.Steps.Numbers.{image-number, WeaveReads, weave-alike}
 use Rattle.demands.proofs.Steps.States.{stateOf, state-same}
-use Rattle.demands.proofs.Steps.Children.{newest-on}
+use Rattle.demands.proofs.Steps.Children.{older-newest}
 use Rattle.demands.proofs.Steps.Woven.{woven-store, woven-pages, woven-nodes, woven-register}
 
 -- ---- the node, over any records
 
-next-as : (q : Part) (u : Update) (w : ℕ) → updateOf q ≡ u → q .woven ≡ w → nextNode q ≡ kth (u .f) (u .last) 0 (rootHeight (u .size)) w
+next-as : (q : Part) (u : Update) (w : ℕ) → Inside u → rootHeight (u .size) ≤ 12 → w < countOf u
+    → updateOf q ≡ u → q .height ≡ rootHeight (u .size) → q .past ≡ halvings (u .f) → q .woven ≡ w → nextNode q ≡ kth (u .f) (u .last) 0 (rootHeight (u .size)) w
 unfolding nextNode
-next-as q u w e f = rw (e, f)
+next-as q u w inside low left e h p f =
+    let capped : min (rootHeight (u .size)) 12 ≡ rootHeight (u .size) = omega arith in
+    rw (e, h, p, f, capped) (numbered-kth u inside w low left)
 
 first-same : (x : Node) → firstPage x ≡ pageOf x
 first-same (node a h) = refl
@@ -64,25 +74,69 @@ abbrev LeafIn : Update → ℕ → ℕ → Node → Type 0
 LeafIn u number pages (node p zero) = number + (p - u .f) < pages
 LeafIn u number pages (node p (suc h)) = Unit
 
+-- A node is one of an update's, named by its first page.
+abbrev NodeIn : Update → Node → Type 0
+NodeIn u (node a h) = (first a h ≡ a) × (hasNode u a h ≡ true)
+
 -- A ticket's record r and its update's part q, as version v of a history has them.
-record Reads (s : Store) (rs : List Record) (r : Record) (q : Part) (h : History) (v number : ℕ) : Type 0 where
+record Reads (s : Store) (nodes : List ℕ) (rs : List Record) (r : Record) (q : Part) (h : History) (v number : ℕ) : Type 0 where
   begins : r .number ≡ number
   its : updateOf q ≡ update (updates h) v
-  child : (a k : ℕ) → childNumber s rs (q .name) a k ≡ numberIn h (newest (updates h) v a k)
-  small : (a k : ℕ) → numberIn h (newest (updates h) v a k) < 1048576
+  called : q .name ≡ numberIn h v
+  met : (a k : ℕ) → update (updates h) v .f < a + 2 ^ k → a ≤ update (updates h) v .last → newest (updates h) v a (2 ^ k) ≡ v
+  older : (a k : ℕ) → first a k ≡ a → meets (update (updates h) v .f) (update (updates h) v .last) a (2 ^ k) ≡ false
+      → olderNumber s nodes rs (q .name) a k ≡ numberIn h (newest (updates h) v a (2 ^ k))
+  small : (a k : ℕ) → numberIn h (newest (updates h) v a (2 ^ k)) < 1048576
 
-module _ {s : Store} {rs : List Record} {r : Record} {q : Part} {h : History} {v number : ℕ} (e : Reads s rs r q h v number) (pages : ℕ) (few : pages ≤ 65535) where
+module _ {s : Store} {nodes : List ℕ} {rs : List Record} {r : Record} {q : Part} {h : History} {v number : ℕ} (e : Reads s nodes rs r q h v number) (pages : ℕ) (few : pages ≤ 65535) where
+  abbrev own : Update
+  own = update (updates h) v
+
+  -- The half of a node from page a on: the version's own where its update meets it, and else what was looked for, which is not lost.
+  record Half (a k : ℕ) (b : Bool) : Type 0 where
+    named : pick b (q .name) (olderNumber s nodes rs (q .name) a k) ≡ numberIn h (newest (updates h) v a (2 ^ k))
+    found : lostHalf b (olderNumber s nodes rs (q .name) a k) ≡ false
+
+  half-met : (a k : ℕ) → own .f < a + 2 ^ k → a ≤ own .last → Half a k true
+  half-met a k x y = record { named = e .called ∙ ap (numberIn h) (sym (e .met a k x y)); found = refl }
+
+  half-missed : (a k : ℕ) → first a k ≡ a → meets (own .f) (own .last) a (2 ^ k) ≡ false → Half a k false
+  half-missed a k g x =
+      let o = e .older a k g x in
+      record { named = o; found = ne-eqb (olderNumber s nodes rs (q .name) a k) (2 ^ 64 - 1) (λ z. omega (arith, o, e .small a k)) }
+
+  module _ (p k : ℕ) (i : NodeIn own (node p (suc k))) where
+    left-half : Half p k (meetsLeft q (p + 2 ^ k))
+    left-half =
+        let n = node-has own p (suc k) (i .1) in
+        elim (lt-or-le (own .f) (p + 2 ^ k)) [
+          | inl l ↦ rw (e .its, lt-ltb (own .f) (p + 2 ^ k) l) (half-met p k l (omega (arith, n, i .0)))
+          | inr l ↦ rw (e .its, le-ltb (own .f) (p + 2 ^ k) l) (half-missed p k (grid-left p k (i .0)) (meets-before (own .f) (own .last) p (2 ^ k) l))
+        ]
+
+    right-half : Half (p + 2 ^ k) k (meetsRight q (p + 2 ^ k))
+    right-half =
+        let n = node-has own p (suc k) (i .1) in
+        elim (lt-or-le (own .last) (p + 2 ^ k)) [
+          | inl l ↦ rw (e .its, lt-leb (p + 2 ^ k) (own .last) l) (half-missed (p + 2 ^ k) k (grid-right p k (i .0)) (meets-after (own .f) (own .last) (p + 2 ^ k) (2 ^ k) l))
+          | inr l ↦ rw (e .its, le-leb (p + 2 ^ k) (own .last) l) (half-met (p + 2 ^ k) k (omega (arith, n, i .0)) l)
+        ]
+
   -- A child's number as the node area keeps it.
-  child-kept : (a k : ℕ) → kept (childNumber s rs (q .name) a k) ≡ numberIn h (newest (updates h) v a k)
-  child-kept a k = ap kept (e .child a k) ∙ mod-eq-of-lt (omega (arith, e .small a k))
+  child-kept : (a k : ℕ) (b : Bool) → Half a k b → kept (pick b (q .name) (olderNumber s nodes rs (q .name) a k)) ≡ numberIn h (newest (updates h) v a (2 ^ k))
+  child-kept a k b x = ap kept (x .named) ∙ mod-eq-of-lt (omega (arith, e .small a k))
 
-  left-same : (x : Node) → LeafIn (update (updates h) v) number pages x → leftNumber s rs r q x ≡ leftOf h v number x
-  left-same (node p zero) l = rw (e .begins, e .its) (mod-eq-of-lt (omega arith))
-  left-same (node p (suc k)) l = child-kept p (2 ^ k)
+  left-same : (x : Node) → LeafIn own number pages x → NodeIn own x → leftNumber s nodes rs r q x ≡ leftOf h v number x
+  left-same (node p zero) l i = rw (e .begins, e .its) (mod-eq-of-lt (omega arith))
+  left-same (node p (suc k)) l i = child-kept p k (meetsLeft q (p + 2 ^ k)) (left-half p k i)
 
-  right-same : (x : Node) → rightNumber s rs q x ≡ rightOf h v x
-  right-same (node p zero) = refl
-  right-same (node p (suc k)) = child-kept (p + 2 ^ k) (2 ^ k)
+  right-same : (x : Node) → NodeIn own x → rightNumber s nodes rs q x ≡ rightOf h v x
+  right-same (node p zero) i = refl
+  right-same (node p (suc k)) i = child-kept (p + 2 ^ k) k (meetsRight q (p + 2 ^ k)) (right-half p k i)
+
+  none-lost : (x : Node) → NodeIn own x → lostChild s nodes rs q x ≡ false
+  none-lost (node p zero) i = refl
+  none-lost (node p (suc k)) i = rw (left-half p k i .found, right-half p k i .found)
 
   leaf-fails : s .pages ≡ pages → (x : Node) → LeafIn (update (updates h) v) number pages x → Fails (leafPast s r q x)
   leaf-fails z (node p zero) l = rw (z, e .begins, e .its) l
@@ -112,19 +166,28 @@ module _ (L : Limits) (m : Model) (S : Sound L m) (t : ℕ) (o : 0 < t) (h : t �
     its-name : wovenPart (areasImage L m) t .name ≡ numbered (updateAt m (updateIn m t) .line) (updateAt m (updateIn m t) .number)
     its-name = ap (λ (q : Part). q .name) its-part ∙ name-image L m S (updateIn m t) got (update-le m t)
 
-    its-place : wovenPart (areasImage L m) t .place ≡ firstPlace m (updateIn m t)
-    its-place = ap (λ (q : Part). q .place) its-part ∙ place-image L m S (updateIn m t) got (update-le m t)
+    its-height : wovenPart (areasImage L m) t .height ≡ rootHeight (updateAt m (updateIn m t) .size)
+    its-height = ap (λ (q : Part). q .height) its-part ∙ height-image L m S (updateIn m t) got (update-le m t)
+
+    its-past : wovenPart (areasImage L m) t .past ≡ halvings (updateAt m (updateIn m t) .f)
+    its-past = ap (λ (q : Part). q .past) its-part ∙ past-image L m S (updateIn m t) got (update-le m t)
+
+    its-count : wovenPart (areasImage L m) t .count ≡ countOf (toUpdate (m .tickets) (updateAt m (updateIn m t)))
+    its-count = ap (λ (q : Part). q .count) its-part ∙ count-image L m S (updateIn m t) got (update-le m t)
+
+    its-place : placeOf (wovenPart (areasImage L m) t) ≡ firstPlace m (updateIn m t)
+    its-place = ap placeOf its-part ∙ place-image L m S (updateIn m t) got (update-le m t)
 
   weave-reads :
       let q = wovenPart (areasImage L m) t in
-      WeaveReads t (L .updates) (wovenUpdate (areasImage L m) t) (updateIn m t) (q .woven) (ticketIn m t .woven) (countOf (updateOf q))
+      WeaveReads t (L .updates) (wovenUpdate (areasImage L m) t) (updateIn m t) (q .woven) (ticketIn m t .woven) (q .count)
       (countOf (toUpdate (m .tickets) (updateAt m (updateIn m t))))
   weave-reads = record {
     there = ticket-room L m S t h;
     version = update-is;
     kept = λ z. update-room L m S (updateIn m t) (update-le m t);
     woven = its-woven;
-    count = λ z. ap countOf (its-update z);
+    count = its-count;
   }
 
 -- ---- where the rows pass
@@ -153,23 +216,46 @@ module _ (L : Limits) (m : Model) (S : Sound L m) (t : ℕ) (p : WeavePassed m t
   name-is : part .name ≡ numbered line version
   name-is = its-name L m S t (p .from) (p .upto) (p .assigned)
 
+  number-is : part .name ≡ numberIn (history m line) version
+  number-is = name-is ∙ sym (rw (own-version L m S its (p .assigned) (update-le m t)))
+
   name-sum : part .name ≡ line * 65536 + version
   name-sum = name-is ∙ numbered-is line version (omega (arith, sound .own))
 
-  child-is : (a k : ℕ) → childNumber (storeImage L m) (registerImage L m) (part .name) a k ≡ numberIn (history m line) (newest (updates (history m line)) version a k)
-  child-is a k =
+  -- Not all of its nodes are woven, so that it is not published.
+  late : lineAt m line .published < version
+  late = elim (lt-or-le (lineAt m line .published) version) [
+    | inl l ↦ l
+    | inr l ↦
+        let w = complete-whole m line version (S .lines line (sound .line) .woven version (omega (arith, sound .own)) l) in
+        let k = rw (sound .shown) at w in
+        let same = ap (λ (u : ℕ). ticketIn m u .woven) (update-ticket m t (p .assigned)) in
+        absurd (omega (arith, p .left))
+  ]
+
+  older-is : (a k : ℕ) → first a k ≡ a → meets (update (updates (history m line)) version .f) (update (updates (history m line)) version .last) a (2 ^ k) ≡ false
+      → olderNumber (storeImage L m) (nodesImage L m) (registerImage L m) (part .name) a k ≡ numberIn (history m line) (newest (updates (history m line)) version a (2 ^ k))
+  older-is a k g x =
       let most = versions-most L m S line (sound .line) in
       let l : lineOf (part .name) ≡ line = omega (arith, name-sum, upto) in
       let v : versionOf (part .name) ≡ version = omega (arith, name-sum, upto) in
-      ap₂ (λ (x y : ℕ). newestOn (storeImage L m) (registerImage L m) 16 x y a k) l v
-      ∙ newest-on L m S a k 16 line version (omega (arith, sound .line, S .few)) (sound .line) upto
+      older-newest L m S line version (sound .line) late upto a k g x (part .name) l v
 
-  reads : Reads (storeImage L m) (registerImage L m) (recordOf (areasImage L m) t) part (history m line) version (taken (m .tickets) (pred t))
+  met-is : (a k : ℕ) → update (updates (history m line)) version .f < a + 2 ^ k → a ≤ update (updates (history m line)) version .last
+      → newest (updates (history m line)) version a (2 ^ k) ≡ version
+  met-is a k x y =
+      let n : suc (pred version) ≡ version = omega (arith, sound .own) in
+      rw n at (newest-within (updates (history m line)) (pred version) a (2 ^ k) (rw n x) (rw n y))
+
+  reads : Reads (storeImage L m) (nodesImage L m) (registerImage L m) (recordOf (areasImage L m) t) part (history m line) version (taken (m .tickets) (pred t))
   reads = record {
     begins = number-of L m S t (p .from) (p .upto);
     its = its-update L m S t (p .from) (p .upto) (p .assigned) ∙ sym (own-update L m S its (p .assigned) (update-le m t));
-    child = child-is;
-    small = λ a k. number-below L m S line (newest (updates (history m line)) version a k) (sound .line) (omega (arith, newest-le (updates (history m line)) version a k, upto));
+    called = number-is;
+    met = met-is;
+    older = older-is;
+    small = λ a k.
+        number-below L m S line (newest (updates (history m line)) version a (2 ^ k)) (sound .line) (omega (arith, newest-le (updates (history m line)) version a (2 ^ k), upto));
   }
 
   woven-is : part .woven ≡ ticketIn m t .woven
@@ -189,7 +275,16 @@ module _ (L : Limits) (m : Model) (S : Sound L m) (t : ℕ) (p : WeavePassed m t
   next-node =
       let u = toUpdate (m .tickets) (updateAt m its) in
       let k = ticketIn m t .woven in
-      next-as part u k (its-update L m S t (p .from) (p .upto) (p .assigned)) woven-is ∙ sym (weaving-kth u inside k (p .left))
+      next-as part u k inside (root-low (u .size) (sound .upward)) (p .left) (its-update L m S t (p .from) (p .upto) (p .assigned))
+      (its-height L m S t (p .from) (p .upto) (p .assigned)) (its-past L m S t (p .from) (p .upto) (p .assigned)) woven-is
+      ∙ sym (weaving-kth u inside k (p .left))
+
+  -- It is one of the version's.
+  next-in : (x : Node) → next ≡ x → NodeIn (update (updates (history m line)) version) x
+  next-in (node a k) e =
+      let u = toUpdate (m .tickets) (updateAt m its) in
+      let i = ticketIn m t .woven in
+      rw (own-update L m S its (p .assigned) (update-le m t)) (kth-node u inside i a k (p .left) (sym (weaving-kth u inside i (p .left)) ∙ e))
 
   leaf-low : (x : Node) → next ≡ x → LeafIn (update (updates (history m line)) version) (taken (m .tickets) (pred t)) (L .pages) x
   leaf-low (node a zero) e =
@@ -211,20 +306,20 @@ module _ (L : Limits) (m : Model) (S : Sound L m) (t : ℕ) (p : WeavePassed m t
 
   -- The node's numbers.
   left-node : nodeOf (storeImage L m) (areasImage L m) t .left ≡ leftOf (history m line) version (taken (m .tickets) (pred t)) next
-  left-node = rw next-node (left-same reads (L .pages) (S .allowed .pages) next (leaf-low next refl))
+  left-node = rw next-node (left-same reads (L .pages) (S .allowed .pages) next (leaf-low next refl) (next-in next refl))
 
   right-node : nodeOf (storeImage L m) (areasImage L m) t .right ≡ rightOf (history m line) version next
-  right-node = rw next-node (right-same reads (L .pages) (S .allowed .pages) next)
+  right-node = rw next-node (right-same reads (L .pages) (S .allowed .pages) next (next-in next refl))
 
   rest-node : nodeOf (storeImage L m) (areasImage L m) t .rest ≡ countOf (toUpdate (m .tickets) (updateAt m its)) - suc (ticketIn m t .woven)
-  rest-node = rw (its-update L m S t (p .from) (p .upto) (p .assigned), woven-is)
+  rest-node = rw (its-count L m S t (p .from) (p .upto) (p .assigned), woven-is)
+
+  not-lost : lostChild (storeImage L m) (nodesImage L m) (registerImage L m) part (nextNode part) ≡ false
+  not-lost = rw next-node (none-lost reads (L .pages) (S .allowed .pages) next (next-in next refl))
 
   node-says : wovenAnswer (Woven.Node (nodeOf (storeImage L m) (areasImage L m) t)) ≡ nodeAnswer L m t
-  node-says = λ i. nodeIs (number-node i) (first-node i) (span-node i) (left-node i) (right-node i) (rest-node i)
+  node-says = λ i. nodeIs (number-is i) (first-node i) (span-node i) (left-node i) (right-node i) (rest-node i)
     where
-      number-node : part .name ≡ numberIn (history m line) version
-      number-node = name-is ∙ sym (rw (own-version L m S its (p .assigned) (update-le m t)))
-
       first-node : firstPage (nextNode part) ≡ pageOf next
       first-node = rw next-node (first-same next)
 
@@ -249,9 +344,10 @@ unless-state L m m′ zero nodes register e = e refl
 unless-state L m m′ (suc k) nodes register e = refl
 
 module _ (L : Limits) (m : Model) (S : Sound L m) (t : ℕ) where
-  pub weave-number : weaveNumber (storeImage L m) (areasImage L m) t ≡ modelNumber L m t
+  -- The table's number, before the search.
+  table-number : weaveRefusal (storeImage L m) (lengthsOf (areasImage L m)) (recordOf (areasImage L m) t) (wovenPart (areasImage L m) t) t ≡ modelNumber L m t
   unfolding weaveRefusal
-  weave-number =
+  table-number =
       let a = areasImage L m in
       let s = storeImage L m in
       let k = updateIn m t in
@@ -259,10 +355,10 @@ module _ (L : Limits) (m : Model) (S : Sound L m) (t : ℕ) where
       let q = wovenPart a t in
       let c = countOf (toUpdate (m .tickets) (updateAt m k)) in
       image-number L m S
-      (weaveRows (t ≤? L .updates) (wovenUpdate a t ≤? L .updates) t (length (m .tickets)) (wovenUpdate a t) (q .woven) (countOf (updateOf q)))
+      (weaveRows (t ≤? L .updates) (wovenUpdate a t ≤? L .updates) t (length (m .tickets)) (wovenUpdate a t) (q .woven) (q .count))
       (weaveRows always always t (length (m .tickets)) k (ticketIn m t .woven) c)
       (L .updates <? t or L .updates <? wovenUpdate a t or L .nodes ≤? nextPlace q or leafPast s r q (nextNode q))
-      (weave-alike t (length (m .tickets)) (L .updates) (wovenUpdate a t) k (q .woven) (ticketIn m t .woven) (countOf (updateOf q)) c (weave-reads L m S t))
+      (weave-alike t (length (m .tickets)) (L .updates) (wovenUpdate a t) k (q .woven) (ticketIn m t .woven) (q .count) c (weave-reads L m S t))
       (λ z.
       let p = weave-passed L m t z in
       let e = update-is L m S t (p .from) (p .upto) in
@@ -270,6 +366,13 @@ module _ (L : Limits) (m : Model) (S : Sound L m) (t : ℕ) where
       let count = ap countOf (every-update m k) in
       let low : nextPlace q < L .nodes = omega (arith, next-place L m S t p, p .left) in
       (ticket-room L m S t (p .upto), (omega (arith, update-room L m S k (update-le m t)), (low, leaf-not L m S t p))))
+
+  -- Where the table passes nothing that is looked for is lost.
+  pub weave-number : weaveNumber (storeImage L m) (areasImage L m) t ≡ modelNumber L m t
+  weave-number = elim (number-cases (modelNumber L m t)) [
+    | inl z ↦ orElse-0 _ _ (table-number ∙ z) ∙ ap lostBy (not-lost L m S t (weave-passed L m t z)) ∙ sym z
+    | inr o ↦ orElse-suc _ _ (λ z. omega (arith, table-number)) ∙ table-number
+  ]
 
   state-after : WeavePassed m t
       → stateOf (storeImage L m) (pagesImage L m)

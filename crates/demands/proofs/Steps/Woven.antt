@@ -43,7 +43,18 @@ ltb-other i n d = elim (lt-or-le i n) [
 
 -- An update's part with so many nodes woven.
 abbrev wovenTo : UpdatePart → ℕ → UpdatePart
-wovenTo u k = record { ticket = u .ticket; name = u .name; f = u .f; last = u .last; size = u .size; place = u .place; woven = k }
+wovenTo u k = record {
+  ticket = u .ticket;
+  name = u .name;
+  f = u .f;
+  last = u .last;
+  top = u .top;
+  past = u .past;
+  height = u .height;
+  size = u .size;
+  count = u .count;
+  woven = k;
+}
 
 -- The update of record i is not t's, where t's is another.
 ticket-not : (m : Model) (t i : ℕ) → 0 < t → ((k : ℕ) → 0 < k → k ≤ length (m .updates) → updateAt m k .ticket ≡ t → k ≡ updateOf m t)

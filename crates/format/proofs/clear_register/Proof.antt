@@ -119,7 +119,7 @@ module _ {M : Type 1} (𝓤 : URA M) (H : Heap 𝓤) (A : Atoms 𝓤) (W : Given
         Call-no-record.calls ! mem run (fmOf 𝓤 H (W .laws) 𝓣) known-no-record (no-more !)
         (λ ok·1. land ! (from ! (stop !)) (init ! 4 refl (Record′.typed 𝓤 H A W (r1 register v2 register-now) ok·1)) $
         assigns ! (bin ! (load ! (from ! (stop !)) (look ! 10 refl)) (lit ! tt) record { fits = Record′.scaled (length register) v2 (subst (λ (m : ℕ). v2 < m) (sym (f·1 .1 .0)) (Facts.index-1 register (room·register .0) v2 register-now ((f·1 .0) .1) (f·1 .1 .0) (f·1 .1 .1) (is-true (ltb v2 (length register)) h·1) (ltb→lt v2 (length register) h·1) ok·1)) (room·register .1) }) (from ! (stop !)) (store ! 8 refl (tt, record { fits = Record′.scaled (length register) v2 (subst (λ (m : ℕ). v2 < m) (sym (f·1 .1 .0)) (Facts.index-1 register (room·register .0) v2 register-now ((f·1 .0) .1) (f·1 .1 .0) (f·1 .1 .1) (is-true (ltb v2 (length register)) h·1) (ltb→lt v2 (length register) h·1) ok·1)) (room·register .1) })) $
-        assigns ! (bin ! (load ! (from ! (fld ! refl (stop !))) (look-in ! 12 (sub ! 0 refl (whole !)))) (load ! (from ! (stop !)) (look ! 8 refl)) tt) (from ! (stop !)) (init ! 2 refl (tt, tt)) $ rewrite ! 2 (λ (z : ℕ). ‵ (fat fullShare tyPtr l₆ 0 (vptr b·register z))) (sym (place-is 120 o·register v2)) refl $
+        assigns ! (bin ! (load ! (from ! (fld ! refl (stop !))) (look-in ! 12 (sub ! 0 refl (whole !)))) (load ! (from ! (stop !)) (look ! 8 refl)) tt) (from ! (stop !)) (init ! 2 refl (tt, tt)) $ rewrite ! 2 (λ (z : ℕ). ‵ (fat fullShare tyPtr l₆ 0 (vptr b·register z))) (sym (place-is 144 o·register v2)) refl $
         opens-mut ! tt Record′.row Record′.vals Record′.tells κ·register q·register b·register o·register γ·register (length register) register-now v2 Record′.none (Facts.index-1 register (room·register .0) v2 register-now ((f·1 .0) .1) (f·1 .1 .0) (f·1 .1 .1) (is-true (ltb v2 (length register)) h·1) (ltb→lt v2 (length register) h·1) ok·1) (λ _. assigns ! (of-opd ! (load ! (from ! (stop !)) (look ! 9 refl))) (from ! (hop ! (look ! 7 refl) (stop !))) (store-raw ! 0 refl (Record′.typed 𝓤 H A W (r1 register v2 register-now) ok·1)) $
         puts-mut ! tt Record′.row (Record′.makes 𝓤 H A) κ·register q·register b·register o·register γ·register (length register) register-now v2 (r1 register v2 register-now) (Record′.vals (r1 register v2 register-now)) ok·1 (Facts.index-1 register (room·register .0) v2 register-now ((f·1 .0) .1) (f·1 .1 .0) (f·1 .1 .1) (is-true (ltb v2 (length register)) h·1) (ltb→lt v2 (length register) h·1) ok·1) (f·1 .1 .0) room·register $
         assigns-last ! (bin ! (load ! (from ! (stop !)) (look ! 10 refl)) (lit ! tt) record { fits = Facts.add-1 register (room·register .0) v2 register-now ((f·1 .0) .1) (f·1 .1 .0) (f·1 .1 .1) (is-true (ltb v2 (length register)) h·1) (ltb→lt v2 (length register) h·1) ok·1 (length-set register-now v2 (r1 register v2 register-now)) }) (from ! (stop !)) (store ! 10 refl (tt, record { fits = Facts.add-1 register (room·register .0) v2 register-now ((f·1 .0) .1) (f·1 .1 .0) (f·1 .1 .1) (is-true (ltb v2 (length register)) h·1) (ltb→lt v2 (length register) h·1) ok·1 (length-set register-now v2 (r1 register v2 register-now)) })) $

@@ -97,7 +97,7 @@ module _ {M : Type 1} (𝓤 : URA M) (H : Heap 𝓤) (A : Atoms 𝓤) (W : Given
       (λ h·1. regroup ! $
       assigns ! (bin ! (load ! (from ! (stop !)) (look ! 14 refl)) (lit ! tt) record { fits = Record′.scaled (length register) i (subst (λ (m : ℕ). i < m) (sym (refl)) (Facts.index-1 register i (room·register .0) (ok·i .1) (is-true (ltb i (length register)) h·1) (ltb→lt i (length register) h·1))) (room·register .1) }) (from ! (stop !)) (init ! 6 refl (tt, record { fits = Record′.scaled (length register) i (subst (λ (m : ℕ). i < m) (sym (refl)) (Facts.index-1 register i (room·register .0) (ok·i .1) (is-true (ltb i (length register)) h·1) (ltb→lt i (length register) h·1))) (room·register .1) })) $
       regroup ! $
-      assigns ! (bin ! (load ! (from ! (fld ! refl (stop !))) (look-in ! 16 (sub ! 0 refl (whole !)))) (load ! (from ! (stop !)) (look ! 6 refl)) tt) (from ! (stop !)) (init ! 4 refl (tt, tt)) $ rewrite ! 4 (λ (z : ℕ). ‵ (fat fullShare tyPtr l₇ 0 (vptr b·register z))) (sym (place-is 120 o·register i)) refl $
+      assigns ! (bin ! (load ! (from ! (fld ! refl (stop !))) (look-in ! 16 (sub ! 0 refl (whole !)))) (load ! (from ! (stop !)) (look ! 6 refl)) tt) (from ! (stop !)) (init ! 4 refl (tt, tt)) $ rewrite ! 4 (λ (z : ℕ). ‵ (fat fullShare tyPtr l₇ 0 (vptr b·register z))) (sym (place-is 144 o·register i)) refl $
       regroup ! $
       opens-shr ! tt Record′.row Record′.vals Record′.tells (Record′.copy 𝓤 H A W) κ·register q·register b·register o·register γ·register (length register) register i Record′.none (Facts.index-1 register i (room·register .0) (ok·i .1) (is-true (ltb i (length register)) h·1) (ltb→lt i (length register) h·1)) (λ q′ g·8. assigns ! (of-opd ! (load ! (from ! (hop ! (look ! 9 refl) (stop !))) (look-raw ! 0 refl))) (from ! (stop !)) (init ! 7 refl (Record′.typed 𝓤 H A W (getD register i Record′.none) g·8)) $
       shuts-shr ! tt Record′.row κ·register q·register b·register o·register γ·register (length register) register i Record′.none q′ (Record′.vals (getD register i Record′.none)) (Facts.index-1 register i (room·register .0) (ok·i .1) (is-true (ltb i (length register)) h·1) (ltb→lt i (length register) h·1)) $ assigns ! (of-opd ! (load ! (from ! (stop !)) (look ! 2 refl))) (from ! (stop !)) (init ! 8 refl (Record′.typed 𝓤 H A W (getD register i Record′.none) g·8)) $

@@ -91,7 +91,7 @@ module _ {M : Type 1} (𝓤 : URA M) (H : Heap 𝓤) (A : Atoms 𝓤) (W : Given
       (λ h·1. regroup ! $
       assigns ! (bin ! (load ! (from ! (stop !)) (look ! 12 refl)) (lit ! tt) record { fits = Record′.scaled (length register) i (subst (λ (m : ℕ). i < m) (sym (refl)) (Facts.index-1 register i x-r (room·register .0) (ok·i .1) ok·x-r (is-true (ltb i (length register)) h·1) (ltb→lt i (length register) h·1))) (room·register .1) }) (from ! (stop !)) (init ! 4 refl (tt, record { fits = Record′.scaled (length register) i (subst (λ (m : ℕ). i < m) (sym (refl)) (Facts.index-1 register i x-r (room·register .0) (ok·i .1) ok·x-r (is-true (ltb i (length register)) h·1) (ltb→lt i (length register) h·1))) (room·register .1) })) $
       regroup ! $
-      assigns ! (bin ! (load ! (from ! (fld ! refl (stop !))) (look-in ! 14 (sub ! 0 refl (whole !)))) (load ! (from ! (stop !)) (look ! 4 refl)) tt) (from ! (stop !)) (init ! 2 refl (tt, tt)) $ rewrite ! 2 (λ (z : ℕ). ‵ (fat fullShare tyPtr l₇ 0 (vptr b·register z))) (sym (place-is 120 o·register i)) refl $
+      assigns ! (bin ! (load ! (from ! (fld ! refl (stop !))) (look-in ! 14 (sub ! 0 refl (whole !)))) (load ! (from ! (stop !)) (look ! 4 refl)) tt) (from ! (stop !)) (init ! 2 refl (tt, tt)) $ rewrite ! 2 (λ (z : ℕ). ‵ (fat fullShare tyPtr l₇ 0 (vptr b·register z))) (sym (place-is 144 o·register i)) refl $
       opens-mut ! tt Record′.row Record′.vals Record′.tells κ·register q·register b·register o·register γ·register (length register) register i Record′.none (Facts.index-1 register i x-r (room·register .0) (ok·i .1) ok·x-r (is-true (ltb i (length register)) h·1) (ltb→lt i (length register) h·1)) (λ _. assigns ! (of-opd ! (load ! (from ! (stop !)) (look ! 15 refl))) (from ! (hop ! (look ! 7 refl) (stop !))) (store-raw ! 0 refl (Record′.typed 𝓤 H A W x-r ok·x-r)) $
       puts-mut ! tt Record′.row (Record′.makes 𝓤 H A) κ·register q·register b·register o·register γ·register (length register) register i x-r (Record′.vals x-r) ok·x-r (Facts.index-1 register i x-r (room·register .0) (ok·i .1) ok·x-r (is-true (ltb i (length register)) h·1) (ltb→lt i (length register) h·1)) (refl) room·register $
       assigns ! (of-opd ! (unit-lit !)) (from ! (stop !)) (init ! 16 refl (tt, tt)) $

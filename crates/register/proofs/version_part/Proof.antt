@@ -140,7 +140,7 @@ module _ {M : Type 1} (𝓤 : URA M) (H : Heap 𝓤) (A : Atoms 𝓤) (W : Given
       (λ h·1. regroup ! $
       assigns ! (bin ! (load ! (from ! (stop !)) (look ! 22 refl)) (lit ! tt) record { fits = Record′.scaled (length register) r2 (subst (λ (m : ℕ). r2 < m) (sym (refl)) (Facts.index-1 register c (room·register .0) (ok·c .1) ok·1 r2 (ok·2 .1) says·2 (is-true (ltb r2 (length register)) h·1) (ltb→lt r2 (length register) h·1))) (room·register .1) }) (from ! (stop !)) (init ! 14 refl (tt, record { fits = Record′.scaled (length register) r2 (subst (λ (m : ℕ). r2 < m) (sym (refl)) (Facts.index-1 register c (room·register .0) (ok·c .1) ok·1 r2 (ok·2 .1) says·2 (is-true (ltb r2 (length register)) h·1) (ltb→lt r2 (length register) h·1))) (room·register .1) })) $
       regroup ! $
-      assigns ! (bin ! (load ! (from ! (fld ! refl (stop !))) (look-in ! 28 (sub ! 0 refl (whole !)))) (load ! (from ! (stop !)) (look ! 14 refl)) tt) (from ! (stop !)) (init ! 12 refl (tt, tt)) $ rewrite ! 12 (λ (z : ℕ). ‵ (fat fullShare tyPtr l₉ 0 (vptr b·register z))) (sym (place-is 120 o·register r2)) refl $
+      assigns ! (bin ! (load ! (from ! (fld ! refl (stop !))) (look-in ! 28 (sub ! 0 refl (whole !)))) (load ! (from ! (stop !)) (look ! 14 refl)) tt) (from ! (stop !)) (init ! 12 refl (tt, tt)) $ rewrite ! 12 (λ (z : ℕ). ‵ (fat fullShare tyPtr l₉ 0 (vptr b·register z))) (sym (place-is 144 o·register r2)) refl $
       regroup ! $
       opens-shr ! tt Record′.row Record′.vals Record′.tells (Record′.copy 𝓤 H A W) κ·register q·register b·register o·register γ·register (length register) register r2 Record′.none (Facts.index-1 register c (room·register .0) (ok·c .1) ok·1 r2 (ok·2 .1) says·2 (is-true (ltb r2 (length register)) h·1) (ltb→lt r2 (length register) h·1)) (λ q′ g·10. assigns ! (of-opd ! (load ! (from ! (hop ! (look ! 17 refl) (stop !))) (look-raw ! 0 refl))) (from ! (stop !)) (init ! 15 refl (Record′.typed 𝓤 H A W (getD register r2 Record′.none) g·10)) $
       shuts-shr ! tt Record′.row κ·register q·register b·register o·register γ·register (length register) register r2 Record′.none q′ (Record′.vals (getD register r2 Record′.none)) (Facts.index-1 register c (room·register .0) (ok·c .1) ok·1 r2 (ok·2 .1) says·2 (is-true (ltb r2 (length register)) h·1) (ltb→lt r2 (length register) h·1)) $ regroup ! $
@@ -158,7 +158,7 @@ module _ {M : Type 1} (𝓤 : URA M) (H : Heap 𝓤) (A : Atoms 𝓤) (W : Given
       Call-line-of.calls ! mem run (fmOf 𝓤 H (W .laws) 𝓣) known-line-of c ok·c (and-then ! (load ! (from ! (stop !)) (look ! 27 refl)) (no-more !))
       (λ ok·4. land ! (from ! (stop !)) (init ! 4 refl (Line′.typed 𝓤 H A W (r4 register c r2) ok·4)) $
       regroup ! $
-      Call-entry-at.calls ! mem run (fmOf 𝓤 H (W .laws) 𝓣) known-entry-at ((getD register r2 Record′.none) .entries) (r4 register c r2) (Record′.ok-entries (getD register r2 Record′.none) g·10) ok·4 (and-then ! (load ! (from ! (fld ! refl (stop !))) (look-in ! 21 (sub ! 11 refl (whole !)))) (and-then ! (load ! (from ! (stop !)) (look ! 5 refl)) (no-more !)))
+      Call-entry-at.calls ! mem run (fmOf 𝓤 H (W .laws) 𝓣) known-entry-at ((getD register r2 Record′.none) .entries) (r4 register c r2) (Record′.ok-entries (getD register r2 Record′.none) g·10) ok·4 (and-then ! (load ! (from ! (fld ! refl (stop !))) (look-in ! 21 (sub ! 14 refl (whole !)))) (and-then ! (load ! (from ! (stop !)) (look ! 5 refl)) (no-more !)))
       (λ ok·5. land ! (from ! (stop !)) (init ! 6 refl (tt, record { fits = ok·5 .1 })) $
       regroup ! $
       Call-update-part.calls ! mem run (fmOf 𝓤 H (W .laws) 𝓣) known-update-part κ·register q·register b·register o·register γ·register (length register) register (r5 register c r2) ok·5 (and-then ! (load ! (from ! (stop !)) (look ! 28 refl)) (and-then ! (load ! (from ! (stop !)) (look ! 6 refl)) (no-more !)))

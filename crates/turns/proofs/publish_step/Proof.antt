@@ -48,12 +48,8 @@ use Rattle.versions.specs.declared.Store.{Store}
 use Rattle.versions.proofs.Generated.Kind.Store as Store′
 use Rattle.tree.specs.declared.Ticket.{Ticket}
 use Rattle.register.proofs.Generated.Kind.Ticket as Ticket′
-use Rattle.lines.specs.declared.Branch.{Branch}
-use Rattle.versions.proofs.Generated.Kind.Branch as Branch′
 use Rattle.lines.specs.declared.Line.{Line}
 use Rattle.register.proofs.Generated.Kind.Line as Line′
-use Rattle.tree.specs.declared.Version.{Version}
-use Rattle.register.proofs.Generated.Kind.Version as Version′
 use Rattle.register.specs.declared.Record.{Record}
 use Rattle.register.proofs.Generated.Kind.Record as Record′
 use Rattle.tree.specs.declared.PageIndex.{PageIndex}
@@ -64,6 +60,8 @@ use Rattle.publish.specs.declared.PublishOut.{PublishOut}
 use Rattle.publish.proofs.Generated.Kind.PublishOut as PublishOut′
 use Rattle.publish.specs.declared.Published.{Published}
 use Rattle.publish.proofs.Generated.Kind.Published as Published′
+use Rattle.tree.specs.declared.Version.{Version}
+use Rattle.register.proofs.Generated.Kind.Version as Version′
 use Rattle.register.proofs.Generated.Flow.{ref, MutAt, ShrAt, lend-mut, back-mut, lend-shr, back-shr, branches-on, regroup, skips-on, returns-on, plus-nothing, holds, empty, less-fits, is-true, is-false, differ, above-0, twice-not, switches-to, switches-last, big-lit, here, blocks-on, resume, scaled-2, scaled-4, scaled-8, opens-shr, shuts-shr, opens-mut, shuts-mut, puts-mut, keeps-shr, fills, empties, tyAt}
 use Rattle.turns.proofs.Generated.Say.publish_step as publish-step″
 use Rattle.publish.proofs.Generated.Say.publish as publish″

@@ -4,15 +4,18 @@ use native.Mathlib.Omega.{arith}
 use borrow.Author.Needs.{needs}
 use Rattle.lines.specs.Lines.{numberOf}
 use Rattle.lines.specs.declared.Line.{Line}
-use Rattle.versions.proofs.Own.{own-number}
+use Rattle.versions.proofs.Own.{own-by-word}
 use Rattle.versions.proofs.number_on.Statement.{statement}
 use Rattle.versions.proofs.number_on.Tie as tie
 
-mul-b : tie.Need-mul-b
-mul-b c = search needs
+mul-word : tie.Need-mul-word
+mul-word c = search needs
 
-element-copy-out-b : tie.Need-element-copy-out-b
-element-copy-out-b c = search needs
+array-read-word : tie.Need-array-read-word
+array-read-word c = search needs
+
+field-of-requires : tie.Need-field-of-requires
+field-of-requires c κs = search needs
 
 number-of-requires : tie.Need-number-of-requires
 number-of-requires c κs = search needs
@@ -20,7 +23,7 @@ number-of-requires c κs = search needs
 returns : tie.Need-returns
 returns c =
     let a = c .before .before .before .before .before .before .args in
-    c .number-of .ensures ∙ own-number (a .t1) (a .l .0) (a .v .0) (omega arith)
+    c .number-of .ensures ∙ own-by-word (a .s) (a .l .0) (a .v .0) (omega arith) (omega (arith, c .before .before .before .field-of .ensures))
 
 owner-of-requires : tie.Need-owner-of-requires
 owner-of-requires c κs = search needs
@@ -35,8 +38,9 @@ pub number-on-spec : {M : Type 1} → statement M
 number-on-spec =
     tie.close
     (tie.spec
-    mul-b
-    element-copy-out-b
+    mul-word
+    array-read-word
+    field-of-requires
     number-of-requires
     returns
     owner-of-requires

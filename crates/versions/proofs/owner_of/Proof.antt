@@ -7,11 +7,12 @@ use borrow.Author.Needs.{needs}
 use Rattle.lines.specs.Lines.{ownerFrom}
 use Rattle.lines.specs.declared.Line.{Line}
 use Rattle.lines.proofs.Owner.{from-none, turn-ends, turn-on}
+use Rattle.versions.specs.Store.{lineIn}
 use Rattle.versions.proofs.owner_of.Statement.{statement}
 use Rattle.versions.proofs.owner_of.Tie as tie
 
 abbrev Inv-loop : tie.InvT-loop
-Inv-loop s v at₀ left₀ at left = (ownerFrom left (s .lines) at (v .0) ≡ ownerFrom left₀ (s .lines) at₀ (v .0)) × (left ≤ 15)
+Inv-loop s v at₀ left₀ at left = (ownerFrom left (lineIn s) at (v .0) ≡ ownerFrom left₀ (lineIn s) at₀ (v .0)) × (left ≤ 15)
 
 abbrev μ-loop : tie.MeasureT-loop
 μ-loop s v at₀ left₀ at left = left
@@ -30,7 +31,7 @@ returns c =
     let a = c .before .before .before .before .before .before .args in
     let at = c .before .before .before .before .before .loop in
     let b = c .before .before .before .line-state in
-    ap line (sym (turn-ends (a .s .lines) (at .at) (a .v .0) (b .result) (b .ensures) (at .left) (omega arith) (omega arith)) ∙ at .inv .0)
+    ap line (sym (turn-ends (lineIn (a .s)) (at .at) (a .v .0) (b .result) (b .ensures) (at .left) (omega arith) (omega arith)) ∙ at .inv .0)
 
 smaller-requires : tie.Need-smaller-requires Inv-loop μ-loop
 smaller-requires c κs = search needs
@@ -46,7 +47,7 @@ loop-again c =
     let a = c .before .before .before .before .before .before .before .args in
     let at = c .before .before .before .before .before .before .loop in
     let b = c .before .before .before .before .line-state in
-    (turn-on (a .s .lines) (at .at) (a .v .0) (b .result) (b .ensures) (at .left) _ (omega arith) (omega arith) (c .smaller .ensures) ∙ at .inv .0, omega arith)
+    (turn-on (lineIn (a .s)) (at .at) (a .v .0) (b .result) (b .ensures) (at .left) _ (omega arith) (omega arith) (c .smaller .ensures) ∙ at .inv .0, omega arith)
 
 returns-2 : tie.Need-returns-2 Inv-loop μ-loop
 returns-2 c = ap line (sym (from-none _ _ _ (c .before .loop .left) (omega arith)) ∙ c .before .loop .inv .0)

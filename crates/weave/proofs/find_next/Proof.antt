@@ -53,12 +53,6 @@ use Rattle.versions.specs.declared.Store.{Store}
 use Rattle.versions.proofs.Generated.Kind.Store as Store′
 use Rattle.tree.specs.declared.Ticket.{Ticket}
 use Rattle.register.proofs.Generated.Kind.Ticket as Ticket′
-use Rattle.lines.specs.declared.Branch.{Branch}
-use Rattle.versions.proofs.Generated.Kind.Branch as Branch′
-use Rattle.lines.specs.declared.Line.{Line}
-use Rattle.register.proofs.Generated.Kind.Line as Line′
-use Rattle.tree.specs.declared.Version.{Version}
-use Rattle.register.proofs.Generated.Kind.Version as Version′
 use Rattle.versions.specs.declared.Lengths.{Lengths}
 use Rattle.versions.proofs.Generated.Kind.Lengths as Lengths′
 use Rattle.register.specs.declared.Record.{Record}
@@ -86,11 +80,16 @@ use Rattle.weave.proofs.Generated.Call.weave_plan as Call-weave-plan
 use Rattle.weave.proofs.weave_plan.Symbol as def-weave-plan
 use Rattle.weave.proofs.weave_plan.Symbol.{name as #weave-plan}
 use Rattle.weave.proofs.weave_plan.Met as thm-weave-plan
-use Rattle.weave.proofs.Generated.Say.node_by as node-by″
-use Rattle.weave.proofs.Generated.Call.node_by as Call-node-by
-use Rattle.weave.proofs.node_by.Symbol as def-node-by
-use Rattle.weave.proofs.node_by.Symbol.{name as #node-by}
-use Rattle.weave.proofs.node_by.Met as thm-node-by
+use Rattle.weave.proofs.Generated.Say.far_child as far-child″
+use Rattle.weave.proofs.Generated.Call.far_child as Call-far-child
+use Rattle.weave.proofs.far_child.Symbol as def-far-child
+use Rattle.weave.proofs.far_child.Symbol.{name as #far-child}
+use Rattle.weave.proofs.far_child.Met as thm-far-child
+use Rattle.weave.proofs.Generated.Say.found_by as found-by″
+use Rattle.weave.proofs.Generated.Call.found_by as Call-found-by
+use Rattle.weave.proofs.found_by.Symbol as def-found-by
+use Rattle.weave.proofs.found_by.Symbol.{name as #found-by}
+use Rattle.weave.proofs.found_by.Met as thm-found-by
 use Rattle.weave.proofs.find_next.Key.{name as #self}
 use Rattle.weave.proofs.find_next as find-next‴
 use Rattle.weave.proofs.find_next.Statement as stated
@@ -99,56 +98,59 @@ use Rattle.weave.proofs.find_next.Proof.Facts as Facts
 use Rattle.weave.proofs.find_next.Proof.Asks.{r1, r2}
 
 abbrev stayed : Stays (find-next‴.ended .signature .params) (find-next‴.ended .kept)
-stayed = (stay-none (λ _. Store′.row) yes, (stay-none (λ _. Lengths′.row) yes, (stay-none-slice (0 ∷ []) tt (plain (λ _. Record′.row)) yes, (stay-none (λ _. Ticket′.row) yes, tt))))
+stayed = (stay-none (λ _. Store′.row) yes, (stay-none (λ _. Lengths′.row) yes, (stay-none-slice (0 ∷ []) tt (plain (λ _. u32)) yes, (stay-none-slice (1 ∷ []) tt (plain (λ _. Record′.row)) yes, (stay-none (λ _. Ticket′.row) yes, tt)))))
 
-module _ {M : Type 1} (𝓤 : URA M) (H : Heap 𝓤) (A : Atoms 𝓤) (W : Given 𝓤 H A) (mem : Memory → SProp 𝓤) (run : Routine → Fun 𝓤) (s : Store) (g : Lengths) (κ·register : Lft) (q·register : Share) (b·register o·register : ℕ) (γ·register : GName) (register : List Record) (x-t : Ticket) (ok·s : Is Store′.row s (Store′.vals s)) (ok·g : Is Lengths′.row g (Lengths′.vals g)) (room·register : Room Record′.row (length register)) (ok·x-t : Is Ticket′.row x-t (Ticket′.vals x-t)) where
-  abbrev all-args : Args find-next‴.signature (κ·register, tt)
-  all-args = (s, (g, (ref b·register o·register γ·register register, (x-t, tt))))
+module _ {M : Type 1} (𝓤 : URA M) (H : Heap 𝓤) (A : Atoms 𝓤) (W : Given 𝓤 H A) (mem : Memory → SProp 𝓤) (run : Routine → Fun 𝓤) (s : Store) (g : Lengths) (κ·nodes : Lft) (q·nodes : Share) (b·nodes o·nodes : ℕ) (γ·nodes : GName) (nodes : List ℕ) (κ·register : Lft) (q·register : Share) (b·register o·register : ℕ) (γ·register : GName) (register : List Record) (x-t : Ticket) (ok·s : Is Store′.row s (Store′.vals s)) (ok·g : Is Lengths′.row g (Lengths′.vals g)) (room·nodes : Room u32 (length nodes)) (room·register : Room Record′.row (length register)) (ok·x-t : Is Ticket′.row x-t (Ticket′.vals x-t)) where
+  abbrev all-args : Args find-next‴.signature (κ·nodes, (κ·register, tt))
+  all-args = (s, (g, (ref b·nodes o·nodes γ·nodes nodes, (ref b·register o·register γ·register register, (x-t, tt)))))
 
-  abbrev all-vals : Vals find-next‴.signature (κ·register, tt)
-  all-vals = (Store′.mach s ∷ [], (Lengths′.mach g ∷ [], (sliceVal (b·register, o·register) (length register) ∷ [], (Ticket′.mach x-t ∷ [], tt))))
+  abbrev all-vals : Vals find-next‴.signature (κ·nodes, (κ·register, tt))
+  all-vals = (Store′.mach s ∷ [], (Lengths′.mach g ∷ [], (sliceVal (b·nodes, o·nodes) (length nodes) ∷ [], (sliceVal (b·register, o·register) (length register) ∷ [], (Ticket′.mach x-t ∷ [], tt)))))
 
   abbrev bound : walkOf 𝓤 H A find-next‴.ended stayed (find-next‴.clauses 𝓤 H A mem run) .Ghost
-  bound = (((κ·register, tt), (q·register, tt), tt, all-args, all-vals), tt)
+  bound = (((κ·nodes, (κ·register, tt)), (q·nodes, (q·register, tt)), tt, all-args, all-vals), tt)
 
   abbrev Post : Val → SProp 𝓤
   Post = walkOf 𝓤 H A find-next‴.ended stayed (find-next‴.clauses 𝓤 H A mem run) .post bound
 
-  exits : (r : Found) → Is Found′.row r (Found′.vals r) → find-next″.ens s g register x-t r → ent 𝓤 (⋆ 𝓤 H A (‵ (flft κ·register q·register) ∷ ‵ (ShrAt Record′.row κ·register b·register o·register γ·register (length register) register) ∷ [])) (Post (Found′.mach r))
+  exits : (r : Found) → Is Found′.row r (Found′.vals r) → find-next″.ens s g nodes register x-t r → ent 𝓤 (⋆ 𝓤 H A (‵ (flft κ·nodes q·nodes) ∷ ‵ (ShrAt u32 κ·nodes b·nodes o·nodes γ·nodes (length nodes) nodes) ∷ ‵ (flft κ·register q·register) ∷ ‵ (ShrAt Record′.row κ·register b·register o·register γ·register (length register) register) ∷ [])) (Post (Found′.mach r))
   exits r ok·r said =
-      qed W (‵ (flft κ·register q·register) ∷ ‵ (ShrAt Record′.row κ·register b·register o·register γ·register (length register) register) ∷ []) ∵ suffices ! _ (ends-at 𝓤 H A find-next‴.ended stayed (find-next‴.clauses 𝓤 H A mem run) W bound (Found′.mach r) r (tt, (tt, (tt, (tt, tt)))) (tt, (tt, (tt, (tt, tt))))) $ says ! said $
-      nothing ! $ move ! (1 ∷ 0 ∷ []) $ join ! $ frame ! $ nothing ! $ owned ! Ticket′.row (Is Ticket′.row) (Ticket′.makes 𝓤 H A) x-t _ ok·x-t $ fjoin ! $ move ! (1 ∷ 0 ∷ []) $ fjoin ! $ owned ! Lengths′.row (Is Lengths′.row) (Lengths′.makes 𝓤 H A) g _ ok·g $ fjoin ! $ owned ! Store′.row (Is Store′.row) (Store′.makes 𝓤 H A) s _ ok·s $ fjoin ! $ frame ! $ owned ! Found′.row (Is Found′.row) (Found′.makes 𝓤 H A) r _ ok·r $ done !
+      qed W (‵ (flft κ·nodes q·nodes) ∷ ‵ (ShrAt u32 κ·nodes b·nodes o·nodes γ·nodes (length nodes) nodes) ∷ ‵ (flft κ·register q·register) ∷ ‵ (ShrAt Record′.row κ·register b·register o·register γ·register (length register) register) ∷ []) ∵ suffices ! _ (ends-at 𝓤 H A find-next‴.ended stayed (find-next‴.clauses 𝓤 H A mem run) W bound (Found′.mach r) r (tt, (tt, (tt, (tt, (tt, tt))))) (tt, (tt, (tt, (tt, (tt, tt)))))) $ says ! said $
+      nothing ! $ move ! (3 ∷ 0 ∷ []) $ join ! $ move ! (1 ∷ 0 ∷ []) $ join ! $ frame ! $ nothing ! $ owned ! Ticket′.row (Is Ticket′.row) (Ticket′.makes 𝓤 H A) x-t _ ok·x-t $ fjoin ! $ move ! (2 ∷ 0 ∷ []) $ fjoin ! $ move ! (1 ∷ 0 ∷ []) $ fjoin ! $ owned ! Lengths′.row (Is Lengths′.row) (Lengths′.makes 𝓤 H A) g _ ok·g $ fjoin ! $ owned ! Store′.row (Is Store′.row) (Store′.makes 𝓤 H A) s _ ok·s $ fjoin ! $ frame ! $ owned ! Found′.row (Is Found′.row) (Found′.makes 𝓤 H A) r _ ok·r $ done !
 
-  walk : (𝓣 : Tables 𝓤 H) (known-ticket-record : Triple 𝓤 (𝓣 .C #ticket-record) (Call-ticket-record.Asked 𝓤 H A mem run)) (known-update-part : Triple 𝓤 (𝓣 .C #update-part) (Call-update-part.Asked 𝓤 H A mem run)) (known-weave-plan : Triple 𝓤 (𝓣 .C #weave-plan) (Call-weave-plan.Asked 𝓤 H A mem run)) (known-node-by : Triple 𝓤 (𝓣 .C #node-by) (Call-node-by.Asked 𝓤 H A mem run)) → ent 𝓤 (onEntry 𝓤 H A find-next‴.signature (κ·register, tt) (q·register, tt) all-args all-vals)
-      (WpFn 𝓤 H (𝓣 .C) (𝓣 .Λ) code.function (Store′.mach s ∷ Lengths′.mach g ∷ sliceVal (b·register, o·register) (length register) ∷ Ticket′.mach x-t ∷ []) Post)
-  walk 𝓣 known-ticket-record known-update-part known-weave-plan known-node-by =
-      qed W ((‵ (flft κ·register q·register) ⊛ ‵ ftrue) ∷ ‵ (owns (Store′.row ∷ Lengths′.row ∷ ShrSlice (named 0) κ·register Record′.row ∷ Ticket′.row ∷ []) all-args all-vals) ∷ []) ∵ enter ! (𝓣 .C) (𝓣 .Λ) code.function (Store′.mach s ∷ Lengths′.mach g ∷ sliceVal (b·register, o·register) (length register) ∷ Ticket′.mach x-t ∷ []) _ $
-      alloc1 ! (λ l₀. alloc1 ! (λ l₁. alloc1 ! (λ l₂. alloc1 ! (λ l₃. alloc1 ! (λ l₄. alloc1 ! (λ l₅. alloc1 ! (λ l₆. alloc1 ! (λ l₇. alloc1 ! (λ l₈. alloc1 ! (λ l₉. alloc0 ! $ params1 ! $
-      pass1 ! (init ! 16 refl (Store′.typed 𝓤 H A W s ok·s)) $ pass1 ! (init ! 14 refl (Lengths′.typed 𝓤 H A W g ok·g)) $ pass1 ! (init ! 12 refl (tt, (tt, (record { fits = room·register .0 }, tt)))) $ pass1 ! (init ! 10 refl (Ticket′.typed 𝓤 H A W x-t ok·x-t)) $ pass0 ! $
-      move ! (21 ∷ []) $ fsplit ! $ drop ! $ fsplit ! $ drop ! $ fsplit ! $ move ! (1 ∷ []) $ fsplit ! $ drop ! $ drop ! $ move ! (21 ∷ []) $ split ! $ move ! (1 ∷ []) $ drop ! $
-      Call-ticket-record.calls ! mem run (fmOf 𝓤 H (W .laws) 𝓣) known-ticket-record κ·register q·register b·register o·register γ·register (length register) register x-t ok·x-t (and-then ! (load ! (from ! (stop !)) (look ! 14 refl)) (and-then ! (load ! (from ! (stop !)) (look ! 12 refl)) (no-more !)))
-      (λ ok·1. land ! (from ! (stop !)) (init ! 10 refl (Record′.typed 𝓤 H A W (r1 s g register x-t) ok·1)) $
-      assigns ! (of-opd ! (load ! (from ! (fld ! refl (stop !))) (look-in ! 10 (sub ! 3 refl (whole !))))) (from ! (stop !)) (init ! 8 refl (tt, record { fits = (Record′.ok-update (r1 s g register x-t) ok·1) .1 })) $
-      Call-update-part.calls ! mem run (fmOf 𝓤 H (W .laws) 𝓣) known-update-part κ·register q·register b·register o·register γ·register (length register) register ((r1 s g register x-t) .update) (Record′.ok-update (r1 s g register x-t) ok·1) (and-then ! (load ! (from ! (stop !)) (look ! 14 refl)) (and-then ! (load ! (from ! (stop !)) (look ! 8 refl)) (no-more !)))
-      (λ ok·2. land ! (from ! (stop !)) (init ! 6 refl (Part′.typed 𝓤 H A W (r2 s g register x-t) ok·2)) $
-      Call-weave-plan.calls ! mem run (fmOf 𝓤 H (W .laws) 𝓣) known-weave-plan s g (r1 s g register x-t) (r2 s g register x-t) x-t ok·s ok·g ok·1 ok·2 ok·x-t (and-then ! (load ! (from ! (stop !)) (look ! 19 refl)) (and-then ! (load ! (from ! (stop !)) (look ! 17 refl)) (and-then ! (load ! (from ! (stop !)) (look ! 11 refl)) (and-then ! (load ! (from ! (stop !)) (look ! 7 refl)) (and-then ! (load ! (from ! (stop !)) (look ! 13 refl)) (no-more !))))))
-      (λ r3 ok·3 says·3. land ! (from ! (stop !)) (init ! 4 refl (Plan′.typed 𝓤 H A W r3 ok·3)) $
-      Call-node-by.calls ! mem run (fmOf 𝓤 H (W .laws) 𝓣) known-node-by s κ·register q·register b·register o·register γ·register (length register) register (r1 s g register x-t) (r2 s g register x-t) r3 ok·s ok·1 ok·2 ok·3 (Facts.node-by-1 s g register x-t ok·s ok·g (room·register .0) ok·x-t ok·1 ok·2 r3 ok·3 says·3) (and-then ! (load ! (from ! (stop !)) (look ! 18 refl)) (and-then ! (load ! (from ! (stop !)) (look ! 14 refl)) (and-then ! (load ! (from ! (stop !)) (look ! 10 refl)) (and-then ! (load ! (from ! (stop !)) (look ! 6 refl)) (and-then ! (load ! (from ! (stop !)) (look ! 4 refl)) (no-more !))))))
-      (λ r4 ok·4 says·4. land ! (from ! (stop !)) (init ! 2 refl (WovenNode′.typed 𝓤 H A W r4 ok·4)) $
-      assigns ! (agg ! (and-then ! (load ! (from ! (fld ! refl (stop !))) (look-in ! 4 (sub ! 0 refl (whole !)))) (and-then ! (load ! (from ! (stop !)) (look ! 8 refl)) (and-then ! (load ! (from ! (stop !)) (look ! 6 refl)) (and-then ! (load ! (from ! (stop !)) (look ! 2 refl)) (no-more !)))))) (from ! (stop !)) (init ! 20 refl (Found′.typed 𝓤 H A W (Found′.build (r3 .k) ((r1 s g register x-t) .update) (r2 s g register x-t) r4) (Found′.make (r3 .k) ((r1 s g register x-t) .update) (r2 s g register x-t) r4 (Plan′.ok-k r3 ok·3) (Record′.ok-update (r1 s g register x-t) ok·1) ok·2 ok·4))) $
-      returns ! (look ! 20 refl) $
-      move ! (20 ∷ 21 ∷ []) $ forget ! 0 refl $ free1 ! $ move ! (18 ∷ 19 ∷ []) $ forget ! 0 refl $ free1 ! $ move ! (16 ∷ 17 ∷ []) $ forget ! 0 refl $ free1 ! $ move ! (14 ∷ 15 ∷ []) $ forget ! 0 refl $ free1 ! $ move ! (12 ∷ 13 ∷ []) $ forget ! 0 refl $ free1 ! $ move ! (10 ∷ 11 ∷ []) $ forget ! 0 refl $ free1 ! $ move ! (8 ∷ 9 ∷ []) $ forget ! 0 refl $ free1 ! $ move ! (6 ∷ 7 ∷ []) $ forget ! 0 refl $ free1 ! $ move ! (4 ∷ 5 ∷ []) $ forget ! 0 refl $ free1 ! $ move ! (2 ∷ 3 ∷ []) $ forget ! 0 refl $ free1 ! $ free0 ! $ by ! (exits (Found′.build (r3 .k) ((r1 s g register x-t) .update) (r2 s g register x-t) r4) (Found′.make (r3 .k) ((r1 s g register x-t) .update) (r2 s g register x-t) r4 (Plan′.ok-k r3 ok·3) (Record′.ok-update (r1 s g register x-t) ok·1) ok·2 ok·4) (Facts.exit-1 s g register x-t ok·s ok·g (room·register .0) ok·x-t ok·1 ok·2 r3 ok·3 says·3 r4 ok·4 says·4))))))))))))))))
+  walk : (𝓣 : Tables 𝓤 H) (known-ticket-record : Triple 𝓤 (𝓣 .C #ticket-record) (Call-ticket-record.Asked 𝓤 H A mem run)) (known-update-part : Triple 𝓤 (𝓣 .C #update-part) (Call-update-part.Asked 𝓤 H A mem run)) (known-weave-plan : Triple 𝓤 (𝓣 .C #weave-plan) (Call-weave-plan.Asked 𝓤 H A mem run)) (known-far-child : Triple 𝓤 (𝓣 .C #far-child) (Call-far-child.Asked 𝓤 H A mem run)) (known-found-by : Triple 𝓤 (𝓣 .C #found-by) (Call-found-by.Asked 𝓤 H A mem run)) → ent 𝓤 (onEntry 𝓤 H A find-next‴.signature (κ·nodes, (κ·register, tt)) (q·nodes, (q·register, tt)) all-args all-vals)
+      (WpFn 𝓤 H (𝓣 .C) (𝓣 .Λ) code.function (Store′.mach s ∷ Lengths′.mach g ∷ sliceVal (b·nodes, o·nodes) (length nodes) ∷ sliceVal (b·register, o·register) (length register) ∷ Ticket′.mach x-t ∷ []) Post)
+  walk 𝓣 known-ticket-record known-update-part known-weave-plan known-far-child known-found-by =
+      qed W ((‵ (flft κ·nodes q·nodes) ⊛ ‵ (flft κ·register q·register) ⊛ ‵ ftrue) ∷ ‵ (owns (Store′.row ∷ Lengths′.row ∷ ShrSlice (named 0) κ·nodes u32 ∷ ShrSlice (named 0) κ·register Record′.row ∷ Ticket′.row ∷ []) all-args all-vals) ∷ []) ∵ enter ! (𝓣 .C) (𝓣 .Λ) code.function (Store′.mach s ∷ Lengths′.mach g ∷ sliceVal (b·nodes, o·nodes) (length nodes) ∷ sliceVal (b·register, o·register) (length register) ∷ Ticket′.mach x-t ∷ []) _ $
+      alloc1 ! (λ l₀. alloc1 ! (λ l₁. alloc1 ! (λ l₂. alloc1 ! (λ l₃. alloc1 ! (λ l₄. alloc1 ! (λ l₅. alloc1 ! (λ l₆. alloc1 ! (λ l₇. alloc1 ! (λ l₈. alloc1 ! (λ l₉. alloc1 ! (λ l₁₀. alloc0 ! $ params1 ! $
+      pass1 ! (init ! 18 refl (Store′.typed 𝓤 H A W s ok·s)) $ pass1 ! (init ! 16 refl (Lengths′.typed 𝓤 H A W g ok·g)) $ pass1 ! (init ! 14 refl (tt, (tt, (record { fits = room·nodes .0 }, tt)))) $ pass1 ! (init ! 12 refl (tt, (tt, (record { fits = room·register .0 }, tt)))) $ pass1 ! (init ! 10 refl (Ticket′.typed 𝓤 H A W x-t ok·x-t)) $ pass0 ! $
+      move ! (23 ∷ []) $ fsplit ! $ drop ! $ fsplit ! $ drop ! $ fsplit ! $ move ! (1 ∷ []) $ fsplit ! $ move ! (1 ∷ []) $ fsplit ! $ drop ! $ drop ! $ move ! (24 ∷ []) $ split ! $ move ! (1 ∷ []) $ split ! $ move ! (1 ∷ []) $ drop ! $ move ! (1 ∷ 3 ∷ 0 ∷ 2 ∷ []) $
+      move ! (2 ∷ 3 ∷ []) $
+      Call-ticket-record.calls ! mem run (fmOf 𝓤 H (W .laws) 𝓣) known-ticket-record κ·register q·register b·register o·register γ·register (length register) register x-t ok·x-t (and-then ! (load ! (from ! (stop !)) (look ! 16 refl)) (and-then ! (load ! (from ! (stop !)) (look ! 14 refl)) (no-more !)))
+      (λ ok·1. move ! (2 ∷ 3 ∷ 0 ∷ 1 ∷ []) $ land ! (from ! (stop !)) (init ! 12 refl (Record′.typed 𝓤 H A W (r1 s g nodes register x-t) ok·1)) $
+      assigns ! (of-opd ! (load ! (from ! (fld ! refl (stop !))) (look-in ! 12 (sub ! 3 refl (whole !))))) (from ! (stop !)) (init ! 10 refl (tt, record { fits = (Record′.ok-update (r1 s g nodes register x-t) ok·1) .1 })) $
+      move ! (2 ∷ 3 ∷ []) $
+      Call-update-part.calls ! mem run (fmOf 𝓤 H (W .laws) 𝓣) known-update-part κ·register q·register b·register o·register γ·register (length register) register ((r1 s g nodes register x-t) .update) (Record′.ok-update (r1 s g nodes register x-t) ok·1) (and-then ! (load ! (from ! (stop !)) (look ! 16 refl)) (and-then ! (load ! (from ! (stop !)) (look ! 10 refl)) (no-more !)))
+      (λ ok·2. move ! (2 ∷ 3 ∷ 0 ∷ 1 ∷ []) $ land ! (from ! (stop !)) (init ! 8 refl (Part′.typed 𝓤 H A W (r2 s g nodes register x-t) ok·2)) $
+      Call-weave-plan.calls ! mem run (fmOf 𝓤 H (W .laws) 𝓣) known-weave-plan s g (r1 s g nodes register x-t) (r2 s g nodes register x-t) x-t ok·s ok·g ok·1 ok·2 ok·x-t (and-then ! (load ! (from ! (stop !)) (look ! 23 refl)) (and-then ! (load ! (from ! (stop !)) (look ! 21 refl)) (and-then ! (load ! (from ! (stop !)) (look ! 13 refl)) (and-then ! (load ! (from ! (stop !)) (look ! 9 refl)) (and-then ! (load ! (from ! (stop !)) (look ! 15 refl)) (no-more !))))))
+      (λ r3 ok·3 says·3. land ! (from ! (stop !)) (init ! 6 refl (Plan′.typed 𝓤 H A W r3 ok·3)) $
+      Call-far-child.calls ! mem run (fmOf 𝓤 H (W .laws) 𝓣) known-far-child s κ·nodes q·nodes b·nodes o·nodes γ·nodes (length nodes) nodes κ·register q·register b·register o·register γ·register (length register) register ((r2 s g nodes register x-t) .name) (r3 .first) (r3 .span) ok·s (Part′.ok-name (r2 s g nodes register x-t) ok·2) (Plan′.ok-first r3 ok·3) (Plan′.ok-span r3 ok·3) (Facts.far-child-1 s g nodes register x-t ok·s ok·g (room·nodes .0) (room·register .0) ok·x-t ok·1 ok·2 r3 ok·3 says·3) (and-then ! (load ! (from ! (stop !)) (look ! 21 refl)) (and-then ! (load ! (from ! (stop !)) (look ! 17 refl)) (and-then ! (load ! (from ! (stop !)) (look ! 15 refl)) (and-then ! (load ! (from ! (fld ! refl (stop !))) (look-in ! 7 (sub ! 0 refl (whole !)))) (and-then ! (load ! (from ! (fld ! refl (stop !))) (look-in ! 5 (sub ! 4 refl (whole !)))) (and-then ! (load ! (from ! (fld ! refl (stop !))) (look-in ! 5 (sub ! 5 refl (whole !)))) (no-more !)))))))
+      (λ r4 ok·4 says·4. land ! (from ! (stop !)) (init ! 4 refl (tt, record { fits = ok·4 .1 })) $
+      Call-found-by.calls ! mem run (fmOf 𝓤 H (W .laws) 𝓣) known-found-by (r1 s g nodes register x-t) (r2 s g nodes register x-t) ((r1 s g nodes register x-t) .update) r3 r4 ok·1 ok·2 (Record′.ok-update (r1 s g nodes register x-t) ok·1) ok·3 ok·4 (Facts.found-by-1 s g nodes register x-t ok·s ok·g (room·nodes .0) (room·register .0) ok·x-t ok·1 ok·2 r3 ok·3 says·3 r4 (ok·4 .1) says·4) (and-then ! (load ! (from ! (stop !)) (look ! 13 refl)) (and-then ! (load ! (from ! (stop !)) (look ! 9 refl)) (and-then ! (load ! (from ! (stop !)) (look ! 11 refl)) (and-then ! (load ! (from ! (stop !)) (look ! 7 refl)) (and-then ! (load ! (from ! (stop !)) (look ! 5 refl)) (no-more !))))))
+      (λ r5 ok·5 says·5. land ! (from ! (stop !)) (init ! 24 refl (Found′.typed 𝓤 H A W r5 ok·5)) $
+      returns ! (look ! 24 refl) $
+      move ! (24 ∷ 25 ∷ []) $ forget ! 0 refl $ free1 ! $ move ! (22 ∷ 23 ∷ []) $ forget ! 0 refl $ free1 ! $ move ! (20 ∷ 21 ∷ []) $ forget ! 0 refl $ free1 ! $ move ! (18 ∷ 19 ∷ []) $ forget ! 0 refl $ free1 ! $ move ! (16 ∷ 17 ∷ []) $ forget ! 0 refl $ free1 ! $ move ! (14 ∷ 15 ∷ []) $ forget ! 0 refl $ free1 ! $ move ! (12 ∷ 13 ∷ []) $ forget ! 0 refl $ free1 ! $ move ! (10 ∷ 11 ∷ []) $ forget ! 0 refl $ free1 ! $ move ! (8 ∷ 9 ∷ []) $ forget ! 0 refl $ free1 ! $ move ! (6 ∷ 7 ∷ []) $ forget ! 0 refl $ free1 ! $ move ! (4 ∷ 5 ∷ []) $ forget ! 0 refl $ free1 ! $ free0 ! $ by ! (exits r5 ok·5 (Facts.exit-1 s g nodes register x-t ok·s ok·g (room·nodes .0) (room·register .0) ok·x-t ok·1 ok·2 r3 ok·3 says·3 r4 (ok·4 .1) says·4 r5 ok·5 says·5))))))))))))))))))
 
 module _ {M : Type 1} (𝓤 : URA M) (H : Heap 𝓤) (A : Atoms 𝓤) (W : Given 𝓤 H A) (mem : Memory → SProp 𝓤) (run : Routine → Fun 𝓤) where
-  walks : (𝓣 : Tables 𝓤 H) → Triple 𝓤 (𝓣 .C #ticket-record) (Call-ticket-record.Asked 𝓤 H A mem run) → Triple 𝓤 (𝓣 .C #update-part) (Call-update-part.Asked 𝓤 H A mem run) → Triple 𝓤 (𝓣 .C #weave-plan) (Call-weave-plan.Asked 𝓤 H A mem run) → Triple 𝓤 (𝓣 .C #node-by) (Call-node-by.Asked 𝓤 H A mem run) → Walks 𝓤 H A find-next‴.ended stayed (WpFn 𝓤 H (𝓣 .C) (𝓣 .Λ) code.function) (find-next‴.clauses 𝓤 H A mem run)
-  walks 𝓣 known-ticket-record known-update-part known-weave-plan known-node-by = walked 𝓤 H A find-next‴.ended stayed (find-next‴.clauses 𝓤 H A mem run) (WpFn 𝓤 H (𝓣 .C) (𝓣 .Λ) code.function) (λ κs. (Store′.vals, (Lengths′.vals, (slice-vals, (Ticket′.vals, tt))))) (λ κs. (Store′.tells, (Lengths′.tells, (shr-slice-tells (named 0) (κs .0) Record′.row, (Ticket′.tells, tt)))))
-      (λ κs qs bounds a g are. via 𝓤 _ (fst∗ 𝓤 _ (emp 𝓤)) (walk 𝓤 H A W mem run (a .0) (a .1 .0) (κs .0) (qs .0) (a .1 .1 .0 .ptr .0) (a .1 .1 .0 .ptr .1) (a .1 .1 .0 .name) (a .1 .1 .0 .now) (a .1 .1 .1 .0) (are .0) (are .1 .0) (are .1 .1 .0 .0 .1) (are .1 .1 .1 .0) 𝓣 known-ticket-record known-update-part known-weave-plan known-node-by))
+  walks : (𝓣 : Tables 𝓤 H) → Triple 𝓤 (𝓣 .C #ticket-record) (Call-ticket-record.Asked 𝓤 H A mem run) → Triple 𝓤 (𝓣 .C #update-part) (Call-update-part.Asked 𝓤 H A mem run) → Triple 𝓤 (𝓣 .C #weave-plan) (Call-weave-plan.Asked 𝓤 H A mem run) → Triple 𝓤 (𝓣 .C #far-child) (Call-far-child.Asked 𝓤 H A mem run) → Triple 𝓤 (𝓣 .C #found-by) (Call-found-by.Asked 𝓤 H A mem run) → Walks 𝓤 H A find-next‴.ended stayed (WpFn 𝓤 H (𝓣 .C) (𝓣 .Λ) code.function) (find-next‴.clauses 𝓤 H A mem run)
+  walks 𝓣 known-ticket-record known-update-part known-weave-plan known-far-child known-found-by = walked 𝓤 H A find-next‴.ended stayed (find-next‴.clauses 𝓤 H A mem run) (WpFn 𝓤 H (𝓣 .C) (𝓣 .Λ) code.function) (λ κs. (Store′.vals, (Lengths′.vals, (slice-vals, (slice-vals, (Ticket′.vals, tt)))))) (λ κs. (Store′.tells, (Lengths′.tells, (shr-slice-tells (named 0) (κs .0) u32, (shr-slice-tells (named 0) (κs .1 .0) Record′.row, (Ticket′.tells, tt))))))
+      (λ κs qs bounds a g are. via 𝓤 _ (fst∗ 𝓤 _ (emp 𝓤)) (walk 𝓤 H A W mem run (a .0) (a .1 .0) (κs .0) (qs .0) (a .1 .1 .0 .ptr .0) (a .1 .1 .0 .ptr .1) (a .1 .1 .0 .name) (a .1 .1 .0 .now) (κs .1 .0) (qs .1 .0) (a .1 .1 .1 .0 .ptr .0) (a .1 .1 .1 .0 .ptr .1) (a .1 .1 .1 .0 .name) (a .1 .1 .1 .0 .now) (a .1 .1 .1 .1 .0) (are .0) (are .1 .0) (are .1 .1 .0 .0 .1) (are .1 .1 .1 .0 .0 .1) (are .1 .1 .1 .1 .0) 𝓣 known-ticket-record known-update-part known-weave-plan known-far-child known-found-by))
 
-meets : {M : Type 1} (𝓤 : URA M) (H : Heap 𝓤) (A : Atoms 𝓤) → Given 𝓤 H A → (mem : Memory → SProp 𝓤) (run : Routine → Fun 𝓤) (𝓣 : Tables 𝓤 H) → Triple 𝓤 (𝓣 .C #ticket-record) (Call-ticket-record.Asked 𝓤 H A mem run) → Triple 𝓤 (𝓣 .C #update-part) (Call-update-part.Asked 𝓤 H A mem run) → Triple 𝓤 (𝓣 .C #weave-plan) (Call-weave-plan.Asked 𝓤 H A mem run) → Triple 𝓤 (𝓣 .C #node-by) (Call-node-by.Asked 𝓤 H A mem run)
+meets : {M : Type 1} (𝓤 : URA M) (H : Heap 𝓤) (A : Atoms 𝓤) → Given 𝓤 H A → (mem : Memory → SProp 𝓤) (run : Routine → Fun 𝓤) (𝓣 : Tables 𝓤 H) → Triple 𝓤 (𝓣 .C #ticket-record) (Call-ticket-record.Asked 𝓤 H A mem run) → Triple 𝓤 (𝓣 .C #update-part) (Call-update-part.Asked 𝓤 H A mem run) → Triple 𝓤 (𝓣 .C #weave-plan) (Call-weave-plan.Asked 𝓤 H A mem run) → Triple 𝓤 (𝓣 .C #far-child) (Call-far-child.Asked 𝓤 H A mem run) → Triple 𝓤 (𝓣 .C #found-by) (Call-found-by.Asked 𝓤 H A mem run)
     → Meets 𝓤 H A find-next‴.signature (WpFn 𝓤 H (𝓣 .C) (𝓣 .Λ) code.function) (find-next‴.spec 𝓤 H A mem run)
-meets 𝓤 H A W mem run 𝓣 known-ticket-record known-update-part known-weave-plan known-node-by =
-    walk-meets 𝓤 H A find-next‴.ended stayed W (goes-none 𝓤 H A W 1 (λ _. Store′.row) yes (λ κs x f. refl), (goes-none 𝓤 H A W 1 (λ _. Lengths′.row) yes (λ κs x f. refl), (goes-none-slice 𝓤 H A W 1 (0 ∷ []) tt (plain (λ _. Record′.row)) yes, (goes-none 𝓤 H A W 1 (λ _. Ticket′.row) yes (λ κs x f. refl), tt)))) (find-next‴.clauses 𝓤 H A mem run)
-    (WpFn 𝓤 H (𝓣 .C) (𝓣 .Λ) code.function) (WpFn-mono 𝓤 H (W .laws) 𝓣 code.function) (walks 𝓤 H A W mem run 𝓣 known-ticket-record known-update-part known-weave-plan known-node-by)
+meets 𝓤 H A W mem run 𝓣 known-ticket-record known-update-part known-weave-plan known-far-child known-found-by =
+    walk-meets 𝓤 H A find-next‴.ended stayed W (goes-none 𝓤 H A W 2 (λ _. Store′.row) yes (λ κs x f. refl), (goes-none 𝓤 H A W 2 (λ _. Lengths′.row) yes (λ κs x f. refl), (goes-none-slice 𝓤 H A W 2 (0 ∷ []) tt (plain (λ _. u32)) yes, (goes-none-slice 𝓤 H A W 2 (1 ∷ []) tt (plain (λ _. Record′.row)) yes, (goes-none 𝓤 H A W 2 (λ _. Ticket′.row) yes (λ κs x f. refl), tt))))) (find-next‴.clauses 𝓤 H A mem run)
+    (WpFn 𝓤 H (𝓣 .C) (𝓣 .Λ) code.function) (WpFn-mono 𝓤 H (W .laws) 𝓣 code.function) (walks 𝓤 H A W mem run 𝓣 known-ticket-record known-update-part known-weave-plan known-far-child known-found-by)
 
 pub find-next-spec : {M : Type 1} → stated.statement M
 unfolding code.routine tablesOf
@@ -159,4 +161,5 @@ find-next-spec 𝓤 H 𝓜 𝓖 𝓡 =
     (cited 𝓤 H (Call-ticket-record.Asked 𝓤 H (𝓖 .A) (𝓜 .mem) (𝓡 .run)) 𝓜 𝓡 code.env #ticket-record def-ticket-record.routine code.calls-register·ticket-record (thm-ticket-record.met 𝓤 H 𝓜 𝓖 𝓡))
     (cited 𝓤 H (Call-update-part.Asked 𝓤 H (𝓖 .A) (𝓜 .mem) (𝓡 .run)) 𝓜 𝓡 code.env #update-part def-update-part.routine code.calls-register·update-part (thm-update-part.met 𝓤 H 𝓜 𝓖 𝓡))
     (cited 𝓤 H (Call-weave-plan.Asked 𝓤 H (𝓖 .A) (𝓜 .mem) (𝓡 .run)) 𝓜 𝓡 code.env #weave-plan def-weave-plan.routine code.calls-weave·weave-plan (thm-weave-plan.met 𝓤 H 𝓜 𝓖 𝓡))
-    (cited 𝓤 H (Call-node-by.Asked 𝓤 H (𝓖 .A) (𝓜 .mem) (𝓡 .run)) 𝓜 𝓡 code.env #node-by def-node-by.routine code.calls-weave·node-by (thm-node-by.met 𝓤 H 𝓜 𝓖 𝓡)))
+    (cited 𝓤 H (Call-far-child.Asked 𝓤 H (𝓖 .A) (𝓜 .mem) (𝓡 .run)) 𝓜 𝓡 code.env #far-child def-far-child.routine code.calls-weave·far-child (thm-far-child.met 𝓤 H 𝓜 𝓖 𝓡))
+    (cited 𝓤 H (Call-found-by.Asked 𝓤 H (𝓖 .A) (𝓜 .mem) (𝓡 .run)) 𝓜 𝓡 code.env #found-by def-found-by.routine code.calls-weave·found-by (thm-found-by.met 𝓤 H 𝓜 𝓖 𝓡)))

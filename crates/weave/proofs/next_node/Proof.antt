@@ -1,6 +1,5 @@
--- `weave::next_node` meets its contract: the node that `woven_at` finds lies within the root. Assumes nothing.
+-- `weave::next_node` meets its contract: the node that `node_by_number` finds lies within the largest root. Assumes nothing.
 use native.Mathlib.Omega.{arith}
-use Rattle.register.proofs.Records.{updateOf-inside}
 use Rattle.weave.proofs.NextNode.{named, next-of}
 use Rattle.weave.specs.Plan.{NextOf}
 use borrow.Author.Needs.{needs}
@@ -10,12 +9,15 @@ use Rattle.weave.proofs.next_node.Tie as tie
 extent-of-requires : tie.Need-extent-of-requires
 extent-of-requires c κs = search needs
 
-woven-at-requires : tie.Need-woven-at-requires
-woven-at-requires c κs = rw (c .extent-of .ensures) (updateOf-inside (c .before .args .q))
+smaller-requires : tie.Need-smaller-requires
+smaller-requires c κs = search needs
 
--- What `woven_at` has found.
-next : (c : tie.After-woven-at) → NextOf (c .before .before .args .q) (named (c .woven-at .result .first .0) (c .woven-at .result .span))
-next c = next-of _ _ _ (rw (c .before .extent-of .ensures) at (c .woven-at .ensures))
+node-by-number-requires : tie.Need-node-by-number-requires
+node-by-number-requires c κs = rw (c .smaller .ensures) (omega arith)
+
+-- What `node_by_number` has found.
+next : (c : tie.After-node-by-number) → NextOf (c .before .before .before .args .q) (named (c .node-by-number .result .first .0) (c .node-by-number .result .span))
+next c = next-of _ _ _ (rw (c .before .smaller .ensures, c .before .before .extent-of .ensures) at (c .node-by-number .ensures))
 
 add-t6 : tie.Need-add-t6
 add-t6 c = omega (arith, next (c .before .before .before) .inside)
@@ -24,5 +26,4 @@ returns : tie.Need-returns
 returns c = next (c .before .before .before)
 
 pub next-node-spec : {M : Type 1} → statement M
-next-node-spec =
-    tie.close (tie.spec extent-of-requires woven-at-requires add-t6 returns)
+next-node-spec = tie.close (tie.spec extent-of-requires smaller-requires node-by-number-requires add-t6 returns)

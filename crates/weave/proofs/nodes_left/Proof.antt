@@ -4,9 +4,6 @@ use native.Mathlib.Omega.{arith}
 use Rattle.weave.proofs.nodes_left.Statement.{statement}
 use Rattle.weave.proofs.nodes_left.Tie as tie
 
-count-of-requires : tie.Need-count-of-requires
-count-of-requires c κs = search needs
-
 sub-result : tie.Need-sub-result
 sub-result c = search needs
 
@@ -20,4 +17,4 @@ returns-2 : tie.Need-returns-2
 returns-2 c = omega arith
 
 pub nodes-left-spec : {M : Type 1} → statement M
-nodes-left-spec = tie.close (tie.spec count-of-requires sub-result sub-result-2 returns returns-2)
+nodes-left-spec = tie.close (tie.spec sub-result sub-result-2 returns returns-2)

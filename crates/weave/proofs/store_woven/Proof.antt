@@ -6,8 +6,11 @@ use borrow.Author.Needs.{needs}
 use Rattle.weave.proofs.store_woven.Statement.{statement}
 use Rattle.weave.proofs.store_woven.Tie as tie
 
+saturating-sub-requires : tie.Need-saturating-sub-requires
+saturating-sub-requires c κs = search needs
+
 add-store-node : tie.Need-add-store-node
-add-store-node c = omega (arith, c .before .before .before .before .pre (omega arith))
+add-store-node c = let start = c .before .before .before .before .before in record { fits = omega (arith, c .before .saturating-sub .ensures, start .pre (omega arith)) }
 
 store-node-requires : tie.Need-store-node-requires
 store-node-requires c κs = search needs
@@ -16,11 +19,11 @@ same-length : tie.Need-same-length
 same-length c = search needs
 
 returns : tie.Need-returns
-returns c = c .before .before .store-node .ensures ∙ sym (unless-0 _ _ _ (omega arith))
+returns c = rw (← c .before .before .before .before .saturating-sub .ensures) (c .before .before .store-node .ensures ∙ sym (unless-0 _ _ _ (omega arith)))
 
 returns-2 : tie.Need-returns-2
 returns-2 c = sym (unless-suc _ _ _ (omega arith))
 
 pub store-woven-spec : {M : Type 1} → statement M
 store-woven-spec =
-    tie.close (tie.spec add-store-node store-node-requires same-length returns returns-2)
+    tie.close (tie.spec saturating-sub-requires add-store-node store-node-requires same-length returns returns-2)

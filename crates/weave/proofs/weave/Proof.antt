@@ -51,12 +51,6 @@ use Rattle.versions.specs.declared.Store.{Store}
 use Rattle.versions.proofs.Generated.Kind.Store as Store′
 use Rattle.tree.specs.declared.Ticket.{Ticket}
 use Rattle.register.proofs.Generated.Kind.Ticket as Ticket′
-use Rattle.lines.specs.declared.Branch.{Branch}
-use Rattle.versions.proofs.Generated.Kind.Branch as Branch′
-use Rattle.lines.specs.declared.Line.{Line}
-use Rattle.register.proofs.Generated.Kind.Line as Line′
-use Rattle.tree.specs.declared.Version.{Version}
-use Rattle.register.proofs.Generated.Kind.Version as Version′
 use Rattle.register.specs.declared.Record.{Record}
 use Rattle.register.proofs.Generated.Kind.Record as Record′
 use Rattle.lines.specs.declared.Entries.{Entries}
@@ -127,40 +121,42 @@ module _ {M : Type 1} (𝓤 : URA M) (H : Heap 𝓤) (A : Atoms 𝓤) (W : Given
       (WpFn 𝓤 H (𝓣 .C) (𝓣 .Λ) code.function (Store′.mach s ∷ sliceVal (b·pages, o·pages) (length pages) ∷ sliceVal (b·nodes, o·nodes) (length nodes) ∷ sliceVal (b·register, o·register) (length register) ∷ Ticket′.mach x-t ∷ []) Post)
   walk 𝓣 known-lengths-of known-find-next known-store-woven known-count-woven known-woven-answer =
       qed W ((‵ (flft κ·pages q·pages) ⊛ ‵ (flft κ·nodes q·nodes) ⊛ ‵ (flft κ·register q·register) ⊛ ‵ ftrue) ∷ ‵ (owns (Store′.row ∷ ShrSlice (named 0) κ·pages u8 ∷ MutSlice (named 0) κ·nodes u32 ∷ MutSlice (named 0) κ·register Record′.row ∷ Ticket′.row ∷ []) all-args all-vals) ∷ []) ∵ enter ! (𝓣 .C) (𝓣 .Λ) code.function (Store′.mach s ∷ sliceVal (b·pages, o·pages) (length pages) ∷ sliceVal (b·nodes, o·nodes) (length nodes) ∷ sliceVal (b·register, o·register) (length register) ∷ Ticket′.mach x-t ∷ []) _ $
-      alloc1 ! (λ l₀. alloc1 ! (λ l₁. alloc1 ! (λ l₂. alloc1 ! (λ l₃. alloc1 ! (λ l₄. alloc1 ! (λ l₅. alloc1 ! (λ l₆. alloc1 ! (λ l₇. alloc1 ! (λ l₈. alloc1 ! (λ l₉. alloc1 ! (λ l₁₀. alloc1 ! (λ l₁₁. alloc1 ! (λ l₁₂. alloc1 ! (λ l₁₃. alloc1 ! (λ l₁₄. alloc1 ! (λ l₁₅. alloc1 ! (λ l₁₆. alloc1 ! (λ l₁₇. alloc1 ! (λ l₁₈. alloc0 ! $ params1 ! $
-      pass1 ! (init ! 34 refl (Store′.typed 𝓤 H A W s ok·s)) $ pass1 ! (init ! 32 refl (tt, (tt, (record { fits = room·pages .0 }, tt)))) $ pass1 ! (init ! 30 refl (tt, (tt, (record { fits = room·nodes .0 }, tt)))) $ pass1 ! (init ! 28 refl (tt, (tt, (record { fits = room·register .0 }, tt)))) $ pass1 ! (init ! 26 refl (Ticket′.typed 𝓤 H A W x-t ok·x-t)) $ pass0 ! $
-      move ! (39 ∷ []) $ fsplit ! $ drop ! $ fsplit ! $ move ! (1 ∷ []) $ fsplit ! $ move ! (1 ∷ []) $ fsplit ! $ move ! (1 ∷ []) $ fsplit ! $ drop ! $ drop ! $ move ! (41 ∷ []) $ split ! $ move ! (1 ∷ []) $ split ! $ move ! (1 ∷ []) $ split ! $ move ! (1 ∷ []) $ drop ! $ move ! (2 ∷ 5 ∷ 1 ∷ 4 ∷ 0 ∷ 3 ∷ []) $
-      assigns ! (addr ! (from ! (fld ! refl (hop ! (look-in ! 36 (sub ! 0 refl (whole !))) (stop !))))) (from ! (stop !)) (init ! 26 refl (tt, tt)) $
-      assigns ! (agg ! (and-then ! (load ! (from ! (stop !)) (look ! 26 refl)) (and-then ! (load ! (from ! (fld ! refl (stop !))) (look-in ! 36 (sub ! 1 refl (whole !)))) (no-more !)))) (from ! (stop !)) (init ! 24 refl (tt, (tt, (record { fits = room·nodes .0 }, tt)))) $
-      assigns ! (addr ! (from ! (fld ! refl (hop ! (look-in ! 34 (sub ! 0 refl (whole !))) (stop !))))) (from ! (stop !)) (init ! 22 refl (tt, tt)) $
-      assigns ! (agg ! (and-then ! (load ! (from ! (stop !)) (look ! 22 refl)) (and-then ! (load ! (from ! (fld ! refl (stop !))) (look-in ! 34 (sub ! 1 refl (whole !)))) (no-more !)))) (from ! (stop !)) (init ! 20 refl (tt, (tt, (record { fits = room·register .0 }, tt)))) $
+      alloc1 ! (λ l₀. alloc1 ! (λ l₁. alloc1 ! (λ l₂. alloc1 ! (λ l₃. alloc1 ! (λ l₄. alloc1 ! (λ l₅. alloc1 ! (λ l₆. alloc1 ! (λ l₇. alloc1 ! (λ l₈. alloc1 ! (λ l₉. alloc1 ! (λ l₁₀. alloc1 ! (λ l₁₁. alloc1 ! (λ l₁₂. alloc1 ! (λ l₁₃. alloc1 ! (λ l₁₄. alloc1 ! (λ l₁₅. alloc1 ! (λ l₁₆. alloc1 ! (λ l₁₇. alloc1 ! (λ l₁₈. alloc1 ! (λ l₁₉. alloc1 ! (λ l₂₀. alloc0 ! $ params1 ! $
+      pass1 ! (init ! 38 refl (Store′.typed 𝓤 H A W s ok·s)) $ pass1 ! (init ! 36 refl (tt, (tt, (record { fits = room·pages .0 }, tt)))) $ pass1 ! (init ! 34 refl (tt, (tt, (record { fits = room·nodes .0 }, tt)))) $ pass1 ! (init ! 32 refl (tt, (tt, (record { fits = room·register .0 }, tt)))) $ pass1 ! (init ! 30 refl (Ticket′.typed 𝓤 H A W x-t ok·x-t)) $ pass0 ! $
+      move ! (43 ∷ []) $ fsplit ! $ drop ! $ fsplit ! $ move ! (1 ∷ []) $ fsplit ! $ move ! (1 ∷ []) $ fsplit ! $ move ! (1 ∷ []) $ fsplit ! $ drop ! $ drop ! $ move ! (45 ∷ []) $ split ! $ move ! (1 ∷ []) $ split ! $ move ! (1 ∷ []) $ split ! $ move ! (1 ∷ []) $ drop ! $ move ! (2 ∷ 5 ∷ 1 ∷ 4 ∷ 0 ∷ 3 ∷ []) $
+      assigns ! (addr ! (from ! (fld ! refl (hop ! (look-in ! 40 (sub ! 0 refl (whole !))) (stop !))))) (from ! (stop !)) (init ! 30 refl (tt, tt)) $
+      assigns ! (agg ! (and-then ! (load ! (from ! (stop !)) (look ! 30 refl)) (and-then ! (load ! (from ! (fld ! refl (stop !))) (look-in ! 40 (sub ! 1 refl (whole !)))) (no-more !)))) (from ! (stop !)) (init ! 28 refl (tt, (tt, (record { fits = room·nodes .0 }, tt)))) $
+      assigns ! (addr ! (from ! (fld ! refl (hop ! (look-in ! 38 (sub ! 0 refl (whole !))) (stop !))))) (from ! (stop !)) (init ! 26 refl (tt, tt)) $
+      assigns ! (agg ! (and-then ! (load ! (from ! (stop !)) (look ! 26 refl)) (and-then ! (load ! (from ! (fld ! refl (stop !))) (look-in ! 38 (sub ! 1 refl (whole !)))) (no-more !)))) (from ! (stop !)) (init ! 24 refl (tt, (tt, (record { fits = room·register .0 }, tt)))) $
       move ! (2 ∷ 3 ∷ []) $ lend-shr ! tt u32 κ·nodes q·nodes b·nodes o·nodes γ·nodes (length nodes) nodes (refl) (λ ν·1-nodes γ·1-nodes. move ! (5 ∷ 6 ∷ []) $ lend-shr ! tt Record′.row κ·register q·register b·register o·register γ·register (length register) register (refl) (λ ν·1-register γ·1-register. move ! (6 ∷ 7 ∷ 3 ∷ 4 ∷ 0 ∷ 1 ∷ []) $
-      Call-lengths-of.calls ! mem run (fmOf 𝓤 H (W .laws) 𝓣) known-lengths-of κ·pages q·pages b·pages o·pages γ·pages (length pages) pages (ν·1-nodes ∷ []) fullShare b·nodes o·nodes γ·1-nodes (length nodes) nodes (ν·1-register ∷ []) fullShare b·register o·register γ·1-register (length register) register (and-then ! (load ! (from ! (stop !)) (look ! 38 refl)) (and-then ! (load ! (from ! (stop !)) (look ! 24 refl)) (and-then ! (load ! (from ! (stop !)) (look ! 20 refl)) (no-more !))))
-      (λ ok·1. move ! (2 ∷ 3 ∷ 7 ∷ []) $ back-shr ! tt u32 κ·nodes q·nodes b·nodes o·nodes γ·nodes (length nodes) nodes ν·1-nodes (refl) room·nodes $ move ! (4 ∷ 5 ∷ 6 ∷ []) $ back-shr ! tt Record′.row κ·register q·register b·register o·register γ·register (length register) register ν·1-register (refl) room·register $ move ! (4 ∷ 5 ∷ 2 ∷ 3 ∷ 0 ∷ 1 ∷ []) $ land ! (from ! (stop !)) (init ! 30 refl (Lengths′.typed 𝓤 H A W (r1 s pages nodes register x-t) ok·1)) $
-      here ! (‵ (flft κ·pages q·pages) ∷ ‵ (ShrAt u8 κ·pages b·pages o·pages γ·pages (length pages) pages) ∷ ‵ (flft κ·nodes q·nodes) ∷ ‵ (MutAt u32 κ·nodes b·nodes o·nodes γ·nodes (length nodes) nodes) ∷ ‵ (flft κ·register q·register) ∷ ‵ (MutAt Record′.row κ·register b·register o·register γ·register (length register) register) ∷ empty (sliceTy (tyRef erased mut (pointee (Record′.row .written)))) l₁₈ (empty (tyRef erased mut (pointee (Record′.row .written))) l₁₇ (empty (sliceTy (tyRef erased mut (pointee (u32 .written)))) l₁₆ (empty (tyRef erased mut (pointee (u32 .written))) l₁₅ (empty tyUnit l₁₄ (empty (sliceTy (tyRef erased imm (pointee (Record′.row .written)))) l₁₃ (empty (tyRef erased imm (pointee (Record′.row .written))) l₁₂ (holds (sliceTy (tyRef erased imm (pointee (Record′.row .written)))) l₁₁ (sliceVal (b·register, o·register) (length register)) (holds (tyRef erased imm (pointee (Record′.row .written))) l₁₀ (vptr b·register o·register) (holds (sliceTy (tyRef erased imm (pointee (u32 .written)))) l₉ (sliceVal (b·nodes, o·nodes) (length nodes)) (holds (tyRef erased imm (pointee (u32 .written))) l₈ (vptr b·nodes o·nodes) (empty (tyAt (code.function .locals) 7) l₇ (holds (tyAt (code.function .locals) 6) l₆ (Lengths′.mach (r1 s pages nodes register x-t)) (holds (tyAt (code.function .locals) 5) l₅ (Ticket′.mach x-t) (holds (sliceTy (tyRef (named 2) mut (pointee (Record′.row .written)))) l₄ (sliceVal (b·register, o·register) (length register)) (holds (sliceTy (tyRef (named 1) mut (pointee (u32 .written)))) l₃ (sliceVal (b·nodes, o·nodes) (length nodes)) (holds (sliceTy (tyRef (named 0) imm (pointee (u8 .written)))) l₂ (sliceVal (b·pages, o·pages) (length pages)) (holds (tyAt (code.function .locals) 1) l₁ (Store′.mach s) (empty (tyAt (code.function .locals) 0) l₀ []))))))))))))))))))) $
-      assigns ! (addr ! (from ! (fld ! refl (hop ! (look-in ! 34 (sub ! 0 refl (whole !))) (stop !))))) (from ! (stop !)) (init ! 18 refl (tt, tt)) $
-      assigns ! (agg ! (and-then ! (load ! (from ! (stop !)) (look ! 18 refl)) (and-then ! (load ! (from ! (fld ! refl (stop !))) (look-in ! 34 (sub ! 1 refl (whole !)))) (no-more !)))) (from ! (stop !)) (init ! 16 refl (tt, (tt, (record { fits = room·register .0 }, tt)))) $
-      move ! (4 ∷ 5 ∷ []) $ lend-shr ! tt Record′.row κ·register q·register b·register o·register γ·register (length register) register (refl) (λ ν·2-register γ·2-register.
-      Call-find-next.calls ! mem run (fmOf 𝓤 H (W .laws) 𝓣) known-find-next s (r1 s pages nodes register x-t) (ν·2-register ∷ []) fullShare b·register o·register γ·2-register (length register) register x-t ok·s ok·1 ok·x-t (and-then ! (load ! (from ! (stop !)) (look ! 41 refl)) (and-then ! (load ! (from ! (stop !)) (look ! 31 refl)) (and-then ! (load ! (from ! (stop !)) (look ! 17 refl)) (and-then ! (load ! (from ! (stop !)) (look ! 33 refl)) (no-more !)))))
-      (λ r2 ok·2 says·2. back-shr ! tt Record′.row κ·register q·register b·register o·register γ·register (length register) register ν·2-register (refl) room·register $ move ! (2 ∷ 3 ∷ 4 ∷ 5 ∷ 0 ∷ 1 ∷ []) $ land ! (from ! (stop !)) (init ! 28 refl (Found′.typed 𝓤 H A W r2 ok·2)) $
-      here ! (‵ (flft κ·pages q·pages) ∷ ‵ (ShrAt u8 κ·pages b·pages o·pages γ·pages (length pages) pages) ∷ ‵ (flft κ·nodes q·nodes) ∷ ‵ (MutAt u32 κ·nodes b·nodes o·nodes γ·nodes (length nodes) nodes) ∷ ‵ (flft κ·register q·register) ∷ ‵ (MutAt Record′.row κ·register b·register o·register γ·register (length register) register) ∷ empty (sliceTy (tyRef erased mut (pointee (Record′.row .written)))) l₁₈ (empty (tyRef erased mut (pointee (Record′.row .written))) l₁₇ (empty (sliceTy (tyRef erased mut (pointee (u32 .written)))) l₁₆ (empty (tyRef erased mut (pointee (u32 .written))) l₁₅ (empty tyUnit l₁₄ (holds (sliceTy (tyRef erased imm (pointee (Record′.row .written)))) l₁₃ (sliceVal (b·register, o·register) (length register)) (holds (tyRef erased imm (pointee (Record′.row .written))) l₁₂ (vptr b·register o·register) (holds (sliceTy (tyRef erased imm (pointee (Record′.row .written)))) l₁₁ (sliceVal (b·register, o·register) (length register)) (holds (tyRef erased imm (pointee (Record′.row .written))) l₁₀ (vptr b·register o·register) (holds (sliceTy (tyRef erased imm (pointee (u32 .written)))) l₉ (sliceVal (b·nodes, o·nodes) (length nodes)) (holds (tyRef erased imm (pointee (u32 .written))) l₈ (vptr b·nodes o·nodes) (holds (tyAt (code.function .locals) 7) l₇ (Found′.mach r2) (holds (tyAt (code.function .locals) 6) l₆ (Lengths′.mach (r1 s pages nodes register x-t)) (holds (tyAt (code.function .locals) 5) l₅ (Ticket′.mach x-t) (holds (sliceTy (tyRef (named 2) mut (pointee (Record′.row .written)))) l₄ (sliceVal (b·register, o·register) (length register)) (holds (sliceTy (tyRef (named 1) mut (pointee (u32 .written)))) l₃ (sliceVal (b·nodes, o·nodes) (length nodes)) (holds (sliceTy (tyRef (named 0) imm (pointee (u8 .written)))) l₂ (sliceVal (b·pages, o·pages) (length pages)) (holds (tyAt (code.function .locals) 1) l₁ (Store′.mach s) (empty (tyAt (code.function .locals) 0) l₀ []))))))))))))))))))) $
-      assigns ! (addr ! (from ! (fld ! refl (hop ! (look-in ! 36 (sub ! 0 refl (whole !))) (stop !))))) (from ! (stop !)) (init ! 12 refl (tt, tt)) $
-      assigns ! (agg ! (and-then ! (load ! (from ! (stop !)) (look ! 12 refl)) (and-then ! (load ! (from ! (fld ! refl (stop !))) (look-in ! 36 (sub ! 1 refl (whole !)))) (no-more !)))) (from ! (stop !)) (init ! 10 refl (tt, (tt, (record { fits = room·nodes .0 }, tt)))) $
+      Call-lengths-of.calls ! mem run (fmOf 𝓤 H (W .laws) 𝓣) known-lengths-of κ·pages q·pages b·pages o·pages γ·pages (length pages) pages (ν·1-nodes ∷ []) fullShare b·nodes o·nodes γ·1-nodes (length nodes) nodes (ν·1-register ∷ []) fullShare b·register o·register γ·1-register (length register) register (and-then ! (load ! (from ! (stop !)) (look ! 42 refl)) (and-then ! (load ! (from ! (stop !)) (look ! 28 refl)) (and-then ! (load ! (from ! (stop !)) (look ! 24 refl)) (no-more !))))
+      (λ ok·1. move ! (2 ∷ 3 ∷ 7 ∷ []) $ back-shr ! tt u32 κ·nodes q·nodes b·nodes o·nodes γ·nodes (length nodes) nodes ν·1-nodes (refl) room·nodes $ move ! (4 ∷ 5 ∷ 6 ∷ []) $ back-shr ! tt Record′.row κ·register q·register b·register o·register γ·register (length register) register ν·1-register (refl) room·register $ move ! (4 ∷ 5 ∷ 2 ∷ 3 ∷ 0 ∷ 1 ∷ []) $ land ! (from ! (stop !)) (init ! 34 refl (Lengths′.typed 𝓤 H A W (r1 s pages nodes register x-t) ok·1)) $
+      here ! (‵ (flft κ·pages q·pages) ∷ ‵ (ShrAt u8 κ·pages b·pages o·pages γ·pages (length pages) pages) ∷ ‵ (flft κ·nodes q·nodes) ∷ ‵ (MutAt u32 κ·nodes b·nodes o·nodes γ·nodes (length nodes) nodes) ∷ ‵ (flft κ·register q·register) ∷ ‵ (MutAt Record′.row κ·register b·register o·register γ·register (length register) register) ∷ empty (sliceTy (tyRef erased mut (pointee (Record′.row .written)))) l₂₀ (empty (tyRef erased mut (pointee (Record′.row .written))) l₁₉ (empty (sliceTy (tyRef erased mut (pointee (u32 .written)))) l₁₈ (empty (tyRef erased mut (pointee (u32 .written))) l₁₇ (empty tyUnit l₁₆ (empty (sliceTy (tyRef erased imm (pointee (Record′.row .written)))) l₁₅ (empty (tyRef erased imm (pointee (Record′.row .written))) l₁₄ (empty (sliceTy (tyRef erased imm (pointee (u32 .written)))) l₁₃ (empty (tyRef erased imm (pointee (u32 .written))) l₁₂ (holds (sliceTy (tyRef erased imm (pointee (Record′.row .written)))) l₁₁ (sliceVal (b·register, o·register) (length register)) (holds (tyRef erased imm (pointee (Record′.row .written))) l₁₀ (vptr b·register o·register) (holds (sliceTy (tyRef erased imm (pointee (u32 .written)))) l₉ (sliceVal (b·nodes, o·nodes) (length nodes)) (holds (tyRef erased imm (pointee (u32 .written))) l₈ (vptr b·nodes o·nodes) (empty (tyAt (code.function .locals) 7) l₇ (holds (tyAt (code.function .locals) 6) l₆ (Lengths′.mach (r1 s pages nodes register x-t)) (holds (tyAt (code.function .locals) 5) l₅ (Ticket′.mach x-t) (holds (sliceTy (tyRef (named 2) mut (pointee (Record′.row .written)))) l₄ (sliceVal (b·register, o·register) (length register)) (holds (sliceTy (tyRef (named 1) mut (pointee (u32 .written)))) l₃ (sliceVal (b·nodes, o·nodes) (length nodes)) (holds (sliceTy (tyRef (named 0) imm (pointee (u8 .written)))) l₂ (sliceVal (b·pages, o·pages) (length pages)) (holds (tyAt (code.function .locals) 1) l₁ (Store′.mach s) (empty (tyAt (code.function .locals) 0) l₀ []))))))))))))))))))))) $
+      assigns ! (addr ! (from ! (fld ! refl (hop ! (look-in ! 40 (sub ! 0 refl (whole !))) (stop !))))) (from ! (stop !)) (init ! 22 refl (tt, tt)) $
+      assigns ! (agg ! (and-then ! (load ! (from ! (stop !)) (look ! 22 refl)) (and-then ! (load ! (from ! (fld ! refl (stop !))) (look-in ! 40 (sub ! 1 refl (whole !)))) (no-more !)))) (from ! (stop !)) (init ! 20 refl (tt, (tt, (record { fits = room·nodes .0 }, tt)))) $
+      assigns ! (addr ! (from ! (fld ! refl (hop ! (look-in ! 38 (sub ! 0 refl (whole !))) (stop !))))) (from ! (stop !)) (init ! 18 refl (tt, tt)) $
+      assigns ! (agg ! (and-then ! (load ! (from ! (stop !)) (look ! 18 refl)) (and-then ! (load ! (from ! (fld ! refl (stop !))) (look-in ! 38 (sub ! 1 refl (whole !)))) (no-more !)))) (from ! (stop !)) (init ! 16 refl (tt, (tt, (record { fits = room·register .0 }, tt)))) $
+      move ! (2 ∷ 3 ∷ []) $ lend-shr ! tt u32 κ·nodes q·nodes b·nodes o·nodes γ·nodes (length nodes) nodes (refl) (λ ν·2-nodes γ·2-nodes. move ! (5 ∷ 6 ∷ []) $ lend-shr ! tt Record′.row κ·register q·register b·register o·register γ·register (length register) register (refl) (λ ν·2-register γ·2-register. move ! (3 ∷ 4 ∷ 0 ∷ 1 ∷ []) $
+      Call-find-next.calls ! mem run (fmOf 𝓤 H (W .laws) 𝓣) known-find-next s (r1 s pages nodes register x-t) (ν·2-nodes ∷ []) fullShare b·nodes o·nodes γ·2-nodes (length nodes) nodes (ν·2-register ∷ []) fullShare b·register o·register γ·2-register (length register) register x-t ok·s ok·1 ok·x-t (and-then ! (load ! (from ! (stop !)) (look ! 45 refl)) (and-then ! (load ! (from ! (stop !)) (look ! 35 refl)) (and-then ! (load ! (from ! (stop !)) (look ! 21 refl)) (and-then ! (load ! (from ! (stop !)) (look ! 17 refl)) (and-then ! (load ! (from ! (stop !)) (look ! 37 refl)) (no-more !))))))
+      (λ r2 ok·2 says·2. move ! (0 ∷ 1 ∷ 5 ∷ []) $ back-shr ! tt u32 κ·nodes q·nodes b·nodes o·nodes γ·nodes (length nodes) nodes ν·2-nodes (refl) room·nodes $ move ! (2 ∷ 3 ∷ 4 ∷ []) $ back-shr ! tt Record′.row κ·register q·register b·register o·register γ·register (length register) register ν·2-register (refl) room·register $ move ! (4 ∷ 5 ∷ 2 ∷ 3 ∷ 0 ∷ 1 ∷ []) $ land ! (from ! (stop !)) (init ! 32 refl (Found′.typed 𝓤 H A W r2 ok·2)) $
+      here ! (‵ (flft κ·pages q·pages) ∷ ‵ (ShrAt u8 κ·pages b·pages o·pages γ·pages (length pages) pages) ∷ ‵ (flft κ·nodes q·nodes) ∷ ‵ (MutAt u32 κ·nodes b·nodes o·nodes γ·nodes (length nodes) nodes) ∷ ‵ (flft κ·register q·register) ∷ ‵ (MutAt Record′.row κ·register b·register o·register γ·register (length register) register) ∷ empty (sliceTy (tyRef erased mut (pointee (Record′.row .written)))) l₂₀ (empty (tyRef erased mut (pointee (Record′.row .written))) l₁₉ (empty (sliceTy (tyRef erased mut (pointee (u32 .written)))) l₁₈ (empty (tyRef erased mut (pointee (u32 .written))) l₁₇ (empty tyUnit l₁₆ (holds (sliceTy (tyRef erased imm (pointee (Record′.row .written)))) l₁₅ (sliceVal (b·register, o·register) (length register)) (holds (tyRef erased imm (pointee (Record′.row .written))) l₁₄ (vptr b·register o·register) (holds (sliceTy (tyRef erased imm (pointee (u32 .written)))) l₁₃ (sliceVal (b·nodes, o·nodes) (length nodes)) (holds (tyRef erased imm (pointee (u32 .written))) l₁₂ (vptr b·nodes o·nodes) (holds (sliceTy (tyRef erased imm (pointee (Record′.row .written)))) l₁₁ (sliceVal (b·register, o·register) (length register)) (holds (tyRef erased imm (pointee (Record′.row .written))) l₁₀ (vptr b·register o·register) (holds (sliceTy (tyRef erased imm (pointee (u32 .written)))) l₉ (sliceVal (b·nodes, o·nodes) (length nodes)) (holds (tyRef erased imm (pointee (u32 .written))) l₈ (vptr b·nodes o·nodes) (holds (tyAt (code.function .locals) 7) l₇ (Found′.mach r2) (holds (tyAt (code.function .locals) 6) l₆ (Lengths′.mach (r1 s pages nodes register x-t)) (holds (tyAt (code.function .locals) 5) l₅ (Ticket′.mach x-t) (holds (sliceTy (tyRef (named 2) mut (pointee (Record′.row .written)))) l₄ (sliceVal (b·register, o·register) (length register)) (holds (sliceTy (tyRef (named 1) mut (pointee (u32 .written)))) l₃ (sliceVal (b·nodes, o·nodes) (length nodes)) (holds (sliceTy (tyRef (named 0) imm (pointee (u8 .written)))) l₂ (sliceVal (b·pages, o·pages) (length pages)) (holds (tyAt (code.function .locals) 1) l₁ (Store′.mach s) (empty (tyAt (code.function .locals) 0) l₀ []))))))))))))))))))))) $
+      assigns ! (addr ! (from ! (fld ! refl (hop ! (look-in ! 40 (sub ! 0 refl (whole !))) (stop !))))) (from ! (stop !)) (init ! 12 refl (tt, tt)) $
+      assigns ! (agg ! (and-then ! (load ! (from ! (stop !)) (look ! 12 refl)) (and-then ! (load ! (from ! (fld ! refl (stop !))) (look-in ! 40 (sub ! 1 refl (whole !)))) (no-more !)))) (from ! (stop !)) (init ! 10 refl (tt, (tt, (record { fits = room·nodes .0 }, tt)))) $
       move ! (2 ∷ 3 ∷ []) $ lend-mut ! tt u32 κ·nodes q·nodes b·nodes o·nodes γ·nodes (length nodes) nodes (refl) (λ ν·3-nodes γ·3-nodes.
-      Call-store-woven.calls ! mem run (fmOf 𝓤 H (W .laws) 𝓣) known-store-woven (ν·3-nodes ∷ []) fullShare b·nodes o·nodes γ·3-nodes (length nodes) nodes (r2 .k) (r2 .part) (r2 .node) (Found′.ok-k r2 ok·2) (Found′.ok-part r2 ok·2) (Found′.ok-node r2 ok·2) (Facts.store-woven-1 s pages nodes register x-t ok·s (room·pages .0) (room·nodes .0) (room·register .0) ok·x-t ok·1 r2 ok·2 says·2) (and-then ! (load ! (from ! (stop !)) (look ! 10 refl)) (and-then ! (load ! (from ! (fld ! refl (stop !))) (look-in ! 28 (sub ! 0 refl (whole !)))) (and-then ! (load ! (from ! (fld ! refl (stop !))) (look-in ! 28 (sub ! 2 refl (whole !)))) (and-then ! (load ! (from ! (fld ! refl (stop !))) (look-in ! 28 (sub ! 3 refl (whole !)))) (no-more !)))))
+      Call-store-woven.calls ! mem run (fmOf 𝓤 H (W .laws) 𝓣) known-store-woven (ν·3-nodes ∷ []) fullShare b·nodes o·nodes γ·3-nodes (length nodes) nodes (r2 .k) (r2 .part) (r2 .node) (Found′.ok-k r2 ok·2) (Found′.ok-part r2 ok·2) (Found′.ok-node r2 ok·2) (Facts.store-woven-1 s pages nodes register x-t ok·s (room·pages .0) (room·nodes .0) (room·register .0) ok·x-t ok·1 r2 ok·2 says·2) (and-then ! (load ! (from ! (stop !)) (look ! 10 refl)) (and-then ! (load ! (from ! (fld ! refl (stop !))) (look-in ! 32 (sub ! 0 refl (whole !)))) (and-then ! (load ! (from ! (fld ! refl (stop !))) (look-in ! 32 (sub ! 2 refl (whole !)))) (and-then ! (load ! (from ! (fld ! refl (stop !))) (look-in ! 32 (sub ! 3 refl (whole !)))) (no-more !)))))
       (λ same·3-nodes. back-mut ! tt u32 κ·nodes q·nodes b·nodes o·nodes γ·nodes (length nodes) nodes (nodes₃ s pages nodes register x-t r2) ν·3-nodes γ·3-nodes (refl) same·3-nodes room·nodes $ move ! (2 ∷ 3 ∷ 0 ∷ 1 ∷ 4 ∷ 5 ∷ []) $ land ! (from ! (stop !)) (init ! 14 refl (tt, tt)) $
-      here ! (‵ (flft κ·pages q·pages) ∷ ‵ (ShrAt u8 κ·pages b·pages o·pages γ·pages (length pages) pages) ∷ ‵ (flft κ·nodes q·nodes) ∷ ‵ (MutAt u32 κ·nodes b·nodes o·nodes γ·nodes (length nodes) (nodes₃ s pages nodes register x-t r2)) ∷ ‵ (flft κ·register q·register) ∷ ‵ (MutAt Record′.row κ·register b·register o·register γ·register (length register) register) ∷ empty (sliceTy (tyRef erased mut (pointee (Record′.row .written)))) l₁₈ (empty (tyRef erased mut (pointee (Record′.row .written))) l₁₇ (holds (sliceTy (tyRef erased mut (pointee (u32 .written)))) l₁₆ (sliceVal (b·nodes, o·nodes) (length nodes)) (holds (tyRef erased mut (pointee (u32 .written))) l₁₅ (vptr b·nodes o·nodes) (holds tyUnit l₁₄ vunit (holds (sliceTy (tyRef erased imm (pointee (Record′.row .written)))) l₁₃ (sliceVal (b·register, o·register) (length register)) (holds (tyRef erased imm (pointee (Record′.row .written))) l₁₂ (vptr b·register o·register) (holds (sliceTy (tyRef erased imm (pointee (Record′.row .written)))) l₁₁ (sliceVal (b·register, o·register) (length register)) (holds (tyRef erased imm (pointee (Record′.row .written))) l₁₀ (vptr b·register o·register) (holds (sliceTy (tyRef erased imm (pointee (u32 .written)))) l₉ (sliceVal (b·nodes, o·nodes) (length nodes)) (holds (tyRef erased imm (pointee (u32 .written))) l₈ (vptr b·nodes o·nodes) (holds (tyAt (code.function .locals) 7) l₇ (Found′.mach r2) (holds (tyAt (code.function .locals) 6) l₆ (Lengths′.mach (r1 s pages nodes register x-t)) (holds (tyAt (code.function .locals) 5) l₅ (Ticket′.mach x-t) (holds (sliceTy (tyRef (named 2) mut (pointee (Record′.row .written)))) l₄ (sliceVal (b·register, o·register) (length register)) (holds (sliceTy (tyRef (named 1) mut (pointee (u32 .written)))) l₃ (sliceVal (b·nodes, o·nodes) (length nodes)) (holds (sliceTy (tyRef (named 0) imm (pointee (u8 .written)))) l₂ (sliceVal (b·pages, o·pages) (length pages)) (holds (tyAt (code.function .locals) 1) l₁ (Store′.mach s) (empty (tyAt (code.function .locals) 0) l₀ []))))))))))))))))))) $
-      assigns ! (addr ! (from ! (fld ! refl (hop ! (look-in ! 34 (sub ! 0 refl (whole !))) (stop !))))) (from ! (stop !)) (init ! 8 refl (tt, tt)) $
-      assigns ! (agg ! (and-then ! (load ! (from ! (stop !)) (look ! 8 refl)) (and-then ! (load ! (from ! (fld ! refl (stop !))) (look-in ! 34 (sub ! 1 refl (whole !)))) (no-more !)))) (from ! (stop !)) (init ! 6 refl (tt, (tt, (record { fits = room·register .0 }, tt)))) $
+      here ! (‵ (flft κ·pages q·pages) ∷ ‵ (ShrAt u8 κ·pages b·pages o·pages γ·pages (length pages) pages) ∷ ‵ (flft κ·nodes q·nodes) ∷ ‵ (MutAt u32 κ·nodes b·nodes o·nodes γ·nodes (length nodes) (nodes₃ s pages nodes register x-t r2)) ∷ ‵ (flft κ·register q·register) ∷ ‵ (MutAt Record′.row κ·register b·register o·register γ·register (length register) register) ∷ empty (sliceTy (tyRef erased mut (pointee (Record′.row .written)))) l₂₀ (empty (tyRef erased mut (pointee (Record′.row .written))) l₁₉ (holds (sliceTy (tyRef erased mut (pointee (u32 .written)))) l₁₈ (sliceVal (b·nodes, o·nodes) (length nodes)) (holds (tyRef erased mut (pointee (u32 .written))) l₁₇ (vptr b·nodes o·nodes) (holds tyUnit l₁₆ vunit (holds (sliceTy (tyRef erased imm (pointee (Record′.row .written)))) l₁₅ (sliceVal (b·register, o·register) (length register)) (holds (tyRef erased imm (pointee (Record′.row .written))) l₁₄ (vptr b·register o·register) (holds (sliceTy (tyRef erased imm (pointee (u32 .written)))) l₁₃ (sliceVal (b·nodes, o·nodes) (length nodes)) (holds (tyRef erased imm (pointee (u32 .written))) l₁₂ (vptr b·nodes o·nodes) (holds (sliceTy (tyRef erased imm (pointee (Record′.row .written)))) l₁₁ (sliceVal (b·register, o·register) (length register)) (holds (tyRef erased imm (pointee (Record′.row .written))) l₁₀ (vptr b·register o·register) (holds (sliceTy (tyRef erased imm (pointee (u32 .written)))) l₉ (sliceVal (b·nodes, o·nodes) (length nodes)) (holds (tyRef erased imm (pointee (u32 .written))) l₈ (vptr b·nodes o·nodes) (holds (tyAt (code.function .locals) 7) l₇ (Found′.mach r2) (holds (tyAt (code.function .locals) 6) l₆ (Lengths′.mach (r1 s pages nodes register x-t)) (holds (tyAt (code.function .locals) 5) l₅ (Ticket′.mach x-t) (holds (sliceTy (tyRef (named 2) mut (pointee (Record′.row .written)))) l₄ (sliceVal (b·register, o·register) (length register)) (holds (sliceTy (tyRef (named 1) mut (pointee (u32 .written)))) l₃ (sliceVal (b·nodes, o·nodes) (length nodes)) (holds (sliceTy (tyRef (named 0) imm (pointee (u8 .written)))) l₂ (sliceVal (b·pages, o·pages) (length pages)) (holds (tyAt (code.function .locals) 1) l₁ (Store′.mach s) (empty (tyAt (code.function .locals) 0) l₀ []))))))))))))))))))))) $
+      assigns ! (addr ! (from ! (fld ! refl (hop ! (look-in ! 38 (sub ! 0 refl (whole !))) (stop !))))) (from ! (stop !)) (init ! 8 refl (tt, tt)) $
+      assigns ! (agg ! (and-then ! (load ! (from ! (stop !)) (look ! 8 refl)) (and-then ! (load ! (from ! (fld ! refl (stop !))) (look-in ! 38 (sub ! 1 refl (whole !)))) (no-more !)))) (from ! (stop !)) (init ! 6 refl (tt, (tt, (record { fits = room·register .0 }, tt)))) $
       move ! (4 ∷ 5 ∷ []) $ lend-mut ! tt Record′.row κ·register q·register b·register o·register γ·register (length register) register (refl) (λ ν·4-register γ·4-register.
-      Call-count-woven.calls ! mem run (fmOf 𝓤 H (W .laws) 𝓣) known-count-woven (ν·4-register ∷ []) fullShare b·register o·register γ·4-register (length register) register (r2 .k) (r2 .update) (Found′.ok-k r2 ok·2) (Found′.ok-update r2 ok·2) (Facts.count-woven-1 s pages nodes register x-t ok·s (room·pages .0) (room·nodes .0) (room·register .0) ok·x-t ok·1 r2 ok·2 says·2 same·3-nodes) (and-then ! (load ! (from ! (stop !)) (look ! 6 refl)) (and-then ! (load ! (from ! (fld ! refl (stop !))) (look-in ! 28 (sub ! 0 refl (whole !)))) (and-then ! (load ! (from ! (fld ! refl (stop !))) (look-in ! 28 (sub ! 1 refl (whole !)))) (no-more !))))
+      Call-count-woven.calls ! mem run (fmOf 𝓤 H (W .laws) 𝓣) known-count-woven (ν·4-register ∷ []) fullShare b·register o·register γ·4-register (length register) register (r2 .k) (r2 .update) (Found′.ok-k r2 ok·2) (Found′.ok-update r2 ok·2) (Facts.count-woven-1 s pages nodes register x-t ok·s (room·pages .0) (room·nodes .0) (room·register .0) ok·x-t ok·1 r2 ok·2 says·2 same·3-nodes) (and-then ! (load ! (from ! (stop !)) (look ! 6 refl)) (and-then ! (load ! (from ! (fld ! refl (stop !))) (look-in ! 32 (sub ! 0 refl (whole !)))) (and-then ! (load ! (from ! (fld ! refl (stop !))) (look-in ! 32 (sub ! 1 refl (whole !)))) (no-more !))))
       (λ same·4-register. back-mut ! tt Record′.row κ·register q·register b·register o·register γ·register (length register) register (register₄ s pages nodes register x-t r2) ν·4-register γ·4-register (refl) same·4-register room·register $ move ! (2 ∷ 3 ∷ 4 ∷ 5 ∷ 0 ∷ 1 ∷ []) $ land ! (from ! (stop !)) (store ! 14 refl (tt, tt)) $
-      here ! (‵ (flft κ·pages q·pages) ∷ ‵ (ShrAt u8 κ·pages b·pages o·pages γ·pages (length pages) pages) ∷ ‵ (flft κ·nodes q·nodes) ∷ ‵ (MutAt u32 κ·nodes b·nodes o·nodes γ·nodes (length nodes) (nodes₃ s pages nodes register x-t r2)) ∷ ‵ (flft κ·register q·register) ∷ ‵ (MutAt Record′.row κ·register b·register o·register γ·register (length register) (register₄ s pages nodes register x-t r2)) ∷ holds (sliceTy (tyRef erased mut (pointee (Record′.row .written)))) l₁₈ (sliceVal (b·register, o·register) (length register)) (holds (tyRef erased mut (pointee (Record′.row .written))) l₁₇ (vptr b·register o·register) (holds (sliceTy (tyRef erased mut (pointee (u32 .written)))) l₁₆ (sliceVal (b·nodes, o·nodes) (length nodes)) (holds (tyRef erased mut (pointee (u32 .written))) l₁₅ (vptr b·nodes o·nodes) (holds tyUnit l₁₄ vunit (holds (sliceTy (tyRef erased imm (pointee (Record′.row .written)))) l₁₃ (sliceVal (b·register, o·register) (length register)) (holds (tyRef erased imm (pointee (Record′.row .written))) l₁₂ (vptr b·register o·register) (holds (sliceTy (tyRef erased imm (pointee (Record′.row .written)))) l₁₁ (sliceVal (b·register, o·register) (length register)) (holds (tyRef erased imm (pointee (Record′.row .written))) l₁₀ (vptr b·register o·register) (holds (sliceTy (tyRef erased imm (pointee (u32 .written)))) l₉ (sliceVal (b·nodes, o·nodes) (length nodes)) (holds (tyRef erased imm (pointee (u32 .written))) l₈ (vptr b·nodes o·nodes) (holds (tyAt (code.function .locals) 7) l₇ (Found′.mach r2) (holds (tyAt (code.function .locals) 6) l₆ (Lengths′.mach (r1 s pages nodes register x-t)) (holds (tyAt (code.function .locals) 5) l₅ (Ticket′.mach x-t) (holds (sliceTy (tyRef (named 2) mut (pointee (Record′.row .written)))) l₄ (sliceVal (b·register, o·register) (length register)) (holds (sliceTy (tyRef (named 1) mut (pointee (u32 .written)))) l₃ (sliceVal (b·nodes, o·nodes) (length nodes)) (holds (sliceTy (tyRef (named 0) imm (pointee (u8 .written)))) l₂ (sliceVal (b·pages, o·pages) (length pages)) (holds (tyAt (code.function .locals) 1) l₁ (Store′.mach s) (empty (tyAt (code.function .locals) 0) l₀ []))))))))))))))))))) $
-      Call-woven-answer.calls ! mem run (fmOf 𝓤 H (W .laws) 𝓣) known-woven-answer (r2 .k) (r2 .node) (Found′.ok-k r2 ok·2) (Found′.ok-node r2 ok·2) (and-then ! (load ! (from ! (fld ! refl (stop !))) (look-in ! 29 (sub ! 0 refl (whole !)))) (and-then ! (load ! (from ! (fld ! refl (stop !))) (look-in ! 29 (sub ! 3 refl (whole !)))) (no-more !)))
-      (λ ok·5. land ! (from ! (stop !)) (init ! 42 refl (Woven′.typed 𝓤 H A W (r5 s pages nodes register x-t r2) ok·5)) $
-      here ! (‵ (flft κ·pages q·pages) ∷ ‵ (ShrAt u8 κ·pages b·pages o·pages γ·pages (length pages) pages) ∷ ‵ (flft κ·nodes q·nodes) ∷ ‵ (MutAt u32 κ·nodes b·nodes o·nodes γ·nodes (length nodes) (nodes₃ s pages nodes register x-t r2)) ∷ ‵ (flft κ·register q·register) ∷ ‵ (MutAt Record′.row κ·register b·register o·register γ·register (length register) (register₄ s pages nodes register x-t r2)) ∷ holds (sliceTy (tyRef erased mut (pointee (Record′.row .written)))) l₁₈ (sliceVal (b·register, o·register) (length register)) (holds (tyRef erased mut (pointee (Record′.row .written))) l₁₇ (vptr b·register o·register) (holds (sliceTy (tyRef erased mut (pointee (u32 .written)))) l₁₆ (sliceVal (b·nodes, o·nodes) (length nodes)) (holds (tyRef erased mut (pointee (u32 .written))) l₁₅ (vptr b·nodes o·nodes) (holds tyUnit l₁₄ vunit (holds (sliceTy (tyRef erased imm (pointee (Record′.row .written)))) l₁₃ (sliceVal (b·register, o·register) (length register)) (holds (tyRef erased imm (pointee (Record′.row .written))) l₁₂ (vptr b·register o·register) (holds (sliceTy (tyRef erased imm (pointee (Record′.row .written)))) l₁₁ (sliceVal (b·register, o·register) (length register)) (holds (tyRef erased imm (pointee (Record′.row .written))) l₁₀ (vptr b·register o·register) (holds (sliceTy (tyRef erased imm (pointee (u32 .written)))) l₉ (sliceVal (b·nodes, o·nodes) (length nodes)) (holds (tyRef erased imm (pointee (u32 .written))) l₈ (vptr b·nodes o·nodes) (holds (tyAt (code.function .locals) 7) l₇ (Found′.mach r2) (holds (tyAt (code.function .locals) 6) l₆ (Lengths′.mach (r1 s pages nodes register x-t)) (holds (tyAt (code.function .locals) 5) l₅ (Ticket′.mach x-t) (holds (sliceTy (tyRef (named 2) mut (pointee (Record′.row .written)))) l₄ (sliceVal (b·register, o·register) (length register)) (holds (sliceTy (tyRef (named 1) mut (pointee (u32 .written)))) l₃ (sliceVal (b·nodes, o·nodes) (length nodes)) (holds (sliceTy (tyRef (named 0) imm (pointee (u8 .written)))) l₂ (sliceVal (b·pages, o·pages) (length pages)) (holds (tyAt (code.function .locals) 1) l₁ (Store′.mach s) (holds (tyAt (code.function .locals) 0) l₀ (Woven′.mach (r5 s pages nodes register x-t r2)) []))))))))))))))))))) $
-      returns ! (look ! 42 refl) $
-      move ! (42 ∷ 43 ∷ []) $ forget ! 0 refl $ free1 ! $ move ! (40 ∷ 41 ∷ []) $ forget ! 0 refl $ free1 ! $ move ! (38 ∷ 39 ∷ []) $ forget ! 0 refl $ free1 ! $ move ! (36 ∷ 37 ∷ []) $ forget ! 0 refl $ free1 ! $ move ! (34 ∷ 35 ∷ []) $ forget ! 0 refl $ free1 ! $ move ! (32 ∷ 33 ∷ []) $ forget ! 0 refl $ free1 ! $ move ! (30 ∷ 31 ∷ []) $ forget ! 0 refl $ free1 ! $ move ! (28 ∷ 29 ∷ []) $ forget ! 0 refl $ free1 ! $ move ! (26 ∷ 27 ∷ []) $ forget ! 0 refl $ free1 ! $ move ! (24 ∷ 25 ∷ []) $ forget ! 0 refl $ free1 ! $ move ! (22 ∷ 23 ∷ []) $ forget ! 0 refl $ free1 ! $ move ! (20 ∷ 21 ∷ []) $ forget ! 0 refl $ free1 ! $ move ! (18 ∷ 19 ∷ []) $ forget ! 0 refl $ free1 ! $ move ! (16 ∷ 17 ∷ []) $ forget ! 0 refl $ free1 ! $ move ! (14 ∷ 15 ∷ []) $ forget ! 0 refl $ free1 ! $ move ! (12 ∷ 13 ∷ []) $ forget ! 0 refl $ free1 ! $ move ! (10 ∷ 11 ∷ []) $ forget ! 0 refl $ free1 ! $ move ! (8 ∷ 9 ∷ []) $ forget ! 0 refl $ free1 ! $ move ! (6 ∷ 7 ∷ []) $ forget ! 0 refl $ free1 ! $ free0 ! $ by ! (exits (r5 s pages nodes register x-t r2) ok·5 (nodes₃ s pages nodes register x-t r2) (sym (refl ∙ sym same·3-nodes)) (register₄ s pages nodes register x-t r2) (sym (refl ∙ sym same·4-register)) (Facts.exit-1 s pages nodes register x-t ok·s (room·pages .0) (room·nodes .0) (room·register .0) ok·x-t ok·1 r2 ok·2 says·2 same·3-nodes same·4-register ok·5)))))))))))))))))))))))))))))))
+      here ! (‵ (flft κ·pages q·pages) ∷ ‵ (ShrAt u8 κ·pages b·pages o·pages γ·pages (length pages) pages) ∷ ‵ (flft κ·nodes q·nodes) ∷ ‵ (MutAt u32 κ·nodes b·nodes o·nodes γ·nodes (length nodes) (nodes₃ s pages nodes register x-t r2)) ∷ ‵ (flft κ·register q·register) ∷ ‵ (MutAt Record′.row κ·register b·register o·register γ·register (length register) (register₄ s pages nodes register x-t r2)) ∷ holds (sliceTy (tyRef erased mut (pointee (Record′.row .written)))) l₂₀ (sliceVal (b·register, o·register) (length register)) (holds (tyRef erased mut (pointee (Record′.row .written))) l₁₉ (vptr b·register o·register) (holds (sliceTy (tyRef erased mut (pointee (u32 .written)))) l₁₈ (sliceVal (b·nodes, o·nodes) (length nodes)) (holds (tyRef erased mut (pointee (u32 .written))) l₁₇ (vptr b·nodes o·nodes) (holds tyUnit l₁₆ vunit (holds (sliceTy (tyRef erased imm (pointee (Record′.row .written)))) l₁₅ (sliceVal (b·register, o·register) (length register)) (holds (tyRef erased imm (pointee (Record′.row .written))) l₁₄ (vptr b·register o·register) (holds (sliceTy (tyRef erased imm (pointee (u32 .written)))) l₁₃ (sliceVal (b·nodes, o·nodes) (length nodes)) (holds (tyRef erased imm (pointee (u32 .written))) l₁₂ (vptr b·nodes o·nodes) (holds (sliceTy (tyRef erased imm (pointee (Record′.row .written)))) l₁₁ (sliceVal (b·register, o·register) (length register)) (holds (tyRef erased imm (pointee (Record′.row .written))) l₁₀ (vptr b·register o·register) (holds (sliceTy (tyRef erased imm (pointee (u32 .written)))) l₉ (sliceVal (b·nodes, o·nodes) (length nodes)) (holds (tyRef erased imm (pointee (u32 .written))) l₈ (vptr b·nodes o·nodes) (holds (tyAt (code.function .locals) 7) l₇ (Found′.mach r2) (holds (tyAt (code.function .locals) 6) l₆ (Lengths′.mach (r1 s pages nodes register x-t)) (holds (tyAt (code.function .locals) 5) l₅ (Ticket′.mach x-t) (holds (sliceTy (tyRef (named 2) mut (pointee (Record′.row .written)))) l₄ (sliceVal (b·register, o·register) (length register)) (holds (sliceTy (tyRef (named 1) mut (pointee (u32 .written)))) l₃ (sliceVal (b·nodes, o·nodes) (length nodes)) (holds (sliceTy (tyRef (named 0) imm (pointee (u8 .written)))) l₂ (sliceVal (b·pages, o·pages) (length pages)) (holds (tyAt (code.function .locals) 1) l₁ (Store′.mach s) (empty (tyAt (code.function .locals) 0) l₀ []))))))))))))))))))))) $
+      Call-woven-answer.calls ! mem run (fmOf 𝓤 H (W .laws) 𝓣) known-woven-answer (r2 .k) (r2 .node) (Found′.ok-k r2 ok·2) (Found′.ok-node r2 ok·2) (and-then ! (load ! (from ! (fld ! refl (stop !))) (look-in ! 33 (sub ! 0 refl (whole !)))) (and-then ! (load ! (from ! (fld ! refl (stop !))) (look-in ! 33 (sub ! 3 refl (whole !)))) (no-more !)))
+      (λ ok·5. land ! (from ! (stop !)) (init ! 46 refl (Woven′.typed 𝓤 H A W (r5 s pages nodes register x-t r2) ok·5)) $
+      here ! (‵ (flft κ·pages q·pages) ∷ ‵ (ShrAt u8 κ·pages b·pages o·pages γ·pages (length pages) pages) ∷ ‵ (flft κ·nodes q·nodes) ∷ ‵ (MutAt u32 κ·nodes b·nodes o·nodes γ·nodes (length nodes) (nodes₃ s pages nodes register x-t r2)) ∷ ‵ (flft κ·register q·register) ∷ ‵ (MutAt Record′.row κ·register b·register o·register γ·register (length register) (register₄ s pages nodes register x-t r2)) ∷ holds (sliceTy (tyRef erased mut (pointee (Record′.row .written)))) l₂₀ (sliceVal (b·register, o·register) (length register)) (holds (tyRef erased mut (pointee (Record′.row .written))) l₁₉ (vptr b·register o·register) (holds (sliceTy (tyRef erased mut (pointee (u32 .written)))) l₁₈ (sliceVal (b·nodes, o·nodes) (length nodes)) (holds (tyRef erased mut (pointee (u32 .written))) l₁₇ (vptr b·nodes o·nodes) (holds tyUnit l₁₆ vunit (holds (sliceTy (tyRef erased imm (pointee (Record′.row .written)))) l₁₅ (sliceVal (b·register, o·register) (length register)) (holds (tyRef erased imm (pointee (Record′.row .written))) l₁₄ (vptr b·register o·register) (holds (sliceTy (tyRef erased imm (pointee (u32 .written)))) l₁₃ (sliceVal (b·nodes, o·nodes) (length nodes)) (holds (tyRef erased imm (pointee (u32 .written))) l₁₂ (vptr b·nodes o·nodes) (holds (sliceTy (tyRef erased imm (pointee (Record′.row .written)))) l₁₁ (sliceVal (b·register, o·register) (length register)) (holds (tyRef erased imm (pointee (Record′.row .written))) l₁₀ (vptr b·register o·register) (holds (sliceTy (tyRef erased imm (pointee (u32 .written)))) l₉ (sliceVal (b·nodes, o·nodes) (length nodes)) (holds (tyRef erased imm (pointee (u32 .written))) l₈ (vptr b·nodes o·nodes) (holds (tyAt (code.function .locals) 7) l₇ (Found′.mach r2) (holds (tyAt (code.function .locals) 6) l₆ (Lengths′.mach (r1 s pages nodes register x-t)) (holds (tyAt (code.function .locals) 5) l₅ (Ticket′.mach x-t) (holds (sliceTy (tyRef (named 2) mut (pointee (Record′.row .written)))) l₄ (sliceVal (b·register, o·register) (length register)) (holds (sliceTy (tyRef (named 1) mut (pointee (u32 .written)))) l₃ (sliceVal (b·nodes, o·nodes) (length nodes)) (holds (sliceTy (tyRef (named 0) imm (pointee (u8 .written)))) l₂ (sliceVal (b·pages, o·pages) (length pages)) (holds (tyAt (code.function .locals) 1) l₁ (Store′.mach s) (holds (tyAt (code.function .locals) 0) l₀ (Woven′.mach (r5 s pages nodes register x-t r2)) []))))))))))))))))))))) $
+      returns ! (look ! 46 refl) $
+      move ! (46 ∷ 47 ∷ []) $ forget ! 0 refl $ free1 ! $ move ! (44 ∷ 45 ∷ []) $ forget ! 0 refl $ free1 ! $ move ! (42 ∷ 43 ∷ []) $ forget ! 0 refl $ free1 ! $ move ! (40 ∷ 41 ∷ []) $ forget ! 0 refl $ free1 ! $ move ! (38 ∷ 39 ∷ []) $ forget ! 0 refl $ free1 ! $ move ! (36 ∷ 37 ∷ []) $ forget ! 0 refl $ free1 ! $ move ! (34 ∷ 35 ∷ []) $ forget ! 0 refl $ free1 ! $ move ! (32 ∷ 33 ∷ []) $ forget ! 0 refl $ free1 ! $ move ! (30 ∷ 31 ∷ []) $ forget ! 0 refl $ free1 ! $ move ! (28 ∷ 29 ∷ []) $ forget ! 0 refl $ free1 ! $ move ! (26 ∷ 27 ∷ []) $ forget ! 0 refl $ free1 ! $ move ! (24 ∷ 25 ∷ []) $ forget ! 0 refl $ free1 ! $ move ! (22 ∷ 23 ∷ []) $ forget ! 0 refl $ free1 ! $ move ! (20 ∷ 21 ∷ []) $ forget ! 0 refl $ free1 ! $ move ! (18 ∷ 19 ∷ []) $ forget ! 0 refl $ free1 ! $ move ! (16 ∷ 17 ∷ []) $ forget ! 0 refl $ free1 ! $ move ! (14 ∷ 15 ∷ []) $ forget ! 0 refl $ free1 ! $ move ! (12 ∷ 13 ∷ []) $ forget ! 0 refl $ free1 ! $ move ! (10 ∷ 11 ∷ []) $ forget ! 0 refl $ free1 ! $ move ! (8 ∷ 9 ∷ []) $ forget ! 0 refl $ free1 ! $ move ! (6 ∷ 7 ∷ []) $ forget ! 0 refl $ free1 ! $ free0 ! $ by ! (exits (r5 s pages nodes register x-t r2) ok·5 (nodes₃ s pages nodes register x-t r2) (sym (refl ∙ sym same·3-nodes)) (register₄ s pages nodes register x-t r2) (sym (refl ∙ sym same·4-register)) (Facts.exit-1 s pages nodes register x-t ok·s (room·pages .0) (room·nodes .0) (room·register .0) ok·x-t ok·1 r2 ok·2 says·2 same·3-nodes same·4-register ok·5))))))))))))))))))))))))))))))))))
 
 module _ {M : Type 1} (𝓤 : URA M) (H : Heap 𝓤) (A : Atoms 𝓤) (W : Given 𝓤 H A) (mem : Memory → SProp 𝓤) (run : Routine → Fun 𝓤) where
   walks : (𝓣 : Tables 𝓤 H) → Triple 𝓤 (𝓣 .C #lengths-of) (Call-lengths-of.Asked 𝓤 H A mem run) → Triple 𝓤 (𝓣 .C #find-next) (Call-find-next.Asked 𝓤 H A mem run) → Triple 𝓤 (𝓣 .C #store-woven) (Call-store-woven.Asked 𝓤 H A mem run) → Triple 𝓤 (𝓣 .C #count-woven) (Call-count-woven.Asked 𝓤 H A mem run) → Triple 𝓤 (𝓣 .C #woven-answer) (Call-woven-answer.Asked 𝓤 H A mem run) → Walks 𝓤 H A weave‴.ended stayed (WpFn 𝓤 H (𝓣 .C) (𝓣 .Λ) code.function) (weave‴.clauses 𝓤 H A mem run)

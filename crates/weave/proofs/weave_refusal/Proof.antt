@@ -49,23 +49,20 @@ returns-6 : tie.Need-returns-6
 unfolding weaveRefusal weaveRows
 returns-6 c = first (skip-flag (fits (c .before .before .before .before .before .before .before .before .before .before .before)) (skip (omega arith, omega arith) (skip (inr (omega arith), inr (inl (omega arith))) (hit (inr (inl (omega arith)))))))
 
-count-of-requires : tie.Need-count-of-requires
-count-of-requires c κs = search needs
-
 returns-7 : tie.Need-returns-7
 unfolding weaveRefusal weaveRows
-returns-7 c = first (skip-flag (fits (c .before .before .before .before .before .before .before .before .before .before .before .before .before .before)) (skip (omega arith, omega arith) (hit (inr (omega arith, (omega arith, omega (arith, c .before .before .count-of .ensures)))))))
+returns-7 c = first (skip-flag (fits (c .before .before .before .before .before .before .before .before .before .before .before .before .before)) (skip (omega arith, omega arith) (hit (inr (omega arith, (omega arith, omega arith))))))
 
 node-lost-requires : tie.Need-node-lost-requires
 node-lost-requires c κs = search needs
 
 returns-8 : tie.Need-returns-8
 unfolding weaveRefusal weaveRows
-returns-8 c = first (skip-flag (fits (c .before .before .before .before .before .before .before .before .before .before .before .before .before .before .before .before)) (skip (omega arith, omega arith) (skip (inr (omega arith), inr (inr (omega (arith, c .before .before .before .before .count-of .ensures)))) (hit-flag (lost _ _ _ _ _ (omega arith) (omega arith) (sym (c .before .node-lost .ensures) ∙ c .if8 .taken))))))
+returns-8 c = first (skip-flag (fits (c .before .before .before .before .before .before .before .before .before .before .before .before .before .before .before)) (skip (omega arith, omega arith) (skip (inr (omega arith), inr (inr (omega arith))) (hit-flag (lost _ _ _ _ _ (omega arith) (omega arith) (sym (c .before .node-lost .ensures) ∙ c .if8 .taken))))))
 
 returns-9 : tie.Need-returns-9
 unfolding weaveRefusal weaveRows
-returns-9 c = first (skip-flag (fits (c .before .before .before .before .before .before .before .before .before .before .before .before .before .before .before .before)) (skip (omega arith, omega arith) (skip (inr (omega arith), inr (inr (omega (arith, c .before .before .before .before .count-of .ensures)))) (skip-flag (lost _ _ _ _ _ (omega arith) (omega arith) (sym (c .before .node-lost .ensures) ∙ c .if8 .left)) none))))
+returns-9 c = first (skip-flag (fits (c .before .before .before .before .before .before .before .before .before .before .before .before .before .before .before)) (skip (omega arith, omega arith) (skip (inr (omega arith), inr (inr (omega arith))) (skip-flag (lost _ _ _ _ _ (omega arith) (omega arith) (sym (c .before .node-lost .ensures) ∙ c .if8 .left)) none))))
 
 pub weave-refusal-spec : {M : Type 1} → statement M
 weave-refusal-spec =
@@ -78,7 +75,6 @@ weave-refusal-spec =
     returns-4
     returns-5
     returns-6
-    count-of-requires
     returns-7
     node-lost-requires
     returns-8

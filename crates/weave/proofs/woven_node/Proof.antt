@@ -15,8 +15,8 @@ kept-of-requires-2 : tie.Need-kept-of-requires-2
 kept-of-requires-2 c κs = search needs
 
 returns : tie.Need-returns
-returns c = λ s rs d. rw (c .before .before .before .before .nodes-left .ensures, c .before .kept-of .ensures, c .kept-of2 .ensures)
-    (inner-numbers _ _ _ (c .before .before .before .before .before .before .pre) s rs _ _ d (omega arith))
+returns c = λ s nodes rs d. rw (c .before .before .before .before .nodes-left .ensures, c .before .kept-of .ensures, c .kept-of2 .ensures)
+    (inner-numbers _ _ _ (c .before .before .before .before .before .before .pre) s nodes rs _ _ d (omega arith))
 
 pages-from-requires : tie.Need-pages-from-requires
 pages-from-requires c κs = search needs
@@ -28,8 +28,8 @@ kept-of-requires-3 : tie.Need-kept-of-requires-3
 kept-of-requires-3 c κs = search needs
 
 returns-2 : tie.Need-returns-2
-returns-2 c = λ s rs d. rw (c .before .before .before .before .before .nodes-left .ensures, c .kept-of3 .ensures, c .before .pages-from .ensures)
-    (leaf-numbers _ _ _ (c .before .before .before .before .before .before .before .pre) s rs _ _ d (omega arith))
+returns-2 c = λ s nodes rs d. rw (c .before .before .before .before .before .nodes-left .ensures, c .kept-of3 .ensures, c .before .pages-from .ensures)
+    (leaf-numbers _ _ _ (c .before .before .before .before .before .before .before .pre) s nodes rs _ _ d (omega arith))
 
 pub woven-node-spec : {M : Type 1} → statement M
 woven-node-spec =

@@ -9,10 +9,7 @@ use Rattle.answers.specs.Answers.{turned, written, refusedSaid, replied,
 use Rattle.answers.specs.declared.Kept.{Kept}
 use Rattle.answers.specs.declared.Turn.{Turn}
 use Rattle.format.specs.declared.Formatted.{Formatted}
-use Rattle.lines.specs.declared.Branch.{Branch}
-use Rattle.lines.specs.declared.Line.{Line}
 use Rattle.tree.specs.declared.Ticket.{Ticket}
-use Rattle.tree.specs.declared.Version.{Version}
 use Rattle.versions.specs.declared.Store.{Store}
 
 abbrev pub ens : Kept → Formatted → List ℕ → List ℕ → Turn → Type 0

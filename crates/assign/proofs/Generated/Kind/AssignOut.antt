@@ -72,7 +72,7 @@ pub make : (y0 : Store) (y1 : Assigned) → Is Store′.row y0 (Store′.vals y0
 make y0 y1 g0 g1 = LL.owes T′.the-type T″.the-laws (build y0 y1) (g0, (g1, tt))
 
 abbrev pub stride : ℕ
-stride = 736
+stride = 232
 
 -- the byte offset of an element of a slice does not wrap
 pub scaled : (n i : ℕ) → i < n → n * stride < 2 ^ 63 → i * stride < 2 ^ 64

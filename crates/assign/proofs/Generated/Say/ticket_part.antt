@@ -6,7 +6,8 @@ use mathlib.Core.List.{List, [], _∷_}
 use mathlib.Core.Bool.{Bool}
 use mathlib.Core.Path.{_≡_}
 use lib.Dec.{ltb}
-use Rattle.tree.specs.Tree.{countOf}
+use Rattle.tree.specs.Tree.{countOf, rootHeight}
+use Rattle.register.specs.Register.{limited}
 use Rattle.table.specs.Table.{_<?_, _gives_, noLine, always, firstRefusal, unless}
 use Rattle.versions.specs.Store.{areasOf, linesIn, lineIn}
 use Rattle.assign.specs.Assign.{updateAt, numberBy, Roomy, allPut, roomRefusal, assignRefusal, withUpdate, withUpdateOf, withUpdatePart, withEntryOf, withAssigned, assignedBy, assignOut, assignRegister}

@@ -6,7 +6,8 @@ use mathlib.Core.List.{List, [], _∷_}
 use mathlib.Core.Bool.{Bool}
 use mathlib.Core.Path.{_≡_}
 use lib.Dec.{ltb}
-use Rattle.tree.specs.Tree.{countOf}
+use Rattle.tree.specs.Tree.{countOf, rootHeight}
+use Rattle.register.specs.Register.{limited}
 use Rattle.table.specs.Table.{_<?_, _gives_, noLine, always, firstRefusal, unless}
 use Rattle.versions.specs.Store.{areasOf, linesIn, lineIn}
 use Rattle.assign.specs.Assign.{updateAt, numberBy, Roomy, allPut, roomRefusal, assignRefusal, withUpdate, withUpdateOf, withUpdatePart, withEntryOf, withAssigned, assignedBy, assignOut, assignRegister}
@@ -18,7 +19,7 @@ use Rattle.tree.specs.declared.PageIndex.{PageIndex}
 use Rattle.tree.specs.declared.Ticket.{Ticket}
 
 abbrev pub ens : Record → Ticket → ℕ → PageIndex → ℕ → ℕ → ℕ → Record → Type 0
-ens r t c f n blob place q = q ≡ withUpdatePart r (t .0) c (f .0) (min (f .0 + n) (2 ^ 64 - 1) - 1) (max blob (min (f .0 + n) (2 ^ 64 - 1))) place
+ens r t c f n blob place q = q ≡ withUpdatePart r (t .0) c (f .0) ((min (f .0 + n) (2 ^ 64 - 1)) - 1) (max blob (min (f .0 + n) (2 ^ 64 - 1))) (min (place + rootHeight (limited (f .0) ((min (f .0 + n) (2 ^ 64 - 1)) - 1) (max blob (min (f .0 + n) (2 ^ 64 - 1))) .size)) (2 ^ 64 - 1))
 
 abbrev pub res : Record → Ticket → ℕ → PageIndex → ℕ → ℕ → ℕ → Record
-res r t c f n blob place = withUpdatePart r (t .0) c (f .0) (min (f .0 + n) (2 ^ 64 - 1) - 1) (max blob (min (f .0 + n) (2 ^ 64 - 1))) place
+res r t c f n blob place = withUpdatePart r (t .0) c (f .0) ((min (f .0 + n) (2 ^ 64 - 1)) - 1) (max blob (min (f .0 + n) (2 ^ 64 - 1))) (min (place + rootHeight (limited (f .0) ((min (f .0 + n) (2 ^ 64 - 1)) - 1) (max blob (min (f .0 + n) (2 ^ 64 - 1))) .size)) (2 ^ 64 - 1))

@@ -9,13 +9,10 @@ use Rattle.versions.specs.Store.{areasOf}
 use Rattle.begin.specs.Begin.{beginRefusal, withTicketPart, begunBy, beginOut, beginRegister}
 use Rattle.begin.specs.declared.BeginOut.{BeginOut}
 use Rattle.begin.specs.declared.Begun.{Begun}
-use Rattle.lines.specs.declared.Branch.{Branch}
 use Rattle.lines.specs.declared.Entries.{Entries}
-use Rattle.lines.specs.declared.Line.{Line}
 use Rattle.register.specs.declared.Record.{Record}
 use Rattle.tree.specs.declared.PageIndex.{PageIndex}
 use Rattle.tree.specs.declared.Ticket.{Ticket}
-use Rattle.tree.specs.declared.Version.{Version}
 use Rattle.versions.specs.declared.Store.{Store}
 
 abbrev pub ens : Store → List ℕ → List ℕ → List Record → ℕ → List Record → BeginOut → Type 0

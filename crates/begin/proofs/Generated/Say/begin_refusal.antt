@@ -9,10 +9,7 @@ use Rattle.versions.specs.Store.{areasOf}
 use Rattle.begin.specs.Begin.{beginRefusal, withTicketPart, begunBy, beginOut, beginRegister}
 use Rattle.begin.specs.declared.BeginOut.{BeginOut}
 use Rattle.begin.specs.declared.Begun.{Begun}
-use Rattle.lines.specs.declared.Branch.{Branch}
-use Rattle.lines.specs.declared.Line.{Line}
 use Rattle.tree.specs.declared.Ticket.{Ticket}
-use Rattle.tree.specs.declared.Version.{Version}
 use Rattle.versions.specs.declared.Lengths.{Lengths}
 use Rattle.versions.specs.declared.Store.{Store}
 

@@ -11,7 +11,6 @@ use Rattle.versions.specs.Size.{notThere}
 use Rattle.branch.specs.Branch.{begunFrom, branchedBy, branchOut}
 use Rattle.branch.specs.declared.BranchOut.{BranchOut}
 use Rattle.branch.specs.declared.Branched.{Branched}
-use Rattle.lines.specs.declared.Branch.{Branch}
 use Rattle.lines.specs.declared.Entries.{Entries}
 use Rattle.lines.specs.declared.Line.{Line}
 use Rattle.register.specs.declared.Record.{Record}

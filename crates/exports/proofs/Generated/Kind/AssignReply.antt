@@ -76,7 +76,7 @@ pub make : (y0 : ℕ) (y1 : Store) (y2 : ℕ) (y3 : ℕ) → Is u64 y0 (uint-val
 make y0 y1 y2 y3 g0 g1 g2 g3 = LL.owes T′.the-type T″.the-laws (build y0 y1 y2 y3) (g0, (g1, (g2, (g3, tt))))
 
 abbrev pub stride : ℕ
-stride = 736
+stride = 232
 
 -- the byte offset of an element of a slice does not wrap
 pub scaled : (n i : ℕ) → i < n → n * stride < 2 ^ 63 → i * stride < 2 ^ 64

@@ -73,7 +73,7 @@ pub make : (y0 : ℕ) (y1 : Store) (y2 : ℕ) → Is u64 y0 (uint-vals w64 y0) �
 make y0 y1 y2 g0 g1 g2 = LL.owes T′.the-type T″.the-laws (build y0 y1 y2) (g0, (g1, (g2, tt)))
 
 abbrev pub stride : ℕ
-stride = 728
+stride = 224
 
 -- the byte offset of an element of a slice does not wrap
 pub scaled : (n i : ℕ) → i < n → n * stride < 2 ^ 63 → i * stride < 2 ^ 64

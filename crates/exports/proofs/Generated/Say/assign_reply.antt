@@ -8,8 +8,6 @@ use mathlib.Core.Path.{_≡_}
 use Rattle.replies.specs.Replies.{noStore, formatReply, beginReply, putReply, assignReply, weaveReply, publishReply, branchReply, readReply, sizeReply, recentReply, stampReply, viewReply}
 use Rattle.assign.specs.declared.AssignOut.{AssignOut}
 use Rattle.assign.specs.declared.Assigned.{Assigned}
-use Rattle.lines.specs.declared.Branch.{Branch}
-use Rattle.lines.specs.declared.Line.{Line}
 use Rattle.replies.specs.declared.AssignReply.{AssignReply}
 use Rattle.replies.specs.declared.BeginReply.{BeginReply}
 use Rattle.replies.specs.declared.BranchReply.{BranchReply}

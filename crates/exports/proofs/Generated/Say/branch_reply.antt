@@ -8,7 +8,6 @@ use mathlib.Core.Path.{_≡_}
 use Rattle.replies.specs.Replies.{noStore, formatReply, beginReply, putReply, assignReply, weaveReply, publishReply, branchReply, readReply, sizeReply, recentReply, stampReply, viewReply}
 use Rattle.branch.specs.declared.BranchOut.{BranchOut}
 use Rattle.branch.specs.declared.Branched.{Branched}
-use Rattle.lines.specs.declared.Branch.{Branch}
 use Rattle.lines.specs.declared.Line.{Line}
 use Rattle.replies.specs.declared.AssignReply.{AssignReply}
 use Rattle.replies.specs.declared.BeginReply.{BeginReply}
@@ -20,7 +19,6 @@ use Rattle.replies.specs.declared.VersionReply.{VersionReply}
 use Rattle.replies.specs.declared.ViewReply.{ViewReply}
 use Rattle.replies.specs.declared.WeaveReply.{WeaveReply}
 use Rattle.tree.specs.declared.Ticket.{Ticket}
-use Rattle.tree.specs.declared.Version.{Version}
 use Rattle.versions.specs.declared.Store.{Store}
 
 abbrev pub ens : BranchOut → BranchReply → Type 0

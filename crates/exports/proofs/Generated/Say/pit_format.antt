@@ -20,14 +20,11 @@ use Rattle.versions.specs.Recent.{recentOut}
 use Rattle.stamp.specs.Stamp.{stampOut}
 use Rattle.view.specs.View.{viewPart, viewAt}
 use Rattle.replies.specs.Replies.{formatReply, beginReply, putReply, assignReply, weaveReply, publishReply, branchReply, readReply, sizeReply, recentReply, stampReply, viewReply}
-use Rattle.lines.specs.declared.Branch.{Branch}
 use Rattle.lines.specs.declared.Entries.{Entries}
-use Rattle.lines.specs.declared.Line.{Line}
 use Rattle.register.specs.declared.Record.{Record}
 use Rattle.replies.specs.declared.FormatReply.{FormatReply}
 use Rattle.tree.specs.declared.PageIndex.{PageIndex}
 use Rattle.tree.specs.declared.Ticket.{Ticket}
-use Rattle.tree.specs.declared.Version.{Version}
 use Rattle.versions.specs.declared.Store.{Store}
 
 abbrev pub ens : ℕ → ℕ → ℕ → ℕ → List ℕ → List ℕ → List Record → List ℕ → List ℕ → List Record → FormatReply → Type 0

@@ -76,7 +76,7 @@ pub ok-Refused-0 : (y0 : ℕ) → Ok (Formatted.Refused y0) → Is u64 y0 (uint-
 ok-Refused-0 y0 g = LL.owed T′.the-type T″.the-laws (Formatted.Refused y0) _ g .0
 
 abbrev pub stride : ℕ
-stride = 720
+stride = 216
 
 -- the byte offset of an element of a slice does not wrap
 pub scaled : (n i : ℕ) → i < n → n * stride < 2 ^ 63 → i * stride < 2 ^ 64

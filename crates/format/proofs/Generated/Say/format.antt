@@ -12,13 +12,10 @@ use Rattle.table.specs.Table.{holds, outside}
 use Rattle.versions.specs.Store.{areasOf}
 use Rattle.format.specs.Format.{fresh, formatRefusal, formatted, formatAnswer, formatAreas}
 use Rattle.format.specs.declared.Formatted.{Formatted}
-use Rattle.lines.specs.declared.Branch.{Branch}
 use Rattle.lines.specs.declared.Entries.{Entries}
-use Rattle.lines.specs.declared.Line.{Line}
 use Rattle.register.specs.declared.Record.{Record}
 use Rattle.tree.specs.declared.PageIndex.{PageIndex}
 use Rattle.tree.specs.declared.Ticket.{Ticket}
-use Rattle.tree.specs.declared.Version.{Version}
 use Rattle.versions.specs.declared.Store.{Store}
 
 abbrev pub ens : ℕ → ℕ → ℕ → ℕ → List ℕ → List ℕ → List Record → List ℕ → List ℕ → List Record → Formatted → Type 0

@@ -12,10 +12,7 @@ use Rattle.table.specs.Table.{holds, outside}
 use Rattle.versions.specs.Store.{areasOf}
 use Rattle.format.specs.Format.{fresh, formatRefusal, formatted, formatAnswer, formatAreas}
 use Rattle.format.specs.declared.Formatted.{Formatted}
-use Rattle.lines.specs.declared.Branch.{Branch}
-use Rattle.lines.specs.declared.Line.{Line}
 use Rattle.tree.specs.declared.Ticket.{Ticket}
-use Rattle.tree.specs.declared.Version.{Version}
 use Rattle.versions.specs.declared.Lengths.{Lengths}
 use Rattle.versions.specs.declared.Store.{Store}
 

@@ -9,7 +9,6 @@ use Rattle.table.specs.Table.{_gives_, _and_, test, firstRefusal, orElse}
 use Rattle.versions.specs.Store.{areasOf, lineIn}
 use Rattle.versions.specs.Size.{notThere}
 use Rattle.publish.specs.Publish.{hasNext, numberBy, dueBy, publishedBy, publishOut}
-use Rattle.lines.specs.declared.Branch.{Branch}
 use Rattle.lines.specs.declared.Line.{Line}
 use Rattle.publish.specs.declared.PublishOut.{PublishOut}
 use Rattle.publish.specs.declared.Published.{Published}

@@ -9,14 +9,11 @@ use Rattle.pages.specs.Pages.{put}
 use Rattle.table.specs.Table.{unless}
 use Rattle.versions.specs.Store.{areasOf}
 use Rattle.put.specs.Put.{bitOf, withBit, putRefusal, withPut, putIn, putOut, putPages, putRegister}
-use Rattle.lines.specs.declared.Branch.{Branch}
 use Rattle.lines.specs.declared.Entries.{Entries}
-use Rattle.lines.specs.declared.Line.{Line}
 use Rattle.put.specs.declared.PutIn.{PutIn}
 use Rattle.register.specs.declared.Record.{Record}
 use Rattle.tree.specs.declared.PageIndex.{PageIndex}
 use Rattle.tree.specs.declared.Ticket.{Ticket}
-use Rattle.tree.specs.declared.Version.{Version}
 use Rattle.versions.specs.declared.Store.{Store}
 
 abbrev pub ens : Store → List ℕ → List ℕ → List Record → Ticket → ℕ → List ℕ → List ℕ → List Record → PutIn → Type 0

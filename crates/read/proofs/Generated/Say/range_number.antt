@@ -12,7 +12,6 @@ use Rattle.read.specs.Range.{rangeRefusal, rangeNumber, Ranged, orLost, 
 use Rattle.versions.specs.Store.{areasOf}
 use Rattle.walk.specs.FindPage.{findPage, numberWithin, isLost}
 use Rattle.read.specs.Read.{someLost, pagesTouched, bytesFrom, filledBy, readOut, readBuffer}
-use Rattle.lines.specs.declared.Branch.{Branch}
 use Rattle.lines.specs.declared.Entries.{Entries}
 use Rattle.lines.specs.declared.Line.{Line}
 use Rattle.read.specs.declared.Chunk.{Chunk}

@@ -32,54 +32,54 @@ use Rattle.read.proofs.Generated.Say.copy_page as copy-page″
 use Rattle.read.proofs.copy_range.Proof.Loop as Loop
 
 abbrev pub r1 : ℕ → ℕ → List ℕ → List ℕ → List Record → ℕ → ByteOffset → ℕ → ℕ → List ℕ → ℕ → List ℕ → Chunk
-r1 size count pages nodes register c offset len x-from buffer v11 buffer-now = chunk-at″.res size (ByteOffset′.build ((offset .0) + v11)) (len - v11)
+r1 size count pages nodes register c offset len x-from buffer v13 buffer-now = chunk-at″.res size (ByteOffset′.build ((offset .0) + v13)) (len - v13)
 
 abbrev pub r2 : ℕ → ℕ → List ℕ → List ℕ → List Record → ℕ → ByteOffset → ℕ → ℕ → List ℕ → ℕ → List ℕ → Found
-r2 size count pages nodes register c offset len x-from buffer v11 buffer-now = find-page″.res nodes register c ((r1 size count pages nodes register c offset len x-from buffer v11 buffer-now) .page)
+r2 size count pages nodes register c offset len x-from buffer v13 buffer-now = find-page″.res nodes register c ((r1 size count pages nodes register c offset len x-from buffer v13 buffer-now) .page)
 
 abbrev pub r3 : ℕ → ℕ → List ℕ → List ℕ → List Record → ℕ → ByteOffset → ℕ → ℕ → List ℕ → ℕ → List ℕ → ℕ
-r3 size count pages nodes register c offset len x-from buffer v11 buffer-now = number-found″.res count (r2 size count pages nodes register c offset len x-from buffer v11 buffer-now)
+r3 size count pages nodes register c offset len x-from buffer v13 buffer-now = number-found″.res count (r2 size count pages nodes register c offset len x-from buffer v13 buffer-now)
 
 abbrev pub r4 : ℕ → ℕ → List ℕ → List ℕ → List Record → ℕ → ByteOffset → ℕ → ℕ → List ℕ → ℕ → List ℕ → Bool
-r4 size count pages nodes register c offset len x-from buffer v11 buffer-now = copy-page″.res pages size (r3 size count pages nodes register c offset len x-from buffer v11 buffer-now) ((r1 size count pages nodes register c offset len x-from buffer v11 buffer-now) .from) ((r1 size count pages nodes register c offset len x-from buffer v11 buffer-now) .count) buffer-now v11
+r4 size count pages nodes register c offset len x-from buffer v13 buffer-now = copy-page″.res pages size (r3 size count pages nodes register c offset len x-from buffer v13 buffer-now) ((r1 size count pages nodes register c offset len x-from buffer v13 buffer-now) .from) ((r1 size count pages nodes register c offset len x-from buffer v13 buffer-now) .count) buffer-now v13
 
 abbrev pub buffer₄ : ℕ → ℕ → List ℕ → List ℕ → List Record → ℕ → ByteOffset → ℕ → ℕ → List ℕ → ℕ → List ℕ → List ℕ
-buffer₄ size count pages nodes register c offset len x-from buffer v11 buffer-now = copy-page″.out-buf pages size (r3 size count pages nodes register c offset len x-from buffer v11 buffer-now) ((r1 size count pages nodes register c offset len x-from buffer v11 buffer-now) .from) ((r1 size count pages nodes register c offset len x-from buffer v11 buffer-now) .count) buffer-now v11
+buffer₄ size count pages nodes register c offset len x-from buffer v13 buffer-now = copy-page″.out-buf pages size (r3 size count pages nodes register c offset len x-from buffer v13 buffer-now) ((r1 size count pages nodes register c offset len x-from buffer v13 buffer-now) .from) ((r1 size count pages nodes register c offset len x-from buffer v13 buffer-now) .count) buffer-now v13
 
 -- the sum does not wrap
 abbrev pub add-1 : Type 0
 add-1 =
-    (size : ℕ) (count : ℕ) (pages : List ℕ) (nodes : List ℕ) (register : List Record) (c : ℕ) (offset : ByteOffset) (len : ℕ) (x-from : ℕ) (buffer : List ℕ) (fits-size : size < 2 ^ 64) (fits-count : count < 2 ^ 64) (len-pages : length pages < 2 ^ 64) (len-nodes : length nodes < 2 ^ 64) (len-register : length register < 2 ^ 64) (fits-c : c < 2 ^ 64) (ok-offset : ByteOffset′.Ok offset) (fits-len : len < 2 ^ 64) (fits-x-from : x-from < 2 ^ 64) (len-buffer : length buffer < 2 ^ 64) (need : copy-range″.req size count pages nodes register c offset len x-from buffer) (v11 : ℕ) (buffer-now : List ℕ) (fits-v11 : v11 < 2 ^ 64) (same-buffer-now : length buffer ≡ length buffer-now) (inv1 : Loop.inv-1 size count pages nodes register c offset len x-from buffer v11 buffer-now) (c1 : ltb v11 len ≡ true) (n1 : v11 < len)
-    → (offset .0) + v11 < 2 ^ 64
+    (size : ℕ) (count : ℕ) (pages : List ℕ) (nodes : List ℕ) (register : List Record) (c : ℕ) (offset : ByteOffset) (len : ℕ) (x-from : ℕ) (buffer : List ℕ) (fits-size : size < 2 ^ 64) (fits-count : count < 2 ^ 64) (len-pages : length pages < 2 ^ 64) (len-nodes : length nodes < 2 ^ 64) (len-register : length register < 2 ^ 64) (fits-c : c < 2 ^ 64) (ok-offset : ByteOffset′.Ok offset) (fits-len : len < 2 ^ 64) (fits-x-from : x-from < 2 ^ 64) (len-buffer : length buffer < 2 ^ 64) (need : copy-range″.req size count pages nodes register c offset len x-from buffer) (v13 : ℕ) (buffer-now : List ℕ) (fits-v13 : v13 < 2 ^ 64) (same-buffer-now : length buffer ≡ length buffer-now) (inv1 : Loop.inv-1 size count pages nodes register c offset len x-from buffer v13 buffer-now) (c1 : ltb v13 len ≡ true) (n1 : v13 < len)
+    → (offset .0) + v13 < 2 ^ 64
 
 -- a difference does not fall below 0
 abbrev pub sub-1 : Type 0
 sub-1 =
-    (size : ℕ) (count : ℕ) (pages : List ℕ) (nodes : List ℕ) (register : List Record) (c : ℕ) (offset : ByteOffset) (len : ℕ) (x-from : ℕ) (buffer : List ℕ) (fits-size : size < 2 ^ 64) (fits-count : count < 2 ^ 64) (len-pages : length pages < 2 ^ 64) (len-nodes : length nodes < 2 ^ 64) (len-register : length register < 2 ^ 64) (fits-c : c < 2 ^ 64) (ok-offset : ByteOffset′.Ok offset) (fits-len : len < 2 ^ 64) (fits-x-from : x-from < 2 ^ 64) (len-buffer : length buffer < 2 ^ 64) (need : copy-range″.req size count pages nodes register c offset len x-from buffer) (v11 : ℕ) (buffer-now : List ℕ) (fits-v11 : v11 < 2 ^ 64) (same-buffer-now : length buffer ≡ length buffer-now) (inv1 : Loop.inv-1 size count pages nodes register c offset len x-from buffer v11 buffer-now) (c1 : ltb v11 len ≡ true) (n1 : v11 < len)
-    → v11 ≤ len
+    (size : ℕ) (count : ℕ) (pages : List ℕ) (nodes : List ℕ) (register : List Record) (c : ℕ) (offset : ByteOffset) (len : ℕ) (x-from : ℕ) (buffer : List ℕ) (fits-size : size < 2 ^ 64) (fits-count : count < 2 ^ 64) (len-pages : length pages < 2 ^ 64) (len-nodes : length nodes < 2 ^ 64) (len-register : length register < 2 ^ 64) (fits-c : c < 2 ^ 64) (ok-offset : ByteOffset′.Ok offset) (fits-len : len < 2 ^ 64) (fits-x-from : x-from < 2 ^ 64) (len-buffer : length buffer < 2 ^ 64) (need : copy-range″.req size count pages nodes register c offset len x-from buffer) (v13 : ℕ) (buffer-now : List ℕ) (fits-v13 : v13 < 2 ^ 64) (same-buffer-now : length buffer ≡ length buffer-now) (inv1 : Loop.inv-1 size count pages nodes register c offset len x-from buffer v13 buffer-now) (c1 : ltb v13 len ≡ true) (n1 : v13 < len)
+    → v13 ≤ len
 
 -- the sum does not wrap
 abbrev pub add-2 : Type 0
 add-2 =
-    (size : ℕ) (count : ℕ) (pages : List ℕ) (nodes : List ℕ) (register : List Record) (c : ℕ) (offset : ByteOffset) (len : ℕ) (x-from : ℕ) (buffer : List ℕ) (fits-size : size < 2 ^ 64) (fits-count : count < 2 ^ 64) (len-pages : length pages < 2 ^ 64) (len-nodes : length nodes < 2 ^ 64) (len-register : length register < 2 ^ 64) (fits-c : c < 2 ^ 64) (ok-offset : ByteOffset′.Ok offset) (fits-len : len < 2 ^ 64) (fits-x-from : x-from < 2 ^ 64) (len-buffer : length buffer < 2 ^ 64) (need : copy-range″.req size count pages nodes register c offset len x-from buffer) (v11 : ℕ) (buffer-now : List ℕ) (fits-v11 : v11 < 2 ^ 64) (same-buffer-now : length buffer ≡ length buffer-now) (inv1 : Loop.inv-1 size count pages nodes register c offset len x-from buffer v11 buffer-now) (c1 : ltb v11 len ≡ true) (n1 : v11 < len) (ok-r1 : Chunk′.Ok (r1 size count pages nodes register c offset len x-from buffer v11 buffer-now)) (ok-r2 : Found′.Ok (r2 size count pages nodes register c offset len x-from buffer v11 buffer-now)) (fits-r3 : (r3 size count pages nodes register c offset len x-from buffer v11 buffer-now) < 2 ^ 64) (same4-buffer : length (buffer₄ size count pages nodes register c offset len x-from buffer v11 buffer-now) ≡ length buffer-now)
-    → v11 + ((r1 size count pages nodes register c offset len x-from buffer v11 buffer-now) .count) < 2 ^ 64
+    (size : ℕ) (count : ℕ) (pages : List ℕ) (nodes : List ℕ) (register : List Record) (c : ℕ) (offset : ByteOffset) (len : ℕ) (x-from : ℕ) (buffer : List ℕ) (fits-size : size < 2 ^ 64) (fits-count : count < 2 ^ 64) (len-pages : length pages < 2 ^ 64) (len-nodes : length nodes < 2 ^ 64) (len-register : length register < 2 ^ 64) (fits-c : c < 2 ^ 64) (ok-offset : ByteOffset′.Ok offset) (fits-len : len < 2 ^ 64) (fits-x-from : x-from < 2 ^ 64) (len-buffer : length buffer < 2 ^ 64) (need : copy-range″.req size count pages nodes register c offset len x-from buffer) (v13 : ℕ) (buffer-now : List ℕ) (fits-v13 : v13 < 2 ^ 64) (same-buffer-now : length buffer ≡ length buffer-now) (inv1 : Loop.inv-1 size count pages nodes register c offset len x-from buffer v13 buffer-now) (c1 : ltb v13 len ≡ true) (n1 : v13 < len) (ok-r1 : Chunk′.Ok (r1 size count pages nodes register c offset len x-from buffer v13 buffer-now)) (ok-r2 : Found′.Ok (r2 size count pages nodes register c offset len x-from buffer v13 buffer-now)) (fits-r3 : (r3 size count pages nodes register c offset len x-from buffer v13 buffer-now) < 2 ^ 64) (same4-buffer : length (buffer₄ size count pages nodes register c offset len x-from buffer v13 buffer-now) ≡ length buffer-now)
+    → v13 + ((r1 size count pages nodes register c offset len x-from buffer v13 buffer-now) .count) < 2 ^ 64
 
 -- the invariant holds after a turn
 abbrev pub again-1 : Type 0
 again-1 =
-    (size : ℕ) (count : ℕ) (pages : List ℕ) (nodes : List ℕ) (register : List Record) (c : ℕ) (offset : ByteOffset) (len : ℕ) (x-from : ℕ) (buffer : List ℕ) (fits-size : size < 2 ^ 64) (fits-count : count < 2 ^ 64) (len-pages : length pages < 2 ^ 64) (len-nodes : length nodes < 2 ^ 64) (len-register : length register < 2 ^ 64) (fits-c : c < 2 ^ 64) (ok-offset : ByteOffset′.Ok offset) (fits-len : len < 2 ^ 64) (fits-x-from : x-from < 2 ^ 64) (len-buffer : length buffer < 2 ^ 64) (need : copy-range″.req size count pages nodes register c offset len x-from buffer) (v11 : ℕ) (buffer-now : List ℕ) (fits-v11 : v11 < 2 ^ 64) (same-buffer-now : length buffer ≡ length buffer-now) (inv1 : Loop.inv-1 size count pages nodes register c offset len x-from buffer v11 buffer-now) (c1 : ltb v11 len ≡ true) (n1 : v11 < len) (ok-r1 : Chunk′.Ok (r1 size count pages nodes register c offset len x-from buffer v11 buffer-now)) (ok-r2 : Found′.Ok (r2 size count pages nodes register c offset len x-from buffer v11 buffer-now)) (fits-r3 : (r3 size count pages nodes register c offset len x-from buffer v11 buffer-now) < 2 ^ 64) (same4-buffer : length (buffer₄ size count pages nodes register c offset len x-from buffer v11 buffer-now) ≡ length buffer-now)
-    → Loop.inv-1 size count pages nodes register c offset len x-from buffer (v11 + ((r1 size count pages nodes register c offset len x-from buffer v11 buffer-now) .count)) (buffer₄ size count pages nodes register c offset len x-from buffer v11 buffer-now)
+    (size : ℕ) (count : ℕ) (pages : List ℕ) (nodes : List ℕ) (register : List Record) (c : ℕ) (offset : ByteOffset) (len : ℕ) (x-from : ℕ) (buffer : List ℕ) (fits-size : size < 2 ^ 64) (fits-count : count < 2 ^ 64) (len-pages : length pages < 2 ^ 64) (len-nodes : length nodes < 2 ^ 64) (len-register : length register < 2 ^ 64) (fits-c : c < 2 ^ 64) (ok-offset : ByteOffset′.Ok offset) (fits-len : len < 2 ^ 64) (fits-x-from : x-from < 2 ^ 64) (len-buffer : length buffer < 2 ^ 64) (need : copy-range″.req size count pages nodes register c offset len x-from buffer) (v13 : ℕ) (buffer-now : List ℕ) (fits-v13 : v13 < 2 ^ 64) (same-buffer-now : length buffer ≡ length buffer-now) (inv1 : Loop.inv-1 size count pages nodes register c offset len x-from buffer v13 buffer-now) (c1 : ltb v13 len ≡ true) (n1 : v13 < len) (ok-r1 : Chunk′.Ok (r1 size count pages nodes register c offset len x-from buffer v13 buffer-now)) (ok-r2 : Found′.Ok (r2 size count pages nodes register c offset len x-from buffer v13 buffer-now)) (fits-r3 : (r3 size count pages nodes register c offset len x-from buffer v13 buffer-now) < 2 ^ 64) (same4-buffer : length (buffer₄ size count pages nodes register c offset len x-from buffer v13 buffer-now) ≡ length buffer-now)
+    → Loop.inv-1 size count pages nodes register c offset len x-from buffer (v13 + ((r1 size count pages nodes register c offset len x-from buffer v13 buffer-now) .count)) (buffer₄ size count pages nodes register c offset len x-from buffer v13 buffer-now)
 
 -- the measure falls
 abbrev pub less-1 : Type 0
 less-1 =
-    (size : ℕ) (count : ℕ) (pages : List ℕ) (nodes : List ℕ) (register : List Record) (c : ℕ) (offset : ByteOffset) (len : ℕ) (x-from : ℕ) (buffer : List ℕ) (fits-size : size < 2 ^ 64) (fits-count : count < 2 ^ 64) (len-pages : length pages < 2 ^ 64) (len-nodes : length nodes < 2 ^ 64) (len-register : length register < 2 ^ 64) (fits-c : c < 2 ^ 64) (ok-offset : ByteOffset′.Ok offset) (fits-len : len < 2 ^ 64) (fits-x-from : x-from < 2 ^ 64) (len-buffer : length buffer < 2 ^ 64) (need : copy-range″.req size count pages nodes register c offset len x-from buffer) (v11 : ℕ) (buffer-now : List ℕ) (fits-v11 : v11 < 2 ^ 64) (same-buffer-now : length buffer ≡ length buffer-now) (inv1 : Loop.inv-1 size count pages nodes register c offset len x-from buffer v11 buffer-now) (c1 : ltb v11 len ≡ true) (n1 : v11 < len) (ok-r1 : Chunk′.Ok (r1 size count pages nodes register c offset len x-from buffer v11 buffer-now)) (ok-r2 : Found′.Ok (r2 size count pages nodes register c offset len x-from buffer v11 buffer-now)) (fits-r3 : (r3 size count pages nodes register c offset len x-from buffer v11 buffer-now) < 2 ^ 64) (same4-buffer : length (buffer₄ size count pages nodes register c offset len x-from buffer v11 buffer-now) ≡ length buffer-now)
-    → Loop.measure-1 size count pages nodes register c offset len x-from buffer (v11 + ((r1 size count pages nodes register c offset len x-from buffer v11 buffer-now) .count)) (buffer₄ size count pages nodes register c offset len x-from buffer v11 buffer-now) < Loop.measure-1 size count pages nodes register c offset len x-from buffer v11 buffer-now
+    (size : ℕ) (count : ℕ) (pages : List ℕ) (nodes : List ℕ) (register : List Record) (c : ℕ) (offset : ByteOffset) (len : ℕ) (x-from : ℕ) (buffer : List ℕ) (fits-size : size < 2 ^ 64) (fits-count : count < 2 ^ 64) (len-pages : length pages < 2 ^ 64) (len-nodes : length nodes < 2 ^ 64) (len-register : length register < 2 ^ 64) (fits-c : c < 2 ^ 64) (ok-offset : ByteOffset′.Ok offset) (fits-len : len < 2 ^ 64) (fits-x-from : x-from < 2 ^ 64) (len-buffer : length buffer < 2 ^ 64) (need : copy-range″.req size count pages nodes register c offset len x-from buffer) (v13 : ℕ) (buffer-now : List ℕ) (fits-v13 : v13 < 2 ^ 64) (same-buffer-now : length buffer ≡ length buffer-now) (inv1 : Loop.inv-1 size count pages nodes register c offset len x-from buffer v13 buffer-now) (c1 : ltb v13 len ≡ true) (n1 : v13 < len) (ok-r1 : Chunk′.Ok (r1 size count pages nodes register c offset len x-from buffer v13 buffer-now)) (ok-r2 : Found′.Ok (r2 size count pages nodes register c offset len x-from buffer v13 buffer-now)) (fits-r3 : (r3 size count pages nodes register c offset len x-from buffer v13 buffer-now) < 2 ^ 64) (same4-buffer : length (buffer₄ size count pages nodes register c offset len x-from buffer v13 buffer-now) ≡ length buffer-now)
+    → Loop.measure-1 size count pages nodes register c offset len x-from buffer (v13 + ((r1 size count pages nodes register c offset len x-from buffer v13 buffer-now) .count)) (buffer₄ size count pages nodes register c offset len x-from buffer v13 buffer-now) < Loop.measure-1 size count pages nodes register c offset len x-from buffer v13 buffer-now
 
 -- the function ensures: buffer′ ≡ bytesFrom size count (areasOf pages nodes register) c (offset .0) len ++ drop len buffer
 abbrev pub exit-1 : Type 0
 exit-1 =
-    (size : ℕ) (count : ℕ) (pages : List ℕ) (nodes : List ℕ) (register : List Record) (c : ℕ) (offset : ByteOffset) (len : ℕ) (x-from : ℕ) (buffer : List ℕ) (fits-size : size < 2 ^ 64) (fits-count : count < 2 ^ 64) (len-pages : length pages < 2 ^ 64) (len-nodes : length nodes < 2 ^ 64) (len-register : length register < 2 ^ 64) (fits-c : c < 2 ^ 64) (ok-offset : ByteOffset′.Ok offset) (fits-len : len < 2 ^ 64) (fits-x-from : x-from < 2 ^ 64) (len-buffer : length buffer < 2 ^ 64) (need : copy-range″.req size count pages nodes register c offset len x-from buffer) (v11 : ℕ) (buffer-now : List ℕ) (fits-v11 : v11 < 2 ^ 64) (same-buffer-now : length buffer ≡ length buffer-now) (inv1 : Loop.inv-1 size count pages nodes register c offset len x-from buffer v11 buffer-now) (c1 : ltb v11 len ≡ false) (n1 : len ≤ v11)
+    (size : ℕ) (count : ℕ) (pages : List ℕ) (nodes : List ℕ) (register : List Record) (c : ℕ) (offset : ByteOffset) (len : ℕ) (x-from : ℕ) (buffer : List ℕ) (fits-size : size < 2 ^ 64) (fits-count : count < 2 ^ 64) (len-pages : length pages < 2 ^ 64) (len-nodes : length nodes < 2 ^ 64) (len-register : length register < 2 ^ 64) (fits-c : c < 2 ^ 64) (ok-offset : ByteOffset′.Ok offset) (fits-len : len < 2 ^ 64) (fits-x-from : x-from < 2 ^ 64) (len-buffer : length buffer < 2 ^ 64) (need : copy-range″.req size count pages nodes register c offset len x-from buffer) (v13 : ℕ) (buffer-now : List ℕ) (fits-v13 : v13 < 2 ^ 64) (same-buffer-now : length buffer ≡ length buffer-now) (inv1 : Loop.inv-1 size count pages nodes register c offset len x-from buffer v13 buffer-now) (c1 : ltb v13 len ≡ false) (n1 : len ≤ v13)
     → copy-range″.ens size count pages nodes register c offset len x-from buffer buffer-now tt
 
 -- the invariant holds where the loop begins

@@ -11,29 +11,29 @@ use Rattle.read.proofs.Chunks.{next-bytes, grow-bytes}
 use Rattle.read.proofs.copy_range.Proof.Asks as Asks
 
 -- the sum does not wrap
--- here: (offset .0) + v11 < 2 ^ 64
+-- here: (offset .0) + v13 < 2 ^ 64
 pub add-1 : Asks.add-1
 add-1 size count pages nodes register c offset len x-from buffer fits-size fits-count len-pages len-nodes len-register fits-c ok-offset fits-len fits-x-from len-buffer need v11 buffer-now fits-v11 same-buffer-now inv1 c1 n1 = omega (arith, need .0 .range .fits)
 
 -- a difference does not fall below 0
--- here: v11 ≤ len
+-- here: v13 ≤ len
 pub sub-1 : Asks.sub-1
 sub-1 size count pages nodes register c offset len x-from buffer fits-size fits-count len-pages len-nodes len-register fits-c ok-offset fits-len fits-x-from len-buffer need v11 buffer-now fits-v11 same-buffer-now inv1 c1 n1 = omega arith
 
 -- the sum does not wrap
--- here: v11 + ((r1 size count pages nodes register c offset len x-from buffer v11 buffer-now) .count) < 2 ^ 64
+-- here: v13 + ((r1 size count pages nodes register c offset len x-from buffer v13 buffer-now) .count) < 2 ^ 64
 pub add-2 : Asks.add-2
 add-2 size count pages nodes register c offset len x-from buffer fits-size fits-count len-pages len-nodes len-register fits-c ok-offset fits-len fits-x-from len-buffer need v11 buffer-now fits-v11 same-buffer-now inv1 c1 n1 ok-r1 ok-r2 fits-r3 same4-buffer = omega arith
 
 -- the invariant holds after a turn
--- here: Loop.inv-1 size count pages nodes register c offset len x-from buffer (v11 + ((r1 size count pages nodes register c offset len x-from buffer v11 buffer-now) .count)) (buffer₄ size count pages nodes register c offset len x-from buffer v11 buffer-now)
+-- here: Loop.inv-1 size count pages nodes register c offset len x-from buffer (v13 + ((r1 size count pages nodes register c offset len x-from buffer v13 buffer-now) .count)) (buffer₄ size count pages nodes register c offset len x-from buffer v13 buffer-now)
 pub again-1 : Asks.again-1
 again-1 size count pages nodes register c offset len x-from buffer fits-size fits-count len-pages len-nodes len-register fits-c ok-offset fits-len fits-x-from len-buffer need v11 buffer-now fits-v11 same-buffer-now inv1 c1 n1 ok-r1 ok-r2 fits-r3 same4-buffer =
     let more = min (size - (offset .0 + v11) % size) (len - v11) in
     (omega arith, rw (next-bytes size count pages nodes register c (offset .0) len (length buffer) (need .0) v11 n1, inv1 .1) (grow-bytes size count (areasOf pages nodes register) c buffer v11 more (offset .0) (omega (arith, need .0 .within))))
 
 -- the measure falls
--- here: Loop.measure-1 size count pages nodes register c offset len x-from buffer (v11 + ((r1 size count pages nodes register c offset len x-from buffer v11 buffer-now) .count)) (buffer₄ size count pages nodes register c offset len x-from buffer v11 buffer-now) < Loop.measure-1 size count pages nodes register c offset len x-from buffer v11 buffer-now
+-- here: Loop.measure-1 size count pages nodes register c offset len x-from buffer (v13 + ((r1 size count pages nodes register c offset len x-from buffer v13 buffer-now) .count)) (buffer₄ size count pages nodes register c offset len x-from buffer v13 buffer-now) < Loop.measure-1 size count pages nodes register c offset len x-from buffer v13 buffer-now
 pub less-1 : Asks.less-1
 less-1 size count pages nodes register c offset len x-from buffer fits-size fits-count len-pages len-nodes len-register fits-c ok-offset fits-len fits-x-from len-buffer need v11 buffer-now fits-v11 same-buffer-now inv1 c1 n1 ok-r1 ok-r2 fits-r3 same4-buffer = let m = mod-lt (offset .0 + v11) (need .0 .range .some (omega arith)) in omega arith
 

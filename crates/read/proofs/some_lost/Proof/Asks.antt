@@ -26,10 +26,10 @@ use Rattle.walk.proofs.Generated.Say.is_lost as is-lost″
 use Rattle.read.proofs.some_lost.Proof.Loop as Loop
 
 abbrev pub r1 : ℕ → List ℕ → List Record → ℕ → PageIndex → ℕ → Bool → ℕ → Found
-r1 count nodes register c x-from n x-first v8 = find-page″.res nodes register c (PageIndex′.build ((x-from .0) + v8))
+r1 count nodes register c x-from n x-first v10 = find-page″.res nodes register c (PageIndex′.build ((x-from .0) + v10))
 
 abbrev pub r2 : ℕ → List ℕ → List Record → ℕ → PageIndex → ℕ → Bool → ℕ → Bool
-r2 count nodes register c x-from n x-first v8 = is-lost″.res count (r1 count nodes register c x-from n x-first v8)
+r2 count nodes register c x-from n x-first v10 = is-lost″.res count (r1 count nodes register c x-from n x-first v10)
 
 -- the function ensures: b ≡ someLost count (areasOf [] nodes register) c (from .0) n
 abbrev pub exit-1 : Type 0
@@ -46,37 +46,37 @@ exit-2 =
 -- the sum does not wrap
 abbrev pub add-1 : Type 0
 add-1 =
-    (count : ℕ) (nodes : List ℕ) (register : List Record) (c : ℕ) (x-from : PageIndex) (n : ℕ) (x-first : Bool) (fits-count : count < 2 ^ 64) (len-nodes : length nodes < 2 ^ 64) (len-register : length register < 2 ^ 64) (fits-c : c < 2 ^ 64) (ok-x-from : PageIndex′.Ok x-from) (fits-n : n < 2 ^ 64) (need : some-lost″.req count nodes register c x-from n x-first) (c1 : eqb n 0 ≡ false) (n1 : 0 < n) (c2 : x-first ≡ false) (v8 : ℕ) (fits-v8 : v8 < 2 ^ 64) (inv1 : Loop.inv-1 count nodes register c x-from n x-first v8) (c3 : ltb v8 n ≡ true) (n3 : v8 < n)
-    → (x-from .0) + v8 < 2 ^ 64
+    (count : ℕ) (nodes : List ℕ) (register : List Record) (c : ℕ) (x-from : PageIndex) (n : ℕ) (x-first : Bool) (fits-count : count < 2 ^ 64) (len-nodes : length nodes < 2 ^ 64) (len-register : length register < 2 ^ 64) (fits-c : c < 2 ^ 64) (ok-x-from : PageIndex′.Ok x-from) (fits-n : n < 2 ^ 64) (need : some-lost″.req count nodes register c x-from n x-first) (c1 : eqb n 0 ≡ false) (n1 : 0 < n) (c2 : x-first ≡ false) (v10 : ℕ) (fits-v10 : v10 < 2 ^ 64) (inv1 : Loop.inv-1 count nodes register c x-from n x-first v10) (c3 : ltb v10 n ≡ true) (n3 : v10 < n)
+    → (x-from .0) + v10 < 2 ^ 64
 
 -- the function ensures: b ≡ someLost count (areasOf [] nodes register) c (from .0) n
 abbrev pub exit-3 : Type 0
 exit-3 =
-    (count : ℕ) (nodes : List ℕ) (register : List Record) (c : ℕ) (x-from : PageIndex) (n : ℕ) (x-first : Bool) (fits-count : count < 2 ^ 64) (len-nodes : length nodes < 2 ^ 64) (len-register : length register < 2 ^ 64) (fits-c : c < 2 ^ 64) (ok-x-from : PageIndex′.Ok x-from) (fits-n : n < 2 ^ 64) (need : some-lost″.req count nodes register c x-from n x-first) (c1 : eqb n 0 ≡ false) (n1 : 0 < n) (c2 : x-first ≡ false) (v8 : ℕ) (fits-v8 : v8 < 2 ^ 64) (inv1 : Loop.inv-1 count nodes register c x-from n x-first v8) (c3 : ltb v8 n ≡ true) (n3 : v8 < n) (ok-r1 : Found′.Ok (r1 count nodes register c x-from n x-first v8)) (c4 : r2 count nodes register c x-from n x-first v8 ≡ true)
+    (count : ℕ) (nodes : List ℕ) (register : List Record) (c : ℕ) (x-from : PageIndex) (n : ℕ) (x-first : Bool) (fits-count : count < 2 ^ 64) (len-nodes : length nodes < 2 ^ 64) (len-register : length register < 2 ^ 64) (fits-c : c < 2 ^ 64) (ok-x-from : PageIndex′.Ok x-from) (fits-n : n < 2 ^ 64) (need : some-lost″.req count nodes register c x-from n x-first) (c1 : eqb n 0 ≡ false) (n1 : 0 < n) (c2 : x-first ≡ false) (v10 : ℕ) (fits-v10 : v10 < 2 ^ 64) (inv1 : Loop.inv-1 count nodes register c x-from n x-first v10) (c3 : ltb v10 n ≡ true) (n3 : v10 < n) (ok-r1 : Found′.Ok (r1 count nodes register c x-from n x-first v10)) (c4 : r2 count nodes register c x-from n x-first v10 ≡ true)
     → some-lost″.ens count nodes register c x-from n x-first true
 
 -- the sum does not wrap
 abbrev pub add-2 : Type 0
 add-2 =
-    (count : ℕ) (nodes : List ℕ) (register : List Record) (c : ℕ) (x-from : PageIndex) (n : ℕ) (x-first : Bool) (fits-count : count < 2 ^ 64) (len-nodes : length nodes < 2 ^ 64) (len-register : length register < 2 ^ 64) (fits-c : c < 2 ^ 64) (ok-x-from : PageIndex′.Ok x-from) (fits-n : n < 2 ^ 64) (need : some-lost″.req count nodes register c x-from n x-first) (c1 : eqb n 0 ≡ false) (n1 : 0 < n) (c2 : x-first ≡ false) (v8 : ℕ) (fits-v8 : v8 < 2 ^ 64) (inv1 : Loop.inv-1 count nodes register c x-from n x-first v8) (c3 : ltb v8 n ≡ true) (n3 : v8 < n) (ok-r1 : Found′.Ok (r1 count nodes register c x-from n x-first v8)) (c4 : r2 count nodes register c x-from n x-first v8 ≡ false)
-    → v8 + 1 < 2 ^ 64
+    (count : ℕ) (nodes : List ℕ) (register : List Record) (c : ℕ) (x-from : PageIndex) (n : ℕ) (x-first : Bool) (fits-count : count < 2 ^ 64) (len-nodes : length nodes < 2 ^ 64) (len-register : length register < 2 ^ 64) (fits-c : c < 2 ^ 64) (ok-x-from : PageIndex′.Ok x-from) (fits-n : n < 2 ^ 64) (need : some-lost″.req count nodes register c x-from n x-first) (c1 : eqb n 0 ≡ false) (n1 : 0 < n) (c2 : x-first ≡ false) (v10 : ℕ) (fits-v10 : v10 < 2 ^ 64) (inv1 : Loop.inv-1 count nodes register c x-from n x-first v10) (c3 : ltb v10 n ≡ true) (n3 : v10 < n) (ok-r1 : Found′.Ok (r1 count nodes register c x-from n x-first v10)) (c4 : r2 count nodes register c x-from n x-first v10 ≡ false)
+    → v10 + 1 < 2 ^ 64
 
 -- the invariant holds after a turn
 abbrev pub again-1 : Type 0
 again-1 =
-    (count : ℕ) (nodes : List ℕ) (register : List Record) (c : ℕ) (x-from : PageIndex) (n : ℕ) (x-first : Bool) (fits-count : count < 2 ^ 64) (len-nodes : length nodes < 2 ^ 64) (len-register : length register < 2 ^ 64) (fits-c : c < 2 ^ 64) (ok-x-from : PageIndex′.Ok x-from) (fits-n : n < 2 ^ 64) (need : some-lost″.req count nodes register c x-from n x-first) (c1 : eqb n 0 ≡ false) (n1 : 0 < n) (c2 : x-first ≡ false) (v8 : ℕ) (fits-v8 : v8 < 2 ^ 64) (inv1 : Loop.inv-1 count nodes register c x-from n x-first v8) (c3 : ltb v8 n ≡ true) (n3 : v8 < n) (ok-r1 : Found′.Ok (r1 count nodes register c x-from n x-first v8)) (c4 : r2 count nodes register c x-from n x-first v8 ≡ false)
-    → Loop.inv-1 count nodes register c x-from n x-first (v8 + 1)
+    (count : ℕ) (nodes : List ℕ) (register : List Record) (c : ℕ) (x-from : PageIndex) (n : ℕ) (x-first : Bool) (fits-count : count < 2 ^ 64) (len-nodes : length nodes < 2 ^ 64) (len-register : length register < 2 ^ 64) (fits-c : c < 2 ^ 64) (ok-x-from : PageIndex′.Ok x-from) (fits-n : n < 2 ^ 64) (need : some-lost″.req count nodes register c x-from n x-first) (c1 : eqb n 0 ≡ false) (n1 : 0 < n) (c2 : x-first ≡ false) (v10 : ℕ) (fits-v10 : v10 < 2 ^ 64) (inv1 : Loop.inv-1 count nodes register c x-from n x-first v10) (c3 : ltb v10 n ≡ true) (n3 : v10 < n) (ok-r1 : Found′.Ok (r1 count nodes register c x-from n x-first v10)) (c4 : r2 count nodes register c x-from n x-first v10 ≡ false)
+    → Loop.inv-1 count nodes register c x-from n x-first (v10 + 1)
 
 -- the measure falls
 abbrev pub less-1 : Type 0
 less-1 =
-    (count : ℕ) (nodes : List ℕ) (register : List Record) (c : ℕ) (x-from : PageIndex) (n : ℕ) (x-first : Bool) (fits-count : count < 2 ^ 64) (len-nodes : length nodes < 2 ^ 64) (len-register : length register < 2 ^ 64) (fits-c : c < 2 ^ 64) (ok-x-from : PageIndex′.Ok x-from) (fits-n : n < 2 ^ 64) (need : some-lost″.req count nodes register c x-from n x-first) (c1 : eqb n 0 ≡ false) (n1 : 0 < n) (c2 : x-first ≡ false) (v8 : ℕ) (fits-v8 : v8 < 2 ^ 64) (inv1 : Loop.inv-1 count nodes register c x-from n x-first v8) (c3 : ltb v8 n ≡ true) (n3 : v8 < n) (ok-r1 : Found′.Ok (r1 count nodes register c x-from n x-first v8)) (c4 : r2 count nodes register c x-from n x-first v8 ≡ false)
-    → Loop.measure-1 count nodes register c x-from n x-first (v8 + 1) < Loop.measure-1 count nodes register c x-from n x-first v8
+    (count : ℕ) (nodes : List ℕ) (register : List Record) (c : ℕ) (x-from : PageIndex) (n : ℕ) (x-first : Bool) (fits-count : count < 2 ^ 64) (len-nodes : length nodes < 2 ^ 64) (len-register : length register < 2 ^ 64) (fits-c : c < 2 ^ 64) (ok-x-from : PageIndex′.Ok x-from) (fits-n : n < 2 ^ 64) (need : some-lost″.req count nodes register c x-from n x-first) (c1 : eqb n 0 ≡ false) (n1 : 0 < n) (c2 : x-first ≡ false) (v10 : ℕ) (fits-v10 : v10 < 2 ^ 64) (inv1 : Loop.inv-1 count nodes register c x-from n x-first v10) (c3 : ltb v10 n ≡ true) (n3 : v10 < n) (ok-r1 : Found′.Ok (r1 count nodes register c x-from n x-first v10)) (c4 : r2 count nodes register c x-from n x-first v10 ≡ false)
+    → Loop.measure-1 count nodes register c x-from n x-first (v10 + 1) < Loop.measure-1 count nodes register c x-from n x-first v10
 
 -- the function ensures: b ≡ someLost count (areasOf [] nodes register) c (from .0) n
 abbrev pub exit-4 : Type 0
 exit-4 =
-    (count : ℕ) (nodes : List ℕ) (register : List Record) (c : ℕ) (x-from : PageIndex) (n : ℕ) (x-first : Bool) (fits-count : count < 2 ^ 64) (len-nodes : length nodes < 2 ^ 64) (len-register : length register < 2 ^ 64) (fits-c : c < 2 ^ 64) (ok-x-from : PageIndex′.Ok x-from) (fits-n : n < 2 ^ 64) (need : some-lost″.req count nodes register c x-from n x-first) (c1 : eqb n 0 ≡ false) (n1 : 0 < n) (c2 : x-first ≡ false) (v8 : ℕ) (fits-v8 : v8 < 2 ^ 64) (inv1 : Loop.inv-1 count nodes register c x-from n x-first v8) (c3 : ltb v8 n ≡ false) (n3 : n ≤ v8)
+    (count : ℕ) (nodes : List ℕ) (register : List Record) (c : ℕ) (x-from : PageIndex) (n : ℕ) (x-first : Bool) (fits-count : count < 2 ^ 64) (len-nodes : length nodes < 2 ^ 64) (len-register : length register < 2 ^ 64) (fits-c : c < 2 ^ 64) (ok-x-from : PageIndex′.Ok x-from) (fits-n : n < 2 ^ 64) (need : some-lost″.req count nodes register c x-from n x-first) (c1 : eqb n 0 ≡ false) (n1 : 0 < n) (c2 : x-first ≡ false) (v10 : ℕ) (fits-v10 : v10 < 2 ^ 64) (inv1 : Loop.inv-1 count nodes register c x-from n x-first v10) (c3 : ltb v10 n ≡ false) (n3 : n ≤ v10)
     → some-lost″.ens count nodes register c x-from n x-first false
 
 -- the invariant holds where the loop begins

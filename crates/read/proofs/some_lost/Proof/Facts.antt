@@ -30,7 +30,7 @@ start-1 count nodes register c x-from n x-first fits-count len-nodes len-registe
     (omega arith, rw (← next) (lost-later count (areasOf [] nodes register) c (x-from .0) n n1 (sym (need .1) ∙ c2)))
 
 -- the sum does not wrap
--- here: (x-from .0) + v8 < 2 ^ 64
+-- here: (x-from .0) + v10 < 2 ^ 64
 pub add-1 : Asks.add-1
 add-1 count nodes register c x-from n x-first fits-count len-nodes len-register fits-c ok-x-from fits-n need c1 n1 c2 v8 fits-v8 inv1 c3 n3 = omega (arith, need .0)
 
@@ -41,12 +41,12 @@ unfolding pageNumberOf
 exit-3 count nodes register c x-from n x-first fits-count len-nodes len-register fits-c ok-x-from fits-n need c1 n1 c2 v8 fits-v8 inv1 c3 n3 ok-r1 c4 = sym (inv1 .1 ∙ lost-here count (areasOf [] nodes register) c (x-from .0 + v8) (n - v8) (omega arith) c4)
 
 -- the sum does not wrap
--- here: v8 + 1 < 2 ^ 64
+-- here: v10 + 1 < 2 ^ 64
 pub add-2 : Asks.add-2
 add-2 count nodes register c x-from n x-first fits-count len-nodes len-register fits-c ok-x-from fits-n need c1 n1 c2 v8 fits-v8 inv1 c3 n3 ok-r1 c4 = omega arith
 
 -- the invariant holds after a turn
--- here: Loop.inv-1 count nodes register c x-from n x-first (v8 + 1)
+-- here: Loop.inv-1 count nodes register c x-from n x-first (v10 + 1)
 pub again-1 : Asks.again-1
 unfolding pageNumberOf
 again-1 count nodes register c x-from n x-first fits-count len-nodes len-register fits-c ok-x-from fits-n need c1 n1 c2 v8 fits-v8 inv1 c3 n3 ok-r1 c4 =
@@ -55,7 +55,7 @@ again-1 count nodes register c x-from n x-first fits-count len-nodes len-registe
     (omega arith, inv1 .1 ∙ rw (← next, ← rest) (lost-later count (areasOf [] nodes register) c (x-from .0 + v8) (n - v8) (omega arith) c4))
 
 -- the measure falls
--- here: Loop.measure-1 count nodes register c x-from n x-first (v8 + 1) < Loop.measure-1 count nodes register c x-from n x-first v8
+-- here: Loop.measure-1 count nodes register c x-from n x-first (v10 + 1) < Loop.measure-1 count nodes register c x-from n x-first v10
 pub less-1 : Asks.less-1
 less-1 count nodes register c x-from n x-first fits-count len-nodes len-register fits-c ok-x-from fits-n need c1 n1 c2 v8 fits-v8 inv1 c3 n3 ok-r1 c4 = omega arith
 

@@ -5,7 +5,7 @@ use Prim.Native.Nat.{ℕ, _<_}
 use mathlib.Core.List.{List}
 use mathlib.Core.Bool.{Bool}
 use mathlib.Core.Path.{_≡_}
-use Rattle.lines.specs.Lines.{noBranch, lineOf, versionOf, numberOf, fieldOf, withField, noEntries, entryAt, withEntry}
+use Rattle.lines.specs.Lines.{noBranch, lineOf, versionOf, numberOf, fieldOf, withField, packed, unpacked, sourceAt, withSource, noEntries, entryAt, withEntry}
 use Rattle.lines.specs.declared.Entries.{Entries}
 use Rattle.lines.specs.declared.Line.{Line}
 

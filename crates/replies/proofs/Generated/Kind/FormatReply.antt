@@ -70,7 +70,7 @@ pub make : (y0 : ℕ) (y1 : Store) → Is u64 y0 (uint-vals w64 y0) → Is Store
 make y0 y1 g0 g1 = LL.owes T′.the-type T″.the-laws (build y0 y1) (g0, (g1, tt))
 
 abbrev pub stride : ℕ
-stride = 720
+stride = 216
 
 -- the byte offset of an element of a slice does not wrap
 pub scaled : (n i : ℕ) → i < n → n * stride < 2 ^ 63 → i * stride < 2 ^ 64

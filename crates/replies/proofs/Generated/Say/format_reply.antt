@@ -7,8 +7,6 @@ use mathlib.Core.Bool.{Bool}
 use mathlib.Core.Path.{_≡_}
 use Rattle.replies.specs.Replies.{noStore, formatReply, beginReply, putReply, assignReply, weaveReply, publishReply, branchReply, readReply, sizeReply, recentReply, stampReply, viewReply}
 use Rattle.format.specs.declared.Formatted.{Formatted}
-use Rattle.lines.specs.declared.Branch.{Branch}
-use Rattle.lines.specs.declared.Line.{Line}
 use Rattle.replies.specs.declared.AssignReply.{AssignReply}
 use Rattle.replies.specs.declared.BeginReply.{BeginReply}
 use Rattle.replies.specs.declared.BranchReply.{BranchReply}
@@ -19,7 +17,6 @@ use Rattle.replies.specs.declared.VersionReply.{VersionReply}
 use Rattle.replies.specs.declared.ViewReply.{ViewReply}
 use Rattle.replies.specs.declared.WeaveReply.{WeaveReply}
 use Rattle.tree.specs.declared.Ticket.{Ticket}
-use Rattle.tree.specs.declared.Version.{Version}
 use Rattle.versions.specs.declared.Store.{Store}
 
 abbrev pub ens : Formatted → FormatReply → Type 0

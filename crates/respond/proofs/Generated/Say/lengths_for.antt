@@ -8,10 +8,7 @@ use mathlib.Core.Path.{_≡_}
 use Rattle.text.specs.Buffer.{front}
 use Rattle.parse.specs.Cut.{cutMeant}
 use Rattle.wanted.specs.Wanted.{nothingKept, beyond, formatWanted, readWanted, wantedBy, storeFor, lengthsFor}
-use Rattle.lines.specs.declared.Branch.{Branch}
-use Rattle.lines.specs.declared.Line.{Line}
 use Rattle.tree.specs.declared.Ticket.{Ticket}
-use Rattle.tree.specs.declared.Version.{Version}
 use Rattle.versions.specs.declared.Lengths.{Lengths}
 use Rattle.versions.specs.declared.Store.{Store}
 use Rattle.wanted.specs.declared.Fill.{Fill}

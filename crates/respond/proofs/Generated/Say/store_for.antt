@@ -9,10 +9,7 @@ use Rattle.text.specs.Buffer.{front}
 use Rattle.parse.specs.Cut.{cutMeant}
 use Rattle.wanted.specs.Wanted.{nothingKept, beyond, formatWanted, readWanted, wantedBy, storeFor, lengthsFor}
 use Rattle.answers.specs.declared.Kept.{Kept}
-use Rattle.lines.specs.declared.Branch.{Branch}
-use Rattle.lines.specs.declared.Line.{Line}
 use Rattle.tree.specs.declared.Ticket.{Ticket}
-use Rattle.tree.specs.declared.Version.{Version}
 use Rattle.versions.specs.declared.Store.{Store}
 use Rattle.wanted.specs.declared.Fill.{Fill}
 use Rattle.wanted.specs.declared.Look.{Look}

@@ -16,12 +16,6 @@ use Rattle.versions.specs.declared.Store.{Store}
 use Rattle.versions.proofs.Generated.Kind.Store as Store′
 use Rattle.tree.specs.declared.Ticket.{Ticket}
 use Rattle.register.proofs.Generated.Kind.Ticket as Ticket′
-use Rattle.lines.specs.declared.Branch.{Branch}
-use Rattle.versions.proofs.Generated.Kind.Branch as Branch′
-use Rattle.lines.specs.declared.Line.{Line}
-use Rattle.register.proofs.Generated.Kind.Line as Line′
-use Rattle.tree.specs.declared.Version.{Version}
-use Rattle.register.proofs.Generated.Kind.Version as Version′
 use Rattle.wanted.specs.declared.Wanted.{Wanted}
 use Rattle.respond.proofs.Generated.Kind.Wanted as Wanted′
 use Rattle.wanted.specs.declared.Fill.{Fill}

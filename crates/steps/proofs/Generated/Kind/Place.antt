@@ -75,7 +75,7 @@ pub make : (y0 : Kept) (y1 : Cutter) (y2 : Bool) → Is Kept′.row y0 (Kept′.
 make y0 y1 y2 g0 g1 g2 = LL.owes T′.the-type T″.the-laws (build y0 y1 y2) (g0, (g1, (g2, tt)))
 
 abbrev pub stride : ℕ
-stride = 744
+stride = 240
 
 -- the byte offset of an element of a slice does not wrap
 pub scaled : (n i : ℕ) → i < n → n * stride < 2 ^ 63 → i * stride < 2 ^ 64

@@ -8,13 +8,10 @@ use mathlib.Core.Path.{_≡_}
 use lib.ListN.{length}
 use Rattle.steps.specs.Places.{nextPlace, samePlace, isDue}
 use Rattle.answers.specs.declared.Kept.{Kept}
-use Rattle.lines.specs.declared.Branch.{Branch}
 use Rattle.lines.specs.declared.Entries.{Entries}
-use Rattle.lines.specs.declared.Line.{Line}
 use Rattle.parse.specs.declared.Cutter.{Cutter}
 use Rattle.register.specs.declared.Record.{Record}
 use Rattle.steps.specs.declared.Place.{Place as Place‴, Place}
 use Rattle.tree.specs.declared.PageIndex.{PageIndex}
 use Rattle.tree.specs.declared.Ticket.{Ticket}
-use Rattle.tree.specs.declared.Version.{Version}
 use Rattle.versions.specs.declared.Store.{Store}

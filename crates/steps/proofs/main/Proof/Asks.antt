@@ -22,12 +22,6 @@ use Rattle.answers.specs.declared.Kept.{Kept}
 use Rattle.answers.proofs.Generated.Kind.Kept as Kept′
 use Rattle.versions.specs.declared.Store.{Store}
 use Rattle.versions.proofs.Generated.Kind.Store as Store′
-use Rattle.lines.specs.declared.Branch.{Branch}
-use Rattle.versions.proofs.Generated.Kind.Branch as Branch′
-use Rattle.lines.specs.declared.Line.{Line}
-use Rattle.register.proofs.Generated.Kind.Line as Line′
-use Rattle.tree.specs.declared.Version.{Version}
-use Rattle.register.proofs.Generated.Kind.Version as Version′
 use Rattle.parse.specs.declared.Cutter.{Cutter}
 use Rattle.steps.proofs.Generated.Kind.Cutter as Cutter′
 use Rattle.steps.proofs.Generated.Say.main as main″

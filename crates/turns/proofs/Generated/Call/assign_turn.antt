@@ -38,16 +38,12 @@ use Rattle.versions.specs.declared.Store.{Store}
 use Rattle.versions.proofs.Generated.Kind.Store as Store′
 use Rattle.tree.specs.declared.Ticket.{Ticket}
 use Rattle.register.proofs.Generated.Kind.Ticket as Ticket′
-use Rattle.lines.specs.declared.Branch.{Branch}
-use Rattle.versions.proofs.Generated.Kind.Branch as Branch′
-use Rattle.lines.specs.declared.Line.{Line}
-use Rattle.register.proofs.Generated.Kind.Line as Line′
-use Rattle.tree.specs.declared.Version.{Version}
-use Rattle.register.proofs.Generated.Kind.Version as Version′
 use Rattle.assign.specs.declared.AssignOut.{AssignOut}
 use Rattle.assign.proofs.Generated.Kind.AssignOut as AssignOut′
 use Rattle.assign.specs.declared.Assigned.{Assigned}
 use Rattle.assign.proofs.Generated.Kind.Assigned as Assigned′
+use Rattle.tree.specs.declared.Version.{Version}
+use Rattle.register.proofs.Generated.Kind.Version as Version′
 use Rattle.answers.specs.declared.Turn.{Turn}
 use Rattle.answers.proofs.Generated.Kind.Turn as Turn′
 use Rattle.register.proofs.Generated.Flow.{ref, MutAt, ShrAt, keeps-shr, plus-nothing}

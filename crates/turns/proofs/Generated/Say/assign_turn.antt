@@ -10,8 +10,6 @@ use Rattle.answers.specs.declared.Kept.{Kept}
 use Rattle.answers.specs.declared.Turn.{Turn}
 use Rattle.assign.specs.declared.AssignOut.{AssignOut}
 use Rattle.assign.specs.declared.Assigned.{Assigned}
-use Rattle.lines.specs.declared.Branch.{Branch}
-use Rattle.lines.specs.declared.Line.{Line}
 use Rattle.tree.specs.declared.Ticket.{Ticket}
 use Rattle.tree.specs.declared.Version.{Version}
 use Rattle.versions.specs.declared.Store.{Store}

@@ -10,10 +10,7 @@ use Rattle.answers.specs.declared.Kept.{Kept}
 use Rattle.answers.specs.declared.Turn.{Turn}
 use Rattle.begin.specs.declared.BeginOut.{BeginOut}
 use Rattle.begin.specs.declared.Begun.{Begun}
-use Rattle.lines.specs.declared.Branch.{Branch}
-use Rattle.lines.specs.declared.Line.{Line}
 use Rattle.tree.specs.declared.Ticket.{Ticket}
-use Rattle.tree.specs.declared.Version.{Version}
 use Rattle.versions.specs.declared.Store.{Store}
 
 abbrev pub ens : Kept → BeginOut → List ℕ → List ℕ → Turn → Type 0

@@ -6,7 +6,6 @@ use mathlib.Core.List.{List}
 use mathlib.Core.Bool.{Bool}
 use Rattle.answers.specs.declared.Kept.{Kept}
 use Rattle.answers.specs.declared.Turn.{Turn}
-use Rattle.lines.specs.declared.Branch.{Branch}
 use Rattle.lines.specs.declared.Entries.{Entries}
 use Rattle.lines.specs.declared.Line.{Line}
 use Rattle.register.specs.declared.Record.{Record}

@@ -10,10 +10,8 @@ use Rattle.answers.specs.declared.Kept.{Kept}
 use Rattle.answers.specs.declared.Turn.{Turn}
 use Rattle.branch.specs.declared.BranchOut.{BranchOut}
 use Rattle.branch.specs.declared.Branched.{Branched}
-use Rattle.lines.specs.declared.Branch.{Branch}
 use Rattle.lines.specs.declared.Line.{Line}
 use Rattle.tree.specs.declared.Ticket.{Ticket}
-use Rattle.tree.specs.declared.Version.{Version}
 use Rattle.versions.specs.declared.Store.{Store}
 
 abbrev pub ens : Kept → BranchOut → List ℕ → List ℕ → Turn → Type 0

@@ -8,8 +8,6 @@ use mathlib.Core.Path.{_≡_}
 use Rattle.answers.specs.Answers.{turned, written, refusedSaid, replied, holding, opening, formatSaid, bytesSaid, readSaid, begunReply, putReply, assignedReply, wovenReply, publishedReply, branchedReply, sizedReply, latestReply, stampedReply}
 use Rattle.answers.specs.declared.Kept.{Kept}
 use Rattle.answers.specs.declared.Turn.{Turn}
-use Rattle.lines.specs.declared.Branch.{Branch}
-use Rattle.lines.specs.declared.Line.{Line}
 use Rattle.publish.specs.declared.PublishOut.{PublishOut}
 use Rattle.publish.specs.declared.Published.{Published}
 use Rattle.tree.specs.declared.Ticket.{Ticket}

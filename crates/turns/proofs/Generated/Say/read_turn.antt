@@ -8,11 +8,8 @@ use mathlib.Core.Path.{_≡_}
 use Rattle.answers.specs.Answers.{turned, written, refusedSaid, replied, holding, opening, formatSaid, bytesSaid, readSaid, begunReply, putReply, assignedReply, wovenReply, publishedReply, branchedReply, sizedReply, latestReply, stampedReply}
 use Rattle.answers.specs.declared.Kept.{Kept}
 use Rattle.answers.specs.declared.Turn.{Turn}
-use Rattle.lines.specs.declared.Branch.{Branch}
-use Rattle.lines.specs.declared.Line.{Line}
 use Rattle.read.specs.declared.Filled.{Filled}
 use Rattle.tree.specs.declared.Ticket.{Ticket}
-use Rattle.tree.specs.declared.Version.{Version}
 use Rattle.versions.specs.declared.Store.{Store}
 
 abbrev pub ens : Kept → ℕ → Filled → List ℕ → List ℕ → List ℕ → Turn → Type 0

@@ -20,16 +20,12 @@ use denote.Laws.{Is, Tells, Copy, Makes}
 use denote.Plain.{uint-vals, bool-vals, nothing-vals}
 use denote.Builtin.{u8, u16, u32, u64, bool, unit}
 use denote.Struct.Laws as LL
-use Rattle.lines.specs.declared.Branch.{Branch}
 use Rattle.register.proofs.Generated.Kind.Ticket as Ticket′
 use Rattle.tree.specs.declared.Ticket.{Ticket}
-use Rattle.versions.proofs.Generated.Kind.Branch as Branch′
 use lib.ListN.{length, length-map, replicate}
 use denote.Struct.Field.{Field, array-field, u8-field, u16-field, u32-field, u64-field, bool-field}
 use denote.Struct.Laws.{FLaws, array-laws}
 use denote.Memory.{lone}
-use Rattle.lines.proofs.Branch as Branch-T′
-use Rattle.lines.proofs.Branch.Laws as Branch-T″
 use Rattle.versions.specs.declared.Store.{Store}
 use Rattle.versions.proofs.Store as T′
 use Rattle.versions.proofs.Store.Laws as T″
@@ -63,23 +59,23 @@ makes = LL.makes T′.the-type T″.the-plain
 
 -- a value to stand past the end of a list
 abbrev pub none : Store
-none = record { size = 0; pages = 0; nodes = 0; updates = 0; tickets = Ticket′.none; taken = 0; assigned = 0; places = 0; begun = 0; lines = replicate 16 Branch′.none }
+none = record { size = 0; pages = 0; nodes = 0; updates = 0; tickets = Ticket′.none; taken = 0; assigned = 0; places = 0; begun = 0; sources = 0; lines = replicate 16 0 }
 
 -- the array `lines`: its row, its machine value, and what whoever owns one knows: there are 16, and each fits
 abbrev pub row-lines : RattleType
-row-lines = array-field Branch-T′.the-field 16 .row
+row-lines = array-field u64-field 16 .row
 
-abbrev pub laws-lines : FLaws (array-field Branch-T′.the-field 16)
-laws-lines = array-laws Branch-T′.the-field Branch-T″.the-field-laws 16
+abbrev pub laws-lines : FLaws (array-field u64-field 16)
+laws-lines = array-laws u64-field LL.u64-laws 16
 
-abbrev pub mach-lines : List Branch → Val
-mach-lines ys = laws-lines .val (map (Branch-T′.the-field .into) ys)
+abbrev pub mach-lines : List ℕ → Val
+mach-lines ys = laws-lines .val (map (u64-field .into) ys)
 
-abbrev pub Ok-lines : List Branch → Type 0
-Ok-lines ys = Is row-lines (map (Branch-T′.the-field .into) ys) (mach-lines ys ∷ [])
+abbrev pub Ok-lines : List ℕ → Type 0
+Ok-lines ys = Is row-lines (map (u64-field .into) ys) (mach-lines ys ∷ [])
 
-pub typed-lines : {M : Type 1} (𝓤 : URA M) (H : Heap 𝓤) (A : Atoms 𝓤) (W : Given 𝓤 H A) (ys : List Branch) → Ok-lines ys → T (hasTy (lone (row-lines .mir)) (mach-lines ys)) × WT (mach-lines ys)
-typed-lines 𝓤 H A W ys g = laws-lines .lawful 𝓤 H A W .typed (map (Branch-T′.the-field .into) ys) _ g .0
+pub typed-lines : {M : Type 1} (𝓤 : URA M) (H : Heap 𝓤) (A : Atoms 𝓤) (W : Given 𝓤 H A) (ys : List ℕ) → Ok-lines ys → T (hasTy (lone (row-lines .mir)) (mach-lines ys)) × WT (mach-lines ys)
+typed-lines 𝓤 H A W ys g = laws-lines .lawful 𝓤 H A W .typed (map (u64-field .into) ys) _ g .0
 
 pub ok-size : (d : Store) → Ok d → Is u64 (d .size) (uint-vals w64 (d .size))
 ok-size d g = LL.owed T′.the-type T″.the-laws d _ g .0
@@ -108,20 +104,23 @@ ok-places d g = LL.owed T′.the-type T″.the-laws d _ g .1 .1 .1 .1 .1 .1 .1 .
 pub ok-begun : (d : Store) → Ok d → Is u64 (d .begun) (uint-vals w64 (d .begun))
 ok-begun d g = LL.owed T′.the-type T″.the-laws d _ g .1 .1 .1 .1 .1 .1 .1 .1 .0
 
+pub ok-sources : (d : Store) → Ok d → Is u64 (d .sources) (uint-vals w64 (d .sources))
+ok-sources d g = LL.owed T′.the-type T″.the-laws d _ g .1 .1 .1 .1 .1 .1 .1 .1 .1 .0
+
 pub ok-lines : (d : Store) → Ok d → Ok-lines (d .lines)
-ok-lines d g = LL.owed T′.the-type T″.the-laws d _ g .1 .1 .1 .1 .1 .1 .1 .1 .1 .0
+ok-lines d g = LL.owed T′.the-type T″.the-laws d _ g .1 .1 .1 .1 .1 .1 .1 .1 .1 .1 .0
 
 pub count-lines : (d : Store) → Ok d → length (d .lines) ≡ 16
-count-lines d g = sym (length-map (d .lines) (Branch-T′.the-field .into)) ∙ ok-lines d g .1 .0 .1
+count-lines d g = sym (length-map (d .lines) (u64-field .into)) ∙ ok-lines d g .1 .0 .1
 
-abbrev pub build : ℕ → ℕ → ℕ → ℕ → Ticket → ℕ → ℕ → ℕ → ℕ → List Branch → Store
-build y0 y1 y2 y3 y4 y5 y6 y7 y8 y9 = record { size = y0; pages = y1; nodes = y2; updates = y3; tickets = y4; taken = y5; assigned = y6; places = y7; begun = y8; lines = y9 }
+abbrev pub build : ℕ → ℕ → ℕ → ℕ → Ticket → ℕ → ℕ → ℕ → ℕ → ℕ → List ℕ → Store
+build y0 y1 y2 y3 y4 y5 y6 y7 y8 y9 y10 = record { size = y0; pages = y1; nodes = y2; updates = y3; tickets = y4; taken = y5; assigned = y6; places = y7; begun = y8; sources = y9; lines = y10 }
 
-pub make : (y0 : ℕ) (y1 : ℕ) (y2 : ℕ) (y3 : ℕ) (y4 : Ticket) (y5 : ℕ) (y6 : ℕ) (y7 : ℕ) (y8 : ℕ) (y9 : List Branch) → Is u64 y0 (uint-vals w64 y0) → Is u64 y1 (uint-vals w64 y1) → Is u64 y2 (uint-vals w64 y2) → Is u64 y3 (uint-vals w64 y3) → Is Ticket′.row y4 (Ticket′.vals y4) → Is u64 y5 (uint-vals w64 y5) → Is u64 y6 (uint-vals w64 y6) → Is u64 y7 (uint-vals w64 y7) → Is u64 y8 (uint-vals w64 y8) → Ok-lines y9 → Ok (build y0 y1 y2 y3 y4 y5 y6 y7 y8 y9)
-make y0 y1 y2 y3 y4 y5 y6 y7 y8 y9 g0 g1 g2 g3 g4 g5 g6 g7 g8 g9 = LL.owes T′.the-type T″.the-laws (build y0 y1 y2 y3 y4 y5 y6 y7 y8 y9) (g0, (g1, (g2, (g3, (g4, (g5, (g6, (g7, (g8, (g9, tt))))))))))
+pub make : (y0 : ℕ) (y1 : ℕ) (y2 : ℕ) (y3 : ℕ) (y4 : Ticket) (y5 : ℕ) (y6 : ℕ) (y7 : ℕ) (y8 : ℕ) (y9 : ℕ) (y10 : List ℕ) → Is u64 y0 (uint-vals w64 y0) → Is u64 y1 (uint-vals w64 y1) → Is u64 y2 (uint-vals w64 y2) → Is u64 y3 (uint-vals w64 y3) → Is Ticket′.row y4 (Ticket′.vals y4) → Is u64 y5 (uint-vals w64 y5) → Is u64 y6 (uint-vals w64 y6) → Is u64 y7 (uint-vals w64 y7) → Is u64 y8 (uint-vals w64 y8) → Is u64 y9 (uint-vals w64 y9) → Ok-lines y10 → Ok (build y0 y1 y2 y3 y4 y5 y6 y7 y8 y9 y10)
+make y0 y1 y2 y3 y4 y5 y6 y7 y8 y9 y10 g0 g1 g2 g3 g4 g5 g6 g7 g8 g9 g10 = LL.owes T′.the-type T″.the-laws (build y0 y1 y2 y3 y4 y5 y6 y7 y8 y9 y10) (g0, (g1, (g2, (g3, (g4, (g5, (g6, (g7, (g8, (g9, (g10, tt)))))))))))
 
 abbrev pub stride : ℕ
-stride = 712
+stride = 208
 
 -- the byte offset of an element of a slice does not wrap
 pub scaled : (n i : ℕ) → i < n → n * stride < 2 ^ 63 → i * stride < 2 ^ 64

@@ -6,14 +6,12 @@ use mathlib.Core.List.{List, [], _∷_}
 use mathlib.Core.Bool.{Bool}
 use mathlib.Core.Path.{_≡_}
 use lib.Dec.{eqb}
-use Rattle.tree.specs.Tree.{countOf}
 use Rattle.lines.specs.Lines.{ownerOf}
-use Rattle.register.specs.Register.{updateOf, withRecord}
+use Rattle.register.specs.Register.{withRecord}
 use Rattle.table.specs.Table.{_gives_, firstRefusal, orElse, holds, noTicket, unless}
 use Rattle.versions.specs.Store.{areasOf, lengthsOf, differ, linesIn, lineIn, withLine, numberOn}
 use Rattle.versions.specs.Size.{notThere, refusalBy, snapshotRefusal, openedBy, pagesBy, bytesBy, sized, sizeOut}
 use Rattle.versions.specs.Recent.{lineRefusal, latest, recentOut}
-use Rattle.lines.specs.declared.Branch.{Branch}
 use Rattle.lines.specs.declared.Entries.{Entries}
 use Rattle.lines.specs.declared.Line.{Line}
 use Rattle.register.specs.declared.Record.{Record}

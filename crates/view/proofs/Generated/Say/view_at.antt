@@ -9,7 +9,6 @@ use Rattle.pages.specs.Pages.{part}
 use Rattle.table.specs.Table.{unless}
 use Rattle.versions.specs.Store.{areasOf}
 use Rattle.view.specs.View.{viewPart, viewed, viewAt}
-use Rattle.lines.specs.declared.Branch.{Branch}
 use Rattle.lines.specs.declared.Entries.{Entries}
 use Rattle.lines.specs.declared.Line.{Line}
 use Rattle.register.specs.declared.Record.{Record}

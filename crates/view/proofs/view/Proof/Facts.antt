@@ -5,14 +5,14 @@ use Prim.Native.Nat.{ℕ, _*_}
 use Rattle.pages.specs.Pages.{part}
 use Rattle.table.specs.Table.{unless}
 use Rattle.versions.specs.Store.{areasOf, numberOn}
-use Rattle.walk.specs.FindPage.{findPage, pageNumberOf, orZero}
+use Rattle.walk.specs.FindPage.{reachFrom, findPage, pageNumberOf, orZero}
 use Rattle.stamp.proofs.Pages.{page-number}
 use Rattle.view.proofs.view.Proof.Asks as Asks
 
 -- the function ensures: r ≡ viewPart s (areasOf pages nodes register) (l .0) (v .0) (page .0)
 -- here: view″.ens s pages nodes register x-l x-v page (r7 s pages nodes register x-l x-v page)
 pub exit-1 : Asks.exit-1
-unfolding pageNumberOf findPage
+unfolding pageNumberOf findPage reachFrom
 exit-1 s pages nodes register x-l x-v page ok-s len-pages len-nodes len-register ok-x-l ok-x-v ok-page ok-r1 ok-r2 ok-r3 ok-r4 fits-r5 fits-r6 len-r7 =
     let a = areasOf pages nodes register in
     let at = s .size * orZero (pageNumberOf (s .pages) a (numberOn s (x-l .0) (x-v .0)) (page .0)) in

@@ -2,7 +2,7 @@
 use mathlib.Core.Path.{sym, ap}
 use Prim.Native.Nat.{ℕ, _*_}
 use Rattle.versions.specs.Store.{areasOf, numberOn}
-use Rattle.walk.specs.FindPage.{findPage, pageNumberOf, orZero}
+use Rattle.walk.specs.FindPage.{reachFrom, findPage, pageNumberOf, orZero}
 use Rattle.stamp.proofs.Pages.{page-number}
 use Rattle.view.specs.View.{viewed}
 use Rattle.view.proofs.Views.{begins-fits}
@@ -11,13 +11,13 @@ use Rattle.view.proofs.view_at.Proof.Asks as Asks
 -- `viewed_by` asks: (k ≡ 0 → size * number < 2 ^ 64)
 -- here: viewed-by″.req (r5 s pages nodes register x-l x-v page) (s .size) (r6 s pages nodes register x-l x-v page)
 pub viewed-by-1 : Asks.viewed-by-1
-unfolding pageNumberOf findPage
+unfolding pageNumberOf findPage reachFrom
 viewed-by-1 s pages nodes register x-l x-v page ok-s len-pages len-nodes len-register ok-x-l ok-x-v ok-page ok-r1 ok-r2 ok-r3 ok-r4 fits-r5 fits-r6 = λ e. begins-fits s (areasOf pages nodes register) (x-l .0) (x-v .0) (page .0) e len-pages
 
 -- the function ensures: r ≡ viewAt s (areasOf pages nodes register) (l .0) (v .0) (page .0)
 -- here: view-at″.ens s pages nodes register x-l x-v page (r7 s pages nodes register x-l x-v page)
 pub exit-1 : Asks.exit-1
-unfolding pageNumberOf findPage
+unfolding pageNumberOf findPage reachFrom
 exit-1 s pages nodes register x-l x-v page ok-s len-pages len-nodes len-register ok-x-l ok-x-v ok-page ok-r1 ok-r2 ok-r3 ok-r4 fits-r5 fits-r6 ok-r7 =
     let a = areasOf pages nodes register in
     let at = s .size * orZero (pageNumberOf (s .pages) a (numberOn s (x-l .0) (x-v .0)) (page .0)) in

@@ -6,11 +6,11 @@ use mathlib.Core.List.{List}
 use mathlib.Core.Bool.{Bool, true}
 use mathlib.Core.Path.{_≡_}
 use lib.Count.{ones}
-use Rattle.tree.specs.Tree.{rootHeight, meets}
-use Rattle.tree.specs.Place.{below, first}
+use Rattle.tree.specs.Tree.{rootHeight}
+use Rattle.tree.specs.Place.{kth, first, halvings, nodeNumbered}
 use Rattle.tree.specs.NodeArea.{nodeAt, withNode}
 use Rattle.tree.specs.Cases.{table, every}
-use Rattle.tree.specs.Contract.{rootSpan, nodesFor, Pages, Counted, Indexed, Part, Spans, Kth, WovenAt}
+use Rattle.tree.specs.Contract.{rootSpan, nodesFor, Pages, Counted, Names}
 use Rattle.tree.specs.declared.Found.{Found}
 use Rattle.tree.specs.declared.NodeAt.{NodeAt}
 use Rattle.tree.specs.declared.PageIndex.{PageIndex}

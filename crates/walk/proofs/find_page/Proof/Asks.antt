@@ -22,29 +22,35 @@ use Rattle.lines.specs.declared.Entries.{Entries}
 use Rattle.register.proofs.Generated.Kind.Entries as Entries′
 use Rattle.register.specs.declared.Part.{Part}
 use Rattle.register.proofs.Generated.Kind.Part as Part′
+use Rattle.tree.specs.declared.NodeAt.{NodeAt}
+use Rattle.walk.proofs.Generated.Kind.NodeAt as NodeAt′
 use Rattle.walk.proofs.Generated.Say.find_page as find-page″
 use Rattle.register.proofs.Generated.Say.version_part as version-part″
-use Rattle.walk.proofs.Generated.Say.root_of as root-of″
-use Rattle.walk.proofs.Generated.Say.find as find″
-use Rattle.walk.proofs.Generated.Say.found_in as found-in″
+use Rattle.walk.proofs.Generated.Say.reach_from as reach-from″
+use Rattle.walk.proofs.Generated.Say.leaf_place as leaf-place″
+use Rattle.walk.proofs.Generated.Say.node_at as node-at″
+use Rattle.walk.proofs.Generated.Say.leaf_of as leaf-of″
 
 abbrev pub r1 : List ℕ → List Record → ℕ → PageIndex → Part
 r1 nodes register c page = version-part″.res register c
 
 abbrev pub r2 : List ℕ → List Record → ℕ → PageIndex → ℕ
-r2 nodes register c page = root-of″.res (r1 nodes register c page)
+r2 nodes register c page = reach-from″.res nodes register c ((r1 nodes register c page) .height) page 0
 
-abbrev pub r4 : List ℕ → List Record → ℕ → PageIndex → ℕ → Found
-r4 nodes register c page r3 = found-in″.res r3
+abbrev pub r3 : List ℕ → List Record → ℕ → PageIndex → Part
+r3 nodes register c page = version-part″.res register (r2 nodes register c page)
 
--- `find` asks: Spanned span
-abbrev pub find-1 : Type 0
-find-1 =
-    (nodes : List ℕ) (register : List Record) (c : ℕ) (page : PageIndex) (len-nodes : length nodes < 2 ^ 64) (len-register : length register < 2 ^ 64) (fits-c : c < 2 ^ 64) (ok-page : PageIndex′.Ok page) (ok-r1 : Part′.Ok (r1 nodes register c page)) (fits-r2 : (r2 nodes register c page) < 2 ^ 64)
-    → find″.req register nodes c (r2 nodes register c page) page
+abbrev pub r4 : List ℕ → List Record → ℕ → PageIndex → ℕ
+r4 nodes register c page = leaf-place″.res (r3 nodes register c page) (r2 nodes register c page) page
+
+abbrev pub r5 : List ℕ → List Record → ℕ → PageIndex → NodeAt
+r5 nodes register c page = node-at″.res nodes (r4 nodes register c page)
+
+abbrev pub r6 : List ℕ → List Record → ℕ → PageIndex → Found
+r6 nodes register c page = leaf-of″.res (r5 nodes register c page) (r2 nodes register c page)
 
 -- the function ensures: r ≡ findPage (areasOf [] nodes register) c (page .0)
 abbrev pub exit-1 : Type 0
 exit-1 =
-    (nodes : List ℕ) (register : List Record) (c : ℕ) (page : PageIndex) (len-nodes : length nodes < 2 ^ 64) (len-register : length register < 2 ^ 64) (fits-c : c < 2 ^ 64) (ok-page : PageIndex′.Ok page) (ok-r1 : Part′.Ok (r1 nodes register c page)) (fits-r2 : (r2 nodes register c page) < 2 ^ 64) (r3 : ℕ) (fits-r3 : r3 < 2 ^ 64) (says3 : find″.ens register nodes c (r2 nodes register c page) page r3) (ok-r4 : Found′.Ok (r4 nodes register c page r3))
-    → find-page″.ens nodes register c page (r4 nodes register c page r3)
+    (nodes : List ℕ) (register : List Record) (c : ℕ) (page : PageIndex) (len-nodes : length nodes < 2 ^ 64) (len-register : length register < 2 ^ 64) (fits-c : c < 2 ^ 64) (ok-page : PageIndex′.Ok page) (ok-r1 : Part′.Ok (r1 nodes register c page)) (fits-r2 : (r2 nodes register c page) < 2 ^ 64) (ok-r3 : Part′.Ok (r3 nodes register c page)) (fits-r4 : (r4 nodes register c page) < 2 ^ 64) (ok-r5 : NodeAt′.Ok (r5 nodes register c page)) (ok-r6 : Found′.Ok (r6 nodes register c page))
+    → find-page″.ens nodes register c page (r6 nodes register c page)

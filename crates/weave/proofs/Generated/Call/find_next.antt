@@ -36,12 +36,6 @@ use Rattle.versions.specs.declared.Store.{Store}
 use Rattle.versions.proofs.Generated.Kind.Store as Store′
 use Rattle.tree.specs.declared.Ticket.{Ticket}
 use Rattle.register.proofs.Generated.Kind.Ticket as Ticket′
-use Rattle.lines.specs.declared.Branch.{Branch}
-use Rattle.versions.proofs.Generated.Kind.Branch as Branch′
-use Rattle.lines.specs.declared.Line.{Line}
-use Rattle.register.proofs.Generated.Kind.Line as Line′
-use Rattle.tree.specs.declared.Version.{Version}
-use Rattle.register.proofs.Generated.Kind.Version as Version′
 use Rattle.versions.specs.declared.Lengths.{Lengths}
 use Rattle.versions.proofs.Generated.Kind.Lengths as Lengths′
 use Rattle.register.specs.declared.Record.{Record}
@@ -64,54 +58,54 @@ module _ {M : Type 1} (𝓤 : URA M) (H : Heap 𝓤) (A : Atoms 𝓤) (mem : Mem
   abbrev pub Asked : Contract 𝓤
   Asked = tripleOf 𝓤 H A callee.signature (callee.spec 𝓤 H A mem run)
 
-  abbrev pub to : (s : Store) (g : Lengths) (κ·register : Lft) (q·register : Share) (b·register o·register : ℕ) (γ·register : GName) (n·register : ℕ) (register : List Record) (x-t : Ticket) → Asked .Ghost
-  to s g κ·register q·register b·register o·register γ·register n·register register x-t = (((κ·register, tt), (q·register, tt), tt, (s, (g, (ref b·register o·register γ·register register, (x-t, tt)))), (Store′.mach s ∷ [], (Lengths′.mach g ∷ [], (sliceVal (b·register, o·register) n·register ∷ [], (Ticket′.mach x-t ∷ [], tt))))), tt)
+  abbrev pub to : (s : Store) (g : Lengths) (κ·nodes : Lft) (q·nodes : Share) (b·nodes o·nodes : ℕ) (γ·nodes : GName) (n·nodes : ℕ) (nodes : List ℕ) (κ·register : Lft) (q·register : Share) (b·register o·register : ℕ) (γ·register : GName) (n·register : ℕ) (register : List Record) (x-t : Ticket) → Asked .Ghost
+  to s g κ·nodes q·nodes b·nodes o·nodes γ·nodes n·nodes nodes κ·register q·register b·register o·register γ·register n·register register x-t = (((κ·nodes, (κ·register, tt)), (q·nodes, (q·register, tt)), tt, (s, (g, (ref b·nodes o·nodes γ·nodes nodes, (ref b·register o·register γ·register register, (x-t, tt))))), (Store′.mach s ∷ [], (Lengths′.mach g ∷ [], (sliceVal (b·nodes, o·nodes) n·nodes ∷ [], (sliceVal (b·register, o·register) n·register ∷ [], (Ticket′.mach x-t ∷ [], tt)))))), tt)
 
 module _ {M : Type 1} {𝓤 : URA M} {H : Heap 𝓤} {A : Atoms 𝓤} {K : Type 0} {W : Given 𝓤 H A} {Γ : List (Item 𝓤)} where
   -- the call itself is made by `by-call`, from what the callee asks to what it has ensured
-  core : K → (mem : Memory → SProp 𝓤) (run : Routine → Fun 𝓤) → (s : Store) (g : Lengths) (κ·register : Lft) (q·register : Share) (b·register o·register : ℕ) (γ·register : GName) (n·register : ℕ) (register : List Record) (x-t : Ticket) → (G : Goal 𝓤 H) (after : Val → Goal 𝓤 H) → ((v : Val) → Soaks (after v))
-      → (((v : Val) → Seq K W (raw (Asked 𝓤 H A mem run .post (to 𝓤 H A mem run s g κ·register q·register b·register o·register γ·register n·register register x-t) v) ∷ ‵ (ShrAt Record′.row κ·register b·register o·register γ·register n·register register) ∷ Γ) (after v)) → Seq K W (raw (Asked 𝓤 H A mem run .pre (to 𝓤 H A mem run s g κ·register q·register b·register o·register γ·register n·register register x-t)) ∷ ‵ (ShrAt Record′.row κ·register b·register o·register γ·register n·register register) ∷ Γ) G) → Is Store′.row s (Store′.vals s) → Is Lengths′.row g (Lengths′.vals g) → Is Ticket′.row x-t (Ticket′.vals x-t) →
-      ((x·res : Found) → Is Found′.row x·res (Found′.vals x·res) → find-next″.ens s g register x-t x·res → Seq K W (‵ (flft κ·register q·register) ∷ ‵ (ShrAt Record′.row κ·register b·register o·register γ·register n·register register) ∷ Γ) (after (Found′.mach x·res))) → Seq K W (‵ (flft κ·register q·register) ∷ ‵ (ShrAt Record′.row κ·register b·register o·register γ·register n·register register) ∷ Γ) G
-  core t mem run s g κ·register q·register b·register o·register γ·register n·register register x-t G after soaks by-call ok·s ok·g ok·x-t k =
-      move t (1 ∷ []) $ keeps-shr t Record′.row κ·register b·register o·register γ·register n·register register $ move t (2 ∷ 0 ∷ 1 ∷ []) $
-      join t $ use1 W (raw (Asked 𝓤 H A mem run .pre (to 𝓤 H A mem run s g κ·register q·register b·register o·register γ·register n·register register x-t))) goes $
+  core : K → (mem : Memory → SProp 𝓤) (run : Routine → Fun 𝓤) → (s : Store) (g : Lengths) (κ·nodes : Lft) (q·nodes : Share) (b·nodes o·nodes : ℕ) (γ·nodes : GName) (n·nodes : ℕ) (nodes : List ℕ) (κ·register : Lft) (q·register : Share) (b·register o·register : ℕ) (γ·register : GName) (n·register : ℕ) (register : List Record) (x-t : Ticket) → (G : Goal 𝓤 H) (after : Val → Goal 𝓤 H) → ((v : Val) → Soaks (after v))
+      → (((v : Val) → Seq K W (raw (Asked 𝓤 H A mem run .post (to 𝓤 H A mem run s g κ·nodes q·nodes b·nodes o·nodes γ·nodes n·nodes nodes κ·register q·register b·register o·register γ·register n·register register x-t) v) ∷ ‵ (ShrAt u32 κ·nodes b·nodes o·nodes γ·nodes n·nodes nodes) ∷ ‵ (ShrAt Record′.row κ·register b·register o·register γ·register n·register register) ∷ Γ) (after v)) → Seq K W (raw (Asked 𝓤 H A mem run .pre (to 𝓤 H A mem run s g κ·nodes q·nodes b·nodes o·nodes γ·nodes n·nodes nodes κ·register q·register b·register o·register γ·register n·register register x-t)) ∷ ‵ (ShrAt u32 κ·nodes b·nodes o·nodes γ·nodes n·nodes nodes) ∷ ‵ (ShrAt Record′.row κ·register b·register o·register γ·register n·register register) ∷ Γ) G) → Is Store′.row s (Store′.vals s) → Is Lengths′.row g (Lengths′.vals g) → Is Ticket′.row x-t (Ticket′.vals x-t) →
+      ((x·res : Found) → Is Found′.row x·res (Found′.vals x·res) → find-next″.ens s g nodes register x-t x·res → Seq K W (‵ (flft κ·nodes q·nodes) ∷ ‵ (ShrAt u32 κ·nodes b·nodes o·nodes γ·nodes n·nodes nodes) ∷ ‵ (flft κ·register q·register) ∷ ‵ (ShrAt Record′.row κ·register b·register o·register γ·register n·register register) ∷ Γ) (after (Found′.mach x·res))) → Seq K W (‵ (flft κ·nodes q·nodes) ∷ ‵ (ShrAt u32 κ·nodes b·nodes o·nodes γ·nodes n·nodes nodes) ∷ ‵ (flft κ·register q·register) ∷ ‵ (ShrAt Record′.row κ·register b·register o·register γ·register n·register register) ∷ Γ) G
+  core t mem run s g κ·nodes q·nodes b·nodes o·nodes γ·nodes n·nodes nodes κ·register q·register b·register o·register γ·register n·register register x-t G after soaks by-call ok·s ok·g ok·x-t k =
+      move t (1 ∷ []) $ keeps-shr t u32 κ·nodes b·nodes o·nodes γ·nodes n·nodes nodes $ move t (4 ∷ []) $ keeps-shr t Record′.row κ·register b·register o·register γ·register n·register register $ move t (4 ∷ 2 ∷ 5 ∷ 0 ∷ 3 ∷ 1 ∷ []) $
+      move t (2 ∷ 3 ∷ []) $ join t $ move t (2 ∷ 0 ∷ []) $ join t $ move t (1 ∷ 0 ∷ []) $ join t $ use1 W (raw (Asked 𝓤 H A mem run .pre (to 𝓤 H A mem run s g κ·nodes q·nodes b·nodes o·nodes γ·nodes n·nodes nodes κ·register q·register b·register o·register γ·register n·register register x-t))) goes $
       by-call (λ v.
-      use1 W (later (some (λ (r· : Found). ((‵ (flft κ·register q·register) ⊛ ‵ ftrue) ⊛ ‵ (Found′.row .own r· (v ∷ []))) ⊛ raw (ensured 𝓤 H A callee.ended (callee.clauses 𝓤 H A mem run) (κ·register, tt) (s, (g, (ref b·register o·register γ·register register, (x-t, tt)))) tt r·)))) (id⊢ 𝓤 _) $ await t (soaks v) $ pick t (λ r·. split t $ move t (1 ∷ []) $
-      use1 W (some (λ (ws : Lasts callee.ended (κ·register, tt) (s, (g, (ref b·register o·register γ·register register, (x-t, tt))))). ‵ (lasts callee.ended (κ·register, tt) (s, (g, (ref b·register o·register γ·register register, (x-t, tt)))) ws) ⊛ raw (fact 𝓤 (find-next″.ens s g register x-t r·)))) (id⊢ 𝓤 _) $ pick t (λ ws. split t $ move t (1 ∷ []) $
-      heard t (find-next″.ens s g register x-t r·) (λ e. drop t $ split t $ move t (1 ∷ []) $ facts t Found′.row (Is Found′.row) (shows 𝓤 H A Found′.row) r· (v ∷ []) (λ is. split t $ move t (1 ∷ []) $ drop t $
-      subst (λ (u : Val). Seq K W (‵ (flft κ·register q·register) ∷ ‵ (ShrAt Record′.row κ·register b·register o·register γ·register n·register register) ∷ Γ) (after u)) (sym (ap only (Found′.tells r· (v ∷ []) is))) (k r· (subst (Is Found′.row r·) (Found′.tells r· (v ∷ []) is) is) e))))))
+      use1 W (later (some (λ (r· : Found). ((‵ (flft κ·nodes q·nodes) ⊛ ‵ (flft κ·register q·register) ⊛ ‵ ftrue) ⊛ ‵ (Found′.row .own r· (v ∷ []))) ⊛ raw (ensured 𝓤 H A callee.ended (callee.clauses 𝓤 H A mem run) (κ·nodes, (κ·register, tt)) (s, (g, (ref b·nodes o·nodes γ·nodes nodes, (ref b·register o·register γ·register register, (x-t, tt))))) tt r·)))) (id⊢ 𝓤 _) $ await t (soaks v) $ pick t (λ r·. split t $ move t (1 ∷ []) $
+      use1 W (some (λ (ws : Lasts callee.ended (κ·nodes, (κ·register, tt)) (s, (g, (ref b·nodes o·nodes γ·nodes nodes, (ref b·register o·register γ·register register, (x-t, tt)))))). ‵ (lasts callee.ended (κ·nodes, (κ·register, tt)) (s, (g, (ref b·nodes o·nodes γ·nodes nodes, (ref b·register o·register γ·register register, (x-t, tt))))) ws) ⊛ raw (fact 𝓤 (find-next″.ens s g nodes register x-t r·)))) (id⊢ 𝓤 _) $ pick t (λ ws. split t $ move t (1 ∷ []) $
+      heard t (find-next″.ens s g nodes register x-t r·) (λ e. drop t $ split t $ move t (1 ∷ []) $ facts t Found′.row (Is Found′.row) (shows 𝓤 H A Found′.row) r· (v ∷ []) (λ is. split t $ move t (1 ∷ []) $ split t $ move t (1 ∷ []) $ drop t $ move t (1 ∷ 2 ∷ 0 ∷ 3 ∷ []) $
+      subst (λ (u : Val). Seq K W (‵ (flft κ·nodes q·nodes) ∷ ‵ (ShrAt u32 κ·nodes b·nodes o·nodes γ·nodes n·nodes nodes) ∷ ‵ (flft κ·register q·register) ∷ ‵ (ShrAt Record′.row κ·register b·register o·register γ·register n·register register) ∷ Γ) (after u)) (sym (ap only (Found′.tells r· (v ∷ []) is))) (k r· (subst (Is Found′.row r·) (Found′.tells r· (v ∷ []) is) is) e))))))
     where
-      goes : ent 𝓤 (⋆ 𝓤 H A (‵ (flft κ·register q·register) ∷ ‵ (ShrAt Record′.row κ·register b·register o·register γ·register n·register register) ∷ [])) (Asked 𝓤 H A mem run .pre (to 𝓤 H A mem run s g κ·register q·register b·register o·register γ·register n·register register x-t))
-      goes = qed W (‵ (flft κ·register q·register) ∷ ‵ (ShrAt Record′.row κ·register b·register o·register γ·register n·register register) ∷ []) ∵ plus-nothing ! $ nothing ! $ move ! (1 ∷ 0 ∷ []) $ join ! $ frame ! $ nothing ! $ owned ! Ticket′.row (Is Ticket′.row) (Ticket′.makes 𝓤 H A) x-t _ ok·x-t $ fjoin ! $ move ! (1 ∷ 0 ∷ []) $ fjoin ! $ owned ! Lengths′.row (Is Lengths′.row) (Lengths′.makes 𝓤 H A) g _ ok·g $ fjoin ! $ owned ! Store′.row (Is Store′.row) (Store′.makes 𝓤 H A) s _ ok·s $ fjoin ! $ done !
+      goes : ent 𝓤 (⋆ 𝓤 H A (‵ (flft κ·nodes q·nodes) ∷ ‵ (ShrAt u32 κ·nodes b·nodes o·nodes γ·nodes n·nodes nodes) ∷ ‵ (flft κ·register q·register) ∷ ‵ (ShrAt Record′.row κ·register b·register o·register γ·register n·register register) ∷ [])) (Asked 𝓤 H A mem run .pre (to 𝓤 H A mem run s g κ·nodes q·nodes b·nodes o·nodes γ·nodes n·nodes nodes κ·register q·register b·register o·register γ·register n·register register x-t))
+      goes = qed W (‵ (flft κ·nodes q·nodes) ∷ ‵ (ShrAt u32 κ·nodes b·nodes o·nodes γ·nodes n·nodes nodes) ∷ ‵ (flft κ·register q·register) ∷ ‵ (ShrAt Record′.row κ·register b·register o·register γ·register n·register register) ∷ []) ∵ plus-nothing ! $ nothing ! $ move ! (3 ∷ 0 ∷ []) $ join ! $ move ! (1 ∷ 0 ∷ []) $ join ! $ frame ! $ nothing ! $ owned ! Ticket′.row (Is Ticket′.row) (Ticket′.makes 𝓤 H A) x-t _ ok·x-t $ fjoin ! $ move ! (2 ∷ 0 ∷ []) $ fjoin ! $ move ! (1 ∷ 0 ∷ []) $ fjoin ! $ owned ! Lengths′.row (Is Lengths′.row) (Lengths′.makes 𝓤 H A) g _ ok·g $ fjoin ! $ owned ! Store′.row (Is Store′.row) (Store′.makes 𝓤 H A) s _ ok·s $ fjoin ! $ done !
 
 module _ {M : Type 1} {𝓤 : URA M} {H : Heap 𝓤} {A : Atoms 𝓤} {K : Type 0} {W : Given 𝓤 H A} {Γ : List (Item 𝓤)} {E : Env 𝓤 H} {C : Calls 𝓤 H} {Λ : Loops 𝓤 H} {Q : Post 𝓤 H} {xs : List Operand} {d : Place} {rest : Body} where
   -- by one instance of the callee's contract, which is what a function that calls itself has
-  pub calls-by : K → (mem : Memory → SProp 𝓤) (run : Routine → Fun 𝓤) → FmC 𝓤 H (W .laws) C → (s : Store) (g : Lengths) (κ·register : Lft) (q·register : Share) (b·register o·register : ℕ) (γ·register : GName) (n·register : ℕ) (register : List Record) (x-t : Ticket) → ent 𝓤 (Asked 𝓤 H A mem run .pre (to 𝓤 H A mem run s g κ·register q·register b·register o·register γ·register n·register register x-t)) (C #callee (Asked 𝓤 H A mem run .args (to 𝓤 H A mem run s g κ·register q·register b·register o·register γ·register n·register register x-t)) (Asked 𝓤 H A mem run .post (to 𝓤 H A mem run s g κ·register q·register b·register o·register γ·register n·register register x-t))) → Is Store′.row s (Store′.vals s) → Is Lengths′.row g (Lengths′.vals g) → Is Ticket′.row x-t (Ticket′.vals x-t) →
-      Opds K W (raw (Asked 𝓤 H A mem run .pre (to 𝓤 H A mem run s g κ·register q·register b·register o·register γ·register n·register register x-t)) ∷ ‵ (ShrAt Record′.row κ·register b·register o·register γ·register n·register register) ∷ Γ) E xs (Store′.mach s ∷ Lengths′.mach g ∷ sliceVal (b·register, o·register) n·register ∷ Ticket′.mach x-t ∷ [])
-      → ((x·res : Found) → Is Found′.row x·res (Found′.vals x·res) → find-next″.ens s g register x-t x·res → Seq K W (‵ (flft κ·register q·register) ∷ ‵ (ShrAt Record′.row κ·register b·register o·register γ·register n·register register) ∷ Γ) (lands C Λ E d (Found′.mach x·res) rest Q))
-      → Seq K W (‵ (flft κ·register q·register) ∷ ‵ (ShrAt Record′.row κ·register b·register o·register γ·register n·register register) ∷ Γ) (runs C Λ E (seq (call #callee xs d) rest) Q)
-  calls-by t mem run fm s g κ·register q·register b·register o·register γ·register n·register register x-t known ok·s ok·g ok·x-t os k =
-      core t mem run s g κ·register q·register b·register o·register γ·register n·register register x-t (runs C Λ E (seq (call #callee xs d) rest) Q) (λ v. lands C Λ E d v rest Q) (λ v. tt)
-      (λ h. calls-from t fm (raw (Asked 𝓤 H A mem run .pre (to 𝓤 H A mem run s g κ·register q·register b·register o·register γ·register n·register register x-t))) (Asked 𝓤 H A mem run .args (to 𝓤 H A mem run s g κ·register q·register b·register o·register γ·register n·register register x-t)) (Asked 𝓤 H A mem run .post (to 𝓤 H A mem run s g κ·register q·register b·register o·register γ·register n·register register x-t)) known os h) ok·s ok·g ok·x-t k
+  pub calls-by : K → (mem : Memory → SProp 𝓤) (run : Routine → Fun 𝓤) → FmC 𝓤 H (W .laws) C → (s : Store) (g : Lengths) (κ·nodes : Lft) (q·nodes : Share) (b·nodes o·nodes : ℕ) (γ·nodes : GName) (n·nodes : ℕ) (nodes : List ℕ) (κ·register : Lft) (q·register : Share) (b·register o·register : ℕ) (γ·register : GName) (n·register : ℕ) (register : List Record) (x-t : Ticket) → ent 𝓤 (Asked 𝓤 H A mem run .pre (to 𝓤 H A mem run s g κ·nodes q·nodes b·nodes o·nodes γ·nodes n·nodes nodes κ·register q·register b·register o·register γ·register n·register register x-t)) (C #callee (Asked 𝓤 H A mem run .args (to 𝓤 H A mem run s g κ·nodes q·nodes b·nodes o·nodes γ·nodes n·nodes nodes κ·register q·register b·register o·register γ·register n·register register x-t)) (Asked 𝓤 H A mem run .post (to 𝓤 H A mem run s g κ·nodes q·nodes b·nodes o·nodes γ·nodes n·nodes nodes κ·register q·register b·register o·register γ·register n·register register x-t))) → Is Store′.row s (Store′.vals s) → Is Lengths′.row g (Lengths′.vals g) → Is Ticket′.row x-t (Ticket′.vals x-t) →
+      Opds K W (raw (Asked 𝓤 H A mem run .pre (to 𝓤 H A mem run s g κ·nodes q·nodes b·nodes o·nodes γ·nodes n·nodes nodes κ·register q·register b·register o·register γ·register n·register register x-t)) ∷ ‵ (ShrAt u32 κ·nodes b·nodes o·nodes γ·nodes n·nodes nodes) ∷ ‵ (ShrAt Record′.row κ·register b·register o·register γ·register n·register register) ∷ Γ) E xs (Store′.mach s ∷ Lengths′.mach g ∷ sliceVal (b·nodes, o·nodes) n·nodes ∷ sliceVal (b·register, o·register) n·register ∷ Ticket′.mach x-t ∷ [])
+      → ((x·res : Found) → Is Found′.row x·res (Found′.vals x·res) → find-next″.ens s g nodes register x-t x·res → Seq K W (‵ (flft κ·nodes q·nodes) ∷ ‵ (ShrAt u32 κ·nodes b·nodes o·nodes γ·nodes n·nodes nodes) ∷ ‵ (flft κ·register q·register) ∷ ‵ (ShrAt Record′.row κ·register b·register o·register γ·register n·register register) ∷ Γ) (lands C Λ E d (Found′.mach x·res) rest Q))
+      → Seq K W (‵ (flft κ·nodes q·nodes) ∷ ‵ (ShrAt u32 κ·nodes b·nodes o·nodes γ·nodes n·nodes nodes) ∷ ‵ (flft κ·register q·register) ∷ ‵ (ShrAt Record′.row κ·register b·register o·register γ·register n·register register) ∷ Γ) (runs C Λ E (seq (call #callee xs d) rest) Q)
+  calls-by t mem run fm s g κ·nodes q·nodes b·nodes o·nodes γ·nodes n·nodes nodes κ·register q·register b·register o·register γ·register n·register register x-t known ok·s ok·g ok·x-t os k =
+      core t mem run s g κ·nodes q·nodes b·nodes o·nodes γ·nodes n·nodes nodes κ·register q·register b·register o·register γ·register n·register register x-t (runs C Λ E (seq (call #callee xs d) rest) Q) (λ v. lands C Λ E d v rest Q) (λ v. tt)
+      (λ h. calls-from t fm (raw (Asked 𝓤 H A mem run .pre (to 𝓤 H A mem run s g κ·nodes q·nodes b·nodes o·nodes γ·nodes n·nodes nodes κ·register q·register b·register o·register γ·register n·register register x-t))) (Asked 𝓤 H A mem run .args (to 𝓤 H A mem run s g κ·nodes q·nodes b·nodes o·nodes γ·nodes n·nodes nodes κ·register q·register b·register o·register γ·register n·register register x-t)) (Asked 𝓤 H A mem run .post (to 𝓤 H A mem run s g κ·nodes q·nodes b·nodes o·nodes γ·nodes n·nodes nodes κ·register q·register b·register o·register γ·register n·register register x-t)) known os h) ok·s ok·g ok·x-t k
 
-  pub calls : K → (mem : Memory → SProp 𝓤) (run : Routine → Fun 𝓤) → FmC 𝓤 H (W .laws) C → Triple 𝓤 (C #callee) (Asked 𝓤 H A mem run) → (s : Store) (g : Lengths) (κ·register : Lft) (q·register : Share) (b·register o·register : ℕ) (γ·register : GName) (n·register : ℕ) (register : List Record) (x-t : Ticket) → Is Store′.row s (Store′.vals s) → Is Lengths′.row g (Lengths′.vals g) → Is Ticket′.row x-t (Ticket′.vals x-t) →
-      Opds K W (raw (Asked 𝓤 H A mem run .pre (to 𝓤 H A mem run s g κ·register q·register b·register o·register γ·register n·register register x-t)) ∷ ‵ (ShrAt Record′.row κ·register b·register o·register γ·register n·register register) ∷ Γ) E xs (Store′.mach s ∷ Lengths′.mach g ∷ sliceVal (b·register, o·register) n·register ∷ Ticket′.mach x-t ∷ [])
-      → ((x·res : Found) → Is Found′.row x·res (Found′.vals x·res) → find-next″.ens s g register x-t x·res → Seq K W (‵ (flft κ·register q·register) ∷ ‵ (ShrAt Record′.row κ·register b·register o·register γ·register n·register register) ∷ Γ) (lands C Λ E d (Found′.mach x·res) rest Q))
-      → Seq K W (‵ (flft κ·register q·register) ∷ ‵ (ShrAt Record′.row κ·register b·register o·register γ·register n·register register) ∷ Γ) (runs C Λ E (seq (call #callee xs d) rest) Q)
-  calls t mem run fm known s g κ·register q·register b·register o·register γ·register n·register register x-t = calls-by t mem run fm s g κ·register q·register b·register o·register γ·register n·register register x-t (known (to 𝓤 H A mem run s g κ·register q·register b·register o·register γ·register n·register register x-t))
+  pub calls : K → (mem : Memory → SProp 𝓤) (run : Routine → Fun 𝓤) → FmC 𝓤 H (W .laws) C → Triple 𝓤 (C #callee) (Asked 𝓤 H A mem run) → (s : Store) (g : Lengths) (κ·nodes : Lft) (q·nodes : Share) (b·nodes o·nodes : ℕ) (γ·nodes : GName) (n·nodes : ℕ) (nodes : List ℕ) (κ·register : Lft) (q·register : Share) (b·register o·register : ℕ) (γ·register : GName) (n·register : ℕ) (register : List Record) (x-t : Ticket) → Is Store′.row s (Store′.vals s) → Is Lengths′.row g (Lengths′.vals g) → Is Ticket′.row x-t (Ticket′.vals x-t) →
+      Opds K W (raw (Asked 𝓤 H A mem run .pre (to 𝓤 H A mem run s g κ·nodes q·nodes b·nodes o·nodes γ·nodes n·nodes nodes κ·register q·register b·register o·register γ·register n·register register x-t)) ∷ ‵ (ShrAt u32 κ·nodes b·nodes o·nodes γ·nodes n·nodes nodes) ∷ ‵ (ShrAt Record′.row κ·register b·register o·register γ·register n·register register) ∷ Γ) E xs (Store′.mach s ∷ Lengths′.mach g ∷ sliceVal (b·nodes, o·nodes) n·nodes ∷ sliceVal (b·register, o·register) n·register ∷ Ticket′.mach x-t ∷ [])
+      → ((x·res : Found) → Is Found′.row x·res (Found′.vals x·res) → find-next″.ens s g nodes register x-t x·res → Seq K W (‵ (flft κ·nodes q·nodes) ∷ ‵ (ShrAt u32 κ·nodes b·nodes o·nodes γ·nodes n·nodes nodes) ∷ ‵ (flft κ·register q·register) ∷ ‵ (ShrAt Record′.row κ·register b·register o·register γ·register n·register register) ∷ Γ) (lands C Λ E d (Found′.mach x·res) rest Q))
+      → Seq K W (‵ (flft κ·nodes q·nodes) ∷ ‵ (ShrAt u32 κ·nodes b·nodes o·nodes γ·nodes n·nodes nodes) ∷ ‵ (flft κ·register q·register) ∷ ‵ (ShrAt Record′.row κ·register b·register o·register γ·register n·register register) ∷ Γ) (runs C Λ E (seq (call #callee xs d) rest) Q)
+  calls t mem run fm known s g κ·nodes q·nodes b·nodes o·nodes γ·nodes n·nodes nodes κ·register q·register b·register o·register γ·register n·register register x-t = calls-by t mem run fm s g κ·nodes q·nodes b·nodes o·nodes γ·nodes n·nodes nodes κ·register q·register b·register o·register γ·register n·register register x-t (known (to 𝓤 H A mem run s g κ·nodes q·nodes b·nodes o·nodes γ·nodes n·nodes nodes κ·register q·register b·register o·register γ·register n·register register x-t))
 
 module _ {M : Type 1} {𝓤 : URA M} {H : Heap 𝓤} {A : Atoms 𝓤} {K : Type 0} {W : Given 𝓤 H A} {Γ : List (Item 𝓤)} {E : Env 𝓤 H} {C : Calls 𝓤 H} {Λ : Loops 𝓤 H} {Q : Post 𝓤 H} {xs : List Operand} {d : Place} where
   -- by one instance of the callee's contract, which is what a function that calls itself has. The call ends a part of the code
-  pub calls-last-by : K → (mem : Memory → SProp 𝓤) (run : Routine → Fun 𝓤) → FmC 𝓤 H (W .laws) C → (s : Store) (g : Lengths) (κ·register : Lft) (q·register : Share) (b·register o·register : ℕ) (γ·register : GName) (n·register : ℕ) (register : List Record) (x-t : Ticket) → ent 𝓤 (Asked 𝓤 H A mem run .pre (to 𝓤 H A mem run s g κ·register q·register b·register o·register γ·register n·register register x-t)) (C #callee (Asked 𝓤 H A mem run .args (to 𝓤 H A mem run s g κ·register q·register b·register o·register γ·register n·register register x-t)) (Asked 𝓤 H A mem run .post (to 𝓤 H A mem run s g κ·register q·register b·register o·register γ·register n·register register x-t))) → Is Store′.row s (Store′.vals s) → Is Lengths′.row g (Lengths′.vals g) → Is Ticket′.row x-t (Ticket′.vals x-t) →
-      Opds K W (raw (Asked 𝓤 H A mem run .pre (to 𝓤 H A mem run s g κ·register q·register b·register o·register γ·register n·register register x-t)) ∷ ‵ (ShrAt Record′.row κ·register b·register o·register γ·register n·register register) ∷ Γ) E xs (Store′.mach s ∷ Lengths′.mach g ∷ sliceVal (b·register, o·register) n·register ∷ Ticket′.mach x-t ∷ [])
-      → ((x·res : Found) → Is Found′.row x·res (Found′.vals x·res) → find-next″.ens s g register x-t x·res → Seq K W (‵ (flft κ·register q·register) ∷ ‵ (ShrAt Record′.row κ·register b·register o·register γ·register n·register register) ∷ Γ) (settles E d (Found′.mach x·res) Q))
-      → Seq K W (‵ (flft κ·register q·register) ∷ ‵ (ShrAt Record′.row κ·register b·register o·register γ·register n·register register) ∷ Γ) (runs C Λ E (call #callee xs d) Q)
-  calls-last-by t mem run fm s g κ·register q·register b·register o·register γ·register n·register register x-t known ok·s ok·g ok·x-t os k =
-      core t mem run s g κ·register q·register b·register o·register γ·register n·register register x-t (runs C Λ E (call #callee xs d) Q) (λ v. settles E d v Q) (λ v. tt)
-      (λ h. calls-from-last t fm (raw (Asked 𝓤 H A mem run .pre (to 𝓤 H A mem run s g κ·register q·register b·register o·register γ·register n·register register x-t))) (Asked 𝓤 H A mem run .args (to 𝓤 H A mem run s g κ·register q·register b·register o·register γ·register n·register register x-t)) (Asked 𝓤 H A mem run .post (to 𝓤 H A mem run s g κ·register q·register b·register o·register γ·register n·register register x-t)) known os h) ok·s ok·g ok·x-t k
+  pub calls-last-by : K → (mem : Memory → SProp 𝓤) (run : Routine → Fun 𝓤) → FmC 𝓤 H (W .laws) C → (s : Store) (g : Lengths) (κ·nodes : Lft) (q·nodes : Share) (b·nodes o·nodes : ℕ) (γ·nodes : GName) (n·nodes : ℕ) (nodes : List ℕ) (κ·register : Lft) (q·register : Share) (b·register o·register : ℕ) (γ·register : GName) (n·register : ℕ) (register : List Record) (x-t : Ticket) → ent 𝓤 (Asked 𝓤 H A mem run .pre (to 𝓤 H A mem run s g κ·nodes q·nodes b·nodes o·nodes γ·nodes n·nodes nodes κ·register q·register b·register o·register γ·register n·register register x-t)) (C #callee (Asked 𝓤 H A mem run .args (to 𝓤 H A mem run s g κ·nodes q·nodes b·nodes o·nodes γ·nodes n·nodes nodes κ·register q·register b·register o·register γ·register n·register register x-t)) (Asked 𝓤 H A mem run .post (to 𝓤 H A mem run s g κ·nodes q·nodes b·nodes o·nodes γ·nodes n·nodes nodes κ·register q·register b·register o·register γ·register n·register register x-t))) → Is Store′.row s (Store′.vals s) → Is Lengths′.row g (Lengths′.vals g) → Is Ticket′.row x-t (Ticket′.vals x-t) →
+      Opds K W (raw (Asked 𝓤 H A mem run .pre (to 𝓤 H A mem run s g κ·nodes q·nodes b·nodes o·nodes γ·nodes n·nodes nodes κ·register q·register b·register o·register γ·register n·register register x-t)) ∷ ‵ (ShrAt u32 κ·nodes b·nodes o·nodes γ·nodes n·nodes nodes) ∷ ‵ (ShrAt Record′.row κ·register b·register o·register γ·register n·register register) ∷ Γ) E xs (Store′.mach s ∷ Lengths′.mach g ∷ sliceVal (b·nodes, o·nodes) n·nodes ∷ sliceVal (b·register, o·register) n·register ∷ Ticket′.mach x-t ∷ [])
+      → ((x·res : Found) → Is Found′.row x·res (Found′.vals x·res) → find-next″.ens s g nodes register x-t x·res → Seq K W (‵ (flft κ·nodes q·nodes) ∷ ‵ (ShrAt u32 κ·nodes b·nodes o·nodes γ·nodes n·nodes nodes) ∷ ‵ (flft κ·register q·register) ∷ ‵ (ShrAt Record′.row κ·register b·register o·register γ·register n·register register) ∷ Γ) (settles E d (Found′.mach x·res) Q))
+      → Seq K W (‵ (flft κ·nodes q·nodes) ∷ ‵ (ShrAt u32 κ·nodes b·nodes o·nodes γ·nodes n·nodes nodes) ∷ ‵ (flft κ·register q·register) ∷ ‵ (ShrAt Record′.row κ·register b·register o·register γ·register n·register register) ∷ Γ) (runs C Λ E (call #callee xs d) Q)
+  calls-last-by t mem run fm s g κ·nodes q·nodes b·nodes o·nodes γ·nodes n·nodes nodes κ·register q·register b·register o·register γ·register n·register register x-t known ok·s ok·g ok·x-t os k =
+      core t mem run s g κ·nodes q·nodes b·nodes o·nodes γ·nodes n·nodes nodes κ·register q·register b·register o·register γ·register n·register register x-t (runs C Λ E (call #callee xs d) Q) (λ v. settles E d v Q) (λ v. tt)
+      (λ h. calls-from-last t fm (raw (Asked 𝓤 H A mem run .pre (to 𝓤 H A mem run s g κ·nodes q·nodes b·nodes o·nodes γ·nodes n·nodes nodes κ·register q·register b·register o·register γ·register n·register register x-t))) (Asked 𝓤 H A mem run .args (to 𝓤 H A mem run s g κ·nodes q·nodes b·nodes o·nodes γ·nodes n·nodes nodes κ·register q·register b·register o·register γ·register n·register register x-t)) (Asked 𝓤 H A mem run .post (to 𝓤 H A mem run s g κ·nodes q·nodes b·nodes o·nodes γ·nodes n·nodes nodes κ·register q·register b·register o·register γ·register n·register register x-t)) known os h) ok·s ok·g ok·x-t k
 
-  pub calls-last : K → (mem : Memory → SProp 𝓤) (run : Routine → Fun 𝓤) → FmC 𝓤 H (W .laws) C → Triple 𝓤 (C #callee) (Asked 𝓤 H A mem run) → (s : Store) (g : Lengths) (κ·register : Lft) (q·register : Share) (b·register o·register : ℕ) (γ·register : GName) (n·register : ℕ) (register : List Record) (x-t : Ticket) → Is Store′.row s (Store′.vals s) → Is Lengths′.row g (Lengths′.vals g) → Is Ticket′.row x-t (Ticket′.vals x-t) →
-      Opds K W (raw (Asked 𝓤 H A mem run .pre (to 𝓤 H A mem run s g κ·register q·register b·register o·register γ·register n·register register x-t)) ∷ ‵ (ShrAt Record′.row κ·register b·register o·register γ·register n·register register) ∷ Γ) E xs (Store′.mach s ∷ Lengths′.mach g ∷ sliceVal (b·register, o·register) n·register ∷ Ticket′.mach x-t ∷ [])
-      → ((x·res : Found) → Is Found′.row x·res (Found′.vals x·res) → find-next″.ens s g register x-t x·res → Seq K W (‵ (flft κ·register q·register) ∷ ‵ (ShrAt Record′.row κ·register b·register o·register γ·register n·register register) ∷ Γ) (settles E d (Found′.mach x·res) Q))
-      → Seq K W (‵ (flft κ·register q·register) ∷ ‵ (ShrAt Record′.row κ·register b·register o·register γ·register n·register register) ∷ Γ) (runs C Λ E (call #callee xs d) Q)
-  calls-last t mem run fm known s g κ·register q·register b·register o·register γ·register n·register register x-t = calls-last-by t mem run fm s g κ·register q·register b·register o·register γ·register n·register register x-t (known (to 𝓤 H A mem run s g κ·register q·register b·register o·register γ·register n·register register x-t))
+  pub calls-last : K → (mem : Memory → SProp 𝓤) (run : Routine → Fun 𝓤) → FmC 𝓤 H (W .laws) C → Triple 𝓤 (C #callee) (Asked 𝓤 H A mem run) → (s : Store) (g : Lengths) (κ·nodes : Lft) (q·nodes : Share) (b·nodes o·nodes : ℕ) (γ·nodes : GName) (n·nodes : ℕ) (nodes : List ℕ) (κ·register : Lft) (q·register : Share) (b·register o·register : ℕ) (γ·register : GName) (n·register : ℕ) (register : List Record) (x-t : Ticket) → Is Store′.row s (Store′.vals s) → Is Lengths′.row g (Lengths′.vals g) → Is Ticket′.row x-t (Ticket′.vals x-t) →
+      Opds K W (raw (Asked 𝓤 H A mem run .pre (to 𝓤 H A mem run s g κ·nodes q·nodes b·nodes o·nodes γ·nodes n·nodes nodes κ·register q·register b·register o·register γ·register n·register register x-t)) ∷ ‵ (ShrAt u32 κ·nodes b·nodes o·nodes γ·nodes n·nodes nodes) ∷ ‵ (ShrAt Record′.row κ·register b·register o·register γ·register n·register register) ∷ Γ) E xs (Store′.mach s ∷ Lengths′.mach g ∷ sliceVal (b·nodes, o·nodes) n·nodes ∷ sliceVal (b·register, o·register) n·register ∷ Ticket′.mach x-t ∷ [])
+      → ((x·res : Found) → Is Found′.row x·res (Found′.vals x·res) → find-next″.ens s g nodes register x-t x·res → Seq K W (‵ (flft κ·nodes q·nodes) ∷ ‵ (ShrAt u32 κ·nodes b·nodes o·nodes γ·nodes n·nodes nodes) ∷ ‵ (flft κ·register q·register) ∷ ‵ (ShrAt Record′.row κ·register b·register o·register γ·register n·register register) ∷ Γ) (settles E d (Found′.mach x·res) Q))
+      → Seq K W (‵ (flft κ·nodes q·nodes) ∷ ‵ (ShrAt u32 κ·nodes b·nodes o·nodes γ·nodes n·nodes nodes) ∷ ‵ (flft κ·register q·register) ∷ ‵ (ShrAt Record′.row κ·register b·register o·register γ·register n·register register) ∷ Γ) (runs C Λ E (call #callee xs d) Q)
+  calls-last t mem run fm known s g κ·nodes q·nodes b·nodes o·nodes γ·nodes n·nodes nodes κ·register q·register b·register o·register γ·register n·register register x-t = calls-last-by t mem run fm s g κ·nodes q·nodes b·nodes o·nodes γ·nodes n·nodes nodes κ·register q·register b·register o·register γ·register n·register register x-t (known (to 𝓤 H A mem run s g κ·nodes q·nodes b·nodes o·nodes γ·nodes n·nodes nodes κ·register q·register b·register o·register γ·register n·register register x-t))

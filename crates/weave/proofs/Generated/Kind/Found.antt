@@ -78,7 +78,7 @@ pub make : (y0 : ℕ) (y1 : ℕ) (y2 : Part) (y3 : WovenNode) → Is u64 y0 (uin
 make y0 y1 y2 y3 g0 g1 g2 g3 = LL.owes T′.the-type T″.the-laws (build y0 y1 y2 y3) (g0, (g1, (g2, (g3, tt))))
 
 abbrev pub stride : ℕ
-stride = 104
+stride = 128
 
 -- the byte offset of an element of a slice does not wrap
 pub scaled : (n i : ℕ) → i < n → n * stride < 2 ^ 63 → i * stride < 2 ^ 64

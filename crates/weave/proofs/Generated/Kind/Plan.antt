@@ -20,10 +20,8 @@ use denote.Laws.{Is, Tells, Copy, Makes}
 use denote.Plain.{uint-vals, bool-vals, nothing-vals}
 use denote.Builtin.{u8, u16, u32, u64, bool, unit}
 use denote.Struct.Laws as LL
-use Rattle.lines.specs.declared.Line.{Line}
-use Rattle.register.proofs.Generated.Kind.Line as Line′
-use Rattle.register.proofs.Generated.Kind.Version as Version′
-use Rattle.tree.specs.declared.Version.{Version}
+use Rattle.register.proofs.Generated.Kind.PageIndex as PageIndex′
+use Rattle.tree.specs.declared.PageIndex.{PageIndex}
 use Rattle.weave.proofs.Generated.Kind.Next as Next′
 use Rattle.weave.specs.declared.Next.{Next}
 use Rattle.weave.specs.declared.Plan.{Plan}
@@ -59,7 +57,7 @@ makes = LL.makes T′.the-type T″.the-plain
 
 -- a value to stand past the end of a list
 abbrev pub none : Plan
-none = record { k = 0; next = Next′.none; line = Line′.none; limit = Version′.none }
+none = record { k = 0; next = Next′.none; left = false; right = false; first = PageIndex′.none; span = 0 }
 
 pub ok-k : (d : Plan) → Ok d → Is u64 (d .k) (uint-vals w64 (d .k))
 ok-k d g = LL.owed T′.the-type T″.the-laws d _ g .0
@@ -67,20 +65,26 @@ ok-k d g = LL.owed T′.the-type T″.the-laws d _ g .0
 pub ok-next : (d : Plan) → Ok d → Is Next′.row (d .next) (Next′.vals (d .next))
 ok-next d g = LL.owed T′.the-type T″.the-laws d _ g .1 .0
 
-pub ok-line : (d : Plan) → Ok d → Is Line′.row (d .line) (Line′.vals (d .line))
-ok-line d g = LL.owed T′.the-type T″.the-laws d _ g .1 .1 .0
+pub ok-left : (d : Plan) → Ok d → Is bool (d .left) (bool-vals (d .left))
+ok-left d g = LL.owed T′.the-type T″.the-laws d _ g .1 .1 .0
 
-pub ok-limit : (d : Plan) → Ok d → Is Version′.row (d .limit) (Version′.vals (d .limit))
-ok-limit d g = LL.owed T′.the-type T″.the-laws d _ g .1 .1 .1 .0
+pub ok-right : (d : Plan) → Ok d → Is bool (d .right) (bool-vals (d .right))
+ok-right d g = LL.owed T′.the-type T″.the-laws d _ g .1 .1 .1 .0
 
-abbrev pub build : ℕ → Next → Line → Version → Plan
-build y0 y1 y2 y3 = record { k = y0; next = y1; line = y2; limit = y3 }
+pub ok-first : (d : Plan) → Ok d → Is PageIndex′.row (d .first) (PageIndex′.vals (d .first))
+ok-first d g = LL.owed T′.the-type T″.the-laws d _ g .1 .1 .1 .1 .0
 
-pub make : (y0 : ℕ) (y1 : Next) (y2 : Line) (y3 : Version) → Is u64 y0 (uint-vals w64 y0) → Is Next′.row y1 (Next′.vals y1) → Is Line′.row y2 (Line′.vals y2) → Is Version′.row y3 (Version′.vals y3) → Ok (build y0 y1 y2 y3)
-make y0 y1 y2 y3 g0 g1 g2 g3 = LL.owes T′.the-type T″.the-laws (build y0 y1 y2 y3) (g0, (g1, (g2, (g3, tt))))
+pub ok-span : (d : Plan) → Ok d → Is u64 (d .span) (uint-vals w64 (d .span))
+ok-span d g = LL.owed T′.the-type T″.the-laws d _ g .1 .1 .1 .1 .1 .0
+
+abbrev pub build : ℕ → Next → Bool → Bool → PageIndex → ℕ → Plan
+build y0 y1 y2 y3 y4 y5 = record { k = y0; next = y1; left = y2; right = y3; first = y4; span = y5 }
+
+pub make : (y0 : ℕ) (y1 : Next) (y2 : Bool) (y3 : Bool) (y4 : PageIndex) (y5 : ℕ) → Is u64 y0 (uint-vals w64 y0) → Is Next′.row y1 (Next′.vals y1) → Is bool y2 (bool-vals y2) → Is bool y3 (bool-vals y3) → Is PageIndex′.row y4 (PageIndex′.vals y4) → Is u64 y5 (uint-vals w64 y5) → Ok (build y0 y1 y2 y3 y4 y5)
+make y0 y1 y2 y3 y4 y5 g0 g1 g2 g3 g4 g5 = LL.owes T′.the-type T″.the-laws (build y0 y1 y2 y3 y4 y5) (g0, (g1, (g2, (g3, (g4, (g5, tt))))))
 
 abbrev pub stride : ℕ
-stride = 56
+stride = 64
 
 -- the byte offset of an element of a slice does not wrap
 pub scaled : (n i : ℕ) → i < n → n * stride < 2 ^ 63 → i * stride < 2 ^ 64

@@ -20,12 +20,6 @@ use Rattle.versions.specs.declared.Store.{Store}
 use Rattle.versions.proofs.Generated.Kind.Store as Store′
 use Rattle.tree.specs.declared.Ticket.{Ticket}
 use Rattle.register.proofs.Generated.Kind.Ticket as Ticket′
-use Rattle.lines.specs.declared.Branch.{Branch}
-use Rattle.versions.proofs.Generated.Kind.Branch as Branch′
-use Rattle.lines.specs.declared.Line.{Line}
-use Rattle.register.proofs.Generated.Kind.Line as Line′
-use Rattle.tree.specs.declared.Version.{Version}
-use Rattle.register.proofs.Generated.Kind.Version as Version′
 use Rattle.versions.specs.declared.Lengths.{Lengths}
 use Rattle.versions.proofs.Generated.Kind.Lengths as Lengths′
 use Rattle.register.specs.declared.Record.{Record}
@@ -40,22 +34,29 @@ use Rattle.weave.proofs.Generated.Say.find_next as find-next″
 use Rattle.register.proofs.Generated.Say.ticket_record as ticket-record″
 use Rattle.register.proofs.Generated.Say.update_part as update-part″
 use Rattle.weave.proofs.Generated.Say.weave_plan as weave-plan″
-use Rattle.weave.proofs.Generated.Say.node_by as node-by″
+use Rattle.weave.proofs.Generated.Say.far_child as far-child″
+use Rattle.weave.proofs.Generated.Say.found_by as found-by″
 
-abbrev pub r1 : Store → Lengths → List Record → Ticket → Record
-r1 s g register x-t = ticket-record″.res register x-t
+abbrev pub r1 : Store → Lengths → List ℕ → List Record → Ticket → Record
+r1 s g nodes register x-t = ticket-record″.res register x-t
 
-abbrev pub r2 : Store → Lengths → List Record → Ticket → Part
-r2 s g register x-t = update-part″.res register ((r1 s g register x-t) .update)
+abbrev pub r2 : Store → Lengths → List ℕ → List Record → Ticket → Part
+r2 s g nodes register x-t = update-part″.res register ((r1 s g nodes register x-t) .update)
 
--- `node_by` asks: Aimed q p
-abbrev pub node-by-1 : Type 0
-node-by-1 =
-    (s : Store) (g : Lengths) (register : List Record) (x-t : Ticket) (ok-s : Store′.Ok s) (ok-g : Lengths′.Ok g) (len-register : length register < 2 ^ 64) (ok-x-t : Ticket′.Ok x-t) (ok-r1 : Record′.Ok (r1 s g register x-t)) (ok-r2 : Part′.Ok (r2 s g register x-t)) (r3 : Plan) (ok-r3 : Plan′.Ok r3) (says3 : weave-plan″.ens s g (r1 s g register x-t) (r2 s g register x-t) x-t r3)
-    → node-by″.req s register (r1 s g register x-t) (r2 s g register x-t) r3
+-- `far_child` asks: first .0 + span < 2 ^ 64
+abbrev pub far-child-1 : Type 0
+far-child-1 =
+    (s : Store) (g : Lengths) (nodes : List ℕ) (register : List Record) (x-t : Ticket) (ok-s : Store′.Ok s) (ok-g : Lengths′.Ok g) (len-nodes : length nodes < 2 ^ 64) (len-register : length register < 2 ^ 64) (ok-x-t : Ticket′.Ok x-t) (ok-r1 : Record′.Ok (r1 s g nodes register x-t)) (ok-r2 : Part′.Ok (r2 s g nodes register x-t)) (r3 : Plan) (ok-r3 : Plan′.Ok r3) (says3 : weave-plan″.ens s g (r1 s g nodes register x-t) (r2 s g nodes register x-t) x-t r3)
+    → far-child″.req s nodes register ((r2 s g nodes register x-t) .name) (r3 .first) (r3 .span)
 
--- the function ensures: NextFound s g register (t .0) w
+-- `found_by` asks: NextOf q (p .next)
+abbrev pub found-by-1 : Type 0
+found-by-1 =
+    (s : Store) (g : Lengths) (nodes : List ℕ) (register : List Record) (x-t : Ticket) (ok-s : Store′.Ok s) (ok-g : Lengths′.Ok g) (len-nodes : length nodes < 2 ^ 64) (len-register : length register < 2 ^ 64) (ok-x-t : Ticket′.Ok x-t) (ok-r1 : Record′.Ok (r1 s g nodes register x-t)) (ok-r2 : Part′.Ok (r2 s g nodes register x-t)) (r3 : Plan) (ok-r3 : Plan′.Ok r3) (says3 : weave-plan″.ens s g (r1 s g nodes register x-t) (r2 s g nodes register x-t) x-t r3) (r4 : ℕ) (fits-r4 : r4 < 2 ^ 64) (says4 : far-child″.ens s nodes register ((r2 s g nodes register x-t) .name) (r3 .first) (r3 .span) r4)
+    → found-by″.req (r1 s g nodes register x-t) (r2 s g nodes register x-t) ((r1 s g nodes register x-t) .update) r3 r4
+
+-- the function ensures: NextFound s g nodes register (t .0) w
 abbrev pub exit-1 : Type 0
 exit-1 =
-    (s : Store) (g : Lengths) (register : List Record) (x-t : Ticket) (ok-s : Store′.Ok s) (ok-g : Lengths′.Ok g) (len-register : length register < 2 ^ 64) (ok-x-t : Ticket′.Ok x-t) (ok-r1 : Record′.Ok (r1 s g register x-t)) (ok-r2 : Part′.Ok (r2 s g register x-t)) (r3 : Plan) (ok-r3 : Plan′.Ok r3) (says3 : weave-plan″.ens s g (r1 s g register x-t) (r2 s g register x-t) x-t r3) (r4 : WovenNode) (ok-r4 : WovenNode′.Ok r4) (says4 : node-by″.ens s register (r1 s g register x-t) (r2 s g register x-t) r3 r4)
-    → find-next″.ens s g register x-t (Found′.build (r3 .k) ((r1 s g register x-t) .update) (r2 s g register x-t) r4)
+    (s : Store) (g : Lengths) (nodes : List ℕ) (register : List Record) (x-t : Ticket) (ok-s : Store′.Ok s) (ok-g : Lengths′.Ok g) (len-nodes : length nodes < 2 ^ 64) (len-register : length register < 2 ^ 64) (ok-x-t : Ticket′.Ok x-t) (ok-r1 : Record′.Ok (r1 s g nodes register x-t)) (ok-r2 : Part′.Ok (r2 s g nodes register x-t)) (r3 : Plan) (ok-r3 : Plan′.Ok r3) (says3 : weave-plan″.ens s g (r1 s g nodes register x-t) (r2 s g nodes register x-t) x-t r3) (r4 : ℕ) (fits-r4 : r4 < 2 ^ 64) (says4 : far-child″.ens s nodes register ((r2 s g nodes register x-t) .name) (r3 .first) (r3 .span) r4) (r5 : Found) (ok-r5 : Found′.Ok r5) (says5 : found-by″.ens (r1 s g nodes register x-t) (r2 s g nodes register x-t) ((r1 s g nodes register x-t) .update) r3 r4 r5)
+    → find-next″.ens s g nodes register x-t r5

@@ -18,12 +18,6 @@ use Rattle.versions.specs.declared.Store.{Store}
 use Rattle.versions.proofs.Generated.Kind.Store as Store′
 use Rattle.tree.specs.declared.Ticket.{Ticket}
 use Rattle.register.proofs.Generated.Kind.Ticket as Ticket′
-use Rattle.lines.specs.declared.Branch.{Branch}
-use Rattle.versions.proofs.Generated.Kind.Branch as Branch′
-use Rattle.lines.specs.declared.Line.{Line}
-use Rattle.register.proofs.Generated.Kind.Line as Line′
-use Rattle.tree.specs.declared.Version.{Version}
-use Rattle.register.proofs.Generated.Kind.Version as Version′
 use Rattle.register.specs.declared.Record.{Record}
 use Rattle.register.proofs.Generated.Kind.Record as Record′
 use Rattle.lines.specs.declared.Entries.{Entries}
@@ -56,17 +50,17 @@ r5 s pages nodes register x-t r2 = woven-answer″.res (r2 .k) (r2 .node)
 -- `store_woven` asks: (k ≡ 0 → nextPlace q < 2 ^ 64)
 abbrev pub store-woven-1 : Type 0
 store-woven-1 =
-    (s : Store) (pages : List ℕ) (nodes : List ℕ) (register : List Record) (x-t : Ticket) (ok-s : Store′.Ok s) (len-pages : length pages < 2 ^ 64) (len-nodes : length nodes < 2 ^ 64) (len-register : length register < 2 ^ 64) (ok-x-t : Ticket′.Ok x-t) (ok-r1 : Lengths′.Ok (r1 s pages nodes register x-t)) (r2 : Found) (ok-r2 : Found′.Ok r2) (says2 : find-next″.ens s (r1 s pages nodes register x-t) register x-t r2)
+    (s : Store) (pages : List ℕ) (nodes : List ℕ) (register : List Record) (x-t : Ticket) (ok-s : Store′.Ok s) (len-pages : length pages < 2 ^ 64) (len-nodes : length nodes < 2 ^ 64) (len-register : length register < 2 ^ 64) (ok-x-t : Ticket′.Ok x-t) (ok-r1 : Lengths′.Ok (r1 s pages nodes register x-t)) (r2 : Found) (ok-r2 : Found′.Ok r2) (says2 : find-next″.ens s (r1 s pages nodes register x-t) nodes register x-t r2)
     → store-woven″.req nodes (r2 .k) (r2 .part) (r2 .node)
 
 -- `count_woven` asks: (k ≡ 0 → suc (nth noRecord register update .woven) < 2 ^ 64)
 abbrev pub count-woven-1 : Type 0
 count-woven-1 =
-    (s : Store) (pages : List ℕ) (nodes : List ℕ) (register : List Record) (x-t : Ticket) (ok-s : Store′.Ok s) (len-pages : length pages < 2 ^ 64) (len-nodes : length nodes < 2 ^ 64) (len-register : length register < 2 ^ 64) (ok-x-t : Ticket′.Ok x-t) (ok-r1 : Lengths′.Ok (r1 s pages nodes register x-t)) (r2 : Found) (ok-r2 : Found′.Ok r2) (says2 : find-next″.ens s (r1 s pages nodes register x-t) register x-t r2) (same3-nodes : length (nodes₃ s pages nodes register x-t r2) ≡ length nodes)
+    (s : Store) (pages : List ℕ) (nodes : List ℕ) (register : List Record) (x-t : Ticket) (ok-s : Store′.Ok s) (len-pages : length pages < 2 ^ 64) (len-nodes : length nodes < 2 ^ 64) (len-register : length register < 2 ^ 64) (ok-x-t : Ticket′.Ok x-t) (ok-r1 : Lengths′.Ok (r1 s pages nodes register x-t)) (r2 : Found) (ok-r2 : Found′.Ok r2) (says2 : find-next″.ens s (r1 s pages nodes register x-t) nodes register x-t r2) (same3-nodes : length (nodes₃ s pages nodes register x-t r2) ≡ length nodes)
     → count-woven″.req register (r2 .k) (r2 .update)
 
 -- the function ensures: (r ≡ weaveOut s (areasOf pages nodes register) (t .0)) × (nodes′ ≡ weaveNodes s (areasOf pages nodes register) (t .0)) × (register′ ≡ weaveRegister s (areasOf pages nodes register) (t .0))
 abbrev pub exit-1 : Type 0
 exit-1 =
-    (s : Store) (pages : List ℕ) (nodes : List ℕ) (register : List Record) (x-t : Ticket) (ok-s : Store′.Ok s) (len-pages : length pages < 2 ^ 64) (len-nodes : length nodes < 2 ^ 64) (len-register : length register < 2 ^ 64) (ok-x-t : Ticket′.Ok x-t) (ok-r1 : Lengths′.Ok (r1 s pages nodes register x-t)) (r2 : Found) (ok-r2 : Found′.Ok r2) (says2 : find-next″.ens s (r1 s pages nodes register x-t) register x-t r2) (same3-nodes : length (nodes₃ s pages nodes register x-t r2) ≡ length nodes) (same4-register : length (register₄ s pages nodes register x-t r2) ≡ length register) (ok-r5 : Woven′.Ok (r5 s pages nodes register x-t r2))
+    (s : Store) (pages : List ℕ) (nodes : List ℕ) (register : List Record) (x-t : Ticket) (ok-s : Store′.Ok s) (len-pages : length pages < 2 ^ 64) (len-nodes : length nodes < 2 ^ 64) (len-register : length register < 2 ^ 64) (ok-x-t : Ticket′.Ok x-t) (ok-r1 : Lengths′.Ok (r1 s pages nodes register x-t)) (r2 : Found) (ok-r2 : Found′.Ok r2) (says2 : find-next″.ens s (r1 s pages nodes register x-t) nodes register x-t r2) (same3-nodes : length (nodes₃ s pages nodes register x-t r2) ≡ length nodes) (same4-register : length (register₄ s pages nodes register x-t r2) ≡ length register) (ok-r5 : Woven′.Ok (r5 s pages nodes register x-t r2))
     → weave″.ens s pages nodes register x-t (nodes₃ s pages nodes register x-t r2) (register₄ s pages nodes register x-t r2) (r5 s pages nodes register x-t r2)

@@ -3,20 +3,20 @@ use mathlib.Core.Path.{sym, _∙_}
 use native.Mathlib.Omega.{arith}
 use Rattle.versions.proofs.Generated.Kind.Store as Store′
 use Rattle.table.proofs.Table.{unless-same}
-use Rattle.weave.proofs.Room.{place-low, wove-same}
+use Rattle.weave.proofs.Room.{place-low, both-zero, wove-same}
 use Rattle.weave.proofs.weave.Proof.Asks as Asks
 
 -- `store_woven` asks: (k ≡ 0 → nextPlace q < 2 ^ 64)
 -- here: store-woven″.req nodes (r2 .k) (r2 .part) (r2 .node)
 pub store-woven-1 : Asks.store-woven-1
 store-woven-1 s pages nodes register x-t ok-s len-pages len-nodes len-register ok-x-t ok-r1 r2 ok-r2 says2 =
-    λ z. rw (says2 .part) (omega (arith, place-low s _ _ _ _ (sym (says2 .number) ∙ z), Store′.ok-nodes s ok-s))
+    λ z. rw (says2 .part) (omega (arith, place-low s _ _ _ _ (both-zero _ _ (sym (says2 .number) ∙ z)), Store′.ok-nodes s ok-s))
 
 -- `count_woven` asks: (k ≡ 0 → suc (nth noRecord register update .woven) < 2 ^ 64)
 -- here: count-woven″.req register (r2 .k) (r2 .update)
 pub count-woven-1 : Asks.count-woven-1
 count-woven-1 s pages nodes register x-t ok-s len-pages len-nodes len-register ok-x-t ok-r1 r2 ok-r2 says2 same3-nodes =
-    λ z. rw (says2 .update) (omega (arith, place-low s _ _ _ _ (sym (says2 .number) ∙ z), Store′.ok-nodes s ok-s))
+    λ z. rw (says2 .update) (omega (arith, place-low s _ _ _ _ (both-zero _ _ (sym (says2 .number) ∙ z)), Store′.ok-nodes s ok-s))
 
 -- the function ensures: (r ≡ weaveOut s (areasOf pages nodes register) (t .0)) × (nodes′ ≡ weaveNodes s (areasOf pages nodes register) (t .0)) × (register′ ≡ weaveRegister s (areasOf pages nodes register) (t .0))
 -- here: weave″.ens s pages nodes register x-t (nodes₃ s pages nodes register x-t r2) (register₄ s pages nodes register x-t r2) (r5 s pages nodes register x-t r2)
