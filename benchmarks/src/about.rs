@@ -28,7 +28,8 @@ Blob       Filled by appends of 64 pages, then writes of one random page up to t
 In work    Updates beside {IN_WORK} tickets: each is woven but for its last node, and then the oldest in work gets its last
            node and is published. So an update has the same calls, and always {IN_WORK} versions between it and the last
            published one. No other contender has such a state.
-Lines      Of 16 lines 15 begin when the blob is filled on line 0; then updates go to all lines in turn, and so do reads.
+Lines      Of 16 lines 15 begin when the blob is filled on line 0; then updates go to all lines in turn. Reads
+           go to one of them, or to all at random; alone is the store with one line.
 Threads    Readers view random pages, {PAGES_A_VERSION} of one version and then of the newest: ours by one RECENT and a call of the
            host's Shared a page, LMDB in one read transaction a reader, renewed for these {PAGES_A_VERSION}. Where there is a
            writer, it is one more thread that makes {} updates of one page a second, or as many as it can.

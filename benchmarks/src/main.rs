@@ -87,7 +87,7 @@ impl Report {
             self.rows(rows);
         }
         self.rows(memory());
-        self.say("\nLines: this store on one line, and on 16 lines whose updates interleave:");
+        self.say("\nLines: this store with one line, and with 16 whose updates interleave:");
         self.say(&table::heading_of_lines());
         let mut on_lines = Vec::new();
         for updates in UPDATES {
@@ -193,7 +193,7 @@ fn times_in_work(updates: usize) -> Vec<Row> {
     [1, 8, 64].map(row).into()
 }
 
-/// What is measured on one line and on 16, in the targets' blob with so many updates.
+/// What is measured on one line and with 16, in the targets' blob with so many updates.
 fn times_of_lines(updates: usize) -> Vec<(What, Shape, LineTimes)> {
     let shape = Shape {
         updates,

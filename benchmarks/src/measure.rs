@@ -20,8 +20,12 @@ pub const LMDB: usize = 3;
 /// Nanoseconds a call, for each contender.
 pub type Times = [f64; CONTENDERS];
 
-/// The same for this repository's store on one line, and on 16 lines whose updates interleave.
-pub type LineTimes = [f64; 2];
+/// The same for this repository's store on one line, and with 16 lines whose updates interleave: reads on one of them, and
+/// on all by the page's number.
+pub type LineTimes = [f64; 3];
+
+/// The one of 16 lines that is read.
+const READ_LINE: usize = 7;
 
 /// A round of reads or views is so many calls, after some that are not timed. They are timed in pieces short enough
 /// that few are interrupted by other work of the machine; the median passes over those.
@@ -68,19 +72,20 @@ impl Field<CONTENDERS> {
     }
 }
 
-impl Field<2> {
-    /// This repository's store on one line, and on 16.
-    pub fn of_lines(shape: Shape) -> Field<2> {
+impl Field<3> {
+    /// This repository's store on one line, and with 16.
+    pub fn of_lines(shape: Shape) -> Field<3> {
         let source = Source::new(shape.page_size);
         let mut one = Ours::new(&shape);
         one.updates(&shape.standing(), &source);
         one.settle();
-        let on_lines = OnLines::new(&shape, &source);
+        let on_one = OnLines::new(&shape, &source, Some(READ_LINE));
+        let on_all = OnLines::new(&shape, &source, None);
         Field {
             shape,
             source,
             timed: TIMED,
-            contenders: [Box::new(one), Box::new(on_lines)],
+            contenders: [Box::new(one), Box::new(on_one), Box::new(on_all)],
         }
     }
 }

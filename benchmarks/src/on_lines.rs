@@ -7,14 +7,16 @@ use pit_host::{ByteOffset, Limits, Line, PageIndex, Store, Version};
 
 const LINES: usize = 16;
 
-/// The blob is filled on line 0. Then the other lines begin, and further updates go to all lines in turn. Reads go to all
-/// lines by the page's number, each to the line's newest version.
+/// The blob is filled on line 0. Then the other lines begin, and further updates go to all lines in turn. Reads go to one
+/// of the lines, or to all by the page's number, each to the line's newest version.
 #[derive(Clone)]
 pub struct OnLines {
     page_size: u64,
     store: Store,
     newest: [Version; LINES],
     turn: usize,
+    /// The line that is read; none: all of them.
+    reads: Option<usize>,
     /// The same with just the updates that stand.
     standing: Option<Box<OnLines>>,
 }
@@ -23,7 +25,7 @@ const ACCEPTED: &str = "the store accepts the call";
 
 impl OnLines {
     /// With the updates that stand, and room for one batch of the longest updates more.
-    pub fn new(shape: &Shape, source: &Source) -> OnLines {
+    pub fn new(shape: &Shape, source: &Source, reads: Option<usize>) -> OnLines {
         let standing = shape.standing();
         let pages: usize = standing.iter().map(|update| update.pages).sum();
         let room = (pages + BATCH * MOST) as u64;
@@ -33,6 +35,7 @@ impl OnLines {
             store: Store::format(limits).expect("the limits are accepted"),
             newest: [Version(0); LINES],
             turn: 0,
+            reads,
             standing: None,
         };
         for (k, update) in standing.iter().enumerate() {
@@ -44,6 +47,11 @@ impl OnLines {
         }
         on_lines.settle();
         on_lines
+    }
+
+    /// The line on which a page is read.
+    fn line_of(&self, page: usize) -> usize {
+        self.reads.unwrap_or(page % LINES)
     }
 
     fn begin_lines(&mut self, filled: Version) {
@@ -76,14 +84,14 @@ impl Contender for OnLines {
     }
 
     fn view(&self, _version: usize, page: usize) -> &[u8] {
-        let at = page % LINES;
+        let at = self.line_of(page);
         let (line, page) = (Line(at as u64), PageIndex(page as u64));
         let view = self.store.view(line, self.newest[at], page);
         view.expect(ACCEPTED)
     }
 
     fn read(&self, _version: usize, page: usize, to: &mut [u8]) {
-        let at = page % LINES;
+        let at = self.line_of(page);
         let (line, version) = (Line(at as u64), self.newest[at]);
         let offset = ByteOffset(page as u64 * self.page_size);
         let read = self.store.read(line, version, offset, self.page_size, to);

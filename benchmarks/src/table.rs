@@ -76,16 +76,18 @@ fn heading_front() -> String {
     format!("{:<21}{:>6}{:>7}{:>9}  ", "what", "page", "blob", "updates")
 }
 
-/// A row of what is measured on one line and on 16, and the line above these rows.
+/// A row of what is measured on one line and with 16, and the line above these rows.
 pub fn line_of_lines(what: What, shape: Shape, times: LineTimes) -> String {
-    let [one, sixteen] = times;
-    let (shown_one, shown_sixteen) = (shown(one), shown(sixteen));
-    let ratio = shown_ratio(sixteen / one);
-    front(what, shape) + &format!("{shown_one:>10}{shown_sixteen:>10}  {ratio:>10}")
+    let [one, on_one, on_all] = times;
+    let times = times.map(shown).map(|time| format!("{time:>11}")).concat();
+    let ratios = [on_one / one, on_all / one].map(shown_ratio);
+    front(what, shape) + &times + &ratios.map(|ratio| format!("{ratio:>12}")).concat()
 }
 
 pub fn heading_of_lines() -> String {
-    heading_front() + &format!("{:>10}{:>10}  {:>10}", "one", "16", "16/one")
+    let columns = ["alone", "one of 16", "all of 16"];
+    let columns = columns.map(|column| format!("{column:>11}")).concat();
+    heading_front() + &columns + &format!("{:>12}{:>12}", "one/alone", "all/alone")
 }
 
 /// A row of views a second by threads, and the line above these rows.

@@ -26,7 +26,7 @@ const TARGETS: [(What, usize, usize, f64); 10] = [
     (What::Memory(1), 100, ARC, 0.05),
 ];
 
-/// VIEW on 16 lines may be at most so many times VIEW on one.
+/// VIEW on one of 16 lines may be at most so many times VIEW in a store with one.
 const VIEW_ON_LINES: f64 = 1.5;
 
 /// A line a target: what was asked, what was measured, and whether it was met.
@@ -40,10 +40,10 @@ pub fn lines(rows: &[Row], on_lines: &[(What, Shape, LineTimes)]) -> Vec<String>
         let other = ["", "/ memcpy", "/ Arc", "/ LMDB"][to];
         lines.push(line(what, updates, other, most, measured));
     }
-    for (what, shape, [one, sixteen]) in on_lines {
+    for (what, shape, [one, on_one, _]) in on_lines {
         if *what == What::View {
-            let measured = sixteen / one;
-            let (updates, other) = (shape.updates, "16 / one line");
+            let measured = on_one / one;
+            let (updates, other) = (shape.updates, "one of 16 lines");
             lines.push(line(*what, updates, other, VIEW_ON_LINES, measured));
         }
     }
@@ -52,7 +52,7 @@ pub fn lines(rows: &[Row], on_lines: &[(What, Shape, LineTimes)]) -> Vec<String>
 
 fn line(what: What, updates: usize, other: &str, most: f64, measured: f64) -> String {
     format!(
-        "{:<21}{:>7}  {other:<15}at most {most:<6}{:>8}  {}",
+        "{:<21}{:>7}  {other:<17}at most {most:<6}{:>8}  {}",
         what.name(),
         grouped(updates),
         shown_ratio(measured),
