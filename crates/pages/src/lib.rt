@@ -6,12 +6,12 @@ ghost use lib.ListN.{length, take};
 ghost use Rattle.pages.specs.Pages.{over, fits, put, part};
 
 // How many bytes the copier takes at once.
-const BLOCK: usize = 512;
+const BLOCK: usize = 256;
 
 // The first block of src.
 fn block_of(src: &[u8]) -> [u8; BLOCK]
-    requires { ⌜ 512 ≤ length (now src) ⌝ }
-    ensures { λ r. ⌜ r ≡ take 512 (now (src .entry)) ⌝ }
+    requires { ⌜ 256 ≤ length (now src) ⌝ }
+    ensures { λ r. ⌜ r ≡ take 256 (now (src .entry)) ⌝ }
 {
     let mut block = [0u8; BLOCK];
     let mut i = 0;
@@ -24,7 +24,7 @@ fn block_of(src: &[u8]) -> [u8; BLOCK]
 
 // Copies a block over the front of dst.
 fn put_block(dst: &mut [u8], block: [u8; BLOCK])
-    requires { ⌜ 512 ≤ length (now dst) ⌝ }
+    requires { ⌜ 256 ≤ length (now dst) ⌝ }
     ensures { λ _. ⌜ now (dst .exit) ≡ over (now (dst .entry)) block ⌝ }
 {
     let mut i = 0;

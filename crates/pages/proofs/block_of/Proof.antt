@@ -9,10 +9,10 @@ use Rattle.pages.proofs.block_of.Statement.{statement}
 use Rattle.pages.proofs.block_of.Tie as tie
 
 abbrev Inv-loop : tie.InvT-loop
-Inv-loop src block₀ i₀ block i = (i ≤ 512) × (length block ≡ 512) × (block ≡ copied block₀ src i)
+Inv-loop src block₀ i₀ block i = (i ≤ 256) × (length block ≡ 256) × (block ≡ copied block₀ src i)
 
 abbrev μ-loop : tie.MeasureT-loop
-μ-loop src block₀ i₀ block i = 512 - i
+μ-loop src block₀ i₀ block i = 256 - i
 
 loop-holds : tie.Need-loop-holds Inv-loop μ-loop
 loop-holds c = (omega arith, refl, refl)
@@ -37,7 +37,7 @@ loop-again c =
 
 returns : tie.Need-returns Inv-loop μ-loop
 returns c =
-    let all : c .before .loop .i ≡ 512 = omega arith in
+    let all : c .before .loop .i ≡ 256 = omega arith in
     rw (c .before .loop .inv .2, all, append-nil)
 
 pub block-of-spec : {M : Type 1} → statement M

@@ -59,8 +59,8 @@ loop-again c =
     let i = at-loop .loop .i in
     let start = at-loop .before .before .before in
     let src = start .args .src .now in
-    let next : got .result ≡ take 512 (drop i src) = got .ensures ∙ take-take 512 (length src - i) (drop i src) (omega arith) in
-    (omega arith, search needs, part-turn (start .args .dst .now) src i 512 (omega arith) (start .pre) (at-loop .loop .inv .1) (at-loop .loop .inv .2) next (put .ensures))
+    let next : got .result ≡ take 256 (drop i src) = got .ensures ∙ take-take 256 (length src - i) (drop i src) (omega arith) in
+    (omega arith, search needs, part-turn (start .args .dst .now) src i 256 (omega arith) (start .pre) (at-loop .loop .inv .1) (at-loop .loop .inv .2) next (put .ensures))
 
 sub-copy-bytes : tie.Need-sub-copy-bytes Inv-loop μ-loop
 sub-copy-bytes c = search needs

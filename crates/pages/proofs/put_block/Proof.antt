@@ -11,13 +11,13 @@ use Rattle.pages.proofs.put_block.Statement.{statement}
 use Rattle.pages.proofs.put_block.Tie as tie
 
 abbrev Inv-loop : tie.InvT-loop
-Inv-loop dst₀ block i₀ dst i = (i ≤ 512) × (length block ≡ 512) × (length dst ≡ length dst₀) × (dst ≡ copied dst₀ block i)
+Inv-loop dst₀ block i₀ dst i = (i ≤ 256) × (length block ≡ 256) × (length dst ≡ length dst₀) × (dst ≡ copied dst₀ block i)
 
 abbrev μ-loop : tie.MeasureT-loop
-μ-loop dst₀ block i₀ dst i = 512 - i
+μ-loop dst₀ block i₀ dst i = 256 - i
 
 loop-holds : tie.Need-loop-holds Inv-loop μ-loop
-loop-holds c = (omega arith, good-length (eInt w8) 512 (c .args .t2) _ (c .good .1 .0), refl, refl)
+loop-holds c = (omega arith, good-length (eInt w8) 256 (c .args .t2) _ (c .good .1 .0), refl, refl)
 
 array-read-dst : tie.Need-array-read-dst Inv-loop μ-loop
 array-read-dst c = omega arith
