@@ -1,4 +1,4 @@
-# Read by ./test, ./steps, ./bench and host/memcheck: what they need beside the machine's base system, and how they get it.
+# Read by ./test, ./steps, ./bench, host/memcheck and host/lookups: what they need beside the machine's base system, and how they get it.
 # Whoever reads it has a function `say`.
 
 # The Debian packages of a tool. The Rattle kit is in none.

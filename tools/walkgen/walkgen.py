@@ -35,23 +35,17 @@ class Unsupported(Exception):
 # ------------------------------------------------------------------ MIR: `rt mir CRATE` is one s-expression
 def parse_mir(text):
     text = text[re.search(r'^program \(|^program l', text, re.M).start():]
-    toks = re.findall(r'\(|\)|"[^"]*"|[^\s()]+', text)
-    pos = 0
-
-    def one():
-        nonlocal pos
-        t = toks[pos]
-        pos += 1
-        if t != '(':
-            return t
-        out = []
-        while toks[pos] != ')':
-            out.append(one())
-        pos += 1
-        return out
-    items = []
-    while pos < len(toks):
-        items.append(one())
+    # by a stack of its own: a list nests as deep as it is long
+    open_lists = [[]]
+    for t in re.findall(r'\(|\)|"[^"]*"|[^\s()]+', text):
+        if t == '(':
+            open_lists.append([])
+        elif t == ')':
+            done = open_lists.pop()
+            open_lists[-1].append(done)
+        else:
+            open_lists[-1].append(t)
+    [items] = open_lists
     fns = {}
     for f in lst(items[1]):
         if f[0] == 'fn-def':
@@ -246,7 +240,7 @@ length set getD refl sym ap subst mem run known need not true false named int pl
 T K W H A M E C Q xs d rest t v r e is ws fm os k l room same ok here path zero suc fact raw some later pick await use0 use1 use2 use3'''.split()) | KEYWORDS
 
 
-RESERVED |= set('ref-to loan-of loan-within takes-out to Asked calls goes callee all-args all-vals bound Post exits walk walks meets stayed Facts Asks r1 within need said take'.split())
+RESERVED |= set('ref-to loan-of loan-within takes-out to Asked calls goes callee all-args all-vals bound Post exits walk walks meets stayed Facts Asks r1 within need said take u'.split())
 
 
 def logic_names():

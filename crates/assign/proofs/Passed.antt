@@ -1,19 +1,23 @@
 -- What the rows of ASSIGN, passed, say of the store and the ticket's record; and the register that it leaves then. Assumes nothing.
-use mathlib.Core.Path.{_≡_, refl, ap, _∙_}
+use mathlib.Core.Path.{_≡_, refl, sym, ap, _∙_}
 use mathlib.Core.List.{List}
 use mathlib.Core.Logic.{_⊎_, inl, inr}
 use Prim.Native.Nat.{ℕ, zero, suc, pred, _+_, _-_, _^_, _≤_, _<_, min, max}
 use native.Mathlib.Omega.{arith}
 use lib.ListN.{getD}
-use Rattle.tree.specs.Tree.{Update, rootHeight, count}
+use Rattle.tree.specs.Tree.{Update, rootHeight, count, countOf}
+use Rattle.tree.specs.Place.{halvings}
 use Rattle.lines.specs.Lines.{numberOf}
 use Rattle.lines.specs.declared.Branch.{Branch}
-use Rattle.register.specs.Register.{noRecord, limited, withRecord}
+use Rattle.register.specs.Register.{noRecord, withRecord}
 use Rattle.register.proofs.Counted.{limited-capped}
 use Rattle.register.specs.declared.Record.{Record}
 use Rattle.table.specs.Table.{assignRows, unless}
 use Rattle.versions.specs.Store.{lineIn}
-use Rattle.assign.specs.Assign.{updateAt, numberBy, Roomy, assignRefusal, withUpdateOf, withUpdatePart, withEntryOf, withAssigned}
+use Rattle.assign.specs.Assign.{updateAt, numberBy, Roomy, assignRefusal, assigned, withUpdate, withUpdateOf, withUpdatePart, withEntryOf, withAssigned, assignedBy}
+use Rattle.assign.specs.NewUpdate.{newUpdate, Figured}
+use Rattle.assign.specs.declared.AssignOut.{AssignOut}
+use Rattle.assign.specs.declared.NewUpdate.{NewUpdate}
 use Rattle.versions.specs.declared.Store.{Store}
 use Rattle.versions.specs.declared.Lengths.{Lengths}
 use Rattle.table.proofs.Table.{passed}
@@ -46,13 +50,32 @@ count-above f l zero = omega arith
 count-above f l (suc h) = omega (arith, count-above f l h)
 
 pub top-fits : (s : Store) (l f n : ℕ) → Roomy s l f n → s .nodes < 2 ^ 64
-    → let end = min (f + n) (2 ^ 64 - 1) in
-    let b = lineIn s l .blob in
-    min (s .places + rootHeight (limited f (end - 1) (max b end) .size)) (2 ^ 64 - 1) ≡ s .places + rootHeight (updateAt b f n .size)
+    → let h = rootHeight (updateAt (lineIn s l .blob) f n .size) in
+    min (s .places + h) (2 ^ 64 - 1) ≡ s .places + h
 top-fits s l f n room fits =
-    let u = updateAt (lineIn s l .blob) f n in
-    ap (λ (x : Update). min (s .places + rootHeight (x .size)) (2 ^ 64 - 1)) (limited-capped f (f + n) (lineIn s l .blob))
-    ∙ omega (arith, count-above (u .f) (u .last) (rootHeight (u .size)), room .nodes)
+    let u = updateAt (lineIn s l .blob) f n in omega (arith, count-above (u .f) (u .last) (rootHeight (u .size)), room .nodes)
+
+-- Capped sums say the same of an update within the limits.
+pub figured : (b f n : ℕ) (x : NewUpdate) → x ≡ newUpdate b f n → Figured x
+figured b f n x e =
+    let same = sym (limited-capped f (f + n) b) in
+    rw e (record {
+      past = ap (λ (u : Update). halvings (u .f)) same;
+      height = ap (λ (u : Update). rootHeight (u .size)) same;
+      count = ap countOf same;
+    })
+
+-- What ASSIGN gives back, of the update as the code has it: its size need be that of the definition only where the call is accepted.
+pub given-by :
+    (s : Store) (l f n k : ℕ) → (k ≡ 0 → Roomy s l f n)
+    → let u = newUpdate (lineIn s l .blob) f n in
+    _≡_ {A = AssignOut} (record { store = unless k s (withUpdate s l (u .count) (u .size)); answer = assigned k (suc (lineIn s l .assigned .0)) (u .count) }) (assignedBy s l f n k)
+unfolding unless
+given-by s l f n zero h =
+    let room = h refl in
+    let e : min (f + n) (2 ^ 64 - 1) ≡ f + n = omega (arith, room .inside) in
+    rw e
+given-by s l f n (suc k) h = refl
 
 -- ASSIGN writes the ticket's record and then, each over what that left, the next update's and that of the line's next version. The numbers as the code has them
 -- need be those of the definition only where the call is accepted.

@@ -1,1 +1,2 @@
 pub mod Assign
+pub mod NewUpdate

@@ -1,13 +1,13 @@
 // ASSIGN, as a write or an append: the next version of a line and its node count.
 ghost use mathlib.Core.Path.{_≡_};
-ghost use Prim.Native.Nat.{min, max, _+_, _-_, _^_, _<_, _≤_};
+ghost use Prim.Native.Nat.{suc, min, max, _+_, _-_, _^_, _<_, _≤_};
 ghost use lib.Dec.{ltb};
 ghost use mathlib.Core.List.{[], _∷_};
-ghost use Rattle.tree.specs.Tree.{countOf, rootHeight};
-ghost use Rattle.register.specs.Register.{limited};
+ghost use Rattle.tree.specs.Tree.{countOf};
 ghost use Rattle.table.specs.Table.{_<?_, _gives_, noLine, always, firstRefusal, unless};
 ghost use Rattle.versions.specs.Store.{areasOf, linesIn, lineIn};
-ghost use Rattle.assign.specs.Assign.{updateAt, numberBy, Roomy, allPut, roomRefusal, assignRefusal, withUpdate, withUpdateOf, withUpdatePart, withEntryOf, withAssigned, assignedBy, assignOut, assignRegister};
+ghost use Rattle.assign.specs.Assign.{updateAt, numberBy, Roomy, allPut, roomRefusal, assignRefusal, assigned, withUpdate, withUpdateOf, withUpdatePart, withEntryOf, withAssigned, assignOut, assignRegister};
+ghost use Rattle.assign.specs.NewUpdate.{newUpdate, Figured};
 use lines::Branch;
 use lines::Line;
 use lines::number_of;
@@ -44,6 +44,16 @@ pub struct AssignOut {
     pub answer: Assigned,
 }
 
+// An update that is to be: its pages and the size in pages after it, as its record keeps them, and what follows from these.
+struct NewUpdate {
+    f: PageIndex,
+    last: PageIndex,
+    past: u64,
+    height: u64,
+    size: u64,
+    count: u64,
+}
+
 // Whether all n pages of a ticket are put: the low n bits of its mask decide, as in PUT. A mask has 64 bits.
 fn all_put(r: Record) -> bool
     ensures { λ b. ⌜ b ≡ allPut r ⌝ }
@@ -75,12 +85,25 @@ fn size_after(blob: u64, f: PageIndex, n: u64) -> u64
     if blob < end { end } else { blob }
 }
 
-// The node count of n pages at page f of a blob of so many pages.
-fn count_at(blob: u64, f: PageIndex, n: u64) -> u64
-    ensures { λ r. ⌜ r ≡ countOf (updateAt blob (f .0) n) ⌝ }
+// The update of n pages at page f of a blob of so many pages. The root's height is looked up here, once for a call.
+fn new_update(blob: u64, f: PageIndex, n: u64) -> NewUpdate
+    ensures { λ u. ⌜ u ≡ newUpdate blob (f .0) n ⌝ }
 {
-    let e = within_limits(f, last_page(f, n), size_after(blob, f, n));
-    node_count(e.f, e.last, root_height(e.size))
+    let last = last_page(f, n);
+    let size = size_after(blob, f, n);
+    let e = within_limits(f, last, size);
+    let height = root_height(e.size);
+    let first = e.f;
+    let past = halvings(first.0);
+    let count = node_count(e.f, e.last, height);
+    NewUpdate {
+        f,
+        last,
+        past,
+        height,
+        size,
+        count,
+    }
 }
 
 // Row 15: too few node places are left for so many nodes.
@@ -111,15 +134,17 @@ fn past_refusal(s: Store, l: Line, f: PageIndex) -> u64
     if past_the_end(s, l, f) { 13 } else { 19 }
 }
 
-// The rows from 14 on, for n pages at page f of line l.
-fn room_refusal(s: Store, l: Line, f: PageIndex, n: u64) -> u64
-    ensures { λ k. ⌜ k ≡ roomRefusal s (l .0) (f .0) n ⌝ }
+// The rows from 14 on, for the n pages of update u on line l.
+fn room_refusal(s: Store, l: Line, n: u64, u: NewUpdate) -> u64
+    requires { ⌜ u .count ≡ countOf (updateAt (lineIn s (l .0) .blob) (u .f .0) n) ⌝ }
+    ensures { λ k. ⌜ k ≡ roomRefusal s (l .0) (u .f .0) n ⌝ }
 {
     let b = line_state(s, l);
+    let f = u.f;
     if 4096 < capped_sum(f.0, n) {
         return 14;
     }
-    if no_places(s, count_at(b.blob, f, n)) {
+    if no_places(s, u.count) {
         return 15;
     }
     if s.updates <= s.assigned {
@@ -131,16 +156,17 @@ fn room_refusal(s: Store, l: Line, f: PageIndex, n: u64) -> u64
     0
 }
 
-// The refusal of ASSIGN at page f of line l, with the ticket's record r.
-fn assign_refusal(s: Store, g: Lengths, r: Record, l: Line, t: Ticket, f: PageIndex) -> u64
-    ensures { λ k. ⌜ k ≡ assignRefusal s g r (l .0) (t .0) (f .0) ⌝ }
+// The refusal of ASSIGN as update u of line l, with the ticket's record r.
+fn assign_refusal(s: Store, g: Lengths, r: Record, l: Line, t: Ticket, u: NewUpdate) -> u64
+    requires { ⌜ u .count ≡ countOf (updateAt (lineIn s (l .0) .blob) (u .f .0) (r .n)) ⌝ }
+    ensures { λ k. ⌜ k ≡ assignRefusal s g r (l .0) (t .0) (u .f .0) ⌝ }
 {
     let k = ticket_refusal(s, g, t);
     if k != 0 {
         return k;
     }
     if s.updates < t.0 {
-        return past_refusal(s, l, f);
+        return past_refusal(s, l, u.f);
     }
     if r.update != 0 {
         return 8;
@@ -151,10 +177,10 @@ fn assign_refusal(s: Store, g: Lengths, r: Record, l: Line, t: Ticket, f: PageIn
     if !all_put(r) {
         return 12;
     }
-    if past_the_end(s, l, f) {
+    if past_the_end(s, l, u.f) {
         return 13;
     }
-    room_refusal(s, l, f, r.n)
+    room_refusal(s, l, r.n, u)
 }
 
 // The store with one update more, on line l: so many nodes, and so many pages after it.
@@ -172,10 +198,12 @@ fn with_update(s: Store, l: Line, count: u64, size: u64) -> Store
     done
 }
 
-// What ASSIGN gives back for n pages at page f of line l, by the table's number k.
-fn assigned_by(s: Store, l: Line, f: PageIndex, n: u64, k: u64) -> AssignOut
-    requires { ⌜ (k ≡ 0 → Roomy s (l .0) (f .0) n) ⌝ }
-    ensures { λ r. ⌜ r ≡ assignedBy s (l .0) (f .0) n k ⌝ }
+// What ASSIGN gives back for update u of line l, by the table's number k.
+fn assigned_by(s: Store, l: Line, u: NewUpdate, k: u64) -> AssignOut
+    requires { ⌜ (k ≡ 0 → (s .assigned < s .updates) × (lineIn s (l .0) .assigned .0 < s .updates) × (s .places + u .count ≤ s .nodes)) ⌝ }
+    ensures { λ r.
+        let x = withUpdate s (l .0) (u .count) (u .size) in
+        ⌜ r ≡ record { store = unless k s x; answer = assigned k (suc (lineIn s (l .0) .assigned .0)) (u .count) } ⌝ }
 {
     if k != 0 {
         return AssignOut {
@@ -184,10 +212,9 @@ fn assigned_by(s: Store, l: Line, f: PageIndex, n: u64, k: u64) -> AssignOut
         };
     }
     let b = line_state(s, l);
-    let count = count_at(b.blob, f, n);
     AssignOut {
-        store: with_update(s, l, count, size_after(b.blob, f, n)),
-        answer: Assigned::Given(Version(b.assigned.0 + 1), count),
+        store: with_update(s, l, u.count, u.size),
+        answer: Assigned::Given(Version(b.assigned.0 + 1), u.count),
     }
 }
 
@@ -200,31 +227,24 @@ fn ticket_part(r: Record, k: u64) -> Record
     q
 }
 
-// A record with an update's part anew, of ticket t, numbered c: n pages at page f of a blob of so many pages, its first node place, none woven. What the walk and WEAVE need
-// of its tree is worked out here, once.
-fn update_part(r: Record, t: Ticket, c: u64, f: PageIndex, n: u64, blob: u64, place: u64) -> Record
-    ensures { λ q.
-        let end = min (f .0 + n) (2 ^ 64 - 1) in
-        ⌜ q ≡ withUpdatePart r (t .0) c (f .0) (end - 1) (max blob end) (min (place + rootHeight (limited (f .0) (end - 1) (max blob end) .size)) (2 ^ 64 - 1)) ⌝ }
+// A record with update u's part anew, of ticket t, numbered c, its first node place, none woven.
+fn update_part(r: Record, t: Ticket, c: u64, u: NewUpdate, place: u64) -> Record
+    requires { ⌜ Figured u ⌝ }
+    ensures { λ q. ⌜ q ≡ withUpdatePart r (t .0) c (u .f .0) (u .last .0) (u .size) (min (place + u .height) (2 ^ 64 - 1)) ⌝ }
 {
-    let last = last_page(f, n);
-    let size = size_after(blob, f, n);
-    let e = within_limits(f, last, size);
-    let height = root_height(e.size);
-    let first = e.f;
-    let past = halvings(first.0);
-    let count = node_count(e.f, e.last, height);
-    let top = capped_sum(place, height);
+    let f = u.f;
+    let last = u.last;
+    let top = capped_sum(place, u.height);
     let mut q = r;
     q.ticket = t;
     q.name = c;
     q.f = f;
     q.last = last;
     q.top = top;
-    q.past = past;
-    q.height = height;
-    q.size = size;
-    q.count = count;
+    q.past = u.past;
+    q.height = u.height;
+    q.size = u.size;
+    q.count = u.count;
     q.woven = 0;
     q
 }
@@ -246,7 +266,7 @@ fn next_number(l: Line, b: Branch) -> u64
     number_of(l, Version(capped_sum(b.assigned.0, 1)))
 }
 
-// Writes what an update of ticket t, whose record is r, leaves in the register, where the table's number k is 0: the ticket's record gets the number of the next
+// Writes what update u of ticket t, whose record is r, leaves in the register, where the table's number k is 0: the ticket's record gets the number of the next
 // update, that update's record its part, and the record of the line's next version the number. The three may be one.
 fn note_update(
     register: &mut [Record],
@@ -254,11 +274,11 @@ fn note_update(
     s: Store,
     l: Line,
     t: Ticket,
-    f: PageIndex,
     r: Record,
+    u: NewUpdate,
 )
-    requires { ⌜ (k ≡ 0 → Roomy s (l .0) (f .0) (r .n)) ⌝ }
-    ensures { λ _. ⌜ now (register .exit) ≡ unless k (now (register .entry)) (withAssigned s (now (register .entry)) r (l .0) (t .0) (f .0)) ⌝ }
+    requires { ⌜ (k ≡ 0 → Roomy s (l .0) (u .f .0) (r .n)) × (u ≡ newUpdate (lineIn s (l .0) .blob) (u .f .0) (r .n)) ⌝ }
+    ensures { λ _. ⌜ now (register .exit) ≡ unless k (now (register .entry)) (withAssigned s (now (register .entry)) r (l .0) (t .0) (u .f .0)) ⌝ }
 {
     let b = line_state(s, l);
     let next = capped_sum(s.assigned, 1);
@@ -269,7 +289,7 @@ fn note_update(
         register,
         k,
         i,
-        update_part(q, t, next_number(l, b), f, r.n, b.blob, s.places),
+        update_part(q, t, next_number(l, b), u, s.places),
     );
     let j = b.assigned.0 as usize;
     let e = record_at(register, j);
@@ -292,9 +312,11 @@ pub fn write(
 {
     let r = ticket_record(register, t);
     let g = lengths_of(pages, nodes, register);
-    let k = assign_refusal(s, g, r, l, t, f);
-    note_update(register, k, s, l, t, f, r);
-    assigned_by(s, l, f, r.n, k)
+    let b = line_state(s, l);
+    let u = new_update(b.blob, f, r.n);
+    let k = assign_refusal(s, g, r, l, t, u);
+    note_update(register, k, s, l, t, r, u);
+    assigned_by(s, l, u, k)
 }
 
 // ASSIGN ticket to line l as an append: a write at the size of the line's last assigned version.

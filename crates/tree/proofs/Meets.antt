@@ -9,13 +9,7 @@ use native.Mathlib.Omega.{arith}
 use borrow.Author.Tests.{ltb-true, ltb-false, leb-true, lt-ltb, le-leb, le-ltb, lt-leb}
 use lib.Dec.{ltb, leb}
 use Rattle.tree.specs.Tree.{node, meets, nodes}
-
-pub lt-or-le : (x y : ℕ) → (x < y) ⊎ (y ≤ x)
-lt-or-le x y = go (ltb x y) refl
-  where
-    go : (b : Bool) → ltb x y ≡ b → (x < y) ⊎ (y ≤ x)
-    go true e = inl (ltb-true x y e)
-    go false e = inr (ltb-false x y e)
+pub use Rattle.spans.proofs.Order.{lt-or-le}
 
 -- The s pages from a on meet the pages f .. l, or lie before them, or after them. Proofs go by cases on `side f l a s`.
 pub data Side (f l a s : ℕ) : Type 0 where

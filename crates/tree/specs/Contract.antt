@@ -3,16 +3,10 @@ use mathlib.Core.Path.{_≡_}
 use mathlib.Core.Bool.{Bool, true, false, _&&_}
 use Prim.Native.Nat.{ℕ, _+_, _*_, _^_, _≤_, _<_}
 use lib.Dec.{ltb, leb}
-use Rattle.tree.specs.Tree.{Node, node, count, rootHeight, nodeCount}
-
--- A number, or 0 where a test fails.
-abbrev pub orZero : Bool → ℕ → ℕ
-orZero true x = x
-orZero false x = 0
-
--- The root's span for a size in pages, or 0 for a size that no tree has.
-unfoldable pub rootSpan : ℕ → ℕ
-rootSpan s = orZero (ltb 0 s && leb s 4096) (2 ^ rootHeight s)
+use Rattle.tree.specs.Tree.{Node, node, count, nodeCount}
+-- The span of the root for a size in pages; its definition stands with the table of root spans.
+unfoldable pub use Rattle.spans.specs.Span.{rootSpan}
+pub use Rattle.spans.specs.Span.{orZero}
 
 -- The node count of (f, n, size after), or 0 outside the limits and where the update runs past the size.
 unfoldable pub nodesFor : ℕ → ℕ → ℕ → ℕ

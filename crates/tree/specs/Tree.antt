@@ -5,6 +5,8 @@ use mathlib.Core.List.{List, [], _∷_, _++_}
 use Prim.Native.Nat.{ℕ, zero, suc, _+_, _-_, _/_, _^_}
 use lib.Dec.{ltb, leb}
 use lib.ListN.{getD}
+-- The height of the root for a size in pages; its definition stands with the table of root spans.
+unfoldable pub use Rattle.spans.specs.Span.{heightFrom, rootHeight}
 
 -- An update ("update" in 001): its pages f .. last, and the size in pages of the blob after it ("snapshot size").
 pub record Update : Type 0 where
@@ -15,16 +17,6 @@ pub record Update : Type 0 where
 -- A node of one version: first page and height.
 pub data Node : Type 0 where
   node : ℕ → ℕ → Node
-
--- The smallest height, from h on, whose span is not below the size; the first argument bounds the search.
-unfoldable pub heightFrom : ℕ → ℕ → ℕ → ℕ
-heightFrom zero h s = h
-heightFrom (suc d) h s = elim (leb s (2 ^ h)) [ true ↦ h | false ↦ heightFrom d (suc h) s ]
-
--- The height of the root for a size in pages; the root's span, 2 ^ rootHeight s, is the smallest power of two not below s.
-unfoldable pub rootHeight : ℕ → ℕ
-unfolding heightFrom
-rootHeight s = heightFrom s 0 s
 
 -- Some page of f .. l lies among the s pages from a on.
 unfoldable pub meets : ℕ → ℕ → ℕ → ℕ → Bool

@@ -8,6 +8,7 @@ ghost use Rattle.tree.specs.Place.{kth, first, halvings, nodeNumbered};
 ghost use Rattle.tree.specs.NodeArea.{nodeAt, withNode};
 ghost use Rattle.tree.specs.Cases.{table, every};
 ghost use Rattle.tree.specs.Contract.{rootSpan, nodesFor, Pages, Counted, Names};
+use spans::root_span;
 
 // A version, a page's index in the blob and a ticket are counters of different sorts, and each has a type of its own.
 #[repr(C)]
@@ -64,28 +65,13 @@ pub fn height_of(span: u64) -> u64
     64 - u64::leading_zeros(span - 1) as u64
 }
 
-// The height of the root for a size in pages: the length in bits of the last page's number.
+// The height of the root for a size in pages: that of the root's span.
 pub fn root_height(size: u64) -> u64
+    requires { ⌜ size ≤ 4096 ⌝ }
     ensures { λ r. ⌜ r ≡ rootHeight size ⌝ }
 {
-    if size == 0 {
-        0
-    } else {
-        64 - u64::leading_zeros(size - 1) as u64
-    }
-}
-
-// The span of the root for a size in pages: the smallest power of two not below it, or 0 for a size that no tree has.
-pub fn root_span(size: u64) -> u64
-    ensures { λ r. ⌜ r ≡ rootSpan size ⌝ }
-{
-    if size == 0 {
-        0
-    } else if size > MOST_PAGES {
-        0
-    } else {
-        span_of(root_height(size))
-    }
+    let span = root_span(size);
+    if span == 0 { 0 } else { height_of(span) }
 }
 
 // x + x / 2 + x / 4 + .., for an x that is not too large to double.

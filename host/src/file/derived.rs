@@ -1,6 +1,6 @@
 //! What a record holds only so that no call works it out again: it follows from the rest of the register.
 
-use crate::ffi::{node_count, Record, State};
+use crate::ffi::{node_count, root_span, Record, State};
 
 /// A record with what follows from the rest of it and its first node place. Without an update that is zeros.
 pub fn derive(mut record: Record, place: u64) -> Record {
@@ -9,7 +9,8 @@ pub fn derive(mut record: Record, place: u64) -> Record {
     let derived = if record.name == 0 {
         [0; 4]
     } else {
-        let height = u64::BITS - size.saturating_sub(1).leading_zeros();
+        // the span is a power of two, or 0 for a size that no tree has: that one's height is 0
+        let height = root_span(size).max(1).trailing_zeros();
         let pages = record.last.wrapping_sub(f).wrapping_add(1);
         [
             place.wrapping_add(height.into()),

@@ -3,6 +3,7 @@ pub mod append
 pub mod assign_refusal
 pub mod assigned_by
 pub mod entry_part
+pub mod new_update
 pub mod next_number
 pub mod note_update
 pub mod ticket_part

@@ -12,14 +12,14 @@ use Rattle.assign.proofs.room_refusal.Statement.{statement}
 use Rattle.assign.proofs.room_refusal.Tie as tie
 
 -- There are too few node places left for the count, or enough.
-few-places : (c : tie.Then2) → let a = c .before .before .before .before .before .before .args in a .s .nodes < a .s .places + countOf (updateAt (lineIn (a .s) (a .l .0) .blob) (a .f .0) (a .n))
+few-places : (c : tie.Then2) → let a = c .before .before .before .before .before .before .args in a .s .nodes < a .s .places + countOf (updateAt (lineIn (a .s) (a .l .0) .blob) (a .u .f .0) (a .n))
 few-places c =
-    rw (← c .before .before .before .before .before .line-state .ensures, ← c .before .before .count-at .ensures)
+    rw (← c .before .before .before .before .before .before .pre)
     (ltb-true _ _ (sym (c .before .no-places .ensures) ∙ c .if2 .taken))
 
-enough-places : (c : tie.Else2) → let a = c .before .before .before .before .before .before .args in a .s .places + countOf (updateAt (lineIn (a .s) (a .l .0) .blob) (a .f .0) (a .n)) ≤ a .s .nodes
+enough-places : (c : tie.Else2) → let a = c .before .before .before .before .before .before .args in a .s .places + countOf (updateAt (lineIn (a .s) (a .l .0) .blob) (a .u .f .0) (a .n)) ≤ a .s .nodes
 enough-places c =
-    rw (← c .before .before .before .before .before .line-state .ensures, ← c .before .before .count-at .ensures)
+    rw (← c .before .before .before .before .before .before .pre)
     (ltb-false _ _ (sym (c .before .no-places .ensures) ∙ c .if2 .left))
 
 line-state-requires : tie.Need-line-state-requires
@@ -31,9 +31,6 @@ capped-sum-requires c κs = search needs
 returns : tie.Need-returns
 unfolding roomRefusal
 returns c = first (hit (search needs))
-
-count-at-requires : tie.Need-count-at-requires
-count-at-requires c κs = search needs
 
 no-places-requires : tie.Need-no-places-requires
 no-places-requires c κs = search needs
@@ -61,7 +58,6 @@ room-refusal-spec =
     line-state-requires
     capped-sum-requires
     returns
-    count-at-requires
     no-places-requires
     returns-2
     returns-3

@@ -61,6 +61,10 @@ use Rattle.lines.specs.declared.Line.{Line}
 use Rattle.register.proofs.Generated.Kind.Line as Line′
 use Rattle.versions.specs.declared.Lengths.{Lengths}
 use Rattle.versions.proofs.Generated.Kind.Lengths as Lengths′
+use Rattle.lines.specs.declared.Branch.{Branch}
+use Rattle.versions.proofs.Generated.Kind.Branch as Branch′
+use Rattle.assign.specs.declared.NewUpdate.{NewUpdate}
+use Rattle.assign.proofs.Generated.Kind.NewUpdate as NewUpdate′
 use Rattle.register.proofs.Generated.Flow.{ref, MutAt, ShrAt, lend-mut, back-mut, lend-shr, back-shr, branches-on, regroup, skips-on, returns-on, plus-nothing, holds, empty, less-fits, is-true, is-false, differ, above-0, twice-not, switches-to, switches-last, big-lit, here, blocks-on, resume, scaled-2, scaled-4, scaled-8, opens-shr, shuts-shr, opens-mut, shuts-mut, puts-mut, keeps-shr, fills, empties, tyAt}
 use Rattle.assign.proofs.Generated.Say.write as write″
 use Rattle.register.proofs.Generated.Say.ticket_record as ticket-record″
@@ -73,6 +77,16 @@ use Rattle.versions.proofs.Generated.Call.lengths_of as Call-lengths-of
 use Rattle.versions.proofs.lengths_of.Symbol as def-lengths-of
 use Rattle.versions.proofs.lengths_of.Symbol.{name as #lengths-of}
 use Rattle.versions.proofs.lengths_of.Met as thm-lengths-of
+use Rattle.versions.proofs.Generated.Say.line_state as line-state″
+use Rattle.versions.proofs.Generated.Call.line_state as Call-line-state
+use Rattle.versions.proofs.line_state.Symbol as def-line-state
+use Rattle.versions.proofs.line_state.Symbol.{name as #line-state}
+use Rattle.versions.proofs.line_state.Met as thm-line-state
+use Rattle.assign.proofs.Generated.Say.new_update as new-update″
+use Rattle.assign.proofs.Generated.Call.new_update as Call-new-update
+use Rattle.assign.proofs.new_update.Symbol as def-new-update
+use Rattle.assign.proofs.new_update.Symbol.{name as #new-update}
+use Rattle.assign.proofs.new_update.Met as thm-new-update
 use Rattle.assign.proofs.Generated.Say.assign_refusal as assign-refusal″
 use Rattle.assign.proofs.Generated.Call.assign_refusal as Call-assign-refusal
 use Rattle.assign.proofs.assign_refusal.Symbol as def-assign-refusal
@@ -94,7 +108,7 @@ use Rattle.assign.proofs.write.Statement as stated
 use Rattle.assign.proofs.write.Code as code
 use Rattle.assign.proofs.write.Proof.Facts as Facts
 use denote.Memory.{pointee}
-use Rattle.assign.proofs.write.Proof.Asks.{r1, r2, r3, register₄, r5}
+use Rattle.assign.proofs.write.Proof.Asks.{r1, r2, r3, r4, r5, register₆, r7}
 
 abbrev stayed : Stays (write‴.ended .signature .params) (write‴.ended .kept)
 stayed = (stay-none (λ _. Store′.row) yes, (stay-none-slice (0 ∷ []) tt (plain (λ _. u8)) yes, (stay-none-slice (1 ∷ []) tt (plain (λ _. u32)) yes, (stay-slice (2 ∷ []) tt (plain (λ _. Record′.row)), (stay-none (λ _. Line′.row) yes, (stay-none (λ _. Ticket′.row) yes, (stay-none (λ _. PageIndex′.row) yes, tt)))))))
@@ -117,50 +131,56 @@ module _ {M : Type 1} (𝓤 : URA M) (H : Heap 𝓤) (A : Atoms 𝓤) (W : Given
       qed W (‵ (flft κ·pages q·pages) ∷ ‵ (ShrAt u8 κ·pages b·pages o·pages γ·pages (length pages) pages) ∷ ‵ (flft κ·nodes q·nodes) ∷ ‵ (ShrAt u32 κ·nodes b·nodes o·nodes γ·nodes (length nodes) nodes) ∷ ‵ (flft κ·register q·register) ∷ ‵ (MutAt Record′.row κ·register b·register o·register γ·register (length register) zs·register) ∷ []) ∵ suffices ! _ (ends-at 𝓤 H A write‴.ended stayed (write‴.clauses 𝓤 H A mem run) W bound (AssignOut′.mach r) r (tt, (tt, (tt, (zs·register, (tt, (tt, (tt, tt))))))) (tt, (tt, (tt, (same·register, (tt, (tt, (tt, tt)))))))) $ says ! said $
       nothing ! $ move ! (5 ∷ 0 ∷ []) $ join ! $ move ! (3 ∷ 0 ∷ []) $ join ! $ move ! (1 ∷ 0 ∷ []) $ join ! $ frame ! $ nothing ! $ owned ! PageIndex′.row (Is PageIndex′.row) (PageIndex′.makes 𝓤 H A) f _ ok·f $ fjoin ! $ owned ! Ticket′.row (Is Ticket′.row) (Ticket′.makes 𝓤 H A) x-t _ ok·x-t $ fjoin ! $ owned ! Line′.row (Is Line′.row) (Line′.makes 𝓤 H A) x-l _ ok·x-l $ fjoin ! $ move ! (3 ∷ 0 ∷ []) $ fjoin ! $ move ! (2 ∷ 0 ∷ []) $ fjoin ! $ move ! (1 ∷ 0 ∷ []) $ fjoin ! $ owned ! Store′.row (Is Store′.row) (Store′.makes 𝓤 H A) s _ ok·s $ fjoin ! $ frame ! $ owned ! AssignOut′.row (Is AssignOut′.row) (AssignOut′.makes 𝓤 H A) r _ ok·r $ done !
 
-  walk : (𝓣 : Tables 𝓤 H) (known-ticket-record : Triple 𝓤 (𝓣 .C #ticket-record) (Call-ticket-record.Asked 𝓤 H A mem run)) (known-lengths-of : Triple 𝓤 (𝓣 .C #lengths-of) (Call-lengths-of.Asked 𝓤 H A mem run)) (known-assign-refusal : Triple 𝓤 (𝓣 .C #assign-refusal) (Call-assign-refusal.Asked 𝓤 H A mem run)) (known-note-update : Triple 𝓤 (𝓣 .C #note-update) (Call-note-update.Asked 𝓤 H A mem run)) (known-assigned-by : Triple 𝓤 (𝓣 .C #assigned-by) (Call-assigned-by.Asked 𝓤 H A mem run)) → ent 𝓤 (onEntry 𝓤 H A write‴.signature (κ·pages, (κ·nodes, (κ·register, tt))) (q·pages, (q·nodes, (q·register, tt))) all-args all-vals)
+  walk : (𝓣 : Tables 𝓤 H) (known-ticket-record : Triple 𝓤 (𝓣 .C #ticket-record) (Call-ticket-record.Asked 𝓤 H A mem run)) (known-lengths-of : Triple 𝓤 (𝓣 .C #lengths-of) (Call-lengths-of.Asked 𝓤 H A mem run)) (known-line-state : Triple 𝓤 (𝓣 .C #line-state) (Call-line-state.Asked 𝓤 H A mem run)) (known-new-update : Triple 𝓤 (𝓣 .C #new-update) (Call-new-update.Asked 𝓤 H A mem run)) (known-assign-refusal : Triple 𝓤 (𝓣 .C #assign-refusal) (Call-assign-refusal.Asked 𝓤 H A mem run)) (known-note-update : Triple 𝓤 (𝓣 .C #note-update) (Call-note-update.Asked 𝓤 H A mem run)) (known-assigned-by : Triple 𝓤 (𝓣 .C #assigned-by) (Call-assigned-by.Asked 𝓤 H A mem run)) → ent 𝓤 (onEntry 𝓤 H A write‴.signature (κ·pages, (κ·nodes, (κ·register, tt))) (q·pages, (q·nodes, (q·register, tt))) all-args all-vals)
       (WpFn 𝓤 H (𝓣 .C) (𝓣 .Λ) code.function (Store′.mach s ∷ sliceVal (b·pages, o·pages) (length pages) ∷ sliceVal (b·nodes, o·nodes) (length nodes) ∷ sliceVal (b·register, o·register) (length register) ∷ Line′.mach x-l ∷ Ticket′.mach x-t ∷ PageIndex′.mach f ∷ []) Post)
-  walk 𝓣 known-ticket-record known-lengths-of known-assign-refusal known-note-update known-assigned-by =
+  walk 𝓣 known-ticket-record known-lengths-of known-line-state known-new-update known-assign-refusal known-note-update known-assigned-by =
       qed W ((‵ (flft κ·pages q·pages) ⊛ ‵ (flft κ·nodes q·nodes) ⊛ ‵ (flft κ·register q·register) ⊛ ‵ ftrue) ∷ ‵ (owns (Store′.row ∷ ShrSlice (named 0) κ·pages u8 ∷ ShrSlice (named 0) κ·nodes u32 ∷ MutSlice (named 0) κ·register Record′.row ∷ Line′.row ∷ Ticket′.row ∷ PageIndex′.row ∷ []) all-args all-vals) ∷ []) ∵ enter ! (𝓣 .C) (𝓣 .Λ) code.function (Store′.mach s ∷ sliceVal (b·pages, o·pages) (length pages) ∷ sliceVal (b·nodes, o·nodes) (length nodes) ∷ sliceVal (b·register, o·register) (length register) ∷ Line′.mach x-l ∷ Ticket′.mach x-t ∷ PageIndex′.mach f ∷ []) _ $
-      alloc1 ! (λ l₀. alloc1 ! (λ l₁. alloc1 ! (λ l₂. alloc1 ! (λ l₃. alloc1 ! (λ l₄. alloc1 ! (λ l₅. alloc1 ! (λ l₆. alloc1 ! (λ l₇. alloc1 ! (λ l₈. alloc1 ! (λ l₉. alloc1 ! (λ l₁₀. alloc1 ! (λ l₁₁. alloc1 ! (λ l₁₂. alloc1 ! (λ l₁₃. alloc1 ! (λ l₁₄. alloc1 ! (λ l₁₅. alloc1 ! (λ l₁₆. alloc1 ! (λ l₁₇. alloc0 ! $ params1 ! $
-      pass1 ! (init ! 32 refl (Store′.typed 𝓤 H A W s ok·s)) $ pass1 ! (init ! 30 refl (tt, (tt, (record { fits = room·pages .0 }, tt)))) $ pass1 ! (init ! 28 refl (tt, (tt, (record { fits = room·nodes .0 }, tt)))) $ pass1 ! (init ! 26 refl (tt, (tt, (record { fits = room·register .0 }, tt)))) $ pass1 ! (init ! 24 refl (Line′.typed 𝓤 H A W x-l ok·x-l)) $ pass1 ! (init ! 22 refl (Ticket′.typed 𝓤 H A W x-t ok·x-t)) $ pass1 ! (init ! 20 refl (PageIndex′.typed 𝓤 H A W f ok·f)) $ pass0 ! $
-      move ! (37 ∷ []) $ fsplit ! $ drop ! $ fsplit ! $ move ! (1 ∷ []) $ fsplit ! $ move ! (1 ∷ []) $ fsplit ! $ move ! (1 ∷ []) $ fsplit ! $ drop ! $ fsplit ! $ drop ! $ fsplit ! $ drop ! $ drop ! $ move ! (39 ∷ []) $ split ! $ move ! (1 ∷ []) $ split ! $ move ! (1 ∷ []) $ split ! $ move ! (1 ∷ []) $ drop ! $ move ! (2 ∷ 5 ∷ 1 ∷ 4 ∷ 0 ∷ 3 ∷ []) $
-      assigns ! (addr ! (from ! (fld ! refl (hop ! (look-in ! 32 (sub ! 0 refl (whole !))) (stop !))))) (from ! (stop !)) (init ! 18 refl (tt, tt)) $
-      assigns ! (agg ! (and-then ! (load ! (from ! (stop !)) (look ! 18 refl)) (and-then ! (load ! (from ! (fld ! refl (stop !))) (look-in ! 32 (sub ! 1 refl (whole !)))) (no-more !)))) (from ! (stop !)) (init ! 16 refl (tt, (tt, (record { fits = room·register .0 }, tt)))) $
+      alloc1 ! (λ l₀. alloc1 ! (λ l₁. alloc1 ! (λ l₂. alloc1 ! (λ l₃. alloc1 ! (λ l₄. alloc1 ! (λ l₅. alloc1 ! (λ l₆. alloc1 ! (λ l₇. alloc1 ! (λ l₈. alloc1 ! (λ l₉. alloc1 ! (λ l₁₀. alloc1 ! (λ l₁₁. alloc1 ! (λ l₁₂. alloc1 ! (λ l₁₃. alloc1 ! (λ l₁₄. alloc1 ! (λ l₁₅. alloc1 ! (λ l₁₆. alloc1 ! (λ l₁₇. alloc1 ! (λ l₁₈. alloc1 ! (λ l₁₉. alloc0 ! $ params1 ! $
+      pass1 ! (init ! 36 refl (Store′.typed 𝓤 H A W s ok·s)) $ pass1 ! (init ! 34 refl (tt, (tt, (record { fits = room·pages .0 }, tt)))) $ pass1 ! (init ! 32 refl (tt, (tt, (record { fits = room·nodes .0 }, tt)))) $ pass1 ! (init ! 30 refl (tt, (tt, (record { fits = room·register .0 }, tt)))) $ pass1 ! (init ! 28 refl (Line′.typed 𝓤 H A W x-l ok·x-l)) $ pass1 ! (init ! 26 refl (Ticket′.typed 𝓤 H A W x-t ok·x-t)) $ pass1 ! (init ! 24 refl (PageIndex′.typed 𝓤 H A W f ok·f)) $ pass0 ! $
+      move ! (41 ∷ []) $ fsplit ! $ drop ! $ fsplit ! $ move ! (1 ∷ []) $ fsplit ! $ move ! (1 ∷ []) $ fsplit ! $ move ! (1 ∷ []) $ fsplit ! $ drop ! $ fsplit ! $ drop ! $ fsplit ! $ drop ! $ drop ! $ move ! (43 ∷ []) $ split ! $ move ! (1 ∷ []) $ split ! $ move ! (1 ∷ []) $ split ! $ move ! (1 ∷ []) $ drop ! $ move ! (2 ∷ 5 ∷ 1 ∷ 4 ∷ 0 ∷ 3 ∷ []) $
+      assigns ! (addr ! (from ! (fld ! refl (hop ! (look-in ! 36 (sub ! 0 refl (whole !))) (stop !))))) (from ! (stop !)) (init ! 18 refl (tt, tt)) $
+      assigns ! (agg ! (and-then ! (load ! (from ! (stop !)) (look ! 18 refl)) (and-then ! (load ! (from ! (fld ! refl (stop !))) (look-in ! 36 (sub ! 1 refl (whole !)))) (no-more !)))) (from ! (stop !)) (init ! 16 refl (tt, (tt, (record { fits = room·register .0 }, tt)))) $
       move ! (4 ∷ 5 ∷ []) $ lend-shr ! tt Record′.row κ·register q·register b·register o·register γ·register (length register) register (refl) (λ ν·1-register γ·1-register.
-      Call-ticket-record.calls ! mem run (fmOf 𝓤 H (W .laws) 𝓣) known-ticket-record (ν·1-register ∷ []) fullShare b·register o·register γ·1-register (length register) register x-t ok·x-t (and-then ! (load ! (from ! (stop !)) (look ! 17 refl)) (and-then ! (load ! (from ! (stop !)) (look ! 29 refl)) (no-more !)))
-      (λ ok·1. back-shr ! tt Record′.row κ·register q·register b·register o·register γ·register (length register) register ν·1-register (refl) room·register $ move ! (2 ∷ 3 ∷ 4 ∷ 5 ∷ 0 ∷ 1 ∷ []) $ land ! (from ! (stop !)) (init ! 24 refl (Record′.typed 𝓤 H A W (r1 s pages nodes register x-l x-t f) ok·1)) $
-      here ! (‵ (flft κ·pages q·pages) ∷ ‵ (ShrAt u8 κ·pages b·pages o·pages γ·pages (length pages) pages) ∷ ‵ (flft κ·nodes q·nodes) ∷ ‵ (ShrAt u32 κ·nodes b·nodes o·nodes γ·nodes (length nodes) nodes) ∷ ‵ (flft κ·register q·register) ∷ ‵ (MutAt Record′.row κ·register b·register o·register γ·register (length register) register) ∷ empty (sliceTy (tyRef erased mut (pointee (Record′.row .written)))) l₁₇ (empty (tyRef erased mut (pointee (Record′.row .written))) l₁₆ (empty tyUnit l₁₅ (empty (sliceTy (tyRef erased imm (pointee (Record′.row .written)))) l₁₄ (empty (tyRef erased imm (pointee (Record′.row .written))) l₁₃ (holds (sliceTy (tyRef erased imm (pointee (Record′.row .written)))) l₁₂ (sliceVal (b·register, o·register) (length register)) (holds (tyRef erased imm (pointee (Record′.row .written))) l₁₁ (vptr b·register o·register) (empty (tyInt w64) l₁₀ (empty (tyAt (code.function .locals) 9) l₉ (holds (tyAt (code.function .locals) 8) l₈ (Record′.mach (r1 s pages nodes register x-l x-t f)) (holds (tyAt (code.function .locals) 7) l₇ (PageIndex′.mach f) (holds (tyAt (code.function .locals) 6) l₆ (Ticket′.mach x-t) (holds (tyAt (code.function .locals) 5) l₅ (Line′.mach x-l) (holds (sliceTy (tyRef (named 2) mut (pointee (Record′.row .written)))) l₄ (sliceVal (b·register, o·register) (length register)) (holds (sliceTy (tyRef (named 1) imm (pointee (u32 .written)))) l₃ (sliceVal (b·nodes, o·nodes) (length nodes)) (holds (sliceTy (tyRef (named 0) imm (pointee (u8 .written)))) l₂ (sliceVal (b·pages, o·pages) (length pages)) (holds (tyAt (code.function .locals) 1) l₁ (Store′.mach s) (empty (tyAt (code.function .locals) 0) l₀ [])))))))))))))))))) $
-      assigns ! (addr ! (from ! (fld ! refl (hop ! (look-in ! 32 (sub ! 0 refl (whole !))) (stop !))))) (from ! (stop !)) (init ! 14 refl (tt, tt)) $
-      assigns ! (agg ! (and-then ! (load ! (from ! (stop !)) (look ! 14 refl)) (and-then ! (load ! (from ! (fld ! refl (stop !))) (look-in ! 32 (sub ! 1 refl (whole !)))) (no-more !)))) (from ! (stop !)) (init ! 12 refl (tt, (tt, (record { fits = room·register .0 }, tt)))) $
+      Call-ticket-record.calls ! mem run (fmOf 𝓤 H (W .laws) 𝓣) known-ticket-record (ν·1-register ∷ []) fullShare b·register o·register γ·1-register (length register) register x-t ok·x-t (and-then ! (load ! (from ! (stop !)) (look ! 17 refl)) (and-then ! (load ! (from ! (stop !)) (look ! 33 refl)) (no-more !)))
+      (λ ok·1. back-shr ! tt Record′.row κ·register q·register b·register o·register γ·register (length register) register ν·1-register (refl) room·register $ move ! (2 ∷ 3 ∷ 4 ∷ 5 ∷ 0 ∷ 1 ∷ []) $ land ! (from ! (stop !)) (init ! 28 refl (Record′.typed 𝓤 H A W (r1 s pages nodes register x-l x-t f) ok·1)) $
+      here ! (‵ (flft κ·pages q·pages) ∷ ‵ (ShrAt u8 κ·pages b·pages o·pages γ·pages (length pages) pages) ∷ ‵ (flft κ·nodes q·nodes) ∷ ‵ (ShrAt u32 κ·nodes b·nodes o·nodes γ·nodes (length nodes) nodes) ∷ ‵ (flft κ·register q·register) ∷ ‵ (MutAt Record′.row κ·register b·register o·register γ·register (length register) register) ∷ empty (sliceTy (tyRef erased mut (pointee (Record′.row .written)))) l₁₉ (empty (tyRef erased mut (pointee (Record′.row .written))) l₁₈ (empty tyUnit l₁₇ (empty (sliceTy (tyRef erased imm (pointee (Record′.row .written)))) l₁₆ (empty (tyRef erased imm (pointee (Record′.row .written))) l₁₅ (holds (sliceTy (tyRef erased imm (pointee (Record′.row .written)))) l₁₄ (sliceVal (b·register, o·register) (length register)) (holds (tyRef erased imm (pointee (Record′.row .written))) l₁₃ (vptr b·register o·register) (empty (tyInt w64) l₁₂ (empty (tyAt (code.function .locals) 11) l₁₁ (empty (tyAt (code.function .locals) 10) l₁₀ (empty (tyAt (code.function .locals) 9) l₉ (holds (tyAt (code.function .locals) 8) l₈ (Record′.mach (r1 s pages nodes register x-l x-t f)) (holds (tyAt (code.function .locals) 7) l₇ (PageIndex′.mach f) (holds (tyAt (code.function .locals) 6) l₆ (Ticket′.mach x-t) (holds (tyAt (code.function .locals) 5) l₅ (Line′.mach x-l) (holds (sliceTy (tyRef (named 2) mut (pointee (Record′.row .written)))) l₄ (sliceVal (b·register, o·register) (length register)) (holds (sliceTy (tyRef (named 1) imm (pointee (u32 .written)))) l₃ (sliceVal (b·nodes, o·nodes) (length nodes)) (holds (sliceTy (tyRef (named 0) imm (pointee (u8 .written)))) l₂ (sliceVal (b·pages, o·pages) (length pages)) (holds (tyAt (code.function .locals) 1) l₁ (Store′.mach s) (empty (tyAt (code.function .locals) 0) l₀ [])))))))))))))))))))) $
+      assigns ! (addr ! (from ! (fld ! refl (hop ! (look-in ! 36 (sub ! 0 refl (whole !))) (stop !))))) (from ! (stop !)) (init ! 14 refl (tt, tt)) $
+      assigns ! (agg ! (and-then ! (load ! (from ! (stop !)) (look ! 14 refl)) (and-then ! (load ! (from ! (fld ! refl (stop !))) (look-in ! 36 (sub ! 1 refl (whole !)))) (no-more !)))) (from ! (stop !)) (init ! 12 refl (tt, (tt, (record { fits = room·register .0 }, tt)))) $
       move ! (4 ∷ 5 ∷ []) $ lend-shr ! tt Record′.row κ·register q·register b·register o·register γ·register (length register) register (refl) (λ ν·2-register γ·2-register. move ! (3 ∷ 4 ∷ 5 ∷ 6 ∷ 0 ∷ 1 ∷ []) $
-      Call-lengths-of.calls ! mem run (fmOf 𝓤 H (W .laws) 𝓣) known-lengths-of κ·pages q·pages b·pages o·pages γ·pages (length pages) pages κ·nodes q·nodes b·nodes o·nodes γ·nodes (length nodes) nodes (ν·2-register ∷ []) fullShare b·register o·register γ·2-register (length register) register (and-then ! (load ! (from ! (stop !)) (look ! 35 refl)) (and-then ! (load ! (from ! (stop !)) (look ! 33 refl)) (and-then ! (load ! (from ! (stop !)) (look ! 11 refl)) (no-more !))))
-      (λ ok·2. move ! (4 ∷ 5 ∷ 6 ∷ []) $ back-shr ! tt Record′.row κ·register q·register b·register o·register γ·register (length register) register ν·2-register (refl) room·register $ move ! (2 ∷ 3 ∷ 4 ∷ 5 ∷ 0 ∷ 1 ∷ []) $ land ! (from ! (stop !)) (init ! 22 refl (Lengths′.typed 𝓤 H A W (r2 s pages nodes register x-l x-t f) ok·2)) $
-      here ! (‵ (flft κ·pages q·pages) ∷ ‵ (ShrAt u8 κ·pages b·pages o·pages γ·pages (length pages) pages) ∷ ‵ (flft κ·nodes q·nodes) ∷ ‵ (ShrAt u32 κ·nodes b·nodes o·nodes γ·nodes (length nodes) nodes) ∷ ‵ (flft κ·register q·register) ∷ ‵ (MutAt Record′.row κ·register b·register o·register γ·register (length register) register) ∷ empty (sliceTy (tyRef erased mut (pointee (Record′.row .written)))) l₁₇ (empty (tyRef erased mut (pointee (Record′.row .written))) l₁₆ (empty tyUnit l₁₅ (holds (sliceTy (tyRef erased imm (pointee (Record′.row .written)))) l₁₄ (sliceVal (b·register, o·register) (length register)) (holds (tyRef erased imm (pointee (Record′.row .written))) l₁₃ (vptr b·register o·register) (holds (sliceTy (tyRef erased imm (pointee (Record′.row .written)))) l₁₂ (sliceVal (b·register, o·register) (length register)) (holds (tyRef erased imm (pointee (Record′.row .written))) l₁₁ (vptr b·register o·register) (empty (tyInt w64) l₁₀ (holds (tyAt (code.function .locals) 9) l₉ (Lengths′.mach (r2 s pages nodes register x-l x-t f)) (holds (tyAt (code.function .locals) 8) l₈ (Record′.mach (r1 s pages nodes register x-l x-t f)) (holds (tyAt (code.function .locals) 7) l₇ (PageIndex′.mach f) (holds (tyAt (code.function .locals) 6) l₆ (Ticket′.mach x-t) (holds (tyAt (code.function .locals) 5) l₅ (Line′.mach x-l) (holds (sliceTy (tyRef (named 2) mut (pointee (Record′.row .written)))) l₄ (sliceVal (b·register, o·register) (length register)) (holds (sliceTy (tyRef (named 1) imm (pointee (u32 .written)))) l₃ (sliceVal (b·nodes, o·nodes) (length nodes)) (holds (sliceTy (tyRef (named 0) imm (pointee (u8 .written)))) l₂ (sliceVal (b·pages, o·pages) (length pages)) (holds (tyAt (code.function .locals) 1) l₁ (Store′.mach s) (empty (tyAt (code.function .locals) 0) l₀ [])))))))))))))))))) $
-      Call-assign-refusal.calls ! mem run (fmOf 𝓤 H (W .laws) 𝓣) known-assign-refusal s (r2 s pages nodes register x-l x-t f) (r1 s pages nodes register x-l x-t f) x-l x-t f ok·s ok·2 ok·1 ok·x-l ok·x-t ok·f (and-then ! (load ! (from ! (stop !)) (look ! 39 refl)) (and-then ! (load ! (from ! (stop !)) (look ! 23 refl)) (and-then ! (load ! (from ! (stop !)) (look ! 25 refl)) (and-then ! (load ! (from ! (stop !)) (look ! 31 refl)) (and-then ! (load ! (from ! (stop !)) (look ! 29 refl)) (and-then ! (load ! (from ! (stop !)) (look ! 27 refl)) (no-more !)))))))
-      (λ ok·3. land ! (from ! (stop !)) (init ! 20 refl (tt, record { fits = ok·3 .1 })) $
-      here ! (‵ (flft κ·pages q·pages) ∷ ‵ (ShrAt u8 κ·pages b·pages o·pages γ·pages (length pages) pages) ∷ ‵ (flft κ·nodes q·nodes) ∷ ‵ (ShrAt u32 κ·nodes b·nodes o·nodes γ·nodes (length nodes) nodes) ∷ ‵ (flft κ·register q·register) ∷ ‵ (MutAt Record′.row κ·register b·register o·register γ·register (length register) register) ∷ empty (sliceTy (tyRef erased mut (pointee (Record′.row .written)))) l₁₇ (empty (tyRef erased mut (pointee (Record′.row .written))) l₁₆ (empty tyUnit l₁₅ (holds (sliceTy (tyRef erased imm (pointee (Record′.row .written)))) l₁₄ (sliceVal (b·register, o·register) (length register)) (holds (tyRef erased imm (pointee (Record′.row .written))) l₁₃ (vptr b·register o·register) (holds (sliceTy (tyRef erased imm (pointee (Record′.row .written)))) l₁₂ (sliceVal (b·register, o·register) (length register)) (holds (tyRef erased imm (pointee (Record′.row .written))) l₁₁ (vptr b·register o·register) (holds (tyInt w64) l₁₀ (vint w64 (r3 s pages nodes register x-l x-t f)) (holds (tyAt (code.function .locals) 9) l₉ (Lengths′.mach (r2 s pages nodes register x-l x-t f)) (holds (tyAt (code.function .locals) 8) l₈ (Record′.mach (r1 s pages nodes register x-l x-t f)) (holds (tyAt (code.function .locals) 7) l₇ (PageIndex′.mach f) (holds (tyAt (code.function .locals) 6) l₆ (Ticket′.mach x-t) (holds (tyAt (code.function .locals) 5) l₅ (Line′.mach x-l) (holds (sliceTy (tyRef (named 2) mut (pointee (Record′.row .written)))) l₄ (sliceVal (b·register, o·register) (length register)) (holds (sliceTy (tyRef (named 1) imm (pointee (u32 .written)))) l₃ (sliceVal (b·nodes, o·nodes) (length nodes)) (holds (sliceTy (tyRef (named 0) imm (pointee (u8 .written)))) l₂ (sliceVal (b·pages, o·pages) (length pages)) (holds (tyAt (code.function .locals) 1) l₁ (Store′.mach s) (empty (tyAt (code.function .locals) 0) l₀ [])))))))))))))))))) $
-      assigns ! (addr ! (from ! (fld ! refl (hop ! (look-in ! 32 (sub ! 0 refl (whole !))) (stop !))))) (from ! (stop !)) (init ! 8 refl (tt, tt)) $
-      assigns ! (agg ! (and-then ! (load ! (from ! (stop !)) (look ! 8 refl)) (and-then ! (load ! (from ! (fld ! refl (stop !))) (look-in ! 32 (sub ! 1 refl (whole !)))) (no-more !)))) (from ! (stop !)) (init ! 6 refl (tt, (tt, (record { fits = room·register .0 }, tt)))) $
-      move ! (4 ∷ 5 ∷ []) $ lend-mut ! tt Record′.row κ·register q·register b·register o·register γ·register (length register) register (refl) (λ ν·4-register γ·4-register.
-      Call-note-update.calls ! mem run (fmOf 𝓤 H (W .laws) 𝓣) known-note-update (ν·4-register ∷ []) fullShare b·register o·register γ·4-register (length register) register (r3 s pages nodes register x-l x-t f) s x-l x-t f (r1 s pages nodes register x-l x-t f) ok·3 ok·s ok·x-l ok·x-t ok·f ok·1 (Facts.note-update-1 s pages nodes register x-l x-t f ok·s (room·pages .0) (room·nodes .0) (room·register .0) ok·x-l ok·x-t ok·f ok·1 ok·2 (ok·3 .1)) (and-then ! (load ! (from ! (stop !)) (look ! 6 refl)) (and-then ! (load ! (from ! (stop !)) (look ! 20 refl)) (and-then ! (load ! (from ! (stop !)) (look ! 38 refl)) (and-then ! (load ! (from ! (stop !)) (look ! 30 refl)) (and-then ! (load ! (from ! (stop !)) (look ! 28 refl)) (and-then ! (load ! (from ! (stop !)) (look ! 26 refl)) (and-then ! (load ! (from ! (stop !)) (look ! 24 refl)) (no-more !))))))))
-      (λ same·4-register. back-mut ! tt Record′.row κ·register q·register b·register o·register γ·register (length register) register (register₄ s pages nodes register x-l x-t f) ν·4-register γ·4-register (refl) same·4-register room·register $ move ! (2 ∷ 3 ∷ 4 ∷ 5 ∷ 0 ∷ 1 ∷ []) $ land ! (from ! (stop !)) (init ! 10 refl (tt, tt)) $
-      here ! (‵ (flft κ·pages q·pages) ∷ ‵ (ShrAt u8 κ·pages b·pages o·pages γ·pages (length pages) pages) ∷ ‵ (flft κ·nodes q·nodes) ∷ ‵ (ShrAt u32 κ·nodes b·nodes o·nodes γ·nodes (length nodes) nodes) ∷ ‵ (flft κ·register q·register) ∷ ‵ (MutAt Record′.row κ·register b·register o·register γ·register (length register) (register₄ s pages nodes register x-l x-t f)) ∷ holds (sliceTy (tyRef erased mut (pointee (Record′.row .written)))) l₁₇ (sliceVal (b·register, o·register) (length register)) (holds (tyRef erased mut (pointee (Record′.row .written))) l₁₆ (vptr b·register o·register) (holds tyUnit l₁₅ vunit (holds (sliceTy (tyRef erased imm (pointee (Record′.row .written)))) l₁₄ (sliceVal (b·register, o·register) (length register)) (holds (tyRef erased imm (pointee (Record′.row .written))) l₁₃ (vptr b·register o·register) (holds (sliceTy (tyRef erased imm (pointee (Record′.row .written)))) l₁₂ (sliceVal (b·register, o·register) (length register)) (holds (tyRef erased imm (pointee (Record′.row .written))) l₁₁ (vptr b·register o·register) (holds (tyInt w64) l₁₀ (vint w64 (r3 s pages nodes register x-l x-t f)) (holds (tyAt (code.function .locals) 9) l₉ (Lengths′.mach (r2 s pages nodes register x-l x-t f)) (holds (tyAt (code.function .locals) 8) l₈ (Record′.mach (r1 s pages nodes register x-l x-t f)) (holds (tyAt (code.function .locals) 7) l₇ (PageIndex′.mach f) (holds (tyAt (code.function .locals) 6) l₆ (Ticket′.mach x-t) (holds (tyAt (code.function .locals) 5) l₅ (Line′.mach x-l) (holds (sliceTy (tyRef (named 2) mut (pointee (Record′.row .written)))) l₄ (sliceVal (b·register, o·register) (length register)) (holds (sliceTy (tyRef (named 1) imm (pointee (u32 .written)))) l₃ (sliceVal (b·nodes, o·nodes) (length nodes)) (holds (sliceTy (tyRef (named 0) imm (pointee (u8 .written)))) l₂ (sliceVal (b·pages, o·pages) (length pages)) (holds (tyAt (code.function .locals) 1) l₁ (Store′.mach s) (empty (tyAt (code.function .locals) 0) l₀ [])))))))))))))))))) $
-      Call-assigned-by.calls ! mem run (fmOf 𝓤 H (W .laws) 𝓣) known-assigned-by s x-l f ((r1 s pages nodes register x-l x-t f) .n) (r3 s pages nodes register x-l x-t f) ok·s ok·x-l ok·f (Record′.ok-n (r1 s pages nodes register x-l x-t f) ok·1) ok·3 (Facts.assigned-by-1 s pages nodes register x-l x-t f ok·s (room·pages .0) (room·nodes .0) (room·register .0) ok·x-l ok·x-t ok·f ok·1 ok·2 (ok·3 .1) same·4-register) (and-then ! (load ! (from ! (stop !)) (look ! 39 refl)) (and-then ! (load ! (from ! (stop !)) (look ! 31 refl)) (and-then ! (load ! (from ! (stop !)) (look ! 27 refl)) (and-then ! (load ! (from ! (fld ! refl (stop !))) (look-in ! 25 (sub ! 0 refl (whole !)))) (and-then ! (load ! (from ! (stop !)) (look ! 21 refl)) (no-more !))))))
-      (λ ok·5. land ! (from ! (stop !)) (init ! 40 refl (AssignOut′.typed 𝓤 H A W (r5 s pages nodes register x-l x-t f) ok·5)) $
-      here ! (‵ (flft κ·pages q·pages) ∷ ‵ (ShrAt u8 κ·pages b·pages o·pages γ·pages (length pages) pages) ∷ ‵ (flft κ·nodes q·nodes) ∷ ‵ (ShrAt u32 κ·nodes b·nodes o·nodes γ·nodes (length nodes) nodes) ∷ ‵ (flft κ·register q·register) ∷ ‵ (MutAt Record′.row κ·register b·register o·register γ·register (length register) (register₄ s pages nodes register x-l x-t f)) ∷ holds (sliceTy (tyRef erased mut (pointee (Record′.row .written)))) l₁₇ (sliceVal (b·register, o·register) (length register)) (holds (tyRef erased mut (pointee (Record′.row .written))) l₁₆ (vptr b·register o·register) (holds tyUnit l₁₅ vunit (holds (sliceTy (tyRef erased imm (pointee (Record′.row .written)))) l₁₄ (sliceVal (b·register, o·register) (length register)) (holds (tyRef erased imm (pointee (Record′.row .written))) l₁₃ (vptr b·register o·register) (holds (sliceTy (tyRef erased imm (pointee (Record′.row .written)))) l₁₂ (sliceVal (b·register, o·register) (length register)) (holds (tyRef erased imm (pointee (Record′.row .written))) l₁₁ (vptr b·register o·register) (holds (tyInt w64) l₁₀ (vint w64 (r3 s pages nodes register x-l x-t f)) (holds (tyAt (code.function .locals) 9) l₉ (Lengths′.mach (r2 s pages nodes register x-l x-t f)) (holds (tyAt (code.function .locals) 8) l₈ (Record′.mach (r1 s pages nodes register x-l x-t f)) (holds (tyAt (code.function .locals) 7) l₇ (PageIndex′.mach f) (holds (tyAt (code.function .locals) 6) l₆ (Ticket′.mach x-t) (holds (tyAt (code.function .locals) 5) l₅ (Line′.mach x-l) (holds (sliceTy (tyRef (named 2) mut (pointee (Record′.row .written)))) l₄ (sliceVal (b·register, o·register) (length register)) (holds (sliceTy (tyRef (named 1) imm (pointee (u32 .written)))) l₃ (sliceVal (b·nodes, o·nodes) (length nodes)) (holds (sliceTy (tyRef (named 0) imm (pointee (u8 .written)))) l₂ (sliceVal (b·pages, o·pages) (length pages)) (holds (tyAt (code.function .locals) 1) l₁ (Store′.mach s) (holds (tyAt (code.function .locals) 0) l₀ (AssignOut′.mach (r5 s pages nodes register x-l x-t f)) [])))))))))))))))))) $
-      returns ! (look ! 40 refl) $
-      move ! (40 ∷ 41 ∷ []) $ forget ! 0 refl $ free1 ! $ move ! (38 ∷ 39 ∷ []) $ forget ! 0 refl $ free1 ! $ move ! (36 ∷ 37 ∷ []) $ forget ! 0 refl $ free1 ! $ move ! (34 ∷ 35 ∷ []) $ forget ! 0 refl $ free1 ! $ move ! (32 ∷ 33 ∷ []) $ forget ! 0 refl $ free1 ! $ move ! (30 ∷ 31 ∷ []) $ forget ! 0 refl $ free1 ! $ move ! (28 ∷ 29 ∷ []) $ forget ! 0 refl $ free1 ! $ move ! (26 ∷ 27 ∷ []) $ forget ! 0 refl $ free1 ! $ move ! (24 ∷ 25 ∷ []) $ forget ! 0 refl $ free1 ! $ move ! (22 ∷ 23 ∷ []) $ forget ! 0 refl $ free1 ! $ move ! (20 ∷ 21 ∷ []) $ forget ! 0 refl $ free1 ! $ move ! (18 ∷ 19 ∷ []) $ forget ! 0 refl $ free1 ! $ move ! (16 ∷ 17 ∷ []) $ forget ! 0 refl $ free1 ! $ move ! (14 ∷ 15 ∷ []) $ forget ! 0 refl $ free1 ! $ move ! (12 ∷ 13 ∷ []) $ forget ! 0 refl $ free1 ! $ move ! (10 ∷ 11 ∷ []) $ forget ! 0 refl $ free1 ! $ move ! (8 ∷ 9 ∷ []) $ forget ! 0 refl $ free1 ! $ move ! (6 ∷ 7 ∷ []) $ forget ! 0 refl $ free1 ! $ free0 ! $ by ! (exits (r5 s pages nodes register x-l x-t f) ok·5 (register₄ s pages nodes register x-l x-t f) (sym (refl ∙ sym same·4-register)) (Facts.exit-1 s pages nodes register x-l x-t f ok·s (room·pages .0) (room·nodes .0) (room·register .0) ok·x-l ok·x-t ok·f ok·1 ok·2 (ok·3 .1) same·4-register ok·5))))))))))))))))))))))))))))
+      Call-lengths-of.calls ! mem run (fmOf 𝓤 H (W .laws) 𝓣) known-lengths-of κ·pages q·pages b·pages o·pages γ·pages (length pages) pages κ·nodes q·nodes b·nodes o·nodes γ·nodes (length nodes) nodes (ν·2-register ∷ []) fullShare b·register o·register γ·2-register (length register) register (and-then ! (load ! (from ! (stop !)) (look ! 39 refl)) (and-then ! (load ! (from ! (stop !)) (look ! 37 refl)) (and-then ! (load ! (from ! (stop !)) (look ! 11 refl)) (no-more !))))
+      (λ ok·2. move ! (4 ∷ 5 ∷ 6 ∷ []) $ back-shr ! tt Record′.row κ·register q·register b·register o·register γ·register (length register) register ν·2-register (refl) room·register $ move ! (2 ∷ 3 ∷ 4 ∷ 5 ∷ 0 ∷ 1 ∷ []) $ land ! (from ! (stop !)) (init ! 26 refl (Lengths′.typed 𝓤 H A W (r2 s pages nodes register x-l x-t f) ok·2)) $
+      here ! (‵ (flft κ·pages q·pages) ∷ ‵ (ShrAt u8 κ·pages b·pages o·pages γ·pages (length pages) pages) ∷ ‵ (flft κ·nodes q·nodes) ∷ ‵ (ShrAt u32 κ·nodes b·nodes o·nodes γ·nodes (length nodes) nodes) ∷ ‵ (flft κ·register q·register) ∷ ‵ (MutAt Record′.row κ·register b·register o·register γ·register (length register) register) ∷ empty (sliceTy (tyRef erased mut (pointee (Record′.row .written)))) l₁₉ (empty (tyRef erased mut (pointee (Record′.row .written))) l₁₈ (empty tyUnit l₁₇ (holds (sliceTy (tyRef erased imm (pointee (Record′.row .written)))) l₁₆ (sliceVal (b·register, o·register) (length register)) (holds (tyRef erased imm (pointee (Record′.row .written))) l₁₅ (vptr b·register o·register) (holds (sliceTy (tyRef erased imm (pointee (Record′.row .written)))) l₁₄ (sliceVal (b·register, o·register) (length register)) (holds (tyRef erased imm (pointee (Record′.row .written))) l₁₃ (vptr b·register o·register) (empty (tyInt w64) l₁₂ (empty (tyAt (code.function .locals) 11) l₁₁ (empty (tyAt (code.function .locals) 10) l₁₀ (holds (tyAt (code.function .locals) 9) l₉ (Lengths′.mach (r2 s pages nodes register x-l x-t f)) (holds (tyAt (code.function .locals) 8) l₈ (Record′.mach (r1 s pages nodes register x-l x-t f)) (holds (tyAt (code.function .locals) 7) l₇ (PageIndex′.mach f) (holds (tyAt (code.function .locals) 6) l₆ (Ticket′.mach x-t) (holds (tyAt (code.function .locals) 5) l₅ (Line′.mach x-l) (holds (sliceTy (tyRef (named 2) mut (pointee (Record′.row .written)))) l₄ (sliceVal (b·register, o·register) (length register)) (holds (sliceTy (tyRef (named 1) imm (pointee (u32 .written)))) l₃ (sliceVal (b·nodes, o·nodes) (length nodes)) (holds (sliceTy (tyRef (named 0) imm (pointee (u8 .written)))) l₂ (sliceVal (b·pages, o·pages) (length pages)) (holds (tyAt (code.function .locals) 1) l₁ (Store′.mach s) (empty (tyAt (code.function .locals) 0) l₀ [])))))))))))))))))))) $
+      Call-line-state.calls ! mem run (fmOf 𝓤 H (W .laws) 𝓣) known-line-state s x-l ok·s ok·x-l (and-then ! (load ! (from ! (stop !)) (look ! 43 refl)) (and-then ! (load ! (from ! (stop !)) (look ! 35 refl)) (no-more !)))
+      (λ ok·3. land ! (from ! (stop !)) (init ! 24 refl (Branch′.typed 𝓤 H A W (r3 s pages nodes register x-l x-t f) ok·3)) $
+      here ! (‵ (flft κ·pages q·pages) ∷ ‵ (ShrAt u8 κ·pages b·pages o·pages γ·pages (length pages) pages) ∷ ‵ (flft κ·nodes q·nodes) ∷ ‵ (ShrAt u32 κ·nodes b·nodes o·nodes γ·nodes (length nodes) nodes) ∷ ‵ (flft κ·register q·register) ∷ ‵ (MutAt Record′.row κ·register b·register o·register γ·register (length register) register) ∷ empty (sliceTy (tyRef erased mut (pointee (Record′.row .written)))) l₁₉ (empty (tyRef erased mut (pointee (Record′.row .written))) l₁₈ (empty tyUnit l₁₇ (holds (sliceTy (tyRef erased imm (pointee (Record′.row .written)))) l₁₆ (sliceVal (b·register, o·register) (length register)) (holds (tyRef erased imm (pointee (Record′.row .written))) l₁₅ (vptr b·register o·register) (holds (sliceTy (tyRef erased imm (pointee (Record′.row .written)))) l₁₄ (sliceVal (b·register, o·register) (length register)) (holds (tyRef erased imm (pointee (Record′.row .written))) l₁₃ (vptr b·register o·register) (empty (tyInt w64) l₁₂ (empty (tyAt (code.function .locals) 11) l₁₁ (holds (tyAt (code.function .locals) 10) l₁₀ (Branch′.mach (r3 s pages nodes register x-l x-t f)) (holds (tyAt (code.function .locals) 9) l₉ (Lengths′.mach (r2 s pages nodes register x-l x-t f)) (holds (tyAt (code.function .locals) 8) l₈ (Record′.mach (r1 s pages nodes register x-l x-t f)) (holds (tyAt (code.function .locals) 7) l₇ (PageIndex′.mach f) (holds (tyAt (code.function .locals) 6) l₆ (Ticket′.mach x-t) (holds (tyAt (code.function .locals) 5) l₅ (Line′.mach x-l) (holds (sliceTy (tyRef (named 2) mut (pointee (Record′.row .written)))) l₄ (sliceVal (b·register, o·register) (length register)) (holds (sliceTy (tyRef (named 1) imm (pointee (u32 .written)))) l₃ (sliceVal (b·nodes, o·nodes) (length nodes)) (holds (sliceTy (tyRef (named 0) imm (pointee (u8 .written)))) l₂ (sliceVal (b·pages, o·pages) (length pages)) (holds (tyAt (code.function .locals) 1) l₁ (Store′.mach s) (empty (tyAt (code.function .locals) 0) l₀ [])))))))))))))))))))) $
+      Call-new-update.calls ! mem run (fmOf 𝓤 H (W .laws) 𝓣) known-new-update ((r3 s pages nodes register x-l x-t f) .blob) f ((r1 s pages nodes register x-l x-t f) .n) (Branch′.ok-blob (r3 s pages nodes register x-l x-t f) ok·3) ok·f (Record′.ok-n (r1 s pages nodes register x-l x-t f) ok·1) (and-then ! (load ! (from ! (fld ! refl (stop !))) (look-in ! 25 (sub ! 4 refl (whole !)))) (and-then ! (load ! (from ! (stop !)) (look ! 31 refl)) (and-then ! (load ! (from ! (fld ! refl (stop !))) (look-in ! 29 (sub ! 0 refl (whole !)))) (no-more !))))
+      (λ ok·4. land ! (from ! (stop !)) (init ! 22 refl (NewUpdate′.typed 𝓤 H A W (r4 s pages nodes register x-l x-t f) ok·4)) $
+      here ! (‵ (flft κ·pages q·pages) ∷ ‵ (ShrAt u8 κ·pages b·pages o·pages γ·pages (length pages) pages) ∷ ‵ (flft κ·nodes q·nodes) ∷ ‵ (ShrAt u32 κ·nodes b·nodes o·nodes γ·nodes (length nodes) nodes) ∷ ‵ (flft κ·register q·register) ∷ ‵ (MutAt Record′.row κ·register b·register o·register γ·register (length register) register) ∷ empty (sliceTy (tyRef erased mut (pointee (Record′.row .written)))) l₁₉ (empty (tyRef erased mut (pointee (Record′.row .written))) l₁₈ (empty tyUnit l₁₇ (holds (sliceTy (tyRef erased imm (pointee (Record′.row .written)))) l₁₆ (sliceVal (b·register, o·register) (length register)) (holds (tyRef erased imm (pointee (Record′.row .written))) l₁₅ (vptr b·register o·register) (holds (sliceTy (tyRef erased imm (pointee (Record′.row .written)))) l₁₄ (sliceVal (b·register, o·register) (length register)) (holds (tyRef erased imm (pointee (Record′.row .written))) l₁₃ (vptr b·register o·register) (empty (tyInt w64) l₁₂ (holds (tyAt (code.function .locals) 11) l₁₁ (NewUpdate′.mach (r4 s pages nodes register x-l x-t f)) (holds (tyAt (code.function .locals) 10) l₁₀ (Branch′.mach (r3 s pages nodes register x-l x-t f)) (holds (tyAt (code.function .locals) 9) l₉ (Lengths′.mach (r2 s pages nodes register x-l x-t f)) (holds (tyAt (code.function .locals) 8) l₈ (Record′.mach (r1 s pages nodes register x-l x-t f)) (holds (tyAt (code.function .locals) 7) l₇ (PageIndex′.mach f) (holds (tyAt (code.function .locals) 6) l₆ (Ticket′.mach x-t) (holds (tyAt (code.function .locals) 5) l₅ (Line′.mach x-l) (holds (sliceTy (tyRef (named 2) mut (pointee (Record′.row .written)))) l₄ (sliceVal (b·register, o·register) (length register)) (holds (sliceTy (tyRef (named 1) imm (pointee (u32 .written)))) l₃ (sliceVal (b·nodes, o·nodes) (length nodes)) (holds (sliceTy (tyRef (named 0) imm (pointee (u8 .written)))) l₂ (sliceVal (b·pages, o·pages) (length pages)) (holds (tyAt (code.function .locals) 1) l₁ (Store′.mach s) (empty (tyAt (code.function .locals) 0) l₀ [])))))))))))))))))))) $
+      Call-assign-refusal.calls ! mem run (fmOf 𝓤 H (W .laws) 𝓣) known-assign-refusal s (r2 s pages nodes register x-l x-t f) (r1 s pages nodes register x-l x-t f) x-l x-t (r4 s pages nodes register x-l x-t f) ok·s ok·2 ok·1 ok·x-l ok·x-t ok·4 (Facts.assign-refusal-1 s pages nodes register x-l x-t f ok·s (room·pages .0) (room·nodes .0) (room·register .0) ok·x-l ok·x-t ok·f ok·1 ok·2 ok·3 ok·4) (and-then ! (load ! (from ! (stop !)) (look ! 43 refl)) (and-then ! (load ! (from ! (stop !)) (look ! 27 refl)) (and-then ! (load ! (from ! (stop !)) (look ! 29 refl)) (and-then ! (load ! (from ! (stop !)) (look ! 35 refl)) (and-then ! (load ! (from ! (stop !)) (look ! 33 refl)) (and-then ! (load ! (from ! (stop !)) (look ! 23 refl)) (no-more !)))))))
+      (λ ok·5. land ! (from ! (stop !)) (init ! 20 refl (tt, record { fits = ok·5 .1 })) $
+      here ! (‵ (flft κ·pages q·pages) ∷ ‵ (ShrAt u8 κ·pages b·pages o·pages γ·pages (length pages) pages) ∷ ‵ (flft κ·nodes q·nodes) ∷ ‵ (ShrAt u32 κ·nodes b·nodes o·nodes γ·nodes (length nodes) nodes) ∷ ‵ (flft κ·register q·register) ∷ ‵ (MutAt Record′.row κ·register b·register o·register γ·register (length register) register) ∷ empty (sliceTy (tyRef erased mut (pointee (Record′.row .written)))) l₁₉ (empty (tyRef erased mut (pointee (Record′.row .written))) l₁₈ (empty tyUnit l₁₇ (holds (sliceTy (tyRef erased imm (pointee (Record′.row .written)))) l₁₆ (sliceVal (b·register, o·register) (length register)) (holds (tyRef erased imm (pointee (Record′.row .written))) l₁₅ (vptr b·register o·register) (holds (sliceTy (tyRef erased imm (pointee (Record′.row .written)))) l₁₄ (sliceVal (b·register, o·register) (length register)) (holds (tyRef erased imm (pointee (Record′.row .written))) l₁₃ (vptr b·register o·register) (holds (tyInt w64) l₁₂ (vint w64 (r5 s pages nodes register x-l x-t f)) (holds (tyAt (code.function .locals) 11) l₁₁ (NewUpdate′.mach (r4 s pages nodes register x-l x-t f)) (holds (tyAt (code.function .locals) 10) l₁₀ (Branch′.mach (r3 s pages nodes register x-l x-t f)) (holds (tyAt (code.function .locals) 9) l₉ (Lengths′.mach (r2 s pages nodes register x-l x-t f)) (holds (tyAt (code.function .locals) 8) l₈ (Record′.mach (r1 s pages nodes register x-l x-t f)) (holds (tyAt (code.function .locals) 7) l₇ (PageIndex′.mach f) (holds (tyAt (code.function .locals) 6) l₆ (Ticket′.mach x-t) (holds (tyAt (code.function .locals) 5) l₅ (Line′.mach x-l) (holds (sliceTy (tyRef (named 2) mut (pointee (Record′.row .written)))) l₄ (sliceVal (b·register, o·register) (length register)) (holds (sliceTy (tyRef (named 1) imm (pointee (u32 .written)))) l₃ (sliceVal (b·nodes, o·nodes) (length nodes)) (holds (sliceTy (tyRef (named 0) imm (pointee (u8 .written)))) l₂ (sliceVal (b·pages, o·pages) (length pages)) (holds (tyAt (code.function .locals) 1) l₁ (Store′.mach s) (empty (tyAt (code.function .locals) 0) l₀ [])))))))))))))))))))) $
+      assigns ! (addr ! (from ! (fld ! refl (hop ! (look-in ! 36 (sub ! 0 refl (whole !))) (stop !))))) (from ! (stop !)) (init ! 8 refl (tt, tt)) $
+      assigns ! (agg ! (and-then ! (load ! (from ! (stop !)) (look ! 8 refl)) (and-then ! (load ! (from ! (fld ! refl (stop !))) (look-in ! 36 (sub ! 1 refl (whole !)))) (no-more !)))) (from ! (stop !)) (init ! 6 refl (tt, (tt, (record { fits = room·register .0 }, tt)))) $
+      move ! (4 ∷ 5 ∷ []) $ lend-mut ! tt Record′.row κ·register q·register b·register o·register γ·register (length register) register (refl) (λ ν·6-register γ·6-register.
+      Call-note-update.calls ! mem run (fmOf 𝓤 H (W .laws) 𝓣) known-note-update (ν·6-register ∷ []) fullShare b·register o·register γ·6-register (length register) register (r5 s pages nodes register x-l x-t f) s x-l x-t (r1 s pages nodes register x-l x-t f) (r4 s pages nodes register x-l x-t f) ok·5 ok·s ok·x-l ok·x-t ok·1 ok·4 (Facts.note-update-1 s pages nodes register x-l x-t f ok·s (room·pages .0) (room·nodes .0) (room·register .0) ok·x-l ok·x-t ok·f ok·1 ok·2 ok·3 ok·4 (ok·5 .1)) (and-then ! (load ! (from ! (stop !)) (look ! 6 refl)) (and-then ! (load ! (from ! (stop !)) (look ! 20 refl)) (and-then ! (load ! (from ! (stop !)) (look ! 42 refl)) (and-then ! (load ! (from ! (stop !)) (look ! 34 refl)) (and-then ! (load ! (from ! (stop !)) (look ! 32 refl)) (and-then ! (load ! (from ! (stop !)) (look ! 28 refl)) (and-then ! (load ! (from ! (stop !)) (look ! 22 refl)) (no-more !))))))))
+      (λ same·6-register. back-mut ! tt Record′.row κ·register q·register b·register o·register γ·register (length register) register (register₆ s pages nodes register x-l x-t f) ν·6-register γ·6-register (refl) same·6-register room·register $ move ! (2 ∷ 3 ∷ 4 ∷ 5 ∷ 0 ∷ 1 ∷ []) $ land ! (from ! (stop !)) (init ! 10 refl (tt, tt)) $
+      here ! (‵ (flft κ·pages q·pages) ∷ ‵ (ShrAt u8 κ·pages b·pages o·pages γ·pages (length pages) pages) ∷ ‵ (flft κ·nodes q·nodes) ∷ ‵ (ShrAt u32 κ·nodes b·nodes o·nodes γ·nodes (length nodes) nodes) ∷ ‵ (flft κ·register q·register) ∷ ‵ (MutAt Record′.row κ·register b·register o·register γ·register (length register) (register₆ s pages nodes register x-l x-t f)) ∷ holds (sliceTy (tyRef erased mut (pointee (Record′.row .written)))) l₁₉ (sliceVal (b·register, o·register) (length register)) (holds (tyRef erased mut (pointee (Record′.row .written))) l₁₈ (vptr b·register o·register) (holds tyUnit l₁₇ vunit (holds (sliceTy (tyRef erased imm (pointee (Record′.row .written)))) l₁₆ (sliceVal (b·register, o·register) (length register)) (holds (tyRef erased imm (pointee (Record′.row .written))) l₁₅ (vptr b·register o·register) (holds (sliceTy (tyRef erased imm (pointee (Record′.row .written)))) l₁₄ (sliceVal (b·register, o·register) (length register)) (holds (tyRef erased imm (pointee (Record′.row .written))) l₁₃ (vptr b·register o·register) (holds (tyInt w64) l₁₂ (vint w64 (r5 s pages nodes register x-l x-t f)) (holds (tyAt (code.function .locals) 11) l₁₁ (NewUpdate′.mach (r4 s pages nodes register x-l x-t f)) (holds (tyAt (code.function .locals) 10) l₁₀ (Branch′.mach (r3 s pages nodes register x-l x-t f)) (holds (tyAt (code.function .locals) 9) l₉ (Lengths′.mach (r2 s pages nodes register x-l x-t f)) (holds (tyAt (code.function .locals) 8) l₈ (Record′.mach (r1 s pages nodes register x-l x-t f)) (holds (tyAt (code.function .locals) 7) l₇ (PageIndex′.mach f) (holds (tyAt (code.function .locals) 6) l₆ (Ticket′.mach x-t) (holds (tyAt (code.function .locals) 5) l₅ (Line′.mach x-l) (holds (sliceTy (tyRef (named 2) mut (pointee (Record′.row .written)))) l₄ (sliceVal (b·register, o·register) (length register)) (holds (sliceTy (tyRef (named 1) imm (pointee (u32 .written)))) l₃ (sliceVal (b·nodes, o·nodes) (length nodes)) (holds (sliceTy (tyRef (named 0) imm (pointee (u8 .written)))) l₂ (sliceVal (b·pages, o·pages) (length pages)) (holds (tyAt (code.function .locals) 1) l₁ (Store′.mach s) (empty (tyAt (code.function .locals) 0) l₀ [])))))))))))))))))))) $
+      Call-assigned-by.calls ! mem run (fmOf 𝓤 H (W .laws) 𝓣) known-assigned-by s x-l (r4 s pages nodes register x-l x-t f) (r5 s pages nodes register x-l x-t f) ok·s ok·x-l ok·4 ok·5 (Facts.assigned-by-1 s pages nodes register x-l x-t f ok·s (room·pages .0) (room·nodes .0) (room·register .0) ok·x-l ok·x-t ok·f ok·1 ok·2 ok·3 ok·4 (ok·5 .1) same·6-register) (and-then ! (load ! (from ! (stop !)) (look ! 43 refl)) (and-then ! (load ! (from ! (stop !)) (look ! 35 refl)) (and-then ! (load ! (from ! (stop !)) (look ! 23 refl)) (and-then ! (load ! (from ! (stop !)) (look ! 21 refl)) (no-more !)))))
+      (λ ok·7. land ! (from ! (stop !)) (init ! 44 refl (AssignOut′.typed 𝓤 H A W (r7 s pages nodes register x-l x-t f) ok·7)) $
+      here ! (‵ (flft κ·pages q·pages) ∷ ‵ (ShrAt u8 κ·pages b·pages o·pages γ·pages (length pages) pages) ∷ ‵ (flft κ·nodes q·nodes) ∷ ‵ (ShrAt u32 κ·nodes b·nodes o·nodes γ·nodes (length nodes) nodes) ∷ ‵ (flft κ·register q·register) ∷ ‵ (MutAt Record′.row κ·register b·register o·register γ·register (length register) (register₆ s pages nodes register x-l x-t f)) ∷ holds (sliceTy (tyRef erased mut (pointee (Record′.row .written)))) l₁₉ (sliceVal (b·register, o·register) (length register)) (holds (tyRef erased mut (pointee (Record′.row .written))) l₁₈ (vptr b·register o·register) (holds tyUnit l₁₇ vunit (holds (sliceTy (tyRef erased imm (pointee (Record′.row .written)))) l₁₆ (sliceVal (b·register, o·register) (length register)) (holds (tyRef erased imm (pointee (Record′.row .written))) l₁₅ (vptr b·register o·register) (holds (sliceTy (tyRef erased imm (pointee (Record′.row .written)))) l₁₄ (sliceVal (b·register, o·register) (length register)) (holds (tyRef erased imm (pointee (Record′.row .written))) l₁₃ (vptr b·register o·register) (holds (tyInt w64) l₁₂ (vint w64 (r5 s pages nodes register x-l x-t f)) (holds (tyAt (code.function .locals) 11) l₁₁ (NewUpdate′.mach (r4 s pages nodes register x-l x-t f)) (holds (tyAt (code.function .locals) 10) l₁₀ (Branch′.mach (r3 s pages nodes register x-l x-t f)) (holds (tyAt (code.function .locals) 9) l₉ (Lengths′.mach (r2 s pages nodes register x-l x-t f)) (holds (tyAt (code.function .locals) 8) l₈ (Record′.mach (r1 s pages nodes register x-l x-t f)) (holds (tyAt (code.function .locals) 7) l₇ (PageIndex′.mach f) (holds (tyAt (code.function .locals) 6) l₆ (Ticket′.mach x-t) (holds (tyAt (code.function .locals) 5) l₅ (Line′.mach x-l) (holds (sliceTy (tyRef (named 2) mut (pointee (Record′.row .written)))) l₄ (sliceVal (b·register, o·register) (length register)) (holds (sliceTy (tyRef (named 1) imm (pointee (u32 .written)))) l₃ (sliceVal (b·nodes, o·nodes) (length nodes)) (holds (sliceTy (tyRef (named 0) imm (pointee (u8 .written)))) l₂ (sliceVal (b·pages, o·pages) (length pages)) (holds (tyAt (code.function .locals) 1) l₁ (Store′.mach s) (holds (tyAt (code.function .locals) 0) l₀ (AssignOut′.mach (r7 s pages nodes register x-l x-t f)) [])))))))))))))))))))) $
+      returns ! (look ! 44 refl) $
+      move ! (44 ∷ 45 ∷ []) $ forget ! 0 refl $ free1 ! $ move ! (42 ∷ 43 ∷ []) $ forget ! 0 refl $ free1 ! $ move ! (40 ∷ 41 ∷ []) $ forget ! 0 refl $ free1 ! $ move ! (38 ∷ 39 ∷ []) $ forget ! 0 refl $ free1 ! $ move ! (36 ∷ 37 ∷ []) $ forget ! 0 refl $ free1 ! $ move ! (34 ∷ 35 ∷ []) $ forget ! 0 refl $ free1 ! $ move ! (32 ∷ 33 ∷ []) $ forget ! 0 refl $ free1 ! $ move ! (30 ∷ 31 ∷ []) $ forget ! 0 refl $ free1 ! $ move ! (28 ∷ 29 ∷ []) $ forget ! 0 refl $ free1 ! $ move ! (26 ∷ 27 ∷ []) $ forget ! 0 refl $ free1 ! $ move ! (24 ∷ 25 ∷ []) $ forget ! 0 refl $ free1 ! $ move ! (22 ∷ 23 ∷ []) $ forget ! 0 refl $ free1 ! $ move ! (20 ∷ 21 ∷ []) $ forget ! 0 refl $ free1 ! $ move ! (18 ∷ 19 ∷ []) $ forget ! 0 refl $ free1 ! $ move ! (16 ∷ 17 ∷ []) $ forget ! 0 refl $ free1 ! $ move ! (14 ∷ 15 ∷ []) $ forget ! 0 refl $ free1 ! $ move ! (12 ∷ 13 ∷ []) $ forget ! 0 refl $ free1 ! $ move ! (10 ∷ 11 ∷ []) $ forget ! 0 refl $ free1 ! $ move ! (8 ∷ 9 ∷ []) $ forget ! 0 refl $ free1 ! $ move ! (6 ∷ 7 ∷ []) $ forget ! 0 refl $ free1 ! $ free0 ! $ by ! (exits (r7 s pages nodes register x-l x-t f) ok·7 (register₆ s pages nodes register x-l x-t f) (sym (refl ∙ sym same·6-register)) (Facts.exit-1 s pages nodes register x-l x-t f ok·s (room·pages .0) (room·nodes .0) (room·register .0) ok·x-l ok·x-t ok·f ok·1 ok·2 ok·3 ok·4 (ok·5 .1) same·6-register ok·7))))))))))))))))))))))))))))))))
 
 module _ {M : Type 1} (𝓤 : URA M) (H : Heap 𝓤) (A : Atoms 𝓤) (W : Given 𝓤 H A) (mem : Memory → SProp 𝓤) (run : Routine → Fun 𝓤) where
-  walks : (𝓣 : Tables 𝓤 H) → Triple 𝓤 (𝓣 .C #ticket-record) (Call-ticket-record.Asked 𝓤 H A mem run) → Triple 𝓤 (𝓣 .C #lengths-of) (Call-lengths-of.Asked 𝓤 H A mem run) → Triple 𝓤 (𝓣 .C #assign-refusal) (Call-assign-refusal.Asked 𝓤 H A mem run) → Triple 𝓤 (𝓣 .C #note-update) (Call-note-update.Asked 𝓤 H A mem run) → Triple 𝓤 (𝓣 .C #assigned-by) (Call-assigned-by.Asked 𝓤 H A mem run) → Walks 𝓤 H A write‴.ended stayed (WpFn 𝓤 H (𝓣 .C) (𝓣 .Λ) code.function) (write‴.clauses 𝓤 H A mem run)
-  walks 𝓣 known-ticket-record known-lengths-of known-assign-refusal known-note-update known-assigned-by = walked 𝓤 H A write‴.ended stayed (write‴.clauses 𝓤 H A mem run) (WpFn 𝓤 H (𝓣 .C) (𝓣 .Λ) code.function) (λ κs. (Store′.vals, (slice-vals, (slice-vals, (slice-vals, (Line′.vals, (Ticket′.vals, (PageIndex′.vals, tt)))))))) (λ κs. (Store′.tells, (shr-slice-tells (named 0) (κs .0) u8, (shr-slice-tells (named 0) (κs .1 .0) u32, (mut-slice-tells (named 0) (κs .1 .1 .0) Record′.row, (Line′.tells, (Ticket′.tells, (PageIndex′.tells, tt))))))))
-      (λ κs qs bounds a g are. via 𝓤 _ (fst∗ 𝓤 _ (emp 𝓤)) (walk 𝓤 H A W mem run (a .0) (κs .0) (qs .0) (a .1 .0 .ptr .0) (a .1 .0 .ptr .1) (a .1 .0 .name) (a .1 .0 .now) (κs .1 .0) (qs .1 .0) (a .1 .1 .0 .ptr .0) (a .1 .1 .0 .ptr .1) (a .1 .1 .0 .name) (a .1 .1 .0 .now) (κs .1 .1 .0) (qs .1 .1 .0) (a .1 .1 .1 .0 .ptr .0) (a .1 .1 .1 .0 .ptr .1) (a .1 .1 .1 .0 .name) (a .1 .1 .1 .0 .now) (a .1 .1 .1 .1 .0) (a .1 .1 .1 .1 .1 .0) (a .1 .1 .1 .1 .1 .1 .0) (are .0) (are .1 .0 .0 .1) (are .1 .1 .0 .0 .1) (are .1 .1 .1 .0 .0 .1) (are .1 .1 .1 .1 .0) (are .1 .1 .1 .1 .1 .0) (are .1 .1 .1 .1 .1 .1 .0) 𝓣 known-ticket-record known-lengths-of known-assign-refusal known-note-update known-assigned-by))
+  walks : (𝓣 : Tables 𝓤 H) → Triple 𝓤 (𝓣 .C #ticket-record) (Call-ticket-record.Asked 𝓤 H A mem run) → Triple 𝓤 (𝓣 .C #lengths-of) (Call-lengths-of.Asked 𝓤 H A mem run) → Triple 𝓤 (𝓣 .C #line-state) (Call-line-state.Asked 𝓤 H A mem run) → Triple 𝓤 (𝓣 .C #new-update) (Call-new-update.Asked 𝓤 H A mem run) → Triple 𝓤 (𝓣 .C #assign-refusal) (Call-assign-refusal.Asked 𝓤 H A mem run) → Triple 𝓤 (𝓣 .C #note-update) (Call-note-update.Asked 𝓤 H A mem run) → Triple 𝓤 (𝓣 .C #assigned-by) (Call-assigned-by.Asked 𝓤 H A mem run) → Walks 𝓤 H A write‴.ended stayed (WpFn 𝓤 H (𝓣 .C) (𝓣 .Λ) code.function) (write‴.clauses 𝓤 H A mem run)
+  walks 𝓣 known-ticket-record known-lengths-of known-line-state known-new-update known-assign-refusal known-note-update known-assigned-by = walked 𝓤 H A write‴.ended stayed (write‴.clauses 𝓤 H A mem run) (WpFn 𝓤 H (𝓣 .C) (𝓣 .Λ) code.function) (λ κs. (Store′.vals, (slice-vals, (slice-vals, (slice-vals, (Line′.vals, (Ticket′.vals, (PageIndex′.vals, tt)))))))) (λ κs. (Store′.tells, (shr-slice-tells (named 0) (κs .0) u8, (shr-slice-tells (named 0) (κs .1 .0) u32, (mut-slice-tells (named 0) (κs .1 .1 .0) Record′.row, (Line′.tells, (Ticket′.tells, (PageIndex′.tells, tt))))))))
+      (λ κs qs bounds a g are. via 𝓤 _ (fst∗ 𝓤 _ (emp 𝓤)) (walk 𝓤 H A W mem run (a .0) (κs .0) (qs .0) (a .1 .0 .ptr .0) (a .1 .0 .ptr .1) (a .1 .0 .name) (a .1 .0 .now) (κs .1 .0) (qs .1 .0) (a .1 .1 .0 .ptr .0) (a .1 .1 .0 .ptr .1) (a .1 .1 .0 .name) (a .1 .1 .0 .now) (κs .1 .1 .0) (qs .1 .1 .0) (a .1 .1 .1 .0 .ptr .0) (a .1 .1 .1 .0 .ptr .1) (a .1 .1 .1 .0 .name) (a .1 .1 .1 .0 .now) (a .1 .1 .1 .1 .0) (a .1 .1 .1 .1 .1 .0) (a .1 .1 .1 .1 .1 .1 .0) (are .0) (are .1 .0 .0 .1) (are .1 .1 .0 .0 .1) (are .1 .1 .1 .0 .0 .1) (are .1 .1 .1 .1 .0) (are .1 .1 .1 .1 .1 .0) (are .1 .1 .1 .1 .1 .1 .0) 𝓣 known-ticket-record known-lengths-of known-line-state known-new-update known-assign-refusal known-note-update known-assigned-by))
 
-meets : {M : Type 1} (𝓤 : URA M) (H : Heap 𝓤) (A : Atoms 𝓤) → Given 𝓤 H A → (mem : Memory → SProp 𝓤) (run : Routine → Fun 𝓤) (𝓣 : Tables 𝓤 H) → Triple 𝓤 (𝓣 .C #ticket-record) (Call-ticket-record.Asked 𝓤 H A mem run) → Triple 𝓤 (𝓣 .C #lengths-of) (Call-lengths-of.Asked 𝓤 H A mem run) → Triple 𝓤 (𝓣 .C #assign-refusal) (Call-assign-refusal.Asked 𝓤 H A mem run) → Triple 𝓤 (𝓣 .C #note-update) (Call-note-update.Asked 𝓤 H A mem run) → Triple 𝓤 (𝓣 .C #assigned-by) (Call-assigned-by.Asked 𝓤 H A mem run)
+meets : {M : Type 1} (𝓤 : URA M) (H : Heap 𝓤) (A : Atoms 𝓤) → Given 𝓤 H A → (mem : Memory → SProp 𝓤) (run : Routine → Fun 𝓤) (𝓣 : Tables 𝓤 H) → Triple 𝓤 (𝓣 .C #ticket-record) (Call-ticket-record.Asked 𝓤 H A mem run) → Triple 𝓤 (𝓣 .C #lengths-of) (Call-lengths-of.Asked 𝓤 H A mem run) → Triple 𝓤 (𝓣 .C #line-state) (Call-line-state.Asked 𝓤 H A mem run) → Triple 𝓤 (𝓣 .C #new-update) (Call-new-update.Asked 𝓤 H A mem run) → Triple 𝓤 (𝓣 .C #assign-refusal) (Call-assign-refusal.Asked 𝓤 H A mem run) → Triple 𝓤 (𝓣 .C #note-update) (Call-note-update.Asked 𝓤 H A mem run) → Triple 𝓤 (𝓣 .C #assigned-by) (Call-assigned-by.Asked 𝓤 H A mem run)
     → Meets 𝓤 H A write‴.signature (WpFn 𝓤 H (𝓣 .C) (𝓣 .Λ) code.function) (write‴.spec 𝓤 H A mem run)
-meets 𝓤 H A W mem run 𝓣 known-ticket-record known-lengths-of known-assign-refusal known-note-update known-assigned-by =
+meets 𝓤 H A W mem run 𝓣 known-ticket-record known-lengths-of known-line-state known-new-update known-assign-refusal known-note-update known-assigned-by =
     walk-meets 𝓤 H A write‴.ended stayed W (goes-none 𝓤 H A W 3 (λ _. Store′.row) yes (λ κs x f. refl), (goes-none-slice 𝓤 H A W 3 (0 ∷ []) tt (plain (λ _. u8)) yes, (goes-none-slice 𝓤 H A W 3 (1 ∷ []) tt (plain (λ _. u32)) yes, (goes-slice 𝓤 H A W 3 2 tt (plain (λ _. Record′.row)), (goes-none 𝓤 H A W 3 (λ _. Line′.row) yes (λ κs x f. refl), (goes-none 𝓤 H A W 3 (λ _. Ticket′.row) yes (λ κs x f. refl), (goes-none 𝓤 H A W 3 (λ _. PageIndex′.row) yes (λ κs x f. refl), tt))))))) (write‴.clauses 𝓤 H A mem run)
-    (WpFn 𝓤 H (𝓣 .C) (𝓣 .Λ) code.function) (WpFn-mono 𝓤 H (W .laws) 𝓣 code.function) (walks 𝓤 H A W mem run 𝓣 known-ticket-record known-lengths-of known-assign-refusal known-note-update known-assigned-by)
+    (WpFn 𝓤 H (𝓣 .C) (𝓣 .Λ) code.function) (WpFn-mono 𝓤 H (W .laws) 𝓣 code.function) (walks 𝓤 H A W mem run 𝓣 known-ticket-record known-lengths-of known-line-state known-new-update known-assign-refusal known-note-update known-assigned-by)
 
 pub write-spec : {M : Type 1} → stated.statement M
 unfolding code.routine tablesOf
@@ -170,6 +190,8 @@ write-spec 𝓤 H 𝓜 𝓖 𝓡 =
     (meets 𝓤 H (𝓖 .A) (givenOf 𝓤 H 𝓜 𝓖) (𝓜 .mem) (𝓡 .run) (tablesOf 𝓤 H 𝓜 (tables 𝓤 H 𝓜 𝓡 code.env))
     (cited 𝓤 H (Call-ticket-record.Asked 𝓤 H (𝓖 .A) (𝓜 .mem) (𝓡 .run)) 𝓜 𝓡 code.env #ticket-record def-ticket-record.routine code.calls-register·ticket-record (thm-ticket-record.met 𝓤 H 𝓜 𝓖 𝓡))
     (cited 𝓤 H (Call-lengths-of.Asked 𝓤 H (𝓖 .A) (𝓜 .mem) (𝓡 .run)) 𝓜 𝓡 code.env #lengths-of def-lengths-of.routine code.calls-versions·lengths-of (thm-lengths-of.met 𝓤 H 𝓜 𝓖 𝓡))
+    (cited 𝓤 H (Call-line-state.Asked 𝓤 H (𝓖 .A) (𝓜 .mem) (𝓡 .run)) 𝓜 𝓡 code.env #line-state def-line-state.routine code.calls-versions·line-state (thm-line-state.met 𝓤 H 𝓜 𝓖 𝓡))
+    (cited 𝓤 H (Call-new-update.Asked 𝓤 H (𝓖 .A) (𝓜 .mem) (𝓡 .run)) 𝓜 𝓡 code.env #new-update def-new-update.routine code.calls-assign·new-update (thm-new-update.met 𝓤 H 𝓜 𝓖 𝓡))
     (cited 𝓤 H (Call-assign-refusal.Asked 𝓤 H (𝓖 .A) (𝓜 .mem) (𝓡 .run)) 𝓜 𝓡 code.env #assign-refusal def-assign-refusal.routine code.calls-assign·assign-refusal (thm-assign-refusal.met 𝓤 H 𝓜 𝓖 𝓡))
     (cited 𝓤 H (Call-note-update.Asked 𝓤 H (𝓖 .A) (𝓜 .mem) (𝓡 .run)) 𝓜 𝓡 code.env #note-update def-note-update.routine code.calls-assign·note-update (thm-note-update.met 𝓤 H 𝓜 𝓖 𝓡))
     (cited 𝓤 H (Call-assigned-by.Asked 𝓤 H (𝓖 .A) (𝓜 .mem) (𝓡 .run)) 𝓜 𝓡 code.env #assigned-by def-assigned-by.routine code.calls-assign·assigned-by (thm-assigned-by.met 𝓤 H 𝓜 𝓖 𝓡)))

@@ -1,10 +1,9 @@
--- `tree::height_of` meets its contract: a span is the root's for its own size, and the root's height is a length in bits.
+-- `tree::height_of` meets its contract: the number below a span has as many bits as the span's height.
 -- Assumes nothing.
-use mathlib.Core.Path.{sym, _∙_}
 use Prim.Native.Nat.{_-_}
 use native.Mathlib.Omega.{arith}
 use lib.Count.{leading-le}
-use Rattle.tree.proofs.Root.{root-pow, root-zeros}
+use Rattle.tree.proofs.Root.{span-zeros}
 use Rattle.tree.proofs.height_of.Statement.{statement}
 use Rattle.tree.proofs.height_of.Tie as tie
 
@@ -18,7 +17,7 @@ sub-result-2 : tie.Need-sub-result-2
 sub-result-2 c = leading-le 64 (c .args .span - 1)
 
 returns : tie.Need-returns
-returns c = λ h e. root-zeros (c .args .span) (omega arith) (omega arith) ∙ rw e (sym (root-pow h))
+returns c = λ h e. rw e (span-zeros h (omega (arith, e)))
 
 pub height-of-spec : {M : Type 1} → statement M
 height-of-spec = tie.close (tie.spec sub-result cast-result sub-result-2 returns)

@@ -46,6 +46,8 @@ use Rattle.lines.specs.declared.Entries.{Entries}
 use Rattle.register.proofs.Generated.Kind.Entries as Entries′
 use Rattle.lines.specs.declared.Line.{Line}
 use Rattle.register.proofs.Generated.Kind.Line as Line′
+use Rattle.assign.specs.declared.NewUpdate.{NewUpdate}
+use Rattle.assign.proofs.Generated.Kind.NewUpdate as NewUpdate′
 use Rattle.register.proofs.Generated.Flow.{ref, MutAt, ShrAt, keeps-shr, plus-nothing}
 use Rattle.assign.proofs.assign_refusal as callee
 use Rattle.assign.proofs.assign_refusal.Symbol.{name as #callee}
@@ -54,53 +56,53 @@ module _ {M : Type 1} (𝓤 : URA M) (H : Heap 𝓤) (A : Atoms 𝓤) (mem : Mem
   abbrev pub Asked : Contract 𝓤
   Asked = tripleOf 𝓤 H A callee.signature (callee.spec 𝓤 H A mem run)
 
-  abbrev pub to : (s : Store) (g : Lengths) (x-r : Record) (x-l : Line) (x-t : Ticket) (f : PageIndex) → Asked .Ghost
-  to s g x-r x-l x-t f = ((tt, tt, tt, (s, (g, (x-r, (x-l, (x-t, (f, tt)))))), (Store′.mach s ∷ [], (Lengths′.mach g ∷ [], (Record′.mach x-r ∷ [], (Line′.mach x-l ∷ [], (Ticket′.mach x-t ∷ [], (PageIndex′.mach f ∷ [], tt))))))), tt)
+  abbrev pub to : (s : Store) (g : Lengths) (x-r : Record) (x-l : Line) (x-t : Ticket) (x-u : NewUpdate) → Asked .Ghost
+  to s g x-r x-l x-t x-u = ((tt, tt, tt, (s, (g, (x-r, (x-l, (x-t, (x-u, tt)))))), (Store′.mach s ∷ [], (Lengths′.mach g ∷ [], (Record′.mach x-r ∷ [], (Line′.mach x-l ∷ [], (Ticket′.mach x-t ∷ [], (NewUpdate′.mach x-u ∷ [], tt))))))), tt)
 
 module _ {M : Type 1} {𝓤 : URA M} {H : Heap 𝓤} {A : Atoms 𝓤} {K : Type 0} {W : Given 𝓤 H A} {Γ : List (Item 𝓤)} where
   -- the call itself is made by `by-call`, from what the callee asks to what it has ensured
-  core : K → (mem : Memory → SProp 𝓤) (run : Routine → Fun 𝓤) → (s : Store) (g : Lengths) (x-r : Record) (x-l : Line) (x-t : Ticket) (f : PageIndex) → (G : Goal 𝓤 H) (after : Val → Goal 𝓤 H) → ((v : Val) → Soaks (after v))
-      → (((v : Val) → Seq K W (raw (Asked 𝓤 H A mem run .post (to 𝓤 H A mem run s g x-r x-l x-t f) v) ∷ Γ) (after v)) → Seq K W (raw (Asked 𝓤 H A mem run .pre (to 𝓤 H A mem run s g x-r x-l x-t f)) ∷ Γ) G) → Is Store′.row s (Store′.vals s) → Is Lengths′.row g (Lengths′.vals g) → Is Record′.row x-r (Record′.vals x-r) → Is Line′.row x-l (Line′.vals x-l) → Is Ticket′.row x-t (Ticket′.vals x-t) → Is PageIndex′.row f (PageIndex′.vals f) →
-      (Is u64 (assign-refusal″.res s g x-r x-l x-t f) (uint-vals w64 (assign-refusal″.res s g x-r x-l x-t f)) → Seq K W (Γ) (after (vint w64 (assign-refusal″.res s g x-r x-l x-t f)))) → Seq K W (Γ) G
-  core t mem run s g x-r x-l x-t f G after soaks by-call ok·s ok·g ok·x-r ok·x-l ok·x-t ok·f k =
-      use0 W (raw (Asked 𝓤 H A mem run .pre (to 𝓤 H A mem run s g x-r x-l x-t f))) goes $
+  core : K → (mem : Memory → SProp 𝓤) (run : Routine → Fun 𝓤) → (s : Store) (g : Lengths) (x-r : Record) (x-l : Line) (x-t : Ticket) (x-u : NewUpdate) → (G : Goal 𝓤 H) (after : Val → Goal 𝓤 H) → ((v : Val) → Soaks (after v))
+      → (((v : Val) → Seq K W (raw (Asked 𝓤 H A mem run .post (to 𝓤 H A mem run s g x-r x-l x-t x-u) v) ∷ Γ) (after v)) → Seq K W (raw (Asked 𝓤 H A mem run .pre (to 𝓤 H A mem run s g x-r x-l x-t x-u)) ∷ Γ) G) → Is Store′.row s (Store′.vals s) → Is Lengths′.row g (Lengths′.vals g) → Is Record′.row x-r (Record′.vals x-r) → Is Line′.row x-l (Line′.vals x-l) → Is Ticket′.row x-t (Ticket′.vals x-t) → Is NewUpdate′.row x-u (NewUpdate′.vals x-u) → assign-refusal″.req s g x-r x-l x-t x-u →
+      (Is u64 (assign-refusal″.res s g x-r x-l x-t x-u) (uint-vals w64 (assign-refusal″.res s g x-r x-l x-t x-u)) → Seq K W (Γ) (after (vint w64 (assign-refusal″.res s g x-r x-l x-t x-u)))) → Seq K W (Γ) G
+  core t mem run s g x-r x-l x-t x-u G after soaks by-call ok·s ok·g ok·x-r ok·x-l ok·x-t ok·x-u need k =
+      use0 W (raw (Asked 𝓤 H A mem run .pre (to 𝓤 H A mem run s g x-r x-l x-t x-u))) goes $
       by-call (λ v.
-      use1 W (later (some (λ (r· : ℕ). ((‵ ftrue) ⊛ ‵ (u64 .own r· (v ∷ []))) ⊛ raw (ensured 𝓤 H A callee.ended (callee.clauses 𝓤 H A mem run) tt (s, (g, (x-r, (x-l, (x-t, (f, tt)))))) tt r·)))) (id⊢ 𝓤 _) $ await t (soaks v) $ pick t (λ r·. split t $ move t (1 ∷ []) $
-      use1 W (some (λ (ws : Lasts callee.ended tt (s, (g, (x-r, (x-l, (x-t, (f, tt))))))). ‵ (lasts callee.ended tt (s, (g, (x-r, (x-l, (x-t, (f, tt)))))) ws) ⊛ raw (fact 𝓤 (assign-refusal″.ens s g x-r x-l x-t f r·)))) (id⊢ 𝓤 _) $ pick t (λ ws. split t $ move t (1 ∷ []) $
-      heard t (assign-refusal″.ens s g x-r x-l x-t f r·) (λ e. drop t $ split t $ move t (1 ∷ []) $ facts t u64 (Is u64) (shows 𝓤 H A u64) r· (v ∷ []) (λ is. drop t $
+      use1 W (later (some (λ (r· : ℕ). ((‵ ftrue) ⊛ ‵ (u64 .own r· (v ∷ []))) ⊛ raw (ensured 𝓤 H A callee.ended (callee.clauses 𝓤 H A mem run) tt (s, (g, (x-r, (x-l, (x-t, (x-u, tt)))))) tt r·)))) (id⊢ 𝓤 _) $ await t (soaks v) $ pick t (λ r·. split t $ move t (1 ∷ []) $
+      use1 W (some (λ (ws : Lasts callee.ended tt (s, (g, (x-r, (x-l, (x-t, (x-u, tt))))))). ‵ (lasts callee.ended tt (s, (g, (x-r, (x-l, (x-t, (x-u, tt)))))) ws) ⊛ raw (fact 𝓤 (assign-refusal″.ens s g x-r x-l x-t x-u r·)))) (id⊢ 𝓤 _) $ pick t (λ ws. split t $ move t (1 ∷ []) $
+      heard t (assign-refusal″.ens s g x-r x-l x-t x-u r·) (λ e. drop t $ split t $ move t (1 ∷ []) $ facts t u64 (Is u64) (shows 𝓤 H A u64) r· (v ∷ []) (λ is. drop t $
       subst (λ (u : Val). Seq K W (Γ) (after u)) (sym (ap only (uint-tells w64 r· (v ∷ []) is) ∙ ap (λ (z : ℕ). vint w64 z) (e))) (k (subst (λ (z : ℕ). Is u64 z (uint-vals w64 z)) (e) (subst (Is u64 r·) (uint-tells w64 r· (v ∷ []) is) is))))))))
     where
-      goes : ent 𝓤 (⋆ 𝓤 H A ([])) (Asked 𝓤 H A mem run .pre (to 𝓤 H A mem run s g x-r x-l x-t f))
-      goes = qed W ([]) ∵ plus-nothing ! $ nothing ! $ frame ! $ nothing ! $ owned ! PageIndex′.row (Is PageIndex′.row) (PageIndex′.makes 𝓤 H A) f _ ok·f $ fjoin ! $ owned ! Ticket′.row (Is Ticket′.row) (Ticket′.makes 𝓤 H A) x-t _ ok·x-t $ fjoin ! $ owned ! Line′.row (Is Line′.row) (Line′.makes 𝓤 H A) x-l _ ok·x-l $ fjoin ! $ owned ! Record′.row (Is Record′.row) (Record′.makes 𝓤 H A) x-r _ ok·x-r $ fjoin ! $ owned ! Lengths′.row (Is Lengths′.row) (Lengths′.makes 𝓤 H A) g _ ok·g $ fjoin ! $ owned ! Store′.row (Is Store′.row) (Store′.makes 𝓤 H A) s _ ok·s $ fjoin ! $ done !
+      goes : ent 𝓤 (⋆ 𝓤 H A ([])) (Asked 𝓤 H A mem run .pre (to 𝓤 H A mem run s g x-r x-l x-t x-u))
+      goes = qed W ([]) ∵ says ! need $ nothing ! $ frame ! $ nothing ! $ owned ! NewUpdate′.row (Is NewUpdate′.row) (NewUpdate′.makes 𝓤 H A) x-u _ ok·x-u $ fjoin ! $ owned ! Ticket′.row (Is Ticket′.row) (Ticket′.makes 𝓤 H A) x-t _ ok·x-t $ fjoin ! $ owned ! Line′.row (Is Line′.row) (Line′.makes 𝓤 H A) x-l _ ok·x-l $ fjoin ! $ owned ! Record′.row (Is Record′.row) (Record′.makes 𝓤 H A) x-r _ ok·x-r $ fjoin ! $ owned ! Lengths′.row (Is Lengths′.row) (Lengths′.makes 𝓤 H A) g _ ok·g $ fjoin ! $ owned ! Store′.row (Is Store′.row) (Store′.makes 𝓤 H A) s _ ok·s $ fjoin ! $ done !
 
 module _ {M : Type 1} {𝓤 : URA M} {H : Heap 𝓤} {A : Atoms 𝓤} {K : Type 0} {W : Given 𝓤 H A} {Γ : List (Item 𝓤)} {E : Env 𝓤 H} {C : Calls 𝓤 H} {Λ : Loops 𝓤 H} {Q : Post 𝓤 H} {xs : List Operand} {d : Place} {rest : Body} where
   -- by one instance of the callee's contract, which is what a function that calls itself has
-  pub calls-by : K → (mem : Memory → SProp 𝓤) (run : Routine → Fun 𝓤) → FmC 𝓤 H (W .laws) C → (s : Store) (g : Lengths) (x-r : Record) (x-l : Line) (x-t : Ticket) (f : PageIndex) → ent 𝓤 (Asked 𝓤 H A mem run .pre (to 𝓤 H A mem run s g x-r x-l x-t f)) (C #callee (Asked 𝓤 H A mem run .args (to 𝓤 H A mem run s g x-r x-l x-t f)) (Asked 𝓤 H A mem run .post (to 𝓤 H A mem run s g x-r x-l x-t f))) → Is Store′.row s (Store′.vals s) → Is Lengths′.row g (Lengths′.vals g) → Is Record′.row x-r (Record′.vals x-r) → Is Line′.row x-l (Line′.vals x-l) → Is Ticket′.row x-t (Ticket′.vals x-t) → Is PageIndex′.row f (PageIndex′.vals f) →
-      Opds K W (raw (Asked 𝓤 H A mem run .pre (to 𝓤 H A mem run s g x-r x-l x-t f)) ∷ Γ) E xs (Store′.mach s ∷ Lengths′.mach g ∷ Record′.mach x-r ∷ Line′.mach x-l ∷ Ticket′.mach x-t ∷ PageIndex′.mach f ∷ [])
-      → (Is u64 (assign-refusal″.res s g x-r x-l x-t f) (uint-vals w64 (assign-refusal″.res s g x-r x-l x-t f)) → Seq K W (Γ) (lands C Λ E d (vint w64 (assign-refusal″.res s g x-r x-l x-t f)) rest Q))
+  pub calls-by : K → (mem : Memory → SProp 𝓤) (run : Routine → Fun 𝓤) → FmC 𝓤 H (W .laws) C → (s : Store) (g : Lengths) (x-r : Record) (x-l : Line) (x-t : Ticket) (x-u : NewUpdate) → ent 𝓤 (Asked 𝓤 H A mem run .pre (to 𝓤 H A mem run s g x-r x-l x-t x-u)) (C #callee (Asked 𝓤 H A mem run .args (to 𝓤 H A mem run s g x-r x-l x-t x-u)) (Asked 𝓤 H A mem run .post (to 𝓤 H A mem run s g x-r x-l x-t x-u))) → Is Store′.row s (Store′.vals s) → Is Lengths′.row g (Lengths′.vals g) → Is Record′.row x-r (Record′.vals x-r) → Is Line′.row x-l (Line′.vals x-l) → Is Ticket′.row x-t (Ticket′.vals x-t) → Is NewUpdate′.row x-u (NewUpdate′.vals x-u) → assign-refusal″.req s g x-r x-l x-t x-u →
+      Opds K W (raw (Asked 𝓤 H A mem run .pre (to 𝓤 H A mem run s g x-r x-l x-t x-u)) ∷ Γ) E xs (Store′.mach s ∷ Lengths′.mach g ∷ Record′.mach x-r ∷ Line′.mach x-l ∷ Ticket′.mach x-t ∷ NewUpdate′.mach x-u ∷ [])
+      → (Is u64 (assign-refusal″.res s g x-r x-l x-t x-u) (uint-vals w64 (assign-refusal″.res s g x-r x-l x-t x-u)) → Seq K W (Γ) (lands C Λ E d (vint w64 (assign-refusal″.res s g x-r x-l x-t x-u)) rest Q))
       → Seq K W (Γ) (runs C Λ E (seq (call #callee xs d) rest) Q)
-  calls-by t mem run fm s g x-r x-l x-t f known ok·s ok·g ok·x-r ok·x-l ok·x-t ok·f os k =
-      core t mem run s g x-r x-l x-t f (runs C Λ E (seq (call #callee xs d) rest) Q) (λ v. lands C Λ E d v rest Q) (λ v. tt)
-      (λ h. calls-from t fm (raw (Asked 𝓤 H A mem run .pre (to 𝓤 H A mem run s g x-r x-l x-t f))) (Asked 𝓤 H A mem run .args (to 𝓤 H A mem run s g x-r x-l x-t f)) (Asked 𝓤 H A mem run .post (to 𝓤 H A mem run s g x-r x-l x-t f)) known os h) ok·s ok·g ok·x-r ok·x-l ok·x-t ok·f k
+  calls-by t mem run fm s g x-r x-l x-t x-u known ok·s ok·g ok·x-r ok·x-l ok·x-t ok·x-u need os k =
+      core t mem run s g x-r x-l x-t x-u (runs C Λ E (seq (call #callee xs d) rest) Q) (λ v. lands C Λ E d v rest Q) (λ v. tt)
+      (λ h. calls-from t fm (raw (Asked 𝓤 H A mem run .pre (to 𝓤 H A mem run s g x-r x-l x-t x-u))) (Asked 𝓤 H A mem run .args (to 𝓤 H A mem run s g x-r x-l x-t x-u)) (Asked 𝓤 H A mem run .post (to 𝓤 H A mem run s g x-r x-l x-t x-u)) known os h) ok·s ok·g ok·x-r ok·x-l ok·x-t ok·x-u need k
 
-  pub calls : K → (mem : Memory → SProp 𝓤) (run : Routine → Fun 𝓤) → FmC 𝓤 H (W .laws) C → Triple 𝓤 (C #callee) (Asked 𝓤 H A mem run) → (s : Store) (g : Lengths) (x-r : Record) (x-l : Line) (x-t : Ticket) (f : PageIndex) → Is Store′.row s (Store′.vals s) → Is Lengths′.row g (Lengths′.vals g) → Is Record′.row x-r (Record′.vals x-r) → Is Line′.row x-l (Line′.vals x-l) → Is Ticket′.row x-t (Ticket′.vals x-t) → Is PageIndex′.row f (PageIndex′.vals f) →
-      Opds K W (raw (Asked 𝓤 H A mem run .pre (to 𝓤 H A mem run s g x-r x-l x-t f)) ∷ Γ) E xs (Store′.mach s ∷ Lengths′.mach g ∷ Record′.mach x-r ∷ Line′.mach x-l ∷ Ticket′.mach x-t ∷ PageIndex′.mach f ∷ [])
-      → (Is u64 (assign-refusal″.res s g x-r x-l x-t f) (uint-vals w64 (assign-refusal″.res s g x-r x-l x-t f)) → Seq K W (Γ) (lands C Λ E d (vint w64 (assign-refusal″.res s g x-r x-l x-t f)) rest Q))
+  pub calls : K → (mem : Memory → SProp 𝓤) (run : Routine → Fun 𝓤) → FmC 𝓤 H (W .laws) C → Triple 𝓤 (C #callee) (Asked 𝓤 H A mem run) → (s : Store) (g : Lengths) (x-r : Record) (x-l : Line) (x-t : Ticket) (x-u : NewUpdate) → Is Store′.row s (Store′.vals s) → Is Lengths′.row g (Lengths′.vals g) → Is Record′.row x-r (Record′.vals x-r) → Is Line′.row x-l (Line′.vals x-l) → Is Ticket′.row x-t (Ticket′.vals x-t) → Is NewUpdate′.row x-u (NewUpdate′.vals x-u) → assign-refusal″.req s g x-r x-l x-t x-u →
+      Opds K W (raw (Asked 𝓤 H A mem run .pre (to 𝓤 H A mem run s g x-r x-l x-t x-u)) ∷ Γ) E xs (Store′.mach s ∷ Lengths′.mach g ∷ Record′.mach x-r ∷ Line′.mach x-l ∷ Ticket′.mach x-t ∷ NewUpdate′.mach x-u ∷ [])
+      → (Is u64 (assign-refusal″.res s g x-r x-l x-t x-u) (uint-vals w64 (assign-refusal″.res s g x-r x-l x-t x-u)) → Seq K W (Γ) (lands C Λ E d (vint w64 (assign-refusal″.res s g x-r x-l x-t x-u)) rest Q))
       → Seq K W (Γ) (runs C Λ E (seq (call #callee xs d) rest) Q)
-  calls t mem run fm known s g x-r x-l x-t f = calls-by t mem run fm s g x-r x-l x-t f (known (to 𝓤 H A mem run s g x-r x-l x-t f))
+  calls t mem run fm known s g x-r x-l x-t x-u = calls-by t mem run fm s g x-r x-l x-t x-u (known (to 𝓤 H A mem run s g x-r x-l x-t x-u))
 
 module _ {M : Type 1} {𝓤 : URA M} {H : Heap 𝓤} {A : Atoms 𝓤} {K : Type 0} {W : Given 𝓤 H A} {Γ : List (Item 𝓤)} {E : Env 𝓤 H} {C : Calls 𝓤 H} {Λ : Loops 𝓤 H} {Q : Post 𝓤 H} {xs : List Operand} {d : Place} where
   -- by one instance of the callee's contract, which is what a function that calls itself has. The call ends a part of the code
-  pub calls-last-by : K → (mem : Memory → SProp 𝓤) (run : Routine → Fun 𝓤) → FmC 𝓤 H (W .laws) C → (s : Store) (g : Lengths) (x-r : Record) (x-l : Line) (x-t : Ticket) (f : PageIndex) → ent 𝓤 (Asked 𝓤 H A mem run .pre (to 𝓤 H A mem run s g x-r x-l x-t f)) (C #callee (Asked 𝓤 H A mem run .args (to 𝓤 H A mem run s g x-r x-l x-t f)) (Asked 𝓤 H A mem run .post (to 𝓤 H A mem run s g x-r x-l x-t f))) → Is Store′.row s (Store′.vals s) → Is Lengths′.row g (Lengths′.vals g) → Is Record′.row x-r (Record′.vals x-r) → Is Line′.row x-l (Line′.vals x-l) → Is Ticket′.row x-t (Ticket′.vals x-t) → Is PageIndex′.row f (PageIndex′.vals f) →
-      Opds K W (raw (Asked 𝓤 H A mem run .pre (to 𝓤 H A mem run s g x-r x-l x-t f)) ∷ Γ) E xs (Store′.mach s ∷ Lengths′.mach g ∷ Record′.mach x-r ∷ Line′.mach x-l ∷ Ticket′.mach x-t ∷ PageIndex′.mach f ∷ [])
-      → (Is u64 (assign-refusal″.res s g x-r x-l x-t f) (uint-vals w64 (assign-refusal″.res s g x-r x-l x-t f)) → Seq K W (Γ) (settles E d (vint w64 (assign-refusal″.res s g x-r x-l x-t f)) Q))
+  pub calls-last-by : K → (mem : Memory → SProp 𝓤) (run : Routine → Fun 𝓤) → FmC 𝓤 H (W .laws) C → (s : Store) (g : Lengths) (x-r : Record) (x-l : Line) (x-t : Ticket) (x-u : NewUpdate) → ent 𝓤 (Asked 𝓤 H A mem run .pre (to 𝓤 H A mem run s g x-r x-l x-t x-u)) (C #callee (Asked 𝓤 H A mem run .args (to 𝓤 H A mem run s g x-r x-l x-t x-u)) (Asked 𝓤 H A mem run .post (to 𝓤 H A mem run s g x-r x-l x-t x-u))) → Is Store′.row s (Store′.vals s) → Is Lengths′.row g (Lengths′.vals g) → Is Record′.row x-r (Record′.vals x-r) → Is Line′.row x-l (Line′.vals x-l) → Is Ticket′.row x-t (Ticket′.vals x-t) → Is NewUpdate′.row x-u (NewUpdate′.vals x-u) → assign-refusal″.req s g x-r x-l x-t x-u →
+      Opds K W (raw (Asked 𝓤 H A mem run .pre (to 𝓤 H A mem run s g x-r x-l x-t x-u)) ∷ Γ) E xs (Store′.mach s ∷ Lengths′.mach g ∷ Record′.mach x-r ∷ Line′.mach x-l ∷ Ticket′.mach x-t ∷ NewUpdate′.mach x-u ∷ [])
+      → (Is u64 (assign-refusal″.res s g x-r x-l x-t x-u) (uint-vals w64 (assign-refusal″.res s g x-r x-l x-t x-u)) → Seq K W (Γ) (settles E d (vint w64 (assign-refusal″.res s g x-r x-l x-t x-u)) Q))
       → Seq K W (Γ) (runs C Λ E (call #callee xs d) Q)
-  calls-last-by t mem run fm s g x-r x-l x-t f known ok·s ok·g ok·x-r ok·x-l ok·x-t ok·f os k =
-      core t mem run s g x-r x-l x-t f (runs C Λ E (call #callee xs d) Q) (λ v. settles E d v Q) (λ v. tt)
-      (λ h. calls-from-last t fm (raw (Asked 𝓤 H A mem run .pre (to 𝓤 H A mem run s g x-r x-l x-t f))) (Asked 𝓤 H A mem run .args (to 𝓤 H A mem run s g x-r x-l x-t f)) (Asked 𝓤 H A mem run .post (to 𝓤 H A mem run s g x-r x-l x-t f)) known os h) ok·s ok·g ok·x-r ok·x-l ok·x-t ok·f k
+  calls-last-by t mem run fm s g x-r x-l x-t x-u known ok·s ok·g ok·x-r ok·x-l ok·x-t ok·x-u need os k =
+      core t mem run s g x-r x-l x-t x-u (runs C Λ E (call #callee xs d) Q) (λ v. settles E d v Q) (λ v. tt)
+      (λ h. calls-from-last t fm (raw (Asked 𝓤 H A mem run .pre (to 𝓤 H A mem run s g x-r x-l x-t x-u))) (Asked 𝓤 H A mem run .args (to 𝓤 H A mem run s g x-r x-l x-t x-u)) (Asked 𝓤 H A mem run .post (to 𝓤 H A mem run s g x-r x-l x-t x-u)) known os h) ok·s ok·g ok·x-r ok·x-l ok·x-t ok·x-u need k
 
-  pub calls-last : K → (mem : Memory → SProp 𝓤) (run : Routine → Fun 𝓤) → FmC 𝓤 H (W .laws) C → Triple 𝓤 (C #callee) (Asked 𝓤 H A mem run) → (s : Store) (g : Lengths) (x-r : Record) (x-l : Line) (x-t : Ticket) (f : PageIndex) → Is Store′.row s (Store′.vals s) → Is Lengths′.row g (Lengths′.vals g) → Is Record′.row x-r (Record′.vals x-r) → Is Line′.row x-l (Line′.vals x-l) → Is Ticket′.row x-t (Ticket′.vals x-t) → Is PageIndex′.row f (PageIndex′.vals f) →
-      Opds K W (raw (Asked 𝓤 H A mem run .pre (to 𝓤 H A mem run s g x-r x-l x-t f)) ∷ Γ) E xs (Store′.mach s ∷ Lengths′.mach g ∷ Record′.mach x-r ∷ Line′.mach x-l ∷ Ticket′.mach x-t ∷ PageIndex′.mach f ∷ [])
-      → (Is u64 (assign-refusal″.res s g x-r x-l x-t f) (uint-vals w64 (assign-refusal″.res s g x-r x-l x-t f)) → Seq K W (Γ) (settles E d (vint w64 (assign-refusal″.res s g x-r x-l x-t f)) Q))
+  pub calls-last : K → (mem : Memory → SProp 𝓤) (run : Routine → Fun 𝓤) → FmC 𝓤 H (W .laws) C → Triple 𝓤 (C #callee) (Asked 𝓤 H A mem run) → (s : Store) (g : Lengths) (x-r : Record) (x-l : Line) (x-t : Ticket) (x-u : NewUpdate) → Is Store′.row s (Store′.vals s) → Is Lengths′.row g (Lengths′.vals g) → Is Record′.row x-r (Record′.vals x-r) → Is Line′.row x-l (Line′.vals x-l) → Is Ticket′.row x-t (Ticket′.vals x-t) → Is NewUpdate′.row x-u (NewUpdate′.vals x-u) → assign-refusal″.req s g x-r x-l x-t x-u →
+      Opds K W (raw (Asked 𝓤 H A mem run .pre (to 𝓤 H A mem run s g x-r x-l x-t x-u)) ∷ Γ) E xs (Store′.mach s ∷ Lengths′.mach g ∷ Record′.mach x-r ∷ Line′.mach x-l ∷ Ticket′.mach x-t ∷ NewUpdate′.mach x-u ∷ [])
+      → (Is u64 (assign-refusal″.res s g x-r x-l x-t x-u) (uint-vals w64 (assign-refusal″.res s g x-r x-l x-t x-u)) → Seq K W (Γ) (settles E d (vint w64 (assign-refusal″.res s g x-r x-l x-t x-u)) Q))
       → Seq K W (Γ) (runs C Λ E (call #callee xs d) Q)
-  calls-last t mem run fm known s g x-r x-l x-t f = calls-last-by t mem run fm s g x-r x-l x-t f (known (to 𝓤 H A mem run s g x-r x-l x-t f))
+  calls-last t mem run fm known s g x-r x-l x-t x-u = calls-last-by t mem run fm s g x-r x-l x-t x-u (known (to 𝓤 H A mem run s g x-r x-l x-t x-u))

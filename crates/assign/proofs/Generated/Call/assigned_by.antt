@@ -38,6 +38,8 @@ use Rattle.tree.specs.declared.Ticket.{Ticket}
 use Rattle.register.proofs.Generated.Kind.Ticket as Ticket′
 use Rattle.lines.specs.declared.Line.{Line}
 use Rattle.register.proofs.Generated.Kind.Line as Line′
+use Rattle.assign.specs.declared.NewUpdate.{NewUpdate}
+use Rattle.assign.proofs.Generated.Kind.NewUpdate as NewUpdate′
 use Rattle.tree.specs.declared.PageIndex.{PageIndex}
 use Rattle.register.proofs.Generated.Kind.PageIndex as PageIndex′
 use Rattle.assign.specs.declared.AssignOut.{AssignOut}
@@ -54,53 +56,53 @@ module _ {M : Type 1} (𝓤 : URA M) (H : Heap 𝓤) (A : Atoms 𝓤) (mem : Mem
   abbrev pub Asked : Contract 𝓤
   Asked = tripleOf 𝓤 H A callee.signature (callee.spec 𝓤 H A mem run)
 
-  abbrev pub to : (s : Store) (x-l : Line) (f : PageIndex) (n : ℕ) (x-k : ℕ) → Asked .Ghost
-  to s x-l f n x-k = ((tt, tt, tt, (s, (x-l, (f, (n, (x-k, tt))))), (Store′.mach s ∷ [], (Line′.mach x-l ∷ [], (PageIndex′.mach f ∷ [], (vint w64 n ∷ [], (vint w64 x-k ∷ [], tt)))))), tt)
+  abbrev pub to : (s : Store) (x-l : Line) (x-u : NewUpdate) (x-k : ℕ) → Asked .Ghost
+  to s x-l x-u x-k = ((tt, tt, tt, (s, (x-l, (x-u, (x-k, tt)))), (Store′.mach s ∷ [], (Line′.mach x-l ∷ [], (NewUpdate′.mach x-u ∷ [], (vint w64 x-k ∷ [], tt))))), tt)
 
 module _ {M : Type 1} {𝓤 : URA M} {H : Heap 𝓤} {A : Atoms 𝓤} {K : Type 0} {W : Given 𝓤 H A} {Γ : List (Item 𝓤)} where
   -- the call itself is made by `by-call`, from what the callee asks to what it has ensured
-  core : K → (mem : Memory → SProp 𝓤) (run : Routine → Fun 𝓤) → (s : Store) (x-l : Line) (f : PageIndex) (n : ℕ) (x-k : ℕ) → (G : Goal 𝓤 H) (after : Val → Goal 𝓤 H) → ((v : Val) → Soaks (after v))
-      → (((v : Val) → Seq K W (raw (Asked 𝓤 H A mem run .post (to 𝓤 H A mem run s x-l f n x-k) v) ∷ Γ) (after v)) → Seq K W (raw (Asked 𝓤 H A mem run .pre (to 𝓤 H A mem run s x-l f n x-k)) ∷ Γ) G) → Is Store′.row s (Store′.vals s) → Is Line′.row x-l (Line′.vals x-l) → Is PageIndex′.row f (PageIndex′.vals f) → Is u64 n (uint-vals w64 n) → Is u64 x-k (uint-vals w64 x-k) → assigned-by″.req s x-l f n x-k →
-      (Is AssignOut′.row (assigned-by″.res s x-l f n x-k) (AssignOut′.vals (assigned-by″.res s x-l f n x-k)) → Seq K W (Γ) (after (AssignOut′.mach (assigned-by″.res s x-l f n x-k)))) → Seq K W (Γ) G
-  core t mem run s x-l f n x-k G after soaks by-call ok·s ok·x-l ok·f ok·n ok·x-k need k =
-      use0 W (raw (Asked 𝓤 H A mem run .pre (to 𝓤 H A mem run s x-l f n x-k))) goes $
+  core : K → (mem : Memory → SProp 𝓤) (run : Routine → Fun 𝓤) → (s : Store) (x-l : Line) (x-u : NewUpdate) (x-k : ℕ) → (G : Goal 𝓤 H) (after : Val → Goal 𝓤 H) → ((v : Val) → Soaks (after v))
+      → (((v : Val) → Seq K W (raw (Asked 𝓤 H A mem run .post (to 𝓤 H A mem run s x-l x-u x-k) v) ∷ Γ) (after v)) → Seq K W (raw (Asked 𝓤 H A mem run .pre (to 𝓤 H A mem run s x-l x-u x-k)) ∷ Γ) G) → Is Store′.row s (Store′.vals s) → Is Line′.row x-l (Line′.vals x-l) → Is NewUpdate′.row x-u (NewUpdate′.vals x-u) → Is u64 x-k (uint-vals w64 x-k) → assigned-by″.req s x-l x-u x-k →
+      (Is AssignOut′.row (assigned-by″.res s x-l x-u x-k) (AssignOut′.vals (assigned-by″.res s x-l x-u x-k)) → Seq K W (Γ) (after (AssignOut′.mach (assigned-by″.res s x-l x-u x-k)))) → Seq K W (Γ) G
+  core t mem run s x-l x-u x-k G after soaks by-call ok·s ok·x-l ok·x-u ok·x-k need k =
+      use0 W (raw (Asked 𝓤 H A mem run .pre (to 𝓤 H A mem run s x-l x-u x-k))) goes $
       by-call (λ v.
-      use1 W (later (some (λ (r· : AssignOut). ((‵ ftrue) ⊛ ‵ (AssignOut′.row .own r· (v ∷ []))) ⊛ raw (ensured 𝓤 H A callee.ended (callee.clauses 𝓤 H A mem run) tt (s, (x-l, (f, (n, (x-k, tt))))) tt r·)))) (id⊢ 𝓤 _) $ await t (soaks v) $ pick t (λ r·. split t $ move t (1 ∷ []) $
-      use1 W (some (λ (ws : Lasts callee.ended tt (s, (x-l, (f, (n, (x-k, tt)))))). ‵ (lasts callee.ended tt (s, (x-l, (f, (n, (x-k, tt))))) ws) ⊛ raw (fact 𝓤 (assigned-by″.ens s x-l f n x-k r·)))) (id⊢ 𝓤 _) $ pick t (λ ws. split t $ move t (1 ∷ []) $
-      heard t (assigned-by″.ens s x-l f n x-k r·) (λ e. drop t $ split t $ move t (1 ∷ []) $ facts t AssignOut′.row (Is AssignOut′.row) (shows 𝓤 H A AssignOut′.row) r· (v ∷ []) (λ is. drop t $
+      use1 W (later (some (λ (r· : AssignOut). ((‵ ftrue) ⊛ ‵ (AssignOut′.row .own r· (v ∷ []))) ⊛ raw (ensured 𝓤 H A callee.ended (callee.clauses 𝓤 H A mem run) tt (s, (x-l, (x-u, (x-k, tt)))) tt r·)))) (id⊢ 𝓤 _) $ await t (soaks v) $ pick t (λ r·. split t $ move t (1 ∷ []) $
+      use1 W (some (λ (ws : Lasts callee.ended tt (s, (x-l, (x-u, (x-k, tt))))). ‵ (lasts callee.ended tt (s, (x-l, (x-u, (x-k, tt)))) ws) ⊛ raw (fact 𝓤 (assigned-by″.ens s x-l x-u x-k r·)))) (id⊢ 𝓤 _) $ pick t (λ ws. split t $ move t (1 ∷ []) $
+      heard t (assigned-by″.ens s x-l x-u x-k r·) (λ e. drop t $ split t $ move t (1 ∷ []) $ facts t AssignOut′.row (Is AssignOut′.row) (shows 𝓤 H A AssignOut′.row) r· (v ∷ []) (λ is. drop t $
       subst (λ (u : Val). Seq K W (Γ) (after u)) (sym (ap only (AssignOut′.tells r· (v ∷ []) is) ∙ ap (λ (z : AssignOut). AssignOut′.mach z) (e))) (k (subst (λ (z : AssignOut). Is AssignOut′.row z (AssignOut′.vals z)) (e) (subst (Is AssignOut′.row r·) (AssignOut′.tells r· (v ∷ []) is) is))))))))
     where
-      goes : ent 𝓤 (⋆ 𝓤 H A ([])) (Asked 𝓤 H A mem run .pre (to 𝓤 H A mem run s x-l f n x-k))
-      goes = qed W ([]) ∵ says ! need $ nothing ! $ frame ! $ nothing ! $ owned ! u64 (Is u64) (uint-makes 𝓤 H A W w64) x-k _ ok·x-k $ fjoin ! $ owned ! u64 (Is u64) (uint-makes 𝓤 H A W w64) n _ ok·n $ fjoin ! $ owned ! PageIndex′.row (Is PageIndex′.row) (PageIndex′.makes 𝓤 H A) f _ ok·f $ fjoin ! $ owned ! Line′.row (Is Line′.row) (Line′.makes 𝓤 H A) x-l _ ok·x-l $ fjoin ! $ owned ! Store′.row (Is Store′.row) (Store′.makes 𝓤 H A) s _ ok·s $ fjoin ! $ done !
+      goes : ent 𝓤 (⋆ 𝓤 H A ([])) (Asked 𝓤 H A mem run .pre (to 𝓤 H A mem run s x-l x-u x-k))
+      goes = qed W ([]) ∵ says ! need $ nothing ! $ frame ! $ nothing ! $ owned ! u64 (Is u64) (uint-makes 𝓤 H A W w64) x-k _ ok·x-k $ fjoin ! $ owned ! NewUpdate′.row (Is NewUpdate′.row) (NewUpdate′.makes 𝓤 H A) x-u _ ok·x-u $ fjoin ! $ owned ! Line′.row (Is Line′.row) (Line′.makes 𝓤 H A) x-l _ ok·x-l $ fjoin ! $ owned ! Store′.row (Is Store′.row) (Store′.makes 𝓤 H A) s _ ok·s $ fjoin ! $ done !
 
 module _ {M : Type 1} {𝓤 : URA M} {H : Heap 𝓤} {A : Atoms 𝓤} {K : Type 0} {W : Given 𝓤 H A} {Γ : List (Item 𝓤)} {E : Env 𝓤 H} {C : Calls 𝓤 H} {Λ : Loops 𝓤 H} {Q : Post 𝓤 H} {xs : List Operand} {d : Place} {rest : Body} where
   -- by one instance of the callee's contract, which is what a function that calls itself has
-  pub calls-by : K → (mem : Memory → SProp 𝓤) (run : Routine → Fun 𝓤) → FmC 𝓤 H (W .laws) C → (s : Store) (x-l : Line) (f : PageIndex) (n : ℕ) (x-k : ℕ) → ent 𝓤 (Asked 𝓤 H A mem run .pre (to 𝓤 H A mem run s x-l f n x-k)) (C #callee (Asked 𝓤 H A mem run .args (to 𝓤 H A mem run s x-l f n x-k)) (Asked 𝓤 H A mem run .post (to 𝓤 H A mem run s x-l f n x-k))) → Is Store′.row s (Store′.vals s) → Is Line′.row x-l (Line′.vals x-l) → Is PageIndex′.row f (PageIndex′.vals f) → Is u64 n (uint-vals w64 n) → Is u64 x-k (uint-vals w64 x-k) → assigned-by″.req s x-l f n x-k →
-      Opds K W (raw (Asked 𝓤 H A mem run .pre (to 𝓤 H A mem run s x-l f n x-k)) ∷ Γ) E xs (Store′.mach s ∷ Line′.mach x-l ∷ PageIndex′.mach f ∷ vint w64 n ∷ vint w64 x-k ∷ [])
-      → (Is AssignOut′.row (assigned-by″.res s x-l f n x-k) (AssignOut′.vals (assigned-by″.res s x-l f n x-k)) → Seq K W (Γ) (lands C Λ E d (AssignOut′.mach (assigned-by″.res s x-l f n x-k)) rest Q))
+  pub calls-by : K → (mem : Memory → SProp 𝓤) (run : Routine → Fun 𝓤) → FmC 𝓤 H (W .laws) C → (s : Store) (x-l : Line) (x-u : NewUpdate) (x-k : ℕ) → ent 𝓤 (Asked 𝓤 H A mem run .pre (to 𝓤 H A mem run s x-l x-u x-k)) (C #callee (Asked 𝓤 H A mem run .args (to 𝓤 H A mem run s x-l x-u x-k)) (Asked 𝓤 H A mem run .post (to 𝓤 H A mem run s x-l x-u x-k))) → Is Store′.row s (Store′.vals s) → Is Line′.row x-l (Line′.vals x-l) → Is NewUpdate′.row x-u (NewUpdate′.vals x-u) → Is u64 x-k (uint-vals w64 x-k) → assigned-by″.req s x-l x-u x-k →
+      Opds K W (raw (Asked 𝓤 H A mem run .pre (to 𝓤 H A mem run s x-l x-u x-k)) ∷ Γ) E xs (Store′.mach s ∷ Line′.mach x-l ∷ NewUpdate′.mach x-u ∷ vint w64 x-k ∷ [])
+      → (Is AssignOut′.row (assigned-by″.res s x-l x-u x-k) (AssignOut′.vals (assigned-by″.res s x-l x-u x-k)) → Seq K W (Γ) (lands C Λ E d (AssignOut′.mach (assigned-by″.res s x-l x-u x-k)) rest Q))
       → Seq K W (Γ) (runs C Λ E (seq (call #callee xs d) rest) Q)
-  calls-by t mem run fm s x-l f n x-k known ok·s ok·x-l ok·f ok·n ok·x-k need os k =
-      core t mem run s x-l f n x-k (runs C Λ E (seq (call #callee xs d) rest) Q) (λ v. lands C Λ E d v rest Q) (λ v. tt)
-      (λ h. calls-from t fm (raw (Asked 𝓤 H A mem run .pre (to 𝓤 H A mem run s x-l f n x-k))) (Asked 𝓤 H A mem run .args (to 𝓤 H A mem run s x-l f n x-k)) (Asked 𝓤 H A mem run .post (to 𝓤 H A mem run s x-l f n x-k)) known os h) ok·s ok·x-l ok·f ok·n ok·x-k need k
+  calls-by t mem run fm s x-l x-u x-k known ok·s ok·x-l ok·x-u ok·x-k need os k =
+      core t mem run s x-l x-u x-k (runs C Λ E (seq (call #callee xs d) rest) Q) (λ v. lands C Λ E d v rest Q) (λ v. tt)
+      (λ h. calls-from t fm (raw (Asked 𝓤 H A mem run .pre (to 𝓤 H A mem run s x-l x-u x-k))) (Asked 𝓤 H A mem run .args (to 𝓤 H A mem run s x-l x-u x-k)) (Asked 𝓤 H A mem run .post (to 𝓤 H A mem run s x-l x-u x-k)) known os h) ok·s ok·x-l ok·x-u ok·x-k need k
 
-  pub calls : K → (mem : Memory → SProp 𝓤) (run : Routine → Fun 𝓤) → FmC 𝓤 H (W .laws) C → Triple 𝓤 (C #callee) (Asked 𝓤 H A mem run) → (s : Store) (x-l : Line) (f : PageIndex) (n : ℕ) (x-k : ℕ) → Is Store′.row s (Store′.vals s) → Is Line′.row x-l (Line′.vals x-l) → Is PageIndex′.row f (PageIndex′.vals f) → Is u64 n (uint-vals w64 n) → Is u64 x-k (uint-vals w64 x-k) → assigned-by″.req s x-l f n x-k →
-      Opds K W (raw (Asked 𝓤 H A mem run .pre (to 𝓤 H A mem run s x-l f n x-k)) ∷ Γ) E xs (Store′.mach s ∷ Line′.mach x-l ∷ PageIndex′.mach f ∷ vint w64 n ∷ vint w64 x-k ∷ [])
-      → (Is AssignOut′.row (assigned-by″.res s x-l f n x-k) (AssignOut′.vals (assigned-by″.res s x-l f n x-k)) → Seq K W (Γ) (lands C Λ E d (AssignOut′.mach (assigned-by″.res s x-l f n x-k)) rest Q))
+  pub calls : K → (mem : Memory → SProp 𝓤) (run : Routine → Fun 𝓤) → FmC 𝓤 H (W .laws) C → Triple 𝓤 (C #callee) (Asked 𝓤 H A mem run) → (s : Store) (x-l : Line) (x-u : NewUpdate) (x-k : ℕ) → Is Store′.row s (Store′.vals s) → Is Line′.row x-l (Line′.vals x-l) → Is NewUpdate′.row x-u (NewUpdate′.vals x-u) → Is u64 x-k (uint-vals w64 x-k) → assigned-by″.req s x-l x-u x-k →
+      Opds K W (raw (Asked 𝓤 H A mem run .pre (to 𝓤 H A mem run s x-l x-u x-k)) ∷ Γ) E xs (Store′.mach s ∷ Line′.mach x-l ∷ NewUpdate′.mach x-u ∷ vint w64 x-k ∷ [])
+      → (Is AssignOut′.row (assigned-by″.res s x-l x-u x-k) (AssignOut′.vals (assigned-by″.res s x-l x-u x-k)) → Seq K W (Γ) (lands C Λ E d (AssignOut′.mach (assigned-by″.res s x-l x-u x-k)) rest Q))
       → Seq K W (Γ) (runs C Λ E (seq (call #callee xs d) rest) Q)
-  calls t mem run fm known s x-l f n x-k = calls-by t mem run fm s x-l f n x-k (known (to 𝓤 H A mem run s x-l f n x-k))
+  calls t mem run fm known s x-l x-u x-k = calls-by t mem run fm s x-l x-u x-k (known (to 𝓤 H A mem run s x-l x-u x-k))
 
 module _ {M : Type 1} {𝓤 : URA M} {H : Heap 𝓤} {A : Atoms 𝓤} {K : Type 0} {W : Given 𝓤 H A} {Γ : List (Item 𝓤)} {E : Env 𝓤 H} {C : Calls 𝓤 H} {Λ : Loops 𝓤 H} {Q : Post 𝓤 H} {xs : List Operand} {d : Place} where
   -- by one instance of the callee's contract, which is what a function that calls itself has. The call ends a part of the code
-  pub calls-last-by : K → (mem : Memory → SProp 𝓤) (run : Routine → Fun 𝓤) → FmC 𝓤 H (W .laws) C → (s : Store) (x-l : Line) (f : PageIndex) (n : ℕ) (x-k : ℕ) → ent 𝓤 (Asked 𝓤 H A mem run .pre (to 𝓤 H A mem run s x-l f n x-k)) (C #callee (Asked 𝓤 H A mem run .args (to 𝓤 H A mem run s x-l f n x-k)) (Asked 𝓤 H A mem run .post (to 𝓤 H A mem run s x-l f n x-k))) → Is Store′.row s (Store′.vals s) → Is Line′.row x-l (Line′.vals x-l) → Is PageIndex′.row f (PageIndex′.vals f) → Is u64 n (uint-vals w64 n) → Is u64 x-k (uint-vals w64 x-k) → assigned-by″.req s x-l f n x-k →
-      Opds K W (raw (Asked 𝓤 H A mem run .pre (to 𝓤 H A mem run s x-l f n x-k)) ∷ Γ) E xs (Store′.mach s ∷ Line′.mach x-l ∷ PageIndex′.mach f ∷ vint w64 n ∷ vint w64 x-k ∷ [])
-      → (Is AssignOut′.row (assigned-by″.res s x-l f n x-k) (AssignOut′.vals (assigned-by″.res s x-l f n x-k)) → Seq K W (Γ) (settles E d (AssignOut′.mach (assigned-by″.res s x-l f n x-k)) Q))
+  pub calls-last-by : K → (mem : Memory → SProp 𝓤) (run : Routine → Fun 𝓤) → FmC 𝓤 H (W .laws) C → (s : Store) (x-l : Line) (x-u : NewUpdate) (x-k : ℕ) → ent 𝓤 (Asked 𝓤 H A mem run .pre (to 𝓤 H A mem run s x-l x-u x-k)) (C #callee (Asked 𝓤 H A mem run .args (to 𝓤 H A mem run s x-l x-u x-k)) (Asked 𝓤 H A mem run .post (to 𝓤 H A mem run s x-l x-u x-k))) → Is Store′.row s (Store′.vals s) → Is Line′.row x-l (Line′.vals x-l) → Is NewUpdate′.row x-u (NewUpdate′.vals x-u) → Is u64 x-k (uint-vals w64 x-k) → assigned-by″.req s x-l x-u x-k →
+      Opds K W (raw (Asked 𝓤 H A mem run .pre (to 𝓤 H A mem run s x-l x-u x-k)) ∷ Γ) E xs (Store′.mach s ∷ Line′.mach x-l ∷ NewUpdate′.mach x-u ∷ vint w64 x-k ∷ [])
+      → (Is AssignOut′.row (assigned-by″.res s x-l x-u x-k) (AssignOut′.vals (assigned-by″.res s x-l x-u x-k)) → Seq K W (Γ) (settles E d (AssignOut′.mach (assigned-by″.res s x-l x-u x-k)) Q))
       → Seq K W (Γ) (runs C Λ E (call #callee xs d) Q)
-  calls-last-by t mem run fm s x-l f n x-k known ok·s ok·x-l ok·f ok·n ok·x-k need os k =
-      core t mem run s x-l f n x-k (runs C Λ E (call #callee xs d) Q) (λ v. settles E d v Q) (λ v. tt)
-      (λ h. calls-from-last t fm (raw (Asked 𝓤 H A mem run .pre (to 𝓤 H A mem run s x-l f n x-k))) (Asked 𝓤 H A mem run .args (to 𝓤 H A mem run s x-l f n x-k)) (Asked 𝓤 H A mem run .post (to 𝓤 H A mem run s x-l f n x-k)) known os h) ok·s ok·x-l ok·f ok·n ok·x-k need k
+  calls-last-by t mem run fm s x-l x-u x-k known ok·s ok·x-l ok·x-u ok·x-k need os k =
+      core t mem run s x-l x-u x-k (runs C Λ E (call #callee xs d) Q) (λ v. settles E d v Q) (λ v. tt)
+      (λ h. calls-from-last t fm (raw (Asked 𝓤 H A mem run .pre (to 𝓤 H A mem run s x-l x-u x-k))) (Asked 𝓤 H A mem run .args (to 𝓤 H A mem run s x-l x-u x-k)) (Asked 𝓤 H A mem run .post (to 𝓤 H A mem run s x-l x-u x-k)) known os h) ok·s ok·x-l ok·x-u ok·x-k need k
 
-  pub calls-last : K → (mem : Memory → SProp 𝓤) (run : Routine → Fun 𝓤) → FmC 𝓤 H (W .laws) C → Triple 𝓤 (C #callee) (Asked 𝓤 H A mem run) → (s : Store) (x-l : Line) (f : PageIndex) (n : ℕ) (x-k : ℕ) → Is Store′.row s (Store′.vals s) → Is Line′.row x-l (Line′.vals x-l) → Is PageIndex′.row f (PageIndex′.vals f) → Is u64 n (uint-vals w64 n) → Is u64 x-k (uint-vals w64 x-k) → assigned-by″.req s x-l f n x-k →
-      Opds K W (raw (Asked 𝓤 H A mem run .pre (to 𝓤 H A mem run s x-l f n x-k)) ∷ Γ) E xs (Store′.mach s ∷ Line′.mach x-l ∷ PageIndex′.mach f ∷ vint w64 n ∷ vint w64 x-k ∷ [])
-      → (Is AssignOut′.row (assigned-by″.res s x-l f n x-k) (AssignOut′.vals (assigned-by″.res s x-l f n x-k)) → Seq K W (Γ) (settles E d (AssignOut′.mach (assigned-by″.res s x-l f n x-k)) Q))
+  pub calls-last : K → (mem : Memory → SProp 𝓤) (run : Routine → Fun 𝓤) → FmC 𝓤 H (W .laws) C → Triple 𝓤 (C #callee) (Asked 𝓤 H A mem run) → (s : Store) (x-l : Line) (x-u : NewUpdate) (x-k : ℕ) → Is Store′.row s (Store′.vals s) → Is Line′.row x-l (Line′.vals x-l) → Is NewUpdate′.row x-u (NewUpdate′.vals x-u) → Is u64 x-k (uint-vals w64 x-k) → assigned-by″.req s x-l x-u x-k →
+      Opds K W (raw (Asked 𝓤 H A mem run .pre (to 𝓤 H A mem run s x-l x-u x-k)) ∷ Γ) E xs (Store′.mach s ∷ Line′.mach x-l ∷ NewUpdate′.mach x-u ∷ vint w64 x-k ∷ [])
+      → (Is AssignOut′.row (assigned-by″.res s x-l x-u x-k) (AssignOut′.vals (assigned-by″.res s x-l x-u x-k)) → Seq K W (Γ) (settles E d (AssignOut′.mach (assigned-by″.res s x-l x-u x-k)) Q))
       → Seq K W (Γ) (runs C Λ E (call #callee xs d) Q)
-  calls-last t mem run fm known s x-l f n x-k = calls-last-by t mem run fm s x-l f n x-k (known (to 𝓤 H A mem run s x-l f n x-k))
+  calls-last t mem run fm known s x-l x-u x-k = calls-last-by t mem run fm s x-l x-u x-k (known (to 𝓤 H A mem run s x-l x-u x-k))

@@ -44,6 +44,8 @@ use Rattle.versions.specs.declared.Store.{Store}
 use Rattle.versions.proofs.Generated.Kind.Store as Store′
 use Rattle.lines.specs.declared.Line.{Line}
 use Rattle.register.proofs.Generated.Kind.Line as Line′
+use Rattle.assign.specs.declared.NewUpdate.{NewUpdate}
+use Rattle.assign.proofs.Generated.Kind.NewUpdate as NewUpdate′
 use Rattle.register.proofs.Generated.Flow.{ref, MutAt, ShrAt, keeps-shr, plus-nothing}
 use Rattle.assign.proofs.note_update as callee
 use Rattle.assign.proofs.note_update.Symbol.{name as #callee}
@@ -52,53 +54,53 @@ module _ {M : Type 1} (𝓤 : URA M) (H : Heap 𝓤) (A : Atoms 𝓤) (mem : Mem
   abbrev pub Asked : Contract 𝓤
   Asked = tripleOf 𝓤 H A callee.signature (callee.spec 𝓤 H A mem run)
 
-  abbrev pub to : (κ·register : Lft) (q·register : Share) (b·register o·register : ℕ) (γ·register : GName) (n·register : ℕ) (register : List Record) (x-k : ℕ) (s : Store) (x-l : Line) (x-t : Ticket) (f : PageIndex) (x-r : Record) → Asked .Ghost
-  to κ·register q·register b·register o·register γ·register n·register register x-k s x-l x-t f x-r = (((κ·register, tt), (q·register, tt), tt, (ref b·register o·register γ·register register, (x-k, (s, (x-l, (x-t, (f, (x-r, tt))))))), (sliceVal (b·register, o·register) n·register ∷ [], (vint w64 x-k ∷ [], (Store′.mach s ∷ [], (Line′.mach x-l ∷ [], (Ticket′.mach x-t ∷ [], (PageIndex′.mach f ∷ [], (Record′.mach x-r ∷ [], tt)))))))), tt)
+  abbrev pub to : (κ·register : Lft) (q·register : Share) (b·register o·register : ℕ) (γ·register : GName) (n·register : ℕ) (register : List Record) (x-k : ℕ) (s : Store) (x-l : Line) (x-t : Ticket) (x-r : Record) (x-u : NewUpdate) → Asked .Ghost
+  to κ·register q·register b·register o·register γ·register n·register register x-k s x-l x-t x-r x-u = (((κ·register, tt), (q·register, tt), tt, (ref b·register o·register γ·register register, (x-k, (s, (x-l, (x-t, (x-r, (x-u, tt))))))), (sliceVal (b·register, o·register) n·register ∷ [], (vint w64 x-k ∷ [], (Store′.mach s ∷ [], (Line′.mach x-l ∷ [], (Ticket′.mach x-t ∷ [], (Record′.mach x-r ∷ [], (NewUpdate′.mach x-u ∷ [], tt)))))))), tt)
 
 module _ {M : Type 1} {𝓤 : URA M} {H : Heap 𝓤} {A : Atoms 𝓤} {K : Type 0} {W : Given 𝓤 H A} {Γ : List (Item 𝓤)} where
   -- the call itself is made by `by-call`, from what the callee asks to what it has ensured
-  core : K → (mem : Memory → SProp 𝓤) (run : Routine → Fun 𝓤) → (κ·register : Lft) (q·register : Share) (b·register o·register : ℕ) (γ·register : GName) (n·register : ℕ) (register : List Record) (x-k : ℕ) (s : Store) (x-l : Line) (x-t : Ticket) (f : PageIndex) (x-r : Record) → (G : Goal 𝓤 H) (after : Val → Goal 𝓤 H) → ((v : Val) → Soaks (after v))
-      → (((v : Val) → Seq K W (raw (Asked 𝓤 H A mem run .post (to 𝓤 H A mem run κ·register q·register b·register o·register γ·register n·register register x-k s x-l x-t f x-r) v) ∷ Γ) (after v)) → Seq K W (raw (Asked 𝓤 H A mem run .pre (to 𝓤 H A mem run κ·register q·register b·register o·register γ·register n·register register x-k s x-l x-t f x-r)) ∷ Γ) G) → Is u64 x-k (uint-vals w64 x-k) → Is Store′.row s (Store′.vals s) → Is Line′.row x-l (Line′.vals x-l) → Is Ticket′.row x-t (Ticket′.vals x-t) → Is PageIndex′.row f (PageIndex′.vals f) → Is Record′.row x-r (Record′.vals x-r) → note-update″.req register x-k s x-l x-t f x-r →
-      (length (note-update″.out-register register x-k s x-l x-t f x-r) ≡ length register → Seq K W (‵ (flft κ·register q·register) ∷ ‵ (finally Record′.row γ·register (note-update″.out-register register x-k s x-l x-t f x-r)) ∷ Γ) (after (vunit))) → Seq K W (‵ (flft κ·register q·register) ∷ ‵ (MutAt Record′.row κ·register b·register o·register γ·register n·register register) ∷ Γ) G
-  core t mem run κ·register q·register b·register o·register γ·register n·register register x-k s x-l x-t f x-r G after soaks by-call ok·x-k ok·s ok·x-l ok·x-t ok·f ok·x-r need k =
-      join t $ use1 W (raw (Asked 𝓤 H A mem run .pre (to 𝓤 H A mem run κ·register q·register b·register o·register γ·register n·register register x-k s x-l x-t f x-r))) goes $
+  core : K → (mem : Memory → SProp 𝓤) (run : Routine → Fun 𝓤) → (κ·register : Lft) (q·register : Share) (b·register o·register : ℕ) (γ·register : GName) (n·register : ℕ) (register : List Record) (x-k : ℕ) (s : Store) (x-l : Line) (x-t : Ticket) (x-r : Record) (x-u : NewUpdate) → (G : Goal 𝓤 H) (after : Val → Goal 𝓤 H) → ((v : Val) → Soaks (after v))
+      → (((v : Val) → Seq K W (raw (Asked 𝓤 H A mem run .post (to 𝓤 H A mem run κ·register q·register b·register o·register γ·register n·register register x-k s x-l x-t x-r x-u) v) ∷ Γ) (after v)) → Seq K W (raw (Asked 𝓤 H A mem run .pre (to 𝓤 H A mem run κ·register q·register b·register o·register γ·register n·register register x-k s x-l x-t x-r x-u)) ∷ Γ) G) → Is u64 x-k (uint-vals w64 x-k) → Is Store′.row s (Store′.vals s) → Is Line′.row x-l (Line′.vals x-l) → Is Ticket′.row x-t (Ticket′.vals x-t) → Is Record′.row x-r (Record′.vals x-r) → Is NewUpdate′.row x-u (NewUpdate′.vals x-u) → note-update″.req register x-k s x-l x-t x-r x-u →
+      (length (note-update″.out-register register x-k s x-l x-t x-r x-u) ≡ length register → Seq K W (‵ (flft κ·register q·register) ∷ ‵ (finally Record′.row γ·register (note-update″.out-register register x-k s x-l x-t x-r x-u)) ∷ Γ) (after (vunit))) → Seq K W (‵ (flft κ·register q·register) ∷ ‵ (MutAt Record′.row κ·register b·register o·register γ·register n·register register) ∷ Γ) G
+  core t mem run κ·register q·register b·register o·register γ·register n·register register x-k s x-l x-t x-r x-u G after soaks by-call ok·x-k ok·s ok·x-l ok·x-t ok·x-r ok·x-u need k =
+      join t $ use1 W (raw (Asked 𝓤 H A mem run .pre (to 𝓤 H A mem run κ·register q·register b·register o·register γ·register n·register register x-k s x-l x-t x-r x-u))) goes $
       by-call (λ v.
-      use1 W (later (some (λ (r· : Unit {0}). ((‵ (flft κ·register q·register) ⊛ ‵ ftrue) ⊛ ‵ (unit .own r· (v ∷ []))) ⊛ raw (ensured 𝓤 H A callee.ended (callee.clauses 𝓤 H A mem run) (κ·register, tt) (ref b·register o·register γ·register register, (x-k, (s, (x-l, (x-t, (f, (x-r, tt))))))) tt r·)))) (id⊢ 𝓤 _) $ await t (soaks v) $ pick t (λ r·. split t $ move t (1 ∷ []) $
-      use1 W (some (λ (ws : Lasts callee.ended (κ·register, tt) (ref b·register o·register γ·register register, (x-k, (s, (x-l, (x-t, (f, (x-r, tt)))))))). ‵ (lasts callee.ended (κ·register, tt) (ref b·register o·register γ·register register, (x-k, (s, (x-l, (x-t, (f, (x-r, tt))))))) ws) ⊛ raw (fact 𝓤 (note-update″.ens register x-k s x-l x-t f x-r (ws .0) r·)))) (id⊢ 𝓤 _) $ pick t (λ ws. split t $ move t (1 ∷ []) $
-      heard t (note-update″.ens register x-k s x-l x-t f x-r (ws .0) r·) (λ e. fsplit t $ fsplit t $ move t (1 ∷ []) $ feqL t (λ same·register. move t (1 ∷ []) $ fsplit t $ drop t $ fsplit t $ drop t $ fsplit t $ drop t $ fsplit t $ drop t $ fsplit t $ drop t $ fsplit t $ drop t $ drop t $ move t (1 ∷ []) $ split t $ move t (1 ∷ []) $ facts t unit (Is unit) (shows 𝓤 H A unit) r· (v ∷ []) (λ is. split t $ move t (1 ∷ []) $ drop t $
-      rewrite t 1 (λ (zs : List Record). ‵ (finally Record′.row γ·register zs)) (e) refl $ subst (λ (u : Val). Seq K W (‵ (flft κ·register q·register) ∷ ‵ (finally Record′.row γ·register (note-update″.out-register register x-k s x-l x-t f x-r)) ∷ Γ) (after u)) (sym (ap only (nothing-tells r· (v ∷ []) is))) (k (subst (λ (zs : List Record). length zs ≡ length register) (e) same·register))))))))
+      use1 W (later (some (λ (r· : Unit {0}). ((‵ (flft κ·register q·register) ⊛ ‵ ftrue) ⊛ ‵ (unit .own r· (v ∷ []))) ⊛ raw (ensured 𝓤 H A callee.ended (callee.clauses 𝓤 H A mem run) (κ·register, tt) (ref b·register o·register γ·register register, (x-k, (s, (x-l, (x-t, (x-r, (x-u, tt))))))) tt r·)))) (id⊢ 𝓤 _) $ await t (soaks v) $ pick t (λ r·. split t $ move t (1 ∷ []) $
+      use1 W (some (λ (ws : Lasts callee.ended (κ·register, tt) (ref b·register o·register γ·register register, (x-k, (s, (x-l, (x-t, (x-r, (x-u, tt)))))))). ‵ (lasts callee.ended (κ·register, tt) (ref b·register o·register γ·register register, (x-k, (s, (x-l, (x-t, (x-r, (x-u, tt))))))) ws) ⊛ raw (fact 𝓤 (note-update″.ens register x-k s x-l x-t x-r x-u (ws .0) r·)))) (id⊢ 𝓤 _) $ pick t (λ ws. split t $ move t (1 ∷ []) $
+      heard t (note-update″.ens register x-k s x-l x-t x-r x-u (ws .0) r·) (λ e. fsplit t $ fsplit t $ move t (1 ∷ []) $ feqL t (λ same·register. move t (1 ∷ []) $ fsplit t $ drop t $ fsplit t $ drop t $ fsplit t $ drop t $ fsplit t $ drop t $ fsplit t $ drop t $ fsplit t $ drop t $ drop t $ move t (1 ∷ []) $ split t $ move t (1 ∷ []) $ facts t unit (Is unit) (shows 𝓤 H A unit) r· (v ∷ []) (λ is. split t $ move t (1 ∷ []) $ drop t $
+      rewrite t 1 (λ (zs : List Record). ‵ (finally Record′.row γ·register zs)) (e) refl $ subst (λ (u : Val). Seq K W (‵ (flft κ·register q·register) ∷ ‵ (finally Record′.row γ·register (note-update″.out-register register x-k s x-l x-t x-r x-u)) ∷ Γ) (after u)) (sym (ap only (nothing-tells r· (v ∷ []) is))) (k (subst (λ (zs : List Record). length zs ≡ length register) (e) same·register))))))))
     where
-      goes : ent 𝓤 (⋆ 𝓤 H A (‵ (flft κ·register q·register) ∷ ‵ (MutAt Record′.row κ·register b·register o·register γ·register n·register register) ∷ [])) (Asked 𝓤 H A mem run .pre (to 𝓤 H A mem run κ·register q·register b·register o·register γ·register n·register register x-k s x-l x-t f x-r))
-      goes = qed W (‵ (flft κ·register q·register) ∷ ‵ (MutAt Record′.row κ·register b·register o·register γ·register n·register register) ∷ []) ∵ says ! need $ nothing ! $ move ! (1 ∷ 0 ∷ []) $ join ! $ frame ! $ nothing ! $ owned ! Record′.row (Is Record′.row) (Record′.makes 𝓤 H A) x-r _ ok·x-r $ fjoin ! $ owned ! PageIndex′.row (Is PageIndex′.row) (PageIndex′.makes 𝓤 H A) f _ ok·f $ fjoin ! $ owned ! Ticket′.row (Is Ticket′.row) (Ticket′.makes 𝓤 H A) x-t _ ok·x-t $ fjoin ! $ owned ! Line′.row (Is Line′.row) (Line′.makes 𝓤 H A) x-l _ ok·x-l $ fjoin ! $ owned ! Store′.row (Is Store′.row) (Store′.makes 𝓤 H A) s _ ok·s $ fjoin ! $ owned ! u64 (Is u64) (uint-makes 𝓤 H A W w64) x-k _ ok·x-k $ fjoin ! $ move ! (1 ∷ 0 ∷ []) $ fjoin ! $ done !
+      goes : ent 𝓤 (⋆ 𝓤 H A (‵ (flft κ·register q·register) ∷ ‵ (MutAt Record′.row κ·register b·register o·register γ·register n·register register) ∷ [])) (Asked 𝓤 H A mem run .pre (to 𝓤 H A mem run κ·register q·register b·register o·register γ·register n·register register x-k s x-l x-t x-r x-u))
+      goes = qed W (‵ (flft κ·register q·register) ∷ ‵ (MutAt Record′.row κ·register b·register o·register γ·register n·register register) ∷ []) ∵ says ! need $ nothing ! $ move ! (1 ∷ 0 ∷ []) $ join ! $ frame ! $ nothing ! $ owned ! NewUpdate′.row (Is NewUpdate′.row) (NewUpdate′.makes 𝓤 H A) x-u _ ok·x-u $ fjoin ! $ owned ! Record′.row (Is Record′.row) (Record′.makes 𝓤 H A) x-r _ ok·x-r $ fjoin ! $ owned ! Ticket′.row (Is Ticket′.row) (Ticket′.makes 𝓤 H A) x-t _ ok·x-t $ fjoin ! $ owned ! Line′.row (Is Line′.row) (Line′.makes 𝓤 H A) x-l _ ok·x-l $ fjoin ! $ owned ! Store′.row (Is Store′.row) (Store′.makes 𝓤 H A) s _ ok·s $ fjoin ! $ owned ! u64 (Is u64) (uint-makes 𝓤 H A W w64) x-k _ ok·x-k $ fjoin ! $ move ! (1 ∷ 0 ∷ []) $ fjoin ! $ done !
 
 module _ {M : Type 1} {𝓤 : URA M} {H : Heap 𝓤} {A : Atoms 𝓤} {K : Type 0} {W : Given 𝓤 H A} {Γ : List (Item 𝓤)} {E : Env 𝓤 H} {C : Calls 𝓤 H} {Λ : Loops 𝓤 H} {Q : Post 𝓤 H} {xs : List Operand} {d : Place} {rest : Body} where
   -- by one instance of the callee's contract, which is what a function that calls itself has
-  pub calls-by : K → (mem : Memory → SProp 𝓤) (run : Routine → Fun 𝓤) → FmC 𝓤 H (W .laws) C → (κ·register : Lft) (q·register : Share) (b·register o·register : ℕ) (γ·register : GName) (n·register : ℕ) (register : List Record) (x-k : ℕ) (s : Store) (x-l : Line) (x-t : Ticket) (f : PageIndex) (x-r : Record) → ent 𝓤 (Asked 𝓤 H A mem run .pre (to 𝓤 H A mem run κ·register q·register b·register o·register γ·register n·register register x-k s x-l x-t f x-r)) (C #callee (Asked 𝓤 H A mem run .args (to 𝓤 H A mem run κ·register q·register b·register o·register γ·register n·register register x-k s x-l x-t f x-r)) (Asked 𝓤 H A mem run .post (to 𝓤 H A mem run κ·register q·register b·register o·register γ·register n·register register x-k s x-l x-t f x-r))) → Is u64 x-k (uint-vals w64 x-k) → Is Store′.row s (Store′.vals s) → Is Line′.row x-l (Line′.vals x-l) → Is Ticket′.row x-t (Ticket′.vals x-t) → Is PageIndex′.row f (PageIndex′.vals f) → Is Record′.row x-r (Record′.vals x-r) → note-update″.req register x-k s x-l x-t f x-r →
-      Opds K W (raw (Asked 𝓤 H A mem run .pre (to 𝓤 H A mem run κ·register q·register b·register o·register γ·register n·register register x-k s x-l x-t f x-r)) ∷ Γ) E xs (sliceVal (b·register, o·register) n·register ∷ vint w64 x-k ∷ Store′.mach s ∷ Line′.mach x-l ∷ Ticket′.mach x-t ∷ PageIndex′.mach f ∷ Record′.mach x-r ∷ [])
-      → (length (note-update″.out-register register x-k s x-l x-t f x-r) ≡ length register → Seq K W (‵ (flft κ·register q·register) ∷ ‵ (finally Record′.row γ·register (note-update″.out-register register x-k s x-l x-t f x-r)) ∷ Γ) (lands C Λ E d (vunit) rest Q))
+  pub calls-by : K → (mem : Memory → SProp 𝓤) (run : Routine → Fun 𝓤) → FmC 𝓤 H (W .laws) C → (κ·register : Lft) (q·register : Share) (b·register o·register : ℕ) (γ·register : GName) (n·register : ℕ) (register : List Record) (x-k : ℕ) (s : Store) (x-l : Line) (x-t : Ticket) (x-r : Record) (x-u : NewUpdate) → ent 𝓤 (Asked 𝓤 H A mem run .pre (to 𝓤 H A mem run κ·register q·register b·register o·register γ·register n·register register x-k s x-l x-t x-r x-u)) (C #callee (Asked 𝓤 H A mem run .args (to 𝓤 H A mem run κ·register q·register b·register o·register γ·register n·register register x-k s x-l x-t x-r x-u)) (Asked 𝓤 H A mem run .post (to 𝓤 H A mem run κ·register q·register b·register o·register γ·register n·register register x-k s x-l x-t x-r x-u))) → Is u64 x-k (uint-vals w64 x-k) → Is Store′.row s (Store′.vals s) → Is Line′.row x-l (Line′.vals x-l) → Is Ticket′.row x-t (Ticket′.vals x-t) → Is Record′.row x-r (Record′.vals x-r) → Is NewUpdate′.row x-u (NewUpdate′.vals x-u) → note-update″.req register x-k s x-l x-t x-r x-u →
+      Opds K W (raw (Asked 𝓤 H A mem run .pre (to 𝓤 H A mem run κ·register q·register b·register o·register γ·register n·register register x-k s x-l x-t x-r x-u)) ∷ Γ) E xs (sliceVal (b·register, o·register) n·register ∷ vint w64 x-k ∷ Store′.mach s ∷ Line′.mach x-l ∷ Ticket′.mach x-t ∷ Record′.mach x-r ∷ NewUpdate′.mach x-u ∷ [])
+      → (length (note-update″.out-register register x-k s x-l x-t x-r x-u) ≡ length register → Seq K W (‵ (flft κ·register q·register) ∷ ‵ (finally Record′.row γ·register (note-update″.out-register register x-k s x-l x-t x-r x-u)) ∷ Γ) (lands C Λ E d (vunit) rest Q))
       → Seq K W (‵ (flft κ·register q·register) ∷ ‵ (MutAt Record′.row κ·register b·register o·register γ·register n·register register) ∷ Γ) (runs C Λ E (seq (call #callee xs d) rest) Q)
-  calls-by t mem run fm κ·register q·register b·register o·register γ·register n·register register x-k s x-l x-t f x-r known ok·x-k ok·s ok·x-l ok·x-t ok·f ok·x-r need os k =
-      core t mem run κ·register q·register b·register o·register γ·register n·register register x-k s x-l x-t f x-r (runs C Λ E (seq (call #callee xs d) rest) Q) (λ v. lands C Λ E d v rest Q) (λ v. tt)
-      (λ h. calls-from t fm (raw (Asked 𝓤 H A mem run .pre (to 𝓤 H A mem run κ·register q·register b·register o·register γ·register n·register register x-k s x-l x-t f x-r))) (Asked 𝓤 H A mem run .args (to 𝓤 H A mem run κ·register q·register b·register o·register γ·register n·register register x-k s x-l x-t f x-r)) (Asked 𝓤 H A mem run .post (to 𝓤 H A mem run κ·register q·register b·register o·register γ·register n·register register x-k s x-l x-t f x-r)) known os h) ok·x-k ok·s ok·x-l ok·x-t ok·f ok·x-r need k
+  calls-by t mem run fm κ·register q·register b·register o·register γ·register n·register register x-k s x-l x-t x-r x-u known ok·x-k ok·s ok·x-l ok·x-t ok·x-r ok·x-u need os k =
+      core t mem run κ·register q·register b·register o·register γ·register n·register register x-k s x-l x-t x-r x-u (runs C Λ E (seq (call #callee xs d) rest) Q) (λ v. lands C Λ E d v rest Q) (λ v. tt)
+      (λ h. calls-from t fm (raw (Asked 𝓤 H A mem run .pre (to 𝓤 H A mem run κ·register q·register b·register o·register γ·register n·register register x-k s x-l x-t x-r x-u))) (Asked 𝓤 H A mem run .args (to 𝓤 H A mem run κ·register q·register b·register o·register γ·register n·register register x-k s x-l x-t x-r x-u)) (Asked 𝓤 H A mem run .post (to 𝓤 H A mem run κ·register q·register b·register o·register γ·register n·register register x-k s x-l x-t x-r x-u)) known os h) ok·x-k ok·s ok·x-l ok·x-t ok·x-r ok·x-u need k
 
-  pub calls : K → (mem : Memory → SProp 𝓤) (run : Routine → Fun 𝓤) → FmC 𝓤 H (W .laws) C → Triple 𝓤 (C #callee) (Asked 𝓤 H A mem run) → (κ·register : Lft) (q·register : Share) (b·register o·register : ℕ) (γ·register : GName) (n·register : ℕ) (register : List Record) (x-k : ℕ) (s : Store) (x-l : Line) (x-t : Ticket) (f : PageIndex) (x-r : Record) → Is u64 x-k (uint-vals w64 x-k) → Is Store′.row s (Store′.vals s) → Is Line′.row x-l (Line′.vals x-l) → Is Ticket′.row x-t (Ticket′.vals x-t) → Is PageIndex′.row f (PageIndex′.vals f) → Is Record′.row x-r (Record′.vals x-r) → note-update″.req register x-k s x-l x-t f x-r →
-      Opds K W (raw (Asked 𝓤 H A mem run .pre (to 𝓤 H A mem run κ·register q·register b·register o·register γ·register n·register register x-k s x-l x-t f x-r)) ∷ Γ) E xs (sliceVal (b·register, o·register) n·register ∷ vint w64 x-k ∷ Store′.mach s ∷ Line′.mach x-l ∷ Ticket′.mach x-t ∷ PageIndex′.mach f ∷ Record′.mach x-r ∷ [])
-      → (length (note-update″.out-register register x-k s x-l x-t f x-r) ≡ length register → Seq K W (‵ (flft κ·register q·register) ∷ ‵ (finally Record′.row γ·register (note-update″.out-register register x-k s x-l x-t f x-r)) ∷ Γ) (lands C Λ E d (vunit) rest Q))
+  pub calls : K → (mem : Memory → SProp 𝓤) (run : Routine → Fun 𝓤) → FmC 𝓤 H (W .laws) C → Triple 𝓤 (C #callee) (Asked 𝓤 H A mem run) → (κ·register : Lft) (q·register : Share) (b·register o·register : ℕ) (γ·register : GName) (n·register : ℕ) (register : List Record) (x-k : ℕ) (s : Store) (x-l : Line) (x-t : Ticket) (x-r : Record) (x-u : NewUpdate) → Is u64 x-k (uint-vals w64 x-k) → Is Store′.row s (Store′.vals s) → Is Line′.row x-l (Line′.vals x-l) → Is Ticket′.row x-t (Ticket′.vals x-t) → Is Record′.row x-r (Record′.vals x-r) → Is NewUpdate′.row x-u (NewUpdate′.vals x-u) → note-update″.req register x-k s x-l x-t x-r x-u →
+      Opds K W (raw (Asked 𝓤 H A mem run .pre (to 𝓤 H A mem run κ·register q·register b·register o·register γ·register n·register register x-k s x-l x-t x-r x-u)) ∷ Γ) E xs (sliceVal (b·register, o·register) n·register ∷ vint w64 x-k ∷ Store′.mach s ∷ Line′.mach x-l ∷ Ticket′.mach x-t ∷ Record′.mach x-r ∷ NewUpdate′.mach x-u ∷ [])
+      → (length (note-update″.out-register register x-k s x-l x-t x-r x-u) ≡ length register → Seq K W (‵ (flft κ·register q·register) ∷ ‵ (finally Record′.row γ·register (note-update″.out-register register x-k s x-l x-t x-r x-u)) ∷ Γ) (lands C Λ E d (vunit) rest Q))
       → Seq K W (‵ (flft κ·register q·register) ∷ ‵ (MutAt Record′.row κ·register b·register o·register γ·register n·register register) ∷ Γ) (runs C Λ E (seq (call #callee xs d) rest) Q)
-  calls t mem run fm known κ·register q·register b·register o·register γ·register n·register register x-k s x-l x-t f x-r = calls-by t mem run fm κ·register q·register b·register o·register γ·register n·register register x-k s x-l x-t f x-r (known (to 𝓤 H A mem run κ·register q·register b·register o·register γ·register n·register register x-k s x-l x-t f x-r))
+  calls t mem run fm known κ·register q·register b·register o·register γ·register n·register register x-k s x-l x-t x-r x-u = calls-by t mem run fm κ·register q·register b·register o·register γ·register n·register register x-k s x-l x-t x-r x-u (known (to 𝓤 H A mem run κ·register q·register b·register o·register γ·register n·register register x-k s x-l x-t x-r x-u))
 
 module _ {M : Type 1} {𝓤 : URA M} {H : Heap 𝓤} {A : Atoms 𝓤} {K : Type 0} {W : Given 𝓤 H A} {Γ : List (Item 𝓤)} {E : Env 𝓤 H} {C : Calls 𝓤 H} {Λ : Loops 𝓤 H} {Q : Post 𝓤 H} {xs : List Operand} {d : Place} where
   -- by one instance of the callee's contract, which is what a function that calls itself has. The call ends a part of the code
-  pub calls-last-by : K → (mem : Memory → SProp 𝓤) (run : Routine → Fun 𝓤) → FmC 𝓤 H (W .laws) C → (κ·register : Lft) (q·register : Share) (b·register o·register : ℕ) (γ·register : GName) (n·register : ℕ) (register : List Record) (x-k : ℕ) (s : Store) (x-l : Line) (x-t : Ticket) (f : PageIndex) (x-r : Record) → ent 𝓤 (Asked 𝓤 H A mem run .pre (to 𝓤 H A mem run κ·register q·register b·register o·register γ·register n·register register x-k s x-l x-t f x-r)) (C #callee (Asked 𝓤 H A mem run .args (to 𝓤 H A mem run κ·register q·register b·register o·register γ·register n·register register x-k s x-l x-t f x-r)) (Asked 𝓤 H A mem run .post (to 𝓤 H A mem run κ·register q·register b·register o·register γ·register n·register register x-k s x-l x-t f x-r))) → Is u64 x-k (uint-vals w64 x-k) → Is Store′.row s (Store′.vals s) → Is Line′.row x-l (Line′.vals x-l) → Is Ticket′.row x-t (Ticket′.vals x-t) → Is PageIndex′.row f (PageIndex′.vals f) → Is Record′.row x-r (Record′.vals x-r) → note-update″.req register x-k s x-l x-t f x-r →
-      Opds K W (raw (Asked 𝓤 H A mem run .pre (to 𝓤 H A mem run κ·register q·register b·register o·register γ·register n·register register x-k s x-l x-t f x-r)) ∷ Γ) E xs (sliceVal (b·register, o·register) n·register ∷ vint w64 x-k ∷ Store′.mach s ∷ Line′.mach x-l ∷ Ticket′.mach x-t ∷ PageIndex′.mach f ∷ Record′.mach x-r ∷ [])
-      → (length (note-update″.out-register register x-k s x-l x-t f x-r) ≡ length register → Seq K W (‵ (flft κ·register q·register) ∷ ‵ (finally Record′.row γ·register (note-update″.out-register register x-k s x-l x-t f x-r)) ∷ Γ) (settles E d (vunit) Q))
+  pub calls-last-by : K → (mem : Memory → SProp 𝓤) (run : Routine → Fun 𝓤) → FmC 𝓤 H (W .laws) C → (κ·register : Lft) (q·register : Share) (b·register o·register : ℕ) (γ·register : GName) (n·register : ℕ) (register : List Record) (x-k : ℕ) (s : Store) (x-l : Line) (x-t : Ticket) (x-r : Record) (x-u : NewUpdate) → ent 𝓤 (Asked 𝓤 H A mem run .pre (to 𝓤 H A mem run κ·register q·register b·register o·register γ·register n·register register x-k s x-l x-t x-r x-u)) (C #callee (Asked 𝓤 H A mem run .args (to 𝓤 H A mem run κ·register q·register b·register o·register γ·register n·register register x-k s x-l x-t x-r x-u)) (Asked 𝓤 H A mem run .post (to 𝓤 H A mem run κ·register q·register b·register o·register γ·register n·register register x-k s x-l x-t x-r x-u))) → Is u64 x-k (uint-vals w64 x-k) → Is Store′.row s (Store′.vals s) → Is Line′.row x-l (Line′.vals x-l) → Is Ticket′.row x-t (Ticket′.vals x-t) → Is Record′.row x-r (Record′.vals x-r) → Is NewUpdate′.row x-u (NewUpdate′.vals x-u) → note-update″.req register x-k s x-l x-t x-r x-u →
+      Opds K W (raw (Asked 𝓤 H A mem run .pre (to 𝓤 H A mem run κ·register q·register b·register o·register γ·register n·register register x-k s x-l x-t x-r x-u)) ∷ Γ) E xs (sliceVal (b·register, o·register) n·register ∷ vint w64 x-k ∷ Store′.mach s ∷ Line′.mach x-l ∷ Ticket′.mach x-t ∷ Record′.mach x-r ∷ NewUpdate′.mach x-u ∷ [])
+      → (length (note-update″.out-register register x-k s x-l x-t x-r x-u) ≡ length register → Seq K W (‵ (flft κ·register q·register) ∷ ‵ (finally Record′.row γ·register (note-update″.out-register register x-k s x-l x-t x-r x-u)) ∷ Γ) (settles E d (vunit) Q))
       → Seq K W (‵ (flft κ·register q·register) ∷ ‵ (MutAt Record′.row κ·register b·register o·register γ·register n·register register) ∷ Γ) (runs C Λ E (call #callee xs d) Q)
-  calls-last-by t mem run fm κ·register q·register b·register o·register γ·register n·register register x-k s x-l x-t f x-r known ok·x-k ok·s ok·x-l ok·x-t ok·f ok·x-r need os k =
-      core t mem run κ·register q·register b·register o·register γ·register n·register register x-k s x-l x-t f x-r (runs C Λ E (call #callee xs d) Q) (λ v. settles E d v Q) (λ v. tt)
-      (λ h. calls-from-last t fm (raw (Asked 𝓤 H A mem run .pre (to 𝓤 H A mem run κ·register q·register b·register o·register γ·register n·register register x-k s x-l x-t f x-r))) (Asked 𝓤 H A mem run .args (to 𝓤 H A mem run κ·register q·register b·register o·register γ·register n·register register x-k s x-l x-t f x-r)) (Asked 𝓤 H A mem run .post (to 𝓤 H A mem run κ·register q·register b·register o·register γ·register n·register register x-k s x-l x-t f x-r)) known os h) ok·x-k ok·s ok·x-l ok·x-t ok·f ok·x-r need k
+  calls-last-by t mem run fm κ·register q·register b·register o·register γ·register n·register register x-k s x-l x-t x-r x-u known ok·x-k ok·s ok·x-l ok·x-t ok·x-r ok·x-u need os k =
+      core t mem run κ·register q·register b·register o·register γ·register n·register register x-k s x-l x-t x-r x-u (runs C Λ E (call #callee xs d) Q) (λ v. settles E d v Q) (λ v. tt)
+      (λ h. calls-from-last t fm (raw (Asked 𝓤 H A mem run .pre (to 𝓤 H A mem run κ·register q·register b·register o·register γ·register n·register register x-k s x-l x-t x-r x-u))) (Asked 𝓤 H A mem run .args (to 𝓤 H A mem run κ·register q·register b·register o·register γ·register n·register register x-k s x-l x-t x-r x-u)) (Asked 𝓤 H A mem run .post (to 𝓤 H A mem run κ·register q·register b·register o·register γ·register n·register register x-k s x-l x-t x-r x-u)) known os h) ok·x-k ok·s ok·x-l ok·x-t ok·x-r ok·x-u need k
 
-  pub calls-last : K → (mem : Memory → SProp 𝓤) (run : Routine → Fun 𝓤) → FmC 𝓤 H (W .laws) C → Triple 𝓤 (C #callee) (Asked 𝓤 H A mem run) → (κ·register : Lft) (q·register : Share) (b·register o·register : ℕ) (γ·register : GName) (n·register : ℕ) (register : List Record) (x-k : ℕ) (s : Store) (x-l : Line) (x-t : Ticket) (f : PageIndex) (x-r : Record) → Is u64 x-k (uint-vals w64 x-k) → Is Store′.row s (Store′.vals s) → Is Line′.row x-l (Line′.vals x-l) → Is Ticket′.row x-t (Ticket′.vals x-t) → Is PageIndex′.row f (PageIndex′.vals f) → Is Record′.row x-r (Record′.vals x-r) → note-update″.req register x-k s x-l x-t f x-r →
-      Opds K W (raw (Asked 𝓤 H A mem run .pre (to 𝓤 H A mem run κ·register q·register b·register o·register γ·register n·register register x-k s x-l x-t f x-r)) ∷ Γ) E xs (sliceVal (b·register, o·register) n·register ∷ vint w64 x-k ∷ Store′.mach s ∷ Line′.mach x-l ∷ Ticket′.mach x-t ∷ PageIndex′.mach f ∷ Record′.mach x-r ∷ [])
-      → (length (note-update″.out-register register x-k s x-l x-t f x-r) ≡ length register → Seq K W (‵ (flft κ·register q·register) ∷ ‵ (finally Record′.row γ·register (note-update″.out-register register x-k s x-l x-t f x-r)) ∷ Γ) (settles E d (vunit) Q))
+  pub calls-last : K → (mem : Memory → SProp 𝓤) (run : Routine → Fun 𝓤) → FmC 𝓤 H (W .laws) C → Triple 𝓤 (C #callee) (Asked 𝓤 H A mem run) → (κ·register : Lft) (q·register : Share) (b·register o·register : ℕ) (γ·register : GName) (n·register : ℕ) (register : List Record) (x-k : ℕ) (s : Store) (x-l : Line) (x-t : Ticket) (x-r : Record) (x-u : NewUpdate) → Is u64 x-k (uint-vals w64 x-k) → Is Store′.row s (Store′.vals s) → Is Line′.row x-l (Line′.vals x-l) → Is Ticket′.row x-t (Ticket′.vals x-t) → Is Record′.row x-r (Record′.vals x-r) → Is NewUpdate′.row x-u (NewUpdate′.vals x-u) → note-update″.req register x-k s x-l x-t x-r x-u →
+      Opds K W (raw (Asked 𝓤 H A mem run .pre (to 𝓤 H A mem run κ·register q·register b·register o·register γ·register n·register register x-k s x-l x-t x-r x-u)) ∷ Γ) E xs (sliceVal (b·register, o·register) n·register ∷ vint w64 x-k ∷ Store′.mach s ∷ Line′.mach x-l ∷ Ticket′.mach x-t ∷ Record′.mach x-r ∷ NewUpdate′.mach x-u ∷ [])
+      → (length (note-update″.out-register register x-k s x-l x-t x-r x-u) ≡ length register → Seq K W (‵ (flft κ·register q·register) ∷ ‵ (finally Record′.row γ·register (note-update″.out-register register x-k s x-l x-t x-r x-u)) ∷ Γ) (settles E d (vunit) Q))
       → Seq K W (‵ (flft κ·register q·register) ∷ ‵ (MutAt Record′.row κ·register b·register o·register γ·register n·register register) ∷ Γ) (runs C Λ E (call #callee xs d) Q)
-  calls-last t mem run fm known κ·register q·register b·register o·register γ·register n·register register x-k s x-l x-t f x-r = calls-last-by t mem run fm κ·register q·register b·register o·register γ·register n·register register x-k s x-l x-t f x-r (known (to 𝓤 H A mem run κ·register q·register b·register o·register γ·register n·register register x-k s x-l x-t f x-r))
+  calls-last t mem run fm known κ·register q·register b·register o·register γ·register n·register register x-k s x-l x-t x-r x-u = calls-last-by t mem run fm κ·register q·register b·register o·register γ·register n·register register x-k s x-l x-t x-r x-u (known (to 𝓤 H A mem run κ·register q·register b·register o·register γ·register n·register register x-k s x-l x-t x-r x-u))

@@ -40,6 +40,8 @@ use Rattle.tree.specs.declared.PageIndex.{PageIndex}
 use Rattle.register.proofs.Generated.Kind.PageIndex as PageIndex′
 use Rattle.lines.specs.declared.Entries.{Entries}
 use Rattle.register.proofs.Generated.Kind.Entries as Entries′
+use Rattle.assign.specs.declared.NewUpdate.{NewUpdate}
+use Rattle.assign.proofs.Generated.Kind.NewUpdate as NewUpdate′
 use Rattle.register.proofs.Generated.Flow.{ref, MutAt, ShrAt, keeps-shr, plus-nothing}
 use Rattle.assign.proofs.update_part as callee
 use Rattle.assign.proofs.update_part.Symbol.{name as #callee}
@@ -48,53 +50,53 @@ module _ {M : Type 1} (𝓤 : URA M) (H : Heap 𝓤) (A : Atoms 𝓤) (mem : Mem
   abbrev pub Asked : Contract 𝓤
   Asked = tripleOf 𝓤 H A callee.signature (callee.spec 𝓤 H A mem run)
 
-  abbrev pub to : (x-r : Record) (x-t : Ticket) (c : ℕ) (f : PageIndex) (n : ℕ) (blob : ℕ) (x-place : ℕ) → Asked .Ghost
-  to x-r x-t c f n blob x-place = ((tt, tt, tt, (x-r, (x-t, (c, (f, (n, (blob, (x-place, tt))))))), (Record′.mach x-r ∷ [], (Ticket′.mach x-t ∷ [], (vint w64 c ∷ [], (PageIndex′.mach f ∷ [], (vint w64 n ∷ [], (vint w64 blob ∷ [], (vint w64 x-place ∷ [], tt)))))))), tt)
+  abbrev pub to : (x-r : Record) (x-t : Ticket) (c : ℕ) (x-u : NewUpdate) (x-place : ℕ) → Asked .Ghost
+  to x-r x-t c x-u x-place = ((tt, tt, tt, (x-r, (x-t, (c, (x-u, (x-place, tt))))), (Record′.mach x-r ∷ [], (Ticket′.mach x-t ∷ [], (vint w64 c ∷ [], (NewUpdate′.mach x-u ∷ [], (vint w64 x-place ∷ [], tt)))))), tt)
 
 module _ {M : Type 1} {𝓤 : URA M} {H : Heap 𝓤} {A : Atoms 𝓤} {K : Type 0} {W : Given 𝓤 H A} {Γ : List (Item 𝓤)} where
   -- the call itself is made by `by-call`, from what the callee asks to what it has ensured
-  core : K → (mem : Memory → SProp 𝓤) (run : Routine → Fun 𝓤) → (x-r : Record) (x-t : Ticket) (c : ℕ) (f : PageIndex) (n : ℕ) (blob : ℕ) (x-place : ℕ) → (G : Goal 𝓤 H) (after : Val → Goal 𝓤 H) → ((v : Val) → Soaks (after v))
-      → (((v : Val) → Seq K W (raw (Asked 𝓤 H A mem run .post (to 𝓤 H A mem run x-r x-t c f n blob x-place) v) ∷ Γ) (after v)) → Seq K W (raw (Asked 𝓤 H A mem run .pre (to 𝓤 H A mem run x-r x-t c f n blob x-place)) ∷ Γ) G) → Is Record′.row x-r (Record′.vals x-r) → Is Ticket′.row x-t (Ticket′.vals x-t) → Is u64 c (uint-vals w64 c) → Is PageIndex′.row f (PageIndex′.vals f) → Is u64 n (uint-vals w64 n) → Is u64 blob (uint-vals w64 blob) → Is u64 x-place (uint-vals w64 x-place) →
-      (Is Record′.row (update-part″.res x-r x-t c f n blob x-place) (Record′.vals (update-part″.res x-r x-t c f n blob x-place)) → Seq K W (Γ) (after (Record′.mach (update-part″.res x-r x-t c f n blob x-place)))) → Seq K W (Γ) G
-  core t mem run x-r x-t c f n blob x-place G after soaks by-call ok·x-r ok·x-t ok·c ok·f ok·n ok·blob ok·x-place k =
-      use0 W (raw (Asked 𝓤 H A mem run .pre (to 𝓤 H A mem run x-r x-t c f n blob x-place))) goes $
+  core : K → (mem : Memory → SProp 𝓤) (run : Routine → Fun 𝓤) → (x-r : Record) (x-t : Ticket) (c : ℕ) (x-u : NewUpdate) (x-place : ℕ) → (G : Goal 𝓤 H) (after : Val → Goal 𝓤 H) → ((v : Val) → Soaks (after v))
+      → (((v : Val) → Seq K W (raw (Asked 𝓤 H A mem run .post (to 𝓤 H A mem run x-r x-t c x-u x-place) v) ∷ Γ) (after v)) → Seq K W (raw (Asked 𝓤 H A mem run .pre (to 𝓤 H A mem run x-r x-t c x-u x-place)) ∷ Γ) G) → Is Record′.row x-r (Record′.vals x-r) → Is Ticket′.row x-t (Ticket′.vals x-t) → Is u64 c (uint-vals w64 c) → Is NewUpdate′.row x-u (NewUpdate′.vals x-u) → Is u64 x-place (uint-vals w64 x-place) → update-part″.req x-r x-t c x-u x-place →
+      (Is Record′.row (update-part″.res x-r x-t c x-u x-place) (Record′.vals (update-part″.res x-r x-t c x-u x-place)) → Seq K W (Γ) (after (Record′.mach (update-part″.res x-r x-t c x-u x-place)))) → Seq K W (Γ) G
+  core t mem run x-r x-t c x-u x-place G after soaks by-call ok·x-r ok·x-t ok·c ok·x-u ok·x-place need k =
+      use0 W (raw (Asked 𝓤 H A mem run .pre (to 𝓤 H A mem run x-r x-t c x-u x-place))) goes $
       by-call (λ v.
-      use1 W (later (some (λ (r· : Record). ((‵ ftrue) ⊛ ‵ (Record′.row .own r· (v ∷ []))) ⊛ raw (ensured 𝓤 H A callee.ended (callee.clauses 𝓤 H A mem run) tt (x-r, (x-t, (c, (f, (n, (blob, (x-place, tt))))))) tt r·)))) (id⊢ 𝓤 _) $ await t (soaks v) $ pick t (λ r·. split t $ move t (1 ∷ []) $
-      use1 W (some (λ (ws : Lasts callee.ended tt (x-r, (x-t, (c, (f, (n, (blob, (x-place, tt)))))))). ‵ (lasts callee.ended tt (x-r, (x-t, (c, (f, (n, (blob, (x-place, tt))))))) ws) ⊛ raw (fact 𝓤 (update-part″.ens x-r x-t c f n blob x-place r·)))) (id⊢ 𝓤 _) $ pick t (λ ws. split t $ move t (1 ∷ []) $
-      heard t (update-part″.ens x-r x-t c f n blob x-place r·) (λ e. drop t $ split t $ move t (1 ∷ []) $ facts t Record′.row (Is Record′.row) (shows 𝓤 H A Record′.row) r· (v ∷ []) (λ is. drop t $
+      use1 W (later (some (λ (r· : Record). ((‵ ftrue) ⊛ ‵ (Record′.row .own r· (v ∷ []))) ⊛ raw (ensured 𝓤 H A callee.ended (callee.clauses 𝓤 H A mem run) tt (x-r, (x-t, (c, (x-u, (x-place, tt))))) tt r·)))) (id⊢ 𝓤 _) $ await t (soaks v) $ pick t (λ r·. split t $ move t (1 ∷ []) $
+      use1 W (some (λ (ws : Lasts callee.ended tt (x-r, (x-t, (c, (x-u, (x-place, tt)))))). ‵ (lasts callee.ended tt (x-r, (x-t, (c, (x-u, (x-place, tt))))) ws) ⊛ raw (fact 𝓤 (update-part″.ens x-r x-t c x-u x-place r·)))) (id⊢ 𝓤 _) $ pick t (λ ws. split t $ move t (1 ∷ []) $
+      heard t (update-part″.ens x-r x-t c x-u x-place r·) (λ e. drop t $ split t $ move t (1 ∷ []) $ facts t Record′.row (Is Record′.row) (shows 𝓤 H A Record′.row) r· (v ∷ []) (λ is. drop t $
       subst (λ (u : Val). Seq K W (Γ) (after u)) (sym (ap only (Record′.tells r· (v ∷ []) is) ∙ ap (λ (z : Record). Record′.mach z) (e))) (k (subst (λ (z : Record). Is Record′.row z (Record′.vals z)) (e) (subst (Is Record′.row r·) (Record′.tells r· (v ∷ []) is) is))))))))
     where
-      goes : ent 𝓤 (⋆ 𝓤 H A ([])) (Asked 𝓤 H A mem run .pre (to 𝓤 H A mem run x-r x-t c f n blob x-place))
-      goes = qed W ([]) ∵ plus-nothing ! $ nothing ! $ frame ! $ nothing ! $ owned ! u64 (Is u64) (uint-makes 𝓤 H A W w64) x-place _ ok·x-place $ fjoin ! $ owned ! u64 (Is u64) (uint-makes 𝓤 H A W w64) blob _ ok·blob $ fjoin ! $ owned ! u64 (Is u64) (uint-makes 𝓤 H A W w64) n _ ok·n $ fjoin ! $ owned ! PageIndex′.row (Is PageIndex′.row) (PageIndex′.makes 𝓤 H A) f _ ok·f $ fjoin ! $ owned ! u64 (Is u64) (uint-makes 𝓤 H A W w64) c _ ok·c $ fjoin ! $ owned ! Ticket′.row (Is Ticket′.row) (Ticket′.makes 𝓤 H A) x-t _ ok·x-t $ fjoin ! $ owned ! Record′.row (Is Record′.row) (Record′.makes 𝓤 H A) x-r _ ok·x-r $ fjoin ! $ done !
+      goes : ent 𝓤 (⋆ 𝓤 H A ([])) (Asked 𝓤 H A mem run .pre (to 𝓤 H A mem run x-r x-t c x-u x-place))
+      goes = qed W ([]) ∵ says ! need $ nothing ! $ frame ! $ nothing ! $ owned ! u64 (Is u64) (uint-makes 𝓤 H A W w64) x-place _ ok·x-place $ fjoin ! $ owned ! NewUpdate′.row (Is NewUpdate′.row) (NewUpdate′.makes 𝓤 H A) x-u _ ok·x-u $ fjoin ! $ owned ! u64 (Is u64) (uint-makes 𝓤 H A W w64) c _ ok·c $ fjoin ! $ owned ! Ticket′.row (Is Ticket′.row) (Ticket′.makes 𝓤 H A) x-t _ ok·x-t $ fjoin ! $ owned ! Record′.row (Is Record′.row) (Record′.makes 𝓤 H A) x-r _ ok·x-r $ fjoin ! $ done !
 
 module _ {M : Type 1} {𝓤 : URA M} {H : Heap 𝓤} {A : Atoms 𝓤} {K : Type 0} {W : Given 𝓤 H A} {Γ : List (Item 𝓤)} {E : Env 𝓤 H} {C : Calls 𝓤 H} {Λ : Loops 𝓤 H} {Q : Post 𝓤 H} {xs : List Operand} {d : Place} {rest : Body} where
   -- by one instance of the callee's contract, which is what a function that calls itself has
-  pub calls-by : K → (mem : Memory → SProp 𝓤) (run : Routine → Fun 𝓤) → FmC 𝓤 H (W .laws) C → (x-r : Record) (x-t : Ticket) (c : ℕ) (f : PageIndex) (n : ℕ) (blob : ℕ) (x-place : ℕ) → ent 𝓤 (Asked 𝓤 H A mem run .pre (to 𝓤 H A mem run x-r x-t c f n blob x-place)) (C #callee (Asked 𝓤 H A mem run .args (to 𝓤 H A mem run x-r x-t c f n blob x-place)) (Asked 𝓤 H A mem run .post (to 𝓤 H A mem run x-r x-t c f n blob x-place))) → Is Record′.row x-r (Record′.vals x-r) → Is Ticket′.row x-t (Ticket′.vals x-t) → Is u64 c (uint-vals w64 c) → Is PageIndex′.row f (PageIndex′.vals f) → Is u64 n (uint-vals w64 n) → Is u64 blob (uint-vals w64 blob) → Is u64 x-place (uint-vals w64 x-place) →
-      Opds K W (raw (Asked 𝓤 H A mem run .pre (to 𝓤 H A mem run x-r x-t c f n blob x-place)) ∷ Γ) E xs (Record′.mach x-r ∷ Ticket′.mach x-t ∷ vint w64 c ∷ PageIndex′.mach f ∷ vint w64 n ∷ vint w64 blob ∷ vint w64 x-place ∷ [])
-      → (Is Record′.row (update-part″.res x-r x-t c f n blob x-place) (Record′.vals (update-part″.res x-r x-t c f n blob x-place)) → Seq K W (Γ) (lands C Λ E d (Record′.mach (update-part″.res x-r x-t c f n blob x-place)) rest Q))
+  pub calls-by : K → (mem : Memory → SProp 𝓤) (run : Routine → Fun 𝓤) → FmC 𝓤 H (W .laws) C → (x-r : Record) (x-t : Ticket) (c : ℕ) (x-u : NewUpdate) (x-place : ℕ) → ent 𝓤 (Asked 𝓤 H A mem run .pre (to 𝓤 H A mem run x-r x-t c x-u x-place)) (C #callee (Asked 𝓤 H A mem run .args (to 𝓤 H A mem run x-r x-t c x-u x-place)) (Asked 𝓤 H A mem run .post (to 𝓤 H A mem run x-r x-t c x-u x-place))) → Is Record′.row x-r (Record′.vals x-r) → Is Ticket′.row x-t (Ticket′.vals x-t) → Is u64 c (uint-vals w64 c) → Is NewUpdate′.row x-u (NewUpdate′.vals x-u) → Is u64 x-place (uint-vals w64 x-place) → update-part″.req x-r x-t c x-u x-place →
+      Opds K W (raw (Asked 𝓤 H A mem run .pre (to 𝓤 H A mem run x-r x-t c x-u x-place)) ∷ Γ) E xs (Record′.mach x-r ∷ Ticket′.mach x-t ∷ vint w64 c ∷ NewUpdate′.mach x-u ∷ vint w64 x-place ∷ [])
+      → (Is Record′.row (update-part″.res x-r x-t c x-u x-place) (Record′.vals (update-part″.res x-r x-t c x-u x-place)) → Seq K W (Γ) (lands C Λ E d (Record′.mach (update-part″.res x-r x-t c x-u x-place)) rest Q))
       → Seq K W (Γ) (runs C Λ E (seq (call #callee xs d) rest) Q)
-  calls-by t mem run fm x-r x-t c f n blob x-place known ok·x-r ok·x-t ok·c ok·f ok·n ok·blob ok·x-place os k =
-      core t mem run x-r x-t c f n blob x-place (runs C Λ E (seq (call #callee xs d) rest) Q) (λ v. lands C Λ E d v rest Q) (λ v. tt)
-      (λ h. calls-from t fm (raw (Asked 𝓤 H A mem run .pre (to 𝓤 H A mem run x-r x-t c f n blob x-place))) (Asked 𝓤 H A mem run .args (to 𝓤 H A mem run x-r x-t c f n blob x-place)) (Asked 𝓤 H A mem run .post (to 𝓤 H A mem run x-r x-t c f n blob x-place)) known os h) ok·x-r ok·x-t ok·c ok·f ok·n ok·blob ok·x-place k
+  calls-by t mem run fm x-r x-t c x-u x-place known ok·x-r ok·x-t ok·c ok·x-u ok·x-place need os k =
+      core t mem run x-r x-t c x-u x-place (runs C Λ E (seq (call #callee xs d) rest) Q) (λ v. lands C Λ E d v rest Q) (λ v. tt)
+      (λ h. calls-from t fm (raw (Asked 𝓤 H A mem run .pre (to 𝓤 H A mem run x-r x-t c x-u x-place))) (Asked 𝓤 H A mem run .args (to 𝓤 H A mem run x-r x-t c x-u x-place)) (Asked 𝓤 H A mem run .post (to 𝓤 H A mem run x-r x-t c x-u x-place)) known os h) ok·x-r ok·x-t ok·c ok·x-u ok·x-place need k
 
-  pub calls : K → (mem : Memory → SProp 𝓤) (run : Routine → Fun 𝓤) → FmC 𝓤 H (W .laws) C → Triple 𝓤 (C #callee) (Asked 𝓤 H A mem run) → (x-r : Record) (x-t : Ticket) (c : ℕ) (f : PageIndex) (n : ℕ) (blob : ℕ) (x-place : ℕ) → Is Record′.row x-r (Record′.vals x-r) → Is Ticket′.row x-t (Ticket′.vals x-t) → Is u64 c (uint-vals w64 c) → Is PageIndex′.row f (PageIndex′.vals f) → Is u64 n (uint-vals w64 n) → Is u64 blob (uint-vals w64 blob) → Is u64 x-place (uint-vals w64 x-place) →
-      Opds K W (raw (Asked 𝓤 H A mem run .pre (to 𝓤 H A mem run x-r x-t c f n blob x-place)) ∷ Γ) E xs (Record′.mach x-r ∷ Ticket′.mach x-t ∷ vint w64 c ∷ PageIndex′.mach f ∷ vint w64 n ∷ vint w64 blob ∷ vint w64 x-place ∷ [])
-      → (Is Record′.row (update-part″.res x-r x-t c f n blob x-place) (Record′.vals (update-part″.res x-r x-t c f n blob x-place)) → Seq K W (Γ) (lands C Λ E d (Record′.mach (update-part″.res x-r x-t c f n blob x-place)) rest Q))
+  pub calls : K → (mem : Memory → SProp 𝓤) (run : Routine → Fun 𝓤) → FmC 𝓤 H (W .laws) C → Triple 𝓤 (C #callee) (Asked 𝓤 H A mem run) → (x-r : Record) (x-t : Ticket) (c : ℕ) (x-u : NewUpdate) (x-place : ℕ) → Is Record′.row x-r (Record′.vals x-r) → Is Ticket′.row x-t (Ticket′.vals x-t) → Is u64 c (uint-vals w64 c) → Is NewUpdate′.row x-u (NewUpdate′.vals x-u) → Is u64 x-place (uint-vals w64 x-place) → update-part″.req x-r x-t c x-u x-place →
+      Opds K W (raw (Asked 𝓤 H A mem run .pre (to 𝓤 H A mem run x-r x-t c x-u x-place)) ∷ Γ) E xs (Record′.mach x-r ∷ Ticket′.mach x-t ∷ vint w64 c ∷ NewUpdate′.mach x-u ∷ vint w64 x-place ∷ [])
+      → (Is Record′.row (update-part″.res x-r x-t c x-u x-place) (Record′.vals (update-part″.res x-r x-t c x-u x-place)) → Seq K W (Γ) (lands C Λ E d (Record′.mach (update-part″.res x-r x-t c x-u x-place)) rest Q))
       → Seq K W (Γ) (runs C Λ E (seq (call #callee xs d) rest) Q)
-  calls t mem run fm known x-r x-t c f n blob x-place = calls-by t mem run fm x-r x-t c f n blob x-place (known (to 𝓤 H A mem run x-r x-t c f n blob x-place))
+  calls t mem run fm known x-r x-t c x-u x-place = calls-by t mem run fm x-r x-t c x-u x-place (known (to 𝓤 H A mem run x-r x-t c x-u x-place))
 
 module _ {M : Type 1} {𝓤 : URA M} {H : Heap 𝓤} {A : Atoms 𝓤} {K : Type 0} {W : Given 𝓤 H A} {Γ : List (Item 𝓤)} {E : Env 𝓤 H} {C : Calls 𝓤 H} {Λ : Loops 𝓤 H} {Q : Post 𝓤 H} {xs : List Operand} {d : Place} where
   -- by one instance of the callee's contract, which is what a function that calls itself has. The call ends a part of the code
-  pub calls-last-by : K → (mem : Memory → SProp 𝓤) (run : Routine → Fun 𝓤) → FmC 𝓤 H (W .laws) C → (x-r : Record) (x-t : Ticket) (c : ℕ) (f : PageIndex) (n : ℕ) (blob : ℕ) (x-place : ℕ) → ent 𝓤 (Asked 𝓤 H A mem run .pre (to 𝓤 H A mem run x-r x-t c f n blob x-place)) (C #callee (Asked 𝓤 H A mem run .args (to 𝓤 H A mem run x-r x-t c f n blob x-place)) (Asked 𝓤 H A mem run .post (to 𝓤 H A mem run x-r x-t c f n blob x-place))) → Is Record′.row x-r (Record′.vals x-r) → Is Ticket′.row x-t (Ticket′.vals x-t) → Is u64 c (uint-vals w64 c) → Is PageIndex′.row f (PageIndex′.vals f) → Is u64 n (uint-vals w64 n) → Is u64 blob (uint-vals w64 blob) → Is u64 x-place (uint-vals w64 x-place) →
-      Opds K W (raw (Asked 𝓤 H A mem run .pre (to 𝓤 H A mem run x-r x-t c f n blob x-place)) ∷ Γ) E xs (Record′.mach x-r ∷ Ticket′.mach x-t ∷ vint w64 c ∷ PageIndex′.mach f ∷ vint w64 n ∷ vint w64 blob ∷ vint w64 x-place ∷ [])
-      → (Is Record′.row (update-part″.res x-r x-t c f n blob x-place) (Record′.vals (update-part″.res x-r x-t c f n blob x-place)) → Seq K W (Γ) (settles E d (Record′.mach (update-part″.res x-r x-t c f n blob x-place)) Q))
+  pub calls-last-by : K → (mem : Memory → SProp 𝓤) (run : Routine → Fun 𝓤) → FmC 𝓤 H (W .laws) C → (x-r : Record) (x-t : Ticket) (c : ℕ) (x-u : NewUpdate) (x-place : ℕ) → ent 𝓤 (Asked 𝓤 H A mem run .pre (to 𝓤 H A mem run x-r x-t c x-u x-place)) (C #callee (Asked 𝓤 H A mem run .args (to 𝓤 H A mem run x-r x-t c x-u x-place)) (Asked 𝓤 H A mem run .post (to 𝓤 H A mem run x-r x-t c x-u x-place))) → Is Record′.row x-r (Record′.vals x-r) → Is Ticket′.row x-t (Ticket′.vals x-t) → Is u64 c (uint-vals w64 c) → Is NewUpdate′.row x-u (NewUpdate′.vals x-u) → Is u64 x-place (uint-vals w64 x-place) → update-part″.req x-r x-t c x-u x-place →
+      Opds K W (raw (Asked 𝓤 H A mem run .pre (to 𝓤 H A mem run x-r x-t c x-u x-place)) ∷ Γ) E xs (Record′.mach x-r ∷ Ticket′.mach x-t ∷ vint w64 c ∷ NewUpdate′.mach x-u ∷ vint w64 x-place ∷ [])
+      → (Is Record′.row (update-part″.res x-r x-t c x-u x-place) (Record′.vals (update-part″.res x-r x-t c x-u x-place)) → Seq K W (Γ) (settles E d (Record′.mach (update-part″.res x-r x-t c x-u x-place)) Q))
       → Seq K W (Γ) (runs C Λ E (call #callee xs d) Q)
-  calls-last-by t mem run fm x-r x-t c f n blob x-place known ok·x-r ok·x-t ok·c ok·f ok·n ok·blob ok·x-place os k =
-      core t mem run x-r x-t c f n blob x-place (runs C Λ E (call #callee xs d) Q) (λ v. settles E d v Q) (λ v. tt)
-      (λ h. calls-from-last t fm (raw (Asked 𝓤 H A mem run .pre (to 𝓤 H A mem run x-r x-t c f n blob x-place))) (Asked 𝓤 H A mem run .args (to 𝓤 H A mem run x-r x-t c f n blob x-place)) (Asked 𝓤 H A mem run .post (to 𝓤 H A mem run x-r x-t c f n blob x-place)) known os h) ok·x-r ok·x-t ok·c ok·f ok·n ok·blob ok·x-place k
+  calls-last-by t mem run fm x-r x-t c x-u x-place known ok·x-r ok·x-t ok·c ok·x-u ok·x-place need os k =
+      core t mem run x-r x-t c x-u x-place (runs C Λ E (call #callee xs d) Q) (λ v. settles E d v Q) (λ v. tt)
+      (λ h. calls-from-last t fm (raw (Asked 𝓤 H A mem run .pre (to 𝓤 H A mem run x-r x-t c x-u x-place))) (Asked 𝓤 H A mem run .args (to 𝓤 H A mem run x-r x-t c x-u x-place)) (Asked 𝓤 H A mem run .post (to 𝓤 H A mem run x-r x-t c x-u x-place)) known os h) ok·x-r ok·x-t ok·c ok·x-u ok·x-place need k
 
-  pub calls-last : K → (mem : Memory → SProp 𝓤) (run : Routine → Fun 𝓤) → FmC 𝓤 H (W .laws) C → Triple 𝓤 (C #callee) (Asked 𝓤 H A mem run) → (x-r : Record) (x-t : Ticket) (c : ℕ) (f : PageIndex) (n : ℕ) (blob : ℕ) (x-place : ℕ) → Is Record′.row x-r (Record′.vals x-r) → Is Ticket′.row x-t (Ticket′.vals x-t) → Is u64 c (uint-vals w64 c) → Is PageIndex′.row f (PageIndex′.vals f) → Is u64 n (uint-vals w64 n) → Is u64 blob (uint-vals w64 blob) → Is u64 x-place (uint-vals w64 x-place) →
-      Opds K W (raw (Asked 𝓤 H A mem run .pre (to 𝓤 H A mem run x-r x-t c f n blob x-place)) ∷ Γ) E xs (Record′.mach x-r ∷ Ticket′.mach x-t ∷ vint w64 c ∷ PageIndex′.mach f ∷ vint w64 n ∷ vint w64 blob ∷ vint w64 x-place ∷ [])
-      → (Is Record′.row (update-part″.res x-r x-t c f n blob x-place) (Record′.vals (update-part″.res x-r x-t c f n blob x-place)) → Seq K W (Γ) (settles E d (Record′.mach (update-part″.res x-r x-t c f n blob x-place)) Q))
+  pub calls-last : K → (mem : Memory → SProp 𝓤) (run : Routine → Fun 𝓤) → FmC 𝓤 H (W .laws) C → Triple 𝓤 (C #callee) (Asked 𝓤 H A mem run) → (x-r : Record) (x-t : Ticket) (c : ℕ) (x-u : NewUpdate) (x-place : ℕ) → Is Record′.row x-r (Record′.vals x-r) → Is Ticket′.row x-t (Ticket′.vals x-t) → Is u64 c (uint-vals w64 c) → Is NewUpdate′.row x-u (NewUpdate′.vals x-u) → Is u64 x-place (uint-vals w64 x-place) → update-part″.req x-r x-t c x-u x-place →
+      Opds K W (raw (Asked 𝓤 H A mem run .pre (to 𝓤 H A mem run x-r x-t c x-u x-place)) ∷ Γ) E xs (Record′.mach x-r ∷ Ticket′.mach x-t ∷ vint w64 c ∷ NewUpdate′.mach x-u ∷ vint w64 x-place ∷ [])
+      → (Is Record′.row (update-part″.res x-r x-t c x-u x-place) (Record′.vals (update-part″.res x-r x-t c x-u x-place)) → Seq K W (Γ) (settles E d (Record′.mach (update-part″.res x-r x-t c x-u x-place)) Q))
       → Seq K W (Γ) (runs C Λ E (call #callee xs d) Q)
-  calls-last t mem run fm known x-r x-t c f n blob x-place = calls-last-by t mem run fm x-r x-t c f n blob x-place (known (to 𝓤 H A mem run x-r x-t c f n blob x-place))
+  calls-last t mem run fm known x-r x-t c x-u x-place = calls-last-by t mem run fm x-r x-t c x-u x-place (known (to 𝓤 H A mem run x-r x-t c x-u x-place))

@@ -20,6 +20,8 @@ use Rattle.versions.specs.declared.Store.{Store}
 use Rattle.versions.proofs.Generated.Kind.Store as Store′
 use Rattle.lines.specs.declared.Line.{Line}
 use Rattle.register.proofs.Generated.Kind.Line as Line′
+use Rattle.assign.specs.declared.NewUpdate.{NewUpdate}
+use Rattle.assign.proofs.Generated.Kind.NewUpdate as NewUpdate′
 use Rattle.lines.specs.declared.Branch.{Branch}
 use Rattle.versions.proofs.Generated.Kind.Branch as Branch′
 use Rattle.tree.specs.declared.Version.{Version}
@@ -35,44 +37,50 @@ use Rattle.assign.proofs.Generated.Say.next_number as next-number″
 use Rattle.assign.proofs.Generated.Say.update_part as update-part″
 use Rattle.assign.proofs.Generated.Say.entry_part as entry-part″
 
-abbrev pub r1 : List Record → ℕ → Store → Line → Ticket → PageIndex → Record → Branch
-r1 register x-k s x-l x-t f x-r = line-state″.res s x-l
+abbrev pub r1 : List Record → ℕ → Store → Line → Ticket → Record → NewUpdate → Branch
+r1 register x-k s x-l x-t x-r x-u = line-state″.res s x-l
 
-abbrev pub r2 : List Record → ℕ → Store → Line → Ticket → PageIndex → Record → ℕ
-r2 register x-k s x-l x-t f x-r = capped-sum″.res (s .assigned) 1
+abbrev pub r2 : List Record → ℕ → Store → Line → Ticket → Record → NewUpdate → ℕ
+r2 register x-k s x-l x-t x-r x-u = capped-sum″.res (s .assigned) 1
 
-abbrev pub r3 : List Record → ℕ → Store → Line → Ticket → PageIndex → Record → ℕ
-r3 register x-k s x-l x-t f x-r = ticket-index″.res x-t
+abbrev pub r3 : List Record → ℕ → Store → Line → Ticket → Record → NewUpdate → ℕ
+r3 register x-k s x-l x-t x-r x-u = ticket-index″.res x-t
 
-abbrev pub r4 : List Record → ℕ → Store → Line → Ticket → PageIndex → Record → Record
-r4 register x-k s x-l x-t f x-r = ticket-part″.res x-r (r2 register x-k s x-l x-t f x-r)
+abbrev pub r4 : List Record → ℕ → Store → Line → Ticket → Record → NewUpdate → Record
+r4 register x-k s x-l x-t x-r x-u = ticket-part″.res x-r (r2 register x-k s x-l x-t x-r x-u)
 
-abbrev pub register₅ : List Record → ℕ → Store → Line → Ticket → PageIndex → Record → List Record
-register₅ register x-k s x-l x-t f x-r = put-record″.out-register register x-k (r3 register x-k s x-l x-t f x-r) (r4 register x-k s x-l x-t f x-r)
+abbrev pub register₅ : List Record → ℕ → Store → Line → Ticket → Record → NewUpdate → List Record
+register₅ register x-k s x-l x-t x-r x-u = put-record″.out-register register x-k (r3 register x-k s x-l x-t x-r x-u) (r4 register x-k s x-l x-t x-r x-u)
 
-abbrev pub r6 : List Record → ℕ → Store → Line → Ticket → PageIndex → Record → Record
-r6 register x-k s x-l x-t f x-r = record-at″.res (register₅ register x-k s x-l x-t f x-r) (s .assigned)
+abbrev pub r6 : List Record → ℕ → Store → Line → Ticket → Record → NewUpdate → Record
+r6 register x-k s x-l x-t x-r x-u = record-at″.res (register₅ register x-k s x-l x-t x-r x-u) (s .assigned)
 
-abbrev pub r7 : List Record → ℕ → Store → Line → Ticket → PageIndex → Record → ℕ
-r7 register x-k s x-l x-t f x-r = next-number″.res x-l (r1 register x-k s x-l x-t f x-r)
+abbrev pub r7 : List Record → ℕ → Store → Line → Ticket → Record → NewUpdate → ℕ
+r7 register x-k s x-l x-t x-r x-u = next-number″.res x-l (r1 register x-k s x-l x-t x-r x-u)
 
-abbrev pub r8 : List Record → ℕ → Store → Line → Ticket → PageIndex → Record → Record
-r8 register x-k s x-l x-t f x-r = update-part″.res (r6 register x-k s x-l x-t f x-r) x-t (r7 register x-k s x-l x-t f x-r) f (x-r .n) ((r1 register x-k s x-l x-t f x-r) .blob) (s .places)
+abbrev pub r8 : List Record → ℕ → Store → Line → Ticket → Record → NewUpdate → Record
+r8 register x-k s x-l x-t x-r x-u = update-part″.res (r6 register x-k s x-l x-t x-r x-u) x-t (r7 register x-k s x-l x-t x-r x-u) x-u (s .places)
 
-abbrev pub register₉ : List Record → ℕ → Store → Line → Ticket → PageIndex → Record → List Record
-register₉ register x-k s x-l x-t f x-r = put-record″.out-register (register₅ register x-k s x-l x-t f x-r) x-k (s .assigned) (r8 register x-k s x-l x-t f x-r)
+abbrev pub register₉ : List Record → ℕ → Store → Line → Ticket → Record → NewUpdate → List Record
+register₉ register x-k s x-l x-t x-r x-u = put-record″.out-register (register₅ register x-k s x-l x-t x-r x-u) x-k (s .assigned) (r8 register x-k s x-l x-t x-r x-u)
 
-abbrev pub r10 : List Record → ℕ → Store → Line → Ticket → PageIndex → Record → Record
-r10 register x-k s x-l x-t f x-r = record-at″.res (register₉ register x-k s x-l x-t f x-r) (((r1 register x-k s x-l x-t f x-r) .assigned) .0)
+abbrev pub r10 : List Record → ℕ → Store → Line → Ticket → Record → NewUpdate → Record
+r10 register x-k s x-l x-t x-r x-u = record-at″.res (register₉ register x-k s x-l x-t x-r x-u) (((r1 register x-k s x-l x-t x-r x-u) .assigned) .0)
 
-abbrev pub r11 : List Record → ℕ → Store → Line → Ticket → PageIndex → Record → Record
-r11 register x-k s x-l x-t f x-r = entry-part″.res (r10 register x-k s x-l x-t f x-r) x-l (r2 register x-k s x-l x-t f x-r)
+abbrev pub r11 : List Record → ℕ → Store → Line → Ticket → Record → NewUpdate → Record
+r11 register x-k s x-l x-t x-r x-u = entry-part″.res (r10 register x-k s x-l x-t x-r x-u) x-l (r2 register x-k s x-l x-t x-r x-u)
 
-abbrev pub register₁₂ : List Record → ℕ → Store → Line → Ticket → PageIndex → Record → List Record
-register₁₂ register x-k s x-l x-t f x-r = put-record″.out-register (register₉ register x-k s x-l x-t f x-r) x-k (((r1 register x-k s x-l x-t f x-r) .assigned) .0) (r11 register x-k s x-l x-t f x-r)
+abbrev pub register₁₂ : List Record → ℕ → Store → Line → Ticket → Record → NewUpdate → List Record
+register₁₂ register x-k s x-l x-t x-r x-u = put-record″.out-register (register₉ register x-k s x-l x-t x-r x-u) x-k (((r1 register x-k s x-l x-t x-r x-u) .assigned) .0) (r11 register x-k s x-l x-t x-r x-u)
 
--- the function ensures: register′ ≡ unless k register (withAssigned s register r (l .0) (t .0) (f .0))
+-- `update_part` asks: Figured u
+abbrev pub update-part-1 : Type 0
+update-part-1 =
+    (register : List Record) (x-k : ℕ) (s : Store) (x-l : Line) (x-t : Ticket) (x-r : Record) (x-u : NewUpdate) (len-register : length register < 2 ^ 64) (fits-x-k : x-k < 2 ^ 64) (ok-s : Store′.Ok s) (ok-x-l : Line′.Ok x-l) (ok-x-t : Ticket′.Ok x-t) (ok-x-r : Record′.Ok x-r) (ok-x-u : NewUpdate′.Ok x-u) (need : note-update″.req register x-k s x-l x-t x-r x-u) (ok-r1 : Branch′.Ok (r1 register x-k s x-l x-t x-r x-u)) (fits-r2 : (r2 register x-k s x-l x-t x-r x-u) < 2 ^ 64) (fits-r3 : (r3 register x-k s x-l x-t x-r x-u) < 2 ^ 64) (ok-r4 : Record′.Ok (r4 register x-k s x-l x-t x-r x-u)) (same5-register : length (register₅ register x-k s x-l x-t x-r x-u) ≡ length register) (ok-r6 : Record′.Ok (r6 register x-k s x-l x-t x-r x-u)) (fits-r7 : (r7 register x-k s x-l x-t x-r x-u) < 2 ^ 64)
+    → update-part″.req (r6 register x-k s x-l x-t x-r x-u) x-t (r7 register x-k s x-l x-t x-r x-u) x-u (s .places)
+
+-- the function ensures: register′ ≡ unless k register (withAssigned s register r (l .0) (t .0) (u .f .0))
 abbrev pub exit-1 : Type 0
 exit-1 =
-    (register : List Record) (x-k : ℕ) (s : Store) (x-l : Line) (x-t : Ticket) (f : PageIndex) (x-r : Record) (len-register : length register < 2 ^ 64) (fits-x-k : x-k < 2 ^ 64) (ok-s : Store′.Ok s) (ok-x-l : Line′.Ok x-l) (ok-x-t : Ticket′.Ok x-t) (ok-f : PageIndex′.Ok f) (ok-x-r : Record′.Ok x-r) (need : note-update″.req register x-k s x-l x-t f x-r) (ok-r1 : Branch′.Ok (r1 register x-k s x-l x-t f x-r)) (fits-r2 : (r2 register x-k s x-l x-t f x-r) < 2 ^ 64) (fits-r3 : (r3 register x-k s x-l x-t f x-r) < 2 ^ 64) (ok-r4 : Record′.Ok (r4 register x-k s x-l x-t f x-r)) (same5-register : length (register₅ register x-k s x-l x-t f x-r) ≡ length register) (ok-r6 : Record′.Ok (r6 register x-k s x-l x-t f x-r)) (fits-r7 : (r7 register x-k s x-l x-t f x-r) < 2 ^ 64) (ok-r8 : Record′.Ok (r8 register x-k s x-l x-t f x-r)) (same9-register : length (register₉ register x-k s x-l x-t f x-r) ≡ length (register₅ register x-k s x-l x-t f x-r)) (ok-r10 : Record′.Ok (r10 register x-k s x-l x-t f x-r)) (ok-r11 : Record′.Ok (r11 register x-k s x-l x-t f x-r)) (same12-register : length (register₁₂ register x-k s x-l x-t f x-r) ≡ length (register₉ register x-k s x-l x-t f x-r))
-    → note-update″.ens register x-k s x-l x-t f x-r (register₁₂ register x-k s x-l x-t f x-r) tt
+    (register : List Record) (x-k : ℕ) (s : Store) (x-l : Line) (x-t : Ticket) (x-r : Record) (x-u : NewUpdate) (len-register : length register < 2 ^ 64) (fits-x-k : x-k < 2 ^ 64) (ok-s : Store′.Ok s) (ok-x-l : Line′.Ok x-l) (ok-x-t : Ticket′.Ok x-t) (ok-x-r : Record′.Ok x-r) (ok-x-u : NewUpdate′.Ok x-u) (need : note-update″.req register x-k s x-l x-t x-r x-u) (ok-r1 : Branch′.Ok (r1 register x-k s x-l x-t x-r x-u)) (fits-r2 : (r2 register x-k s x-l x-t x-r x-u) < 2 ^ 64) (fits-r3 : (r3 register x-k s x-l x-t x-r x-u) < 2 ^ 64) (ok-r4 : Record′.Ok (r4 register x-k s x-l x-t x-r x-u)) (same5-register : length (register₅ register x-k s x-l x-t x-r x-u) ≡ length register) (ok-r6 : Record′.Ok (r6 register x-k s x-l x-t x-r x-u)) (fits-r7 : (r7 register x-k s x-l x-t x-r x-u) < 2 ^ 64) (ok-r8 : Record′.Ok (r8 register x-k s x-l x-t x-r x-u)) (same9-register : length (register₉ register x-k s x-l x-t x-r x-u) ≡ length (register₅ register x-k s x-l x-t x-r x-u)) (ok-r10 : Record′.Ok (r10 register x-k s x-l x-t x-r x-u)) (ok-r11 : Record′.Ok (r11 register x-k s x-l x-t x-r x-u)) (same12-register : length (register₁₂ register x-k s x-l x-t x-r x-u) ≡ length (register₉ register x-k s x-l x-t x-r x-u))
+    → note-update″.ens register x-k s x-l x-t x-r x-u (register₁₂ register x-k s x-l x-t x-r x-u) tt

@@ -28,9 +28,15 @@ use Rattle.lines.specs.declared.Line.{Line}
 use Rattle.register.proofs.Generated.Kind.Line as Line′
 use Rattle.versions.specs.declared.Lengths.{Lengths}
 use Rattle.versions.proofs.Generated.Kind.Lengths as Lengths′
+use Rattle.lines.specs.declared.Branch.{Branch}
+use Rattle.versions.proofs.Generated.Kind.Branch as Branch′
+use Rattle.assign.specs.declared.NewUpdate.{NewUpdate}
+use Rattle.assign.proofs.Generated.Kind.NewUpdate as NewUpdate′
 use Rattle.assign.proofs.Generated.Say.write as write″
 use Rattle.register.proofs.Generated.Say.ticket_record as ticket-record″
 use Rattle.versions.proofs.Generated.Say.lengths_of as lengths-of″
+use Rattle.versions.proofs.Generated.Say.line_state as line-state″
+use Rattle.assign.proofs.Generated.Say.new_update as new-update″
 use Rattle.assign.proofs.Generated.Say.assign_refusal as assign-refusal″
 use Rattle.assign.proofs.Generated.Say.note_update as note-update″
 use Rattle.assign.proofs.Generated.Say.assigned_by as assigned-by″
@@ -41,29 +47,41 @@ r1 s pages nodes register x-l x-t f = ticket-record″.res register x-t
 abbrev pub r2 : Store → List ℕ → List ℕ → List Record → Line → Ticket → PageIndex → Lengths
 r2 s pages nodes register x-l x-t f = lengths-of″.res pages nodes register
 
-abbrev pub r3 : Store → List ℕ → List ℕ → List Record → Line → Ticket → PageIndex → ℕ
-r3 s pages nodes register x-l x-t f = assign-refusal″.res s (r2 s pages nodes register x-l x-t f) (r1 s pages nodes register x-l x-t f) x-l x-t f
+abbrev pub r3 : Store → List ℕ → List ℕ → List Record → Line → Ticket → PageIndex → Branch
+r3 s pages nodes register x-l x-t f = line-state″.res s x-l
 
-abbrev pub register₄ : Store → List ℕ → List ℕ → List Record → Line → Ticket → PageIndex → List Record
-register₄ s pages nodes register x-l x-t f = note-update″.out-register register (r3 s pages nodes register x-l x-t f) s x-l x-t f (r1 s pages nodes register x-l x-t f)
+abbrev pub r4 : Store → List ℕ → List ℕ → List Record → Line → Ticket → PageIndex → NewUpdate
+r4 s pages nodes register x-l x-t f = new-update″.res ((r3 s pages nodes register x-l x-t f) .blob) f ((r1 s pages nodes register x-l x-t f) .n)
 
-abbrev pub r5 : Store → List ℕ → List ℕ → List Record → Line → Ticket → PageIndex → AssignOut
-r5 s pages nodes register x-l x-t f = assigned-by″.res s x-l f ((r1 s pages nodes register x-l x-t f) .n) (r3 s pages nodes register x-l x-t f)
+abbrev pub r5 : Store → List ℕ → List ℕ → List Record → Line → Ticket → PageIndex → ℕ
+r5 s pages nodes register x-l x-t f = assign-refusal″.res s (r2 s pages nodes register x-l x-t f) (r1 s pages nodes register x-l x-t f) x-l x-t (r4 s pages nodes register x-l x-t f)
 
--- `note_update` asks: (k ≡ 0 → Roomy s (l .0) (f .0) (r .n))
+abbrev pub register₆ : Store → List ℕ → List ℕ → List Record → Line → Ticket → PageIndex → List Record
+register₆ s pages nodes register x-l x-t f = note-update″.out-register register (r5 s pages nodes register x-l x-t f) s x-l x-t (r1 s pages nodes register x-l x-t f) (r4 s pages nodes register x-l x-t f)
+
+abbrev pub r7 : Store → List ℕ → List ℕ → List Record → Line → Ticket → PageIndex → AssignOut
+r7 s pages nodes register x-l x-t f = assigned-by″.res s x-l (r4 s pages nodes register x-l x-t f) (r5 s pages nodes register x-l x-t f)
+
+-- `assign_refusal` asks: u .count ≡ countOf (updateAt (lineIn s (l .0) .blob) (u .f .0) (r .n))
+abbrev pub assign-refusal-1 : Type 0
+assign-refusal-1 =
+    (s : Store) (pages : List ℕ) (nodes : List ℕ) (register : List Record) (x-l : Line) (x-t : Ticket) (f : PageIndex) (ok-s : Store′.Ok s) (len-pages : length pages < 2 ^ 64) (len-nodes : length nodes < 2 ^ 64) (len-register : length register < 2 ^ 64) (ok-x-l : Line′.Ok x-l) (ok-x-t : Ticket′.Ok x-t) (ok-f : PageIndex′.Ok f) (ok-r1 : Record′.Ok (r1 s pages nodes register x-l x-t f)) (ok-r2 : Lengths′.Ok (r2 s pages nodes register x-l x-t f)) (ok-r3 : Branch′.Ok (r3 s pages nodes register x-l x-t f)) (ok-r4 : NewUpdate′.Ok (r4 s pages nodes register x-l x-t f))
+    → assign-refusal″.req s (r2 s pages nodes register x-l x-t f) (r1 s pages nodes register x-l x-t f) x-l x-t (r4 s pages nodes register x-l x-t f)
+
+-- `note_update` asks: (k ≡ 0 → Roomy s (l .0) (u .f .0) (r .n)) × (u ≡ newUpdate (lineIn s (l .0) .blob) (u .f .0) (r .n))
 abbrev pub note-update-1 : Type 0
 note-update-1 =
-    (s : Store) (pages : List ℕ) (nodes : List ℕ) (register : List Record) (x-l : Line) (x-t : Ticket) (f : PageIndex) (ok-s : Store′.Ok s) (len-pages : length pages < 2 ^ 64) (len-nodes : length nodes < 2 ^ 64) (len-register : length register < 2 ^ 64) (ok-x-l : Line′.Ok x-l) (ok-x-t : Ticket′.Ok x-t) (ok-f : PageIndex′.Ok f) (ok-r1 : Record′.Ok (r1 s pages nodes register x-l x-t f)) (ok-r2 : Lengths′.Ok (r2 s pages nodes register x-l x-t f)) (fits-r3 : (r3 s pages nodes register x-l x-t f) < 2 ^ 64)
-    → note-update″.req register (r3 s pages nodes register x-l x-t f) s x-l x-t f (r1 s pages nodes register x-l x-t f)
+    (s : Store) (pages : List ℕ) (nodes : List ℕ) (register : List Record) (x-l : Line) (x-t : Ticket) (f : PageIndex) (ok-s : Store′.Ok s) (len-pages : length pages < 2 ^ 64) (len-nodes : length nodes < 2 ^ 64) (len-register : length register < 2 ^ 64) (ok-x-l : Line′.Ok x-l) (ok-x-t : Ticket′.Ok x-t) (ok-f : PageIndex′.Ok f) (ok-r1 : Record′.Ok (r1 s pages nodes register x-l x-t f)) (ok-r2 : Lengths′.Ok (r2 s pages nodes register x-l x-t f)) (ok-r3 : Branch′.Ok (r3 s pages nodes register x-l x-t f)) (ok-r4 : NewUpdate′.Ok (r4 s pages nodes register x-l x-t f)) (fits-r5 : (r5 s pages nodes register x-l x-t f) < 2 ^ 64)
+    → note-update″.req register (r5 s pages nodes register x-l x-t f) s x-l x-t (r1 s pages nodes register x-l x-t f) (r4 s pages nodes register x-l x-t f)
 
--- `assigned_by` asks: (k ≡ 0 → Roomy s (l .0) (f .0) n)
+-- `assigned_by` asks: (k ≡ 0 → (s .assigned < s .updates) × (lineIn s (l .0) .assigned .0 < s .updates) × (s .places + u .count ≤ s .nodes))
 abbrev pub assigned-by-1 : Type 0
 assigned-by-1 =
-    (s : Store) (pages : List ℕ) (nodes : List ℕ) (register : List Record) (x-l : Line) (x-t : Ticket) (f : PageIndex) (ok-s : Store′.Ok s) (len-pages : length pages < 2 ^ 64) (len-nodes : length nodes < 2 ^ 64) (len-register : length register < 2 ^ 64) (ok-x-l : Line′.Ok x-l) (ok-x-t : Ticket′.Ok x-t) (ok-f : PageIndex′.Ok f) (ok-r1 : Record′.Ok (r1 s pages nodes register x-l x-t f)) (ok-r2 : Lengths′.Ok (r2 s pages nodes register x-l x-t f)) (fits-r3 : (r3 s pages nodes register x-l x-t f) < 2 ^ 64) (same4-register : length (register₄ s pages nodes register x-l x-t f) ≡ length register)
-    → assigned-by″.req s x-l f ((r1 s pages nodes register x-l x-t f) .n) (r3 s pages nodes register x-l x-t f)
+    (s : Store) (pages : List ℕ) (nodes : List ℕ) (register : List Record) (x-l : Line) (x-t : Ticket) (f : PageIndex) (ok-s : Store′.Ok s) (len-pages : length pages < 2 ^ 64) (len-nodes : length nodes < 2 ^ 64) (len-register : length register < 2 ^ 64) (ok-x-l : Line′.Ok x-l) (ok-x-t : Ticket′.Ok x-t) (ok-f : PageIndex′.Ok f) (ok-r1 : Record′.Ok (r1 s pages nodes register x-l x-t f)) (ok-r2 : Lengths′.Ok (r2 s pages nodes register x-l x-t f)) (ok-r3 : Branch′.Ok (r3 s pages nodes register x-l x-t f)) (ok-r4 : NewUpdate′.Ok (r4 s pages nodes register x-l x-t f)) (fits-r5 : (r5 s pages nodes register x-l x-t f) < 2 ^ 64) (same6-register : length (register₆ s pages nodes register x-l x-t f) ≡ length register)
+    → assigned-by″.req s x-l (r4 s pages nodes register x-l x-t f) (r5 s pages nodes register x-l x-t f)
 
 -- the function ensures: (r ≡ assignOut s (areasOf pages nodes register) (l .0) (t .0) (f .0)) × (register′ ≡ assignRegister s (areasOf pages nodes register) (l .0) (t .0) (f .0))
 abbrev pub exit-1 : Type 0
 exit-1 =
-    (s : Store) (pages : List ℕ) (nodes : List ℕ) (register : List Record) (x-l : Line) (x-t : Ticket) (f : PageIndex) (ok-s : Store′.Ok s) (len-pages : length pages < 2 ^ 64) (len-nodes : length nodes < 2 ^ 64) (len-register : length register < 2 ^ 64) (ok-x-l : Line′.Ok x-l) (ok-x-t : Ticket′.Ok x-t) (ok-f : PageIndex′.Ok f) (ok-r1 : Record′.Ok (r1 s pages nodes register x-l x-t f)) (ok-r2 : Lengths′.Ok (r2 s pages nodes register x-l x-t f)) (fits-r3 : (r3 s pages nodes register x-l x-t f) < 2 ^ 64) (same4-register : length (register₄ s pages nodes register x-l x-t f) ≡ length register) (ok-r5 : AssignOut′.Ok (r5 s pages nodes register x-l x-t f))
-    → write″.ens s pages nodes register x-l x-t f (register₄ s pages nodes register x-l x-t f) (r5 s pages nodes register x-l x-t f)
+    (s : Store) (pages : List ℕ) (nodes : List ℕ) (register : List Record) (x-l : Line) (x-t : Ticket) (f : PageIndex) (ok-s : Store′.Ok s) (len-pages : length pages < 2 ^ 64) (len-nodes : length nodes < 2 ^ 64) (len-register : length register < 2 ^ 64) (ok-x-l : Line′.Ok x-l) (ok-x-t : Ticket′.Ok x-t) (ok-f : PageIndex′.Ok f) (ok-r1 : Record′.Ok (r1 s pages nodes register x-l x-t f)) (ok-r2 : Lengths′.Ok (r2 s pages nodes register x-l x-t f)) (ok-r3 : Branch′.Ok (r3 s pages nodes register x-l x-t f)) (ok-r4 : NewUpdate′.Ok (r4 s pages nodes register x-l x-t f)) (fits-r5 : (r5 s pages nodes register x-l x-t f) < 2 ^ 64) (same6-register : length (register₆ s pages nodes register x-l x-t f) ≡ length register) (ok-r7 : AssignOut′.Ok (r7 s pages nodes register x-l x-t f))
+    → write″.ens s pages nodes register x-l x-t f (register₆ s pages nodes register x-l x-t f) (r7 s pages nodes register x-l x-t f)

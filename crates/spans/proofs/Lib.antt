@@ -1,0 +1,4 @@
+pub mod Order
+pub mod Smallest
+pub mod Table
+pub mod Rule
