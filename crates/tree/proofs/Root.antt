@@ -4,9 +4,11 @@ use mathlib.Core.Path.{_≡_}
 use mathlib.Core.Logic.{inl, inr}
 use Prim.Native.Nat.{ℕ, _-_, _*_, _^_, _≤_, _<_}
 use native.Mathlib.Omega.{arith}
+use borrow.Author.Tests.{le-leb}
 use lib.Count.{leadingZeros, leading-length}
 use lib.Pow.{pow-pos, pow-lt, pow-mono}
 use Rattle.tree.specs.Tree.{rootHeight}
+use Rattle.tree.specs.Contract.{heightFor}
 use Rattle.tree.proofs.Meets.{lt-or-le}
 -- The root's span holds the size, and no smaller one does.
 pub use Rattle.spans.proofs.Smallest.{lt-pow, root-fits, root-least}
@@ -22,6 +24,11 @@ same-height h m p q = elim (lt-or-le h m) [ inl r ↦ absurd (omega (arith, pow-
 pub span-zeros : (h : ℕ) → 2 ^ h < 2 ^ 64 → 64 - leadingZeros 64 (2 ^ h - 1) ≡ h
 span-zeros h p =
     let t = leading-length 64 (2 ^ h - 1) (omega arith) in omega (arith, same-height h (t .0) (omega arith) (omega (arith, pow-pos h)))
+
+-- The root's height of a size that a tree has.
+pub height-for : (s : ℕ) → s ≤ 4096 → heightFor s ≡ rootHeight s
+unfolding heightFor
+height-for s p = rw (le-leb s 4096 p)
 
 -- The root of the largest blob has height 12.
 pub root-low : (s : ℕ) → s ≤ 4096 → rootHeight s ≤ 12

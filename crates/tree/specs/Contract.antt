@@ -3,10 +3,14 @@ use mathlib.Core.Path.{_≡_}
 use mathlib.Core.Bool.{Bool, true, false, _&&_}
 use Prim.Native.Nat.{ℕ, _+_, _*_, _^_, _≤_, _<_}
 use lib.Dec.{ltb, leb}
-use Rattle.tree.specs.Tree.{Node, node, count, nodeCount}
+use Rattle.tree.specs.Tree.{Node, node, count, rootHeight, nodeCount}
 -- The span of the root for a size in pages; its definition stands with the table of root spans.
 unfoldable pub use Rattle.spans.specs.Span.{rootSpan}
 pub use Rattle.spans.specs.Span.{orZero}
+
+-- The root's height for a size in pages, or 0 for a size that no tree has.
+unfoldable pub heightFor : ℕ → ℕ
+heightFor s = orZero (leb s 4096) (rootHeight s)
 
 -- The node count of (f, n, size after), or 0 outside the limits and where the update runs past the size.
 unfoldable pub nodesFor : ℕ → ℕ → ℕ → ℕ

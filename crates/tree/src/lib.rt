@@ -3,11 +3,10 @@ ghost use mathlib.Core.Path.{_≡_};
 ghost use mathlib.Core.Bool.{true};
 ghost use Prim.Native.Nat.{ℕ, _+_, _-_, _*_, _^_, _<_, _≤_, min};
 ghost use lib.Count.{ones};
-ghost use Rattle.tree.specs.Tree.{rootHeight};
 ghost use Rattle.tree.specs.Place.{kth, first, halvings, nodeNumbered};
 ghost use Rattle.tree.specs.NodeArea.{nodeAt, withNode};
 ghost use Rattle.tree.specs.Cases.{table, every};
-ghost use Rattle.tree.specs.Contract.{rootSpan, nodesFor, Pages, Counted, Names};
+ghost use Rattle.tree.specs.Contract.{rootSpan, heightFor, nodesFor, Pages, Counted, Names};
 use spans::root_span;
 
 // A version, a page's index in the blob and a ticket are counters of different sorts, and each has a type of its own.
@@ -65,10 +64,9 @@ pub fn height_of(span: u64) -> u64
     64 - u64::leading_zeros(span - 1) as u64
 }
 
-// The height of the root for a size in pages: that of the root's span.
+// The height of the root for a size in pages, that of the root's span, or 0 for a size that no tree has.
 pub fn root_height(size: u64) -> u64
-    requires { ⌜ size ≤ 4096 ⌝ }
-    ensures { λ r. ⌜ r ≡ rootHeight size ⌝ }
+    ensures { λ r. ⌜ r ≡ heightFor size ⌝ }
 {
     let span = root_span(size);
     if span == 0 { 0 } else { height_of(span) }

@@ -1,14 +1,14 @@
 -- `tree::pit_node_count` meets its contract: each limit that fails makes 0, and within all of them the root that holds the size holds the update.
 -- Assumes nothing.
 use mathlib.Core.Bool.{and-false}
-use mathlib.Core.Path.{_≡_}
+use mathlib.Core.Path.{_≡_, _∙_}
 use Prim.Native.Nat.{ℕ, _+_, _<_}
 use native.Mathlib.Omega.{arith}
 use borrow.Author.Needs.{needs}
 use borrow.Author.Tests.{lt-ltb, le-leb, lt-leb}
 use Rattle.tree.specs.Tree.{nodeCount}
 use Rattle.tree.specs.Contract.{nodesFor}
-use Rattle.tree.proofs.Root.{root-fits, root-low}
+use Rattle.tree.proofs.Root.{root-fits, root-low, height-for}
 use Rattle.tree.proofs.pit_node_count.Statement.{statement}
 use Rattle.tree.proofs.pit_node_count.Tie as tie
 
@@ -47,13 +47,13 @@ root-height-requires c κs = search needs
 node-count-requires : tie.Need-node-count-requires
 node-count-requires c κs =
     let s = c .before .before .before .before .before .before .args .size in
-    rw (c .root-height .ensures) (record { order = omega arith; inside = omega (arith, root-fits s); low = omega (arith, root-low s (omega arith)) })
+    rw (c .root-height .ensures ∙ height-for s (omega arith)) (record { order = omega arith; inside = omega (arith, root-fits s); low = omega (arith, root-low s (omega arith)) })
 
 returns-6 : tie.Need-returns-6
 unfolding nodesFor nodeCount
 returns-6 c =
     let a = c .before .before .before .before .before .before .before .args in
-    simp (lt-ltb 0 (a .n) (omega arith), le-leb (a .n) 64 (omega arith), lt-ltb 0 (a .size) (omega arith), le-leb (a .size) 4096 (omega arith), le-leb (a .f + a .n) (a .size) (omega arith)) (cc)
+    simp (lt-ltb 0 (a .n) (omega arith), le-leb (a .n) 64 (omega arith), lt-ltb 0 (a .size) (omega arith), le-leb (a .size) 4096 (omega arith), le-leb (a .f + a .n) (a .size) (omega arith)) (c .node-count .ensures .exact ∙ rw (c .before .root-height .ensures ∙ height-for (a .size) (omega arith)))
 
 pub pit-node-count-spec : {M : Type 1} → statement M
 pit-node-count-spec =
