@@ -11,18 +11,19 @@
      records    the register of updates, a record an update
 
    A call takes the store by value and each area as a pointer and its length in elements. Where the reply has a store,
-   the next call takes that one. What the host owes:
+   the next call takes that one. Beside the store the host keeps its blast windows, and saves them with it: FORMAT and
+   SETWINDOWS give them, PUBLISH and SETWINDOWS take them, and no other call needs them. What the host owes:
 
      - No pointer is null, also where the length is 0, and as many elements are there as the length says.
-     - The areas of one call, the bytes to put and the buffer never overlap.
+     - The areas of one call, the bytes to put, the text and the buffer never overlap.
      - The areas are those of the store, just as the last call left them, and nobody else writes them. A call with a
        const area only reads it. Calls that only read may run beside each other; one that writes runs alone.
 
-   Over a store and areas that do not belong together, whatever they hold, a call ends, stays in bounds and refuses by
-   the table; what it answers then means nothing.
+   Over a store, windows and areas that do not belong together, whatever they hold, a call ends, stays in bounds and
+   refuses by the table; what it answers then means nothing.
 
    A refused call changes nothing: it gives the number of the first row of its place that applies, and the rest of the
-   reply is 0, with the store as it was (FORMAT: a store of zeros). 0 is no refusal.
+   reply is 0, with the store or the windows as they were (FORMAT: a store of zeros). 0 is no refusal.
 
       1  FORMAT: the page size is not a power of two from 16 to 4,096
       2  FORMAT: pages not 1 to 65,535, nodes not 1 to 131,072 or updates not 1 to 4,096
@@ -44,7 +45,10 @@
      18  READ: the buffer is shorter than the length
      19  every call but FORMAT, last: the areas are none that the store's calls left
      20  every call that names a line, after 3, 7 and 8: no such line; they count from 0
-     21  BRANCH, after 16: sixteen lines exist */
+     21  BRANCH, after 16: sixteen lines exist
+     22  PUBLISH, after 20: the minute is above 10,079
+     23  SETWINDOWS: a line is malformed, has a number above 10,079 or equal ends; also a line past the 32nd
+     24  SETWINDOWS, after 23: there are more than 32 lines */
 #ifndef PIT_H
 #define PIT_H
 
@@ -100,9 +104,23 @@ typedef struct pit_record {
     pit_entries entries;
 } pit_record;
 
+/* A weekly window, during which no version is published, in minutes of the week 0 to 10,079: `from` is inside, `to` is
+   outside; where `from` is above `to` it runs over the week's end. One with equal ends has no minute. */
+typedef struct pit_window {
+    uint16_t from;
+    uint16_t to;
+} pit_window;
+
+/* A site's windows, in the order of their text. The places after them are 0, and the first place with equal ends ends
+   them; no windows is all zeros. */
+typedef struct pit_windows {
+    pit_window places[32];
+} pit_windows;
+
 typedef struct pit_format_reply {
     uint64_t refusal;
     pit_store store;
+    pit_windows windows; /* none */
 } pit_format_reply;
 
 typedef struct pit_begin_reply {
@@ -133,8 +151,14 @@ typedef struct pit_weave_reply {
 typedef struct pit_publish_reply {
     uint64_t refusal;
     pit_store store;
-    uint64_t version; /* 0 with no refusal: waiting, the next version is not due */
+    uint64_t version; /* 0 with no refusal and not held: waiting, the next version is not due */
+    uint64_t held;    /* 1 where the minute is inside a window, else 0 */
 } pit_publish_reply;
+
+typedef struct pit_windows_reply {
+    uint64_t refusal;
+    pit_windows windows; /* the new ones; where the call is refused, those that it was given */
+} pit_windows_reply;
 
 typedef struct pit_branch_reply {
     uint64_t refusal;
@@ -159,8 +183,8 @@ typedef struct pit_view_reply {
     uint64_t length; /* the page size; 0 where the call is refused */
 } pit_view_reply;
 
-/* FORMAT: a new store with these limits, whatever stood in the areas: pages are filled with 0, nodes with all ones,
-   the register with records of zeros. Refused, it leaves the areas: 1, 2, 3. */
+/* FORMAT: a new store with these limits and no windows, whatever stood in the areas: pages are filled with 0, nodes with
+   all ones, the register with records of zeros. Refused, it leaves the areas: 1, 2, 3. */
 pit_format_reply pit_format(
     uint64_t size, uint64_t page_count, uint64_t node_count, uint64_t updates,
     uint8_t *pages, size_t pages_len,
@@ -211,13 +235,27 @@ pit_weave_reply pit_weave(
     pit_record *records, size_t records_len,
     uint64_t ticket);
 
-/* PUBLISH: the version after the line's last published one, if all its nodes are woven. Refused: 3, 20, 19. */
+/* PUBLISH at a minute of the week: the version after the line's last published one, if all its nodes are woven. Inside a
+   window it is held, due or not, and nothing moves; no record is looked at then. Only the minute given decides. Refused:
+   3, 20, 22, 19. */
 pit_publish_reply pit_publish(
     pit_store s,
+    pit_windows w,
     const uint8_t *pages, size_t pages_len,
     const uint32_t *nodes, size_t nodes_len,
     const pit_record *records, size_t records_len,
-    uint64_t line);
+    uint64_t line, uint64_t minute);
+
+/* SETWINDOWS: the windows of a text, which replace the old ones whole. Each line of it, the last too, is `from,to` and a
+   line feed: numbers in plain digits, with no sign, space or leading zero. The empty text is no windows. The store stays
+   as it is. Refused: 3, 23, 24. */
+pit_windows_reply pit_set_windows(
+    pit_store s,
+    pit_windows w,
+    const uint8_t *pages, size_t pages_len,
+    const uint32_t *nodes, size_t nodes_len,
+    const pit_record *records, size_t records_len,
+    const uint8_t *text, size_t text_len);
 
 /* BRANCH: the next line, from a published version of a line. It shares everything up to that version, which is published
    there too, and goes on with its own next version. Refused: 3, 20, 16, 21, 19. */

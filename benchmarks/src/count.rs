@@ -1,9 +1,10 @@
-//! Calls whose instructions `benchmarks/count` counts: `pit-count UPDATES LINES`, where LINES is `1`, `16` or `chain`. It makes
-//! a store of 4,096 pages of 4,096 bytes with so many updates standing, and then in `counted` so many calls of each kind, which
-//! it prints.
+//! Calls whose instructions `benchmarks/count` counts: `pit-count UPDATES LINES`, where LINES is `1`, `16`, `chain` or `windows`. It
+//! makes a store of 4,096 pages of 4,096 bytes with so many updates standing, and then in `counted` so many calls of each kind,
+//! which it prints.
 //!
 //! Of 16 lines 15 begin when line 0 has its pages, and the other updates go to all of them in turn. In a chain each line begins
-//! from the one before it, and readers read the versions that are shared by all, which are farthest from their line there.
+//! from the one before it, and readers read the versions that are shared by all, which are farthest from their line there. With
+//! windows there is one line, and a list of 32 windows, none of which holds, is set so many times before the counted updates.
 
 #[allow(dead_code)]
 mod grouped;
@@ -15,7 +16,9 @@ mod random;
 mod shape;
 
 use opaque::opaque;
-use pit_host::{ByteOffset, Keeper, Limits, Line, LineState, PageIndex, Store, Ticket, Version};
+use pit_host::{
+    ByteOffset, Keeper, Limits, Line, LineState, Minute, PageIndex, Store, Ticket, Version,
+};
 use shape::{Shape, Source, Update, MOST};
 use std::env;
 use std::process::ExitCode;
@@ -23,10 +26,11 @@ use std::process::ExitCode;
 const PAGE_SIZE: usize = 4_096;
 const BLOB: usize = 4_096;
 
-/// How many of each kind are counted: reads, updates of one page, and branches.
+/// How many of each kind are counted: reads, updates of one page, branches, and lists of windows.
 const READS: usize = 512;
 const UPDATES: usize = 32;
 const BRANCHES: usize = 15;
+const LISTS: usize = 16;
 
 const ACCEPTED: &str = "the store accepts the call";
 
@@ -36,6 +40,7 @@ enum Layout {
     One,
     Star,
     Chain,
+    Windows,
 }
 
 fn main() -> ExitCode {
@@ -45,16 +50,17 @@ fn main() -> ExitCode {
         Some("1") => Some(Layout::One),
         Some("16") => Some(Layout::Star),
         Some("chain") => Some(Layout::Chain),
+        Some("windows") => Some(Layout::Windows),
         _ => None,
     };
     match (updates, layout) {
         (Some(updates @ 64..=4_000), Some(layout)) => {
             Scene::new(updates, layout).counted();
-            println!("reads {READS} updates {UPDATES} branches {BRANCHES}");
+            println!("reads {READS} updates {UPDATES} branches {BRANCHES} lists {LISTS}");
             ExitCode::SUCCESS
         }
         _ => {
-            eprintln!("usage: pit-count UPDATES (1|16|chain), of 64 to 4,000 updates");
+            eprintln!("usage: pit-count UPDATES (1|16|chain|windows), of 64 to 4,000 updates");
             ExitCode::from(2)
         }
     }
@@ -96,7 +102,7 @@ impl Scene {
     }
 
     fn begin_lines(&mut self) {
-        if self.layout == Layout::One {
+        if let Layout::One | Layout::Windows = self.layout {
             return;
         }
         let filled = self.store.recent(Line(0)).expect(ACCEPTED);
@@ -119,7 +125,8 @@ impl Scene {
             let first = PageIndex(update.first as u64);
             self.store.write(line, ticket, first).expect(ACCEPTED);
             while self.store.weave(ticket).expect(ACCEPTED).rest > 0 {}
-            assert!(self.store.publish(line).expect(ACCEPTED).is_some());
+            let published = self.store.publish(line, Minute(0)).expect(ACCEPTED);
+            assert!(published.version().is_some());
         }
     }
 
@@ -143,6 +150,7 @@ impl Scene {
     fn counted(&mut self) {
         self.read_all();
         self.branch_all();
+        self.set_windows();
         let updates = self.shape.random_updates(4, UPDATES, 1);
         self.updates(&updates);
     }
@@ -169,18 +177,31 @@ impl Scene {
     /// BRANCH from each line's newest version. There is room for one line more, each time: the last is taken away again.
     fn branch_all(&mut self) {
         let room = self.lines.min(15);
-        let (mut state, areas) = self.store.clone().into_parts();
+        let (mut state, windows, areas) = self.store.clone().into_parts();
         state.begun = room;
         state.set_line(Line(15), LineState::default());
-        let mut store = Keeper::resume(state, areas);
+        let mut store = Keeper::resume(state, windows, areas);
         for k in 0..BRANCHES as u64 {
             let line = Line(k % room);
             let version = self.version(line);
             assert_eq!(store.branch(line, version), Ok(Line(room)));
-            let (mut state, areas) = store.into_parts();
+            let (mut state, windows, areas) = store.into_parts();
             state.begun = room;
             state.set_line(Line(room), LineState::default());
-            store = Keeper::resume(state, areas);
+            store = Keeper::resume(state, windows, areas);
+        }
+    }
+
+    /// SETWINDOWS of the longest text: 32 lines, whose numbers have five digits.
+    fn set_windows(&mut self) {
+        if self.layout != Layout::Windows {
+            return;
+        }
+        let windows = (10_000..10_064).step_by(2);
+        let lines = windows.map(|from| format!("{from},{}\n", from + 1));
+        let text: String = lines.collect();
+        for _ in 0..LISTS {
+            self.store.set_windows(&text).expect(ACCEPTED);
         }
     }
 }

@@ -3,7 +3,7 @@
 use crate::contender::Contender;
 use crate::measure::BATCH;
 use crate::shape::{Shape, Source, MOST};
-use pit_host::{ByteOffset, Limits, Line, PageIndex, Store, Ticket, Version};
+use pit_host::{ByteOffset, Limits, Line, Minute, PageIndex, Store, Ticket, Version};
 use std::collections::VecDeque;
 
 /// The line that begins with the store.
@@ -73,8 +73,8 @@ impl InWork {
         let ticket = self.waiting.pop_front().expect("one is in work");
         let node = self.store.weave(ticket).expect(ACCEPTED);
         assert_eq!(node.rest, 0);
-        let published = self.store.publish(LIVE).expect(ACCEPTED);
-        assert!(published.is_some());
+        let published = self.store.publish(LIVE, Minute(0)).expect(ACCEPTED);
+        assert!(published.version().is_some());
     }
 }
 

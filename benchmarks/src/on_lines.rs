@@ -3,7 +3,7 @@
 use crate::contender::Contender;
 use crate::measure::BATCH;
 use crate::shape::{Shape, Source, MOST};
-use pit_host::{ByteOffset, Limits, Line, PageIndex, Store, Version};
+use pit_host::{ByteOffset, Limits, Line, Minute, PageIndex, Store, Version};
 
 const LINES: usize = 16;
 
@@ -78,8 +78,8 @@ impl Contender for OnLines {
         let (line, first) = (Line(at as u64), PageIndex(first as u64));
         self.store.write(line, ticket, first).expect(ACCEPTED);
         while self.store.weave(ticket).expect(ACCEPTED).rest > 0 {}
-        let published = self.store.publish(line).expect(ACCEPTED);
-        self.newest[at] = published.expect("the version is due");
+        let published = self.store.publish(line, Minute(0)).expect(ACCEPTED);
+        self.newest[at] = published.version().expect("the version is due");
         self.turn = (self.turn + 1) % LINES;
     }
 

@@ -3,7 +3,7 @@
 use crate::contender::Contender;
 use crate::measure::BATCH;
 use crate::shape::{Shape, MOST};
-use pit_host::{ByteOffset, Limits, Line, PageIndex, Record, State, Store, Version};
+use pit_host::{ByteOffset, Limits, Line, Minute, PageIndex, Record, State, Store, Version};
 use std::mem::size_of;
 
 /// The line that begins with the store.
@@ -60,8 +60,8 @@ impl Contender for Ours {
         let first = PageIndex(first as u64);
         self.store.write(LIVE, ticket, first).expect(ACCEPTED);
         while self.store.weave(ticket).expect(ACCEPTED).rest > 0 {}
-        let published = self.store.publish(LIVE).expect(ACCEPTED);
-        assert!(published.is_some());
+        let published = self.store.publish(LIVE, Minute(0)).expect(ACCEPTED);
+        assert!(published.version().is_some());
     }
 
     fn view(&self, version: usize, page: usize) -> &[u8] {

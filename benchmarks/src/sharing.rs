@@ -5,7 +5,7 @@ use crate::lmdb::Threads;
 use crate::ours::Ours;
 use crate::shape::{Shape, Source};
 use crate::threads::UPDATES_A_TURN;
-use pit_host::{Line, PageIndex, Shared, Store};
+use pit_host::{Line, Minute, PageIndex, Shared, Store};
 
 /// Views pages of the newest version, each handed on as it lies.
 pub type View<'a> = Box<dyn FnMut(&[usize], &mut dyn FnMut(&[u8])) + 'a>;
@@ -69,8 +69,8 @@ impl Sharing for OursShared {
         let first = PageIndex(first as u64);
         self.shared.write(LIVE, ticket, first).expect(ACCEPTED);
         while self.shared.weave(ticket).expect(ACCEPTED).rest > 0 {}
-        let published = self.shared.publish(LIVE).expect(ACCEPTED);
-        assert!(published.is_some());
+        let published = self.shared.publish(LIVE, Minute(0)).expect(ACCEPTED);
+        assert!(published.version().is_some());
     }
 }
 

@@ -1,6 +1,6 @@
 //! A shift that plans: the road planner tries next month's ramp on a line of its own while the crews go on with the live
 //! model. The trucks, which follow the live line, see nothing of it.
-use pit_host::{Error, Limits, Line, PageIndex, Shared, Store, Version};
+use pit_host::{Error, Limits, Line, Minute, PageIndex, Shared, Store, Version};
 use std::{ops::Range, thread};
 
 /// The line that the crews write and the trucks read.
@@ -16,7 +16,7 @@ fn work(model: &Shared, line: Line, pages: Range<u64>, heights: Range<u8>) -> Re
         for _ in 0..model.write(line, ticket, PageIndex(pages.start))?.nodes {
             model.weave(ticket)?;
         }
-        while model.publish(line)?.is_some() {}
+        while model.publish(line, Minute(0))?.version().is_some() {} // the site has no windows
     }
     Ok(())
 }

@@ -1,6 +1,7 @@
-//! The five sorts of counters. None of them passes for another.
+//! The six sorts of counters. None of them passes for another.
 
 use std::fmt;
+use std::time::{SystemTime, UNIX_EPOCH};
 
 macro_rules! counter {
     ($(#[$about:meta])* $name:ident) => {
@@ -54,6 +55,43 @@ counter! {
     /// A line of versions, counted from 0 in the order in which they begin. Line 0 begins with the store, every other by
     /// [`branch`](crate::Keeper::branch).
     Line
+}
+
+counter! {
+    /// A minute of the week, 0 to 10,079, by which [`publish`](crate::Keeper::publish) knows whether a window is open.
+    ///
+    /// With which day a week begins is the site's choice: its windows and the minutes that its host gives are counted from
+    /// the same one. [`Minute::of`] counts from Monday.
+    Minute
+}
+
+/// The minutes of a week.
+const WEEK: i128 = 7 * 24 * 60;
+/// The minute of the week, from Monday on, with which the system's time begins: 1970-01-01 was a Thursday.
+const FIRST: i128 = 3 * 24 * 60;
+const NANOSECONDS_A_MINUTE: i128 = 60_000_000_000;
+
+impl Minute {
+    /// The minute of the week from Monday 00:00 on, by a clock that many minutes ahead of UTC (behind it, where that is
+    /// below 0).
+    ///
+    /// ```
+    /// use pit_host::Minute;
+    /// use std::time::{Duration, UNIX_EPOCH};
+    /// let noon = UNIX_EPOCH + Duration::from_secs(1_775_044_800); // Wednesday, 2026-04-01, 12:00 UTC
+    /// assert_eq!(Minute::of(noon, 0), Minute((2 * 24 + 12) * 60));
+    /// assert_eq!(Minute::of(noon, 570), Minute((2 * 24 + 21) * 60 + 30)); // in Adelaide
+    /// ```
+    pub fn of(time: SystemTime, ahead_of_utc: i32) -> Minute {
+        // at most 2^64 seconds either way
+        let nanoseconds = match time.duration_since(UNIX_EPOCH) {
+            Ok(after) => after.as_nanos() as i128,
+            Err(before) => -(before.duration().as_nanos() as i128),
+        };
+        let minutes = nanoseconds.div_euclid(NANOSECONDS_A_MINUTE);
+        let of_week = (FIRST + minutes + i128::from(ahead_of_utc)).rem_euclid(WEEK);
+        Minute(of_week as u64)
+    }
 }
 
 /// How many versions a line has room for in a [`LineVersion`].

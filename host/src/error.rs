@@ -23,6 +23,7 @@ use std::fmt;
 ///         PageSize | Capacity | AreaLength | UpdateSize | RegisterFull | PagesFull | NoSuchTicket => false,
 ///         NoSuchPage | AlreadyPut | PageLength | PastEnd | BlobFull | NodesFull => false,
 ///         OutsideSnapshot | BufferTooShort | Damaged | NoSuchLine | LinesFull => false,
+///         NoSuchMinute | WrongWindow | TooManyWindows => false,
 ///     }
 /// }
 /// ```
@@ -71,6 +72,12 @@ pub enum Error {
     NoSuchLine = 20,
     /// 21, BRANCH: sixteen lines exist.
     LinesFull = 21,
+    /// 22, PUBLISH: the minute is above 10,079.
+    NoSuchMinute = 22,
+    /// 23, SETWINDOWS: a line of the text is malformed, out of range or has equal ends.
+    WrongWindow = 23,
+    /// 24, SETWINDOWS: there are more than 32 windows.
+    TooManyWindows = 24,
 }
 
 impl Error {
@@ -97,6 +104,9 @@ impl Error {
         Error::Damaged,
         Error::NoSuchLine,
         Error::LinesFull,
+        Error::NoSuchMinute,
+        Error::WrongWindow,
+        Error::TooManyWindows,
     ];
 
     /// The number of its row in the table of refusals, from 1 on.
@@ -109,7 +119,7 @@ impl Error {
     /// ```
     /// use pit_host::Error;
     /// assert_eq!(Error::from_number(7), Some(Error::NoSuchTicket));
-    /// assert_eq!((Error::from_number(0), Error::from_number(22)), (None, None));
+    /// assert_eq!((Error::from_number(0), Error::from_number(25)), (None, None));
     /// ```
     pub fn from_number(number: u64) -> Option<Error> {
         Error::ALL.iter().copied().find(|e| e.number() == number)
@@ -158,6 +168,9 @@ impl Error {
             Error::Damaged => "refused: the areas are damaged, no run of calls left them so",
             Error::NoSuchLine => "refused: no such line has begun",
             Error::LinesFull => "no line begun: sixteen lines exist",
+            Error::NoSuchMinute => "not published: a week's minutes are 0 to 10,079",
+            Error::WrongWindow => "no windows set: some line is not two different minutes of the week, 0 to 10,079, with a comma between them and a line feed after them",
+            Error::TooManyWindows => "no windows set: a site has at most 32",
         }
     }
 }
@@ -180,7 +193,7 @@ mod tests {
         for &error in Error::ALL {
             assert_eq!(Error::check(error.number()), Err(error));
         }
-        for unknown in [22, 1 << 32, u64::MAX] {
+        for unknown in [25, 1 << 32, u64::MAX] {
             assert_eq!(Error::check(unknown), Err(Error::Damaged));
         }
     }

@@ -204,12 +204,44 @@ pub struct Record {
     pub entries: Entries,
 }
 
+/// A weekly window, during which no version is published, in minutes of the week 0 to 10,079: `from` is inside, `to` is
+/// outside. Where `from` is above `to` it runs over the week's end. One with equal ends has no minute.
+#[repr(C)]
+#[derive(Clone, Copy, Debug, Default, PartialEq, Eq, Hash)]
+pub struct Window {
+    /// The first minute inside.
+    pub from: u16,
+    /// The first minute outside again.
+    pub to: u16,
+}
+
+/// A site's windows, as [`set_windows`](crate::Keeper::set_windows) reads them from their text; that is also how to get
+/// some. [`Windows::list`] has those in use. The default is no windows.
+///
+/// ```
+/// use pit_host::{Limits, Store, Window, Windows};
+/// let mut store = Store::format(Limits::new(16, 4, 8, 2)).unwrap();
+/// assert_eq!(store.windows(), Windows::default());
+/// store.set_windows("600,660\n10000,30\n").unwrap();
+/// let windows = store.windows();
+/// assert_eq!(windows.list(), [Window { from: 600, to: 660 }, Window { from: 10_000, to: 30 }]);
+/// assert_eq!(windows.to_string(), "600,660\n10000,30\n");
+/// ```
+#[repr(C)]
+#[derive(Clone, Copy, Default, PartialEq, Eq, Hash)]
+pub struct Windows {
+    /// The windows, in the order of their text; the places after them are 0. A host that keeps a store's parts by itself
+    /// keeps these too.
+    pub places: [Window; 32],
+}
+
 // Replies begin with the number of the refusal, 0 where the call was accepted; the rest is then what it answers.
 
 #[repr(C)]
 pub struct FormatReply {
     pub refusal: u64,
     pub state: State,
+    pub windows: Windows,
 }
 
 #[repr(C)]
@@ -238,12 +270,19 @@ pub struct WeaveReply {
     pub rest: u64,
 }
 
-/// Version 0 is "waiting".
+/// Held is 1 inside a window, else 0; and then version 0 is "waiting".
 #[repr(C)]
 pub struct PublishReply {
     pub refusal: u64,
     pub state: State,
     pub version: u64,
+    pub held: u64,
+}
+
+#[repr(C)]
+pub struct WindowsReply {
+    pub refusal: u64,
+    pub windows: Windows,
 }
 
 #[repr(C)]
@@ -274,16 +313,18 @@ pub struct ViewReply {
     pub length: u64,
 }
 
-// Numbers of 64 bits, without gaps: the layout that the libraries were proved and compiled with.
+// Numbers of 64 bits and windows, without gaps: the layout that the libraries were proved and compiled with.
 const _: () = assert!(
     size_of::<State>() == 8 * (10 + LINES)
         && size_of::<Entries>() == 8 * 4
         && size_of::<Record>() == 8 * 18
-        && size_of::<FormatReply>() == 8 + size_of::<State>()
+        && size_of::<Windows>() == 32 * 2 * 2
+        && size_of::<FormatReply>() == 8 + size_of::<State>() + size_of::<Windows>()
         && size_of::<BeginReply>() == 8 * 2 + size_of::<State>()
         && size_of::<AssignReply>() == 8 * 3 + size_of::<State>()
         && size_of::<WeaveReply>() == 8 * 7
-        && size_of::<PublishReply>() == 8 * 2 + size_of::<State>()
+        && size_of::<PublishReply>() == 8 * 3 + size_of::<State>()
+        && size_of::<WindowsReply>() == 8 + size_of::<Windows>()
         && size_of::<BranchReply>() == 8 * 2 + size_of::<State>()
         && size_of::<SizeReply>() == 8 * 2
         && size_of::<VersionReply>() == 8 * 2
@@ -339,11 +380,20 @@ extern "C" {
     ) -> WeaveReply;
     fn pit_publish(
         s: State,
+        w: Windows,
         pages: *const u8, pages_len: usize,
         nodes: *const u32, nodes_len: usize,
         register: *const Record, register_len: usize,
-        line: u64,
+        line: u64, minute: u64,
     ) -> PublishReply;
+    fn pit_set_windows(
+        s: State,
+        w: Windows,
+        pages: *const u8, pages_len: usize,
+        nodes: *const u32, nodes_len: usize,
+        register: *const Record, register_len: usize,
+        text: *const u8, text_len: usize,
+    ) -> WindowsReply;
     fn pit_branch(
         s: State,
         pages: *const u8, pages_len: usize,
@@ -483,9 +533,15 @@ pub fn weave(s: &State, areas: LentAreas<'_>, ticket: u64) -> WeaveReply {
 
 /// PUBLISH. It only reads the areas.
 #[inline]
-pub fn publish(s: &State, areas: Parts<'_>, line: u64) -> PublishReply {
-    // SAFETY: the areas are borrowed for the call, which only reads them; total for any store, areas and number.
-    unsafe { call!(pit_publish(*s; seen areas; line)) }
+pub fn publish(s: &State, w: &Windows, areas: Parts<'_>, line: u64, minute: u64) -> PublishReply {
+    // SAFETY: the areas are borrowed for the call, which only reads them; total for any store, windows, areas and numbers.
+    unsafe { call!(pit_publish(*s, *w; seen areas; line, minute)) }
+}
+
+/// SETWINDOWS. It only reads the areas, and the text.
+pub fn set_windows(s: &State, w: &Windows, areas: Parts<'_>, text: &[u8]) -> WindowsReply {
+    // SAFETY: areas and text are borrowed for the call, which only reads them; total for any store, windows, areas and bytes.
+    unsafe { call!(pit_set_windows(*s, *w; seen areas; text.as_ptr(), text.len())) }
 }
 
 /// BRANCH. It only reads the areas.

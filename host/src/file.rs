@@ -33,7 +33,7 @@ use std::path::Path;
 /// fn is_whole(error: FileError) -> bool {
 ///     match error {
 ///         Io(_) | Foreign | Truncated { .. } | TooLong { .. } | Checksum => false,
-///         Form(_) | Limits(_) | AreaLengths | Counters => true,
+///         Form(_) | Limits(_) | AreaLengths | Counters | Windows => true,
 ///     }
 /// }
 /// ```
@@ -69,6 +69,8 @@ pub enum FileError {
     /// The counters are none that calls on a store of these limits leave, or a record's numbers do not follow from each
     /// other as calls leave them.
     Counters,
+    /// The windows are none that SETWINDOWS leaves.
+    Windows,
 }
 
 impl fmt::Display for FileError {
@@ -77,7 +79,7 @@ impl fmt::Display for FileError {
         match self {
             Io(e) => write!(f, "the file could not be opened, read or written: {e}"),
             Foreign => f.write_str("the file is no store's: it begins otherwise"),
-            Form(form) => write!(f, "the file has form {form}; only forms 1 to 3 are known"),
+            Form(form) => write!(f, "the file has form {form}; only forms 1 to 4 are known"),
             Limits(e) => write!(f, "the store's limits are not allowed; {e}"),
             AreaLengths => f.write_str("the areas' lengths are not those of the store's limits"),
             Truncated { expected, found } => {
@@ -93,6 +95,7 @@ impl fmt::Display for FileError {
             Counters => {
                 f.write_str("the store's counters or records are none that its calls leave")
             }
+            Windows => f.write_str("the store's windows are none that its calls leave"),
         }
     }
 }
@@ -114,8 +117,8 @@ impl From<io::Error> for FileError {
 }
 
 impl<A: Lend> Keeper<A> {
-    /// Saves the store whole, with all lines, open tickets and trees half woven, and gives the last published version of
-    /// line 0 that the file holds.
+    /// Saves the store whole, with all lines, open tickets, trees half woven and the site's windows, and gives the last
+    /// published version of line 0 that the file holds.
     ///
     /// A new file is written beside the old one, forced to the disk and renamed over it, and the folder is forced to
     /// the disk. So whatever happens, the old file or the new one stands there whole; after an error the old one,
@@ -134,13 +137,14 @@ impl<A: Lend> Keeper<A> {
     /// | Bytes | What |
     /// |---|---|
     /// | 0 to 7 | the letters `PITSTORE` |
-    /// | 8 to 15 | the form, 3 |
+    /// | 8 to 15 | the form, 4 |
     /// | 16 to 47 | page size; capacities in pages, nodes and updates |
     /// | 48 to 87 | last ticket given; page numbers taken; updates that have a version; node places taken; lines begun |
     /// | 88 to 223 | the lines, packed as in [`State`](crate::State): the sources in one number, then a number a line |
-    /// | 224 to 247 | lengths in bytes of the page area, the node area and the register |
-    /// | 248 to 255 | checksum, CRC-64/XZ, over bytes 0 to 247 and all bytes from 256 on |
-    /// | from 256 | the page area; the node area, its numbers of 32 bits, lowest byte first; the register, eighteen numbers a record, in the order of [`Record`](crate::Record)'s fields |
+    /// | 224 to 351 | the windows, 32 places as in [`Windows`](crate::Windows), two numbers of 16 bits each, lowest byte first |
+    /// | 352 to 375 | lengths in bytes of the page area, the node area and the register |
+    /// | 376 to 383 | checksum, CRC-64/XZ, over bytes 0 to 375 and all bytes from 384 on |
+    /// | from 384 | the page area; the node area, its numbers of 32 bits, lowest byte first; the register, eighteen numbers a record, in the order of [`Record`](crate::Record)'s fields |
     ///
     /// ```
     /// use pit_host::{Limits, Store, Version};
@@ -156,9 +160,10 @@ impl<A: Lend> Keeper<A> {
     /// ```
     pub fn save(&self, path: impl AsRef<Path>) -> Result<Version, FileError> {
         let areas = self.areas().parts();
-        let header = Header::of(self.state(), areas);
+        let header = Header::of(self.state(), self.windows(), areas);
         header.check_limits()?;
         header.check_counters()?;
+        header.check_windows()?;
         header.check_records(areas.register)?;
 
         let new = NewFile::for_place_of(path.as_ref())?;
@@ -177,7 +182,7 @@ impl Store {
     /// lengths before memory is taken; [`FileError`] says what can be wrong.
     ///
     /// A file of an earlier form is loaded as just the store that the same calls leave now. One of form 1, from before there
-    /// were lines, has line 0 alone.
+    /// were lines, has line 0 alone; one of form 1, 2 or 3 has no windows.
     pub fn load(path: impl AsRef<Path>) -> Result<Store, FileError> {
         let file = File::open(path)?;
         let found = file.metadata()?.len();
@@ -190,7 +195,8 @@ impl Store {
         header.fill(&mut areas, &mut file, &mut sum)?;
         header.check_checksum(&sum)?;
         header.check_counters()?;
+        header.check_windows()?;
         header.check_records(areas.register())?;
-        Ok(Keeper::resume(header.state, areas))
+        Ok(Keeper::resume(header.state, header.windows, areas))
     }
 }

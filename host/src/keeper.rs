@@ -1,9 +1,10 @@
 //! The store: every call, written once over any areas.
 
 use crate::areas::{Areas, Lend, LentAreas, Limits};
-use crate::counters::{ByteOffset, Line, LineVersion, PageIndex, Ticket, Version};
+use crate::counters::{ByteOffset, Line, LineVersion, Minute, PageIndex, Ticket, Version};
 use crate::error::Error;
-use crate::ffi::{self, State};
+use crate::ffi::{self, State, Windows};
+use crate::windows::WindowsError;
 
 /// A store over areas of any kind: what the proved calls carry from one to the next, with the areas they work in.
 ///
@@ -15,8 +16,11 @@ use crate::ffi::{self, State};
 /// Line 0 begins with the store. [`branch`](Keeper::branch) begins another from a published version, up to sixteen in all.
 /// It shares everything up to that version and goes on by itself: what is done on one line, no other reads.
 ///
+/// A site may have windows, weekly times during which no version is published on any line, as while a bench is being fired:
+/// [`set_windows`](Keeper::set_windows) takes their list. A new store has none.
+///
 /// ```
-/// use pit_host::{ByteOffset, Limits, Line, Store, Version};
+/// use pit_host::{ByteOffset, Limits, Line, Minute, Published, Store, Version};
 /// # fn main() -> Result<(), pit_host::Error> {
 /// let mut store = Store::format(Limits::new(16, 4, 8, 2))?;
 /// let ticket = store.begin(1)?;
@@ -25,7 +29,7 @@ use crate::ffi::{self, State};
 /// for _ in 0..assigned.nodes {
 ///     store.weave(ticket)?;
 /// }
-/// assert_eq!(store.publish(Line(0))?, Some(Version(1)));
+/// assert_eq!(store.publish(Line(0), Minute(0))?, Published::Now(Version(1)));
 /// let mut bytes = [0; 4];
 /// store.read(Line(0), Version(1), ByteOffset(12), 4, &mut bytes)?;
 /// assert_eq!(bytes, [7; 4]);
@@ -35,6 +39,7 @@ use crate::ffi::{self, State};
 #[derive(Clone, Debug, PartialEq, Eq)]
 pub struct Keeper<A> {
     state: State,
+    windows: Windows,
     areas: A,
 }
 
@@ -51,6 +56,33 @@ pub struct Assigned {
     pub version: Version,
     /// Its node count.
     pub nodes: u64,
+}
+
+/// What PUBLISH did.
+#[derive(Clone, Copy, Debug, PartialEq, Eq, Hash)]
+pub enum Published {
+    /// It published this version.
+    Now(Version),
+    /// Nothing: the line's next version is not woven whole, or there is none.
+    Waiting,
+    /// Nothing: the minute is inside a window.
+    Held,
+}
+
+impl Published {
+    /// The version that was published, if one was.
+    ///
+    /// ```
+    /// use pit_host::{Published, Version};
+    /// assert_eq!(Published::Now(Version(3)).version(), Some(Version(3)));
+    /// assert_eq!(Published::Held.version(), None);
+    /// ```
+    pub fn version(self) -> Option<Version> {
+        match self {
+            Published::Now(version) => Some(version),
+            Published::Waiting | Published::Held => None,
+        }
+    }
 }
 
 /// A node that WEAVE stored: its name, its two numbers, and how many nodes of its version are left.
@@ -101,18 +133,23 @@ impl<'a> Lent<'a> {
 }
 
 impl<A> Keeper<A> {
-    /// The store with this state in these areas, as [`into_parts`](Keeper::into_parts) gave them.
+    /// The store with this state and these windows in these areas, as [`into_parts`](Keeper::into_parts) gave them.
     ///
     /// Any numbers and any areas will do in that every call then ends, stays in bounds and refuses by the table. Only
     /// a state and areas that belong together, just as a call left them, are the store they were.
     ///
     /// ```
-    /// use pit_host::{Areas, Error, Keeper, Limits, Line, State};
+    /// use pit_host::{Areas, Error, Keeper, Limits, Line, State, Windows};
     /// let areas = Areas::new(&Limits::new(16, 1, 1, 1)).unwrap();
-    /// assert_eq!(Keeper::resume(State::default(), areas).recent(Line(0)), Err(Error::AreaLength));
+    /// let store = Keeper::resume(State::default(), Windows::default(), areas);
+    /// assert_eq!(store.recent(Line(0)), Err(Error::AreaLength));
     /// ```
-    pub fn resume(state: State, areas: A) -> Keeper<A> {
-        Keeper { state, areas }
+    pub fn resume(state: State, windows: Windows, areas: A) -> Keeper<A> {
+        Keeper {
+            state,
+            windows,
+            areas,
+        }
     }
 
     /// What the calls carry from one to the next.
@@ -120,14 +157,19 @@ impl<A> Keeper<A> {
         self.state
     }
 
+    /// The site's windows.
+    pub fn windows(&self) -> Windows {
+        self.windows
+    }
+
     /// The areas.
     pub fn areas(&self) -> &A {
         &self.areas
     }
 
-    /// The state and the areas, for [`resume`](Keeper::resume).
-    pub fn into_parts(self) -> (State, A) {
-        (self.state, self.areas)
+    /// The state, the windows and the areas, for [`resume`](Keeper::resume).
+    pub fn into_parts(self) -> (State, Windows, A) {
+        (self.state, self.windows, self.areas)
     }
 
     /// The limits that the store was formatted with.
@@ -141,7 +183,7 @@ impl<A: Lend> Keeper<A> {
     pub fn format_in(limits: Limits, mut areas: A) -> Result<Keeper<A>, Error> {
         let reply = ffi::format(limits.numbers(), areas.lend());
         Error::check(reply.refusal)?;
-        Ok(Keeper::resume(reply.state, areas))
+        Ok(Keeper::resume(reply.state, reply.windows, areas))
     }
 
     /// BEGIN: the next ticket, for an update of `n` pages. Refused: 3, 4, 5, 6.
@@ -202,13 +244,58 @@ impl<A: Lend> Keeper<A> {
         })
     }
 
-    /// PUBLISH: the version after the line's last published one, if it is fully woven; none where that is still awaited.
-    /// Refused: 3, 20, 19.
-    pub fn publish(&mut self, line: Line) -> Result<Option<Version>, Error> {
-        let reply = ffi::publish(&self.state, self.areas.parts(), line.0);
+    /// PUBLISH at a minute of the week: the version after the line's last published one, if it is fully woven; nothing where
+    /// that is still awaited. Inside a window it is held, due or not: nothing moves, and the version is published by a
+    /// later call. Only the minute given decides, also when the clock is set back. Refused: 3, 20, 22, 19.
+    ///
+    /// ```
+    /// use pit_host::{Limits, Line, Minute, Published, Store};
+    /// # fn main() -> Result<(), Box<dyn std::error::Error>> {
+    /// let mut store = Store::format(Limits::new(16, 4, 8, 2))?;
+    /// store.set_windows("600,660\n")?; // Monday from 10:00 until 11:00, where the week begins with Monday
+    /// assert_eq!(store.publish(Line(0), Minute(599))?, Published::Waiting);
+    /// assert_eq!(store.publish(Line(0), Minute(600))?, Published::Held);
+    /// assert_eq!(store.publish(Line(0), Minute(659))?, Published::Held);
+    /// assert_eq!(store.publish(Line(0), Minute(660))?, Published::Waiting);
+    /// # Ok(())
+    /// # }
+    /// ```
+    pub fn publish(&mut self, line: Line, minute: Minute) -> Result<Published, Error> {
+        let areas = self.areas.parts();
+        let reply = ffi::publish(&self.state, &self.windows, areas, line.0, minute.0);
         Error::check(reply.refusal)?;
         self.state = reply.state;
-        Ok((reply.version != 0).then_some(Version(reply.version)))
+        Ok(match (reply.held, reply.version) {
+            (0, 0) => Published::Waiting,
+            (0, version) => Published::Now(Version(version)),
+            _ => Published::Held,
+        })
+    }
+
+    /// SETWINDOWS: the windows of a text, which replace the old ones whole. Refused, the old ones stay: 3, 23, 24; of 23
+    /// the [`WindowsError`] says which line is wrong, and why.
+    ///
+    /// Each line of the text, the last too, is `from,to` and a line feed: up to 32 lines, each a [`Window`](crate::Window),
+    /// in plain digits, with no sign, space or leading zero. The empty text is no windows.
+    ///
+    /// ```
+    /// use pit_host::{Error, Limits, Store};
+    /// # fn main() -> Result<(), Box<dyn std::error::Error>> {
+    /// let mut store = Store::format(Limits::new(16, 4, 8, 2))?;
+    /// store.set_windows("600,660\n10000,30\n")?; // the second one runs over the week's end
+    /// let refused = store.set_windows("600,660\n2040,2040\n").unwrap_err();
+    /// assert_eq!(refused.error(), Error::WrongWindow);
+    /// assert_eq!(refused.to_string(), "no windows set: line 2, \"2040,2040\": from and to are equal");
+    /// assert_eq!(store.windows().list().len(), 2);
+    /// # Ok(())
+    /// # }
+    /// ```
+    pub fn set_windows(&mut self, text: impl AsRef<[u8]>) -> Result<(), WindowsError> {
+        let (text, areas) = (text.as_ref(), self.areas.parts());
+        let reply = ffi::set_windows(&self.state, &self.windows, areas, text);
+        Error::check(reply.refusal).map_err(|error| WindowsError::of(error, text))?;
+        self.windows = reply.windows;
+        Ok(())
     }
 
     /// BRANCH: a new line, from a published version of a line. It has everything up to that version, published there too,

@@ -1,9 +1,11 @@
 //! A store that threads share.
 
-use crate::counters::{ByteOffset, Line, PageIndex, Ticket, Version};
+use crate::counters::{ByteOffset, Line, Minute, PageIndex, Ticket, Version};
 use crate::error::Error;
+use crate::ffi::Windows;
 use crate::file::FileError;
-use crate::keeper::{Assigned, Node, Store};
+use crate::keeper::{Assigned, Node, Published, Store};
+use crate::windows::WindowsError;
 use std::path::Path;
 use std::sync::{Arc, Mutex, PoisonError, RwLock, RwLockReadGuard, RwLockWriteGuard};
 
@@ -75,8 +77,19 @@ impl Shared {
     }
 
     /// [`Keeper::publish`](crate::Keeper::publish).
-    pub fn publish(&self, line: Line) -> Result<Option<Version>, Error> {
-        self.writing().publish(line)
+    pub fn publish(&self, line: Line, minute: Minute) -> Result<Published, Error> {
+        self.writing().publish(line, minute)
+    }
+
+    /// [`Keeper::set_windows`](crate::Keeper::set_windows), for every handle: whoever publishes after it goes by the new ones.
+    pub fn set_windows(&self, text: impl AsRef<[u8]>) -> Result<(), WindowsError> {
+        let text = text.as_ref();
+        self.writing().set_windows(text)
+    }
+
+    /// [`Keeper::windows`](crate::Keeper::windows).
+    pub fn windows(&self) -> Windows {
+        self.reading().windows()
     }
 
     /// [`Keeper::branch`](crate::Keeper::branch).
@@ -117,13 +130,13 @@ impl Shared {
     /// waits for a writer that waits for `look` would never end. A panic in `look` harms nobody else.
     ///
     /// ```
-    /// # use pit_host::{Limits, Line, PageIndex, Shared, Store, Version};
+    /// # use pit_host::{Limits, Line, Minute, PageIndex, Shared, Store, Version};
     /// # let mut store = Store::format(Limits::new(16, 4, 8, 2)).unwrap();
     /// # let ticket = store.begin(1).unwrap();
     /// # store.put(ticket, 0, &[7; 16]).unwrap();
     /// # store.append(Line(0), ticket).unwrap();
     /// # store.weave(ticket).unwrap();
-    /// # store.publish(Line(0)).unwrap();
+    /// # store.publish(Line(0), Minute(0)).unwrap();
     /// let shared = Shared::new(store);
     /// let highest = |bytes: &[u8]| bytes.iter().max().copied();
     /// let highest = shared.with_view(Line(0), Version(1), PageIndex(0), highest);

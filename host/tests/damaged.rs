@@ -1,5 +1,5 @@
-//! States and areas that no run of calls left: every call ends, stays inside the memory it is lent, refuses by the table,
-//! and changes nothing when it refuses. `PIT_SEED` names the first seed, `PIT_SCENES` how many scenes each test has;
+//! States, windows and areas that no run of calls left: every call ends, stays inside the memory it is lent, refuses by the
+//! table, and changes nothing when it refuses. `PIT_SEED` names the first seed, `PIT_SCENES` how many scenes each test has;
 //! with the seed of a scene that failed, it comes first.
 
 #[path = "damaged/calls.rs"]
@@ -9,6 +9,8 @@ mod drawn;
 #[path = "damaged/memory.rs"]
 mod memory;
 mod random;
+#[path = "store/windows.rs"]
+mod windows;
 
 use calls::Scene;
 use random::{first_seed, named, Random};
@@ -28,11 +30,12 @@ fn try_all(test: &str, draw: fn(&mut Random) -> Scene) -> Answers {
         let mut random = Random::new(seed);
         let mut scene = draw(&mut random);
         for at in 0..CALLS {
-            let (call, state) = (drawn::call(&mut random, &scene), scene.state);
-            match scene.make(call) {
+            let (state, windows) = (scene.state, scene.windows);
+            let call = drawn::call(&mut random, &scene);
+            match scene.make(&call) {
                 Ok(refusal) => *answers.entry((call.name(), refusal)).or_default() += 1,
                 Err(complaint) => {
-                    panic!("{complaint}\nPIT_SEED={seed}, call {at}: {call:?}\non {state:?}")
+                    panic!("{complaint}\nPIT_SEED={seed}, call {at}: {call:?}\non {state:?}, {windows:?}")
                 }
             }
         }
@@ -55,7 +58,7 @@ fn came(answers: &Answers, number: u64, calls: &[&'static str]) {
 const FIND_DAMAGE: [&str; 10] = [
     "PUT", "WRITE", "APPEND", "WEAVE", "PUBLISH", "BRANCH", "READ", "SIZE", "STAMP", "VIEW",
 ];
-const OTHERS: [&str; 2] = ["BEGIN", "RECENT"];
+const OTHERS: [&str; 3] = ["BEGIN", "RECENT", "SETWINDOWS"];
 /// The calls that name a line, row 20.
 const NAME_LINES: [&str; 9] = [
     "WRITE", "APPEND", "PUBLISH", "BRANCH", "READ", "SIZE", "RECENT", "STAMP", "VIEW",
@@ -77,6 +80,9 @@ fn random_areas_of_the_lengths_that_the_state_says() {
     came(&answers, 19, &FIND_DAMAGE);
     came(&answers, 20, &NAME_LINES);
     came(&answers, 21, &["BRANCH"]);
+    came(&answers, 22, &["PUBLISH"]);
+    came(&answers, 23, &["SETWINDOWS"]);
+    came(&answers, 24, &["SETWINDOWS"]);
 }
 
 #[test]

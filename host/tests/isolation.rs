@@ -1,18 +1,18 @@
 //! Isolation of lines: a planner is answered the same whatever is done on other lines meanwhile, but for ticket, page and line
 //! numbers. Each run is made twice, alone and among others, and the planner's answers are compared with the numbers matched.
-//! `PIT_SEED` names the first seed.
+//! The windows are the site's and no line's: a call that sets them is in both runs. `PIT_SEED` names the first seed.
 
 mod random;
 mod updates;
 
-use pit_host::{ByteOffset, Error, Line, LineVersion, PageIndex, Store, Ticket, Version};
+use pit_host::{ByteOffset, Error, Line, LineVersion, Minute, PageIndex, Store, Ticket, Version};
 use random::{first_seed, Random};
 use updates::{limits, update, LIVE};
 
 const RUNS: u64 = 300;
 const ACTS: u64 = 120;
 
-/// What the planner does on its line. Its tickets are counted from 0.
+/// What the planner does on its line, and the windows that the site sets meanwhile. Its tickets are counted from 0.
 #[derive(Clone, Copy, Debug)]
 enum Act {
     Begin(u64),
@@ -20,7 +20,8 @@ enum Act {
     Write(usize, u64),
     Append(usize),
     Weave(usize),
-    Publish,
+    Publish(u64),
+    SetWindows(&'static str),
     Read(u64, u64, u64),
     Size(u64),
     Recent,
@@ -30,6 +31,16 @@ enum Act {
 
 /// How many acts an update takes when nothing comes between.
 const AN_UPDATE: u64 = 16;
+
+/// Lists of windows, most of them of the first half of the week; and one that is refused.
+const LISTS: [&str; 5] = [
+    "",
+    "0,2520\n",
+    "1260,5040\n",
+    "9000,600\n2000,3000\n",
+    "0,0\n",
+];
+const WEEK: u64 = 10_080;
 
 /// Most often the next act of an update, else any.
 fn draw(random: &mut Random, at: u64) -> Act {
@@ -43,7 +54,7 @@ fn draw(random: &mut Random, at: u64) -> Act {
         3 if random.one_in(2) => Act::Append(ticket),
         3 | 4 => Act::Write(ticket, random.below(4)),
         5..=13 => Act::Weave(ticket),
-        _ => Act::Publish,
+        _ => Act::Publish(random.below(WEEK)),
     }
 }
 
@@ -51,18 +62,19 @@ fn draw(random: &mut Random, at: u64) -> Act {
 fn draw_any(random: &mut Random, most: u64) -> Act {
     let (ticket, page) = (random.below(most) as usize, random.below(9));
     let version = random.below(most + 3);
-    match random.below(16) {
+    match random.below(18) {
         0 => Act::Begin(1 + random.below(3)),
         1 => Act::Put(ticket, random.below(3), random.next() as u8),
         2 => Act::Append(ticket),
         3 => Act::Write(ticket, page),
         4..=6 => Act::Weave(ticket),
-        7 => Act::Publish,
+        7 => Act::Publish(random.below(WEEK + 100)),
         8 | 9 => Act::Read(version, 4 * random.below(40), random.below(64)),
         10 => Act::Size(version),
         11 => Act::Recent,
         12 | 13 => Act::Stamp(version, page),
-        _ => Act::View(version, page),
+        14 | 15 => Act::View(version, page),
+        _ => Act::SetWindows(random.pick(&LISTS)),
     }
 }
 
@@ -95,7 +107,8 @@ impl Planner {
             Act::Write(k, first) => told(store.write(line, ticket(k), PageIndex(first))),
             Act::Append(k) => told(store.append(line, ticket(k))),
             Act::Weave(k) => self.weave(store, ticket(k)),
-            Act::Publish => told(store.publish(line)),
+            Act::Publish(minute) => told(store.publish(line, Minute(minute))),
+            Act::SetWindows(text) => told(store.set_windows(text).map_err(Error::from)),
             Act::Read(v, offset, len) => {
                 let mut buffer = [0xee; 48];
                 let done = store.read(line, Version(v), ByteOffset(offset), len, &mut buffer);
@@ -160,7 +173,8 @@ fn disturb(random: &mut Random, store: &mut Store, planner: Option<Line>) {
     for _ in 0..woven {
         store.weave(ticket).expect("a node is left");
     }
-    store.publish(line).expect("a line that has begun");
+    let minute = Minute(random.below(WEEK));
+    store.publish(line, minute).expect("a line that has begun");
 }
 
 /// The planner's answers in a run of a seed: alone, or among others.
@@ -200,14 +214,17 @@ fn run(seed: u64, among_others: bool) -> Vec<String> {
 #[test]
 fn others_reach_a_lines_answers_only_by_numbers() {
     let first = first_seed("others_reach_a_lines_answers_only_by_numbers");
-    let mut published = 0;
+    let (mut published, mut held) = (0, 0);
     for seed in (0..RUNS).map(|i| first.wrapping_add(i)) {
         let (alone, among_others) = (run(seed, false), run(seed, true));
         for (at, answer) in among_others.iter().enumerate() {
             assert_eq!(alone[at], *answer, "PIT_SEED={seed}, answer {at}");
         }
-        let of_publish = |answer: &&String| answer.starts_with("Publish: Some");
-        published += alone.iter().filter(of_publish).count();
+        let with = |end: &str| alone.iter().filter(|answer| answer.contains(end)).count();
+        published += with(": Now(");
+        held += with(": Held");
     }
+    println!("{published} versions published, {held} times held");
     assert!(published > RUNS as usize, "{published} versions published");
+    assert!(held > RUNS as usize, "{held} times held");
 }

@@ -4,9 +4,10 @@ mod updates;
 
 use pit_host::{
     Areas, Assigned, ByteOffset, Error, Keeper, Lend, Lent, LentAreas, Limits, Line, LineVersion,
-    Node, PageIndex, Parts, Planned, Record, State, Store, Ticket, Version,
+    Minute, Node, PageIndex, Parts, Planned, Published, Record, State, Store, Ticket, Version,
+    WindowsError,
 };
-use updates::{assign, fills, limits, of_three_versions, put_all, update, LIVE};
+use updates::{assign, fills, limits, of_three_versions, put_all, update, ANY_TIME, LIVE};
 
 /// A 64-bit xorshift generator.
 struct Random(u64);
@@ -27,13 +28,17 @@ enum Answer {
     Put(Result<(), Error>),
     Assigned(Result<Assigned, Error>),
     Node(Result<Node, Error>),
-    Published(Result<Option<Version>, Error>),
+    Published(Result<Published, Error>),
+    Windows(Result<(), WindowsError>),
     Begun(Result<Line, Error>),
     Read(Result<(), Error>, Vec<u8>),
     Size(Result<u64, Error>),
     Version(Result<Version, Error>),
     View(Result<Vec<u8>, Error>),
 }
+
+/// Lists of windows, and texts that are none.
+const LISTS: [&str; 3] = ["", "2016,2017\n9000,1000\n", "1,2\n1,1\n"];
 
 /// One call, chosen and filled in by the numbers.
 fn call<A: Lend>(store: &mut Keeper<A>, kind: u64, numbers: [u64; 4], fill: u8) -> Answer {
@@ -45,7 +50,7 @@ fn call<A: Lend>(store: &mut Keeper<A>, kind: u64, numbers: [u64; 4], fill: u8) 
         3 => Answer::Assigned(store.append(line, ticket)),
         4 => Answer::Assigned(store.write(line, ticket, page)),
         5..=8 => Answer::Node(store.weave(ticket)),
-        9 => Answer::Published(store.publish(line)),
+        9 => Answer::Published(store.publish(line, Minute(2_016 * c))), // of the six the last is past the week
         10 => {
             let mut buffer = vec![fill; 40];
             let done = store.read(line, version, ByteOffset(8 * b), 8 * c, &mut buffer);
@@ -55,6 +60,7 @@ fn call<A: Lend>(store: &mut Keeper<A>, kind: u64, numbers: [u64; 4], fill: u8) 
         12 => Answer::Version(store.recent(line)),
         13 => Answer::Version(store.stamp(line, version, page)),
         14 => Answer::Begun(store.branch(line, Version(b))),
+        15 => Answer::Windows(store.set_windows(LISTS[b as usize])),
         _ => Answer::View(store.view(line, version, page).map(<[u8]>::to_vec)),
     }
 }
@@ -75,12 +81,13 @@ fn owned_and_lent_stores_do_the_same() {
         };
         let mut lent = Lent::format(limits(24, 60, 10), areas).unwrap();
         for step in 0..600 {
-            let kind = random.below(16);
+            let kind = random.below(17);
             let line = [0, 0, 1, 2][random.below(4) as usize];
             let numbers = [line, 1 + random.below(8), random.below(3), random.below(6)];
             let answer = call(&mut owned, kind, numbers, step as u8);
             assert_eq!(answer, call(&mut lent, kind, numbers, step as u8));
             assert_eq!(owned.state(), lent.state());
+            assert_eq!(owned.windows(), lent.windows());
         }
         assert!(owned.areas().parts() == lent.areas().parts());
         for (published, line) in published.iter_mut().zip((0..).map(Line)) {
@@ -132,12 +139,17 @@ fn a_store_goes_on_in_the_parts_it_gave() {
     let mut store = of_three_versions();
     let (ticket, assigned) = assign(&mut store, LIVE, Some(0), &[8, 9]).unwrap();
     let mut other = store.clone();
+    store.set_windows("600,660\n").unwrap();
     for _ in 0..assigned.nodes {
-        let (state, areas) = store.into_parts();
-        store = Keeper::resume(state, areas);
+        let (state, windows, areas) = store.into_parts();
+        store = Keeper::resume(state, windows, areas);
         assert_eq!(store.weave(ticket), other.weave(ticket));
     }
-    assert_eq!(store.publish(LIVE), Ok(Some(Version(4))));
+    assert_eq!(store.publish(LIVE, Minute(600)), Ok(Published::Held));
+    assert_eq!(
+        store.publish(LIVE, ANY_TIME),
+        Ok(Published::Now(Version(4)))
+    );
     assert_eq!(fills(&store, LIVE, Version(4)), Ok(vec![8, 9, 6, 4, 7]));
 }
 
@@ -238,15 +250,21 @@ fn the_example() {
         })
     );
     assert_eq!(store.weave(one), node(2, 0, 2, 1, 2, 1));
-    assert_eq!(store.publish(LIVE), Ok(None));
+    assert_eq!(store.publish(LIVE, ANY_TIME), Ok(Published::Waiting));
     assert_eq!(store.weave(two), node(1, 0, 1, 1, 0, 0));
-    assert_eq!(store.publish(LIVE), Ok(Some(Version(1))));
+    assert_eq!(
+        store.publish(LIVE, ANY_TIME),
+        Ok(Published::Now(Version(1)))
+    );
     assert_eq!(
         store.read(LIVE, Version(2), ByteOffset(0), 0, &mut []),
         Err(Error::NotPublished)
     );
     assert_eq!(store.weave(one), node(2, 1, 1, 0, 0, 0));
-    assert_eq!(store.publish(LIVE), Ok(Some(Version(2))));
+    assert_eq!(
+        store.publish(LIVE, ANY_TIME),
+        Ok(Published::Now(Version(2)))
+    );
     let mut bytes = [0; 4];
     assert_eq!(
         store.read(LIVE, Version(2), ByteOffset(14), 4, &mut bytes),
@@ -265,15 +283,21 @@ fn versions_are_published_in_their_order() {
     for _ in 0..two.nodes {
         store.weave(second).unwrap();
     }
-    assert_eq!(store.publish(LIVE), Ok(None));
+    assert_eq!(store.publish(LIVE, ANY_TIME), Ok(Published::Waiting));
     let node = store.weave(first).unwrap();
     assert_eq!(
         (node.version, node.first, node.span, node.rest),
         (LineVersion::new(LIVE, one.version), PageIndex(0), 1, 0)
     );
-    assert_eq!(store.publish(LIVE), Ok(Some(Version(1))));
-    assert_eq!(store.publish(LIVE), Ok(Some(Version(2))));
-    assert_eq!(store.publish(LIVE), Ok(None));
+    assert_eq!(
+        store.publish(LIVE, ANY_TIME),
+        Ok(Published::Now(Version(1)))
+    );
+    assert_eq!(
+        store.publish(LIVE, ANY_TIME),
+        Ok(Published::Now(Version(2)))
+    );
+    assert_eq!(store.publish(LIVE, ANY_TIME), Ok(Published::Waiting));
 }
 
 // Lines.
@@ -336,11 +360,14 @@ fn lines_publish_by_themselves() {
     let (slow, _) = assign(&mut store, LIVE, None, &[1]).unwrap();
     assert_eq!(update(&mut store, plan, None, &[2]), Ok(Version(1)));
     assert_eq!(update(&mut store, plan, None, &[3]), Ok(Version(2)));
-    assert_eq!(store.publish(LIVE), Ok(None));
+    assert_eq!(store.publish(LIVE, ANY_TIME), Ok(Published::Waiting));
     assert_eq!(store.recent(LIVE), Ok(Version(0)));
     store.weave(slow).unwrap();
-    assert_eq!(store.publish(plan), Ok(None));
-    assert_eq!(store.publish(LIVE), Ok(Some(Version(1))));
+    assert_eq!(store.publish(plan, ANY_TIME), Ok(Published::Waiting));
+    assert_eq!(
+        store.publish(LIVE, ANY_TIME),
+        Ok(Published::Now(Version(1)))
+    );
     assert_eq!(fills(&store, LIVE, Version(1)), Ok(vec![1]));
     assert_eq!(fills(&store, plan, Version(2)), Ok(vec![2, 3]));
 }
@@ -448,7 +475,7 @@ fn pages_are_put_in_any_order() {
     for _ in 0..assigned.nodes {
         store.weave(ticket).unwrap();
     }
-    store.publish(LIVE).unwrap();
+    store.publish(LIVE, ANY_TIME).unwrap();
     assert_eq!(fills(&store, LIVE, Version(1)), Ok(vec![0, 1, 2]));
     assert_eq!(put_all(&mut store, &[9, 9]), Err(Error::PagesFull));
 }

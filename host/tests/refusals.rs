@@ -3,10 +3,10 @@
 mod updates;
 
 use pit_host::{
-    Areas, ByteOffset, Error, Keeper, Lend, Lent, LentAreas, Limits, Line, PageIndex, Record,
-    State, Store, Ticket, Version,
+    Areas, ByteOffset, Error, Keeper, Lend, Lent, LentAreas, Limits, Line, Minute, PageIndex,
+    Published, Record, State, Store, Ticket, Version,
 };
-use updates::{assign, limits, of_three_versions, put_all, update, LIVE};
+use updates::{assign, limits, of_three_versions, put_all, update, ANY_TIME, LIVE};
 
 /// A call on a store, its answer dropped.
 type Call = fn(&mut Store) -> Result<(), Error>;
@@ -21,7 +21,7 @@ fn refused(store: &mut Store, number: u64, call: impl FnOnce(&mut Store) -> Resu
 }
 
 /// Every call but FORMAT, with arguments that the store of three versions accepts.
-const CALLS: [(&str, Call); 11] = [
+const CALLS: [(&str, Call); 12] = [
     ("begin", |s| s.begin(1).map(drop)),
     ("put", |s| s.put(Ticket(4), 0, &[9; 16])),
     ("write", |s| {
@@ -29,7 +29,8 @@ const CALLS: [(&str, Call); 11] = [
     }),
     ("append", |s| s.append(LIVE, Ticket(5)).map(drop)),
     ("weave", |s| s.weave(Ticket(6)).map(drop)),
-    ("publish", |s| s.publish(LIVE).map(drop)),
+    ("publish", |s| s.publish(LIVE, ANY_TIME).map(drop)),
+    ("set_windows", |s| Ok(s.set_windows("600,660\n")?)),
     ("branch", |s| s.branch(LIVE, Version(3)).map(drop)),
     ("read", |s| {
         s.read(LIVE, Version(3), ByteOffset(8), 64, &mut [0; 64])
@@ -66,12 +67,12 @@ fn numbers_and_words() {
         assert_eq!(Error::from_number(number), Some(error));
         assert!(error.to_string().len() > 20, "{error:?}");
     }
-    assert_eq!(Error::ALL.len(), 21);
-    for number in [0, 22, u64::MAX] {
+    assert_eq!(Error::ALL.len(), 24);
+    for number in [0, 25, u64::MAX] {
         assert_eq!(Error::from_number(number), None);
     }
     let words: std::collections::HashSet<_> = Error::ALL.iter().map(Error::to_string).collect();
-    assert_eq!(words.len(), 21);
+    assert_eq!(words.len(), 24);
 }
 
 #[test]
@@ -141,13 +142,16 @@ fn row_3_in_every_call() {
         |s| s.pages = u64::MAX,
     ];
     for spoil in wrong {
-        let (mut state, areas) = at_all_stages().into_parts();
+        let (mut state, windows, areas) = at_all_stages().into_parts();
         spoil(&mut state);
-        let mut store = Keeper::resume(state, areas);
+        let mut store = Keeper::resume(state, windows, areas);
         for (_, call) in CALLS {
             refused(&mut store, 3, call);
         }
         assert_eq!(store.recent(LIVE), Err(Error::AreaLength));
+        // 3 comes first, whatever the minute and the text
+        refused(&mut store, 3, |s| s.publish(LIVE, Minute(10_080)).map(drop));
+        refused(&mut store, 3, |s| Ok(s.set_windows("x")?));
     }
 }
 
@@ -293,7 +297,7 @@ fn row_20_of_lines() {
         });
         refused(&mut store, 7, |s| s.append(line, Ticket(7)).map(drop));
         refused(&mut store, 8, |s| s.append(line, Ticket(6)).map(drop));
-        refused(&mut store, 20, |s| s.publish(line).map(drop));
+        refused(&mut store, 20, |s| s.publish(line, ANY_TIME).map(drop));
         refused(&mut store, 20, |s| s.recent(line).map(drop));
         for version in [0, 3, 9].map(Version) {
             refused(&mut store, 20, |s| s.branch(line, version).map(drop));
@@ -352,9 +356,49 @@ fn rows_13_and_16_are_read_on_their_line() {
     refused(&mut store, 8, |s| s.append(LIVE, Ticket(5)).map(drop));
     refused(&mut store, 16, |s| s.size(plan, Version(3)).map(drop));
     while store.weave(Ticket(5)).unwrap().rest > 0 {}
-    assert_eq!(store.publish(plan), Ok(Some(Version(3))));
+    assert_eq!(
+        store.publish(plan, ANY_TIME),
+        Ok(Published::Now(Version(3)))
+    );
     assert_eq!(store.size(plan, Version(3)), Ok(5 * 16));
     assert_eq!(store.recent(LIVE), Ok(Version(3)));
+}
+
+/// 22 stands after 20, and before "held".
+#[test]
+fn row_22_of_publish() {
+    let mut store = at_all_stages();
+    store.set_windows("10079,600\n").unwrap();
+    for minute in [10_080, 65_536, 65_536 + 30, 1 << 32, u64::MAX].map(Minute) {
+        refused(&mut store, 22, |s| s.publish(LIVE, minute).map(drop));
+        refused(&mut store, 20, |s| s.publish(Line(1), minute).map(drop));
+    }
+    let held = Ok(Published::Held);
+    assert_eq!(store.publish(LIVE, Minute(10_079)), held);
+    refused(&mut store, 20, |s| {
+        s.publish(Line(1), Minute(10_079)).map(drop)
+    });
+}
+
+/// 23 stands before 24; the windows that there were stay.
+#[test]
+fn rows_23_and_24_of_windows() {
+    let mut store = at_all_stages();
+    store.set_windows("600,660\n").unwrap();
+    let set = |s: &mut Store, text: &str| Ok(s.set_windows(text)?);
+    let list = "1,2\n".repeat(32);
+    for wrong in [
+        "", "1", "1,", ",1", "1,2,3", "1,1", "0,10080", "01,2", "1 ,2",
+    ] {
+        refused(&mut store, 23, |s| set(s, &format!("{wrong}\n")));
+        refused(&mut store, 23, |s| set(s, &format!("{list}{wrong}\n")));
+    }
+    refused(&mut store, 23, |s| set(s, "1,2"));
+    refused(&mut store, 23, |s| set(s, &format!("{list}1,2")));
+    refused(&mut store, 24, |s| set(s, &format!("{list}1,2\n")));
+    refused(&mut store, 24, |s| set(s, &list.repeat(100)));
+    assert_eq!(set(&mut store, &list), Ok(()));
+    assert_eq!(store.windows().to_string(), list);
 }
 
 #[test]
@@ -373,9 +417,9 @@ fn row_18_leaves_the_buffer() {
 
 /// The store of all stages, its state and areas spoilt.
 fn spoilt(spoil: impl FnOnce(&mut State, LentAreas<'_>)) -> Store {
-    let (mut state, mut areas) = at_all_stages().into_parts();
+    let (mut state, windows, mut areas) = at_all_stages().into_parts();
     spoil(&mut state, areas.lend());
-    Keeper::resume(state, areas)
+    Keeper::resume(state, windows, areas)
 }
 
 /// In a register that no run left: the low n bits of a ticket's mask decide, whatever stands above them.
@@ -421,7 +465,14 @@ fn row_19_of_page_numbers_places_and_records_past_their_areas() {
         (live.assigned, live.published) = (10, 9);
         state.set_line(LIVE, live);
     });
-    refused(&mut store, 19, |s| s.publish(LIVE).map(drop));
+    refused(&mut store, 19, |s| s.publish(LIVE, ANY_TIME).map(drop));
+    refused(&mut store, 22, |s| {
+        s.publish(LIVE, Minute(10_080)).map(drop)
+    });
+    // inside a window no record is looked at
+    store.set_windows("0,1\n").unwrap();
+    assert_eq!(store.publish(LIVE, Minute(0)), Ok(Published::Held));
+    refused(&mut store, 19, |s| s.publish(LIVE, Minute(1)).map(drop));
     refused(&mut store, 19, |s| s.size(LIVE, Version(9)).map(drop));
     refused(&mut store, 19, |s| s.branch(LIVE, Version(9)).map(drop));
 }

@@ -2,13 +2,16 @@
 
 mod updates;
 
-use pit_host::{ByteOffset, Error, FileError, Limits, PageIndex, Shared, Store, Ticket, Version};
+use pit_host::{
+    ByteOffset, Error, FileError, Limits, Minute, PageIndex, Published, Shared, Store, Ticket,
+    Version,
+};
 use std::panic::{catch_unwind, AssertUnwindSafe};
 use std::sync::atomic::{AtomicBool, Ordering};
 use std::sync::mpsc::{channel, Receiver, Sender};
 use std::thread;
 use std::time::Duration;
-use updates::{fills, limits, of_three_versions, LIVE};
+use updates::{fills, limits, of_three_versions, ANY_TIME, LIVE};
 
 const PAGE: usize = 64;
 const BLOB: u64 = 8;
@@ -20,7 +23,10 @@ fn model(updates: u64) -> Shared {
     let ticket = begin(&shared, BLOB, 1);
     let assigned = shared.append(LIVE, ticket).unwrap();
     finish(&shared, ticket, assigned.nodes);
-    assert_eq!(shared.publish(LIVE), Ok(Some(Version(1))));
+    assert_eq!(
+        shared.publish(LIVE, ANY_TIME),
+        Ok(Published::Now(Version(1)))
+    );
     shared
 }
 
@@ -48,7 +54,7 @@ fn write(shared: &Shared, count: u64, n: u64, first: u64) {
         }
         let assigned = shared.write(LIVE, ticket, PageIndex(first)).unwrap();
         finish(shared, ticket, assigned.nodes);
-        while shared.publish(LIVE).unwrap().is_some() {}
+        while shared.publish(LIVE, ANY_TIME).unwrap().version().is_some() {}
     }
 }
 
@@ -118,8 +124,14 @@ fn a_writer_that_dies_leaves_its_ticket_open_and_nobody_stuck() {
     let ticket = Ticket(2);
     let rest = shared.weave(ticket).unwrap().rest;
     finish(&shared, ticket, rest);
-    assert_eq!(shared.publish(LIVE), Ok(Some(Version(2))));
-    assert_eq!(shared.publish(LIVE), Ok(Some(Version(3))));
+    assert_eq!(
+        shared.publish(LIVE, ANY_TIME),
+        Ok(Published::Now(Version(2)))
+    );
+    assert_eq!(
+        shared.publish(LIVE, ANY_TIME),
+        Ok(Published::Now(Version(3)))
+    );
     let pages = fills(&shared.to_store(), LIVE, Version(3)).unwrap();
     assert_eq!(pages, [3, 1, 1, 50, 50, 1, 1, 1]);
 }
@@ -182,6 +194,35 @@ fn handles_are_of_one_store() {
         (Ok(Ticket(1)), Ok(Ticket(2)))
     );
     assert_eq!(shared.begin(1), Err(Error::RegisterFull));
+}
+
+/// A handle's windows are every handle's: those that the blaster sets hold the crew's version until they are gone.
+#[test]
+fn windows_set_by_one_thread_hold_anothers_publish() {
+    let shared = model(2);
+    let (blaster, crew) = (shared.clone(), shared.clone());
+    let (set, is_set) = channel();
+    let (found, is_held) = channel();
+    let working = thread::spawn(move || {
+        let ticket = begin(&crew, 1, 50);
+        let assigned = crew.write(LIVE, ticket, PageIndex(0)).unwrap();
+        finish(&crew, ticket, assigned.nodes);
+        is_set.recv().unwrap();
+        found.send(crew.publish(LIVE, Minute(610))).unwrap();
+        is_set.recv().unwrap();
+        crew.publish(LIVE, Minute(610))
+    });
+    blaster.set_windows("600,660\n").unwrap();
+    set.send(()).unwrap();
+    assert_eq!(is_held.recv().unwrap(), Ok(Published::Held));
+    assert_eq!(shared.recent(LIVE), Ok(Version(1)));
+    let refused = blaster.set_windows("600,600\n").unwrap_err();
+    assert_eq!(refused.error(), Error::WrongWindow);
+    assert_eq!(shared.windows().to_string(), "600,660\n");
+    blaster.set_windows("").unwrap();
+    set.send(()).unwrap();
+    let published = Ok(Published::Now(Version(2)));
+    assert_eq!(working.join().unwrap(), published);
 }
 
 // Files.

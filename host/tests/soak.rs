@@ -1,6 +1,6 @@
-//! A store shared by 40 writers, 18 planners, who each begin a line while the others write, and 200 readers; some of those
-//! who write die in the middle of an update. All that they were answered is compared with the plain model of documents 01
-//! and 02. `PIT_SEED` names the first seed.
+//! A store shared by 40 writers, 18 planners, who each begin a line while the others write, a blaster, who sets a window and
+//! takes it away again, and 200 readers; some of those who write die in the middle of an update. All that they were answered
+//! is compared with the plain model of documents 01 and 02. `PIT_SEED` names the first seed.
 
 #[path = "soak/readers.rs"]
 mod readers;
@@ -13,7 +13,7 @@ mod random;
 #[allow(dead_code)] // what the step program's lines need
 mod store;
 
-use pit_host::{Limits, Shared, Store};
+use pit_host::{Limits, Minute, Shared, Store};
 use random::{first_seed, Random};
 use readers::{Answer, Asked, Reader};
 use std::collections::BTreeSet;
@@ -21,6 +21,7 @@ use std::panic::resume_unwind;
 use std::sync::mpsc::{channel, Receiver, Sender};
 use std::sync::{Mutex, RwLock};
 use std::thread;
+use std::time::Duration;
 use writers::{deaths, Death, Log, Writer};
 
 const SEEDS: u64 = 3;
@@ -45,6 +46,10 @@ const PAGE_SIZE: u64 = 64;
 const MOST: u64 = 4;
 /// The areas have room for a blob of so many pages, which is far more than the appends reach.
 const BLOB: u64 = 512;
+
+/// The blaster's window, and a minute inside. Minute 0 is outside.
+const WINDOW: &str = "600,660\n";
+const FIRED: Minute = Minute(659);
 
 /// All who write.
 const CREWS: usize = WRITERS + PLANNERS;
@@ -114,6 +119,7 @@ impl Site {
                 threads.spawn(move || self.read(random))
             });
             let trucks: Vec<_> = trucks.collect();
+            threads.spawn(|| self.fire());
             drop(gathering);
             self.finish_some(ended);
             drop(writing);
@@ -141,6 +147,17 @@ impl Site {
     fn read(&self, random: Random) -> Vec<(Asked, Answer)> {
         drop(self.gathering.read());
         Reader::new(&self.shared, random).ride(READS, &self.writing)
+    }
+
+    /// Sets a window and takes it away again, as long as anybody writes.
+    fn fire(&self) {
+        drop(self.gathering.read());
+        while self.writing.try_read().is_err() {
+            for list in [WINDOW, ""] {
+                self.shared.set_windows(list).expect("a list");
+                thread::sleep(Duration::from_millis(1));
+            }
+        }
     }
 
     /// As writers end, finishes the first versions that are left unfinished.
@@ -183,8 +200,10 @@ fn soak(seed: u64) {
     let all = site.judge(&answers);
     let read = answers.iter().map(|(asked, _)| (asked.line, asked.version));
     let (read, calls) = (read.collect::<BTreeSet<_>>().len(), answers.len());
-    println!("{reached} of {all} versions published; {calls} calls read {read}");
-    assert!(reached < all && 4 * read > reached);
+    let held = site.logs.iter().map(|log| log.lock().unwrap().held);
+    let held: u64 = held.sum();
+    println!("{reached} of {all} versions published, {held} calls held; {calls} calls read {read}");
+    assert!(reached < all && 4 * read > reached && held > 0);
 }
 
 #[test]

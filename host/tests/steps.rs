@@ -1,14 +1,17 @@
-//! The step program against the plain model of documents 01 and 02, line by line. `PIT_STEPS` names the program,
-//! `PIT_SEED` the first seed of the random scripts: with the seed of a script that failed, it comes first.
+//! The step program against the plain model of documents 01 and 02, line by line; and the library, call by call, where a
+//! host's lines say what no line of the program does. `PIT_STEPS` names the program, `PIT_SEED` the first seed of the random
+//! scripts: with the seed of a script that failed, it comes first.
 
 mod by_hand;
+mod library;
 mod program;
 mod scripts;
 mod store;
+mod updates;
 
 use by_hand::{agree, transcript};
 use program::{run, Session};
-use scripts::{random, random_from_the_start, Random, Script};
+use scripts::{random, random_from_the_start, random_of_a_host, Random, Script};
 use std::collections::BTreeMap;
 use std::io::Write;
 use std::process::Command;
@@ -20,6 +23,8 @@ const READ_AND_STAMP: bool = true;
 /// How many random scripts there are, and how many share one process.
 const SCRIPTS: u64 = 2_400;
 const SCRIPTS_A_PROCESS: u64 = 100;
+/// How many random scripts of a host there are.
+const HOST_SCRIPTS: u64 = 500;
 
 /// The answer that is due, by what the program has.
 fn due(line: &[u8], answer: &str) -> String {
@@ -77,12 +82,12 @@ const EXAMPLE: &str = "
     APPEND,0,2 > version,1,1
     APPEND,0,1 > version,2,2
     WEAVE,1 > node,2,0,2,1,2,1
-    PUBLISH,0 > waiting
+    PUBLISH,0,0 > waiting
     WEAVE,2 > node,1,0,1,1,0,0
-    PUBLISH,0 > published,1
+    PUBLISH,0,0 > published,1
     READ,0,2,0,0 > refused,16
     WEAVE,1 > node,2,1,1,0,0,0
-    PUBLISH,0 > published,2
+    PUBLISH,0,0 > published,2
     READ,0,2,14,4 > bytes,22221111
     STAMP,0,2,0 > stamp,1
     BEGIN,1 > refused,5";
@@ -223,27 +228,30 @@ fn tally(scripts: &[Script], counts: &mut BTreeMap<String, u64>) {
     }
 }
 
-/// Every answer that the program can give came often enough to mean something.
-fn all_came(counts: &BTreeMap<String, u64>) {
-    let words = [
-        "ok",
-        "ticket",
-        "put",
-        "version",
-        "node",
-        "published",
-        "waiting",
-        "line",
-        "bytes",
-        "size",
-        "recent",
-        "stamp",
-    ];
-    let rows = [
-        0, 1, 2, 4, 5, 6, 7, 8, 9, 10, 11, 12, 13, 15, 16, 17, 20, 21,
-    ];
-    let keys = words.map(String::from).into_iter();
-    for key in keys.chain(rows.map(|row| format!("refused,{row}"))) {
+/// The answers that the program can give: their words, and the rows of the table.
+const WORDS: [&str; 12] = [
+    "ok",
+    "ticket",
+    "put",
+    "version",
+    "node",
+    "published",
+    "waiting",
+    "line",
+    "bytes",
+    "size",
+    "recent",
+    "stamp",
+];
+const ROWS: [u64; 19] = [
+    0, 1, 2, 4, 5, 6, 7, 8, 9, 10, 11, 12, 13, 15, 16, 17, 20, 21, 22,
+];
+
+/// Each of these answers came often enough to mean something.
+fn came(counts: &BTreeMap<String, u64>, words: &[&str], rows: &[u64]) {
+    let words = words.iter().map(|word| word.to_string());
+    let rows = rows.iter().map(|row| format!("refused,{row}"));
+    for key in words.chain(rows) {
         let count = counts.get(&key).copied().unwrap_or(0);
         assert!(count >= 100, "{key} came {count} times: {counts:?}");
     }
@@ -260,7 +268,7 @@ fn random_scripts() {
         tally(&scripts, &mut counts);
     }
     println!("{SCRIPTS} scripts: {counts:?}");
-    all_came(&counts);
+    came(&counts, &WORDS, &ROWS);
 }
 
 #[test]
@@ -269,4 +277,18 @@ fn random_scripts_from_a_fresh_start() {
     for i in 0..100 {
         check(&[random_from_the_start(seed.wrapping_add(i))]);
     }
+}
+
+#[test]
+fn random_scripts_of_a_host() {
+    let seed = first_seed("random_scripts_of_a_host");
+    let mut counts = BTreeMap::new();
+    for i in 0..HOST_SCRIPTS {
+        let script = random_of_a_host(seed.wrapping_add(i));
+        library::check(&script);
+        tally(&[script], &mut counts);
+    }
+    println!("{HOST_SCRIPTS} scripts: {counts:?}");
+    came(&counts, &WORDS, &ROWS);
+    came(&counts, &["done", "held"], &[23, 24]);
 }

@@ -4,7 +4,8 @@
     python3 walkgen.py REPO CRATE F ..      write crates/CRATE/proofs/F/Proof.antt of each F, and all that it cites
     python3 walkgen.py REPO CRATE --list    the functions of the crate, and which of them take a slice of a struct
     --calls                                 also write the call of each F, for the crates above to cite
-    +F                                      of the covered function F write the call alone, for the crates above to cite
+    +F                                      of the covered function F write the call alone, for the crates above to cite; +C::F: of one of the crate C below
+    =T                                      of the declared struct or enum T write what walks cite of it, for the crates above
     --whole                                 F .. are all walks of the crate: what proofs/Generated/ has besides is removed
     --rebind                                also bring the author's Facts.antt up to date: the arguments of each clause (its answer stays), and a skeleton for each new fact
 A function of the file m.rt is m::f.
@@ -2887,7 +2888,7 @@ def main():
             if path.startswith(crate + '::'):
                 print(path, 'walked' if any((t.to if t.deep else t).kind == 'slice' and (t.to if t.deep else t).elem.kind == 'named' for t in m.locals[1:1 + m.nparams]) else 'covered?')
         return
-    if not c.elsewhere('Flow'):
+    if not c.elsewhere('Flow') and any(not f.startswith('=') for f in sys.argv[3:]):
         for lib in ('Again', 'Flow'):
             c.put('Generated/%s.antt' % lib, open(os.path.join(HERE, 'lib', lib + '.antt.in')).read().replace('@PROOFS@', c.proofs(crate)))
         for x in c.unnamed:
@@ -2896,7 +2897,11 @@ def main():
     bad = 0
     for f in sys.argv[3:]:
         try:
-            fun = c.fn('%s::%s' % (crate, f.lstrip('+')))
+            if f.startswith('='):
+                c.need_type('%s::%s' % (crate, f[1:]))
+                continue
+            path = f.lstrip('+')
+            fun = c.fn(path if '::' in f and f.startswith('+') else '%s::%s' % (crate, path))
             if not f.startswith('+'):
                 Walk(fun).file()
             if '--calls' in flags or f.startswith('+'):

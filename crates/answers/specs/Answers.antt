@@ -73,7 +73,7 @@ opening s = record { «open» = true; store = s }
 
 -- FORMAT: the store that it made is open from now on; where it is refused, what there was is kept.
 unfoldable pub formatSaid : Kept → Formatted → Said
-formatSaid k (Formatted.Made s) = plainly (opening s) Reply.Ok
+formatSaid k (Formatted.Made s w) = plainly (opening s) Reply.Ok
 formatSaid k (Formatted.Refused n) = plainly k (Reply.Refused n)
 
 -- The first n bytes, or all where there are fewer.
@@ -105,10 +105,11 @@ unfoldable pub wovenReply : Woven → Reply
 wovenReply (Woven.Node x) = Reply.Node (x .version) (x .first .0) (x .span) (x .left) (x .right) (x .rest)
 wovenReply (Woven.Refused k) = Reply.Refused k
 
--- PUBLISH: the version that is now published, or that none is due.
+-- PUBLISH: the version that is now published, that none is due, or that the minute is inside a window.
 unfoldable pub publishedReply : Published → Reply
 publishedReply (Published.Now v) = Reply.Published (v .0)
 publishedReply Published.Waiting = Reply.Waiting
+publishedReply Published.Held = Reply.Held
 publishedReply (Published.Refused k) = Reply.Refused k
 
 -- BRANCH: the line that begins.

@@ -72,7 +72,7 @@ pub fn format_turn(kept: Kept, a: Formatted, out: &mut [u8]) -> Turn
         ⌜ (r ≡ turned x (now (out .entry))) × (now (out .exit) ≡ written x (now (out .entry))) ⌝ }
 {
     match a {
-        Formatted::Made(store) => reply_turn(opened(store), Reply::Ok, out),
+        Formatted::Made(store, _) => reply_turn(opened(store), Reply::Ok, out),
         Formatted::Refused(k) => {
             let len = print::write_reply(Reply::Refused(k), out);
             Turn { kept, len }
@@ -160,6 +160,7 @@ pub fn publish_turn(kept: Kept, a: PublishOut, out: &mut [u8]) -> Turn
     match answer {
         Published::Now(v) => reply_turn(after, Reply::Published(v.0), out),
         Published::Waiting => reply_turn(after, Reply::Waiting, out),
+        Published::Held => reply_turn(after, Reply::Held, out),
         Published::Refused(k) => reply_turn(after, Reply::Refused(k), out),
     }
 }

@@ -71,7 +71,7 @@ pub fn look_step(
     out: &mut [u8],
 ) -> Turn {
     match step {
-        Look::Publish(l) => publish_step(kept, Line(l), pages, nodes, register, out),
+        Look::Publish(l, k) => publish_step(kept, Line(l), k, pages, nodes, register, out),
         Look::Branch(l, v) => branch_step(kept, Line(l), Version(v), pages, nodes, register, out),
         Look::Read(l, v, o, n) => read_step(
             kept,

@@ -4,13 +4,14 @@ use mathlib.Core.Path.{_≡_, refl, sym, ap, _∙_}
 use mathlib.Core.List.{List, [], _∷_, _++_}
 use Prim.Native.Nat.{ℕ, _≤_, _<_}
 use native.Mathlib.Omega.{arith}
-use lib.ListN.{length, replicate}
+use lib.ListN.{length}
 use Rattle.versions.specs.Store.{Areas}
-use Rattle.model.specs.Calls.{Call, on, PUBLISH, BRANCH, READ, SIZE, RECENT, STAMP, VIEW, lineIs, recentIs, says}
+use Rattle.model.specs.Calls.{Call, on, PUBLISH, BRANCH, READ, SIZE, RECENT, STAMP, VIEW, held, lineIs, recentIs, says}
 use Rattle.table.proofs.Table.{unless-0}
 use Rattle.model.specs.Model.{Limits, Line, Model, noModel, lineAt, history}
 use Rattle.model.specs.OnModel.{onModel, branched, branchNumber, onLine}
 use Rattle.model.specs.Run.{run, outcomes, modelAfter}
+use Rattle.model.specs.Due.{publishes}
 use Rattle.model.proofs.Sound.{Sound}
 use Rattle.model.proofs.SoundHistory.{line-history}
 use Rattle.model.proofs.Shown.{versions-length}
@@ -25,10 +26,11 @@ use Rattle.model.proofs.Stay.{SameUpTo, same-less}
 use Rattle.model.proofs.Shared.{branch-reads}
 use Rattle.model.proofs.Passed.{BranchPassed, branch-passed, line-answered}
 use Rattle.model.proofs.Kept.Branch.{branched-length, branched-new}
-use Rattle.model.proofs.Reached.{reached-exact, reached-comes, waits, waits-back}
+use Rattle.model.proofs.Reached.{reached-windows, reached-exact, reached-comes}
+use Rattle.model.proofs.Held.{waits, waits-back, publish-held, held-inside, held-still}
 use Rattle.isolation.proofs.Isolation.{isolated as isolated-model}
 use Rattle.demands.specs.Run.{State, onStore, formattedState, storeAfter, asked}
-use Rattle.demands.specs.Demands.{Accepted, Published, AnswersAsModel, ReadsInTurn, Compared, Kept, Reaches, BeginsFrom, ThirdDemand, Demanded, Isolated}
+use Rattle.demands.specs.Demands.{Accepted, Published, AnswersAsModel, ReadsInTurn, Compared, Kept, Reaches, Held, BeginsFrom, ThirdDemand, Demanded, Isolated}
 use Rattle.demands.proofs.Image.{image}
 use Rattle.demands.proofs.Allowed.{format-allowed}
 use Rattle.demands.proofs.Faultless.{run-fine}
@@ -103,23 +105,37 @@ module _ (L : Limits) (a : Areas) (accepted : Accepted L a) where
         sizes = again (on l (SIZE k)) (later-sized L m s more l (p .line) k (p .upto));
       }
 
-  -- PUBLISH of a line repeated.
+  -- PUBLISH of a line repeated, at any minutes.
   pub reaches : (cs : List Call) (l : ℕ) → l < length (modelAfter L cs .lines) → Reaches L a cs l
   reaches cs l there =
       let m = modelAfter L cs in
       let s = sound cs in
-      let line : (n : ℕ) → l < length (modelAfter L (cs ++ replicate n (on l PUBLISH)) .lines) =
-      λ n. rw (later cs (replicate n (on l PUBLISH))) (later-line L m s (replicate n (on l PUBLISH)) l there) in
+      let line : (minutes : List ℕ) → l < length (modelAfter L (cs ++ publishes l minutes) .lines) =
+      λ minutes. rw (later cs (publishes l minutes)) (later-line L m s (publishes l minutes) l there) in
       record {
-        exact = λ n e.
-            let ps = replicate n (on l PUBLISH) in
-            let z = waits-back L l (modelAfter L (cs ++ ps)) (line n) (sym (as-model (cs ++ ps) (on l PUBLISH)) ∙ e) in
-            recent-as-model (cs ++ ps) l (line n)
-            ∙ ap (λ (v : ℕ). says (recentIs v)) (ap (λ (x : Model). lineAt x l .published) (later cs ps) ∙ reached-exact L l m s there n (rw (later cs ps) at z));
-        comes =
-            let ps = replicate (length (history m l .versions)) (on l PUBLISH) in
-            as-model (cs ++ ps) (on l PUBLISH)
-            ∙ waits L l (modelAfter L (cs ++ ps)) (line (length (history m l .versions))) (rw (later cs ps) (reached-comes L l m s there));
+        exact = λ minutes now e.
+            let ps = publishes l minutes in
+            let z = waits-back L (modelAfter L (cs ++ ps)) l now (sym (as-model (cs ++ ps) (on l (PUBLISH now))) ∙ e) in
+            recent-as-model (cs ++ ps) l (line minutes)
+            ∙ ap (λ (v : ℕ). says (recentIs v)) (ap (λ (x : Model). lineAt x l .published) (later cs ps) ∙ reached-exact L l m s there minutes (rw (later cs ps) at z));
+        comes = λ minutes now all outside enough.
+            let ps = publishes l minutes in
+            let same : modelAfter L (cs ++ ps) .windows ≡ m .windows = ap (λ (x : Model). x .windows) (later cs ps) ∙ reached-windows L l m s there minutes in
+            as-model (cs ++ ps) (on l (PUBLISH now))
+            ∙ waits L (modelAfter L (cs ++ ps)) l now (line minutes) (rw same outside) (rw (later cs ps) (reached-comes L l m s there minutes all enough));
+      }
+
+  -- PUBLISH inside a window.
+  pub held-there : (cs : List Call) (l minute : ℕ) → Held L a cs l minute
+  unfolding run
+  held-there cs l minute =
+      let m = modelAfter L cs in
+      let c = on l (PUBLISH minute) in
+      let said : asked (storeAfter L a cs) c ≡ says held → onModel L m c .1 ≡ says held = λ e. sym (as-model cs c) ∙ e in
+      record {
+        holds = λ there accepted e. as-model cs c ∙ publish-held L m l minute there accepted e;
+        only = λ e. held-inside L m l minute (said e);
+        still = λ e. store-image (cs ++ c ∷ []) ∙ ap (image L) (later cs (c ∷ []) ∙ held-still L m l minute (said e)) ∙ sym (store-image cs);
       }
 
   -- BRANCH's line has the version that it begins from published at once, and reads up to it as its source does.
@@ -177,7 +193,7 @@ module _ (L : Limits) (a : Areas) (accepted : Accepted L a) where
         }
 
   pub third-demand : (cs : List Call) → ThirdDemand L a cs
-  third-demand cs = record { answers = answers-as-model cs; compared = compared cs; kept = kept cs; reaches = reaches cs; begins = begins-from cs }
+  third-demand cs = record { answers = answers-as-model cs; compared = compared cs; kept = kept cs; reaches = reaches cs; held = held-there cs; begins = begins-from cs }
 
 -- The three demands hold, for any limits and areas that FORMAT accepts and any list of calls.
 pub demanded : Demanded

@@ -7,8 +7,10 @@ use mathlib.Core.Logic.{_≢_}
 use Prim.Native.Nat.{ℕ, zero, suc, _<_}
 use native.Mathlib.Omega.{arith}
 use lib.ListN.{length, getD}
-use Rattle.table.specs.Table.{holds, Row, _gives_, firstRefusal, beginRows, putRows, assignRows, weaveRows, lineRows, branchRows, sizeRows, readRows, pageRows}
-use Rattle.model.specs.Calls.{Call, BEGIN, PUT, WEAVE, on, Act, WRITE, APPEND, PUBLISH, BRANCH, READ, SIZE, RECENT, STAMP, VIEW, Answer, refused, publishedIs, waiting, says, answers}
+use Rattle.table.specs.Table.{holds, Row, _gives_, firstRefusal, beginRows, putRows, assignRows, weaveRows, lineRows, publishRows, windowRows, branchRows, sizeRows, readRows, pageRows}
+use Rattle.windows.specs.Windows.{inside}
+use Rattle.windows.specs.Listed.{textNumber}
+use Rattle.model.specs.Calls.{Call, BEGIN, PUT, WEAVE, SETWINDOWS, on, Act, WRITE, APPEND, PUBLISH, BRANCH, READ, SIZE, RECENT, STAMP, VIEW, Answer, refused, publishedIs, waiting, held, says, answers}
 use Rattle.model.specs.History.{due}
 use Rattle.model.specs.Model.{Limits, Model, history}
 use Rattle.model.specs.OnModel.{onLine, onModel, either}
@@ -47,15 +49,16 @@ zero-one z = omega arith
 fine : (x : Answer) → ((k : ℕ) → x ≡ refused k → ⊥) → NoFault x
 fine x f = record { not3 = f 3; not19 = f 19 }
 
-published-fine : (b : Bool) (v : ℕ) → NoFault (either b (publishedIs v) waiting)
-published-fine true v = fine _ λ k e. zero-one (cc)
-published-fine false v = fine _ λ k e. zero-one (cc)
+published-fine : (h b : Bool) (v : ℕ) → NoFault (either h held (either b (publishedIs v) waiting))
+published-fine true b v = fine _ λ k e. zero-one (cc)
+published-fine false true v = fine _ λ k e. zero-one (cc)
+published-fine false false v = fine _ λ k e. zero-one (cc)
 
 line-fine : (L : Limits) (m : Model) (l : ℕ) (a : Act) → NoFault (onLine L m l a .1 .answer)
-unfolding onLine assignRows lineRows branchRows sizeRows readRows pageRows
+unfolding onLine assignRows lineRows publishRows branchRows sizeRows readRows pageRows
 line-fine L m l (WRITE t f) = by-rows _ _ (omega arith) (omega arith) (fine _ λ k e. zero-one (cc))
 line-fine L m l (APPEND t) = by-rows _ _ (omega arith) (omega arith) (fine _ λ k e. zero-one (cc))
-line-fine L m l PUBLISH = by-rows _ _ (omega arith) (omega arith) (published-fine (due (history m l)) _)
+line-fine L m l (PUBLISH minute) = by-rows _ _ (omega arith) (omega arith) (published-fine (inside (m .windows) minute) (due (history m l)) _)
 line-fine L m l (BRANCH v) = by-rows _ _ (omega arith) (omega arith) (fine _ λ k e. zero-one (cc))
 line-fine L m l (READ v offset len buffer) = by-rows _ _ (omega arith) (omega arith) (fine _ λ k e. zero-one (cc))
 line-fine L m l (SIZE v) = by-rows _ _ (omega arith) (omega arith) (fine _ λ k e. zero-one (cc))
@@ -64,10 +67,11 @@ line-fine L m l (STAMP v p) = by-rows _ _ (omega arith) (omega arith) (fine _ λ
 line-fine L m l (VIEW v p) = fine _ λ k e. zero-one (cc)
 
 pub step-fine : (L : Limits) (m : Model) (c : Call) → NoFault (onModel L m c .1 .answer)
-unfolding onModel beginRows putRows weaveRows
+unfolding onModel beginRows putRows weaveRows textNumber windowRows
 step-fine L m (BEGIN n) = by-rows _ _ (omega arith) (omega arith) (fine _ λ k e. zero-one (cc))
 step-fine L m (PUT t i bytes) = by-rows _ _ (omega arith) (omega arith) (fine _ λ k e. zero-one (cc))
 step-fine L m (WEAVE t) = by-rows _ _ (omega arith) (omega arith) (fine _ λ k e. zero-one (cc))
+step-fine L m (SETWINDOWS t) = by-rows _ _ (omega arith) (omega arith) (fine _ λ k e. zero-one (cc))
 step-fine L m (on l a) = line-fine L m l a
 
 pub run-fine : (L : Limits) (m : Model) (cs : List Call) (i : ℕ) → i < length cs → NoFault (getD (outcomes (onModel L) m cs) i (says waiting) .answer)

@@ -1,4 +1,4 @@
--- The store that a model stands for, to the last byte: counters, lines, register, pages and nodes.
+-- The store that a model stands for, to the last byte: counters, lines, windows, register, pages and nodes.
 -- Assumes nothing.
 use mathlib.Core.Option.{Option}
 use mathlib.Core.List.{List, [], _∷_}
@@ -12,6 +12,8 @@ use Rattle.lines.specs.Lines.{packed, entriesOf}
 use Rattle.lines.specs.declared.Branch.{Branch}
 use Rattle.lines.proofs.States.{sourcesOf}
 use Rattle.register.specs.declared.Record.{Record}
+use Rattle.windows.specs.declared.Windows.{Windows}
+use Rattle.windows.specs.Windows.{placed}
 use Rattle.versions.specs.declared.Store.{Store}
 use Rattle.versions.specs.Store.{Areas}
 use Rattle.model.specs.History.{Page, Ticket, Version, pagesOf, taken, updateOf as toUpdate, updates, blobSize, isFilled, bitIf}
@@ -106,8 +108,11 @@ storeImage L m = record {
   lines = linesImage m;
 }
 
+abbrev pub windowsImage : Model → Windows
+windowsImage m = placed (m .windows)
+
 abbrev pub areasImage : Limits → Model → Areas
 areasImage L m = record { pages = pagesImage L m; nodes = nodesImage L m; register = registerImage L m }
 
 abbrev pub image : Limits → Model → State
-image L m = record { store = storeImage L m; areas = areasImage L m }
+image L m = record { store = storeImage L m; windows = windowsImage m; areas = areasImage L m }

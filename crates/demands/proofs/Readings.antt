@@ -14,11 +14,12 @@ use Rattle.weave.specs.declared.WovenNode.{WovenNode}
 use Rattle.weave.specs.Weave.{wove}
 use Rattle.publish.specs.Publish.{published}
 use Rattle.branch.specs.Branch.{branched}
+use Rattle.set_windows.specs.SetWindows.{windowsSet}
 use Rattle.read.specs.Read.{filledBy}
 use Rattle.stamp.specs.Stamp.{stamped}
 use Rattle.view.specs.View.{viewed}
-use Rattle.demands.specs.Answers.{formattedAnswer, begunAnswer, putAnswer, assignedAnswer, wovenAnswer, publishedAnswer, branchedAnswer, filledAnswer, sizedAnswer, latestAnswer, stampedAnswer, viewedAnswer}
-use Rattle.model.specs.Calls.{Answer, formatDone, ticketIs, putDone, versionIs, nodeIs, publishedIs, waiting, lineIs, filled, sizeIs, recentIs, stampIs, partAt, answers}
+use Rattle.demands.specs.Answers.{formattedAnswer, begunAnswer, putAnswer, assignedAnswer, wovenAnswer, publishedAnswer, branchedAnswer, windowsAnswer, filledAnswer, sizedAnswer, latestAnswer, stampedAnswer, viewedAnswer}
+use Rattle.model.specs.Calls.{Answer, formatDone, ticketIs, putDone, versionIs, nodeIs, publishedIs, waiting, held, lineIs, windowsDone, filled, sizeIs, recentIs, stampIs, partAt, answers}
 use Rattle.model.specs.OnModel.{either}
 
 -- Values need be the same only where the table's number is 0.
@@ -46,14 +47,19 @@ pub woven-reads : (k : ℕ) (x : WovenNode) → wovenAnswer (wove k x) ≡ answe
 woven-reads zero x = refl
 woven-reads (suc k) x = refl
 
-pub published-reads : (k : ℕ) (due : Bool) (v : ℕ) → publishedAnswer (published k due v) ≡ answers k (either due (publishedIs v) waiting)
-published-reads zero true v = refl
-published-reads zero false v = refl
-published-reads (suc k) due v = refl
+pub published-reads : (k : ℕ) (h due : Bool) (v : ℕ) → publishedAnswer (published k h due v) ≡ answers k (either h held (either due (publishedIs v) waiting))
+published-reads zero true due v = refl
+published-reads zero false true v = refl
+published-reads zero false false v = refl
+published-reads (suc k) h due v = refl
 
 pub branched-reads : (k l : ℕ) → branchedAnswer (branched k l) ≡ answers k (lineIs l)
 branched-reads zero l = refl
 branched-reads (suc k) l = refl
+
+pub windows-reads : (k : ℕ) → windowsAnswer (windowsSet k) ≡ answers k windowsDone
+windows-reads zero = refl
+windows-reads (suc k) = refl
 
 pub filled-reads : (k : ℕ) → filledAnswer (filledBy k) ≡ answers k filled
 filled-reads zero = refl

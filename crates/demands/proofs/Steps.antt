@@ -12,6 +12,7 @@ pub mod Assigned
 pub mod Assign
 pub mod Found
 pub mod Publish
+pub mod SetWindows
 pub mod Branch
 pub mod Size
 pub mod Recent

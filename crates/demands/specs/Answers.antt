@@ -13,6 +13,8 @@ use Rattle.publish.specs.declared.Published.{Published}
 use Rattle.publish.specs.declared.Published.the-variants as Published
 use Rattle.branch.specs.declared.Branched.{Branched}
 use Rattle.branch.specs.declared.Branched.the-variants as Branched
+use Rattle.set_windows.specs.declared.WindowsSet.{WindowsSet}
+use Rattle.set_windows.specs.declared.WindowsSet.the-variants as WindowsSet
 use Rattle.read.specs.declared.Filled.{Filled}
 use Rattle.read.specs.declared.Filled.the-variants as Filled
 use Rattle.versions.specs.declared.Sized.{Sized}
@@ -23,10 +25,10 @@ use Rattle.stamp.specs.declared.Stamped.{Stamped}
 use Rattle.stamp.specs.declared.Stamped.the-variants as Stamped
 use Rattle.view.specs.declared.Viewed.{Viewed}
 use Rattle.view.specs.declared.Viewed.the-variants as Viewed
-use Rattle.model.specs.Calls.{Answer, refused, formatDone, ticketIs, putDone, versionIs, nodeIs, publishedIs, waiting, lineIs, filled, sizeIs, recentIs, stampIs, partAt}
+use Rattle.model.specs.Calls.{Answer, refused, formatDone, ticketIs, putDone, versionIs, nodeIs, publishedIs, waiting, held, lineIs, windowsDone, filled, sizeIs, recentIs, stampIs, partAt}
 
 abbrev pub formattedAnswer : Formatted → Answer
-formattedAnswer (Formatted.Made s) = formatDone
+formattedAnswer (Formatted.Made s w) = formatDone
 formattedAnswer (Formatted.Refused k) = refused k
 
 abbrev pub begunAnswer : Begun → Answer
@@ -48,11 +50,16 @@ wovenAnswer (Woven.Refused k) = refused k
 abbrev pub publishedAnswer : Published → Answer
 publishedAnswer (Published.Now v) = publishedIs (v .0)
 publishedAnswer Published.Waiting = waiting
+publishedAnswer Published.Held = held
 publishedAnswer (Published.Refused k) = refused k
 
 abbrev pub branchedAnswer : Branched → Answer
 branchedAnswer (Branched.Begun l) = lineIs (l .0)
 branchedAnswer (Branched.Refused k) = refused k
+
+abbrev pub windowsAnswer : WindowsSet → Answer
+windowsAnswer WindowsSet.Done = windowsDone
+windowsAnswer (WindowsSet.Refused k) = refused k
 
 abbrev pub filledAnswer : Filled → Answer
 filledAnswer Filled.Done = filled

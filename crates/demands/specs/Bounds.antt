@@ -9,6 +9,7 @@ use Rattle.model.specs.Calls.{Call, BEGIN, PUT, WEAVE, on, WRITE, APPEND, PUBLI
 use Rattle.model.specs.Model.{Limits, noModel}
 use Rattle.model.specs.OnModel.{onModel}
 use Rattle.model.specs.Run.{outcomes}
+use Rattle.windows.specs.Windows.{noWindows}
 use Rattle.versions.specs.Store.{Areas}
 use Rattle.demands.specs.Computes.{computes}
 use Rattle.demands.specs.Run.{State, onStore, formattedState}
@@ -46,7 +47,7 @@ calls =
     ∷ WEAVE 2
     ∷ WEAVE 2
     ∷ WEAVE 2
-    ∷ on 0 PUBLISH
+    ∷ on 0 (PUBLISH 0)
     ∷ on 0 (READ 1 32 1 [])
     ∷ on 0 (READ 1 31 1 [])
     ∷ on 0 (READ 1 31 1 (9 ∷ []))
@@ -123,6 +124,7 @@ strayState =
         sources = 0;
         lines = noLines;
       };
+      windows = noWindows;
       areas = record {
         pages = page;
         nodes = replicate 2 0;

@@ -9,6 +9,7 @@ use Rattle.tree.specs.Walk.{hasNode, reachBy}
 use Rattle.lines.specs.Lines.{packed, ownerFrom, entryAt, withEntry}
 use Rattle.register.specs.Register.{updateOf, withRecord, versionRecord, newestOwn}
 use Rattle.table.specs.Table.{orElse, formatRows}
+use Rattle.windows.specs.Windows.{placed}
 use Rattle.model.specs.Example.{computes as onTheModel}
 use Rattle.model.specs.Run.{run}
 use Rattle.versions.specs.Store.{lineIn}
@@ -21,6 +22,7 @@ use Rattle.assign.specs.Assign.{assignRefusal}
 use Rattle.weave.specs.Weave.{nextNode, weaveRefusal, olderNumber}
 use Rattle.publish.specs.Publish.{publishNumber, dueBy}
 use Rattle.branch.specs.Branch.{branchNumber}
+use Rattle.set_windows.specs.SetWindows.{setNumber}
 use Rattle.walk.specs.FindPage.{hasNodeBy, placeIn, reachFrom, findPage, pageNumberOf}
 use Rattle.read.specs.Read.{someLost, readNumber, byteOf, bytesFrom}
 use Rattle.stamp.specs.Stamp.{stampNumber}
@@ -28,7 +30,7 @@ use Rattle.demands.specs.Run.{onLineOf, onStore, formattedState}
 
 unfoldable pub computes : ℕ
 unfolding onTheModel run onLineOf onStore formattedState orElse formatRows formatRefusal beginRefusal bitOf withBit putRefusal assignRefusal nextNode weaveRefusal
-    newestOwn olderNumber publishNumber dueBy branchNumber bytesBy sizeNumber recentNumber hasNodeBy placeIn reachFrom findPage pageNumberOf someLost readNumber byteOf bytesFrom
-    stampNumber put part packed lineIn ownerFrom entryAt withEntry updateOf withRecord versionRecord withNode nodeAt hasNode reachBy sizeAt below kth first
-    index ones halvings nodeNumbered
+    newestOwn olderNumber publishNumber dueBy branchNumber setNumber placed bytesBy sizeNumber recentNumber hasNodeBy placeIn reachFrom findPage pageNumberOf someLost
+    readNumber byteOf bytesFrom stampNumber put part packed lineIn ownerFrom entryAt withEntry updateOf withRecord versionRecord withNode nodeAt hasNode reachBy sizeAt
+    below kth first index ones halvings nodeNumbered
 computes = 0

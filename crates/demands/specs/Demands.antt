@@ -1,19 +1,21 @@
--- The three demands of document 01 as types, over any list of calls of all kinds from an accepted FORMAT, refused calls included, for every line; and Slip 1's
--- isolation of lines.
+-- The three demands of document 01 as types, over any list of calls of all kinds from an accepted FORMAT, refused calls included, for every line; Slip 1's isolation of
+-- lines; and Slip 3's windows.
 use mathlib.Core.Path.{_≡_}
+use mathlib.Core.Bool.{true}
 use mathlib.Core.List.{List, [], _∷_, _++_}
 use Prim.Native.Nat.{ℕ, zero, suc, _+_, _*_, _≤_, _<_}
-use lib.ListN.{length, getD, take, drop, replicate}
+use lib.ListN.{length, getD, take, drop}
 use Rattle.tree.specs.Tree.{heightOf}
-use Rattle.model.specs.Calls.{Call, on, PUBLISH, BRANCH, READ, SIZE, RECENT, STAMP, VIEW, Answer, refused, waiting, lineIs, filled, sizeIs, recentIs, partIs, says}
+use Rattle.model.specs.Calls.{Call, on, PUBLISH, BRANCH, READ, SIZE, RECENT, STAMP, VIEW, Answer, refused, waiting, held, lineIs, filled, sizeIs, recentIs, partIs, says}
 use Rattle.model.specs.History.{History, versionAt, updates, complete}
 use Rattle.model.specs.Model.{Limits, Model, noModel, lineAt, history, numberIn}
 use Rattle.model.specs.OnModel.{onModel, either}
 use Rattle.model.specs.InTurn.{blobAt, bytesAt}
 use Rattle.model.specs.Snapshot.{treeIn, placeIn, snapshotAt}
 use Rattle.model.specs.Run.{outcomes, modelAfter}
-use Rattle.model.specs.Due.{lastDue}
+use Rattle.model.specs.Due.{publishes, Open, AllOpen, lastDue}
 use Rattle.isolation.specs.Isolation.{IsolatedBy}
+use Rattle.windows.specs.Windows.{inside}
 use Rattle.versions.specs.Store.{Areas}
 use Rattle.format.specs.Format.{formatNumber}
 use Rattle.demands.specs.Run.{onStore, freshOf, formattedState, storeAfter, asked}
@@ -71,12 +73,23 @@ module _ (L : Limits) (a : Areas) where
     pub stamps : (p : ℕ) → asked (storeAfter L a (cs ++ more)) (on l (STAMP k p)) ≡ asked (storeAfter L a cs) (on l (STAMP k p))
     pub sizes : asked (storeAfter L a (cs ++ more)) (on l (SIZE k)) ≡ asked (storeAfter L a cs) (on l (SIZE k))
 
-  -- PUBLISH of a line repeated until "waiting": when it says so, the line's number published is its last version before its first incomplete one, or its last
-  -- assigned; and it comes to say so.
+  -- PUBLISH of a line repeated, at whatever minutes, until it says "waiting": then the line's number published is its last version before its first incomplete one,
+  -- or its last assigned. And at accepted minutes outside the windows it comes to say so, after as many calls as the line has versions.
   pub record Reaches (cs : List Call) (l : ℕ) : Type 0 where
-    pub exact : (n : ℕ) → asked (storeAfter L a (cs ++ replicate n (on l PUBLISH))) (on l PUBLISH) ≡ says waiting
-        → asked (storeAfter L a (cs ++ replicate n (on l PUBLISH))) (on l RECENT) ≡ says (recentIs (lastDue (historyAfter L cs l)))
-    pub comes : asked (storeAfter L a (cs ++ replicate (length (historyAfter L cs l .versions)) (on l PUBLISH))) (on l PUBLISH) ≡ says waiting
+    pub exact : (minutes : List ℕ) (now : ℕ) → asked (storeAfter L a (cs ++ publishes l minutes)) (on l (PUBLISH now)) ≡ says waiting
+        → asked (storeAfter L a (cs ++ publishes l minutes)) (on l RECENT) ≡ says (recentIs (lastDue (historyAfter L cs l)))
+    pub comes : (minutes : List ℕ) (now : ℕ) → AllOpen (modelAfter L cs .windows) minutes → Open (modelAfter L cs .windows) now
+        → length (historyAfter L cs l .versions) ≤ length minutes
+        → asked (storeAfter L a (cs ++ publishes l minutes)) (on l (PUBLISH now)) ≡ says waiting
+
+  -- Slip 3: at an accepted minute PUBLISH is held exactly where the minute is inside a window of the list that was last accepted, due or not, and then nothing moves.
+  -- That only the minute given decides, also when the clock is set back, follows from the model: an answer is a function of the state and the call, and no state has a
+  -- minute in it.
+  pub record Held (cs : List Call) (l minute : ℕ) : Type 0 where
+    pub holds : l < length (modelAfter L cs .lines) → minute ≤ 10079 → inside (modelAfter L cs .windows) minute ≡ true
+        → asked (storeAfter L a cs) (on l (PUBLISH minute)) ≡ says held
+    pub only : asked (storeAfter L a cs) (on l (PUBLISH minute)) ≡ says held → inside (modelAfter L cs .windows) minute ≡ true
+    pub still : asked (storeAfter L a cs) (on l (PUBLISH minute)) ≡ says held → storeAfter L a (cs ++ on l (PUBLISH minute) ∷ []) ≡ storeAfter L a cs
 
   -- A line that begins from version v of line l has v published at once, and reads up to v as line l does.
   pub record BeginsFrom (cs : List Call) (l v k : ℕ) : Type 0 where
@@ -93,6 +106,7 @@ pub record ThirdDemand (L : Limits) (a : Areas) (cs : List Call) : Type 0 where
   pub compared : (l : ℕ) → l < length (modelAfter L cs .lines) → Compared L a cs l
   pub kept : (more : List Call) (l k : ℕ) → Published L cs l k → Kept L a cs more l k
   pub reaches : (l : ℕ) → l < length (modelAfter L cs .lines) → Reaches L a cs l
+  pub held : (l minute : ℕ) → Held L a cs l minute
   pub begins : (l v k : ℕ) → asked (storeAfter L a cs) (on l (BRANCH v)) ≡ says (lineIs k) → BeginsFrom L a cs l v k
 
 -- The theorem owed: for any limits and areas that FORMAT accepts, and any list of calls.

@@ -30,12 +30,12 @@ calls =
     ∷ on 0 (APPEND 2)
     ∷ on 0 (APPEND 1)
     ∷ WEAVE 1
-    ∷ on 0 PUBLISH
+    ∷ on 0 (PUBLISH 0)
     ∷ WEAVE 2
-    ∷ on 0 PUBLISH
+    ∷ on 0 (PUBLISH 0)
     ∷ on 0 (READ 2 0 0 [])
     ∷ WEAVE 1
-    ∷ on 0 PUBLISH
+    ∷ on 0 (PUBLISH 0)
     ∷ on 0 (READ 2 14 4 (replicate 6 9))
     ∷ on 0 (STAMP 2 0)
     ∷ BEGIN 1

@@ -44,7 +44,7 @@ calls =
     ∷ WEAVE 2
     ∷ WEAVE 2
     ∷ WEAVE 2
-    ∷ on 0 PUBLISH
+    ∷ on 0 (PUBLISH 0)
     ∷ WEAVE 1
     ∷ WEAVE 1
     ∷ WEAVE 1
@@ -52,10 +52,10 @@ calls =
     ∷ WEAVE 1
     ∷ WEAVE 1
     ∷ WEAVE 1
-    ∷ on 0 PUBLISH
-    ∷ on 0 PUBLISH
-    ∷ on 0 PUBLISH
-    ∷ on 0 PUBLISH
+    ∷ on 0 (PUBLISH 0)
+    ∷ on 0 (PUBLISH 0)
+    ∷ on 0 (PUBLISH 0)
+    ∷ on 0 (PUBLISH 0)
     ∷ []
 
 unfoldable pub given : List Outcome

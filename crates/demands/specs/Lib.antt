@@ -7,3 +7,4 @@ pub mod Rows
 pub mod Bounds
 pub mod Figure
 pub mod Lines
+pub mod Windows

@@ -47,9 +47,9 @@ words =
     ∷ WEAVE 1
     ∷ WEAVE 2
     ∷ WEAVE 3
-    ∷ on 4 PUBLISH
-    ∷ on 9 PUBLISH
-    ∷ on 15 PUBLISH
+    ∷ on 4 (PUBLISH 0)
+    ∷ on 9 (PUBLISH 0)
+    ∷ on 15 (PUBLISH 0)
     ∷ on 4 (VIEW 1 0)
     ∷ on 9 (VIEW 1 0)
     ∷ on 15 (VIEW 1 0)
@@ -114,13 +114,13 @@ third =
     ∷ on 3 (WRITE 6 1)
     ∷ WEAVE 6
     ∷ WEAVE 6
-    ∷ on 3 PUBLISH
+    ∷ on 3 (PUBLISH 0)
     ∷ on 3 (BRANCH 4)
     ∷ on 3 (READ 4 0 1 (7 ∷ []))
     ∷ WEAVE 6
-    ∷ on 1 PUBLISH
-    ∷ on 3 PUBLISH
-    ∷ on 3 PUBLISH
+    ∷ on 1 (PUBLISH 0)
+    ∷ on 3 (PUBLISH 0)
+    ∷ on 3 (PUBLISH 0)
     ∷ on 0 RECENT
     ∷ on 1 RECENT
     ∷ on 3 RECENT
@@ -218,7 +218,7 @@ unfoldable pub forgotten : State
 forgotten =
     let x = storeAfter limits areas (calls ++ more) in
     let rs = x .areas .register in
-    record { store = x .store; areas = withRegister (x .areas) (withRecord rs 1 (withEntryOf (getD rs 1 noRecord) 0 0)) }
+    record { store = x .store; windows = x .windows; areas = withRegister (x .areas) (withRecord rs 1 (withEntryOf (getD rs 1 noRecord) 0 0)) }
 
 pub row19-entries :
     outcomes onStore forgotten

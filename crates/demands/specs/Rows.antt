@@ -1,4 +1,4 @@
--- Every row of the table of refusals but 20 and 21, by computation: on the model and on the calls' definitions where a formatted store can give it, and 3 and 19 on
+-- Every row of the table of refusals but 20 to 24, by computation: on the model and on the calls' definitions where a formatted store can give it, and 3 and 19 on
 -- areas that no run left.
 use mathlib.Core.Path.{_≡_, refl}
 use mathlib.Core.Option.{some}
@@ -8,11 +8,12 @@ use lib.ListN.{replicate}
 use Rattle.lines.specs.Lines.{packed}
 use Rattle.lines.specs.declared.Branch.{Branch}
 use Rattle.register.specs.Register.{noRecord}
-use Rattle.model.specs.Calls.{Call, BEGIN, PUT, WEAVE, on, WRITE, APPEND, PUBLISH, BRANCH, READ, SIZE, RECENT, STAMP, VIEW, refused, ticketIs, putDone, versionIs, nodeIs, publishedIs, waiting, filled, sizeIs, recentIs, partIs, Outcome, says}
+use Rattle.model.specs.Calls.{Call, BEGIN, PUT, WEAVE, SETWINDOWS, on, WRITE, APPEND, PUBLISH, BRANCH, READ, SIZE, RECENT, STAMP, VIEW, refused, ticketIs, putDone, versionIs, nodeIs, publishedIs, waiting, filled, sizeIs, recentIs, partIs, Outcome, says}
 use Rattle.model.specs.Model.{Limits, Model, noModel}
 use Rattle.model.specs.OnModel.{onModel}
 use Rattle.model.specs.Run.{outcomes}
 use Rattle.model.specs.Example.{pageOf}
+use Rattle.windows.specs.Windows.{noWindows}
 use Rattle.versions.specs.Store.{Areas}
 use Rattle.format.specs.Format.{fresh, formatNumber}
 use Rattle.begin.specs.Begin.{withTicketPart}
@@ -80,11 +81,11 @@ calls =
     ∷ on 0 (VIEW 1 0)
     ∷ WEAVE 1
     ∷ WEAVE 1
-    ∷ on 0 PUBLISH
+    ∷ on 0 (PUBLISH 0)
     ∷ WEAVE 1
     ∷ WEAVE 1
-    ∷ on 0 PUBLISH
-    ∷ on 0 PUBLISH
+    ∷ on 0 (PUBLISH 0)
+    ∷ on 0 (PUBLISH 0)
     ∷ on 0 (READ 1 31 2 (9 ∷ 9 ∷ []))
     ∷ on 0 (READ 1 0 3 (9 ∷ 9 ∷ []))
     ∷ on 0 (READ 1 31 1 (9 ∷ 9 ∷ []))
@@ -181,6 +182,7 @@ fullModel = record {
   tickets = record { slots = some page ∷ []; woven = 0 } ∷ record { slots = some page ∷ []; woven = 0 } ∷ [];
   updates = record { ticket = 2; line = 0; number = 1; f = 0; size = 4096 } ∷ [];
   lines = record { source = 0; start = 0; shown = 1 ∷ []; published = 0 } ∷ [];
+  windows = [];
 }
 
 unfoldable pub fullState : ℕ → State
@@ -198,6 +200,7 @@ fullState nodes = record {
     sources = 0;
     lines = packed (lineWith 1 0 4096) ∷ replicate 15 0;
   };
+  windows = noWindows;
   areas = record {
     pages = replicate 80 5;
     nodes = replicate (2 * nodes) 0;
@@ -218,7 +221,7 @@ row14-by-calls = refl
 
 -- The state that `calls` leave, with other areas.
 abbrev damaged : (Areas → Areas) → State
-damaged g = let x = storeAfter limits areas calls in record { store = x .store; areas = g (x .areas) }
+damaged g = let x = storeAfter limits areas calls in record { store = x .store; windows = x .windows; areas = g (x .areas) }
 
 -- What every call says where an area's length differs, its line begun or not.
 abbrev each : List Call
@@ -228,7 +231,8 @@ each =
     ∷ on 0 (WRITE 9 0)
     ∷ on 7 (APPEND 9)
     ∷ WEAVE 9
-    ∷ on 7 PUBLISH
+    ∷ SETWINDOWS (1 ∷ [])
+    ∷ on 7 (PUBLISH 10080)
     ∷ on 7 (BRANCH 9)
     ∷ on 0 (READ 9 0 1 [])
     ∷ on 0 (SIZE 9)
@@ -238,7 +242,7 @@ each =
     ∷ []
 
 abbrev threes : List Outcome
-threes = no 3 ∷ no 3 ∷ no 3 ∷ no 3 ∷ no 3 ∷ no 3 ∷ no 3 ∷ no 3 ∷ no 3 ∷ no 3 ∷ no 3 ∷ says (partIs []) ∷ []
+threes = no 3 ∷ no 3 ∷ no 3 ∷ no 3 ∷ no 3 ∷ no 3 ∷ no 3 ∷ no 3 ∷ no 3 ∷ no 3 ∷ no 3 ∷ no 3 ∷ says (partIs []) ∷ []
 
 pub row3 :
     outcomes onStore (damaged (λ a. record { pages = 1 ∷ a .pages; nodes = a .nodes; register = a .register })) each ≡ threes
@@ -280,13 +284,14 @@ overrun =
         sources = 0;
         lines = packed (lineWith 9 8 3) ∷ replicate 15 0;
       };
+      windows = noWindows;
       areas = storeAfter limits areas calls .areas;
     }
 
 -- A record past the register; the rows that need no record still come first.
 pub row19-records :
     outcomes onStore overrun
-    (PUT 9 0 [] ∷ PUT 9 0 page ∷ on 0 (WRITE 9 4) ∷ on 0 (WRITE 9 0) ∷ on 0 (WRITE 3 0) ∷ WEAVE 9 ∷ on 0 PUBLISH ∷ on 0 (BRANCH 8) ∷ on 0 (SIZE 8)
+    (PUT 9 0 [] ∷ PUT 9 0 page ∷ on 0 (WRITE 9 4) ∷ on 0 (WRITE 9 0) ∷ on 0 (WRITE 3 0) ∷ WEAVE 9 ∷ on 0 (PUBLISH 0) ∷ on 0 (BRANCH 8) ∷ on 0 (SIZE 8)
     ∷ on 0 (READ 8 0 1 []) ∷ on 0 (READ 8 0 0 []) ∷ on 0 (STAMP 8 0) ∷ [])
     ≡ (no 11 ∷ no 19 ∷ no 13 ∷ no 19 ∷ no 15 ∷ no 19 ∷ no 19 ∷ no 19 ∷ no 19 ∷ no 18 ∷ no 19 ∷ no 19 ∷ [])
 unfolding computes limits areas calls overrun

@@ -3,10 +3,10 @@ use mathlib.Core.List.{List}
 use Prim.Native.Nat.{ℕ}
 use Rattle.versions.specs.declared.Store.{Store}
 use Rattle.register.specs.declared.Record.{Record}
-use Rattle.model.specs.Calls.{Call, BEGIN, PUT, WEAVE, on, Act, WRITE, APPEND, PUBLISH, BRANCH, READ, SIZE, RECENT, STAMP, VIEW, partIs, Outcome, says}
+use Rattle.model.specs.Calls.{Call, BEGIN, PUT, WEAVE, SETWINDOWS, on, Act, WRITE, APPEND, PUBLISH, BRANCH, READ, SIZE, RECENT, STAMP, VIEW, partIs, Outcome, says}
 use Rattle.model.specs.Model.{Limits}
 use Rattle.model.specs.Run.{run}
-use Rattle.demands.specs.Answers.{begunAnswer, putAnswer, assignedAnswer, wovenAnswer, publishedAnswer, branchedAnswer, filledAnswer, sizedAnswer, latestAnswer, stampedAnswer}
+use Rattle.demands.specs.Answers.{begunAnswer, putAnswer, assignedAnswer, wovenAnswer, publishedAnswer, branchedAnswer, windowsAnswer, filledAnswer, sizedAnswer, latestAnswer, stampedAnswer}
 use Rattle.versions.specs.Store.{Areas, lineIn}
 use Rattle.format.specs.Format.{fresh, formatAreas}
 use Rattle.begin.specs.Begin.{beginOut, beginRegister}
@@ -15,35 +15,41 @@ use Rattle.assign.specs.Assign.{assignOut, assignRegister}
 use Rattle.weave.specs.Weave.{weaveOut, weaveNodes, weaveRegister}
 use Rattle.publish.specs.Publish.{publishOut}
 use Rattle.branch.specs.Branch.{branchOut}
+use Rattle.windows.specs.declared.Windows.{Windows}
+use Rattle.windows.specs.Windows.{noWindows}
+use Rattle.set_windows.specs.SetWindows.{setOut}
 use Rattle.read.specs.Read.{readOut, readBuffer}
 use Rattle.versions.specs.Size.{sizeOut}
 use Rattle.versions.specs.Recent.{recentOut}
 use Rattle.stamp.specs.Stamp.{stampOut}
 use Rattle.view.specs.View.{viewPart}
 
--- A store and its areas, as a call is given them and leaves them.
+-- A store with its windows and its areas, as calls are given them and leave them. SETWINDOWS and PUBLISH alone are given the windows.
 pub record State : Type 0 where
   pub store : Store
+  pub windows : Windows
   pub areas : Areas
 
 abbrev pub withRegister : Areas → List Record → Areas
 withRegister a r = record { pages = a .pages; nodes = a .nodes; register = r }
 
-abbrev pub assignCall : Store → Areas → ℕ → ℕ → ℕ → State × Outcome
-assignCall s a l t f =
-    let o = assignOut s a l t f in
-    (record { store = o .store; areas = withRegister a (assignRegister s a l t f) }, says (assignedAnswer (o .answer)))
+abbrev pub assignCall : State → ℕ → ℕ → ℕ → State × Outcome
+assignCall x l t f =
+    let o = assignOut (x .store) (x .areas) l t f in (
+      record { store = o .store; windows = x .windows; areas = withRegister (x .areas) (assignRegister (x .store) (x .areas) l t f) },
+      says (assignedAnswer (o .answer)),
+    )
 
 -- One call on line l of a store: what its promise says it answers and leaves.
 unfoldable pub onLineOf : State → ℕ → Act → State × Outcome
-onLineOf x l (WRITE t f) = assignCall (x .store) (x .areas) l t f
-onLineOf x l (APPEND t) = assignCall (x .store) (x .areas) l t (lineIn (x .store) l .blob)
-onLineOf x l PUBLISH =
-    let o = publishOut (x .store) (x .areas) l in
-    (record { store = o .store; areas = x .areas }, says (publishedAnswer (o .answer)))
+onLineOf x l (WRITE t f) = assignCall x l t f
+onLineOf x l (APPEND t) = assignCall x l t (lineIn (x .store) l .blob)
+onLineOf x l (PUBLISH minute) =
+    let o = publishOut (x .store) (x .windows) (x .areas) l minute in
+    (record { store = o .store; windows = x .windows; areas = x .areas }, says (publishedAnswer (o .answer)))
 onLineOf x l (BRANCH v) =
     let o = branchOut (x .store) (x .areas) l v in
-    (record { store = o .store; areas = x .areas }, says (branchedAnswer (o .answer)))
+    (record { store = o .store; windows = x .windows; areas = x .areas }, says (branchedAnswer (o .answer)))
 onLineOf x l (READ v offset len buffer) = (
   x,
   record {
@@ -59,11 +65,14 @@ onLineOf x l (VIEW v p) = (x, says (partIs (viewPart (x .store) (x .areas) l v p
 -- One call on a store.
 unfoldable pub onStore : State → Call → State × Outcome
 onStore x (BEGIN n) =
-    let o = beginOut (x .store) (x .areas) n in
-    (record { store = o .store; areas = withRegister (x .areas) (beginRegister (x .store) (x .areas) n) }, says (begunAnswer (o .answer)))
+    let o = beginOut (x .store) (x .areas) n in (
+      record { store = o .store; windows = x .windows; areas = withRegister (x .areas) (beginRegister (x .store) (x .areas) n) },
+      says (begunAnswer (o .answer)),
+    )
 onStore x (PUT t i bytes) = (
   record {
     store = x .store;
+    windows = x .windows;
     areas = record {
       pages = putPages (x .store) (x .areas) t i bytes;
       nodes = x .areas .nodes;
@@ -75,6 +84,7 @@ onStore x (PUT t i bytes) = (
 onStore x (WEAVE t) = (
   record {
     store = x .store;
+    windows = x .windows;
     areas = record {
       pages = x .areas .pages;
       nodes = weaveNodes (x .store) (x .areas) t;
@@ -83,15 +93,18 @@ onStore x (WEAVE t) = (
   },
   says (wovenAnswer (weaveOut (x .store) (x .areas) t)),
 )
+onStore x (SETWINDOWS t) =
+    let o = setOut (x .store) (x .windows) (x .areas) t in
+    (record { store = x .store; windows = o .windows; areas = x .areas }, says (windowsAnswer (o .answer)))
 onStore x (on l a) = onLineOf x l a
 
 -- The store that FORMAT of these limits makes.
 abbrev pub freshOf : Limits → Store
 freshOf L = fresh (L .size) (L .pages) (L .nodes) (L .updates)
 
--- The store and areas that FORMAT leaves of areas that it is lent, where it accepts.
+-- The store and areas that FORMAT leaves of areas that it is lent, where it accepts, with no windows.
 unfoldable pub formattedState : Limits → Areas → State
-formattedState L a = record { store = freshOf L; areas = formatAreas (freshOf L) a }
+formattedState L a = record { store = freshOf L; windows = noWindows; areas = formatAreas (freshOf L) a }
 
 -- The state after a list of calls from FORMAT on.
 abbrev pub storeAfter : Limits → Areas → List Call → State

@@ -11,12 +11,13 @@ ghost use Rattle.assign.specs.Assign.{assignOut, assignRegister};
 ghost use Rattle.weave.specs.Weave.{weaveOut, weaveNodes, weaveRegister};
 ghost use Rattle.publish.specs.Publish.{publishOut};
 ghost use Rattle.branch.specs.Branch.{branchOut};
+ghost use Rattle.set_windows.specs.SetWindows.{setOut};
 ghost use Rattle.read.specs.Read.{readOut, readBuffer};
 ghost use Rattle.versions.specs.Size.{sizeOut};
 ghost use Rattle.versions.specs.Recent.{recentOut};
 ghost use Rattle.stamp.specs.Stamp.{stampOut};
 ghost use Rattle.view.specs.View.{viewPart, viewAt};
-ghost use Rattle.replies.specs.Replies.{formatReply, beginReply, putReply, assignReply, weaveReply, publishReply, branchReply, readReply, sizeReply, recentReply, stampReply, viewReply};
+ghost use Rattle.replies.specs.Replies.{formatReply, beginReply, putReply, assignReply, weaveReply, publishReply, windowsReply, branchReply, readReply, sizeReply, recentReply, stampReply, viewReply};
 use lines::Line;
 use register::Record;
 use replies::AssignReply;
@@ -28,6 +29,7 @@ use replies::SizeReply;
 use replies::VersionReply;
 use replies::ViewReply;
 use replies::WeaveReply;
+use replies::WindowsReply;
 use replies::assign_reply;
 use replies::begin_reply;
 use replies::branch_reply;
@@ -40,11 +42,13 @@ use replies::size_reply;
 use replies::stamp_reply;
 use replies::view_reply;
 use replies::weave_reply;
+use replies::windows_reply;
 use tree::PageIndex;
 use tree::Ticket;
 use tree::Version;
 use versions::ByteOffset;
 use versions::Store;
+use windows::Windows;
 
 // FORMAT.
 #[no_mangle]
@@ -176,16 +180,35 @@ pub extern "C" fn pit_weave(
 #[no_mangle]
 pub extern "C" fn pit_publish(
     s: Store,
+    w: Windows,
     pages: &[u8],
     nodes: &[u32],
     register: &[Record],
     line: u64,
+    minute: u64,
 ) -> PublishReply
     ensures { λ r.
         let a = areasOf (now (pages .entry)) (now (nodes .entry)) (now (register .entry)) in
-        ⌜ r ≡ publishReply (publishOut s a line) ⌝ }
+        ⌜ r ≡ publishReply (publishOut s w a line minute) ⌝ }
 {
-    publish_reply(publish::publish(s, pages, nodes, register, Line(line)))
+    publish_reply(publish::publish(s, w, pages, nodes, register, Line(line), minute))
+}
+
+// SETWINDOWS.
+#[no_mangle]
+pub extern "C" fn pit_set_windows(
+    s: Store,
+    w: Windows,
+    pages: &[u8],
+    nodes: &[u32],
+    register: &[Record],
+    text: &[u8],
+) -> WindowsReply
+    ensures { λ r.
+        let a = areasOf (now (pages .entry)) (now (nodes .entry)) (now (register .entry)) in
+        ⌜ r ≡ windowsReply (setOut s w a (now (text .entry))) ⌝ }
+{
+    windows_reply(set_windows::set_windows(s, w, pages, nodes, register, text))
 }
 
 // BRANCH.

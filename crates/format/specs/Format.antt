@@ -10,6 +10,7 @@ use Rattle.versions.specs.declared.Lengths.{Lengths}
 use Rattle.format.specs.declared.Formatted.{Formatted}
 use Rattle.format.specs.declared.Formatted.the-variants as Formatted
 use Rattle.versions.specs.Store.{Areas, lengthsOf, differ}
+use Rattle.windows.specs.Windows.{noWindows}
 
 -- The store that FORMAT makes: nothing given, taken or assigned, and line 0 alone, which begins from nothing.
 abbrev pub fresh : ℕ → ℕ → ℕ → ℕ → Store
@@ -34,10 +35,10 @@ abbrev pub formatNumber : Store → Areas → ℕ
 formatNumber s a = formatRefusal s (lengthsOf a)
 
 abbrev pub formatted : ℕ → Store → Formatted
-formatted zero s = Formatted.Made s
+formatted zero s = Formatted.Made s noWindows
 formatted (suc k) s = Formatted.Refused (suc k)
 
--- What FORMAT answers of the store that it would make; the areas as it leaves them: pages of 0, nodes of all ones (not stored), empty records.
+-- What FORMAT answers of the store that it would make, which has no windows; the areas as it leaves them: pages of 0, nodes of all ones (not stored), empty records.
 abbrev pub formatAnswer : Store → Areas → Formatted
 formatAnswer s a = formatted (formatNumber s a) s
 

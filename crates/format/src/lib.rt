@@ -14,10 +14,12 @@ use versions::Lengths;
 use versions::Store;
 use versions::areas_differ;
 use versions::lengths_of;
+use windows::Windows;
+use windows::no_windows;
 
-// What FORMAT answers. Here and below, the number of a refusal is that of the table of refusals.
+// What FORMAT answers: a store, and no windows. Here and below, the number of a refusal is that of the table of refusals.
 pub enum Formatted {
-    Made(Store),
+    Made(Store, Windows),
     Refused(u64),
 }
 
@@ -78,7 +80,7 @@ fn formatted_by(k: u64, s: Store) -> Formatted
     ensures { λ r. ⌜ r ≡ formatted k s ⌝ }
 {
     if k == 0 {
-        Formatted::Made(s)
+        Formatted::Made(s, no_windows())
     } else {
         Formatted::Refused(k)
     }

@@ -12,22 +12,23 @@ use lib.ListN.{length, getD, take, drop, length-set}
 use Rattle.tree.specs.Tree.{countOf}
 use Rattle.tree.specs.Walk.{stampOf}
 use Rattle.table.specs.Table.{holds, firstRefusal, unless}
-use Rattle.table.specs.Table.{lineRows, branchRows, assignRows, sizeRows, readRows, pageRows}
-use Rattle.model.specs.Calls.{Call, on, WRITE, APPEND, PUBLISH, BRANCH, READ, SIZE, RECENT, STAMP, VIEW, publishedIs, waiting, filled, sizeIs, recentIs, stampIs, partIs, says, answers}
+use Rattle.table.specs.Table.{lineRows, publishRows, branchRows, assignRows, sizeRows, readRows, pageRows}
+use Rattle.windows.specs.Windows.{inside}
+use Rattle.model.specs.Calls.{Call, on, WRITE, APPEND, PUBLISH, BRANCH, READ, SIZE, RECENT, STAMP, VIEW, Answer, publishedIs, waiting, held, filled, sizeIs, recentIs, stampIs, partIs, says, answers}
 use Rattle.model.specs.History.{Version, History, noVersion, ticketAt, pagesOf, blobSize, allFilled, due}
 use Rattle.model.specs.InTurn.{joined}
 use Rattle.model.specs.Model.{Limits, Model, lineAt, history, places}
-use Rattle.model.specs.OnModel.{ticketIn, either, lineNumber, published, branchNumber, branched, readNumber, sizeNumber, pageNumber, sizeAfter, nextVersion, nextUpdate, assignNumber, assigned as withAssigned, assignStep, onLine}
+use Rattle.model.specs.OnModel.{ticketIn, either, lineNumber, publishNumber, published, branchNumber, branched, readNumber, sizeNumber, pageNumber, sizeAfter, nextVersion, nextUpdate, assignNumber, assigned as withAssigned, assignStep, onLine}
 use Rattle.model.proofs.Nth.{map-snoc, nth-new}
 use Rattle.model.proofs.Passed.{AssignPassed, assign-passed}
 use Rattle.model.proofs.Histories.{withVersion, published-history, assigned-history}
-use Rattle.isolation.specs.Isolation.{named, plain, seenOn, wovenAt, Match}
+use Rattle.isolation.specs.Isolation.{named, lineless, plain, seenOn, wovenAt, Match}
 use Rattle.isolation.proofs.Lists.{nth-snoc}
 use Rattle.isolation.proofs.Kept.{Kept}
 use Rattle.isolation.proofs.Match.{match-sym, match-trans, match-by}
 use Rattle.isolation.proofs.Frame.{frame-branch}
 use Rattle.isolation.proofs.Alike.{tickets-same, slots-same, updates-same, length-same, shown-same, size-same, blob-same, pages-same, due-same}
-use Rattle.isolation.proofs.Twins.{given-version, given-line, Step, Alike, alike-row, alike-last, twin, alike-open}
+use Rattle.isolation.proofs.Twins.{given-version, given-line, given-published, Step, Alike, alike, alike-row, alike-last, twin, alike-open}
 
 -- ---- one version more: the woven count of its ticket, and those of the versions before it
 module _ (h : History) (x : Version) (v : ℕ) where
@@ -49,9 +50,9 @@ module _ (L : Limits) {l l′ : ℕ} {m m′ : Model} (M : Match l l′ m m′) 
   unfolding firstRefusal lineRows holds
   line-same = rw (there, there′)
 
-  line-0 : lineNumber L m l ≡ 0
-  unfolding firstRefusal lineRows holds
-  line-0 = rw there
+  publish-same : (minute : ℕ) → publishNumber L m l minute ≡ publishNumber L m′ l′ minute
+  unfolding firstRefusal publishRows holds
+  publish-same minute = rw (there, there′)
 
   read-same : (v offset len : ℕ) (buffer : List ℕ) → readNumber L m l v offset len buffer ≡ readNumber L m′ l′ v offset len buffer
   unfolding firstRefusal readRows holds
@@ -108,20 +109,34 @@ module _ (L : Limits) {l l′ : ℕ} {m m′ : Model} (M : Match l l′ m m′) 
   match-published : Match l l′ (published L m l) (published L m′ l′)
   match-published =
       match-by _ _ (published-history L m l (M .begun)) (published-history L m′ l′ (M .begun′)) (rw length-set (M .begun)) (rw length-set (M .begun′))
-      (M .slots) (M .versions) (M .woven) (ap suc (M .published))
+      (M .slots) (M .versions) (M .woven) (ap suc (M .published)) (M .windows)
 
-  pub twin-publish : Step l l′ m m′ (on l PUBLISH) (on l′ PUBLISH) (onLine L m l PUBLISH) (onLine L m′ l′ PUBLISH)
-  unfolding onLine unless
-  twin-publish = rw (← line-same, line-0) (go (due (history m l)) (due (history m′ l′)) (due-same M))
-    where
-      go : (b b′ : Bool) → b ≡ b′
-          → Step l l′ m m′ (on l PUBLISH) (on l′ PUBLISH)
-          (either b (published L m l) m, says (either b (publishedIs (suc (lineAt m l .published))) waiting))
-          (either b′ (published L m′ l′) m′, says (either b′ (publishedIs (suc (lineAt m′ l′ .published))) waiting))
-      go true true e = ((λ q. match-published), λ n. absurd (n (ap (λ n. says (publishedIs (suc n))) (M .published))))
-      go true false e = absurd (false≢true (sym e))
-      go false true e = absurd (false≢true e)
-      go false false e = ((λ q. M), λ n. absurd (n refl))
+  -- By whether a version is due, and before that by whether the minute is inside a window: both are the same in the two states.
+  match-due : (d d′ : Bool) → d ≡ d′
+      → Match l l′ (either d (published L m l) m) (either d′ (published L m′ l′) m′)
+      × (lineless (either d (publishedIs (suc (lineAt m l .published))) waiting) ≡ lineless (either d′ (publishedIs (suc (lineAt m′ l′ .published))) waiting))
+  match-due true true e = (match-published, ap (λ n. publishedIs (suc n)) (M .published))
+  match-due true false e = absurd (false≢true (sym e))
+  match-due false true e = absurd (false≢true e)
+  match-due false false e = (M, refl)
+
+  match-held : (h h′ : Bool) → h ≡ h′ → (m₁ m₁′ : Model) (a a′ : Answer) → Match l l′ m₁ m₁′ × (lineless a ≡ lineless a′)
+      → Match l l′ (either h m m₁) (either h′ m′ m₁′) × (lineless (either h held a) ≡ lineless (either h′ held a′))
+  match-held true true e m₁ m₁′ a a′ x = (M, refl)
+  match-held true false e m₁ m₁′ a a′ x = absurd (false≢true (sym e))
+  match-held false true e m₁ m₁′ a a′ x = absurd (false≢true e)
+  match-held false false e m₁ m₁′ a a′ x = x
+
+  pub twin-publish : (minute : ℕ) → Step l l′ m m′ (on l (PUBLISH minute)) (on l′ (PUBLISH minute)) (onLine L m l (PUBLISH minute)) (onLine L m′ l′ (PUBLISH minute))
+  unfolding onLine
+  twin-publish minute =
+      let d = due (history m l) in
+      let d′ = due (history m′ l′) in
+      let h = inside (m .windows) minute in
+      let h′ = inside (m′ .windows) minute in
+      twin l l′ m m′ (publishNumber L m l minute) (publishNumber L m′ l′ minute) _ _ _ _ M
+      (given-published h d (suc (lineAt m l .published))) (given-published h′ d′ (suc (lineAt m′ l′ .published))) (alike (publish-same minute)) λ z z′.
+      match-held h h′ (ap (λ ws. inside ws minute) (M .windows)) _ _ _ _ (match-due d d′ (due-same M))
 
   -- ---- ASSIGN
   module _ (S : Kept L m) (S′ : Kept L m′) where
@@ -149,7 +164,7 @@ module _ (L : Limits) {l l′ : ℕ} {m m′ : Model} (M : Match l l′ m m′) 
           | yes q ↦ woven-new h x v q ∙ unwoven ∙ sym unwoven′ ∙ sym (woven-new h′ x′ v (q ∙ ap suc (length-same M)))
           | no n ↦ woven-old h x v n ∙ M .woven v ∙ sym (woven-old h′ x′ v (λ q. n (q ∙ ap suc (sym (length-same M)))))
         ])
-        (M .published)
+        (M .published) (M .windows)
 
     alike-assign : {c c′ : Call} (t f : ℕ) → named c ≡ t → named c′ ≡ t → Alike l l′ m m′ c c′ (assignNumber L m l t f) (assignNumber L m′ l′ t f)
     unfolding firstRefusal assignRows holds

@@ -69,7 +69,7 @@ module _ (L : Limits) {l l′ : ℕ} {m m′ : Model} (S : Kept L m) (S′ : Kep
         | inl q ↦ woven-past h v w q ∙ sym (woven-past h′ v w q)
         | inr q ↦ woven-shared h v w q ∙ M .woven w ∙ sym (woven-shared h′ v w q)
       ])
-      refl
+      refl (M .windows)
 
   -- Lines that begin from one version of matched lines match.
   pub match-branch : (k k′ : ℕ) → onModel L m (on l (BRANCH v)) .1 ≡ says (lineIs k) → onModel L m′ (on l′ (BRANCH v)) .1 ≡ says (lineIs k′)

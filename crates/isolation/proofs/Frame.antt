@@ -13,13 +13,14 @@ use lib.Seq.{map-set-same}
 use Rattle.tree.specs.Tree.{nth}
 use Rattle.table.specs.Table.{unless}
 use Rattle.table.proofs.Table.{unless-keeps}
-use Rattle.model.specs.Calls.{Call, BEGIN, PUT, WEAVE, on, Act, WRITE, APPEND, PUBLISH, BRANCH, READ, SIZE, RECENT, STAMP, VIEW}
+use Rattle.windows.specs.Windows.{inside}
+use Rattle.model.specs.Calls.{Call, BEGIN, PUT, WEAVE, SETWINDOWS, on, Act, WRITE, APPEND, PUBLISH, BRANCH, READ, SIZE, RECENT, STAMP, VIEW}
 use Rattle.model.specs.History.{Ticket, Version, noTicket, versionAt, blobSize, due}
 use Rattle.model.specs.Model.{Limits, Model, updateAt, updateOf, history}
-use Rattle.model.specs.OnModel.{ticketIn, either, lineNumber, published, branched, onLine, onModel, weaveNumber, woven, branchNumber, assignNumber, assigned as withAssigned, assignStep}
+use Rattle.model.specs.OnModel.{ticketIn, either, publishNumber, published, branched, onLine, onModel, weaveNumber, woven, branchNumber, assignNumber, assigned as withAssigned, assignStep}
 use Rattle.model.proofs.Nth.{nth-set-other}
 use Rattle.model.proofs.Shown.{version-shown}
-use Rattle.model.proofs.Passed.{WeavePassed, weave-passed, assign-passed, line-passed}
+use Rattle.model.proofs.Passed.{WeavePassed, weave-passed, assign-passed, publish-passed}
 use Rattle.model.proofs.Histories.{published-apart, branched-apart, assigned-apart}
 use Rattle.model.proofs.Kept.Publish.{published-lines}
 use Rattle.model.proofs.Kept.Branch.{branched-length}
@@ -41,9 +42,9 @@ slots-kept ks zero w o = absurd (omega arith)
 slots-kept ks (suc j) w o = map-set-same slotsOf ks j (record { slots = getD ks j noTicket .slots; woven = w }) noTicket refl
 
 module _ (L : Limits) (l : ℕ) (m : Model) (S : Kept L m) (in-l : l < length (m .lines)) where
-  -- The line reads as it did.
-  stays : (m₁ : Model) → l < length (m₁ .lines) → history m₁ l ≡ history m l → Match l l m m₁
-  stays m₁ h e = match-by (history m l) (history m l) refl e in-l h refl refl (λ v. refl) refl
+  -- The line reads as it did, and the windows are as they were.
+  stays : (m₁ : Model) → l < length (m₁ .lines) → history m₁ l ≡ history m l → m .windows ≡ m₁ .windows → Match l l m m₁
+  stays m₁ h e w = match-by (history m l) (history m l) refl e in-l h refl refl (λ v. refl) refl w
 
   frame-unless : (r : ℕ) (m₁ : Model) → (r ≡ 0 → Match l l m m₁) → Match l l m (unless r m m₁)
   frame-unless r m₁ f = unless-keeps (Match l l m) r m m₁ (match-refl l m in-l) f
@@ -68,6 +69,7 @@ module _ (L : Limits) (l : ℕ) (m : Model) (S : Kept L m) (in-l : l < length (m
             ap (λ (x : Ticket). x .woven) (sym (nth-set-other noTicket (m .tickets) t _ (p .from) (versionAt (history m l) v .ticket)
             (not-shown t (elsewhere-line l m t e .1) p v)));
         published = refl;
+        windows = refl;
       }
 
   -- WEAVE of a ticket that is not assigned is refused.
@@ -77,24 +79,26 @@ module _ (L : Limits) (l : ℕ) (m : Model) (S : Kept L m) (in-l : l < length (m
 
   -- A new line, from whichever line.
   pub frame-branch : (k v : ℕ) → Match l l m (branched L m k v)
-  frame-branch k v = stays (branched L m k v) (omega (arith, branched-length L m k v)) (branched-apart L m k v l in-l)
+  frame-branch k v = stays (branched L m k v) (omega (arith, branched-length L m k v)) (branched-apart L m k v l in-l) refl
 
   module _ (k : ℕ) (other : l ≢ k) where
     frame-assign : (t f : ℕ) → Match l l m (assignStep L m k t f .0)
     frame-assign t f = frame-unless (assignNumber L m k t f) (withAssigned L m k t f) λ z.
-        stays (withAssigned L m k t f) (rw (assigned-lines L m k t f) in-l) (assigned-apart L m S k t f (assign-passed L m k t f z .line) l in-l other)
+        stays (withAssigned L m k t f) (rw (assigned-lines L m k t f) in-l) (assigned-apart L m S k t f (assign-passed L m k t f z .line) l in-l other) refl
 
-    frame-publish : lineNumber L m k ≡ 0 → Match l l m (published L m k)
-    frame-publish z =
-        let there = line-passed L m k z in
-        stays (published L m k) (rw (published-lines L m k there) in-l) (published-apart L m k there l other)
+    -- PUBLISH outside the windows.
+    frame-publish : k < length (m .lines) → Match l l m (either (due (history m k)) (published L m k) m)
+    frame-publish there = either-keeps (Match l l m) (due (history m k)) (published L m k) m (match-refl l m in-l) λ d.
+        stays (published L m k) (rw (published-lines L m k there) in-l) (published-apart L m k there l other) refl
 
     frame-act : (a : Act) → Match l l m (onLine L m k a .0)
     unfolding onLine
     frame-act (WRITE t f) = frame-assign t f
     frame-act (APPEND t) = frame-assign t (blobSize (history m k))
-    frame-act PUBLISH = frame-unless (lineNumber L m k) (either (due (history m k)) (published L m k) m) λ z.
-        either-keeps (Match l l m) (due (history m k)) (published L m k) m (match-refl l m in-l) (λ d. frame-publish z)
+    frame-act (PUBLISH minute) =
+        let now = either (due (history m k)) (published L m k) m in
+        frame-unless (publishNumber L m k minute) (either (inside (m .windows) minute) m now) λ z.
+        either-keeps (Match l l m) (inside (m .windows) minute) m now (frame-publish (publish-passed L m k minute z .line)) (λ e. match-refl l m in-l)
     frame-act (BRANCH v) = frame-unless (branchNumber L m k v) (branched L m k v) λ z. frame-branch k v
     frame-act (READ v offset len buffer) = match-refl l m in-l
     frame-act (SIZE v) = match-refl l m in-l
@@ -108,4 +112,5 @@ module _ (L : Limits) (l : ℕ) (m : Model) (S : Kept L m) (in-l : l < length (m
   frame (BEGIN n) e = absurd (false≢true e)
   frame (PUT t i bytes) e = absurd (false≢true e)
   frame (WEAVE t) e = frame-weave t e
+  frame (SETWINDOWS t) e = absurd (false≢true e)
   frame (on k a) e = frame-act k (λ q. eqb-false k l (not-true (eqb k l) e) (sym q)) a

@@ -4,7 +4,7 @@ use mathlib.Core.Path.{_≡_, refl, fun-ext, subst⁻¹}
 use mathlib.Core.Bool.{Bool, true, false, _||_, false≢true}
 use mathlib.Core.List.{List, [], _∷_, _++_}
 use Prim.Native.Nat.{ℕ}
-use Rattle.model.specs.Calls.{Call, BEGIN, PUT, WEAVE, on, Act, WRITE, APPEND, PUBLISH, BRANCH, READ, SIZE, RECENT, STAMP, VIEW}
+use Rattle.model.specs.Calls.{Call, BEGIN, PUT, WEAVE, SETWINDOWS, on, Act, WRITE, APPEND, PUBLISH, BRANCH, READ, SIZE, RECENT, STAMP, VIEW}
 use Rattle.model.specs.Model.{Limits, Model, noModel}
 use Rattle.model.specs.OnModel.{onModel}
 use Rattle.model.specs.Run.{run}
@@ -16,7 +16,7 @@ use Rattle.isolation.proofs.Match.{match-sym, match-trans, match-refl}
 use Rattle.isolation.proofs.Frame.{frame, frame-idle}
 use Rattle.isolation.proofs.Begins.{match-branch}
 use Rattle.isolation.proofs.Alike.{idle}
-use Rattle.isolation.proofs.Twins.{Step, twin-begin, twin-put, twin-weave}
+use Rattle.isolation.proofs.Twins.{Step, twin-begin, twin-put, twin-windows, twin-weave}
 use Rattle.isolation.proofs.Acts.{twin-read, twin-size, twin-recent, twin-stamp, twin-view, twin-branch, twin-publish, twin-write, twin-append}
 
 module _ (L : Limits) {l l′ : ℕ} {m m′ : Model} (S : Kept L m) (S′ : Kept L m′) (M : Match l l′ m m′) where
@@ -24,13 +24,14 @@ module _ (L : Limits) {l l′ : ℕ} {m m′ : Model} (S : Kept L m) (S′ : Kep
   step-free (BEGIN n) q a a′ = twin-begin L M n
   step-free (PUT t i bytes) q a a′ = twin-put L M S S′ t i bytes
   step-free (WEAVE t) q a a′ = twin-weave L M S S′ t a a′
+  step-free (SETWINDOWS t) q a a′ = twin-windows L M t
   step-free (on k b) q a a′ = absurd (false≢true q)
 
   step-act : (a : Act) → Step l l′ m m′ (on l a) (on l′ a) (onModel L m (on l a)) (onModel L m′ (on l′ a))
   unfolding onModel
   step-act (WRITE t f) = twin-write L M S S′ t f
   step-act (APPEND t) = twin-append L M S S′ t
-  step-act PUBLISH = twin-publish L M
+  step-act (PUBLISH minute) = twin-publish L M minute
   step-act (BRANCH v) = twin-branch L M S S′ v
   step-act (READ v offset len buffer) = twin-read L M v offset len buffer
   step-act (SIZE v) = twin-size L M v
@@ -47,6 +48,7 @@ module _ (L : Limits) {l l′ : ℕ} {m m′ : Model} (S : Kept L m) (S′ : Kep
       go : (b : Bool) → elsewhere l′ m′ t ≡ b → Match l′ l′ m′ (onModel L m′ (WEAVE t) .0)
       go true e′ = frame L l′ m′ S′ (M .begun′) (WEAVE t) e′
       go false e′ = frame-idle L l′ m′ S′ (M .begun′) t (idle M S S′ t e e′)
+  one-side (SETWINDOWS t) q e = absurd (false≢true e)
   one-side (on k b) q e = absurd (false≢true q)
 
 kept : (L : Limits) (cs : List Call) → Kept L (after L cs)

@@ -16,6 +16,7 @@ match-sym M = record {
   versions = sym (M .versions);
   woven = λ v. sym (M .woven v);
   published = sym (M .published);
+  windows = sym (M .windows);
 }
 
 pub match-trans : {l l′ l″ : ℕ} {m m′ m″ : Model} → Match l l′ m m′ → Match l′ l″ m′ m″ → Match l l″ m m″
@@ -26,20 +27,22 @@ match-trans M M′ = record {
   versions = M .versions ∙ M′ .versions;
   woven = λ v. M .woven v ∙ M′ .woven v;
   published = M .published ∙ M′ .published;
+  windows = M .windows ∙ M′ .windows;
 }
 
 pub match-refl : (l : ℕ) (m : Model) → l < length (m .lines) → Match l l m m
-match-refl l m h = record { begun = h; begun′ = h; slots = refl; versions = refl; woven = λ v. refl; published = refl }
+match-refl l m h = record { begun = h; begun′ = h; slots = refl; versions = refl; woven = λ v. refl; published = refl; windows = refl }
 
--- By what the lines read as.
+-- By what the lines read as, and the windows.
 pub match-by : {l l′ : ℕ} {m m′ : Model} (h h′ : History) → history m l ≡ h → history m′ l′ ≡ h′ → l < length (m .lines) → l′ < length (m′ .lines)
     → map slotsOf (h .tickets) ≡ map slotsOf (h′ .tickets) → map (seenOn l) (h .versions) ≡ map (seenOn l′) (h′ .versions)
-    → ((v : ℕ) → wovenAt h v ≡ wovenAt h′ v) → h .published ≡ h′ .published → Match l l′ m m′
-match-by {l = l} {l′ = l′} h h′ e e′ b b′ s vs w p = record {
+    → ((v : ℕ) → wovenAt h v ≡ wovenAt h′ v) → h .published ≡ h′ .published → m .windows ≡ m′ .windows → Match l l′ m m′
+match-by {l = l} {l′ = l′} h h′ e e′ b b′ s vs w p ws = record {
   begun = b;
   begun′ = b′;
   slots = ap (λ x. map slotsOf (x .tickets)) e ∙ s ∙ sym (ap (λ x. map slotsOf (x .tickets)) e′);
   versions = ap (λ x. map (seenOn l) (x .versions)) e ∙ vs ∙ sym (ap (λ x. map (seenOn l′) (x .versions)) e′);
   woven = λ v. ap (λ x. wovenAt x v) e ∙ w v ∙ sym (ap (λ x. wovenAt x v) e′);
   published = ap (λ x. x .published) e ∙ p ∙ sym (ap (λ x. x .published) e′);
+  windows = ws;
 }

@@ -13,10 +13,11 @@ use lib.Dec.{ltb, eqb}
 use lib.ListN.{length, getD, set, replicate}
 use Rattle.tree.specs.Tree.{Update, Node, node, nth, countOf, weaving, update, newest}
 use Rattle.table.specs.Table.{always, holds, firstRefusal, unless, putRows, weaveRows}
-use Rattle.model.specs.Calls.{Call, BEGIN, PUT, WEAVE, Answer, refused, ticketIs, putDone, versionIs, nodeIs, lineIs, says, answers}
+use Rattle.windows.specs.Listed.{textNumber}
+use Rattle.model.specs.Calls.{Call, BEGIN, PUT, WEAVE, SETWINDOWS, Answer, refused, ticketIs, putDone, versionIs, nodeIs, publishedIs, waiting, held, lineIs, windowsDone, says, answers}
 use Rattle.model.specs.History.{Ticket, History, noTicket, noVersion, versionAt, updates}
 use Rattle.model.specs.Model.{Limits, Model, updateOf, history, numbered, numberIn}
-use Rattle.model.specs.OnModel.{ticketIn, leftOf, rightOf, firstPage, spanOf, Stepped, beginNumber, begun, putNumber, filledAt, weaveNumber, woven, nodeAnswer, published, onModel}
+use Rattle.model.specs.OnModel.{ticketIn, leftOf, rightOf, firstPage, spanOf, Stepped, beginNumber, begun, putNumber, filledAt, weaveNumber, woven, withWindows, nodeAnswer, either, onModel}
 use Rattle.model.proofs.Nth.{map-snoc, nth-set-same, nth-set-other}
 use Rattle.model.proofs.Passed.{put-passed, weave-passed}
 use Rattle.isolation.specs.Isolation.{versionOf, elsewhere, named, listed, excused, child, lineless, plain, slotsOf, seen, Match}
@@ -56,6 +57,16 @@ given-node v a s x y k r e = let z : _≡_ {A = ℕ} 0 1 = cc in omega arith
 pub given-line : (k : ℕ) → Given (lineIs k)
 unfolding Given
 given-line k r e = let z : _≡_ {A = ℕ} 0 1 = cc in omega arith
+
+pub given-published : (h d : Bool) (v : ℕ) → Given (either h held (either d (publishedIs v) waiting))
+unfolding Given
+given-published true d v r e = let z : _≡_ {A = ℕ} 0 1 = cc in omega arith
+given-published false true v r e = let z : _≡_ {A = ℕ} 0 1 = cc in omega arith
+given-published false false v r e = let z : _≡_ {A = ℕ} 0 1 = cc in omega arith
+
+pub given-windows : Given windowsDone
+unfolding Given
+given-windows r e = let z : _≡_ {A = ℕ} 0 1 = cc in omega arith
 
 module _ (l l′ : ℕ) (m m′ : Model) where
   abbrev pub Step : Call → Call → Stepped → Stepped → Type 0
@@ -147,8 +158,8 @@ module _ (L : Limits) {l l′ : ℕ} {m m′ : Model} (M : Match l l′ m m′) 
       | no n ↦ rw (nth-set-other noTicket (m .tickets) t k from u n, nth-set-other noTicket (m′ .tickets) t k′ from u n) e
     ]
 
-    match-changed : Match l l′ (record { tickets = set (m .tickets) (pred t) k; updates = m .updates; lines = m .lines })
-        (record { tickets = set (m′ .tickets) (pred t) k′; updates = m′ .updates; lines = m′ .lines })
+    match-changed : Match l l′ (record { tickets = set (m .tickets) (pred t) k; updates = m .updates; lines = m .lines; windows = m .windows })
+        (record { tickets = set (m′ .tickets) (pred t) k′; updates = m′ .updates; lines = m′ .lines; windows = m′ .windows })
     match-changed = record {
       begun = M .begun;
       begun′ = M .begun′;
@@ -159,6 +170,7 @@ module _ (L : Limits) {l l′ : ℕ} {m m′ : Model} (M : Match l l′ m m′) 
           changed (versionAt (history m l) v .ticket) (M .woven v ∙ ap (λ u. ticketIn m′ u .woven) (sym e))
           ∙ ap (λ u. nth noTicket (set (m′ .tickets) (pred t) k′) u .woven) e;
       published = M .published;
+      windows = M .windows;
     }
 
   pub twin-begin : (n : ℕ) → Step l l′ m m′ (BEGIN n) (BEGIN n) (onModel L m (BEGIN n)) (onModel L m′ (BEGIN n))
@@ -172,6 +184,7 @@ module _ (L : Limits) {l l′ : ℕ} {m m′ : Model} (M : Match l l′ m m′) 
           versions = M .versions;
           woven = λ v. no-more (m .tickets) (versionAt (history m l) v .ticket) ∙ M .woven v ∙ sym (no-more (m′ .tickets) (versionAt (history m′ l′) v .ticket));
           published = M .published;
+          windows = M .windows;
         },
         rw (tickets-same M),
       )
@@ -181,6 +194,22 @@ module _ (L : Limits) {l l′ : ℕ} {m m′ : Model} (M : Match l l′ m m′) 
 
       no-more : (ks : List Ticket) (t : ℕ) → nth noTicket (ks ++ new ∷ []) t .woven ≡ nth noTicket ks t .woven
       no-more ks t = nth-blank noTicket (λ k. k .woven) ks new t refl
+
+  -- SETWINDOWS: the same text is refused in both, or gives both the same windows.
+  pub twin-windows : (t : List ℕ) → Step l l′ m m′ (SETWINDOWS t) (SETWINDOWS t) (onModel L m (SETWINDOWS t)) (onModel L m′ (SETWINDOWS t))
+  unfolding onModel
+  twin-windows t = twin l l′ m m′ (textNumber t) (textNumber t) (withWindows L m t) (withWindows L m′ t) _ _ M given-windows given-windows (alike refl) λ z z′. (
+    record {
+      begun = M .begun;
+      begun′ = M .begun′;
+      slots = M .slots;
+      versions = M .versions;
+      woven = M .woven;
+      published = M .published;
+      windows = refl;
+    },
+    refl,
+  )
 
   module _ (S : Kept L m) (S′ : Kept L m′) where
     -- Row 8 of a ticket that is to be unassigned, and the rows after it.

@@ -14,7 +14,7 @@ before =
     ∷ PUT 1 0 (pageOf 10)
     ∷ on 0 (WRITE 1 0)
     ∷ WEAVE 1
-    ∷ on 0 PUBLISH
+    ∷ on 0 (PUBLISH 0)
     ∷ on 0 (BRANCH 1)
     ∷ BEGIN 1
     ∷ PUT 2 0 (pageOf 20)
@@ -23,7 +23,7 @@ before =
     ∷ []
 
 unfoldable pub alone : List Call
-alone = on 0 (APPEND 2) ∷ WEAVE 2 ∷ WEAVE 2 ∷ on 0 PUBLISH ∷ on 0 (READ 2 15 2 (7 ∷ 7 ∷ [])) ∷ []
+alone = on 0 (APPEND 2) ∷ WEAVE 2 ∷ WEAVE 2 ∷ on 0 (PUBLISH 0) ∷ on 0 (READ 2 15 2 (7 ∷ 7 ∷ [])) ∷ []
 
 -- The same, with ticket 3 written, woven and published on line 1 in between.
 unfoldable pub beside : List Call
@@ -32,15 +32,15 @@ beside =
     ∷ on 0 (APPEND 2)
     ∷ WEAVE 3
     ∷ WEAVE 2
-    ∷ on 1 PUBLISH
+    ∷ on 1 (PUBLISH 0)
     ∷ WEAVE 2
-    ∷ on 0 PUBLISH
+    ∷ on 0 (PUBLISH 0)
     ∷ on 0 (READ 2 15 2 (7 ∷ 7 ∷ []))
     ∷ []
 
 pub twins : Twins limits 0 0 before before alone beside
 unfolding computes run limits before alone beside
-twins = second refl (act (APPEND 2) (second refl (same refl (second refl (same refl (act PUBLISH (act (READ 2 15 2 (7 ∷ 7 ∷ [])) end)))))))
+twins = second refl (act (APPEND 2) (second refl (same refl (second refl (same refl (act (PUBLISH 0) (act (READ 2 15 2 (7 ∷ 7 ∷ [])) end)))))))
 
 -- Line 0's answers, as they come in the first list; in the second they come between those of line 1.
 pub given : outcomes (onModel limits) (after limits before) alone

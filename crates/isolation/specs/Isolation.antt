@@ -8,7 +8,7 @@ use mathlib.Core.List.{List, [], _∷_, _++_, map}
 use Prim.Native.Nat.{ℕ, _%_, _<_}
 use lib.Dec.{eqb}
 use lib.ListN.{length}
-use Rattle.model.specs.Calls.{Call, BEGIN, PUT, WEAVE, on, Act, WRITE, APPEND, PUBLISH, BRANCH, READ, SIZE, RECENT, STAMP, VIEW, Answer, refused, formatDone, ticketIs, putDone, versionIs, nodeIs, publishedIs, waiting, lineIs, filled, sizeIs, recentIs, stampIs, partIs, partAt, Outcome, says}
+use Rattle.model.specs.Calls.{Call, BEGIN, PUT, WEAVE, SETWINDOWS, on, Act, WRITE, APPEND, PUBLISH, BRANCH, READ, SIZE, RECENT, STAMP, VIEW, Answer, refused, formatDone, ticketIs, putDone, versionIs, nodeIs, publishedIs, waiting, held, lineIs, windowsDone, filled, sizeIs, recentIs, stampIs, partIs, partAt, Outcome, says}
 use Rattle.model.specs.History.{Page, Ticket, Version, History, ticketAt, versionAt, bitIf}
 use Rattle.model.specs.Model.{Limits, Model, noModel, lineAt, updateAt, history, updateOf}
 use Rattle.model.specs.OnModel.{either, onModel}
@@ -29,6 +29,7 @@ abbrev pub aside : ℕ → Model → Call → Bool
 aside l m (BEGIN n) = false
 aside l m (PUT t i bytes) = false
 aside l m (WEAVE t) = elsewhere l m t
+aside l m (SETWINDOWS t) = false
 aside l m (on k a) = not (eqb k l)
 
 -- A call that names no line.
@@ -36,6 +37,7 @@ abbrev pub free : Call → Bool
 free (BEGIN n) = true
 free (PUT t i bytes) = true
 free (WEAVE t) = true
+free (SETWINDOWS t) = true
 free (on k a) = false
 
 -- ---- what the request lists
@@ -44,7 +46,7 @@ free (on k a) = false
 abbrev pub namedOn : Act → ℕ
 namedOn (WRITE t f) = t
 namedOn (APPEND t) = t
-namedOn PUBLISH = 0
+namedOn (PUBLISH minute) = 0
 namedOn (BRANCH v) = 0
 namedOn (READ v offset len buffer) = 0
 namedOn (SIZE v) = 0
@@ -57,6 +59,7 @@ abbrev pub named : Call → ℕ
 named (BEGIN n) = 0
 named (PUT t i bytes) = t
 named (WEAVE t) = t
+named (SETWINDOWS t) = 0
 named (on k a) = namedOn a
 
 -- Refusals 5, 6, 15, 20 and 21.
@@ -73,7 +76,9 @@ excused l m c (versionIs v n) = false
 excused l m c (nodeIs v a s x y k) = false
 excused l m c (publishedIs v) = false
 excused l m c waiting = false
+excused l m c held = false
 excused l m c (lineIs k) = false
+excused l m c windowsDone = false
 excused l m c filled = false
 excused l m c (sizeIs n) = false
 excused l m c (recentIs v) = false
@@ -97,7 +102,9 @@ lineless (versionIs v n) = versionIs v n
 lineless (nodeIs v a s x y k) = nodeIs (v % 65536) a s (child s x) (child s y) k
 lineless (publishedIs v) = publishedIs v
 lineless waiting = waiting
+lineless held = held
 lineless (lineIs k) = lineIs 0
+lineless windowsDone = windowsDone
 lineless filled = filled
 lineless (sizeIs n) = sizeIs n
 lineless (recentIs v) = recentIs v
@@ -127,7 +134,8 @@ seen m l = map (seenOn l) (history m l .versions)
 abbrev pub wovenAt : History → ℕ → ℕ
 wovenAt h v = ticketAt h (versionAt h v .ticket) .woven
 
--- Lines l and l′ have begun and show the same versions, woven as far and published as far; and the same pages are put, with the same ticket and page numbers.
+-- Lines l and l′ have begun and show the same versions, woven as far and published as far; the same pages are put, with the same ticket and page numbers; and the
+-- site has the same windows, which belong to no line.
 pub record Match (l l′ : ℕ) (m m′ : Model) : Type 0 where
   pub begun : l < length (m .lines)
   pub begun′ : l′ < length (m′ .lines)
@@ -135,6 +143,7 @@ pub record Match (l l′ : ℕ) (m m′ : Model) : Type 0 where
   pub versions : seen m l ≡ seen m′ l′
   pub woven : (v : ℕ) → wovenAt (history m l) v ≡ wovenAt (history m′ l′) v
   pub published : lineAt m l .published ≡ lineAt m′ l′ .published
+  pub windows : m .windows ≡ m′ .windows
 
 -- ---- two lists of calls
 

@@ -5,6 +5,7 @@ pub mod Begin
 pub mod Change
 pub mod Put
 pub mod Weave
+pub mod SetWindows
 pub mod Publish
 pub mod Branch
 pub mod Assign

@@ -6,14 +6,16 @@ use Prim.Native.Nat.{ℕ, _≤_, _<_}
 use native.Mathlib.Omega.{arith}
 use lib.ListN.{length}
 use Rattle.table.proofs.Table.{unless-keeps}
-use Rattle.model.specs.Calls.{Call, BEGIN, PUT, WEAVE, on, Act, WRITE, APPEND, PUBLISH, BRANCH, READ, SIZE, RECENT, STAMP, VIEW}
+use Rattle.windows.specs.Windows.{inside}
+use Rattle.windows.specs.Listed.{textNumber}
+use Rattle.model.specs.Calls.{Call, BEGIN, PUT, WEAVE, SETWINDOWS, on, Act, WRITE, APPEND, PUBLISH, BRANCH, READ, SIZE, RECENT, STAMP, VIEW}
 use Rattle.model.specs.History.{versionAt, blobSize, due}
 use Rattle.model.specs.InTurn.{blobAt, bytesAt}
 use Rattle.model.specs.Model.{Limits, Model, lineAt, history}
-use Rattle.model.specs.OnModel.{either, beginNumber, putNumber, weaveNumber, assignNumber, lineNumber, branchNumber, begun, filledAt, woven, assigned, published, branched, onLine, onModel}
+use Rattle.model.specs.OnModel.{either, beginNumber, putNumber, weaveNumber, assignNumber, publishNumber, branchNumber, begun, filledAt, woven, withWindows, assigned, published, branched, onLine, onModel}
 use Rattle.model.specs.Run.{run}
 use Rattle.model.proofs.Sound.{Sound}
-use Rattle.model.proofs.Passed.{put-passed, weave-passed, assign-passed, line-passed}
+use Rattle.model.proofs.Passed.{put-passed, weave-passed, assign-passed, publish-passed}
 use Rattle.model.proofs.Grows.{Grown, grown-same, grown-then}
 use Rattle.model.proofs.Older.{older-same}
 use Rattle.model.proofs.Stay.{SameUpTo, same-less, size-stays, blob-stays, bytes-stay}
@@ -21,6 +23,7 @@ use Rattle.model.proofs.Asked.{read-alike, view-alike, stamp-alike, siz
 use Rattle.model.proofs.Kept.Begin.{begun-grown}
 use Rattle.model.proofs.Kept.Put.{filled-grown}
 use Rattle.model.proofs.Kept.Weave.{woven-grown}
+use Rattle.model.proofs.Kept.SetWindows.{windows-grown}
 use Rattle.model.proofs.Kept.Assign.{assigned-grown}
 use Rattle.model.proofs.Kept.Publish.{published-grown}
 use Rattle.model.proofs.Kept.Branch.{branched-grown}
@@ -32,18 +35,23 @@ module _ (L : Limits) (m : Model) (S : Sound L m) where
   assign-grown l t f =
       unless-keeps (Grown m) (assignNumber L m l t f) m (assigned L m l t f) (grown-same m) (λ z. assigned-grown L m l t f (assign-passed L m l t f z .line))
 
+  -- PUBLISH outside the windows.
+  now-grown : (l : ℕ) → l < length (m .lines) → Grown m (either (due (history m l)) (published L m l) m)
+  now-grown l there = either-keeps (Grown m) (due (history m l)) (published L m l) m (grown-same m) (λ e. published-grown L m l there)
+
   line-grown : (l : ℕ) (a : Act) → Grown m (onLine L m l a .0)
   unfolding onLine
   line-grown l (WRITE t f) = assign-grown l t f
   line-grown l (APPEND t) = assign-grown l t (blobSize (history m l))
-  line-grown l PUBLISH =
+  line-grown l (PUBLISH minute) =
+      let now = either (due (history m l)) (published L m l) m in
       unless-keeps
       (Grown m)
-      (lineNumber L m l)
+      (publishNumber L m l minute)
       m
-      (either (due (history m l)) (published L m l) m)
+      (either (inside (m .windows) minute) m now)
       (grown-same m)
-      (λ z. either-keeps (Grown m) (due (history m l)) (published L m l) m (grown-same m) (λ e. published-grown L m l (line-passed L m l z)))
+      (λ z. either-keeps (Grown m) (inside (m .windows) minute) m now (now-grown l (publish-passed L m l minute z .line)) (λ e. grown-same m))
   line-grown l (BRANCH v) = unless-keeps (Grown m) (branchNumber L m l v) m (branched L m l v) (grown-same m) (λ z. branched-grown L m l v)
   line-grown l (READ v offset len buffer) = grown-same m
   line-grown l (SIZE v) = grown-same m
@@ -57,6 +65,7 @@ module _ (L : Limits) (m : Model) (S : Sound L m) where
   step-grown (PUT t i bytes) =
       unless-keeps (Grown m) (putNumber L m t i bytes) m (filledAt L m t i bytes) (grown-same m) (λ z. filled-grown L m t i bytes S (put-passed L m t i bytes z))
   step-grown (WEAVE t) = unless-keeps (Grown m) (weaveNumber L m t) m (woven L m t) (grown-same m) (λ z. woven-grown L m t S (weave-passed L m t z))
+  step-grown (SETWINDOWS t) = unless-keeps (Grown m) (textNumber t) m (withWindows L m t) (grown-same m) (λ z. windows-grown L m t)
   step-grown (on l a) = line-grown l a
 
 pub run-grown : (L : Limits) (m : Model) → Sound L m → (cs : List Call) → Grown m (run (onModel L) m cs)

@@ -33,6 +33,7 @@ pub mod Owned
 pub mod Numbers
 pub mod Asked
 pub mod Later
+pub mod Held
 pub mod Reached
 -- Areas: the pages and nodes that a model stands for, and the trees in them.
 pub mod Image

@@ -12,12 +12,12 @@ use lib.Dec.{ltb}
 use lib.ListN.{length, getD}
 use Rattle.tree.specs.Tree.{countOf}
 use Rattle.table.specs.Table.{beginRows, putRows, weaveRows}
-use Rattle.table.specs.Table.{lineRows, branchRows, assignRows, sizeRows, readRows, pageRows}
+use Rattle.table.specs.Table.{publishRows, branchRows, assignRows, sizeRows, readRows, pageRows}
 use Rattle.table.proofs.Table.{passed}
 use Rattle.model.specs.Calls.{refused, lineIs, says, answers}
 use Rattle.model.specs.History.{Page, History, pagesOf, versionAt, taken, updateOf as toUpdate, blobSize, isFilled, bitIf, allFilled, complete, due}
 use Rattle.model.specs.Model.{Limits, Model, lineAt, updateAt, history, places, updateOf}
-use Rattle.model.specs.OnModel.{ticketIn, beginNumber, putNumber, weaveNumber, nextUpdate, assignNumber, lineNumber, branchNumber, readNumber, sizeNumber, pageNumber}
+use Rattle.model.specs.OnModel.{ticketIn, beginNumber, putNumber, weaveNumber, nextUpdate, assignNumber, publishNumber, branchNumber, readNumber, sizeNumber, pageNumber}
 
 -- A row that reads a record: in the model the record is there.
 there-fails : {A : Type 0} → (0 < 0) ⊎ A → A
@@ -57,6 +57,10 @@ pub record AssignPassed (L : Limits) (m : Model) (l t f : ℕ) : Type 0 where
   pub starts : f ≤ blobSize (history m l)
   pub inside : f + pagesOf (ticketIn m t) ≤ 4096
   pub nodes-left : places m + countOf (nextUpdate L m l t f) ≤ L .nodes
+
+pub record PublishPassed (m : Model) (l minute : ℕ) : Type 0 where
+  pub line : l < length (m .lines)
+  pub accepted : minute ≤ 10079
 
 pub record BranchPassed (m : Model) (l v : ℕ) : Type 0 where
   pub line : l < length (m .lines)
@@ -129,9 +133,11 @@ module _ (L : Limits) (m : Model) where
         nodes-left = there-fails (r .1 .1 .1 .1 .1 .1 .0);
       }
 
-  pub line-passed : (l : ℕ) → lineNumber L m l ≡ 0 → l < length (m .lines)
-  unfolding lineRows
-  line-passed l e = passed _ tt e .0
+  pub publish-passed : (l minute : ℕ) → publishNumber L m l minute ≡ 0 → PublishPassed m l minute
+  unfolding publishRows
+  publish-passed l minute e =
+      let r = passed _ tt e in
+      record { line = r .0; accepted = r .1 .0 }
 
   pub branch-passed : (l v : ℕ) → branchNumber L m l v ≡ 0 → BranchPassed m l v
   unfolding branchRows

@@ -2,11 +2,11 @@
 use Prim.Native.Nat.{ℕ, zero, suc}
 use mathlib.Core.List.{List, []}
 
--- What a call that names a line asks of it. ASSIGN is WRITE or APPEND; the buffer to fill comes with the call.
+-- What a call that names a line asks of it. ASSIGN is WRITE or APPEND; PUBLISH is given the minute of the week; the buffer to fill comes with the call.
 pub data Act : Type 0 where
   WRITE : ℕ → ℕ → Act
   APPEND : ℕ → Act
-  PUBLISH : Act
+  PUBLISH : ℕ → Act
   BRANCH : ℕ → Act
   READ : ℕ → ℕ → ℕ → List ℕ → Act
   SIZE : ℕ → Act
@@ -14,11 +14,12 @@ pub data Act : Type 0 where
   STAMP : ℕ → ℕ → Act
   VIEW : ℕ → ℕ → Act
 
--- A call after FORMAT: one that names no line, with the bytes to put, or one on a line.
+-- A call after FORMAT: one that names no line, with the bytes to put or the windows' text, or one on a line.
 pub data Call : Type 0 where
   BEGIN : ℕ → Call
   PUT : ℕ → ℕ → List ℕ → Call
   WEAVE : ℕ → Call
+  SETWINDOWS : List ℕ → Call
   on : ℕ → Act → Call
 
 -- An answer: a refusal's number, or the call's values. A node is version, first page, span, its two numbers and how many are left, versions by their numbers
@@ -32,7 +33,9 @@ pub data Answer : Type 0 where
   nodeIs : ℕ → ℕ → ℕ → ℕ → ℕ → ℕ → Answer
   publishedIs : ℕ → Answer
   waiting : Answer
+  held : Answer
   lineIs : ℕ → Answer
+  windowsDone : Answer
   filled : Answer
   sizeIs : ℕ → Answer
   recentIs : ℕ → Answer

@@ -6,7 +6,10 @@ use lib.ListN.{replicate}
 use Rattle.tree.specs.Tree.{heightFrom, rootHeight, meets, nodes, count, update, newest}
 use Rattle.tree.specs.Walk.{used}
 use Rattle.table.specs.Table.{unless, firstRefusal, holds, beginRows, putRows, weaveRows}
-use Rattle.table.specs.Table.{lineRows, branchRows, assignRows, sizeRows, readRows, pageRows}
+use Rattle.table.specs.Table.{lineRows, publishRows, windowRows, branchRows, assignRows, sizeRows, readRows, pageRows}
+use Rattle.fields.specs.Fields.{numberOf}
+use Rattle.windows.specs.Windows.{insideOne, inside}
+use Rattle.windows.specs.Listed.{entryOf, entryBy, allWindows, ended, windowsIn, textNumber}
 use Rattle.model.specs.Calls.{Call, BEGIN, PUT, WEAVE, on, WRITE, APPEND, PUBLISH, BRANCH, READ, SIZE, RECENT, STAMP, VIEW, refused, ticketIs, putDone, versionIs, nodeIs, publishedIs, waiting, lineIs, filled, sizeIs, recentIs, stampIs, partIs, Outcome, says}
 use Rattle.model.specs.History.{taken, allFilled, complete, due}
 use Rattle.model.specs.InTurn.{applied, blobAt, joined}
@@ -16,8 +19,9 @@ use Rattle.model.specs.Run.{outcomes}
 
 -- All that a list of calls computes with on the model: what unfolds this unfolds every definition listed here.
 unfoldable pub computes : ℕ
-unfolding outcomes onModel onLine unless firstRefusal holds lineRows branchRows beginRows putRows assignRows weaveRows sizeRows readRows pageRows taken allFilled
-    complete due applied blobAt joined updateFrom heightFrom rootHeight meets nodes count update newest used
+unfolding outcomes onModel onLine unless firstRefusal holds lineRows publishRows windowRows branchRows beginRows putRows assignRows weaveRows sizeRows readRows
+    pageRows taken allFilled complete due applied blobAt joined updateFrom heightFrom rootHeight meets nodes count update newest used numberOf insideOne inside entryOf
+    entryBy allWindows ended windowsIn textNumber
 computes = 0
 
 unfoldable pub limits : Limits
@@ -38,7 +42,7 @@ calls =
     ∷ WEAVE 1
     ∷ WEAVE 1
     ∷ WEAVE 1
-    ∷ on 0 PUBLISH
+    ∷ on 0 (PUBLISH 0)
     ∷ on 0 (BRANCH 1)
     ∷ BEGIN 1
     ∷ BEGIN 1
@@ -54,11 +58,11 @@ calls =
     ∷ WEAVE 3
     ∷ WEAVE 2
     ∷ WEAVE 2
-    ∷ on 1 PUBLISH
-    ∷ on 0 PUBLISH
+    ∷ on 1 (PUBLISH 0)
+    ∷ on 0 (PUBLISH 0)
     ∷ on 0 (READ 2 0 1 (7 ∷ []))
     ∷ WEAVE 3
-    ∷ on 0 PUBLISH
+    ∷ on 0 (PUBLISH 0)
     ∷ []
 
 -- A version of another line is named by that line's number and its own.
@@ -124,15 +128,15 @@ more =
     ∷ WEAVE 4
     ∷ WEAVE 4
     ∷ WEAVE 4
-    ∷ on 1 PUBLISH
-    ∷ on 0 PUBLISH
+    ∷ on 1 (PUBLISH 0)
+    ∷ on 0 (PUBLISH 0)
     ∷ on 0 RECENT
     ∷ on 1 RECENT
     ∷ on 0 (SIZE 2)
     ∷ on 1 (SIZE 2)
     ∷ on 1 (SIZE 3)
     ∷ on 0 (SIZE 3)
-    ∷ on 2 PUBLISH
+    ∷ on 2 (PUBLISH 0)
     ∷ on 2 RECENT
     ∷ on 2 (SIZE 0)
     ∷ on 2 (STAMP 0 0)
@@ -144,13 +148,13 @@ more =
     ∷ on 2 (SIZE 0)
     ∷ on 2 (READ 0 0 0 (7 ∷ []))
     ∷ on 2 (SIZE 1)
-    ∷ on 2 PUBLISH
+    ∷ on 2 (PUBLISH 0)
     ∷ BEGIN 1
     ∷ PUT 5 0 (pageOf 50)
     ∷ on 2 (WRITE 5 1)
     ∷ on 2 (APPEND 5)
     ∷ WEAVE 5
-    ∷ on 2 PUBLISH
+    ∷ on 2 (PUBLISH 0)
     ∷ on 2 (VIEW 1 0)
     ∷ []
 

@@ -8,3 +8,4 @@ pub mod Due
 pub mod Snapshot
 pub mod Example
 pub mod Trees
+pub mod Windows

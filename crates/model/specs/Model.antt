@@ -1,5 +1,5 @@
--- The plain model with lines: the tickets in order, all updates in the order of ASSIGN, and the lines in the order in which they begin. A line shows its versions,
--- the shared ones and then its own, by their updates' numbers in that order. It is fed S, the capacities and the steps' arguments only.
+-- The plain model with lines: the tickets in order, all updates in the order of ASSIGN, the lines in the order in which they begin, and the site's windows. A line
+-- shows its versions, the shared ones and then its own, by their updates' numbers in that order. It is fed S, the capacities and the steps' arguments only.
 use mathlib.Core.Bool.{Bool, true, false}
 use mathlib.Core.List.{List, [], _∷_, map}
 use Prim.Native.Nat.{ℕ, zero, suc, _+_, _*_}
@@ -8,6 +8,7 @@ use lib.ListN.{length, getD}
 use Rattle.tree.specs.Tree.{nth}
 use Rattle.model.specs.History.{Ticket, Version, History, noVersion, updates}
 use Rattle.tree.specs.Walk.{used}
+use Rattle.windows.specs.declared.Window.{Window}
 
 -- S and the three capacities.
 pub record Limits : Type 0 where
@@ -27,13 +28,14 @@ pub record Model : Type 0 where
   pub tickets : List Ticket
   pub updates : List Version
   pub lines : List Line
+  pub windows : List Window
 
--- It starts with no ticket, no update, and line 0 with no version.
+-- It starts with no ticket, no update, line 0 with no version, and no windows.
 abbrev pub noLine : Line
 noLine = record { source = 0; start = 0; shown = []; published = 0 }
 
 abbrev pub noModel : Model
-noModel = record { tickets = []; updates = []; lines = noLine ∷ [] }
+noModel = record { tickets = []; updates = []; lines = noLine ∷ []; windows = [] }
 
 -- Line l, from 0; update k, from 1.
 abbrev pub lineAt : Model → ℕ → Line

@@ -7,12 +7,14 @@ use lib.ListN.{length, getD, set, replicate, take, drop}
 use Rattle.tree.specs.Tree.{Update, Node, node, countOf, weaving, update, newest}
 use Rattle.tree.specs.Walk.{stampOf}
 use Rattle.table.specs.Table.{always, firstRefusal, unless, beginRows, putRows, weaveRows}
-use Rattle.table.specs.Table.{lineRows, branchRows, assignRows, sizeRows, readRows, pageRows}
-use Rattle.model.specs.Calls.{Call, BEGIN, PUT, WEAVE, on, Act, WRITE, APPEND, PUBLISH, BRANCH, READ, SIZE, RECENT, STAMP, VIEW, Answer, ticketIs, putDone, versionIs, nodeIs, publishedIs, waiting, lineIs, filled, sizeIs, recentIs, stampIs, partIs, Outcome, says, answers}
+use Rattle.table.specs.Table.{lineRows, publishRows, branchRows, assignRows, sizeRows, readRows, pageRows}
+use Rattle.model.specs.Calls.{Call, BEGIN, PUT, WEAVE, SETWINDOWS, on, Act, WRITE, APPEND, PUBLISH, BRANCH, READ, SIZE, RECENT, STAMP, VIEW, Answer, ticketIs, putDone, versionIs, nodeIs, publishedIs, waiting, held, lineIs, windowsDone, filled, sizeIs, recentIs, stampIs, partIs, Outcome, says, answers}
 use Rattle.model.specs.History.{Ticket, Version, History, noTicket, pagesOf, versionAt, taken, updateOf as toUpdate, updates, blobSize, isFilled, bitIf, allFilled, due}
 use Rattle.model.specs.InTurn.{blobAt, bytesAt}
 use Rattle.model.specs.Model.{Limits, Line, Model, lineAt, updateAt, history, places, updateOf, numberIn}
 use Rattle.tree.specs.Tree.{nth}
+use Rattle.windows.specs.Windows.{inside}
+use Rattle.windows.specs.Listed.{windowsOf, textNumber}
 
 abbrev pub ticketIn : Model → ℕ → Ticket
 ticketIn m t = nth noTicket (m .tickets) t
@@ -60,7 +62,7 @@ module _ (L : Limits) where
 
   -- BEGIN adds a ticket, its slots empty, woven 0.
   abbrev pub begun : Model → ℕ → Model
-  begun m n = record { tickets = m .tickets ++ record { slots = replicate n none; woven = 0 } ∷ []; updates = m .updates; lines = m .lines }
+  begun m n = record { tickets = m .tickets ++ record { slots = replicate n none; woven = 0 } ∷ []; updates = m .updates; lines = m .lines; windows = m .windows }
 
   -- PUT fills slot i.
   abbrev pub filledAt : Model → ℕ → ℕ → List ℕ → Model
@@ -70,13 +72,18 @@ module _ (L : Limits) where
         tickets = set (m .tickets) (pred t) (record { slots = set (k .slots) i (some bytes); woven = k .woven });
         updates = m .updates;
         lines = m .lines;
+        windows = m .windows;
       }
 
   -- WEAVE adds 1 to the ticket's woven count.
   abbrev pub woven : Model → ℕ → Model
   woven m t =
       let k = ticketIn m t in
-      record { tickets = set (m .tickets) (pred t) (record { slots = k .slots; woven = suc (k .woven) }); updates = m .updates; lines = m .lines }
+      record { tickets = set (m .tickets) (pred t) (record { slots = k .slots; woven = suc (k .woven) }); updates = m .updates; lines = m .lines; windows = m .windows }
+
+  -- SETWINDOWS by a text, whose windows replace those that there were.
+  abbrev pub withWindows : Model → List ℕ → Model
+  withWindows m t = record { tickets = m .tickets; updates = m .updates; lines = m .lines; windows = windowsOf t }
 
   -- The node that WEAVE stores next for ticket t, with its numbers and how many are left, as the line on which it got its version has it.
   abbrev pub nodeAnswer : Model → ℕ → Answer
@@ -96,7 +103,7 @@ module _ (L : Limits) where
   -- ---- the calls on a line
 
   abbrev pub withLine : Model → ℕ → Line → Model
-  withLine m l x = record { tickets = m .tickets; updates = m .updates; lines = set (m .lines) l x }
+  withLine m l x = record { tickets = m .tickets; updates = m .updates; lines = set (m .lines) l x; windows = m .windows }
 
   -- The size after an update of ticket t at page f of a line, and the update, as the line's next version.
   abbrev pub sizeAfter : Model → ℕ → ℕ → ℕ → ℕ
@@ -135,9 +142,10 @@ module _ (L : Limits) where
         tickets = m .tickets;
         updates = m .updates ++ nextVersion m l t f ∷ [];
         lines = set (m .lines) l (record { source = x .source; start = x .start; shown = x .shown ++ suc (length (m .updates)) ∷ []; published = x .published });
+        windows = m .windows;
       }
 
-  -- PUBLISH adds 1 to the line's number published.
+  -- PUBLISH adds 1 to the line's number published. Inside a window, by the minute given and nothing else, it is held: it moves nothing, due or not.
   abbrev pub published : Model → ℕ → Model
   published m l =
       let x = lineAt m l in
@@ -150,10 +158,14 @@ module _ (L : Limits) where
         tickets = m .tickets;
         updates = m .updates;
         lines = m .lines ++ record { source = l; start = v; shown = take v (lineAt m l .shown); published = v } ∷ [];
+        windows = m .windows;
       }
 
   abbrev pub lineNumber : Model → ℕ → ℕ
   lineNumber m l = firstRefusal (lineRows l (length (m .lines)))
+
+  abbrev pub publishNumber : Model → ℕ → ℕ → ℕ
+  publishNumber m l minute = firstRefusal (publishRows l (length (m .lines)) minute)
 
   abbrev pub branchNumber : Model → ℕ → ℕ → ℕ
   branchNumber m l v = firstRefusal (branchRows l (length (m .lines)) v (lineAt m l .published))
@@ -178,10 +190,13 @@ module _ (L : Limits) where
   unfoldable pub onLine : Model → ℕ → Act → Stepped
   onLine m l (WRITE t f) = assignStep m l t f
   onLine m l (APPEND t) = assignStep m l t (blobSize (history m l))
-  onLine m l PUBLISH =
-      let k = lineNumber m l in
-      let d = due (history m l) in
-      (unless k m (either d (published m l) m), says (answers k (either d (publishedIs (suc (lineAt m l .published))) waiting)))
+  onLine m l (PUBLISH minute) =
+      let k = publishNumber m l minute in
+      let h = inside (m .windows) minute in
+      let d = due (history m l) in (
+        unless k m (either h m (either d (published m l) m)),
+        says (answers k (either h held (either d (publishedIs (suc (lineAt m l .published))) waiting))),
+      )
   onLine m l (BRANCH v) = let k = branchNumber m l v in (unless k m (branched m l v), says (answers k (lineIs (length (m .lines)))))
   onLine m l (READ v offset len buffer) =
       let k = readNumber m l v offset len buffer in
@@ -196,4 +211,5 @@ module _ (L : Limits) where
   onModel m (BEGIN n) = let k = beginNumber m n in (unless k m (begun m n), says (answers k (ticketIs (suc (length (m .tickets))))))
   onModel m (PUT t i bytes) = let k = putNumber m t i bytes in (unless k m (filledAt m t i bytes), says (answers k putDone))
   onModel m (WEAVE t) = let k = weaveNumber m t in (unless k m (woven m t), says (answers k (nodeAnswer m t)))
+  onModel m (SETWINDOWS t) = let k = textNumber t in (unless k m (withWindows m t), says (answers k windowsDone))
   onModel m (on l a) = onLine m l a

@@ -11,8 +11,8 @@ use lib.ListN.{length, set, length-append}
 use lib.Seq.{take-append-seam, set-append-seam, append-snoc, set-out}
 use lib.Dec.{ltb, eqb, eqb·suc-zero}
 use borrow.Author.Tests.{le-leb, lt-leb, lt-ltb, le-ltb}
-use Rattle.text.specs.Text.{pick, lineFeed, joined}
-use Rattle.parse.specs.Cut.{fresh, grown, fedBy, keptBy, unendedIn, textLines, handed, held, meantHanded, cutLines, CutMeans}
+use Rattle.text.specs.Text.{pick, lineFeed, joined, textLines}
+use Rattle.parse.specs.Cut.{fresh, grown, fedBy, keptBy, unendedIn, handed, held, meantHanded, cutLines, CutMeans}
 use Rattle.parse.specs.Steps.{meantOf}
 use Rattle.parse.specs.declared.Cutter.{Cutter}
 

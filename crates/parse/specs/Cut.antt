@@ -6,7 +6,7 @@ use mathlib.Core.List.{List, [], _∷_, map}
 use mathlib.Core.Option.{Option, none, some}
 use lib.ListN.{length, take, set}
 use lib.Dec.{leb, ltb, eqb}
-use Rattle.text.specs.Text.{pick, lineFeed, joined}
+use Rattle.text.specs.Text.{pick, lineFeed, textLines}
 use Rattle.parse.specs.Steps.{Meant, plainly, meantOf}
 use Rattle.parse.specs.declared.Cutter.{Cutter}
 use Rattle.parse.specs.declared.Fed.{Fed}
@@ -51,11 +51,6 @@ unfoldable pub cutMeant : Cutter → List ℕ → Meant
 cutMeant c l = meantHanded (held c l)
 
 -- ---- a whole text
-
--- the lines of a text: what stands before its line feeds, and what stands after the last one unless that is nothing
-abbrev pub textLines : List ℕ → List (List ℕ)
-textLines [] = []
-textLines (b ∷ t) = pick (eqb b lineFeed) ([] ∷ textLines t) (joined b (textLines t))
 
 -- a line as it is handed out with a buffer of room bytes: its bytes, or none where it is over
 abbrev pub handed : ℕ → List ℕ → Option (List ℕ)

@@ -5,9 +5,10 @@ use mathlib.Core.Option.{none, some}
 use Prim.Native.Nat.{ℕ, _-_, _^_}
 use lib.ListN.{replicate}
 use Rattle.text.specs.Quoted.{text, together}
+use Rattle.text.specs.Text.{textLines}
 use Rattle.fields.specs.Fields.{numberOf, hexValue}
 use Rattle.parse.specs.Steps.{Meant, plainly, meantOf, putOf, oneOf, twoOf, threeOf, putOrThree, fourOf, meantBy}
-use Rattle.parse.specs.Cut.{fresh, fedBy, keptBy, unendedIn, textLines, cutLines}
+use Rattle.parse.specs.Cut.{fresh, fedBy, keptBy, unendedIn, cutLines}
 use Rattle.parse.specs.declared.Step.{Step}
 use Rattle.parse.specs.declared.Step.the-variants as Step
 
@@ -24,12 +25,12 @@ input =
     text "APPEND,0,2\n" ∷
     text "APPEND,0,1\n" ∷
     text "WEAVE,1\n" ∷
-    text "PUBLISH,0\n" ∷
+    text "PUBLISH,0,0\n" ∷
     text "WEAVE,2\n" ∷
-    text "PUBLISH,0\n" ∷
+    text "PUBLISH,0,0\n" ∷
     text "READ,0,2,0,0\n" ∷
     text "WEAVE,1\n" ∷
-    text "PUBLISH,0\n" ∷
+    text "PUBLISH,0,0\n" ∷
     text "READ,0,2,14,4\n" ∷
     text "STAMP,0,2,0\n" ∷
     text "BEGIN,1\n" ∷ []
@@ -49,12 +50,12 @@ document-lines : map meantOf (textLines input) ≡
     plainly (Step.Append 0 2) ∷
     plainly (Step.Append 0 1) ∷
     plainly (Step.Weave 1) ∷
-    plainly (Step.Publish 0) ∷
+    plainly (Step.Publish 0 0) ∷
     plainly (Step.Weave 2) ∷
-    plainly (Step.Publish 0) ∷
+    plainly (Step.Publish 0 0) ∷
     plainly (Step.Read 0 2 0 0) ∷
     plainly (Step.Weave 1) ∷
-    plainly (Step.Publish 0) ∷
+    plainly (Step.Publish 0 0) ∷
     plainly (Step.Read 0 2 14 4) ∷
     plainly (Step.Stamp 0 2 0) ∷
     plainly (Step.Begin 1) ∷ []
@@ -67,12 +68,13 @@ other-lines :
     × (meantOf (text "PUT,2,0,") ≡ putting (Step.Put 2 0 0) [])
     × (meantOf (text "WRITE,1,3,4") ≡ plainly (Step.Write 1 3 4))
     × (meantOf (text "BRANCH,1,9") ≡ plainly (Step.Branch 1 9))
+    × (meantOf (text "PUBLISH,15,10080") ≡ plainly (Step.Publish 15 10080))
     × (meantOf (text "SIZE,1,0") ≡ plainly (Step.Size 1 0))
     × (meantOf (text "RECENT,15") ≡ plainly (Step.Recent 15))
     × (meantOf (text "BEGIN,18446744073709551615") ≡ plainly (Step.Begin (2 ^ 64 - 1)))
     × (meantOf (text "PUT,1,0," ++ replicate 592 97) ≡ putting (Step.Put 1 0 296) (replicate 296 170))
 unfolding meantOf meantBy oneOf twoOf threeOf putOf putOrThree fourOf numberOf hexValue
-other-lines = (refl, refl, refl, refl, refl, refl, refl, refl)
+other-lines = (refl, refl, refl, refl, refl, refl, refl, refl, refl)
 
 -- a malformed line
 abbrev Bad : List ℕ → Type 0
@@ -80,7 +82,7 @@ Bad l = meantOf l ≡ plainly Step.Malformed
 
 malformed :
     Bad []
-    × Bad (text "PUBLISH,0" ++ (13 ∷ []))
+    × Bad (text "PUBLISH,0,0" ++ (13 ∷ []))
     × Bad (text "BEGIN,1" ++ (0 ∷ []))
     × Bad (text "BEGIN, 1")
     × Bad (text "BEGIN")
@@ -94,14 +96,16 @@ malformed :
     × Bad (text "PUT,1,0,abc")
     × Bad (text "PUT,1,0,AB")
     × Bad (text "PUBLISH")
-    × Bad (text "PUBLISH,")
+    × Bad (text "PUBLISH,0")
+    × Bad (text "PUBLISH,0,")
+    × Bad (text "PUBLISH,0,0,0")
     × Bad (text "READ,2,0,0")
     × Bad (text "BRANCH,0")
     × Bad (text "FORMAT,16,4,8")
     × Bad (text "FORMAT,16,4,8,2,1")
     × Bad (text "PUT,1,0," ++ replicate 594 97)
 unfolding meantOf meantBy oneOf twoOf threeOf putOf putOrThree fourOf numberOf hexValue
-malformed = (refl, refl, refl, refl, refl, refl, refl, refl, refl, refl, refl, refl, refl, refl, refl, refl, refl, refl, refl, refl, refl)
+malformed = (refl, refl, refl, refl, refl, refl, refl, refl, refl, refl, refl, refl, refl, refl, refl, refl, refl, refl, refl, refl, refl, refl, refl)
 
 -- lines cut with a buffer of four bytes: an empty line, one that fills the buffer, one that is over, and a last one without a line feed
 cutting :

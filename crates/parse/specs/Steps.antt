@@ -27,8 +27,7 @@ oneOf w Not = Malformed
 oneOf w (Is a) =
     pick (same w (text "BEGIN")) (Begin a)
     (pick (same w (text "WEAVE")) (Weave a)
-    (pick (same w (text "PUBLISH")) (Publish a)
-    (pick (same w (text "RECENT")) (Recent a) Malformed)))
+    (pick (same w (text "RECENT")) (Recent a) Malformed))
 
 -- the step of a word and two numbers
 unfoldable pub twoOf : List ℕ → Number → Number → Step
@@ -36,8 +35,9 @@ twoOf w Not b = Malformed
 twoOf w (Is a) Not = Malformed
 twoOf w (Is a) (Is b) =
     pick (same w (text "APPEND")) (Append a b)
+    (pick (same w (text "PUBLISH")) (Publish a b)
     (pick (same w (text "BRANCH")) (Branch a b)
-    (pick (same w (text "SIZE")) (Size a b) Malformed))
+    (pick (same w (text "SIZE")) (Size a b) Malformed)))
 
 -- the step of a word and three numbers
 unfoldable pub threeOf : List ℕ → Number → Number → Number → Step

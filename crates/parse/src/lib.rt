@@ -12,7 +12,7 @@ use fields::field_count;
 use fields::number_in;
 use fields::word_is;
 
-// What a line of text asks for. A step that names a planning line has it first. Put holds how many page bytes the text has.
+// What a line of text asks for. A step that names a planning line has it first, and Publish the minute of the week last. Put holds how many page bytes the text has.
 pub enum Step {
     Format(u64, u64, u64, u64),
     Begin(u64),
@@ -20,7 +20,7 @@ pub enum Step {
     Write(u64, u64, u64),
     Append(u64, u64),
     Weave(u64),
-    Publish(u64),
+    Publish(u64, u64),
     Branch(u64, u64),
     Read(u64, u64, u64, u64),
     Size(u64, u64),
@@ -61,9 +61,6 @@ fn one(w: &[u8], a: Number) -> Step
     if word_is(w, b"WEAVE") {
         return Step::Weave(a);
     }
-    if word_is(w, b"PUBLISH") {
-        return Step::Publish(a);
-    }
     if word_is(w, b"RECENT") {
         return Step::Recent(a);
     }
@@ -82,6 +79,9 @@ fn two(w: &[u8], a: Number, b: Number) -> Step
     };
     if word_is(w, b"APPEND") {
         return Step::Append(a, b);
+    }
+    if word_is(w, b"PUBLISH") {
+        return Step::Publish(a, b);
     }
     if word_is(w, b"BRANCH") {
         return Step::Branch(a, b);

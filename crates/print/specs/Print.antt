@@ -5,7 +5,7 @@ use lib.Dec.{ltb}
 use Rattle.text.specs.Quoted.{text}
 use Rattle.text.specs.Text.{pick, comma, lineFeed}
 use Rattle.print.specs.declared.Reply.{Reply}
-use Rattle.print.specs.declared.Reply.the-variants.{Ok, Ticket, Put, Version, Node, Published, Waiting, Line, Size, Recent, Stamp, Refused}
+use Rattle.print.specs.declared.Reply.the-variants.{Ok, Ticket, Put, Version, Node, Published, Waiting, Held, Line, Size, Recent, Stamp, Refused}
 
 -- n in at most k decimal digits
 unfoldable pub digits : ℕ → ℕ → List ℕ
@@ -34,6 +34,7 @@ replyLine (Version v n) = lineOf (text "version") (v ∷ n ∷ [])
 replyLine (Node v f s l r n) = lineOf (text "node") (v ∷ f ∷ s ∷ l ∷ r ∷ n ∷ [])
 replyLine (Published v) = lineOf (text "published") (v ∷ [])
 replyLine Waiting = lineOf (text "waiting") []
+replyLine Held = lineOf (text "held") []
 replyLine (Line l) = lineOf (text "line") (l ∷ [])
 replyLine (Size n) = lineOf (text "size") (n ∷ [])
 replyLine (Recent v) = lineOf (text "recent") (v ∷ [])

@@ -1,13 +1,15 @@
--- PUBLISH line: what it answers and leaves, over any store and areas.
-use mathlib.Core.Bool.{Bool, true, false, _&&_}
+-- PUBLISH line minute: what it answers and leaves, over any store, windows and areas.
+use mathlib.Core.Bool.{Bool, true, false, not, _&&_}
 use Prim.Native.Nat.{ℕ, zero, suc, _+_, _-_, _^_, min}
 use lib.Dec.{ltb, eqb}
 use Rattle.lines.specs.Lines.{numberOf}
 use Rattle.lines.specs.declared.Branch.{Branch}
 use Rattle.register.specs.Register.{updateOf, versionPart}
 use Rattle.register.specs.declared.Part.{Part}
-use Rattle.table.specs.Table.{_and_, test, everyCall, firstRefusal, unless, lineRows}
+use Rattle.table.specs.Table.{Cond, _and_, test, everyCall, firstRefusal, unless, publishRows}
 use Rattle.versions.specs.declared.Store.{Store}
+use Rattle.windows.specs.declared.Windows.{Windows}
+use Rattle.windows.specs.Windows.{inside}
 use Rattle.publish.specs.declared.Published.{Published}
 use Rattle.publish.specs.declared.Published.the-variants as Published
 use Rattle.publish.specs.declared.PublishOut.{PublishOut}
@@ -28,10 +30,14 @@ nextNumber s l = numberBy l (lineIn s l)
 abbrev pub nextPart : Store → Areas → ℕ → Part
 nextPart s a l = versionPart (a .register) (nextNumber s l)
 
-unfoldable pub publishNumber : Store → Areas → ℕ → ℕ
-publishNumber s a l =
+-- Inside a window no record is looked at; `held` is that the minute is inside one.
+abbrev pub lost : Bool → Branch → Part → ℕ → Cond
+lost held b q c = test (not held && hasNext b) and notThere q c
+
+unfoldable pub publishNumber : Store → Windows → Areas → ℕ → ℕ → ℕ
+publishNumber s w a l minute =
     firstRefusal
-    (everyCall (areasDiffer s a) (lineRows l (linesIn s)) (test (hasNext (lineIn s l)) and notThere (nextPart s a l) (nextNumber s l)))
+    (everyCall (areasDiffer s a) (publishRows l (linesIn s) minute) (lost (inside (w .places) minute) (lineIn s l) (nextPart s a l) (nextNumber s l)))
 
 -- It is there, and as many of its nodes are woven as it has; q is its record's part.
 unfoldable pub dueBy : Branch → Part → Bool
@@ -41,21 +47,24 @@ dueBy b q = hasNext b && eqb (q .woven) (q .count)
 abbrev pub withPublished : Branch → Branch
 withPublished b = record { source = b .source; start = b .start; assigned = b .assigned; published = record { 0 = suc (b .published .0) }; blob = b .blob }
 
-abbrev pub published : ℕ → Bool → ℕ → Published
-published zero true v = Published.Now (record { 0 = v })
-published zero false v = Published.Waiting
-published (suc k) d v = Published.Refused (suc k)
+-- The answer, by the table's number, whether the minute is inside a window, and whether version v is due.
+abbrev pub published : ℕ → Bool → Bool → ℕ → Published
+published zero true d v = Published.Held
+published zero false true v = Published.Now (record { 0 = v })
+published zero false false v = Published.Waiting
+published (suc k) h d v = Published.Refused (suc k)
 
 abbrev pub storeIf : Bool → Store → Store → Store
 storeIf true s r = s
 storeIf false s r = r
 
--- What PUBLISH gives back, by the table's number k and whether the next version is due.
-abbrev pub publishedBy : Store → ℕ → ℕ → Bool → PublishOut
-publishedBy s l k due = record {
-  store = unless k s (storeIf due (withLine s l (withPublished (lineIn s l))) s);
-  answer = published k due (suc (lineIn s l .published .0));
+-- What PUBLISH gives back, by the table's number k, whether the minute is inside a window, and whether the next version is due: inside one nothing moves.
+abbrev pub publishedBy : Store → ℕ → ℕ → Bool → Bool → PublishOut
+publishedBy s l k held due = record {
+  store = unless k s (storeIf (not held && due) (withLine s l (withPublished (lineIn s l))) s);
+  answer = published k held due (suc (lineIn s l .published .0));
 }
 
-abbrev pub publishOut : Store → Areas → ℕ → PublishOut
-publishOut s a l = publishedBy s l (publishNumber s a l) (dueBy (lineIn s l) (nextPart s a l))
+abbrev pub publishOut : Store → Windows → Areas → ℕ → ℕ → PublishOut
+publishOut s w a l minute =
+    publishedBy s l (publishNumber s w a l minute) (inside (w .places) minute) (dueBy (lineIn s l) (nextPart s a l))

@@ -1,11 +1,10 @@
-// PUBLISH: the version after a line's last published one, if it is woven whole.
+// PUBLISH: the version after a line's last published one, if it is woven whole; inside a window none.
 ghost use mathlib.Core.Path.{_≡_};
-ghost use mathlib.Core.Bool.{true};
+ghost use mathlib.Core.Bool.{true, not, _&&_};
 ghost use mathlib.Core.List.{[], _∷_};
-ghost use Rattle.table.specs.Table.{_gives_, _and_, test, firstRefusal, orElse};
+ghost use Rattle.table.specs.Table.{_<?_, _gives_, firstRefusal, orElse};
 ghost use Rattle.versions.specs.Store.{areasOf, lineIn};
-ghost use Rattle.versions.specs.Size.{notThere};
-ghost use Rattle.publish.specs.Publish.{hasNext, numberBy, dueBy, publishedBy, publishOut};
+ghost use Rattle.publish.specs.Publish.{hasNext, numberBy, lost, dueBy, publishedBy, publishOut};
 use lines::Branch;
 use lines::Line;
 use lines::number_of;
@@ -19,11 +18,14 @@ use versions::lengths_of;
 use versions::line_refusal;
 use versions::line_state;
 use versions::with_line;
+use windows::Windows;
+use windows::is_inside;
 
 // What PUBLISH answers.
 pub enum Published {
     Now(Version),
     Waiting,
+    Held,
     Refused(u64),
 }
 
@@ -39,12 +41,19 @@ fn next_number(l: Line, b: Branch) -> u64
     number_of(l, Version(capped_sum(b.published.0, 1)))
 }
 
-// The refusal of PUBLISH, by the number k of rows 3 and 20, with the line's state b and the part q of its next version, numbered c.
-fn publish_refusal(k: u64, b: Branch, q: Part, c: u64) -> u64
-    ensures { λ r. ⌜ r ≡ orElse k (firstRefusal ((test (hasNext b) and notThere q c gives 19) ∷ [])) ⌝ }
+// The refusal of PUBLISH at a minute, by the number k of rows 3 and 20: `held` where the minute is inside a window; the line's state b, and the part q of its next
+// version, numbered c.
+fn publish_refusal(k: u64, minute: u64, held: bool, b: Branch, q: Part, c: u64) -> u64
+    ensures { λ r. ⌜ r ≡ orElse k (firstRefusal ((10079 <? minute gives 22) ∷ (lost held b q c gives 19) ∷ [])) ⌝ }
 {
     if k != 0 {
         return k;
+    }
+    if minute > 10079 {
+        return 22;
+    }
+    if held {
+        return 0;
     }
     if b.assigned.0 <= b.published.0 {
         return 0;
@@ -65,15 +74,21 @@ fn is_due(b: Branch, q: Part) -> bool
     q.woven == q.count
 }
 
-// What PUBLISH gives back, by the table's number k and whether the next version is due, so that there is one.
-fn published_by(s: Store, l: Line, k: u64, due: bool) -> PublishOut
+// What PUBLISH gives back, by the table's number k, whether the minute is inside a window, and whether the next version is due, so that there is one.
+fn published_by(s: Store, l: Line, k: u64, held: bool, due: bool) -> PublishOut
     requires { ⌜ (due ≡ true → hasNext (lineIn s (l .0)) ≡ true) ⌝ }
-    ensures { λ r. ⌜ r ≡ publishedBy s (l .0) k due ⌝ }
+    ensures { λ r. ⌜ r ≡ publishedBy s (l .0) k held due ⌝ }
 {
     if k != 0 {
         return PublishOut {
             store: s,
             answer: Published::Refused(k),
+        };
+    }
+    if held {
+        return PublishOut {
+            store: s,
+            answer: Published::Held,
         };
     }
     if !due {
@@ -91,16 +106,25 @@ fn published_by(s: Store, l: Line, k: u64, due: bool) -> PublishOut
     }
 }
 
-// PUBLISH line: the version after the last published one of the line, if it is woven whole.
-pub fn publish(s: Store, pages: &[u8], nodes: &[u32], register: &[Record], l: Line) -> PublishOut
+// PUBLISH line, minute: the version after the last published one of the line, if it is woven whole and the minute is inside no window.
+pub fn publish(
+    s: Store,
+    w: Windows,
+    pages: &[u8],
+    nodes: &[u32],
+    register: &[Record],
+    l: Line,
+    minute: u64,
+) -> PublishOut
     ensures { λ r.
         let a = areasOf (now (pages .entry)) (now (nodes .entry)) (now (register .entry)) in
-        ⌜ r ≡ publishOut s a (l .0) ⌝ }
+        ⌜ r ≡ publishOut s w a (l .0) minute ⌝ }
 {
     let g = lengths_of(pages, nodes, register);
     let b = line_state(s, l);
     let c = next_number(l, b);
     let q = version_part(register, c);
-    let k = publish_refusal(line_refusal(s, g, l), b, q, c);
-    published_by(s, l, k, is_due(b, q))
+    let held = is_inside(w, minute);
+    let k = publish_refusal(line_refusal(s, g, l), minute, held, b, q, c);
+    published_by(s, l, k, held, is_due(b, q))
 }

@@ -30,11 +30,17 @@ use Rattle.stamp.specs.declared.Stamped.the-variants as Stamped
 use Rattle.view.specs.declared.Viewed.{Viewed}
 use Rattle.view.specs.declared.Viewed.the-variants as Viewed
 use Rattle.lines.specs.Lines.{noLines}
+use Rattle.windows.specs.declared.Windows.{Windows}
+use Rattle.windows.specs.Windows.{noWindows}
+use Rattle.set_windows.specs.declared.WindowsSet.{WindowsSet}
+use Rattle.set_windows.specs.declared.WindowsSet.the-variants as WindowsSet
+use Rattle.set_windows.specs.declared.WindowsOut.{WindowsOut}
 use Rattle.replies.specs.declared.FormatReply.{FormatReply}
 use Rattle.replies.specs.declared.BeginReply.{BeginReply}
 use Rattle.replies.specs.declared.AssignReply.{AssignReply}
 use Rattle.replies.specs.declared.WeaveReply.{WeaveReply}
 use Rattle.replies.specs.declared.PublishReply.{PublishReply}
+use Rattle.replies.specs.declared.WindowsReply.{WindowsReply}
 use Rattle.replies.specs.declared.BranchReply.{BranchReply}
 use Rattle.replies.specs.declared.SizeReply.{SizeReply}
 use Rattle.replies.specs.declared.VersionReply.{VersionReply}
@@ -56,10 +62,10 @@ noStore = record {
   lines = noLines;
 }
 
--- FORMAT: the store that it made; where it is refused, all zeros.
+-- FORMAT: the store that it made and its windows; where it is refused, all zeros.
 abbrev pub formatReply : Formatted → FormatReply
-formatReply (Formatted.Made s) = record { refusal = 0; store = s }
-formatReply (Formatted.Refused k) = record { refusal = k; store = noStore }
+formatReply (Formatted.Made s w) = record { refusal = 0; store = s; windows = w }
+formatReply (Formatted.Refused k) = record { refusal = k; store = noStore; windows = noWindows }
 
 -- BEGIN: the store, and the ticket; 0 where it is refused.
 abbrev pub begunReply : Store → Begun → BeginReply
@@ -95,14 +101,23 @@ weaveReply (Woven.Node x) = record {
 }
 weaveReply (Woven.Refused k) = record { refusal = k; version = 0; first = 0; span = 0; left = 0; right = 0; rest = 0 }
 
--- PUBLISH: the store, and the version that is now published; 0 where it waits and where it is refused.
+-- PUBLISH: the store, the version that is now published, and 1 where it is held; both 0 where it waits and where it is refused.
 abbrev pub publishedReply : Store → Published → PublishReply
-publishedReply s (Published.Now v) = record { refusal = 0; store = s; version = v .0 }
-publishedReply s Published.Waiting = record { refusal = 0; store = s; version = 0 }
-publishedReply s (Published.Refused k) = record { refusal = k; store = s; version = 0 }
+publishedReply s (Published.Now v) = record { refusal = 0; store = s; version = v .0; held = 0 }
+publishedReply s Published.Waiting = record { refusal = 0; store = s; version = 0; held = 0 }
+publishedReply s Published.Held = record { refusal = 0; store = s; version = 0; held = 1 }
+publishedReply s (Published.Refused k) = record { refusal = k; store = s; version = 0; held = 0 }
 
 abbrev pub publishReply : PublishOut → PublishReply
 publishReply out = publishedReply (out .store) (out .answer)
+
+-- SETWINDOWS: the windows, new or as they were.
+abbrev pub windowsSetReply : Windows → WindowsSet → WindowsReply
+windowsSetReply w WindowsSet.Done = record { refusal = 0; windows = w }
+windowsSetReply w (WindowsSet.Refused k) = record { refusal = k; windows = w }
+
+abbrev pub windowsReply : WindowsOut → WindowsReply
+windowsReply out = windowsSetReply (out .windows) (out .answer)
 
 -- BRANCH: the store, and the new line; 0 where it is refused.
 abbrev pub branchedReply : Store → Branched → BranchReply

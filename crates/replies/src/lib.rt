@@ -1,7 +1,7 @@
 // What each call replies to C: structs of plain numbers, from the call's own answer, each by its definition in specs/Replies.
 // A reply begins with the number of the refusal, 0 where the call was accepted.
 ghost use mathlib.Core.Path.{_≡_};
-ghost use Rattle.replies.specs.Replies.{noStore, formatReply, beginReply, putReply, assignReply, weaveReply, publishReply, branchReply, readReply, sizeReply, recentReply, stampReply, viewReply};
+ghost use Rattle.replies.specs.Replies.{noStore, formatReply, beginReply, putReply, assignReply, weaveReply, publishReply, windowsReply, branchReply, readReply, sizeReply, recentReply, stampReply, viewReply};
 use assign::AssignOut;
 use assign::Assigned;
 use begin::BeginOut;
@@ -14,18 +14,23 @@ use publish::PublishOut;
 use publish::Published;
 use put::PutIn;
 use read::Filled;
+use set_windows::WindowsOut;
+use set_windows::WindowsSet;
 use stamp::Stamped;
 use versions::Latest;
 use versions::Sized;
 use versions::Store;
 use view::Viewed;
 use weave::Woven;
+use windows::Windows;
+use windows::no_windows;
 
-// What FORMAT replies: the store, which is all zeros where FORMAT is refused.
+// What FORMAT replies: the store, which is all zeros where FORMAT is refused, and its windows, of which there are none.
 #[repr(C)]
 pub struct FormatReply {
     pub refusal: u64,
     pub store: Store,
+    pub windows: Windows,
 }
 
 // What BEGIN replies. The ticket is 0 where BEGIN is refused.
@@ -57,12 +62,20 @@ pub struct WeaveReply {
     pub rest: u64,
 }
 
-// What PUBLISH replies: the version that it published; 0 is "waiting", or a refusal.
+// What PUBLISH replies: the version that it published, and 1 where it is held; both 0 is "waiting", or a refusal.
 #[repr(C)]
 pub struct PublishReply {
     pub refusal: u64,
     pub store: Store,
     pub version: u64,
+    pub held: u64,
+}
+
+// What SETWINDOWS replies: the windows as it leaves them.
+#[repr(C)]
+pub struct WindowsReply {
+    pub refusal: u64,
+    pub windows: Windows,
 }
 
 // What BRANCH replies: the new line; 0 where it is refused.
@@ -108,10 +121,15 @@ pub fn format_reply(out: Formatted) -> FormatReply
     ensures { λ r. ⌜ r ≡ formatReply out ⌝ }
 {
     match out {
-        Formatted::Made(store) => FormatReply { refusal: 0, store },
+        Formatted::Made(store, windows) => FormatReply {
+            refusal: 0,
+            store,
+            windows,
+        },
         Formatted::Refused(k) => FormatReply {
             refusal: k,
             store: no_store(),
+            windows: no_windows(),
         },
     }
 }
@@ -200,16 +218,42 @@ pub fn publish_reply(out: PublishOut) -> PublishReply
             refusal: 0,
             store,
             version: v.0,
+            held: 0,
         },
         Published::Waiting => PublishReply {
             refusal: 0,
             store,
             version: 0,
+            held: 0,
+        },
+        Published::Held => PublishReply {
+            refusal: 0,
+            store,
+            version: 0,
+            held: 1,
         },
         Published::Refused(k) => PublishReply {
             refusal: k,
             store,
             version: 0,
+            held: 0,
+        },
+    }
+}
+
+pub fn windows_reply(out: WindowsOut) -> WindowsReply
+    ensures { λ r. ⌜ r ≡ windowsReply out ⌝ }
+{
+    let windows = out.windows;
+    let answer = out.answer;
+    match answer {
+        WindowsSet::Done => WindowsReply {
+            refusal: 0,
+            windows,
+        },
+        WindowsSet::Refused(k) => WindowsReply {
+            refusal: k,
+            windows,
         },
     }
 }

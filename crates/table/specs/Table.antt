@@ -129,10 +129,20 @@ weaveRows there kept t tickets version woven count =
     ∷ (there and version ≡? 0 or there and kept and count ≤? woven gives 8)
     ∷ []
 
--- ---- PUBLISH and RECENT of line l, of so many lines
+-- ---- RECENT of line l, of so many lines
 
 unfoldable pub lineRows : ℕ → ℕ → List Row
 lineRows l lines = (noLine l lines gives 20) ∷ []
+
+-- ---- PUBLISH of line l at a minute of the week, 0 to 10,079
+
+unfoldable pub publishRows : ℕ → ℕ → ℕ → List Row
+publishRows l lines minute = (noLine l lines gives 20) ∷ (10079 <? minute gives 22) ∷ []
+
+-- ---- SETWINDOWS by a text of so many lines, at most 32; `wrong` where one of them is no window
+
+unfoldable pub windowRows : Bool → ℕ → List Row
+windowRows wrong lines = (test wrong gives 23) ∷ (32 <? lines gives 24) ∷ []
 
 -- ---- BRANCH from version v of line l; at most sixteen lines
 

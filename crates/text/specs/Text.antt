@@ -28,3 +28,8 @@ same (a ∷ l) (b ∷ m) = eqb a b && same l m
 abbrev pub joined : ℕ → List (List ℕ) → List (List ℕ)
 joined b [] = (b ∷ []) ∷ []
 joined b (f ∷ fs) = (b ∷ f) ∷ fs
+
+-- the lines of a text: what stands before its line feeds, and what stands after the last one unless that is nothing
+abbrev pub textLines : List ℕ → List (List ℕ)
+textLines [] = []
+textLines (b ∷ t) = pick (eqb b lineFeed) ([] ∷ textLines t) (joined b (textLines t))

@@ -20,6 +20,7 @@ use tree::PageIndex;
 use tree::Ticket;
 use tree::Version;
 use versions::ByteOffset;
+use windows::no_windows;
 
 pub fn format_step(
     kept: Kept,
@@ -111,15 +112,17 @@ pub fn weave_step(
     weave_turn(kept, a, out)
 }
 
+// The program has no line that sets windows: there are none.
 pub fn publish_step(
     kept: Kept,
     l: Line,
+    minute: u64,
     pages: &[u8],
     nodes: &[u32],
     register: &[Record],
     out: &mut [u8],
 ) -> Turn {
-    let a = publish::publish(kept.store, pages, nodes, register, l);
+    let a = publish::publish(kept.store, no_windows(), pages, nodes, register, l, minute);
     publish_turn(kept, a, out)
 }
 

@@ -38,7 +38,7 @@ pub enum Note {
 
 // Those that change no area.
 pub enum Look {
-    Publish(u64),
+    Publish(u64, u64),
     Branch(u64, u64),
     Read(u64, u64, u64, u64),
     Size(u64, u64),
@@ -114,7 +114,7 @@ fn wanted_by(step: Step) -> Wanted
         Step::Write(l, t, f) => Wanted::Note(Note::Write(l, t, f)),
         Step::Append(l, t) => Wanted::Note(Note::Append(l, t)),
         Step::Weave(t) => Wanted::Fill(Fill::Weave(t)),
-        Step::Publish(l) => Wanted::Look(Look::Publish(l)),
+        Step::Publish(l, k) => Wanted::Look(Look::Publish(l, k)),
         Step::Branch(l, v) => Wanted::Look(Look::Branch(l, v)),
         Step::Read(l, v, o, n) => read_wanted(l, v, o, n),
         Step::Size(l, v) => Wanted::Look(Look::Size(l, v)),

@@ -5,17 +5,19 @@ use super::{derived, old};
 use crate::areas::{Areas, Lend, Limits, Parts, MOST_PAGES};
 use crate::checksum::Checksum;
 use crate::counters::Line;
-use crate::ffi::{Entries, LineState, Record, State, LINES};
+use crate::ffi::{Entries, LineState, Record, State, Window, Windows, LINES};
 use std::convert::Infallible;
 use std::io::{self, Read};
 
 /// The first eight bytes of every file.
 const MAGIC: [u8; 8] = *b"PITSTORE";
-/// How many numbers of 64 bits a state and a record have, in the files that are written here.
+/// How many numbers of 64 bits a state, the windows and a record have, in the files that are written here. Two windows are
+/// one such number.
 const STATE: usize = 10 + LINES;
+const WINDOWS: usize = 32 / 2;
 const RECORD: usize = 18;
-/// The header's numbers: the magic and the form, the state, three lengths and the checksum.
-const HEADER_NUMBERS: usize = 2 + STATE + 4;
+/// The header's numbers: the magic and the form, the state, the windows, three lengths and the checksum.
+const HEADER_NUMBERS: usize = 2 + STATE + WINDOWS + 4;
 const HEADER: usize = 8 * HEADER_NUMBERS;
 /// A node's length in bytes.
 const NODE: u64 = 8;
@@ -29,13 +31,15 @@ enum Form {
     OneLine = 1,
     /// With lines' numbers one by one, and records without what follows from the rest.
     Lines = 2,
-    /// As files are written here.
+    /// With lines packed, and no windows.
     Packed = 3,
+    /// As files are written here.
+    Windows = 4,
 }
 
 impl Form {
     fn of(number: u64) -> Option<Form> {
-        let forms = [Form::OneLine, Form::Lines, Form::Packed];
+        let forms = [Form::OneLine, Form::Lines, Form::Packed, Form::Windows];
         forms.into_iter().find(|form| *form as u64 == number)
     }
 
@@ -44,7 +48,8 @@ impl Form {
         match self {
             Form::OneLine => 8 * (2 + old::STATE_1 + 4),
             Form::Lines => 8 * (2 + old::STATE_2 + 4),
-            Form::Packed => HEADER,
+            Form::Packed => HEADER - 8 * WINDOWS,
+            Form::Windows => HEADER,
         }
     }
 
@@ -53,7 +58,7 @@ impl Form {
         match self {
             Form::OneLine => 8 * old::RECORD_1 as u64,
             Form::Lines => 8 * old::RECORD_2 as u64,
-            Form::Packed => 8 * RECORD as u64,
+            Form::Packed | Form::Windows => 8 * RECORD as u64,
         }
     }
 }
@@ -64,6 +69,7 @@ pub struct Header {
     pub state: State,
     /// The state's lines as the file has them: a file of an earlier form may have numbers that cannot be packed.
     lines: [LineState; LINES],
+    pub windows: Windows,
     /// In bytes: the page area, the node area, the register.
     lengths: [u64; 3],
     checksum: u64,
@@ -71,16 +77,17 @@ pub struct Header {
 
 impl Header {
     /// A store's header.
-    pub fn of(state: State, areas: Parts<'_>) -> Header {
+    pub fn of(state: State, windows: Windows, areas: Parts<'_>) -> Header {
         let lengths = [
             areas.pages.len(),
             4 * areas.nodes.len(),
             8 * RECORD * areas.register.len(),
         ];
         let mut header = Header {
-            form: Form::Packed,
+            form: Form::Windows,
             state,
             lines: lines_of(&state),
+            windows,
             lengths: lengths.map(|length| length as u64),
             checksum: 0,
         };
@@ -98,7 +105,7 @@ impl Header {
         }
         let form = match numbers_of(&bytes).nth(1) {
             Some(number) => Form::of(number).ok_or(FileError::Form(number))?,
-            None => Form::Packed, // cut off before it
+            None => Form::Windows, // cut off before it
         };
         let rest = form.header() - bytes.len();
         file.take(rest as u64).read_to_end(&mut bytes)?;
@@ -116,7 +123,7 @@ impl Header {
         let (mut state, lines) = match form {
             Form::OneLine => old::state_of_1(next(&mut numbers)),
             Form::Lines => old::state_of_2(next(&mut numbers)),
-            Form::Packed => {
+            Form::Packed | Form::Windows => {
                 let state = state_of(next(&mut numbers));
                 (state, lines_of(&state))
             }
@@ -124,25 +131,28 @@ impl Header {
         for (at, line) in (0..).zip(lines) {
             state.set_line(Line(at), line);
         }
+        let windows = match form {
+            Form::Windows => windows_of(next(&mut numbers)),
+            _ => Windows::default(),
+        };
         let lengths = next(&mut numbers);
         let [checksum] = next(&mut numbers);
         Header {
             form,
             state,
             lines,
+            windows,
             lengths,
             checksum,
         }
     }
 
     pub fn to_bytes(&self) -> [u8; HEADER] {
-        let mut numbers = [0; HEADER_NUMBERS];
-        numbers[0] = u64::from_le_bytes(MAGIC);
-        numbers[1] = Form::Packed as u64;
-        numbers[2..2 + STATE].copy_from_slice(&numbers_of_state(&self.state));
-        numbers[2 + STATE..HEADER_NUMBERS - 1].copy_from_slice(&self.lengths);
-        numbers[HEADER_NUMBERS - 1] = self.checksum;
-        to_bytes(&numbers)
+        let front = [u64::from_le_bytes(MAGIC), Form::Windows as u64];
+        let numbers = front.into_iter().chain(numbers_of_state(&self.state));
+        let numbers = numbers.chain(numbers_of_windows(&self.windows));
+        let mut numbers = numbers.chain(self.lengths).chain([self.checksum]);
+        to_bytes(&next::<HEADER_NUMBERS>(&mut numbers))
     }
 
     pub fn limits(&self) -> Limits {
@@ -187,6 +197,15 @@ impl Header {
             Ok(())
         } else {
             Err(FileError::Counters)
+        }
+    }
+
+    /// The windows are such as SETWINDOWS leaves.
+    pub fn check_windows(&self) -> Result<(), FileError> {
+        if self.windows.are_set() {
+            Ok(())
+        } else {
+            Err(FileError::Windows)
         }
     }
 
@@ -239,7 +258,7 @@ impl Header {
             *record = match self.form {
                 Form::OneLine => old::record_of_1(next(numbers), number, self.state.assigned),
                 Form::Lines => old::record_of_2(next(numbers)),
-                Form::Packed => record_of(next(numbers)),
+                Form::Packed | Form::Windows => record_of(next(numbers)),
             };
         }
         Ok(())
@@ -329,6 +348,26 @@ fn numbers_of_state(s: &State) -> [u64; STATE] {
 fn state_of(numbers: [u64; STATE]) -> State {
     let [size, pages, nodes, updates, tickets, taken, assigned, places, begun, sources, lines @ ..] = numbers;
     State { size, pages, nodes, updates, tickets, taken, assigned, places, begun, sources, lines }
+}
+
+/// Two windows a number, the first one lowest, and in each `from`.
+fn numbers_of_windows(windows: &Windows) -> [u64; WINDOWS] {
+    let word = |w: &Window| u64::from(w.from) | (u64::from(w.to) << 16);
+    let pair = |pair: &[Window]| (word(&pair[1]) << 32) | word(&pair[0]);
+    next(&mut windows.places.chunks_exact(2).map(pair))
+}
+
+fn windows_of(numbers: [u64; WINDOWS]) -> Windows {
+    let window = |word: u64| Window {
+        from: word as u16,
+        to: (word >> 16) as u16,
+    };
+    let words = numbers.into_iter().flat_map(|pair| [pair, pair >> 32]);
+    let mut windows = Windows::default();
+    for (place, word) in windows.places.iter_mut().zip(words) {
+        *place = window(word);
+    }
+    windows
 }
 
 #[rustfmt::skip]

@@ -1,4 +1,4 @@
-//! Files of earlier forms, of which the rest of a store is derived. Form 1 is from before there were lines: such a store has
+//! Files of forms 1 and 2, of which the rest of a store is derived. Form 1 is from before there were lines: such a store has
 //! line 0 alone. Form 2 has the numbers of a line one by one. Records of both have a first node place, and nothing that
 //! follows from the rest.
 

@@ -19,7 +19,7 @@ fn a_write_at_the_size_and_one_past_it() {
         WEAVE,2 > node,2,0,4,1,2,2
         WEAVE,2 > node,2,2,2,2,0,1
         WEAVE,2 > node,2,2,1,2,0,0
-        PUBLISH,0 > waiting",
+        PUBLISH,0,0 > waiting",
     );
 }
 
@@ -44,7 +44,7 @@ fn an_update_of_64_pages_whole() {
     let mut lines = vec!["FORMAT,16,64,127,1".to_string()];
     lines.extend(update(1, 64, "APPEND,0,1"));
     lines.extend(vec!["WEAVE,1".to_string(); 128]);
-    lines.push("PUBLISH,0".to_string());
+    lines.push("PUBLISH,0,0".to_string());
     lines.push("SIZE,0,1".to_string());
     let offsets = (0..=1_024).step_by(128);
     lines.extend(offsets.map(|offset| format!("READ,0,1,{offset},128")));
@@ -73,7 +73,7 @@ fn a_read_ending_at_the_size_and_one_byte_past() {
         WEAVE,1 > node,1,0,2,1,1,2
         WEAVE,1 > node,1,0,1,0,0,1
         WEAVE,1 > node,1,1,1,1,0,0
-        PUBLISH,0 > published,1
+        PUBLISH,0,0 > published,1
         SIZE,0,1 > size,32
         READ,0,1,30,2 > bytes,1212
         READ,0,1,30,3 > refused,17

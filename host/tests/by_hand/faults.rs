@@ -21,7 +21,7 @@ fn fault_a_lower_version_still_in_work() {
         WEAVE,1 > node,1,2,2,1,1,2
         WEAVE,1 > node,1,2,1,2,0,1
         WEAVE,1 > node,1,3,1,3,0,0
-        PUBLISH,0 > published,1
+        PUBLISH,0,0 > published,1
         BEGIN,1 > ticket,2
         BEGIN,2 > ticket,3
         PUT,2,0,<20> > put
@@ -33,15 +33,15 @@ fn fault_a_lower_version_still_in_work() {
         WEAVE,2 > node,3,4,4,3,0,2
         WEAVE,2 > node,3,4,2,3,0,1
         WEAVE,2 > node,3,4,1,4,0,0
-        PUBLISH,0 > waiting
+        PUBLISH,0,0 > waiting
         WEAVE,3 > node,2,0,4,2,2,4
         WEAVE,3 > node,2,0,2,1,2,3
         WEAVE,3 > node,2,1,1,5,0,2
         WEAVE,3 > node,2,2,2,2,1,1
-        PUBLISH,0 > waiting
+        PUBLISH,0,0 > waiting
         WEAVE,3 > node,2,2,1,6,0,0
-        PUBLISH,0 > published,2
-        PUBLISH,0 > published,3
+        PUBLISH,0,0 > published,2
+        PUBLISH,0,0 > published,3
         STAMP,0,3,0 > stamp,1
         STAMP,0,3,1 > stamp,2
         STAMP,0,3,2 > stamp,2
@@ -80,14 +80,14 @@ fn fault_children_not_stored_yet() {
         WEAVE,2 > node,2,0,2,1,2,1
         WEAVE,3 > node,3,0,1,3,0,0
         WEAVE,2 > node,2,1,1,2,0,0
-        PUBLISH,0 > waiting
+        PUBLISH,0,0 > waiting
         WEAVE,1 > node,1,0,2,1,1,2
         WEAVE,1 > node,1,0,1,0,0,1
         WEAVE,1 > node,1,1,1,1,0,0
-        PUBLISH,0 > published,1
-        PUBLISH,0 > published,2
-        PUBLISH,0 > published,3
-        PUBLISH,0 > waiting
+        PUBLISH,0,0 > published,1
+        PUBLISH,0,0 > published,2
+        PUBLISH,0,0 > published,3
+        PUBLISH,0,0 > waiting
         READ,0,1,15,2 > bytes,1112
         READ,0,2,15,2 > bytes,1121
         READ,0,3,15,2 > bytes,3121
@@ -126,26 +126,26 @@ fn fault_publishing_out_of_order() {
     agree_on(
         "
         FORMAT,16,8,32,4 > ok
-        PUBLISH,0 > waiting
+        PUBLISH,0,0 > waiting
         BEGIN,1 > ticket,1
         BEGIN,1 > ticket,2
-        PUBLISH,0 > waiting
+        PUBLISH,0,0 > waiting
         PUT,1,0,<11> > put
         PUT,2,0,<21> > put
         APPEND,0,1 > version,1,1
-        PUBLISH,0 > waiting
+        PUBLISH,0,0 > waiting
         WRITE,0,2,0 > version,2,1
         WEAVE,2 > node,2,0,1,1,0,0
-        PUBLISH,0 > waiting
+        PUBLISH,0,0 > waiting
         RECENT,0 > recent,0
         READ,0,2,0,1 > refused,16
         WEAVE,1 > node,1,0,1,0,0,0
-        PUBLISH,0 > published,1
+        PUBLISH,0,0 > published,1
         RECENT,0 > recent,1
         READ,0,2,0,1 > refused,16
         READ,0,1,0,1 > bytes,11
-        PUBLISH,0 > published,2
-        PUBLISH,0 > waiting
+        PUBLISH,0,0 > published,2
+        PUBLISH,0,0 > waiting
         RECENT,0 > recent,2
         READ,0,1,0,1 > bytes,11
         READ,0,2,0,1 > bytes,21",
@@ -167,7 +167,7 @@ fn fault_sums_that_wrap() {
         WEAVE,1 > node,1,0,2,1,1,2
         WEAVE,1 > node,1,0,1,0,0,1
         WEAVE,1 > node,1,1,1,1,0,0
-        PUBLISH,0 > published,1
+        PUBLISH,0,0 > published,1
         READ,0,1,18446744073709551615,1 > refused,17
         READ,0,1,18446744073709551615,2 > refused,17
         READ,0,1,18446744073709551600,16 > refused,17

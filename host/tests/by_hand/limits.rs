@@ -68,7 +68,7 @@ fn steps_before_an_accepted_format() {
         WRITE,0,1,0 > refused,0
         APPEND,0,1 > refused,0
         WEAVE,1 > refused,0
-        PUBLISH,0 > refused,0
+        PUBLISH,0,0 > refused,0
         READ,0,0,0,0 > refused,0
         SIZE,0,0 > refused,0
         RECENT,0 > refused,0
@@ -78,7 +78,7 @@ fn steps_before_an_accepted_format() {
         FORMAT,16,4,0,2 > refused,2
         RECENT,0 > refused,0
         FORMAT,512,4,8,2 > refused,0
-        PUBLISH,0 > refused,0
+        PUBLISH,0,0 > refused,0
         FORMAT,16,4,8,2 > ok
         RECENT,0 > recent,0
         BEGIN,1 > ticket,1",
@@ -99,7 +99,7 @@ fn a_later_format_starts_anew_unless_refused() {
         APPEND,0,1 > version,1,1
         FORMAT,0,4,8,2 > refused,1
         WEAVE,1 > node,1,0,1,0,0,0
-        PUBLISH,0 > published,1
+        PUBLISH,0,0 > published,1
         FORMAT,16,4,8,0 > refused,2
         READ,0,1,0,2 > bytes,1111
         FORMAT,32,1,1,1 > ok
@@ -118,7 +118,7 @@ fn a_later_format_starts_anew_unless_refused() {
         WEAVE,1 > node,1,0,2,1,1,2
         WEAVE,1 > node,1,0,1,0,0,1
         WEAVE,1 > node,1,1,1,1,0,0
-        PUBLISH,0 > published,1
+        PUBLISH,0,0 > published,1
         READ,0,1,14,4 > bytes,44443333",
     );
 }
@@ -138,7 +138,7 @@ fn the_largest_areas_fill_exactly() {
     for (ticket, count) in (1..=16).map(|t| (t, 127)).chain([(17, 9), (18, 7)]) {
         lines.extend(vec![format!("WEAVE,{ticket}"); count]);
     }
-    lines.extend(vec!["PUBLISH,0".to_string(); 19]);
+    lines.extend(vec!["PUBLISH,0,0".to_string(); 19]);
     let offsets = (0..1_024).step_by(256);
     lines.extend(offsets.map(|offset| format!("READ,0,18,{offset},256")));
     lines.extend((0..64).map(|page| format!("STAMP,0,18,{page}")));

@@ -7,7 +7,7 @@ fn row_20_no_such_line() {
     agree_on(
         "
         FORMAT,16,8,32,4 > ok
-        PUBLISH,1 > refused,20
+        PUBLISH,1,0 > refused,20
         RECENT,1 > refused,20
         BRANCH,1,0 > refused,20
         READ,1,0,0,0 > refused,20
@@ -17,12 +17,12 @@ fn row_20_no_such_line() {
         RECENT,65536 > refused,20
         RECENT,4294967296 > refused,20
         BRANCH,0,0 > line,1
-        PUBLISH,1 > waiting
+        PUBLISH,1,0 > waiting
         RECENT,1 > recent,0
         READ,1,0,0,0 > bytes,
         SIZE,1,0 > size,0
         STAMP,1,0,0 > refused,17
-        PUBLISH,2 > refused,20
+        PUBLISH,2,0 > refused,20
         RECENT,2 > refused,20
         BRANCH,2,0 > refused,20
         SIZE,2,0 > refused,20
@@ -90,8 +90,8 @@ fn row_21_sixteen_lines_exist() {
         APPEND,16,1 > refused,20
         APPEND,15,1 > version,1,1
         WEAVE,1 > node,983041,0,1,0,0,0
-        PUBLISH,0 > waiting
-        PUBLISH,15 > published,1
+        PUBLISH,0,0 > waiting
+        PUBLISH,15,0 > published,1
         READ,15,1,0,1 > bytes,11
         READ,14,1,0,1 > refused,16
         BRANCH,15,1 > refused,21";
@@ -112,7 +112,7 @@ fn row_16_of_branch() {
         BRANCH,0,1 > refused,16
         WEAVE,1 > node,1,0,1,0,0,0
         BRANCH,0,1 > refused,16
-        PUBLISH,0 > published,1
+        PUBLISH,0,0 > published,1
         BRANCH,1,1 > refused,16
         BRANCH,0,2 > refused,16
         BRANCH,0,4294967297 > refused,16
@@ -140,13 +140,13 @@ fn a_branch_reads_as_its_source_and_goes_on_by_itself() {
         WEAVE,1 > node,1,0,2,1,1,2
         WEAVE,1 > node,1,0,1,0,0,1
         WEAVE,1 > node,1,1,1,1,0,0
-        PUBLISH,0 > published,1
+        PUBLISH,0,0 > published,1
         BEGIN,1 > ticket,2
         PUT,2,0,<21> > put
         WRITE,0,2,0 > version,2,2
         WEAVE,2 > node,2,0,2,2,1,1
         WEAVE,2 > node,2,0,1,2,0,0
-        PUBLISH,0 > published,2
+        PUBLISH,0,0 > published,2
         BEGIN,1 > ticket,3
         PUT,3,0,<31> > put
         APPEND,0,3 > version,3,3
@@ -156,15 +156,15 @@ fn a_branch_reads_as_its_source_and_goes_on_by_itself() {
         READ,1,1,15,2 > bytes,1112
         STAMP,1,1,1 > stamp,1
         SIZE,1,2 > refused,16
-        PUBLISH,1 > waiting
+        PUBLISH,1,0 > waiting
         BEGIN,1 > ticket,4
         PUT,4,0,<41> > put
         APPEND,1,4 > version,2,3
         WEAVE,4 > node,65538,0,4,1,65538,2
         WEAVE,4 > node,65538,2,2,65538,0,1
         WEAVE,4 > node,65538,2,1,4,0,0
-        PUBLISH,0 > waiting
-        PUBLISH,1 > published,2
+        PUBLISH,0,0 > waiting
+        PUBLISH,1,0 > published,2
         RECENT,0 > recent,2
         SIZE,1,2 > size,48
         READ,1,2,0,1 > bytes,11
@@ -179,8 +179,8 @@ fn a_branch_reads_as_its_source_and_goes_on_by_itself() {
         WEAVE,3 > node,3,0,4,2,3,2
         WEAVE,3 > node,3,2,2,3,0,1
         WEAVE,3 > node,3,2,1,3,0,0
-        PUBLISH,1 > waiting
-        PUBLISH,0 > published,3
+        PUBLISH,1,0 > waiting
+        PUBLISH,0,0 > published,3
         READ,0,3,31,2 > bytes,1231
         READ,1,2,31,2 > bytes,1241
         READ,1,1,0,1 > bytes,11",
@@ -200,7 +200,7 @@ fn a_branch_from_version_0_is_empty() {
         WEAVE,1 > node,1,0,2,1,1,2
         WEAVE,1 > node,1,0,1,0,0,1
         WEAVE,1 > node,1,1,1,1,0,0
-        PUBLISH,0 > published,1
+        PUBLISH,0,0 > published,1
         BRANCH,0,0 > line,1
         RECENT,1 > recent,0
         SIZE,1,0 > size,0
@@ -213,7 +213,7 @@ fn a_branch_from_version_0_is_empty() {
         WRITE,1,2,1 > refused,13
         WRITE,1,2,0 > version,1,1
         WEAVE,2 > node,65537,0,1,2,0,0
-        PUBLISH,1 > published,1
+        PUBLISH,1,0 > published,1
         READ,1,1,0,1 > bytes,21
         SIZE,1,1 > size,16
         STAMP,1,1,0 > stamp,1
@@ -242,7 +242,7 @@ fn child_numbers_name_the_owners_line() {
         WEAVE,1 > node,1,2,2,1,1,2
         WEAVE,1 > node,1,2,1,2,0,1
         WEAVE,1 > node,1,3,1,3,0,0
-        PUBLISH,0 > published,1
+        PUBLISH,0,0 > published,1
         BRANCH,0,1 > line,1
         BEGIN,1 > ticket,2
         PUT,2,0,<20> > put
@@ -250,7 +250,7 @@ fn child_numbers_name_the_owners_line() {
         WEAVE,2 > node,65538,0,4,65538,1,2
         WEAVE,2 > node,65538,0,2,65538,1,1
         WEAVE,2 > node,65538,0,1,4,0,0
-        PUBLISH,1 > published,2
+        PUBLISH,1,0 > published,2
         BRANCH,1,2 > line,2
         BEGIN,1 > ticket,3
         PUT,3,0,<30> > put
@@ -264,8 +264,8 @@ fn child_numbers_name_the_owners_line() {
         WEAVE,3 > node,2,0,4,1,2,2
         WEAVE,3 > node,2,2,2,1,2,1
         WEAVE,3 > node,2,3,1,5,0,0
-        PUBLISH,2 > published,3
-        PUBLISH,0 > published,2
+        PUBLISH,2,0 > published,3
+        PUBLISH,0,0 > published,2
         READ,2,3,15,2 > bytes,2040
         READ,2,3,47,2 > bytes,1213
         READ,0,2,47,2 > bytes,1230
@@ -287,7 +287,7 @@ fn row_13_by_the_lines_own_size() {
         PUT,1,0,<11> > put
         APPEND,0,1 > version,1,1
         WEAVE,1 > node,1,0,1,0,0,0
-        PUBLISH,0 > published,1
+        PUBLISH,0,0 > published,1
         BRANCH,0,1 > line,1
         BEGIN,3 > ticket,2
         PUT,2,0,<21> > put
@@ -325,8 +325,8 @@ fn row_8_for_a_ticket_assigned_on_another_line() {
         WRITE,0,1,0 > refused,8
         PUT,1,0,<11> > refused,8
         WEAVE,1 > node,65537,0,1,0,0,0
-        PUBLISH,0 > waiting
-        PUBLISH,1 > published,1",
+        PUBLISH,0,0 > waiting
+        PUBLISH,1,0 > published,1",
     );
 }
 
@@ -351,16 +351,16 @@ fn the_same_version_numbers_on_two_lines() {
         APPEND,0,4 > version,2,2
         WEAVE,4 > node,2,0,2,1,2,1
         WEAVE,3 > node,65538,0,1,2,0,0
-        PUBLISH,1 > waiting
+        PUBLISH,1,0 > waiting
         WEAVE,2 > node,65537,0,1,1,0,0
-        PUBLISH,1 > published,1
-        PUBLISH,1 > published,2
-        PUBLISH,0 > waiting
+        PUBLISH,1,0 > published,1
+        PUBLISH,1,0 > published,2
+        PUBLISH,0,0 > waiting
         WEAVE,1 > node,1,0,1,0,0,0
-        PUBLISH,0 > published,1
-        PUBLISH,0 > waiting
+        PUBLISH,0,0 > published,1
+        PUBLISH,0,0 > waiting
         WEAVE,4 > node,2,1,1,3,0,0
-        PUBLISH,0 > published,2
+        PUBLISH,0,0 > published,2
         READ,0,1,0,1 > bytes,11
         READ,1,1,0,1 > bytes,22
         READ,1,2,0,1 > bytes,33
@@ -378,7 +378,7 @@ fn sixteen_lines_in_a_chain() {
         let ticket = line + 1;
         lines.extend(update(ticket, 1, &format!("APPEND,{line},{ticket}")));
         lines.extend(vec![format!("WEAVE,{ticket}"); 5]);
-        lines.push(format!("PUBLISH,{line}"));
+        lines.push(format!("PUBLISH,{line},0"));
         lines.push(format!("BRANCH,{line},{ticket}"));
     }
     for line in 0..16 {

@@ -8,7 +8,7 @@ const TOO_LARGE: &str = "18446744073709551616";
 
 #[test]
 fn malformed_lines() {
-    let bad: [&[u8]; 91] = [
+    let bad: [&[u8]; 99] = [
         b"",
         b",",
         b"\0",
@@ -38,9 +38,17 @@ fn malformed_lines() {
         b"\xd2ECENT,0",
         b"PUBLISH",
         b"PUBLISH,",
+        b"PUBLISH,0",
         b"PUBLISH,0,",
-        b"PUBLISH,0,1",
-        b"publish,0",
+        b"PUBLISH,,0",
+        b"PUBLISH,0,0,",
+        b"PUBLISH,0,0,0",
+        b"PUBLISH,0 0",
+        b"publish,0,0",
+        b"HELD,0,0",
+        b"SETWINDOWS",
+        b"SETWINDOWS,",
+        b"SETWINDOWS,0,1",
         b"BRANCH",
         b"BRANCH,",
         b"BRANCH,0",
@@ -130,7 +138,7 @@ const NUMBERED: [&str; 12] = [
     "WRITE,0,1,0",
     "APPEND,0,1",
     "WEAVE,1",
-    "PUBLISH,0",
+    "PUBLISH,0,0",
     "BRANCH,0,0",
     "READ,0,0,0,0",
     "SIZE,0,0",
@@ -216,12 +224,14 @@ fn the_largest_number_in_every_field() {
         APPEND,0,M > refused,7
         APPEND,M,1 > refused,20
         WEAVE,M > refused,7
-        PUBLISH,M > refused,20
+        PUBLISH,M,0 > refused,20
+        PUBLISH,0,M > refused,22
+        PUBLISH,M,M > refused,20
         BRANCH,M,0 > refused,20
         BRANCH,0,M > refused,16
         APPEND,0,1 > version,1,1
         WEAVE,1 > node,1,0,1,0,0,0
-        PUBLISH,0 > published,1
+        PUBLISH,0,0 > published,1
         READ,M,1,0,0 > refused,20
         READ,0,M,0,0 > refused,16
         READ,0,1,M,0 > refused,17
@@ -238,7 +248,8 @@ fn the_largest_number_in_every_field() {
         STAMP,0,M,M > refused,16
         BEGIN,Z > refused,0
         WEAVE,Z > refused,0
-        PUBLISH,Z > refused,0
+        PUBLISH,Z,0 > refused,0
+        PUBLISH,0,Z > refused,0
         BRANCH,Z,0 > refused,0
         BRANCH,0,Z > refused,0
         RECENT,Z > refused,0
@@ -258,7 +269,7 @@ fn every_byte_at_every_place_of_a_line() {
     let mut lines = vec![b"FORMAT,16,4,8,2".to_vec()];
     for byte in (0..=255).filter(|byte| *byte != b'\n') {
         lines.push(vec![byte]);
-        for line in [&b"SIZE,0,0"[..], b"RECENT,0", b"PUT,0,0,1f"] {
+        for line in [&b"SIZE,0,0"[..], b"RECENT,0", b"PUBLISH,0,9", b"PUT,0,0,1f"] {
             for at in 0..=line.len() {
                 lines.push([&line[..at], &[byte], &line[at..]].concat());
                 lines.push([&line[..at], &[byte], &line[(at + 1).min(line.len())..]].concat());

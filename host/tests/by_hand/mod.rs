@@ -5,8 +5,10 @@ mod ends;
 mod faults;
 mod limits;
 mod lines;
+mod lists;
 mod malformed;
 mod rows;
+mod windows;
 
 use crate::program::run;
 use crate::scripts::Script;

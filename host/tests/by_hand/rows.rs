@@ -141,11 +141,11 @@ fn row_8_out_of_turn() {
         PUT,1,0,<11> > refused,8
         WEAVE,1 > node,1,1,1,1,0,0
         WEAVE,1 > refused,8
-        PUBLISH,0 > published,1
+        PUBLISH,0,0 > published,1
         WEAVE,1 > refused,8
         APPEND,0,1 > refused,8
         PUT,1,0,<11> > refused,8
-        PUBLISH,0 > waiting
+        PUBLISH,0,0 > waiting
         RECENT,0 > recent,1
         READ,0,1,15,2 > bytes,1112",
     );
@@ -185,7 +185,7 @@ fn row_10_page_already_put() {
         WEAVE,1 > node,1,0,2,1,1,2
         WEAVE,1 > node,1,0,1,0,0,1
         WEAVE,1 > node,1,1,1,1,0,0
-        PUBLISH,0 > published,1
+        PUBLISH,0,0 > published,1
         READ,0,1,15,2 > bytes,1122",
     );
 }
@@ -306,7 +306,7 @@ fn row_16_version_not_published() {
         STAMP,0,1,0 > refused,16
         STAMP,0,1,1 > refused,16
         RECENT,0 > recent,0
-        PUBLISH,0 > published,1
+        PUBLISH,0,0 > published,1
         READ,0,1,0,1 > bytes,11
         SIZE,0,1 > size,16
         STAMP,0,1,0 > stamp,1
@@ -336,8 +336,8 @@ fn row_17_not_inside_the_snapshot() {
         WEAVE,1 > node,1,0,1,0,0,0
         WEAVE,2 > node,2,0,2,1,2,1
         WEAVE,2 > node,2,1,1,1,0,0
-        PUBLISH,0 > published,1
-        PUBLISH,0 > published,2
+        PUBLISH,0,0 > published,1
+        PUBLISH,0,0 > published,2
         READ,0,1,0,17 > refused,17
         READ,0,1,16,1 > refused,17
         READ,0,1,17,0 > refused,17
@@ -383,7 +383,7 @@ fn row_18_is_out_of_reach() {
     lines.extend(vec!["WEAVE,1".to_string(); 38]);
     let whole: String = (1..=16).map(|i| page(1, i)).collect();
     let last = [
-        ("PUBLISH,0", "published,1".to_string()),
+        ("PUBLISH,0,0", "published,1".to_string()),
         ("READ,0,1,16,256", format!("bytes,{whole}")),
         ("READ,0,1,0,257", "refused,0".to_string()),
         ("READ,0,1,16,257", "refused,0".to_string()),

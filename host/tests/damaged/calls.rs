@@ -1,13 +1,15 @@
-//! Calls on any state and any areas, and what must hold after each.
+//! Calls on any state, any windows and any areas, and what must hold after each.
 
 use crate::memory::{Fenced, Memory};
+use crate::windows::{inside, listed, Window, WEEK};
 use pit_host::{
-    ByteOffset, Error, Keeper, Lent, LentAreas, Limits, Line, LineVersion, PageIndex, Record,
-    State, Ticket, Version,
+    ByteOffset, Error, Keeper, Lent, LentAreas, Limits, Line, LineVersion, Minute, PageIndex,
+    Published, Record, State, Ticket, Version, Windows,
 };
 
-/// A call with its arguments, the line first. PUT and READ come with the length of their bytes or buffer.
-#[derive(Clone, Copy, Debug)]
+/// A call with its arguments, the line first and the minute last. PUT and READ come with the length of their bytes or
+/// buffer.
+#[derive(Clone, Debug)]
 pub enum Call {
     Format(Limits),
     Begin(u64),
@@ -15,7 +17,8 @@ pub enum Call {
     Write(u64, u64, u64),
     Append(u64, u64),
     Weave(u64),
-    Publish(u64),
+    Publish(u64, u64),
+    SetWindows(Vec<u8>),
     Branch(u64, u64),
     Read([u64; 4], usize),
     Size(u64, u64),
@@ -34,6 +37,7 @@ impl Call {
             Call::Append(..) => "APPEND",
             Call::Weave(..) => "WEAVE",
             Call::Publish(..) => "PUBLISH",
+            Call::SetWindows(..) => "SETWINDOWS",
             Call::Branch(..) => "BRANCH",
             Call::Read(..) => "READ",
             Call::Size(..) => "SIZE",
@@ -71,9 +75,9 @@ impl Call {
                 of.blob = after.blob.max(of.blob);
                 due.set_line(Line(line), of);
             }
-            Call::Publish(line) => {
+            Call::Publish(line, _) => {
                 let mut of = due.line(Line(line));
-                of.published += 1; // if it is not waiting
+                of.published += 1; // if it is neither waiting nor held
                 due.set_line(Line(line), of);
             }
             Call::Branch(line, v) => {
@@ -88,23 +92,35 @@ impl Call {
         *after == due
     }
 
-    /// How long its bytes or its buffer are.
-    fn room(&self) -> usize {
-        match *self {
-            Call::Put(_, _, room) | Call::Read(_, room) => room,
-            _ => 0,
+    /// Its bytes, its text, or its buffer before it.
+    fn bytes(&self) -> Vec<u8> {
+        match self {
+            Call::Put(_, _, room) | Call::Read(_, room) => vec![BYTE; *room],
+            Call::SetWindows(text) => text.clone(),
+            _ => vec![],
+        }
+    }
+
+    /// The windows that it leaves where it is accepted.
+    fn sets(&self, windows: &Windows) -> Windows {
+        match self {
+            Call::Format(..) => Windows::default(),
+            Call::SetWindows(text) => placed(&listed(text).unwrap_or_default()),
+            _ => *windows,
         }
     }
 
     /// The numbers that it may answer with, 0 for acceptance: one alone where the state, the lengths and the arguments
     /// decide it by the table.
-    fn may_answer(&self, s: &State, memory: &Memory) -> Vec<u64> {
+    fn may_answer(&self, scene: &Scene) -> Vec<u64> {
+        let (s, memory) = (&scene.state, &scene.memory);
         match *self {
             Call::Format(limits) => vec![format_row(&limits, memory)],
             _ if lengths_differ(s, memory) => vec![3],
             Call::Begin(n) => vec![begin_row(s, n)],
             Call::Recent(line) => vec![if no_line(s, line) { 20 } else { 0 }],
-            Call::Publish(line) => publish_rows(s, memory, line),
+            Call::Publish(line, minute) => publish_rows(scene, line, minute),
+            Call::SetWindows(ref text) => vec![listed(text).err().unwrap_or(0)],
             Call::Put(t, ..) | Call::Write(_, t, _) | Call::Append(_, t) | Call::Weave(t) => {
                 self.may_answer_for_ticket(t, s, memory)
             }
@@ -227,13 +243,17 @@ fn begin_row(s: &State, n: u64) -> u64 {
     }
 }
 
-/// Waiting is no refusal.
-fn publish_rows(s: &State, memory: &Memory, line: u64) -> Vec<u64> {
+/// Waiting and held are no refusals.
+fn publish_rows(scene: &Scene, line: u64, minute: u64) -> Vec<u64> {
+    let (s, memory) = (&scene.state, &scene.memory);
     if no_line(s, line) {
         return vec![20];
     }
+    if minute >= WEEK {
+        return vec![22];
+    }
     let of = s.line(Line(line));
-    if of.assigned <= of.published {
+    if inside(&ends(&scene.windows), minute) || of.assigned <= of.published {
         vec![0]
     } else if s.updates <= of.published {
         vec![19]
@@ -242,6 +262,25 @@ fn publish_rows(s: &State, memory: &Memory, line: u64) -> Vec<u64> {
     } else {
         vec![0, 19]
     }
+}
+
+/// What stands in the places up to the first with equal ends, as one that is not used has them; whatever the places hold.
+fn ends(windows: &Windows) -> Vec<Window> {
+    let places = windows.places.iter().take_while(|w| w.from != w.to);
+    let window = |w: &pit_host::Window| Window {
+        from: w.from.into(),
+        to: w.to.into(),
+    };
+    places.map(window).collect()
+}
+
+/// The windows of a list, and zeros in the places after them.
+fn placed(list: &[Window]) -> Windows {
+    let mut windows = Windows::default();
+    for (place, window) in windows.places.iter_mut().zip(list) {
+        (place.from, place.to) = (window.from as u16, window.to as u16);
+    }
+    windows
 }
 
 /// The state of an empty store.
@@ -272,18 +311,19 @@ fn claim(condition: bool, otherwise: &str) -> Result<(), String> {
     }
 }
 
-/// A state and areas, which need not belong together.
+/// A state, windows and areas, which need not belong together.
 #[derive(Clone)]
 pub struct Scene {
     pub state: State,
+    pub windows: Windows,
     pub memory: Memory,
 }
 
 impl Scene {
     /// Makes a call and gives the number of its refusal, 0 where it was accepted; or a complaint.
-    pub fn make(&mut self, call: Call) -> Result<u64, String> {
+    pub fn make(&mut self, call: &Call) -> Result<u64, String> {
         let before = self.clone();
-        let untouched = Fenced::new(&vec![BYTE; call.room()], 0xfe);
+        let untouched = Fenced::new(&call.bytes(), 0xfe);
         let mut buffer = untouched.clone();
         let refusal = self.perform(call, &mut buffer)?;
 
@@ -299,7 +339,12 @@ impl Scene {
         claim(register || old.register == new.register, "register changed")?;
         let moved = refusal == 0 && call.moves(&before.state, &self.state);
         claim(moved || self.state == before.state, "state changed")?;
-        let filled = match call {
+        let windows = match refusal {
+            0 => call.sets(&before.windows),
+            _ => before.windows,
+        };
+        claim(self.windows == windows, "not the windows that are due")?;
+        let filled = match *call {
             Call::Read([.., len], _) if refusal == 0 => len as usize,
             _ => 0,
         };
@@ -307,7 +352,7 @@ impl Scene {
             buffer.part()[filled..] == untouched.part()[filled..],
             "bytes or buffer changed",
         )?;
-        let may = call.may_answer(&before.state, old);
+        let may = call.may_answer(&before);
         claim(may.contains(&refusal), &format!("{refusal}, not {may:?}"))?;
         if refusal == 0 {
             self.check_written(call, &before)?;
@@ -316,7 +361,7 @@ impl Scene {
     }
 
     /// What an accepted call has written stands where it belongs, and nothing else has changed.
-    fn check_written(&self, call: Call, before: &Scene) -> Result<(), String> {
+    fn check_written(&self, call: &Call, before: &Scene) -> Result<(), String> {
         let (old, new) = (&before.memory, &self.memory);
         let records = differing(old.register.part(), new.register.part());
         let most = match call {
@@ -325,7 +370,7 @@ impl Scene {
             _ => 1,
         };
         claim(records.len() <= most, "too many records changed")?;
-        if let Call::Put(ticket, i, room) = call {
+        if let Call::Put(ticket, i, room) = *call {
             let number = old.register.part()[ticket as usize - 1].number + i;
             let mut pages = old.pages.clone();
             let page = pages.lend()[(before.state.size * number) as usize..].iter_mut();
@@ -340,18 +385,19 @@ impl Scene {
         Ok(())
     }
 
-    fn perform(&mut self, call: Call, buffer: &mut Fenced<u8>) -> Result<u64, String> {
-        if let Call::Format(limits) = call {
+    fn perform(&mut self, call: &Call, buffer: &mut Fenced<u8>) -> Result<u64, String> {
+        if let Call::Format(limits) = *call {
             return self.format(limits);
         }
-        let mut store = Keeper::resume(self.state, self.memory.lend());
-        let done = match call {
+        let mut store = Keeper::resume(self.state, self.windows, self.memory.lend());
+        let done = match *call {
             Call::Begin(n) => store.begin(n).map(drop),
             Call::Put(t, i, _) => store.put(Ticket(t), i, buffer.part()),
             Call::Write(l, t, f) => store.write(Line(l), Ticket(t), PageIndex(f)).map(drop),
             Call::Append(l, t) => store.append(Line(l), Ticket(t)).map(drop),
             Call::Weave(t) => weave(&mut store, t)?,
-            Call::Publish(l) => store.publish(Line(l)).map(drop),
+            Call::Publish(l, minute) => publish(&mut store, Line(l), Minute(minute))?,
+            Call::SetWindows(_) => store.set_windows(buffer.part()).map_err(Error::from),
             Call::Branch(l, v) => store.branch(Line(l), Version(v)).map(drop),
             Call::Read(range, _) => read(&store, range, buffer.lend())?,
             Call::Size(l, v) => store.size(Line(l), Version(v)).map(drop),
@@ -363,7 +409,7 @@ impl Scene {
             Call::Recent(l) => store.recent(Line(l)).map(drop),
             Call::Format(..) => unreachable!("it has its own way"),
         };
-        self.state = store.state();
+        (self.state, self.windows) = (store.state(), store.windows());
         Ok(done.err().map_or(0, |refused| refused.number()))
     }
 
@@ -371,7 +417,7 @@ impl Scene {
     fn format(&mut self, limits: Limits) -> Result<u64, String> {
         match Lent::format(limits, self.memory.lend()) {
             Err(refused) => return Ok(refused.number()),
-            Ok(store) => self.state = store.state(),
+            Ok(store) => (self.state, self.windows) = (store.state(), store.windows()),
         }
         let areas = &self.memory;
         claim(self.state == fresh(&limits), "not the state of a new store")?;
@@ -415,6 +461,21 @@ fn weave(store: &mut Store<'_>, ticket: u64) -> Outcome {
         )?;
     }
     Ok(woven.map(drop))
+}
+
+/// PUBLISH. Accepted, it is held just where the minute is inside what stands in a place, and else says what it moved.
+fn publish(store: &mut Store<'_>, line: Line, minute: Minute) -> Outcome {
+    let (windows, before) = (ends(&store.windows()), store.state().line(line));
+    let done = store.publish(line, minute);
+    let moved = store.state().line(line) != before;
+    if let Ok(published) = done {
+        let held = published == Published::Held;
+        claim(held == inside(&windows, minute.0), "not held just inside")?;
+        let due = published.version().map(|version| version.0);
+        let next = moved.then_some(before.published + 1);
+        claim(due == next, "not the version published")?;
+    }
+    Ok(done.map(drop))
 }
 
 /// READ. Accepted, it gives the bytes that VIEW shows, whatever the areas hold.

@@ -3,7 +3,8 @@
 use crate::calls::{Call, Scene};
 use crate::memory::{Memory, Numbers};
 use crate::random::Random;
-use pit_host::{Error, Lent, Limits, Line, PageIndex, Record, State, Version};
+use crate::windows::WEEK;
+use pit_host::{Error, Lent, Limits, Line, Minute, PageIndex, Record, State, Version, Windows};
 
 /// Numbers at which a limit, a width or a sum can go wrong.
 const EDGES: [u64; 22] = [
@@ -136,11 +137,35 @@ fn any_memory(random: &mut Random, lengths: [u64; 3]) -> Memory {
     Memory::new(&random.bytes(pages as usize), &nodes, &records)
 }
 
+/// An end of a window: a minute of the week, mostly a low one; or no minute.
+fn any_end(random: &mut Random) -> u16 {
+    let end = match random.below(8) {
+        0 => random.below(65_536),
+        1 => random.pick(&[WEEK - 1, WEEK, WEEK + 1, 65_535]),
+        2 | 3 => random.below(WEEK),
+        _ => random.below(40),
+    };
+    end as u16
+}
+
+/// Any numbers in any of the places: none, a few, or all.
+fn any_windows(random: &mut Random) -> Windows {
+    let mut windows = Windows::default();
+    let rare = random.pick(&[1, 8, 32, 1_000]);
+    for place in &mut windows.places {
+        if random.one_in(rare) {
+            (place.from, place.to) = (any_end(random), any_end(random));
+        }
+    }
+    windows
+}
+
 /// Random bytes of any length, and a state of random numbers.
 pub fn random_scene(random: &mut Random) -> Scene {
     let lengths = [200, 50, 12].map(|most| random.below(most));
     Scene {
         state: any_state(random),
+        windows: any_windows(random),
         memory: any_memory(random, lengths),
     }
 }
@@ -154,6 +179,7 @@ pub fn fitting_scene(random: &mut Random) -> Scene {
     [s.pages, s.nodes, s.updates] = capacities;
     Scene {
         state: s,
+        windows: any_windows(random),
         memory: any_memory(random, [s.size * s.pages, 2 * s.nodes, s.updates]),
     }
 }
@@ -166,7 +192,7 @@ fn some_limits(random: &mut Random) -> Limits {
     Limits::new(page_size, pages, nodes, 2 + random.below(9))
 }
 
-/// A store as calls leave it, with updates at every stage.
+/// A store as calls leave it, with updates at every stage; and any windows.
 pub fn valid_scene(random: &mut Random, limits: Limits) -> Scene {
     let lengths = [
         limits.page_size * limits.pages,
@@ -176,8 +202,11 @@ pub fn valid_scene(random: &mut Random, limits: Limits) -> Scene {
     let mut memory = any_memory(random, lengths);
     let mut store = Lent::format(limits, memory.lend()).expect("limits in range");
     while update(random, &mut store).is_ok() && !random.one_in(8) {}
-    let state = store.state();
-    Scene { state, memory }
+    Scene {
+        state: store.state(),
+        windows: any_windows(random),
+        memory,
+    }
 }
 
 /// An update on one of the lines, which may stop at any stage; now and then a new line before. An error where the store is
@@ -208,7 +237,11 @@ fn update(random: &mut Random, store: &mut Lent<'_>) -> Result<(), Error> {
     for _ in 0..woven {
         store.weave(ticket)?;
     }
-    while !random.one_in(8) && store.publish(line)?.is_some() {}
+    let mut published = true;
+    while published && !random.one_in(8) {
+        let done = store.publish(line, Minute(0))?;
+        published = done.version().is_some();
+    }
     Ok(())
 }
 
@@ -284,7 +317,9 @@ pub fn cut_scene(random: &mut Random) -> Scene {
         2 => old / 2,
         _ => random.below(old + 4),
     };
-    let Scene { state: s, memory } = &mut scene;
+    let Scene {
+        state: s, memory, ..
+    } = &mut scene;
     match area {
         0 => {
             let pages = length_for(s.pages);
@@ -306,13 +341,14 @@ pub fn cut_scene(random: &mut Random) -> Scene {
     scene
 }
 
-/// The state and the areas of three valid stores with the same limits, mixed.
+/// The state, the windows and the areas of three valid stores with the same limits, mixed.
 pub fn mixed_scene(random: &mut Random) -> Scene {
     let limits = some_limits(random);
     let stores = [(); 3].map(|()| valid_scene(random, limits));
     let mut some = || &stores[random.below(3) as usize];
     Scene {
         state: some().state,
+        windows: some().windows,
         memory: Memory {
             pages: some().memory.pages.clone(),
             nodes: some().memory.nodes.clone(),
@@ -368,14 +404,15 @@ pub fn call(random: &mut Random, scene: &Scene) -> Call {
         up_to(random, scene, published),
     );
     let other = argument(random, scene);
-    match random.below(26) {
+    match random.below(29) {
         0 if random.one_in(4) => Call::Format(limits_of(random, scene)),
         0 | 1 => Call::Begin(up_to(random, scene, 6)),
         2..=4 => Call::Put(ticket, other, bytes_length(random, s)),
         5 | 6 => Call::Write(line, ticket, other),
         7 | 8 => Call::Append(line, ticket),
         9..=12 => Call::Weave(ticket),
-        13 | 14 => Call::Publish(line),
+        13 | 14 | 26 => Call::Publish(line, some_minute(random, scene)),
+        27 | 28 => Call::SetWindows(some_text(random)),
         15..=17 => read(random, scene, line, version),
         18 => Call::Size(line, version),
         19 => Call::Recent(line),
@@ -384,6 +421,43 @@ pub fn call(random: &mut Random, scene: &Scene) -> Call {
         22 | 23 => Call::Branch(line, version),
         _ => Call::View(line, version, other),
     }
+}
+
+/// A minute of the week, mostly a low one or an end of a window; or no minute.
+fn some_minute(random: &mut Random, scene: &Scene) -> u64 {
+    let places = scene.windows.places.iter();
+    let ends = places.flat_map(|w| [w.from, w.to]).map(u64::from);
+    let ends: Vec<u64> = ends.filter(|end| *end != 0).collect();
+    match random.below(8) {
+        0 => argument(random, scene),
+        1 => random.pick(&[WEEK - 1, WEEK, WEEK + 1]),
+        2 => random.below(WEEK),
+        3 | 4 if !ends.is_empty() => random.pick(&ends),
+        5 if !ends.is_empty() => random.pick(&ends) - 1,
+        _ => random.below(40),
+    }
+}
+
+/// The text of a list; mostly a good one, else with a line of any ends, a byte changed, or any bytes.
+fn some_text(random: &mut Random) -> Vec<u8> {
+    let count = random.pick(&[0, 1, 2, 3, 31, 32, 33, 40]);
+    let mut text = vec![];
+    for _ in 0..count {
+        let from = random.below(WEEK);
+        let to = (from + 1 + random.below(WEEK - 1)) % WEEK;
+        text.extend(format!("{from},{to}\n").into_bytes());
+    }
+    match random.below(8) {
+        0 => text.extend(format!("{},{}\n", any_end(random), any_end(random)).into_bytes()),
+        1 if count > 0 => *pick_mut(random, &mut text) = random.pick(b"0123456789,\n -\r\0\xff"),
+        2 => text.truncate(random.below(text.len() as u64 + 1) as usize),
+        3 => {
+            let length = random.below(60) as usize;
+            text = random.bytes(length);
+        }
+        _ => (),
+    }
+    text
 }
 
 /// Mostly the limits that the areas have, which FORMAT accepts if it accepts any.

@@ -1,10 +1,13 @@
 //! What was saved comes back just as it was.
 
 use crate::scene::{
-    checksum, in_form_1, in_form_2, in_work, in_work_on_lines, number, saved, Folder, HEADER,
+    checksum, in_form_1, in_form_2, in_form_3, in_work, in_work_on_lines, number, saved, Folder,
+    HEADER, WINDOWS,
 };
-use crate::updates::{assign, fills, limits, of_three_versions, put_all, update, LIVE};
-use pit_host::{Error, Keeper, Lend, Lent, Limits, Line, Record, Store, Ticket, Version};
+use crate::updates::{assign, fills, limits, of_three_versions, put_all, update, ANY_TIME, LIVE};
+use pit_host::{
+    Error, Keeper, Lend, Lent, Limits, Line, Minute, Published, Record, Store, Ticket, Version,
+};
 use std::fs;
 
 #[test]
@@ -30,7 +33,7 @@ fn a_store_comes_back_at_every_stage() {
         store.weave(ticket).unwrap();
     }
     again(&store);
-    store.publish(LIVE).unwrap();
+    store.publish(LIVE, ANY_TIME).unwrap();
     again(&store);
 }
 
@@ -42,12 +45,18 @@ fn a_loaded_store_goes_on_as_the_saved_one() {
     let mut loaded = Store::load(folder.file()).unwrap();
     for store in [&mut store, &mut loaded] {
         while store.weave(Ticket(2)).unwrap().rest > 0 {}
-        assert_eq!(store.publish(LIVE), Ok(Some(Version(2))));
+        assert_eq!(
+            store.publish(LIVE, ANY_TIME),
+            Ok(Published::Now(Version(2)))
+        );
         store.put(Ticket(3), 0, &[6; 16]).unwrap();
         for _ in 0..store.append(LIVE, Ticket(3)).unwrap().nodes {
             store.weave(Ticket(3)).unwrap();
         }
-        assert_eq!(store.publish(LIVE), Ok(Some(Version(3))));
+        assert_eq!(
+            store.publish(LIVE, ANY_TIME),
+            Ok(Published::Now(Version(3)))
+        );
         assert_eq!(fills(store, LIVE, Version(3)), Ok(vec![1, 3, 4, 6, 5]));
         assert_eq!(put_all(store, &[7]), Err(Error::PagesFull));
     }
@@ -65,9 +74,15 @@ fn lines_come_back_and_go_on() {
         for ticket in [2, 4].map(Ticket) {
             while store.weave(ticket).unwrap().rest > 0 {}
         }
-        assert_eq!(store.publish(LIVE), Ok(Some(Version(2))));
-        assert_eq!(store.publish(Line(1)), Ok(None));
-        assert_eq!(store.publish(Line(2)), Ok(Some(Version(1))));
+        assert_eq!(
+            store.publish(LIVE, ANY_TIME),
+            Ok(Published::Now(Version(2)))
+        );
+        assert_eq!(store.publish(Line(1), ANY_TIME), Ok(Published::Waiting));
+        assert_eq!(
+            store.publish(Line(2), ANY_TIME),
+            Ok(Published::Now(Version(1)))
+        );
         assert_eq!(store.branch(Line(1), Version(2)), Ok(Line(3)));
         let pages = [(0, 2, &[1, 3, 4][..]), (1, 2, &[1, 2, 5]), (2, 1, &[6, 7])];
         for (line, version, pages) in pages.into_iter().chain([(3, 2, &[1, 2, 5][..])]) {
@@ -78,27 +93,71 @@ fn lines_come_back_and_go_on() {
     assert!(store == loaded);
 }
 
+/// A loaded store holds as before, on every line, and what was held is published after the window.
+#[test]
+fn windows_come_back_and_hold() {
+    let folder = Folder::new("windows");
+    let mut store = in_work_on_lines();
+    while store.weave(Ticket(2)).unwrap().rest > 0 {}
+    store.set_windows("600,660\n10000,30\n").unwrap();
+    store.save(folder.file()).unwrap();
+    let mut loaded = Store::load(folder.file()).unwrap();
+    assert!(loaded == store);
+    for store in [&mut store, &mut loaded] {
+        for line in [LIVE, Line(1), Line(2)] {
+            for minute in [600, 659, 10_000, 10_079, 0, 29].map(Minute) {
+                assert_eq!(store.publish(line, minute), Ok(Published::Held));
+            }
+        }
+        let published = Ok(Published::Now(Version(2)));
+        assert_eq!(store.publish(LIVE, Minute(660)), published);
+    }
+    assert!(store == loaded);
+}
+
+#[test]
+fn every_number_of_windows_comes_back() {
+    let folder = Folder::new("each-windows");
+    let mut store = in_work();
+    for windows in 0..=32 {
+        let lines = (0..windows).map(|k| format!("{},{}\n", 325 * k, 10_079 - 325 * k));
+        let list: String = lines.collect();
+        store.set_windows(&list).unwrap();
+        store.save(folder.file()).unwrap();
+        let loaded = Store::load(folder.file()).unwrap();
+        assert!(loaded == store, "{windows} windows");
+        assert_eq!(loaded.windows().to_string(), list);
+    }
+    store.set_windows("").unwrap();
+    store.save(folder.file()).unwrap();
+    assert!(Store::load(folder.file()).unwrap() == in_work());
+}
+
 #[test]
 fn the_file_is_as_documented() {
     let folder = Folder::new("documented");
-    let store = in_work_on_lines();
+    let mut store = in_work_on_lines();
+    store.set_windows("600,660\n10000,30\n1,2\n").unwrap();
     let bytes = saved(&folder, &store);
     let (s, areas) = (store.state(), store.areas());
     assert_eq!(&bytes[..8], b"PITSTORE");
     #[rustfmt::skip]
-    let counters = [3, s.size, s.pages, s.nodes, s.updates, s.tickets, s.taken, s.assigned, s.places, s.begun];
-    assert_eq!(counters, [3, 16, 12, 32, 6, 5, 9, 4, 14, 3]);
+    let counters = [4, s.size, s.pages, s.nodes, s.updates, s.tickets, s.taken, s.assigned, s.places, s.begun];
+    assert_eq!(counters, [4, 16, 12, 32, 6, 5, 9, 4, 14, 3]);
     // line 2 from line 1; of each line the start, the last version assigned and published, and the size in pages
     let begun = [[0, 2, 1, 3], [1, 2, 2, 3], [0, 1, 0, 2]];
     let packed = begun.map(|l| l[0] | l[1] << 16 | l[2] << 32 | l[3] << 48);
     let lines = [&[0x100], &packed[..], &[0; 13]].concat();
-    let header = counters.into_iter().chain(lines).chain([192, 256, 864]);
-    for (index, wanted) in (1..).zip(header) {
+    for (index, wanted) in (1..).zip(counters.into_iter().chain(lines)) {
         assert_eq!(number(&bytes, index), wanted, "number {index}");
     }
+    let windows = [600u16, 660, 10_000, 30, 1, 2].into_iter().chain([0; 58]);
+    let windows: Vec<u8> = windows.flat_map(u16::to_le_bytes).collect();
+    assert_eq!(bytes[WINDOWS], windows);
+    assert_eq!([44, 45, 46].map(|at| number(&bytes, at)), [192, 256, 864]);
     assert_eq!(
-        number(&bytes, 31),
-        checksum(bytes[..248].iter().chain(&bytes[256..]).copied())
+        number(&bytes, 47),
+        checksum(bytes[..376].iter().chain(&bytes[384..]).copied())
     );
     let nodes = areas.nodes().iter().flat_map(|number| number.to_le_bytes());
     #[rustfmt::skip]
@@ -140,7 +199,7 @@ fn a_file_of_form_1_is_loaded_with_line_0_alone() {
     again(&store);
     while store.weave(Ticket(2)).unwrap().rest > 0 {}
     again(&store);
-    store.publish(LIVE).unwrap();
+    store.publish(LIVE, ANY_TIME).unwrap();
     again(&store);
 
     fs::write(folder.file(), in_form_1(&store)).unwrap();
@@ -152,7 +211,10 @@ fn a_file_of_form_1_is_loaded_with_line_0_alone() {
         for _ in 0..store.append(plan, Ticket(3)).unwrap().nodes {
             store.weave(Ticket(3)).unwrap();
         }
-        assert_eq!(store.publish(plan), Ok(Some(Version(2))));
+        assert_eq!(
+            store.publish(plan, ANY_TIME),
+            Ok(Published::Now(Version(2)))
+        );
         assert_eq!(fills(store, plan, Version(2)), Ok(vec![1, 2, 6, 5]));
         assert_eq!(fills(store, LIVE, Version(2)), Ok(vec![1, 3, 4]));
         store.save(folder.file()).unwrap(); // in the form of now
@@ -185,13 +247,36 @@ fn a_file_of_form_2_is_loaded() {
     }
 }
 
+/// A file from before there were windows is loaded as the store without any, and goes on with some.
+#[test]
+fn a_file_of_form_3_is_loaded_without_windows() {
+    let folder = Folder::new("form-3");
+    for mut store in [of_three_versions(), in_work(), in_work_on_lines()] {
+        let bytes = in_form_3(&folder, &store);
+        fs::write(folder.file(), bytes).unwrap();
+        let mut loaded = Store::load(folder.file()).unwrap();
+        assert!(loaded == store);
+        for store in [&mut store, &mut loaded] {
+            let published = store.publish(LIVE, Minute(600));
+            assert_eq!(published, Ok(Published::Waiting));
+            store.set_windows("600,660\n").unwrap();
+            let published = store.publish(LIVE, Minute(600));
+            assert_eq!(published, Ok(Published::Held));
+        }
+        loaded.save(folder.file()).unwrap(); // in the form of now
+        assert!(Store::load(folder.file()).unwrap() == store);
+    }
+}
+
 #[test]
 fn a_lent_store_is_saved_too() {
     let folder = Folder::new("lent");
-    let (state, mut areas) = in_work().into_parts();
-    let lent: Lent<'_> = Keeper::resume(state, areas.lend());
+    let mut store = in_work();
+    store.set_windows("600,660\n").unwrap();
+    let (state, windows, mut areas) = store.clone().into_parts();
+    let lent: Lent<'_> = Keeper::resume(state, windows, areas.lend());
     lent.save(folder.file()).unwrap();
-    assert!(Store::load(folder.file()).unwrap() == in_work());
+    assert!(Store::load(folder.file()).unwrap() == store);
 }
 
 /// The most pages, nodes and updates, of pages of this size, saved and loaded.
@@ -203,7 +288,7 @@ fn the_most_of(page_size: u64) {
     store.save(folder.file()).unwrap();
     assert_eq!(
         fs::metadata(folder.file()).unwrap().len(),
-        256 + 65_535 * page_size + 131_072 * 8 + 4_096 * 144
+        384 + 65_535 * page_size + 131_072 * 8 + 4_096 * 144
     );
     assert!(Store::load(folder.file()).unwrap() == store);
 }

@@ -1,11 +1,11 @@
 //! Damaged, cut off, contradictory and foreign files are refused, each with its reason.
 
 use crate::scene::{
-    in_form_1, in_form_2, in_work, in_work_on_lines, number, refused, saved, sealed, sealed_after,
-    set_number, Folder, HEADER, HEADER_1, HEADER_2, RECORD,
+    in_form_1, in_form_2, in_form_3, in_work, in_work_on_lines, number, refused, saved, sealed,
+    sealed_after, set_number, Folder, HEADER, HEADER_1, HEADER_2, HEADER_3, RECORD, WINDOWS,
 };
 use crate::updates::{update, LIVE};
-use pit_host::{Error, FileError, Limits, Store};
+use pit_host::{Error, FileError, Limits, Store, Window};
 use std::fs;
 
 /// Whether a file is refused for the right reason where the number `index` of a header of so many bytes, or what follows
@@ -40,6 +40,7 @@ fn every_flipped_bit_is_found() {
     flip_every_bit(&folder, HEADER, &saved(&folder, &in_work_on_lines()));
     flip_every_bit(&folder, HEADER_1, &in_form_1(&in_work()));
     flip_every_bit(&folder, HEADER_2, &in_form_2(&in_work()));
+    flip_every_bit(&folder, HEADER_3, &in_form_3(&folder, &in_work()));
 }
 
 #[test]
@@ -73,8 +74,9 @@ fn contradict(folder: &Folder, header: usize, bytes: &[u8]) {
             set_number(&mut changed, index, other);
             let error = refused(folder, &changed);
             assert!(due(header, index, &error), "{index} as {other}: {error}");
-            if index == header / 8 - 1 {
-                continue; // the checksum itself
+            let windows = header == HEADER && WINDOWS.contains(&(8 * index));
+            if index == header / 8 - 1 || windows {
+                continue; // the checksum itself; and these windows may be the site's
             }
             let error = refused(folder, &sealed_after(header, changed));
             let counter = counters.contains(&index) && matches!(error, FileError::Counters);
@@ -96,6 +98,8 @@ fn a_header_that_contradicts_itself_is_refused() {
     assert!(Store::load(folder.file()).unwrap() == in_work_on_lines());
     contradict(&folder, HEADER_1, &in_form_1(&in_work()));
     contradict(&folder, HEADER_2, &in_form_2(&in_work_on_lines()));
+    let bytes = in_form_3(&folder, &in_work_on_lines());
+    contradict(&folder, HEADER_3, &bytes);
 }
 
 /// Each of the numbers, with its checksum made right, is refused as a counter that no calls leave.
@@ -166,6 +170,45 @@ fn packed_lines_that_no_calls_leave_are_refused() {
     }
     let unbegun = [(15, 1), (15, 1 << 48), (27, 1 << 16), (27, 1 << 63)];
     no_calls_leave(&folder, HEADER, &bytes, &unbegun);
+}
+
+/// A file with a window in a place, and its checksum made right.
+fn with_window(bytes: &[u8], place: usize, window: Window) -> Vec<u8> {
+    let mut bytes = bytes.to_vec();
+    let at = WINDOWS.start + 4 * place;
+    bytes[at..at + 2].copy_from_slice(&window.from.to_le_bytes());
+    bytes[at + 2..at + 4].copy_from_slice(&window.to.to_le_bytes());
+    sealed(bytes)
+}
+
+/// Equal ends, minutes past the week, and a place that is not used before one that is.
+#[test]
+fn windows_that_no_call_leaves_are_refused() {
+    let folder = Folder::new("damaged-windows");
+    let mut store = in_work();
+    store.set_windows("1,2\n3,4\n").unwrap();
+    let bytes = saved(&folder, &store);
+    let ends = [(5, 5), (0, 10_080), (10_080, 0), (3, 65_535), (65_535, 3)];
+    let ends = (0..3).flat_map(|place| ends.map(|(from, to)| (place, from, to)));
+    let gaps = [(0, 0, 0), (3, 1, 2), (31, 1, 2), (31, 1, 1)];
+    for (place, from, to) in ends.chain(gaps) {
+        let window = Window { from, to };
+        let error = refused(&folder, &with_window(&bytes, place, window));
+        assert!(
+            matches!(error, FileError::Windows),
+            "{window} in place {place}: {error}"
+        );
+    }
+    for (place, from, to, list) in [
+        (1, 0, 0, "1,2\n"),
+        (1, 0, 10_079, "1,2\n0,10079\n"),
+        (2, 10_079, 0, "1,2\n3,4\n10079,0\n"),
+    ] {
+        let changed = with_window(&bytes, place, Window { from, to });
+        fs::write(folder.file(), changed).unwrap();
+        let loaded = Store::load(folder.file()).unwrap();
+        assert_eq!(loaded.windows().to_string(), list);
+    }
 }
 
 /// Where the register begins in a file of these records.
@@ -254,13 +297,19 @@ fn every_truncation_is_found() {
     cut_off(&folder, HEADER, &saved(&folder, &in_work()));
     cut_off(&folder, HEADER_1, &in_form_1(&in_work()));
     cut_off(&folder, HEADER_2, &in_form_2(&in_work()));
+    cut_off(&folder, HEADER_3, &in_form_3(&folder, &in_work()));
 }
 
 #[test]
 fn extra_bytes_are_found() {
     let folder = Folder::new("extra");
     let store = in_work();
-    for bytes in [saved(&folder, &store), in_form_1(&store), in_form_2(&store)] {
+    let old = [
+        in_form_1(&store),
+        in_form_2(&store),
+        in_form_3(&folder, &store),
+    ];
+    for bytes in old.into_iter().chain([saved(&folder, &store)]) {
         for extra in [1, 8, 80, 120, 144, 4_096] {
             let longer = [&bytes[..], &vec![0; extra]].concat();
             let error = refused(&folder, &longer);
@@ -284,7 +333,7 @@ fn other_files_are_refused() {
     ] {
         assert!(matches!(refused(&folder, bytes), FileError::Foreign));
     }
-    for form in [0, 4, u64::MAX] {
+    for form in [0, 5, u64::MAX] {
         let mut other = saved(&folder, &in_work());
         set_number(&mut other, 1, form);
         let error = refused(&folder, &sealed(other));
@@ -306,17 +355,17 @@ fn a_short_file_of_large_lengths_is_refused() {
         (3, pages),
         (4, nodes),
         (5, updates),
-        (28, 4_096 * pages),
-        (29, 8 * nodes),
-        (30, 144 * updates),
+        (44, 4_096 * pages),
+        (45, 8 * nodes),
+        (46, 144 * updates),
     ] {
         set_number(&mut bytes, index, number);
     }
     assert!(matches!(
         refused(&folder, &sealed(bytes)),
         FileError::Truncated {
-            expected: 270_070_016,
-            found: 256
+            expected: 270_070_144,
+            found: 384
         }
     ));
 }

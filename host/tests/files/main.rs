@@ -29,6 +29,7 @@ fn words_and_causes() {
         },
         FileError::Checksum,
         FileError::Counters,
+        FileError::Windows,
     ];
     let words: Vec<String> = errors.iter().map(FileError::to_string).collect();
     assert!(words.iter().all(|w| w.len() > 20));

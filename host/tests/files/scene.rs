@@ -1,8 +1,9 @@
 //! What the tests share: a folder each, a store in work, and the file's numbers and checksum as documented.
 
 use crate::updates::{assign, limits, update, LIVE};
-use pit_host::{FileError, Line, Record, Store, Version};
+use pit_host::{FileError, Line, Record, Store, Version, Windows};
 use std::fs;
+use std::ops::Range;
 use std::path::PathBuf;
 
 /// A folder of one test's own, removed again.
@@ -44,15 +45,19 @@ pub fn checksum(bytes: impl Iterator<Item = u8>) -> u64 {
 }
 
 /// A file's header in bytes; its last number is the checksum, and there are three lengths before that.
-pub const HEADER: usize = 256;
-/// The same of files of forms 1 and 2.
+pub const HEADER: usize = 384;
+/// The same of files of forms 1 to 3.
 pub const HEADER_1: usize = 128;
 pub const HEADER_2: usize = 760;
+pub const HEADER_3: usize = 256;
+
+/// Where the windows stand in the header, in bytes.
+pub const WINDOWS: Range<usize> = 224..352;
 
 /// A record in bytes.
 pub const RECORD: usize = 144;
 
-/// A number of the header, which has 32, or of what follows.
+/// A number of the header, which has 48, or of what follows.
 pub fn number(bytes: &[u8], index: usize) -> u64 {
     u64::from_le_bytes(bytes[8 * index..8 * index + 8].try_into().unwrap())
 }
@@ -127,6 +132,15 @@ pub fn in_form_2(store: &Store) -> Vec<u8> {
         let update = [r.name, r.f, r.last, r.size, place, r.woven];
         [&ticket[..], &update, &[e.from0, e.from4, e.from8, e.from12]].concat()
     })
+}
+
+/// A store without windows as a file of form 3 has it: as one of now, but for the windows' places.
+pub fn in_form_3(folder: &Folder, store: &Store) -> Vec<u8> {
+    assert_eq!(store.windows(), Windows::default(), "form 3 has none");
+    let mut bytes = saved(folder, store);
+    bytes.drain(WINDOWS);
+    set_number(&mut bytes, 1, 3);
+    sealed_after(HEADER_3, bytes)
 }
 
 /// The bytes of a saved store.

@@ -1,8 +1,10 @@
 //! The old file or the new one stands there whole, whatever happens while a store is saved.
 
 use crate::scene::{in_work, saved, Folder};
-use crate::updates::{fills, limits, of_three_versions, LIVE};
-use pit_host::{Error, FileError, Keeper, Lend, PageIndex, State, Store, Ticket, Version};
+use crate::updates::{fills, limits, of_three_versions, ANY_TIME, LIVE};
+use pit_host::{
+    Error, FileError, Keeper, Lend, PageIndex, Published, State, Store, Ticket, Version, Window,
+};
 use std::fs;
 use std::path::Path;
 use std::process::{Command, Stdio};
@@ -14,9 +16,9 @@ fn what_would_not_load_is_not_saved() {
     let folder = Folder::new("unsaved");
     let kept = saved(&folder, &in_work());
     let save = |spoil: fn(&mut State)| {
-        let (mut state, areas) = in_work().into_parts();
+        let (mut state, windows, areas) = in_work().into_parts();
         spoil(&mut state);
-        Keeper::resume(state, areas)
+        Keeper::resume(state, windows, areas)
             .save(folder.file())
             .unwrap_err()
     };
@@ -38,12 +40,19 @@ fn what_would_not_load_is_not_saved() {
     for spoil in counters {
         assert!(matches!(save(spoil), FileError::Counters));
     }
-    let (state, mut areas) = in_work().into_parts();
+    let (state, windows, mut areas) = in_work().into_parts();
     areas.lend().register[1].past += 1;
-    let damaged = Keeper::resume(state, areas);
+    let damaged = Keeper::resume(state, windows, areas);
     assert!(matches!(
         damaged.save(folder.file()),
         Err(FileError::Counters)
+    ));
+    let (state, mut windows, areas) = in_work().into_parts();
+    windows.places[1] = Window { from: 1, to: 2 };
+    let damaged = Keeper::resume(state, windows, areas);
+    assert!(matches!(
+        damaged.save(folder.file()),
+        Err(FileError::Windows)
     ));
     assert_eq!(fs::read(folder.file()).unwrap(), kept);
     assert_eq!(folder.names(), ["store"]);
@@ -188,7 +197,10 @@ fn a_restart_loses_nothing_that_was_saved() {
     for _ in 0..store.write(LIVE, Ticket(4), PageIndex(0)).unwrap().nodes {
         store.weave(Ticket(4)).unwrap();
     }
-    assert_eq!(store.publish(LIVE), Ok(Some(Version(4))));
+    assert_eq!(
+        store.publish(LIVE, ANY_TIME),
+        Ok(Published::Now(Version(4)))
+    );
     assert_eq!(fills(&store, LIVE, Version(4)), Ok(vec![8, 5, 6, 4, 7]));
 }
 

@@ -8,9 +8,10 @@
 #include <stdlib.h>
 #include <string.h>
 
-/* A store with its areas, and copies of them that tell what a call changed. */
+/* A store with its windows and its areas, and copies of these that tell what a call changed. */
 typedef struct host {
     pit_store s;
+    pit_windows w;
     uint8_t *pages, *old_pages;
     size_t pages_len;
     uint32_t *nodes, *old_nodes;
@@ -113,6 +114,21 @@ static void show_store(pit_store s)
     }
 }
 
+/* The places that are not 0, each by its number. */
+static void show_windows(pit_windows w)
+{
+    int place, used = 0;
+    printf("; windows:");
+    for (place = 0; place < 32; place++) {
+        pit_window window = w.places[place];
+        if (window.from != 0 || window.to != 0) {
+            printf(" %d=%u,%u", place, (unsigned)window.from, (unsigned)window.to);
+            used = 1;
+        }
+    }
+    printf("%s", used ? "" : " none");
+}
+
 static void show_record(const host *h, size_t index)
 {
     pit_record r = h->records[index];
@@ -138,7 +154,7 @@ static void show_record(const host *h, size_t index)
     printf("\n");
 }
 
-/* Each call: its arguments, then the reply; where the reply has a store, that one goes on. */
+/* Each call: its arguments, then the reply; where the reply has a store or windows, these go on. */
 
 static void format(host *h, uint64_t size, uint64_t pages, uint64_t nodes, uint64_t updates)
 {
@@ -146,8 +162,10 @@ static void format(host *h, uint64_t size, uint64_t pages, uint64_t nodes, uint6
     printf("FORMAT %" PRIu64 " %" PRIu64 " %" PRIu64 " %" PRIu64 ":", size, pages, nodes, updates);
     SHOW(reply, refusal);
     show_store(reply.store);
+    show_windows(reply.windows);
     if (reply.refusal == 0) {
         h->s = reply.store;
+        h->w = reply.windows;
     }
     end_line(h);
 }
@@ -209,15 +227,34 @@ static void weave(host *h, uint64_t ticket)
     end_line(h);
 }
 
-static void publish(host *h, uint64_t line)
+static void publish(host *h, uint64_t line, uint64_t minute)
 {
-    pit_publish_reply reply = pit_publish(STORE(h), line);
-    printf("PUBLISH %" PRIu64 ":", line);
+    pit_publish_reply reply = pit_publish(h->s, h->w, AREAS(h), line, minute);
+    printf("PUBLISH %" PRIu64 " %" PRIu64 ":", line, minute);
     SHOW(reply, refusal);
     SHOW(reply, version);
+    SHOW(reply, held);
     show_store(reply.store);
     h->s = reply.store;
     end_line(h);
+}
+
+/* The text has ; for each line feed. */
+static void set_windows(host *h, const char *text)
+{
+    size_t i, length = strlen(text);
+    uint8_t *bytes = lent(length, 0);
+    pit_windows_reply reply;
+    for (i = 0; i < length; i++) {
+        bytes[i] = text[i] == ';' ? '\n' : (uint8_t)text[i];
+    }
+    reply = pit_set_windows(h->s, h->w, AREAS(h), bytes, length);
+    printf("SETWINDOWS %s:", text);
+    SHOW(reply, refusal);
+    show_windows(reply.windows);
+    h->w = reply.windows;
+    end_line(h);
+    free(bytes);
 }
 
 static void branch(host *h, uint64_t line, uint64_t version)
@@ -333,11 +370,22 @@ static void layout_of_records(void)
     printf("\n");
 }
 
+static void layout_of_windows(void)
+{
+    printf("pit_window, %zu bytes:", sizeof(pit_window));
+    AT(pit_window, from);
+    AT(pit_window, to);
+    printf("\npit_windows, %zu bytes:", sizeof(pit_windows));
+    AT(pit_windows, places);
+    printf("\n");
+}
+
 static void layout_of_replies(void)
 {
     printf("pit_format_reply, %zu bytes:", sizeof(pit_format_reply));
     AT(pit_format_reply, refusal);
     AT(pit_format_reply, store);
+    AT(pit_format_reply, windows);
     printf("\npit_begin_reply, %zu bytes:", sizeof(pit_begin_reply));
     AT(pit_begin_reply, refusal);
     AT(pit_begin_reply, store);
@@ -359,6 +407,10 @@ static void layout_of_replies(void)
     AT(pit_publish_reply, refusal);
     AT(pit_publish_reply, store);
     AT(pit_publish_reply, version);
+    AT(pit_publish_reply, held);
+    printf("\npit_windows_reply, %zu bytes:", sizeof(pit_windows_reply));
+    AT(pit_windows_reply, refusal);
+    AT(pit_windows_reply, windows);
     printf("\npit_branch_reply, %zu bytes:", sizeof(pit_branch_reply));
     AT(pit_branch_reply, refusal);
     AT(pit_branch_reply, store);
@@ -400,13 +452,13 @@ static void example(void)
     append(&h, 0, 2);
     append(&h, 0, 1);
     weave(&h, 1);
-    publish(&h, 0);
+    publish(&h, 0, 0);
     weave(&h, 2);
-    publish(&h, 0);
+    publish(&h, 0, 0);
     read_range(&h, 0, 2, 0, 0, 2);
     weave(&h, 1);
     weave(&h, 1);
-    publish(&h, 0);
+    publish(&h, 0, 0);
     read_range(&h, 0, 2, 14, 4, 6);
     stamp(&h, 0, 2, 0);
     stamp(&h, 0, 2, 2);
@@ -440,7 +492,7 @@ static void damaged(host *h)
     h->records_len -= 1;
     recent(h, 0);
     size(h, 0, 1);
-    publish(h, 0);
+    publish(h, 0, 0);
     weave(h, 4);
     h->records_len += 1;
     h->s.nodes += 1;
@@ -473,7 +525,7 @@ static void all_different(void)
     write_at(&h, 0, 4, 13);
     write_at(&h, 0, 4, 5);
     weave_all(&h, 1, 20);
-    publish(&h, 0);
+    publish(&h, 0, 0);
     weave_all(&h, 4, 1);
     show_record(&h, 0);
     show_record(&h, 1);
@@ -481,9 +533,9 @@ static void all_different(void)
     show_record(&h, 3);
     weave_all(&h, 4, 14);
     weave_all(&h, 3, 8);
-    publish(&h, 0);
-    publish(&h, 0);
-    publish(&h, 0);
+    publish(&h, 0, 0);
+    publish(&h, 0, 0);
+    publish(&h, 0, 0);
     size(&h, 0, 3);
     size(&h, 0, 4);
     stamp(&h, 0, 3, 11);
@@ -503,7 +555,7 @@ static void planned(host *h)
     append(h, 0, 1);
     branch(h, 0, 1);
     weave_all(h, 1, 6);
-    publish(h, 0);
+    publish(h, 0, 0);
     branch(h, 0, 1);
     branch(h, 2, 1);
     branch(h, 1, 0);
@@ -517,13 +569,13 @@ static void planned(host *h)
     update(h, 4, 1);
     append(h, 1, 4);
     weave_all(h, 4, 3);
-    publish(h, 1);
+    publish(h, 1, 0);
     weave_all(h, 2, 5);
-    publish(h, 0);
-    publish(h, 1);
-    publish(h, 1);
+    publish(h, 0, 0);
+    publish(h, 1, 0);
+    publish(h, 1, 0);
     weave_all(h, 3, 1);
-    publish(h, 2);
+    publish(h, 2, 0);
     branch(h, 1, 3);
 }
 
@@ -540,7 +592,7 @@ static void planning(void)
         size(&h, i, 3);
     }
     recent(&h, 4);
-    publish(&h, 4);
+    publish(&h, 4, 0);
     size(&h, 4, 0);
     read_range(&h, 4, 0, 0, 0, 1);
     read_range(&h, 0, 1, 15, 2, 3);
@@ -562,15 +614,67 @@ static void planning(void)
     free_host(&h);
 }
 
+#define TIMES_10(text) text text text text text text text text text text
+#define TIMES_11(text) TIMES_10(text) text
+
+/* A register one record too short; then a version that is due, of which the record is another's. */
+static void blasting_on_damaged_areas(host *h)
+{
+    set_windows(h, "480,540;");
+    h->records_len -= 1;
+    set_windows(h, "1,1;");
+    publish(h, 1, 10080);
+    h->records_len += 1;
+    update(h, 2, 1);
+    append(h, 0, 2);
+    h->records[1].name = 7;
+    printf("a record changed");
+    end_line(h);
+    publish(h, 0, 479);
+    publish(h, 0, 480);
+}
+
+/* Windows set, refused and replaced, and a version that is due while they are open. */
+static void blasting(void)
+{
+    host h = new_host(64, 16, 2);
+    format(&h, 16, 4, 8, 2);
+    set_windows(&h, "480,540;10000,50;");
+    update(&h, 1, 1);
+    append(&h, 0, 1);
+    publish(&h, 0, 480);
+    publish(&h, 0, 540);
+    weave(&h, 1);
+    publish(&h, 1, 10080);
+    publish(&h, 0, 10080);
+    publish(&h, 0, 539);
+    publish(&h, 0, 10079);
+    publish(&h, 0, 49);
+    set_windows(&h, "1,2;540,540;");
+    set_windows(&h, "1,2;3,4");
+    set_windows(&h, TIMES_11("0,1;1,2;2,3;"));
+    set_windows(&h, TIMES_11("0,1;1,2;2,3;") "3,10080;");
+    publish(&h, 0, 50);
+    set_windows(&h, TIMES_10("0,1;1,2;10078,10079;") "65,64;10079,0;");
+    publish(&h, 0, 64);
+    set_windows(&h, "");
+    publish(&h, 0, 10079);
+    blasting_on_damaged_areas(&h);
+    format(&h, 16, 4, 8, 2);
+    free_host(&h);
+}
+
 int main(void)
 {
     layout_of_stores();
+    layout_of_windows();
     layout_of_records();
     layout_of_replies();
     layout_of_readers_replies();
     example();
     all_different();
     planning();
+    blasting();
     printf("root span of 5 and 4097: %" PRIu64 " %" PRIu64 "\n", pit_root_span(5), pit_root_span(4097));
     printf("nodes of 31 2 64 and 31 2 32: %" PRIu64 " %" PRIu64 "\n", pit_node_count(31, 2, 64), pit_node_count(31, 2, 32));
     return 0;

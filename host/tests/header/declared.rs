@@ -178,7 +178,7 @@ fn named(text: &str) -> (&str, &str) {
 /// `FormatReply` is `pit_format_reply`.
 fn c_type(kind: &str) -> String {
     match kind {
-        "u8" | "u32" | "u64" => format!("uint{}_t", &kind[1..]),
+        "u8" | "u16" | "u32" | "u64" => format!("uint{}_t", &kind[1..]),
         "usize" => "size_t".to_string(),
         "State" => "pit_store".to_string(),
         named => named.chars().fold("pit".to_string(), |name, c| {

@@ -1,5 +1,7 @@
 //! Scripts: lines and the answers that are due. Random ones mix steps that move the store on with
-//! steps that are refused; the model's state chooses the arguments.
+//! steps that are refused; the model's state chooses the arguments. A host's scripts set windows too.
+
+pub mod windows;
 
 use crate::store::text::{
     hexadecimal, Program, LONGEST_LINE, LONGEST_READ, MOST_NODES, MOST_PAGE_BYTES, MOST_UPDATES,
@@ -7,7 +9,7 @@ use crate::store::text::{
 use crate::store::Store;
 
 /// Numbers at which a limit, a width or a sum can go wrong.
-const EDGES: [u64; 28] = [
+const EDGES: [u64; 30] = [
     0,
     1,
     2,
@@ -26,6 +28,8 @@ const EDGES: [u64; 28] = [
     2_047,
     2_048,
     2_049,
+    10_079,
+    10_080,
     32_768,
     65_536,
     1 << 32,
@@ -46,7 +50,7 @@ const WORDS: [(&str, usize); 12] = [
     ("WRITE", 3),
     ("APPEND", 2),
     ("WEAVE", 1),
-    ("PUBLISH", 1),
+    ("PUBLISH", 2),
     ("BRANCH", 2),
     ("READ", 4),
     ("SIZE", 2),
@@ -122,8 +126,19 @@ pub fn random_from_the_start(seed: u64) -> Script {
     author.script
 }
 
+/// The script of a seed for a host, from an accepted FORMAT on.
+pub fn random_of_a_host(seed: u64) -> Script {
+    let mut author = Author::new(seed);
+    author.script.name = format!("PIT_SEED={seed}, of a host");
+    author.host = true;
+    author.main_part();
+    author.script
+}
+
 /// Writes a script, with the model at hand.
 struct Author {
+    /// Whether it is a host's, which sets windows.
+    host: bool,
     random: Random,
     model: Program,
     script: Script,
@@ -132,6 +147,7 @@ struct Author {
 impl Author {
     fn new(seed: u64) -> Author {
         Author {
+            host: false,
             random: Random(seed),
             model: Program::default(),
             script: Script::default(),
@@ -140,7 +156,12 @@ impl Author {
 
     fn say(&mut self, line: impl Into<Vec<u8>>) {
         let line = line.into();
-        self.script.answers.push(self.model.answer(&line));
+        let answer = if self.host {
+            self.model.answer_to_host(&line)
+        } else {
+            self.model.answer(&line)
+        };
+        self.script.answers.push(answer);
         self.script.lines.push(line);
     }
 
@@ -190,6 +211,9 @@ impl Author {
     }
 
     fn step(&mut self) {
+        if self.host && self.random.one_in(8) {
+            self.set_windows();
+        }
         match self.random.below(40) {
             0..=5 => self.begin(),
             6..=9 => self.put_one(),
@@ -266,8 +290,8 @@ impl Author {
 
     fn publish(&mut self) {
         let line = self.line();
-        let line = self.bent(line);
-        self.say(format!("PUBLISH,{line}"));
+        let (line, minute) = (self.bent(line), self.minute());
+        self.say(format!("PUBLISH,{line},{minute}"));
     }
 
     fn recent(&mut self) {
@@ -507,8 +531,9 @@ impl Author {
     }
 
     fn publish_all(&mut self, line: u64) {
+        let minute = self.free_minute();
         loop {
-            self.say(format!("PUBLISH,{line}"));
+            self.say(format!("PUBLISH,{line},{minute}"));
             if self.script.answers.last().map_or(true, |a| a == "waiting") {
                 return;
             }

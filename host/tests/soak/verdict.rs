@@ -4,7 +4,7 @@ use crate::readers::{Answer, Asked, What};
 use crate::store;
 use crate::writers::{Begun, Log, Update};
 use crate::PAGE_SIZE;
-use pit_host::{Error, Limits, Line, Node, Shared, Version};
+use pit_host::{Error, Limits, Line, Minute, Node, Published, Shared, Version};
 
 /// The model after what the logs tell, each answer in them compared with its own. Tickets and versions are told in the
 /// order of their numbers, and lines one after the other, each when its source is there whole; when a node was woven makes
@@ -50,7 +50,7 @@ fn replay_line(model: &mut store::Store, line: Line, updates: &[&Update]) {
             assert_eq!(model.weave(update.ticket.0), Ok(plain(node)));
         }
     }
-    while model.publish(line.0) != Ok(None) {}
+    while model.publish(line.0, 0) != Ok(store::Published::Waiting) {}
 }
 
 /// A woven node in the model's form.
@@ -85,7 +85,7 @@ fn published_on(shared: &Shared, model: &store::Store, logs: &[&Log], line: Line
     let last = model.lines[line.0 as usize].shown.len() as u64;
     let due = first.map_or(last, |first| first - 1);
     assert_eq!(shared.recent(line), Ok(Version(due)));
-    assert_eq!(shared.publish(line), Ok(None));
+    assert_eq!(shared.publish(line, Minute(0)), Ok(Published::Waiting));
     assert_eq!(model.recent(line.0), Ok(due));
 
     let told = logs.iter().flat_map(|log| &log.published);

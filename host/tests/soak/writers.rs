@@ -2,8 +2,10 @@
 //! that outlives it.
 
 use crate::random::Random;
-use crate::PAGE_SIZE;
-use pit_host::{Assigned, Error, Line, Node, PageIndex, Shared, Ticket, Version};
+use crate::{FIRED, PAGE_SIZE};
+use pit_host::{
+    Assigned, Error, Line, Minute, Node, PageIndex, Published, Shared, Ticket, Version,
+};
 use std::sync::{Mutex, MutexGuard};
 use std::thread;
 
@@ -32,11 +34,12 @@ pub struct Begun {
     pub version: Version,
 }
 
-/// A writer's updates, the versions that it has published, and the line that it has begun.
+/// A writer's updates, the versions that it has published, how often it was held, and the line that it has begun.
 #[derive(Default)]
 pub struct Log {
     pub updates: Vec<Update>,
     pub published: Vec<(Line, Version)>,
+    pub held: u64,
     pub begun: Option<Begun>,
 }
 
@@ -270,10 +273,20 @@ impl<'a> Writer<'a> {
         Ok(())
     }
 
-    /// Publishes all that is due on its line.
+    /// Publishes all that is due on its line, half the time at a minute at which it may be held. What is held then, somebody
+    /// publishes later.
     fn publish(&mut self) {
-        while let Some(version) = self.shared.publish(self.line).expect("a line") {
-            self.log().published.push((self.line, version));
+        let minute = Minute(FIRED.0 * self.random.below(2));
+        loop {
+            match self.shared.publish(self.line, minute).expect("a line") {
+                Published::Now(version) => self.log().published.push((self.line, version)),
+                Published::Waiting => return,
+                Published::Held => {
+                    assert_eq!(minute, FIRED);
+                    self.log().held += 1;
+                    return;
+                }
+            }
         }
     }
 

@@ -1,10 +1,15 @@
 //! The plain model of the store, document 01's with the lines of document 02, written from the documents alone: tickets,
-//! updates, and for each line the updates that it shows and the number published. Refusals follow the table row by row,
-//! nodes come from building the tree, and a version is read by applying the updates of its line up to it in turn.
+//! updates, for each line the updates that it shows and the number published, and the site's windows. Refusals follow the
+//! table row by row, nodes come from building the tree, and a version is read by applying the updates of its line up to it
+//! in turn.
 
+pub mod image;
 #[cfg(test)]
 mod tests;
 pub mod text;
+pub mod windows;
+
+use windows::{inside, listed, Window, WEEK};
 
 /// A blob has at most this many pages.
 const MOST_PAGES: u64 = 4_096;
@@ -52,11 +57,21 @@ impl Update {
     }
 }
 
-/// A line: the updates that are its versions 1, 2 .., the shared ones first, by their places among all; and how many are
-/// published.
+/// A line: the line and version that it begins from, the updates that are its versions 1, 2 .., the shared ones first, by
+/// their places among all; and how many are published.
 pub struct Line {
+    source: u64,
+    start: u64,
     pub shown: Vec<usize>,
     pub published: u64,
+}
+
+/// What PUBLISH answers.
+#[derive(Debug, PartialEq)]
+pub enum Published {
+    Now(u64),
+    Waiting,
+    Held,
 }
 
 /// A woven node: its name, its two numbers and how many nodes of its version are left. Versions say their line too.
@@ -78,6 +93,7 @@ pub struct Store {
     /// In the order of ASSIGN, over all lines.
     pub updates: Vec<Update>,
     pub lines: Vec<Line>,
+    pub windows: Vec<Window>,
 }
 
 /// Whether the `span` pages from `first` on and the `n` pages from `f` on have a page in common.
@@ -128,9 +144,12 @@ impl Store {
             tickets: vec![],
             updates: vec![],
             lines: vec![Line {
+                source: 0,
+                start: 0,
                 shown: vec![],
                 published: 0,
             }],
+            windows: vec![],
         })
     }
 
@@ -192,21 +211,31 @@ impl Store {
             version: update.number(),
             first,
             span,
-            numbers: self.numbers(update, first, span),
+            numbers: self.numbers_of(update, first, span),
             left: names.len() as u64 - woven - 1,
         };
         self.tickets[at].woven += 1;
         Ok(node)
     }
 
-    /// The version published now, if there is one to publish.
-    pub fn publish(&mut self, line: u64) -> Answer<Option<u64>> {
+    /// The version published now, if there is one to publish and the minute is inside no window.
+    pub fn publish(&mut self, line: u64, minute: u64) -> Answer<Published> {
         let next = self.line(line)?.published + 1;
+        row(22, minute >= WEEK)?;
+        if inside(&self.windows, minute) {
+            return Ok(Published::Held);
+        }
         if self.shown(line, next).map_or(true, |u| !self.complete(u)) {
-            return Ok(None);
+            return Ok(Published::Waiting);
         }
         self.lines[line as usize].published = next;
-        Ok(Some(next))
+        Ok(Published::Now(next))
+    }
+
+    /// The windows of a text, in place of those that there were.
+    pub fn set_windows(&mut self, text: &[u8]) -> Answer<()> {
+        self.windows = listed(text).map_err(Refused)?;
+        Ok(())
     }
 
     /// The new line: it shows what the line shows up to `v`, all of it published.
@@ -215,6 +244,8 @@ impl Store {
         row(21, self.lines.len() as u64 == MOST_LINES)?;
         let shown = source.shown[..v as usize].to_vec();
         self.lines.push(Line {
+            source: line,
+            start: v,
             shown,
             published: v,
         });
@@ -330,7 +361,7 @@ impl Store {
 
     /// A node's two numbers: its children's versions, each of the line on which it got its version, or a leaf's page
     /// number and 0. Below it are the versions of the line on which its own update got one.
-    fn numbers(&self, update: &Update, first: u64, span: u64) -> (u64, u64) {
+    fn numbers_of(&self, update: &Update, first: u64, span: u64) -> (u64, u64) {
         let half = span / 2;
         if span > 1 {
             let newest = |first| {

@@ -1,6 +1,8 @@
-//! The model by itself: document 01's example and proved cases, rows that the program never meets, and lines.
+//! The model by itself: document 01's example and proved cases, rows that the program never meets, lines and windows.
 
 use super::text::{lines_of, Program};
+use super::windows::{Window, WEEK};
+use super::Published::{Held, Now, Waiting};
 use super::{root_span, weaving_order, Node, Refused, Store};
 use std::collections::HashMap;
 
@@ -13,12 +15,12 @@ PUT,1,0,11111111111111111111111111111111
 APPEND,0,2
 APPEND,0,1
 WEAVE,1
-PUBLISH,0
+PUBLISH,0,0
 WEAVE,2
-PUBLISH,0
+PUBLISH,0,0
 READ,0,2,0,0
 WEAVE,1
-PUBLISH,0
+PUBLISH,0,0
 READ,0,2,14,4
 STAMP,0,2,0
 BEGIN,1
@@ -151,7 +153,7 @@ fn model_weaves_root_first_and_left_before_right() {
 #[test]
 fn model_tree_leads_to_the_bytes_and_stamps() {
     let (mut store, nodes) = figure_1();
-    while store.publish(0) != Ok(None) {}
+    while store.publish(0, 0) != Ok(Waiting) {}
     let place = |node: &Node| ((node.version, node.first, node.span), node.numbers);
     let tree: HashMap<_, _> = nodes.iter().map(place).collect();
     let put = [0x11, 0x11, 0x11, 0x11, 0x22, 0x22, 0x33];
@@ -192,7 +194,7 @@ fn model_refuses_a_blob_above_4096_pages() {
 #[test]
 fn model_refuses_a_short_buffer() {
     let (mut store, _) = figure_1();
-    assert_eq!(store.publish(0), Ok(Some(1)));
+    assert_eq!(store.publish(0, 0), Ok(Now(1)));
     let mut buffer = [7; 3];
     assert_eq!(store.read(0, 2, 0, 4, &mut buffer), Err(Refused(16)));
     assert_eq!(store.read(0, 1, 61, 4, &mut buffer), Err(Refused(17)));
@@ -208,16 +210,20 @@ fn model_shows_shared_updates_followed_by_a_lines_own() {
     let mut store = Store::format(16, 16, 64, 8).expect("allowed");
     let first = update(&mut store, 0, 2, None, 0x11);
     weave_all(&mut store, first);
-    assert_eq!(store.publish(0), Ok(Some(1)));
+    assert_eq!(store.publish(0, 0), Ok(Now(1)));
     assert_eq!(store.branch(0, 1), Ok(1));
     let live = update(&mut store, 0, 1, Some(0), 0x22);
     let plan = update(&mut store, 1, 1, Some(1), 0x33);
     let numbers = |nodes: Vec<Node>| (nodes[0].version, nodes[0].numbers);
     assert_eq!(numbers(weave_all(&mut store, plan)), (65_538, (1, 65_538)));
-    assert_eq!(store.publish(1), Ok(Some(2)));
-    assert_eq!(store.publish(0), Ok(None), "one line waits for no other");
+    assert_eq!(store.publish(1, 0), Ok(Now(2)));
+    assert_eq!(
+        store.publish(0, 0),
+        Ok(Waiting),
+        "one line waits for no other"
+    );
     assert_eq!(numbers(weave_all(&mut store, live)), (2, (2, 1)));
-    assert_eq!(store.publish(0), Ok(Some(2)));
+    assert_eq!(store.publish(0, 0), Ok(Now(2)));
     let pages = |line, v| {
         let mut bytes = [0; 32];
         assert_eq!(store.read(line, v, 0, 32, &mut bytes), Ok(()));
@@ -236,7 +242,7 @@ fn model_refuses_by_the_rows_of_lines() {
     assert_eq!(store.assign(1, done, None), Err(Refused(8)));
     assert_eq!(store.assign(1, open, Some(9)), Err(Refused(20)));
     assert_eq!(store.assign(0, open, Some(9)), Err(Refused(12)));
-    assert_eq!(store.publish(1), Err(Refused(20)));
+    assert_eq!(store.publish(1, WEEK), Err(Refused(20)));
     assert_eq!(store.recent(u64::MAX), Err(Refused(20)));
     assert_eq!(store.stamp(1, 9, 9), Err(Refused(20)));
     assert_eq!(store.branch(1, 9), Err(Refused(20)));
@@ -278,4 +284,110 @@ fn model_splits_an_input_into_lines() {
     let lines = |input: &str| lines_of(input.as_bytes()).len();
     let counts = ["", "\n", "A", "A\n", "A\nB", "A\n\n", "\n\n"].map(lines);
     assert_eq!(counts, [0, 1, 1, 1, 2, 2, 2]);
+}
+
+// Windows.
+
+/// Walks the week's clock from `from` until `to`, a minute a step: a window has the minutes met, and no other.
+#[test]
+fn model_has_the_minutes_of_a_window() {
+    let ends = [0, 1, 2, 5_000, 10_000, WEEK - 2, WEEK - 1];
+    for (from, to) in ends.iter().flat_map(|from| ends.map(|to| (*from, to))) {
+        let mut met = [false; WEEK as usize];
+        let mut minute = from;
+        while minute != to {
+            met[minute as usize] = true;
+            minute = (minute + 1) % WEEK;
+        }
+        let window = Window { from, to };
+        for minute in 0..WEEK {
+            assert_eq!(
+                window.has(minute),
+                met[minute as usize],
+                "{window:?}, {minute}"
+            );
+        }
+    }
+}
+
+fn empty() -> Store {
+    Store::format(16, 4, 8, 2).expect("allowed")
+}
+
+/// A list of so many windows, one a minute.
+fn list(count: u64) -> String {
+    (0..count).map(|k| format!("{k},{}\n", k + 1)).collect()
+}
+
+#[test]
+fn model_reads_a_list() {
+    let window = |from, to| Window { from, to };
+    let mut store = empty();
+    assert_eq!(store.windows, [], "as after FORMAT");
+    assert_eq!(store.set_windows(b"0,1\n10079,0\n"), Ok(()));
+    assert_eq!(store.windows, [window(0, 1), window(10_079, 0)]);
+    assert_eq!(store.set_windows(b"0,10079\n"), Ok(()), "the old list goes");
+    assert_eq!(store.windows, [window(0, 10_079)]);
+    assert_eq!(store.set_windows(list(33).as_bytes()), Err(Refused(24)));
+    assert_eq!(store.windows, [window(0, 10_079)], "refused, it stays");
+    assert_eq!(store.set_windows(list(32).as_bytes()), Ok(()));
+    assert_eq!(store.windows.len(), 32);
+    assert_eq!(store.set_windows(b""), Ok(()));
+    assert_eq!(store.windows, []);
+}
+
+#[test]
+fn model_refuses_a_list_with_a_wrong_line() {
+    let wrong: [&[u8]; 22] = [
+        b"\n",
+        b"1,2",
+        b"1,2\n3,4",
+        b"1,2\n\n",
+        b"\n1,2\n",
+        b",\n",
+        b"1\n",
+        b"1,\n",
+        b",2\n",
+        b"1,2,\n",
+        b"1,2,3\n",
+        b"1,1\n",
+        b"1,10080\n",
+        b"10080,1\n",
+        b"01,2\n",
+        b"+1,2\n",
+        b"1,-2\n",
+        b" 1,2\n",
+        b"1,2 \n",
+        b"1,2\r\n",
+        b"1,65538\n",
+        b"1,18446744073709551618\n",
+    ];
+    for text in wrong {
+        let shown = text.escape_ascii();
+        assert_eq!(empty().set_windows(text), Err(Refused(23)), "{shown}");
+        let past_the_32nd = [list(32).as_bytes(), text].concat();
+        let refused = empty().set_windows(&past_the_32nd);
+        assert_eq!(refused, Err(Refused(23)), "32 windows, then {shown}");
+    }
+}
+
+#[test]
+fn model_holds_inside_a_window_due_or_not() {
+    let mut store = empty();
+    assert_eq!(store.set_windows(b"100,200\n10000,50\n"), Ok(()));
+    let ticket = update(&mut store, 0, 1, None, 0);
+    assert_eq!(store.publish(0, 100), Ok(Held), "nothing is due");
+    weave_all(&mut store, ticket);
+    for minute in [100, 199, 10_000, 10_079, 0, 49] {
+        assert_eq!(store.publish(0, minute), Ok(Held), "{minute}");
+    }
+    assert_eq!(store.recent(0), Ok(0), "held, it moves nothing");
+    assert_eq!(store.publish(1, 100), Err(Refused(20)));
+    assert_eq!(store.publish(1, WEEK), Err(Refused(20)));
+    assert_eq!(store.publish(0, WEEK), Err(Refused(22)));
+    assert_eq!(store.publish(0, u64::MAX), Err(Refused(22)));
+    assert_eq!(store.publish(0, 50), Ok(Now(1)));
+    for minute in [50, 99, 200, 9_999] {
+        assert_eq!(store.publish(0, minute), Ok(Waiting), "{minute}");
+    }
 }

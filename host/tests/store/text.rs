@@ -1,6 +1,7 @@
-//! The step program's lines: their form, the program's own limits, and the answers, on top of the model.
+//! The step program's lines: their form, the program's own limits, and the answers, on top of the model. And one line that
+//! only a host has: `SETWINDOWS,` and the text of a list, with its line feeds.
 
-use super::{Answer, Node, Refused, Store};
+use super::{Answer, Node, Published, Refused, Store};
 
 /// The program's own limits. What is beyond them, it refuses with 0.
 pub const MOST_PAGE_SIZE: u64 = 256;
@@ -13,18 +14,19 @@ pub const LONGEST_LINE: usize = 600;
 /// What the program refuses before the table is asked.
 const BEYOND: Refused = Refused(0);
 
-enum Step {
+pub enum Step {
     Format([u64; 4]),
     Begin(u64),
     Put(u64, u64, Vec<u8>),
     Weave(u64),
+    SetWindows(Vec<u8>),
     On(u64, OnLine),
 }
 
 /// A step that names a line, which is its first field.
-enum OnLine {
+pub enum OnLine {
     Assign(u64, Option<u64>),
-    Publish,
+    Publish(u64),
     Branch(u64),
     Read(u64, u64, u64),
     Size(u64),
@@ -79,13 +81,21 @@ fn step(line: &[u8]) -> Option<Step> {
     Some(step)
 }
 
+/// The same of a host's line.
+pub fn hosts_step(line: &[u8]) -> Option<Step> {
+    match line.strip_prefix(b"SETWINDOWS,") {
+        Some(text) => Some(Step::SetWindows(text.to_vec())),
+        None => step(line),
+    }
+}
+
 /// The same of a step that names a line, from its word and the fields after the line.
 fn step_on_a_line(word: &[u8], fields: &[&[u8]]) -> Option<OnLine> {
     let numbers: Option<Vec<u64>> = fields.iter().map(|field| number(field)).collect();
     Some(match (word, &numbers?[..]) {
         (b"WRITE", &[ticket, f]) => OnLine::Assign(ticket, Some(f)),
         (b"APPEND", &[ticket]) => OnLine::Assign(ticket, None),
-        (b"PUBLISH", []) => OnLine::Publish,
+        (b"PUBLISH", &[minute]) => OnLine::Publish(minute),
         (b"BRANCH", &[v]) => OnLine::Branch(v),
         (b"READ", &[v, offset, length]) => OnLine::Read(v, offset, length),
         (b"SIZE", &[v]) => OnLine::Size(v),
@@ -135,6 +145,10 @@ fn step_on(store: &mut Store, step: Step) -> Answer<String> {
             "put".to_string()
         }
         Step::Weave(ticket) => node_line(store.weave(ticket)?),
+        Step::SetWindows(text) => {
+            store.set_windows(&text)?;
+            "done".to_string()
+        }
         Step::On(line, step) => step_on_line(store, line, step)?,
     })
 }
@@ -146,9 +160,10 @@ fn step_on_line(store: &mut Store, line: u64, step: OnLine) -> Answer<String> {
             let (version, nodes) = store.assign(line, ticket, f)?;
             format!("version,{version},{nodes}")
         }
-        OnLine::Publish => match store.publish(line)? {
-            Some(version) => format!("published,{version}"),
-            None => "waiting".to_string(),
+        OnLine::Publish(minute) => match store.publish(line, minute)? {
+            Published::Now(version) => format!("published,{version}"),
+            Published::Waiting => "waiting".to_string(),
+            Published::Held => "held".to_string(),
         },
         OnLine::Branch(v) => format!("line,{}", store.branch(line, v)?),
         OnLine::Read(v, offset, length) => read_line(store, line, v, offset, length)?,
@@ -167,7 +182,16 @@ pub struct Program {
 impl Program {
     /// The answer to a line, both without their line feed.
     pub fn answer(&mut self, line: &[u8]) -> String {
-        let answer = match step(line) {
+        self.answer_to(step(line))
+    }
+
+    /// The answer to a host's line.
+    pub fn answer_to_host(&mut self, line: &[u8]) -> String {
+        self.answer_to(hosts_step(line))
+    }
+
+    fn answer_to(&mut self, step: Option<Step>) -> String {
+        let answer = match step {
             None => Err(BEYOND),
             Some(Step::Format(fields)) => self.format(fields),
             Some(step) => match &mut self.store {

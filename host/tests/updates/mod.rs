@@ -1,10 +1,15 @@
 //! Whole updates in one step, for the tests of the library.
 #![allow(dead_code)] // each test program uses some of it
 
-use pit_host::{Assigned, Error, Keeper, Lend, Limits, Line, PageIndex, Store, Ticket, Version};
+use pit_host::{
+    Assigned, Error, Keeper, Lend, Limits, Line, Minute, PageIndex, Published, Store, Ticket,
+    Version,
+};
 
 /// The line that begins with the store.
 pub const LIVE: Line = Line(0);
+/// When versions are published, where no window matters.
+pub const ANY_TIME: Minute = Minute(0);
 
 /// Small limits: pages of 16 bytes.
 pub fn limits(pages: u64, nodes: u64, updates: u64) -> Limits {
@@ -47,7 +52,8 @@ pub fn update<A: Lend>(
     for _ in 0..assigned.nodes {
         store.weave(ticket)?;
     }
-    assert_eq!(store.publish(line)?, Some(assigned.version));
+    let published = store.publish(line, ANY_TIME)?;
+    assert_eq!(published, Published::Now(assigned.version));
     Ok(assigned.version)
 }
 

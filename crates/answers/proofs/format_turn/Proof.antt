@@ -51,6 +51,10 @@ use Rattle.tree.specs.declared.Ticket.{Ticket}
 use Rattle.register.proofs.Generated.Kind.Ticket as Ticket′
 use Rattle.format.specs.declared.Formatted.{Formatted}
 use Rattle.format.proofs.Generated.Kind.Formatted as Formatted′
+use Rattle.windows.specs.declared.Windows.{Windows}
+use Rattle.windows.proofs.Generated.Kind.Windows as Windows′
+use Rattle.windows.specs.declared.Window.{Window}
+use Rattle.windows.proofs.Generated.Kind.Window as Window′
 use Rattle.print.specs.declared.Reply.{Reply}
 use Rattle.answers.proofs.Generated.Kind.Reply as Reply′
 use Rattle.register.proofs.Generated.Flow.{ref, MutAt, ShrAt, lend-mut, back-mut, lend-shr, back-shr, branches-on, regroup, skips-on, returns-on, plus-nothing, holds, empty, less-fits, is-true, is-false, differ, above-0, twice-not, switches-to, switches-last, big-lit, here, blocks-on, resume, scaled-2, scaled-4, scaled-8, opens-shr, shuts-shr, opens-mut, shuts-mut, puts-mut, keeps-shr, fills, empties, tyAt}
@@ -107,13 +111,13 @@ module _ {M : Type 1} (𝓤 : URA M) (H : Heap 𝓤) (A : Atoms 𝓤) (W : Given
       pass1 ! (init ! 26 refl (Kept′.typed 𝓤 H A W kept ok·kept)) $ pass1 ! (init ! 24 refl (Formatted′.typed 𝓤 H A W x-a ok·x-a)) $ pass1 ! (init ! 22 refl (tt, (tt, (record { fits = room·out .0 }, tt)))) $ pass0 ! $
       move ! (31 ∷ []) $ fsplit ! $ drop ! $ fsplit ! $ drop ! $ fsplit ! $ move ! (1 ∷ []) $ drop ! $ move ! (31 ∷ []) $ split ! $ move ! (1 ∷ []) $ drop ! $
       Formatted′.cases ! x-a
-      (λ y1-0 m·1. rewrite ! 26 (λ (u : Formatted). ‵ (fat fullShare Formatted′.ty l₂ 0 (Formatted′.mach u))) m·1 refl $ switches-to ! 0 (load ! (from ! (vrt ! refl (fld ! refl (stop !)))) (look-tag ! 26 (whole !))) (
+      (λ y1-0 y1-1 m·1. rewrite ! 26 (λ (u : Formatted). ‵ (fat fullShare Formatted′.ty l₂ 0 (Formatted′.mach u))) m·1 refl $ switches-to ! 0 (load ! (from ! (vrt ! refl (fld ! refl (stop !)))) (look-tag ! 26 (whole !))) (
       regroup ! $
-      assigns ! (of-opd ! (load ! (from ! (vrt ! refl (fld ! refl (stop !)))) (look-in ! 26 (in-variant ! 0 0 refl refl (whole !))))) (from ! (stop !)) (init ! 22 refl (Store′.typed 𝓤 H A W y1-0 (Formatted′.ok-Made-0 y1-0 (subst Formatted′.Ok m·1 ok·x-a)))) $
+      assigns ! (of-opd ! (load ! (from ! (vrt ! refl (fld ! refl (stop !)))) (look-in ! 26 (in-variant ! 0 0 refl refl (whole !))))) (from ! (stop !)) (init ! 22 refl (Store′.typed 𝓤 H A W y1-0 (Formatted′.ok-Made-0 y1-0 y1-1 (subst Formatted′.Ok m·1 ok·x-a)))) $
       regroup ! $
-      Call-opened.calls ! mem run (fmOf 𝓤 H (W .laws) 𝓣) known-opened y1-0 (Formatted′.ok-Made-0 y1-0 (subst Formatted′.Ok m·1 ok·x-a)) (and-then ! (load ! (from ! (stop !)) (look ! 23 refl)) (no-more !))
-      (λ ok·1. land ! (from ! (stop !)) (init ! 14 refl (Kept′.typed 𝓤 H A W (r1 kept x-a out y1-0) ok·1)) $
-      here ! (‵ (flft κ·out q·out) ∷ ‵ (MutAt u8 κ·out b·out o·out γ·out (length out) out) ∷ empty (sliceTy (tyRef erased mut (pointee (u8 .written)))) l₁₄ (empty (tyRef erased mut (pointee (u8 .written))) l₁₃ (empty (tyAt (code.function .locals) 12) l₁₂ (empty (sliceTy (tyRef erased mut (pointee (u8 .written)))) l₁₁ (empty (tyRef erased mut (pointee (u8 .written))) l₁₀ (empty (tyAt (code.function .locals) 9) l₉ (holds (tyAt (code.function .locals) 8) l₈ (Kept′.mach (r1 kept x-a out y1-0)) (empty (tyAt (code.function .locals) 7) l₇ (empty (tyInt w64) l₆ (empty (tyInt w64) l₅ (holds (tyAt (code.function .locals) 4) l₄ (Store′.mach y1-0) (holds (sliceTy (tyRef (named 0) mut (pointee (u8 .written)))) l₃ (sliceVal (b·out, o·out) (length out)) (holds (tyAt (code.function .locals) 2) l₂ (Formatted′.mach (Formatted.Made y1-0)) (holds (tyAt (code.function .locals) 1) l₁ (Kept′.mach kept) (empty (tyAt (code.function .locals) 0) l₀ []))))))))))))))) $
+      Call-opened.calls ! mem run (fmOf 𝓤 H (W .laws) 𝓣) known-opened y1-0 (Formatted′.ok-Made-0 y1-0 y1-1 (subst Formatted′.Ok m·1 ok·x-a)) (and-then ! (load ! (from ! (stop !)) (look ! 23 refl)) (no-more !))
+      (λ ok·1. land ! (from ! (stop !)) (init ! 14 refl (Kept′.typed 𝓤 H A W (r1 kept x-a out y1-0 y1-1) ok·1)) $
+      here ! (‵ (flft κ·out q·out) ∷ ‵ (MutAt u8 κ·out b·out o·out γ·out (length out) out) ∷ empty (sliceTy (tyRef erased mut (pointee (u8 .written)))) l₁₄ (empty (tyRef erased mut (pointee (u8 .written))) l₁₃ (empty (tyAt (code.function .locals) 12) l₁₂ (empty (sliceTy (tyRef erased mut (pointee (u8 .written)))) l₁₁ (empty (tyRef erased mut (pointee (u8 .written))) l₁₀ (empty (tyAt (code.function .locals) 9) l₉ (holds (tyAt (code.function .locals) 8) l₈ (Kept′.mach (r1 kept x-a out y1-0 y1-1)) (empty (tyAt (code.function .locals) 7) l₇ (empty (tyInt w64) l₆ (empty (tyInt w64) l₅ (holds (tyAt (code.function .locals) 4) l₄ (Store′.mach y1-0) (holds (sliceTy (tyRef (named 0) mut (pointee (u8 .written)))) l₃ (sliceVal (b·out, o·out) (length out)) (holds (tyAt (code.function .locals) 2) l₂ (Formatted′.mach (Formatted.Made y1-0 y1-1)) (holds (tyAt (code.function .locals) 1) l₁ (Kept′.mach kept) (empty (tyAt (code.function .locals) 0) l₀ []))))))))))))))) $
       regroup ! $
       assigns ! (agg ! (and-then ! (lit ! tt) (no-more !))) (from ! (stop !)) (init ! 12 refl (Reply′.typed 𝓤 H A W Reply.Ok Reply′.make-Ok)) $
       regroup ! $
@@ -121,12 +125,12 @@ module _ {M : Type 1} (𝓤 : URA M) (H : Heap 𝓤) (A : Atoms 𝓤) (W : Given
       regroup ! $
       assigns ! (agg ! (and-then ! (load ! (from ! (stop !)) (look ! 10 refl)) (and-then ! (load ! (from ! (fld ! refl (stop !))) (look-in ! 24 (sub ! 1 refl (whole !)))) (no-more !)))) (from ! (stop !)) (init ! 8 refl (tt, (tt, (record { fits = room·out .0 }, tt)))) $
       lend-mut ! tt u8 κ·out q·out b·out o·out γ·out (length out) out (refl) (λ ν·2-out γ·2-out.
-      Call-reply-turn.calls ! mem run (fmOf 𝓤 H (W .laws) 𝓣) known-reply-turn (r1 kept x-a out y1-0) Reply.Ok (ν·2-out ∷ []) fullShare b·out o·out γ·2-out (length out) out ok·1 Reply′.make-Ok (and-then ! (load ! (from ! (stop !)) (look ! 14 refl)) (and-then ! (load ! (from ! (stop !)) (look ! 12 refl)) (and-then ! (load ! (from ! (stop !)) (look ! 8 refl)) (no-more !))))
-      (λ ok·2 same·2-out. back-mut ! tt u8 κ·out q·out b·out o·out γ·out (length out) out (out₂ kept x-a out y1-0) ν·2-out γ·2-out (refl) same·2-out room·out $ land ! (from ! (stop !)) (init ! 16 refl (Turn′.typed 𝓤 H A W (r2 kept x-a out y1-0) ok·2)) $
-      here ! (‵ (flft κ·out q·out) ∷ ‵ (MutAt u8 κ·out b·out o·out γ·out (length out) (out₂ kept x-a out y1-0)) ∷ empty (sliceTy (tyRef erased mut (pointee (u8 .written)))) l₁₄ (empty (tyRef erased mut (pointee (u8 .written))) l₁₃ (empty (tyAt (code.function .locals) 12) l₁₂ (holds (sliceTy (tyRef erased mut (pointee (u8 .written)))) l₁₁ (sliceVal (b·out, o·out) (length out)) (holds (tyRef erased mut (pointee (u8 .written))) l₁₀ (vptr b·out o·out) (holds (tyAt (code.function .locals) 9) l₉ (Reply′.mach Reply.Ok) (holds (tyAt (code.function .locals) 8) l₈ (Kept′.mach (r1 kept x-a out y1-0)) (holds (tyAt (code.function .locals) 7) l₇ (Turn′.mach (r2 kept x-a out y1-0)) (empty (tyInt w64) l₆ (empty (tyInt w64) l₅ (holds (tyAt (code.function .locals) 4) l₄ (Store′.mach y1-0) (holds (sliceTy (tyRef (named 0) mut (pointee (u8 .written)))) l₃ (sliceVal (b·out, o·out) (length out)) (holds (tyAt (code.function .locals) 2) l₂ (Formatted′.mach (Formatted.Made y1-0)) (holds (tyAt (code.function .locals) 1) l₁ (Kept′.mach kept) (empty (tyAt (code.function .locals) 0) l₀ []))))))))))))))) $
-      assigns ! (of-opd ! (load ! (from ! (stop !)) (look ! 16 refl))) (from ! (stop !)) (init ! 30 refl (Turn′.typed 𝓤 H A W (r2 kept x-a out y1-0) ok·2)) $
+      Call-reply-turn.calls ! mem run (fmOf 𝓤 H (W .laws) 𝓣) known-reply-turn (r1 kept x-a out y1-0 y1-1) Reply.Ok (ν·2-out ∷ []) fullShare b·out o·out γ·2-out (length out) out ok·1 Reply′.make-Ok (and-then ! (load ! (from ! (stop !)) (look ! 14 refl)) (and-then ! (load ! (from ! (stop !)) (look ! 12 refl)) (and-then ! (load ! (from ! (stop !)) (look ! 8 refl)) (no-more !))))
+      (λ ok·2 same·2-out. back-mut ! tt u8 κ·out q·out b·out o·out γ·out (length out) out (out₂ kept x-a out y1-0 y1-1) ν·2-out γ·2-out (refl) same·2-out room·out $ land ! (from ! (stop !)) (init ! 16 refl (Turn′.typed 𝓤 H A W (r2 kept x-a out y1-0 y1-1) ok·2)) $
+      here ! (‵ (flft κ·out q·out) ∷ ‵ (MutAt u8 κ·out b·out o·out γ·out (length out) (out₂ kept x-a out y1-0 y1-1)) ∷ empty (sliceTy (tyRef erased mut (pointee (u8 .written)))) l₁₄ (empty (tyRef erased mut (pointee (u8 .written))) l₁₃ (empty (tyAt (code.function .locals) 12) l₁₂ (holds (sliceTy (tyRef erased mut (pointee (u8 .written)))) l₁₁ (sliceVal (b·out, o·out) (length out)) (holds (tyRef erased mut (pointee (u8 .written))) l₁₀ (vptr b·out o·out) (holds (tyAt (code.function .locals) 9) l₉ (Reply′.mach Reply.Ok) (holds (tyAt (code.function .locals) 8) l₈ (Kept′.mach (r1 kept x-a out y1-0 y1-1)) (holds (tyAt (code.function .locals) 7) l₇ (Turn′.mach (r2 kept x-a out y1-0 y1-1)) (empty (tyInt w64) l₆ (empty (tyInt w64) l₅ (holds (tyAt (code.function .locals) 4) l₄ (Store′.mach y1-0) (holds (sliceTy (tyRef (named 0) mut (pointee (u8 .written)))) l₃ (sliceVal (b·out, o·out) (length out)) (holds (tyAt (code.function .locals) 2) l₂ (Formatted′.mach (Formatted.Made y1-0 y1-1)) (holds (tyAt (code.function .locals) 1) l₁ (Kept′.mach kept) (empty (tyAt (code.function .locals) 0) l₀ []))))))))))))))) $
+      assigns ! (of-opd ! (load ! (from ! (stop !)) (look ! 16 refl))) (from ! (stop !)) (init ! 30 refl (Turn′.typed 𝓤 H A W (r2 kept x-a out y1-0 y1-1) ok·2)) $
       returns ! (look ! 30 refl) $
-      move ! (30 ∷ 31 ∷ []) $ forget ! 0 refl $ free1 ! $ move ! (28 ∷ 29 ∷ []) $ forget ! 0 refl $ free1 ! $ move ! (26 ∷ 27 ∷ []) $ forget ! 0 refl $ free1 ! $ move ! (24 ∷ 25 ∷ []) $ forget ! 0 refl $ free1 ! $ move ! (22 ∷ 23 ∷ []) $ forget ! 0 refl $ free1 ! $ move ! (20 ∷ 21 ∷ []) $ free1 ! $ move ! (18 ∷ 19 ∷ []) $ free1 ! $ move ! (16 ∷ 17 ∷ []) $ forget ! 0 refl $ free1 ! $ move ! (14 ∷ 15 ∷ []) $ forget ! 0 refl $ free1 ! $ move ! (12 ∷ 13 ∷ []) $ forget ! 0 refl $ free1 ! $ move ! (10 ∷ 11 ∷ []) $ forget ! 0 refl $ free1 ! $ move ! (8 ∷ 9 ∷ []) $ forget ! 0 refl $ free1 ! $ move ! (6 ∷ 7 ∷ []) $ free1 ! $ move ! (4 ∷ 5 ∷ []) $ free1 ! $ move ! (2 ∷ 3 ∷ []) $ free1 ! $ free0 ! $ by ! (exits (r2 kept x-a out y1-0) ok·2 (out₂ kept x-a out y1-0) (sym (refl ∙ sym same·2-out)) (Facts.exit-1 kept x-a out ok·kept ok·x-a (room·out .0) y1-0 m·1 (Formatted′.ok-Made-0 y1-0 (subst Formatted′.Ok m·1 ok·x-a)) ok·1 ok·2 same·2-out)))))))
+      move ! (30 ∷ 31 ∷ []) $ forget ! 0 refl $ free1 ! $ move ! (28 ∷ 29 ∷ []) $ forget ! 0 refl $ free1 ! $ move ! (26 ∷ 27 ∷ []) $ forget ! 0 refl $ free1 ! $ move ! (24 ∷ 25 ∷ []) $ forget ! 0 refl $ free1 ! $ move ! (22 ∷ 23 ∷ []) $ forget ! 0 refl $ free1 ! $ move ! (20 ∷ 21 ∷ []) $ free1 ! $ move ! (18 ∷ 19 ∷ []) $ free1 ! $ move ! (16 ∷ 17 ∷ []) $ forget ! 0 refl $ free1 ! $ move ! (14 ∷ 15 ∷ []) $ forget ! 0 refl $ free1 ! $ move ! (12 ∷ 13 ∷ []) $ forget ! 0 refl $ free1 ! $ move ! (10 ∷ 11 ∷ []) $ forget ! 0 refl $ free1 ! $ move ! (8 ∷ 9 ∷ []) $ forget ! 0 refl $ free1 ! $ move ! (6 ∷ 7 ∷ []) $ free1 ! $ move ! (4 ∷ 5 ∷ []) $ free1 ! $ move ! (2 ∷ 3 ∷ []) $ free1 ! $ free0 ! $ by ! (exits (r2 kept x-a out y1-0 y1-1) ok·2 (out₂ kept x-a out y1-0 y1-1) (sym (refl ∙ sym same·2-out)) (Facts.exit-1 kept x-a out ok·kept ok·x-a (room·out .0) y1-0 y1-1 m·1 (Formatted′.ok-Made-0 y1-0 y1-1 (subst Formatted′.Ok m·1 ok·x-a)) (Formatted′.ok-Made-1 y1-0 y1-1 (subst Formatted′.Ok m·1 ok·x-a)) ok·1 ok·2 same·2-out)))))))
       (λ y1-0 m·1. rewrite ! 26 (λ (u : Formatted). ‵ (fat fullShare Formatted′.ty l₂ 0 (Formatted′.mach u))) m·1 refl $ switches-to ! 1 (load ! (from ! (vrt ! refl (fld ! refl (stop !)))) (look-tag ! 26 (whole !))) (
       regroup ! $
       assigns ! (of-opd ! (load ! (from ! (vrt ! refl (fld ! refl (stop !)))) (look-in ! 26 (in-variant ! 1 0 refl refl (whole !))))) (from ! (stop !)) (init ! 20 refl (tt, record { fits = (Formatted′.ok-Refused-0 y1-0 (subst Formatted′.Ok m·1 ok·x-a)) .1 })) $

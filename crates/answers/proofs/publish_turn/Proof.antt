@@ -16,11 +16,17 @@ enum-told c = search needs
 reply-turn-requires-2 : tie.Need-reply-turn-requires-2
 reply-turn-requires-2 c κs = search needs
 
-enum-known-answer-2 : tie.Need-enum-known-answer-2
-enum-known-answer-2 c = search needs
+enum-told-2 : tie.Need-enum-told-2
+enum-told-2 c = search needs
 
 reply-turn-requires-3 : tie.Need-reply-turn-requires-3
 reply-turn-requires-3 c κs = search needs
+
+enum-known-answer-2 : tie.Need-enum-known-answer-2
+enum-known-answer-2 c = search needs
+
+reply-turn-requires-4 : tie.Need-reply-turn-requires-4
+reply-turn-requires-4 c κs = search needs
 
 same-length : tie.Need-same-length
 same-length c = search needs
@@ -41,7 +47,14 @@ same-length-3 c = search needs
 
 returns-3 : tie.Need-returns-3
 unfolding publishedReply holding
-returns-3 c = rw (c .before .before .before .before .before .answer2 .given .1) (c .before .before .reply-turn3 .ensures)
+returns-3 c = rw (c .before .before .before .before .enum-told2 .given .1) (c .before .before .reply-turn3 .ensures)
+
+same-length-4 : tie.Need-same-length-4
+same-length-4 c = search needs
+
+returns-4 : tie.Need-returns-4
+unfolding publishedReply holding
+returns-4 c = rw (c .before .before .before .before .before .answer2 .given .1) (c .before .before .reply-turn4 .ensures)
 
 pub publish-turn-spec : {M : Type 1} → statement M
 publish-turn-spec =
@@ -51,11 +64,15 @@ publish-turn-spec =
     reply-turn-requires
     enum-told
     reply-turn-requires-2
-    enum-known-answer-2
+    enum-told-2
     reply-turn-requires-3
+    enum-known-answer-2
+    reply-turn-requires-4
     same-length
     returns
     same-length-2
     returns-2
     same-length-3
-    returns-3)
+    returns-3
+    same-length-4
+    returns-4)

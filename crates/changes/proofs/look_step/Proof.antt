@@ -124,55 +124,57 @@ module _ {M : Type 1} (𝓤 : URA M) (H : Heap 𝓤) (A : Atoms 𝓤) (W : Given
       (WpFn 𝓤 H (𝓣 .C) (𝓣 .Λ) code.function (Kept′.mach kept ∷ Look′.mach step ∷ sliceVal (b·pages, o·pages) (length pages) ∷ sliceVal (b·nodes, o·nodes) (length nodes) ∷ sliceVal (b·register, o·register) (length register) ∷ sliceVal (b·out, o·out) (length out) ∷ []) Post)
   walk 𝓣 known-publish-step known-branch-step known-read-step known-size-step known-recent-step known-stamp-step =
       qed W ((‵ (flft κ·pages q·pages) ⊛ ‵ (flft κ·nodes q·nodes) ⊛ ‵ (flft κ·register q·register) ⊛ ‵ (flft κ·out q·out) ⊛ ‵ ftrue) ∷ ‵ (owns (Kept′.row ∷ Look′.row ∷ ShrSlice (named 0) κ·pages u8 ∷ ShrSlice (named 0) κ·nodes u32 ∷ ShrSlice (named 0) κ·register Record′.row ∷ MutSlice (named 0) κ·out u8 ∷ []) all-args all-vals) ∷ []) ∵ enter ! (𝓣 .C) (𝓣 .Λ) code.function (Kept′.mach kept ∷ Look′.mach step ∷ sliceVal (b·pages, o·pages) (length pages) ∷ sliceVal (b·nodes, o·nodes) (length nodes) ∷ sliceVal (b·register, o·register) (length register) ∷ sliceVal (b·out, o·out) (length out) ∷ []) _ $
-      alloc1 ! (λ l₀. alloc1 ! (λ l₁. alloc1 ! (λ l₂. alloc1 ! (λ l₃. alloc1 ! (λ l₄. alloc1 ! (λ l₅. alloc1 ! (λ l₆. alloc1 ! (λ l₇. alloc1 ! (λ l₈. alloc1 ! (λ l₉. alloc1 ! (λ l₁₀. alloc1 ! (λ l₁₁. alloc1 ! (λ l₁₂. alloc1 ! (λ l₁₃. alloc1 ! (λ l₁₄. alloc1 ! (λ l₁₅. alloc1 ! (λ l₁₆. alloc1 ! (λ l₁₇. alloc1 ! (λ l₁₈. alloc1 ! (λ l₁₉. alloc1 ! (λ l₂₀. alloc1 ! (λ l₂₁. alloc1 ! (λ l₂₂. alloc1 ! (λ l₂₃. alloc1 ! (λ l₂₄. alloc1 ! (λ l₂₅. alloc1 ! (λ l₂₆. alloc1 ! (λ l₂₇. alloc1 ! (λ l₂₈. alloc1 ! (λ l₂₉. alloc1 ! (λ l₃₀. alloc1 ! (λ l₃₁. alloc1 ! (λ l₃₂. alloc1 ! (λ l₃₃. alloc1 ! (λ l₃₄. alloc1 ! (λ l₃₅. alloc1 ! (λ l₃₆. alloc1 ! (λ l₃₇. alloc1 ! (λ l₃₈. alloc1 ! (λ l₃₉. alloc1 ! (λ l₄₀. alloc1 ! (λ l₄₁. alloc1 ! (λ l₄₂. alloc1 ! (λ l₄₃. alloc1 ! (λ l₄₄. alloc0 ! $ params1 ! $
-      pass1 ! (init ! 86 refl (Kept′.typed 𝓤 H A W kept ok·kept)) $ pass1 ! (init ! 84 refl (Look′.typed 𝓤 H A W step ok·step)) $ pass1 ! (init ! 82 refl (tt, (tt, (record { fits = room·pages .0 }, tt)))) $ pass1 ! (init ! 80 refl (tt, (tt, (record { fits = room·nodes .0 }, tt)))) $ pass1 ! (init ! 78 refl (tt, (tt, (record { fits = room·register .0 }, tt)))) $ pass1 ! (init ! 76 refl (tt, (tt, (record { fits = room·out .0 }, tt)))) $ pass0 ! $
-      move ! (91 ∷ []) $ fsplit ! $ drop ! $ fsplit ! $ drop ! $ fsplit ! $ move ! (1 ∷ []) $ fsplit ! $ move ! (1 ∷ []) $ fsplit ! $ move ! (1 ∷ []) $ fsplit ! $ move ! (1 ∷ []) $ drop ! $ move ! (94 ∷ []) $ split ! $ move ! (1 ∷ []) $ split ! $ move ! (1 ∷ []) $ split ! $ move ! (1 ∷ []) $ split ! $ move ! (1 ∷ []) $ drop ! $ move ! (3 ∷ 7 ∷ 2 ∷ 6 ∷ 1 ∷ 5 ∷ 0 ∷ 4 ∷ []) $
+      alloc1 ! (λ l₀. alloc1 ! (λ l₁. alloc1 ! (λ l₂. alloc1 ! (λ l₃. alloc1 ! (λ l₄. alloc1 ! (λ l₅. alloc1 ! (λ l₆. alloc1 ! (λ l₇. alloc1 ! (λ l₈. alloc1 ! (λ l₉. alloc1 ! (λ l₁₀. alloc1 ! (λ l₁₁. alloc1 ! (λ l₁₂. alloc1 ! (λ l₁₃. alloc1 ! (λ l₁₄. alloc1 ! (λ l₁₅. alloc1 ! (λ l₁₆. alloc1 ! (λ l₁₇. alloc1 ! (λ l₁₈. alloc1 ! (λ l₁₉. alloc1 ! (λ l₂₀. alloc1 ! (λ l₂₁. alloc1 ! (λ l₂₂. alloc1 ! (λ l₂₃. alloc1 ! (λ l₂₄. alloc1 ! (λ l₂₅. alloc1 ! (λ l₂₆. alloc1 ! (λ l₂₇. alloc1 ! (λ l₂₈. alloc1 ! (λ l₂₉. alloc1 ! (λ l₃₀. alloc1 ! (λ l₃₁. alloc1 ! (λ l₃₂. alloc1 ! (λ l₃₃. alloc1 ! (λ l₃₄. alloc1 ! (λ l₃₅. alloc1 ! (λ l₃₆. alloc1 ! (λ l₃₇. alloc1 ! (λ l₃₈. alloc1 ! (λ l₃₉. alloc1 ! (λ l₄₀. alloc1 ! (λ l₄₁. alloc1 ! (λ l₄₂. alloc1 ! (λ l₄₃. alloc1 ! (λ l₄₄. alloc1 ! (λ l₄₅. alloc0 ! $ params1 ! $
+      pass1 ! (init ! 88 refl (Kept′.typed 𝓤 H A W kept ok·kept)) $ pass1 ! (init ! 86 refl (Look′.typed 𝓤 H A W step ok·step)) $ pass1 ! (init ! 84 refl (tt, (tt, (record { fits = room·pages .0 }, tt)))) $ pass1 ! (init ! 82 refl (tt, (tt, (record { fits = room·nodes .0 }, tt)))) $ pass1 ! (init ! 80 refl (tt, (tt, (record { fits = room·register .0 }, tt)))) $ pass1 ! (init ! 78 refl (tt, (tt, (record { fits = room·out .0 }, tt)))) $ pass0 ! $
+      move ! (93 ∷ []) $ fsplit ! $ drop ! $ fsplit ! $ drop ! $ fsplit ! $ move ! (1 ∷ []) $ fsplit ! $ move ! (1 ∷ []) $ fsplit ! $ move ! (1 ∷ []) $ fsplit ! $ move ! (1 ∷ []) $ drop ! $ move ! (96 ∷ []) $ split ! $ move ! (1 ∷ []) $ split ! $ move ! (1 ∷ []) $ split ! $ move ! (1 ∷ []) $ split ! $ move ! (1 ∷ []) $ drop ! $ move ! (3 ∷ 7 ∷ 2 ∷ 6 ∷ 1 ∷ 5 ∷ 0 ∷ 4 ∷ []) $
       Look′.cases ! step
-      (λ y1-0 m·1. rewrite ! 92 (λ (u : Look). ‵ (fat fullShare Look′.ty l₂ 0 (Look′.mach u))) m·1 refl $ switches-to ! 0 (load ! (from ! (vrt ! refl (fld ! refl (stop !)))) (look-tag ! 92 (whole !))) (
+      (λ y1-0 y1-1 m·1. rewrite ! 94 (λ (u : Look). ‵ (fat fullShare Look′.ty l₂ 0 (Look′.mach u))) m·1 refl $ switches-to ! 0 (load ! (from ! (vrt ! refl (fld ! refl (stop !)))) (look-tag ! 94 (whole !))) (
       regroup ! $
-      assigns ! (of-opd ! (load ! (from ! (vrt ! refl (fld ! refl (stop !)))) (look-in ! 92 (in-variant ! 0 0 refl refl (whole !))))) (from ! (stop !)) (init ! 82 refl (tt, record { fits = (Look′.ok-Publish-0 y1-0 (subst Look′.Ok m·1 ok·step)) .1 })) $
+      assigns ! (of-opd ! (load ! (from ! (vrt ! refl (fld ! refl (stop !)))) (look-in ! 94 (in-variant ! 0 0 refl refl (whole !))))) (from ! (stop !)) (init ! 84 refl (tt, record { fits = (Look′.ok-Publish-0 y1-0 y1-1 (subst Look′.Ok m·1 ok·step)) .1 })) $
       regroup ! $
-      assigns ! (agg ! (and-then ! (load ! (from ! (stop !)) (look ! 82 refl)) (no-more !))) (from ! (stop !)) (init ! 54 refl (Line′.typed 𝓤 H A W (Line′.build y1-0) (Line′.make y1-0 (Look′.ok-Publish-0 y1-0 (subst Look′.Ok m·1 ok·step))))) $
+      assigns ! (of-opd ! (load ! (from ! (vrt ! refl (fld ! refl (stop !)))) (look-in ! 94 (in-variant ! 0 1 refl refl (whole !))))) (from ! (stop !)) (init ! 82 refl (tt, record { fits = (Look′.ok-Publish-1 y1-0 y1-1 (subst Look′.Ok m·1 ok·step)) .1 })) $
       regroup ! $
-      assigns ! (addr ! (from ! (fld ! refl (hop ! (look-in ! 84 (sub ! 0 refl (whole !))) (stop !))))) (from ! (stop !)) (init ! 52 refl (tt, tt)) $
+      assigns ! (agg ! (and-then ! (load ! (from ! (stop !)) (look ! 84 refl)) (no-more !))) (from ! (stop !)) (init ! 54 refl (Line′.typed 𝓤 H A W (Line′.build y1-0) (Line′.make y1-0 (Look′.ok-Publish-0 y1-0 y1-1 (subst Look′.Ok m·1 ok·step))))) $
       regroup ! $
-      assigns ! (agg ! (and-then ! (load ! (from ! (stop !)) (look ! 52 refl)) (and-then ! (load ! (from ! (fld ! refl (stop !))) (look-in ! 84 (sub ! 1 refl (whole !)))) (no-more !)))) (from ! (stop !)) (init ! 50 refl (tt, (tt, (record { fits = room·out .0 }, tt)))) $
+      assigns ! (addr ! (from ! (fld ! refl (hop ! (look-in ! 86 (sub ! 0 refl (whole !))) (stop !))))) (from ! (stop !)) (init ! 52 refl (tt, tt)) $
+      regroup ! $
+      assigns ! (agg ! (and-then ! (load ! (from ! (stop !)) (look ! 52 refl)) (and-then ! (load ! (from ! (fld ! refl (stop !))) (look-in ! 86 (sub ! 1 refl (whole !)))) (no-more !)))) (from ! (stop !)) (init ! 50 refl (tt, (tt, (record { fits = room·out .0 }, tt)))) $
       move ! (6 ∷ 7 ∷ []) $ lend-mut ! tt u8 κ·out q·out b·out o·out γ·out (length out) out (refl) (λ ν·1-out γ·1-out. move ! (3 ∷ 4 ∷ 5 ∷ 6 ∷ 7 ∷ 8 ∷ 0 ∷ 1 ∷ []) $
-      Call-publish-step.calls ! mem run (fmOf 𝓤 H (W .laws) 𝓣) known-publish-step kept (Line′.build y1-0) κ·pages q·pages b·pages o·pages γ·pages (length pages) pages κ·nodes q·nodes b·nodes o·nodes γ·nodes (length nodes) nodes κ·register q·register b·register o·register γ·register (length register) register (ν·1-out ∷ []) fullShare b·out o·out γ·1-out (length out) out ok·kept (Line′.make y1-0 (Look′.ok-Publish-0 y1-0 (subst Look′.Ok m·1 ok·step))) (and-then ! (load ! (from ! (stop !)) (look ! 91 refl)) (and-then ! (load ! (from ! (stop !)) (look ! 51 refl)) (and-then ! (load ! (from ! (stop !)) (look ! 87 refl)) (and-then ! (load ! (from ! (stop !)) (look ! 85 refl)) (and-then ! (load ! (from ! (stop !)) (look ! 83 refl)) (and-then ! (load ! (from ! (stop !)) (look ! 47 refl)) (no-more !)))))))
+      Call-publish-step.calls ! mem run (fmOf 𝓤 H (W .laws) 𝓣) known-publish-step kept (Line′.build y1-0) y1-1 κ·pages q·pages b·pages o·pages γ·pages (length pages) pages κ·nodes q·nodes b·nodes o·nodes γ·nodes (length nodes) nodes κ·register q·register b·register o·register γ·register (length register) register (ν·1-out ∷ []) fullShare b·out o·out γ·1-out (length out) out ok·kept (Line′.make y1-0 (Look′.ok-Publish-0 y1-0 y1-1 (subst Look′.Ok m·1 ok·step))) (Look′.ok-Publish-1 y1-0 y1-1 (subst Look′.Ok m·1 ok·step)) (and-then ! (load ! (from ! (stop !)) (look ! 93 refl)) (and-then ! (load ! (from ! (stop !)) (look ! 51 refl)) (and-then ! (load ! (from ! (stop !)) (look ! 79 refl)) (and-then ! (load ! (from ! (stop !)) (look ! 89 refl)) (and-then ! (load ! (from ! (stop !)) (look ! 87 refl)) (and-then ! (load ! (from ! (stop !)) (look ! 85 refl)) (and-then ! (load ! (from ! (stop !)) (look ! 47 refl)) (no-more !))))))))
       (λ r1 out₁ ok·1 same·1-out. move ! (6 ∷ 7 ∷ 8 ∷ []) $ back-mut ! tt u8 κ·out q·out b·out o·out γ·out (length out) out out₁ ν·1-out γ·1-out (refl) same·1-out room·out $ move ! (2 ∷ 3 ∷ 4 ∷ 5 ∷ 6 ∷ 7 ∷ 0 ∷ 1 ∷ []) $ land ! (from ! (stop !)) (init ! 56 refl (Turn′.typed 𝓤 H A W r1 ok·1)) $
-      here ! (‵ (flft κ·pages q·pages) ∷ ‵ (ShrAt u8 κ·pages b·pages o·pages γ·pages (length pages) pages) ∷ ‵ (flft κ·nodes q·nodes) ∷ ‵ (ShrAt u32 κ·nodes b·nodes o·nodes γ·nodes (length nodes) nodes) ∷ ‵ (flft κ·register q·register) ∷ ‵ (ShrAt Record′.row κ·register b·register o·register γ·register (length register) register) ∷ ‵ (flft κ·out q·out) ∷ ‵ (MutAt u8 κ·out b·out o·out γ·out (length out) out₁) ∷ empty (sliceTy (tyRef erased mut (pointee (u8 .written)))) l₄₄ (empty (tyRef erased mut (pointee (u8 .written))) l₄₃ (empty (tyAt (code.function .locals) 42) l₄₂ (empty (tyAt (code.function .locals) 41) l₄₁ (empty (tyAt (code.function .locals) 40) l₄₀ (empty (sliceTy (tyRef erased mut (pointee (u8 .written)))) l₃₉ (empty (tyRef erased mut (pointee (u8 .written))) l₃₈ (empty (tyAt (code.function .locals) 37) l₃₇ (empty (sliceTy (tyRef erased mut (pointee (u8 .written)))) l₃₆ (empty (tyRef erased mut (pointee (u8 .written))) l₃₅ (empty (tyAt (code.function .locals) 34) l₃₄ (empty (tyAt (code.function .locals) 33) l₃₃ (empty (sliceTy (tyRef erased mut (pointee (u8 .written)))) l₃₂ (empty (tyRef erased mut (pointee (u8 .written))) l₃₁ (empty (tyAt (code.function .locals) 30) l₃₀ (empty (tyAt (code.function .locals) 29) l₂₉ (empty (tyAt (code.function .locals) 28) l₂₈ (empty (sliceTy (tyRef erased mut (pointee (u8 .written)))) l₂₇ (empty (tyRef erased mut (pointee (u8 .written))) l₂₆ (empty (tyAt (code.function .locals) 25) l₂₅ (empty (tyAt (code.function .locals) 24) l₂₄ (holds (sliceTy (tyRef erased mut (pointee (u8 .written)))) l₂₃ (sliceVal (b·out, o·out) (length out)) (holds (tyRef erased mut (pointee (u8 .written))) l₂₂ (vptr b·out o·out) (holds (tyAt (code.function .locals) 21) l₂₁ (Line′.mach (Line′.build y1-0)) (holds (tyAt (code.function .locals) 20) l₂₀ (Turn′.mach r1) (empty (tyInt w64) l₁₉ (empty (tyInt w64) l₁₈ (empty (tyInt w64) l₁₇ (empty (tyInt w64) l₁₆ (empty (tyInt w64) l₁₅ (empty (tyInt w64) l₁₄ (empty (tyInt w64) l₁₃ (empty (tyInt w64) l₁₂ (empty (tyInt w64) l₁₁ (empty (tyInt w64) l₁₀ (empty (tyInt w64) l₉ (empty (tyInt w64) l₈ (holds (tyInt w64) l₇ (vint w64 y1-0) (holds (sliceTy (tyRef (named 3) mut (pointee (u8 .written)))) l₆ (sliceVal (b·out, o·out) (length out)) (holds (sliceTy (tyRef (named 2) imm (pointee (Record′.row .written)))) l₅ (sliceVal (b·register, o·register) (length register)) (holds (sliceTy (tyRef (named 1) imm (pointee (u32 .written)))) l₄ (sliceVal (b·nodes, o·nodes) (length nodes)) (holds (sliceTy (tyRef (named 0) imm (pointee (u8 .written)))) l₃ (sliceVal (b·pages, o·pages) (length pages)) (holds (tyAt (code.function .locals) 2) l₂ (Look′.mach (Look.Publish y1-0)) (holds (tyAt (code.function .locals) 1) l₁ (Kept′.mach kept) (empty (tyAt (code.function .locals) 0) l₀ []))))))))))))))))))))))))))))))))))))))))))))) $
-      assigns ! (of-opd ! (load ! (from ! (stop !)) (look ! 56 refl))) (from ! (stop !)) (init ! 96 refl (Turn′.typed 𝓤 H A W r1 ok·1)) $
-      returns ! (look ! 96 refl) $
-      move ! (96 ∷ 97 ∷ []) $ forget ! 0 refl $ free1 ! $ move ! (94 ∷ 95 ∷ []) $ forget ! 0 refl $ free1 ! $ move ! (92 ∷ 93 ∷ []) $ forget ! 0 refl $ free1 ! $ move ! (90 ∷ 91 ∷ []) $ forget ! 0 refl $ free1 ! $ move ! (88 ∷ 89 ∷ []) $ forget ! 0 refl $ free1 ! $ move ! (86 ∷ 87 ∷ []) $ forget ! 0 refl $ free1 ! $ move ! (84 ∷ 85 ∷ []) $ forget ! 0 refl $ free1 ! $ move ! (82 ∷ 83 ∷ []) $ forget ! 0 refl $ free1 ! $ move ! (80 ∷ 81 ∷ []) $ free1 ! $ move ! (78 ∷ 79 ∷ []) $ free1 ! $ move ! (76 ∷ 77 ∷ []) $ free1 ! $ move ! (74 ∷ 75 ∷ []) $ free1 ! $ move ! (72 ∷ 73 ∷ []) $ free1 ! $ move ! (70 ∷ 71 ∷ []) $ free1 ! $ move ! (68 ∷ 69 ∷ []) $ free1 ! $ move ! (66 ∷ 67 ∷ []) $ free1 ! $ move ! (64 ∷ 65 ∷ []) $ free1 ! $ move ! (62 ∷ 63 ∷ []) $ free1 ! $ move ! (60 ∷ 61 ∷ []) $ free1 ! $ move ! (58 ∷ 59 ∷ []) $ free1 ! $ move ! (56 ∷ 57 ∷ []) $ forget ! 0 refl $ free1 ! $ move ! (54 ∷ 55 ∷ []) $ forget ! 0 refl $ free1 ! $ move ! (52 ∷ 53 ∷ []) $ forget ! 0 refl $ free1 ! $ move ! (50 ∷ 51 ∷ []) $ forget ! 0 refl $ free1 ! $ move ! (48 ∷ 49 ∷ []) $ free1 ! $ move ! (46 ∷ 47 ∷ []) $ free1 ! $ move ! (44 ∷ 45 ∷ []) $ free1 ! $ move ! (42 ∷ 43 ∷ []) $ free1 ! $ move ! (40 ∷ 41 ∷ []) $ free1 ! $ move ! (38 ∷ 39 ∷ []) $ free1 ! $ move ! (36 ∷ 37 ∷ []) $ free1 ! $ move ! (34 ∷ 35 ∷ []) $ free1 ! $ move ! (32 ∷ 33 ∷ []) $ free1 ! $ move ! (30 ∷ 31 ∷ []) $ free1 ! $ move ! (28 ∷ 29 ∷ []) $ free1 ! $ move ! (26 ∷ 27 ∷ []) $ free1 ! $ move ! (24 ∷ 25 ∷ []) $ free1 ! $ move ! (22 ∷ 23 ∷ []) $ free1 ! $ move ! (20 ∷ 21 ∷ []) $ free1 ! $ move ! (18 ∷ 19 ∷ []) $ free1 ! $ move ! (16 ∷ 17 ∷ []) $ free1 ! $ move ! (14 ∷ 15 ∷ []) $ free1 ! $ move ! (12 ∷ 13 ∷ []) $ free1 ! $ move ! (10 ∷ 11 ∷ []) $ free1 ! $ move ! (8 ∷ 9 ∷ []) $ free1 ! $ free0 ! $ by ! (exits r1 ok·1 out₁ (sym (refl ∙ sym same·1-out)))))))
-      (λ y1-0 y1-1 m·1. rewrite ! 92 (λ (u : Look). ‵ (fat fullShare Look′.ty l₂ 0 (Look′.mach u))) m·1 refl $ switches-to ! 1 (load ! (from ! (vrt ! refl (fld ! refl (stop !)))) (look-tag ! 92 (whole !))) (
+      here ! (‵ (flft κ·pages q·pages) ∷ ‵ (ShrAt u8 κ·pages b·pages o·pages γ·pages (length pages) pages) ∷ ‵ (flft κ·nodes q·nodes) ∷ ‵ (ShrAt u32 κ·nodes b·nodes o·nodes γ·nodes (length nodes) nodes) ∷ ‵ (flft κ·register q·register) ∷ ‵ (ShrAt Record′.row κ·register b·register o·register γ·register (length register) register) ∷ ‵ (flft κ·out q·out) ∷ ‵ (MutAt u8 κ·out b·out o·out γ·out (length out) out₁) ∷ empty (sliceTy (tyRef erased mut (pointee (u8 .written)))) l₄₅ (empty (tyRef erased mut (pointee (u8 .written))) l₄₄ (empty (tyAt (code.function .locals) 43) l₄₃ (empty (tyAt (code.function .locals) 42) l₄₂ (empty (tyAt (code.function .locals) 41) l₄₁ (empty (sliceTy (tyRef erased mut (pointee (u8 .written)))) l₄₀ (empty (tyRef erased mut (pointee (u8 .written))) l₃₉ (empty (tyAt (code.function .locals) 38) l₃₈ (empty (sliceTy (tyRef erased mut (pointee (u8 .written)))) l₃₇ (empty (tyRef erased mut (pointee (u8 .written))) l₃₆ (empty (tyAt (code.function .locals) 35) l₃₅ (empty (tyAt (code.function .locals) 34) l₃₄ (empty (sliceTy (tyRef erased mut (pointee (u8 .written)))) l₃₃ (empty (tyRef erased mut (pointee (u8 .written))) l₃₂ (empty (tyAt (code.function .locals) 31) l₃₁ (empty (tyAt (code.function .locals) 30) l₃₀ (empty (tyAt (code.function .locals) 29) l₂₉ (empty (sliceTy (tyRef erased mut (pointee (u8 .written)))) l₂₈ (empty (tyRef erased mut (pointee (u8 .written))) l₂₇ (empty (tyAt (code.function .locals) 26) l₂₆ (empty (tyAt (code.function .locals) 25) l₂₅ (holds (sliceTy (tyRef erased mut (pointee (u8 .written)))) l₂₄ (sliceVal (b·out, o·out) (length out)) (holds (tyRef erased mut (pointee (u8 .written))) l₂₃ (vptr b·out o·out) (holds (tyAt (code.function .locals) 22) l₂₂ (Line′.mach (Line′.build y1-0)) (holds (tyAt (code.function .locals) 21) l₂₁ (Turn′.mach r1) (empty (tyInt w64) l₂₀ (empty (tyInt w64) l₁₉ (empty (tyInt w64) l₁₈ (empty (tyInt w64) l₁₇ (empty (tyInt w64) l₁₆ (empty (tyInt w64) l₁₅ (empty (tyInt w64) l₁₄ (empty (tyInt w64) l₁₃ (empty (tyInt w64) l₁₂ (empty (tyInt w64) l₁₁ (empty (tyInt w64) l₁₀ (empty (tyInt w64) l₉ (holds (tyInt w64) l₈ (vint w64 y1-1) (holds (tyInt w64) l₇ (vint w64 y1-0) (holds (sliceTy (tyRef (named 3) mut (pointee (u8 .written)))) l₆ (sliceVal (b·out, o·out) (length out)) (holds (sliceTy (tyRef (named 2) imm (pointee (Record′.row .written)))) l₅ (sliceVal (b·register, o·register) (length register)) (holds (sliceTy (tyRef (named 1) imm (pointee (u32 .written)))) l₄ (sliceVal (b·nodes, o·nodes) (length nodes)) (holds (sliceTy (tyRef (named 0) imm (pointee (u8 .written)))) l₃ (sliceVal (b·pages, o·pages) (length pages)) (holds (tyAt (code.function .locals) 2) l₂ (Look′.mach (Look.Publish y1-0 y1-1)) (holds (tyAt (code.function .locals) 1) l₁ (Kept′.mach kept) (empty (tyAt (code.function .locals) 0) l₀ [])))))))))))))))))))))))))))))))))))))))))))))) $
+      assigns ! (of-opd ! (load ! (from ! (stop !)) (look ! 56 refl))) (from ! (stop !)) (init ! 98 refl (Turn′.typed 𝓤 H A W r1 ok·1)) $
+      returns ! (look ! 98 refl) $
+      move ! (98 ∷ 99 ∷ []) $ forget ! 0 refl $ free1 ! $ move ! (96 ∷ 97 ∷ []) $ forget ! 0 refl $ free1 ! $ move ! (94 ∷ 95 ∷ []) $ forget ! 0 refl $ free1 ! $ move ! (92 ∷ 93 ∷ []) $ forget ! 0 refl $ free1 ! $ move ! (90 ∷ 91 ∷ []) $ forget ! 0 refl $ free1 ! $ move ! (88 ∷ 89 ∷ []) $ forget ! 0 refl $ free1 ! $ move ! (86 ∷ 87 ∷ []) $ forget ! 0 refl $ free1 ! $ move ! (84 ∷ 85 ∷ []) $ forget ! 0 refl $ free1 ! $ move ! (82 ∷ 83 ∷ []) $ forget ! 0 refl $ free1 ! $ move ! (80 ∷ 81 ∷ []) $ free1 ! $ move ! (78 ∷ 79 ∷ []) $ free1 ! $ move ! (76 ∷ 77 ∷ []) $ free1 ! $ move ! (74 ∷ 75 ∷ []) $ free1 ! $ move ! (72 ∷ 73 ∷ []) $ free1 ! $ move ! (70 ∷ 71 ∷ []) $ free1 ! $ move ! (68 ∷ 69 ∷ []) $ free1 ! $ move ! (66 ∷ 67 ∷ []) $ free1 ! $ move ! (64 ∷ 65 ∷ []) $ free1 ! $ move ! (62 ∷ 63 ∷ []) $ free1 ! $ move ! (60 ∷ 61 ∷ []) $ free1 ! $ move ! (58 ∷ 59 ∷ []) $ free1 ! $ move ! (56 ∷ 57 ∷ []) $ forget ! 0 refl $ free1 ! $ move ! (54 ∷ 55 ∷ []) $ forget ! 0 refl $ free1 ! $ move ! (52 ∷ 53 ∷ []) $ forget ! 0 refl $ free1 ! $ move ! (50 ∷ 51 ∷ []) $ forget ! 0 refl $ free1 ! $ move ! (48 ∷ 49 ∷ []) $ free1 ! $ move ! (46 ∷ 47 ∷ []) $ free1 ! $ move ! (44 ∷ 45 ∷ []) $ free1 ! $ move ! (42 ∷ 43 ∷ []) $ free1 ! $ move ! (40 ∷ 41 ∷ []) $ free1 ! $ move ! (38 ∷ 39 ∷ []) $ free1 ! $ move ! (36 ∷ 37 ∷ []) $ free1 ! $ move ! (34 ∷ 35 ∷ []) $ free1 ! $ move ! (32 ∷ 33 ∷ []) $ free1 ! $ move ! (30 ∷ 31 ∷ []) $ free1 ! $ move ! (28 ∷ 29 ∷ []) $ free1 ! $ move ! (26 ∷ 27 ∷ []) $ free1 ! $ move ! (24 ∷ 25 ∷ []) $ free1 ! $ move ! (22 ∷ 23 ∷ []) $ free1 ! $ move ! (20 ∷ 21 ∷ []) $ free1 ! $ move ! (18 ∷ 19 ∷ []) $ free1 ! $ move ! (16 ∷ 17 ∷ []) $ free1 ! $ move ! (14 ∷ 15 ∷ []) $ free1 ! $ move ! (12 ∷ 13 ∷ []) $ free1 ! $ move ! (10 ∷ 11 ∷ []) $ free1 ! $ move ! (8 ∷ 9 ∷ []) $ free1 ! $ free0 ! $ by ! (exits r1 ok·1 out₁ (sym (refl ∙ sym same·1-out)))))))
+      (λ y1-0 y1-1 m·1. rewrite ! 94 (λ (u : Look). ‵ (fat fullShare Look′.ty l₂ 0 (Look′.mach u))) m·1 refl $ switches-to ! 1 (load ! (from ! (vrt ! refl (fld ! refl (stop !)))) (look-tag ! 94 (whole !))) (
       regroup ! $
-      assigns ! (of-opd ! (load ! (from ! (vrt ! refl (fld ! refl (stop !)))) (look-in ! 92 (in-variant ! 1 0 refl refl (whole !))))) (from ! (stop !)) (init ! 80 refl (tt, record { fits = (Look′.ok-Branch-0 y1-0 y1-1 (subst Look′.Ok m·1 ok·step)) .1 })) $
+      assigns ! (of-opd ! (load ! (from ! (vrt ! refl (fld ! refl (stop !)))) (look-in ! 94 (in-variant ! 1 0 refl refl (whole !))))) (from ! (stop !)) (init ! 80 refl (tt, record { fits = (Look′.ok-Branch-0 y1-0 y1-1 (subst Look′.Ok m·1 ok·step)) .1 })) $
       regroup ! $
-      assigns ! (of-opd ! (load ! (from ! (vrt ! refl (fld ! refl (stop !)))) (look-in ! 92 (in-variant ! 1 1 refl refl (whole !))))) (from ! (stop !)) (init ! 78 refl (tt, record { fits = (Look′.ok-Branch-1 y1-0 y1-1 (subst Look′.Ok m·1 ok·step)) .1 })) $
+      assigns ! (of-opd ! (load ! (from ! (vrt ! refl (fld ! refl (stop !)))) (look-in ! 94 (in-variant ! 1 1 refl refl (whole !))))) (from ! (stop !)) (init ! 78 refl (tt, record { fits = (Look′.ok-Branch-1 y1-0 y1-1 (subst Look′.Ok m·1 ok·step)) .1 })) $
       regroup ! $
       assigns ! (agg ! (and-then ! (load ! (from ! (stop !)) (look ! 80 refl)) (no-more !))) (from ! (stop !)) (init ! 48 refl (Line′.typed 𝓤 H A W (Line′.build y1-0) (Line′.make y1-0 (Look′.ok-Branch-0 y1-0 y1-1 (subst Look′.Ok m·1 ok·step))))) $
       regroup ! $
       assigns ! (agg ! (and-then ! (load ! (from ! (stop !)) (look ! 78 refl)) (no-more !))) (from ! (stop !)) (init ! 46 refl (Version′.typed 𝓤 H A W (Version′.build y1-1) (Version′.make y1-1 (Look′.ok-Branch-1 y1-0 y1-1 (subst Look′.Ok m·1 ok·step))))) $
       regroup ! $
-      assigns ! (addr ! (from ! (fld ! refl (hop ! (look-in ! 84 (sub ! 0 refl (whole !))) (stop !))))) (from ! (stop !)) (init ! 44 refl (tt, tt)) $
+      assigns ! (addr ! (from ! (fld ! refl (hop ! (look-in ! 86 (sub ! 0 refl (whole !))) (stop !))))) (from ! (stop !)) (init ! 44 refl (tt, tt)) $
       regroup ! $
-      assigns ! (agg ! (and-then ! (load ! (from ! (stop !)) (look ! 44 refl)) (and-then ! (load ! (from ! (fld ! refl (stop !))) (look-in ! 84 (sub ! 1 refl (whole !)))) (no-more !)))) (from ! (stop !)) (init ! 42 refl (tt, (tt, (record { fits = room·out .0 }, tt)))) $
+      assigns ! (agg ! (and-then ! (load ! (from ! (stop !)) (look ! 44 refl)) (and-then ! (load ! (from ! (fld ! refl (stop !))) (look-in ! 86 (sub ! 1 refl (whole !)))) (no-more !)))) (from ! (stop !)) (init ! 42 refl (tt, (tt, (record { fits = room·out .0 }, tt)))) $
       move ! (6 ∷ 7 ∷ []) $ lend-mut ! tt u8 κ·out q·out b·out o·out γ·out (length out) out (refl) (λ ν·2-out γ·2-out. move ! (3 ∷ 4 ∷ 5 ∷ 6 ∷ 7 ∷ 8 ∷ 0 ∷ 1 ∷ []) $
-      Call-branch-step.calls ! mem run (fmOf 𝓤 H (W .laws) 𝓣) known-branch-step kept (Line′.build y1-0) (Version′.build y1-1) κ·pages q·pages b·pages o·pages γ·pages (length pages) pages κ·nodes q·nodes b·nodes o·nodes γ·nodes (length nodes) nodes κ·register q·register b·register o·register γ·register (length register) register (ν·2-out ∷ []) fullShare b·out o·out γ·2-out (length out) out ok·kept (Line′.make y1-0 (Look′.ok-Branch-0 y1-0 y1-1 (subst Look′.Ok m·1 ok·step))) (Version′.make y1-1 (Look′.ok-Branch-1 y1-0 y1-1 (subst Look′.Ok m·1 ok·step))) (and-then ! (load ! (from ! (stop !)) (look ! 91 refl)) (and-then ! (load ! (from ! (stop !)) (look ! 45 refl)) (and-then ! (load ! (from ! (stop !)) (look ! 43 refl)) (and-then ! (load ! (from ! (stop !)) (look ! 87 refl)) (and-then ! (load ! (from ! (stop !)) (look ! 85 refl)) (and-then ! (load ! (from ! (stop !)) (look ! 83 refl)) (and-then ! (load ! (from ! (stop !)) (look ! 39 refl)) (no-more !))))))))
+      Call-branch-step.calls ! mem run (fmOf 𝓤 H (W .laws) 𝓣) known-branch-step kept (Line′.build y1-0) (Version′.build y1-1) κ·pages q·pages b·pages o·pages γ·pages (length pages) pages κ·nodes q·nodes b·nodes o·nodes γ·nodes (length nodes) nodes κ·register q·register b·register o·register γ·register (length register) register (ν·2-out ∷ []) fullShare b·out o·out γ·2-out (length out) out ok·kept (Line′.make y1-0 (Look′.ok-Branch-0 y1-0 y1-1 (subst Look′.Ok m·1 ok·step))) (Version′.make y1-1 (Look′.ok-Branch-1 y1-0 y1-1 (subst Look′.Ok m·1 ok·step))) (and-then ! (load ! (from ! (stop !)) (look ! 93 refl)) (and-then ! (load ! (from ! (stop !)) (look ! 45 refl)) (and-then ! (load ! (from ! (stop !)) (look ! 43 refl)) (and-then ! (load ! (from ! (stop !)) (look ! 89 refl)) (and-then ! (load ! (from ! (stop !)) (look ! 87 refl)) (and-then ! (load ! (from ! (stop !)) (look ! 85 refl)) (and-then ! (load ! (from ! (stop !)) (look ! 39 refl)) (no-more !))))))))
       (λ r2 out₂ ok·2 same·2-out. move ! (6 ∷ 7 ∷ 8 ∷ []) $ back-mut ! tt u8 κ·out q·out b·out o·out γ·out (length out) out out₂ ν·2-out γ·2-out (refl) same·2-out room·out $ move ! (2 ∷ 3 ∷ 4 ∷ 5 ∷ 6 ∷ 7 ∷ 0 ∷ 1 ∷ []) $ land ! (from ! (stop !)) (init ! 56 refl (Turn′.typed 𝓤 H A W r2 ok·2)) $
-      here ! (‵ (flft κ·pages q·pages) ∷ ‵ (ShrAt u8 κ·pages b·pages o·pages γ·pages (length pages) pages) ∷ ‵ (flft κ·nodes q·nodes) ∷ ‵ (ShrAt u32 κ·nodes b·nodes o·nodes γ·nodes (length nodes) nodes) ∷ ‵ (flft κ·register q·register) ∷ ‵ (ShrAt Record′.row κ·register b·register o·register γ·register (length register) register) ∷ ‵ (flft κ·out q·out) ∷ ‵ (MutAt u8 κ·out b·out o·out γ·out (length out) out₂) ∷ empty (sliceTy (tyRef erased mut (pointee (u8 .written)))) l₄₄ (empty (tyRef erased mut (pointee (u8 .written))) l₄₃ (empty (tyAt (code.function .locals) 42) l₄₂ (empty (tyAt (code.function .locals) 41) l₄₁ (empty (tyAt (code.function .locals) 40) l₄₀ (empty (sliceTy (tyRef erased mut (pointee (u8 .written)))) l₃₉ (empty (tyRef erased mut (pointee (u8 .written))) l₃₈ (empty (tyAt (code.function .locals) 37) l₃₇ (empty (sliceTy (tyRef erased mut (pointee (u8 .written)))) l₃₆ (empty (tyRef erased mut (pointee (u8 .written))) l₃₅ (empty (tyAt (code.function .locals) 34) l₃₄ (empty (tyAt (code.function .locals) 33) l₃₃ (empty (sliceTy (tyRef erased mut (pointee (u8 .written)))) l₃₂ (empty (tyRef erased mut (pointee (u8 .written))) l₃₁ (empty (tyAt (code.function .locals) 30) l₃₀ (empty (tyAt (code.function .locals) 29) l₂₉ (empty (tyAt (code.function .locals) 28) l₂₈ (holds (sliceTy (tyRef erased mut (pointee (u8 .written)))) l₂₇ (sliceVal (b·out, o·out) (length out)) (holds (tyRef erased mut (pointee (u8 .written))) l₂₆ (vptr b·out o·out) (holds (tyAt (code.function .locals) 25) l₂₅ (Version′.mach (Version′.build y1-1)) (holds (tyAt (code.function .locals) 24) l₂₄ (Line′.mach (Line′.build y1-0)) (empty (sliceTy (tyRef erased mut (pointee (u8 .written)))) l₂₃ (empty (tyRef erased mut (pointee (u8 .written))) l₂₂ (empty (tyAt (code.function .locals) 21) l₂₁ (holds (tyAt (code.function .locals) 20) l₂₀ (Turn′.mach r2) (empty (tyInt w64) l₁₉ (empty (tyInt w64) l₁₈ (empty (tyInt w64) l₁₇ (empty (tyInt w64) l₁₆ (empty (tyInt w64) l₁₅ (empty (tyInt w64) l₁₄ (empty (tyInt w64) l₁₃ (empty (tyInt w64) l₁₂ (empty (tyInt w64) l₁₁ (empty (tyInt w64) l₁₀ (holds (tyInt w64) l₉ (vint w64 y1-1) (holds (tyInt w64) l₈ (vint w64 y1-0) (empty (tyInt w64) l₇ (holds (sliceTy (tyRef (named 3) mut (pointee (u8 .written)))) l₆ (sliceVal (b·out, o·out) (length out)) (holds (sliceTy (tyRef (named 2) imm (pointee (Record′.row .written)))) l₅ (sliceVal (b·register, o·register) (length register)) (holds (sliceTy (tyRef (named 1) imm (pointee (u32 .written)))) l₄ (sliceVal (b·nodes, o·nodes) (length nodes)) (holds (sliceTy (tyRef (named 0) imm (pointee (u8 .written)))) l₃ (sliceVal (b·pages, o·pages) (length pages)) (holds (tyAt (code.function .locals) 2) l₂ (Look′.mach (Look.Branch y1-0 y1-1)) (holds (tyAt (code.function .locals) 1) l₁ (Kept′.mach kept) (empty (tyAt (code.function .locals) 0) l₀ []))))))))))))))))))))))))))))))))))))))))))))) $
-      assigns ! (of-opd ! (load ! (from ! (stop !)) (look ! 56 refl))) (from ! (stop !)) (init ! 96 refl (Turn′.typed 𝓤 H A W r2 ok·2)) $
-      returns ! (look ! 96 refl) $
-      move ! (96 ∷ 97 ∷ []) $ forget ! 0 refl $ free1 ! $ move ! (94 ∷ 95 ∷ []) $ forget ! 0 refl $ free1 ! $ move ! (92 ∷ 93 ∷ []) $ forget ! 0 refl $ free1 ! $ move ! (90 ∷ 91 ∷ []) $ forget ! 0 refl $ free1 ! $ move ! (88 ∷ 89 ∷ []) $ forget ! 0 refl $ free1 ! $ move ! (86 ∷ 87 ∷ []) $ forget ! 0 refl $ free1 ! $ move ! (84 ∷ 85 ∷ []) $ forget ! 0 refl $ free1 ! $ move ! (82 ∷ 83 ∷ []) $ free1 ! $ move ! (80 ∷ 81 ∷ []) $ forget ! 0 refl $ free1 ! $ move ! (78 ∷ 79 ∷ []) $ forget ! 0 refl $ free1 ! $ move ! (76 ∷ 77 ∷ []) $ free1 ! $ move ! (74 ∷ 75 ∷ []) $ free1 ! $ move ! (72 ∷ 73 ∷ []) $ free1 ! $ move ! (70 ∷ 71 ∷ []) $ free1 ! $ move ! (68 ∷ 69 ∷ []) $ free1 ! $ move ! (66 ∷ 67 ∷ []) $ free1 ! $ move ! (64 ∷ 65 ∷ []) $ free1 ! $ move ! (62 ∷ 63 ∷ []) $ free1 ! $ move ! (60 ∷ 61 ∷ []) $ free1 ! $ move ! (58 ∷ 59 ∷ []) $ free1 ! $ move ! (56 ∷ 57 ∷ []) $ forget ! 0 refl $ free1 ! $ move ! (54 ∷ 55 ∷ []) $ free1 ! $ move ! (52 ∷ 53 ∷ []) $ free1 ! $ move ! (50 ∷ 51 ∷ []) $ free1 ! $ move ! (48 ∷ 49 ∷ []) $ forget ! 0 refl $ free1 ! $ move ! (46 ∷ 47 ∷ []) $ forget ! 0 refl $ free1 ! $ move ! (44 ∷ 45 ∷ []) $ forget ! 0 refl $ free1 ! $ move ! (42 ∷ 43 ∷ []) $ forget ! 0 refl $ free1 ! $ move ! (40 ∷ 41 ∷ []) $ free1 ! $ move ! (38 ∷ 39 ∷ []) $ free1 ! $ move ! (36 ∷ 37 ∷ []) $ free1 ! $ move ! (34 ∷ 35 ∷ []) $ free1 ! $ move ! (32 ∷ 33 ∷ []) $ free1 ! $ move ! (30 ∷ 31 ∷ []) $ free1 ! $ move ! (28 ∷ 29 ∷ []) $ free1 ! $ move ! (26 ∷ 27 ∷ []) $ free1 ! $ move ! (24 ∷ 25 ∷ []) $ free1 ! $ move ! (22 ∷ 23 ∷ []) $ free1 ! $ move ! (20 ∷ 21 ∷ []) $ free1 ! $ move ! (18 ∷ 19 ∷ []) $ free1 ! $ move ! (16 ∷ 17 ∷ []) $ free1 ! $ move ! (14 ∷ 15 ∷ []) $ free1 ! $ move ! (12 ∷ 13 ∷ []) $ free1 ! $ move ! (10 ∷ 11 ∷ []) $ free1 ! $ move ! (8 ∷ 9 ∷ []) $ free1 ! $ free0 ! $ by ! (exits r2 ok·2 out₂ (sym (refl ∙ sym same·2-out)))))))
-      (λ y1-0 y1-1 y1-2 y1-3 m·1. rewrite ! 92 (λ (u : Look). ‵ (fat fullShare Look′.ty l₂ 0 (Look′.mach u))) m·1 refl $ switches-to ! 2 (load ! (from ! (vrt ! refl (fld ! refl (stop !)))) (look-tag ! 92 (whole !))) (
+      here ! (‵ (flft κ·pages q·pages) ∷ ‵ (ShrAt u8 κ·pages b·pages o·pages γ·pages (length pages) pages) ∷ ‵ (flft κ·nodes q·nodes) ∷ ‵ (ShrAt u32 κ·nodes b·nodes o·nodes γ·nodes (length nodes) nodes) ∷ ‵ (flft κ·register q·register) ∷ ‵ (ShrAt Record′.row κ·register b·register o·register γ·register (length register) register) ∷ ‵ (flft κ·out q·out) ∷ ‵ (MutAt u8 κ·out b·out o·out γ·out (length out) out₂) ∷ empty (sliceTy (tyRef erased mut (pointee (u8 .written)))) l₄₅ (empty (tyRef erased mut (pointee (u8 .written))) l₄₄ (empty (tyAt (code.function .locals) 43) l₄₃ (empty (tyAt (code.function .locals) 42) l₄₂ (empty (tyAt (code.function .locals) 41) l₄₁ (empty (sliceTy (tyRef erased mut (pointee (u8 .written)))) l₄₀ (empty (tyRef erased mut (pointee (u8 .written))) l₃₉ (empty (tyAt (code.function .locals) 38) l₃₈ (empty (sliceTy (tyRef erased mut (pointee (u8 .written)))) l₃₇ (empty (tyRef erased mut (pointee (u8 .written))) l₃₆ (empty (tyAt (code.function .locals) 35) l₃₅ (empty (tyAt (code.function .locals) 34) l₃₄ (empty (sliceTy (tyRef erased mut (pointee (u8 .written)))) l₃₃ (empty (tyRef erased mut (pointee (u8 .written))) l₃₂ (empty (tyAt (code.function .locals) 31) l₃₁ (empty (tyAt (code.function .locals) 30) l₃₀ (empty (tyAt (code.function .locals) 29) l₂₉ (holds (sliceTy (tyRef erased mut (pointee (u8 .written)))) l₂₈ (sliceVal (b·out, o·out) (length out)) (holds (tyRef erased mut (pointee (u8 .written))) l₂₇ (vptr b·out o·out) (holds (tyAt (code.function .locals) 26) l₂₆ (Version′.mach (Version′.build y1-1)) (holds (tyAt (code.function .locals) 25) l₂₅ (Line′.mach (Line′.build y1-0)) (empty (sliceTy (tyRef erased mut (pointee (u8 .written)))) l₂₄ (empty (tyRef erased mut (pointee (u8 .written))) l₂₃ (empty (tyAt (code.function .locals) 22) l₂₂ (holds (tyAt (code.function .locals) 21) l₂₁ (Turn′.mach r2) (empty (tyInt w64) l₂₀ (empty (tyInt w64) l₁₉ (empty (tyInt w64) l₁₈ (empty (tyInt w64) l₁₇ (empty (tyInt w64) l₁₆ (empty (tyInt w64) l₁₅ (empty (tyInt w64) l₁₄ (empty (tyInt w64) l₁₃ (empty (tyInt w64) l₁₂ (empty (tyInt w64) l₁₁ (holds (tyInt w64) l₁₀ (vint w64 y1-1) (holds (tyInt w64) l₉ (vint w64 y1-0) (empty (tyInt w64) l₈ (empty (tyInt w64) l₇ (holds (sliceTy (tyRef (named 3) mut (pointee (u8 .written)))) l₆ (sliceVal (b·out, o·out) (length out)) (holds (sliceTy (tyRef (named 2) imm (pointee (Record′.row .written)))) l₅ (sliceVal (b·register, o·register) (length register)) (holds (sliceTy (tyRef (named 1) imm (pointee (u32 .written)))) l₄ (sliceVal (b·nodes, o·nodes) (length nodes)) (holds (sliceTy (tyRef (named 0) imm (pointee (u8 .written)))) l₃ (sliceVal (b·pages, o·pages) (length pages)) (holds (tyAt (code.function .locals) 2) l₂ (Look′.mach (Look.Branch y1-0 y1-1)) (holds (tyAt (code.function .locals) 1) l₁ (Kept′.mach kept) (empty (tyAt (code.function .locals) 0) l₀ [])))))))))))))))))))))))))))))))))))))))))))))) $
+      assigns ! (of-opd ! (load ! (from ! (stop !)) (look ! 56 refl))) (from ! (stop !)) (init ! 98 refl (Turn′.typed 𝓤 H A W r2 ok·2)) $
+      returns ! (look ! 98 refl) $
+      move ! (98 ∷ 99 ∷ []) $ forget ! 0 refl $ free1 ! $ move ! (96 ∷ 97 ∷ []) $ forget ! 0 refl $ free1 ! $ move ! (94 ∷ 95 ∷ []) $ forget ! 0 refl $ free1 ! $ move ! (92 ∷ 93 ∷ []) $ forget ! 0 refl $ free1 ! $ move ! (90 ∷ 91 ∷ []) $ forget ! 0 refl $ free1 ! $ move ! (88 ∷ 89 ∷ []) $ forget ! 0 refl $ free1 ! $ move ! (86 ∷ 87 ∷ []) $ forget ! 0 refl $ free1 ! $ move ! (84 ∷ 85 ∷ []) $ free1 ! $ move ! (82 ∷ 83 ∷ []) $ free1 ! $ move ! (80 ∷ 81 ∷ []) $ forget ! 0 refl $ free1 ! $ move ! (78 ∷ 79 ∷ []) $ forget ! 0 refl $ free1 ! $ move ! (76 ∷ 77 ∷ []) $ free1 ! $ move ! (74 ∷ 75 ∷ []) $ free1 ! $ move ! (72 ∷ 73 ∷ []) $ free1 ! $ move ! (70 ∷ 71 ∷ []) $ free1 ! $ move ! (68 ∷ 69 ∷ []) $ free1 ! $ move ! (66 ∷ 67 ∷ []) $ free1 ! $ move ! (64 ∷ 65 ∷ []) $ free1 ! $ move ! (62 ∷ 63 ∷ []) $ free1 ! $ move ! (60 ∷ 61 ∷ []) $ free1 ! $ move ! (58 ∷ 59 ∷ []) $ free1 ! $ move ! (56 ∷ 57 ∷ []) $ forget ! 0 refl $ free1 ! $ move ! (54 ∷ 55 ∷ []) $ free1 ! $ move ! (52 ∷ 53 ∷ []) $ free1 ! $ move ! (50 ∷ 51 ∷ []) $ free1 ! $ move ! (48 ∷ 49 ∷ []) $ forget ! 0 refl $ free1 ! $ move ! (46 ∷ 47 ∷ []) $ forget ! 0 refl $ free1 ! $ move ! (44 ∷ 45 ∷ []) $ forget ! 0 refl $ free1 ! $ move ! (42 ∷ 43 ∷ []) $ forget ! 0 refl $ free1 ! $ move ! (40 ∷ 41 ∷ []) $ free1 ! $ move ! (38 ∷ 39 ∷ []) $ free1 ! $ move ! (36 ∷ 37 ∷ []) $ free1 ! $ move ! (34 ∷ 35 ∷ []) $ free1 ! $ move ! (32 ∷ 33 ∷ []) $ free1 ! $ move ! (30 ∷ 31 ∷ []) $ free1 ! $ move ! (28 ∷ 29 ∷ []) $ free1 ! $ move ! (26 ∷ 27 ∷ []) $ free1 ! $ move ! (24 ∷ 25 ∷ []) $ free1 ! $ move ! (22 ∷ 23 ∷ []) $ free1 ! $ move ! (20 ∷ 21 ∷ []) $ free1 ! $ move ! (18 ∷ 19 ∷ []) $ free1 ! $ move ! (16 ∷ 17 ∷ []) $ free1 ! $ move ! (14 ∷ 15 ∷ []) $ free1 ! $ move ! (12 ∷ 13 ∷ []) $ free1 ! $ move ! (10 ∷ 11 ∷ []) $ free1 ! $ move ! (8 ∷ 9 ∷ []) $ free1 ! $ free0 ! $ by ! (exits r2 ok·2 out₂ (sym (refl ∙ sym same·2-out)))))))
+      (λ y1-0 y1-1 y1-2 y1-3 m·1. rewrite ! 94 (λ (u : Look). ‵ (fat fullShare Look′.ty l₂ 0 (Look′.mach u))) m·1 refl $ switches-to ! 2 (load ! (from ! (vrt ! refl (fld ! refl (stop !)))) (look-tag ! 94 (whole !))) (
       regroup ! $
-      assigns ! (of-opd ! (load ! (from ! (vrt ! refl (fld ! refl (stop !)))) (look-in ! 92 (in-variant ! 2 0 refl refl (whole !))))) (from ! (stop !)) (init ! 76 refl (tt, record { fits = (Look′.ok-Read-0 y1-0 y1-1 y1-2 y1-3 (subst Look′.Ok m·1 ok·step)) .1 })) $
+      assigns ! (of-opd ! (load ! (from ! (vrt ! refl (fld ! refl (stop !)))) (look-in ! 94 (in-variant ! 2 0 refl refl (whole !))))) (from ! (stop !)) (init ! 76 refl (tt, record { fits = (Look′.ok-Read-0 y1-0 y1-1 y1-2 y1-3 (subst Look′.Ok m·1 ok·step)) .1 })) $
       regroup ! $
-      assigns ! (of-opd ! (load ! (from ! (vrt ! refl (fld ! refl (stop !)))) (look-in ! 92 (in-variant ! 2 1 refl refl (whole !))))) (from ! (stop !)) (init ! 74 refl (tt, record { fits = (Look′.ok-Read-1 y1-0 y1-1 y1-2 y1-3 (subst Look′.Ok m·1 ok·step)) .1 })) $
+      assigns ! (of-opd ! (load ! (from ! (vrt ! refl (fld ! refl (stop !)))) (look-in ! 94 (in-variant ! 2 1 refl refl (whole !))))) (from ! (stop !)) (init ! 74 refl (tt, record { fits = (Look′.ok-Read-1 y1-0 y1-1 y1-2 y1-3 (subst Look′.Ok m·1 ok·step)) .1 })) $
       regroup ! $
-      assigns ! (of-opd ! (load ! (from ! (vrt ! refl (fld ! refl (stop !)))) (look-in ! 92 (in-variant ! 2 2 refl refl (whole !))))) (from ! (stop !)) (init ! 72 refl (tt, record { fits = (Look′.ok-Read-2 y1-0 y1-1 y1-2 y1-3 (subst Look′.Ok m·1 ok·step)) .1 })) $
+      assigns ! (of-opd ! (load ! (from ! (vrt ! refl (fld ! refl (stop !)))) (look-in ! 94 (in-variant ! 2 2 refl refl (whole !))))) (from ! (stop !)) (init ! 72 refl (tt, record { fits = (Look′.ok-Read-2 y1-0 y1-1 y1-2 y1-3 (subst Look′.Ok m·1 ok·step)) .1 })) $
       regroup ! $
-      assigns ! (of-opd ! (load ! (from ! (vrt ! refl (fld ! refl (stop !)))) (look-in ! 92 (in-variant ! 2 3 refl refl (whole !))))) (from ! (stop !)) (init ! 70 refl (tt, record { fits = (Look′.ok-Read-3 y1-0 y1-1 y1-2 y1-3 (subst Look′.Ok m·1 ok·step)) .1 })) $
+      assigns ! (of-opd ! (load ! (from ! (vrt ! refl (fld ! refl (stop !)))) (look-in ! 94 (in-variant ! 2 3 refl refl (whole !))))) (from ! (stop !)) (init ! 70 refl (tt, record { fits = (Look′.ok-Read-3 y1-0 y1-1 y1-2 y1-3 (subst Look′.Ok m·1 ok·step)) .1 })) $
       regroup ! $
       assigns ! (agg ! (and-then ! (load ! (from ! (stop !)) (look ! 76 refl)) (no-more !))) (from ! (stop !)) (init ! 40 refl (Line′.typed 𝓤 H A W (Line′.build y1-0) (Line′.make y1-0 (Look′.ok-Read-0 y1-0 y1-1 y1-2 y1-3 (subst Look′.Ok m·1 ok·step))))) $
       regroup ! $
@@ -180,59 +182,59 @@ module _ {M : Type 1} (𝓤 : URA M) (H : Heap 𝓤) (A : Atoms 𝓤) (W : Given
       regroup ! $
       assigns ! (agg ! (and-then ! (load ! (from ! (stop !)) (look ! 72 refl)) (no-more !))) (from ! (stop !)) (init ! 36 refl (ByteOffset′.typed 𝓤 H A W (ByteOffset′.build y1-2) (ByteOffset′.make y1-2 (Look′.ok-Read-2 y1-0 y1-1 y1-2 y1-3 (subst Look′.Ok m·1 ok·step))))) $
       regroup ! $
-      assigns ! (addr ! (from ! (fld ! refl (hop ! (look-in ! 84 (sub ! 0 refl (whole !))) (stop !))))) (from ! (stop !)) (init ! 34 refl (tt, tt)) $
+      assigns ! (addr ! (from ! (fld ! refl (hop ! (look-in ! 86 (sub ! 0 refl (whole !))) (stop !))))) (from ! (stop !)) (init ! 34 refl (tt, tt)) $
       regroup ! $
-      assigns ! (agg ! (and-then ! (load ! (from ! (stop !)) (look ! 34 refl)) (and-then ! (load ! (from ! (fld ! refl (stop !))) (look-in ! 84 (sub ! 1 refl (whole !)))) (no-more !)))) (from ! (stop !)) (init ! 32 refl (tt, (tt, (record { fits = room·out .0 }, tt)))) $
+      assigns ! (agg ! (and-then ! (load ! (from ! (stop !)) (look ! 34 refl)) (and-then ! (load ! (from ! (fld ! refl (stop !))) (look-in ! 86 (sub ! 1 refl (whole !)))) (no-more !)))) (from ! (stop !)) (init ! 32 refl (tt, (tt, (record { fits = room·out .0 }, tt)))) $
       move ! (6 ∷ 7 ∷ []) $ lend-mut ! tt u8 κ·out q·out b·out o·out γ·out (length out) out (refl) (λ ν·3-out γ·3-out. move ! (3 ∷ 4 ∷ 5 ∷ 6 ∷ 7 ∷ 8 ∷ 0 ∷ 1 ∷ []) $
-      Call-read-step.calls ! mem run (fmOf 𝓤 H (W .laws) 𝓣) known-read-step kept (Line′.build y1-0) (Version′.build y1-1) (ByteOffset′.build y1-2) y1-3 κ·pages q·pages b·pages o·pages γ·pages (length pages) pages κ·nodes q·nodes b·nodes o·nodes γ·nodes (length nodes) nodes κ·register q·register b·register o·register γ·register (length register) register (ν·3-out ∷ []) fullShare b·out o·out γ·3-out (length out) out ok·kept (Line′.make y1-0 (Look′.ok-Read-0 y1-0 y1-1 y1-2 y1-3 (subst Look′.Ok m·1 ok·step))) (Version′.make y1-1 (Look′.ok-Read-1 y1-0 y1-1 y1-2 y1-3 (subst Look′.Ok m·1 ok·step))) (ByteOffset′.make y1-2 (Look′.ok-Read-2 y1-0 y1-1 y1-2 y1-3 (subst Look′.Ok m·1 ok·step))) (Look′.ok-Read-3 y1-0 y1-1 y1-2 y1-3 (subst Look′.Ok m·1 ok·step)) (and-then ! (load ! (from ! (stop !)) (look ! 91 refl)) (and-then ! (load ! (from ! (stop !)) (look ! 37 refl)) (and-then ! (load ! (from ! (stop !)) (look ! 35 refl)) (and-then ! (load ! (from ! (stop !)) (look ! 33 refl)) (and-then ! (load ! (from ! (stop !)) (look ! 67 refl)) (and-then ! (load ! (from ! (stop !)) (look ! 87 refl)) (and-then ! (load ! (from ! (stop !)) (look ! 85 refl)) (and-then ! (load ! (from ! (stop !)) (look ! 83 refl)) (and-then ! (load ! (from ! (stop !)) (look ! 29 refl)) (no-more !))))))))))
+      Call-read-step.calls ! mem run (fmOf 𝓤 H (W .laws) 𝓣) known-read-step kept (Line′.build y1-0) (Version′.build y1-1) (ByteOffset′.build y1-2) y1-3 κ·pages q·pages b·pages o·pages γ·pages (length pages) pages κ·nodes q·nodes b·nodes o·nodes γ·nodes (length nodes) nodes κ·register q·register b·register o·register γ·register (length register) register (ν·3-out ∷ []) fullShare b·out o·out γ·3-out (length out) out ok·kept (Line′.make y1-0 (Look′.ok-Read-0 y1-0 y1-1 y1-2 y1-3 (subst Look′.Ok m·1 ok·step))) (Version′.make y1-1 (Look′.ok-Read-1 y1-0 y1-1 y1-2 y1-3 (subst Look′.Ok m·1 ok·step))) (ByteOffset′.make y1-2 (Look′.ok-Read-2 y1-0 y1-1 y1-2 y1-3 (subst Look′.Ok m·1 ok·step))) (Look′.ok-Read-3 y1-0 y1-1 y1-2 y1-3 (subst Look′.Ok m·1 ok·step)) (and-then ! (load ! (from ! (stop !)) (look ! 93 refl)) (and-then ! (load ! (from ! (stop !)) (look ! 37 refl)) (and-then ! (load ! (from ! (stop !)) (look ! 35 refl)) (and-then ! (load ! (from ! (stop !)) (look ! 33 refl)) (and-then ! (load ! (from ! (stop !)) (look ! 67 refl)) (and-then ! (load ! (from ! (stop !)) (look ! 89 refl)) (and-then ! (load ! (from ! (stop !)) (look ! 87 refl)) (and-then ! (load ! (from ! (stop !)) (look ! 85 refl)) (and-then ! (load ! (from ! (stop !)) (look ! 29 refl)) (no-more !))))))))))
       (λ r3 out₃ ok·3 same·3-out. move ! (6 ∷ 7 ∷ 8 ∷ []) $ back-mut ! tt u8 κ·out q·out b·out o·out γ·out (length out) out out₃ ν·3-out γ·3-out (refl) same·3-out room·out $ move ! (2 ∷ 3 ∷ 4 ∷ 5 ∷ 6 ∷ 7 ∷ 0 ∷ 1 ∷ []) $ land ! (from ! (stop !)) (init ! 56 refl (Turn′.typed 𝓤 H A W r3 ok·3)) $
-      here ! (‵ (flft κ·pages q·pages) ∷ ‵ (ShrAt u8 κ·pages b·pages o·pages γ·pages (length pages) pages) ∷ ‵ (flft κ·nodes q·nodes) ∷ ‵ (ShrAt u32 κ·nodes b·nodes o·nodes γ·nodes (length nodes) nodes) ∷ ‵ (flft κ·register q·register) ∷ ‵ (ShrAt Record′.row κ·register b·register o·register γ·register (length register) register) ∷ ‵ (flft κ·out q·out) ∷ ‵ (MutAt u8 κ·out b·out o·out γ·out (length out) out₃) ∷ empty (sliceTy (tyRef erased mut (pointee (u8 .written)))) l₄₄ (empty (tyRef erased mut (pointee (u8 .written))) l₄₃ (empty (tyAt (code.function .locals) 42) l₄₂ (empty (tyAt (code.function .locals) 41) l₄₁ (empty (tyAt (code.function .locals) 40) l₄₀ (empty (sliceTy (tyRef erased mut (pointee (u8 .written)))) l₃₉ (empty (tyRef erased mut (pointee (u8 .written))) l₃₈ (empty (tyAt (code.function .locals) 37) l₃₇ (empty (sliceTy (tyRef erased mut (pointee (u8 .written)))) l₃₆ (empty (tyRef erased mut (pointee (u8 .written))) l₃₅ (empty (tyAt (code.function .locals) 34) l₃₄ (empty (tyAt (code.function .locals) 33) l₃₃ (holds (sliceTy (tyRef erased mut (pointee (u8 .written)))) l₃₂ (sliceVal (b·out, o·out) (length out)) (holds (tyRef erased mut (pointee (u8 .written))) l₃₁ (vptr b·out o·out) (holds (tyAt (code.function .locals) 30) l₃₀ (ByteOffset′.mach (ByteOffset′.build y1-2)) (holds (tyAt (code.function .locals) 29) l₂₉ (Version′.mach (Version′.build y1-1)) (holds (tyAt (code.function .locals) 28) l₂₈ (Line′.mach (Line′.build y1-0)) (empty (sliceTy (tyRef erased mut (pointee (u8 .written)))) l₂₇ (empty (tyRef erased mut (pointee (u8 .written))) l₂₆ (empty (tyAt (code.function .locals) 25) l₂₅ (empty (tyAt (code.function .locals) 24) l₂₄ (empty (sliceTy (tyRef erased mut (pointee (u8 .written)))) l₂₃ (empty (tyRef erased mut (pointee (u8 .written))) l₂₂ (empty (tyAt (code.function .locals) 21) l₂₁ (holds (tyAt (code.function .locals) 20) l₂₀ (Turn′.mach r3) (empty (tyInt w64) l₁₉ (empty (tyInt w64) l₁₈ (empty (tyInt w64) l₁₇ (empty (tyInt w64) l₁₆ (empty (tyInt w64) l₁₅ (empty (tyInt w64) l₁₄ (holds (tyInt w64) l₁₃ (vint w64 y1-3) (holds (tyInt w64) l₁₂ (vint w64 y1-2) (holds (tyInt w64) l₁₁ (vint w64 y1-1) (holds (tyInt w64) l₁₀ (vint w64 y1-0) (empty (tyInt w64) l₉ (empty (tyInt w64) l₈ (empty (tyInt w64) l₇ (holds (sliceTy (tyRef (named 3) mut (pointee (u8 .written)))) l₆ (sliceVal (b·out, o·out) (length out)) (holds (sliceTy (tyRef (named 2) imm (pointee (Record′.row .written)))) l₅ (sliceVal (b·register, o·register) (length register)) (holds (sliceTy (tyRef (named 1) imm (pointee (u32 .written)))) l₄ (sliceVal (b·nodes, o·nodes) (length nodes)) (holds (sliceTy (tyRef (named 0) imm (pointee (u8 .written)))) l₃ (sliceVal (b·pages, o·pages) (length pages)) (holds (tyAt (code.function .locals) 2) l₂ (Look′.mach (Look.Read y1-0 y1-1 y1-2 y1-3)) (holds (tyAt (code.function .locals) 1) l₁ (Kept′.mach kept) (empty (tyAt (code.function .locals) 0) l₀ []))))))))))))))))))))))))))))))))))))))))))))) $
-      assigns ! (of-opd ! (load ! (from ! (stop !)) (look ! 56 refl))) (from ! (stop !)) (init ! 96 refl (Turn′.typed 𝓤 H A W r3 ok·3)) $
-      returns ! (look ! 96 refl) $
-      move ! (96 ∷ 97 ∷ []) $ forget ! 0 refl $ free1 ! $ move ! (94 ∷ 95 ∷ []) $ forget ! 0 refl $ free1 ! $ move ! (92 ∷ 93 ∷ []) $ forget ! 0 refl $ free1 ! $ move ! (90 ∷ 91 ∷ []) $ forget ! 0 refl $ free1 ! $ move ! (88 ∷ 89 ∷ []) $ forget ! 0 refl $ free1 ! $ move ! (86 ∷ 87 ∷ []) $ forget ! 0 refl $ free1 ! $ move ! (84 ∷ 85 ∷ []) $ forget ! 0 refl $ free1 ! $ move ! (82 ∷ 83 ∷ []) $ free1 ! $ move ! (80 ∷ 81 ∷ []) $ free1 ! $ move ! (78 ∷ 79 ∷ []) $ free1 ! $ move ! (76 ∷ 77 ∷ []) $ forget ! 0 refl $ free1 ! $ move ! (74 ∷ 75 ∷ []) $ forget ! 0 refl $ free1 ! $ move ! (72 ∷ 73 ∷ []) $ forget ! 0 refl $ free1 ! $ move ! (70 ∷ 71 ∷ []) $ forget ! 0 refl $ free1 ! $ move ! (68 ∷ 69 ∷ []) $ free1 ! $ move ! (66 ∷ 67 ∷ []) $ free1 ! $ move ! (64 ∷ 65 ∷ []) $ free1 ! $ move ! (62 ∷ 63 ∷ []) $ free1 ! $ move ! (60 ∷ 61 ∷ []) $ free1 ! $ move ! (58 ∷ 59 ∷ []) $ free1 ! $ move ! (56 ∷ 57 ∷ []) $ forget ! 0 refl $ free1 ! $ move ! (54 ∷ 55 ∷ []) $ free1 ! $ move ! (52 ∷ 53 ∷ []) $ free1 ! $ move ! (50 ∷ 51 ∷ []) $ free1 ! $ move ! (48 ∷ 49 ∷ []) $ free1 ! $ move ! (46 ∷ 47 ∷ []) $ free1 ! $ move ! (44 ∷ 45 ∷ []) $ free1 ! $ move ! (42 ∷ 43 ∷ []) $ free1 ! $ move ! (40 ∷ 41 ∷ []) $ forget ! 0 refl $ free1 ! $ move ! (38 ∷ 39 ∷ []) $ forget ! 0 refl $ free1 ! $ move ! (36 ∷ 37 ∷ []) $ forget ! 0 refl $ free1 ! $ move ! (34 ∷ 35 ∷ []) $ forget ! 0 refl $ free1 ! $ move ! (32 ∷ 33 ∷ []) $ forget ! 0 refl $ free1 ! $ move ! (30 ∷ 31 ∷ []) $ free1 ! $ move ! (28 ∷ 29 ∷ []) $ free1 ! $ move ! (26 ∷ 27 ∷ []) $ free1 ! $ move ! (24 ∷ 25 ∷ []) $ free1 ! $ move ! (22 ∷ 23 ∷ []) $ free1 ! $ move ! (20 ∷ 21 ∷ []) $ free1 ! $ move ! (18 ∷ 19 ∷ []) $ free1 ! $ move ! (16 ∷ 17 ∷ []) $ free1 ! $ move ! (14 ∷ 15 ∷ []) $ free1 ! $ move ! (12 ∷ 13 ∷ []) $ free1 ! $ move ! (10 ∷ 11 ∷ []) $ free1 ! $ move ! (8 ∷ 9 ∷ []) $ free1 ! $ free0 ! $ by ! (exits r3 ok·3 out₃ (sym (refl ∙ sym same·3-out)))))))
-      (λ y1-0 y1-1 m·1. rewrite ! 92 (λ (u : Look). ‵ (fat fullShare Look′.ty l₂ 0 (Look′.mach u))) m·1 refl $ switches-to ! 3 (load ! (from ! (vrt ! refl (fld ! refl (stop !)))) (look-tag ! 92 (whole !))) (
+      here ! (‵ (flft κ·pages q·pages) ∷ ‵ (ShrAt u8 κ·pages b·pages o·pages γ·pages (length pages) pages) ∷ ‵ (flft κ·nodes q·nodes) ∷ ‵ (ShrAt u32 κ·nodes b·nodes o·nodes γ·nodes (length nodes) nodes) ∷ ‵ (flft κ·register q·register) ∷ ‵ (ShrAt Record′.row κ·register b·register o·register γ·register (length register) register) ∷ ‵ (flft κ·out q·out) ∷ ‵ (MutAt u8 κ·out b·out o·out γ·out (length out) out₃) ∷ empty (sliceTy (tyRef erased mut (pointee (u8 .written)))) l₄₅ (empty (tyRef erased mut (pointee (u8 .written))) l₄₄ (empty (tyAt (code.function .locals) 43) l₄₃ (empty (tyAt (code.function .locals) 42) l₄₂ (empty (tyAt (code.function .locals) 41) l₄₁ (empty (sliceTy (tyRef erased mut (pointee (u8 .written)))) l₄₀ (empty (tyRef erased mut (pointee (u8 .written))) l₃₉ (empty (tyAt (code.function .locals) 38) l₃₈ (empty (sliceTy (tyRef erased mut (pointee (u8 .written)))) l₃₇ (empty (tyRef erased mut (pointee (u8 .written))) l₃₆ (empty (tyAt (code.function .locals) 35) l₃₅ (empty (tyAt (code.function .locals) 34) l₃₄ (holds (sliceTy (tyRef erased mut (pointee (u8 .written)))) l₃₃ (sliceVal (b·out, o·out) (length out)) (holds (tyRef erased mut (pointee (u8 .written))) l₃₂ (vptr b·out o·out) (holds (tyAt (code.function .locals) 31) l₃₁ (ByteOffset′.mach (ByteOffset′.build y1-2)) (holds (tyAt (code.function .locals) 30) l₃₀ (Version′.mach (Version′.build y1-1)) (holds (tyAt (code.function .locals) 29) l₂₉ (Line′.mach (Line′.build y1-0)) (empty (sliceTy (tyRef erased mut (pointee (u8 .written)))) l₂₈ (empty (tyRef erased mut (pointee (u8 .written))) l₂₇ (empty (tyAt (code.function .locals) 26) l₂₆ (empty (tyAt (code.function .locals) 25) l₂₅ (empty (sliceTy (tyRef erased mut (pointee (u8 .written)))) l₂₄ (empty (tyRef erased mut (pointee (u8 .written))) l₂₃ (empty (tyAt (code.function .locals) 22) l₂₂ (holds (tyAt (code.function .locals) 21) l₂₁ (Turn′.mach r3) (empty (tyInt w64) l₂₀ (empty (tyInt w64) l₁₉ (empty (tyInt w64) l₁₈ (empty (tyInt w64) l₁₇ (empty (tyInt w64) l₁₆ (empty (tyInt w64) l₁₅ (holds (tyInt w64) l₁₄ (vint w64 y1-3) (holds (tyInt w64) l₁₃ (vint w64 y1-2) (holds (tyInt w64) l₁₂ (vint w64 y1-1) (holds (tyInt w64) l₁₁ (vint w64 y1-0) (empty (tyInt w64) l₁₀ (empty (tyInt w64) l₉ (empty (tyInt w64) l₈ (empty (tyInt w64) l₇ (holds (sliceTy (tyRef (named 3) mut (pointee (u8 .written)))) l₆ (sliceVal (b·out, o·out) (length out)) (holds (sliceTy (tyRef (named 2) imm (pointee (Record′.row .written)))) l₅ (sliceVal (b·register, o·register) (length register)) (holds (sliceTy (tyRef (named 1) imm (pointee (u32 .written)))) l₄ (sliceVal (b·nodes, o·nodes) (length nodes)) (holds (sliceTy (tyRef (named 0) imm (pointee (u8 .written)))) l₃ (sliceVal (b·pages, o·pages) (length pages)) (holds (tyAt (code.function .locals) 2) l₂ (Look′.mach (Look.Read y1-0 y1-1 y1-2 y1-3)) (holds (tyAt (code.function .locals) 1) l₁ (Kept′.mach kept) (empty (tyAt (code.function .locals) 0) l₀ [])))))))))))))))))))))))))))))))))))))))))))))) $
+      assigns ! (of-opd ! (load ! (from ! (stop !)) (look ! 56 refl))) (from ! (stop !)) (init ! 98 refl (Turn′.typed 𝓤 H A W r3 ok·3)) $
+      returns ! (look ! 98 refl) $
+      move ! (98 ∷ 99 ∷ []) $ forget ! 0 refl $ free1 ! $ move ! (96 ∷ 97 ∷ []) $ forget ! 0 refl $ free1 ! $ move ! (94 ∷ 95 ∷ []) $ forget ! 0 refl $ free1 ! $ move ! (92 ∷ 93 ∷ []) $ forget ! 0 refl $ free1 ! $ move ! (90 ∷ 91 ∷ []) $ forget ! 0 refl $ free1 ! $ move ! (88 ∷ 89 ∷ []) $ forget ! 0 refl $ free1 ! $ move ! (86 ∷ 87 ∷ []) $ forget ! 0 refl $ free1 ! $ move ! (84 ∷ 85 ∷ []) $ free1 ! $ move ! (82 ∷ 83 ∷ []) $ free1 ! $ move ! (80 ∷ 81 ∷ []) $ free1 ! $ move ! (78 ∷ 79 ∷ []) $ free1 ! $ move ! (76 ∷ 77 ∷ []) $ forget ! 0 refl $ free1 ! $ move ! (74 ∷ 75 ∷ []) $ forget ! 0 refl $ free1 ! $ move ! (72 ∷ 73 ∷ []) $ forget ! 0 refl $ free1 ! $ move ! (70 ∷ 71 ∷ []) $ forget ! 0 refl $ free1 ! $ move ! (68 ∷ 69 ∷ []) $ free1 ! $ move ! (66 ∷ 67 ∷ []) $ free1 ! $ move ! (64 ∷ 65 ∷ []) $ free1 ! $ move ! (62 ∷ 63 ∷ []) $ free1 ! $ move ! (60 ∷ 61 ∷ []) $ free1 ! $ move ! (58 ∷ 59 ∷ []) $ free1 ! $ move ! (56 ∷ 57 ∷ []) $ forget ! 0 refl $ free1 ! $ move ! (54 ∷ 55 ∷ []) $ free1 ! $ move ! (52 ∷ 53 ∷ []) $ free1 ! $ move ! (50 ∷ 51 ∷ []) $ free1 ! $ move ! (48 ∷ 49 ∷ []) $ free1 ! $ move ! (46 ∷ 47 ∷ []) $ free1 ! $ move ! (44 ∷ 45 ∷ []) $ free1 ! $ move ! (42 ∷ 43 ∷ []) $ free1 ! $ move ! (40 ∷ 41 ∷ []) $ forget ! 0 refl $ free1 ! $ move ! (38 ∷ 39 ∷ []) $ forget ! 0 refl $ free1 ! $ move ! (36 ∷ 37 ∷ []) $ forget ! 0 refl $ free1 ! $ move ! (34 ∷ 35 ∷ []) $ forget ! 0 refl $ free1 ! $ move ! (32 ∷ 33 ∷ []) $ forget ! 0 refl $ free1 ! $ move ! (30 ∷ 31 ∷ []) $ free1 ! $ move ! (28 ∷ 29 ∷ []) $ free1 ! $ move ! (26 ∷ 27 ∷ []) $ free1 ! $ move ! (24 ∷ 25 ∷ []) $ free1 ! $ move ! (22 ∷ 23 ∷ []) $ free1 ! $ move ! (20 ∷ 21 ∷ []) $ free1 ! $ move ! (18 ∷ 19 ∷ []) $ free1 ! $ move ! (16 ∷ 17 ∷ []) $ free1 ! $ move ! (14 ∷ 15 ∷ []) $ free1 ! $ move ! (12 ∷ 13 ∷ []) $ free1 ! $ move ! (10 ∷ 11 ∷ []) $ free1 ! $ move ! (8 ∷ 9 ∷ []) $ free1 ! $ free0 ! $ by ! (exits r3 ok·3 out₃ (sym (refl ∙ sym same·3-out)))))))
+      (λ y1-0 y1-1 m·1. rewrite ! 94 (λ (u : Look). ‵ (fat fullShare Look′.ty l₂ 0 (Look′.mach u))) m·1 refl $ switches-to ! 3 (load ! (from ! (vrt ! refl (fld ! refl (stop !)))) (look-tag ! 94 (whole !))) (
       regroup ! $
-      assigns ! (of-opd ! (load ! (from ! (vrt ! refl (fld ! refl (stop !)))) (look-in ! 92 (in-variant ! 3 0 refl refl (whole !))))) (from ! (stop !)) (init ! 68 refl (tt, record { fits = (Look′.ok-Size-0 y1-0 y1-1 (subst Look′.Ok m·1 ok·step)) .1 })) $
+      assigns ! (of-opd ! (load ! (from ! (vrt ! refl (fld ! refl (stop !)))) (look-in ! 94 (in-variant ! 3 0 refl refl (whole !))))) (from ! (stop !)) (init ! 68 refl (tt, record { fits = (Look′.ok-Size-0 y1-0 y1-1 (subst Look′.Ok m·1 ok·step)) .1 })) $
       regroup ! $
-      assigns ! (of-opd ! (load ! (from ! (vrt ! refl (fld ! refl (stop !)))) (look-in ! 92 (in-variant ! 3 1 refl refl (whole !))))) (from ! (stop !)) (init ! 66 refl (tt, record { fits = (Look′.ok-Size-1 y1-0 y1-1 (subst Look′.Ok m·1 ok·step)) .1 })) $
+      assigns ! (of-opd ! (load ! (from ! (vrt ! refl (fld ! refl (stop !)))) (look-in ! 94 (in-variant ! 3 1 refl refl (whole !))))) (from ! (stop !)) (init ! 66 refl (tt, record { fits = (Look′.ok-Size-1 y1-0 y1-1 (subst Look′.Ok m·1 ok·step)) .1 })) $
       regroup ! $
       assigns ! (agg ! (and-then ! (load ! (from ! (stop !)) (look ! 68 refl)) (no-more !))) (from ! (stop !)) (init ! 30 refl (Line′.typed 𝓤 H A W (Line′.build y1-0) (Line′.make y1-0 (Look′.ok-Size-0 y1-0 y1-1 (subst Look′.Ok m·1 ok·step))))) $
       regroup ! $
       assigns ! (agg ! (and-then ! (load ! (from ! (stop !)) (look ! 66 refl)) (no-more !))) (from ! (stop !)) (init ! 28 refl (Version′.typed 𝓤 H A W (Version′.build y1-1) (Version′.make y1-1 (Look′.ok-Size-1 y1-0 y1-1 (subst Look′.Ok m·1 ok·step))))) $
       regroup ! $
-      assigns ! (addr ! (from ! (fld ! refl (hop ! (look-in ! 84 (sub ! 0 refl (whole !))) (stop !))))) (from ! (stop !)) (init ! 26 refl (tt, tt)) $
+      assigns ! (addr ! (from ! (fld ! refl (hop ! (look-in ! 86 (sub ! 0 refl (whole !))) (stop !))))) (from ! (stop !)) (init ! 26 refl (tt, tt)) $
       regroup ! $
-      assigns ! (agg ! (and-then ! (load ! (from ! (stop !)) (look ! 26 refl)) (and-then ! (load ! (from ! (fld ! refl (stop !))) (look-in ! 84 (sub ! 1 refl (whole !)))) (no-more !)))) (from ! (stop !)) (init ! 24 refl (tt, (tt, (record { fits = room·out .0 }, tt)))) $
+      assigns ! (agg ! (and-then ! (load ! (from ! (stop !)) (look ! 26 refl)) (and-then ! (load ! (from ! (fld ! refl (stop !))) (look-in ! 86 (sub ! 1 refl (whole !)))) (no-more !)))) (from ! (stop !)) (init ! 24 refl (tt, (tt, (record { fits = room·out .0 }, tt)))) $
       move ! (6 ∷ 7 ∷ []) $ lend-mut ! tt u8 κ·out q·out b·out o·out γ·out (length out) out (refl) (λ ν·4-out γ·4-out. move ! (3 ∷ 4 ∷ 5 ∷ 6 ∷ 7 ∷ 8 ∷ 0 ∷ 1 ∷ []) $
-      Call-size-step.calls ! mem run (fmOf 𝓤 H (W .laws) 𝓣) known-size-step kept (Line′.build y1-0) (Version′.build y1-1) κ·pages q·pages b·pages o·pages γ·pages (length pages) pages κ·nodes q·nodes b·nodes o·nodes γ·nodes (length nodes) nodes κ·register q·register b·register o·register γ·register (length register) register (ν·4-out ∷ []) fullShare b·out o·out γ·4-out (length out) out ok·kept (Line′.make y1-0 (Look′.ok-Size-0 y1-0 y1-1 (subst Look′.Ok m·1 ok·step))) (Version′.make y1-1 (Look′.ok-Size-1 y1-0 y1-1 (subst Look′.Ok m·1 ok·step))) (and-then ! (load ! (from ! (stop !)) (look ! 91 refl)) (and-then ! (load ! (from ! (stop !)) (look ! 27 refl)) (and-then ! (load ! (from ! (stop !)) (look ! 25 refl)) (and-then ! (load ! (from ! (stop !)) (look ! 87 refl)) (and-then ! (load ! (from ! (stop !)) (look ! 85 refl)) (and-then ! (load ! (from ! (stop !)) (look ! 83 refl)) (and-then ! (load ! (from ! (stop !)) (look ! 21 refl)) (no-more !))))))))
+      Call-size-step.calls ! mem run (fmOf 𝓤 H (W .laws) 𝓣) known-size-step kept (Line′.build y1-0) (Version′.build y1-1) κ·pages q·pages b·pages o·pages γ·pages (length pages) pages κ·nodes q·nodes b·nodes o·nodes γ·nodes (length nodes) nodes κ·register q·register b·register o·register γ·register (length register) register (ν·4-out ∷ []) fullShare b·out o·out γ·4-out (length out) out ok·kept (Line′.make y1-0 (Look′.ok-Size-0 y1-0 y1-1 (subst Look′.Ok m·1 ok·step))) (Version′.make y1-1 (Look′.ok-Size-1 y1-0 y1-1 (subst Look′.Ok m·1 ok·step))) (and-then ! (load ! (from ! (stop !)) (look ! 93 refl)) (and-then ! (load ! (from ! (stop !)) (look ! 27 refl)) (and-then ! (load ! (from ! (stop !)) (look ! 25 refl)) (and-then ! (load ! (from ! (stop !)) (look ! 89 refl)) (and-then ! (load ! (from ! (stop !)) (look ! 87 refl)) (and-then ! (load ! (from ! (stop !)) (look ! 85 refl)) (and-then ! (load ! (from ! (stop !)) (look ! 21 refl)) (no-more !))))))))
       (λ r4 out₄ ok·4 same·4-out. move ! (6 ∷ 7 ∷ 8 ∷ []) $ back-mut ! tt u8 κ·out q·out b·out o·out γ·out (length out) out out₄ ν·4-out γ·4-out (refl) same·4-out room·out $ move ! (2 ∷ 3 ∷ 4 ∷ 5 ∷ 6 ∷ 7 ∷ 0 ∷ 1 ∷ []) $ land ! (from ! (stop !)) (init ! 56 refl (Turn′.typed 𝓤 H A W r4 ok·4)) $
-      here ! (‵ (flft κ·pages q·pages) ∷ ‵ (ShrAt u8 κ·pages b·pages o·pages γ·pages (length pages) pages) ∷ ‵ (flft κ·nodes q·nodes) ∷ ‵ (ShrAt u32 κ·nodes b·nodes o·nodes γ·nodes (length nodes) nodes) ∷ ‵ (flft κ·register q·register) ∷ ‵ (ShrAt Record′.row κ·register b·register o·register γ·register (length register) register) ∷ ‵ (flft κ·out q·out) ∷ ‵ (MutAt u8 κ·out b·out o·out γ·out (length out) out₄) ∷ empty (sliceTy (tyRef erased mut (pointee (u8 .written)))) l₄₄ (empty (tyRef erased mut (pointee (u8 .written))) l₄₃ (empty (tyAt (code.function .locals) 42) l₄₂ (empty (tyAt (code.function .locals) 41) l₄₁ (empty (tyAt (code.function .locals) 40) l₄₀ (empty (sliceTy (tyRef erased mut (pointee (u8 .written)))) l₃₉ (empty (tyRef erased mut (pointee (u8 .written))) l₃₈ (empty (tyAt (code.function .locals) 37) l₃₇ (holds (sliceTy (tyRef erased mut (pointee (u8 .written)))) l₃₆ (sliceVal (b·out, o·out) (length out)) (holds (tyRef erased mut (pointee (u8 .written))) l₃₅ (vptr b·out o·out) (holds (tyAt (code.function .locals) 34) l₃₄ (Version′.mach (Version′.build y1-1)) (holds (tyAt (code.function .locals) 33) l₃₃ (Line′.mach (Line′.build y1-0)) (empty (sliceTy (tyRef erased mut (pointee (u8 .written)))) l₃₂ (empty (tyRef erased mut (pointee (u8 .written))) l₃₁ (empty (tyAt (code.function .locals) 30) l₃₀ (empty (tyAt (code.function .locals) 29) l₂₉ (empty (tyAt (code.function .locals) 28) l₂₈ (empty (sliceTy (tyRef erased mut (pointee (u8 .written)))) l₂₇ (empty (tyRef erased mut (pointee (u8 .written))) l₂₆ (empty (tyAt (code.function .locals) 25) l₂₅ (empty (tyAt (code.function .locals) 24) l₂₄ (empty (sliceTy (tyRef erased mut (pointee (u8 .written)))) l₂₃ (empty (tyRef erased mut (pointee (u8 .written))) l₂₂ (empty (tyAt (code.function .locals) 21) l₂₁ (holds (tyAt (code.function .locals) 20) l₂₀ (Turn′.mach r4) (empty (tyInt w64) l₁₉ (empty (tyInt w64) l₁₈ (empty (tyInt w64) l₁₇ (empty (tyInt w64) l₁₆ (holds (tyInt w64) l₁₅ (vint w64 y1-1) (holds (tyInt w64) l₁₄ (vint w64 y1-0) (empty (tyInt w64) l₁₃ (empty (tyInt w64) l₁₂ (empty (tyInt w64) l₁₁ (empty (tyInt w64) l₁₀ (empty (tyInt w64) l₉ (empty (tyInt w64) l₈ (empty (tyInt w64) l₇ (holds (sliceTy (tyRef (named 3) mut (pointee (u8 .written)))) l₆ (sliceVal (b·out, o·out) (length out)) (holds (sliceTy (tyRef (named 2) imm (pointee (Record′.row .written)))) l₅ (sliceVal (b·register, o·register) (length register)) (holds (sliceTy (tyRef (named 1) imm (pointee (u32 .written)))) l₄ (sliceVal (b·nodes, o·nodes) (length nodes)) (holds (sliceTy (tyRef (named 0) imm (pointee (u8 .written)))) l₃ (sliceVal (b·pages, o·pages) (length pages)) (holds (tyAt (code.function .locals) 2) l₂ (Look′.mach (Look.Size y1-0 y1-1)) (holds (tyAt (code.function .locals) 1) l₁ (Kept′.mach kept) (empty (tyAt (code.function .locals) 0) l₀ []))))))))))))))))))))))))))))))))))))))))))))) $
-      assigns ! (of-opd ! (load ! (from ! (stop !)) (look ! 56 refl))) (from ! (stop !)) (init ! 96 refl (Turn′.typed 𝓤 H A W r4 ok·4)) $
-      returns ! (look ! 96 refl) $
-      move ! (96 ∷ 97 ∷ []) $ forget ! 0 refl $ free1 ! $ move ! (94 ∷ 95 ∷ []) $ forget ! 0 refl $ free1 ! $ move ! (92 ∷ 93 ∷ []) $ forget ! 0 refl $ free1 ! $ move ! (90 ∷ 91 ∷ []) $ forget ! 0 refl $ free1 ! $ move ! (88 ∷ 89 ∷ []) $ forget ! 0 refl $ free1 ! $ move ! (86 ∷ 87 ∷ []) $ forget ! 0 refl $ free1 ! $ move ! (84 ∷ 85 ∷ []) $ forget ! 0 refl $ free1 ! $ move ! (82 ∷ 83 ∷ []) $ free1 ! $ move ! (80 ∷ 81 ∷ []) $ free1 ! $ move ! (78 ∷ 79 ∷ []) $ free1 ! $ move ! (76 ∷ 77 ∷ []) $ free1 ! $ move ! (74 ∷ 75 ∷ []) $ free1 ! $ move ! (72 ∷ 73 ∷ []) $ free1 ! $ move ! (70 ∷ 71 ∷ []) $ free1 ! $ move ! (68 ∷ 69 ∷ []) $ forget ! 0 refl $ free1 ! $ move ! (66 ∷ 67 ∷ []) $ forget ! 0 refl $ free1 ! $ move ! (64 ∷ 65 ∷ []) $ free1 ! $ move ! (62 ∷ 63 ∷ []) $ free1 ! $ move ! (60 ∷ 61 ∷ []) $ free1 ! $ move ! (58 ∷ 59 ∷ []) $ free1 ! $ move ! (56 ∷ 57 ∷ []) $ forget ! 0 refl $ free1 ! $ move ! (54 ∷ 55 ∷ []) $ free1 ! $ move ! (52 ∷ 53 ∷ []) $ free1 ! $ move ! (50 ∷ 51 ∷ []) $ free1 ! $ move ! (48 ∷ 49 ∷ []) $ free1 ! $ move ! (46 ∷ 47 ∷ []) $ free1 ! $ move ! (44 ∷ 45 ∷ []) $ free1 ! $ move ! (42 ∷ 43 ∷ []) $ free1 ! $ move ! (40 ∷ 41 ∷ []) $ free1 ! $ move ! (38 ∷ 39 ∷ []) $ free1 ! $ move ! (36 ∷ 37 ∷ []) $ free1 ! $ move ! (34 ∷ 35 ∷ []) $ free1 ! $ move ! (32 ∷ 33 ∷ []) $ free1 ! $ move ! (30 ∷ 31 ∷ []) $ forget ! 0 refl $ free1 ! $ move ! (28 ∷ 29 ∷ []) $ forget ! 0 refl $ free1 ! $ move ! (26 ∷ 27 ∷ []) $ forget ! 0 refl $ free1 ! $ move ! (24 ∷ 25 ∷ []) $ forget ! 0 refl $ free1 ! $ move ! (22 ∷ 23 ∷ []) $ free1 ! $ move ! (20 ∷ 21 ∷ []) $ free1 ! $ move ! (18 ∷ 19 ∷ []) $ free1 ! $ move ! (16 ∷ 17 ∷ []) $ free1 ! $ move ! (14 ∷ 15 ∷ []) $ free1 ! $ move ! (12 ∷ 13 ∷ []) $ free1 ! $ move ! (10 ∷ 11 ∷ []) $ free1 ! $ move ! (8 ∷ 9 ∷ []) $ free1 ! $ free0 ! $ by ! (exits r4 ok·4 out₄ (sym (refl ∙ sym same·4-out)))))))
-      (λ y1-0 m·1. rewrite ! 92 (λ (u : Look). ‵ (fat fullShare Look′.ty l₂ 0 (Look′.mach u))) m·1 refl $ switches-to ! 4 (load ! (from ! (vrt ! refl (fld ! refl (stop !)))) (look-tag ! 92 (whole !))) (
+      here ! (‵ (flft κ·pages q·pages) ∷ ‵ (ShrAt u8 κ·pages b·pages o·pages γ·pages (length pages) pages) ∷ ‵ (flft κ·nodes q·nodes) ∷ ‵ (ShrAt u32 κ·nodes b·nodes o·nodes γ·nodes (length nodes) nodes) ∷ ‵ (flft κ·register q·register) ∷ ‵ (ShrAt Record′.row κ·register b·register o·register γ·register (length register) register) ∷ ‵ (flft κ·out q·out) ∷ ‵ (MutAt u8 κ·out b·out o·out γ·out (length out) out₄) ∷ empty (sliceTy (tyRef erased mut (pointee (u8 .written)))) l₄₅ (empty (tyRef erased mut (pointee (u8 .written))) l₄₄ (empty (tyAt (code.function .locals) 43) l₄₃ (empty (tyAt (code.function .locals) 42) l₄₂ (empty (tyAt (code.function .locals) 41) l₄₁ (empty (sliceTy (tyRef erased mut (pointee (u8 .written)))) l₄₀ (empty (tyRef erased mut (pointee (u8 .written))) l₃₉ (empty (tyAt (code.function .locals) 38) l₃₈ (holds (sliceTy (tyRef erased mut (pointee (u8 .written)))) l₃₇ (sliceVal (b·out, o·out) (length out)) (holds (tyRef erased mut (pointee (u8 .written))) l₃₆ (vptr b·out o·out) (holds (tyAt (code.function .locals) 35) l₃₅ (Version′.mach (Version′.build y1-1)) (holds (tyAt (code.function .locals) 34) l₃₄ (Line′.mach (Line′.build y1-0)) (empty (sliceTy (tyRef erased mut (pointee (u8 .written)))) l₃₃ (empty (tyRef erased mut (pointee (u8 .written))) l₃₂ (empty (tyAt (code.function .locals) 31) l₃₁ (empty (tyAt (code.function .locals) 30) l₃₀ (empty (tyAt (code.function .locals) 29) l₂₉ (empty (sliceTy (tyRef erased mut (pointee (u8 .written)))) l₂₈ (empty (tyRef erased mut (pointee (u8 .written))) l₂₇ (empty (tyAt (code.function .locals) 26) l₂₆ (empty (tyAt (code.function .locals) 25) l₂₅ (empty (sliceTy (tyRef erased mut (pointee (u8 .written)))) l₂₄ (empty (tyRef erased mut (pointee (u8 .written))) l₂₃ (empty (tyAt (code.function .locals) 22) l₂₂ (holds (tyAt (code.function .locals) 21) l₂₁ (Turn′.mach r4) (empty (tyInt w64) l₂₀ (empty (tyInt w64) l₁₉ (empty (tyInt w64) l₁₈ (empty (tyInt w64) l₁₇ (holds (tyInt w64) l₁₆ (vint w64 y1-1) (holds (tyInt w64) l₁₅ (vint w64 y1-0) (empty (tyInt w64) l₁₄ (empty (tyInt w64) l₁₃ (empty (tyInt w64) l₁₂ (empty (tyInt w64) l₁₁ (empty (tyInt w64) l₁₀ (empty (tyInt w64) l₉ (empty (tyInt w64) l₈ (empty (tyInt w64) l₇ (holds (sliceTy (tyRef (named 3) mut (pointee (u8 .written)))) l₆ (sliceVal (b·out, o·out) (length out)) (holds (sliceTy (tyRef (named 2) imm (pointee (Record′.row .written)))) l₅ (sliceVal (b·register, o·register) (length register)) (holds (sliceTy (tyRef (named 1) imm (pointee (u32 .written)))) l₄ (sliceVal (b·nodes, o·nodes) (length nodes)) (holds (sliceTy (tyRef (named 0) imm (pointee (u8 .written)))) l₃ (sliceVal (b·pages, o·pages) (length pages)) (holds (tyAt (code.function .locals) 2) l₂ (Look′.mach (Look.Size y1-0 y1-1)) (holds (tyAt (code.function .locals) 1) l₁ (Kept′.mach kept) (empty (tyAt (code.function .locals) 0) l₀ [])))))))))))))))))))))))))))))))))))))))))))))) $
+      assigns ! (of-opd ! (load ! (from ! (stop !)) (look ! 56 refl))) (from ! (stop !)) (init ! 98 refl (Turn′.typed 𝓤 H A W r4 ok·4)) $
+      returns ! (look ! 98 refl) $
+      move ! (98 ∷ 99 ∷ []) $ forget ! 0 refl $ free1 ! $ move ! (96 ∷ 97 ∷ []) $ forget ! 0 refl $ free1 ! $ move ! (94 ∷ 95 ∷ []) $ forget ! 0 refl $ free1 ! $ move ! (92 ∷ 93 ∷ []) $ forget ! 0 refl $ free1 ! $ move ! (90 ∷ 91 ∷ []) $ forget ! 0 refl $ free1 ! $ move ! (88 ∷ 89 ∷ []) $ forget ! 0 refl $ free1 ! $ move ! (86 ∷ 87 ∷ []) $ forget ! 0 refl $ free1 ! $ move ! (84 ∷ 85 ∷ []) $ free1 ! $ move ! (82 ∷ 83 ∷ []) $ free1 ! $ move ! (80 ∷ 81 ∷ []) $ free1 ! $ move ! (78 ∷ 79 ∷ []) $ free1 ! $ move ! (76 ∷ 77 ∷ []) $ free1 ! $ move ! (74 ∷ 75 ∷ []) $ free1 ! $ move ! (72 ∷ 73 ∷ []) $ free1 ! $ move ! (70 ∷ 71 ∷ []) $ free1 ! $ move ! (68 ∷ 69 ∷ []) $ forget ! 0 refl $ free1 ! $ move ! (66 ∷ 67 ∷ []) $ forget ! 0 refl $ free1 ! $ move ! (64 ∷ 65 ∷ []) $ free1 ! $ move ! (62 ∷ 63 ∷ []) $ free1 ! $ move ! (60 ∷ 61 ∷ []) $ free1 ! $ move ! (58 ∷ 59 ∷ []) $ free1 ! $ move ! (56 ∷ 57 ∷ []) $ forget ! 0 refl $ free1 ! $ move ! (54 ∷ 55 ∷ []) $ free1 ! $ move ! (52 ∷ 53 ∷ []) $ free1 ! $ move ! (50 ∷ 51 ∷ []) $ free1 ! $ move ! (48 ∷ 49 ∷ []) $ free1 ! $ move ! (46 ∷ 47 ∷ []) $ free1 ! $ move ! (44 ∷ 45 ∷ []) $ free1 ! $ move ! (42 ∷ 43 ∷ []) $ free1 ! $ move ! (40 ∷ 41 ∷ []) $ free1 ! $ move ! (38 ∷ 39 ∷ []) $ free1 ! $ move ! (36 ∷ 37 ∷ []) $ free1 ! $ move ! (34 ∷ 35 ∷ []) $ free1 ! $ move ! (32 ∷ 33 ∷ []) $ free1 ! $ move ! (30 ∷ 31 ∷ []) $ forget ! 0 refl $ free1 ! $ move ! (28 ∷ 29 ∷ []) $ forget ! 0 refl $ free1 ! $ move ! (26 ∷ 27 ∷ []) $ forget ! 0 refl $ free1 ! $ move ! (24 ∷ 25 ∷ []) $ forget ! 0 refl $ free1 ! $ move ! (22 ∷ 23 ∷ []) $ free1 ! $ move ! (20 ∷ 21 ∷ []) $ free1 ! $ move ! (18 ∷ 19 ∷ []) $ free1 ! $ move ! (16 ∷ 17 ∷ []) $ free1 ! $ move ! (14 ∷ 15 ∷ []) $ free1 ! $ move ! (12 ∷ 13 ∷ []) $ free1 ! $ move ! (10 ∷ 11 ∷ []) $ free1 ! $ move ! (8 ∷ 9 ∷ []) $ free1 ! $ free0 ! $ by ! (exits r4 ok·4 out₄ (sym (refl ∙ sym same·4-out)))))))
+      (λ y1-0 m·1. rewrite ! 94 (λ (u : Look). ‵ (fat fullShare Look′.ty l₂ 0 (Look′.mach u))) m·1 refl $ switches-to ! 4 (load ! (from ! (vrt ! refl (fld ! refl (stop !)))) (look-tag ! 94 (whole !))) (
       regroup ! $
-      assigns ! (of-opd ! (load ! (from ! (vrt ! refl (fld ! refl (stop !)))) (look-in ! 92 (in-variant ! 4 0 refl refl (whole !))))) (from ! (stop !)) (init ! 64 refl (tt, record { fits = (Look′.ok-Recent-0 y1-0 (subst Look′.Ok m·1 ok·step)) .1 })) $
+      assigns ! (of-opd ! (load ! (from ! (vrt ! refl (fld ! refl (stop !)))) (look-in ! 94 (in-variant ! 4 0 refl refl (whole !))))) (from ! (stop !)) (init ! 64 refl (tt, record { fits = (Look′.ok-Recent-0 y1-0 (subst Look′.Ok m·1 ok·step)) .1 })) $
       regroup ! $
       assigns ! (agg ! (and-then ! (load ! (from ! (stop !)) (look ! 64 refl)) (no-more !))) (from ! (stop !)) (init ! 22 refl (Line′.typed 𝓤 H A W (Line′.build y1-0) (Line′.make y1-0 (Look′.ok-Recent-0 y1-0 (subst Look′.Ok m·1 ok·step))))) $
       regroup ! $
-      assigns ! (addr ! (from ! (fld ! refl (hop ! (look-in ! 84 (sub ! 0 refl (whole !))) (stop !))))) (from ! (stop !)) (init ! 20 refl (tt, tt)) $
+      assigns ! (addr ! (from ! (fld ! refl (hop ! (look-in ! 86 (sub ! 0 refl (whole !))) (stop !))))) (from ! (stop !)) (init ! 20 refl (tt, tt)) $
       regroup ! $
-      assigns ! (agg ! (and-then ! (load ! (from ! (stop !)) (look ! 20 refl)) (and-then ! (load ! (from ! (fld ! refl (stop !))) (look-in ! 84 (sub ! 1 refl (whole !)))) (no-more !)))) (from ! (stop !)) (init ! 18 refl (tt, (tt, (record { fits = room·out .0 }, tt)))) $
+      assigns ! (agg ! (and-then ! (load ! (from ! (stop !)) (look ! 20 refl)) (and-then ! (load ! (from ! (fld ! refl (stop !))) (look-in ! 86 (sub ! 1 refl (whole !)))) (no-more !)))) (from ! (stop !)) (init ! 18 refl (tt, (tt, (record { fits = room·out .0 }, tt)))) $
       move ! (6 ∷ 7 ∷ []) $ lend-mut ! tt u8 κ·out q·out b·out o·out γ·out (length out) out (refl) (λ ν·5-out γ·5-out. move ! (3 ∷ 4 ∷ 5 ∷ 6 ∷ 7 ∷ 8 ∷ 0 ∷ 1 ∷ []) $
-      Call-recent-step.calls ! mem run (fmOf 𝓤 H (W .laws) 𝓣) known-recent-step kept (Line′.build y1-0) κ·pages q·pages b·pages o·pages γ·pages (length pages) pages κ·nodes q·nodes b·nodes o·nodes γ·nodes (length nodes) nodes κ·register q·register b·register o·register γ·register (length register) register (ν·5-out ∷ []) fullShare b·out o·out γ·5-out (length out) out ok·kept (Line′.make y1-0 (Look′.ok-Recent-0 y1-0 (subst Look′.Ok m·1 ok·step))) (and-then ! (load ! (from ! (stop !)) (look ! 91 refl)) (and-then ! (load ! (from ! (stop !)) (look ! 19 refl)) (and-then ! (load ! (from ! (stop !)) (look ! 87 refl)) (and-then ! (load ! (from ! (stop !)) (look ! 85 refl)) (and-then ! (load ! (from ! (stop !)) (look ! 83 refl)) (and-then ! (load ! (from ! (stop !)) (look ! 15 refl)) (no-more !)))))))
+      Call-recent-step.calls ! mem run (fmOf 𝓤 H (W .laws) 𝓣) known-recent-step kept (Line′.build y1-0) κ·pages q·pages b·pages o·pages γ·pages (length pages) pages κ·nodes q·nodes b·nodes o·nodes γ·nodes (length nodes) nodes κ·register q·register b·register o·register γ·register (length register) register (ν·5-out ∷ []) fullShare b·out o·out γ·5-out (length out) out ok·kept (Line′.make y1-0 (Look′.ok-Recent-0 y1-0 (subst Look′.Ok m·1 ok·step))) (and-then ! (load ! (from ! (stop !)) (look ! 93 refl)) (and-then ! (load ! (from ! (stop !)) (look ! 19 refl)) (and-then ! (load ! (from ! (stop !)) (look ! 89 refl)) (and-then ! (load ! (from ! (stop !)) (look ! 87 refl)) (and-then ! (load ! (from ! (stop !)) (look ! 85 refl)) (and-then ! (load ! (from ! (stop !)) (look ! 15 refl)) (no-more !)))))))
       (λ r5 out₅ ok·5 same·5-out. move ! (6 ∷ 7 ∷ 8 ∷ []) $ back-mut ! tt u8 κ·out q·out b·out o·out γ·out (length out) out out₅ ν·5-out γ·5-out (refl) same·5-out room·out $ move ! (2 ∷ 3 ∷ 4 ∷ 5 ∷ 6 ∷ 7 ∷ 0 ∷ 1 ∷ []) $ land ! (from ! (stop !)) (init ! 56 refl (Turn′.typed 𝓤 H A W r5 ok·5)) $
-      here ! (‵ (flft κ·pages q·pages) ∷ ‵ (ShrAt u8 κ·pages b·pages o·pages γ·pages (length pages) pages) ∷ ‵ (flft κ·nodes q·nodes) ∷ ‵ (ShrAt u32 κ·nodes b·nodes o·nodes γ·nodes (length nodes) nodes) ∷ ‵ (flft κ·register q·register) ∷ ‵ (ShrAt Record′.row κ·register b·register o·register γ·register (length register) register) ∷ ‵ (flft κ·out q·out) ∷ ‵ (MutAt u8 κ·out b·out o·out γ·out (length out) out₅) ∷ empty (sliceTy (tyRef erased mut (pointee (u8 .written)))) l₄₄ (empty (tyRef erased mut (pointee (u8 .written))) l₄₃ (empty (tyAt (code.function .locals) 42) l₄₂ (empty (tyAt (code.function .locals) 41) l₄₁ (empty (tyAt (code.function .locals) 40) l₄₀ (holds (sliceTy (tyRef erased mut (pointee (u8 .written)))) l₃₉ (sliceVal (b·out, o·out) (length out)) (holds (tyRef erased mut (pointee (u8 .written))) l₃₈ (vptr b·out o·out) (holds (tyAt (code.function .locals) 37) l₃₇ (Line′.mach (Line′.build y1-0)) (empty (sliceTy (tyRef erased mut (pointee (u8 .written)))) l₃₆ (empty (tyRef erased mut (pointee (u8 .written))) l₃₅ (empty (tyAt (code.function .locals) 34) l₃₄ (empty (tyAt (code.function .locals) 33) l₃₃ (empty (sliceTy (tyRef erased mut (pointee (u8 .written)))) l₃₂ (empty (tyRef erased mut (pointee (u8 .written))) l₃₁ (empty (tyAt (code.function .locals) 30) l₃₀ (empty (tyAt (code.function .locals) 29) l₂₉ (empty (tyAt (code.function .locals) 28) l₂₈ (empty (sliceTy (tyRef erased mut (pointee (u8 .written)))) l₂₇ (empty (tyRef erased mut (pointee (u8 .written))) l₂₆ (empty (tyAt (code.function .locals) 25) l₂₅ (empty (tyAt (code.function .locals) 24) l₂₄ (empty (sliceTy (tyRef erased mut (pointee (u8 .written)))) l₂₃ (empty (tyRef erased mut (pointee (u8 .written))) l₂₂ (empty (tyAt (code.function .locals) 21) l₂₁ (holds (tyAt (code.function .locals) 20) l₂₀ (Turn′.mach r5) (empty (tyInt w64) l₁₉ (empty (tyInt w64) l₁₈ (empty (tyInt w64) l₁₇ (holds (tyInt w64) l₁₆ (vint w64 y1-0) (empty (tyInt w64) l₁₅ (empty (tyInt w64) l₁₄ (empty (tyInt w64) l₁₃ (empty (tyInt w64) l₁₂ (empty (tyInt w64) l₁₁ (empty (tyInt w64) l₁₀ (empty (tyInt w64) l₉ (empty (tyInt w64) l₈ (empty (tyInt w64) l₇ (holds (sliceTy (tyRef (named 3) mut (pointee (u8 .written)))) l₆ (sliceVal (b·out, o·out) (length out)) (holds (sliceTy (tyRef (named 2) imm (pointee (Record′.row .written)))) l₅ (sliceVal (b·register, o·register) (length register)) (holds (sliceTy (tyRef (named 1) imm (pointee (u32 .written)))) l₄ (sliceVal (b·nodes, o·nodes) (length nodes)) (holds (sliceTy (tyRef (named 0) imm (pointee (u8 .written)))) l₃ (sliceVal (b·pages, o·pages) (length pages)) (holds (tyAt (code.function .locals) 2) l₂ (Look′.mach (Look.Recent y1-0)) (holds (tyAt (code.function .locals) 1) l₁ (Kept′.mach kept) (empty (tyAt (code.function .locals) 0) l₀ []))))))))))))))))))))))))))))))))))))))))))))) $
-      assigns ! (of-opd ! (load ! (from ! (stop !)) (look ! 56 refl))) (from ! (stop !)) (init ! 96 refl (Turn′.typed 𝓤 H A W r5 ok·5)) $
-      returns ! (look ! 96 refl) $
-      move ! (96 ∷ 97 ∷ []) $ forget ! 0 refl $ free1 ! $ move ! (94 ∷ 95 ∷ []) $ forget ! 0 refl $ free1 ! $ move ! (92 ∷ 93 ∷ []) $ forget ! 0 refl $ free1 ! $ move ! (90 ∷ 91 ∷ []) $ forget ! 0 refl $ free1 ! $ move ! (88 ∷ 89 ∷ []) $ forget ! 0 refl $ free1 ! $ move ! (86 ∷ 87 ∷ []) $ forget ! 0 refl $ free1 ! $ move ! (84 ∷ 85 ∷ []) $ forget ! 0 refl $ free1 ! $ move ! (82 ∷ 83 ∷ []) $ free1 ! $ move ! (80 ∷ 81 ∷ []) $ free1 ! $ move ! (78 ∷ 79 ∷ []) $ free1 ! $ move ! (76 ∷ 77 ∷ []) $ free1 ! $ move ! (74 ∷ 75 ∷ []) $ free1 ! $ move ! (72 ∷ 73 ∷ []) $ free1 ! $ move ! (70 ∷ 71 ∷ []) $ free1 ! $ move ! (68 ∷ 69 ∷ []) $ free1 ! $ move ! (66 ∷ 67 ∷ []) $ free1 ! $ move ! (64 ∷ 65 ∷ []) $ forget ! 0 refl $ free1 ! $ move ! (62 ∷ 63 ∷ []) $ free1 ! $ move ! (60 ∷ 61 ∷ []) $ free1 ! $ move ! (58 ∷ 59 ∷ []) $ free1 ! $ move ! (56 ∷ 57 ∷ []) $ forget ! 0 refl $ free1 ! $ move ! (54 ∷ 55 ∷ []) $ free1 ! $ move ! (52 ∷ 53 ∷ []) $ free1 ! $ move ! (50 ∷ 51 ∷ []) $ free1 ! $ move ! (48 ∷ 49 ∷ []) $ free1 ! $ move ! (46 ∷ 47 ∷ []) $ free1 ! $ move ! (44 ∷ 45 ∷ []) $ free1 ! $ move ! (42 ∷ 43 ∷ []) $ free1 ! $ move ! (40 ∷ 41 ∷ []) $ free1 ! $ move ! (38 ∷ 39 ∷ []) $ free1 ! $ move ! (36 ∷ 37 ∷ []) $ free1 ! $ move ! (34 ∷ 35 ∷ []) $ free1 ! $ move ! (32 ∷ 33 ∷ []) $ free1 ! $ move ! (30 ∷ 31 ∷ []) $ free1 ! $ move ! (28 ∷ 29 ∷ []) $ free1 ! $ move ! (26 ∷ 27 ∷ []) $ free1 ! $ move ! (24 ∷ 25 ∷ []) $ free1 ! $ move ! (22 ∷ 23 ∷ []) $ forget ! 0 refl $ free1 ! $ move ! (20 ∷ 21 ∷ []) $ forget ! 0 refl $ free1 ! $ move ! (18 ∷ 19 ∷ []) $ forget ! 0 refl $ free1 ! $ move ! (16 ∷ 17 ∷ []) $ free1 ! $ move ! (14 ∷ 15 ∷ []) $ free1 ! $ move ! (12 ∷ 13 ∷ []) $ free1 ! $ move ! (10 ∷ 11 ∷ []) $ free1 ! $ move ! (8 ∷ 9 ∷ []) $ free1 ! $ free0 ! $ by ! (exits r5 ok·5 out₅ (sym (refl ∙ sym same·5-out)))))))
-      (λ y1-0 y1-1 y1-2 m·1. rewrite ! 92 (λ (u : Look). ‵ (fat fullShare Look′.ty l₂ 0 (Look′.mach u))) m·1 refl $ switches-to ! 5 (load ! (from ! (vrt ! refl (fld ! refl (stop !)))) (look-tag ! 92 (whole !))) (
+      here ! (‵ (flft κ·pages q·pages) ∷ ‵ (ShrAt u8 κ·pages b·pages o·pages γ·pages (length pages) pages) ∷ ‵ (flft κ·nodes q·nodes) ∷ ‵ (ShrAt u32 κ·nodes b·nodes o·nodes γ·nodes (length nodes) nodes) ∷ ‵ (flft κ·register q·register) ∷ ‵ (ShrAt Record′.row κ·register b·register o·register γ·register (length register) register) ∷ ‵ (flft κ·out q·out) ∷ ‵ (MutAt u8 κ·out b·out o·out γ·out (length out) out₅) ∷ empty (sliceTy (tyRef erased mut (pointee (u8 .written)))) l₄₅ (empty (tyRef erased mut (pointee (u8 .written))) l₄₄ (empty (tyAt (code.function .locals) 43) l₄₃ (empty (tyAt (code.function .locals) 42) l₄₂ (empty (tyAt (code.function .locals) 41) l₄₁ (holds (sliceTy (tyRef erased mut (pointee (u8 .written)))) l₄₀ (sliceVal (b·out, o·out) (length out)) (holds (tyRef erased mut (pointee (u8 .written))) l₃₉ (vptr b·out o·out) (holds (tyAt (code.function .locals) 38) l₃₈ (Line′.mach (Line′.build y1-0)) (empty (sliceTy (tyRef erased mut (pointee (u8 .written)))) l₃₇ (empty (tyRef erased mut (pointee (u8 .written))) l₃₆ (empty (tyAt (code.function .locals) 35) l₃₅ (empty (tyAt (code.function .locals) 34) l₃₄ (empty (sliceTy (tyRef erased mut (pointee (u8 .written)))) l₃₃ (empty (tyRef erased mut (pointee (u8 .written))) l₃₂ (empty (tyAt (code.function .locals) 31) l₃₁ (empty (tyAt (code.function .locals) 30) l₃₀ (empty (tyAt (code.function .locals) 29) l₂₉ (empty (sliceTy (tyRef erased mut (pointee (u8 .written)))) l₂₈ (empty (tyRef erased mut (pointee (u8 .written))) l₂₇ (empty (tyAt (code.function .locals) 26) l₂₆ (empty (tyAt (code.function .locals) 25) l₂₅ (empty (sliceTy (tyRef erased mut (pointee (u8 .written)))) l₂₄ (empty (tyRef erased mut (pointee (u8 .written))) l₂₃ (empty (tyAt (code.function .locals) 22) l₂₂ (holds (tyAt (code.function .locals) 21) l₂₁ (Turn′.mach r5) (empty (tyInt w64) l₂₀ (empty (tyInt w64) l₁₉ (empty (tyInt w64) l₁₈ (holds (tyInt w64) l₁₇ (vint w64 y1-0) (empty (tyInt w64) l₁₆ (empty (tyInt w64) l₁₅ (empty (tyInt w64) l₁₄ (empty (tyInt w64) l₁₃ (empty (tyInt w64) l₁₂ (empty (tyInt w64) l₁₁ (empty (tyInt w64) l₁₀ (empty (tyInt w64) l₉ (empty (tyInt w64) l₈ (empty (tyInt w64) l₇ (holds (sliceTy (tyRef (named 3) mut (pointee (u8 .written)))) l₆ (sliceVal (b·out, o·out) (length out)) (holds (sliceTy (tyRef (named 2) imm (pointee (Record′.row .written)))) l₅ (sliceVal (b·register, o·register) (length register)) (holds (sliceTy (tyRef (named 1) imm (pointee (u32 .written)))) l₄ (sliceVal (b·nodes, o·nodes) (length nodes)) (holds (sliceTy (tyRef (named 0) imm (pointee (u8 .written)))) l₃ (sliceVal (b·pages, o·pages) (length pages)) (holds (tyAt (code.function .locals) 2) l₂ (Look′.mach (Look.Recent y1-0)) (holds (tyAt (code.function .locals) 1) l₁ (Kept′.mach kept) (empty (tyAt (code.function .locals) 0) l₀ [])))))))))))))))))))))))))))))))))))))))))))))) $
+      assigns ! (of-opd ! (load ! (from ! (stop !)) (look ! 56 refl))) (from ! (stop !)) (init ! 98 refl (Turn′.typed 𝓤 H A W r5 ok·5)) $
+      returns ! (look ! 98 refl) $
+      move ! (98 ∷ 99 ∷ []) $ forget ! 0 refl $ free1 ! $ move ! (96 ∷ 97 ∷ []) $ forget ! 0 refl $ free1 ! $ move ! (94 ∷ 95 ∷ []) $ forget ! 0 refl $ free1 ! $ move ! (92 ∷ 93 ∷ []) $ forget ! 0 refl $ free1 ! $ move ! (90 ∷ 91 ∷ []) $ forget ! 0 refl $ free1 ! $ move ! (88 ∷ 89 ∷ []) $ forget ! 0 refl $ free1 ! $ move ! (86 ∷ 87 ∷ []) $ forget ! 0 refl $ free1 ! $ move ! (84 ∷ 85 ∷ []) $ free1 ! $ move ! (82 ∷ 83 ∷ []) $ free1 ! $ move ! (80 ∷ 81 ∷ []) $ free1 ! $ move ! (78 ∷ 79 ∷ []) $ free1 ! $ move ! (76 ∷ 77 ∷ []) $ free1 ! $ move ! (74 ∷ 75 ∷ []) $ free1 ! $ move ! (72 ∷ 73 ∷ []) $ free1 ! $ move ! (70 ∷ 71 ∷ []) $ free1 ! $ move ! (68 ∷ 69 ∷ []) $ free1 ! $ move ! (66 ∷ 67 ∷ []) $ free1 ! $ move ! (64 ∷ 65 ∷ []) $ forget ! 0 refl $ free1 ! $ move ! (62 ∷ 63 ∷ []) $ free1 ! $ move ! (60 ∷ 61 ∷ []) $ free1 ! $ move ! (58 ∷ 59 ∷ []) $ free1 ! $ move ! (56 ∷ 57 ∷ []) $ forget ! 0 refl $ free1 ! $ move ! (54 ∷ 55 ∷ []) $ free1 ! $ move ! (52 ∷ 53 ∷ []) $ free1 ! $ move ! (50 ∷ 51 ∷ []) $ free1 ! $ move ! (48 ∷ 49 ∷ []) $ free1 ! $ move ! (46 ∷ 47 ∷ []) $ free1 ! $ move ! (44 ∷ 45 ∷ []) $ free1 ! $ move ! (42 ∷ 43 ∷ []) $ free1 ! $ move ! (40 ∷ 41 ∷ []) $ free1 ! $ move ! (38 ∷ 39 ∷ []) $ free1 ! $ move ! (36 ∷ 37 ∷ []) $ free1 ! $ move ! (34 ∷ 35 ∷ []) $ free1 ! $ move ! (32 ∷ 33 ∷ []) $ free1 ! $ move ! (30 ∷ 31 ∷ []) $ free1 ! $ move ! (28 ∷ 29 ∷ []) $ free1 ! $ move ! (26 ∷ 27 ∷ []) $ free1 ! $ move ! (24 ∷ 25 ∷ []) $ free1 ! $ move ! (22 ∷ 23 ∷ []) $ forget ! 0 refl $ free1 ! $ move ! (20 ∷ 21 ∷ []) $ forget ! 0 refl $ free1 ! $ move ! (18 ∷ 19 ∷ []) $ forget ! 0 refl $ free1 ! $ move ! (16 ∷ 17 ∷ []) $ free1 ! $ move ! (14 ∷ 15 ∷ []) $ free1 ! $ move ! (12 ∷ 13 ∷ []) $ free1 ! $ move ! (10 ∷ 11 ∷ []) $ free1 ! $ move ! (8 ∷ 9 ∷ []) $ free1 ! $ free0 ! $ by ! (exits r5 ok·5 out₅ (sym (refl ∙ sym same·5-out)))))))
+      (λ y1-0 y1-1 y1-2 m·1. rewrite ! 94 (λ (u : Look). ‵ (fat fullShare Look′.ty l₂ 0 (Look′.mach u))) m·1 refl $ switches-to ! 5 (load ! (from ! (vrt ! refl (fld ! refl (stop !)))) (look-tag ! 94 (whole !))) (
       regroup ! $
-      assigns ! (of-opd ! (load ! (from ! (vrt ! refl (fld ! refl (stop !)))) (look-in ! 92 (in-variant ! 5 0 refl refl (whole !))))) (from ! (stop !)) (init ! 62 refl (tt, record { fits = (Look′.ok-Stamp-0 y1-0 y1-1 y1-2 (subst Look′.Ok m·1 ok·step)) .1 })) $
+      assigns ! (of-opd ! (load ! (from ! (vrt ! refl (fld ! refl (stop !)))) (look-in ! 94 (in-variant ! 5 0 refl refl (whole !))))) (from ! (stop !)) (init ! 62 refl (tt, record { fits = (Look′.ok-Stamp-0 y1-0 y1-1 y1-2 (subst Look′.Ok m·1 ok·step)) .1 })) $
       regroup ! $
-      assigns ! (of-opd ! (load ! (from ! (vrt ! refl (fld ! refl (stop !)))) (look-in ! 92 (in-variant ! 5 1 refl refl (whole !))))) (from ! (stop !)) (init ! 60 refl (tt, record { fits = (Look′.ok-Stamp-1 y1-0 y1-1 y1-2 (subst Look′.Ok m·1 ok·step)) .1 })) $
+      assigns ! (of-opd ! (load ! (from ! (vrt ! refl (fld ! refl (stop !)))) (look-in ! 94 (in-variant ! 5 1 refl refl (whole !))))) (from ! (stop !)) (init ! 60 refl (tt, record { fits = (Look′.ok-Stamp-1 y1-0 y1-1 y1-2 (subst Look′.Ok m·1 ok·step)) .1 })) $
       regroup ! $
-      assigns ! (of-opd ! (load ! (from ! (vrt ! refl (fld ! refl (stop !)))) (look-in ! 92 (in-variant ! 5 2 refl refl (whole !))))) (from ! (stop !)) (init ! 58 refl (tt, record { fits = (Look′.ok-Stamp-2 y1-0 y1-1 y1-2 (subst Look′.Ok m·1 ok·step)) .1 })) $
+      assigns ! (of-opd ! (load ! (from ! (vrt ! refl (fld ! refl (stop !)))) (look-in ! 94 (in-variant ! 5 2 refl refl (whole !))))) (from ! (stop !)) (init ! 58 refl (tt, record { fits = (Look′.ok-Stamp-2 y1-0 y1-1 y1-2 (subst Look′.Ok m·1 ok·step)) .1 })) $
       regroup ! $
       assigns ! (agg ! (and-then ! (load ! (from ! (stop !)) (look ! 62 refl)) (no-more !))) (from ! (stop !)) (init ! 16 refl (Line′.typed 𝓤 H A W (Line′.build y1-0) (Line′.make y1-0 (Look′.ok-Stamp-0 y1-0 y1-1 y1-2 (subst Look′.Ok m·1 ok·step))))) $
       regroup ! $
@@ -240,16 +242,16 @@ module _ {M : Type 1} (𝓤 : URA M) (H : Heap 𝓤) (A : Atoms 𝓤) (W : Given
       regroup ! $
       assigns ! (agg ! (and-then ! (load ! (from ! (stop !)) (look ! 58 refl)) (no-more !))) (from ! (stop !)) (init ! 12 refl (PageIndex′.typed 𝓤 H A W (PageIndex′.build y1-2) (PageIndex′.make y1-2 (Look′.ok-Stamp-2 y1-0 y1-1 y1-2 (subst Look′.Ok m·1 ok·step))))) $
       regroup ! $
-      assigns ! (addr ! (from ! (fld ! refl (hop ! (look-in ! 84 (sub ! 0 refl (whole !))) (stop !))))) (from ! (stop !)) (init ! 10 refl (tt, tt)) $
+      assigns ! (addr ! (from ! (fld ! refl (hop ! (look-in ! 86 (sub ! 0 refl (whole !))) (stop !))))) (from ! (stop !)) (init ! 10 refl (tt, tt)) $
       regroup ! $
-      assigns ! (agg ! (and-then ! (load ! (from ! (stop !)) (look ! 10 refl)) (and-then ! (load ! (from ! (fld ! refl (stop !))) (look-in ! 84 (sub ! 1 refl (whole !)))) (no-more !)))) (from ! (stop !)) (init ! 8 refl (tt, (tt, (record { fits = room·out .0 }, tt)))) $
+      assigns ! (agg ! (and-then ! (load ! (from ! (stop !)) (look ! 10 refl)) (and-then ! (load ! (from ! (fld ! refl (stop !))) (look-in ! 86 (sub ! 1 refl (whole !)))) (no-more !)))) (from ! (stop !)) (init ! 8 refl (tt, (tt, (record { fits = room·out .0 }, tt)))) $
       move ! (6 ∷ 7 ∷ []) $ lend-mut ! tt u8 κ·out q·out b·out o·out γ·out (length out) out (refl) (λ ν·6-out γ·6-out. move ! (3 ∷ 4 ∷ 5 ∷ 6 ∷ 7 ∷ 8 ∷ 0 ∷ 1 ∷ []) $
-      Call-stamp-step.calls ! mem run (fmOf 𝓤 H (W .laws) 𝓣) known-stamp-step kept (Line′.build y1-0) (Version′.build y1-1) (PageIndex′.build y1-2) κ·pages q·pages b·pages o·pages γ·pages (length pages) pages κ·nodes q·nodes b·nodes o·nodes γ·nodes (length nodes) nodes κ·register q·register b·register o·register γ·register (length register) register (ν·6-out ∷ []) fullShare b·out o·out γ·6-out (length out) out ok·kept (Line′.make y1-0 (Look′.ok-Stamp-0 y1-0 y1-1 y1-2 (subst Look′.Ok m·1 ok·step))) (Version′.make y1-1 (Look′.ok-Stamp-1 y1-0 y1-1 y1-2 (subst Look′.Ok m·1 ok·step))) (PageIndex′.make y1-2 (Look′.ok-Stamp-2 y1-0 y1-1 y1-2 (subst Look′.Ok m·1 ok·step))) (and-then ! (load ! (from ! (stop !)) (look ! 91 refl)) (and-then ! (load ! (from ! (stop !)) (look ! 13 refl)) (and-then ! (load ! (from ! (stop !)) (look ! 11 refl)) (and-then ! (load ! (from ! (stop !)) (look ! 9 refl)) (and-then ! (load ! (from ! (stop !)) (look ! 87 refl)) (and-then ! (load ! (from ! (stop !)) (look ! 85 refl)) (and-then ! (load ! (from ! (stop !)) (look ! 83 refl)) (and-then ! (load ! (from ! (stop !)) (look ! 5 refl)) (no-more !)))))))))
+      Call-stamp-step.calls ! mem run (fmOf 𝓤 H (W .laws) 𝓣) known-stamp-step kept (Line′.build y1-0) (Version′.build y1-1) (PageIndex′.build y1-2) κ·pages q·pages b·pages o·pages γ·pages (length pages) pages κ·nodes q·nodes b·nodes o·nodes γ·nodes (length nodes) nodes κ·register q·register b·register o·register γ·register (length register) register (ν·6-out ∷ []) fullShare b·out o·out γ·6-out (length out) out ok·kept (Line′.make y1-0 (Look′.ok-Stamp-0 y1-0 y1-1 y1-2 (subst Look′.Ok m·1 ok·step))) (Version′.make y1-1 (Look′.ok-Stamp-1 y1-0 y1-1 y1-2 (subst Look′.Ok m·1 ok·step))) (PageIndex′.make y1-2 (Look′.ok-Stamp-2 y1-0 y1-1 y1-2 (subst Look′.Ok m·1 ok·step))) (and-then ! (load ! (from ! (stop !)) (look ! 93 refl)) (and-then ! (load ! (from ! (stop !)) (look ! 13 refl)) (and-then ! (load ! (from ! (stop !)) (look ! 11 refl)) (and-then ! (load ! (from ! (stop !)) (look ! 9 refl)) (and-then ! (load ! (from ! (stop !)) (look ! 89 refl)) (and-then ! (load ! (from ! (stop !)) (look ! 87 refl)) (and-then ! (load ! (from ! (stop !)) (look ! 85 refl)) (and-then ! (load ! (from ! (stop !)) (look ! 5 refl)) (no-more !)))))))))
       (λ r6 out₆ ok·6 same·6-out. move ! (6 ∷ 7 ∷ 8 ∷ []) $ back-mut ! tt u8 κ·out q·out b·out o·out γ·out (length out) out out₆ ν·6-out γ·6-out (refl) same·6-out room·out $ move ! (2 ∷ 3 ∷ 4 ∷ 5 ∷ 6 ∷ 7 ∷ 0 ∷ 1 ∷ []) $ land ! (from ! (stop !)) (init ! 56 refl (Turn′.typed 𝓤 H A W r6 ok·6)) $
-      here ! (‵ (flft κ·pages q·pages) ∷ ‵ (ShrAt u8 κ·pages b·pages o·pages γ·pages (length pages) pages) ∷ ‵ (flft κ·nodes q·nodes) ∷ ‵ (ShrAt u32 κ·nodes b·nodes o·nodes γ·nodes (length nodes) nodes) ∷ ‵ (flft κ·register q·register) ∷ ‵ (ShrAt Record′.row κ·register b·register o·register γ·register (length register) register) ∷ ‵ (flft κ·out q·out) ∷ ‵ (MutAt u8 κ·out b·out o·out γ·out (length out) out₆) ∷ holds (sliceTy (tyRef erased mut (pointee (u8 .written)))) l₄₄ (sliceVal (b·out, o·out) (length out)) (holds (tyRef erased mut (pointee (u8 .written))) l₄₃ (vptr b·out o·out) (holds (tyAt (code.function .locals) 42) l₄₂ (PageIndex′.mach (PageIndex′.build y1-2)) (holds (tyAt (code.function .locals) 41) l₄₁ (Version′.mach (Version′.build y1-1)) (holds (tyAt (code.function .locals) 40) l₄₀ (Line′.mach (Line′.build y1-0)) (empty (sliceTy (tyRef erased mut (pointee (u8 .written)))) l₃₉ (empty (tyRef erased mut (pointee (u8 .written))) l₃₈ (empty (tyAt (code.function .locals) 37) l₃₇ (empty (sliceTy (tyRef erased mut (pointee (u8 .written)))) l₃₆ (empty (tyRef erased mut (pointee (u8 .written))) l₃₅ (empty (tyAt (code.function .locals) 34) l₃₄ (empty (tyAt (code.function .locals) 33) l₃₃ (empty (sliceTy (tyRef erased mut (pointee (u8 .written)))) l₃₂ (empty (tyRef erased mut (pointee (u8 .written))) l₃₁ (empty (tyAt (code.function .locals) 30) l₃₀ (empty (tyAt (code.function .locals) 29) l₂₉ (empty (tyAt (code.function .locals) 28) l₂₈ (empty (sliceTy (tyRef erased mut (pointee (u8 .written)))) l₂₇ (empty (tyRef erased mut (pointee (u8 .written))) l₂₆ (empty (tyAt (code.function .locals) 25) l₂₅ (empty (tyAt (code.function .locals) 24) l₂₄ (empty (sliceTy (tyRef erased mut (pointee (u8 .written)))) l₂₃ (empty (tyRef erased mut (pointee (u8 .written))) l₂₂ (empty (tyAt (code.function .locals) 21) l₂₁ (holds (tyAt (code.function .locals) 20) l₂₀ (Turn′.mach r6) (holds (tyInt w64) l₁₉ (vint w64 y1-2) (holds (tyInt w64) l₁₈ (vint w64 y1-1) (holds (tyInt w64) l₁₇ (vint w64 y1-0) (empty (tyInt w64) l₁₆ (empty (tyInt w64) l₁₅ (empty (tyInt w64) l₁₄ (empty (tyInt w64) l₁₃ (empty (tyInt w64) l₁₂ (empty (tyInt w64) l₁₁ (empty (tyInt w64) l₁₀ (empty (tyInt w64) l₉ (empty (tyInt w64) l₈ (empty (tyInt w64) l₇ (holds (sliceTy (tyRef (named 3) mut (pointee (u8 .written)))) l₆ (sliceVal (b·out, o·out) (length out)) (holds (sliceTy (tyRef (named 2) imm (pointee (Record′.row .written)))) l₅ (sliceVal (b·register, o·register) (length register)) (holds (sliceTy (tyRef (named 1) imm (pointee (u32 .written)))) l₄ (sliceVal (b·nodes, o·nodes) (length nodes)) (holds (sliceTy (tyRef (named 0) imm (pointee (u8 .written)))) l₃ (sliceVal (b·pages, o·pages) (length pages)) (holds (tyAt (code.function .locals) 2) l₂ (Look′.mach (Look.Stamp y1-0 y1-1 y1-2)) (holds (tyAt (code.function .locals) 1) l₁ (Kept′.mach kept) (empty (tyAt (code.function .locals) 0) l₀ []))))))))))))))))))))))))))))))))))))))))))))) $
-      assigns ! (of-opd ! (load ! (from ! (stop !)) (look ! 56 refl))) (from ! (stop !)) (init ! 96 refl (Turn′.typed 𝓤 H A W r6 ok·6)) $
-      returns ! (look ! 96 refl) $
-      move ! (96 ∷ 97 ∷ []) $ forget ! 0 refl $ free1 ! $ move ! (94 ∷ 95 ∷ []) $ forget ! 0 refl $ free1 ! $ move ! (92 ∷ 93 ∷ []) $ forget ! 0 refl $ free1 ! $ move ! (90 ∷ 91 ∷ []) $ forget ! 0 refl $ free1 ! $ move ! (88 ∷ 89 ∷ []) $ forget ! 0 refl $ free1 ! $ move ! (86 ∷ 87 ∷ []) $ forget ! 0 refl $ free1 ! $ move ! (84 ∷ 85 ∷ []) $ forget ! 0 refl $ free1 ! $ move ! (82 ∷ 83 ∷ []) $ free1 ! $ move ! (80 ∷ 81 ∷ []) $ free1 ! $ move ! (78 ∷ 79 ∷ []) $ free1 ! $ move ! (76 ∷ 77 ∷ []) $ free1 ! $ move ! (74 ∷ 75 ∷ []) $ free1 ! $ move ! (72 ∷ 73 ∷ []) $ free1 ! $ move ! (70 ∷ 71 ∷ []) $ free1 ! $ move ! (68 ∷ 69 ∷ []) $ free1 ! $ move ! (66 ∷ 67 ∷ []) $ free1 ! $ move ! (64 ∷ 65 ∷ []) $ free1 ! $ move ! (62 ∷ 63 ∷ []) $ forget ! 0 refl $ free1 ! $ move ! (60 ∷ 61 ∷ []) $ forget ! 0 refl $ free1 ! $ move ! (58 ∷ 59 ∷ []) $ forget ! 0 refl $ free1 ! $ move ! (56 ∷ 57 ∷ []) $ forget ! 0 refl $ free1 ! $ move ! (54 ∷ 55 ∷ []) $ free1 ! $ move ! (52 ∷ 53 ∷ []) $ free1 ! $ move ! (50 ∷ 51 ∷ []) $ free1 ! $ move ! (48 ∷ 49 ∷ []) $ free1 ! $ move ! (46 ∷ 47 ∷ []) $ free1 ! $ move ! (44 ∷ 45 ∷ []) $ free1 ! $ move ! (42 ∷ 43 ∷ []) $ free1 ! $ move ! (40 ∷ 41 ∷ []) $ free1 ! $ move ! (38 ∷ 39 ∷ []) $ free1 ! $ move ! (36 ∷ 37 ∷ []) $ free1 ! $ move ! (34 ∷ 35 ∷ []) $ free1 ! $ move ! (32 ∷ 33 ∷ []) $ free1 ! $ move ! (30 ∷ 31 ∷ []) $ free1 ! $ move ! (28 ∷ 29 ∷ []) $ free1 ! $ move ! (26 ∷ 27 ∷ []) $ free1 ! $ move ! (24 ∷ 25 ∷ []) $ free1 ! $ move ! (22 ∷ 23 ∷ []) $ free1 ! $ move ! (20 ∷ 21 ∷ []) $ free1 ! $ move ! (18 ∷ 19 ∷ []) $ free1 ! $ move ! (16 ∷ 17 ∷ []) $ forget ! 0 refl $ free1 ! $ move ! (14 ∷ 15 ∷ []) $ forget ! 0 refl $ free1 ! $ move ! (12 ∷ 13 ∷ []) $ forget ! 0 refl $ free1 ! $ move ! (10 ∷ 11 ∷ []) $ forget ! 0 refl $ free1 ! $ move ! (8 ∷ 9 ∷ []) $ forget ! 0 refl $ free1 ! $ free0 ! $ by ! (exits r6 ok·6 out₆ (sym (refl ∙ sym same·6-out))))))))))))))))))))))))))))))))))))))))))))))))))))
+      here ! (‵ (flft κ·pages q·pages) ∷ ‵ (ShrAt u8 κ·pages b·pages o·pages γ·pages (length pages) pages) ∷ ‵ (flft κ·nodes q·nodes) ∷ ‵ (ShrAt u32 κ·nodes b·nodes o·nodes γ·nodes (length nodes) nodes) ∷ ‵ (flft κ·register q·register) ∷ ‵ (ShrAt Record′.row κ·register b·register o·register γ·register (length register) register) ∷ ‵ (flft κ·out q·out) ∷ ‵ (MutAt u8 κ·out b·out o·out γ·out (length out) out₆) ∷ holds (sliceTy (tyRef erased mut (pointee (u8 .written)))) l₄₅ (sliceVal (b·out, o·out) (length out)) (holds (tyRef erased mut (pointee (u8 .written))) l₄₄ (vptr b·out o·out) (holds (tyAt (code.function .locals) 43) l₄₃ (PageIndex′.mach (PageIndex′.build y1-2)) (holds (tyAt (code.function .locals) 42) l₄₂ (Version′.mach (Version′.build y1-1)) (holds (tyAt (code.function .locals) 41) l₄₁ (Line′.mach (Line′.build y1-0)) (empty (sliceTy (tyRef erased mut (pointee (u8 .written)))) l₄₀ (empty (tyRef erased mut (pointee (u8 .written))) l₃₉ (empty (tyAt (code.function .locals) 38) l₃₈ (empty (sliceTy (tyRef erased mut (pointee (u8 .written)))) l₃₇ (empty (tyRef erased mut (pointee (u8 .written))) l₃₆ (empty (tyAt (code.function .locals) 35) l₃₅ (empty (tyAt (code.function .locals) 34) l₃₄ (empty (sliceTy (tyRef erased mut (pointee (u8 .written)))) l₃₃ (empty (tyRef erased mut (pointee (u8 .written))) l₃₂ (empty (tyAt (code.function .locals) 31) l₃₁ (empty (tyAt (code.function .locals) 30) l₃₀ (empty (tyAt (code.function .locals) 29) l₂₉ (empty (sliceTy (tyRef erased mut (pointee (u8 .written)))) l₂₈ (empty (tyRef erased mut (pointee (u8 .written))) l₂₇ (empty (tyAt (code.function .locals) 26) l₂₆ (empty (tyAt (code.function .locals) 25) l₂₅ (empty (sliceTy (tyRef erased mut (pointee (u8 .written)))) l₂₄ (empty (tyRef erased mut (pointee (u8 .written))) l₂₃ (empty (tyAt (code.function .locals) 22) l₂₂ (holds (tyAt (code.function .locals) 21) l₂₁ (Turn′.mach r6) (holds (tyInt w64) l₂₀ (vint w64 y1-2) (holds (tyInt w64) l₁₉ (vint w64 y1-1) (holds (tyInt w64) l₁₈ (vint w64 y1-0) (empty (tyInt w64) l₁₇ (empty (tyInt w64) l₁₆ (empty (tyInt w64) l₁₅ (empty (tyInt w64) l₁₄ (empty (tyInt w64) l₁₃ (empty (tyInt w64) l₁₂ (empty (tyInt w64) l₁₁ (empty (tyInt w64) l₁₀ (empty (tyInt w64) l₉ (empty (tyInt w64) l₈ (empty (tyInt w64) l₇ (holds (sliceTy (tyRef (named 3) mut (pointee (u8 .written)))) l₆ (sliceVal (b·out, o·out) (length out)) (holds (sliceTy (tyRef (named 2) imm (pointee (Record′.row .written)))) l₅ (sliceVal (b·register, o·register) (length register)) (holds (sliceTy (tyRef (named 1) imm (pointee (u32 .written)))) l₄ (sliceVal (b·nodes, o·nodes) (length nodes)) (holds (sliceTy (tyRef (named 0) imm (pointee (u8 .written)))) l₃ (sliceVal (b·pages, o·pages) (length pages)) (holds (tyAt (code.function .locals) 2) l₂ (Look′.mach (Look.Stamp y1-0 y1-1 y1-2)) (holds (tyAt (code.function .locals) 1) l₁ (Kept′.mach kept) (empty (tyAt (code.function .locals) 0) l₀ [])))))))))))))))))))))))))))))))))))))))))))))) $
+      assigns ! (of-opd ! (load ! (from ! (stop !)) (look ! 56 refl))) (from ! (stop !)) (init ! 98 refl (Turn′.typed 𝓤 H A W r6 ok·6)) $
+      returns ! (look ! 98 refl) $
+      move ! (98 ∷ 99 ∷ []) $ forget ! 0 refl $ free1 ! $ move ! (96 ∷ 97 ∷ []) $ forget ! 0 refl $ free1 ! $ move ! (94 ∷ 95 ∷ []) $ forget ! 0 refl $ free1 ! $ move ! (92 ∷ 93 ∷ []) $ forget ! 0 refl $ free1 ! $ move ! (90 ∷ 91 ∷ []) $ forget ! 0 refl $ free1 ! $ move ! (88 ∷ 89 ∷ []) $ forget ! 0 refl $ free1 ! $ move ! (86 ∷ 87 ∷ []) $ forget ! 0 refl $ free1 ! $ move ! (84 ∷ 85 ∷ []) $ free1 ! $ move ! (82 ∷ 83 ∷ []) $ free1 ! $ move ! (80 ∷ 81 ∷ []) $ free1 ! $ move ! (78 ∷ 79 ∷ []) $ free1 ! $ move ! (76 ∷ 77 ∷ []) $ free1 ! $ move ! (74 ∷ 75 ∷ []) $ free1 ! $ move ! (72 ∷ 73 ∷ []) $ free1 ! $ move ! (70 ∷ 71 ∷ []) $ free1 ! $ move ! (68 ∷ 69 ∷ []) $ free1 ! $ move ! (66 ∷ 67 ∷ []) $ free1 ! $ move ! (64 ∷ 65 ∷ []) $ free1 ! $ move ! (62 ∷ 63 ∷ []) $ forget ! 0 refl $ free1 ! $ move ! (60 ∷ 61 ∷ []) $ forget ! 0 refl $ free1 ! $ move ! (58 ∷ 59 ∷ []) $ forget ! 0 refl $ free1 ! $ move ! (56 ∷ 57 ∷ []) $ forget ! 0 refl $ free1 ! $ move ! (54 ∷ 55 ∷ []) $ free1 ! $ move ! (52 ∷ 53 ∷ []) $ free1 ! $ move ! (50 ∷ 51 ∷ []) $ free1 ! $ move ! (48 ∷ 49 ∷ []) $ free1 ! $ move ! (46 ∷ 47 ∷ []) $ free1 ! $ move ! (44 ∷ 45 ∷ []) $ free1 ! $ move ! (42 ∷ 43 ∷ []) $ free1 ! $ move ! (40 ∷ 41 ∷ []) $ free1 ! $ move ! (38 ∷ 39 ∷ []) $ free1 ! $ move ! (36 ∷ 37 ∷ []) $ free1 ! $ move ! (34 ∷ 35 ∷ []) $ free1 ! $ move ! (32 ∷ 33 ∷ []) $ free1 ! $ move ! (30 ∷ 31 ∷ []) $ free1 ! $ move ! (28 ∷ 29 ∷ []) $ free1 ! $ move ! (26 ∷ 27 ∷ []) $ free1 ! $ move ! (24 ∷ 25 ∷ []) $ free1 ! $ move ! (22 ∷ 23 ∷ []) $ free1 ! $ move ! (20 ∷ 21 ∷ []) $ free1 ! $ move ! (18 ∷ 19 ∷ []) $ free1 ! $ move ! (16 ∷ 17 ∷ []) $ forget ! 0 refl $ free1 ! $ move ! (14 ∷ 15 ∷ []) $ forget ! 0 refl $ free1 ! $ move ! (12 ∷ 13 ∷ []) $ forget ! 0 refl $ free1 ! $ move ! (10 ∷ 11 ∷ []) $ forget ! 0 refl $ free1 ! $ move ! (8 ∷ 9 ∷ []) $ forget ! 0 refl $ free1 ! $ free0 ! $ by ! (exits r6 ok·6 out₆ (sym (refl ∙ sym same·6-out)))))))))))))))))))))))))))))))))))))))))))))))))))))
 
 module _ {M : Type 1} (𝓤 : URA M) (H : Heap 𝓤) (A : Atoms 𝓤) (W : Given 𝓤 H A) (mem : Memory → SProp 𝓤) (run : Routine → Fun 𝓤) where
   walks : (𝓣 : Tables 𝓤 H) → Triple 𝓤 (𝓣 .C #publish-step) (Call-publish-step.Asked 𝓤 H A mem run) → Triple 𝓤 (𝓣 .C #branch-step) (Call-branch-step.Asked 𝓤 H A mem run) → Triple 𝓤 (𝓣 .C #read-step) (Call-read-step.Asked 𝓤 H A mem run) → Triple 𝓤 (𝓣 .C #size-step) (Call-size-step.Asked 𝓤 H A mem run) → Triple 𝓤 (𝓣 .C #recent-step) (Call-recent-step.Asked 𝓤 H A mem run) → Triple 𝓤 (𝓣 .C #stamp-step) (Call-stamp-step.Asked 𝓤 H A mem run) → Walks 𝓤 H A look-step‴.ended stayed (WpFn 𝓤 H (𝓣 .C) (𝓣 .Λ) code.function) (look-step‴.clauses 𝓤 H A mem run)

@@ -31,7 +31,7 @@ use Rattle.model.proofs.Histories.{assigned-apart}
 use Rattle.model.proofs.Kept.Assign.{assigned-length, assigned-older, assigned-new, assigned-places, assigned-lines, assigned-this, assigned-other, assigned-versions, assigned-next-version, assigned-grown}
 use Rattle.demands.specs.Answers.{assignedAnswer}
 use Rattle.demands.specs.Run.{State, assignCall, onLineOf, onStore}
-use Rattle.demands.proofs.Image.{registerImage, branchImage, storeImage, areasImage, image}
+use Rattle.demands.proofs.Image.{registerImage, branchImage, storeImage, windowsImage, areasImage, image}
 use Rattle.demands.proofs.Masks.{mask-all}
 use Rattle.demands.proofs.Records.{record-at, limited-same}
 use Rattle.demands.proofs.Lines.{lines-in, blob-small, line-in, sources-written, words-written}
@@ -161,7 +161,7 @@ module _ (L : Limits) (m : Model) (S : Sound L m) (l f : ℕ) where
         ∙ nodes-stay m after (λ k o s. assigned-older L m l (suc t) f k s) (λ k o s. refl) (numbers-grown L m after S (assigned-grown L m l (suc t) f (p .line))) q))))
 
   assign-image : (t : ℕ) → AssignPassed L m l t f
-      → stateOf (withUpdate (storeImage L m) l (countOf (nextUpdate L m l t f)) (sizeIn L m l t f)) (pagesImage L m) (nodesImage L m)
+      → stateOf (withUpdate (storeImage L m) l (countOf (nextUpdate L m l t f)) (sizeIn L m l t f)) (windowsImage m) (pagesImage L m) (nodesImage L m)
       (assignedRegister (storeImage L m) (areasImage L m) l t f)
       ≡ image L (assigned L m l t f)
   assign-image zero p = absurd (omega (arith, p .from))
@@ -176,9 +176,9 @@ module _ (L : Limits) (m : Model) (S : Sound L m) (l f : ℕ) where
 
   -- What it leaves and answers by the table's number.
   assign-leaves : (t k n c : ℕ) (r : List Record) → (k ≡ 0 → n ≡ pagesOf (ticketIn m t)) → (k ≡ 0 → c ≡ countOf (nextUpdate L m l t f))
-      → (k ≡ 0 → stateOf (withUpdate (storeImage L m) l (countOf (nextUpdate L m l t f)) (sizeIn L m l t f)) (pagesImage L m) (nodesImage L m) r ≡ image L (assigned L m l t f))
+      → (k ≡ 0 → stateOf (withUpdate (storeImage L m) l (countOf (nextUpdate L m l t f)) (sizeIn L m l t f)) (windowsImage m) (pagesImage L m) (nodesImage L m) r ≡ image L (assigned L m l t f))
       → leaves
-      (stateOf (unless k (storeImage L m) (withUpdate (storeImage L m) l c (sizeAfter (blobSize (history m l)) f n))) (pagesImage L m) (nodesImage L m)
+      (stateOf (unless k (storeImage L m) (withUpdate (storeImage L m) l c (sizeAfter (blobSize (history m l)) f n))) (windowsImage m) (pagesImage L m) (nodesImage L m)
       (unless k (registerImage L m) r))
       (assignedAnswer (assignedCase k (suc (length (lineAt m l .shown))) c))
       ≡ leaves (image L (unless k m (assigned L m l t f))) (answers k (versionIs (suc (length (lineAt m l .shown))) (countOf (nextUpdate L m l t f))))
@@ -193,11 +193,11 @@ module _ (L : Limits) (m : Model) (S : Sound L m) (l f : ℕ) where
       let n = recordOf (areasImage L m) t .n in
       let c = countOf (updateAt (b .blob) f n) in
       leaves
-      (stateOf (unless k (storeImage L m) (withUpdate (storeImage L m) l c (sizeAfter (b .blob) f n))) (pagesImage L m) (nodesImage L m)
+      (stateOf (unless k (storeImage L m) (withUpdate (storeImage L m) l c (sizeAfter (b .blob) f n))) (windowsImage m) (pagesImage L m) (nodesImage L m)
       (unless k (registerImage L m) (assignedRegister (storeImage L m) (areasImage L m) l t f)))
       (assignedAnswer (assignedCase k (suc (b .assigned .0)) c))
 
-  assign-step : (t : ℕ) → assignCall (storeImage L m) (areasImage L m) l t f ≡ (image L (assignStep L m l t f .0), assignStep L m l t f .1)
+  assign-step : (t : ℕ) → assignCall (image L m) l t f ≡ (image L (assignStep L m l t f .0), assignStep L m l t f .1)
   assign-step t =
       let p : assignNumber L m l t f ≡ 0 → AssignPassed L m l t f = assign-passed L m l t f in
       ap₂ (leftBy t) (line-in L m S l) (assign-number t)
@@ -212,5 +212,5 @@ module _ (L : Limits) (m : Model) (S : Sound L m) where
   pub append-step : (l t : ℕ) → onStore (image L m) (on l (APPEND t)) ≡ (image L (onModel L m (on l (APPEND t)) .0), onModel L m (on l (APPEND t)) .1)
   unfolding onStore onLineOf onModel onLine
   append-step l t =
-      ap (λ (b : Branch). assignCall (storeImage L m) (areasImage L m) l t (b .blob)) (line-in L m S l)
+      ap (λ (b : Branch). assignCall (image L m) l t (b .blob)) (line-in L m S l)
       ∙ assign-step L m S l (blobSize (history m l)) t

@@ -28,7 +28,7 @@ use Rattle.model.proofs.Tickets.{taken-append, taken-all}
 use Rattle.model.proofs.Kept.Begin.{newTicket, begun-ticket, begun-new, begun-updates, begun-old, begun-grown}
 use Rattle.demands.specs.Answers.{begunAnswer}
 use Rattle.demands.specs.Run.{onStore}
-use Rattle.demands.proofs.Image.{registerImage, sourcesImage, linesImage, storeImage, areasImage, image}
+use Rattle.demands.proofs.Image.{registerImage, sourcesImage, linesImage, storeImage, windowsImage, areasImage, image}
 use Rattle.demands.proofs.Masks.{mask-none}
 use Rattle.demands.proofs.Records.{record-at}
 use Rattle.demands.proofs.Puts.{register-put}
@@ -96,7 +96,7 @@ module _ (L : Limits) (m : Model) (S : Sound L m) (n : ℕ) where
       (rw (record-at L m t (p .record-left)) (all-same begun-new-part (sym (begun-update-part t)) refl))
 
   begun-image : BeginPassed L m n
-      → stateOf (withTicket (storeImage L m) n) (pagesImage L m) (nodesImage L m)
+      → stateOf (withTicket (storeImage L m) n) (windowsImage m) (pagesImage L m) (nodesImage L m)
       (withRecord (registerImage L m) (length (m .tickets)) (withTicketPart (getD (registerImage L m) (length (m .tickets)) noRecord) n (taken (m .tickets) (length (m .tickets)))))
       ≡ image L (begun L m n)
   begun-image p = state-same begun-store begun-pages begun-nodes (begun-register p)
@@ -107,8 +107,8 @@ module _ (L : Limits) (m : Model) (S : Sound L m) (n : ℕ) where
       let rows = beginRows n (length (m .tickets)) (L .updates) (taken (m .tickets) (length (m .tickets))) (L .pages) in
       image-number L m S rows rows never (alike-same rows) (λ z. omega arith)
 
-  begin-leaves : (k : ℕ) (r : List Record) → (k ≡ 0 → stateOf (withTicket (storeImage L m) n) (pagesImage L m) (nodesImage L m) r ≡ image L (begun L m n))
-      → leaves (stateOf (unless k (storeImage L m) (withTicket (storeImage L m) n)) (pagesImage L m) (nodesImage L m) (unless k (registerImage L m) r))
+  begin-leaves : (k : ℕ) (r : List Record) → (k ≡ 0 → stateOf (withTicket (storeImage L m) n) (windowsImage m) (pagesImage L m) (nodesImage L m) r ≡ image L (begun L m n))
+      → leaves (stateOf (unless k (storeImage L m) (withTicket (storeImage L m) n)) (windowsImage m) (pagesImage L m) (nodesImage L m) (unless k (registerImage L m) r))
       (begunAnswer (begunCase k (suc (length (m .tickets)))))
       ≡ leaves (image L (unless k m (begun L m n))) (answers k (ticketIs (suc (length (m .tickets)))))
   unfolding unless

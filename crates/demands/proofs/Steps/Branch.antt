@@ -33,7 +33,7 @@ use Rattle.model.proofs.Shown.{shownAt, version-shown, blob-shown}
 use Rattle.model.proofs.Kept.Branch.{branched-length, branched-old, branched-new, branched-shown, branched-grown}
 use Rattle.demands.specs.Answers.{branchedAnswer}
 use Rattle.demands.specs.Run.{onLineOf, onStore}
-use Rattle.demands.proofs.Image.{ownAt, recordImage, registerImage, branchImage, storeImage, areasImage, image}
+use Rattle.demands.proofs.Image.{ownAt, recordImage, registerImage, branchImage, storeImage, windowsImage, areasImage, image}
 use Rattle.demands.proofs.Lines.{lines-in, line-in, sources-written, words-written}
 use Rattle.demands.proofs.Steps.Numbers.{alike-same, image-number}
 use Rattle.demands.proofs.Steps.States.{leaves, stateOf, state-same}
@@ -140,12 +140,12 @@ module _ (L : Limits) (m : Model) (S : Sound L m) (l v : ℕ) where
           words-written L m S after n b (p .line-left) branched-state branched-other,
         )
 
-    branched-image : stateOf (withBranch (storeImage L m) (begunFrom l v (pagesIn (storeImage L m) (areasImage L m) l v))) (pagesImage L m) (nodesImage L m) (registerImage L m)
+    branched-image : stateOf (withBranch (storeImage L m) (begunFrom l v (pagesIn (storeImage L m) (areasImage L m) l v))) (windowsImage m) (pagesImage L m) (nodesImage L m) (registerImage L m)
         ≡ image L after
     branched-image = state-same branched-store branched-pages branched-nodes branched-register
 
-  branch-leaves : (k n : ℕ) (s : Store) → n ≡ length (m .lines) → (k ≡ 0 → stateOf s (pagesImage L m) (nodesImage L m) (registerImage L m) ≡ image L (branched L m l v))
-      → leaves (stateOf (unless k (storeImage L m) s) (pagesImage L m) (nodesImage L m) (registerImage L m)) (branchedAnswer (branchedCase k n))
+  branch-leaves : (k n : ℕ) (s : Store) → n ≡ length (m .lines) → (k ≡ 0 → stateOf s (windowsImage m) (pagesImage L m) (nodesImage L m) (registerImage L m) ≡ image L (branched L m l v))
+      → leaves (stateOf (unless k (storeImage L m) s) (windowsImage m) (pagesImage L m) (nodesImage L m) (registerImage L m)) (branchedAnswer (branchedCase k n))
       ≡ leaves (image L (unless k m (branched L m l v))) (answers k (lineIs (length (m .lines))))
   unfolding unless
   branch-leaves zero n s e h = λ i. leaves (h refl i) (lineIs (e i))

@@ -2,7 +2,7 @@
 -- Assumes nothing.
 use mathlib.Core.Path.{_≡_}
 use Prim.Native.Nat.{ℕ}
-use Rattle.model.specs.Calls.{Call, BEGIN, PUT, WEAVE, on, Act, WRITE, APPEND, PUBLISH, BRANCH, READ, SIZE, RECENT, STAMP, VIEW}
+use Rattle.model.specs.Calls.{Call, BEGIN, PUT, WEAVE, SETWINDOWS, on, Act, WRITE, APPEND, PUBLISH, BRANCH, READ, SIZE, RECENT, STAMP, VIEW}
 use Rattle.model.specs.Model.{Limits, Model}
 use Rattle.model.specs.OnModel.{onModel}
 use Rattle.model.proofs.Sound.{Sound}
@@ -10,6 +10,7 @@ use Rattle.demands.specs.Run.{onStore}
 use Rattle.demands.proofs.Image.{image}
 use Rattle.demands.proofs.Steps.Size.{size-step}
 use Rattle.demands.proofs.Steps.Recent.{recent-step}
+use Rattle.demands.proofs.Steps.SetWindows.{windows-step}
 use Rattle.demands.proofs.Steps.Publish.{publish-step}
 use Rattle.demands.proofs.Steps.Branch.{branch-step}
 use Rattle.demands.proofs.Steps.Begin.{begin-step}
@@ -27,7 +28,7 @@ AsModel L m c = onStore (image L m) c ≡ (image L (onModel L m c .0), onModel L
 line-image : (L : Limits) (m : Model) (l : ℕ) (a : Act) → Sound L m → AsModel L m (on l a)
 line-image L m l (WRITE t f) s = write-step L m s l t f
 line-image L m l (APPEND t) s = append-step L m s l t
-line-image L m l PUBLISH s = publish-step L m s l
+line-image L m l (PUBLISH minute) s = publish-step L m s l minute
 line-image L m l (BRANCH v) s = branch-step L m s l v
 line-image L m l (READ v offset len buffer) s = read-step L m s l v offset len buffer
 line-image L m l (SIZE v) s = size-step L m s l v
@@ -39,4 +40,5 @@ pub step-image : (L : Limits) (m : Model) (c : Call) → Sound L m → AsModel L
 step-image L m (BEGIN n) s = begin-step L m s n
 step-image L m (PUT t i bytes) s = put-step L m s t i bytes
 step-image L m (WEAVE t) s = weave-step L m s t
+step-image L m (SETWINDOWS t) s = windows-step L m s t
 step-image L m (on l a) s = line-image L m l a s

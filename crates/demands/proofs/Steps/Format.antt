@@ -1,4 +1,4 @@
--- FORMAT leaves the image of the model that has nothing.
+-- FORMAT leaves the image of the model that has nothing, with no windows.
 -- Assumes nothing.
 use mathlib.Core.Path.{_≡_, refl, sym, _∙_}
 use Prim.Native.Nat.{ℕ, zero, suc, _+_, _*_}
@@ -15,6 +15,7 @@ use Rattle.lines.proofs.Packed.{entries-same}
 use Rattle.register.specs.Register.{noRecord}
 use Rattle.tree.specs.Walk.{used}
 use Rattle.table.specs.Table.{formatRows}
+use Rattle.windows.specs.Windows.{placed}
 use Rattle.versions.specs.Store.{Areas}
 use Rattle.format.specs.Format.{formatRefusal, formatNumber}
 use Rattle.table.proofs.Table.{passed, unless-0}
@@ -76,7 +77,7 @@ module _ (L : Limits) where
   store-blank = rw (sources-blank, lines-blank)
 
   pub format-image : (a : Areas) → formatNumber (freshOf L) a ≡ 0 → formattedState L a ≡ image L noModel
-  unfolding formattedState formatRefusal formatRows
+  unfolding formattedState formatRefusal formatRows placed
   format-image a z =
       let r = passed _ tt z .1 .1 .0 in
       state-same

@@ -2,12 +2,11 @@
 -- Assumes nothing.
 use mathlib.Core.Path.{_≡_, refl, sym, ap, _∙_}
 use mathlib.Core.Logic.{inl, inr, _≢_}
-use mathlib.Core.Bool.{Bool, true, false, false≢true}
+use mathlib.Core.Bool.{Bool, true, false, not, _&&_, and-false, false≢true}
 use Prim.Native.Nat.{ℕ, zero, suc, _+_, _-_, _^_, _≤_, _<_, min, pred}
-use native.Mathlib.Nat.{min-eq-left}
 use native.Mathlib.Decide.{ℕ-discrete}
 use native.Mathlib.Omega.{arith}
-use borrow.Author.Tests.{lt-ltb, le-ltb}
+use borrow.Author.Tests.{le-ltb}
 use lib.ListN.{length}
 use Rattle.tree.proofs.Meets.{lt-or-le}
 use Rattle.lines.specs.Lines.{numberOf}
@@ -15,19 +14,20 @@ use Rattle.lines.specs.declared.Branch.{Branch}
 use Rattle.lines.proofs.Numbers.{number-is as code-is}
 use Rattle.register.specs.Register.{partOf, versionPart}
 use Rattle.register.specs.declared.Part.{Part}
-use Rattle.table.specs.Table.{_and_, test, firstRefusal, unless, lineRows}
+use Rattle.table.specs.Table.{unless, publishRows}
 use Rattle.table.proofs.Table.{Fails}
+use Rattle.windows.specs.Windows.{inside}
+use Rattle.windows.proofs.Placed.{placed-inside}
 use Rattle.versions.specs.Store.{lineIn, withLine}
-use Rattle.versions.specs.Size.{notThere}
-use Rattle.publish.specs.Publish.{hasNext, numberBy, nextNumber, nextPart, publishNumber, dueBy, withPublished, published, storeIf}
-use Rattle.model.specs.Calls.{on, PUBLISH, publishedIs, waiting, answers}
+use Rattle.publish.specs.Publish.{hasNext, numberBy, nextNumber, nextPart, lost, publishNumber, dueBy, withPublished, published, storeIf}
+use Rattle.model.specs.Calls.{on, PUBLISH, publishedIs, waiting, held, answers}
 use Rattle.model.specs.History.{updates, complete, due}
 use Rattle.model.specs.Model.{Limits, Model, lineAt, history, numberIn}
-use Rattle.model.specs.OnModel.{lineNumber, published as publishedModel, either, onLine, onModel}
+use Rattle.model.specs.OnModel.{publishNumber as modelNumber, published as publishedModel, either, onLine, onModel}
 use Rattle.model.proofs.Tab.{tab-same}
 use Rattle.model.proofs.Image.{pagesImage, nodesImage}
 use Rattle.model.proofs.Sound.{Sound}
-use Rattle.model.proofs.Passed.{line-passed}
+use Rattle.model.proofs.Passed.{publish-passed}
 use Rattle.model.proofs.Facts.{versions-most}
 use Rattle.model.proofs.Shown.{shownAt, versions-length, version-shown, update-shown}
 use Rattle.model.proofs.Numbers.{number-is}
@@ -35,10 +35,9 @@ use Rattle.model.proofs.Owner.{owner-own}
 use Rattle.model.proofs.Kept.Publish.{published-this, published-other, published-lines, published-grown}
 use Rattle.demands.specs.Answers.{publishedAnswer}
 use Rattle.demands.specs.Run.{onLineOf, onStore}
-use Rattle.demands.proofs.Image.{ownAt, recordImage, registerImage, branchImage, storeImage, areasImage, image}
+use Rattle.demands.proofs.Image.{ownAt, recordImage, registerImage, branchImage, storeImage, windowsImage, areasImage, image}
 use Rattle.demands.proofs.Records.{woven-image, count-image}
 use Rattle.demands.proofs.Lines.{lines-in, line-in, sources-written, words-written, name-shown}
-use Rattle.demands.proofs.Readings.{published-reads}
 use Rattle.demands.proofs.Steps.Numbers.{alike-same, image-number}
 use Rattle.demands.proofs.Steps.States.{leaves, stateOf, state-same}
 use Rattle.demands.proofs.Steps.Parts.{all-same, entries-stay}
@@ -68,25 +67,29 @@ module _ (L : Limits) (m : Model) (S : Sound L m) (l : ℕ) where
 
   -- ---- the number
 
-  next-there : l < length (m .lines)
-      → Fails (test (hasNext (lineIn (storeImage L m) l)) and notThere (nextPart (storeImage L m) (areasImage L m) l) (nextNumber (storeImage L m) l))
-  next-there there = elim (lt-or-le (lineAt m l .published) (length (lineAt m l .shown))) [
+  next-there : (isHeld : Bool) → l < length (m .lines)
+      → Fails (lost isHeld (lineIn (storeImage L m) l) (nextPart (storeImage L m) (areasImage L m) l) (nextNumber (storeImage L m) l))
+  next-there isHeld there = elim (lt-or-le (lineAt m l .published) (length (lineAt m l .shown))) [
     | inl h ↦
         inr
         (ap (λ (q : Part). q .name) (next-part there h)
         ∙ name-shown L m S l (suc (lineAt m l .published)) there (omega arith) h
         ∙ sym (next-number there h))
-    | inr h ↦ inl (ap hasNext (line-in L m S l) ∙ le-ltb (lineAt m l .published) (length (lineAt m l .shown)) h)
+    | inr h ↦
+        inl
+        (ap (λ (b : Branch). not isHeld && hasNext b) (line-in L m S l)
+        ∙ rw (le-ltb (lineAt m l .published) (length (lineAt m l .shown)) h, and-false))
   ]
 
-  publish-number : publishNumber (storeImage L m) (areasImage L m) l ≡ lineNumber L m l
+  publish-number : (minute : ℕ) → publishNumber (storeImage L m) (windowsImage m) (areasImage L m) l minute ≡ modelNumber L m l minute
   unfolding publishNumber
-  publish-number =
+  publish-number minute =
       rw (lines-in L m S)
-      (let rows = lineRows l (length (m .lines)) in
+      (let rows = publishRows l (length (m .lines)) minute in
+      let isHeld = inside (windowsImage m .places) minute in
       image-number L m S rows rows
-      (test (hasNext (lineIn (storeImage L m) l)) and notThere (nextPart (storeImage L m) (areasImage L m) l) (nextNumber (storeImage L m) l))
-      (alike-same rows) (λ z. next-there (line-passed L m l z)))
+      (lost isHeld (lineIn (storeImage L m) l) (nextPart (storeImage L m) (areasImage L m) l) (nextNumber (storeImage L m) l))
+      (alike-same rows) (λ z. next-there isHeld (publish-passed L m l minute z .line)))
 
   -- ---- whether it is due
 
@@ -157,27 +160,35 @@ module _ (L : Limits) (m : Model) (S : Sound L m) (l : ℕ) where
           words-written L m S m′ l b (omega (arith, S .few)) published-state state-stays,
         )
 
-    published-image : stateOf (withLine (storeImage L m) l (withPublished (lineIn (storeImage L m) l))) (pagesImage L m) (nodesImage L m) (registerImage L m)
+    published-image : stateOf (withLine (storeImage L m) l (withPublished (lineIn (storeImage L m) l))) (windowsImage m) (pagesImage L m) (nodesImage L m) (registerImage L m)
         ≡ image L (publishedModel L m l)
     published-image =
         state-same (ap (λ (b : Branch). withLine (storeImage L m) l (withPublished b)) (line-in L m S l) ∙ published-store) published-pages published-nodes published-register
 
-  -- By the number k: whether the version is due is asked only where the line has begun.
-  publish-leaves : (k : ℕ) (b b′ : Bool) (v : ℕ) → (k ≡ 0 → b ≡ b′) → v ≡ lineAt m l .published
-      → (k ≡ 0 → stateOf (withLine (storeImage L m) l (withPublished (lineIn (storeImage L m) l))) (pagesImage L m) (nodesImage L m) (registerImage L m) ≡ image L (publishedModel L m l))
-      → leaves (stateOf (unless k (storeImage L m) (storeIf b (withLine (storeImage L m) l (withPublished (lineIn (storeImage L m) l))) (storeImage L m))) (pagesImage L m) (nodesImage L m) (registerImage L m))
-      (publishedAnswer (published k b (suc v)))
-      ≡ leaves (image L (unless k m (either b′ (publishedModel L m l) m))) (answers k (either b′ (publishedIs (suc (lineAt m l .published))) waiting))
+  -- By the number k: whether the version is due is asked only where the line has begun, and matters only outside the windows.
+  publish-leaves : (k : ℕ) (h b b′ : Bool) (v : ℕ) → (k ≡ 0 → b ≡ b′) → v ≡ lineAt m l .published
+      → (k ≡ 0 → stateOf (withLine (storeImage L m) l (withPublished (lineIn (storeImage L m) l))) (windowsImage m) (pagesImage L m) (nodesImage L m) (registerImage L m)
+      ≡ image L (publishedModel L m l))
+      → leaves
+      (stateOf (unless k (storeImage L m) (storeIf (not h && b) (withLine (storeImage L m) l (withPublished (lineIn (storeImage L m) l))) (storeImage L m))) (windowsImage m)
+      (pagesImage L m) (nodesImage L m) (registerImage L m))
+      (publishedAnswer (published k h b (suc v)))
+      ≡ leaves
+      (image L (unless k m (either h m (either b′ (publishedModel L m l) m))))
+      (answers k (either h held (either b′ (publishedIs (suc (lineAt m l .published))) waiting)))
   unfolding unless
-  publish-leaves zero true true v e n h = λ i. leaves (h refl i) (publishedIs (suc (n i)))
-  publish-leaves zero true false v e n h = absurd (false≢true (sym (e refl)))
-  publish-leaves zero false true v e n h = absurd (false≢true (e refl))
-  publish-leaves zero false false v e n h = refl
-  publish-leaves (suc k) b b′ v e n h = refl
+  publish-leaves zero true b b′ v e n p = refl
+  publish-leaves zero false true true v e n p = λ i. leaves (p refl i) (publishedIs (suc (n i)))
+  publish-leaves zero false true false v e n p = absurd (false≢true (sym (e refl)))
+  publish-leaves zero false false true v e n p = absurd (false≢true (e refl))
+  publish-leaves zero false false false v e n p = refl
+  publish-leaves (suc k) h b b′ v e n p = refl
 
-  pub publish-step : onStore (image L m) (on l PUBLISH) ≡ (image L (onModel L m (on l PUBLISH) .0), onModel L m (on l PUBLISH) .1)
+  pub publish-step : (minute : ℕ)
+      → onStore (image L m) (on l (PUBLISH minute)) ≡ (image L (onModel L m (on l (PUBLISH minute)) .0), onModel L m (on l (PUBLISH minute)) .1)
   unfolding onStore onLineOf onModel onLine
-  publish-step =
-      rw publish-number
-      (publish-leaves (lineNumber L m l) _ (due (history m l)) _ (λ z. due-same (line-passed L m l z)) (ap (λ (b : Branch). b .published .0) (line-in L m S l))
-      (λ z. published-image (line-passed L m l z)))
+  publish-step minute =
+      let line : modelNumber L m l minute ≡ 0 → l < length (m .lines) = λ z. publish-passed L m l minute z .line in
+      rw (publish-number minute, placed-inside (m .windows) minute)
+      (publish-leaves (modelNumber L m l minute) (inside (m .windows) minute) _ (due (history m l)) _ (λ z. due-same (line z))
+      (ap (λ (b : Branch). b .published .0) (line-in L m S l)) (λ z. published-image (line z)))

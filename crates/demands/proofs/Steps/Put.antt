@@ -28,7 +28,7 @@ use Rattle.model.proofs.Kept.Change.{changed-other}
 use Rattle.model.proofs.Kept.Put.{filledTicket, filled-pages, put-apart, filled-this, filled-grown}
 use Rattle.demands.specs.Answers.{putAnswer}
 use Rattle.demands.specs.Run.{onStore}
-use Rattle.demands.proofs.Image.{maskOf, numberAt, registerImage, storeImage, areasImage, image}
+use Rattle.demands.proofs.Image.{maskOf, numberAt, registerImage, storeImage, windowsImage, areasImage, image}
 use Rattle.demands.proofs.Masks.{mask-bit, mask-put}
 use Rattle.demands.proofs.Records.{record-at, number-of}
 use Rattle.demands.proofs.Puts.{pages-put, register-put}
@@ -107,7 +107,7 @@ module _ (L : Limits) (m : Model) (S : Sound L m) (i : ℕ) (bytes : List ℕ) w
         (rw (record-at L m t h) (all-same put-part (sym (updated t)) refl))
 
   put-image : (t : ℕ) → PutPassed L m t i bytes
-      → stateOf (storeImage L m) (put (pagesImage L m) (L .size * numberOf (areasImage L m) t i) bytes) (nodesImage L m)
+      → stateOf (storeImage L m) (windowsImage m) (put (pagesImage L m) (L .size * numberOf (areasImage L m) t i) bytes) (nodesImage L m)
       (withRecord (registerImage L m) (pred t) (withPut (recordOf (areasImage L m) t) i))
       ≡ image L (filledAt L m t i bytes)
   put-image zero p = absurd (omega (arith, p .from))
@@ -118,8 +118,8 @@ module _ (L : Limits) (m : Model) (S : Sound L m) (i : ℕ) (bytes : List ℕ) w
       (put-nodes t p)
       (put-register t p)
 
-  put-leaves : (t k : ℕ) (x : List ℕ) (r : List Record) → (k ≡ 0 → stateOf (storeImage L m) x (nodesImage L m) r ≡ image L (filledAt L m t i bytes))
-      → leaves (stateOf (storeImage L m) (unless k (pagesImage L m) x) (nodesImage L m) (unless k (registerImage L m) r)) (putAnswer (putIn k))
+  put-leaves : (t k : ℕ) (x : List ℕ) (r : List Record) → (k ≡ 0 → stateOf (storeImage L m) (windowsImage m) x (nodesImage L m) r ≡ image L (filledAt L m t i bytes))
+      → leaves (stateOf (storeImage L m) (windowsImage m) (unless k (pagesImage L m) x) (nodesImage L m) (unless k (registerImage L m) r)) (putAnswer (putIn k))
       ≡ leaves (image L (unless k m (filledAt L m t i bytes))) (answers k putDone)
   unfolding unless
   put-leaves t zero x r h = ap (λ y. leaves y putDone) (h refl)

@@ -1,9 +1,10 @@
--- A store with its areas, part by part, and what a call leaves and answers.
+-- A store with its windows and its areas, part by part, and what a call leaves and answers.
 -- Assumes nothing.
 use mathlib.Core.Path.{_≡_}
 use mathlib.Core.List.{List}
 use Prim.Native.Nat.{ℕ}
 use Rattle.register.specs.declared.Record.{Record}
+use Rattle.windows.specs.declared.Windows.{Windows}
 use Rattle.versions.specs.declared.Store.{Store}
 use Rattle.versions.specs.Store.{areasOf}
 use Rattle.model.specs.Calls.{Answer, Outcome, says}
@@ -12,8 +13,10 @@ use Rattle.demands.specs.Run.{State}
 abbrev pub leaves : State → Answer → State × Outcome
 leaves x a = (x, says a)
 
-abbrev pub stateOf : Store → List ℕ → List ℕ → List Record → State
-stateOf s pages nodes register = record { store = s; areas = areasOf pages nodes register }
+abbrev pub stateOf : Store → Windows → List ℕ → List ℕ → List Record → State
+stateOf s w pages nodes register = record { store = s; windows = w; areas = areasOf pages nodes register }
 
-pub state-same : {s s′ : Store} {p p′ n n′ : List ℕ} {r r′ : List Record} → s ≡ s′ → p ≡ p′ → n ≡ n′ → r ≡ r′ → stateOf s p n r ≡ stateOf s′ p′ n′ r′
-state-same a b c d = λ i. stateOf (a i) (b i) (c i) (d i)
+-- The windows stay.
+pub state-same : {w : Windows} {s s′ : Store} {p p′ n n′ : List ℕ} {r r′ : List Record} → s ≡ s′ → p ≡ p′ → n ≡ n′ → r ≡ r′
+    → stateOf s w p n r ≡ stateOf s′ w p′ n′ r′
+state-same {w} a b c d = λ i. stateOf (a i) w (b i) (c i) (d i)

@@ -46,7 +46,7 @@ use Rattle.model.proofs.Numbers.{numbered-is, number-below}
 use Rattle.model.proofs.Passed.{WeavePassed, weave-passed}
 use Rattle.demands.specs.Answers.{wovenAnswer}
 use Rattle.demands.specs.Run.{onStore}
-use Rattle.demands.proofs.Image.{recordImage, registerImage, storeImage, areasImage, image}
+use Rattle.demands.proofs.Image.{recordImage, registerImage, storeImage, windowsImage, areasImage, image}
 use Rattle.demands.proofs.Records.{record-of, ticket-room, update-room, number-of, own-upto, part-image, update-image, name-image, woven-image, height-image, past-image, count-image, place-image}
 use Rattle.demands.proofs.Readings.{answers-same, woven-reads}
 use Rattle.demands.proofs.Steps.Numbers.{image-number, WeaveReads, weave-alike}
@@ -337,8 +337,8 @@ module _ (L : Limits) (m : Model) (S : Sound L m) (t : ℕ) (p : WeavePassed m t
 -- ---- the call
 
 unless-state : (L : Limits) (m m′ : Model) (k : ℕ) (nodes : List ℕ) (register : List Record)
-    → (k ≡ 0 → stateOf (storeImage L m) (pagesImage L m) nodes register ≡ image L m′)
-    → stateOf (storeImage L m) (pagesImage L m) (unless k (nodesImage L m) nodes) (unless k (registerImage L m) register) ≡ image L (unless k m m′)
+    → (k ≡ 0 → stateOf (storeImage L m) (windowsImage m) (pagesImage L m) nodes register ≡ image L m′)
+    → stateOf (storeImage L m) (windowsImage m) (pagesImage L m) (unless k (nodesImage L m) nodes) (unless k (registerImage L m) register) ≡ image L (unless k m m′)
 unfolding unless
 unless-state L m m′ zero nodes register e = e refl
 unless-state L m m′ (suc k) nodes register e = refl
@@ -375,7 +375,7 @@ module _ (L : Limits) (m : Model) (S : Sound L m) (t : ℕ) where
   ]
 
   state-after : WeavePassed m t
-      → stateOf (storeImage L m) (pagesImage L m)
+      → stateOf (storeImage L m) (windowsImage m) (pagesImage L m)
       (withNode (nodesImage L m) (nextPlace (wovenPart (areasImage L m) t)) (nodeOf (storeImage L m) (areasImage L m) t .left) (nodeOf (storeImage L m) (areasImage L m) t .right))
       (withRecord (registerImage L m) (pred (wovenUpdate (areasImage L m) t)) (withWoven (wovenRecord (areasImage L m) t)))
       ≡ image L (woven L m t)

@@ -10,3 +10,4 @@ pub mod size_reply
 pub mod stamp_reply
 pub mod view_reply
 pub mod weave_reply
+pub mod windows_reply

@@ -7,3 +7,4 @@ pub mod SizeReply
 pub mod VersionReply
 pub mod ViewReply
 pub mod WeaveReply
+pub mod WindowsReply

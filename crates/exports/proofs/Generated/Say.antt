@@ -10,6 +10,7 @@ pub mod pit_publish
 pub mod pit_put
 pub mod pit_read
 pub mod pit_recent
+pub mod pit_set_windows
 pub mod pit_size
 pub mod pit_stamp
 pub mod pit_view
@@ -23,3 +24,4 @@ pub mod size_reply
 pub mod stamp_reply
 pub mod view_reply
 pub mod weave_reply
+pub mod windows_reply

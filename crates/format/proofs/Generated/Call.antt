@@ -6,3 +6,4 @@ pub mod format
 pub mod format_refusal
 pub mod formatted_by
 pub mod fresh_store
+pub mod no_windows

@@ -47,13 +47,23 @@ use Rattle.versions.specs.declared.Store.{Store}
 use Rattle.versions.proofs.Generated.Kind.Store as Store′
 use Rattle.tree.specs.declared.Ticket.{Ticket}
 use Rattle.register.proofs.Generated.Kind.Ticket as Ticket′
+use Rattle.windows.specs.declared.Windows.{Windows}
+use Rattle.windows.proofs.Generated.Kind.Windows as Windows′
+use Rattle.windows.specs.declared.Window.{Window}
+use Rattle.windows.proofs.Generated.Kind.Window as Window′
 use Rattle.register.proofs.Generated.Flow.{ref, MutAt, ShrAt, lend-mut, back-mut, lend-shr, back-shr, branches-on, regroup, skips-on, returns-on, plus-nothing, holds, empty, less-fits, is-true, is-false, differ, above-0, twice-not, switches-to, switches-last, big-lit, here, blocks-on, resume, scaled-2, scaled-4, scaled-8, opens-shr, shuts-shr, opens-mut, shuts-mut, puts-mut, keeps-shr, fills, empties, tyAt}
 use Rattle.format.proofs.Generated.Say.formatted_by as formatted-by″
+use Rattle.format.proofs.Generated.Say.no_windows as no-windows″
+use Rattle.format.proofs.Generated.Call.no_windows as Call-no-windows
+use Rattle.windows.proofs.no_windows.Symbol as def-no-windows
+use Rattle.windows.proofs.no_windows.Symbol.{name as #no-windows}
+use Rattle.windows.proofs.no_windows.Met as thm-no-windows
 use Rattle.format.proofs.formatted_by.Key.{name as #self}
 use Rattle.format.proofs.formatted_by as formatted-by‴
 use Rattle.format.proofs.formatted_by.Statement as stated
 use Rattle.format.proofs.formatted_by.Code as code
 use Rattle.format.proofs.formatted_by.Proof.Facts as Facts
+use Rattle.format.proofs.formatted_by.Proof.Asks.{r1}
 
 abbrev stayed : Stays (formatted-by‴.ended .signature .params) (formatted-by‴.ended .kept)
 stayed = (stay-none (λ _. u64) yes, (stay-none (λ _. Store′.row) yes, tt))
@@ -76,38 +86,42 @@ module _ {M : Type 1} (𝓤 : URA M) (H : Heap 𝓤) (A : Atoms 𝓤) (W : Given
       qed W ([]) ∵ suffices ! _ (ends-at 𝓤 H A formatted-by‴.ended stayed (formatted-by‴.clauses 𝓤 H A mem run) W bound (Formatted′.mach r) r (tt, (tt, tt)) (tt, (tt, tt))) $ says ! said $
       nothing ! $ frame ! $ nothing ! $ owned ! Store′.row (Is Store′.row) (Store′.makes 𝓤 H A) s _ ok·s $ fjoin ! $ owned ! u64 (Is u64) (uint-makes 𝓤 H A W w64) x-k _ ok·x-k $ fjoin ! $ frame ! $ owned ! Formatted′.row (Is Formatted′.row) (Formatted′.makes 𝓤 H A) r _ ok·r $ done !
 
-  walk : (𝓣 : Tables 𝓤 H) → ent 𝓤 (onEntry 𝓤 H A formatted-by‴.signature tt tt all-args all-vals)
+  walk : (𝓣 : Tables 𝓤 H) (known-no-windows : Triple 𝓤 (𝓣 .C #no-windows) (Call-no-windows.Asked 𝓤 H A mem run)) → ent 𝓤 (onEntry 𝓤 H A formatted-by‴.signature tt tt all-args all-vals)
       (WpFn 𝓤 H (𝓣 .C) (𝓣 .Λ) code.function (vint w64 x-k ∷ Store′.mach s ∷ []) Post)
-  walk 𝓣 =
+  walk 𝓣 known-no-windows =
       qed W ((‵ ftrue) ∷ ‵ (owns (u64 ∷ Store′.row ∷ []) all-args all-vals) ∷ []) ∵ enter ! (𝓣 .C) (𝓣 .Λ) code.function (vint w64 x-k ∷ Store′.mach s ∷ []) _ $
-      alloc1 ! (λ l₀. alloc1 ! (λ l₁. alloc1 ! (λ l₂. alloc1 ! (λ l₃. alloc1 ! (λ l₄. alloc0 ! $ params1 ! $
-      pass1 ! (init ! 6 refl (tt, record { fits = ok·x-k .1 })) $ pass1 ! (init ! 4 refl (Store′.typed 𝓤 H A W s ok·s)) $ pass0 ! $
-      move ! (11 ∷ []) $ fsplit ! $ drop ! $ fsplit ! $ drop ! $ drop ! $ move ! (10 ∷ []) $ drop ! $
-      assigns ! (bin ! (load ! (from ! (stop !)) (look ! 6 refl)) (lit ! tt) tt) (from ! (stop !)) (init ! 2 refl (tt, tt)) $
-      branches-on ! (load ! (from ! (stop !)) (look ! 2 refl))
-      (λ h·1. assigns ! (agg ! (and-then ! (lit ! tt) (and-then ! (load ! (from ! (stop !)) (look ! 4 refl)) (no-more !)))) (from ! (stop !)) (init ! 0 refl (Formatted′.typed 𝓤 H A W (Formatted.Made s) (Formatted′.make-Made s ok·s))) $
-      assigns ! (of-opd ! (load ! (from ! (stop !)) (look ! 0 refl))) (from ! (stop !)) (init ! 8 refl (Formatted′.typed 𝓤 H A W (Formatted.Made s) (Formatted′.make-Made s ok·s))) $
-      returns ! (look ! 8 refl) $
-      move ! (8 ∷ 9 ∷ []) $ forget ! 0 refl $ free1 ! $ move ! (6 ∷ 7 ∷ []) $ forget ! 0 refl $ free1 ! $ move ! (4 ∷ 5 ∷ []) $ forget ! 0 refl $ free1 ! $ move ! (2 ∷ 3 ∷ []) $ forget ! 0 refl $ free1 ! $ forget ! 0 refl $ free1 ! $ free0 ! $ by ! (exits (Formatted.Made s) (Formatted′.make-Made s ok·s) (Facts.exit-1 x-k s (ok·x-k .1) ok·s (is-true (eqb x-k 0) h·1) (eqb→eq x-k 0 h·1))))
-      (λ h·1. assigns ! (agg ! (and-then ! (lit ! tt) (and-then ! (load ! (from ! (stop !)) (look ! 6 refl)) (no-more !)))) (from ! (stop !)) (init ! 0 refl (Formatted′.typed 𝓤 H A W (Formatted.Refused x-k) (Formatted′.make-Refused x-k ok·x-k))) $
-      assigns ! (of-opd ! (load ! (from ! (stop !)) (look ! 0 refl))) (from ! (stop !)) (init ! 8 refl (Formatted′.typed 𝓤 H A W (Formatted.Refused x-k) (Formatted′.make-Refused x-k ok·x-k))) $
-      returns ! (look ! 8 refl) $
-      move ! (8 ∷ 9 ∷ []) $ forget ! 0 refl $ free1 ! $ move ! (6 ∷ 7 ∷ []) $ forget ! 0 refl $ free1 ! $ move ! (4 ∷ 5 ∷ []) $ forget ! 0 refl $ free1 ! $ move ! (2 ∷ 3 ∷ []) $ forget ! 0 refl $ free1 ! $ forget ! 0 refl $ free1 ! $ free0 ! $ by ! (exits (Formatted.Refused x-k) (Formatted′.make-Refused x-k ok·x-k) (Facts.exit-2 x-k s (ok·x-k .1) ok·s (is-false (eqb x-k 0) h·1) (above-0 x-k h·1)))))))))
+      alloc1 ! (λ l₀. alloc1 ! (λ l₁. alloc1 ! (λ l₂. alloc1 ! (λ l₃. alloc1 ! (λ l₄. alloc1 ! (λ l₅. alloc0 ! $ params1 ! $
+      pass1 ! (init ! 8 refl (tt, record { fits = ok·x-k .1 })) $ pass1 ! (init ! 6 refl (Store′.typed 𝓤 H A W s ok·s)) $ pass0 ! $
+      move ! (13 ∷ []) $ fsplit ! $ drop ! $ fsplit ! $ drop ! $ drop ! $ move ! (12 ∷ []) $ drop ! $
+      assigns ! (bin ! (load ! (from ! (stop !)) (look ! 8 refl)) (lit ! tt) tt) (from ! (stop !)) (init ! 4 refl (tt, tt)) $
+      branches-on ! (load ! (from ! (stop !)) (look ! 4 refl))
+      (λ h·1. regroup ! $
+      Call-no-windows.calls ! mem run (fmOf 𝓤 H (W .laws) 𝓣) known-no-windows (no-more !)
+      (λ ok·1. land ! (from ! (stop !)) (init ! 0 refl (Windows′.typed 𝓤 H A W (r1 x-k s) ok·1)) $
+      assigns ! (agg ! (and-then ! (lit ! tt) (and-then ! (load ! (from ! (stop !)) (look ! 6 refl)) (and-then ! (load ! (from ! (stop !)) (look ! 0 refl)) (no-more !))))) (from ! (stop !)) (init ! 2 refl (Formatted′.typed 𝓤 H A W (Formatted.Made s (r1 x-k s)) (Formatted′.make-Made s (r1 x-k s) ok·s ok·1))) $
+      assigns ! (of-opd ! (load ! (from ! (stop !)) (look ! 2 refl))) (from ! (stop !)) (init ! 10 refl (Formatted′.typed 𝓤 H A W (Formatted.Made s (r1 x-k s)) (Formatted′.make-Made s (r1 x-k s) ok·s ok·1))) $
+      returns ! (look ! 10 refl) $
+      move ! (10 ∷ 11 ∷ []) $ forget ! 0 refl $ free1 ! $ move ! (8 ∷ 9 ∷ []) $ forget ! 0 refl $ free1 ! $ move ! (6 ∷ 7 ∷ []) $ forget ! 0 refl $ free1 ! $ move ! (4 ∷ 5 ∷ []) $ forget ! 0 refl $ free1 ! $ move ! (2 ∷ 3 ∷ []) $ forget ! 0 refl $ free1 ! $ forget ! 0 refl $ free1 ! $ free0 ! $ by ! (exits (Formatted.Made s (r1 x-k s)) (Formatted′.make-Made s (r1 x-k s) ok·s ok·1) (Facts.exit-1 x-k s (ok·x-k .1) ok·s (is-true (eqb x-k 0) h·1) (eqb→eq x-k 0 h·1) ok·1))))
+      (λ h·1. assigns ! (agg ! (and-then ! (lit ! tt) (and-then ! (load ! (from ! (stop !)) (look ! 8 refl)) (no-more !)))) (from ! (stop !)) (init ! 2 refl (Formatted′.typed 𝓤 H A W (Formatted.Refused x-k) (Formatted′.make-Refused x-k ok·x-k))) $
+      assigns ! (of-opd ! (load ! (from ! (stop !)) (look ! 2 refl))) (from ! (stop !)) (init ! 10 refl (Formatted′.typed 𝓤 H A W (Formatted.Refused x-k) (Formatted′.make-Refused x-k ok·x-k))) $
+      returns ! (look ! 10 refl) $
+      move ! (10 ∷ 11 ∷ []) $ forget ! 0 refl $ free1 ! $ move ! (8 ∷ 9 ∷ []) $ forget ! 0 refl $ free1 ! $ move ! (6 ∷ 7 ∷ []) $ forget ! 0 refl $ free1 ! $ move ! (4 ∷ 5 ∷ []) $ forget ! 0 refl $ free1 ! $ move ! (2 ∷ 3 ∷ []) $ forget ! 0 refl $ free1 ! $ free1 ! $ free0 ! $ by ! (exits (Formatted.Refused x-k) (Formatted′.make-Refused x-k ok·x-k) (Facts.exit-2 x-k s (ok·x-k .1) ok·s (is-false (eqb x-k 0) h·1) (above-0 x-k h·1))))))))))
 
 module _ {M : Type 1} (𝓤 : URA M) (H : Heap 𝓤) (A : Atoms 𝓤) (W : Given 𝓤 H A) (mem : Memory → SProp 𝓤) (run : Routine → Fun 𝓤) where
-  walks : (𝓣 : Tables 𝓤 H) → Walks 𝓤 H A formatted-by‴.ended stayed (WpFn 𝓤 H (𝓣 .C) (𝓣 .Λ) code.function) (formatted-by‴.clauses 𝓤 H A mem run)
-  walks 𝓣 = walked 𝓤 H A formatted-by‴.ended stayed (formatted-by‴.clauses 𝓤 H A mem run) (WpFn 𝓤 H (𝓣 .C) (𝓣 .Λ) code.function) (λ κs. (uint-vals w64, (Store′.vals, tt))) (λ κs. (uint-tells w64, (Store′.tells, tt)))
-      (λ κs qs bounds a g are. via 𝓤 _ (fst∗ 𝓤 _ (emp 𝓤)) (walk 𝓤 H A W mem run (a .0) (a .1 .0) (are .0) (are .1 .0) 𝓣))
+  walks : (𝓣 : Tables 𝓤 H) → Triple 𝓤 (𝓣 .C #no-windows) (Call-no-windows.Asked 𝓤 H A mem run) → Walks 𝓤 H A formatted-by‴.ended stayed (WpFn 𝓤 H (𝓣 .C) (𝓣 .Λ) code.function) (formatted-by‴.clauses 𝓤 H A mem run)
+  walks 𝓣 known-no-windows = walked 𝓤 H A formatted-by‴.ended stayed (formatted-by‴.clauses 𝓤 H A mem run) (WpFn 𝓤 H (𝓣 .C) (𝓣 .Λ) code.function) (λ κs. (uint-vals w64, (Store′.vals, tt))) (λ κs. (uint-tells w64, (Store′.tells, tt)))
+      (λ κs qs bounds a g are. via 𝓤 _ (fst∗ 𝓤 _ (emp 𝓤)) (walk 𝓤 H A W mem run (a .0) (a .1 .0) (are .0) (are .1 .0) 𝓣 known-no-windows))
 
-meets : {M : Type 1} (𝓤 : URA M) (H : Heap 𝓤) (A : Atoms 𝓤) → Given 𝓤 H A → (mem : Memory → SProp 𝓤) (run : Routine → Fun 𝓤) (𝓣 : Tables 𝓤 H)
+meets : {M : Type 1} (𝓤 : URA M) (H : Heap 𝓤) (A : Atoms 𝓤) → Given 𝓤 H A → (mem : Memory → SProp 𝓤) (run : Routine → Fun 𝓤) (𝓣 : Tables 𝓤 H) → Triple 𝓤 (𝓣 .C #no-windows) (Call-no-windows.Asked 𝓤 H A mem run)
     → Meets 𝓤 H A formatted-by‴.signature (WpFn 𝓤 H (𝓣 .C) (𝓣 .Λ) code.function) (formatted-by‴.spec 𝓤 H A mem run)
-meets 𝓤 H A W mem run 𝓣 =
+meets 𝓤 H A W mem run 𝓣 known-no-windows =
     walk-meets 𝓤 H A formatted-by‴.ended stayed W (goes-none 𝓤 H A W 0 (λ _. u64) yes (λ κs x f. refl), (goes-none 𝓤 H A W 0 (λ _. Store′.row) yes (λ κs x f. refl), tt)) (formatted-by‴.clauses 𝓤 H A mem run)
-    (WpFn 𝓤 H (𝓣 .C) (𝓣 .Λ) code.function) (WpFn-mono 𝓤 H (W .laws) 𝓣 code.function) (walks 𝓤 H A W mem run 𝓣)
+    (WpFn 𝓤 H (𝓣 .C) (𝓣 .Λ) code.function) (WpFn-mono 𝓤 H (W .laws) 𝓣 code.function) (walks 𝓤 H A W mem run 𝓣 known-no-windows)
 
 pub formatted-by-spec : {M : Type 1} → stated.statement M
 unfolding code.routine tablesOf
 formatted-by-spec 𝓤 H 𝓜 𝓖 𝓡 =
     entered 𝓤 H (tripleOf 𝓤 H (𝓖 .A) formatted-by‴.signature (formatted-by‴.spec 𝓤 H (𝓖 .A) (𝓜 .mem) (𝓡 .run)))
     (tables 𝓤 H 𝓜 𝓡 code.env .C) (tables 𝓤 H 𝓜 𝓡 code.env .Λ) #self code.function (code.unfolded 𝓤 H 𝓜 𝓡)
-    (meets 𝓤 H (𝓖 .A) (givenOf 𝓤 H 𝓜 𝓖) (𝓜 .mem) (𝓡 .run) (tablesOf 𝓤 H 𝓜 (tables 𝓤 H 𝓜 𝓡 code.env)))
+    (meets 𝓤 H (𝓖 .A) (givenOf 𝓤 H 𝓜 𝓖) (𝓜 .mem) (𝓡 .run) (tablesOf 𝓤 H 𝓜 (tables 𝓤 H 𝓜 𝓡 code.env))
+    (cited 𝓤 H (Call-no-windows.Asked 𝓤 H (𝓖 .A) (𝓜 .mem) (𝓡 .run)) 𝓜 𝓡 code.env #no-windows def-no-windows.routine code.calls-windows·no-windows (thm-no-windows.met 𝓤 H 𝓜 𝓖 𝓡)))

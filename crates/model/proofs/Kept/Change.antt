@@ -19,7 +19,7 @@ use Rattle.model.proofs.Grows.{Grown, line-unmoved}
 use Rattle.model.proofs.Kept.Same.{ticket-same, update-kept, line-same}
 
 abbrev pub changed : Model → ℕ → Ticket → Model
-changed m t k = record { tickets = set (m .tickets) (pred t) k; updates = m .updates; lines = m .lines }
+changed m t k = record { tickets = set (m .tickets) (pred t) k; updates = m .updates; lines = m .lines; windows = m .windows }
 
 module _ (m : Model) (t : ℕ) (x : Ticket) (o : 0 < t) (same : pagesOf x ≡ pagesOf (ticketIn m t)) where
   pub changed-updates : updates (every (changed m t x)) ≡ updates (every m)

@@ -5,19 +5,23 @@ use mathlib.Core.Bool.{Bool, true, false}
 use mathlib.Core.List.{List}
 use Prim.Native.Nat.{ℕ, zero, suc, _<_}
 use native.Mathlib.Omega.{arith}
+use lib.ListN.{length}
 use Rattle.tree.specs.Walk.{used}
 use Rattle.table.proofs.Table.{unless-keeps}
-use Rattle.model.specs.Calls.{Call, BEGIN, PUT, WEAVE, on, Act, WRITE, APPEND, PUBLISH, BRANCH, READ, SIZE, RECENT, STAMP, VIEW}
+use Rattle.windows.specs.Windows.{inside}
+use Rattle.windows.specs.Listed.{textNumber}
+use Rattle.model.specs.Calls.{Call, BEGIN, PUT, WEAVE, SETWINDOWS, on, Act, WRITE, APPEND, PUBLISH, BRANCH, READ, SIZE, RECENT, STAMP, VIEW}
 use Rattle.model.specs.History.{taken, blobSize, due}
 use Rattle.model.specs.Model.{Limits, Model, noModel, history}
-use Rattle.model.specs.OnModel.{either, beginNumber, putNumber, weaveNumber, assignNumber, lineNumber, branchNumber, begun, filledAt, woven, assigned, published, branched, onLine, onModel}
+use Rattle.model.specs.OnModel.{either, beginNumber, putNumber, weaveNumber, assignNumber, publishNumber, branchNumber, begun, filledAt, woven, withWindows, assigned, published, branched, onLine, onModel}
 use Rattle.model.specs.Run.{run, modelAfter}
 use Rattle.model.proofs.Sound.{SoundGiven, LineSound}
-use Rattle.model.proofs.Passed.{line-passed}
+use Rattle.model.proofs.Passed.{publish-passed}
 use Rattle.model.proofs.Runs.{run-keeps}
 use Rattle.model.proofs.Kept.Begin.{begun-sound}
 use Rattle.model.proofs.Kept.Put.{put-sound}
 use Rattle.model.proofs.Kept.Weave.{weave-sound}
+use Rattle.model.proofs.Kept.SetWindows.{windows-sound}
 use Rattle.model.proofs.Kept.Assign.{assign-sound}
 use Rattle.model.proofs.Kept.Publish.{publish-sound}
 use Rattle.model.proofs.Kept.Branch.{branch-sound}
@@ -68,18 +72,23 @@ module _ {A : Type 0} (L : Limits) (m : Model) (S : SoundGiven A L m) where
   unfolding onLine
   assign-step l t f = unless-keeps (SoundGiven A L) (assignNumber L m l t f) m (assigned L m l t f) S (assign-sound L m l t f S)
 
+  -- PUBLISH outside the windows.
+  now-sound : (l : ℕ) → l < length (m .lines) → SoundGiven A L (either (due (history m l)) (published L m l) m)
+  now-sound l there = either-keeps (SoundGiven A L) (due (history m l)) (published L m l) m S (publish-sound L m l there S)
+
   line-sound : (l : ℕ) (a : Act) → SoundGiven A L (onLine L m l a .0)
   unfolding onLine
   line-sound l (WRITE t f) = assign-step l t f
   line-sound l (APPEND t) = assign-step l t (blobSize (history m l))
-  line-sound l PUBLISH =
+  line-sound l (PUBLISH minute) =
+      let now = either (due (history m l)) (published L m l) m in
       unless-keeps
       (SoundGiven A L)
-      (lineNumber L m l)
+      (publishNumber L m l minute)
       m
-      (either (due (history m l)) (published L m l) m)
+      (either (inside (m .windows) minute) m now)
       S
-      (λ z. either-keeps (SoundGiven A L) (due (history m l)) (published L m l) m S (publish-sound L m l (line-passed L m l z) S))
+      (λ z. either-keeps (SoundGiven A L) (inside (m .windows) minute) m now (now-sound l (publish-passed L m l minute z .line)) (λ e. S))
   line-sound l (BRANCH v) = unless-keeps (SoundGiven A L) (branchNumber L m l v) m (branched L m l v) S (branch-sound L m l v S)
   line-sound l (READ v offset len buffer) = S
   line-sound l (SIZE v) = S
@@ -92,6 +101,7 @@ unfolding onModel
 step-sound {A = A} L m (BEGIN n) S = unless-keeps (SoundGiven A L) (beginNumber L m n) m (begun L m n) S (begun-sound L m n S)
 step-sound {A = A} L m (PUT t i bytes) S = unless-keeps (SoundGiven A L) (putNumber L m t i bytes) m (filledAt L m t i bytes) S (put-sound L m t i bytes S)
 step-sound {A = A} L m (WEAVE t) S = unless-keeps (SoundGiven A L) (weaveNumber L m t) m (woven L m t) S (weave-sound L m t S)
+step-sound {A = A} L m (SETWINDOWS t) S = unless-keeps (SoundGiven A L) (textNumber t) m (withWindows L m t) S (λ z. windows-sound L m t S)
 step-sound L m (on l a) S = line-sound L m S l a
 
 -- ---- a list of calls

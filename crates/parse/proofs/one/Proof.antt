@@ -44,19 +44,9 @@ returns-4 : tie.Need-returns-4
 unfolding oneOf
 returns-4 c = rw (c .before .before .before .before .before .before .before .before .before .before .a .given .1, ← c .before .before .before .before .before .before .before .word-is .ensures, c .before .before .before .before .before .before .if1 .left, ← c .before .before .before .before .word-is2 .ensures, c .before .before .before .if2 .left, ← c .before .word-is3 .ensures, c .if3 .taken)
 
-slice-aggregate-word-is-4 : tie.Need-slice-aggregate-word-is-4
-slice-aggregate-word-is-4 c = search needs
-
-word-is-requires-4 : tie.Need-word-is-requires-4
-word-is-requires-4 c κs = search needs
-
 returns-5 : tie.Need-returns-5
 unfolding oneOf
-returns-5 c = rw (c .before .before .before .before .before .before .before .before .before .before .before .before .before .a .given .1, ← c .before .before .before .before .before .before .before .before .before .before .word-is .ensures, c .before .before .before .before .before .before .before .before .before .if1 .left, ← c .before .before .before .before .before .before .before .word-is2 .ensures, c .before .before .before .before .before .before .if2 .left, ← c .before .before .before .before .word-is3 .ensures, c .before .before .before .if3 .left, ← c .before .word-is4 .ensures, c .if4 .taken)
-
-returns-6 : tie.Need-returns-6
-unfolding oneOf
-returns-6 c = rw (c .before .before .before .before .before .before .before .before .before .before .before .before .before .a .given .1, ← c .before .before .before .before .before .before .before .before .before .before .word-is .ensures, c .before .before .before .before .before .before .before .before .before .if1 .left, ← c .before .before .before .before .before .before .before .word-is2 .ensures, c .before .before .before .before .before .before .if2 .left, ← c .before .before .before .before .word-is3 .ensures, c .before .before .before .if3 .left, ← c .before .word-is4 .ensures, c .if4 .left)
+returns-5 c = rw (c .before .before .before .before .before .before .before .before .before .before .a .given .1, ← c .before .before .before .before .before .before .before .word-is .ensures, c .before .before .before .before .before .before .if1 .left, ← c .before .before .before .before .word-is2 .ensures, c .before .before .before .if2 .left, ← c .before .word-is3 .ensures, c .if3 .left)
 
 pub one-spec : {M : Type 1} → statement M
 one-spec =
@@ -74,7 +64,4 @@ one-spec =
     slice-aggregate-word-is-3
     word-is-requires-3
     returns-4
-    slice-aggregate-word-is-4
-    word-is-requires-4
-    returns-5
-    returns-6)
+    returns-5)

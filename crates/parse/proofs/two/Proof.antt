@@ -54,9 +54,19 @@ returns-5 : tie.Need-returns-5
 unfolding twoOf
 returns-5 c = rw (c .before .before .before .before .before .before .before .before .before .before .before .before .before .a .given .1, c .before .before .before .before .before .before .before .before .before .before .b .given .1, ← c .before .before .before .before .before .before .before .word-is .ensures, c .before .before .before .before .before .before .if1 .left, ← c .before .before .before .before .word-is2 .ensures, c .before .before .before .if2 .left, ← c .before .word-is3 .ensures, c .if3 .taken)
 
+slice-aggregate-word-is-4 : tie.Need-slice-aggregate-word-is-4
+slice-aggregate-word-is-4 c = search needs
+
+word-is-requires-4 : tie.Need-word-is-requires-4
+word-is-requires-4 c κs = search needs
+
 returns-6 : tie.Need-returns-6
 unfolding twoOf
-returns-6 c = rw (c .before .before .before .before .before .before .before .before .before .before .before .before .before .a .given .1, c .before .before .before .before .before .before .before .before .before .before .b .given .1, ← c .before .before .before .before .before .before .before .word-is .ensures, c .before .before .before .before .before .before .if1 .left, ← c .before .before .before .before .word-is2 .ensures, c .before .before .before .if2 .left, ← c .before .word-is3 .ensures, c .if3 .left)
+returns-6 c = rw (c .before .before .before .before .before .before .before .before .before .before .before .before .before .before .before .before .a .given .1, c .before .before .before .before .before .before .before .before .before .before .before .before .before .b .given .1, ← c .before .before .before .before .before .before .before .before .before .before .word-is .ensures, c .before .before .before .before .before .before .before .before .before .if1 .left, ← c .before .before .before .before .before .before .before .word-is2 .ensures, c .before .before .before .before .before .before .if2 .left, ← c .before .before .before .before .word-is3 .ensures, c .before .before .before .if3 .left, ← c .before .word-is4 .ensures, c .if4 .taken)
+
+returns-7 : tie.Need-returns-7
+unfolding twoOf
+returns-7 c = rw (c .before .before .before .before .before .before .before .before .before .before .before .before .before .before .before .before .a .given .1, c .before .before .before .before .before .before .before .before .before .before .before .before .before .b .given .1, ← c .before .before .before .before .before .before .before .before .before .before .word-is .ensures, c .before .before .before .before .before .before .before .before .before .if1 .left, ← c .before .before .before .before .before .before .before .word-is2 .ensures, c .before .before .before .before .before .before .if2 .left, ← c .before .before .before .before .word-is3 .ensures, c .before .before .before .if3 .left, ← c .before .word-is4 .ensures, c .if4 .left)
 
 pub two-spec : {M : Type 1} → statement M
 two-spec =
@@ -77,4 +87,7 @@ two-spec =
     slice-aggregate-word-is-3
     word-is-requires-3
     returns-5
-    returns-6)
+    slice-aggregate-word-is-4
+    word-is-requires-4
+    returns-6
+    returns-7)

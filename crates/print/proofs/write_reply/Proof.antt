@@ -88,8 +88,8 @@ slice-aggregate-write-line-14 c = search needs
 write-line-requires-7 : tie.Need-write-line-requires-7
 write-line-requires-7 c κs = search needs
 
-enum-known-r-5 : tie.Need-enum-known-r-5
-enum-known-r-5 c = search needs
+enum-told-4 : tie.Need-enum-told-4
+enum-told-4 c = search needs
 
 slice-aggregate-write-line-15 : tie.Need-slice-aggregate-write-line-15
 slice-aggregate-write-line-15 c = search needs
@@ -100,8 +100,8 @@ slice-aggregate-write-line-16 c = search needs
 write-line-requires-8 : tie.Need-write-line-requires-8
 write-line-requires-8 c κs = search needs
 
-enum-known-r-6 : tie.Need-enum-known-r-6
-enum-known-r-6 c = search needs
+enum-known-r-5 : tie.Need-enum-known-r-5
+enum-known-r-5 c = search needs
 
 slice-aggregate-write-line-17 : tie.Need-slice-aggregate-write-line-17
 slice-aggregate-write-line-17 c = search needs
@@ -112,8 +112,8 @@ slice-aggregate-write-line-18 c = search needs
 write-line-requires-9 : tie.Need-write-line-requires-9
 write-line-requires-9 c κs = search needs
 
-enum-known-r-7 : tie.Need-enum-known-r-7
-enum-known-r-7 c = search needs
+enum-known-r-6 : tie.Need-enum-known-r-6
+enum-known-r-6 c = search needs
 
 slice-aggregate-write-line-19 : tie.Need-slice-aggregate-write-line-19
 slice-aggregate-write-line-19 c = search needs
@@ -124,8 +124,8 @@ slice-aggregate-write-line-20 c = search needs
 write-line-requires-10 : tie.Need-write-line-requires-10
 write-line-requires-10 c κs = search needs
 
-enum-known-r-8 : tie.Need-enum-known-r-8
-enum-known-r-8 c = search needs
+enum-known-r-7 : tie.Need-enum-known-r-7
+enum-known-r-7 c = search needs
 
 slice-aggregate-write-line-21 : tie.Need-slice-aggregate-write-line-21
 slice-aggregate-write-line-21 c = search needs
@@ -136,8 +136,8 @@ slice-aggregate-write-line-22 c = search needs
 write-line-requires-11 : tie.Need-write-line-requires-11
 write-line-requires-11 c κs = search needs
 
-enum-known-r-9 : tie.Need-enum-known-r-9
-enum-known-r-9 c = search needs
+enum-known-r-8 : tie.Need-enum-known-r-8
+enum-known-r-8 c = search needs
 
 slice-aggregate-write-line-23 : tie.Need-slice-aggregate-write-line-23
 slice-aggregate-write-line-23 c = search needs
@@ -147,6 +147,18 @@ slice-aggregate-write-line-24 c = search needs
 
 write-line-requires-12 : tie.Need-write-line-requires-12
 write-line-requires-12 c κs = search needs
+
+enum-known-r-9 : tie.Need-enum-known-r-9
+enum-known-r-9 c = search needs
+
+slice-aggregate-write-line-25 : tie.Need-slice-aggregate-write-line-25
+slice-aggregate-write-line-25 c = search needs
+
+slice-aggregate-write-line-26 : tie.Need-slice-aggregate-write-line-26
+slice-aggregate-write-line-26 c = search needs
+
+write-line-requires-13 : tie.Need-write-line-requires-13
+write-line-requires-13 c κs = search needs
 
 same-length : tie.Need-same-length
 same-length c = search needs
@@ -202,35 +214,42 @@ same-length-8 c = search needs
 
 returns-8 : tie.Need-returns-8
 unfolding replyLine
-returns-8 c = rw (c .before .before .before .before .before .before .before .r5 .given .1) (c .before .before .write-line8 .ensures)
+returns-8 c = rw (c .before .before .before .before .before .before .enum-told4 .given .1) (c .before .before .write-line8 .ensures)
 
 same-length-9 : tie.Need-same-length-9
 same-length-9 c = search needs
 
 returns-9 : tie.Need-returns-9
 unfolding replyLine
-returns-9 c = rw (c .before .before .before .before .before .before .before .r6 .given .1) (c .before .before .write-line9 .ensures)
+returns-9 c = rw (c .before .before .before .before .before .before .before .r5 .given .1) (c .before .before .write-line9 .ensures)
 
 same-length-10 : tie.Need-same-length-10
 same-length-10 c = search needs
 
 returns-10 : tie.Need-returns-10
 unfolding replyLine
-returns-10 c = rw (c .before .before .before .before .before .before .before .r7 .given .1) (c .before .before .write-line10 .ensures)
+returns-10 c = rw (c .before .before .before .before .before .before .before .r6 .given .1) (c .before .before .write-line10 .ensures)
 
 same-length-11 : tie.Need-same-length-11
 same-length-11 c = search needs
 
 returns-11 : tie.Need-returns-11
 unfolding replyLine
-returns-11 c = rw (c .before .before .before .before .before .before .before .r8 .given .1) (c .before .before .write-line11 .ensures)
+returns-11 c = rw (c .before .before .before .before .before .before .before .r7 .given .1) (c .before .before .write-line11 .ensures)
 
 same-length-12 : tie.Need-same-length-12
 same-length-12 c = search needs
 
 returns-12 : tie.Need-returns-12
 unfolding replyLine
-returns-12 c = rw (c .before .before .before .before .before .before .before .r9 .given .1) (c .before .before .write-line12 .ensures)
+returns-12 c = rw (c .before .before .before .before .before .before .before .r8 .given .1) (c .before .before .write-line12 .ensures)
+
+same-length-13 : tie.Need-same-length-13
+same-length-13 c = search needs
+
+returns-13 : tie.Need-returns-13
+unfolding replyLine
+returns-13 c = rw (c .before .before .before .before .before .before .before .r9 .given .1) (c .before .before .write-line13 .ensures)
 
 pub write-reply-spec : {M : Type 1} → statement M
 write-reply-spec =
@@ -264,26 +283,30 @@ write-reply-spec =
     slice-aggregate-write-line-13
     slice-aggregate-write-line-14
     write-line-requires-7
-    enum-known-r-5
+    enum-told-4
     slice-aggregate-write-line-15
     slice-aggregate-write-line-16
     write-line-requires-8
-    enum-known-r-6
+    enum-known-r-5
     slice-aggregate-write-line-17
     slice-aggregate-write-line-18
     write-line-requires-9
-    enum-known-r-7
+    enum-known-r-6
     slice-aggregate-write-line-19
     slice-aggregate-write-line-20
     write-line-requires-10
-    enum-known-r-8
+    enum-known-r-7
     slice-aggregate-write-line-21
     slice-aggregate-write-line-22
     write-line-requires-11
-    enum-known-r-9
+    enum-known-r-8
     slice-aggregate-write-line-23
     slice-aggregate-write-line-24
     write-line-requires-12
+    enum-known-r-9
+    slice-aggregate-write-line-25
+    slice-aggregate-write-line-26
+    write-line-requires-13
     same-length
     returns
     same-length-2
@@ -307,4 +330,6 @@ write-reply-spec =
     same-length-11
     returns-11
     same-length-12
-    returns-12)
+    returns-12
+    same-length-13
+    returns-13)

@@ -51,6 +51,10 @@ use Rattle.publish.specs.declared.Published.{Published}
 use Rattle.publish.proofs.Generated.Kind.Published as Published′
 use Rattle.tree.specs.declared.Version.{Version}
 use Rattle.register.proofs.Generated.Kind.Version as Version′
+use Rattle.windows.specs.declared.Windows.{Windows}
+use Rattle.windows.proofs.Generated.Kind.Windows as Windows′
+use Rattle.windows.specs.declared.Window.{Window}
+use Rattle.windows.proofs.Generated.Kind.Window as Window′
 use Rattle.register.specs.declared.Record.{Record}
 use Rattle.register.proofs.Generated.Kind.Record as Record′
 use Rattle.tree.specs.declared.PageIndex.{PageIndex}
@@ -87,6 +91,11 @@ use Rattle.register.proofs.Generated.Call.version_part as Call-version-part
 use Rattle.register.proofs.version_part.Symbol as def-version-part
 use Rattle.register.proofs.version_part.Symbol.{name as #version-part}
 use Rattle.register.proofs.version_part.Met as thm-version-part
+use Rattle.publish.proofs.Generated.Say.is_inside as is-inside″
+use Rattle.publish.proofs.Generated.Call.is_inside as Call-is-inside
+use Rattle.windows.proofs.is_inside.Symbol as def-is-inside
+use Rattle.windows.proofs.is_inside.Symbol.{name as #is-inside}
+use Rattle.windows.proofs.is_inside.Met as thm-is-inside
 use Rattle.versions.proofs.Generated.Say.line_refusal as line-refusal″
 use Rattle.versions.proofs.Generated.Call.line_refusal as Call-line-refusal
 use Rattle.versions.proofs.line_refusal.Symbol as def-line-refusal
@@ -113,17 +122,17 @@ use Rattle.publish.proofs.publish.Statement as stated
 use Rattle.publish.proofs.publish.Code as code
 use Rattle.publish.proofs.publish.Proof.Facts as Facts
 use denote.Memory.{pointee}
-use Rattle.publish.proofs.publish.Proof.Asks.{r1, r2, r3, r4, r5, r6, r7, r8}
+use Rattle.publish.proofs.publish.Proof.Asks.{r1, r2, r3, r4, r5, r6, r7, r8, r9}
 
 abbrev stayed : Stays (publish‴.ended .signature .params) (publish‴.ended .kept)
-stayed = (stay-none (λ _. Store′.row) yes, (stay-none-slice (0 ∷ []) tt (plain (λ _. u8)) yes, (stay-none-slice (1 ∷ []) tt (plain (λ _. u32)) yes, (stay-none-slice (2 ∷ []) tt (plain (λ _. Record′.row)) yes, (stay-none (λ _. Line′.row) yes, tt)))))
+stayed = (stay-none (λ _. Store′.row) yes, (stay-none (λ _. Windows′.row) yes, (stay-none-slice (0 ∷ []) tt (plain (λ _. u8)) yes, (stay-none-slice (1 ∷ []) tt (plain (λ _. u32)) yes, (stay-none-slice (2 ∷ []) tt (plain (λ _. Record′.row)) yes, (stay-none (λ _. Line′.row) yes, (stay-none (λ _. u64) yes, tt)))))))
 
-module _ {M : Type 1} (𝓤 : URA M) (H : Heap 𝓤) (A : Atoms 𝓤) (W : Given 𝓤 H A) (mem : Memory → SProp 𝓤) (run : Routine → Fun 𝓤) (s : Store) (κ·pages : Lft) (q·pages : Share) (b·pages o·pages : ℕ) (γ·pages : GName) (pages : List ℕ) (κ·nodes : Lft) (q·nodes : Share) (b·nodes o·nodes : ℕ) (γ·nodes : GName) (nodes : List ℕ) (κ·register : Lft) (q·register : Share) (b·register o·register : ℕ) (γ·register : GName) (register : List Record) (x-l : Line) (ok·s : Is Store′.row s (Store′.vals s)) (room·pages : Room u8 (length pages)) (room·nodes : Room u32 (length nodes)) (room·register : Room Record′.row (length register)) (ok·x-l : Is Line′.row x-l (Line′.vals x-l)) where
+module _ {M : Type 1} (𝓤 : URA M) (H : Heap 𝓤) (A : Atoms 𝓤) (W : Given 𝓤 H A) (mem : Memory → SProp 𝓤) (run : Routine → Fun 𝓤) (s : Store) (w : Windows) (κ·pages : Lft) (q·pages : Share) (b·pages o·pages : ℕ) (γ·pages : GName) (pages : List ℕ) (κ·nodes : Lft) (q·nodes : Share) (b·nodes o·nodes : ℕ) (γ·nodes : GName) (nodes : List ℕ) (κ·register : Lft) (q·register : Share) (b·register o·register : ℕ) (γ·register : GName) (register : List Record) (x-l : Line) (minute : ℕ) (ok·s : Is Store′.row s (Store′.vals s)) (ok·w : Is Windows′.row w (Windows′.vals w)) (room·pages : Room u8 (length pages)) (room·nodes : Room u32 (length nodes)) (room·register : Room Record′.row (length register)) (ok·x-l : Is Line′.row x-l (Line′.vals x-l)) (ok·minute : Is u64 minute (uint-vals w64 minute)) where
   abbrev all-args : Args publish‴.signature (κ·pages, (κ·nodes, (κ·register, tt)))
-  all-args = (s, (ref b·pages o·pages γ·pages pages, (ref b·nodes o·nodes γ·nodes nodes, (ref b·register o·register γ·register register, (x-l, tt)))))
+  all-args = (s, (w, (ref b·pages o·pages γ·pages pages, (ref b·nodes o·nodes γ·nodes nodes, (ref b·register o·register γ·register register, (x-l, (minute, tt)))))))
 
   abbrev all-vals : Vals publish‴.signature (κ·pages, (κ·nodes, (κ·register, tt)))
-  all-vals = (Store′.mach s ∷ [], (sliceVal (b·pages, o·pages) (length pages) ∷ [], (sliceVal (b·nodes, o·nodes) (length nodes) ∷ [], (sliceVal (b·register, o·register) (length register) ∷ [], (Line′.mach x-l ∷ [], tt)))))
+  all-vals = (Store′.mach s ∷ [], (Windows′.mach w ∷ [], (sliceVal (b·pages, o·pages) (length pages) ∷ [], (sliceVal (b·nodes, o·nodes) (length nodes) ∷ [], (sliceVal (b·register, o·register) (length register) ∷ [], (Line′.mach x-l ∷ [], (vint w64 minute ∷ [], tt)))))))
 
   abbrev bound : walkOf 𝓤 H A publish‴.ended stayed (publish‴.clauses 𝓤 H A mem run) .Ghost
   bound = (((κ·pages, (κ·nodes, (κ·register, tt))), (q·pages, (q·nodes, (q·register, tt))), tt, all-args, all-vals), tt)
@@ -131,56 +140,59 @@ module _ {M : Type 1} (𝓤 : URA M) (H : Heap 𝓤) (A : Atoms 𝓤) (W : Given
   abbrev Post : Val → SProp 𝓤
   Post = walkOf 𝓤 H A publish‴.ended stayed (publish‴.clauses 𝓤 H A mem run) .post bound
 
-  exits : (r : PublishOut) → Is PublishOut′.row r (PublishOut′.vals r) → publish″.ens s pages nodes register x-l r → ent 𝓤 (⋆ 𝓤 H A (‵ (flft κ·pages q·pages) ∷ ‵ (ShrAt u8 κ·pages b·pages o·pages γ·pages (length pages) pages) ∷ ‵ (flft κ·nodes q·nodes) ∷ ‵ (ShrAt u32 κ·nodes b·nodes o·nodes γ·nodes (length nodes) nodes) ∷ ‵ (flft κ·register q·register) ∷ ‵ (ShrAt Record′.row κ·register b·register o·register γ·register (length register) register) ∷ [])) (Post (PublishOut′.mach r))
+  exits : (r : PublishOut) → Is PublishOut′.row r (PublishOut′.vals r) → publish″.ens s w pages nodes register x-l minute r → ent 𝓤 (⋆ 𝓤 H A (‵ (flft κ·pages q·pages) ∷ ‵ (ShrAt u8 κ·pages b·pages o·pages γ·pages (length pages) pages) ∷ ‵ (flft κ·nodes q·nodes) ∷ ‵ (ShrAt u32 κ·nodes b·nodes o·nodes γ·nodes (length nodes) nodes) ∷ ‵ (flft κ·register q·register) ∷ ‵ (ShrAt Record′.row κ·register b·register o·register γ·register (length register) register) ∷ [])) (Post (PublishOut′.mach r))
   exits r ok·r said =
-      qed W (‵ (flft κ·pages q·pages) ∷ ‵ (ShrAt u8 κ·pages b·pages o·pages γ·pages (length pages) pages) ∷ ‵ (flft κ·nodes q·nodes) ∷ ‵ (ShrAt u32 κ·nodes b·nodes o·nodes γ·nodes (length nodes) nodes) ∷ ‵ (flft κ·register q·register) ∷ ‵ (ShrAt Record′.row κ·register b·register o·register γ·register (length register) register) ∷ []) ∵ suffices ! _ (ends-at 𝓤 H A publish‴.ended stayed (publish‴.clauses 𝓤 H A mem run) W bound (PublishOut′.mach r) r (tt, (tt, (tt, (tt, (tt, tt))))) (tt, (tt, (tt, (tt, (tt, tt)))))) $ says ! said $
-      nothing ! $ move ! (5 ∷ 0 ∷ []) $ join ! $ move ! (3 ∷ 0 ∷ []) $ join ! $ move ! (1 ∷ 0 ∷ []) $ join ! $ frame ! $ nothing ! $ owned ! Line′.row (Is Line′.row) (Line′.makes 𝓤 H A) x-l _ ok·x-l $ fjoin ! $ move ! (3 ∷ 0 ∷ []) $ fjoin ! $ move ! (2 ∷ 0 ∷ []) $ fjoin ! $ move ! (1 ∷ 0 ∷ []) $ fjoin ! $ owned ! Store′.row (Is Store′.row) (Store′.makes 𝓤 H A) s _ ok·s $ fjoin ! $ frame ! $ owned ! PublishOut′.row (Is PublishOut′.row) (PublishOut′.makes 𝓤 H A) r _ ok·r $ done !
+      qed W (‵ (flft κ·pages q·pages) ∷ ‵ (ShrAt u8 κ·pages b·pages o·pages γ·pages (length pages) pages) ∷ ‵ (flft κ·nodes q·nodes) ∷ ‵ (ShrAt u32 κ·nodes b·nodes o·nodes γ·nodes (length nodes) nodes) ∷ ‵ (flft κ·register q·register) ∷ ‵ (ShrAt Record′.row κ·register b·register o·register γ·register (length register) register) ∷ []) ∵ suffices ! _ (ends-at 𝓤 H A publish‴.ended stayed (publish‴.clauses 𝓤 H A mem run) W bound (PublishOut′.mach r) r (tt, (tt, (tt, (tt, (tt, (tt, (tt, tt))))))) (tt, (tt, (tt, (tt, (tt, (tt, (tt, tt)))))))) $ says ! said $
+      nothing ! $ move ! (5 ∷ 0 ∷ []) $ join ! $ move ! (3 ∷ 0 ∷ []) $ join ! $ move ! (1 ∷ 0 ∷ []) $ join ! $ frame ! $ nothing ! $ owned ! u64 (Is u64) (uint-makes 𝓤 H A W w64) minute _ ok·minute $ fjoin ! $ owned ! Line′.row (Is Line′.row) (Line′.makes 𝓤 H A) x-l _ ok·x-l $ fjoin ! $ move ! (3 ∷ 0 ∷ []) $ fjoin ! $ move ! (2 ∷ 0 ∷ []) $ fjoin ! $ move ! (1 ∷ 0 ∷ []) $ fjoin ! $ owned ! Windows′.row (Is Windows′.row) (Windows′.makes 𝓤 H A) w _ ok·w $ fjoin ! $ owned ! Store′.row (Is Store′.row) (Store′.makes 𝓤 H A) s _ ok·s $ fjoin ! $ frame ! $ owned ! PublishOut′.row (Is PublishOut′.row) (PublishOut′.makes 𝓤 H A) r _ ok·r $ done !
 
-  walk : (𝓣 : Tables 𝓤 H) (known-lengths-of : Triple 𝓤 (𝓣 .C #lengths-of) (Call-lengths-of.Asked 𝓤 H A mem run)) (known-line-state : Triple 𝓤 (𝓣 .C #line-state) (Call-line-state.Asked 𝓤 H A mem run)) (known-next-number : Triple 𝓤 (𝓣 .C #next-number) (Call-next-number.Asked 𝓤 H A mem run)) (known-version-part : Triple 𝓤 (𝓣 .C #version-part) (Call-version-part.Asked 𝓤 H A mem run)) (known-line-refusal : Triple 𝓤 (𝓣 .C #line-refusal) (Call-line-refusal.Asked 𝓤 H A mem run)) (known-publish-refusal : Triple 𝓤 (𝓣 .C #publish-refusal) (Call-publish-refusal.Asked 𝓤 H A mem run)) (known-is-due : Triple 𝓤 (𝓣 .C #is-due) (Call-is-due.Asked 𝓤 H A mem run)) (known-published-by : Triple 𝓤 (𝓣 .C #published-by) (Call-published-by.Asked 𝓤 H A mem run)) → ent 𝓤 (onEntry 𝓤 H A publish‴.signature (κ·pages, (κ·nodes, (κ·register, tt))) (q·pages, (q·nodes, (q·register, tt))) all-args all-vals)
-      (WpFn 𝓤 H (𝓣 .C) (𝓣 .Λ) code.function (Store′.mach s ∷ sliceVal (b·pages, o·pages) (length pages) ∷ sliceVal (b·nodes, o·nodes) (length nodes) ∷ sliceVal (b·register, o·register) (length register) ∷ Line′.mach x-l ∷ []) Post)
-  walk 𝓣 known-lengths-of known-line-state known-next-number known-version-part known-line-refusal known-publish-refusal known-is-due known-published-by =
-      qed W ((‵ (flft κ·pages q·pages) ⊛ ‵ (flft κ·nodes q·nodes) ⊛ ‵ (flft κ·register q·register) ⊛ ‵ ftrue) ∷ ‵ (owns (Store′.row ∷ ShrSlice (named 0) κ·pages u8 ∷ ShrSlice (named 0) κ·nodes u32 ∷ ShrSlice (named 0) κ·register Record′.row ∷ Line′.row ∷ []) all-args all-vals) ∷ []) ∵ enter ! (𝓣 .C) (𝓣 .Λ) code.function (Store′.mach s ∷ sliceVal (b·pages, o·pages) (length pages) ∷ sliceVal (b·nodes, o·nodes) (length nodes) ∷ sliceVal (b·register, o·register) (length register) ∷ Line′.mach x-l ∷ []) _ $
-      alloc1 ! (λ l₀. alloc1 ! (λ l₁. alloc1 ! (λ l₂. alloc1 ! (λ l₃. alloc1 ! (λ l₄. alloc1 ! (λ l₅. alloc1 ! (λ l₆. alloc1 ! (λ l₇. alloc1 ! (λ l₈. alloc1 ! (λ l₉. alloc1 ! (λ l₁₀. alloc1 ! (λ l₁₁. alloc1 ! (λ l₁₂. alloc0 ! $ params1 ! $
-      pass1 ! (init ! 22 refl (Store′.typed 𝓤 H A W s ok·s)) $ pass1 ! (init ! 20 refl (tt, (tt, (record { fits = room·pages .0 }, tt)))) $ pass1 ! (init ! 18 refl (tt, (tt, (record { fits = room·nodes .0 }, tt)))) $ pass1 ! (init ! 16 refl (tt, (tt, (record { fits = room·register .0 }, tt)))) $ pass1 ! (init ! 14 refl (Line′.typed 𝓤 H A W x-l ok·x-l)) $ pass0 ! $
-      move ! (27 ∷ []) $ fsplit ! $ drop ! $ fsplit ! $ move ! (1 ∷ []) $ fsplit ! $ move ! (1 ∷ []) $ fsplit ! $ move ! (1 ∷ []) $ fsplit ! $ drop ! $ drop ! $ move ! (29 ∷ []) $ split ! $ move ! (1 ∷ []) $ split ! $ move ! (1 ∷ []) $ split ! $ move ! (1 ∷ []) $ drop ! $ move ! (2 ∷ 5 ∷ 1 ∷ 4 ∷ 0 ∷ 3 ∷ []) $
-      Call-lengths-of.calls ! mem run (fmOf 𝓤 H (W .laws) 𝓣) known-lengths-of κ·pages q·pages b·pages o·pages γ·pages (length pages) pages κ·nodes q·nodes b·nodes o·nodes γ·nodes (length nodes) nodes κ·register q·register b·register o·register γ·register (length register) register (and-then ! (load ! (from ! (stop !)) (look ! 24 refl)) (and-then ! (load ! (from ! (stop !)) (look ! 22 refl)) (and-then ! (load ! (from ! (stop !)) (look ! 20 refl)) (no-more !))))
-      (λ ok·1. land ! (from ! (stop !)) (init ! 18 refl (Lengths′.typed 𝓤 H A W (r1 s pages nodes register x-l) ok·1)) $
-      here ! (‵ (flft κ·pages q·pages) ∷ ‵ (ShrAt u8 κ·pages b·pages o·pages γ·pages (length pages) pages) ∷ ‵ (flft κ·nodes q·nodes) ∷ ‵ (ShrAt u32 κ·nodes b·nodes o·nodes γ·nodes (length nodes) nodes) ∷ ‵ (flft κ·register q·register) ∷ ‵ (ShrAt Record′.row κ·register b·register o·register γ·register (length register) register) ∷ empty tyBool l₁₂ (empty (tyInt w64) l₁₁ (empty (tyInt w64) l₁₀ (empty (tyAt (code.function .locals) 9) l₉ (empty (tyInt w64) l₈ (empty (tyAt (code.function .locals) 7) l₇ (holds (tyAt (code.function .locals) 6) l₆ (Lengths′.mach (r1 s pages nodes register x-l)) (holds (tyAt (code.function .locals) 5) l₅ (Line′.mach x-l) (holds (sliceTy (tyRef (named 2) imm (pointee (Record′.row .written)))) l₄ (sliceVal (b·register, o·register) (length register)) (holds (sliceTy (tyRef (named 1) imm (pointee (u32 .written)))) l₃ (sliceVal (b·nodes, o·nodes) (length nodes)) (holds (sliceTy (tyRef (named 0) imm (pointee (u8 .written)))) l₂ (sliceVal (b·pages, o·pages) (length pages)) (holds (tyAt (code.function .locals) 1) l₁ (Store′.mach s) (empty (tyAt (code.function .locals) 0) l₀ []))))))))))))) $
-      Call-line-state.calls ! mem run (fmOf 𝓤 H (W .laws) 𝓣) known-line-state s x-l ok·s ok·x-l (and-then ! (load ! (from ! (stop !)) (look ! 29 refl)) (and-then ! (load ! (from ! (stop !)) (look ! 21 refl)) (no-more !)))
-      (λ ok·2. land ! (from ! (stop !)) (init ! 16 refl (Branch′.typed 𝓤 H A W (r2 s pages nodes register x-l) ok·2)) $
-      here ! (‵ (flft κ·pages q·pages) ∷ ‵ (ShrAt u8 κ·pages b·pages o·pages γ·pages (length pages) pages) ∷ ‵ (flft κ·nodes q·nodes) ∷ ‵ (ShrAt u32 κ·nodes b·nodes o·nodes γ·nodes (length nodes) nodes) ∷ ‵ (flft κ·register q·register) ∷ ‵ (ShrAt Record′.row κ·register b·register o·register γ·register (length register) register) ∷ empty tyBool l₁₂ (empty (tyInt w64) l₁₁ (empty (tyInt w64) l₁₀ (empty (tyAt (code.function .locals) 9) l₉ (empty (tyInt w64) l₈ (holds (tyAt (code.function .locals) 7) l₇ (Branch′.mach (r2 s pages nodes register x-l)) (holds (tyAt (code.function .locals) 6) l₆ (Lengths′.mach (r1 s pages nodes register x-l)) (holds (tyAt (code.function .locals) 5) l₅ (Line′.mach x-l) (holds (sliceTy (tyRef (named 2) imm (pointee (Record′.row .written)))) l₄ (sliceVal (b·register, o·register) (length register)) (holds (sliceTy (tyRef (named 1) imm (pointee (u32 .written)))) l₃ (sliceVal (b·nodes, o·nodes) (length nodes)) (holds (sliceTy (tyRef (named 0) imm (pointee (u8 .written)))) l₂ (sliceVal (b·pages, o·pages) (length pages)) (holds (tyAt (code.function .locals) 1) l₁ (Store′.mach s) (empty (tyAt (code.function .locals) 0) l₀ []))))))))))))) $
-      Call-next-number.calls ! mem run (fmOf 𝓤 H (W .laws) 𝓣) known-next-number x-l (r2 s pages nodes register x-l) ok·x-l ok·2 (and-then ! (load ! (from ! (stop !)) (look ! 21 refl)) (and-then ! (load ! (from ! (stop !)) (look ! 17 refl)) (no-more !)))
-      (λ ok·3. land ! (from ! (stop !)) (init ! 14 refl (tt, record { fits = ok·3 .1 })) $
-      here ! (‵ (flft κ·pages q·pages) ∷ ‵ (ShrAt u8 κ·pages b·pages o·pages γ·pages (length pages) pages) ∷ ‵ (flft κ·nodes q·nodes) ∷ ‵ (ShrAt u32 κ·nodes b·nodes o·nodes γ·nodes (length nodes) nodes) ∷ ‵ (flft κ·register q·register) ∷ ‵ (ShrAt Record′.row κ·register b·register o·register γ·register (length register) register) ∷ empty tyBool l₁₂ (empty (tyInt w64) l₁₁ (empty (tyInt w64) l₁₀ (empty (tyAt (code.function .locals) 9) l₉ (holds (tyInt w64) l₈ (vint w64 (r3 s pages nodes register x-l)) (holds (tyAt (code.function .locals) 7) l₇ (Branch′.mach (r2 s pages nodes register x-l)) (holds (tyAt (code.function .locals) 6) l₆ (Lengths′.mach (r1 s pages nodes register x-l)) (holds (tyAt (code.function .locals) 5) l₅ (Line′.mach x-l) (holds (sliceTy (tyRef (named 2) imm (pointee (Record′.row .written)))) l₄ (sliceVal (b·register, o·register) (length register)) (holds (sliceTy (tyRef (named 1) imm (pointee (u32 .written)))) l₃ (sliceVal (b·nodes, o·nodes) (length nodes)) (holds (sliceTy (tyRef (named 0) imm (pointee (u8 .written)))) l₂ (sliceVal (b·pages, o·pages) (length pages)) (holds (tyAt (code.function .locals) 1) l₁ (Store′.mach s) (empty (tyAt (code.function .locals) 0) l₀ []))))))))))))) $
+  walk : (𝓣 : Tables 𝓤 H) (known-lengths-of : Triple 𝓤 (𝓣 .C #lengths-of) (Call-lengths-of.Asked 𝓤 H A mem run)) (known-line-state : Triple 𝓤 (𝓣 .C #line-state) (Call-line-state.Asked 𝓤 H A mem run)) (known-next-number : Triple 𝓤 (𝓣 .C #next-number) (Call-next-number.Asked 𝓤 H A mem run)) (known-version-part : Triple 𝓤 (𝓣 .C #version-part) (Call-version-part.Asked 𝓤 H A mem run)) (known-is-inside : Triple 𝓤 (𝓣 .C #is-inside) (Call-is-inside.Asked 𝓤 H A mem run)) (known-line-refusal : Triple 𝓤 (𝓣 .C #line-refusal) (Call-line-refusal.Asked 𝓤 H A mem run)) (known-publish-refusal : Triple 𝓤 (𝓣 .C #publish-refusal) (Call-publish-refusal.Asked 𝓤 H A mem run)) (known-is-due : Triple 𝓤 (𝓣 .C #is-due) (Call-is-due.Asked 𝓤 H A mem run)) (known-published-by : Triple 𝓤 (𝓣 .C #published-by) (Call-published-by.Asked 𝓤 H A mem run)) → ent 𝓤 (onEntry 𝓤 H A publish‴.signature (κ·pages, (κ·nodes, (κ·register, tt))) (q·pages, (q·nodes, (q·register, tt))) all-args all-vals)
+      (WpFn 𝓤 H (𝓣 .C) (𝓣 .Λ) code.function (Store′.mach s ∷ Windows′.mach w ∷ sliceVal (b·pages, o·pages) (length pages) ∷ sliceVal (b·nodes, o·nodes) (length nodes) ∷ sliceVal (b·register, o·register) (length register) ∷ Line′.mach x-l ∷ vint w64 minute ∷ []) Post)
+  walk 𝓣 known-lengths-of known-line-state known-next-number known-version-part known-is-inside known-line-refusal known-publish-refusal known-is-due known-published-by =
+      qed W ((‵ (flft κ·pages q·pages) ⊛ ‵ (flft κ·nodes q·nodes) ⊛ ‵ (flft κ·register q·register) ⊛ ‵ ftrue) ∷ ‵ (owns (Store′.row ∷ Windows′.row ∷ ShrSlice (named 0) κ·pages u8 ∷ ShrSlice (named 0) κ·nodes u32 ∷ ShrSlice (named 0) κ·register Record′.row ∷ Line′.row ∷ u64 ∷ []) all-args all-vals) ∷ []) ∵ enter ! (𝓣 .C) (𝓣 .Λ) code.function (Store′.mach s ∷ Windows′.mach w ∷ sliceVal (b·pages, o·pages) (length pages) ∷ sliceVal (b·nodes, o·nodes) (length nodes) ∷ sliceVal (b·register, o·register) (length register) ∷ Line′.mach x-l ∷ vint w64 minute ∷ []) _ $
+      alloc1 ! (λ l₀. alloc1 ! (λ l₁. alloc1 ! (λ l₂. alloc1 ! (λ l₃. alloc1 ! (λ l₄. alloc1 ! (λ l₅. alloc1 ! (λ l₆. alloc1 ! (λ l₇. alloc1 ! (λ l₈. alloc1 ! (λ l₉. alloc1 ! (λ l₁₀. alloc1 ! (λ l₁₁. alloc1 ! (λ l₁₂. alloc1 ! (λ l₁₃. alloc1 ! (λ l₁₄. alloc1 ! (λ l₁₅. alloc0 ! $ params1 ! $
+      pass1 ! (init ! 28 refl (Store′.typed 𝓤 H A W s ok·s)) $ pass1 ! (init ! 26 refl (Windows′.typed 𝓤 H A W w ok·w)) $ pass1 ! (init ! 24 refl (tt, (tt, (record { fits = room·pages .0 }, tt)))) $ pass1 ! (init ! 22 refl (tt, (tt, (record { fits = room·nodes .0 }, tt)))) $ pass1 ! (init ! 20 refl (tt, (tt, (record { fits = room·register .0 }, tt)))) $ pass1 ! (init ! 18 refl (Line′.typed 𝓤 H A W x-l ok·x-l)) $ pass1 ! (init ! 16 refl (tt, record { fits = ok·minute .1 })) $ pass0 ! $
+      move ! (33 ∷ []) $ fsplit ! $ drop ! $ fsplit ! $ drop ! $ fsplit ! $ move ! (1 ∷ []) $ fsplit ! $ move ! (1 ∷ []) $ fsplit ! $ move ! (1 ∷ []) $ fsplit ! $ drop ! $ fsplit ! $ drop ! $ drop ! $ move ! (35 ∷ []) $ split ! $ move ! (1 ∷ []) $ split ! $ move ! (1 ∷ []) $ split ! $ move ! (1 ∷ []) $ drop ! $ move ! (2 ∷ 5 ∷ 1 ∷ 4 ∷ 0 ∷ 3 ∷ []) $
+      Call-lengths-of.calls ! mem run (fmOf 𝓤 H (W .laws) 𝓣) known-lengths-of κ·pages q·pages b·pages o·pages γ·pages (length pages) pages κ·nodes q·nodes b·nodes o·nodes γ·nodes (length nodes) nodes κ·register q·register b·register o·register γ·register (length register) register (and-then ! (load ! (from ! (stop !)) (look ! 28 refl)) (and-then ! (load ! (from ! (stop !)) (look ! 26 refl)) (and-then ! (load ! (from ! (stop !)) (look ! 24 refl)) (no-more !))))
+      (λ ok·1. land ! (from ! (stop !)) (init ! 20 refl (Lengths′.typed 𝓤 H A W (r1 s w pages nodes register x-l minute) ok·1)) $
+      here ! (‵ (flft κ·pages q·pages) ∷ ‵ (ShrAt u8 κ·pages b·pages o·pages γ·pages (length pages) pages) ∷ ‵ (flft κ·nodes q·nodes) ∷ ‵ (ShrAt u32 κ·nodes b·nodes o·nodes γ·nodes (length nodes) nodes) ∷ ‵ (flft κ·register q·register) ∷ ‵ (ShrAt Record′.row κ·register b·register o·register γ·register (length register) register) ∷ empty tyBool l₁₅ (empty (tyInt w64) l₁₄ (empty (tyInt w64) l₁₃ (empty tyBool l₁₂ (empty (tyAt (code.function .locals) 11) l₁₁ (empty (tyInt w64) l₁₀ (empty (tyAt (code.function .locals) 9) l₉ (holds (tyAt (code.function .locals) 8) l₈ (Lengths′.mach (r1 s w pages nodes register x-l minute)) (holds (tyInt w64) l₇ (vint w64 minute) (holds (tyAt (code.function .locals) 6) l₆ (Line′.mach x-l) (holds (sliceTy (tyRef (named 2) imm (pointee (Record′.row .written)))) l₅ (sliceVal (b·register, o·register) (length register)) (holds (sliceTy (tyRef (named 1) imm (pointee (u32 .written)))) l₄ (sliceVal (b·nodes, o·nodes) (length nodes)) (holds (sliceTy (tyRef (named 0) imm (pointee (u8 .written)))) l₃ (sliceVal (b·pages, o·pages) (length pages)) (holds (tyAt (code.function .locals) 2) l₂ (Windows′.mach w) (holds (tyAt (code.function .locals) 1) l₁ (Store′.mach s) (empty (tyAt (code.function .locals) 0) l₀ [])))))))))))))))) $
+      Call-line-state.calls ! mem run (fmOf 𝓤 H (W .laws) 𝓣) known-line-state s x-l ok·s ok·x-l (and-then ! (load ! (from ! (stop !)) (look ! 35 refl)) (and-then ! (load ! (from ! (stop !)) (look ! 25 refl)) (no-more !)))
+      (λ ok·2. land ! (from ! (stop !)) (init ! 18 refl (Branch′.typed 𝓤 H A W (r2 s w pages nodes register x-l minute) ok·2)) $
+      here ! (‵ (flft κ·pages q·pages) ∷ ‵ (ShrAt u8 κ·pages b·pages o·pages γ·pages (length pages) pages) ∷ ‵ (flft κ·nodes q·nodes) ∷ ‵ (ShrAt u32 κ·nodes b·nodes o·nodes γ·nodes (length nodes) nodes) ∷ ‵ (flft κ·register q·register) ∷ ‵ (ShrAt Record′.row κ·register b·register o·register γ·register (length register) register) ∷ empty tyBool l₁₅ (empty (tyInt w64) l₁₄ (empty (tyInt w64) l₁₃ (empty tyBool l₁₂ (empty (tyAt (code.function .locals) 11) l₁₁ (empty (tyInt w64) l₁₀ (holds (tyAt (code.function .locals) 9) l₉ (Branch′.mach (r2 s w pages nodes register x-l minute)) (holds (tyAt (code.function .locals) 8) l₈ (Lengths′.mach (r1 s w pages nodes register x-l minute)) (holds (tyInt w64) l₇ (vint w64 minute) (holds (tyAt (code.function .locals) 6) l₆ (Line′.mach x-l) (holds (sliceTy (tyRef (named 2) imm (pointee (Record′.row .written)))) l₅ (sliceVal (b·register, o·register) (length register)) (holds (sliceTy (tyRef (named 1) imm (pointee (u32 .written)))) l₄ (sliceVal (b·nodes, o·nodes) (length nodes)) (holds (sliceTy (tyRef (named 0) imm (pointee (u8 .written)))) l₃ (sliceVal (b·pages, o·pages) (length pages)) (holds (tyAt (code.function .locals) 2) l₂ (Windows′.mach w) (holds (tyAt (code.function .locals) 1) l₁ (Store′.mach s) (empty (tyAt (code.function .locals) 0) l₀ [])))))))))))))))) $
+      Call-next-number.calls ! mem run (fmOf 𝓤 H (W .laws) 𝓣) known-next-number x-l (r2 s w pages nodes register x-l minute) ok·x-l ok·2 (and-then ! (load ! (from ! (stop !)) (look ! 25 refl)) (and-then ! (load ! (from ! (stop !)) (look ! 19 refl)) (no-more !)))
+      (λ ok·3. land ! (from ! (stop !)) (init ! 16 refl (tt, record { fits = ok·3 .1 })) $
+      here ! (‵ (flft κ·pages q·pages) ∷ ‵ (ShrAt u8 κ·pages b·pages o·pages γ·pages (length pages) pages) ∷ ‵ (flft κ·nodes q·nodes) ∷ ‵ (ShrAt u32 κ·nodes b·nodes o·nodes γ·nodes (length nodes) nodes) ∷ ‵ (flft κ·register q·register) ∷ ‵ (ShrAt Record′.row κ·register b·register o·register γ·register (length register) register) ∷ empty tyBool l₁₅ (empty (tyInt w64) l₁₄ (empty (tyInt w64) l₁₃ (empty tyBool l₁₂ (empty (tyAt (code.function .locals) 11) l₁₁ (holds (tyInt w64) l₁₀ (vint w64 (r3 s w pages nodes register x-l minute)) (holds (tyAt (code.function .locals) 9) l₉ (Branch′.mach (r2 s w pages nodes register x-l minute)) (holds (tyAt (code.function .locals) 8) l₈ (Lengths′.mach (r1 s w pages nodes register x-l minute)) (holds (tyInt w64) l₇ (vint w64 minute) (holds (tyAt (code.function .locals) 6) l₆ (Line′.mach x-l) (holds (sliceTy (tyRef (named 2) imm (pointee (Record′.row .written)))) l₅ (sliceVal (b·register, o·register) (length register)) (holds (sliceTy (tyRef (named 1) imm (pointee (u32 .written)))) l₄ (sliceVal (b·nodes, o·nodes) (length nodes)) (holds (sliceTy (tyRef (named 0) imm (pointee (u8 .written)))) l₃ (sliceVal (b·pages, o·pages) (length pages)) (holds (tyAt (code.function .locals) 2) l₂ (Windows′.mach w) (holds (tyAt (code.function .locals) 1) l₁ (Store′.mach s) (empty (tyAt (code.function .locals) 0) l₀ [])))))))))))))))) $
       move ! (4 ∷ 5 ∷ []) $
-      Call-version-part.calls ! mem run (fmOf 𝓤 H (W .laws) 𝓣) known-version-part κ·register q·register b·register o·register γ·register (length register) register (r3 s pages nodes register x-l) ok·3 (and-then ! (load ! (from ! (stop !)) (look ! 22 refl)) (and-then ! (load ! (from ! (stop !)) (look ! 14 refl)) (no-more !)))
-      (λ ok·4. move ! (2 ∷ 3 ∷ 4 ∷ 5 ∷ 0 ∷ 1 ∷ []) $ land ! (from ! (stop !)) (init ! 12 refl (Part′.typed 𝓤 H A W (r4 s pages nodes register x-l) ok·4)) $
-      here ! (‵ (flft κ·pages q·pages) ∷ ‵ (ShrAt u8 κ·pages b·pages o·pages γ·pages (length pages) pages) ∷ ‵ (flft κ·nodes q·nodes) ∷ ‵ (ShrAt u32 κ·nodes b·nodes o·nodes γ·nodes (length nodes) nodes) ∷ ‵ (flft κ·register q·register) ∷ ‵ (ShrAt Record′.row κ·register b·register o·register γ·register (length register) register) ∷ empty tyBool l₁₂ (empty (tyInt w64) l₁₁ (empty (tyInt w64) l₁₀ (holds (tyAt (code.function .locals) 9) l₉ (Part′.mach (r4 s pages nodes register x-l)) (holds (tyInt w64) l₈ (vint w64 (r3 s pages nodes register x-l)) (holds (tyAt (code.function .locals) 7) l₇ (Branch′.mach (r2 s pages nodes register x-l)) (holds (tyAt (code.function .locals) 6) l₆ (Lengths′.mach (r1 s pages nodes register x-l)) (holds (tyAt (code.function .locals) 5) l₅ (Line′.mach x-l) (holds (sliceTy (tyRef (named 2) imm (pointee (Record′.row .written)))) l₄ (sliceVal (b·register, o·register) (length register)) (holds (sliceTy (tyRef (named 1) imm (pointee (u32 .written)))) l₃ (sliceVal (b·nodes, o·nodes) (length nodes)) (holds (sliceTy (tyRef (named 0) imm (pointee (u8 .written)))) l₂ (sliceVal (b·pages, o·pages) (length pages)) (holds (tyAt (code.function .locals) 1) l₁ (Store′.mach s) (empty (tyAt (code.function .locals) 0) l₀ []))))))))))))) $
-      Call-line-refusal.calls ! mem run (fmOf 𝓤 H (W .laws) 𝓣) known-line-refusal s (r1 s pages nodes register x-l) x-l ok·s ok·1 ok·x-l (and-then ! (load ! (from ! (stop !)) (look ! 29 refl)) (and-then ! (load ! (from ! (stop !)) (look ! 19 refl)) (and-then ! (load ! (from ! (stop !)) (look ! 21 refl)) (no-more !))))
-      (λ ok·5. land ! (from ! (stop !)) (init ! 8 refl (tt, record { fits = ok·5 .1 })) $
-      here ! (‵ (flft κ·pages q·pages) ∷ ‵ (ShrAt u8 κ·pages b·pages o·pages γ·pages (length pages) pages) ∷ ‵ (flft κ·nodes q·nodes) ∷ ‵ (ShrAt u32 κ·nodes b·nodes o·nodes γ·nodes (length nodes) nodes) ∷ ‵ (flft κ·register q·register) ∷ ‵ (ShrAt Record′.row κ·register b·register o·register γ·register (length register) register) ∷ empty tyBool l₁₂ (holds (tyInt w64) l₁₁ (vint w64 (r5 s pages nodes register x-l)) (empty (tyInt w64) l₁₀ (holds (tyAt (code.function .locals) 9) l₉ (Part′.mach (r4 s pages nodes register x-l)) (holds (tyInt w64) l₈ (vint w64 (r3 s pages nodes register x-l)) (holds (tyAt (code.function .locals) 7) l₇ (Branch′.mach (r2 s pages nodes register x-l)) (holds (tyAt (code.function .locals) 6) l₆ (Lengths′.mach (r1 s pages nodes register x-l)) (holds (tyAt (code.function .locals) 5) l₅ (Line′.mach x-l) (holds (sliceTy (tyRef (named 2) imm (pointee (Record′.row .written)))) l₄ (sliceVal (b·register, o·register) (length register)) (holds (sliceTy (tyRef (named 1) imm (pointee (u32 .written)))) l₃ (sliceVal (b·nodes, o·nodes) (length nodes)) (holds (sliceTy (tyRef (named 0) imm (pointee (u8 .written)))) l₂ (sliceVal (b·pages, o·pages) (length pages)) (holds (tyAt (code.function .locals) 1) l₁ (Store′.mach s) (empty (tyAt (code.function .locals) 0) l₀ []))))))))))))) $
-      Call-publish-refusal.calls ! mem run (fmOf 𝓤 H (W .laws) 𝓣) known-publish-refusal (r5 s pages nodes register x-l) (r2 s pages nodes register x-l) (r4 s pages nodes register x-l) (r3 s pages nodes register x-l) ok·5 ok·2 ok·4 ok·3 (and-then ! (load ! (from ! (stop !)) (look ! 9 refl)) (and-then ! (load ! (from ! (stop !)) (look ! 17 refl)) (and-then ! (load ! (from ! (stop !)) (look ! 13 refl)) (and-then ! (load ! (from ! (stop !)) (look ! 15 refl)) (no-more !)))))
-      (λ ok·6. land ! (from ! (stop !)) (init ! 10 refl (tt, record { fits = ok·6 .1 })) $
-      here ! (‵ (flft κ·pages q·pages) ∷ ‵ (ShrAt u8 κ·pages b·pages o·pages γ·pages (length pages) pages) ∷ ‵ (flft κ·nodes q·nodes) ∷ ‵ (ShrAt u32 κ·nodes b·nodes o·nodes γ·nodes (length nodes) nodes) ∷ ‵ (flft κ·register q·register) ∷ ‵ (ShrAt Record′.row κ·register b·register o·register γ·register (length register) register) ∷ empty tyBool l₁₂ (holds (tyInt w64) l₁₁ (vint w64 (r5 s pages nodes register x-l)) (holds (tyInt w64) l₁₀ (vint w64 (r6 s pages nodes register x-l)) (holds (tyAt (code.function .locals) 9) l₉ (Part′.mach (r4 s pages nodes register x-l)) (holds (tyInt w64) l₈ (vint w64 (r3 s pages nodes register x-l)) (holds (tyAt (code.function .locals) 7) l₇ (Branch′.mach (r2 s pages nodes register x-l)) (holds (tyAt (code.function .locals) 6) l₆ (Lengths′.mach (r1 s pages nodes register x-l)) (holds (tyAt (code.function .locals) 5) l₅ (Line′.mach x-l) (holds (sliceTy (tyRef (named 2) imm (pointee (Record′.row .written)))) l₄ (sliceVal (b·register, o·register) (length register)) (holds (sliceTy (tyRef (named 1) imm (pointee (u32 .written)))) l₃ (sliceVal (b·nodes, o·nodes) (length nodes)) (holds (sliceTy (tyRef (named 0) imm (pointee (u8 .written)))) l₂ (sliceVal (b·pages, o·pages) (length pages)) (holds (tyAt (code.function .locals) 1) l₁ (Store′.mach s) (empty (tyAt (code.function .locals) 0) l₀ []))))))))))))) $
-      Call-is-due.calls ! mem run (fmOf 𝓤 H (W .laws) 𝓣) known-is-due (r2 s pages nodes register x-l) (r4 s pages nodes register x-l) ok·2 ok·4 (and-then ! (load ! (from ! (stop !)) (look ! 17 refl)) (and-then ! (load ! (from ! (stop !)) (look ! 13 refl)) (no-more !)))
-      (λ ok·7. land ! (from ! (stop !)) (init ! 6 refl (tt, tt)) $
-      here ! (‵ (flft κ·pages q·pages) ∷ ‵ (ShrAt u8 κ·pages b·pages o·pages γ·pages (length pages) pages) ∷ ‵ (flft κ·nodes q·nodes) ∷ ‵ (ShrAt u32 κ·nodes b·nodes o·nodes γ·nodes (length nodes) nodes) ∷ ‵ (flft κ·register q·register) ∷ ‵ (ShrAt Record′.row κ·register b·register o·register γ·register (length register) register) ∷ holds tyBool l₁₂ (vbool (r7 s pages nodes register x-l)) (holds (tyInt w64) l₁₁ (vint w64 (r5 s pages nodes register x-l)) (holds (tyInt w64) l₁₀ (vint w64 (r6 s pages nodes register x-l)) (holds (tyAt (code.function .locals) 9) l₉ (Part′.mach (r4 s pages nodes register x-l)) (holds (tyInt w64) l₈ (vint w64 (r3 s pages nodes register x-l)) (holds (tyAt (code.function .locals) 7) l₇ (Branch′.mach (r2 s pages nodes register x-l)) (holds (tyAt (code.function .locals) 6) l₆ (Lengths′.mach (r1 s pages nodes register x-l)) (holds (tyAt (code.function .locals) 5) l₅ (Line′.mach x-l) (holds (sliceTy (tyRef (named 2) imm (pointee (Record′.row .written)))) l₄ (sliceVal (b·register, o·register) (length register)) (holds (sliceTy (tyRef (named 1) imm (pointee (u32 .written)))) l₃ (sliceVal (b·nodes, o·nodes) (length nodes)) (holds (sliceTy (tyRef (named 0) imm (pointee (u8 .written)))) l₂ (sliceVal (b·pages, o·pages) (length pages)) (holds (tyAt (code.function .locals) 1) l₁ (Store′.mach s) (empty (tyAt (code.function .locals) 0) l₀ []))))))))))))) $
-      Call-published-by.calls ! mem run (fmOf 𝓤 H (W .laws) 𝓣) known-published-by s x-l (r6 s pages nodes register x-l) (r7 s pages nodes register x-l) ok·s ok·x-l ok·6 ok·7 (Facts.published-by-1 s pages nodes register x-l ok·s (room·pages .0) (room·nodes .0) (room·register .0) ok·x-l ok·1 ok·2 (ok·3 .1) ok·4 (ok·5 .1) (ok·6 .1)) (and-then ! (load ! (from ! (stop !)) (look ! 29 refl)) (and-then ! (load ! (from ! (stop !)) (look ! 21 refl)) (and-then ! (load ! (from ! (stop !)) (look ! 11 refl)) (and-then ! (load ! (from ! (stop !)) (look ! 7 refl)) (no-more !)))))
-      (λ ok·8. land ! (from ! (stop !)) (init ! 30 refl (PublishOut′.typed 𝓤 H A W (r8 s pages nodes register x-l) ok·8)) $
-      here ! (‵ (flft κ·pages q·pages) ∷ ‵ (ShrAt u8 κ·pages b·pages o·pages γ·pages (length pages) pages) ∷ ‵ (flft κ·nodes q·nodes) ∷ ‵ (ShrAt u32 κ·nodes b·nodes o·nodes γ·nodes (length nodes) nodes) ∷ ‵ (flft κ·register q·register) ∷ ‵ (ShrAt Record′.row κ·register b·register o·register γ·register (length register) register) ∷ holds tyBool l₁₂ (vbool (r7 s pages nodes register x-l)) (holds (tyInt w64) l₁₁ (vint w64 (r5 s pages nodes register x-l)) (holds (tyInt w64) l₁₀ (vint w64 (r6 s pages nodes register x-l)) (holds (tyAt (code.function .locals) 9) l₉ (Part′.mach (r4 s pages nodes register x-l)) (holds (tyInt w64) l₈ (vint w64 (r3 s pages nodes register x-l)) (holds (tyAt (code.function .locals) 7) l₇ (Branch′.mach (r2 s pages nodes register x-l)) (holds (tyAt (code.function .locals) 6) l₆ (Lengths′.mach (r1 s pages nodes register x-l)) (holds (tyAt (code.function .locals) 5) l₅ (Line′.mach x-l) (holds (sliceTy (tyRef (named 2) imm (pointee (Record′.row .written)))) l₄ (sliceVal (b·register, o·register) (length register)) (holds (sliceTy (tyRef (named 1) imm (pointee (u32 .written)))) l₃ (sliceVal (b·nodes, o·nodes) (length nodes)) (holds (sliceTy (tyRef (named 0) imm (pointee (u8 .written)))) l₂ (sliceVal (b·pages, o·pages) (length pages)) (holds (tyAt (code.function .locals) 1) l₁ (Store′.mach s) (holds (tyAt (code.function .locals) 0) l₀ (PublishOut′.mach (r8 s pages nodes register x-l)) []))))))))))))) $
-      returns ! (look ! 30 refl) $
-      move ! (30 ∷ 31 ∷ []) $ forget ! 0 refl $ free1 ! $ move ! (28 ∷ 29 ∷ []) $ forget ! 0 refl $ free1 ! $ move ! (26 ∷ 27 ∷ []) $ forget ! 0 refl $ free1 ! $ move ! (24 ∷ 25 ∷ []) $ forget ! 0 refl $ free1 ! $ move ! (22 ∷ 23 ∷ []) $ forget ! 0 refl $ free1 ! $ move ! (20 ∷ 21 ∷ []) $ forget ! 0 refl $ free1 ! $ move ! (18 ∷ 19 ∷ []) $ forget ! 0 refl $ free1 ! $ move ! (16 ∷ 17 ∷ []) $ forget ! 0 refl $ free1 ! $ move ! (14 ∷ 15 ∷ []) $ forget ! 0 refl $ free1 ! $ move ! (12 ∷ 13 ∷ []) $ forget ! 0 refl $ free1 ! $ move ! (10 ∷ 11 ∷ []) $ forget ! 0 refl $ free1 ! $ move ! (8 ∷ 9 ∷ []) $ forget ! 0 refl $ free1 ! $ move ! (6 ∷ 7 ∷ []) $ forget ! 0 refl $ free1 ! $ free0 ! $ by ! (exits (r8 s pages nodes register x-l) ok·8 (Facts.exit-1 s pages nodes register x-l ok·s (room·pages .0) (room·nodes .0) (room·register .0) ok·x-l ok·1 ok·2 (ok·3 .1) ok·4 (ok·5 .1) (ok·6 .1) ok·8)))))))))))))))))))))))
+      Call-version-part.calls ! mem run (fmOf 𝓤 H (W .laws) 𝓣) known-version-part κ·register q·register b·register o·register γ·register (length register) register (r3 s w pages nodes register x-l minute) ok·3 (and-then ! (load ! (from ! (stop !)) (look ! 26 refl)) (and-then ! (load ! (from ! (stop !)) (look ! 16 refl)) (no-more !)))
+      (λ ok·4. move ! (2 ∷ 3 ∷ 4 ∷ 5 ∷ 0 ∷ 1 ∷ []) $ land ! (from ! (stop !)) (init ! 14 refl (Part′.typed 𝓤 H A W (r4 s w pages nodes register x-l minute) ok·4)) $
+      here ! (‵ (flft κ·pages q·pages) ∷ ‵ (ShrAt u8 κ·pages b·pages o·pages γ·pages (length pages) pages) ∷ ‵ (flft κ·nodes q·nodes) ∷ ‵ (ShrAt u32 κ·nodes b·nodes o·nodes γ·nodes (length nodes) nodes) ∷ ‵ (flft κ·register q·register) ∷ ‵ (ShrAt Record′.row κ·register b·register o·register γ·register (length register) register) ∷ empty tyBool l₁₅ (empty (tyInt w64) l₁₄ (empty (tyInt w64) l₁₃ (empty tyBool l₁₂ (holds (tyAt (code.function .locals) 11) l₁₁ (Part′.mach (r4 s w pages nodes register x-l minute)) (holds (tyInt w64) l₁₀ (vint w64 (r3 s w pages nodes register x-l minute)) (holds (tyAt (code.function .locals) 9) l₉ (Branch′.mach (r2 s w pages nodes register x-l minute)) (holds (tyAt (code.function .locals) 8) l₈ (Lengths′.mach (r1 s w pages nodes register x-l minute)) (holds (tyInt w64) l₇ (vint w64 minute) (holds (tyAt (code.function .locals) 6) l₆ (Line′.mach x-l) (holds (sliceTy (tyRef (named 2) imm (pointee (Record′.row .written)))) l₅ (sliceVal (b·register, o·register) (length register)) (holds (sliceTy (tyRef (named 1) imm (pointee (u32 .written)))) l₄ (sliceVal (b·nodes, o·nodes) (length nodes)) (holds (sliceTy (tyRef (named 0) imm (pointee (u8 .written)))) l₃ (sliceVal (b·pages, o·pages) (length pages)) (holds (tyAt (code.function .locals) 2) l₂ (Windows′.mach w) (holds (tyAt (code.function .locals) 1) l₁ (Store′.mach s) (empty (tyAt (code.function .locals) 0) l₀ [])))))))))))))))) $
+      Call-is-inside.calls ! mem run (fmOf 𝓤 H (W .laws) 𝓣) known-is-inside w minute ok·w ok·minute (and-then ! (load ! (from ! (stop !)) (look ! 33 refl)) (and-then ! (load ! (from ! (stop !)) (look ! 23 refl)) (no-more !)))
+      (λ ok·5. land ! (from ! (stop !)) (init ! 12 refl (tt, tt)) $
+      here ! (‵ (flft κ·pages q·pages) ∷ ‵ (ShrAt u8 κ·pages b·pages o·pages γ·pages (length pages) pages) ∷ ‵ (flft κ·nodes q·nodes) ∷ ‵ (ShrAt u32 κ·nodes b·nodes o·nodes γ·nodes (length nodes) nodes) ∷ ‵ (flft κ·register q·register) ∷ ‵ (ShrAt Record′.row κ·register b·register o·register γ·register (length register) register) ∷ empty tyBool l₁₅ (empty (tyInt w64) l₁₄ (empty (tyInt w64) l₁₃ (holds tyBool l₁₂ (vbool (r5 s w pages nodes register x-l minute)) (holds (tyAt (code.function .locals) 11) l₁₁ (Part′.mach (r4 s w pages nodes register x-l minute)) (holds (tyInt w64) l₁₀ (vint w64 (r3 s w pages nodes register x-l minute)) (holds (tyAt (code.function .locals) 9) l₉ (Branch′.mach (r2 s w pages nodes register x-l minute)) (holds (tyAt (code.function .locals) 8) l₈ (Lengths′.mach (r1 s w pages nodes register x-l minute)) (holds (tyInt w64) l₇ (vint w64 minute) (holds (tyAt (code.function .locals) 6) l₆ (Line′.mach x-l) (holds (sliceTy (tyRef (named 2) imm (pointee (Record′.row .written)))) l₅ (sliceVal (b·register, o·register) (length register)) (holds (sliceTy (tyRef (named 1) imm (pointee (u32 .written)))) l₄ (sliceVal (b·nodes, o·nodes) (length nodes)) (holds (sliceTy (tyRef (named 0) imm (pointee (u8 .written)))) l₃ (sliceVal (b·pages, o·pages) (length pages)) (holds (tyAt (code.function .locals) 2) l₂ (Windows′.mach w) (holds (tyAt (code.function .locals) 1) l₁ (Store′.mach s) (empty (tyAt (code.function .locals) 0) l₀ [])))))))))))))))) $
+      Call-line-refusal.calls ! mem run (fmOf 𝓤 H (W .laws) 𝓣) known-line-refusal s (r1 s w pages nodes register x-l minute) x-l ok·s ok·1 ok·x-l (and-then ! (load ! (from ! (stop !)) (look ! 35 refl)) (and-then ! (load ! (from ! (stop !)) (look ! 21 refl)) (and-then ! (load ! (from ! (stop !)) (look ! 25 refl)) (no-more !))))
+      (λ ok·6. land ! (from ! (stop !)) (init ! 8 refl (tt, record { fits = ok·6 .1 })) $
+      here ! (‵ (flft κ·pages q·pages) ∷ ‵ (ShrAt u8 κ·pages b·pages o·pages γ·pages (length pages) pages) ∷ ‵ (flft κ·nodes q·nodes) ∷ ‵ (ShrAt u32 κ·nodes b·nodes o·nodes γ·nodes (length nodes) nodes) ∷ ‵ (flft κ·register q·register) ∷ ‵ (ShrAt Record′.row κ·register b·register o·register γ·register (length register) register) ∷ empty tyBool l₁₅ (holds (tyInt w64) l₁₄ (vint w64 (r6 s w pages nodes register x-l minute)) (empty (tyInt w64) l₁₃ (holds tyBool l₁₂ (vbool (r5 s w pages nodes register x-l minute)) (holds (tyAt (code.function .locals) 11) l₁₁ (Part′.mach (r4 s w pages nodes register x-l minute)) (holds (tyInt w64) l₁₀ (vint w64 (r3 s w pages nodes register x-l minute)) (holds (tyAt (code.function .locals) 9) l₉ (Branch′.mach (r2 s w pages nodes register x-l minute)) (holds (tyAt (code.function .locals) 8) l₈ (Lengths′.mach (r1 s w pages nodes register x-l minute)) (holds (tyInt w64) l₇ (vint w64 minute) (holds (tyAt (code.function .locals) 6) l₆ (Line′.mach x-l) (holds (sliceTy (tyRef (named 2) imm (pointee (Record′.row .written)))) l₅ (sliceVal (b·register, o·register) (length register)) (holds (sliceTy (tyRef (named 1) imm (pointee (u32 .written)))) l₄ (sliceVal (b·nodes, o·nodes) (length nodes)) (holds (sliceTy (tyRef (named 0) imm (pointee (u8 .written)))) l₃ (sliceVal (b·pages, o·pages) (length pages)) (holds (tyAt (code.function .locals) 2) l₂ (Windows′.mach w) (holds (tyAt (code.function .locals) 1) l₁ (Store′.mach s) (empty (tyAt (code.function .locals) 0) l₀ [])))))))))))))))) $
+      Call-publish-refusal.calls ! mem run (fmOf 𝓤 H (W .laws) 𝓣) known-publish-refusal (r6 s w pages nodes register x-l minute) minute (r5 s w pages nodes register x-l minute) (r2 s w pages nodes register x-l minute) (r4 s w pages nodes register x-l minute) (r3 s w pages nodes register x-l minute) ok·6 ok·minute ok·5 ok·2 ok·4 ok·3 (and-then ! (load ! (from ! (stop !)) (look ! 9 refl)) (and-then ! (load ! (from ! (stop !)) (look ! 23 refl)) (and-then ! (load ! (from ! (stop !)) (look ! 13 refl)) (and-then ! (load ! (from ! (stop !)) (look ! 19 refl)) (and-then ! (load ! (from ! (stop !)) (look ! 15 refl)) (and-then ! (load ! (from ! (stop !)) (look ! 17 refl)) (no-more !)))))))
+      (λ ok·7. land ! (from ! (stop !)) (init ! 10 refl (tt, record { fits = ok·7 .1 })) $
+      here ! (‵ (flft κ·pages q·pages) ∷ ‵ (ShrAt u8 κ·pages b·pages o·pages γ·pages (length pages) pages) ∷ ‵ (flft κ·nodes q·nodes) ∷ ‵ (ShrAt u32 κ·nodes b·nodes o·nodes γ·nodes (length nodes) nodes) ∷ ‵ (flft κ·register q·register) ∷ ‵ (ShrAt Record′.row κ·register b·register o·register γ·register (length register) register) ∷ empty tyBool l₁₅ (holds (tyInt w64) l₁₄ (vint w64 (r6 s w pages nodes register x-l minute)) (holds (tyInt w64) l₁₃ (vint w64 (r7 s w pages nodes register x-l minute)) (holds tyBool l₁₂ (vbool (r5 s w pages nodes register x-l minute)) (holds (tyAt (code.function .locals) 11) l₁₁ (Part′.mach (r4 s w pages nodes register x-l minute)) (holds (tyInt w64) l₁₀ (vint w64 (r3 s w pages nodes register x-l minute)) (holds (tyAt (code.function .locals) 9) l₉ (Branch′.mach (r2 s w pages nodes register x-l minute)) (holds (tyAt (code.function .locals) 8) l₈ (Lengths′.mach (r1 s w pages nodes register x-l minute)) (holds (tyInt w64) l₇ (vint w64 minute) (holds (tyAt (code.function .locals) 6) l₆ (Line′.mach x-l) (holds (sliceTy (tyRef (named 2) imm (pointee (Record′.row .written)))) l₅ (sliceVal (b·register, o·register) (length register)) (holds (sliceTy (tyRef (named 1) imm (pointee (u32 .written)))) l₄ (sliceVal (b·nodes, o·nodes) (length nodes)) (holds (sliceTy (tyRef (named 0) imm (pointee (u8 .written)))) l₃ (sliceVal (b·pages, o·pages) (length pages)) (holds (tyAt (code.function .locals) 2) l₂ (Windows′.mach w) (holds (tyAt (code.function .locals) 1) l₁ (Store′.mach s) (empty (tyAt (code.function .locals) 0) l₀ [])))))))))))))))) $
+      Call-is-due.calls ! mem run (fmOf 𝓤 H (W .laws) 𝓣) known-is-due (r2 s w pages nodes register x-l minute) (r4 s w pages nodes register x-l minute) ok·2 ok·4 (and-then ! (load ! (from ! (stop !)) (look ! 19 refl)) (and-then ! (load ! (from ! (stop !)) (look ! 15 refl)) (no-more !)))
+      (λ ok·8. land ! (from ! (stop !)) (init ! 6 refl (tt, tt)) $
+      here ! (‵ (flft κ·pages q·pages) ∷ ‵ (ShrAt u8 κ·pages b·pages o·pages γ·pages (length pages) pages) ∷ ‵ (flft κ·nodes q·nodes) ∷ ‵ (ShrAt u32 κ·nodes b·nodes o·nodes γ·nodes (length nodes) nodes) ∷ ‵ (flft κ·register q·register) ∷ ‵ (ShrAt Record′.row κ·register b·register o·register γ·register (length register) register) ∷ holds tyBool l₁₅ (vbool (r8 s w pages nodes register x-l minute)) (holds (tyInt w64) l₁₄ (vint w64 (r6 s w pages nodes register x-l minute)) (holds (tyInt w64) l₁₃ (vint w64 (r7 s w pages nodes register x-l minute)) (holds tyBool l₁₂ (vbool (r5 s w pages nodes register x-l minute)) (holds (tyAt (code.function .locals) 11) l₁₁ (Part′.mach (r4 s w pages nodes register x-l minute)) (holds (tyInt w64) l₁₀ (vint w64 (r3 s w pages nodes register x-l minute)) (holds (tyAt (code.function .locals) 9) l₉ (Branch′.mach (r2 s w pages nodes register x-l minute)) (holds (tyAt (code.function .locals) 8) l₈ (Lengths′.mach (r1 s w pages nodes register x-l minute)) (holds (tyInt w64) l₇ (vint w64 minute) (holds (tyAt (code.function .locals) 6) l₆ (Line′.mach x-l) (holds (sliceTy (tyRef (named 2) imm (pointee (Record′.row .written)))) l₅ (sliceVal (b·register, o·register) (length register)) (holds (sliceTy (tyRef (named 1) imm (pointee (u32 .written)))) l₄ (sliceVal (b·nodes, o·nodes) (length nodes)) (holds (sliceTy (tyRef (named 0) imm (pointee (u8 .written)))) l₃ (sliceVal (b·pages, o·pages) (length pages)) (holds (tyAt (code.function .locals) 2) l₂ (Windows′.mach w) (holds (tyAt (code.function .locals) 1) l₁ (Store′.mach s) (empty (tyAt (code.function .locals) 0) l₀ [])))))))))))))))) $
+      Call-published-by.calls ! mem run (fmOf 𝓤 H (W .laws) 𝓣) known-published-by s x-l (r7 s w pages nodes register x-l minute) (r5 s w pages nodes register x-l minute) (r8 s w pages nodes register x-l minute) ok·s ok·x-l ok·7 ok·5 ok·8 (Facts.published-by-1 s w pages nodes register x-l minute ok·s ok·w (room·pages .0) (room·nodes .0) (room·register .0) ok·x-l (ok·minute .1) ok·1 ok·2 (ok·3 .1) ok·4 (ok·6 .1) (ok·7 .1)) (and-then ! (load ! (from ! (stop !)) (look ! 35 refl)) (and-then ! (load ! (from ! (stop !)) (look ! 25 refl)) (and-then ! (load ! (from ! (stop !)) (look ! 11 refl)) (and-then ! (load ! (from ! (stop !)) (look ! 13 refl)) (and-then ! (load ! (from ! (stop !)) (look ! 7 refl)) (no-more !))))))
+      (λ ok·9. land ! (from ! (stop !)) (init ! 36 refl (PublishOut′.typed 𝓤 H A W (r9 s w pages nodes register x-l minute) ok·9)) $
+      here ! (‵ (flft κ·pages q·pages) ∷ ‵ (ShrAt u8 κ·pages b·pages o·pages γ·pages (length pages) pages) ∷ ‵ (flft κ·nodes q·nodes) ∷ ‵ (ShrAt u32 κ·nodes b·nodes o·nodes γ·nodes (length nodes) nodes) ∷ ‵ (flft κ·register q·register) ∷ ‵ (ShrAt Record′.row κ·register b·register o·register γ·register (length register) register) ∷ holds tyBool l₁₅ (vbool (r8 s w pages nodes register x-l minute)) (holds (tyInt w64) l₁₄ (vint w64 (r6 s w pages nodes register x-l minute)) (holds (tyInt w64) l₁₃ (vint w64 (r7 s w pages nodes register x-l minute)) (holds tyBool l₁₂ (vbool (r5 s w pages nodes register x-l minute)) (holds (tyAt (code.function .locals) 11) l₁₁ (Part′.mach (r4 s w pages nodes register x-l minute)) (holds (tyInt w64) l₁₀ (vint w64 (r3 s w pages nodes register x-l minute)) (holds (tyAt (code.function .locals) 9) l₉ (Branch′.mach (r2 s w pages nodes register x-l minute)) (holds (tyAt (code.function .locals) 8) l₈ (Lengths′.mach (r1 s w pages nodes register x-l minute)) (holds (tyInt w64) l₇ (vint w64 minute) (holds (tyAt (code.function .locals) 6) l₆ (Line′.mach x-l) (holds (sliceTy (tyRef (named 2) imm (pointee (Record′.row .written)))) l₅ (sliceVal (b·register, o·register) (length register)) (holds (sliceTy (tyRef (named 1) imm (pointee (u32 .written)))) l₄ (sliceVal (b·nodes, o·nodes) (length nodes)) (holds (sliceTy (tyRef (named 0) imm (pointee (u8 .written)))) l₃ (sliceVal (b·pages, o·pages) (length pages)) (holds (tyAt (code.function .locals) 2) l₂ (Windows′.mach w) (holds (tyAt (code.function .locals) 1) l₁ (Store′.mach s) (holds (tyAt (code.function .locals) 0) l₀ (PublishOut′.mach (r9 s w pages nodes register x-l minute)) [])))))))))))))))) $
+      returns ! (look ! 36 refl) $
+      move ! (36 ∷ 37 ∷ []) $ forget ! 0 refl $ free1 ! $ move ! (34 ∷ 35 ∷ []) $ forget ! 0 refl $ free1 ! $ move ! (32 ∷ 33 ∷ []) $ forget ! 0 refl $ free1 ! $ move ! (30 ∷ 31 ∷ []) $ forget ! 0 refl $ free1 ! $ move ! (28 ∷ 29 ∷ []) $ forget ! 0 refl $ free1 ! $ move ! (26 ∷ 27 ∷ []) $ forget ! 0 refl $ free1 ! $ move ! (24 ∷ 25 ∷ []) $ forget ! 0 refl $ free1 ! $ move ! (22 ∷ 23 ∷ []) $ forget ! 0 refl $ free1 ! $ move ! (20 ∷ 21 ∷ []) $ forget ! 0 refl $ free1 ! $ move ! (18 ∷ 19 ∷ []) $ forget ! 0 refl $ free1 ! $ move ! (16 ∷ 17 ∷ []) $ forget ! 0 refl $ free1 ! $ move ! (14 ∷ 15 ∷ []) $ forget ! 0 refl $ free1 ! $ move ! (12 ∷ 13 ∷ []) $ forget ! 0 refl $ free1 ! $ move ! (10 ∷ 11 ∷ []) $ forget ! 0 refl $ free1 ! $ move ! (8 ∷ 9 ∷ []) $ forget ! 0 refl $ free1 ! $ move ! (6 ∷ 7 ∷ []) $ forget ! 0 refl $ free1 ! $ free0 ! $ by ! (exits (r9 s w pages nodes register x-l minute) ok·9 (Facts.exit-1 s w pages nodes register x-l minute ok·s ok·w (room·pages .0) (room·nodes .0) (room·register .0) ok·x-l (ok·minute .1) ok·1 ok·2 (ok·3 .1) ok·4 (ok·6 .1) (ok·7 .1) ok·9)))))))))))))))))))))))))))
 
 module _ {M : Type 1} (𝓤 : URA M) (H : Heap 𝓤) (A : Atoms 𝓤) (W : Given 𝓤 H A) (mem : Memory → SProp 𝓤) (run : Routine → Fun 𝓤) where
-  walks : (𝓣 : Tables 𝓤 H) → Triple 𝓤 (𝓣 .C #lengths-of) (Call-lengths-of.Asked 𝓤 H A mem run) → Triple 𝓤 (𝓣 .C #line-state) (Call-line-state.Asked 𝓤 H A mem run) → Triple 𝓤 (𝓣 .C #next-number) (Call-next-number.Asked 𝓤 H A mem run) → Triple 𝓤 (𝓣 .C #version-part) (Call-version-part.Asked 𝓤 H A mem run) → Triple 𝓤 (𝓣 .C #line-refusal) (Call-line-refusal.Asked 𝓤 H A mem run) → Triple 𝓤 (𝓣 .C #publish-refusal) (Call-publish-refusal.Asked 𝓤 H A mem run) → Triple 𝓤 (𝓣 .C #is-due) (Call-is-due.Asked 𝓤 H A mem run) → Triple 𝓤 (𝓣 .C #published-by) (Call-published-by.Asked 𝓤 H A mem run) → Walks 𝓤 H A publish‴.ended stayed (WpFn 𝓤 H (𝓣 .C) (𝓣 .Λ) code.function) (publish‴.clauses 𝓤 H A mem run)
-  walks 𝓣 known-lengths-of known-line-state known-next-number known-version-part known-line-refusal known-publish-refusal known-is-due known-published-by = walked 𝓤 H A publish‴.ended stayed (publish‴.clauses 𝓤 H A mem run) (WpFn 𝓤 H (𝓣 .C) (𝓣 .Λ) code.function) (λ κs. (Store′.vals, (slice-vals, (slice-vals, (slice-vals, (Line′.vals, tt)))))) (λ κs. (Store′.tells, (shr-slice-tells (named 0) (κs .0) u8, (shr-slice-tells (named 0) (κs .1 .0) u32, (shr-slice-tells (named 0) (κs .1 .1 .0) Record′.row, (Line′.tells, tt))))))
-      (λ κs qs bounds a g are. via 𝓤 _ (fst∗ 𝓤 _ (emp 𝓤)) (walk 𝓤 H A W mem run (a .0) (κs .0) (qs .0) (a .1 .0 .ptr .0) (a .1 .0 .ptr .1) (a .1 .0 .name) (a .1 .0 .now) (κs .1 .0) (qs .1 .0) (a .1 .1 .0 .ptr .0) (a .1 .1 .0 .ptr .1) (a .1 .1 .0 .name) (a .1 .1 .0 .now) (κs .1 .1 .0) (qs .1 .1 .0) (a .1 .1 .1 .0 .ptr .0) (a .1 .1 .1 .0 .ptr .1) (a .1 .1 .1 .0 .name) (a .1 .1 .1 .0 .now) (a .1 .1 .1 .1 .0) (are .0) (are .1 .0 .0 .1) (are .1 .1 .0 .0 .1) (are .1 .1 .1 .0 .0 .1) (are .1 .1 .1 .1 .0) 𝓣 known-lengths-of known-line-state known-next-number known-version-part known-line-refusal known-publish-refusal known-is-due known-published-by))
+  walks : (𝓣 : Tables 𝓤 H) → Triple 𝓤 (𝓣 .C #lengths-of) (Call-lengths-of.Asked 𝓤 H A mem run) → Triple 𝓤 (𝓣 .C #line-state) (Call-line-state.Asked 𝓤 H A mem run) → Triple 𝓤 (𝓣 .C #next-number) (Call-next-number.Asked 𝓤 H A mem run) → Triple 𝓤 (𝓣 .C #version-part) (Call-version-part.Asked 𝓤 H A mem run) → Triple 𝓤 (𝓣 .C #is-inside) (Call-is-inside.Asked 𝓤 H A mem run) → Triple 𝓤 (𝓣 .C #line-refusal) (Call-line-refusal.Asked 𝓤 H A mem run) → Triple 𝓤 (𝓣 .C #publish-refusal) (Call-publish-refusal.Asked 𝓤 H A mem run) → Triple 𝓤 (𝓣 .C #is-due) (Call-is-due.Asked 𝓤 H A mem run) → Triple 𝓤 (𝓣 .C #published-by) (Call-published-by.Asked 𝓤 H A mem run) → Walks 𝓤 H A publish‴.ended stayed (WpFn 𝓤 H (𝓣 .C) (𝓣 .Λ) code.function) (publish‴.clauses 𝓤 H A mem run)
+  walks 𝓣 known-lengths-of known-line-state known-next-number known-version-part known-is-inside known-line-refusal known-publish-refusal known-is-due known-published-by = walked 𝓤 H A publish‴.ended stayed (publish‴.clauses 𝓤 H A mem run) (WpFn 𝓤 H (𝓣 .C) (𝓣 .Λ) code.function) (λ κs. (Store′.vals, (Windows′.vals, (slice-vals, (slice-vals, (slice-vals, (Line′.vals, (uint-vals w64, tt)))))))) (λ κs. (Store′.tells, (Windows′.tells, (shr-slice-tells (named 0) (κs .0) u8, (shr-slice-tells (named 0) (κs .1 .0) u32, (shr-slice-tells (named 0) (κs .1 .1 .0) Record′.row, (Line′.tells, (uint-tells w64, tt))))))))
+      (λ κs qs bounds a g are. via 𝓤 _ (fst∗ 𝓤 _ (emp 𝓤)) (walk 𝓤 H A W mem run (a .0) (a .1 .0) (κs .0) (qs .0) (a .1 .1 .0 .ptr .0) (a .1 .1 .0 .ptr .1) (a .1 .1 .0 .name) (a .1 .1 .0 .now) (κs .1 .0) (qs .1 .0) (a .1 .1 .1 .0 .ptr .0) (a .1 .1 .1 .0 .ptr .1) (a .1 .1 .1 .0 .name) (a .1 .1 .1 .0 .now) (κs .1 .1 .0) (qs .1 .1 .0) (a .1 .1 .1 .1 .0 .ptr .0) (a .1 .1 .1 .1 .0 .ptr .1) (a .1 .1 .1 .1 .0 .name) (a .1 .1 .1 .1 .0 .now) (a .1 .1 .1 .1 .1 .0) (a .1 .1 .1 .1 .1 .1 .0) (are .0) (are .1 .0) (are .1 .1 .0 .0 .1) (are .1 .1 .1 .0 .0 .1) (are .1 .1 .1 .1 .0 .0 .1) (are .1 .1 .1 .1 .1 .0) (are .1 .1 .1 .1 .1 .1 .0) 𝓣 known-lengths-of known-line-state known-next-number known-version-part known-is-inside known-line-refusal known-publish-refusal known-is-due known-published-by))
 
-meets : {M : Type 1} (𝓤 : URA M) (H : Heap 𝓤) (A : Atoms 𝓤) → Given 𝓤 H A → (mem : Memory → SProp 𝓤) (run : Routine → Fun 𝓤) (𝓣 : Tables 𝓤 H) → Triple 𝓤 (𝓣 .C #lengths-of) (Call-lengths-of.Asked 𝓤 H A mem run) → Triple 𝓤 (𝓣 .C #line-state) (Call-line-state.Asked 𝓤 H A mem run) → Triple 𝓤 (𝓣 .C #next-number) (Call-next-number.Asked 𝓤 H A mem run) → Triple 𝓤 (𝓣 .C #version-part) (Call-version-part.Asked 𝓤 H A mem run) → Triple 𝓤 (𝓣 .C #line-refusal) (Call-line-refusal.Asked 𝓤 H A mem run) → Triple 𝓤 (𝓣 .C #publish-refusal) (Call-publish-refusal.Asked 𝓤 H A mem run) → Triple 𝓤 (𝓣 .C #is-due) (Call-is-due.Asked 𝓤 H A mem run) → Triple 𝓤 (𝓣 .C #published-by) (Call-published-by.Asked 𝓤 H A mem run)
+meets : {M : Type 1} (𝓤 : URA M) (H : Heap 𝓤) (A : Atoms 𝓤) → Given 𝓤 H A → (mem : Memory → SProp 𝓤) (run : Routine → Fun 𝓤) (𝓣 : Tables 𝓤 H) → Triple 𝓤 (𝓣 .C #lengths-of) (Call-lengths-of.Asked 𝓤 H A mem run) → Triple 𝓤 (𝓣 .C #line-state) (Call-line-state.Asked 𝓤 H A mem run) → Triple 𝓤 (𝓣 .C #next-number) (Call-next-number.Asked 𝓤 H A mem run) → Triple 𝓤 (𝓣 .C #version-part) (Call-version-part.Asked 𝓤 H A mem run) → Triple 𝓤 (𝓣 .C #is-inside) (Call-is-inside.Asked 𝓤 H A mem run) → Triple 𝓤 (𝓣 .C #line-refusal) (Call-line-refusal.Asked 𝓤 H A mem run) → Triple 𝓤 (𝓣 .C #publish-refusal) (Call-publish-refusal.Asked 𝓤 H A mem run) → Triple 𝓤 (𝓣 .C #is-due) (Call-is-due.Asked 𝓤 H A mem run) → Triple 𝓤 (𝓣 .C #published-by) (Call-published-by.Asked 𝓤 H A mem run)
     → Meets 𝓤 H A publish‴.signature (WpFn 𝓤 H (𝓣 .C) (𝓣 .Λ) code.function) (publish‴.spec 𝓤 H A mem run)
-meets 𝓤 H A W mem run 𝓣 known-lengths-of known-line-state known-next-number known-version-part known-line-refusal known-publish-refusal known-is-due known-published-by =
-    walk-meets 𝓤 H A publish‴.ended stayed W (goes-none 𝓤 H A W 3 (λ _. Store′.row) yes (λ κs x f. refl), (goes-none-slice 𝓤 H A W 3 (0 ∷ []) tt (plain (λ _. u8)) yes, (goes-none-slice 𝓤 H A W 3 (1 ∷ []) tt (plain (λ _. u32)) yes, (goes-none-slice 𝓤 H A W 3 (2 ∷ []) tt (plain (λ _. Record′.row)) yes, (goes-none 𝓤 H A W 3 (λ _. Line′.row) yes (λ κs x f. refl), tt))))) (publish‴.clauses 𝓤 H A mem run)
-    (WpFn 𝓤 H (𝓣 .C) (𝓣 .Λ) code.function) (WpFn-mono 𝓤 H (W .laws) 𝓣 code.function) (walks 𝓤 H A W mem run 𝓣 known-lengths-of known-line-state known-next-number known-version-part known-line-refusal known-publish-refusal known-is-due known-published-by)
+meets 𝓤 H A W mem run 𝓣 known-lengths-of known-line-state known-next-number known-version-part known-is-inside known-line-refusal known-publish-refusal known-is-due known-published-by =
+    walk-meets 𝓤 H A publish‴.ended stayed W (goes-none 𝓤 H A W 3 (λ _. Store′.row) yes (λ κs x f. refl), (goes-none 𝓤 H A W 3 (λ _. Windows′.row) yes (λ κs x f. refl), (goes-none-slice 𝓤 H A W 3 (0 ∷ []) tt (plain (λ _. u8)) yes, (goes-none-slice 𝓤 H A W 3 (1 ∷ []) tt (plain (λ _. u32)) yes, (goes-none-slice 𝓤 H A W 3 (2 ∷ []) tt (plain (λ _. Record′.row)) yes, (goes-none 𝓤 H A W 3 (λ _. Line′.row) yes (λ κs x f. refl), (goes-none 𝓤 H A W 3 (λ _. u64) yes (λ κs x f. refl), tt))))))) (publish‴.clauses 𝓤 H A mem run)
+    (WpFn 𝓤 H (𝓣 .C) (𝓣 .Λ) code.function) (WpFn-mono 𝓤 H (W .laws) 𝓣 code.function) (walks 𝓤 H A W mem run 𝓣 known-lengths-of known-line-state known-next-number known-version-part known-is-inside known-line-refusal known-publish-refusal known-is-due known-published-by)
 
 pub publish-spec : {M : Type 1} → stated.statement M
 unfolding code.routine tablesOf
@@ -192,6 +204,7 @@ publish-spec 𝓤 H 𝓜 𝓖 𝓡 =
     (cited 𝓤 H (Call-line-state.Asked 𝓤 H (𝓖 .A) (𝓜 .mem) (𝓡 .run)) 𝓜 𝓡 code.env #line-state def-line-state.routine code.calls-versions·line-state (thm-line-state.met 𝓤 H 𝓜 𝓖 𝓡))
     (cited 𝓤 H (Call-next-number.Asked 𝓤 H (𝓖 .A) (𝓜 .mem) (𝓡 .run)) 𝓜 𝓡 code.env #next-number def-next-number.routine code.calls-publish·next-number (thm-next-number.met 𝓤 H 𝓜 𝓖 𝓡))
     (cited 𝓤 H (Call-version-part.Asked 𝓤 H (𝓖 .A) (𝓜 .mem) (𝓡 .run)) 𝓜 𝓡 code.env #version-part def-version-part.routine code.calls-register·version-part (thm-version-part.met 𝓤 H 𝓜 𝓖 𝓡))
+    (cited 𝓤 H (Call-is-inside.Asked 𝓤 H (𝓖 .A) (𝓜 .mem) (𝓡 .run)) 𝓜 𝓡 code.env #is-inside def-is-inside.routine code.calls-windows·is-inside (thm-is-inside.met 𝓤 H 𝓜 𝓖 𝓡))
     (cited 𝓤 H (Call-line-refusal.Asked 𝓤 H (𝓖 .A) (𝓜 .mem) (𝓡 .run)) 𝓜 𝓡 code.env #line-refusal def-line-refusal.routine code.calls-versions·line-refusal (thm-line-refusal.met 𝓤 H 𝓜 𝓖 𝓡))
     (cited 𝓤 H (Call-publish-refusal.Asked 𝓤 H (𝓖 .A) (𝓜 .mem) (𝓡 .run)) 𝓜 𝓡 code.env #publish-refusal def-publish-refusal.routine code.calls-publish·publish-refusal (thm-publish-refusal.met 𝓤 H 𝓜 𝓖 𝓡))
     (cited 𝓤 H (Call-is-due.Asked 𝓤 H (𝓖 .A) (𝓜 .mem) (𝓡 .run)) 𝓜 𝓡 code.env #is-due def-is-due.routine code.calls-publish·is-due (thm-is-due.met 𝓤 H 𝓜 𝓖 𝓡))

@@ -15,26 +15,30 @@ returns c = rw (← suc-pred-eq-of-ne-zero (c .if1 .taken))
 
 returns-2 : tie.Need-returns-2
 unfolding unless
-returns-2 c = rw (c .before .if1 .left, not-true (c .before .before .args .due) (c .if2 .taken))
+returns-2 c = rw (c .before .if1 .left, c .if2 .taken)
+
+returns-3 : tie.Need-returns-3
+unfolding unless
+returns-3 c = rw (c .before .before .if1 .left, c .before .if2 .left, not-true (c .before .before .before .args .due) (c .if3 .taken))
 
 line-state-requires : tie.Need-line-state-requires
 line-state-requires c κs = search needs
 
-add-t10 : tie.Need-add-t10
-add-t10 c =
-    let before = c .before .before .before .before in
+add-t12 : tie.Need-add-t12
+add-t12 c =
+    let before = c .before .before .before .before .before in
     let b = c .before .line-state .result in
-    let next : b .published .0 < b .assigned .0 = rw (c .before .line-state .ensures) (ltb-true _ _ (before .pre (not-false (before .args .due) (c .before .before .if2 .left)))) in
+    let next : b .published .0 < b .assigned .0 = rw (c .before .line-state .ensures) (ltb-true _ _ (before .pre (not-false (before .args .due) (c .before .before .if3 .left)))) in
     omega arith
 
 with-line-requires : tie.Need-with-line-requires
 with-line-requires c κs = search needs
 
-returns-3 : tie.Need-returns-3
+returns-4 : tie.Need-returns-4
 unfolding unless
-returns-3 c =
-    let a = c .before .before .before .before .before .args in
-    rw (c .with-line .ensures, c .before .before .line-state .ensures, c .before .before .before .before .if1 .left, not-false (a .due) (c .before .before .before .if2 .left), add-one)
+returns-4 c =
+    let a = c .before .before .before .before .before .before .args in
+    rw (c .with-line .ensures, c .before .before .line-state .ensures, c .before .before .before .before .before .if1 .left, c .before .before .before .before .if2 .left, not-false (a .due) (c .before .before .before .if3 .left), add-one)
 
 pub published-by-spec : {M : Type 1} → statement M
-published-by-spec = tie.close (tie.spec returns returns-2 line-state-requires add-t10 with-line-requires returns-3)
+published-by-spec = tie.close (tie.spec returns returns-2 returns-3 line-state-requires add-t12 with-line-requires returns-4)

@@ -47,6 +47,10 @@ use Rattle.versions.specs.declared.Store.{Store}
 use Rattle.versions.proofs.Generated.Kind.Store as Store′
 use Rattle.tree.specs.declared.Ticket.{Ticket}
 use Rattle.register.proofs.Generated.Kind.Ticket as Ticket′
+use Rattle.windows.specs.declared.Windows.{Windows}
+use Rattle.windows.proofs.Generated.Kind.Windows as Windows′
+use Rattle.windows.specs.declared.Window.{Window}
+use Rattle.windows.proofs.Generated.Kind.Window as Window′
 use Rattle.format.specs.declared.Formatted.{Formatted}
 use Rattle.format.proofs.Generated.Kind.Formatted as Formatted′
 use Rattle.register.proofs.Generated.Flow.{ref, MutAt, ShrAt, lend-mut, back-mut, lend-shr, back-shr, branches-on, regroup, skips-on, returns-on, plus-nothing, holds, empty, less-fits, is-true, is-false, differ, above-0, twice-not, switches-to, switches-last, big-lit, here, blocks-on, resume, scaled-2, scaled-4, scaled-8, opens-shr, shuts-shr, opens-mut, shuts-mut, puts-mut, keeps-shr, fills, empties, tyAt}
@@ -56,12 +60,17 @@ use Rattle.replies.proofs.Generated.Call.no_store as Call-no-store
 use Rattle.replies.proofs.no_store.Symbol as def-no-store
 use Rattle.replies.proofs.no_store.Symbol.{name as #no-store}
 use Rattle.replies.proofs.no_store.Met as thm-no-store
+use Rattle.format.proofs.Generated.Say.no_windows as no-windows″
+use Rattle.format.proofs.Generated.Call.no_windows as Call-no-windows
+use Rattle.windows.proofs.no_windows.Symbol as def-no-windows
+use Rattle.windows.proofs.no_windows.Symbol.{name as #no-windows}
+use Rattle.windows.proofs.no_windows.Met as thm-no-windows
 use Rattle.replies.proofs.format_reply.Key.{name as #self}
 use Rattle.replies.proofs.format_reply as format-reply‴
 use Rattle.replies.proofs.format_reply.Statement as stated
 use Rattle.replies.proofs.format_reply.Code as code
 use Rattle.replies.proofs.format_reply.Proof.Facts as Facts
-use Rattle.replies.proofs.format_reply.Proof.Asks.{r1}
+use Rattle.replies.proofs.format_reply.Proof.Asks.{r1, r2}
 
 abbrev stayed : Stays (format-reply‴.ended .signature .params) (format-reply‴.ended .kept)
 stayed = (stay-none (λ _. Formatted′.row) yes, tt)
@@ -84,42 +93,47 @@ module _ {M : Type 1} (𝓤 : URA M) (H : Heap 𝓤) (A : Atoms 𝓤) (W : Given
       qed W ([]) ∵ suffices ! _ (ends-at 𝓤 H A format-reply‴.ended stayed (format-reply‴.clauses 𝓤 H A mem run) W bound (FormatReply′.mach r) r (tt, tt) (tt, tt)) $ says ! said $
       nothing ! $ frame ! $ nothing ! $ owned ! Formatted′.row (Is Formatted′.row) (Formatted′.makes 𝓤 H A) out _ ok·out $ fjoin ! $ frame ! $ owned ! FormatReply′.row (Is FormatReply′.row) (FormatReply′.makes 𝓤 H A) r _ ok·r $ done !
 
-  walk : (𝓣 : Tables 𝓤 H) (known-no-store : Triple 𝓤 (𝓣 .C #no-store) (Call-no-store.Asked 𝓤 H A mem run)) → ent 𝓤 (onEntry 𝓤 H A format-reply‴.signature tt tt all-args all-vals)
+  walk : (𝓣 : Tables 𝓤 H) (known-no-store : Triple 𝓤 (𝓣 .C #no-store) (Call-no-store.Asked 𝓤 H A mem run)) (known-no-windows : Triple 𝓤 (𝓣 .C #no-windows) (Call-no-windows.Asked 𝓤 H A mem run)) → ent 𝓤 (onEntry 𝓤 H A format-reply‴.signature tt tt all-args all-vals)
       (WpFn 𝓤 H (𝓣 .C) (𝓣 .Λ) code.function (Formatted′.mach out ∷ []) Post)
-  walk 𝓣 known-no-store =
+  walk 𝓣 known-no-store known-no-windows =
       qed W ((‵ ftrue) ∷ ‵ (owns (Formatted′.row ∷ []) all-args all-vals) ∷ []) ∵ enter ! (𝓣 .C) (𝓣 .Λ) code.function (Formatted′.mach out ∷ []) _ $
-      alloc1 ! (λ l₀. alloc1 ! (λ l₁. alloc1 ! (λ l₂. alloc1 ! (λ l₃. alloc1 ! (λ l₄. alloc1 ! (λ l₅. alloc0 ! $ params1 ! $
-      pass1 ! (init ! 8 refl (Formatted′.typed 𝓤 H A W out ok·out)) $ pass0 ! $
-      move ! (13 ∷ []) $ fsplit ! $ drop ! $ drop ! $ move ! (12 ∷ []) $ drop ! $
+      alloc1 ! (λ l₀. alloc1 ! (λ l₁. alloc1 ! (λ l₂. alloc1 ! (λ l₃. alloc1 ! (λ l₄. alloc1 ! (λ l₅. alloc1 ! (λ l₆. alloc1 ! (λ l₇. alloc0 ! $ params1 ! $
+      pass1 ! (init ! 12 refl (Formatted′.typed 𝓤 H A W out ok·out)) $ pass0 ! $
+      move ! (17 ∷ []) $ fsplit ! $ drop ! $ drop ! $ move ! (16 ∷ []) $ drop ! $
       Formatted′.cases ! out
-      (λ y1-0 m·1. rewrite ! 8 (λ (u : Formatted). ‵ (fat fullShare Formatted′.ty l₁ 0 (Formatted′.mach u))) m·1 refl $ switches-to ! 0 (load ! (from ! (vrt ! refl (fld ! refl (stop !)))) (look-tag ! 8 (whole !))) (
+      (λ y1-0 y1-1 m·1. rewrite ! 12 (λ (u : Formatted). ‵ (fat fullShare Formatted′.ty l₁ 0 (Formatted′.mach u))) m·1 refl $ switches-to ! 0 (load ! (from ! (vrt ! refl (fld ! refl (stop !)))) (look-tag ! 12 (whole !))) (
       regroup ! $
-      assigns ! (of-opd ! (load ! (from ! (vrt ! refl (fld ! refl (stop !)))) (look-in ! 8 (in-variant ! 0 0 refl refl (whole !))))) (from ! (stop !)) (init ! 6 refl (Store′.typed 𝓤 H A W y1-0 (Formatted′.ok-Made-0 y1-0 (subst Formatted′.Ok m·1 ok·out)))) $
-      assigns ! (agg ! (and-then ! (lit ! tt) (and-then ! (load ! (from ! (stop !)) (look ! 6 refl)) (no-more !)))) (from ! (stop !)) (init ! 2 refl (FormatReply′.typed 𝓤 H A W (FormatReply′.build 0 y1-0) (FormatReply′.make 0 y1-0 (refl, lit< tt) (Formatted′.ok-Made-0 y1-0 (subst Formatted′.Ok m·1 ok·out))))) $
-      assigns ! (of-opd ! (load ! (from ! (stop !)) (look ! 2 refl))) (from ! (stop !)) (init ! 10 refl (FormatReply′.typed 𝓤 H A W (FormatReply′.build 0 y1-0) (FormatReply′.make 0 y1-0 (refl, lit< tt) (Formatted′.ok-Made-0 y1-0 (subst Formatted′.Ok m·1 ok·out))))) $
-      returns ! (look ! 10 refl) $
-      move ! (10 ∷ 11 ∷ []) $ forget ! 0 refl $ free1 ! $ move ! (8 ∷ 9 ∷ []) $ forget ! 0 refl $ free1 ! $ move ! (6 ∷ 7 ∷ []) $ forget ! 0 refl $ free1 ! $ move ! (4 ∷ 5 ∷ []) $ free1 ! $ move ! (2 ∷ 3 ∷ []) $ forget ! 0 refl $ free1 ! $ free1 ! $ free0 ! $ by ! (exits (FormatReply′.build 0 y1-0) (FormatReply′.make 0 y1-0 (refl, lit< tt) (Formatted′.ok-Made-0 y1-0 (subst Formatted′.Ok m·1 ok·out))) (Facts.exit-1 out ok·out y1-0 m·1 (Formatted′.ok-Made-0 y1-0 (subst Formatted′.Ok m·1 ok·out))))))
-      (λ y1-0 m·1. rewrite ! 8 (λ (u : Formatted). ‵ (fat fullShare Formatted′.ty l₁ 0 (Formatted′.mach u))) m·1 refl $ switches-to ! 1 (load ! (from ! (vrt ! refl (fld ! refl (stop !)))) (look-tag ! 8 (whole !))) (
+      assigns ! (of-opd ! (load ! (from ! (vrt ! refl (fld ! refl (stop !)))) (look-in ! 12 (in-variant ! 0 0 refl refl (whole !))))) (from ! (stop !)) (init ! 10 refl (Store′.typed 𝓤 H A W y1-0 (Formatted′.ok-Made-0 y1-0 y1-1 (subst Formatted′.Ok m·1 ok·out)))) $
       regroup ! $
-      assigns ! (of-opd ! (load ! (from ! (vrt ! refl (fld ! refl (stop !)))) (look-in ! 8 (in-variant ! 1 0 refl refl (whole !))))) (from ! (stop !)) (init ! 4 refl (tt, record { fits = (Formatted′.ok-Refused-0 y1-0 (subst Formatted′.Ok m·1 ok·out)) .1 })) $
+      assigns ! (of-opd ! (load ! (from ! (vrt ! refl (fld ! refl (stop !)))) (look-in ! 12 (in-variant ! 0 1 refl refl (whole !))))) (from ! (stop !)) (init ! 8 refl (Windows′.typed 𝓤 H A W y1-1 (Formatted′.ok-Made-1 y1-0 y1-1 (subst Formatted′.Ok m·1 ok·out)))) $
+      assigns ! (agg ! (and-then ! (lit ! tt) (and-then ! (load ! (from ! (stop !)) (look ! 10 refl)) (and-then ! (load ! (from ! (stop !)) (look ! 8 refl)) (no-more !))))) (from ! (stop !)) (init ! 4 refl (FormatReply′.typed 𝓤 H A W (FormatReply′.build 0 y1-0 y1-1) (FormatReply′.make 0 y1-0 y1-1 (refl, lit< tt) (Formatted′.ok-Made-0 y1-0 y1-1 (subst Formatted′.Ok m·1 ok·out)) (Formatted′.ok-Made-1 y1-0 y1-1 (subst Formatted′.Ok m·1 ok·out))))) $
+      assigns ! (of-opd ! (load ! (from ! (stop !)) (look ! 4 refl))) (from ! (stop !)) (init ! 14 refl (FormatReply′.typed 𝓤 H A W (FormatReply′.build 0 y1-0 y1-1) (FormatReply′.make 0 y1-0 y1-1 (refl, lit< tt) (Formatted′.ok-Made-0 y1-0 y1-1 (subst Formatted′.Ok m·1 ok·out)) (Formatted′.ok-Made-1 y1-0 y1-1 (subst Formatted′.Ok m·1 ok·out))))) $
+      returns ! (look ! 14 refl) $
+      move ! (14 ∷ 15 ∷ []) $ forget ! 0 refl $ free1 ! $ move ! (12 ∷ 13 ∷ []) $ forget ! 0 refl $ free1 ! $ move ! (10 ∷ 11 ∷ []) $ forget ! 0 refl $ free1 ! $ move ! (8 ∷ 9 ∷ []) $ forget ! 0 refl $ free1 ! $ move ! (6 ∷ 7 ∷ []) $ free1 ! $ move ! (4 ∷ 5 ∷ []) $ forget ! 0 refl $ free1 ! $ move ! (2 ∷ 3 ∷ []) $ free1 ! $ free1 ! $ free0 ! $ by ! (exits (FormatReply′.build 0 y1-0 y1-1) (FormatReply′.make 0 y1-0 y1-1 (refl, lit< tt) (Formatted′.ok-Made-0 y1-0 y1-1 (subst Formatted′.Ok m·1 ok·out)) (Formatted′.ok-Made-1 y1-0 y1-1 (subst Formatted′.Ok m·1 ok·out))) (Facts.exit-1 out ok·out y1-0 y1-1 m·1 (Formatted′.ok-Made-0 y1-0 y1-1 (subst Formatted′.Ok m·1 ok·out)) (Formatted′.ok-Made-1 y1-0 y1-1 (subst Formatted′.Ok m·1 ok·out))))))
+      (λ y1-0 m·1. rewrite ! 12 (λ (u : Formatted). ‵ (fat fullShare Formatted′.ty l₁ 0 (Formatted′.mach u))) m·1 refl $ switches-to ! 1 (load ! (from ! (vrt ! refl (fld ! refl (stop !)))) (look-tag ! 12 (whole !))) (
+      regroup ! $
+      assigns ! (of-opd ! (load ! (from ! (vrt ! refl (fld ! refl (stop !)))) (look-in ! 12 (in-variant ! 1 0 refl refl (whole !))))) (from ! (stop !)) (init ! 6 refl (tt, record { fits = (Formatted′.ok-Refused-0 y1-0 (subst Formatted′.Ok m·1 ok·out)) .1 })) $
       regroup ! $
       Call-no-store.calls ! mem run (fmOf 𝓤 H (W .laws) 𝓣) known-no-store (no-more !)
-      (λ ok·1. land ! (from ! (stop !)) (init ! 0 refl (Store′.typed 𝓤 H A W (r1 out y1-0) ok·1)) $
-      assigns ! (agg ! (and-then ! (load ! (from ! (stop !)) (look ! 4 refl)) (and-then ! (load ! (from ! (stop !)) (look ! 0 refl)) (no-more !)))) (from ! (stop !)) (init ! 2 refl (FormatReply′.typed 𝓤 H A W (FormatReply′.build y1-0 (r1 out y1-0)) (FormatReply′.make y1-0 (r1 out y1-0) (Formatted′.ok-Refused-0 y1-0 (subst Formatted′.Ok m·1 ok·out)) ok·1))) $
-      assigns ! (of-opd ! (load ! (from ! (stop !)) (look ! 2 refl))) (from ! (stop !)) (init ! 10 refl (FormatReply′.typed 𝓤 H A W (FormatReply′.build y1-0 (r1 out y1-0)) (FormatReply′.make y1-0 (r1 out y1-0) (Formatted′.ok-Refused-0 y1-0 (subst Formatted′.Ok m·1 ok·out)) ok·1))) $
-      returns ! (look ! 10 refl) $
-      move ! (10 ∷ 11 ∷ []) $ forget ! 0 refl $ free1 ! $ move ! (8 ∷ 9 ∷ []) $ forget ! 0 refl $ free1 ! $ move ! (6 ∷ 7 ∷ []) $ free1 ! $ move ! (4 ∷ 5 ∷ []) $ forget ! 0 refl $ free1 ! $ move ! (2 ∷ 3 ∷ []) $ forget ! 0 refl $ free1 ! $ forget ! 0 refl $ free1 ! $ free0 ! $ by ! (exits (FormatReply′.build y1-0 (r1 out y1-0)) (FormatReply′.make y1-0 (r1 out y1-0) (Formatted′.ok-Refused-0 y1-0 (subst Formatted′.Ok m·1 ok·out)) ok·1) (Facts.exit-2 out ok·out y1-0 m·1 ((Formatted′.ok-Refused-0 y1-0 (subst Formatted′.Ok m·1 ok·out)) .1) ok·1)))))))))))
+      (λ ok·1. land ! (from ! (stop !)) (init ! 2 refl (Store′.typed 𝓤 H A W (r1 out y1-0) ok·1)) $
+      regroup ! $
+      Call-no-windows.calls ! mem run (fmOf 𝓤 H (W .laws) 𝓣) known-no-windows (no-more !)
+      (λ ok·2. land ! (from ! (stop !)) (init ! 0 refl (Windows′.typed 𝓤 H A W (r2 out y1-0) ok·2)) $
+      assigns ! (agg ! (and-then ! (load ! (from ! (stop !)) (look ! 6 refl)) (and-then ! (load ! (from ! (stop !)) (look ! 2 refl)) (and-then ! (load ! (from ! (stop !)) (look ! 0 refl)) (no-more !))))) (from ! (stop !)) (init ! 4 refl (FormatReply′.typed 𝓤 H A W (FormatReply′.build y1-0 (r1 out y1-0) (r2 out y1-0)) (FormatReply′.make y1-0 (r1 out y1-0) (r2 out y1-0) (Formatted′.ok-Refused-0 y1-0 (subst Formatted′.Ok m·1 ok·out)) ok·1 ok·2))) $
+      assigns ! (of-opd ! (load ! (from ! (stop !)) (look ! 4 refl))) (from ! (stop !)) (init ! 14 refl (FormatReply′.typed 𝓤 H A W (FormatReply′.build y1-0 (r1 out y1-0) (r2 out y1-0)) (FormatReply′.make y1-0 (r1 out y1-0) (r2 out y1-0) (Formatted′.ok-Refused-0 y1-0 (subst Formatted′.Ok m·1 ok·out)) ok·1 ok·2))) $
+      returns ! (look ! 14 refl) $
+      move ! (14 ∷ 15 ∷ []) $ forget ! 0 refl $ free1 ! $ move ! (12 ∷ 13 ∷ []) $ forget ! 0 refl $ free1 ! $ move ! (10 ∷ 11 ∷ []) $ free1 ! $ move ! (8 ∷ 9 ∷ []) $ free1 ! $ move ! (6 ∷ 7 ∷ []) $ forget ! 0 refl $ free1 ! $ move ! (4 ∷ 5 ∷ []) $ forget ! 0 refl $ free1 ! $ move ! (2 ∷ 3 ∷ []) $ forget ! 0 refl $ free1 ! $ forget ! 0 refl $ free1 ! $ free0 ! $ by ! (exits (FormatReply′.build y1-0 (r1 out y1-0) (r2 out y1-0)) (FormatReply′.make y1-0 (r1 out y1-0) (r2 out y1-0) (Formatted′.ok-Refused-0 y1-0 (subst Formatted′.Ok m·1 ok·out)) ok·1 ok·2) (Facts.exit-2 out ok·out y1-0 m·1 ((Formatted′.ok-Refused-0 y1-0 (subst Formatted′.Ok m·1 ok·out)) .1) ok·1 ok·2))))))))))))))
 
 module _ {M : Type 1} (𝓤 : URA M) (H : Heap 𝓤) (A : Atoms 𝓤) (W : Given 𝓤 H A) (mem : Memory → SProp 𝓤) (run : Routine → Fun 𝓤) where
-  walks : (𝓣 : Tables 𝓤 H) → Triple 𝓤 (𝓣 .C #no-store) (Call-no-store.Asked 𝓤 H A mem run) → Walks 𝓤 H A format-reply‴.ended stayed (WpFn 𝓤 H (𝓣 .C) (𝓣 .Λ) code.function) (format-reply‴.clauses 𝓤 H A mem run)
-  walks 𝓣 known-no-store = walked 𝓤 H A format-reply‴.ended stayed (format-reply‴.clauses 𝓤 H A mem run) (WpFn 𝓤 H (𝓣 .C) (𝓣 .Λ) code.function) (λ κs. (Formatted′.vals, tt)) (λ κs. (Formatted′.tells, tt))
-      (λ κs qs bounds a g are. via 𝓤 _ (fst∗ 𝓤 _ (emp 𝓤)) (walk 𝓤 H A W mem run (a .0) (are .0) 𝓣 known-no-store))
+  walks : (𝓣 : Tables 𝓤 H) → Triple 𝓤 (𝓣 .C #no-store) (Call-no-store.Asked 𝓤 H A mem run) → Triple 𝓤 (𝓣 .C #no-windows) (Call-no-windows.Asked 𝓤 H A mem run) → Walks 𝓤 H A format-reply‴.ended stayed (WpFn 𝓤 H (𝓣 .C) (𝓣 .Λ) code.function) (format-reply‴.clauses 𝓤 H A mem run)
+  walks 𝓣 known-no-store known-no-windows = walked 𝓤 H A format-reply‴.ended stayed (format-reply‴.clauses 𝓤 H A mem run) (WpFn 𝓤 H (𝓣 .C) (𝓣 .Λ) code.function) (λ κs. (Formatted′.vals, tt)) (λ κs. (Formatted′.tells, tt))
+      (λ κs qs bounds a g are. via 𝓤 _ (fst∗ 𝓤 _ (emp 𝓤)) (walk 𝓤 H A W mem run (a .0) (are .0) 𝓣 known-no-store known-no-windows))
 
-meets : {M : Type 1} (𝓤 : URA M) (H : Heap 𝓤) (A : Atoms 𝓤) → Given 𝓤 H A → (mem : Memory → SProp 𝓤) (run : Routine → Fun 𝓤) (𝓣 : Tables 𝓤 H) → Triple 𝓤 (𝓣 .C #no-store) (Call-no-store.Asked 𝓤 H A mem run)
+meets : {M : Type 1} (𝓤 : URA M) (H : Heap 𝓤) (A : Atoms 𝓤) → Given 𝓤 H A → (mem : Memory → SProp 𝓤) (run : Routine → Fun 𝓤) (𝓣 : Tables 𝓤 H) → Triple 𝓤 (𝓣 .C #no-store) (Call-no-store.Asked 𝓤 H A mem run) → Triple 𝓤 (𝓣 .C #no-windows) (Call-no-windows.Asked 𝓤 H A mem run)
     → Meets 𝓤 H A format-reply‴.signature (WpFn 𝓤 H (𝓣 .C) (𝓣 .Λ) code.function) (format-reply‴.spec 𝓤 H A mem run)
-meets 𝓤 H A W mem run 𝓣 known-no-store =
+meets 𝓤 H A W mem run 𝓣 known-no-store known-no-windows =
     walk-meets 𝓤 H A format-reply‴.ended stayed W (goes-none 𝓤 H A W 0 (λ _. Formatted′.row) yes (λ κs x f. refl), tt) (format-reply‴.clauses 𝓤 H A mem run)
-    (WpFn 𝓤 H (𝓣 .C) (𝓣 .Λ) code.function) (WpFn-mono 𝓤 H (W .laws) 𝓣 code.function) (walks 𝓤 H A W mem run 𝓣 known-no-store)
+    (WpFn 𝓤 H (𝓣 .C) (𝓣 .Λ) code.function) (WpFn-mono 𝓤 H (W .laws) 𝓣 code.function) (walks 𝓤 H A W mem run 𝓣 known-no-store known-no-windows)
 
 pub format-reply-spec : {M : Type 1} → stated.statement M
 unfolding code.routine tablesOf
@@ -127,4 +141,5 @@ format-reply-spec 𝓤 H 𝓜 𝓖 𝓡 =
     entered 𝓤 H (tripleOf 𝓤 H (𝓖 .A) format-reply‴.signature (format-reply‴.spec 𝓤 H (𝓖 .A) (𝓜 .mem) (𝓡 .run)))
     (tables 𝓤 H 𝓜 𝓡 code.env .C) (tables 𝓤 H 𝓜 𝓡 code.env .Λ) #self code.function (code.unfolded 𝓤 H 𝓜 𝓡)
     (meets 𝓤 H (𝓖 .A) (givenOf 𝓤 H 𝓜 𝓖) (𝓜 .mem) (𝓡 .run) (tablesOf 𝓤 H 𝓜 (tables 𝓤 H 𝓜 𝓡 code.env))
-    (cited 𝓤 H (Call-no-store.Asked 𝓤 H (𝓖 .A) (𝓜 .mem) (𝓡 .run)) 𝓜 𝓡 code.env #no-store def-no-store.routine code.calls-replies·no-store (thm-no-store.met 𝓤 H 𝓜 𝓖 𝓡)))
+    (cited 𝓤 H (Call-no-store.Asked 𝓤 H (𝓖 .A) (𝓜 .mem) (𝓡 .run)) 𝓜 𝓡 code.env #no-store def-no-store.routine code.calls-replies·no-store (thm-no-store.met 𝓤 H 𝓜 𝓖 𝓡))
+    (cited 𝓤 H (Call-no-windows.Asked 𝓤 H (𝓖 .A) (𝓜 .mem) (𝓡 .run)) 𝓜 𝓡 code.env #no-windows def-no-windows.routine code.calls-windows·no-windows (thm-no-windows.met 𝓤 H 𝓜 𝓖 𝓡)))

@@ -9,6 +9,9 @@ enum-known-answer c = search needs
 enum-told : tie.Need-enum-told
 enum-told c = search needs
 
+enum-told-2 : tie.Need-enum-told-2
+enum-told-2 c = search needs
+
 enum-known-answer-2 : tie.Need-enum-known-answer-2
 enum-known-answer-2 c = search needs
 
@@ -19,9 +22,12 @@ returns-2 : tie.Need-returns-2
 returns-2 c = rw (c .enum-told .given .1)
 
 returns-3 : tie.Need-returns-3
-returns-3 c = rw (c .before .answer2 .given .1)
+returns-3 c = rw (c .enum-told2 .given .1)
+
+returns-4 : tie.Need-returns-4
+returns-4 c = rw (c .before .answer2 .given .1)
 
 pub publish-reply-spec : {M : Type 1} → statement M
 publish-reply-spec =
     tie.close
-    (tie.spec enum-known-answer enum-told enum-known-answer-2 returns returns-2 returns-3)
+    (tie.spec enum-known-answer enum-told enum-told-2 enum-known-answer-2 returns returns-2 returns-3 returns-4)

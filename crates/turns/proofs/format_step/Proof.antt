@@ -56,6 +56,10 @@ use Rattle.lines.specs.declared.Entries.{Entries}
 use Rattle.register.proofs.Generated.Kind.Entries as Entries′
 use Rattle.format.specs.declared.Formatted.{Formatted}
 use Rattle.format.proofs.Generated.Kind.Formatted as Formatted′
+use Rattle.windows.specs.declared.Windows.{Windows}
+use Rattle.windows.proofs.Generated.Kind.Windows as Windows′
+use Rattle.windows.specs.declared.Window.{Window}
+use Rattle.windows.proofs.Generated.Kind.Window as Window′
 use Rattle.register.proofs.Generated.Flow.{ref, MutAt, ShrAt, lend-mut, back-mut, lend-shr, back-shr, branches-on, regroup, skips-on, returns-on, plus-nothing, holds, empty, less-fits, is-true, is-false, differ, above-0, twice-not, switches-to, switches-last, big-lit, here, blocks-on, resume, scaled-2, scaled-4, scaled-8, opens-shr, shuts-shr, opens-mut, shuts-mut, puts-mut, keeps-shr, fills, empties, tyAt}
 use Rattle.turns.proofs.Generated.Say.format_step as format-step″
 use Rattle.format.proofs.Generated.Say.format as format″

@@ -11,6 +11,8 @@ use Rattle.answers.specs.declared.Turn.{Turn}
 use Rattle.format.specs.declared.Formatted.{Formatted}
 use Rattle.tree.specs.declared.Ticket.{Ticket}
 use Rattle.versions.specs.declared.Store.{Store}
+use Rattle.windows.specs.declared.Window.{Window}
+use Rattle.windows.specs.declared.Windows.{Windows}
 
 abbrev pub ens : Kept → Formatted → List ℕ → List ℕ → Turn → Type 0
 ens kept a out out′ r = (r ≡ turned (formatSaid kept a) out) × (out′ ≡ written (formatSaid kept a) out)

@@ -18,6 +18,10 @@ use Rattle.tree.specs.declared.Ticket.{Ticket}
 use Rattle.register.proofs.Generated.Kind.Ticket as Ticket′
 use Rattle.format.specs.declared.Formatted.{Formatted}
 use Rattle.format.proofs.Generated.Kind.Formatted as Formatted′
+use Rattle.windows.specs.declared.Windows.{Windows}
+use Rattle.windows.proofs.Generated.Kind.Windows as Windows′
+use Rattle.windows.specs.declared.Window.{Window}
+use Rattle.windows.proofs.Generated.Kind.Window as Window′
 use Rattle.print.specs.declared.Reply.{Reply}
 use Rattle.answers.proofs.Generated.Kind.Reply as Reply′
 use Rattle.answers.proofs.Generated.Say.format_turn as format-turn″
@@ -25,14 +29,14 @@ use Rattle.answers.proofs.Generated.Say.opened as opened″
 use Rattle.answers.proofs.Generated.Say.reply_turn as reply-turn″
 use Rattle.answers.proofs.Generated.Say.write_reply as write-reply″
 
-abbrev pub r1 : Kept → Formatted → List ℕ → Store → Kept
-r1 kept x-a out y1-0 = opened″.res y1-0
+abbrev pub r1 : Kept → Formatted → List ℕ → Store → Windows → Kept
+r1 kept x-a out y1-0 y1-1 = opened″.res y1-0
 
-abbrev pub r2 : Kept → Formatted → List ℕ → Store → Turn
-r2 kept x-a out y1-0 = reply-turn″.res (r1 kept x-a out y1-0) Reply.Ok out
+abbrev pub r2 : Kept → Formatted → List ℕ → Store → Windows → Turn
+r2 kept x-a out y1-0 y1-1 = reply-turn″.res (r1 kept x-a out y1-0 y1-1) Reply.Ok out
 
-abbrev pub out₂ : Kept → Formatted → List ℕ → Store → List ℕ
-out₂ kept x-a out y1-0 = reply-turn″.out-out (r1 kept x-a out y1-0) Reply.Ok out
+abbrev pub out₂ : Kept → Formatted → List ℕ → Store → Windows → List ℕ
+out₂ kept x-a out y1-0 y1-1 = reply-turn″.out-out (r1 kept x-a out y1-0 y1-1) Reply.Ok out
 
 abbrev pub r3 : Kept → Formatted → List ℕ → ℕ → ℕ
 r3 kept x-a out y1-0 = write-reply″.res (Reply.Refused y1-0) out
@@ -43,8 +47,8 @@ out₃ kept x-a out y1-0 = write-reply″.out-out (Reply.Refused y1-0) out
 -- the function ensures: (r ≡ turned (formatSaid kept a) out) × (out′ ≡ written (formatSaid kept a) out)
 abbrev pub exit-1 : Type 0
 exit-1 =
-    (kept : Kept) (x-a : Formatted) (out : List ℕ) (ok-kept : Kept′.Ok kept) (ok-x-a : Formatted′.Ok x-a) (len-out : length out < 2 ^ 64) (y1-0 : Store) (m1 : x-a ≡ Formatted.Made y1-0) (ok-y1-0 : Store′.Ok y1-0) (ok-r1 : Kept′.Ok (r1 kept x-a out y1-0)) (ok-r2 : Turn′.Ok (r2 kept x-a out y1-0)) (same2-out : length (out₂ kept x-a out y1-0) ≡ length out)
-    → format-turn″.ens kept x-a out (out₂ kept x-a out y1-0) (r2 kept x-a out y1-0)
+    (kept : Kept) (x-a : Formatted) (out : List ℕ) (ok-kept : Kept′.Ok kept) (ok-x-a : Formatted′.Ok x-a) (len-out : length out < 2 ^ 64) (y1-0 : Store) (y1-1 : Windows) (m1 : x-a ≡ Formatted.Made y1-0 y1-1) (ok-y1-0 : Store′.Ok y1-0) (ok-y1-1 : Windows′.Ok y1-1) (ok-r1 : Kept′.Ok (r1 kept x-a out y1-0 y1-1)) (ok-r2 : Turn′.Ok (r2 kept x-a out y1-0 y1-1)) (same2-out : length (out₂ kept x-a out y1-0 y1-1) ≡ length out)
+    → format-turn″.ens kept x-a out (out₂ kept x-a out y1-0 y1-1) (r2 kept x-a out y1-0 y1-1)
 
 -- the function ensures: (r ≡ turned (formatSaid kept a) out) × (out′ ≡ written (formatSaid kept a) out)
 abbrev pub exit-2 : Type 0

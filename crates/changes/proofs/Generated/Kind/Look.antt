@@ -53,23 +53,26 @@ makes = LL.makes T′.the-type T″.the-plain
 
 -- a value to stand past the end of a list
 abbrev pub none : Look
-none = Look.Publish 0
+none = Look.Publish 0 0
 
 -- by cases on a value, within a walk
 module _ {M : Type 1} {𝓤 : URA M} {H : Heap 𝓤} {A : Atoms 𝓤} {K : Type 0} {W : Given 𝓤 H A} {Γ : List (Item 𝓤)} {G : Goal 𝓤 H} where
-  pub cases : K → (d : Look) → ((y0 : ℕ) → d ≡ Look.Publish y0 → Seq K W Γ G) → ((y0 : ℕ) → (y1 : ℕ) → d ≡ Look.Branch y0 y1 → Seq K W Γ G) → ((y0 : ℕ) → (y1 : ℕ) → (y2 : ℕ) → (y3 : ℕ) → d ≡ Look.Read y0 y1 y2 y3 → Seq K W Γ G) → ((y0 : ℕ) → (y1 : ℕ) → d ≡ Look.Size y0 y1 → Seq K W Γ G) → ((y0 : ℕ) → d ≡ Look.Recent y0 → Seq K W Γ G) → ((y0 : ℕ) → (y1 : ℕ) → (y2 : ℕ) → d ≡ Look.Stamp y0 y1 y2 → Seq K W Γ G) → Seq K W Γ G
-  cases t (Look.Publish y0) k0 k1 k2 k3 k4 k5 = k0 y0 refl
+  pub cases : K → (d : Look) → ((y0 : ℕ) → (y1 : ℕ) → d ≡ Look.Publish y0 y1 → Seq K W Γ G) → ((y0 : ℕ) → (y1 : ℕ) → d ≡ Look.Branch y0 y1 → Seq K W Γ G) → ((y0 : ℕ) → (y1 : ℕ) → (y2 : ℕ) → (y3 : ℕ) → d ≡ Look.Read y0 y1 y2 y3 → Seq K W Γ G) → ((y0 : ℕ) → (y1 : ℕ) → d ≡ Look.Size y0 y1 → Seq K W Γ G) → ((y0 : ℕ) → d ≡ Look.Recent y0 → Seq K W Γ G) → ((y0 : ℕ) → (y1 : ℕ) → (y2 : ℕ) → d ≡ Look.Stamp y0 y1 y2 → Seq K W Γ G) → Seq K W Γ G
+  cases t (Look.Publish y0 y1) k0 k1 k2 k3 k4 k5 = k0 y0 y1 refl
   cases t (Look.Branch y0 y1) k0 k1 k2 k3 k4 k5 = k1 y0 y1 refl
   cases t (Look.Read y0 y1 y2 y3) k0 k1 k2 k3 k4 k5 = k2 y0 y1 y2 y3 refl
   cases t (Look.Size y0 y1) k0 k1 k2 k3 k4 k5 = k3 y0 y1 refl
   cases t (Look.Recent y0) k0 k1 k2 k3 k4 k5 = k4 y0 refl
   cases t (Look.Stamp y0 y1 y2) k0 k1 k2 k3 k4 k5 = k5 y0 y1 y2 refl
 
-pub make-Publish : (y0 : ℕ) → Is u64 y0 (uint-vals w64 y0) → Ok (Look.Publish y0)
-make-Publish y0 g0 = LL.owes T′.the-type T″.the-laws (Look.Publish y0) (g0, tt)
+pub make-Publish : (y0 : ℕ) → (y1 : ℕ) → Is u64 y0 (uint-vals w64 y0) → Is u64 y1 (uint-vals w64 y1) → Ok (Look.Publish y0 y1)
+make-Publish y0 y1 g0 g1 = LL.owes T′.the-type T″.the-laws (Look.Publish y0 y1) (g0, (g1, tt))
 
-pub ok-Publish-0 : (y0 : ℕ) → Ok (Look.Publish y0) → Is u64 y0 (uint-vals w64 y0)
-ok-Publish-0 y0 g = LL.owed T′.the-type T″.the-laws (Look.Publish y0) _ g .0
+pub ok-Publish-0 : (y0 : ℕ) → (y1 : ℕ) → Ok (Look.Publish y0 y1) → Is u64 y0 (uint-vals w64 y0)
+ok-Publish-0 y0 y1 g = LL.owed T′.the-type T″.the-laws (Look.Publish y0 y1) _ g .0
+
+pub ok-Publish-1 : (y0 : ℕ) → (y1 : ℕ) → Ok (Look.Publish y0 y1) → Is u64 y1 (uint-vals w64 y1)
+ok-Publish-1 y0 y1 g = LL.owed T′.the-type T″.the-laws (Look.Publish y0 y1) _ g .1 .0
 
 pub make-Branch : (y0 : ℕ) → (y1 : ℕ) → Is u64 y0 (uint-vals w64 y0) → Is u64 y1 (uint-vals w64 y1) → Ok (Look.Branch y0 y1)
 make-Branch y0 y1 g0 g1 = LL.owes T′.the-type T″.the-laws (Look.Branch y0 y1) (g0, (g1, tt))

@@ -55,7 +55,7 @@ makes = LL.makes T′.the-type T″.the-plain
 
 -- a value to stand past the end of a list
 abbrev pub none : PublishReply
-none = record { refusal = 0; store = Store′.none; version = 0 }
+none = record { refusal = 0; store = Store′.none; version = 0; held = 0 }
 
 pub ok-refusal : (d : PublishReply) → Ok d → Is u64 (d .refusal) (uint-vals w64 (d .refusal))
 ok-refusal d g = LL.owed T′.the-type T″.the-laws d _ g .0
@@ -66,14 +66,17 @@ ok-store d g = LL.owed T′.the-type T″.the-laws d _ g .1 .0
 pub ok-version : (d : PublishReply) → Ok d → Is u64 (d .version) (uint-vals w64 (d .version))
 ok-version d g = LL.owed T′.the-type T″.the-laws d _ g .1 .1 .0
 
-abbrev pub build : ℕ → Store → ℕ → PublishReply
-build y0 y1 y2 = record { refusal = y0; store = y1; version = y2 }
+pub ok-held : (d : PublishReply) → Ok d → Is u64 (d .held) (uint-vals w64 (d .held))
+ok-held d g = LL.owed T′.the-type T″.the-laws d _ g .1 .1 .1 .0
 
-pub make : (y0 : ℕ) (y1 : Store) (y2 : ℕ) → Is u64 y0 (uint-vals w64 y0) → Is Store′.row y1 (Store′.vals y1) → Is u64 y2 (uint-vals w64 y2) → Ok (build y0 y1 y2)
-make y0 y1 y2 g0 g1 g2 = LL.owes T′.the-type T″.the-laws (build y0 y1 y2) (g0, (g1, (g2, tt)))
+abbrev pub build : ℕ → Store → ℕ → ℕ → PublishReply
+build y0 y1 y2 y3 = record { refusal = y0; store = y1; version = y2; held = y3 }
+
+pub make : (y0 : ℕ) (y1 : Store) (y2 : ℕ) (y3 : ℕ) → Is u64 y0 (uint-vals w64 y0) → Is Store′.row y1 (Store′.vals y1) → Is u64 y2 (uint-vals w64 y2) → Is u64 y3 (uint-vals w64 y3) → Ok (build y0 y1 y2 y3)
+make y0 y1 y2 y3 g0 g1 g2 g3 = LL.owes T′.the-type T″.the-laws (build y0 y1 y2 y3) (g0, (g1, (g2, (g3, tt))))
 
 abbrev pub stride : ℕ
-stride = 224
+stride = 232
 
 -- the byte offset of an element of a slice does not wrap
 pub scaled : (n i : ℕ) → i < n → n * stride < 2 ^ 63 → i * stride < 2 ^ 64

@@ -5,7 +5,7 @@ use Prim.Native.Nat.{ℕ}
 use mathlib.Core.List.{List}
 use mathlib.Core.Bool.{Bool}
 use mathlib.Core.Path.{_≡_}
-use Rattle.replies.specs.Replies.{noStore, formatReply, beginReply, putReply, assignReply, weaveReply, publishReply, branchReply, readReply, sizeReply, recentReply, stampReply, viewReply}
+use Rattle.replies.specs.Replies.{noStore, formatReply, beginReply, putReply, assignReply, weaveReply, publishReply, windowsReply, branchReply, readReply, sizeReply, recentReply, stampReply, viewReply}
 use Rattle.branch.specs.declared.BranchOut.{BranchOut}
 use Rattle.branch.specs.declared.Branched.{Branched}
 use Rattle.lines.specs.declared.Line.{Line}
@@ -18,6 +18,7 @@ use Rattle.replies.specs.declared.SizeReply.{SizeReply}
 use Rattle.replies.specs.declared.VersionReply.{VersionReply}
 use Rattle.replies.specs.declared.ViewReply.{ViewReply}
 use Rattle.replies.specs.declared.WeaveReply.{WeaveReply}
+use Rattle.replies.specs.declared.WindowsReply.{WindowsReply}
 use Rattle.tree.specs.declared.Ticket.{Ticket}
 use Rattle.versions.specs.declared.Store.{Store}
 

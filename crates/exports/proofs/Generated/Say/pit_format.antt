@@ -14,18 +14,21 @@ use Rattle.assign.specs.Assign.{assignOut, assignRegister}
 use Rattle.weave.specs.Weave.{weaveOut, weaveNodes, weaveRegister}
 use Rattle.publish.specs.Publish.{publishOut}
 use Rattle.branch.specs.Branch.{branchOut}
+use Rattle.set_windows.specs.SetWindows.{setOut}
 use Rattle.read.specs.Read.{readOut, readBuffer}
 use Rattle.versions.specs.Size.{sizeOut}
 use Rattle.versions.specs.Recent.{recentOut}
 use Rattle.stamp.specs.Stamp.{stampOut}
 use Rattle.view.specs.View.{viewPart, viewAt}
-use Rattle.replies.specs.Replies.{formatReply, beginReply, putReply, assignReply, weaveReply, publishReply, branchReply, readReply, sizeReply, recentReply, stampReply, viewReply}
+use Rattle.replies.specs.Replies.{formatReply, beginReply, putReply, assignReply, weaveReply, publishReply, windowsReply, branchReply, readReply, sizeReply, recentReply, stampReply, viewReply}
 use Rattle.lines.specs.declared.Entries.{Entries}
 use Rattle.register.specs.declared.Record.{Record}
 use Rattle.replies.specs.declared.FormatReply.{FormatReply}
 use Rattle.tree.specs.declared.PageIndex.{PageIndex}
 use Rattle.tree.specs.declared.Ticket.{Ticket}
 use Rattle.versions.specs.declared.Store.{Store}
+use Rattle.windows.specs.declared.Window.{Window}
+use Rattle.windows.specs.declared.Windows.{Windows}
 
 abbrev pub ens : ℕ → ℕ → ℕ → ℕ → List ℕ → List ℕ → List Record → List ℕ → List ℕ → List Record → FormatReply → Type 0
 ens size page_count node_count updates pages nodes register pages′ nodes′ register′ r = (r ≡ formatReply (formatAnswer (fresh size page_count node_count updates) (areasOf pages nodes register))) × (pages′ ≡ formatAreas (fresh size page_count node_count updates) (areasOf pages nodes register) .pages) × (nodes′ ≡ formatAreas (fresh size page_count node_count updates) (areasOf pages nodes register) .nodes) × (register′ ≡ formatAreas (fresh size page_count node_count updates) (areasOf pages nodes register) .register)

@@ -14,21 +14,24 @@ use Rattle.assign.specs.Assign.{assignOut, assignRegister}
 use Rattle.weave.specs.Weave.{weaveOut, weaveNodes, weaveRegister}
 use Rattle.publish.specs.Publish.{publishOut}
 use Rattle.branch.specs.Branch.{branchOut}
+use Rattle.set_windows.specs.SetWindows.{setOut}
 use Rattle.read.specs.Read.{readOut, readBuffer}
 use Rattle.versions.specs.Size.{sizeOut}
 use Rattle.versions.specs.Recent.{recentOut}
 use Rattle.stamp.specs.Stamp.{stampOut}
 use Rattle.view.specs.View.{viewPart, viewAt}
-use Rattle.replies.specs.Replies.{formatReply, beginReply, putReply, assignReply, weaveReply, publishReply, branchReply, readReply, sizeReply, recentReply, stampReply, viewReply}
+use Rattle.replies.specs.Replies.{formatReply, beginReply, putReply, assignReply, weaveReply, publishReply, windowsReply, branchReply, readReply, sizeReply, recentReply, stampReply, viewReply}
 use Rattle.lines.specs.declared.Entries.{Entries}
 use Rattle.register.specs.declared.Record.{Record}
 use Rattle.replies.specs.declared.PublishReply.{PublishReply}
 use Rattle.tree.specs.declared.PageIndex.{PageIndex}
 use Rattle.tree.specs.declared.Ticket.{Ticket}
 use Rattle.versions.specs.declared.Store.{Store}
+use Rattle.windows.specs.declared.Window.{Window}
+use Rattle.windows.specs.declared.Windows.{Windows}
 
-abbrev pub ens : Store → List ℕ → List ℕ → List Record → ℕ → PublishReply → Type 0
-ens s pages nodes register line r = r ≡ publishReply (publishOut s (areasOf pages nodes register) line)
+abbrev pub ens : Store → Windows → List ℕ → List ℕ → List Record → ℕ → ℕ → PublishReply → Type 0
+ens s w pages nodes register line minute r = r ≡ publishReply (publishOut s w (areasOf pages nodes register) line minute)
 
-abbrev pub res : Store → List ℕ → List ℕ → List Record → ℕ → PublishReply
-res s pages nodes register line = publishReply (publishOut s (areasOf pages nodes register) line)
+abbrev pub res : Store → Windows → List ℕ → List ℕ → List Record → ℕ → ℕ → PublishReply
+res s w pages nodes register line minute = publishReply (publishOut s w (areasOf pages nodes register) line minute)

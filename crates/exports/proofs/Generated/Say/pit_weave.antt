@@ -14,12 +14,13 @@ use Rattle.assign.specs.Assign.{assignOut, assignRegister}
 use Rattle.weave.specs.Weave.{weaveOut, weaveNodes, weaveRegister}
 use Rattle.publish.specs.Publish.{publishOut}
 use Rattle.branch.specs.Branch.{branchOut}
+use Rattle.set_windows.specs.SetWindows.{setOut}
 use Rattle.read.specs.Read.{readOut, readBuffer}
 use Rattle.versions.specs.Size.{sizeOut}
 use Rattle.versions.specs.Recent.{recentOut}
 use Rattle.stamp.specs.Stamp.{stampOut}
 use Rattle.view.specs.View.{viewPart, viewAt}
-use Rattle.replies.specs.Replies.{formatReply, beginReply, putReply, assignReply, weaveReply, publishReply, branchReply, readReply, sizeReply, recentReply, stampReply, viewReply}
+use Rattle.replies.specs.Replies.{formatReply, beginReply, putReply, assignReply, weaveReply, publishReply, windowsReply, branchReply, readReply, sizeReply, recentReply, stampReply, viewReply}
 use Rattle.lines.specs.declared.Entries.{Entries}
 use Rattle.register.specs.declared.Record.{Record}
 use Rattle.replies.specs.declared.WeaveReply.{WeaveReply}

@@ -5,7 +5,7 @@ use Prim.Native.Nat.{ℕ}
 use mathlib.Core.List.{List}
 use mathlib.Core.Bool.{Bool}
 use mathlib.Core.Path.{_≡_}
-use Rattle.replies.specs.Replies.{noStore, formatReply, beginReply, putReply, assignReply, weaveReply, publishReply, branchReply, readReply, sizeReply, recentReply, stampReply, viewReply}
+use Rattle.replies.specs.Replies.{noStore, formatReply, beginReply, putReply, assignReply, weaveReply, publishReply, windowsReply, branchReply, readReply, sizeReply, recentReply, stampReply, viewReply}
 use Rattle.replies.specs.declared.AssignReply.{AssignReply}
 use Rattle.replies.specs.declared.BeginReply.{BeginReply}
 use Rattle.replies.specs.declared.BranchReply.{BranchReply}
@@ -15,6 +15,7 @@ use Rattle.replies.specs.declared.SizeReply.{SizeReply}
 use Rattle.replies.specs.declared.VersionReply.{VersionReply}
 use Rattle.replies.specs.declared.ViewReply.{ViewReply}
 use Rattle.replies.specs.declared.WeaveReply.{WeaveReply}
+use Rattle.replies.specs.declared.WindowsReply.{WindowsReply}
 use Rattle.versions.specs.declared.Sized.{Sized}
 
 abbrev pub ens : Sized → SizeReply → Type 0

@@ -14,6 +14,10 @@ use Rattle.versions.specs.declared.Store.{Store}
 use Rattle.versions.proofs.Generated.Kind.Store as Store′
 use Rattle.tree.specs.declared.Ticket.{Ticket}
 use Rattle.register.proofs.Generated.Kind.Ticket as Ticket′
+use Rattle.windows.specs.declared.Windows.{Windows}
+use Rattle.windows.proofs.Generated.Kind.Windows as Windows′
+use Rattle.windows.specs.declared.Window.{Window}
+use Rattle.windows.proofs.Generated.Kind.Window as Window′
 use Rattle.register.specs.declared.Record.{Record}
 use Rattle.register.proofs.Generated.Kind.Record as Record′
 use Rattle.tree.specs.declared.PageIndex.{PageIndex}
@@ -32,14 +36,14 @@ use Rattle.exports.proofs.Generated.Say.pit_publish as pit-publish″
 use Rattle.publish.proofs.Generated.Say.publish as publish″
 use Rattle.exports.proofs.Generated.Say.publish_reply as publish-reply″
 
-abbrev pub r1 : Store → List ℕ → List ℕ → List Record → ℕ → PublishOut
-r1 s pages nodes register line = publish″.res s pages nodes register (Line′.build line)
+abbrev pub r1 : Store → Windows → List ℕ → List ℕ → List Record → ℕ → ℕ → PublishOut
+r1 s w pages nodes register line minute = publish″.res s w pages nodes register (Line′.build line) minute
 
-abbrev pub r2 : Store → List ℕ → List ℕ → List Record → ℕ → PublishReply
-r2 s pages nodes register line = publish-reply″.res (r1 s pages nodes register line)
+abbrev pub r2 : Store → Windows → List ℕ → List ℕ → List Record → ℕ → ℕ → PublishReply
+r2 s w pages nodes register line minute = publish-reply″.res (r1 s w pages nodes register line minute)
 
--- the function ensures: r ≡ publishReply (publishOut s (areasOf pages nodes register) line)
+-- the function ensures: r ≡ publishReply (publishOut s w (areasOf pages nodes register) line minute)
 abbrev pub exit-1 : Type 0
 exit-1 =
-    (s : Store) (pages : List ℕ) (nodes : List ℕ) (register : List Record) (line : ℕ) (ok-s : Store′.Ok s) (len-pages : length pages < 2 ^ 64) (len-nodes : length nodes < 2 ^ 64) (len-register : length register < 2 ^ 64) (fits-line : line < 2 ^ 64) (ok-r1 : PublishOut′.Ok (r1 s pages nodes register line)) (ok-r2 : PublishReply′.Ok (r2 s pages nodes register line))
-    → pit-publish″.ens s pages nodes register line (r2 s pages nodes register line)
+    (s : Store) (w : Windows) (pages : List ℕ) (nodes : List ℕ) (register : List Record) (line : ℕ) (minute : ℕ) (ok-s : Store′.Ok s) (ok-w : Windows′.Ok w) (len-pages : length pages < 2 ^ 64) (len-nodes : length nodes < 2 ^ 64) (len-register : length register < 2 ^ 64) (fits-line : line < 2 ^ 64) (fits-minute : minute < 2 ^ 64) (ok-r1 : PublishOut′.Ok (r1 s w pages nodes register line minute)) (ok-r2 : PublishReply′.Ok (r2 s w pages nodes register line minute))
+    → pit-publish″.ens s w pages nodes register line minute (r2 s w pages nodes register line minute)

@@ -2,7 +2,7 @@
 use mathlib.Core.Path.{refl}
 use Rattle.exports.proofs.pit_publish.Proof.Asks as Asks
 
--- the function ensures: r ≡ publishReply (publishOut s (areasOf pages nodes register) line)
--- here: pit-publish″.ens s pages nodes register line (r2 s pages nodes register line)
+-- the function ensures: r ≡ publishReply (publishOut s w (areasOf pages nodes register) line minute)
+-- here: pit-publish″.ens s w pages nodes register line minute (r2 s w pages nodes register line minute)
 pub exit-1 : Asks.exit-1
-exit-1 s pages nodes register line ok-s len-pages len-nodes len-register fits-line ok-r1 ok-r2 = refl
+exit-1 s w pages nodes register line minute ok-s ok-w len-pages len-nodes len-register fits-line fits-minute ok-r1 ok-r2 = refl

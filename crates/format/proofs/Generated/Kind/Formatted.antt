@@ -22,6 +22,8 @@ use denote.Builtin.{u8, u16, u32, u64, bool, unit}
 use denote.Enum.Laws as LL
 use Rattle.versions.proofs.Generated.Kind.Store as Store′
 use Rattle.versions.specs.declared.Store.{Store}
+use Rattle.windows.proofs.Generated.Kind.Windows as Windows′
+use Rattle.windows.specs.declared.Windows.{Windows}
 use Rattle.format.specs.declared.Formatted.{Formatted}
 use Rattle.format.proofs.Formatted as T′
 use Rattle.format.proofs.Formatted.Laws as T″
@@ -55,19 +57,22 @@ makes = LL.makes T′.the-type T″.the-plain
 
 -- a value to stand past the end of a list
 abbrev pub none : Formatted
-none = Formatted.Made Store′.none
+none = Formatted.Made Store′.none Windows′.none
 
 -- by cases on a value, within a walk
 module _ {M : Type 1} {𝓤 : URA M} {H : Heap 𝓤} {A : Atoms 𝓤} {K : Type 0} {W : Given 𝓤 H A} {Γ : List (Item 𝓤)} {G : Goal 𝓤 H} where
-  pub cases : K → (d : Formatted) → ((y0 : Store) → d ≡ Formatted.Made y0 → Seq K W Γ G) → ((y0 : ℕ) → d ≡ Formatted.Refused y0 → Seq K W Γ G) → Seq K W Γ G
-  cases t (Formatted.Made y0) k0 k1 = k0 y0 refl
+  pub cases : K → (d : Formatted) → ((y0 : Store) → (y1 : Windows) → d ≡ Formatted.Made y0 y1 → Seq K W Γ G) → ((y0 : ℕ) → d ≡ Formatted.Refused y0 → Seq K W Γ G) → Seq K W Γ G
+  cases t (Formatted.Made y0 y1) k0 k1 = k0 y0 y1 refl
   cases t (Formatted.Refused y0) k0 k1 = k1 y0 refl
 
-pub make-Made : (y0 : Store) → Is Store′.row y0 (Store′.vals y0) → Ok (Formatted.Made y0)
-make-Made y0 g0 = LL.owes T′.the-type T″.the-laws (Formatted.Made y0) (g0, tt)
+pub make-Made : (y0 : Store) → (y1 : Windows) → Is Store′.row y0 (Store′.vals y0) → Is Windows′.row y1 (Windows′.vals y1) → Ok (Formatted.Made y0 y1)
+make-Made y0 y1 g0 g1 = LL.owes T′.the-type T″.the-laws (Formatted.Made y0 y1) (g0, (g1, tt))
 
-pub ok-Made-0 : (y0 : Store) → Ok (Formatted.Made y0) → Is Store′.row y0 (Store′.vals y0)
-ok-Made-0 y0 g = LL.owed T′.the-type T″.the-laws (Formatted.Made y0) _ g .0
+pub ok-Made-0 : (y0 : Store) → (y1 : Windows) → Ok (Formatted.Made y0 y1) → Is Store′.row y0 (Store′.vals y0)
+ok-Made-0 y0 y1 g = LL.owed T′.the-type T″.the-laws (Formatted.Made y0 y1) _ g .0
+
+pub ok-Made-1 : (y0 : Store) → (y1 : Windows) → Ok (Formatted.Made y0 y1) → Is Windows′.row y1 (Windows′.vals y1)
+ok-Made-1 y0 y1 g = LL.owed T′.the-type T″.the-laws (Formatted.Made y0 y1) _ g .1 .0
 
 pub make-Refused : (y0 : ℕ) → Is u64 y0 (uint-vals w64 y0) → Ok (Formatted.Refused y0)
 make-Refused y0 g0 = LL.owes T′.the-type T″.the-laws (Formatted.Refused y0) (g0, tt)
@@ -76,7 +81,7 @@ pub ok-Refused-0 : (y0 : ℕ) → Ok (Formatted.Refused y0) → Is u64 y0 (uint-
 ok-Refused-0 y0 g = LL.owed T′.the-type T″.the-laws (Formatted.Refused y0) _ g .0
 
 abbrev pub stride : ℕ
-stride = 216
+stride = 344
 
 -- the byte offset of an element of a slice does not wrap
 pub scaled : (n i : ℕ) → i < n → n * stride < 2 ^ 63 → i * stride < 2 ^ 64

@@ -17,6 +17,8 @@ use Rattle.register.specs.declared.Record.{Record}
 use Rattle.tree.specs.declared.PageIndex.{PageIndex}
 use Rattle.tree.specs.declared.Ticket.{Ticket}
 use Rattle.versions.specs.declared.Store.{Store}
+use Rattle.windows.specs.declared.Window.{Window}
+use Rattle.windows.specs.declared.Windows.{Windows}
 
 abbrev pub ens : ℕ → ℕ → ℕ → ℕ → List ℕ → List ℕ → List Record → List ℕ → List ℕ → List Record → Formatted → Type 0
 ens size page_count node_count updates pages nodes register pages′ nodes′ register′ r = (r ≡ formatAnswer (fresh size page_count node_count updates) (areasOf pages nodes register)) × (pages′ ≡ formatAreas (fresh size page_count node_count updates) (areasOf pages nodes register) .pages) × (nodes′ ≡ formatAreas (fresh size page_count node_count updates) (areasOf pages nodes register) .nodes) × (register′ ≡ formatAreas (fresh size page_count node_count updates) (areasOf pages nodes register) .register)

@@ -14,6 +14,8 @@ use Rattle.format.specs.Format.{fresh, formatRefusal, formatted, formatA
 use Rattle.format.specs.declared.Formatted.{Formatted}
 use Rattle.tree.specs.declared.Ticket.{Ticket}
 use Rattle.versions.specs.declared.Store.{Store}
+use Rattle.windows.specs.declared.Window.{Window}
+use Rattle.windows.specs.declared.Windows.{Windows}
 
 abbrev pub ens : ℕ → Store → Formatted → Type 0
 ens k s r = r ≡ formatted k s

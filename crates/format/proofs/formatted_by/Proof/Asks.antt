@@ -14,13 +14,21 @@ use Rattle.versions.specs.declared.Store.{Store}
 use Rattle.versions.proofs.Generated.Kind.Store as Store′
 use Rattle.tree.specs.declared.Ticket.{Ticket}
 use Rattle.register.proofs.Generated.Kind.Ticket as Ticket′
+use Rattle.windows.specs.declared.Windows.{Windows}
+use Rattle.windows.proofs.Generated.Kind.Windows as Windows′
+use Rattle.windows.specs.declared.Window.{Window}
+use Rattle.windows.proofs.Generated.Kind.Window as Window′
 use Rattle.format.proofs.Generated.Say.formatted_by as formatted-by″
+use Rattle.format.proofs.Generated.Say.no_windows as no-windows″
+
+abbrev pub r1 : ℕ → Store → Windows
+r1 x-k s = no-windows″.res
 
 -- the function ensures: r ≡ formatted k s
 abbrev pub exit-1 : Type 0
 exit-1 =
-    (x-k : ℕ) (s : Store) (fits-x-k : x-k < 2 ^ 64) (ok-s : Store′.Ok s) (c1 : eqb x-k 0 ≡ true) (n1 : x-k ≡ 0)
-    → formatted-by″.ens x-k s (Formatted.Made s)
+    (x-k : ℕ) (s : Store) (fits-x-k : x-k < 2 ^ 64) (ok-s : Store′.Ok s) (c1 : eqb x-k 0 ≡ true) (n1 : x-k ≡ 0) (ok-r1 : Windows′.Ok (r1 x-k s))
+    → formatted-by″.ens x-k s (Formatted.Made s (r1 x-k s))
 
 -- the function ensures: r ≡ formatted k s
 abbrev pub exit-2 : Type 0

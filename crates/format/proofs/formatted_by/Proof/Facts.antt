@@ -9,9 +9,9 @@ use Rattle.table.proofs.Table.{refused-by}
 use Rattle.format.proofs.formatted_by.Proof.Asks as Asks
 
 -- the function ensures: r ≡ formatted k s
--- here: formatted-by″.ens x-k s (Formatted.Made s)
+-- here: formatted-by″.ens x-k s (Formatted.Made s (r1 x-k s))
 pub exit-1 : Asks.exit-1
-exit-1 x-k s fits-x-k ok-s c1 n1 = rw n1
+exit-1 x-k s fits-x-k ok-s c1 n1 ok-r1 = rw n1
 
 -- the function ensures: r ≡ formatted k s
 -- here: formatted-by″.ens x-k s (Formatted.Refused x-k)

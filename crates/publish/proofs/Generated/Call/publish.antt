@@ -36,6 +36,10 @@ use Rattle.versions.specs.declared.Store.{Store}
 use Rattle.versions.proofs.Generated.Kind.Store as Store′
 use Rattle.tree.specs.declared.Ticket.{Ticket}
 use Rattle.register.proofs.Generated.Kind.Ticket as Ticket′
+use Rattle.windows.specs.declared.Windows.{Windows}
+use Rattle.windows.proofs.Generated.Kind.Windows as Windows′
+use Rattle.windows.specs.declared.Window.{Window}
+use Rattle.windows.proofs.Generated.Kind.Window as Window′
 use Rattle.register.specs.declared.Record.{Record}
 use Rattle.register.proofs.Generated.Kind.Record as Record′
 use Rattle.tree.specs.declared.PageIndex.{PageIndex}
@@ -58,54 +62,54 @@ module _ {M : Type 1} (𝓤 : URA M) (H : Heap 𝓤) (A : Atoms 𝓤) (mem : Mem
   abbrev pub Asked : Contract 𝓤
   Asked = tripleOf 𝓤 H A callee.signature (callee.spec 𝓤 H A mem run)
 
-  abbrev pub to : (s : Store) (κ·pages : Lft) (q·pages : Share) (b·pages o·pages : ℕ) (γ·pages : GName) (n·pages : ℕ) (pages : List ℕ) (κ·nodes : Lft) (q·nodes : Share) (b·nodes o·nodes : ℕ) (γ·nodes : GName) (n·nodes : ℕ) (nodes : List ℕ) (κ·register : Lft) (q·register : Share) (b·register o·register : ℕ) (γ·register : GName) (n·register : ℕ) (register : List Record) (x-l : Line) → Asked .Ghost
-  to s κ·pages q·pages b·pages o·pages γ·pages n·pages pages κ·nodes q·nodes b·nodes o·nodes γ·nodes n·nodes nodes κ·register q·register b·register o·register γ·register n·register register x-l = (((κ·pages, (κ·nodes, (κ·register, tt))), (q·pages, (q·nodes, (q·register, tt))), tt, (s, (ref b·pages o·pages γ·pages pages, (ref b·nodes o·nodes γ·nodes nodes, (ref b·register o·register γ·register register, (x-l, tt))))), (Store′.mach s ∷ [], (sliceVal (b·pages, o·pages) n·pages ∷ [], (sliceVal (b·nodes, o·nodes) n·nodes ∷ [], (sliceVal (b·register, o·register) n·register ∷ [], (Line′.mach x-l ∷ [], tt)))))), tt)
+  abbrev pub to : (s : Store) (w : Windows) (κ·pages : Lft) (q·pages : Share) (b·pages o·pages : ℕ) (γ·pages : GName) (n·pages : ℕ) (pages : List ℕ) (κ·nodes : Lft) (q·nodes : Share) (b·nodes o·nodes : ℕ) (γ·nodes : GName) (n·nodes : ℕ) (nodes : List ℕ) (κ·register : Lft) (q·register : Share) (b·register o·register : ℕ) (γ·register : GName) (n·register : ℕ) (register : List Record) (x-l : Line) (minute : ℕ) → Asked .Ghost
+  to s w κ·pages q·pages b·pages o·pages γ·pages n·pages pages κ·nodes q·nodes b·nodes o·nodes γ·nodes n·nodes nodes κ·register q·register b·register o·register γ·register n·register register x-l minute = (((κ·pages, (κ·nodes, (κ·register, tt))), (q·pages, (q·nodes, (q·register, tt))), tt, (s, (w, (ref b·pages o·pages γ·pages pages, (ref b·nodes o·nodes γ·nodes nodes, (ref b·register o·register γ·register register, (x-l, (minute, tt))))))), (Store′.mach s ∷ [], (Windows′.mach w ∷ [], (sliceVal (b·pages, o·pages) n·pages ∷ [], (sliceVal (b·nodes, o·nodes) n·nodes ∷ [], (sliceVal (b·register, o·register) n·register ∷ [], (Line′.mach x-l ∷ [], (vint w64 minute ∷ [], tt)))))))), tt)
 
 module _ {M : Type 1} {𝓤 : URA M} {H : Heap 𝓤} {A : Atoms 𝓤} {K : Type 0} {W : Given 𝓤 H A} {Γ : List (Item 𝓤)} where
   -- the call itself is made by `by-call`, from what the callee asks to what it has ensured
-  core : K → (mem : Memory → SProp 𝓤) (run : Routine → Fun 𝓤) → (s : Store) (κ·pages : Lft) (q·pages : Share) (b·pages o·pages : ℕ) (γ·pages : GName) (n·pages : ℕ) (pages : List ℕ) (κ·nodes : Lft) (q·nodes : Share) (b·nodes o·nodes : ℕ) (γ·nodes : GName) (n·nodes : ℕ) (nodes : List ℕ) (κ·register : Lft) (q·register : Share) (b·register o·register : ℕ) (γ·register : GName) (n·register : ℕ) (register : List Record) (x-l : Line) → (G : Goal 𝓤 H) (after : Val → Goal 𝓤 H) → ((v : Val) → Soaks (after v))
-      → (((v : Val) → Seq K W (raw (Asked 𝓤 H A mem run .post (to 𝓤 H A mem run s κ·pages q·pages b·pages o·pages γ·pages n·pages pages κ·nodes q·nodes b·nodes o·nodes γ·nodes n·nodes nodes κ·register q·register b·register o·register γ·register n·register register x-l) v) ∷ ‵ (ShrAt u8 κ·pages b·pages o·pages γ·pages n·pages pages) ∷ ‵ (ShrAt u32 κ·nodes b·nodes o·nodes γ·nodes n·nodes nodes) ∷ ‵ (ShrAt Record′.row κ·register b·register o·register γ·register n·register register) ∷ Γ) (after v)) → Seq K W (raw (Asked 𝓤 H A mem run .pre (to 𝓤 H A mem run s κ·pages q·pages b·pages o·pages γ·pages n·pages pages κ·nodes q·nodes b·nodes o·nodes γ·nodes n·nodes nodes κ·register q·register b·register o·register γ·register n·register register x-l)) ∷ ‵ (ShrAt u8 κ·pages b·pages o·pages γ·pages n·pages pages) ∷ ‵ (ShrAt u32 κ·nodes b·nodes o·nodes γ·nodes n·nodes nodes) ∷ ‵ (ShrAt Record′.row κ·register b·register o·register γ·register n·register register) ∷ Γ) G) → Is Store′.row s (Store′.vals s) → Is Line′.row x-l (Line′.vals x-l) →
-      (Is PublishOut′.row (publish″.res s pages nodes register x-l) (PublishOut′.vals (publish″.res s pages nodes register x-l)) → Seq K W (‵ (flft κ·pages q·pages) ∷ ‵ (ShrAt u8 κ·pages b·pages o·pages γ·pages n·pages pages) ∷ ‵ (flft κ·nodes q·nodes) ∷ ‵ (ShrAt u32 κ·nodes b·nodes o·nodes γ·nodes n·nodes nodes) ∷ ‵ (flft κ·register q·register) ∷ ‵ (ShrAt Record′.row κ·register b·register o·register γ·register n·register register) ∷ Γ) (after (PublishOut′.mach (publish″.res s pages nodes register x-l)))) → Seq K W (‵ (flft κ·pages q·pages) ∷ ‵ (ShrAt u8 κ·pages b·pages o·pages γ·pages n·pages pages) ∷ ‵ (flft κ·nodes q·nodes) ∷ ‵ (ShrAt u32 κ·nodes b·nodes o·nodes γ·nodes n·nodes nodes) ∷ ‵ (flft κ·register q·register) ∷ ‵ (ShrAt Record′.row κ·register b·register o·register γ·register n·register register) ∷ Γ) G
-  core t mem run s κ·pages q·pages b·pages o·pages γ·pages n·pages pages κ·nodes q·nodes b·nodes o·nodes γ·nodes n·nodes nodes κ·register q·register b·register o·register γ·register n·register register x-l G after soaks by-call ok·s ok·x-l k =
+  core : K → (mem : Memory → SProp 𝓤) (run : Routine → Fun 𝓤) → (s : Store) (w : Windows) (κ·pages : Lft) (q·pages : Share) (b·pages o·pages : ℕ) (γ·pages : GName) (n·pages : ℕ) (pages : List ℕ) (κ·nodes : Lft) (q·nodes : Share) (b·nodes o·nodes : ℕ) (γ·nodes : GName) (n·nodes : ℕ) (nodes : List ℕ) (κ·register : Lft) (q·register : Share) (b·register o·register : ℕ) (γ·register : GName) (n·register : ℕ) (register : List Record) (x-l : Line) (minute : ℕ) → (G : Goal 𝓤 H) (after : Val → Goal 𝓤 H) → ((v : Val) → Soaks (after v))
+      → (((v : Val) → Seq K W (raw (Asked 𝓤 H A mem run .post (to 𝓤 H A mem run s w κ·pages q·pages b·pages o·pages γ·pages n·pages pages κ·nodes q·nodes b·nodes o·nodes γ·nodes n·nodes nodes κ·register q·register b·register o·register γ·register n·register register x-l minute) v) ∷ ‵ (ShrAt u8 κ·pages b·pages o·pages γ·pages n·pages pages) ∷ ‵ (ShrAt u32 κ·nodes b·nodes o·nodes γ·nodes n·nodes nodes) ∷ ‵ (ShrAt Record′.row κ·register b·register o·register γ·register n·register register) ∷ Γ) (after v)) → Seq K W (raw (Asked 𝓤 H A mem run .pre (to 𝓤 H A mem run s w κ·pages q·pages b·pages o·pages γ·pages n·pages pages κ·nodes q·nodes b·nodes o·nodes γ·nodes n·nodes nodes κ·register q·register b·register o·register γ·register n·register register x-l minute)) ∷ ‵ (ShrAt u8 κ·pages b·pages o·pages γ·pages n·pages pages) ∷ ‵ (ShrAt u32 κ·nodes b·nodes o·nodes γ·nodes n·nodes nodes) ∷ ‵ (ShrAt Record′.row κ·register b·register o·register γ·register n·register register) ∷ Γ) G) → Is Store′.row s (Store′.vals s) → Is Windows′.row w (Windows′.vals w) → Is Line′.row x-l (Line′.vals x-l) → Is u64 minute (uint-vals w64 minute) →
+      (Is PublishOut′.row (publish″.res s w pages nodes register x-l minute) (PublishOut′.vals (publish″.res s w pages nodes register x-l minute)) → Seq K W (‵ (flft κ·pages q·pages) ∷ ‵ (ShrAt u8 κ·pages b·pages o·pages γ·pages n·pages pages) ∷ ‵ (flft κ·nodes q·nodes) ∷ ‵ (ShrAt u32 κ·nodes b·nodes o·nodes γ·nodes n·nodes nodes) ∷ ‵ (flft κ·register q·register) ∷ ‵ (ShrAt Record′.row κ·register b·register o·register γ·register n·register register) ∷ Γ) (after (PublishOut′.mach (publish″.res s w pages nodes register x-l minute)))) → Seq K W (‵ (flft κ·pages q·pages) ∷ ‵ (ShrAt u8 κ·pages b·pages o·pages γ·pages n·pages pages) ∷ ‵ (flft κ·nodes q·nodes) ∷ ‵ (ShrAt u32 κ·nodes b·nodes o·nodes γ·nodes n·nodes nodes) ∷ ‵ (flft κ·register q·register) ∷ ‵ (ShrAt Record′.row κ·register b·register o·register γ·register n·register register) ∷ Γ) G
+  core t mem run s w κ·pages q·pages b·pages o·pages γ·pages n·pages pages κ·nodes q·nodes b·nodes o·nodes γ·nodes n·nodes nodes κ·register q·register b·register o·register γ·register n·register register x-l minute G after soaks by-call ok·s ok·w ok·x-l ok·minute k =
       move t (1 ∷ []) $ keeps-shr t u8 κ·pages b·pages o·pages γ·pages n·pages pages $ move t (4 ∷ []) $ keeps-shr t u32 κ·nodes b·nodes o·nodes γ·nodes n·nodes nodes $ move t (7 ∷ []) $ keeps-shr t Record′.row κ·register b·register o·register γ·register n·register register $ move t (6 ∷ 4 ∷ 7 ∷ 2 ∷ 8 ∷ 0 ∷ 5 ∷ 3 ∷ 1 ∷ []) $
-      move t (4 ∷ 5 ∷ []) $ join t $ move t (4 ∷ 0 ∷ []) $ join t $ move t (3 ∷ 0 ∷ []) $ join t $ move t (2 ∷ 0 ∷ []) $ join t $ move t (1 ∷ 0 ∷ []) $ join t $ use1 W (raw (Asked 𝓤 H A mem run .pre (to 𝓤 H A mem run s κ·pages q·pages b·pages o·pages γ·pages n·pages pages κ·nodes q·nodes b·nodes o·nodes γ·nodes n·nodes nodes κ·register q·register b·register o·register γ·register n·register register x-l))) goes $
+      move t (4 ∷ 5 ∷ []) $ join t $ move t (4 ∷ 0 ∷ []) $ join t $ move t (3 ∷ 0 ∷ []) $ join t $ move t (2 ∷ 0 ∷ []) $ join t $ move t (1 ∷ 0 ∷ []) $ join t $ use1 W (raw (Asked 𝓤 H A mem run .pre (to 𝓤 H A mem run s w κ·pages q·pages b·pages o·pages γ·pages n·pages pages κ·nodes q·nodes b·nodes o·nodes γ·nodes n·nodes nodes κ·register q·register b·register o·register γ·register n·register register x-l minute))) goes $
       by-call (λ v.
-      use1 W (later (some (λ (r· : PublishOut). ((‵ (flft κ·pages q·pages) ⊛ ‵ (flft κ·nodes q·nodes) ⊛ ‵ (flft κ·register q·register) ⊛ ‵ ftrue) ⊛ ‵ (PublishOut′.row .own r· (v ∷ []))) ⊛ raw (ensured 𝓤 H A callee.ended (callee.clauses 𝓤 H A mem run) (κ·pages, (κ·nodes, (κ·register, tt))) (s, (ref b·pages o·pages γ·pages pages, (ref b·nodes o·nodes γ·nodes nodes, (ref b·register o·register γ·register register, (x-l, tt))))) tt r·)))) (id⊢ 𝓤 _) $ await t (soaks v) $ pick t (λ r·. split t $ move t (1 ∷ []) $
-      use1 W (some (λ (ws : Lasts callee.ended (κ·pages, (κ·nodes, (κ·register, tt))) (s, (ref b·pages o·pages γ·pages pages, (ref b·nodes o·nodes γ·nodes nodes, (ref b·register o·register γ·register register, (x-l, tt)))))). ‵ (lasts callee.ended (κ·pages, (κ·nodes, (κ·register, tt))) (s, (ref b·pages o·pages γ·pages pages, (ref b·nodes o·nodes γ·nodes nodes, (ref b·register o·register γ·register register, (x-l, tt))))) ws) ⊛ raw (fact 𝓤 (publish″.ens s pages nodes register x-l r·)))) (id⊢ 𝓤 _) $ pick t (λ ws. split t $ move t (1 ∷ []) $
-      heard t (publish″.ens s pages nodes register x-l r·) (λ e. drop t $ split t $ move t (1 ∷ []) $ facts t PublishOut′.row (Is PublishOut′.row) (shows 𝓤 H A PublishOut′.row) r· (v ∷ []) (λ is. split t $ move t (1 ∷ []) $ split t $ move t (1 ∷ []) $ split t $ move t (1 ∷ []) $ drop t $ move t (2 ∷ 3 ∷ 1 ∷ 4 ∷ 0 ∷ 5 ∷ []) $
+      use1 W (later (some (λ (r· : PublishOut). ((‵ (flft κ·pages q·pages) ⊛ ‵ (flft κ·nodes q·nodes) ⊛ ‵ (flft κ·register q·register) ⊛ ‵ ftrue) ⊛ ‵ (PublishOut′.row .own r· (v ∷ []))) ⊛ raw (ensured 𝓤 H A callee.ended (callee.clauses 𝓤 H A mem run) (κ·pages, (κ·nodes, (κ·register, tt))) (s, (w, (ref b·pages o·pages γ·pages pages, (ref b·nodes o·nodes γ·nodes nodes, (ref b·register o·register γ·register register, (x-l, (minute, tt))))))) tt r·)))) (id⊢ 𝓤 _) $ await t (soaks v) $ pick t (λ r·. split t $ move t (1 ∷ []) $
+      use1 W (some (λ (ws : Lasts callee.ended (κ·pages, (κ·nodes, (κ·register, tt))) (s, (w, (ref b·pages o·pages γ·pages pages, (ref b·nodes o·nodes γ·nodes nodes, (ref b·register o·register γ·register register, (x-l, (minute, tt)))))))). ‵ (lasts callee.ended (κ·pages, (κ·nodes, (κ·register, tt))) (s, (w, (ref b·pages o·pages γ·pages pages, (ref b·nodes o·nodes γ·nodes nodes, (ref b·register o·register γ·register register, (x-l, (minute, tt))))))) ws) ⊛ raw (fact 𝓤 (publish″.ens s w pages nodes register x-l minute r·)))) (id⊢ 𝓤 _) $ pick t (λ ws. split t $ move t (1 ∷ []) $
+      heard t (publish″.ens s w pages nodes register x-l minute r·) (λ e. drop t $ split t $ move t (1 ∷ []) $ facts t PublishOut′.row (Is PublishOut′.row) (shows 𝓤 H A PublishOut′.row) r· (v ∷ []) (λ is. split t $ move t (1 ∷ []) $ split t $ move t (1 ∷ []) $ split t $ move t (1 ∷ []) $ drop t $ move t (2 ∷ 3 ∷ 1 ∷ 4 ∷ 0 ∷ 5 ∷ []) $
       subst (λ (u : Val). Seq K W (‵ (flft κ·pages q·pages) ∷ ‵ (ShrAt u8 κ·pages b·pages o·pages γ·pages n·pages pages) ∷ ‵ (flft κ·nodes q·nodes) ∷ ‵ (ShrAt u32 κ·nodes b·nodes o·nodes γ·nodes n·nodes nodes) ∷ ‵ (flft κ·register q·register) ∷ ‵ (ShrAt Record′.row κ·register b·register o·register γ·register n·register register) ∷ Γ) (after u)) (sym (ap only (PublishOut′.tells r· (v ∷ []) is) ∙ ap (λ (z : PublishOut). PublishOut′.mach z) (e))) (k (subst (λ (z : PublishOut). Is PublishOut′.row z (PublishOut′.vals z)) (e) (subst (Is PublishOut′.row r·) (PublishOut′.tells r· (v ∷ []) is) is))))))))
     where
-      goes : ent 𝓤 (⋆ 𝓤 H A (‵ (flft κ·pages q·pages) ∷ ‵ (ShrAt u8 κ·pages b·pages o·pages γ·pages n·pages pages) ∷ ‵ (flft κ·nodes q·nodes) ∷ ‵ (ShrAt u32 κ·nodes b·nodes o·nodes γ·nodes n·nodes nodes) ∷ ‵ (flft κ·register q·register) ∷ ‵ (ShrAt Record′.row κ·register b·register o·register γ·register n·register register) ∷ [])) (Asked 𝓤 H A mem run .pre (to 𝓤 H A mem run s κ·pages q·pages b·pages o·pages γ·pages n·pages pages κ·nodes q·nodes b·nodes o·nodes γ·nodes n·nodes nodes κ·register q·register b·register o·register γ·register n·register register x-l))
-      goes = qed W (‵ (flft κ·pages q·pages) ∷ ‵ (ShrAt u8 κ·pages b·pages o·pages γ·pages n·pages pages) ∷ ‵ (flft κ·nodes q·nodes) ∷ ‵ (ShrAt u32 κ·nodes b·nodes o·nodes γ·nodes n·nodes nodes) ∷ ‵ (flft κ·register q·register) ∷ ‵ (ShrAt Record′.row κ·register b·register o·register γ·register n·register register) ∷ []) ∵ plus-nothing ! $ nothing ! $ move ! (5 ∷ 0 ∷ []) $ join ! $ move ! (3 ∷ 0 ∷ []) $ join ! $ move ! (1 ∷ 0 ∷ []) $ join ! $ frame ! $ nothing ! $ owned ! Line′.row (Is Line′.row) (Line′.makes 𝓤 H A) x-l _ ok·x-l $ fjoin ! $ move ! (3 ∷ 0 ∷ []) $ fjoin ! $ move ! (2 ∷ 0 ∷ []) $ fjoin ! $ move ! (1 ∷ 0 ∷ []) $ fjoin ! $ owned ! Store′.row (Is Store′.row) (Store′.makes 𝓤 H A) s _ ok·s $ fjoin ! $ done !
+      goes : ent 𝓤 (⋆ 𝓤 H A (‵ (flft κ·pages q·pages) ∷ ‵ (ShrAt u8 κ·pages b·pages o·pages γ·pages n·pages pages) ∷ ‵ (flft κ·nodes q·nodes) ∷ ‵ (ShrAt u32 κ·nodes b·nodes o·nodes γ·nodes n·nodes nodes) ∷ ‵ (flft κ·register q·register) ∷ ‵ (ShrAt Record′.row κ·register b·register o·register γ·register n·register register) ∷ [])) (Asked 𝓤 H A mem run .pre (to 𝓤 H A mem run s w κ·pages q·pages b·pages o·pages γ·pages n·pages pages κ·nodes q·nodes b·nodes o·nodes γ·nodes n·nodes nodes κ·register q·register b·register o·register γ·register n·register register x-l minute))
+      goes = qed W (‵ (flft κ·pages q·pages) ∷ ‵ (ShrAt u8 κ·pages b·pages o·pages γ·pages n·pages pages) ∷ ‵ (flft κ·nodes q·nodes) ∷ ‵ (ShrAt u32 κ·nodes b·nodes o·nodes γ·nodes n·nodes nodes) ∷ ‵ (flft κ·register q·register) ∷ ‵ (ShrAt Record′.row κ·register b·register o·register γ·register n·register register) ∷ []) ∵ plus-nothing ! $ nothing ! $ move ! (5 ∷ 0 ∷ []) $ join ! $ move ! (3 ∷ 0 ∷ []) $ join ! $ move ! (1 ∷ 0 ∷ []) $ join ! $ frame ! $ nothing ! $ owned ! u64 (Is u64) (uint-makes 𝓤 H A W w64) minute _ ok·minute $ fjoin ! $ owned ! Line′.row (Is Line′.row) (Line′.makes 𝓤 H A) x-l _ ok·x-l $ fjoin ! $ move ! (3 ∷ 0 ∷ []) $ fjoin ! $ move ! (2 ∷ 0 ∷ []) $ fjoin ! $ move ! (1 ∷ 0 ∷ []) $ fjoin ! $ owned ! Windows′.row (Is Windows′.row) (Windows′.makes 𝓤 H A) w _ ok·w $ fjoin ! $ owned ! Store′.row (Is Store′.row) (Store′.makes 𝓤 H A) s _ ok·s $ fjoin ! $ done !
 
 module _ {M : Type 1} {𝓤 : URA M} {H : Heap 𝓤} {A : Atoms 𝓤} {K : Type 0} {W : Given 𝓤 H A} {Γ : List (Item 𝓤)} {E : Env 𝓤 H} {C : Calls 𝓤 H} {Λ : Loops 𝓤 H} {Q : Post 𝓤 H} {xs : List Operand} {d : Place} {rest : Body} where
   -- by one instance of the callee's contract, which is what a function that calls itself has
-  pub calls-by : K → (mem : Memory → SProp 𝓤) (run : Routine → Fun 𝓤) → FmC 𝓤 H (W .laws) C → (s : Store) (κ·pages : Lft) (q·pages : Share) (b·pages o·pages : ℕ) (γ·pages : GName) (n·pages : ℕ) (pages : List ℕ) (κ·nodes : Lft) (q·nodes : Share) (b·nodes o·nodes : ℕ) (γ·nodes : GName) (n·nodes : ℕ) (nodes : List ℕ) (κ·register : Lft) (q·register : Share) (b·register o·register : ℕ) (γ·register : GName) (n·register : ℕ) (register : List Record) (x-l : Line) → ent 𝓤 (Asked 𝓤 H A mem run .pre (to 𝓤 H A mem run s κ·pages q·pages b·pages o·pages γ·pages n·pages pages κ·nodes q·nodes b·nodes o·nodes γ·nodes n·nodes nodes κ·register q·register b·register o·register γ·register n·register register x-l)) (C #callee (Asked 𝓤 H A mem run .args (to 𝓤 H A mem run s κ·pages q·pages b·pages o·pages γ·pages n·pages pages κ·nodes q·nodes b·nodes o·nodes γ·nodes n·nodes nodes κ·register q·register b·register o·register γ·register n·register register x-l)) (Asked 𝓤 H A mem run .post (to 𝓤 H A mem run s κ·pages q·pages b·pages o·pages γ·pages n·pages pages κ·nodes q·nodes b·nodes o·nodes γ·nodes n·nodes nodes κ·register q·register b·register o·register γ·register n·register register x-l))) → Is Store′.row s (Store′.vals s) → Is Line′.row x-l (Line′.vals x-l) →
-      Opds K W (raw (Asked 𝓤 H A mem run .pre (to 𝓤 H A mem run s κ·pages q·pages b·pages o·pages γ·pages n·pages pages κ·nodes q·nodes b·nodes o·nodes γ·nodes n·nodes nodes κ·register q·register b·register o·register γ·register n·register register x-l)) ∷ ‵ (ShrAt u8 κ·pages b·pages o·pages γ·pages n·pages pages) ∷ ‵ (ShrAt u32 κ·nodes b·nodes o·nodes γ·nodes n·nodes nodes) ∷ ‵ (ShrAt Record′.row κ·register b·register o·register γ·register n·register register) ∷ Γ) E xs (Store′.mach s ∷ sliceVal (b·pages, o·pages) n·pages ∷ sliceVal (b·nodes, o·nodes) n·nodes ∷ sliceVal (b·register, o·register) n·register ∷ Line′.mach x-l ∷ [])
-      → (Is PublishOut′.row (publish″.res s pages nodes register x-l) (PublishOut′.vals (publish″.res s pages nodes register x-l)) → Seq K W (‵ (flft κ·pages q·pages) ∷ ‵ (ShrAt u8 κ·pages b·pages o·pages γ·pages n·pages pages) ∷ ‵ (flft κ·nodes q·nodes) ∷ ‵ (ShrAt u32 κ·nodes b·nodes o·nodes γ·nodes n·nodes nodes) ∷ ‵ (flft κ·register q·register) ∷ ‵ (ShrAt Record′.row κ·register b·register o·register γ·register n·register register) ∷ Γ) (lands C Λ E d (PublishOut′.mach (publish″.res s pages nodes register x-l)) rest Q))
+  pub calls-by : K → (mem : Memory → SProp 𝓤) (run : Routine → Fun 𝓤) → FmC 𝓤 H (W .laws) C → (s : Store) (w : Windows) (κ·pages : Lft) (q·pages : Share) (b·pages o·pages : ℕ) (γ·pages : GName) (n·pages : ℕ) (pages : List ℕ) (κ·nodes : Lft) (q·nodes : Share) (b·nodes o·nodes : ℕ) (γ·nodes : GName) (n·nodes : ℕ) (nodes : List ℕ) (κ·register : Lft) (q·register : Share) (b·register o·register : ℕ) (γ·register : GName) (n·register : ℕ) (register : List Record) (x-l : Line) (minute : ℕ) → ent 𝓤 (Asked 𝓤 H A mem run .pre (to 𝓤 H A mem run s w κ·pages q·pages b·pages o·pages γ·pages n·pages pages κ·nodes q·nodes b·nodes o·nodes γ·nodes n·nodes nodes κ·register q·register b·register o·register γ·register n·register register x-l minute)) (C #callee (Asked 𝓤 H A mem run .args (to 𝓤 H A mem run s w κ·pages q·pages b·pages o·pages γ·pages n·pages pages κ·nodes q·nodes b·nodes o·nodes γ·nodes n·nodes nodes κ·register q·register b·register o·register γ·register n·register register x-l minute)) (Asked 𝓤 H A mem run .post (to 𝓤 H A mem run s w κ·pages q·pages b·pages o·pages γ·pages n·pages pages κ·nodes q·nodes b·nodes o·nodes γ·nodes n·nodes nodes κ·register q·register b·register o·register γ·register n·register register x-l minute))) → Is Store′.row s (Store′.vals s) → Is Windows′.row w (Windows′.vals w) → Is Line′.row x-l (Line′.vals x-l) → Is u64 minute (uint-vals w64 minute) →
+      Opds K W (raw (Asked 𝓤 H A mem run .pre (to 𝓤 H A mem run s w κ·pages q·pages b·pages o·pages γ·pages n·pages pages κ·nodes q·nodes b·nodes o·nodes γ·nodes n·nodes nodes κ·register q·register b·register o·register γ·register n·register register x-l minute)) ∷ ‵ (ShrAt u8 κ·pages b·pages o·pages γ·pages n·pages pages) ∷ ‵ (ShrAt u32 κ·nodes b·nodes o·nodes γ·nodes n·nodes nodes) ∷ ‵ (ShrAt Record′.row κ·register b·register o·register γ·register n·register register) ∷ Γ) E xs (Store′.mach s ∷ Windows′.mach w ∷ sliceVal (b·pages, o·pages) n·pages ∷ sliceVal (b·nodes, o·nodes) n·nodes ∷ sliceVal (b·register, o·register) n·register ∷ Line′.mach x-l ∷ vint w64 minute ∷ [])
+      → (Is PublishOut′.row (publish″.res s w pages nodes register x-l minute) (PublishOut′.vals (publish″.res s w pages nodes register x-l minute)) → Seq K W (‵ (flft κ·pages q·pages) ∷ ‵ (ShrAt u8 κ·pages b·pages o·pages γ·pages n·pages pages) ∷ ‵ (flft κ·nodes q·nodes) ∷ ‵ (ShrAt u32 κ·nodes b·nodes o·nodes γ·nodes n·nodes nodes) ∷ ‵ (flft κ·register q·register) ∷ ‵ (ShrAt Record′.row κ·register b·register o·register γ·register n·register register) ∷ Γ) (lands C Λ E d (PublishOut′.mach (publish″.res s w pages nodes register x-l minute)) rest Q))
       → Seq K W (‵ (flft κ·pages q·pages) ∷ ‵ (ShrAt u8 κ·pages b·pages o·pages γ·pages n·pages pages) ∷ ‵ (flft κ·nodes q·nodes) ∷ ‵ (ShrAt u32 κ·nodes b·nodes o·nodes γ·nodes n·nodes nodes) ∷ ‵ (flft κ·register q·register) ∷ ‵ (ShrAt Record′.row κ·register b·register o·register γ·register n·register register) ∷ Γ) (runs C Λ E (seq (call #callee xs d) rest) Q)
-  calls-by t mem run fm s κ·pages q·pages b·pages o·pages γ·pages n·pages pages κ·nodes q·nodes b·nodes o·nodes γ·nodes n·nodes nodes κ·register q·register b·register o·register γ·register n·register register x-l known ok·s ok·x-l os k =
-      core t mem run s κ·pages q·pages b·pages o·pages γ·pages n·pages pages κ·nodes q·nodes b·nodes o·nodes γ·nodes n·nodes nodes κ·register q·register b·register o·register γ·register n·register register x-l (runs C Λ E (seq (call #callee xs d) rest) Q) (λ v. lands C Λ E d v rest Q) (λ v. tt)
-      (λ h. calls-from t fm (raw (Asked 𝓤 H A mem run .pre (to 𝓤 H A mem run s κ·pages q·pages b·pages o·pages γ·pages n·pages pages κ·nodes q·nodes b·nodes o·nodes γ·nodes n·nodes nodes κ·register q·register b·register o·register γ·register n·register register x-l))) (Asked 𝓤 H A mem run .args (to 𝓤 H A mem run s κ·pages q·pages b·pages o·pages γ·pages n·pages pages κ·nodes q·nodes b·nodes o·nodes γ·nodes n·nodes nodes κ·register q·register b·register o·register γ·register n·register register x-l)) (Asked 𝓤 H A mem run .post (to 𝓤 H A mem run s κ·pages q·pages b·pages o·pages γ·pages n·pages pages κ·nodes q·nodes b·nodes o·nodes γ·nodes n·nodes nodes κ·register q·register b·register o·register γ·register n·register register x-l)) known os h) ok·s ok·x-l k
+  calls-by t mem run fm s w κ·pages q·pages b·pages o·pages γ·pages n·pages pages κ·nodes q·nodes b·nodes o·nodes γ·nodes n·nodes nodes κ·register q·register b·register o·register γ·register n·register register x-l minute known ok·s ok·w ok·x-l ok·minute os k =
+      core t mem run s w κ·pages q·pages b·pages o·pages γ·pages n·pages pages κ·nodes q·nodes b·nodes o·nodes γ·nodes n·nodes nodes κ·register q·register b·register o·register γ·register n·register register x-l minute (runs C Λ E (seq (call #callee xs d) rest) Q) (λ v. lands C Λ E d v rest Q) (λ v. tt)
+      (λ h. calls-from t fm (raw (Asked 𝓤 H A mem run .pre (to 𝓤 H A mem run s w κ·pages q·pages b·pages o·pages γ·pages n·pages pages κ·nodes q·nodes b·nodes o·nodes γ·nodes n·nodes nodes κ·register q·register b·register o·register γ·register n·register register x-l minute))) (Asked 𝓤 H A mem run .args (to 𝓤 H A mem run s w κ·pages q·pages b·pages o·pages γ·pages n·pages pages κ·nodes q·nodes b·nodes o·nodes γ·nodes n·nodes nodes κ·register q·register b·register o·register γ·register n·register register x-l minute)) (Asked 𝓤 H A mem run .post (to 𝓤 H A mem run s w κ·pages q·pages b·pages o·pages γ·pages n·pages pages κ·nodes q·nodes b·nodes o·nodes γ·nodes n·nodes nodes κ·register q·register b·register o·register γ·register n·register register x-l minute)) known os h) ok·s ok·w ok·x-l ok·minute k
 
-  pub calls : K → (mem : Memory → SProp 𝓤) (run : Routine → Fun 𝓤) → FmC 𝓤 H (W .laws) C → Triple 𝓤 (C #callee) (Asked 𝓤 H A mem run) → (s : Store) (κ·pages : Lft) (q·pages : Share) (b·pages o·pages : ℕ) (γ·pages : GName) (n·pages : ℕ) (pages : List ℕ) (κ·nodes : Lft) (q·nodes : Share) (b·nodes o·nodes : ℕ) (γ·nodes : GName) (n·nodes : ℕ) (nodes : List ℕ) (κ·register : Lft) (q·register : Share) (b·register o·register : ℕ) (γ·register : GName) (n·register : ℕ) (register : List Record) (x-l : Line) → Is Store′.row s (Store′.vals s) → Is Line′.row x-l (Line′.vals x-l) →
-      Opds K W (raw (Asked 𝓤 H A mem run .pre (to 𝓤 H A mem run s κ·pages q·pages b·pages o·pages γ·pages n·pages pages κ·nodes q·nodes b·nodes o·nodes γ·nodes n·nodes nodes κ·register q·register b·register o·register γ·register n·register register x-l)) ∷ ‵ (ShrAt u8 κ·pages b·pages o·pages γ·pages n·pages pages) ∷ ‵ (ShrAt u32 κ·nodes b·nodes o·nodes γ·nodes n·nodes nodes) ∷ ‵ (ShrAt Record′.row κ·register b·register o·register γ·register n·register register) ∷ Γ) E xs (Store′.mach s ∷ sliceVal (b·pages, o·pages) n·pages ∷ sliceVal (b·nodes, o·nodes) n·nodes ∷ sliceVal (b·register, o·register) n·register ∷ Line′.mach x-l ∷ [])
-      → (Is PublishOut′.row (publish″.res s pages nodes register x-l) (PublishOut′.vals (publish″.res s pages nodes register x-l)) → Seq K W (‵ (flft κ·pages q·pages) ∷ ‵ (ShrAt u8 κ·pages b·pages o·pages γ·pages n·pages pages) ∷ ‵ (flft κ·nodes q·nodes) ∷ ‵ (ShrAt u32 κ·nodes b·nodes o·nodes γ·nodes n·nodes nodes) ∷ ‵ (flft κ·register q·register) ∷ ‵ (ShrAt Record′.row κ·register b·register o·register γ·register n·register register) ∷ Γ) (lands C Λ E d (PublishOut′.mach (publish″.res s pages nodes register x-l)) rest Q))
+  pub calls : K → (mem : Memory → SProp 𝓤) (run : Routine → Fun 𝓤) → FmC 𝓤 H (W .laws) C → Triple 𝓤 (C #callee) (Asked 𝓤 H A mem run) → (s : Store) (w : Windows) (κ·pages : Lft) (q·pages : Share) (b·pages o·pages : ℕ) (γ·pages : GName) (n·pages : ℕ) (pages : List ℕ) (κ·nodes : Lft) (q·nodes : Share) (b·nodes o·nodes : ℕ) (γ·nodes : GName) (n·nodes : ℕ) (nodes : List ℕ) (κ·register : Lft) (q·register : Share) (b·register o·register : ℕ) (γ·register : GName) (n·register : ℕ) (register : List Record) (x-l : Line) (minute : ℕ) → Is Store′.row s (Store′.vals s) → Is Windows′.row w (Windows′.vals w) → Is Line′.row x-l (Line′.vals x-l) → Is u64 minute (uint-vals w64 minute) →
+      Opds K W (raw (Asked 𝓤 H A mem run .pre (to 𝓤 H A mem run s w κ·pages q·pages b·pages o·pages γ·pages n·pages pages κ·nodes q·nodes b·nodes o·nodes γ·nodes n·nodes nodes κ·register q·register b·register o·register γ·register n·register register x-l minute)) ∷ ‵ (ShrAt u8 κ·pages b·pages o·pages γ·pages n·pages pages) ∷ ‵ (ShrAt u32 κ·nodes b·nodes o·nodes γ·nodes n·nodes nodes) ∷ ‵ (ShrAt Record′.row κ·register b·register o·register γ·register n·register register) ∷ Γ) E xs (Store′.mach s ∷ Windows′.mach w ∷ sliceVal (b·pages, o·pages) n·pages ∷ sliceVal (b·nodes, o·nodes) n·nodes ∷ sliceVal (b·register, o·register) n·register ∷ Line′.mach x-l ∷ vint w64 minute ∷ [])
+      → (Is PublishOut′.row (publish″.res s w pages nodes register x-l minute) (PublishOut′.vals (publish″.res s w pages nodes register x-l minute)) → Seq K W (‵ (flft κ·pages q·pages) ∷ ‵ (ShrAt u8 κ·pages b·pages o·pages γ·pages n·pages pages) ∷ ‵ (flft κ·nodes q·nodes) ∷ ‵ (ShrAt u32 κ·nodes b·nodes o·nodes γ·nodes n·nodes nodes) ∷ ‵ (flft κ·register q·register) ∷ ‵ (ShrAt Record′.row κ·register b·register o·register γ·register n·register register) ∷ Γ) (lands C Λ E d (PublishOut′.mach (publish″.res s w pages nodes register x-l minute)) rest Q))
       → Seq K W (‵ (flft κ·pages q·pages) ∷ ‵ (ShrAt u8 κ·pages b·pages o·pages γ·pages n·pages pages) ∷ ‵ (flft κ·nodes q·nodes) ∷ ‵ (ShrAt u32 κ·nodes b·nodes o·nodes γ·nodes n·nodes nodes) ∷ ‵ (flft κ·register q·register) ∷ ‵ (ShrAt Record′.row κ·register b·register o·register γ·register n·register register) ∷ Γ) (runs C Λ E (seq (call #callee xs d) rest) Q)
-  calls t mem run fm known s κ·pages q·pages b·pages o·pages γ·pages n·pages pages κ·nodes q·nodes b·nodes o·nodes γ·nodes n·nodes nodes κ·register q·register b·register o·register γ·register n·register register x-l = calls-by t mem run fm s κ·pages q·pages b·pages o·pages γ·pages n·pages pages κ·nodes q·nodes b·nodes o·nodes γ·nodes n·nodes nodes κ·register q·register b·register o·register γ·register n·register register x-l (known (to 𝓤 H A mem run s κ·pages q·pages b·pages o·pages γ·pages n·pages pages κ·nodes q·nodes b·nodes o·nodes γ·nodes n·nodes nodes κ·register q·register b·register o·register γ·register n·register register x-l))
+  calls t mem run fm known s w κ·pages q·pages b·pages o·pages γ·pages n·pages pages κ·nodes q·nodes b·nodes o·nodes γ·nodes n·nodes nodes κ·register q·register b·register o·register γ·register n·register register x-l minute = calls-by t mem run fm s w κ·pages q·pages b·pages o·pages γ·pages n·pages pages κ·nodes q·nodes b·nodes o·nodes γ·nodes n·nodes nodes κ·register q·register b·register o·register γ·register n·register register x-l minute (known (to 𝓤 H A mem run s w κ·pages q·pages b·pages o·pages γ·pages n·pages pages κ·nodes q·nodes b·nodes o·nodes γ·nodes n·nodes nodes κ·register q·register b·register o·register γ·register n·register register x-l minute))
 
 module _ {M : Type 1} {𝓤 : URA M} {H : Heap 𝓤} {A : Atoms 𝓤} {K : Type 0} {W : Given 𝓤 H A} {Γ : List (Item 𝓤)} {E : Env 𝓤 H} {C : Calls 𝓤 H} {Λ : Loops 𝓤 H} {Q : Post 𝓤 H} {xs : List Operand} {d : Place} where
   -- by one instance of the callee's contract, which is what a function that calls itself has. The call ends a part of the code
-  pub calls-last-by : K → (mem : Memory → SProp 𝓤) (run : Routine → Fun 𝓤) → FmC 𝓤 H (W .laws) C → (s : Store) (κ·pages : Lft) (q·pages : Share) (b·pages o·pages : ℕ) (γ·pages : GName) (n·pages : ℕ) (pages : List ℕ) (κ·nodes : Lft) (q·nodes : Share) (b·nodes o·nodes : ℕ) (γ·nodes : GName) (n·nodes : ℕ) (nodes : List ℕ) (κ·register : Lft) (q·register : Share) (b·register o·register : ℕ) (γ·register : GName) (n·register : ℕ) (register : List Record) (x-l : Line) → ent 𝓤 (Asked 𝓤 H A mem run .pre (to 𝓤 H A mem run s κ·pages q·pages b·pages o·pages γ·pages n·pages pages κ·nodes q·nodes b·nodes o·nodes γ·nodes n·nodes nodes κ·register q·register b·register o·register γ·register n·register register x-l)) (C #callee (Asked 𝓤 H A mem run .args (to 𝓤 H A mem run s κ·pages q·pages b·pages o·pages γ·pages n·pages pages κ·nodes q·nodes b·nodes o·nodes γ·nodes n·nodes nodes κ·register q·register b·register o·register γ·register n·register register x-l)) (Asked 𝓤 H A mem run .post (to 𝓤 H A mem run s κ·pages q·pages b·pages o·pages γ·pages n·pages pages κ·nodes q·nodes b·nodes o·nodes γ·nodes n·nodes nodes κ·register q·register b·register o·register γ·register n·register register x-l))) → Is Store′.row s (Store′.vals s) → Is Line′.row x-l (Line′.vals x-l) →
-      Opds K W (raw (Asked 𝓤 H A mem run .pre (to 𝓤 H A mem run s κ·pages q·pages b·pages o·pages γ·pages n·pages pages κ·nodes q·nodes b·nodes o·nodes γ·nodes n·nodes nodes κ·register q·register b·register o·register γ·register n·register register x-l)) ∷ ‵ (ShrAt u8 κ·pages b·pages o·pages γ·pages n·pages pages) ∷ ‵ (ShrAt u32 κ·nodes b·nodes o·nodes γ·nodes n·nodes nodes) ∷ ‵ (ShrAt Record′.row κ·register b·register o·register γ·register n·register register) ∷ Γ) E xs (Store′.mach s ∷ sliceVal (b·pages, o·pages) n·pages ∷ sliceVal (b·nodes, o·nodes) n·nodes ∷ sliceVal (b·register, o·register) n·register ∷ Line′.mach x-l ∷ [])
-      → (Is PublishOut′.row (publish″.res s pages nodes register x-l) (PublishOut′.vals (publish″.res s pages nodes register x-l)) → Seq K W (‵ (flft κ·pages q·pages) ∷ ‵ (ShrAt u8 κ·pages b·pages o·pages γ·pages n·pages pages) ∷ ‵ (flft κ·nodes q·nodes) ∷ ‵ (ShrAt u32 κ·nodes b·nodes o·nodes γ·nodes n·nodes nodes) ∷ ‵ (flft κ·register q·register) ∷ ‵ (ShrAt Record′.row κ·register b·register o·register γ·register n·register register) ∷ Γ) (settles E d (PublishOut′.mach (publish″.res s pages nodes register x-l)) Q))
+  pub calls-last-by : K → (mem : Memory → SProp 𝓤) (run : Routine → Fun 𝓤) → FmC 𝓤 H (W .laws) C → (s : Store) (w : Windows) (κ·pages : Lft) (q·pages : Share) (b·pages o·pages : ℕ) (γ·pages : GName) (n·pages : ℕ) (pages : List ℕ) (κ·nodes : Lft) (q·nodes : Share) (b·nodes o·nodes : ℕ) (γ·nodes : GName) (n·nodes : ℕ) (nodes : List ℕ) (κ·register : Lft) (q·register : Share) (b·register o·register : ℕ) (γ·register : GName) (n·register : ℕ) (register : List Record) (x-l : Line) (minute : ℕ) → ent 𝓤 (Asked 𝓤 H A mem run .pre (to 𝓤 H A mem run s w κ·pages q·pages b·pages o·pages γ·pages n·pages pages κ·nodes q·nodes b·nodes o·nodes γ·nodes n·nodes nodes κ·register q·register b·register o·register γ·register n·register register x-l minute)) (C #callee (Asked 𝓤 H A mem run .args (to 𝓤 H A mem run s w κ·pages q·pages b·pages o·pages γ·pages n·pages pages κ·nodes q·nodes b·nodes o·nodes γ·nodes n·nodes nodes κ·register q·register b·register o·register γ·register n·register register x-l minute)) (Asked 𝓤 H A mem run .post (to 𝓤 H A mem run s w κ·pages q·pages b·pages o·pages γ·pages n·pages pages κ·nodes q·nodes b·nodes o·nodes γ·nodes n·nodes nodes κ·register q·register b·register o·register γ·register n·register register x-l minute))) → Is Store′.row s (Store′.vals s) → Is Windows′.row w (Windows′.vals w) → Is Line′.row x-l (Line′.vals x-l) → Is u64 minute (uint-vals w64 minute) →
+      Opds K W (raw (Asked 𝓤 H A mem run .pre (to 𝓤 H A mem run s w κ·pages q·pages b·pages o·pages γ·pages n·pages pages κ·nodes q·nodes b·nodes o·nodes γ·nodes n·nodes nodes κ·register q·register b·register o·register γ·register n·register register x-l minute)) ∷ ‵ (ShrAt u8 κ·pages b·pages o·pages γ·pages n·pages pages) ∷ ‵ (ShrAt u32 κ·nodes b·nodes o·nodes γ·nodes n·nodes nodes) ∷ ‵ (ShrAt Record′.row κ·register b·register o·register γ·register n·register register) ∷ Γ) E xs (Store′.mach s ∷ Windows′.mach w ∷ sliceVal (b·pages, o·pages) n·pages ∷ sliceVal (b·nodes, o·nodes) n·nodes ∷ sliceVal (b·register, o·register) n·register ∷ Line′.mach x-l ∷ vint w64 minute ∷ [])
+      → (Is PublishOut′.row (publish″.res s w pages nodes register x-l minute) (PublishOut′.vals (publish″.res s w pages nodes register x-l minute)) → Seq K W (‵ (flft κ·pages q·pages) ∷ ‵ (ShrAt u8 κ·pages b·pages o·pages γ·pages n·pages pages) ∷ ‵ (flft κ·nodes q·nodes) ∷ ‵ (ShrAt u32 κ·nodes b·nodes o·nodes γ·nodes n·nodes nodes) ∷ ‵ (flft κ·register q·register) ∷ ‵ (ShrAt Record′.row κ·register b·register o·register γ·register n·register register) ∷ Γ) (settles E d (PublishOut′.mach (publish″.res s w pages nodes register x-l minute)) Q))
       → Seq K W (‵ (flft κ·pages q·pages) ∷ ‵ (ShrAt u8 κ·pages b·pages o·pages γ·pages n·pages pages) ∷ ‵ (flft κ·nodes q·nodes) ∷ ‵ (ShrAt u32 κ·nodes b·nodes o·nodes γ·nodes n·nodes nodes) ∷ ‵ (flft κ·register q·register) ∷ ‵ (ShrAt Record′.row κ·register b·register o·register γ·register n·register register) ∷ Γ) (runs C Λ E (call #callee xs d) Q)
-  calls-last-by t mem run fm s κ·pages q·pages b·pages o·pages γ·pages n·pages pages κ·nodes q·nodes b·nodes o·nodes γ·nodes n·nodes nodes κ·register q·register b·register o·register γ·register n·register register x-l known ok·s ok·x-l os k =
-      core t mem run s κ·pages q·pages b·pages o·pages γ·pages n·pages pages κ·nodes q·nodes b·nodes o·nodes γ·nodes n·nodes nodes κ·register q·register b·register o·register γ·register n·register register x-l (runs C Λ E (call #callee xs d) Q) (λ v. settles E d v Q) (λ v. tt)
-      (λ h. calls-from-last t fm (raw (Asked 𝓤 H A mem run .pre (to 𝓤 H A mem run s κ·pages q·pages b·pages o·pages γ·pages n·pages pages κ·nodes q·nodes b·nodes o·nodes γ·nodes n·nodes nodes κ·register q·register b·register o·register γ·register n·register register x-l))) (Asked 𝓤 H A mem run .args (to 𝓤 H A mem run s κ·pages q·pages b·pages o·pages γ·pages n·pages pages κ·nodes q·nodes b·nodes o·nodes γ·nodes n·nodes nodes κ·register q·register b·register o·register γ·register n·register register x-l)) (Asked 𝓤 H A mem run .post (to 𝓤 H A mem run s κ·pages q·pages b·pages o·pages γ·pages n·pages pages κ·nodes q·nodes b·nodes o·nodes γ·nodes n·nodes nodes κ·register q·register b·register o·register γ·register n·register register x-l)) known os h) ok·s ok·x-l k
+  calls-last-by t mem run fm s w κ·pages q·pages b·pages o·pages γ·pages n·pages pages κ·nodes q·nodes b·nodes o·nodes γ·nodes n·nodes nodes κ·register q·register b·register o·register γ·register n·register register x-l minute known ok·s ok·w ok·x-l ok·minute os k =
+      core t mem run s w κ·pages q·pages b·pages o·pages γ·pages n·pages pages κ·nodes q·nodes b·nodes o·nodes γ·nodes n·nodes nodes κ·register q·register b·register o·register γ·register n·register register x-l minute (runs C Λ E (call #callee xs d) Q) (λ v. settles E d v Q) (λ v. tt)
+      (λ h. calls-from-last t fm (raw (Asked 𝓤 H A mem run .pre (to 𝓤 H A mem run s w κ·pages q·pages b·pages o·pages γ·pages n·pages pages κ·nodes q·nodes b·nodes o·nodes γ·nodes n·nodes nodes κ·register q·register b·register o·register γ·register n·register register x-l minute))) (Asked 𝓤 H A mem run .args (to 𝓤 H A mem run s w κ·pages q·pages b·pages o·pages γ·pages n·pages pages κ·nodes q·nodes b·nodes o·nodes γ·nodes n·nodes nodes κ·register q·register b·register o·register γ·register n·register register x-l minute)) (Asked 𝓤 H A mem run .post (to 𝓤 H A mem run s w κ·pages q·pages b·pages o·pages γ·pages n·pages pages κ·nodes q·nodes b·nodes o·nodes γ·nodes n·nodes nodes κ·register q·register b·register o·register γ·register n·register register x-l minute)) known os h) ok·s ok·w ok·x-l ok·minute k
 
-  pub calls-last : K → (mem : Memory → SProp 𝓤) (run : Routine → Fun 𝓤) → FmC 𝓤 H (W .laws) C → Triple 𝓤 (C #callee) (Asked 𝓤 H A mem run) → (s : Store) (κ·pages : Lft) (q·pages : Share) (b·pages o·pages : ℕ) (γ·pages : GName) (n·pages : ℕ) (pages : List ℕ) (κ·nodes : Lft) (q·nodes : Share) (b·nodes o·nodes : ℕ) (γ·nodes : GName) (n·nodes : ℕ) (nodes : List ℕ) (κ·register : Lft) (q·register : Share) (b·register o·register : ℕ) (γ·register : GName) (n·register : ℕ) (register : List Record) (x-l : Line) → Is Store′.row s (Store′.vals s) → Is Line′.row x-l (Line′.vals x-l) →
-      Opds K W (raw (Asked 𝓤 H A mem run .pre (to 𝓤 H A mem run s κ·pages q·pages b·pages o·pages γ·pages n·pages pages κ·nodes q·nodes b·nodes o·nodes γ·nodes n·nodes nodes κ·register q·register b·register o·register γ·register n·register register x-l)) ∷ ‵ (ShrAt u8 κ·pages b·pages o·pages γ·pages n·pages pages) ∷ ‵ (ShrAt u32 κ·nodes b·nodes o·nodes γ·nodes n·nodes nodes) ∷ ‵ (ShrAt Record′.row κ·register b·register o·register γ·register n·register register) ∷ Γ) E xs (Store′.mach s ∷ sliceVal (b·pages, o·pages) n·pages ∷ sliceVal (b·nodes, o·nodes) n·nodes ∷ sliceVal (b·register, o·register) n·register ∷ Line′.mach x-l ∷ [])
-      → (Is PublishOut′.row (publish″.res s pages nodes register x-l) (PublishOut′.vals (publish″.res s pages nodes register x-l)) → Seq K W (‵ (flft κ·pages q·pages) ∷ ‵ (ShrAt u8 κ·pages b·pages o·pages γ·pages n·pages pages) ∷ ‵ (flft κ·nodes q·nodes) ∷ ‵ (ShrAt u32 κ·nodes b·nodes o·nodes γ·nodes n·nodes nodes) ∷ ‵ (flft κ·register q·register) ∷ ‵ (ShrAt Record′.row κ·register b·register o·register γ·register n·register register) ∷ Γ) (settles E d (PublishOut′.mach (publish″.res s pages nodes register x-l)) Q))
+  pub calls-last : K → (mem : Memory → SProp 𝓤) (run : Routine → Fun 𝓤) → FmC 𝓤 H (W .laws) C → Triple 𝓤 (C #callee) (Asked 𝓤 H A mem run) → (s : Store) (w : Windows) (κ·pages : Lft) (q·pages : Share) (b·pages o·pages : ℕ) (γ·pages : GName) (n·pages : ℕ) (pages : List ℕ) (κ·nodes : Lft) (q·nodes : Share) (b·nodes o·nodes : ℕ) (γ·nodes : GName) (n·nodes : ℕ) (nodes : List ℕ) (κ·register : Lft) (q·register : Share) (b·register o·register : ℕ) (γ·register : GName) (n·register : ℕ) (register : List Record) (x-l : Line) (minute : ℕ) → Is Store′.row s (Store′.vals s) → Is Windows′.row w (Windows′.vals w) → Is Line′.row x-l (Line′.vals x-l) → Is u64 minute (uint-vals w64 minute) →
+      Opds K W (raw (Asked 𝓤 H A mem run .pre (to 𝓤 H A mem run s w κ·pages q·pages b·pages o·pages γ·pages n·pages pages κ·nodes q·nodes b·nodes o·nodes γ·nodes n·nodes nodes κ·register q·register b·register o·register γ·register n·register register x-l minute)) ∷ ‵ (ShrAt u8 κ·pages b·pages o·pages γ·pages n·pages pages) ∷ ‵ (ShrAt u32 κ·nodes b·nodes o·nodes γ·nodes n·nodes nodes) ∷ ‵ (ShrAt Record′.row κ·register b·register o·register γ·register n·register register) ∷ Γ) E xs (Store′.mach s ∷ Windows′.mach w ∷ sliceVal (b·pages, o·pages) n·pages ∷ sliceVal (b·nodes, o·nodes) n·nodes ∷ sliceVal (b·register, o·register) n·register ∷ Line′.mach x-l ∷ vint w64 minute ∷ [])
+      → (Is PublishOut′.row (publish″.res s w pages nodes register x-l minute) (PublishOut′.vals (publish″.res s w pages nodes register x-l minute)) → Seq K W (‵ (flft κ·pages q·pages) ∷ ‵ (ShrAt u8 κ·pages b·pages o·pages γ·pages n·pages pages) ∷ ‵ (flft κ·nodes q·nodes) ∷ ‵ (ShrAt u32 κ·nodes b·nodes o·nodes γ·nodes n·nodes nodes) ∷ ‵ (flft κ·register q·register) ∷ ‵ (ShrAt Record′.row κ·register b·register o·register γ·register n·register register) ∷ Γ) (settles E d (PublishOut′.mach (publish″.res s w pages nodes register x-l minute)) Q))
       → Seq K W (‵ (flft κ·pages q·pages) ∷ ‵ (ShrAt u8 κ·pages b·pages o·pages γ·pages n·pages pages) ∷ ‵ (flft κ·nodes q·nodes) ∷ ‵ (ShrAt u32 κ·nodes b·nodes o·nodes γ·nodes n·nodes nodes) ∷ ‵ (flft κ·register q·register) ∷ ‵ (ShrAt Record′.row κ·register b·register o·register γ·register n·register register) ∷ Γ) (runs C Λ E (call #callee xs d) Q)
-  calls-last t mem run fm known s κ·pages q·pages b·pages o·pages γ·pages n·pages pages κ·nodes q·nodes b·nodes o·nodes γ·nodes n·nodes nodes κ·register q·register b·register o·register γ·register n·register register x-l = calls-last-by t mem run fm s κ·pages q·pages b·pages o·pages γ·pages n·pages pages κ·nodes q·nodes b·nodes o·nodes γ·nodes n·nodes nodes κ·register q·register b·register o·register γ·register n·register register x-l (known (to 𝓤 H A mem run s κ·pages q·pages b·pages o·pages γ·pages n·pages pages κ·nodes q·nodes b·nodes o·nodes γ·nodes n·nodes nodes κ·register q·register b·register o·register γ·register n·register register x-l))
+  calls-last t mem run fm known s w κ·pages q·pages b·pages o·pages γ·pages n·pages pages κ·nodes q·nodes b·nodes o·nodes γ·nodes n·nodes nodes κ·register q·register b·register o·register γ·register n·register register x-l minute = calls-last-by t mem run fm s w κ·pages q·pages b·pages o·pages γ·pages n·pages pages κ·nodes q·nodes b·nodes o·nodes γ·nodes n·nodes nodes κ·register q·register b·register o·register γ·register n·register register x-l minute (known (to 𝓤 H A mem run s w κ·pages q·pages b·pages o·pages γ·pages n·pages pages κ·nodes q·nodes b·nodes o·nodes γ·nodes n·nodes nodes κ·register q·register b·register o·register γ·register n·register register x-l minute))

@@ -50,53 +50,53 @@ module _ {M : Type 1} (𝓤 : URA M) (H : Heap 𝓤) (A : Atoms 𝓤) (mem : Mem
   abbrev pub Asked : Contract 𝓤
   Asked = tripleOf 𝓤 H A callee.signature (callee.spec 𝓤 H A mem run)
 
-  abbrev pub to : (x-k : ℕ) (b : Branch) (q : Part) (c : ℕ) → Asked .Ghost
-  to x-k b q c = ((tt, tt, tt, (x-k, (b, (q, (c, tt)))), (vint w64 x-k ∷ [], (Branch′.mach b ∷ [], (Part′.mach q ∷ [], (vint w64 c ∷ [], tt))))), tt)
+  abbrev pub to : (x-k : ℕ) (minute : ℕ) (held : Bool) (b : Branch) (q : Part) (c : ℕ) → Asked .Ghost
+  to x-k minute held b q c = ((tt, tt, tt, (x-k, (minute, (held, (b, (q, (c, tt)))))), (vint w64 x-k ∷ [], (vint w64 minute ∷ [], (vbool held ∷ [], (Branch′.mach b ∷ [], (Part′.mach q ∷ [], (vint w64 c ∷ [], tt))))))), tt)
 
 module _ {M : Type 1} {𝓤 : URA M} {H : Heap 𝓤} {A : Atoms 𝓤} {K : Type 0} {W : Given 𝓤 H A} {Γ : List (Item 𝓤)} where
   -- the call itself is made by `by-call`, from what the callee asks to what it has ensured
-  core : K → (mem : Memory → SProp 𝓤) (run : Routine → Fun 𝓤) → (x-k : ℕ) (b : Branch) (q : Part) (c : ℕ) → (G : Goal 𝓤 H) (after : Val → Goal 𝓤 H) → ((v : Val) → Soaks (after v))
-      → (((v : Val) → Seq K W (raw (Asked 𝓤 H A mem run .post (to 𝓤 H A mem run x-k b q c) v) ∷ Γ) (after v)) → Seq K W (raw (Asked 𝓤 H A mem run .pre (to 𝓤 H A mem run x-k b q c)) ∷ Γ) G) → Is u64 x-k (uint-vals w64 x-k) → Is Branch′.row b (Branch′.vals b) → Is Part′.row q (Part′.vals q) → Is u64 c (uint-vals w64 c) →
-      (Is u64 (publish-refusal″.res x-k b q c) (uint-vals w64 (publish-refusal″.res x-k b q c)) → Seq K W (Γ) (after (vint w64 (publish-refusal″.res x-k b q c)))) → Seq K W (Γ) G
-  core t mem run x-k b q c G after soaks by-call ok·x-k ok·b ok·q ok·c k =
-      use0 W (raw (Asked 𝓤 H A mem run .pre (to 𝓤 H A mem run x-k b q c))) goes $
+  core : K → (mem : Memory → SProp 𝓤) (run : Routine → Fun 𝓤) → (x-k : ℕ) (minute : ℕ) (held : Bool) (b : Branch) (q : Part) (c : ℕ) → (G : Goal 𝓤 H) (after : Val → Goal 𝓤 H) → ((v : Val) → Soaks (after v))
+      → (((v : Val) → Seq K W (raw (Asked 𝓤 H A mem run .post (to 𝓤 H A mem run x-k minute held b q c) v) ∷ Γ) (after v)) → Seq K W (raw (Asked 𝓤 H A mem run .pre (to 𝓤 H A mem run x-k minute held b q c)) ∷ Γ) G) → Is u64 x-k (uint-vals w64 x-k) → Is u64 minute (uint-vals w64 minute) → Is bool held (bool-vals held) → Is Branch′.row b (Branch′.vals b) → Is Part′.row q (Part′.vals q) → Is u64 c (uint-vals w64 c) →
+      (Is u64 (publish-refusal″.res x-k minute held b q c) (uint-vals w64 (publish-refusal″.res x-k minute held b q c)) → Seq K W (Γ) (after (vint w64 (publish-refusal″.res x-k minute held b q c)))) → Seq K W (Γ) G
+  core t mem run x-k minute held b q c G after soaks by-call ok·x-k ok·minute ok·held ok·b ok·q ok·c k =
+      use0 W (raw (Asked 𝓤 H A mem run .pre (to 𝓤 H A mem run x-k minute held b q c))) goes $
       by-call (λ v.
-      use1 W (later (some (λ (r· : ℕ). ((‵ ftrue) ⊛ ‵ (u64 .own r· (v ∷ []))) ⊛ raw (ensured 𝓤 H A callee.ended (callee.clauses 𝓤 H A mem run) tt (x-k, (b, (q, (c, tt)))) tt r·)))) (id⊢ 𝓤 _) $ await t (soaks v) $ pick t (λ r·. split t $ move t (1 ∷ []) $
-      use1 W (some (λ (ws : Lasts callee.ended tt (x-k, (b, (q, (c, tt))))). ‵ (lasts callee.ended tt (x-k, (b, (q, (c, tt)))) ws) ⊛ raw (fact 𝓤 (publish-refusal″.ens x-k b q c r·)))) (id⊢ 𝓤 _) $ pick t (λ ws. split t $ move t (1 ∷ []) $
-      heard t (publish-refusal″.ens x-k b q c r·) (λ e. drop t $ split t $ move t (1 ∷ []) $ facts t u64 (Is u64) (shows 𝓤 H A u64) r· (v ∷ []) (λ is. drop t $
+      use1 W (later (some (λ (r· : ℕ). ((‵ ftrue) ⊛ ‵ (u64 .own r· (v ∷ []))) ⊛ raw (ensured 𝓤 H A callee.ended (callee.clauses 𝓤 H A mem run) tt (x-k, (minute, (held, (b, (q, (c, tt)))))) tt r·)))) (id⊢ 𝓤 _) $ await t (soaks v) $ pick t (λ r·. split t $ move t (1 ∷ []) $
+      use1 W (some (λ (ws : Lasts callee.ended tt (x-k, (minute, (held, (b, (q, (c, tt))))))). ‵ (lasts callee.ended tt (x-k, (minute, (held, (b, (q, (c, tt)))))) ws) ⊛ raw (fact 𝓤 (publish-refusal″.ens x-k minute held b q c r·)))) (id⊢ 𝓤 _) $ pick t (λ ws. split t $ move t (1 ∷ []) $
+      heard t (publish-refusal″.ens x-k minute held b q c r·) (λ e. drop t $ split t $ move t (1 ∷ []) $ facts t u64 (Is u64) (shows 𝓤 H A u64) r· (v ∷ []) (λ is. drop t $
       subst (λ (u : Val). Seq K W (Γ) (after u)) (sym (ap only (uint-tells w64 r· (v ∷ []) is) ∙ ap (λ (z : ℕ). vint w64 z) (e))) (k (subst (λ (z : ℕ). Is u64 z (uint-vals w64 z)) (e) (subst (Is u64 r·) (uint-tells w64 r· (v ∷ []) is) is))))))))
     where
-      goes : ent 𝓤 (⋆ 𝓤 H A ([])) (Asked 𝓤 H A mem run .pre (to 𝓤 H A mem run x-k b q c))
-      goes = qed W ([]) ∵ plus-nothing ! $ nothing ! $ frame ! $ nothing ! $ owned ! u64 (Is u64) (uint-makes 𝓤 H A W w64) c _ ok·c $ fjoin ! $ owned ! Part′.row (Is Part′.row) (Part′.makes 𝓤 H A) q _ ok·q $ fjoin ! $ owned ! Branch′.row (Is Branch′.row) (Branch′.makes 𝓤 H A) b _ ok·b $ fjoin ! $ owned ! u64 (Is u64) (uint-makes 𝓤 H A W w64) x-k _ ok·x-k $ fjoin ! $ done !
+      goes : ent 𝓤 (⋆ 𝓤 H A ([])) (Asked 𝓤 H A mem run .pre (to 𝓤 H A mem run x-k minute held b q c))
+      goes = qed W ([]) ∵ plus-nothing ! $ nothing ! $ frame ! $ nothing ! $ owned ! u64 (Is u64) (uint-makes 𝓤 H A W w64) c _ ok·c $ fjoin ! $ owned ! Part′.row (Is Part′.row) (Part′.makes 𝓤 H A) q _ ok·q $ fjoin ! $ owned ! Branch′.row (Is Branch′.row) (Branch′.makes 𝓤 H A) b _ ok·b $ fjoin ! $ owned ! bool (Is bool) (bool-makes 𝓤 H A W) held _ ok·held $ fjoin ! $ owned ! u64 (Is u64) (uint-makes 𝓤 H A W w64) minute _ ok·minute $ fjoin ! $ owned ! u64 (Is u64) (uint-makes 𝓤 H A W w64) x-k _ ok·x-k $ fjoin ! $ done !
 
 module _ {M : Type 1} {𝓤 : URA M} {H : Heap 𝓤} {A : Atoms 𝓤} {K : Type 0} {W : Given 𝓤 H A} {Γ : List (Item 𝓤)} {E : Env 𝓤 H} {C : Calls 𝓤 H} {Λ : Loops 𝓤 H} {Q : Post 𝓤 H} {xs : List Operand} {d : Place} {rest : Body} where
   -- by one instance of the callee's contract, which is what a function that calls itself has
-  pub calls-by : K → (mem : Memory → SProp 𝓤) (run : Routine → Fun 𝓤) → FmC 𝓤 H (W .laws) C → (x-k : ℕ) (b : Branch) (q : Part) (c : ℕ) → ent 𝓤 (Asked 𝓤 H A mem run .pre (to 𝓤 H A mem run x-k b q c)) (C #callee (Asked 𝓤 H A mem run .args (to 𝓤 H A mem run x-k b q c)) (Asked 𝓤 H A mem run .post (to 𝓤 H A mem run x-k b q c))) → Is u64 x-k (uint-vals w64 x-k) → Is Branch′.row b (Branch′.vals b) → Is Part′.row q (Part′.vals q) → Is u64 c (uint-vals w64 c) →
-      Opds K W (raw (Asked 𝓤 H A mem run .pre (to 𝓤 H A mem run x-k b q c)) ∷ Γ) E xs (vint w64 x-k ∷ Branch′.mach b ∷ Part′.mach q ∷ vint w64 c ∷ [])
-      → (Is u64 (publish-refusal″.res x-k b q c) (uint-vals w64 (publish-refusal″.res x-k b q c)) → Seq K W (Γ) (lands C Λ E d (vint w64 (publish-refusal″.res x-k b q c)) rest Q))
+  pub calls-by : K → (mem : Memory → SProp 𝓤) (run : Routine → Fun 𝓤) → FmC 𝓤 H (W .laws) C → (x-k : ℕ) (minute : ℕ) (held : Bool) (b : Branch) (q : Part) (c : ℕ) → ent 𝓤 (Asked 𝓤 H A mem run .pre (to 𝓤 H A mem run x-k minute held b q c)) (C #callee (Asked 𝓤 H A mem run .args (to 𝓤 H A mem run x-k minute held b q c)) (Asked 𝓤 H A mem run .post (to 𝓤 H A mem run x-k minute held b q c))) → Is u64 x-k (uint-vals w64 x-k) → Is u64 minute (uint-vals w64 minute) → Is bool held (bool-vals held) → Is Branch′.row b (Branch′.vals b) → Is Part′.row q (Part′.vals q) → Is u64 c (uint-vals w64 c) →
+      Opds K W (raw (Asked 𝓤 H A mem run .pre (to 𝓤 H A mem run x-k minute held b q c)) ∷ Γ) E xs (vint w64 x-k ∷ vint w64 minute ∷ vbool held ∷ Branch′.mach b ∷ Part′.mach q ∷ vint w64 c ∷ [])
+      → (Is u64 (publish-refusal″.res x-k minute held b q c) (uint-vals w64 (publish-refusal″.res x-k minute held b q c)) → Seq K W (Γ) (lands C Λ E d (vint w64 (publish-refusal″.res x-k minute held b q c)) rest Q))
       → Seq K W (Γ) (runs C Λ E (seq (call #callee xs d) rest) Q)
-  calls-by t mem run fm x-k b q c known ok·x-k ok·b ok·q ok·c os k =
-      core t mem run x-k b q c (runs C Λ E (seq (call #callee xs d) rest) Q) (λ v. lands C Λ E d v rest Q) (λ v. tt)
-      (λ h. calls-from t fm (raw (Asked 𝓤 H A mem run .pre (to 𝓤 H A mem run x-k b q c))) (Asked 𝓤 H A mem run .args (to 𝓤 H A mem run x-k b q c)) (Asked 𝓤 H A mem run .post (to 𝓤 H A mem run x-k b q c)) known os h) ok·x-k ok·b ok·q ok·c k
+  calls-by t mem run fm x-k minute held b q c known ok·x-k ok·minute ok·held ok·b ok·q ok·c os k =
+      core t mem run x-k minute held b q c (runs C Λ E (seq (call #callee xs d) rest) Q) (λ v. lands C Λ E d v rest Q) (λ v. tt)
+      (λ h. calls-from t fm (raw (Asked 𝓤 H A mem run .pre (to 𝓤 H A mem run x-k minute held b q c))) (Asked 𝓤 H A mem run .args (to 𝓤 H A mem run x-k minute held b q c)) (Asked 𝓤 H A mem run .post (to 𝓤 H A mem run x-k minute held b q c)) known os h) ok·x-k ok·minute ok·held ok·b ok·q ok·c k
 
-  pub calls : K → (mem : Memory → SProp 𝓤) (run : Routine → Fun 𝓤) → FmC 𝓤 H (W .laws) C → Triple 𝓤 (C #callee) (Asked 𝓤 H A mem run) → (x-k : ℕ) (b : Branch) (q : Part) (c : ℕ) → Is u64 x-k (uint-vals w64 x-k) → Is Branch′.row b (Branch′.vals b) → Is Part′.row q (Part′.vals q) → Is u64 c (uint-vals w64 c) →
-      Opds K W (raw (Asked 𝓤 H A mem run .pre (to 𝓤 H A mem run x-k b q c)) ∷ Γ) E xs (vint w64 x-k ∷ Branch′.mach b ∷ Part′.mach q ∷ vint w64 c ∷ [])
-      → (Is u64 (publish-refusal″.res x-k b q c) (uint-vals w64 (publish-refusal″.res x-k b q c)) → Seq K W (Γ) (lands C Λ E d (vint w64 (publish-refusal″.res x-k b q c)) rest Q))
+  pub calls : K → (mem : Memory → SProp 𝓤) (run : Routine → Fun 𝓤) → FmC 𝓤 H (W .laws) C → Triple 𝓤 (C #callee) (Asked 𝓤 H A mem run) → (x-k : ℕ) (minute : ℕ) (held : Bool) (b : Branch) (q : Part) (c : ℕ) → Is u64 x-k (uint-vals w64 x-k) → Is u64 minute (uint-vals w64 minute) → Is bool held (bool-vals held) → Is Branch′.row b (Branch′.vals b) → Is Part′.row q (Part′.vals q) → Is u64 c (uint-vals w64 c) →
+      Opds K W (raw (Asked 𝓤 H A mem run .pre (to 𝓤 H A mem run x-k minute held b q c)) ∷ Γ) E xs (vint w64 x-k ∷ vint w64 minute ∷ vbool held ∷ Branch′.mach b ∷ Part′.mach q ∷ vint w64 c ∷ [])
+      → (Is u64 (publish-refusal″.res x-k minute held b q c) (uint-vals w64 (publish-refusal″.res x-k minute held b q c)) → Seq K W (Γ) (lands C Λ E d (vint w64 (publish-refusal″.res x-k minute held b q c)) rest Q))
       → Seq K W (Γ) (runs C Λ E (seq (call #callee xs d) rest) Q)
-  calls t mem run fm known x-k b q c = calls-by t mem run fm x-k b q c (known (to 𝓤 H A mem run x-k b q c))
+  calls t mem run fm known x-k minute held b q c = calls-by t mem run fm x-k minute held b q c (known (to 𝓤 H A mem run x-k minute held b q c))
 
 module _ {M : Type 1} {𝓤 : URA M} {H : Heap 𝓤} {A : Atoms 𝓤} {K : Type 0} {W : Given 𝓤 H A} {Γ : List (Item 𝓤)} {E : Env 𝓤 H} {C : Calls 𝓤 H} {Λ : Loops 𝓤 H} {Q : Post 𝓤 H} {xs : List Operand} {d : Place} where
   -- by one instance of the callee's contract, which is what a function that calls itself has. The call ends a part of the code
-  pub calls-last-by : K → (mem : Memory → SProp 𝓤) (run : Routine → Fun 𝓤) → FmC 𝓤 H (W .laws) C → (x-k : ℕ) (b : Branch) (q : Part) (c : ℕ) → ent 𝓤 (Asked 𝓤 H A mem run .pre (to 𝓤 H A mem run x-k b q c)) (C #callee (Asked 𝓤 H A mem run .args (to 𝓤 H A mem run x-k b q c)) (Asked 𝓤 H A mem run .post (to 𝓤 H A mem run x-k b q c))) → Is u64 x-k (uint-vals w64 x-k) → Is Branch′.row b (Branch′.vals b) → Is Part′.row q (Part′.vals q) → Is u64 c (uint-vals w64 c) →
-      Opds K W (raw (Asked 𝓤 H A mem run .pre (to 𝓤 H A mem run x-k b q c)) ∷ Γ) E xs (vint w64 x-k ∷ Branch′.mach b ∷ Part′.mach q ∷ vint w64 c ∷ [])
-      → (Is u64 (publish-refusal″.res x-k b q c) (uint-vals w64 (publish-refusal″.res x-k b q c)) → Seq K W (Γ) (settles E d (vint w64 (publish-refusal″.res x-k b q c)) Q))
+  pub calls-last-by : K → (mem : Memory → SProp 𝓤) (run : Routine → Fun 𝓤) → FmC 𝓤 H (W .laws) C → (x-k : ℕ) (minute : ℕ) (held : Bool) (b : Branch) (q : Part) (c : ℕ) → ent 𝓤 (Asked 𝓤 H A mem run .pre (to 𝓤 H A mem run x-k minute held b q c)) (C #callee (Asked 𝓤 H A mem run .args (to 𝓤 H A mem run x-k minute held b q c)) (Asked 𝓤 H A mem run .post (to 𝓤 H A mem run x-k minute held b q c))) → Is u64 x-k (uint-vals w64 x-k) → Is u64 minute (uint-vals w64 minute) → Is bool held (bool-vals held) → Is Branch′.row b (Branch′.vals b) → Is Part′.row q (Part′.vals q) → Is u64 c (uint-vals w64 c) →
+      Opds K W (raw (Asked 𝓤 H A mem run .pre (to 𝓤 H A mem run x-k minute held b q c)) ∷ Γ) E xs (vint w64 x-k ∷ vint w64 minute ∷ vbool held ∷ Branch′.mach b ∷ Part′.mach q ∷ vint w64 c ∷ [])
+      → (Is u64 (publish-refusal″.res x-k minute held b q c) (uint-vals w64 (publish-refusal″.res x-k minute held b q c)) → Seq K W (Γ) (settles E d (vint w64 (publish-refusal″.res x-k minute held b q c)) Q))
       → Seq K W (Γ) (runs C Λ E (call #callee xs d) Q)
-  calls-last-by t mem run fm x-k b q c known ok·x-k ok·b ok·q ok·c os k =
-      core t mem run x-k b q c (runs C Λ E (call #callee xs d) Q) (λ v. settles E d v Q) (λ v. tt)
-      (λ h. calls-from-last t fm (raw (Asked 𝓤 H A mem run .pre (to 𝓤 H A mem run x-k b q c))) (Asked 𝓤 H A mem run .args (to 𝓤 H A mem run x-k b q c)) (Asked 𝓤 H A mem run .post (to 𝓤 H A mem run x-k b q c)) known os h) ok·x-k ok·b ok·q ok·c k
+  calls-last-by t mem run fm x-k minute held b q c known ok·x-k ok·minute ok·held ok·b ok·q ok·c os k =
+      core t mem run x-k minute held b q c (runs C Λ E (call #callee xs d) Q) (λ v. settles E d v Q) (λ v. tt)
+      (λ h. calls-from-last t fm (raw (Asked 𝓤 H A mem run .pre (to 𝓤 H A mem run x-k minute held b q c))) (Asked 𝓤 H A mem run .args (to 𝓤 H A mem run x-k minute held b q c)) (Asked 𝓤 H A mem run .post (to 𝓤 H A mem run x-k minute held b q c)) known os h) ok·x-k ok·minute ok·held ok·b ok·q ok·c k
 
-  pub calls-last : K → (mem : Memory → SProp 𝓤) (run : Routine → Fun 𝓤) → FmC 𝓤 H (W .laws) C → Triple 𝓤 (C #callee) (Asked 𝓤 H A mem run) → (x-k : ℕ) (b : Branch) (q : Part) (c : ℕ) → Is u64 x-k (uint-vals w64 x-k) → Is Branch′.row b (Branch′.vals b) → Is Part′.row q (Part′.vals q) → Is u64 c (uint-vals w64 c) →
-      Opds K W (raw (Asked 𝓤 H A mem run .pre (to 𝓤 H A mem run x-k b q c)) ∷ Γ) E xs (vint w64 x-k ∷ Branch′.mach b ∷ Part′.mach q ∷ vint w64 c ∷ [])
-      → (Is u64 (publish-refusal″.res x-k b q c) (uint-vals w64 (publish-refusal″.res x-k b q c)) → Seq K W (Γ) (settles E d (vint w64 (publish-refusal″.res x-k b q c)) Q))
+  pub calls-last : K → (mem : Memory → SProp 𝓤) (run : Routine → Fun 𝓤) → FmC 𝓤 H (W .laws) C → Triple 𝓤 (C #callee) (Asked 𝓤 H A mem run) → (x-k : ℕ) (minute : ℕ) (held : Bool) (b : Branch) (q : Part) (c : ℕ) → Is u64 x-k (uint-vals w64 x-k) → Is u64 minute (uint-vals w64 minute) → Is bool held (bool-vals held) → Is Branch′.row b (Branch′.vals b) → Is Part′.row q (Part′.vals q) → Is u64 c (uint-vals w64 c) →
+      Opds K W (raw (Asked 𝓤 H A mem run .pre (to 𝓤 H A mem run x-k minute held b q c)) ∷ Γ) E xs (vint w64 x-k ∷ vint w64 minute ∷ vbool held ∷ Branch′.mach b ∷ Part′.mach q ∷ vint w64 c ∷ [])
+      → (Is u64 (publish-refusal″.res x-k minute held b q c) (uint-vals w64 (publish-refusal″.res x-k minute held b q c)) → Seq K W (Γ) (settles E d (vint w64 (publish-refusal″.res x-k minute held b q c)) Q))
       → Seq K W (Γ) (runs C Λ E (call #callee xs d) Q)
-  calls-last t mem run fm known x-k b q c = calls-last-by t mem run fm x-k b q c (known (to 𝓤 H A mem run x-k b q c))
+  calls-last t mem run fm known x-k minute held b q c = calls-last-by t mem run fm x-k minute held b q c (known (to 𝓤 H A mem run x-k minute held b q c))

@@ -52,53 +52,53 @@ module _ {M : Type 1} (𝓤 : URA M) (H : Heap 𝓤) (A : Atoms 𝓤) (mem : Mem
   abbrev pub Asked : Contract 𝓤
   Asked = tripleOf 𝓤 H A callee.signature (callee.spec 𝓤 H A mem run)
 
-  abbrev pub to : (s : Store) (x-l : Line) (x-k : ℕ) (due : Bool) → Asked .Ghost
-  to s x-l x-k due = ((tt, tt, tt, (s, (x-l, (x-k, (due, tt)))), (Store′.mach s ∷ [], (Line′.mach x-l ∷ [], (vint w64 x-k ∷ [], (vbool due ∷ [], tt))))), tt)
+  abbrev pub to : (s : Store) (x-l : Line) (x-k : ℕ) (held : Bool) (due : Bool) → Asked .Ghost
+  to s x-l x-k held due = ((tt, tt, tt, (s, (x-l, (x-k, (held, (due, tt))))), (Store′.mach s ∷ [], (Line′.mach x-l ∷ [], (vint w64 x-k ∷ [], (vbool held ∷ [], (vbool due ∷ [], tt)))))), tt)
 
 module _ {M : Type 1} {𝓤 : URA M} {H : Heap 𝓤} {A : Atoms 𝓤} {K : Type 0} {W : Given 𝓤 H A} {Γ : List (Item 𝓤)} where
   -- the call itself is made by `by-call`, from what the callee asks to what it has ensured
-  core : K → (mem : Memory → SProp 𝓤) (run : Routine → Fun 𝓤) → (s : Store) (x-l : Line) (x-k : ℕ) (due : Bool) → (G : Goal 𝓤 H) (after : Val → Goal 𝓤 H) → ((v : Val) → Soaks (after v))
-      → (((v : Val) → Seq K W (raw (Asked 𝓤 H A mem run .post (to 𝓤 H A mem run s x-l x-k due) v) ∷ Γ) (after v)) → Seq K W (raw (Asked 𝓤 H A mem run .pre (to 𝓤 H A mem run s x-l x-k due)) ∷ Γ) G) → Is Store′.row s (Store′.vals s) → Is Line′.row x-l (Line′.vals x-l) → Is u64 x-k (uint-vals w64 x-k) → Is bool due (bool-vals due) → published-by″.req s x-l x-k due →
-      (Is PublishOut′.row (published-by″.res s x-l x-k due) (PublishOut′.vals (published-by″.res s x-l x-k due)) → Seq K W (Γ) (after (PublishOut′.mach (published-by″.res s x-l x-k due)))) → Seq K W (Γ) G
-  core t mem run s x-l x-k due G after soaks by-call ok·s ok·x-l ok·x-k ok·due need k =
-      use0 W (raw (Asked 𝓤 H A mem run .pre (to 𝓤 H A mem run s x-l x-k due))) goes $
+  core : K → (mem : Memory → SProp 𝓤) (run : Routine → Fun 𝓤) → (s : Store) (x-l : Line) (x-k : ℕ) (held : Bool) (due : Bool) → (G : Goal 𝓤 H) (after : Val → Goal 𝓤 H) → ((v : Val) → Soaks (after v))
+      → (((v : Val) → Seq K W (raw (Asked 𝓤 H A mem run .post (to 𝓤 H A mem run s x-l x-k held due) v) ∷ Γ) (after v)) → Seq K W (raw (Asked 𝓤 H A mem run .pre (to 𝓤 H A mem run s x-l x-k held due)) ∷ Γ) G) → Is Store′.row s (Store′.vals s) → Is Line′.row x-l (Line′.vals x-l) → Is u64 x-k (uint-vals w64 x-k) → Is bool held (bool-vals held) → Is bool due (bool-vals due) → published-by″.req s x-l x-k held due →
+      (Is PublishOut′.row (published-by″.res s x-l x-k held due) (PublishOut′.vals (published-by″.res s x-l x-k held due)) → Seq K W (Γ) (after (PublishOut′.mach (published-by″.res s x-l x-k held due)))) → Seq K W (Γ) G
+  core t mem run s x-l x-k held due G after soaks by-call ok·s ok·x-l ok·x-k ok·held ok·due need k =
+      use0 W (raw (Asked 𝓤 H A mem run .pre (to 𝓤 H A mem run s x-l x-k held due))) goes $
       by-call (λ v.
-      use1 W (later (some (λ (r· : PublishOut). ((‵ ftrue) ⊛ ‵ (PublishOut′.row .own r· (v ∷ []))) ⊛ raw (ensured 𝓤 H A callee.ended (callee.clauses 𝓤 H A mem run) tt (s, (x-l, (x-k, (due, tt)))) tt r·)))) (id⊢ 𝓤 _) $ await t (soaks v) $ pick t (λ r·. split t $ move t (1 ∷ []) $
-      use1 W (some (λ (ws : Lasts callee.ended tt (s, (x-l, (x-k, (due, tt))))). ‵ (lasts callee.ended tt (s, (x-l, (x-k, (due, tt)))) ws) ⊛ raw (fact 𝓤 (published-by″.ens s x-l x-k due r·)))) (id⊢ 𝓤 _) $ pick t (λ ws. split t $ move t (1 ∷ []) $
-      heard t (published-by″.ens s x-l x-k due r·) (λ e. drop t $ split t $ move t (1 ∷ []) $ facts t PublishOut′.row (Is PublishOut′.row) (shows 𝓤 H A PublishOut′.row) r· (v ∷ []) (λ is. drop t $
+      use1 W (later (some (λ (r· : PublishOut). ((‵ ftrue) ⊛ ‵ (PublishOut′.row .own r· (v ∷ []))) ⊛ raw (ensured 𝓤 H A callee.ended (callee.clauses 𝓤 H A mem run) tt (s, (x-l, (x-k, (held, (due, tt))))) tt r·)))) (id⊢ 𝓤 _) $ await t (soaks v) $ pick t (λ r·. split t $ move t (1 ∷ []) $
+      use1 W (some (λ (ws : Lasts callee.ended tt (s, (x-l, (x-k, (held, (due, tt)))))). ‵ (lasts callee.ended tt (s, (x-l, (x-k, (held, (due, tt))))) ws) ⊛ raw (fact 𝓤 (published-by″.ens s x-l x-k held due r·)))) (id⊢ 𝓤 _) $ pick t (λ ws. split t $ move t (1 ∷ []) $
+      heard t (published-by″.ens s x-l x-k held due r·) (λ e. drop t $ split t $ move t (1 ∷ []) $ facts t PublishOut′.row (Is PublishOut′.row) (shows 𝓤 H A PublishOut′.row) r· (v ∷ []) (λ is. drop t $
       subst (λ (u : Val). Seq K W (Γ) (after u)) (sym (ap only (PublishOut′.tells r· (v ∷ []) is) ∙ ap (λ (z : PublishOut). PublishOut′.mach z) (e))) (k (subst (λ (z : PublishOut). Is PublishOut′.row z (PublishOut′.vals z)) (e) (subst (Is PublishOut′.row r·) (PublishOut′.tells r· (v ∷ []) is) is))))))))
     where
-      goes : ent 𝓤 (⋆ 𝓤 H A ([])) (Asked 𝓤 H A mem run .pre (to 𝓤 H A mem run s x-l x-k due))
-      goes = qed W ([]) ∵ says ! need $ nothing ! $ frame ! $ nothing ! $ owned ! bool (Is bool) (bool-makes 𝓤 H A W) due _ ok·due $ fjoin ! $ owned ! u64 (Is u64) (uint-makes 𝓤 H A W w64) x-k _ ok·x-k $ fjoin ! $ owned ! Line′.row (Is Line′.row) (Line′.makes 𝓤 H A) x-l _ ok·x-l $ fjoin ! $ owned ! Store′.row (Is Store′.row) (Store′.makes 𝓤 H A) s _ ok·s $ fjoin ! $ done !
+      goes : ent 𝓤 (⋆ 𝓤 H A ([])) (Asked 𝓤 H A mem run .pre (to 𝓤 H A mem run s x-l x-k held due))
+      goes = qed W ([]) ∵ says ! need $ nothing ! $ frame ! $ nothing ! $ owned ! bool (Is bool) (bool-makes 𝓤 H A W) due _ ok·due $ fjoin ! $ owned ! bool (Is bool) (bool-makes 𝓤 H A W) held _ ok·held $ fjoin ! $ owned ! u64 (Is u64) (uint-makes 𝓤 H A W w64) x-k _ ok·x-k $ fjoin ! $ owned ! Line′.row (Is Line′.row) (Line′.makes 𝓤 H A) x-l _ ok·x-l $ fjoin ! $ owned ! Store′.row (Is Store′.row) (Store′.makes 𝓤 H A) s _ ok·s $ fjoin ! $ done !
 
 module _ {M : Type 1} {𝓤 : URA M} {H : Heap 𝓤} {A : Atoms 𝓤} {K : Type 0} {W : Given 𝓤 H A} {Γ : List (Item 𝓤)} {E : Env 𝓤 H} {C : Calls 𝓤 H} {Λ : Loops 𝓤 H} {Q : Post 𝓤 H} {xs : List Operand} {d : Place} {rest : Body} where
   -- by one instance of the callee's contract, which is what a function that calls itself has
-  pub calls-by : K → (mem : Memory → SProp 𝓤) (run : Routine → Fun 𝓤) → FmC 𝓤 H (W .laws) C → (s : Store) (x-l : Line) (x-k : ℕ) (due : Bool) → ent 𝓤 (Asked 𝓤 H A mem run .pre (to 𝓤 H A mem run s x-l x-k due)) (C #callee (Asked 𝓤 H A mem run .args (to 𝓤 H A mem run s x-l x-k due)) (Asked 𝓤 H A mem run .post (to 𝓤 H A mem run s x-l x-k due))) → Is Store′.row s (Store′.vals s) → Is Line′.row x-l (Line′.vals x-l) → Is u64 x-k (uint-vals w64 x-k) → Is bool due (bool-vals due) → published-by″.req s x-l x-k due →
-      Opds K W (raw (Asked 𝓤 H A mem run .pre (to 𝓤 H A mem run s x-l x-k due)) ∷ Γ) E xs (Store′.mach s ∷ Line′.mach x-l ∷ vint w64 x-k ∷ vbool due ∷ [])
-      → (Is PublishOut′.row (published-by″.res s x-l x-k due) (PublishOut′.vals (published-by″.res s x-l x-k due)) → Seq K W (Γ) (lands C Λ E d (PublishOut′.mach (published-by″.res s x-l x-k due)) rest Q))
+  pub calls-by : K → (mem : Memory → SProp 𝓤) (run : Routine → Fun 𝓤) → FmC 𝓤 H (W .laws) C → (s : Store) (x-l : Line) (x-k : ℕ) (held : Bool) (due : Bool) → ent 𝓤 (Asked 𝓤 H A mem run .pre (to 𝓤 H A mem run s x-l x-k held due)) (C #callee (Asked 𝓤 H A mem run .args (to 𝓤 H A mem run s x-l x-k held due)) (Asked 𝓤 H A mem run .post (to 𝓤 H A mem run s x-l x-k held due))) → Is Store′.row s (Store′.vals s) → Is Line′.row x-l (Line′.vals x-l) → Is u64 x-k (uint-vals w64 x-k) → Is bool held (bool-vals held) → Is bool due (bool-vals due) → published-by″.req s x-l x-k held due →
+      Opds K W (raw (Asked 𝓤 H A mem run .pre (to 𝓤 H A mem run s x-l x-k held due)) ∷ Γ) E xs (Store′.mach s ∷ Line′.mach x-l ∷ vint w64 x-k ∷ vbool held ∷ vbool due ∷ [])
+      → (Is PublishOut′.row (published-by″.res s x-l x-k held due) (PublishOut′.vals (published-by″.res s x-l x-k held due)) → Seq K W (Γ) (lands C Λ E d (PublishOut′.mach (published-by″.res s x-l x-k held due)) rest Q))
       → Seq K W (Γ) (runs C Λ E (seq (call #callee xs d) rest) Q)
-  calls-by t mem run fm s x-l x-k due known ok·s ok·x-l ok·x-k ok·due need os k =
-      core t mem run s x-l x-k due (runs C Λ E (seq (call #callee xs d) rest) Q) (λ v. lands C Λ E d v rest Q) (λ v. tt)
-      (λ h. calls-from t fm (raw (Asked 𝓤 H A mem run .pre (to 𝓤 H A mem run s x-l x-k due))) (Asked 𝓤 H A mem run .args (to 𝓤 H A mem run s x-l x-k due)) (Asked 𝓤 H A mem run .post (to 𝓤 H A mem run s x-l x-k due)) known os h) ok·s ok·x-l ok·x-k ok·due need k
+  calls-by t mem run fm s x-l x-k held due known ok·s ok·x-l ok·x-k ok·held ok·due need os k =
+      core t mem run s x-l x-k held due (runs C Λ E (seq (call #callee xs d) rest) Q) (λ v. lands C Λ E d v rest Q) (λ v. tt)
+      (λ h. calls-from t fm (raw (Asked 𝓤 H A mem run .pre (to 𝓤 H A mem run s x-l x-k held due))) (Asked 𝓤 H A mem run .args (to 𝓤 H A mem run s x-l x-k held due)) (Asked 𝓤 H A mem run .post (to 𝓤 H A mem run s x-l x-k held due)) known os h) ok·s ok·x-l ok·x-k ok·held ok·due need k
 
-  pub calls : K → (mem : Memory → SProp 𝓤) (run : Routine → Fun 𝓤) → FmC 𝓤 H (W .laws) C → Triple 𝓤 (C #callee) (Asked 𝓤 H A mem run) → (s : Store) (x-l : Line) (x-k : ℕ) (due : Bool) → Is Store′.row s (Store′.vals s) → Is Line′.row x-l (Line′.vals x-l) → Is u64 x-k (uint-vals w64 x-k) → Is bool due (bool-vals due) → published-by″.req s x-l x-k due →
-      Opds K W (raw (Asked 𝓤 H A mem run .pre (to 𝓤 H A mem run s x-l x-k due)) ∷ Γ) E xs (Store′.mach s ∷ Line′.mach x-l ∷ vint w64 x-k ∷ vbool due ∷ [])
-      → (Is PublishOut′.row (published-by″.res s x-l x-k due) (PublishOut′.vals (published-by″.res s x-l x-k due)) → Seq K W (Γ) (lands C Λ E d (PublishOut′.mach (published-by″.res s x-l x-k due)) rest Q))
+  pub calls : K → (mem : Memory → SProp 𝓤) (run : Routine → Fun 𝓤) → FmC 𝓤 H (W .laws) C → Triple 𝓤 (C #callee) (Asked 𝓤 H A mem run) → (s : Store) (x-l : Line) (x-k : ℕ) (held : Bool) (due : Bool) → Is Store′.row s (Store′.vals s) → Is Line′.row x-l (Line′.vals x-l) → Is u64 x-k (uint-vals w64 x-k) → Is bool held (bool-vals held) → Is bool due (bool-vals due) → published-by″.req s x-l x-k held due →
+      Opds K W (raw (Asked 𝓤 H A mem run .pre (to 𝓤 H A mem run s x-l x-k held due)) ∷ Γ) E xs (Store′.mach s ∷ Line′.mach x-l ∷ vint w64 x-k ∷ vbool held ∷ vbool due ∷ [])
+      → (Is PublishOut′.row (published-by″.res s x-l x-k held due) (PublishOut′.vals (published-by″.res s x-l x-k held due)) → Seq K W (Γ) (lands C Λ E d (PublishOut′.mach (published-by″.res s x-l x-k held due)) rest Q))
       → Seq K W (Γ) (runs C Λ E (seq (call #callee xs d) rest) Q)
-  calls t mem run fm known s x-l x-k due = calls-by t mem run fm s x-l x-k due (known (to 𝓤 H A mem run s x-l x-k due))
+  calls t mem run fm known s x-l x-k held due = calls-by t mem run fm s x-l x-k held due (known (to 𝓤 H A mem run s x-l x-k held due))
 
 module _ {M : Type 1} {𝓤 : URA M} {H : Heap 𝓤} {A : Atoms 𝓤} {K : Type 0} {W : Given 𝓤 H A} {Γ : List (Item 𝓤)} {E : Env 𝓤 H} {C : Calls 𝓤 H} {Λ : Loops 𝓤 H} {Q : Post 𝓤 H} {xs : List Operand} {d : Place} where
   -- by one instance of the callee's contract, which is what a function that calls itself has. The call ends a part of the code
-  pub calls-last-by : K → (mem : Memory → SProp 𝓤) (run : Routine → Fun 𝓤) → FmC 𝓤 H (W .laws) C → (s : Store) (x-l : Line) (x-k : ℕ) (due : Bool) → ent 𝓤 (Asked 𝓤 H A mem run .pre (to 𝓤 H A mem run s x-l x-k due)) (C #callee (Asked 𝓤 H A mem run .args (to 𝓤 H A mem run s x-l x-k due)) (Asked 𝓤 H A mem run .post (to 𝓤 H A mem run s x-l x-k due))) → Is Store′.row s (Store′.vals s) → Is Line′.row x-l (Line′.vals x-l) → Is u64 x-k (uint-vals w64 x-k) → Is bool due (bool-vals due) → published-by″.req s x-l x-k due →
-      Opds K W (raw (Asked 𝓤 H A mem run .pre (to 𝓤 H A mem run s x-l x-k due)) ∷ Γ) E xs (Store′.mach s ∷ Line′.mach x-l ∷ vint w64 x-k ∷ vbool due ∷ [])
-      → (Is PublishOut′.row (published-by″.res s x-l x-k due) (PublishOut′.vals (published-by″.res s x-l x-k due)) → Seq K W (Γ) (settles E d (PublishOut′.mach (published-by″.res s x-l x-k due)) Q))
+  pub calls-last-by : K → (mem : Memory → SProp 𝓤) (run : Routine → Fun 𝓤) → FmC 𝓤 H (W .laws) C → (s : Store) (x-l : Line) (x-k : ℕ) (held : Bool) (due : Bool) → ent 𝓤 (Asked 𝓤 H A mem run .pre (to 𝓤 H A mem run s x-l x-k held due)) (C #callee (Asked 𝓤 H A mem run .args (to 𝓤 H A mem run s x-l x-k held due)) (Asked 𝓤 H A mem run .post (to 𝓤 H A mem run s x-l x-k held due))) → Is Store′.row s (Store′.vals s) → Is Line′.row x-l (Line′.vals x-l) → Is u64 x-k (uint-vals w64 x-k) → Is bool held (bool-vals held) → Is bool due (bool-vals due) → published-by″.req s x-l x-k held due →
+      Opds K W (raw (Asked 𝓤 H A mem run .pre (to 𝓤 H A mem run s x-l x-k held due)) ∷ Γ) E xs (Store′.mach s ∷ Line′.mach x-l ∷ vint w64 x-k ∷ vbool held ∷ vbool due ∷ [])
+      → (Is PublishOut′.row (published-by″.res s x-l x-k held due) (PublishOut′.vals (published-by″.res s x-l x-k held due)) → Seq K W (Γ) (settles E d (PublishOut′.mach (published-by″.res s x-l x-k held due)) Q))
       → Seq K W (Γ) (runs C Λ E (call #callee xs d) Q)
-  calls-last-by t mem run fm s x-l x-k due known ok·s ok·x-l ok·x-k ok·due need os k =
-      core t mem run s x-l x-k due (runs C Λ E (call #callee xs d) Q) (λ v. settles E d v Q) (λ v. tt)
-      (λ h. calls-from-last t fm (raw (Asked 𝓤 H A mem run .pre (to 𝓤 H A mem run s x-l x-k due))) (Asked 𝓤 H A mem run .args (to 𝓤 H A mem run s x-l x-k due)) (Asked 𝓤 H A mem run .post (to 𝓤 H A mem run s x-l x-k due)) known os h) ok·s ok·x-l ok·x-k ok·due need k
+  calls-last-by t mem run fm s x-l x-k held due known ok·s ok·x-l ok·x-k ok·held ok·due need os k =
+      core t mem run s x-l x-k held due (runs C Λ E (call #callee xs d) Q) (λ v. settles E d v Q) (λ v. tt)
+      (λ h. calls-from-last t fm (raw (Asked 𝓤 H A mem run .pre (to 𝓤 H A mem run s x-l x-k held due))) (Asked 𝓤 H A mem run .args (to 𝓤 H A mem run s x-l x-k held due)) (Asked 𝓤 H A mem run .post (to 𝓤 H A mem run s x-l x-k held due)) known os h) ok·s ok·x-l ok·x-k ok·held ok·due need k
 
-  pub calls-last : K → (mem : Memory → SProp 𝓤) (run : Routine → Fun 𝓤) → FmC 𝓤 H (W .laws) C → Triple 𝓤 (C #callee) (Asked 𝓤 H A mem run) → (s : Store) (x-l : Line) (x-k : ℕ) (due : Bool) → Is Store′.row s (Store′.vals s) → Is Line′.row x-l (Line′.vals x-l) → Is u64 x-k (uint-vals w64 x-k) → Is bool due (bool-vals due) → published-by″.req s x-l x-k due →
-      Opds K W (raw (Asked 𝓤 H A mem run .pre (to 𝓤 H A mem run s x-l x-k due)) ∷ Γ) E xs (Store′.mach s ∷ Line′.mach x-l ∷ vint w64 x-k ∷ vbool due ∷ [])
-      → (Is PublishOut′.row (published-by″.res s x-l x-k due) (PublishOut′.vals (published-by″.res s x-l x-k due)) → Seq K W (Γ) (settles E d (PublishOut′.mach (published-by″.res s x-l x-k due)) Q))
+  pub calls-last : K → (mem : Memory → SProp 𝓤) (run : Routine → Fun 𝓤) → FmC 𝓤 H (W .laws) C → Triple 𝓤 (C #callee) (Asked 𝓤 H A mem run) → (s : Store) (x-l : Line) (x-k : ℕ) (held : Bool) (due : Bool) → Is Store′.row s (Store′.vals s) → Is Line′.row x-l (Line′.vals x-l) → Is u64 x-k (uint-vals w64 x-k) → Is bool held (bool-vals held) → Is bool due (bool-vals due) → published-by″.req s x-l x-k held due →
+      Opds K W (raw (Asked 𝓤 H A mem run .pre (to 𝓤 H A mem run s x-l x-k held due)) ∷ Γ) E xs (Store′.mach s ∷ Line′.mach x-l ∷ vint w64 x-k ∷ vbool held ∷ vbool due ∷ [])
+      → (Is PublishOut′.row (published-by″.res s x-l x-k held due) (PublishOut′.vals (published-by″.res s x-l x-k held due)) → Seq K W (Γ) (settles E d (PublishOut′.mach (published-by″.res s x-l x-k held due)) Q))
       → Seq K W (Γ) (runs C Λ E (call #callee xs d) Q)
-  calls-last t mem run fm known s x-l x-k due = calls-last-by t mem run fm s x-l x-k due (known (to 𝓤 H A mem run s x-l x-k due))
+  calls-last t mem run fm known s x-l x-k held due = calls-last-by t mem run fm s x-l x-k held due (known (to 𝓤 H A mem run s x-l x-k held due))

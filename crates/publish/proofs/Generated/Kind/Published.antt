@@ -59,10 +59,11 @@ none = Published.Now Version′.none
 
 -- by cases on a value, within a walk
 module _ {M : Type 1} {𝓤 : URA M} {H : Heap 𝓤} {A : Atoms 𝓤} {K : Type 0} {W : Given 𝓤 H A} {Γ : List (Item 𝓤)} {G : Goal 𝓤 H} where
-  pub cases : K → (d : Published) → ((y0 : Version) → d ≡ Published.Now y0 → Seq K W Γ G) → (d ≡ Published.Waiting → Seq K W Γ G) → ((y0 : ℕ) → d ≡ Published.Refused y0 → Seq K W Γ G) → Seq K W Γ G
-  cases t (Published.Now y0) k0 k1 k2 = k0 y0 refl
-  cases t (Published.Waiting) k0 k1 k2 = k1 refl
-  cases t (Published.Refused y0) k0 k1 k2 = k2 y0 refl
+  pub cases : K → (d : Published) → ((y0 : Version) → d ≡ Published.Now y0 → Seq K W Γ G) → (d ≡ Published.Waiting → Seq K W Γ G) → (d ≡ Published.Held → Seq K W Γ G) → ((y0 : ℕ) → d ≡ Published.Refused y0 → Seq K W Γ G) → Seq K W Γ G
+  cases t (Published.Now y0) k0 k1 k2 k3 = k0 y0 refl
+  cases t (Published.Waiting) k0 k1 k2 k3 = k1 refl
+  cases t (Published.Held) k0 k1 k2 k3 = k2 refl
+  cases t (Published.Refused y0) k0 k1 k2 k3 = k3 y0 refl
 
 pub make-Now : (y0 : Version) → Is Version′.row y0 (Version′.vals y0) → Ok (Published.Now y0)
 make-Now y0 g0 = LL.owes T′.the-type T″.the-laws (Published.Now y0) (g0, tt)
@@ -72,6 +73,9 @@ ok-Now-0 y0 g = LL.owed T′.the-type T″.the-laws (Published.Now y0) _ g .0
 
 pub make-Waiting : Ok Published.Waiting
 make-Waiting = LL.owes T′.the-type T″.the-laws Published.Waiting tt
+
+pub make-Held : Ok Published.Held
+make-Held = LL.owes T′.the-type T″.the-laws Published.Held tt
 
 pub make-Refused : (y0 : ℕ) → Is u64 y0 (uint-vals w64 y0) → Ok (Published.Refused y0)
 make-Refused y0 g0 = LL.owes T′.the-type T″.the-laws (Published.Refused y0) (g0, tt)

@@ -3,12 +3,11 @@
 -- Assumes nothing.
 use Prim.Native.Nat.{ℕ}
 use mathlib.Core.List.{List, [], _∷_}
-use mathlib.Core.Bool.{Bool, true}
+use mathlib.Core.Bool.{Bool, true, not, _&&_}
 use mathlib.Core.Path.{_≡_}
-use Rattle.table.specs.Table.{_gives_, _and_, test, firstRefusal, orElse}
+use Rattle.table.specs.Table.{_<?_, _gives_, firstRefusal, orElse}
 use Rattle.versions.specs.Store.{areasOf, lineIn}
-use Rattle.versions.specs.Size.{notThere}
-use Rattle.publish.specs.Publish.{hasNext, numberBy, dueBy, publishedBy, publishOut}
+use Rattle.publish.specs.Publish.{hasNext, numberBy, lost, dueBy, publishedBy, publishOut}
 use Rattle.lines.specs.declared.Branch.{Branch}
 use Rattle.lines.specs.declared.Line.{Line}
 use Rattle.publish.specs.declared.PublishOut.{PublishOut}

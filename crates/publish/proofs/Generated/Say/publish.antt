@@ -3,12 +3,11 @@
 -- Assumes nothing.
 use Prim.Native.Nat.{ℕ}
 use mathlib.Core.List.{List, [], _∷_}
-use mathlib.Core.Bool.{Bool, true}
+use mathlib.Core.Bool.{Bool, true, not, _&&_}
 use mathlib.Core.Path.{_≡_}
-use Rattle.table.specs.Table.{_gives_, _and_, test, firstRefusal, orElse}
+use Rattle.table.specs.Table.{_<?_, _gives_, firstRefusal, orElse}
 use Rattle.versions.specs.Store.{areasOf, lineIn}
-use Rattle.versions.specs.Size.{notThere}
-use Rattle.publish.specs.Publish.{hasNext, numberBy, dueBy, publishedBy, publishOut}
+use Rattle.publish.specs.Publish.{hasNext, numberBy, lost, dueBy, publishedBy, publishOut}
 use Rattle.lines.specs.declared.Entries.{Entries}
 use Rattle.lines.specs.declared.Line.{Line}
 use Rattle.publish.specs.declared.PublishOut.{PublishOut}
@@ -18,9 +17,11 @@ use Rattle.tree.specs.declared.PageIndex.{PageIndex}
 use Rattle.tree.specs.declared.Ticket.{Ticket}
 use Rattle.tree.specs.declared.Version.{Version}
 use Rattle.versions.specs.declared.Store.{Store}
+use Rattle.windows.specs.declared.Window.{Window}
+use Rattle.windows.specs.declared.Windows.{Windows}
 
-abbrev pub ens : Store → List ℕ → List ℕ → List Record → Line → PublishOut → Type 0
-ens s pages nodes register l r = r ≡ publishOut s (areasOf pages nodes register) (l .0)
+abbrev pub ens : Store → Windows → List ℕ → List ℕ → List Record → Line → ℕ → PublishOut → Type 0
+ens s w pages nodes register l minute r = r ≡ publishOut s w (areasOf pages nodes register) (l .0) minute
 
-abbrev pub res : Store → List ℕ → List ℕ → List Record → Line → PublishOut
-res s pages nodes register l = publishOut s (areasOf pages nodes register) (l .0)
+abbrev pub res : Store → Windows → List ℕ → List ℕ → List Record → Line → ℕ → PublishOut
+res s w pages nodes register l minute = publishOut s w (areasOf pages nodes register) (l .0) minute

@@ -3,12 +3,11 @@
 -- Assumes nothing.
 use Prim.Native.Nat.{ℕ}
 use mathlib.Core.List.{List, [], _∷_}
-use mathlib.Core.Bool.{Bool, true}
+use mathlib.Core.Bool.{Bool, true, not, _&&_}
 use mathlib.Core.Path.{_≡_}
-use Rattle.table.specs.Table.{_gives_, _and_, test, firstRefusal, orElse}
+use Rattle.table.specs.Table.{_<?_, _gives_, firstRefusal, orElse}
 use Rattle.versions.specs.Store.{areasOf, lineIn}
-use Rattle.versions.specs.Size.{notThere}
-use Rattle.publish.specs.Publish.{hasNext, numberBy, dueBy, publishedBy, publishOut}
+use Rattle.publish.specs.Publish.{hasNext, numberBy, lost, dueBy, publishedBy, publishOut}
 use Rattle.lines.specs.declared.Branch.{Branch}
 use Rattle.lines.specs.declared.Line.{Line}
 use Rattle.publish.specs.declared.PublishOut.{PublishOut}
@@ -17,8 +16,8 @@ use Rattle.register.specs.declared.Part.{Part}
 use Rattle.tree.specs.declared.PageIndex.{PageIndex}
 use Rattle.tree.specs.declared.Version.{Version}
 
-abbrev pub ens : ℕ → Branch → Part → ℕ → ℕ → Type 0
-ens k b q c r = r ≡ orElse k (firstRefusal ((test (hasNext b) and notThere q c gives 19) ∷ []))
+abbrev pub ens : ℕ → ℕ → Bool → Branch → Part → ℕ → ℕ → Type 0
+ens k minute held b q c r = r ≡ orElse k (firstRefusal ((10079 <? minute gives 22) ∷ (lost held b q c gives 19) ∷ []))
 
-abbrev pub res : ℕ → Branch → Part → ℕ → ℕ
-res k b q c = orElse k (firstRefusal ((test (hasNext b) and notThere q c gives 19) ∷ []))
+abbrev pub res : ℕ → ℕ → Bool → Branch → Part → ℕ → ℕ
+res k minute held b q c = orElse k (firstRefusal ((10079 <? minute gives 22) ∷ (lost held b q c gives 19) ∷ []))

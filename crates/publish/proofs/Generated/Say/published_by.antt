@@ -3,12 +3,11 @@
 -- Assumes nothing.
 use Prim.Native.Nat.{ℕ}
 use mathlib.Core.List.{List, [], _∷_}
-use mathlib.Core.Bool.{Bool, true}
+use mathlib.Core.Bool.{Bool, true, not, _&&_}
 use mathlib.Core.Path.{_≡_}
-use Rattle.table.specs.Table.{_gives_, _and_, test, firstRefusal, orElse}
+use Rattle.table.specs.Table.{_<?_, _gives_, firstRefusal, orElse}
 use Rattle.versions.specs.Store.{areasOf, lineIn}
-use Rattle.versions.specs.Size.{notThere}
-use Rattle.publish.specs.Publish.{hasNext, numberBy, dueBy, publishedBy, publishOut}
+use Rattle.publish.specs.Publish.{hasNext, numberBy, lost, dueBy, publishedBy, publishOut}
 use Rattle.lines.specs.declared.Line.{Line}
 use Rattle.publish.specs.declared.PublishOut.{PublishOut}
 use Rattle.publish.specs.declared.Published.{Published}
@@ -16,11 +15,11 @@ use Rattle.tree.specs.declared.Ticket.{Ticket}
 use Rattle.tree.specs.declared.Version.{Version}
 use Rattle.versions.specs.declared.Store.{Store}
 
-abbrev pub req : Store → Line → ℕ → Bool → Type 0
-req s l k due = (due ≡ true → hasNext (lineIn s (l .0)) ≡ true)
+abbrev pub req : Store → Line → ℕ → Bool → Bool → Type 0
+req s l k held due = (due ≡ true → hasNext (lineIn s (l .0)) ≡ true)
 
-abbrev pub ens : Store → Line → ℕ → Bool → PublishOut → Type 0
-ens s l k due r = r ≡ publishedBy s (l .0) k due
+abbrev pub ens : Store → Line → ℕ → Bool → Bool → PublishOut → Type 0
+ens s l k held due r = r ≡ publishedBy s (l .0) k held due
 
-abbrev pub res : Store → Line → ℕ → Bool → PublishOut
-res s l k due = publishedBy s (l .0) k due
+abbrev pub res : Store → Line → ℕ → Bool → Bool → PublishOut
+res s l k held due = publishedBy s (l .0) k held due

@@ -18,6 +18,10 @@ use Rattle.publish.specs.declared.Published.{Published}
 use Rattle.publish.proofs.Generated.Kind.Published as Published′
 use Rattle.tree.specs.declared.Version.{Version}
 use Rattle.register.proofs.Generated.Kind.Version as Version′
+use Rattle.windows.specs.declared.Windows.{Windows}
+use Rattle.windows.proofs.Generated.Kind.Windows as Windows′
+use Rattle.windows.specs.declared.Window.{Window}
+use Rattle.windows.proofs.Generated.Kind.Window as Window′
 use Rattle.register.specs.declared.Record.{Record}
 use Rattle.register.proofs.Generated.Kind.Record as Record′
 use Rattle.tree.specs.declared.PageIndex.{PageIndex}
@@ -37,43 +41,47 @@ use Rattle.versions.proofs.Generated.Say.lengths_of as lengths-of″
 use Rattle.versions.proofs.Generated.Say.line_state as line-state″
 use Rattle.publish.proofs.Generated.Say.next_number as next-number″
 use Rattle.register.proofs.Generated.Say.version_part as version-part″
+use Rattle.publish.proofs.Generated.Say.is_inside as is-inside″
 use Rattle.versions.proofs.Generated.Say.line_refusal as line-refusal″
 use Rattle.publish.proofs.Generated.Say.publish_refusal as publish-refusal″
 use Rattle.publish.proofs.Generated.Say.is_due as is-due″
 use Rattle.publish.proofs.Generated.Say.published_by as published-by″
 
-abbrev pub r1 : Store → List ℕ → List ℕ → List Record → Line → Lengths
-r1 s pages nodes register x-l = lengths-of″.res pages nodes register
+abbrev pub r1 : Store → Windows → List ℕ → List ℕ → List Record → Line → ℕ → Lengths
+r1 s w pages nodes register x-l minute = lengths-of″.res pages nodes register
 
-abbrev pub r2 : Store → List ℕ → List ℕ → List Record → Line → Branch
-r2 s pages nodes register x-l = line-state″.res s x-l
+abbrev pub r2 : Store → Windows → List ℕ → List ℕ → List Record → Line → ℕ → Branch
+r2 s w pages nodes register x-l minute = line-state″.res s x-l
 
-abbrev pub r3 : Store → List ℕ → List ℕ → List Record → Line → ℕ
-r3 s pages nodes register x-l = next-number″.res x-l (r2 s pages nodes register x-l)
+abbrev pub r3 : Store → Windows → List ℕ → List ℕ → List Record → Line → ℕ → ℕ
+r3 s w pages nodes register x-l minute = next-number″.res x-l (r2 s w pages nodes register x-l minute)
 
-abbrev pub r4 : Store → List ℕ → List ℕ → List Record → Line → Part
-r4 s pages nodes register x-l = version-part″.res register (r3 s pages nodes register x-l)
+abbrev pub r4 : Store → Windows → List ℕ → List ℕ → List Record → Line → ℕ → Part
+r4 s w pages nodes register x-l minute = version-part″.res register (r3 s w pages nodes register x-l minute)
 
-abbrev pub r5 : Store → List ℕ → List ℕ → List Record → Line → ℕ
-r5 s pages nodes register x-l = line-refusal″.res s (r1 s pages nodes register x-l) x-l
+abbrev pub r5 : Store → Windows → List ℕ → List ℕ → List Record → Line → ℕ → Bool
+r5 s w pages nodes register x-l minute = is-inside″.res w minute
 
-abbrev pub r6 : Store → List ℕ → List ℕ → List Record → Line → ℕ
-r6 s pages nodes register x-l = publish-refusal″.res (r5 s pages nodes register x-l) (r2 s pages nodes register x-l) (r4 s pages nodes register x-l) (r3 s pages nodes register x-l)
+abbrev pub r6 : Store → Windows → List ℕ → List ℕ → List Record → Line → ℕ → ℕ
+r6 s w pages nodes register x-l minute = line-refusal″.res s (r1 s w pages nodes register x-l minute) x-l
 
-abbrev pub r7 : Store → List ℕ → List ℕ → List Record → Line → Bool
-r7 s pages nodes register x-l = is-due″.res (r2 s pages nodes register x-l) (r4 s pages nodes register x-l)
+abbrev pub r7 : Store → Windows → List ℕ → List ℕ → List Record → Line → ℕ → ℕ
+r7 s w pages nodes register x-l minute = publish-refusal″.res (r6 s w pages nodes register x-l minute) minute (r5 s w pages nodes register x-l minute) (r2 s w pages nodes register x-l minute) (r4 s w pages nodes register x-l minute) (r3 s w pages nodes register x-l minute)
 
-abbrev pub r8 : Store → List ℕ → List ℕ → List Record → Line → PublishOut
-r8 s pages nodes register x-l = published-by″.res s x-l (r6 s pages nodes register x-l) (r7 s pages nodes register x-l)
+abbrev pub r8 : Store → Windows → List ℕ → List ℕ → List Record → Line → ℕ → Bool
+r8 s w pages nodes register x-l minute = is-due″.res (r2 s w pages nodes register x-l minute) (r4 s w pages nodes register x-l minute)
+
+abbrev pub r9 : Store → Windows → List ℕ → List ℕ → List Record → Line → ℕ → PublishOut
+r9 s w pages nodes register x-l minute = published-by″.res s x-l (r7 s w pages nodes register x-l minute) (r5 s w pages nodes register x-l minute) (r8 s w pages nodes register x-l minute)
 
 -- `published_by` asks: (due ≡ true → hasNext (lineIn s (l .0)) ≡ true)
 abbrev pub published-by-1 : Type 0
 published-by-1 =
-    (s : Store) (pages : List ℕ) (nodes : List ℕ) (register : List Record) (x-l : Line) (ok-s : Store′.Ok s) (len-pages : length pages < 2 ^ 64) (len-nodes : length nodes < 2 ^ 64) (len-register : length register < 2 ^ 64) (ok-x-l : Line′.Ok x-l) (ok-r1 : Lengths′.Ok (r1 s pages nodes register x-l)) (ok-r2 : Branch′.Ok (r2 s pages nodes register x-l)) (fits-r3 : (r3 s pages nodes register x-l) < 2 ^ 64) (ok-r4 : Part′.Ok (r4 s pages nodes register x-l)) (fits-r5 : (r5 s pages nodes register x-l) < 2 ^ 64) (fits-r6 : (r6 s pages nodes register x-l) < 2 ^ 64)
-    → published-by″.req s x-l (r6 s pages nodes register x-l) (r7 s pages nodes register x-l)
+    (s : Store) (w : Windows) (pages : List ℕ) (nodes : List ℕ) (register : List Record) (x-l : Line) (minute : ℕ) (ok-s : Store′.Ok s) (ok-w : Windows′.Ok w) (len-pages : length pages < 2 ^ 64) (len-nodes : length nodes < 2 ^ 64) (len-register : length register < 2 ^ 64) (ok-x-l : Line′.Ok x-l) (fits-minute : minute < 2 ^ 64) (ok-r1 : Lengths′.Ok (r1 s w pages nodes register x-l minute)) (ok-r2 : Branch′.Ok (r2 s w pages nodes register x-l minute)) (fits-r3 : (r3 s w pages nodes register x-l minute) < 2 ^ 64) (ok-r4 : Part′.Ok (r4 s w pages nodes register x-l minute)) (fits-r6 : (r6 s w pages nodes register x-l minute) < 2 ^ 64) (fits-r7 : (r7 s w pages nodes register x-l minute) < 2 ^ 64)
+    → published-by″.req s x-l (r7 s w pages nodes register x-l minute) (r5 s w pages nodes register x-l minute) (r8 s w pages nodes register x-l minute)
 
--- the function ensures: r ≡ publishOut s (areasOf pages nodes register) (l .0)
+-- the function ensures: r ≡ publishOut s w (areasOf pages nodes register) (l .0) minute
 abbrev pub exit-1 : Type 0
 exit-1 =
-    (s : Store) (pages : List ℕ) (nodes : List ℕ) (register : List Record) (x-l : Line) (ok-s : Store′.Ok s) (len-pages : length pages < 2 ^ 64) (len-nodes : length nodes < 2 ^ 64) (len-register : length register < 2 ^ 64) (ok-x-l : Line′.Ok x-l) (ok-r1 : Lengths′.Ok (r1 s pages nodes register x-l)) (ok-r2 : Branch′.Ok (r2 s pages nodes register x-l)) (fits-r3 : (r3 s pages nodes register x-l) < 2 ^ 64) (ok-r4 : Part′.Ok (r4 s pages nodes register x-l)) (fits-r5 : (r5 s pages nodes register x-l) < 2 ^ 64) (fits-r6 : (r6 s pages nodes register x-l) < 2 ^ 64) (ok-r8 : PublishOut′.Ok (r8 s pages nodes register x-l))
-    → publish″.ens s pages nodes register x-l (r8 s pages nodes register x-l)
+    (s : Store) (w : Windows) (pages : List ℕ) (nodes : List ℕ) (register : List Record) (x-l : Line) (minute : ℕ) (ok-s : Store′.Ok s) (ok-w : Windows′.Ok w) (len-pages : length pages < 2 ^ 64) (len-nodes : length nodes < 2 ^ 64) (len-register : length register < 2 ^ 64) (ok-x-l : Line′.Ok x-l) (fits-minute : minute < 2 ^ 64) (ok-r1 : Lengths′.Ok (r1 s w pages nodes register x-l minute)) (ok-r2 : Branch′.Ok (r2 s w pages nodes register x-l minute)) (fits-r3 : (r3 s w pages nodes register x-l minute) < 2 ^ 64) (ok-r4 : Part′.Ok (r4 s w pages nodes register x-l minute)) (fits-r6 : (r6 s w pages nodes register x-l minute) < 2 ^ 64) (fits-r7 : (r7 s w pages nodes register x-l minute) < 2 ^ 64) (ok-r9 : PublishOut′.Ok (r9 s w pages nodes register x-l minute))
+    → publish″.ens s w pages nodes register x-l minute (r9 s w pages nodes register x-l minute)

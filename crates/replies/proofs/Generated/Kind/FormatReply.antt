@@ -22,6 +22,8 @@ use denote.Builtin.{u8, u16, u32, u64, bool, unit}
 use denote.Struct.Laws as LL
 use Rattle.versions.proofs.Generated.Kind.Store as Store′
 use Rattle.versions.specs.declared.Store.{Store}
+use Rattle.windows.proofs.Generated.Kind.Windows as Windows′
+use Rattle.windows.specs.declared.Windows.{Windows}
 use Rattle.replies.specs.declared.FormatReply.{FormatReply}
 use Rattle.replies.proofs.FormatReply as T′
 use Rattle.replies.proofs.FormatReply.Laws as T″
@@ -55,7 +57,7 @@ makes = LL.makes T′.the-type T″.the-plain
 
 -- a value to stand past the end of a list
 abbrev pub none : FormatReply
-none = record { refusal = 0; store = Store′.none }
+none = record { refusal = 0; store = Store′.none; windows = Windows′.none }
 
 pub ok-refusal : (d : FormatReply) → Ok d → Is u64 (d .refusal) (uint-vals w64 (d .refusal))
 ok-refusal d g = LL.owed T′.the-type T″.the-laws d _ g .0
@@ -63,14 +65,17 @@ ok-refusal d g = LL.owed T′.the-type T″.the-laws d _ g .0
 pub ok-store : (d : FormatReply) → Ok d → Is Store′.row (d .store) (Store′.vals (d .store))
 ok-store d g = LL.owed T′.the-type T″.the-laws d _ g .1 .0
 
-abbrev pub build : ℕ → Store → FormatReply
-build y0 y1 = record { refusal = y0; store = y1 }
+pub ok-windows : (d : FormatReply) → Ok d → Is Windows′.row (d .windows) (Windows′.vals (d .windows))
+ok-windows d g = LL.owed T′.the-type T″.the-laws d _ g .1 .1 .0
 
-pub make : (y0 : ℕ) (y1 : Store) → Is u64 y0 (uint-vals w64 y0) → Is Store′.row y1 (Store′.vals y1) → Ok (build y0 y1)
-make y0 y1 g0 g1 = LL.owes T′.the-type T″.the-laws (build y0 y1) (g0, (g1, tt))
+abbrev pub build : ℕ → Store → Windows → FormatReply
+build y0 y1 y2 = record { refusal = y0; store = y1; windows = y2 }
+
+pub make : (y0 : ℕ) (y1 : Store) (y2 : Windows) → Is u64 y0 (uint-vals w64 y0) → Is Store′.row y1 (Store′.vals y1) → Is Windows′.row y2 (Windows′.vals y2) → Ok (build y0 y1 y2)
+make y0 y1 y2 g0 g1 g2 = LL.owes T′.the-type T″.the-laws (build y0 y1 y2) (g0, (g1, (g2, tt)))
 
 abbrev pub stride : ℕ
-stride = 216
+stride = 344
 
 -- the byte offset of an element of a slice does not wrap
 pub scaled : (n i : ℕ) → i < n → n * stride < 2 ^ 63 → i * stride < 2 ^ 64

@@ -14,22 +14,30 @@ use Rattle.versions.specs.declared.Store.{Store}
 use Rattle.versions.proofs.Generated.Kind.Store as Store′
 use Rattle.tree.specs.declared.Ticket.{Ticket}
 use Rattle.register.proofs.Generated.Kind.Ticket as Ticket′
+use Rattle.windows.specs.declared.Windows.{Windows}
+use Rattle.windows.proofs.Generated.Kind.Windows as Windows′
+use Rattle.windows.specs.declared.Window.{Window}
+use Rattle.windows.proofs.Generated.Kind.Window as Window′
 use Rattle.format.specs.declared.Formatted.{Formatted}
 use Rattle.format.proofs.Generated.Kind.Formatted as Formatted′
 use Rattle.replies.proofs.Generated.Say.format_reply as format-reply″
 use Rattle.replies.proofs.Generated.Say.no_store as no-store″
+use Rattle.format.proofs.Generated.Say.no_windows as no-windows″
 
 abbrev pub r1 : Formatted → ℕ → Store
 r1 out y1-0 = no-store″.res
 
+abbrev pub r2 : Formatted → ℕ → Windows
+r2 out y1-0 = no-windows″.res
+
 -- the function ensures: r ≡ formatReply out
 abbrev pub exit-1 : Type 0
 exit-1 =
-    (out : Formatted) (ok-out : Formatted′.Ok out) (y1-0 : Store) (m1 : out ≡ Formatted.Made y1-0) (ok-y1-0 : Store′.Ok y1-0)
-    → format-reply″.ens out (FormatReply′.build 0 y1-0)
+    (out : Formatted) (ok-out : Formatted′.Ok out) (y1-0 : Store) (y1-1 : Windows) (m1 : out ≡ Formatted.Made y1-0 y1-1) (ok-y1-0 : Store′.Ok y1-0) (ok-y1-1 : Windows′.Ok y1-1)
+    → format-reply″.ens out (FormatReply′.build 0 y1-0 y1-1)
 
 -- the function ensures: r ≡ formatReply out
 abbrev pub exit-2 : Type 0
 exit-2 =
-    (out : Formatted) (ok-out : Formatted′.Ok out) (y1-0 : ℕ) (m1 : out ≡ Formatted.Refused y1-0) (fits-y1-0 : y1-0 < 2 ^ 64) (ok-r1 : Store′.Ok (r1 out y1-0))
-    → format-reply″.ens out (FormatReply′.build y1-0 (r1 out y1-0))
+    (out : Formatted) (ok-out : Formatted′.Ok out) (y1-0 : ℕ) (m1 : out ≡ Formatted.Refused y1-0) (fits-y1-0 : y1-0 < 2 ^ 64) (ok-r1 : Store′.Ok (r1 out y1-0)) (ok-r2 : Windows′.Ok (r2 out y1-0))
+    → format-reply″.ens out (FormatReply′.build y1-0 (r1 out y1-0) (r2 out y1-0))

@@ -30,15 +30,23 @@ use Rattle.publish.specs.declared.Published.{Published}
 use Rattle.publish.proofs.Generated.Kind.Published as Published′
 use Rattle.tree.specs.declared.Version.{Version}
 use Rattle.register.proofs.Generated.Kind.Version as Version′
+use Rattle.windows.specs.declared.Windows.{Windows}
+use Rattle.windows.proofs.Generated.Kind.Windows as Windows′
+use Rattle.windows.specs.declared.Window.{Window}
+use Rattle.windows.proofs.Generated.Kind.Window as Window′
 use Rattle.turns.proofs.Generated.Say.publish_step as publish-step″
+use Rattle.format.proofs.Generated.Say.no_windows as no-windows″
 use Rattle.publish.proofs.Generated.Say.publish as publish″
 use Rattle.turns.proofs.Generated.Say.publish_turn as publish-turn″
 
-abbrev pub r1 : Kept → Line → List ℕ → List ℕ → List Record → List ℕ → PublishOut
-r1 kept x-l pages nodes register out = publish″.res (kept .store) pages nodes register x-l
+abbrev pub r1 : Kept → Line → ℕ → List ℕ → List ℕ → List Record → List ℕ → Windows
+r1 kept x-l minute pages nodes register out = no-windows″.res
 
-abbrev pub r2 : Kept → Line → List ℕ → List ℕ → List Record → List ℕ → Turn
-r2 kept x-l pages nodes register out = publish-turn″.res kept (r1 kept x-l pages nodes register out) out
+abbrev pub r2 : Kept → Line → ℕ → List ℕ → List ℕ → List Record → List ℕ → PublishOut
+r2 kept x-l minute pages nodes register out = publish″.res (kept .store) (r1 kept x-l minute pages nodes register out) pages nodes register x-l minute
 
-abbrev pub out₂ : Kept → Line → List ℕ → List ℕ → List Record → List ℕ → List ℕ
-out₂ kept x-l pages nodes register out = publish-turn″.out-out kept (r1 kept x-l pages nodes register out) out
+abbrev pub r3 : Kept → Line → ℕ → List ℕ → List ℕ → List Record → List ℕ → Turn
+r3 kept x-l minute pages nodes register out = publish-turn″.res kept (r2 kept x-l minute pages nodes register out) out
+
+abbrev pub out₃ : Kept → Line → ℕ → List ℕ → List ℕ → List Record → List ℕ → List ℕ
+out₃ kept x-l minute pages nodes register out = publish-turn″.out-out kept (r2 kept x-l minute pages nodes register out) out
