@@ -2,9 +2,8 @@
 -- run left, 3 before all of them and 19 outside the windows alone.
 use mathlib.Core.Path.{_≡_, refl}
 use mathlib.Core.List.{List, [], _∷_, _++_}
-use Prim.Native.Nat.{ℕ}
 use lib.ListN.{replicate}
-use Rattle.text.specs.Quoted.{text, together}
+use Rattle.text.specs.Quoted.{text}
 use Rattle.register.specs.Register.{noRecord}
 use Rattle.model.specs.Calls.{Call, BEGIN, PUT, WEAVE, SETWINDOWS, on, APPEND, PUBLISH, RECENT, ticketIs, putDone, versionIs, nodeIs, waiting, held, windowsDone, recentIs, Outcome, says}
 use Rattle.model.specs.Model.{noModel}
@@ -12,7 +11,7 @@ use Rattle.model.specs.OnModel.{onModel}
 use Rattle.model.specs.Run.{run, outcomes}
 use Rattle.model.specs.Due.{publishes}
 use Rattle.model.specs.Example.{limits, pageOf}
-use Rattle.model.specs.Windows.{twoWindows, edges, givenEdges, due, givenDue, lists, givenLists, minutes, givenMinutes}
+use Rattle.model.specs.Windows.{twoWindows, lines, edges, givenEdges, due, givenDue, lists, givenLists, minutes, givenMinutes}
 use Rattle.demands.specs.Computes.{computes}
 use Rattle.demands.specs.Run.{State, onStore, formattedState, storeAfter, withRegister}
 use Rattle.demands.specs.Rows.{no}
@@ -37,10 +36,6 @@ unfolding computes limits areas minutes givenMinutes
 minutes-by-calls = refl
 
 -- ---- the order of the rows, and their bounds
-
--- So many lines of one window.
-abbrev lines : ℕ → List ℕ
-lines n = together (replicate n (text "1,2\n"))
 
 -- The week's first and last minute as windows. Then 32 windows, of which the last is one of its own; 33; and 33 lines of which the last, or the first, is malformed.
 unfoldable pub bounds : List Call

@@ -76,7 +76,7 @@ unfolding computes limits due givenDue
 held-then-published = refl
 
 -- So many lines of one window.
-abbrev lines : ℕ → List ℕ
+abbrev pub lines : ℕ → List ℕ
 lines n = together (replicate n (text "1,2\n"))
 
 -- A list that is refused leaves the one before it: equal ends, a minute past the week, a line with no line feed, a third field, a sign, a leading zero, an empty line, 33

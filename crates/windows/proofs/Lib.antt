@@ -6,4 +6,5 @@ pub mod FirstLine
 pub mod Placed
 pub mod Reading
 pub mod Passed
+pub mod Used
 pub mod Generated

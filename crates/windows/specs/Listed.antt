@@ -1,4 +1,5 @@
 -- The text of a list of windows: each line is `from,to` and a line feed, its numbers written as in the step program. The empty text is the empty list.
+use mathlib.Core.Path.{_≡_}
 use Prim.Native.Nat.{ℕ, suc}
 use mathlib.Core.Bool.{Bool, true, false, not, _&&_}
 use mathlib.Core.List.{List, [], _∷_}
@@ -13,7 +14,7 @@ use Rattle.windows.specs.declared.Window.{Window}
 use Rattle.windows.specs.declared.Entry.{Entry}
 use Rattle.windows.specs.declared.Entry.the-variants as Entry
 use Rattle.windows.specs.declared.Listed.{Listed}
-use Rattle.windows.specs.Windows.{noWindows, placed}
+use Rattle.windows.specs.Windows.{inside, insideSome, noWindows, placed}
 
 -- the window of two numbers, if they are minutes of the week, 0 to 10,079, and differ
 unfoldable pub entryOf : Number → Number → Entry
@@ -78,3 +79,7 @@ textNumber t = firstRefusal (windowRows (wrong t) (length (textLines t)))
 -- a text, read: its number and, where that is 0, its windows
 abbrev pub listedOf : List ℕ → Listed
 listedOf t = record { number = textNumber t; windows = unless (textNumber t) noWindows (placed (windowsOf t)) }
+
+-- what is owed of `inside`: no window of a text has equal ends, so a minute is inside the windows of a text exactly where it is inside one of them
+abbrev pub InsideMeans : Type 0
+InsideMeans = (t : List ℕ) (k : ℕ) → inside (windowsOf t) k ≡ insideSome (windowsOf t) k

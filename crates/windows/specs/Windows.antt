@@ -18,6 +18,11 @@ unfoldable pub inside : List Window → ℕ → Bool
 inside [] k = false
 inside (w ∷ ws) k = pick (eqb (w .from) (w .to)) false (insideOne w k || inside ws k)
 
+-- whether a minute is inside one of them, whichever it is and whatever stands before it
+unfoldable pub insideSome : List Window → ℕ → Bool
+insideSome [] k = false
+insideSome (w ∷ ws) k = insideOne w k || insideSome ws k
+
 -- what stands in a place that is not used
 abbrev pub noWindow : Window
 noWindow = record { from = 0; to = 0 }
