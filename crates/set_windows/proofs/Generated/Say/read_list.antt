@@ -7,7 +7,7 @@ use mathlib.Core.Bool.{Bool}
 use mathlib.Core.Path.{_≡_}
 use lib.ListN.{drop}
 use Rattle.windows.specs.Windows.{insideOne, inside, noWindows}
-use Rattle.windows.specs.Listed.{entryOf, lineEntry, lineEnd, listedOf}
+use Rattle.windows.specs.Listed.{entryOf, lineEntry, lineEnd, listedOf, InsideMeans}
 use Rattle.windows.specs.declared.Entry.{Entry}
 use Rattle.windows.specs.declared.Listed.{Listed}
 use Rattle.windows.specs.declared.Window.{Window}
