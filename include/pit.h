@@ -292,7 +292,9 @@ pit_version_reply pit_recent(
     const pit_record *records, size_t records_len,
     uint64_t line);
 
-/* STAMP: the line's newest version, up to this one, whose update covers the page. Refused: 3, 20, 16, 17, 19. */
+/* STAMP: the lowest version of the line such that the page is in it and has the same bytes in every version from there to this
+   one; versions that a branch shares with its source count. A page that was resent unchanged keeps its stamp: who has the
+   page as of some version fetches it again exactly where its stamp is above that one. Refused: 3, 20, 16, 17, 19. */
 pit_version_reply pit_stamp(
     pit_store s,
     const uint8_t *pages, size_t pages_len,

@@ -30,6 +30,8 @@ In work    Updates beside {IN_WORK} tickets: each is woven but for its last node
            published one. No other contender has such a state.
 Lines      Of 16 lines 15 begin when the blob is filled on line 0; then updates go to all lines in turn. Reads
            go to one of them, or to all at random; alone is the store with one line.
+Stamps     STAMP of one page in the newest version, again and again: the page is written once, when the blob is filled, and
+           then resent unchanged by so many of the updates after that, spread evenly. The others write other pages.
 Threads    Readers view random pages, {PAGES_A_VERSION} of one version and then of the newest: ours by one RECENT and a call of the
            host's Shared a page, LMDB in one read transaction a reader, renewed for these {PAGES_A_VERSION}. Where there is a
            writer, it is one more thread that makes {} updates of one page a second, or as many as it can.

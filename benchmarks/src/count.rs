@@ -1,10 +1,12 @@
-//! Calls whose instructions `benchmarks/count` counts: `pit-count UPDATES LINES`, where LINES is `1`, `16`, `chain` or `windows`. It
-//! makes a store of 4,096 pages of 4,096 bytes with so many updates standing, and then in `counted` so many calls of each kind,
+//! Calls whose instructions `benchmarks/count` counts: `pit-count UPDATES LINES`, where LINES is `1`, `16`, `chain`, `windows`, or
+//! `resent` and a number. It makes a store of 4,096 pages of 4,096 bytes with so many updates standing, and then in `counted` so many calls of each kind,
 //! which it prints.
 //!
 //! Of 16 lines 15 begin when line 0 has its pages, and the other updates go to all of them in turn. In a chain each line begins
 //! from the one before it, and readers read the versions that are shared by all, which are farthest from their line there. With
 //! windows there is one line, and a list of 32 windows, none of which holds, is set so many times before the counted updates.
+//! With `resent` there is one line too, on which so many of the updates after the filling, spread evenly, have resent one page
+//! unchanged; with `resent 0` the last update has written it anew. Of that page STAMP is counted, and nothing else.
 
 #[allow(dead_code)]
 mod grouped;
@@ -26,11 +28,15 @@ use std::process::ExitCode;
 const PAGE_SIZE: usize = 4_096;
 const BLOB: usize = 4_096;
 
-/// How many of each kind are counted: reads, updates of one page, branches, and lists of windows.
+/// How many of each kind are counted: reads, updates of one page, branches, lists of windows, and stamps.
 const READS: usize = 512;
 const UPDATES: usize = 32;
 const BRANCHES: usize = 15;
 const LISTS: usize = 16;
+const STAMPS: usize = 4;
+
+/// The page that is resent, of the blob's last append.
+const PAGE: usize = 4_090;
 
 const ACCEPTED: &str = "the store accepts the call";
 
@@ -41,6 +47,7 @@ enum Layout {
     Star,
     Chain,
     Windows,
+    Resent(usize),
 }
 
 fn main() -> ExitCode {
@@ -51,16 +58,22 @@ fn main() -> ExitCode {
         Some("16") => Some(Layout::Star),
         Some("chain") => Some(Layout::Chain),
         Some("windows") => Some(Layout::Windows),
+        Some("resent") => {
+            let number = arguments.get(2).and_then(|number| number.parse().ok());
+            number.map(Layout::Resent)
+        }
         _ => None,
     };
     match (updates, layout) {
         (Some(updates @ 64..=4_000), Some(layout)) => {
             Scene::new(updates, layout).counted();
-            println!("reads {READS} updates {UPDATES} branches {BRANCHES} lists {LISTS}");
+            println!(
+                "reads {READS} updates {UPDATES} branches {BRANCHES} lists {LISTS} stamps {STAMPS}"
+            );
             ExitCode::SUCCESS
         }
         _ => {
-            eprintln!("usage: pit-count UPDATES (1|16|chain|windows), of 64 to 4,000 updates");
+            eprintln!("usage: pit-count UPDATES (1|16|chain|windows|resent NUMBER), of 64 to 4,000 updates");
             ExitCode::from(2)
         }
     }
@@ -97,12 +110,15 @@ impl Scene {
         let (fill, others) = standing.split_at(BLOB / MOST);
         scene.updates(fill);
         scene.begin_lines();
-        scene.updates(others);
+        match layout {
+            Layout::Resent(number) => scene.resend(others.len(), number),
+            _ => scene.updates(others),
+        }
         scene
     }
 
     fn begin_lines(&mut self) {
-        if let Layout::One | Layout::Windows = self.layout {
+        if let Layout::One | Layout::Windows | Layout::Resent(_) = self.layout {
             return;
         }
         let filled = self.store.recent(Line(0)).expect(ACCEPTED);
@@ -122,11 +138,41 @@ impl Scene {
             let line = Line(k as u64 % self.lines);
             let ticket = self.store.begin(update.pages as u64).expect(ACCEPTED);
             self.put_all(ticket, k, update.pages);
-            let first = PageIndex(update.first as u64);
-            self.store.write(line, ticket, first).expect(ACCEPTED);
-            while self.store.weave(ticket).expect(ACCEPTED).rest > 0 {}
-            let published = self.store.publish(line, Minute(0)).expect(ACCEPTED);
-            assert!(published.version().is_some());
+            self.finish(line, ticket, update.first);
+        }
+    }
+
+    /// An update from its version to its publication.
+    fn finish(&mut self, line: Line, ticket: Ticket, first: usize) {
+        let first = PageIndex(first as u64);
+        self.store.write(line, ticket, first).expect(ACCEPTED);
+        while self.store.weave(ticket).expect(ACCEPTED).rest > 0 {}
+        let published = self.store.publish(line, Minute(0)).expect(ACCEPTED);
+        assert!(published.version().is_some());
+    }
+
+    /// So many updates of one page, of which so many resend the page as it stands; where none does, the last writes it anew.
+    fn resend(&mut self, updates: usize, number: usize) {
+        let filled = self.store.recent(Line(0)).expect(ACCEPTED);
+        let page = self.store.view(Line(0), filled, PageIndex(PAGE as u64));
+        let mut page = page.expect(ACCEPTED).to_vec();
+        let mut others = self.shape.random_pages(5, 2 * updates).into_iter();
+        for k in 0..updates {
+            let anew = number == 0 && k + 1 == updates;
+            page[0] ^= u8::from(anew);
+            let ticket = self.store.begin(1).expect(ACCEPTED);
+            if anew || (k + 1) * number / updates > k * number / updates {
+                self.store.put(ticket, 0, &page).expect(ACCEPTED);
+                self.finish(Line(0), ticket, PAGE);
+            } else {
+                let other = others.find(|other| *other != PAGE);
+                self.put_all(ticket, k, 1);
+                self.finish(
+                    Line(0),
+                    ticket,
+                    other.expect("as many as updates, and more"),
+                );
+            }
         }
     }
 
@@ -148,6 +194,9 @@ impl Scene {
     /// What is counted, and nothing else.
     #[inline(never)]
     fn counted(&mut self) {
+        if let Layout::Resent(number) = self.layout {
+            return self.stamp_all(number);
+        }
         self.read_all();
         self.branch_all();
         self.set_windows();
@@ -171,6 +220,19 @@ impl Scene {
             let read = store.read(line, version, offset, length, &mut to);
             read.expect(ACCEPTED);
             opaque(&mut to);
+        }
+    }
+
+    /// STAMP of the page that was resent, in the newest version.
+    fn stamp_all(&self, number: usize) {
+        let recent = self.store.recent(Line(0)).expect(ACCEPTED);
+        let due = match number {
+            0 => recent,
+            _ => Version((BLOB / MOST) as u64),
+        };
+        for _ in 0..STAMPS {
+            let stamp = self.store.stamp(Line(0), recent, PageIndex(PAGE as u64));
+            assert_eq!(opaque(stamp), Ok(due));
         }
     }
 

@@ -24,6 +24,7 @@ mod plot;
 mod random;
 mod shape;
 mod sharing;
+mod stamps;
 mod svg;
 mod table;
 mod targets;
@@ -96,10 +97,24 @@ impl Report {
                 on_lines.push((what, shape, times));
             }
         }
+        self.stamps();
         self.threads();
         self.say("\nTargets, in a blob of 4,096 pages of 4,096 bytes with so many updates:");
         for line in targets::lines(&self.rows, &on_lines) {
             self.say(&line);
+        }
+    }
+
+    fn stamps(&mut self) {
+        self.say(
+            "\nStamps: STAMP of a page that so many of the updates since have resent unchanged:",
+        );
+        self.say(&table::heading_of_stamps());
+        for page_size in [4_096, 256] {
+            eprintln!("pit-bench: measuring stamps, in pages of {page_size} bytes");
+            for setting in stamps::settings(page_size) {
+                self.say(&table::line_of_stamps(setting, setting.time()));
+            }
         }
     }
 

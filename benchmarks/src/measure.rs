@@ -192,13 +192,13 @@ fn rounds<const N: usize>(
 }
 
 /// Nanoseconds a call of a piece of so many calls.
-fn time(calls: usize, piece: impl FnOnce()) -> f64 {
+pub fn time(calls: usize, piece: impl FnOnce()) -> f64 {
     let begin = Instant::now();
     piece();
     begin.elapsed().as_secs_f64() * 1e9 / calls as f64
 }
 
-fn median(mut times: Vec<f64>) -> f64 {
+pub fn median(mut times: Vec<f64>) -> f64 {
     times.sort_by(f64::total_cmp);
     times[times.len() / 2]
 }

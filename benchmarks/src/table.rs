@@ -4,6 +4,7 @@ use crate::grouped::grouped;
 use crate::in_work::IN_WORK;
 use crate::measure::{LineTimes, ARC, CONTENDERS, LMDB, MEMCPY, OURS};
 use crate::shape::Shape;
+use crate::stamps;
 use crate::threads::{Rates, Setting};
 
 /// What is measured.
@@ -88,6 +89,29 @@ pub fn heading_of_lines() -> String {
     let columns = ["alone", "one of 16", "all of 16"];
     let columns = columns.map(|column| format!("{column:>11}")).concat();
     heading_front() + &columns + &format!("{:>12}{:>12}", "one/alone", "all/alone")
+}
+
+/// A row of stamps: nanoseconds a call, and what each update that resent the page adds; and the line above these rows.
+pub fn line_of_stamps(setting: stamps::Setting, time: f64) -> String {
+    let shape = setting.shape();
+    let each = match setting.resent {
+        0 => "-".into(),
+        resent => shown(time / resent as f64),
+    };
+    format!(
+        "{:<21}{:>6}{:>7}{:>9}  {:>9}{:>12}{:>12}",
+        "STAMP",
+        grouped(shape.page_size),
+        grouped(shape.blob),
+        grouped(shape.updates),
+        grouped(setting.resent),
+        shown(time),
+        each,
+    )
+}
+
+pub fn heading_of_stamps() -> String {
+    heading_front() + &format!("{:>9}{:>12}{:>12}", "resent", "ours", "ours/resent")
 }
 
 /// A row of views a second by threads, and the line above these rows.

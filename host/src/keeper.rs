@@ -345,8 +345,37 @@ impl<A: Lend> Keeper<A> {
         Error::check(reply.refusal).map(|()| Version(reply.version))
     }
 
-    /// STAMP: the line's newest version up to `version` whose update covers the page. A page has the same bytes in two
-    /// versions of a line where its stamps there are the same. Refused: 3, 20, 16, 17, 19.
+    /// STAMP: since which version a page has had the bytes that it has in `version`. It is the lowest version of the line, shared
+    /// ones included, such that the page is in it and has the same bytes in every version from there to `version`. Refused:
+    /// 3, 20, 16, 17, 19.
+    ///
+    /// Versions of a line in which a page has the same stamp have the same bytes there. A truck that has the page as of some
+    /// version has to fetch it again exactly where the stamp in a later version is above that one: not where the page was resent
+    /// unchanged, and always where it was changed, also where it was changed back.
+    ///
+    /// The call compares bytes: it takes longer for each update in a row that has resent the page unchanged.
+    ///
+    /// ```
+    /// use pit_host::{Error, Limits, Line, Minute, PageIndex, Store, Version};
+    /// /// A grader sends a page of 16 bytes.
+    /// fn send(store: &mut Store, page: PageIndex, bytes: &[u8; 16]) -> Result<(), Error> {
+    ///     let ticket = store.begin(1)?;
+    ///     store.put(ticket, 0, bytes)?;
+    ///     for _ in 0..store.write(Line(0), ticket, page)?.nodes {
+    ///         store.weave(ticket)?;
+    ///     }
+    ///     store.publish(Line(0), Minute(0)).map(drop)
+    /// }
+    /// # fn main() -> Result<(), Error> {
+    /// let (mut store, road) = (Store::format(Limits::new(16, 8, 8, 8))?, PageIndex(0));
+    /// send(&mut store, road, &[7; 16])?; // version 1, which a truck has fetched
+    /// send(&mut store, road, &[7; 16])?; // version 2, unchanged: the truck has the page already
+    /// assert_eq!(store.stamp(Line(0), Version(2), road)?, Version(1));
+    /// send(&mut store, road, &[8; 16])?; // version 3: the stamp is above 1, so that the truck fetches it
+    /// assert_eq!(store.stamp(Line(0), Version(3), road)?, Version(3));
+    /// # Ok(())
+    /// # }
+    /// ```
     pub fn stamp(&self, line: Line, version: Version, page: PageIndex) -> Result<Version, Error> {
         let areas = self.areas.parts();
         let reply = ffi::stamp(&self.state, areas, line.0, version.0, page.0);

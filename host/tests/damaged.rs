@@ -6,13 +6,17 @@
 mod calls;
 #[path = "damaged/drawn.rs"]
 mod drawn;
+#[path = "damaged/lower_walks.rs"]
+mod lower_walks;
 #[path = "damaged/memory.rs"]
 mod memory;
 mod random;
+#[path = "damaged/stamps.rs"]
+mod stamps;
 #[path = "store/windows.rs"]
 mod windows;
 
-use calls::Scene;
+use calls::{Call, Scene};
 use random::{first_seed, named, Random};
 use std::collections::BTreeMap;
 
@@ -20,7 +24,7 @@ use std::collections::BTreeMap;
 const SCENES: u64 = 1_500;
 const CALLS: u64 = 40;
 
-/// How often each call answered with each number, 0 for acceptance.
+/// How often each call answered with each number, 0 for acceptance; and how often the search of STAMP ended in each way.
 type Answers = BTreeMap<(&'static str, u64), u64>;
 
 /// Makes random calls on random scenes, and complains of the first that does what it must not.
@@ -33,7 +37,13 @@ fn try_all(test: &str, draw: fn(&mut Random) -> Scene) -> Answers {
             let (state, windows) = (scene.state, scene.windows);
             let call = drawn::call(&mut random, &scene);
             match scene.make(&call) {
-                Ok(refusal) => *answers.entry((call.name(), refusal)).or_default() += 1,
+                Ok(refusal) => {
+                    *answers.entry((call.name(), refusal)).or_default() += 1;
+                    if let Call::Stamp(line, v, page) = call {
+                        let end = stamps::stamp(&scene, line, v, page).end;
+                        *answers.entry((end, 0)).or_default() += 1;
+                    }
+                }
                 Err(complaint) => {
                     panic!("{complaint}\nPIT_SEED={seed}, call {at}: {call:?}\non {state:?}, {windows:?}")
                 }
@@ -107,4 +117,26 @@ fn the_areas_of_several_stores() {
     let answers = try_all("the_areas_of_several_stores", drawn::mixed_scene);
     came(&answers, 0, &FIND_DAMAGE);
     came(&answers, 19, &["READ", "STAMP", "VIEW"]);
+}
+
+/// STAMP of every page of every version, where a lower walk may be lost at any place, or lead back up.
+#[test]
+fn stamps_of_resent_pages() {
+    let first = first_seed("stamps_of_resent_pages");
+    let (scenes, mut ends) = (named("PIT_SCENES", SCENES), BTreeMap::new());
+    for seed in (0..scenes).map(|i| first.wrapping_add(i)) {
+        let mut scene = drawn::resent_scene(&mut Random::new(seed));
+        for (line, v, page) in drawn::every_page(&scene) {
+            let end = stamps::stamp(&scene, line, v, page).end;
+            *ends.entry(end).or_insert(0) += 1;
+            if let Err(complaint) = scene.make(&Call::Stamp(line, v, page)) {
+                panic!("{complaint}\nPIT_SEED={seed}: STAMP {line} {v} {page}");
+            }
+        }
+    }
+    println!("{ends:?}");
+    for end in stamps::ENDS {
+        let count = ends.get(end).copied().unwrap_or(0);
+        assert!(scenes < SCENES || count >= 100, "{end}: {count} times");
+    }
 }

@@ -50,11 +50,20 @@ fn draw(random: &mut Random, at: u64) -> Act {
     }
     match stage {
         0 => Act::Begin(1 + random.below(2)),
-        1 | 2 => Act::Put(ticket, stage - 1, random.next() as u8),
+        1 | 2 => Act::Put(ticket, stage - 1, fill(random)),
         3 if random.one_in(2) => Act::Append(ticket),
         3 | 4 => Act::Write(ticket, random.below(4)),
         5..=13 => Act::Weave(ticket),
         _ => Act::Publish(random.below(WEEK)),
+    }
+}
+
+/// What a page is filled with: mostly one of a few bytes, some of them those of the versions that are shared, so that pages
+/// are often resent.
+fn fill(random: &mut Random) -> u8 {
+    match random.below(4) {
+        0 => random.next() as u8,
+        _ => random.pick(&[1, 2, 9, 10]),
     }
 }
 
@@ -64,7 +73,7 @@ fn draw_any(random: &mut Random, most: u64) -> Act {
     let version = random.below(most + 3);
     match random.below(18) {
         0 => Act::Begin(1 + random.below(3)),
-        1 => Act::Put(ticket, random.below(3), random.next() as u8),
+        1 => Act::Put(ticket, random.below(3), fill(random)),
         2 => Act::Append(ticket),
         3 => Act::Write(ticket, page),
         4..=6 => Act::Weave(ticket),
@@ -160,7 +169,7 @@ fn disturb(random: &mut Random, store: &mut Store, planner: Option<Line>) {
     let n = 1 + random.below(3);
     let ticket = store.begin(n).expect("room for all");
     for i in 0..n {
-        let put = store.put(ticket, i, &[random.next() as u8; 16]);
+        let put = store.put(ticket, i, &[fill(random); 16]);
         put.expect("each page once");
     }
     let size = store.state().line(line).blob;
@@ -208,13 +217,16 @@ fn run(seed: u64, among_others: bool) -> Vec<String> {
             disturb(&mut others, &mut store, Some(line));
         }
     }
+    for (version, page) in (1..8).flat_map(|v| (0..4).map(move |page| (v, page))) {
+        planner.act(&mut store, Act::Stamp(version, page));
+    }
     planner.answers
 }
 
 #[test]
 fn others_reach_a_lines_answers_only_by_numbers() {
     let first = first_seed("others_reach_a_lines_answers_only_by_numbers");
-    let (mut published, mut held) = (0, 0);
+    let (mut published, mut held, mut stamped) = (0, 0, 0);
     for seed in (0..RUNS).map(|i| first.wrapping_add(i)) {
         let (alone, among_others) = (run(seed, false), run(seed, true));
         for (at, answer) in among_others.iter().enumerate() {
@@ -223,8 +235,13 @@ fn others_reach_a_lines_answers_only_by_numbers() {
         let with = |end: &str| alone.iter().filter(|answer| answer.contains(end)).count();
         published += with(": Now(");
         held += with(": Held");
+        let stamps = alone.iter().filter(|answer| answer.starts_with("Stamp"));
+        stamped += stamps
+            .filter(|answer| answer.contains(": Version("))
+            .count();
     }
-    println!("{published} versions published, {held} times held");
+    println!("{published} versions published, {held} times held, {stamped} stamps");
+    assert!(stamped > 5 * RUNS as usize, "{stamped} stamps");
     assert!(published > RUNS as usize, "{published} versions published");
     assert!(held > RUNS as usize, "{held} times held");
 }

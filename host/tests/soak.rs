@@ -182,6 +182,8 @@ impl Site {
         }
         verdict::compare_all(&self.shared, &snapshots);
         assert_eq!(snapshots.len(), 16, "lines");
+        let resent = verdict::resent(&model, &snapshots);
+        assert!(resent > 50, "{resent} stamps of resent pages");
         snapshots.iter().map(Vec::len).sum()
     }
 }

@@ -226,7 +226,21 @@ fn tally(scripts: &[Script], counts: &mut BTreeMap<String, u64>) {
         let key = if word == "refused" { answer } else { word };
         *counts.entry(key.to_string()).or_default() += 1;
     }
+    for stamps in scripts.iter().map(|script| script.stamps) {
+        let of = [stamps.resent, stamps.between, stamps.shared, stamps.across];
+        for (key, count) in STAMPS.into_iter().zip(of) {
+            *counts.entry(key.to_string()).or_default() += count;
+        }
+    }
 }
+
+/// The stamps that are counted by what they tell: those of pages that were resent, and those of branches.
+const STAMPS: [&str; 4] = [
+    "stamp below the covering version",
+    "stamp between the first version of a page and the covering one",
+    "stamp of a shared version",
+    "stamp of a shared version, resent on the branch",
+];
 
 /// The answers that the program can give: their words, and the rows of the table.
 const WORDS: [&str; 12] = [
@@ -269,6 +283,9 @@ fn random_scripts() {
     }
     println!("{SCRIPTS} scripts: {counts:?}");
     came(&counts, &WORDS, &ROWS);
+    came(&counts, &STAMPS, &[]);
+    // one in ten of all stamps, or more, tells that an update did not change the bytes
+    assert!(10 * counts[STAMPS[0]] > counts["stamp"], "{counts:?}");
 }
 
 #[test]
@@ -290,5 +307,6 @@ fn random_scripts_of_a_host() {
     }
     println!("{HOST_SCRIPTS} scripts: {counts:?}");
     came(&counts, &WORDS, &ROWS);
+    came(&counts, &STAMPS, &[]);
     came(&counts, &["done", "held"], &[23, 24]);
 }

@@ -2,11 +2,11 @@
 -- Assumes nothing.
 use mathlib.Core.Path.{_≡_, refl, sym, ap, _∙_}
 use mathlib.Core.List.{List, [], _∷_, _++_}
-use Prim.Native.Nat.{ℕ, _≤_, _<_}
+use Prim.Native.Nat.{ℕ, suc, pred, _≤_, _<_}
 use native.Mathlib.Omega.{arith}
 use lib.ListN.{length}
 use Rattle.versions.specs.Store.{Areas}
-use Rattle.model.specs.Calls.{Call, on, PUBLISH, BRANCH, READ, SIZE, RECENT, STAMP, VIEW, held, lineIs, recentIs, says}
+use Rattle.model.specs.Calls.{Call, on, PUBLISH, BRANCH, READ, SIZE, RECENT, STAMP, VIEW, held, lineIs, recentIs, stampIs, says}
 use Rattle.table.proofs.Table.{unless-0}
 use Rattle.model.specs.Model.{Limits, Line, Model, noModel, lineAt, history}
 use Rattle.model.specs.OnModel.{onModel, branched, branchNumber, onLine}
@@ -17,8 +17,9 @@ use Rattle.model.proofs.SoundHistory.{line-history}
 use Rattle.model.proofs.Shown.{versions-length}
 use Rattle.model.proofs.Runs.{run-append, run-image, outcomes-image}
 use Rattle.model.proofs.Kept.Every.{step-sound, empty-sound, sound-after}
-use Rattle.model.proofs.Asked.{recent-accepted, read-accepted, view-accepted, size-accepted, read-alike, view-alike, stamp-alike, size-alike}
+use Rattle.model.proofs.Asked.{recent-accepted, read-accepted, view-accepted, stamp-accepted, size-accepted, read-alike, view-alike, stamp-alike, size-alike}
 use Rattle.model.proofs.Blob.{bytes-length}
+use Rattle.model.proofs.Since.{stamp-published, stamp-below, view-since, view-before, view-stamped}
 use Rattle.model.proofs.Found.{tree-image}
 use Rattle.model.proofs.Later.{later-line, later-published, later-upto, later-read, later-view, later-stamp, later-sized}
 use Rattle.model.proofs.Woven.{published-upto}
@@ -30,7 +31,7 @@ use Rattle.model.proofs.Reached.{reached-windows, reached-exact, reached-comes}
 use Rattle.model.proofs.Held.{waits, waits-back, publish-held, held-inside, held-still}
 use Rattle.isolation.proofs.Isolation.{isolated as isolated-model}
 use Rattle.demands.specs.Run.{State, onStore, formattedState, storeAfter, asked}
-use Rattle.demands.specs.Demands.{Accepted, Published, AnswersAsModel, ReadsInTurn, Compared, Kept, Reaches, Held, BeginsFrom, ThirdDemand, Demanded, Isolated}
+use Rattle.demands.specs.Demands.{Accepted, Published, AnswersAsModel, ReadsInTurn, Compared, Kept, Reaches, Held, Fetches, BeginsFrom, ThirdDemand, Demanded, Isolated}
 use Rattle.demands.proofs.Image.{image}
 use Rattle.demands.proofs.Allowed.{format-allowed}
 use Rattle.demands.proofs.Faultless.{run-fine}
@@ -68,6 +69,8 @@ module _ (L : Limits) (a : Areas) (accepted : Accepted L a) where
         record {
           reads = λ offset len buffer q r. as-model cs (on l (READ k offset len buffer)) ∙ read-accepted L m l there k p offset len buffer q r;
           views = λ i q. as-model cs (on l (VIEW k i)) ∙ view-accepted L m l there k p i q;
+          stamps = λ i q. as-model cs (on l (STAMP k i)) ∙ stamp-accepted L m l there k p i q;
+          lowest = stamp-published L m (sound cs) l there k p;
           sizes = as-model cs (on l (SIZE k)) ∙ size-accepted L m l there k p;
           whole =
               bytes-length L (history m l) (line-history L m (sound cs) l there) k
@@ -138,6 +141,30 @@ module _ (L : Limits) (a : Areas) (accepted : Accepted L a) where
         still = λ e. store-image (cs ++ c ∷ []) ∙ ap (image L) (later cs (c ∷ []) ∙ held-still L m l minute (said e)) ∙ sym (store-image cs);
       }
 
+  -- What a stamp tells.
+  pub fetched : (cs : List Call) (l v p w : ℕ) → asked (storeAfter L a cs) (on l (STAMP v p)) ≡ says (stampIs w) → Fetches L a cs l v p w
+  fetched cs l v p w e =
+      let m = modelAfter L cs in
+      let s = sound cs in
+      let said : (u : ℕ) → asked (storeAfter L a cs) (on l (STAMP u p)) ≡ says (stampIs w) → onModel L m (on l (STAMP u p)) .1 ≡ says (stampIs w) =
+      λ u z. sym (as-model cs (on l (STAMP u p))) ∙ z in
+      let again : (u : ℕ) → onModel L m (on l (VIEW u p)) .1 ≡ onModel L m (on l (VIEW v p)) .1 → asked (storeAfter L a cs) (on l (VIEW u p)) ≡ asked (storeAfter L a cs) (on l (VIEW v p)) =
+      λ u z. as-model cs (on l (VIEW u p)) ∙ z ∙ sym (as-model cs (on l (VIEW v p))) in
+      let upto = stamp-below L m s l v p w (said v e) in
+      record {
+        upto = upto;
+        same = λ u q r. again u (view-since L m s l v p w (said v e) u q r);
+        alike = λ u z. again u (view-stamped L m s l u v p w (said u z) (said v e));
+        differed = λ u q.
+            let above : w ≡ suc (pred w) = omega arith in
+            record {
+              at = pred w;
+              from = omega arith;
+              below = omega arith;
+              other = λ z. view-before L m s l v p w (said v e) (pred w) above (sym (as-model cs (on l (VIEW (pred w) p))) ∙ z ∙ as-model cs (on l (VIEW v p)));
+            };
+      }
+
   -- BRANCH's line has the version that it begins from published at once, and reads up to it as its source does.
   module _ (cs : List Call) (l v k : ℕ) (e : asked (storeAfter L a cs) (on l (BRANCH v)) ≡ says (lineIs k)) where
     abbrev before : Model
@@ -193,7 +220,7 @@ module _ (L : Limits) (a : Areas) (accepted : Accepted L a) where
         }
 
   pub third-demand : (cs : List Call) → ThirdDemand L a cs
-  third-demand cs = record { answers = answers-as-model cs; compared = compared cs; kept = kept cs; reaches = reaches cs; held = held-there cs; begins = begins-from cs }
+  third-demand cs = record { answers = answers-as-model cs; compared = compared cs; kept = kept cs; reaches = reaches cs; held = held-there cs; fetches = fetched cs; begins = begins-from cs }
 
 -- The three demands hold, for any limits and areas that FORMAT accepts and any list of calls.
 pub demanded : Demanded

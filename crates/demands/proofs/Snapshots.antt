@@ -8,11 +8,11 @@ use lib.ListN.{length}
 use Rattle.tree.specs.Tree.{Update, update, newest, heightOf}
 use Rattle.tree.specs.Walk.{Numbers}
 use Rattle.tree.proofs.Newest.{newest-le}
-use Rattle.model.specs.History.{History, updates}
+use Rattle.model.specs.History.{History, versionAt, updates}
 use Rattle.model.specs.Model.{Limits, Model, lineAt, history}
 use Rattle.model.specs.Snapshot.{treeOf, numbersOn, snapshotAt}
 use Rattle.model.proofs.Updates.{newest-same}
-use Rattle.model.proofs.Stay.{SameUpTo, update-stays, number-stays, blob-stays}
+use Rattle.model.proofs.Stay.{SameUpTo, update-stays, number-stays, blob-stays, stamps-stay}
 
 -- Two lists of updates and two numberings, the same up to version k.
 module _ (us ws : List Update) (N M : Numbers) (k : ℕ) (same : (v : ℕ) → v ≤ k → update us v ≡ update ws v) (codes : (v : ℕ) → v ≤ k → N .code v ≡ M .code v)
@@ -44,5 +44,6 @@ module _ (m w : Model) (l k : ℕ) (same : SameUpTo (history m l) (history w l) 
             (number-stays (history m l) (history w l) k same) (same .numbers) (λ v a. refl) (heightOf (updates (history m l)) v) v p 0,
         update-stays (history m l) (history w l) k same v p,
         blob-stays (history m l) (history w l) k same v p,
+        stamps-stay (history m l) (history w l) k same v p (versionAt (history m l) v .size),
         same .versions v p,
       )

@@ -16,6 +16,7 @@ pub mod SetWindows
 pub mod Branch
 pub mod Size
 pub mod Recent
+pub mod Since
 pub mod Stamp
 pub mod View
 pub mod Read

@@ -23,14 +23,15 @@ use Rattle.weave.specs.Weave.{nextNode, weaveRefusal, olderNumber}
 use Rattle.publish.specs.Publish.{publishNumber, dueBy}
 use Rattle.branch.specs.Branch.{branchNumber}
 use Rattle.set_windows.specs.SetWindows.{setNumber}
-use Rattle.walk.specs.FindPage.{hasNodeBy, placeIn, reachFrom, findPage, pageNumberOf}
+use Rattle.descent.specs.Places.{hasNodeBy, placeIn}
+use Rattle.walk.specs.FindPage.{reachFrom, findPage, pageNumberOf}
 use Rattle.read.specs.Read.{someLost, readNumber, byteOf, bytesFrom}
-use Rattle.stamp.specs.Stamp.{stampNumber}
+use Rattle.stamp.specs.Stamp.{stampNumber, leafAsOf, sinceBy}
 use Rattle.demands.specs.Run.{onLineOf, onStore, formattedState}
 
 unfoldable pub computes : ℕ
 unfolding onTheModel run onLineOf onStore formattedState orElse formatRows formatRefusal beginRefusal bitOf withBit putRefusal assignRefusal nextNode weaveRefusal
     newestOwn olderNumber publishNumber dueBy branchNumber setNumber placed bytesBy sizeNumber recentNumber hasNodeBy placeIn reachFrom findPage pageNumberOf someLost
-    readNumber byteOf bytesFrom stampNumber put part packed lineIn ownerFrom entryAt withEntry updateOf withRecord versionRecord withNode nodeAt hasNode reachBy sizeAt
+    readNumber byteOf bytesFrom stampNumber leafAsOf sinceBy put part packed lineIn ownerFrom entryAt withEntry updateOf withRecord versionRecord withNode nodeAt hasNode reachBy sizeAt
     below kth first index ones halvings nodeNumbered
 computes = 0

@@ -1,16 +1,17 @@
 -- The three demands of document 01 as types, over any list of calls of all kinds from an accepted FORMAT, refused calls included, for every line; Slip 1's isolation of
--- lines; and Slip 3's windows.
+-- lines; Slip 3's windows; and Slip 4's stamps.
 use mathlib.Core.Path.{_≡_}
 use mathlib.Core.Bool.{true}
 use mathlib.Core.List.{List, [], _∷_, _++_}
 use Prim.Native.Nat.{ℕ, zero, suc, _+_, _*_, _≤_, _<_}
 use lib.ListN.{length, getD, take, drop}
 use Rattle.tree.specs.Tree.{heightOf}
-use Rattle.model.specs.Calls.{Call, on, PUBLISH, BRANCH, READ, SIZE, RECENT, STAMP, VIEW, Answer, refused, waiting, held, lineIs, filled, sizeIs, recentIs, partIs, says}
+use Rattle.model.specs.Calls.{Call, on, PUBLISH, BRANCH, READ, SIZE, RECENT, STAMP, VIEW, Answer, refused, waiting, held, lineIs, filled, sizeIs, recentIs, stampIs, partIs, says}
 use Rattle.model.specs.History.{History, versionAt, updates, complete}
 use Rattle.model.specs.Model.{Limits, Model, noModel, lineAt, history, numberIn}
 use Rattle.model.specs.OnModel.{onModel, either}
 use Rattle.model.specs.InTurn.{blobAt, bytesAt}
+use Rattle.model.specs.Stamp.{stampAt, LowestSame}
 use Rattle.model.specs.Snapshot.{treeIn, placeIn, snapshotAt}
 use Rattle.model.specs.Run.{outcomes, modelAfter}
 use Rattle.model.specs.Due.{publishes, Open, AllOpen, lastDue}
@@ -45,13 +46,17 @@ module _ (L : Limits) (a : Areas) where
     pub sound : (i : ℕ) → i < length cs → NoFault (getD (outcomes onStore (formattedState L a) cs) i (says waiting) .answer)
 
   -- Demand 2: published version k of line l reads, byte for byte, as the updates that the line shows as its versions 1 .. k applied in turn to an empty blob; its size
-  -- agrees; its tree has exactly the nodes, child numbers and page numbers of the tree rule, a node lying where the accepted ASSIGNs and their counts put it.
+  -- agrees; a page's stamp is the lowest version since which it has had its bytes; its tree has exactly the nodes, child numbers and page numbers of the tree rule, a node
+  -- lying where the accepted ASSIGNs and their counts put it.
   pub record ReadsInTurn (cs : List Call) (l k : ℕ) : Type 0 where
     pub reads : (offset len : ℕ) (buffer : List ℕ) → offset + len ≤ L .size * versionAt (historyAfter L cs l) k .size → len ≤ length buffer
         → asked (storeAfter L a cs) (on l (READ k offset len buffer))
         ≡ record { answer = filled; buffer = take len (drop offset (bytesAt (historyAfter L cs l) k)) ++ drop len buffer }
     pub views : (p : ℕ) → p < versionAt (historyAfter L cs l) k .size
         → asked (storeAfter L a cs) (on l (VIEW k p)) ≡ says (partIs (getD (blobAt (historyAfter L cs l) k) p []))
+    pub stamps : (p : ℕ) → p < versionAt (historyAfter L cs l) k .size
+        → asked (storeAfter L a cs) (on l (STAMP k p)) ≡ says (stampIs (stampAt (historyAfter L cs l) k p))
+    pub lowest : (p : ℕ) → p < versionAt (historyAfter L cs l) k .size → LowestSame (historyAfter L cs l) (stampAt (historyAfter L cs l) k p) k p
     pub sizes : asked (storeAfter L a cs) (on l (SIZE k)) ≡ says (sizeIs (L .size * versionAt (historyAfter L cs l) k .size))
     pub whole : length (bytesAt (historyAfter L cs l) k) ≡ L .size * versionAt (historyAfter L cs l) k .size
     pub tree : let h = historyAfter L cs l in
@@ -91,6 +96,22 @@ module _ (L : Limits) (a : Areas) where
     pub only : asked (storeAfter L a cs) (on l (PUBLISH minute)) ≡ says held → inside (modelAfter L cs .windows) minute ≡ true
     pub still : asked (storeAfter L a cs) (on l (PUBLISH minute)) ≡ says held → storeAfter L a (cs ++ on l (PUBLISH minute) ∷ []) ≡ storeAfter L a cs
 
+  -- From version u up to version v of a line there is one below v in which VIEW of the page hands out other bytes than in v, or none.
+  pub record Differed (cs : List Call) (l u v p : ℕ) : Type 0 where
+    pub at : ℕ
+    pub from : u ≤ at
+    pub below : at < v
+    pub other : asked (storeAfter L a cs) (on l (VIEW at p)) ≡ asked (storeAfter L a cs) (on l (VIEW v p)) → ⊥
+
+  -- Slip 4, a truck's rule, in what the calls give back: STAMP v of page p answers w. A truck that has the page as of a version from w to v has its bytes, and so where two
+  -- versions have the same stamp; and of a version below w it can't know, since in between the page was another one, or was not there.
+  pub record Fetches (cs : List Call) (l v p w : ℕ) : Type 0 where
+    pub upto : w ≤ v
+    pub same : (u : ℕ) → w ≤ u → u ≤ v → asked (storeAfter L a cs) (on l (VIEW u p)) ≡ asked (storeAfter L a cs) (on l (VIEW v p))
+    pub alike : (u : ℕ) → asked (storeAfter L a cs) (on l (STAMP u p)) ≡ says (stampIs w)
+        → asked (storeAfter L a cs) (on l (VIEW u p)) ≡ asked (storeAfter L a cs) (on l (VIEW v p))
+    pub differed : (u : ℕ) → u < w → Differed cs l u v p
+
   -- A line that begins from version v of line l has v published at once, and reads up to v as line l does.
   pub record BeginsFrom (cs : List Call) (l v k : ℕ) : Type 0 where
     pub recent : asked (storeAfter L a (cs ++ on l (BRANCH v) ∷ [])) (on k RECENT) ≡ says (recentIs v)
@@ -107,6 +128,7 @@ pub record ThirdDemand (L : Limits) (a : Areas) (cs : List Call) : Type 0 where
   pub kept : (more : List Call) (l k : ℕ) → Published L cs l k → Kept L a cs more l k
   pub reaches : (l : ℕ) → l < length (modelAfter L cs .lines) → Reaches L a cs l
   pub held : (l minute : ℕ) → Held L a cs l minute
+  pub fetches : (l v p w : ℕ) → asked (storeAfter L a cs) (on l (STAMP v p)) ≡ says (stampIs w) → Fetches L a cs l v p w
   pub begins : (l v k : ℕ) → asked (storeAfter L a cs) (on l (BRANCH v)) ≡ says (lineIs k) → BeginsFrom L a cs l v k
 
 -- The theorem owed: for any limits and areas that FORMAT accepts, and any list of calls.

@@ -104,7 +104,7 @@ pub figure-by-calls : outcomes onStore (formattedState limits areas) calls ≡ g
 unfolding computes limits areas calls given
 figure-by-calls = refl
 
--- Version 3 whole, version 2 over two edges of pages, and the versions that last wrote pages 0, 1 and 4.
+-- Version 3 whole, version 2 over two edges of pages, and the versions since which pages 0, 1 and 4 have had their bytes.
 abbrev looks : List Call
 looks = on 0 (READ 3 0 80 (replicate 80 0)) ∷ on 0 (READ 2 15 18 (replicate 18 0)) ∷ on 0 (STAMP 3 0) ∷ on 0 (STAMP 3 1) ∷ on 0 (STAMP 3 4) ∷ []
 

@@ -8,3 +8,4 @@ pub mod Bounds
 pub mod Figure
 pub mod Lines
 pub mod Windows
+pub mod Stamps

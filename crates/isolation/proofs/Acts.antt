@@ -10,7 +10,6 @@ use borrow.Author.Tests.{eq-eqb, lt-leb}
 use lib.Dec.{leb, ltb, eqb}
 use lib.ListN.{length, getD, take, drop, length-set}
 use Rattle.tree.specs.Tree.{countOf}
-use Rattle.tree.specs.Walk.{stampOf}
 use Rattle.table.specs.Table.{holds, firstRefusal, unless}
 use Rattle.table.specs.Table.{lineRows, publishRows, branchRows, assignRows, sizeRows, readRows, pageRows}
 use Rattle.windows.specs.Windows.{inside}
@@ -27,7 +26,7 @@ use Rattle.isolation.proofs.Lists.{nth-snoc}
 use Rattle.isolation.proofs.Kept.{Kept}
 use Rattle.isolation.proofs.Match.{match-sym, match-trans, match-by}
 use Rattle.isolation.proofs.Frame.{frame-branch}
-use Rattle.isolation.proofs.Alike.{tickets-same, slots-same, updates-same, length-same, shown-same, size-same, blob-same, pages-same, due-same}
+use Rattle.isolation.proofs.Alike.{tickets-same, slots-same, length-same, shown-same, size-same, blob-same, pages-same, stamp-same, due-same}
 use Rattle.isolation.proofs.Twins.{given-version, given-line, given-published, Step, Alike, alike, alike-row, alike-last, twin, alike-open}
 
 -- ---- one version more: the woven count of its ticket, and those of the versions before it
@@ -93,7 +92,7 @@ module _ (L : Limits) {l l′ : ℕ} {m m′ : Model} (M : Match l l′ m m′) 
 
   pub twin-stamp : (v p : ℕ) → Step l l′ m m′ (on l (STAMP v p)) (on l′ (STAMP v p)) (onLine L m l (STAMP v p)) (onLine L m′ l′ (STAMP v p))
   unfolding onLine
-  twin-stamp v p = ((λ q. M), λ n. absurd (n (ap₂ (λ k us. plain (says (answers k (stampIs (stampOf us v p))))) (page-same v p) (updates-same M))))
+  twin-stamp v p = ((λ q. M), λ n. absurd (n (ap₂ (λ k w. plain (says (answers k (stampIs w)))) (page-same v p) (stamp-same M v p))))
 
   pub twin-view : (v p : ℕ) → Step l l′ m m′ (on l (VIEW v p)) (on l′ (VIEW v p)) (onLine L m l (VIEW v p)) (onLine L m′ l′ (VIEW v p))
   unfolding onLine

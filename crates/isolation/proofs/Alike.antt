@@ -1,4 +1,4 @@
--- What matched lines read as is the same: their updates, sizes, blobs, whether PUBLISH is due, and a ticket assigned on them.
+-- What matched lines read as is the same: their updates, sizes, blobs, stamps, whether PUBLISH is due, and a ticket assigned on them.
 -- Assumes nothing.
 use mathlib.Core.Path.{_≡_, refl, sym, ap, ap₂, _∙_}
 use mathlib.Core.Logic.{_⊎_, inl, inr, _≢_}
@@ -15,6 +15,7 @@ use Rattle.tree.specs.Tree.{Update, nth}
 use Rattle.tree.proofs.Meets.{lt-or-le}
 use Rattle.model.specs.History.{Page, Ticket, Version, noTicket, noVersion, versionAt, taken, updateOf as toUpdate, updates, blobSize, bitIf, complete, due}
 use Rattle.model.specs.InTurn.{blobAt}
+use Rattle.model.specs.Stamp.{stampAt}
 use Rattle.model.specs.Model.{Limits, Model, lineAt, updateAt, updateOf, history}
 use Rattle.model.specs.OnModel.{ticketIn}
 use Rattle.model.proofs.Nth.{nth-map}
@@ -108,6 +109,11 @@ module _ {l l′ : ℕ} {m m′ : Model} (M : Match l l′ m m′) where
   pages-same zero = refl
   pages-same (suc v) =
       rw (pages-same v, f-same (suc v), ticket-same (suc v), slots-same (versionAt (history m′ l′) (suc v) .ticket))
+
+  pub stamp-same : (v p : ℕ) → stampAt (history m l) v p ≡ stampAt (history m′ l′) v p
+  unfolding stampAt
+  stamp-same zero p = refl
+  stamp-same (suc v) p = rw (pages-same v, pages-same (suc v), stamp-same v p)
 
   pub due-same : due (history m l) ≡ due (history m′ l′)
   unfolding due complete

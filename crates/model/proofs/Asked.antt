@@ -10,15 +10,16 @@ use native.Mathlib.Omega.{arith}
 use borrow.Author.Tests.{lt-leb, le-ltb}
 use lib.Dec.{leb, ltb}
 use lib.ListN.{length, getD, take, drop}
-use Rattle.tree.specs.Walk.{stampOf}
 use Rattle.table.specs.Table.{holds, firstRefusal, unless}
 use Rattle.table.specs.Table.{sizeRows, readRows, pageRows, lineRows}
-use Rattle.table.proofs.Table.{none, skip, first}
+use Rattle.table.proofs.Table.{none, hit, skip, first}
 use Rattle.model.specs.Calls.{on, READ, SIZE, RECENT, STAMP, VIEW, filled, sizeIs, recentIs, stampIs, partIs, says}
-use Rattle.model.specs.History.{versionAt, updates}
+use Rattle.model.specs.History.{versionAt}
 use Rattle.model.specs.InTurn.{blobAt, bytesAt}
+use Rattle.model.specs.Stamp.{stampAt}
 use Rattle.model.specs.Model.{Limits, Model, lineAt, history}
 use Rattle.model.specs.OnModel.{lineNumber, readNumber, sizeNumber, pageNumber, onLine, onModel}
+use Rattle.model.proofs.Passed.{PagePassed, page-passed, stamp-answered}
 use Rattle.model.proofs.Stay.{SameUpTo, blob-stays, stamp-stays}
 
 -- ---- the answers of a line
@@ -50,9 +51,21 @@ module _ (L : Limits) (m : Model) (l : ℕ) (there : l < length (m .lines)) wher
       unfolding onModel onLine unless
       view-accepted = rw page-there
 
-      pub stamp-accepted : onModel L m (on l (STAMP v i)) .1 ≡ says (stampIs (stampOf (updates (history m l)) v i))
+      pub stamp-accepted : onModel L m (on l (STAMP v i)) .1 ≡ says (stampIs (stampAt (history m l) v i))
       unfolding onModel onLine
       stamp-accepted = rw page-there
+
+    -- A page that the version does not have: VIEW hands out the empty part.
+    pub view-refused : (i : ℕ) → versionAt (history m l) v .size ≤ i → onModel L m (on l (VIEW v i)) .1 ≡ says (partIs [])
+    unfolding onModel onLine unless pageRows
+    view-refused i q = let z : pageNumber L m l v i ≡ 17 = sym (first (skip there (skip p (hit (omega arith, q))))) in rw z
+
+-- What an answered STAMP says.
+pub stamp-passed : (L : Limits) (m : Model) (l v p w : ℕ) → onModel L m (on l (STAMP v p)) .1 ≡ says (stampIs w) → PagePassed m l v p × (stampAt (history m l) v p ≡ w)
+unfolding onModel onLine
+stamp-passed L m l v p w e =
+    let r = stamp-answered (pageNumber L m l v p) (stampAt (history m l) v p) w e in
+    (page-passed L m l v p (r .0), r .1)
 
 -- ---- version v of line l of one model, and of line k of another or of the same
 

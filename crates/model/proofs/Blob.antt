@@ -7,7 +7,7 @@ use Prim.Native.Nat.{ℕ, zero, suc, _+_, _-_, _*_, _≤_, _<_, max}
 use native.Mathlib.Omega.{arith}
 use lib.ListN.{length, getD, take, drop, length-append, length-take, length-drop, length-map, List·getD-append, List·getD-map}
 use lib.Seq.{getD-append-add, getD-take, getD-drop}
-use Rattle.tree.specs.Walk.{stampOf}
+use Rattle.tree.specs.Walk.{leafVersion}
 use Rattle.tree.proofs.Meets.{within, before, after}
 use Rattle.tree.proofs.Newest.{sides, newest-within, newest-before, newest-after, newest-le, newest-meets}
 use Rattle.tree.proofs.Walk.{covered}
@@ -62,14 +62,14 @@ abbrev pub slotsOf : History → ℕ → List (Option Page)
 slotsOf h v = ticketAt h (versionAt h v .ticket) .slots
 
 abbrev pub slotOf : History → ℕ → ℕ → Option Page
-slotOf h k p = let w = stampOf (updates h) k p in getD (slotsOf h w) (p - versionAt h w .f) none
+slotOf h k p = let w = leafVersion (updates h) k p in getD (slotsOf h w) (p - versionAt h w .f) none
 
 -- The version that page p of version k is from, the newest up to k that covers it: its pages reach p, in a slot of its ticket.
-pub record StampedIn (h : History) (k p : ℕ) : Type 0 where
-  pub above : 0 < stampOf (updates h) k p
-  pub upto : stampOf (updates h) k p ≤ k
-  pub from : versionAt h (stampOf (updates h) k p) .f ≤ p
-  pub slot : p - versionAt h (stampOf (updates h) k p) .f < pagesOf (ticketAt h (versionAt h (stampOf (updates h) k p) .ticket))
+pub record LeafBounds (h : History) (k p : ℕ) : Type 0 where
+  pub above : 0 < leafVersion (updates h) k p
+  pub upto : leafVersion (updates h) k p ≤ k
+  pub from : versionAt h (leafVersion (updates h) k p) .f ≤ p
+  pub slot : p - versionAt h (leafVersion (updates h) k p) .f < pagesOf (ticketAt h (versionAt h (leafVersion (updates h) k p) .ticket))
 
 module _ (L : Limits) (h : History) (sound : SoundHistory L h) where
   pub blob-length : (k : ℕ) → k ≤ length (h .versions) → length (blobAt h k) ≡ versionAt h k .size
@@ -103,9 +103,9 @@ module _ (L : Limits) (h : History) (sound : SoundHistory L h) where
       ]
 
   module _ (k p : ℕ) (q : k ≤ length (h .versions)) (r : p < versionAt h k .size) where
-    pub stamp-bounds : StampedIn h k p
-    stamp-bounds =
-        let w = stampOf (updates h) k p in
+    pub leaf-bounds : LeafBounds h k p
+    leaf-bounds =
+        let w = leafVersion (updates h) k p in
         let o = covered (updates h) k (λ v t. sound .accepted v (omega arith)) k p (omega arith) (rw size-at r) in
         let le = newest-le (updates h) k p 1 in
         let c = newest-meets (updates h) k p 1 o in
@@ -116,18 +116,21 @@ module _ (L : Limits) (h : History) (sound : SoundHistory L h) where
     -- That slot is filled, by the page.
     pub page-filled : slotOf h k p ≡ some (getD (blobAt h k) p [])
     page-filled =
-        let w = stampOf (updates h) k p in
-        let b = stamp-bounds in
+        let w = leafVersion (updates h) k p in
+        let b = leaf-bounds in
         let s = sound .versions w (b .above) (omega arith) in
         rw (blob-page k p q r) (filled-slot (slotsOf h w) (s .puts) (p - versionAt h w .f) (b .slot))
 
     -- Every page is S bytes long.
     pub page-size : length (getD (blobAt h k) p []) ≡ L .size
     page-size =
-        let w = stampOf (updates h) k p in
-        let b = stamp-bounds in
+        let w = leafVersion (updates h) k p in
+        let b = leaf-bounds in
         let s = sound .versions w (b .above) (omega arith) in
         sound .tickets (versionAt h w .ticket) (s .from) (s .upto) .bytes (p - versionAt h w .f) (getD (blobAt h k) p []) page-filled
+
+    pub page-some : getD (blobAt h k) p [] ≡ [] → ⊥
+    page-some e = omega (arith, page-size, sound .allowed .somePage, ap length e)
 
   pub blob-pages : (k : ℕ) → k ≤ length (h .versions) → Blocks (L .size) (blobAt h k)
   blob-pages k q i r = page-size k i q (rw (← blob-length k q) r)

@@ -8,7 +8,7 @@ use Prim.Native.Nat.{ℕ, zero, suc, _+_, _-_, _*_, _≤_, _<_}
 use native.Mathlib.Omega.{arith}
 use lib.ListN.{length, getD, take, drop}
 use Rattle.tree.specs.Tree.{update, heightOf}
-use Rattle.tree.specs.Walk.{Accepted, placeBy, WovenBy, hasNode, walkBy, stampOf}
+use Rattle.tree.specs.Walk.{Accepted, placeBy, WovenBy, hasNode, walkBy, leafVersion}
 use Rattle.tree.specs.declared.Found.the-variants.{Leaf}
 use Rattle.tree.proofs.Walk.{stands-woven, walk-in-turn-by}
 use Rattle.model.specs.History.{versionAt, leafNumber, updates}
@@ -23,7 +23,7 @@ use Rattle.model.proofs.SoundHistory.{line-history}
 use Rattle.model.proofs.Facts.{number-room}
 use Rattle.model.proofs.Updates.{size-at}
 use Rattle.model.proofs.Shown.{versions-length}
-use Rattle.model.proofs.Blob.{StampedIn, stamp-bounds, page-filled}
+use Rattle.model.proofs.Blob.{LeafBounds, leaf-bounds, page-filled}
 use Rattle.model.proofs.Numbers.{number-some, place-has}
 use Rattle.model.proofs.Trees.{tree-in}
 use Rattle.model.proofs.Woven.{published-upto, nodes-woven}
@@ -60,8 +60,8 @@ module _ (L : Limits) (m : Model) (S : Sound L m) (l : ℕ) (there : l < length 
     pub walk-found : (p : ℕ) → p < versionAt (history m l) k .size
         → walkBy at (nodesImage L m) (heightOf (updates (history m l)) k) (numberIn (history m l) k) p
         ≡ Leaf
-        (record { 0 = numberIn (history m l) (stampOf (updates (history m l)) k p) })
-        (leafNumber (history m l) (stampOf (updates (history m l)) k p) p)
+        (record { 0 = numberIn (history m l) (leafVersion (updates (history m l)) k p) })
+        (leafNumber (history m l) (leafVersion (updates (history m l)) k p) p)
     walk-found p r =
         let us = updates (history m l) in
         let N = numbersOn m l in
@@ -80,38 +80,38 @@ module _ (L : Limits) (m : Model) (S : Sound L m) (l : ℕ) (there : l < length 
     within : v ≤ length (history m l .versions)
     within = omega (arith, versions-length m l)
 
-    stamped : StampedIn (history m l) v p
-    stamped = stamp-bounds L (history m l) (line-history L m S l there) v p within r
+    bounds : LeafBounds (history m l) v p
+    bounds = leaf-bounds L (history m l) (line-history L m S l there) v p within r
 
     -- Its page number lies within the page area.
-    pub number-within : leafNumber (history m l) (stampOf (updates (history m l)) v p) p < L .pages
+    pub number-within : leafNumber (history m l) (leafVersion (updates (history m l)) v p) p < L .pages
     number-within =
-        let w = stampOf (updates (history m l)) v p in
-        let b = stamped in
+        let w = leafVersion (updates (history m l)) v p in
+        let b = bounds in
         let s = line-history L m S l there .versions w (b .above) (omega (arith, within)) in
         omega (arith, number-room L m S (versionAt (history m l) w .ticket) (s .from) (s .upto))
 
     -- The page there is the version's.
-    pub page-found : pageCell (L .size) (m .tickets) (leafNumber (history m l) (stampOf (updates (history m l)) v p) p) ≡ getD (blobAt (history m l) v) p []
+    pub page-found : pageCell (L .size) (m .tickets) (leafNumber (history m l) (leafVersion (updates (history m l)) v p) p) ≡ getD (blobAt (history m l) v) p []
     page-found =
-        let w = stampOf (updates (history m l)) v p in
-        let b = stamped in
+        let w = leafVersion (updates (history m l)) v p in
+        let b = bounds in
         let s = line-history L m S l there .versions w (b .above) (omega (arith, within)) in
         slot-cell (L .size) (m .tickets) (versionAt (history m l) w .ticket) (p - versionAt (history m l) w .f) (getD (blobAt (history m l) v) p [])
         (s .from) (s .upto) (b .slot) (page-filled L (history m l) (line-history L m S l there) v p within r)
 
-    pub page-bytes : take (L .size) (drop (L .size * leafNumber (history m l) (stampOf (updates (history m l)) v p) p) (pagesImage L m)) ≡ getD (blobAt (history m l) v) p []
+    pub page-bytes : take (L .size) (drop (L .size * leafNumber (history m l) (leafVersion (updates (history m l)) v p) p) (pagesImage L m)) ≡ getD (blobAt (history m l) v) p []
     unfolding pagesImage
     page-bytes =
         tab-part (L .size) (L .pages) (pageCell (L .size) (m .tickets)) (λ q z. cells-length L m S q)
-        (leafNumber (history m l) (stampOf (updates (history m l)) v p) p) number-within
+        (leafNumber (history m l) (leafVersion (updates (history m l)) v p) p) number-within
         ∙ page-found
 
     -- A byte of it.
     pub page-byte : (j : ℕ) → j < L .size
-        → getD (pagesImage L m) (L .size * leafNumber (history m l) (stampOf (updates (history m l)) v p) p + j) 0 ≡ getD (getD (blobAt (history m l) v) p []) j 0
+        → getD (pagesImage L m) (L .size * leafNumber (history m l) (leafVersion (updates (history m l)) v p) p + j) 0 ≡ getD (getD (blobAt (history m l) v) p []) j 0
     unfolding pagesImage
     page-byte j q =
         tab-byte (L .size) (L .pages) (pageCell (L .size) (m .tickets)) (λ i z. cells-length L m S i)
-        (leafNumber (history m l) (stampOf (updates (history m l)) v p) p) j number-within q
+        (leafNumber (history m l) (leafVersion (updates (history m l)) v p) p) j number-within q
         ∙ rw page-found

@@ -21,6 +21,7 @@ pub mod Shown
 pub mod Facts
 pub mod SoundHistory
 pub mod Blob
+pub mod Stamps
 pub mod Passed
 pub mod Grows
 pub mod Older
@@ -32,6 +33,7 @@ pub mod Owner
 pub mod Owned
 pub mod Numbers
 pub mod Asked
+pub mod Since
 pub mod Later
 pub mod Held
 pub mod Reached

@@ -14,7 +14,7 @@ use Rattle.tree.specs.Tree.{countOf}
 use Rattle.table.specs.Table.{beginRows, putRows, weaveRows}
 use Rattle.table.specs.Table.{publishRows, branchRows, assignRows, sizeRows, readRows, pageRows}
 use Rattle.table.proofs.Table.{passed}
-use Rattle.model.specs.Calls.{refused, lineIs, says, answers}
+use Rattle.model.specs.Calls.{refused, lineIs, stampIs, says, answers}
 use Rattle.model.specs.History.{Page, History, pagesOf, versionAt, taken, updateOf as toUpdate, blobSize, isFilled, bitIf, allFilled, complete, due}
 use Rattle.model.specs.Model.{Limits, Model, lineAt, updateAt, history, places, updateOf}
 use Rattle.model.specs.OnModel.{ticketIn, beginNumber, putNumber, weaveNumber, nextUpdate, assignNumber, publishNumber, branchNumber, readNumber, sizeNumber, pageNumber}
@@ -173,3 +173,8 @@ due-passed h e =
 pub line-answered : (r n k : ℕ) → says (answers r (lineIs n)) ≡ says (lineIs k) → (r ≡ 0) × (n ≡ k)
 line-answered zero n k e = let q : lineIs n ≡ lineIs k = ap (λ o. o .answer) e in (refl, cc)
 line-answered (suc r) n k e = let q : refused (suc r) ≡ lineIs k = ap (λ o. o .answer) e in let z : _≡_ {A = ℕ} 0 1 = cc in absurd (omega arith)
+
+-- An answer that is a stamp was not refused, and is that stamp.
+pub stamp-answered : (r n k : ℕ) → says (answers r (stampIs n)) ≡ says (stampIs k) → (r ≡ 0) × (n ≡ k)
+stamp-answered zero n k e = let q : stampIs n ≡ stampIs k = ap (λ o. o .answer) e in (refl, cc)
+stamp-answered (suc r) n k e = let q : refused (suc r) ≡ stampIs k = ap (λ o. o .answer) e in let z : _≡_ {A = ℕ} 0 1 = cc in absurd (omega arith)

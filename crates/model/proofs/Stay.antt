@@ -4,10 +4,10 @@ use mathlib.Core.Path.{_≡_, refl, ap, sym, _∙_}
 use Prim.Native.Nat.{ℕ, zero, suc, _+_, _^_, _≤_, _<_}
 use native.Mathlib.Omega.{arith}
 use Rattle.tree.specs.Tree.{Node, node, update, newest}
-use Rattle.tree.specs.Walk.{stampOf}
 use Rattle.tree.proofs.Newest.{newest-le}
 use Rattle.model.specs.History.{Version, History, ticketAt, versionAt, leafNumber, updates}
 use Rattle.model.specs.InTurn.{blobAt, bytesAt, joined}
+use Rattle.model.specs.Stamp.{stampAt, stampsUpto}
 use Rattle.model.specs.Model.{numberIn, numbered}
 use Rattle.model.specs.OnModel.{leftOf, rightOf}
 use Rattle.model.proofs.Updates.{newest-same, update-at}
@@ -46,9 +46,6 @@ module _ (h w : History) (k : ℕ) (same : SameUpTo h w k) where
   pub newest-stays : (v : ℕ) → v ≤ k → (a s : ℕ) → newest (updates h) v a s ≡ newest (updates w) v a s
   newest-stays = newest-same (updates h) (updates w) k update-stays
 
-  pub stamp-stays : (v : ℕ) → v ≤ k → (p : ℕ) → stampOf (updates h) v p ≡ stampOf (updates w) v p
-  stamp-stays v p a = newest-stays v p a 1
-
   -- What a version is called in the node area.
   pub number-stays : (v : ℕ) → v ≤ k → numberIn h v ≡ numberIn w v
   number-stays v p = ap (λ (x : Version). numbered (x .line) v) (same .versions v p)
@@ -76,3 +73,14 @@ module _ (h w : History) (k : ℕ) (same : SameUpTo h w k) where
 
   pub bytes-stay : (v : ℕ) → v ≤ k → bytesAt h v ≡ bytesAt w v
   bytes-stay v p = ap joined (blob-stays v p)
+
+  -- The stamps of its pages.
+  pub stamp-stays : (v : ℕ) → v ≤ k → (p : ℕ) → stampAt h v p ≡ stampAt w v p
+  unfolding stampAt
+  stamp-stays zero q p = refl
+  stamp-stays (suc v) q p = rw (blob-stays v (omega arith), blob-stays (suc v) q, stamp-stays v (omega arith) p)
+
+  pub stamps-stay : (v : ℕ) → v ≤ k → (n : ℕ) → stampsUpto h v n ≡ stampsUpto w v n
+  unfolding stampsUpto
+  stamps-stay v q zero = refl
+  stamps-stay v q (suc n) = rw (stamps-stay v q n, stamp-stays v q n)

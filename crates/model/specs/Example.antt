@@ -13,6 +13,7 @@ use Rattle.windows.specs.Listed.{entryOf, entryBy, allWindows, ended, windowsIn
 use Rattle.model.specs.Calls.{Call, BEGIN, PUT, WEAVE, on, WRITE, APPEND, PUBLISH, BRANCH, READ, SIZE, RECENT, STAMP, VIEW, refused, ticketIs, putDone, versionIs, nodeIs, publishedIs, waiting, lineIs, filled, sizeIs, recentIs, stampIs, partIs, Outcome, says}
 use Rattle.model.specs.History.{taken, allFilled, complete, due}
 use Rattle.model.specs.InTurn.{applied, blobAt, joined}
+use Rattle.model.specs.Stamp.{stampAt}
 use Rattle.model.specs.Model.{Limits, noModel, updateFrom}
 use Rattle.model.specs.OnModel.{onLine, onModel}
 use Rattle.model.specs.Run.{outcomes}
@@ -20,7 +21,7 @@ use Rattle.model.specs.Run.{outcomes}
 -- All that a list of calls computes with on the model: what unfolds this unfolds every definition listed here.
 unfoldable pub computes : ℕ
 unfolding outcomes onModel onLine unless firstRefusal holds lineRows publishRows windowRows branchRows beginRows putRows assignRows weaveRows sizeRows readRows
-    pageRows taken allFilled complete due applied blobAt joined updateFrom heightFrom rootHeight meets nodes count update newest used numberOf insideOne inside entryOf
+    pageRows taken allFilled complete due applied blobAt joined stampAt updateFrom heightFrom rootHeight meets nodes count update newest used numberOf insideOne inside entryOf
     entryBy allWindows ended windowsIn textNumber
 computes = 0
 

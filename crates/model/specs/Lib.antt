@@ -1,6 +1,7 @@
 pub mod Calls
 pub mod History
 pub mod InTurn
+pub mod Stamp
 pub mod Model
 pub mod OnModel
 pub mod Run
@@ -9,3 +10,4 @@ pub mod Snapshot
 pub mod Example
 pub mod Trees
 pub mod Windows
+pub mod Stamps

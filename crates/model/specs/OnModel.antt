@@ -5,12 +5,12 @@ use mathlib.Core.List.{List, [], _∷_, _++_}
 use Prim.Native.Nat.{ℕ, zero, suc, pred, _+_, _-_, _*_, _^_, max}
 use lib.ListN.{length, getD, set, replicate, take, drop}
 use Rattle.tree.specs.Tree.{Update, Node, node, countOf, weaving, update, newest}
-use Rattle.tree.specs.Walk.{stampOf}
 use Rattle.table.specs.Table.{always, firstRefusal, unless, beginRows, putRows, weaveRows}
 use Rattle.table.specs.Table.{lineRows, publishRows, branchRows, assignRows, sizeRows, readRows, pageRows}
 use Rattle.model.specs.Calls.{Call, BEGIN, PUT, WEAVE, SETWINDOWS, on, Act, WRITE, APPEND, PUBLISH, BRANCH, READ, SIZE, RECENT, STAMP, VIEW, Answer, ticketIs, putDone, versionIs, nodeIs, publishedIs, waiting, held, lineIs, windowsDone, filled, sizeIs, recentIs, stampIs, partIs, Outcome, says, answers}
 use Rattle.model.specs.History.{Ticket, Version, History, noTicket, pagesOf, versionAt, taken, updateOf as toUpdate, updates, blobSize, isFilled, bitIf, allFilled, due}
 use Rattle.model.specs.InTurn.{blobAt, bytesAt}
+use Rattle.model.specs.Stamp.{stampAt}
 use Rattle.model.specs.Model.{Limits, Line, Model, lineAt, updateAt, history, places, updateOf, numberIn}
 use Rattle.tree.specs.Tree.{nth}
 use Rattle.windows.specs.Windows.{inside}
@@ -203,7 +203,7 @@ module _ (L : Limits) where
       (m, record { answer = answers k filled; buffer = unless k buffer (take len (drop offset (bytesAt (history m l) v)) ++ drop len buffer) })
   onLine m l (SIZE v) = (m, says (answers (sizeNumber m l v) (sizeIs (L .size * versionAt (history m l) v .size))))
   onLine m l RECENT = (m, says (answers (lineNumber m l) (recentIs (lineAt m l .published))))
-  onLine m l (STAMP v p) = (m, says (answers (pageNumber m l v p) (stampIs (stampOf (updates (history m l)) v p))))
+  onLine m l (STAMP v p) = (m, says (answers (pageNumber m l v p) (stampIs (stampAt (history m l) v p))))
   onLine m l (VIEW v p) = (m, says (partIs (unless (pageNumber m l v p) [] (getD (blobAt (history m l) v) p []))))
 
   -- One step: where the table refuses, nothing moves.

@@ -1,4 +1,4 @@
--- A version of a line as it is compared: its size, its pages, and its tree from the root down through the children's numbers.
+-- A version of a line as it is compared: its size, its pages with their stamps, and its tree from the root down through the children's numbers.
 use mathlib.Core.Bool.{_&&_}
 use mathlib.Core.Option.{Option}
 use mathlib.Core.List.{List}
@@ -11,6 +11,7 @@ use Rattle.tree.specs.declared.NodeAt.{NodeAt}
 use Rattle.tree.specs.declared.NodeAt.the-variants.{Stored, Missing}
 use Rattle.model.specs.History.{Page, versionAt, leafNumber, updateOf as toUpdate, updates}
 use Rattle.model.specs.InTurn.{blobAt}
+use Rattle.model.specs.Stamp.{stampsUpto}
 use Rattle.model.specs.Model.{Model, lineAt, updateAt, history, every, numberIn}
 
 -- A tree: a leaf has its version's number, its page and its two numbers; an inner node its version's number, first page and height, and both its
@@ -74,10 +75,13 @@ placeIn m c p h = placeAt m (nth 0 (lineAt m (c / 65536) .shown) (c % 65536)) p 
 pub record Snapshot : Type 0 where
   pub size : ℕ
   pub blob : List Page
+  pub stamps : List ℕ
   pub tree : Tree
 
 abbrev pub treeAt : Model → ℕ → ℕ → Tree
 treeAt m l k = let us = updates (history m l) in treeOf us (numbersOn m l) (heightOf us k) k 0
 
 abbrev pub snapshotAt : Model → ℕ → ℕ → Snapshot
-snapshotAt m l k = record { size = versionAt (history m l) k .size; blob = blobAt (history m l) k; tree = treeAt m l k }
+snapshotAt m l k =
+    let h = history m l in
+    record { size = versionAt h k .size; blob = blobAt h k; stamps = stampsUpto h k (versionAt h k .size); tree = treeAt m l k }

@@ -3,3 +3,4 @@ pub mod CopyTurn
 pub mod PartLaws
 pub mod Product
 pub mod PutLaws
+pub mod SameTurn

@@ -3,9 +3,10 @@
 ghost use mathlib.Core.Path.{_≡_};
 ghost use Prim.Native.Nat.{_-_, _*_, _^_, _≤_, min};
 ghost use lib.ListN.{length, take};
+ghost use Rattle.text.specs.Text.{same};
 ghost use Rattle.pages.specs.Pages.{over, fits, put, part};
 
-// How many bytes the copier takes at once.
+// How many bytes are copied or compared at once.
 const BLOCK: usize = 256;
 
 // The first block of src.
@@ -134,4 +135,49 @@ pub fn copy_page(
 {
     let page = view_page(pages, size, number);
     put_at(buf, to as usize, part_at(page, from as usize, n as usize))
+}
+
+// Whether two slices of one length have the same bytes. A difference is noted and the loop goes on: with no way out but its end the compiler compares many bytes at once.
+fn same_bytes(a: &[u8], b: &[u8]) -> bool
+    requires { ⌜ length (now a) ≡ length (now b) ⌝ }
+    ensures { λ r. ⌜ r ≡ same (now (a .entry)) (now (b .entry)) ⌝ }
+{
+    let mut alike = true;
+    let mut k = 0;
+    while k < a.len() {
+        if a[k] != b[k] {
+            alike = false;
+        }
+        k += 1;
+    }
+    alike
+}
+
+// The same, by blocks: the first that differs ends it.
+fn same_blocks(a: &[u8], b: &[u8]) -> bool
+    requires { ⌜ length (now a) ≡ length (now b) ⌝ }
+    ensures { λ r. ⌜ r ≡ same (now (a .entry)) (now (b .entry)) ⌝ }
+{
+    let mut i = 0;
+    while BLOCK <= a.len() - i {
+        if !same_bytes(&a[i..i + BLOCK], &b[i..i + BLOCK]) {
+            return false;
+        }
+        i += BLOCK;
+    }
+    same_bytes(&a[i..], &b[i..])
+}
+
+// Whether pages m and n have the same bytes. One that runs past the area has none.
+pub fn same_page(pages: &[u8], size: u64, m: u64, n: u64) -> bool
+    ensures { λ r.
+        let area = now (pages .entry) in
+        ⌜ r ≡ same (part area (size * m) size) (part area (size * n) size) ⌝ }
+{
+    let a = view_page(pages, size, m);
+    let b = view_page(pages, size, n);
+    if a.len() != b.len() {
+        return false;
+    }
+    same_blocks(a, b)
 }

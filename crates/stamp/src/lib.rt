@@ -1,9 +1,11 @@
-// STAMP: the version that last wrote a page, as of a version of a line.
+// STAMP: the version of a line since which a page has had the bytes that it has in a version.
 ghost use mathlib.Core.Path.{_≡_};
-ghost use Rattle.stamp.specs.Stamp.{pageRefusal, versionFound, stamped, stampOut};
+ghost use mathlib.Core.List.{[]};
+ghost use Rattle.stamp.specs.Stamp.{pageRefusal, versionFound, foundBy, leafAsOf, sameBelow, since, stamped, stampOut};
 ghost use Rattle.versions.specs.Store.{areasOf};
 use lines::Line;
 use lines::version_of;
+use pages::same_page;
 use register::Part;
 use register::Record;
 use register::version_part;
@@ -17,6 +19,7 @@ use versions::pages_by;
 use versions::snapshot_refusal;
 use walk::find_page;
 use walk::is_lost;
+use walk::number_found;
 
 // What STAMP answers.
 pub enum Stamped {
@@ -52,20 +55,91 @@ pub fn page_refusal(
     0
 }
 
-// What STAMP answers, by the table's number k and where the walk ends.
-fn stamped_by(k: u64, x: Found) -> Stamped
-    ensures { λ r. ⌜ r ≡ stamped k (versionFound x) ⌝ }
+// The version of the leaf that a walk ends at.
+fn version_found(x: Found) -> Version
+    ensures { λ r. ⌜ r .0 ≡ versionFound x ⌝ }
 {
-    if k != 0 {
-        return Stamped::Refused(k);
-    }
     match x {
-        Found::Lost => Stamped::Is(Version(0)),
-        Found::Leaf(version, _) => Stamped::Is(version_of(version.0)),
+        Found::Lost => Version(0),
+        Found::Leaf(version, _) => version_of(version.0),
     }
 }
 
-// STAMP line, v, page: the version that last wrote the page, as of version v of the line.
+// Where a walk ends, if the table's number k is 0; else lost.
+fn found_by(k: u64, x: Found) -> Found
+    ensures { λ r. ⌜ r ≡ foundBy k x ⌝ }
+{
+    if k == 0 { x } else { Found::Lost }
+}
+
+// The leaf of a page as of version v of a line, as VIEW finds it.
+fn leaf_as_of(
+    s: Store,
+    nodes: &[u32],
+    register: &[Record],
+    l: Line,
+    v: Version,
+    page: PageIndex,
+) -> Found
+    ensures { λ r. ⌜ r ≡ leafAsOf s (areasOf [] (now (nodes .entry)) (now (register .entry))) (l .0) (v .0) (page .0) ⌝ }
+{
+    let c = number_on(s, l, v);
+    let q = version_part(register, c);
+    let x = find_page(&nodes, &register, c, page);
+    found_by(page_refusal(0, s.pages, q, c, v, page, x), x)
+}
+
+// A leaf whose version is below w and whose page, of so many bytes, has the bytes of page n; else lost.
+fn same_below(pages: &[u8], size: u64, w: Version, n: u64, x: Found) -> Found
+    ensures { λ r. ⌜ r ≡ sameBelow (now (pages .entry)) size (w .0) n x ⌝ }
+{
+    match x {
+        Found::Lost => Found::Lost,
+        Found::Leaf(version, m) => {
+            let lower = version_of(version.0);
+            if lower.0 >= w.0 {
+                return Found::Lost;
+            }
+            if !same_page(pages, size, m, n) {
+                return Found::Lost;
+            }
+            x
+        }
+    }
+}
+
+// The version since which a page has had the bytes of page `number` of the page area, which version `from` has there: down the versions that cover it, while the page as of the
+// version before has the same bytes.
+fn since(
+    s: Store,
+    pages: &[u8],
+    nodes: &[u32],
+    register: &[Record],
+    l: Line,
+    page: PageIndex,
+    from: Version,
+    number: u64,
+) -> Version
+    ensures { λ r.
+        let a = areasOf (now (pages .entry)) (now (nodes .entry)) (now (register .entry)) in
+        ⌜ r .0 ≡ since s a (l .0) (page .0) (from .0) number ⌝ }
+{
+    let mut w = from.0;
+    let mut n = number;
+    while w > 0 {
+        let x = leaf_as_of(s, nodes, register, l, Version(w - 1), page);
+        let y = same_below(pages, s.size, Version(w), n, x);
+        if is_lost(s.pages, y) {
+            return Version(w);
+        }
+        let lower = version_found(y);
+        w = lower.0;
+        n = number_found(s.pages, y);
+    }
+    Version(w)
+}
+
+// STAMP line, v, page: the lowest version of the line from which on the page has the same bytes up to version v.
 pub fn stamp(
     s: Store,
     pages: &[u8],
@@ -83,6 +157,18 @@ pub fn stamp(
     let c = number_on(s, l, v);
     let q = version_part(register, c);
     let x = find_page(&nodes, &register, c, page);
-    let k = snapshot_refusal(s, g, l, v);
-    stamped_by(page_refusal(k, s.pages, q, c, v, page, x), x)
+    let k = page_refusal(snapshot_refusal(s, g, l, v), s.pages, q, c, v, page, x);
+    if k != 0 {
+        return Stamped::Refused(k);
+    }
+    Stamped::Is(since(
+        s,
+        pages,
+        nodes,
+        register,
+        l,
+        page,
+        version_found(x),
+        number_found(s.pages, x),
+    ))
 }

@@ -112,9 +112,9 @@ unfoldable pub inTurnBy : List Update → (ℕ → ℕ → ℕ) → ℕ → ℕ 
 inTurnBy us leaf zero p = 0
 inTurnBy us leaf (suc k) p = elim (covers (update us (suc k)) p) [ true ↦ leaf (suc k) p | false ↦ inTurnBy us leaf k p ]
 
--- The newest version up to v whose update covers page p: the stamp of document 01.
-abbrev pub stampOf : List Update → ℕ → ℕ → ℕ
-stampOf us v p = newest us v p 1
+-- The version of the leaf over page p in version v's tree: the newest up to v whose update covers the page.
+abbrev pub leafVersion : List Update → ℕ → ℕ → ℕ
+leafVersion us v p = newest us v p 1
 
 -- The node places of versions 1 .. v. Those of version v + 1 follow them.
 unfoldable pub used : List Update → ℕ → ℕ

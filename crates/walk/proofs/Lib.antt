@@ -1,4 +1,3 @@
-pub mod Descent
+pub mod FromRoot
 pub mod Ends
-pub mod Places
 pub mod Generated

@@ -1,2 +1,1 @@
 pub mod FindPage
-pub mod Descent

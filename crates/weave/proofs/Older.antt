@@ -9,7 +9,7 @@ use Rattle.register.specs.declared.Record.{Record}
 use Rattle.versions.specs.Store.{areasOf, lineIn, numberOn}
 use Rattle.versions.specs.declared.Store.{Store}
 use Rattle.walk.specs.FindPage.{reachFrom}
-use Rattle.walk.specs.Descent.{orMost}
+use Rattle.descent.specs.Places.{orMost}
 use Rattle.weave.specs.Weave.{olderNumber}
 
 module _ (x : Store) (nodes : List ℕ) (rs : List Record) (c a h : ℕ) where

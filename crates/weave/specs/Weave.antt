@@ -18,7 +18,7 @@ use Rattle.weave.specs.declared.Woven.{Woven}
 use Rattle.weave.specs.declared.Woven.the-variants as Woven
 use Rattle.versions.specs.Store.{Areas, areasOf, lengthsOf, differ, recordOf, lineIn, numberOn}
 use Rattle.walk.specs.FindPage.{reachFrom}
-use Rattle.walk.specs.Descent.{orMost}
+use Rattle.descent.specs.Places.{orMost}
 
 -- The next node in weaving order, by what the part says of its tree, and its place.
 unfoldable pub nextNode : Part → Node

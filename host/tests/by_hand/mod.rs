@@ -8,6 +8,7 @@ mod lines;
 mod lists;
 mod malformed;
 mod rows;
+mod stamps;
 mod windows;
 
 use crate::program::run;
@@ -22,6 +23,7 @@ pub fn agree(lines: Vec<Vec<u8>>, answers: Vec<String>) {
         name,
         lines,
         answers,
+        ..Script::default()
     };
     let mut model = Program::default();
     for (at, wanted) in script.answers.iter().enumerate() {
@@ -63,6 +65,7 @@ fn same_as_model<L: Into<Vec<u8>>>(lines: Vec<L>) -> Vec<String> {
         name,
         lines,
         answers: answers.clone(),
+        ..Script::default()
     }]);
     answers
 }

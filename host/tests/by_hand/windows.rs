@@ -16,6 +16,7 @@ fn host_agrees_on(text: &str) {
         name,
         lines,
         answers,
+        ..Script::default()
     });
 }
 
@@ -27,6 +28,7 @@ pub fn host_same_as_model(lines: Vec<Vec<u8>>) -> Vec<String> {
         name: "by the model, of a host".to_string(),
         lines,
         answers: answers.clone(),
+        ..Script::default()
     });
     answers
 }

@@ -1,6 +1,7 @@
 //! Calls on any state, any windows and any areas, and what must hold after each.
 
 use crate::memory::{Fenced, Memory};
+use crate::stamps;
 use crate::windows::{inside, listed, Window, WEEK};
 use pit_host::{
     ByteOffset, Error, Keeper, Lent, LentAreas, Limits, Line, LineVersion, Minute, PageIndex,
@@ -181,7 +182,7 @@ impl Call {
 }
 
 /// Row 20. No store has more than sixteen lines, whatever its state says.
-fn no_line(s: &State, line: u64) -> bool {
+pub fn no_line(s: &State, line: u64) -> bool {
     s.begun.min(16) <= line
 }
 
@@ -196,7 +197,7 @@ fn at_once(s: &State, memory: &Memory, line: u64, version: u64) -> bool {
 }
 
 /// The line on which a version got its number: from line to source as long as the version is not above the start.
-fn owner_of(s: &State, mut line: u64, version: u64) -> u64 {
+pub fn owner_of(s: &State, mut line: u64, version: u64) -> u64 {
     for _ in 0..15 {
         let of = s.line(Line(line));
         if of.start < version {
@@ -208,7 +209,7 @@ fn owner_of(s: &State, mut line: u64, version: u64) -> u64 {
 }
 
 /// Row 3. Products are compared in 128 bits, where none wraps.
-fn lengths_differ(s: &State, memory: &Memory) -> bool {
+pub fn lengths_differ(s: &State, memory: &Memory) -> bool {
     let wide = |n: u64| u128::from(n);
     memory.pages.part().len() as u128 != wide(s.size) * wide(s.pages)
         || memory.nodes.part().len() as u128 != 2 * wide(s.nodes)
@@ -403,7 +404,8 @@ impl Scene {
             Call::Size(l, v) => store.size(Line(l), Version(v)).map(drop),
             Call::Stamp(l, v, page) => {
                 let stamp = store.stamp(Line(l), Version(v), PageIndex(page));
-                stamp.map(drop)
+                self.compare_stamp(stamp, [l, v, page])?;
+                return Ok(stamp.err().map_or(0, |refused| refused.number()));
             }
             Call::View(l, v, page) => view(&store, Line(l), Version(v), PageIndex(page))?,
             Call::Recent(l) => store.recent(Line(l)).map(drop),
@@ -411,6 +413,14 @@ impl Scene {
         };
         (self.state, self.windows) = (store.state(), store.windows());
         Ok(done.err().map_or(0, |refused| refused.number()))
+    }
+
+    /// STAMP, which changes nothing, answers as it is defined, whatever the areas hold.
+    fn compare_stamp(&self, got: Result<Version, Error>, of: [u64; 3]) -> Result<(), String> {
+        let [line, v, page] = of;
+        let due = stamps::stamp(self, line, v, page).answer;
+        let got = got.map_err(|refused| refused.number()).map(|v| v.0);
+        claim(got == due, &format!("{got:?} is answered, not {due:?}"))
     }
 
     /// FORMAT, over whatever stands in the areas. Accepted, it leaves nothing of that.

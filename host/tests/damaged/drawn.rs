@@ -134,7 +134,26 @@ fn any_memory(random: &mut Random, lengths: [u64; 3]) -> Memory {
     let [pages, nodes, records] = lengths;
     let nodes: Vec<u32> = (0..nodes).map(|_| any_node(random)).collect();
     let records: Vec<Record> = (1..=records).map(|k| any_record(random, k)).collect();
-    Memory::new(&random.bytes(pages as usize), &nodes, &records)
+    Memory::new(&any_bytes(random, pages as usize), &nodes, &records)
+}
+
+/// Random bytes; half of the time mostly zeros, so that pages are often the same.
+fn any_bytes(random: &mut Random, length: usize) -> Vec<u8> {
+    let mut bytes = random.bytes(length);
+    if random.one_in(2) {
+        for byte in &mut bytes {
+            *byte *= u8::from(random.one_in(64));
+        }
+    }
+    bytes
+}
+
+/// A page to put: one byte all over, one of two, so that pages are often resent; or random bytes.
+fn any_page(random: &mut Random, size: usize) -> Vec<u8> {
+    match random.below(4) {
+        0 => random.bytes(size),
+        fill => vec![fill.min(2) as u8; size],
+    }
 }
 
 /// An end of a window: a minute of the week, mostly a low one; or no minute.
@@ -222,7 +241,7 @@ fn update(random: &mut Random, store: &mut Lent<'_>) -> Result<(), Error> {
     let ticket = store.begin(n)?;
     let puts = if random.one_in(6) { n - 1 } else { n };
     for i in 0..puts {
-        store.put(ticket, i, &random.bytes(size))?;
+        store.put(ticket, i, &any_page(random, size))?;
     }
     if puts < n || random.one_in(4) {
         return Ok(());
@@ -243,6 +262,93 @@ fn update(random: &mut Random, store: &mut Lent<'_>) -> Result<(), Error> {
         published = done.version().is_some();
     }
     Ok(())
+}
+
+/// A store of four pages that are resent over and over, on a few lines, with numbers changed: of its nodes, its records and its
+/// lines.
+pub fn resent_scene(random: &mut Random) -> Scene {
+    let limits = Limits::new(16, 40, 160, 12);
+    let mut memory = any_memory(random, [16 * 40, 2 * 160, 12]);
+    let mut store = Lent::format(limits, memory.lend()).expect("limits in range");
+    let fill = 1 + random.below(2) as u8;
+    whole_update(&mut store, Line(0), 0, &[fill; 4]);
+    for _ in 0..8 {
+        if random.one_in(4) {
+            let source = Line(random.below(store.state().begun));
+            let recent = store.recent(source).expect("a line that has begun");
+            let version = Version(random.below(recent.0 + 1).max(1));
+            store.branch(source, version).expect("room for a line");
+        }
+        let line = Line(random.below(store.state().begun));
+        let (first, n) = (random.below(4), 1 + random.below(2));
+        let other = [fill, fill + u8::from(random.one_in(4))];
+        whole_update(&mut store, line, first, &other[..n as usize]);
+    }
+    let mut scene = Scene {
+        state: store.state(),
+        windows: Windows::default(),
+        memory,
+    };
+    for _ in 0..1 + random.below(3) {
+        change_a_walk(random, &mut scene);
+    }
+    scene
+}
+
+/// Line, version and page of all that such a store shows.
+pub fn every_page(scene: &Scene) -> Vec<(u64, u64, u64)> {
+    let mut every = vec![];
+    for line in 0..scene.state.begun {
+        for v in 1..=scene.state.line(Line(line)).published {
+            every.extend((0..5).map(|page| (line, v, page)));
+        }
+    }
+    every
+}
+
+/// An update from BEGIN to PUBLISH, each page filled with its byte.
+fn whole_update(store: &mut Lent<'_>, line: Line, first: u64, fills: &[u8]) {
+    let ticket = store.begin(fills.len() as u64).expect("room for all");
+    for (i, fill) in (0..).zip(fills) {
+        let done = store.put(ticket, i, &[*fill; 16]);
+        done.expect("each page once");
+    }
+    let assigned = store.write(line, ticket, PageIndex(first));
+    for _ in 0..assigned.expect("room for all").nodes {
+        store.weave(ticket).expect("a node is left");
+    }
+    let published = store.publish(line, Minute(0));
+    assert!(published.expect("a line").version().is_some());
+}
+
+/// Changes a number that a walk reads: of a node, a record or a line.
+fn change_a_walk(random: &mut Random, scene: &mut Scene) {
+    let s = &mut scene.state;
+    match random.below(8) {
+        0 => {
+            let line = Line(random.below(s.begun));
+            let mut of = s.line(line);
+            match random.below(2) {
+                0 => of.source = random.below(16),
+                _ => of.start = random.below(9),
+            }
+            s.set_line(line, of);
+        }
+        1..=3 => {
+            let record = pick_mut(random, &mut scene.memory.register.lend()[..9]);
+            change_one(random, &mut record.each()[5..]); // what is before has no part in a walk
+        }
+        _ => {
+            let used = 2 * s.places as usize;
+            let number = pick_mut(random, &mut scene.memory.nodes.lend()[..used]);
+            *number = match random.below(4) {
+                0 => any_node(random),
+                1 => any_name(random) as u32,
+                2 => 40 + random.below(2) as u32,
+                _ => 1 + random.below(9) as u32,
+            };
+        }
+    }
 }
 
 fn some_store(random: &mut Random) -> Scene {

@@ -614,6 +614,44 @@ static void planning(void)
     free_host(&h);
 }
 
+/* An update of two pages at page 0, each filled with its byte, from its ticket to its publication. */
+static void send(host *h, uint64_t line, uint64_t ticket, int one, int other)
+{
+    begin(h, 2);
+    put(h, ticket, 0, one, (size_t)h->s.size);
+    put(h, ticket, 1, other, (size_t)h->s.size);
+    write_at(h, line, ticket, 0);
+    weave_all(h, ticket, 3);
+    publish(h, line, 0);
+}
+
+/* Pages resent unchanged, changed, and changed back; on a branch too. Then a lower version's leaf is lost. */
+static void resent(void)
+{
+    host h = new_host(16 * 16, 2 * 24, 8);
+    uint64_t v;
+    format(&h, 16, 16, 24, 8);
+    send(&h, 0, 1, 0x11, 0x22);
+    send(&h, 0, 2, 0x11, 0x33);
+    branch(&h, 0, 2);
+    send(&h, 0, 3, 0x11, 0x22);
+    send(&h, 1, 4, 0x11, 0x33);
+    send(&h, 1, 5, 0x44, 0x33);
+    for (v = 1; v <= 4; v++) {
+        stamp(&h, 0, v, 0);
+        stamp(&h, 0, v, 1);
+        stamp(&h, 1, v, 0);
+        stamp(&h, 1, v, 1);
+    }
+    h.nodes[2 * 4] = h.nodes[2 * 4 + 1] = UINT32_MAX; /* version 2's leaf of page 0 */
+    printf("a node lost");
+    end_line(&h);
+    stamp(&h, 0, 3, 0);
+    stamp(&h, 0, 2, 0);
+    stamp(&h, 0, 3, 1);
+    free_host(&h);
+}
+
 #define TIMES_10(text) text text text text text text text text text text
 #define TIMES_11(text) TIMES_10(text) text
 
@@ -674,6 +712,7 @@ int main(void)
     example();
     all_different();
     planning();
+    resent();
     blasting();
     printf("root span of 5 and 4097: %" PRIu64 " %" PRIu64 "\n", pit_root_span(5), pit_root_span(4097));
     printf("nodes of 31 2 64 and 31 2 32: %" PRIu64 " %" PRIu64 "\n", pit_node_count(31, 2, 64), pit_node_count(31, 2, 32));

@@ -7,6 +7,7 @@ use crate::store::text::{
     hexadecimal, Program, LONGEST_LINE, LONGEST_READ, MOST_NODES, MOST_PAGE_BYTES, MOST_UPDATES,
 };
 use crate::store::Store;
+use std::collections::HashMap;
 
 /// Numbers at which a limit, a width or a sum can go wrong.
 const EDGES: [u64; 30] = [
@@ -64,6 +65,20 @@ pub struct Script {
     pub name: String,
     pub lines: Vec<Vec<u8>>,
     pub answers: Vec<String>,
+    pub stamps: Stamps,
+}
+
+/// What the stamps of a script were, beside all that it asked.
+#[derive(Clone, Copy, Default)]
+pub struct Stamps {
+    /// Below the newest version that covers the page: its bytes were resent.
+    pub resent: u64,
+    /// Not the version whose update first covered the page, and below the newest that covers it: changed, then resent.
+    pub between: u64,
+    /// On a branch, of a version that it shares with its source.
+    pub shared: u64,
+    /// The same where an update of the branch's own has resent the page.
+    pub across: u64,
 }
 
 /// The splitmix64 generator.
@@ -142,6 +157,8 @@ struct Author {
     random: Random,
     model: Program,
     script: Script,
+    /// For which line and first page the tickets' pages are put.
+    plans: HashMap<u64, (u64, u64)>,
 }
 
 impl Author {
@@ -151,6 +168,7 @@ impl Author {
             random: Random(seed),
             model: Program::default(),
             script: Script::default(),
+            plans: HashMap::new(),
         }
     }
 
@@ -161,12 +179,39 @@ impl Author {
         } else {
             self.model.answer(&line)
         };
+        if answer == "ok" {
+            self.plans.clear(); // the tickets are those of another store
+        }
+        if let Some(stamp) = answer.strip_prefix("stamp,") {
+            self.count_stamp(&line, stamp.parse().expect("a version"));
+        }
         self.script.answers.push(answer);
         self.script.lines.push(line);
     }
 
     fn store(&self) -> &Store {
         self.model.store.as_ref().expect("FORMAT was accepted")
+    }
+
+    /// Counts a stamp by what it tells.
+    fn count_stamp(&mut self, line: &[u8], stamp: u64) {
+        let fields = line.split(|b| *b == b',').skip(1);
+        let fields = fields.map(|field| std::str::from_utf8(field).ok()?.parse().ok());
+        let numbers: Option<Vec<u64>> = fields.collect();
+        let numbers = numbers.expect("an accepted line has numbers");
+        let (line, v, page) = (numbers[0], numbers[1], numbers[2]);
+        let store = self.store();
+        let (covering, start) = (
+            store.covering(line, v, page),
+            store.lines[line as usize].start,
+        );
+        let resent = stamp < covering;
+        let first = store.page(line, stamp - 1, page).is_none();
+        let stamps = &mut self.script.stamps;
+        stamps.resent += u64::from(resent);
+        stamps.between += u64::from(resent && !first);
+        stamps.shared += u64::from(line > 0 && stamp <= start);
+        stamps.across += u64::from(line > 0 && stamp <= start && start < covering);
     }
 
     fn main_part(&mut self) {
@@ -214,7 +259,7 @@ impl Author {
         if self.host && self.random.one_in(8) {
             self.set_windows();
         }
-        match self.random.below(40) {
+        match self.random.below(48) {
             0..=5 => self.begin(),
             6..=9 => self.put_one(),
             10..=12 => self.put_all(),
@@ -229,8 +274,39 @@ impl Author {
             36 => self.odd_format(),
             37 => self.branch(),
             38 => self.any_numbers(),
-            _ => self.damaged(),
+            39 => self.damaged(),
+            _ => self.whole_update(),
         }
+    }
+
+    /// An update from BEGIN to PUBLISH, of a few pages that are mostly there already; on the last line half the time.
+    fn whole_update(&mut self) {
+        let (n, ticket) = (
+            self.random.between(1, 3),
+            self.store().tickets.len() as u64 + 1,
+        );
+        self.say(format!("BEGIN,{n}"));
+        if self.store().tickets.len() as u64 != ticket {
+            return;
+        }
+        let line = match self.random.below(2) {
+            0 => self.store().lines.len() as u64 - 1,
+            _ => self.line(),
+        };
+        let most = self.store().last_size(line).min(4);
+        let f = self.random.between(0, most);
+        self.plans.insert(ticket, (line, f));
+        for i in self.empty_slots(ticket) {
+            self.put(ticket, i);
+        }
+        self.say(format!("WRITE,{line},{ticket},{f}"));
+        let update = self.store().update_of(ticket);
+        let left = update.map_or(0, |update| self.store().nodes_left(update));
+        for _ in 0..left {
+            self.say(format!("WEAVE,{ticket}"));
+        }
+        let minute = self.minute();
+        self.say(format!("PUBLISH,{line},{minute}"));
     }
 
     /// Mostly the number itself; now and then one near it, or far off.
@@ -324,20 +400,70 @@ impl Author {
         self.say(format!("BEGIN,{n}"));
     }
 
-    /// Page bytes, mostly of the right length; never for a line above 600 bytes.
-    fn page_bytes(&mut self) -> String {
+    /// For which line and first page a ticket's pages are put: drawn once, so that they can be put by what stands there.
+    fn plan(&mut self, ticket: u64) -> (u64, u64) {
+        if let Some(plan) = self.plans.get(&ticket) {
+            return *plan;
+        }
+        let line = self.line();
+        let size = self.store().last_size(line);
+        let plan = (line, self.random.between(0, size));
+        self.plans.insert(ticket, plan);
+        plan
+    }
+
+    /// What stands where page `i` of a ticket is to go: the bytes as last assigned on the line, or else as in an earlier
+    /// version. Past the blob's end, those of another page.
+    fn standing(&mut self, ticket: u64, i: u64, last: bool) -> Option<Vec<u8>> {
+        let (line, f) = self.plan(ticket);
+        let shown = self.store().lines[line as usize].shown.len() as u64;
+        let v = match last {
+            true => shown,
+            false => self.random.between(0, shown),
+        };
+        let size = self.store().size_in_pages(line, v);
+        if size == 0 {
+            return None;
+        }
+        let page = if f + i < size {
+            f + i
+        } else {
+            self.random.below(size)
+        };
+        self.store().page(line, v, page).map(<[u8]>::to_vec)
+    }
+
+    /// Page bytes, mostly of the right length; never for a line above 600 bytes. Half of the pages repeat bytes of the blob:
+    /// three in eight those that stand on their page at that time, one in eight those of an earlier version. One in eight
+    /// differs in one byte from what stands there, and the others are new.
+    fn page_bytes(&mut self, ticket: u64, i: u64) -> String {
         let s = self.store().page_size;
         let length = match self.random.below(40) {
             0 => self.random.below(270),
             1 => self.random.pick(&[0, 1, s - 1, s + 1, s / 2]),
             _ => s,
         };
-        let bytes: Vec<u8> = (0..length).map(|_| self.random.next() as u8).collect();
+        let kind = self.random.below(8);
+        let standing = match kind {
+            0..=4 if length == s => self.standing(ticket, i, kind != 3),
+            _ => None,
+        };
+        let bytes = match standing {
+            Some(mut bytes) => {
+                if kind == 4 {
+                    let at = self.random.pick(&[0, s / 2, s - 1]);
+                    bytes[at as usize] ^= 1 << self.random.below(8);
+                }
+                bytes
+            }
+            None => (0..length).map(|_| self.random.next() as u8).collect(),
+        };
         hexadecimal(&bytes)
     }
 
     fn put(&mut self, ticket: u64, i: u64) {
-        let (ticket, i, bytes) = (self.bent(ticket), self.bent(i), self.page_bytes());
+        let bytes = self.page_bytes(ticket, i);
+        let (ticket, i) = (self.bent(ticket), self.bent(i));
         self.say(format!("PUT,{ticket},{i},{bytes}"));
     }
 
@@ -367,14 +493,19 @@ impl Author {
             let slots = &store.tickets[ticket as usize - 1].slots;
             !slots.contains(&None) && store.update_of(ticket).is_none()
         });
-        let line = self.line();
+        let planned = !self.random.one_in(4);
+        let (line, first) = match planned {
+            true => self.plan(ticket),
+            false => (self.line(), 0),
+        };
         let size = self.store().last_size(line);
         let (line, ticket) = (self.bent(line), self.bent(ticket));
-        if self.random.one_in(3) {
+        if self.random.one_in(if planned { 8 } else { 3 }) {
             return self.say(format!("APPEND,{line},{ticket}"));
         }
         let f = match self.random.below(12) {
             0 => size + 1,
+            _ if planned => first,
             1..=3 => size,
             _ => self.random.between(0, size),
         };

@@ -106,20 +106,49 @@ pub struct Snapshot {
 
 /// Every published version of every line.
 pub fn snapshots(model: &store::Store) -> Vec<Vec<Snapshot>> {
-    let snapshot = |line, v| {
-        let mut bytes = vec![0; model.size(line, v)? as usize];
-        model.read(line, v, 0, bytes.len() as u64, &mut bytes)?;
-        let stamps = (0..model.size_in_pages(line, v)).map(|page| model.stamp(line, v, page));
-        let stamps = stamps.collect::<store::Answer<_>>()?;
-        Ok(Snapshot { bytes, stamps })
-    };
     let of_line = |line| {
-        let snapshots = (0..=model.recent(line)?).map(|v| snapshot(line, v));
-        snapshots.collect::<store::Answer<Vec<Snapshot>>>()
+        let mut snapshots: Vec<Snapshot> = vec![];
+        for v in 0..=model.recent(line)? {
+            let mut bytes = vec![0; model.size(line, v)? as usize];
+            model.read(line, v, 0, bytes.len() as u64, &mut bytes)?;
+            let stamps = stamps(v, &bytes, snapshots.last());
+            snapshots.push(Snapshot { bytes, stamps });
+        }
+        Ok(snapshots)
     };
     let lines = (0..model.lines.len() as u64).map(of_line);
     let lines: store::Answer<_> = lines.collect();
     lines.expect("every version up to the last published")
+}
+
+/// The stamps of a version's pages, by the version before: the page's stamp there where it has the same bytes, else the
+/// version itself.
+fn stamps(v: u64, bytes: &[u8], before: Option<&Snapshot>) -> Vec<u64> {
+    let stamp = |(page, bytes): (u64, &[u8])| {
+        let unchanged = |before: &&Snapshot| {
+            let old = before.part(page * PAGE_SIZE, PAGE_SIZE);
+            old == Answer::Bytes(bytes.to_vec())
+        };
+        let before = before.filter(unchanged);
+        before.map_or(v, |before| before.stamps[page as usize])
+    };
+    (0..)
+        .zip(bytes.chunks(PAGE_SIZE as usize))
+        .map(stamp)
+        .collect()
+}
+
+/// How many stamps of the published versions are below the newest version that covers their page.
+pub fn resent(model: &store::Store, snapshots: &[Vec<Snapshot>]) -> usize {
+    let mut resent = 0;
+    for (line, versions) in (0..).zip(snapshots) {
+        for (v, snapshot) in (0..).zip(versions) {
+            let stamps = (0..).zip(&snapshot.stamps);
+            let below = stamps.filter(|(page, stamp)| **stamp < model.covering(line, v, *page));
+            resent += below.count();
+        }
+    }
+    resent
 }
 
 impl Snapshot {

@@ -169,9 +169,10 @@ impl<'a> Writer<'a> {
             woven: vec![],
         });
         self.reach(Stage::Begun)?;
-        self.put_all(ticket, n)?;
+        let first = self.first();
+        self.put_all(ticket, n, first)?;
         self.reach(Stage::AllPut)?;
-        self.assign(ticket);
+        self.assign(ticket, first);
         self.reach(Stage::Assigned)?;
         self.weave_all(ticket)?;
         self.reach(Stage::AllWoven)?;
@@ -219,11 +220,32 @@ impl<'a> Writer<'a> {
         }
     }
 
-    fn put_all(&mut self, ticket: Ticket, n: u64) -> Result<(), Died> {
+    /// A page within what is published on its line, or the one right after it.
+    fn first(&mut self) -> u64 {
+        let recent = self.shared.recent(self.line).expect("a line");
+        let size = self.shared.size(self.line, recent);
+        let size = size.expect("a published version");
+        self.random.below(size / PAGE_SIZE + 1)
+    }
+
+    /// The bytes for a page: half the time those that are published there by now, so that pages are resent unchanged.
+    fn bytes(&mut self, page: u64) -> Vec<u8> {
+        let recent = self.shared.recent(self.line).expect("a line");
+        let page = PageIndex(page);
+        let published = self
+            .shared
+            .with_view(self.line, recent, page, <[u8]>::to_vec);
+        match published {
+            Ok(bytes) if self.random.one_in(2) => bytes,
+            _ => self.random.bytes(PAGE_SIZE as usize),
+        }
+    }
+
+    fn put_all(&mut self, ticket: Ticket, n: u64, first: u64) -> Result<(), Died> {
         let turn = self.random.below(n);
         for at in 0..n {
             let i = (at + turn) % n;
-            let bytes = self.random.bytes(PAGE_SIZE as usize);
+            let bytes = self.bytes(first + i);
             let (done, again) = (self.shared.put(ticket, i, &bytes), self.random.one_in(8));
             assert_eq!(done, Ok(()), "{ticket}");
             self.last(|update| update.pages[i as usize] = Some(bytes.clone()));
@@ -239,14 +261,11 @@ impl<'a> Writer<'a> {
         Ok(())
     }
 
-    /// A write within what is published, or right after it; or an append.
-    fn assign(&mut self, ticket: Ticket) {
-        let recent = self.shared.recent(self.line).expect("a line");
-        let size = self.shared.size(self.line, recent);
-        let size = size.expect("a published version");
+    /// A write where its pages were put for; or an append.
+    fn assign(&mut self, ticket: Ticket, first: u64) {
         let first = match self.random.below(8) {
             0 => None,
-            _ => Some(PageIndex(self.random.below(size / PAGE_SIZE + 1))),
+            _ => Some(PageIndex(first)),
         };
         let assigned = match first {
             Some(first) => self.shared.write(self.line, ticket, first),

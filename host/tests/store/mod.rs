@@ -61,7 +61,7 @@ impl Update {
 /// their places among all; and how many are published.
 pub struct Line {
     source: u64,
-    start: u64,
+    pub start: u64,
     pub shown: Vec<usize>,
     pub published: u64,
 }
@@ -277,11 +277,40 @@ impl Store {
         Ok(self.line(line)?.published)
     }
 
+    /// The lowest version of the line such that the page is in it and has the same bytes in every version from there to `v`.
     pub fn stamp(&self, line: u64, v: u64, page: u64) -> Answer<u64> {
         self.published(line, v)?;
         row(17, page >= self.size_in_pages(line, v))?;
+        let in_each = self.page_in_each(line, v, page);
+        let same_from = |w: &u64| {
+            let mut later = in_each[*w as usize..].iter();
+            later.all(|bytes| bytes.is_some() && *bytes == in_each[v as usize])
+        };
+        Ok((1..=v).find(same_from).expect("at the latest v itself"))
+    }
+
+    /// The newest version of a line up to `v` whose update covers the page.
+    pub fn covering(&self, line: u64, v: u64, page: u64) -> u64 {
         let newest = self.newest_meeting(line, v, page, 1);
-        Ok(newest.map_or(0, |update| update.version))
+        newest.map_or(0, |update| update.version)
+    }
+
+    /// A page's bytes in a version of a line, published or not; none where the version has no such page.
+    pub fn page(&self, line: u64, v: u64, page: u64) -> Option<&[u8]> {
+        *self.page_in_each(line, v, page).last()?
+    }
+
+    /// The same in each version from 0 to `v`: the updates applied in turn, to this page alone.
+    fn page_in_each(&self, line: u64, v: u64, page: u64) -> Vec<Option<&[u8]>> {
+        let (mut in_each, mut bytes) = (vec![None], None);
+        for update in (1..=v).filter_map(|w| self.shown(line, w)) {
+            let slots = &self.tickets[update.ticket as usize - 1].slots;
+            let put = page.checked_sub(update.f);
+            let put = put.and_then(|i| slots.get(i as usize));
+            bytes = put.map_or(bytes, |slot| slot.as_deref());
+            in_each.push(bytes);
+        }
+        in_each
     }
 
     /// Where the ticket stands among the tickets.

@@ -177,6 +177,58 @@ fn model_tree_leads_to_the_bytes_and_stamps() {
     }
 }
 
+/// The stamps of a page, version by version, as the request says them: on a branch too, and each against the bytes read.
+#[test]
+fn model_stamps_by_the_bytes() {
+    let mut store = Store::format(16, 64, 256, 32).expect("allowed");
+    let mut publish = |line, f, n, byte| {
+        let ticket = update(&mut store, line, n, f, byte);
+        weave_all(&mut store, ticket);
+        assert!(matches!(store.publish(line, 0), Ok(Now(_))));
+        if store.lines.len() == 1 && store.recent(0) == Ok(4) {
+            assert_eq!(store.branch(0, 3), Ok(1));
+        }
+    };
+    for byte in [1, 1, 2, 2] {
+        publish(0, Some(0), 2, byte);
+    }
+    publish(0, Some(1), 2, 2); // page 2 is new
+    publish(0, Some(0), 2, 1); // changed back
+    publish(1, Some(0), 2, 2); // as version 3, which it shares
+    publish(1, Some(1), 1, 7);
+    let stamps = |line, v| {
+        let pages = 0..store.size_in_pages(line, v);
+        let stamps = pages.map(|page| store.stamp(line, v, page));
+        stamps.collect::<Result<Vec<_>, _>>()
+    };
+    let due: [(u64, u64, &[u64]); 10] = [
+        (0, 1, &[1, 1]),
+        (0, 2, &[1, 1]),
+        (0, 3, &[3, 3]),
+        (0, 4, &[3, 3]),
+        (0, 5, &[3, 3, 5]),
+        (0, 6, &[6, 6, 5]),
+        (1, 2, &[1, 1]),
+        (1, 3, &[3, 3]),
+        (1, 4, &[3, 3]),
+        (1, 5, &[3, 5]),
+    ];
+    for (line, v, due) in due {
+        assert_eq!(stamps(line, v), Ok(due.to_vec()), "{line}, {v}");
+        for (page, stamp) in (0..).zip(due) {
+            let bytes = |w| {
+                let mut bytes = [0; 16];
+                let read = store.read(line, w, 16 * page, 16, &mut bytes);
+                read.map(|()| bytes)
+            };
+            assert!((*stamp..=v).all(|w| bytes(w) == bytes(v)));
+            assert_ne!(bytes(stamp - 1), bytes(v), "no lower one");
+        }
+    }
+    assert_eq!(store.stamp(0, 4, 2), Err(Refused(17)));
+    assert_eq!(store.covering(0, 4, 0), 4, "which is another matter");
+}
+
 #[test]
 fn model_refuses_a_blob_above_4096_pages() {
     let mut store = Store::format(16, 65_535, 131_072, 4_096).expect("allowed");

@@ -27,9 +27,10 @@ use Rattle.register.specs.declared.Record.{Record}
 use Rattle.register.proofs.Records.{newest-own-none, newest-own-met, newest-own-unmet}
 use Rattle.versions.specs.declared.Store.{Store}
 use Rattle.versions.specs.Store.{Areas, areasOf, lineIn, numberOn}
-use Rattle.walk.specs.FindPage.{placeAt, reachFrom}
-use Rattle.walk.specs.Descent.{orMost}
-use Rattle.walk.proofs.Descent.{reach-here, reach-none, from-root, from-past}
+use Rattle.descent.specs.Places.{orMost, placeAt}
+use Rattle.descent.proofs.Levels.{reach-here, reach-none}
+use Rattle.walk.specs.FindPage.{reachFrom}
+use Rattle.walk.proofs.FromRoot.{from-root, from-past}
 use Rattle.weave.specs.Weave.{olderNumber}
 use Rattle.model.specs.History.{updates}
 use Rattle.model.specs.Model.{Limits, Model, lineAt, history, numberIn}
@@ -57,7 +58,7 @@ module _ (us : List Update) (v a s : ℕ) where
   unfolding newest
   newest-unmet e = rw (e, newest)
 
-test-cases : (b : Bool) → (b ≡ true) ⊎ (b ≡ false)
+pub test-cases : (b : Bool) → (b ≡ true) ⊎ (b ≡ false)
 test-cases true = inl refl
 test-cases false = inr refl
 

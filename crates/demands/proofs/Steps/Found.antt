@@ -13,7 +13,7 @@ use lib.Pow.{pow-mono}
 use Rattle.pages.specs.Pages.{part}
 use Rattle.tree.specs.Tree.{Update, meets, update, rootHeight, heightOf}
 use Rattle.tree.specs.Place.{first, index, halvings}
-use Rattle.tree.specs.Walk.{hasNode, stampOf, reachBy, leafOf}
+use Rattle.tree.specs.Walk.{hasNode, leafVersion, reachBy, leafOf}
 use Rattle.tree.specs.declared.Found.the-variants.{Leaf}
 use Rattle.tree.proofs.First.{first-le}
 use Rattle.tree.proofs.Halved.{halved-small, index-halved}
@@ -23,8 +23,10 @@ use Rattle.tree.proofs.Root.{root-low}
 use Rattle.tree.proofs.Walk.{node-has, size-in-root}
 use Rattle.register.specs.Register.{partOf, updateOf, versionPart}
 use Rattle.register.specs.declared.Part.{Part}
-use Rattle.walk.specs.FindPage.{hasNodeBy, placeBy, placeIn as placeOn, placeAt, findPage, numberWithin, pageNumberOf}
-use Rattle.walk.proofs.Descent.{place-zero, from-root}
+use Rattle.descent.specs.Places.{hasNodeBy, placeBy, placeIn as placeOn, placeAt}
+use Rattle.descent.proofs.Places.{place-zero}
+use Rattle.walk.specs.FindPage.{findPage, numberWithin, pageNumberOf}
+use Rattle.walk.proofs.FromRoot.{from-root}
 use Rattle.model.specs.History.{versionAt, leafNumber, updateOf as toUpdate, updates}
 use Rattle.model.specs.InTurn.{blobAt}
 use Rattle.model.specs.Model.{Limits, Model, lineAt, updateAt, history, numberIn}
@@ -141,8 +143,8 @@ module _ (L : Limits) (m : Model) (S : Sound L m) (l : ℕ) (there : l < length 
     -- The walk on the image.
     pub find-page : findPage (areasImage L m) (numberIn (history m l) v) p
         ≡ Leaf
-        (record { 0 = numberIn (history m l) (stampOf (updates (history m l)) v p) })
-        (leafNumber (history m l) (stampOf (updates (history m l)) v p) p)
+        (record { 0 = numberIn (history m l) (leafVersion (updates (history m l)) v p) })
+        (leafNumber (history m l) (leafVersion (updates (history m l)) v p) p)
     unfolding findPage
     find-page =
         let us = updates (history m l) in
@@ -159,19 +161,19 @@ module _ (L : Limits) (m : Model) (S : Sound L m) (l : ℕ) (there : l < length 
         ∙ sym (walk-reach at area h c p (place-zero (registerImage L m)))
         ∙ walk-found L m S l there at v h′ places p r)
 
-    pub page-number : pageNumberOf (L .pages) (areasImage L m) (numberIn (history m l) v) p ≡ some (leafNumber (history m l) (stampOf (updates (history m l)) v p) p)
+    pub page-number : pageNumberOf (L .pages) (areasImage L m) (numberIn (history m l) v) p ≡ some (leafNumber (history m l) (leafVersion (updates (history m l)) v p) p)
     unfolding pageNumberOf
     page-number =
         rw (
           find-page,
-          lt-ltb (leafNumber (history m l) (stampOf (updates (history m l)) v p) p) (L .pages) (number-within L m S l there v p upto r),
+          lt-ltb (leafNumber (history m l) (leafVersion (updates (history m l)) v p) p) (L .pages) (number-within L m S l there v p upto r),
           numberWithin,
         )
 
     -- The bytes there are the page's.
-    pub view-bytes : part (pagesImage L m) (L .size * leafNumber (history m l) (stampOf (updates (history m l)) v p) p) (L .size) ≡ getD (blobAt (history m l) v) p []
+    pub view-bytes : part (pagesImage L m) (L .size * leafNumber (history m l) (leafVersion (updates (history m l)) v p) p) (L .size) ≡ getD (blobAt (history m l) v) p []
     unfolding pagesImage
     view-bytes =
         tab-part (L .size) (L .pages) (pageCell (L .size) (m .tickets)) (λ q z. cells-length L m S q)
-        (leafNumber (history m l) (stampOf (updates (history m l)) v p) p) (number-within L m S l there v p upto r)
+        (leafNumber (history m l) (leafVersion (updates (history m l)) v p) p) (number-within L m S l there v p upto r)
         ∙ page-found L m S l there v p upto r

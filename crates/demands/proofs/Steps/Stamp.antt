@@ -3,21 +3,24 @@
 use mathlib.Core.Path.{_≡_, ap, _∙_}
 use Prim.Native.Nat.{ℕ, _≤_, _<_}
 use native.Mathlib.Omega.{arith}
+use borrow.Author.Tests.{lt-ltb}
 use lib.ListN.{length}
-use Rattle.tree.specs.Walk.{stampOf}
+use Rattle.tree.specs.Walk.{leafVersion}
 use Rattle.table.specs.Table.{_or_, test, always, pageRows}
 use Rattle.versions.specs.Store.{numberOn, partOn}
 use Rattle.versions.specs.Size.{isThere, notThere, pagesIn}
-use Rattle.walk.specs.FindPage.{findPage, pageNumberOf, isLost}
-use Rattle.stamp.specs.Stamp.{stampNumber, versionFound, stamped}
+use Rattle.walk.specs.FindPage.{findPage, numberWithin, pageNumberOf, isLost}
+use Rattle.stamp.specs.Stamp.{stampNumber, stampBy, stamped}
 use Rattle.model.specs.Calls.{on, STAMP, stampIs, answers}
-use Rattle.model.specs.History.{versionAt, updates}
+use Rattle.model.specs.History.{versionAt, leafNumber, updates}
+use Rattle.model.specs.Stamp.{stampAt}
 use Rattle.model.specs.Model.{Limits, Model, lineAt, history, numberIn}
 use Rattle.model.specs.OnModel.{onLine, onModel, pageNumber}
 use Rattle.model.proofs.Sound.{Sound}
 use Rattle.model.proofs.SoundHistory.{line-history}
 use Rattle.model.proofs.Shown.{versions-length}
-use Rattle.model.proofs.Blob.{stamp-bounds}
+use Rattle.model.proofs.Blob.{leaf-bounds}
+use Rattle.model.proofs.Found.{number-within}
 use Rattle.model.proofs.Numbers.{number-version}
 use Rattle.model.proofs.Passed.{PagePassed, page-passed}
 use Rattle.model.proofs.Woven.{published-upto}
@@ -28,6 +31,7 @@ use Rattle.demands.proofs.Lines.{lines-in, line-in, number-on}
 use Rattle.demands.proofs.Readings.{answers-same, stamped-reads}
 use Rattle.demands.proofs.Steps.Numbers.{page-alike, image-number}
 use Rattle.demands.proofs.Steps.Found.{find-page, page-number}
+use Rattle.demands.proofs.Steps.Since.{since-leaf}
 use Rattle.demands.proofs.Steps.Size.{name-there, pages-in}
 
 -- ---- the number
@@ -59,19 +63,26 @@ stamp-says : (k n w : ℕ) → (k ≡ 0 → n ≡ w) → stampedAnswer (stamped 
 stamp-says k n w e = stamped-reads k n ∙ answers-same k (stampIs n) (stampIs w) (λ z. ap stampIs (e z))
 
 module _ (L : Limits) (m : Model) (S : Sound L m) (l v p : ℕ) where
-  -- The walk's number says the version that the model has.
-  version-found : PagePassed m l v p → versionFound (findPage (areasImage L m) (numberOn (storeImage L m) l v) p) ≡ stampOf (updates (history m l)) v p
-  version-found g =
+  -- From the leaf that the walk ends at the way down comes to the stamp that the model has.
+  stamp-found : PagePassed m l v p → stampBy (storeImage L m) (areasImage L m) l p (findPage (areasImage L m) (numberOn (storeImage L m) l v) p) ≡ stampAt (history m l) v p
+  stamp-found g =
+      let x = leafVersion (updates (history m l)) v p in
       let w = published-upto L m S l (g .line) v (g .published) in
-      let b = stamp-bounds L (history m l) (line-history L m S l (g .line)) v p (omega (arith, versions-length m l)) (g .inside) in
-      rw (number-on L m S l (g .line) v w, find-page L m S l (g .line) v p (g .published) (g .inside))
-      (number-version L m S l (stampOf (updates (history m l)) v p) (g .line) (b .above) (omega arith))
+      let b = leaf-bounds L (history m l) (line-history L m S l (g .line)) v p (omega (arith, versions-length m l)) (g .inside) in
+      rw (
+        number-on L m S l (g .line) v w,
+        find-page L m S l (g .line) v p (g .published) (g .inside),
+        number-version L m S l x (g .line) (b .above) (omega arith),
+        lt-ltb (leafNumber (history m l) x p) (L .pages) (number-within L m S l (g .line) v p w (g .inside)),
+        numberWithin,
+      )
+      (since-leaf L m S l (g .line) p v (g .published) (g .inside))
 
   pub stamp-step : onStore (image L m) (on l (STAMP v p)) ≡ (image L (onModel L m (on l (STAMP v p)) .0), onModel L m (on l (STAMP v p)) .1)
   unfolding onStore onLineOf onModel onLine
   stamp-step =
       rw (
         stamp-number L m S l v p,
-        stamp-says (pageNumber L m l v p) (versionFound (findPage (areasImage L m) (numberOn (storeImage L m) l v) p)) (stampOf (updates (history m l)) v p)
-            (λ z. version-found (page-passed L m l v p z)),
+        stamp-says (pageNumber L m l v p) (stampBy (storeImage L m) (areasImage L m) l p (findPage (areasImage L m) (numberOn (storeImage L m) l v) p)) (stampAt (history m l) v p)
+            (λ z. stamp-found (page-passed L m l v p z)),
       )

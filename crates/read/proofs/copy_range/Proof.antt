@@ -86,7 +86,7 @@ use Rattle.read.proofs.copy_range.Statement as stated
 use Rattle.read.proofs.copy_range.Code as code
 use Rattle.read.proofs.copy_range.Proof.Facts as Facts
 use denote.Memory.{pointee}
-use Rattle.walk.proofs.Generated.Through.{loan-of, loan-within, lend-ref, back-ref}
+use Rattle.descent.proofs.Generated.Through.{loan-of, loan-within, lend-ref, back-ref}
 use mathlib.Core.WellFounded.{WellFounded, InvImage·wf}
 use lib.WfN.{Nat·lt-wfRel}
 use Rattle.read.proofs.copy_range.Code.Mir as parts

@@ -138,7 +138,7 @@ use Rattle.read.proofs.read.Statement as stated
 use Rattle.read.proofs.read.Code as code
 use Rattle.read.proofs.read.Proof.Facts as Facts
 use denote.Memory.{pointee}
-use Rattle.walk.proofs.Generated.Through.{loan-of, loan-within, lend-ref, back-ref}
+use Rattle.descent.proofs.Generated.Through.{loan-of, loan-within, lend-ref, back-ref}
 use Rattle.read.proofs.read.Proof.Asks.{r1, r2, r3, r4, r5, r6, r7, r8, r9, r10, r11, buffer₁₁, r12, buffer₁₃, r14}
 
 abbrev stayed : Stays (read‴.ended .signature .params) (read‴.ended .kept)

@@ -72,7 +72,7 @@ use Rattle.read.proofs.some_lost.Statement as stated
 use Rattle.read.proofs.some_lost.Code as code
 use Rattle.read.proofs.some_lost.Proof.Facts as Facts
 use denote.Memory.{pointee}
-use Rattle.walk.proofs.Generated.Through.{loan-of, loan-within, lend-ref, back-ref}
+use Rattle.descent.proofs.Generated.Through.{loan-of, loan-within, lend-ref, back-ref}
 use mathlib.Core.WellFounded.{WellFounded, InvImage·wf}
 use lib.WfN.{Nat·lt-wfRel}
 use Rattle.read.proofs.some_lost.Code.Mir as parts

@@ -95,19 +95,29 @@ use Rattle.stamp.proofs.Generated.Call.page_refusal as Call-page-refusa
 use Rattle.stamp.proofs.page_refusal.Symbol as def-page-refusal
 use Rattle.stamp.proofs.page_refusal.Symbol.{name as #page-refusal}
 use Rattle.stamp.proofs.page_refusal.Met as thm-page-refusal
-use Rattle.stamp.proofs.Generated.Say.stamped_by as stamped-by″
-use Rattle.stamp.proofs.Generated.Call.stamped_by as Call-stamped-by
-use Rattle.stamp.proofs.stamped_by.Symbol as def-stamped-by
-use Rattle.stamp.proofs.stamped_by.Symbol.{name as #stamped-by}
-use Rattle.stamp.proofs.stamped_by.Met as thm-stamped-by
+use Rattle.stamp.proofs.Generated.Say.version_found as version-found″
+use Rattle.stamp.proofs.Generated.Call.version_found as Call-version-found
+use Rattle.stamp.proofs.version_found.Symbol as def-version-found
+use Rattle.stamp.proofs.version_found.Symbol.{name as #version-found}
+use Rattle.stamp.proofs.version_found.Met as thm-version-found
+use Rattle.walk.proofs.Generated.Say.number_found as number-found″
+use Rattle.walk.proofs.Generated.Call.number_found as Call-number-found
+use Rattle.walk.proofs.number_found.Symbol as def-number-found
+use Rattle.walk.proofs.number_found.Symbol.{name as #number-found}
+use Rattle.walk.proofs.number_found.Met as thm-number-found
+use Rattle.stamp.proofs.Generated.Say.since as since″
+use Rattle.stamp.proofs.Generated.Call.since as Call-since
+use Rattle.stamp.proofs.since.Symbol as def-since
+use Rattle.stamp.proofs.since.Symbol.{name as #since}
+use Rattle.stamp.proofs.since.Met as thm-since
 use Rattle.stamp.proofs.stamp.Key.{name as #self}
 use Rattle.stamp.proofs.stamp as stamp‴
 use Rattle.stamp.proofs.stamp.Statement as stated
 use Rattle.stamp.proofs.stamp.Code as code
 use Rattle.stamp.proofs.stamp.Proof.Facts as Facts
 use denote.Memory.{pointee}
-use Rattle.walk.proofs.Generated.Through.{loan-of, loan-within, lend-ref, back-ref}
-use Rattle.stamp.proofs.stamp.Proof.Asks.{r1, r2, r3, r4, r5, r6, r7}
+use Rattle.descent.proofs.Generated.Through.{loan-of, loan-within, lend-ref, back-ref}
+use Rattle.stamp.proofs.stamp.Proof.Asks.{r1, r2, r3, r4, r5, r6, r8}
 
 abbrev stayed : Stays (stamp‴.ended .signature .params) (stamp‴.ended .kept)
 stayed = (stay-none (λ _. Store′.row) yes, (stay-none-slice (0 ∷ []) tt (plain (λ _. u8)) yes, (stay-none-slice (1 ∷ []) tt (plain (λ _. u32)) yes, (stay-none-slice (2 ∷ []) tt (plain (λ _. Record′.row)) yes, (stay-none (λ _. Line′.row) yes, (stay-none (λ _. Version′.row) yes, (stay-none (λ _. PageIndex′.row) yes, tt)))))))
@@ -130,56 +140,71 @@ module _ {M : Type 1} (𝓤 : URA M) (H : Heap 𝓤) (A : Atoms 𝓤) (W : Given
       qed W (‵ (flft κ·pages q·pages) ∷ ‵ (ShrAt u8 κ·pages b·pages o·pages γ·pages (length pages) pages) ∷ ‵ (flft κ·nodes q·nodes) ∷ ‵ (ShrAt u32 κ·nodes b·nodes o·nodes γ·nodes (length nodes) nodes) ∷ ‵ (flft κ·register q·register) ∷ ‵ (ShrAt Record′.row κ·register b·register o·register γ·register (length register) register) ∷ []) ∵ suffices ! _ (ends-at 𝓤 H A stamp‴.ended stayed (stamp‴.clauses 𝓤 H A mem run) W bound (Stamped′.mach r) r (tt, (tt, (tt, (tt, (tt, (tt, (tt, tt))))))) (tt, (tt, (tt, (tt, (tt, (tt, (tt, tt)))))))) $ says ! said $
       nothing ! $ move ! (5 ∷ 0 ∷ []) $ join ! $ move ! (3 ∷ 0 ∷ []) $ join ! $ move ! (1 ∷ 0 ∷ []) $ join ! $ frame ! $ nothing ! $ owned ! PageIndex′.row (Is PageIndex′.row) (PageIndex′.makes 𝓤 H A) page _ ok·page $ fjoin ! $ owned ! Version′.row (Is Version′.row) (Version′.makes 𝓤 H A) x-v _ ok·x-v $ fjoin ! $ owned ! Line′.row (Is Line′.row) (Line′.makes 𝓤 H A) x-l _ ok·x-l $ fjoin ! $ move ! (3 ∷ 0 ∷ []) $ fjoin ! $ move ! (2 ∷ 0 ∷ []) $ fjoin ! $ move ! (1 ∷ 0 ∷ []) $ fjoin ! $ owned ! Store′.row (Is Store′.row) (Store′.makes 𝓤 H A) s _ ok·s $ fjoin ! $ frame ! $ owned ! Stamped′.row (Is Stamped′.row) (Stamped′.makes 𝓤 H A) r _ ok·r $ done !
 
-  walk : (𝓣 : Tables 𝓤 H) (known-lengths-of : Triple 𝓤 (𝓣 .C #lengths-of) (Call-lengths-of.Asked 𝓤 H A mem run)) (known-number-on : Triple 𝓤 (𝓣 .C #number-on) (Call-number-on.Asked 𝓤 H A mem run)) (known-version-part : Triple 𝓤 (𝓣 .C #version-part) (Call-version-part.Asked 𝓤 H A mem run)) (known-find-page : Triple 𝓤 (𝓣 .C #find-page) (Call-find-page.Asked 𝓤 H A mem run)) (known-snapshot-refusal : Triple 𝓤 (𝓣 .C #snapshot-refusal) (Call-snapshot-refusal.Asked 𝓤 H A mem run)) (known-page-refusal : Triple 𝓤 (𝓣 .C #page-refusal) (Call-page-refusal.Asked 𝓤 H A mem run)) (known-stamped-by : Triple 𝓤 (𝓣 .C #stamped-by) (Call-stamped-by.Asked 𝓤 H A mem run)) → ent 𝓤 (onEntry 𝓤 H A stamp‴.signature (κ·pages, (κ·nodes, (κ·register, tt))) (q·pages, (q·nodes, (q·register, tt))) all-args all-vals)
+  walk : (𝓣 : Tables 𝓤 H) (known-lengths-of : Triple 𝓤 (𝓣 .C #lengths-of) (Call-lengths-of.Asked 𝓤 H A mem run)) (known-number-on : Triple 𝓤 (𝓣 .C #number-on) (Call-number-on.Asked 𝓤 H A mem run)) (known-version-part : Triple 𝓤 (𝓣 .C #version-part) (Call-version-part.Asked 𝓤 H A mem run)) (known-find-page : Triple 𝓤 (𝓣 .C #find-page) (Call-find-page.Asked 𝓤 H A mem run)) (known-snapshot-refusal : Triple 𝓤 (𝓣 .C #snapshot-refusal) (Call-snapshot-refusal.Asked 𝓤 H A mem run)) (known-page-refusal : Triple 𝓤 (𝓣 .C #page-refusal) (Call-page-refusal.Asked 𝓤 H A mem run)) (known-version-found : Triple 𝓤 (𝓣 .C #version-found) (Call-version-found.Asked 𝓤 H A mem run)) (known-number-found : Triple 𝓤 (𝓣 .C #number-found) (Call-number-found.Asked 𝓤 H A mem run)) (known-since : Triple 𝓤 (𝓣 .C #since) (Call-since.Asked 𝓤 H A mem run)) → ent 𝓤 (onEntry 𝓤 H A stamp‴.signature (κ·pages, (κ·nodes, (κ·register, tt))) (q·pages, (q·nodes, (q·register, tt))) all-args all-vals)
       (WpFn 𝓤 H (𝓣 .C) (𝓣 .Λ) code.function (Store′.mach s ∷ sliceVal (b·pages, o·pages) (length pages) ∷ sliceVal (b·nodes, o·nodes) (length nodes) ∷ sliceVal (b·register, o·register) (length register) ∷ Line′.mach x-l ∷ Version′.mach x-v ∷ PageIndex′.mach page ∷ []) Post)
-  walk 𝓣 known-lengths-of known-number-on known-version-part known-find-page known-snapshot-refusal known-page-refusal known-stamped-by =
+  walk 𝓣 known-lengths-of known-number-on known-version-part known-find-page known-snapshot-refusal known-page-refusal known-version-found known-number-found known-since =
       qed W ((‵ (flft κ·pages q·pages) ⊛ ‵ (flft κ·nodes q·nodes) ⊛ ‵ (flft κ·register q·register) ⊛ ‵ ftrue) ∷ ‵ (owns (Store′.row ∷ ShrSlice (named 0) κ·pages u8 ∷ ShrSlice (named 0) κ·nodes u32 ∷ ShrSlice (named 0) κ·register Record′.row ∷ Line′.row ∷ Version′.row ∷ PageIndex′.row ∷ []) all-args all-vals) ∷ []) ∵ enter ! (𝓣 .C) (𝓣 .Λ) code.function (Store′.mach s ∷ sliceVal (b·pages, o·pages) (length pages) ∷ sliceVal (b·nodes, o·nodes) (length nodes) ∷ sliceVal (b·register, o·register) (length register) ∷ Line′.mach x-l ∷ Version′.mach x-v ∷ PageIndex′.mach page ∷ []) _ $
-      alloc1 ! (λ l₀. alloc1 ! (λ l₁. alloc1 ! (λ l₂. alloc1 ! (λ l₃. alloc1 ! (λ l₄. alloc1 ! (λ l₅. alloc1 ! (λ l₆. alloc1 ! (λ l₇. alloc1 ! (λ l₈. alloc1 ! (λ l₉. alloc1 ! (λ l₁₀. alloc1 ! (λ l₁₁. alloc1 ! (λ l₁₂. alloc1 ! (λ l₁₃. alloc1 ! (λ l₁₄. alloc1 ! (λ l₁₅. alloc1 ! (λ l₁₆. alloc1 ! (λ l₁₇. alloc1 ! (λ l₁₈. alloc1 ! (λ l₁₉. alloc0 ! $ params1 ! $
-      pass1 ! (init ! 36 refl (Store′.typed 𝓤 H A W s ok·s)) $ pass1 ! (init ! 34 refl (tt, (tt, (record { fits = room·pages .0 }, tt)))) $ pass1 ! (init ! 32 refl (tt, (tt, (record { fits = room·nodes .0 }, tt)))) $ pass1 ! (init ! 30 refl (tt, (tt, (record { fits = room·register .0 }, tt)))) $ pass1 ! (init ! 28 refl (Line′.typed 𝓤 H A W x-l ok·x-l)) $ pass1 ! (init ! 26 refl (Version′.typed 𝓤 H A W x-v ok·x-v)) $ pass1 ! (init ! 24 refl (PageIndex′.typed 𝓤 H A W page ok·page)) $ pass0 ! $
-      move ! (41 ∷ []) $ fsplit ! $ drop ! $ fsplit ! $ move ! (1 ∷ []) $ fsplit ! $ move ! (1 ∷ []) $ fsplit ! $ move ! (1 ∷ []) $ fsplit ! $ drop ! $ fsplit ! $ drop ! $ fsplit ! $ drop ! $ drop ! $ move ! (43 ∷ []) $ split ! $ move ! (1 ∷ []) $ split ! $ move ! (1 ∷ []) $ split ! $ move ! (1 ∷ []) $ drop ! $ move ! (2 ∷ 5 ∷ 1 ∷ 4 ∷ 0 ∷ 3 ∷ []) $
-      assigns ! (of-opd ! (load ! (from ! (stop !)) (look ! 38 refl))) (from ! (stop !)) (init ! 28 refl (tt, (tt, (record { fits = room·nodes .0 }, tt)))) $
-      assigns ! (of-opd ! (load ! (from ! (stop !)) (look ! 36 refl))) (from ! (stop !)) (init ! 26 refl (tt, (tt, (record { fits = room·register .0 }, tt)))) $
-      assigns ! (of-opd ! (load ! (from ! (stop !)) (look ! 28 refl))) (from ! (stop !)) (init ! 14 refl (tt, (tt, (record { fits = room·nodes .0 }, tt)))) $
-      assigns ! (of-opd ! (load ! (from ! (stop !)) (look ! 26 refl))) (from ! (stop !)) (init ! 12 refl (tt, (tt, (record { fits = room·register .0 }, tt)))) $
-      Call-lengths-of.calls ! mem run (fmOf 𝓤 H (W .laws) 𝓣) known-lengths-of κ·pages q·pages b·pages o·pages γ·pages (length pages) pages κ·nodes q·nodes b·nodes o·nodes γ·nodes (length nodes) nodes κ·register q·register b·register o·register γ·register (length register) register (and-then ! (load ! (from ! (stop !)) (look ! 38 refl)) (and-then ! (load ! (from ! (stop !)) (look ! 12 refl)) (and-then ! (load ! (from ! (stop !)) (look ! 10 refl)) (no-more !))))
-      (λ ok·1. land ! (from ! (stop !)) (init ! 24 refl (Lengths′.typed 𝓤 H A W (r1 s pages nodes register x-l x-v page) ok·1)) $
-      here ! (‵ (flft κ·pages q·pages) ∷ ‵ (ShrAt u8 κ·pages b·pages o·pages γ·pages (length pages) pages) ∷ ‵ (flft κ·nodes q·nodes) ∷ ‵ (ShrAt u32 κ·nodes b·nodes o·nodes γ·nodes (length nodes) nodes) ∷ ‵ (flft κ·register q·register) ∷ ‵ (ShrAt Record′.row κ·register b·register o·register γ·register (length register) register) ∷ empty (tyInt w64) l₁₉ (empty (tyRef erased imm (sliceTy (tyRef erased imm (pointee (Record′.row .written))))) l₁₈ (empty (tyRef erased imm (sliceTy (tyRef erased imm (pointee (u32 .written))))) l₁₇ (holds (sliceTy (tyRef erased imm (pointee (Record′.row .written)))) l₁₆ (sliceVal (b·register, o·register) (length register)) (holds (sliceTy (tyRef erased imm (pointee (u32 .written)))) l₁₅ (sliceVal (b·nodes, o·nodes) (length nodes)) (empty (tyInt w64) l₁₄ (empty (tyAt (code.function .locals) 13) l₁₃ (empty (tyAt (code.function .locals) 12) l₁₂ (empty (tyInt w64) l₁₁ (holds (tyAt (code.function .locals) 10) l₁₀ (Lengths′.mach (r1 s pages nodes register x-l x-v page)) (holds (sliceTy (tyRef erased imm (pointee (Record′.row .written)))) l₉ (sliceVal (b·register, o·register) (length register)) (holds (sliceTy (tyRef erased imm (pointee (u32 .written)))) l₈ (sliceVal (b·nodes, o·nodes) (length nodes)) (holds (tyAt (code.function .locals) 7) l₇ (PageIndex′.mach page) (holds (tyAt (code.function .locals) 6) l₆ (Version′.mach x-v) (holds (tyAt (code.function .locals) 5) l₅ (Line′.mach x-l) (holds (sliceTy (tyRef (named 2) imm (pointee (Record′.row .written)))) l₄ (sliceVal (b·register, o·register) (length register)) (holds (sliceTy (tyRef (named 1) imm (pointee (u32 .written)))) l₃ (sliceVal (b·nodes, o·nodes) (length nodes)) (holds (sliceTy (tyRef (named 0) imm (pointee (u8 .written)))) l₂ (sliceVal (b·pages, o·pages) (length pages)) (holds (tyAt (code.function .locals) 1) l₁ (Store′.mach s) (empty (tyAt (code.function .locals) 0) l₀ [])))))))))))))))))))) $
-      Call-number-on.calls ! mem run (fmOf 𝓤 H (W .laws) 𝓣) known-number-on s x-l x-v ok·s ok·x-l ok·x-v (and-then ! (load ! (from ! (stop !)) (look ! 43 refl)) (and-then ! (load ! (from ! (stop !)) (look ! 35 refl)) (and-then ! (load ! (from ! (stop !)) (look ! 33 refl)) (no-more !))))
-      (λ ok·2. land ! (from ! (stop !)) (init ! 22 refl (tt, record { fits = ok·2 .1 })) $
-      here ! (‵ (flft κ·pages q·pages) ∷ ‵ (ShrAt u8 κ·pages b·pages o·pages γ·pages (length pages) pages) ∷ ‵ (flft κ·nodes q·nodes) ∷ ‵ (ShrAt u32 κ·nodes b·nodes o·nodes γ·nodes (length nodes) nodes) ∷ ‵ (flft κ·register q·register) ∷ ‵ (ShrAt Record′.row κ·register b·register o·register γ·register (length register) register) ∷ empty (tyInt w64) l₁₉ (empty (tyRef erased imm (sliceTy (tyRef erased imm (pointee (Record′.row .written))))) l₁₈ (empty (tyRef erased imm (sliceTy (tyRef erased imm (pointee (u32 .written))))) l₁₇ (holds (sliceTy (tyRef erased imm (pointee (Record′.row .written)))) l₁₆ (sliceVal (b·register, o·register) (length register)) (holds (sliceTy (tyRef erased imm (pointee (u32 .written)))) l₁₅ (sliceVal (b·nodes, o·nodes) (length nodes)) (empty (tyInt w64) l₁₄ (empty (tyAt (code.function .locals) 13) l₁₃ (empty (tyAt (code.function .locals) 12) l₁₂ (holds (tyInt w64) l₁₁ (vint w64 (r2 s pages nodes register x-l x-v page)) (holds (tyAt (code.function .locals) 10) l₁₀ (Lengths′.mach (r1 s pages nodes register x-l x-v page)) (holds (sliceTy (tyRef erased imm (pointee (Record′.row .written)))) l₉ (sliceVal (b·register, o·register) (length register)) (holds (sliceTy (tyRef erased imm (pointee (u32 .written)))) l₈ (sliceVal (b·nodes, o·nodes) (length nodes)) (holds (tyAt (code.function .locals) 7) l₇ (PageIndex′.mach page) (holds (tyAt (code.function .locals) 6) l₆ (Version′.mach x-v) (holds (tyAt (code.function .locals) 5) l₅ (Line′.mach x-l) (holds (sliceTy (tyRef (named 2) imm (pointee (Record′.row .written)))) l₄ (sliceVal (b·register, o·register) (length register)) (holds (sliceTy (tyRef (named 1) imm (pointee (u32 .written)))) l₃ (sliceVal (b·nodes, o·nodes) (length nodes)) (holds (sliceTy (tyRef (named 0) imm (pointee (u8 .written)))) l₂ (sliceVal (b·pages, o·pages) (length pages)) (holds (tyAt (code.function .locals) 1) l₁ (Store′.mach s) (empty (tyAt (code.function .locals) 0) l₀ [])))))))))))))))))))) $
-      assigns ! (of-opd ! (load ! (from ! (stop !)) (look ! 26 refl))) (from ! (stop !)) (store ! 12 refl (tt, (tt, (record { fits = room·register .0 }, tt)))) $
+      alloc1 ! (λ l₀. alloc1 ! (λ l₁. alloc1 ! (λ l₂. alloc1 ! (λ l₃. alloc1 ! (λ l₄. alloc1 ! (λ l₅. alloc1 ! (λ l₆. alloc1 ! (λ l₇. alloc1 ! (λ l₈. alloc1 ! (λ l₉. alloc1 ! (λ l₁₀. alloc1 ! (λ l₁₁. alloc1 ! (λ l₁₂. alloc1 ! (λ l₁₃. alloc1 ! (λ l₁₄. alloc1 ! (λ l₁₅. alloc1 ! (λ l₁₆. alloc1 ! (λ l₁₇. alloc1 ! (λ l₁₈. alloc1 ! (λ l₁₉. alloc1 ! (λ l₂₀. alloc1 ! (λ l₂₁. alloc1 ! (λ l₂₂. alloc0 ! $ params1 ! $
+      pass1 ! (init ! 42 refl (Store′.typed 𝓤 H A W s ok·s)) $ pass1 ! (init ! 40 refl (tt, (tt, (record { fits = room·pages .0 }, tt)))) $ pass1 ! (init ! 38 refl (tt, (tt, (record { fits = room·nodes .0 }, tt)))) $ pass1 ! (init ! 36 refl (tt, (tt, (record { fits = room·register .0 }, tt)))) $ pass1 ! (init ! 34 refl (Line′.typed 𝓤 H A W x-l ok·x-l)) $ pass1 ! (init ! 32 refl (Version′.typed 𝓤 H A W x-v ok·x-v)) $ pass1 ! (init ! 30 refl (PageIndex′.typed 𝓤 H A W page ok·page)) $ pass0 ! $
+      move ! (47 ∷ []) $ fsplit ! $ drop ! $ fsplit ! $ move ! (1 ∷ []) $ fsplit ! $ move ! (1 ∷ []) $ fsplit ! $ move ! (1 ∷ []) $ fsplit ! $ drop ! $ fsplit ! $ drop ! $ fsplit ! $ drop ! $ drop ! $ move ! (49 ∷ []) $ split ! $ move ! (1 ∷ []) $ split ! $ move ! (1 ∷ []) $ split ! $ move ! (1 ∷ []) $ drop ! $ move ! (2 ∷ 5 ∷ 1 ∷ 4 ∷ 0 ∷ 3 ∷ []) $
+      assigns ! (of-opd ! (load ! (from ! (stop !)) (look ! 44 refl))) (from ! (stop !)) (init ! 34 refl (tt, (tt, (record { fits = room·nodes .0 }, tt)))) $
+      assigns ! (of-opd ! (load ! (from ! (stop !)) (look ! 42 refl))) (from ! (stop !)) (init ! 32 refl (tt, (tt, (record { fits = room·register .0 }, tt)))) $
+      assigns ! (of-opd ! (load ! (from ! (stop !)) (look ! 34 refl))) (from ! (stop !)) (init ! 20 refl (tt, (tt, (record { fits = room·nodes .0 }, tt)))) $
+      assigns ! (of-opd ! (load ! (from ! (stop !)) (look ! 32 refl))) (from ! (stop !)) (init ! 18 refl (tt, (tt, (record { fits = room·register .0 }, tt)))) $
+      Call-lengths-of.calls ! mem run (fmOf 𝓤 H (W .laws) 𝓣) known-lengths-of κ·pages q·pages b·pages o·pages γ·pages (length pages) pages κ·nodes q·nodes b·nodes o·nodes γ·nodes (length nodes) nodes κ·register q·register b·register o·register γ·register (length register) register (and-then ! (load ! (from ! (stop !)) (look ! 44 refl)) (and-then ! (load ! (from ! (stop !)) (look ! 18 refl)) (and-then ! (load ! (from ! (stop !)) (look ! 16 refl)) (no-more !))))
+      (λ ok·1. land ! (from ! (stop !)) (init ! 30 refl (Lengths′.typed 𝓤 H A W (r1 s pages nodes register x-l x-v page) ok·1)) $
+      here ! (‵ (flft κ·pages q·pages) ∷ ‵ (ShrAt u8 κ·pages b·pages o·pages γ·pages (length pages) pages) ∷ ‵ (flft κ·nodes q·nodes) ∷ ‵ (ShrAt u32 κ·nodes b·nodes o·nodes γ·nodes (length nodes) nodes) ∷ ‵ (flft κ·register q·register) ∷ ‵ (ShrAt Record′.row κ·register b·register o·register γ·register (length register) register) ∷ empty (tyAt (code.function .locals) 22) l₂₂ (empty (tyAt (code.function .locals) 21) l₂₁ (empty tyBool l₂₀ (empty (tyInt w64) l₁₉ (empty (tyRef erased imm (sliceTy (tyRef erased imm (pointee (Record′.row .written))))) l₁₈ (empty (tyRef erased imm (sliceTy (tyRef erased imm (pointee (u32 .written))))) l₁₇ (holds (sliceTy (tyRef erased imm (pointee (Record′.row .written)))) l₁₆ (sliceVal (b·register, o·register) (length register)) (holds (sliceTy (tyRef erased imm (pointee (u32 .written)))) l₁₅ (sliceVal (b·nodes, o·nodes) (length nodes)) (empty (tyInt w64) l₁₄ (empty (tyAt (code.function .locals) 13) l₁₃ (empty (tyAt (code.function .locals) 12) l₁₂ (empty (tyInt w64) l₁₁ (holds (tyAt (code.function .locals) 10) l₁₀ (Lengths′.mach (r1 s pages nodes register x-l x-v page)) (holds (sliceTy (tyRef erased imm (pointee (Record′.row .written)))) l₉ (sliceVal (b·register, o·register) (length register)) (holds (sliceTy (tyRef erased imm (pointee (u32 .written)))) l₈ (sliceVal (b·nodes, o·nodes) (length nodes)) (holds (tyAt (code.function .locals) 7) l₇ (PageIndex′.mach page) (holds (tyAt (code.function .locals) 6) l₆ (Version′.mach x-v) (holds (tyAt (code.function .locals) 5) l₅ (Line′.mach x-l) (holds (sliceTy (tyRef (named 2) imm (pointee (Record′.row .written)))) l₄ (sliceVal (b·register, o·register) (length register)) (holds (sliceTy (tyRef (named 1) imm (pointee (u32 .written)))) l₃ (sliceVal (b·nodes, o·nodes) (length nodes)) (holds (sliceTy (tyRef (named 0) imm (pointee (u8 .written)))) l₂ (sliceVal (b·pages, o·pages) (length pages)) (holds (tyAt (code.function .locals) 1) l₁ (Store′.mach s) (empty (tyAt (code.function .locals) 0) l₀ []))))))))))))))))))))))) $
+      Call-number-on.calls ! mem run (fmOf 𝓤 H (W .laws) 𝓣) known-number-on s x-l x-v ok·s ok·x-l ok·x-v (and-then ! (load ! (from ! (stop !)) (look ! 49 refl)) (and-then ! (load ! (from ! (stop !)) (look ! 41 refl)) (and-then ! (load ! (from ! (stop !)) (look ! 39 refl)) (no-more !))))
+      (λ ok·2. land ! (from ! (stop !)) (init ! 28 refl (tt, record { fits = ok·2 .1 })) $
+      here ! (‵ (flft κ·pages q·pages) ∷ ‵ (ShrAt u8 κ·pages b·pages o·pages γ·pages (length pages) pages) ∷ ‵ (flft κ·nodes q·nodes) ∷ ‵ (ShrAt u32 κ·nodes b·nodes o·nodes γ·nodes (length nodes) nodes) ∷ ‵ (flft κ·register q·register) ∷ ‵ (ShrAt Record′.row κ·register b·register o·register γ·register (length register) register) ∷ empty (tyAt (code.function .locals) 22) l₂₂ (empty (tyAt (code.function .locals) 21) l₂₁ (empty tyBool l₂₀ (empty (tyInt w64) l₁₉ (empty (tyRef erased imm (sliceTy (tyRef erased imm (pointee (Record′.row .written))))) l₁₈ (empty (tyRef erased imm (sliceTy (tyRef erased imm (pointee (u32 .written))))) l₁₇ (holds (sliceTy (tyRef erased imm (pointee (Record′.row .written)))) l₁₆ (sliceVal (b·register, o·register) (length register)) (holds (sliceTy (tyRef erased imm (pointee (u32 .written)))) l₁₅ (sliceVal (b·nodes, o·nodes) (length nodes)) (empty (tyInt w64) l₁₄ (empty (tyAt (code.function .locals) 13) l₁₃ (empty (tyAt (code.function .locals) 12) l₁₂ (holds (tyInt w64) l₁₁ (vint w64 (r2 s pages nodes register x-l x-v page)) (holds (tyAt (code.function .locals) 10) l₁₀ (Lengths′.mach (r1 s pages nodes register x-l x-v page)) (holds (sliceTy (tyRef erased imm (pointee (Record′.row .written)))) l₉ (sliceVal (b·register, o·register) (length register)) (holds (sliceTy (tyRef erased imm (pointee (u32 .written)))) l₈ (sliceVal (b·nodes, o·nodes) (length nodes)) (holds (tyAt (code.function .locals) 7) l₇ (PageIndex′.mach page) (holds (tyAt (code.function .locals) 6) l₆ (Version′.mach x-v) (holds (tyAt (code.function .locals) 5) l₅ (Line′.mach x-l) (holds (sliceTy (tyRef (named 2) imm (pointee (Record′.row .written)))) l₄ (sliceVal (b·register, o·register) (length register)) (holds (sliceTy (tyRef (named 1) imm (pointee (u32 .written)))) l₃ (sliceVal (b·nodes, o·nodes) (length nodes)) (holds (sliceTy (tyRef (named 0) imm (pointee (u8 .written)))) l₂ (sliceVal (b·pages, o·pages) (length pages)) (holds (tyAt (code.function .locals) 1) l₁ (Store′.mach s) (empty (tyAt (code.function .locals) 0) l₀ []))))))))))))))))))))))) $
+      assigns ! (of-opd ! (load ! (from ! (stop !)) (look ! 32 refl))) (from ! (stop !)) (store ! 18 refl (tt, (tt, (record { fits = room·register .0 }, tt)))) $
       move ! (4 ∷ 5 ∷ []) $
-      Call-version-part.calls ! mem run (fmOf 𝓤 H (W .laws) 𝓣) known-version-part κ·register q·register b·register o·register γ·register (length register) register (r2 s pages nodes register x-l x-v page) ok·2 (and-then ! (load ! (from ! (stop !)) (look ! 12 refl)) (and-then ! (load ! (from ! (stop !)) (look ! 22 refl)) (no-more !)))
-      (λ ok·3. move ! (2 ∷ 3 ∷ 4 ∷ 5 ∷ 0 ∷ 1 ∷ []) $ land ! (from ! (stop !)) (init ! 20 refl (Part′.typed 𝓤 H A W (r3 s pages nodes register x-l x-v page) ok·3)) $
-      here ! (‵ (flft κ·pages q·pages) ∷ ‵ (ShrAt u8 κ·pages b·pages o·pages γ·pages (length pages) pages) ∷ ‵ (flft κ·nodes q·nodes) ∷ ‵ (ShrAt u32 κ·nodes b·nodes o·nodes γ·nodes (length nodes) nodes) ∷ ‵ (flft κ·register q·register) ∷ ‵ (ShrAt Record′.row κ·register b·register o·register γ·register (length register) register) ∷ empty (tyInt w64) l₁₉ (empty (tyRef erased imm (sliceTy (tyRef erased imm (pointee (Record′.row .written))))) l₁₈ (empty (tyRef erased imm (sliceTy (tyRef erased imm (pointee (u32 .written))))) l₁₇ (holds (sliceTy (tyRef erased imm (pointee (Record′.row .written)))) l₁₆ (sliceVal (b·register, o·register) (length register)) (holds (sliceTy (tyRef erased imm (pointee (u32 .written)))) l₁₅ (sliceVal (b·nodes, o·nodes) (length nodes)) (empty (tyInt w64) l₁₄ (empty (tyAt (code.function .locals) 13) l₁₃ (holds (tyAt (code.function .locals) 12) l₁₂ (Part′.mach (r3 s pages nodes register x-l x-v page)) (holds (tyInt w64) l₁₁ (vint w64 (r2 s pages nodes register x-l x-v page)) (holds (tyAt (code.function .locals) 10) l₁₀ (Lengths′.mach (r1 s pages nodes register x-l x-v page)) (holds (sliceTy (tyRef erased imm (pointee (Record′.row .written)))) l₉ (sliceVal (b·register, o·register) (length register)) (holds (sliceTy (tyRef erased imm (pointee (u32 .written)))) l₈ (sliceVal (b·nodes, o·nodes) (length nodes)) (holds (tyAt (code.function .locals) 7) l₇ (PageIndex′.mach page) (holds (tyAt (code.function .locals) 6) l₆ (Version′.mach x-v) (holds (tyAt (code.function .locals) 5) l₅ (Line′.mach x-l) (holds (sliceTy (tyRef (named 2) imm (pointee (Record′.row .written)))) l₄ (sliceVal (b·register, o·register) (length register)) (holds (sliceTy (tyRef (named 1) imm (pointee (u32 .written)))) l₃ (sliceVal (b·nodes, o·nodes) (length nodes)) (holds (sliceTy (tyRef (named 0) imm (pointee (u8 .written)))) l₂ (sliceVal (b·pages, o·pages) (length pages)) (holds (tyAt (code.function .locals) 1) l₁ (Store′.mach s) (empty (tyAt (code.function .locals) 0) l₀ [])))))))))))))))))))) $
-      assigns ! (addr ! (from ! (stop !))) (from ! (stop !)) (init ! 10 refl (tt, tt)) $
-      assigns ! (addr ! (from ! (stop !))) (from ! (stop !)) (init ! 8 refl (tt, tt)) $
-      move ! (2 ∷ 3 ∷ 28 ∷ []) $ lend-ref ! tt u32 erased κ·nodes q·nodes l₈ b·nodes o·nodes γ·nodes nodes (λ ν·4-nodes γ·4-nodes. move ! (7 ∷ 8 ∷ 29 ∷ []) $ lend-ref ! tt Record′.row erased κ·register q·register l₉ b·register o·register γ·register register (λ ν·4-register γ·4-register. move ! (5 ∷ 6 ∷ 7 ∷ 0 ∷ 1 ∷ 2 ∷ 3 ∷ 8 ∷ 10 ∷ 11 ∷ 12 ∷ 13 ∷ 14 ∷ 15 ∷ 16 ∷ 17 ∷ 18 ∷ 19 ∷ 20 ∷ 21 ∷ 22 ∷ 23 ∷ 24 ∷ 25 ∷ 26 ∷ 27 ∷ 28 ∷ 29 ∷ 30 ∷ 31 ∷ 4 ∷ 32 ∷ 9 ∷ 33 ∷ 34 ∷ 35 ∷ 36 ∷ 37 ∷ 38 ∷ 39 ∷ 40 ∷ 41 ∷ 42 ∷ 43 ∷ 44 ∷ 45 ∷ 46 ∷ 47 ∷ 48 ∷ 49 ∷ []) $
-      Call-find-page.calls ! mem run (fmOf 𝓤 H (W .laws) 𝓣) known-find-page (loan-of ν·4-nodes κ·nodes) (PosShare·left q·nodes) l₈ 0 γ·4-nodes κ·nodes (PosShare·right q·nodes) b·nodes o·nodes γ·nodes nodes (loan-within ν·4-nodes κ·nodes) (loan-of ν·4-register κ·register) (PosShare·left q·register) l₉ 0 γ·4-register κ·register (PosShare·right q·register) b·register o·register γ·register register (loan-within ν·4-register κ·register) (r2 s pages nodes register x-l x-v page) page ok·2 ok·page (and-then ! (load ! (from ! (stop !)) (look ! 11 refl)) (and-then ! (load ! (from ! (stop !)) (look ! 9 refl)) (and-then ! (load ! (from ! (stop !)) (look ! 23 refl)) (and-then ! (load ! (from ! (stop !)) (look ! 31 refl)) (no-more !)))))
-      (λ ok·4. move ! (0 ∷ 1 ∷ 2 ∷ 32 ∷ []) $ back-ref ! tt u32 erased κ·nodes q·nodes l₈ b·nodes o·nodes γ·nodes nodes ν·4-nodes $ move ! (2 ∷ 3 ∷ 4 ∷ 29 ∷ []) $ back-ref ! tt Record′.row erased κ·register q·register l₉ b·register o·register γ·register register ν·4-register $ move ! (6 ∷ 7 ∷ 2 ∷ 5 ∷ 0 ∷ 4 ∷ 8 ∷ 9 ∷ 10 ∷ 11 ∷ 12 ∷ 13 ∷ 14 ∷ 15 ∷ 16 ∷ 17 ∷ 18 ∷ 19 ∷ 20 ∷ 21 ∷ 22 ∷ 23 ∷ 24 ∷ 25 ∷ 26 ∷ 27 ∷ 1 ∷ 28 ∷ 3 ∷ 29 ∷ 30 ∷ 31 ∷ 32 ∷ 33 ∷ 34 ∷ 35 ∷ 36 ∷ 37 ∷ 38 ∷ 39 ∷ 40 ∷ 41 ∷ 42 ∷ 43 ∷ 44 ∷ 45 ∷ []) $ land ! (from ! (stop !)) (init ! 18 refl (Found′.typed 𝓤 H A W (r4 s pages nodes register x-l x-v page) ok·4)) $
-      here ! (‵ (flft κ·pages q·pages) ∷ ‵ (ShrAt u8 κ·pages b·pages o·pages γ·pages (length pages) pages) ∷ ‵ (flft κ·nodes q·nodes) ∷ ‵ (ShrAt u32 κ·nodes b·nodes o·nodes γ·nodes (length nodes) nodes) ∷ ‵ (flft κ·register q·register) ∷ ‵ (ShrAt Record′.row κ·register b·register o·register γ·register (length register) register) ∷ empty (tyInt w64) l₁₉ (holds (tyRef erased imm (sliceTy (tyRef erased imm (pointee (Record′.row .written))))) l₁₈ (vptr l₉ 0) (holds (tyRef erased imm (sliceTy (tyRef erased imm (pointee (u32 .written))))) l₁₇ (vptr l₈ 0) (holds (sliceTy (tyRef erased imm (pointee (Record′.row .written)))) l₁₆ (sliceVal (b·register, o·register) (length register)) (holds (sliceTy (tyRef erased imm (pointee (u32 .written)))) l₁₅ (sliceVal (b·nodes, o·nodes) (length nodes)) (empty (tyInt w64) l₁₄ (holds (tyAt (code.function .locals) 13) l₁₃ (Found′.mach (r4 s pages nodes register x-l x-v page)) (holds (tyAt (code.function .locals) 12) l₁₂ (Part′.mach (r3 s pages nodes register x-l x-v page)) (holds (tyInt w64) l₁₁ (vint w64 (r2 s pages nodes register x-l x-v page)) (holds (tyAt (code.function .locals) 10) l₁₀ (Lengths′.mach (r1 s pages nodes register x-l x-v page)) (holds (sliceTy (tyRef erased imm (pointee (Record′.row .written)))) l₉ (sliceVal (b·register, o·register) (length register)) (holds (sliceTy (tyRef erased imm (pointee (u32 .written)))) l₈ (sliceVal (b·nodes, o·nodes) (length nodes)) (holds (tyAt (code.function .locals) 7) l₇ (PageIndex′.mach page) (holds (tyAt (code.function .locals) 6) l₆ (Version′.mach x-v) (holds (tyAt (code.function .locals) 5) l₅ (Line′.mach x-l) (holds (sliceTy (tyRef (named 2) imm (pointee (Record′.row .written)))) l₄ (sliceVal (b·register, o·register) (length register)) (holds (sliceTy (tyRef (named 1) imm (pointee (u32 .written)))) l₃ (sliceVal (b·nodes, o·nodes) (length nodes)) (holds (sliceTy (tyRef (named 0) imm (pointee (u8 .written)))) l₂ (sliceVal (b·pages, o·pages) (length pages)) (holds (tyAt (code.function .locals) 1) l₁ (Store′.mach s) (empty (tyAt (code.function .locals) 0) l₀ [])))))))))))))))))))) $
-      Call-snapshot-refusal.calls ! mem run (fmOf 𝓤 H (W .laws) 𝓣) known-snapshot-refusal s (r1 s pages nodes register x-l x-v page) x-l x-v ok·s ok·1 ok·x-l ok·x-v (and-then ! (load ! (from ! (stop !)) (look ! 43 refl)) (and-then ! (load ! (from ! (stop !)) (look ! 25 refl)) (and-then ! (load ! (from ! (stop !)) (look ! 35 refl)) (and-then ! (load ! (from ! (stop !)) (look ! 33 refl)) (no-more !)))))
-      (λ ok·5. land ! (from ! (stop !)) (init ! 16 refl (tt, record { fits = ok·5 .1 })) $
-      here ! (‵ (flft κ·pages q·pages) ∷ ‵ (ShrAt u8 κ·pages b·pages o·pages γ·pages (length pages) pages) ∷ ‵ (flft κ·nodes q·nodes) ∷ ‵ (ShrAt u32 κ·nodes b·nodes o·nodes γ·nodes (length nodes) nodes) ∷ ‵ (flft κ·register q·register) ∷ ‵ (ShrAt Record′.row κ·register b·register o·register γ·register (length register) register) ∷ empty (tyInt w64) l₁₉ (holds (tyRef erased imm (sliceTy (tyRef erased imm (pointee (Record′.row .written))))) l₁₈ (vptr l₉ 0) (holds (tyRef erased imm (sliceTy (tyRef erased imm (pointee (u32 .written))))) l₁₇ (vptr l₈ 0) (holds (sliceTy (tyRef erased imm (pointee (Record′.row .written)))) l₁₆ (sliceVal (b·register, o·register) (length register)) (holds (sliceTy (tyRef erased imm (pointee (u32 .written)))) l₁₅ (sliceVal (b·nodes, o·nodes) (length nodes)) (holds (tyInt w64) l₁₄ (vint w64 (r5 s pages nodes register x-l x-v page)) (holds (tyAt (code.function .locals) 13) l₁₃ (Found′.mach (r4 s pages nodes register x-l x-v page)) (holds (tyAt (code.function .locals) 12) l₁₂ (Part′.mach (r3 s pages nodes register x-l x-v page)) (holds (tyInt w64) l₁₁ (vint w64 (r2 s pages nodes register x-l x-v page)) (holds (tyAt (code.function .locals) 10) l₁₀ (Lengths′.mach (r1 s pages nodes register x-l x-v page)) (holds (sliceTy (tyRef erased imm (pointee (Record′.row .written)))) l₉ (sliceVal (b·register, o·register) (length register)) (holds (sliceTy (tyRef erased imm (pointee (u32 .written)))) l₈ (sliceVal (b·nodes, o·nodes) (length nodes)) (holds (tyAt (code.function .locals) 7) l₇ (PageIndex′.mach page) (holds (tyAt (code.function .locals) 6) l₆ (Version′.mach x-v) (holds (tyAt (code.function .locals) 5) l₅ (Line′.mach x-l) (holds (sliceTy (tyRef (named 2) imm (pointee (Record′.row .written)))) l₄ (sliceVal (b·register, o·register) (length register)) (holds (sliceTy (tyRef (named 1) imm (pointee (u32 .written)))) l₃ (sliceVal (b·nodes, o·nodes) (length nodes)) (holds (sliceTy (tyRef (named 0) imm (pointee (u8 .written)))) l₂ (sliceVal (b·pages, o·pages) (length pages)) (holds (tyAt (code.function .locals) 1) l₁ (Store′.mach s) (empty (tyAt (code.function .locals) 0) l₀ [])))))))))))))))))))) $
-      Call-page-refusal.calls ! mem run (fmOf 𝓤 H (W .laws) 𝓣) known-page-refusal (r5 s pages nodes register x-l x-v page) (s .pages) (r3 s pages nodes register x-l x-v page) (r2 s pages nodes register x-l x-v page) x-v page (r4 s pages nodes register x-l x-v page) ok·5 (Store′.ok-pages s ok·s) ok·3 ok·2 ok·x-v ok·page ok·4 (and-then ! (load ! (from ! (stop !)) (look ! 17 refl)) (and-then ! (load ! (from ! (fld ! refl (stop !))) (look-in ! 43 (sub ! 1 refl (whole !)))) (and-then ! (load ! (from ! (stop !)) (look ! 21 refl)) (and-then ! (load ! (from ! (stop !)) (look ! 23 refl)) (and-then ! (load ! (from ! (stop !)) (look ! 33 refl)) (and-then ! (load ! (from ! (stop !)) (look ! 31 refl)) (and-then ! (load ! (from ! (stop !)) (look ! 19 refl)) (no-more !))))))))
-      (λ ok·6. land ! (from ! (stop !)) (init ! 6 refl (tt, record { fits = ok·6 .1 })) $
-      here ! (‵ (flft κ·pages q·pages) ∷ ‵ (ShrAt u8 κ·pages b·pages o·pages γ·pages (length pages) pages) ∷ ‵ (flft κ·nodes q·nodes) ∷ ‵ (ShrAt u32 κ·nodes b·nodes o·nodes γ·nodes (length nodes) nodes) ∷ ‵ (flft κ·register q·register) ∷ ‵ (ShrAt Record′.row κ·register b·register o·register γ·register (length register) register) ∷ holds (tyInt w64) l₁₉ (vint w64 (r6 s pages nodes register x-l x-v page)) (holds (tyRef erased imm (sliceTy (tyRef erased imm (pointee (Record′.row .written))))) l₁₈ (vptr l₉ 0) (holds (tyRef erased imm (sliceTy (tyRef erased imm (pointee (u32 .written))))) l₁₇ (vptr l₈ 0) (holds (sliceTy (tyRef erased imm (pointee (Record′.row .written)))) l₁₆ (sliceVal (b·register, o·register) (length register)) (holds (sliceTy (tyRef erased imm (pointee (u32 .written)))) l₁₅ (sliceVal (b·nodes, o·nodes) (length nodes)) (holds (tyInt w64) l₁₄ (vint w64 (r5 s pages nodes register x-l x-v page)) (holds (tyAt (code.function .locals) 13) l₁₃ (Found′.mach (r4 s pages nodes register x-l x-v page)) (holds (tyAt (code.function .locals) 12) l₁₂ (Part′.mach (r3 s pages nodes register x-l x-v page)) (holds (tyInt w64) l₁₁ (vint w64 (r2 s pages nodes register x-l x-v page)) (holds (tyAt (code.function .locals) 10) l₁₀ (Lengths′.mach (r1 s pages nodes register x-l x-v page)) (holds (sliceTy (tyRef erased imm (pointee (Record′.row .written)))) l₉ (sliceVal (b·register, o·register) (length register)) (holds (sliceTy (tyRef erased imm (pointee (u32 .written)))) l₈ (sliceVal (b·nodes, o·nodes) (length nodes)) (holds (tyAt (code.function .locals) 7) l₇ (PageIndex′.mach page) (holds (tyAt (code.function .locals) 6) l₆ (Version′.mach x-v) (holds (tyAt (code.function .locals) 5) l₅ (Line′.mach x-l) (holds (sliceTy (tyRef (named 2) imm (pointee (Record′.row .written)))) l₄ (sliceVal (b·register, o·register) (length register)) (holds (sliceTy (tyRef (named 1) imm (pointee (u32 .written)))) l₃ (sliceVal (b·nodes, o·nodes) (length nodes)) (holds (sliceTy (tyRef (named 0) imm (pointee (u8 .written)))) l₂ (sliceVal (b·pages, o·pages) (length pages)) (holds (tyAt (code.function .locals) 1) l₁ (Store′.mach s) (empty (tyAt (code.function .locals) 0) l₀ [])))))))))))))))))))) $
-      Call-stamped-by.calls ! mem run (fmOf 𝓤 H (W .laws) 𝓣) known-stamped-by (r6 s pages nodes register x-l x-v page) (r4 s pages nodes register x-l x-v page) ok·6 ok·4 (and-then ! (load ! (from ! (stop !)) (look ! 7 refl)) (and-then ! (load ! (from ! (stop !)) (look ! 19 refl)) (no-more !)))
-      (λ ok·7. land ! (from ! (stop !)) (init ! 44 refl (Stamped′.typed 𝓤 H A W (r7 s pages nodes register x-l x-v page) ok·7)) $
-      here ! (‵ (flft κ·pages q·pages) ∷ ‵ (ShrAt u8 κ·pages b·pages o·pages γ·pages (length pages) pages) ∷ ‵ (flft κ·nodes q·nodes) ∷ ‵ (ShrAt u32 κ·nodes b·nodes o·nodes γ·nodes (length nodes) nodes) ∷ ‵ (flft κ·register q·register) ∷ ‵ (ShrAt Record′.row κ·register b·register o·register γ·register (length register) register) ∷ holds (tyInt w64) l₁₉ (vint w64 (r6 s pages nodes register x-l x-v page)) (holds (tyRef erased imm (sliceTy (tyRef erased imm (pointee (Record′.row .written))))) l₁₈ (vptr l₉ 0) (holds (tyRef erased imm (sliceTy (tyRef erased imm (pointee (u32 .written))))) l₁₇ (vptr l₈ 0) (holds (sliceTy (tyRef erased imm (pointee (Record′.row .written)))) l₁₆ (sliceVal (b·register, o·register) (length register)) (holds (sliceTy (tyRef erased imm (pointee (u32 .written)))) l₁₅ (sliceVal (b·nodes, o·nodes) (length nodes)) (holds (tyInt w64) l₁₄ (vint w64 (r5 s pages nodes register x-l x-v page)) (holds (tyAt (code.function .locals) 13) l₁₃ (Found′.mach (r4 s pages nodes register x-l x-v page)) (holds (tyAt (code.function .locals) 12) l₁₂ (Part′.mach (r3 s pages nodes register x-l x-v page)) (holds (tyInt w64) l₁₁ (vint w64 (r2 s pages nodes register x-l x-v page)) (holds (tyAt (code.function .locals) 10) l₁₀ (Lengths′.mach (r1 s pages nodes register x-l x-v page)) (holds (sliceTy (tyRef erased imm (pointee (Record′.row .written)))) l₉ (sliceVal (b·register, o·register) (length register)) (holds (sliceTy (tyRef erased imm (pointee (u32 .written)))) l₈ (sliceVal (b·nodes, o·nodes) (length nodes)) (holds (tyAt (code.function .locals) 7) l₇ (PageIndex′.mach page) (holds (tyAt (code.function .locals) 6) l₆ (Version′.mach x-v) (holds (tyAt (code.function .locals) 5) l₅ (Line′.mach x-l) (holds (sliceTy (tyRef (named 2) imm (pointee (Record′.row .written)))) l₄ (sliceVal (b·register, o·register) (length register)) (holds (sliceTy (tyRef (named 1) imm (pointee (u32 .written)))) l₃ (sliceVal (b·nodes, o·nodes) (length nodes)) (holds (sliceTy (tyRef (named 0) imm (pointee (u8 .written)))) l₂ (sliceVal (b·pages, o·pages) (length pages)) (holds (tyAt (code.function .locals) 1) l₁ (Store′.mach s) (holds (tyAt (code.function .locals) 0) l₀ (Stamped′.mach (r7 s pages nodes register x-l x-v page)) [])))))))))))))))))))) $
-      returns ! (look ! 44 refl) $
-      move ! (44 ∷ 45 ∷ []) $ forget ! 0 refl $ free1 ! $ move ! (42 ∷ 43 ∷ []) $ forget ! 0 refl $ free1 ! $ move ! (40 ∷ 41 ∷ []) $ forget ! 0 refl $ free1 ! $ move ! (38 ∷ 39 ∷ []) $ forget ! 0 refl $ free1 ! $ move ! (36 ∷ 37 ∷ []) $ forget ! 0 refl $ free1 ! $ move ! (34 ∷ 35 ∷ []) $ forget ! 0 refl $ free1 ! $ move ! (32 ∷ 33 ∷ []) $ forget ! 0 refl $ free1 ! $ move ! (30 ∷ 31 ∷ []) $ forget ! 0 refl $ free1 ! $ move ! (28 ∷ 29 ∷ []) $ forget ! 0 refl $ free1 ! $ move ! (26 ∷ 27 ∷ []) $ forget ! 0 refl $ free1 ! $ move ! (24 ∷ 25 ∷ []) $ forget ! 0 refl $ free1 ! $ move ! (22 ∷ 23 ∷ []) $ forget ! 0 refl $ free1 ! $ move ! (20 ∷ 21 ∷ []) $ forget ! 0 refl $ free1 ! $ move ! (18 ∷ 19 ∷ []) $ forget ! 0 refl $ free1 ! $ move ! (16 ∷ 17 ∷ []) $ forget ! 0 refl $ free1 ! $ move ! (14 ∷ 15 ∷ []) $ forget ! 0 refl $ free1 ! $ move ! (12 ∷ 13 ∷ []) $ forget ! 0 refl $ free1 ! $ move ! (10 ∷ 11 ∷ []) $ forget ! 0 refl $ free1 ! $ move ! (8 ∷ 9 ∷ []) $ forget ! 0 refl $ free1 ! $ move ! (6 ∷ 7 ∷ []) $ forget ! 0 refl $ free1 ! $ free0 ! $ by ! (exits (r7 s pages nodes register x-l x-v page) ok·7 (Facts.exit-1 s pages nodes register x-l x-v page ok·s (room·pages .0) (room·nodes .0) (room·register .0) ok·x-l ok·x-v ok·page ok·1 (ok·2 .1) ok·3 ok·4 (ok·5 .1) (ok·6 .1) ok·7)))))))))))))))))))))))))))))))
+      Call-version-part.calls ! mem run (fmOf 𝓤 H (W .laws) 𝓣) known-version-part κ·register q·register b·register o·register γ·register (length register) register (r2 s pages nodes register x-l x-v page) ok·2 (and-then ! (load ! (from ! (stop !)) (look ! 18 refl)) (and-then ! (load ! (from ! (stop !)) (look ! 28 refl)) (no-more !)))
+      (λ ok·3. move ! (2 ∷ 3 ∷ 4 ∷ 5 ∷ 0 ∷ 1 ∷ []) $ land ! (from ! (stop !)) (init ! 26 refl (Part′.typed 𝓤 H A W (r3 s pages nodes register x-l x-v page) ok·3)) $
+      here ! (‵ (flft κ·pages q·pages) ∷ ‵ (ShrAt u8 κ·pages b·pages o·pages γ·pages (length pages) pages) ∷ ‵ (flft κ·nodes q·nodes) ∷ ‵ (ShrAt u32 κ·nodes b·nodes o·nodes γ·nodes (length nodes) nodes) ∷ ‵ (flft κ·register q·register) ∷ ‵ (ShrAt Record′.row κ·register b·register o·register γ·register (length register) register) ∷ empty (tyAt (code.function .locals) 22) l₂₂ (empty (tyAt (code.function .locals) 21) l₂₁ (empty tyBool l₂₀ (empty (tyInt w64) l₁₉ (empty (tyRef erased imm (sliceTy (tyRef erased imm (pointee (Record′.row .written))))) l₁₈ (empty (tyRef erased imm (sliceTy (tyRef erased imm (pointee (u32 .written))))) l₁₇ (holds (sliceTy (tyRef erased imm (pointee (Record′.row .written)))) l₁₆ (sliceVal (b·register, o·register) (length register)) (holds (sliceTy (tyRef erased imm (pointee (u32 .written)))) l₁₅ (sliceVal (b·nodes, o·nodes) (length nodes)) (empty (tyInt w64) l₁₄ (empty (tyAt (code.function .locals) 13) l₁₃ (holds (tyAt (code.function .locals) 12) l₁₂ (Part′.mach (r3 s pages nodes register x-l x-v page)) (holds (tyInt w64) l₁₁ (vint w64 (r2 s pages nodes register x-l x-v page)) (holds (tyAt (code.function .locals) 10) l₁₀ (Lengths′.mach (r1 s pages nodes register x-l x-v page)) (holds (sliceTy (tyRef erased imm (pointee (Record′.row .written)))) l₉ (sliceVal (b·register, o·register) (length register)) (holds (sliceTy (tyRef erased imm (pointee (u32 .written)))) l₈ (sliceVal (b·nodes, o·nodes) (length nodes)) (holds (tyAt (code.function .locals) 7) l₇ (PageIndex′.mach page) (holds (tyAt (code.function .locals) 6) l₆ (Version′.mach x-v) (holds (tyAt (code.function .locals) 5) l₅ (Line′.mach x-l) (holds (sliceTy (tyRef (named 2) imm (pointee (Record′.row .written)))) l₄ (sliceVal (b·register, o·register) (length register)) (holds (sliceTy (tyRef (named 1) imm (pointee (u32 .written)))) l₃ (sliceVal (b·nodes, o·nodes) (length nodes)) (holds (sliceTy (tyRef (named 0) imm (pointee (u8 .written)))) l₂ (sliceVal (b·pages, o·pages) (length pages)) (holds (tyAt (code.function .locals) 1) l₁ (Store′.mach s) (empty (tyAt (code.function .locals) 0) l₀ []))))))))))))))))))))))) $
+      assigns ! (addr ! (from ! (stop !))) (from ! (stop !)) (init ! 16 refl (tt, tt)) $
+      assigns ! (addr ! (from ! (stop !))) (from ! (stop !)) (init ! 14 refl (tt, tt)) $
+      move ! (2 ∷ 3 ∷ 34 ∷ []) $ lend-ref ! tt u32 erased κ·nodes q·nodes l₈ b·nodes o·nodes γ·nodes nodes (λ ν·4-nodes γ·4-nodes. move ! (7 ∷ 8 ∷ 35 ∷ []) $ lend-ref ! tt Record′.row erased κ·register q·register l₉ b·register o·register γ·register register (λ ν·4-register γ·4-register. move ! (5 ∷ 6 ∷ 7 ∷ 0 ∷ 1 ∷ 2 ∷ 3 ∷ 8 ∷ 10 ∷ 11 ∷ 12 ∷ 13 ∷ 14 ∷ 15 ∷ 16 ∷ 17 ∷ 18 ∷ 19 ∷ 20 ∷ 21 ∷ 22 ∷ 23 ∷ 24 ∷ 25 ∷ 26 ∷ 27 ∷ 28 ∷ 29 ∷ 30 ∷ 31 ∷ 32 ∷ 33 ∷ 34 ∷ 35 ∷ 36 ∷ 37 ∷ 4 ∷ 38 ∷ 9 ∷ 39 ∷ 40 ∷ 41 ∷ 42 ∷ 43 ∷ 44 ∷ 45 ∷ 46 ∷ 47 ∷ 48 ∷ 49 ∷ 50 ∷ 51 ∷ 52 ∷ 53 ∷ 54 ∷ 55 ∷ []) $
+      Call-find-page.calls ! mem run (fmOf 𝓤 H (W .laws) 𝓣) known-find-page (loan-of ν·4-nodes κ·nodes) (PosShare·left q·nodes) l₈ 0 γ·4-nodes κ·nodes (PosShare·right q·nodes) b·nodes o·nodes γ·nodes nodes (loan-within ν·4-nodes κ·nodes) (loan-of ν·4-register κ·register) (PosShare·left q·register) l₉ 0 γ·4-register κ·register (PosShare·right q·register) b·register o·register γ·register register (loan-within ν·4-register κ·register) (r2 s pages nodes register x-l x-v page) page ok·2 ok·page (and-then ! (load ! (from ! (stop !)) (look ! 17 refl)) (and-then ! (load ! (from ! (stop !)) (look ! 15 refl)) (and-then ! (load ! (from ! (stop !)) (look ! 29 refl)) (and-then ! (load ! (from ! (stop !)) (look ! 37 refl)) (no-more !)))))
+      (λ ok·4. move ! (0 ∷ 1 ∷ 2 ∷ 38 ∷ []) $ back-ref ! tt u32 erased κ·nodes q·nodes l₈ b·nodes o·nodes γ·nodes nodes ν·4-nodes $ move ! (2 ∷ 3 ∷ 4 ∷ 35 ∷ []) $ back-ref ! tt Record′.row erased κ·register q·register l₉ b·register o·register γ·register register ν·4-register $ move ! (6 ∷ 7 ∷ 2 ∷ 5 ∷ 0 ∷ 4 ∷ 8 ∷ 9 ∷ 10 ∷ 11 ∷ 12 ∷ 13 ∷ 14 ∷ 15 ∷ 16 ∷ 17 ∷ 18 ∷ 19 ∷ 20 ∷ 21 ∷ 22 ∷ 23 ∷ 24 ∷ 25 ∷ 26 ∷ 27 ∷ 28 ∷ 29 ∷ 30 ∷ 31 ∷ 32 ∷ 33 ∷ 1 ∷ 34 ∷ 3 ∷ 35 ∷ 36 ∷ 37 ∷ 38 ∷ 39 ∷ 40 ∷ 41 ∷ 42 ∷ 43 ∷ 44 ∷ 45 ∷ 46 ∷ 47 ∷ 48 ∷ 49 ∷ 50 ∷ 51 ∷ []) $ land ! (from ! (stop !)) (init ! 24 refl (Found′.typed 𝓤 H A W (r4 s pages nodes register x-l x-v page) ok·4)) $
+      here ! (‵ (flft κ·pages q·pages) ∷ ‵ (ShrAt u8 κ·pages b·pages o·pages γ·pages (length pages) pages) ∷ ‵ (flft κ·nodes q·nodes) ∷ ‵ (ShrAt u32 κ·nodes b·nodes o·nodes γ·nodes (length nodes) nodes) ∷ ‵ (flft κ·register q·register) ∷ ‵ (ShrAt Record′.row κ·register b·register o·register γ·register (length register) register) ∷ empty (tyAt (code.function .locals) 22) l₂₂ (empty (tyAt (code.function .locals) 21) l₂₁ (empty tyBool l₂₀ (empty (tyInt w64) l₁₉ (holds (tyRef erased imm (sliceTy (tyRef erased imm (pointee (Record′.row .written))))) l₁₈ (vptr l₉ 0) (holds (tyRef erased imm (sliceTy (tyRef erased imm (pointee (u32 .written))))) l₁₇ (vptr l₈ 0) (holds (sliceTy (tyRef erased imm (pointee (Record′.row .written)))) l₁₆ (sliceVal (b·register, o·register) (length register)) (holds (sliceTy (tyRef erased imm (pointee (u32 .written)))) l₁₅ (sliceVal (b·nodes, o·nodes) (length nodes)) (empty (tyInt w64) l₁₄ (holds (tyAt (code.function .locals) 13) l₁₃ (Found′.mach (r4 s pages nodes register x-l x-v page)) (holds (tyAt (code.function .locals) 12) l₁₂ (Part′.mach (r3 s pages nodes register x-l x-v page)) (holds (tyInt w64) l₁₁ (vint w64 (r2 s pages nodes register x-l x-v page)) (holds (tyAt (code.function .locals) 10) l₁₀ (Lengths′.mach (r1 s pages nodes register x-l x-v page)) (holds (sliceTy (tyRef erased imm (pointee (Record′.row .written)))) l₉ (sliceVal (b·register, o·register) (length register)) (holds (sliceTy (tyRef erased imm (pointee (u32 .written)))) l₈ (sliceVal (b·nodes, o·nodes) (length nodes)) (holds (tyAt (code.function .locals) 7) l₇ (PageIndex′.mach page) (holds (tyAt (code.function .locals) 6) l₆ (Version′.mach x-v) (holds (tyAt (code.function .locals) 5) l₅ (Line′.mach x-l) (holds (sliceTy (tyRef (named 2) imm (pointee (Record′.row .written)))) l₄ (sliceVal (b·register, o·register) (length register)) (holds (sliceTy (tyRef (named 1) imm (pointee (u32 .written)))) l₃ (sliceVal (b·nodes, o·nodes) (length nodes)) (holds (sliceTy (tyRef (named 0) imm (pointee (u8 .written)))) l₂ (sliceVal (b·pages, o·pages) (length pages)) (holds (tyAt (code.function .locals) 1) l₁ (Store′.mach s) (empty (tyAt (code.function .locals) 0) l₀ []))))))))))))))))))))))) $
+      Call-snapshot-refusal.calls ! mem run (fmOf 𝓤 H (W .laws) 𝓣) known-snapshot-refusal s (r1 s pages nodes register x-l x-v page) x-l x-v ok·s ok·1 ok·x-l ok·x-v (and-then ! (load ! (from ! (stop !)) (look ! 49 refl)) (and-then ! (load ! (from ! (stop !)) (look ! 31 refl)) (and-then ! (load ! (from ! (stop !)) (look ! 41 refl)) (and-then ! (load ! (from ! (stop !)) (look ! 39 refl)) (no-more !)))))
+      (λ ok·5. land ! (from ! (stop !)) (init ! 12 refl (tt, record { fits = ok·5 .1 })) $
+      here ! (‵ (flft κ·pages q·pages) ∷ ‵ (ShrAt u8 κ·pages b·pages o·pages γ·pages (length pages) pages) ∷ ‵ (flft κ·nodes q·nodes) ∷ ‵ (ShrAt u32 κ·nodes b·nodes o·nodes γ·nodes (length nodes) nodes) ∷ ‵ (flft κ·register q·register) ∷ ‵ (ShrAt Record′.row κ·register b·register o·register γ·register (length register) register) ∷ empty (tyAt (code.function .locals) 22) l₂₂ (empty (tyAt (code.function .locals) 21) l₂₁ (empty tyBool l₂₀ (holds (tyInt w64) l₁₉ (vint w64 (r5 s pages nodes register x-l x-v page)) (holds (tyRef erased imm (sliceTy (tyRef erased imm (pointee (Record′.row .written))))) l₁₈ (vptr l₉ 0) (holds (tyRef erased imm (sliceTy (tyRef erased imm (pointee (u32 .written))))) l₁₇ (vptr l₈ 0) (holds (sliceTy (tyRef erased imm (pointee (Record′.row .written)))) l₁₆ (sliceVal (b·register, o·register) (length register)) (holds (sliceTy (tyRef erased imm (pointee (u32 .written)))) l₁₅ (sliceVal (b·nodes, o·nodes) (length nodes)) (empty (tyInt w64) l₁₄ (holds (tyAt (code.function .locals) 13) l₁₃ (Found′.mach (r4 s pages nodes register x-l x-v page)) (holds (tyAt (code.function .locals) 12) l₁₂ (Part′.mach (r3 s pages nodes register x-l x-v page)) (holds (tyInt w64) l₁₁ (vint w64 (r2 s pages nodes register x-l x-v page)) (holds (tyAt (code.function .locals) 10) l₁₀ (Lengths′.mach (r1 s pages nodes register x-l x-v page)) (holds (sliceTy (tyRef erased imm (pointee (Record′.row .written)))) l₉ (sliceVal (b·register, o·register) (length register)) (holds (sliceTy (tyRef erased imm (pointee (u32 .written)))) l₈ (sliceVal (b·nodes, o·nodes) (length nodes)) (holds (tyAt (code.function .locals) 7) l₇ (PageIndex′.mach page) (holds (tyAt (code.function .locals) 6) l₆ (Version′.mach x-v) (holds (tyAt (code.function .locals) 5) l₅ (Line′.mach x-l) (holds (sliceTy (tyRef (named 2) imm (pointee (Record′.row .written)))) l₄ (sliceVal (b·register, o·register) (length register)) (holds (sliceTy (tyRef (named 1) imm (pointee (u32 .written)))) l₃ (sliceVal (b·nodes, o·nodes) (length nodes)) (holds (sliceTy (tyRef (named 0) imm (pointee (u8 .written)))) l₂ (sliceVal (b·pages, o·pages) (length pages)) (holds (tyAt (code.function .locals) 1) l₁ (Store′.mach s) (empty (tyAt (code.function .locals) 0) l₀ []))))))))))))))))))))))) $
+      Call-page-refusal.calls ! mem run (fmOf 𝓤 H (W .laws) 𝓣) known-page-refusal (r5 s pages nodes register x-l x-v page) (s .pages) (r3 s pages nodes register x-l x-v page) (r2 s pages nodes register x-l x-v page) x-v page (r4 s pages nodes register x-l x-v page) ok·5 (Store′.ok-pages s ok·s) ok·3 ok·2 ok·x-v ok·page ok·4 (and-then ! (load ! (from ! (stop !)) (look ! 13 refl)) (and-then ! (load ! (from ! (fld ! refl (stop !))) (look-in ! 49 (sub ! 1 refl (whole !)))) (and-then ! (load ! (from ! (stop !)) (look ! 27 refl)) (and-then ! (load ! (from ! (stop !)) (look ! 29 refl)) (and-then ! (load ! (from ! (stop !)) (look ! 39 refl)) (and-then ! (load ! (from ! (stop !)) (look ! 37 refl)) (and-then ! (load ! (from ! (stop !)) (look ! 25 refl)) (no-more !))))))))
+      (λ ok·6. land ! (from ! (stop !)) (init ! 22 refl (tt, record { fits = ok·6 .1 })) $
+      here ! (‵ (flft κ·pages q·pages) ∷ ‵ (ShrAt u8 κ·pages b·pages o·pages γ·pages (length pages) pages) ∷ ‵ (flft κ·nodes q·nodes) ∷ ‵ (ShrAt u32 κ·nodes b·nodes o·nodes γ·nodes (length nodes) nodes) ∷ ‵ (flft κ·register q·register) ∷ ‵ (ShrAt Record′.row κ·register b·register o·register γ·register (length register) register) ∷ empty (tyAt (code.function .locals) 22) l₂₂ (empty (tyAt (code.function .locals) 21) l₂₁ (empty tyBool l₂₀ (holds (tyInt w64) l₁₉ (vint w64 (r5 s pages nodes register x-l x-v page)) (holds (tyRef erased imm (sliceTy (tyRef erased imm (pointee (Record′.row .written))))) l₁₈ (vptr l₉ 0) (holds (tyRef erased imm (sliceTy (tyRef erased imm (pointee (u32 .written))))) l₁₇ (vptr l₈ 0) (holds (sliceTy (tyRef erased imm (pointee (Record′.row .written)))) l₁₆ (sliceVal (b·register, o·register) (length register)) (holds (sliceTy (tyRef erased imm (pointee (u32 .written)))) l₁₅ (sliceVal (b·nodes, o·nodes) (length nodes)) (holds (tyInt w64) l₁₄ (vint w64 (r6 s pages nodes register x-l x-v page)) (holds (tyAt (code.function .locals) 13) l₁₃ (Found′.mach (r4 s pages nodes register x-l x-v page)) (holds (tyAt (code.function .locals) 12) l₁₂ (Part′.mach (r3 s pages nodes register x-l x-v page)) (holds (tyInt w64) l₁₁ (vint w64 (r2 s pages nodes register x-l x-v page)) (holds (tyAt (code.function .locals) 10) l₁₀ (Lengths′.mach (r1 s pages nodes register x-l x-v page)) (holds (sliceTy (tyRef erased imm (pointee (Record′.row .written)))) l₉ (sliceVal (b·register, o·register) (length register)) (holds (sliceTy (tyRef erased imm (pointee (u32 .written)))) l₈ (sliceVal (b·nodes, o·nodes) (length nodes)) (holds (tyAt (code.function .locals) 7) l₇ (PageIndex′.mach page) (holds (tyAt (code.function .locals) 6) l₆ (Version′.mach x-v) (holds (tyAt (code.function .locals) 5) l₅ (Line′.mach x-l) (holds (sliceTy (tyRef (named 2) imm (pointee (Record′.row .written)))) l₄ (sliceVal (b·register, o·register) (length register)) (holds (sliceTy (tyRef (named 1) imm (pointee (u32 .written)))) l₃ (sliceVal (b·nodes, o·nodes) (length nodes)) (holds (sliceTy (tyRef (named 0) imm (pointee (u8 .written)))) l₂ (sliceVal (b·pages, o·pages) (length pages)) (holds (tyAt (code.function .locals) 1) l₁ (Store′.mach s) (empty (tyAt (code.function .locals) 0) l₀ []))))))))))))))))))))))) $
+      assigns ! (bin ! (load ! (from ! (stop !)) (look ! 22 refl)) (lit ! tt) tt) (from ! (stop !)) (init ! 10 refl (tt, tt)) $
+      branches-on ! (load ! (from ! (stop !)) (look ! 10 refl))
+      (λ h·1. regroup ! $
+      assigns ! (agg ! (and-then ! (lit ! tt) (and-then ! (load ! (from ! (stop !)) (look ! 22 refl)) (no-more !)))) (from ! (stop !)) (init ! 50 refl (Stamped′.typed 𝓤 H A W (Stamped.Refused (r6 s pages nodes register x-l x-v page)) (Stamped′.make-Refused (r6 s pages nodes register x-l x-v page) ok·6))) $
+      returns-on ! (look ! 50 refl) $
+      move ! (50 ∷ 51 ∷ []) $ forget ! 0 refl $ free1 ! $ move ! (48 ∷ 49 ∷ []) $ forget ! 0 refl $ free1 ! $ move ! (46 ∷ 47 ∷ []) $ forget ! 0 refl $ free1 ! $ move ! (44 ∷ 45 ∷ []) $ forget ! 0 refl $ free1 ! $ move ! (42 ∷ 43 ∷ []) $ forget ! 0 refl $ free1 ! $ move ! (40 ∷ 41 ∷ []) $ forget ! 0 refl $ free1 ! $ move ! (38 ∷ 39 ∷ []) $ forget ! 0 refl $ free1 ! $ move ! (36 ∷ 37 ∷ []) $ forget ! 0 refl $ free1 ! $ move ! (34 ∷ 35 ∷ []) $ forget ! 0 refl $ free1 ! $ move ! (32 ∷ 33 ∷ []) $ forget ! 0 refl $ free1 ! $ move ! (30 ∷ 31 ∷ []) $ forget ! 0 refl $ free1 ! $ move ! (28 ∷ 29 ∷ []) $ forget ! 0 refl $ free1 ! $ move ! (26 ∷ 27 ∷ []) $ forget ! 0 refl $ free1 ! $ move ! (24 ∷ 25 ∷ []) $ forget ! 0 refl $ free1 ! $ move ! (22 ∷ 23 ∷ []) $ forget ! 0 refl $ free1 ! $ move ! (20 ∷ 21 ∷ []) $ forget ! 0 refl $ free1 ! $ move ! (18 ∷ 19 ∷ []) $ forget ! 0 refl $ free1 ! $ move ! (16 ∷ 17 ∷ []) $ forget ! 0 refl $ free1 ! $ move ! (14 ∷ 15 ∷ []) $ forget ! 0 refl $ free1 ! $ move ! (12 ∷ 13 ∷ []) $ forget ! 0 refl $ free1 ! $ move ! (10 ∷ 11 ∷ []) $ forget ! 0 refl $ free1 ! $ move ! (8 ∷ 9 ∷ []) $ free1 ! $ move ! (6 ∷ 7 ∷ []) $ free1 ! $ free0 ! $ by ! (exits (Stamped.Refused (r6 s pages nodes register x-l x-v page)) (Stamped′.make-Refused (r6 s pages nodes register x-l x-v page) ok·6) (Facts.exit-1 s pages nodes register x-l x-v page ok·s (room·pages .0) (room·nodes .0) (room·register .0) ok·x-l ok·x-v ok·page ok·1 (ok·2 .1) ok·3 ok·4 (ok·5 .1) (ok·6 .1) (is-true (not (eqb (r6 s pages nodes register x-l x-v page) 0)) h·1) (above-0 (r6 s pages nodes register x-l x-v page) h·1))))
+      (λ h·1. skips-on ! $ assigns ! (of-opd ! (load ! (from ! (stop !)) (look ! 34 refl))) (from ! (stop !)) (store ! 20 refl (tt, (tt, (record { fits = room·nodes .0 }, tt)))) $
+      assigns ! (of-opd ! (load ! (from ! (stop !)) (look ! 32 refl))) (from ! (stop !)) (store ! 18 refl (tt, (tt, (record { fits = room·register .0 }, tt)))) $
+      Call-version-found.calls ! mem run (fmOf 𝓤 H (W .laws) 𝓣) known-version-found (r4 s pages nodes register x-l x-v page) ok·4 (and-then ! (load ! (from ! (stop !)) (look ! 25 refl)) (no-more !))
+      (λ r7 ok·7 says·7. land ! (from ! (stop !)) (init ! 6 refl (Version′.typed 𝓤 H A W r7 ok·7)) $
+      here ! (‵ (flft κ·pages q·pages) ∷ ‵ (ShrAt u8 κ·pages b·pages o·pages γ·pages (length pages) pages) ∷ ‵ (flft κ·nodes q·nodes) ∷ ‵ (ShrAt u32 κ·nodes b·nodes o·nodes γ·nodes (length nodes) nodes) ∷ ‵ (flft κ·register q·register) ∷ ‵ (ShrAt Record′.row κ·register b·register o·register γ·register (length register) register) ∷ holds (tyAt (code.function .locals) 22) l₂₂ (Version′.mach r7) (empty (tyAt (code.function .locals) 21) l₂₁ (holds tyBool l₂₀ (vbool (not (eqb (r6 s pages nodes register x-l x-v page) 0))) (holds (tyInt w64) l₁₉ (vint w64 (r5 s pages nodes register x-l x-v page)) (holds (tyRef erased imm (sliceTy (tyRef erased imm (pointee (Record′.row .written))))) l₁₈ (vptr l₉ 0) (holds (tyRef erased imm (sliceTy (tyRef erased imm (pointee (u32 .written))))) l₁₇ (vptr l₈ 0) (holds (sliceTy (tyRef erased imm (pointee (Record′.row .written)))) l₁₆ (sliceVal (b·register, o·register) (length register)) (holds (sliceTy (tyRef erased imm (pointee (u32 .written)))) l₁₅ (sliceVal (b·nodes, o·nodes) (length nodes)) (holds (tyInt w64) l₁₄ (vint w64 (r6 s pages nodes register x-l x-v page)) (holds (tyAt (code.function .locals) 13) l₁₃ (Found′.mach (r4 s pages nodes register x-l x-v page)) (holds (tyAt (code.function .locals) 12) l₁₂ (Part′.mach (r3 s pages nodes register x-l x-v page)) (holds (tyInt w64) l₁₁ (vint w64 (r2 s pages nodes register x-l x-v page)) (holds (tyAt (code.function .locals) 10) l₁₀ (Lengths′.mach (r1 s pages nodes register x-l x-v page)) (holds (sliceTy (tyRef erased imm (pointee (Record′.row .written)))) l₉ (sliceVal (b·register, o·register) (length register)) (holds (sliceTy (tyRef erased imm (pointee (u32 .written)))) l₈ (sliceVal (b·nodes, o·nodes) (length nodes)) (holds (tyAt (code.function .locals) 7) l₇ (PageIndex′.mach page) (holds (tyAt (code.function .locals) 6) l₆ (Version′.mach x-v) (holds (tyAt (code.function .locals) 5) l₅ (Line′.mach x-l) (holds (sliceTy (tyRef (named 2) imm (pointee (Record′.row .written)))) l₄ (sliceVal (b·register, o·register) (length register)) (holds (sliceTy (tyRef (named 1) imm (pointee (u32 .written)))) l₃ (sliceVal (b·nodes, o·nodes) (length nodes)) (holds (sliceTy (tyRef (named 0) imm (pointee (u8 .written)))) l₂ (sliceVal (b·pages, o·pages) (length pages)) (holds (tyAt (code.function .locals) 1) l₁ (Store′.mach s) (empty (tyAt (code.function .locals) 0) l₀ []))))))))))))))))))))))) $
+      Call-number-found.calls ! mem run (fmOf 𝓤 H (W .laws) 𝓣) known-number-found (s .pages) (r4 s pages nodes register x-l x-v page) (Store′.ok-pages s ok·s) ok·4 (and-then ! (load ! (from ! (fld ! refl (stop !))) (look-in ! 49 (sub ! 1 refl (whole !)))) (and-then ! (load ! (from ! (stop !)) (look ! 25 refl)) (no-more !)))
+      (λ ok·8. land ! (from ! (stop !)) (store ! 12 refl (tt, record { fits = ok·8 .1 })) $
+      here ! (‵ (flft κ·pages q·pages) ∷ ‵ (ShrAt u8 κ·pages b·pages o·pages γ·pages (length pages) pages) ∷ ‵ (flft κ·nodes q·nodes) ∷ ‵ (ShrAt u32 κ·nodes b·nodes o·nodes γ·nodes (length nodes) nodes) ∷ ‵ (flft κ·register q·register) ∷ ‵ (ShrAt Record′.row κ·register b·register o·register γ·register (length register) register) ∷ holds (tyAt (code.function .locals) 22) l₂₂ (Version′.mach r7) (empty (tyAt (code.function .locals) 21) l₂₁ (holds tyBool l₂₀ (vbool (not (eqb (r6 s pages nodes register x-l x-v page) 0))) (holds (tyInt w64) l₁₉ (vint w64 (r8 s pages nodes register x-l x-v page r7)) (holds (tyRef erased imm (sliceTy (tyRef erased imm (pointee (Record′.row .written))))) l₁₈ (vptr l₉ 0) (holds (tyRef erased imm (sliceTy (tyRef erased imm (pointee (u32 .written))))) l₁₇ (vptr l₈ 0) (holds (sliceTy (tyRef erased imm (pointee (Record′.row .written)))) l₁₆ (sliceVal (b·register, o·register) (length register)) (holds (sliceTy (tyRef erased imm (pointee (u32 .written)))) l₁₅ (sliceVal (b·nodes, o·nodes) (length nodes)) (holds (tyInt w64) l₁₄ (vint w64 (r6 s pages nodes register x-l x-v page)) (holds (tyAt (code.function .locals) 13) l₁₃ (Found′.mach (r4 s pages nodes register x-l x-v page)) (holds (tyAt (code.function .locals) 12) l₁₂ (Part′.mach (r3 s pages nodes register x-l x-v page)) (holds (tyInt w64) l₁₁ (vint w64 (r2 s pages nodes register x-l x-v page)) (holds (tyAt (code.function .locals) 10) l₁₀ (Lengths′.mach (r1 s pages nodes register x-l x-v page)) (holds (sliceTy (tyRef erased imm (pointee (Record′.row .written)))) l₉ (sliceVal (b·register, o·register) (length register)) (holds (sliceTy (tyRef erased imm (pointee (u32 .written)))) l₈ (sliceVal (b·nodes, o·nodes) (length nodes)) (holds (tyAt (code.function .locals) 7) l₇ (PageIndex′.mach page) (holds (tyAt (code.function .locals) 6) l₆ (Version′.mach x-v) (holds (tyAt (code.function .locals) 5) l₅ (Line′.mach x-l) (holds (sliceTy (tyRef (named 2) imm (pointee (Record′.row .written)))) l₄ (sliceVal (b·register, o·register) (length register)) (holds (sliceTy (tyRef (named 1) imm (pointee (u32 .written)))) l₃ (sliceVal (b·nodes, o·nodes) (length nodes)) (holds (sliceTy (tyRef (named 0) imm (pointee (u8 .written)))) l₂ (sliceVal (b·pages, o·pages) (length pages)) (holds (tyAt (code.function .locals) 1) l₁ (Store′.mach s) (empty (tyAt (code.function .locals) 0) l₀ []))))))))))))))))))))))) $
+      Call-since.calls ! mem run (fmOf 𝓤 H (W .laws) 𝓣) known-since s κ·pages q·pages b·pages o·pages γ·pages (length pages) pages κ·nodes q·nodes b·nodes o·nodes γ·nodes (length nodes) nodes κ·register q·register b·register o·register γ·register (length register) register x-l page r7 (r8 s pages nodes register x-l x-v page r7) ok·s ok·x-l ok·page ok·7 ok·8 (and-then ! (load ! (from ! (stop !)) (look ! 46 refl)) (and-then ! (load ! (from ! (stop !)) (look ! 44 refl)) (and-then ! (load ! (from ! (stop !)) (look ! 18 refl)) (and-then ! (load ! (from ! (stop !)) (look ! 16 refl)) (and-then ! (load ! (from ! (stop !)) (look ! 38 refl)) (and-then ! (load ! (from ! (stop !)) (look ! 34 refl)) (and-then ! (load ! (from ! (stop !)) (look ! 4 refl)) (and-then ! (load ! (from ! (stop !)) (look ! 10 refl)) (no-more !)))))))))
+      (λ r9 ok·9 says·9. land ! (from ! (stop !)) (init ! 8 refl (Version′.typed 𝓤 H A W r9 ok·9)) $
+      here ! (‵ (flft κ·pages q·pages) ∷ ‵ (ShrAt u8 κ·pages b·pages o·pages γ·pages (length pages) pages) ∷ ‵ (flft κ·nodes q·nodes) ∷ ‵ (ShrAt u32 κ·nodes b·nodes o·nodes γ·nodes (length nodes) nodes) ∷ ‵ (flft κ·register q·register) ∷ ‵ (ShrAt Record′.row κ·register b·register o·register γ·register (length register) register) ∷ holds (tyAt (code.function .locals) 22) l₂₂ (Version′.mach r7) (holds (tyAt (code.function .locals) 21) l₂₁ (Version′.mach r9) (holds tyBool l₂₀ (vbool (not (eqb (r6 s pages nodes register x-l x-v page) 0))) (holds (tyInt w64) l₁₉ (vint w64 (r8 s pages nodes register x-l x-v page r7)) (holds (tyRef erased imm (sliceTy (tyRef erased imm (pointee (Record′.row .written))))) l₁₈ (vptr l₉ 0) (holds (tyRef erased imm (sliceTy (tyRef erased imm (pointee (u32 .written))))) l₁₇ (vptr l₈ 0) (holds (sliceTy (tyRef erased imm (pointee (Record′.row .written)))) l₁₆ (sliceVal (b·register, o·register) (length register)) (holds (sliceTy (tyRef erased imm (pointee (u32 .written)))) l₁₅ (sliceVal (b·nodes, o·nodes) (length nodes)) (holds (tyInt w64) l₁₄ (vint w64 (r6 s pages nodes register x-l x-v page)) (holds (tyAt (code.function .locals) 13) l₁₃ (Found′.mach (r4 s pages nodes register x-l x-v page)) (holds (tyAt (code.function .locals) 12) l₁₂ (Part′.mach (r3 s pages nodes register x-l x-v page)) (holds (tyInt w64) l₁₁ (vint w64 (r2 s pages nodes register x-l x-v page)) (holds (tyAt (code.function .locals) 10) l₁₀ (Lengths′.mach (r1 s pages nodes register x-l x-v page)) (holds (sliceTy (tyRef erased imm (pointee (Record′.row .written)))) l₉ (sliceVal (b·register, o·register) (length register)) (holds (sliceTy (tyRef erased imm (pointee (u32 .written)))) l₈ (sliceVal (b·nodes, o·nodes) (length nodes)) (holds (tyAt (code.function .locals) 7) l₇ (PageIndex′.mach page) (holds (tyAt (code.function .locals) 6) l₆ (Version′.mach x-v) (holds (tyAt (code.function .locals) 5) l₅ (Line′.mach x-l) (holds (sliceTy (tyRef (named 2) imm (pointee (Record′.row .written)))) l₄ (sliceVal (b·register, o·register) (length register)) (holds (sliceTy (tyRef (named 1) imm (pointee (u32 .written)))) l₃ (sliceVal (b·nodes, o·nodes) (length nodes)) (holds (sliceTy (tyRef (named 0) imm (pointee (u8 .written)))) l₂ (sliceVal (b·pages, o·pages) (length pages)) (holds (tyAt (code.function .locals) 1) l₁ (Store′.mach s) (empty (tyAt (code.function .locals) 0) l₀ []))))))))))))))))))))))) $
+      assigns ! (agg ! (and-then ! (lit ! tt) (and-then ! (load ! (from ! (stop !)) (look ! 8 refl)) (no-more !)))) (from ! (stop !)) (init ! 50 refl (Stamped′.typed 𝓤 H A W (Stamped.Is r9) (Stamped′.make-Is r9 ok·9))) $
+      returns ! (look ! 50 refl) $
+      move ! (50 ∷ 51 ∷ []) $ forget ! 0 refl $ free1 ! $ move ! (48 ∷ 49 ∷ []) $ forget ! 0 refl $ free1 ! $ move ! (46 ∷ 47 ∷ []) $ forget ! 0 refl $ free1 ! $ move ! (44 ∷ 45 ∷ []) $ forget ! 0 refl $ free1 ! $ move ! (42 ∷ 43 ∷ []) $ forget ! 0 refl $ free1 ! $ move ! (40 ∷ 41 ∷ []) $ forget ! 0 refl $ free1 ! $ move ! (38 ∷ 39 ∷ []) $ forget ! 0 refl $ free1 ! $ move ! (36 ∷ 37 ∷ []) $ forget ! 0 refl $ free1 ! $ move ! (34 ∷ 35 ∷ []) $ forget ! 0 refl $ free1 ! $ move ! (32 ∷ 33 ∷ []) $ forget ! 0 refl $ free1 ! $ move ! (30 ∷ 31 ∷ []) $ forget ! 0 refl $ free1 ! $ move ! (28 ∷ 29 ∷ []) $ forget ! 0 refl $ free1 ! $ move ! (26 ∷ 27 ∷ []) $ forget ! 0 refl $ free1 ! $ move ! (24 ∷ 25 ∷ []) $ forget ! 0 refl $ free1 ! $ move ! (22 ∷ 23 ∷ []) $ forget ! 0 refl $ free1 ! $ move ! (20 ∷ 21 ∷ []) $ forget ! 0 refl $ free1 ! $ move ! (18 ∷ 19 ∷ []) $ forget ! 0 refl $ free1 ! $ move ! (16 ∷ 17 ∷ []) $ forget ! 0 refl $ free1 ! $ move ! (14 ∷ 15 ∷ []) $ forget ! 0 refl $ free1 ! $ move ! (12 ∷ 13 ∷ []) $ forget ! 0 refl $ free1 ! $ move ! (10 ∷ 11 ∷ []) $ forget ! 0 refl $ free1 ! $ move ! (8 ∷ 9 ∷ []) $ forget ! 0 refl $ free1 ! $ move ! (6 ∷ 7 ∷ []) $ forget ! 0 refl $ free1 ! $ free0 ! $ by ! (exits (Stamped.Is r9) (Stamped′.make-Is r9 ok·9) (Facts.exit-2 s pages nodes register x-l x-v page ok·s (room·pages .0) (room·nodes .0) (room·register .0) ok·x-l ok·x-v ok·page ok·1 (ok·2 .1) ok·3 ok·4 (ok·5 .1) (ok·6 .1) (is-false (not (eqb (r6 s pages nodes register x-l x-v page) 0)) h·1) (eqb→eq (r6 s pages nodes register x-l x-v page) 0 (twice-not (eqb (r6 s pages nodes register x-l x-v page) 0) h·1)) r7 ok·7 says·7 (ok·8 .1) r9 ok·9 says·9)))))))))))))))))))))))))))))))))))))
 
 module _ {M : Type 1} (𝓤 : URA M) (H : Heap 𝓤) (A : Atoms 𝓤) (W : Given 𝓤 H A) (mem : Memory → SProp 𝓤) (run : Routine → Fun 𝓤) where
-  walks : (𝓣 : Tables 𝓤 H) → Triple 𝓤 (𝓣 .C #lengths-of) (Call-lengths-of.Asked 𝓤 H A mem run) → Triple 𝓤 (𝓣 .C #number-on) (Call-number-on.Asked 𝓤 H A mem run) → Triple 𝓤 (𝓣 .C #version-part) (Call-version-part.Asked 𝓤 H A mem run) → Triple 𝓤 (𝓣 .C #find-page) (Call-find-page.Asked 𝓤 H A mem run) → Triple 𝓤 (𝓣 .C #snapshot-refusal) (Call-snapshot-refusal.Asked 𝓤 H A mem run) → Triple 𝓤 (𝓣 .C #page-refusal) (Call-page-refusal.Asked 𝓤 H A mem run) → Triple 𝓤 (𝓣 .C #stamped-by) (Call-stamped-by.Asked 𝓤 H A mem run) → Walks 𝓤 H A stamp‴.ended stayed (WpFn 𝓤 H (𝓣 .C) (𝓣 .Λ) code.function) (stamp‴.clauses 𝓤 H A mem run)
-  walks 𝓣 known-lengths-of known-number-on known-version-part known-find-page known-snapshot-refusal known-page-refusal known-stamped-by = walked 𝓤 H A stamp‴.ended stayed (stamp‴.clauses 𝓤 H A mem run) (WpFn 𝓤 H (𝓣 .C) (𝓣 .Λ) code.function) (λ κs. (Store′.vals, (slice-vals, (slice-vals, (slice-vals, (Line′.vals, (Version′.vals, (PageIndex′.vals, tt)))))))) (λ κs. (Store′.tells, (shr-slice-tells (named 0) (κs .0) u8, (shr-slice-tells (named 0) (κs .1 .0) u32, (shr-slice-tells (named 0) (κs .1 .1 .0) Record′.row, (Line′.tells, (Version′.tells, (PageIndex′.tells, tt))))))))
-      (λ κs qs bounds a g are. via 𝓤 _ (fst∗ 𝓤 _ (emp 𝓤)) (walk 𝓤 H A W mem run (a .0) (κs .0) (qs .0) (a .1 .0 .ptr .0) (a .1 .0 .ptr .1) (a .1 .0 .name) (a .1 .0 .now) (κs .1 .0) (qs .1 .0) (a .1 .1 .0 .ptr .0) (a .1 .1 .0 .ptr .1) (a .1 .1 .0 .name) (a .1 .1 .0 .now) (κs .1 .1 .0) (qs .1 .1 .0) (a .1 .1 .1 .0 .ptr .0) (a .1 .1 .1 .0 .ptr .1) (a .1 .1 .1 .0 .name) (a .1 .1 .1 .0 .now) (a .1 .1 .1 .1 .0) (a .1 .1 .1 .1 .1 .0) (a .1 .1 .1 .1 .1 .1 .0) (are .0) (are .1 .0 .0 .1) (are .1 .1 .0 .0 .1) (are .1 .1 .1 .0 .0 .1) (are .1 .1 .1 .1 .0) (are .1 .1 .1 .1 .1 .0) (are .1 .1 .1 .1 .1 .1 .0) 𝓣 known-lengths-of known-number-on known-version-part known-find-page known-snapshot-refusal known-page-refusal known-stamped-by))
+  walks : (𝓣 : Tables 𝓤 H) → Triple 𝓤 (𝓣 .C #lengths-of) (Call-lengths-of.Asked 𝓤 H A mem run) → Triple 𝓤 (𝓣 .C #number-on) (Call-number-on.Asked 𝓤 H A mem run) → Triple 𝓤 (𝓣 .C #version-part) (Call-version-part.Asked 𝓤 H A mem run) → Triple 𝓤 (𝓣 .C #find-page) (Call-find-page.Asked 𝓤 H A mem run) → Triple 𝓤 (𝓣 .C #snapshot-refusal) (Call-snapshot-refusal.Asked 𝓤 H A mem run) → Triple 𝓤 (𝓣 .C #page-refusal) (Call-page-refusal.Asked 𝓤 H A mem run) → Triple 𝓤 (𝓣 .C #version-found) (Call-version-found.Asked 𝓤 H A mem run) → Triple 𝓤 (𝓣 .C #number-found) (Call-number-found.Asked 𝓤 H A mem run) → Triple 𝓤 (𝓣 .C #since) (Call-since.Asked 𝓤 H A mem run) → Walks 𝓤 H A stamp‴.ended stayed (WpFn 𝓤 H (𝓣 .C) (𝓣 .Λ) code.function) (stamp‴.clauses 𝓤 H A mem run)
+  walks 𝓣 known-lengths-of known-number-on known-version-part known-find-page known-snapshot-refusal known-page-refusal known-version-found known-number-found known-since = walked 𝓤 H A stamp‴.ended stayed (stamp‴.clauses 𝓤 H A mem run) (WpFn 𝓤 H (𝓣 .C) (𝓣 .Λ) code.function) (λ κs. (Store′.vals, (slice-vals, (slice-vals, (slice-vals, (Line′.vals, (Version′.vals, (PageIndex′.vals, tt)))))))) (λ κs. (Store′.tells, (shr-slice-tells (named 0) (κs .0) u8, (shr-slice-tells (named 0) (κs .1 .0) u32, (shr-slice-tells (named 0) (κs .1 .1 .0) Record′.row, (Line′.tells, (Version′.tells, (PageIndex′.tells, tt))))))))
+      (λ κs qs bounds a g are. via 𝓤 _ (fst∗ 𝓤 _ (emp 𝓤)) (walk 𝓤 H A W mem run (a .0) (κs .0) (qs .0) (a .1 .0 .ptr .0) (a .1 .0 .ptr .1) (a .1 .0 .name) (a .1 .0 .now) (κs .1 .0) (qs .1 .0) (a .1 .1 .0 .ptr .0) (a .1 .1 .0 .ptr .1) (a .1 .1 .0 .name) (a .1 .1 .0 .now) (κs .1 .1 .0) (qs .1 .1 .0) (a .1 .1 .1 .0 .ptr .0) (a .1 .1 .1 .0 .ptr .1) (a .1 .1 .1 .0 .name) (a .1 .1 .1 .0 .now) (a .1 .1 .1 .1 .0) (a .1 .1 .1 .1 .1 .0) (a .1 .1 .1 .1 .1 .1 .0) (are .0) (are .1 .0 .0 .1) (are .1 .1 .0 .0 .1) (are .1 .1 .1 .0 .0 .1) (are .1 .1 .1 .1 .0) (are .1 .1 .1 .1 .1 .0) (are .1 .1 .1 .1 .1 .1 .0) 𝓣 known-lengths-of known-number-on known-version-part known-find-page known-snapshot-refusal known-page-refusal known-version-found known-number-found known-since))
 
-meets : {M : Type 1} (𝓤 : URA M) (H : Heap 𝓤) (A : Atoms 𝓤) → Given 𝓤 H A → (mem : Memory → SProp 𝓤) (run : Routine → Fun 𝓤) (𝓣 : Tables 𝓤 H) → Triple 𝓤 (𝓣 .C #lengths-of) (Call-lengths-of.Asked 𝓤 H A mem run) → Triple 𝓤 (𝓣 .C #number-on) (Call-number-on.Asked 𝓤 H A mem run) → Triple 𝓤 (𝓣 .C #version-part) (Call-version-part.Asked 𝓤 H A mem run) → Triple 𝓤 (𝓣 .C #find-page) (Call-find-page.Asked 𝓤 H A mem run) → Triple 𝓤 (𝓣 .C #snapshot-refusal) (Call-snapshot-refusal.Asked 𝓤 H A mem run) → Triple 𝓤 (𝓣 .C #page-refusal) (Call-page-refusal.Asked 𝓤 H A mem run) → Triple 𝓤 (𝓣 .C #stamped-by) (Call-stamped-by.Asked 𝓤 H A mem run)
+meets : {M : Type 1} (𝓤 : URA M) (H : Heap 𝓤) (A : Atoms 𝓤) → Given 𝓤 H A → (mem : Memory → SProp 𝓤) (run : Routine → Fun 𝓤) (𝓣 : Tables 𝓤 H) → Triple 𝓤 (𝓣 .C #lengths-of) (Call-lengths-of.Asked 𝓤 H A mem run) → Triple 𝓤 (𝓣 .C #number-on) (Call-number-on.Asked 𝓤 H A mem run) → Triple 𝓤 (𝓣 .C #version-part) (Call-version-part.Asked 𝓤 H A mem run) → Triple 𝓤 (𝓣 .C #find-page) (Call-find-page.Asked 𝓤 H A mem run) → Triple 𝓤 (𝓣 .C #snapshot-refusal) (Call-snapshot-refusal.Asked 𝓤 H A mem run) → Triple 𝓤 (𝓣 .C #page-refusal) (Call-page-refusal.Asked 𝓤 H A mem run) → Triple 𝓤 (𝓣 .C #version-found) (Call-version-found.Asked 𝓤 H A mem run) → Triple 𝓤 (𝓣 .C #number-found) (Call-number-found.Asked 𝓤 H A mem run) → Triple 𝓤 (𝓣 .C #since) (Call-since.Asked 𝓤 H A mem run)
     → Meets 𝓤 H A stamp‴.signature (WpFn 𝓤 H (𝓣 .C) (𝓣 .Λ) code.function) (stamp‴.spec 𝓤 H A mem run)
-meets 𝓤 H A W mem run 𝓣 known-lengths-of known-number-on known-version-part known-find-page known-snapshot-refusal known-page-refusal known-stamped-by =
+meets 𝓤 H A W mem run 𝓣 known-lengths-of known-number-on known-version-part known-find-page known-snapshot-refusal known-page-refusal known-version-found known-number-found known-since =
     walk-meets 𝓤 H A stamp‴.ended stayed W (goes-none 𝓤 H A W 3 (λ _. Store′.row) yes (λ κs x f. refl), (goes-none-slice 𝓤 H A W 3 (0 ∷ []) tt (plain (λ _. u8)) yes, (goes-none-slice 𝓤 H A W 3 (1 ∷ []) tt (plain (λ _. u32)) yes, (goes-none-slice 𝓤 H A W 3 (2 ∷ []) tt (plain (λ _. Record′.row)) yes, (goes-none 𝓤 H A W 3 (λ _. Line′.row) yes (λ κs x f. refl), (goes-none 𝓤 H A W 3 (λ _. Version′.row) yes (λ κs x f. refl), (goes-none 𝓤 H A W 3 (λ _. PageIndex′.row) yes (λ κs x f. refl), tt))))))) (stamp‴.clauses 𝓤 H A mem run)
-    (WpFn 𝓤 H (𝓣 .C) (𝓣 .Λ) code.function) (WpFn-mono 𝓤 H (W .laws) 𝓣 code.function) (walks 𝓤 H A W mem run 𝓣 known-lengths-of known-number-on known-version-part known-find-page known-snapshot-refusal known-page-refusal known-stamped-by)
+    (WpFn 𝓤 H (𝓣 .C) (𝓣 .Λ) code.function) (WpFn-mono 𝓤 H (W .laws) 𝓣 code.function) (walks 𝓤 H A W mem run 𝓣 known-lengths-of known-number-on known-version-part known-find-page known-snapshot-refusal known-page-refusal known-version-found known-number-found known-since)
 
 pub stamp-spec : {M : Type 1} → stated.statement M
 unfolding code.routine tablesOf
@@ -193,4 +218,6 @@ stamp-spec 𝓤 H 𝓜 𝓖 𝓡 =
     (cited 𝓤 H (Call-find-page.Asked 𝓤 H (𝓖 .A) (𝓜 .mem) (𝓡 .run)) 𝓜 𝓡 code.env #find-page def-find-page.routine code.calls-walk·find-page (thm-find-page.met 𝓤 H 𝓜 𝓖 𝓡))
     (cited 𝓤 H (Call-snapshot-refusal.Asked 𝓤 H (𝓖 .A) (𝓜 .mem) (𝓡 .run)) 𝓜 𝓡 code.env #snapshot-refusal def-snapshot-refusal.routine code.calls-versions·snapshot-refusal (thm-snapshot-refusal.met 𝓤 H 𝓜 𝓖 𝓡))
     (cited 𝓤 H (Call-page-refusal.Asked 𝓤 H (𝓖 .A) (𝓜 .mem) (𝓡 .run)) 𝓜 𝓡 code.env #page-refusal def-page-refusal.routine code.calls-stamp·page-refusal (thm-page-refusal.met 𝓤 H 𝓜 𝓖 𝓡))
-    (cited 𝓤 H (Call-stamped-by.Asked 𝓤 H (𝓖 .A) (𝓜 .mem) (𝓡 .run)) 𝓜 𝓡 code.env #stamped-by def-stamped-by.routine code.calls-stamp·stamped-by (thm-stamped-by.met 𝓤 H 𝓜 𝓖 𝓡)))
+    (cited 𝓤 H (Call-version-found.Asked 𝓤 H (𝓖 .A) (𝓜 .mem) (𝓡 .run)) 𝓜 𝓡 code.env #version-found def-version-found.routine code.calls-stamp·version-found (thm-version-found.met 𝓤 H 𝓜 𝓖 𝓡))
+    (cited 𝓤 H (Call-number-found.Asked 𝓤 H (𝓖 .A) (𝓜 .mem) (𝓡 .run)) 𝓜 𝓡 code.env #number-found def-number-found.routine code.calls-walk·number-found (thm-number-found.met 𝓤 H 𝓜 𝓖 𝓡))
+    (cited 𝓤 H (Call-since.Asked 𝓤 H (𝓖 .A) (𝓜 .mem) (𝓡 .run)) 𝓜 𝓡 code.env #since def-since.routine code.calls-stamp·since (thm-since.met 𝓤 H 𝓜 𝓖 𝓡)))

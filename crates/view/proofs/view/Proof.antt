@@ -106,7 +106,7 @@ use Rattle.view.proofs.view.Statement as stated
 use Rattle.view.proofs.view.Code as code
 use Rattle.view.proofs.view.Proof.Facts as Facts
 use denote.Memory.{pointee}
-use Rattle.walk.proofs.Generated.Through.{loan-of, loan-within, lend-ref, back-ref}
+use Rattle.descent.proofs.Generated.Through.{loan-of, loan-within, lend-ref, back-ref}
 use Rattle.view.proofs.view.Proof.Asks.{r1, r2, r3, r4, r5, r6, r7}
 
 abbrev stayed : Stays (view‴.ended .signature .params) (view‴.ended .kept)

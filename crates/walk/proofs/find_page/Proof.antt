@@ -56,7 +56,7 @@ use Rattle.register.proofs.Generated.Kind.Entries as Entries′
 use Rattle.register.specs.declared.Part.{Part}
 use Rattle.register.proofs.Generated.Kind.Part as Part′
 use Rattle.tree.specs.declared.NodeAt.{NodeAt}
-use Rattle.walk.proofs.Generated.Kind.NodeAt as NodeAt′
+use Rattle.descent.proofs.Generated.Kind.NodeAt as NodeAt′
 use Rattle.register.proofs.Generated.Flow.{ref, MutAt, ShrAt, lend-mut, back-mut, lend-shr, back-shr, branches-on, regroup, skips-on, returns-on, plus-nothing, holds, empty, less-fits, is-true, is-false, differ, above-0, twice-not, switches-to, switches-last, big-lit, here, blocks-on, resume, scaled-2, scaled-4, scaled-8, opens-shr, shuts-shr, opens-mut, shuts-mut, puts-mut, keeps-shr, fills, empties, tyAt}
 use Rattle.walk.proofs.Generated.Say.find_page as find-page″
 use Rattle.register.proofs.Generated.Say.version_part as version-part″
@@ -69,13 +69,13 @@ use Rattle.walk.proofs.Generated.Call.reach_from as Call-reach-from
 use Rattle.walk.proofs.reach_from.Symbol as def-reach-from
 use Rattle.walk.proofs.reach_from.Symbol.{name as #reach-from}
 use Rattle.walk.proofs.reach_from.Met as thm-reach-from
-use Rattle.walk.proofs.Generated.Say.leaf_place as leaf-place″
-use Rattle.walk.proofs.Generated.Call.leaf_place as Call-leaf-place
-use Rattle.walk.proofs.leaf_place.Symbol as def-leaf-place
-use Rattle.walk.proofs.leaf_place.Symbol.{name as #leaf-place}
-use Rattle.walk.proofs.leaf_place.Met as thm-leaf-place
-use Rattle.walk.proofs.Generated.Say.node_at as node-at″
-use Rattle.walk.proofs.Generated.Call.node_at as Call-node-at
+use Rattle.descent.proofs.Generated.Say.leaf_place as leaf-place″
+use Rattle.descent.proofs.Generated.Call.leaf_place as Call-leaf-place
+use Rattle.descent.proofs.leaf_place.Symbol as def-leaf-place
+use Rattle.descent.proofs.leaf_place.Symbol.{name as #leaf-place}
+use Rattle.descent.proofs.leaf_place.Met as thm-leaf-place
+use Rattle.descent.proofs.Generated.Say.node_at as node-at″
+use Rattle.descent.proofs.Generated.Call.node_at as Call-node-at
 use Rattle.tree.proofs.node_at.Symbol as def-node-at
 use Rattle.tree.proofs.node_at.Symbol.{name as #node-at}
 use Rattle.tree.proofs.node_at.Met as thm-node-at
@@ -92,7 +92,7 @@ use Rattle.walk.proofs.find_page.Proof.Facts as Facts
 use denote.Memory.{pointee}
 use contract.BorrowLft.{_⊑_}
 use denote.Ref.{ShrRef, ptr-vals, shr-tells}
-use Rattle.walk.proofs.Generated.Through.{ref-to, RefAt, takes-out, opens-ref, shuts-ref}
+use Rattle.descent.proofs.Generated.Through.{ref-to, RefAt, takes-out, opens-ref, shuts-ref}
 use Rattle.walk.proofs.find_page.Proof.Asks.{r1, r2, r3, r4, r5, r6}
 
 abbrev stayed : Stays (find-page‴.ended .signature .params) (find-page‴.ended .kept)
@@ -173,6 +173,6 @@ find-page-spec 𝓤 H 𝓜 𝓖 𝓡 =
     (meets 𝓤 H (𝓖 .A) (givenOf 𝓤 H 𝓜 𝓖) (𝓜 .mem) (𝓡 .run) (tablesOf 𝓤 H 𝓜 (tables 𝓤 H 𝓜 𝓡 code.env))
     (cited 𝓤 H (Call-version-part.Asked 𝓤 H (𝓖 .A) (𝓜 .mem) (𝓡 .run)) 𝓜 𝓡 code.env #version-part def-version-part.routine code.calls-register·version-part (thm-version-part.met 𝓤 H 𝓜 𝓖 𝓡))
     (cited 𝓤 H (Call-reach-from.Asked 𝓤 H (𝓖 .A) (𝓜 .mem) (𝓡 .run)) 𝓜 𝓡 code.env #reach-from def-reach-from.routine code.calls-walk·reach-from (thm-reach-from.met 𝓤 H 𝓜 𝓖 𝓡))
-    (cited 𝓤 H (Call-leaf-place.Asked 𝓤 H (𝓖 .A) (𝓜 .mem) (𝓡 .run)) 𝓜 𝓡 code.env #leaf-place def-leaf-place.routine code.calls-walk·leaf-place (thm-leaf-place.met 𝓤 H 𝓜 𝓖 𝓡))
+    (cited 𝓤 H (Call-leaf-place.Asked 𝓤 H (𝓖 .A) (𝓜 .mem) (𝓡 .run)) 𝓜 𝓡 code.env #leaf-place def-leaf-place.routine code.calls-descent·leaf-place (thm-leaf-place.met 𝓤 H 𝓜 𝓖 𝓡))
     (cited 𝓤 H (Call-node-at.Asked 𝓤 H (𝓖 .A) (𝓜 .mem) (𝓡 .run)) 𝓜 𝓡 code.env #node-at def-node-at.routine code.calls-tree·node-at (thm-node-at.met 𝓤 H 𝓜 𝓖 𝓡))
     (cited 𝓤 H (Call-leaf-of.Asked 𝓤 H (𝓖 .A) (𝓜 .mem) (𝓡 .run)) 𝓜 𝓡 code.env #leaf-of def-leaf-of.routine code.calls-walk·leaf-of (thm-leaf-of.met 𝓤 H 𝓜 𝓖 𝓡)))

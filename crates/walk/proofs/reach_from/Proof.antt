@@ -66,11 +66,11 @@ use Rattle.walk.proofs.Generated.Call.carried_from as Call-carried-from
 use Rattle.walk.proofs.carried_from.Symbol as def-carried-from
 use Rattle.walk.proofs.carried_from.Symbol.{name as #carried-from}
 use Rattle.walk.proofs.carried_from.Met as thm-carried-from
-use Rattle.walk.proofs.Generated.Say.reach as reach″
-use Rattle.walk.proofs.Generated.Call.reach as Call-reach
-use Rattle.walk.proofs.reach.Symbol as def-reach
-use Rattle.walk.proofs.reach.Symbol.{name as #reach}
-use Rattle.walk.proofs.reach.Met as thm-reach
+use Rattle.descent.proofs.Generated.Say.reach as reach″
+use Rattle.descent.proofs.Generated.Call.reach as Call-reach
+use Rattle.descent.proofs.reach.Symbol as def-reach
+use Rattle.descent.proofs.reach.Symbol.{name as #reach}
+use Rattle.descent.proofs.reach.Met as thm-reach
 use Rattle.walk.proofs.reach_from.Key.{name as #self}
 use Rattle.walk.proofs.reach_from as reach-from‴
 use Rattle.walk.proofs.reach_from.Statement as stated
@@ -78,7 +78,7 @@ use Rattle.walk.proofs.reach_from.Code as code
 use Rattle.walk.proofs.reach_from.Proof.Facts as Facts
 use contract.BorrowLft.{_⊑_}
 use denote.Ref.{ShrRef, ptr-vals, shr-tells}
-use Rattle.walk.proofs.Generated.Through.{ref-to, RefAt, takes-out, opens-ref, shuts-ref}
+use Rattle.descent.proofs.Generated.Through.{ref-to, RefAt, takes-out, opens-ref, shuts-ref}
 use Rattle.walk.proofs.reach_from.Proof.Asks.{r1, r2, r4}
 
 abbrev stayed : Stays (reach-from‴.ended .signature .params) (reach-from‴.ended .kept)
@@ -154,4 +154,4 @@ reach-from-spec 𝓤 H 𝓜 𝓖 𝓡 =
     (cited 𝓤 H (Call-smaller.Asked 𝓤 H (𝓖 .A) (𝓜 .mem) (𝓡 .run)) 𝓜 𝓡 code.env #smaller def-smaller.routine code.calls-tree·smaller (thm-smaller.met 𝓤 H 𝓜 𝓖 𝓡))
     (cited 𝓤 H (Call-span-of.Asked 𝓤 H (𝓖 .A) (𝓜 .mem) (𝓡 .run)) 𝓜 𝓡 code.env #span-of def-span-of.routine code.calls-tree·span-of (thm-span-of.met 𝓤 H 𝓜 𝓖 𝓡))
     (cited 𝓤 H (Call-carried-from.Asked 𝓤 H (𝓖 .A) (𝓜 .mem) (𝓡 .run)) 𝓜 𝓡 code.env #carried-from def-carried-from.routine code.calls-walk·carried-from (thm-carried-from.met 𝓤 H 𝓜 𝓖 𝓡))
-    (cited 𝓤 H (Call-reach.Asked 𝓤 H (𝓖 .A) (𝓜 .mem) (𝓡 .run)) 𝓜 𝓡 code.env #reach def-reach.routine code.calls-walk·reach (thm-reach.met 𝓤 H 𝓜 𝓖 𝓡)))
+    (cited 𝓤 H (Call-reach.Asked 𝓤 H (𝓖 .A) (𝓜 .mem) (𝓡 .run)) 𝓜 𝓡 code.env #reach def-reach.routine code.calls-descent·reach (thm-reach.met 𝓤 H 𝓜 𝓖 𝓡)))

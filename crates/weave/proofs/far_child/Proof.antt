@@ -112,7 +112,7 @@ use Rattle.weave.proofs.far_child.Statement as stated
 use Rattle.weave.proofs.far_child.Code as code
 use Rattle.weave.proofs.far_child.Proof.Facts as Facts
 use denote.Memory.{pointee}
-use Rattle.walk.proofs.Generated.Through.{loan-of, loan-within, lend-ref, back-ref}
+use Rattle.descent.proofs.Generated.Through.{loan-of, loan-within, lend-ref, back-ref}
 use Rattle.weave.proofs.far_child.Proof.Asks.{r1, r2, r3, r4, r5, r6, r7, r9}
 
 abbrev stayed : Stays (far-child‴.ended .signature .params) (far-child‴.ended .kept)

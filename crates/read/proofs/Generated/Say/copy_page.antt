@@ -6,6 +6,7 @@ use mathlib.Core.List.{List}
 use mathlib.Core.Bool.{Bool}
 use mathlib.Core.Path.{_≡_}
 use lib.ListN.{length, take}
+use Rattle.text.specs.Text.{same}
 use Rattle.pages.specs.Pages.{over, fits, put, part}
 
 abbrev pub ens : List ℕ → ℕ → ℕ → ℕ → ℕ → List ℕ → ℕ → List ℕ → Bool → Type 0

@@ -2,10 +2,10 @@
 -- The contract of `stamp::stamp`, over lists and plain values: a slice stands for its list, and P′ is the list of P at exit.
 -- Assumes nothing.
 use Prim.Native.Nat.{ℕ}
-use mathlib.Core.List.{List}
+use mathlib.Core.List.{List, []}
 use mathlib.Core.Bool.{Bool}
 use mathlib.Core.Path.{_≡_}
-use Rattle.stamp.specs.Stamp.{pageRefusal, versionFound, stamped, stampOut}
+use Rattle.stamp.specs.Stamp.{pageRefusal, versionFound, foundBy, leafAsOf, sameBelow, since, stamped, stampOut}
 use Rattle.versions.specs.Store.{areasOf}
 use Rattle.lines.specs.declared.Entries.{Entries}
 use Rattle.lines.specs.declared.Line.{Line}

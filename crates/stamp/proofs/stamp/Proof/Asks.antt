@@ -37,7 +37,9 @@ use Rattle.register.proofs.Generated.Say.version_part as version-part″
 use Rattle.walk.proofs.Generated.Say.find_page as find-page″
 use Rattle.versions.proofs.Generated.Say.snapshot_refusal as snapshot-refusal″
 use Rattle.stamp.proofs.Generated.Say.page_refusal as page-refusal″
-use Rattle.stamp.proofs.Generated.Say.stamped_by as stamped-by″
+use Rattle.stamp.proofs.Generated.Say.version_found as version-found″
+use Rattle.walk.proofs.Generated.Say.number_found as number-found″
+use Rattle.stamp.proofs.Generated.Say.since as since″
 
 abbrev pub r1 : Store → List ℕ → List ℕ → List Record → Line → Version → PageIndex → Lengths
 r1 s pages nodes register x-l x-v page = lengths-of″.res pages nodes register
@@ -57,11 +59,17 @@ r5 s pages nodes register x-l x-v page = snapshot-refusal″.res s (r1 s pages n
 abbrev pub r6 : Store → List ℕ → List ℕ → List Record → Line → Version → PageIndex → ℕ
 r6 s pages nodes register x-l x-v page = page-refusal″.res (r5 s pages nodes register x-l x-v page) (s .pages) (r3 s pages nodes register x-l x-v page) (r2 s pages nodes register x-l x-v page) x-v page (r4 s pages nodes register x-l x-v page)
 
-abbrev pub r7 : Store → List ℕ → List ℕ → List Record → Line → Version → PageIndex → Stamped
-r7 s pages nodes register x-l x-v page = stamped-by″.res (r6 s pages nodes register x-l x-v page) (r4 s pages nodes register x-l x-v page)
+abbrev pub r8 : Store → List ℕ → List ℕ → List Record → Line → Version → PageIndex → Version → ℕ
+r8 s pages nodes register x-l x-v page r7 = number-found″.res (s .pages) (r4 s pages nodes register x-l x-v page)
 
 -- the function ensures: r ≡ stampOut s (areasOf pages nodes register) (l .0) (v .0) (page .0)
 abbrev pub exit-1 : Type 0
 exit-1 =
-    (s : Store) (pages : List ℕ) (nodes : List ℕ) (register : List Record) (x-l : Line) (x-v : Version) (page : PageIndex) (ok-s : Store′.Ok s) (len-pages : length pages < 2 ^ 64) (len-nodes : length nodes < 2 ^ 64) (len-register : length register < 2 ^ 64) (ok-x-l : Line′.Ok x-l) (ok-x-v : Version′.Ok x-v) (ok-page : PageIndex′.Ok page) (ok-r1 : Lengths′.Ok (r1 s pages nodes register x-l x-v page)) (fits-r2 : (r2 s pages nodes register x-l x-v page) < 2 ^ 64) (ok-r3 : Part′.Ok (r3 s pages nodes register x-l x-v page)) (ok-r4 : Found′.Ok (r4 s pages nodes register x-l x-v page)) (fits-r5 : (r5 s pages nodes register x-l x-v page) < 2 ^ 64) (fits-r6 : (r6 s pages nodes register x-l x-v page) < 2 ^ 64) (ok-r7 : Stamped′.Ok (r7 s pages nodes register x-l x-v page))
-    → stamp″.ens s pages nodes register x-l x-v page (r7 s pages nodes register x-l x-v page)
+    (s : Store) (pages : List ℕ) (nodes : List ℕ) (register : List Record) (x-l : Line) (x-v : Version) (page : PageIndex) (ok-s : Store′.Ok s) (len-pages : length pages < 2 ^ 64) (len-nodes : length nodes < 2 ^ 64) (len-register : length register < 2 ^ 64) (ok-x-l : Line′.Ok x-l) (ok-x-v : Version′.Ok x-v) (ok-page : PageIndex′.Ok page) (ok-r1 : Lengths′.Ok (r1 s pages nodes register x-l x-v page)) (fits-r2 : (r2 s pages nodes register x-l x-v page) < 2 ^ 64) (ok-r3 : Part′.Ok (r3 s pages nodes register x-l x-v page)) (ok-r4 : Found′.Ok (r4 s pages nodes register x-l x-v page)) (fits-r5 : (r5 s pages nodes register x-l x-v page) < 2 ^ 64) (fits-r6 : (r6 s pages nodes register x-l x-v page) < 2 ^ 64) (c1 : not (eqb (r6 s pages nodes register x-l x-v page) 0) ≡ true) (n1 : 0 < (r6 s pages nodes register x-l x-v page))
+    → stamp″.ens s pages nodes register x-l x-v page (Stamped.Refused (r6 s pages nodes register x-l x-v page))
+
+-- the function ensures: r ≡ stampOut s (areasOf pages nodes register) (l .0) (v .0) (page .0)
+abbrev pub exit-2 : Type 0
+exit-2 =
+    (s : Store) (pages : List ℕ) (nodes : List ℕ) (register : List Record) (x-l : Line) (x-v : Version) (page : PageIndex) (ok-s : Store′.Ok s) (len-pages : length pages < 2 ^ 64) (len-nodes : length nodes < 2 ^ 64) (len-register : length register < 2 ^ 64) (ok-x-l : Line′.Ok x-l) (ok-x-v : Version′.Ok x-v) (ok-page : PageIndex′.Ok page) (ok-r1 : Lengths′.Ok (r1 s pages nodes register x-l x-v page)) (fits-r2 : (r2 s pages nodes register x-l x-v page) < 2 ^ 64) (ok-r3 : Part′.Ok (r3 s pages nodes register x-l x-v page)) (ok-r4 : Found′.Ok (r4 s pages nodes register x-l x-v page)) (fits-r5 : (r5 s pages nodes register x-l x-v page) < 2 ^ 64) (fits-r6 : (r6 s pages nodes register x-l x-v page) < 2 ^ 64) (c1 : not (eqb (r6 s pages nodes register x-l x-v page) 0) ≡ false) (n1 : (r6 s pages nodes register x-l x-v page) ≡ 0) (r7 : Version) (ok-r7 : Version′.Ok r7) (says7 : version-found″.ens (r4 s pages nodes register x-l x-v page) r7) (fits-r8 : (r8 s pages nodes register x-l x-v page r7) < 2 ^ 64) (r9 : Version) (ok-r9 : Version′.Ok r9) (says9 : since″.ens s pages nodes register x-l page r7 (r8 s pages nodes register x-l x-v page r7) r9)
+    → stamp″.ens s pages nodes register x-l x-v page (Stamped.Is r9)

@@ -47,7 +47,7 @@ use Rattle.register.proofs.Generated.Kind.Version as Version′
 use Rattle.register.proofs.Generated.Flow.{ref, MutAt, ShrAt, keeps-shr, plus-nothing}
 use Rattle.walk.proofs.find_page as callee
 use Rattle.walk.proofs.find_page.Symbol.{name as #callee}
-use Rattle.walk.proofs.Generated.Through.{ref-to, RefAt, keeps-ref}
+use Rattle.descent.proofs.Generated.Through.{ref-to, RefAt, keeps-ref}
 use contract.BorrowLft.{_⊑_}
 
 module _ {M : Type 1} (𝓤 : URA M) (H : Heap 𝓤) (A : Atoms 𝓤) (mem : Memory → SProp 𝓤) (run : Routine → Fun 𝓤) where

@@ -33,7 +33,7 @@ use denote.Triple.Spec.{tripleOf}
 use denote.Triple.Walked.{says}
 use Rattle.walk.proofs.Generated.Say.leaf_of as leaf-of″
 use Rattle.tree.specs.declared.NodeAt.{NodeAt}
-use Rattle.walk.proofs.Generated.Kind.NodeAt as NodeAt′
+use Rattle.descent.proofs.Generated.Kind.NodeAt as NodeAt′
 use Rattle.tree.specs.declared.Found.{Found}
 use Rattle.walk.proofs.Generated.Kind.Found as Found′
 use Rattle.tree.specs.declared.Version.{Version}

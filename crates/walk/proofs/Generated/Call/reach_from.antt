@@ -43,7 +43,7 @@ use Rattle.register.proofs.Generated.Kind.Entries as Entries′
 use Rattle.register.proofs.Generated.Flow.{ref, MutAt, ShrAt, keeps-shr, plus-nothing}
 use Rattle.walk.proofs.reach_from as callee
 use Rattle.walk.proofs.reach_from.Symbol.{name as #callee}
-use Rattle.walk.proofs.Generated.Through.{ref-to, RefAt, keeps-ref}
+use Rattle.descent.proofs.Generated.Through.{ref-to, RefAt, keeps-ref}
 use contract.BorrowLft.{_⊑_}
 
 module _ {M : Type 1} (𝓤 : URA M) (H : Heap 𝓤) (A : Atoms 𝓤) (mem : Memory → SProp 𝓤) (run : Routine → Fun 𝓤) where

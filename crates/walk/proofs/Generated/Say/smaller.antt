@@ -6,11 +6,10 @@ use mathlib.Core.List.{List}
 use mathlib.Core.Bool.{Bool, true}
 use mathlib.Core.Path.{_≡_}
 use lib.Count.{ones}
-use Rattle.tree.specs.Tree.{rootHeight}
 use Rattle.tree.specs.Place.{kth, first, halvings, nodeNumbered}
 use Rattle.tree.specs.NodeArea.{nodeAt, withNode}
 use Rattle.tree.specs.Cases.{table, every}
-use Rattle.tree.specs.Contract.{rootSpan, nodesFor, Pages, Counted, Names}
+use Rattle.tree.specs.Contract.{rootSpan, heightFor, nodesFor, Pages, Counted, Names}
 use Rattle.tree.specs.declared.Found.{Found}
 use Rattle.tree.specs.declared.NodeAt.{NodeAt}
 use Rattle.tree.specs.declared.PageIndex.{PageIndex}

@@ -23,12 +23,12 @@ use Rattle.register.proofs.Generated.Kind.Entries as Entries′
 use Rattle.register.specs.declared.Part.{Part}
 use Rattle.register.proofs.Generated.Kind.Part as Part′
 use Rattle.tree.specs.declared.NodeAt.{NodeAt}
-use Rattle.walk.proofs.Generated.Kind.NodeAt as NodeAt′
+use Rattle.descent.proofs.Generated.Kind.NodeAt as NodeAt′
 use Rattle.walk.proofs.Generated.Say.find_page as find-page″
 use Rattle.register.proofs.Generated.Say.version_part as version-part″
 use Rattle.walk.proofs.Generated.Say.reach_from as reach-from″
-use Rattle.walk.proofs.Generated.Say.leaf_place as leaf-place″
-use Rattle.walk.proofs.Generated.Say.node_at as node-at″
+use Rattle.descent.proofs.Generated.Say.leaf_place as leaf-place″
+use Rattle.descent.proofs.Generated.Say.node_at as node-at″
 use Rattle.walk.proofs.Generated.Say.leaf_of as leaf-of″
 
 abbrev pub r1 : List ℕ → List Record → ℕ → PageIndex → Part

@@ -1,5 +1,5 @@
 -- The facts that the walk of `walk::find_page` asks for. The author's file: tools/walkgen wrote its skeleton once, and with --rebind brings the arguments up to date.
-use Rattle.walk.proofs.Descent.{find-ends}
+use Rattle.walk.proofs.FromRoot.{find-ends}
 use Rattle.walk.proofs.find_page.Proof.Asks as Asks
 
 -- the function ensures: r ≡ findPage (areasOf [] nodes register) c (page .0)

@@ -20,7 +20,7 @@ use Rattle.walk.proofs.Generated.Say.reach_from as reach-from″
 use Rattle.walk.proofs.Generated.Say.smaller as smaller″
 use Rattle.walk.proofs.Generated.Say.span_of as span-of″
 use Rattle.walk.proofs.Generated.Say.carried_from as carried-from″
-use Rattle.walk.proofs.Generated.Say.reach as reach″
+use Rattle.descent.proofs.Generated.Say.reach as reach″
 
 abbrev pub r1 : List ℕ → List Record → ℕ → ℕ → PageIndex → ℕ → ℕ
 r1 nodes register c height page x-to = smaller″.res height 12

@@ -4,8 +4,9 @@ use mathlib.Core.List.{[]}
 use Prim.Native.Nat.{min}
 use native.Mathlib.Omega.{arith}
 use Rattle.versions.specs.Store.{areasOf}
-use Rattle.walk.specs.Descent.{orMost}
-use Rattle.walk.proofs.Descent.{below-most, level-root, from-root, from-past, from-most}
+use Rattle.descent.specs.Places.{orMost}
+use Rattle.descent.proofs.Levels.{below-most, level-root}
+use Rattle.walk.proofs.FromRoot.{from-root, from-past, from-most}
 use Rattle.walk.proofs.reach_from.Proof.Asks as Asks
 
 -- `span_of` asks: height < 64
