@@ -1,1 +1,1 @@
-// Text as runs of bytes, for the crates that read and write it: nothing here runs. specs/ has the bytes of a quoted text, and bytes written into a buffer.
+// Runs of bytes, for the crates that read, write or compare them: nothing here runs. specs/ has whether two are the same, the bytes of a quoted text, and bytes written into a buffer.

@@ -433,9 +433,9 @@ impl Author {
         self.store().page(line, v, page).map(<[u8]>::to_vec)
     }
 
-    /// Page bytes, mostly of the right length; never for a line above 600 bytes. Half of the pages repeat bytes of the blob:
-    /// three in eight those that stand on their page at that time, one in eight those of an earlier version. One in eight
-    /// differs in one byte from what stands there, and the others are new.
+    /// Page bytes, mostly of the right length; never for a line above 600 bytes. Half of the pages repeat the bytes that stand
+    /// where they go at that time, one in eight those of an earlier version, one in eight differs in one byte from what
+    /// stands there, and the others are new, as all are while the line is empty.
     fn page_bytes(&mut self, ticket: u64, i: u64) -> String {
         let s = self.store().page_size;
         let length = match self.random.below(40) {
@@ -445,12 +445,12 @@ impl Author {
         };
         let kind = self.random.below(8);
         let standing = match kind {
-            0..=4 if length == s => self.standing(ticket, i, kind != 3),
+            0..=5 if length == s => self.standing(ticket, i, kind != 4),
             _ => None,
         };
         let bytes = match standing {
             Some(mut bytes) => {
-                if kind == 4 {
+                if kind == 5 {
                     let at = self.random.pick(&[0, s / 2, s - 1]);
                     bytes[at as usize] ^= 1 << self.random.below(8);
                 }
