@@ -23,6 +23,7 @@ use Rattle.model.proofs.Updated.{update-ticket}
 use Rattle.model.proofs.Shown.{versions-length, version-shown}
 use Rattle.model.proofs.Facts.{update-got}
 use Rattle.model.proofs.Kept.Same.{number-upto}
+use Rattle.model.proofs.Stamps.{stamp-by-blobs}
 use Rattle.isolation.specs.Isolation.{versionOf, elsewhere, slotsOf, seenOn, seen, Match}
 use Rattle.isolation.proofs.Lists.{map-then, nth-each}
 use Rattle.isolation.proofs.Kept.{Kept, shows-ticket}
@@ -111,9 +112,7 @@ module _ {l l′ : ℕ} {m m′ : Model} (M : Match l l′ m m′) where
       rw (pages-same v, f-same (suc v), ticket-same (suc v), slots-same (versionAt (history m′ l′) (suc v) .ticket))
 
   pub stamp-same : (v p : ℕ) → stampAt (history m l) v p ≡ stampAt (history m′ l′) v p
-  unfolding stampAt
-  stamp-same zero p = refl
-  stamp-same (suc v) p = rw (pages-same v, pages-same (suc v), stamp-same v p)
+  stamp-same v = stamp-by-blobs (history m l) (history m′ l′) v (λ u q. pages-same u)
 
   pub due-same : due (history m l) ≡ due (history m′ l′)
   unfolding due complete

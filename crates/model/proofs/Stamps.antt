@@ -21,9 +21,15 @@ use Rattle.model.proofs.Updates.{f-at}
 use Rattle.model.proofs.SoundHistory.{SoundHistory, update-end, version-starts, version-grows}
 use Rattle.model.proofs.Blob.{blob-length, blob-page}
 
-test-cases : (b : Bool) → (b ≡ true) ⊎ (b ≡ false)
+pub test-cases : (b : Bool) → (b ≡ true) ⊎ (b ≡ false)
 test-cases true = inl refl
 test-cases false = inr refl
+
+-- A stamp depends on the blobs up to its version alone.
+pub stamp-by-blobs : (h w : History) (v : ℕ) → ((u : ℕ) → u ≤ v → blobAt h u ≡ blobAt w u) → (p : ℕ) → stampAt h v p ≡ stampAt w v p
+unfolding stampAt
+stamp-by-blobs h w zero same p = refl
+stamp-by-blobs h w (suc v) same p = rw (same v (omega arith), same (suc v) (omega arith), stamp-by-blobs h w v (λ u q. same u (omega arith)) p)
 
 -- ---- one version and the next
 

@@ -11,6 +11,7 @@ use Rattle.model.specs.Stamp.{stampAt, stampsUpto}
 use Rattle.model.specs.Model.{numberIn, numbered}
 use Rattle.model.specs.OnModel.{leftOf, rightOf}
 use Rattle.model.proofs.Updates.{newest-same, update-at}
+use Rattle.model.proofs.Stamps.{stamp-by-blobs}
 
 -- Two histories, the same up to version k.
 pub record SameUpTo (h w : History) (k : ℕ) : Type 0 where
@@ -76,9 +77,7 @@ module _ (h w : History) (k : ℕ) (same : SameUpTo h w k) where
 
   -- The stamps of its pages.
   pub stamp-stays : (v : ℕ) → v ≤ k → (p : ℕ) → stampAt h v p ≡ stampAt w v p
-  unfolding stampAt
-  stamp-stays zero q p = refl
-  stamp-stays (suc v) q p = rw (blob-stays v (omega arith), blob-stays (suc v) q, stamp-stays v (omega arith) p)
+  stamp-stays v q = stamp-by-blobs h w v (λ u r. blob-stays u (omega arith))
 
   pub stamps-stay : (v : ℕ) → v ≤ k → (n : ℕ) → stampsUpto h v n ≡ stampsUpto w v n
   unfolding stampsUpto

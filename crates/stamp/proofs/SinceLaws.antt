@@ -2,7 +2,7 @@
 -- within the page area, so that the code's test of a lost walk ends it where the definition does.
 -- Assumes nothing.
 use mathlib.Core.Path.{_≡_, refl, sym, _∙_, ap}
-use mathlib.Core.Bool.{Bool, true, false, _&&_}
+use mathlib.Core.Bool.{Bool, true, false, _&&_, and-eq-true-iff}
 use mathlib.Core.List.{List}
 use mathlib.Core.Logic.{inl, inr}
 use Prim.Native.Nat.{ℕ, zero, suc, _-_, _*_, _≤_, _<_}
@@ -25,10 +25,6 @@ use Rattle.stamp.specs.Stamp.{pageRefusal, versionFound, foundBy, leafAs
 
 -- ---- one step
 
-both : (x y : Bool) → x && y ≡ true → (x ≡ true) × (y ≡ true)
-both true y e = (refl, e)
-both false y e = (cc, cc)
-
 picked : (b : Bool) (x : Found) (c : Version) (m : ℕ) → pick b x Lost ≡ Leaf c m → (b ≡ true) × (x ≡ Leaf c m)
 picked true x c m e = (refl, e)
 picked false x c m e = (cc, cc)
@@ -39,7 +35,7 @@ pub goes-below : (pages : List ℕ) (size w n : ℕ) (x : Found) (c : Version) (
 goes-below pages size w n Lost c m e = let z : _≡_ {A = ℕ} 0 1 = cc in absurd (omega arith)
 goes-below pages size w n (Leaf d k) c m e =
     let p = picked (ltb (versionOf (d .0)) w && same (part pages (size * k) size) (part pages (size * n) size)) (Leaf d k) c m e in
-    let lower = ltb-true (versionOf (d .0)) w (both _ _ (p .0) .0) in
+    let lower = ltb-true (versionOf (d .0)) w (and-eq-true-iff (ltb (versionOf (d .0)) w) _ .0 (p .0) .0) in
     (p .1, rw (ap versionFound (p .1)) at lower)
 
 module _ (pages : List ℕ) (size w n : ℕ) (x : Found) (c : Version) (m : ℕ) (e : x ≡ Leaf c m) where

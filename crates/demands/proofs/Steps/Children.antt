@@ -42,6 +42,7 @@ use Rattle.model.proofs.Shown.{shownAt, update-shown}
 use Rattle.model.proofs.Owner.{owner-own}
 use Rattle.model.proofs.Numbers.{number-is, number-some, place-has}
 use Rattle.model.proofs.Woven.{published-upto, nodes-woven}
+use Rattle.model.proofs.Stamps.{test-cases}
 use Rattle.demands.proofs.Image.{registerImage, storeImage}
 use Rattle.demands.proofs.Records.{update-image}
 use Rattle.demands.proofs.Lines.{line-in, number-on, version-found}
@@ -57,10 +58,6 @@ module _ (us : List Update) (v a s : ℕ) where
   newest-unmet : meets (update us (suc v) .f) (update us (suc v) .last) a s ≡ false → newest us (suc v) a s ≡ newest us v a s
   unfolding newest
   newest-unmet e = rw (e, newest)
-
-pub test-cases : (b : Bool) → (b ≡ true) ⊎ (b ≡ false)
-test-cases true = inl refl
-test-cases false = inr refl
 
 -- ---- a line's own versions
 

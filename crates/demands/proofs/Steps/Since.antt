@@ -29,11 +29,10 @@ use Rattle.model.proofs.Shown.{versions-length}
 use Rattle.model.proofs.Blob.{LeafBounds, leaf-bounds}
 use Rattle.model.proofs.Numbers.{number-version}
 use Rattle.model.proofs.Since.{line-blob-length, stamp-published}
-use Rattle.model.proofs.Stamps.{stamp-upto, stamp-first, stamp-on, stamp-leaf}
+use Rattle.model.proofs.Stamps.{test-cases, stamp-upto, stamp-first, stamp-on, stamp-leaf}
 use Rattle.model.proofs.Woven.{published-upto}
 use Rattle.demands.proofs.Image.{storeImage, areasImage}
 use Rattle.demands.proofs.Lines.{number-on}
-use Rattle.demands.proofs.Steps.Children.{test-cases}
 use Rattle.demands.proofs.Steps.Found.{find-page, page-number, view-bytes}
 use Rattle.demands.proofs.Steps.Size.{name-there, pages-in}
 
