@@ -58,10 +58,12 @@ fn write(shared: &Shared, count: u64, n: u64, first: u64) {
     }
 }
 
-/// One truck, until told to end: each published version reads the same however and whenever it is read.
-fn ride(shared: &Shared, ended: &AtomicBool) -> u64 {
-    let (mut seen, mut rides) = (Version(0), 0);
-    while !ended.load(Ordering::Relaxed) {
+/// One truck, until told to end, and once more: each published version reads the same however and whenever it is read.
+/// Gives the last version that it has seen.
+fn ride(shared: &Shared, ended: &AtomicBool) -> Version {
+    let mut seen = Version(0);
+    loop {
+        let last = ended.load(Ordering::Acquire);
         let recent = shared.recent(LIVE).unwrap();
         assert!(recent >= seen, "{recent} after {seen}");
         seen = recent;
@@ -83,9 +85,10 @@ fn ride(shared: &Shared, ended: &AtomicBool) -> u64 {
                 "a page of two updates"
             );
         }
-        rides += 1;
+        if last {
+            return seen;
+        }
     }
-    rides
 }
 
 #[test]
@@ -96,9 +99,10 @@ fn writers_and_readers_at_once() {
         let writers = [(1, 0), (2, 1), (3, 4), (8, 0)]
             .map(|(n, first)| threads.spawn(move || write(shared, 25, n, first)));
         let written = writers.map(|writer| writer.join());
-        ended.store(true, Ordering::Relaxed); // also where a writer failed
+        ended.store(true, Ordering::Release); // also where a writer failed
         assert!(written.iter().all(|end| end.is_ok()));
-        assert!(trucks.into_iter().all(|truck| truck.join().unwrap() > 0));
+        let seen = trucks.map(|truck| truck.join().unwrap());
+        assert_eq!(seen, [Version(101); 3]);
     });
     assert_eq!(shared.recent(LIVE), Ok(Version(101)));
     assert_eq!(shared.begin(1), Err(Error::RegisterFull));
