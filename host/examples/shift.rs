@@ -51,7 +51,7 @@ fn main() -> Result<(), Error> {
     let model = &Shared::new(Store::format(limits)?);
     work(model, 0..32, 100..101, NOW)?;
     let (booked, mut loaded) = (model.recent(LIVE)?, [0; 32 * 256]);
-    model.read(LIVE, booked, ByteOffset(0), 32 * 256, &mut loaded)?;
+    model.read(LIVE, booked, ByteOffset(0), &mut loaded)?;
     println!("surveyed; a load is booked to version {booked}");
     let mut screen = Screen {
         version: Version(0),
@@ -66,7 +66,7 @@ fn main() -> Result<(), Error> {
         ends.try_for_each(|end| end.join().expect("no panic"))
     })?;
     let (recent, mut now) = (model.recent(LIVE)?, [0; 32 * 256]);
-    model.read(LIVE, recent, ByteOffset(0), 32 * 256, &mut now)?;
+    model.read(LIVE, recent, ByteOffset(0), &mut now)?;
     assert!(recent == Version(41) && follow(model, &mut screen)? <= 14); // pages that crews changed
     assert!(follow(model, &mut screen)? == 0 && screen.pages.concat() == now);
     println!("40 updates later the truck shows version {recent}");
@@ -101,7 +101,7 @@ fn main() -> Result<(), Error> {
     assert!(follow(model, &mut screen)? == 2 && screen.pages[6] == [50; 256]);
     println!("after it the truck shows version 43");
 
-    model.read(LIVE, booked, ByteOffset(0), 32 * 256, &mut now)?;
+    model.read(LIVE, booked, ByteOffset(0), &mut now)?;
     assert!(now == loaded && now == [100; 32 * 256]);
     println!("weighbridge: version {booked} reads as it did when the load was booked");
     Ok(())

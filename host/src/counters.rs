@@ -92,6 +92,11 @@ impl Minute {
         let of_week = (FIRST + minutes + i128::from(ahead_of_utc)).rem_euclid(WEEK);
         Minute(of_week as u64)
     }
+
+    /// Whether a week has it.
+    pub(crate) fn is_of_week(self) -> bool {
+        i128::from(self.0) < WEEK
+    }
 }
 
 /// How many versions a line has room for in a [`LineVersion`].

@@ -1,5 +1,5 @@
 //! The C functions of the proved static libraries, and a safe function over each. All `unsafe` of the crate is here, but
-//! for the lock on a file that is being saved.
+//! for the lock on a file and the page memory that threads share.
 //!
 //! The proved functions are total: they end and stay inside the areas they are lent, whatever store, numbers and
 //! bytes they are given. So nothing is asked of a caller here but slices, whose borrows keep the areas of one call
@@ -8,6 +8,7 @@
 
 use crate::areas::{LentAreas, Parts};
 use crate::counters::Line;
+use std::marker::PhantomData;
 use std::mem::size_of;
 
 /// A store's lines are at most so many.
@@ -466,15 +467,52 @@ pub fn node_count(f: u64, n: u64, size: u64) -> u64 {
     unsafe { pit_node_count(f, n, size) }
 }
 
-/// Expands to a call of a C function, each area given as its pointer and length. `lent` areas are borrowed
-/// mutably and so by this call alone; `seen` ones are only read.
+/// Areas lent to one call that changes them, as pointers: of a store that threads share, readers may hold pages that are put.
+pub struct RawAreas<'a> {
+    pages: (*mut u8, usize),
+    nodes: (*mut u32, usize),
+    register: (*mut Record, usize),
+    lent: PhantomData<&'a mut Record>,
+}
+
+impl<'a> RawAreas<'a> {
+    /// # Safety
+    ///
+    /// `pages` are so many bytes for as long as `'a`, and nobody writes them meanwhile, nor reads a page that PUT is asked to write.
+    #[inline]
+    pub(crate) unsafe fn new(
+        pages: *mut u8,
+        length: usize,
+        nodes: &'a mut [u32],
+        register: &'a mut [Record],
+    ) -> RawAreas<'a> {
+        RawAreas {
+            pages: (pages, length),
+            nodes: (nodes.as_mut_ptr(), nodes.len()),
+            register: (register.as_mut_ptr(), register.len()),
+            lent: PhantomData,
+        }
+    }
+}
+
+impl<'a> From<LentAreas<'a>> for RawAreas<'a> {
+    #[inline]
+    fn from(areas: LentAreas<'a>) -> RawAreas<'a> {
+        let (pages, length) = (areas.pages.as_mut_ptr(), areas.pages.len());
+        // SAFETY: the pages are borrowed mutably for `'a`, so nobody else reads or writes them.
+        unsafe { RawAreas::new(pages, length, areas.nodes, areas.register) }
+    }
+}
+
+/// Expands to a call of a C function, each area given as its pointer and length. `lent` areas are there for this call
+/// alone; `seen` ones are only read.
 macro_rules! call {
     ($name:ident($($before:expr),*; lent $areas:ident; $($after:expr),*)) => {
         $name(
             $($before,)*
-            $areas.pages.as_mut_ptr(), $areas.pages.len(),
-            $areas.nodes.as_mut_ptr(), $areas.nodes.len(),
-            $areas.register.as_mut_ptr(), $areas.register.len(),
+            $areas.pages.0, $areas.pages.1,
+            $areas.nodes.0, $areas.nodes.1,
+            $areas.register.0, $areas.register.1,
             $($after),*
         )
     };
@@ -490,44 +528,44 @@ macro_rules! call {
 }
 
 /// FORMAT.
-pub fn format(limits: [u64; 4], areas: LentAreas<'_>) -> FormatReply {
+pub fn format(limits: [u64; 4], areas: RawAreas<'_>) -> FormatReply {
     let [size, pages, nodes, updates] = limits;
-    // SAFETY: the areas are borrowed mutably for the call; total for any numbers and lengths.
+    // SAFETY: the areas are lent to the call alone; total for any numbers and lengths.
     unsafe { call!(pit_format(size, pages, nodes, updates; lent areas; )) }
 }
 
 /// BEGIN.
 #[inline]
-pub fn begin(s: &State, areas: LentAreas<'_>, n: u64) -> BeginReply {
-    // SAFETY: the areas are borrowed mutably for the call; total for any store, areas and number.
+pub fn begin(s: &State, areas: RawAreas<'_>, n: u64) -> BeginReply {
+    // SAFETY: the areas are lent to the call alone; total for any store, areas and number.
     unsafe { call!(pit_begin(*s; lent areas; n)) }
 }
 
 /// PUT.
 #[inline]
-pub fn put(s: &State, areas: LentAreas<'_>, ticket: u64, i: u64, bytes: &[u8]) -> u64 {
-    // SAFETY: the areas are borrowed mutably, so `bytes` is no part of them; total for any arguments.
+pub fn put(s: &State, areas: RawAreas<'_>, ticket: u64, i: u64, bytes: &[u8]) -> u64 {
+    // SAFETY: the areas are lent to the call alone, so `bytes` is no part of them; total for any arguments.
     unsafe { call!(pit_put(*s; lent areas; ticket, i, bytes.as_ptr(), bytes.len())) }
 }
 
 /// ASSIGN as a write at page `f`.
 #[inline]
-pub fn write(s: &State, areas: LentAreas<'_>, line: u64, ticket: u64, f: u64) -> AssignReply {
-    // SAFETY: the areas are borrowed mutably for the call; total for any store, areas and numbers.
+pub fn write(s: &State, areas: RawAreas<'_>, line: u64, ticket: u64, f: u64) -> AssignReply {
+    // SAFETY: the areas are lent to the call alone; total for any store, areas and numbers.
     unsafe { call!(pit_write(*s; lent areas; line, ticket, f)) }
 }
 
 /// ASSIGN as an append.
 #[inline]
-pub fn append(s: &State, areas: LentAreas<'_>, line: u64, ticket: u64) -> AssignReply {
-    // SAFETY: the areas are borrowed mutably for the call; total for any store, areas and numbers.
+pub fn append(s: &State, areas: RawAreas<'_>, line: u64, ticket: u64) -> AssignReply {
+    // SAFETY: the areas are lent to the call alone; total for any store, areas and numbers.
     unsafe { call!(pit_append(*s; lent areas; line, ticket)) }
 }
 
 /// WEAVE.
 #[inline]
-pub fn weave(s: &State, areas: LentAreas<'_>, ticket: u64) -> WeaveReply {
-    // SAFETY: the areas are borrowed mutably for the call; total for any store, areas and number.
+pub fn weave(s: &State, areas: RawAreas<'_>, ticket: u64) -> WeaveReply {
+    // SAFETY: the areas are lent to the call alone; total for any store, areas and number.
     unsafe { call!(pit_weave(*s; lent areas; ticket)) }
 }
 

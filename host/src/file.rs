@@ -3,20 +3,26 @@
 mod derived;
 mod form;
 #[allow(unsafe_code)]
-mod lock;
-mod new;
+pub(crate) mod lock;
+pub(crate) mod new;
 mod old;
+mod summed;
+mod taken;
 
-use crate::areas::{Areas, Lend};
-use crate::counters::{Line, Version};
+use crate::areas::{Lend, Parts};
+use crate::counters::Version;
 use crate::error::Error;
+use crate::ffi::State;
+use crate::journal::JournalError;
 use crate::keeper::{Keeper, Store};
-use form::{each_piece, Header};
-use new::NewFile;
+use crate::numbering::Numbering;
+use form::Header;
 use std::fmt;
 use std::fs::File;
-use std::io::{self, BufReader, BufWriter, Write};
-use std::path::Path;
+use std::io::{self, BufReader};
+use std::path::{Path, PathBuf};
+use summed::Summed;
+pub(crate) use taken::{put_pages, Taken};
 
 /// Why a store was not saved or not loaded.
 ///
@@ -33,7 +39,9 @@ use std::path::Path;
 /// fn is_whole(error: FileError) -> bool {
 ///     match error {
 ///         Io(_) | Foreign | Truncated { .. } | TooLong { .. } | Checksum => false,
-///         Form(_) | Limits(_) | AreaLengths | Counters | Windows => true,
+///         Form(_) | Limits(_) | AreaLengths | Counters | Windows | Numbers | CarriedOver => true,
+///         Journal(_) | JournalFailed { .. } | NoJournal(_) | NoStore | StoreThere => false,
+///         InUse { .. } | Saved { .. } => false,
 ///     }
 /// }
 /// ```
@@ -48,7 +56,7 @@ pub enum FileError {
     Form(u64),
     /// FORMAT does not accept the limits; with the reason.
     Limits(Error),
-    /// The areas' lengths are not those of the limits.
+    /// The areas' lengths are not those of the limits, or what the file has of the areas is not what the counters say.
     AreaLengths,
     /// The file ends before the areas do.
     Truncated {
@@ -71,6 +79,38 @@ pub enum FileError {
     Counters,
     /// The windows are none that SETWINDOWS leaves.
     Windows,
+    /// How callers' numbers stand to the store's own is not as a store that was carried over has it.
+    Numbers,
+    /// The store was carried over, so that its callers' numbers are not its own: it is loaded by [`Shared::load`](crate::Shared::load).
+    CarriedOver,
+    /// A journal is damaged, or does not fit the saved store; with what is wrong, and where.
+    Journal(JournalError),
+    /// A journal could not be written or synced: what returned before that is kept, and no call that changes the store is
+    /// made any more. To go on, the folder is opened anew.
+    JournalFailed {
+        /// The first error's kind.
+        kind: io::ErrorKind,
+        /// The first error's words.
+        words: String,
+    },
+    /// The journal of this generation is not in the folder, and the store cannot be made without it.
+    NoJournal(u64),
+    /// No saved store is in the folder.
+    NoStore,
+    /// A store is in the folder already.
+    StoreThere,
+    /// Another process has the folder open, or this one has.
+    InUse {
+        /// The process, as far as it could be read.
+        process: Option<u32>,
+    },
+    /// The folder's saved store of this generation could not be loaded.
+    Saved {
+        /// The generation: the number in the file's name.
+        generation: u64,
+        /// Why not.
+        error: Box<FileError>,
+    },
 }
 
 impl fmt::Display for FileError {
@@ -79,9 +119,11 @@ impl fmt::Display for FileError {
         match self {
             Io(e) => write!(f, "the file could not be opened, read or written: {e}"),
             Foreign => f.write_str("the file is no store's: it begins otherwise"),
-            Form(form) => write!(f, "the file has form {form}; only forms 1 to 4 are known"),
+            Form(form) => write!(f, "the file has form {form}; only forms 1 to 5 are known"),
             Limits(e) => write!(f, "the store's limits are not allowed; {e}"),
-            AreaLengths => f.write_str("the areas' lengths are not those of the store's limits"),
+            AreaLengths => {
+                f.write_str("the areas' lengths are not those of the store's limits and counters")
+            }
             Truncated { expected, found } => {
                 write!(f, "the file is cut off: {found} bytes of {expected}")
             }
@@ -96,6 +138,21 @@ impl fmt::Display for FileError {
                 f.write_str("the store's counters or records are none that its calls leave")
             }
             Windows => f.write_str("the store's windows are none that its calls leave"),
+            Numbers => f.write_str("the file does not say rightly how its callers' numbers stand to the store's own"),
+            CarriedOver => f.write_str("the store was carried over, and its callers' numbers are not its own: load it as a shared store"),
+            Journal(error) => error.fmt(f),
+            JournalFailed { words, .. } => {
+                write!(
+                    f,
+                    "the journal could not be written, and no more is: {words}"
+                )
+            }
+            NoJournal(generation) => write!(f, "journal-{generation} is not in the folder"),
+            NoStore => f.write_str("no saved store is in the folder"),
+            StoreThere => f.write_str("a store is in the folder already"),
+            InUse { process: Some(id) } => write!(f, "the folder is open already, by process {id}"),
+            InUse { process: None } => f.write_str("the folder is open already"),
+            Saved { generation, error } => write!(f, "store-{generation}: {error}"),
         }
     }
 }
@@ -105,6 +162,7 @@ impl std::error::Error for FileError {
         match self {
             FileError::Io(e) => Some(e),
             FileError::Limits(e) => Some(e),
+            FileError::Saved { error, .. } => error.source(),
             _ => None,
         }
     }
@@ -113,6 +171,12 @@ impl std::error::Error for FileError {
 impl From<io::Error> for FileError {
     fn from(e: io::Error) -> FileError {
         FileError::Io(e)
+    }
+}
+
+impl From<JournalError> for FileError {
+    fn from(error: JournalError) -> FileError {
+        FileError::Journal(error)
     }
 }
 
@@ -132,19 +196,23 @@ impl<A: Lend> Keeper<A> {
     /// is killed leaves it; the next save in that folder, by any process that may, clears what no living one holds.
     /// Two processes that save to one file do not wait for each other: the file of the one that ends last stays.
     ///
+    /// Only what is taken is written, so that the file's length goes with what the store holds. Bytes in pages that are not put,
+    /// and in places and records that are not taken, are lost where a host has put some there by hand: no call leaves any, or
+    /// reads them.
+    ///
     /// The file has numbers of 64 bits, lowest byte first:
     ///
     /// | Bytes | What |
     /// |---|---|
     /// | 0 to 7 | the letters `PITSTORE` |
-    /// | 8 to 15 | the form, 4 |
+    /// | 8 to 15 | the form, 5 |
     /// | 16 to 47 | page size; capacities in pages, nodes and updates |
     /// | 48 to 87 | last ticket given; page numbers taken; updates that have a version; node places taken; lines begun |
-    /// | 88 to 223 | the lines, packed as in [`State`](crate::State): the sources in one number, then a number a line |
+    /// | 88 to 223 | the lines, packed as in [`State`]: the sources in one number, then a number a line |
     /// | 224 to 351 | the windows, 32 places as in [`Windows`](crate::Windows), two numbers of 16 bits each, lowest byte first |
-    /// | 352 to 375 | lengths in bytes of the page area, the node area and the register |
-    /// | 376 to 383 | checksum, CRC-64/XZ, over bytes 0 to 375 and all bytes from 384 on |
-    /// | from 384 | the page area; the node area, its numbers of 32 bits, lowest byte first; the register, eighteen numbers a record, in the order of [`Record`](crate::Record)'s fields |
+    /// | 352 to 383 | lengths in bytes of the four parts from 392 on |
+    /// | 384 to 391 | checksum, CRC-64/XZ, over bytes 0 to 383 and all bytes from 392 on |
+    /// | from 392 | the pages taken, zeros where one is not put; the node places taken, their numbers of 32 bits, lowest byte first; the records of the tickets given, eighteen numbers a record, in the order of [`Record`](crate::Record)'s fields; and a last part: nothing, or the salt of the journal that goes on after the store in a folder, 0 where none does, and then how callers' numbers stand to the store's own, nothing where they are equal |
     ///
     /// ```
     /// use pit_host::{Limits, Store, Version};
@@ -159,22 +227,54 @@ impl<A: Lend> Keeper<A> {
     /// # }
     /// ```
     pub fn save(&self, path: impl AsRef<Path>) -> Result<Version, FileError> {
-        let areas = self.areas().parts();
-        let header = Header::of(self.state(), self.windows(), areas);
-        header.check_limits()?;
-        header.check_counters()?;
-        header.check_windows()?;
-        header.check_records(areas.register)?;
-
-        let new = NewFile::for_place_of(path.as_ref())?;
-        let mut out = BufWriter::new(&new.file);
-        out.write_all(&header.to_bytes())?;
-        each_piece(areas, |piece| out.write_all(piece))?;
-        out.flush()?;
-        drop(out);
-        new.replace()?;
-        Ok(Version(header.state.line(Line(0)).published))
+        self.save_with(path.as_ref(), &[])
     }
+
+    /// Saves the store of a folder.
+    pub(crate) fn save_at(&self, place: &SavePlace) -> Result<Version, FileError> {
+        self.save_with(&place.path, &last_part(place.journal, &[]))
+    }
+
+    fn save_with(&self, path: &Path, last_part: &[u8]) -> Result<Version, FileError> {
+        let (state, areas) = (self.state(), self.areas().parts());
+        check_areas(&state, areas)?;
+        let size = state.size as usize;
+        let (mut put, zeros) = (vec![false; state.pages as usize], vec![0; size]);
+        put_pages(areas.register, &state).for_each(|number| put[number as usize] = true);
+        let page = |number: u64| {
+            let number = number as usize;
+            match put.get(number) {
+                Some(true) => &areas.pages[number * size..][..size],
+                _ => &zeros[..],
+            }
+        };
+        let taken = Taken {
+            state,
+            windows: self.windows(),
+            page: &page,
+            nodes: front(areas.nodes, state.places.saturating_mul(2)),
+            register: front(areas.register, state.tickets),
+            last_part,
+        };
+        taken.save(path)
+    }
+}
+
+/// FORMAT accepts the limits, and the areas have their lengths.
+fn check_areas(state: &State, areas: Parts<'_>) -> Result<(), FileError> {
+    state.limits().check().map_err(FileError::Limits)?;
+    let lengths = [areas.pages.len(), areas.nodes.len(), areas.register.len()];
+    let due = [state.size * state.pages, 2 * state.nodes, state.updates];
+    if lengths.map(|length| length as u64) != due {
+        return Err(FileError::AreaLengths);
+    }
+    Ok(())
+}
+
+/// The first so many, or all where there are fewer.
+fn front<T>(all: &[T], count: u64) -> &[T] {
+    let count = usize::try_from(count).unwrap_or(usize::MAX);
+    &all[..count.min(all.len())]
 }
 
 impl Store {
@@ -183,20 +283,80 @@ impl Store {
     ///
     /// A file of an earlier form is loaded as just the store that the same calls leave now. One of form 1, from before there
     /// were lines, has line 0 alone; one of form 1, 2 or 3 has no windows.
+    ///
+    /// The file of a store that was [carried over](crate::Handle::carry) is refused, with [`FileError::CarriedOver`]: its callers' numbers are
+    /// not the store's own, and would mean other versions here. [`Shared::load`](crate::Shared::load) loads it with them.
     pub fn load(path: impl AsRef<Path>) -> Result<Store, FileError> {
-        let file = File::open(path)?;
-        let found = file.metadata()?.len();
-        let mut file = BufReader::new(file);
-        let (header, mut sum) = Header::read(&mut file, found)?;
-        header.check_limits()?;
-        header.check_length(found)?;
-
-        let mut areas = Areas::new(&header.limits()).map_err(FileError::Limits)?;
-        header.fill(&mut areas, &mut file, &mut sum)?;
-        header.check_checksum(&sum)?;
-        header.check_counters()?;
-        header.check_windows()?;
-        header.check_records(areas.register())?;
-        Ok(Keeper::resume(header.state, header.windows, areas))
+        let (store, numbers) = load(path.as_ref())?.numbered()?;
+        if numbers != Numbering::default() {
+            return Err(FileError::CarriedOver);
+        }
+        Ok(store)
     }
+}
+
+/// Where a folder's store is saved, and the salt of the journal that goes on after it: a saved store is never taken for that of
+/// another journal.
+pub struct SavePlace {
+    pub path: PathBuf,
+    pub journal: u64,
+}
+
+/// The last part of a file: the salt of the journal that goes on after the store, 0 where none does, and how callers' numbers
+/// stand to the store's own. Nothing where it would say nothing.
+pub fn last_part(journal: u64, numbers: &[u8]) -> Vec<u8> {
+    match (journal, numbers) {
+        (0, []) => Vec::new(),
+        _ => [&journal.to_le_bytes(), numbers].concat(),
+    }
+}
+
+/// A store, and the last part of its file.
+pub struct Loaded {
+    pub store: Store,
+    pub last_part: Vec<u8>,
+}
+
+impl Loaded {
+    /// The store, and how its callers' numbers stand to its own.
+    pub fn numbered(self) -> Result<(Store, Numbering), FileError> {
+        let (store, numbers, _) = self.parts()?;
+        Ok((store, numbers))
+    }
+
+    /// The same, and the salt of the journal that goes on after it.
+    pub fn parts(self) -> Result<(Store, Numbering, u64), FileError> {
+        let (mut journal, mut numbers) = ([0; 8], &self.last_part[..]);
+        if !numbers.is_empty() {
+            let salt = numbers.get(..8).ok_or(FileError::Numbers)?;
+            journal.copy_from_slice(salt);
+            numbers = &numbers[8..];
+        }
+        let numbers = Numbering::from_bytes(numbers, &self.store.state());
+        let numbers = numbers.ok_or(FileError::Numbers)?;
+        Ok((self.store, numbers, u64::from_le_bytes(journal)))
+    }
+}
+
+/// Loads what [`Taken::save`] has saved, or a file of an earlier form.
+pub fn load(path: &Path) -> Result<Loaded, FileError> {
+    load_from(File::open(path)?)
+}
+
+/// The same from a file that is open, at its front.
+pub fn load_from(file: File) -> Result<Loaded, FileError> {
+    let found = file.metadata()?.len();
+    let mut file = Summed::new(BufReader::new(file));
+    let header = Header::read(&mut file, found)?;
+    header.check_lengths()?;
+    header.check_length(found)?;
+
+    let areas = header.read_areas(&mut file)?;
+    let last_part = header.read_last_part(&mut file)?;
+    header.check_checksum(file.sum.value())?;
+    header.check_counters()?;
+    header.check_windows()?;
+    header.check_records(areas.register())?;
+    let store = Keeper::resume(header.state, header.windows, areas);
+    Ok(Loaded { store, last_part })
 }

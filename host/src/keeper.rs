@@ -31,7 +31,7 @@ use crate::windows::WindowsError;
 /// }
 /// assert_eq!(store.publish(Line(0), Minute(0))?, Published::Now(Version(1)));
 /// let mut bytes = [0; 4];
-/// store.read(Line(0), Version(1), ByteOffset(12), 4, &mut bytes)?;
+/// store.read(Line(0), Version(1), ByteOffset(12), &mut bytes)?;
 /// assert_eq!(bytes, [7; 4]);
 /// # Ok(())
 /// # }
@@ -167,6 +167,10 @@ impl<A> Keeper<A> {
         &self.areas
     }
 
+    pub(crate) fn areas_mut(&mut self) -> &mut A {
+        &mut self.areas
+    }
+
     /// The state, the windows and the areas, for [`resume`](Keeper::resume).
     pub fn into_parts(self) -> (State, Windows, A) {
         (self.state, self.windows, self.areas)
@@ -181,14 +185,14 @@ impl<A> Keeper<A> {
 impl<A: Lend> Keeper<A> {
     /// FORMAT in areas of any kind: an empty store, whatever stood in the areas. Refused: 1, 2, 3.
     pub fn format_in(limits: Limits, mut areas: A) -> Result<Keeper<A>, Error> {
-        let reply = ffi::format(limits.numbers(), areas.lend());
+        let reply = ffi::format(limits.numbers(), areas.raw());
         Error::check(reply.refusal)?;
         Ok(Keeper::resume(reply.state, reply.windows, areas))
     }
 
     /// BEGIN: the next ticket, for an update of `n` pages. Refused: 3, 4, 5, 6.
     pub fn begin(&mut self, n: u64) -> Result<Ticket, Error> {
-        let reply = ffi::begin(&self.state, self.areas.lend(), n);
+        let reply = ffi::begin(&self.state, self.areas.raw(), n);
         Error::check(reply.refusal)?;
         self.state = reply.state;
         Ok(Ticket(reply.ticket))
@@ -197,7 +201,7 @@ impl<A: Lend> Keeper<A> {
     /// PUT: the bytes of page `i` of the update, counted from 0; in any order, each page once.
     /// Refused: 3, 7, 8, 9, 10, 11, 19.
     pub fn put(&mut self, ticket: Ticket, i: u64, bytes: &[u8]) -> Result<(), Error> {
-        Error::check(ffi::put(&self.state, self.areas.lend(), ticket.0, i, bytes))
+        Error::check(ffi::put(&self.state, self.areas.raw(), ticket.0, i, bytes))
     }
 
     /// ASSIGN as a write: the line's next version, with the update's pages from page `first` on. `first` may be any page of
@@ -208,7 +212,7 @@ impl<A: Lend> Keeper<A> {
         ticket: Ticket,
         first: PageIndex,
     ) -> Result<Assigned, Error> {
-        let areas = self.areas.lend();
+        let areas = self.areas.raw();
         let reply = ffi::write(&self.state, areas, line.0, ticket.0, first.0);
         self.assigned(reply)
     }
@@ -216,7 +220,7 @@ impl<A: Lend> Keeper<A> {
     /// ASSIGN as an append: the line's next version, with the update's pages at the end of its last assigned version.
     /// Refused: 3, 7, 8, 20, 12, 14, 15, 19.
     pub fn append(&mut self, line: Line, ticket: Ticket) -> Result<Assigned, Error> {
-        let reply = ffi::append(&self.state, self.areas.lend(), line.0, ticket.0);
+        let reply = ffi::append(&self.state, self.areas.raw(), line.0, ticket.0);
         self.assigned(reply)
     }
 
@@ -231,7 +235,7 @@ impl<A: Lend> Keeper<A> {
 
     /// WEAVE: stores the next node of the ticket's version. Refused: 3, 7, 8, 19.
     pub fn weave(&mut self, ticket: Ticket) -> Result<Node, Error> {
-        let reply = ffi::weave(&self.state, self.areas.lend(), ticket.0);
+        let reply = ffi::weave(&self.state, self.areas.raw(), ticket.0);
         Error::check(reply.refusal)?;
         Ok(Node {
             version: LineVersion(reply.version),
@@ -319,9 +323,41 @@ impl<A: Lend> Keeper<A> {
         Ok(Line(reply.line))
     }
 
-    /// READ: fills the front of `buffer` with `len` bytes of a version; the rest of it stays. Refused, all of it stays:
-    /// 3, 20, 16, 17, 18, 19.
+    /// READ: fills `buffer` with the bytes of a version from `offset` on. Refused, all of it stays: 3, 20, 16, 17, 19.
+    ///
+    /// ```
+    /// # use pit_host::{ByteOffset, Error, Limits, Line, Minute, Store, Version};
+    /// # fn main() -> Result<(), pit_host::Error> {
+    /// # let mut store = Store::format(Limits::new(16, 4, 8, 2))?;
+    /// # let ticket = store.begin(1)?;
+    /// # store.put(ticket, 0, b"0123456789abcdef")?;
+    /// # store.append(Line(0), ticket)?;
+    /// # store.weave(ticket)?;
+    /// # store.publish(Line(0), Minute(0))?;
+    /// let mut bytes = [0; 4];
+    /// store.read(Line(0), Version(1), ByteOffset(10), &mut bytes)?;
+    /// assert_eq!(&bytes, b"abcd");
+    /// let refused = store.read(Line(0), Version(1), ByteOffset(13), &mut bytes);
+    /// assert_eq!((refused, &bytes), (Err(Error::OutsideSnapshot), b"abcd"));
+    /// # Ok(())
+    /// # }
+    /// ```
     pub fn read(
+        &self,
+        line: Line,
+        version: Version,
+        offset: ByteOffset,
+        buffer: &mut [u8],
+    ) -> Result<(), Error> {
+        self.read_front(line, version, offset, buffer.len() as u64, buffer)
+    }
+
+    /// READ with a length of its own, as the table of refusals and the C interface have it: fills the front of `buffer` with
+    /// `len` bytes, and the rest of it stays. Refused, all of it stays: 3, 20, 16, 17, 18, 19.
+    ///
+    /// It is there for one who has the length and the buffer from two sides, and wants the store to compare them: only here
+    /// can a buffer be too short, which is 18. Who has no such length calls [`read`](Keeper::read).
+    pub fn read_front(
         &self,
         line: Line,
         version: Version,
@@ -384,15 +420,26 @@ impl<A: Lend> Keeper<A> {
 
     /// VIEW: the bytes of a page of a version, where they lie in the page area, uncopied. Refused: 3, 20, 16, 17, 19.
     pub fn view(&self, line: Line, version: Version, page: PageIndex) -> Result<&[u8], Error> {
+        let (begin, length) = self.view_place(line, version, page)?;
+        let pages = self.areas.parts().pages;
+        // The proved call replies with a part inside the area that it was lent.
+        let view = pages.get(begin..).and_then(|from| from.get(..length));
+        view.ok_or(Error::Damaged)
+    }
+
+    /// VIEW: where in the page area a page of a version begins, and its length.
+    #[inline]
+    pub(crate) fn view_place(
+        &self,
+        line: Line,
+        version: Version,
+        page: PageIndex,
+    ) -> Result<(usize, usize), Error> {
         let areas = self.areas.parts();
         let reply = ffi::view(&self.state, areas, line.0, version.0, page.0);
         Error::check(reply.refusal)?;
-        // The proved call replies with a part inside the area that it was lent.
         let begin = usize::try_from(reply.begin).ok();
         let length = usize::try_from(reply.length).ok();
-        begin
-            .zip(length)
-            .and_then(|(begin, length)| areas.pages.get(begin..)?.get(..length))
-            .ok_or(Error::Damaged)
+        begin.zip(length).ok_or(Error::Damaged)
     }
 }

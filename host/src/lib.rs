@@ -3,18 +3,22 @@
 //! them.
 //!
 //! - [`Store`] owns its areas, [`Lent`] works in areas that the host lends; both are a [`Keeper`].
-//! - [`Shared`] is a store for threads: writers each on a ticket, readers beside each other.
-//! - [`Store::save`] and [`Store::load`] keep a store in a file.
+//! - [`Shared`] is a store for threads: writers each on a ticket, readers beside each other. [`Durable`] is one that is kept in a
+//!   folder. Both are a [`Handle`], which also has whole updates in one call, and carries a store that is full over into another one.
+//! - [`Snapshot`] is a published version, held for reading without a lock.
+//! - [`Store::save`] and [`Store::load`] keep a store in a file. [`inspect`] looks at a folder without opening it, as the tool `pit`
+//!   does.
 //! - [`Limits`], [`root_span`] and [`node_count`] size the areas.
 //! - [`Windows`] are the times of the week during which nothing is published; [`Minute::of`] is a time's minute.
 //! - A refused call gives an [`Error`], with the number of its row in the table of refusals; where it is a text of windows
-//!   that is refused, a [`WindowsError`], with the line that is wrong.
+//!   that is refused, a [`WindowsError`], with the line that is wrong; where it is limits, a [`LimitsError`], in numbers. A
+//!   [`Failure`] is any of them, or a [`FileError`]: with it `?` works whatever is called.
 //!
 //! ```
-//! use pit_host::{Limits, Line, Minute, PageIndex, Published, Store, Version};
-//! # fn main() -> Result<(), pit_host::Error> {
+//! use pit_host::{Failure, Limits, Line, Minute, PageIndex, Published, Store, Version};
+//! # fn main() -> Result<(), Failure> {
 //! // Room for 100 updates of up to 2 pages each, in a road model of up to 64 pages of 256 bytes.
-//! let mut store = Store::format(Limits::worst(256, 64, 100, 2).unwrap())?;
+//! let mut store = Store::format(Limits::worst(256, 64, 100, 2)?)?;
 //!
 //! let live = Line(0);
 //! let ticket = store.begin(2)?;
@@ -39,23 +43,51 @@
 #![deny(unsafe_code, missing_docs)]
 
 mod areas;
+mod carry;
 mod checksum;
 mod counters;
+mod difference;
+mod durable;
 mod error;
+mod failure;
 #[allow(unsafe_code)]
 mod ffi;
 mod file;
+mod folder;
+mod inspect;
+mod journal;
 mod keeper;
+mod live;
+mod log;
+#[allow(unsafe_code)]
+mod memory;
+mod numbering;
+mod room;
+mod seen;
 mod shared;
+mod snapshot;
+mod updates;
 mod windows;
 
-pub use areas::{Areas, Lend, LentAreas, Limits, Parts, Planned};
+pub use areas::{
+    Areas, Capacity, Lend, LentAreas, Limits, LimitsError, Parts, Planned, WrongUpdate,
+};
 pub use counters::{ByteOffset, Line, LineVersion, Minute, PageIndex, Ticket, Version};
+pub use difference::Difference;
+pub use durable::{Durable, InFolder};
 pub use error::Error;
+pub use failure::Failure;
 pub use ffi::{node_count, root_span, Entries, LineState, Record, State, Window, Windows};
 pub use file::FileError;
+pub use folder::{Comparison, Earlier, OpenBy, Opened, Options};
+pub use inspect::{inspect, inspect_earlier, Inspection};
+pub use journal::{Cut, Flaw, JournalError, Misfit, SyncAt};
 pub use keeper::{Assigned, Keeper, Lent, Node, Published, Store};
-pub use shared::Shared;
+pub use log::{Log, Memory};
+pub use room::Room;
+pub use shared::{Handle, Shared};
+pub use snapshot::Snapshot;
+pub use updates::OpenTicket;
 pub use windows::{Why, WindowsError, WrongLine};
 
 /// The Rust in the repository's README, run as a test.

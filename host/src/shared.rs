@@ -1,19 +1,31 @@
 //! A store that threads share.
 
+mod locked;
+mod turn;
+
+use crate::areas::Limits;
 use crate::counters::{ByteOffset, Line, Minute, PageIndex, Ticket, Version};
 use crate::error::Error;
 use crate::ffi::Windows;
-use crate::file::FileError;
+use crate::file::{self, FileError};
 use crate::keeper::{Assigned, Node, Published, Store};
-use crate::windows::WindowsError;
+use crate::live::Live;
+use crate::log::{Log, Memory};
+use crate::numbering::Numbering;
+use std::fmt;
 use std::path::Path;
-use std::sync::{Arc, Mutex, PoisonError, RwLock, RwLockReadGuard, RwLockWriteGuard};
+use std::sync::Arc;
 
-/// A store that threads share: the same calls, on `&self`. Clones are handles on the one store.
+pub(crate) use locked::Core;
+pub(crate) use turn::Turn;
+
+/// A handle on a store that threads share: the same calls, on `&self`. Clones are handles on the one store. A [`Shared`] store is
+/// in memory, a [`Durable`](crate::Durable) one in a folder too.
 ///
 /// Readers' calls run beside each other; each writers' call runs alone. The lock is held for one call, never from one
 /// call to the next, so a writer that dies between calls leaves its ticket open and nobody waiting for a lock. Versions
-/// of its line after that writer's own stay unpublished until somebody weaves its nodes: any thread may, with the ticket.
+/// of its line after that writer's own stay unpublished until somebody weaves its nodes: any thread may, with the ticket, and
+/// [`finish`](Handle::finish) does it.
 ///
 /// No call can leave the store half changed. A lock that a panic has poisoned is therefore simply taken.
 ///
@@ -27,74 +39,83 @@ use std::sync::{Arc, Mutex, PoisonError, RwLock, RwLockReadGuard, RwLockWriteGua
 /// # Ok(())
 /// # }
 /// ```
-#[derive(Clone, Debug)]
-pub struct Shared {
-    store: Arc<RwLock<Store>>,
-    /// Held by the one that saves.
-    saving: Arc<Mutex<()>>,
+pub struct Handle<L: Log> {
+    pub(crate) core: Arc<Core>,
+    pub(crate) log: Arc<L>,
 }
 
-impl Shared {
-    /// A handle on this store.
-    pub fn new(store: Store) -> Shared {
-        Shared {
-            store: Arc::new(RwLock::new(store)),
-            saving: Arc::new(Mutex::new(())),
-        }
-    }
+/// A store in memory that threads share.
+pub type Shared = Handle<Memory>;
 
-    fn reading(&self) -> RwLockReadGuard<'_, Store> {
-        self.store.read().unwrap_or_else(PoisonError::into_inner)
-    }
-
-    fn writing(&self) -> RwLockWriteGuard<'_, Store> {
-        self.store.write().unwrap_or_else(PoisonError::into_inner)
+impl<L: Log> Handle<L> {
+    /// One call in a turn of its own.
+    fn alone<T>(
+        &self,
+        call: impl FnOnce(&mut Turn<'_, L>) -> Result<T, Error>,
+    ) -> Result<T, L::Failure> {
+        let mut turn = self.turn()?;
+        let answer = call(&mut turn)?;
+        turn.end()?;
+        Ok(answer)
     }
 
     /// [`Keeper::begin`](crate::Keeper::begin).
-    pub fn begin(&self, n: u64) -> Result<Ticket, Error> {
-        self.writing().begin(n)
+    pub fn begin(&self, n: u64) -> Result<Ticket, L::Failure> {
+        self.alone(|turn| turn.begin(n))
     }
 
     /// [`Keeper::put`](crate::Keeper::put).
-    pub fn put(&self, ticket: Ticket, i: u64, bytes: &[u8]) -> Result<(), Error> {
-        self.writing().put(ticket, i, bytes)
+    pub fn put(&self, ticket: Ticket, i: u64, bytes: &[u8]) -> Result<(), L::Failure> {
+        self.alone(|turn| turn.put(ticket, i, bytes))
     }
 
     /// [`Keeper::write`](crate::Keeper::write).
-    pub fn write(&self, line: Line, ticket: Ticket, first: PageIndex) -> Result<Assigned, Error> {
-        self.writing().write(line, ticket, first)
+    pub fn write(
+        &self,
+        line: Line,
+        ticket: Ticket,
+        first: PageIndex,
+    ) -> Result<Assigned, L::Failure> {
+        self.alone(|turn| turn.write(line, ticket, first))
     }
 
     /// [`Keeper::append`](crate::Keeper::append).
-    pub fn append(&self, line: Line, ticket: Ticket) -> Result<Assigned, Error> {
-        self.writing().append(line, ticket)
+    pub fn append(&self, line: Line, ticket: Ticket) -> Result<Assigned, L::Failure> {
+        self.alone(|turn| turn.append(line, ticket))
     }
 
     /// [`Keeper::weave`](crate::Keeper::weave).
-    pub fn weave(&self, ticket: Ticket) -> Result<Node, Error> {
-        self.writing().weave(ticket)
+    ///
+    /// In a store that was [carried over](Handle::carry), the versions of a node are the store's own numbers.
+    pub fn weave(&self, ticket: Ticket) -> Result<Node, L::Failure> {
+        self.alone(|turn| turn.weave(ticket, 1))
     }
 
-    /// [`Keeper::publish`](crate::Keeper::publish).
-    pub fn publish(&self, line: Line, minute: Minute) -> Result<Published, Error> {
-        self.writing().publish(line, minute)
+    /// [`Keeper::publish`](crate::Keeper::publish). When it returns, the version is published for every reader.
+    pub fn publish(&self, line: Line, minute: Minute) -> Result<Published, L::Failure> {
+        self.alone(|turn| turn.publish(line, minute))
     }
 
     /// [`Keeper::set_windows`](crate::Keeper::set_windows), for every handle: whoever publishes after it goes by the new ones.
-    pub fn set_windows(&self, text: impl AsRef<[u8]>) -> Result<(), WindowsError> {
-        let text = text.as_ref();
-        self.writing().set_windows(text)
+    pub fn set_windows(&self, text: impl AsRef<[u8]>) -> Result<(), L::WindowsFailure> {
+        let mut turn = self.turn()?;
+        turn.set_windows(text.as_ref())?;
+        Ok(turn.end()?)
     }
 
     /// [`Keeper::windows`](crate::Keeper::windows).
     pub fn windows(&self) -> Windows {
-        self.reading().windows()
+        self.core.reading().keeper.windows()
+    }
+
+    /// The limits that the store was formatted with.
+    pub fn limits(&self) -> Limits {
+        self.core.reading().keeper.limits()
     }
 
     /// [`Keeper::branch`](crate::Keeper::branch).
-    pub fn branch(&self, line: Line, version: Version) -> Result<Line, Error> {
-        self.writing().branch(line, version)
+    pub fn branch(&self, line: Line, version: Version) -> Result<Line, L::Failure> {
+        self.alone(|turn| turn.branch(line, version))
     }
 
     /// [`Keeper::read`](crate::Keeper::read).
@@ -103,31 +124,58 @@ impl Shared {
         line: Line,
         version: Version,
         offset: ByteOffset,
-        len: u64,
         buffer: &mut [u8],
     ) -> Result<(), Error> {
-        self.reading().read(line, version, offset, len, buffer)
+        self.core.read(line, version, offset, buffer)
     }
 
     /// [`Keeper::size`](crate::Keeper::size).
     pub fn size(&self, line: Line, version: Version) -> Result<u64, Error> {
-        self.reading().size(line, version)
+        self.core.size_in(&self.core.reading(), line, version)
     }
 
-    /// [`Keeper::recent`](crate::Keeper::recent).
+    /// [`Keeper::recent`](crate::Keeper::recent); it takes no lock.
     pub fn recent(&self, line: Line) -> Result<Version, Error> {
-        self.reading().recent(line)
+        self.core.recent(line)
+    }
+
+    /// The published versions of a line that can be read, lowest first: all from 1 to [`recent`](Handle::recent), but where the store was
+    /// [carried over](Handle::carry) and some were not kept. Refused: 3, 20.
+    ///
+    /// ```
+    /// use pit_host::{Limits, Line, PageIndex, Shared, Store, Version};
+    /// # fn main() -> Result<(), pit_host::Error> {
+    /// let (shared, live) = (Shared::new(Store::format(Limits::new(16, 8, 16, 4))?), Line(0));
+    /// for fill in 1..=3 {
+    ///     shared.update(live, PageIndex(0), &[&[fill; 16]])?;
+    /// }
+    /// assert_eq!(shared.versions(live)?, [1, 2, 3].map(Version));
+    /// shared.carry(shared.limits(), &[(live, Version(1))])?;
+    /// assert_eq!(shared.versions(live)?, [1, 3].map(Version));
+    /// # Ok(())
+    /// # }
+    /// ```
+    pub fn versions(&self, line: Line) -> Result<Vec<Version>, Error> {
+        let live = self.core.reading();
+        let last = self.core.recent_in(&live, line)?;
+        let own = live.keeper.recent(line)?;
+        let kept = (1..=own.0).filter_map(|own| live.numbers.kept_version(line, own));
+        Ok(kept.take_while(|version| *version <= last).collect())
     }
 
     /// [`Keeper::stamp`](crate::Keeper::stamp).
+    ///
+    /// In a store that was [carried over](Handle::carry), a page that has not changed since has the last version kept for its stamp.
     pub fn stamp(&self, line: Line, version: Version, page: PageIndex) -> Result<Version, Error> {
-        self.reading().stamp(line, version, page)
+        let live = self.core.reading();
+        self.core.stamp_in(&live, line, version, page)
     }
 
     /// [`Keeper::view`](crate::Keeper::view), for as long as `look` takes: the bytes of a page where they lie, uncopied.
     ///
     /// Writers wait while `look` runs, so it should be short; and it must not call this store, since a call that
-    /// waits for a writer that waits for `look` would never end. A panic in `look` harms nobody else.
+    /// waits for a writer that waits for `look` would never end. A panic in `look` harms nobody else. A
+    /// [`Snapshot`](crate::Snapshot) gives the bytes without a lock.
     ///
     /// ```
     /// # use pit_host::{Limits, Line, Minute, PageIndex, Shared, Store, Version};
@@ -149,54 +197,86 @@ impl Shared {
         page: PageIndex,
         look: impl FnOnce(&[u8]) -> R,
     ) -> Result<R, Error> {
-        self.reading().view(line, version, page).map(look)
+        self.core.with_view(line, version, page, look)
     }
 
-    /// The whole store as it is at this moment, copied.
+    /// Sets the clock of the site, for every handle: the minute of the week at which [`update`](Handle::update) and the like publish.
+    /// Before, it is [`Minute::of`] the system's time in UTC.
+    pub fn set_clock(&self, clock: impl Fn() -> Minute + Send + Sync + 'static) {
+        self.core.set_clock(Arc::new(clock));
+    }
+
+    /// The whole store as it is at one moment of this call, copied. The lock is held while all but the pages are copied. Where it was
+    /// [carried over](Handle::carry), the copy goes by its own numbers, and says nothing of its callers'.
     pub fn to_store(&self) -> Store {
-        self.reading().clone()
+        let live = self.core.reading();
+        if let Some(copied) = live.copied() {
+            return copied;
+        }
+        let moment = live.moment();
+        drop(live);
+        moment.to_store().expect("FORMAT accepts the limits")
     }
 
     /// [`Keeper::save`](crate::Keeper::save) of the store as it is at one moment of this call; gives the last published
     /// version of line 0 that the file holds.
     ///
-    /// The lock is held while the store is copied in memory, not while the file is written: a disk can take seconds, and
-    /// a writer waiting that long would hold up the readers behind it too. It takes the memory of a second store
-    /// meanwhile.
+    /// It holds nobody up: the lock is taken while the state, the nodes and the register are copied, well below a millisecond or two for
+    /// the largest store. Pages that are put never change, so they are written from where they lie, without a lock.
     ///
-    /// One thread saves at a time, from the copy to the end, and others that save wait for it. So what a finished save
-    /// has left is never replaced by an older copy.
+    /// One thread saves at a time, and others that save wait for it. So what a finished save has left is never replaced by
+    /// an older one.
     pub fn save(&self, path: impl AsRef<Path>) -> Result<Version, FileError> {
-        let _alone = self.saving.lock().unwrap_or_else(PoisonError::into_inner);
-        self.to_store().save(path)
+        let _alone = self.core.saving();
+        self.core.moment().save(path.as_ref())
+    }
+}
+
+impl Shared {
+    /// A handle on this store.
+    pub fn new(store: Store) -> Shared {
+        Shared::numbered(store, Numbering::default())
+    }
+
+    /// A handle on this store, with its callers' numbers.
+    pub(crate) fn numbered(store: Store, numbers: Numbering) -> Shared {
+        Handle {
+            core: Arc::new(Core::new(store, numbers)),
+            log: Arc::new(Memory),
+        }
+    }
+
+    /// A handle on the store in a file, as [`Store::load`] loads it; with its callers' numbers, where it was
+    /// [carried over](Handle::carry).
+    pub fn load(path: impl AsRef<Path>) -> Result<Shared, FileError> {
+        let (store, numbers) = file::load(path.as_ref())?.numbered()?;
+        Ok(Shared::numbered(store, numbers))
     }
 
     /// Takes the store in a file in place of the running one. The file is read and checked first, without the lock; on
     /// an error the running store goes on as it was. Tickets and versions are then those of the file's store.
     pub fn reload(&self, path: impl AsRef<Path>) -> Result<(), FileError> {
-        let loaded = Store::load(path)?;
-        let former = std::mem::replace(&mut *self.writing(), loaded);
-        drop(former); // after the lock
+        let (store, numbers) = file::load(path.as_ref())?.numbered()?;
+        let live = Live::new(store, numbers);
+        let _turn = self.core.turn(); // no carry is on its way, which would put the former store in place again
+        self.core.replace(live);
         Ok(())
     }
 }
 
-#[cfg(test)]
-mod tests {
-    use super::*;
-    use crate::areas::Limits;
+impl<L: Log> Clone for Handle<L> {
+    fn clone(&self) -> Handle<L> {
+        Handle {
+            core: self.core.clone(),
+            log: self.log.clone(),
+        }
+    }
+}
 
-    #[test]
-    fn a_poisoned_lock_is_taken() {
-        let limits = Limits::new(16, 4, 8, 2);
-        let shared = Shared::new(Store::format(limits).expect("limits in range"));
-        let other = shared.clone();
-        let died = std::thread::spawn(move || {
-            let _alone = other.writing();
-            panic!("with the lock held");
-        });
-        assert!(died.join().is_err() && shared.store.is_poisoned());
-        assert_eq!(shared.begin(1), Ok(Ticket(1)));
-        assert_eq!(shared.recent(Line(0)), Ok(Version(0)));
+/// By the store's state: its areas fill screens.
+impl<L: Log> fmt::Debug for Handle<L> {
+    fn fmt(&self, f: &mut fmt::Formatter<'_>) -> fmt::Result {
+        let state = self.core.reading().keeper.state();
+        f.debug_struct("Handle").field("state", &state).finish()
     }
 }

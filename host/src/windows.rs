@@ -157,6 +157,13 @@ impl From<WindowsError> for Error {
     }
 }
 
+/// A refusal that is of no line of a text.
+impl From<Error> for WindowsError {
+    fn from(error: Error) -> WindowsError {
+        WindowsError::of(error, &[])
+    }
+}
+
 impl fmt::Display for WrongLine {
     fn fmt(&self, f: &mut fmt::Formatter<'_>) -> fmt::Result {
         let WrongLine { number, text, why } = self;

@@ -6,11 +6,14 @@
 mod calls;
 #[path = "damaged/drawn.rs"]
 mod drawn;
+mod folder;
 #[path = "damaged/lower_walks.rs"]
 mod lower_walks;
 #[path = "damaged/memory.rs"]
 mod memory;
 mod random;
+#[path = "damaged/shared.rs"]
+mod shared;
 #[path = "damaged/stamps.rs"]
 mod stamps;
 #[path = "store/windows.rs"]
@@ -117,6 +120,28 @@ fn the_areas_of_several_stores() {
     let answers = try_all("the_areas_of_several_stores", drawn::mixed_scene);
     came(&answers, 0, &FIND_DAMAGE);
     came(&answers, 19, &["READ", "STAMP", "VIEW"]);
+}
+
+/// All of these scenes in a store that threads share.
+#[test]
+fn stores_that_threads_share() {
+    let draws: [fn(&mut Random) -> Scene; 6] = [
+        drawn::random_scene,
+        drawn::fitting_scene,
+        drawn::changed_scene,
+        drawn::cut_scene,
+        drawn::mixed_scene,
+        drawn::resent_scene,
+    ];
+    let folder = folder::Folder::new("damaged");
+    let file = folder.0.join("store");
+    random::scenes("stores_that_threads_share", SCENES / 2, |mut random| {
+        let mut scene = random.pick(&draws)(&mut random);
+        if random.one_in(3) {
+            shared::overlap(&mut random, &mut scene);
+        }
+        shared::try_scene(&mut random, &mut scene, CALLS, &file);
+    });
 }
 
 /// STAMP of every page of every version, where a lower walk may be lost at any place, or lead back up.

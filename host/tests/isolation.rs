@@ -120,7 +120,7 @@ impl Planner {
             Act::SetWindows(text) => told(store.set_windows(text).map_err(Error::from)),
             Act::Read(v, offset, len) => {
                 let mut buffer = [0xee; 48];
-                let done = store.read(line, Version(v), ByteOffset(offset), len, &mut buffer);
+                let done = store.read_front(line, Version(v), ByteOffset(offset), len, &mut buffer);
                 told(done) + &format!("{buffer:?}")
             }
             Act::Size(v) => told(store.size(line, Version(v))),

@@ -3,9 +3,8 @@
 mod updates;
 
 use pit_host::{
-    Areas, Assigned, ByteOffset, Error, Keeper, Lend, Lent, LentAreas, Limits, Line, LineVersion,
-    Minute, Node, PageIndex, Parts, Planned, Published, Record, State, Store, Ticket, Version,
-    WindowsError,
+    Areas, Assigned, ByteOffset, Error, Keeper, Lend, Lent, LentAreas, Line, LineVersion, Minute,
+    Node, PageIndex, Parts, Published, Record, State, Store, Ticket, Version, WindowsError,
 };
 use updates::{assign, fills, limits, of_three_versions, put_all, update, ANY_TIME, LIVE};
 
@@ -53,7 +52,7 @@ fn call<A: Lend>(store: &mut Keeper<A>, kind: u64, numbers: [u64; 4], fill: u8) 
         9 => Answer::Published(store.publish(line, Minute(2_016 * c))), // of the six the last is past the week
         10 => {
             let mut buffer = vec![fill; 40];
-            let done = store.read(line, version, ByteOffset(8 * b), 8 * c, &mut buffer);
+            let done = store.read_front(line, version, ByteOffset(8 * b), 8 * c, &mut buffer);
             Answer::Read(done, buffer)
         }
         11 => Answer::Size(store.size(line, version)),
@@ -257,7 +256,7 @@ fn the_example() {
         Ok(Published::Now(Version(1)))
     );
     assert_eq!(
-        store.read(LIVE, Version(2), ByteOffset(0), 0, &mut []),
+        store.read(LIVE, Version(2), ByteOffset(0), &mut []),
         Err(Error::NotPublished)
     );
     assert_eq!(store.weave(one), node(2, 1, 1, 0, 0, 0));
@@ -267,7 +266,7 @@ fn the_example() {
     );
     let mut bytes = [0; 4];
     assert_eq!(
-        store.read(LIVE, Version(2), ByteOffset(14), 4, &mut bytes),
+        store.read(LIVE, Version(2), ByteOffset(14), &mut bytes),
         Ok(())
     );
     assert_eq!(bytes, [0x22, 0x22, 0x11, 0x11]);
@@ -370,77 +369,6 @@ fn lines_publish_by_themselves() {
     );
     assert_eq!(fills(&store, LIVE, Version(1)), Ok(vec![1]));
     assert_eq!(fills(&store, plan, Version(2)), Ok(vec![2, 3]));
-}
-
-// Sizing.
-
-fn planned(f: u64, n: u64, size: u64) -> Planned {
-    Planned {
-        first: PageIndex(f),
-        pages: n,
-        size_after: size,
-    }
-}
-
-#[test]
-fn limits_for_planned_updates_are_just_enough() {
-    let plan = [planned(0, 4, 4), planned(1, 2, 4), planned(4, 1, 5)];
-    let exact = Limits::for_updates(16, &plan).unwrap();
-    assert_eq!(exact, limits(7, 16, 3));
-    let run = |limits| {
-        let mut store = Store::format(limits)?;
-        for update_of in plan {
-            let fills = vec![1; update_of.pages as usize];
-            update(&mut store, LIVE, Some(update_of.first.0), &fills)?;
-        }
-        Ok(())
-    };
-    assert_eq!(run(exact), Ok(()));
-    assert_eq!(run(limits(6, 16, 3)), Err(Error::PagesFull));
-    assert_eq!(run(limits(7, 15, 3)), Err(Error::NodesFull));
-    assert_eq!(run(limits(7, 16, 2)), Err(Error::RegisterFull));
-}
-
-#[test]
-fn no_limits_for_what_cannot_be() {
-    let one = planned(0, 1, 1);
-    for wrong in [
-        planned(0, 0, 1),
-        planned(0, 65, 65),
-        planned(1, 1, 1),
-        planned(0, 1, 4_097),
-    ] {
-        assert_eq!(Limits::for_updates(16, &[one, wrong]), None, "{wrong:?}");
-    }
-    assert_eq!(Limits::for_updates(24, &[one]), None);
-    assert_eq!(Limits::for_updates(16, &[]), None);
-    assert!(Limits::for_updates(16, &[one; 4_096]).is_some());
-    assert_eq!(Limits::for_updates(16, &[one; 4_097]), None);
-    for (blob, updates, pages) in [(0, 1, 1), (4_097, 1, 1), (8, 1, 9), (8, 0, 1), (8, 1, 0)] {
-        assert_eq!(
-            Limits::worst(16, blob, updates, pages),
-            None,
-            "{blob}, {updates}, {pages}"
-        );
-    }
-    assert_eq!(Limits::worst(16, u64::MAX, u64::MAX, u64::MAX), None);
-    assert_eq!(Limits::worst(16, 8, u64::MAX, 2), None);
-    assert_eq!(Limits::worst(24, 8, 1, 1), None);
-}
-
-/// No update of up to n pages in a blob of up to `blob` pages makes more nodes than `worst` has room for.
-#[test]
-fn worst_limits_hold_every_update() {
-    for blob in (1..=40).chain([63, 64, 65, 130]) {
-        for n in 1..=blob.min(64) {
-            let room = Limits::worst(16, blob, 1, n).unwrap().nodes;
-            let most = (1..=blob)
-                .flat_map(|size| (0..size).map(move |f| (f, size)))
-                .map(|(f, size)| pit_host::node_count(f, n.min(size - f), size))
-                .max();
-            assert_eq!(Some(room), most, "{n} pages in {blob}");
-        }
-    }
 }
 
 #[test]

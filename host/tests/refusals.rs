@@ -33,7 +33,7 @@ const CALLS: [(&str, Call); 12] = [
     ("set_windows", |s| Ok(s.set_windows("600,660\n")?)),
     ("branch", |s| s.branch(LIVE, Version(3)).map(drop)),
     ("read", |s| {
-        s.read(LIVE, Version(3), ByteOffset(8), 64, &mut [0; 64])
+        s.read(LIVE, Version(3), ByteOffset(8), &mut [0; 64])
     }),
     ("size", |s| s.size(LIVE, Version(3)).map(drop)),
     ("stamp", |s| {
@@ -255,7 +255,7 @@ fn rows_16_and_17_of_readers() {
             s.view(LIVE, version, PageIndex(0)).map(drop)
         });
         refused(&mut store, 16, |s| {
-            s.read(LIVE, version, ByteOffset(0), 0, &mut [])
+            s.read(LIVE, version, ByteOffset(0), &mut [])
         });
     }
     for page in [5, u64::MAX].map(PageIndex) {
@@ -266,18 +266,15 @@ fn rows_16_and_17_of_readers() {
     }
     for (offset, len) in [(0, 81), (80, 1), (81, 0), (1, u64::MAX), (u64::MAX, 1)] {
         refused(&mut store, 17, |s| {
-            s.read(LIVE, Version(3), ByteOffset(offset), len, &mut [0; 96])
+            s.read_front(LIVE, Version(3), ByteOffset(offset), len, &mut [0; 96])
         });
     }
     refused(&mut store, 17, |s| {
         s.view(LIVE, Version(0), PageIndex(0)).map(drop)
     });
+    assert_eq!(store.read(LIVE, Version(0), ByteOffset(0), &mut []), Ok(()));
     assert_eq!(
-        store.read(LIVE, Version(0), ByteOffset(0), 0, &mut []),
-        Ok(())
-    );
-    assert_eq!(
-        store.read(LIVE, Version(3), ByteOffset(80), 0, &mut []),
+        store.read(LIVE, Version(3), ByteOffset(80), &mut []),
         Ok(())
     );
 }
@@ -309,7 +306,7 @@ fn row_20_of_lines() {
                 s.view(line, version, PageIndex(0)).map(drop)
             });
             refused(&mut store, 20, |s| {
-                s.read(line, version, ByteOffset(99), 1, &mut [])
+                s.read_front(line, version, ByteOffset(99), 1, &mut [])
             });
         }
     }
@@ -406,13 +403,37 @@ fn row_18_leaves_the_buffer() {
     let mut store = of_three_versions();
     let mut buffer = [9; 15];
     refused(&mut store, 18, |s| {
-        s.read(LIVE, Version(3), ByteOffset(0), 16, &mut buffer)
+        s.read_front(LIVE, Version(3), ByteOffset(0), 16, &mut buffer)
     });
     assert_eq!(buffer, [9; 15]);
     store
-        .read(LIVE, Version(3), ByteOffset(0), 14, &mut buffer)
+        .read_front(LIVE, Version(3), ByteOffset(0), 14, &mut buffer)
         .unwrap();
     assert_eq!(buffer, [1, 1, 1, 1, 1, 1, 1, 1, 1, 1, 1, 1, 1, 1, 9]);
+}
+
+/// `read` is READ of as many bytes as the buffer has: it answers and fills as `read_front` of that length does, and no buffer is
+/// too short for it.
+#[test]
+fn read_fills_the_whole_buffer() {
+    let store = of_three_versions();
+    let mut answers = [0; 25];
+    for version in (0..=4).map(Version) {
+        for (offset, len) in (0..=82).flat_map(|offset| (0..=40).map(move |len| (offset, len))) {
+            let (offset, mut buffer, mut front) = (ByteOffset(offset), vec![9; len], vec![9; len]);
+            let read = store.read(LIVE, version, offset, &mut buffer);
+            let len = len as u64;
+            let answer = store.read_front(LIVE, version, offset, len, &mut front);
+            assert_eq!(
+                (read, buffer),
+                (answer, front),
+                "{version}, {offset}, {len}"
+            );
+            answers[read.map_or_else(|refused| refused.number(), |()| 0) as usize] += 1;
+        }
+    }
+    let met: Vec<usize> = (0..25).filter(|number| answers[*number] > 0).collect();
+    assert_eq!(met, [0, 16, 17]);
 }
 
 /// The store of all stages, its state and areas spoilt.
@@ -445,7 +466,7 @@ fn row_19_of_nodes_not_stored() {
     });
     let mut buffer = [9; 80];
     refused(&mut store, 19, |s| {
-        s.read(LIVE, Version(3), ByteOffset(0), 80, &mut buffer)
+        s.read(LIVE, Version(3), ByteOffset(0), &mut buffer)
     });
     assert_eq!(buffer, [9; 80]);
 }

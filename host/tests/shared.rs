@@ -1,7 +1,9 @@
 //! A store shared by threads: writers beside readers, writers that die, readers that panic.
 
+mod folder;
 mod updates;
 
+use folder::Folder;
 use pit_host::{
     ByteOffset, Error, FileError, Limits, Minute, PageIndex, Published, Shared, Store, Ticket,
     Version,
@@ -68,9 +70,9 @@ fn ride(shared: &Shared, ended: &AtomicBool) -> Version {
         assert!(recent >= seen, "{recent} after {seen}");
         seen = recent;
         let mut bytes = [0; PAGE * BLOB as usize];
-        let size = shared.size(LIVE, recent).unwrap();
+        assert_eq!(shared.size(LIVE, recent), Ok(bytes.len() as u64));
         shared
-            .read(LIVE, recent, ByteOffset(0), size, &mut bytes)
+            .read(LIVE, recent, ByteOffset(0), &mut bytes)
             .unwrap();
         for (page, read) in (0..).map(PageIndex).zip(bytes.chunks(PAGE)) {
             let stamp = shared.stamp(LIVE, recent, page).unwrap();
@@ -230,23 +232,6 @@ fn windows_set_by_one_thread_hold_anothers_publish() {
 }
 
 // Files.
-
-/// A folder of this test's own, removed again.
-struct Folder(std::path::PathBuf);
-
-impl Folder {
-    fn new(name: &str) -> Folder {
-        let path = std::env::temp_dir().join(format!("pit-shared-{name}-{}", std::process::id()));
-        std::fs::create_dir_all(&path).unwrap();
-        Folder(path)
-    }
-}
-
-impl Drop for Folder {
-    fn drop(&mut self) {
-        let _ = std::fs::remove_dir_all(&self.0);
-    }
-}
 
 #[test]
 fn a_save_beside_writers_is_the_store_of_one_moment() {

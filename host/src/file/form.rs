@@ -1,13 +1,13 @@
 //! The form of a store's file: the header, and the areas as bytes. [`Keeper::save`](crate::Keeper::save) shows it.
 
+use super::summed::Summed;
+use super::taken::{pages_agree, Taken};
 use super::FileError;
 use super::{derived, old};
-use crate::areas::{Areas, Lend, Limits, Parts, MOST_PAGES};
-use crate::checksum::Checksum;
+use crate::areas::{Areas, Lend, Limits, MOST_PAGES};
 use crate::counters::Line;
 use crate::ffi::{Entries, LineState, Record, State, Window, Windows, LINES};
-use std::convert::Infallible;
-use std::io::{self, Read};
+use std::io::{self, Read, Write};
 
 /// The first eight bytes of every file.
 const MAGIC: [u8; 8] = *b"PITSTORE";
@@ -16,11 +16,16 @@ const MAGIC: [u8; 8] = *b"PITSTORE";
 const STATE: usize = 10 + LINES;
 const WINDOWS: usize = 32 / 2;
 const RECORD: usize = 18;
-/// The header's numbers: the magic and the form, the state, the windows, three lengths and the checksum.
-const HEADER_NUMBERS: usize = 2 + STATE + WINDOWS + 4;
-const HEADER: usize = 8 * HEADER_NUMBERS;
+/// The header's numbers up to the checksum, which is the last: the magic and the form, the state, the windows and four
+/// lengths.
+const BEFORE_CHECKSUM: usize = 2 + STATE + WINDOWS + 4;
+/// Where the checksum stands. It covers all bytes but its own.
+pub const CHECKSUM_AT: usize = 8 * BEFORE_CHECKSUM;
+const HEADER: usize = CHECKSUM_AT + 8;
 /// A node's length in bytes.
 const NODE: u64 = 8;
+/// The last part has at most so many bytes. Every area has fewer.
+const MOST_LAST: u64 = 1 << 28;
 /// How many numbers of the node area are turned into bytes at a time.
 const NUMBERS_AT_A_TIME: usize = 2_048;
 
@@ -33,23 +38,27 @@ enum Form {
     Lines = 2,
     /// With lines packed, and no windows.
     Packed = 3,
-    /// As files are written here.
+    /// With windows, and the areas whole.
     Windows = 4,
+    /// As files are written here, with what is taken of the areas.
+    Taken = 5,
 }
 
 impl Form {
     fn of(number: u64) -> Option<Form> {
-        let forms = [Form::OneLine, Form::Lines, Form::Packed, Form::Windows];
+        use Form::*;
+        let forms = [OneLine, Lines, Packed, Windows, Taken];
         forms.into_iter().find(|form| *form as u64 == number)
     }
 
-    /// The header's length in bytes.
+    /// The header's length in bytes. Before form 5 there were three lengths and the checksum in it.
     fn header(self) -> usize {
         match self {
             Form::OneLine => 8 * (2 + old::STATE_1 + 4),
             Form::Lines => 8 * (2 + old::STATE_2 + 4),
-            Form::Packed => HEADER - 8 * WINDOWS,
-            Form::Windows => HEADER,
+            Form::Packed => 8 * (2 + STATE + 4),
+            Form::Windows => 8 * (2 + STATE + WINDOWS + 4),
+            Form::Taken => HEADER,
         }
     }
 
@@ -58,7 +67,7 @@ impl Form {
         match self {
             Form::OneLine => 8 * old::RECORD_1 as u64,
             Form::Lines => 8 * old::RECORD_2 as u64,
-            Form::Packed | Form::Windows => 8 * RECORD as u64,
+            Form::Packed | Form::Windows | Form::Taken => 8 * RECORD as u64,
         }
     }
 }
@@ -70,52 +79,52 @@ pub struct Header {
     /// The state's lines as the file has them: a file of an earlier form may have numbers that cannot be packed.
     lines: [LineState; LINES],
     pub windows: Windows,
-    /// In bytes: the page area, the node area, the register.
-    lengths: [u64; 3],
+    /// In bytes: what is there of the page area, the node area and the register, and the last part.
+    lengths: [u64; 4],
     checksum: u64,
 }
 
 impl Header {
-    /// A store's header.
-    pub fn of(state: State, windows: Windows, areas: Parts<'_>) -> Header {
+    /// The header of what is saved, with no checksum yet.
+    pub fn of(taken: &Taken<'_>) -> Header {
+        let state = taken.state;
         let lengths = [
-            areas.pages.len(),
-            4 * areas.nodes.len(),
-            8 * RECORD * areas.register.len(),
+            // any numbers may stand in a state: those that have no product are refused before it counts
+            state.size.wrapping_mul(state.taken),
+            4 * taken.nodes.len() as u64,
+            (8 * RECORD * taken.register.len()) as u64,
+            taken.last_part.len() as u64,
         ];
-        let mut header = Header {
-            form: Form::Windows,
+        Header {
+            form: Form::Taken,
             state,
             lines: lines_of(&state),
-            windows,
-            lengths: lengths.map(|length| length as u64),
+            windows: taken.windows,
+            lengths,
             checksum: 0,
-        };
-        header.checksum = header.checksum_with(areas);
-        header
+        }
     }
 
-    /// The header at the front of a file of `found` bytes, and the checksum up to its end.
-    pub fn read(file: &mut impl Read, found: u64) -> Result<(Header, Checksum), FileError> {
+    /// The header at the front of a file of `found` bytes.
+    pub fn read(file: &mut Summed<impl Read>, found: u64) -> Result<Header, FileError> {
         let mut bytes = Vec::with_capacity(HEADER);
-        file.take(16).read_to_end(&mut bytes)?;
+        file.file.by_ref().take(16).read_to_end(&mut bytes)?;
         let magic = bytes.len().min(MAGIC.len());
         if bytes[..magic] != MAGIC[..magic] {
             return Err(FileError::Foreign);
         }
         let form = match numbers_of(&bytes).nth(1) {
             Some(number) => Form::of(number).ok_or(FileError::Form(number))?,
-            None => Form::Windows, // cut off before it
+            None => Form::Taken, // cut off before it
         };
-        let rest = form.header() - bytes.len();
-        file.take(rest as u64).read_to_end(&mut bytes)?;
+        let rest = (form.header() - bytes.len()) as u64;
+        file.file.by_ref().take(rest).read_to_end(&mut bytes)?;
         if bytes.len() < form.header() {
             let expected = form.header() as u64;
             return Err(FileError::Truncated { expected, found });
         }
-        let mut sum = Checksum::new();
-        sum.add(&bytes[..form.header() - 8]);
-        Ok((Header::from_bytes(form, &bytes), sum))
+        file.sum.add(&bytes[..form.header() - 8]);
+        Ok(Header::from_bytes(form, &bytes))
     }
 
     fn from_bytes(form: Form, bytes: &[u8]) -> Header {
@@ -123,7 +132,7 @@ impl Header {
         let (mut state, lines) = match form {
             Form::OneLine => old::state_of_1(next(&mut numbers)),
             Form::Lines => old::state_of_2(next(&mut numbers)),
-            Form::Packed | Form::Windows => {
+            Form::Packed | Form::Windows | Form::Taken => {
                 let state = state_of(next(&mut numbers));
                 (state, lines_of(&state))
             }
@@ -132,45 +141,65 @@ impl Header {
             state.set_line(Line(at), line);
         }
         let windows = match form {
-            Form::Windows => windows_of(next(&mut numbers)),
+            Form::Windows | Form::Taken => windows_of(next(&mut numbers)),
             _ => Windows::default(),
         };
-        let lengths = next(&mut numbers);
+        let [pages, nodes, register] = next(&mut numbers);
+        let [last] = match form {
+            Form::Taken => next(&mut numbers),
+            _ => [0],
+        };
         let [checksum] = next(&mut numbers);
         Header {
             form,
             state,
             lines,
             windows,
-            lengths,
+            lengths: [pages, nodes, register, last],
             checksum,
         }
     }
 
-    pub fn to_bytes(&self) -> [u8; HEADER] {
-        let front = [u64::from_le_bytes(MAGIC), Form::Windows as u64];
+    /// As it is written, up to the checksum.
+    pub fn to_bytes(&self) -> [u8; CHECKSUM_AT] {
+        let front = [u64::from_le_bytes(MAGIC), Form::Taken as u64];
         let numbers = front.into_iter().chain(numbers_of_state(&self.state));
         let numbers = numbers.chain(numbers_of_windows(&self.windows));
-        let mut numbers = numbers.chain(self.lengths).chain([self.checksum]);
-        to_bytes(&next::<HEADER_NUMBERS>(&mut numbers))
+        let mut numbers = numbers.chain(self.lengths);
+        to_bytes(&next::<BEFORE_CHECKSUM>(&mut numbers))
     }
 
     pub fn limits(&self) -> Limits {
         self.state.limits()
     }
 
-    /// FORMAT accepts the limits, and the areas have the lengths of the limits.
-    pub fn check_limits(&self) -> Result<(), FileError> {
+    /// How many pages, node places and records are there: what is taken, and in an earlier form all that there is room for.
+    fn held(&self) -> [u64; 3] {
+        let s = &self.state;
+        match self.form {
+            Form::Taken => [s.taken, s.places, s.tickets],
+            _ => [s.pages, s.nodes, s.updates],
+        }
+    }
+
+    /// FORMAT accepts the limits, no more is there than they have room for, and that has its lengths.
+    pub fn check_lengths(&self) -> Result<(), FileError> {
         self.limits().check().map_err(FileError::Limits)?;
-        let s = &self.state; // of limits that FORMAT accepts, no product is above 2^28
-        let register = self.form.record() * s.updates;
-        if self.lengths != [s.size * s.pages, NODE * s.nodes, register] {
+        let (s, held) = (&self.state, self.held());
+        if !has_room(s, held) {
+            return Err(FileError::Counters);
+        }
+        let [pages, nodes, records] = held;
+        // of limits that FORMAT accepts, no product is above 2^28
+        let areas = [s.size * pages, NODE * nodes, self.form.record() * records];
+        let [lengths @ .., last] = self.lengths;
+        if lengths != areas || last > MOST_LAST {
             return Err(FileError::AreaLengths);
         }
         Ok(())
     }
 
-    /// The file is as long as header and areas. After `check_limits`, so that the lengths have a sum.
+    /// The file is as long as header and lengths. After `check_lengths`, so that these have a sum.
     pub fn check_length(&self, found: u64) -> Result<(), FileError> {
         let expected = self.form.header() as u64 + self.lengths.iter().sum::<u64>();
         match found {
@@ -181,8 +210,8 @@ impl Header {
     }
 
     /// The checksum is that of the file.
-    pub fn check_checksum(&self, sum: &Checksum) -> Result<(), FileError> {
-        if self.checksum != sum.value() {
+    pub fn check_checksum(&self, sum: u64) -> Result<(), FileError> {
+        if self.checksum != sum {
             return Err(FileError::Checksum);
         }
         Ok(())
@@ -191,9 +220,8 @@ impl Header {
     /// No counter has passed what it counts.
     pub fn check_counters(&self) -> Result<(), FileError> {
         let s = &self.state;
-        let given = s.tickets <= s.updates && s.taken <= s.pages;
-        let assigned = s.assigned <= s.tickets && s.places <= s.nodes;
-        if given && assigned && lines_agree(s, &self.lines) {
+        let given = has_room(s, [s.taken, s.places, s.tickets]);
+        if given && s.assigned <= s.tickets && lines_agree(s, &self.lines) {
             Ok(())
         } else {
             Err(FileError::Counters)
@@ -209,60 +237,61 @@ impl Header {
         }
     }
 
-    /// The register's records have what follows from the rest of it. After `check_counters`.
+    /// The register's records have what follows from the rest of it; and where pages that are not put are left out, no version
+    /// has one. After `check_counters`.
     pub fn check_records(&self, register: &[Record]) -> Result<(), FileError> {
-        if derived::agrees(register, &self.state) {
+        let whole = !matches!(self.form, Form::Taken) || pages_agree(register, &self.state);
+        if whole && derived::agrees(register, &self.state) {
             Ok(())
         } else {
             Err(FileError::Counters)
         }
     }
 
-    /// The checksum of this header, up to where the checksum stands, and the areas.
-    fn checksum_with(&self, areas: Parts<'_>) -> u64 {
-        let mut sum = Checksum::new();
-        sum.add(&self.to_bytes()[..HEADER - 8]);
-        let _: Result<(), Infallible> = each_piece(areas, |piece| {
-            sum.add(piece);
-            Ok(())
-        });
-        sum.value()
+    /// Areas of these limits, filled from a file that stands where they begin. What it has nothing of is as FORMAT leaves it.
+    pub fn read_areas(&self, file: &mut Summed<impl Read>) -> Result<Areas, FileError> {
+        let mut areas = Areas::new(&self.limits()).map_err(FileError::Limits)?;
+        let lent = areas.lend();
+        // each within its area, by `check_lengths`
+        let [pages, nodes, records] = self.held().map(|held| held as usize);
+        file.read(&mut lent.pages[..pages * self.state.size as usize])?;
+        let (taken, rest) = lent.nodes.split_at_mut(2 * nodes);
+        read_nodes(taken, file)?;
+        rest.fill(u32::MAX);
+        self.read_register(&mut lent.register[..records], file)?;
+        Ok(areas)
     }
 
-    /// Fills areas from a file that stands where they begin, and adds what it reads to the checksum.
-    pub fn fill(
+    fn read_register(
         &self,
-        areas: &mut Areas,
-        file: &mut impl Read,
-        sum: &mut Checksum,
+        register: &mut [Record],
+        file: &mut Summed<impl Read>,
     ) -> io::Result<()> {
-        let areas = areas.lend();
-        file.read_exact(areas.pages)?;
-        sum.add(areas.pages);
-        let mut piece = [0; 4 * NUMBERS_AT_A_TIME];
-        for numbers in areas.nodes.chunks_mut(NUMBERS_AT_A_TIME) {
-            let piece = &mut piece[..4 * numbers.len()];
-            file.read_exact(piece)?;
-            sum.add(piece);
-            for (number, four) in numbers.iter_mut().zip(piece.chunks_exact(4)) {
-                let mut bytes = [0; 4];
-                bytes.copy_from_slice(four);
-                *number = u32::from_le_bytes(bytes);
-            }
-        }
         let mut bytes = vec![0; self.form.record() as usize];
-        for (number, record) in (1..).zip(areas.register) {
-            file.read_exact(&mut bytes)?;
-            sum.add(&bytes);
+        for (number, record) in (1..).zip(register) {
+            file.read(&mut bytes)?;
             let numbers = &mut numbers_of(&bytes);
             *record = match self.form {
                 Form::OneLine => old::record_of_1(next(numbers), number, self.state.assigned),
                 Form::Lines => old::record_of_2(next(numbers)),
-                Form::Packed | Form::Windows => record_of(next(numbers)),
+                Form::Packed | Form::Windows | Form::Taken => record_of(next(numbers)),
             };
         }
         Ok(())
     }
+
+    /// The last part, from a file that stands where it begins.
+    pub fn read_last_part(&self, file: &mut Summed<impl Read>) -> io::Result<Vec<u8>> {
+        let [.., length] = self.lengths;
+        let mut last_part = vec![0; length as usize];
+        file.read(&mut last_part)?;
+        Ok(last_part)
+    }
+}
+
+/// Whether so many pages, nodes and updates are within the capacities.
+fn has_room(s: &State, [pages, nodes, updates]: [u64; 3]) -> bool {
+    pages <= s.pages && nodes <= s.nodes && updates <= s.updates
 }
 
 /// The lines are such as calls leave: each begins from a version that an earlier one has published, and their own versions
@@ -288,21 +317,38 @@ fn lines_agree(s: &State, lines: &[LineState; LINES]) -> bool {
     own == s.assigned && unbegun.iter().all(|line| *line == LineState::default())
 }
 
-/// Hands on the areas as the file has them, a piece at a time, up to the first error.
-pub fn each_piece<E>(
-    areas: Parts<'_>,
-    mut take: impl FnMut(&[u8]) -> Result<(), E>,
-) -> Result<(), E> {
-    take(areas.pages)?;
+/// Writes nodes' numbers, some at a time.
+pub fn write_nodes(nodes: &[u32], out: &mut Summed<impl Write>) -> io::Result<()> {
     let mut piece = Vec::with_capacity(4 * NUMBERS_AT_A_TIME);
-    for numbers in areas.nodes.chunks(NUMBERS_AT_A_TIME) {
+    for numbers in nodes.chunks(NUMBERS_AT_A_TIME) {
         piece.clear();
         piece.extend(numbers.iter().flat_map(|number| number.to_le_bytes()));
-        take(&piece)?;
+        out.write(&piece)?;
     }
-    for record in areas.register {
+    Ok(())
+}
+
+/// Reads nodes' numbers, as many as there are places for.
+fn read_nodes(nodes: &mut [u32], file: &mut Summed<impl Read>) -> io::Result<()> {
+    let mut piece = [0; 4 * NUMBERS_AT_A_TIME];
+    for numbers in nodes.chunks_mut(NUMBERS_AT_A_TIME) {
+        let piece = &mut piece[..4 * numbers.len()];
+        file.read(piece)?;
+        let fours = piece.chunks_exact(4);
+        let read = fours.map(|b| u32::from_le_bytes([b[0], b[1], b[2], b[3]]));
+        numbers
+            .iter_mut()
+            .zip(read)
+            .for_each(|(number, read)| *number = read);
+    }
+    Ok(())
+}
+
+/// Writes records.
+pub fn write_register(register: &[Record], out: &mut Summed<impl Write>) -> io::Result<()> {
+    for record in register {
         let bytes: [u8; 8 * RECORD] = to_bytes(&numbers_of_record(record));
-        take(&bytes)?;
+        out.write(&bytes)?;
     }
     Ok(())
 }

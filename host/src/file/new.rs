@@ -151,7 +151,7 @@ fn is_at(file: &File, path: &Path) -> io::Result<bool> {
 }
 
 /// Clears a folder of the files that nobody holds. What cannot be cleared is left: no save needs it gone.
-fn clear(folder: &Path) {
+pub fn clear(folder: &Path) {
     for entry in fs::read_dir(folder).into_iter().flatten().flatten() {
         if is_a_saves_name(&entry.file_name()) {
             let _ = clear_if_unheld(&entry.path());
@@ -185,14 +185,14 @@ fn clear_if_unheld(path: &Path) -> io::Result<()> {
 }
 
 #[cfg(test)]
-mod tests {
+pub mod tests {
     use super::*;
 
     /// A folder of one test's own, removed again.
-    struct Folder(PathBuf);
+    pub struct Folder(pub PathBuf);
 
     impl Folder {
-        fn new(name: &str) -> Folder {
+        pub fn new(name: &str) -> Folder {
             let path = std::env::temp_dir().join(format!("pit-new-{name}-{}", std::process::id()));
             fs::create_dir_all(&path).unwrap();
             Folder(path)

@@ -492,7 +492,7 @@ fn publish(store: &mut Store<'_>, line: Line, minute: Minute) -> Outcome {
 fn read(store: &Store<'_>, range: [u64; 4], buffer: &mut [u8]) -> Outcome {
     let [line, v, offset, len] = range;
     let (line, version) = (Line(line), Version(v));
-    let done = store.read(line, version, ByteOffset(offset), len, buffer);
+    let done = store.read_front(line, version, ByteOffset(offset), len, buffer);
     let (size, filled) = (store.state().size, len.min(buffer.len() as u64));
     if done.is_ok() {
         for (at, byte) in (offset..).zip(&buffer[..filled as usize]) {

@@ -1,24 +1,42 @@
 //! Damaged, cut off, contradictory and foreign files are refused, each with its reason.
 
 use crate::scene::{
-    in_form_1, in_form_2, in_form_3, in_work, in_work_on_lines, number, refused, saved, sealed,
-    sealed_after, set_number, Folder, HEADER, HEADER_1, HEADER_2, HEADER_3, RECORD, WINDOWS,
+    in_form_1, in_form_2, in_form_3, in_form_4, in_form_5, in_work, in_work_of, in_work_on_lines,
+    number, refused, saved, sealed, sealed_after, set_number, Folder, HEADER, HEADER_1, HEADER_2,
+    HEADER_3, HEADER_4, RECORD, WINDOWS,
 };
-use crate::updates::{update, LIVE};
-use pit_host::{Error, FileError, Limits, Store, Window};
+use crate::updates::{limits, update, LIVE};
+use pit_host::{Areas, Error, FileError, Keeper, Lend, Limits, Record, State, Store, Window};
 use std::fs;
+
+/// The same store in each of the earlier forms, with the header's length.
+fn in_earlier_forms(store: &Store) -> [(usize, Vec<u8>); 4] {
+    [
+        (HEADER_1, in_form_1(store)),
+        (HEADER_2, in_form_2(store)),
+        (HEADER_3, in_form_3(store)),
+        (HEADER_4, in_form_4(store)),
+    ]
+}
 
 /// Whether a file is refused for the right reason where the number `index` of a header of so many bytes, or what follows
 /// the header, is wrong.
 fn due(header: usize, index: usize, error: &FileError) -> bool {
     use FileError::*;
-    let lengths = header / 8 - 4..header / 8 - 1;
+    let (now, end) = (header == HEADER, header / 8 - 1);
+    let lengths = end - if now { 4 } else { 3 }..end;
     match index {
         0 => matches!(error, Foreign),
         // where it is another form's number, the rest is not as that form has it
         1 => matches!(error, Form(_) | AreaLengths | Truncated { .. }),
         2 => matches!(error, Limits(Error::PageSize) | AreaLengths),
+        // less room than is taken
+        3..=5 if now => matches!(error, Limits(Error::Capacity) | Counters | Checksum),
         3..=5 => matches!(error, Limits(Error::Capacity) | AreaLengths),
+        // what is taken: tickets, page numbers, node places
+        6 | 7 | 9 if now => matches!(error, Counters | AreaLengths),
+        // of the numbering, which may have any length that the file has
+        47 if now => matches!(error, AreaLengths | Truncated { .. }),
         _ if lengths.contains(&index) => matches!(error, AreaLengths),
         _ => matches!(error, Checksum),
     }
@@ -38,9 +56,9 @@ fn flip_every_bit(folder: &Folder, header: usize, bytes: &[u8]) {
 fn every_flipped_bit_is_found() {
     let folder = Folder::new("bits");
     flip_every_bit(&folder, HEADER, &saved(&folder, &in_work_on_lines()));
-    flip_every_bit(&folder, HEADER_1, &in_form_1(&in_work()));
-    flip_every_bit(&folder, HEADER_2, &in_form_2(&in_work()));
-    flip_every_bit(&folder, HEADER_3, &in_form_3(&folder, &in_work()));
+    for (header, bytes) in in_earlier_forms(&in_work()) {
+        flip_every_bit(&folder, header, &bytes);
+    }
 }
 
 #[test]
@@ -64,6 +82,13 @@ fn a_flipped_bit_anywhere_in_a_larger_store_is_found() {
     }
 }
 
+/// Whether a number of the header contradicts nothing: windows may be the site's, and where what is taken is all that a file
+/// has, the store may have room for more pages or nodes.
+fn may_be_so(header: usize, index: usize, number: u64) -> bool {
+    let windows = [HEADER_4, HEADER].contains(&header) && WINDOWS.contains(&(8 * index));
+    windows || header == HEADER && [3, 4].contains(&index) && number == 5_000
+}
+
 /// Each number of a header of so many bytes damaged; and once more with the checksum made right for it: it is still not
 /// believed.
 fn contradict(folder: &Folder, header: usize, bytes: &[u8]) {
@@ -74,9 +99,8 @@ fn contradict(folder: &Folder, header: usize, bytes: &[u8]) {
             set_number(&mut changed, index, other);
             let error = refused(folder, &changed);
             assert!(due(header, index, &error), "{index} as {other}: {error}");
-            let windows = header == HEADER && WINDOWS.contains(&(8 * index));
-            if index == header / 8 - 1 || windows {
-                continue; // the checksum itself; and these windows may be the site's
+            if index == header / 8 - 1 || may_be_so(header, index, other) {
+                continue; // the checksum itself
             }
             let error = refused(folder, &sealed_after(header, changed));
             let counter = counters.contains(&index) && matches!(error, FileError::Counters);
@@ -96,10 +120,25 @@ fn a_header_that_contradicts_itself_is_refused() {
     contradict(&folder, HEADER, &bytes);
     fs::write(folder.file(), sealed(bytes)).unwrap();
     assert!(Store::load(folder.file()).unwrap() == in_work_on_lines());
-    contradict(&folder, HEADER_1, &in_form_1(&in_work()));
+    for (header, bytes) in in_earlier_forms(&in_work()) {
+        contradict(&folder, header, &bytes);
+    }
     contradict(&folder, HEADER_2, &in_form_2(&in_work_on_lines()));
-    let bytes = in_form_3(&folder, &in_work_on_lines());
-    contradict(&folder, HEADER_3, &bytes);
+    contradict(&folder, HEADER_3, &in_form_3(&in_work_on_lines()));
+}
+
+/// A file says how much room there is, and has what is taken of it: with more room it is just that store with more room.
+#[test]
+fn room_that_is_not_taken_is_in_the_header_alone() {
+    let folder = Folder::new("room");
+    let mut bytes = in_form_5(&in_work(), &[]);
+    for (index, capacity) in [(3, 20), (4, 50), (5, 9)] {
+        set_number(&mut bytes, index, capacity);
+    }
+    fs::write(folder.file(), sealed(bytes)).unwrap();
+    let loaded = Store::load(folder.file()).unwrap();
+    let more = in_work_of(limits(20, 50, 9));
+    assert!(loaded == more);
 }
 
 /// Each of the numbers, with its checksum made right, is refused as a counter that no calls leave.
@@ -118,15 +157,81 @@ fn no_calls_leave(folder: &Folder, header: usize, bytes: &[u8], numbers: &[(usiz
 #[test]
 fn counters_that_no_calls_leave_are_refused() {
     let folder = Folder::new("counters");
-    let now = saved(&folder, &in_work_on_lines());
-    for (header, bytes) in [(HEADER, now), (HEADER_2, in_form_2(&in_work_on_lines()))] {
-        // tickets, page numbers taken, updates with a version, node places taken, lines begun
-        let counters = [(6, 7), (7, 13), (8, 6), (9, 33), (6, 3), (8, 3), (8, 5)];
-        no_calls_leave(&folder, header, &bytes, &counters);
-        let begun = [(10, 0), (10, 1), (10, 2), (10, 17), (10, 1 << 32)];
+    let store = in_work_on_lines();
+    // tickets, page numbers taken, updates with a version, node places taken, lines begun
+    let over = [(6, 7), (7, 13), (8, 6), (9, 33), (8, 3), (8, 5)];
+    let begun = [(10, 0), (10, 1), (10, 2), (10, 17), (10, 1 << 32)];
+    let now = (HEADER, saved(&folder, &store));
+    for (header, bytes) in [now, (HEADER_2, in_form_2(&store))] {
+        no_calls_leave(&folder, header, &bytes, &over);
         no_calls_leave(&folder, header, &bytes, &begun);
-        // too few, or too many, for the nodes of the updates
-        no_calls_leave(&folder, header, &bytes, &[(9, 13), (9, 15)]);
+    }
+    // too few tickets for the updates; too few places, or too many, for their nodes
+    for (header, bytes) in [(HEADER_2, in_form_2(&store)), (HEADER_4, in_form_4(&store))] {
+        no_calls_leave(&folder, header, &bytes, &[(6, 3), (9, 13), (9, 15)]);
+    }
+}
+
+/// A store changed by hand, as a file has it.
+fn by_hand(store: Store, change: impl FnOnce(&mut State, &mut Areas)) -> Vec<u8> {
+    let (mut state, windows, mut areas) = store.into_parts();
+    change(&mut state, &mut areas);
+    in_form_5(&Keeper::resume(state, windows, areas), &[])
+}
+
+/// The same where the file has as much as the counters say: as a counter alone they do not go with the lengths.
+#[test]
+fn what_is_taken_goes_with_the_updates() {
+    let folder = Folder::new("taken");
+    let bytes = saved(&folder, &in_work_on_lines());
+    type Counter = fn(&mut State) -> &mut u64;
+    let changes: [(usize, Counter, [u64; 3]); 3] = [
+        (6, |s| &mut s.tickets, [0, 3, 4]),
+        (7, |s| &mut s.taken, [0, 8, 10]),
+        (9, |s| &mut s.places, [0, 13, 15]),
+    ];
+    for (index, counter, numbers) in changes {
+        for number in numbers {
+            let mut alone = bytes.clone();
+            set_number(&mut alone, index, number);
+            let error = refused(&folder, &sealed(alone));
+            assert!(matches!(error, FileError::AreaLengths), "{error}");
+            let whole = by_hand(in_work_on_lines(), |s, _| *counter(s) = number);
+            let error = refused(&folder, &whole);
+            assert!(
+                matches!(error, FileError::Counters),
+                "number {index} as {number}: {error}"
+            );
+        }
+    }
+}
+
+/// A ticket's pages lie behind those of the one before it, up to those taken; an update's are all put.
+#[test]
+fn tickets_pages_that_no_calls_leave_are_refused() {
+    let folder = Folder::new("tickets");
+    let store = in_work_on_lines; // two pages each, but for the third one's page; the last has none put
+    fs::write(folder.file(), by_hand(store(), |_, _| ())).unwrap();
+    assert!(Store::load(folder.file()).unwrap() == store());
+    let changes: [fn(&mut Record); 8] = [
+        |r| r.n = 0,
+        |r| r.n += 1,
+        |r| r.n = 65,
+        |r| r.n = u64::MAX,
+        |r| r.number += 1,
+        |r| r.number = u64::MAX,
+        |r| r.put |= 1 << 2,
+        |r| r.put |= 1 << 63,
+    ];
+    for (at, change) in (0..5).flat_map(|at| changes.map(|change| (at, change))) {
+        let bytes = by_hand(store(), |_, areas| change(&mut areas.lend().register[at]));
+        let error = refused(&folder, &bytes);
+        assert!(matches!(error, FileError::Counters), "record {at}: {error}");
+    }
+    for at in 0..4 {
+        let bytes = by_hand(store(), |_, areas| areas.lend().register[at].put &= !1);
+        let error = refused(&folder, &bytes);
+        assert!(matches!(error, FileError::Counters), "record {at}: {error}");
     }
 }
 
@@ -211,11 +316,6 @@ fn windows_that_no_call_leaves_are_refused() {
     }
 }
 
-/// Where the register begins in a file of these records.
-fn register(bytes: &[u8], records: usize) -> usize {
-    (bytes.len() - records * RECORD) / 8
-}
-
 /// Each number of a record that follows from others, of an update or of none, and each that it follows from.
 #[test]
 fn records_whose_numbers_do_not_follow_are_refused() {
@@ -223,9 +323,10 @@ fn records_whose_numbers_do_not_follow_are_refused() {
     let bytes = saved(&folder, &in_work_on_lines());
     // name, first page, top, past, height, size, count; of the first page and the size those that change what follows
     let numbers = [5, 6, 8, 9, 10, 11, 12];
-    for record in 0..6 {
+    let register = (bytes.len() - 5 * RECORD) / 8; // without a numbering, the records are last
+    for record in 0..5 {
         for of_record in numbers {
-            let index = register(&bytes, 6) + record * RECORD / 8 + of_record;
+            let index = register + record * RECORD / 8 + of_record;
             let old = number(&bytes, index);
             let others = match (of_record, record) {
                 (5, 0..=3) => vec![0],
@@ -295,21 +396,19 @@ fn cut_off(folder: &Folder, header: usize, bytes: &[u8]) {
 fn every_truncation_is_found() {
     let folder = Folder::new("truncation");
     cut_off(&folder, HEADER, &saved(&folder, &in_work()));
-    cut_off(&folder, HEADER_1, &in_form_1(&in_work()));
-    cut_off(&folder, HEADER_2, &in_form_2(&in_work()));
-    cut_off(&folder, HEADER_3, &in_form_3(&folder, &in_work()));
+    cut_off(&folder, HEADER, &in_form_5(&in_work(), b"a numbering"));
+    for (header, bytes) in in_earlier_forms(&in_work()) {
+        cut_off(&folder, header, &bytes);
+    }
 }
 
 #[test]
 fn extra_bytes_are_found() {
     let folder = Folder::new("extra");
     let store = in_work();
-    let old = [
-        in_form_1(&store),
-        in_form_2(&store),
-        in_form_3(&folder, &store),
-    ];
-    for bytes in old.into_iter().chain([saved(&folder, &store)]) {
+    let old = in_earlier_forms(&store).map(|(_, bytes)| bytes);
+    let now = [saved(&folder, &store), in_form_5(&store, b"a numbering")];
+    for bytes in old.into_iter().chain(now) {
         for extra in [1, 8, 80, 120, 144, 4_096] {
             let longer = [&bytes[..], &vec![0; extra]].concat();
             let error = refused(&folder, &longer);
@@ -333,7 +432,7 @@ fn other_files_are_refused() {
     ] {
         assert!(matches!(refused(&folder, bytes), FileError::Foreign));
     }
-    for form in [0, 5, u64::MAX] {
+    for form in [0, 6, u64::MAX] {
         let mut other = saved(&folder, &in_work());
         set_number(&mut other, 1, form);
         let error = refused(&folder, &sealed(other));
@@ -350,22 +449,31 @@ fn a_short_file_of_large_lengths_is_refused() {
     let folder = Folder::new("large");
     let mut bytes = saved(&folder, &in_work())[..HEADER].to_vec();
     let (pages, nodes, updates) = (65_535, 131_072, 4_096);
-    for (index, number) in [
-        (2, 4_096),
-        (3, pages),
-        (4, nodes),
-        (5, updates),
-        (44, 4_096 * pages),
-        (45, 8 * nodes),
-        (46, 144 * updates),
-    ] {
+    let limits = [(2, 4_096), (3, pages), (4, nodes), (5, updates)];
+    let taken = [(6, updates), (7, pages), (9, nodes)];
+    let lengths = [(44, 4_096 * pages), (45, 8 * nodes), (46, 144 * updates)];
+    let numbering = [(47, 1_000)];
+    for (index, number) in [&limits[..], &taken, &lengths, &numbering].concat() {
         set_number(&mut bytes, index, number);
     }
     assert!(matches!(
         refused(&folder, &sealed(bytes)),
         FileError::Truncated {
-            expected: 270_070_144,
-            found: 384
+            expected: 270_071_152,
+            found: 392
         }
     ));
+}
+
+/// A numbering that is longer than any is refused by its length, whatever the file's: a file can be long without a disk that is.
+#[test]
+fn a_numbering_of_any_length_is_refused_before_memory_is_taken() {
+    let folder = Folder::new("any-numbering");
+    let bytes = saved(&folder, &in_work());
+    for length in [(1 << 28) + 1, 1 << 40, 1 << 62, u64::MAX - 391, u64::MAX] {
+        let mut bytes = bytes.clone();
+        set_number(&mut bytes, 47, length);
+        let error = refused(&folder, &sealed(bytes));
+        assert!(matches!(error, FileError::AreaLengths), "{length}: {error}");
+    }
 }

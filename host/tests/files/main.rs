@@ -1,8 +1,12 @@
-//! A store in a file: everything comes back, every damage is found, and the file is whole at every moment.
+//! A store in a file: everything comes back, every damage is found, and the file is whole at every moment. `PIT_SEED` names
+//! the first seed of the tests that draw stores, `PIT_SCENES` how many stores each has.
 
 mod comes_back;
 mod damage;
+mod drawn;
 mod place;
+#[path = "../random/mod.rs"]
+mod random;
 mod scene;
 #[path = "../updates/mod.rs"]
 mod updates;

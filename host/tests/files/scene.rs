@@ -1,7 +1,7 @@
 //! What the tests share: a folder each, a store in work, and the file's numbers and checksum as documented.
 
 use crate::updates::{assign, limits, update, LIVE};
-use pit_host::{FileError, Line, Record, Store, Version, Windows};
+use pit_host::{FileError, Limits, Line, Record, Store, Version, Window, Windows};
 use std::fs;
 use std::ops::Range;
 use std::path::PathBuf;
@@ -44,12 +44,13 @@ pub fn checksum(bytes: impl Iterator<Item = u8>) -> u64 {
     })
 }
 
-/// A file's header in bytes; its last number is the checksum, and there are three lengths before that.
-pub const HEADER: usize = 384;
-/// The same of files of forms 1 to 3.
+/// A file's header in bytes; its last number is the checksum, and there are four lengths before that.
+pub const HEADER: usize = 392;
+/// The same of files of forms 1 to 4, which have three lengths.
 pub const HEADER_1: usize = 128;
 pub const HEADER_2: usize = 760;
 pub const HEADER_3: usize = 256;
+pub const HEADER_4: usize = 384;
 
 /// Where the windows stand in the header, in bytes.
 pub const WINDOWS: Range<usize> = 224..352;
@@ -57,7 +58,7 @@ pub const WINDOWS: Range<usize> = 224..352;
 /// A record in bytes.
 pub const RECORD: usize = 144;
 
-/// A number of the header, which has 48, or of what follows.
+/// A number of the header, which has 49, or of what follows.
 pub fn number(bytes: &[u8], index: usize) -> u64 {
     u64::from_le_bytes(bytes[8 * index..8 * index + 8].try_into().unwrap())
 }
@@ -79,33 +80,37 @@ pub fn sealed_after(header: usize, mut bytes: Vec<u8>) -> Vec<u8> {
     bytes
 }
 
-/// An earlier form's file: a header that ends with three lengths, and a checksum made right; the areas, and a register of
-/// such records, which have a first node place.
-fn in_an_old_form(
-    store: &Store,
-    form: u64,
-    state: &[u64],
-    of_record: impl Fn(&Record, u64) -> Vec<u64>,
-) -> Vec<u8> {
-    let (s, areas) = (store.state(), store.areas());
-    let place = |r: &Record| r.top - r.height;
-    let records = areas.register().iter().map(|r| of_record(r, place(r)));
-    let records: Vec<Vec<u64>> = records.collect();
-    let numbers = [
-        &[u64::from_le_bytes(*b"PITSTORE"), form, s.size, s.pages][..],
-        &[s.nodes, s.updates, s.tickets, s.taken, s.assigned, s.places],
-        state,
-        &[s.size * s.pages, 8 * s.nodes],
-        &[8 * s.updates * records[0].len() as u64, 0],
-    ];
-    let numbers = numbers.concat();
-    let header = 8 * numbers.len();
-    let mut bytes: Vec<u8> = numbers.into_iter().flat_map(u64::to_le_bytes).collect();
-    bytes.extend(areas.pages());
-    bytes.extend(areas.nodes().iter().flat_map(|n| n.to_le_bytes()));
-    let register = records.into_iter().flatten();
-    bytes.extend(register.flat_map(u64::to_le_bytes));
-    sealed_after(header, bytes)
+/// A file of this form: a header of such a state, with the lengths of the parts and a checksum made right, and the parts.
+fn file_of(form: u64, state: &[u64], parts: &[Vec<u8>]) -> Vec<u8> {
+    let front = [u64::from_le_bytes(*b"PITSTORE"), form];
+    let lengths: Vec<u64> = parts.iter().map(|part| part.len() as u64).collect();
+    let header = to_bytes([&front[..], state, &lengths, &[0]].concat());
+    let length = header.len();
+    sealed_after(length, [header, parts.concat()].concat())
+}
+
+fn to_bytes(numbers: impl IntoIterator<Item = u64>) -> Vec<u8> {
+    numbers.into_iter().flat_map(u64::to_le_bytes).collect()
+}
+
+/// The limits and the four counters that every form begins with.
+fn counters(store: &Store) -> Vec<u64> {
+    let s = store.state();
+    let limits = [s.size, s.pages, s.nodes, s.updates];
+    [limits, [s.tickets, s.taken, s.assigned, s.places]].concat()
+}
+
+/// The areas whole, with a register of such records.
+fn areas(store: &Store, of_record: impl Fn(&Record) -> Vec<u64>) -> Vec<Vec<u8>> {
+    let areas = store.areas();
+    let nodes = areas.nodes().iter().flat_map(|n| n.to_le_bytes()).collect();
+    let register = to_bytes(areas.register().iter().flat_map(of_record));
+    vec![areas.pages().to_vec(), nodes, register]
+}
+
+/// An update's first node place, which records of forms 1 and 2 have.
+fn place(r: &Record) -> u64 {
+    r.top - r.height
 }
 
 /// A store with line 0 alone as a file of form 1 has it: written from that form's description, in which a ticket has its
@@ -114,11 +119,12 @@ pub fn in_form_1(store: &Store) -> Vec<u8> {
     let s = store.state();
     assert_eq!(s.begun, 1, "form 1 has one line");
     let live = s.line(LIVE);
-    let lines = [live.published, live.blob];
-    in_an_old_form(store, 1, &lines, |r, place| {
+    let state = [counters(store), vec![live.published, live.blob]].concat();
+    let areas = areas(store, |r| {
         let ticket = [r.n, r.number, r.put, r.update, r.ticket];
-        [&ticket[..], &[r.f, r.last, r.size, place, r.woven]].concat()
-    })
+        [&ticket[..], &[r.f, r.last, r.size, place(r), r.woven]].concat()
+    });
+    file_of(1, &state, &areas)
 }
 
 /// A store as a file of form 2 has it: written from that form's description, five numbers a line.
@@ -126,21 +132,60 @@ pub fn in_form_2(store: &Store) -> Vec<u8> {
     let s = store.state();
     let lines = (0..16).map(|line| s.line(Line(line)));
     let lines = lines.flat_map(|l| [l.source, l.start, l.assigned, l.published, l.blob]);
-    let state: Vec<u64> = [s.begun].into_iter().chain(lines).collect();
-    in_an_old_form(store, 2, &state, |r, place| {
+    let state = [counters(store), vec![s.begun], lines.collect()].concat();
+    let areas = areas(store, |r| {
         let (ticket, e) = ([r.n, r.number, r.put, r.update, r.ticket], r.entries);
-        let update = [r.name, r.f, r.last, r.size, place, r.woven];
+        let update = [r.name, r.f, r.last, r.size, place(r), r.woven];
         [&ticket[..], &update, &[e.from0, e.from4, e.from8, e.from12]].concat()
-    })
+    });
+    file_of(2, &state, &areas)
 }
 
-/// A store without windows as a file of form 3 has it: as one of now, but for the windows' places.
-pub fn in_form_3(folder: &Folder, store: &Store) -> Vec<u8> {
+/// A record from form 3 on.
+#[rustfmt::skip]
+fn record(r: &Record) -> Vec<u64> {
+    let e = r.entries;
+    vec![
+        r.n, r.number, r.put, r.update, r.ticket, r.name, r.f, r.last, r.top, r.past, r.height, r.size, r.count,
+        r.woven, e.from0, e.from4, e.from8, e.from12,
+    ]
+}
+
+/// A state from form 3 on, with packed lines.
+fn state_3(store: &Store) -> Vec<u64> {
+    let s = store.state();
+    [&counters(store)[..], &[s.begun, s.sources], &s.lines].concat()
+}
+
+/// The same with the windows, from form 4 on.
+fn state_4(store: &Store) -> Vec<u64> {
+    let word = |w: &Window| u64::from(w.from) | u64::from(w.to) << 16;
+    let places = store.windows().places;
+    let pairs = places.chunks(2);
+    let windows = pairs.map(|pair| word(&pair[0]) | word(&pair[1]) << 32);
+    [state_3(store), windows.collect()].concat()
+}
+
+/// A store without windows as a file of form 3 has it, with the areas whole.
+pub fn in_form_3(store: &Store) -> Vec<u8> {
     assert_eq!(store.windows(), Windows::default(), "form 3 has none");
-    let mut bytes = saved(folder, store);
-    bytes.drain(WINDOWS);
-    set_number(&mut bytes, 1, 3);
-    sealed_after(HEADER_3, bytes)
+    file_of(3, &state_3(store), &areas(store, record))
+}
+
+/// A store as a file of form 4 has it, with the areas whole.
+pub fn in_form_4(store: &Store) -> Vec<u8> {
+    file_of(4, &state_4(store), &areas(store, record))
+}
+
+/// A store as a file of form 5 has it, with what its counters say of the areas, and this numbering.
+pub fn in_form_5(store: &Store, numbering: &[u8]) -> Vec<u8> {
+    let (s, mut parts) = (store.state(), areas(store, record));
+    let taken = [s.size * s.taken, 8 * s.places, RECORD as u64 * s.tickets];
+    for (part, length) in parts.iter_mut().zip(taken) {
+        part.truncate(length as usize);
+    }
+    parts.push(numbering.to_vec());
+    file_of(5, &state_4(store), &parts)
 }
 
 /// The bytes of a saved store.
@@ -157,7 +202,12 @@ pub fn refused(folder: &Folder, bytes: &[u8]) -> FileError {
 
 /// A small store in work: one version published, one half woven, one ticket open.
 pub fn in_work() -> Store {
-    let mut store = Store::format(limits(6, 16, 4)).unwrap();
+    in_work_of(limits(6, 16, 4))
+}
+
+/// The same with other room.
+pub fn in_work_of(limits: Limits) -> Store {
+    let mut store = Store::format(limits).unwrap();
     update(&mut store, LIVE, None, &[1, 2]).unwrap();
     let (ticket, _) = assign(&mut store, LIVE, Some(1), &[3, 4]).unwrap();
     store.weave(ticket).unwrap();

@@ -3,7 +3,8 @@
 use crate::scene::{in_work, saved, Folder};
 use crate::updates::{fills, limits, of_three_versions, ANY_TIME, LIVE};
 use pit_host::{
-    Error, FileError, Keeper, Lend, PageIndex, Published, State, Store, Ticket, Version, Window,
+    Error, FileError, Keeper, Lend, PageIndex, Published, Record, State, Store, Ticket, Version,
+    Window,
 };
 use std::fs;
 use std::path::Path;
@@ -31,22 +32,29 @@ fn what_would_not_load_is_not_saved() {
         FileError::Limits(Error::Capacity)
     ));
     assert!(matches!(save(|s| s.pages = 7), FileError::AreaLengths));
-    let counters: [fn(&mut State); 4] = [
+    let counters: [fn(&mut State); 10] = [
         |s| s.lines[0] += 3 << 32, // the last version published
         |s| s.begun = 0,
         |s| s.begun = 17,
         |s| s.lines[15] = 1 << 48,
+        |s| s.tickets += 1,
+        |s| s.tickets = u64::MAX,
+        |s| s.taken -= 1,
+        |s| s.taken = u64::MAX,
+        |s| s.places += 1,
+        |s| s.places = u64::MAX,
     ];
     for spoil in counters {
         assert!(matches!(save(spoil), FileError::Counters));
     }
-    let (state, windows, mut areas) = in_work().into_parts();
-    areas.lend().register[1].past += 1;
-    let damaged = Keeper::resume(state, windows, areas);
-    assert!(matches!(
-        damaged.save(folder.file()),
-        Err(FileError::Counters)
-    ));
+    let records: [fn(&mut Record); 3] = [|r| r.past += 1, |r| r.number += 1, |r| r.put = 1];
+    for spoil in records {
+        let (state, windows, mut areas) = in_work().into_parts();
+        spoil(&mut areas.lend().register[1]);
+        let damaged = Keeper::resume(state, windows, areas);
+        let error = damaged.save(folder.file()).unwrap_err();
+        assert!(matches!(error, FileError::Counters));
+    }
     let (state, mut windows, areas) = in_work().into_parts();
     windows.places[1] = Window { from: 1, to: 2 };
     let damaged = Keeper::resume(state, windows, areas);

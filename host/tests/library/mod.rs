@@ -101,7 +101,7 @@ fn make_on_line(store: &mut Store, line: Line, step: OnLine) -> Result<String, E
         OnLine::Branch(v) => format!("line,{}", store.branch(line, Version(v))?),
         OnLine::Read(v, offset, length) => {
             let mut buffer = vec![0; length as usize];
-            store.read(line, Version(v), ByteOffset(offset), length, &mut buffer)?;
+            store.read(line, Version(v), ByteOffset(offset), &mut buffer)?;
             format!("bytes,{}", hexadecimal(&buffer))
         }
         OnLine::Size(v) => format!("size,{}", store.size(line, Version(v))?),

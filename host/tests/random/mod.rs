@@ -55,3 +55,23 @@ pub fn first_seed(test: &str) -> u64 {
     let _ = writeln!(std::io::stderr(), "{test}: PIT_SEED={seed}");
     seed
 }
+
+/// Draws so many scenes, or as many as `PIT_SCENES` says. The seed of one that fails is shown: with it, it comes first.
+pub fn scenes(test: &str, usual: u64, mut scene: impl FnMut(Random)) {
+    let first = first_seed(test);
+    for seed in (0..named("PIT_SCENES", usual)).map(|i| first.wrapping_add(i)) {
+        let _shown = ShownSeed(seed);
+        scene(Random::new(seed));
+    }
+}
+
+/// Shows the seed where a test panics.
+pub struct ShownSeed(pub u64);
+
+impl Drop for ShownSeed {
+    fn drop(&mut self) {
+        if std::thread::panicking() {
+            let _ = writeln!(std::io::stderr(), "failed with PIT_SEED={}", self.0);
+        }
+    }
+}

@@ -51,12 +51,13 @@ impl Asked {
         answer.unwrap_or_else(|refused| Answer::Refused(refused.number()))
     }
 
-    /// READ into a buffer that is a little too long; the rest of it stays.
+    /// READ into the front of a longer buffer; the rest of it stays.
     fn read(&self, shared: &Shared, offset: u64, len: u64) -> Result<Vec<u8>, Error> {
         let (line, version) = (Line(self.line), Version(self.version));
-        let mut buffer = vec![UNFILLED; len as usize + 5];
-        let done = shared.read(line, version, ByteOffset(offset), len, &mut buffer);
-        let filled = if done.is_ok() { len as usize } else { 0 };
+        let len = len as usize;
+        let mut buffer = vec![UNFILLED; len + 5];
+        let done = shared.read(line, version, ByteOffset(offset), &mut buffer[..len]);
+        let filled = if done.is_ok() { len } else { 0 };
         assert_eq!(buffer[filled..], vec![UNFILLED; buffer.len() - filled]);
         buffer.truncate(filled);
         done.map(|()| buffer)

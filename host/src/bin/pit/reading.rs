@@ -1,0 +1,213 @@
+//! Versions read whole, and checked.
+
+use pit_host::{ByteOffset, Line, PageIndex, Shared, Version};
+use std::fs;
+use std::io::{self, Write};
+use std::sync::atomic::{AtomicU64, AtomicUsize, Ordering::Relaxed};
+use std::sync::mpsc::{channel, RecvTimeoutError};
+use std::sync::{Mutex, PoisonError};
+use std::thread;
+use std::time::Duration;
+
+/// How many pages are read at a time: what a processor keeps at hand.
+const PAGES_AT_A_TIME: usize = 16;
+/// How often it is told how far it is.
+const TOLD_EVERY: Duration = Duration::from_secs(1);
+
+/// Versions that are being read, by some threads beside each other.
+pub struct Reading<'a> {
+    store: &'a Shared,
+    all: &'a [(Line, Version)],
+    page_size: u64,
+    /// The next one to be read.
+    next: AtomicUsize,
+    /// How many are read.
+    done: AtomicUsize,
+    pages: AtomicU64,
+    /// The first fault: its version's place, and its words.
+    fault: Mutex<Option<(usize, String)>>,
+}
+
+impl<'a> Reading<'a> {
+    pub fn new(store: &'a Shared, all: &'a [(Line, Version)]) -> Reading<'a> {
+        Reading {
+            store,
+            all,
+            page_size: store.limits().page_size,
+            next: AtomicUsize::new(0),
+            done: AtomicUsize::new(0),
+            pages: AtomicU64::new(0),
+            fault: Mutex::new(None),
+        }
+    }
+
+    /// Reads all of them, and gives how many pages that were.
+    pub fn run(self) -> Result<u64, String> {
+        let threads = thread::available_parallelism().map_or(1, |n| n.get());
+        let (at_work, ended) = channel::<()>();
+        thread::scope(|scope| {
+            for _ in 0..threads {
+                let (at_work, reading) = (at_work.clone(), &self);
+                scope.spawn(move || {
+                    reading.read_some();
+                    drop(at_work);
+                });
+            }
+            drop(at_work);
+            self.tell_until(|| ended.recv_timeout(TOLD_EVERY) != Err(RecvTimeoutError::Timeout));
+        });
+        let fault = self.fault.into_inner();
+        match fault.unwrap_or_else(PoisonError::into_inner) {
+            None => Ok(self.pages.into_inner()),
+            Some((_, words)) => Err(words),
+        }
+    }
+
+    /// Tells now and then how far it is: on a terminal in one line, which is cleared in the end.
+    fn tell_until(&self, ended: impl Fn() -> bool) {
+        let (before, after) = match is_terminal() {
+            true => ("\r", ""),
+            false => ("", "\n"),
+        };
+        let (mut err, all) = (io::stderr(), self.all.len());
+        let mut told = false;
+        while !ended() {
+            let done = self.done.load(Relaxed);
+            let _ = write!(err, "{before}pit: {done} of {all} versions read{after}");
+            let _ = err.flush();
+            told = true;
+        }
+        if told && after.is_empty() {
+            let _ = write!(err, "\r\x1b[K");
+        }
+    }
+
+    /// Reads versions until none is left, or one has a fault.
+    fn read_some(&self) {
+        let mut buffer = vec![0; PAGES_AT_A_TIME * self.page_size as usize];
+        loop {
+            let at = self.next.fetch_add(1, Relaxed);
+            let (line, version) = match self.all.get(at) {
+                Some(next) => *next,
+                None => return,
+            };
+            match self.read(line, version, &mut buffer) {
+                Ok(pages) => self.pages.fetch_add(pages, Relaxed),
+                Err(words) => {
+                    return self.found(at, format!("line {line}, version {version}{words}"))
+                }
+            };
+            self.done.fetch_add(1, Relaxed);
+        }
+    }
+
+    /// A fault at a version: nobody goes on past it, and of several the first counts.
+    fn found(&self, at: usize, words: String) {
+        self.next.store(self.all.len(), Relaxed);
+        let mut fault = self.fault.lock().unwrap_or_else(PoisonError::into_inner);
+        if fault.as_ref().map_or(true, |(first, _)| at < *first) {
+            *fault = Some((at, words));
+        }
+    }
+
+    /// Reads a version whole, and gives how many pages it has.
+    fn read(&self, line: Line, version: Version, buffer: &mut [u8]) -> Result<u64, String> {
+        let size = self.store.size(line, version);
+        let size = size.map_err(|error| format!(": SIZE: {error}"))?;
+        let step = buffer.len() as u64;
+        let mut from = 0;
+        while from < size {
+            let length = step.min(size - from) as usize;
+            self.read_some_pages(line, version, ByteOffset(from), &mut buffer[..length])?;
+            from += step;
+        }
+        Ok(size / self.page_size)
+    }
+
+    /// Reads some pages of a version.
+    fn read_some_pages(
+        &self,
+        line: Line,
+        version: Version,
+        from: ByteOffset,
+        buffer: &mut [u8],
+    ) -> Result<(), String> {
+        let read = self.store.read(line, version, from, buffer);
+        read.map_err(|error| format!(", from byte {from} on: READ: {error}"))?;
+        let pages = (from.0 / self.page_size..).map(PageIndex);
+        for (page, bytes) in pages.zip(buffer.chunks(self.page_size as usize)) {
+            let checked = self.check_page(line, version, page, bytes);
+            checked.map_err(|words| format!(", page {page}: {words}"))?;
+        }
+        Ok(())
+    }
+
+    /// A page as READ gave it: VIEW gives the same, and so does the version of its stamp.
+    fn check_page(
+        &self,
+        line: Line,
+        version: Version,
+        page: PageIndex,
+        bytes: &[u8],
+    ) -> Result<(), String> {
+        let is_same = |version| {
+            let view = self
+                .store
+                .with_view(line, version, page, |view| view == bytes);
+            view.map_err(|error| format!("VIEW: {error}"))
+        };
+        if !is_same(version)? {
+            return Err("READ and VIEW give different bytes".into());
+        }
+        let stamp = self.store.stamp(line, version, page);
+        let stamp = stamp.map_err(|error| format!("STAMP: {error}"))?;
+        if stamp > version || stamp == Version(0) {
+            return Err(format!("the stamp is version {stamp}"));
+        }
+        if stamp < version && !is_same(stamp)? {
+            return Err(format!(
+                "the stamp is version {stamp}, in which it has other bytes"
+            ));
+        }
+        Ok(())
+    }
+}
+
+/// Whether standard error is a terminal.
+fn is_terminal() -> bool {
+    let name = fs::read_link("/proc/self/fd/2").unwrap_or_default();
+    let name = name.to_string_lossy();
+    name.starts_with("/dev/pts/") || name.starts_with("/dev/tty")
+}
+
+#[cfg(test)]
+mod tests {
+    use super::*;
+    use pit_host::{Keeper, Lend, Limits, Store};
+
+    #[test]
+    fn versions_are_read_and_the_first_fault_is_told() {
+        let live = Line(0);
+        let shared = Shared::new(Store::format(Limits::new(16, 40, 200, 20)).unwrap());
+        for fill in 1..=20 {
+            let pages: [&[u8]; 2] = [&[fill; 16], &[1; 16]];
+            shared.update(live, PageIndex(0), &pages).unwrap();
+        }
+        let all: Vec<_> = (1..=20).map(|version| (live, Version(version))).collect();
+        assert_eq!(Reading::new(&shared, &all).run(), Ok(40));
+
+        // the nodes of all versions but the first two, three each
+        let (state, windows, mut areas) = shared.to_store().into_parts();
+        areas.lend().nodes[12..].fill(u32::MAX);
+        let damaged = Shared::new(Keeper::resume(state, windows, areas));
+        let fault = Reading::new(&damaged, &all).run().unwrap_err();
+        let words = "line 0, version 3, from byte 0 on: READ: refused: the areas are damaged";
+        assert!(fault.starts_with(words), "{fault}");
+        let beyond = [(live, Version(21))];
+        let fault = Reading::new(&damaged, &beyond).run().unwrap_err();
+        assert!(
+            fault.starts_with("line 0, version 21: SIZE: refused"),
+            "{fault}"
+        );
+    }
+}

@@ -1,0 +1,325 @@
+//! A store carried over into another one, under its running callers.
+
+use crate::areas::{Lend, Limits};
+use crate::counters::{Line, LineVersion, PageIndex, Ticket, Version};
+use crate::error::Error;
+use crate::ffi::Record;
+use crate::keeper::Store;
+use crate::live::Live;
+use crate::log::Log;
+use crate::numbering::{Numbering, Numbers};
+use crate::shared::Handle;
+use crate::Minute;
+use std::collections::BTreeMap;
+use std::ops::Range;
+
+/// An update has at most so many pages.
+const MOST_OF_AN_UPDATE: u64 = 64;
+
+impl<L: Log> Handle<L> {
+    /// Carries the store over into a new one with these limits, which takes its place for every handle. Kept are the versions named,
+    /// the last published one of each line, those that lines begin from, all windows, and all updates in work. Gives the versions that
+    /// are kept, of each line in turn.
+    ///
+    /// Callers go on with their numbers. A version that is kept reads as it did, by the same number; one that is not is refused with 16; and
+    /// the next one has the next number. So no number ever means another version. Tickets in work go on too.
+    /// Lines keep their numbers, and all that have begun are carried, so that there are no more lines to begin than before.
+    ///
+    /// It needs no more updates, pages and nodes than the old store has used, and less the fewer versions are kept. Writers wait while it runs;
+    /// readers do not, and a filled [`Snapshot`](crate::Snapshot) goes on as it is.
+    ///
+    /// A page that has not changed since has for its stamp the last version kept that is not above the one asked for: a truck with an earlier
+    /// version fetches it once more.
+    ///
+    /// Refused, and nothing has changed: 3, 19; 1 or 2 by the limits; 11 where the page size is another; 16 or 20 where a version named
+    /// is not published; 5, 6 or 15 where the new store has too little room.
+    ///
+    /// ```
+    /// use pit_host::{Error, Limits, Line, PageIndex, Shared, Store, Version};
+    /// # fn main() -> Result<(), Error> {
+    /// let (shared, live) = (Shared::new(Store::format(Limits::new(16, 4, 8, 3))?), Line(0));
+    /// for fill in 1..=3 {
+    ///     shared.update(live, PageIndex(0), &[&[fill; 16]])?;
+    /// }
+    /// assert_eq!(shared.update(live, PageIndex(0), &[&[4; 16]]), Err(Error::RegisterFull));
+    ///
+    /// let kept = shared.carry(Limits::new(16, 40, 80, 30), &[(live, Version(1))])?;
+    /// assert_eq!(kept, [(live, Version(1)), (live, Version(3))]);
+    /// assert_eq!(shared.update(live, PageIndex(0), &[&[4; 16]])?, Version(4));
+    /// let first_byte = |version| shared.with_view(live, version, PageIndex(0), |page| page[0]);
+    /// assert_eq!([1, 2, 3, 4].map(Version).map(first_byte), [Ok(1), Err(Error::NotPublished), Ok(3), Ok(4)]);
+    /// # Ok(())
+    /// # }
+    /// ```
+    pub fn carry(
+        &self,
+        limits: Limits,
+        versions: &[(Line, Version)],
+    ) -> Result<Vec<(Line, Version)>, L::Failure> {
+        let _alone = self.core.saving();
+        let turn = self.core.turn();
+        self.log.ready()?;
+        let (live, kept) = {
+            let old = self.core.reading(); // no writer waits for it: none has a turn
+            let mut carrying = Carrying::new(&old, limits)?;
+            carrying.choose(versions)?;
+            carrying.make().map_err(|refusal| match refusal {
+                Error::RegisterFull | Error::PagesFull | Error::NodesFull => refusal,
+                _ => Error::Damaged, // what calls left, the calls accept again
+            })?
+        };
+        self.log.replace(&live.moment())?;
+        self.core.replace(live);
+        drop(turn);
+        Ok(kept)
+    }
+}
+
+/// A store on its way into another one. Versions and tickets are the old store's own numbers, but where it is said.
+struct Carrying<'a> {
+    old: &'a Live,
+    new: Store,
+    /// The old register.
+    register: &'a [Record],
+    /// The update that a line's own version is, as its place in the register.
+    updates: BTreeMap<(u64, u64), usize>,
+    /// For each line, those of its own versions that are kept, and their numbers in the new store.
+    kept: Vec<BTreeMap<u64, u64>>,
+    /// The tickets in work, and their numbers in the new store.
+    tickets: BTreeMap<u64, u64>,
+}
+
+impl<'a> Carrying<'a> {
+    fn new(old: &'a Live, limits: Limits) -> Result<Carrying<'a>, Error> {
+        old.keeper.recent(Line(0))?; // row 3
+        let new = Store::format(limits)?;
+        let (state, register) = (old.keeper.state(), old.keeper.areas().parts().register);
+        if limits.page_size != state.size {
+            return Err(Error::PageLength);
+        }
+        if !old.is_sound() {
+            return Err(Error::Damaged);
+        }
+        let name = |record: &Record| LineVersion(record.name);
+        let updates = (0..).zip(register).take(state.assigned as usize);
+        let updates = updates.map(|(at, r)| ((name(r).line().0, name(r).version().0), at));
+        Ok(Carrying {
+            old,
+            new,
+            register,
+            updates: updates.collect(),
+            kept: vec![BTreeMap::new(); state.begun as usize],
+            tickets: BTreeMap::new(),
+        })
+    }
+
+    fn lines(&self) -> Range<u64> {
+        0..self.kept.len() as u64
+    }
+
+    /// The line on which a version was made.
+    fn owner(&self, mut line: u64, version: u64) -> u64 {
+        let state = self.old.keeper.state();
+        while line > 0 && version <= state.line(Line(line)).start {
+            line = state.line(Line(line)).source; // below it
+        }
+        line
+    }
+
+    fn keep(&mut self, line: u64, version: u64) {
+        let owner = self.owner(line, version);
+        if version > 0 {
+            self.kept[owner as usize].insert(version, 0);
+        }
+    }
+
+    /// Which versions are kept.
+    fn choose(&mut self, versions: &[(Line, Version)]) -> Result<(), Error> {
+        for (line, version) in versions {
+            let own = self.old.numbers.own_version(*line, *version);
+            self.old.keeper.size(*line, Version(own))?;
+            self.keep(line.0, own);
+        }
+        for line in self.lines() {
+            let state = self.old.keeper.state().line(Line(line));
+            self.keep(line, state.published);
+            if line > 0 {
+                self.keep(state.source, state.start);
+            }
+        }
+        Ok(())
+    }
+
+    /// Makes the new store.
+    fn make(mut self) -> Result<(Live, Vec<(Line, Version)>), Error> {
+        self.versions()?;
+        self.in_work()?;
+        self.end()
+    }
+
+    /// The number in the new store of a version of a line that is kept.
+    fn new_number(&self, line: u64, version: u64) -> Result<u64, Error> {
+        if version == 0 {
+            return Ok(0);
+        }
+        let kept = &self.kept[self.owner(line, version) as usize];
+        kept.get(&version).copied().ok_or(Error::Damaged)
+    }
+
+    /// Makes the versions that are kept, line by line.
+    fn versions(&mut self) -> Result<(), Error> {
+        for line in self.lines() {
+            let state = self.old.keeper.state().line(Line(line));
+            if line > 0 {
+                let start = self.new_number(state.source, state.start)?;
+                self.new.branch(Line(state.source), Version(start))?;
+            }
+            let mut before = state.start;
+            for version in self.kept[line as usize].keys().copied().collect::<Vec<_>>() {
+                self.version(line, before, version)?;
+                let number = self.new.recent(Line(line))?.0;
+                self.kept[line as usize].insert(version, number);
+                before = version;
+            }
+        }
+        self.new
+            .set_windows(self.old.keeper.windows().to_string())?;
+        Ok(())
+    }
+
+    /// Makes a version out of the one before it that is kept: with the pages that the updates between them wrote.
+    fn version(&mut self, line: u64, before: u64, version: u64) -> Result<(), Error> {
+        let mut written = Vec::new();
+        for between in before + 1..=version {
+            let update = self.updates.get(&(line, between)).ok_or(Error::Damaged)?;
+            let record = &self.register[*update];
+            written.push(record.f..record.last + 1);
+        }
+        for pages in rows(written) {
+            self.update(line, version, pages)?;
+        }
+        Ok(())
+    }
+
+    /// One update of the new store, published: these pages of a version.
+    fn update(&mut self, line: u64, version: u64, pages: Range<u64>) -> Result<(), Error> {
+        let ticket = self.new.begin(pages.end - pages.start)?;
+        for (i, page) in (0..).zip(pages.clone()) {
+            let bytes = self
+                .old
+                .keeper
+                .view(Line(line), Version(version), PageIndex(page))?;
+            self.new.put(ticket, i, bytes)?;
+        }
+        let first = PageIndex(pages.start);
+        let assigned = self.new.write(Line(line), ticket, first)?;
+        for _ in 0..assigned.nodes {
+            self.new.weave(ticket)?;
+        }
+        let published = self.new.publish(Line(line), Minute(0))?;
+        published.version().map(drop).ok_or(Error::Damaged)
+    }
+
+    /// Takes over the updates in work: those without a version, and those whose version is not published.
+    fn in_work(&mut self) -> Result<(), Error> {
+        let state = self.old.keeper.state();
+        let mut assigned = BTreeMap::new();
+        for own in 1..=state.tickets {
+            let record = self.register.get(own as usize - 1).ok_or(Error::Damaged)?;
+            if record.update > 0 {
+                let update = self.register.get(record.update as usize - 1);
+                let update = update.ok_or(Error::Damaged)?;
+                let name = LineVersion(update.name);
+                if name.version().0 <= state.line(name.line()).published {
+                    continue;
+                }
+                assigned.insert(record.update, (own, update));
+            }
+            self.ticket(own, record)?;
+        }
+        for (own, update) in assigned.into_values() {
+            let ticket = Ticket(self.tickets[&own]);
+            let line = LineVersion(update.name).line();
+            self.new.write(line, ticket, PageIndex(update.f))?;
+            for _ in 0..update.woven {
+                self.new.weave(ticket)?;
+            }
+        }
+        Ok(())
+    }
+
+    /// A ticket in work, with those of its pages that are put.
+    fn ticket(&mut self, own: u64, record: &Record) -> Result<(), Error> {
+        let ticket = self.new.begin(record.n)?;
+        for i in (0..record.n).filter(|i| record.put >> i & 1 == 1) {
+            let number = record.number.checked_add(i);
+            let page = number.and_then(|number| self.old.era.pages.page(number));
+            self.new.put(ticket, i, page.ok_or(Error::Damaged)?)?;
+        }
+        self.tickets.insert(own, ticket.0);
+        Ok(())
+    }
+
+    /// The new store with its callers' numbers; and the versions kept, as callers count.
+    fn end(self) -> Result<(Live, Vec<(Line, Version)>), Error> {
+        let numbers = &self.old.numbers;
+        let (mut lines, mut all) = (Vec::new(), Vec::new());
+        for line in self.lines() {
+            let kept = self.numbers_of(line)?;
+            all.extend(kept.iter().map(|k| (Line(line), Version(k.0))));
+            let (callers, last) = kept.last().copied().unwrap_or_default();
+            lines.push(Numbers::new(kept, last, callers).ok_or(Error::Damaged)?);
+        }
+        let tickets = self.tickets.iter();
+        let tickets = tickets.map(|(own, new)| (numbers.ticket(*own).0, *new));
+        let last = numbers.last_ticket(self.old.keeper.state().tickets);
+        let tickets = Numbers::new(tickets.collect(), self.new.state().tickets, last);
+        let tickets = tickets.ok_or(Error::Damaged)?;
+        let mut live = Live::new(self.new, Numbering::carried(tickets, lines));
+        for (own, new) in &self.tickets {
+            live.set_touched(*new, self.old.touched(*own));
+        }
+        Ok((live, all))
+    }
+
+    /// The versions of a line that are kept, those that it shares included, up to its last published one: as callers count, and in the new store.
+    fn numbers_of(&self, line: u64) -> Result<Vec<(u64, u64)>, Error> {
+        let state = self.old.keeper.state();
+        let (mut at, mut upto) = (line, state.line(Line(line)).published);
+        let mut kept = Vec::new();
+        loop {
+            let of_line = self.kept[at as usize].range(..=upto).rev();
+            kept.extend(of_line.map(|(own, new)| (*own, *new)));
+            if at == 0 {
+                break;
+            }
+            let state = state.line(Line(at));
+            (at, upto) = (state.source, upto.min(state.start));
+        }
+        kept.reverse();
+        let callers = |own| self.old.numbers.version(Line(line), own).0;
+        Ok(kept
+            .into_iter()
+            .map(|(own, new)| (callers(own), new))
+            .collect())
+    }
+}
+
+/// The pages that updates wrote, each once, in rows that an update has room for. Each row is a part of what one of them wrote, or parts of
+/// several that follow each other: so there are no more rows than updates, and they make no more nodes, which rows cut anywhere would.
+fn rows(mut written: Vec<Range<u64>>) -> Vec<Range<u64>> {
+    written.sort_by_key(|pages| pages.start);
+    let mut rows: Vec<Range<u64>> = Vec::new();
+    for pages in written {
+        let end = rows.last().map_or(0, |row| row.end);
+        let rest = pages.start.max(end)..pages.end;
+        match rows.last_mut() {
+            _ if rest.is_empty() => (),
+            Some(row) if end == rest.start && rest.end - row.start <= MOST_OF_AN_UPDATE => {
+                row.end = rest.end
+            }
+            _ => rows.push(rest),
+        }
+    }
+    rows
+}

@@ -1,0 +1,140 @@
+//! The file that a journal is written to.
+
+use super::ahead::ahead_of;
+use super::batch::{Batch, Ended};
+use super::entry::{encode, seal, Content};
+use super::header::Header;
+use super::replay::Replayed;
+use std::fs::File;
+use std::io;
+use std::mem;
+use std::os::unix::fs::FileExt;
+use std::sync::Arc;
+
+/// Room for entries is kept from one batch to the next, up to so many bytes.
+const KEPT_ROOM: usize = 1 << 20;
+
+/// A journal's file, and how far it is written.
+pub struct Output {
+    pub file: Arc<File>,
+    pub header: Header,
+    pub length: u64,
+    /// The file's own length: from the entries' end up to here it is written ahead. None, as it were, where it cannot be.
+    pub end: u64,
+    /// Room of a batch that is written.
+    pub room: Vec<u8>,
+}
+
+impl Output {
+    /// A journal that begins in an empty file. Its header is on the disk before anything is written behind it.
+    pub fn begin(file: File, header: Header) -> io::Result<Output> {
+        let mut output = Output {
+            file: Arc::new(file),
+            header,
+            length: 0,
+            end: 0,
+            room: Vec::new(),
+        };
+        output.begin_file()?;
+        Ok(output)
+    }
+
+    /// A journal that goes on in its file, after what was found there. All of that is on the disk first: a process that died
+    /// may not have got so far.
+    pub fn resume(file: File, found: &Replayed) -> io::Result<Output> {
+        let mut output = Output {
+            end: file.metadata()?.len(),
+            file: Arc::new(file),
+            header: found.header,
+            length: found.length,
+            room: Vec::new(),
+        };
+        output.file.sync_all()?;
+        if found.noted < found.last {
+            output.note_synced(found.last)?;
+        }
+        Ok(output)
+    }
+
+    /// Writes a batch. A journal that ends in it is on the disk before the next one has anything: no power cut leaves
+    /// later entries without earlier ones.
+    pub fn write_batch(&mut self, mut batch: Batch) -> io::Result<()> {
+        for ended in mem::take(&mut batch.ended) {
+            self.go_on_in(ended)?;
+        }
+        self.write(&mut batch.entries)?;
+        if self.end == self.length && !batch.entries.is_empty() {
+            self.write_ahead(batch.entries.len());
+        }
+        batch.entries.clear();
+        if batch.entries.capacity() <= KEPT_ROOM {
+            self.room = batch.entries;
+        }
+        Ok(())
+    }
+
+    /// Notes in the journal that all entries up to this number are on the disk. An earlier journal's need no note: they were
+    /// there before this one began.
+    pub fn note_synced(&mut self, number: u64) -> io::Result<()> {
+        if number < self.header.first {
+            return Ok(());
+        }
+        let mut entry = Vec::new();
+        encode(&Content::Synced, number, &mut entry);
+        self.write(&mut entry)
+    }
+
+    fn go_on_in(&mut self, mut ended: Ended) -> io::Result<()> {
+        self.write(&mut ended.entries)?;
+        self.trim()?;
+        self.file.sync_data()?;
+        self.file = Arc::new(ended.next);
+        self.header = ended.header;
+        self.length = 0;
+        self.begin_file()
+    }
+
+    fn begin_file(&mut self) -> io::Result<()> {
+        self.file.write_all_at(&self.header.to_bytes(), 0)?;
+        self.file.sync_all()?;
+        self.length = Header::LENGTH;
+        self.end = Header::LENGTH;
+        Ok(())
+    }
+
+    /// Says that the journal, which has nothing but its header yet, goes on after the one with this salt.
+    pub fn go_on_after(&mut self, before: u64) -> io::Result<()> {
+        self.header.before = before;
+        self.begin_file()
+    }
+
+    /// Takes away what was written ahead.
+    pub fn trim(&mut self) -> io::Result<()> {
+        if self.end > self.length {
+            self.file.set_len(self.length)?;
+            self.end = self.length;
+        }
+        Ok(())
+    }
+
+    fn write(&mut self, entries: &mut [u8]) -> io::Result<()> {
+        seal(entries, self.header.salt);
+        self.file.write_all_at(entries, self.length)?;
+        self.length += entries.len() as u64;
+        self.end = self.end.max(self.length);
+        Ok(())
+    }
+
+    /// Writes ahead of the entries. A disk may have room for entries where it has none for that: then nothing is written ahead in
+    /// this file any more.
+    fn write_ahead(&mut self, batch: usize) {
+        let ahead = ahead_of(self.length, batch, self.header.salt);
+        match self.file.write_all_at(&ahead, self.length) {
+            Ok(()) => self.end += ahead.len() as u64,
+            Err(_) => {
+                let _ = self.file.set_len(self.length); // what is left does no harm
+                self.end = u64::MAX;
+            }
+        }
+    }
+}

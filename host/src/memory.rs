@@ -1,0 +1,156 @@
+//! Page memory of a store that threads share: PUT writes a page once, and from then on anybody may read it without a lock.
+//!
+//! A page that is put is never written again. By that alone a reader may hold its bytes while a writer's call runs: the
+//! proved PUT writes the bytes of the one page that it is asked for and no others, whatever store and areas it is given. Which
+//! page that is, and that it is not yet put, is looked up here again, in bits of the host's own: so this holds over any
+//! store, also one that no run of calls left.
+
+use crate::areas::{Lend, LentAreas, Parts};
+use crate::ffi::{RawAreas, Record};
+use std::cell::UnsafeCell;
+use std::sync::atomic::{AtomicU64, Ordering};
+use std::sync::Arc;
+
+const BITS: u64 = u64::BITS as u64;
+
+/// The page area of a shared store, for those who read it.
+pub struct PageArea {
+    bytes: Box<[UnsafeCell<u8>]>,
+    /// A page's length in bytes; not 0.
+    page: usize,
+    /// A bit a page: put for good.
+    put: Box<[AtomicU64]>,
+}
+
+// SAFETY: a byte is written only by `PageWriter`, of which an area has one, by `&mut`, and only while its page's bit is 0. It is
+// read by others only after the bit was seen to be 1 (`page`), or through `&PageWriter`, while nobody can write.
+unsafe impl Sync for PageArea {}
+
+impl PageArea {
+    /// The bytes of a page that is put; none of one that is not.
+    #[inline]
+    pub fn page(&self, number: u64) -> Option<&[u8]> {
+        if !self.is_put(number) {
+            return None;
+        }
+        let begin = usize::try_from(number).ok()?.checked_mul(self.page)?;
+        let cells = self.bytes.get(begin..)?.get(..self.page)?;
+        // SAFETY: cells of bytes, in bounds; the page's bit is 1, so nobody writes them any more, and what was written
+        // came before the bit.
+        Some(unsafe { std::slice::from_raw_parts(cells.as_ptr().cast(), cells.len()) })
+    }
+
+    /// Whether a page is put.
+    #[inline]
+    pub fn is_put(&self, number: u64) -> bool {
+        let word = usize::try_from(number / BITS).ok();
+        let word = word.and_then(|word| self.put.get(word));
+        word.map_or(false, |word| {
+            word.load(Ordering::Acquire) >> (number % BITS) & 1 == 1
+        })
+    }
+
+    /// How many pages it has room for.
+    pub fn len(&self) -> usize {
+        self.bytes.len() / self.page
+    }
+
+    /// A page's length in bytes.
+    pub fn page_size(&self) -> usize {
+        self.page
+    }
+
+    fn set_put(&self, number: u64) {
+        let word = usize::try_from(number / BITS).ok();
+        if let Some(word) = word.and_then(|word| self.put.get(word)) {
+            word.fetch_or(1 << (number % BITS), Ordering::Release);
+        }
+    }
+}
+
+/// The one who may write a page area.
+pub struct PageWriter {
+    area: Arc<PageArea>,
+}
+
+impl PageWriter {
+    /// An area with these bytes and page length, in which these pages are put.
+    pub fn new(bytes: Box<[u8]>, page: u64, put: impl Iterator<Item = u64>) -> PageWriter {
+        let page = usize::try_from(page).unwrap_or(usize::MAX).max(1);
+        let words = bytes.len() / page / BITS as usize + 1;
+        // SAFETY: a cell has the layout of what is in it, and the box is handed on whole.
+        let bytes = unsafe { Box::from_raw(Box::into_raw(bytes) as *mut [UnsafeCell<u8>]) };
+        let area = PageArea {
+            bytes,
+            page,
+            put: (0..words).map(|_| AtomicU64::new(0)).collect(),
+        };
+        put.for_each(|number| area.set_put(number));
+        PageWriter {
+            area: Arc::new(area),
+        }
+    }
+
+    /// The area, to be kept by those who read it.
+    pub fn area(&self) -> &Arc<PageArea> {
+        &self.area
+    }
+
+    /// All of it, while nobody can write.
+    fn all(&self) -> &[u8] {
+        let cells = &self.area.bytes;
+        // SAFETY: cells of bytes. They are written through `&mut self` alone, which nobody has meanwhile.
+        unsafe { std::slice::from_raw_parts(cells.as_ptr().cast(), cells.len()) }
+    }
+}
+
+/// The areas of a store that threads share.
+pub struct LiveAreas {
+    pages: PageWriter,
+    nodes: Box<[u32]>,
+    register: Box<[Record]>,
+}
+
+impl LiveAreas {
+    pub fn new(pages: PageWriter, nodes: Box<[u32]>, register: Box<[Record]>) -> LiveAreas {
+        LiveAreas {
+            pages,
+            nodes,
+            register,
+        }
+    }
+
+    /// Notes that a page is put, after PUT has written it.
+    pub fn set_put(&mut self, number: u64) {
+        self.pages.area.set_put(number);
+    }
+}
+
+impl Lend for LiveAreas {
+    #[inline]
+    fn parts(&self) -> Parts<'_> {
+        Parts {
+            pages: self.pages.all(),
+            nodes: &self.nodes,
+            register: &self.register,
+        }
+    }
+
+    /// Without pages: nobody has all of them to himself, since readers may hold what is put. The calls go by `raw`.
+    fn lend(&mut self) -> LentAreas<'_> {
+        LentAreas {
+            pages: &mut [],
+            nodes: &mut self.nodes,
+            register: &mut self.register,
+        }
+    }
+
+    #[inline]
+    fn raw(&mut self) -> RawAreas<'_> {
+        let cells = &self.pages.area.bytes;
+        let pages = UnsafeCell::raw_get(cells.as_ptr());
+        // SAFETY: the bytes live as long as the area, and `&mut self` is the only writer. Whoever calls PUT, as `Live::put` does,
+        // looks first whether the page is put: what is not, nobody reads.
+        unsafe { RawAreas::new(pages, cells.len(), &mut self.nodes, &mut self.register) }
+    }
+}

@@ -1,0 +1,244 @@
+//! The store behind its locks, as every handle and every snapshot has it.
+
+use crate::counters::{ByteOffset, Line, Minute, PageIndex, Version};
+use crate::error::Error;
+use crate::keeper::Store;
+use crate::live::{Live, Moment};
+use crate::numbering::Numbering;
+use crate::seen::Seen;
+use std::hint::spin_loop;
+use std::sync::atomic::{AtomicUsize, Ordering::Relaxed};
+use std::sync::{
+    Arc, Mutex, MutexGuard, PoisonError, RwLock, RwLockReadGuard, RwLockWriteGuard, TryLockError,
+};
+use std::time::SystemTime;
+
+/// What every handle, and every snapshot, has of the store.
+pub struct Core {
+    live: RwLock<Live>,
+    pub seen: Seen,
+    /// The minute of the week at which an update is published that was not given one.
+    clock: RwLock<Clock>,
+    /// Held by the one whose turn it is to change the store: who waits for it keeps no reader waiting.
+    turns: Mutex<()>,
+    /// Held by the one that saves.
+    saving: Mutex<()>,
+    /// So many readers wait for a writer's call to end. The next writer lets them go first.
+    waiting: AtomicUsize,
+}
+
+/// A reader that finds a writer's call running looks again so often before it sleeps: some 20 microseconds. To be woken takes longer
+/// than most calls.
+const LOOKS: usize = 400;
+/// A writer that finds readers waiting looks so often whether they have gone: at most some microseconds.
+const LOOKS_OF_A_WRITER: usize = 64;
+
+/// Gives the minute of the week.
+pub type Clock = Arc<dyn Fn() -> Minute + Send + Sync>;
+
+impl Core {
+    pub fn new(store: Store, numbers: Numbering) -> Core {
+        let live = Live::new(store, numbers);
+        let seen = Seen::default();
+        seen.set(live.published().into_iter());
+        Core {
+            live: RwLock::new(live),
+            seen,
+            clock: RwLock::new(Arc::new(|| Minute::of(SystemTime::now(), 0))),
+            turns: Mutex::new(()),
+            saving: Mutex::new(()),
+            waiting: AtomicUsize::new(0),
+        }
+    }
+
+    pub fn turn(&self) -> MutexGuard<'_, ()> {
+        self.turns.lock().unwrap_or_else(PoisonError::into_inner)
+    }
+
+    #[inline]
+    pub fn reading(&self) -> RwLockReadGuard<'_, Live> {
+        let now = self.try_reading();
+        now.unwrap_or_else(|| self.reading_after_a_writer())
+    }
+
+    #[inline]
+    fn try_reading(&self) -> Option<RwLockReadGuard<'_, Live>> {
+        match self.live.try_read() {
+            Ok(live) => Some(live),
+            Err(TryLockError::Poisoned(live)) => Some(live.into_inner()),
+            Err(TryLockError::WouldBlock) => None,
+        }
+    }
+
+    #[cold]
+    fn reading_after_a_writer(&self) -> RwLockReadGuard<'_, Live> {
+        self.waiting.fetch_add(1, Relaxed);
+        let soon = (0..LOOKS).find_map(|_| {
+            spin_loop();
+            self.try_reading()
+        });
+        let later = || self.live.read().unwrap_or_else(PoisonError::into_inner);
+        let live = soon.unwrap_or_else(later);
+        self.waiting.fetch_sub(1, Relaxed);
+        live
+    }
+
+    /// Readers that wait already go first: else a writer that makes one call after the other would hardly ever let them in.
+    pub fn writing(&self) -> RwLockWriteGuard<'_, Live> {
+        let is_awaited = |_: &usize| self.waiting.load(Relaxed) > 0;
+        let looks = (0..LOOKS_OF_A_WRITER).take_while(is_awaited);
+        looks.for_each(|_| spin_loop());
+        self.live.write().unwrap_or_else(PoisonError::into_inner)
+    }
+
+    pub fn set_clock(&self, clock: Clock) {
+        let mut place = self.clock.write().unwrap_or_else(PoisonError::into_inner);
+        *place = clock;
+    }
+
+    /// Everybody who saves waits for this one.
+    pub fn saving(&self) -> MutexGuard<'_, ()> {
+        self.saving.lock().unwrap_or_else(PoisonError::into_inner)
+    }
+
+    /// The minute by the site's clock, which is asked without a lock. Refused: 22.
+    pub fn minute(&self) -> Result<Minute, Error> {
+        let clock = {
+            let place = self.clock.read().unwrap_or_else(PoisonError::into_inner);
+            Arc::clone(&place)
+        };
+        let minute = clock();
+        if minute.is_of_week() {
+            Ok(minute)
+        } else {
+            Err(Error::NoSuchMinute)
+        }
+    }
+
+    /// Another store takes this one's place, for all handles.
+    pub fn replace(&self, live: Live) {
+        let mut place = self.writing();
+        place.end();
+        self.seen.set(live.published().into_iter());
+        let former = std::mem::replace(&mut *place, live);
+        drop(place);
+        drop(former); // after the lock
+    }
+
+    /// The store as it is at one moment of this call. The lock is held while all but the pages are copied.
+    pub fn moment(&self) -> Moment {
+        self.reading().moment()
+    }
+
+    /// The store's own number of a version that readers may see.
+    pub fn own(&self, live: &Live, line: Line, version: Version) -> Result<Version, Error> {
+        let own = Version(live.numbers.own_version(line, version));
+        match self.seen.last(line) {
+            Some(last) if version <= last => Ok(own),
+            Some(_) => Err(Error::NotPublished),
+            // as the store refuses a line that has not begun; one that has is shown when its entry is kept
+            None => live.keeper.size(line, own).and(Err(Error::NoSuchLine)),
+        }
+    }
+
+    pub fn read(
+        &self,
+        line: Line,
+        version: Version,
+        offset: ByteOffset,
+        buffer: &mut [u8],
+    ) -> Result<(), Error> {
+        self.read_in(&self.reading(), line, version, offset, buffer)
+    }
+
+    pub fn read_in(
+        &self,
+        live: &Live,
+        line: Line,
+        version: Version,
+        offset: ByteOffset,
+        buffer: &mut [u8],
+    ) -> Result<(), Error> {
+        let own = self.own(live, line, version)?;
+        live.keeper.read(line, own, offset, buffer)
+    }
+
+    pub fn size_in(&self, live: &Live, line: Line, version: Version) -> Result<u64, Error> {
+        let own = self.own(live, line, version)?;
+        live.keeper.size(line, own)
+    }
+
+    pub fn recent(&self, line: Line) -> Result<Version, Error> {
+        match self.seen.last(line) {
+            Some(last) => Ok(last),
+            None => self.recent_in(&self.reading(), line),
+        }
+    }
+
+    pub fn recent_in(&self, live: &Live, line: Line) -> Result<Version, Error> {
+        let unseen = || live.keeper.recent(line).and(Err(Error::NoSuchLine));
+        self.seen.last(line).map_or_else(unseen, Ok)
+    }
+
+    pub fn stamp_in(
+        &self,
+        live: &Live,
+        line: Line,
+        version: Version,
+        page: PageIndex,
+    ) -> Result<Version, Error> {
+        let own = self.own(live, line, version)?;
+        let stamp = live.keeper.stamp(line, own, page)?;
+        Ok(live.numbers.stamp(line, version, stamp.0))
+    }
+
+    pub fn with_view<R>(
+        &self,
+        line: Line,
+        version: Version,
+        page: PageIndex,
+        look: impl FnOnce(&[u8]) -> R,
+    ) -> Result<R, Error> {
+        let live = self.reading();
+        let own = self.own(&live, line, version)?;
+        live.keeper.view(line, own, page).map(look)
+    }
+
+    /// The number of a page of a version.
+    pub fn page_number(
+        &self,
+        live: &Live,
+        line: Line,
+        version: Version,
+        page: PageIndex,
+    ) -> Result<u64, Error> {
+        let own = self.own(live, line, version)?;
+        let (begin, length) = live.keeper.view_place(line, own, page)?;
+        let number = (begin as u64).checked_div(length as u64);
+        number
+            .filter(|number| live.era.pages.is_put(*number))
+            .ok_or(Error::Damaged)
+    }
+}
+
+#[cfg(test)]
+mod tests {
+    use super::*;
+    use crate::areas::Limits;
+    use crate::counters::Ticket;
+    use crate::shared::Shared;
+
+    #[test]
+    fn a_poisoned_lock_is_taken() {
+        let limits = Limits::new(16, 4, 8, 2);
+        let shared = Shared::new(Store::format(limits).expect("limits in range"));
+        let other = shared.clone();
+        let died = std::thread::spawn(move || {
+            let _alone = other.core.writing();
+            panic!("with the lock held");
+        });
+        assert!(died.join().is_err() && shared.core.live.is_poisoned());
+        assert_eq!(shared.begin(1), Ok(Ticket(1)));
+        assert_eq!(shared.recent(Line(0)), Ok(Version(0)));
+    }
+}

@@ -1,0 +1,243 @@
+//! Whole updates in one call, and those that somebody has begun and not finished.
+
+use crate::areas::{Lend, MOST_PAGES};
+use crate::counters::{Line, LineVersion, PageIndex, Ticket, Version};
+use crate::error::Error;
+use crate::ffi::{node_count, Record, State};
+use crate::live::Live;
+use crate::log::Log;
+use crate::shared::{Handle, Turn};
+use std::time::{Duration, Instant};
+
+/// An update has at most so many pages.
+const MOST_OF_AN_UPDATE: usize = 64;
+
+/// An update in work: begun, and its tree not yet woven whole.
+#[derive(Clone, Copy, Debug, PartialEq, Eq)]
+#[non_exhaustive]
+pub struct OpenTicket {
+    /// The ticket.
+    pub ticket: Ticket,
+    /// How many pages the update has.
+    pub pages: u64,
+    /// How many of them are put.
+    pub put: u64,
+    /// The line and version that it got, where it has one. Later versions of that line wait for it.
+    pub version: Option<(Line, Version)>,
+    /// How many of its nodes are left to weave, where it has a version.
+    pub nodes_left: u64,
+    /// For how long no call was made on it; since the store was opened or loaded, where that is later.
+    pub idle: Duration,
+}
+
+impl<L: Log> Handle<L> {
+    /// A whole update in one call: these pages of a line, from page `at` on, as its next version. It begins, puts, assigns
+    /// and weaves, and publishes what is then due, by the [clock](Handle::set_clock): the version itself where all before it are
+    /// complete, and those that waited for it. Gives the version.
+    ///
+    /// It is refused as the calls would be, before any of them is made, so that a refused one has taken no room:
+    /// 3, 4, 5, 6, 11, 20, 13, 14, 15; and 22 where the clock gives no minute of the week.
+    ///
+    /// ```
+    /// use pit_host::{Error, Limits, Line, PageIndex, Shared, Store, Version};
+    /// # fn main() -> Result<(), Error> {
+    /// let shared = Shared::new(Store::format(Limits::new(16, 8, 16, 4))?);
+    /// assert_eq!(shared.append_pages(Line(0), &[&[1; 16], &[2; 16]])?, Version(1));
+    /// assert_eq!(shared.update(Line(0), PageIndex(1), &[&[3; 16]])?, Version(2));
+    /// assert_eq!(shared.recent(Line(0))?, Version(2));
+    /// assert_eq!(shared.update(Line(0), PageIndex(3), &[&[4; 16]]), Err(Error::PastEnd));
+    /// # Ok(())
+    /// # }
+    /// ```
+    pub fn update(
+        &self,
+        line: Line,
+        at: PageIndex,
+        pages: &[&[u8]],
+    ) -> Result<Version, L::Failure> {
+        self.whole(line, Some(at), pages)
+    }
+
+    /// [`update`](Handle::update) at the end of the line's last assigned version.
+    pub fn append_pages(&self, line: Line, pages: &[&[u8]]) -> Result<Version, L::Failure> {
+        self.whole(line, None, pages)
+    }
+
+    fn whole(
+        &self,
+        line: Line,
+        at: Option<PageIndex>,
+        pages: &[&[u8]],
+    ) -> Result<Version, L::Failure> {
+        let minute = self.core.minute()?;
+        let mut turn = self.turn()?;
+        check(turn.live(), line, at, pages)?;
+        let answer = put_together(&mut turn, line, at, pages);
+        let due = answer.and_then(|version| turn.publish_due(line, minute).map(|()| version));
+        turn.end()?; // what was accepted is kept, also where areas are damaged and a later call was refused
+        Ok(due?)
+    }
+
+    /// The updates in work, in the order of their tickets.
+    pub fn open_tickets(&self) -> Vec<OpenTicket> {
+        let (now, live) = (Instant::now(), self.core.reading());
+        let records = live.keeper.areas().parts().register.len() as u64;
+        let tickets = 1..=live.keeper.state().tickets.min(records);
+        tickets
+            .filter_map(|own| open_ticket(&live, own, now))
+            .collect()
+    }
+
+    /// Those updates in work on which no call was made for so long. One that has a version holds up all later versions of its line,
+    /// until somebody [finishes](Handle::finish) it.
+    pub fn abandoned(&self, since: Duration) -> Vec<OpenTicket> {
+        let mut open = self.open_tickets();
+        open.retain(|open| open.idle >= since);
+        open
+    }
+
+    /// Weaves what is left of a ticket's version, whoever began it, and publishes what is then due, by the
+    /// [clock](Handle::set_clock). Gives the version. Where nothing is left, it only publishes. Refused: 3, 7, 19, 22, and 8 where it
+    /// has no version yet.
+    ///
+    /// ```
+    /// use pit_host::{Limits, Line, Shared, Store, Version};
+    /// # fn main() -> Result<(), pit_host::Error> {
+    /// let shared = Shared::new(Store::format(Limits::new(16, 8, 16, 4))?);
+    /// let ticket = shared.begin(1)?;
+    /// shared.put(ticket, 0, &[1; 16])?;
+    /// shared.append(Line(0), ticket)?; // and here its writer dies
+    /// assert_eq!(shared.append_pages(Line(0), &[&[2; 16]])?, Version(2));
+    /// assert_eq!(shared.recent(Line(0))?, Version(0)); // version 2 waits for version 1
+    /// for left in shared.open_tickets() {
+    ///     shared.finish(left.ticket)?;
+    /// }
+    /// assert_eq!(shared.recent(Line(0))?, Version(2));
+    /// # Ok(())
+    /// # }
+    /// ```
+    pub fn finish(&self, ticket: Ticket) -> Result<Version, L::Failure> {
+        let minute = self.core.minute()?;
+        let mut turn = self.turn()?;
+        let own = turn.live().numbers.own_ticket(ticket);
+        if nodes_left(turn.live(), own) != Some(0) {
+            turn.weave(ticket, u64::MAX)?;
+        }
+        let (line, version) = version_of(turn.live(), own).ok_or(Error::Damaged)?;
+        let due = turn.publish_due(line, minute);
+        turn.end()?;
+        due?;
+        Ok(version)
+    }
+
+    /// Waits until a version is published on a line, for readers to see. One that nobody ever completes is waited for for ever.
+    pub fn wait_published(&self, line: Line, version: Version) {
+        self.core.seen.wait(line, version, None);
+    }
+
+    /// The same for at most so long; tells whether the version is published.
+    pub fn wait_published_for(&self, line: Line, version: Version, most: Duration) -> bool {
+        let until = Instant::now().checked_add(most);
+        self.core.seen.wait(line, version, until)
+    }
+}
+
+impl<L: Log> Turn<'_, L> {
+    /// Publishes all versions of a line that are due.
+    fn publish_due(&mut self, line: Line, minute: crate::Minute) -> Result<(), Error> {
+        while self.publish(line, minute)?.version().is_some() {}
+        Ok(())
+    }
+}
+
+/// The calls of an update that were found to be accepted, up to the last WEAVE.
+fn put_together<L: Log>(
+    turn: &mut Turn<'_, L>,
+    line: Line,
+    at: Option<PageIndex>,
+    pages: &[&[u8]],
+) -> Result<Version, Error> {
+    let ticket = turn.begin(pages.len() as u64)?;
+    for (i, page) in (0..).zip(pages) {
+        turn.put(ticket, i, page)?;
+    }
+    let assigned = match at {
+        Some(first) => turn.write(line, ticket, first)?,
+        None => turn.append(line, ticket)?,
+    };
+    turn.weave(ticket, assigned.nodes)?;
+    Ok(assigned.version)
+}
+
+/// Refuses an update as the first of its calls that would be refused, by the rows of BEGIN, PUT and ASSIGN.
+fn check(live: &Live, line: Line, at: Option<PageIndex>, pages: &[&[u8]]) -> Result<(), Error> {
+    live.keeper.recent(Line(0))?; // row 3
+    let s: State = live.keeper.state();
+    let n = pages.len() as u64;
+    let blob = s.line(line).blob;
+    let first = at.map_or(blob, |at| at.0);
+    let end = first.saturating_add(n);
+    let nodes = || node_count(first, n, blob.max(end));
+    let rows = [
+        (
+            pages.is_empty() || pages.len() > MOST_OF_AN_UPDATE,
+            Error::UpdateSize,
+        ),
+        (s.tickets >= s.updates, Error::RegisterFull),
+        (s.pages.saturating_sub(s.taken) < n, Error::PagesFull),
+        (
+            pages.iter().any(|page| page.len() as u64 != s.size),
+            Error::PageLength,
+        ),
+        (line.0 >= s.begun, Error::NoSuchLine),
+        (first > blob, Error::PastEnd),
+        (end > MOST_PAGES, Error::BlobFull),
+    ];
+    match rows.iter().find(|(applies, _)| *applies) {
+        Some((_, refusal)) => Err(*refusal),
+        None if s.nodes.saturating_sub(s.places) < nodes() => Err(Error::NodesFull),
+        None => Ok(()),
+    }
+}
+
+fn record(register: &[Record], number: u64) -> Option<&Record> {
+    register.get(usize::try_from(number.checked_sub(1)?).ok()?)
+}
+
+/// What the register has of the update of a ticket, by the store's own number; none where it has no version.
+fn update_of(live: &Live, own: u64) -> Option<&Record> {
+    let register = live.keeper.areas().parts().register;
+    record(register, record(register, own)?.update)
+}
+
+/// The line and version that a ticket's update got.
+fn version_of(live: &Live, own: u64) -> Option<(Line, Version)> {
+    let name = LineVersion(update_of(live, own)?.name);
+    Some((
+        name.line(),
+        live.numbers.version(name.line(), name.version().0),
+    ))
+}
+
+/// How many nodes of a ticket's version are left to weave; none where it has no version.
+fn nodes_left(live: &Live, own: u64) -> Option<u64> {
+    let update = update_of(live, own)?;
+    Some(update.count.saturating_sub(update.woven))
+}
+
+/// A ticket, by the store's own number, if its update is in work.
+fn open_ticket(live: &Live, own: u64, now: Instant) -> Option<OpenTicket> {
+    let begun = record(live.keeper.areas().parts().register, own)?;
+    let left = nodes_left(live, own);
+    if left == Some(0) {
+        return None;
+    }
+    Some(OpenTicket {
+        ticket: live.numbers.ticket(own),
+        pages: begun.n,
+        put: begun.put.count_ones().into(),
+        version: version_of(live, own),
+        nodes_left: left.unwrap_or(0),
+        idle: now.saturating_duration_since(live.touched(own)?),
+    })
+}
