@@ -4,16 +4,17 @@ use crate::grouped::grouped;
 use crate::in_work::IN_WORK;
 use crate::lmdb;
 use crate::measure::ROUNDS;
-use crate::threads::{PAGES_A_VERSION, UPDATES_A_SECOND};
+use crate::threads::{PAGES_A_VERSION, UPDATES_A_SECOND, UPDATES_A_TURN};
 use std::fs;
+use std::path::Path;
 
 /// What stands above the table.
-pub fn text() -> String {
+pub fn text(disk: &Path) -> String {
     format!(
         "\
 Pit model store: benchmarks.
 
-Processor  {}; caches of one: {}.
+Processor  {}; caches of one: {}. Disk: {}.
 Against    memcpy: the same bytes copied from or to one run of memory, no versions. VIEW's is that of a whole page.
            Arc: a table of all pages for each version, each page behind an Arc, the table copied by each update.
            {}: a value a page, a write transaction an update, one read transaction for all reads; no sync,
@@ -32,16 +33,27 @@ Lines      Of 16 lines 15 begin when the blob is filled on line 0; then updates 
            go to one of them, or to all at random; alone is the store with one line.
 Stamps     STAMP of one page in the newest version, again and again: the page is written once, when the blob is filled, and
            then resent unchanged by so many of the updates after that, spread evenly. The others write other pages.
-Threads    Readers view random pages, {PAGES_A_VERSION} of one version and then of the newest: ours by one RECENT and a call of the
-           host's Shared a page, LMDB in one read transaction a reader, renewed for these {PAGES_A_VERSION}. Where there is a
-           writer, it is one more thread that makes {} updates of one page a second, or as many as it can.
+Threads    Readers view random pages, {PAGES_A_VERSION} of one version and then of the newest: by calls, one RECENT and a call of the
+           host's Shared a page; by a snapshot that advances for these {PAGES_A_VERSION}, as it is or filled; LMDB in one read transaction
+           a reader, renewed for these {PAGES_A_VERSION}. Where there is a writer, it makes {} updates of one page a second, or
+           flat out {} as fast as it can, which is all the room there is; then the store is put back. Ours writes by
+           one call an update. Views count while the writer writes.
+Waits      All room of the largest store is taken. A reader and a writer call it every so often, while nothing is saved, while
+           a copy is that nobody shares, and while the store itself is. What the last adds is waited for.
+Synced     Updates on a disk, at random places. Ours in a folder, by its policy: with one call an update the first two are the
+           same, by the third a power cut may take the last 10 ms. LMDB with sync, writing by system calls and through
+           its map; the faster is compared with. The plain file gets the update's bytes at its end, and is synced.
+Recovery   A folder's saved store has the blob of 4,096 pages of 4,096 bytes, its journal the updates since. Files are read
+           from memory: they have just been written.
 bytes      Memory that a version takes, of an update of so many pages, without those pages' own bytes.
 o/..       Ours as a multiple of the other: below 1, ours takes less.
 ",
         processor(),
         caches(),
+        file_system(disk),
         lmdb::version(),
         grouped(UPDATES_A_SECOND as usize),
+        grouped(UPDATES_A_TURN),
     )
 }
 
@@ -56,6 +68,21 @@ fn processor() -> String {
         Some(name) => format!("{name}, {} of them", names.len()),
         None => "unknown".into(),
     }
+}
+
+/// The file system that a folder is in: of the last mount whose place leads to it, among the longest such.
+fn file_system(folder: &Path) -> String {
+    let folder = folder.canonicalize().unwrap_or_default();
+    let mounts = fs::read_to_string("/proc/self/mounts").unwrap_or_default();
+    let of_line = |line: &str| {
+        let mut words = line.split(' ').skip(1);
+        let (place, kind) = (words.next()?, words.next()?);
+        let leads_there = folder.starts_with(place);
+        leads_there.then(|| (place.len(), kind.to_string()))
+    };
+    let found = mounts.lines().filter_map(of_line);
+    let longest = found.max_by_key(|(length, _)| *length);
+    longest.map_or("unknown".into(), |(_, kind)| kind)
 }
 
 /// The sizes of the first processor's caches of data, from the nearest.

@@ -216,8 +216,7 @@ impl Scene {
             let view = self.store.view(line, version, PageIndex(page));
             opaque(view.expect(ACCEPTED));
             let offset = ByteOffset(page * PAGE_SIZE as u64);
-            let (store, length) = (&self.store, PAGE_SIZE as u64);
-            let read = store.read(line, version, offset, length, &mut to);
+            let read = self.store.read(line, version, offset, &mut to);
             read.expect(ACCEPTED);
             opaque(&mut to);
         }

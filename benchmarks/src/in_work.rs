@@ -92,7 +92,7 @@ impl Contender for InWork {
     fn read(&self, version: usize, page: usize, to: &mut [u8]) {
         let offset = ByteOffset(page as u64 * self.page_size);
         let version = Version(version as u64);
-        let read = self.store.read(LIVE, version, offset, self.page_size, to);
+        let read = self.store.read(LIVE, version, offset, to);
         read.expect(ACCEPTED);
     }
 

@@ -70,6 +70,28 @@ fn check(error: c_int) {
     }
 }
 
+/// What a commit does before it returns.
+#[derive(Clone, Copy, PartialEq, Eq)]
+pub enum Commit {
+    /// It writes through the memory map, and nothing is synced to a disk. By system calls, without that map, updates take two to
+    /// three times as long.
+    Unsynced,
+    /// It writes by system calls, and syncs.
+    Synced,
+    /// It writes through the memory map, and syncs.
+    SyncedMap,
+}
+
+impl Commit {
+    fn flags(self) -> c_uint {
+        match self {
+            Commit::Unsynced => NO_SYNC | WRITE_MAP,
+            Commit::Synced => 0,
+            Commit::SyncedMap => WRITE_MAP,
+        }
+    }
+}
+
 /// A database with numbers for keys. The pointers keep it on the thread that made it.
 pub struct Database {
     env: *mut Env,
@@ -79,11 +101,10 @@ pub struct Database {
 }
 
 impl Database {
-    /// A new database in this file, which must not be there yet. Commits are not synced to a disk, and LMDB writes
-    /// through its memory map: by system calls, its updates take two to three times as long.
-    pub fn create(file: &Path, map_size: usize) -> Database {
+    /// A new database in this file, which must not be there yet.
+    pub fn create(file: &Path, map_size: usize, commit: Commit) -> Database {
         let path = CString::new(file.as_os_str().as_bytes()).expect("no zero byte in the path");
-        let flags = NO_SUBDIR | NO_SYNC | WRITE_MAP;
+        let flags = NO_SUBDIR | commit.flags();
         let (mut env, mut txn, mut dbi) = (null_mut(), null_mut(), 0);
         // SAFETY: in the order that LMDB asks for: each call is given what the one before made, and `path` outlives
         // the call. A step that fails panics, and nothing of it is used.

@@ -1,7 +1,7 @@
 //! What a user would pick: LMDB, a value a page under the page's index, a write transaction an update.
 
 use crate::contender::Contender;
-use crate::lmdb::Database;
+use crate::lmdb::{Commit, Database};
 use crate::shape::Shape;
 use crate::sharing::LmdbShared;
 use std::path::Path;
@@ -10,6 +10,9 @@ use std::{fs, process};
 
 /// A memory file system, so that no disk is measured.
 pub const FOLDER: &str = "/dev/shm";
+
+/// Room for any blob, and for what updates replace while somebody still reads it.
+const MAP_SIZE: usize = 1 << 30;
 
 /// LMDB keeps the newest version only: once a transaction is committed and no reader holds the one before, the pages
 /// that it replaced are used again. So its updates have no room to run out of, and nothing to go back to.
@@ -24,7 +27,7 @@ impl LmdbPages {
         let number = MADE.fetch_add(1, Ordering::Relaxed);
         let name = format!("pit-bench-{}-{number}", process::id());
         let file = Path::new(FOLDER).join(&name);
-        let database = Database::create(&file, 1 << 30);
+        let database = Database::create(&file, MAP_SIZE, Commit::Unsynced);
         // open files outlive their names, so nothing is left behind however the run ends
         for name in [name.clone(), name + "-lock"] {
             fs::remove_file(Path::new(FOLDER).join(name)).expect("LMDB has made its files");
@@ -32,6 +35,14 @@ impl LmdbPages {
         LmdbPages {
             page_size: shape.page_size,
             database,
+        }
+    }
+
+    /// In this file on a disk, each update synced. The file stays.
+    pub fn on_disk(shape: &Shape, file: &Path, commit: Commit) -> LmdbPages {
+        LmdbPages {
+            page_size: shape.page_size,
+            database: Database::create(file, MAP_SIZE, commit),
         }
     }
 

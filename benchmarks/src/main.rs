@@ -10,6 +10,7 @@ mod flat;
 mod grouped;
 #[allow(unsafe_code)]
 mod heap;
+mod in_folder;
 mod in_work;
 #[allow(unsafe_code)]
 mod lmdb;
@@ -22,36 +23,42 @@ mod opaque;
 mod ours;
 mod plot;
 mod random;
+mod recovery;
+mod scratch;
 mod shape;
 mod sharing;
 mod stamps;
 mod svg;
+mod synced;
 mod table;
 mod targets;
 mod threads;
+mod turn;
+mod waits;
 
 use measure::{Field, LineTimes, Times, MEMCPY};
 use shape::Shape;
-use std::path::PathBuf;
+use std::path::{Path, PathBuf};
 use std::process::ExitCode;
 use std::{env, fs, io};
-use table::{Row, What};
+use table::{disk, Row, What};
+use waits::Waits;
 
 #[global_allocator]
 static HEAP: heap::Counting = heap::Counting;
 
 fn main() -> ExitCode {
     let arguments: Vec<_> = env::args_os().skip(1).collect();
-    let folder = match &arguments[..] {
-        [] => None,
-        [word, folder] if word == "--record" => Some(PathBuf::from(folder)),
+    let (disk, folder) = match &arguments[..] {
+        [disk] => (disk, None),
+        [disk, word, folder] if word == "--record" => (disk, Some(PathBuf::from(folder))),
         _ => {
-            eprintln!("usage: pit-bench [--record FOLDER]");
+            eprintln!("usage: pit-bench FOLDER-ON-A-DISK [--record FOLDER]");
             return ExitCode::from(2);
         }
     };
     let mut report = Report::default();
-    report.run();
+    report.run(Path::new(disk));
     match folder.map_or(Ok(()), |folder| report.record(folder)) {
         Ok(()) => ExitCode::SUCCESS,
         Err(error) => {
@@ -75,8 +82,8 @@ impl Report {
         self.text.push('\n');
     }
 
-    fn run(&mut self) {
-        self.say(&about::text());
+    fn run(&mut self, disk: &Path) {
+        self.say(&about::text(disk));
         self.say(&table::heading());
         for page_size in [4_096, 256, 16] {
             let mut rows: Vec<Row> = shapes(page_size).into_iter().flat_map(times).collect();
@@ -88,21 +95,27 @@ impl Report {
             self.rows(rows);
         }
         self.rows(memory());
+        let on_lines = self.on_lines();
+        self.stamps();
+        let by_threads = self.threads();
+        let waits = self.waits(disk);
+        self.synced(disk);
+        self.recovery(disk);
+        self.say("\nTargets, in a blob of 4,096 pages of 4,096 bytes with so many updates:");
+        let mut lines = targets::lines(&self.rows, &on_lines);
+        lines.extend(targets::of_threads(&by_threads));
+        lines.extend(targets::of_waits(&waits));
+        lines.iter().for_each(|line| self.say(line));
+    }
+
+    fn on_lines(&mut self) -> Vec<(What, Shape, LineTimes)> {
         self.say("\nLines: this store with one line, and with 16 whose updates interleave:");
         self.say(&table::heading_of_lines());
-        let mut on_lines = Vec::new();
-        for updates in UPDATES {
-            for (what, shape, times) in times_of_lines(updates) {
-                self.say(&table::line_of_lines(what, shape, times));
-                on_lines.push((what, shape, times));
-            }
+        let on_lines: Vec<_> = UPDATES.into_iter().flat_map(times_of_lines).collect();
+        for (what, shape, times) in &on_lines {
+            self.say(&table::line_of_lines(*what, *shape, *times));
         }
-        self.stamps();
-        self.threads();
-        self.say("\nTargets, in a blob of 4,096 pages of 4,096 bytes with so many updates:");
-        for line in targets::lines(&self.rows, &on_lines) {
-            self.say(&line);
-        }
+        on_lines
     }
 
     fn stamps(&mut self) {
@@ -118,12 +131,58 @@ impl Report {
         }
     }
 
-    fn threads(&mut self) {
+    fn threads(&mut self) -> Vec<threads::Row> {
         eprintln!("pit-bench: measuring {}, by threads", targets::SHAPE);
-        self.say("\nThreads: views a second of all readers; above 1 in the last column, ours gives more:");
-        self.say(&table::heading_of_threads());
-        for (setting, rates) in threads::rates(targets::SHAPE) {
-            self.say(&table::line_of_threads(setting, rates));
+        self.say("\nThreads: views of all readers; above 1, ours gives more:");
+        self.say(&table::threads::heading());
+        let rows = threads::rows(targets::SHAPE);
+        rows.iter()
+            .for_each(|row| self.say(&table::threads::line(row)));
+        rows
+    }
+
+    fn waits(&mut self, disk: &Path) -> Waits {
+        eprintln!("pit-bench: measuring waits beside a save");
+        self.say("\nWaits: the longest that one call took beside a save of the largest store, in milliseconds:");
+        self.say(&disk::heading_of_waits());
+        let waits = waits::measure(disk);
+        for longest in &waits.calls {
+            self.say(&disk::line_of_waits(longest));
+        }
+        self.say(&disk::line_of_save(
+            "save of the largest store, full",
+            waits.full,
+        ));
+        let few = format!(
+            "save of one with the same limits and {} updates",
+            waits::FEW
+        );
+        self.say(&disk::line_of_save(&few, waits.few));
+        waits
+    }
+
+    fn synced(&mut self, disk: &Path) {
+        eprintln!("pit-bench: measuring {}, synced to a disk", targets::SHAPE);
+        self.say(
+            "\nSynced: an update that is on a disk when it returns; below 1, ours takes less:",
+        );
+        self.say(&disk::heading_of_synced());
+        for row in synced::rows(disk) {
+            self.say(&disk::line_of_synced(&row));
+            if row.what == synced::What::Many {
+                self.say(&disk::line_of_rates(&row));
+            }
+        }
+    }
+
+    fn recovery(&mut self, disk: &Path) {
+        eprintln!("pit-bench: measuring recovery");
+        self.say(
+            "\nRecovery: to open a folder, with so many updates of so many pages in its journal:",
+        );
+        self.say(&disk::heading_of_recovery());
+        for row in recovery::rows(disk) {
+            self.say(&disk::line_of_recovery(&row));
         }
     }
 

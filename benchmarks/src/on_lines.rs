@@ -94,7 +94,7 @@ impl Contender for OnLines {
         let at = self.line_of(page);
         let (line, version) = (Line(at as u64), self.newest[at]);
         let offset = ByteOffset(page as u64 * self.page_size);
-        let read = self.store.read(line, version, offset, self.page_size, to);
+        let read = self.store.read(line, version, offset, to);
         read.expect(ACCEPTED);
     }
 

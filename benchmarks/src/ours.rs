@@ -72,7 +72,7 @@ impl Contender for Ours {
     fn read(&self, version: usize, page: usize, to: &mut [u8]) {
         let offset = ByteOffset(page as u64 * self.page_size);
         self.store
-            .read(LIVE, Version(version as u64), offset, self.page_size, to)
+            .read(LIVE, Version(version as u64), offset, to)
             .expect(ACCEPTED);
     }
 

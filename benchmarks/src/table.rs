@@ -1,11 +1,13 @@
-//! The table: a row a figure, in plain text.
+//! The tables: a row a figure, in plain text.
+
+pub mod disk;
+pub mod threads;
 
 use crate::grouped::grouped;
 use crate::in_work::IN_WORK;
 use crate::measure::{LineTimes, ARC, CONTENDERS, LMDB, MEMCPY, OURS};
 use crate::shape::Shape;
 use crate::stamps;
-use crate::threads::{Rates, Setting};
 
 /// What is measured.
 #[derive(Clone, Copy, Debug, PartialEq, Eq, PartialOrd, Ord)]
@@ -114,31 +116,6 @@ pub fn heading_of_stamps() -> String {
     heading_front() + &format!("{:>9}{:>12}{:>12}", "resent", "ours", "ours/resent")
 }
 
-/// A row of views a second by threads, and the line above these rows.
-pub fn line_of_threads(setting: Setting, rates: [Rates; 2]) -> String {
-    let Setting { readers, writer } = setting;
-    let [ours, lmdb] = rates;
-    let updates = |rates: Rates| match writer {
-        true => shown(rates.updates),
-        false => "-".into(),
-    };
-    format!(
-        "{readers:<21}{:>13}{:>13}{:>10}{:>15}{:>15}",
-        shown(ours.views),
-        shown(lmdb.views),
-        shown_ratio(ours.views / lmdb.views),
-        updates(ours),
-        updates(lmdb),
-    )
-}
-
-pub fn heading_of_threads() -> String {
-    let columns = ("readers", "ours", "LMDB", "o/LMDB");
-    let (ours, lmdb) = ("ours updates/s", "LMDB updates/s");
-    let (readers, views, others, ratio) = columns;
-    format!("{readers:<21}{views:>13}{others:>13}{ratio:>10}{ours:>15}{lmdb:>15}")
-}
-
 /// The line above the rows.
 pub fn heading() -> String {
     let mut line = heading_front();
@@ -153,7 +130,7 @@ pub fn heading() -> String {
 }
 
 /// A figure: one decimal below 100, whole above.
-fn shown(figure: f64) -> String {
+pub fn shown(figure: f64) -> String {
     if figure < 100.0 {
         format!("{figure:.1}")
     } else {

@@ -3,7 +3,10 @@
 use crate::grouped::grouped;
 use crate::measure::{LineTimes, ARC, LMDB, MEMCPY};
 use crate::shape::Shape;
-use crate::table::{shown_ratio, Row, What};
+use crate::table::disk::milliseconds;
+use crate::table::{shown_ratio, threads as thread_table, Row, What};
+use crate::threads;
+use crate::waits::Waits;
 
 /// Where the targets are set: 4,096 pages of 4,096 bytes, 100 updates standing; some with more.
 pub const SHAPE: Shape = Shape {
@@ -29,6 +32,9 @@ const TARGETS: [(What, usize, usize, f64); 10] = [
 /// VIEW on one of 16 lines may be at most so many times VIEW in a store with one.
 const VIEW_ON_LINES: f64 = 1.5;
 
+/// No call may take longer than so many milliseconds while the largest store is saved.
+const WAIT: f64 = 5.0;
+
 /// A line a target: what was asked, what was measured, and whether it was met.
 pub fn lines(rows: &[Row], on_lines: &[(What, Shape, LineTimes)]) -> Vec<String> {
     let mut lines = Vec::new();
@@ -51,11 +57,36 @@ pub fn lines(rows: &[Row], on_lines: &[(What, Shape, LineTimes)]) -> Vec<String>
 }
 
 fn line(what: What, updates: usize, other: &str, most: f64, measured: f64) -> String {
-    format!(
-        "{:<21}{:>7}  {other:<17}at most {most:<6}{:>8}  {}",
-        what.name(),
-        grouped(updates),
-        shown_ratio(measured),
-        if measured <= most { "met" } else { "missed" },
-    )
+    let what = format!("{:<21}{:>7}", what.name(), grouped(updates));
+    of(&what, other, most, measured)
+}
+
+/// Readers by filled snapshots are not behind LMDB's.
+pub fn of_threads(rows: &[threads::Row]) -> Vec<String> {
+    let line = |(setting, rates): &threads::Row| {
+        let measured = rates[threads::LMDB].views / rates[threads::FILLED].views;
+        let what = format!("readers, writer: {}", thread_table::front(*setting));
+        of(&what, "LMDB / filled", 1.0, measured)
+    };
+    rows.iter().map(line).collect()
+}
+
+/// No call waits for a save.
+pub fn of_waits(waits: &Waits) -> Vec<String> {
+    let line = |longest: &crate::waits::Longest| {
+        let most = longest.beside_its_save().iter().map(milliseconds);
+        of(
+            longest.call,
+            "ms, beside a save",
+            WAIT,
+            most.fold(0.0, f64::max),
+        )
+    };
+    waits.calls.iter().map(line).collect()
+}
+
+fn of(what: &str, other: &str, most: f64, measured: f64) -> String {
+    let met = if measured <= most { "met" } else { "missed" };
+    let measured = shown_ratio(measured);
+    format!("{what:<28}  {other:<19}at most {most:<6}{measured:>8}  {met}")
 }

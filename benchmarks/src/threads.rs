@@ -1,30 +1,53 @@
-//! Views a second of reader threads, with and without a writer: this store behind the host's `Shared`, and LMDB.
+//! Views a second of reader threads, without a writer and beside one: this store by the host's `Shared` and by its snapshots,
+//! and LMDB.
+//!
+//! All turns of a row have the same updates at the same places. A writer that makes them flat out would fill this store within some
+//! milliseconds: its register has room for 4,096 updates. So a turn flat out is just the updates that there is room for, at
+//! each store's own pace, and ends with the last of them; the store is then put back, which is not timed. Several such turns
+//! make one figure: the views of all of them in the time of all of them. LMDB, which never fills, has the same turns.
+//! Views count only while the turn's time runs: readers begin before it and end after it.
 
 use crate::contender::Contender;
 use crate::lmdb_pages::LmdbPages;
-use crate::opaque::opaque;
-use crate::shape::{Shape, Source, Update};
-use crate::sharing::{OursShared, Sharing};
-use std::sync::atomic::{AtomicBool, Ordering::Relaxed};
-use std::sync::Barrier;
-use std::thread;
-use std::time::{Duration, Instant};
+use crate::shape::{Shape, Source};
+use crate::sharing::{By, OursShared, Sharing};
+use crate::turn::{Counts, Work};
+use std::time::Duration;
 
 /// A reader views so many pages of one version, then of the newest.
 pub const PAGES_A_VERSION: usize = 16;
-/// A writer makes so many updates a second, of one page each.
+/// A paced writer makes so many updates a second, of one page each.
 pub const UPDATES_A_SECOND: u32 = 3_600;
 
-/// Each is measured for so long, so often, in turns. The register has room for the updates of one turn.
-const TURN: Duration = Duration::from_millis(250);
-pub const UPDATES_A_TURN: usize = 1_200;
+/// A turn without a writer, or with a paced one, takes so long.
+pub const TURN: Duration = Duration::from_millis(100);
+/// A turn flat out has so many updates, which with those that stand are most of what the register has room for; a paced one fewer.
+pub const UPDATES_A_TURN: usize = 3_900;
+/// So many turns flat out make one figure.
+const TURNS_FLAT_OUT: usize = 4;
 const ROUNDS: usize = 9;
+
+/// Readers by the store, by a snapshot and by a filled one; and LMDB.
+pub const CONTENDERS: usize = 4;
+pub const FILLED: usize = 2;
+pub const LMDB: usize = 3;
+
+/// By what the readers of the contenders before LMDB view.
+const BY: [By; LMDB] = [By::Store, By::Snapshot, By::Filled];
+
+/// What the writer does.
+#[derive(Clone, Copy, PartialEq, Eq)]
+pub enum Writer {
+    None,
+    Paced,
+    FlatOut,
+}
 
 /// How many threads read, and whether another writes.
 #[derive(Clone, Copy, PartialEq, Eq)]
 pub struct Setting {
     pub readers: usize,
-    pub writer: bool,
+    pub writer: Writer,
 }
 
 /// Views and updates a second.
@@ -34,120 +57,97 @@ pub struct Rates {
     pub updates: f64,
 }
 
-/// Each setting with the medians of this store and of LMDB.
-pub fn rates(shape: Shape) -> Vec<(Setting, [Rates; 2])> {
-    let source = Source::new(shape.page_size);
+/// A row: a setting, with the medians of all contenders.
+pub type Row = (Setting, [Rates; CONTENDERS]);
+
+/// The rows of all settings.
+pub fn rows(shape: Shape) -> Vec<Row> {
+    let mut field = Field::new(shape);
     let mut settings = Vec::new();
     for readers in [1, 2] {
-        for writer in [false, true] {
-            settings.push((Setting { readers, writer }, [Vec::new(), Vec::new()]));
+        for writer in [Writer::None, Writer::Paced, Writer::FlatOut] {
+            let figures = [(); CONTENDERS].map(|()| Vec::new());
+            settings.push((Setting { readers, writer }, figures));
         }
     }
-    let standing = shape.standing();
-    let mut lmdb = LmdbPages::new(&shape);
-    lmdb.updates(&standing, &source);
-    let mut ours = OursShared::new(&shape, &source);
-    check_alike(&ours, &mut lmdb, &shape);
     for round in 0..ROUNDS {
-        for (setting, rates) in &mut settings {
-            for place in 0..2 {
-                match (round + place) % 2 {
-                    0 => {
-                        ours.begin_anew();
-                        rates[0].push(turn(&ours, *setting, &shape, &source));
-                    }
-                    _ => rates[1].push(turn(&lmdb.shared(), *setting, &shape, &source)),
-                }
+        for (setting, figures) in &mut settings {
+            for place in 0..CONTENDERS {
+                let at = (round + place) % CONTENDERS;
+                figures[at].push(field.figure(at, *setting));
             }
         }
     }
-    let medians = |(setting, rates): (Setting, [Vec<Rates>; 2])| (setting, rates.map(median));
+    field.check();
+    let medians = |(setting, figures): (Setting, [Vec<Rates>; CONTENDERS])| {
+        let medians = figures.map(median);
+        (setting, medians)
+    };
     settings.into_iter().map(medians).collect()
 }
 
-/// Both give the same bytes of every page.
-fn check_alike(ours: &OursShared, lmdb: &mut LmdbPages, shape: &Shape) {
-    lmdb.before_reads();
-    for page in 0..shape.blob {
-        let right = lmdb.view(shape.updates, page);
-        let mut look = |bytes: &[u8]| assert_eq!(bytes, right, "page {page}");
-        ours.reader()(&[page], &mut look);
-    }
+/// The two stores, holding the same blob.
+struct Field {
+    ours: OursShared,
+    lmdb: LmdbPages,
+    work: Work,
 }
 
-/// One turn: threads that begin together, and read until the time is over.
-fn turn(store: &dyn Sharing, setting: Setting, shape: &Shape, source: &Source) -> Rates {
-    let Setting { readers, writer } = setting;
-    let (start, over) = (
-        Barrier::new(readers + usize::from(writer) + 1),
-        AtomicBool::new(false),
-    );
-    thread::scope(|threads| {
-        let (start, over) = (&start, &over);
-        let reading = |seed| {
-            let pages = shape.random_pages(seed, 512 * PAGES_A_VERSION);
-            threads.spawn(move || read(store, &pages, start, over))
+impl Field {
+    fn new(shape: Shape) -> Field {
+        let source = Source::new(shape.page_size);
+        let mut lmdb = LmdbPages::new(&shape);
+        lmdb.updates(&shape.standing(), &source);
+        let mut field = Field {
+            ours: OursShared::new(&shape, &source),
+            lmdb,
+            work: Work {
+                shape,
+                source,
+                updates: shape.random_updates(9, UPDATES_A_TURN, 1),
+            },
         };
-        let reading: Vec<_> = (0..readers as u64).map(|k| reading(6 + k)).collect();
-        let writing = writer.then(|| {
-            let updates = shape.random_updates(9, UPDATES_A_TURN, 1);
-            threads.spawn(move || write(store, &updates, source, start, over))
-        });
-        start.wait();
-        thread::sleep(TURN);
-        over.store(true, Relaxed);
-        let ended = "the thread ends well";
+        field.check();
+        field
+    }
+
+    /// One figure of a contender.
+    fn figure(&mut self, at: usize, setting: Setting) -> Rates {
+        let turns = match setting.writer {
+            Writer::FlatOut => TURNS_FLAT_OUT,
+            Writer::None | Writer::Paced => 1,
+        };
+        let mut counts = Counts::default();
+        for _ in 0..turns {
+            counts += self.turn(at, setting);
+        }
         Rates {
-            views: reading.into_iter().map(|r| r.join().expect(ended)).sum(),
-            updates: writing.map_or(0.0, |w| w.join().expect(ended)),
+            views: counts.views as f64 / counts.seconds,
+            updates: counts.updates as f64 / counts.seconds,
         }
-    })
-}
-
-/// Views a second of one reader.
-fn read(store: &dyn Sharing, pages: &[usize], start: &Barrier, over: &AtomicBool) -> f64 {
-    let mut view = store.reader();
-    let mut views = 0;
-    start.wait();
-    let begin = Instant::now();
-    for pages in pages.chunks_exact(PAGES_A_VERSION).cycle() {
-        if over.load(Relaxed) {
-            break;
-        }
-        view(pages, &mut |bytes| {
-            opaque(bytes);
-        });
-        views += pages.len();
     }
-    views as f64 / begin.elapsed().as_secs_f64()
-}
 
-/// Updates a second of the writer, which makes each as soon as it is due.
-fn write(
-    store: &dyn Sharing,
-    updates: &[Update],
-    source: &Source,
-    start: &Barrier,
-    over: &AtomicBool,
-) -> f64 {
-    start.wait();
-    let begin = Instant::now();
-    let mut made = 0;
-    for (k, update) in updates.iter().enumerate() {
-        let due = Duration::from_secs(1) * k as u32 / UPDATES_A_SECOND;
-        if let Some(early) = due.checked_sub(begin.elapsed()) {
-            thread::sleep(early);
+    fn turn(&mut self, at: usize, setting: Setting) -> Counts {
+        if at == LMDB {
+            return self.work.turn(&self.lmdb.shared(), setting);
         }
-        if over.load(Relaxed) {
-            break;
-        }
-        store.update(update.first, source.bytes(k, update.pages));
-        made += 1;
+        self.ours.begin_anew();
+        let ours = self.ours.read_by(BY[at]);
+        self.work.turn(&ours, setting)
     }
-    made as f64 / begin.elapsed().as_secs_f64()
+
+    /// Both give the same bytes: after the updates that stand, and after those of a turn.
+    fn check(&mut self) {
+        let pages = self.work.shape.blob;
+        let right = self.lmdb.shared().copied(pages);
+        for by in BY {
+            let is_right = self.ours.read_by(by).copied(pages) == right;
+            assert!(is_right, "both stores hold the same pages");
+        }
+    }
 }
 
-/// By views; the updates are those of the same turn.
+/// By views; the updates are those of the same turns.
 fn median(mut rates: Vec<Rates>) -> Rates {
     rates.sort_by(|one, other| one.views.total_cmp(&other.views));
     rates[rates.len() / 2]
