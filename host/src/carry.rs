@@ -10,7 +10,7 @@ use crate::log::Log;
 use crate::numbering::{Numbering, Numbers};
 use crate::shared::Handle;
 use crate::Minute;
-use std::collections::BTreeMap;
+use std::collections::{BTreeMap, BTreeSet};
 use std::ops::Range;
 
 /// An update has at most so many pages.
@@ -19,20 +19,22 @@ const MOST_OF_AN_UPDATE: u64 = 64;
 impl<L: Log> Handle<L> {
     /// Carries the store over into a new one with these limits, which takes its place for every handle. Kept are the versions named,
     /// the last published one of each line, those that lines begin from, all windows, and all updates in work. Gives the versions that
-    /// are kept, of each line in turn.
+    /// are kept, of each line in turn. [`carry_without`](Handle::carry_without) leaves out what writers that died had begun.
     ///
     /// Callers go on with their numbers. A version that is kept reads as it did, by the same number; one that is not is refused with 16; and
-    /// the next one has the next number. So no number ever means another version. Tickets in work go on too.
+    /// the next one has the next number. So no number ever means another version. Tickets in work go on too; those of published versions
+    /// are no more, and refused with 7.
     /// Lines keep their numbers, and all that have begun are carried, so that there are no more lines to begin than before.
     ///
     /// It needs no more updates, pages and nodes than the old store has used, and less the fewer versions are kept. Writers wait while it runs;
-    /// readers do not, and a filled [`Snapshot`](crate::Snapshot) goes on as it is.
+    /// readers do not, and a filled [`Snapshot`](crate::Snapshot) goes on as it is. The old store's pages stay in memory until the last snapshot
+    /// of it is dropped or advanced, which frees them.
     ///
     /// A page that has not changed since has for its stamp the last version kept that is not above the one asked for: a truck with an earlier
     /// version fetches it once more.
     ///
-    /// Refused, and nothing has changed: 3, 19; 1 or 2 by the limits; 11 where the page size is another; 16 or 20 where a version named
-    /// is not published; 5, 6 or 15 where the new store has too little room.
+    /// Refused, and nothing has changed: 3, 19; 1 or 2 by the new limits; 11 where their page size is another; 16 or 20 where a version named
+    /// is not published; 5, 6 or 15 where the new limits have too little room.
     ///
     /// ```
     /// use pit_host::{Error, Limits, Line, PageIndex, Shared, Store, Version};
@@ -56,13 +58,45 @@ impl<L: Log> Handle<L> {
         limits: Limits,
         versions: &[(Line, Version)],
     ) -> Result<Vec<(Line, Version)>, L::Failure> {
-        let _alone = self.core.saving();
+        self.carry_without(limits, versions, &[])
+    }
+
+    /// [`carry`](Handle::carry) without these tickets, which have no version: updates that their writers have begun and given up. The
+    /// pages and records that they took are not carried, and calls on them are then refused with 7. Refused besides, and nothing has
+    /// changed: 7 where there is no such ticket, 8 where it has a version, since later ones need that: it can be
+    /// [finished](Handle::finish).
+    ///
+    /// ```
+    /// use pit_host::{Error, Limits, Shared, Store};
+    /// use std::time::Duration;
+    /// # fn main() -> Result<(), Error> {
+    /// let shared = Shared::new(Store::format(Limits::new(16, 8, 16, 4))?);
+    /// let ticket = shared.begin(6)?;
+    /// shared.put(ticket, 0, &[1; 16])?; // and here its writer dies
+    /// assert_eq!(shared.room().pages, 2);
+    ///
+    /// let dead = shared.abandoned(Duration::ZERO); // in a running store after an hour, say
+    /// let dead: Vec<_> = dead.iter().filter(|open| open.version.is_none()).map(|open| open.ticket).collect();
+    /// shared.carry_without(shared.limits(), &[], &dead)?;
+    /// assert_eq!(shared.room().pages, 8);
+    /// assert_eq!(shared.put(ticket, 1, &[1; 16]), Err(Error::NoSuchTicket));
+    /// # Ok(())
+    /// # }
+    /// ```
+    pub fn carry_without(
+        &self,
+        limits: Limits,
+        versions: &[(Line, Version)],
+        given_up: &[Ticket],
+    ) -> Result<Vec<(Line, Version)>, L::Failure> {
+        let _alone = self.core.keeping();
         let turn = self.core.turn();
         self.log.ready()?;
         let (live, kept) = {
             let old = self.core.reading(); // no writer waits for it: none has a turn
             let mut carrying = Carrying::new(&old, limits)?;
             carrying.choose(versions)?;
+            carrying.give_up(given_up)?;
             carrying.make().map_err(|refusal| match refusal {
                 Error::RegisterFull | Error::PagesFull | Error::NodesFull => refusal,
                 _ => Error::Damaged, // what calls left, the calls accept again
@@ -87,13 +121,15 @@ struct Carrying<'a> {
     kept: Vec<BTreeMap<u64, u64>>,
     /// The tickets in work, and their numbers in the new store.
     tickets: BTreeMap<u64, u64>,
+    /// Those in work that are not carried.
+    given_up: BTreeSet<u64>,
 }
 
 impl<'a> Carrying<'a> {
     fn new(old: &'a Live, limits: Limits) -> Result<Carrying<'a>, Error> {
-        old.keeper.recent(Line(0))?; // row 3
+        old.keeper().recent(Line(0))?; // row 3
         let new = Store::format(limits)?;
-        let (state, register) = (old.keeper.state(), old.keeper.areas().parts().register);
+        let (state, register) = (old.keeper().state(), old.keeper().areas().parts().register);
         if limits.page_size != state.size {
             return Err(Error::PageLength);
         }
@@ -110,6 +146,7 @@ impl<'a> Carrying<'a> {
             updates: updates.collect(),
             kept: vec![BTreeMap::new(); state.begun as usize],
             tickets: BTreeMap::new(),
+            given_up: BTreeSet::new(),
         })
     }
 
@@ -119,7 +156,7 @@ impl<'a> Carrying<'a> {
 
     /// The line on which a version was made.
     fn owner(&self, mut line: u64, version: u64) -> u64 {
-        let state = self.old.keeper.state();
+        let state = self.old.keeper().state();
         while line > 0 && version <= state.line(Line(line)).start {
             line = state.line(Line(line)).source; // below it
         }
@@ -137,15 +174,30 @@ impl<'a> Carrying<'a> {
     fn choose(&mut self, versions: &[(Line, Version)]) -> Result<(), Error> {
         for (line, version) in versions {
             let own = self.old.numbers.own_version(*line, *version);
-            self.old.keeper.size(*line, Version(own))?;
+            self.old.keeper().size(*line, Version(own))?;
             self.keep(line.0, own);
         }
         for line in self.lines() {
-            let state = self.old.keeper.state().line(Line(line));
+            let state = self.old.keeper().state().line(Line(line));
             self.keep(line, state.published);
             if line > 0 {
                 self.keep(state.source, state.start);
             }
+        }
+        Ok(())
+    }
+
+    /// Which tickets are not carried.
+    fn give_up(&mut self, tickets: &[Ticket]) -> Result<(), Error> {
+        for ticket in tickets {
+            let own = self.old.numbers.own_ticket(*ticket);
+            let given = (1..=self.old.keeper().state().tickets).contains(&own);
+            let record = self.register.get(own.wrapping_sub(1) as usize);
+            match record.filter(|_| given) {
+                None => return Err(Error::NoSuchTicket),
+                Some(record) if record.update > 0 => return Err(Error::OutOfTurn),
+                Some(_) => self.given_up.insert(own),
+            };
         }
         Ok(())
     }
@@ -169,7 +221,7 @@ impl<'a> Carrying<'a> {
     /// Makes the versions that are kept, line by line.
     fn versions(&mut self) -> Result<(), Error> {
         for line in self.lines() {
-            let state = self.old.keeper.state().line(Line(line));
+            let state = self.old.keeper().state().line(Line(line));
             if line > 0 {
                 let start = self.new_number(state.source, state.start)?;
                 self.new.branch(Line(state.source), Version(start))?;
@@ -183,7 +235,7 @@ impl<'a> Carrying<'a> {
             }
         }
         self.new
-            .set_windows(self.old.keeper.windows().to_string())?;
+            .set_windows(self.old.keeper().windows().to_string())?;
         Ok(())
     }
 
@@ -207,7 +259,7 @@ impl<'a> Carrying<'a> {
         for (i, page) in (0..).zip(pages.clone()) {
             let bytes = self
                 .old
-                .keeper
+                .keeper()
                 .view(Line(line), Version(version), PageIndex(page))?;
             self.new.put(ticket, i, bytes)?;
         }
@@ -222,7 +274,7 @@ impl<'a> Carrying<'a> {
 
     /// Takes over the updates in work: those without a version, and those whose version is not published.
     fn in_work(&mut self) -> Result<(), Error> {
-        let state = self.old.keeper.state();
+        let state = self.old.keeper().state();
         let mut assigned = BTreeMap::new();
         for own in 1..=state.tickets {
             let record = self.register.get(own as usize - 1).ok_or(Error::Damaged)?;
@@ -235,7 +287,9 @@ impl<'a> Carrying<'a> {
                 }
                 assigned.insert(record.update, (own, update));
             }
-            self.ticket(own, record)?;
+            if !self.given_up.contains(&own) {
+                self.ticket(own, record)?;
+            }
         }
         for (own, update) in assigned.into_values() {
             let ticket = Ticket(self.tickets[&own]);
@@ -272,10 +326,11 @@ impl<'a> Carrying<'a> {
         }
         let tickets = self.tickets.iter();
         let tickets = tickets.map(|(own, new)| (numbers.ticket(*own).0, *new));
-        let last = numbers.last_ticket(self.old.keeper.state().tickets);
+        let last = numbers.last_ticket(self.old.keeper().state().tickets);
         let tickets = Numbers::new(tickets.collect(), self.new.state().tickets, last);
         let tickets = tickets.ok_or(Error::Damaged)?;
-        let mut live = Live::new(self.new, Numbering::carried(tickets, lines));
+        let numbers = Numbering::carried(tickets, lines, self.old.mix(), &self.new.state());
+        let mut live = Live::new(self.new, numbers);
         for (own, new) in &self.tickets {
             live.set_touched(*new, self.old.touched(*own));
         }
@@ -284,7 +339,7 @@ impl<'a> Carrying<'a> {
 
     /// The versions of a line that are kept, those that it shares included, up to its last published one: as callers count, and in the new store.
     fn numbers_of(&self, line: u64) -> Result<Vec<(u64, u64)>, Error> {
-        let state = self.old.keeper.state();
+        let state = self.old.keeper().state();
         let (mut at, mut upto) = (line, state.line(Line(line)).published);
         let mut kept = Vec::new();
         loop {

@@ -19,10 +19,10 @@ use std::thread::{self, JoinHandle};
 /// is not lost with the process; what a power cut may take, [`SyncAt`](crate::SyncAt) says.
 ///
 /// All calls are those of a [`Handle`]. A call that changes the store returns when its entry is in the journal. Readers see a version only
-/// after its PUBLISH is kept, so what they have seen is never gone after a crash.
+/// after its PUBLISH is kept: what they have seen is not gone after a crash, nor, but by [`SyncAt::Every`](crate::SyncAt), after a power cut.
 ///
-/// The journal is followed by another, and the store saved anew, when it has reached the size in the [`Options`]; nobody waits for
-/// that. One process at a time has a folder open, until it ends or drops the last handle.
+/// The journal is followed by another, and the store saved anew, when it has reached the size in the [`Options`]. One process at a time
+/// has a folder open, until it ends or drops the last handle.
 ///
 /// ```
 /// use pit_host::{Durable, Limits, Line, Options, PageIndex, Store, Version};
@@ -124,14 +124,17 @@ impl Durable {
         })
     }
 
-    /// Saves the store as it is at one moment of this call, and begins a new journal from there. It holds nobody up, as
-    /// [`save`](Handle::save). At every byte of it the folder opens to the same store. Gives the last published version of line 0 in it.
+    /// Saves the store as it is at one moment of this call, and begins a new journal from there. Readers do not wait for it, and writers not for
+    /// the saving: only for two short syncs, of the end of the one journal and the beginning of the next. At every byte of it the folder opens
+    /// to the same store. Gives the last published version of line 0 in it.
     pub fn checkpoint(&self) -> Result<Version, Failure> {
-        Ok(checkpoint(&self.core, &self.log.folder)?)
+        let version = checkpoint(&self.core, &self.log.folder)?;
+        self.log.turn.succeeded();
+        Ok(version)
     }
 
-    /// Why the last checkpoint that was begun by itself failed; none where it did not. The journal goes on then, and another is begun
-    /// when it has grown by its size once more.
+    /// Why the last checkpoint that was begun by itself failed; none where it did not, or another one has succeeded since. The journal
+    /// goes on then, and another is begun when it has grown by its size once more.
     pub fn checkpoint_failure(&self) -> Option<String> {
         self.log.turn.hold().failure.clone()
     }
@@ -173,12 +176,20 @@ impl Log for InFolder {
         self.folder.journal().take(call)
     }
 
+    fn last(&self) -> u64 {
+        self.folder.journal().last()
+    }
+
     fn keep(&self, number: u64, relied_on: bool) -> Result<(), Failure> {
         self.folder.journal().keep(number, relied_on)?;
         if self.folder.is_due() {
             self.turn.ask();
         }
         Ok(())
+    }
+
+    fn settle(&self) -> Result<(), FileError> {
+        self.folder.journal().sync()
     }
 
     fn replace(&self, moment: &Moment) -> Result<(), Failure> {
@@ -193,6 +204,7 @@ impl Log for InFolder {
             return Err(error.into());
         }
         let _ = self.folder.end_generation(); // what is left does no harm
+        self.turn.succeeded();
         Ok(())
     }
 }
@@ -210,7 +222,7 @@ impl Drop for InFolder {
 
 /// One checkpoint: everything up to one moment in the saved store, everything after it in the next journal.
 fn checkpoint(core: &Core, folder: &Folder) -> Result<Version, FileError> {
-    let _alone = core.saving();
+    let _alone = core.keeping();
     folder.begin_generation()?;
     let moment = {
         let _turn = core.turn();
@@ -250,6 +262,18 @@ impl Checkpoints {
         self.asked.notify_all();
     }
 
+    /// One has failed, when the journal had this length.
+    fn failed(&self, error: &FileError, length: u64) {
+        let mut asked = self.hold();
+        (asked.failure, asked.failed_at) = (Some(error.to_string()), length);
+    }
+
+    /// The store is saved, and nothing has failed since.
+    fn succeeded(&self) {
+        let mut asked = self.hold();
+        (asked.failure, asked.failed_at) = (None, 0);
+    }
+
     /// Waits until one is due; none is where the folder is being closed.
     fn wait(&self) -> bool {
         let mut asked = self.hold();
@@ -275,10 +299,10 @@ fn checkpointer(
             if !folder.is_due_after(since) {
                 continue;
             }
-            let result = checkpoint(&core, &folder);
-            let mut asked = turn.hold();
-            asked.failed_at = result.as_ref().map_or(folder.journal().length(), |_| 0);
-            asked.failure = result.err().map(|error| error.to_string());
+            match checkpoint(&core, &folder) {
+                Ok(_) => turn.succeeded(),
+                Err(error) => turn.failed(&error, folder.journal().length()),
+            }
         }
     })
 }

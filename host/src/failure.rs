@@ -38,7 +38,7 @@ use std::fmt;
 /// # }
 /// ```
 ///
-/// Its words are those of the error that it holds, which is also its source.
+/// Its words are those of the error that it holds, and so is its source.
 #[derive(Debug)]
 #[non_exhaustive]
 pub enum Failure {
@@ -93,7 +93,7 @@ impl fmt::Display for Failure {
 
 impl std::error::Error for Failure {
     fn source(&self) -> Option<&(dyn std::error::Error + 'static)> {
-        Some(self.held())
+        self.held().source() // what it holds has said its words already
     }
 }
 
@@ -126,13 +126,13 @@ mod tests {
     fn a_failure_has_the_words_of_what_it_holds() {
         for (failure, refusal) in failures() {
             assert_eq!(failure.error(), refusal);
-            let source = failure.source().expect("what it holds");
-            assert_eq!(failure.to_string(), source.to_string());
+            assert_eq!(failure.to_string(), failure.held().to_string());
+            assert!(failure.source().is_none());
         }
-        let begun = Failure::from(Error::UpdateSize);
-        assert_eq!(begun.to_string(), Error::UpdateSize.to_string());
-        let held = begun.source().and_then(|held| held.downcast_ref::<Error>());
-        assert_eq!(held, Some(&Error::UpdateSize));
+        let missing = std::io::Error::from(std::io::ErrorKind::NotFound);
+        let words = missing.to_string();
+        let missing = Failure::from(FileError::Io(missing));
+        assert_eq!(missing.source().map(|e| e.to_string()), Some(words));
     }
 
     /// It can be handed to another thread, and kept there: as every error of this crate.

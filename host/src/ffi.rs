@@ -467,7 +467,8 @@ pub fn node_count(f: u64, n: u64, size: u64) -> u64 {
     unsafe { pit_node_count(f, n, size) }
 }
 
-/// Areas lent to one call that changes them, as pointers: of a store that threads share, readers may hold pages that are put.
+/// Areas lent to one call that changes them, as pointers. Nobody else writes them meanwhile, or reads what the call writes; of a store that
+/// threads share, readers may hold pages that are put, which no call writes.
 pub struct RawAreas<'a> {
     pages: (*mut u8, usize),
     nodes: (*mut u32, usize),
@@ -478,7 +479,8 @@ pub struct RawAreas<'a> {
 impl<'a> RawAreas<'a> {
     /// # Safety
     ///
-    /// `pages` are so many bytes for as long as `'a`, and nobody writes them meanwhile, nor reads a page that PUT is asked to write.
+    /// `pages` are so many bytes for as long as `'a`, and nobody writes them meanwhile, nor reads a page that PUT is asked to write; the
+    /// bytes that it is given are no part of them.
     #[inline]
     pub(crate) unsafe fn new(
         pages: *mut u8,
@@ -530,42 +532,42 @@ macro_rules! call {
 /// FORMAT.
 pub fn format(limits: [u64; 4], areas: RawAreas<'_>) -> FormatReply {
     let [size, pages, nodes, updates] = limits;
-    // SAFETY: the areas are lent to the call alone; total for any numbers and lengths.
+    // SAFETY: the areas are as `RawAreas` says; total for any numbers and lengths.
     unsafe { call!(pit_format(size, pages, nodes, updates; lent areas; )) }
 }
 
 /// BEGIN.
 #[inline]
 pub fn begin(s: &State, areas: RawAreas<'_>, n: u64) -> BeginReply {
-    // SAFETY: the areas are lent to the call alone; total for any store, areas and number.
+    // SAFETY: the areas are as `RawAreas` says; total for any store, areas and number.
     unsafe { call!(pit_begin(*s; lent areas; n)) }
 }
 
 /// PUT.
 #[inline]
 pub fn put(s: &State, areas: RawAreas<'_>, ticket: u64, i: u64, bytes: &[u8]) -> u64 {
-    // SAFETY: the areas are lent to the call alone, so `bytes` is no part of them; total for any arguments.
+    // SAFETY: the areas are as `RawAreas` says, and whoever lends them sees to it that `bytes` is no part of them; total for any arguments.
     unsafe { call!(pit_put(*s; lent areas; ticket, i, bytes.as_ptr(), bytes.len())) }
 }
 
 /// ASSIGN as a write at page `f`.
 #[inline]
 pub fn write(s: &State, areas: RawAreas<'_>, line: u64, ticket: u64, f: u64) -> AssignReply {
-    // SAFETY: the areas are lent to the call alone; total for any store, areas and numbers.
+    // SAFETY: the areas are as `RawAreas` says; total for any store, areas and numbers.
     unsafe { call!(pit_write(*s; lent areas; line, ticket, f)) }
 }
 
 /// ASSIGN as an append.
 #[inline]
 pub fn append(s: &State, areas: RawAreas<'_>, line: u64, ticket: u64) -> AssignReply {
-    // SAFETY: the areas are lent to the call alone; total for any store, areas and numbers.
+    // SAFETY: the areas are as `RawAreas` says; total for any store, areas and numbers.
     unsafe { call!(pit_append(*s; lent areas; line, ticket)) }
 }
 
 /// WEAVE.
 #[inline]
 pub fn weave(s: &State, areas: RawAreas<'_>, ticket: u64) -> WeaveReply {
-    // SAFETY: the areas are lent to the call alone; total for any store, areas and number.
+    // SAFETY: the areas are as `RawAreas` says; total for any store, areas and number.
     unsafe { call!(pit_weave(*s; lent areas; ticket)) }
 }
 

@@ -40,8 +40,8 @@ pub(crate) use taken::{put_pages, Taken};
 ///     match error {
 ///         Io(_) | Foreign | Truncated { .. } | TooLong { .. } | Checksum => false,
 ///         Form(_) | Limits(_) | AreaLengths | Counters | Windows | Numbers | CarriedOver => true,
-///         Journal(_) | JournalFailed { .. } | NoJournal(_) | NoStore | StoreThere => false,
-///         InUse { .. } | Saved { .. } => false,
+///         Journal(_) | JournalIo { .. } | JournalFailed { .. } | NoJournal(_) => false,
+///         Folder(_) | FolderMoved | NoStore | StoreThere | InUse { .. } | Saved { .. } => false,
 ///     }
 /// }
 /// ```
@@ -85,6 +85,13 @@ pub enum FileError {
     CarriedOver,
     /// A journal is damaged, or does not fit the saved store; with what is wrong, and where.
     Journal(JournalError),
+    /// The system could not open, read, write or sync the journal of a folder that is being opened.
+    JournalIo {
+        /// The generation: the number in the file's name.
+        generation: u64,
+        /// Why not.
+        error: io::Error,
+    },
     /// A journal could not be written or synced: what returned before that is kept, and no call that changes the store is
     /// made any more. To go on, the folder is opened anew.
     JournalFailed {
@@ -95,9 +102,13 @@ pub enum FileError {
     },
     /// The journal of this generation is not in the folder, and the store cannot be made without it.
     NoJournal(u64),
+    /// The system could not open the folder, or list what is in it.
+    Folder(io::Error),
+    /// The folder is no longer where it was opened, so that nothing more is saved there.
+    FolderMoved,
     /// No saved store is in the folder.
     NoStore,
-    /// A store is in the folder already.
+    /// A store is in the folder already, or a journal with entries.
     StoreThere,
     /// Another process has the folder open, or this one has.
     InUse {
@@ -148,8 +159,13 @@ impl fmt::Display for FileError {
                 )
             }
             NoJournal(generation) => write!(f, "journal-{generation} is not in the folder"),
+            JournalIo { generation, error } => {
+                write!(f, "journal-{generation} could not be opened, read or written: {error}")
+            }
+            Folder(e) => write!(f, "the folder could not be opened or read: {e}"),
+            FolderMoved => f.write_str("the folder is no longer where it was opened"),
             NoStore => f.write_str("no saved store is in the folder"),
-            StoreThere => f.write_str("a store is in the folder already"),
+            StoreThere => f.write_str("a store, or a journal with entries, is in the folder already"),
             InUse { process: Some(id) } => write!(f, "the folder is open already, by process {id}"),
             InUse { process: None } => f.write_str("the folder is open already"),
             Saved { generation, error } => write!(f, "store-{generation}: {error}"),
@@ -160,7 +176,8 @@ impl fmt::Display for FileError {
 impl std::error::Error for FileError {
     fn source(&self) -> Option<&(dyn std::error::Error + 'static)> {
         match self {
-            FileError::Io(e) => Some(e),
+            FileError::Io(e) | FileError::Folder(e) => Some(e),
+            FileError::JournalIo { error, .. } => Some(error),
             FileError::Limits(e) => Some(e),
             FileError::Saved { error, .. } => error.source(),
             _ => None,
@@ -212,7 +229,7 @@ impl<A: Lend> Keeper<A> {
     /// | 224 to 351 | the windows, 32 places as in [`Windows`](crate::Windows), two numbers of 16 bits each, lowest byte first |
     /// | 352 to 383 | lengths in bytes of the four parts from 392 on |
     /// | 384 to 391 | checksum, CRC-64/XZ, over bytes 0 to 383 and all bytes from 392 on |
-    /// | from 392 | the pages taken, zeros where one is not put; the node places taken, their numbers of 32 bits, lowest byte first; the records of the tickets given, eighteen numbers a record, in the order of [`Record`](crate::Record)'s fields; and a last part: nothing, or the salt of the journal that goes on after the store in a folder, 0 where none does, and then how callers' numbers stand to the store's own, nothing where they are equal |
+    /// | from 392 | the pages taken, zeros where one is not put; the node places taken, their numbers of 32 bits, lowest byte first; the records of the tickets given, eighteen numbers a record, in the order of [`Record`](crate::Record)'s fields; and a last part: nothing, or the salt of the journal that goes on after the store in a folder, 0 where none does, and then how callers' numbers stand to the store's own, and what their updates took; nothing where it was never carried over |
     ///
     /// ```
     /// use pit_host::{Limits, Store, Version};

@@ -8,10 +8,11 @@
 //!
 //! A checkpoint begins generation G+1. What it does, in this order:
 //!
-//! 1. It makes the file journal-(G+1), empty, and forces its name to the disk.
+//! 1. It syncs journal-G, makes the file journal-(G+1), empty, and forces its name to the disk.
 //! 2. At one moment, under the store's lock, it copies the store, and says that all later entries are the next journal's.
 //! 3. Whoever writes next, or [`Folder::settle`], writes the entries before that moment to journal-G and syncs it; then writes
-//!    the header of journal-(G+1) and syncs that; and only then writes entries behind it.
+//!    the header of journal-(G+1) and syncs that; and only then writes entries behind it. Writers wait for these two syncs, of
+//!    which the first has little left to do.
 //! 4. After `settle`, the copy is saved: written beside, synced, renamed to store-(G+1), and the name forced to the disk.
 //! 5. All files of earlier generations are removed.
 //!
@@ -78,7 +79,7 @@ pub struct Folder {
     journal: Journal,
     generations: Mutex<Generations>,
     /// Closed last.
-    _lock: File,
+    lock: File,
 }
 
 /// Which saved store a folder is opened from, and which journal is written.
@@ -114,7 +115,8 @@ impl Folder {
         options: Options,
         save: impl FnOnce(&SavePlace) -> Result<Version, FileError>,
     ) -> Result<Folder, FileError> {
-        files::make_folder(path)?;
+        files::make_folder(path).map_err(FileError::Folder)?;
+        let path = &files::found(path)?;
         let lock = files::lock(path)?;
         clear_for_new(path)?;
 
@@ -157,7 +159,7 @@ impl Folder {
             options,
             journal,
             generations: Mutex::new(generations),
-            _lock: lock,
+            lock,
         }
     }
 
@@ -168,13 +170,23 @@ impl Folder {
 
     /// Makes the next generation's journal ready, with no lock of the store held. One thread at a time makes a checkpoint.
     pub(crate) fn begin_generation(&self) -> Result<(), FileError> {
+        self.check_place()?;
         self.journal.settle()?;
+        self.journal.sync()?; // next to nothing is left to be synced while writers wait
         let mut generations = self.generations();
         if generations.next.is_none() {
             let next = files::new_journal(&self.path, generations.now.journal + 1)?;
             generations.next = Some(next);
         }
         Ok(())
+    }
+
+    /// Checks that the folder is still where it was: what is there now may be another's.
+    fn check_place(&self) -> Result<(), FileError> {
+        match files::is_locked_by(&self.path, &self.lock)? {
+            true => Ok(()),
+            false => Err(FileError::FolderMoved),
+        }
     }
 
     /// Called under the store's lock, at the moment whose store is saved: all later entries are the next generation's. Gives
@@ -235,6 +247,7 @@ impl Folder {
     /// Called when the store of the last switch is saved, in the place that [`settle`](Folder::settle) gave: removes what was
     /// needed only without it.
     pub(crate) fn end_generation(&self) -> Result<(), FileError> {
+        self.check_place()?;
         let place = {
             let mut generations = self.generations();
             let journal = generations.now.journal;
@@ -245,7 +258,7 @@ impl Folder {
             generations.now.store = journal;
             generations.now
         };
-        Ok(files::clear(&self.path, place)?)
+        files::clear(&self.path, place.store..=place.journal)
     }
 
     /// The generation whose journal is written.

@@ -57,7 +57,7 @@ pub struct Inspection {
 /// ```
 pub fn inspect(folder: impl AsRef<Path>) -> Result<Inspection, Failure> {
     let path = folder.as_ref();
-    let found = steady(|| Look::at(path))?;
+    let found = steady(|| Look::beside(path))?;
     Ok(Inspection {
         state: found.store.state(),
         found: found.opened(),

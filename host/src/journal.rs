@@ -17,7 +17,7 @@
 //!
 //! Behind the entries stand bytes that were written ahead, the salt's eight bytes inverted again and again; a journal that is closed has none.
 //!
-//! After each sync an entry of kind 0 is written. It has the number of the last call that was synced, and no call. It tells
+//! After each sync, but that which ends a journal, an entry of kind 0 is written. It has the number of the last call that was synced, and no call. It tells
 //! damage in what was once on the disk, which is an error, from what a power cut leaves of writes that were not yet synced:
 //! any part of them, so that whole entries may follow one that is not.
 

@@ -1,13 +1,16 @@
 //! The store that a handle's threads share, as it stands behind the lock.
 
 use crate::areas::{Areas, Lend};
-use crate::counters::{Line, Ticket, Version};
+use crate::counters::{Line, Minute, PageIndex, Ticket, Version};
 use crate::error::Error;
 use crate::ffi::{Record, State, Windows};
 use crate::file::{last_part, put_pages, FileError, SavePlace, Taken};
-use crate::keeper::{Keeper, Store};
+use crate::keeper::{Assigned, Keeper, Node, Published, Store};
 use crate::memory::{LiveAreas, PageArea, PageWriter};
 use crate::numbering::Numbering;
+use crate::room::Mix;
+use crate::windows::WindowsError;
+use std::borrow::Cow;
 use std::path::Path;
 use std::sync::atomic::{AtomicBool, AtomicU64, Ordering};
 use std::sync::Arc;
@@ -103,7 +106,8 @@ fn change_of(update: u64, register: &[Record]) -> Option<(usize, Change)> {
 
 /// A store that threads share, with its callers' numbers.
 pub struct Live {
-    pub keeper: Keeper<LiveAreas>,
+    /// Changed here alone: PUT may write only what nobody reads.
+    keeper: Keeper<LiveAreas>,
     pub numbers: Numbering,
     pub era: Arc<Era>,
     /// When a call was last made on each ticket, by the store's own numbers.
@@ -134,6 +138,17 @@ impl Live {
         }
     }
 
+    /// What callers' updates took together.
+    pub fn mix(&self) -> Mix {
+        self.numbers.mix(&self.keeper.state())
+    }
+
+    /// The store, to be read.
+    #[inline]
+    pub fn keeper(&self) -> &Keeper<LiveAreas> {
+        &self.keeper
+    }
+
     /// Another store takes this one's place.
     pub fn end(&mut self) {
         self.era.ended.store(true, Ordering::Release);
@@ -161,9 +176,20 @@ impl Live {
         Some((record.number.checked_add(i)?, is_noted))
     }
 
-    /// PUT, by the store's own number of the ticket. A page that is put is never written again, also where a register that no run of
-    /// calls left says that it may be.
+    /// BEGIN. Here and in the calls below, tickets and versions are the store's own numbers.
+    pub fn begin(&mut self, n: u64) -> Result<u64, Error> {
+        let ticket = self.keeper.begin(n)?.0;
+        self.touch(ticket);
+        Ok(ticket)
+    }
+
+    /// PUT. A page that is put is never written again, also where a register that no run of calls left says that it may be. Bytes
+    /// that lie in this store's own pages, as a snapshot gives them, are copied first: the call is lent all pages.
     pub fn put(&mut self, ticket: u64, i: u64, bytes: &[u8]) -> Result<(), Error> {
+        let bytes = match self.era.pages.holds(bytes) {
+            true => Cow::Owned(bytes.to_vec()),
+            false => Cow::Borrowed(bytes),
+        };
         let page = self.page_of(ticket, i);
         // bytes of another length are refused, and nothing is written
         let is_page = bytes.len() as u64 == self.keeper.state().size;
@@ -179,21 +205,57 @@ impl Live {
                     });
             }
         }
-        self.keeper.put(Ticket(ticket), i, bytes)?;
+        self.keeper.put(Ticket(ticket), i, &bytes)?;
         if let Some((number, _)) = page {
             self.keeper.areas_mut().set_put(number);
         }
+        self.touch(ticket);
         Ok(())
     }
 
-    /// Notes what the last update that got a version changes.
-    pub fn note_change(&mut self) {
+    /// ASSIGN: as a write, or where it says no page as an append.
+    pub fn assign(
+        &mut self,
+        line: Line,
+        ticket: u64,
+        first: Option<PageIndex>,
+    ) -> Result<Assigned, Error> {
+        let assigned = match first {
+            Some(first) => self.keeper.write(line, Ticket(ticket), first),
+            None => self.keeper.append(line, Ticket(ticket)),
+        }?;
         let update = self.keeper.state().assigned;
         self.era.note(update, self.keeper.areas().parts().register);
+        self.touch(ticket);
+        Ok(assigned)
     }
 
-    /// Notes that a call was just made on a ticket, by the store's own number.
-    pub fn touch(&mut self, ticket: u64) {
+    /// WEAVE.
+    pub fn weave(&mut self, ticket: u64) -> Result<Node, Error> {
+        let node = self.keeper.weave(Ticket(ticket))?;
+        self.touch(ticket);
+        Ok(node)
+    }
+
+    /// PUBLISH.
+    pub fn publish(&mut self, line: Line, minute: Minute) -> Result<Published, Error> {
+        self.keeper.publish(line, minute)
+    }
+
+    /// BRANCH.
+    pub fn branch(&mut self, line: Line, version: Version) -> Result<Line, Error> {
+        let branched = self.keeper.branch(line, version)?;
+        self.numbers.complete(&self.keeper.state());
+        Ok(branched)
+    }
+
+    /// SETWINDOWS.
+    pub fn set_windows(&mut self, text: &[u8]) -> Result<(), WindowsError> {
+        self.keeper.set_windows(text)
+    }
+
+    /// Notes that a call was just made on a ticket.
+    fn touch(&mut self, ticket: u64) {
         self.set_touched(ticket, Some(Instant::now()));
     }
 

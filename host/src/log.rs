@@ -1,6 +1,7 @@
 //! Where the changes of a store that threads share are kept.
 
 use crate::error::Error;
+use crate::file::FileError;
 use crate::journal::Call;
 use crate::live::Moment;
 use crate::windows::WindowsError;
@@ -26,10 +27,18 @@ pub trait Log: Send + Sync + 'static {
     #[doc(hidden)]
     fn take(&self, call: &Call<'_>) -> u64;
 
+    /// The number of the last entry taken; asked under the store's lock.
+    #[doc(hidden)]
+    fn last(&self) -> u64;
+
     /// Returns when all entries up to this number are kept, as far as the policy asks for it; `relied_on` where readers see something
     /// new by it, or windows are set. Called without the store's lock. After an error no more entries are taken.
     #[doc(hidden)]
     fn keep(&self, number: u64, relied_on: bool) -> Result<(), Self::Failure>;
+
+    /// Returns when all entries that were taken are kept for good, whatever the policy. Called without the store's lock.
+    #[doc(hidden)]
+    fn settle(&self) -> Result<(), FileError>;
 
     /// Returns when this store is kept in place of all that was, while no call is made.
     #[doc(hidden)]
@@ -57,7 +66,16 @@ impl Log for Memory {
     }
 
     #[inline]
+    fn last(&self) -> u64 {
+        0
+    }
+
+    #[inline]
     fn keep(&self, _: u64, _: bool) -> Result<(), Error> {
+        Ok(())
+    }
+
+    fn settle(&self) -> Result<(), FileError> {
         Ok(())
     }
 

@@ -40,6 +40,30 @@ impl PageArea {
         Some(unsafe { std::slice::from_raw_parts(cells.as_ptr().cast(), cells.len()) })
     }
 
+    /// Fills a buffer with the bytes of these pages, one after the other, from a byte of the first on. Gives none where one of them is not
+    /// put, or they are too few.
+    pub fn read(
+        &self,
+        numbers: impl IntoIterator<Item = u64>,
+        mut skip: usize,
+        buffer: &mut [u8],
+    ) -> Option<()> {
+        let (mut numbers, mut rest) = (numbers.into_iter(), buffer);
+        while !rest.is_empty() {
+            let from = self.page(numbers.next()?)?.get(skip..)?;
+            let (front, after) = rest.split_at_mut(from.len().min(rest.len()));
+            front.copy_from_slice(&from[..front.len()]);
+            (rest, skip) = (after, 0);
+        }
+        Some(())
+    }
+
+    /// Whether some of these bytes lie in it.
+    pub fn holds(&self, bytes: &[u8]) -> bool {
+        let (area, other) = (self.bytes.as_ptr() as usize, bytes.as_ptr() as usize);
+        area < other + bytes.len() && other < area + self.bytes.len()
+    }
+
     /// Whether a page is put.
     #[inline]
     pub fn is_put(&self, number: u64) -> bool {
@@ -149,8 +173,42 @@ impl Lend for LiveAreas {
     fn raw(&mut self) -> RawAreas<'_> {
         let cells = &self.pages.area.bytes;
         let pages = UnsafeCell::raw_get(cells.as_ptr());
-        // SAFETY: the bytes live as long as the area, and `&mut self` is the only writer. Whoever calls PUT, as `Live::put` does,
-        // looks first whether the page is put: what is not, nobody reads.
+        // SAFETY: the bytes live as long as the area, and `&mut self` is the only writer. `Live` alone calls PUT on these areas. It
+        // looks first whether the page is put: what is not, nobody reads; and copies bytes that lie in the area.
         unsafe { RawAreas::new(pages, cells.len(), &mut self.nodes, &mut self.register) }
+    }
+}
+
+#[cfg(test)]
+mod tests {
+    use super::*;
+
+    /// An area of three pages of four bytes, of which the first and the last are put.
+    fn area() -> PageWriter {
+        let bytes: Vec<u8> = (0..12).collect();
+        PageWriter::new(bytes.into(), 4, [0, 2].into_iter())
+    }
+
+    #[test]
+    fn pages_that_are_put_are_read_in_any_order() {
+        let (writer, mut buffer) = (area(), [99; 6]);
+        let area = writer.area();
+        assert_eq!(area.read([2, 0], 1, &mut buffer), Some(()));
+        assert_eq!(buffer, [9, 10, 11, 0, 1, 2]);
+        assert_eq!(area.read([], 0, &mut []), Some(()));
+        for numbers in [&[2][..], &[0, 1], &[1], &[3], &[u64::MAX], &[]] {
+            let read = area.read(numbers.iter().copied(), 0, &mut buffer);
+            assert_eq!(read, None, "{numbers:?}");
+        }
+        assert_eq!(area.read([0, 2], 5, &mut buffer), None);
+    }
+
+    #[test]
+    fn bytes_of_the_area_are_told_from_others() {
+        let (writer, other) = (area(), [0, 1, 2, 3]);
+        let area = writer.area();
+        let page = area.page(2).expect("put");
+        assert!(area.holds(page) && area.holds(&page[3..]));
+        assert!(!area.holds(&other) && !area.holds(&page[4..]) && !area.holds(&[]));
     }
 }

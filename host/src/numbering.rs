@@ -4,6 +4,7 @@
 
 use crate::counters::{Line, Ticket, Version};
 use crate::ffi::State;
+use crate::room::Mix;
 
 /// The numbers of a store's callers. The default: the store's own.
 #[derive(Clone, Debug, Default, PartialEq, Eq)]
@@ -17,6 +18,9 @@ struct Carried {
     tickets: Numbers,
     /// A line each; of lines that have begun since, those that were asked for.
     lines: Vec<Numbers>,
+    /// What callers' updates had taken before; and what the store's had when it was carried over.
+    before: Mix,
+    made: Mix,
 }
 
 /// Numbers of one sort: some that stand for others one by one, and all after these by a shift.
@@ -75,10 +79,26 @@ impl Numbers {
 }
 
 impl Numbering {
-    /// Those of a store that was just carried over: of its tickets, and of each of its lines' versions.
-    pub fn carried(tickets: Numbers, lines: Vec<Numbers>) -> Numbering {
+    /// Those of a store that was just carried over, into this state: of its tickets, and of each of its lines' versions; and what callers'
+    /// updates had taken.
+    pub fn carried(tickets: Numbers, lines: Vec<Numbers>, before: Mix, state: &State) -> Numbering {
+        let carried = Carried {
+            tickets,
+            lines,
+            before,
+            made: Mix::of(state),
+        };
         Numbering {
-            carried: Some(Box::new(Carried { tickets, lines })),
+            carried: Some(Box::new(carried)),
+        }
+    }
+
+    /// What callers' updates took together, in a store with this state.
+    pub fn mix(&self, state: &State) -> Mix {
+        let all = Mix::of(state);
+        match &self.carried {
+            None => all,
+            Some(carried) => all.without(carried.made).and(carried.before),
         }
     }
 
@@ -149,8 +169,9 @@ impl Numbering {
     pub fn stamp(&self, line: Line, version: Version, own: u64) -> Version {
         match self.of_line(line) {
             Some(numbers) if own <= numbers.last => {
-                let kept = numbers.kept.iter().rev().find(|k| k.0 <= version.0);
-                Version(kept.map_or(version.0, |k| k.0))
+                let later = numbers.kept.partition_point(|k| k.0 <= version.0);
+                let kept = later.checked_sub(1).map(|at| numbers.kept[at].0);
+                Version(kept.unwrap_or(version.0))
             }
             _ => self.version(line, own),
         }
@@ -166,7 +187,9 @@ impl Numbering {
         usize::try_from(line.0).ok().and_then(|at| lines.get(at))
     }
 
-    /// As numbers of 64 bits, lowest byte first; nothing where callers' numbers are the store's own.
+    /// As numbers of 64 bits, lowest byte first; nothing where the store was never carried over: how many lines; of each, and then of the
+    /// tickets, the last number that is not shifted, the shift, how many stand one by one, and these, a caller's and the store's own; then
+    /// what updates took, before and when it was carried over.
     pub fn to_bytes(&self) -> Vec<u8> {
         let mut words = Vec::new();
         if let Some(carried) = &self.carried {
@@ -175,6 +198,7 @@ impl Numbering {
                 words.extend([numbers.last, numbers.shift, numbers.kept.len() as u64]);
                 words.extend(numbers.kept.iter().flat_map(|k| [k.0, k.1]));
             }
+            words.extend([carried.before, carried.made].map(Mix::words).concat());
         }
         words.iter().flat_map(|word| word.to_le_bytes()).collect()
     }
@@ -199,11 +223,28 @@ impl Numbering {
             lines.push(Numbers::read(&mut words)?);
         }
         let tickets = Numbers::read(&mut words)?;
+        let mut mix = || {
+            Some(Mix::from_words([
+                words.next()?,
+                words.next()?,
+                words.next()?,
+                words.next()?,
+            ]))
+        };
+        let (before, made) = (mix()?, mix()?);
         let begun = (0..).map(Line).zip(&lines);
         let is_published = |(line, of): (Line, &Numbers)| of.last <= state.line(line).published;
         let belongs = count <= state.begun && tickets.last <= state.tickets;
         let right = belongs && begun.into_iter().all(is_published);
-        (right && words.next().is_none()).then(|| Numbering::carried(tickets, lines))
+        let carried = Carried {
+            tickets,
+            lines,
+            before,
+            made,
+        };
+        (right && words.next().is_none()).then(|| Numbering {
+            carried: Some(Box::new(carried)),
+        })
     }
 }
 
@@ -242,7 +283,8 @@ mod tests {
     fn carried() -> Numbering {
         let versions = Numbers::new(vec![(2, 1), (5, 3), (9, 4)], 4, 9).unwrap();
         let tickets = Numbers::new(vec![(7, 6)], 6, 11).unwrap();
-        Numbering::carried(tickets, vec![versions])
+        let before = Mix::from_words([11, 30, 10, 70]);
+        Numbering::carried(tickets, vec![versions], before, &state(6, &[4]))
     }
 
     #[test]

@@ -29,19 +29,66 @@ pub struct Room {
     pub nodes: u64,
     /// Lines that can still begin.
     pub lines: u64,
-    /// How many more updates that is, if they are as those before: with as many pages each, and as many nodes.
+    /// How many more updates that is, if they are as those before: with as many pages each, and as many nodes. In a store that was
+    /// [carried over](Handle::carry), those that callers made, and not those by which it was.
     pub at_present_mix: u64,
 }
 
+/// What updates took together.
+#[derive(Clone, Copy, Debug, Default, PartialEq, Eq)]
+pub struct Mix {
+    /// Those that have begun, and their pages.
+    tickets: u64,
+    pages: u64,
+    /// Those that have versions, and their nodes.
+    updates: u64,
+    nodes: u64,
+}
+
+impl Mix {
+    /// All of a store's.
+    pub fn of(s: &State) -> Mix {
+        Mix::from_words([s.tickets, s.taken, s.assigned, s.places])
+    }
+
+    /// As numbers, and back.
+    pub fn words(self) -> [u64; 4] {
+        [self.tickets, self.pages, self.updates, self.nodes]
+    }
+
+    pub fn from_words([tickets, pages, updates, nodes]: [u64; 4]) -> Mix {
+        Mix {
+            tickets,
+            pages,
+            updates,
+            nodes,
+        }
+    }
+
+    fn by(self, other: Mix, combine: impl Fn(u64, u64) -> u64) -> Mix {
+        let ([a, b, c, d], [p, q, r, s]) = (self.words(), other.words());
+        Mix::from_words([combine(a, p), combine(b, q), combine(c, r), combine(d, s)])
+    }
+
+    pub fn and(self, other: Mix) -> Mix {
+        self.by(other, u64::saturating_add)
+    }
+
+    pub fn without(self, other: Mix) -> Mix {
+        self.by(other, u64::saturating_sub)
+    }
+}
+
 impl Room {
-    fn of(s: &State) -> Room {
+    /// What a store with this state has left, where updates are as these.
+    fn of(s: &State, mix: Mix) -> Room {
         let updates = s.updates.saturating_sub(s.tickets);
         let pages = s.pages.saturating_sub(s.taken);
         let nodes = s.nodes.saturating_sub(s.places);
         // so many as there is room for, where `taken` were taken by `by`
         let last = |left: u64, taken: u64, by: u64| left.saturating_mul(by).checked_div(taken);
-        let by_pages = last(pages, s.taken, s.tickets).unwrap_or(pages);
-        let by_nodes = last(nodes, s.places, s.assigned).unwrap_or(nodes);
+        let by_pages = last(pages, mix.pages, mix.tickets).unwrap_or(pages);
+        let by_nodes = last(nodes, mix.nodes, mix.updates).unwrap_or(nodes);
         Room {
             updates,
             pages,
@@ -55,13 +102,15 @@ impl Room {
 impl<A> Keeper<A> {
     /// How much room is left.
     pub fn room(&self) -> Room {
-        Room::of(&self.state())
+        let state = self.state();
+        Room::of(&state, Mix::of(&state))
     }
 }
 
 impl<L: Log> Handle<L> {
     /// How much room is left.
     pub fn room(&self) -> Room {
-        self.core.reading().keeper.room()
+        let live = self.core.reading();
+        Room::of(&live.keeper().state(), live.mix())
     }
 }

@@ -35,26 +35,25 @@ impl Seen {
             .map(Version)
     }
 
-    /// Readers may see a line up to this version.
+    /// Readers may see a line up to this version. Those who wait are [told](Seen::tell) after that.
     pub fn raise(&self, line: Line, version: Version) {
         let at = usize::try_from(line.0).ok();
         if let Some(last) = at.and_then(|at| self.lines.0.get(at)) {
             last.fetch_max(version.0 + 1, SeqCst);
-            self.tell();
         }
     }
 
-    /// Readers may see just these lines, each up to a version.
+    /// Readers may see just these lines, each up to a version. Those who wait are [told](Seen::tell) after that.
     pub fn set(&self, lines: impl Iterator<Item = Version>) {
         let mut lines = lines.map(|version| version.0 + 1);
         for last in &self.lines.0 {
             last.store(lines.next().unwrap_or(0), SeqCst);
         }
-        self.tell();
     }
 
-    /// A thread that begins to wait now finds what was raised; one that waits already is woken.
-    fn tell(&self) {
+    /// Wakes those who wait, after what they may wait for was raised; one who begins to wait now finds it. Called with no lock of the
+    /// store held: to wake hundreds takes a while.
+    pub fn tell(&self) {
         if self.waiting.load(SeqCst) > 0 {
             let _turn = self.turn.lock().unwrap_or_else(PoisonError::into_inner);
             self.raised.notify_all();

@@ -105,12 +105,12 @@ impl<L: Log> Handle<L> {
 
     /// [`Keeper::windows`](crate::Keeper::windows).
     pub fn windows(&self) -> Windows {
-        self.core.reading().keeper.windows()
+        self.core.reading().keeper().windows()
     }
 
     /// The limits that the store was formatted with.
     pub fn limits(&self) -> Limits {
-        self.core.reading().keeper.limits()
+        self.core.reading().keeper().limits()
     }
 
     /// [`Keeper::branch`](crate::Keeper::branch).
@@ -118,7 +118,7 @@ impl<L: Log> Handle<L> {
         self.alone(|turn| turn.branch(line, version))
     }
 
-    /// [`Keeper::read`](crate::Keeper::read).
+    /// [`Keeper::read`](crate::Keeper::read). A long one, of 256 KiB and more, is copied without the lock.
     pub fn read(
         &self,
         line: Line,
@@ -158,14 +158,15 @@ impl<L: Log> Handle<L> {
     pub fn versions(&self, line: Line) -> Result<Vec<Version>, Error> {
         let live = self.core.reading();
         let last = self.core.recent_in(&live, line)?;
-        let own = live.keeper.recent(line)?;
+        let own = live.keeper().recent(line)?;
         let kept = (1..=own.0).filter_map(|own| live.numbers.kept_version(line, own));
         Ok(kept.take_while(|version| *version <= last).collect())
     }
 
     /// [`Keeper::stamp`](crate::Keeper::stamp).
     ///
-    /// In a store that was [carried over](Handle::carry), a page that has not changed since has the last version kept for its stamp.
+    /// In a store that was [carried over](Handle::carry), a page that has not changed since has for its stamp the last version kept that is
+    /// not above the one asked for.
     pub fn stamp(&self, line: Line, version: Version, page: PageIndex) -> Result<Version, Error> {
         let live = self.core.reading();
         self.core.stamp_in(&live, line, version, page)
@@ -173,8 +174,8 @@ impl<L: Log> Handle<L> {
 
     /// [`Keeper::view`](crate::Keeper::view), for as long as `look` takes: the bytes of a page where they lie, uncopied.
     ///
-    /// Writers wait while `look` runs, so it should be short; and it must not call this store, since a call that
-    /// waits for a writer that waits for `look` would never end. A panic in `look` harms nobody else. A
+    /// Writers wait while `look` runs, and readers that come after them, so it should be short; and it must not call this store, since
+    /// a call that waits for a writer that waits for `look` would never end. A panic in `look` harms nobody else. A
     /// [`Snapshot`](crate::Snapshot) gives the bytes without a lock.
     ///
     /// ```
@@ -207,7 +208,8 @@ impl<L: Log> Handle<L> {
     }
 
     /// The whole store as it is at one moment of this call, copied. The lock is held while all but the pages are copied. Where it was
-    /// [carried over](Handle::carry), the copy goes by its own numbers, and says nothing of its callers'.
+    /// [carried over](Handle::carry), the copy goes by its own numbers, and says nothing of its callers'. Of a store in a folder it has also
+    /// what is not yet kept there, or could not be.
     pub fn to_store(&self) -> Store {
         let live = self.core.reading();
         if let Some(copied) = live.copied() {
@@ -221,14 +223,19 @@ impl<L: Log> Handle<L> {
     /// [`Keeper::save`](crate::Keeper::save) of the store as it is at one moment of this call; gives the last published
     /// version of line 0 that the file holds.
     ///
-    /// It holds nobody up: the lock is taken while the state, the nodes and the register are copied, well below a millisecond or two for
+    /// It holds nobody up: the lock is taken while the state, the nodes and the register are copied, a millisecond or two for
     /// the largest store. Pages that are put never change, so they are written from where they lie, without a lock.
+    ///
+    /// Of a store in a folder, all that the file will hold is synced there first: a file never has a version that a power cut takes from the
+    /// folder. Where the journal has failed, nothing is saved; [`to_store`](Handle::to_store) then gives what there is.
     ///
     /// One thread saves at a time, and others that save wait for it. So what a finished save has left is never replaced by
     /// an older one.
     pub fn save(&self, path: impl AsRef<Path>) -> Result<Version, FileError> {
         let _alone = self.core.saving();
-        self.core.moment().save(path.as_ref())
+        let moment = self.core.moment();
+        self.log.settle()?;
+        moment.save(path.as_ref())
     }
 }
 
@@ -276,7 +283,7 @@ impl<L: Log> Clone for Handle<L> {
 /// By the store's state: its areas fill screens.
 impl<L: Log> fmt::Debug for Handle<L> {
     fn fmt(&self, f: &mut fmt::Formatter<'_>) -> fmt::Result {
-        let state = self.core.reading().keeper.state();
+        let state = self.core.reading().keeper().state();
         f.debug_struct("Handle").field("state", &state).finish()
     }
 }

@@ -123,7 +123,7 @@ impl Snapshot {
         let gone_through = updates.position(is_later);
         Ok(Filled {
             numbers,
-            gone_through: gone_through.unwrap_or(live.keeper.state().assigned as usize),
+            gone_through: gone_through.unwrap_or(live.keeper().state().assigned as usize),
             shift,
         })
     }
@@ -169,29 +169,25 @@ impl Snapshot {
 
     /// READ: fills the buffer from a byte on. Refused, it stays as it was: 17; where it is not filled also 16 and 19.
     pub fn read(&self, offset: ByteOffset, buffer: &mut [u8]) -> Result<(), Error> {
-        if self.filled.is_none() {
-            let live = self.reading()?;
-            return self
-                .core
-                .read_in(&live, self.line, self.version, offset, buffer);
-        }
+        let filled = match &self.filled {
+            Some(filled) => filled,
+            None => {
+                let (live, core) = (self.reading()?, &self.core);
+                return core.read_by(live, self.line, self.version, offset, buffer);
+            }
+        };
         let end = offset.0.checked_add(buffer.len() as u64);
         if end.map_or(true, |end| end > self.size()) {
             return Err(Error::OutsideSnapshot);
         }
         let page = self.era.pages.page_size() as u64;
-        let (first, mut skip) = (offset.0 / page, (offset.0 % page) as usize);
-        let mut rest = buffer;
-        for page in first.. {
-            if rest.is_empty() {
-                break;
-            }
-            let from = &self.view(PageIndex(page))?[skip..];
-            let (front, after) = rest.split_at_mut(from.len().min(rest.len()));
-            front.copy_from_slice(&from[..front.len()]);
-            (rest, skip) = (after, 0);
-        }
-        Ok(())
+        let from = filled.numbers.iter().skip((offset.0 / page) as usize);
+        let numbers = from.map(|number| u64::from(*number));
+        let read = self
+            .era
+            .pages
+            .read(numbers, (offset.0 % page) as usize, buffer);
+        read.ok_or(Error::Damaged)
     }
 
     /// Goes on to the last version that is published on its line; tells whether that is another one, or one of another store that has
@@ -204,10 +200,13 @@ impl Snapshot {
             return Ok(false);
         }
         let before = self.version;
-        if ended || !self.go_on(newest) {
-            *self = self.newest()?;
+        if !ended && self.go_on(newest) {
+            return Ok(true);
         }
-        Ok(ended || self.version != before)
+        let later = self.newest()?;
+        let is_another = later.version != before || !Arc::ptr_eq(&later.era, &self.era);
+        *self = later;
+        Ok(is_another)
     }
 
     /// The last version that is published on its line, all looked up under one lock: so it is one of the store that is there then.
@@ -357,6 +356,28 @@ mod tests {
         drop(alone);
         let views = [Ok(vec![1; 16]), Ok(vec![4; 16])];
         assert_eq!(told, Ok((Ok(true), Ok(()), [4; 32], views)));
+    }
+
+    /// Another store takes the place of this one while somebody advances, and its newest version has the number that he has already: he is
+    /// told that it is another.
+    #[test]
+    fn a_snapshot_that_goes_on_in_another_store_says_so() {
+        let (shared, later) = (of_versions(2), of_versions(0));
+        let done = later.update(Line(0), PageIndex(0), &[&[9; 16]]);
+        assert_eq!(done, Ok(Version(1)));
+        let mut snapshot = shared.snapshot(Line(0), Version(1)).expect("published");
+        let mut place = shared.core.writing();
+        let advancing = thread::spawn(move || {
+            let advanced = snapshot.advance();
+            (advanced, snapshot.view(PageIndex(0)).map(<[u8]>::to_vec))
+        });
+        thread::sleep(Duration::from_millis(10)); // most often it waits for the lock by then
+        place.end();
+        shared.core.seen.set(std::iter::once(Version(1)));
+        std::mem::swap(&mut *place, &mut *later.core.writing());
+        drop(place);
+        let told = advancing.join().expect("no complaint");
+        assert_eq!(told, (Ok(true), Ok(vec![9; 16])));
     }
 
     /// A version is published and the store carried over without the one before it, while somebody advances: whether he has seen what was

@@ -1,7 +1,7 @@
 //! Whole updates in one call, and those that somebody has begun and not finished.
 
 use crate::areas::{Lend, MOST_PAGES};
-use crate::counters::{Line, LineVersion, PageIndex, Ticket, Version};
+use crate::counters::{Line, LineVersion, Minute, PageIndex, Ticket, Version};
 use crate::error::Error;
 use crate::ffi::{node_count, Record, State};
 use crate::live::Live;
@@ -33,10 +33,12 @@ pub struct OpenTicket {
 impl<L: Log> Handle<L> {
     /// A whole update in one call: these pages of a line, from page `at` on, as its next version. It begins, puts, assigns
     /// and weaves, and publishes what is then due, by the [clock](Handle::set_clock): the version itself where all before it are
-    /// complete, and those that waited for it. Gives the version.
+    /// complete, and those that waited for it; nothing inside a window, after which [`publish_due`](Handle::publish_due) does. Gives the
+    /// version.
     ///
     /// It is refused as the calls would be, before any of them is made, so that a refused one has taken no room:
-    /// 3, 4, 5, 6, 11, 20, 13, 14, 15; and 22 where the clock gives no minute of the week.
+    /// 3, 4, 5, 6, 11, 20, 13, 14, 15; and 22 where the clock gives no minute of the week. Over damaged areas also 19, which may
+    /// have taken some.
     ///
     /// ```
     /// use pit_host::{Error, Limits, Line, PageIndex, Shared, Store, Version};
@@ -73,7 +75,7 @@ impl<L: Log> Handle<L> {
         let mut turn = self.turn()?;
         check(turn.live(), line, at, pages)?;
         let answer = put_together(&mut turn, line, at, pages);
-        let due = answer.and_then(|version| turn.publish_due(line, minute).map(|()| version));
+        let due = answer.and_then(|version| turn.publish_due(line, minute).map(|_| version));
         turn.end()?; // what was accepted is kept, also where areas are damaged and a later call was refused
         Ok(due?)
     }
@@ -81,8 +83,8 @@ impl<L: Log> Handle<L> {
     /// The updates in work, in the order of their tickets.
     pub fn open_tickets(&self) -> Vec<OpenTicket> {
         let (now, live) = (Instant::now(), self.core.reading());
-        let records = live.keeper.areas().parts().register.len() as u64;
-        let tickets = 1..=live.keeper.state().tickets.min(records);
+        let records = live.keeper().areas().parts().register.len() as u64;
+        let tickets = 1..=live.keeper().state().tickets.min(records);
         tickets
             .filter_map(|own| open_ticket(&live, own, now))
             .collect()
@@ -119,18 +121,39 @@ impl<L: Log> Handle<L> {
     pub fn finish(&self, ticket: Ticket) -> Result<Version, L::Failure> {
         let minute = self.core.minute()?;
         let mut turn = self.turn()?;
-        let own = turn.live().numbers.own_ticket(ticket);
-        if nodes_left(turn.live(), own) != Some(0) {
-            turn.weave(ticket, u64::MAX)?;
-        }
-        let (line, version) = version_of(turn.live(), own).ok_or(Error::Damaged)?;
-        let due = turn.publish_due(line, minute);
-        turn.end()?;
-        due?;
-        Ok(version)
+        let finished = turn.finish(ticket, minute);
+        turn.end()?; // as of a whole update
+        Ok(finished?)
     }
 
-    /// Waits until a version is published on a line, for readers to see. One that nobody ever completes is waited for for ever.
+    /// Publishes all that is due on a line, by the [clock](Handle::set_clock), and gives its last published version. For when a window has
+    /// ended, and for a store that was opened or loaded: its writers may have ended between the last WEAVE and PUBLISH. Refused: 3, 20,
+    /// 22, 19.
+    ///
+    /// ```
+    /// use pit_host::{Limits, Line, Minute, Shared, Store, Version};
+    /// # fn main() -> Result<(), Box<dyn std::error::Error>> {
+    /// let (shared, live) = (Shared::new(Store::format(Limits::new(16, 8, 16, 4))?), Line(0));
+    /// shared.set_windows("600,660\n")?;
+    /// shared.set_clock(|| Minute(610));
+    /// shared.append_pages(live, &[&[1; 16]])?;
+    /// assert_eq!(shared.publish_due(live)?, Version(0)); // held
+    /// shared.set_clock(|| Minute(660));
+    /// assert_eq!(shared.publish_due(live)?, Version(1));
+    /// # Ok(())
+    /// # }
+    /// ```
+    pub fn publish_due(&self, line: Line) -> Result<Version, L::Failure> {
+        let minute = self.core.minute()?;
+        let mut turn = self.turn()?;
+        let last = turn.publish_due(line, minute);
+        turn.wait_for_all();
+        turn.end()?;
+        Ok(last?)
+    }
+
+    /// Waits until a version is published on a line, for readers to see. One that nobody ever completes, or publishes after a window has
+    /// ended, is waited for for ever.
     pub fn wait_published(&self, line: Line, version: Version) {
         self.core.seen.wait(line, version, None);
     }
@@ -143,10 +166,23 @@ impl<L: Log> Handle<L> {
 }
 
 impl<L: Log> Turn<'_, L> {
-    /// Publishes all versions of a line that are due.
-    fn publish_due(&mut self, line: Line, minute: crate::Minute) -> Result<(), Error> {
+    /// Publishes all versions of a line that are due, and gives the last published one.
+    fn publish_due(&mut self, line: Line, minute: Minute) -> Result<Version, Error> {
         while self.publish(line, minute)?.version().is_some() {}
-        Ok(())
+        let own = self.live().keeper().recent(line)?;
+        Ok(self.live().numbers.version(line, own.0))
+    }
+
+    /// Weaves what is left of a ticket's version, and publishes what is then due on its line.
+    fn finish(&mut self, ticket: Ticket, minute: Minute) -> Result<Version, Error> {
+        let own = self.live().numbers.own_ticket(ticket);
+        match nodes_left(self.live(), own) {
+            Some(0) => self.wait_for_all(), // another thread's WEAVE may not be kept yet
+            _ => drop(self.weave(ticket, u64::MAX)?),
+        }
+        let (line, version) = version_of(self.live(), own).ok_or(Error::Damaged)?;
+        self.publish_due(line, minute)?;
+        Ok(version)
     }
 }
 
@@ -171,8 +207,8 @@ fn put_together<L: Log>(
 
 /// Refuses an update as the first of its calls that would be refused, by the rows of BEGIN, PUT and ASSIGN.
 fn check(live: &Live, line: Line, at: Option<PageIndex>, pages: &[&[u8]]) -> Result<(), Error> {
-    live.keeper.recent(Line(0))?; // row 3
-    let s: State = live.keeper.state();
+    live.keeper().recent(Line(0))?; // row 3
+    let s: State = live.keeper().state();
     let n = pages.len() as u64;
     let blob = s.line(line).blob;
     let first = at.map_or(blob, |at| at.0);
@@ -206,7 +242,7 @@ fn record(register: &[Record], number: u64) -> Option<&Record> {
 
 /// What the register has of the update of a ticket, by the store's own number; none where it has no version.
 fn update_of(live: &Live, own: u64) -> Option<&Record> {
-    let register = live.keeper.areas().parts().register;
+    let register = live.keeper().areas().parts().register;
     record(register, record(register, own)?.update)
 }
 
@@ -227,7 +263,7 @@ fn nodes_left(live: &Live, own: u64) -> Option<u64> {
 
 /// A ticket, by the store's own number, if its update is in work.
 fn open_ticket(live: &Live, own: u64, now: Instant) -> Option<OpenTicket> {
-    let begun = record(live.keeper.areas().parts().register, own)?;
+    let begun = record(live.keeper().areas().parts().register, own)?;
     let left = nodes_left(live, own);
     if left == Some(0) {
         return None;

@@ -429,6 +429,76 @@ fn another_page_size_is_refused_also_where_there_is_no_page() {
     assert_eq!(shared.limits(), limits);
 }
 
+/// A ticket in work without a version may be left out, and its room with it. All others go on.
+#[test]
+fn tickets_that_are_given_up_are_left_out() {
+    let limits = Limits::new(PAGE as u64, 40, 80, 8);
+    let shared = Shared::new(Store::format(limits).expect("in range"));
+    let (live, page) = (Line(0), [7; PAGE]);
+    shared.append_pages(live, &[&page]).expect("room");
+    let [dead, in_work, assigned] = [9, 2, 1].map(|n| shared.begin(n).expect("room"));
+    for (ticket, i) in [(dead, 3), (in_work, 1), (assigned, 0)] {
+        shared.put(ticket, i, &page).expect("a page of it");
+    }
+    shared.append(live, assigned).expect("put");
+    let before = shared.to_store();
+    let refused = [
+        (Ticket(0), Error::NoSuchTicket),
+        (Ticket(5), Error::NoSuchTicket),
+        (Ticket(1), Error::OutOfTurn),
+        (assigned, Error::OutOfTurn),
+    ];
+    for (ticket, due) in refused {
+        let carried = shared.carry_without(limits, &[], &[dead, ticket]);
+        assert_eq!(carried, Err(due), "{ticket}");
+        assert!(shared.to_store() == before);
+    }
+    let room = shared.room();
+    let kept = shared.carry_without(limits, &[], &[dead, dead]);
+    assert_eq!(kept, Ok(vec![(live, Version(1))]));
+    let more = shared.room();
+    assert_eq!(
+        (more.updates, more.pages),
+        (room.updates + 1, room.pages + 9)
+    );
+    assert_eq!(shared.put(dead, 0, &page), Err(Error::NoSuchTicket));
+    let again = shared.carry_without(limits, &[], &[dead]);
+    assert_eq!(again, Err(Error::NoSuchTicket));
+    assert_eq!(shared.finish(assigned), Ok(Version(2)));
+    assert_eq!(shared.put(in_work, 0, &page), Ok(()));
+    assert_eq!(
+        shared.append(live, in_work).map(|a| a.version),
+        Ok(Version(3))
+    );
+    assert_eq!(shared.begin(1), Ok(Ticket(5)));
+}
+
+/// What is told to be left in updates goes by those that callers have made, and not by those of a carry, which have up to 64 pages.
+#[test]
+fn room_is_told_in_callers_updates_after_a_carry() {
+    let limits = Limits::new(PAGE as u64, 2_000, 20_000, 900);
+    let shared = Shared::new(Store::format(limits).expect("in range"));
+    let (live, page) = (Line(0), [7; PAGE]);
+    let update = |first: u64| {
+        let pages = [&page[..]; 2];
+        shared.update(live, PageIndex(first), &pages)
+    };
+    for at in 0..128 {
+        update(2 * at).expect("room");
+    }
+    let folder = Folder::new("carry-room");
+    let file = folder.0.join("store");
+    for _ in 0..3 {
+        shared.carry(limits, &[]).expect("room");
+        let told = shared.room().at_present_mix;
+        shared.save(&file).expect("a file");
+        let loaded = Shared::load(&file).expect("the file");
+        assert_eq!(loaded.room(), shared.room());
+        let fits = (0..).take_while(|at| update(*at % 128).is_ok()).count() as u64;
+        assert!((fits / 2..=fits).contains(&told), "{told} of {fits}");
+    }
+}
+
 /// A store that has room for few updates is carried over, into one that has room for as many, while a writer and readers go on: the
 /// writer waits where it is full, and the readers never.
 #[test]

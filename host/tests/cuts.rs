@@ -275,7 +275,7 @@ fn a_carry_that_is_broken_off_at_any_byte_changes_nothing() {
     let (before, in_work) = (run.folder.files(), durable.to_store());
     let mut limits = durable.limits();
     limits.pages += 1;
-    let carry = Call::Carry(limits, vec![]);
+    let carry = Call::Carry(limits, vec![], vec![]);
     let answer = make_durable(durable, &carry).unwrap();
     assert_eq!(answer, run.model.make(&carry));
     let saved = fs::read(run.folder.path("store-2")).unwrap();

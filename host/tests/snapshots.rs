@@ -51,6 +51,78 @@ fn all(snapshot: &Snapshot) -> Vec<u8> {
 
 // What they read.
 
+/// A long READ is copied without the lock. It gives the same bytes, and is refused as a short one.
+#[test]
+fn long_reads_are_as_short_ones() {
+    const PAGE: usize = 4_096;
+    let limits = Limits::worst(PAGE as u64, 256, 8, 64).expect("in range");
+    let shared = Shared::new(Store::format(limits).expect("in range"));
+    let live = Line(0);
+    let mut random = Random::new(1);
+    let pages: Vec<Vec<u8>> = (0..160).map(|_| random.bytes(PAGE)).collect();
+    for some in pages.chunks(64) {
+        let some: Vec<&[u8]> = some.iter().map(Vec::as_slice).collect();
+        shared.append_pages(live, &some).expect("room");
+    }
+    let (all, newest) = (pages.concat(), Version(3));
+    let snapshot = shared.snapshot(live, newest).expect("published");
+    let filled = snapshot.clone().filled().expect("published");
+    for offset in [0, 1, PAGE - 1, PAGE, 3 * PAGE + 17] {
+        for length in [
+            262_143,
+            262_144,
+            300_000,
+            all.len() - offset,
+            all.len() - offset + 1,
+        ] {
+            let at = ByteOffset(offset as u64);
+            let due = match all.get(offset..offset + length) {
+                Some(due) => (Ok(()), due.to_vec()),
+                None => (Err(Error::OutsideSnapshot), vec![9; length]),
+            };
+            let mut buffers = [(); 3].map(|()| vec![9; length]);
+            let [by_call, by_snapshot, by_filled] = &mut buffers;
+            let read = [
+                shared.read(live, newest, at, by_call),
+                snapshot.read(at, by_snapshot),
+                filled.read(at, by_filled),
+            ];
+            for given in read.into_iter().zip(buffers) {
+                assert!(given == due, "{length} bytes from {offset} on");
+            }
+        }
+    }
+    let mut buffer = vec![9; 300_000];
+    let refused = [
+        (live, Version(4), 0, Error::NotPublished),
+        (Line(1), newest, 0, Error::NoSuchLine),
+        (live, newest, u64::MAX, Error::OutsideSnapshot),
+        (live, newest, u64::MAX - 299_999, Error::OutsideSnapshot),
+    ];
+    for (line, version, offset, due) in refused {
+        let read = shared.read(line, version, ByteOffset(offset), &mut buffer);
+        assert_eq!(read, Err(due));
+        assert!(buffer.iter().all(|byte| *byte == 9));
+    }
+}
+
+/// Pages of a store are put there again, as a snapshot shows them.
+#[test]
+fn a_view_is_put_again() {
+    let limits = Limits::new(PAGE as u64, 8, 20, 4);
+    let shared = Shared::new(Store::format(limits).expect("in range"));
+    let (live, pages) = (Line(0), [[1; PAGE], [2; PAGE]]);
+    let done = shared.append_pages(live, &[&pages[0], &pages[1]]);
+    assert_eq!(done, Ok(Version(1)));
+    let first = shared.snapshot(live, Version(1)).expect("published");
+    let view = |page| first.view(PageIndex(page)).expect("a page of it");
+    let done = shared.update(live, PageIndex(0), &[view(1), view(0)]);
+    assert_eq!(done, Ok(Version(2)));
+    let second = shared.snapshot(live, Version(2)).expect("published");
+    assert_eq!(all(&second), [pages[1], pages[0]].concat());
+    assert_eq!(all(&first), pages.concat());
+}
+
 #[test]
 fn a_snapshot_reads_as_the_calls_do() {
     let mut refusals = BTreeMap::new();

@@ -230,7 +230,7 @@ fn damage_is_told() {
 #[test]
 fn what_is_missing_is_told() {
     let (_place, folder) = &place("missing");
-    let io = "the file could not be opened, read or written: ";
+    let io = "the folder could not be opened or read: ";
     all_fail(
         folder,
         &format!("{io}No such file or directory (os error 2)"),
@@ -243,8 +243,16 @@ fn what_is_missing_is_told() {
     let [store, journal, lock] = ["store-1", "journal-1", "lock"].map(|name| folder.join(name));
     fs::remove_file(lock).unwrap();
     assert_eq!(asked(&["verify", "F"], folder).0, 0); // and makes none
-    fs::remove_file(journal).unwrap();
+    fs::remove_file(&journal).unwrap();
     all_fail(folder, "journal-1 is not in the folder");
+    fs::create_dir(&journal).unwrap();
+    let told = tool([OsStr::new("info"), folder.as_os_str()])
+        .output()
+        .unwrap();
+    let words = "journal-1 could not be opened, read or written: Is a directory (os error 21)\n";
+    let told = String::from_utf8(told.stderr).unwrap();
+    assert!(told.ends_with(words), "{told}");
+    fs::remove_dir(journal).unwrap();
     all_fail(&store, &format!("{io}Not a directory (os error 20)"));
     fs::remove_file(store).unwrap();
     all_fail(folder, "no saved store is in the folder");

@@ -141,7 +141,7 @@ fn is_ours(file: &File, path: &Path) -> io::Result<bool> {
 }
 
 /// Whether a path names this very file.
-fn is_at(file: &File, path: &Path) -> io::Result<bool> {
+pub fn is_at(file: &File, path: &Path) -> io::Result<bool> {
     let file = file.metadata()?;
     match fs::symlink_metadata(path) {
         Ok(there) => Ok((there.dev(), there.ino()) == (file.dev(), file.ino())),

@@ -64,7 +64,7 @@ fn compare(
     let (before, after) = (open_saved(path, generation)?, open_saved(path, next)?);
     let journals = read_journals(path, listing, generation..=next)?;
     let (mut before, after) = (load_saved(before, generation)?, load_saved(after, next)?);
-    let (entries, carried) = replay_up_to(next, &journals, &mut before)?;
+    let (entries, carried) = replay_up_to(next, journals, &mut before)?;
     Ok(match carried {
         true => answer(entries, Comparison::CarriedOver),
         false => answer(entries, compared(&before.store, &after.store)),
@@ -75,20 +75,22 @@ fn compare(
 /// what its header says was true when it was written. Gives how many calls that were, and whether the next store was carried over.
 fn replay_up_to(
     next: u64,
-    journals: &[Vec<u8>],
+    mut journals: Vec<Vec<u8>>,
     saved: &mut Saved,
 ) -> Result<(u64, bool), FileError> {
-    let header = |g: u64, bytes| {
+    let header = |g: u64, bytes: &[u8]| {
         let header = Header::of(bytes, g)?;
         header.ok_or_else(|| JournalError::new(g, 0, 0, Flaw::Header))
     };
-    let (last, before) = journals.split_last().ok_or(FileError::NoJournal(next))?;
-    let first = next - before.len() as u64;
-    for (g, bytes) in (first..).zip(before) {
+    let last = journals.pop().ok_or(FileError::NoJournal(next))?;
+    let first = next - journals.len() as u64;
+    for (g, bytes) in (first..).zip(&journals) {
         header(g, bytes)?;
     }
-    let (replayed, entries) = replay_all(first, before, saved)?;
-    let last = header(next, last)?;
+    let mut journals = journals.into_iter();
+    let read = |_| Ok(journals.next().unwrap_or_default());
+    let (replayed, _, entries) = replay_all(first..=next - 1, read, saved)?;
+    let last = header(next, &last)?;
     let carried = last.before == 0;
     if !carried {
         replayed.goes_on_in(&last)?;

@@ -1,10 +1,11 @@
 //! The files of a folder.
 
-use super::Place;
 use crate::file::lock::try_hold;
+use crate::file::new::is_at;
 use crate::file::FileError;
 use std::fs::{self, File, OpenOptions};
 use std::io::{self, Read, Write};
+use std::ops::RangeInclusive;
 use std::os::unix::fs::MetadataExt;
 use std::path::{Path, PathBuf};
 
@@ -27,10 +28,10 @@ pub struct Listing {
     pub journals: Vec<u64>,
 }
 
-pub fn list(folder: &Path) -> io::Result<Listing> {
+pub fn list(folder: &Path) -> Result<Listing, FileError> {
     let mut listing = Listing::default();
-    for entry in fs::read_dir(folder)? {
-        let name = entry?.file_name();
+    for entry in fs::read_dir(folder).map_err(FileError::Folder)? {
+        let name = entry.map_err(FileError::Folder)?.file_name();
         let name = name.to_str().unwrap_or_default();
         listing.stores.extend(generation_in(name, STORE));
         listing.journals.extend(generation_in(name, JOURNAL));
@@ -47,22 +48,23 @@ fn generation_in(name: &str, before: &str) -> Option<u64> {
     (generation < u64::MAX / 2 && generation.to_string() == digits).then_some(generation)
 }
 
-/// Removes the files of a folder that are needed no more: all stores but one, and all journals before its own, or after the one
-/// that is written. The names of those that stay are on the disk before.
-pub fn clear(folder: &Path, kept: Place) -> io::Result<()> {
+/// Removes the files of a folder that are needed no more: all stores but that of the first of these generations, and all journals of
+/// others. The names of those that stay are on the disk before. What cannot be removed keeps nothing else from being so.
+pub fn clear(folder: &Path, needed: RangeInclusive<u64>) -> Result<(), FileError> {
     sync_folder(folder)?;
     let listing = list(folder)?;
-    let stores = listing.stores.into_iter().filter(|g| *g != kept.store);
-    let needed = kept.store..=kept.journal;
+    let stores = listing.stores.into_iter().filter(|g| g != needed.start());
     let journals = listing.journals.into_iter().filter(|g| !needed.contains(g));
-    stores
+    let removed = stores
         .map(|g| store_in(folder, g))
         .chain(journals.map(|g| journal_in(folder, g)))
-        .try_for_each(fs::remove_file)?;
-    sync_folder(folder)
+        .map(fs::remove_file);
+    let removed: Vec<io::Result<()>> = removed.collect(); // each is tried
+    sync_folder(folder)?;
+    Ok(removed.into_iter().collect::<io::Result<()>>()?)
 }
 
-/// Makes a folder, where there is none, and those that it is in; their names are then on the disk.
+/// Makes a folder, where there is none, and those that it is in; the names of those that it makes are then on the disk.
 pub fn make_folder(path: &Path) -> io::Result<()> {
     if path.as_os_str().is_empty() || path.is_dir() {
         return Ok(());
@@ -74,6 +76,11 @@ pub fn make_folder(path: &Path) -> io::Result<()> {
         true => sync_folder(Path::new(".")),
         false => sync_folder(parent),
     }
+}
+
+/// A folder's own path, which names it wherever the process goes: by a relative one it would later name another.
+pub fn found(path: &Path) -> Result<PathBuf, FileError> {
+    fs::canonicalize(path).map_err(FileError::Folder)
 }
 
 /// Forces the names in a folder to the disk.
@@ -102,16 +109,24 @@ pub fn lock(folder: &Path) -> Result<File, FileError> {
         let process = process_in(&mut file);
         return Err(FileError::InUse { process });
     }
-    file.set_len(0)?;
-    writeln!(file, "{}", std::process::id())?;
+    // a full disk keeps nobody out: the lock is what counts
+    let process = format!("{}\n", std::process::id());
+    let _ = file
+        .write_all(process.as_bytes())
+        .and_then(|()| file.set_len(process.len() as u64));
     Ok(file)
+}
+
+/// Whether a folder is the one with this lock.
+pub fn is_locked_by(folder: &Path, lock: &File) -> io::Result<bool> {
+    is_at(lock, &folder.join(LOCK))
 }
 
 /// Which process has a folder open.
 #[derive(Clone, Copy, Debug, PartialEq, Eq)]
 #[non_exhaustive]
 pub enum OpenBy {
-    /// None.
+    /// None; or one that this one is not told of, as from inside a container.
     Nobody,
     /// This one.
     Process(u32),
@@ -130,7 +145,7 @@ pub fn open_by(folder: &Path) -> OpenBy {
         Err(e) if e.kind() == io::ErrorKind::NotFound => return OpenBy::Nobody,
         Err(_) => return OpenBy::NotKnown,
     };
-    match (file.metadata(), fs::read_to_string(LOCKS)) {
+    match (file.metadata(), locks()) {
         (Ok(lock), Ok(locks)) => {
             let written = process_in(&mut file);
             let mut holders = locks
@@ -140,6 +155,13 @@ pub fn open_by(folder: &Path) -> OpenBy {
         }
         _ => OpenBy::NotKnown,
     }
+}
+
+/// The system's list of locks, in one read where it is not long: between two the list moves, and a line can be left out.
+fn locks() -> io::Result<String> {
+    let mut text = Vec::with_capacity(1 << 16);
+    File::open(LOCKS)?.read_to_end(&mut text)?;
+    Ok(String::from_utf8_lossy(&text).into_owned())
 }
 
 /// The process that holds a folder's lock, if that is what a line of the list says: `1: FLOCK ADVISORY WRITE 4711 fe:00:10952769 0 EOF`.

@@ -7,7 +7,7 @@ use crate::journal::{replay, Flaw, Header, JournalError, Replayed};
 use crate::keeper::Store;
 use crate::numbering::Numbering;
 use std::fs::File;
-use std::io::{self, Read};
+use std::io::Read;
 use std::ops::RangeInclusive;
 use std::path::Path;
 
@@ -17,28 +17,52 @@ pub struct Look {
     pub numbers: Numbering,
     /// The generation of the saved store.
     pub generation: u64,
-    /// The last journal.
+    /// The last journal, and all its bytes.
     pub last: Replayed,
+    pub bytes: Vec<u8>,
     /// How many calls were made again, of all journals.
     pub entries: u64,
 }
 
 impl Look {
-    /// The store that a folder holds.
+    /// The store that a folder holds, which nobody else changes. Journals are read one by one: failed checkpoints may have left many.
     pub fn at(path: &Path) -> Result<Look, FileError> {
         let listing = files::list(path)?;
-        let generation = latest(&listing)?;
-        let newest = listing.journals.last().copied().unwrap_or(0);
-        // all are opened before one is read: a file that another process then removes can still be read
-        let saved = open_saved(path, generation)?;
-        let journals = read_journals(path, &listing, generation..=newest.max(generation))?;
-        let mut saved = load_saved(saved, generation)?;
-        let (last, entries) = replay_all(generation, &journals, &mut saved)?;
+        let generations = generations(&listing)?;
+        let saved = load_saved(
+            open_saved(path, *generations.start())?,
+            *generations.start(),
+        )?;
+        let read = |g| read_journal(open_journal(path, &listing, g)?, g);
+        Look::from(saved, generations, read)
+    }
+
+    /// The store that a folder holds which another process may be changing. All files are opened before one is read: one that is then
+    /// removed can still be read.
+    pub fn beside(path: &Path) -> Result<Look, FileError> {
+        let listing = files::list(path)?;
+        let generations = generations(&listing)?;
+        let saved = open_saved(path, *generations.start())?;
+        let mut journals = read_journals(path, &listing, generations.clone())?.into_iter();
+        let saved = load_saved(saved, *generations.start())?;
+        Look::from(saved, generations, |_| {
+            Ok(journals.next().unwrap_or_default())
+        })
+    }
+
+    fn from(
+        mut saved: Saved,
+        generations: RangeInclusive<u64>,
+        read: impl FnMut(u64) -> Result<Vec<u8>, FileError>,
+    ) -> Result<Look, FileError> {
+        let generation = *generations.start();
+        let (last, bytes, entries) = replay_all(generations, read, &mut saved)?;
         Ok(Look {
             store: saved.store,
             numbers: saved.numbers,
             generation,
             last,
+            bytes,
             entries,
         })
     }
@@ -57,6 +81,13 @@ impl Look {
 /// The generation that a folder is opened from.
 pub fn latest(listing: &Listing) -> Result<u64, FileError> {
     listing.stores.last().copied().ok_or(FileError::NoStore)
+}
+
+/// The generations whose journals there are from that one on.
+fn generations(listing: &Listing) -> Result<RangeInclusive<u64>, FileError> {
+    let first = latest(listing)?;
+    let newest = listing.journals.last().copied().unwrap_or(0);
+    Ok(first..=newest.max(first))
 }
 
 pub fn open_saved(path: &Path, generation: u64) -> Result<File, FileError> {
@@ -89,6 +120,22 @@ fn of_saved(generation: u64, error: FileError) -> FileError {
     }
 }
 
+fn open_journal(path: &Path, listing: &Listing, generation: u64) -> Result<File, FileError> {
+    if !listing.journals.contains(&generation) {
+        return Err(FileError::NoJournal(generation));
+    }
+    let file = File::open(files::journal_in(path, generation));
+    file.map_err(|error| FileError::JournalIo { generation, error })
+}
+
+/// All bytes of a journal.
+fn read_journal(mut file: File, generation: u64) -> Result<Vec<u8>, FileError> {
+    let mut bytes = Vec::new();
+    let read = file.read_to_end(&mut bytes);
+    let bytes = read.map(|_| bytes);
+    bytes.map_err(|error| FileError::JournalIo { generation, error })
+}
+
 /// All bytes of these journals. The last is read first: where another process writes, a journal that has its header was begun
 /// when the one before had ended.
 pub fn read_journals(
@@ -96,51 +143,44 @@ pub fn read_journals(
     listing: &Listing,
     generations: RangeInclusive<u64>,
 ) -> Result<Vec<Vec<u8>>, FileError> {
-    let open = |g| match listing.journals.contains(&g) {
-        true => Ok(File::open(files::journal_in(path, g))?),
-        false => Err(FileError::NoJournal(g)),
-    };
-    let opened: Vec<File> = generations.map(open).collect::<Result<_, FileError>>()?;
-    let read = |mut file: File| {
-        let mut bytes = Vec::new();
-        file.read_to_end(&mut bytes).map(|_| bytes)
-    };
-    let mut journals: Vec<Vec<u8>> = opened
-        .into_iter()
-        .rev()
-        .map(read)
-        .collect::<io::Result<_>>()?;
+    let open = |g| Ok((open_journal(path, listing, g)?, g));
+    let opened: Vec<(File, u64)> = generations.map(open).collect::<Result<_, FileError>>()?;
+    let each = opened.into_iter().rev();
+    let mut journals: Vec<Vec<u8>> = each
+        .map(|(file, g)| read_journal(file, g))
+        .collect::<Result<_, FileError>>()?;
     journals.reverse();
     Ok(journals)
 }
 
-/// Makes the calls of these journals again, on the saved store of the first one's generation. Gives what was found of the last, and
-/// how many calls in all.
+/// Makes the calls of these journals again, on the saved store of the first one's generation. Each is read when its turn comes. Gives
+/// what was found of the last, its bytes, and how many calls in all.
 pub fn replay_all(
-    generation: u64,
-    journals: &[Vec<u8>],
+    generations: RangeInclusive<u64>,
+    mut read: impl FnMut(u64) -> Result<Vec<u8>, FileError>,
     saved: &mut Saved,
-) -> Result<(Replayed, u64), FileError> {
-    let mut last: Option<Replayed> = None;
+) -> Result<(Replayed, Vec<u8>, u64), FileError> {
+    let (first, newest) = (*generations.start(), *generations.end());
+    let mut last: Option<(Replayed, Vec<u8>)> = None;
     let mut entries = 0;
-    for (at, bytes) in journals.iter().enumerate() {
-        let g = generation + at as u64;
-        let header = Header::of(bytes, g)?;
-        if at > 0 && at + 1 == journals.len() && is_only_begun(header.as_ref(), bytes) {
+    for g in generations {
+        let bytes = read(g)?;
+        let header = Header::of(&bytes, g)?;
+        if g > first && g == newest && is_only_begun(header.as_ref(), &bytes) {
             break;
         }
         let header = header.ok_or_else(|| JournalError::new(g, 0, 0, Flaw::Header))?;
         match &last {
-            Some(last) => last.goes_on_in(&header)?,
+            Some((last, _)) => last.goes_on_in(&header)?,
             None if header.salt == saved.journal => (),
             None => return Err(header.error(Flaw::OtherStore).into()),
         }
-        let replayed = replay(bytes, &header, &mut saved.store)?;
+        let replayed = replay(&bytes, &header, &mut saved.store)?;
         entries += replayed.entries();
-        last = Some(replayed);
+        last = Some((replayed, bytes));
     }
-    last.map(|last| (last, entries))
-        .ok_or(FileError::NoJournal(generation))
+    let (last, bytes) = last.ok_or(FileError::NoJournal(first))?;
+    Ok((last, bytes, entries))
 }
 
 /// Whether a journal has no whole header; or one that is read after its own saved store alone, and no entries: that store was not saved.

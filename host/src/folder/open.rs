@@ -9,6 +9,8 @@ use crate::keeper::Store;
 use crate::numbering::Numbering;
 use std::fmt;
 use std::fs::OpenOptions;
+use std::io;
+use std::os::unix::fs::FileExt;
 use std::path::Path;
 
 /// What a folder was opened from.
@@ -44,6 +46,7 @@ impl fmt::Display for Opened {
 pub type Found = (Store, Numbering, Folder, Opened);
 
 pub fn open(path: &Path, options: Options) -> Result<Found, FileError> {
+    let path = &files::found(path)?;
     look::latest(&files::list(path)?)?; // before a lock is left where there is no store
     let lock = files::lock(path)?;
     let found = Look::at(path)?;
@@ -58,19 +61,27 @@ pub fn open(path: &Path, options: Options) -> Result<Found, FileError> {
         before: found.last.header.before,
         next: None,
     };
-    let journal = resume(path, &found.last, options)?;
-    let _ = files::clear(path, place); // what is left does no harm, and the next checkpoint tries again
+    files::sync_folder(path)?; // a process that died may not have got so far with the store's name
+    let generation = place.journal;
+    let journal = resume(path, &found.last, &found.bytes, options)
+        .map_err(|error| FileError::JournalIo { generation, error })?;
+    let _ = files::clear(path, place.store..=place.journal); // what is left does no harm, and the next checkpoint tries again
     new::clear(path);
     let folder = Folder::new(path, journal, options, generations, lock);
     Ok((found.store, found.numbers, folder, opened))
 }
 
-/// Goes on in the last journal, after what is whole.
-fn resume(path: &Path, last: &Replayed, options: Options) -> Result<Journal, FileError> {
+/// Goes on in the last journal, which has these bytes, after what is whole.
+///
+/// What is not known to have been synced is written anew. After a sync that failed, a system may call clean what it has in memory
+/// alone: such bytes can be read, and no later sync writes them.
+fn resume(path: &Path, last: &Replayed, bytes: &[u8], options: Options) -> io::Result<Journal> {
     let path = files::journal_in(path, last.header.generation);
     let file = OpenOptions::new().read(true).write(true).open(path)?;
     if last.cut.is_some() {
         file.set_len(last.length)?;
     }
-    Ok(Journal::resume(file, last, options.sync)?)
+    let from = last.noted_bytes(bytes);
+    file.write_all_at(&bytes[from..last.length as usize], from as u64)?;
+    Journal::resume(file, last, options.sync)
 }

@@ -98,6 +98,12 @@ impl<'a> Entry<'a> {
     }
 }
 
+/// The number and length of the entry that these bytes begin with, by what it says itself.
+pub fn said_at_front(bytes: &[u8]) -> Option<(u64, usize)> {
+    let front = bytes.get(..FRONT)?;
+    Some((u64_at(front, 8), FRONT + length_in(front)?))
+}
+
 /// Whether these bytes end before an entry that begins with them would, as far as they say.
 pub fn is_cut_off(bytes: &[u8]) -> bool {
     match bytes.get(..FRONT) {

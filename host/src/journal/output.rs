@@ -10,9 +10,28 @@ use std::io;
 use std::mem;
 use std::os::unix::fs::FileExt;
 use std::sync::Arc;
+use std::thread;
+use std::time::Duration;
 
 /// Room for entries is kept from one batch to the next, up to so many bytes.
 const KEPT_ROOM: usize = 1 << 20;
+
+/// A write for which the disk has no room is made again after so many milliseconds each: a store that is being saved may have taken
+/// the last of it, and gives it back when its own save fails.
+const AGAIN_AFTER: [u64; 4] = [1, 10, 100, 500];
+/// The system's number for that. `ErrorKind` has a name for it only since Rust 1.83.
+const NO_ROOM: i32 = 28;
+
+fn write_at(file: &File, bytes: &[u8], at: u64) -> io::Result<()> {
+    for pause in AGAIN_AFTER {
+        match file.write_all_at(bytes, at) {
+            Err(e) if e.raw_os_error() == Some(NO_ROOM) => (),
+            done => return done,
+        }
+        thread::sleep(Duration::from_millis(pause));
+    }
+    file.write_all_at(bytes, at)
+}
 
 /// A journal's file, and how far it is written.
 pub struct Output {
@@ -95,7 +114,7 @@ impl Output {
     }
 
     fn begin_file(&mut self) -> io::Result<()> {
-        self.file.write_all_at(&self.header.to_bytes(), 0)?;
+        write_at(&self.file, &self.header.to_bytes(), 0)?;
         self.file.sync_all()?;
         self.length = Header::LENGTH;
         self.end = Header::LENGTH;
@@ -119,7 +138,7 @@ impl Output {
 
     fn write(&mut self, entries: &mut [u8]) -> io::Result<()> {
         seal(entries, self.header.salt);
-        self.file.write_all_at(entries, self.length)?;
+        write_at(&self.file, entries, self.length)?;
         self.length += entries.len() as u64;
         self.end = self.end.max(self.length);
         Ok(())

@@ -17,7 +17,7 @@ pub enum SyncAt {
     /// Each call that shows readers something new, PUBLISH and BRANCH, and SETWINDOWS, before it returns: with everything before it.
     #[default]
     EachPublish,
-    /// No call waits: what is written is synced at the latest that much later, in the background.
+    /// No call waits for its own sync: what is written is synced at the latest that much later, in the background.
     Every(Duration),
 }
 

@@ -50,6 +50,7 @@ impl Progress {
     /// Entries up to this one are written, the last of them to this file. Gives whether there is now something to be synced, and
     /// was not before.
     pub fn has_written(&mut self, last: u64, file: &Arc<File>, first_in_file: u64) -> bool {
+        let is_more = last > self.written;
         self.written = last;
         if !Arc::ptr_eq(&self.file, file) {
             self.file = Arc::clone(file);
@@ -58,7 +59,8 @@ impl Progress {
         let before = self.unsynced_since;
         self.unsynced_since = match self.synced == last {
             true => None,
-            false => Some(before.unwrap_or_else(Instant::now)),
+            false if is_more => Some(before.unwrap_or_else(Instant::now)),
+            false => before,
         };
         before.is_none() && self.unsynced_since.is_some()
     }
@@ -74,7 +76,9 @@ impl Progress {
     pub fn end_sync(&mut self, written: u64, result: &io::Result<()>) {
         self.syncing = false;
         match result {
-            Ok(()) => self.synced = self.synced.max(written),
+            // of two syncs of a file at once, one alone is told of an error: after a failure none counts
+            Ok(()) if self.failed.is_none() => self.synced = self.synced.max(written),
+            Ok(()) => (),
             Err(error) => self.fail(error),
         }
     }
@@ -88,5 +92,44 @@ impl Progress {
     pub fn due_in(&self, wait: Duration) -> Option<Duration> {
         let since = self.unsynced_since?;
         Some(wait.saturating_sub(since.elapsed()))
+    }
+}
+
+#[cfg(test)]
+mod tests {
+    use super::*;
+
+    fn progress() -> Progress {
+        let file = File::open("/dev/null").expect("there is one");
+        Progress::new(Arc::new(file), 0)
+    }
+
+    /// What was written before a sync began is not to be synced once more, also where nothing is written meanwhile.
+    #[test]
+    fn nothing_written_is_nothing_to_be_synced() {
+        let mut progress = progress();
+        let file = Arc::clone(&progress.file);
+        assert!(progress.has_written(3, &file, 1));
+        let (_, written) = progress.begin_sync();
+        assert!(!progress.has_written(3, &file, 1));
+        progress.end_sync(written, &Ok(()));
+        assert_eq!(
+            (progress.synced, progress.due_in(Duration::ZERO)),
+            (3, None)
+        );
+        assert!(progress.has_written(4, &file, 1));
+    }
+
+    /// Of two syncs of one file the system tells only one of an error. The other has synced no more than that one.
+    #[test]
+    fn no_sync_counts_after_a_failure() {
+        let mut progress = progress();
+        let file = Arc::clone(&progress.file);
+        progress.has_written(3, &file, 1);
+        let (_, written) = progress.begin_sync();
+        progress.fail(&io::Error::from(ErrorKind::Other));
+        progress.end_sync(written, &Ok(()));
+        assert_eq!((progress.synced, progress.syncing), (0, false));
+        assert!(progress.check().is_err());
     }
 }

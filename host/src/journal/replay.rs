@@ -2,7 +2,7 @@
 
 use super::ahead::used;
 use super::call::Call;
-use super::entry::{is_cut_off, Content, Entry, MAGIC};
+use super::entry::{is_cut_off, said_at_front, Content, Entry, MAGIC};
 use super::error::{Cut, Flaw, JournalError};
 use super::header::{Header, HEADER};
 use crate::areas::Lend;
@@ -26,6 +26,21 @@ impl Replayed {
     /// How many calls were made again.
     pub fn entries(&self) -> u64 {
         self.last + 1 - self.header.first
+    }
+
+    /// How many of the journal's bytes, which are these, it notes to have been synced; not even its header, where it has no note.
+    pub fn noted_bytes(&self, bytes: &[u8]) -> usize {
+        if self.noted == 0 {
+            return 0;
+        }
+        let mut length = HEADER;
+        while let Some((number, of_entry)) = bytes.get(length..).and_then(said_at_front) {
+            if number > self.noted {
+                break;
+            }
+            length += of_entry;
+        }
+        length.min(self.length as usize)
     }
 
     /// Checks that the journal with this header goes on where this one ends: it was begun when all of this one was synced.

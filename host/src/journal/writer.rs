@@ -97,6 +97,11 @@ impl Journal {
         hold(&self.shared.taken).append(&Content::Call(*call))
     }
 
+    /// The number of the last entry taken.
+    pub fn last(&self) -> u64 {
+        hold(&self.shared.taken).last
+    }
+
     /// Returns when all entries up to this number are written, and synced where the policy asks for it.
     pub fn keep(&self, number: u64, relied_on: bool) -> Result<(), FileError> {
         self.shared.write_up_to(number)?;
@@ -175,11 +180,18 @@ impl Shared {
     fn write(&self, output: &mut Output) -> Result<(), FileError> {
         hold(&self.progress).check()?;
         let batch = hold(&self.taken).take(mem::take(&mut output.room));
-        let last = batch.last;
+        let (last, ends) = (batch.last, !batch.ended.is_empty());
+        if ends {
+            self.begin_syncing_alone()?;
+        }
         let result = output.write_batch(batch);
         self.length.store(output.length, Ordering::Relaxed);
 
         let mut progress = hold(&self.progress);
+        if ends {
+            progress.syncing = false;
+            self.synced.notify_all();
+        }
         match result {
             Ok(()) => {
                 if progress.has_written(last, &output.file, output.header.first) {
@@ -195,6 +207,18 @@ impl Shared {
                 failed
             }
         }
+    }
+
+    /// Waits until nobody syncs, and has nobody begin to: a journal's last sync is its only one just then.
+    fn begin_syncing_alone(&self) -> Result<(), FileError> {
+        let mut progress = hold(&self.progress);
+        while progress.syncing {
+            let waited = self.synced.wait(progress);
+            progress = waited.unwrap_or_else(PoisonError::into_inner);
+        }
+        progress.check()?;
+        progress.syncing = true;
+        Ok(())
     }
 
     /// Returns when the entries up to this one, which are written, are synced.

@@ -21,8 +21,10 @@ pub struct Core {
     clock: RwLock<Clock>,
     /// Held by the one whose turn it is to change the store: who waits for it keeps no reader waiting.
     turns: Mutex<()>,
-    /// Held by the one that saves.
+    /// Held by the one that saves to a file.
     saving: Mutex<()>,
+    /// Held by the one that has the store kept anew: by a checkpoint, or carried over.
+    keeping: Mutex<()>,
     /// So many readers wait for a writer's call to end. The next writer lets them go first.
     waiting: AtomicUsize,
 }
@@ -30,6 +32,8 @@ pub struct Core {
 /// A reader that finds a writer's call running looks again so often before it sleeps: some 20 microseconds. To be woken takes longer
 /// than most calls.
 const LOOKS: usize = 400;
+/// A READ of so many bytes is copied without the lock: that takes longer than its pages to be looked up.
+const LONG: usize = 256 << 10;
 /// A writer that finds readers waiting looks so often whether they have gone: at most some microseconds.
 const LOOKS_OF_A_WRITER: usize = 64;
 
@@ -47,6 +51,7 @@ impl Core {
             clock: RwLock::new(Arc::new(|| Minute::of(SystemTime::now(), 0))),
             turns: Mutex::new(()),
             saving: Mutex::new(()),
+            keeping: Mutex::new(()),
             waiting: AtomicUsize::new(0),
         }
     }
@@ -93,12 +98,19 @@ impl Core {
 
     pub fn set_clock(&self, clock: Clock) {
         let mut place = self.clock.write().unwrap_or_else(PoisonError::into_inner);
-        *place = clock;
+        let former = std::mem::replace(&mut *place, clock);
+        drop(place);
+        drop(former); // after the lock: it may hold a handle
     }
 
     /// Everybody who saves waits for this one.
     pub fn saving(&self) -> MutexGuard<'_, ()> {
         self.saving.lock().unwrap_or_else(PoisonError::into_inner)
+    }
+
+    /// Everybody who has the store kept anew waits for this one.
+    pub fn keeping(&self) -> MutexGuard<'_, ()> {
+        self.keeping.lock().unwrap_or_else(PoisonError::into_inner)
     }
 
     /// The minute by the site's clock, which is asked without a lock. Refused: 22.
@@ -122,6 +134,7 @@ impl Core {
         self.seen.set(live.published().into_iter());
         let former = std::mem::replace(&mut *place, live);
         drop(place);
+        self.seen.tell();
         drop(former); // after the lock
     }
 
@@ -137,7 +150,7 @@ impl Core {
             Some(last) if version <= last => Ok(own),
             Some(_) => Err(Error::NotPublished),
             // as the store refuses a line that has not begun; one that has is shown when its entry is kept
-            None => live.keeper.size(line, own).and(Err(Error::NoSuchLine)),
+            None => live.keeper().size(line, own).and(Err(Error::NoSuchLine)),
         }
     }
 
@@ -148,24 +161,34 @@ impl Core {
         offset: ByteOffset,
         buffer: &mut [u8],
     ) -> Result<(), Error> {
-        self.read_in(&self.reading(), line, version, offset, buffer)
+        self.read_by(self.reading(), line, version, offset, buffer)
     }
 
-    pub fn read_in(
+    /// READ by a lock that is held. Of a long one only where its pages lie is looked up under it: they are copied without.
+    pub fn read_by(
         &self,
-        live: &Live,
+        live: RwLockReadGuard<'_, Live>,
         line: Line,
         version: Version,
         offset: ByteOffset,
         buffer: &mut [u8],
     ) -> Result<(), Error> {
-        let own = self.own(live, line, version)?;
-        live.keeper.read(line, own, offset, buffer)
+        if buffer.len() >= LONG {
+            // what is refused here, READ refuses by its own rows
+            if let Ok(numbers) = self.page_numbers(&live, line, version, offset, buffer.len()) {
+                let era = Arc::clone(&live.era);
+                drop(live);
+                let skip = offset.0 as usize % era.pages.page_size();
+                return era.pages.read(numbers, skip, buffer).ok_or(Error::Damaged);
+            }
+        }
+        let own = self.own(&live, line, version)?;
+        live.keeper().read(line, own, offset, buffer)
     }
 
     pub fn size_in(&self, live: &Live, line: Line, version: Version) -> Result<u64, Error> {
         let own = self.own(live, line, version)?;
-        live.keeper.size(line, own)
+        live.keeper().size(line, own)
     }
 
     pub fn recent(&self, line: Line) -> Result<Version, Error> {
@@ -176,7 +199,7 @@ impl Core {
     }
 
     pub fn recent_in(&self, live: &Live, line: Line) -> Result<Version, Error> {
-        let unseen = || live.keeper.recent(line).and(Err(Error::NoSuchLine));
+        let unseen = || live.keeper().recent(line).and(Err(Error::NoSuchLine));
         self.seen.last(line).map_or_else(unseen, Ok)
     }
 
@@ -188,7 +211,7 @@ impl Core {
         page: PageIndex,
     ) -> Result<Version, Error> {
         let own = self.own(live, line, version)?;
-        let stamp = live.keeper.stamp(line, own, page)?;
+        let stamp = live.keeper().stamp(line, own, page)?;
         Ok(live.numbers.stamp(line, version, stamp.0))
     }
 
@@ -201,7 +224,24 @@ impl Core {
     ) -> Result<R, Error> {
         let live = self.reading();
         let own = self.own(&live, line, version)?;
-        live.keeper.view(line, own, page).map(look)
+        live.keeper().view(line, own, page).map(look)
+    }
+
+    /// The numbers of the pages that so many bytes of a version, at least one, lie in.
+    fn page_numbers(
+        &self,
+        live: &Live,
+        line: Line,
+        version: Version,
+        from: ByteOffset,
+        length: usize,
+    ) -> Result<Vec<u64>, Error> {
+        let page = live.era.pages.page_size() as u64;
+        let last = from.0.checked_add(length as u64 - 1);
+        let pages = from.0 / page..=last.ok_or(Error::OutsideSnapshot)? / page;
+        pages
+            .map(|page| self.page_number(live, line, version, PageIndex(page)))
+            .collect()
     }
 
     /// The number of a page of a version.
@@ -213,7 +253,7 @@ impl Core {
         page: PageIndex,
     ) -> Result<u64, Error> {
         let own = self.own(live, line, version)?;
-        let (begin, length) = live.keeper.view_place(line, own, page)?;
+        let (begin, length) = live.keeper().view_place(line, own, page)?;
         let number = (begin as u64).checked_div(length as u64);
         number
             .filter(|number| live.era.pages.is_put(*number))

@@ -34,16 +34,14 @@ impl<L: Log> Turn<'_, L> {
     }
 
     pub fn begin(&mut self, n: u64) -> Result<Ticket, Error> {
-        let ticket = self.live.keeper.begin(n)?;
-        self.live.touch(ticket.0);
+        let ticket = self.live.begin(n)?;
         self.took(&Call::Begin { n });
-        Ok(self.live.numbers.ticket(ticket.0))
+        Ok(self.live.numbers.ticket(ticket))
     }
 
     pub fn put(&mut self, ticket: Ticket, i: u64, bytes: &[u8]) -> Result<(), Error> {
         let ticket = self.live.numbers.own_ticket(ticket);
         self.live.put(ticket, i, bytes)?;
-        self.live.touch(ticket);
         self.took(&Call::Put { ticket, i, bytes });
         Ok(())
     }
@@ -55,28 +53,27 @@ impl<L: Log> Turn<'_, L> {
         first: PageIndex,
     ) -> Result<Assigned, Error> {
         let ticket = self.live.numbers.own_ticket(ticket);
-        let assigned = self.live.keeper.write(line, Ticket(ticket), first)?;
+        let assigned = self.live.assign(line, ticket, Some(first))?;
         self.took(&Call::Write {
             line: line.0,
             ticket,
             first: first.0,
         });
-        Ok(self.assigned(line, ticket, assigned))
+        Ok(self.assigned(line, assigned))
     }
 
     pub fn append(&mut self, line: Line, ticket: Ticket) -> Result<Assigned, Error> {
         let ticket = self.live.numbers.own_ticket(ticket);
-        let assigned = self.live.keeper.append(line, Ticket(ticket))?;
+        let assigned = self.live.assign(line, ticket, None)?;
         self.took(&Call::Append {
             line: line.0,
             ticket,
         });
-        Ok(self.assigned(line, ticket, assigned))
+        Ok(self.assigned(line, assigned))
     }
 
-    fn assigned(&mut self, line: Line, ticket: u64, assigned: Assigned) -> Assigned {
-        self.live.note_change();
-        self.live.touch(ticket);
+    /// The same, as callers count.
+    fn assigned(&self, line: Line, assigned: Assigned) -> Assigned {
         Assigned {
             version: self.live.numbers.version(line, assigned.version.0),
             ..assigned
@@ -86,23 +83,22 @@ impl<L: Log> Turn<'_, L> {
     /// Up to so many WEAVEs, until no node is left; gives the last node.
     pub fn weave(&mut self, ticket: Ticket, most: u64) -> Result<Node, Error> {
         let ticket = self.live.numbers.own_ticket(ticket);
-        let mut node = self.live.keeper.weave(Ticket(ticket))?;
+        let mut node = self.live.weave(ticket)?;
         let (mut count, mut woven) = (1, Ok(node));
         while count < most && node.rest > 0 {
-            woven = self.live.keeper.weave(Ticket(ticket));
+            woven = self.live.weave(ticket);
             match woven {
                 Ok(next) => node = next,
                 Err(_) => break, // over damaged areas
             }
             count += 1;
         }
-        self.live.touch(ticket);
         self.took(&Call::Weave { ticket, count });
         woven
     }
 
     pub fn publish(&mut self, line: Line, minute: Minute) -> Result<Published, Error> {
-        let published = self.live.keeper.publish(line, minute)?;
+        let published = self.live.publish(line, minute)?;
         Ok(match published {
             Published::Now(own) => {
                 self.took(&Call::Publish {
@@ -110,8 +106,7 @@ impl<L: Log> Turn<'_, L> {
                     minute: minute.0,
                 });
                 let version = self.live.numbers.version(line, own.0);
-                self.shown.push((line, version));
-                self.relied_on = true;
+                self.show(line, version);
                 Published::Now(version)
             }
             other => other,
@@ -120,23 +115,35 @@ impl<L: Log> Turn<'_, L> {
 
     pub fn branch(&mut self, line: Line, version: Version) -> Result<Line, Error> {
         let own = self.handle.core.own(&self.live, line, version)?;
-        let branched = self.live.keeper.branch(line, own)?;
-        let state = self.live.keeper.state();
-        self.live.numbers.complete(&state);
+        let branched = self.live.branch(line, own)?;
         self.took(&Call::Branch {
             line: line.0,
             version: own.0,
         });
-        self.shown.push((branched, version));
-        self.relied_on = true;
+        self.show(branched, version);
         Ok(branched)
     }
 
     pub fn set_windows(&mut self, text: &[u8]) -> Result<(), WindowsError> {
-        self.live.keeper.set_windows(text)?;
+        self.live.set_windows(text)?;
         self.took(&Call::SetWindows { text });
         self.relied_on = true;
         Ok(())
+    }
+
+    /// Has the turn end only when all that was taken before it is kept too.
+    pub fn wait_for_all(&mut self) {
+        self.last = Some(self.handle.log.last());
+        self.relied_on = true;
+    }
+
+    /// A line's readers may then see it up to this version.
+    fn show(&mut self, line: Line, version: Version) {
+        match self.shown.last_mut() {
+            Some((of, last)) if *of == line => *last = version,
+            _ => self.shown.push((line, version)),
+        }
+        self.relied_on = true;
     }
 
     /// Gives back the lock, and returns when the entries are kept and readers see what there is to see.
@@ -149,20 +156,21 @@ impl<L: Log> Turn<'_, L> {
             shown,
             relied_on,
         } = self;
+        let seen = &handle.core.seen;
         let show = || {
-            shown
-                .iter()
-                .for_each(|(line, version)| handle.core.seen.raise(*line, *version))
+            let raise = |(line, version): &(Line, Version)| seen.raise(*line, *version);
+            shown.iter().for_each(raise)
         };
         if L::AT_ONCE {
             show();
-            drop((live, turn));
-            return Ok(());
         }
         drop((live, turn));
-        if let Some(last) = last {
+        if let (false, Some(last)) = (L::AT_ONCE, last) {
             handle.log.keep(last, relied_on)?;
             show();
+        }
+        if !shown.is_empty() {
+            seen.tell();
         }
         Ok(())
     }

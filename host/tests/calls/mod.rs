@@ -27,7 +27,7 @@ pub enum Call {
     SetWindows(String),
     Update(Update),
     Finish(Ticket, Minute),
-    Carry(Limits, Vec<(Line, Version)>),
+    Carry(Limits, Vec<(Line, Version)>, Vec<Ticket>),
     Checkpoint,
     Sync,
 }
@@ -72,7 +72,9 @@ where
         Call::Publish(line, minute) => answer(store.publish(*line, *minute)),
         Call::Branch(line, version) => answer(store.branch(*line, *version)),
         Call::SetWindows(text) => answer(store.set_windows(text)),
-        Call::Carry(limits, versions) => answer(store.carry(*limits, versions)),
+        Call::Carry(limits, versions, given_up) => {
+            answer(store.carry_without(*limits, versions, given_up))
+        }
         Call::Checkpoint | Call::Sync => Ok("()".to_string()),
         Call::Finish(ticket, minute) => {
             set_clock(store, *minute);
@@ -311,6 +313,21 @@ impl<L: Log> Draw<'_, L> {
         limits.nodes = other(limits.nodes, 80).min(131_072);
         limits.updates = other(limits.updates, 8).min(4_096);
         let kept = self.random.below(3);
-        Call::Carry(limits, (0..kept).map(|_| self.version()).collect())
+        let versions = (0..kept).map(|_| self.version()).collect();
+        Call::Carry(limits, versions, self.given_up())
+    }
+
+    /// Now and then some tickets that have no version; and one that has, or is none.
+    fn given_up(&mut self) -> Vec<Ticket> {
+        if !self.random.one_in(3) {
+            return vec![];
+        }
+        let (random, open) = (&mut self.random, self.open.iter());
+        let some = open.filter(|open| open.version.is_none() && random.one_in(2));
+        let mut some: Vec<Ticket> = some.map(|open| open.ticket).collect();
+        if self.random.one_in(10) {
+            some.push(self.ticket(|open| open.version.is_some()));
+        }
+        some
     }
 }

@@ -2,7 +2,7 @@
 
 use crate::words::Page;
 use crate::Fault;
-use pit_host::inspect;
+use pit_host::{inspect, Error, Shared};
 use std::fmt::Write;
 use std::path::Path;
 
@@ -15,7 +15,19 @@ pub fn dump(folder: &Path, asked: &Page) -> Result<Vec<u8>, Fault> {
         true => hex(bytes).into_bytes(),
         false => bytes.to_vec(),
     };
-    Ok(store.with_view(asked.line, asked.version, asked.page, show)?)
+    let shown = store.with_view(asked.line, asked.version, asked.page, show);
+    shown.map_err(|error| match error {
+        Error::NotPublished if was_published(&store, asked) => {
+            "the version was not kept when the store was carried over".into()
+        }
+        other => other.into(),
+    })
+}
+
+/// Whether a version that is not there was published once.
+fn was_published(store: &Shared, asked: &Page) -> bool {
+    let recent = store.recent(asked.line);
+    recent.map_or(false, |recent| asked.version <= recent)
 }
 
 /// Lines with the place of the first byte, the bytes, and what of them is text.

@@ -6,6 +6,7 @@ mod dump;
 mod info;
 mod reading;
 mod remake;
+mod telling;
 mod verify;
 mod words;
 

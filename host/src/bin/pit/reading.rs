@@ -1,41 +1,36 @@
 //! Versions read whole, and checked.
 
+use crate::telling::Telling;
 use pit_host::{ByteOffset, Line, PageIndex, Shared, Version};
-use std::fs;
-use std::io::{self, Write};
 use std::sync::atomic::{AtomicU64, AtomicUsize, Ordering::Relaxed};
-use std::sync::mpsc::{channel, RecvTimeoutError};
 use std::sync::{Mutex, PoisonError};
 use std::thread;
-use std::time::Duration;
 
 /// How many pages are read at a time: what a processor keeps at hand.
 const PAGES_AT_A_TIME: usize = 16;
-/// How often it is told how far it is.
-const TOLD_EVERY: Duration = Duration::from_secs(1);
 
 /// Versions that are being read, by some threads beside each other.
 pub struct Reading<'a> {
     store: &'a Shared,
     all: &'a [(Line, Version)],
     page_size: u64,
+    /// Is told of each that is read.
+    telling: &'a Telling,
     /// The next one to be read.
     next: AtomicUsize,
-    /// How many are read.
-    done: AtomicUsize,
     pages: AtomicU64,
     /// The first fault: its version's place, and its words.
     fault: Mutex<Option<(usize, String)>>,
 }
 
 impl<'a> Reading<'a> {
-    pub fn new(store: &'a Shared, all: &'a [(Line, Version)]) -> Reading<'a> {
+    pub fn new(store: &'a Shared, all: &'a [(Line, Version)], telling: &'a Telling) -> Reading<'a> {
         Reading {
             store,
             all,
             page_size: store.limits().page_size,
+            telling,
             next: AtomicUsize::new(0),
-            done: AtomicUsize::new(0),
             pages: AtomicU64::new(0),
             fault: Mutex::new(None),
         }
@@ -43,42 +38,17 @@ impl<'a> Reading<'a> {
 
     /// Reads all of them, and gives how many pages that were.
     pub fn run(self) -> Result<u64, String> {
+        self.telling.goes_on("versions read", self.all.len());
         let threads = thread::available_parallelism().map_or(1, |n| n.get());
-        let (at_work, ended) = channel::<()>();
         thread::scope(|scope| {
             for _ in 0..threads {
-                let (at_work, reading) = (at_work.clone(), &self);
-                scope.spawn(move || {
-                    reading.read_some();
-                    drop(at_work);
-                });
+                scope.spawn(|| self.read_some());
             }
-            drop(at_work);
-            self.tell_until(|| ended.recv_timeout(TOLD_EVERY) != Err(RecvTimeoutError::Timeout));
         });
         let fault = self.fault.into_inner();
         match fault.unwrap_or_else(PoisonError::into_inner) {
             None => Ok(self.pages.into_inner()),
             Some((_, words)) => Err(words),
-        }
-    }
-
-    /// Tells now and then how far it is: on a terminal in one line, which is cleared in the end.
-    fn tell_until(&self, ended: impl Fn() -> bool) {
-        let (before, after) = match is_terminal() {
-            true => ("\r", ""),
-            false => ("", "\n"),
-        };
-        let (mut err, all) = (io::stderr(), self.all.len());
-        let mut told = false;
-        while !ended() {
-            let done = self.done.load(Relaxed);
-            let _ = write!(err, "{before}pit: {done} of {all} versions read{after}");
-            let _ = err.flush();
-            told = true;
-        }
-        if told && after.is_empty() {
-            let _ = write!(err, "\r\x1b[K");
         }
     }
 
@@ -97,7 +67,7 @@ impl<'a> Reading<'a> {
                     return self.found(at, format!("line {line}, version {version}{words}"))
                 }
             };
-            self.done.fetch_add(1, Relaxed);
+            self.telling.has_done_one();
         }
     }
 
@@ -173,13 +143,6 @@ impl<'a> Reading<'a> {
     }
 }
 
-/// Whether standard error is a terminal.
-fn is_terminal() -> bool {
-    let name = fs::read_link("/proc/self/fd/2").unwrap_or_default();
-    let name = name.to_string_lossy();
-    name.starts_with("/dev/pts/") || name.starts_with("/dev/tty")
-}
-
 #[cfg(test)]
 mod tests {
     use super::*;
@@ -194,17 +157,18 @@ mod tests {
             shared.update(live, PageIndex(0), &pages).unwrap();
         }
         let all: Vec<_> = (1..=20).map(|version| (live, Version(version))).collect();
-        assert_eq!(Reading::new(&shared, &all).run(), Ok(40));
+        let telling = &Telling::new("reading");
+        assert_eq!(Reading::new(&shared, &all, telling).run(), Ok(40));
 
         // the nodes of all versions but the first two, three each
         let (state, windows, mut areas) = shared.to_store().into_parts();
         areas.lend().nodes[12..].fill(u32::MAX);
         let damaged = Shared::new(Keeper::resume(state, windows, areas));
-        let fault = Reading::new(&damaged, &all).run().unwrap_err();
+        let fault = Reading::new(&damaged, &all, telling).run().unwrap_err();
         let words = "line 0, version 3, from byte 0 on: READ: refused: the areas are damaged";
         assert!(fault.starts_with(words), "{fault}");
         let beyond = [(live, Version(21))];
-        let fault = Reading::new(&damaged, &beyond).run().unwrap_err();
+        let fault = Reading::new(&damaged, &beyond, telling).run().unwrap_err();
         assert!(
             fault.starts_with("line 0, version 21: SIZE: refused"),
             "{fault}"

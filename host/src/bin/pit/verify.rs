@@ -3,12 +3,14 @@
 use crate::info::{at_end, many};
 use crate::reading::Reading;
 use crate::remake::remade;
+use crate::telling::Telling;
 use crate::Fault;
 use pit_host::{inspect, inspect_earlier, Comparison, Earlier, Inspection, Line, Shared, Version};
 use std::path::Path;
 
 /// What was checked, a line each; or the first fault.
 pub fn verify(folder: &Path) -> Result<String, Fault> {
+    let telling = Telling::new("the journal's calls are made again");
     let seen = inspect(folder)?;
     let mut lines = Vec::new();
     if let Some(cut) = &seen.found.cut {
@@ -20,13 +22,15 @@ pub fn verify(folder: &Path) -> Result<String, Fault> {
         lines.push(compared(&earlier)?);
         entries += earlier.entries;
     }
+    telling.goes_on("all updates are made again", 0);
     check_areas(&seen.store)?;
     let (all, gone) = versions(&seen)?;
     if gone > 0 {
         let gone = many(gone, "version was", "versions were");
         lines.push(format!("{gone} not kept when the store was carried over"));
     }
-    let (versions, pages) = (all.len(), Reading::new(&seen.store, &all).run()?);
+    let pages = Reading::new(&seen.store, &all, &telling).run()?;
+    let versions = all.len();
     let verdict = format!("verified: {versions} versions, {pages} pages, {entries} entries\n");
     lines.push(verdict);
     Ok(lines.join("\n"))

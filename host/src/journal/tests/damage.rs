@@ -50,6 +50,29 @@ fn cut_off_at_any_byte_it_makes_the_store_up_to_there() {
     }
 }
 
+/// What is not noted to have been synced is written anew where the journal goes on: all from the first entry after those that are.
+#[test]
+fn what_was_synced_is_known_to_the_byte() {
+    let seed = first_seed("what_was_synced_is_known_to_the_byte");
+    let whole = Scene::new(seed, CALLS);
+    let (_, found) = replayed(&whole.bytes).unwrap();
+    assert_eq!(found.noted_bytes(&whole.bytes), 0);
+    for synced in [1, 40, CALLS as usize] {
+        let mut note = Vec::new();
+        let number = HEADER.first - 1 + synced as u64;
+        encode(&Content::Synced, number, &mut note);
+        seal(&mut note, HEADER.salt);
+        for at in synced..=whole.calls() {
+            let mut bytes = whole.bytes.clone();
+            bytes.splice(whole.begins[at]..whole.begins[at], note.clone());
+            let (_, found) = replayed(&bytes).unwrap();
+            // the note itself may stand right behind what it notes
+            let end = whole.begins[synced] + if at == synced { note.len() } else { 0 };
+            assert_eq!(found.noted_bytes(&bytes), end, "{synced} noted after {at}");
+        }
+    }
+}
+
 #[test]
 fn a_damaged_byte_in_what_was_synced_is_an_error() {
     let seed = first_seed("a_damaged_byte_in_what_was_synced");
