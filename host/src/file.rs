@@ -104,7 +104,7 @@ pub enum FileError {
     NoJournal(u64),
     /// The system could not open the folder, or list what is in it.
     Folder(io::Error),
-    /// The folder is no longer where it was opened, so that nothing more is saved there.
+    /// The folder is no longer where it was opened, or its lock is gone: what is there may be another's, and nothing is saved there.
     FolderMoved,
     /// No saved store is in the folder.
     NoStore,
@@ -163,7 +163,7 @@ impl fmt::Display for FileError {
                 write!(f, "journal-{generation} could not be opened, read or written: {error}")
             }
             Folder(e) => write!(f, "the folder could not be opened or read: {e}"),
-            FolderMoved => f.write_str("the folder is no longer where it was opened"),
+            FolderMoved => f.write_str("the folder is no longer where it was opened, or its lock is gone"),
             NoStore => f.write_str("no saved store is in the folder"),
             StoreThere => f.write_str("a store, or a journal with entries, is in the folder already"),
             InUse { process: Some(id) } => write!(f, "the folder is open already, by process {id}"),

@@ -11,6 +11,9 @@ use std::io::Read;
 use std::ops::RangeInclusive;
 use std::path::Path;
 
+/// So many journals are opened beside each other.
+const MOST_OPEN: usize = 100;
+
 /// A saved store with the calls of the journals after it made again.
 pub struct Look {
     pub store: Store,
@@ -38,10 +41,13 @@ impl Look {
     }
 
     /// The store that a folder holds which another process may be changing. All files are opened before one is read: one that is then
-    /// removed can still be read.
+    /// removed can still be read. Of very many each is read by itself, and where one is gone, whoever looks does so again.
     pub fn beside(path: &Path) -> Result<Look, FileError> {
         let listing = files::list(path)?;
         let generations = generations(&listing)?;
+        if listing.journals.len() > MOST_OPEN {
+            return Look::at(path);
+        }
         let saved = open_saved(path, *generations.start())?;
         let mut journals = read_journals(path, &listing, generations.clone())?.into_iter();
         let saved = load_saved(saved, *generations.start())?;
