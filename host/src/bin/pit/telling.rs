@@ -3,8 +3,7 @@
 use std::fs;
 use std::io::{self, Write};
 use std::sync::atomic::{AtomicUsize, Ordering::Relaxed};
-use std::sync::mpsc::{channel, Receiver, RecvTimeoutError, Sender};
-use std::sync::{Arc, Mutex, PoisonError};
+use std::sync::{Arc, Condvar, Mutex, MutexGuard, PoisonError};
 use std::thread::{self, JoinHandle};
 use std::time::Duration;
 
@@ -14,13 +13,13 @@ const TOLD_EVERY: Duration = Duration::from_secs(1);
 /// Tells now and then what is being done, and how far it is, until it is dropped.
 pub struct Telling {
     now: Arc<Now>,
-    ended: Option<Sender<()>>,
     teller: Option<JoinHandle<()>>,
 }
 
-/// What is being done; so much of so much, where it is counted.
+/// What is being done, and nothing once it is over; so much of so much, where it is counted.
 struct Now {
-    what: Mutex<&'static str>,
+    what: Mutex<Option<&'static str>>,
+    over: Condvar,
     done: AtomicUsize,
     all: AtomicUsize,
 }
@@ -28,23 +27,22 @@ struct Now {
 impl Telling {
     pub fn new(what: &'static str) -> Telling {
         let now = Arc::new(Now {
-            what: Mutex::new(what),
+            what: Mutex::new(Some(what)),
+            over: Condvar::new(),
             done: AtomicUsize::new(0),
             all: AtomicUsize::new(0),
         });
-        let (ended, is_ended) = channel();
         let told = Arc::clone(&now);
-        let teller = thread::Builder::new().spawn(move || tell(&told, &is_ended));
+        let teller = thread::Builder::new().spawn(move || told.tell());
         Telling {
             now,
-            ended: Some(ended),
             teller: teller.ok(), // without it nothing is told
         }
     }
 
     /// Goes on to something else, of which there is so much; 0 where it is not counted.
     pub fn goes_on(&self, what: &'static str, all: usize) {
-        *self.now.what.lock().unwrap_or_else(PoisonError::into_inner) = what;
+        *self.now.what() = Some(what);
         self.now.done.store(0, Relaxed);
         self.now.all.store(all, Relaxed);
     }
@@ -57,7 +55,8 @@ impl Telling {
 
 impl Drop for Telling {
     fn drop(&mut self) {
-        self.ended = None;
+        *self.now.what() = None;
+        self.now.over.notify_all();
         if let Some(teller) = self.teller.take() {
             let _ = teller.join();
         }
@@ -65,29 +64,37 @@ impl Drop for Telling {
 }
 
 impl Now {
-    fn line(&self) -> String {
-        let what = *self.what.lock().unwrap_or_else(PoisonError::into_inner);
-        match self.all.load(Relaxed) {
+    fn what(&self) -> MutexGuard<'_, Option<&'static str>> {
+        self.what.lock().unwrap_or_else(PoisonError::into_inner)
+    }
+
+    /// The line that is told after a while; none where it is over before.
+    fn line(&self) -> Option<String> {
+        let waited = self
+            .over
+            .wait_timeout_while(self.what(), TOLD_EVERY, |what| what.is_some());
+        let what = (*waited.unwrap_or_else(PoisonError::into_inner).0)?;
+        Some(match self.all.load(Relaxed) {
             0 => format!("pit: {what}"),
             all => format!("pit: {what}: {} of {all}", self.done.load(Relaxed)),
-        }
+        })
     }
-}
 
-/// On a terminal in one line, which is cleared in the end.
-fn tell(now: &Now, ended: &Receiver<()>) {
-    let (before, after) = match is_terminal() {
-        true => ("\r\x1b[K", ""),
-        false => ("", "\n"),
-    };
-    let (mut err, mut told) = (io::stderr(), false);
-    while ended.recv_timeout(TOLD_EVERY) == Err(RecvTimeoutError::Timeout) {
-        let _ = write!(err, "{before}{}{after}", now.line());
-        let _ = err.flush();
-        told = true;
-    }
-    if told {
-        let _ = write!(err, "{before}");
+    /// On a terminal in one line, which is cleared in the end.
+    fn tell(&self) {
+        let (before, after) = match is_terminal() {
+            true => ("\r\x1b[K", ""),
+            false => ("", "\n"),
+        };
+        let (mut err, mut told) = (io::stderr(), false);
+        while let Some(line) = self.line() {
+            let _ = write!(err, "{before}{line}{after}");
+            let _ = err.flush();
+            told = true;
+        }
+        if told {
+            let _ = write!(err, "{before}");
+        }
     }
 }
 
