@@ -128,6 +128,7 @@ impl Durable {
     /// the saving: only for two short syncs, of the end of the one journal and the beginning of the next. At every byte of it the folder opens
     /// to the same store. Gives the last published version of line 0 in it.
     pub fn checkpoint(&self) -> Result<Version, Failure> {
+        let _alone = self.core.keeping();
         let version = checkpoint(&self.core, &self.log.folder)?;
         self.log.turn.succeeded();
         Ok(version)
@@ -220,9 +221,9 @@ impl Drop for InFolder {
     }
 }
 
-/// One checkpoint: everything up to one moment in the saved store, everything after it in the next journal.
+/// One checkpoint: everything up to one moment in the saved store, everything after it in the next journal. Called by the one that has
+/// [`Core::keeping`].
 fn checkpoint(core: &Core, folder: &Folder) -> Result<Version, FileError> {
-    let _alone = core.keeping();
     folder.begin_generation()?;
     let moment = {
         let _turn = core.turn();
@@ -299,6 +300,7 @@ fn checkpointer(
             if !folder.is_due_after(since) {
                 continue;
             }
+            let _alone = core.keeping();
             match checkpoint(&core, &folder) {
                 Ok(_) => turn.succeeded(),
                 Err(error) => turn.failed(&error, folder.journal().length()),

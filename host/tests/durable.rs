@@ -176,8 +176,11 @@ fn a_failed_checkpoint_is_told_until_another_succeeds() {
     let options = Options::new().checkpoint_at(400);
     let durable = Durable::create(place.path("folder"), store(), options).unwrap();
     durable.set_clock(|| Minute(0));
-    let in_the_way = place.path("folder").join("store-2");
-    fs::create_dir(&in_the_way).unwrap();
+    // of as many as there may be
+    let in_the_way: Vec<_> = (2..80).map(|g| format!("folder/store-{g}")).collect();
+    for path in &in_the_way {
+        fs::create_dir(place.path(path)).unwrap();
+    }
     let begin = Instant::now();
     while durable.checkpoint_failure().is_none() {
         assert!(begin.elapsed() < Duration::from_secs(20));
@@ -185,7 +188,9 @@ fn a_failed_checkpoint_is_told_until_another_succeeds() {
         assert!(done.is_ok() || done.unwrap_err().error().is_some());
         thread::sleep(Duration::from_millis(1));
     }
-    fs::remove_dir(in_the_way).unwrap();
+    for path in &in_the_way {
+        fs::remove_dir(place.path(path)).unwrap();
+    }
     durable.checkpoint().unwrap();
     assert_eq!(durable.checkpoint_failure(), None);
 }
