@@ -103,8 +103,7 @@ impl<L: Log> Handle<L> {
             })?
         };
         self.log.replace(&live.moment())?;
-        self.core.replace(live);
-        drop(turn);
+        self.core.replace(live, turn);
         Ok(kept)
     }
 }

@@ -296,11 +296,11 @@ fn checkpointer(
     let name = "pit checkpoint".to_string();
     thread::Builder::new().name(name).spawn(move || {
         while turn.wait() {
+            let _alone = core.keeping(); // another one may be making one just now
             let since = turn.hold().failed_at;
             if !folder.is_due_after(since) {
                 continue;
             }
-            let _alone = core.keeping();
             match checkpoint(&core, &folder) {
                 Ok(_) => turn.succeeded(),
                 Err(error) => turn.failed(&error, folder.journal().length()),

@@ -37,13 +37,15 @@ pub struct Numbers {
 const END: u64 = 1 << 62;
 
 impl Numbers {
-    /// These one by one, and after the store's own number `last` all in a row: the next is the caller's `callers` + 1. None where
-    /// they are in no order, or where the store's own would be above the caller's from there on.
+    /// These one by one, from 1 on, and after the store's own number `last` all in a row: the next is the caller's `callers` + 1. None
+    /// where they are in no order, or where the store's own would be above the caller's from there on.
     pub fn new(kept: Vec<(u64, u64)>, last: u64, callers: u64) -> Option<Numbers> {
         let shift = callers.checked_sub(last).filter(|_| callers < END)?;
         let ascend = |pair: &[(u64, u64)]| pair[0].0 < pair[1].0 && pair[0].1 < pair[1].1;
+        let begins = kept.first().map_or(true, |k| k.0 > 0 && k.1 > 0);
         let within = kept.last().map_or(true, |k| k.0 <= callers && k.1 <= last);
-        (within && kept.windows(2).all(ascend)).then_some(Numbers { kept, last, shift })
+        let right = begins && within && kept.windows(2).all(ascend);
+        right.then_some(Numbers { kept, last, shift })
     }
 
     /// The store's own number for a caller's.

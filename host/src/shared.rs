@@ -227,7 +227,7 @@ impl<L: Log> Handle<L> {
     /// the largest store. Pages that are put never change, so they are written from where they lie, without a lock.
     ///
     /// Of a store in a folder, all that the file will hold is synced there first: a file never has a version that a power cut takes from the
-    /// folder. Where the journal has failed, nothing is saved; [`to_store`](Handle::to_store) then gives what there is.
+    /// folder. Where the journal has failed before it had all of that, nothing is saved; [`to_store`](Handle::to_store) gives what there is.
     ///
     /// One thread saves at a time, and others that save wait for it. So what a finished save has left is never replaced by
     /// an older one.
@@ -265,8 +265,8 @@ impl Shared {
     pub fn reload(&self, path: impl AsRef<Path>) -> Result<(), FileError> {
         let (store, numbers) = file::load(path.as_ref())?.numbered()?;
         let live = Live::new(store, numbers);
-        let _turn = self.core.turn(); // no carry is on its way, which would put the former store in place again
-        self.core.replace(live);
+        let turn = self.core.turn(); // no carry is on its way, which would put the former store in place again
+        self.core.replace(live, turn);
         Ok(())
     }
 }

@@ -147,7 +147,9 @@ impl<L: Log> Handle<L> {
         let minute = self.core.minute()?;
         let mut turn = self.turn()?;
         let last = turn.publish_due(line, minute);
-        turn.wait_for_all();
+        if let Ok(last) = last {
+            turn.show_others(line, last);
+        }
         turn.end()?;
         Ok(last?)
     }
@@ -176,12 +178,15 @@ impl<L: Log> Turn<'_, L> {
     /// Weaves what is left of a ticket's version, and publishes what is then due on its line.
     fn finish(&mut self, ticket: Ticket, minute: Minute) -> Result<Version, Error> {
         let own = self.live().numbers.own_ticket(ticket);
-        match nodes_left(self.live(), own) {
-            Some(0) => self.wait_for_all(), // another thread's WEAVE may not be kept yet
-            _ => drop(self.weave(ticket, u64::MAX)?),
+        let is_woven = nodes_left(self.live(), own) == Some(0);
+        if !is_woven {
+            self.weave(ticket, u64::MAX)?;
         }
         let (line, version) = version_of(self.live(), own).ok_or(Error::Damaged)?;
-        self.publish_due(line, minute)?;
+        let last = self.publish_due(line, minute)?;
+        if is_woven {
+            self.show_others(line, last);
+        }
         Ok(version)
     }
 }

@@ -14,7 +14,7 @@ use std::time::{Duration, Instant};
 const LIVE: Line = Line(0);
 
 fn store() -> Store {
-    Store::format(Limits::new(16, 100, 400, 40)).unwrap()
+    Store::format(Limits::new(16, 400, 4_000, 200)).unwrap()
 }
 
 /// A new folder with a store in which nothing is done by itself.
@@ -77,6 +77,26 @@ fn what_is_finished_is_kept() {
     assert_eq!(durable.recent(LIVE).unwrap(), Version(0)); // it is held
 }
 
+/// Two threads finish one update, of which one alone publishes it: when either has returned, it can be read.
+#[test]
+fn what_is_finished_can_be_read() {
+    let place = Folder::new("durable-both");
+    let durable = &durable(&place, "folder", SyncAt::EachPublish);
+    for _ in 0..150 {
+        let (ticket, _) = assign(durable);
+        let finish = || {
+            let version = durable.finish(ticket).unwrap();
+            assert!(durable.snapshot(LIVE, version).is_ok(), "{version}");
+            let last = durable.publish_due(LIVE).unwrap();
+            assert!(version <= last && durable.size(LIVE, last).is_ok());
+        };
+        thread::scope(|threads| {
+            threads.spawn(finish);
+            finish();
+        });
+    }
+}
+
 /// A process that ends between the last WEAVE and PUBLISH leaves no ticket in work, and a version that is due.
 #[test]
 fn what_is_due_is_published_after_opening() {
@@ -98,7 +118,7 @@ fn what_is_due_is_published_after_opening() {
     assert!(durable.publish_due(Line(1)).unwrap_err().error().is_some());
 }
 
-/// The thread that syncs has nothing to do when all is synced, also where a checkpoint has looked meanwhile.
+/// Also where checkpoints end journals meanwhile.
 #[test]
 fn all_is_synced_some_time_after_it_returned() {
     let place = Folder::new("durable-every");
@@ -177,7 +197,7 @@ fn a_failed_checkpoint_is_told_until_another_succeeds() {
     let durable = Durable::create(place.path("folder"), store(), options).unwrap();
     durable.set_clock(|| Minute(0));
     // of as many as there may be
-    let in_the_way: Vec<_> = (2..80).map(|g| format!("folder/store-{g}")).collect();
+    let in_the_way: Vec<_> = (2..250).map(|g| format!("folder/store-{g}")).collect();
     for path in &in_the_way {
         fs::create_dir(place.path(path)).unwrap();
     }

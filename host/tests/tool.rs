@@ -43,7 +43,17 @@ fn tool<I: AsRef<OsStr>>(words: impl IntoIterator<Item = I>) -> Command {
     tool
 }
 
-/// What the tool answers for a folder, which it leaves as it was. The folder's path is shown as `F`.
+/// Whether a line only tells how far the tool is, as it does where it takes more than a second.
+fn is_progress(line: &str) -> bool {
+    let begins = [
+        "pit: the journal's calls are made again",
+        "pit: all updates are made again",
+        "pit: versions read: ",
+    ];
+    begins.iter().any(|begin| line.starts_with(begin))
+}
+
+/// What the tool answers for a folder, which it leaves as it was. The folder's path is shown as `F`, and progress is not.
 fn asked(words: &[&str], folder: &Path) -> (i32, String, String) {
     let before = files(folder);
     let path = folder.to_str().unwrap();
@@ -52,7 +62,11 @@ fn asked(words: &[&str], folder: &Path) -> (i32, String, String) {
         .map(|word| if *word == "F" { path } else { *word });
     let output = tool(words).output().unwrap();
     assert!(files(folder) == before);
-    let text = |bytes: Vec<u8>| String::from_utf8(bytes).unwrap().replace(path, "F");
+    let text = |bytes: Vec<u8>| {
+        let text = String::from_utf8(bytes).unwrap().replace(path, "F");
+        let lines = text.split_inclusive('\n');
+        lines.filter(|line| !is_progress(line)).collect::<String>()
+    };
     let Output {
         status,
         stdout,

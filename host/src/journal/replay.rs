@@ -28,17 +28,18 @@ impl Replayed {
         self.last + 1 - self.header.first
     }
 
-    /// How many of the journal's bytes, which are these, it notes to have been synced; not even its header, where it has no note.
+    /// How many of the journal's bytes, which are these, it notes to have been synced: up to the end of the last call that is. Not even
+    /// its header, where it has no note. A note itself was written after the sync.
     pub fn noted_bytes(&self, bytes: &[u8]) -> usize {
         if self.noted == 0 {
             return 0;
         }
-        let mut length = HEADER;
-        while let Some((number, of_entry)) = bytes.get(length..).and_then(said_at_front) {
-            if number > self.noted {
-                break;
+        let (mut length, mut number) = (HEADER, 0);
+        while number < self.noted {
+            match bytes.get(length..).and_then(said_at_front) {
+                Some((next, of_entry)) => (number, length) = (next, length + of_entry),
+                None => break,
             }
-            length += of_entry;
         }
         length.min(self.length as usize)
     }

@@ -127,15 +127,15 @@ impl Core {
         }
     }
 
-    /// Another store takes this one's place, for all handles.
-    pub fn replace(&self, live: Live) {
+    /// Another store takes this one's place, for all handles. Called by the one whose turn it is, which ends with it.
+    pub fn replace(&self, live: Live, turn: MutexGuard<'_, ()>) {
         let mut place = self.writing();
         place.end();
         self.seen.set(live.published().into_iter());
         let former = std::mem::replace(&mut *place, live);
-        drop(place);
+        drop((place, turn));
         self.seen.tell();
-        drop(former); // after the lock
+        drop(former); // after the locks
     }
 
     /// The store as it is at one moment of this call. The lock is held while all but the pages are copied.

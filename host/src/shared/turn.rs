@@ -131,12 +131,6 @@ impl<L: Log> Turn<'_, L> {
         Ok(())
     }
 
-    /// Has the turn end only when all that was taken before it is kept too.
-    pub fn wait_for_all(&mut self) {
-        self.last = Some(self.handle.log.last());
-        self.relied_on = true;
-    }
-
     /// A line's readers may then see it up to this version.
     fn show(&mut self, line: Line, version: Version) {
         match self.shown.last_mut() {
@@ -144,6 +138,13 @@ impl<L: Log> Turn<'_, L> {
             _ => self.shown.push((line, version)),
         }
         self.relied_on = true;
+    }
+
+    /// The same of a version that another turn may have published, and not yet shown: this one ends only when all that was taken
+    /// before it is kept too.
+    pub fn show_others(&mut self, line: Line, version: Version) {
+        self.last = Some(self.handle.log.last());
+        self.show(line, version);
     }
 
     /// Gives back the lock, and returns when the entries are kept and readers see what there is to see.

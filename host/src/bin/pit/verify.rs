@@ -79,7 +79,8 @@ fn versions(seen: &Inspection) -> Result<(Vec<(Line, Version)>, u64), Fault> {
     let (mut all, mut gone) = (Vec::new(), 0);
     for line in (0..seen.state.begun).map(Line) {
         let versions = seen.store.versions(line)?;
-        let missing = seen.store.recent(line)?.0 - versions.len() as u64;
+        let recent = seen.store.recent(line)?.0;
+        let missing = recent.saturating_sub(versions.len() as u64);
         gone = u64::saturating_add(gone, missing);
         all.extend(versions.into_iter().map(|version| (line, version)));
     }

@@ -66,8 +66,7 @@ fn what_was_synced_is_known_to_the_byte() {
             let mut bytes = whole.bytes.clone();
             bytes.splice(whole.begins[at]..whole.begins[at], note.clone());
             let (_, found) = replayed(&bytes).unwrap();
-            // the note itself may stand right behind what it notes
-            let end = whole.begins[synced] + if at == synced { note.len() } else { 0 };
+            let end = whole.begins[synced];
             assert_eq!(found.noted_bytes(&bytes), end, "{synced} noted after {at}");
         }
     }
