@@ -52,6 +52,7 @@ mod tests;
 
 use crate::areas::Lend;
 use crate::counters::Version;
+use crate::file::lock::Held;
 use crate::file::{FileError, SavePlace};
 use crate::journal::{new_salt, Header, Journal};
 use crate::keeper::Keeper;
@@ -78,8 +79,8 @@ pub struct Folder {
     options: Options,
     journal: Journal,
     generations: Mutex<Generations>,
-    /// Closed last.
-    lock: File,
+    /// Given back last.
+    lock: Held,
 }
 
 /// Which saved store a folder is opened from, and which journal is written.
@@ -152,7 +153,7 @@ impl Folder {
         journal: Journal,
         options: Options,
         generations: Generations,
-        lock: File,
+        lock: Held,
     ) -> Folder {
         Folder {
             path: path.to_path_buf(),
@@ -183,7 +184,7 @@ impl Folder {
 
     /// Checks that the folder is still where it was: what is there now may be another's.
     fn check_place(&self) -> Result<(), FileError> {
-        match files::is_locked_by(&self.path, &self.lock)? {
+        match files::is_locked_by(&self.path, &self.lock.0)? {
             true => Ok(()),
             false => Err(FileError::FolderMoved),
         }

@@ -9,6 +9,7 @@ use std::os::unix::io::AsRawFd;
 /// One holder alone; and an answer at once, where somebody else holds it.
 const EXCLUSIVE: c_int = 2;
 const AT_ONCE: c_int = 4;
+const NOBODY: c_int = 8;
 
 extern "C" {
     fn flock(descriptor: c_int, operation: c_int) -> c_int;
@@ -27,5 +28,36 @@ pub fn try_hold(file: &File) -> io::Result<bool> {
             ErrorKind::Interrupted => (),
             _ => return Err(error),
         }
+    }
+}
+
+/// A file whose lock is held, until this is dropped. To close the file is not enough: a process that was just started from this one has it open
+/// too, until it runs its own program, and would hold the lock for as long.
+pub struct Held(pub File);
+
+impl Drop for Held {
+    fn drop(&mut self) {
+        // SAFETY: as above. Where it fails, the lock ends when the file is closed.
+        unsafe { flock(self.0.as_raw_fd(), NOBODY) };
+    }
+}
+
+#[cfg(test)]
+mod tests {
+    use super::*;
+    use crate::file::new::tests::Folder;
+
+    /// A copy of the descriptor, as a process has it that was just started.
+    #[test]
+    fn a_lock_that_is_dropped_is_free_also_where_the_file_is_still_open() {
+        let folder = Folder::new("lock");
+        let path = folder.0.join("lock");
+        let held = Held(File::create(&path).unwrap());
+        assert!(try_hold(&held.0).unwrap());
+        let (copy, other) = (held.0.try_clone().unwrap(), File::open(&path).unwrap());
+        assert!(!try_hold(&other).unwrap());
+        drop(held);
+        assert!(try_hold(&other).unwrap());
+        drop(copy);
     }
 }

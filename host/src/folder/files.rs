@@ -1,6 +1,6 @@
 //! The files of a folder.
 
-use crate::file::lock::try_hold;
+use crate::file::lock::{try_hold, Held};
 use crate::file::new::is_at;
 use crate::file::FileError;
 use std::fs::{self, File, OpenOptions};
@@ -97,8 +97,8 @@ pub fn new_journal(folder: &Path, generation: u64) -> io::Result<File> {
     Ok(file)
 }
 
-/// Locks a folder for as long as the file is open, and writes down for whom.
-pub fn lock(folder: &Path) -> Result<File, FileError> {
+/// Locks a folder until this is dropped, and writes down for whom.
+pub fn lock(folder: &Path) -> Result<Held, FileError> {
     let mut options = OpenOptions::new();
     let mut file = options
         .read(true)
@@ -114,7 +114,7 @@ pub fn lock(folder: &Path) -> Result<File, FileError> {
     let _ = file
         .write_all(process.as_bytes())
         .and_then(|()| file.set_len(process.len() as u64));
-    Ok(file)
+    Ok(Held(file))
 }
 
 /// Whether a folder is the one with this lock.
