@@ -6,7 +6,7 @@
 //! - [`Shared`] is a store for threads: writers each on a ticket, readers beside each other. [`Durable`] is one that is kept in a
 //!   folder. Both are a [`Handle`], which also has whole updates in one call, and carries a store that is full over into another one.
 //! - [`Snapshot`] is a published version, held for reading without a lock.
-//! - [`Store::save`] and [`Store::load`] keep a store in a file. [`inspect`] looks at a folder without opening it, as the tool `pit`
+//! - [`Store::save`] and [`Store::load`] keep a store in a file. [`inspect`](fn@inspect) looks at a folder without opening it, as the tool `pit`
 //!   does.
 //! - [`Limits`], [`root_span`] and [`node_count`] size the areas.
 //! - [`Windows`] are the times of the week during which nothing is published; [`Minute::of`] is a time's minute.
