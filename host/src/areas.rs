@@ -7,8 +7,8 @@ use crate::error::Error;
 use crate::ffi::{RawAreas, Record};
 use std::fmt;
 
-pub(crate) use limits::MOST_PAGES;
 pub use limits::{Limits, Planned};
+pub(crate) use limits::{MOST_OF_UPDATE, MOST_PAGES};
 pub use limits_error::{Capacity, LimitsError, WrongUpdate};
 
 /// Areas that can be lent to a call. All calls of a [`Keeper`](crate::Keeper) are written over this, so a host
@@ -37,6 +37,16 @@ pub struct Parts<'a> {
     pub nodes: &'a [u32],
     /// The register of updates.
     pub register: &'a [Record],
+}
+
+/// The place, from 0, of what is counted from 1, as tickets, updates and their records are; 0 counts nothing.
+pub(crate) fn place_of(number: u64) -> Option<usize> {
+    usize::try_from(number.checked_sub(1)?).ok()
+}
+
+/// The record of the register with this number, where it has one.
+pub(crate) fn record(register: &[Record], number: u64) -> Option<&Record> {
+    register.get(place_of(number)?)
 }
 
 /// The three areas of a store, lent to it by the host, who keeps the memory.

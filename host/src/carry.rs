@@ -1,6 +1,6 @@
 //! A store carried over into another one, under its running callers.
 
-use crate::areas::{Lend, Limits};
+use crate::areas::{record, Lend, Limits, MOST_OF_UPDATE};
 use crate::counters::{Line, LineVersion, PageIndex, Ticket, Version};
 use crate::error::Error;
 use crate::ffi::Record;
@@ -12,9 +12,6 @@ use crate::shared::Handle;
 use crate::Minute;
 use std::collections::{BTreeMap, BTreeSet};
 use std::ops::Range;
-
-/// An update has at most so many pages.
-const MOST_OF_AN_UPDATE: u64 = 64;
 
 impl<L: Log> Handle<L> {
     /// Carries the store over into a new one with these limits, which takes its place for every handle. Kept are the versions named,
@@ -191,8 +188,7 @@ impl<'a> Carrying<'a> {
         for ticket in tickets {
             let own = self.old.numbers.own_ticket(*ticket);
             let given = (1..=self.old.keeper().state().tickets).contains(&own);
-            let record = self.register.get(own.wrapping_sub(1) as usize);
-            match record.filter(|_| given) {
+            match record(self.register, own).filter(|_| given) {
                 None => return Err(Error::NoSuchTicket),
                 Some(record) if record.update > 0 => return Err(Error::OutOfTurn),
                 Some(_) => self.given_up.insert(own),
@@ -276,18 +272,17 @@ impl<'a> Carrying<'a> {
         let state = self.old.keeper().state();
         let mut assigned = BTreeMap::new();
         for own in 1..=state.tickets {
-            let record = self.register.get(own as usize - 1).ok_or(Error::Damaged)?;
-            if record.update > 0 {
-                let update = self.register.get(record.update as usize - 1);
-                let update = update.ok_or(Error::Damaged)?;
+            let begun = record(self.register, own).ok_or(Error::Damaged)?;
+            if begun.update > 0 {
+                let update = record(self.register, begun.update).ok_or(Error::Damaged)?;
                 let name = LineVersion(update.name);
                 if name.version().0 <= state.line(name.line()).published {
                     continue;
                 }
-                assigned.insert(record.update, (own, update));
+                assigned.insert(begun.update, (own, update));
             }
             if !self.given_up.contains(&own) {
-                self.ticket(own, record)?;
+                self.ticket(own, begun)?;
             }
         }
         for (own, update) in assigned.into_values() {
@@ -369,7 +364,7 @@ fn rows(mut written: Vec<Range<u64>>) -> Vec<Range<u64>> {
         let rest = pages.start.max(end)..pages.end;
         match rows.last_mut() {
             _ if rest.is_empty() => (),
-            Some(row) if end == rest.start && rest.end - row.start <= MOST_OF_AN_UPDATE => {
+            Some(row) if end == rest.start && rest.end - row.start <= MOST_OF_UPDATE => {
                 row.end = rest.end
             }
             _ => rows.push(rest),

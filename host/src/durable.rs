@@ -48,7 +48,7 @@ pub type Durable = Handle<InFolder>;
 /// In the journal of a folder.
 pub struct InFolder {
     folder: Arc<Folder>,
-    turn: Arc<Checkpoints>,
+    checkpoints: Arc<Checkpoints>,
     checkpointer: Option<JoinHandle<()>>,
 }
 
@@ -111,11 +111,11 @@ impl Durable {
 
     fn start(core: Core, folder: Folder) -> Result<Durable, Failure> {
         let (core, folder) = (Arc::new(core), Arc::new(folder));
-        let turn = Arc::new(Checkpoints::default());
-        let checkpointer = checkpointer(core.clone(), folder.clone(), turn.clone());
+        let checkpoints = Arc::new(Checkpoints::default());
+        let checkpointer = checkpointer(core.clone(), folder.clone(), checkpoints.clone());
         let log = InFolder {
             folder,
-            turn,
+            checkpoints,
             checkpointer: Some(checkpointer.map_err(FileError::Io)?),
         };
         Ok(Handle {
@@ -130,14 +130,14 @@ impl Durable {
     pub fn checkpoint(&self) -> Result<Version, Failure> {
         let _alone = self.core.keeping();
         let version = checkpoint(&self.core, &self.log.folder)?;
-        self.log.turn.succeeded();
+        self.log.checkpoints.succeeded();
         Ok(version)
     }
 
     /// Why the last checkpoint that was begun by itself failed; none where it did not, or another one has succeeded since. The journal
     /// goes on then, and another is begun when it has grown by its size once more.
     pub fn checkpoint_failure(&self) -> Option<String> {
-        self.log.turn.hold().failure.clone()
+        self.log.checkpoints.hold().failure.clone()
     }
 
     /// Returns when all calls that have returned are synced to the disk.
@@ -184,7 +184,7 @@ impl Log for InFolder {
     fn keep(&self, number: u64, relied_on: bool) -> Result<(), Failure> {
         self.folder.journal().keep(number, relied_on)?;
         if self.folder.is_due() {
-            self.turn.ask();
+            self.checkpoints.ask();
         }
         Ok(())
     }
@@ -205,7 +205,7 @@ impl Log for InFolder {
             return Err(error.into());
         }
         let _ = self.folder.end_generation(); // what is left does no harm
-        self.turn.succeeded();
+        self.checkpoints.succeeded();
         Ok(())
     }
 }
@@ -213,8 +213,8 @@ impl Log for InFolder {
 /// The thread that makes checkpoints ends before the folder is closed.
 impl Drop for InFolder {
     fn drop(&mut self) {
-        self.turn.hold().closing = true;
-        self.turn.asked.notify_all();
+        self.checkpoints.hold().closing = true;
+        self.checkpoints.asked.notify_all();
         if let Some(checkpointer) = self.checkpointer.take() {
             let _ = checkpointer.join();
         }
@@ -291,19 +291,19 @@ impl Checkpoints {
 fn checkpointer(
     core: Arc<Core>,
     folder: Arc<Folder>,
-    turn: Arc<Checkpoints>,
+    checkpoints: Arc<Checkpoints>,
 ) -> io::Result<JoinHandle<()>> {
     let name = "pit checkpoint".to_string();
     thread::Builder::new().name(name).spawn(move || {
-        while turn.wait() {
+        while checkpoints.wait() {
             let _alone = core.keeping(); // another one may be making one just now
-            let since = turn.hold().failed_at;
+            let since = checkpoints.hold().failed_at;
             if !folder.is_due_after(since) {
                 continue;
             }
             match checkpoint(&core, &folder) {
-                Ok(_) => turn.succeeded(),
-                Err(error) => turn.failed(&error, folder.journal().length()),
+                Ok(_) => checkpoints.succeeded(),
+                Err(error) => checkpoints.failed(&error, folder.journal().length()),
             }
         }
     })

@@ -1,7 +1,7 @@
 //! The store that a handle's threads share, as it stands behind the lock.
 
-use crate::areas::{Areas, Lend};
-use crate::counters::{Line, Minute, PageIndex, Ticket, Version};
+use crate::areas::{place_of, record, Areas, Lend};
+use crate::counters::{Line, LineVersion, Minute, PageIndex, Ticket, Version};
 use crate::error::Error;
 use crate::ffi::{Record, State, Windows};
 use crate::file::{last_part, put_pages, FileError, SavePlace, Taken};
@@ -89,15 +89,14 @@ impl Era {
 
 /// What an update, counted from 1, changed, by the register; and its place from 0.
 fn change_of(update: u64, register: &[Record]) -> Option<(usize, Change)> {
-    let at = usize::try_from(update.checked_sub(1)?).ok()?;
-    let record = register.get(at)?;
-    let ticket = usize::try_from(record.ticket.checked_sub(1)?).ok()?;
-    let ticket = register.get(ticket)?;
-    let name = crate::counters::LineVersion(record.name);
+    let at = place_of(update)?;
+    let made = register.get(at)?;
+    let ticket = record(register, made.ticket)?;
+    let name = LineVersion(made.name);
     let change = Change {
         line: name.line().0,
         version: name.version().0,
-        first: record.f,
+        first: made.f,
         pages: ticket.n,
         number: ticket.number,
     };
@@ -167,8 +166,7 @@ impl Live {
     /// The number of a ticket's page. None where the register has no such ticket.
     fn page_of(&self, ticket: u64, i: u64) -> Option<(u64, bool)> {
         let register = self.keeper.areas().parts().register;
-        let at = usize::try_from(ticket.checked_sub(1)?).ok()?;
-        let record = register.get(at)?;
+        let record = record(register, ticket)?;
         let bit = u32::try_from(i)
             .ok()
             .and_then(|i| record.put.checked_shr(i));
@@ -261,10 +259,7 @@ impl Live {
 
     /// Notes when a call was last made on a ticket, where that is known.
     pub fn set_touched(&mut self, ticket: u64, then: Option<Instant>) {
-        let at = ticket
-            .checked_sub(1)
-            .and_then(|at| usize::try_from(at).ok());
-        let place = at.and_then(|at| self.touched.get_mut(at));
+        let place = place_of(ticket).and_then(|at| self.touched.get_mut(at));
         if let (Some(touched), Some(then)) = (place, then) {
             *touched = then;
         }
@@ -272,8 +267,7 @@ impl Live {
 
     /// When a call was last made on a ticket, or the store was taken up.
     pub fn touched(&self, ticket: u64) -> Option<Instant> {
-        let at = usize::try_from(ticket.checked_sub(1)?).ok()?;
-        self.touched.get(at).copied()
+        self.touched.get(place_of(ticket)?).copied()
     }
 
     /// Whether FORMAT could have made the areas.

@@ -1,6 +1,6 @@
 //! Whole updates in one call, and those that somebody has begun and not finished.
 
-use crate::areas::{Lend, MOST_PAGES};
+use crate::areas::{record, Lend, MOST_OF_UPDATE, MOST_PAGES};
 use crate::counters::{Line, LineVersion, Minute, PageIndex, Ticket, Version};
 use crate::error::Error;
 use crate::ffi::{node_count, Record, State};
@@ -8,9 +8,6 @@ use crate::live::Live;
 use crate::log::Log;
 use crate::shared::{Handle, Turn};
 use std::time::{Duration, Instant};
-
-/// An update has at most so many pages.
-const MOST_OF_AN_UPDATE: usize = 64;
 
 /// An update in work: begun, and its tree not yet woven whole.
 #[derive(Clone, Copy, Debug, PartialEq, Eq)]
@@ -220,10 +217,7 @@ fn check(live: &Live, line: Line, at: Option<PageIndex>, pages: &[&[u8]]) -> Res
     let end = first.saturating_add(n);
     let nodes = || node_count(first, n, blob.max(end));
     let rows = [
-        (
-            pages.is_empty() || pages.len() > MOST_OF_AN_UPDATE,
-            Error::UpdateSize,
-        ),
+        (n == 0 || n > MOST_OF_UPDATE, Error::UpdateSize),
         (s.tickets >= s.updates, Error::RegisterFull),
         (s.pages.saturating_sub(s.taken) < n, Error::PagesFull),
         (
@@ -239,10 +233,6 @@ fn check(live: &Live, line: Line, at: Option<PageIndex>, pages: &[&[u8]]) -> Res
         None if s.nodes.saturating_sub(s.places) < nodes() => Err(Error::NodesFull),
         None => Ok(()),
     }
-}
-
-fn record(register: &[Record], number: u64) -> Option<&Record> {
-    register.get(usize::try_from(number.checked_sub(1)?).ok()?)
 }
 
 /// What the register has of the update of a ticket, by the store's own number; none where it has no version.

@@ -9,7 +9,7 @@ use crate::ffi::{self, State};
 /// A blob has at most this many pages.
 pub(crate) const MOST_PAGES: u64 = 4_096;
 /// An update has at most this many pages.
-const MOST_OF_UPDATE: u64 = 64;
+pub(crate) const MOST_OF_UPDATE: u64 = 64;
 
 /// The limits of a store: its page size in bytes, and how many pages, nodes and updates it can ever hold.
 ///

@@ -4,6 +4,8 @@
 mod comes_back;
 mod damage;
 mod drawn;
+#[path = "../folder/mod.rs"]
+mod folder;
 mod place;
 #[path = "../random/mod.rs"]
 mod random;
@@ -34,6 +36,12 @@ fn words_and_causes() {
         FileError::Checksum,
         FileError::Counters,
         FileError::Windows,
+        FileError::Folder(std::io::Error::new(std::io::ErrorKind::Other, "no disk")),
+        FileError::JournalIo {
+            generation: 3,
+            error: std::io::Error::new(std::io::ErrorKind::Other, "no disk"),
+        },
+        FileError::FolderMoved,
     ];
     let words: Vec<String> = errors.iter().map(FileError::to_string).collect();
     assert!(words.iter().all(|w| w.len() > 20));
@@ -43,5 +51,5 @@ fn words_and_causes() {
             && words[5].contains("3 bytes of 128")
     );
     let with_cause = errors.iter().filter(|e| e.source().is_some()).count();
-    assert_eq!(with_cause, 2);
+    assert_eq!(with_cause, 4);
 }

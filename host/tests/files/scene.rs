@@ -1,40 +1,10 @@
-//! What the tests share: a folder each, a store in work, and the file's numbers and checksum as documented.
+//! What the tests share: a store in work, and the file's numbers and checksum as documented.
 
+pub use crate::folder::Folder;
 use crate::updates::{assign, limits, update, LIVE};
 use pit_host::{FileError, Limits, Line, Record, Store, Version, Window, Windows};
 use std::fs;
 use std::ops::Range;
-use std::path::PathBuf;
-
-/// A folder of one test's own, removed again.
-pub struct Folder(pub PathBuf);
-
-impl Folder {
-    pub fn new(name: &str) -> Folder {
-        let path = std::env::temp_dir().join(format!("pit-files-{name}-{}", std::process::id()));
-        fs::create_dir_all(&path).unwrap();
-        Folder(path)
-    }
-
-    pub fn file(&self) -> PathBuf {
-        self.0.join("store")
-    }
-
-    /// The names of everything in it.
-    pub fn names(&self) -> Vec<String> {
-        let entries = fs::read_dir(&self.0).unwrap();
-        let name = |entry: fs::DirEntry| entry.file_name().to_string_lossy().into_owned();
-        let mut names: Vec<_> = entries.map(|entry| name(entry.unwrap())).collect();
-        names.sort();
-        names
-    }
-}
-
-impl Drop for Folder {
-    fn drop(&mut self) {
-        let _ = fs::remove_dir_all(&self.0);
-    }
-}
 
 /// CRC-64/XZ a bit at a time, as its definition has it.
 pub fn checksum(bytes: impl Iterator<Item = u8>) -> u64 {

@@ -40,6 +40,11 @@ impl Folder {
         self.0.join(name)
     }
 
+    /// The file of a store that is saved in it.
+    pub fn file(&self) -> PathBuf {
+        self.path("store")
+    }
+
     /// All files but the lock, with their names.
     pub fn files(&self) -> Vec<(String, Vec<u8>)> {
         let names = self.names().into_iter().filter(|name| name != "lock");
