@@ -127,7 +127,7 @@ unfoldable pub latestReply : Latest → Reply
 latestReply (Latest.Is v) = Reply.Recent (v .0)
 latestReply (Latest.Refused k) = Reply.Refused k
 
--- STAMP: the version that last wrote the page.
+-- STAMP: the lowest version from which on the page has had its bytes.
 unfoldable pub stampedReply : Stamped → Reply
 stampedReply (Stamped.Is v) = Reply.Stamp (v .0)
 stampedReply (Stamped.Refused k) = Reply.Refused k

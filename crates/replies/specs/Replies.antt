@@ -142,7 +142,7 @@ abbrev pub recentReply : Latest → VersionReply
 recentReply (Latest.Is v) = record { refusal = 0; version = v .0 }
 recentReply (Latest.Refused k) = record { refusal = k; version = 0 }
 
--- STAMP: the version that last wrote the page; 0 where it is refused.
+-- STAMP: the lowest version from which on the page has had its bytes; 0 where it is refused.
 abbrev pub stampReply : Stamped → VersionReply
 stampReply (Stamped.Is v) = record { refusal = 0; version = v .0 }
 stampReply (Stamped.Refused k) = record { refusal = k; version = 0 }
