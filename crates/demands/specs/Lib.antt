@@ -9,3 +9,4 @@ pub mod Figure
 pub mod Lines
 pub mod Windows
 pub mod Stamps
+pub mod Foreign

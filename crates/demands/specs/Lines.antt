@@ -14,7 +14,7 @@ use Rattle.versions.specs.Store.{Areas}
 use Rattle.assign.specs.Assign.{withEntryOf}
 use Rattle.demands.specs.Computes.{computes}
 use Rattle.demands.specs.Run.{State, onStore, formattedState, storeAfter, withRegister}
-use Rattle.demands.specs.Rows.{no, noRead}
+use Rattle.demands.specs.Rows.{no, noRead, withAreas}
 
 unfoldable pub areas : Areas
 areas = record { pages = replicate 128 1; nodes = replicate 32 1; register = replicate 8 noRecord }
@@ -216,9 +216,8 @@ tree-by-area = refl
 -- Version 2 of line 0 is the third update, which record 2's entry of line 0 alone names; here that entry is lost. Version 2 of line 1 is the second update.
 unfoldable pub forgotten : State
 forgotten =
-    let x = storeAfter limits areas (calls ++ more) in
-    let rs = x .areas .register in
-    record { store = x .store; windows = x .windows; areas = withRegister (x .areas) (withRecord rs 1 (withEntryOf (getD rs 1 noRecord) 0 0)) }
+    withAreas (storeAfter limits areas (calls ++ more)) λ a.
+    withRegister a (withRecord (a .register) 1 (withEntryOf (getD (a .register) 1 noRecord) 0 0))
 
 pub row19-entries :
     outcomes onStore forgotten

@@ -1,8 +1,8 @@
 -- Every row of the table of refusals but 20 to 24, by computation: on the model and on the calls' definitions where a formatted store can give it, and 3 and 19 on
--- areas that no run left.
+-- areas that no run left; and what FORMAT leaves.
 use mathlib.Core.Path.{_≡_, refl}
 use mathlib.Core.Option.{some}
-use mathlib.Core.List.{List, [], _∷_}
+use mathlib.Core.List.{List, [], _∷_, map}
 use Prim.Native.Nat.{ℕ, _*_}
 use lib.ListN.{replicate}
 use Rattle.lines.specs.Lines.{packed}
@@ -15,11 +15,12 @@ use Rattle.model.specs.Run.{outcomes}
 use Rattle.model.specs.Example.{pageOf}
 use Rattle.windows.specs.Windows.{noWindows}
 use Rattle.versions.specs.Store.{Areas}
-use Rattle.format.specs.Format.{fresh, formatNumber}
+use Rattle.format.specs.declared.Formatted.the-variants as Formatted
+use Rattle.format.specs.Format.{fresh, formatNumber, formatAnswer, formatAreas}
 use Rattle.begin.specs.Begin.{withTicketPart}
 use Rattle.put.specs.Put.{withPut}
 use Rattle.demands.specs.Computes.{computes}
-use Rattle.demands.specs.Run.{State, onStore, formattedState, storeAfter}
+use Rattle.demands.specs.Run.{State, onStore, formattedState, storeAfter, withRegister}
 
 abbrev pub page : List ℕ
 page = pageOf 5
@@ -46,6 +47,35 @@ pub format-rows :
     ≡ (1 ∷ 1 ∷ 1 ∷ 1 ∷ 2 ∷ 2 ∷ 2 ∷ 2 ∷ 2 ∷ 2 ∷ 3 ∷ 3 ∷ 3 ∷ 0 ∷ 3 ∷ [])
 unfolding computes
 format-rows = refl
+
+-- What FORMAT of a page size and capacities of 1 says where no area is lent: 3 where the size is allowed, else 1.
+abbrev sized : ℕ → ℕ
+sized s = formatNumber (fresh s 1 1 1) (areasFor 0 0 0)
+
+-- Row 1: the powers of two from 16 to 4,096 are allowed, and neither what lies beside one nor a sum of two. Row 2: a capacity of 1 is allowed.
+pub page-sizes :
+    map sized (16 ∷ 32 ∷ 64 ∷ 128 ∷ 256 ∷ 512 ∷ 1024 ∷ 2048 ∷ 4096 ∷ []) ≡ replicate 9 3
+    × map sized (15 ∷ 20 ∷ 24 ∷ 48 ∷ 96 ∷ 255 ∷ 3072 ∷ 4095 ∷ 4097 ∷ 4112 ∷ []) ≡ replicate 10 1
+unfolding computes
+page-sizes = (refl, refl)
+
+-- Areas with something in them.
+unfoldable pub lent : Areas
+lent = record { pages = replicate 16 7; nodes = 7 ∷ 7 ∷ []; register = withTicketPart noRecord 5 5 ∷ [] }
+
+-- What FORMAT fills: pages of 0, nodes of all ones, an empty record; and it answers the store, with no windows.
+pub format-fills :
+    formatAreas (fresh 16 1 1 1) lent ≡ record { pages = replicate 16 0; nodes = 4294967295 ∷ 4294967295 ∷ []; register = noRecord ∷ [] }
+    × formatAnswer (fresh 16 1 1 1) lent ≡ Formatted.Made (fresh 16 1 1 1) noWindows
+unfolding computes lent
+format-fills = (refl, refl)
+
+-- A refused FORMAT, by row 1, 2 or 3, leaves the areas and answers no store.
+pub format-leaves :
+    map (λ s. formatAreas s lent) (fresh 17 1 1 1 ∷ fresh 16 1 0 1 ∷ fresh 16 1 1 2 ∷ []) ≡ replicate 3 lent
+    × map (λ s. formatAnswer s lent) (fresh 17 1 1 1 ∷ fresh 16 1 0 1 ∷ fresh 16 1 1 2 ∷ []) ≡ Formatted.Refused 1 ∷ Formatted.Refused 2 ∷ Formatted.Refused 3 ∷ []
+unfolding computes lent
+format-leaves = (refl, refl)
 
 -- ---- rows 4 to 18, but 14, in one run
 
@@ -162,7 +192,7 @@ unfolding computes limits areas calls given
 rows-by-calls = refl
 
 -- Line 0's state: so many versions assigned, so many published, and so many pages.
-abbrev lineWith : ℕ → ℕ → ℕ → Branch
+abbrev pub lineWith : ℕ → ℕ → ℕ → Branch
 lineWith assigned published blob = record {
   source = record { 0 = 0 };
   start = record { 0 = 0 };
@@ -219,9 +249,16 @@ row14-by-calls = refl
 
 -- ---- rows 3 and 19 on areas that no run left
 
+-- A state with other areas, and areas with other nodes.
+abbrev pub withAreas : State → (Areas → Areas) → State
+withAreas x g = record { store = x .store; windows = x .windows; areas = g (x .areas) }
+
+abbrev pub nodesBy : (List ℕ → List ℕ) → Areas → Areas
+nodesBy g a = record { pages = a .pages; nodes = g (a .nodes); register = a .register }
+
 -- The state that `calls` leave, with other areas.
 abbrev damaged : (Areas → Areas) → State
-damaged g = let x = storeAfter limits areas calls in record { store = x .store; windows = x .windows; areas = g (x .areas) }
+damaged g = withAreas (storeAfter limits areas calls) g
 
 -- What every call says where an area's length differs, its line begun or not.
 abbrev each : List Call
@@ -246,8 +283,8 @@ threes = no 3 ∷ no 3 ∷ no 3 ∷ no 3 ∷ no 3 ∷ no 3 ∷ no 3 ∷ no 3 ∷
 
 pub row3 :
     outcomes onStore (damaged (λ a. record { pages = 1 ∷ a .pages; nodes = a .nodes; register = a .register })) each ≡ threes
-    × outcomes onStore (damaged (λ a. record { pages = a .pages; nodes = 1 ∷ a .nodes; register = a .register })) each ≡ threes
-    × outcomes onStore (damaged (λ a. record { pages = a .pages; nodes = a .nodes; register = noRecord ∷ a .register })) each ≡ threes
+    × outcomes onStore (damaged (nodesBy (λ x. 1 ∷ x))) each ≡ threes
+    × outcomes onStore (damaged (λ a. withRegister a (noRecord ∷ a .register))) each ≡ threes
 unfolding computes limits areas calls
 row3 = (refl, refl, refl)
 
@@ -260,9 +297,9 @@ lost = noRead 19 (9 ∷ []) ∷ no 19 ∷ says (partIs []) ∷ record { answer =
 
 -- A node not stored; a child version that has no such node; a page number past the page area.
 pub row19-walks :
-    outcomes onStore (damaged (λ a. record { pages = a .pages; nodes = replicate 12 4294967295; register = a .register })) walks ≡ lost
-    × outcomes onStore (damaged (λ a. record { pages = a .pages; nodes = 1 ∷ 2 ∷ replicate 10 0; register = a .register })) walks ≡ lost
-    × outcomes onStore (damaged (λ a. record { pages = a .pages; nodes = 1 ∷ 1 ∷ 5 ∷ 0 ∷ 5 ∷ 0 ∷ replicate 6 0; register = a .register })) walks ≡ lost
+    outcomes onStore (damaged (nodesBy (λ x. replicate 12 4294967295))) walks ≡ lost
+    × outcomes onStore (damaged (nodesBy (λ x. 1 ∷ 2 ∷ replicate 10 0))) walks ≡ lost
+    × outcomes onStore (damaged (nodesBy (λ x. 1 ∷ 1 ∷ 5 ∷ 0 ∷ 5 ∷ 0 ∷ replicate 6 0))) walks ≡ lost
 unfolding computes limits areas calls
 row19-walks = (refl, refl, refl)
 
@@ -288,11 +325,13 @@ overrun =
       areas = storeAfter limits areas calls .areas;
     }
 
--- A record past the register; the rows that need no record still come first.
+-- A record past the register; the rows that need no record still come first, and those that need it, 17 of READ and STAMP too, do not hold.
 pub row19-records :
     outcomes onStore overrun
     (PUT 9 0 [] ∷ PUT 9 0 page ∷ on 0 (WRITE 9 4) ∷ on 0 (WRITE 9 0) ∷ on 0 (WRITE 3 0) ∷ WEAVE 9 ∷ on 0 (PUBLISH 0) ∷ on 0 (BRANCH 8) ∷ on 0 (SIZE 8)
-    ∷ on 0 (READ 8 0 1 []) ∷ on 0 (READ 8 0 0 []) ∷ on 0 (STAMP 8 0) ∷ [])
-    ≡ (no 11 ∷ no 19 ∷ no 13 ∷ no 19 ∷ no 15 ∷ no 19 ∷ no 19 ∷ no 19 ∷ no 19 ∷ no 18 ∷ no 19 ∷ no 19 ∷ [])
+    ∷ on 0 (READ 8 0 1 []) ∷ on 0 (READ 8 0 0 []) ∷ on 0 (READ 8 999 1 (9 ∷ [])) ∷ on 0 (STAMP 8 0) ∷ on 0 (STAMP 8 999) ∷ on 0 (VIEW 8 999)
+    ∷ on 0 (SIZE 9) ∷ on 0 (BRANCH 9) ∷ on 0 (READ 9 0 0 []) ∷ on 0 (STAMP 9 0) ∷ [])
+    ≡ (no 11 ∷ no 19 ∷ no 13 ∷ no 19 ∷ no 15 ∷ no 19 ∷ no 19 ∷ no 19 ∷ no 19 ∷ no 18 ∷ no 19 ∷ noRead 19 (9 ∷ []) ∷ no 19 ∷ no 19 ∷ says (partIs [])
+    ∷ no 16 ∷ no 16 ∷ no 16 ∷ no 16 ∷ [])
 unfolding computes limits areas calls overrun
 row19-records = refl

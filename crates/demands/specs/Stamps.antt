@@ -14,7 +14,7 @@ use Rattle.model.specs.Stamps.{sends, again, givenAgain, pairs, givenPairs, apa
 use Rattle.versions.specs.Store.{Areas}
 use Rattle.demands.specs.Computes.{computes}
 use Rattle.demands.specs.Run.{onStore, formattedState, storeAfter, withRegister}
-use Rattle.demands.specs.Rows.{no}
+use Rattle.demands.specs.Rows.{no, withAreas, nodesBy}
 use Rattle.demands.specs.Lines.{areas}
 
 -- ---- the model's examples
@@ -51,12 +51,7 @@ resent-by-model = refl
 
 -- What STAMP answers in the state that these calls leave, with other areas.
 abbrev stampsIn : (Areas → Areas) → List Outcome
-stampsIn g =
-    let x = storeAfter limits areas resent in
-    outcomes onStore (record { store = x .store; windows = x .windows; areas = g (x .areas) }) stamps
-
-abbrev nodesBy : (List ℕ → List ℕ) → Areas → Areas
-nodesBy g a = record { pages = a .pages; nodes = g (a .nodes); register = a .register }
+stampsIn g = outcomes onStore (withAreas (storeAfter limits areas resent) g) stamps
 
 pub resent-by-calls : stampsIn (λ a. a) ≡ (is 1 ∷ is 1 ∷ is 1 ∷ is 1 ∷ [])
 unfolding computes limits areas resent

@@ -14,7 +14,7 @@ use Rattle.model.specs.Example.{limits, pageOf}
 use Rattle.model.specs.Windows.{twoWindows, lines, edges, givenEdges, due, givenDue, lists, givenLists, minutes, givenMinutes}
 use Rattle.demands.specs.Computes.{computes}
 use Rattle.demands.specs.Run.{State, onStore, formattedState, storeAfter, withRegister}
-use Rattle.demands.specs.Rows.{no}
+use Rattle.demands.specs.Rows.{no, withAreas}
 use Rattle.demands.specs.Lines.{areas}
 
 -- ---- the model's examples
@@ -134,9 +134,7 @@ stages-by-calls = refl
 
 -- An area's length differs: 3 before 23, 24, 20, 22 and held, and nothing moves.
 unfoldable pub longer : State
-longer =
-    let x = storeAfter limits areas stages in
-    record { store = x .store; windows = x .windows; areas = withRegister (x .areas) (noRecord ∷ x .areas .register) }
+longer = withAreas (storeAfter limits areas stages) (λ a. withRegister a (noRecord ∷ a .register))
 
 abbrev refusals : List Call
 refusals = SETWINDOWS [] ∷ SETWINDOWS (text "7,7\n") ∷ SETWINDOWS (lines 33) ∷ on 1 (PUBLISH 0) ∷ on 0 (PUBLISH 10080) ∷ on 0 (PUBLISH 10000) ∷ []
@@ -147,16 +145,14 @@ pub row3-first :
 unfolding computes limits areas stages longer
 row3-first = (refl, refl)
 
--- Version 1's record is lost: 19 where PUBLISH looks at it, which is outside the windows, and last. SETWINDOWS looks at no record.
+-- Version 1's record is lost: 19 where PUBLISH looks at it, which is outside the windows, and last: with no window 22 is before it. SETWINDOWS looks at no record.
 unfoldable pub lostRecord : State
-lostRecord =
-    let x = storeAfter limits areas stages in
-    record { store = x .store; windows = x .windows; areas = withRegister (x .areas) (replicate 8 noRecord) }
+lostRecord = withAreas (storeAfter limits areas stages) (λ a. withRegister a (replicate 8 noRecord))
 
 pub row19-outside :
     outcomes onStore lostRecord
     (publishes 0 (599 ∷ 600 ∷ 659 ∷ 660 ∷ 9999 ∷ 10000 ∷ 10079 ∷ 0 ∷ 19 ∷ 20 ∷ 10080 ∷ [])
-    ++ (on 1 (PUBLISH 20) ∷ SETWINDOWS [] ∷ on 0 (PUBLISH 600) ∷ []))
-    ≡ (no 19 ∷ says held ∷ says held ∷ no 19 ∷ no 19 ∷ says held ∷ says held ∷ says held ∷ says held ∷ no 19 ∷ no 22 ∷ no 20 ∷ says windowsDone ∷ no 19 ∷ [])
+    ++ (on 1 (PUBLISH 20) ∷ SETWINDOWS [] ∷ on 0 (PUBLISH 600) ∷ on 0 (PUBLISH 10080) ∷ []))
+    ≡ (no 19 ∷ says held ∷ says held ∷ no 19 ∷ no 19 ∷ says held ∷ says held ∷ says held ∷ says held ∷ no 19 ∷ no 22 ∷ no 20 ∷ says windowsDone ∷ no 19 ∷ no 22 ∷ [])
 unfolding computes limits areas stages lostRecord
 row19-outside = refl
