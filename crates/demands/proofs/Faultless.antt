@@ -8,7 +8,7 @@ use Prim.Native.Nat.{ℕ, zero, suc, _<_}
 use native.Mathlib.Omega.{arith}
 use lib.ListN.{length, getD}
 use Rattle.table.specs.Table.{holds, Row, _gives_, firstRefusal, beginRows, putRows, assignRows, weaveRows, lineRows, publishRows, windowRows, branchRows, sizeRows, readRows, pageRows}
-use Rattle.windows.specs.Windows.{inside}
+use Rattle.windows.specs.Windows.{insideSome}
 use Rattle.windows.specs.Listed.{textNumber}
 use Rattle.model.specs.Calls.{Call, BEGIN, PUT, WEAVE, SETWINDOWS, on, Act, WRITE, APPEND, PUBLISH, BRANCH, READ, SIZE, RECENT, STAMP, VIEW, Answer, refused, publishedIs, waiting, held, says, answers}
 use Rattle.model.specs.History.{due}
@@ -58,7 +58,7 @@ line-fine : (L : Limits) (m : Model) (l : ℕ) (a : Act) → NoFault (onLine L m
 unfolding onLine assignRows lineRows publishRows branchRows sizeRows readRows pageRows
 line-fine L m l (WRITE t f) = by-rows _ _ (omega arith) (omega arith) (fine _ λ k e. zero-one (cc))
 line-fine L m l (APPEND t) = by-rows _ _ (omega arith) (omega arith) (fine _ λ k e. zero-one (cc))
-line-fine L m l (PUBLISH minute) = by-rows _ _ (omega arith) (omega arith) (published-fine (inside (m .windows) minute) (due (history m l)) _)
+line-fine L m l (PUBLISH minute) = by-rows _ _ (omega arith) (omega arith) (published-fine (insideSome (m .windows) minute) (due (history m l)) _)
 line-fine L m l (BRANCH v) = by-rows _ _ (omega arith) (omega arith) (fine _ λ k e. zero-one (cc))
 line-fine L m l (READ v offset len buffer) = by-rows _ _ (omega arith) (omega arith) (fine _ λ k e. zero-one (cc))
 line-fine L m l (SIZE v) = by-rows _ _ (omega arith) (omega arith) (fine _ λ k e. zero-one (cc))

@@ -9,7 +9,7 @@ use Rattle.tree.specs.Walk.{hasNode, reachBy}
 use Rattle.lines.specs.Lines.{packed, ownerFrom, entryAt, withEntry}
 use Rattle.register.specs.Register.{updateOf, withRecord, versionRecord, newestOwn}
 use Rattle.table.specs.Table.{orElse, formatRows}
-use Rattle.windows.specs.Windows.{placed}
+use Rattle.windows.specs.Windows.{inside, placed}
 use Rattle.model.specs.Example.{computes as onTheModel}
 use Rattle.model.specs.Run.{run}
 use Rattle.versions.specs.Store.{lineIn}
@@ -31,7 +31,7 @@ use Rattle.demands.specs.Run.{onLineOf, onStore, formattedState}
 
 unfoldable pub computes : ℕ
 unfolding onTheModel run onLineOf onStore formattedState orElse formatRows formatRefusal beginRefusal bitOf withBit putRefusal assignRefusal nextNode weaveRefusal
-    newestOwn olderNumber publishNumber dueBy branchNumber setNumber placed bytesBy sizeNumber recentNumber hasNodeBy placeIn reachFrom findPage pageNumberOf someLost
+    newestOwn olderNumber publishNumber dueBy branchNumber setNumber inside placed bytesBy sizeNumber recentNumber hasNodeBy placeIn reachFrom findPage pageNumberOf someLost
     readNumber byteOf bytesFrom stampNumber leafAsOf sinceBy put part packed lineIn ownerFrom entryAt withEntry updateOf withRecord versionRecord withNode nodeAt hasNode reachBy sizeAt
     below kth first index ones halvings nodeNumbered
 computes = 0

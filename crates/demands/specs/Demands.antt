@@ -16,7 +16,7 @@ use Rattle.model.specs.Snapshot.{treeIn, placeIn, snapshotAt}
 use Rattle.model.specs.Run.{outcomes, modelAfter}
 use Rattle.model.specs.Due.{publishes, Open, AllOpen, lastDue}
 use Rattle.isolation.specs.Isolation.{IsolatedBy}
-use Rattle.windows.specs.Windows.{inside}
+use Rattle.windows.specs.Windows.{insideSome}
 use Rattle.versions.specs.Store.{Areas}
 use Rattle.format.specs.Format.{formatNumber}
 use Rattle.demands.specs.Run.{onStore, freshOf, formattedState, storeAfter, asked}
@@ -91,9 +91,9 @@ module _ (L : Limits) (a : Areas) where
   -- That only the minute given decides, also when the clock is set back, follows from the model: an answer is a function of the state and the call, and no state has a
   -- minute in it.
   pub record Held (cs : List Call) (l minute : ℕ) : Type 0 where
-    pub holds : l < length (modelAfter L cs .lines) → minute ≤ 10079 → inside (modelAfter L cs .windows) minute ≡ true
+    pub holds : l < length (modelAfter L cs .lines) → minute ≤ 10079 → insideSome (modelAfter L cs .windows) minute ≡ true
         → asked (storeAfter L a cs) (on l (PUBLISH minute)) ≡ says held
-    pub only : asked (storeAfter L a cs) (on l (PUBLISH minute)) ≡ says held → inside (modelAfter L cs .windows) minute ≡ true
+    pub only : asked (storeAfter L a cs) (on l (PUBLISH minute)) ≡ says held → insideSome (modelAfter L cs .windows) minute ≡ true
     pub still : asked (storeAfter L a cs) (on l (PUBLISH minute)) ≡ says held → storeAfter L a (cs ++ on l (PUBLISH minute) ∷ []) ≡ storeAfter L a cs
 
   -- From version u up to version v of a line there is one below v in which VIEW of the page hands out other bytes than in v, or none.

@@ -12,7 +12,7 @@ use lib.ListN.{length, getD, take, drop, length-set}
 use Rattle.tree.specs.Tree.{countOf}
 use Rattle.table.specs.Table.{holds, firstRefusal, unless}
 use Rattle.table.specs.Table.{lineRows, publishRows, branchRows, assignRows, sizeRows, readRows, pageRows}
-use Rattle.windows.specs.Windows.{inside}
+use Rattle.windows.specs.Windows.{insideSome}
 use Rattle.model.specs.Calls.{Call, on, WRITE, APPEND, PUBLISH, BRANCH, READ, SIZE, RECENT, STAMP, VIEW, Answer, publishedIs, waiting, held, filled, sizeIs, recentIs, stampIs, partIs, says, answers}
 use Rattle.model.specs.History.{Version, History, noVersion, ticketAt, pagesOf, blobSize, allFilled, due}
 use Rattle.model.specs.InTurn.{joined}
@@ -131,11 +131,11 @@ module _ (L : Limits) {l l′ : ℕ} {m m′ : Model} (M : Match l l′ m m′) 
   twin-publish minute =
       let d = due (history m l) in
       let d′ = due (history m′ l′) in
-      let h = inside (m .windows) minute in
-      let h′ = inside (m′ .windows) minute in
+      let h = insideSome (m .windows) minute in
+      let h′ = insideSome (m′ .windows) minute in
       twin l l′ m m′ (publishNumber L m l minute) (publishNumber L m′ l′ minute) _ _ _ _ M
       (given-published h d (suc (lineAt m l .published))) (given-published h′ d′ (suc (lineAt m′ l′ .published))) (alike (publish-same minute)) λ z z′.
-      match-held h h′ (ap (λ ws. inside ws minute) (M .windows)) _ _ _ _ (match-due d d′ (due-same M))
+      match-held h h′ (ap (λ ws. insideSome ws minute) (M .windows)) _ _ _ _ (match-due d d′ (due-same M))
 
   -- ---- ASSIGN
   module _ (S : Kept L m) (S′ : Kept L m′) where

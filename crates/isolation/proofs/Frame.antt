@@ -13,7 +13,7 @@ use lib.Seq.{map-set-same}
 use Rattle.tree.specs.Tree.{nth}
 use Rattle.table.specs.Table.{unless}
 use Rattle.table.proofs.Table.{unless-keeps}
-use Rattle.windows.specs.Windows.{inside}
+use Rattle.windows.specs.Windows.{insideSome}
 use Rattle.model.specs.Calls.{Call, BEGIN, PUT, WEAVE, SETWINDOWS, on, Act, WRITE, APPEND, PUBLISH, BRANCH, READ, SIZE, RECENT, STAMP, VIEW}
 use Rattle.model.specs.History.{Ticket, Version, noTicket, versionAt, blobSize, due}
 use Rattle.model.specs.Model.{Limits, Model, updateAt, updateOf, history}
@@ -97,8 +97,8 @@ module _ (L : Limits) (l : ℕ) (m : Model) (S : Kept L m) (in-l : l < length (m
     frame-act (APPEND t) = frame-assign t (blobSize (history m k))
     frame-act (PUBLISH minute) =
         let now = either (due (history m k)) (published L m k) m in
-        frame-unless (publishNumber L m k minute) (either (inside (m .windows) minute) m now) λ z.
-        either-keeps (Match l l m) (inside (m .windows) minute) m now (frame-publish (publish-passed L m k minute z .line)) (λ e. match-refl l m in-l)
+        frame-unless (publishNumber L m k minute) (either (insideSome (m .windows) minute) m now) λ z.
+        either-keeps (Match l l m) (insideSome (m .windows) minute) m now (frame-publish (publish-passed L m k minute z .line)) (λ e. match-refl l m in-l)
     frame-act (BRANCH v) = frame-unless (branchNumber L m k v) (branched L m k v) λ z. frame-branch k v
     frame-act (READ v offset len buffer) = match-refl l m in-l
     frame-act (SIZE v) = match-refl l m in-l

@@ -8,7 +8,7 @@ use native.Mathlib.Omega.{arith}
 use lib.ListN.{length}
 use Rattle.table.specs.Table.{unless, publishRows}
 use Rattle.table.proofs.Table.{none, skip, first}
-use Rattle.windows.specs.Windows.{inside}
+use Rattle.windows.specs.Windows.{insideSome}
 use Rattle.model.specs.Calls.{on, PUBLISH, Answer, waiting, held, publishedIs, Outcome, says, answers}
 use Rattle.model.specs.History.{due}
 use Rattle.model.specs.Model.{Limits, Model, lineAt, history}
@@ -74,7 +74,7 @@ module _ (L : Limits) (m : Model) (l minute : ℕ) where
 
   pub publish-moves : l < length (m .lines) → Moved L m l minute ⊎ Still L m l minute
   unfolding onModel onLine
-  publish-moves there = elim (moves-by (publishNumber L m l minute) (inside (m .windows) minute) (due (history m l)) m (published L m l)) [
+  publish-moves there = elim (moves-by (publishNumber L m l minute) (insideSome (m .windows) minute) (due (history m l)) m (published L m l)) [
     | inl p ↦ inl (record { moved = p .0; due = p .1 })
     | inr p ↦ inr (record { still = p .0; undue = λ o. p .1 (publish-accepted there (o .accepted)) (o .outside) })
   ]
@@ -82,7 +82,7 @@ module _ (L : Limits) (m : Model) (l minute : ℕ) where
   -- Where no version is due, nothing moves.
   pub undue-still : due (history m l) ≡ false → onModel L m (on l (PUBLISH minute)) .0 ≡ m
   unfolding onModel onLine
-  undue-still e = undue-by (publishNumber L m l minute) (inside (m .windows) minute) (due (history m l)) m (published L m l) e
+  undue-still e = undue-by (publishNumber L m l minute) (insideSome (m .windows) minute) (due (history m l)) m (published L m l) e
 
   -- Outside the windows it says that it waits where no version is due, and only then.
   pub waits : l < length (m .lines) → Open (m .windows) minute → due (history m l) ≡ false → onModel L m (on l (PUBLISH minute)) .1 ≡ says waiting
@@ -94,23 +94,23 @@ module _ (L : Limits) (m : Model) (l minute : ℕ) where
   waits-back e =
       waiting-by
       (publishNumber L m l minute)
-      (inside (m .windows) minute)
+      (insideSome (m .windows) minute)
       (due (history m l))
       (suc (lineAt m l .published))
       (ap (λ (o : Outcome). o .answer) e)
 
   -- At an accepted minute inside a window it says that it is held, due or not.
-  pub publish-held : l < length (m .lines) → minute ≤ 10079 → inside (m .windows) minute ≡ true → onModel L m (on l (PUBLISH minute)) .1 ≡ says held
+  pub publish-held : l < length (m .lines) → minute ≤ 10079 → insideSome (m .windows) minute ≡ true → onModel L m (on l (PUBLISH minute)) .1 ≡ says held
   unfolding onModel onLine
   publish-held there accepted e = rw (publish-accepted there accepted, e)
 
   -- It says so inside a window only, and then nothing moves.
-  pub held-inside : onModel L m (on l (PUBLISH minute)) .1 ≡ says held → inside (m .windows) minute ≡ true
+  pub held-inside : onModel L m (on l (PUBLISH minute)) .1 ≡ says held → insideSome (m .windows) minute ≡ true
   unfolding onModel onLine
   held-inside e =
       held-by
       (publishNumber L m l minute)
-      (inside (m .windows) minute)
+      (insideSome (m .windows) minute)
       (due (history m l))
       (suc (lineAt m l .published))
       (ap (λ (o : Outcome). o .answer) e)
@@ -118,4 +118,4 @@ module _ (L : Limits) (m : Model) (l minute : ℕ) where
   pub held-still : onModel L m (on l (PUBLISH minute)) .1 ≡ says held → onModel L m (on l (PUBLISH minute)) .0 ≡ m
   unfolding onModel onLine
   held-still e =
-      inside-by (publishNumber L m l minute) (inside (m .windows) minute) (due (history m l)) m (published L m l) (held-inside e)
+      inside-by (publishNumber L m l minute) (insideSome (m .windows) minute) (due (history m l)) m (published L m l) (held-inside e)

@@ -6,7 +6,7 @@ use Prim.Native.Nat.{ℕ, _≤_, _<_}
 use native.Mathlib.Omega.{arith}
 use lib.ListN.{length}
 use Rattle.table.proofs.Table.{unless-keeps}
-use Rattle.windows.specs.Windows.{inside}
+use Rattle.windows.specs.Windows.{insideSome}
 use Rattle.windows.specs.Listed.{textNumber}
 use Rattle.model.specs.Calls.{Call, BEGIN, PUT, WEAVE, SETWINDOWS, on, Act, WRITE, APPEND, PUBLISH, BRANCH, READ, SIZE, RECENT, STAMP, VIEW}
 use Rattle.model.specs.History.{versionAt, blobSize, due}
@@ -49,9 +49,9 @@ module _ (L : Limits) (m : Model) (S : Sound L m) where
       (Grown m)
       (publishNumber L m l minute)
       m
-      (either (inside (m .windows) minute) m now)
+      (either (insideSome (m .windows) minute) m now)
       (grown-same m)
-      (λ z. either-keeps (Grown m) (inside (m .windows) minute) m now (now-grown l (publish-passed L m l minute z .line)) (λ e. grown-same m))
+      (λ z. either-keeps (Grown m) (insideSome (m .windows) minute) m now (now-grown l (publish-passed L m l minute z .line)) (λ e. grown-same m))
   line-grown l (BRANCH v) = unless-keeps (Grown m) (branchNumber L m l v) m (branched L m l v) (grown-same m) (λ z. branched-grown L m l v)
   line-grown l (READ v offset len buffer) = grown-same m
   line-grown l (SIZE v) = grown-same m

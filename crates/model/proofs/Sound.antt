@@ -7,6 +7,7 @@ use Prim.Native.Nat.{ℕ, _≤_, _<_}
 use lib.ListN.{length, getD}
 use Rattle.tree.specs.Tree.{countOf, nth}
 use Rattle.tree.specs.Walk.{Accepted}
+use Rattle.windows.specs.Windows.{inside, insideSome}
 use Rattle.model.specs.History.{Page, pagesOf, taken, updateOf as toUpdate, updates, allFilled, complete}
 use Rattle.model.specs.Model.{Limits, Model, lineAt, updateAt, history, places, updateOf}
 use Rattle.model.specs.OnModel.{ticketIn}
@@ -73,6 +74,8 @@ pub record SoundGiven (A : Type 0) (L : Limits) (m : Model) : Type 0 where
   pub begun : 0 < length (m .lines)
   pub few : length (m .lines) ≤ 16
   pub lines : (l : ℕ) → l < length (m .lines) → LineSound m l
+  -- None of the windows has equal ends, at which `inside` would end.
+  pub windows : (minute : ℕ) → inside (m .windows) minute ≡ insideSome (m .windows) minute
 
 -- Sound, with limits that FORMAT accepts.
 abbrev pub Sound : Limits → Model → Type 0

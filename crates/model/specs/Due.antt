@@ -5,7 +5,7 @@ use mathlib.Core.List.{List, map}
 use Prim.Native.Nat.{ℕ, zero, suc, _≤_, _<_}
 use lib.ListN.{length, getD}
 use Rattle.windows.specs.declared.Window.{Window}
-use Rattle.windows.specs.Windows.{inside}
+use Rattle.windows.specs.Windows.{insideSome}
 use Rattle.model.specs.Calls.{Call, on, PUBLISH}
 use Rattle.model.specs.History.{History, complete}
 use Rattle.model.specs.OnModel.{either}
@@ -17,7 +17,7 @@ publishes l minutes = map (λ minute. on l (PUBLISH minute)) minutes
 -- An accepted minute, outside these windows; and every one of a list.
 pub record Open (ws : List Window) (minute : ℕ) : Type 0 where
   pub accepted : minute ≤ 10079
-  pub outside : inside ws minute ≡ false
+  pub outside : insideSome ws minute ≡ false
 
 abbrev pub AllOpen : List Window → List ℕ → Type 0
 AllOpen ws minutes = (i : ℕ) → i < length minutes → Open ws (getD minutes i 0)

@@ -13,7 +13,7 @@ use Rattle.model.specs.InTurn.{blobAt, bytesAt}
 use Rattle.model.specs.Stamp.{stampAt}
 use Rattle.model.specs.Model.{Limits, Line, Model, lineAt, updateAt, history, places, updateOf, numberIn}
 use Rattle.tree.specs.Tree.{nth}
-use Rattle.windows.specs.Windows.{inside}
+use Rattle.windows.specs.Windows.{insideSome}
 use Rattle.windows.specs.Listed.{windowsOf, textNumber}
 
 abbrev pub ticketIn : Model → ℕ → Ticket
@@ -192,7 +192,7 @@ module _ (L : Limits) where
   onLine m l (APPEND t) = assignStep m l t (blobSize (history m l))
   onLine m l (PUBLISH minute) =
       let k = publishNumber m l minute in
-      let h = inside (m .windows) minute in
+      let h = insideSome (m .windows) minute in
       let d = due (history m l) in (
         unless k m (either h m (either d (published m l) m)),
         says (answers k (either h held (either d (publishedIs (suc (lineAt m l .published))) waiting))),

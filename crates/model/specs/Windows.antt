@@ -1,12 +1,12 @@
 -- Blast windows, by computation on the model: PUBLISH at the edges of a window in the week and of one over its end, a due version held and then published, lists that
--- are refused, the empty list, and the minute's row.
+-- are refused, the empty list, the minute's row, and a window behind one with equal ends.
 use mathlib.Core.Path.{_≡_, refl}
 use mathlib.Core.List.{List, [], _∷_, _++_}
 use Prim.Native.Nat.{ℕ}
 use lib.ListN.{replicate}
 use Rattle.text.specs.Quoted.{text, together}
 use Rattle.model.specs.Calls.{Call, BEGIN, PUT, WEAVE, SETWINDOWS, on, APPEND, PUBLISH, RECENT, refused, ticketIs, putDone, versionIs, nodeIs, publishedIs, waiting, held, windowsDone, recentIs, Outcome, says}
-use Rattle.model.specs.Model.{noModel}
+use Rattle.model.specs.Model.{noLine, noModel}
 use Rattle.model.specs.OnModel.{onModel}
 use Rattle.model.specs.Run.{outcomes}
 use Rattle.model.specs.Due.{publishes}
@@ -157,3 +157,13 @@ givenMinutes =
 pub minute-row : outcomes (onModel limits) noModel minutes ≡ givenMinutes
 unfolding computes limits minutes givenMinutes
 minute-row = refl
+
+-- Some window of the list holds the minute, whatever stands before it: also behind one with equal ends, which no text has and in which no minute is.
+pub some-window :
+    outcomes
+    (onModel limits)
+    (record { tickets = []; updates = []; lines = noLine ∷ []; windows = record { from = 7; to = 7 } ∷ record { from = 600; to = 660 } ∷ [] })
+    (publishes 0 (7 ∷ 599 ∷ 600 ∷ 659 ∷ 660 ∷ []))
+    ≡ (says waiting ∷ says waiting ∷ says held ∷ says held ∷ says waiting ∷ [])
+unfolding computes limits
+some-window = refl

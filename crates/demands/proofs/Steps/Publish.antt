@@ -16,7 +16,7 @@ use Rattle.register.specs.Register.{partOf, versionPart}
 use Rattle.register.specs.declared.Part.{Part}
 use Rattle.table.specs.Table.{unless, publishRows}
 use Rattle.table.proofs.Table.{Fails}
-use Rattle.windows.specs.Windows.{inside}
+use Rattle.windows.specs.Windows.{inside, insideSome}
 use Rattle.windows.proofs.Placed.{placed-inside}
 use Rattle.versions.specs.Store.{lineIn, withLine}
 use Rattle.publish.specs.Publish.{hasNext, numberBy, nextNumber, nextPart, lost, publishNumber, dueBy, withPublished, published, storeIf}
@@ -189,6 +189,6 @@ module _ (L : Limits) (m : Model) (S : Sound L m) (l : ℕ) where
   unfolding onStore onLineOf onModel onLine
   publish-step minute =
       let line : modelNumber L m l minute ≡ 0 → l < length (m .lines) = λ z. publish-passed L m l minute z .line in
-      rw (publish-number minute, placed-inside (m .windows) minute)
-      (publish-leaves (modelNumber L m l minute) (inside (m .windows) minute) _ (due (history m l)) _ (λ z. due-same (line z))
+      rw (publish-number minute, placed-inside (m .windows) minute, S .windows minute)
+      (publish-leaves (modelNumber L m l minute) (insideSome (m .windows) minute) _ (due (history m l)) _ (λ z. due-same (line z))
       (ap (λ (b : Branch). b .published .0) (line-in L m S l)) (λ z. published-image (line z)))

@@ -216,6 +216,7 @@ module _ (L : Limits) (m : Model) (l t f : ℕ) where
         begun = rw assigned-lines (S .begun);
         few = rw assigned-lines (S .few);
         lines = λ k h. assigned-lines-sound k (rw assigned-lines at h);
+        windows = S .windows;
       }
 
     pub assign-sound : assignNumber L m l t f ≡ 0 → SoundGiven A L (assigned L m l t f)

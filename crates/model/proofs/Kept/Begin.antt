@@ -78,6 +78,7 @@ module _ (L : Limits) (m : Model) (n : ℕ) where
         begun = S .begun;
         few = S .few;
         lines = λ l h. line-same L m (begun L m n) S begun-grown l h refl;
+        windows = S .windows;
       }
 
     pub begun-sound : beginNumber L m n ≡ 0 → SoundGiven A L (begun L m n)

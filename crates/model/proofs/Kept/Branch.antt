@@ -121,6 +121,7 @@ module _ (L : Limits) (m : Model) (l v : ℕ) where
         begun = omega (arith, branched-length);
         few = omega (arith, branched-length, p .line-left);
         lines = branched-lines;
+        windows = S .windows;
       }
 
     pub branch-sound : branchNumber L m l v ≡ 0 → SoundGiven A L (branched L m l v)

@@ -82,4 +82,5 @@ module _ (m : Model) (t : ℕ) (x : Ticket) (o : 0 < t) (same : pagesOf x ≡ pa
         begun = S .begun;
         few = S .few;
         lines = λ l h. line-same L m (changed m t x) S changed-grown l h refl;
+        windows = S .windows;
       }

@@ -8,7 +8,7 @@ use native.Mathlib.Omega.{arith}
 use lib.ListN.{length}
 use Rattle.tree.specs.Walk.{used}
 use Rattle.table.proofs.Table.{unless-keeps}
-use Rattle.windows.specs.Windows.{inside}
+use Rattle.windows.specs.Windows.{inside, insideSome}
 use Rattle.windows.specs.Listed.{textNumber}
 use Rattle.model.specs.Calls.{Call, BEGIN, PUT, WEAVE, SETWINDOWS, on, Act, WRITE, APPEND, PUBLISH, BRANCH, READ, SIZE, RECENT, STAMP, VIEW}
 use Rattle.model.specs.History.{taken, blobSize, due}
@@ -47,7 +47,7 @@ empty-line zero h = record {
 empty-line (suc l) h = absurd (omega arith)
 
 pub empty-sound : {A : Type 0} (L : Limits) → A → SoundGiven A L noModel
-unfolding taken used
+unfolding taken used inside insideSome
 empty-sound L a = record {
   allowed = a;
   records = omega arith;
@@ -59,6 +59,7 @@ empty-sound L a = record {
   begun = omega arith;
   few = omega arith;
   lines = empty-line;
+  windows = λ k. refl;
 }
 
 -- ---- one call
@@ -86,9 +87,9 @@ module _ {A : Type 0} (L : Limits) (m : Model) (S : SoundGiven A L m) where
       (SoundGiven A L)
       (publishNumber L m l minute)
       m
-      (either (inside (m .windows) minute) m now)
+      (either (insideSome (m .windows) minute) m now)
       S
-      (λ z. either-keeps (SoundGiven A L) (inside (m .windows) minute) m now (now-sound l (publish-passed L m l minute z .line)) (λ e. S))
+      (λ z. either-keeps (SoundGiven A L) (insideSome (m .windows) minute) m now (now-sound l (publish-passed L m l minute z .line)) (λ e. S))
   line-sound l (BRANCH v) = unless-keeps (SoundGiven A L) (branchNumber L m l v) m (branched L m l v) S (branch-sound L m l v S)
   line-sound l (READ v offset len buffer) = S
   line-sound l (SIZE v) = S

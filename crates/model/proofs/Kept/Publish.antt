@@ -80,6 +80,7 @@ module _ (L : Limits) (m : Model) (l : ℕ) (there : l < length (m .lines)) wher
         begun = rw published-lines (S .begun);
         few = rw published-lines (S .few);
         lines = λ k h. published-lines-sound k (rw published-lines at h);
+        windows = S .windows;
       }
 
     pub publish-sound : due (history m l) ≡ true → SoundGiven A L (published L m l)

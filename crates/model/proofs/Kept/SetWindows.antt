@@ -1,9 +1,10 @@
--- SETWINDOWS keeps the model sound: it changes the windows alone.
+-- SETWINDOWS keeps the model sound: it changes the windows alone, and none of a text's has equal ends.
 -- Assumes nothing.
 use mathlib.Core.Path.{refl}
 use mathlib.Core.List.{List}
 use Prim.Native.Nat.{ℕ}
 use native.Mathlib.Omega.{arith}
+use Rattle.windows.proofs.Used.{inside-means}
 use Rattle.model.specs.Model.{Limits, Model, lineAt}
 use Rattle.model.specs.OnModel.{withWindows}
 use Rattle.model.proofs.Sound.{SoundGiven}
@@ -36,4 +37,5 @@ module _ (L : Limits) (m : Model) (text : List ℕ) where
     begun = S .begun;
     few = S .few;
     lines = λ l h. line-same L m (withWindows L m text) S windows-grown l h refl;
+    windows = inside-means text;
   }
