@@ -1,8 +1,43 @@
 // The theorems as a client uses them. specs/ has the corollaries as types; each function has one as its promise, which only a theorem can give, since the areas are any
 // that FORMAT accepts: where a theorem is weakened, the proofs here no longer hold.
-ghost use Rattle.uses.specs.Uses.{ExampleAnswers};
+ghost use Rattle.uses.specs.Uses.{ExampleAnswers, EveryAnswer, InAll, Compared, AllKept, Reaches, Held, Fetches, Begins};
 
 // Document 01's example.
 pub fn example_answers()
     ensures { λ _. ⌜ ExampleAnswers ⌝ }
+{}
+
+// Any call after any others.
+pub fn every_answer()
+    ensures { λ _. ⌜ EveryAnswer ⌝ }
+{}
+
+// Published versions, after one list of calls.
+pub fn compared()
+    ensures { λ _. ⌜ InAll Compared ⌝ }
+{}
+
+// The same after any more calls.
+pub fn kept()
+    ensures { λ _. ⌜ AllKept ⌝ }
+{}
+
+// PUBLISH repeated.
+pub fn reaches()
+    ensures { λ _. ⌜ InAll Reaches ⌝ }
+{}
+
+// PUBLISH inside a window.
+pub fn held()
+    ensures { λ _. ⌜ InAll Held ⌝ }
+{}
+
+// What a stamp tells.
+pub fn fetches()
+    ensures { λ _. ⌜ InAll Fetches ⌝ }
+{}
+
+// A line that begins.
+pub fn begins()
+    ensures { λ _. ⌜ InAll Begins ⌝ }
 {}

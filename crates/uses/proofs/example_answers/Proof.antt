@@ -1,16 +1,10 @@
--- `uses::example_answers` meets its contract. Assumes nothing.
-use mathlib.Core.Path.{_∙_}
-use Rattle.demands.proofs.Demanded.{demanded}
-use Rattle.demands.specs.Example.{limits, calls, by-model}
-use Rattle.uses.specs.Uses.{ExampleAnswers}
+-- `uses::example_answers` meets its contract: the corollary is `example-answers`. Assumes nothing.
+use Rattle.uses.proofs.Uses.{example-answers}
 use Rattle.uses.proofs.example_answers.Statement.{statement}
 use Rattle.uses.proofs.example_answers.Tie as tie
 
-answers : ExampleAnswers
-answers a accepted = demanded limits a accepted calls .answers .same ∙ by-model
-
 returns : tie.Need-returns
-returns c = answers
+returns c = example-answers
 
 pub example-answers-spec : {M : Type 1} → statement M
 example-answers-spec = tie.close (tie.spec returns)
