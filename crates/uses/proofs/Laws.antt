@@ -8,14 +8,14 @@ use lib.ListN.{length, getD, length-append, List·getD-append}
 use lib.Seq.{getD-append-seam}
 use Rattle.model.specs.Calls.{Call, on, READ, SIZE, STAMP, VIEW, waiting, sizeIs, recentIs, stampIs, Outcome, says}
 use Rattle.model.specs.History.{History, versionAt}
-use Rattle.model.specs.Stamp.{stampAt, stampsUpto}
+use Rattle.model.specs.Stamp.{stampAt, stampsUpto, LowestSame}
 use Rattle.model.specs.Model.{Limits, noModel}
 use Rattle.model.specs.OnModel.{onModel}
 use Rattle.model.specs.Run.{run, outcomes, modelAfter}
 use Rattle.model.specs.Snapshot.{Snapshot, snapshotAt}
 use Rattle.versions.specs.Store.{Areas}
 use Rattle.demands.specs.Run.{onStore, formattedState, storeAfter, asked}
-use Rattle.demands.specs.Demands.{Accepted, NoFault, ReadsInTurn, historyAfter}
+use Rattle.demands.specs.Demands.{Accepted, ReadsInTurn, historyAfter}
 use Rattle.demands.proofs.Demanded.{demanded}
 use Rattle.uses.specs.Uses.{Answers, EveryAnswer, ReadsAs}
 
@@ -30,9 +30,11 @@ pub every-answer : EveryAnswer
 every-answer L a accepted cs c =
     let d = demanded L a accepted (cs ++ c ∷ []) .answers in
     let here = last onStore (formattedState L a) cs c in
+    let sound = rw here at (d .sound (length cs) (omega (arith, length-append cs (c ∷ [])))) in
     record {
       same = sym here ∙ ap (λ (os : List Outcome). getD os (length cs) (says waiting)) (d .same) ∙ last (onModel L) noModel cs c;
-      sound = rw here at (d .sound (length cs) (omega (arith, length-append cs (c ∷ []))));
+      not3 = sound .not3;
+      not19 = sound .not19;
     }
 
 pub same-recent : (m n : ℕ) → says (recentIs m) ≡ says (recentIs n) → m ≡ n
@@ -66,6 +68,12 @@ as-snapshot L a cs l k r =
       stamps = λ p q. r .stamps p q ∙ ap (λ (w : ℕ). says (stampIs w)) (sym (stamp-listed h k (versionAt h k .size) p q));
       sizes = r .sizes ∙ ap (λ (n : ℕ). says (sizeIs n)) (sym (r .whole));
     }
+
+-- Its stamps there are the lowest.
+pub lowest-listed : (L : Limits) (a : Areas) (cs : List Call) (l k : ℕ) → ReadsInTurn L a cs l k
+    → (p : ℕ) → p < versionAt (historyAfter L cs l) k .size
+    → LowestSame (historyAfter L cs l) (getD (snapshotAt (modelAfter L cs) l k .stamps) p 0) k p
+lowest-listed L a cs l k r p q = rw (stamp-listed (historyAfter L cs l) k (versionAt (historyAfter L cs l) k .size) p q) (r .lowest p q)
 
 -- What gives back the same of a version as another reads as the same.
 pub carried : (g g′ : Call → Outcome) (l l′ v : ℕ) (s : Snapshot)

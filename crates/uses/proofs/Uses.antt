@@ -17,8 +17,8 @@ use Rattle.demands.specs.Run.{storeAfter, asked}
 use Rattle.demands.specs.Demands.{Accepted, Published, ThirdDemand}
 use Rattle.demands.specs.Example as Example
 use Rattle.demands.proofs.Demanded.{demanded}
-use Rattle.uses.specs.Uses.{ExampleAnswers, ReadsAs, Both, limits, calls, version2, version3, gives, then, Compared, Kept, Reaches, Held, Fetches, Begins}
-use Rattle.uses.proofs.Laws.{every-answer, same-recent, as-snapshot, carried, below-stamp}
+use Rattle.uses.specs.Uses.{ExampleAnswers, ReadsAs, Both, limits, calls, version2, version3, gives, later, Compared, Kept, Reaches, Held, Fetches, Begins}
+use Rattle.uses.proofs.Laws.{every-answer, same-recent, as-snapshot, lowest-listed, carried, below-stamp}
 
 pub example-answers : ExampleAnswers
 example-answers a accepted = demanded Example.limits a accepted Example.calls .answers .same ∙ Example.by-model
@@ -48,17 +48,18 @@ module _ (a : Areas) (accepted : Accepted limits a) where
   both = record { second = rw second-is at (read 2 (omega arith)); third = rw third-is at (read 3 (omega arith)) }
 
   pub compared : Compared a
-  unfolding computes run limits calls version3
+  unfolding computes run treeOf stampsUpto limits calls version3
   compared =
       let c = demand .compared 1 (published 3 (omega arith) .line) in
       let v = c .versions 3 (omega arith) in
-      record { recent = c .recent; both = both; tree = v .tree ∙ ap (λ (s : Snapshot). s .tree) third-is; since = v .lowest 1 (omega arith) .from; lowest = v .lowest 1 (omega arith) .lowest }
+      let l = lowest-listed limits a calls 1 3 v in
+      record { recent = c .recent; both = both; tree = v .tree; since = λ p q. l p q .from; lowest = λ p q. l p q .lowest }
 
   -- ---- more calls
 
   module _ (more : List Call) where
-    stays : (k : ℕ) → k ≤ 3 → (s : Snapshot) → ReadsAs (gives a) 1 k s → ReadsAs (then a more) 1 k s
-    stays k p s r = let x = demand .kept more 1 k (published k p) in carried (gives a) (then a more) 1 1 k s (x .reads) (x .views) (x .stamps) (x .sizes) r
+    stays : (k : ℕ) → k ≤ 3 → (s : Snapshot) → ReadsAs (gives a) 1 k s → ReadsAs (later a more) 1 k s
+    stays k p s r = let x = demand .kept more 1 k (published k p) in carried (gives a) (later a more) 1 1 k s (x .reads) (x .views) (x .stamps) (x .sizes) r
 
     pub kept : Kept a more
     kept =
@@ -94,11 +95,11 @@ module _ (a : Areas) (accepted : Accepted limits a) where
   held-there =
       let first = demand .held 1 659 .holds (omega arith) (omega arith) refl in
       record {
-        first = first;
-        over = demand .held 0 19 .holds (omega arith) (omega arith) refl;
+        inFirst = first;
+        inSecond = demand .held 0 19 .holds (omega arith) (omega arith) refl;
         still = demand .held 1 659 .still first;
-        after = λ e. let z : false ≡ true = demand .held 1 660 .only e in let q : _≡_ {A = ℕ} 0 1 = cc in omega arith;
-        afterOver = λ e. let z : false ≡ true = demand .held 0 20 .only e in let q : _≡_ {A = ℕ} 0 1 = cc in omega arith;
+        afterFirst = λ e. let z : false ≡ true = demand .held 1 660 .only e in let q : _≡_ {A = ℕ} 0 1 = cc in omega arith;
+        afterSecond = λ e. let z : false ≡ true = demand .held 0 20 .only e in let q : _≡_ {A = ℕ} 0 1 = cc in omega arith;
       }
 
   -- ---- stamps
@@ -125,8 +126,8 @@ module _ (a : Areas) (accepted : Accepted limits a) where
   pub begins : Begins a
   begins =
       let b = demand .begins 1 3 2 begun in
-      let reads : (k : ℕ) → k ≤ 3 → (s : Snapshot) → ReadsAs (gives a) 1 k s → ReadsAs (then a (on 1 (BRANCH 3) ∷ [])) 2 k s =
-      λ k p s r. carried (gives a) (then a (on 1 (BRANCH 3) ∷ [])) 1 2 k s
+      let reads : (k : ℕ) → k ≤ 3 → (s : Snapshot) → ReadsAs (gives a) 1 k s → ReadsAs (later a (on 1 (BRANCH 3) ∷ [])) 2 k s =
+      λ k p s r. carried (gives a) (later a (on 1 (BRANCH 3) ∷ [])) 1 2 k s
       (λ offset len buffer. b .reads k offset len buffer p) (λ i. b .views k i p) (λ i. b .stamps k i p) (b .sizes k p) r in
       record {
         begun = begun;

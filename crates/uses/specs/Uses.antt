@@ -4,7 +4,7 @@ use mathlib.Core.List.{List, [], _∷_, _++_}
 use Prim.Native.Nat.{ℕ, _+_, _≤_, _<_}
 use lib.ListN.{length, getD, take, drop}
 use Rattle.text.specs.Quoted.{text}
-use Rattle.model.specs.Calls.{Call, PUT, SETWINDOWS, on, PUBLISH, BRANCH, READ, SIZE, RECENT, STAMP, VIEW, waiting, held, lineIs, filled, sizeIs, recentIs, stampIs, partIs, Outcome, says}
+use Rattle.model.specs.Calls.{Call, PUT, SETWINDOWS, on, PUBLISH, BRANCH, READ, SIZE, RECENT, STAMP, VIEW, refused, waiting, held, lineIs, filled, sizeIs, recentIs, stampIs, partIs, Outcome, says}
 use Rattle.model.specs.InTurn.{joined}
 use Rattle.model.specs.Stamp.{SameFrom}
 use Rattle.model.specs.Model.{Limits}
@@ -16,29 +16,31 @@ use Rattle.model.specs.Example.{pageOf}
 use Rattle.model.specs.Stamps.{sends}
 use Rattle.model.specs.Windows.{twoWindows}
 use Rattle.versions.specs.Store.{Areas}
-use Rattle.demands.specs.Run.{onStore, formattedState, storeAfter, asked}
-use Rattle.demands.specs.Demands.{Accepted, NoFault, historyAfter}
+use Rattle.format.specs.Format.{formatNumber}
+use Rattle.demands.specs.Run.{onStore, freshOf, formattedState, storeAfter, asked}
+use Rattle.demands.specs.Demands.{historyAfter}
 use Rattle.demands.specs.Example as Example
 
 -- Document 01's example has the document's answers.
 abbrev pub ExampleAnswers : Type 0
-ExampleAnswers = (a : Areas) → Accepted Example.limits a → outcomes onStore (formattedState Example.limits a) Example.calls ≡ Example.given
+ExampleAnswers = (a : Areas) → formatNumber (freshOf Example.limits) a ≡ 0 → outcomes onStore (formattedState Example.limits a) Example.calls ≡ Example.given
 
 -- What any call gives back after any others is what the model does, and is neither 3 nor 19.
 pub record Answers (L : Limits) (a : Areas) (cs : List Call) (c : Call) : Type 0 where
   pub same : asked (storeAfter L a cs) c ≡ onModel L (modelAfter L cs) c .1
-  pub sound : NoFault (asked (storeAfter L a cs) c .answer)
+  pub not3 : asked (storeAfter L a cs) c .answer ≡ refused 3 → ⊥
+  pub not19 : asked (storeAfter L a cs) c .answer ≡ refused 19 → ⊥
 
 abbrev pub EveryAnswer : Type 0
-EveryAnswer = (L : Limits) (a : Areas) → Accepted L a → (cs : List Call) (c : Call) → Answers L a cs c
+EveryAnswer = (L : Limits) (a : Areas) → formatNumber (freshOf L) a ≡ 0 → (cs : List Call) (c : Call) → Answers L a cs c
 
 -- ---- one list of calls, on two lines
 
 unfoldable pub limits : Limits
 limits = record { size = 16; pages = 16; nodes = 24; updates = 8 }
 
--- Version 1 of line 0, where line 1 begins; version 2 of line 0; version 2 of line 1, pages 1 and 2; its version 3, which sends page 2 again as it is, and page 3. Then two
--- windows, and a list that is refused; version 4 of line 1, complete and held, and version 5, of which no node is stored; and three more calls that are refused.
+-- Version 1 of line 0, from which line 1 begins; version 2 of line 0; version 2 of line 1, with pages 1 and 2; its version 3, which sends page 2 again as it is, with page
+-- 3. Then two windows, and a list that is refused; version 4 of line 1, complete and held, and version 5, with no node stored; and three calls that are refused.
 unfoldable pub calls : List Call
 calls =
     sends 0 1 0 (pageOf 10 ∷ pageOf 11 ∷ []) 3
@@ -55,7 +57,7 @@ calls =
     ∷ on 0 (BRANCH 3)
     ∷ []
 
--- Versions 2 and 3 of line 1: nodes of version 1 are of line 0.
+-- Versions 2 and 3 of line 1. Their leaf of page 0 is version 1's, which is line 0's.
 unfoldable pub version2 : Snapshot
 version2 = record {
   size = 3;
@@ -78,7 +80,7 @@ version3 = record {
       (inner 65539 2 1 65539 65539 (leaf 65539 2 5 0) (leaf 65539 3 6 0));
 }
 
--- Version v of line l is s, in what calls give back.
+-- Version v of line l reads as s, in what calls give back.
 pub record ReadsAs (gives : Call → Outcome) (l v : ℕ) (s : Snapshot) : Type 0 where
   pub reads : (offset len : ℕ) (buffer : List ℕ) → offset + len ≤ length (joined (s .blob)) → len ≤ length buffer
       → gives (on l (READ v offset len buffer)) ≡ record { answer = filled; buffer = take len (drop offset (joined (s .blob))) ++ drop len buffer }
@@ -96,39 +98,40 @@ module _ (a : Areas) where
   abbrev pub gives : Call → Outcome
   gives c = asked (storeAfter limits a calls) c
 
-  abbrev pub then : List Call → Call → Outcome
-  then more c = asked (storeAfter limits a (calls ++ more)) c
+  abbrev pub later : List Call → Call → Outcome
+  later more c = asked (storeAfter limits a (calls ++ more)) c
 
-  -- Line 1 has three versions published, and they read as they should; the node area has their trees; page 1 of version 3 has had its bytes since version 2.
+  -- Line 1 has three versions published, which read as above; the node area has the tree; and each page of version 3 has had its bytes since its stamp, and no longer.
   pub record Compared : Type 0 where
     pub recent : gives (on 1 RECENT) ≡ says (recentIs 3)
     pub both : Both gives 1
     pub tree : treeIn (placeIn (modelAfter limits calls)) (storeAfter limits a calls .areas .nodes) 2 65539 0 ≡ version3 .tree
-    pub since : SameFrom (historyAfter limits calls 1) 2 3 1
-    pub lowest : (u : ℕ) → SameFrom (historyAfter limits calls 1) u 3 1 → 2 ≤ u
+    pub since : (p : ℕ) → p < 4 → SameFrom (historyAfter limits calls 1) (getD (version3 .stamps) p 0) 3 p
+    pub lowest : (p : ℕ) → p < 4 → (u : ℕ) → SameFrom (historyAfter limits calls 1) u 3 p → getD (version3 .stamps) p 0 ≤ u
 
   -- Whatever is called later, on whatever line: they read as before, the model has them as before, and no fewer are published.
   pub record Kept (more : List Call) : Type 0 where
-    pub both : Both (then more) 1
+    pub both : Both (later more) 1
     pub snapshot : snapshotAt (modelAfter limits (calls ++ more)) 1 3 ≡ version3
-    pub recent : (n : ℕ) → then more (on 1 RECENT) ≡ says (recentIs n) → 3 ≤ n
+    pub recent : (n : ℕ) → later more (on 1 RECENT) ≡ says (recentIs n) → 3 ≤ n
 
-  -- PUBLISH of line 1, at whatever minutes, until it says "waiting": version 4 is the last, since version 5 is not complete. At five minutes just outside the windows it comes
-  -- to say so.
+  -- PUBLISH of line 1, at whatever minutes, until it says "waiting": version 4 is the last, since version 5 is not complete. At five minutes beside the windows it comes to
+  -- say so.
   pub record Reaches : Type 0 where
-    pub exact : (minutes : List ℕ) (now : ℕ) → then (publishes 1 minutes) (on 1 (PUBLISH now)) ≡ says waiting
-        → then (publishes 1 minutes) (on 1 RECENT) ≡ says (recentIs 4)
-    pub comes : then (publishes 1 (599 ∷ 660 ∷ 9999 ∷ 20 ∷ 21 ∷ [])) (on 1 (PUBLISH 20)) ≡ says waiting
+    pub exact : (minutes : List ℕ) (now : ℕ) → later (publishes 1 minutes) (on 1 (PUBLISH now)) ≡ says waiting
+        → later (publishes 1 minutes) (on 1 RECENT) ≡ says (recentIs 4)
+    pub comes : later (publishes 1 (599 ∷ 660 ∷ 9999 ∷ 20 ∷ 21 ∷ [])) (on 1 (PUBLISH 20)) ≡ says waiting
 
-  -- PUBLISH of either line at the last minute of a window is held, and moves nothing; a minute later it is not.
+  -- PUBLISH of either line at a window's last minute is held, and moves nothing; a minute later it is not.
   pub record Held : Type 0 where
-    pub first : gives (on 1 (PUBLISH 659)) ≡ says held
-    pub over : gives (on 0 (PUBLISH 19)) ≡ says held
+    pub inFirst : gives (on 1 (PUBLISH 659)) ≡ says held
+    pub inSecond : gives (on 0 (PUBLISH 19)) ≡ says held
     pub still : storeAfter limits a (calls ++ on 1 (PUBLISH 659) ∷ []) ≡ storeAfter limits a calls
-    pub after : gives (on 1 (PUBLISH 660)) ≡ says held → ⊥
-    pub afterOver : gives (on 0 (PUBLISH 20)) ≡ says held → ⊥
+    pub afterFirst : gives (on 1 (PUBLISH 660)) ≡ says held → ⊥
+    pub afterSecond : gives (on 0 (PUBLISH 20)) ≡ says held → ⊥
 
-  -- The stamps of pages 1 and 2 of version 3 are 2: version 2 has the same page 2, and so has version 3 as seen from version 2; version 1 has another page 1, and no page 2.
+  -- The stamps of pages 1 and 2 in version 3 are 2, as they are in version 2: a truck that has version 2 has page 2 of version 3, and the other way round; version 1 has
+  -- another page 1, and no page 2.
   pub record Fetches : Type 0 where
     pub upto : (w : ℕ) → gives (on 1 (STAMP 3 2)) ≡ says (stampIs w) → w ≤ 3
     pub same : gives (on 1 (VIEW 2 2)) ≡ gives (on 1 (VIEW 3 2))
@@ -136,15 +139,15 @@ module _ (a : Areas) where
     pub changed : gives (on 1 (VIEW 1 1)) ≡ gives (on 1 (VIEW 3 1)) → ⊥
     pub new : gives (on 1 (VIEW 1 2)) ≡ gives (on 1 (VIEW 3 2)) → ⊥
 
-  -- Line 2 begins from version 3 of line 1: it has that published, and reads as line 1 does.
+  -- Line 2 begins from version 3 of line 1: it has that published at once, and reads as line 1 does.
   pub record Begins : Type 0 where
     pub begun : gives (on 1 (BRANCH 3)) ≡ says (lineIs 2)
-    pub recent : then (on 1 (BRANCH 3) ∷ []) (on 2 RECENT) ≡ says (recentIs 3)
-    pub both : Both (then (on 1 (BRANCH 3) ∷ [])) 2
+    pub recent : later (on 1 (BRANCH 3) ∷ []) (on 2 RECENT) ≡ says (recentIs 3)
+    pub both : Both (later (on 1 (BRANCH 3) ∷ [])) 2
 
 -- In any areas that FORMAT accepts.
 abbrev pub InAll : (Areas → Type 0) → Type 0
-InAll P = (a : Areas) → Accepted limits a → P a
+InAll P = (a : Areas) → formatNumber (freshOf limits) a ≡ 0 → P a
 
 abbrev pub AllKept : Type 0
 AllKept = InAll (λ a. (more : List Call) → Kept a more)
