@@ -1,7 +1,7 @@
 -- What the third demand gives of any list of calls. Assumes nothing.
 use mathlib.Core.Path.{_≡_, refl, sym, ap, _∙_}
 use mathlib.Core.List.{List, [], _∷_, _++_}
-use Prim.Native.Nat.{ℕ, zero, suc, _≤_, _<_}
+use Prim.Native.Nat.{ℕ, zero, suc, _<_}
 use native.Mathlib.Decide.{ℕ-discrete}
 use native.Mathlib.Omega.{arith}
 use lib.ListN.{length, getD, length-append, List·getD-append}
@@ -17,7 +17,7 @@ use Rattle.versions.specs.Store.{Areas}
 use Rattle.demands.specs.Run.{onStore, formattedState, storeAfter, asked}
 use Rattle.demands.specs.Demands.{Accepted, ReadsInTurn, historyAfter}
 use Rattle.demands.proofs.Demanded.{demanded}
-use Rattle.uses.specs.Uses.{Answers, EveryAnswer, ReadsAs}
+use Rattle.uses.specs.Uses.{EveryAnswer, ReadsAs}
 
 -- The outcome of a list's last call.
 last : {S : Type 0} (step : S → Call → S × Outcome) (s : S) (cs : List Call) (c : Call)

@@ -1,11 +1,11 @@
 -- The corollaries of one list of calls, each by its field of the third demand. Assumes nothing.
-use mathlib.Core.Path.{_≡_, refl, sym, ap, _∙_}
+use mathlib.Core.Path.{_≡_, refl, sym, _∙_}
 use mathlib.Core.Bool.{true, false}
 use mathlib.Core.List.{List, [], _∷_, _++_}
 use Prim.Native.Nat.{ℕ, zero, suc, _≤_, _<_}
 use native.Mathlib.Omega.{arith}
-use lib.ListN.{length, getD}
-use Rattle.model.specs.Calls.{Call, on, PUBLISH, BRANCH, RECENT, STAMP, held, lineIs, recentIs, stampIs, says}
+use lib.ListN.{getD}
+use Rattle.model.specs.Calls.{Call, on, BRANCH, lineIs, says}
 use Rattle.model.specs.Stamp.{stampsUpto}
 use Rattle.model.specs.Model.{lineAt}
 use Rattle.model.specs.Run.{run, modelAfter}
@@ -13,7 +13,6 @@ use Rattle.model.specs.Due.{Open, completeUpTo}
 use Rattle.model.specs.Snapshot.{Snapshot, treeOf, snapshotAt}
 use Rattle.model.specs.Example.{computes}
 use Rattle.versions.specs.Store.{Areas}
-use Rattle.demands.specs.Run.{storeAfter, asked}
 use Rattle.demands.specs.Demands.{Accepted, Published, ThirdDemand}
 use Rattle.demands.specs.Example as Example
 use Rattle.demands.proofs.Demanded.{demanded}
@@ -108,11 +107,10 @@ module _ (a : Areas) (accepted : Accepted limits a) where
   unfolding version2 version3
   fetches =
       let there = both .third .stamps in
-      let page2 = demand .fetches 1 3 2 2 (there 2 (omega arith)) in
       record {
         upto = λ w e. demand .fetches 1 3 2 w e .upto;
-        same = page2 .same 2 (omega arith) (omega arith);
-        alike = demand .fetches 1 2 2 2 (both .second .stamps 2 (omega arith)) .alike 3 (there 2 (omega arith));
+        same = demand .fetches 1 3 2 2 (there 2 (omega arith)) .same 2 (omega arith) (omega arith);
+        alike = demand .fetches 1 2 1 2 (both .second .stamps 1 (omega arith)) .alike 3 (there 1 (omega arith));
         changed = below-stamp limits a accepted calls 1 1 3 1 (there 1 (omega arith));
         new = below-stamp limits a accepted calls 1 1 3 2 (there 2 (omega arith));
       }

@@ -130,12 +130,12 @@ module _ (a : Areas) where
     pub afterFirst : gives (on 1 (PUBLISH 660)) ≡ says held → ⊥
     pub afterSecond : gives (on 0 (PUBLISH 20)) ≡ says held → ⊥
 
-  -- The stamps of pages 1 and 2 in version 3 are 2, as they are in version 2: a truck that has version 2 has page 2 of version 3, and the other way round; version 1 has
-  -- another page 1, and no page 2.
+  -- The stamps of pages 1 and 2 are 2 in versions 2 and 3: who has version 2 has page 2 of version 3, and who has version 3 has page 1 of version 2; version 1 has another
+  -- page 1, and no page 2.
   pub record Fetches : Type 0 where
     pub upto : (w : ℕ) → gives (on 1 (STAMP 3 2)) ≡ says (stampIs w) → w ≤ 3
     pub same : gives (on 1 (VIEW 2 2)) ≡ gives (on 1 (VIEW 3 2))
-    pub alike : gives (on 1 (VIEW 3 2)) ≡ gives (on 1 (VIEW 2 2))
+    pub alike : gives (on 1 (VIEW 3 1)) ≡ gives (on 1 (VIEW 2 1))
     pub changed : gives (on 1 (VIEW 1 1)) ≡ gives (on 1 (VIEW 3 1)) → ⊥
     pub new : gives (on 1 (VIEW 1 2)) ≡ gives (on 1 (VIEW 3 2)) → ⊥
 
