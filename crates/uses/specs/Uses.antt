@@ -1,9 +1,10 @@
 -- What the three demands give a client, over any areas that FORMAT accepts: by the theorem alone, since the areas are not given.
-use mathlib.Core.Path.{_≡_}
+use mathlib.Core.Path.{_≡_, refl}
 use mathlib.Core.List.{List, [], _∷_, _++_}
 use Prim.Native.Nat.{ℕ, _+_, _≤_, _<_}
-use lib.ListN.{length, getD, take, drop}
+use lib.ListN.{length, getD, replicate, take, drop}
 use Rattle.text.specs.Quoted.{text}
+use Rattle.register.specs.Register.{noRecord}
 use Rattle.model.specs.Calls.{Call, PUT, SETWINDOWS, on, PUBLISH, BRANCH, READ, SIZE, RECENT, STAMP, VIEW, refused, waiting, held, lineIs, filled, sizeIs, recentIs, stampIs, partIs, Outcome, says}
 use Rattle.model.specs.InTurn.{joined}
 use Rattle.model.specs.Stamp.{SameFrom}
@@ -19,6 +20,7 @@ use Rattle.versions.specs.Store.{Areas}
 use Rattle.format.specs.Format.{formatNumber}
 use Rattle.demands.specs.Run.{onStore, freshOf, formattedState, storeAfter, asked}
 use Rattle.demands.specs.Demands.{historyAfter}
+use Rattle.demands.specs.Computes.{computes}
 use Rattle.demands.specs.Example as Example
 
 -- Document 01's example has the document's answers.
@@ -145,9 +147,13 @@ module _ (a : Areas) where
     pub recent : later (on 1 (BRANCH 3) ∷ []) (on 2 RECENT) ≡ says (recentIs 3)
     pub both : Both (later (on 1 (BRANCH 3) ∷ [])) 2
 
--- In any areas that FORMAT accepts.
+-- In any areas that FORMAT accepts; and there are some.
 abbrev pub InAll : (Areas → Type 0) → Type 0
 InAll P = (a : Areas) → formatNumber (freshOf limits) a ≡ 0 → P a
+
+pub accepts : formatNumber (freshOf limits) (record { pages = replicate 256 7; nodes = replicate 48 7; register = replicate 8 noRecord }) ≡ 0
+unfolding computes limits
+accepts = refl
 
 abbrev pub AllKept : Type 0
 AllKept = InAll (λ a. (more : List Call) → Kept a more)
