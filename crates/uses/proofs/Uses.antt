@@ -16,7 +16,8 @@ use Rattle.versions.specs.Store.{Areas}
 use Rattle.demands.specs.Demands.{Accepted, Published, ThirdDemand}
 use Rattle.demands.specs.Example as Example
 use Rattle.demands.proofs.Demanded.{demanded}
-use Rattle.uses.specs.Uses.{ExampleAnswers, ReadsAs, Both, limits, calls, version2, version3, gives, later, Compared, Kept, Reaches, Held, Fetches, Begins}
+use Rattle.uses.specs.Accepted.{limits}
+use Rattle.uses.specs.Uses.{ExampleAnswers, ReadsAs, Both, calls, version2, version3, gives, later, Compared, Kept, Reaches, Held, Fetches, Begins}
 use Rattle.uses.proofs.Laws.{every-answer, same-recent, as-snapshot, lowest-listed, carried, below-stamp}
 
 pub example-answers : ExampleAnswers

@@ -1,10 +1,9 @@
 -- What the three demands give a client, over any areas that FORMAT accepts: by the theorem alone, since the areas are not given.
-use mathlib.Core.Path.{_≡_, refl}
+use mathlib.Core.Path.{_≡_}
 use mathlib.Core.List.{List, [], _∷_, _++_}
 use Prim.Native.Nat.{ℕ, _+_, _≤_, _<_}
-use lib.ListN.{length, getD, replicate, take, drop}
+use lib.ListN.{length, getD, take, drop}
 use Rattle.text.specs.Quoted.{text}
-use Rattle.register.specs.Register.{noRecord}
 use Rattle.model.specs.Calls.{Call, PUT, SETWINDOWS, on, PUBLISH, BRANCH, READ, SIZE, RECENT, STAMP, VIEW, refused, waiting, held, lineIs, filled, sizeIs, recentIs, stampIs, partIs, Outcome, says}
 use Rattle.model.specs.InTurn.{joined}
 use Rattle.model.specs.Stamp.{SameFrom}
@@ -20,8 +19,8 @@ use Rattle.versions.specs.Store.{Areas}
 use Rattle.format.specs.Format.{formatNumber}
 use Rattle.demands.specs.Run.{onStore, freshOf, formattedState, storeAfter, asked}
 use Rattle.demands.specs.Demands.{historyAfter}
-use Rattle.demands.specs.Computes.{computes}
 use Rattle.demands.specs.Example as Example
+use Rattle.uses.specs.Accepted.{limits, InAll}
 
 -- Document 01's example has the document's answers.
 abbrev pub ExampleAnswers : Type 0
@@ -37,9 +36,6 @@ abbrev pub EveryAnswer : Type 0
 EveryAnswer = (L : Limits) (a : Areas) → formatNumber (freshOf L) a ≡ 0 → (cs : List Call) (c : Call) → Answers L a cs c
 
 -- ---- one list of calls, on two lines
-
-unfoldable pub limits : Limits
-limits = record { size = 16; pages = 16; nodes = 24; updates = 8 }
 
 -- Version 1 of line 0, from which line 1 begins; version 2 of line 0; version 2 of line 1, with pages 1 and 2; its version 3, which sends page 2 again as it is, with page
 -- 3. Then two windows, and a list that is refused; version 4 of line 1, complete and held, and version 5, with no node stored; and three calls that are refused.
@@ -146,14 +142,6 @@ module _ (a : Areas) where
     pub begun : gives (on 1 (BRANCH 3)) ≡ says (lineIs 2)
     pub recent : later (on 1 (BRANCH 3) ∷ []) (on 2 RECENT) ≡ says (recentIs 3)
     pub both : Both (later (on 1 (BRANCH 3) ∷ [])) 2
-
--- In any areas that FORMAT accepts; and there are some.
-abbrev pub InAll : (Areas → Type 0) → Type 0
-InAll P = (a : Areas) → formatNumber (freshOf limits) a ≡ 0 → P a
-
-pub accepts : formatNumber (freshOf limits) (record { pages = replicate 256 7; nodes = replicate 48 7; register = replicate 8 noRecord }) ≡ 0
-unfolding computes limits
-accepts = refl
 
 abbrev pub AllKept : Type 0
 AllKept = InAll (λ a. (more : List Call) → Kept a more)
