@@ -1,191 +1,253 @@
 -- One call on a line in two matched states.
 -- Assumes nothing.
 use mathlib.Core.Path.{_≡_, refl, sym, ap, ap₂, subst, _∙_}
-use mathlib.Core.Logic.{_≢_}
-use mathlib.Core.Bool.{Bool, true, false, not, _||_, false≢true}
-use mathlib.Core.List.{List, [], _∷_, _++_}
-use Prim.Native.Nat.{ℕ, suc, _+_, _*_, max}
+use mathlib.Core.Logic.{inl, inr}
+use mathlib.Core.Bool.{Bool, true, false, not, cond}
+use mathlib.Core.List.{List, [], _++_}
+use Prim.Native.Nat.{ℕ, zero, suc, _+_, _*_, _<_, max}
 use native.Mathlib.Decide.{ℕ-discrete}
-use borrow.Author.Tests.{eq-eqb, lt-leb}
-use lib.Dec.{leb, ltb, eqb}
-use lib.ListN.{length, getD, take, drop, length-set}
-use Rattle.tree.specs.Tree.{countOf}
+use native.Mathlib.Omega.{arith}
+use borrow.Author.Tests.{le-leb, lt-leb}
+use lib.Dec.{leb, ltb}
+use lib.ListN.{length, getD, take, drop}
+use Rattle.tree.specs.Tree.{nth, countOf}
+use Rattle.tree.proofs.Meets.{lt-or-le}
 use Rattle.table.specs.Table.{holds, firstRefusal, unless}
 use Rattle.table.specs.Table.{lineRows, publishRows, branchRows, assignRows, sizeRows, readRows, pageRows}
 use Rattle.windows.specs.Windows.{insideSome}
-use Rattle.model.specs.Calls.{Call, on, WRITE, APPEND, PUBLISH, BRANCH, READ, SIZE, RECENT, STAMP, VIEW, Answer, publishedIs, waiting, held, filled, sizeIs, recentIs, stampIs, partIs, says, answers}
-use Rattle.model.specs.History.{Version, History, noVersion, ticketAt, pagesOf, blobSize, allFilled, due}
+use Rattle.model.specs.Calls.{WRITE, APPEND, PUBLISH, BRANCH, READ, SIZE, RECENT, STAMP, VIEW, Answer, versionIs, publishedIs, waiting, held, lineIs, filled, sizeIs, recentIs, stampIs, partIs, Outcome, says, answers}
+use Rattle.model.specs.History.{Version, noVersion, ticketAt, pagesOf, blobSize, allFilled, due}
 use Rattle.model.specs.InTurn.{joined}
 use Rattle.model.specs.Model.{Limits, Model, lineAt, history, places}
 use Rattle.model.specs.OnModel.{ticketIn, either, lineNumber, publishNumber, published, branchNumber, branched, readNumber, sizeNumber, pageNumber, sizeAfter, nextVersion, nextUpdate, assignNumber, assigned as withAssigned, assignStep, onLine}
-use Rattle.model.proofs.Nth.{map-snoc, nth-new}
-use Rattle.model.proofs.Passed.{AssignPassed, assign-passed}
-use Rattle.model.proofs.Histories.{withVersion, published-history, assigned-history}
-use Rattle.isolation.specs.Isolation.{named, lineless, plain, seenOn, wovenAt, Match}
-use Rattle.isolation.proofs.Lists.{nth-snoc}
+use Rattle.model.proofs.Nth.{length-snoc}
+use Rattle.model.proofs.Passed.{AssignPassed, assign-passed, publish-passed, branch-passed}
+use Rattle.model.proofs.Shown.{versions-length}
+use Rattle.model.proofs.Histories.{published-history, assigned-history}
+use Rattle.isolation.specs.Isolation.{ownNumber, absent, Written, SameLine, Match, Excused, byList, notBegun, Numbered, SameAnswer, word, line, Same, Compare}
+use Rattle.isolation.proofs.Lists.{nth-snocs}
 use Rattle.isolation.proofs.Kept.{Kept}
-use Rattle.isolation.proofs.Match.{match-sym, match-trans, match-by}
-use Rattle.isolation.proofs.Frame.{frame-branch}
-use Rattle.isolation.proofs.Alike.{tickets-same, slots-same, length-same, shown-same, size-same, blob-same, pages-same, stamp-same, due-same}
-use Rattle.isolation.proofs.Twins.{given-version, given-line, given-published, Step, Alike, alike, alike-row, alike-last, twin, alike-open}
+use Rattle.isolation.proofs.Match.{line-by, line-between, match-sym, match-framed}
+use Rattle.isolation.proofs.Tickets.{Pair}
+use Rattle.isolation.proofs.Frame.{own-other, own-new, frame-branched}
+use Rattle.isolation.proofs.Alike.{size-same, blob-same, pages-same, stamp-same, due-same}
+use Rattle.isolation.proofs.Refusals.{IsRefusal, no-refusal, fine-row, Alike, alike, mine, yours, alike-row, alike-fine, twin, Step}
+use Rattle.isolation.proofs.Calls.{alike-open, other-left, these-two}
 
--- ---- one version more: the woven count of its ticket, and those of the versions before it
-module _ (h : History) (x : Version) (v : ℕ) where
-  woven-new : v ≡ suc (length (h .versions)) → wovenAt (withVersion h x) v ≡ ticketAt h (x .ticket) .woven
-  woven-new e = ap (wovenAt (withVersion h x)) e ∙ ap (λ (y : Version). ticketAt h (y .ticket) .woven) (nth-new noVersion (h .versions) x)
+-- PUBLISH's answers are no refusals.
+not-refused : (h d : Bool) (v : ℕ) → IsRefusal (either h held (either d (publishedIs v) waiting)) → ⊥
+not-refused true d v = elim [ ]
+not-refused false true v = elim [ ]
+not-refused false false v = elim [ ]
 
-  woven-old : v ≢ suc (length (h .versions)) → wovenAt (withVersion h x) v ≡ wovenAt h v
-  woven-old n = ap (λ (y : Version). ticketAt h (y .ticket) .woven) (nth-snoc noVersion (h .versions) x v n)
+-- A refusal tells no number.
+not-numbered : (r : ℕ) {a : Answer} → (Numbered a → ⊥) → Numbered (answers r a) → ⊥
+not-numbered zero f = f
+not-numbered (suc r) f = elim [ ]
 
-module _ (L : Limits) {l l′ : ℕ} {m m′ : Model} (M : Match l l′ m m′) where
-  there : leb (length (m .lines)) l ≡ false
-  there = lt-leb (length (m .lines)) l (M .begun)
-
-  there′ : leb (length (m′ .lines)) l′ ≡ false
-  there′ = lt-leb (length (m′ .lines)) l′ (M .begun′)
-
-  -- ---- the rows
-  line-same : lineNumber L m l ≡ lineNumber L m′ l′
-  unfolding firstRefusal lineRows holds
-  line-same = rw (there, there′)
-
-  publish-same : (minute : ℕ) → publishNumber L m l minute ≡ publishNumber L m′ l′ minute
-  unfolding firstRefusal publishRows holds
-  publish-same minute = rw (there, there′)
-
-  read-same : (v offset len : ℕ) (buffer : List ℕ) → readNumber L m l v offset len buffer ≡ readNumber L m′ l′ v offset len buffer
-  unfolding firstRefusal readRows holds
-  read-same v offset len buffer = rw (there, there′, M .published, size-same M v)
-
-  bytes-same : (v : ℕ) → sizeNumber L m l v ≡ sizeNumber L m′ l′ v
-  unfolding firstRefusal sizeRows holds
-  bytes-same v = rw (there, there′, M .published)
-
-  page-same : (v p : ℕ) → pageNumber L m l v p ≡ pageNumber L m′ l′ v p
-  unfolding firstRefusal pageRows holds
-  page-same v p = rw (there, there′, M .published, size-same M v)
-
-  alike-branch : (v : ℕ) → Alike l l′ m m′ (on l (BRANCH v)) (on l′ (BRANCH v)) (branchNumber L m l v) (branchNumber L m′ l′ v)
-  unfolding firstRefusal branchRows holds
-  alike-branch v = rw (there, there′, M .published)
-      (alike-row l l′ m m′ (ltb (lineAt m′ l′ .published) v) 16 (alike-last l l′ m m′ (leb 16 (length (m .lines))) (leb 16 (length (m′ .lines))) 20 refl))
+module _ (L : Limits) {l l′ : ℕ} {ts ts′ : List ℕ} {m m′ : Model} (M : Match l l′ ts ts′ m m′) where
+  -- Row 20, and the rows after it: these are alike where both lines have begun.
+  alike-line : {t t′ r r′ : ℕ} → (l < length (m .lines) → l′ < length (m′ .lines) → Alike l l′ m m′ t t′ r r′)
+      → Alike l l′ m m′ t t′ (cond (leb (length (m .lines)) l) 20 r) (cond (leb (length (m′ .lines)) l′) 20 r′)
+  alike-line f = elim (lt-or-le l (length (m .lines))) [
+    | inl b ↦ elim (lt-or-le l′ (length (m′ .lines))) [
+      | inl b′ ↦ rw (lt-leb (length (m .lines)) l b, lt-leb (length (m′ .lines)) l′ b′) (f b b′)
+      | inr h ↦ rw (le-leb (length (m′ .lines)) l′ h) (yours (omega arith) (byList refl))
+    ]
+    | inr h ↦ rw (le-leb (length (m .lines)) l h) (mine (omega arith) (byList refl))
+  ]
 
   -- ---- the calls that move nothing
-  pub twin-read : (v offset len : ℕ) (buffer : List ℕ)
-      → Step l l′ m m′ (on l (READ v offset len buffer)) (on l′ (READ v offset len buffer)) (onLine L m l (READ v offset len buffer)) (onLine L m′ l′ (READ v offset len buffer))
-  unfolding onLine
-  twin-read v offset len buffer = (
-    (λ q. M),
-    λ n. absurd (n (
-        ap₂ (λ k pages. plain (record { answer = answers k filled; buffer = unless k buffer (take len (drop offset (joined pages)) ++ drop len buffer) }))
-        (read-same v offset len buffer) (pages-same M v)
-        )),
+
+  -- Where both lines have begun they give back the same; where one has not, its answer is excused.
+  still : (o o′ : Outcome) → (SameLine (history m l) (history m′ l′) → leb (length (m .lines)) l ≡ false → leb (length (m′ .lines)) l′ ≡ false → o ≡ o′)
+      → (Numbered (o .answer) → ⊥) → (leb (length (m .lines)) l ≡ true → Excused l m 0 (o .answer)) → (leb (length (m′ .lines)) l′ ≡ true → Excused l′ m′ 0 (o′ .answer))
+      → Compare l l′ m m′ 0 0 o o′ (Match l l′ ts ts′ m m′)
+  still o o′ f w g g′ = (
+    elim (lt-or-le l (length (m .lines))) [
+      | inl b ↦ elim (lt-or-le l′ (length (m′ .lines))) [
+        | inl b′ ↦ inl (subst (Same l l′ m m′ 0 0 o) (f (M .lines b b′) (lt-leb (length (m .lines)) l b) (lt-leb (length (m′ .lines)) l′ b′)) (word w, refl))
+        | inr h ↦ inr (inr (g′ (le-leb (length (m′ .lines)) l′ h)))
+      ]
+      | inr h ↦ inr (inl (g (le-leb (length (m .lines)) l h)))
+    ],
+    λ s. M,
   )
 
-  pub twin-size : (v : ℕ) → Step l l′ m m′ (on l (SIZE v)) (on l′ (SIZE v)) (onLine L m l (SIZE v)) (onLine L m′ l′ (SIZE v))
-  unfolding onLine
-  twin-size v = ((λ q. M), λ n. absurd (n (ap₂ (λ k n. plain (says (answers k (sizeIs (L .size * n))))) (bytes-same v) (size-same M v))))
+  pub twin-read : (v offset len : ℕ) (buffer : List ℕ) → Step l l′ ts ts′ m m′ 0 0 (onLine L m l (READ v offset len buffer)) (onLine L m′ l′ (READ v offset len buffer))
+  unfolding onLine firstRefusal readRows holds
+  twin-read v offset len buffer = still (onLine L m l (READ v offset len buffer) .1) (onLine L m′ l′ (READ v offset len buffer) .1)
+      (λ X e e′.
+      let r : readNumber L m l v offset len buffer ≡ readNumber L m′ l′ v offset len buffer = rw (e, e′, X .published, size-same X v) in
+      ap₂ (λ k pages. record { answer = answers k filled; buffer = unless k buffer (take len (drop offset (joined pages)) ++ drop len buffer) }) r (pages-same X v))
+      (not-numbered (readNumber L m l v offset len buffer) (elim [ ])) (λ e. rw e (byList refl)) (λ e. rw e (byList refl))
 
-  pub twin-recent : Step l l′ m m′ (on l RECENT) (on l′ RECENT) (onLine L m l RECENT) (onLine L m′ l′ RECENT)
-  unfolding onLine
-  twin-recent = ((λ q. M), λ n. absurd (n (ap₂ (λ k v. plain (says (answers k (recentIs v)))) line-same (M .published))))
+  pub twin-size : (v : ℕ) → Step l l′ ts ts′ m m′ 0 0 (onLine L m l (SIZE v)) (onLine L m′ l′ (SIZE v))
+  unfolding onLine firstRefusal sizeRows holds
+  twin-size v = still (onLine L m l (SIZE v) .1) (onLine L m′ l′ (SIZE v) .1)
+      (λ X e e′.
+      let r : sizeNumber L m l v ≡ sizeNumber L m′ l′ v = rw (e, e′, X .published) in
+      ap₂ (λ k n. says (answers k (sizeIs (L .size * n)))) r (size-same X v))
+      (not-numbered (sizeNumber L m l v) (elim [ ])) (λ e. rw e (byList refl)) (λ e. rw e (byList refl))
 
-  pub twin-stamp : (v p : ℕ) → Step l l′ m m′ (on l (STAMP v p)) (on l′ (STAMP v p)) (onLine L m l (STAMP v p)) (onLine L m′ l′ (STAMP v p))
-  unfolding onLine
-  twin-stamp v p = ((λ q. M), λ n. absurd (n (ap₂ (λ k w. plain (says (answers k (stampIs w)))) (page-same v p) (stamp-same M v p))))
+  pub twin-recent : Step l l′ ts ts′ m m′ 0 0 (onLine L m l RECENT) (onLine L m′ l′ RECENT)
+  unfolding onLine firstRefusal lineRows holds
+  twin-recent = still (onLine L m l RECENT .1) (onLine L m′ l′ RECENT .1)
+      (λ X e e′.
+      let r : lineNumber L m l ≡ lineNumber L m′ l′ = rw (e, e′) in
+      ap₂ (λ k v. says (answers k (recentIs v))) r (X .published))
+      (not-numbered (lineNumber L m l) (elim [ ])) (λ e. rw e (byList refl)) (λ e. rw e (byList refl))
 
-  pub twin-view : (v p : ℕ) → Step l l′ m m′ (on l (VIEW v p)) (on l′ (VIEW v p)) (onLine L m l (VIEW v p)) (onLine L m′ l′ (VIEW v p))
-  unfolding onLine
-  twin-view v p = ((λ q. M), λ n. absurd (n (ap₂ (λ k pages. plain (says (partIs (unless k [] (getD pages p []))))) (page-same v p) (pages-same M v))))
+  page-same : SameLine (history m l) (history m′ l′) → leb (length (m .lines)) l ≡ false → leb (length (m′ .lines)) l′ ≡ false → (v p : ℕ)
+      → pageNumber L m l v p ≡ pageNumber L m′ l′ v p
+  unfolding firstRefusal pageRows holds
+  page-same X e e′ v p = rw (e, e′, X .published, size-same X v)
+
+  pub twin-stamp : (v p : ℕ) → Step l l′ ts ts′ m m′ 0 0 (onLine L m l (STAMP v p)) (onLine L m′ l′ (STAMP v p))
+  unfolding onLine firstRefusal pageRows holds
+  twin-stamp v p = still (onLine L m l (STAMP v p) .1) (onLine L m′ l′ (STAMP v p) .1)
+      (λ X e e′. ap₂ (λ k w. says (answers k (stampIs w))) (page-same X e e′ v p) (stamp-same X v p))
+      (not-numbered (pageNumber L m l v p) (elim [ ])) (λ e. rw e (byList refl)) (λ e. rw e (byList refl))
+
+  pub twin-view : (v p : ℕ) → Step l l′ ts ts′ m m′ 0 0 (onLine L m l (VIEW v p)) (onLine L m′ l′ (VIEW v p))
+  unfolding onLine firstRefusal pageRows holds unless
+  twin-view v p = still (onLine L m l (VIEW v p) .1) (onLine L m′ l′ (VIEW v p) .1)
+      (λ X e e′. ap₂ (λ k pages. says (partIs (unless k [] (getD pages p [])))) (page-same X e e′ v p) (pages-same X v))
+      (elim [ ]) (λ e. rw e (notBegun e)) (λ e. rw e (notBegun e))
 
   -- ---- BRANCH
-  pub twin-branch : Kept L m → Kept L m′ → (v : ℕ) → Step l l′ m m′ (on l (BRANCH v)) (on l′ (BRANCH v)) (onLine L m l (BRANCH v)) (onLine L m′ l′ (BRANCH v))
-  unfolding onLine
-  twin-branch S S′ v = twin l l′ m m′ (branchNumber L m l v) (branchNumber L m′ l′ v) (branched L m l v) (branched L m′ l′ v) _ _ M (given-line _) (given-line _) (alike-branch v) λ z z′.
-      (match-trans (match-sym (frame-branch L l m S (M .begun) l v)) (match-trans M (frame-branch L l′ m′ S′ (M .begun′) l′ v)), refl)
+  alike-branch : (v : ℕ) → Alike l l′ m m′ 0 0 (branchNumber L m l v) (branchNumber L m′ l′ v)
+  unfolding firstRefusal branchRows holds
+  alike-branch v = alike-line λ b b′. rw (M .lines b b′ .published)
+      (alike-row l l′ m m′ (ltb (lineAt m′ l′ .published) v) 16 (alike-fine l l′ m m′
+      (fine-row (leb 16 (length (m .lines))) 20 refl (no-refusal refl)) (fine-row (leb 16 (length (m′ .lines))) 20 refl (no-refusal refl))))
+
+  pub twin-branch : Kept L m → Kept L m′ → (v : ℕ) → Step l l′ ts ts′ m m′ 0 0 (onLine L m l (BRANCH v)) (onLine L m′ l′ (BRANCH v))
+  unfolding onLine unless
+  twin-branch S S′ v =
+      twin l l′ m m′ (λ r r′. Match l l′ ts ts′ (unless r m (branched L m l v)) (unless r′ m′ (branched L m′ l′ v)))
+      (branchNumber L m l v) (branchNumber L m′ l′ v) (lineIs (length (m .lines))) (lineIs (length (m′ .lines))) (elim [ ]) (elim [ ]) (alike-branch v) (λ k k′. M) λ z z′.
+      let M′ = match-framed (match-sym M) (frame-branched L l′ ts′ m′ S′ (M .matched .tickets′) l′ v) (λ n. absurd (omega (arith, branch-passed L m′ l′ v z′ .line))) in
+      (match-framed (match-sym M′) (frame-branched L l ts m S (M .matched .tickets) l v) (λ n. absurd (omega (arith, branch-passed L m l v z .line))), line)
 
   -- ---- PUBLISH
-  match-published : Match l l′ (published L m l) (published L m′ l′)
-  match-published =
-      match-by _ _ (published-history L m l (M .begun)) (published-history L m′ l′ (M .begun′)) (rw length-set (M .begun)) (rw length-set (M .begun′))
-      (M .slots) (M .versions) (M .woven) (ap suc (M .published)) (M .windows)
+  match-published : l < length (m .lines) → l′ < length (m′ .lines) → Match l l′ ts ts′ (published L m l) (published L m′ l′)
+  match-published b b′ =
+      let X = M .lines b b′ in
+      record {
+        matched = M .matched;
+        own = M .own;
+        lines = λ _ _. line-between (line-by (published-history L m l b)) (line-by (published-history L m′ l′ b′))
+            (record { count = X .count; versions = X .versions; woven = X .woven; published = ap suc (X .published) });
+        windows = M .windows;
+      }
 
   -- By whether a version is due, and before that by whether the minute is inside a window: both are the same in the two states.
-  match-due : (d d′ : Bool) → d ≡ d′
-      → Match l l′ (either d (published L m l) m) (either d′ (published L m′ l′) m′)
-      × (lineless (either d (publishedIs (suc (lineAt m l .published))) waiting) ≡ lineless (either d′ (publishedIs (suc (lineAt m′ l′ .published))) waiting))
-  match-due true true e = (match-published, ap (λ n. publishedIs (suc n)) (M .published))
-  match-due true false e = absurd (false≢true (sym e))
-  match-due false true e = absurd (false≢true e)
-  match-due false false e = (M, refl)
+  match-due : l < length (m .lines) → l′ < length (m′ .lines) → (h h′ d d′ : Bool) → h ≡ h′ → d ≡ d′
+      → Match l l′ ts ts′ (either h m (either d (published L m l) m)) (either h′ m′ (either d′ (published L m′ l′) m′))
+      × SameAnswer l l′ m m′ 0 0
+      (either h held (either d (publishedIs (suc (lineAt m l .published))) waiting)) (either h′ held (either d′ (publishedIs (suc (lineAt m′ l′ .published))) waiting))
+  match-due b b′ h h′ d d′ e i = rw (e, i) (both h′ d′)
+    where
+      both : (h d : Bool) → Match l l′ ts ts′ (either h m (either d (published L m l) m)) (either h m′ (either d (published L m′ l′) m′))
+          × SameAnswer l l′ m m′ 0 0
+          (either h held (either d (publishedIs (suc (lineAt m l .published))) waiting)) (either h held (either d (publishedIs (suc (lineAt m′ l′ .published))) waiting))
+      both true d = (M, word {a = held} (elim [ ]))
+      both false true = (match-published b b′, rw (M .lines b b′ .published) (word {a = publishedIs (suc (lineAt m′ l′ .published))} (elim [ ])))
+      both false false = (M, word {a = waiting} (elim [ ]))
 
-  match-held : (h h′ : Bool) → h ≡ h′ → (m₁ m₁′ : Model) (a a′ : Answer) → Match l l′ m₁ m₁′ × (lineless a ≡ lineless a′)
-      → Match l l′ (either h m m₁) (either h′ m′ m₁′) × (lineless (either h held a) ≡ lineless (either h′ held a′))
-  match-held true true e m₁ m₁′ a a′ x = (M, refl)
-  match-held true false e m₁ m₁′ a a′ x = absurd (false≢true (sym e))
-  match-held false true e m₁ m₁′ a a′ x = absurd (false≢true e)
-  match-held false false e m₁ m₁′ a a′ x = x
+  alike-publish : (minute : ℕ) → Alike l l′ m m′ 0 0 (publishNumber L m l minute) (publishNumber L m′ l′ minute)
+  unfolding firstRefusal publishRows holds
+  alike-publish minute = alike-line λ b b′. alike refl
 
-  pub twin-publish : (minute : ℕ) → Step l l′ m m′ (on l (PUBLISH minute)) (on l′ (PUBLISH minute)) (onLine L m l (PUBLISH minute)) (onLine L m′ l′ (PUBLISH minute))
-  unfolding onLine
+  pub twin-publish : (minute : ℕ) → Step l l′ ts ts′ m m′ 0 0 (onLine L m l (PUBLISH minute)) (onLine L m′ l′ (PUBLISH minute))
+  unfolding onLine unless
   twin-publish minute =
       let d = due (history m l) in
       let d′ = due (history m′ l′) in
       let h = insideSome (m .windows) minute in
       let h′ = insideSome (m′ .windows) minute in
-      twin l l′ m m′ (publishNumber L m l minute) (publishNumber L m′ l′ minute) _ _ _ _ M
-      (given-published h d (suc (lineAt m l .published))) (given-published h′ d′ (suc (lineAt m′ l′ .published))) (alike (publish-same minute)) λ z z′.
-      match-held h h′ (ap (λ ws. insideSome ws minute) (M .windows)) _ _ _ _ (match-due d d′ (due-same M))
+      twin l l′ m m′ (λ r r′. Match l l′ ts ts′ (unless r m (either h m (either d (published L m l) m))) (unless r′ m′ (either h′ m′ (either d′ (published L m′ l′) m′))))
+      (publishNumber L m l minute) (publishNumber L m′ l′ minute) _ _
+      (not-refused h d (suc (lineAt m l .published))) (not-refused h′ d′ (suc (lineAt m′ l′ .published))) (alike-publish minute) (λ k k′. M) λ z z′.
+      let b = publish-passed L m l minute z .line in
+      let b′ = publish-passed L m′ l′ minute z′ .line in
+      match-due b b′ h h′ d d′ (ap (λ ws. insideSome ws minute) (M .windows)) (due-same (M .lines b b′))
 
   -- ---- ASSIGN
-  module _ (S : Kept L m) (S′ : Kept L m′) where
-    size-after : (t f : ℕ) → sizeAfter L m l t f ≡ sizeAfter L m′ l′ t f
-    size-after t f = ap₂ (λ b s. max b (f + length s)) (blob-same M) (slots-same M t)
+  module _ (S : Kept L m) (S′ : Kept L m′) (t t′ : ℕ) (P : Pair l l′ ts ts′ m m′ t t′) where
+    module _ (X : SameLine (history m l) (history m′ l′)) (f : ℕ) where
+      size-after : sizeAfter L m l t f ≡ sizeAfter L m′ l′ t′ f
+      size-after = ap₂ (λ b s. max b (f + length s)) (blob-same X) (P .slots)
 
-    count-same : (t f : ℕ) → countOf (nextUpdate L m l t f) ≡ countOf (nextUpdate L m′ l′ t f)
-    count-same t f = rw (size-after t f, slots-same M t)
+      count-same : countOf (nextUpdate L m l t f) ≡ countOf (nextUpdate L m′ l′ t′ f)
+      count-same = rw (size-after, P .slots)
 
-    next-same : (t f : ℕ) → seenOn l (nextVersion L m l t f) ≡ seenOn l′ (nextVersion L m′ l′ t f)
-    next-same t f = rw (eq-eqb l l refl, eq-eqb l′ l′ refl, shown-same M, size-after t f)
+      next-same : _≡_ {A = Written} (record { f = f; size = sizeAfter L m l t f; slots = ticketIn m t .slots }) (record { f = f; size = sizeAfter L m′ l′ t′ f; slots = ticketIn m′ t′ .slots })
+      next-same = rw (size-after, P .slots)
 
-    match-assigned : (t f : ℕ) → AssignPassed L m l t f → AssignPassed L m′ l′ t f → Match l l′ (withAssigned L m l t f) (withAssigned L m′ l′ t f)
-    match-assigned t f p p′ =
+    match-assigned : (f : ℕ) → AssignPassed L m l t f → AssignPassed L m′ l′ t′ f → Match l l′ ts ts′ (withAssigned L m l t f) (withAssigned L m′ l′ t′ f)
+    match-assigned f p p′ =
         let h = history m l in
         let h′ = history m′ l′ in
         let x = nextVersion L m l t f in
-        let x′ = nextVersion L m′ l′ t f in
+        let x′ = nextVersion L m′ l′ t′ f in
+        let X = M .lines (p .line) (p′ .line) in
         let unwoven = S .tickets t (p .from) (p .upto) .unwoven (p .unassigned) in
-        let unwoven′ = S′ .tickets t (p′ .from) (p′ .upto) .unwoven (p′ .unassigned) in
-        match-by (withVersion h x) (withVersion h′ x′) (assigned-history L m S l t f (M .begun)) (assigned-history L m′ S′ l′ t f (M .begun′))
-        (rw length-set (M .begun)) (rw length-set (M .begun′)) (M .slots)
-        (map-snoc (seenOn l) (h .versions) x ∙ ap₂ (λ ys y. ys ++ y ∷ []) (M .versions) (next-same t f) ∙ sym (map-snoc (seenOn l′) (h′ .versions) x′))
-        (λ v. elim (ℕ-discrete v (suc (length (h .versions)))) [
-          | yes q ↦ woven-new h x v q ∙ unwoven ∙ sym unwoven′ ∙ sym (woven-new h′ x′ v (q ∙ ap suc (length-same M)))
-          | no n ↦ woven-old h x v n ∙ M .woven v ∙ sym (woven-old h′ x′ v (λ q. n (q ∙ ap suc (sym (length-same M)))))
-        ])
-        (M .published) (M .windows)
+        let unwoven′ = S′ .tickets t′ (p′ .from) (p′ .upto) .unwoven (p′ .unassigned) in
+        record {
+          matched = M .matched;
+          own = λ k. elim (ℕ-discrete (nth 0 ts k) t) [
+            | yes q ↦
+                ap (ownNumber l (withAssigned L m l t f)) q ∙ own-new L m l t f (p .unassigned) ∙ ap suc (sym (versions-length m l) ∙ X .count ∙ versions-length m′ l′)
+                ∙ sym (ap (ownNumber l′ (withAssigned L m′ l′ t′ f)) (these-two L M S S′ t t′ P k (p .from) q) ∙ own-new L m′ l′ t′ f (p′ .unassigned))
+            | no d ↦
+                own-other L m l t f l (nth 0 ts k) d ∙ M .own k ∙ sym (own-other L m′ l′ t′ f l′ (nth 0 ts′ k) (other-left L M S S′ t t′ P k (p′ .from) d))
+          ];
+          lines = λ _ _. line-between (line-by (assigned-history L m S l t f (p .line))) (line-by (assigned-history L m′ S′ l′ t′ f (p′ .line))) (record {
+            count = length-snoc (h .versions) x ∙ ap suc (X .count) ∙ sym (length-snoc (h′ .versions) x′);
+            versions = nth-snocs (λ (y : Version). record { f = y .f; size = y .size; slots = ticketAt h (y .ticket) .slots })
+                (λ (y : Version). record { f = y .f; size = y .size; slots = ticketAt h′ (y .ticket) .slots })
+                noVersion noVersion (h .versions) (h′ .versions) x x′ (X .count) (next-same X f) (X .versions);
+            woven = nth-snocs (λ (y : Version). ticketAt h (y .ticket) .woven) (λ (y : Version). ticketAt h′ (y .ticket) .woven)
+                noVersion noVersion (h .versions) (h′ .versions) x x′ (X .count) (unwoven ∙ sym unwoven′) (X .woven);
+            published = X .published;
+          });
+          windows = M .windows;
+        }
 
-    alike-assign : {c c′ : Call} (t f : ℕ) → named c ≡ t → named c′ ≡ t → Alike l l′ m m′ c c′ (assignNumber L m l t f) (assignNumber L m′ l′ t f)
-    unfolding firstRefusal assignRows holds
-    alike-assign t f n n′ =
-        rw (count-same t f, tickets-same M, slots-same M t, blob-same M, there, there′) (alike-row l l′ m m′ (eqb t 0 || ltb (length (m′ .tickets)) t) 7 (alike-open L M S S′ t n n′ (
-        alike-row l l′ m m′ (not (allFilled (ticketIn m′ t .slots))) 12 (alike-row l l′ m m′ (ltb (blobSize (history m′ l′)) f) 13 (
-        alike-row l l′ m m′ (ltb 4096 (f + pagesOf (ticketIn m′ t))) 14 (
-        alike-last l l′ m m′ (ltb (L .nodes) (places m + countOf (nextUpdate L m′ l′ t f))) (ltb (L .nodes) (places m′ + countOf (nextUpdate L m′ l′ t f))) 14 refl
-        )
-        ))
-        )))
+    -- WRITE is given its first page, and APPEND's is the line's size, the same where both lines have begun.
+    module _ (f f′ : ℕ) (same : l < length (m .lines) → l′ < length (m′ .lines) → f ≡ f′) where
+      alike-assign : Alike l l′ m m′ t t′ (assignNumber L m l t f) (assignNumber L m′ l′ t′ f′)
+      unfolding firstRefusal assignRows holds
+      alike-assign =
+          rw (P .there) (alike-row l l′ m m′ (absent (m′ .tickets) t′) 7 (alike-open L M S S′ t t′ P (alike-line λ b b′.
+          rw (same b b′, count-same (M .lines b b′) f′, P .slots, blob-same (M .lines b b′)) (
+          alike-row l l′ m m′ (not (allFilled (ticketIn m′ t′ .slots))) 12 (alike-row l l′ m m′ (ltb (blobSize (history m′ l′)) f′) 13 (
+          alike-row l l′ m m′ (ltb 4096 (f′ + pagesOf (ticketIn m′ t′))) 14 (alike-fine l l′ m m′
+          (fine-row (ltb (L .nodes) (places m + countOf (nextUpdate L m′ l′ t′ f′))) 14 refl (no-refusal refl))
+          (fine-row (ltb (L .nodes) (places m′ + countOf (nextUpdate L m′ l′ t′ f′))) 14 refl (no-refusal refl))))
+          )))))
 
-    twin-assign : (c c′ : Call) (t f : ℕ) → named c ≡ t → named c′ ≡ t → Step l l′ m m′ c c′ (assignStep L m l t f) (assignStep L m′ l′ t f)
-    twin-assign c c′ t f n n′ = twin l l′ m m′ (assignNumber L m l t f) (assignNumber L m′ l′ t f) (withAssigned L m l t f) (withAssigned L m′ l′ t f) _ _ M (given-version _ _) (given-version _ _)
-        (alike-assign t f n n′) λ z z′.
-        (match-assigned t f (assign-passed L m l t f z) (assign-passed L m′ l′ t f z′), rw (shown-same M, count-same t f))
+      twin-assign : Step l l′ ts ts′ m m′ t t′ (assignStep L m l t f) (assignStep L m′ l′ t′ f′)
+      unfolding unless
+      twin-assign =
+          twin l l′ m m′ (λ r r′. Match l l′ ts ts′ (unless r m (withAssigned L m l t f)) (unless r′ m′ (withAssigned L m′ l′ t′ f′)))
+          (assignNumber L m l t f) (assignNumber L m′ l′ t′ f′) (versionIs (suc (length (lineAt m l .shown))) (countOf (nextUpdate L m l t f)))
+          (versionIs (suc (length (lineAt m′ l′ .shown))) (countOf (nextUpdate L m′ l′ t′ f′))) (elim [ ]) (elim [ ]) alike-assign (λ k k′. M) λ z z′.
+          let p = assign-passed L m l t f z in
+          let p′ = assign-passed L m′ l′ t′ f′ z′ in
+          let X = M .lines (p .line) (p′ .line) in
+          let e = same (p .line) (p′ .line) in
+          let n : length (lineAt m l .shown) ≡ length (lineAt m′ l′ .shown) = sym (versions-length m l) ∙ X .count ∙ versions-length m′ l′ in (
+            subst (λ g. Match l l′ ts ts′ (withAssigned L m l t g) (withAssigned L m′ l′ t′ f′)) (sym e) (match-assigned f′ (subst (AssignPassed L m l t) e p) p′),
+            rw (e, n, count-same X f′) (word {a = versionIs (suc (length (lineAt m′ l′ .shown))) (countOf (nextUpdate L m′ l′ t′ f′))} (elim [ ])),
+          )
 
-    pub twin-write : (t f : ℕ) → Step l l′ m m′ (on l (WRITE t f)) (on l′ (WRITE t f)) (onLine L m l (WRITE t f)) (onLine L m′ l′ (WRITE t f))
+    pub twin-write : (f : ℕ) → Step l l′ ts ts′ m m′ t t′ (onLine L m l (WRITE t f)) (onLine L m′ l′ (WRITE t′ f))
     unfolding onLine
-    twin-write t f = twin-assign (on l (WRITE t f)) (on l′ (WRITE t f)) t f refl refl
+    twin-write f = twin-assign f f (λ b b′. refl)
 
-    pub twin-append : (t : ℕ) → Step l l′ m m′ (on l (APPEND t)) (on l′ (APPEND t)) (onLine L m l (APPEND t)) (onLine L m′ l′ (APPEND t))
+    pub twin-append : Step l l′ ts ts′ m m′ t t′ (onLine L m l (APPEND t)) (onLine L m′ l′ (APPEND t′))
     unfolding onLine
-    twin-append t = subst (λ f. Step l l′ m m′ (on l (APPEND t)) (on l′ (APPEND t)) (assignStep L m l t (blobSize (history m l))) (assignStep L m′ l′ t f)) (blob-same M)
-        (twin-assign (on l (APPEND t)) (on l′ (APPEND t)) t (blobSize (history m l)) refl refl)
+    twin-append = twin-assign (blobSize (history m l)) (blobSize (history m′ l′)) (λ b b′. blob-same (M .lines b b′))

@@ -1,116 +1,198 @@
--- Calls on other lines, and WEAVE of tickets assigned there, leave a line as it is.
+-- Calls of other lines leave a line, and the matched tickets, as they are.
 -- Assumes nothing.
 use mathlib.Core.Path.{_≡_, refl, sym, ap, _∙_}
-use mathlib.Core.Logic.{inl, inr, _≢_}
-use mathlib.Core.Bool.{true, not, and-eq-true-iff, false≢true}
-use mathlib.Core.List.{List, map}
-use Prim.Native.Nat.{ℕ, zero, suc, pred, _<_}
+use mathlib.Core.Logic.{_≢_}
+use mathlib.Core.Bool.{false}
+use mathlib.Core.List.{List}
+use Prim.Native.Nat.{ℕ, suc, _≤_, _<_}
+use native.Mathlib.Decide.{ℕ-discrete}
 use native.Mathlib.Omega.{arith}
-use borrow.Author.Tests.{eqb-false, not-true}
-use lib.Dec.{eqb}
-use lib.ListN.{length, getD, set}
-use lib.Seq.{map-set-same}
+use borrow.Author.Tests.{eqb-false, le-leb, lt-ltb}
+use lib.ListN.{length, length-set}
 use Rattle.tree.specs.Tree.{nth}
 use Rattle.table.specs.Table.{unless}
 use Rattle.table.proofs.Table.{unless-keeps}
 use Rattle.windows.specs.Windows.{insideSome}
-use Rattle.model.specs.Calls.{Call, BEGIN, PUT, WEAVE, SETWINDOWS, on, Act, WRITE, APPEND, PUBLISH, BRANCH, READ, SIZE, RECENT, STAMP, VIEW}
-use Rattle.model.specs.History.{Ticket, Version, noTicket, versionAt, blobSize, due}
-use Rattle.model.specs.Model.{Limits, Model, updateAt, updateOf, history}
-use Rattle.model.specs.OnModel.{ticketIn, either, publishNumber, published, branched, onLine, onModel, weaveNumber, woven, branchNumber, assignNumber, assigned as withAssigned, assignStep}
-use Rattle.model.proofs.Nth.{nth-set-other}
-use Rattle.model.proofs.Shown.{version-shown}
-use Rattle.model.proofs.Passed.{WeavePassed, weave-passed, assign-passed, publish-passed}
-use Rattle.model.proofs.Histories.{published-apart, branched-apart, assigned-apart}
-use Rattle.model.proofs.Kept.Publish.{published-lines}
-use Rattle.model.proofs.Kept.Branch.{branched-length}
-use Rattle.model.proofs.Kept.Assign.{assigned-lines}
+use Rattle.model.specs.Calls.{Call, BEGIN, PUT, WEAVE, Act, WRITE, APPEND, PUBLISH, BRANCH, READ, SIZE, RECENT, STAMP, VIEW}
+use Rattle.model.specs.History.{Ticket, Version, History, noTicket, ticketAt, versionAt, blobSize, due}
+use Rattle.model.specs.Model.{Limits, Model, lineAt, updateAt, updateOf, history}
+use Rattle.model.specs.OnModel.{ticketIn, either, beginNumber, begun as withTicket, putNumber, filledAt, publishNumber, published, branched, onLine, onModel, weaveNumber, woven, branchNumber, nextVersion, assignNumber, assigned as withAssigned, assignStep}
+use Rattle.model.proofs.Nth.{length-snoc, nth-set-other, nth-set-field}
+use Rattle.model.proofs.Updated.{update-other, update-le}
+use Rattle.model.proofs.Passed.{PutPassed, put-passed, weave-passed, assign-passed, publish-passed}
+use Rattle.model.proofs.Histories.{withTickets, published-apart, branched-apart, assigned-apart}
+use Rattle.model.proofs.Kept.Begin.{newTicket as emptyTicket, begun-ticket}
+use Rattle.model.proofs.Kept.Assign.{assigned-older, assigned-new, assigned-gets}
 use Rattle.model.proofs.Kept.Every.{either-keeps}
-use Rattle.isolation.specs.Isolation.{versionOf, elsewhere, aside, slotsOf, Match}
-use Rattle.isolation.proofs.Match.{match-refl, match-by}
-use Rattle.isolation.proofs.Kept.{Kept, shows-ticket, own-or-whole}
+use Rattle.isolation.specs.Isolation.{versionOf, here, ownNumber, among, Tickets, SameLine, Match, BeginsSame, Aside, newTicket, otherPut, otherWeave, otherLine, newLine}
+use Rattle.isolation.proofs.Lists.{among-not}
+use Rattle.isolation.proofs.Kept.{Kept, shown-upto, open-not-shown, not-shown}
+use Rattle.isolation.proofs.Match.{line-by, Framed, framed-refl, Joins, match-framed}
+use Rattle.isolation.proofs.Tickets.{not-here, own-nowhere, own-away, own-mine, ticket-upto, tickets-stay}
 
--- Where a ticket is assigned elsewhere.
-pub elsewhere-line : (l : ℕ) (m : Model) (t : ℕ) → elsewhere l m t ≡ true → (updateOf m t ≢ 0) × (versionOf m t .line ≢ l)
-elsewhere-line l m t e =
-    let b = and-eq-true-iff (not (eqb (updateOf m t) 0)) (not (eqb (versionOf m t .line) l)) .0 e in
-    (eqb-false (updateOf m t) 0 (not-true _ (b .0)), eqb-false (versionOf m t .line) l (not-true _ (b .1)))
+-- ---- ASSIGN, in the numbers of the versions that tickets got on a line
 
--- Slots are kept where only the woven count changes.
-slots-kept : (ks : List Ticket) (t w : ℕ) → 0 < t → map slotsOf (set ks (pred t) (record { slots = nth noTicket ks t .slots; woven = w })) ≡ map slotsOf ks
-slots-kept ks zero w o = absurd (omega arith)
-slots-kept ks (suc j) w o = map-set-same slotsOf ks j (record { slots = getD ks j noTicket .slots; woven = w }) noTicket refl
+-- What a ticket's update and its version make of a line's number for it.
+own-by : (l : ℕ) (m m₁ : Model) (t : ℕ) → updateOf m₁ t ≡ updateOf m t → updateAt m₁ (updateOf m t) ≡ updateAt m (updateOf m t) → ownNumber l m₁ t ≡ ownNumber l m t
+own-by l m m₁ t e q = rw (e, q)
 
-module _ (L : Limits) (l : ℕ) (m : Model) (S : Kept L m) (in-l : l < length (m .lines)) where
-  -- The line reads as it did, and the windows are as they were.
-  stays : (m₁ : Model) → l < length (m₁ .lines) → history m₁ l ≡ history m l → m .windows ≡ m₁ .windows → Match l l m m₁
-  stays m₁ h e w = match-by (history m l) (history m l) refl e in-l h refl refl (λ v. refl) refl w
+module _ (L : Limits) (m : Model) (k t f : ℕ) where
+  pub own-other : (l u : ℕ) → u ≢ t → ownNumber l (withAssigned L m k t f) u ≡ ownNumber l m u
+  own-other l u n =
+      own-by l m (withAssigned L m k t f) u (update-other 1 (m .updates) (nextVersion L m k t f) u (λ e. n (sym e)))
+      (assigned-older L m k t f (updateOf m u) (update-le m u))
 
-  frame-unless : (r : ℕ) (m₁ : Model) → (r ≡ 0 → Match l l m m₁) → Match l l m (unless r m m₁)
-  frame-unless r m₁ f = unless-keeps (Match l l m) r m m₁ (match-refl l m in-l) f
+  module _ (free : updateOf m t ≡ 0) where
+    new-version : versionOf (withAssigned L m k t f) t ≡ nextVersion L m k t f
+    new-version = ap (updateAt (withAssigned L m k t f)) (assigned-gets L m k t f free) ∙ assigned-new L m k t f
 
-  -- WEAVE of a ticket assigned elsewhere: the line does not show it, or it is shared and so complete.
-  not-shown : (t : ℕ) → versionOf m t .line ≢ l → WeavePassed m t → (v : ℕ) → versionAt (history m l) v .ticket ≢ t
-  not-shown t away p v e =
-      let s = shows-ticket S l in-l v t (p .from) e in
-      let q : updateAt m (updateOf m t) .ticket ≡ t = ap (λ k. updateAt m k .ticket) (s .is) ∙ sym (ap (λ (x : Version). x .ticket) (version-shown m l v)) ∙ e in
-      elim (rw (← s .is) at (own-or-whole S l in-l v (s .from) (s .upto))) [ inl c ↦ away c | inr w ↦ omega (arith, p .left, w, ap (λ u. ticketIn m u .woven) q) ]
+    new-got : 0 < updateOf (withAssigned L m k t f) t
+    new-got = omega (arith, assigned-gets L m k t f free)
 
-  frame-weave : (t : ℕ) → elsewhere l m t ≡ true → Match l l m (onModel L m (WEAVE t) .0)
+    pub own-new : ownNumber k (withAssigned L m k t f) t ≡ suc (length (lineAt m k .shown))
+    own-new =
+        own-mine k (withAssigned L m k t f) t new-got (ap (λ (x : Version). x .line) new-version)
+        ∙ ap (λ (x : Version). x .number) new-version
+
+    -- On another line it gets none.
+    pub own-apart : (l : ℕ) → l ≢ k → (u : ℕ) → ownNumber l (withAssigned L m k t f) u ≡ ownNumber l m u
+    own-apart l n u = elim (ℕ-discrete u t) [
+      | yes q ↦
+          rw q
+          (own-away l (withAssigned L m k t f) t new-got (λ e. n (sym e ∙ ap (λ (x : Version). x .line) new-version)) ∙ sym (own-nowhere l m t free))
+      | no d ↦ own-other l u d
+    ]
+
+-- ---- BEGIN, PUT and WEAVE, in what a line shows
+
+-- Other tickets, the same where the line shows them.
+same-tickets : (h : History) (ks : List Ticket) → ((v : ℕ) → nth noTicket ks (versionAt h v .ticket) ≡ ticketAt h (versionAt h v .ticket)) → SameLine (withTickets h ks) h
+same-tickets h ks e = record {
+  count = refl;
+  versions = λ v. let x = versionAt h v in ap (λ (k : Ticket). record { f = x .f; size = x .size; slots = k .slots }) (e v);
+  woven = λ v. ap (λ (k : Ticket). k .woven) (e v);
+  published = refl;
+}
+
+module _ (L : Limits) (m : Model) (S : Kept L m) (l : ℕ) (in-l : l < length (m .lines)) where
+  pub begun-line : (n : ℕ) → SameLine (history (withTicket L m n) l) (history m l)
+  begun-line n = same-tickets (history m l) _ λ v. begun-ticket L m n (versionAt (history m l) v .ticket) (shown-upto S l in-l v)
+
+  pub filled-line : (t i : ℕ) (bytes : List ℕ) → PutPassed L m t i bytes → SameLine (history (filledAt L m t i bytes) l) (history m l)
+  filled-line t i bytes p = same-tickets (history m l) _ λ v.
+      nth-set-other noTicket (m .tickets) t _ (p .from) (versionAt (history m l) v .ticket) (open-not-shown S l in-l t (p .from) (p .unassigned) v)
+
+-- ---- each call
+
+module _ (L : Limits) (l : ℕ) (ts : List ℕ) (m : Model) (S : Kept L m) (T : Tickets ts (m .tickets)) where
+  stay : Framed l ts m m
+  stay = framed-refl l ts m T
+
+  frame-unless : (r : ℕ) (m₁ : Model) → (r ≡ 0 → Framed l ts m m₁) → Framed l ts m (unless r m m₁)
+  frame-unless r m₁ f = unless-keeps (Framed l ts m) r m m₁ stay f
+
+  -- Matched tickets keep their pages, and the line its versions.
+  frame-tickets : (ks : List Ticket) → length (m .tickets) ≤ length ks → ((k : ℕ) → nth noTicket ks (nth 0 ts k) .slots ≡ ticketIn m (nth 0 ts k) .slots)
+      → (l < length (m .lines) → SameLine (withTickets (history m l) ks) (history m l))
+      → Framed l ts m (record { tickets = ks; updates = m .updates; lines = m .lines; windows = m .windows })
+  frame-tickets ks q s e = record { tickets = tickets-stay ks q T; slots = s; own = λ k. refl; line = e; windows = refl }
+
+  frame-begin : (n : ℕ) → Framed l ts m (onModel L m (BEGIN n) .0)
+  unfolding onModel
+  frame-begin n = frame-unless (beginNumber L m n) (withTicket L m n) λ z.
+      frame-tickets (withTicket L m n .tickets) (omega (arith, length-snoc (m .tickets) (emptyTicket L m n)))
+      (λ k. ap (λ (x : Ticket). x .slots) (begun-ticket L m n (nth 0 ts k) (ticket-upto T k)))
+      (λ h. begun-line L m S l h n)
+
+  frame-put : (t i : ℕ) (bytes : List ℕ) → among ts t ≡ false → Framed l ts m (onModel L m (PUT t i bytes) .0)
+  unfolding onModel
+  frame-put t i bytes e = frame-unless (putNumber L m t i bytes) (filledAt L m t i bytes) λ z.
+      let p = put-passed L m t i bytes z in
+      frame-tickets (filledAt L m t i bytes .tickets) (rw length-set (omega arith))
+      (λ k. ap (λ (x : Ticket). x .slots) (nth-set-other noTicket (m .tickets) t _ (p .from) (nth 0 ts k) (among-not ts t (p .from) e k)))
+      (λ h. filled-line L m S l h t i bytes p)
+
+  frame-weave : (t : ℕ) → here l m t ≡ false → Framed l ts m (onModel L m (WEAVE t) .0)
   unfolding onModel
   frame-weave t e = frame-unless (weaveNumber L m t) (woven L m t) λ z.
       let p = weave-passed L m t z in
-      record {
-        begun = in-l;
-        begun′ = in-l;
-        slots = sym (slots-kept (m .tickets) t _ (p .from));
-        versions = refl;
-        woven = λ v.
-            ap (λ (x : Ticket). x .woven) (sym (nth-set-other noTicket (m .tickets) t _ (p .from) (versionAt (history m l) v .ticket)
-            (not-shown t (elsewhere-line l m t e .1) p v)));
-        published = refl;
-        windows = refl;
-      }
+      frame-tickets (woven L m t .tickets) (rw length-set (omega arith))
+      (λ k. nth-set-field noTicket (m .tickets) t _ (p .from) (λ (x : Ticket). x .slots) (nth 0 ts k) refl)
+      (λ h. same-tickets (history m l) _ λ v.
+      nth-set-other noTicket (m .tickets) t _ (p .from) (versionAt (history m l) v .ticket) (not-shown S l h t (not-here l m t e (p .assigned)) p v))
 
-  -- WEAVE of a ticket that is not assigned is refused.
-  pub frame-idle : (t : ℕ) → updateOf m t ≡ 0 → Match l l m (onModel L m (WEAVE t) .0)
-  unfolding onModel
-  frame-idle t e = frame-unless (weaveNumber L m t) (woven L m t) λ z. absurd (omega (arith, weave-passed L m t z .assigned))
+  -- The line reads as it did, and matched tickets have their versions of it.
+  reads-on : (m₁ : Model) → (l < length (m .lines) → history m₁ l ≡ history m l) → m₁ .tickets ≡ m .tickets → m₁ .windows ≡ m .windows
+      → ((k : ℕ) → ownNumber l m₁ (nth 0 ts k) ≡ ownNumber l m (nth 0 ts k)) → Framed l ts m m₁
+  reads-on m₁ e q w o = record {
+    tickets = rw q T;
+    slots = λ k. ap (λ (ks : List Ticket). nth noTicket ks (nth 0 ts k) .slots) q;
+    own = o;
+    line = λ h. line-by (e h);
+    windows = w;
+  }
 
   -- A new line, from whichever line.
-  pub frame-branch : (k v : ℕ) → Match l l m (branched L m k v)
-  frame-branch k v = stays (branched L m k v) (omega (arith, branched-length L m k v)) (branched-apart L m k v l in-l) refl
+  pub frame-branched : (k v : ℕ) → Framed l ts m (branched L m k v)
+  frame-branched k v = reads-on (branched L m k v) (λ h. branched-apart L m k v l h) refl refl (λ j. refl)
+
+  frame-branch : (k v : ℕ) → Framed l ts m (onLine L m k (BRANCH v) .0)
+  unfolding onLine
+  frame-branch k v = frame-unless (branchNumber L m k v) (branched L m k v) λ z. frame-branched k v
 
   module _ (k : ℕ) (other : l ≢ k) where
-    frame-assign : (t f : ℕ) → Match l l m (assignStep L m k t f .0)
+    frame-assign : (t f : ℕ) → Framed l ts m (assignStep L m k t f .0)
     frame-assign t f = frame-unless (assignNumber L m k t f) (withAssigned L m k t f) λ z.
-        stays (withAssigned L m k t f) (rw (assigned-lines L m k t f) in-l) (assigned-apart L m S k t f (assign-passed L m k t f z .line) l in-l other) refl
+        let p = assign-passed L m k t f z in
+        reads-on (withAssigned L m k t f) (λ h. assigned-apart L m S k t f (p .line) l h other) refl refl
+        (λ j. own-apart L m k t f (p .unassigned) l other (nth 0 ts j))
 
     -- PUBLISH outside the windows.
-    frame-publish : k < length (m .lines) → Match l l m (either (due (history m k)) (published L m k) m)
-    frame-publish there = either-keeps (Match l l m) (due (history m k)) (published L m k) m (match-refl l m in-l) λ d.
-        stays (published L m k) (rw (published-lines L m k there) in-l) (published-apart L m k there l other) refl
+    frame-publish : k < length (m .lines) → Framed l ts m (either (due (history m k)) (published L m k) m)
+    frame-publish there = either-keeps (Framed l ts m) (due (history m k)) (published L m k) m stay λ d.
+        reads-on (published L m k) (λ h. published-apart L m k there l other) refl refl (λ j. refl)
 
-    frame-act : (a : Act) → Match l l m (onLine L m k a .0)
+    frame-act : (a : Act) → Framed l ts m (onLine L m k a .0)
     unfolding onLine
     frame-act (WRITE t f) = frame-assign t f
     frame-act (APPEND t) = frame-assign t (blobSize (history m k))
     frame-act (PUBLISH minute) =
         let now = either (due (history m k)) (published L m k) m in
         frame-unless (publishNumber L m k minute) (either (insideSome (m .windows) minute) m now) λ z.
-        either-keeps (Match l l m) (insideSome (m .windows) minute) m now (frame-publish (publish-passed L m k minute z .line)) (λ e. match-refl l m in-l)
-    frame-act (BRANCH v) = frame-unless (branchNumber L m k v) (branched L m k v) λ z. frame-branch k v
-    frame-act (READ v offset len buffer) = match-refl l m in-l
-    frame-act (SIZE v) = match-refl l m in-l
-    frame-act RECENT = match-refl l m in-l
-    frame-act (STAMP v p) = match-refl l m in-l
-    frame-act (VIEW v p) = match-refl l m in-l
+        either-keeps (Framed l ts m) (insideSome (m .windows) minute) m now (frame-publish (publish-passed L m k minute z .line)) (λ e. stay)
+    frame-act (BRANCH v) = frame-branch k v
+    frame-act (READ v offset len buffer) = stay
+    frame-act (SIZE v) = stay
+    frame-act RECENT = stay
+    frame-act (STAMP v p) = stay
+    frame-act (VIEW v p) = stay
 
-  -- A call that is aside leaves line l as it is.
-  pub frame : (c : Call) → aside l m c ≡ true → Match l l m (onModel L m c .0)
+  pub frame : {l′ : ℕ} {m′ : Model} {c : Call} → Aside L l l′ ts m m′ c → Framed l ts m (onModel L m c .0)
   unfolding onModel
-  frame (BEGIN n) e = absurd (false≢true e)
-  frame (PUT t i bytes) e = absurd (false≢true e)
-  frame (WEAVE t) e = frame-weave t e
-  frame (SETWINDOWS t) e = absurd (false≢true e)
-  frame (on k a) e = frame-act k (λ q. eqb-false k l (not-true (eqb k l) e) (sym q)) a
+  frame newTicket = frame-begin _
+  frame (otherPut {t = t} {i = i} {bytes = bytes} e) = frame-put t i bytes e
+  frame (otherWeave {t = t} e) = frame-weave t e
+  frame (otherLine {k = k} {a = a} e q) = frame-act k (λ i. eqb-false k l e (sym i)) a
+  frame (newLine {k = k} {v = v} q) = frame-branch k v
+
+-- ---- a line that begins
+
+module _ (L : Limits) (l l′ : ℕ) (m m′ : Model) where
+  begins-same : (m₁ : Model) → BeginsSame l l′ m m₁ m′ → Joins l l′ m m₁ m′
+  begins-same m₁ q n h h′ = rw (le-leb (length (m .lines)) l n, lt-ltb l (length (m₁ .lines)) h, lt-ltb l′ (length (m′ .lines)) h′) at q
+
+  -- None begins where there are as many as before.
+  no-line : (r : ℕ) (m₁ : Model) → length (m₁ .lines) ≡ length (m .lines) → Joins l l′ m (unless r m m₁) m′
+  no-line r m₁ e n h h′ = absurd (omega (arith, unless-keeps (λ (x : Model). length (x .lines) ≡ length (m .lines)) r m m₁ refl (λ z. e)))
+
+  joins : {ts : List ℕ} {c : Call} → Aside L l l′ ts m m′ c → Joins l l′ m (onModel L m c .0) m′
+  unfolding onModel
+  joins (newTicket {n = n}) = no-line (beginNumber L m n) (withTicket L m n) refl
+  joins (otherPut {t = t} {i = i} {bytes = bytes} e) = no-line (putNumber L m t i bytes) (filledAt L m t i bytes) refl
+  joins (otherWeave {t = t} e) = no-line (weaveNumber L m t) (woven L m t) refl
+  joins (otherLine {k = k} {a = a} e q) = begins-same (onLine L m k a .0) q
+  joins (newLine {k = k} {v = v} q) = begins-same (onLine L m k (BRANCH v) .0) q
+
+  -- After a call of one list alone the lines still match.
+  pub match-aside : {ts ts′ : List ℕ} {c : Call} → Kept L m → Match l l′ ts ts′ m m′ → Aside L l l′ ts m m′ c → Match l l′ ts ts′ (onModel L m c .0) m′
+  match-aside {ts = ts} S M a = match-framed M (frame L l ts m S (M .matched .tickets) a) (joins a)
