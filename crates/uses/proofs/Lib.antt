@@ -1,3 +1,5 @@
--- Laws of any list of calls, and the corollaries.
+-- Laws of any list of calls, what follows from answers that isolation compares, and the corollaries of both.
 pub mod Laws
 pub mod Uses
+pub mod Agreed
+pub mod Isolated

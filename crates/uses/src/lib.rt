@@ -2,6 +2,7 @@
 // that FORMAT accepts: where a theorem is weakened, the proofs here no longer hold.
 ghost use Rattle.uses.specs.Accepted.{InAll};
 ghost use Rattle.uses.specs.Uses.{ExampleAnswers, EveryAnswer, Compared, AllKept, Reaches, Held, Fetches, Begins};
+ghost use Rattle.uses.specs.Isolated.{FromFormat, Unreached, Woven, BegunAlike};
 
 // Document 01's example.
 pub fn example_answers()
@@ -41,4 +42,24 @@ pub fn fetches()
 // A line that begins.
 pub fn begins()
     ensures { λ _. ⌜ InAll Begins ⌝ }
+{}
+
+// A line's first update, alone and beside a planner's.
+pub fn from_format()
+    ensures { λ _. ⌜ InAll FromFormat ⌝ }
+{}
+
+// What a line reads as, alone and beside a planner.
+pub fn unreached()
+    ensures { λ _. ⌜ InAll Unreached ⌝ }
+{}
+
+// What it weaves.
+pub fn woven()
+    ensures { λ _. ⌜ InAll Woven ⌝ }
+{}
+
+// Two lines that begin from one version of sources that went on differently.
+pub fn begun_alike()
+    ensures { λ _. ⌜ InAll BegunAlike ⌝ }
 {}
