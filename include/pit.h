@@ -43,7 +43,7 @@
      16  READ, SIZE, STAMP, VIEW, BRANCH: the version is not published; 0, which is empty, always is
      17  READ, STAMP, VIEW: the range or page is not inside the version
      18  READ: the buffer is shorter than the length
-     19  every call but FORMAT, last: the areas are none that the store's calls left
+     19  every call but FORMAT, BEGIN, RECENT and SETWINDOWS, last: the areas are none that the store's calls left
      20  every call that names a line, after 3, 7 and 8: no such line; they count from 0
      21  BRANCH, after 16: sixteen lines exist
      22  PUBLISH, after 20: the minute is above 10,079
@@ -95,9 +95,9 @@ typedef struct pit_record {
     uint64_t name;   /* the line and version that it got: line x 65,536 + version */
     uint64_t f;      /* its first page */
     uint64_t last;   /* its last page */
-    uint64_t top;    /* its first node place, with its height added */
+    uint64_t top;    /* its first node place, with its root's height added */
     uint64_t past;   /* 2f less the number of one bits in f: the sum of f, f/2, f/4 and so on */
-    uint64_t height; /* the height of its root: 2 to it is the smallest power of two not below the size */
+    uint64_t span;   /* the span of its root: the smallest power of two not below the size */
     uint64_t size;   /* the blob's size in pages after it, on that line */
     uint64_t count;  /* how many nodes it makes */
     uint64_t woven;  /* how many of its nodes are woven */

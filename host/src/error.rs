@@ -66,7 +66,7 @@ pub enum Error {
     OutsideSnapshot = 17,
     /// 18, READ: the buffer is shorter than the length asked for.
     BufferTooShort = 18,
-    /// 19, every call but FORMAT: the areas are not what a run of calls left.
+    /// 19, every call but FORMAT, BEGIN, RECENT and SETWINDOWS: the areas are not what a run of calls left.
     Damaged = 19,
     /// 20, every call that names a line: no such line has begun.
     NoSuchLine = 20,

@@ -164,9 +164,9 @@ pub struct Entries {
 ///
 /// ```compile_fail,E0639
 /// # let (n, number, put, update, ticket, name, f, last) = (0, 0, 0, 0, 0, 0, 0, 0);
-/// # let (top, past, height, size, count, woven, entries) = (0, 0, 0, 0, 0, 0, pit_host::Entries::default());
+/// # let (top, past, span, size, count, woven, entries) = (0, 0, 0, 0, 0, 0, pit_host::Entries::default());
 /// let record = pit_host::Record {
-///     n, number, put, update, ticket, name, f, last, top, past, height, size, count, woven, entries
+///     n, number, put, update, ticket, name, f, last, top, past, span, size, count, woven, entries
 /// };
 /// ```
 #[repr(C)]
@@ -189,12 +189,12 @@ pub struct Record {
     pub f: u64,
     /// The update's last page.
     pub last: u64,
-    /// The update's first node place, with the height added.
+    /// The update's first node place, with its root's height added.
     pub top: u64,
     /// 2f less the number of one bits in f: the sum of f, f/2, f/4 and so on.
     pub past: u64,
-    /// The height of the update's root: 2 to it is the smallest power of two not below the size.
-    pub height: u64,
+    /// The span of the update's root: the smallest power of two not below the size.
+    pub span: u64,
     /// The blob's size in pages after the update, on its line.
     pub size: u64,
     /// How many nodes the update makes.

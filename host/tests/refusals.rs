@@ -475,7 +475,10 @@ fn row_19_of_nodes_not_stored() {
 fn row_19_of_page_numbers_places_and_records_past_their_areas() {
     let mut store = spoilt(|_, areas| areas.register[3].number = 16);
     refused(&mut store, 19, |s| s.put(Ticket(4), 0, &[9; 16]));
-    let mut store = spoilt(|_, areas| areas.register[3].top = 64 + areas.register[3].height);
+    let mut store = spoilt(|_, areas| {
+        let update = &mut areas.register[3];
+        update.top = 64 + u64::from(update.span.trailing_zeros());
+    });
     refused(&mut store, 19, |s| s.weave(Ticket(6)).map(drop));
     let mut store = spoilt(|state, _| state.tickets = u64::MAX);
     refused(&mut store, 19, |s| s.put(Ticket(9), 0, &[9; 16]));

@@ -1,5 +1,5 @@
 -- What the rows of ASSIGN, passed, say of the store and the ticket's record; and the register that it leaves then. Assumes nothing.
-use mathlib.Core.Path.{_≡_, refl, sym, ap, _∙_}
+use mathlib.Core.Path.{_≡_, refl, sym, ap}
 use mathlib.Core.List.{List}
 use mathlib.Core.Logic.{_⊎_, inl, inr}
 use Prim.Native.Nat.{ℕ, zero, suc, pred, _+_, _-_, _^_, _≤_, _<_, min, max}
@@ -7,6 +7,7 @@ use native.Mathlib.Omega.{arith}
 use lib.ListN.{getD}
 use Rattle.tree.specs.Tree.{Update, rootHeight, count, countOf}
 use Rattle.tree.specs.Place.{halvings}
+use Rattle.tree.specs.Contract.{rootSpan}
 use Rattle.lines.specs.Lines.{numberOf}
 use Rattle.lines.specs.declared.Branch.{Branch}
 use Rattle.register.specs.Register.{noRecord, withRecord}
@@ -61,6 +62,7 @@ figured b f n x e =
     let same = sym (limited-capped f (f + n) b) in
     rw e (record {
       past = ap (λ (u : Update). halvings (u .f)) same;
+      span = ap (λ (u : Update). rootSpan (u .size)) same;
       height = ap (λ (u : Update). rootHeight (u .size)) same;
       count = ap countOf same;
     })

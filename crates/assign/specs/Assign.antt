@@ -7,6 +7,7 @@ use lib.Dec.{eqb}
 use lib.ListN.{getD}
 use Rattle.tree.specs.Tree.{Update, countOf, rootHeight}
 use Rattle.tree.specs.Place.{halvings}
+use Rattle.tree.specs.Contract.{rootSpan}
 use Rattle.lines.specs.Lines.{numberOf, withEntry}
 use Rattle.lines.specs.declared.Branch.{Branch}
 use Rattle.register.specs.Register.{noRecord, limited, withRecord}
@@ -118,7 +119,7 @@ withUpdateOf r k = record {
   last = r .last;
   top = r .top;
   past = r .past;
-  height = r .height;
+  span = r .span;
   size = r .size;
   count = r .count;
   woven = r .woven;
@@ -141,7 +142,7 @@ withUpdatePart r t name f last size top =
       last = record { 0 = last };
       top = top;
       past = halvings (u .f);
-      height = rootHeight (u .size);
+      span = rootSpan (u .size);
       size = size;
       count = countOf u;
       woven = 0;
@@ -161,7 +162,7 @@ withEntryOf r l k = record {
   last = r .last;
   top = r .top;
   past = r .past;
-  height = r .height;
+  span = r .span;
   size = r .size;
   count = r .count;
   woven = r .woven;

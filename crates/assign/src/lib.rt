@@ -16,12 +16,13 @@ use register::Record;
 use register::record_at;
 use register::ticket_record;
 use register::within_limits;
+use spans::root_span;
 use tree::PageIndex;
 use tree::Ticket;
 use tree::Version;
 use tree::halvings;
+use tree::height_of;
 use tree::node_count;
-use tree::root_height;
 use versions::Lengths;
 use versions::Store;
 use versions::capped_sum;
@@ -49,6 +50,7 @@ struct NewUpdate {
     f: PageIndex,
     last: PageIndex,
     past: u64,
+    span: u64,
     height: u64,
     size: u64,
     count: u64,
@@ -85,14 +87,15 @@ fn size_after(blob: u64, f: PageIndex, n: u64) -> u64
     if blob < end { end } else { blob }
 }
 
-// The update of n pages at page f of a blob of so many pages. The root's height is looked up here, once for a call.
+// The update of n pages at page f of a blob of so many pages. The root's span is looked up here, once for a call.
 fn new_update(blob: u64, f: PageIndex, n: u64) -> NewUpdate
     ensures { λ u. ⌜ u ≡ newUpdate blob (f .0) n ⌝ }
 {
     let last = last_page(f, n);
     let size = size_after(blob, f, n);
     let e = within_limits(f, last, size);
-    let height = root_height(e.size);
+    let span = root_span(e.size);
+    let height = height_of(span);
     let first = e.f;
     let past = halvings(first.0);
     let count = node_count(e.f, e.last, height);
@@ -100,6 +103,7 @@ fn new_update(blob: u64, f: PageIndex, n: u64) -> NewUpdate
         f,
         last,
         past,
+        span,
         height,
         size,
         count,
@@ -242,7 +246,7 @@ fn update_part(r: Record, t: Ticket, c: u64, u: NewUpdate, place: u64) -> Record
     q.last = last;
     q.top = top;
     q.past = u.past;
-    q.height = u.height;
+    q.span = u.span;
     q.size = u.size;
     q.count = u.count;
     q.woven = 0;

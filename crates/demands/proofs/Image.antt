@@ -4,8 +4,9 @@ use mathlib.Core.Option.{Option}
 use mathlib.Core.List.{List, [], _∷_}
 use Prim.Native.Nat.{ℕ, suc, _+_, _*_, _%_}
 use lib.Dec.{ltb}
-use lib.ListN.{length, getD}
+use lib.ListN.{length}
 use Rattle.tree.specs.Tree.{countOf, nth, rootHeight}
+use Rattle.tree.specs.Contract.{rootSpan}
 use Rattle.tree.specs.Place.{halvings}
 use Rattle.tree.specs.Walk.{used}
 use Rattle.lines.specs.Lines.{packed, entriesOf}
@@ -60,7 +61,7 @@ recordImage m i =
       last = record { 0 = toUpdate (m .tickets) u .last };
       top = placeAt m i + rootHeight (u .size);
       past = halvings (u .f);
-      height = rootHeight (u .size);
+      span = rootSpan (u .size);
       size = u .size;
       count = countBy (m .tickets) u;
       woven = ticketIn m (u .ticket) .woven;

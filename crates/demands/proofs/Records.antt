@@ -1,14 +1,17 @@
 -- What the calls read of a model's image: the areas' lengths, the records, and the updates that the records say.
 -- Assumes nothing.
-use mathlib.Core.Path.{_≡_, refl, ap, _∙_}
+use mathlib.Core.Path.{_≡_, ap, _∙_}
 use mathlib.Core.Bool.{false}
-use Prim.Native.Nat.{ℕ, zero, suc, pred, _+_, _*_, _≤_, _<_, min, max}
+use Prim.Native.Nat.{ℕ, zero, suc, pred, _+_, _*_, _^_, _≤_, _<_, min, max}
 use native.Mathlib.Omega.{arith}
 use borrow.Author.Tests.{lt-ltb, eq-eqb}
 use lib.ListN.{length, getD}
 use Rattle.tree.specs.Tree.{countOf, rootHeight}
 use Rattle.tree.specs.Place.{halvings}
-use Rattle.register.specs.Register.{noRecord, partOf, placeOf, mostPage, limited, updateOf}
+use Rattle.tree.specs.Contract.{rootSpan, heightIn}
+use Rattle.tree.proofs.Word.{own-power, root-in-span}
+use Rattle.register.specs.Register.{noRecord, partOf, mostPage, limited, updateOf}
+use Rattle.weave.specs.Weave.{placeOf}
 use Rattle.table.specs.Table.{holds}
 use Rattle.versions.specs.Store.{areasDiffer, recordOf}
 use Rattle.model.specs.History.{taken, updateOf as toUpdate, updates}
@@ -106,8 +109,20 @@ module _ (L : Limits) (m : Model) (S : Sound L m) (k : ℕ) (o : 0 < k) (h : k �
   pub woven-image : recordImage m (pred k) .woven ≡ ticketIn m (updateAt m k .ticket) .woven
   woven-image = ap (λ (j : ℕ). ticketIn m (updateAt m j .ticket) .woven) at-pred
 
-  pub height-image : recordImage m (pred k) .height ≡ rootHeight (updateAt m k .size)
-  height-image = ap (λ (j : ℕ). rootHeight (updateAt m j .size)) at-pred
+  -- Its root's span, as the table has it for its size.
+  span-held : heightIn (rootSpan (updateAt m k .size)) ≡ rootHeight (updateAt m k .size)
+  span-held = root-in-span (updateAt m k .size) (omega (arith, update-fits)) (S .updated k o h .upward) .1
+
+  pub span-power : rootSpan (updateAt m k .size) ≡ 2 ^ rootHeight (updateAt m k .size)
+  span-power =
+      let r = root-in-span (updateAt m k .size) (omega (arith, update-fits)) (S .updated k o h .upward) in
+      own-power (rootSpan (updateAt m k .size)) (r .0) ∙ ap (λ (j : ℕ). 2 ^ j) span-held
+
+  pub span-image : recordImage m (pred k) .span ≡ rootSpan (updateAt m k .size)
+  span-image = ap (λ (j : ℕ). rootSpan (updateAt m j .size)) at-pred
+
+  pub height-image : heightIn (recordImage m (pred k) .span) ≡ rootHeight (updateAt m k .size)
+  height-image = ap heightIn span-image ∙ span-held
 
   pub past-image : recordImage m (pred k) .past ≡ halvings (updateAt m k .f)
   past-image = ap (λ (j : ℕ). halvings (updateAt m j .f)) at-pred

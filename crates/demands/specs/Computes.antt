@@ -5,6 +5,7 @@ use Rattle.pages.specs.Pages.{put, part}
 use Rattle.tree.specs.Tree.{sizeAt}
 use Rattle.tree.specs.Place.{below, kth, first, index, halvings, nodeNumbered}
 use Rattle.tree.specs.NodeArea.{nodeAt, withNode}
+use Rattle.tree.specs.Contract.{rootSpan, rootIn, heightIn}
 use Rattle.tree.specs.Walk.{hasNode, reachBy}
 use Rattle.lines.specs.Lines.{packed, ownerFrom, entryAt, withEntry}
 use Rattle.register.specs.Register.{updateOf, withRecord, versionRecord, newestOwn}
@@ -33,5 +34,5 @@ unfoldable pub computes : ℕ
 unfolding onTheModel run onLineOf onStore formattedState orElse formatRows formatRefusal beginRefusal bitOf withBit putRefusal assignRefusal nextNode weaveRefusal
     newestOwn olderNumber publishNumber dueBy branchNumber setNumber inside placed bytesBy sizeNumber recentNumber hasNodeBy placeIn reachFrom findPage pageNumberOf someLost
     readNumber byteOf bytesFrom stampNumber leafAsOf sinceBy put part packed lineIn ownerFrom entryAt withEntry updateOf withRecord versionRecord withNode nodeAt hasNode reachBy sizeAt
-    below kth first index ones halvings nodeNumbered
+    below kth first index ones halvings nodeNumbered rootSpan rootIn heightIn
 computes = 0

@@ -13,11 +13,13 @@ use lib.Dec.{ltb}
 use lib.Pow.{pow-pos, pow-mono}
 use Rattle.tree.specs.Place.{first, halvings}
 use Rattle.tree.specs.Walk.{reachBy, visit, turns}
+use Rattle.tree.specs.Contract.{rootIn, heightIn}
 use Rattle.tree.specs.declared.NodeAt.{NodeAt}
 use Rattle.tree.specs.declared.NodeAt.the-variants.{Stored, Missing}
 use Rattle.tree.proofs.First.{first-root}
 use Rattle.tree.proofs.Halved.{halved-zero, halved-small, halved-left, halved-right, halved-step}
 use Rattle.tree.proofs.Meets.{lt-or-le}
+use Rattle.tree.proofs.Word.{own-power, height-in-low, root-in-power, height-in-power}
 use Rattle.lines.specs.Lines.{pick}
 use Rattle.descent.specs.Places.{firstOver}
 use Rattle.descent.specs.Level.{Level, childNumber}
@@ -75,73 +77,106 @@ module _ (at : ℕ → ℕ → ℕ → Option ℕ) (area : List ℕ) (to p : ℕ
 
 -- ---- what a level carries down
 
-pub half-span : (span h : ℕ) → span ≡ 2 ^ h → 0 < h → span / 2 ≡ 2 ^ (h - 1)
-half-span span zero e o = absurd (omega arith)
-half-span span (suc h) e o = let f : suc h - 1 ≡ h = omega arith in rw f (omega arith)
+pub height-lt : (j h : ℕ) → 2 ^ j < 2 ^ h → j < h
+height-lt j h l = elim (lt-or-le j h) [ inl r ↦ r | inr r ↦ absurd (omega (arith, pow-mono r)) ]
 
-module _ (p a span h halved carried : ℕ) (o : Level a span (suc h) halved carried) (over : a ≡ firstOver p (suc h)) where
-  half : span / 2 ≡ 2 ^ h
-  half = let f : suc h - 1 ≡ h = omega arith in half-span span (suc h) (o .spans) (omega arith) ∙ ap (λ (i : ℕ). 2 ^ i) f
+half-span : (span h : ℕ) → span ≡ 2 ^ suc h → span / 2 ≡ 2 ^ h
+half-span span h e = omega arith
 
-  left : p < a + span / 2 → Level a (span / 2) h halved ((carried + 1) % 2 ^ 64) × (a ≡ firstOver p h)
-  left l = (
-    record {
-      spans = half;
-      low = omega (arith, o .low);
-      inside = omega (arith, o .inside);
-      halvings-of = o .halvings-of;
-      carries = omega (arith, o .carries, o .low);
-    },
-    over ∙ sym (halved-left p h (omega (arith, half))),
-  )
+module _ (p a span halved carried : ℕ) (o : Level a span halved carried) where
+  -- A span above 1 has a height above 0.
+  pub level-high : 1 < span → 0 < heightIn span
+  level-high l = go (heightIn span) (own-power span (o .spans))
+    where
+      go : (h : ℕ) → span ≡ 2 ^ h → 0 < h
+      go zero e = absurd (omega arith)
+      go (suc h) e = omega arith
 
-  right : a + span / 2 ≤ p → Level (a + span / 2) (span / 2) h (halved + (span - 1)) ((carried + span) % 2 ^ 64) × (a + span / 2 ≡ firstOver p h)
-  right l =
-      let step : halvings (a + span / 2) ≡ halvings a + (span - 1) = rw (half, over, o .spans) (halved-step p h) in (
-        record {
-          spans = half;
-          low = omega (arith, o .low);
-          inside = omega (arith, o .inside, o .spans);
-          halvings-of = omega (arith, o .halvings-of);
-          carries = omega (arith, o .carries, o .low, o .spans, pow-pos (suc h));
-        },
-        rw half (ap (λ (x : ℕ). x + 2 ^ h) over ∙ sym (halved-right p h (omega (arith, half)))),
-      )
+  pub level-half : 1 < span → span / 2 ≡ 2 ^ (heightIn span - 1)
+  level-half l =
+      let high : heightIn span ≡ suc (heightIn span - 1) = omega (arith, level-high l) in
+      half-span span (heightIn span - 1) (own-power span (o .spans) ∙ ap (λ (i : ℕ). 2 ^ i) high)
 
-  both : (b : Bool) → ltb p (a + span / 2) ≡ b
-      → Level (pick b a (a + span / 2)) (span / 2) h (pick b halved (halved + (span - 1))) ((carried + pick b 1 span) % 2 ^ 64) × (pick b a (a + span / 2) ≡ firstOver p h)
-  both b e = elim (lt-or-le p (a + span / 2)) [
-    | inl l ↦ rw (sym e ∙ lt-ltb p (a + span / 2) l) (left l)
-    | inr l ↦ rw (sym e ∙ le-ltb p (a + span / 2) l) (right l)
-  ]
+  module _ (h : ℕ) (high : heightIn span ≡ suc h) (over : a ≡ firstOver p (suc h)) where
+    spans : span ≡ 2 ^ suc h
+    spans = own-power span (o .spans) ∙ ap (λ (i : ℕ). 2 ^ i) high
 
-pub level-below : (p a span h halved carried : ℕ) → 0 < h → Level a span h halved carried → a ≡ firstOver p h
-    → let b = ltb p (a + span / 2) in
-    Level (pick b a (a + span / 2)) (span / 2) (h - 1) (pick b halved (halved + (span - 1))) ((carried + pick b 1 span) % 2 ^ 64) × (pick b a (a + span / 2) ≡ firstOver p (h - 1))
-level-below p a span zero halved carried o l e = absurd (omega arith)
-level-below p a span (suc h) halved carried o l e =
-    let f : suc h - 1 ≡ h = omega arith in
-    rw f (both p a span h halved carried l e (ltb p (a + span / 2)) refl)
+    half : span / 2 ≡ 2 ^ h
+    half = half-span span h spans
+
+    low : h ≤ 12
+    low = omega (arith, height-in-low span)
+
+    root-below : rootIn (span / 2) ≡ span / 2
+    root-below = rw half (root-in-power h low)
+
+    height-below : heightIn (span / 2) ≡ h
+    height-below = ap heightIn half ∙ height-in-power h low
+
+    left : p < a + span / 2 → Level a (span / 2) halved ((carried + 1) % 2 ^ 64) × (a ≡ firstOver p h)
+    left l = (
+      record {
+        spans = root-below;
+        inside = omega (arith, o .inside);
+        halvings-of = o .halvings-of;
+        carries = omega (arith, o .carries, height-below, low);
+      },
+      over ∙ sym (halved-left p h (omega (arith, half))),
+    )
+
+    right : a + span / 2 ≤ p → Level (a + span / 2) (span / 2) (halved + (span - 1)) ((carried + span) % 2 ^ 64) × (a + span / 2 ≡ firstOver p h)
+    right l =
+        let step : halvings (a + span / 2) ≡ halvings a + (span - 1) = rw (half, over, spans) (halved-step p h) in (
+          record {
+            spans = root-below;
+            inside = omega (arith, o .inside, spans);
+            halvings-of = omega (arith, o .halvings-of);
+            carries = omega (arith, o .carries, height-below, low, spans, pow-pos (suc h));
+          },
+          rw half (ap (λ (x : ℕ). x + 2 ^ h) over ∙ sym (halved-right p h (omega (arith, half)))),
+        )
+
+    both : (b : Bool) → ltb p (a + span / 2) ≡ b
+        → Level (pick b a (a + span / 2)) (span / 2) (pick b halved (halved + (span - 1))) ((carried + pick b 1 span) % 2 ^ 64) × (pick b a (a + span / 2) ≡ firstOver p h)
+    both b e = elim (lt-or-le p (a + span / 2)) [
+      | inl l ↦ rw (sym e ∙ lt-ltb p (a + span / 2) l) (left l)
+      | inr l ↦ rw (sym e ∙ le-ltb p (a + span / 2) l) (right l)
+    ]
+
+  pub level-below : 1 < span → a ≡ firstOver p (heightIn span)
+      → let b = ltb p (a + span / 2) in
+      Level (pick b a (a + span / 2)) (span / 2) (pick b halved (halved + (span - 1))) ((carried + pick b 1 span) % 2 ^ 64)
+      × (heightIn (span / 2) ≡ heightIn span - 1)
+      × (pick b a (a + span / 2) ≡ firstOver p (heightIn (span / 2)))
+  level-below l over =
+      let h = heightIn span - 1 in
+      let high : heightIn span ≡ suc h = omega (arith, level-high l) in
+      let below = height-below h high (over ∙ ap (firstOver p) high) in
+      let d = both h high (over ∙ ap (firstOver p) high) (ltb p (a + span / 2)) refl in
+      (d .0, below, rw below (d .1))
 
 -- What the root carries.
-pub level-root : (p h carried : ℕ) → h ≤ 12 → p < 2 ^ h → carried < 2 ^ 64 → (carried + h) % 2 ^ 64 ≡ 0 → Level 0 (2 ^ h) h 0 carried × (0 ≡ firstOver p h)
-level-root p h carried low r fits e = (
-  record {
-    spans = refl;
-    low = low;
-    inside = omega (arith, pow-mono low);
-    halvings-of = sym halved-zero;
-    carries = rw halved-zero (omega arith);
-  },
-  sym (first-root p h r),
-)
+pub level-root : (p span carried : ℕ) → rootIn span ≡ span → p < span → carried < 2 ^ 64 → (carried + heightIn span) % 2 ^ 64 ≡ 0
+    → Level 0 span 0 carried × (0 ≡ firstOver p (heightIn span))
+level-root p span carried root r fits e =
+    let power = own-power span root in (
+      record {
+        spans = root;
+        inside = omega (arith, power, pow-mono (height-in-low span));
+        halvings-of = sym halved-zero;
+        carries = rw halved-zero (omega (arith, height-in-low span));
+      },
+      sym (first-root p (heightIn span) (omega (arith, power))),
+    )
+
+pub leaf-height : heightIn 1 ≡ 0
+leaf-height = height-in-power 0 (omega arith)
 
 -- What a leaf's level carries.
-pub level-leaf : (p : ℕ) → p < 4096 → Level p 1 0 (halvings p) (halvings p)
+pub level-leaf : (p : ℕ) → p < 4096 → Level p 1 (halvings p) (halvings p)
 level-leaf p l = record {
-  spans = refl;
-  low = omega arith;
+  spans = root-in-power 0 (omega arith);
   inside = omega arith;
   halvings-of = refl;
-  carries = omega (arith, halved-small p);
+  carries = rw leaf-height (omega (arith, halved-small p));
 }

@@ -10,7 +10,6 @@ use native.Mathlib.Omega.{arith}
 use borrow.Author.Tests.{lt-ltb, le-ltb, le-leb, lt-leb, eq-eqb, ne-eqb}
 use lib.Dec.{ltb}
 use lib.ListN.{length}
-use Rattle.tree.specs.Place.{halvings}
 use Rattle.tree.specs.Tree.{meets}
 use Rattle.tree.specs.NodeArea.{nodeAt}
 use Rattle.tree.specs.Walk.{visit}
@@ -26,9 +25,9 @@ module _ (q : Part) (c p h : ℕ) where
   unfolding placeIn
   place-other n = rw (ne-eqb (q .name) c n, and-false)
 
-  pub place-high : q .height < h → orMost (placeIn q c p h) ≡ 2 ^ 64 - 1
+  pub place-high : q .span < 2 ^ h → orMost (placeIn q c p h) ≡ 2 ^ 64 - 1
   unfolding placeIn hasNodeBy
-  place-high l = rw (lt-leb h (q .height) l, and-false)
+  place-high l = rw (lt-leb (2 ^ h) (q .span) l, and-false)
 
   pub place-after : q .last .0 < firstOver p h → orMost (placeIn q c p h) ≡ 2 ^ 64 - 1
   unfolding placeIn hasNodeBy meets
@@ -38,10 +37,10 @@ module _ (q : Part) (c p h : ℕ) where
   unfolding placeIn hasNodeBy meets
   place-before l = rw (le-ltb (q .f .0) (firstOver p h + 2 ^ h) l, and-false, and-false)
 
-  pub place-there : 0 < c → c < 2 ^ 64 - 1 → q .name ≡ c → h ≤ q .height → firstOver p h ≤ q .last .0 → q .f .0 < firstOver p h + 2 ^ h → orMost (placeIn q c p h) ≡ placeBy q p h
+  pub place-there : 0 < c → c < 2 ^ 64 - 1 → q .name ≡ c → 2 ^ h ≤ q .span → firstOver p h ≤ q .last .0 → q .f .0 < firstOver p h + 2 ^ h → orMost (placeIn q c p h) ≡ placeBy q p h
   unfolding placeIn hasNodeBy meets
   place-there o m n k l r =
-      rw (lt-ltb 0 c o, lt-ltb c (2 ^ 64 - 1) m, eq-eqb (q .name) c n, le-leb h (q .height) k, lt-ltb (q .f .0) (firstOver p h + 2 ^ h) r, le-leb (firstOver p h) (q .last .0) l)
+      rw (lt-ltb 0 c o, lt-ltb c (2 ^ 64 - 1) m, eq-eqb (q .name) c n, le-leb (2 ^ h) (q .span) k, lt-ltb (q .f .0) (firstOver p h + 2 ^ h) r, le-leb (firstOver p h) (q .last .0) l)
 
 -- The sums of 64 bits that the code makes.
 add-mod : (a b : ℕ) → (a + b % 2 ^ 64) % 2 ^ 64 ≡ (a + b) % 2 ^ 64

@@ -4,16 +4,16 @@ use mathlib.Core.Path.{_≡_}
 use mathlib.Core.Bool.{Bool, true, false}
 use Prim.Native.Nat.{ℕ, _+_, _-_, _%_, _^_, _≤_}
 use Rattle.tree.specs.Place.{halvings}
+use Rattle.tree.specs.Contract.{rootIn, heightIn}
 use Rattle.tree.specs.declared.NodeAt.{NodeAt}
 use Rattle.tree.specs.declared.NodeAt.the-variants.{Stored, Missing}
 
--- What a level carries: the first page of its node, the node's span and height, the halvings of that page, and these less the height.
-pub record Level (a span h halved carried : ℕ) : Type 0 where
-  pub spans : span ≡ 2 ^ h
-  pub low : h ≤ 12
+-- What a level carries: the first page of its node, the node's span, the halvings of that page, and these less the node's height.
+pub record Level (a span halved carried : ℕ) : Type 0 where
+  pub spans : rootIn span ≡ span
   pub inside : a + span ≤ 4096
   pub halvings-of : halved ≡ halvings a
-  pub carries : carried ≡ (halvings a + (2 ^ 64 - h)) % 2 ^ 64
+  pub carries : carried ≡ (halvings a + (2 ^ 64 - heightIn span)) % 2 ^ 64
 
 -- The number that a node has for its left half (true) or its right one.
 abbrev pub childNumber : NodeAt → Bool → ℕ

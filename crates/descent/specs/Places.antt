@@ -1,6 +1,6 @@
 -- Where a version's node lies, by the part that its record has.
 
-use mathlib.Core.Bool.{Bool, true, false, _&&_}
+use mathlib.Core.Bool.{Bool, _&&_}
 use mathlib.Core.Option.{Option, none, some}
 use mathlib.Core.List.{List}
 use Prim.Native.Nat.{ℕ, _+_, _-_, _%_, _^_}
@@ -26,9 +26,9 @@ firstOver p h = first p h
 abbrev pub isNumber : ℕ → Bool
 isNumber c = ltb 0 c && ltb c (2 ^ 64 - 1)
 
--- An update has a node of height h over page p, by what its part says: no higher than its root, and meeting its pages.
+-- An update has a node of height h over page p, by what its part says: of no larger span than its root, and meeting its pages.
 unfoldable pub hasNodeBy : Part → ℕ → ℕ → Bool
-hasNodeBy q p h = leb h (q .height) && meets (q .f .0) (q .last .0) (first p h) (2 ^ h)
+hasNodeBy q p h = leb (2 ^ h) (q .span) && meets (q .f .0) (q .last .0) (first p h) (2 ^ h)
 
 -- Where it lies, in 64 bits: its first place and its root's height, less the node's, and as many more as its first page has halvings above those of the update's.
 abbrev pub placeBy : Part → ℕ → ℕ → ℕ

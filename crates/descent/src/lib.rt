@@ -1,9 +1,10 @@
-// Where a version's nodes lie, and the walk from a node down the halves to a node of a lower height.
+// Where a version's nodes lie, and the walk from a node down the halves to a node of a smaller span.
 
 ghost use mathlib.Core.Path.{_≡_};
-ghost use Prim.Native.Nat.{ℕ, _+_, _-_, _/_, _%_, _^_, _<_, _≤_};
+ghost use Prim.Native.Nat.{ℕ, _+_, _-_, _/_, _%_, _^_, _<_};
 ghost use lib.Dec.{ltb};
 ghost use Rattle.tree.specs.Walk.{reachBy};
+ghost use Rattle.tree.specs.Contract.{heightIn};
 ghost use Rattle.lines.specs.Lines.{pick};
 ghost use Rattle.descent.specs.Places.{firstOver, orMost, placeIn, placeAt, leafPlace};
 ghost use Rattle.descent.specs.Level.{Level, childNumber};
@@ -17,17 +18,17 @@ use tree::halvings;
 use tree::node_at;
 use tree::smaller;
 
-// The place of the node that begins at a first page, has a span and a height, in the version numbered c, whose part q should be; the largest number, which lies past any area,
+// The place of the node that begins at a first page and has a span, in the version numbered c, whose part q should be; the largest number, which lies past any area,
 // where it is not, or has no such node. `halved` are the halvings of the first page, and `carried` is these less the height: so two words of the part give the place.
 // Over areas that no call left the sums may wrap.
-fn place_of(q: Part, c: u64, first: u64, span: u64, height: u64, halved: u64, carried: u64) -> u64
-    requires { ⌜ (0 < c) × (c < 2 ^ 64 - 1) × Level first span height halved carried ⌝ }
-    ensures { λ r. ⌜ ((p : ℕ) → first ≡ firstOver p height → r ≡ orMost (placeIn q c p height)) ⌝ }
+fn place_of(q: Part, c: u64, first: u64, span: u64, halved: u64, carried: u64) -> u64
+    requires { ⌜ (0 < c) × (c < 2 ^ 64 - 1) × Level first span halved carried ⌝ }
+    ensures { λ r. ⌜ ((p : ℕ) → first ≡ firstOver p (heightIn span) → r ≡ orMost (placeIn q c p (heightIn span))) ⌝ }
 {
     if q.name != c {
         return u64::MAX;
     }
-    if q.height < height {
+    if q.span < span {
         return u64::MAX;
     }
     let last = q.last;
@@ -58,7 +59,7 @@ pub fn leaf_place(q: Part, c: u64, page: PageIndex) -> u64
         return u64::MAX;
     }
     let halved = halvings(page.0);
-    place_of(q, c, page.0, 1, 0, halved, halved)
+    place_of(q, c, page.0, 1, halved, halved)
 }
 
 // Whether a page lies in the left half of the node at a first page, with halves of this span.
@@ -111,7 +112,7 @@ fn less_one(x: u64) -> u64
     if x == 0 { 0 } else { x - 1 }
 }
 
-// The number of the node of height `to` over a page, from the node of a greater height over it of the version numbered c: 0 where no version has pages there, and the largest
+// The number of the node of span `to` over a page, from the node of a larger span over it of the version numbered c: 0 where no version has pages there, and the largest
 // number where a node is not stored. The span halves at each call: one record and one place a level. It takes the slices by reference, and numbers, so that the compiler
 // makes a loop of it.
 pub fn reach(
@@ -121,22 +122,21 @@ pub fn reach(
     page: u64,
     first: u64,
     span: u64,
-    height: u64,
     halved: u64,
     carried: u64,
     to: u64,
 ) -> u64
-    requires { ⌜ (c < 2 ^ 64 - 1) × Level first span height halved carried × (first ≡ firstOver page height) ⌝ }
-    ensures { λ r. ⌜ r ≡ orMost (reachBy (placeAt (now (now (register .entry)))) (now (now (nodes .entry))) to (height - to) c page) ⌝ }
+    requires { ⌜ (c < 2 ^ 64 - 1) × (0 < to) × Level first span halved carried × (first ≡ firstOver page (heightIn span)) ⌝ }
+    ensures { λ r. ⌜ ((j : ℕ) → to ≡ 2 ^ j → r ≡ orMost (reachBy (placeAt (now (now (register .entry)))) (now (now (nodes .entry))) j (heightIn span - j) c page)) ⌝ }
 {
-    if height <= to {
+    if span <= to {
         return c;
     }
     if c == 0 {
         return 0;
     }
     let q = version_part(*register, c);
-    let x = node_at(*nodes, place_of(q, c, first, span, height, halved, carried));
+    let x = node_at(*nodes, place_of(q, c, first, span, halved, carried));
     let half = half_of(span);
     let left = is_left(page, first, half);
     let below = child_at(x, left);
@@ -150,7 +150,6 @@ pub fn reach(
         page,
         on_to(left, first, half),
         half,
-        less_one(height),
         on_to(left, halved, less_one(span)),
         carried_on(left, carried, span),
         to,

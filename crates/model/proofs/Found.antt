@@ -60,7 +60,7 @@ module _ (L : Limits) (m : Model) (S : Sound L m) (l : ℕ) (there : l < length 
     pub walk-found : (p : ℕ) → p < versionAt (history m l) k .size
         → walkBy at (nodesImage L m) (heightOf (updates (history m l)) k) (numberIn (history m l) k) p
         ≡ Leaf
-        (record { 0 = numberIn (history m l) (leafVersion (updates (history m l)) k p) })
+        (numberIn (history m l) (leafVersion (updates (history m l)) k p))
         (leafNumber (history m l) (leafVersion (updates (history m l)) k p) p)
     walk-found p r =
         let us = updates (history m l) in

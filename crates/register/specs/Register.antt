@@ -24,7 +24,7 @@ noRecord = record {
   last = record { 0 = 0 };
   top = 0;
   past = 0;
-  height = 0;
+  span = 0;
   size = 0;
   count = 0;
   woven = 0;
@@ -32,7 +32,7 @@ noRecord = record {
 }
 
 -- What a record says of its update: the number of its version, its pages; where its nodes lie, by the sum of its first node place and its root's height, the halvings
--- of its first page, and that height; the size after it, its node count, and how many of its nodes are woven.
+-- of its first page, and its root's span; the size after it, its node count, and how many of its nodes are woven.
 abbrev pub partOf : Record → Part
 partOf r = record {
   name = r .name;
@@ -40,15 +40,11 @@ partOf r = record {
   last = r .last;
   top = r .top;
   past = r .past;
-  height = r .height;
+  span = r .span;
   size = r .size;
   count = r .count;
   woven = r .woven;
 }
-
--- The first node place of an update.
-abbrev pub placeOf : Part → ℕ
-placeOf q = q .top - q .height
 
 -- The last page that a blob can have.
 abbrev pub mostPage : ℕ

@@ -38,7 +38,7 @@ pageRefusal k pages q c v p x =
 -- The version of the leaf that a walk ends at.
 abbrev pub versionFound : Found → ℕ
 versionFound Lost = 0
-versionFound (Leaf c n) = versionOf (c .0)
+versionFound (Leaf c n) = versionOf c
 
 -- Where a walk ends, if the table's number is 0; else lost.
 abbrev pub foundBy : ℕ → Found → Found
@@ -56,12 +56,12 @@ leafAsOf s a l v p =
 abbrev pub sameBelow : List ℕ → ℕ → ℕ → ℕ → Found → Found
 sameBelow pages size w n Lost = Lost
 sameBelow pages size w n (Leaf c m) =
-    pick (ltb (versionOf (c .0)) w && same (part pages (size * m) size) (part pages (size * n) size)) (Leaf c m) Lost
+    pick (ltb (versionOf c) w && same (part pages (size * m) size) (part pages (size * n) size)) (Leaf c m) Lost
 
 -- On from a leaf, by its version and its page's number; w where there is none.
 abbrev pub onFrom : ℕ → Found → (ℕ → ℕ → ℕ) → ℕ
 onFrom w Lost next = w
-onFrom w (Leaf c m) next = next (versionOf (c .0)) m
+onFrom w (Leaf c m) next = next (versionOf c) m
 
 -- The version since which page p has had the bytes of page n, which version w has there: while the page as of version w - 1 has them too, on from its leaf. A lower walk
 -- that is lost ends this as a page that is not there does. Each step goes to a lower version, so that w steps are enough.

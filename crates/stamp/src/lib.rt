@@ -61,7 +61,7 @@ fn version_found(x: Found) -> Version
 {
     match x {
         Found::Lost => Version(0),
-        Found::Leaf(version, _) => version_of(version.0),
+        Found::Leaf(c, _) => version_of(c),
     }
 }
 
@@ -95,8 +95,8 @@ fn same_below(pages: &[u8], size: u64, w: Version, n: u64, x: Found) -> Found
 {
     match x {
         Found::Lost => Found::Lost,
-        Found::Leaf(version, m) => {
-            let lower = version_of(version.0);
+        Found::Leaf(c, m) => {
+            let lower = version_of(c);
             if lower.0 >= w.0 {
                 return Found::Lost;
             }

@@ -9,6 +9,8 @@ pub mod Ones
 pub mod Index
 pub mod Halved
 pub mod Root
+pub mod Word
+pub mod Power
 pub mod Newest
 pub mod Area
 pub mod Walk

@@ -39,8 +39,8 @@ pub record Numbering (H i a span k : ℕ) : Type 0 where
   pub same : kth 0 (2 ^ H - 1) a height k ≡ kth 0 (2 ^ H - 1) 0 H i
 
 -- It begins at the root.
-pub number-begins : (H i : ℕ) → Numbering H i 0 (2 ^ H) i
-number-begins H i = record { height = H; spans = refl; inside = omega arith; same = refl }
+pub number-begins : (H i s : ℕ) → s ≡ 2 ^ H → Numbering H i 0 s i
+number-begins H i s e = record { height = H; spans = e; inside = omega arith; same = refl }
 
 module _ {H i a span k : ℕ} (s : Numbering H i a span k) where
   -- It goes on into a half.

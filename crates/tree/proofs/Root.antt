@@ -1,12 +1,12 @@
 -- Heights by their spans: the root's, and that of any span.
 -- Assumes nothing.
-use mathlib.Core.Path.{_≡_}
+use mathlib.Core.Path.{_≡_, refl, ap, _∙_}
 use mathlib.Core.Logic.{inl, inr}
-use Prim.Native.Nat.{ℕ, _-_, _*_, _^_, _≤_, _<_}
+use Prim.Native.Nat.{ℕ, zero, suc, _+_, _-_, _/_, _%_, _^_, _≤_, _<_}
 use native.Mathlib.Omega.{arith}
 use borrow.Author.Tests.{le-leb}
-use lib.Count.{leadingZeros, leading-length}
-use lib.Pow.{pow-pos, pow-lt, pow-mono}
+use lib.Count.{trailingZeros}
+use lib.Pow.{pow-pos, pow-lt, pow-add, shl-shr}
 use Rattle.tree.specs.Tree.{rootHeight}
 use Rattle.tree.specs.Contract.{heightFor}
 use Rattle.tree.proofs.Meets.{lt-or-le}
@@ -17,13 +17,27 @@ pub use Rattle.spans.proofs.Smallest.{lt-pow, root-fits, root-least}
 pub height-le : (s h : ℕ) → 2 ^ h ≤ 2 ^ s → h ≤ s
 height-le s h p = elim (lt-or-le s h) [ inl q ↦ absurd (omega (arith, pow-lt q)) | inr q ↦ q ]
 
-same-height : (h m : ℕ) → 2 ^ h ≤ 2 ^ m → 2 ^ m < 2 * 2 ^ h → m ≡ h
-same-height h m p q = elim (lt-or-le h m) [ inl r ↦ absurd (omega (arith, pow-mono r)) | inr r ↦ omega (arith, height-le m h p) ]
+-- The zeros below a span's one bit are as many as its height.
+pub span-zeros : (k h : ℕ) → 2 ^ h < 2 ^ k → trailingZeros k (2 ^ h) ≡ h
+unfolding trailingZeros
+span-zeros zero h p = absurd (omega (arith, pow-pos h))
+span-zeros (suc k) zero p = refl
+span-zeros (suc k) (suc h) p =
+    let half : 2 ^ suc h / 2 ≡ 2 ^ h = omega arith in
+    let even : 2 ^ suc h % 2 ≡ 0 = omega arith in
+    rw (even, half, span-zeros k h (omega arith))
 
--- The leading zeros of the number below a span and the span's height make 64.
-pub span-zeros : (h : ℕ) → 2 ^ h < 2 ^ 64 → 64 - leadingZeros 64 (2 ^ h - 1) ≡ h
-span-zeros h p =
-    let t = leading-length 64 (2 ^ h - 1) (omega arith) in omega (arith, same-height h (t .0) (omega arith) (omega (arith, pow-pos h)))
+-- A span halved so many times.
+pub halved-span : (h k : ℕ) → k ≤ h → 2 ^ h / 2 ^ k ≡ 2 ^ (h - k)
+halved-span h k p =
+    let e : h ≡ h - k + k = omega arith in ap (λ (n : ℕ). 2 ^ n / 2 ^ k) e ∙ ap (λ (n : ℕ). n / 2 ^ k) (pow-add 2 (h - k) k) ∙ shl-shr (2 ^ (h - k)) k
+
+-- The root of a power of two of pages has its height.
+pub root-of-power : (h : ℕ) → rootHeight (2 ^ h) ≡ h
+root-of-power h = elim (lt-or-le h (rootHeight (2 ^ h))) [
+  | inl q ↦ absurd (omega (arith, root-least (2 ^ h) h q))
+  | inr q ↦ omega (arith, height-le (rootHeight (2 ^ h)) h (root-fits (2 ^ h)))
+]
 
 -- The root's height of a size that a tree has.
 pub height-for : (s : ℕ) → s ≤ 4096 → heightFor s ≡ rootHeight s

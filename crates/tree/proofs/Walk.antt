@@ -162,7 +162,7 @@ module _ (us : List Update) (k : ℕ) (accepted : (v : ℕ) → v < k → Accept
           omega (arith, newest-le us (versionOver us k p h) p 1)
 
       walk-from : (h : ℕ) → h ≤ heightOf us k
-          → walkBy at area h (N .code (versionOver us k p h)) p ≡ Leaf (record { 0 = N .code (leafVersion us k p) }) (N .leaf (leafVersion us k p) p)
+          → walkBy at area h (N .code (versionOver us k p h)) p ≡ Leaf (N .code (leafVersion us k p)) (N .leaf (leafVersion us k p) p)
       unfolding walkBy
       walk-from zero r = rw (stands p 0 (there 0) r in-k, first-leaf p)
       walk-from (suc h) r =
@@ -178,11 +178,11 @@ module _ (us : List Update) (k : ℕ) (accepted : (v : ℕ) → v < k → Accept
           ]
 
       -- The walk from version k's root ends at the leaf of the newest version that covers the page.
-      pub walk-in-turn-by : walkBy at area (heightOf us k) (N .code k) p ≡ Leaf (record { 0 = N .code (leafVersion us k p) }) (N .leaf (leafVersion us k p) p)
+      pub walk-in-turn-by : walkBy at area (heightOf us k) (N .code k) p ≡ Leaf (N .code (leafVersion us k p)) (N .leaf (leafVersion us k p) p)
       walk-in-turn-by = rw (first-root p (heightOf us k) in-k, newest-own k o (omega arith)) at (walk-from (heightOf us k) (omega arith))
 
       -- The page number there is the one that updates 1 .. k, applied in turn, leave.
-      pub walk-number : walkBy at area (heightOf us k) (N .code k) p ≡ Leaf (record { 0 = N .code (leafVersion us k p) }) (inTurnBy us (N .leaf) k p)
+      pub walk-number : walkBy at area (heightOf us k) (N .code k) p ≡ Leaf (N .code (leafVersion us k p)) (inTurnBy us (N .leaf) k p)
       walk-number = rw (set-by-newest us (N .leaf) k p (covered k p (omega arith) q)) walk-in-turn-by
 
 -- ---- one run of versions
@@ -205,5 +205,5 @@ module _ (us : List Update) (k : ℕ) (accepted : (v : ℕ) → v < k → Accept
 
   -- The walk from version k's root, in an area where versions 1 .. k are woven whole.
   pub walk-alone : (p : ℕ) → 0 < k → p < sizeAt us k
-      → walkBy (placeOf us base) area (heightOf us k) k p ≡ Leaf (record { 0 = leafVersion us k p }) (inTurnBy us leaf k p)
+      → walkBy (placeOf us base) area (heightOf us k) k p ≡ Leaf (leafVersion us k p) (inTurnBy us leaf k p)
   walk-alone = let N = alone leaf base in walk-number us k accepted N (placeOf us base) area (stands-woven us k accepted N (placeOf us base) area woven places)

@@ -70,7 +70,7 @@ goes (Stored l r) false k = k r
 -- At a leaf: its version's number and its page number.
 abbrev pub ends : ℕ → NodeAt → Found
 ends c Missing = Lost
-ends c (Stored l r) = Leaf (record { 0 = c }) l
+ends c (Stored l r) = Leaf c l
 
 -- From the node numbered c of height h over page p down to p's leaf; lost where a node is not stored, or a child's number has no such node.
 -- `at` gives the place of a number's node of a height over a page.

@@ -1,12 +1,12 @@
 // The tree of a version: spans, the nodes that an update makes and their order, and the node area.
 ghost use mathlib.Core.Path.{_≡_};
 ghost use mathlib.Core.Bool.{true};
-ghost use Prim.Native.Nat.{ℕ, _+_, _-_, _*_, _^_, _<_, _≤_, min};
+ghost use Prim.Native.Nat.{ℕ, _+_, _-_, _*_, _^_, _<_, min};
 ghost use lib.Count.{ones};
 ghost use Rattle.tree.specs.Place.{kth, first, halvings, nodeNumbered};
 ghost use Rattle.tree.specs.NodeArea.{nodeAt, withNode};
 ghost use Rattle.tree.specs.Cases.{table, every};
-ghost use Rattle.tree.specs.Contract.{rootSpan, heightFor, nodesFor, Pages, Counted, Names};
+ghost use Rattle.tree.specs.Contract.{rootSpan, rootIn, heightIn, heightFor, nodesFor, Pages, Counted, Names};
 use spans::root_span;
 
 // A version, a page's index in the blob and a ticket are counters of different sorts, and each has a type of its own.
@@ -25,9 +25,9 @@ pub enum NodeAt {
     Missing,
 }
 
-// Where a walk ends: at a leaf, with its version and its page number, or at a node that is not there.
+// Where a walk ends: at a leaf, with the number of its version, line x 65,536 + version, and its page number, or at a node that is not there.
 pub enum Found {
-    Leaf(Version, u64),
+    Leaf(u64, u64),
     Lost,
 }
 
@@ -48,20 +48,25 @@ pub const MOST_PAGES: u64 = 4096;
 
 pub const LAST_PAGE: u64 = 4095;
 
-// The span of a height.
-pub fn span_of(height: u64) -> u64
-    requires { ⌜ height < 64 ⌝ }
-    ensures { λ r. ⌜ r ≡ 2 ^ height ⌝ }
-{
-    1u64 << height
-}
-
-// The height of a span, which is a power of two: the length in bits of the number below it.
+// The height of a span, which is a power of two: the zeros below its one bit.
 pub fn height_of(span: u64) -> u64
     requires { ⌜ 0 < span ⌝ }
     ensures { λ r. ⌜ ((h : ℕ) → span ≡ 2 ^ h → r ≡ h) ⌝ }
 {
-    64 - u64::leading_zeros(span - 1) as u64
+    u64::trailing_zeros(span) as u64
+}
+
+// The root's span that a word holds, or that of the largest blob where it holds none. A power of two shares no bit with the number below it, and of the numbers above 0
+// no other does.
+pub fn root_within(span: u64) -> u64
+    ensures { λ r. ⌜ r ≡ rootIn span ⌝ }
+{
+    let below = std::num::wrapping_sub_u64(span, 1);
+    if below < MOST_PAGES && span & below == 0 {
+        span
+    } else {
+        MOST_PAGES
+    }
 }
 
 // The height of the root for a size in pages, that of the root's span, or 0 for a size that no tree has.
@@ -110,14 +115,14 @@ fn first_over(p: PageIndex, height: u64) -> PageIndex
     PageIndex((p.0 >> height) << height)
 }
 
-// The node at number i, root first, of the whole tree of a height. Each turn goes into the half that the number lies in: a node's left half has one node
+// The node at number i, root first, of the whole tree of a root's span. Each turn goes into the half that the number lies in: a node's left half has one node
 // less than the node has pages.
-fn numbered(height: u64, i: u64) -> Named
-    requires { ⌜ height ≤ 12 ⌝ }
-    ensures { λ r. ⌜ Names (kth 0 (2 ^ height - 1) 0 height i) (r .first .0) (r .span) ⌝ }
+fn numbered(root: u64, i: u64) -> Named
+    requires { ⌜ rootIn root ≡ root ⌝ }
+    ensures { λ r. ⌜ Names (kth 0 (2 ^ heightIn root - 1) 0 (heightIn root) i) (r .first .0) (r .span) ⌝ }
 {
     let mut a = 0;
-    let mut span = span_of(height);
+    let mut span = root;
     let mut k = i;
     while span > 1 && k > 0 {
         let left = span - 1;
@@ -134,19 +139,19 @@ fn numbered(height: u64, i: u64) -> Named
     }
 }
 
-// The k-th node, in weaving order, of an update from page f on in a tree of a height; `past` is the halvings of f. The order begins with the nodes over
+// The k-th node, in weaving order, of an update from page f on in a tree of a root's span; `past` is the halvings of f. The order begins with the nodes over
 // page f, root first: of these no search is made.
-pub fn node_by_number(f: PageIndex, height: u64, past: u64, k: u64) -> Named
-    requires { ⌜ height ≤ 12 ⌝ }
-    ensures { λ r. ⌜ Names (nodeNumbered (f .0) height past k) (r .first .0) (r .span) ⌝ }
+pub fn node_by_number(f: PageIndex, span: u64, past: u64, k: u64) -> Named
+    requires { ⌜ rootIn span ≡ span ⌝ }
+    ensures { λ r. ⌜ Names (nodeNumbered (f .0) (heightIn span) past k) (r .first .0) (r .span) ⌝ }
 {
+    let height = height_of(span);
     if k > height {
-        return numbered(height, std::num::wrapping_add_u64(k, past));
+        return numbered(span, std::num::wrapping_add_u64(k, past));
     }
-    let h = height - k;
     Named {
-        first: first_over(f, h),
-        span: span_of(h),
+        first: first_over(f, height - k),
+        span: span >> k,
     }
 }
 

@@ -6,13 +6,12 @@ use Prim.Native.Nat.{ℕ, _≤_, _<_}
 use native.Mathlib.Omega.{arith}
 use borrow.Author.Tests.{lt-ltb, le-ltb, le-leb, lt-leb}
 use lib.Dec.{leb}
-use Rattle.tree.specs.declared.Version.{Version}
 use Rattle.tree.specs.declared.Found.{Found}
 use Rattle.tree.specs.declared.Found.the-variants.{Leaf, Lost}
 use Rattle.tree.proofs.Meets.{lt-or-le}
 use Rattle.walk.specs.FindPage.{numberWithin, isLost, orZero}
 
-module _ (pages : ℕ) (x : Found) (c : Version) (n : ℕ) (e : x ≡ Leaf c n) where
+module _ (pages : ℕ) (x : Found) (c n : ℕ) (e : x ≡ Leaf c n) where
   pub lost-leaf : leb pages n ≡ isLost (numberWithin pages x)
   lost-leaf = rw e (elim (lt-or-le n pages) [
     | inl h ↦ rw (lt-leb pages n h, lt-ltb n pages h, isLost)

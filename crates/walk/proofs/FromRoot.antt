@@ -4,15 +4,17 @@ use mathlib.Core.Path.{_≡_, refl, ap}
 use mathlib.Core.Logic.{inl, inr}
 use mathlib.Core.Option.{Option, none, some}
 use mathlib.Core.List.{List, []}
-use Prim.Native.Nat.{ℕ, zero, suc, _-_, _^_, _≤_, _<_, min}
+use Prim.Native.Nat.{ℕ, zero, suc, _-_, _^_, _≤_, _<_}
 use native.Mathlib.Omega.{arith}
 use borrow.Author.Tests.{lt-ltb, le-ltb}
 use lib.ListN.{length}
 use lib.Pow.{pow-mono}
 use Rattle.tree.specs.NodeArea.{nodeAt}
 use Rattle.tree.specs.Walk.{reachBy, leafOf, visit, ends}
+use Rattle.tree.specs.Contract.{rootIn, heightIn}
 use Rattle.tree.specs.declared.Found.{Found}
 use Rattle.tree.proofs.Meets.{lt-or-le}
+use Rattle.tree.proofs.Word.{root-in, height-in-low}
 use Rattle.register.specs.Register.{versionPart}
 use Rattle.register.specs.declared.Record.{Record}
 use Rattle.versions.specs.Store.{Areas, areasOf}
@@ -22,14 +24,14 @@ use Rattle.walk.specs.FindPage.{reachFrom, findPage}
 
 -- ---- from the root
 
-module _ (a : Areas) (c height p j : ℕ) where
-  pub from-root : p < 2 ^ min height 12 → reachFrom a c height p j ≡ reachBy (placeAt (a .register)) (a .nodes) j (min height 12 - j) c p
+module _ (a : Areas) (c span p j : ℕ) where
+  pub from-root : p < rootIn span → reachFrom a c span p j ≡ reachBy (placeAt (a .register)) (a .nodes) j (heightIn span - j) c p
   unfolding reachFrom
-  from-root l = rw (lt-ltb p (2 ^ min height 12) l)
+  from-root l = rw (lt-ltb p (rootIn span) l)
 
-  pub from-past : 2 ^ min height 12 ≤ p → reachFrom a c height p j ≡ some 0
+  pub from-past : rootIn span ≤ p → reachFrom a c span p j ≡ some 0
   unfolding reachFrom
-  from-past l = rw (le-ltb p (2 ^ min height 12) l)
+  from-past l = rw (le-ltb p (rootIn span) l)
 
 -- From the largest number nothing is reached.
 reach-most : (rs : List Record) (nodes : List ℕ) (j n p : ℕ) → orMost (reachBy (placeAt rs) nodes j n (2 ^ 64 - 1) p) ≡ 2 ^ 64 - 1
@@ -37,8 +39,8 @@ unfolding reachBy placeIn
 reach-most rs nodes j zero p = refl
 reach-most rs nodes j (suc n) p = refl
 
-pub from-most : (nodes : List ℕ) (rs : List Record) (height p j : ℕ) → p < 2 ^ min height 12 → orMost (reachFrom (areasOf [] nodes rs) (2 ^ 64 - 1) height p j) ≡ 2 ^ 64 - 1
-from-most nodes rs height p j l = rw (from-root (areasOf [] nodes rs) (2 ^ 64 - 1) height p j l) (reach-most rs nodes j (min height 12 - j) p)
+pub from-most : (nodes : List ℕ) (rs : List Record) (span p j : ℕ) → p < rootIn span → orMost (reachFrom (areasOf [] nodes rs) (2 ^ 64 - 1) span p j) ≡ 2 ^ 64 - 1
+from-most nodes rs span p j l = rw (from-root (areasOf [] nodes rs) (2 ^ 64 - 1) span p j l) (reach-most rs nodes j (heightIn span - j) p)
 
 -- ---- the end of a walk
 
@@ -56,9 +58,8 @@ module _ (rs : List Record) (nodes : List ℕ) (p : ℕ) (fits : length nodes < 
   end-is none past = rw (leaf-most (versionPart rs (2 ^ 64 - 1)) p, missing-most nodes fits)
   end-is (some d) past = end-some d (λ l. ap orMost (past l))
 
-  pub find-ends : (c : ℕ) → end (orMost (reachFrom (areasOf [] nodes rs) c (versionPart rs c .height) p 0)) ≡ findPage (areasOf [] nodes rs) c p
+  pub find-ends : (c : ℕ) → end (orMost (reachFrom (areasOf [] nodes rs) c (versionPart rs c .span) p 0)) ≡ findPage (areasOf [] nodes rs) c p
   unfolding findPage
   find-ends c =
-      let h = versionPart rs c .height in
-      let low : min h 12 ≤ 12 = omega arith in
-      end-is (reachFrom (areasOf [] nodes rs) c h p 0) (λ l. from-past (areasOf [] nodes rs) c h p 0 (omega (arith, pow-mono low)))
+      let s = versionPart rs c .span in
+      end-is (reachFrom (areasOf [] nodes rs) c s p 0) (λ l. from-past (areasOf [] nodes rs) c s p 0 (omega (arith, root-in s, pow-mono (height-in-low s))))

@@ -1,7 +1,7 @@
-// The walk from a version's root down the halves: to a page, for READ, STAMP and VIEW; to a node of a height, for WEAVE.
+// The walk from a version's root down the halves: to a page, for READ, STAMP and VIEW; to a node of a span, for WEAVE.
 
 ghost use mathlib.Core.Path.{_≡_};
-ghost use Prim.Native.Nat.{_+_, _%_, _^_};
+ghost use Prim.Native.Nat.{ℕ, _+_, _%_, _^_, _<_};
 ghost use mathlib.Core.List.{[]};
 ghost use Rattle.tree.specs.Walk.{ends};
 ghost use Rattle.versions.specs.Store.{areasOf};
@@ -14,29 +14,25 @@ use register::version_part;
 use tree::Found;
 use tree::NodeAt;
 use tree::PageIndex;
-use tree::Version;
+use tree::height_of;
 use tree::node_at;
-use tree::smaller;
-use tree::span_of;
+use tree::root_within;
 
-// The height of the root of the largest blob.
-const MOST_HEIGHT: u64 = 12;
-
-// The number of the node of height `to` over a page, from the root of the version numbered c, of this height: 0 where the page lies past the root, and the largest number
-// where a node is not stored. No root is higher than that of the largest blob.
+// The number of the node of span `to` over a page, from the root of the version numbered c, of the span that its record keeps: 0 where the page lies past the root, and the
+// largest number where a node is not stored.
 pub fn reach_from(
     nodes: &&[u32],
     register: &&[Record],
     c: u64,
-    height: u64,
+    span: u64,
     page: PageIndex,
     to: u64,
 ) -> u64
-    ensures { λ r. ⌜ r ≡ orMost (reachFrom (areasOf [] (now (now (nodes .entry))) (now (now (register .entry)))) c height (page .0) to) ⌝ }
+    requires { ⌜ 0 < to ⌝ }
+    ensures { λ r. ⌜ ((j : ℕ) → to ≡ 2 ^ j → r ≡ orMost (reachFrom (areasOf [] (now (now (nodes .entry))) (now (now (register .entry)))) c span (page .0) j)) ⌝ }
 {
-    let h = smaller(height, MOST_HEIGHT);
-    let span = span_of(h);
-    if page.0 >= span {
+    let root = root_within(span);
+    if page.0 >= root {
         return 0;
     }
     if c == 18446744073709551615 {
@@ -48,10 +44,9 @@ pub fn reach_from(
         c,
         page.0,
         0,
-        span,
-        h,
+        root,
         0,
-        carried_from(h),
+        carried_from(height_of(root)),
         to,
     )
 }
@@ -69,7 +64,7 @@ fn leaf_of(x: NodeAt, c: u64) -> Found
 {
     match x {
         NodeAt::Missing => Found::Lost,
-        NodeAt::Stored(number, _) => Found::Leaf(Version(c), number as u64),
+        NodeAt::Stored(number, _) => Found::Leaf(c, number as u64),
     }
 }
 
@@ -78,7 +73,7 @@ pub fn find_page(nodes: &&[u32], register: &&[Record], c: u64, page: PageIndex) 
     ensures { λ r. ⌜ r ≡ findPage (areasOf [] (now (now (nodes .entry))) (now (now (register .entry)))) c (page .0) ⌝ }
 {
     let q = version_part(*register, c);
-    let d = reach_from(nodes, register, c, q.height, page, 0);
+    let d = reach_from(nodes, register, c, q.span, page, 1);
     let b = version_part(*register, d);
     leaf_of(node_at(*nodes, leaf_place(b, d, page)), d)
 }

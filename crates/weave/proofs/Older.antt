@@ -23,6 +23,6 @@ module _ (x : Store) (nodes : List ℕ) (rs : List Record) (c a h : ℕ) where
 
   pub older-tree : (span : ℕ) → span ≡ 2 ^ h → own span ≤ 0
       → let d = numberOn x (lineOf c) (lineIn x (lineOf c) .published .0) in
-      orMost (reachFrom (areasOf [] nodes rs) d (versionPart rs d .height) a h) ≡ olderNumber x nodes rs c a h
+      orMost (reachFrom (areasOf [] nodes rs) d (versionPart rs d .span) a h) ≡ olderNumber x nodes rs c a h
   unfolding olderNumber
   older-tree span e p = rw (le-ltb 0 (own (2 ^ h)) (rw e at p))

@@ -1,13 +1,14 @@
 -- WEAVE ticket, with the ticket's record r and the part q of its update: what it answers and leaves, over any store and areas.
 use mathlib.Core.Bool.{Bool, true, false, _||_}
 use mathlib.Core.List.{List, []}
-use Prim.Native.Nat.{ℕ, zero, suc, pred, _+_, _-_, _%_, _^_, min}
+use Prim.Native.Nat.{ℕ, zero, suc, pred, _+_, _-_, _%_, _^_}
 use lib.Dec.{leb, ltb, eqb}
 use Rattle.tree.specs.Tree.{Node, node}
 use Rattle.tree.specs.Place.{nodeNumbered}
+use Rattle.tree.specs.Contract.{heightIn}
 use Rattle.tree.specs.NodeArea.{withNode}
 use Rattle.lines.specs.Lines.{pick, numberOf, lineOf, versionOf}
-use Rattle.register.specs.Register.{updateOf, partOf, placeOf, withRecord, versionPart, newestOwn}
+use Rattle.register.specs.Register.{updateOf, partOf, withRecord, versionPart, newestOwn}
 use Rattle.register.specs.declared.Record.{Record}
 use Rattle.register.specs.declared.Part.{Part}
 use Rattle.table.specs.Table.{Cond, _≤?_, _<?_, _or_, never, everyCall, firstRefusal, orElse, unless, weaveRows}
@@ -20,9 +21,13 @@ use Rattle.versions.specs.Store.{Areas, areasOf, lengthsOf, differ, recordOf, l
 use Rattle.walk.specs.FindPage.{reachFrom}
 use Rattle.descent.specs.Places.{orMost}
 
--- The next node in weaving order, by what the part says of its tree, and its place.
+-- The next node in weaving order, by what the part says of its tree.
 unfoldable pub nextNode : Part → Node
-nextNode q = nodeNumbered (updateOf q .f) (min (q .height) 12) (q .past) (q .woven)
+nextNode q = nodeNumbered (updateOf q .f) (heightIn (q .span)) (q .past) (q .woven)
+
+-- The first node place of an update, and the next node's.
+abbrev pub placeOf : Part → ℕ
+placeOf q = q .top - heightIn (q .span)
 
 abbrev pub nextPlace : Part → ℕ
 nextPlace q = placeOf q + q .woven
@@ -63,7 +68,7 @@ olderNumber x nodes rs c a h =
     let v = lineIn x l .published .0 in
     let own = newestOwn rs l v (versionOf c - 1) a (2 ^ h) in
     let d = numberOn x l v in
-    pick (ltb 0 own) (numberOf l own) (orMost (reachFrom (areasOf [] nodes rs) d (versionPart rs d .height) a h))
+    pick (ltb 0 own) (numberOf l own) (orMost (reachFrom (areasOf [] nodes rs) d (versionPart rs d .span) a h))
 
 -- The update with the part q meets the left half of a node of its own that is parted at page m, and the right one.
 abbrev pub meetsLeft : Part → ℕ → Bool
@@ -124,7 +129,7 @@ withWoven r = record {
   last = r .last;
   top = r .top;
   past = r .past;
-  height = r .height;
+  span = r .span;
   size = r .size;
   count = r .count;
   woven = suc (r .woven);

@@ -29,12 +29,13 @@ use tree::Ticket;
 use tree::Version;
 use tree::height_of;
 use tree::node_by_number;
+use tree::root_within;
 use tree::saturating_sub;
-use tree::smaller;
 use tree::store_node;
 use versions::Lengths;
 use versions::Store;
 use versions::areas_differ;
+use versions::capped_sum;
 use versions::lengths_of;
 use versions::line_state;
 use versions::number_on;
@@ -58,12 +59,14 @@ pub enum Woven {
     Refused(u64),
 }
 
-// The next node of a version: its first page and span, its right half's first page, and the span of a half, which is 0 of a leaf.
+// The next node of a version: its first page and span, its right half's first page, and the span of a half, which is 0 of a leaf; and its place, or the largest number where
+// that is more than 64 bits hold.
 struct Next {
     first: PageIndex,
     span: u64,
     right: PageIndex,
     half: u64,
+    place: u64,
 }
 
 // What WEAVE is to do: the number of its refusal so far, the next node, whether the update meets the node's halves, left and right, and the half that it does not, for which an
@@ -77,11 +80,11 @@ struct Plan {
     span: u64,
 }
 
-// What WEAVE has found: the number of its refusal, the ticket's update, that update's part, and its next node with its numbers.
+// What WEAVE has found: the number of its refusal, the ticket's update, and that update's next node, with its place and its numbers.
 struct Found {
     k: u64,
     update: u64,
-    part: Part,
+    place: u64,
     node: WovenNode,
 }
 
@@ -90,14 +93,18 @@ fn next_node(q: Part) -> Next
     ensures { λ x. ⌜ NextOf q x ⌝ }
 {
     let e = extent_of(q);
-    let x = node_by_number(e.f, smaller(q.height, 12), q.past, q.woven);
+    let root = root_within(q.span);
+    let x = node_by_number(e.f, root, q.past, q.woven);
     let first = x.first;
     let half = x.span / 2;
+    let middle = first.0 + half;
+    let start = saturating_sub(q.top, height_of(root));
     Next {
         first,
         span: x.span,
-        right: PageIndex(first.0 + half),
+        right: PageIndex(middle),
         half,
+        place: capped_sum(start, q.woven),
     }
 }
 
@@ -122,7 +129,7 @@ fn node_lost(s: Store, r: Record, q: Part, x: Next) -> bool
     requires { ⌜ NextOf q x ⌝ }
     ensures { λ b. ⌜ b ≡ holds (s .nodes ≤? nextPlace q or leafPast s r q (nextNode q)) ⌝ }
 {
-    if sum_reaches(s.nodes, saturating_sub(q.top, q.height), q.woven) {
+    if s.nodes <= x.place {
         return true;
     }
     if x.half > 0 {
@@ -240,7 +247,7 @@ fn far_child(
     }
     let d = number_on(s, l, b.published);
     let q = version_part(register, d);
-    reach_from(&nodes, &register, d, q.height, first, height_of(span))
+    reach_from(&nodes, &register, d, q.span, first, span)
 }
 
 // A number as the node area keeps it.
@@ -322,7 +329,7 @@ fn found_by(r: Record, q: Part, update: u64, p: Plan, far: u64) -> Found
     Found {
         k: lost_refusal(p.k, p.span, far),
         update,
-        part: q,
+        place: next.place,
         node: woven_node(r, q, next, left, right),
     }
 }
@@ -339,18 +346,12 @@ fn find_next(s: Store, g: Lengths, nodes: &[u32], register: &[Record], t: Ticket
     found_by(r, part, update, p, far)
 }
 
-// Stores the next node's numbers at its place where the number k is 0.
-fn store_woven(nodes: &mut [u32], k: u64, q: Part, x: WovenNode)
-    requires { ⌜ (k ≡ 0 → nextPlace q < 2 ^ 64) ⌝ }
-    ensures { λ _. ⌜ now (nodes .exit) ≡ unless k (now (nodes .entry)) (withNode (now (nodes .entry)) (nextPlace q) (x .left) (x .right)) ⌝ }
+// Stores a node's numbers at a place where the number k is 0.
+fn store_woven(nodes: &mut [u32], k: u64, place: u64, x: WovenNode)
+    ensures { λ _. ⌜ now (nodes .exit) ≡ unless k (now (nodes .entry)) (withNode (now (nodes .entry)) place (x .left) (x .right)) ⌝ }
 {
     if k == 0 {
-        store_node(
-            nodes,
-            saturating_sub(q.top, q.height) + q.woven,
-            x.left,
-            x.right,
-        );
+        store_node(nodes, place, x.left, x.right);
     }
 }
 
@@ -396,7 +397,7 @@ pub fn weave(s: Store, pages: &[u8], nodes: &mut [u32], register: &mut [Record],
 {
     let g = lengths_of(pages, nodes, register);
     let w = find_next(s, g, nodes, register, t);
-    store_woven(nodes, w.k, w.part, w.node);
+    store_woven(nodes, w.k, w.place, w.node);
     count_woven(register, w.k, w.update);
     woven_answer(w.k, w.node)
 }

@@ -10,16 +10,17 @@ pub fn derive(mut record: Record, place: u64) -> Record {
         [0; 4]
     } else {
         // the span is a power of two, or 0 for a size that no tree has: that one's height is 0
-        let height = root_span(size).max(1).trailing_zeros();
+        let span = root_span(size);
+        let height = span.max(1).trailing_zeros();
         let pages = record.last.wrapping_sub(f).wrapping_add(1);
         [
             place.wrapping_add(height.into()),
             f.wrapping_mul(2).wrapping_sub(f.count_ones().into()),
-            height.into(),
+            span,
             node_count(f, pages, size),
         ]
     };
-    [record.top, record.past, record.height, record.count] = derived;
+    [record.top, record.past, record.span, record.count] = derived;
     record
 }
 

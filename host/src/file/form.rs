@@ -6,7 +6,7 @@ use super::FileError;
 use super::{derived, old};
 use crate::areas::{Areas, Lend, Limits, MOST_PAGES};
 use crate::counters::Line;
-use crate::ffi::{Entries, LineState, Record, State, Window, Windows, LINES};
+use crate::ffi::{root_span, Entries, LineState, Record, State, Window, Windows, LINES};
 use std::io::{self, Read, Write};
 
 /// The first eight bytes of every file.
@@ -416,11 +416,29 @@ fn windows_of(numbers: [u64; WINDOWS]) -> Windows {
     windows
 }
 
+/// What a file has where a record has its root's span: the root's height, as records had it when form 3 came. So files from
+/// before there were spans load, and files written here load there. Without an update both are 0. Only records that have what
+/// follows from the rest of them are written.
+fn height_of(span: u64) -> u64 {
+    span.max(1).trailing_zeros().into()
+}
+
+/// The root's span of a record in a file: that of its size, by the table, or none without an update. Any number may stand
+/// where the height does: where it is not that span's, the record gets a span that none has.
+fn span_of(name: u64, size: u64, height: u64) -> u64 {
+    let span = if name == 0 { 0 } else { root_span(size) };
+    if height == height_of(span) {
+        span
+    } else {
+        u64::MAX
+    }
+}
+
 #[rustfmt::skip]
 fn numbers_of_record(r: &Record) -> [u64; RECORD] {
     let e = &r.entries;
     [
-        r.n, r.number, r.put, r.update, r.ticket, r.name, r.f, r.last, r.top, r.past, r.height, r.size, r.count, r.woven,
+        r.n, r.number, r.put, r.update, r.ticket, r.name, r.f, r.last, r.top, r.past, height_of(r.span), r.size, r.count, r.woven,
         e.from0, e.from4, e.from8, e.from12,
     ]
 }
@@ -431,6 +449,6 @@ fn record_of(numbers: [u64; RECORD]) -> Record {
         n, number, put, update, ticket, name, f, last, top, past, height, size, count, woven,
         from0, from4, from8, from12,
     ] = numbers;
-    let entries = Entries { from0, from4, from8, from12 };
-    Record { n, number, put, update, ticket, name, f, last, top, past, height, size, count, woven, entries }
+    let (span, entries) = (span_of(name, size, height), Entries { from0, from4, from8, from12 });
+    Record { n, number, put, update, ticket, name, f, last, top, past, span, size, count, woven, entries }
 }

@@ -458,7 +458,8 @@ fn weave(store: &mut Store<'_>, ticket: u64) -> Outcome {
     let record = record_of(store, update).unwrap_or_default();
     let woven = store.weave(Ticket(ticket));
     if let Ok(node) = woven {
-        let place = record.top.saturating_sub(record.height);
+        let height = stamps::root_height(record.span);
+        let place = record.top.saturating_sub(height);
         let place = place.wrapping_add(record.woven) as usize;
         let stored = store.areas().nodes.chunks(2).nth(place);
         claim(

@@ -3,6 +3,7 @@
 use crate::calls::{Call, Scene};
 use crate::memory::{Memory, Numbers};
 use crate::random::Random;
+use crate::stamps;
 use crate::windows::WEEK;
 use pit_host::{Error, Lent, Limits, Line, Minute, PageIndex, Record, State, Version, Windows};
 
@@ -104,6 +105,18 @@ fn any_entries(random: &mut Random) -> u64 {
     (0..4).fold(0, |word, _| 65_536 * word + random.below(9))
 }
 
+/// A root's span, mostly a small one; or a number beside one, none, or any power of two.
+fn any_span(random: &mut Random) -> u64 {
+    let span = 1 << random.below(4);
+    match random.below(12) {
+        0 => 0,
+        1 => 1 << random.below(64),
+        2 => (1 << random.below(14)) + random.below(3) - 1,
+        3 => near(random, span),
+        _ => span,
+    }
+}
+
 /// Random numbers, or such as an update might have; of the k-th record mostly such as line 0's version k has.
 fn any_record(random: &mut Random, k: u64) -> Record {
     if random.one_in(6) {
@@ -117,8 +130,9 @@ fn any_record(random: &mut Random, k: u64) -> Record {
     record.name = any_name(random);
     (record.f, record.last, record.size) = (f, last, last + 1 + random.below(2));
     record.past = 2 * f - u64::from(f.count_ones());
-    (record.height, record.count) = (random.below(4), 1 + random.below(9));
-    (record.top, record.woven) = (record.height + random.below(12), random.below(10));
+    (record.span, record.count) = (any_span(random), 1 + random.below(9));
+    record.top = stamps::root_height(record.span) + random.below(12);
+    record.woven = random.below(10);
     if random.one_in(6) {
         (record.top, record.past) = (random.below(5), random.below(9));
     }

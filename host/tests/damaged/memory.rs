@@ -122,7 +122,7 @@ impl Numbers for Record {
     fn each(&mut self) -> Vec<&mut u64> {
         let e = &mut self.entries;
         let mut numbers = numbers!(self: n, number, put, update, ticket, name, f, last);
-        numbers.extend(numbers!(self: top, past, height, size, count, woven));
+        numbers.extend(numbers!(self: top, past, span, size, count, woven));
         numbers.extend(numbers!(e: from0, from4, from8, from12));
         numbers
     }

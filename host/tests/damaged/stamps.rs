@@ -126,9 +126,15 @@ fn size_by(record: &Record) -> u64 {
     (last + 1).max(record.size.min(4_096))
 }
 
+/// The height of the root whose span a record has; that of the largest blob's where it has none.
+pub fn root_height(span: u64) -> u64 {
+    let mut heights = 0..12;
+    heights.find(|height| span == 1 << height).unwrap_or(12)
+}
+
 /// From the root of the version numbered c down the halves to a page's leaf.
 fn find_page(scene: &Scene, mut c: u64, page: u64) -> Option<Leaf> {
-    let root = version_record(scene, c).height.min(12);
+    let root = root_height(version_record(scene, c).span);
     if page >= 1 << root {
         return None;
     }
@@ -150,7 +156,7 @@ fn find_page(scene: &Scene, mut c: u64, page: u64) -> Option<Leaf> {
 fn node(scene: &Scene, c: u64, page: u64, height: u64) -> Option<(u64, u64)> {
     let (of, first) = (version_record(scene, c), page >> height << height);
     let meets = of.f < first + (1 << height) && first <= of.last;
-    if c == 0 || c == u64::MAX || of.name != c || height > of.height || !meets {
+    if c == 0 || c == u64::MAX || of.name != c || 1 << height > of.span || !meets {
         return None;
     }
     let halvings = 2 * first - u64::from(first.count_ones());

@@ -342,6 +342,22 @@ fn records_whose_numbers_do_not_follow_are_refused() {
     }
 }
 
+/// A record's span that no call leaves, of an update or of none: there is no height for it.
+#[test]
+fn spans_that_no_calls_leave_are_not_saved() {
+    let folder = Folder::new("spans");
+    let mut spans: Vec<u64> = (0..64).map(|height| 1 << height).collect();
+    spans.extend([0, 3, 5, 4_095, 4_097, u64::MAX]);
+    for record in 0..5 {
+        for span in &spans {
+            let (state, windows, mut areas) = in_work_on_lines().into_parts();
+            let due = std::mem::replace(&mut areas.lend().register[record].span, *span);
+            let saved = Store::resume(state, windows, areas).save(folder.file());
+            assert_eq!(saved.is_ok(), *span == due, "{span} in record {record}");
+        }
+    }
+}
+
 /// In the earlier forms, a place that the updates before do not lead to, and pages and sizes that no update has.
 #[test]
 fn records_of_earlier_forms_that_no_calls_leave_are_refused() {

@@ -78,9 +78,14 @@ fn areas(store: &Store, of_record: impl Fn(&Record) -> Vec<u64>) -> Vec<Vec<u8>>
     vec![areas.pages().to_vec(), nodes, register]
 }
 
+/// The height of an update's root, which records from form 3 on have; 0 without an update.
+fn height(r: &Record) -> u64 {
+    (0..).find(|height| r.span <= 1 << height).expect("a span")
+}
+
 /// An update's first node place, which records of forms 1 and 2 have.
 fn place(r: &Record) -> u64 {
-    r.top - r.height
+    r.top - height(r)
 }
 
 /// A store with line 0 alone as a file of form 1 has it: written from that form's description, in which a ticket has its
@@ -116,7 +121,7 @@ pub fn in_form_2(store: &Store) -> Vec<u8> {
 fn record(r: &Record) -> Vec<u64> {
     let e = r.entries;
     vec![
-        r.n, r.number, r.put, r.update, r.ticket, r.name, r.f, r.last, r.top, r.past, r.height, r.size, r.count,
+        r.n, r.number, r.put, r.update, r.ticket, r.name, r.f, r.last, r.top, r.past, height(r), r.size, r.count,
         r.woven, e.from0, e.from4, e.from8, e.from12,
     ]
 }

@@ -143,7 +143,7 @@ static void show_record(const host *h, size_t index)
     SHOW(r, last);
     SHOW(r, top);
     SHOW(r, past);
-    SHOW(r, height);
+    SHOW(r, span);
     SHOW(r, size);
     SHOW(r, count);
     SHOW(r, woven);
@@ -362,7 +362,7 @@ static void layout_of_records(void)
     AT(pit_record, last);
     AT(pit_record, top);
     AT(pit_record, past);
-    AT(pit_record, height);
+    AT(pit_record, span);
     AT(pit_record, size);
     AT(pit_record, count);
     AT(pit_record, woven);

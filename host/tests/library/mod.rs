@@ -169,7 +169,7 @@ fn areas(areas: &Areas) -> store::image::Areas {
 
 fn record(r: &Record) -> Vec<u64> {
     let mut numbers = vec![r.n, r.number, r.put, r.update, r.ticket, r.name, r.f];
-    numbers.extend([r.last, r.top, r.past, r.height, r.size, r.count, r.woven]);
+    numbers.extend([r.last, r.top, r.past, r.span, r.size, r.count, r.woven]);
     let e = &r.entries;
     numbers.extend([e.from0, e.from4, e.from8, e.from12]);
     numbers

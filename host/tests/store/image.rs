@@ -110,12 +110,13 @@ impl Store {
         } = *update;
         let before = self.updates[..at].iter();
         let place: u64 = before.map(|u| self.names(u).len() as u64).sum();
-        let height = u64::from(root_span(size).trailing_zeros());
+        let span = root_span(size);
+        let height = u64::from(span.trailing_zeros());
         let past = (0..64).map(|halvings| f >> halvings).sum();
         let count = self.names(update).len() as u64;
         let last = f + self.n(update) - 1;
         let (name, top, woven) = (update.number(), place + height, self.woven(update));
-        [ticket, name, f, last, top, past, height, size, count, woven]
+        [ticket, name, f, last, top, past, span, size, count, woven]
     }
 
     /// The number of the update that is a line's own version `v`; 0 for none.

@@ -8,6 +8,7 @@ use native.Mathlib.Omega.{arith}
 use borrow.Author.Tests.{lt-ltb}
 use lib.ListN.{length, getD}
 use Rattle.tree.specs.Tree.{Update, countOf, rootHeight}
+use Rattle.tree.specs.Contract.{rootSpan}
 use Rattle.tree.specs.Place.{halvings}
 use Rattle.tree.specs.Walk.{used}
 use Rattle.lines.specs.Lines.{numberOf, withEntry}
@@ -89,7 +90,7 @@ module _ (L : Limits) (m : Model) (S : Sound L m) (l t f : ℕ) (p : AssignPasse
     last = f + pagesOf (ticketIn m (suc t)) - 1;
     top = places m + rootHeight (u .size);
     past = halvings (u .f);
-    height = rootHeight (u .size);
+    span = rootSpan (u .size);
     size = sizeAfter L m l (suc t) f;
     count = countOf u;
     woven = 0;

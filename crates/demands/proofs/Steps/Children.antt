@@ -1,8 +1,8 @@
 -- WEAVE's search for a child's number on a model's image: the newest of a line's versions after its last published one, else what that one's tree has, is the model's newest.
 -- Assumes nothing.
 use mathlib.Core.Path.{_≡_, refl, sym, ap, _∙_}
-use mathlib.Core.Logic.{_⊎_, inl, inr}
-use mathlib.Core.Bool.{Bool, true, false}
+use mathlib.Core.Logic.{inl, inr}
+use mathlib.Core.Bool.{true, false}
 use mathlib.Core.Option.{Option, some}
 use mathlib.Core.List.{List, []}
 use Prim.Native.Nat.{ℕ, zero, suc, _-_, _^_, _≤_, _<_, min}
@@ -12,6 +12,8 @@ use lib.Dec.{ltb}
 use lib.ListN.{length}
 use lib.Pow.{pow-mono}
 use Rattle.tree.specs.Tree.{Update, meets, update, newest, heightOf}
+use Rattle.tree.specs.Contract.{rootIn, heightIn}
+use Rattle.tree.proofs.Word.{root-in-power, height-in-power}
 use Rattle.tree.specs.Place.{first}
 use Rattle.tree.specs.Walk.{Accepted, WovenBy, versionOver, Stands, hasNode, placeBy}
 use Rattle.tree.proofs.First.{first-root}
@@ -46,7 +48,7 @@ use Rattle.model.proofs.Stamps.{test-cases}
 use Rattle.demands.proofs.Image.{registerImage, storeImage}
 use Rattle.demands.proofs.Records.{update-image}
 use Rattle.demands.proofs.Lines.{line-in, number-on, version-found}
-use Rattle.demands.proofs.Steps.Found.{height-found, height-low, place-found}
+use Rattle.demands.proofs.Steps.Found.{span-found, height-low, place-found}
 
 -- ---- the newest among updates, by whether the last one meets the pages
 
@@ -128,10 +130,10 @@ module _ (L : Limits) (m : Model) (S : Sound L m) (l : ℕ) (there : l < length 
 -- ---- the tree of a published version
 
 -- From no version nothing is reached.
-from-zero : (x : Areas) (height p j : ℕ) → reachFrom x 0 height p j ≡ some 0
-from-zero x height p j = elim (lt-or-le p (2 ^ min height 12)) [
-  | inl q ↦ from-root x 0 height p j q ∙ reach-none (placeAt (x .register)) (x .nodes) j p (min height 12 - j)
-  | inr q ↦ from-past x 0 height p j q
+from-zero : (x : Areas) (span p j : ℕ) → reachFrom x 0 span p j ≡ some 0
+from-zero x span p j = elim (lt-or-le p (rootIn span)) [
+  | inl q ↦ from-root x 0 span p j q ∙ reach-none (placeAt (x .register)) (x .nodes) j p (heightIn span - j)
+  | inr q ↦ from-past x 0 span p j q
 ]
 
 module _ (L : Limits) (m : Model) (S : Sound L m) (l : ℕ) (there : l < length (m .lines)) where
@@ -145,8 +147,11 @@ module _ (L : Limits) (m : Model) (S : Sound L m) (l : ℕ) (there : l < length 
     low : heightOf (updates (history m l)) v ≤ 12
     low = height-low L m S l there v o (published-upto L m S l there v h)
 
-    capped : min (heightOf (updates (history m l)) v) 12 ≡ heightOf (updates (history m l)) v
-    capped = omega (arith, low)
+    root : rootIn (2 ^ heightOf (updates (history m l)) v) ≡ 2 ^ heightOf (updates (history m l)) v
+    root = root-in-power (heightOf (updates (history m l)) v) low
+
+    high : heightIn (2 ^ heightOf (updates (history m l)) v) ≡ heightOf (updates (history m l)) v
+    high = height-in-power (heightOf (updates (history m l)) v) low
 
     called : (w : ℕ) → 0 < w → w ≤ v → 0 < numberIn (history m l) w
     called w p q = number-some L m S l w there p (omega (arith, published-upto L m S l there v h))
@@ -169,46 +174,45 @@ module _ (L : Limits) (m : Model) (S : Sound L m) (l : ℕ) (there : l < length 
       us = updates (history m l)
 
       -- Within the root, down from it; from a height above the root's the version itself.
-      reach-inside : a < 2 ^ heightOf us v → reachFrom (areasOf [] (nodesImage L m) (registerImage L m)) (numberIn (history m l) v) (heightOf us v) a j
+      reach-inside : a < 2 ^ heightOf us v → reachFrom (areasOf [] (nodesImage L m) (registerImage L m)) (numberIn (history m l) v) (2 ^ heightOf us v) a j
           ≡ some (numberIn (history m l) (newest us v a (2 ^ j)))
       reach-inside r =
           let x = areasOf [] (nodesImage L m) (registerImage L m) in
           let d = numberIn (history m l) v in
           let H = heightOf us v in
-          from-root x d H a j (rw capped r)
+          from-root x d (2 ^ H) a j (rw root r)
           ∙ elim (lt-or-le H j) [
             | inl q ↦
                 let zero-first : a ≡ 0 = sym grid ∙ first-root a j (omega (arith, pow-mono {i = H} {j = j} (omega arith))) in
                 let top : newest us v a (2 ^ j) ≡ v = rw zero-first (newest-above us v accepted j o (omega arith)) in
-                reach-here at (nodesImage L m) j a (min H 12) d (omega arith) ∙ sym (ap (λ (w : ℕ). some (numberIn (history m l) w)) top)
+                reach-here at (nodesImage L m) j a (heightIn (2 ^ H)) d (omega (arith, high)) ∙ sym (ap (λ (w : ℕ). some (numberIn (history m l) w)) top)
             | inr q ↦
-                let e : min H 12 - j ≡ H - j = omega (arith, capped) in
-                rw e
+                rw high
                 (reach-newest us v accepted (numbersOn m l) at (nodesImage L m) refl called stands j a r (H - j) (omega arith)
                 ∙ ap (λ (b : ℕ). some (numberIn (history m l) (newest us v b (2 ^ j)))) grid)
           ]
 
-      reach-outside : 2 ^ heightOf us v ≤ a → reachFrom (areasOf [] (nodesImage L m) (registerImage L m)) (numberIn (history m l) v) (heightOf us v) a j
+      reach-outside : 2 ^ heightOf us v ≤ a → reachFrom (areasOf [] (nodesImage L m) (registerImage L m)) (numberIn (history m l) v) (2 ^ heightOf us v) a j
           ≡ some (numberIn (history m l) (newest us v a (2 ^ j)))
       reach-outside r =
-          from-past (areasOf [] (nodesImage L m) (registerImage L m)) (numberIn (history m l) v) (heightOf us v) a j (rw capped r)
+          from-past (areasOf [] (nodesImage L m) (registerImage L m)) (numberIn (history m l) v) (2 ^ heightOf us v) a j (rw root r)
           ∙ sym (ap (λ (w : ℕ). some (numberIn (history m l) w)) (newest-outside us v accepted a (2 ^ j) r))
 
-      reach-published : reachFrom (areasOf [] (nodesImage L m) (registerImage L m)) (numberIn (history m l) v) (heightOf us v) a j
+      reach-published : reachFrom (areasOf [] (nodesImage L m) (registerImage L m)) (numberIn (history m l) v) (2 ^ heightOf us v) a j
           ≡ some (numberIn (history m l) (newest us v a (2 ^ j)))
       reach-published = elim (lt-or-le a (2 ^ heightOf us v)) [ inl r ↦ reach-inside r | inr r ↦ reach-outside r ]
 
   -- The node over a page that stands at a height in the tree of a published version, or of version 0, is the newest's.
   tree-newest : (v a j : ℕ) → v ≤ lineAt m l .published → first a j ≡ a
       → let d = numberIn (history m l) v in
-      reachFrom (areasOf [] (nodesImage L m) (registerImage L m)) d (versionPart (registerImage L m) d .height) a j
+      reachFrom (areasOf [] (nodesImage L m) (registerImage L m)) d (versionPart (registerImage L m) d .span) a j
       ≡ some (numberIn (history m l) (newest (updates (history m l)) v a (2 ^ j)))
   tree-newest zero a j h grid =
       let none : newest (updates (history m l)) 0 a (2 ^ j) ≡ 0 = omega (arith, newest-le (updates (history m l)) 0 a (2 ^ j)) in
-      rw none (from-zero (areasOf [] (nodesImage L m) (registerImage L m)) (versionPart (registerImage L m) 0 .height) a j)
+      rw none (from-zero (areasOf [] (nodesImage L m) (registerImage L m)) (versionPart (registerImage L m) 0 .span) a j)
   tree-newest (suc v) a j h grid =
       let o : 0 < suc v = omega arith in
-      rw (height-found L m S l there (suc v) o (published-upto L m S l there (suc v) h)) (reach-published (suc v) o h a j grid)
+      rw (span-found L m S l there (suc v) o (published-upto L m S l there (suc v) h)) (reach-published (suc v) o h a j grid)
 
 -- ---- the search
 
@@ -216,7 +220,7 @@ module _ (L : Limits) (m : Model) (S : Sound L m) (l : ℕ) (there : l < length 
 older-by : (x : Store) (nodes : List ℕ) (rs : List Record) (c a j l v p d : ℕ) → lineOf c ≡ l → versionOf c ≡ v → lineIn x l .published .0 ≡ p → numberOn x l p ≡ d
     → olderNumber x nodes rs c a j
     ≡ pick (ltb 0 (newestOwn rs l p (v - 1) a (2 ^ j))) (numberOf l (newestOwn rs l p (v - 1) a (2 ^ j)))
-    (orMost (reachFrom (areasOf [] nodes rs) d (versionPart rs d .height) a j))
+    (orMost (reachFrom (areasOf [] nodes rs) d (versionPart rs d .span) a j))
 unfolding olderNumber
 older-by x nodes rs c a j l v p d e f g h = rw (e, f, g, h)
 
@@ -236,7 +240,7 @@ module _ (L : Limits) (m : Model) (S : Sound L m) (l v : ℕ) (there : l < lengt
       rw e at (newest-unmet (updates (history m l)) (v - 1) a (2 ^ j) (rw e misses))
 
   search : pick (ltb 0 (newestOwn (registerImage L m) l last (v - 1) a (2 ^ j))) (numberOf l (newestOwn (registerImage L m) l last (v - 1) a (2 ^ j)))
-      (orMost (reachFrom (areasOf [] (nodesImage L m) (registerImage L m)) (numberIn (history m l) last) (versionPart (registerImage L m) (numberIn (history m l) last) .height) a j))
+      (orMost (reachFrom (areasOf [] (nodesImage L m) (registerImage L m)) (numberIn (history m l) last) (versionPart (registerImage L m) (numberIn (history m l) last) .span) a j))
       ≡ numberIn (history m l) (newestAt v)
   search = elim (newest-cases L m S l there last (S .lines l there .started) a (2 ^ j) (v - 1) (omega arith)) [
     | above p q ↦

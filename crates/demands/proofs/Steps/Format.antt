@@ -7,6 +7,7 @@ use native.Mathlib.Omega.{arith}
 use borrow.Author.Tests.{lt-ltb, le-ltb}
 use lib.ListN.{replicate, replicate-append-replicate}
 use Rattle.tree.specs.Tree.{heightFrom, rootHeight}
+use Rattle.tree.specs.Contract.{rootSpan}
 use Rattle.tree.specs.NodeArea.{allOnes}
 use Rattle.tree.proofs.Halved.{halved-zero}
 use Rattle.lines.specs.Lines.{packed, noLines}
@@ -61,7 +62,7 @@ module _ (L : Limits) where
   nodes-blank = ones (L .nodes)
 
   register-blank : registerImage L noModel ≡ replicate (L .updates) noRecord
-  unfolding registerImage updateFrom maskOf rootHeight heightFrom
+  unfolding registerImage updateFrom maskOf rootSpan rootHeight heightFrom
   register-blank = tab-same (L .updates) (recordImage noModel) (λ (i : ℕ). noRecord) (λ i h. rw (le-ltb i 0 (omega arith), halved-zero, entries-same (λ l. ownAt noModel l (suc i)) (λ _. 0) (λ l z. own-blank i l))) ∙ sym (replicate-tab (L .updates) noRecord)
 
   sources-blank : sourcesImage noModel ≡ 0

@@ -1,10 +1,10 @@
 -- The walk on a model's image: it ends at the leaf of the newest version that covers the page, and its page number is that version's.
 -- Assumes nothing.
-use mathlib.Core.Path.{_≡_, refl, sym, ap, _∙_}
+use mathlib.Core.Path.{_≡_, sym, ap, _∙_}
 use mathlib.Core.Bool.{true, _&&_}
 use mathlib.Core.Option.{some}
 use mathlib.Core.List.{[]}
-use Prim.Native.Nat.{ℕ, suc, pred, _+_, _-_, _*_, _%_, _^_, _≤_, _<_, min}
+use Prim.Native.Nat.{ℕ, suc, pred, _+_, _-_, _*_, _%_, _^_, _≤_, _<_}
 use native.Mathlib.Omega.{arith}
 use borrow.Author.Tests.{lt-ltb, le-leb, eq-eqb}
 use lib.Dec.{leb}
@@ -14,12 +14,14 @@ use Rattle.pages.specs.Pages.{part}
 use Rattle.tree.specs.Tree.{Update, meets, update, rootHeight, heightOf}
 use Rattle.tree.specs.Place.{first, index, halvings}
 use Rattle.tree.specs.Walk.{hasNode, leafVersion, reachBy, leafOf}
+use Rattle.tree.specs.Contract.{rootSpan, rootIn, heightIn}
 use Rattle.tree.specs.declared.Found.the-variants.{Leaf}
 use Rattle.tree.proofs.First.{first-le}
 use Rattle.tree.proofs.Halved.{halved-small, index-halved}
 use Rattle.tree.proofs.Meets.{meets-within}
 use Rattle.tree.proofs.Reach.{walk-reach}
 use Rattle.tree.proofs.Root.{root-low}
+use Rattle.tree.proofs.Word.{root-in-power, height-in-power}
 use Rattle.tree.proofs.Walk.{node-has, size-in-root}
 use Rattle.register.specs.Register.{partOf, updateOf, versionPart}
 use Rattle.register.specs.declared.Part.{Part}
@@ -30,7 +32,7 @@ use Rattle.walk.proofs.FromRoot.{from-root}
 use Rattle.model.specs.History.{versionAt, leafNumber, updateOf as toUpdate, updates}
 use Rattle.model.specs.InTurn.{blobAt}
 use Rattle.model.specs.Model.{Limits, Model, lineAt, updateAt, history, numberIn}
-use Rattle.model.specs.Snapshot.{placeIn, placeAt as placeOf, firstPlace}
+use Rattle.model.specs.Snapshot.{placeIn, firstPlace}
 use Rattle.model.proofs.Image.{pageCell, pagesImage, nodesImage}
 use Rattle.model.proofs.Areas.{cells-length}
 use Rattle.model.proofs.Sound.{Sound}
@@ -41,7 +43,7 @@ use Rattle.model.proofs.Numbers.{number-some, number-low, number-place}
 use Rattle.model.proofs.Woven.{published-upto}
 use Rattle.model.proofs.Found.{some-version, Places, walk-found, number-within, page-found}
 use Rattle.demands.proofs.Image.{recordImage, registerImage, areasImage}
-use Rattle.demands.proofs.Records.{update-image, height-image, past-image, top-image}
+use Rattle.demands.proofs.Records.{update-image, span-image, span-power, past-image, top-image}
 use Rattle.demands.proofs.Lines.{version-found, name-shown}
 use Rattle.demands.proofs.Blocks.{tab-part}
 
@@ -63,12 +65,13 @@ module _ (L : Limits) (m : Model) (S : Sound L m) (l : ℕ) (there : l < length 
     update-found =
         update-image L m S (shownAt m l v) (S .lines l there .some v o h) (S .lines l there .most v o h) ∙ sym (update-shown m l v)
 
-    -- Its height is that of the version's root, and no higher than that of the largest blob.
-    pub height-found : versionPart (registerImage L m) code .height ≡ heightOf (updates (history m l)) v
-    height-found =
-        ap (λ (q : Part). q .height) part-found
-        ∙ height-image L m S (shownAt m l v) (S .lines l there .some v o h) (S .lines l there .most v o h)
-        ∙ sym (ap (λ (u : Update). rootHeight (u .size)) (update-shown m l v))
+    -- Its span is that of the version's root, and its height no higher than that of the largest blob.
+    pub span-found : versionPart (registerImage L m) code .span ≡ 2 ^ heightOf (updates (history m l)) v
+    span-found =
+        ap (λ (q : Part). q .span) part-found
+        ∙ span-image L m S (shownAt m l v) (S .lines l there .some v o h) (S .lines l there .most v o h)
+        ∙ span-power L m S (shownAt m l v) (S .lines l there .some v o h) (S .lines l there .most v o h)
+        ∙ sym (ap (λ (u : Update). 2 ^ rootHeight (u .size)) (update-shown m l v))
 
     pub height-low : heightOf (updates (history m l)) v ≤ 12
     height-low = root-low (update (updates (history m l)) v .size) (rw (update-shown m l v) (shown-small L m S l there v h))
@@ -93,8 +96,8 @@ module _ (L : Limits) (m : Model) (S : Sound L m) (l : ℕ) (there : l < length 
           let u = toUpdate (m .tickets) (updateAt m its) in
           let n = node-has u p j has-shown in
           let same : suc (pred its) ≡ its = omega (arith, some-update) in
-          ap (λ (k : ℕ). leb j (rootHeight (updateAt m k .size)) && meets (updateAt m k .f) (toUpdate (m .tickets) (updateAt m k) .last) (first p j) (2 ^ j)) same
-          ∙ rw (le-leb j (rootHeight (u .size)) (n .0), meets-within (u .f) (u .last) (first p j) (2 ^ j) (n .2) (n .3))
+          ap (λ (k : ℕ). leb (2 ^ j) (rootSpan (updateAt m k .size)) && meets (updateAt m k .f) (toUpdate (m .tickets) (updateAt m k) .last) (first p j) (2 ^ j)) same
+          ∙ rw (span-power L m S its some-update most-update, le-leb (2 ^ j) (2 ^ rootHeight (u .size)) (pow-mono (n .0)), meets-within (u .f) (u .last) (first p j) (2 ^ j) (n .2) (n .3))
 
       -- And its place.
       sum-found : placeBy (partOf (recordImage m (pred its))) p j
@@ -143,7 +146,7 @@ module _ (L : Limits) (m : Model) (S : Sound L m) (l : ℕ) (there : l < length 
     -- The walk on the image.
     pub find-page : findPage (areasImage L m) (numberIn (history m l) v) p
         ≡ Leaf
-        (record { 0 = numberIn (history m l) (leafVersion (updates (history m l)) v p) })
+        (numberIn (history m l) (leafVersion (updates (history m l)) v p))
         (leafNumber (history m l) (leafVersion (updates (history m l)) v p) p)
     unfolding findPage
     find-page =
@@ -153,11 +156,11 @@ module _ (L : Limits) (m : Model) (S : Sound L m) (l : ℕ) (there : l < length 
         let c = numberIn (history m l) v in
         let h = heightOf us v in
         let low = height-low v above upto in
-        let same : min h 12 ≡ h = omega arith in
-        let down : min h 12 - 0 ≡ h = omega arith in
+        let root : rootIn (2 ^ h) ≡ 2 ^ h = root-in-power h low in
+        let down : heightIn (2 ^ h) - 0 ≡ h = omega (arith, height-in-power h low) in
         let inside : p < 2 ^ h = omega (arith, size-in-root us v, size-at (history m l) v) in
-        rw (height-found v above upto)
-        (ap (leafOf at area p) (from-root (areasImage L m) c h p 0 (rw same inside) ∙ ap (λ (n : ℕ). reachBy at area 0 n c p) down)
+        rw (span-found v above upto)
+        (ap (leafOf at area p) (from-root (areasImage L m) c (2 ^ h) p 0 (rw root inside) ∙ ap (λ (n : ℕ). reachBy at area 0 n c p) down)
         ∙ sym (walk-reach at area h c p (place-zero (registerImage L m)))
         ∙ walk-found L m S l there at v h′ places p r)
 

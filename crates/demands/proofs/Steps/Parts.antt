@@ -11,13 +11,14 @@ use lib.ListN.{length, getD}
 use Rattle.tree.proofs.Meets.{lt-or-le}
 use Rattle.tree.specs.Tree.{Update, Node, node, countOf, weaving, nth, rootHeight}
 use Rattle.tree.specs.Place.{halvings}
+use Rattle.tree.specs.Contract.{rootSpan}
 use Rattle.model.proofs.Shown.{every-update}
 use Rattle.lines.specs.Lines.{entriesOf}
 use Rattle.lines.specs.declared.Entries.{Entries}
 use Rattle.lines.proofs.Packed.{entries-same}
 use Rattle.register.specs.declared.Record.{Record}
 use Rattle.model.specs.History.{Ticket, Version, noTicket, noVersion, pagesOf, updateOf as toUpdate, updates}
-use Rattle.model.specs.Model.{Limits, Model, lineAt, updateAt, every, updateOf, numbered}
+use Rattle.model.specs.Model.{Limits, Model, updateAt, updateOf, numbered}
 use Rattle.model.specs.OnModel.{ticketIn, either}
 use Rattle.model.proofs.Laid.{Pair, onesPair, cellIn, oneTo}
 use Rattle.model.proofs.Image.{numbersOf, wovenOf, weaveCell, countAt}
@@ -41,7 +42,7 @@ pub record UpdatePart : Type 0 where
   pub last : ℕ
   pub top : ℕ
   pub past : ℕ
-  pub height : ℕ
+  pub span : ℕ
   pub size : ℕ
   pub count : ℕ
   pub woven : ℕ
@@ -59,7 +60,7 @@ all k u e = record {
   last = record { 0 = u .last };
   top = u .top;
   past = u .past;
-  height = u .height;
+  span = u .span;
   size = u .size;
   count = u .count;
   woven = u .woven;
@@ -83,7 +84,7 @@ partOf ks u place = record {
   last = toUpdate ks u .last;
   top = place + rootHeight (u .size);
   past = halvings (u .f);
-  height = rootHeight (u .size);
+  span = rootSpan (u .size);
   size = u .size;
   count = countBy ks u;
   woven = nth noTicket ks (u .ticket) .woven;

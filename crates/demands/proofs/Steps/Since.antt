@@ -63,7 +63,7 @@ module _ (L : Limits) (m : Model) (S : Sound L m) (l : ℕ) (there : l < length 
     newest = leafVersion (updates h) v p
 
     abbrev found : Found
-    found = Leaf (record { 0 = numberIn h newest }) (leafNumber h newest p)
+    found = Leaf (numberIn h newest) (leafNumber h newest p)
 
     upto : v ≤ length (h .versions)
     upto = omega (arith, published-upto L m S l there v q, versions-length m l)

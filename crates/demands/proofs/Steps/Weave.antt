@@ -4,13 +4,14 @@ use mathlib.Core.Path.{_≡_, refl, sym, ap, _∙_}
 use mathlib.Core.Logic.{inl, inr}
 use mathlib.Core.Bool.{Bool, true, false}
 use mathlib.Core.List.{List}
-use Prim.Native.Nat.{ℕ, zero, suc, pred, _+_, _-_, _*_, _^_, _≤_, _<_, min}
+use Prim.Native.Nat.{ℕ, zero, suc, pred, _+_, _-_, _*_, _^_, _≤_, _<_}
 use native.Mathlib.Nat.{mod-eq-of-lt}
 use native.Mathlib.Omega.{arith}
 use borrow.Author.Tests.{lt-ltb, le-ltb, le-leb, lt-leb, ne-eqb}
 use lib.ListN.{length}
 use Rattle.tree.specs.Tree.{Update, Node, node, countOf, meets, update, newest, rootHeight}
 use Rattle.tree.specs.Place.{first, halvings, kth}
+use Rattle.tree.specs.Contract.{heightIn}
 use Rattle.tree.specs.Walk.{hasNode}
 use Rattle.tree.specs.NodeArea.{withNode}
 use Rattle.tree.proofs.First.{first-leaf}
@@ -21,7 +22,7 @@ use Rattle.tree.proofs.Walk.{node-has}
 use Rattle.tree.proofs.Weaving.{Inside, grid-left, grid-right, weaving-kth, kth-node}
 use Rattle.tree.proofs.Whole.{numbered-kth}
 use Rattle.lines.specs.Lines.{pick, lineOf, versionOf}
-use Rattle.register.specs.Register.{partOf, updateOf, placeOf, withRecord}
+use Rattle.register.specs.Register.{partOf, updateOf, withRecord}
 use Rattle.register.specs.declared.Record.{Record}
 use Rattle.register.specs.declared.Part.{Part}
 use Rattle.table.specs.Table.{_≤?_, _<?_, _or_, always, unless, weaveRows}
@@ -29,7 +30,7 @@ use Rattle.table.proofs.Table.{Fails, number-cases, orElse-0, orElse-suc}
 use Rattle.weave.specs.declared.Woven.the-variants as Woven
 use Rattle.versions.specs.declared.Store.{Store}
 use Rattle.versions.specs.Store.{lengthsOf, recordOf}
-use Rattle.weave.specs.Weave.{nextNode, nextPlace, leafPast, weaveRefusal, wovenUpdate, wovenRecord, wovenPart, olderNumber, meetsLeft, meetsRight, lostHalf, lostChild, lostBy, weaveNumber, kept, leftNumber, rightNumber, firstPage, spanOf, withWoven, nodeOf}
+use Rattle.weave.specs.Weave.{nextNode, placeOf, nextPlace, leafPast, weaveRefusal, wovenUpdate, wovenRecord, wovenPart, olderNumber, meetsLeft, meetsRight, lostHalf, lostChild, lostBy, weaveNumber, kept, leftNumber, rightNumber, firstPage, spanOf, withWoven, nodeOf}
 use Rattle.model.specs.Calls.{WEAVE, nodeIs, says}
 use Rattle.model.specs.History.{History, pagesOf, taken, updateOf as toUpdate, updates}
 use Rattle.model.specs.Model.{Limits, Model, lineAt, updateAt, history, updateOf as updateIn, numbered, numberIn}
@@ -57,11 +58,9 @@ use Rattle.demands.proofs.Steps.Woven.{woven-store, woven-pages, woven-
 -- ---- the node, over any records
 
 next-as : (q : Part) (u : Update) (w : ℕ) → Inside u → rootHeight (u .size) ≤ 12 → w < countOf u
-    → updateOf q ≡ u → q .height ≡ rootHeight (u .size) → q .past ≡ halvings (u .f) → q .woven ≡ w → nextNode q ≡ kth (u .f) (u .last) 0 (rootHeight (u .size)) w
+    → updateOf q ≡ u → heightIn (q .span) ≡ rootHeight (u .size) → q .past ≡ halvings (u .f) → q .woven ≡ w → nextNode q ≡ kth (u .f) (u .last) 0 (rootHeight (u .size)) w
 unfolding nextNode
-next-as q u w inside low left e h p f =
-    let capped : min (rootHeight (u .size)) 12 ≡ rootHeight (u .size) = omega arith in
-    rw (e, h, p, f, capped) (numbered-kth u inside w low left)
+next-as q u w inside low left e h p f = rw (e, h, p, f) (numbered-kth u inside w low left)
 
 first-same : (x : Node) → firstPage x ≡ pageOf x
 first-same (node a h) = refl
@@ -166,8 +165,8 @@ module _ (L : Limits) (m : Model) (S : Sound L m) (t : ℕ) (o : 0 < t) (h : t �
     its-name : wovenPart (areasImage L m) t .name ≡ numbered (updateAt m (updateIn m t) .line) (updateAt m (updateIn m t) .number)
     its-name = ap (λ (q : Part). q .name) its-part ∙ name-image L m S (updateIn m t) got (update-le m t)
 
-    its-height : wovenPart (areasImage L m) t .height ≡ rootHeight (updateAt m (updateIn m t) .size)
-    its-height = ap (λ (q : Part). q .height) its-part ∙ height-image L m S (updateIn m t) got (update-le m t)
+    its-height : heightIn (wovenPart (areasImage L m) t .span) ≡ rootHeight (updateAt m (updateIn m t) .size)
+    its-height = ap (λ (q : Part). heightIn (q .span)) its-part ∙ height-image L m S (updateIn m t) got (update-le m t)
 
     its-past : wovenPart (areasImage L m) t .past ≡ halvings (updateAt m (updateIn m t) .f)
     its-past = ap (λ (q : Part). q .past) its-part ∙ past-image L m S (updateIn m t) got (update-le m t)

@@ -117,17 +117,17 @@ use Rattle.descent.proofs.Generated.Through.{ref-to, RefAt, takes-out, 
 use mathlib.Core.WellFounded.{WellFounded, InvImage·wf}
 use Rattle.descent.proofs.+reach.Code.reach as parts
 use Rattle.descent.proofs.+reach.Proof.Loop as Loop
-use Rattle.descent.proofs.+reach.Proof.Asks.{r1, r3, r4, r5, r6, r7, r8, r9, r10, r11, r12}
+use Rattle.descent.proofs.+reach.Proof.Asks.{r1, r3, r4, r5, r6, r7, r8, r9, r10}
 
 abbrev stayed : Stays (reach‴.ended .signature .params) (reach‴.ended .kept)
-stayed = (stay-none-ref (0 ∷ []) tt (shrSliceOf (1 ∷ []) tt (plain (λ _. Record′.row))) yes, (stay-none-ref (2 ∷ []) tt (shrSliceOf (3 ∷ []) tt (plain (λ _. u32))) yes, (stay-none (λ _. u64) yes, (stay-none (λ _. u64) yes, (stay-none (λ _. u64) yes, (stay-none (λ _. u64) yes, (stay-none (λ _. u64) yes, (stay-none (λ _. u64) yes, (stay-none (λ _. u64) yes, (stay-none (λ _. u64) yes, tt))))))))))
+stayed = (stay-none-ref (0 ∷ []) tt (shrSliceOf (1 ∷ []) tt (plain (λ _. Record′.row))) yes, (stay-none-ref (2 ∷ []) tt (shrSliceOf (3 ∷ []) tt (plain (λ _. u32))) yes, (stay-none (λ _. u64) yes, (stay-none (λ _. u64) yes, (stay-none (λ _. u64) yes, (stay-none (λ _. u64) yes, (stay-none (λ _. u64) yes, (stay-none (λ _. u64) yes, (stay-none (λ _. u64) yes, tt)))))))))
 
-module _ {M : Type 1} (𝓤 : URA M) (H : Heap 𝓤) (A : Atoms 𝓤) (W : Given 𝓤 H A) (mem : Memory → SProp 𝓤) (run : Routine → Fun 𝓤) (κ₂·register : Lft) (q₂·register : Share) (b₂·register o₂·register : ℕ) (γ₂·register : GName) (κ·register : Lft) (q·register : Share) (b·register o·register : ℕ) (γ·register : GName) (register : List Record) (long·register : κ₂·register ⊑ κ·register) (κ₂·nodes : Lft) (q₂·nodes : Share) (b₂·nodes o₂·nodes : ℕ) (γ₂·nodes : GName) (κ·nodes : Lft) (q·nodes : Share) (b·nodes o·nodes : ℕ) (γ·nodes : GName) (nodes : List ℕ) (long·nodes : κ₂·nodes ⊑ κ·nodes) (c : ℕ) (page : ℕ) (x-first : ℕ) (span : ℕ) (height : ℕ) (halved : ℕ) (carried : ℕ) (x-to : ℕ) (ok·c : Is u64 c (uint-vals w64 c)) (ok·page : Is u64 page (uint-vals w64 page)) (ok·x-first : Is u64 x-first (uint-vals w64 x-first)) (ok·span : Is u64 span (uint-vals w64 span)) (ok·height : Is u64 height (uint-vals w64 height)) (ok·halved : Is u64 halved (uint-vals w64 halved)) (ok·carried : Is u64 carried (uint-vals w64 carried)) (ok·x-to : Is u64 x-to (uint-vals w64 x-to)) (need : reach″.req register nodes c page x-first span height halved carried x-to) where
+module _ {M : Type 1} (𝓤 : URA M) (H : Heap 𝓤) (A : Atoms 𝓤) (W : Given 𝓤 H A) (mem : Memory → SProp 𝓤) (run : Routine → Fun 𝓤) (κ₂·register : Lft) (q₂·register : Share) (b₂·register o₂·register : ℕ) (γ₂·register : GName) (κ·register : Lft) (q·register : Share) (b·register o·register : ℕ) (γ·register : GName) (register : List Record) (long·register : κ₂·register ⊑ κ·register) (κ₂·nodes : Lft) (q₂·nodes : Share) (b₂·nodes o₂·nodes : ℕ) (γ₂·nodes : GName) (κ·nodes : Lft) (q·nodes : Share) (b·nodes o·nodes : ℕ) (γ·nodes : GName) (nodes : List ℕ) (long·nodes : κ₂·nodes ⊑ κ·nodes) (c : ℕ) (page : ℕ) (x-first : ℕ) (span : ℕ) (halved : ℕ) (carried : ℕ) (x-to : ℕ) (ok·c : Is u64 c (uint-vals w64 c)) (ok·page : Is u64 page (uint-vals w64 page)) (ok·x-first : Is u64 x-first (uint-vals w64 x-first)) (ok·span : Is u64 span (uint-vals w64 span)) (ok·halved : Is u64 halved (uint-vals w64 halved)) (ok·carried : Is u64 carried (uint-vals w64 carried)) (ok·x-to : Is u64 x-to (uint-vals w64 x-to)) (need : reach″.req register nodes c page x-first span halved carried x-to) where
   abbrev all-args : Args reach‴.signature (κ₂·register, (κ·register, (κ₂·nodes, (κ·nodes, tt))))
-  all-args = (ref-to b₂·register o₂·register γ₂·register (ref b·register o·register γ·register register), (ref-to b₂·nodes o₂·nodes γ₂·nodes (ref b·nodes o·nodes γ·nodes nodes), (c, (page, (x-first, (span, (height, (halved, (carried, (x-to, tt))))))))))
+  all-args = (ref-to b₂·register o₂·register γ₂·register (ref b·register o·register γ·register register), (ref-to b₂·nodes o₂·nodes γ₂·nodes (ref b·nodes o·nodes γ·nodes nodes), (c, (page, (x-first, (span, (halved, (carried, (x-to, tt)))))))))
 
   abbrev all-vals : Vals reach‴.signature (κ₂·register, (κ·register, (κ₂·nodes, (κ·nodes, tt))))
-  all-vals = (vptr b₂·register o₂·register ∷ [], (vptr b₂·nodes o₂·nodes ∷ [], (vint w64 c ∷ [], (vint w64 page ∷ [], (vint w64 x-first ∷ [], (vint w64 span ∷ [], (vint w64 height ∷ [], (vint w64 halved ∷ [], (vint w64 carried ∷ [], (vint w64 x-to ∷ [], tt))))))))))
+  all-vals = (vptr b₂·register o₂·register ∷ [], (vptr b₂·nodes o₂·nodes ∷ [], (vint w64 c ∷ [], (vint w64 page ∷ [], (vint w64 x-first ∷ [], (vint w64 span ∷ [], (vint w64 halved ∷ [], (vint w64 carried ∷ [], (vint w64 x-to ∷ [], tt)))))))))
 
   abbrev bound : walkOf 𝓤 H A reach‴.ended stayed (reach‴.clauses 𝓤 H A mem run) .Ghost
   bound = (((κ₂·register, (κ·register, (κ₂·nodes, (κ·nodes, tt)))), (q₂·register, (q·register, (q₂·nodes, (q·nodes, tt)))), (long·register, (long·nodes, tt)), all-args, all-vals), tt)
@@ -135,86 +135,83 @@ module _ {M : Type 1} (𝓤 : URA M) (H : Heap 𝓤) (A : Atoms 𝓤) (W : Given
   abbrev Post : Val → SProp 𝓤
   Post = walkOf 𝓤 H A reach‴.ended stayed (reach‴.clauses 𝓤 H A mem run) .post bound
 
-  exits : (r : ℕ) → Is u64 r (uint-vals w64 r) → reach″.ens register nodes c page x-first span height halved carried x-to r → ent 𝓤 (⋆ 𝓤 H A (‵ (flft κ₂·register q₂·register) ∷ ‵ (RefAt Record′.row κ₂·register b₂·register o₂·register γ₂·register κ·register b·register o·register γ·register register) ∷ ‵ (flft κ·register q·register) ∷ ‵ (flft κ₂·nodes q₂·nodes) ∷ ‵ (RefAt u32 κ₂·nodes b₂·nodes o₂·nodes γ₂·nodes κ·nodes b·nodes o·nodes γ·nodes nodes) ∷ ‵ (flft κ·nodes q·nodes) ∷ [])) (Post (vint w64 r))
+  exits : (r : ℕ) → Is u64 r (uint-vals w64 r) → reach″.ens register nodes c page x-first span halved carried x-to r → ent 𝓤 (⋆ 𝓤 H A (‵ (flft κ₂·register q₂·register) ∷ ‵ (RefAt Record′.row κ₂·register b₂·register o₂·register γ₂·register κ·register b·register o·register γ·register register) ∷ ‵ (flft κ·register q·register) ∷ ‵ (flft κ₂·nodes q₂·nodes) ∷ ‵ (RefAt u32 κ₂·nodes b₂·nodes o₂·nodes γ₂·nodes κ·nodes b·nodes o·nodes γ·nodes nodes) ∷ ‵ (flft κ·nodes q·nodes) ∷ [])) (Post (vint w64 r))
   exits r ok·r said =
-      qed W (‵ (flft κ₂·register q₂·register) ∷ ‵ (RefAt Record′.row κ₂·register b₂·register o₂·register γ₂·register κ·register b·register o·register γ·register register) ∷ ‵ (flft κ·register q·register) ∷ ‵ (flft κ₂·nodes q₂·nodes) ∷ ‵ (RefAt u32 κ₂·nodes b₂·nodes o₂·nodes γ₂·nodes κ·nodes b·nodes o·nodes γ·nodes nodes) ∷ ‵ (flft κ·nodes q·nodes) ∷ []) ∵ suffices ! _ (ends-at 𝓤 H A reach‴.ended stayed (reach‴.clauses 𝓤 H A mem run) W bound (vint w64 r) r (tt, (tt, (tt, (tt, (tt, (tt, (tt, (tt, (tt, (tt, tt)))))))))) (tt, (tt, (tt, (tt, (tt, (tt, (tt, (tt, (tt, (tt, tt))))))))))) $ says ! said $
-      nothing ! $ move ! (6 ∷ 0 ∷ []) $ join ! $ move ! (4 ∷ 0 ∷ []) $ join ! $ move ! (3 ∷ 0 ∷ []) $ join ! $ move ! (1 ∷ 0 ∷ []) $ join ! $ frame ! $ nothing ! $ owned ! u64 (Is u64) (uint-makes 𝓤 H A W w64) x-to _ ok·x-to $ fjoin ! $ owned ! u64 (Is u64) (uint-makes 𝓤 H A W w64) carried _ ok·carried $ fjoin ! $ owned ! u64 (Is u64) (uint-makes 𝓤 H A W w64) halved _ ok·halved $ fjoin ! $ owned ! u64 (Is u64) (uint-makes 𝓤 H A W w64) height _ ok·height $ fjoin ! $ owned ! u64 (Is u64) (uint-makes 𝓤 H A W w64) span _ ok·span $ fjoin ! $ owned ! u64 (Is u64) (uint-makes 𝓤 H A W w64) x-first _ ok·x-first $ fjoin ! $ owned ! u64 (Is u64) (uint-makes 𝓤 H A W w64) page _ ok·page $ fjoin ! $ owned ! u64 (Is u64) (uint-makes 𝓤 H A W w64) c _ ok·c $ fjoin ! $ move ! (2 ∷ 0 ∷ []) $ fjoin ! $ move ! (1 ∷ 0 ∷ []) $ fjoin ! $ frame ! $ owned ! u64 (Is u64) (uint-makes 𝓤 H A W w64) r _ ok·r $ done !
+      qed W (‵ (flft κ₂·register q₂·register) ∷ ‵ (RefAt Record′.row κ₂·register b₂·register o₂·register γ₂·register κ·register b·register o·register γ·register register) ∷ ‵ (flft κ·register q·register) ∷ ‵ (flft κ₂·nodes q₂·nodes) ∷ ‵ (RefAt u32 κ₂·nodes b₂·nodes o₂·nodes γ₂·nodes κ·nodes b·nodes o·nodes γ·nodes nodes) ∷ ‵ (flft κ·nodes q·nodes) ∷ []) ∵ suffices ! _ (ends-at 𝓤 H A reach‴.ended stayed (reach‴.clauses 𝓤 H A mem run) W bound (vint w64 r) r (tt, (tt, (tt, (tt, (tt, (tt, (tt, (tt, (tt, tt))))))))) (tt, (tt, (tt, (tt, (tt, (tt, (tt, (tt, (tt, tt)))))))))) $ says ! said $
+      nothing ! $ move ! (6 ∷ 0 ∷ []) $ join ! $ move ! (4 ∷ 0 ∷ []) $ join ! $ move ! (3 ∷ 0 ∷ []) $ join ! $ move ! (1 ∷ 0 ∷ []) $ join ! $ frame ! $ nothing ! $ owned ! u64 (Is u64) (uint-makes 𝓤 H A W w64) x-to _ ok·x-to $ fjoin ! $ owned ! u64 (Is u64) (uint-makes 𝓤 H A W w64) carried _ ok·carried $ fjoin ! $ owned ! u64 (Is u64) (uint-makes 𝓤 H A W w64) halved _ ok·halved $ fjoin ! $ owned ! u64 (Is u64) (uint-makes 𝓤 H A W w64) span _ ok·span $ fjoin ! $ owned ! u64 (Is u64) (uint-makes 𝓤 H A W w64) x-first _ ok·x-first $ fjoin ! $ owned ! u64 (Is u64) (uint-makes 𝓤 H A W w64) page _ ok·page $ fjoin ! $ owned ! u64 (Is u64) (uint-makes 𝓤 H A W w64) c _ ok·c $ fjoin ! $ move ! (2 ∷ 0 ∷ []) $ fjoin ! $ move ! (1 ∷ 0 ∷ []) $ fjoin ! $ frame ! $ owned ! u64 (Is u64) (uint-makes 𝓤 H A W w64) r _ ok·r $ done !
 
-  walk : (𝓣 : Tables 𝓤 H) (known-version-part : Triple 𝓤 (𝓣 .C #version-part) (Call-version-part.Asked 𝓤 H A mem run)) (known-place-of : Triple 𝓤 (𝓣 .C #place-of) (Call-place-of.Asked 𝓤 H A mem run)) (known-node-at : Triple 𝓤 (𝓣 .C #node-at) (Call-node-at.Asked 𝓤 H A mem run)) (known-half-of : Triple 𝓤 (𝓣 .C #half-of) (Call-half-of.Asked 𝓤 H A mem run)) (known-is-left : Triple 𝓤 (𝓣 .C #is-left) (Call-is-left.Asked 𝓤 H A mem run)) (known-child-at : Triple 𝓤 (𝓣 .C #child-at) (Call-child-at.Asked 𝓤 H A mem run)) (known-on-to : Triple 𝓤 (𝓣 .C #on-to) (Call-on-to.Asked 𝓤 H A mem run)) (known-less-one : Triple 𝓤 (𝓣 .C #less-one) (Call-less-one.Asked 𝓤 H A mem run)) (known-carried-on : Triple 𝓤 (𝓣 .C #carried-on) (Call-carried-on.Asked 𝓤 H A mem run)) (known-self : (y : Call-reach.Asked 𝓤 H A mem run .Ghost) → Loop.measure-0 (y .0 .3 .0 .now .now) (y .0 .3 .1 .0 .now .now) (y .0 .3 .1 .1 .0) (y .0 .3 .1 .1 .1 .0) (y .0 .3 .1 .1 .1 .1 .0) (y .0 .3 .1 .1 .1 .1 .1 .0) (y .0 .3 .1 .1 .1 .1 .1 .1 .0) (y .0 .3 .1 .1 .1 .1 .1 .1 .1 .0) (y .0 .3 .1 .1 .1 .1 .1 .1 .1 .1 .0) (y .0 .3 .1 .1 .1 .1 .1 .1 .1 .1 .1 .0) < Loop.measure-0 register nodes c page x-first span height halved carried x-to → ent 𝓤 (Call-reach.Asked 𝓤 H A mem run .pre y) (𝓣 .C #self (Call-reach.Asked 𝓤 H A mem run .args y) (Call-reach.Asked 𝓤 H A mem run .post y))) → ent 𝓤 (onEntry 𝓤 H A reach‴.signature (κ₂·register, (κ·register, (κ₂·nodes, (κ·nodes, tt)))) (q₂·register, (q·register, (q₂·nodes, (q·nodes, tt)))) all-args all-vals)
-      (WpFn 𝓤 H (𝓣 .C) (𝓣 .Λ) code.reach-function (vptr b₂·register o₂·register ∷ vptr b₂·nodes o₂·nodes ∷ vint w64 c ∷ vint w64 page ∷ vint w64 x-first ∷ vint w64 span ∷ vint w64 height ∷ vint w64 halved ∷ vint w64 carried ∷ vint w64 x-to ∷ []) Post)
+  walk : (𝓣 : Tables 𝓤 H) (known-version-part : Triple 𝓤 (𝓣 .C #version-part) (Call-version-part.Asked 𝓤 H A mem run)) (known-place-of : Triple 𝓤 (𝓣 .C #place-of) (Call-place-of.Asked 𝓤 H A mem run)) (known-node-at : Triple 𝓤 (𝓣 .C #node-at) (Call-node-at.Asked 𝓤 H A mem run)) (known-half-of : Triple 𝓤 (𝓣 .C #half-of) (Call-half-of.Asked 𝓤 H A mem run)) (known-is-left : Triple 𝓤 (𝓣 .C #is-left) (Call-is-left.Asked 𝓤 H A mem run)) (known-child-at : Triple 𝓤 (𝓣 .C #child-at) (Call-child-at.Asked 𝓤 H A mem run)) (known-on-to : Triple 𝓤 (𝓣 .C #on-to) (Call-on-to.Asked 𝓤 H A mem run)) (known-less-one : Triple 𝓤 (𝓣 .C #less-one) (Call-less-one.Asked 𝓤 H A mem run)) (known-carried-on : Triple 𝓤 (𝓣 .C #carried-on) (Call-carried-on.Asked 𝓤 H A mem run)) (known-self : (y : Call-reach.Asked 𝓤 H A mem run .Ghost) → Loop.measure-0 (y .0 .3 .0 .now .now) (y .0 .3 .1 .0 .now .now) (y .0 .3 .1 .1 .0) (y .0 .3 .1 .1 .1 .0) (y .0 .3 .1 .1 .1 .1 .0) (y .0 .3 .1 .1 .1 .1 .1 .0) (y .0 .3 .1 .1 .1 .1 .1 .1 .0) (y .0 .3 .1 .1 .1 .1 .1 .1 .1 .0) (y .0 .3 .1 .1 .1 .1 .1 .1 .1 .1 .0) < Loop.measure-0 register nodes c page x-first span halved carried x-to → ent 𝓤 (Call-reach.Asked 𝓤 H A mem run .pre y) (𝓣 .C #self (Call-reach.Asked 𝓤 H A mem run .args y) (Call-reach.Asked 𝓤 H A mem run .post y))) → ent 𝓤 (onEntry 𝓤 H A reach‴.signature (κ₂·register, (κ·register, (κ₂·nodes, (κ·nodes, tt)))) (q₂·register, (q·register, (q₂·nodes, (q·nodes, tt)))) all-args all-vals)
+      (WpFn 𝓤 H (𝓣 .C) (𝓣 .Λ) code.reach-function (vptr b₂·register o₂·register ∷ vptr b₂·nodes o₂·nodes ∷ vint w64 c ∷ vint w64 page ∷ vint w64 x-first ∷ vint w64 span ∷ vint w64 halved ∷ vint w64 carried ∷ vint w64 x-to ∷ []) Post)
   walk 𝓣 known-version-part known-place-of known-node-at known-half-of known-is-left known-child-at known-on-to known-less-one known-carried-on known-self =
-      qed W ((‵ (flft κ₂·register q₂·register) ⊛ ‵ (flft κ·register q·register) ⊛ ‵ (flft κ₂·nodes q₂·nodes) ⊛ ‵ (flft κ·nodes q·nodes) ⊛ ‵ ftrue) ∷ ‵ (owns (ShrRef (named 0) κ₂·register (ShrSlice (named 0) κ·register Record′.row) ∷ ShrRef (named 0) κ₂·nodes (ShrSlice (named 0) κ·nodes u32) ∷ u64 ∷ u64 ∷ u64 ∷ u64 ∷ u64 ∷ u64 ∷ u64 ∷ u64 ∷ []) all-args all-vals) ∷ []) ∵ enter ! (𝓣 .C) (𝓣 .Λ) code.reach-function (vptr b₂·register o₂·register ∷ vptr b₂·nodes o₂·nodes ∷ vint w64 c ∷ vint w64 page ∷ vint w64 x-first ∷ vint w64 span ∷ vint w64 height ∷ vint w64 halved ∷ vint w64 carried ∷ vint w64 x-to ∷ []) _ $
-      alloc1 ! (λ l₀. alloc1 ! (λ l₁. alloc1 ! (λ l₂. alloc1 ! (λ l₃. alloc1 ! (λ l₄. alloc1 ! (λ l₅. alloc1 ! (λ l₆. alloc1 ! (λ l₇. alloc1 ! (λ l₈. alloc1 ! (λ l₉. alloc1 ! (λ l₁₀. alloc1 ! (λ l₁₁. alloc1 ! (λ l₁₂. alloc1 ! (λ l₁₃. alloc1 ! (λ l₁₄. alloc1 ! (λ l₁₅. alloc1 ! (λ l₁₆. alloc1 ! (λ l₁₇. alloc1 ! (λ l₁₈. alloc1 ! (λ l₁₉. alloc1 ! (λ l₂₀. alloc1 ! (λ l₂₁. alloc1 ! (λ l₂₂. alloc1 ! (λ l₂₃. alloc0 ! $ params1 ! $
-      pass1 ! (init ! 44 refl (tt, tt)) $ pass1 ! (init ! 42 refl (tt, tt)) $ pass1 ! (init ! 40 refl (tt, record { fits = ok·c .1 })) $ pass1 ! (init ! 38 refl (tt, record { fits = ok·page .1 })) $ pass1 ! (init ! 36 refl (tt, record { fits = ok·x-first .1 })) $ pass1 ! (init ! 34 refl (tt, record { fits = ok·span .1 })) $ pass1 ! (init ! 32 refl (tt, record { fits = ok·height .1 })) $ pass1 ! (init ! 30 refl (tt, record { fits = ok·halved .1 })) $ pass1 ! (init ! 28 refl (tt, record { fits = ok·carried .1 })) $ pass1 ! (init ! 26 refl (tt, record { fits = ok·x-to .1 })) $ pass0 ! $
-      move ! (49 ∷ []) $ fsplit ! $ move ! (1 ∷ []) $ fsplit ! $ move ! (1 ∷ []) $ fsplit ! $ drop ! $ fsplit ! $ drop ! $ fsplit ! $ drop ! $ fsplit ! $ drop ! $ fsplit ! $ drop ! $ fsplit ! $ drop ! $ fsplit ! $ drop ! $ fsplit ! $ drop ! $ drop ! $ move ! (50 ∷ []) $ split ! $ move ! (1 ∷ []) $ split ! $ move ! (1 ∷ []) $ split ! $ move ! (1 ∷ []) $ split ! $ move ! (1 ∷ []) $ drop ! $ move ! (3 ∷ 5 ∷ []) $ takes-out ! tt Record′.row κ₂·register q₂·register b₂·register o₂·register γ₂·register κ·register b·register o·register γ·register register (λ room·register. move ! (4 ∷ 6 ∷ []) $ takes-out ! tt u32 κ₂·nodes q₂·nodes b₂·nodes o₂·nodes γ₂·nodes κ·nodes b·nodes o·nodes γ·nodes nodes (λ room·nodes. move ! (3 ∷ 4 ∷ 7 ∷ 5 ∷ 0 ∷ 1 ∷ 6 ∷ 2 ∷ []) $
-      assigns ! (bin ! (load ! (from ! (stop !)) (look ! 40 refl)) (load ! (from ! (stop !)) (look ! 34 refl)) tt) (from ! (stop !)) (init ! 22 refl (tt, tt)) $
-      branches-on ! (load ! (from ! (stop !)) (look ! 22 refl))
+      qed W ((‵ (flft κ₂·register q₂·register) ⊛ ‵ (flft κ·register q·register) ⊛ ‵ (flft κ₂·nodes q₂·nodes) ⊛ ‵ (flft κ·nodes q·nodes) ⊛ ‵ ftrue) ∷ ‵ (owns (ShrRef (named 0) κ₂·register (ShrSlice (named 0) κ·register Record′.row) ∷ ShrRef (named 0) κ₂·nodes (ShrSlice (named 0) κ·nodes u32) ∷ u64 ∷ u64 ∷ u64 ∷ u64 ∷ u64 ∷ u64 ∷ u64 ∷ []) all-args all-vals) ∷ []) ∵ enter ! (𝓣 .C) (𝓣 .Λ) code.reach-function (vptr b₂·register o₂·register ∷ vptr b₂·nodes o₂·nodes ∷ vint w64 c ∷ vint w64 page ∷ vint w64 x-first ∷ vint w64 span ∷ vint w64 halved ∷ vint w64 carried ∷ vint w64 x-to ∷ []) _ $
+      alloc1 ! (λ l₀. alloc1 ! (λ l₁. alloc1 ! (λ l₂. alloc1 ! (λ l₃. alloc1 ! (λ l₄. alloc1 ! (λ l₅. alloc1 ! (λ l₆. alloc1 ! (λ l₇. alloc1 ! (λ l₈. alloc1 ! (λ l₉. alloc1 ! (λ l₁₀. alloc1 ! (λ l₁₁. alloc1 ! (λ l₁₂. alloc1 ! (λ l₁₃. alloc1 ! (λ l₁₄. alloc1 ! (λ l₁₅. alloc1 ! (λ l₁₆. alloc1 ! (λ l₁₇. alloc1 ! (λ l₁₈. alloc1 ! (λ l₁₉. alloc1 ! (λ l₂₀. alloc1 ! (λ l₂₁. alloc0 ! $ params1 ! $
+      pass1 ! (init ! 40 refl (tt, tt)) $ pass1 ! (init ! 38 refl (tt, tt)) $ pass1 ! (init ! 36 refl (tt, record { fits = ok·c .1 })) $ pass1 ! (init ! 34 refl (tt, record { fits = ok·page .1 })) $ pass1 ! (init ! 32 refl (tt, record { fits = ok·x-first .1 })) $ pass1 ! (init ! 30 refl (tt, record { fits = ok·span .1 })) $ pass1 ! (init ! 28 refl (tt, record { fits = ok·halved .1 })) $ pass1 ! (init ! 26 refl (tt, record { fits = ok·carried .1 })) $ pass1 ! (init ! 24 refl (tt, record { fits = ok·x-to .1 })) $ pass0 ! $
+      move ! (45 ∷ []) $ fsplit ! $ move ! (1 ∷ []) $ fsplit ! $ move ! (1 ∷ []) $ fsplit ! $ drop ! $ fsplit ! $ drop ! $ fsplit ! $ drop ! $ fsplit ! $ drop ! $ fsplit ! $ drop ! $ fsplit ! $ drop ! $ fsplit ! $ drop ! $ drop ! $ move ! (46 ∷ []) $ split ! $ move ! (1 ∷ []) $ split ! $ move ! (1 ∷ []) $ split ! $ move ! (1 ∷ []) $ split ! $ move ! (1 ∷ []) $ drop ! $ move ! (3 ∷ 5 ∷ []) $ takes-out ! tt Record′.row κ₂·register q₂·register b₂·register o₂·register γ₂·register κ·register b·register o·register γ·register register (λ room·register. move ! (4 ∷ 6 ∷ []) $ takes-out ! tt u32 κ₂·nodes q₂·nodes b₂·nodes o₂·nodes γ₂·nodes κ·nodes b·nodes o·nodes γ·nodes nodes (λ room·nodes. move ! (3 ∷ 4 ∷ 7 ∷ 5 ∷ 0 ∷ 1 ∷ 6 ∷ 2 ∷ []) $
+      assigns ! (bin ! (load ! (from ! (stop !)) (look ! 38 refl)) (load ! (from ! (stop !)) (look ! 32 refl)) tt) (from ! (stop !)) (init ! 20 refl (tt, tt)) $
+      branches-on ! (load ! (from ! (stop !)) (look ! 20 refl))
       (λ h·1. regroup ! $
-      assigns ! (of-opd ! (load ! (from ! (stop !)) (look ! 48 refl))) (from ! (stop !)) (init ! 54 refl (tt, record { fits = ok·c .1 })) $
-      returns-on ! (look ! 54 refl) $
-      move ! (54 ∷ 55 ∷ []) $ forget ! 0 refl $ free1 ! $ move ! (52 ∷ 53 ∷ []) $ forget ! 0 refl $ free1 ! $ move ! (50 ∷ 51 ∷ []) $ forget ! 0 refl $ free1 ! $ move ! (48 ∷ 49 ∷ []) $ forget ! 0 refl $ free1 ! $ move ! (46 ∷ 47 ∷ []) $ forget ! 0 refl $ free1 ! $ move ! (44 ∷ 45 ∷ []) $ forget ! 0 refl $ free1 ! $ move ! (42 ∷ 43 ∷ []) $ forget ! 0 refl $ free1 ! $ move ! (40 ∷ 41 ∷ []) $ forget ! 0 refl $ free1 ! $ move ! (38 ∷ 39 ∷ []) $ forget ! 0 refl $ free1 ! $ move ! (36 ∷ 37 ∷ []) $ forget ! 0 refl $ free1 ! $ move ! (34 ∷ 35 ∷ []) $ forget ! 0 refl $ free1 ! $ move ! (32 ∷ 33 ∷ []) $ free1 ! $ move ! (30 ∷ 31 ∷ []) $ free1 ! $ move ! (28 ∷ 29 ∷ []) $ free1 ! $ move ! (26 ∷ 27 ∷ []) $ free1 ! $ move ! (24 ∷ 25 ∷ []) $ free1 ! $ move ! (22 ∷ 23 ∷ []) $ forget ! 0 refl $ free1 ! $ move ! (20 ∷ 21 ∷ []) $ free1 ! $ move ! (18 ∷ 19 ∷ []) $ free1 ! $ move ! (16 ∷ 17 ∷ []) $ free1 ! $ move ! (14 ∷ 15 ∷ []) $ free1 ! $ move ! (12 ∷ 13 ∷ []) $ free1 ! $ move ! (10 ∷ 11 ∷ []) $ free1 ! $ move ! (8 ∷ 9 ∷ []) $ free1 ! $ free0 ! $ move ! (3 ∷ []) $ drop ! $ move ! (6 ∷ []) $ drop ! $ by ! (exits c ok·c (Facts.exit-1 register nodes c page x-first span height halved carried x-to (room·register .0) (room·nodes .0) (ok·c .1) (ok·page .1) (ok·x-first .1) (ok·span .1) (ok·height .1) (ok·halved .1) (ok·carried .1) (ok·x-to .1) need (is-true (leb height x-to) h·1) (leb→le height x-to h·1))))
-      (λ h·1. skips-on ! $ assigns ! (bin ! (load ! (from ! (stop !)) (look ! 48 refl)) (lit ! tt) tt) (from ! (stop !)) (store ! 22 refl (tt, tt)) $
-      branches-on ! (load ! (from ! (stop !)) (look ! 22 refl))
+      assigns ! (of-opd ! (load ! (from ! (stop !)) (look ! 44 refl))) (from ! (stop !)) (init ! 50 refl (tt, record { fits = ok·c .1 })) $
+      returns-on ! (look ! 50 refl) $
+      move ! (50 ∷ 51 ∷ []) $ forget ! 0 refl $ free1 ! $ move ! (48 ∷ 49 ∷ []) $ forget ! 0 refl $ free1 ! $ move ! (46 ∷ 47 ∷ []) $ forget ! 0 refl $ free1 ! $ move ! (44 ∷ 45 ∷ []) $ forget ! 0 refl $ free1 ! $ move ! (42 ∷ 43 ∷ []) $ forget ! 0 refl $ free1 ! $ move ! (40 ∷ 41 ∷ []) $ forget ! 0 refl $ free1 ! $ move ! (38 ∷ 39 ∷ []) $ forget ! 0 refl $ free1 ! $ move ! (36 ∷ 37 ∷ []) $ forget ! 0 refl $ free1 ! $ move ! (34 ∷ 35 ∷ []) $ forget ! 0 refl $ free1 ! $ move ! (32 ∷ 33 ∷ []) $ forget ! 0 refl $ free1 ! $ move ! (30 ∷ 31 ∷ []) $ free1 ! $ move ! (28 ∷ 29 ∷ []) $ free1 ! $ move ! (26 ∷ 27 ∷ []) $ free1 ! $ move ! (24 ∷ 25 ∷ []) $ free1 ! $ move ! (22 ∷ 23 ∷ []) $ free1 ! $ move ! (20 ∷ 21 ∷ []) $ forget ! 0 refl $ free1 ! $ move ! (18 ∷ 19 ∷ []) $ free1 ! $ move ! (16 ∷ 17 ∷ []) $ free1 ! $ move ! (14 ∷ 15 ∷ []) $ free1 ! $ move ! (12 ∷ 13 ∷ []) $ free1 ! $ move ! (10 ∷ 11 ∷ []) $ free1 ! $ move ! (8 ∷ 9 ∷ []) $ free1 ! $ free0 ! $ move ! (3 ∷ []) $ drop ! $ move ! (6 ∷ []) $ drop ! $ by ! (exits c ok·c (Facts.exit-1 register nodes c page x-first span halved carried x-to (room·register .0) (room·nodes .0) (ok·c .1) (ok·page .1) (ok·x-first .1) (ok·span .1) (ok·halved .1) (ok·carried .1) (ok·x-to .1) need (is-true (leb span x-to) h·1) (leb→le span x-to h·1))))
+      (λ h·1. skips-on ! $ assigns ! (bin ! (load ! (from ! (stop !)) (look ! 44 refl)) (lit ! tt) tt) (from ! (stop !)) (store ! 20 refl (tt, tt)) $
+      branches-on ! (load ! (from ! (stop !)) (look ! 20 refl))
       (λ h·2. regroup ! $
-      assigns ! (of-opd ! (lit ! tt)) (from ! (stop !)) (init ! 54 refl (tt, record { fits = lit< tt })) $
-      returns-on ! (look ! 54 refl) $
-      move ! (54 ∷ 55 ∷ []) $ forget ! 0 refl $ free1 ! $ move ! (52 ∷ 53 ∷ []) $ forget ! 0 refl $ free1 ! $ move ! (50 ∷ 51 ∷ []) $ forget ! 0 refl $ free1 ! $ move ! (48 ∷ 49 ∷ []) $ forget ! 0 refl $ free1 ! $ move ! (46 ∷ 47 ∷ []) $ forget ! 0 refl $ free1 ! $ move ! (44 ∷ 45 ∷ []) $ forget ! 0 refl $ free1 ! $ move ! (42 ∷ 43 ∷ []) $ forget ! 0 refl $ free1 ! $ move ! (40 ∷ 41 ∷ []) $ forget ! 0 refl $ free1 ! $ move ! (38 ∷ 39 ∷ []) $ forget ! 0 refl $ free1 ! $ move ! (36 ∷ 37 ∷ []) $ forget ! 0 refl $ free1 ! $ move ! (34 ∷ 35 ∷ []) $ forget ! 0 refl $ free1 ! $ move ! (32 ∷ 33 ∷ []) $ free1 ! $ move ! (30 ∷ 31 ∷ []) $ free1 ! $ move ! (28 ∷ 29 ∷ []) $ free1 ! $ move ! (26 ∷ 27 ∷ []) $ free1 ! $ move ! (24 ∷ 25 ∷ []) $ free1 ! $ move ! (22 ∷ 23 ∷ []) $ forget ! 0 refl $ free1 ! $ move ! (20 ∷ 21 ∷ []) $ free1 ! $ move ! (18 ∷ 19 ∷ []) $ free1 ! $ move ! (16 ∷ 17 ∷ []) $ free1 ! $ move ! (14 ∷ 15 ∷ []) $ free1 ! $ move ! (12 ∷ 13 ∷ []) $ free1 ! $ move ! (10 ∷ 11 ∷ []) $ free1 ! $ move ! (8 ∷ 9 ∷ []) $ free1 ! $ free0 ! $ move ! (3 ∷ []) $ drop ! $ move ! (6 ∷ []) $ drop ! $ by ! (exits 0 (refl, lit< tt) (Facts.exit-2 register nodes c page x-first span height halved carried x-to (room·register .0) (room·nodes .0) (ok·c .1) (ok·page .1) (ok·x-first .1) (ok·span .1) (ok·height .1) (ok·halved .1) (ok·carried .1) (ok·x-to .1) need (is-false (leb height x-to) h·1) (nleb→lt height x-to h·1) (is-true (eqb c 0) h·2) (eqb→eq c 0 h·2))))
-      (λ h·2. skips-on ! $ opens-ref ! tt Record′.row κ₂·register q₂·register b₂·register o₂·register γ₂·register κ·register b·register o·register γ·register register (λ q′ _. assigns ! (of-opd ! (load ! (from ! (hop ! (look ! 55 refl) (stop !))) (look-raw ! 0 refl))) (from ! (stop !)) (init ! 23 refl (tt, (tt, (record { fits = room·register .0 }, tt)))) $
+      assigns ! (of-opd ! (lit ! tt)) (from ! (stop !)) (init ! 50 refl (tt, record { fits = lit< tt })) $
+      returns-on ! (look ! 50 refl) $
+      move ! (50 ∷ 51 ∷ []) $ forget ! 0 refl $ free1 ! $ move ! (48 ∷ 49 ∷ []) $ forget ! 0 refl $ free1 ! $ move ! (46 ∷ 47 ∷ []) $ forget ! 0 refl $ free1 ! $ move ! (44 ∷ 45 ∷ []) $ forget ! 0 refl $ free1 ! $ move ! (42 ∷ 43 ∷ []) $ forget ! 0 refl $ free1 ! $ move ! (40 ∷ 41 ∷ []) $ forget ! 0 refl $ free1 ! $ move ! (38 ∷ 39 ∷ []) $ forget ! 0 refl $ free1 ! $ move ! (36 ∷ 37 ∷ []) $ forget ! 0 refl $ free1 ! $ move ! (34 ∷ 35 ∷ []) $ forget ! 0 refl $ free1 ! $ move ! (32 ∷ 33 ∷ []) $ forget ! 0 refl $ free1 ! $ move ! (30 ∷ 31 ∷ []) $ free1 ! $ move ! (28 ∷ 29 ∷ []) $ free1 ! $ move ! (26 ∷ 27 ∷ []) $ free1 ! $ move ! (24 ∷ 25 ∷ []) $ free1 ! $ move ! (22 ∷ 23 ∷ []) $ free1 ! $ move ! (20 ∷ 21 ∷ []) $ forget ! 0 refl $ free1 ! $ move ! (18 ∷ 19 ∷ []) $ free1 ! $ move ! (16 ∷ 17 ∷ []) $ free1 ! $ move ! (14 ∷ 15 ∷ []) $ free1 ! $ move ! (12 ∷ 13 ∷ []) $ free1 ! $ move ! (10 ∷ 11 ∷ []) $ free1 ! $ move ! (8 ∷ 9 ∷ []) $ free1 ! $ free0 ! $ move ! (3 ∷ []) $ drop ! $ move ! (6 ∷ []) $ drop ! $ by ! (exits 0 (refl, lit< tt) (Facts.exit-2 register nodes c page x-first span halved carried x-to (room·register .0) (room·nodes .0) (ok·c .1) (ok·page .1) (ok·x-first .1) (ok·span .1) (ok·halved .1) (ok·carried .1) (ok·x-to .1) need (is-false (leb span x-to) h·1) (nleb→lt span x-to h·1) (is-true (eqb c 0) h·2) (eqb→eq c 0 h·2))))
+      (λ h·2. skips-on ! $ opens-ref ! tt Record′.row κ₂·register q₂·register b₂·register o₂·register γ₂·register κ·register b·register o·register γ·register register (λ q′ _. assigns ! (of-opd ! (load ! (from ! (hop ! (look ! 51 refl) (stop !))) (look-raw ! 0 refl))) (from ! (stop !)) (init ! 21 refl (tt, (tt, (record { fits = room·register .0 }, tt)))) $
       shuts-ref ! tt Record′.row κ₂·register q₂·register b₂·register o₂·register γ₂·register κ·register b·register o·register γ·register register q′ $
       move ! (2 ∷ 3 ∷ []) $
-      Call-version-part.calls ! mem run (fmOf 𝓤 H (W .laws) 𝓣) known-version-part κ·register q·register b·register o·register γ·register (length register) register c ok·c (and-then ! (load ! (from ! (stop !)) (look ! 20 refl)) (and-then ! (load ! (from ! (stop !)) (look ! 48 refl)) (no-more !)))
-      (λ ok·1. move ! (2 ∷ 3 ∷ 0 ∷ 1 ∷ 4 ∷ 5 ∷ 6 ∷ 7 ∷ []) $ land ! (from ! (stop !)) (init ! 32 refl (Part′.typed 𝓤 H A W (r1 register nodes c page x-first span height halved carried x-to) ok·1)) $
-      here ! (‵ (flft κ₂·register q₂·register) ∷ ‵ (RefAt Record′.row κ₂·register b₂·register o₂·register γ₂·register κ·register b·register o·register γ·register register) ∷ ‵ (flft κ·register q·register) ∷ ‵ (ShrAt Record′.row κ·register b·register o·register γ·register (length register) register) ∷ ‵ (flft κ₂·nodes q₂·nodes) ∷ ‵ (RefAt u32 κ₂·nodes b₂·nodes o₂·nodes γ₂·nodes κ·nodes b·nodes o·nodes γ·nodes nodes) ∷ ‵ (flft κ·nodes q·nodes) ∷ ‵ (ShrAt u32 κ·nodes b·nodes o·nodes γ·nodes (length nodes) nodes) ∷ empty (tyInt w64) l₂₃ (empty (tyInt w64) l₂₂ (empty (tyInt w64) l₂₁ (empty (tyInt w64) l₂₀ (empty (tyInt w64) l₁₉ (empty (sliceTy (tyRef erased imm (pointee (u32 .written)))) l₁₈ (holds (sliceTy (tyRef erased imm (pointee (Record′.row .written)))) l₁₇ (sliceVal (b·register, o·register) (length register)) (holds tyBool l₁₆ (vbool (eqb c 0)) (empty (tyInt w64) l₁₅ (empty tyBool l₁₄ (empty (tyInt w64) l₁₃ (empty (tyAt (code.reach-function .locals) 12) l₁₂ (holds (tyAt (code.reach-function .locals) 11) l₁₁ (Part′.mach (r1 register nodes c page x-first span height halved carried x-to)) (holds (tyInt w64) l₁₀ (vint w64 x-to) (holds (tyInt w64) l₉ (vint w64 carried) (holds (tyInt w64) l₈ (vint w64 halved) (holds (tyInt w64) l₇ (vint w64 height) (holds (tyInt w64) l₆ (vint w64 span) (holds (tyInt w64) l₅ (vint w64 x-first) (holds (tyInt w64) l₄ (vint w64 page) (holds (tyInt w64) l₃ (vint w64 c) (holds (tyRef (named 2) imm (sliceTy (tyRef (named 3) imm (pointee (u32 .written))))) l₂ (vptr b₂·nodes o₂·nodes) (holds (tyRef (named 0) imm (sliceTy (tyRef (named 1) imm (pointee (Record′.row .written))))) l₁ (vptr b₂·register o₂·register) (empty (tyInt w64) l₀ [])))))))))))))))))))))))) $
-      move ! (4 ∷ 5 ∷ []) $ opens-ref ! tt u32 κ₂·nodes q₂·nodes b₂·nodes o₂·nodes γ₂·nodes κ·nodes b·nodes o·nodes γ·nodes nodes (λ q′ _. assigns ! (of-opd ! (load ! (from ! (hop ! (look ! 53 refl) (stop !))) (look-raw ! 0 refl))) (from ! (stop !)) (init ! 21 refl (tt, (tt, (record { fits = room·nodes .0 }, tt)))) $
+      Call-version-part.calls ! mem run (fmOf 𝓤 H (W .laws) 𝓣) known-version-part κ·register q·register b·register o·register γ·register (length register) register c ok·c (and-then ! (load ! (from ! (stop !)) (look ! 18 refl)) (and-then ! (load ! (from ! (stop !)) (look ! 44 refl)) (no-more !)))
+      (λ ok·1. move ! (2 ∷ 3 ∷ 0 ∷ 1 ∷ 4 ∷ 5 ∷ 6 ∷ 7 ∷ []) $ land ! (from ! (stop !)) (init ! 30 refl (Part′.typed 𝓤 H A W (r1 register nodes c page x-first span halved carried x-to) ok·1)) $
+      here ! (‵ (flft κ₂·register q₂·register) ∷ ‵ (RefAt Record′.row κ₂·register b₂·register o₂·register γ₂·register κ·register b·register o·register γ·register register) ∷ ‵ (flft κ·register q·register) ∷ ‵ (ShrAt Record′.row κ·register b·register o·register γ·register (length register) register) ∷ ‵ (flft κ₂·nodes q₂·nodes) ∷ ‵ (RefAt u32 κ₂·nodes b₂·nodes o₂·nodes γ₂·nodes κ·nodes b·nodes o·nodes γ·nodes nodes) ∷ ‵ (flft κ·nodes q·nodes) ∷ ‵ (ShrAt u32 κ·nodes b·nodes o·nodes γ·nodes (length nodes) nodes) ∷ empty (tyInt w64) l₂₁ (empty (tyInt w64) l₂₀ (empty (tyInt w64) l₁₉ (empty (tyInt w64) l₁₈ (empty (sliceTy (tyRef erased imm (pointee (u32 .written)))) l₁₇ (holds (sliceTy (tyRef erased imm (pointee (Record′.row .written)))) l₁₆ (sliceVal (b·register, o·register) (length register)) (holds tyBool l₁₅ (vbool (eqb c 0)) (empty (tyInt w64) l₁₄ (empty tyBool l₁₃ (empty (tyInt w64) l₁₂ (empty (tyAt (code.reach-function .locals) 11) l₁₁ (holds (tyAt (code.reach-function .locals) 10) l₁₀ (Part′.mach (r1 register nodes c page x-first span halved carried x-to)) (holds (tyInt w64) l₉ (vint w64 x-to) (holds (tyInt w64) l₈ (vint w64 carried) (holds (tyInt w64) l₇ (vint w64 halved) (holds (tyInt w64) l₆ (vint w64 span) (holds (tyInt w64) l₅ (vint w64 x-first) (holds (tyInt w64) l₄ (vint w64 page) (holds (tyInt w64) l₃ (vint w64 c) (holds (tyRef (named 2) imm (sliceTy (tyRef (named 3) imm (pointee (u32 .written))))) l₂ (vptr b₂·nodes o₂·nodes) (holds (tyRef (named 0) imm (sliceTy (tyRef (named 1) imm (pointee (Record′.row .written))))) l₁ (vptr b₂·register o₂·register) (empty (tyInt w64) l₀ [])))))))))))))))))))))) $
+      move ! (4 ∷ 5 ∷ []) $ opens-ref ! tt u32 κ₂·nodes q₂·nodes b₂·nodes o₂·nodes γ₂·nodes κ·nodes b·nodes o·nodes γ·nodes nodes (λ q′ _. assigns ! (of-opd ! (load ! (from ! (hop ! (look ! 49 refl) (stop !))) (look-raw ! 0 refl))) (from ! (stop !)) (init ! 19 refl (tt, (tt, (record { fits = room·nodes .0 }, tt)))) $
       shuts-ref ! tt u32 κ₂·nodes q₂·nodes b₂·nodes o₂·nodes γ₂·nodes κ·nodes b·nodes o·nodes γ·nodes nodes q′ $ move ! (2 ∷ 3 ∷ 4 ∷ 5 ∷ 0 ∷ 1 ∷ 6 ∷ 7 ∷ []) $
-      Call-place-of.calls ! mem run (fmOf 𝓤 H (W .laws) 𝓣) known-place-of (r1 register nodes c page x-first span height halved carried x-to) c x-first span height halved carried ok·1 ok·c ok·x-first ok·span ok·height ok·halved ok·carried (Facts.place-of-1 register nodes c page x-first span height halved carried x-to (room·register .0) (room·nodes .0) (ok·c .1) (ok·page .1) (ok·x-first .1) (ok·span .1) (ok·height .1) (ok·halved .1) (ok·carried .1) (ok·x-to .1) need (is-false (leb height x-to) h·1) (nleb→lt height x-to h·1) (is-false (eqb c 0) h·2) (above-0 c h·2) ok·1) (and-then ! (load ! (from ! (stop !)) (look ! 33 refl)) (and-then ! (load ! (from ! (stop !)) (look ! 49 refl)) (and-then ! (load ! (from ! (stop !)) (look ! 45 refl)) (and-then ! (load ! (from ! (stop !)) (look ! 43 refl)) (and-then ! (load ! (from ! (stop !)) (look ! 41 refl)) (and-then ! (load ! (from ! (stop !)) (look ! 39 refl)) (and-then ! (load ! (from ! (stop !)) (look ! 37 refl)) (no-more !))))))))
-      (λ r2 ok·2 says·2. land ! (from ! (stop !)) (init ! 16 refl (tt, record { fits = ok·2 .1 })) $
-      here ! (‵ (flft κ₂·register q₂·register) ∷ ‵ (RefAt Record′.row κ₂·register b₂·register o₂·register γ₂·register κ·register b·register o·register γ·register register) ∷ ‵ (flft κ·register q·register) ∷ ‵ (ShrAt Record′.row κ·register b·register o·register γ·register (length register) register) ∷ ‵ (flft κ₂·nodes q₂·nodes) ∷ ‵ (RefAt u32 κ₂·nodes b₂·nodes o₂·nodes γ₂·nodes κ·nodes b·nodes o·nodes γ·nodes nodes) ∷ ‵ (flft κ·nodes q·nodes) ∷ ‵ (ShrAt u32 κ·nodes b·nodes o·nodes γ·nodes (length nodes) nodes) ∷ empty (tyInt w64) l₂₃ (empty (tyInt w64) l₂₂ (empty (tyInt w64) l₂₁ (empty (tyInt w64) l₂₀ (holds (tyInt w64) l₁₉ (vint w64 r2) (holds (sliceTy (tyRef erased imm (pointee (u32 .written)))) l₁₈ (sliceVal (b·nodes, o·nodes) (length nodes)) (holds (sliceTy (tyRef erased imm (pointee (Record′.row .written)))) l₁₇ (sliceVal (b·register, o·register) (length register)) (holds tyBool l₁₆ (vbool (eqb c 0)) (empty (tyInt w64) l₁₅ (empty tyBool l₁₄ (empty (tyInt w64) l₁₃ (empty (tyAt (code.reach-function .locals) 12) l₁₂ (holds (tyAt (code.reach-function .locals) 11) l₁₁ (Part′.mach (r1 register nodes c page x-first span height halved carried x-to)) (holds (tyInt w64) l₁₀ (vint w64 x-to) (holds (tyInt w64) l₉ (vint w64 carried) (holds (tyInt w64) l₈ (vint w64 halved) (holds (tyInt w64) l₇ (vint w64 height) (holds (tyInt w64) l₆ (vint w64 span) (holds (tyInt w64) l₅ (vint w64 x-first) (holds (tyInt w64) l₄ (vint w64 page) (holds (tyInt w64) l₃ (vint w64 c) (holds (tyRef (named 2) imm (sliceTy (tyRef (named 3) imm (pointee (u32 .written))))) l₂ (vptr b₂·nodes o₂·nodes) (holds (tyRef (named 0) imm (sliceTy (tyRef (named 1) imm (pointee (Record′.row .written))))) l₁ (vptr b₂·register o₂·register) (empty (tyInt w64) l₀ [])))))))))))))))))))))))) $
+      Call-place-of.calls ! mem run (fmOf 𝓤 H (W .laws) 𝓣) known-place-of (r1 register nodes c page x-first span halved carried x-to) c x-first span halved carried ok·1 ok·c ok·x-first ok·span ok·halved ok·carried (Facts.place-of-1 register nodes c page x-first span halved carried x-to (room·register .0) (room·nodes .0) (ok·c .1) (ok·page .1) (ok·x-first .1) (ok·span .1) (ok·halved .1) (ok·carried .1) (ok·x-to .1) need (is-false (leb span x-to) h·1) (nleb→lt span x-to h·1) (is-false (eqb c 0) h·2) (above-0 c h·2) ok·1) (and-then ! (load ! (from ! (stop !)) (look ! 31 refl)) (and-then ! (load ! (from ! (stop !)) (look ! 45 refl)) (and-then ! (load ! (from ! (stop !)) (look ! 41 refl)) (and-then ! (load ! (from ! (stop !)) (look ! 39 refl)) (and-then ! (load ! (from ! (stop !)) (look ! 37 refl)) (and-then ! (load ! (from ! (stop !)) (look ! 35 refl)) (no-more !)))))))
+      (λ r2 ok·2 says·2. land ! (from ! (stop !)) (init ! 14 refl (tt, record { fits = ok·2 .1 })) $
+      here ! (‵ (flft κ₂·register q₂·register) ∷ ‵ (RefAt Record′.row κ₂·register b₂·register o₂·register γ₂·register κ·register b·register o·register γ·register register) ∷ ‵ (flft κ·register q·register) ∷ ‵ (ShrAt Record′.row κ·register b·register o·register γ·register (length register) register) ∷ ‵ (flft κ₂·nodes q₂·nodes) ∷ ‵ (RefAt u32 κ₂·nodes b₂·nodes o₂·nodes γ₂·nodes κ·nodes b·nodes o·nodes γ·nodes nodes) ∷ ‵ (flft κ·nodes q·nodes) ∷ ‵ (ShrAt u32 κ·nodes b·nodes o·nodes γ·nodes (length nodes) nodes) ∷ empty (tyInt w64) l₂₁ (empty (tyInt w64) l₂₀ (empty (tyInt w64) l₁₉ (holds (tyInt w64) l₁₈ (vint w64 r2) (holds (sliceTy (tyRef erased imm (pointee (u32 .written)))) l₁₇ (sliceVal (b·nodes, o·nodes) (length nodes)) (holds (sliceTy (tyRef erased imm (pointee (Record′.row .written)))) l₁₆ (sliceVal (b·register, o·register) (length register)) (holds tyBool l₁₅ (vbool (eqb c 0)) (empty (tyInt w64) l₁₄ (empty tyBool l₁₃ (empty (tyInt w64) l₁₂ (empty (tyAt (code.reach-function .locals) 11) l₁₁ (holds (tyAt (code.reach-function .locals) 10) l₁₀ (Part′.mach (r1 register nodes c page x-first span halved carried x-to)) (holds (tyInt w64) l₉ (vint w64 x-to) (holds (tyInt w64) l₈ (vint w64 carried) (holds (tyInt w64) l₇ (vint w64 halved) (holds (tyInt w64) l₆ (vint w64 span) (holds (tyInt w64) l₅ (vint w64 x-first) (holds (tyInt w64) l₄ (vint w64 page) (holds (tyInt w64) l₃ (vint w64 c) (holds (tyRef (named 2) imm (sliceTy (tyRef (named 3) imm (pointee (u32 .written))))) l₂ (vptr b₂·nodes o₂·nodes) (holds (tyRef (named 0) imm (sliceTy (tyRef (named 1) imm (pointee (Record′.row .written))))) l₁ (vptr b₂·register o₂·register) (empty (tyInt w64) l₀ [])))))))))))))))))))))) $
       move ! (6 ∷ 7 ∷ []) $
-      Call-node-at.calls ! mem run (fmOf 𝓤 H (W .laws) 𝓣) known-node-at κ·nodes q·nodes b·nodes o·nodes γ·nodes (length nodes) nodes r2 ok·2 (and-then ! (load ! (from ! (stop !)) (look ! 18 refl)) (and-then ! (load ! (from ! (stop !)) (look ! 16 refl)) (no-more !)))
-      (λ ok·3. move ! (2 ∷ 3 ∷ 4 ∷ 5 ∷ 6 ∷ 7 ∷ 0 ∷ 1 ∷ []) $ land ! (from ! (stop !)) (init ! 30 refl (NodeAt′.typed 𝓤 H A W (r3 register nodes c page x-first span height halved carried x-to r2) ok·3)) $
-      here ! (‵ (flft κ₂·register q₂·register) ∷ ‵ (RefAt Record′.row κ₂·register b₂·register o₂·register γ₂·register κ·register b·register o·register γ·register register) ∷ ‵ (flft κ·register q·register) ∷ ‵ (ShrAt Record′.row κ·register b·register o·register γ·register (length register) register) ∷ ‵ (flft κ₂·nodes q₂·nodes) ∷ ‵ (RefAt u32 κ₂·nodes b₂·nodes o₂·nodes γ₂·nodes κ·nodes b·nodes o·nodes γ·nodes nodes) ∷ ‵ (flft κ·nodes q·nodes) ∷ ‵ (ShrAt u32 κ·nodes b·nodes o·nodes γ·nodes (length nodes) nodes) ∷ empty (tyInt w64) l₂₃ (empty (tyInt w64) l₂₂ (empty (tyInt w64) l₂₁ (empty (tyInt w64) l₂₀ (holds (tyInt w64) l₁₉ (vint w64 r2) (holds (sliceTy (tyRef erased imm (pointee (u32 .written)))) l₁₈ (sliceVal (b·nodes, o·nodes) (length nodes)) (holds (sliceTy (tyRef erased imm (pointee (Record′.row .written)))) l₁₇ (sliceVal (b·register, o·register) (length register)) (holds tyBool l₁₆ (vbool (eqb c 0)) (empty (tyInt w64) l₁₅ (empty tyBool l₁₄ (empty (tyInt w64) l₁₃ (holds (tyAt (code.reach-function .locals) 12) l₁₂ (NodeAt′.mach (r3 register nodes c page x-first span height halved carried x-to r2)) (holds (tyAt (code.reach-function .locals) 11) l₁₁ (Part′.mach (r1 register nodes c page x-first span height halved carried x-to)) (holds (tyInt w64) l₁₀ (vint w64 x-to) (holds (tyInt w64) l₉ (vint w64 carried) (holds (tyInt w64) l₈ (vint w64 halved) (holds (tyInt w64) l₇ (vint w64 height) (holds (tyInt w64) l₆ (vint w64 span) (holds (tyInt w64) l₅ (vint w64 x-first) (holds (tyInt w64) l₄ (vint w64 page) (holds (tyInt w64) l₃ (vint w64 c) (holds (tyRef (named 2) imm (sliceTy (tyRef (named 3) imm (pointee (u32 .written))))) l₂ (vptr b₂·nodes o₂·nodes) (holds (tyRef (named 0) imm (sliceTy (tyRef (named 1) imm (pointee (Record′.row .written))))) l₁ (vptr b₂·register o₂·register) (empty (tyInt w64) l₀ [])))))))))))))))))))))))) $
-      Call-half-of.calls ! mem run (fmOf 𝓤 H (W .laws) 𝓣) known-half-of span ok·span (and-then ! (load ! (from ! (stop !)) (look ! 43 refl)) (no-more !))
-      (λ ok·4. land ! (from ! (stop !)) (init ! 28 refl (tt, record { fits = ok·4 .1 })) $
-      here ! (‵ (flft κ₂·register q₂·register) ∷ ‵ (RefAt Record′.row κ₂·register b₂·register o₂·register γ₂·register κ·register b·register o·register γ·register register) ∷ ‵ (flft κ·register q·register) ∷ ‵ (ShrAt Record′.row κ·register b·register o·register γ·register (length register) register) ∷ ‵ (flft κ₂·nodes q₂·nodes) ∷ ‵ (RefAt u32 κ₂·nodes b₂·nodes o₂·nodes γ₂·nodes κ·nodes b·nodes o·nodes γ·nodes nodes) ∷ ‵ (flft κ·nodes q·nodes) ∷ ‵ (ShrAt u32 κ·nodes b·nodes o·nodes γ·nodes (length nodes) nodes) ∷ empty (tyInt w64) l₂₃ (empty (tyInt w64) l₂₂ (empty (tyInt w64) l₂₁ (empty (tyInt w64) l₂₀ (holds (tyInt w64) l₁₉ (vint w64 r2) (holds (sliceTy (tyRef erased imm (pointee (u32 .written)))) l₁₈ (sliceVal (b·nodes, o·nodes) (length nodes)) (holds (sliceTy (tyRef erased imm (pointee (Record′.row .written)))) l₁₇ (sliceVal (b·register, o·register) (length register)) (holds tyBool l₁₆ (vbool (eqb c 0)) (empty (tyInt w64) l₁₅ (empty tyBool l₁₄ (holds (tyInt w64) l₁₃ (vint w64 (r4 register nodes c page x-first span height halved carried x-to r2)) (holds (tyAt (code.reach-function .locals) 12) l₁₂ (NodeAt′.mach (r3 register nodes c page x-first span height halved carried x-to r2)) (holds (tyAt (code.reach-function .locals) 11) l₁₁ (Part′.mach (r1 register nodes c page x-first span height halved carried x-to)) (holds (tyInt w64) l₁₀ (vint w64 x-to) (holds (tyInt w64) l₉ (vint w64 carried) (holds (tyInt w64) l₈ (vint w64 halved) (holds (tyInt w64) l₇ (vint w64 height) (holds (tyInt w64) l₆ (vint w64 span) (holds (tyInt w64) l₅ (vint w64 x-first) (holds (tyInt w64) l₄ (vint w64 page) (holds (tyInt w64) l₃ (vint w64 c) (holds (tyRef (named 2) imm (sliceTy (tyRef (named 3) imm (pointee (u32 .written))))) l₂ (vptr b₂·nodes o₂·nodes) (holds (tyRef (named 0) imm (sliceTy (tyRef (named 1) imm (pointee (Record′.row .written))))) l₁ (vptr b₂·register o₂·register) (empty (tyInt w64) l₀ [])))))))))))))))))))))))) $
-      Call-is-left.calls ! mem run (fmOf 𝓤 H (W .laws) 𝓣) known-is-left page x-first (r4 register nodes c page x-first span height halved carried x-to r2) ok·page ok·x-first ok·4 (Facts.is-left-1 register nodes c page x-first span height halved carried x-to (room·register .0) (room·nodes .0) (ok·c .1) (ok·page .1) (ok·x-first .1) (ok·span .1) (ok·height .1) (ok·halved .1) (ok·carried .1) (ok·x-to .1) need (is-false (leb height x-to) h·1) (nleb→lt height x-to h·1) (is-false (eqb c 0) h·2) (above-0 c h·2) ok·1 r2 (ok·2 .1) says·2 ok·3 (ok·4 .1)) (and-then ! (load ! (from ! (stop !)) (look ! 47 refl)) (and-then ! (load ! (from ! (stop !)) (look ! 45 refl)) (and-then ! (load ! (from ! (stop !)) (look ! 29 refl)) (no-more !))))
-      (λ ok·5. land ! (from ! (stop !)) (init ! 26 refl (tt, tt)) $
-      here ! (‵ (flft κ₂·register q₂·register) ∷ ‵ (RefAt Record′.row κ₂·register b₂·register o₂·register γ₂·register κ·register b·register o·register γ·register register) ∷ ‵ (flft κ·register q·register) ∷ ‵ (ShrAt Record′.row κ·register b·register o·register γ·register (length register) register) ∷ ‵ (flft κ₂·nodes q₂·nodes) ∷ ‵ (RefAt u32 κ₂·nodes b₂·nodes o₂·nodes γ₂·nodes κ·nodes b·nodes o·nodes γ·nodes nodes) ∷ ‵ (flft κ·nodes q·nodes) ∷ ‵ (ShrAt u32 κ·nodes b·nodes o·nodes γ·nodes (length nodes) nodes) ∷ empty (tyInt w64) l₂₃ (empty (tyInt w64) l₂₂ (empty (tyInt w64) l₂₁ (empty (tyInt w64) l₂₀ (holds (tyInt w64) l₁₉ (vint w64 r2) (holds (sliceTy (tyRef erased imm (pointee (u32 .written)))) l₁₈ (sliceVal (b·nodes, o·nodes) (length nodes)) (holds (sliceTy (tyRef erased imm (pointee (Record′.row .written)))) l₁₇ (sliceVal (b·register, o·register) (length register)) (holds tyBool l₁₆ (vbool (eqb c 0)) (empty (tyInt w64) l₁₅ (holds tyBool l₁₄ (vbool (r5 register nodes c page x-first span height halved carried x-to r2)) (holds (tyInt w64) l₁₃ (vint w64 (r4 register nodes c page x-first span height halved carried x-to r2)) (holds (tyAt (code.reach-function .locals) 12) l₁₂ (NodeAt′.mach (r3 register nodes c page x-first span height halved carried x-to r2)) (holds (tyAt (code.reach-function .locals) 11) l₁₁ (Part′.mach (r1 register nodes c page x-first span height halved carried x-to)) (holds (tyInt w64) l₁₀ (vint w64 x-to) (holds (tyInt w64) l₉ (vint w64 carried) (holds (tyInt w64) l₈ (vint w64 halved) (holds (tyInt w64) l₇ (vint w64 height) (holds (tyInt w64) l₆ (vint w64 span) (holds (tyInt w64) l₅ (vint w64 x-first) (holds (tyInt w64) l₄ (vint w64 page) (holds (tyInt w64) l₃ (vint w64 c) (holds (tyRef (named 2) imm (sliceTy (tyRef (named 3) imm (pointee (u32 .written))))) l₂ (vptr b₂·nodes o₂·nodes) (holds (tyRef (named 0) imm (sliceTy (tyRef (named 1) imm (pointee (Record′.row .written))))) l₁ (vptr b₂·register o₂·register) (empty (tyInt w64) l₀ [])))))))))))))))))))))))) $
-      Call-child-at.calls ! mem run (fmOf 𝓤 H (W .laws) 𝓣) known-child-at (r3 register nodes c page x-first span height halved carried x-to r2) (r5 register nodes c page x-first span height halved carried x-to r2) ok·3 ok·5 (and-then ! (load ! (from ! (stop !)) (look ! 31 refl)) (and-then ! (load ! (from ! (stop !)) (look ! 27 refl)) (no-more !)))
-      (λ ok·6. land ! (from ! (stop !)) (init ! 24 refl (tt, record { fits = ok·6 .1 })) $
-      here ! (‵ (flft κ₂·register q₂·register) ∷ ‵ (RefAt Record′.row κ₂·register b₂·register o₂·register γ₂·register κ·register b·register o·register γ·register register) ∷ ‵ (flft κ·register q·register) ∷ ‵ (ShrAt Record′.row κ·register b·register o·register γ·register (length register) register) ∷ ‵ (flft κ₂·nodes q₂·nodes) ∷ ‵ (RefAt u32 κ₂·nodes b₂·nodes o₂·nodes γ₂·nodes κ·nodes b·nodes o·nodes γ·nodes nodes) ∷ ‵ (flft κ·nodes q·nodes) ∷ ‵ (ShrAt u32 κ·nodes b·nodes o·nodes γ·nodes (length nodes) nodes) ∷ empty (tyInt w64) l₂₃ (empty (tyInt w64) l₂₂ (empty (tyInt w64) l₂₁ (empty (tyInt w64) l₂₀ (holds (tyInt w64) l₁₉ (vint w64 r2) (holds (sliceTy (tyRef erased imm (pointee (u32 .written)))) l₁₈ (sliceVal (b·nodes, o·nodes) (length nodes)) (holds (sliceTy (tyRef erased imm (pointee (Record′.row .written)))) l₁₇ (sliceVal (b·register, o·register) (length register)) (holds tyBool l₁₆ (vbool (eqb c 0)) (holds (tyInt w64) l₁₅ (vint w64 (r6 register nodes c page x-first span height halved carried x-to r2)) (holds tyBool l₁₄ (vbool (r5 register nodes c page x-first span height halved carried x-to r2)) (holds (tyInt w64) l₁₃ (vint w64 (r4 register nodes c page x-first span height halved carried x-to r2)) (holds (tyAt (code.reach-function .locals) 12) l₁₂ (NodeAt′.mach (r3 register nodes c page x-first span height halved carried x-to r2)) (holds (tyAt (code.reach-function .locals) 11) l₁₁ (Part′.mach (r1 register nodes c page x-first span height halved carried x-to)) (holds (tyInt w64) l₁₀ (vint w64 x-to) (holds (tyInt w64) l₉ (vint w64 carried) (holds (tyInt w64) l₈ (vint w64 halved) (holds (tyInt w64) l₇ (vint w64 height) (holds (tyInt w64) l₆ (vint w64 span) (holds (tyInt w64) l₅ (vint w64 x-first) (holds (tyInt w64) l₄ (vint w64 page) (holds (tyInt w64) l₃ (vint w64 c) (holds (tyRef (named 2) imm (sliceTy (tyRef (named 3) imm (pointee (u32 .written))))) l₂ (vptr b₂·nodes o₂·nodes) (holds (tyRef (named 0) imm (sliceTy (tyRef (named 1) imm (pointee (Record′.row .written))))) l₁ (vptr b₂·register o₂·register) (empty (tyInt w64) l₀ [])))))))))))))))))))))))) $
-      assigns ! (bin ! (load ! (from ! (stop !)) (look ! 24 refl)) (neg-lit ! tt) tt) (from ! (stop !)) (store ! 22 refl (tt, tt)) $
-      branches-on ! (load ! (from ! (stop !)) (look ! 22 refl))
+      Call-node-at.calls ! mem run (fmOf 𝓤 H (W .laws) 𝓣) known-node-at κ·nodes q·nodes b·nodes o·nodes γ·nodes (length nodes) nodes r2 ok·2 (and-then ! (load ! (from ! (stop !)) (look ! 16 refl)) (and-then ! (load ! (from ! (stop !)) (look ! 14 refl)) (no-more !)))
+      (λ ok·3. move ! (2 ∷ 3 ∷ 4 ∷ 5 ∷ 6 ∷ 7 ∷ 0 ∷ 1 ∷ []) $ land ! (from ! (stop !)) (init ! 28 refl (NodeAt′.typed 𝓤 H A W (r3 register nodes c page x-first span halved carried x-to r2) ok·3)) $
+      here ! (‵ (flft κ₂·register q₂·register) ∷ ‵ (RefAt Record′.row κ₂·register b₂·register o₂·register γ₂·register κ·register b·register o·register γ·register register) ∷ ‵ (flft κ·register q·register) ∷ ‵ (ShrAt Record′.row κ·register b·register o·register γ·register (length register) register) ∷ ‵ (flft κ₂·nodes q₂·nodes) ∷ ‵ (RefAt u32 κ₂·nodes b₂·nodes o₂·nodes γ₂·nodes κ·nodes b·nodes o·nodes γ·nodes nodes) ∷ ‵ (flft κ·nodes q·nodes) ∷ ‵ (ShrAt u32 κ·nodes b·nodes o·nodes γ·nodes (length nodes) nodes) ∷ empty (tyInt w64) l₂₁ (empty (tyInt w64) l₂₀ (empty (tyInt w64) l₁₉ (holds (tyInt w64) l₁₈ (vint w64 r2) (holds (sliceTy (tyRef erased imm (pointee (u32 .written)))) l₁₇ (sliceVal (b·nodes, o·nodes) (length nodes)) (holds (sliceTy (tyRef erased imm (pointee (Record′.row .written)))) l₁₆ (sliceVal (b·register, o·register) (length register)) (holds tyBool l₁₅ (vbool (eqb c 0)) (empty (tyInt w64) l₁₄ (empty tyBool l₁₃ (empty (tyInt w64) l₁₂ (holds (tyAt (code.reach-function .locals) 11) l₁₁ (NodeAt′.mach (r3 register nodes c page x-first span halved carried x-to r2)) (holds (tyAt (code.reach-function .locals) 10) l₁₀ (Part′.mach (r1 register nodes c page x-first span halved carried x-to)) (holds (tyInt w64) l₉ (vint w64 x-to) (holds (tyInt w64) l₈ (vint w64 carried) (holds (tyInt w64) l₇ (vint w64 halved) (holds (tyInt w64) l₆ (vint w64 span) (holds (tyInt w64) l₅ (vint w64 x-first) (holds (tyInt w64) l₄ (vint w64 page) (holds (tyInt w64) l₃ (vint w64 c) (holds (tyRef (named 2) imm (sliceTy (tyRef (named 3) imm (pointee (u32 .written))))) l₂ (vptr b₂·nodes o₂·nodes) (holds (tyRef (named 0) imm (sliceTy (tyRef (named 1) imm (pointee (Record′.row .written))))) l₁ (vptr b₂·register o₂·register) (empty (tyInt w64) l₀ [])))))))))))))))))))))) $
+      Call-half-of.calls ! mem run (fmOf 𝓤 H (W .laws) 𝓣) known-half-of span ok·span (and-then ! (load ! (from ! (stop !)) (look ! 39 refl)) (no-more !))
+      (λ ok·4. land ! (from ! (stop !)) (init ! 26 refl (tt, record { fits = ok·4 .1 })) $
+      here ! (‵ (flft κ₂·register q₂·register) ∷ ‵ (RefAt Record′.row κ₂·register b₂·register o₂·register γ₂·register κ·register b·register o·register γ·register register) ∷ ‵ (flft κ·register q·register) ∷ ‵ (ShrAt Record′.row κ·register b·register o·register γ·register (length register) register) ∷ ‵ (flft κ₂·nodes q₂·nodes) ∷ ‵ (RefAt u32 κ₂·nodes b₂·nodes o₂·nodes γ₂·nodes κ·nodes b·nodes o·nodes γ·nodes nodes) ∷ ‵ (flft κ·nodes q·nodes) ∷ ‵ (ShrAt u32 κ·nodes b·nodes o·nodes γ·nodes (length nodes) nodes) ∷ empty (tyInt w64) l₂₁ (empty (tyInt w64) l₂₀ (empty (tyInt w64) l₁₉ (holds (tyInt w64) l₁₈ (vint w64 r2) (holds (sliceTy (tyRef erased imm (pointee (u32 .written)))) l₁₇ (sliceVal (b·nodes, o·nodes) (length nodes)) (holds (sliceTy (tyRef erased imm (pointee (Record′.row .written)))) l₁₆ (sliceVal (b·register, o·register) (length register)) (holds tyBool l₁₅ (vbool (eqb c 0)) (empty (tyInt w64) l₁₄ (empty tyBool l₁₃ (holds (tyInt w64) l₁₂ (vint w64 (r4 register nodes c page x-first span halved carried x-to r2)) (holds (tyAt (code.reach-function .locals) 11) l₁₁ (NodeAt′.mach (r3 register nodes c page x-first span halved carried x-to r2)) (holds (tyAt (code.reach-function .locals) 10) l₁₀ (Part′.mach (r1 register nodes c page x-first span halved carried x-to)) (holds (tyInt w64) l₉ (vint w64 x-to) (holds (tyInt w64) l₈ (vint w64 carried) (holds (tyInt w64) l₇ (vint w64 halved) (holds (tyInt w64) l₆ (vint w64 span) (holds (tyInt w64) l₅ (vint w64 x-first) (holds (tyInt w64) l₄ (vint w64 page) (holds (tyInt w64) l₃ (vint w64 c) (holds (tyRef (named 2) imm (sliceTy (tyRef (named 3) imm (pointee (u32 .written))))) l₂ (vptr b₂·nodes o₂·nodes) (holds (tyRef (named 0) imm (sliceTy (tyRef (named 1) imm (pointee (Record′.row .written))))) l₁ (vptr b₂·register o₂·register) (empty (tyInt w64) l₀ [])))))))))))))))))))))) $
+      Call-is-left.calls ! mem run (fmOf 𝓤 H (W .laws) 𝓣) known-is-left page x-first (r4 register nodes c page x-first span halved carried x-to r2) ok·page ok·x-first ok·4 (Facts.is-left-1 register nodes c page x-first span halved carried x-to (room·register .0) (room·nodes .0) (ok·c .1) (ok·page .1) (ok·x-first .1) (ok·span .1) (ok·halved .1) (ok·carried .1) (ok·x-to .1) need (is-false (leb span x-to) h·1) (nleb→lt span x-to h·1) (is-false (eqb c 0) h·2) (above-0 c h·2) ok·1 r2 (ok·2 .1) says·2 ok·3 (ok·4 .1)) (and-then ! (load ! (from ! (stop !)) (look ! 43 refl)) (and-then ! (load ! (from ! (stop !)) (look ! 41 refl)) (and-then ! (load ! (from ! (stop !)) (look ! 27 refl)) (no-more !))))
+      (λ ok·5. land ! (from ! (stop !)) (init ! 24 refl (tt, tt)) $
+      here ! (‵ (flft κ₂·register q₂·register) ∷ ‵ (RefAt Record′.row κ₂·register b₂·register o₂·register γ₂·register κ·register b·register o·register γ·register register) ∷ ‵ (flft κ·register q·register) ∷ ‵ (ShrAt Record′.row κ·register b·register o·register γ·register (length register) register) ∷ ‵ (flft κ₂·nodes q₂·nodes) ∷ ‵ (RefAt u32 κ₂·nodes b₂·nodes o₂·nodes γ₂·nodes κ·nodes b·nodes o·nodes γ·nodes nodes) ∷ ‵ (flft κ·nodes q·nodes) ∷ ‵ (ShrAt u32 κ·nodes b·nodes o·nodes γ·nodes (length nodes) nodes) ∷ empty (tyInt w64) l₂₁ (empty (tyInt w64) l₂₀ (empty (tyInt w64) l₁₉ (holds (tyInt w64) l₁₈ (vint w64 r2) (holds (sliceTy (tyRef erased imm (pointee (u32 .written)))) l₁₇ (sliceVal (b·nodes, o·nodes) (length nodes)) (holds (sliceTy (tyRef erased imm (pointee (Record′.row .written)))) l₁₆ (sliceVal (b·register, o·register) (length register)) (holds tyBool l₁₅ (vbool (eqb c 0)) (empty (tyInt w64) l₁₄ (holds tyBool l₁₃ (vbool (r5 register nodes c page x-first span halved carried x-to r2)) (holds (tyInt w64) l₁₂ (vint w64 (r4 register nodes c page x-first span halved carried x-to r2)) (holds (tyAt (code.reach-function .locals) 11) l₁₁ (NodeAt′.mach (r3 register nodes c page x-first span halved carried x-to r2)) (holds (tyAt (code.reach-function .locals) 10) l₁₀ (Part′.mach (r1 register nodes c page x-first span halved carried x-to)) (holds (tyInt w64) l₉ (vint w64 x-to) (holds (tyInt w64) l₈ (vint w64 carried) (holds (tyInt w64) l₇ (vint w64 halved) (holds (tyInt w64) l₆ (vint w64 span) (holds (tyInt w64) l₅ (vint w64 x-first) (holds (tyInt w64) l₄ (vint w64 page) (holds (tyInt w64) l₃ (vint w64 c) (holds (tyRef (named 2) imm (sliceTy (tyRef (named 3) imm (pointee (u32 .written))))) l₂ (vptr b₂·nodes o₂·nodes) (holds (tyRef (named 0) imm (sliceTy (tyRef (named 1) imm (pointee (Record′.row .written))))) l₁ (vptr b₂·register o₂·register) (empty (tyInt w64) l₀ [])))))))))))))))))))))) $
+      Call-child-at.calls ! mem run (fmOf 𝓤 H (W .laws) 𝓣) known-child-at (r3 register nodes c page x-first span halved carried x-to r2) (r5 register nodes c page x-first span halved carried x-to r2) ok·3 ok·5 (and-then ! (load ! (from ! (stop !)) (look ! 29 refl)) (and-then ! (load ! (from ! (stop !)) (look ! 25 refl)) (no-more !)))
+      (λ ok·6. land ! (from ! (stop !)) (init ! 22 refl (tt, record { fits = ok·6 .1 })) $
+      here ! (‵ (flft κ₂·register q₂·register) ∷ ‵ (RefAt Record′.row κ₂·register b₂·register o₂·register γ₂·register κ·register b·register o·register γ·register register) ∷ ‵ (flft κ·register q·register) ∷ ‵ (ShrAt Record′.row κ·register b·register o·register γ·register (length register) register) ∷ ‵ (flft κ₂·nodes q₂·nodes) ∷ ‵ (RefAt u32 κ₂·nodes b₂·nodes o₂·nodes γ₂·nodes κ·nodes b·nodes o·nodes γ·nodes nodes) ∷ ‵ (flft κ·nodes q·nodes) ∷ ‵ (ShrAt u32 κ·nodes b·nodes o·nodes γ·nodes (length nodes) nodes) ∷ empty (tyInt w64) l₂₁ (empty (tyInt w64) l₂₀ (empty (tyInt w64) l₁₉ (holds (tyInt w64) l₁₈ (vint w64 r2) (holds (sliceTy (tyRef erased imm (pointee (u32 .written)))) l₁₇ (sliceVal (b·nodes, o·nodes) (length nodes)) (holds (sliceTy (tyRef erased imm (pointee (Record′.row .written)))) l₁₆ (sliceVal (b·register, o·register) (length register)) (holds tyBool l₁₅ (vbool (eqb c 0)) (holds (tyInt w64) l₁₄ (vint w64 (r6 register nodes c page x-first span halved carried x-to r2)) (holds tyBool l₁₃ (vbool (r5 register nodes c page x-first span halved carried x-to r2)) (holds (tyInt w64) l₁₂ (vint w64 (r4 register nodes c page x-first span halved carried x-to r2)) (holds (tyAt (code.reach-function .locals) 11) l₁₁ (NodeAt′.mach (r3 register nodes c page x-first span halved carried x-to r2)) (holds (tyAt (code.reach-function .locals) 10) l₁₀ (Part′.mach (r1 register nodes c page x-first span halved carried x-to)) (holds (tyInt w64) l₉ (vint w64 x-to) (holds (tyInt w64) l₈ (vint w64 carried) (holds (tyInt w64) l₇ (vint w64 halved) (holds (tyInt w64) l₆ (vint w64 span) (holds (tyInt w64) l₅ (vint w64 x-first) (holds (tyInt w64) l₄ (vint w64 page) (holds (tyInt w64) l₃ (vint w64 c) (holds (tyRef (named 2) imm (sliceTy (tyRef (named 3) imm (pointee (u32 .written))))) l₂ (vptr b₂·nodes o₂·nodes) (holds (tyRef (named 0) imm (sliceTy (tyRef (named 1) imm (pointee (Record′.row .written))))) l₁ (vptr b₂·register o₂·register) (empty (tyInt w64) l₀ [])))))))))))))))))))))) $
+      assigns ! (bin ! (load ! (from ! (stop !)) (look ! 22 refl)) (neg-lit ! tt) tt) (from ! (stop !)) (store ! 20 refl (tt, tt)) $
+      branches-on ! (load ! (from ! (stop !)) (look ! 20 refl))
       (λ h·3. regroup ! $
-      assigns ! (of-opd ! (neg-lit ! tt)) (from ! (stop !)) (init ! 54 refl (tt, record { fits = lit< tt })) $
-      returns-on ! (look ! 54 refl) $
-      move ! (54 ∷ 55 ∷ []) $ forget ! 0 refl $ free1 ! $ move ! (52 ∷ 53 ∷ []) $ forget ! 0 refl $ free1 ! $ move ! (50 ∷ 51 ∷ []) $ forget ! 0 refl $ free1 ! $ move ! (48 ∷ 49 ∷ []) $ forget ! 0 refl $ free1 ! $ move ! (46 ∷ 47 ∷ []) $ forget ! 0 refl $ free1 ! $ move ! (44 ∷ 45 ∷ []) $ forget ! 0 refl $ free1 ! $ move ! (42 ∷ 43 ∷ []) $ forget ! 0 refl $ free1 ! $ move ! (40 ∷ 41 ∷ []) $ forget ! 0 refl $ free1 ! $ move ! (38 ∷ 39 ∷ []) $ forget ! 0 refl $ free1 ! $ move ! (36 ∷ 37 ∷ []) $ forget ! 0 refl $ free1 ! $ move ! (34 ∷ 35 ∷ []) $ forget ! 0 refl $ free1 ! $ move ! (32 ∷ 33 ∷ []) $ forget ! 0 refl $ free1 ! $ move ! (30 ∷ 31 ∷ []) $ forget ! 0 refl $ free1 ! $ move ! (28 ∷ 29 ∷ []) $ forget ! 0 refl $ free1 ! $ move ! (26 ∷ 27 ∷ []) $ forget ! 0 refl $ free1 ! $ move ! (24 ∷ 25 ∷ []) $ forget ! 0 refl $ free1 ! $ move ! (22 ∷ 23 ∷ []) $ forget ! 0 refl $ free1 ! $ move ! (20 ∷ 21 ∷ []) $ forget ! 0 refl $ free1 ! $ move ! (18 ∷ 19 ∷ []) $ forget ! 0 refl $ free1 ! $ move ! (16 ∷ 17 ∷ []) $ forget ! 0 refl $ free1 ! $ move ! (14 ∷ 15 ∷ []) $ free1 ! $ move ! (12 ∷ 13 ∷ []) $ free1 ! $ move ! (10 ∷ 11 ∷ []) $ free1 ! $ move ! (8 ∷ 9 ∷ []) $ free1 ! $ free0 ! $ move ! (3 ∷ []) $ drop ! $ move ! (6 ∷ []) $ drop ! $ by ! (exits 18446744073709551615 (refl, lit< tt) (Facts.exit-3 register nodes c page x-first span height halved carried x-to (room·register .0) (room·nodes .0) (ok·c .1) (ok·page .1) (ok·x-first .1) (ok·span .1) (ok·height .1) (ok·halved .1) (ok·carried .1) (ok·x-to .1) need (is-false (leb height x-to) h·1) (nleb→lt height x-to h·1) (is-false (eqb c 0) h·2) (above-0 c h·2) ok·1 r2 (ok·2 .1) says·2 ok·3 (ok·4 .1) (ok·6 .1) (is-true (eqb (r6 register nodes c page x-first span height halved carried x-to r2) 18446744073709551615) h·3) (eqb→eq (r6 register nodes c page x-first span height halved carried x-to r2) 18446744073709551615 h·3))))
+      assigns ! (of-opd ! (neg-lit ! tt)) (from ! (stop !)) (init ! 50 refl (tt, record { fits = lit< tt })) $
+      returns-on ! (look ! 50 refl) $
+      move ! (50 ∷ 51 ∷ []) $ forget ! 0 refl $ free1 ! $ move ! (48 ∷ 49 ∷ []) $ forget ! 0 refl $ free1 ! $ move ! (46 ∷ 47 ∷ []) $ forget ! 0 refl $ free1 ! $ move ! (44 ∷ 45 ∷ []) $ forget ! 0 refl $ free1 ! $ move ! (42 ∷ 43 ∷ []) $ forget ! 0 refl $ free1 ! $ move ! (40 ∷ 41 ∷ []) $ forget ! 0 refl $ free1 ! $ move ! (38 ∷ 39 ∷ []) $ forget ! 0 refl $ free1 ! $ move ! (36 ∷ 37 ∷ []) $ forget ! 0 refl $ free1 ! $ move ! (34 ∷ 35 ∷ []) $ forget ! 0 refl $ free1 ! $ move ! (32 ∷ 33 ∷ []) $ forget ! 0 refl $ free1 ! $ move ! (30 ∷ 31 ∷ []) $ forget ! 0 refl $ free1 ! $ move ! (28 ∷ 29 ∷ []) $ forget ! 0 refl $ free1 ! $ move ! (26 ∷ 27 ∷ []) $ forget ! 0 refl $ free1 ! $ move ! (24 ∷ 25 ∷ []) $ forget ! 0 refl $ free1 ! $ move ! (22 ∷ 23 ∷ []) $ forget ! 0 refl $ free1 ! $ move ! (20 ∷ 21 ∷ []) $ forget ! 0 refl $ free1 ! $ move ! (18 ∷ 19 ∷ []) $ forget ! 0 refl $ free1 ! $ move ! (16 ∷ 17 ∷ []) $ forget ! 0 refl $ free1 ! $ move ! (14 ∷ 15 ∷ []) $ forget ! 0 refl $ free1 ! $ move ! (12 ∷ 13 ∷ []) $ free1 ! $ move ! (10 ∷ 11 ∷ []) $ free1 ! $ move ! (8 ∷ 9 ∷ []) $ free1 ! $ free0 ! $ move ! (3 ∷ []) $ drop ! $ move ! (6 ∷ []) $ drop ! $ by ! (exits 18446744073709551615 (refl, lit< tt) (Facts.exit-3 register nodes c page x-first span halved carried x-to (room·register .0) (room·nodes .0) (ok·c .1) (ok·page .1) (ok·x-first .1) (ok·span .1) (ok·halved .1) (ok·carried .1) (ok·x-to .1) need (is-false (leb span x-to) h·1) (nleb→lt span x-to h·1) (is-false (eqb c 0) h·2) (above-0 c h·2) ok·1 r2 (ok·2 .1) says·2 ok·3 (ok·4 .1) (ok·6 .1) (is-true (eqb (r6 register nodes c page x-first span halved carried x-to r2) 18446744073709551615) h·3) (eqb→eq (r6 register nodes c page x-first span halved carried x-to r2) 18446744073709551615 h·3))))
       (λ h·3. skips-on ! $
-      Call-on-to.calls ! mem run (fmOf 𝓤 H (W .laws) 𝓣) known-on-to (r5 register nodes c page x-first span height halved carried x-to r2) x-first (r4 register nodes c page x-first span height halved carried x-to r2) ok·5 ok·x-first ok·4 (Facts.on-to-1 register nodes c page x-first span height halved carried x-to (room·register .0) (room·nodes .0) (ok·c .1) (ok·page .1) (ok·x-first .1) (ok·span .1) (ok·height .1) (ok·halved .1) (ok·carried .1) (ok·x-to .1) need (is-false (leb height x-to) h·1) (nleb→lt height x-to h·1) (is-false (eqb c 0) h·2) (above-0 c h·2) ok·1 r2 (ok·2 .1) says·2 ok·3 (ok·4 .1) (ok·6 .1) (is-false (eqb (r6 register nodes c page x-first span height halved carried x-to r2) 18446744073709551615) h·3) (differ (r6 register nodes c page x-first span height halved carried x-to r2) 18446744073709551615 h·3)) (and-then ! (load ! (from ! (stop !)) (look ! 27 refl)) (and-then ! (load ! (from ! (stop !)) (look ! 45 refl)) (and-then ! (load ! (from ! (stop !)) (look ! 29 refl)) (no-more !))))
-      (λ ok·7. land ! (from ! (stop !)) (store ! 16 refl (tt, record { fits = ok·7 .1 })) $
-      here ! (‵ (flft κ₂·register q₂·register) ∷ ‵ (RefAt Record′.row κ₂·register b₂·register o₂·register γ₂·register κ·register b·register o·register γ·register register) ∷ ‵ (flft κ·register q·register) ∷ ‵ (ShrAt Record′.row κ·register b·register o·register γ·register (length register) register) ∷ ‵ (flft κ₂·nodes q₂·nodes) ∷ ‵ (RefAt u32 κ₂·nodes b₂·nodes o₂·nodes γ₂·nodes κ·nodes b·nodes o·nodes γ·nodes nodes) ∷ ‵ (flft κ·nodes q·nodes) ∷ ‵ (ShrAt u32 κ·nodes b·nodes o·nodes γ·nodes (length nodes) nodes) ∷ empty (tyInt w64) l₂₃ (empty (tyInt w64) l₂₂ (empty (tyInt w64) l₂₁ (empty (tyInt w64) l₂₀ (holds (tyInt w64) l₁₉ (vint w64 (r7 register nodes c page x-first span height halved carried x-to r2)) (holds (sliceTy (tyRef erased imm (pointee (u32 .written)))) l₁₈ (sliceVal (b·nodes, o·nodes) (length nodes)) (holds (sliceTy (tyRef erased imm (pointee (Record′.row .written)))) l₁₇ (sliceVal (b·register, o·register) (length register)) (holds tyBool l₁₆ (vbool (eqb (r6 register nodes c page x-first span height halved carried x-to r2) 18446744073709551615)) (holds (tyInt w64) l₁₅ (vint w64 (r6 register nodes c page x-first span height halved carried x-to r2)) (holds tyBool l₁₄ (vbool (r5 register nodes c page x-first span height halved carried x-to r2)) (holds (tyInt w64) l₁₃ (vint w64 (r4 register nodes c page x-first span height halved carried x-to r2)) (holds (tyAt (code.reach-function .locals) 12) l₁₂ (NodeAt′.mach (r3 register nodes c page x-first span height halved carried x-to r2)) (holds (tyAt (code.reach-function .locals) 11) l₁₁ (Part′.mach (r1 register nodes c page x-first span height halved carried x-to)) (holds (tyInt w64) l₁₀ (vint w64 x-to) (holds (tyInt w64) l₉ (vint w64 carried) (holds (tyInt w64) l₈ (vint w64 halved) (holds (tyInt w64) l₇ (vint w64 height) (holds (tyInt w64) l₆ (vint w64 span) (holds (tyInt w64) l₅ (vint w64 x-first) (holds (tyInt w64) l₄ (vint w64 page) (holds (tyInt w64) l₃ (vint w64 c) (holds (tyRef (named 2) imm (sliceTy (tyRef (named 3) imm (pointee (u32 .written))))) l₂ (vptr b₂·nodes o₂·nodes) (holds (tyRef (named 0) imm (sliceTy (tyRef (named 1) imm (pointee (Record′.row .written))))) l₁ (vptr b₂·register o₂·register) (empty (tyInt w64) l₀ [])))))))))))))))))))))))) $
-      Call-less-one.calls ! mem run (fmOf 𝓤 H (W .laws) 𝓣) known-less-one height ok·height (and-then ! (load ! (from ! (stop !)) (look ! 41 refl)) (no-more !))
-      (λ ok·8. land ! (from ! (stop !)) (init ! 14 refl (tt, record { fits = ok·8 .1 })) $
-      here ! (‵ (flft κ₂·register q₂·register) ∷ ‵ (RefAt Record′.row κ₂·register b₂·register o₂·register γ₂·register κ·register b·register o·register γ·register register) ∷ ‵ (flft κ·register q·register) ∷ ‵ (ShrAt Record′.row κ·register b·register o·register γ·register (length register) register) ∷ ‵ (flft κ₂·nodes q₂·nodes) ∷ ‵ (RefAt u32 κ₂·nodes b₂·nodes o₂·nodes γ₂·nodes κ·nodes b·nodes o·nodes γ·nodes nodes) ∷ ‵ (flft κ·nodes q·nodes) ∷ ‵ (ShrAt u32 κ·nodes b·nodes o·nodes γ·nodes (length nodes) nodes) ∷ empty (tyInt w64) l₂₃ (empty (tyInt w64) l₂₂ (empty (tyInt w64) l₂₁ (holds (tyInt w64) l₂₀ (vint w64 (r8 register nodes c page x-first span height halved carried x-to r2)) (holds (tyInt w64) l₁₉ (vint w64 (r7 register nodes c page x-first span height halved carried x-to r2)) (holds (sliceTy (tyRef erased imm (pointee (u32 .written)))) l₁₈ (sliceVal (b·nodes, o·nodes) (length nodes)) (holds (sliceTy (tyRef erased imm (pointee (Record′.row .written)))) l₁₇ (sliceVal (b·register, o·register) (length register)) (holds tyBool l₁₆ (vbool (eqb (r6 register nodes c page x-first span height halved carried x-to r2) 18446744073709551615)) (holds (tyInt w64) l₁₅ (vint w64 (r6 register nodes c page x-first span height halved carried x-to r2)) (holds tyBool l₁₄ (vbool (r5 register nodes c page x-first span height halved carried x-to r2)) (holds (tyInt w64) l₁₃ (vint w64 (r4 register nodes c page x-first span height halved carried x-to r2)) (holds (tyAt (code.reach-function .locals) 12) l₁₂ (NodeAt′.mach (r3 register nodes c page x-first span height halved carried x-to r2)) (holds (tyAt (code.reach-function .locals) 11) l₁₁ (Part′.mach (r1 register nodes c page x-first span height halved carried x-to)) (holds (tyInt w64) l₁₀ (vint w64 x-to) (holds (tyInt w64) l₉ (vint w64 carried) (holds (tyInt w64) l₈ (vint w64 halved) (holds (tyInt w64) l₇ (vint w64 height) (holds (tyInt w64) l₆ (vint w64 span) (holds (tyInt w64) l₅ (vint w64 x-first) (holds (tyInt w64) l₄ (vint w64 page) (holds (tyInt w64) l₃ (vint w64 c) (holds (tyRef (named 2) imm (sliceTy (tyRef (named 3) imm (pointee (u32 .written))))) l₂ (vptr b₂·nodes o₂·nodes) (holds (tyRef (named 0) imm (sliceTy (tyRef (named 1) imm (pointee (Record′.row .written))))) l₁ (vptr b₂·register o₂·register) (empty (tyInt w64) l₀ [])))))))))))))))))))))))) $
-      Call-less-one.calls ! mem run (fmOf 𝓤 H (W .laws) 𝓣) known-less-one span ok·span (and-then ! (load ! (from ! (stop !)) (look ! 43 refl)) (no-more !))
-      (λ ok·9. land ! (from ! (stop !)) (init ! 10 refl (tt, record { fits = ok·9 .1 })) $
-      here ! (‵ (flft κ₂·register q₂·register) ∷ ‵ (RefAt Record′.row κ₂·register b₂·register o₂·register γ₂·register κ·register b·register o·register γ·register register) ∷ ‵ (flft κ·register q·register) ∷ ‵ (ShrAt Record′.row κ·register b·register o·register γ·register (length register) register) ∷ ‵ (flft κ₂·nodes q₂·nodes) ∷ ‵ (RefAt u32 κ₂·nodes b₂·nodes o₂·nodes γ₂·nodes κ·nodes b·nodes o·nodes γ·nodes nodes) ∷ ‵ (flft κ·nodes q·nodes) ∷ ‵ (ShrAt u32 κ·nodes b·nodes o·nodes γ·nodes (length nodes) nodes) ∷ empty (tyInt w64) l₂₃ (holds (tyInt w64) l₂₂ (vint w64 (r9 register nodes c page x-first span height halved carried x-to r2)) (empty (tyInt w64) l₂₁ (holds (tyInt w64) l₂₀ (vint w64 (r8 register nodes c page x-first span height halved carried x-to r2)) (holds (tyInt w64) l₁₉ (vint w64 (r7 register nodes c page x-first span height halved carried x-to r2)) (holds (sliceTy (tyRef erased imm (pointee (u32 .written)))) l₁₈ (sliceVal (b·nodes, o·nodes) (length nodes)) (holds (sliceTy (tyRef erased imm (pointee (Record′.row .written)))) l₁₇ (sliceVal (b·register, o·register) (length register)) (holds tyBool l₁₆ (vbool (eqb (r6 register nodes c page x-first span height halved carried x-to r2) 18446744073709551615)) (holds (tyInt w64) l₁₅ (vint w64 (r6 register nodes c page x-first span height halved carried x-to r2)) (holds tyBool l₁₄ (vbool (r5 register nodes c page x-first span height halved carried x-to r2)) (holds (tyInt w64) l₁₃ (vint w64 (r4 register nodes c page x-first span height halved carried x-to r2)) (holds (tyAt (code.reach-function .locals) 12) l₁₂ (NodeAt′.mach (r3 register nodes c page x-first span height halved carried x-to r2)) (holds (tyAt (code.reach-function .locals) 11) l₁₁ (Part′.mach (r1 register nodes c page x-first span height halved carried x-to)) (holds (tyInt w64) l₁₀ (vint w64 x-to) (holds (tyInt w64) l₉ (vint w64 carried) (holds (tyInt w64) l₈ (vint w64 halved) (holds (tyInt w64) l₇ (vint w64 height) (holds (tyInt w64) l₆ (vint w64 span) (holds (tyInt w64) l₅ (vint w64 x-first) (holds (tyInt w64) l₄ (vint w64 page) (holds (tyInt w64) l₃ (vint w64 c) (holds (tyRef (named 2) imm (sliceTy (tyRef (named 3) imm (pointee (u32 .written))))) l₂ (vptr b₂·nodes o₂·nodes) (holds (tyRef (named 0) imm (sliceTy (tyRef (named 1) imm (pointee (Record′.row .written))))) l₁ (vptr b₂·register o₂·register) (empty (tyInt w64) l₀ [])))))))))))))))))))))))) $
-      Call-on-to.calls ! mem run (fmOf 𝓤 H (W .laws) 𝓣) known-on-to (r5 register nodes c page x-first span height halved carried x-to r2) halved (r9 register nodes c page x-first span height halved carried x-to r2) ok·5 ok·halved ok·9 (Facts.on-to-2 register nodes c page x-first span height halved carried x-to (room·register .0) (room·nodes .0) (ok·c .1) (ok·page .1) (ok·x-first .1) (ok·span .1) (ok·height .1) (ok·halved .1) (ok·carried .1) (ok·x-to .1) need (is-false (leb height x-to) h·1) (nleb→lt height x-to h·1) (is-false (eqb c 0) h·2) (above-0 c h·2) ok·1 r2 (ok·2 .1) says·2 ok·3 (ok·4 .1) (ok·6 .1) (is-false (eqb (r6 register nodes c page x-first span height halved carried x-to r2) 18446744073709551615) h·3) (differ (r6 register nodes c page x-first span height halved carried x-to r2) 18446744073709551615 h·3) (ok·7 .1) (ok·8 .1) (ok·9 .1)) (and-then ! (load ! (from ! (stop !)) (look ! 27 refl)) (and-then ! (load ! (from ! (stop !)) (look ! 39 refl)) (and-then ! (load ! (from ! (stop !)) (look ! 11 refl)) (no-more !))))
-      (λ ok·10. land ! (from ! (stop !)) (init ! 12 refl (tt, record { fits = ok·10 .1 })) $
-      here ! (‵ (flft κ₂·register q₂·register) ∷ ‵ (RefAt Record′.row κ₂·register b₂·register o₂·register γ₂·register κ·register b·register o·register γ·register register) ∷ ‵ (flft κ·register q·register) ∷ ‵ (ShrAt Record′.row κ·register b·register o·register γ·register (length register) register) ∷ ‵ (flft κ₂·nodes q₂·nodes) ∷ ‵ (RefAt u32 κ₂·nodes b₂·nodes o₂·nodes γ₂·nodes κ·nodes b·nodes o·nodes γ·nodes nodes) ∷ ‵ (flft κ·nodes q·nodes) ∷ ‵ (ShrAt u32 κ·nodes b·nodes o·nodes γ·nodes (length nodes) nodes) ∷ empty (tyInt w64) l₂₃ (holds (tyInt w64) l₂₂ (vint w64 (r9 register nodes c page x-first span height halved carried x-to r2)) (holds (tyInt w64) l₂₁ (vint w64 (r10 register nodes c page x-first span height halved carried x-to r2)) (holds (tyInt w64) l₂₀ (vint w64 (r8 register nodes c page x-first span height halved carried x-to r2)) (holds (tyInt w64) l₁₉ (vint w64 (r7 register nodes c page x-first span height halved carried x-to r2)) (holds (sliceTy (tyRef erased imm (pointee (u32 .written)))) l₁₈ (sliceVal (b·nodes, o·nodes) (length nodes)) (holds (sliceTy (tyRef erased imm (pointee (Record′.row .written)))) l₁₇ (sliceVal (b·register, o·register) (length register)) (holds tyBool l₁₆ (vbool (eqb (r6 register nodes c page x-first span height halved carried x-to r2) 18446744073709551615)) (holds (tyInt w64) l₁₅ (vint w64 (r6 register nodes c page x-first span height halved carried x-to r2)) (holds tyBool l₁₄ (vbool (r5 register nodes c page x-first span height halved carried x-to r2)) (holds (tyInt w64) l₁₃ (vint w64 (r4 register nodes c page x-first span height halved carried x-to r2)) (holds (tyAt (code.reach-function .locals) 12) l₁₂ (NodeAt′.mach (r3 register nodes c page x-first span height halved carried x-to r2)) (holds (tyAt (code.reach-function .locals) 11) l₁₁ (Part′.mach (r1 register nodes c page x-first span height halved carried x-to)) (holds (tyInt w64) l₁₀ (vint w64 x-to) (holds (tyInt w64) l₉ (vint w64 carried) (holds (tyInt w64) l₈ (vint w64 halved) (holds (tyInt w64) l₇ (vint w64 height) (holds (tyInt w64) l₆ (vint w64 span) (holds (tyInt w64) l₅ (vint w64 x-first) (holds (tyInt w64) l₄ (vint w64 page) (holds (tyInt w64) l₃ (vint w64 c) (holds (tyRef (named 2) imm (sliceTy (tyRef (named 3) imm (pointee (u32 .written))))) l₂ (vptr b₂·nodes o₂·nodes) (holds (tyRef (named 0) imm (sliceTy (tyRef (named 1) imm (pointee (Record′.row .written))))) l₁ (vptr b₂·register o₂·register) (empty (tyInt w64) l₀ [])))))))))))))))))))))))) $
-      Call-carried-on.calls ! mem run (fmOf 𝓤 H (W .laws) 𝓣) known-carried-on (r5 register nodes c page x-first span height halved carried x-to r2) carried span ok·5 ok·carried ok·span (and-then ! (load ! (from ! (stop !)) (look ! 27 refl)) (and-then ! (load ! (from ! (stop !)) (look ! 37 refl)) (and-then ! (load ! (from ! (stop !)) (look ! 43 refl)) (no-more !))))
-      (λ ok·11. land ! (from ! (stop !)) (init ! 8 refl (tt, record { fits = ok·11 .1 })) $
-      here ! (‵ (flft κ₂·register q₂·register) ∷ ‵ (RefAt Record′.row κ₂·register b₂·register o₂·register γ₂·register κ·register b·register o·register γ·register register) ∷ ‵ (flft κ·register q·register) ∷ ‵ (ShrAt Record′.row κ·register b·register o·register γ·register (length register) register) ∷ ‵ (flft κ₂·nodes q₂·nodes) ∷ ‵ (RefAt u32 κ₂·nodes b₂·nodes o₂·nodes γ₂·nodes κ·nodes b·nodes o·nodes γ·nodes nodes) ∷ ‵ (flft κ·nodes q·nodes) ∷ ‵ (ShrAt u32 κ·nodes b·nodes o·nodes γ·nodes (length nodes) nodes) ∷ holds (tyInt w64) l₂₃ (vint w64 (r11 register nodes c page x-first span height halved carried x-to r2)) (holds (tyInt w64) l₂₂ (vint w64 (r9 register nodes c page x-first span height halved carried x-to r2)) (holds (tyInt w64) l₂₁ (vint w64 (r10 register nodes c page x-first span height halved carried x-to r2)) (holds (tyInt w64) l₂₀ (vint w64 (r8 register nodes c page x-first span height halved carried x-to r2)) (holds (tyInt w64) l₁₉ (vint w64 (r7 register nodes c page x-first span height halved carried x-to r2)) (holds (sliceTy (tyRef erased imm (pointee (u32 .written)))) l₁₈ (sliceVal (b·nodes, o·nodes) (length nodes)) (holds (sliceTy (tyRef erased imm (pointee (Record′.row .written)))) l₁₇ (sliceVal (b·register, o·register) (length register)) (holds tyBool l₁₆ (vbool (eqb (r6 register nodes c page x-first span height halved carried x-to r2) 18446744073709551615)) (holds (tyInt w64) l₁₅ (vint w64 (r6 register nodes c page x-first span height halved carried x-to r2)) (holds tyBool l₁₄ (vbool (r5 register nodes c page x-first span height halved carried x-to r2)) (holds (tyInt w64) l₁₃ (vint w64 (r4 register nodes c page x-first span height halved carried x-to r2)) (holds (tyAt (code.reach-function .locals) 12) l₁₂ (NodeAt′.mach (r3 register nodes c page x-first span height halved carried x-to r2)) (holds (tyAt (code.reach-function .locals) 11) l₁₁ (Part′.mach (r1 register nodes c page x-first span height halved carried x-to)) (holds (tyInt w64) l₁₀ (vint w64 x-to) (holds (tyInt w64) l₉ (vint w64 carried) (holds (tyInt w64) l₈ (vint w64 halved) (holds (tyInt w64) l₇ (vint w64 height) (holds (tyInt w64) l₆ (vint w64 span) (holds (tyInt w64) l₅ (vint w64 x-first) (holds (tyInt w64) l₄ (vint w64 page) (holds (tyInt w64) l₃ (vint w64 c) (holds (tyRef (named 2) imm (sliceTy (tyRef (named 3) imm (pointee (u32 .written))))) l₂ (vptr b₂·nodes o₂·nodes) (holds (tyRef (named 0) imm (sliceTy (tyRef (named 1) imm (pointee (Record′.row .written))))) l₁ (vptr b₂·register o₂·register) (empty (tyInt w64) l₀ [])))))))))))))))))))))))) $
+      Call-on-to.calls ! mem run (fmOf 𝓤 H (W .laws) 𝓣) known-on-to (r5 register nodes c page x-first span halved carried x-to r2) x-first (r4 register nodes c page x-first span halved carried x-to r2) ok·5 ok·x-first ok·4 (Facts.on-to-1 register nodes c page x-first span halved carried x-to (room·register .0) (room·nodes .0) (ok·c .1) (ok·page .1) (ok·x-first .1) (ok·span .1) (ok·halved .1) (ok·carried .1) (ok·x-to .1) need (is-false (leb span x-to) h·1) (nleb→lt span x-to h·1) (is-false (eqb c 0) h·2) (above-0 c h·2) ok·1 r2 (ok·2 .1) says·2 ok·3 (ok·4 .1) (ok·6 .1) (is-false (eqb (r6 register nodes c page x-first span halved carried x-to r2) 18446744073709551615) h·3) (differ (r6 register nodes c page x-first span halved carried x-to r2) 18446744073709551615 h·3)) (and-then ! (load ! (from ! (stop !)) (look ! 25 refl)) (and-then ! (load ! (from ! (stop !)) (look ! 41 refl)) (and-then ! (load ! (from ! (stop !)) (look ! 27 refl)) (no-more !))))
+      (λ ok·7. land ! (from ! (stop !)) (store ! 14 refl (tt, record { fits = ok·7 .1 })) $
+      here ! (‵ (flft κ₂·register q₂·register) ∷ ‵ (RefAt Record′.row κ₂·register b₂·register o₂·register γ₂·register κ·register b·register o·register γ·register register) ∷ ‵ (flft κ·register q·register) ∷ ‵ (ShrAt Record′.row κ·register b·register o·register γ·register (length register) register) ∷ ‵ (flft κ₂·nodes q₂·nodes) ∷ ‵ (RefAt u32 κ₂·nodes b₂·nodes o₂·nodes γ₂·nodes κ·nodes b·nodes o·nodes γ·nodes nodes) ∷ ‵ (flft κ·nodes q·nodes) ∷ ‵ (ShrAt u32 κ·nodes b·nodes o·nodes γ·nodes (length nodes) nodes) ∷ empty (tyInt w64) l₂₁ (empty (tyInt w64) l₂₀ (empty (tyInt w64) l₁₉ (holds (tyInt w64) l₁₈ (vint w64 (r7 register nodes c page x-first span halved carried x-to r2)) (holds (sliceTy (tyRef erased imm (pointee (u32 .written)))) l₁₇ (sliceVal (b·nodes, o·nodes) (length nodes)) (holds (sliceTy (tyRef erased imm (pointee (Record′.row .written)))) l₁₆ (sliceVal (b·register, o·register) (length register)) (holds tyBool l₁₅ (vbool (eqb (r6 register nodes c page x-first span halved carried x-to r2) 18446744073709551615)) (holds (tyInt w64) l₁₄ (vint w64 (r6 register nodes c page x-first span halved carried x-to r2)) (holds tyBool l₁₃ (vbool (r5 register nodes c page x-first span halved carried x-to r2)) (holds (tyInt w64) l₁₂ (vint w64 (r4 register nodes c page x-first span halved carried x-to r2)) (holds (tyAt (code.reach-function .locals) 11) l₁₁ (NodeAt′.mach (r3 register nodes c page x-first span halved carried x-to r2)) (holds (tyAt (code.reach-function .locals) 10) l₁₀ (Part′.mach (r1 register nodes c page x-first span halved carried x-to)) (holds (tyInt w64) l₉ (vint w64 x-to) (holds (tyInt w64) l₈ (vint w64 carried) (holds (tyInt w64) l₇ (vint w64 halved) (holds (tyInt w64) l₆ (vint w64 span) (holds (tyInt w64) l₅ (vint w64 x-first) (holds (tyInt w64) l₄ (vint w64 page) (holds (tyInt w64) l₃ (vint w64 c) (holds (tyRef (named 2) imm (sliceTy (tyRef (named 3) imm (pointee (u32 .written))))) l₂ (vptr b₂·nodes o₂·nodes) (holds (tyRef (named 0) imm (sliceTy (tyRef (named 1) imm (pointee (Record′.row .written))))) l₁ (vptr b₂·register o₂·register) (empty (tyInt w64) l₀ [])))))))))))))))))))))) $
+      Call-less-one.calls ! mem run (fmOf 𝓤 H (W .laws) 𝓣) known-less-one span ok·span (and-then ! (load ! (from ! (stop !)) (look ! 39 refl)) (no-more !))
+      (λ ok·8. land ! (from ! (stop !)) (init ! 10 refl (tt, record { fits = ok·8 .1 })) $
+      here ! (‵ (flft κ₂·register q₂·register) ∷ ‵ (RefAt Record′.row κ₂·register b₂·register o₂·register γ₂·register κ·register b·register o·register γ·register register) ∷ ‵ (flft κ·register q·register) ∷ ‵ (ShrAt Record′.row κ·register b·register o·register γ·register (length register) register) ∷ ‵ (flft κ₂·nodes q₂·nodes) ∷ ‵ (RefAt u32 κ₂·nodes b₂·nodes o₂·nodes γ₂·nodes κ·nodes b·nodes o·nodes γ·nodes nodes) ∷ ‵ (flft κ·nodes q·nodes) ∷ ‵ (ShrAt u32 κ·nodes b·nodes o·nodes γ·nodes (length nodes) nodes) ∷ empty (tyInt w64) l₂₁ (holds (tyInt w64) l₂₀ (vint w64 (r8 register nodes c page x-first span halved carried x-to r2)) (empty (tyInt w64) l₁₉ (holds (tyInt w64) l₁₈ (vint w64 (r7 register nodes c page x-first span halved carried x-to r2)) (holds (sliceTy (tyRef erased imm (pointee (u32 .written)))) l₁₇ (sliceVal (b·nodes, o·nodes) (length nodes)) (holds (sliceTy (tyRef erased imm (pointee (Record′.row .written)))) l₁₆ (sliceVal (b·register, o·register) (length register)) (holds tyBool l₁₅ (vbool (eqb (r6 register nodes c page x-first span halved carried x-to r2) 18446744073709551615)) (holds (tyInt w64) l₁₄ (vint w64 (r6 register nodes c page x-first span halved carried x-to r2)) (holds tyBool l₁₃ (vbool (r5 register nodes c page x-first span halved carried x-to r2)) (holds (tyInt w64) l₁₂ (vint w64 (r4 register nodes c page x-first span halved carried x-to r2)) (holds (tyAt (code.reach-function .locals) 11) l₁₁ (NodeAt′.mach (r3 register nodes c page x-first span halved carried x-to r2)) (holds (tyAt (code.reach-function .locals) 10) l₁₀ (Part′.mach (r1 register nodes c page x-first span halved carried x-to)) (holds (tyInt w64) l₉ (vint w64 x-to) (holds (tyInt w64) l₈ (vint w64 carried) (holds (tyInt w64) l₇ (vint w64 halved) (holds (tyInt w64) l₆ (vint w64 span) (holds (tyInt w64) l₅ (vint w64 x-first) (holds (tyInt w64) l₄ (vint w64 page) (holds (tyInt w64) l₃ (vint w64 c) (holds (tyRef (named 2) imm (sliceTy (tyRef (named 3) imm (pointee (u32 .written))))) l₂ (vptr b₂·nodes o₂·nodes) (holds (tyRef (named 0) imm (sliceTy (tyRef (named 1) imm (pointee (Record′.row .written))))) l₁ (vptr b₂·register o₂·register) (empty (tyInt w64) l₀ [])))))))))))))))))))))) $
+      Call-on-to.calls ! mem run (fmOf 𝓤 H (W .laws) 𝓣) known-on-to (r5 register nodes c page x-first span halved carried x-to r2) halved (r8 register nodes c page x-first span halved carried x-to r2) ok·5 ok·halved ok·8 (Facts.on-to-2 register nodes c page x-first span halved carried x-to (room·register .0) (room·nodes .0) (ok·c .1) (ok·page .1) (ok·x-first .1) (ok·span .1) (ok·halved .1) (ok·carried .1) (ok·x-to .1) need (is-false (leb span x-to) h·1) (nleb→lt span x-to h·1) (is-false (eqb c 0) h·2) (above-0 c h·2) ok·1 r2 (ok·2 .1) says·2 ok·3 (ok·4 .1) (ok·6 .1) (is-false (eqb (r6 register nodes c page x-first span halved carried x-to r2) 18446744073709551615) h·3) (differ (r6 register nodes c page x-first span halved carried x-to r2) 18446744073709551615 h·3) (ok·7 .1) (ok·8 .1)) (and-then ! (load ! (from ! (stop !)) (look ! 25 refl)) (and-then ! (load ! (from ! (stop !)) (look ! 37 refl)) (and-then ! (load ! (from ! (stop !)) (look ! 11 refl)) (no-more !))))
+      (λ ok·9. land ! (from ! (stop !)) (init ! 12 refl (tt, record { fits = ok·9 .1 })) $
+      here ! (‵ (flft κ₂·register q₂·register) ∷ ‵ (RefAt Record′.row κ₂·register b₂·register o₂·register γ₂·register κ·register b·register o·register γ·register register) ∷ ‵ (flft κ·register q·register) ∷ ‵ (ShrAt Record′.row κ·register b·register o·register γ·register (length register) register) ∷ ‵ (flft κ₂·nodes q₂·nodes) ∷ ‵ (RefAt u32 κ₂·nodes b₂·nodes o₂·nodes γ₂·nodes κ·nodes b·nodes o·nodes γ·nodes nodes) ∷ ‵ (flft κ·nodes q·nodes) ∷ ‵ (ShrAt u32 κ·nodes b·nodes o·nodes γ·nodes (length nodes) nodes) ∷ empty (tyInt w64) l₂₁ (holds (tyInt w64) l₂₀ (vint w64 (r8 register nodes c page x-first span halved carried x-to r2)) (holds (tyInt w64) l₁₉ (vint w64 (r9 register nodes c page x-first span halved carried x-to r2)) (holds (tyInt w64) l₁₈ (vint w64 (r7 register nodes c page x-first span halved carried x-to r2)) (holds (sliceTy (tyRef erased imm (pointee (u32 .written)))) l₁₇ (sliceVal (b·nodes, o·nodes) (length nodes)) (holds (sliceTy (tyRef erased imm (pointee (Record′.row .written)))) l₁₆ (sliceVal (b·register, o·register) (length register)) (holds tyBool l₁₅ (vbool (eqb (r6 register nodes c page x-first span halved carried x-to r2) 18446744073709551615)) (holds (tyInt w64) l₁₄ (vint w64 (r6 register nodes c page x-first span halved carried x-to r2)) (holds tyBool l₁₃ (vbool (r5 register nodes c page x-first span halved carried x-to r2)) (holds (tyInt w64) l₁₂ (vint w64 (r4 register nodes c page x-first span halved carried x-to r2)) (holds (tyAt (code.reach-function .locals) 11) l₁₁ (NodeAt′.mach (r3 register nodes c page x-first span halved carried x-to r2)) (holds (tyAt (code.reach-function .locals) 10) l₁₀ (Part′.mach (r1 register nodes c page x-first span halved carried x-to)) (holds (tyInt w64) l₉ (vint w64 x-to) (holds (tyInt w64) l₈ (vint w64 carried) (holds (tyInt w64) l₇ (vint w64 halved) (holds (tyInt w64) l₆ (vint w64 span) (holds (tyInt w64) l₅ (vint w64 x-first) (holds (tyInt w64) l₄ (vint w64 page) (holds (tyInt w64) l₃ (vint w64 c) (holds (tyRef (named 2) imm (sliceTy (tyRef (named 3) imm (pointee (u32 .written))))) l₂ (vptr b₂·nodes o₂·nodes) (holds (tyRef (named 0) imm (sliceTy (tyRef (named 1) imm (pointee (Record′.row .written))))) l₁ (vptr b₂·register o₂·register) (empty (tyInt w64) l₀ [])))))))))))))))))))))) $
+      Call-carried-on.calls ! mem run (fmOf 𝓤 H (W .laws) 𝓣) known-carried-on (r5 register nodes c page x-first span halved carried x-to r2) carried span ok·5 ok·carried ok·span (and-then ! (load ! (from ! (stop !)) (look ! 25 refl)) (and-then ! (load ! (from ! (stop !)) (look ! 35 refl)) (and-then ! (load ! (from ! (stop !)) (look ! 39 refl)) (no-more !))))
+      (λ ok·10. land ! (from ! (stop !)) (init ! 8 refl (tt, record { fits = ok·10 .1 })) $
+      here ! (‵ (flft κ₂·register q₂·register) ∷ ‵ (RefAt Record′.row κ₂·register b₂·register o₂·register γ₂·register κ·register b·register o·register γ·register register) ∷ ‵ (flft κ·register q·register) ∷ ‵ (ShrAt Record′.row κ·register b·register o·register γ·register (length register) register) ∷ ‵ (flft κ₂·nodes q₂·nodes) ∷ ‵ (RefAt u32 κ₂·nodes b₂·nodes o₂·nodes γ₂·nodes κ·nodes b·nodes o·nodes γ·nodes nodes) ∷ ‵ (flft κ·nodes q·nodes) ∷ ‵ (ShrAt u32 κ·nodes b·nodes o·nodes γ·nodes (length nodes) nodes) ∷ holds (tyInt w64) l₂₁ (vint w64 (r10 register nodes c page x-first span halved carried x-to r2)) (holds (tyInt w64) l₂₀ (vint w64 (r8 register nodes c page x-first span halved carried x-to r2)) (holds (tyInt w64) l₁₉ (vint w64 (r9 register nodes c page x-first span halved carried x-to r2)) (holds (tyInt w64) l₁₈ (vint w64 (r7 register nodes c page x-first span halved carried x-to r2)) (holds (sliceTy (tyRef erased imm (pointee (u32 .written)))) l₁₇ (sliceVal (b·nodes, o·nodes) (length nodes)) (holds (sliceTy (tyRef erased imm (pointee (Record′.row .written)))) l₁₆ (sliceVal (b·register, o·register) (length register)) (holds tyBool l₁₅ (vbool (eqb (r6 register nodes c page x-first span halved carried x-to r2) 18446744073709551615)) (holds (tyInt w64) l₁₄ (vint w64 (r6 register nodes c page x-first span halved carried x-to r2)) (holds tyBool l₁₃ (vbool (r5 register nodes c page x-first span halved carried x-to r2)) (holds (tyInt w64) l₁₂ (vint w64 (r4 register nodes c page x-first span halved carried x-to r2)) (holds (tyAt (code.reach-function .locals) 11) l₁₁ (NodeAt′.mach (r3 register nodes c page x-first span halved carried x-to r2)) (holds (tyAt (code.reach-function .locals) 10) l₁₀ (Part′.mach (r1 register nodes c page x-first span halved carried x-to)) (holds (tyInt w64) l₉ (vint w64 x-to) (holds (tyInt w64) l₈ (vint w64 carried) (holds (tyInt w64) l₇ (vint w64 halved) (holds (tyInt w64) l₆ (vint w64 span) (holds (tyInt w64) l₅ (vint w64 x-first) (holds (tyInt w64) l₄ (vint w64 page) (holds (tyInt w64) l₃ (vint w64 c) (holds (tyRef (named 2) imm (sliceTy (tyRef (named 3) imm (pointee (u32 .written))))) l₂ (vptr b₂·nodes o₂·nodes) (holds (tyRef (named 0) imm (sliceTy (tyRef (named 1) imm (pointee (Record′.row .written))))) l₁ (vptr b₂·register o₂·register) (empty (tyInt w64) l₀ [])))))))))))))))))))))) $
       move ! (0 ∷ 1 ∷ 2 ∷ 4 ∷ 5 ∷ 6 ∷ []) $
-      Call-reach.calls-by ! mem run (fmOf 𝓤 H (W .laws) 𝓣) κ₂·register q₂·register b₂·register o₂·register γ₂·register κ·register q·register b·register o·register γ·register register long·register κ₂·nodes q₂·nodes b₂·nodes o₂·nodes γ₂·nodes κ·nodes q·nodes b·nodes o·nodes γ·nodes nodes long·nodes (r6 register nodes c page x-first span height halved carried x-to r2) page (r7 register nodes c page x-first span height halved carried x-to r2) (r4 register nodes c page x-first span height halved carried x-to r2) (r8 register nodes c page x-first span height halved carried x-to r2) (r10 register nodes c page x-first span height halved carried x-to r2) (r11 register nodes c page x-first span height halved carried x-to r2) x-to (known-self (Call-reach.to 𝓤 H A mem run κ₂·register q₂·register b₂·register o₂·register γ₂·register κ·register q·register b·register o·register γ·register register long·register κ₂·nodes q₂·nodes b₂·nodes o₂·nodes γ₂·nodes κ·nodes q·nodes b·nodes o·nodes γ·nodes nodes long·nodes (r6 register nodes c page x-first span height halved carried x-to r2) page (r7 register nodes c page x-first span height halved carried x-to r2) (r4 register nodes c page x-first span height halved carried x-to r2) (r8 register nodes c page x-first span height halved carried x-to r2) (r10 register nodes c page x-first span height halved carried x-to r2) (r11 register nodes c page x-first span height halved carried x-to r2) x-to) (Facts.smaller-1 register nodes c page x-first span height halved carried x-to (room·register .0) (room·nodes .0) (ok·c .1) (ok·page .1) (ok·x-first .1) (ok·span .1) (ok·height .1) (ok·halved .1) (ok·carried .1) (ok·x-to .1) need (is-false (leb height x-to) h·1) (nleb→lt height x-to h·1) (is-false (eqb c 0) h·2) (above-0 c h·2) ok·1 r2 (ok·2 .1) says·2 ok·3 (ok·4 .1) (ok·6 .1) (is-false (eqb (r6 register nodes c page x-first span height halved carried x-to r2) 18446744073709551615) h·3) (differ (r6 register nodes c page x-first span height halved carried x-to r2) 18446744073709551615 h·3) (ok·7 .1) (ok·8 .1) (ok·9 .1) (ok·10 .1) (ok·11 .1))) ok·6 ok·page ok·7 ok·4 ok·8 ok·10 ok·11 ok·x-to (Facts.reach-1 register nodes c page x-first span height halved carried x-to (room·register .0) (room·nodes .0) (ok·c .1) (ok·page .1) (ok·x-first .1) (ok·span .1) (ok·height .1) (ok·halved .1) (ok·carried .1) (ok·x-to .1) need (is-false (leb height x-to) h·1) (nleb→lt height x-to h·1) (is-false (eqb c 0) h·2) (above-0 c h·2) ok·1 r2 (ok·2 .1) says·2 ok·3 (ok·4 .1) (ok·6 .1) (is-false (eqb (r6 register nodes c page x-first span height halved carried x-to r2) 18446744073709551615) h·3) (differ (r6 register nodes c page x-first span height halved carried x-to r2) 18446744073709551615 h·3) (ok·7 .1) (ok·8 .1) (ok·9 .1) (ok·10 .1) (ok·11 .1)) (and-then ! (load ! (from ! (stop !)) (look ! 49 refl)) (and-then ! (load ! (from ! (stop !)) (look ! 47 refl)) (and-then ! (load ! (from ! (stop !)) (look ! 21 refl)) (and-then ! (load ! (from ! (stop !)) (look ! 43 refl)) (and-then ! (load ! (from ! (stop !)) (look ! 13 refl)) (and-then ! (load ! (from ! (stop !)) (look ! 25 refl)) (and-then ! (load ! (from ! (stop !)) (look ! 11 refl)) (and-then ! (load ! (from ! (stop !)) (look ! 9 refl)) (and-then ! (load ! (from ! (stop !)) (look ! 5 refl)) (and-then ! (load ! (from ! (stop !)) (look ! 31 refl)) (no-more !)))))))))))
-      (λ ok·12. move ! (0 ∷ 1 ∷ 2 ∷ 6 ∷ 3 ∷ 4 ∷ 5 ∷ 7 ∷ []) $ land ! (from ! (stop !)) (init ! 54 refl (tt, record { fits = ok·12 .1 })) $
-      here ! (‵ (flft κ₂·register q₂·register) ∷ ‵ (RefAt Record′.row κ₂·register b₂·register o₂·register γ₂·register κ·register b·register o·register γ·register register) ∷ ‵ (flft κ·register q·register) ∷ ‵ (ShrAt Record′.row κ·register b·register o·register γ·register (length register) register) ∷ ‵ (flft κ₂·nodes q₂·nodes) ∷ ‵ (RefAt u32 κ₂·nodes b₂·nodes o₂·nodes γ₂·nodes κ·nodes b·nodes o·nodes γ·nodes nodes) ∷ ‵ (flft κ·nodes q·nodes) ∷ ‵ (ShrAt u32 κ·nodes b·nodes o·nodes γ·nodes (length nodes) nodes) ∷ holds (tyInt w64) l₂₃ (vint w64 (r11 register nodes c page x-first span height halved carried x-to r2)) (holds (tyInt w64) l₂₂ (vint w64 (r9 register nodes c page x-first span height halved carried x-to r2)) (holds (tyInt w64) l₂₁ (vint w64 (r10 register nodes c page x-first span height halved carried x-to r2)) (holds (tyInt w64) l₂₀ (vint w64 (r8 register nodes c page x-first span height halved carried x-to r2)) (holds (tyInt w64) l₁₉ (vint w64 (r7 register nodes c page x-first span height halved carried x-to r2)) (holds (sliceTy (tyRef erased imm (pointee (u32 .written)))) l₁₈ (sliceVal (b·nodes, o·nodes) (length nodes)) (holds (sliceTy (tyRef erased imm (pointee (Record′.row .written)))) l₁₇ (sliceVal (b·register, o·register) (length register)) (holds tyBool l₁₆ (vbool (eqb (r6 register nodes c page x-first span height halved carried x-to r2) 18446744073709551615)) (holds (tyInt w64) l₁₅ (vint w64 (r6 register nodes c page x-first span height halved carried x-to r2)) (holds tyBool l₁₄ (vbool (r5 register nodes c page x-first span height halved carried x-to r2)) (holds (tyInt w64) l₁₃ (vint w64 (r4 register nodes c page x-first span height halved carried x-to r2)) (holds (tyAt (code.reach-function .locals) 12) l₁₂ (NodeAt′.mach (r3 register nodes c page x-first span height halved carried x-to r2)) (holds (tyAt (code.reach-function .locals) 11) l₁₁ (Part′.mach (r1 register nodes c page x-first span height halved carried x-to)) (holds (tyInt w64) l₁₀ (vint w64 x-to) (holds (tyInt w64) l₉ (vint w64 carried) (holds (tyInt w64) l₈ (vint w64 halved) (holds (tyInt w64) l₇ (vint w64 height) (holds (tyInt w64) l₆ (vint w64 span) (holds (tyInt w64) l₅ (vint w64 x-first) (holds (tyInt w64) l₄ (vint w64 page) (holds (tyInt w64) l₃ (vint w64 c) (holds (tyRef (named 2) imm (sliceTy (tyRef (named 3) imm (pointee (u32 .written))))) l₂ (vptr b₂·nodes o₂·nodes) (holds (tyRef (named 0) imm (sliceTy (tyRef (named 1) imm (pointee (Record′.row .written))))) l₁ (vptr b₂·register o₂·register) (holds (tyInt w64) l₀ (vint w64 (r12 register nodes c page x-first span height halved carried x-to r2)) [])))))))))))))))))))))))) $
-      returns ! (look ! 54 refl) $
-      move ! (54 ∷ 55 ∷ []) $ forget ! 0 refl $ free1 ! $ move ! (52 ∷ 53 ∷ []) $ forget ! 0 refl $ free1 ! $ move ! (50 ∷ 51 ∷ []) $ forget ! 0 refl $ free1 ! $ move ! (48 ∷ 49 ∷ []) $ forget ! 0 refl $ free1 ! $ move ! (46 ∷ 47 ∷ []) $ forget ! 0 refl $ free1 ! $ move ! (44 ∷ 45 ∷ []) $ forget ! 0 refl $ free1 ! $ move ! (42 ∷ 43 ∷ []) $ forget ! 0 refl $ free1 ! $ move ! (40 ∷ 41 ∷ []) $ forget ! 0 refl $ free1 ! $ move ! (38 ∷ 39 ∷ []) $ forget ! 0 refl $ free1 ! $ move ! (36 ∷ 37 ∷ []) $ forget ! 0 refl $ free1 ! $ move ! (34 ∷ 35 ∷ []) $ forget ! 0 refl $ free1 ! $ move ! (32 ∷ 33 ∷ []) $ forget ! 0 refl $ free1 ! $ move ! (30 ∷ 31 ∷ []) $ forget ! 0 refl $ free1 ! $ move ! (28 ∷ 29 ∷ []) $ forget ! 0 refl $ free1 ! $ move ! (26 ∷ 27 ∷ []) $ forget ! 0 refl $ free1 ! $ move ! (24 ∷ 25 ∷ []) $ forget ! 0 refl $ free1 ! $ move ! (22 ∷ 23 ∷ []) $ forget ! 0 refl $ free1 ! $ move ! (20 ∷ 21 ∷ []) $ forget ! 0 refl $ free1 ! $ move ! (18 ∷ 19 ∷ []) $ forget ! 0 refl $ free1 ! $ move ! (16 ∷ 17 ∷ []) $ forget ! 0 refl $ free1 ! $ move ! (14 ∷ 15 ∷ []) $ forget ! 0 refl $ free1 ! $ move ! (12 ∷ 13 ∷ []) $ forget ! 0 refl $ free1 ! $ move ! (10 ∷ 11 ∷ []) $ forget ! 0 refl $ free1 ! $ move ! (8 ∷ 9 ∷ []) $ forget ! 0 refl $ free1 ! $ free0 ! $ move ! (3 ∷ []) $ drop ! $ move ! (6 ∷ []) $ drop ! $ by ! (exits (r12 register nodes c page x-first span height halved carried x-to r2) ok·12 (Facts.exit-4 register nodes c page x-first span height halved carried x-to (room·register .0) (room·nodes .0) (ok·c .1) (ok·page .1) (ok·x-first .1) (ok·span .1) (ok·height .1) (ok·halved .1) (ok·carried .1) (ok·x-to .1) need (is-false (leb height x-to) h·1) (nleb→lt height x-to h·1) (is-false (eqb c 0) h·2) (above-0 c h·2) ok·1 r2 (ok·2 .1) says·2 ok·3 (ok·4 .1) (ok·6 .1) (is-false (eqb (r6 register nodes c page x-first span height halved carried x-to r2) 18446744073709551615) h·3) (differ (r6 register nodes c page x-first span height halved carried x-to r2) 18446744073709551615 h·3) (ok·7 .1) (ok·8 .1) (ok·9 .1) (ok·10 .1) (ok·11 .1) (ok·12 .1))))))))))))))))))))))))))))))))))))))))))))))
+      Call-reach.calls-by ! mem run (fmOf 𝓤 H (W .laws) 𝓣) κ₂·register q₂·register b₂·register o₂·register γ₂·register κ·register q·register b·register o·register γ·register register long·register κ₂·nodes q₂·nodes b₂·nodes o₂·nodes γ₂·nodes κ·nodes q·nodes b·nodes o·nodes γ·nodes nodes long·nodes (r6 register nodes c page x-first span halved carried x-to r2) page (r7 register nodes c page x-first span halved carried x-to r2) (r4 register nodes c page x-first span halved carried x-to r2) (r9 register nodes c page x-first span halved carried x-to r2) (r10 register nodes c page x-first span halved carried x-to r2) x-to (known-self (Call-reach.to 𝓤 H A mem run κ₂·register q₂·register b₂·register o₂·register γ₂·register κ·register q·register b·register o·register γ·register register long·register κ₂·nodes q₂·nodes b₂·nodes o₂·nodes γ₂·nodes κ·nodes q·nodes b·nodes o·nodes γ·nodes nodes long·nodes (r6 register nodes c page x-first span halved carried x-to r2) page (r7 register nodes c page x-first span halved carried x-to r2) (r4 register nodes c page x-first span halved carried x-to r2) (r9 register nodes c page x-first span halved carried x-to r2) (r10 register nodes c page x-first span halved carried x-to r2) x-to) (Facts.smaller-1 register nodes c page x-first span halved carried x-to (room·register .0) (room·nodes .0) (ok·c .1) (ok·page .1) (ok·x-first .1) (ok·span .1) (ok·halved .1) (ok·carried .1) (ok·x-to .1) need (is-false (leb span x-to) h·1) (nleb→lt span x-to h·1) (is-false (eqb c 0) h·2) (above-0 c h·2) ok·1 r2 (ok·2 .1) says·2 ok·3 (ok·4 .1) (ok·6 .1) (is-false (eqb (r6 register nodes c page x-first span halved carried x-to r2) 18446744073709551615) h·3) (differ (r6 register nodes c page x-first span halved carried x-to r2) 18446744073709551615 h·3) (ok·7 .1) (ok·8 .1) (ok·9 .1) (ok·10 .1))) ok·6 ok·page ok·7 ok·4 ok·9 ok·10 ok·x-to (Facts.reach-1 register nodes c page x-first span halved carried x-to (room·register .0) (room·nodes .0) (ok·c .1) (ok·page .1) (ok·x-first .1) (ok·span .1) (ok·halved .1) (ok·carried .1) (ok·x-to .1) need (is-false (leb span x-to) h·1) (nleb→lt span x-to h·1) (is-false (eqb c 0) h·2) (above-0 c h·2) ok·1 r2 (ok·2 .1) says·2 ok·3 (ok·4 .1) (ok·6 .1) (is-false (eqb (r6 register nodes c page x-first span halved carried x-to r2) 18446744073709551615) h·3) (differ (r6 register nodes c page x-first span halved carried x-to r2) 18446744073709551615 h·3) (ok·7 .1) (ok·8 .1) (ok·9 .1) (ok·10 .1)) (and-then ! (load ! (from ! (stop !)) (look ! 45 refl)) (and-then ! (load ! (from ! (stop !)) (look ! 43 refl)) (and-then ! (load ! (from ! (stop !)) (look ! 19 refl)) (and-then ! (load ! (from ! (stop !)) (look ! 39 refl)) (and-then ! (load ! (from ! (stop !)) (look ! 11 refl)) (and-then ! (load ! (from ! (stop !)) (look ! 23 refl)) (and-then ! (load ! (from ! (stop !)) (look ! 9 refl)) (and-then ! (load ! (from ! (stop !)) (look ! 5 refl)) (and-then ! (load ! (from ! (stop !)) (look ! 29 refl)) (no-more !))))))))))
+      (λ r11 ok·11 says·11. move ! (0 ∷ 1 ∷ 2 ∷ 6 ∷ 3 ∷ 4 ∷ 5 ∷ 7 ∷ []) $ land ! (from ! (stop !)) (init ! 50 refl (tt, record { fits = ok·11 .1 })) $
+      here ! (‵ (flft κ₂·register q₂·register) ∷ ‵ (RefAt Record′.row κ₂·register b₂·register o₂·register γ₂·register κ·register b·register o·register γ·register register) ∷ ‵ (flft κ·register q·register) ∷ ‵ (ShrAt Record′.row κ·register b·register o·register γ·register (length register) register) ∷ ‵ (flft κ₂·nodes q₂·nodes) ∷ ‵ (RefAt u32 κ₂·nodes b₂·nodes o₂·nodes γ₂·nodes κ·nodes b·nodes o·nodes γ·nodes nodes) ∷ ‵ (flft κ·nodes q·nodes) ∷ ‵ (ShrAt u32 κ·nodes b·nodes o·nodes γ·nodes (length nodes) nodes) ∷ holds (tyInt w64) l₂₁ (vint w64 (r10 register nodes c page x-first span halved carried x-to r2)) (holds (tyInt w64) l₂₀ (vint w64 (r8 register nodes c page x-first span halved carried x-to r2)) (holds (tyInt w64) l₁₉ (vint w64 (r9 register nodes c page x-first span halved carried x-to r2)) (holds (tyInt w64) l₁₈ (vint w64 (r7 register nodes c page x-first span halved carried x-to r2)) (holds (sliceTy (tyRef erased imm (pointee (u32 .written)))) l₁₇ (sliceVal (b·nodes, o·nodes) (length nodes)) (holds (sliceTy (tyRef erased imm (pointee (Record′.row .written)))) l₁₆ (sliceVal (b·register, o·register) (length register)) (holds tyBool l₁₅ (vbool (eqb (r6 register nodes c page x-first span halved carried x-to r2) 18446744073709551615)) (holds (tyInt w64) l₁₄ (vint w64 (r6 register nodes c page x-first span halved carried x-to r2)) (holds tyBool l₁₃ (vbool (r5 register nodes c page x-first span halved carried x-to r2)) (holds (tyInt w64) l₁₂ (vint w64 (r4 register nodes c page x-first span halved carried x-to r2)) (holds (tyAt (code.reach-function .locals) 11) l₁₁ (NodeAt′.mach (r3 register nodes c page x-first span halved carried x-to r2)) (holds (tyAt (code.reach-function .locals) 10) l₁₀ (Part′.mach (r1 register nodes c page x-first span halved carried x-to)) (holds (tyInt w64) l₉ (vint w64 x-to) (holds (tyInt w64) l₈ (vint w64 carried) (holds (tyInt w64) l₇ (vint w64 halved) (holds (tyInt w64) l₆ (vint w64 span) (holds (tyInt w64) l₅ (vint w64 x-first) (holds (tyInt w64) l₄ (vint w64 page) (holds (tyInt w64) l₃ (vint w64 c) (holds (tyRef (named 2) imm (sliceTy (tyRef (named 3) imm (pointee (u32 .written))))) l₂ (vptr b₂·nodes o₂·nodes) (holds (tyRef (named 0) imm (sliceTy (tyRef (named 1) imm (pointee (Record′.row .written))))) l₁ (vptr b₂·register o₂·register) (holds (tyInt w64) l₀ (vint w64 r11) [])))))))))))))))))))))) $
+      returns ! (look ! 50 refl) $
+      move ! (50 ∷ 51 ∷ []) $ forget ! 0 refl $ free1 ! $ move ! (48 ∷ 49 ∷ []) $ forget ! 0 refl $ free1 ! $ move ! (46 ∷ 47 ∷ []) $ forget ! 0 refl $ free1 ! $ move ! (44 ∷ 45 ∷ []) $ forget ! 0 refl $ free1 ! $ move ! (42 ∷ 43 ∷ []) $ forget ! 0 refl $ free1 ! $ move ! (40 ∷ 41 ∷ []) $ forget ! 0 refl $ free1 ! $ move ! (38 ∷ 39 ∷ []) $ forget ! 0 refl $ free1 ! $ move ! (36 ∷ 37 ∷ []) $ forget ! 0 refl $ free1 ! $ move ! (34 ∷ 35 ∷ []) $ forget ! 0 refl $ free1 ! $ move ! (32 ∷ 33 ∷ []) $ forget ! 0 refl $ free1 ! $ move ! (30 ∷ 31 ∷ []) $ forget ! 0 refl $ free1 ! $ move ! (28 ∷ 29 ∷ []) $ forget ! 0 refl $ free1 ! $ move ! (26 ∷ 27 ∷ []) $ forget ! 0 refl $ free1 ! $ move ! (24 ∷ 25 ∷ []) $ forget ! 0 refl $ free1 ! $ move ! (22 ∷ 23 ∷ []) $ forget ! 0 refl $ free1 ! $ move ! (20 ∷ 21 ∷ []) $ forget ! 0 refl $ free1 ! $ move ! (18 ∷ 19 ∷ []) $ forget ! 0 refl $ free1 ! $ move ! (16 ∷ 17 ∷ []) $ forget ! 0 refl $ free1 ! $ move ! (14 ∷ 15 ∷ []) $ forget ! 0 refl $ free1 ! $ move ! (12 ∷ 13 ∷ []) $ forget ! 0 refl $ free1 ! $ move ! (10 ∷ 11 ∷ []) $ forget ! 0 refl $ free1 ! $ move ! (8 ∷ 9 ∷ []) $ forget ! 0 refl $ free1 ! $ free0 ! $ move ! (3 ∷ []) $ drop ! $ move ! (6 ∷ []) $ drop ! $ by ! (exits r11 ok·11 (Facts.exit-4 register nodes c page x-first span halved carried x-to (room·register .0) (room·nodes .0) (ok·c .1) (ok·page .1) (ok·x-first .1) (ok·span .1) (ok·halved .1) (ok·carried .1) (ok·x-to .1) need (is-false (leb span x-to) h·1) (nleb→lt span x-to h·1) (is-false (eqb c 0) h·2) (above-0 c h·2) ok·1 r2 (ok·2 .1) says·2 ok·3 (ok·4 .1) (ok·6 .1) (is-false (eqb (r6 register nodes c page x-first span halved carried x-to r2) 18446744073709551615) h·3) (differ (r6 register nodes c page x-first span halved carried x-to r2) 18446744073709551615 h·3) (ok·7 .1) (ok·8 .1) (ok·9 .1) (ok·10 .1) r11 (ok·11 .1) says·11))))))))))))))))))))))))))))))))))))))))))
 
 module _ {M : Type 1} (𝓤 : URA M) (H : Heap 𝓤) (A : Atoms 𝓤) (mem : Memory → SProp 𝓤) (run : Routine → Fun 𝓤) where
   abbrev measure : Call-reach.Asked 𝓤 H A mem run .Ghost → ℕ
-  measure y = Loop.measure-0 (y .0 .3 .0 .now .now) (y .0 .3 .1 .0 .now .now) (y .0 .3 .1 .1 .0) (y .0 .3 .1 .1 .1 .0) (y .0 .3 .1 .1 .1 .1 .0) (y .0 .3 .1 .1 .1 .1 .1 .0) (y .0 .3 .1 .1 .1 .1 .1 .1 .0) (y .0 .3 .1 .1 .1 .1 .1 .1 .1 .0) (y .0 .3 .1 .1 .1 .1 .1 .1 .1 .1 .0) (y .0 .3 .1 .1 .1 .1 .1 .1 .1 .1 .1 .0)
+  measure y = Loop.measure-0 (y .0 .3 .0 .now .now) (y .0 .3 .1 .0 .now .now) (y .0 .3 .1 .1 .0) (y .0 .3 .1 .1 .1 .0) (y .0 .3 .1 .1 .1 .1 .0) (y .0 .3 .1 .1 .1 .1 .1 .0) (y .0 .3 .1 .1 .1 .1 .1 .1 .0) (y .0 .3 .1 .1 .1 .1 .1 .1 .1 .0) (y .0 .3 .1 .1 .1 .1 .1 .1 .1 .1 .0)
 
   abbrev grade : (r : Fun 𝓤) → Graded 𝓤 H A ℕ (record { signature = reach‴.signature; run = r; spec = reach‴.spec 𝓤 H A mem run })
   grade r = measured 𝓤 H A (record { signature = reach‴.signature; run = r; spec = reach‴.spec 𝓤 H A mem run }) measure
@@ -224,9 +221,9 @@ module _ {M : Type 1} (𝓤 : URA M) (H : Heap 𝓤) (A : Atoms 𝓤) (W : Given
   method : Closed 𝓤 H (𝓣 .C) (𝓣 .Λ) #self code.reach-function → (t : ℕ) → Cycle.Below 𝓤 H A (grade 𝓤 H A mem run (𝓣 .C #self)) (λ s. s < t) → grade 𝓤 H A mem run (𝓣 .C #self) .At t
   method closed t below =
       at-on 𝓤 H A reach‴.signature (reach‴.spec 𝓤 H A mem run) (WpFn 𝓤 H (𝓣 .C) (𝓣 .Λ) code.reach-function) (𝓣 .C #self) closed (measure 𝓤 H A mem run) t (λ y e.
-      walk-meets-at 𝓤 H A reach‴.ended stayed W (goes-none-ref 𝓤 H A W 4 (0 ∷ []) tt (shrSliceOf (1 ∷ []) tt (plain (λ _. Record′.row))) yes, (goes-none-ref 𝓤 H A W 4 (2 ∷ []) tt (shrSliceOf (3 ∷ []) tt (plain (λ _. u32))) yes, (goes-none 𝓤 H A W 4 (λ _. u64) yes (λ κs x f. refl), (goes-none 𝓤 H A W 4 (λ _. u64) yes (λ κs x f. refl), (goes-none 𝓤 H A W 4 (λ _. u64) yes (λ κs x f. refl), (goes-none 𝓤 H A W 4 (λ _. u64) yes (λ κs x f. refl), (goes-none 𝓤 H A W 4 (λ _. u64) yes (λ κs x f. refl), (goes-none 𝓤 H A W 4 (λ _. u64) yes (λ κs x f. refl), (goes-none 𝓤 H A W 4 (λ _. u64) yes (λ κs x f. refl), (goes-none 𝓤 H A W 4 (λ _. u64) yes (λ κs x f. refl), tt)))))))))) (reach‴.clauses 𝓤 H A mem run) (WpFn 𝓤 H (𝓣 .C) (𝓣 .Λ) code.reach-function) (WpFn-mono 𝓤 H (W .laws) 𝓣 code.reach-function) y
-      (walked-at 𝓤 H A reach‴.ended stayed (reach‴.clauses 𝓤 H A mem run) (WpFn 𝓤 H (𝓣 .C) (𝓣 .Λ) code.reach-function) y (ptr-vals, (ptr-vals, (uint-vals w64, (uint-vals w64, (uint-vals w64, (uint-vals w64, (uint-vals w64, (uint-vals w64, (uint-vals w64, (uint-vals w64, tt)))))))))) (shr-tells (named 0) (y .0 .0 .0) (ShrSlice (named 0) (y .0 .0 .1 .0) Record′.row), (shr-tells (named 0) (y .0 .0 .1 .1 .0) (ShrSlice (named 0) (y .0 .0 .1 .1 .1 .0) u32), (uint-tells w64, (uint-tells w64, (uint-tells w64, (uint-tells w64, (uint-tells w64, (uint-tells w64, (uint-tells w64, (uint-tells w64, tt))))))))))
-      (λ are. needs 𝓤 (reach″.req (y .0 .3 .0 .now .now) (y .0 .3 .1 .0 .now .now) (y .0 .3 .1 .1 .0) (y .0 .3 .1 .1 .1 .0) (y .0 .3 .1 .1 .1 .1 .0) (y .0 .3 .1 .1 .1 .1 .1 .0) (y .0 .3 .1 .1 .1 .1 .1 .1 .0) (y .0 .3 .1 .1 .1 .1 .1 .1 .1 .0) (y .0 .3 .1 .1 .1 .1 .1 .1 .1 .1 .0) (y .0 .3 .1 .1 .1 .1 .1 .1 .1 .1 .1 .0)) _ (λ need. walk 𝓤 H A W mem run (y .0 .0 .0) (y .0 .1 .0) (y .0 .3 .0 .ptr .0) (y .0 .3 .0 .ptr .1) (y .0 .3 .0 .name) (y .0 .0 .1 .0) (y .0 .1 .1 .0) (y .0 .3 .0 .now .ptr .0) (y .0 .3 .0 .now .ptr .1) (y .0 .3 .0 .now .name) (y .0 .3 .0 .now .now) (y .0 .2 .0) (y .0 .0 .1 .1 .0) (y .0 .1 .1 .1 .0) (y .0 .3 .1 .0 .ptr .0) (y .0 .3 .1 .0 .ptr .1) (y .0 .3 .1 .0 .name) (y .0 .0 .1 .1 .1 .0) (y .0 .1 .1 .1 .1 .0) (y .0 .3 .1 .0 .now .ptr .0) (y .0 .3 .1 .0 .now .ptr .1) (y .0 .3 .1 .0 .now .name) (y .0 .3 .1 .0 .now .now) (y .0 .2 .1 .0) (y .0 .3 .1 .1 .0) (y .0 .3 .1 .1 .1 .0) (y .0 .3 .1 .1 .1 .1 .0) (y .0 .3 .1 .1 .1 .1 .1 .0) (y .0 .3 .1 .1 .1 .1 .1 .1 .0) (y .0 .3 .1 .1 .1 .1 .1 .1 .1 .0) (y .0 .3 .1 .1 .1 .1 .1 .1 .1 .1 .0) (y .0 .3 .1 .1 .1 .1 .1 .1 .1 .1 .1 .0) (are .1 .1 .0) (are .1 .1 .1 .0) (are .1 .1 .1 .1 .0) (are .1 .1 .1 .1 .1 .0) (are .1 .1 .1 .1 .1 .1 .0) (are .1 .1 .1 .1 .1 .1 .1 .0) (are .1 .1 .1 .1 .1 .1 .1 .1 .0) (are .1 .1 .1 .1 .1 .1 .1 .1 .1 .0) need 𝓣 known-version-part known-place-of known-node-at known-half-of known-is-left known-child-at known-on-to known-less-one known-carried-on (λ y′ lt. below (measure 𝓤 H A mem run y′) (subst (λ (s : ℕ). measure 𝓤 H A mem run y′ < s) e lt) y′ refl)))))
+      walk-meets-at 𝓤 H A reach‴.ended stayed W (goes-none-ref 𝓤 H A W 4 (0 ∷ []) tt (shrSliceOf (1 ∷ []) tt (plain (λ _. Record′.row))) yes, (goes-none-ref 𝓤 H A W 4 (2 ∷ []) tt (shrSliceOf (3 ∷ []) tt (plain (λ _. u32))) yes, (goes-none 𝓤 H A W 4 (λ _. u64) yes (λ κs x f. refl), (goes-none 𝓤 H A W 4 (λ _. u64) yes (λ κs x f. refl), (goes-none 𝓤 H A W 4 (λ _. u64) yes (λ κs x f. refl), (goes-none 𝓤 H A W 4 (λ _. u64) yes (λ κs x f. refl), (goes-none 𝓤 H A W 4 (λ _. u64) yes (λ κs x f. refl), (goes-none 𝓤 H A W 4 (λ _. u64) yes (λ κs x f. refl), (goes-none 𝓤 H A W 4 (λ _. u64) yes (λ κs x f. refl), tt))))))))) (reach‴.clauses 𝓤 H A mem run) (WpFn 𝓤 H (𝓣 .C) (𝓣 .Λ) code.reach-function) (WpFn-mono 𝓤 H (W .laws) 𝓣 code.reach-function) y
+      (walked-at 𝓤 H A reach‴.ended stayed (reach‴.clauses 𝓤 H A mem run) (WpFn 𝓤 H (𝓣 .C) (𝓣 .Λ) code.reach-function) y (ptr-vals, (ptr-vals, (uint-vals w64, (uint-vals w64, (uint-vals w64, (uint-vals w64, (uint-vals w64, (uint-vals w64, (uint-vals w64, tt))))))))) (shr-tells (named 0) (y .0 .0 .0) (ShrSlice (named 0) (y .0 .0 .1 .0) Record′.row), (shr-tells (named 0) (y .0 .0 .1 .1 .0) (ShrSlice (named 0) (y .0 .0 .1 .1 .1 .0) u32), (uint-tells w64, (uint-tells w64, (uint-tells w64, (uint-tells w64, (uint-tells w64, (uint-tells w64, (uint-tells w64, tt)))))))))
+      (λ are. needs 𝓤 (reach″.req (y .0 .3 .0 .now .now) (y .0 .3 .1 .0 .now .now) (y .0 .3 .1 .1 .0) (y .0 .3 .1 .1 .1 .0) (y .0 .3 .1 .1 .1 .1 .0) (y .0 .3 .1 .1 .1 .1 .1 .0) (y .0 .3 .1 .1 .1 .1 .1 .1 .0) (y .0 .3 .1 .1 .1 .1 .1 .1 .1 .0) (y .0 .3 .1 .1 .1 .1 .1 .1 .1 .1 .0)) _ (λ need. walk 𝓤 H A W mem run (y .0 .0 .0) (y .0 .1 .0) (y .0 .3 .0 .ptr .0) (y .0 .3 .0 .ptr .1) (y .0 .3 .0 .name) (y .0 .0 .1 .0) (y .0 .1 .1 .0) (y .0 .3 .0 .now .ptr .0) (y .0 .3 .0 .now .ptr .1) (y .0 .3 .0 .now .name) (y .0 .3 .0 .now .now) (y .0 .2 .0) (y .0 .0 .1 .1 .0) (y .0 .1 .1 .1 .0) (y .0 .3 .1 .0 .ptr .0) (y .0 .3 .1 .0 .ptr .1) (y .0 .3 .1 .0 .name) (y .0 .0 .1 .1 .1 .0) (y .0 .1 .1 .1 .1 .0) (y .0 .3 .1 .0 .now .ptr .0) (y .0 .3 .1 .0 .now .ptr .1) (y .0 .3 .1 .0 .now .name) (y .0 .3 .1 .0 .now .now) (y .0 .2 .1 .0) (y .0 .3 .1 .1 .0) (y .0 .3 .1 .1 .1 .0) (y .0 .3 .1 .1 .1 .1 .0) (y .0 .3 .1 .1 .1 .1 .1 .0) (y .0 .3 .1 .1 .1 .1 .1 .1 .0) (y .0 .3 .1 .1 .1 .1 .1 .1 .1 .0) (y .0 .3 .1 .1 .1 .1 .1 .1 .1 .1 .0) (are .1 .1 .0) (are .1 .1 .1 .0) (are .1 .1 .1 .1 .0) (are .1 .1 .1 .1 .1 .0) (are .1 .1 .1 .1 .1 .1 .0) (are .1 .1 .1 .1 .1 .1 .1 .0) (are .1 .1 .1 .1 .1 .1 .1 .1 .0) need 𝓣 known-version-part known-place-of known-node-at known-half-of known-is-left known-child-at known-on-to known-less-one known-carried-on (λ y′ lt. below (measure 𝓤 H A mem run y′) (subst (λ (s : ℕ). measure 𝓤 H A mem run y′ < s) e lt) y′ refl)))))
 
 pub +reach-spec : {M : Type 1} → cycle.statement M
 unfolding code.reach-routine tablesOf

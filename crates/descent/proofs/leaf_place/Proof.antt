@@ -1,9 +1,8 @@
 -- `descent::leaf_place` meets its contract. Assumes nothing.
 use mathlib.Core.Path.{sym, _∙_}
 use borrow.Author.Needs.{needs}
-use native.Mathlib.Omega.{arith}
 use Rattle.tree.proofs.First.{first-leaf}
-use Rattle.descent.proofs.Levels.{above-zero, below-most, level-leaf}
+use Rattle.descent.proofs.Levels.{above-zero, below-most, leaf-height, level-leaf}
 use Rattle.descent.proofs.Places.{leaf-there, leaf-past, leaf-zero, leaf-most}
 use Rattle.descent.proofs.leaf_place.Statement.{statement}
 use Rattle.descent.proofs.leaf_place.Tie as tie
@@ -34,7 +33,7 @@ returns-4 : tie.Need-returns-4
 returns-4 c =
     let third = c .before .before in
     let a = third .before .before .before .before .args in
-    c .place-of .ensures (a .page .0) (sym (first-leaf (a .page .0))) ∙ sym (leaf-there (a .q) (a .c) (a .page .0) (third .if3 .left))
+    (rw leaf-height at (c .place-of .ensures (a .page .0))) (sym (first-leaf (a .page .0))) ∙ sym (leaf-there (a .q) (a .c) (a .page .0) (third .if3 .left))
 
 pub leaf-place-spec : {M : Type 1} → statement M
 leaf-place-spec =

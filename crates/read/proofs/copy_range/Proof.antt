@@ -56,8 +56,6 @@ use Rattle.read.specs.declared.Chunk.{Chunk}
 use Rattle.read.proofs.Generated.Kind.Chunk as Chunk′
 use Rattle.tree.specs.declared.Found.{Found}
 use Rattle.walk.proofs.Generated.Kind.Found as Found′
-use Rattle.tree.specs.declared.Version.{Version}
-use Rattle.register.proofs.Generated.Kind.Version as Version′
 use Rattle.register.proofs.Generated.Flow.{ref, MutAt, ShrAt, lend-mut, back-mut, lend-shr, back-shr, branches-on, regroup, skips-on, returns-on, plus-nothing, holds, empty, less-fits, is-true, is-false, differ, above-0, twice-not, switches-to, switches-last, big-lit, here, blocks-on, resume, scaled-2, scaled-4, scaled-8, opens-shr, shuts-shr, opens-mut, shuts-mut, puts-mut, keeps-shr, fills, empties, tyAt}
 use Rattle.read.proofs.Generated.Say.copy_range as copy-range″
 use Rattle.read.proofs.Generated.Say.chunk_at as chunk-at″

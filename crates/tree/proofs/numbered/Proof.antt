@@ -5,21 +5,20 @@ use native.Mathlib.Omega.{arith}
 use borrow.Author.Needs.{needs}
 use borrow.Author.Tests.{ltb-true, ltb-false}
 use lib.Pow.{pow-mono}
+use Rattle.tree.specs.Contract.{heightIn}
+use Rattle.tree.proofs.Word.{own-power, height-in-low}
 use Rattle.tree.proofs.Numbering.{Numbering, number-begins, number-left, number-right, number-ends}
 use Rattle.tree.proofs.numbered.Statement.{statement}
 use Rattle.tree.proofs.numbered.Tie as tie
 
 abbrev Inv-loop : tie.InvT-loop
-Inv-loop height i a₀ span₀ k₀ a span k = Numbering height i a span k
+Inv-loop root i a₀ span₀ k₀ a span k = Numbering (heightIn root) i a span k
 
 abbrev μ-loop : tie.MeasureT-loop
-μ-loop height i a₀ span₀ k₀ a span k = span
-
-span-of-requires : tie.Need-span-of-requires Inv-loop μ-loop
-span-of-requires c κs = search needs
+μ-loop root i a₀ span₀ k₀ a span k = span
 
 loop-holds : tie.Need-loop-holds Inv-loop μ-loop
-loop-holds c = rw (c .span-of .ensures) (number-begins (c .before .args .height) (c .before .args .i))
+loop-holds c = number-begins (heightIn (c .args .root)) (c .args .i) (c .args .root) (own-power (c .args .root) (c .pre))
 
 sub-left : tie.Need-sub-left Inv-loop μ-loop
 sub-left c = search needs
@@ -28,7 +27,7 @@ sub-k : tie.Need-sub-k Inv-loop μ-loop
 sub-k c = ltb-true _ _ (c .if1 .taken)
 
 add-a : tie.Need-add-a Inv-loop μ-loop
-add-a c = omega (arith, c .before .before .before .loop .inv .inside, pow-mono (c .before .before .before .before .before .pre))
+add-a c = omega (arith, c .before .before .before .loop .inv .inside, pow-mono (height-in-low (c .before .before .before .before .args .root)))
 
 loop-less : tie.Need-loop-less Inv-loop μ-loop
 loop-less c = search needs
@@ -54,7 +53,6 @@ numbered-spec =
     (tie.spec
     Inv-loop
     μ-loop
-    span-of-requires
     loop-holds
     sub-left
     sub-k

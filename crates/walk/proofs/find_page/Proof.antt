@@ -43,8 +43,6 @@ use denote.Triple.Table.{entered, cited}
 use denote.Triple.Walked.{says, needs, Stays, stay-slice, stay-none-slice, stay-none, walkOf, Walks, ends-at, walked, goes-slice, goes-none-slice, goes-none, walk-meets, stay-none-ref, goes-none-ref}
 use Rattle.tree.specs.declared.Found.{Found}
 use Rattle.walk.proofs.Generated.Kind.Found as Found′
-use Rattle.tree.specs.declared.Version.{Version}
-use Rattle.register.proofs.Generated.Kind.Version as Version′
 use Rattle.register.specs.declared.Record.{Record}
 use Rattle.register.proofs.Generated.Kind.Record as Record′
 use Rattle.tree.specs.declared.Ticket.{Ticket}
@@ -93,7 +91,7 @@ use denote.Memory.{pointee}
 use contract.BorrowLft.{_⊑_}
 use denote.Ref.{ShrRef, ptr-vals, shr-tells}
 use Rattle.descent.proofs.Generated.Through.{ref-to, RefAt, takes-out, opens-ref, shuts-ref}
-use Rattle.walk.proofs.find_page.Proof.Asks.{r1, r2, r3, r4, r5, r6}
+use Rattle.walk.proofs.find_page.Proof.Asks.{r1, r3, r4, r5, r6}
 
 abbrev stayed : Stays (find-page‴.ended .signature .params) (find-page‴.ended .kept)
 stayed = (stay-none-ref (0 ∷ []) tt (shrSliceOf (1 ∷ []) tt (plain (λ _. u32))) yes, (stay-none-ref (2 ∷ []) tt (shrSliceOf (3 ∷ []) tt (plain (λ _. Record′.row))) yes, (stay-none (λ _. u64) yes, (stay-none (λ _. PageIndex′.row) yes, tt))))
@@ -130,29 +128,29 @@ module _ {M : Type 1} (𝓤 : URA M) (H : Heap 𝓤) (A : Atoms 𝓤) (W : Given
       (λ ok·1. move ! (2 ∷ 3 ∷ 4 ∷ 5 ∷ 6 ∷ 7 ∷ 0 ∷ 1 ∷ []) $ land ! (from ! (stop !)) (init ! 20 refl (Part′.typed 𝓤 H A W (r1 nodes register c page) ok·1)) $
       here ! (‵ (flft κ₂·nodes q₂·nodes) ∷ ‵ (RefAt u32 κ₂·nodes b₂·nodes o₂·nodes γ₂·nodes κ·nodes b·nodes o·nodes γ·nodes nodes) ∷ ‵ (flft κ·nodes q·nodes) ∷ ‵ (ShrAt u32 κ·nodes b·nodes o·nodes γ·nodes (length nodes) nodes) ∷ ‵ (flft κ₂·register q₂·register) ∷ ‵ (RefAt Record′.row κ₂·register b₂·register o₂·register γ₂·register κ·register b·register o·register γ·register register) ∷ ‵ (flft κ·register q·register) ∷ ‵ (ShrAt Record′.row κ·register b·register o·register γ·register (length register) register) ∷ empty (tyInt w64) l₁₁ (empty (sliceTy (tyRef erased imm (pointee (u32 .written)))) l₁₀ (empty (tyAt (code.function .locals) 9) l₉ (holds (sliceTy (tyRef erased imm (pointee (Record′.row .written)))) l₈ (sliceVal (b·register, o·register) (length register)) (empty (tyAt (code.function .locals) 7) l₇ (empty (tyInt w64) l₆ (holds (tyAt (code.function .locals) 5) l₅ (Part′.mach (r1 nodes register c page)) (holds (tyAt (code.function .locals) 4) l₄ (PageIndex′.mach page) (holds (tyInt w64) l₃ (vint w64 c) (holds (tyRef (named 2) imm (sliceTy (tyRef (named 3) imm (pointee (Record′.row .written))))) l₂ (vptr b₂·register o₂·register) (holds (tyRef (named 0) imm (sliceTy (tyRef (named 1) imm (pointee (u32 .written))))) l₁ (vptr b₂·nodes o₂·nodes) (empty (tyAt (code.function .locals) 0) l₀ [])))))))))))) $
       move ! (0 ∷ 1 ∷ 2 ∷ 4 ∷ 5 ∷ 6 ∷ []) $
-      Call-reach-from.calls ! mem run (fmOf 𝓤 H (W .laws) 𝓣) known-reach-from κ₂·nodes q₂·nodes b₂·nodes o₂·nodes γ₂·nodes κ·nodes q·nodes b·nodes o·nodes γ·nodes nodes long·nodes κ₂·register q₂·register b₂·register o₂·register γ₂·register κ·register q·register b·register o·register γ·register register long·register c ((r1 nodes register c page) .height) page 0 ok·c (Part′.ok-height (r1 nodes register c page) ok·1) ok·page (refl, lit< tt) (and-then ! (load ! (from ! (stop !)) (look ! 25 refl)) (and-then ! (load ! (from ! (stop !)) (look ! 23 refl)) (and-then ! (load ! (from ! (stop !)) (look ! 21 refl)) (and-then ! (load ! (from ! (fld ! refl (stop !))) (look-in ! 17 (sub ! 5 refl (whole !)))) (and-then ! (load ! (from ! (stop !)) (look ! 19 refl)) (and-then ! (lit ! tt) (no-more !)))))))
-      (λ ok·2. move ! (0 ∷ 1 ∷ 2 ∷ 6 ∷ 3 ∷ 4 ∷ 5 ∷ 7 ∷ []) $ land ! (from ! (stop !)) (init ! 18 refl (tt, record { fits = ok·2 .1 })) $
-      here ! (‵ (flft κ₂·nodes q₂·nodes) ∷ ‵ (RefAt u32 κ₂·nodes b₂·nodes o₂·nodes γ₂·nodes κ·nodes b·nodes o·nodes γ·nodes nodes) ∷ ‵ (flft κ·nodes q·nodes) ∷ ‵ (ShrAt u32 κ·nodes b·nodes o·nodes γ·nodes (length nodes) nodes) ∷ ‵ (flft κ₂·register q₂·register) ∷ ‵ (RefAt Record′.row κ₂·register b₂·register o₂·register γ₂·register κ·register b·register o·register γ·register register) ∷ ‵ (flft κ·register q·register) ∷ ‵ (ShrAt Record′.row κ·register b·register o·register γ·register (length register) register) ∷ empty (tyInt w64) l₁₁ (empty (sliceTy (tyRef erased imm (pointee (u32 .written)))) l₁₀ (empty (tyAt (code.function .locals) 9) l₉ (holds (sliceTy (tyRef erased imm (pointee (Record′.row .written)))) l₈ (sliceVal (b·register, o·register) (length register)) (empty (tyAt (code.function .locals) 7) l₇ (holds (tyInt w64) l₆ (vint w64 (r2 nodes register c page)) (holds (tyAt (code.function .locals) 5) l₅ (Part′.mach (r1 nodes register c page)) (holds (tyAt (code.function .locals) 4) l₄ (PageIndex′.mach page) (holds (tyInt w64) l₃ (vint w64 c) (holds (tyRef (named 2) imm (sliceTy (tyRef (named 3) imm (pointee (Record′.row .written))))) l₂ (vptr b₂·register o₂·register) (holds (tyRef (named 0) imm (sliceTy (tyRef (named 1) imm (pointee (u32 .written))))) l₁ (vptr b₂·nodes o₂·nodes) (empty (tyAt (code.function .locals) 0) l₀ [])))))))))))) $
+      Call-reach-from.calls ! mem run (fmOf 𝓤 H (W .laws) 𝓣) known-reach-from κ₂·nodes q₂·nodes b₂·nodes o₂·nodes γ₂·nodes κ·nodes q·nodes b·nodes o·nodes γ·nodes nodes long·nodes κ₂·register q₂·register b₂·register o₂·register γ₂·register κ·register q·register b·register o·register γ·register register long·register c ((r1 nodes register c page) .span) page 1 ok·c (Part′.ok-span (r1 nodes register c page) ok·1) ok·page (refl, lit< tt) (Facts.reach-from-1 nodes register c page (room·nodes .0) (room·register .0) (ok·c .1) ok·page ok·1) (and-then ! (load ! (from ! (stop !)) (look ! 25 refl)) (and-then ! (load ! (from ! (stop !)) (look ! 23 refl)) (and-then ! (load ! (from ! (stop !)) (look ! 21 refl)) (and-then ! (load ! (from ! (fld ! refl (stop !))) (look-in ! 17 (sub ! 5 refl (whole !)))) (and-then ! (load ! (from ! (stop !)) (look ! 19 refl)) (and-then ! (lit ! tt) (no-more !)))))))
+      (λ r2 ok·2 says·2. move ! (0 ∷ 1 ∷ 2 ∷ 6 ∷ 3 ∷ 4 ∷ 5 ∷ 7 ∷ []) $ land ! (from ! (stop !)) (init ! 18 refl (tt, record { fits = ok·2 .1 })) $
+      here ! (‵ (flft κ₂·nodes q₂·nodes) ∷ ‵ (RefAt u32 κ₂·nodes b₂·nodes o₂·nodes γ₂·nodes κ·nodes b·nodes o·nodes γ·nodes nodes) ∷ ‵ (flft κ·nodes q·nodes) ∷ ‵ (ShrAt u32 κ·nodes b·nodes o·nodes γ·nodes (length nodes) nodes) ∷ ‵ (flft κ₂·register q₂·register) ∷ ‵ (RefAt Record′.row κ₂·register b₂·register o₂·register γ₂·register κ·register b·register o·register γ·register register) ∷ ‵ (flft κ·register q·register) ∷ ‵ (ShrAt Record′.row κ·register b·register o·register γ·register (length register) register) ∷ empty (tyInt w64) l₁₁ (empty (sliceTy (tyRef erased imm (pointee (u32 .written)))) l₁₀ (empty (tyAt (code.function .locals) 9) l₉ (holds (sliceTy (tyRef erased imm (pointee (Record′.row .written)))) l₈ (sliceVal (b·register, o·register) (length register)) (empty (tyAt (code.function .locals) 7) l₇ (holds (tyInt w64) l₆ (vint w64 r2) (holds (tyAt (code.function .locals) 5) l₅ (Part′.mach (r1 nodes register c page)) (holds (tyAt (code.function .locals) 4) l₄ (PageIndex′.mach page) (holds (tyInt w64) l₃ (vint w64 c) (holds (tyRef (named 2) imm (sliceTy (tyRef (named 3) imm (pointee (Record′.row .written))))) l₂ (vptr b₂·register o₂·register) (holds (tyRef (named 0) imm (sliceTy (tyRef (named 1) imm (pointee (u32 .written))))) l₁ (vptr b₂·nodes o₂·nodes) (empty (tyAt (code.function .locals) 0) l₀ [])))))))))))) $
       move ! (4 ∷ 5 ∷ []) $ opens-ref ! tt Record′.row κ₂·register q₂·register b₂·register o₂·register γ₂·register κ·register b·register o·register γ·register register (λ q′ _. assigns ! (of-opd ! (load ! (from ! (hop ! (look ! 29 refl) (stop !))) (look-raw ! 0 refl))) (from ! (stop !)) (store ! 17 refl (tt, (tt, (record { fits = room·register .0 }, tt)))) $
       shuts-ref ! tt Record′.row κ₂·register q₂·register b₂·register o₂·register γ₂·register κ·register b·register o·register γ·register register q′ $ move ! (2 ∷ 3 ∷ 4 ∷ 5 ∷ 0 ∷ 1 ∷ 6 ∷ 7 ∷ []) $
       move ! (6 ∷ 7 ∷ []) $
-      Call-version-part.calls ! mem run (fmOf 𝓤 H (W .laws) 𝓣) known-version-part κ·register q·register b·register o·register γ·register (length register) register (r2 nodes register c page) ok·2 (and-then ! (load ! (from ! (stop !)) (look ! 14 refl)) (and-then ! (load ! (from ! (stop !)) (look ! 18 refl)) (no-more !)))
-      (λ ok·3. move ! (2 ∷ 3 ∷ 4 ∷ 5 ∷ 6 ∷ 7 ∷ 0 ∷ 1 ∷ []) $ land ! (from ! (stop !)) (init ! 16 refl (Part′.typed 𝓤 H A W (r3 nodes register c page) ok·3)) $
-      here ! (‵ (flft κ₂·nodes q₂·nodes) ∷ ‵ (RefAt u32 κ₂·nodes b₂·nodes o₂·nodes γ₂·nodes κ·nodes b·nodes o·nodes γ·nodes nodes) ∷ ‵ (flft κ·nodes q·nodes) ∷ ‵ (ShrAt u32 κ·nodes b·nodes o·nodes γ·nodes (length nodes) nodes) ∷ ‵ (flft κ₂·register q₂·register) ∷ ‵ (RefAt Record′.row κ₂·register b₂·register o₂·register γ₂·register κ·register b·register o·register γ·register register) ∷ ‵ (flft κ·register q·register) ∷ ‵ (ShrAt Record′.row κ·register b·register o·register γ·register (length register) register) ∷ empty (tyInt w64) l₁₁ (empty (sliceTy (tyRef erased imm (pointee (u32 .written)))) l₁₀ (empty (tyAt (code.function .locals) 9) l₉ (holds (sliceTy (tyRef erased imm (pointee (Record′.row .written)))) l₈ (sliceVal (b·register, o·register) (length register)) (holds (tyAt (code.function .locals) 7) l₇ (Part′.mach (r3 nodes register c page)) (holds (tyInt w64) l₆ (vint w64 (r2 nodes register c page)) (holds (tyAt (code.function .locals) 5) l₅ (Part′.mach (r1 nodes register c page)) (holds (tyAt (code.function .locals) 4) l₄ (PageIndex′.mach page) (holds (tyInt w64) l₃ (vint w64 c) (holds (tyRef (named 2) imm (sliceTy (tyRef (named 3) imm (pointee (Record′.row .written))))) l₂ (vptr b₂·register o₂·register) (holds (tyRef (named 0) imm (sliceTy (tyRef (named 1) imm (pointee (u32 .written))))) l₁ (vptr b₂·nodes o₂·nodes) (empty (tyAt (code.function .locals) 0) l₀ [])))))))))))) $
+      Call-version-part.calls ! mem run (fmOf 𝓤 H (W .laws) 𝓣) known-version-part κ·register q·register b·register o·register γ·register (length register) register r2 ok·2 (and-then ! (load ! (from ! (stop !)) (look ! 14 refl)) (and-then ! (load ! (from ! (stop !)) (look ! 18 refl)) (no-more !)))
+      (λ ok·3. move ! (2 ∷ 3 ∷ 4 ∷ 5 ∷ 6 ∷ 7 ∷ 0 ∷ 1 ∷ []) $ land ! (from ! (stop !)) (init ! 16 refl (Part′.typed 𝓤 H A W (r3 nodes register c page r2) ok·3)) $
+      here ! (‵ (flft κ₂·nodes q₂·nodes) ∷ ‵ (RefAt u32 κ₂·nodes b₂·nodes o₂·nodes γ₂·nodes κ·nodes b·nodes o·nodes γ·nodes nodes) ∷ ‵ (flft κ·nodes q·nodes) ∷ ‵ (ShrAt u32 κ·nodes b·nodes o·nodes γ·nodes (length nodes) nodes) ∷ ‵ (flft κ₂·register q₂·register) ∷ ‵ (RefAt Record′.row κ₂·register b₂·register o₂·register γ₂·register κ·register b·register o·register γ·register register) ∷ ‵ (flft κ·register q·register) ∷ ‵ (ShrAt Record′.row κ·register b·register o·register γ·register (length register) register) ∷ empty (tyInt w64) l₁₁ (empty (sliceTy (tyRef erased imm (pointee (u32 .written)))) l₁₀ (empty (tyAt (code.function .locals) 9) l₉ (holds (sliceTy (tyRef erased imm (pointee (Record′.row .written)))) l₈ (sliceVal (b·register, o·register) (length register)) (holds (tyAt (code.function .locals) 7) l₇ (Part′.mach (r3 nodes register c page r2)) (holds (tyInt w64) l₆ (vint w64 r2) (holds (tyAt (code.function .locals) 5) l₅ (Part′.mach (r1 nodes register c page)) (holds (tyAt (code.function .locals) 4) l₄ (PageIndex′.mach page) (holds (tyInt w64) l₃ (vint w64 c) (holds (tyRef (named 2) imm (sliceTy (tyRef (named 3) imm (pointee (Record′.row .written))))) l₂ (vptr b₂·register o₂·register) (holds (tyRef (named 0) imm (sliceTy (tyRef (named 1) imm (pointee (u32 .written))))) l₁ (vptr b₂·nodes o₂·nodes) (empty (tyAt (code.function .locals) 0) l₀ [])))))))))))) $
       opens-ref ! tt u32 κ₂·nodes q₂·nodes b₂·nodes o₂·nodes γ₂·nodes κ·nodes b·nodes o·nodes γ·nodes nodes (λ q′ _. assigns ! (of-opd ! (load ! (from ! (hop ! (look ! 31 refl) (stop !))) (look-raw ! 0 refl))) (from ! (stop !)) (init ! 13 refl (tt, (tt, (record { fits = room·nodes .0 }, tt)))) $
       shuts-ref ! tt u32 κ₂·nodes q₂·nodes b₂·nodes o₂·nodes γ₂·nodes κ·nodes b·nodes o·nodes γ·nodes nodes q′ $
-      Call-leaf-place.calls ! mem run (fmOf 𝓤 H (W .laws) 𝓣) known-leaf-place (r3 nodes register c page) (r2 nodes register c page) page ok·3 ok·2 ok·page (and-then ! (load ! (from ! (stop !)) (look ! 17 refl)) (and-then ! (load ! (from ! (stop !)) (look ! 19 refl)) (and-then ! (load ! (from ! (stop !)) (look ! 23 refl)) (no-more !))))
+      Call-leaf-place.calls ! mem run (fmOf 𝓤 H (W .laws) 𝓣) known-leaf-place (r3 nodes register c page r2) r2 page ok·3 ok·2 ok·page (and-then ! (load ! (from ! (stop !)) (look ! 17 refl)) (and-then ! (load ! (from ! (stop !)) (look ! 19 refl)) (and-then ! (load ! (from ! (stop !)) (look ! 23 refl)) (no-more !))))
       (λ ok·4. land ! (from ! (stop !)) (init ! 8 refl (tt, record { fits = ok·4 .1 })) $
-      here ! (‵ (flft κ₂·nodes q₂·nodes) ∷ ‵ (RefAt u32 κ₂·nodes b₂·nodes o₂·nodes γ₂·nodes κ·nodes b·nodes o·nodes γ·nodes nodes) ∷ ‵ (flft κ·nodes q·nodes) ∷ ‵ (ShrAt u32 κ·nodes b·nodes o·nodes γ·nodes (length nodes) nodes) ∷ ‵ (flft κ₂·register q₂·register) ∷ ‵ (RefAt Record′.row κ₂·register b₂·register o₂·register γ₂·register κ·register b·register o·register γ·register register) ∷ ‵ (flft κ·register q·register) ∷ ‵ (ShrAt Record′.row κ·register b·register o·register γ·register (length register) register) ∷ holds (tyInt w64) l₁₁ (vint w64 (r4 nodes register c page)) (holds (sliceTy (tyRef erased imm (pointee (u32 .written)))) l₁₀ (sliceVal (b·nodes, o·nodes) (length nodes)) (empty (tyAt (code.function .locals) 9) l₉ (holds (sliceTy (tyRef erased imm (pointee (Record′.row .written)))) l₈ (sliceVal (b·register, o·register) (length register)) (holds (tyAt (code.function .locals) 7) l₇ (Part′.mach (r3 nodes register c page)) (holds (tyInt w64) l₆ (vint w64 (r2 nodes register c page)) (holds (tyAt (code.function .locals) 5) l₅ (Part′.mach (r1 nodes register c page)) (holds (tyAt (code.function .locals) 4) l₄ (PageIndex′.mach page) (holds (tyInt w64) l₃ (vint w64 c) (holds (tyRef (named 2) imm (sliceTy (tyRef (named 3) imm (pointee (Record′.row .written))))) l₂ (vptr b₂·register o₂·register) (holds (tyRef (named 0) imm (sliceTy (tyRef (named 1) imm (pointee (u32 .written))))) l₁ (vptr b₂·nodes o₂·nodes) (empty (tyAt (code.function .locals) 0) l₀ [])))))))))))) $
+      here ! (‵ (flft κ₂·nodes q₂·nodes) ∷ ‵ (RefAt u32 κ₂·nodes b₂·nodes o₂·nodes γ₂·nodes κ·nodes b·nodes o·nodes γ·nodes nodes) ∷ ‵ (flft κ·nodes q·nodes) ∷ ‵ (ShrAt u32 κ·nodes b·nodes o·nodes γ·nodes (length nodes) nodes) ∷ ‵ (flft κ₂·register q₂·register) ∷ ‵ (RefAt Record′.row κ₂·register b₂·register o₂·register γ₂·register κ·register b·register o·register γ·register register) ∷ ‵ (flft κ·register q·register) ∷ ‵ (ShrAt Record′.row κ·register b·register o·register γ·register (length register) register) ∷ holds (tyInt w64) l₁₁ (vint w64 (r4 nodes register c page r2)) (holds (sliceTy (tyRef erased imm (pointee (u32 .written)))) l₁₀ (sliceVal (b·nodes, o·nodes) (length nodes)) (empty (tyAt (code.function .locals) 9) l₉ (holds (sliceTy (tyRef erased imm (pointee (Record′.row .written)))) l₈ (sliceVal (b·register, o·register) (length register)) (holds (tyAt (code.function .locals) 7) l₇ (Part′.mach (r3 nodes register c page r2)) (holds (tyInt w64) l₆ (vint w64 r2) (holds (tyAt (code.function .locals) 5) l₅ (Part′.mach (r1 nodes register c page)) (holds (tyAt (code.function .locals) 4) l₄ (PageIndex′.mach page) (holds (tyInt w64) l₃ (vint w64 c) (holds (tyRef (named 2) imm (sliceTy (tyRef (named 3) imm (pointee (Record′.row .written))))) l₂ (vptr b₂·register o₂·register) (holds (tyRef (named 0) imm (sliceTy (tyRef (named 1) imm (pointee (u32 .written))))) l₁ (vptr b₂·nodes o₂·nodes) (empty (tyAt (code.function .locals) 0) l₀ [])))))))))))) $
       move ! (2 ∷ 3 ∷ []) $
-      Call-node-at.calls ! mem run (fmOf 𝓤 H (W .laws) 𝓣) known-node-at κ·nodes q·nodes b·nodes o·nodes γ·nodes (length nodes) nodes (r4 nodes register c page) ok·4 (and-then ! (load ! (from ! (stop !)) (look ! 10 refl)) (and-then ! (load ! (from ! (stop !)) (look ! 8 refl)) (no-more !)))
-      (λ ok·5. move ! (2 ∷ 3 ∷ 0 ∷ 1 ∷ 4 ∷ 5 ∷ 6 ∷ 7 ∷ []) $ land ! (from ! (stop !)) (init ! 12 refl (NodeAt′.typed 𝓤 H A W (r5 nodes register c page) ok·5)) $
-      here ! (‵ (flft κ₂·nodes q₂·nodes) ∷ ‵ (RefAt u32 κ₂·nodes b₂·nodes o₂·nodes γ₂·nodes κ·nodes b·nodes o·nodes γ·nodes nodes) ∷ ‵ (flft κ·nodes q·nodes) ∷ ‵ (ShrAt u32 κ·nodes b·nodes o·nodes γ·nodes (length nodes) nodes) ∷ ‵ (flft κ₂·register q₂·register) ∷ ‵ (RefAt Record′.row κ₂·register b₂·register o₂·register γ₂·register κ·register b·register o·register γ·register register) ∷ ‵ (flft κ·register q·register) ∷ ‵ (ShrAt Record′.row κ·register b·register o·register γ·register (length register) register) ∷ holds (tyInt w64) l₁₁ (vint w64 (r4 nodes register c page)) (holds (sliceTy (tyRef erased imm (pointee (u32 .written)))) l₁₀ (sliceVal (b·nodes, o·nodes) (length nodes)) (holds (tyAt (code.function .locals) 9) l₉ (NodeAt′.mach (r5 nodes register c page)) (holds (sliceTy (tyRef erased imm (pointee (Record′.row .written)))) l₈ (sliceVal (b·register, o·register) (length register)) (holds (tyAt (code.function .locals) 7) l₇ (Part′.mach (r3 nodes register c page)) (holds (tyInt w64) l₆ (vint w64 (r2 nodes register c page)) (holds (tyAt (code.function .locals) 5) l₅ (Part′.mach (r1 nodes register c page)) (holds (tyAt (code.function .locals) 4) l₄ (PageIndex′.mach page) (holds (tyInt w64) l₃ (vint w64 c) (holds (tyRef (named 2) imm (sliceTy (tyRef (named 3) imm (pointee (Record′.row .written))))) l₂ (vptr b₂·register o₂·register) (holds (tyRef (named 0) imm (sliceTy (tyRef (named 1) imm (pointee (u32 .written))))) l₁ (vptr b₂·nodes o₂·nodes) (empty (tyAt (code.function .locals) 0) l₀ [])))))))))))) $
-      Call-leaf-of.calls ! mem run (fmOf 𝓤 H (W .laws) 𝓣) known-leaf-of (r5 nodes register c page) (r2 nodes register c page) ok·5 ok·2 (and-then ! (load ! (from ! (stop !)) (look ! 13 refl)) (and-then ! (load ! (from ! (stop !)) (look ! 19 refl)) (no-more !)))
-      (λ ok·6. land ! (from ! (stop !)) (init ! 30 refl (Found′.typed 𝓤 H A W (r6 nodes register c page) ok·6)) $
-      here ! (‵ (flft κ₂·nodes q₂·nodes) ∷ ‵ (RefAt u32 κ₂·nodes b₂·nodes o₂·nodes γ₂·nodes κ·nodes b·nodes o·nodes γ·nodes nodes) ∷ ‵ (flft κ·nodes q·nodes) ∷ ‵ (ShrAt u32 κ·nodes b·nodes o·nodes γ·nodes (length nodes) nodes) ∷ ‵ (flft κ₂·register q₂·register) ∷ ‵ (RefAt Record′.row κ₂·register b₂·register o₂·register γ₂·register κ·register b·register o·register γ·register register) ∷ ‵ (flft κ·register q·register) ∷ ‵ (ShrAt Record′.row κ·register b·register o·register γ·register (length register) register) ∷ holds (tyInt w64) l₁₁ (vint w64 (r4 nodes register c page)) (holds (sliceTy (tyRef erased imm (pointee (u32 .written)))) l₁₀ (sliceVal (b·nodes, o·nodes) (length nodes)) (holds (tyAt (code.function .locals) 9) l₉ (NodeAt′.mach (r5 nodes register c page)) (holds (sliceTy (tyRef erased imm (pointee (Record′.row .written)))) l₈ (sliceVal (b·register, o·register) (length register)) (holds (tyAt (code.function .locals) 7) l₇ (Part′.mach (r3 nodes register c page)) (holds (tyInt w64) l₆ (vint w64 (r2 nodes register c page)) (holds (tyAt (code.function .locals) 5) l₅ (Part′.mach (r1 nodes register c page)) (holds (tyAt (code.function .locals) 4) l₄ (PageIndex′.mach page) (holds (tyInt w64) l₃ (vint w64 c) (holds (tyRef (named 2) imm (sliceTy (tyRef (named 3) imm (pointee (Record′.row .written))))) l₂ (vptr b₂·register o₂·register) (holds (tyRef (named 0) imm (sliceTy (tyRef (named 1) imm (pointee (u32 .written))))) l₁ (vptr b₂·nodes o₂·nodes) (holds (tyAt (code.function .locals) 0) l₀ (Found′.mach (r6 nodes register c page)) [])))))))))))) $
+      Call-node-at.calls ! mem run (fmOf 𝓤 H (W .laws) 𝓣) known-node-at κ·nodes q·nodes b·nodes o·nodes γ·nodes (length nodes) nodes (r4 nodes register c page r2) ok·4 (and-then ! (load ! (from ! (stop !)) (look ! 10 refl)) (and-then ! (load ! (from ! (stop !)) (look ! 8 refl)) (no-more !)))
+      (λ ok·5. move ! (2 ∷ 3 ∷ 0 ∷ 1 ∷ 4 ∷ 5 ∷ 6 ∷ 7 ∷ []) $ land ! (from ! (stop !)) (init ! 12 refl (NodeAt′.typed 𝓤 H A W (r5 nodes register c page r2) ok·5)) $
+      here ! (‵ (flft κ₂·nodes q₂·nodes) ∷ ‵ (RefAt u32 κ₂·nodes b₂·nodes o₂·nodes γ₂·nodes κ·nodes b·nodes o·nodes γ·nodes nodes) ∷ ‵ (flft κ·nodes q·nodes) ∷ ‵ (ShrAt u32 κ·nodes b·nodes o·nodes γ·nodes (length nodes) nodes) ∷ ‵ (flft κ₂·register q₂·register) ∷ ‵ (RefAt Record′.row κ₂·register b₂·register o₂·register γ₂·register κ·register b·register o·register γ·register register) ∷ ‵ (flft κ·register q·register) ∷ ‵ (ShrAt Record′.row κ·register b·register o·register γ·register (length register) register) ∷ holds (tyInt w64) l₁₁ (vint w64 (r4 nodes register c page r2)) (holds (sliceTy (tyRef erased imm (pointee (u32 .written)))) l₁₀ (sliceVal (b·nodes, o·nodes) (length nodes)) (holds (tyAt (code.function .locals) 9) l₉ (NodeAt′.mach (r5 nodes register c page r2)) (holds (sliceTy (tyRef erased imm (pointee (Record′.row .written)))) l₈ (sliceVal (b·register, o·register) (length register)) (holds (tyAt (code.function .locals) 7) l₇ (Part′.mach (r3 nodes register c page r2)) (holds (tyInt w64) l₆ (vint w64 r2) (holds (tyAt (code.function .locals) 5) l₅ (Part′.mach (r1 nodes register c page)) (holds (tyAt (code.function .locals) 4) l₄ (PageIndex′.mach page) (holds (tyInt w64) l₃ (vint w64 c) (holds (tyRef (named 2) imm (sliceTy (tyRef (named 3) imm (pointee (Record′.row .written))))) l₂ (vptr b₂·register o₂·register) (holds (tyRef (named 0) imm (sliceTy (tyRef (named 1) imm (pointee (u32 .written))))) l₁ (vptr b₂·nodes o₂·nodes) (empty (tyAt (code.function .locals) 0) l₀ [])))))))))))) $
+      Call-leaf-of.calls ! mem run (fmOf 𝓤 H (W .laws) 𝓣) known-leaf-of (r5 nodes register c page r2) r2 ok·5 ok·2 (and-then ! (load ! (from ! (stop !)) (look ! 13 refl)) (and-then ! (load ! (from ! (stop !)) (look ! 19 refl)) (no-more !)))
+      (λ ok·6. land ! (from ! (stop !)) (init ! 30 refl (Found′.typed 𝓤 H A W (r6 nodes register c page r2) ok·6)) $
+      here ! (‵ (flft κ₂·nodes q₂·nodes) ∷ ‵ (RefAt u32 κ₂·nodes b₂·nodes o₂·nodes γ₂·nodes κ·nodes b·nodes o·nodes γ·nodes nodes) ∷ ‵ (flft κ·nodes q·nodes) ∷ ‵ (ShrAt u32 κ·nodes b·nodes o·nodes γ·nodes (length nodes) nodes) ∷ ‵ (flft κ₂·register q₂·register) ∷ ‵ (RefAt Record′.row κ₂·register b₂·register o₂·register γ₂·register κ·register b·register o·register γ·register register) ∷ ‵ (flft κ·register q·register) ∷ ‵ (ShrAt Record′.row κ·register b·register o·register γ·register (length register) register) ∷ holds (tyInt w64) l₁₁ (vint w64 (r4 nodes register c page r2)) (holds (sliceTy (tyRef erased imm (pointee (u32 .written)))) l₁₀ (sliceVal (b·nodes, o·nodes) (length nodes)) (holds (tyAt (code.function .locals) 9) l₉ (NodeAt′.mach (r5 nodes register c page r2)) (holds (sliceTy (tyRef erased imm (pointee (Record′.row .written)))) l₈ (sliceVal (b·register, o·register) (length register)) (holds (tyAt (code.function .locals) 7) l₇ (Part′.mach (r3 nodes register c page r2)) (holds (tyInt w64) l₆ (vint w64 r2) (holds (tyAt (code.function .locals) 5) l₅ (Part′.mach (r1 nodes register c page)) (holds (tyAt (code.function .locals) 4) l₄ (PageIndex′.mach page) (holds (tyInt w64) l₃ (vint w64 c) (holds (tyRef (named 2) imm (sliceTy (tyRef (named 3) imm (pointee (Record′.row .written))))) l₂ (vptr b₂·register o₂·register) (holds (tyRef (named 0) imm (sliceTy (tyRef (named 1) imm (pointee (u32 .written))))) l₁ (vptr b₂·nodes o₂·nodes) (holds (tyAt (code.function .locals) 0) l₀ (Found′.mach (r6 nodes register c page r2)) [])))))))))))) $
       returns ! (look ! 30 refl) $
-      move ! (30 ∷ 31 ∷ []) $ forget ! 0 refl $ free1 ! $ move ! (28 ∷ 29 ∷ []) $ forget ! 0 refl $ free1 ! $ move ! (26 ∷ 27 ∷ []) $ forget ! 0 refl $ free1 ! $ move ! (24 ∷ 25 ∷ []) $ forget ! 0 refl $ free1 ! $ move ! (22 ∷ 23 ∷ []) $ forget ! 0 refl $ free1 ! $ move ! (20 ∷ 21 ∷ []) $ forget ! 0 refl $ free1 ! $ move ! (18 ∷ 19 ∷ []) $ forget ! 0 refl $ free1 ! $ move ! (16 ∷ 17 ∷ []) $ forget ! 0 refl $ free1 ! $ move ! (14 ∷ 15 ∷ []) $ forget ! 0 refl $ free1 ! $ move ! (12 ∷ 13 ∷ []) $ forget ! 0 refl $ free1 ! $ move ! (10 ∷ 11 ∷ []) $ forget ! 0 refl $ free1 ! $ move ! (8 ∷ 9 ∷ []) $ forget ! 0 refl $ free1 ! $ free0 ! $ move ! (3 ∷ []) $ drop ! $ move ! (6 ∷ []) $ drop ! $ by ! (exits (r6 nodes register c page) ok·6 (Facts.exit-1 nodes register c page (room·nodes .0) (room·register .0) (ok·c .1) ok·page ok·1 (ok·2 .1) ok·3 (ok·4 .1) ok·5 ok·6)))))))))))))))))))))))))
+      move ! (30 ∷ 31 ∷ []) $ forget ! 0 refl $ free1 ! $ move ! (28 ∷ 29 ∷ []) $ forget ! 0 refl $ free1 ! $ move ! (26 ∷ 27 ∷ []) $ forget ! 0 refl $ free1 ! $ move ! (24 ∷ 25 ∷ []) $ forget ! 0 refl $ free1 ! $ move ! (22 ∷ 23 ∷ []) $ forget ! 0 refl $ free1 ! $ move ! (20 ∷ 21 ∷ []) $ forget ! 0 refl $ free1 ! $ move ! (18 ∷ 19 ∷ []) $ forget ! 0 refl $ free1 ! $ move ! (16 ∷ 17 ∷ []) $ forget ! 0 refl $ free1 ! $ move ! (14 ∷ 15 ∷ []) $ forget ! 0 refl $ free1 ! $ move ! (12 ∷ 13 ∷ []) $ forget ! 0 refl $ free1 ! $ move ! (10 ∷ 11 ∷ []) $ forget ! 0 refl $ free1 ! $ move ! (8 ∷ 9 ∷ []) $ forget ! 0 refl $ free1 ! $ free0 ! $ move ! (3 ∷ []) $ drop ! $ move ! (6 ∷ []) $ drop ! $ by ! (exits (r6 nodes register c page r2) ok·6 (Facts.exit-1 nodes register c page (room·nodes .0) (room·register .0) (ok·c .1) ok·page ok·1 r2 (ok·2 .1) says·2 ok·3 (ok·4 .1) ok·5 ok·6)))))))))))))))))))))))))
 
 module _ {M : Type 1} (𝓤 : URA M) (H : Heap 𝓤) (A : Atoms 𝓤) (W : Given 𝓤 H A) (mem : Memory → SProp 𝓤) (run : Routine → Fun 𝓤) where
   walks : (𝓣 : Tables 𝓤 H) → Triple 𝓤 (𝓣 .C #version-part) (Call-version-part.Asked 𝓤 H A mem run) → Triple 𝓤 (𝓣 .C #reach-from) (Call-reach-from.Asked 𝓤 H A mem run) → Triple 𝓤 (𝓣 .C #leaf-place) (Call-leaf-place.Asked 𝓤 H A mem run) → Triple 𝓤 (𝓣 .C #node-at) (Call-node-at.Asked 𝓤 H A mem run) → Triple 𝓤 (𝓣 .C #leaf-of) (Call-leaf-of.Asked 𝓤 H A mem run) → Walks 𝓤 H A find-page‴.ended stayed (WpFn 𝓤 H (𝓣 .C) (𝓣 .Λ) code.function) (find-page‴.clauses 𝓤 H A mem run)

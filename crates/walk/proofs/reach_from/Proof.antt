@@ -51,16 +51,16 @@ use Rattle.lines.specs.declared.Entries.{Entries}
 use Rattle.register.proofs.Generated.Kind.Entries as Entries′
 use Rattle.register.proofs.Generated.Flow.{ref, MutAt, ShrAt, lend-mut, back-mut, lend-shr, back-shr, branches-on, regroup, skips-on, returns-on, plus-nothing, holds, empty, less-fits, is-true, is-false, differ, above-0, twice-not, switches-to, switches-last, big-lit, here, blocks-on, resume, scaled-2, scaled-4, scaled-8, opens-shr, shuts-shr, opens-mut, shuts-mut, puts-mut, keeps-shr, fills, empties, tyAt}
 use Rattle.walk.proofs.Generated.Say.reach_from as reach-from″
-use Rattle.walk.proofs.Generated.Say.smaller as smaller″
-use Rattle.walk.proofs.Generated.Call.smaller as Call-smaller
-use Rattle.tree.proofs.smaller.Symbol as def-smaller
-use Rattle.tree.proofs.smaller.Symbol.{name as #smaller}
-use Rattle.tree.proofs.smaller.Met as thm-smaller
-use Rattle.walk.proofs.Generated.Say.span_of as span-of″
-use Rattle.walk.proofs.Generated.Call.span_of as Call-span-of
-use Rattle.tree.proofs.span_of.Symbol as def-span-of
-use Rattle.tree.proofs.span_of.Symbol.{name as #span-of}
-use Rattle.tree.proofs.span_of.Met as thm-span-of
+use Rattle.walk.proofs.Generated.Say.root_within as root-within″
+use Rattle.walk.proofs.Generated.Call.root_within as Call-root-within
+use Rattle.tree.proofs.root_within.Symbol as def-root-within
+use Rattle.tree.proofs.root_within.Symbol.{name as #root-within}
+use Rattle.tree.proofs.root_within.Met as thm-root-within
+use Rattle.walk.proofs.Generated.Say.height_of as height-of″
+use Rattle.walk.proofs.Generated.Call.height_of as Call-height-of
+use Rattle.tree.proofs.height_of.Symbol as def-height-of
+use Rattle.tree.proofs.height_of.Symbol.{name as #height-of}
+use Rattle.tree.proofs.height_of.Met as thm-height-of
 use Rattle.walk.proofs.Generated.Say.carried_from as carried-from″
 use Rattle.walk.proofs.Generated.Call.carried_from as Call-carried-from
 use Rattle.walk.proofs.carried_from.Symbol as def-carried-from
@@ -79,17 +79,17 @@ use Rattle.walk.proofs.reach_from.Proof.Facts as Facts
 use contract.BorrowLft.{_⊑_}
 use denote.Ref.{ShrRef, ptr-vals, shr-tells}
 use Rattle.descent.proofs.Generated.Through.{ref-to, RefAt, takes-out, opens-ref, shuts-ref}
-use Rattle.walk.proofs.reach_from.Proof.Asks.{r1, r2, r4}
+use Rattle.walk.proofs.reach_from.Proof.Asks.{r1}
 
 abbrev stayed : Stays (reach-from‴.ended .signature .params) (reach-from‴.ended .kept)
 stayed = (stay-none-ref (0 ∷ []) tt (shrSliceOf (1 ∷ []) tt (plain (λ _. u32))) yes, (stay-none-ref (2 ∷ []) tt (shrSliceOf (3 ∷ []) tt (plain (λ _. Record′.row))) yes, (stay-none (λ _. u64) yes, (stay-none (λ _. u64) yes, (stay-none (λ _. PageIndex′.row) yes, (stay-none (λ _. u64) yes, tt))))))
 
-module _ {M : Type 1} (𝓤 : URA M) (H : Heap 𝓤) (A : Atoms 𝓤) (W : Given 𝓤 H A) (mem : Memory → SProp 𝓤) (run : Routine → Fun 𝓤) (κ₂·nodes : Lft) (q₂·nodes : Share) (b₂·nodes o₂·nodes : ℕ) (γ₂·nodes : GName) (κ·nodes : Lft) (q·nodes : Share) (b·nodes o·nodes : ℕ) (γ·nodes : GName) (nodes : List ℕ) (long·nodes : κ₂·nodes ⊑ κ·nodes) (κ₂·register : Lft) (q₂·register : Share) (b₂·register o₂·register : ℕ) (γ₂·register : GName) (κ·register : Lft) (q·register : Share) (b·register o·register : ℕ) (γ·register : GName) (register : List Record) (long·register : κ₂·register ⊑ κ·register) (c : ℕ) (height : ℕ) (page : PageIndex) (x-to : ℕ) (ok·c : Is u64 c (uint-vals w64 c)) (ok·height : Is u64 height (uint-vals w64 height)) (ok·page : Is PageIndex′.row page (PageIndex′.vals page)) (ok·x-to : Is u64 x-to (uint-vals w64 x-to)) where
+module _ {M : Type 1} (𝓤 : URA M) (H : Heap 𝓤) (A : Atoms 𝓤) (W : Given 𝓤 H A) (mem : Memory → SProp 𝓤) (run : Routine → Fun 𝓤) (κ₂·nodes : Lft) (q₂·nodes : Share) (b₂·nodes o₂·nodes : ℕ) (γ₂·nodes : GName) (κ·nodes : Lft) (q·nodes : Share) (b·nodes o·nodes : ℕ) (γ·nodes : GName) (nodes : List ℕ) (long·nodes : κ₂·nodes ⊑ κ·nodes) (κ₂·register : Lft) (q₂·register : Share) (b₂·register o₂·register : ℕ) (γ₂·register : GName) (κ·register : Lft) (q·register : Share) (b·register o·register : ℕ) (γ·register : GName) (register : List Record) (long·register : κ₂·register ⊑ κ·register) (c : ℕ) (span : ℕ) (page : PageIndex) (x-to : ℕ) (ok·c : Is u64 c (uint-vals w64 c)) (ok·span : Is u64 span (uint-vals w64 span)) (ok·page : Is PageIndex′.row page (PageIndex′.vals page)) (ok·x-to : Is u64 x-to (uint-vals w64 x-to)) (need : reach-from″.req nodes register c span page x-to) where
   abbrev all-args : Args reach-from‴.signature (κ₂·nodes, (κ·nodes, (κ₂·register, (κ·register, tt))))
-  all-args = (ref-to b₂·nodes o₂·nodes γ₂·nodes (ref b·nodes o·nodes γ·nodes nodes), (ref-to b₂·register o₂·register γ₂·register (ref b·register o·register γ·register register), (c, (height, (page, (x-to, tt))))))
+  all-args = (ref-to b₂·nodes o₂·nodes γ₂·nodes (ref b·nodes o·nodes γ·nodes nodes), (ref-to b₂·register o₂·register γ₂·register (ref b·register o·register γ·register register), (c, (span, (page, (x-to, tt))))))
 
   abbrev all-vals : Vals reach-from‴.signature (κ₂·nodes, (κ·nodes, (κ₂·register, (κ·register, tt))))
-  all-vals = (vptr b₂·nodes o₂·nodes ∷ [], (vptr b₂·register o₂·register ∷ [], (vint w64 c ∷ [], (vint w64 height ∷ [], (PageIndex′.mach page ∷ [], (vint w64 x-to ∷ [], tt))))))
+  all-vals = (vptr b₂·nodes o₂·nodes ∷ [], (vptr b₂·register o₂·register ∷ [], (vint w64 c ∷ [], (vint w64 span ∷ [], (PageIndex′.mach page ∷ [], (vint w64 x-to ∷ [], tt))))))
 
   abbrev bound : walkOf 𝓤 H A reach-from‴.ended stayed (reach-from‴.clauses 𝓤 H A mem run) .Ghost
   bound = (((κ₂·nodes, (κ·nodes, (κ₂·register, (κ·register, tt)))), (q₂·nodes, (q·nodes, (q₂·register, (q·register, tt)))), (long·nodes, (long·register, tt)), all-args, all-vals), tt)
@@ -97,53 +97,53 @@ module _ {M : Type 1} (𝓤 : URA M) (H : Heap 𝓤) (A : Atoms 𝓤) (W : Given
   abbrev Post : Val → SProp 𝓤
   Post = walkOf 𝓤 H A reach-from‴.ended stayed (reach-from‴.clauses 𝓤 H A mem run) .post bound
 
-  exits : (r : ℕ) → Is u64 r (uint-vals w64 r) → reach-from″.ens nodes register c height page x-to r → ent 𝓤 (⋆ 𝓤 H A (‵ (flft κ₂·nodes q₂·nodes) ∷ ‵ (RefAt u32 κ₂·nodes b₂·nodes o₂·nodes γ₂·nodes κ·nodes b·nodes o·nodes γ·nodes nodes) ∷ ‵ (flft κ·nodes q·nodes) ∷ ‵ (flft κ₂·register q₂·register) ∷ ‵ (RefAt Record′.row κ₂·register b₂·register o₂·register γ₂·register κ·register b·register o·register γ·register register) ∷ ‵ (flft κ·register q·register) ∷ [])) (Post (vint w64 r))
+  exits : (r : ℕ) → Is u64 r (uint-vals w64 r) → reach-from″.ens nodes register c span page x-to r → ent 𝓤 (⋆ 𝓤 H A (‵ (flft κ₂·nodes q₂·nodes) ∷ ‵ (RefAt u32 κ₂·nodes b₂·nodes o₂·nodes γ₂·nodes κ·nodes b·nodes o·nodes γ·nodes nodes) ∷ ‵ (flft κ·nodes q·nodes) ∷ ‵ (flft κ₂·register q₂·register) ∷ ‵ (RefAt Record′.row κ₂·register b₂·register o₂·register γ₂·register κ·register b·register o·register γ·register register) ∷ ‵ (flft κ·register q·register) ∷ [])) (Post (vint w64 r))
   exits r ok·r said =
       qed W (‵ (flft κ₂·nodes q₂·nodes) ∷ ‵ (RefAt u32 κ₂·nodes b₂·nodes o₂·nodes γ₂·nodes κ·nodes b·nodes o·nodes γ·nodes nodes) ∷ ‵ (flft κ·nodes q·nodes) ∷ ‵ (flft κ₂·register q₂·register) ∷ ‵ (RefAt Record′.row κ₂·register b₂·register o₂·register γ₂·register κ·register b·register o·register γ·register register) ∷ ‵ (flft κ·register q·register) ∷ []) ∵ suffices ! _ (ends-at 𝓤 H A reach-from‴.ended stayed (reach-from‴.clauses 𝓤 H A mem run) W bound (vint w64 r) r (tt, (tt, (tt, (tt, (tt, (tt, tt)))))) (tt, (tt, (tt, (tt, (tt, (tt, tt))))))) $ says ! said $
-      nothing ! $ move ! (6 ∷ 0 ∷ []) $ join ! $ move ! (4 ∷ 0 ∷ []) $ join ! $ move ! (3 ∷ 0 ∷ []) $ join ! $ move ! (1 ∷ 0 ∷ []) $ join ! $ frame ! $ nothing ! $ owned ! u64 (Is u64) (uint-makes 𝓤 H A W w64) x-to _ ok·x-to $ fjoin ! $ owned ! PageIndex′.row (Is PageIndex′.row) (PageIndex′.makes 𝓤 H A) page _ ok·page $ fjoin ! $ owned ! u64 (Is u64) (uint-makes 𝓤 H A W w64) height _ ok·height $ fjoin ! $ owned ! u64 (Is u64) (uint-makes 𝓤 H A W w64) c _ ok·c $ fjoin ! $ move ! (2 ∷ 0 ∷ []) $ fjoin ! $ move ! (1 ∷ 0 ∷ []) $ fjoin ! $ frame ! $ owned ! u64 (Is u64) (uint-makes 𝓤 H A W w64) r _ ok·r $ done !
+      nothing ! $ move ! (6 ∷ 0 ∷ []) $ join ! $ move ! (4 ∷ 0 ∷ []) $ join ! $ move ! (3 ∷ 0 ∷ []) $ join ! $ move ! (1 ∷ 0 ∷ []) $ join ! $ frame ! $ nothing ! $ owned ! u64 (Is u64) (uint-makes 𝓤 H A W w64) x-to _ ok·x-to $ fjoin ! $ owned ! PageIndex′.row (Is PageIndex′.row) (PageIndex′.makes 𝓤 H A) page _ ok·page $ fjoin ! $ owned ! u64 (Is u64) (uint-makes 𝓤 H A W w64) span _ ok·span $ fjoin ! $ owned ! u64 (Is u64) (uint-makes 𝓤 H A W w64) c _ ok·c $ fjoin ! $ move ! (2 ∷ 0 ∷ []) $ fjoin ! $ move ! (1 ∷ 0 ∷ []) $ fjoin ! $ frame ! $ owned ! u64 (Is u64) (uint-makes 𝓤 H A W w64) r _ ok·r $ done !
 
-  walk : (𝓣 : Tables 𝓤 H) (known-smaller : Triple 𝓤 (𝓣 .C #smaller) (Call-smaller.Asked 𝓤 H A mem run)) (known-span-of : Triple 𝓤 (𝓣 .C #span-of) (Call-span-of.Asked 𝓤 H A mem run)) (known-carried-from : Triple 𝓤 (𝓣 .C #carried-from) (Call-carried-from.Asked 𝓤 H A mem run)) (known-reach : Triple 𝓤 (𝓣 .C #reach) (Call-reach.Asked 𝓤 H A mem run)) → ent 𝓤 (onEntry 𝓤 H A reach-from‴.signature (κ₂·nodes, (κ·nodes, (κ₂·register, (κ·register, tt)))) (q₂·nodes, (q·nodes, (q₂·register, (q·register, tt)))) all-args all-vals)
-      (WpFn 𝓤 H (𝓣 .C) (𝓣 .Λ) code.function (vptr b₂·nodes o₂·nodes ∷ vptr b₂·register o₂·register ∷ vint w64 c ∷ vint w64 height ∷ PageIndex′.mach page ∷ vint w64 x-to ∷ []) Post)
-  walk 𝓣 known-smaller known-span-of known-carried-from known-reach =
-      qed W ((‵ (flft κ₂·nodes q₂·nodes) ⊛ ‵ (flft κ·nodes q·nodes) ⊛ ‵ (flft κ₂·register q₂·register) ⊛ ‵ (flft κ·register q·register) ⊛ ‵ ftrue) ∷ ‵ (owns (ShrRef (named 0) κ₂·nodes (ShrSlice (named 0) κ·nodes u32) ∷ ShrRef (named 0) κ₂·register (ShrSlice (named 0) κ·register Record′.row) ∷ u64 ∷ u64 ∷ PageIndex′.row ∷ u64 ∷ []) all-args all-vals) ∷ []) ∵ enter ! (𝓣 .C) (𝓣 .Λ) code.function (vptr b₂·nodes o₂·nodes ∷ vptr b₂·register o₂·register ∷ vint w64 c ∷ vint w64 height ∷ PageIndex′.mach page ∷ vint w64 x-to ∷ []) _ $
+  walk : (𝓣 : Tables 𝓤 H) (known-root-within : Triple 𝓤 (𝓣 .C #root-within) (Call-root-within.Asked 𝓤 H A mem run)) (known-height-of : Triple 𝓤 (𝓣 .C #height-of) (Call-height-of.Asked 𝓤 H A mem run)) (known-carried-from : Triple 𝓤 (𝓣 .C #carried-from) (Call-carried-from.Asked 𝓤 H A mem run)) (known-reach : Triple 𝓤 (𝓣 .C #reach) (Call-reach.Asked 𝓤 H A mem run)) → ent 𝓤 (onEntry 𝓤 H A reach-from‴.signature (κ₂·nodes, (κ·nodes, (κ₂·register, (κ·register, tt)))) (q₂·nodes, (q·nodes, (q₂·register, (q·register, tt)))) all-args all-vals)
+      (WpFn 𝓤 H (𝓣 .C) (𝓣 .Λ) code.function (vptr b₂·nodes o₂·nodes ∷ vptr b₂·register o₂·register ∷ vint w64 c ∷ vint w64 span ∷ PageIndex′.mach page ∷ vint w64 x-to ∷ []) Post)
+  walk 𝓣 known-root-within known-height-of known-carried-from known-reach =
+      qed W ((‵ (flft κ₂·nodes q₂·nodes) ⊛ ‵ (flft κ·nodes q·nodes) ⊛ ‵ (flft κ₂·register q₂·register) ⊛ ‵ (flft κ·register q·register) ⊛ ‵ ftrue) ∷ ‵ (owns (ShrRef (named 0) κ₂·nodes (ShrSlice (named 0) κ·nodes u32) ∷ ShrRef (named 0) κ₂·register (ShrSlice (named 0) κ·register Record′.row) ∷ u64 ∷ u64 ∷ PageIndex′.row ∷ u64 ∷ []) all-args all-vals) ∷ []) ∵ enter ! (𝓣 .C) (𝓣 .Λ) code.function (vptr b₂·nodes o₂·nodes ∷ vptr b₂·register o₂·register ∷ vint w64 c ∷ vint w64 span ∷ PageIndex′.mach page ∷ vint w64 x-to ∷ []) _ $
       alloc1 ! (λ l₀. alloc1 ! (λ l₁. alloc1 ! (λ l₂. alloc1 ! (λ l₃. alloc1 ! (λ l₄. alloc1 ! (λ l₅. alloc1 ! (λ l₆. alloc1 ! (λ l₇. alloc1 ! (λ l₈. alloc1 ! (λ l₉. alloc1 ! (λ l₁₀. alloc0 ! $ params1 ! $
-      pass1 ! (init ! 18 refl (tt, tt)) $ pass1 ! (init ! 16 refl (tt, tt)) $ pass1 ! (init ! 14 refl (tt, record { fits = ok·c .1 })) $ pass1 ! (init ! 12 refl (tt, record { fits = ok·height .1 })) $ pass1 ! (init ! 10 refl (PageIndex′.typed 𝓤 H A W page ok·page)) $ pass1 ! (init ! 8 refl (tt, record { fits = ok·x-to .1 })) $ pass0 ! $
+      pass1 ! (init ! 18 refl (tt, tt)) $ pass1 ! (init ! 16 refl (tt, tt)) $ pass1 ! (init ! 14 refl (tt, record { fits = ok·c .1 })) $ pass1 ! (init ! 12 refl (tt, record { fits = ok·span .1 })) $ pass1 ! (init ! 10 refl (PageIndex′.typed 𝓤 H A W page ok·page)) $ pass1 ! (init ! 8 refl (tt, record { fits = ok·x-to .1 })) $ pass0 ! $
       move ! (23 ∷ []) $ fsplit ! $ move ! (1 ∷ []) $ fsplit ! $ move ! (1 ∷ []) $ fsplit ! $ drop ! $ fsplit ! $ drop ! $ fsplit ! $ drop ! $ fsplit ! $ drop ! $ drop ! $ move ! (24 ∷ []) $ split ! $ move ! (1 ∷ []) $ split ! $ move ! (1 ∷ []) $ split ! $ move ! (1 ∷ []) $ split ! $ move ! (1 ∷ []) $ drop ! $ move ! (3 ∷ 5 ∷ []) $ takes-out ! tt u32 κ₂·nodes q₂·nodes b₂·nodes o₂·nodes γ₂·nodes κ·nodes b·nodes o·nodes γ·nodes nodes (λ room·nodes. move ! (4 ∷ 6 ∷ []) $ takes-out ! tt Record′.row κ₂·register q₂·register b₂·register o₂·register γ₂·register κ·register b·register o·register γ·register register (λ room·register. move ! (3 ∷ 4 ∷ 7 ∷ 5 ∷ 0 ∷ 1 ∷ 6 ∷ 2 ∷ []) $
-      Call-smaller.calls ! mem run (fmOf 𝓤 H (W .laws) 𝓣) known-smaller height 12 ok·height (refl, lit< tt) (and-then ! (load ! (from ! (stop !)) (look ! 21 refl)) (and-then ! (lit ! tt) (no-more !)))
+      Call-root-within.calls ! mem run (fmOf 𝓤 H (W .laws) 𝓣) known-root-within span ok·span (and-then ! (load ! (from ! (stop !)) (look ! 21 refl)) (no-more !))
       (λ ok·1. land ! (from ! (stop !)) (init ! 14 refl (tt, record { fits = ok·1 .1 })) $
-      Call-span-of.calls ! mem run (fmOf 𝓤 H (W .laws) 𝓣) known-span-of (r1 nodes register c height page x-to) ok·1 (Facts.span-of-1 nodes register c height page x-to (room·nodes .0) (room·register .0) (ok·c .1) (ok·height .1) ok·page (ok·x-to .1) (ok·1 .1)) (and-then ! (load ! (from ! (stop !)) (look ! 15 refl)) (no-more !))
-      (λ ok·2. land ! (from ! (stop !)) (init ! 12 refl (tt, record { fits = ok·2 .1 })) $
-      assigns ! (bin ! (load ! (from ! (stop !)) (look ! 12 refl)) (load ! (from ! (fld ! refl (stop !))) (look-in ! 18 (sub ! 0 refl (whole !)))) tt) (from ! (stop !)) (init ! 10 refl (tt, tt)) $
-      branches-on ! (load ! (from ! (stop !)) (look ! 10 refl))
+      assigns ! (bin ! (load ! (from ! (stop !)) (look ! 14 refl)) (load ! (from ! (fld ! refl (stop !))) (look-in ! 18 (sub ! 0 refl (whole !)))) tt) (from ! (stop !)) (init ! 12 refl (tt, tt)) $
+      branches-on ! (load ! (from ! (stop !)) (look ! 12 refl))
       (λ h·1. regroup ! $
       assigns ! (of-opd ! (lit ! tt)) (from ! (stop !)) (init ! 28 refl (tt, record { fits = lit< tt })) $
       returns-on ! (look ! 28 refl) $
-      move ! (28 ∷ 29 ∷ []) $ forget ! 0 refl $ free1 ! $ move ! (26 ∷ 27 ∷ []) $ forget ! 0 refl $ free1 ! $ move ! (24 ∷ 25 ∷ []) $ forget ! 0 refl $ free1 ! $ move ! (22 ∷ 23 ∷ []) $ forget ! 0 refl $ free1 ! $ move ! (20 ∷ 21 ∷ []) $ forget ! 0 refl $ free1 ! $ move ! (18 ∷ 19 ∷ []) $ forget ! 0 refl $ free1 ! $ move ! (16 ∷ 17 ∷ []) $ forget ! 0 refl $ free1 ! $ move ! (14 ∷ 15 ∷ []) $ forget ! 0 refl $ free1 ! $ move ! (12 ∷ 13 ∷ []) $ forget ! 0 refl $ free1 ! $ move ! (10 ∷ 11 ∷ []) $ forget ! 0 refl $ free1 ! $ move ! (8 ∷ 9 ∷ []) $ free1 ! $ free0 ! $ move ! (3 ∷ []) $ drop ! $ move ! (6 ∷ []) $ drop ! $ by ! (exits 0 (refl, lit< tt) (Facts.exit-1 nodes register c height page x-to (room·nodes .0) (room·register .0) (ok·c .1) (ok·height .1) ok·page (ok·x-to .1) (ok·1 .1) (ok·2 .1) (is-true (leb (r2 nodes register c height page x-to) (page .0)) h·1) (leb→le (r2 nodes register c height page x-to) (page .0) h·1))))
-      (λ h·1. skips-on ! $ assigns ! (bin ! (load ! (from ! (stop !)) (look ! 22 refl)) (neg-lit ! tt) tt) (from ! (stop !)) (store ! 10 refl (tt, tt)) $
-      branches-on ! (load ! (from ! (stop !)) (look ! 10 refl))
+      move ! (28 ∷ 29 ∷ []) $ forget ! 0 refl $ free1 ! $ move ! (26 ∷ 27 ∷ []) $ forget ! 0 refl $ free1 ! $ move ! (24 ∷ 25 ∷ []) $ forget ! 0 refl $ free1 ! $ move ! (22 ∷ 23 ∷ []) $ forget ! 0 refl $ free1 ! $ move ! (20 ∷ 21 ∷ []) $ forget ! 0 refl $ free1 ! $ move ! (18 ∷ 19 ∷ []) $ forget ! 0 refl $ free1 ! $ move ! (16 ∷ 17 ∷ []) $ forget ! 0 refl $ free1 ! $ move ! (14 ∷ 15 ∷ []) $ forget ! 0 refl $ free1 ! $ move ! (12 ∷ 13 ∷ []) $ forget ! 0 refl $ free1 ! $ move ! (10 ∷ 11 ∷ []) $ free1 ! $ move ! (8 ∷ 9 ∷ []) $ free1 ! $ free0 ! $ move ! (3 ∷ []) $ drop ! $ move ! (6 ∷ []) $ drop ! $ by ! (exits 0 (refl, lit< tt) (Facts.exit-1 nodes register c span page x-to (room·nodes .0) (room·register .0) (ok·c .1) (ok·span .1) ok·page (ok·x-to .1) need (ok·1 .1) (is-true (leb (r1 nodes register c span page x-to) (page .0)) h·1) (leb→le (r1 nodes register c span page x-to) (page .0) h·1))))
+      (λ h·1. skips-on ! $ assigns ! (bin ! (load ! (from ! (stop !)) (look ! 22 refl)) (neg-lit ! tt) tt) (from ! (stop !)) (store ! 12 refl (tt, tt)) $
+      branches-on ! (load ! (from ! (stop !)) (look ! 12 refl))
       (λ h·2. regroup ! $
       assigns ! (of-opd ! (neg-lit ! tt)) (from ! (stop !)) (init ! 28 refl (tt, record { fits = lit< tt })) $
       returns-on ! (look ! 28 refl) $
-      move ! (28 ∷ 29 ∷ []) $ forget ! 0 refl $ free1 ! $ move ! (26 ∷ 27 ∷ []) $ forget ! 0 refl $ free1 ! $ move ! (24 ∷ 25 ∷ []) $ forget ! 0 refl $ free1 ! $ move ! (22 ∷ 23 ∷ []) $ forget ! 0 refl $ free1 ! $ move ! (20 ∷ 21 ∷ []) $ forget ! 0 refl $ free1 ! $ move ! (18 ∷ 19 ∷ []) $ forget ! 0 refl $ free1 ! $ move ! (16 ∷ 17 ∷ []) $ forget ! 0 refl $ free1 ! $ move ! (14 ∷ 15 ∷ []) $ forget ! 0 refl $ free1 ! $ move ! (12 ∷ 13 ∷ []) $ forget ! 0 refl $ free1 ! $ move ! (10 ∷ 11 ∷ []) $ forget ! 0 refl $ free1 ! $ move ! (8 ∷ 9 ∷ []) $ free1 ! $ free0 ! $ move ! (3 ∷ []) $ drop ! $ move ! (6 ∷ []) $ drop ! $ by ! (exits 18446744073709551615 (refl, lit< tt) (Facts.exit-2 nodes register c height page x-to (room·nodes .0) (room·register .0) (ok·c .1) (ok·height .1) ok·page (ok·x-to .1) (ok·1 .1) (ok·2 .1) (is-false (leb (r2 nodes register c height page x-to) (page .0)) h·1) (nleb→lt (r2 nodes register c height page x-to) (page .0) h·1) (is-true (eqb c 18446744073709551615) h·2) (eqb→eq c 18446744073709551615 h·2))))
+      move ! (28 ∷ 29 ∷ []) $ forget ! 0 refl $ free1 ! $ move ! (26 ∷ 27 ∷ []) $ forget ! 0 refl $ free1 ! $ move ! (24 ∷ 25 ∷ []) $ forget ! 0 refl $ free1 ! $ move ! (22 ∷ 23 ∷ []) $ forget ! 0 refl $ free1 ! $ move ! (20 ∷ 21 ∷ []) $ forget ! 0 refl $ free1 ! $ move ! (18 ∷ 19 ∷ []) $ forget ! 0 refl $ free1 ! $ move ! (16 ∷ 17 ∷ []) $ forget ! 0 refl $ free1 ! $ move ! (14 ∷ 15 ∷ []) $ forget ! 0 refl $ free1 ! $ move ! (12 ∷ 13 ∷ []) $ forget ! 0 refl $ free1 ! $ move ! (10 ∷ 11 ∷ []) $ free1 ! $ move ! (8 ∷ 9 ∷ []) $ free1 ! $ free0 ! $ move ! (3 ∷ []) $ drop ! $ move ! (6 ∷ []) $ drop ! $ by ! (exits 18446744073709551615 (refl, lit< tt) (Facts.exit-2 nodes register c span page x-to (room·nodes .0) (room·register .0) (ok·c .1) (ok·span .1) ok·page (ok·x-to .1) need (ok·1 .1) (is-false (leb (r1 nodes register c span page x-to) (page .0)) h·1) (nleb→lt (r1 nodes register c span page x-to) (page .0) h·1) (is-true (eqb c 18446744073709551615) h·2) (eqb→eq c 18446744073709551615 h·2))))
       (λ h·2. skips-on ! $
-      Call-carried-from.calls ! mem run (fmOf 𝓤 H (W .laws) 𝓣) known-carried-from (r1 nodes register c height page x-to) ok·1 (and-then ! (load ! (from ! (stop !)) (look ! 15 refl)) (no-more !))
-      (λ r3 ok·3 says·3. land ! (from ! (stop !)) (init ! 8 refl (tt, record { fits = ok·3 .1 })) $
+      Call-height-of.calls ! mem run (fmOf 𝓤 H (W .laws) 𝓣) known-height-of (r1 nodes register c span page x-to) ok·1 (Facts.height-of-1 nodes register c span page x-to (room·nodes .0) (room·register .0) (ok·c .1) (ok·span .1) ok·page (ok·x-to .1) need (ok·1 .1) (is-false (leb (r1 nodes register c span page x-to) (page .0)) h·1) (nleb→lt (r1 nodes register c span page x-to) (page .0) h·1) (is-false (eqb c 18446744073709551615) h·2) (differ c 18446744073709551615 h·2)) (and-then ! (load ! (from ! (stop !)) (look ! 15 refl)) (no-more !))
+      (λ r2 ok·2 says·2. land ! (from ! (stop !)) (init ! 8 refl (tt, record { fits = ok·2 .1 })) $
+      Call-carried-from.calls ! mem run (fmOf 𝓤 H (W .laws) 𝓣) known-carried-from r2 ok·2 (and-then ! (load ! (from ! (stop !)) (look ! 9 refl)) (no-more !))
+      (λ r3 ok·3 says·3. land ! (from ! (stop !)) (init ! 10 refl (tt, record { fits = ok·3 .1 })) $
       move ! (4 ∷ 5 ∷ 6 ∷ 0 ∷ 1 ∷ 2 ∷ []) $
-      Call-reach.calls ! mem run (fmOf 𝓤 H (W .laws) 𝓣) known-reach κ₂·register q₂·register b₂·register o₂·register γ₂·register κ·register q·register b·register o·register γ·register register long·register κ₂·nodes q₂·nodes b₂·nodes o₂·nodes γ₂·nodes κ·nodes q·nodes b·nodes o·nodes γ·nodes nodes long·nodes c (page .0) 0 (r2 nodes register c height page x-to) (r1 nodes register c height page x-to) 0 r3 x-to ok·c (PageIndex′.ok-0 page ok·page) (refl, lit< tt) ok·2 ok·1 (refl, lit< tt) ok·3 ok·x-to (Facts.reach-1 nodes register c height page x-to (room·nodes .0) (room·register .0) (ok·c .1) (ok·height .1) ok·page (ok·x-to .1) (ok·1 .1) (ok·2 .1) (is-false (leb (r2 nodes register c height page x-to) (page .0)) h·1) (nleb→lt (r2 nodes register c height page x-to) (page .0) h·1) (is-false (eqb c 18446744073709551615) h·2) (differ c 18446744073709551615 h·2) r3 (ok·3 .1) says·3) (and-then ! (load ! (from ! (stop !)) (look ! 21 refl)) (and-then ! (load ! (from ! (stop !)) (look ! 23 refl)) (and-then ! (load ! (from ! (stop !)) (look ! 19 refl)) (and-then ! (load ! (from ! (fld ! refl (stop !))) (look-in ! 15 (sub ! 0 refl (whole !)))) (and-then ! (lit ! tt) (and-then ! (load ! (from ! (stop !)) (look ! 9 refl)) (and-then ! (load ! (from ! (stop !)) (look ! 11 refl)) (and-then ! (lit ! tt) (and-then ! (load ! (from ! (stop !)) (look ! 5 refl)) (and-then ! (load ! (from ! (stop !)) (look ! 13 refl)) (no-more !)))))))))))
-      (λ ok·4. move ! (3 ∷ 4 ∷ 5 ∷ 6 ∷ 0 ∷ 1 ∷ 2 ∷ 7 ∷ []) $ land ! (from ! (stop !)) (init ! 28 refl (tt, record { fits = ok·4 .1 })) $
+      Call-reach.calls ! mem run (fmOf 𝓤 H (W .laws) 𝓣) known-reach κ₂·register q₂·register b₂·register o₂·register γ₂·register κ·register q·register b·register o·register γ·register register long·register κ₂·nodes q₂·nodes b₂·nodes o₂·nodes γ₂·nodes κ·nodes q·nodes b·nodes o·nodes γ·nodes nodes long·nodes c (page .0) 0 (r1 nodes register c span page x-to) 0 r3 x-to ok·c (PageIndex′.ok-0 page ok·page) (refl, lit< tt) ok·1 (refl, lit< tt) ok·3 ok·x-to (Facts.reach-1 nodes register c span page x-to (room·nodes .0) (room·register .0) (ok·c .1) (ok·span .1) ok·page (ok·x-to .1) need (ok·1 .1) (is-false (leb (r1 nodes register c span page x-to) (page .0)) h·1) (nleb→lt (r1 nodes register c span page x-to) (page .0) h·1) (is-false (eqb c 18446744073709551615) h·2) (differ c 18446744073709551615 h·2) r2 (ok·2 .1) says·2 r3 (ok·3 .1) says·3) (and-then ! (load ! (from ! (stop !)) (look ! 21 refl)) (and-then ! (load ! (from ! (stop !)) (look ! 23 refl)) (and-then ! (load ! (from ! (stop !)) (look ! 19 refl)) (and-then ! (load ! (from ! (fld ! refl (stop !))) (look-in ! 15 (sub ! 0 refl (whole !)))) (and-then ! (lit ! tt) (and-then ! (load ! (from ! (stop !)) (look ! 11 refl)) (and-then ! (lit ! tt) (and-then ! (load ! (from ! (stop !)) (look ! 7 refl)) (and-then ! (load ! (from ! (stop !)) (look ! 13 refl)) (no-more !))))))))))
+      (λ r4 ok·4 says·4. move ! (3 ∷ 4 ∷ 5 ∷ 6 ∷ 0 ∷ 1 ∷ 2 ∷ 7 ∷ []) $ land ! (from ! (stop !)) (init ! 28 refl (tt, record { fits = ok·4 .1 })) $
       returns ! (look ! 28 refl) $
-      move ! (28 ∷ 29 ∷ []) $ forget ! 0 refl $ free1 ! $ move ! (26 ∷ 27 ∷ []) $ forget ! 0 refl $ free1 ! $ move ! (24 ∷ 25 ∷ []) $ forget ! 0 refl $ free1 ! $ move ! (22 ∷ 23 ∷ []) $ forget ! 0 refl $ free1 ! $ move ! (20 ∷ 21 ∷ []) $ forget ! 0 refl $ free1 ! $ move ! (18 ∷ 19 ∷ []) $ forget ! 0 refl $ free1 ! $ move ! (16 ∷ 17 ∷ []) $ forget ! 0 refl $ free1 ! $ move ! (14 ∷ 15 ∷ []) $ forget ! 0 refl $ free1 ! $ move ! (12 ∷ 13 ∷ []) $ forget ! 0 refl $ free1 ! $ move ! (10 ∷ 11 ∷ []) $ forget ! 0 refl $ free1 ! $ move ! (8 ∷ 9 ∷ []) $ forget ! 0 refl $ free1 ! $ free0 ! $ move ! (3 ∷ []) $ drop ! $ move ! (6 ∷ []) $ drop ! $ by ! (exits (r4 nodes register c height page x-to r3) ok·4 (Facts.exit-3 nodes register c height page x-to (room·nodes .0) (room·register .0) (ok·c .1) (ok·height .1) ok·page (ok·x-to .1) (ok·1 .1) (ok·2 .1) (is-false (leb (r2 nodes register c height page x-to) (page .0)) h·1) (nleb→lt (r2 nodes register c height page x-to) (page .0) h·1) (is-false (eqb c 18446744073709551615) h·2) (differ c 18446744073709551615 h·2) r3 (ok·3 .1) says·3 (ok·4 .1))))))))))))))))))))))
+      move ! (28 ∷ 29 ∷ []) $ forget ! 0 refl $ free1 ! $ move ! (26 ∷ 27 ∷ []) $ forget ! 0 refl $ free1 ! $ move ! (24 ∷ 25 ∷ []) $ forget ! 0 refl $ free1 ! $ move ! (22 ∷ 23 ∷ []) $ forget ! 0 refl $ free1 ! $ move ! (20 ∷ 21 ∷ []) $ forget ! 0 refl $ free1 ! $ move ! (18 ∷ 19 ∷ []) $ forget ! 0 refl $ free1 ! $ move ! (16 ∷ 17 ∷ []) $ forget ! 0 refl $ free1 ! $ move ! (14 ∷ 15 ∷ []) $ forget ! 0 refl $ free1 ! $ move ! (12 ∷ 13 ∷ []) $ forget ! 0 refl $ free1 ! $ move ! (10 ∷ 11 ∷ []) $ forget ! 0 refl $ free1 ! $ move ! (8 ∷ 9 ∷ []) $ forget ! 0 refl $ free1 ! $ free0 ! $ move ! (3 ∷ []) $ drop ! $ move ! (6 ∷ []) $ drop ! $ by ! (exits r4 ok·4 (Facts.exit-3 nodes register c span page x-to (room·nodes .0) (room·register .0) (ok·c .1) (ok·span .1) ok·page (ok·x-to .1) need (ok·1 .1) (is-false (leb (r1 nodes register c span page x-to) (page .0)) h·1) (nleb→lt (r1 nodes register c span page x-to) (page .0) h·1) (is-false (eqb c 18446744073709551615) h·2) (differ c 18446744073709551615 h·2) r2 (ok·2 .1) says·2 r3 (ok·3 .1) says·3 r4 (ok·4 .1) says·4)))))))))))))))))))))
 
 module _ {M : Type 1} (𝓤 : URA M) (H : Heap 𝓤) (A : Atoms 𝓤) (W : Given 𝓤 H A) (mem : Memory → SProp 𝓤) (run : Routine → Fun 𝓤) where
-  walks : (𝓣 : Tables 𝓤 H) → Triple 𝓤 (𝓣 .C #smaller) (Call-smaller.Asked 𝓤 H A mem run) → Triple 𝓤 (𝓣 .C #span-of) (Call-span-of.Asked 𝓤 H A mem run) → Triple 𝓤 (𝓣 .C #carried-from) (Call-carried-from.Asked 𝓤 H A mem run) → Triple 𝓤 (𝓣 .C #reach) (Call-reach.Asked 𝓤 H A mem run) → Walks 𝓤 H A reach-from‴.ended stayed (WpFn 𝓤 H (𝓣 .C) (𝓣 .Λ) code.function) (reach-from‴.clauses 𝓤 H A mem run)
-  walks 𝓣 known-smaller known-span-of known-carried-from known-reach = walked 𝓤 H A reach-from‴.ended stayed (reach-from‴.clauses 𝓤 H A mem run) (WpFn 𝓤 H (𝓣 .C) (𝓣 .Λ) code.function) (λ κs. (ptr-vals, (ptr-vals, (uint-vals w64, (uint-vals w64, (PageIndex′.vals, (uint-vals w64, tt))))))) (λ κs. (shr-tells (named 0) (κs .0) (ShrSlice (named 0) (κs .1 .0) u32), (shr-tells (named 0) (κs .1 .1 .0) (ShrSlice (named 0) (κs .1 .1 .1 .0) Record′.row), (uint-tells w64, (uint-tells w64, (PageIndex′.tells, (uint-tells w64, tt)))))))
-      (λ κs qs bounds a g are. via 𝓤 _ (fst∗ 𝓤 _ (emp 𝓤)) (walk 𝓤 H A W mem run (κs .0) (qs .0) (a .0 .ptr .0) (a .0 .ptr .1) (a .0 .name) (κs .1 .0) (qs .1 .0) (a .0 .now .ptr .0) (a .0 .now .ptr .1) (a .0 .now .name) (a .0 .now .now) (bounds .0) (κs .1 .1 .0) (qs .1 .1 .0) (a .1 .0 .ptr .0) (a .1 .0 .ptr .1) (a .1 .0 .name) (κs .1 .1 .1 .0) (qs .1 .1 .1 .0) (a .1 .0 .now .ptr .0) (a .1 .0 .now .ptr .1) (a .1 .0 .now .name) (a .1 .0 .now .now) (bounds .1 .0) (a .1 .1 .0) (a .1 .1 .1 .0) (a .1 .1 .1 .1 .0) (a .1 .1 .1 .1 .1 .0) (are .1 .1 .0) (are .1 .1 .1 .0) (are .1 .1 .1 .1 .0) (are .1 .1 .1 .1 .1 .0) 𝓣 known-smaller known-span-of known-carried-from known-reach))
+  walks : (𝓣 : Tables 𝓤 H) → Triple 𝓤 (𝓣 .C #root-within) (Call-root-within.Asked 𝓤 H A mem run) → Triple 𝓤 (𝓣 .C #height-of) (Call-height-of.Asked 𝓤 H A mem run) → Triple 𝓤 (𝓣 .C #carried-from) (Call-carried-from.Asked 𝓤 H A mem run) → Triple 𝓤 (𝓣 .C #reach) (Call-reach.Asked 𝓤 H A mem run) → Walks 𝓤 H A reach-from‴.ended stayed (WpFn 𝓤 H (𝓣 .C) (𝓣 .Λ) code.function) (reach-from‴.clauses 𝓤 H A mem run)
+  walks 𝓣 known-root-within known-height-of known-carried-from known-reach = walked 𝓤 H A reach-from‴.ended stayed (reach-from‴.clauses 𝓤 H A mem run) (WpFn 𝓤 H (𝓣 .C) (𝓣 .Λ) code.function) (λ κs. (ptr-vals, (ptr-vals, (uint-vals w64, (uint-vals w64, (PageIndex′.vals, (uint-vals w64, tt))))))) (λ κs. (shr-tells (named 0) (κs .0) (ShrSlice (named 0) (κs .1 .0) u32), (shr-tells (named 0) (κs .1 .1 .0) (ShrSlice (named 0) (κs .1 .1 .1 .0) Record′.row), (uint-tells w64, (uint-tells w64, (PageIndex′.tells, (uint-tells w64, tt)))))))
+      (λ κs qs bounds a g are. needs 𝓤 (reach-from″.req (a .0 .now .now) (a .1 .0 .now .now) (a .1 .1 .0) (a .1 .1 .1 .0) (a .1 .1 .1 .1 .0) (a .1 .1 .1 .1 .1 .0)) _ (λ need. walk 𝓤 H A W mem run (κs .0) (qs .0) (a .0 .ptr .0) (a .0 .ptr .1) (a .0 .name) (κs .1 .0) (qs .1 .0) (a .0 .now .ptr .0) (a .0 .now .ptr .1) (a .0 .now .name) (a .0 .now .now) (bounds .0) (κs .1 .1 .0) (qs .1 .1 .0) (a .1 .0 .ptr .0) (a .1 .0 .ptr .1) (a .1 .0 .name) (κs .1 .1 .1 .0) (qs .1 .1 .1 .0) (a .1 .0 .now .ptr .0) (a .1 .0 .now .ptr .1) (a .1 .0 .now .name) (a .1 .0 .now .now) (bounds .1 .0) (a .1 .1 .0) (a .1 .1 .1 .0) (a .1 .1 .1 .1 .0) (a .1 .1 .1 .1 .1 .0) (are .1 .1 .0) (are .1 .1 .1 .0) (are .1 .1 .1 .1 .0) (are .1 .1 .1 .1 .1 .0) need 𝓣 known-root-within known-height-of known-carried-from known-reach))
 
-meets : {M : Type 1} (𝓤 : URA M) (H : Heap 𝓤) (A : Atoms 𝓤) → Given 𝓤 H A → (mem : Memory → SProp 𝓤) (run : Routine → Fun 𝓤) (𝓣 : Tables 𝓤 H) → Triple 𝓤 (𝓣 .C #smaller) (Call-smaller.Asked 𝓤 H A mem run) → Triple 𝓤 (𝓣 .C #span-of) (Call-span-of.Asked 𝓤 H A mem run) → Triple 𝓤 (𝓣 .C #carried-from) (Call-carried-from.Asked 𝓤 H A mem run) → Triple 𝓤 (𝓣 .C #reach) (Call-reach.Asked 𝓤 H A mem run)
+meets : {M : Type 1} (𝓤 : URA M) (H : Heap 𝓤) (A : Atoms 𝓤) → Given 𝓤 H A → (mem : Memory → SProp 𝓤) (run : Routine → Fun 𝓤) (𝓣 : Tables 𝓤 H) → Triple 𝓤 (𝓣 .C #root-within) (Call-root-within.Asked 𝓤 H A mem run) → Triple 𝓤 (𝓣 .C #height-of) (Call-height-of.Asked 𝓤 H A mem run) → Triple 𝓤 (𝓣 .C #carried-from) (Call-carried-from.Asked 𝓤 H A mem run) → Triple 𝓤 (𝓣 .C #reach) (Call-reach.Asked 𝓤 H A mem run)
     → Meets 𝓤 H A reach-from‴.signature (WpFn 𝓤 H (𝓣 .C) (𝓣 .Λ) code.function) (reach-from‴.spec 𝓤 H A mem run)
-meets 𝓤 H A W mem run 𝓣 known-smaller known-span-of known-carried-from known-reach =
+meets 𝓤 H A W mem run 𝓣 known-root-within known-height-of known-carried-from known-reach =
     walk-meets 𝓤 H A reach-from‴.ended stayed W (goes-none-ref 𝓤 H A W 4 (0 ∷ []) tt (shrSliceOf (1 ∷ []) tt (plain (λ _. u32))) yes, (goes-none-ref 𝓤 H A W 4 (2 ∷ []) tt (shrSliceOf (3 ∷ []) tt (plain (λ _. Record′.row))) yes, (goes-none 𝓤 H A W 4 (λ _. u64) yes (λ κs x f. refl), (goes-none 𝓤 H A W 4 (λ _. u64) yes (λ κs x f. refl), (goes-none 𝓤 H A W 4 (λ _. PageIndex′.row) yes (λ κs x f. refl), (goes-none 𝓤 H A W 4 (λ _. u64) yes (λ κs x f. refl), tt)))))) (reach-from‴.clauses 𝓤 H A mem run)
-    (WpFn 𝓤 H (𝓣 .C) (𝓣 .Λ) code.function) (WpFn-mono 𝓤 H (W .laws) 𝓣 code.function) (walks 𝓤 H A W mem run 𝓣 known-smaller known-span-of known-carried-from known-reach)
+    (WpFn 𝓤 H (𝓣 .C) (𝓣 .Λ) code.function) (WpFn-mono 𝓤 H (W .laws) 𝓣 code.function) (walks 𝓤 H A W mem run 𝓣 known-root-within known-height-of known-carried-from known-reach)
 
 pub reach-from-spec : {M : Type 1} → stated.statement M
 unfolding code.routine tablesOf
@@ -151,7 +151,7 @@ reach-from-spec 𝓤 H 𝓜 𝓖 𝓡 =
     entered 𝓤 H (tripleOf 𝓤 H (𝓖 .A) reach-from‴.signature (reach-from‴.spec 𝓤 H (𝓖 .A) (𝓜 .mem) (𝓡 .run)))
     (tables 𝓤 H 𝓜 𝓡 code.env .C) (tables 𝓤 H 𝓜 𝓡 code.env .Λ) #self code.function (code.unfolded 𝓤 H 𝓜 𝓡)
     (meets 𝓤 H (𝓖 .A) (givenOf 𝓤 H 𝓜 𝓖) (𝓜 .mem) (𝓡 .run) (tablesOf 𝓤 H 𝓜 (tables 𝓤 H 𝓜 𝓡 code.env))
-    (cited 𝓤 H (Call-smaller.Asked 𝓤 H (𝓖 .A) (𝓜 .mem) (𝓡 .run)) 𝓜 𝓡 code.env #smaller def-smaller.routine code.calls-tree·smaller (thm-smaller.met 𝓤 H 𝓜 𝓖 𝓡))
-    (cited 𝓤 H (Call-span-of.Asked 𝓤 H (𝓖 .A) (𝓜 .mem) (𝓡 .run)) 𝓜 𝓡 code.env #span-of def-span-of.routine code.calls-tree·span-of (thm-span-of.met 𝓤 H 𝓜 𝓖 𝓡))
+    (cited 𝓤 H (Call-root-within.Asked 𝓤 H (𝓖 .A) (𝓜 .mem) (𝓡 .run)) 𝓜 𝓡 code.env #root-within def-root-within.routine code.calls-tree·root-within (thm-root-within.met 𝓤 H 𝓜 𝓖 𝓡))
+    (cited 𝓤 H (Call-height-of.Asked 𝓤 H (𝓖 .A) (𝓜 .mem) (𝓡 .run)) 𝓜 𝓡 code.env #height-of def-height-of.routine code.calls-tree·height-of (thm-height-of.met 𝓤 H 𝓜 𝓖 𝓡))
     (cited 𝓤 H (Call-carried-from.Asked 𝓤 H (𝓖 .A) (𝓜 .mem) (𝓡 .run)) 𝓜 𝓡 code.env #carried-from def-carried-from.routine code.calls-walk·carried-from (thm-carried-from.met 𝓤 H 𝓜 𝓖 𝓡))
     (cited 𝓤 H (Call-reach.Asked 𝓤 H (𝓖 .A) (𝓜 .mem) (𝓡 .run)) 𝓜 𝓡 code.env #reach def-reach.routine code.calls-descent·reach (thm-reach.met 𝓤 H 𝓜 𝓖 𝓡)))

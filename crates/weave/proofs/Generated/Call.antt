@@ -3,7 +3,6 @@ pub mod count_woven
 pub mod far_child
 pub mod find_next
 pub mod found_by
-pub mod height_of
 pub mod store_woven
 pub mod version_before
 pub mod weave

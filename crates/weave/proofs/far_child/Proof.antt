@@ -96,11 +96,6 @@ use Rattle.register.proofs.Generated.Call.version_part as Call-version-part
 use Rattle.register.proofs.version_part.Symbol as def-version-part
 use Rattle.register.proofs.version_part.Symbol.{name as #version-part}
 use Rattle.register.proofs.version_part.Met as thm-version-part
-use Rattle.weave.proofs.Generated.Say.height_of as height-of″
-use Rattle.weave.proofs.Generated.Call.height_of as Call-height-of
-use Rattle.tree.proofs.height_of.Symbol as def-height-of
-use Rattle.tree.proofs.height_of.Symbol.{name as #height-of}
-use Rattle.tree.proofs.height_of.Met as thm-height-of
 use Rattle.walk.proofs.Generated.Say.reach_from as reach-from″
 use Rattle.walk.proofs.Generated.Call.reach_from as Call-reach-from
 use Rattle.walk.proofs.reach_from.Symbol as def-reach-from
@@ -113,7 +108,7 @@ use Rattle.weave.proofs.far_child.Code as code
 use Rattle.weave.proofs.far_child.Proof.Facts as Facts
 use denote.Memory.{pointee}
 use Rattle.descent.proofs.Generated.Through.{loan-of, loan-within, lend-ref, back-ref}
-use Rattle.weave.proofs.far_child.Proof.Asks.{r1, r2, r3, r4, r5, r6, r7, r9}
+use Rattle.weave.proofs.far_child.Proof.Asks.{r1, r2, r3, r4, r5, r6, r7}
 
 abbrev stayed : Stays (far-child‴.ended .signature .params) (far-child‴.ended .kept)
 stayed = (stay-none (λ _. Store′.row) yes, (stay-none-slice (0 ∷ []) tt (plain (λ _. u32)) yes, (stay-none-slice (1 ∷ []) tt (plain (λ _. Record′.row)) yes, (stay-none (λ _. u64) yes, (stay-none (λ _. PageIndex′.row) yes, (stay-none (λ _. u64) yes, tt))))))
@@ -136,75 +131,72 @@ module _ {M : Type 1} (𝓤 : URA M) (H : Heap 𝓤) (A : Atoms 𝓤) (W : Given
       qed W (‵ (flft κ·nodes q·nodes) ∷ ‵ (ShrAt u32 κ·nodes b·nodes o·nodes γ·nodes (length nodes) nodes) ∷ ‵ (flft κ·register q·register) ∷ ‵ (ShrAt Record′.row κ·register b·register o·register γ·register (length register) register) ∷ []) ∵ suffices ! _ (ends-at 𝓤 H A far-child‴.ended stayed (far-child‴.clauses 𝓤 H A mem run) W bound (vint w64 r) r (tt, (tt, (tt, (tt, (tt, (tt, tt)))))) (tt, (tt, (tt, (tt, (tt, (tt, tt))))))) $ says ! said $
       nothing ! $ move ! (3 ∷ 0 ∷ []) $ join ! $ move ! (1 ∷ 0 ∷ []) $ join ! $ frame ! $ nothing ! $ owned ! u64 (Is u64) (uint-makes 𝓤 H A W w64) span _ ok·span $ fjoin ! $ owned ! PageIndex′.row (Is PageIndex′.row) (PageIndex′.makes 𝓤 H A) x-first _ ok·x-first $ fjoin ! $ owned ! u64 (Is u64) (uint-makes 𝓤 H A W w64) c _ ok·c $ fjoin ! $ move ! (2 ∷ 0 ∷ []) $ fjoin ! $ move ! (1 ∷ 0 ∷ []) $ fjoin ! $ owned ! Store′.row (Is Store′.row) (Store′.makes 𝓤 H A) s _ ok·s $ fjoin ! $ frame ! $ owned ! u64 (Is u64) (uint-makes 𝓤 H A W w64) r _ ok·r $ done !
 
-  walk : (𝓣 : Tables 𝓤 H) (known-line-of : Triple 𝓤 (𝓣 .C #line-of) (Call-line-of.Asked 𝓤 H A mem run)) (known-line-state : Triple 𝓤 (𝓣 .C #line-state) (Call-line-state.Asked 𝓤 H A mem run)) (known-version-before : Triple 𝓤 (𝓣 .C #version-before) (Call-version-before.Asked 𝓤 H A mem run)) (known-newest-own : Triple 𝓤 (𝓣 .C #newest-own) (Call-newest-own.Asked 𝓤 H A mem run)) (known-number-of : Triple 𝓤 (𝓣 .C #number-of) (Call-number-of.Asked 𝓤 H A mem run)) (known-number-on : Triple 𝓤 (𝓣 .C #number-on) (Call-number-on.Asked 𝓤 H A mem run)) (known-version-part : Triple 𝓤 (𝓣 .C #version-part) (Call-version-part.Asked 𝓤 H A mem run)) (known-height-of : Triple 𝓤 (𝓣 .C #height-of) (Call-height-of.Asked 𝓤 H A mem run)) (known-reach-from : Triple 𝓤 (𝓣 .C #reach-from) (Call-reach-from.Asked 𝓤 H A mem run)) → ent 𝓤 (onEntry 𝓤 H A far-child‴.signature (κ·nodes, (κ·register, tt)) (q·nodes, (q·register, tt)) all-args all-vals)
+  walk : (𝓣 : Tables 𝓤 H) (known-line-of : Triple 𝓤 (𝓣 .C #line-of) (Call-line-of.Asked 𝓤 H A mem run)) (known-line-state : Triple 𝓤 (𝓣 .C #line-state) (Call-line-state.Asked 𝓤 H A mem run)) (known-version-before : Triple 𝓤 (𝓣 .C #version-before) (Call-version-before.Asked 𝓤 H A mem run)) (known-newest-own : Triple 𝓤 (𝓣 .C #newest-own) (Call-newest-own.Asked 𝓤 H A mem run)) (known-number-of : Triple 𝓤 (𝓣 .C #number-of) (Call-number-of.Asked 𝓤 H A mem run)) (known-number-on : Triple 𝓤 (𝓣 .C #number-on) (Call-number-on.Asked 𝓤 H A mem run)) (known-version-part : Triple 𝓤 (𝓣 .C #version-part) (Call-version-part.Asked 𝓤 H A mem run)) (known-reach-from : Triple 𝓤 (𝓣 .C #reach-from) (Call-reach-from.Asked 𝓤 H A mem run)) → ent 𝓤 (onEntry 𝓤 H A far-child‴.signature (κ·nodes, (κ·register, tt)) (q·nodes, (q·register, tt)) all-args all-vals)
       (WpFn 𝓤 H (𝓣 .C) (𝓣 .Λ) code.function (Store′.mach s ∷ sliceVal (b·nodes, o·nodes) (length nodes) ∷ sliceVal (b·register, o·register) (length register) ∷ vint w64 c ∷ PageIndex′.mach x-first ∷ vint w64 span ∷ []) Post)
-  walk 𝓣 known-line-of known-line-state known-version-before known-newest-own known-number-of known-number-on known-version-part known-height-of known-reach-from =
+  walk 𝓣 known-line-of known-line-state known-version-before known-newest-own known-number-of known-number-on known-version-part known-reach-from =
       qed W ((‵ (flft κ·nodes q·nodes) ⊛ ‵ (flft κ·register q·register) ⊛ ‵ ftrue) ∷ ‵ (owns (Store′.row ∷ ShrSlice (named 0) κ·nodes u32 ∷ ShrSlice (named 0) κ·register Record′.row ∷ u64 ∷ PageIndex′.row ∷ u64 ∷ []) all-args all-vals) ∷ []) ∵ enter ! (𝓣 .C) (𝓣 .Λ) code.function (Store′.mach s ∷ sliceVal (b·nodes, o·nodes) (length nodes) ∷ sliceVal (b·register, o·register) (length register) ∷ vint w64 c ∷ PageIndex′.mach x-first ∷ vint w64 span ∷ []) _ $
-      alloc1 ! (λ l₀. alloc1 ! (λ l₁. alloc1 ! (λ l₂. alloc1 ! (λ l₃. alloc1 ! (λ l₄. alloc1 ! (λ l₅. alloc1 ! (λ l₆. alloc1 ! (λ l₇. alloc1 ! (λ l₈. alloc1 ! (λ l₉. alloc1 ! (λ l₁₀. alloc1 ! (λ l₁₁. alloc1 ! (λ l₁₂. alloc1 ! (λ l₁₃. alloc1 ! (λ l₁₄. alloc1 ! (λ l₁₅. alloc1 ! (λ l₁₆. alloc1 ! (λ l₁₇. alloc1 ! (λ l₁₈. alloc1 ! (λ l₁₉. alloc0 ! $ params1 ! $
-      pass1 ! (init ! 36 refl (Store′.typed 𝓤 H A W s ok·s)) $ pass1 ! (init ! 34 refl (tt, (tt, (record { fits = room·nodes .0 }, tt)))) $ pass1 ! (init ! 32 refl (tt, (tt, (record { fits = room·register .0 }, tt)))) $ pass1 ! (init ! 30 refl (tt, record { fits = ok·c .1 })) $ pass1 ! (init ! 28 refl (PageIndex′.typed 𝓤 H A W x-first ok·x-first)) $ pass1 ! (init ! 26 refl (tt, record { fits = ok·span .1 })) $ pass0 ! $
-      move ! (41 ∷ []) $ fsplit ! $ drop ! $ fsplit ! $ move ! (1 ∷ []) $ fsplit ! $ move ! (1 ∷ []) $ fsplit ! $ drop ! $ fsplit ! $ drop ! $ fsplit ! $ drop ! $ drop ! $ move ! (42 ∷ []) $ split ! $ move ! (1 ∷ []) $ split ! $ move ! (1 ∷ []) $ drop ! $ move ! (1 ∷ 3 ∷ 0 ∷ 2 ∷ []) $
-      assigns ! (of-opd ! (load ! (from ! (stop !)) (look ! 38 refl))) (from ! (stop !)) (init ! 28 refl (tt, (tt, (record { fits = room·nodes .0 }, tt)))) $
-      assigns ! (of-opd ! (load ! (from ! (stop !)) (look ! 36 refl))) (from ! (stop !)) (init ! 26 refl (tt, (tt, (record { fits = room·register .0 }, tt)))) $
-      assigns ! (bin ! (load ! (from ! (stop !)) (look ! 30 refl)) (lit ! tt) tt) (from ! (stop !)) (init ! 14 refl (tt, tt)) $
-      branches-on ! (load ! (from ! (stop !)) (look ! 14 refl))
+      alloc1 ! (λ l₀. alloc1 ! (λ l₁. alloc1 ! (λ l₂. alloc1 ! (λ l₃. alloc1 ! (λ l₄. alloc1 ! (λ l₅. alloc1 ! (λ l₆. alloc1 ! (λ l₇. alloc1 ! (λ l₈. alloc1 ! (λ l₉. alloc1 ! (λ l₁₀. alloc1 ! (λ l₁₁. alloc1 ! (λ l₁₂. alloc1 ! (λ l₁₃. alloc1 ! (λ l₁₄. alloc1 ! (λ l₁₅. alloc1 ! (λ l₁₆. alloc1 ! (λ l₁₇. alloc1 ! (λ l₁₈. alloc0 ! $ params1 ! $
+      pass1 ! (init ! 34 refl (Store′.typed 𝓤 H A W s ok·s)) $ pass1 ! (init ! 32 refl (tt, (tt, (record { fits = room·nodes .0 }, tt)))) $ pass1 ! (init ! 30 refl (tt, (tt, (record { fits = room·register .0 }, tt)))) $ pass1 ! (init ! 28 refl (tt, record { fits = ok·c .1 })) $ pass1 ! (init ! 26 refl (PageIndex′.typed 𝓤 H A W x-first ok·x-first)) $ pass1 ! (init ! 24 refl (tt, record { fits = ok·span .1 })) $ pass0 ! $
+      move ! (39 ∷ []) $ fsplit ! $ drop ! $ fsplit ! $ move ! (1 ∷ []) $ fsplit ! $ move ! (1 ∷ []) $ fsplit ! $ drop ! $ fsplit ! $ drop ! $ fsplit ! $ drop ! $ drop ! $ move ! (40 ∷ []) $ split ! $ move ! (1 ∷ []) $ split ! $ move ! (1 ∷ []) $ drop ! $ move ! (1 ∷ 3 ∷ 0 ∷ 2 ∷ []) $
+      assigns ! (of-opd ! (load ! (from ! (stop !)) (look ! 36 refl))) (from ! (stop !)) (init ! 26 refl (tt, (tt, (record { fits = room·nodes .0 }, tt)))) $
+      assigns ! (of-opd ! (load ! (from ! (stop !)) (look ! 34 refl))) (from ! (stop !)) (init ! 24 refl (tt, (tt, (record { fits = room·register .0 }, tt)))) $
+      assigns ! (bin ! (load ! (from ! (stop !)) (look ! 28 refl)) (lit ! tt) tt) (from ! (stop !)) (init ! 12 refl (tt, tt)) $
+      branches-on ! (load ! (from ! (stop !)) (look ! 12 refl))
       (λ h·1. regroup ! $
-      assigns ! (of-opd ! (lit ! tt)) (from ! (stop !)) (init ! 42 refl (tt, record { fits = lit< tt })) $
-      returns-on ! (look ! 42 refl) $
-      move ! (42 ∷ 43 ∷ []) $ forget ! 0 refl $ free1 ! $ move ! (40 ∷ 41 ∷ []) $ forget ! 0 refl $ free1 ! $ move ! (38 ∷ 39 ∷ []) $ forget ! 0 refl $ free1 ! $ move ! (36 ∷ 37 ∷ []) $ forget ! 0 refl $ free1 ! $ move ! (34 ∷ 35 ∷ []) $ forget ! 0 refl $ free1 ! $ move ! (32 ∷ 33 ∷ []) $ forget ! 0 refl $ free1 ! $ move ! (30 ∷ 31 ∷ []) $ forget ! 0 refl $ free1 ! $ move ! (28 ∷ 29 ∷ []) $ forget ! 0 refl $ free1 ! $ move ! (26 ∷ 27 ∷ []) $ forget ! 0 refl $ free1 ! $ move ! (24 ∷ 25 ∷ []) $ free1 ! $ move ! (22 ∷ 23 ∷ []) $ free1 ! $ move ! (20 ∷ 21 ∷ []) $ free1 ! $ move ! (18 ∷ 19 ∷ []) $ free1 ! $ move ! (16 ∷ 17 ∷ []) $ free1 ! $ move ! (14 ∷ 15 ∷ []) $ forget ! 0 refl $ free1 ! $ move ! (12 ∷ 13 ∷ []) $ free1 ! $ move ! (10 ∷ 11 ∷ []) $ free1 ! $ move ! (8 ∷ 9 ∷ []) $ free1 ! $ move ! (6 ∷ 7 ∷ []) $ free1 ! $ move ! (4 ∷ 5 ∷ []) $ free1 ! $ free0 ! $ by ! (exits 0 (refl, lit< tt) (Facts.exit-1 s nodes register c x-first span ok·s (room·nodes .0) (room·register .0) (ok·c .1) ok·x-first (ok·span .1) need (is-true (eqb span 0) h·1) (eqb→eq span 0 h·1))))
+      assigns ! (of-opd ! (lit ! tt)) (from ! (stop !)) (init ! 40 refl (tt, record { fits = lit< tt })) $
+      returns-on ! (look ! 40 refl) $
+      move ! (40 ∷ 41 ∷ []) $ forget ! 0 refl $ free1 ! $ move ! (38 ∷ 39 ∷ []) $ forget ! 0 refl $ free1 ! $ move ! (36 ∷ 37 ∷ []) $ forget ! 0 refl $ free1 ! $ move ! (34 ∷ 35 ∷ []) $ forget ! 0 refl $ free1 ! $ move ! (32 ∷ 33 ∷ []) $ forget ! 0 refl $ free1 ! $ move ! (30 ∷ 31 ∷ []) $ forget ! 0 refl $ free1 ! $ move ! (28 ∷ 29 ∷ []) $ forget ! 0 refl $ free1 ! $ move ! (26 ∷ 27 ∷ []) $ forget ! 0 refl $ free1 ! $ move ! (24 ∷ 25 ∷ []) $ forget ! 0 refl $ free1 ! $ move ! (22 ∷ 23 ∷ []) $ free1 ! $ move ! (20 ∷ 21 ∷ []) $ free1 ! $ move ! (18 ∷ 19 ∷ []) $ free1 ! $ move ! (16 ∷ 17 ∷ []) $ free1 ! $ move ! (14 ∷ 15 ∷ []) $ free1 ! $ move ! (12 ∷ 13 ∷ []) $ forget ! 0 refl $ free1 ! $ move ! (10 ∷ 11 ∷ []) $ free1 ! $ move ! (8 ∷ 9 ∷ []) $ free1 ! $ move ! (6 ∷ 7 ∷ []) $ free1 ! $ move ! (4 ∷ 5 ∷ []) $ free1 ! $ free0 ! $ by ! (exits 0 (refl, lit< tt) (Facts.exit-1 s nodes register c x-first span ok·s (room·nodes .0) (room·register .0) (ok·c .1) ok·x-first (ok·span .1) need (is-true (eqb span 0) h·1) (eqb→eq span 0 h·1))))
       (λ h·1. skips-on ! $
-      Call-line-of.calls ! mem run (fmOf 𝓤 H (W .laws) 𝓣) known-line-of c ok·c (and-then ! (load ! (from ! (stop !)) (look ! 35 refl)) (no-more !))
-      (λ ok·1. land ! (from ! (stop !)) (init ! 24 refl (Line′.typed 𝓤 H A W (r1 s nodes register c x-first span) ok·1)) $
-      here ! (‵ (flft κ·nodes q·nodes) ∷ ‵ (ShrAt u32 κ·nodes b·nodes o·nodes γ·nodes (length nodes) nodes) ∷ ‵ (flft κ·register q·register) ∷ ‵ (ShrAt Record′.row κ·register b·register o·register γ·register (length register) register) ∷ empty (tyInt w64) l₁₉ (empty (tyRef erased imm (sliceTy (tyRef erased imm (pointee (Record′.row .written))))) l₁₈ (empty (tyRef erased imm (sliceTy (tyRef erased imm (pointee (u32 .written))))) l₁₇ (empty (tyAt (code.function .locals) 16) l₁₆ (empty (sliceTy (tyRef erased imm (pointee (Record′.row .written)))) l₁₅ (holds tyBool l₁₄ (vbool (eqb span 0)) (empty (tyAt (code.function .locals) 13) l₁₃ (empty (tyInt w64) l₁₂ (empty (tyAt (code.function .locals) 11) l₁₁ (empty (tyAt (code.function .locals) 10) l₁₀ (holds (tyAt (code.function .locals) 9) l₉ (Line′.mach (r1 s nodes register c x-first span)) (holds (sliceTy (tyRef erased imm (pointee (Record′.row .written)))) l₈ (sliceVal (b·register, o·register) (length register)) (holds (sliceTy (tyRef erased imm (pointee (u32 .written)))) l₇ (sliceVal (b·nodes, o·nodes) (length nodes)) (holds (tyInt w64) l₆ (vint w64 span) (holds (tyAt (code.function .locals) 5) l₅ (PageIndex′.mach x-first) (holds (tyInt w64) l₄ (vint w64 c) (holds (sliceTy (tyRef (named 1) imm (pointee (Record′.row .written)))) l₃ (sliceVal (b·register, o·register) (length register)) (holds (sliceTy (tyRef (named 0) imm (pointee (u32 .written)))) l₂ (sliceVal (b·nodes, o·nodes) (length nodes)) (holds (tyAt (code.function .locals) 1) l₁ (Store′.mach s) (empty (tyInt w64) l₀ [])))))))))))))))))))) $
-      Call-line-state.calls ! mem run (fmOf 𝓤 H (W .laws) 𝓣) known-line-state s (r1 s nodes register c x-first span) ok·s ok·1 (and-then ! (load ! (from ! (stop !)) (look ! 41 refl)) (and-then ! (load ! (from ! (stop !)) (look ! 25 refl)) (no-more !)))
-      (λ ok·2. land ! (from ! (stop !)) (init ! 22 refl (Branch′.typed 𝓤 H A W (r2 s nodes register c x-first span) ok·2)) $
-      here ! (‵ (flft κ·nodes q·nodes) ∷ ‵ (ShrAt u32 κ·nodes b·nodes o·nodes γ·nodes (length nodes) nodes) ∷ ‵ (flft κ·register q·register) ∷ ‵ (ShrAt Record′.row κ·register b·register o·register γ·register (length register) register) ∷ empty (tyInt w64) l₁₉ (empty (tyRef erased imm (sliceTy (tyRef erased imm (pointee (Record′.row .written))))) l₁₈ (empty (tyRef erased imm (sliceTy (tyRef erased imm (pointee (u32 .written))))) l₁₇ (empty (tyAt (code.function .locals) 16) l₁₆ (empty (sliceTy (tyRef erased imm (pointee (Record′.row .written)))) l₁₅ (holds tyBool l₁₄ (vbool (eqb span 0)) (empty (tyAt (code.function .locals) 13) l₁₃ (empty (tyInt w64) l₁₂ (empty (tyAt (code.function .locals) 11) l₁₁ (holds (tyAt (code.function .locals) 10) l₁₀ (Branch′.mach (r2 s nodes register c x-first span)) (holds (tyAt (code.function .locals) 9) l₉ (Line′.mach (r1 s nodes register c x-first span)) (holds (sliceTy (tyRef erased imm (pointee (Record′.row .written)))) l₈ (sliceVal (b·register, o·register) (length register)) (holds (sliceTy (tyRef erased imm (pointee (u32 .written)))) l₇ (sliceVal (b·nodes, o·nodes) (length nodes)) (holds (tyInt w64) l₆ (vint w64 span) (holds (tyAt (code.function .locals) 5) l₅ (PageIndex′.mach x-first) (holds (tyInt w64) l₄ (vint w64 c) (holds (sliceTy (tyRef (named 1) imm (pointee (Record′.row .written)))) l₃ (sliceVal (b·register, o·register) (length register)) (holds (sliceTy (tyRef (named 0) imm (pointee (u32 .written)))) l₂ (sliceVal (b·nodes, o·nodes) (length nodes)) (holds (tyAt (code.function .locals) 1) l₁ (Store′.mach s) (empty (tyInt w64) l₀ [])))))))))))))))))))) $
-      assigns ! (of-opd ! (load ! (from ! (stop !)) (look ! 26 refl))) (from ! (stop !)) (init ! 12 refl (tt, (tt, (record { fits = room·register .0 }, tt)))) $
-      Call-version-before.calls ! mem run (fmOf 𝓤 H (W .laws) 𝓣) known-version-before c ok·c (and-then ! (load ! (from ! (stop !)) (look ! 35 refl)) (no-more !))
-      (λ ok·3. land ! (from ! (stop !)) (init ! 10 refl (Version′.typed 𝓤 H A W (r3 s nodes register c x-first span) ok·3)) $
-      here ! (‵ (flft κ·nodes q·nodes) ∷ ‵ (ShrAt u32 κ·nodes b·nodes o·nodes γ·nodes (length nodes) nodes) ∷ ‵ (flft κ·register q·register) ∷ ‵ (ShrAt Record′.row κ·register b·register o·register γ·register (length register) register) ∷ empty (tyInt w64) l₁₉ (empty (tyRef erased imm (sliceTy (tyRef erased imm (pointee (Record′.row .written))))) l₁₈ (empty (tyRef erased imm (sliceTy (tyRef erased imm (pointee (u32 .written))))) l₁₇ (holds (tyAt (code.function .locals) 16) l₁₆ (Version′.mach (r3 s nodes register c x-first span)) (holds (sliceTy (tyRef erased imm (pointee (Record′.row .written)))) l₁₅ (sliceVal (b·register, o·register) (length register)) (holds tyBool l₁₄ (vbool (eqb span 0)) (empty (tyAt (code.function .locals) 13) l₁₃ (empty (tyInt w64) l₁₂ (empty (tyAt (code.function .locals) 11) l₁₁ (holds (tyAt (code.function .locals) 10) l₁₀ (Branch′.mach (r2 s nodes register c x-first span)) (holds (tyAt (code.function .locals) 9) l₉ (Line′.mach (r1 s nodes register c x-first span)) (holds (sliceTy (tyRef erased imm (pointee (Record′.row .written)))) l₈ (sliceVal (b·register, o·register) (length register)) (holds (sliceTy (tyRef erased imm (pointee (u32 .written)))) l₇ (sliceVal (b·nodes, o·nodes) (length nodes)) (holds (tyInt w64) l₆ (vint w64 span) (holds (tyAt (code.function .locals) 5) l₅ (PageIndex′.mach x-first) (holds (tyInt w64) l₄ (vint w64 c) (holds (sliceTy (tyRef (named 1) imm (pointee (Record′.row .written)))) l₃ (sliceVal (b·register, o·register) (length register)) (holds (sliceTy (tyRef (named 0) imm (pointee (u32 .written)))) l₂ (sliceVal (b·nodes, o·nodes) (length nodes)) (holds (tyAt (code.function .locals) 1) l₁ (Store′.mach s) (empty (tyInt w64) l₀ [])))))))))))))))))))) $
+      Call-line-of.calls ! mem run (fmOf 𝓤 H (W .laws) 𝓣) known-line-of c ok·c (and-then ! (load ! (from ! (stop !)) (look ! 33 refl)) (no-more !))
+      (λ ok·1. land ! (from ! (stop !)) (init ! 22 refl (Line′.typed 𝓤 H A W (r1 s nodes register c x-first span) ok·1)) $
+      here ! (‵ (flft κ·nodes q·nodes) ∷ ‵ (ShrAt u32 κ·nodes b·nodes o·nodes γ·nodes (length nodes) nodes) ∷ ‵ (flft κ·register q·register) ∷ ‵ (ShrAt Record′.row κ·register b·register o·register γ·register (length register) register) ∷ empty (tyRef erased imm (sliceTy (tyRef erased imm (pointee (Record′.row .written))))) l₁₈ (empty (tyRef erased imm (sliceTy (tyRef erased imm (pointee (u32 .written))))) l₁₇ (empty (tyAt (code.function .locals) 16) l₁₆ (empty (sliceTy (tyRef erased imm (pointee (Record′.row .written)))) l₁₅ (holds tyBool l₁₄ (vbool (eqb span 0)) (empty (tyAt (code.function .locals) 13) l₁₃ (empty (tyInt w64) l₁₂ (empty (tyAt (code.function .locals) 11) l₁₁ (empty (tyAt (code.function .locals) 10) l₁₀ (holds (tyAt (code.function .locals) 9) l₉ (Line′.mach (r1 s nodes register c x-first span)) (holds (sliceTy (tyRef erased imm (pointee (Record′.row .written)))) l₈ (sliceVal (b·register, o·register) (length register)) (holds (sliceTy (tyRef erased imm (pointee (u32 .written)))) l₇ (sliceVal (b·nodes, o·nodes) (length nodes)) (holds (tyInt w64) l₆ (vint w64 span) (holds (tyAt (code.function .locals) 5) l₅ (PageIndex′.mach x-first) (holds (tyInt w64) l₄ (vint w64 c) (holds (sliceTy (tyRef (named 1) imm (pointee (Record′.row .written)))) l₃ (sliceVal (b·register, o·register) (length register)) (holds (sliceTy (tyRef (named 0) imm (pointee (u32 .written)))) l₂ (sliceVal (b·nodes, o·nodes) (length nodes)) (holds (tyAt (code.function .locals) 1) l₁ (Store′.mach s) (empty (tyInt w64) l₀ []))))))))))))))))))) $
+      Call-line-state.calls ! mem run (fmOf 𝓤 H (W .laws) 𝓣) known-line-state s (r1 s nodes register c x-first span) ok·s ok·1 (and-then ! (load ! (from ! (stop !)) (look ! 39 refl)) (and-then ! (load ! (from ! (stop !)) (look ! 23 refl)) (no-more !)))
+      (λ ok·2. land ! (from ! (stop !)) (init ! 20 refl (Branch′.typed 𝓤 H A W (r2 s nodes register c x-first span) ok·2)) $
+      here ! (‵ (flft κ·nodes q·nodes) ∷ ‵ (ShrAt u32 κ·nodes b·nodes o·nodes γ·nodes (length nodes) nodes) ∷ ‵ (flft κ·register q·register) ∷ ‵ (ShrAt Record′.row κ·register b·register o·register γ·register (length register) register) ∷ empty (tyRef erased imm (sliceTy (tyRef erased imm (pointee (Record′.row .written))))) l₁₈ (empty (tyRef erased imm (sliceTy (tyRef erased imm (pointee (u32 .written))))) l₁₇ (empty (tyAt (code.function .locals) 16) l₁₆ (empty (sliceTy (tyRef erased imm (pointee (Record′.row .written)))) l₁₅ (holds tyBool l₁₄ (vbool (eqb span 0)) (empty (tyAt (code.function .locals) 13) l₁₃ (empty (tyInt w64) l₁₂ (empty (tyAt (code.function .locals) 11) l₁₁ (holds (tyAt (code.function .locals) 10) l₁₀ (Branch′.mach (r2 s nodes register c x-first span)) (holds (tyAt (code.function .locals) 9) l₉ (Line′.mach (r1 s nodes register c x-first span)) (holds (sliceTy (tyRef erased imm (pointee (Record′.row .written)))) l₈ (sliceVal (b·register, o·register) (length register)) (holds (sliceTy (tyRef erased imm (pointee (u32 .written)))) l₇ (sliceVal (b·nodes, o·nodes) (length nodes)) (holds (tyInt w64) l₆ (vint w64 span) (holds (tyAt (code.function .locals) 5) l₅ (PageIndex′.mach x-first) (holds (tyInt w64) l₄ (vint w64 c) (holds (sliceTy (tyRef (named 1) imm (pointee (Record′.row .written)))) l₃ (sliceVal (b·register, o·register) (length register)) (holds (sliceTy (tyRef (named 0) imm (pointee (u32 .written)))) l₂ (sliceVal (b·nodes, o·nodes) (length nodes)) (holds (tyAt (code.function .locals) 1) l₁ (Store′.mach s) (empty (tyInt w64) l₀ []))))))))))))))))))) $
+      assigns ! (of-opd ! (load ! (from ! (stop !)) (look ! 24 refl))) (from ! (stop !)) (init ! 10 refl (tt, (tt, (record { fits = room·register .0 }, tt)))) $
+      Call-version-before.calls ! mem run (fmOf 𝓤 H (W .laws) 𝓣) known-version-before c ok·c (and-then ! (load ! (from ! (stop !)) (look ! 33 refl)) (no-more !))
+      (λ ok·3. land ! (from ! (stop !)) (init ! 8 refl (Version′.typed 𝓤 H A W (r3 s nodes register c x-first span) ok·3)) $
+      here ! (‵ (flft κ·nodes q·nodes) ∷ ‵ (ShrAt u32 κ·nodes b·nodes o·nodes γ·nodes (length nodes) nodes) ∷ ‵ (flft κ·register q·register) ∷ ‵ (ShrAt Record′.row κ·register b·register o·register γ·register (length register) register) ∷ empty (tyRef erased imm (sliceTy (tyRef erased imm (pointee (Record′.row .written))))) l₁₈ (empty (tyRef erased imm (sliceTy (tyRef erased imm (pointee (u32 .written))))) l₁₇ (holds (tyAt (code.function .locals) 16) l₁₆ (Version′.mach (r3 s nodes register c x-first span)) (holds (sliceTy (tyRef erased imm (pointee (Record′.row .written)))) l₁₅ (sliceVal (b·register, o·register) (length register)) (holds tyBool l₁₄ (vbool (eqb span 0)) (empty (tyAt (code.function .locals) 13) l₁₃ (empty (tyInt w64) l₁₂ (empty (tyAt (code.function .locals) 11) l₁₁ (holds (tyAt (code.function .locals) 10) l₁₀ (Branch′.mach (r2 s nodes register c x-first span)) (holds (tyAt (code.function .locals) 9) l₉ (Line′.mach (r1 s nodes register c x-first span)) (holds (sliceTy (tyRef erased imm (pointee (Record′.row .written)))) l₈ (sliceVal (b·register, o·register) (length register)) (holds (sliceTy (tyRef erased imm (pointee (u32 .written)))) l₇ (sliceVal (b·nodes, o·nodes) (length nodes)) (holds (tyInt w64) l₆ (vint w64 span) (holds (tyAt (code.function .locals) 5) l₅ (PageIndex′.mach x-first) (holds (tyInt w64) l₄ (vint w64 c) (holds (sliceTy (tyRef (named 1) imm (pointee (Record′.row .written)))) l₃ (sliceVal (b·register, o·register) (length register)) (holds (sliceTy (tyRef (named 0) imm (pointee (u32 .written)))) l₂ (sliceVal (b·nodes, o·nodes) (length nodes)) (holds (tyAt (code.function .locals) 1) l₁ (Store′.mach s) (empty (tyInt w64) l₀ []))))))))))))))))))) $
       move ! (2 ∷ 3 ∷ []) $
-      Call-newest-own.calls ! mem run (fmOf 𝓤 H (W .laws) 𝓣) known-newest-own κ·register q·register b·register o·register γ·register (length register) register (r1 s nodes register c x-first span) ((r2 s nodes register c x-first span) .published) (r3 s nodes register c x-first span) x-first span ok·1 (Branch′.ok-published (r2 s nodes register c x-first span) ok·2) ok·3 ok·x-first ok·span (Facts.newest-own-1 s nodes register c x-first span ok·s (room·nodes .0) (room·register .0) (ok·c .1) ok·x-first (ok·span .1) need (is-false (eqb span 0) h·1) (above-0 span h·1) ok·1 ok·2 ok·3) (and-then ! (load ! (from ! (stop !)) (look ! 12 refl)) (and-then ! (load ! (from ! (stop !)) (look ! 24 refl)) (and-then ! (load ! (from ! (fld ! refl (stop !))) (look-in ! 22 (sub ! 3 refl (whole !)))) (and-then ! (load ! (from ! (stop !)) (look ! 10 refl)) (and-then ! (load ! (from ! (stop !)) (look ! 32 refl)) (and-then ! (load ! (from ! (stop !)) (look ! 30 refl)) (no-more !)))))))
-      (λ ok·4. move ! (2 ∷ 3 ∷ 0 ∷ 1 ∷ []) $ land ! (from ! (stop !)) (init ! 20 refl (Version′.typed 𝓤 H A W (r4 s nodes register c x-first span) ok·4)) $
-      here ! (‵ (flft κ·nodes q·nodes) ∷ ‵ (ShrAt u32 κ·nodes b·nodes o·nodes γ·nodes (length nodes) nodes) ∷ ‵ (flft κ·register q·register) ∷ ‵ (ShrAt Record′.row κ·register b·register o·register γ·register (length register) register) ∷ empty (tyInt w64) l₁₉ (empty (tyRef erased imm (sliceTy (tyRef erased imm (pointee (Record′.row .written))))) l₁₈ (empty (tyRef erased imm (sliceTy (tyRef erased imm (pointee (u32 .written))))) l₁₇ (holds (tyAt (code.function .locals) 16) l₁₆ (Version′.mach (r3 s nodes register c x-first span)) (holds (sliceTy (tyRef erased imm (pointee (Record′.row .written)))) l₁₅ (sliceVal (b·register, o·register) (length register)) (holds tyBool l₁₄ (vbool (eqb span 0)) (empty (tyAt (code.function .locals) 13) l₁₃ (empty (tyInt w64) l₁₂ (holds (tyAt (code.function .locals) 11) l₁₁ (Version′.mach (r4 s nodes register c x-first span)) (holds (tyAt (code.function .locals) 10) l₁₀ (Branch′.mach (r2 s nodes register c x-first span)) (holds (tyAt (code.function .locals) 9) l₉ (Line′.mach (r1 s nodes register c x-first span)) (holds (sliceTy (tyRef erased imm (pointee (Record′.row .written)))) l₈ (sliceVal (b·register, o·register) (length register)) (holds (sliceTy (tyRef erased imm (pointee (u32 .written)))) l₇ (sliceVal (b·nodes, o·nodes) (length nodes)) (holds (tyInt w64) l₆ (vint w64 span) (holds (tyAt (code.function .locals) 5) l₅ (PageIndex′.mach x-first) (holds (tyInt w64) l₄ (vint w64 c) (holds (sliceTy (tyRef (named 1) imm (pointee (Record′.row .written)))) l₃ (sliceVal (b·register, o·register) (length register)) (holds (sliceTy (tyRef (named 0) imm (pointee (u32 .written)))) l₂ (sliceVal (b·nodes, o·nodes) (length nodes)) (holds (tyAt (code.function .locals) 1) l₁ (Store′.mach s) (empty (tyInt w64) l₀ [])))))))))))))))))))) $
-      assigns ! (bin ! (lit ! tt) (load ! (from ! (fld ! refl (stop !))) (look-in ! 20 (sub ! 0 refl (whole !)))) tt) (from ! (stop !)) (store ! 14 refl (tt, tt)) $
-      branches-on ! (load ! (from ! (stop !)) (look ! 14 refl))
+      Call-newest-own.calls ! mem run (fmOf 𝓤 H (W .laws) 𝓣) known-newest-own κ·register q·register b·register o·register γ·register (length register) register (r1 s nodes register c x-first span) ((r2 s nodes register c x-first span) .published) (r3 s nodes register c x-first span) x-first span ok·1 (Branch′.ok-published (r2 s nodes register c x-first span) ok·2) ok·3 ok·x-first ok·span (Facts.newest-own-1 s nodes register c x-first span ok·s (room·nodes .0) (room·register .0) (ok·c .1) ok·x-first (ok·span .1) need (is-false (eqb span 0) h·1) (above-0 span h·1) ok·1 ok·2 ok·3) (and-then ! (load ! (from ! (stop !)) (look ! 10 refl)) (and-then ! (load ! (from ! (stop !)) (look ! 22 refl)) (and-then ! (load ! (from ! (fld ! refl (stop !))) (look-in ! 20 (sub ! 3 refl (whole !)))) (and-then ! (load ! (from ! (stop !)) (look ! 8 refl)) (and-then ! (load ! (from ! (stop !)) (look ! 30 refl)) (and-then ! (load ! (from ! (stop !)) (look ! 28 refl)) (no-more !)))))))
+      (λ ok·4. move ! (2 ∷ 3 ∷ 0 ∷ 1 ∷ []) $ land ! (from ! (stop !)) (init ! 18 refl (Version′.typed 𝓤 H A W (r4 s nodes register c x-first span) ok·4)) $
+      here ! (‵ (flft κ·nodes q·nodes) ∷ ‵ (ShrAt u32 κ·nodes b·nodes o·nodes γ·nodes (length nodes) nodes) ∷ ‵ (flft κ·register q·register) ∷ ‵ (ShrAt Record′.row κ·register b·register o·register γ·register (length register) register) ∷ empty (tyRef erased imm (sliceTy (tyRef erased imm (pointee (Record′.row .written))))) l₁₈ (empty (tyRef erased imm (sliceTy (tyRef erased imm (pointee (u32 .written))))) l₁₇ (holds (tyAt (code.function .locals) 16) l₁₆ (Version′.mach (r3 s nodes register c x-first span)) (holds (sliceTy (tyRef erased imm (pointee (Record′.row .written)))) l₁₅ (sliceVal (b·register, o·register) (length register)) (holds tyBool l₁₄ (vbool (eqb span 0)) (empty (tyAt (code.function .locals) 13) l₁₃ (empty (tyInt w64) l₁₂ (holds (tyAt (code.function .locals) 11) l₁₁ (Version′.mach (r4 s nodes register c x-first span)) (holds (tyAt (code.function .locals) 10) l₁₀ (Branch′.mach (r2 s nodes register c x-first span)) (holds (tyAt (code.function .locals) 9) l₉ (Line′.mach (r1 s nodes register c x-first span)) (holds (sliceTy (tyRef erased imm (pointee (Record′.row .written)))) l₈ (sliceVal (b·register, o·register) (length register)) (holds (sliceTy (tyRef erased imm (pointee (u32 .written)))) l₇ (sliceVal (b·nodes, o·nodes) (length nodes)) (holds (tyInt w64) l₆ (vint w64 span) (holds (tyAt (code.function .locals) 5) l₅ (PageIndex′.mach x-first) (holds (tyInt w64) l₄ (vint w64 c) (holds (sliceTy (tyRef (named 1) imm (pointee (Record′.row .written)))) l₃ (sliceVal (b·register, o·register) (length register)) (holds (sliceTy (tyRef (named 0) imm (pointee (u32 .written)))) l₂ (sliceVal (b·nodes, o·nodes) (length nodes)) (holds (tyAt (code.function .locals) 1) l₁ (Store′.mach s) (empty (tyInt w64) l₀ []))))))))))))))))))) $
+      assigns ! (bin ! (lit ! tt) (load ! (from ! (fld ! refl (stop !))) (look-in ! 18 (sub ! 0 refl (whole !)))) tt) (from ! (stop !)) (store ! 12 refl (tt, tt)) $
+      branches-on ! (load ! (from ! (stop !)) (look ! 12 refl))
       (λ h·2. regroup ! $
-      Call-number-of.calls ! mem run (fmOf 𝓤 H (W .laws) 𝓣) known-number-of (r1 s nodes register c x-first span) (r4 s nodes register c x-first span) ok·1 ok·4 (and-then ! (load ! (from ! (stop !)) (look ! 25 refl)) (and-then ! (load ! (from ! (stop !)) (look ! 21 refl)) (no-more !)))
-      (λ ok·5. land ! (from ! (stop !)) (init ! 42 refl (tt, record { fits = ok·5 .1 })) $
-      here ! (‵ (flft κ·nodes q·nodes) ∷ ‵ (ShrAt u32 κ·nodes b·nodes o·nodes γ·nodes (length nodes) nodes) ∷ ‵ (flft κ·register q·register) ∷ ‵ (ShrAt Record′.row κ·register b·register o·register γ·register (length register) register) ∷ empty (tyInt w64) l₁₉ (empty (tyRef erased imm (sliceTy (tyRef erased imm (pointee (Record′.row .written))))) l₁₈ (empty (tyRef erased imm (sliceTy (tyRef erased imm (pointee (u32 .written))))) l₁₇ (holds (tyAt (code.function .locals) 16) l₁₆ (Version′.mach (r3 s nodes register c x-first span)) (holds (sliceTy (tyRef erased imm (pointee (Record′.row .written)))) l₁₅ (sliceVal (b·register, o·register) (length register)) (holds tyBool l₁₄ (vbool (ltb 0 ((r4 s nodes register c x-first span) .0))) (empty (tyAt (code.function .locals) 13) l₁₃ (empty (tyInt w64) l₁₂ (holds (tyAt (code.function .locals) 11) l₁₁ (Version′.mach (r4 s nodes register c x-first span)) (holds (tyAt (code.function .locals) 10) l₁₀ (Branch′.mach (r2 s nodes register c x-first span)) (holds (tyAt (code.function .locals) 9) l₉ (Line′.mach (r1 s nodes register c x-first span)) (holds (sliceTy (tyRef erased imm (pointee (Record′.row .written)))) l₈ (sliceVal (b·register, o·register) (length register)) (holds (sliceTy (tyRef erased imm (pointee (u32 .written)))) l₇ (sliceVal (b·nodes, o·nodes) (length nodes)) (holds (tyInt w64) l₆ (vint w64 span) (holds (tyAt (code.function .locals) 5) l₅ (PageIndex′.mach x-first) (holds (tyInt w64) l₄ (vint w64 c) (holds (sliceTy (tyRef (named 1) imm (pointee (Record′.row .written)))) l₃ (sliceVal (b·register, o·register) (length register)) (holds (sliceTy (tyRef (named 0) imm (pointee (u32 .written)))) l₂ (sliceVal (b·nodes, o·nodes) (length nodes)) (holds (tyAt (code.function .locals) 1) l₁ (Store′.mach s) (holds (tyInt w64) l₀ (vint w64 (r5 s nodes register c x-first span)) [])))))))))))))))))))) $
-      returns-on ! (look ! 42 refl) $
-      move ! (42 ∷ 43 ∷ []) $ forget ! 0 refl $ free1 ! $ move ! (40 ∷ 41 ∷ []) $ forget ! 0 refl $ free1 ! $ move ! (38 ∷ 39 ∷ []) $ forget ! 0 refl $ free1 ! $ move ! (36 ∷ 37 ∷ []) $ forget ! 0 refl $ free1 ! $ move ! (34 ∷ 35 ∷ []) $ forget ! 0 refl $ free1 ! $ move ! (32 ∷ 33 ∷ []) $ forget ! 0 refl $ free1 ! $ move ! (30 ∷ 31 ∷ []) $ forget ! 0 refl $ free1 ! $ move ! (28 ∷ 29 ∷ []) $ forget ! 0 refl $ free1 ! $ move ! (26 ∷ 27 ∷ []) $ forget ! 0 refl $ free1 ! $ move ! (24 ∷ 25 ∷ []) $ forget ! 0 refl $ free1 ! $ move ! (22 ∷ 23 ∷ []) $ forget ! 0 refl $ free1 ! $ move ! (20 ∷ 21 ∷ []) $ forget ! 0 refl $ free1 ! $ move ! (18 ∷ 19 ∷ []) $ free1 ! $ move ! (16 ∷ 17 ∷ []) $ free1 ! $ move ! (14 ∷ 15 ∷ []) $ forget ! 0 refl $ free1 ! $ move ! (12 ∷ 13 ∷ []) $ forget ! 0 refl $ free1 ! $ move ! (10 ∷ 11 ∷ []) $ forget ! 0 refl $ free1 ! $ move ! (8 ∷ 9 ∷ []) $ free1 ! $ move ! (6 ∷ 7 ∷ []) $ free1 ! $ move ! (4 ∷ 5 ∷ []) $ free1 ! $ free0 ! $ by ! (exits (r5 s nodes register c x-first span) ok·5 (Facts.exit-2 s nodes register c x-first span ok·s (room·nodes .0) (room·register .0) (ok·c .1) ok·x-first (ok·span .1) need (is-false (eqb span 0) h·1) (above-0 span h·1) ok·1 ok·2 ok·3 ok·4 (is-true (ltb 0 ((r4 s nodes register c x-first span) .0)) h·2) (ltb→lt 0 ((r4 s nodes register c x-first span) .0) h·2) (ok·5 .1)))))
+      Call-number-of.calls ! mem run (fmOf 𝓤 H (W .laws) 𝓣) known-number-of (r1 s nodes register c x-first span) (r4 s nodes register c x-first span) ok·1 ok·4 (and-then ! (load ! (from ! (stop !)) (look ! 23 refl)) (and-then ! (load ! (from ! (stop !)) (look ! 19 refl)) (no-more !)))
+      (λ ok·5. land ! (from ! (stop !)) (init ! 40 refl (tt, record { fits = ok·5 .1 })) $
+      here ! (‵ (flft κ·nodes q·nodes) ∷ ‵ (ShrAt u32 κ·nodes b·nodes o·nodes γ·nodes (length nodes) nodes) ∷ ‵ (flft κ·register q·register) ∷ ‵ (ShrAt Record′.row κ·register b·register o·register γ·register (length register) register) ∷ empty (tyRef erased imm (sliceTy (tyRef erased imm (pointee (Record′.row .written))))) l₁₈ (empty (tyRef erased imm (sliceTy (tyRef erased imm (pointee (u32 .written))))) l₁₇ (holds (tyAt (code.function .locals) 16) l₁₆ (Version′.mach (r3 s nodes register c x-first span)) (holds (sliceTy (tyRef erased imm (pointee (Record′.row .written)))) l₁₅ (sliceVal (b·register, o·register) (length register)) (holds tyBool l₁₄ (vbool (ltb 0 ((r4 s nodes register c x-first span) .0))) (empty (tyAt (code.function .locals) 13) l₁₃ (empty (tyInt w64) l₁₂ (holds (tyAt (code.function .locals) 11) l₁₁ (Version′.mach (r4 s nodes register c x-first span)) (holds (tyAt (code.function .locals) 10) l₁₀ (Branch′.mach (r2 s nodes register c x-first span)) (holds (tyAt (code.function .locals) 9) l₉ (Line′.mach (r1 s nodes register c x-first span)) (holds (sliceTy (tyRef erased imm (pointee (Record′.row .written)))) l₈ (sliceVal (b·register, o·register) (length register)) (holds (sliceTy (tyRef erased imm (pointee (u32 .written)))) l₇ (sliceVal (b·nodes, o·nodes) (length nodes)) (holds (tyInt w64) l₆ (vint w64 span) (holds (tyAt (code.function .locals) 5) l₅ (PageIndex′.mach x-first) (holds (tyInt w64) l₄ (vint w64 c) (holds (sliceTy (tyRef (named 1) imm (pointee (Record′.row .written)))) l₃ (sliceVal (b·register, o·register) (length register)) (holds (sliceTy (tyRef (named 0) imm (pointee (u32 .written)))) l₂ (sliceVal (b·nodes, o·nodes) (length nodes)) (holds (tyAt (code.function .locals) 1) l₁ (Store′.mach s) (holds (tyInt w64) l₀ (vint w64 (r5 s nodes register c x-first span)) []))))))))))))))))))) $
+      returns-on ! (look ! 40 refl) $
+      move ! (40 ∷ 41 ∷ []) $ forget ! 0 refl $ free1 ! $ move ! (38 ∷ 39 ∷ []) $ forget ! 0 refl $ free1 ! $ move ! (36 ∷ 37 ∷ []) $ forget ! 0 refl $ free1 ! $ move ! (34 ∷ 35 ∷ []) $ forget ! 0 refl $ free1 ! $ move ! (32 ∷ 33 ∷ []) $ forget ! 0 refl $ free1 ! $ move ! (30 ∷ 31 ∷ []) $ forget ! 0 refl $ free1 ! $ move ! (28 ∷ 29 ∷ []) $ forget ! 0 refl $ free1 ! $ move ! (26 ∷ 27 ∷ []) $ forget ! 0 refl $ free1 ! $ move ! (24 ∷ 25 ∷ []) $ forget ! 0 refl $ free1 ! $ move ! (22 ∷ 23 ∷ []) $ forget ! 0 refl $ free1 ! $ move ! (20 ∷ 21 ∷ []) $ forget ! 0 refl $ free1 ! $ move ! (18 ∷ 19 ∷ []) $ forget ! 0 refl $ free1 ! $ move ! (16 ∷ 17 ∷ []) $ free1 ! $ move ! (14 ∷ 15 ∷ []) $ free1 ! $ move ! (12 ∷ 13 ∷ []) $ forget ! 0 refl $ free1 ! $ move ! (10 ∷ 11 ∷ []) $ forget ! 0 refl $ free1 ! $ move ! (8 ∷ 9 ∷ []) $ forget ! 0 refl $ free1 ! $ move ! (6 ∷ 7 ∷ []) $ free1 ! $ move ! (4 ∷ 5 ∷ []) $ free1 ! $ free0 ! $ by ! (exits (r5 s nodes register c x-first span) ok·5 (Facts.exit-2 s nodes register c x-first span ok·s (room·nodes .0) (room·register .0) (ok·c .1) ok·x-first (ok·span .1) need (is-false (eqb span 0) h·1) (above-0 span h·1) ok·1 ok·2 ok·3 ok·4 (is-true (ltb 0 ((r4 s nodes register c x-first span) .0)) h·2) (ltb→lt 0 ((r4 s nodes register c x-first span) .0) h·2) (ok·5 .1)))))
       (λ h·2. skips-on ! $
-      Call-number-on.calls ! mem run (fmOf 𝓤 H (W .laws) 𝓣) known-number-on s (r1 s nodes register c x-first span) ((r2 s nodes register c x-first span) .published) ok·s ok·1 (Branch′.ok-published (r2 s nodes register c x-first span) ok·2) (and-then ! (load ! (from ! (stop !)) (look ! 41 refl)) (and-then ! (load ! (from ! (stop !)) (look ! 25 refl)) (and-then ! (load ! (from ! (fld ! refl (stop !))) (look-in ! 23 (sub ! 3 refl (whole !)))) (no-more !))))
-      (λ ok·6. land ! (from ! (stop !)) (init ! 18 refl (tt, record { fits = ok·6 .1 })) $
-      here ! (‵ (flft κ·nodes q·nodes) ∷ ‵ (ShrAt u32 κ·nodes b·nodes o·nodes γ·nodes (length nodes) nodes) ∷ ‵ (flft κ·register q·register) ∷ ‵ (ShrAt Record′.row κ·register b·register o·register γ·register (length register) register) ∷ empty (tyInt w64) l₁₉ (empty (tyRef erased imm (sliceTy (tyRef erased imm (pointee (Record′.row .written))))) l₁₈ (empty (tyRef erased imm (sliceTy (tyRef erased imm (pointee (u32 .written))))) l₁₇ (holds (tyAt (code.function .locals) 16) l₁₆ (Version′.mach (r3 s nodes register c x-first span)) (holds (sliceTy (tyRef erased imm (pointee (Record′.row .written)))) l₁₅ (sliceVal (b·register, o·register) (length register)) (holds tyBool l₁₄ (vbool (ltb 0 ((r4 s nodes register c x-first span) .0))) (empty (tyAt (code.function .locals) 13) l₁₃ (holds (tyInt w64) l₁₂ (vint w64 (r6 s nodes register c x-first span)) (holds (tyAt (code.function .locals) 11) l₁₁ (Version′.mach (r4 s nodes register c x-first span)) (holds (tyAt (code.function .locals) 10) l₁₀ (Branch′.mach (r2 s nodes register c x-first span)) (holds (tyAt (code.function .locals) 9) l₉ (Line′.mach (r1 s nodes register c x-first span)) (holds (sliceTy (tyRef erased imm (pointee (Record′.row .written)))) l₈ (sliceVal (b·register, o·register) (length register)) (holds (sliceTy (tyRef erased imm (pointee (u32 .written)))) l₇ (sliceVal (b·nodes, o·nodes) (length nodes)) (holds (tyInt w64) l₆ (vint w64 span) (holds (tyAt (code.function .locals) 5) l₅ (PageIndex′.mach x-first) (holds (tyInt w64) l₄ (vint w64 c) (holds (sliceTy (tyRef (named 1) imm (pointee (Record′.row .written)))) l₃ (sliceVal (b·register, o·register) (length register)) (holds (sliceTy (tyRef (named 0) imm (pointee (u32 .written)))) l₂ (sliceVal (b·nodes, o·nodes) (length nodes)) (holds (tyAt (code.function .locals) 1) l₁ (Store′.mach s) (empty (tyInt w64) l₀ [])))))))))))))))))))) $
-      assigns ! (of-opd ! (load ! (from ! (stop !)) (look ! 26 refl))) (from ! (stop !)) (store ! 12 refl (tt, (tt, (record { fits = room·register .0 }, tt)))) $
+      Call-number-on.calls ! mem run (fmOf 𝓤 H (W .laws) 𝓣) known-number-on s (r1 s nodes register c x-first span) ((r2 s nodes register c x-first span) .published) ok·s ok·1 (Branch′.ok-published (r2 s nodes register c x-first span) ok·2) (and-then ! (load ! (from ! (stop !)) (look ! 39 refl)) (and-then ! (load ! (from ! (stop !)) (look ! 23 refl)) (and-then ! (load ! (from ! (fld ! refl (stop !))) (look-in ! 21 (sub ! 3 refl (whole !)))) (no-more !))))
+      (λ ok·6. land ! (from ! (stop !)) (init ! 16 refl (tt, record { fits = ok·6 .1 })) $
+      here ! (‵ (flft κ·nodes q·nodes) ∷ ‵ (ShrAt u32 κ·nodes b·nodes o·nodes γ·nodes (length nodes) nodes) ∷ ‵ (flft κ·register q·register) ∷ ‵ (ShrAt Record′.row κ·register b·register o·register γ·register (length register) register) ∷ empty (tyRef erased imm (sliceTy (tyRef erased imm (pointee (Record′.row .written))))) l₁₈ (empty (tyRef erased imm (sliceTy (tyRef erased imm (pointee (u32 .written))))) l₁₇ (holds (tyAt (code.function .locals) 16) l₁₆ (Version′.mach (r3 s nodes register c x-first span)) (holds (sliceTy (tyRef erased imm (pointee (Record′.row .written)))) l₁₅ (sliceVal (b·register, o·register) (length register)) (holds tyBool l₁₄ (vbool (ltb 0 ((r4 s nodes register c x-first span) .0))) (empty (tyAt (code.function .locals) 13) l₁₃ (holds (tyInt w64) l₁₂ (vint w64 (r6 s nodes register c x-first span)) (holds (tyAt (code.function .locals) 11) l₁₁ (Version′.mach (r4 s nodes register c x-first span)) (holds (tyAt (code.function .locals) 10) l₁₀ (Branch′.mach (r2 s nodes register c x-first span)) (holds (tyAt (code.function .locals) 9) l₉ (Line′.mach (r1 s nodes register c x-first span)) (holds (sliceTy (tyRef erased imm (pointee (Record′.row .written)))) l₈ (sliceVal (b·register, o·register) (length register)) (holds (sliceTy (tyRef erased imm (pointee (u32 .written)))) l₇ (sliceVal (b·nodes, o·nodes) (length nodes)) (holds (tyInt w64) l₆ (vint w64 span) (holds (tyAt (code.function .locals) 5) l₅ (PageIndex′.mach x-first) (holds (tyInt w64) l₄ (vint w64 c) (holds (sliceTy (tyRef (named 1) imm (pointee (Record′.row .written)))) l₃ (sliceVal (b·register, o·register) (length register)) (holds (sliceTy (tyRef (named 0) imm (pointee (u32 .written)))) l₂ (sliceVal (b·nodes, o·nodes) (length nodes)) (holds (tyAt (code.function .locals) 1) l₁ (Store′.mach s) (empty (tyInt w64) l₀ []))))))))))))))))))) $
+      assigns ! (of-opd ! (load ! (from ! (stop !)) (look ! 24 refl))) (from ! (stop !)) (store ! 10 refl (tt, (tt, (record { fits = room·register .0 }, tt)))) $
       move ! (2 ∷ 3 ∷ []) $
-      Call-version-part.calls ! mem run (fmOf 𝓤 H (W .laws) 𝓣) known-version-part κ·register q·register b·register o·register γ·register (length register) register (r6 s nodes register c x-first span) ok·6 (and-then ! (load ! (from ! (stop !)) (look ! 12 refl)) (and-then ! (load ! (from ! (stop !)) (look ! 18 refl)) (no-more !)))
-      (λ ok·7. move ! (2 ∷ 3 ∷ 0 ∷ 1 ∷ []) $ land ! (from ! (stop !)) (init ! 16 refl (Part′.typed 𝓤 H A W (r7 s nodes register c x-first span) ok·7)) $
-      here ! (‵ (flft κ·nodes q·nodes) ∷ ‵ (ShrAt u32 κ·nodes b·nodes o·nodes γ·nodes (length nodes) nodes) ∷ ‵ (flft κ·register q·register) ∷ ‵ (ShrAt Record′.row κ·register b·register o·register γ·register (length register) register) ∷ empty (tyInt w64) l₁₉ (empty (tyRef erased imm (sliceTy (tyRef erased imm (pointee (Record′.row .written))))) l₁₈ (empty (tyRef erased imm (sliceTy (tyRef erased imm (pointee (u32 .written))))) l₁₇ (holds (tyAt (code.function .locals) 16) l₁₆ (Version′.mach (r3 s nodes register c x-first span)) (holds (sliceTy (tyRef erased imm (pointee (Record′.row .written)))) l₁₅ (sliceVal (b·register, o·register) (length register)) (holds tyBool l₁₄ (vbool (ltb 0 ((r4 s nodes register c x-first span) .0))) (holds (tyAt (code.function .locals) 13) l₁₃ (Part′.mach (r7 s nodes register c x-first span)) (holds (tyInt w64) l₁₂ (vint w64 (r6 s nodes register c x-first span)) (holds (tyAt (code.function .locals) 11) l₁₁ (Version′.mach (r4 s nodes register c x-first span)) (holds (tyAt (code.function .locals) 10) l₁₀ (Branch′.mach (r2 s nodes register c x-first span)) (holds (tyAt (code.function .locals) 9) l₉ (Line′.mach (r1 s nodes register c x-first span)) (holds (sliceTy (tyRef erased imm (pointee (Record′.row .written)))) l₈ (sliceVal (b·register, o·register) (length register)) (holds (sliceTy (tyRef erased imm (pointee (u32 .written)))) l₇ (sliceVal (b·nodes, o·nodes) (length nodes)) (holds (tyInt w64) l₆ (vint w64 span) (holds (tyAt (code.function .locals) 5) l₅ (PageIndex′.mach x-first) (holds (tyInt w64) l₄ (vint w64 c) (holds (sliceTy (tyRef (named 1) imm (pointee (Record′.row .written)))) l₃ (sliceVal (b·register, o·register) (length register)) (holds (sliceTy (tyRef (named 0) imm (pointee (u32 .written)))) l₂ (sliceVal (b·nodes, o·nodes) (length nodes)) (holds (tyAt (code.function .locals) 1) l₁ (Store′.mach s) (empty (tyInt w64) l₀ [])))))))))))))))))))) $
-      assigns ! (addr ! (from ! (stop !))) (from ! (stop !)) (init ! 8 refl (tt, tt)) $
+      Call-version-part.calls ! mem run (fmOf 𝓤 H (W .laws) 𝓣) known-version-part κ·register q·register b·register o·register γ·register (length register) register (r6 s nodes register c x-first span) ok·6 (and-then ! (load ! (from ! (stop !)) (look ! 10 refl)) (and-then ! (load ! (from ! (stop !)) (look ! 16 refl)) (no-more !)))
+      (λ ok·7. move ! (2 ∷ 3 ∷ 0 ∷ 1 ∷ []) $ land ! (from ! (stop !)) (init ! 14 refl (Part′.typed 𝓤 H A W (r7 s nodes register c x-first span) ok·7)) $
+      here ! (‵ (flft κ·nodes q·nodes) ∷ ‵ (ShrAt u32 κ·nodes b·nodes o·nodes γ·nodes (length nodes) nodes) ∷ ‵ (flft κ·register q·register) ∷ ‵ (ShrAt Record′.row κ·register b·register o·register γ·register (length register) register) ∷ empty (tyRef erased imm (sliceTy (tyRef erased imm (pointee (Record′.row .written))))) l₁₈ (empty (tyRef erased imm (sliceTy (tyRef erased imm (pointee (u32 .written))))) l₁₇ (holds (tyAt (code.function .locals) 16) l₁₆ (Version′.mach (r3 s nodes register c x-first span)) (holds (sliceTy (tyRef erased imm (pointee (Record′.row .written)))) l₁₅ (sliceVal (b·register, o·register) (length register)) (holds tyBool l₁₄ (vbool (ltb 0 ((r4 s nodes register c x-first span) .0))) (holds (tyAt (code.function .locals) 13) l₁₃ (Part′.mach (r7 s nodes register c x-first span)) (holds (tyInt w64) l₁₂ (vint w64 (r6 s nodes register c x-first span)) (holds (tyAt (code.function .locals) 11) l₁₁ (Version′.mach (r4 s nodes register c x-first span)) (holds (tyAt (code.function .locals) 10) l₁₀ (Branch′.mach (r2 s nodes register c x-first span)) (holds (tyAt (code.function .locals) 9) l₉ (Line′.mach (r1 s nodes register c x-first span)) (holds (sliceTy (tyRef erased imm (pointee (Record′.row .written)))) l₈ (sliceVal (b·register, o·register) (length register)) (holds (sliceTy (tyRef erased imm (pointee (u32 .written)))) l₇ (sliceVal (b·nodes, o·nodes) (length nodes)) (holds (tyInt w64) l₆ (vint w64 span) (holds (tyAt (code.function .locals) 5) l₅ (PageIndex′.mach x-first) (holds (tyInt w64) l₄ (vint w64 c) (holds (sliceTy (tyRef (named 1) imm (pointee (Record′.row .written)))) l₃ (sliceVal (b·register, o·register) (length register)) (holds (sliceTy (tyRef (named 0) imm (pointee (u32 .written)))) l₂ (sliceVal (b·nodes, o·nodes) (length nodes)) (holds (tyAt (code.function .locals) 1) l₁ (Store′.mach s) (empty (tyInt w64) l₀ []))))))))))))))))))) $
       assigns ! (addr ! (from ! (stop !))) (from ! (stop !)) (init ! 6 refl (tt, tt)) $
-      Call-height-of.calls ! mem run (fmOf 𝓤 H (W .laws) 𝓣) known-height-of span ok·span (Facts.height-of-1 s nodes register c x-first span ok·s (room·nodes .0) (room·register .0) (ok·c .1) ok·x-first (ok·span .1) need (is-false (eqb span 0) h·1) (above-0 span h·1) ok·1 ok·2 ok·3 ok·4 (is-false (ltb 0 ((r4 s nodes register c x-first span) .0)) h·2) (nltb→le 0 ((r4 s nodes register c x-first span) .0) h·2) (ok·6 .1) ok·7) (and-then ! (load ! (from ! (stop !)) (look ! 31 refl)) (no-more !))
-      (λ r8 ok·8 says·8. land ! (from ! (stop !)) (init ! 4 refl (tt, record { fits = ok·8 .1 })) $
-      here ! (‵ (flft κ·nodes q·nodes) ∷ ‵ (ShrAt u32 κ·nodes b·nodes o·nodes γ·nodes (length nodes) nodes) ∷ ‵ (flft κ·register q·register) ∷ ‵ (ShrAt Record′.row κ·register b·register o·register γ·register (length register) register) ∷ holds (tyInt w64) l₁₉ (vint w64 r8) (holds (tyRef erased imm (sliceTy (tyRef erased imm (pointee (Record′.row .written))))) l₁₈ (vptr l₈ 0) (holds (tyRef erased imm (sliceTy (tyRef erased imm (pointee (u32 .written))))) l₁₇ (vptr l₇ 0) (holds (tyAt (code.function .locals) 16) l₁₆ (Version′.mach (r3 s nodes register c x-first span)) (holds (sliceTy (tyRef erased imm (pointee (Record′.row .written)))) l₁₅ (sliceVal (b·register, o·register) (length register)) (holds tyBool l₁₄ (vbool (ltb 0 ((r4 s nodes register c x-first span) .0))) (holds (tyAt (code.function .locals) 13) l₁₃ (Part′.mach (r7 s nodes register c x-first span)) (holds (tyInt w64) l₁₂ (vint w64 (r6 s nodes register c x-first span)) (holds (tyAt (code.function .locals) 11) l₁₁ (Version′.mach (r4 s nodes register c x-first span)) (holds (tyAt (code.function .locals) 10) l₁₀ (Branch′.mach (r2 s nodes register c x-first span)) (holds (tyAt (code.function .locals) 9) l₉ (Line′.mach (r1 s nodes register c x-first span)) (holds (sliceTy (tyRef erased imm (pointee (Record′.row .written)))) l₈ (sliceVal (b·register, o·register) (length register)) (holds (sliceTy (tyRef erased imm (pointee (u32 .written)))) l₇ (sliceVal (b·nodes, o·nodes) (length nodes)) (holds (tyInt w64) l₆ (vint w64 span) (holds (tyAt (code.function .locals) 5) l₅ (PageIndex′.mach x-first) (holds (tyInt w64) l₄ (vint w64 c) (holds (sliceTy (tyRef (named 1) imm (pointee (Record′.row .written)))) l₃ (sliceVal (b·register, o·register) (length register)) (holds (sliceTy (tyRef (named 0) imm (pointee (u32 .written)))) l₂ (sliceVal (b·nodes, o·nodes) (length nodes)) (holds (tyAt (code.function .locals) 1) l₁ (Store′.mach s) (empty (tyInt w64) l₀ [])))))))))))))))))))) $
-      move ! (0 ∷ 1 ∷ 28 ∷ []) $ lend-ref ! tt u32 erased κ·nodes q·nodes l₇ b·nodes o·nodes γ·nodes nodes (λ ν·9-nodes γ·9-nodes. move ! (5 ∷ 6 ∷ 29 ∷ []) $ lend-ref ! tt Record′.row erased κ·register q·register l₈ b·register o·register γ·register register (λ ν·9-register γ·9-register. move ! (5 ∷ 6 ∷ 7 ∷ 0 ∷ 1 ∷ 2 ∷ 3 ∷ 8 ∷ 10 ∷ 11 ∷ 12 ∷ 13 ∷ 14 ∷ 15 ∷ 16 ∷ 17 ∷ 18 ∷ 19 ∷ 20 ∷ 21 ∷ 22 ∷ 23 ∷ 24 ∷ 25 ∷ 26 ∷ 27 ∷ 28 ∷ 29 ∷ 30 ∷ 31 ∷ 4 ∷ 32 ∷ 9 ∷ 33 ∷ 34 ∷ 35 ∷ 36 ∷ 37 ∷ 38 ∷ 39 ∷ 40 ∷ 41 ∷ 42 ∷ 43 ∷ 44 ∷ 45 ∷ 46 ∷ 47 ∷ []) $
-      Call-reach-from.calls ! mem run (fmOf 𝓤 H (W .laws) 𝓣) known-reach-from (loan-of ν·9-nodes κ·nodes) (PosShare·left q·nodes) l₇ 0 γ·9-nodes κ·nodes (PosShare·right q·nodes) b·nodes o·nodes γ·nodes nodes (loan-within ν·9-nodes κ·nodes) (loan-of ν·9-register κ·register) (PosShare·left q·register) l₈ 0 γ·9-register κ·register (PosShare·right q·register) b·register o·register γ·register register (loan-within ν·9-register κ·register) (r6 s nodes register c x-first span) ((r7 s nodes register c x-first span) .height) x-first r8 ok·6 (Part′.ok-height (r7 s nodes register c x-first span) ok·7) ok·x-first ok·8 (and-then ! (load ! (from ! (stop !)) (look ! 9 refl)) (and-then ! (load ! (from ! (stop !)) (look ! 7 refl)) (and-then ! (load ! (from ! (stop !)) (look ! 19 refl)) (and-then ! (load ! (from ! (fld ! refl (stop !))) (look-in ! 17 (sub ! 5 refl (whole !)))) (and-then ! (load ! (from ! (stop !)) (look ! 33 refl)) (and-then ! (load ! (from ! (stop !)) (look ! 5 refl)) (no-more !)))))))
-      (λ ok·9. move ! (0 ∷ 1 ∷ 2 ∷ 32 ∷ []) $ back-ref ! tt u32 erased κ·nodes q·nodes l₇ b·nodes o·nodes γ·nodes nodes ν·9-nodes $ move ! (2 ∷ 3 ∷ 4 ∷ 29 ∷ []) $ back-ref ! tt Record′.row erased κ·register q·register l₈ b·register o·register γ·register register ν·9-register $ move ! (2 ∷ 5 ∷ 0 ∷ 4 ∷ 6 ∷ 7 ∷ 8 ∷ 9 ∷ 10 ∷ 11 ∷ 12 ∷ 13 ∷ 14 ∷ 15 ∷ 16 ∷ 17 ∷ 18 ∷ 19 ∷ 20 ∷ 21 ∷ 22 ∷ 23 ∷ 24 ∷ 25 ∷ 26 ∷ 27 ∷ 1 ∷ 28 ∷ 3 ∷ 29 ∷ 30 ∷ 31 ∷ 32 ∷ 33 ∷ 34 ∷ 35 ∷ 36 ∷ 37 ∷ 38 ∷ 39 ∷ 40 ∷ 41 ∷ 42 ∷ 43 ∷ []) $ land ! (from ! (stop !)) (init ! 42 refl (tt, record { fits = ok·9 .1 })) $
-      here ! (‵ (flft κ·nodes q·nodes) ∷ ‵ (ShrAt u32 κ·nodes b·nodes o·nodes γ·nodes (length nodes) nodes) ∷ ‵ (flft κ·register q·register) ∷ ‵ (ShrAt Record′.row κ·register b·register o·register γ·register (length register) register) ∷ holds (tyInt w64) l₁₉ (vint w64 r8) (holds (tyRef erased imm (sliceTy (tyRef erased imm (pointee (Record′.row .written))))) l₁₈ (vptr l₈ 0) (holds (tyRef erased imm (sliceTy (tyRef erased imm (pointee (u32 .written))))) l₁₇ (vptr l₇ 0) (holds (tyAt (code.function .locals) 16) l₁₆ (Version′.mach (r3 s nodes register c x-first span)) (holds (sliceTy (tyRef erased imm (pointee (Record′.row .written)))) l₁₅ (sliceVal (b·register, o·register) (length register)) (holds tyBool l₁₄ (vbool (ltb 0 ((r4 s nodes register c x-first span) .0))) (holds (tyAt (code.function .locals) 13) l₁₃ (Part′.mach (r7 s nodes register c x-first span)) (holds (tyInt w64) l₁₂ (vint w64 (r6 s nodes register c x-first span)) (holds (tyAt (code.function .locals) 11) l₁₁ (Version′.mach (r4 s nodes register c x-first span)) (holds (tyAt (code.function .locals) 10) l₁₀ (Branch′.mach (r2 s nodes register c x-first span)) (holds (tyAt (code.function .locals) 9) l₉ (Line′.mach (r1 s nodes register c x-first span)) (holds (sliceTy (tyRef erased imm (pointee (Record′.row .written)))) l₈ (sliceVal (b·register, o·register) (length register)) (holds (sliceTy (tyRef erased imm (pointee (u32 .written)))) l₇ (sliceVal (b·nodes, o·nodes) (length nodes)) (holds (tyInt w64) l₆ (vint w64 span) (holds (tyAt (code.function .locals) 5) l₅ (PageIndex′.mach x-first) (holds (tyInt w64) l₄ (vint w64 c) (holds (sliceTy (tyRef (named 1) imm (pointee (Record′.row .written)))) l₃ (sliceVal (b·register, o·register) (length register)) (holds (sliceTy (tyRef (named 0) imm (pointee (u32 .written)))) l₂ (sliceVal (b·nodes, o·nodes) (length nodes)) (holds (tyAt (code.function .locals) 1) l₁ (Store′.mach s) (holds (tyInt w64) l₀ (vint w64 (r9 s nodes register c x-first span r8)) [])))))))))))))))))))) $
-      returns ! (look ! 42 refl) $
-      move ! (42 ∷ 43 ∷ []) $ forget ! 0 refl $ free1 ! $ move ! (40 ∷ 41 ∷ []) $ forget ! 0 refl $ free1 ! $ move ! (38 ∷ 39 ∷ []) $ forget ! 0 refl $ free1 ! $ move ! (36 ∷ 37 ∷ []) $ forget ! 0 refl $ free1 ! $ move ! (34 ∷ 35 ∷ []) $ forget ! 0 refl $ free1 ! $ move ! (32 ∷ 33 ∷ []) $ forget ! 0 refl $ free1 ! $ move ! (30 ∷ 31 ∷ []) $ forget ! 0 refl $ free1 ! $ move ! (28 ∷ 29 ∷ []) $ forget ! 0 refl $ free1 ! $ move ! (26 ∷ 27 ∷ []) $ forget ! 0 refl $ free1 ! $ move ! (24 ∷ 25 ∷ []) $ forget ! 0 refl $ free1 ! $ move ! (22 ∷ 23 ∷ []) $ forget ! 0 refl $ free1 ! $ move ! (20 ∷ 21 ∷ []) $ forget ! 0 refl $ free1 ! $ move ! (18 ∷ 19 ∷ []) $ forget ! 0 refl $ free1 ! $ move ! (16 ∷ 17 ∷ []) $ forget ! 0 refl $ free1 ! $ move ! (14 ∷ 15 ∷ []) $ forget ! 0 refl $ free1 ! $ move ! (12 ∷ 13 ∷ []) $ forget ! 0 refl $ free1 ! $ move ! (10 ∷ 11 ∷ []) $ forget ! 0 refl $ free1 ! $ move ! (8 ∷ 9 ∷ []) $ forget ! 0 refl $ free1 ! $ move ! (6 ∷ 7 ∷ []) $ forget ! 0 refl $ free1 ! $ move ! (4 ∷ 5 ∷ []) $ forget ! 0 refl $ free1 ! $ free0 ! $ by ! (exits (r9 s nodes register c x-first span r8) ok·9 (Facts.exit-3 s nodes register c x-first span ok·s (room·nodes .0) (room·register .0) (ok·c .1) ok·x-first (ok·span .1) need (is-false (eqb span 0) h·1) (above-0 span h·1) ok·1 ok·2 ok·3 ok·4 (is-false (ltb 0 ((r4 s nodes register c x-first span) .0)) h·2) (nltb→le 0 ((r4 s nodes register c x-first span) .0) h·2) (ok·6 .1) ok·7 r8 (ok·8 .1) says·8 (ok·9 .1)))))))))))))))))))))))))))))))))))
+      assigns ! (addr ! (from ! (stop !))) (from ! (stop !)) (init ! 4 refl (tt, tt)) $
+      move ! (0 ∷ 1 ∷ 26 ∷ []) $ lend-ref ! tt u32 erased κ·nodes q·nodes l₇ b·nodes o·nodes γ·nodes nodes (λ ν·8-nodes γ·8-nodes. move ! (5 ∷ 6 ∷ 27 ∷ []) $ lend-ref ! tt Record′.row erased κ·register q·register l₈ b·register o·register γ·register register (λ ν·8-register γ·8-register. move ! (5 ∷ 6 ∷ 7 ∷ 0 ∷ 1 ∷ 2 ∷ 3 ∷ 8 ∷ 10 ∷ 11 ∷ 12 ∷ 13 ∷ 14 ∷ 15 ∷ 16 ∷ 17 ∷ 18 ∷ 19 ∷ 20 ∷ 21 ∷ 22 ∷ 23 ∷ 24 ∷ 25 ∷ 26 ∷ 27 ∷ 28 ∷ 29 ∷ 4 ∷ 30 ∷ 9 ∷ 31 ∷ 32 ∷ 33 ∷ 34 ∷ 35 ∷ 36 ∷ 37 ∷ 38 ∷ 39 ∷ 40 ∷ 41 ∷ 42 ∷ 43 ∷ 44 ∷ 45 ∷ []) $
+      Call-reach-from.calls ! mem run (fmOf 𝓤 H (W .laws) 𝓣) known-reach-from (loan-of ν·8-nodes κ·nodes) (PosShare·left q·nodes) l₇ 0 γ·8-nodes κ·nodes (PosShare·right q·nodes) b·nodes o·nodes γ·nodes nodes (loan-within ν·8-nodes κ·nodes) (loan-of ν·8-register κ·register) (PosShare·left q·register) l₈ 0 γ·8-register κ·register (PosShare·right q·register) b·register o·register γ·register register (loan-within ν·8-register κ·register) (r6 s nodes register c x-first span) ((r7 s nodes register c x-first span) .span) x-first span ok·6 (Part′.ok-span (r7 s nodes register c x-first span) ok·7) ok·x-first ok·span (Facts.reach-from-1 s nodes register c x-first span ok·s (room·nodes .0) (room·register .0) (ok·c .1) ok·x-first (ok·span .1) need (is-false (eqb span 0) h·1) (above-0 span h·1) ok·1 ok·2 ok·3 ok·4 (is-false (ltb 0 ((r4 s nodes register c x-first span) .0)) h·2) (nltb→le 0 ((r4 s nodes register c x-first span) .0) h·2) (ok·6 .1) ok·7) (and-then ! (load ! (from ! (stop !)) (look ! 7 refl)) (and-then ! (load ! (from ! (stop !)) (look ! 5 refl)) (and-then ! (load ! (from ! (stop !)) (look ! 17 refl)) (and-then ! (load ! (from ! (fld ! refl (stop !))) (look-in ! 15 (sub ! 5 refl (whole !)))) (and-then ! (load ! (from ! (stop !)) (look ! 31 refl)) (and-then ! (load ! (from ! (stop !)) (look ! 29 refl)) (no-more !)))))))
+      (λ r8 ok·8 says·8. move ! (0 ∷ 1 ∷ 2 ∷ 30 ∷ []) $ back-ref ! tt u32 erased κ·nodes q·nodes l₇ b·nodes o·nodes γ·nodes nodes ν·8-nodes $ move ! (2 ∷ 3 ∷ 4 ∷ 27 ∷ []) $ back-ref ! tt Record′.row erased κ·register q·register l₈ b·register o·register γ·register register ν·8-register $ move ! (2 ∷ 5 ∷ 0 ∷ 4 ∷ 6 ∷ 7 ∷ 8 ∷ 9 ∷ 10 ∷ 11 ∷ 12 ∷ 13 ∷ 14 ∷ 15 ∷ 16 ∷ 17 ∷ 18 ∷ 19 ∷ 20 ∷ 21 ∷ 22 ∷ 23 ∷ 24 ∷ 25 ∷ 1 ∷ 26 ∷ 3 ∷ 27 ∷ 28 ∷ 29 ∷ 30 ∷ 31 ∷ 32 ∷ 33 ∷ 34 ∷ 35 ∷ 36 ∷ 37 ∷ 38 ∷ 39 ∷ 40 ∷ 41 ∷ []) $ land ! (from ! (stop !)) (init ! 40 refl (tt, record { fits = ok·8 .1 })) $
+      here ! (‵ (flft κ·nodes q·nodes) ∷ ‵ (ShrAt u32 κ·nodes b·nodes o·nodes γ·nodes (length nodes) nodes) ∷ ‵ (flft κ·register q·register) ∷ ‵ (ShrAt Record′.row κ·register b·register o·register γ·register (length register) register) ∷ holds (tyRef erased imm (sliceTy (tyRef erased imm (pointee (Record′.row .written))))) l₁₈ (vptr l₈ 0) (holds (tyRef erased imm (sliceTy (tyRef erased imm (pointee (u32 .written))))) l₁₇ (vptr l₇ 0) (holds (tyAt (code.function .locals) 16) l₁₆ (Version′.mach (r3 s nodes register c x-first span)) (holds (sliceTy (tyRef erased imm (pointee (Record′.row .written)))) l₁₅ (sliceVal (b·register, o·register) (length register)) (holds tyBool l₁₄ (vbool (ltb 0 ((r4 s nodes register c x-first span) .0))) (holds (tyAt (code.function .locals) 13) l₁₃ (Part′.mach (r7 s nodes register c x-first span)) (holds (tyInt w64) l₁₂ (vint w64 (r6 s nodes register c x-first span)) (holds (tyAt (code.function .locals) 11) l₁₁ (Version′.mach (r4 s nodes register c x-first span)) (holds (tyAt (code.function .locals) 10) l₁₀ (Branch′.mach (r2 s nodes register c x-first span)) (holds (tyAt (code.function .locals) 9) l₉ (Line′.mach (r1 s nodes register c x-first span)) (holds (sliceTy (tyRef erased imm (pointee (Record′.row .written)))) l₈ (sliceVal (b·register, o·register) (length register)) (holds (sliceTy (tyRef erased imm (pointee (u32 .written)))) l₇ (sliceVal (b·nodes, o·nodes) (length nodes)) (holds (tyInt w64) l₆ (vint w64 span) (holds (tyAt (code.function .locals) 5) l₅ (PageIndex′.mach x-first) (holds (tyInt w64) l₄ (vint w64 c) (holds (sliceTy (tyRef (named 1) imm (pointee (Record′.row .written)))) l₃ (sliceVal (b·register, o·register) (length register)) (holds (sliceTy (tyRef (named 0) imm (pointee (u32 .written)))) l₂ (sliceVal (b·nodes, o·nodes) (length nodes)) (holds (tyAt (code.function .locals) 1) l₁ (Store′.mach s) (holds (tyInt w64) l₀ (vint w64 r8) []))))))))))))))))))) $
+      returns ! (look ! 40 refl) $
+      move ! (40 ∷ 41 ∷ []) $ forget ! 0 refl $ free1 ! $ move ! (38 ∷ 39 ∷ []) $ forget ! 0 refl $ free1 ! $ move ! (36 ∷ 37 ∷ []) $ forget ! 0 refl $ free1 ! $ move ! (34 ∷ 35 ∷ []) $ forget ! 0 refl $ free1 ! $ move ! (32 ∷ 33 ∷ []) $ forget ! 0 refl $ free1 ! $ move ! (30 ∷ 31 ∷ []) $ forget ! 0 refl $ free1 ! $ move ! (28 ∷ 29 ∷ []) $ forget ! 0 refl $ free1 ! $ move ! (26 ∷ 27 ∷ []) $ forget ! 0 refl $ free1 ! $ move ! (24 ∷ 25 ∷ []) $ forget ! 0 refl $ free1 ! $ move ! (22 ∷ 23 ∷ []) $ forget ! 0 refl $ free1 ! $ move ! (20 ∷ 21 ∷ []) $ forget ! 0 refl $ free1 ! $ move ! (18 ∷ 19 ∷ []) $ forget ! 0 refl $ free1 ! $ move ! (16 ∷ 17 ∷ []) $ forget ! 0 refl $ free1 ! $ move ! (14 ∷ 15 ∷ []) $ forget ! 0 refl $ free1 ! $ move ! (12 ∷ 13 ∷ []) $ forget ! 0 refl $ free1 ! $ move ! (10 ∷ 11 ∷ []) $ forget ! 0 refl $ free1 ! $ move ! (8 ∷ 9 ∷ []) $ forget ! 0 refl $ free1 ! $ move ! (6 ∷ 7 ∷ []) $ forget ! 0 refl $ free1 ! $ move ! (4 ∷ 5 ∷ []) $ forget ! 0 refl $ free1 ! $ free0 ! $ by ! (exits r8 ok·8 (Facts.exit-3 s nodes register c x-first span ok·s (room·nodes .0) (room·register .0) (ok·c .1) ok·x-first (ok·span .1) need (is-false (eqb span 0) h·1) (above-0 span h·1) ok·1 ok·2 ok·3 ok·4 (is-false (ltb 0 ((r4 s nodes register c x-first span) .0)) h·2) (nltb→le 0 ((r4 s nodes register c x-first span) .0) h·2) (ok·6 .1) ok·7 r8 (ok·8 .1) says·8))))))))))))))))))))))))))))))))
 
 module _ {M : Type 1} (𝓤 : URA M) (H : Heap 𝓤) (A : Atoms 𝓤) (W : Given 𝓤 H A) (mem : Memory → SProp 𝓤) (run : Routine → Fun 𝓤) where
-  walks : (𝓣 : Tables 𝓤 H) → Triple 𝓤 (𝓣 .C #line-of) (Call-line-of.Asked 𝓤 H A mem run) → Triple 𝓤 (𝓣 .C #line-state) (Call-line-state.Asked 𝓤 H A mem run) → Triple 𝓤 (𝓣 .C #version-before) (Call-version-before.Asked 𝓤 H A mem run) → Triple 𝓤 (𝓣 .C #newest-own) (Call-newest-own.Asked 𝓤 H A mem run) → Triple 𝓤 (𝓣 .C #number-of) (Call-number-of.Asked 𝓤 H A mem run) → Triple 𝓤 (𝓣 .C #number-on) (Call-number-on.Asked 𝓤 H A mem run) → Triple 𝓤 (𝓣 .C #version-part) (Call-version-part.Asked 𝓤 H A mem run) → Triple 𝓤 (𝓣 .C #height-of) (Call-height-of.Asked 𝓤 H A mem run) → Triple 𝓤 (𝓣 .C #reach-from) (Call-reach-from.Asked 𝓤 H A mem run) → Walks 𝓤 H A far-child‴.ended stayed (WpFn 𝓤 H (𝓣 .C) (𝓣 .Λ) code.function) (far-child‴.clauses 𝓤 H A mem run)
-  walks 𝓣 known-line-of known-line-state known-version-before known-newest-own known-number-of known-number-on known-version-part known-height-of known-reach-from = walked 𝓤 H A far-child‴.ended stayed (far-child‴.clauses 𝓤 H A mem run) (WpFn 𝓤 H (𝓣 .C) (𝓣 .Λ) code.function) (λ κs. (Store′.vals, (slice-vals, (slice-vals, (uint-vals w64, (PageIndex′.vals, (uint-vals w64, tt))))))) (λ κs. (Store′.tells, (shr-slice-tells (named 0) (κs .0) u32, (shr-slice-tells (named 0) (κs .1 .0) Record′.row, (uint-tells w64, (PageIndex′.tells, (uint-tells w64, tt)))))))
-      (λ κs qs bounds a g are. needs 𝓤 (far-child″.req (a .0) (a .1 .0 .now) (a .1 .1 .0 .now) (a .1 .1 .1 .0) (a .1 .1 .1 .1 .0) (a .1 .1 .1 .1 .1 .0)) _ (λ need. walk 𝓤 H A W mem run (a .0) (κs .0) (qs .0) (a .1 .0 .ptr .0) (a .1 .0 .ptr .1) (a .1 .0 .name) (a .1 .0 .now) (κs .1 .0) (qs .1 .0) (a .1 .1 .0 .ptr .0) (a .1 .1 .0 .ptr .1) (a .1 .1 .0 .name) (a .1 .1 .0 .now) (a .1 .1 .1 .0) (a .1 .1 .1 .1 .0) (a .1 .1 .1 .1 .1 .0) (are .0) (are .1 .0 .0 .1) (are .1 .1 .0 .0 .1) (are .1 .1 .1 .0) (are .1 .1 .1 .1 .0) (are .1 .1 .1 .1 .1 .0) need 𝓣 known-line-of known-line-state known-version-before known-newest-own known-number-of known-number-on known-version-part known-height-of known-reach-from))
+  walks : (𝓣 : Tables 𝓤 H) → Triple 𝓤 (𝓣 .C #line-of) (Call-line-of.Asked 𝓤 H A mem run) → Triple 𝓤 (𝓣 .C #line-state) (Call-line-state.Asked 𝓤 H A mem run) → Triple 𝓤 (𝓣 .C #version-before) (Call-version-before.Asked 𝓤 H A mem run) → Triple 𝓤 (𝓣 .C #newest-own) (Call-newest-own.Asked 𝓤 H A mem run) → Triple 𝓤 (𝓣 .C #number-of) (Call-number-of.Asked 𝓤 H A mem run) → Triple 𝓤 (𝓣 .C #number-on) (Call-number-on.Asked 𝓤 H A mem run) → Triple 𝓤 (𝓣 .C #version-part) (Call-version-part.Asked 𝓤 H A mem run) → Triple 𝓤 (𝓣 .C #reach-from) (Call-reach-from.Asked 𝓤 H A mem run) → Walks 𝓤 H A far-child‴.ended stayed (WpFn 𝓤 H (𝓣 .C) (𝓣 .Λ) code.function) (far-child‴.clauses 𝓤 H A mem run)
+  walks 𝓣 known-line-of known-line-state known-version-before known-newest-own known-number-of known-number-on known-version-part known-reach-from = walked 𝓤 H A far-child‴.ended stayed (far-child‴.clauses 𝓤 H A mem run) (WpFn 𝓤 H (𝓣 .C) (𝓣 .Λ) code.function) (λ κs. (Store′.vals, (slice-vals, (slice-vals, (uint-vals w64, (PageIndex′.vals, (uint-vals w64, tt))))))) (λ κs. (Store′.tells, (shr-slice-tells (named 0) (κs .0) u32, (shr-slice-tells (named 0) (κs .1 .0) Record′.row, (uint-tells w64, (PageIndex′.tells, (uint-tells w64, tt)))))))
+      (λ κs qs bounds a g are. needs 𝓤 (far-child″.req (a .0) (a .1 .0 .now) (a .1 .1 .0 .now) (a .1 .1 .1 .0) (a .1 .1 .1 .1 .0) (a .1 .1 .1 .1 .1 .0)) _ (λ need. walk 𝓤 H A W mem run (a .0) (κs .0) (qs .0) (a .1 .0 .ptr .0) (a .1 .0 .ptr .1) (a .1 .0 .name) (a .1 .0 .now) (κs .1 .0) (qs .1 .0) (a .1 .1 .0 .ptr .0) (a .1 .1 .0 .ptr .1) (a .1 .1 .0 .name) (a .1 .1 .0 .now) (a .1 .1 .1 .0) (a .1 .1 .1 .1 .0) (a .1 .1 .1 .1 .1 .0) (are .0) (are .1 .0 .0 .1) (are .1 .1 .0 .0 .1) (are .1 .1 .1 .0) (are .1 .1 .1 .1 .0) (are .1 .1 .1 .1 .1 .0) need 𝓣 known-line-of known-line-state known-version-before known-newest-own known-number-of known-number-on known-version-part known-reach-from))
 
-meets : {M : Type 1} (𝓤 : URA M) (H : Heap 𝓤) (A : Atoms 𝓤) → Given 𝓤 H A → (mem : Memory → SProp 𝓤) (run : Routine → Fun 𝓤) (𝓣 : Tables 𝓤 H) → Triple 𝓤 (𝓣 .C #line-of) (Call-line-of.Asked 𝓤 H A mem run) → Triple 𝓤 (𝓣 .C #line-state) (Call-line-state.Asked 𝓤 H A mem run) → Triple 𝓤 (𝓣 .C #version-before) (Call-version-before.Asked 𝓤 H A mem run) → Triple 𝓤 (𝓣 .C #newest-own) (Call-newest-own.Asked 𝓤 H A mem run) → Triple 𝓤 (𝓣 .C #number-of) (Call-number-of.Asked 𝓤 H A mem run) → Triple 𝓤 (𝓣 .C #number-on) (Call-number-on.Asked 𝓤 H A mem run) → Triple 𝓤 (𝓣 .C #version-part) (Call-version-part.Asked 𝓤 H A mem run) → Triple 𝓤 (𝓣 .C #height-of) (Call-height-of.Asked 𝓤 H A mem run) → Triple 𝓤 (𝓣 .C #reach-from) (Call-reach-from.Asked 𝓤 H A mem run)
+meets : {M : Type 1} (𝓤 : URA M) (H : Heap 𝓤) (A : Atoms 𝓤) → Given 𝓤 H A → (mem : Memory → SProp 𝓤) (run : Routine → Fun 𝓤) (𝓣 : Tables 𝓤 H) → Triple 𝓤 (𝓣 .C #line-of) (Call-line-of.Asked 𝓤 H A mem run) → Triple 𝓤 (𝓣 .C #line-state) (Call-line-state.Asked 𝓤 H A mem run) → Triple 𝓤 (𝓣 .C #version-before) (Call-version-before.Asked 𝓤 H A mem run) → Triple 𝓤 (𝓣 .C #newest-own) (Call-newest-own.Asked 𝓤 H A mem run) → Triple 𝓤 (𝓣 .C #number-of) (Call-number-of.Asked 𝓤 H A mem run) → Triple 𝓤 (𝓣 .C #number-on) (Call-number-on.Asked 𝓤 H A mem run) → Triple 𝓤 (𝓣 .C #version-part) (Call-version-part.Asked 𝓤 H A mem run) → Triple 𝓤 (𝓣 .C #reach-from) (Call-reach-from.Asked 𝓤 H A mem run)
     → Meets 𝓤 H A far-child‴.signature (WpFn 𝓤 H (𝓣 .C) (𝓣 .Λ) code.function) (far-child‴.spec 𝓤 H A mem run)
-meets 𝓤 H A W mem run 𝓣 known-line-of known-line-state known-version-before known-newest-own known-number-of known-number-on known-version-part known-height-of known-reach-from =
+meets 𝓤 H A W mem run 𝓣 known-line-of known-line-state known-version-before known-newest-own known-number-of known-number-on known-version-part known-reach-from =
     walk-meets 𝓤 H A far-child‴.ended stayed W (goes-none 𝓤 H A W 2 (λ _. Store′.row) yes (λ κs x f. refl), (goes-none-slice 𝓤 H A W 2 (0 ∷ []) tt (plain (λ _. u32)) yes, (goes-none-slice 𝓤 H A W 2 (1 ∷ []) tt (plain (λ _. Record′.row)) yes, (goes-none 𝓤 H A W 2 (λ _. u64) yes (λ κs x f. refl), (goes-none 𝓤 H A W 2 (λ _. PageIndex′.row) yes (λ κs x f. refl), (goes-none 𝓤 H A W 2 (λ _. u64) yes (λ κs x f. refl), tt)))))) (far-child‴.clauses 𝓤 H A mem run)
-    (WpFn 𝓤 H (𝓣 .C) (𝓣 .Λ) code.function) (WpFn-mono 𝓤 H (W .laws) 𝓣 code.function) (walks 𝓤 H A W mem run 𝓣 known-line-of known-line-state known-version-before known-newest-own known-number-of known-number-on known-version-part known-height-of known-reach-from)
+    (WpFn 𝓤 H (𝓣 .C) (𝓣 .Λ) code.function) (WpFn-mono 𝓤 H (W .laws) 𝓣 code.function) (walks 𝓤 H A W mem run 𝓣 known-line-of known-line-state known-version-before known-newest-own known-number-of known-number-on known-version-part known-reach-from)
 
 pub far-child-spec : {M : Type 1} → stated.statement M
 unfolding code.routine tablesOf
@@ -219,5 +211,4 @@ far-child-spec 𝓤 H 𝓜 𝓖 𝓡 =
     (cited 𝓤 H (Call-number-of.Asked 𝓤 H (𝓖 .A) (𝓜 .mem) (𝓡 .run)) 𝓜 𝓡 code.env #number-of def-number-of.routine code.calls-lines·number-of (thm-number-of.met 𝓤 H 𝓜 𝓖 𝓡))
     (cited 𝓤 H (Call-number-on.Asked 𝓤 H (𝓖 .A) (𝓜 .mem) (𝓡 .run)) 𝓜 𝓡 code.env #number-on def-number-on.routine code.calls-versions·number-on (thm-number-on.met 𝓤 H 𝓜 𝓖 𝓡))
     (cited 𝓤 H (Call-version-part.Asked 𝓤 H (𝓖 .A) (𝓜 .mem) (𝓡 .run)) 𝓜 𝓡 code.env #version-part def-version-part.routine code.calls-register·version-part (thm-version-part.met 𝓤 H 𝓜 𝓖 𝓡))
-    (cited 𝓤 H (Call-height-of.Asked 𝓤 H (𝓖 .A) (𝓜 .mem) (𝓡 .run)) 𝓜 𝓡 code.env #height-of def-height-of.routine code.calls-tree·height-of (thm-height-of.met 𝓤 H 𝓜 𝓖 𝓡))
     (cited 𝓤 H (Call-reach-from.Asked 𝓤 H (𝓖 .A) (𝓜 .mem) (𝓡 .run)) 𝓜 𝓡 code.env #reach-from def-reach-from.routine code.calls-walk·reach-from (thm-reach-from.met 𝓤 H 𝓜 𝓖 𝓡)))

@@ -1,6 +1,6 @@
 -- `weave::found_by` meets its contract. Assumes nothing.
 use borrow.Author.Needs.{needs}
-use mathlib.Core.Path.{_≡_, refl, ap}
+use mathlib.Core.Path.{refl}
 use Rattle.weave.proofs.found_by.Statement.{statement}
 use Rattle.weave.proofs.found_by.Tie as tie
 
@@ -19,7 +19,7 @@ woven-node-requires c κs = search needs
 returns : tie.Need-returns
 returns c = record {
   update = refl;
-  part = refl;
+  place = refl;
   number = c .before .lost-refusal .ensures;
   node = λ s nodes rs d. c .woven-node .ensures s nodes rs (rw (c .before .before .before .either .ensures, c .before .before .either2 .ensures) d);
 }

@@ -59,8 +59,6 @@ use Rattle.versions.specs.declared.Lengths.{Lengths}
 use Rattle.versions.proofs.Generated.Kind.Lengths as Lengths′
 use Rattle.weave.specs.declared.Found.{Found}
 use Rattle.weave.proofs.Generated.Kind.Found as Found′
-use Rattle.register.specs.declared.Part.{Part}
-use Rattle.register.proofs.Generated.Kind.Part as Part′
 use Rattle.register.proofs.Generated.Flow.{ref, MutAt, ShrAt, lend-mut, back-mut, lend-shr, back-shr, branches-on, regroup, skips-on, returns-on, plus-nothing, holds, empty, less-fits, is-true, is-false, differ, above-0, twice-not, switches-to, switches-last, big-lit, here, blocks-on, resume, scaled-2, scaled-4, scaled-8, opens-shr, shuts-shr, opens-mut, shuts-mut, puts-mut, keeps-shr, fills, empties, tyAt}
 use Rattle.weave.proofs.Generated.Say.weave as weave″
 use Rattle.versions.proofs.Generated.Say.lengths_of as lengths-of″
@@ -143,7 +141,7 @@ module _ {M : Type 1} (𝓤 : URA M) (H : Heap 𝓤) (A : Atoms 𝓤) (W : Given
       assigns ! (addr ! (from ! (fld ! refl (hop ! (look-in ! 40 (sub ! 0 refl (whole !))) (stop !))))) (from ! (stop !)) (init ! 12 refl (tt, tt)) $
       assigns ! (agg ! (and-then ! (load ! (from ! (stop !)) (look ! 12 refl)) (and-then ! (load ! (from ! (fld ! refl (stop !))) (look-in ! 40 (sub ! 1 refl (whole !)))) (no-more !)))) (from ! (stop !)) (init ! 10 refl (tt, (tt, (record { fits = room·nodes .0 }, tt)))) $
       move ! (2 ∷ 3 ∷ []) $ lend-mut ! tt u32 κ·nodes q·nodes b·nodes o·nodes γ·nodes (length nodes) nodes (refl) (λ ν·3-nodes γ·3-nodes.
-      Call-store-woven.calls ! mem run (fmOf 𝓤 H (W .laws) 𝓣) known-store-woven (ν·3-nodes ∷ []) fullShare b·nodes o·nodes γ·3-nodes (length nodes) nodes (r2 .k) (r2 .part) (r2 .node) (Found′.ok-k r2 ok·2) (Found′.ok-part r2 ok·2) (Found′.ok-node r2 ok·2) (Facts.store-woven-1 s pages nodes register x-t ok·s (room·pages .0) (room·nodes .0) (room·register .0) ok·x-t ok·1 r2 ok·2 says·2) (and-then ! (load ! (from ! (stop !)) (look ! 10 refl)) (and-then ! (load ! (from ! (fld ! refl (stop !))) (look-in ! 32 (sub ! 0 refl (whole !)))) (and-then ! (load ! (from ! (fld ! refl (stop !))) (look-in ! 32 (sub ! 2 refl (whole !)))) (and-then ! (load ! (from ! (fld ! refl (stop !))) (look-in ! 32 (sub ! 3 refl (whole !)))) (no-more !)))))
+      Call-store-woven.calls ! mem run (fmOf 𝓤 H (W .laws) 𝓣) known-store-woven (ν·3-nodes ∷ []) fullShare b·nodes o·nodes γ·3-nodes (length nodes) nodes (r2 .k) (r2 .place) (r2 .node) (Found′.ok-k r2 ok·2) (Found′.ok-place r2 ok·2) (Found′.ok-node r2 ok·2) (and-then ! (load ! (from ! (stop !)) (look ! 10 refl)) (and-then ! (load ! (from ! (fld ! refl (stop !))) (look-in ! 32 (sub ! 0 refl (whole !)))) (and-then ! (load ! (from ! (fld ! refl (stop !))) (look-in ! 32 (sub ! 2 refl (whole !)))) (and-then ! (load ! (from ! (fld ! refl (stop !))) (look-in ! 32 (sub ! 3 refl (whole !)))) (no-more !)))))
       (λ same·3-nodes. back-mut ! tt u32 κ·nodes q·nodes b·nodes o·nodes γ·nodes (length nodes) nodes (nodes₃ s pages nodes register x-t r2) ν·3-nodes γ·3-nodes (refl) same·3-nodes room·nodes $ move ! (2 ∷ 3 ∷ 0 ∷ 1 ∷ 4 ∷ 5 ∷ []) $ land ! (from ! (stop !)) (init ! 14 refl (tt, tt)) $
       here ! (‵ (flft κ·pages q·pages) ∷ ‵ (ShrAt u8 κ·pages b·pages o·pages γ·pages (length pages) pages) ∷ ‵ (flft κ·nodes q·nodes) ∷ ‵ (MutAt u32 κ·nodes b·nodes o·nodes γ·nodes (length nodes) (nodes₃ s pages nodes register x-t r2)) ∷ ‵ (flft κ·register q·register) ∷ ‵ (MutAt Record′.row κ·register b·register o·register γ·register (length register) register) ∷ empty (sliceTy (tyRef erased mut (pointee (Record′.row .written)))) l₂₀ (empty (tyRef erased mut (pointee (Record′.row .written))) l₁₉ (holds (sliceTy (tyRef erased mut (pointee (u32 .written)))) l₁₈ (sliceVal (b·nodes, o·nodes) (length nodes)) (holds (tyRef erased mut (pointee (u32 .written))) l₁₇ (vptr b·nodes o·nodes) (holds tyUnit l₁₆ vunit (holds (sliceTy (tyRef erased imm (pointee (Record′.row .written)))) l₁₅ (sliceVal (b·register, o·register) (length register)) (holds (tyRef erased imm (pointee (Record′.row .written))) l₁₄ (vptr b·register o·register) (holds (sliceTy (tyRef erased imm (pointee (u32 .written)))) l₁₃ (sliceVal (b·nodes, o·nodes) (length nodes)) (holds (tyRef erased imm (pointee (u32 .written))) l₁₂ (vptr b·nodes o·nodes) (holds (sliceTy (tyRef erased imm (pointee (Record′.row .written)))) l₁₁ (sliceVal (b·register, o·register) (length register)) (holds (tyRef erased imm (pointee (Record′.row .written))) l₁₀ (vptr b·register o·register) (holds (sliceTy (tyRef erased imm (pointee (u32 .written)))) l₉ (sliceVal (b·nodes, o·nodes) (length nodes)) (holds (tyRef erased imm (pointee (u32 .written))) l₈ (vptr b·nodes o·nodes) (holds (tyAt (code.function .locals) 7) l₇ (Found′.mach r2) (holds (tyAt (code.function .locals) 6) l₆ (Lengths′.mach (r1 s pages nodes register x-t)) (holds (tyAt (code.function .locals) 5) l₅ (Ticket′.mach x-t) (holds (sliceTy (tyRef (named 2) mut (pointee (Record′.row .written)))) l₄ (sliceVal (b·register, o·register) (length register)) (holds (sliceTy (tyRef (named 1) mut (pointee (u32 .written)))) l₃ (sliceVal (b·nodes, o·nodes) (length nodes)) (holds (sliceTy (tyRef (named 0) imm (pointee (u8 .written)))) l₂ (sliceVal (b·pages, o·pages) (length pages)) (holds (tyAt (code.function .locals) 1) l₁ (Store′.mach s) (empty (tyAt (code.function .locals) 0) l₀ []))))))))))))))))))))) $
       assigns ! (addr ! (from ! (fld ! refl (hop ! (look-in ! 38 (sub ! 0 refl (whole !))) (stop !))))) (from ! (stop !)) (init ! 8 refl (tt, tt)) $

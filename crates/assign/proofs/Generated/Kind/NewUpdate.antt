@@ -55,7 +55,7 @@ makes = LL.makes T′.the-type T″.the-plain
 
 -- a value to stand past the end of a list
 abbrev pub none : NewUpdate
-none = record { f = PageIndex′.none; last = PageIndex′.none; past = 0; height = 0; size = 0; count = 0 }
+none = record { f = PageIndex′.none; last = PageIndex′.none; past = 0; span = 0; height = 0; size = 0; count = 0 }
 
 pub ok-f : (d : NewUpdate) → Ok d → Is PageIndex′.row (d .f) (PageIndex′.vals (d .f))
 ok-f d g = LL.owed T′.the-type T″.the-laws d _ g .0
@@ -66,23 +66,26 @@ ok-last d g = LL.owed T′.the-type T″.the-laws d _ g .1 .0
 pub ok-past : (d : NewUpdate) → Ok d → Is u64 (d .past) (uint-vals w64 (d .past))
 ok-past d g = LL.owed T′.the-type T″.the-laws d _ g .1 .1 .0
 
+pub ok-span : (d : NewUpdate) → Ok d → Is u64 (d .span) (uint-vals w64 (d .span))
+ok-span d g = LL.owed T′.the-type T″.the-laws d _ g .1 .1 .1 .0
+
 pub ok-height : (d : NewUpdate) → Ok d → Is u64 (d .height) (uint-vals w64 (d .height))
-ok-height d g = LL.owed T′.the-type T″.the-laws d _ g .1 .1 .1 .0
+ok-height d g = LL.owed T′.the-type T″.the-laws d _ g .1 .1 .1 .1 .0
 
 pub ok-size : (d : NewUpdate) → Ok d → Is u64 (d .size) (uint-vals w64 (d .size))
-ok-size d g = LL.owed T′.the-type T″.the-laws d _ g .1 .1 .1 .1 .0
+ok-size d g = LL.owed T′.the-type T″.the-laws d _ g .1 .1 .1 .1 .1 .0
 
 pub ok-count : (d : NewUpdate) → Ok d → Is u64 (d .count) (uint-vals w64 (d .count))
-ok-count d g = LL.owed T′.the-type T″.the-laws d _ g .1 .1 .1 .1 .1 .0
+ok-count d g = LL.owed T′.the-type T″.the-laws d _ g .1 .1 .1 .1 .1 .1 .0
 
-abbrev pub build : PageIndex → PageIndex → ℕ → ℕ → ℕ → ℕ → NewUpdate
-build y0 y1 y2 y3 y4 y5 = record { f = y0; last = y1; past = y2; height = y3; size = y4; count = y5 }
+abbrev pub build : PageIndex → PageIndex → ℕ → ℕ → ℕ → ℕ → ℕ → NewUpdate
+build y0 y1 y2 y3 y4 y5 y6 = record { f = y0; last = y1; past = y2; span = y3; height = y4; size = y5; count = y6 }
 
-pub make : (y0 : PageIndex) (y1 : PageIndex) (y2 : ℕ) (y3 : ℕ) (y4 : ℕ) (y5 : ℕ) → Is PageIndex′.row y0 (PageIndex′.vals y0) → Is PageIndex′.row y1 (PageIndex′.vals y1) → Is u64 y2 (uint-vals w64 y2) → Is u64 y3 (uint-vals w64 y3) → Is u64 y4 (uint-vals w64 y4) → Is u64 y5 (uint-vals w64 y5) → Ok (build y0 y1 y2 y3 y4 y5)
-make y0 y1 y2 y3 y4 y5 g0 g1 g2 g3 g4 g5 = LL.owes T′.the-type T″.the-laws (build y0 y1 y2 y3 y4 y5) (g0, (g1, (g2, (g3, (g4, (g5, tt))))))
+pub make : (y0 : PageIndex) (y1 : PageIndex) (y2 : ℕ) (y3 : ℕ) (y4 : ℕ) (y5 : ℕ) (y6 : ℕ) → Is PageIndex′.row y0 (PageIndex′.vals y0) → Is PageIndex′.row y1 (PageIndex′.vals y1) → Is u64 y2 (uint-vals w64 y2) → Is u64 y3 (uint-vals w64 y3) → Is u64 y4 (uint-vals w64 y4) → Is u64 y5 (uint-vals w64 y5) → Is u64 y6 (uint-vals w64 y6) → Ok (build y0 y1 y2 y3 y4 y5 y6)
+make y0 y1 y2 y3 y4 y5 y6 g0 g1 g2 g3 g4 g5 g6 = LL.owes T′.the-type T″.the-laws (build y0 y1 y2 y3 y4 y5 y6) (g0, (g1, (g2, (g3, (g4, (g5, (g6, tt)))))))
 
 abbrev pub stride : ℕ
-stride = 48
+stride = 56
 
 -- the byte offset of an element of a slice does not wrap
 pub scaled : (n i : ℕ) → i < n → n * stride < 2 ^ 63 → i * stride < 2 ^ 64

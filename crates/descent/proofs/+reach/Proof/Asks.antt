@@ -32,95 +32,89 @@ use Rattle.descent.proofs.Generated.Say.less_one as less-one″
 use Rattle.descent.proofs.Generated.Say.carried_on as carried-on″
 use Rattle.descent.proofs.+reach.Proof.Loop as Loop
 
-abbrev pub r1 : List Record → List ℕ → ℕ → ℕ → ℕ → ℕ → ℕ → ℕ → ℕ → ℕ → Part
-r1 register nodes c page x-first span height halved carried x-to = version-part″.res register c
+abbrev pub r1 : List Record → List ℕ → ℕ → ℕ → ℕ → ℕ → ℕ → ℕ → ℕ → Part
+r1 register nodes c page x-first span halved carried x-to = version-part″.res register c
 
-abbrev pub r3 : List Record → List ℕ → ℕ → ℕ → ℕ → ℕ → ℕ → ℕ → ℕ → ℕ → ℕ → NodeAt
-r3 register nodes c page x-first span height halved carried x-to r2 = node-at″.res nodes r2
+abbrev pub r3 : List Record → List ℕ → ℕ → ℕ → ℕ → ℕ → ℕ → ℕ → ℕ → ℕ → NodeAt
+r3 register nodes c page x-first span halved carried x-to r2 = node-at″.res nodes r2
 
-abbrev pub r4 : List Record → List ℕ → ℕ → ℕ → ℕ → ℕ → ℕ → ℕ → ℕ → ℕ → ℕ → ℕ
-r4 register nodes c page x-first span height halved carried x-to r2 = half-of″.res span
+abbrev pub r4 : List Record → List ℕ → ℕ → ℕ → ℕ → ℕ → ℕ → ℕ → ℕ → ℕ → ℕ
+r4 register nodes c page x-first span halved carried x-to r2 = half-of″.res span
 
-abbrev pub r5 : List Record → List ℕ → ℕ → ℕ → ℕ → ℕ → ℕ → ℕ → ℕ → ℕ → ℕ → Bool
-r5 register nodes c page x-first span height halved carried x-to r2 = is-left″.res page x-first (r4 register nodes c page x-first span height halved carried x-to r2)
+abbrev pub r5 : List Record → List ℕ → ℕ → ℕ → ℕ → ℕ → ℕ → ℕ → ℕ → ℕ → Bool
+r5 register nodes c page x-first span halved carried x-to r2 = is-left″.res page x-first (r4 register nodes c page x-first span halved carried x-to r2)
 
-abbrev pub r6 : List Record → List ℕ → ℕ → ℕ → ℕ → ℕ → ℕ → ℕ → ℕ → ℕ → ℕ → ℕ
-r6 register nodes c page x-first span height halved carried x-to r2 = child-at″.res (r3 register nodes c page x-first span height halved carried x-to r2) (r5 register nodes c page x-first span height halved carried x-to r2)
+abbrev pub r6 : List Record → List ℕ → ℕ → ℕ → ℕ → ℕ → ℕ → ℕ → ℕ → ℕ → ℕ
+r6 register nodes c page x-first span halved carried x-to r2 = child-at″.res (r3 register nodes c page x-first span halved carried x-to r2) (r5 register nodes c page x-first span halved carried x-to r2)
 
-abbrev pub r7 : List Record → List ℕ → ℕ → ℕ → ℕ → ℕ → ℕ → ℕ → ℕ → ℕ → ℕ → ℕ
-r7 register nodes c page x-first span height halved carried x-to r2 = on-to″.res (r5 register nodes c page x-first span height halved carried x-to r2) x-first (r4 register nodes c page x-first span height halved carried x-to r2)
+abbrev pub r7 : List Record → List ℕ → ℕ → ℕ → ℕ → ℕ → ℕ → ℕ → ℕ → ℕ → ℕ
+r7 register nodes c page x-first span halved carried x-to r2 = on-to″.res (r5 register nodes c page x-first span halved carried x-to r2) x-first (r4 register nodes c page x-first span halved carried x-to r2)
 
-abbrev pub r8 : List Record → List ℕ → ℕ → ℕ → ℕ → ℕ → ℕ → ℕ → ℕ → ℕ → ℕ → ℕ
-r8 register nodes c page x-first span height halved carried x-to r2 = less-one″.res height
+abbrev pub r8 : List Record → List ℕ → ℕ → ℕ → ℕ → ℕ → ℕ → ℕ → ℕ → ℕ → ℕ
+r8 register nodes c page x-first span halved carried x-to r2 = less-one″.res span
 
-abbrev pub r9 : List Record → List ℕ → ℕ → ℕ → ℕ → ℕ → ℕ → ℕ → ℕ → ℕ → ℕ → ℕ
-r9 register nodes c page x-first span height halved carried x-to r2 = less-one″.res span
+abbrev pub r9 : List Record → List ℕ → ℕ → ℕ → ℕ → ℕ → ℕ → ℕ → ℕ → ℕ → ℕ
+r9 register nodes c page x-first span halved carried x-to r2 = on-to″.res (r5 register nodes c page x-first span halved carried x-to r2) halved (r8 register nodes c page x-first span halved carried x-to r2)
 
-abbrev pub r10 : List Record → List ℕ → ℕ → ℕ → ℕ → ℕ → ℕ → ℕ → ℕ → ℕ → ℕ → ℕ
-r10 register nodes c page x-first span height halved carried x-to r2 = on-to″.res (r5 register nodes c page x-first span height halved carried x-to r2) halved (r9 register nodes c page x-first span height halved carried x-to r2)
+abbrev pub r10 : List Record → List ℕ → ℕ → ℕ → ℕ → ℕ → ℕ → ℕ → ℕ → ℕ → ℕ
+r10 register nodes c page x-first span halved carried x-to r2 = carried-on″.res (r5 register nodes c page x-first span halved carried x-to r2) carried span
 
-abbrev pub r11 : List Record → List ℕ → ℕ → ℕ → ℕ → ℕ → ℕ → ℕ → ℕ → ℕ → ℕ → ℕ
-r11 register nodes c page x-first span height halved carried x-to r2 = carried-on″.res (r5 register nodes c page x-first span height halved carried x-to r2) carried span
-
-abbrev pub r12 : List Record → List ℕ → ℕ → ℕ → ℕ → ℕ → ℕ → ℕ → ℕ → ℕ → ℕ → ℕ
-r12 register nodes c page x-first span height halved carried x-to r2 = reach″.res register nodes (r6 register nodes c page x-first span height halved carried x-to r2) page (r7 register nodes c page x-first span height halved carried x-to r2) (r4 register nodes c page x-first span height halved carried x-to r2) (r8 register nodes c page x-first span height halved carried x-to r2) (r10 register nodes c page x-first span height halved carried x-to r2) (r11 register nodes c page x-first span height halved carried x-to r2) x-to
-
--- the function ensures: r ≡ orMost (reachBy (placeAt register) nodes to (height - to) c page)
+-- the function ensures: ((j : ℕ) → to ≡ 2 ^ j → r ≡ orMost (reachBy (placeAt register) nodes j (heightIn span - j) c page))
 abbrev pub exit-1 : Type 0
 exit-1 =
-    (register : List Record) (nodes : List ℕ) (c : ℕ) (page : ℕ) (x-first : ℕ) (span : ℕ) (height : ℕ) (halved : ℕ) (carried : ℕ) (x-to : ℕ) (len-register : length register < 2 ^ 64) (len-nodes : length nodes < 2 ^ 64) (fits-c : c < 2 ^ 64) (fits-page : page < 2 ^ 64) (fits-x-first : x-first < 2 ^ 64) (fits-span : span < 2 ^ 64) (fits-height : height < 2 ^ 64) (fits-halved : halved < 2 ^ 64) (fits-carried : carried < 2 ^ 64) (fits-x-to : x-to < 2 ^ 64) (need : reach″.req register nodes c page x-first span height halved carried x-to) (c1 : leb height x-to ≡ true) (n1 : height ≤ x-to)
-    → reach″.ens register nodes c page x-first span height halved carried x-to c
+    (register : List Record) (nodes : List ℕ) (c : ℕ) (page : ℕ) (x-first : ℕ) (span : ℕ) (halved : ℕ) (carried : ℕ) (x-to : ℕ) (len-register : length register < 2 ^ 64) (len-nodes : length nodes < 2 ^ 64) (fits-c : c < 2 ^ 64) (fits-page : page < 2 ^ 64) (fits-x-first : x-first < 2 ^ 64) (fits-span : span < 2 ^ 64) (fits-halved : halved < 2 ^ 64) (fits-carried : carried < 2 ^ 64) (fits-x-to : x-to < 2 ^ 64) (need : reach″.req register nodes c page x-first span halved carried x-to) (c1 : leb span x-to ≡ true) (n1 : span ≤ x-to)
+    → reach″.ens register nodes c page x-first span halved carried x-to c
 
--- the function ensures: r ≡ orMost (reachBy (placeAt register) nodes to (height - to) c page)
+-- the function ensures: ((j : ℕ) → to ≡ 2 ^ j → r ≡ orMost (reachBy (placeAt register) nodes j (heightIn span - j) c page))
 abbrev pub exit-2 : Type 0
 exit-2 =
-    (register : List Record) (nodes : List ℕ) (c : ℕ) (page : ℕ) (x-first : ℕ) (span : ℕ) (height : ℕ) (halved : ℕ) (carried : ℕ) (x-to : ℕ) (len-register : length register < 2 ^ 64) (len-nodes : length nodes < 2 ^ 64) (fits-c : c < 2 ^ 64) (fits-page : page < 2 ^ 64) (fits-x-first : x-first < 2 ^ 64) (fits-span : span < 2 ^ 64) (fits-height : height < 2 ^ 64) (fits-halved : halved < 2 ^ 64) (fits-carried : carried < 2 ^ 64) (fits-x-to : x-to < 2 ^ 64) (need : reach″.req register nodes c page x-first span height halved carried x-to) (c1 : leb height x-to ≡ false) (n1 : x-to < height) (c2 : eqb c 0 ≡ true) (n2 : c ≡ 0)
-    → reach″.ens register nodes c page x-first span height halved carried x-to 0
+    (register : List Record) (nodes : List ℕ) (c : ℕ) (page : ℕ) (x-first : ℕ) (span : ℕ) (halved : ℕ) (carried : ℕ) (x-to : ℕ) (len-register : length register < 2 ^ 64) (len-nodes : length nodes < 2 ^ 64) (fits-c : c < 2 ^ 64) (fits-page : page < 2 ^ 64) (fits-x-first : x-first < 2 ^ 64) (fits-span : span < 2 ^ 64) (fits-halved : halved < 2 ^ 64) (fits-carried : carried < 2 ^ 64) (fits-x-to : x-to < 2 ^ 64) (need : reach″.req register nodes c page x-first span halved carried x-to) (c1 : leb span x-to ≡ false) (n1 : x-to < span) (c2 : eqb c 0 ≡ true) (n2 : c ≡ 0)
+    → reach″.ens register nodes c page x-first span halved carried x-to 0
 
--- `place_of` asks: (0 < c) × (c < 2 ^ 64 - 1) × Level first span height halved carried
+-- `place_of` asks: (0 < c) × (c < 2 ^ 64 - 1) × Level first span halved carried
 abbrev pub place-of-1 : Type 0
 place-of-1 =
-    (register : List Record) (nodes : List ℕ) (c : ℕ) (page : ℕ) (x-first : ℕ) (span : ℕ) (height : ℕ) (halved : ℕ) (carried : ℕ) (x-to : ℕ) (len-register : length register < 2 ^ 64) (len-nodes : length nodes < 2 ^ 64) (fits-c : c < 2 ^ 64) (fits-page : page < 2 ^ 64) (fits-x-first : x-first < 2 ^ 64) (fits-span : span < 2 ^ 64) (fits-height : height < 2 ^ 64) (fits-halved : halved < 2 ^ 64) (fits-carried : carried < 2 ^ 64) (fits-x-to : x-to < 2 ^ 64) (need : reach″.req register nodes c page x-first span height halved carried x-to) (c1 : leb height x-to ≡ false) (n1 : x-to < height) (c2 : eqb c 0 ≡ false) (n2 : 0 < c) (ok-r1 : Part′.Ok (r1 register nodes c page x-first span height halved carried x-to))
-    → place-of″.req (r1 register nodes c page x-first span height halved carried x-to) c x-first span height halved carried
+    (register : List Record) (nodes : List ℕ) (c : ℕ) (page : ℕ) (x-first : ℕ) (span : ℕ) (halved : ℕ) (carried : ℕ) (x-to : ℕ) (len-register : length register < 2 ^ 64) (len-nodes : length nodes < 2 ^ 64) (fits-c : c < 2 ^ 64) (fits-page : page < 2 ^ 64) (fits-x-first : x-first < 2 ^ 64) (fits-span : span < 2 ^ 64) (fits-halved : halved < 2 ^ 64) (fits-carried : carried < 2 ^ 64) (fits-x-to : x-to < 2 ^ 64) (need : reach″.req register nodes c page x-first span halved carried x-to) (c1 : leb span x-to ≡ false) (n1 : x-to < span) (c2 : eqb c 0 ≡ false) (n2 : 0 < c) (ok-r1 : Part′.Ok (r1 register nodes c page x-first span halved carried x-to))
+    → place-of″.req (r1 register nodes c page x-first span halved carried x-to) c x-first span halved carried
 
 -- `is_left` asks: first + half < 2 ^ 64
 abbrev pub is-left-1 : Type 0
 is-left-1 =
-    (register : List Record) (nodes : List ℕ) (c : ℕ) (page : ℕ) (x-first : ℕ) (span : ℕ) (height : ℕ) (halved : ℕ) (carried : ℕ) (x-to : ℕ) (len-register : length register < 2 ^ 64) (len-nodes : length nodes < 2 ^ 64) (fits-c : c < 2 ^ 64) (fits-page : page < 2 ^ 64) (fits-x-first : x-first < 2 ^ 64) (fits-span : span < 2 ^ 64) (fits-height : height < 2 ^ 64) (fits-halved : halved < 2 ^ 64) (fits-carried : carried < 2 ^ 64) (fits-x-to : x-to < 2 ^ 64) (need : reach″.req register nodes c page x-first span height halved carried x-to) (c1 : leb height x-to ≡ false) (n1 : x-to < height) (c2 : eqb c 0 ≡ false) (n2 : 0 < c) (ok-r1 : Part′.Ok (r1 register nodes c page x-first span height halved carried x-to)) (r2 : ℕ) (fits-r2 : r2 < 2 ^ 64) (says2 : place-of″.ens (r1 register nodes c page x-first span height halved carried x-to) c x-first span height halved carried r2) (ok-r3 : NodeAt′.Ok (r3 register nodes c page x-first span height halved carried x-to r2)) (fits-r4 : (r4 register nodes c page x-first span height halved carried x-to r2) < 2 ^ 64)
-    → is-left″.req page x-first (r4 register nodes c page x-first span height halved carried x-to r2)
+    (register : List Record) (nodes : List ℕ) (c : ℕ) (page : ℕ) (x-first : ℕ) (span : ℕ) (halved : ℕ) (carried : ℕ) (x-to : ℕ) (len-register : length register < 2 ^ 64) (len-nodes : length nodes < 2 ^ 64) (fits-c : c < 2 ^ 64) (fits-page : page < 2 ^ 64) (fits-x-first : x-first < 2 ^ 64) (fits-span : span < 2 ^ 64) (fits-halved : halved < 2 ^ 64) (fits-carried : carried < 2 ^ 64) (fits-x-to : x-to < 2 ^ 64) (need : reach″.req register nodes c page x-first span halved carried x-to) (c1 : leb span x-to ≡ false) (n1 : x-to < span) (c2 : eqb c 0 ≡ false) (n2 : 0 < c) (ok-r1 : Part′.Ok (r1 register nodes c page x-first span halved carried x-to)) (r2 : ℕ) (fits-r2 : r2 < 2 ^ 64) (says2 : place-of″.ens (r1 register nodes c page x-first span halved carried x-to) c x-first span halved carried r2) (ok-r3 : NodeAt′.Ok (r3 register nodes c page x-first span halved carried x-to r2)) (fits-r4 : (r4 register nodes c page x-first span halved carried x-to r2) < 2 ^ 64)
+    → is-left″.req page x-first (r4 register nodes c page x-first span halved carried x-to r2)
 
--- the function ensures: r ≡ orMost (reachBy (placeAt register) nodes to (height - to) c page)
+-- the function ensures: ((j : ℕ) → to ≡ 2 ^ j → r ≡ orMost (reachBy (placeAt register) nodes j (heightIn span - j) c page))
 abbrev pub exit-3 : Type 0
 exit-3 =
-    (register : List Record) (nodes : List ℕ) (c : ℕ) (page : ℕ) (x-first : ℕ) (span : ℕ) (height : ℕ) (halved : ℕ) (carried : ℕ) (x-to : ℕ) (len-register : length register < 2 ^ 64) (len-nodes : length nodes < 2 ^ 64) (fits-c : c < 2 ^ 64) (fits-page : page < 2 ^ 64) (fits-x-first : x-first < 2 ^ 64) (fits-span : span < 2 ^ 64) (fits-height : height < 2 ^ 64) (fits-halved : halved < 2 ^ 64) (fits-carried : carried < 2 ^ 64) (fits-x-to : x-to < 2 ^ 64) (need : reach″.req register nodes c page x-first span height halved carried x-to) (c1 : leb height x-to ≡ false) (n1 : x-to < height) (c2 : eqb c 0 ≡ false) (n2 : 0 < c) (ok-r1 : Part′.Ok (r1 register nodes c page x-first span height halved carried x-to)) (r2 : ℕ) (fits-r2 : r2 < 2 ^ 64) (says2 : place-of″.ens (r1 register nodes c page x-first span height halved carried x-to) c x-first span height halved carried r2) (ok-r3 : NodeAt′.Ok (r3 register nodes c page x-first span height halved carried x-to r2)) (fits-r4 : (r4 register nodes c page x-first span height halved carried x-to r2) < 2 ^ 64) (fits-r6 : (r6 register nodes c page x-first span height halved carried x-to r2) < 2 ^ 64) (c3 : eqb (r6 register nodes c page x-first span height halved carried x-to r2) 18446744073709551615 ≡ true) (n3 : (r6 register nodes c page x-first span height halved carried x-to r2) ≡ 18446744073709551615)
-    → reach″.ens register nodes c page x-first span height halved carried x-to 18446744073709551615
+    (register : List Record) (nodes : List ℕ) (c : ℕ) (page : ℕ) (x-first : ℕ) (span : ℕ) (halved : ℕ) (carried : ℕ) (x-to : ℕ) (len-register : length register < 2 ^ 64) (len-nodes : length nodes < 2 ^ 64) (fits-c : c < 2 ^ 64) (fits-page : page < 2 ^ 64) (fits-x-first : x-first < 2 ^ 64) (fits-span : span < 2 ^ 64) (fits-halved : halved < 2 ^ 64) (fits-carried : carried < 2 ^ 64) (fits-x-to : x-to < 2 ^ 64) (need : reach″.req register nodes c page x-first span halved carried x-to) (c1 : leb span x-to ≡ false) (n1 : x-to < span) (c2 : eqb c 0 ≡ false) (n2 : 0 < c) (ok-r1 : Part′.Ok (r1 register nodes c page x-first span halved carried x-to)) (r2 : ℕ) (fits-r2 : r2 < 2 ^ 64) (says2 : place-of″.ens (r1 register nodes c page x-first span halved carried x-to) c x-first span halved carried r2) (ok-r3 : NodeAt′.Ok (r3 register nodes c page x-first span halved carried x-to r2)) (fits-r4 : (r4 register nodes c page x-first span halved carried x-to r2) < 2 ^ 64) (fits-r6 : (r6 register nodes c page x-first span halved carried x-to r2) < 2 ^ 64) (c3 : eqb (r6 register nodes c page x-first span halved carried x-to r2) 18446744073709551615 ≡ true) (n3 : (r6 register nodes c page x-first span halved carried x-to r2) ≡ 18446744073709551615)
+    → reach″.ens register nodes c page x-first span halved carried x-to 18446744073709551615
 
 -- `on_to` asks: x + more < 2 ^ 64
 abbrev pub on-to-1 : Type 0
 on-to-1 =
-    (register : List Record) (nodes : List ℕ) (c : ℕ) (page : ℕ) (x-first : ℕ) (span : ℕ) (height : ℕ) (halved : ℕ) (carried : ℕ) (x-to : ℕ) (len-register : length register < 2 ^ 64) (len-nodes : length nodes < 2 ^ 64) (fits-c : c < 2 ^ 64) (fits-page : page < 2 ^ 64) (fits-x-first : x-first < 2 ^ 64) (fits-span : span < 2 ^ 64) (fits-height : height < 2 ^ 64) (fits-halved : halved < 2 ^ 64) (fits-carried : carried < 2 ^ 64) (fits-x-to : x-to < 2 ^ 64) (need : reach″.req register nodes c page x-first span height halved carried x-to) (c1 : leb height x-to ≡ false) (n1 : x-to < height) (c2 : eqb c 0 ≡ false) (n2 : 0 < c) (ok-r1 : Part′.Ok (r1 register nodes c page x-first span height halved carried x-to)) (r2 : ℕ) (fits-r2 : r2 < 2 ^ 64) (says2 : place-of″.ens (r1 register nodes c page x-first span height halved carried x-to) c x-first span height halved carried r2) (ok-r3 : NodeAt′.Ok (r3 register nodes c page x-first span height halved carried x-to r2)) (fits-r4 : (r4 register nodes c page x-first span height halved carried x-to r2) < 2 ^ 64) (fits-r6 : (r6 register nodes c page x-first span height halved carried x-to r2) < 2 ^ 64) (c3 : eqb (r6 register nodes c page x-first span height halved carried x-to r2) 18446744073709551615 ≡ false) (n3 : (r6 register nodes c page x-first span height halved carried x-to r2) ≡ 18446744073709551615 → ⊥)
-    → on-to″.req (r5 register nodes c page x-first span height halved carried x-to r2) x-first (r4 register nodes c page x-first span height halved carried x-to r2)
+    (register : List Record) (nodes : List ℕ) (c : ℕ) (page : ℕ) (x-first : ℕ) (span : ℕ) (halved : ℕ) (carried : ℕ) (x-to : ℕ) (len-register : length register < 2 ^ 64) (len-nodes : length nodes < 2 ^ 64) (fits-c : c < 2 ^ 64) (fits-page : page < 2 ^ 64) (fits-x-first : x-first < 2 ^ 64) (fits-span : span < 2 ^ 64) (fits-halved : halved < 2 ^ 64) (fits-carried : carried < 2 ^ 64) (fits-x-to : x-to < 2 ^ 64) (need : reach″.req register nodes c page x-first span halved carried x-to) (c1 : leb span x-to ≡ false) (n1 : x-to < span) (c2 : eqb c 0 ≡ false) (n2 : 0 < c) (ok-r1 : Part′.Ok (r1 register nodes c page x-first span halved carried x-to)) (r2 : ℕ) (fits-r2 : r2 < 2 ^ 64) (says2 : place-of″.ens (r1 register nodes c page x-first span halved carried x-to) c x-first span halved carried r2) (ok-r3 : NodeAt′.Ok (r3 register nodes c page x-first span halved carried x-to r2)) (fits-r4 : (r4 register nodes c page x-first span halved carried x-to r2) < 2 ^ 64) (fits-r6 : (r6 register nodes c page x-first span halved carried x-to r2) < 2 ^ 64) (c3 : eqb (r6 register nodes c page x-first span halved carried x-to r2) 18446744073709551615 ≡ false) (n3 : (r6 register nodes c page x-first span halved carried x-to r2) ≡ 18446744073709551615 → ⊥)
+    → on-to″.req (r5 register nodes c page x-first span halved carried x-to r2) x-first (r4 register nodes c page x-first span halved carried x-to r2)
 
 -- `on_to` asks: x + more < 2 ^ 64
 abbrev pub on-to-2 : Type 0
 on-to-2 =
-    (register : List Record) (nodes : List ℕ) (c : ℕ) (page : ℕ) (x-first : ℕ) (span : ℕ) (height : ℕ) (halved : ℕ) (carried : ℕ) (x-to : ℕ) (len-register : length register < 2 ^ 64) (len-nodes : length nodes < 2 ^ 64) (fits-c : c < 2 ^ 64) (fits-page : page < 2 ^ 64) (fits-x-first : x-first < 2 ^ 64) (fits-span : span < 2 ^ 64) (fits-height : height < 2 ^ 64) (fits-halved : halved < 2 ^ 64) (fits-carried : carried < 2 ^ 64) (fits-x-to : x-to < 2 ^ 64) (need : reach″.req register nodes c page x-first span height halved carried x-to) (c1 : leb height x-to ≡ false) (n1 : x-to < height) (c2 : eqb c 0 ≡ false) (n2 : 0 < c) (ok-r1 : Part′.Ok (r1 register nodes c page x-first span height halved carried x-to)) (r2 : ℕ) (fits-r2 : r2 < 2 ^ 64) (says2 : place-of″.ens (r1 register nodes c page x-first span height halved carried x-to) c x-first span height halved carried r2) (ok-r3 : NodeAt′.Ok (r3 register nodes c page x-first span height halved carried x-to r2)) (fits-r4 : (r4 register nodes c page x-first span height halved carried x-to r2) < 2 ^ 64) (fits-r6 : (r6 register nodes c page x-first span height halved carried x-to r2) < 2 ^ 64) (c3 : eqb (r6 register nodes c page x-first span height halved carried x-to r2) 18446744073709551615 ≡ false) (n3 : (r6 register nodes c page x-first span height halved carried x-to r2) ≡ 18446744073709551615 → ⊥) (fits-r7 : (r7 register nodes c page x-first span height halved carried x-to r2) < 2 ^ 64) (fits-r8 : (r8 register nodes c page x-first span height halved carried x-to r2) < 2 ^ 64) (fits-r9 : (r9 register nodes c page x-first span height halved carried x-to r2) < 2 ^ 64)
-    → on-to″.req (r5 register nodes c page x-first span height halved carried x-to r2) halved (r9 register nodes c page x-first span height halved carried x-to r2)
+    (register : List Record) (nodes : List ℕ) (c : ℕ) (page : ℕ) (x-first : ℕ) (span : ℕ) (halved : ℕ) (carried : ℕ) (x-to : ℕ) (len-register : length register < 2 ^ 64) (len-nodes : length nodes < 2 ^ 64) (fits-c : c < 2 ^ 64) (fits-page : page < 2 ^ 64) (fits-x-first : x-first < 2 ^ 64) (fits-span : span < 2 ^ 64) (fits-halved : halved < 2 ^ 64) (fits-carried : carried < 2 ^ 64) (fits-x-to : x-to < 2 ^ 64) (need : reach″.req register nodes c page x-first span halved carried x-to) (c1 : leb span x-to ≡ false) (n1 : x-to < span) (c2 : eqb c 0 ≡ false) (n2 : 0 < c) (ok-r1 : Part′.Ok (r1 register nodes c page x-first span halved carried x-to)) (r2 : ℕ) (fits-r2 : r2 < 2 ^ 64) (says2 : place-of″.ens (r1 register nodes c page x-first span halved carried x-to) c x-first span halved carried r2) (ok-r3 : NodeAt′.Ok (r3 register nodes c page x-first span halved carried x-to r2)) (fits-r4 : (r4 register nodes c page x-first span halved carried x-to r2) < 2 ^ 64) (fits-r6 : (r6 register nodes c page x-first span halved carried x-to r2) < 2 ^ 64) (c3 : eqb (r6 register nodes c page x-first span halved carried x-to r2) 18446744073709551615 ≡ false) (n3 : (r6 register nodes c page x-first span halved carried x-to r2) ≡ 18446744073709551615 → ⊥) (fits-r7 : (r7 register nodes c page x-first span halved carried x-to r2) < 2 ^ 64) (fits-r8 : (r8 register nodes c page x-first span halved carried x-to r2) < 2 ^ 64)
+    → on-to″.req (r5 register nodes c page x-first span halved carried x-to r2) halved (r8 register nodes c page x-first span halved carried x-to r2)
 
--- `reach` asks: (c < 2 ^ 64 - 1) × Level first span height halved carried × (first ≡ firstOver page height)
+-- `reach` asks: (c < 2 ^ 64 - 1) × (0 < to) × Level first span halved carried × (first ≡ firstOver page (heightIn span))
 abbrev pub reach-1 : Type 0
 reach-1 =
-    (register : List Record) (nodes : List ℕ) (c : ℕ) (page : ℕ) (x-first : ℕ) (span : ℕ) (height : ℕ) (halved : ℕ) (carried : ℕ) (x-to : ℕ) (len-register : length register < 2 ^ 64) (len-nodes : length nodes < 2 ^ 64) (fits-c : c < 2 ^ 64) (fits-page : page < 2 ^ 64) (fits-x-first : x-first < 2 ^ 64) (fits-span : span < 2 ^ 64) (fits-height : height < 2 ^ 64) (fits-halved : halved < 2 ^ 64) (fits-carried : carried < 2 ^ 64) (fits-x-to : x-to < 2 ^ 64) (need : reach″.req register nodes c page x-first span height halved carried x-to) (c1 : leb height x-to ≡ false) (n1 : x-to < height) (c2 : eqb c 0 ≡ false) (n2 : 0 < c) (ok-r1 : Part′.Ok (r1 register nodes c page x-first span height halved carried x-to)) (r2 : ℕ) (fits-r2 : r2 < 2 ^ 64) (says2 : place-of″.ens (r1 register nodes c page x-first span height halved carried x-to) c x-first span height halved carried r2) (ok-r3 : NodeAt′.Ok (r3 register nodes c page x-first span height halved carried x-to r2)) (fits-r4 : (r4 register nodes c page x-first span height halved carried x-to r2) < 2 ^ 64) (fits-r6 : (r6 register nodes c page x-first span height halved carried x-to r2) < 2 ^ 64) (c3 : eqb (r6 register nodes c page x-first span height halved carried x-to r2) 18446744073709551615 ≡ false) (n3 : (r6 register nodes c page x-first span height halved carried x-to r2) ≡ 18446744073709551615 → ⊥) (fits-r7 : (r7 register nodes c page x-first span height halved carried x-to r2) < 2 ^ 64) (fits-r8 : (r8 register nodes c page x-first span height halved carried x-to r2) < 2 ^ 64) (fits-r9 : (r9 register nodes c page x-first span height halved carried x-to r2) < 2 ^ 64) (fits-r10 : (r10 register nodes c page x-first span height halved carried x-to r2) < 2 ^ 64) (fits-r11 : (r11 register nodes c page x-first span height halved carried x-to r2) < 2 ^ 64)
-    → reach″.req register nodes (r6 register nodes c page x-first span height halved carried x-to r2) page (r7 register nodes c page x-first span height halved carried x-to r2) (r4 register nodes c page x-first span height halved carried x-to r2) (r8 register nodes c page x-first span height halved carried x-to r2) (r10 register nodes c page x-first span height halved carried x-to r2) (r11 register nodes c page x-first span height halved carried x-to r2) x-to
+    (register : List Record) (nodes : List ℕ) (c : ℕ) (page : ℕ) (x-first : ℕ) (span : ℕ) (halved : ℕ) (carried : ℕ) (x-to : ℕ) (len-register : length register < 2 ^ 64) (len-nodes : length nodes < 2 ^ 64) (fits-c : c < 2 ^ 64) (fits-page : page < 2 ^ 64) (fits-x-first : x-first < 2 ^ 64) (fits-span : span < 2 ^ 64) (fits-halved : halved < 2 ^ 64) (fits-carried : carried < 2 ^ 64) (fits-x-to : x-to < 2 ^ 64) (need : reach″.req register nodes c page x-first span halved carried x-to) (c1 : leb span x-to ≡ false) (n1 : x-to < span) (c2 : eqb c 0 ≡ false) (n2 : 0 < c) (ok-r1 : Part′.Ok (r1 register nodes c page x-first span halved carried x-to)) (r2 : ℕ) (fits-r2 : r2 < 2 ^ 64) (says2 : place-of″.ens (r1 register nodes c page x-first span halved carried x-to) c x-first span halved carried r2) (ok-r3 : NodeAt′.Ok (r3 register nodes c page x-first span halved carried x-to r2)) (fits-r4 : (r4 register nodes c page x-first span halved carried x-to r2) < 2 ^ 64) (fits-r6 : (r6 register nodes c page x-first span halved carried x-to r2) < 2 ^ 64) (c3 : eqb (r6 register nodes c page x-first span halved carried x-to r2) 18446744073709551615 ≡ false) (n3 : (r6 register nodes c page x-first span halved carried x-to r2) ≡ 18446744073709551615 → ⊥) (fits-r7 : (r7 register nodes c page x-first span halved carried x-to r2) < 2 ^ 64) (fits-r8 : (r8 register nodes c page x-first span halved carried x-to r2) < 2 ^ 64) (fits-r9 : (r9 register nodes c page x-first span halved carried x-to r2) < 2 ^ 64) (fits-r10 : (r10 register nodes c page x-first span halved carried x-to r2) < 2 ^ 64)
+    → reach″.req register nodes (r6 register nodes c page x-first span halved carried x-to r2) page (r7 register nodes c page x-first span halved carried x-to r2) (r4 register nodes c page x-first span halved carried x-to r2) (r9 register nodes c page x-first span halved carried x-to r2) (r10 register nodes c page x-first span halved carried x-to r2) x-to
 
 -- the measure of the call of itself is smaller
 abbrev pub smaller-1 : Type 0
 smaller-1 =
-    (register : List Record) (nodes : List ℕ) (c : ℕ) (page : ℕ) (x-first : ℕ) (span : ℕ) (height : ℕ) (halved : ℕ) (carried : ℕ) (x-to : ℕ) (len-register : length register < 2 ^ 64) (len-nodes : length nodes < 2 ^ 64) (fits-c : c < 2 ^ 64) (fits-page : page < 2 ^ 64) (fits-x-first : x-first < 2 ^ 64) (fits-span : span < 2 ^ 64) (fits-height : height < 2 ^ 64) (fits-halved : halved < 2 ^ 64) (fits-carried : carried < 2 ^ 64) (fits-x-to : x-to < 2 ^ 64) (need : reach″.req register nodes c page x-first span height halved carried x-to) (c1 : leb height x-to ≡ false) (n1 : x-to < height) (c2 : eqb c 0 ≡ false) (n2 : 0 < c) (ok-r1 : Part′.Ok (r1 register nodes c page x-first span height halved carried x-to)) (r2 : ℕ) (fits-r2 : r2 < 2 ^ 64) (says2 : place-of″.ens (r1 register nodes c page x-first span height halved carried x-to) c x-first span height halved carried r2) (ok-r3 : NodeAt′.Ok (r3 register nodes c page x-first span height halved carried x-to r2)) (fits-r4 : (r4 register nodes c page x-first span height halved carried x-to r2) < 2 ^ 64) (fits-r6 : (r6 register nodes c page x-first span height halved carried x-to r2) < 2 ^ 64) (c3 : eqb (r6 register nodes c page x-first span height halved carried x-to r2) 18446744073709551615 ≡ false) (n3 : (r6 register nodes c page x-first span height halved carried x-to r2) ≡ 18446744073709551615 → ⊥) (fits-r7 : (r7 register nodes c page x-first span height halved carried x-to r2) < 2 ^ 64) (fits-r8 : (r8 register nodes c page x-first span height halved carried x-to r2) < 2 ^ 64) (fits-r9 : (r9 register nodes c page x-first span height halved carried x-to r2) < 2 ^ 64) (fits-r10 : (r10 register nodes c page x-first span height halved carried x-to r2) < 2 ^ 64) (fits-r11 : (r11 register nodes c page x-first span height halved carried x-to r2) < 2 ^ 64)
-    → Loop.measure-0 register nodes (r6 register nodes c page x-first span height halved carried x-to r2) page (r7 register nodes c page x-first span height halved carried x-to r2) (r4 register nodes c page x-first span height halved carried x-to r2) (r8 register nodes c page x-first span height halved carried x-to r2) (r10 register nodes c page x-first span height halved carried x-to r2) (r11 register nodes c page x-first span height halved carried x-to r2) x-to < Loop.measure-0 register nodes c page x-first span height halved carried x-to
+    (register : List Record) (nodes : List ℕ) (c : ℕ) (page : ℕ) (x-first : ℕ) (span : ℕ) (halved : ℕ) (carried : ℕ) (x-to : ℕ) (len-register : length register < 2 ^ 64) (len-nodes : length nodes < 2 ^ 64) (fits-c : c < 2 ^ 64) (fits-page : page < 2 ^ 64) (fits-x-first : x-first < 2 ^ 64) (fits-span : span < 2 ^ 64) (fits-halved : halved < 2 ^ 64) (fits-carried : carried < 2 ^ 64) (fits-x-to : x-to < 2 ^ 64) (need : reach″.req register nodes c page x-first span halved carried x-to) (c1 : leb span x-to ≡ false) (n1 : x-to < span) (c2 : eqb c 0 ≡ false) (n2 : 0 < c) (ok-r1 : Part′.Ok (r1 register nodes c page x-first span halved carried x-to)) (r2 : ℕ) (fits-r2 : r2 < 2 ^ 64) (says2 : place-of″.ens (r1 register nodes c page x-first span halved carried x-to) c x-first span halved carried r2) (ok-r3 : NodeAt′.Ok (r3 register nodes c page x-first span halved carried x-to r2)) (fits-r4 : (r4 register nodes c page x-first span halved carried x-to r2) < 2 ^ 64) (fits-r6 : (r6 register nodes c page x-first span halved carried x-to r2) < 2 ^ 64) (c3 : eqb (r6 register nodes c page x-first span halved carried x-to r2) 18446744073709551615 ≡ false) (n3 : (r6 register nodes c page x-first span halved carried x-to r2) ≡ 18446744073709551615 → ⊥) (fits-r7 : (r7 register nodes c page x-first span halved carried x-to r2) < 2 ^ 64) (fits-r8 : (r8 register nodes c page x-first span halved carried x-to r2) < 2 ^ 64) (fits-r9 : (r9 register nodes c page x-first span halved carried x-to r2) < 2 ^ 64) (fits-r10 : (r10 register nodes c page x-first span halved carried x-to r2) < 2 ^ 64)
+    → Loop.measure-0 register nodes (r6 register nodes c page x-first span halved carried x-to r2) page (r7 register nodes c page x-first span halved carried x-to r2) (r4 register nodes c page x-first span halved carried x-to r2) (r9 register nodes c page x-first span halved carried x-to r2) (r10 register nodes c page x-first span halved carried x-to r2) x-to < Loop.measure-0 register nodes c page x-first span halved carried x-to
 
--- the function ensures: r ≡ orMost (reachBy (placeAt register) nodes to (height - to) c page)
+-- the function ensures: ((j : ℕ) → to ≡ 2 ^ j → r ≡ orMost (reachBy (placeAt register) nodes j (heightIn span - j) c page))
 abbrev pub exit-4 : Type 0
 exit-4 =
-    (register : List Record) (nodes : List ℕ) (c : ℕ) (page : ℕ) (x-first : ℕ) (span : ℕ) (height : ℕ) (halved : ℕ) (carried : ℕ) (x-to : ℕ) (len-register : length register < 2 ^ 64) (len-nodes : length nodes < 2 ^ 64) (fits-c : c < 2 ^ 64) (fits-page : page < 2 ^ 64) (fits-x-first : x-first < 2 ^ 64) (fits-span : span < 2 ^ 64) (fits-height : height < 2 ^ 64) (fits-halved : halved < 2 ^ 64) (fits-carried : carried < 2 ^ 64) (fits-x-to : x-to < 2 ^ 64) (need : reach″.req register nodes c page x-first span height halved carried x-to) (c1 : leb height x-to ≡ false) (n1 : x-to < height) (c2 : eqb c 0 ≡ false) (n2 : 0 < c) (ok-r1 : Part′.Ok (r1 register nodes c page x-first span height halved carried x-to)) (r2 : ℕ) (fits-r2 : r2 < 2 ^ 64) (says2 : place-of″.ens (r1 register nodes c page x-first span height halved carried x-to) c x-first span height halved carried r2) (ok-r3 : NodeAt′.Ok (r3 register nodes c page x-first span height halved carried x-to r2)) (fits-r4 : (r4 register nodes c page x-first span height halved carried x-to r2) < 2 ^ 64) (fits-r6 : (r6 register nodes c page x-first span height halved carried x-to r2) < 2 ^ 64) (c3 : eqb (r6 register nodes c page x-first span height halved carried x-to r2) 18446744073709551615 ≡ false) (n3 : (r6 register nodes c page x-first span height halved carried x-to r2) ≡ 18446744073709551615 → ⊥) (fits-r7 : (r7 register nodes c page x-first span height halved carried x-to r2) < 2 ^ 64) (fits-r8 : (r8 register nodes c page x-first span height halved carried x-to r2) < 2 ^ 64) (fits-r9 : (r9 register nodes c page x-first span height halved carried x-to r2) < 2 ^ 64) (fits-r10 : (r10 register nodes c page x-first span height halved carried x-to r2) < 2 ^ 64) (fits-r11 : (r11 register nodes c page x-first span height halved carried x-to r2) < 2 ^ 64) (fits-r12 : (r12 register nodes c page x-first span height halved carried x-to r2) < 2 ^ 64)
-    → reach″.ens register nodes c page x-first span height halved carried x-to (r12 register nodes c page x-first span height halved carried x-to r2)
+    (register : List Record) (nodes : List ℕ) (c : ℕ) (page : ℕ) (x-first : ℕ) (span : ℕ) (halved : ℕ) (carried : ℕ) (x-to : ℕ) (len-register : length register < 2 ^ 64) (len-nodes : length nodes < 2 ^ 64) (fits-c : c < 2 ^ 64) (fits-page : page < 2 ^ 64) (fits-x-first : x-first < 2 ^ 64) (fits-span : span < 2 ^ 64) (fits-halved : halved < 2 ^ 64) (fits-carried : carried < 2 ^ 64) (fits-x-to : x-to < 2 ^ 64) (need : reach″.req register nodes c page x-first span halved carried x-to) (c1 : leb span x-to ≡ false) (n1 : x-to < span) (c2 : eqb c 0 ≡ false) (n2 : 0 < c) (ok-r1 : Part′.Ok (r1 register nodes c page x-first span halved carried x-to)) (r2 : ℕ) (fits-r2 : r2 < 2 ^ 64) (says2 : place-of″.ens (r1 register nodes c page x-first span halved carried x-to) c x-first span halved carried r2) (ok-r3 : NodeAt′.Ok (r3 register nodes c page x-first span halved carried x-to r2)) (fits-r4 : (r4 register nodes c page x-first span halved carried x-to r2) < 2 ^ 64) (fits-r6 : (r6 register nodes c page x-first span halved carried x-to r2) < 2 ^ 64) (c3 : eqb (r6 register nodes c page x-first span halved carried x-to r2) 18446744073709551615 ≡ false) (n3 : (r6 register nodes c page x-first span halved carried x-to r2) ≡ 18446744073709551615 → ⊥) (fits-r7 : (r7 register nodes c page x-first span halved carried x-to r2) < 2 ^ 64) (fits-r8 : (r8 register nodes c page x-first span halved carried x-to r2) < 2 ^ 64) (fits-r9 : (r9 register nodes c page x-first span halved carried x-to r2) < 2 ^ 64) (fits-r10 : (r10 register nodes c page x-first span halved carried x-to r2) < 2 ^ 64) (r11 : ℕ) (fits-r11 : r11 < 2 ^ 64) (says11 : reach″.ens register nodes (r6 register nodes c page x-first span halved carried x-to r2) page (r7 register nodes c page x-first span halved carried x-to r2) (r4 register nodes c page x-first span halved carried x-to r2) (r9 register nodes c page x-first span halved carried x-to r2) (r10 register nodes c page x-first span halved carried x-to r2) x-to r11)
+    → reach″.ens register nodes c page x-first span halved carried x-to r11

@@ -4,5 +4,5 @@ use mathlib.Core.List.{List}
 use Rattle.register.specs.declared.Record.{Record}
 
 -- what falls with each call of itself
-abbrev pub measure-0 : List Record → List ℕ → ℕ → ℕ → ℕ → ℕ → ℕ → ℕ → ℕ → ℕ → ℕ
-measure-0 register nodes c page x-first span height halved carried x-to = height
+abbrev pub measure-0 : List Record → List ℕ → ℕ → ℕ → ℕ → ℕ → ℕ → ℕ → ℕ → ℕ
+measure-0 register nodes c page x-first span halved carried x-to = span

@@ -44,53 +44,53 @@ module _ {M : Type 1} (𝓤 : URA M) (H : Heap 𝓤) (A : Atoms 𝓤) (mem : Mem
   abbrev pub Asked : Contract 𝓤
   Asked = tripleOf 𝓤 H A callee.signature (callee.spec 𝓤 H A mem run)
 
-  abbrev pub to : (q : Part) (c : ℕ) (x-first : ℕ) (span : ℕ) (height : ℕ) (halved : ℕ) (carried : ℕ) → Asked .Ghost
-  to q c x-first span height halved carried = ((tt, tt, tt, (q, (c, (x-first, (span, (height, (halved, (carried, tt))))))), (Part′.mach q ∷ [], (vint w64 c ∷ [], (vint w64 x-first ∷ [], (vint w64 span ∷ [], (vint w64 height ∷ [], (vint w64 halved ∷ [], (vint w64 carried ∷ [], tt)))))))), tt)
+  abbrev pub to : (q : Part) (c : ℕ) (x-first : ℕ) (span : ℕ) (halved : ℕ) (carried : ℕ) → Asked .Ghost
+  to q c x-first span halved carried = ((tt, tt, tt, (q, (c, (x-first, (span, (halved, (carried, tt)))))), (Part′.mach q ∷ [], (vint w64 c ∷ [], (vint w64 x-first ∷ [], (vint w64 span ∷ [], (vint w64 halved ∷ [], (vint w64 carried ∷ [], tt))))))), tt)
 
 module _ {M : Type 1} {𝓤 : URA M} {H : Heap 𝓤} {A : Atoms 𝓤} {K : Type 0} {W : Given 𝓤 H A} {Γ : List (Item 𝓤)} where
   -- the call itself is made by `by-call`, from what the callee asks to what it has ensured
-  core : K → (mem : Memory → SProp 𝓤) (run : Routine → Fun 𝓤) → (q : Part) (c : ℕ) (x-first : ℕ) (span : ℕ) (height : ℕ) (halved : ℕ) (carried : ℕ) → (G : Goal 𝓤 H) (after : Val → Goal 𝓤 H) → ((v : Val) → Soaks (after v))
-      → (((v : Val) → Seq K W (raw (Asked 𝓤 H A mem run .post (to 𝓤 H A mem run q c x-first span height halved carried) v) ∷ Γ) (after v)) → Seq K W (raw (Asked 𝓤 H A mem run .pre (to 𝓤 H A mem run q c x-first span height halved carried)) ∷ Γ) G) → Is Part′.row q (Part′.vals q) → Is u64 c (uint-vals w64 c) → Is u64 x-first (uint-vals w64 x-first) → Is u64 span (uint-vals w64 span) → Is u64 height (uint-vals w64 height) → Is u64 halved (uint-vals w64 halved) → Is u64 carried (uint-vals w64 carried) → place-of″.req q c x-first span height halved carried →
-      ((x·res : ℕ) → Is u64 x·res (uint-vals w64 x·res) → place-of″.ens q c x-first span height halved carried x·res → Seq K W (Γ) (after (vint w64 x·res))) → Seq K W (Γ) G
-  core t mem run q c x-first span height halved carried G after soaks by-call ok·q ok·c ok·x-first ok·span ok·height ok·halved ok·carried need k =
-      use0 W (raw (Asked 𝓤 H A mem run .pre (to 𝓤 H A mem run q c x-first span height halved carried))) goes $
+  core : K → (mem : Memory → SProp 𝓤) (run : Routine → Fun 𝓤) → (q : Part) (c : ℕ) (x-first : ℕ) (span : ℕ) (halved : ℕ) (carried : ℕ) → (G : Goal 𝓤 H) (after : Val → Goal 𝓤 H) → ((v : Val) → Soaks (after v))
+      → (((v : Val) → Seq K W (raw (Asked 𝓤 H A mem run .post (to 𝓤 H A mem run q c x-first span halved carried) v) ∷ Γ) (after v)) → Seq K W (raw (Asked 𝓤 H A mem run .pre (to 𝓤 H A mem run q c x-first span halved carried)) ∷ Γ) G) → Is Part′.row q (Part′.vals q) → Is u64 c (uint-vals w64 c) → Is u64 x-first (uint-vals w64 x-first) → Is u64 span (uint-vals w64 span) → Is u64 halved (uint-vals w64 halved) → Is u64 carried (uint-vals w64 carried) → place-of″.req q c x-first span halved carried →
+      ((x·res : ℕ) → Is u64 x·res (uint-vals w64 x·res) → place-of″.ens q c x-first span halved carried x·res → Seq K W (Γ) (after (vint w64 x·res))) → Seq K W (Γ) G
+  core t mem run q c x-first span halved carried G after soaks by-call ok·q ok·c ok·x-first ok·span ok·halved ok·carried need k =
+      use0 W (raw (Asked 𝓤 H A mem run .pre (to 𝓤 H A mem run q c x-first span halved carried))) goes $
       by-call (λ v.
-      use1 W (later (some (λ (r· : ℕ). ((‵ ftrue) ⊛ ‵ (u64 .own r· (v ∷ []))) ⊛ raw (ensured 𝓤 H A callee.ended (callee.clauses 𝓤 H A mem run) tt (q, (c, (x-first, (span, (height, (halved, (carried, tt))))))) tt r·)))) (id⊢ 𝓤 _) $ await t (soaks v) $ pick t (λ r·. split t $ move t (1 ∷ []) $
-      use1 W (some (λ (ws : Lasts callee.ended tt (q, (c, (x-first, (span, (height, (halved, (carried, tt)))))))). ‵ (lasts callee.ended tt (q, (c, (x-first, (span, (height, (halved, (carried, tt))))))) ws) ⊛ raw (fact 𝓤 (place-of″.ens q c x-first span height halved carried r·)))) (id⊢ 𝓤 _) $ pick t (λ ws. split t $ move t (1 ∷ []) $
-      heard t (place-of″.ens q c x-first span height halved carried r·) (λ e. drop t $ split t $ move t (1 ∷ []) $ facts t u64 (Is u64) (shows 𝓤 H A u64) r· (v ∷ []) (λ is. drop t $
+      use1 W (later (some (λ (r· : ℕ). ((‵ ftrue) ⊛ ‵ (u64 .own r· (v ∷ []))) ⊛ raw (ensured 𝓤 H A callee.ended (callee.clauses 𝓤 H A mem run) tt (q, (c, (x-first, (span, (halved, (carried, tt)))))) tt r·)))) (id⊢ 𝓤 _) $ await t (soaks v) $ pick t (λ r·. split t $ move t (1 ∷ []) $
+      use1 W (some (λ (ws : Lasts callee.ended tt (q, (c, (x-first, (span, (halved, (carried, tt))))))). ‵ (lasts callee.ended tt (q, (c, (x-first, (span, (halved, (carried, tt)))))) ws) ⊛ raw (fact 𝓤 (place-of″.ens q c x-first span halved carried r·)))) (id⊢ 𝓤 _) $ pick t (λ ws. split t $ move t (1 ∷ []) $
+      heard t (place-of″.ens q c x-first span halved carried r·) (λ e. drop t $ split t $ move t (1 ∷ []) $ facts t u64 (Is u64) (shows 𝓤 H A u64) r· (v ∷ []) (λ is. drop t $
       subst (λ (u : Val). Seq K W (Γ) (after u)) (sym (ap only (uint-tells w64 r· (v ∷ []) is))) (k r· (subst (Is u64 r·) (uint-tells w64 r· (v ∷ []) is) is) e))))))
     where
-      goes : ent 𝓤 (⋆ 𝓤 H A ([])) (Asked 𝓤 H A mem run .pre (to 𝓤 H A mem run q c x-first span height halved carried))
-      goes = qed W ([]) ∵ says ! need $ nothing ! $ frame ! $ nothing ! $ owned ! u64 (Is u64) (uint-makes 𝓤 H A W w64) carried _ ok·carried $ fjoin ! $ owned ! u64 (Is u64) (uint-makes 𝓤 H A W w64) halved _ ok·halved $ fjoin ! $ owned ! u64 (Is u64) (uint-makes 𝓤 H A W w64) height _ ok·height $ fjoin ! $ owned ! u64 (Is u64) (uint-makes 𝓤 H A W w64) span _ ok·span $ fjoin ! $ owned ! u64 (Is u64) (uint-makes 𝓤 H A W w64) x-first _ ok·x-first $ fjoin ! $ owned ! u64 (Is u64) (uint-makes 𝓤 H A W w64) c _ ok·c $ fjoin ! $ owned ! Part′.row (Is Part′.row) (Part′.makes 𝓤 H A) q _ ok·q $ fjoin ! $ done !
+      goes : ent 𝓤 (⋆ 𝓤 H A ([])) (Asked 𝓤 H A mem run .pre (to 𝓤 H A mem run q c x-first span halved carried))
+      goes = qed W ([]) ∵ says ! need $ nothing ! $ frame ! $ nothing ! $ owned ! u64 (Is u64) (uint-makes 𝓤 H A W w64) carried _ ok·carried $ fjoin ! $ owned ! u64 (Is u64) (uint-makes 𝓤 H A W w64) halved _ ok·halved $ fjoin ! $ owned ! u64 (Is u64) (uint-makes 𝓤 H A W w64) span _ ok·span $ fjoin ! $ owned ! u64 (Is u64) (uint-makes 𝓤 H A W w64) x-first _ ok·x-first $ fjoin ! $ owned ! u64 (Is u64) (uint-makes 𝓤 H A W w64) c _ ok·c $ fjoin ! $ owned ! Part′.row (Is Part′.row) (Part′.makes 𝓤 H A) q _ ok·q $ fjoin ! $ done !
 
 module _ {M : Type 1} {𝓤 : URA M} {H : Heap 𝓤} {A : Atoms 𝓤} {K : Type 0} {W : Given 𝓤 H A} {Γ : List (Item 𝓤)} {E : Env 𝓤 H} {C : Calls 𝓤 H} {Λ : Loops 𝓤 H} {Q : Post 𝓤 H} {xs : List Operand} {d : Place} {rest : Body} where
   -- by one instance of the callee's contract, which is what a function that calls itself has
-  pub calls-by : K → (mem : Memory → SProp 𝓤) (run : Routine → Fun 𝓤) → FmC 𝓤 H (W .laws) C → (q : Part) (c : ℕ) (x-first : ℕ) (span : ℕ) (height : ℕ) (halved : ℕ) (carried : ℕ) → ent 𝓤 (Asked 𝓤 H A mem run .pre (to 𝓤 H A mem run q c x-first span height halved carried)) (C #callee (Asked 𝓤 H A mem run .args (to 𝓤 H A mem run q c x-first span height halved carried)) (Asked 𝓤 H A mem run .post (to 𝓤 H A mem run q c x-first span height halved carried))) → Is Part′.row q (Part′.vals q) → Is u64 c (uint-vals w64 c) → Is u64 x-first (uint-vals w64 x-first) → Is u64 span (uint-vals w64 span) → Is u64 height (uint-vals w64 height) → Is u64 halved (uint-vals w64 halved) → Is u64 carried (uint-vals w64 carried) → place-of″.req q c x-first span height halved carried →
-      Opds K W (raw (Asked 𝓤 H A mem run .pre (to 𝓤 H A mem run q c x-first span height halved carried)) ∷ Γ) E xs (Part′.mach q ∷ vint w64 c ∷ vint w64 x-first ∷ vint w64 span ∷ vint w64 height ∷ vint w64 halved ∷ vint w64 carried ∷ [])
-      → ((x·res : ℕ) → Is u64 x·res (uint-vals w64 x·res) → place-of″.ens q c x-first span height halved carried x·res → Seq K W (Γ) (lands C Λ E d (vint w64 x·res) rest Q))
+  pub calls-by : K → (mem : Memory → SProp 𝓤) (run : Routine → Fun 𝓤) → FmC 𝓤 H (W .laws) C → (q : Part) (c : ℕ) (x-first : ℕ) (span : ℕ) (halved : ℕ) (carried : ℕ) → ent 𝓤 (Asked 𝓤 H A mem run .pre (to 𝓤 H A mem run q c x-first span halved carried)) (C #callee (Asked 𝓤 H A mem run .args (to 𝓤 H A mem run q c x-first span halved carried)) (Asked 𝓤 H A mem run .post (to 𝓤 H A mem run q c x-first span halved carried))) → Is Part′.row q (Part′.vals q) → Is u64 c (uint-vals w64 c) → Is u64 x-first (uint-vals w64 x-first) → Is u64 span (uint-vals w64 span) → Is u64 halved (uint-vals w64 halved) → Is u64 carried (uint-vals w64 carried) → place-of″.req q c x-first span halved carried →
+      Opds K W (raw (Asked 𝓤 H A mem run .pre (to 𝓤 H A mem run q c x-first span halved carried)) ∷ Γ) E xs (Part′.mach q ∷ vint w64 c ∷ vint w64 x-first ∷ vint w64 span ∷ vint w64 halved ∷ vint w64 carried ∷ [])
+      → ((x·res : ℕ) → Is u64 x·res (uint-vals w64 x·res) → place-of″.ens q c x-first span halved carried x·res → Seq K W (Γ) (lands C Λ E d (vint w64 x·res) rest Q))
       → Seq K W (Γ) (runs C Λ E (seq (call #callee xs d) rest) Q)
-  calls-by t mem run fm q c x-first span height halved carried known ok·q ok·c ok·x-first ok·span ok·height ok·halved ok·carried need os k =
-      core t mem run q c x-first span height halved carried (runs C Λ E (seq (call #callee xs d) rest) Q) (λ v. lands C Λ E d v rest Q) (λ v. tt)
-      (λ h. calls-from t fm (raw (Asked 𝓤 H A mem run .pre (to 𝓤 H A mem run q c x-first span height halved carried))) (Asked 𝓤 H A mem run .args (to 𝓤 H A mem run q c x-first span height halved carried)) (Asked 𝓤 H A mem run .post (to 𝓤 H A mem run q c x-first span height halved carried)) known os h) ok·q ok·c ok·x-first ok·span ok·height ok·halved ok·carried need k
+  calls-by t mem run fm q c x-first span halved carried known ok·q ok·c ok·x-first ok·span ok·halved ok·carried need os k =
+      core t mem run q c x-first span halved carried (runs C Λ E (seq (call #callee xs d) rest) Q) (λ v. lands C Λ E d v rest Q) (λ v. tt)
+      (λ h. calls-from t fm (raw (Asked 𝓤 H A mem run .pre (to 𝓤 H A mem run q c x-first span halved carried))) (Asked 𝓤 H A mem run .args (to 𝓤 H A mem run q c x-first span halved carried)) (Asked 𝓤 H A mem run .post (to 𝓤 H A mem run q c x-first span halved carried)) known os h) ok·q ok·c ok·x-first ok·span ok·halved ok·carried need k
 
-  pub calls : K → (mem : Memory → SProp 𝓤) (run : Routine → Fun 𝓤) → FmC 𝓤 H (W .laws) C → Triple 𝓤 (C #callee) (Asked 𝓤 H A mem run) → (q : Part) (c : ℕ) (x-first : ℕ) (span : ℕ) (height : ℕ) (halved : ℕ) (carried : ℕ) → Is Part′.row q (Part′.vals q) → Is u64 c (uint-vals w64 c) → Is u64 x-first (uint-vals w64 x-first) → Is u64 span (uint-vals w64 span) → Is u64 height (uint-vals w64 height) → Is u64 halved (uint-vals w64 halved) → Is u64 carried (uint-vals w64 carried) → place-of″.req q c x-first span height halved carried →
-      Opds K W (raw (Asked 𝓤 H A mem run .pre (to 𝓤 H A mem run q c x-first span height halved carried)) ∷ Γ) E xs (Part′.mach q ∷ vint w64 c ∷ vint w64 x-first ∷ vint w64 span ∷ vint w64 height ∷ vint w64 halved ∷ vint w64 carried ∷ [])
-      → ((x·res : ℕ) → Is u64 x·res (uint-vals w64 x·res) → place-of″.ens q c x-first span height halved carried x·res → Seq K W (Γ) (lands C Λ E d (vint w64 x·res) rest Q))
+  pub calls : K → (mem : Memory → SProp 𝓤) (run : Routine → Fun 𝓤) → FmC 𝓤 H (W .laws) C → Triple 𝓤 (C #callee) (Asked 𝓤 H A mem run) → (q : Part) (c : ℕ) (x-first : ℕ) (span : ℕ) (halved : ℕ) (carried : ℕ) → Is Part′.row q (Part′.vals q) → Is u64 c (uint-vals w64 c) → Is u64 x-first (uint-vals w64 x-first) → Is u64 span (uint-vals w64 span) → Is u64 halved (uint-vals w64 halved) → Is u64 carried (uint-vals w64 carried) → place-of″.req q c x-first span halved carried →
+      Opds K W (raw (Asked 𝓤 H A mem run .pre (to 𝓤 H A mem run q c x-first span halved carried)) ∷ Γ) E xs (Part′.mach q ∷ vint w64 c ∷ vint w64 x-first ∷ vint w64 span ∷ vint w64 halved ∷ vint w64 carried ∷ [])
+      → ((x·res : ℕ) → Is u64 x·res (uint-vals w64 x·res) → place-of″.ens q c x-first span halved carried x·res → Seq K W (Γ) (lands C Λ E d (vint w64 x·res) rest Q))
       → Seq K W (Γ) (runs C Λ E (seq (call #callee xs d) rest) Q)
-  calls t mem run fm known q c x-first span height halved carried = calls-by t mem run fm q c x-first span height halved carried (known (to 𝓤 H A mem run q c x-first span height halved carried))
+  calls t mem run fm known q c x-first span halved carried = calls-by t mem run fm q c x-first span halved carried (known (to 𝓤 H A mem run q c x-first span halved carried))
 
 module _ {M : Type 1} {𝓤 : URA M} {H : Heap 𝓤} {A : Atoms 𝓤} {K : Type 0} {W : Given 𝓤 H A} {Γ : List (Item 𝓤)} {E : Env 𝓤 H} {C : Calls 𝓤 H} {Λ : Loops 𝓤 H} {Q : Post 𝓤 H} {xs : List Operand} {d : Place} where
   -- by one instance of the callee's contract, which is what a function that calls itself has. The call ends a part of the code
-  pub calls-last-by : K → (mem : Memory → SProp 𝓤) (run : Routine → Fun 𝓤) → FmC 𝓤 H (W .laws) C → (q : Part) (c : ℕ) (x-first : ℕ) (span : ℕ) (height : ℕ) (halved : ℕ) (carried : ℕ) → ent 𝓤 (Asked 𝓤 H A mem run .pre (to 𝓤 H A mem run q c x-first span height halved carried)) (C #callee (Asked 𝓤 H A mem run .args (to 𝓤 H A mem run q c x-first span height halved carried)) (Asked 𝓤 H A mem run .post (to 𝓤 H A mem run q c x-first span height halved carried))) → Is Part′.row q (Part′.vals q) → Is u64 c (uint-vals w64 c) → Is u64 x-first (uint-vals w64 x-first) → Is u64 span (uint-vals w64 span) → Is u64 height (uint-vals w64 height) → Is u64 halved (uint-vals w64 halved) → Is u64 carried (uint-vals w64 carried) → place-of″.req q c x-first span height halved carried →
-      Opds K W (raw (Asked 𝓤 H A mem run .pre (to 𝓤 H A mem run q c x-first span height halved carried)) ∷ Γ) E xs (Part′.mach q ∷ vint w64 c ∷ vint w64 x-first ∷ vint w64 span ∷ vint w64 height ∷ vint w64 halved ∷ vint w64 carried ∷ [])
-      → ((x·res : ℕ) → Is u64 x·res (uint-vals w64 x·res) → place-of″.ens q c x-first span height halved carried x·res → Seq K W (Γ) (settles E d (vint w64 x·res) Q))
+  pub calls-last-by : K → (mem : Memory → SProp 𝓤) (run : Routine → Fun 𝓤) → FmC 𝓤 H (W .laws) C → (q : Part) (c : ℕ) (x-first : ℕ) (span : ℕ) (halved : ℕ) (carried : ℕ) → ent 𝓤 (Asked 𝓤 H A mem run .pre (to 𝓤 H A mem run q c x-first span halved carried)) (C #callee (Asked 𝓤 H A mem run .args (to 𝓤 H A mem run q c x-first span halved carried)) (Asked 𝓤 H A mem run .post (to 𝓤 H A mem run q c x-first span halved carried))) → Is Part′.row q (Part′.vals q) → Is u64 c (uint-vals w64 c) → Is u64 x-first (uint-vals w64 x-first) → Is u64 span (uint-vals w64 span) → Is u64 halved (uint-vals w64 halved) → Is u64 carried (uint-vals w64 carried) → place-of″.req q c x-first span halved carried →
+      Opds K W (raw (Asked 𝓤 H A mem run .pre (to 𝓤 H A mem run q c x-first span halved carried)) ∷ Γ) E xs (Part′.mach q ∷ vint w64 c ∷ vint w64 x-first ∷ vint w64 span ∷ vint w64 halved ∷ vint w64 carried ∷ [])
+      → ((x·res : ℕ) → Is u64 x·res (uint-vals w64 x·res) → place-of″.ens q c x-first span halved carried x·res → Seq K W (Γ) (settles E d (vint w64 x·res) Q))
       → Seq K W (Γ) (runs C Λ E (call #callee xs d) Q)
-  calls-last-by t mem run fm q c x-first span height halved carried known ok·q ok·c ok·x-first ok·span ok·height ok·halved ok·carried need os k =
-      core t mem run q c x-first span height halved carried (runs C Λ E (call #callee xs d) Q) (λ v. settles E d v Q) (λ v. tt)
-      (λ h. calls-from-last t fm (raw (Asked 𝓤 H A mem run .pre (to 𝓤 H A mem run q c x-first span height halved carried))) (Asked 𝓤 H A mem run .args (to 𝓤 H A mem run q c x-first span height halved carried)) (Asked 𝓤 H A mem run .post (to 𝓤 H A mem run q c x-first span height halved carried)) known os h) ok·q ok·c ok·x-first ok·span ok·height ok·halved ok·carried need k
+  calls-last-by t mem run fm q c x-first span halved carried known ok·q ok·c ok·x-first ok·span ok·halved ok·carried need os k =
+      core t mem run q c x-first span halved carried (runs C Λ E (call #callee xs d) Q) (λ v. settles E d v Q) (λ v. tt)
+      (λ h. calls-from-last t fm (raw (Asked 𝓤 H A mem run .pre (to 𝓤 H A mem run q c x-first span halved carried))) (Asked 𝓤 H A mem run .args (to 𝓤 H A mem run q c x-first span halved carried)) (Asked 𝓤 H A mem run .post (to 𝓤 H A mem run q c x-first span halved carried)) known os h) ok·q ok·c ok·x-first ok·span ok·halved ok·carried need k
 
-  pub calls-last : K → (mem : Memory → SProp 𝓤) (run : Routine → Fun 𝓤) → FmC 𝓤 H (W .laws) C → Triple 𝓤 (C #callee) (Asked 𝓤 H A mem run) → (q : Part) (c : ℕ) (x-first : ℕ) (span : ℕ) (height : ℕ) (halved : ℕ) (carried : ℕ) → Is Part′.row q (Part′.vals q) → Is u64 c (uint-vals w64 c) → Is u64 x-first (uint-vals w64 x-first) → Is u64 span (uint-vals w64 span) → Is u64 height (uint-vals w64 height) → Is u64 halved (uint-vals w64 halved) → Is u64 carried (uint-vals w64 carried) → place-of″.req q c x-first span height halved carried →
-      Opds K W (raw (Asked 𝓤 H A mem run .pre (to 𝓤 H A mem run q c x-first span height halved carried)) ∷ Γ) E xs (Part′.mach q ∷ vint w64 c ∷ vint w64 x-first ∷ vint w64 span ∷ vint w64 height ∷ vint w64 halved ∷ vint w64 carried ∷ [])
-      → ((x·res : ℕ) → Is u64 x·res (uint-vals w64 x·res) → place-of″.ens q c x-first span height halved carried x·res → Seq K W (Γ) (settles E d (vint w64 x·res) Q))
+  pub calls-last : K → (mem : Memory → SProp 𝓤) (run : Routine → Fun 𝓤) → FmC 𝓤 H (W .laws) C → Triple 𝓤 (C #callee) (Asked 𝓤 H A mem run) → (q : Part) (c : ℕ) (x-first : ℕ) (span : ℕ) (halved : ℕ) (carried : ℕ) → Is Part′.row q (Part′.vals q) → Is u64 c (uint-vals w64 c) → Is u64 x-first (uint-vals w64 x-first) → Is u64 span (uint-vals w64 span) → Is u64 halved (uint-vals w64 halved) → Is u64 carried (uint-vals w64 carried) → place-of″.req q c x-first span halved carried →
+      Opds K W (raw (Asked 𝓤 H A mem run .pre (to 𝓤 H A mem run q c x-first span halved carried)) ∷ Γ) E xs (Part′.mach q ∷ vint w64 c ∷ vint w64 x-first ∷ vint w64 span ∷ vint w64 halved ∷ vint w64 carried ∷ [])
+      → ((x·res : ℕ) → Is u64 x·res (uint-vals w64 x·res) → place-of″.ens q c x-first span halved carried x·res → Seq K W (Γ) (settles E d (vint w64 x·res) Q))
       → Seq K W (Γ) (runs C Λ E (call #callee xs d) Q)
-  calls-last t mem run fm known q c x-first span height halved carried = calls-last-by t mem run fm q c x-first span height halved carried (known (to 𝓤 H A mem run q c x-first span height halved carried))
+  calls-last t mem run fm known q c x-first span halved carried = calls-last-by t mem run fm q c x-first span halved carried (known (to 𝓤 H A mem run q c x-first span halved carried))

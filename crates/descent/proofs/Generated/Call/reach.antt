@@ -50,54 +50,54 @@ module _ {M : Type 1} (𝓤 : URA M) (H : Heap 𝓤) (A : Atoms 𝓤) (mem : Mem
   abbrev pub Asked : Contract 𝓤
   Asked = tripleOf 𝓤 H A callee.signature (callee.spec 𝓤 H A mem run)
 
-  abbrev pub to : (κ₂·register : Lft) (q₂·register : Share) (b₂·register o₂·register : ℕ) (γ₂·register : GName) (κ·register : Lft) (q·register : Share) (b·register o·register : ℕ) (γ·register : GName) (register : List Record) (long·register : κ₂·register ⊑ κ·register) (κ₂·nodes : Lft) (q₂·nodes : Share) (b₂·nodes o₂·nodes : ℕ) (γ₂·nodes : GName) (κ·nodes : Lft) (q·nodes : Share) (b·nodes o·nodes : ℕ) (γ·nodes : GName) (nodes : List ℕ) (long·nodes : κ₂·nodes ⊑ κ·nodes) (c : ℕ) (page : ℕ) (x-first : ℕ) (span : ℕ) (height : ℕ) (halved : ℕ) (carried : ℕ) (x-to : ℕ) → Asked .Ghost
-  to κ₂·register q₂·register b₂·register o₂·register γ₂·register κ·register q·register b·register o·register γ·register register long·register κ₂·nodes q₂·nodes b₂·nodes o₂·nodes γ₂·nodes κ·nodes q·nodes b·nodes o·nodes γ·nodes nodes long·nodes c page x-first span height halved carried x-to = (((κ₂·register, (κ·register, (κ₂·nodes, (κ·nodes, tt)))), (q₂·register, (q·register, (q₂·nodes, (q·nodes, tt)))), (long·register, (long·nodes, tt)), (ref-to b₂·register o₂·register γ₂·register (ref b·register o·register γ·register register), (ref-to b₂·nodes o₂·nodes γ₂·nodes (ref b·nodes o·nodes γ·nodes nodes), (c, (page, (x-first, (span, (height, (halved, (carried, (x-to, tt)))))))))), (vptr b₂·register o₂·register ∷ [], (vptr b₂·nodes o₂·nodes ∷ [], (vint w64 c ∷ [], (vint w64 page ∷ [], (vint w64 x-first ∷ [], (vint w64 span ∷ [], (vint w64 height ∷ [], (vint w64 halved ∷ [], (vint w64 carried ∷ [], (vint w64 x-to ∷ [], tt))))))))))), tt)
+  abbrev pub to : (κ₂·register : Lft) (q₂·register : Share) (b₂·register o₂·register : ℕ) (γ₂·register : GName) (κ·register : Lft) (q·register : Share) (b·register o·register : ℕ) (γ·register : GName) (register : List Record) (long·register : κ₂·register ⊑ κ·register) (κ₂·nodes : Lft) (q₂·nodes : Share) (b₂·nodes o₂·nodes : ℕ) (γ₂·nodes : GName) (κ·nodes : Lft) (q·nodes : Share) (b·nodes o·nodes : ℕ) (γ·nodes : GName) (nodes : List ℕ) (long·nodes : κ₂·nodes ⊑ κ·nodes) (c : ℕ) (page : ℕ) (x-first : ℕ) (span : ℕ) (halved : ℕ) (carried : ℕ) (x-to : ℕ) → Asked .Ghost
+  to κ₂·register q₂·register b₂·register o₂·register γ₂·register κ·register q·register b·register o·register γ·register register long·register κ₂·nodes q₂·nodes b₂·nodes o₂·nodes γ₂·nodes κ·nodes q·nodes b·nodes o·nodes γ·nodes nodes long·nodes c page x-first span halved carried x-to = (((κ₂·register, (κ·register, (κ₂·nodes, (κ·nodes, tt)))), (q₂·register, (q·register, (q₂·nodes, (q·nodes, tt)))), (long·register, (long·nodes, tt)), (ref-to b₂·register o₂·register γ₂·register (ref b·register o·register γ·register register), (ref-to b₂·nodes o₂·nodes γ₂·nodes (ref b·nodes o·nodes γ·nodes nodes), (c, (page, (x-first, (span, (halved, (carried, (x-to, tt))))))))), (vptr b₂·register o₂·register ∷ [], (vptr b₂·nodes o₂·nodes ∷ [], (vint w64 c ∷ [], (vint w64 page ∷ [], (vint w64 x-first ∷ [], (vint w64 span ∷ [], (vint w64 halved ∷ [], (vint w64 carried ∷ [], (vint w64 x-to ∷ [], tt)))))))))), tt)
 
 module _ {M : Type 1} {𝓤 : URA M} {H : Heap 𝓤} {A : Atoms 𝓤} {K : Type 0} {W : Given 𝓤 H A} {Γ : List (Item 𝓤)} where
   -- the call itself is made by `by-call`, from what the callee asks to what it has ensured
-  core : K → (mem : Memory → SProp 𝓤) (run : Routine → Fun 𝓤) → (κ₂·register : Lft) (q₂·register : Share) (b₂·register o₂·register : ℕ) (γ₂·register : GName) (κ·register : Lft) (q·register : Share) (b·register o·register : ℕ) (γ·register : GName) (register : List Record) (long·register : κ₂·register ⊑ κ·register) (κ₂·nodes : Lft) (q₂·nodes : Share) (b₂·nodes o₂·nodes : ℕ) (γ₂·nodes : GName) (κ·nodes : Lft) (q·nodes : Share) (b·nodes o·nodes : ℕ) (γ·nodes : GName) (nodes : List ℕ) (long·nodes : κ₂·nodes ⊑ κ·nodes) (c : ℕ) (page : ℕ) (x-first : ℕ) (span : ℕ) (height : ℕ) (halved : ℕ) (carried : ℕ) (x-to : ℕ) → (G : Goal 𝓤 H) (after : Val → Goal 𝓤 H) → ((v : Val) → Soaks (after v))
-      → (((v : Val) → Seq K W (raw (Asked 𝓤 H A mem run .post (to 𝓤 H A mem run κ₂·register q₂·register b₂·register o₂·register γ₂·register κ·register q·register b·register o·register γ·register register long·register κ₂·nodes q₂·nodes b₂·nodes o₂·nodes γ₂·nodes κ·nodes q·nodes b·nodes o·nodes γ·nodes nodes long·nodes c page x-first span height halved carried x-to) v) ∷ ‵ (RefAt Record′.row κ₂·register b₂·register o₂·register γ₂·register κ·register b·register o·register γ·register register) ∷ ‵ (RefAt u32 κ₂·nodes b₂·nodes o₂·nodes γ₂·nodes κ·nodes b·nodes o·nodes γ·nodes nodes) ∷ Γ) (after v)) → Seq K W (raw (Asked 𝓤 H A mem run .pre (to 𝓤 H A mem run κ₂·register q₂·register b₂·register o₂·register γ₂·register κ·register q·register b·register o·register γ·register register long·register κ₂·nodes q₂·nodes b₂·nodes o₂·nodes γ₂·nodes κ·nodes q·nodes b·nodes o·nodes γ·nodes nodes long·nodes c page x-first span height halved carried x-to)) ∷ ‵ (RefAt Record′.row κ₂·register b₂·register o₂·register γ₂·register κ·register b·register o·register γ·register register) ∷ ‵ (RefAt u32 κ₂·nodes b₂·nodes o₂·nodes γ₂·nodes κ·nodes b·nodes o·nodes γ·nodes nodes) ∷ Γ) G) → Is u64 c (uint-vals w64 c) → Is u64 page (uint-vals w64 page) → Is u64 x-first (uint-vals w64 x-first) → Is u64 span (uint-vals w64 span) → Is u64 height (uint-vals w64 height) → Is u64 halved (uint-vals w64 halved) → Is u64 carried (uint-vals w64 carried) → Is u64 x-to (uint-vals w64 x-to) → reach″.req register nodes c page x-first span height halved carried x-to →
-      (Is u64 (reach″.res register nodes c page x-first span height halved carried x-to) (uint-vals w64 (reach″.res register nodes c page x-first span height halved carried x-to)) → Seq K W (‵ (flft κ₂·register q₂·register) ∷ ‵ (RefAt Record′.row κ₂·register b₂·register o₂·register γ₂·register κ·register b·register o·register γ·register register) ∷ ‵ (flft κ·register q·register) ∷ ‵ (flft κ₂·nodes q₂·nodes) ∷ ‵ (RefAt u32 κ₂·nodes b₂·nodes o₂·nodes γ₂·nodes κ·nodes b·nodes o·nodes γ·nodes nodes) ∷ ‵ (flft κ·nodes q·nodes) ∷ Γ) (after (vint w64 (reach″.res register nodes c page x-first span height halved carried x-to)))) → Seq K W (‵ (flft κ₂·register q₂·register) ∷ ‵ (RefAt Record′.row κ₂·register b₂·register o₂·register γ₂·register κ·register b·register o·register γ·register register) ∷ ‵ (flft κ·register q·register) ∷ ‵ (flft κ₂·nodes q₂·nodes) ∷ ‵ (RefAt u32 κ₂·nodes b₂·nodes o₂·nodes γ₂·nodes κ·nodes b·nodes o·nodes γ·nodes nodes) ∷ ‵ (flft κ·nodes q·nodes) ∷ Γ) G
-  core t mem run κ₂·register q₂·register b₂·register o₂·register γ₂·register κ·register q·register b·register o·register γ·register register long·register κ₂·nodes q₂·nodes b₂·nodes o₂·nodes γ₂·nodes κ·nodes q·nodes b·nodes o·nodes γ·nodes nodes long·nodes c page x-first span height halved carried x-to G after soaks by-call ok·c ok·page ok·x-first ok·span ok·height ok·halved ok·carried ok·x-to need k =
+  core : K → (mem : Memory → SProp 𝓤) (run : Routine → Fun 𝓤) → (κ₂·register : Lft) (q₂·register : Share) (b₂·register o₂·register : ℕ) (γ₂·register : GName) (κ·register : Lft) (q·register : Share) (b·register o·register : ℕ) (γ·register : GName) (register : List Record) (long·register : κ₂·register ⊑ κ·register) (κ₂·nodes : Lft) (q₂·nodes : Share) (b₂·nodes o₂·nodes : ℕ) (γ₂·nodes : GName) (κ·nodes : Lft) (q·nodes : Share) (b·nodes o·nodes : ℕ) (γ·nodes : GName) (nodes : List ℕ) (long·nodes : κ₂·nodes ⊑ κ·nodes) (c : ℕ) (page : ℕ) (x-first : ℕ) (span : ℕ) (halved : ℕ) (carried : ℕ) (x-to : ℕ) → (G : Goal 𝓤 H) (after : Val → Goal 𝓤 H) → ((v : Val) → Soaks (after v))
+      → (((v : Val) → Seq K W (raw (Asked 𝓤 H A mem run .post (to 𝓤 H A mem run κ₂·register q₂·register b₂·register o₂·register γ₂·register κ·register q·register b·register o·register γ·register register long·register κ₂·nodes q₂·nodes b₂·nodes o₂·nodes γ₂·nodes κ·nodes q·nodes b·nodes o·nodes γ·nodes nodes long·nodes c page x-first span halved carried x-to) v) ∷ ‵ (RefAt Record′.row κ₂·register b₂·register o₂·register γ₂·register κ·register b·register o·register γ·register register) ∷ ‵ (RefAt u32 κ₂·nodes b₂·nodes o₂·nodes γ₂·nodes κ·nodes b·nodes o·nodes γ·nodes nodes) ∷ Γ) (after v)) → Seq K W (raw (Asked 𝓤 H A mem run .pre (to 𝓤 H A mem run κ₂·register q₂·register b₂·register o₂·register γ₂·register κ·register q·register b·register o·register γ·register register long·register κ₂·nodes q₂·nodes b₂·nodes o₂·nodes γ₂·nodes κ·nodes q·nodes b·nodes o·nodes γ·nodes nodes long·nodes c page x-first span halved carried x-to)) ∷ ‵ (RefAt Record′.row κ₂·register b₂·register o₂·register γ₂·register κ·register b·register o·register γ·register register) ∷ ‵ (RefAt u32 κ₂·nodes b₂·nodes o₂·nodes γ₂·nodes κ·nodes b·nodes o·nodes γ·nodes nodes) ∷ Γ) G) → Is u64 c (uint-vals w64 c) → Is u64 page (uint-vals w64 page) → Is u64 x-first (uint-vals w64 x-first) → Is u64 span (uint-vals w64 span) → Is u64 halved (uint-vals w64 halved) → Is u64 carried (uint-vals w64 carried) → Is u64 x-to (uint-vals w64 x-to) → reach″.req register nodes c page x-first span halved carried x-to →
+      ((x·res : ℕ) → Is u64 x·res (uint-vals w64 x·res) → reach″.ens register nodes c page x-first span halved carried x-to x·res → Seq K W (‵ (flft κ₂·register q₂·register) ∷ ‵ (RefAt Record′.row κ₂·register b₂·register o₂·register γ₂·register κ·register b·register o·register γ·register register) ∷ ‵ (flft κ·register q·register) ∷ ‵ (flft κ₂·nodes q₂·nodes) ∷ ‵ (RefAt u32 κ₂·nodes b₂·nodes o₂·nodes γ₂·nodes κ·nodes b·nodes o·nodes γ·nodes nodes) ∷ ‵ (flft κ·nodes q·nodes) ∷ Γ) (after (vint w64 x·res))) → Seq K W (‵ (flft κ₂·register q₂·register) ∷ ‵ (RefAt Record′.row κ₂·register b₂·register o₂·register γ₂·register κ·register b·register o·register γ·register register) ∷ ‵ (flft κ·register q·register) ∷ ‵ (flft κ₂·nodes q₂·nodes) ∷ ‵ (RefAt u32 κ₂·nodes b₂·nodes o₂·nodes γ₂·nodes κ·nodes b·nodes o·nodes γ·nodes nodes) ∷ ‵ (flft κ·nodes q·nodes) ∷ Γ) G
+  core t mem run κ₂·register q₂·register b₂·register o₂·register γ₂·register κ·register q·register b·register o·register γ·register register long·register κ₂·nodes q₂·nodes b₂·nodes o₂·nodes γ₂·nodes κ·nodes q·nodes b·nodes o·nodes γ·nodes nodes long·nodes c page x-first span halved carried x-to G after soaks by-call ok·c ok·page ok·x-first ok·span ok·halved ok·carried ok·x-to need k =
       move t (1 ∷ []) $ keeps-ref t Record′.row κ₂·register b₂·register o₂·register γ₂·register κ·register b·register o·register γ·register register $ move t (5 ∷ []) $ keeps-ref t u32 κ₂·nodes b₂·nodes o₂·nodes γ₂·nodes κ·nodes b·nodes o·nodes γ·nodes nodes $ move t (4 ∷ 2 ∷ 5 ∷ 6 ∷ 0 ∷ 7 ∷ 3 ∷ 1 ∷ []) $
-      move t (4 ∷ 5 ∷ []) $ join t $ move t (4 ∷ 0 ∷ []) $ join t $ move t (3 ∷ 0 ∷ []) $ join t $ move t (2 ∷ 0 ∷ []) $ join t $ move t (1 ∷ 0 ∷ []) $ join t $ use1 W (raw (Asked 𝓤 H A mem run .pre (to 𝓤 H A mem run κ₂·register q₂·register b₂·register o₂·register γ₂·register κ·register q·register b·register o·register γ·register register long·register κ₂·nodes q₂·nodes b₂·nodes o₂·nodes γ₂·nodes κ·nodes q·nodes b·nodes o·nodes γ·nodes nodes long·nodes c page x-first span height halved carried x-to))) goes $
+      move t (4 ∷ 5 ∷ []) $ join t $ move t (4 ∷ 0 ∷ []) $ join t $ move t (3 ∷ 0 ∷ []) $ join t $ move t (2 ∷ 0 ∷ []) $ join t $ move t (1 ∷ 0 ∷ []) $ join t $ use1 W (raw (Asked 𝓤 H A mem run .pre (to 𝓤 H A mem run κ₂·register q₂·register b₂·register o₂·register γ₂·register κ·register q·register b·register o·register γ·register register long·register κ₂·nodes q₂·nodes b₂·nodes o₂·nodes γ₂·nodes κ·nodes q·nodes b·nodes o·nodes γ·nodes nodes long·nodes c page x-first span halved carried x-to))) goes $
       by-call (λ v.
-      use1 W (later (some (λ (r· : ℕ). ((‵ (flft κ₂·register q₂·register) ⊛ ‵ (flft κ·register q·register) ⊛ ‵ (flft κ₂·nodes q₂·nodes) ⊛ ‵ (flft κ·nodes q·nodes) ⊛ ‵ ftrue) ⊛ ‵ (u64 .own r· (v ∷ []))) ⊛ raw (ensured 𝓤 H A callee.ended (callee.clauses 𝓤 H A mem run) (κ₂·register, (κ·register, (κ₂·nodes, (κ·nodes, tt)))) (ref-to b₂·register o₂·register γ₂·register (ref b·register o·register γ·register register), (ref-to b₂·nodes o₂·nodes γ₂·nodes (ref b·nodes o·nodes γ·nodes nodes), (c, (page, (x-first, (span, (height, (halved, (carried, (x-to, tt)))))))))) tt r·)))) (id⊢ 𝓤 _) $ await t (soaks v) $ pick t (λ r·. split t $ move t (1 ∷ []) $
-      use1 W (some (λ (ws : Lasts callee.ended (κ₂·register, (κ·register, (κ₂·nodes, (κ·nodes, tt)))) (ref-to b₂·register o₂·register γ₂·register (ref b·register o·register γ·register register), (ref-to b₂·nodes o₂·nodes γ₂·nodes (ref b·nodes o·nodes γ·nodes nodes), (c, (page, (x-first, (span, (height, (halved, (carried, (x-to, tt))))))))))). ‵ (lasts callee.ended (κ₂·register, (κ·register, (κ₂·nodes, (κ·nodes, tt)))) (ref-to b₂·register o₂·register γ₂·register (ref b·register o·register γ·register register), (ref-to b₂·nodes o₂·nodes γ₂·nodes (ref b·nodes o·nodes γ·nodes nodes), (c, (page, (x-first, (span, (height, (halved, (carried, (x-to, tt)))))))))) ws) ⊛ raw (fact 𝓤 (reach″.ens register nodes c page x-first span height halved carried x-to r·)))) (id⊢ 𝓤 _) $ pick t (λ ws. split t $ move t (1 ∷ []) $
-      heard t (reach″.ens register nodes c page x-first span height halved carried x-to r·) (λ e. drop t $ split t $ move t (1 ∷ []) $ facts t u64 (Is u64) (shows 𝓤 H A u64) r· (v ∷ []) (λ is. split t $ move t (1 ∷ []) $ split t $ move t (1 ∷ []) $ split t $ move t (1 ∷ []) $ split t $ move t (1 ∷ []) $ drop t $ move t (3 ∷ 4 ∷ 2 ∷ 1 ∷ 5 ∷ 0 ∷ []) $
-      subst (λ (u : Val). Seq K W (‵ (flft κ₂·register q₂·register) ∷ ‵ (RefAt Record′.row κ₂·register b₂·register o₂·register γ₂·register κ·register b·register o·register γ·register register) ∷ ‵ (flft κ·register q·register) ∷ ‵ (flft κ₂·nodes q₂·nodes) ∷ ‵ (RefAt u32 κ₂·nodes b₂·nodes o₂·nodes γ₂·nodes κ·nodes b·nodes o·nodes γ·nodes nodes) ∷ ‵ (flft κ·nodes q·nodes) ∷ Γ) (after u)) (sym (ap only (uint-tells w64 r· (v ∷ []) is) ∙ ap (λ (z : ℕ). vint w64 z) (e))) (k (subst (λ (z : ℕ). Is u64 z (uint-vals w64 z)) (e) (subst (Is u64 r·) (uint-tells w64 r· (v ∷ []) is) is))))))))
+      use1 W (later (some (λ (r· : ℕ). ((‵ (flft κ₂·register q₂·register) ⊛ ‵ (flft κ·register q·register) ⊛ ‵ (flft κ₂·nodes q₂·nodes) ⊛ ‵ (flft κ·nodes q·nodes) ⊛ ‵ ftrue) ⊛ ‵ (u64 .own r· (v ∷ []))) ⊛ raw (ensured 𝓤 H A callee.ended (callee.clauses 𝓤 H A mem run) (κ₂·register, (κ·register, (κ₂·nodes, (κ·nodes, tt)))) (ref-to b₂·register o₂·register γ₂·register (ref b·register o·register γ·register register), (ref-to b₂·nodes o₂·nodes γ₂·nodes (ref b·nodes o·nodes γ·nodes nodes), (c, (page, (x-first, (span, (halved, (carried, (x-to, tt))))))))) tt r·)))) (id⊢ 𝓤 _) $ await t (soaks v) $ pick t (λ r·. split t $ move t (1 ∷ []) $
+      use1 W (some (λ (ws : Lasts callee.ended (κ₂·register, (κ·register, (κ₂·nodes, (κ·nodes, tt)))) (ref-to b₂·register o₂·register γ₂·register (ref b·register o·register γ·register register), (ref-to b₂·nodes o₂·nodes γ₂·nodes (ref b·nodes o·nodes γ·nodes nodes), (c, (page, (x-first, (span, (halved, (carried, (x-to, tt)))))))))). ‵ (lasts callee.ended (κ₂·register, (κ·register, (κ₂·nodes, (κ·nodes, tt)))) (ref-to b₂·register o₂·register γ₂·register (ref b·register o·register γ·register register), (ref-to b₂·nodes o₂·nodes γ₂·nodes (ref b·nodes o·nodes γ·nodes nodes), (c, (page, (x-first, (span, (halved, (carried, (x-to, tt))))))))) ws) ⊛ raw (fact 𝓤 (reach″.ens register nodes c page x-first span halved carried x-to r·)))) (id⊢ 𝓤 _) $ pick t (λ ws. split t $ move t (1 ∷ []) $
+      heard t (reach″.ens register nodes c page x-first span halved carried x-to r·) (λ e. drop t $ split t $ move t (1 ∷ []) $ facts t u64 (Is u64) (shows 𝓤 H A u64) r· (v ∷ []) (λ is. split t $ move t (1 ∷ []) $ split t $ move t (1 ∷ []) $ split t $ move t (1 ∷ []) $ split t $ move t (1 ∷ []) $ drop t $ move t (3 ∷ 4 ∷ 2 ∷ 1 ∷ 5 ∷ 0 ∷ []) $
+      subst (λ (u : Val). Seq K W (‵ (flft κ₂·register q₂·register) ∷ ‵ (RefAt Record′.row κ₂·register b₂·register o₂·register γ₂·register κ·register b·register o·register γ·register register) ∷ ‵ (flft κ·register q·register) ∷ ‵ (flft κ₂·nodes q₂·nodes) ∷ ‵ (RefAt u32 κ₂·nodes b₂·nodes o₂·nodes γ₂·nodes κ·nodes b·nodes o·nodes γ·nodes nodes) ∷ ‵ (flft κ·nodes q·nodes) ∷ Γ) (after u)) (sym (ap only (uint-tells w64 r· (v ∷ []) is))) (k r· (subst (Is u64 r·) (uint-tells w64 r· (v ∷ []) is) is) e))))))
     where
-      goes : ent 𝓤 (⋆ 𝓤 H A (‵ (flft κ₂·register q₂·register) ∷ ‵ (RefAt Record′.row κ₂·register b₂·register o₂·register γ₂·register κ·register b·register o·register γ·register register) ∷ ‵ (flft κ·register q·register) ∷ ‵ (flft κ₂·nodes q₂·nodes) ∷ ‵ (RefAt u32 κ₂·nodes b₂·nodes o₂·nodes γ₂·nodes κ·nodes b·nodes o·nodes γ·nodes nodes) ∷ ‵ (flft κ·nodes q·nodes) ∷ [])) (Asked 𝓤 H A mem run .pre (to 𝓤 H A mem run κ₂·register q₂·register b₂·register o₂·register γ₂·register κ·register q·register b·register o·register γ·register register long·register κ₂·nodes q₂·nodes b₂·nodes o₂·nodes γ₂·nodes κ·nodes q·nodes b·nodes o·nodes γ·nodes nodes long·nodes c page x-first span height halved carried x-to))
-      goes = qed W (‵ (flft κ₂·register q₂·register) ∷ ‵ (RefAt Record′.row κ₂·register b₂·register o₂·register γ₂·register κ·register b·register o·register γ·register register) ∷ ‵ (flft κ·register q·register) ∷ ‵ (flft κ₂·nodes q₂·nodes) ∷ ‵ (RefAt u32 κ₂·nodes b₂·nodes o₂·nodes γ₂·nodes κ·nodes b·nodes o·nodes γ·nodes nodes) ∷ ‵ (flft κ·nodes q·nodes) ∷ []) ∵ says ! need $ nothing ! $ move ! (6 ∷ 0 ∷ []) $ join ! $ move ! (4 ∷ 0 ∷ []) $ join ! $ move ! (3 ∷ 0 ∷ []) $ join ! $ move ! (1 ∷ 0 ∷ []) $ join ! $ frame ! $ nothing ! $ owned ! u64 (Is u64) (uint-makes 𝓤 H A W w64) x-to _ ok·x-to $ fjoin ! $ owned ! u64 (Is u64) (uint-makes 𝓤 H A W w64) carried _ ok·carried $ fjoin ! $ owned ! u64 (Is u64) (uint-makes 𝓤 H A W w64) halved _ ok·halved $ fjoin ! $ owned ! u64 (Is u64) (uint-makes 𝓤 H A W w64) height _ ok·height $ fjoin ! $ owned ! u64 (Is u64) (uint-makes 𝓤 H A W w64) span _ ok·span $ fjoin ! $ owned ! u64 (Is u64) (uint-makes 𝓤 H A W w64) x-first _ ok·x-first $ fjoin ! $ owned ! u64 (Is u64) (uint-makes 𝓤 H A W w64) page _ ok·page $ fjoin ! $ owned ! u64 (Is u64) (uint-makes 𝓤 H A W w64) c _ ok·c $ fjoin ! $ move ! (2 ∷ 0 ∷ []) $ fjoin ! $ move ! (1 ∷ 0 ∷ []) $ fjoin ! $ done !
+      goes : ent 𝓤 (⋆ 𝓤 H A (‵ (flft κ₂·register q₂·register) ∷ ‵ (RefAt Record′.row κ₂·register b₂·register o₂·register γ₂·register κ·register b·register o·register γ·register register) ∷ ‵ (flft κ·register q·register) ∷ ‵ (flft κ₂·nodes q₂·nodes) ∷ ‵ (RefAt u32 κ₂·nodes b₂·nodes o₂·nodes γ₂·nodes κ·nodes b·nodes o·nodes γ·nodes nodes) ∷ ‵ (flft κ·nodes q·nodes) ∷ [])) (Asked 𝓤 H A mem run .pre (to 𝓤 H A mem run κ₂·register q₂·register b₂·register o₂·register γ₂·register κ·register q·register b·register o·register γ·register register long·register κ₂·nodes q₂·nodes b₂·nodes o₂·nodes γ₂·nodes κ·nodes q·nodes b·nodes o·nodes γ·nodes nodes long·nodes c page x-first span halved carried x-to))
+      goes = qed W (‵ (flft κ₂·register q₂·register) ∷ ‵ (RefAt Record′.row κ₂·register b₂·register o₂·register γ₂·register κ·register b·register o·register γ·register register) ∷ ‵ (flft κ·register q·register) ∷ ‵ (flft κ₂·nodes q₂·nodes) ∷ ‵ (RefAt u32 κ₂·nodes b₂·nodes o₂·nodes γ₂·nodes κ·nodes b·nodes o·nodes γ·nodes nodes) ∷ ‵ (flft κ·nodes q·nodes) ∷ []) ∵ says ! need $ nothing ! $ move ! (6 ∷ 0 ∷ []) $ join ! $ move ! (4 ∷ 0 ∷ []) $ join ! $ move ! (3 ∷ 0 ∷ []) $ join ! $ move ! (1 ∷ 0 ∷ []) $ join ! $ frame ! $ nothing ! $ owned ! u64 (Is u64) (uint-makes 𝓤 H A W w64) x-to _ ok·x-to $ fjoin ! $ owned ! u64 (Is u64) (uint-makes 𝓤 H A W w64) carried _ ok·carried $ fjoin ! $ owned ! u64 (Is u64) (uint-makes 𝓤 H A W w64) halved _ ok·halved $ fjoin ! $ owned ! u64 (Is u64) (uint-makes 𝓤 H A W w64) span _ ok·span $ fjoin ! $ owned ! u64 (Is u64) (uint-makes 𝓤 H A W w64) x-first _ ok·x-first $ fjoin ! $ owned ! u64 (Is u64) (uint-makes 𝓤 H A W w64) page _ ok·page $ fjoin ! $ owned ! u64 (Is u64) (uint-makes 𝓤 H A W w64) c _ ok·c $ fjoin ! $ move ! (2 ∷ 0 ∷ []) $ fjoin ! $ move ! (1 ∷ 0 ∷ []) $ fjoin ! $ done !
 
 module _ {M : Type 1} {𝓤 : URA M} {H : Heap 𝓤} {A : Atoms 𝓤} {K : Type 0} {W : Given 𝓤 H A} {Γ : List (Item 𝓤)} {E : Env 𝓤 H} {C : Calls 𝓤 H} {Λ : Loops 𝓤 H} {Q : Post 𝓤 H} {xs : List Operand} {d : Place} {rest : Body} where
   -- by one instance of the callee's contract, which is what a function that calls itself has
-  pub calls-by : K → (mem : Memory → SProp 𝓤) (run : Routine → Fun 𝓤) → FmC 𝓤 H (W .laws) C → (κ₂·register : Lft) (q₂·register : Share) (b₂·register o₂·register : ℕ) (γ₂·register : GName) (κ·register : Lft) (q·register : Share) (b·register o·register : ℕ) (γ·register : GName) (register : List Record) (long·register : κ₂·register ⊑ κ·register) (κ₂·nodes : Lft) (q₂·nodes : Share) (b₂·nodes o₂·nodes : ℕ) (γ₂·nodes : GName) (κ·nodes : Lft) (q·nodes : Share) (b·nodes o·nodes : ℕ) (γ·nodes : GName) (nodes : List ℕ) (long·nodes : κ₂·nodes ⊑ κ·nodes) (c : ℕ) (page : ℕ) (x-first : ℕ) (span : ℕ) (height : ℕ) (halved : ℕ) (carried : ℕ) (x-to : ℕ) → ent 𝓤 (Asked 𝓤 H A mem run .pre (to 𝓤 H A mem run κ₂·register q₂·register b₂·register o₂·register γ₂·register κ·register q·register b·register o·register γ·register register long·register κ₂·nodes q₂·nodes b₂·nodes o₂·nodes γ₂·nodes κ·nodes q·nodes b·nodes o·nodes γ·nodes nodes long·nodes c page x-first span height halved carried x-to)) (C #callee (Asked 𝓤 H A mem run .args (to 𝓤 H A mem run κ₂·register q₂·register b₂·register o₂·register γ₂·register κ·register q·register b·register o·register γ·register register long·register κ₂·nodes q₂·nodes b₂·nodes o₂·nodes γ₂·nodes κ·nodes q·nodes b·nodes o·nodes γ·nodes nodes long·nodes c page x-first span height halved carried x-to)) (Asked 𝓤 H A mem run .post (to 𝓤 H A mem run κ₂·register q₂·register b₂·register o₂·register γ₂·register κ·register q·register b·register o·register γ·register register long·register κ₂·nodes q₂·nodes b₂·nodes o₂·nodes γ₂·nodes κ·nodes q·nodes b·nodes o·nodes γ·nodes nodes long·nodes c page x-first span height halved carried x-to))) → Is u64 c (uint-vals w64 c) → Is u64 page (uint-vals w64 page) → Is u64 x-first (uint-vals w64 x-first) → Is u64 span (uint-vals w64 span) → Is u64 height (uint-vals w64 height) → Is u64 halved (uint-vals w64 halved) → Is u64 carried (uint-vals w64 carried) → Is u64 x-to (uint-vals w64 x-to) → reach″.req register nodes c page x-first span height halved carried x-to →
-      Opds K W (raw (Asked 𝓤 H A mem run .pre (to 𝓤 H A mem run κ₂·register q₂·register b₂·register o₂·register γ₂·register κ·register q·register b·register o·register γ·register register long·register κ₂·nodes q₂·nodes b₂·nodes o₂·nodes γ₂·nodes κ·nodes q·nodes b·nodes o·nodes γ·nodes nodes long·nodes c page x-first span height halved carried x-to)) ∷ ‵ (RefAt Record′.row κ₂·register b₂·register o₂·register γ₂·register κ·register b·register o·register γ·register register) ∷ ‵ (RefAt u32 κ₂·nodes b₂·nodes o₂·nodes γ₂·nodes κ·nodes b·nodes o·nodes γ·nodes nodes) ∷ Γ) E xs (vptr b₂·register o₂·register ∷ vptr b₂·nodes o₂·nodes ∷ vint w64 c ∷ vint w64 page ∷ vint w64 x-first ∷ vint w64 span ∷ vint w64 height ∷ vint w64 halved ∷ vint w64 carried ∷ vint w64 x-to ∷ [])
-      → (Is u64 (reach″.res register nodes c page x-first span height halved carried x-to) (uint-vals w64 (reach″.res register nodes c page x-first span height halved carried x-to)) → Seq K W (‵ (flft κ₂·register q₂·register) ∷ ‵ (RefAt Record′.row κ₂·register b₂·register o₂·register γ₂·register κ·register b·register o·register γ·register register) ∷ ‵ (flft κ·register q·register) ∷ ‵ (flft κ₂·nodes q₂·nodes) ∷ ‵ (RefAt u32 κ₂·nodes b₂·nodes o₂·nodes γ₂·nodes κ·nodes b·nodes o·nodes γ·nodes nodes) ∷ ‵ (flft κ·nodes q·nodes) ∷ Γ) (lands C Λ E d (vint w64 (reach″.res register nodes c page x-first span height halved carried x-to)) rest Q))
+  pub calls-by : K → (mem : Memory → SProp 𝓤) (run : Routine → Fun 𝓤) → FmC 𝓤 H (W .laws) C → (κ₂·register : Lft) (q₂·register : Share) (b₂·register o₂·register : ℕ) (γ₂·register : GName) (κ·register : Lft) (q·register : Share) (b·register o·register : ℕ) (γ·register : GName) (register : List Record) (long·register : κ₂·register ⊑ κ·register) (κ₂·nodes : Lft) (q₂·nodes : Share) (b₂·nodes o₂·nodes : ℕ) (γ₂·nodes : GName) (κ·nodes : Lft) (q·nodes : Share) (b·nodes o·nodes : ℕ) (γ·nodes : GName) (nodes : List ℕ) (long·nodes : κ₂·nodes ⊑ κ·nodes) (c : ℕ) (page : ℕ) (x-first : ℕ) (span : ℕ) (halved : ℕ) (carried : ℕ) (x-to : ℕ) → ent 𝓤 (Asked 𝓤 H A mem run .pre (to 𝓤 H A mem run κ₂·register q₂·register b₂·register o₂·register γ₂·register κ·register q·register b·register o·register γ·register register long·register κ₂·nodes q₂·nodes b₂·nodes o₂·nodes γ₂·nodes κ·nodes q·nodes b·nodes o·nodes γ·nodes nodes long·nodes c page x-first span halved carried x-to)) (C #callee (Asked 𝓤 H A mem run .args (to 𝓤 H A mem run κ₂·register q₂·register b₂·register o₂·register γ₂·register κ·register q·register b·register o·register γ·register register long·register κ₂·nodes q₂·nodes b₂·nodes o₂·nodes γ₂·nodes κ·nodes q·nodes b·nodes o·nodes γ·nodes nodes long·nodes c page x-first span halved carried x-to)) (Asked 𝓤 H A mem run .post (to 𝓤 H A mem run κ₂·register q₂·register b₂·register o₂·register γ₂·register κ·register q·register b·register o·register γ·register register long·register κ₂·nodes q₂·nodes b₂·nodes o₂·nodes γ₂·nodes κ·nodes q·nodes b·nodes o·nodes γ·nodes nodes long·nodes c page x-first span halved carried x-to))) → Is u64 c (uint-vals w64 c) → Is u64 page (uint-vals w64 page) → Is u64 x-first (uint-vals w64 x-first) → Is u64 span (uint-vals w64 span) → Is u64 halved (uint-vals w64 halved) → Is u64 carried (uint-vals w64 carried) → Is u64 x-to (uint-vals w64 x-to) → reach″.req register nodes c page x-first span halved carried x-to →
+      Opds K W (raw (Asked 𝓤 H A mem run .pre (to 𝓤 H A mem run κ₂·register q₂·register b₂·register o₂·register γ₂·register κ·register q·register b·register o·register γ·register register long·register κ₂·nodes q₂·nodes b₂·nodes o₂·nodes γ₂·nodes κ·nodes q·nodes b·nodes o·nodes γ·nodes nodes long·nodes c page x-first span halved carried x-to)) ∷ ‵ (RefAt Record′.row κ₂·register b₂·register o₂·register γ₂·register κ·register b·register o·register γ·register register) ∷ ‵ (RefAt u32 κ₂·nodes b₂·nodes o₂·nodes γ₂·nodes κ·nodes b·nodes o·nodes γ·nodes nodes) ∷ Γ) E xs (vptr b₂·register o₂·register ∷ vptr b₂·nodes o₂·nodes ∷ vint w64 c ∷ vint w64 page ∷ vint w64 x-first ∷ vint w64 span ∷ vint w64 halved ∷ vint w64 carried ∷ vint w64 x-to ∷ [])
+      → ((x·res : ℕ) → Is u64 x·res (uint-vals w64 x·res) → reach″.ens register nodes c page x-first span halved carried x-to x·res → Seq K W (‵ (flft κ₂·register q₂·register) ∷ ‵ (RefAt Record′.row κ₂·register b₂·register o₂·register γ₂·register κ·register b·register o·register γ·register register) ∷ ‵ (flft κ·register q·register) ∷ ‵ (flft κ₂·nodes q₂·nodes) ∷ ‵ (RefAt u32 κ₂·nodes b₂·nodes o₂·nodes γ₂·nodes κ·nodes b·nodes o·nodes γ·nodes nodes) ∷ ‵ (flft κ·nodes q·nodes) ∷ Γ) (lands C Λ E d (vint w64 x·res) rest Q))
       → Seq K W (‵ (flft κ₂·register q₂·register) ∷ ‵ (RefAt Record′.row κ₂·register b₂·register o₂·register γ₂·register κ·register b·register o·register γ·register register) ∷ ‵ (flft κ·register q·register) ∷ ‵ (flft κ₂·nodes q₂·nodes) ∷ ‵ (RefAt u32 κ₂·nodes b₂·nodes o₂·nodes γ₂·nodes κ·nodes b·nodes o·nodes γ·nodes nodes) ∷ ‵ (flft κ·nodes q·nodes) ∷ Γ) (runs C Λ E (seq (call #callee xs d) rest) Q)
-  calls-by t mem run fm κ₂·register q₂·register b₂·register o₂·register γ₂·register κ·register q·register b·register o·register γ·register register long·register κ₂·nodes q₂·nodes b₂·nodes o₂·nodes γ₂·nodes κ·nodes q·nodes b·nodes o·nodes γ·nodes nodes long·nodes c page x-first span height halved carried x-to known ok·c ok·page ok·x-first ok·span ok·height ok·halved ok·carried ok·x-to need os k =
-      core t mem run κ₂·register q₂·register b₂·register o₂·register γ₂·register κ·register q·register b·register o·register γ·register register long·register κ₂·nodes q₂·nodes b₂·nodes o₂·nodes γ₂·nodes κ·nodes q·nodes b·nodes o·nodes γ·nodes nodes long·nodes c page x-first span height halved carried x-to (runs C Λ E (seq (call #callee xs d) rest) Q) (λ v. lands C Λ E d v rest Q) (λ v. tt)
-      (λ h. calls-from t fm (raw (Asked 𝓤 H A mem run .pre (to 𝓤 H A mem run κ₂·register q₂·register b₂·register o₂·register γ₂·register κ·register q·register b·register o·register γ·register register long·register κ₂·nodes q₂·nodes b₂·nodes o₂·nodes γ₂·nodes κ·nodes q·nodes b·nodes o·nodes γ·nodes nodes long·nodes c page x-first span height halved carried x-to))) (Asked 𝓤 H A mem run .args (to 𝓤 H A mem run κ₂·register q₂·register b₂·register o₂·register γ₂·register κ·register q·register b·register o·register γ·register register long·register κ₂·nodes q₂·nodes b₂·nodes o₂·nodes γ₂·nodes κ·nodes q·nodes b·nodes o·nodes γ·nodes nodes long·nodes c page x-first span height halved carried x-to)) (Asked 𝓤 H A mem run .post (to 𝓤 H A mem run κ₂·register q₂·register b₂·register o₂·register γ₂·register κ·register q·register b·register o·register γ·register register long·register κ₂·nodes q₂·nodes b₂·nodes o₂·nodes γ₂·nodes κ·nodes q·nodes b·nodes o·nodes γ·nodes nodes long·nodes c page x-first span height halved carried x-to)) known os h) ok·c ok·page ok·x-first ok·span ok·height ok·halved ok·carried ok·x-to need k
+  calls-by t mem run fm κ₂·register q₂·register b₂·register o₂·register γ₂·register κ·register q·register b·register o·register γ·register register long·register κ₂·nodes q₂·nodes b₂·nodes o₂·nodes γ₂·nodes κ·nodes q·nodes b·nodes o·nodes γ·nodes nodes long·nodes c page x-first span halved carried x-to known ok·c ok·page ok·x-first ok·span ok·halved ok·carried ok·x-to need os k =
+      core t mem run κ₂·register q₂·register b₂·register o₂·register γ₂·register κ·register q·register b·register o·register γ·register register long·register κ₂·nodes q₂·nodes b₂·nodes o₂·nodes γ₂·nodes κ·nodes q·nodes b·nodes o·nodes γ·nodes nodes long·nodes c page x-first span halved carried x-to (runs C Λ E (seq (call #callee xs d) rest) Q) (λ v. lands C Λ E d v rest Q) (λ v. tt)
+      (λ h. calls-from t fm (raw (Asked 𝓤 H A mem run .pre (to 𝓤 H A mem run κ₂·register q₂·register b₂·register o₂·register γ₂·register κ·register q·register b·register o·register γ·register register long·register κ₂·nodes q₂·nodes b₂·nodes o₂·nodes γ₂·nodes κ·nodes q·nodes b·nodes o·nodes γ·nodes nodes long·nodes c page x-first span halved carried x-to))) (Asked 𝓤 H A mem run .args (to 𝓤 H A mem run κ₂·register q₂·register b₂·register o₂·register γ₂·register κ·register q·register b·register o·register γ·register register long·register κ₂·nodes q₂·nodes b₂·nodes o₂·nodes γ₂·nodes κ·nodes q·nodes b·nodes o·nodes γ·nodes nodes long·nodes c page x-first span halved carried x-to)) (Asked 𝓤 H A mem run .post (to 𝓤 H A mem run κ₂·register q₂·register b₂·register o₂·register γ₂·register κ·register q·register b·register o·register γ·register register long·register κ₂·nodes q₂·nodes b₂·nodes o₂·nodes γ₂·nodes κ·nodes q·nodes b·nodes o·nodes γ·nodes nodes long·nodes c page x-first span halved carried x-to)) known os h) ok·c ok·page ok·x-first ok·span ok·halved ok·carried ok·x-to need k
 
-  pub calls : K → (mem : Memory → SProp 𝓤) (run : Routine → Fun 𝓤) → FmC 𝓤 H (W .laws) C → Triple 𝓤 (C #callee) (Asked 𝓤 H A mem run) → (κ₂·register : Lft) (q₂·register : Share) (b₂·register o₂·register : ℕ) (γ₂·register : GName) (κ·register : Lft) (q·register : Share) (b·register o·register : ℕ) (γ·register : GName) (register : List Record) (long·register : κ₂·register ⊑ κ·register) (κ₂·nodes : Lft) (q₂·nodes : Share) (b₂·nodes o₂·nodes : ℕ) (γ₂·nodes : GName) (κ·nodes : Lft) (q·nodes : Share) (b·nodes o·nodes : ℕ) (γ·nodes : GName) (nodes : List ℕ) (long·nodes : κ₂·nodes ⊑ κ·nodes) (c : ℕ) (page : ℕ) (x-first : ℕ) (span : ℕ) (height : ℕ) (halved : ℕ) (carried : ℕ) (x-to : ℕ) → Is u64 c (uint-vals w64 c) → Is u64 page (uint-vals w64 page) → Is u64 x-first (uint-vals w64 x-first) → Is u64 span (uint-vals w64 span) → Is u64 height (uint-vals w64 height) → Is u64 halved (uint-vals w64 halved) → Is u64 carried (uint-vals w64 carried) → Is u64 x-to (uint-vals w64 x-to) → reach″.req register nodes c page x-first span height halved carried x-to →
-      Opds K W (raw (Asked 𝓤 H A mem run .pre (to 𝓤 H A mem run κ₂·register q₂·register b₂·register o₂·register γ₂·register κ·register q·register b·register o·register γ·register register long·register κ₂·nodes q₂·nodes b₂·nodes o₂·nodes γ₂·nodes κ·nodes q·nodes b·nodes o·nodes γ·nodes nodes long·nodes c page x-first span height halved carried x-to)) ∷ ‵ (RefAt Record′.row κ₂·register b₂·register o₂·register γ₂·register κ·register b·register o·register γ·register register) ∷ ‵ (RefAt u32 κ₂·nodes b₂·nodes o₂·nodes γ₂·nodes κ·nodes b·nodes o·nodes γ·nodes nodes) ∷ Γ) E xs (vptr b₂·register o₂·register ∷ vptr b₂·nodes o₂·nodes ∷ vint w64 c ∷ vint w64 page ∷ vint w64 x-first ∷ vint w64 span ∷ vint w64 height ∷ vint w64 halved ∷ vint w64 carried ∷ vint w64 x-to ∷ [])
-      → (Is u64 (reach″.res register nodes c page x-first span height halved carried x-to) (uint-vals w64 (reach″.res register nodes c page x-first span height halved carried x-to)) → Seq K W (‵ (flft κ₂·register q₂·register) ∷ ‵ (RefAt Record′.row κ₂·register b₂·register o₂·register γ₂·register κ·register b·register o·register γ·register register) ∷ ‵ (flft κ·register q·register) ∷ ‵ (flft κ₂·nodes q₂·nodes) ∷ ‵ (RefAt u32 κ₂·nodes b₂·nodes o₂·nodes γ₂·nodes κ·nodes b·nodes o·nodes γ·nodes nodes) ∷ ‵ (flft κ·nodes q·nodes) ∷ Γ) (lands C Λ E d (vint w64 (reach″.res register nodes c page x-first span height halved carried x-to)) rest Q))
+  pub calls : K → (mem : Memory → SProp 𝓤) (run : Routine → Fun 𝓤) → FmC 𝓤 H (W .laws) C → Triple 𝓤 (C #callee) (Asked 𝓤 H A mem run) → (κ₂·register : Lft) (q₂·register : Share) (b₂·register o₂·register : ℕ) (γ₂·register : GName) (κ·register : Lft) (q·register : Share) (b·register o·register : ℕ) (γ·register : GName) (register : List Record) (long·register : κ₂·register ⊑ κ·register) (κ₂·nodes : Lft) (q₂·nodes : Share) (b₂·nodes o₂·nodes : ℕ) (γ₂·nodes : GName) (κ·nodes : Lft) (q·nodes : Share) (b·nodes o·nodes : ℕ) (γ·nodes : GName) (nodes : List ℕ) (long·nodes : κ₂·nodes ⊑ κ·nodes) (c : ℕ) (page : ℕ) (x-first : ℕ) (span : ℕ) (halved : ℕ) (carried : ℕ) (x-to : ℕ) → Is u64 c (uint-vals w64 c) → Is u64 page (uint-vals w64 page) → Is u64 x-first (uint-vals w64 x-first) → Is u64 span (uint-vals w64 span) → Is u64 halved (uint-vals w64 halved) → Is u64 carried (uint-vals w64 carried) → Is u64 x-to (uint-vals w64 x-to) → reach″.req register nodes c page x-first span halved carried x-to →
+      Opds K W (raw (Asked 𝓤 H A mem run .pre (to 𝓤 H A mem run κ₂·register q₂·register b₂·register o₂·register γ₂·register κ·register q·register b·register o·register γ·register register long·register κ₂·nodes q₂·nodes b₂·nodes o₂·nodes γ₂·nodes κ·nodes q·nodes b·nodes o·nodes γ·nodes nodes long·nodes c page x-first span halved carried x-to)) ∷ ‵ (RefAt Record′.row κ₂·register b₂·register o₂·register γ₂·register κ·register b·register o·register γ·register register) ∷ ‵ (RefAt u32 κ₂·nodes b₂·nodes o₂·nodes γ₂·nodes κ·nodes b·nodes o·nodes γ·nodes nodes) ∷ Γ) E xs (vptr b₂·register o₂·register ∷ vptr b₂·nodes o₂·nodes ∷ vint w64 c ∷ vint w64 page ∷ vint w64 x-first ∷ vint w64 span ∷ vint w64 halved ∷ vint w64 carried ∷ vint w64 x-to ∷ [])
+      → ((x·res : ℕ) → Is u64 x·res (uint-vals w64 x·res) → reach″.ens register nodes c page x-first span halved carried x-to x·res → Seq K W (‵ (flft κ₂·register q₂·register) ∷ ‵ (RefAt Record′.row κ₂·register b₂·register o₂·register γ₂·register κ·register b·register o·register γ·register register) ∷ ‵ (flft κ·register q·register) ∷ ‵ (flft κ₂·nodes q₂·nodes) ∷ ‵ (RefAt u32 κ₂·nodes b₂·nodes o₂·nodes γ₂·nodes κ·nodes b·nodes o·nodes γ·nodes nodes) ∷ ‵ (flft κ·nodes q·nodes) ∷ Γ) (lands C Λ E d (vint w64 x·res) rest Q))
       → Seq K W (‵ (flft κ₂·register q₂·register) ∷ ‵ (RefAt Record′.row κ₂·register b₂·register o₂·register γ₂·register κ·register b·register o·register γ·register register) ∷ ‵ (flft κ·register q·register) ∷ ‵ (flft κ₂·nodes q₂·nodes) ∷ ‵ (RefAt u32 κ₂·nodes b₂·nodes o₂·nodes γ₂·nodes κ·nodes b·nodes o·nodes γ·nodes nodes) ∷ ‵ (flft κ·nodes q·nodes) ∷ Γ) (runs C Λ E (seq (call #callee xs d) rest) Q)
-  calls t mem run fm known κ₂·register q₂·register b₂·register o₂·register γ₂·register κ·register q·register b·register o·register γ·register register long·register κ₂·nodes q₂·nodes b₂·nodes o₂·nodes γ₂·nodes κ·nodes q·nodes b·nodes o·nodes γ·nodes nodes long·nodes c page x-first span height halved carried x-to = calls-by t mem run fm κ₂·register q₂·register b₂·register o₂·register γ₂·register κ·register q·register b·register o·register γ·register register long·register κ₂·nodes q₂·nodes b₂·nodes o₂·nodes γ₂·nodes κ·nodes q·nodes b·nodes o·nodes γ·nodes nodes long·nodes c page x-first span height halved carried x-to (known (to 𝓤 H A mem run κ₂·register q₂·register b₂·register o₂·register γ₂·register κ·register q·register b·register o·register γ·register register long·register κ₂·nodes q₂·nodes b₂·nodes o₂·nodes γ₂·nodes κ·nodes q·nodes b·nodes o·nodes γ·nodes nodes long·nodes c page x-first span height halved carried x-to))
+  calls t mem run fm known κ₂·register q₂·register b₂·register o₂·register γ₂·register κ·register q·register b·register o·register γ·register register long·register κ₂·nodes q₂·nodes b₂·nodes o₂·nodes γ₂·nodes κ·nodes q·nodes b·nodes o·nodes γ·nodes nodes long·nodes c page x-first span halved carried x-to = calls-by t mem run fm κ₂·register q₂·register b₂·register o₂·register γ₂·register κ·register q·register b·register o·register γ·register register long·register κ₂·nodes q₂·nodes b₂·nodes o₂·nodes γ₂·nodes κ·nodes q·nodes b·nodes o·nodes γ·nodes nodes long·nodes c page x-first span halved carried x-to (known (to 𝓤 H A mem run κ₂·register q₂·register b₂·register o₂·register γ₂·register κ·register q·register b·register o·register γ·register register long·register κ₂·nodes q₂·nodes b₂·nodes o₂·nodes γ₂·nodes κ·nodes q·nodes b·nodes o·nodes γ·nodes nodes long·nodes c page x-first span halved carried x-to))
 
 module _ {M : Type 1} {𝓤 : URA M} {H : Heap 𝓤} {A : Atoms 𝓤} {K : Type 0} {W : Given 𝓤 H A} {Γ : List (Item 𝓤)} {E : Env 𝓤 H} {C : Calls 𝓤 H} {Λ : Loops 𝓤 H} {Q : Post 𝓤 H} {xs : List Operand} {d : Place} where
   -- by one instance of the callee's contract, which is what a function that calls itself has. The call ends a part of the code
-  pub calls-last-by : K → (mem : Memory → SProp 𝓤) (run : Routine → Fun 𝓤) → FmC 𝓤 H (W .laws) C → (κ₂·register : Lft) (q₂·register : Share) (b₂·register o₂·register : ℕ) (γ₂·register : GName) (κ·register : Lft) (q·register : Share) (b·register o·register : ℕ) (γ·register : GName) (register : List Record) (long·register : κ₂·register ⊑ κ·register) (κ₂·nodes : Lft) (q₂·nodes : Share) (b₂·nodes o₂·nodes : ℕ) (γ₂·nodes : GName) (κ·nodes : Lft) (q·nodes : Share) (b·nodes o·nodes : ℕ) (γ·nodes : GName) (nodes : List ℕ) (long·nodes : κ₂·nodes ⊑ κ·nodes) (c : ℕ) (page : ℕ) (x-first : ℕ) (span : ℕ) (height : ℕ) (halved : ℕ) (carried : ℕ) (x-to : ℕ) → ent 𝓤 (Asked 𝓤 H A mem run .pre (to 𝓤 H A mem run κ₂·register q₂·register b₂·register o₂·register γ₂·register κ·register q·register b·register o·register γ·register register long·register κ₂·nodes q₂·nodes b₂·nodes o₂·nodes γ₂·nodes κ·nodes q·nodes b·nodes o·nodes γ·nodes nodes long·nodes c page x-first span height halved carried x-to)) (C #callee (Asked 𝓤 H A mem run .args (to 𝓤 H A mem run κ₂·register q₂·register b₂·register o₂·register γ₂·register κ·register q·register b·register o·register γ·register register long·register κ₂·nodes q₂·nodes b₂·nodes o₂·nodes γ₂·nodes κ·nodes q·nodes b·nodes o·nodes γ·nodes nodes long·nodes c page x-first span height halved carried x-to)) (Asked 𝓤 H A mem run .post (to 𝓤 H A mem run κ₂·register q₂·register b₂·register o₂·register γ₂·register κ·register q·register b·register o·register γ·register register long·register κ₂·nodes q₂·nodes b₂·nodes o₂·nodes γ₂·nodes κ·nodes q·nodes b·nodes o·nodes γ·nodes nodes long·nodes c page x-first span height halved carried x-to))) → Is u64 c (uint-vals w64 c) → Is u64 page (uint-vals w64 page) → Is u64 x-first (uint-vals w64 x-first) → Is u64 span (uint-vals w64 span) → Is u64 height (uint-vals w64 height) → Is u64 halved (uint-vals w64 halved) → Is u64 carried (uint-vals w64 carried) → Is u64 x-to (uint-vals w64 x-to) → reach″.req register nodes c page x-first span height halved carried x-to →
-      Opds K W (raw (Asked 𝓤 H A mem run .pre (to 𝓤 H A mem run κ₂·register q₂·register b₂·register o₂·register γ₂·register κ·register q·register b·register o·register γ·register register long·register κ₂·nodes q₂·nodes b₂·nodes o₂·nodes γ₂·nodes κ·nodes q·nodes b·nodes o·nodes γ·nodes nodes long·nodes c page x-first span height halved carried x-to)) ∷ ‵ (RefAt Record′.row κ₂·register b₂·register o₂·register γ₂·register κ·register b·register o·register γ·register register) ∷ ‵ (RefAt u32 κ₂·nodes b₂·nodes o₂·nodes γ₂·nodes κ·nodes b·nodes o·nodes γ·nodes nodes) ∷ Γ) E xs (vptr b₂·register o₂·register ∷ vptr b₂·nodes o₂·nodes ∷ vint w64 c ∷ vint w64 page ∷ vint w64 x-first ∷ vint w64 span ∷ vint w64 height ∷ vint w64 halved ∷ vint w64 carried ∷ vint w64 x-to ∷ [])
-      → (Is u64 (reach″.res register nodes c page x-first span height halved carried x-to) (uint-vals w64 (reach″.res register nodes c page x-first span height halved carried x-to)) → Seq K W (‵ (flft κ₂·register q₂·register) ∷ ‵ (RefAt Record′.row κ₂·register b₂·register o₂·register γ₂·register κ·register b·register o·register γ·register register) ∷ ‵ (flft κ·register q·register) ∷ ‵ (flft κ₂·nodes q₂·nodes) ∷ ‵ (RefAt u32 κ₂·nodes b₂·nodes o₂·nodes γ₂·nodes κ·nodes b·nodes o·nodes γ·nodes nodes) ∷ ‵ (flft κ·nodes q·nodes) ∷ Γ) (settles E d (vint w64 (reach″.res register nodes c page x-first span height halved carried x-to)) Q))
+  pub calls-last-by : K → (mem : Memory → SProp 𝓤) (run : Routine → Fun 𝓤) → FmC 𝓤 H (W .laws) C → (κ₂·register : Lft) (q₂·register : Share) (b₂·register o₂·register : ℕ) (γ₂·register : GName) (κ·register : Lft) (q·register : Share) (b·register o·register : ℕ) (γ·register : GName) (register : List Record) (long·register : κ₂·register ⊑ κ·register) (κ₂·nodes : Lft) (q₂·nodes : Share) (b₂·nodes o₂·nodes : ℕ) (γ₂·nodes : GName) (κ·nodes : Lft) (q·nodes : Share) (b·nodes o·nodes : ℕ) (γ·nodes : GName) (nodes : List ℕ) (long·nodes : κ₂·nodes ⊑ κ·nodes) (c : ℕ) (page : ℕ) (x-first : ℕ) (span : ℕ) (halved : ℕ) (carried : ℕ) (x-to : ℕ) → ent 𝓤 (Asked 𝓤 H A mem run .pre (to 𝓤 H A mem run κ₂·register q₂·register b₂·register o₂·register γ₂·register κ·register q·register b·register o·register γ·register register long·register κ₂·nodes q₂·nodes b₂·nodes o₂·nodes γ₂·nodes κ·nodes q·nodes b·nodes o·nodes γ·nodes nodes long·nodes c page x-first span halved carried x-to)) (C #callee (Asked 𝓤 H A mem run .args (to 𝓤 H A mem run κ₂·register q₂·register b₂·register o₂·register γ₂·register κ·register q·register b·register o·register γ·register register long·register κ₂·nodes q₂·nodes b₂·nodes o₂·nodes γ₂·nodes κ·nodes q·nodes b·nodes o·nodes γ·nodes nodes long·nodes c page x-first span halved carried x-to)) (Asked 𝓤 H A mem run .post (to 𝓤 H A mem run κ₂·register q₂·register b₂·register o₂·register γ₂·register κ·register q·register b·register o·register γ·register register long·register κ₂·nodes q₂·nodes b₂·nodes o₂·nodes γ₂·nodes κ·nodes q·nodes b·nodes o·nodes γ·nodes nodes long·nodes c page x-first span halved carried x-to))) → Is u64 c (uint-vals w64 c) → Is u64 page (uint-vals w64 page) → Is u64 x-first (uint-vals w64 x-first) → Is u64 span (uint-vals w64 span) → Is u64 halved (uint-vals w64 halved) → Is u64 carried (uint-vals w64 carried) → Is u64 x-to (uint-vals w64 x-to) → reach″.req register nodes c page x-first span halved carried x-to →
+      Opds K W (raw (Asked 𝓤 H A mem run .pre (to 𝓤 H A mem run κ₂·register q₂·register b₂·register o₂·register γ₂·register κ·register q·register b·register o·register γ·register register long·register κ₂·nodes q₂·nodes b₂·nodes o₂·nodes γ₂·nodes κ·nodes q·nodes b·nodes o·nodes γ·nodes nodes long·nodes c page x-first span halved carried x-to)) ∷ ‵ (RefAt Record′.row κ₂·register b₂·register o₂·register γ₂·register κ·register b·register o·register γ·register register) ∷ ‵ (RefAt u32 κ₂·nodes b₂·nodes o₂·nodes γ₂·nodes κ·nodes b·nodes o·nodes γ·nodes nodes) ∷ Γ) E xs (vptr b₂·register o₂·register ∷ vptr b₂·nodes o₂·nodes ∷ vint w64 c ∷ vint w64 page ∷ vint w64 x-first ∷ vint w64 span ∷ vint w64 halved ∷ vint w64 carried ∷ vint w64 x-to ∷ [])
+      → ((x·res : ℕ) → Is u64 x·res (uint-vals w64 x·res) → reach″.ens register nodes c page x-first span halved carried x-to x·res → Seq K W (‵ (flft κ₂·register q₂·register) ∷ ‵ (RefAt Record′.row κ₂·register b₂·register o₂·register γ₂·register κ·register b·register o·register γ·register register) ∷ ‵ (flft κ·register q·register) ∷ ‵ (flft κ₂·nodes q₂·nodes) ∷ ‵ (RefAt u32 κ₂·nodes b₂·nodes o₂·nodes γ₂·nodes κ·nodes b·nodes o·nodes γ·nodes nodes) ∷ ‵ (flft κ·nodes q·nodes) ∷ Γ) (settles E d (vint w64 x·res) Q))
       → Seq K W (‵ (flft κ₂·register q₂·register) ∷ ‵ (RefAt Record′.row κ₂·register b₂·register o₂·register γ₂·register κ·register b·register o·register γ·register register) ∷ ‵ (flft κ·register q·register) ∷ ‵ (flft κ₂·nodes q₂·nodes) ∷ ‵ (RefAt u32 κ₂·nodes b₂·nodes o₂·nodes γ₂·nodes κ·nodes b·nodes o·nodes γ·nodes nodes) ∷ ‵ (flft κ·nodes q·nodes) ∷ Γ) (runs C Λ E (call #callee xs d) Q)
-  calls-last-by t mem run fm κ₂·register q₂·register b₂·register o₂·register γ₂·register κ·register q·register b·register o·register γ·register register long·register κ₂·nodes q₂·nodes b₂·nodes o₂·nodes γ₂·nodes κ·nodes q·nodes b·nodes o·nodes γ·nodes nodes long·nodes c page x-first span height halved carried x-to known ok·c ok·page ok·x-first ok·span ok·height ok·halved ok·carried ok·x-to need os k =
-      core t mem run κ₂·register q₂·register b₂·register o₂·register γ₂·register κ·register q·register b·register o·register γ·register register long·register κ₂·nodes q₂·nodes b₂·nodes o₂·nodes γ₂·nodes κ·nodes q·nodes b·nodes o·nodes γ·nodes nodes long·nodes c page x-first span height halved carried x-to (runs C Λ E (call #callee xs d) Q) (λ v. settles E d v Q) (λ v. tt)
-      (λ h. calls-from-last t fm (raw (Asked 𝓤 H A mem run .pre (to 𝓤 H A mem run κ₂·register q₂·register b₂·register o₂·register γ₂·register κ·register q·register b·register o·register γ·register register long·register κ₂·nodes q₂·nodes b₂·nodes o₂·nodes γ₂·nodes κ·nodes q·nodes b·nodes o·nodes γ·nodes nodes long·nodes c page x-first span height halved carried x-to))) (Asked 𝓤 H A mem run .args (to 𝓤 H A mem run κ₂·register q₂·register b₂·register o₂·register γ₂·register κ·register q·register b·register o·register γ·register register long·register κ₂·nodes q₂·nodes b₂·nodes o₂·nodes γ₂·nodes κ·nodes q·nodes b·nodes o·nodes γ·nodes nodes long·nodes c page x-first span height halved carried x-to)) (Asked 𝓤 H A mem run .post (to 𝓤 H A mem run κ₂·register q₂·register b₂·register o₂·register γ₂·register κ·register q·register b·register o·register γ·register register long·register κ₂·nodes q₂·nodes b₂·nodes o₂·nodes γ₂·nodes κ·nodes q·nodes b·nodes o·nodes γ·nodes nodes long·nodes c page x-first span height halved carried x-to)) known os h) ok·c ok·page ok·x-first ok·span ok·height ok·halved ok·carried ok·x-to need k
+  calls-last-by t mem run fm κ₂·register q₂·register b₂·register o₂·register γ₂·register κ·register q·register b·register o·register γ·register register long·register κ₂·nodes q₂·nodes b₂·nodes o₂·nodes γ₂·nodes κ·nodes q·nodes b·nodes o·nodes γ·nodes nodes long·nodes c page x-first span halved carried x-to known ok·c ok·page ok·x-first ok·span ok·halved ok·carried ok·x-to need os k =
+      core t mem run κ₂·register q₂·register b₂·register o₂·register γ₂·register κ·register q·register b·register o·register γ·register register long·register κ₂·nodes q₂·nodes b₂·nodes o₂·nodes γ₂·nodes κ·nodes q·nodes b·nodes o·nodes γ·nodes nodes long·nodes c page x-first span halved carried x-to (runs C Λ E (call #callee xs d) Q) (λ v. settles E d v Q) (λ v. tt)
+      (λ h. calls-from-last t fm (raw (Asked 𝓤 H A mem run .pre (to 𝓤 H A mem run κ₂·register q₂·register b₂·register o₂·register γ₂·register κ·register q·register b·register o·register γ·register register long·register κ₂·nodes q₂·nodes b₂·nodes o₂·nodes γ₂·nodes κ·nodes q·nodes b·nodes o·nodes γ·nodes nodes long·nodes c page x-first span halved carried x-to))) (Asked 𝓤 H A mem run .args (to 𝓤 H A mem run κ₂·register q₂·register b₂·register o₂·register γ₂·register κ·register q·register b·register o·register γ·register register long·register κ₂·nodes q₂·nodes b₂·nodes o₂·nodes γ₂·nodes κ·nodes q·nodes b·nodes o·nodes γ·nodes nodes long·nodes c page x-first span halved carried x-to)) (Asked 𝓤 H A mem run .post (to 𝓤 H A mem run κ₂·register q₂·register b₂·register o₂·register γ₂·register κ·register q·register b·register o·register γ·register register long·register κ₂·nodes q₂·nodes b₂·nodes o₂·nodes γ₂·nodes κ·nodes q·nodes b·nodes o·nodes γ·nodes nodes long·nodes c page x-first span halved carried x-to)) known os h) ok·c ok·page ok·x-first ok·span ok·halved ok·carried ok·x-to need k
 
-  pub calls-last : K → (mem : Memory → SProp 𝓤) (run : Routine → Fun 𝓤) → FmC 𝓤 H (W .laws) C → Triple 𝓤 (C #callee) (Asked 𝓤 H A mem run) → (κ₂·register : Lft) (q₂·register : Share) (b₂·register o₂·register : ℕ) (γ₂·register : GName) (κ·register : Lft) (q·register : Share) (b·register o·register : ℕ) (γ·register : GName) (register : List Record) (long·register : κ₂·register ⊑ κ·register) (κ₂·nodes : Lft) (q₂·nodes : Share) (b₂·nodes o₂·nodes : ℕ) (γ₂·nodes : GName) (κ·nodes : Lft) (q·nodes : Share) (b·nodes o·nodes : ℕ) (γ·nodes : GName) (nodes : List ℕ) (long·nodes : κ₂·nodes ⊑ κ·nodes) (c : ℕ) (page : ℕ) (x-first : ℕ) (span : ℕ) (height : ℕ) (halved : ℕ) (carried : ℕ) (x-to : ℕ) → Is u64 c (uint-vals w64 c) → Is u64 page (uint-vals w64 page) → Is u64 x-first (uint-vals w64 x-first) → Is u64 span (uint-vals w64 span) → Is u64 height (uint-vals w64 height) → Is u64 halved (uint-vals w64 halved) → Is u64 carried (uint-vals w64 carried) → Is u64 x-to (uint-vals w64 x-to) → reach″.req register nodes c page x-first span height halved carried x-to →
-      Opds K W (raw (Asked 𝓤 H A mem run .pre (to 𝓤 H A mem run κ₂·register q₂·register b₂·register o₂·register γ₂·register κ·register q·register b·register o·register γ·register register long·register κ₂·nodes q₂·nodes b₂·nodes o₂·nodes γ₂·nodes κ·nodes q·nodes b·nodes o·nodes γ·nodes nodes long·nodes c page x-first span height halved carried x-to)) ∷ ‵ (RefAt Record′.row κ₂·register b₂·register o₂·register γ₂·register κ·register b·register o·register γ·register register) ∷ ‵ (RefAt u32 κ₂·nodes b₂·nodes o₂·nodes γ₂·nodes κ·nodes b·nodes o·nodes γ·nodes nodes) ∷ Γ) E xs (vptr b₂·register o₂·register ∷ vptr b₂·nodes o₂·nodes ∷ vint w64 c ∷ vint w64 page ∷ vint w64 x-first ∷ vint w64 span ∷ vint w64 height ∷ vint w64 halved ∷ vint w64 carried ∷ vint w64 x-to ∷ [])
-      → (Is u64 (reach″.res register nodes c page x-first span height halved carried x-to) (uint-vals w64 (reach″.res register nodes c page x-first span height halved carried x-to)) → Seq K W (‵ (flft κ₂·register q₂·register) ∷ ‵ (RefAt Record′.row κ₂·register b₂·register o₂·register γ₂·register κ·register b·register o·register γ·register register) ∷ ‵ (flft κ·register q·register) ∷ ‵ (flft κ₂·nodes q₂·nodes) ∷ ‵ (RefAt u32 κ₂·nodes b₂·nodes o₂·nodes γ₂·nodes κ·nodes b·nodes o·nodes γ·nodes nodes) ∷ ‵ (flft κ·nodes q·nodes) ∷ Γ) (settles E d (vint w64 (reach″.res register nodes c page x-first span height halved carried x-to)) Q))
+  pub calls-last : K → (mem : Memory → SProp 𝓤) (run : Routine → Fun 𝓤) → FmC 𝓤 H (W .laws) C → Triple 𝓤 (C #callee) (Asked 𝓤 H A mem run) → (κ₂·register : Lft) (q₂·register : Share) (b₂·register o₂·register : ℕ) (γ₂·register : GName) (κ·register : Lft) (q·register : Share) (b·register o·register : ℕ) (γ·register : GName) (register : List Record) (long·register : κ₂·register ⊑ κ·register) (κ₂·nodes : Lft) (q₂·nodes : Share) (b₂·nodes o₂·nodes : ℕ) (γ₂·nodes : GName) (κ·nodes : Lft) (q·nodes : Share) (b·nodes o·nodes : ℕ) (γ·nodes : GName) (nodes : List ℕ) (long·nodes : κ₂·nodes ⊑ κ·nodes) (c : ℕ) (page : ℕ) (x-first : ℕ) (span : ℕ) (halved : ℕ) (carried : ℕ) (x-to : ℕ) → Is u64 c (uint-vals w64 c) → Is u64 page (uint-vals w64 page) → Is u64 x-first (uint-vals w64 x-first) → Is u64 span (uint-vals w64 span) → Is u64 halved (uint-vals w64 halved) → Is u64 carried (uint-vals w64 carried) → Is u64 x-to (uint-vals w64 x-to) → reach″.req register nodes c page x-first span halved carried x-to →
+      Opds K W (raw (Asked 𝓤 H A mem run .pre (to 𝓤 H A mem run κ₂·register q₂·register b₂·register o₂·register γ₂·register κ·register q·register b·register o·register γ·register register long·register κ₂·nodes q₂·nodes b₂·nodes o₂·nodes γ₂·nodes κ·nodes q·nodes b·nodes o·nodes γ·nodes nodes long·nodes c page x-first span halved carried x-to)) ∷ ‵ (RefAt Record′.row κ₂·register b₂·register o₂·register γ₂·register κ·register b·register o·register γ·register register) ∷ ‵ (RefAt u32 κ₂·nodes b₂·nodes o₂·nodes γ₂·nodes κ·nodes b·nodes o·nodes γ·nodes nodes) ∷ Γ) E xs (vptr b₂·register o₂·register ∷ vptr b₂·nodes o₂·nodes ∷ vint w64 c ∷ vint w64 page ∷ vint w64 x-first ∷ vint w64 span ∷ vint w64 halved ∷ vint w64 carried ∷ vint w64 x-to ∷ [])
+      → ((x·res : ℕ) → Is u64 x·res (uint-vals w64 x·res) → reach″.ens register nodes c page x-first span halved carried x-to x·res → Seq K W (‵ (flft κ₂·register q₂·register) ∷ ‵ (RefAt Record′.row κ₂·register b₂·register o₂·register γ₂·register κ·register b·register o·register γ·register register) ∷ ‵ (flft κ·register q·register) ∷ ‵ (flft κ₂·nodes q₂·nodes) ∷ ‵ (RefAt u32 κ₂·nodes b₂·nodes o₂·nodes γ₂·nodes κ·nodes b·nodes o·nodes γ·nodes nodes) ∷ ‵ (flft κ·nodes q·nodes) ∷ Γ) (settles E d (vint w64 x·res) Q))
       → Seq K W (‵ (flft κ₂·register q₂·register) ∷ ‵ (RefAt Record′.row κ₂·register b₂·register o₂·register γ₂·register κ·register b·register o·register γ·register register) ∷ ‵ (flft κ·register q·register) ∷ ‵ (flft κ₂·nodes q₂·nodes) ∷ ‵ (RefAt u32 κ₂·nodes b₂·nodes o₂·nodes γ₂·nodes κ·nodes b·nodes o·nodes γ·nodes nodes) ∷ ‵ (flft κ·nodes q·nodes) ∷ Γ) (runs C Λ E (call #callee xs d) Q)
-  calls-last t mem run fm known κ₂·register q₂·register b₂·register o₂·register γ₂·register κ·register q·register b·register o·register γ·register register long·register κ₂·nodes q₂·nodes b₂·nodes o₂·nodes γ₂·nodes κ·nodes q·nodes b·nodes o·nodes γ·nodes nodes long·nodes c page x-first span height halved carried x-to = calls-last-by t mem run fm κ₂·register q₂·register b₂·register o₂·register γ₂·register κ·register q·register b·register o·register γ·register register long·register κ₂·nodes q₂·nodes b₂·nodes o₂·nodes γ₂·nodes κ·nodes q·nodes b·nodes o·nodes γ·nodes nodes long·nodes c page x-first span height halved carried x-to (known (to 𝓤 H A mem run κ₂·register q₂·register b₂·register o₂·register γ₂·register κ·register q·register b·register o·register γ·register register long·register κ₂·nodes q₂·nodes b₂·nodes o₂·nodes γ₂·nodes κ·nodes q·nodes b·nodes o·nodes γ·nodes nodes long·nodes c page x-first span height halved carried x-to))
+  calls-last t mem run fm known κ₂·register q₂·register b₂·register o₂·register γ₂·register κ·register q·register b·register o·register γ·register register long·register κ₂·nodes q₂·nodes b₂·nodes o₂·nodes γ₂·nodes κ·nodes q·nodes b·nodes o·nodes γ·nodes nodes long·nodes c page x-first span halved carried x-to = calls-last-by t mem run fm κ₂·register q₂·register b₂·register o₂·register γ₂·register κ·register q·register b·register o·register γ·register register long·register κ₂·nodes q₂·nodes b₂·nodes o₂·nodes γ₂·nodes κ·nodes q·nodes b·nodes o·nodes γ·nodes nodes long·nodes c page x-first span halved carried x-to (known (to 𝓤 H A mem run κ₂·register q₂·register b₂·register o₂·register γ₂·register κ·register q·register b·register o·register γ·register register long·register κ₂·nodes q₂·nodes b₂·nodes o₂·nodes γ₂·nodes κ·nodes q·nodes b·nodes o·nodes γ·nodes nodes long·nodes c page x-first span halved carried x-to))

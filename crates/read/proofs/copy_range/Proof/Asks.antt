@@ -22,8 +22,6 @@ use Rattle.read.specs.declared.Chunk.{Chunk}
 use Rattle.read.proofs.Generated.Kind.Chunk as Chunk′
 use Rattle.tree.specs.declared.Found.{Found}
 use Rattle.walk.proofs.Generated.Kind.Found as Found′
-use Rattle.tree.specs.declared.Version.{Version}
-use Rattle.register.proofs.Generated.Kind.Version as Version′
 use Rattle.read.proofs.Generated.Say.copy_range as copy-range″
 use Rattle.read.proofs.Generated.Say.chunk_at as chunk-at″
 use Rattle.walk.proofs.Generated.Say.find_page as find-page″

@@ -18,8 +18,6 @@ use Rattle.lines.specs.declared.Entries.{Entries}
 use Rattle.register.proofs.Generated.Kind.Entries as Entries′
 use Rattle.tree.specs.declared.Found.{Found}
 use Rattle.walk.proofs.Generated.Kind.Found as Found′
-use Rattle.tree.specs.declared.Version.{Version}
-use Rattle.register.proofs.Generated.Kind.Version as Version′
 use Rattle.read.proofs.Generated.Say.some_lost as some-lost″
 use Rattle.walk.proofs.Generated.Say.find_page as find-page″
 use Rattle.walk.proofs.Generated.Say.is_lost as is-lost″

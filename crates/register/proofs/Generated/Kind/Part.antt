@@ -55,7 +55,7 @@ makes = LL.makes T′.the-type T″.the-plain
 
 -- a value to stand past the end of a list
 abbrev pub none : Part
-none = record { name = 0; f = PageIndex′.none; last = PageIndex′.none; top = 0; past = 0; height = 0; size = 0; count = 0; woven = 0 }
+none = record { name = 0; f = PageIndex′.none; last = PageIndex′.none; top = 0; past = 0; span = 0; size = 0; count = 0; woven = 0 }
 
 pub ok-name : (d : Part) → Ok d → Is u64 (d .name) (uint-vals w64 (d .name))
 ok-name d g = LL.owed T′.the-type T″.the-laws d _ g .0
@@ -72,8 +72,8 @@ ok-top d g = LL.owed T′.the-type T″.the-laws d _ g .1 .1 .1 .0
 pub ok-past : (d : Part) → Ok d → Is u64 (d .past) (uint-vals w64 (d .past))
 ok-past d g = LL.owed T′.the-type T″.the-laws d _ g .1 .1 .1 .1 .0
 
-pub ok-height : (d : Part) → Ok d → Is u64 (d .height) (uint-vals w64 (d .height))
-ok-height d g = LL.owed T′.the-type T″.the-laws d _ g .1 .1 .1 .1 .1 .0
+pub ok-span : (d : Part) → Ok d → Is u64 (d .span) (uint-vals w64 (d .span))
+ok-span d g = LL.owed T′.the-type T″.the-laws d _ g .1 .1 .1 .1 .1 .0
 
 pub ok-size : (d : Part) → Ok d → Is u64 (d .size) (uint-vals w64 (d .size))
 ok-size d g = LL.owed T′.the-type T″.the-laws d _ g .1 .1 .1 .1 .1 .1 .0
@@ -85,7 +85,7 @@ pub ok-woven : (d : Part) → Ok d → Is u64 (d .woven) (uint-vals w64 (d .wove
 ok-woven d g = LL.owed T′.the-type T″.the-laws d _ g .1 .1 .1 .1 .1 .1 .1 .1 .0
 
 abbrev pub build : ℕ → PageIndex → PageIndex → ℕ → ℕ → ℕ → ℕ → ℕ → ℕ → Part
-build y0 y1 y2 y3 y4 y5 y6 y7 y8 = record { name = y0; f = y1; last = y2; top = y3; past = y4; height = y5; size = y6; count = y7; woven = y8 }
+build y0 y1 y2 y3 y4 y5 y6 y7 y8 = record { name = y0; f = y1; last = y2; top = y3; past = y4; span = y5; size = y6; count = y7; woven = y8 }
 
 pub make : (y0 : ℕ) (y1 : PageIndex) (y2 : PageIndex) (y3 : ℕ) (y4 : ℕ) (y5 : ℕ) (y6 : ℕ) (y7 : ℕ) (y8 : ℕ) → Is u64 y0 (uint-vals w64 y0) → Is PageIndex′.row y1 (PageIndex′.vals y1) → Is PageIndex′.row y2 (PageIndex′.vals y2) → Is u64 y3 (uint-vals w64 y3) → Is u64 y4 (uint-vals w64 y4) → Is u64 y5 (uint-vals w64 y5) → Is u64 y6 (uint-vals w64 y6) → Is u64 y7 (uint-vals w64 y7) → Is u64 y8 (uint-vals w64 y8) → Ok (build y0 y1 y2 y3 y4 y5 y6 y7 y8)
 make y0 y1 y2 y3 y4 y5 y6 y7 y8 g0 g1 g2 g3 g4 g5 g6 g7 g8 = LL.owes T′.the-type T″.the-laws (build y0 y1 y2 y3 y4 y5 y6 y7 y8) (g0, (g1, (g2, (g3, (g4, (g5, (g6, (g7, (g8, tt)))))))))

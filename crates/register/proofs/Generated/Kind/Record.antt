@@ -59,7 +59,7 @@ makes = LL.makes T′.the-type T″.the-plain
 
 -- a value to stand past the end of a list
 abbrev pub none : Record
-none = record { n = 0; number = 0; put = 0; update = 0; ticket = Ticket′.none; name = 0; f = PageIndex′.none; last = PageIndex′.none; top = 0; past = 0; height = 0; size = 0; count = 0; woven = 0; entries = Entries′.none }
+none = record { n = 0; number = 0; put = 0; update = 0; ticket = Ticket′.none; name = 0; f = PageIndex′.none; last = PageIndex′.none; top = 0; past = 0; span = 0; size = 0; count = 0; woven = 0; entries = Entries′.none }
 
 pub ok-n : (d : Record) → Ok d → Is u64 (d .n) (uint-vals w64 (d .n))
 ok-n d g = LL.owed T′.the-type T″.the-laws d _ g .0
@@ -91,8 +91,8 @@ ok-top d g = LL.owed T′.the-type T″.the-laws d _ g .1 .1 .1 .1 .1 .1 .1 .1 .
 pub ok-past : (d : Record) → Ok d → Is u64 (d .past) (uint-vals w64 (d .past))
 ok-past d g = LL.owed T′.the-type T″.the-laws d _ g .1 .1 .1 .1 .1 .1 .1 .1 .1 .0
 
-pub ok-height : (d : Record) → Ok d → Is u64 (d .height) (uint-vals w64 (d .height))
-ok-height d g = LL.owed T′.the-type T″.the-laws d _ g .1 .1 .1 .1 .1 .1 .1 .1 .1 .1 .0
+pub ok-span : (d : Record) → Ok d → Is u64 (d .span) (uint-vals w64 (d .span))
+ok-span d g = LL.owed T′.the-type T″.the-laws d _ g .1 .1 .1 .1 .1 .1 .1 .1 .1 .1 .0
 
 pub ok-size : (d : Record) → Ok d → Is u64 (d .size) (uint-vals w64 (d .size))
 ok-size d g = LL.owed T′.the-type T″.the-laws d _ g .1 .1 .1 .1 .1 .1 .1 .1 .1 .1 .1 .0
@@ -107,7 +107,7 @@ pub ok-entries : (d : Record) → Ok d → Is Entries′.row (d .entries) (Entri
 ok-entries d g = LL.owed T′.the-type T″.the-laws d _ g .1 .1 .1 .1 .1 .1 .1 .1 .1 .1 .1 .1 .1 .1 .0
 
 abbrev pub build : ℕ → ℕ → ℕ → ℕ → Ticket → ℕ → PageIndex → PageIndex → ℕ → ℕ → ℕ → ℕ → ℕ → ℕ → Entries → Record
-build y0 y1 y2 y3 y4 y5 y6 y7 y8 y9 y10 y11 y12 y13 y14 = record { n = y0; number = y1; put = y2; update = y3; ticket = y4; name = y5; f = y6; last = y7; top = y8; past = y9; height = y10; size = y11; count = y12; woven = y13; entries = y14 }
+build y0 y1 y2 y3 y4 y5 y6 y7 y8 y9 y10 y11 y12 y13 y14 = record { n = y0; number = y1; put = y2; update = y3; ticket = y4; name = y5; f = y6; last = y7; top = y8; past = y9; span = y10; size = y11; count = y12; woven = y13; entries = y14 }
 
 pub make : (y0 : ℕ) (y1 : ℕ) (y2 : ℕ) (y3 : ℕ) (y4 : Ticket) (y5 : ℕ) (y6 : PageIndex) (y7 : PageIndex) (y8 : ℕ) (y9 : ℕ) (y10 : ℕ) (y11 : ℕ) (y12 : ℕ) (y13 : ℕ) (y14 : Entries) → Is u64 y0 (uint-vals w64 y0) → Is u64 y1 (uint-vals w64 y1) → Is u64 y2 (uint-vals w64 y2) → Is u64 y3 (uint-vals w64 y3) → Is Ticket′.row y4 (Ticket′.vals y4) → Is u64 y5 (uint-vals w64 y5) → Is PageIndex′.row y6 (PageIndex′.vals y6) → Is PageIndex′.row y7 (PageIndex′.vals y7) → Is u64 y8 (uint-vals w64 y8) → Is u64 y9 (uint-vals w64 y9) → Is u64 y10 (uint-vals w64 y10) → Is u64 y11 (uint-vals w64 y11) → Is u64 y12 (uint-vals w64 y12) → Is u64 y13 (uint-vals w64 y13) → Is Entries′.row y14 (Entries′.vals y14) → Ok (build y0 y1 y2 y3 y4 y5 y6 y7 y8 y9 y10 y11 y12 y13 y14)
 make y0 y1 y2 y3 y4 y5 y6 y7 y8 y9 y10 y11 y12 y13 y14 g0 g1 g2 g3 g4 g5 g6 g7 g8 g9 g10 g11 g12 g13 g14 = LL.owes T′.the-type T″.the-laws (build y0 y1 y2 y3 y4 y5 y6 y7 y8 y9 y10 y11 y12 y13 y14) (g0, (g1, (g2, (g3, (g4, (g5, (g6, (g7, (g8, (g9, (g10, (g11, (g12, (g13, (g14, tt)))))))))))))))

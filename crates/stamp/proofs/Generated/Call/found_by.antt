@@ -34,8 +34,6 @@ use denote.Triple.Walked.{says}
 use Rattle.stamp.proofs.Generated.Say.found_by as found-by″
 use Rattle.tree.specs.declared.Found.{Found}
 use Rattle.walk.proofs.Generated.Kind.Found as Found′
-use Rattle.tree.specs.declared.Version.{Version}
-use Rattle.register.proofs.Generated.Kind.Version as Version′
 use Rattle.register.proofs.Generated.Flow.{ref, MutAt, ShrAt, keeps-shr, plus-nothing}
 use Rattle.stamp.proofs.found_by as callee
 use Rattle.stamp.proofs.found_by.Symbol.{name as #callee}

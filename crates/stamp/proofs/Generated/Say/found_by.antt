@@ -9,7 +9,6 @@ use Rattle.stamp.specs.Stamp.{pageRefusal, versionFound, foundBy, leafAs
 use Rattle.versions.specs.Store.{areasOf}
 use Rattle.stamp.specs.declared.Stamped.{Stamped}
 use Rattle.tree.specs.declared.Found.{Found}
-use Rattle.tree.specs.declared.Version.{Version}
 
 abbrev pub ens : ℕ → Found → Found → Type 0
 ens k x r = r ≡ foundBy k x

@@ -10,8 +10,6 @@ use lib.Dec.{ltb, leb, eqb}
 use lib.ListN.{length, getD, set}
 use Rattle.tree.specs.declared.Found.{Found}
 use Rattle.walk.proofs.Generated.Kind.Found as Found′
-use Rattle.tree.specs.declared.Version.{Version}
-use Rattle.register.proofs.Generated.Kind.Version as Version′
 use Rattle.versions.specs.declared.Store.{Store}
 use Rattle.versions.proofs.Generated.Kind.Store as Store′
 use Rattle.tree.specs.declared.Ticket.{Ticket}
@@ -24,6 +22,8 @@ use Rattle.lines.specs.declared.Entries.{Entries}
 use Rattle.register.proofs.Generated.Kind.Entries as Entries′
 use Rattle.lines.specs.declared.Line.{Line}
 use Rattle.register.proofs.Generated.Kind.Line as Line′
+use Rattle.tree.specs.declared.Version.{Version}
+use Rattle.register.proofs.Generated.Kind.Version as Version′
 use Rattle.register.specs.declared.Part.{Part}
 use Rattle.register.proofs.Generated.Kind.Part as Part′
 use Rattle.stamp.proofs.Generated.Say.leaf_as_of as leaf-as-of″

@@ -34,8 +34,6 @@ use denote.Triple.Walked.{says}
 use Rattle.walk.proofs.Generated.Say.is_lost as is-lost″
 use Rattle.tree.specs.declared.Found.{Found}
 use Rattle.walk.proofs.Generated.Kind.Found as Found′
-use Rattle.tree.specs.declared.Version.{Version}
-use Rattle.register.proofs.Generated.Kind.Version as Version′
 use Rattle.register.proofs.Generated.Flow.{ref, MutAt, ShrAt, keeps-shr, plus-nothing}
 use Rattle.walk.proofs.is_lost as callee
 use Rattle.walk.proofs.is_lost.Symbol.{name as #callee}

@@ -36,8 +36,6 @@ use Rattle.tree.specs.declared.NodeAt.{NodeAt}
 use Rattle.descent.proofs.Generated.Kind.NodeAt as NodeAt′
 use Rattle.tree.specs.declared.Found.{Found}
 use Rattle.walk.proofs.Generated.Kind.Found as Found′
-use Rattle.tree.specs.declared.Version.{Version}
-use Rattle.register.proofs.Generated.Kind.Version as Version′
 use Rattle.register.proofs.Generated.Flow.{ref, MutAt, ShrAt, keeps-shr, plus-nothing}
 use Rattle.walk.proofs.leaf_of as callee
 use Rattle.walk.proofs.leaf_of.Symbol.{name as #callee}

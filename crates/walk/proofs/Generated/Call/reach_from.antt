@@ -50,54 +50,54 @@ module _ {M : Type 1} (𝓤 : URA M) (H : Heap 𝓤) (A : Atoms 𝓤) (mem : Mem
   abbrev pub Asked : Contract 𝓤
   Asked = tripleOf 𝓤 H A callee.signature (callee.spec 𝓤 H A mem run)
 
-  abbrev pub to : (κ₂·nodes : Lft) (q₂·nodes : Share) (b₂·nodes o₂·nodes : ℕ) (γ₂·nodes : GName) (κ·nodes : Lft) (q·nodes : Share) (b·nodes o·nodes : ℕ) (γ·nodes : GName) (nodes : List ℕ) (long·nodes : κ₂·nodes ⊑ κ·nodes) (κ₂·register : Lft) (q₂·register : Share) (b₂·register o₂·register : ℕ) (γ₂·register : GName) (κ·register : Lft) (q·register : Share) (b·register o·register : ℕ) (γ·register : GName) (register : List Record) (long·register : κ₂·register ⊑ κ·register) (c : ℕ) (height : ℕ) (page : PageIndex) (x-to : ℕ) → Asked .Ghost
-  to κ₂·nodes q₂·nodes b₂·nodes o₂·nodes γ₂·nodes κ·nodes q·nodes b·nodes o·nodes γ·nodes nodes long·nodes κ₂·register q₂·register b₂·register o₂·register γ₂·register κ·register q·register b·register o·register γ·register register long·register c height page x-to = (((κ₂·nodes, (κ·nodes, (κ₂·register, (κ·register, tt)))), (q₂·nodes, (q·nodes, (q₂·register, (q·register, tt)))), (long·nodes, (long·register, tt)), (ref-to b₂·nodes o₂·nodes γ₂·nodes (ref b·nodes o·nodes γ·nodes nodes), (ref-to b₂·register o₂·register γ₂·register (ref b·register o·register γ·register register), (c, (height, (page, (x-to, tt)))))), (vptr b₂·nodes o₂·nodes ∷ [], (vptr b₂·register o₂·register ∷ [], (vint w64 c ∷ [], (vint w64 height ∷ [], (PageIndex′.mach page ∷ [], (vint w64 x-to ∷ [], tt))))))), tt)
+  abbrev pub to : (κ₂·nodes : Lft) (q₂·nodes : Share) (b₂·nodes o₂·nodes : ℕ) (γ₂·nodes : GName) (κ·nodes : Lft) (q·nodes : Share) (b·nodes o·nodes : ℕ) (γ·nodes : GName) (nodes : List ℕ) (long·nodes : κ₂·nodes ⊑ κ·nodes) (κ₂·register : Lft) (q₂·register : Share) (b₂·register o₂·register : ℕ) (γ₂·register : GName) (κ·register : Lft) (q·register : Share) (b·register o·register : ℕ) (γ·register : GName) (register : List Record) (long·register : κ₂·register ⊑ κ·register) (c : ℕ) (span : ℕ) (page : PageIndex) (x-to : ℕ) → Asked .Ghost
+  to κ₂·nodes q₂·nodes b₂·nodes o₂·nodes γ₂·nodes κ·nodes q·nodes b·nodes o·nodes γ·nodes nodes long·nodes κ₂·register q₂·register b₂·register o₂·register γ₂·register κ·register q·register b·register o·register γ·register register long·register c span page x-to = (((κ₂·nodes, (κ·nodes, (κ₂·register, (κ·register, tt)))), (q₂·nodes, (q·nodes, (q₂·register, (q·register, tt)))), (long·nodes, (long·register, tt)), (ref-to b₂·nodes o₂·nodes γ₂·nodes (ref b·nodes o·nodes γ·nodes nodes), (ref-to b₂·register o₂·register γ₂·register (ref b·register o·register γ·register register), (c, (span, (page, (x-to, tt)))))), (vptr b₂·nodes o₂·nodes ∷ [], (vptr b₂·register o₂·register ∷ [], (vint w64 c ∷ [], (vint w64 span ∷ [], (PageIndex′.mach page ∷ [], (vint w64 x-to ∷ [], tt))))))), tt)
 
 module _ {M : Type 1} {𝓤 : URA M} {H : Heap 𝓤} {A : Atoms 𝓤} {K : Type 0} {W : Given 𝓤 H A} {Γ : List (Item 𝓤)} where
   -- the call itself is made by `by-call`, from what the callee asks to what it has ensured
-  core : K → (mem : Memory → SProp 𝓤) (run : Routine → Fun 𝓤) → (κ₂·nodes : Lft) (q₂·nodes : Share) (b₂·nodes o₂·nodes : ℕ) (γ₂·nodes : GName) (κ·nodes : Lft) (q·nodes : Share) (b·nodes o·nodes : ℕ) (γ·nodes : GName) (nodes : List ℕ) (long·nodes : κ₂·nodes ⊑ κ·nodes) (κ₂·register : Lft) (q₂·register : Share) (b₂·register o₂·register : ℕ) (γ₂·register : GName) (κ·register : Lft) (q·register : Share) (b·register o·register : ℕ) (γ·register : GName) (register : List Record) (long·register : κ₂·register ⊑ κ·register) (c : ℕ) (height : ℕ) (page : PageIndex) (x-to : ℕ) → (G : Goal 𝓤 H) (after : Val → Goal 𝓤 H) → ((v : Val) → Soaks (after v))
-      → (((v : Val) → Seq K W (raw (Asked 𝓤 H A mem run .post (to 𝓤 H A mem run κ₂·nodes q₂·nodes b₂·nodes o₂·nodes γ₂·nodes κ·nodes q·nodes b·nodes o·nodes γ·nodes nodes long·nodes κ₂·register q₂·register b₂·register o₂·register γ₂·register κ·register q·register b·register o·register γ·register register long·register c height page x-to) v) ∷ ‵ (RefAt u32 κ₂·nodes b₂·nodes o₂·nodes γ₂·nodes κ·nodes b·nodes o·nodes γ·nodes nodes) ∷ ‵ (RefAt Record′.row κ₂·register b₂·register o₂·register γ₂·register κ·register b·register o·register γ·register register) ∷ Γ) (after v)) → Seq K W (raw (Asked 𝓤 H A mem run .pre (to 𝓤 H A mem run κ₂·nodes q₂·nodes b₂·nodes o₂·nodes γ₂·nodes κ·nodes q·nodes b·nodes o·nodes γ·nodes nodes long·nodes κ₂·register q₂·register b₂·register o₂·register γ₂·register κ·register q·register b·register o·register γ·register register long·register c height page x-to)) ∷ ‵ (RefAt u32 κ₂·nodes b₂·nodes o₂·nodes γ₂·nodes κ·nodes b·nodes o·nodes γ·nodes nodes) ∷ ‵ (RefAt Record′.row κ₂·register b₂·register o₂·register γ₂·register κ·register b·register o·register γ·register register) ∷ Γ) G) → Is u64 c (uint-vals w64 c) → Is u64 height (uint-vals w64 height) → Is PageIndex′.row page (PageIndex′.vals page) → Is u64 x-to (uint-vals w64 x-to) →
-      (Is u64 (reach-from″.res nodes register c height page x-to) (uint-vals w64 (reach-from″.res nodes register c height page x-to)) → Seq K W (‵ (flft κ₂·nodes q₂·nodes) ∷ ‵ (RefAt u32 κ₂·nodes b₂·nodes o₂·nodes γ₂·nodes κ·nodes b·nodes o·nodes γ·nodes nodes) ∷ ‵ (flft κ·nodes q·nodes) ∷ ‵ (flft κ₂·register q₂·register) ∷ ‵ (RefAt Record′.row κ₂·register b₂·register o₂·register γ₂·register κ·register b·register o·register γ·register register) ∷ ‵ (flft κ·register q·register) ∷ Γ) (after (vint w64 (reach-from″.res nodes register c height page x-to)))) → Seq K W (‵ (flft κ₂·nodes q₂·nodes) ∷ ‵ (RefAt u32 κ₂·nodes b₂·nodes o₂·nodes γ₂·nodes κ·nodes b·nodes o·nodes γ·nodes nodes) ∷ ‵ (flft κ·nodes q·nodes) ∷ ‵ (flft κ₂·register q₂·register) ∷ ‵ (RefAt Record′.row κ₂·register b₂·register o₂·register γ₂·register κ·register b·register o·register γ·register register) ∷ ‵ (flft κ·register q·register) ∷ Γ) G
-  core t mem run κ₂·nodes q₂·nodes b₂·nodes o₂·nodes γ₂·nodes κ·nodes q·nodes b·nodes o·nodes γ·nodes nodes long·nodes κ₂·register q₂·register b₂·register o₂·register γ₂·register κ·register q·register b·register o·register γ·register register long·register c height page x-to G after soaks by-call ok·c ok·height ok·page ok·x-to k =
+  core : K → (mem : Memory → SProp 𝓤) (run : Routine → Fun 𝓤) → (κ₂·nodes : Lft) (q₂·nodes : Share) (b₂·nodes o₂·nodes : ℕ) (γ₂·nodes : GName) (κ·nodes : Lft) (q·nodes : Share) (b·nodes o·nodes : ℕ) (γ·nodes : GName) (nodes : List ℕ) (long·nodes : κ₂·nodes ⊑ κ·nodes) (κ₂·register : Lft) (q₂·register : Share) (b₂·register o₂·register : ℕ) (γ₂·register : GName) (κ·register : Lft) (q·register : Share) (b·register o·register : ℕ) (γ·register : GName) (register : List Record) (long·register : κ₂·register ⊑ κ·register) (c : ℕ) (span : ℕ) (page : PageIndex) (x-to : ℕ) → (G : Goal 𝓤 H) (after : Val → Goal 𝓤 H) → ((v : Val) → Soaks (after v))
+      → (((v : Val) → Seq K W (raw (Asked 𝓤 H A mem run .post (to 𝓤 H A mem run κ₂·nodes q₂·nodes b₂·nodes o₂·nodes γ₂·nodes κ·nodes q·nodes b·nodes o·nodes γ·nodes nodes long·nodes κ₂·register q₂·register b₂·register o₂·register γ₂·register κ·register q·register b·register o·register γ·register register long·register c span page x-to) v) ∷ ‵ (RefAt u32 κ₂·nodes b₂·nodes o₂·nodes γ₂·nodes κ·nodes b·nodes o·nodes γ·nodes nodes) ∷ ‵ (RefAt Record′.row κ₂·register b₂·register o₂·register γ₂·register κ·register b·register o·register γ·register register) ∷ Γ) (after v)) → Seq K W (raw (Asked 𝓤 H A mem run .pre (to 𝓤 H A mem run κ₂·nodes q₂·nodes b₂·nodes o₂·nodes γ₂·nodes κ·nodes q·nodes b·nodes o·nodes γ·nodes nodes long·nodes κ₂·register q₂·register b₂·register o₂·register γ₂·register κ·register q·register b·register o·register γ·register register long·register c span page x-to)) ∷ ‵ (RefAt u32 κ₂·nodes b₂·nodes o₂·nodes γ₂·nodes κ·nodes b·nodes o·nodes γ·nodes nodes) ∷ ‵ (RefAt Record′.row κ₂·register b₂·register o₂·register γ₂·register κ·register b·register o·register γ·register register) ∷ Γ) G) → Is u64 c (uint-vals w64 c) → Is u64 span (uint-vals w64 span) → Is PageIndex′.row page (PageIndex′.vals page) → Is u64 x-to (uint-vals w64 x-to) → reach-from″.req nodes register c span page x-to →
+      ((x·res : ℕ) → Is u64 x·res (uint-vals w64 x·res) → reach-from″.ens nodes register c span page x-to x·res → Seq K W (‵ (flft κ₂·nodes q₂·nodes) ∷ ‵ (RefAt u32 κ₂·nodes b₂·nodes o₂·nodes γ₂·nodes κ·nodes b·nodes o·nodes γ·nodes nodes) ∷ ‵ (flft κ·nodes q·nodes) ∷ ‵ (flft κ₂·register q₂·register) ∷ ‵ (RefAt Record′.row κ₂·register b₂·register o₂·register γ₂·register κ·register b·register o·register γ·register register) ∷ ‵ (flft κ·register q·register) ∷ Γ) (after (vint w64 x·res))) → Seq K W (‵ (flft κ₂·nodes q₂·nodes) ∷ ‵ (RefAt u32 κ₂·nodes b₂·nodes o₂·nodes γ₂·nodes κ·nodes b·nodes o·nodes γ·nodes nodes) ∷ ‵ (flft κ·nodes q·nodes) ∷ ‵ (flft κ₂·register q₂·register) ∷ ‵ (RefAt Record′.row κ₂·register b₂·register o₂·register γ₂·register κ·register b·register o·register γ·register register) ∷ ‵ (flft κ·register q·register) ∷ Γ) G
+  core t mem run κ₂·nodes q₂·nodes b₂·nodes o₂·nodes γ₂·nodes κ·nodes q·nodes b·nodes o·nodes γ·nodes nodes long·nodes κ₂·register q₂·register b₂·register o₂·register γ₂·register κ·register q·register b·register o·register γ·register register long·register c span page x-to G after soaks by-call ok·c ok·span ok·page ok·x-to need k =
       move t (1 ∷ []) $ keeps-ref t u32 κ₂·nodes b₂·nodes o₂·nodes γ₂·nodes κ·nodes b·nodes o·nodes γ·nodes nodes $ move t (5 ∷ []) $ keeps-ref t Record′.row κ₂·register b₂·register o₂·register γ₂·register κ·register b·register o·register γ·register register $ move t (4 ∷ 2 ∷ 5 ∷ 6 ∷ 0 ∷ 7 ∷ 3 ∷ 1 ∷ []) $
-      move t (4 ∷ 5 ∷ []) $ join t $ move t (4 ∷ 0 ∷ []) $ join t $ move t (3 ∷ 0 ∷ []) $ join t $ move t (2 ∷ 0 ∷ []) $ join t $ move t (1 ∷ 0 ∷ []) $ join t $ use1 W (raw (Asked 𝓤 H A mem run .pre (to 𝓤 H A mem run κ₂·nodes q₂·nodes b₂·nodes o₂·nodes γ₂·nodes κ·nodes q·nodes b·nodes o·nodes γ·nodes nodes long·nodes κ₂·register q₂·register b₂·register o₂·register γ₂·register κ·register q·register b·register o·register γ·register register long·register c height page x-to))) goes $
+      move t (4 ∷ 5 ∷ []) $ join t $ move t (4 ∷ 0 ∷ []) $ join t $ move t (3 ∷ 0 ∷ []) $ join t $ move t (2 ∷ 0 ∷ []) $ join t $ move t (1 ∷ 0 ∷ []) $ join t $ use1 W (raw (Asked 𝓤 H A mem run .pre (to 𝓤 H A mem run κ₂·nodes q₂·nodes b₂·nodes o₂·nodes γ₂·nodes κ·nodes q·nodes b·nodes o·nodes γ·nodes nodes long·nodes κ₂·register q₂·register b₂·register o₂·register γ₂·register κ·register q·register b·register o·register γ·register register long·register c span page x-to))) goes $
       by-call (λ v.
-      use1 W (later (some (λ (r· : ℕ). ((‵ (flft κ₂·nodes q₂·nodes) ⊛ ‵ (flft κ·nodes q·nodes) ⊛ ‵ (flft κ₂·register q₂·register) ⊛ ‵ (flft κ·register q·register) ⊛ ‵ ftrue) ⊛ ‵ (u64 .own r· (v ∷ []))) ⊛ raw (ensured 𝓤 H A callee.ended (callee.clauses 𝓤 H A mem run) (κ₂·nodes, (κ·nodes, (κ₂·register, (κ·register, tt)))) (ref-to b₂·nodes o₂·nodes γ₂·nodes (ref b·nodes o·nodes γ·nodes nodes), (ref-to b₂·register o₂·register γ₂·register (ref b·register o·register γ·register register), (c, (height, (page, (x-to, tt)))))) tt r·)))) (id⊢ 𝓤 _) $ await t (soaks v) $ pick t (λ r·. split t $ move t (1 ∷ []) $
-      use1 W (some (λ (ws : Lasts callee.ended (κ₂·nodes, (κ·nodes, (κ₂·register, (κ·register, tt)))) (ref-to b₂·nodes o₂·nodes γ₂·nodes (ref b·nodes o·nodes γ·nodes nodes), (ref-to b₂·register o₂·register γ₂·register (ref b·register o·register γ·register register), (c, (height, (page, (x-to, tt))))))). ‵ (lasts callee.ended (κ₂·nodes, (κ·nodes, (κ₂·register, (κ·register, tt)))) (ref-to b₂·nodes o₂·nodes γ₂·nodes (ref b·nodes o·nodes γ·nodes nodes), (ref-to b₂·register o₂·register γ₂·register (ref b·register o·register γ·register register), (c, (height, (page, (x-to, tt)))))) ws) ⊛ raw (fact 𝓤 (reach-from″.ens nodes register c height page x-to r·)))) (id⊢ 𝓤 _) $ pick t (λ ws. split t $ move t (1 ∷ []) $
-      heard t (reach-from″.ens nodes register c height page x-to r·) (λ e. drop t $ split t $ move t (1 ∷ []) $ facts t u64 (Is u64) (shows 𝓤 H A u64) r· (v ∷ []) (λ is. split t $ move t (1 ∷ []) $ split t $ move t (1 ∷ []) $ split t $ move t (1 ∷ []) $ split t $ move t (1 ∷ []) $ drop t $ move t (3 ∷ 4 ∷ 2 ∷ 1 ∷ 5 ∷ 0 ∷ []) $
-      subst (λ (u : Val). Seq K W (‵ (flft κ₂·nodes q₂·nodes) ∷ ‵ (RefAt u32 κ₂·nodes b₂·nodes o₂·nodes γ₂·nodes κ·nodes b·nodes o·nodes γ·nodes nodes) ∷ ‵ (flft κ·nodes q·nodes) ∷ ‵ (flft κ₂·register q₂·register) ∷ ‵ (RefAt Record′.row κ₂·register b₂·register o₂·register γ₂·register κ·register b·register o·register γ·register register) ∷ ‵ (flft κ·register q·register) ∷ Γ) (after u)) (sym (ap only (uint-tells w64 r· (v ∷ []) is) ∙ ap (λ (z : ℕ). vint w64 z) (e))) (k (subst (λ (z : ℕ). Is u64 z (uint-vals w64 z)) (e) (subst (Is u64 r·) (uint-tells w64 r· (v ∷ []) is) is))))))))
+      use1 W (later (some (λ (r· : ℕ). ((‵ (flft κ₂·nodes q₂·nodes) ⊛ ‵ (flft κ·nodes q·nodes) ⊛ ‵ (flft κ₂·register q₂·register) ⊛ ‵ (flft κ·register q·register) ⊛ ‵ ftrue) ⊛ ‵ (u64 .own r· (v ∷ []))) ⊛ raw (ensured 𝓤 H A callee.ended (callee.clauses 𝓤 H A mem run) (κ₂·nodes, (κ·nodes, (κ₂·register, (κ·register, tt)))) (ref-to b₂·nodes o₂·nodes γ₂·nodes (ref b·nodes o·nodes γ·nodes nodes), (ref-to b₂·register o₂·register γ₂·register (ref b·register o·register γ·register register), (c, (span, (page, (x-to, tt)))))) tt r·)))) (id⊢ 𝓤 _) $ await t (soaks v) $ pick t (λ r·. split t $ move t (1 ∷ []) $
+      use1 W (some (λ (ws : Lasts callee.ended (κ₂·nodes, (κ·nodes, (κ₂·register, (κ·register, tt)))) (ref-to b₂·nodes o₂·nodes γ₂·nodes (ref b·nodes o·nodes γ·nodes nodes), (ref-to b₂·register o₂·register γ₂·register (ref b·register o·register γ·register register), (c, (span, (page, (x-to, tt))))))). ‵ (lasts callee.ended (κ₂·nodes, (κ·nodes, (κ₂·register, (κ·register, tt)))) (ref-to b₂·nodes o₂·nodes γ₂·nodes (ref b·nodes o·nodes γ·nodes nodes), (ref-to b₂·register o₂·register γ₂·register (ref b·register o·register γ·register register), (c, (span, (page, (x-to, tt)))))) ws) ⊛ raw (fact 𝓤 (reach-from″.ens nodes register c span page x-to r·)))) (id⊢ 𝓤 _) $ pick t (λ ws. split t $ move t (1 ∷ []) $
+      heard t (reach-from″.ens nodes register c span page x-to r·) (λ e. drop t $ split t $ move t (1 ∷ []) $ facts t u64 (Is u64) (shows 𝓤 H A u64) r· (v ∷ []) (λ is. split t $ move t (1 ∷ []) $ split t $ move t (1 ∷ []) $ split t $ move t (1 ∷ []) $ split t $ move t (1 ∷ []) $ drop t $ move t (3 ∷ 4 ∷ 2 ∷ 1 ∷ 5 ∷ 0 ∷ []) $
+      subst (λ (u : Val). Seq K W (‵ (flft κ₂·nodes q₂·nodes) ∷ ‵ (RefAt u32 κ₂·nodes b₂·nodes o₂·nodes γ₂·nodes κ·nodes b·nodes o·nodes γ·nodes nodes) ∷ ‵ (flft κ·nodes q·nodes) ∷ ‵ (flft κ₂·register q₂·register) ∷ ‵ (RefAt Record′.row κ₂·register b₂·register o₂·register γ₂·register κ·register b·register o·register γ·register register) ∷ ‵ (flft κ·register q·register) ∷ Γ) (after u)) (sym (ap only (uint-tells w64 r· (v ∷ []) is))) (k r· (subst (Is u64 r·) (uint-tells w64 r· (v ∷ []) is) is) e))))))
     where
-      goes : ent 𝓤 (⋆ 𝓤 H A (‵ (flft κ₂·nodes q₂·nodes) ∷ ‵ (RefAt u32 κ₂·nodes b₂·nodes o₂·nodes γ₂·nodes κ·nodes b·nodes o·nodes γ·nodes nodes) ∷ ‵ (flft κ·nodes q·nodes) ∷ ‵ (flft κ₂·register q₂·register) ∷ ‵ (RefAt Record′.row κ₂·register b₂·register o₂·register γ₂·register κ·register b·register o·register γ·register register) ∷ ‵ (flft κ·register q·register) ∷ [])) (Asked 𝓤 H A mem run .pre (to 𝓤 H A mem run κ₂·nodes q₂·nodes b₂·nodes o₂·nodes γ₂·nodes κ·nodes q·nodes b·nodes o·nodes γ·nodes nodes long·nodes κ₂·register q₂·register b₂·register o₂·register γ₂·register κ·register q·register b·register o·register γ·register register long·register c height page x-to))
-      goes = qed W (‵ (flft κ₂·nodes q₂·nodes) ∷ ‵ (RefAt u32 κ₂·nodes b₂·nodes o₂·nodes γ₂·nodes κ·nodes b·nodes o·nodes γ·nodes nodes) ∷ ‵ (flft κ·nodes q·nodes) ∷ ‵ (flft κ₂·register q₂·register) ∷ ‵ (RefAt Record′.row κ₂·register b₂·register o₂·register γ₂·register κ·register b·register o·register γ·register register) ∷ ‵ (flft κ·register q·register) ∷ []) ∵ plus-nothing ! $ nothing ! $ move ! (6 ∷ 0 ∷ []) $ join ! $ move ! (4 ∷ 0 ∷ []) $ join ! $ move ! (3 ∷ 0 ∷ []) $ join ! $ move ! (1 ∷ 0 ∷ []) $ join ! $ frame ! $ nothing ! $ owned ! u64 (Is u64) (uint-makes 𝓤 H A W w64) x-to _ ok·x-to $ fjoin ! $ owned ! PageIndex′.row (Is PageIndex′.row) (PageIndex′.makes 𝓤 H A) page _ ok·page $ fjoin ! $ owned ! u64 (Is u64) (uint-makes 𝓤 H A W w64) height _ ok·height $ fjoin ! $ owned ! u64 (Is u64) (uint-makes 𝓤 H A W w64) c _ ok·c $ fjoin ! $ move ! (2 ∷ 0 ∷ []) $ fjoin ! $ move ! (1 ∷ 0 ∷ []) $ fjoin ! $ done !
+      goes : ent 𝓤 (⋆ 𝓤 H A (‵ (flft κ₂·nodes q₂·nodes) ∷ ‵ (RefAt u32 κ₂·nodes b₂·nodes o₂·nodes γ₂·nodes κ·nodes b·nodes o·nodes γ·nodes nodes) ∷ ‵ (flft κ·nodes q·nodes) ∷ ‵ (flft κ₂·register q₂·register) ∷ ‵ (RefAt Record′.row κ₂·register b₂·register o₂·register γ₂·register κ·register b·register o·register γ·register register) ∷ ‵ (flft κ·register q·register) ∷ [])) (Asked 𝓤 H A mem run .pre (to 𝓤 H A mem run κ₂·nodes q₂·nodes b₂·nodes o₂·nodes γ₂·nodes κ·nodes q·nodes b·nodes o·nodes γ·nodes nodes long·nodes κ₂·register q₂·register b₂·register o₂·register γ₂·register κ·register q·register b·register o·register γ·register register long·register c span page x-to))
+      goes = qed W (‵ (flft κ₂·nodes q₂·nodes) ∷ ‵ (RefAt u32 κ₂·nodes b₂·nodes o₂·nodes γ₂·nodes κ·nodes b·nodes o·nodes γ·nodes nodes) ∷ ‵ (flft κ·nodes q·nodes) ∷ ‵ (flft κ₂·register q₂·register) ∷ ‵ (RefAt Record′.row κ₂·register b₂·register o₂·register γ₂·register κ·register b·register o·register γ·register register) ∷ ‵ (flft κ·register q·register) ∷ []) ∵ says ! need $ nothing ! $ move ! (6 ∷ 0 ∷ []) $ join ! $ move ! (4 ∷ 0 ∷ []) $ join ! $ move ! (3 ∷ 0 ∷ []) $ join ! $ move ! (1 ∷ 0 ∷ []) $ join ! $ frame ! $ nothing ! $ owned ! u64 (Is u64) (uint-makes 𝓤 H A W w64) x-to _ ok·x-to $ fjoin ! $ owned ! PageIndex′.row (Is PageIndex′.row) (PageIndex′.makes 𝓤 H A) page _ ok·page $ fjoin ! $ owned ! u64 (Is u64) (uint-makes 𝓤 H A W w64) span _ ok·span $ fjoin ! $ owned ! u64 (Is u64) (uint-makes 𝓤 H A W w64) c _ ok·c $ fjoin ! $ move ! (2 ∷ 0 ∷ []) $ fjoin ! $ move ! (1 ∷ 0 ∷ []) $ fjoin ! $ done !
 
 module _ {M : Type 1} {𝓤 : URA M} {H : Heap 𝓤} {A : Atoms 𝓤} {K : Type 0} {W : Given 𝓤 H A} {Γ : List (Item 𝓤)} {E : Env 𝓤 H} {C : Calls 𝓤 H} {Λ : Loops 𝓤 H} {Q : Post 𝓤 H} {xs : List Operand} {d : Place} {rest : Body} where
   -- by one instance of the callee's contract, which is what a function that calls itself has
-  pub calls-by : K → (mem : Memory → SProp 𝓤) (run : Routine → Fun 𝓤) → FmC 𝓤 H (W .laws) C → (κ₂·nodes : Lft) (q₂·nodes : Share) (b₂·nodes o₂·nodes : ℕ) (γ₂·nodes : GName) (κ·nodes : Lft) (q·nodes : Share) (b·nodes o·nodes : ℕ) (γ·nodes : GName) (nodes : List ℕ) (long·nodes : κ₂·nodes ⊑ κ·nodes) (κ₂·register : Lft) (q₂·register : Share) (b₂·register o₂·register : ℕ) (γ₂·register : GName) (κ·register : Lft) (q·register : Share) (b·register o·register : ℕ) (γ·register : GName) (register : List Record) (long·register : κ₂·register ⊑ κ·register) (c : ℕ) (height : ℕ) (page : PageIndex) (x-to : ℕ) → ent 𝓤 (Asked 𝓤 H A mem run .pre (to 𝓤 H A mem run κ₂·nodes q₂·nodes b₂·nodes o₂·nodes γ₂·nodes κ·nodes q·nodes b·nodes o·nodes γ·nodes nodes long·nodes κ₂·register q₂·register b₂·register o₂·register γ₂·register κ·register q·register b·register o·register γ·register register long·register c height page x-to)) (C #callee (Asked 𝓤 H A mem run .args (to 𝓤 H A mem run κ₂·nodes q₂·nodes b₂·nodes o₂·nodes γ₂·nodes κ·nodes q·nodes b·nodes o·nodes γ·nodes nodes long·nodes κ₂·register q₂·register b₂·register o₂·register γ₂·register κ·register q·register b·register o·register γ·register register long·register c height page x-to)) (Asked 𝓤 H A mem run .post (to 𝓤 H A mem run κ₂·nodes q₂·nodes b₂·nodes o₂·nodes γ₂·nodes κ·nodes q·nodes b·nodes o·nodes γ·nodes nodes long·nodes κ₂·register q₂·register b₂·register o₂·register γ₂·register κ·register q·register b·register o·register γ·register register long·register c height page x-to))) → Is u64 c (uint-vals w64 c) → Is u64 height (uint-vals w64 height) → Is PageIndex′.row page (PageIndex′.vals page) → Is u64 x-to (uint-vals w64 x-to) →
-      Opds K W (raw (Asked 𝓤 H A mem run .pre (to 𝓤 H A mem run κ₂·nodes q₂·nodes b₂·nodes o₂·nodes γ₂·nodes κ·nodes q·nodes b·nodes o·nodes γ·nodes nodes long·nodes κ₂·register q₂·register b₂·register o₂·register γ₂·register κ·register q·register b·register o·register γ·register register long·register c height page x-to)) ∷ ‵ (RefAt u32 κ₂·nodes b₂·nodes o₂·nodes γ₂·nodes κ·nodes b·nodes o·nodes γ·nodes nodes) ∷ ‵ (RefAt Record′.row κ₂·register b₂·register o₂·register γ₂·register κ·register b·register o·register γ·register register) ∷ Γ) E xs (vptr b₂·nodes o₂·nodes ∷ vptr b₂·register o₂·register ∷ vint w64 c ∷ vint w64 height ∷ PageIndex′.mach page ∷ vint w64 x-to ∷ [])
-      → (Is u64 (reach-from″.res nodes register c height page x-to) (uint-vals w64 (reach-from″.res nodes register c height page x-to)) → Seq K W (‵ (flft κ₂·nodes q₂·nodes) ∷ ‵ (RefAt u32 κ₂·nodes b₂·nodes o₂·nodes γ₂·nodes κ·nodes b·nodes o·nodes γ·nodes nodes) ∷ ‵ (flft κ·nodes q·nodes) ∷ ‵ (flft κ₂·register q₂·register) ∷ ‵ (RefAt Record′.row κ₂·register b₂·register o₂·register γ₂·register κ·register b·register o·register γ·register register) ∷ ‵ (flft κ·register q·register) ∷ Γ) (lands C Λ E d (vint w64 (reach-from″.res nodes register c height page x-to)) rest Q))
+  pub calls-by : K → (mem : Memory → SProp 𝓤) (run : Routine → Fun 𝓤) → FmC 𝓤 H (W .laws) C → (κ₂·nodes : Lft) (q₂·nodes : Share) (b₂·nodes o₂·nodes : ℕ) (γ₂·nodes : GName) (κ·nodes : Lft) (q·nodes : Share) (b·nodes o·nodes : ℕ) (γ·nodes : GName) (nodes : List ℕ) (long·nodes : κ₂·nodes ⊑ κ·nodes) (κ₂·register : Lft) (q₂·register : Share) (b₂·register o₂·register : ℕ) (γ₂·register : GName) (κ·register : Lft) (q·register : Share) (b·register o·register : ℕ) (γ·register : GName) (register : List Record) (long·register : κ₂·register ⊑ κ·register) (c : ℕ) (span : ℕ) (page : PageIndex) (x-to : ℕ) → ent 𝓤 (Asked 𝓤 H A mem run .pre (to 𝓤 H A mem run κ₂·nodes q₂·nodes b₂·nodes o₂·nodes γ₂·nodes κ·nodes q·nodes b·nodes o·nodes γ·nodes nodes long·nodes κ₂·register q₂·register b₂·register o₂·register γ₂·register κ·register q·register b·register o·register γ·register register long·register c span page x-to)) (C #callee (Asked 𝓤 H A mem run .args (to 𝓤 H A mem run κ₂·nodes q₂·nodes b₂·nodes o₂·nodes γ₂·nodes κ·nodes q·nodes b·nodes o·nodes γ·nodes nodes long·nodes κ₂·register q₂·register b₂·register o₂·register γ₂·register κ·register q·register b·register o·register γ·register register long·register c span page x-to)) (Asked 𝓤 H A mem run .post (to 𝓤 H A mem run κ₂·nodes q₂·nodes b₂·nodes o₂·nodes γ₂·nodes κ·nodes q·nodes b·nodes o·nodes γ·nodes nodes long·nodes κ₂·register q₂·register b₂·register o₂·register γ₂·register κ·register q·register b·register o·register γ·register register long·register c span page x-to))) → Is u64 c (uint-vals w64 c) → Is u64 span (uint-vals w64 span) → Is PageIndex′.row page (PageIndex′.vals page) → Is u64 x-to (uint-vals w64 x-to) → reach-from″.req nodes register c span page x-to →
+      Opds K W (raw (Asked 𝓤 H A mem run .pre (to 𝓤 H A mem run κ₂·nodes q₂·nodes b₂·nodes o₂·nodes γ₂·nodes κ·nodes q·nodes b·nodes o·nodes γ·nodes nodes long·nodes κ₂·register q₂·register b₂·register o₂·register γ₂·register κ·register q·register b·register o·register γ·register register long·register c span page x-to)) ∷ ‵ (RefAt u32 κ₂·nodes b₂·nodes o₂·nodes γ₂·nodes κ·nodes b·nodes o·nodes γ·nodes nodes) ∷ ‵ (RefAt Record′.row κ₂·register b₂·register o₂·register γ₂·register κ·register b·register o·register γ·register register) ∷ Γ) E xs (vptr b₂·nodes o₂·nodes ∷ vptr b₂·register o₂·register ∷ vint w64 c ∷ vint w64 span ∷ PageIndex′.mach page ∷ vint w64 x-to ∷ [])
+      → ((x·res : ℕ) → Is u64 x·res (uint-vals w64 x·res) → reach-from″.ens nodes register c span page x-to x·res → Seq K W (‵ (flft κ₂·nodes q₂·nodes) ∷ ‵ (RefAt u32 κ₂·nodes b₂·nodes o₂·nodes γ₂·nodes κ·nodes b·nodes o·nodes γ·nodes nodes) ∷ ‵ (flft κ·nodes q·nodes) ∷ ‵ (flft κ₂·register q₂·register) ∷ ‵ (RefAt Record′.row κ₂·register b₂·register o₂·register γ₂·register κ·register b·register o·register γ·register register) ∷ ‵ (flft κ·register q·register) ∷ Γ) (lands C Λ E d (vint w64 x·res) rest Q))
       → Seq K W (‵ (flft κ₂·nodes q₂·nodes) ∷ ‵ (RefAt u32 κ₂·nodes b₂·nodes o₂·nodes γ₂·nodes κ·nodes b·nodes o·nodes γ·nodes nodes) ∷ ‵ (flft κ·nodes q·nodes) ∷ ‵ (flft κ₂·register q₂·register) ∷ ‵ (RefAt Record′.row κ₂·register b₂·register o₂·register γ₂·register κ·register b·register o·register γ·register register) ∷ ‵ (flft κ·register q·register) ∷ Γ) (runs C Λ E (seq (call #callee xs d) rest) Q)
-  calls-by t mem run fm κ₂·nodes q₂·nodes b₂·nodes o₂·nodes γ₂·nodes κ·nodes q·nodes b·nodes o·nodes γ·nodes nodes long·nodes κ₂·register q₂·register b₂·register o₂·register γ₂·register κ·register q·register b·register o·register γ·register register long·register c height page x-to known ok·c ok·height ok·page ok·x-to os k =
-      core t mem run κ₂·nodes q₂·nodes b₂·nodes o₂·nodes γ₂·nodes κ·nodes q·nodes b·nodes o·nodes γ·nodes nodes long·nodes κ₂·register q₂·register b₂·register o₂·register γ₂·register κ·register q·register b·register o·register γ·register register long·register c height page x-to (runs C Λ E (seq (call #callee xs d) rest) Q) (λ v. lands C Λ E d v rest Q) (λ v. tt)
-      (λ h. calls-from t fm (raw (Asked 𝓤 H A mem run .pre (to 𝓤 H A mem run κ₂·nodes q₂·nodes b₂·nodes o₂·nodes γ₂·nodes κ·nodes q·nodes b·nodes o·nodes γ·nodes nodes long·nodes κ₂·register q₂·register b₂·register o₂·register γ₂·register κ·register q·register b·register o·register γ·register register long·register c height page x-to))) (Asked 𝓤 H A mem run .args (to 𝓤 H A mem run κ₂·nodes q₂·nodes b₂·nodes o₂·nodes γ₂·nodes κ·nodes q·nodes b·nodes o·nodes γ·nodes nodes long·nodes κ₂·register q₂·register b₂·register o₂·register γ₂·register κ·register q·register b·register o·register γ·register register long·register c height page x-to)) (Asked 𝓤 H A mem run .post (to 𝓤 H A mem run κ₂·nodes q₂·nodes b₂·nodes o₂·nodes γ₂·nodes κ·nodes q·nodes b·nodes o·nodes γ·nodes nodes long·nodes κ₂·register q₂·register b₂·register o₂·register γ₂·register κ·register q·register b·register o·register γ·register register long·register c height page x-to)) known os h) ok·c ok·height ok·page ok·x-to k
+  calls-by t mem run fm κ₂·nodes q₂·nodes b₂·nodes o₂·nodes γ₂·nodes κ·nodes q·nodes b·nodes o·nodes γ·nodes nodes long·nodes κ₂·register q₂·register b₂·register o₂·register γ₂·register κ·register q·register b·register o·register γ·register register long·register c span page x-to known ok·c ok·span ok·page ok·x-to need os k =
+      core t mem run κ₂·nodes q₂·nodes b₂·nodes o₂·nodes γ₂·nodes κ·nodes q·nodes b·nodes o·nodes γ·nodes nodes long·nodes κ₂·register q₂·register b₂·register o₂·register γ₂·register κ·register q·register b·register o·register γ·register register long·register c span page x-to (runs C Λ E (seq (call #callee xs d) rest) Q) (λ v. lands C Λ E d v rest Q) (λ v. tt)
+      (λ h. calls-from t fm (raw (Asked 𝓤 H A mem run .pre (to 𝓤 H A mem run κ₂·nodes q₂·nodes b₂·nodes o₂·nodes γ₂·nodes κ·nodes q·nodes b·nodes o·nodes γ·nodes nodes long·nodes κ₂·register q₂·register b₂·register o₂·register γ₂·register κ·register q·register b·register o·register γ·register register long·register c span page x-to))) (Asked 𝓤 H A mem run .args (to 𝓤 H A mem run κ₂·nodes q₂·nodes b₂·nodes o₂·nodes γ₂·nodes κ·nodes q·nodes b·nodes o·nodes γ·nodes nodes long·nodes κ₂·register q₂·register b₂·register o₂·register γ₂·register κ·register q·register b·register o·register γ·register register long·register c span page x-to)) (Asked 𝓤 H A mem run .post (to 𝓤 H A mem run κ₂·nodes q₂·nodes b₂·nodes o₂·nodes γ₂·nodes κ·nodes q·nodes b·nodes o·nodes γ·nodes nodes long·nodes κ₂·register q₂·register b₂·register o₂·register γ₂·register κ·register q·register b·register o·register γ·register register long·register c span page x-to)) known os h) ok·c ok·span ok·page ok·x-to need k
 
-  pub calls : K → (mem : Memory → SProp 𝓤) (run : Routine → Fun 𝓤) → FmC 𝓤 H (W .laws) C → Triple 𝓤 (C #callee) (Asked 𝓤 H A mem run) → (κ₂·nodes : Lft) (q₂·nodes : Share) (b₂·nodes o₂·nodes : ℕ) (γ₂·nodes : GName) (κ·nodes : Lft) (q·nodes : Share) (b·nodes o·nodes : ℕ) (γ·nodes : GName) (nodes : List ℕ) (long·nodes : κ₂·nodes ⊑ κ·nodes) (κ₂·register : Lft) (q₂·register : Share) (b₂·register o₂·register : ℕ) (γ₂·register : GName) (κ·register : Lft) (q·register : Share) (b·register o·register : ℕ) (γ·register : GName) (register : List Record) (long·register : κ₂·register ⊑ κ·register) (c : ℕ) (height : ℕ) (page : PageIndex) (x-to : ℕ) → Is u64 c (uint-vals w64 c) → Is u64 height (uint-vals w64 height) → Is PageIndex′.row page (PageIndex′.vals page) → Is u64 x-to (uint-vals w64 x-to) →
-      Opds K W (raw (Asked 𝓤 H A mem run .pre (to 𝓤 H A mem run κ₂·nodes q₂·nodes b₂·nodes o₂·nodes γ₂·nodes κ·nodes q·nodes b·nodes o·nodes γ·nodes nodes long·nodes κ₂·register q₂·register b₂·register o₂·register γ₂·register κ·register q·register b·register o·register γ·register register long·register c height page x-to)) ∷ ‵ (RefAt u32 κ₂·nodes b₂·nodes o₂·nodes γ₂·nodes κ·nodes b·nodes o·nodes γ·nodes nodes) ∷ ‵ (RefAt Record′.row κ₂·register b₂·register o₂·register γ₂·register κ·register b·register o·register γ·register register) ∷ Γ) E xs (vptr b₂·nodes o₂·nodes ∷ vptr b₂·register o₂·register ∷ vint w64 c ∷ vint w64 height ∷ PageIndex′.mach page ∷ vint w64 x-to ∷ [])
-      → (Is u64 (reach-from″.res nodes register c height page x-to) (uint-vals w64 (reach-from″.res nodes register c height page x-to)) → Seq K W (‵ (flft κ₂·nodes q₂·nodes) ∷ ‵ (RefAt u32 κ₂·nodes b₂·nodes o₂·nodes γ₂·nodes κ·nodes b·nodes o·nodes γ·nodes nodes) ∷ ‵ (flft κ·nodes q·nodes) ∷ ‵ (flft κ₂·register q₂·register) ∷ ‵ (RefAt Record′.row κ₂·register b₂·register o₂·register γ₂·register κ·register b·register o·register γ·register register) ∷ ‵ (flft κ·register q·register) ∷ Γ) (lands C Λ E d (vint w64 (reach-from″.res nodes register c height page x-to)) rest Q))
+  pub calls : K → (mem : Memory → SProp 𝓤) (run : Routine → Fun 𝓤) → FmC 𝓤 H (W .laws) C → Triple 𝓤 (C #callee) (Asked 𝓤 H A mem run) → (κ₂·nodes : Lft) (q₂·nodes : Share) (b₂·nodes o₂·nodes : ℕ) (γ₂·nodes : GName) (κ·nodes : Lft) (q·nodes : Share) (b·nodes o·nodes : ℕ) (γ·nodes : GName) (nodes : List ℕ) (long·nodes : κ₂·nodes ⊑ κ·nodes) (κ₂·register : Lft) (q₂·register : Share) (b₂·register o₂·register : ℕ) (γ₂·register : GName) (κ·register : Lft) (q·register : Share) (b·register o·register : ℕ) (γ·register : GName) (register : List Record) (long·register : κ₂·register ⊑ κ·register) (c : ℕ) (span : ℕ) (page : PageIndex) (x-to : ℕ) → Is u64 c (uint-vals w64 c) → Is u64 span (uint-vals w64 span) → Is PageIndex′.row page (PageIndex′.vals page) → Is u64 x-to (uint-vals w64 x-to) → reach-from″.req nodes register c span page x-to →
+      Opds K W (raw (Asked 𝓤 H A mem run .pre (to 𝓤 H A mem run κ₂·nodes q₂·nodes b₂·nodes o₂·nodes γ₂·nodes κ·nodes q·nodes b·nodes o·nodes γ·nodes nodes long·nodes κ₂·register q₂·register b₂·register o₂·register γ₂·register κ·register q·register b·register o·register γ·register register long·register c span page x-to)) ∷ ‵ (RefAt u32 κ₂·nodes b₂·nodes o₂·nodes γ₂·nodes κ·nodes b·nodes o·nodes γ·nodes nodes) ∷ ‵ (RefAt Record′.row κ₂·register b₂·register o₂·register γ₂·register κ·register b·register o·register γ·register register) ∷ Γ) E xs (vptr b₂·nodes o₂·nodes ∷ vptr b₂·register o₂·register ∷ vint w64 c ∷ vint w64 span ∷ PageIndex′.mach page ∷ vint w64 x-to ∷ [])
+      → ((x·res : ℕ) → Is u64 x·res (uint-vals w64 x·res) → reach-from″.ens nodes register c span page x-to x·res → Seq K W (‵ (flft κ₂·nodes q₂·nodes) ∷ ‵ (RefAt u32 κ₂·nodes b₂·nodes o₂·nodes γ₂·nodes κ·nodes b·nodes o·nodes γ·nodes nodes) ∷ ‵ (flft κ·nodes q·nodes) ∷ ‵ (flft κ₂·register q₂·register) ∷ ‵ (RefAt Record′.row κ₂·register b₂·register o₂·register γ₂·register κ·register b·register o·register γ·register register) ∷ ‵ (flft κ·register q·register) ∷ Γ) (lands C Λ E d (vint w64 x·res) rest Q))
       → Seq K W (‵ (flft κ₂·nodes q₂·nodes) ∷ ‵ (RefAt u32 κ₂·nodes b₂·nodes o₂·nodes γ₂·nodes κ·nodes b·nodes o·nodes γ·nodes nodes) ∷ ‵ (flft κ·nodes q·nodes) ∷ ‵ (flft κ₂·register q₂·register) ∷ ‵ (RefAt Record′.row κ₂·register b₂·register o₂·register γ₂·register κ·register b·register o·register γ·register register) ∷ ‵ (flft κ·register q·register) ∷ Γ) (runs C Λ E (seq (call #callee xs d) rest) Q)
-  calls t mem run fm known κ₂·nodes q₂·nodes b₂·nodes o₂·nodes γ₂·nodes κ·nodes q·nodes b·nodes o·nodes γ·nodes nodes long·nodes κ₂·register q₂·register b₂·register o₂·register γ₂·register κ·register q·register b·register o·register γ·register register long·register c height page x-to = calls-by t mem run fm κ₂·nodes q₂·nodes b₂·nodes o₂·nodes γ₂·nodes κ·nodes q·nodes b·nodes o·nodes γ·nodes nodes long·nodes κ₂·register q₂·register b₂·register o₂·register γ₂·register κ·register q·register b·register o·register γ·register register long·register c height page x-to (known (to 𝓤 H A mem run κ₂·nodes q₂·nodes b₂·nodes o₂·nodes γ₂·nodes κ·nodes q·nodes b·nodes o·nodes γ·nodes nodes long·nodes κ₂·register q₂·register b₂·register o₂·register γ₂·register κ·register q·register b·register o·register γ·register register long·register c height page x-to))
+  calls t mem run fm known κ₂·nodes q₂·nodes b₂·nodes o₂·nodes γ₂·nodes κ·nodes q·nodes b·nodes o·nodes γ·nodes nodes long·nodes κ₂·register q₂·register b₂·register o₂·register γ₂·register κ·register q·register b·register o·register γ·register register long·register c span page x-to = calls-by t mem run fm κ₂·nodes q₂·nodes b₂·nodes o₂·nodes γ₂·nodes κ·nodes q·nodes b·nodes o·nodes γ·nodes nodes long·nodes κ₂·register q₂·register b₂·register o₂·register γ₂·register κ·register q·register b·register o·register γ·register register long·register c span page x-to (known (to 𝓤 H A mem run κ₂·nodes q₂·nodes b₂·nodes o₂·nodes γ₂·nodes κ·nodes q·nodes b·nodes o·nodes γ·nodes nodes long·nodes κ₂·register q₂·register b₂·register o₂·register γ₂·register κ·register q·register b·register o·register γ·register register long·register c span page x-to))
 
 module _ {M : Type 1} {𝓤 : URA M} {H : Heap 𝓤} {A : Atoms 𝓤} {K : Type 0} {W : Given 𝓤 H A} {Γ : List (Item 𝓤)} {E : Env 𝓤 H} {C : Calls 𝓤 H} {Λ : Loops 𝓤 H} {Q : Post 𝓤 H} {xs : List Operand} {d : Place} where
   -- by one instance of the callee's contract, which is what a function that calls itself has. The call ends a part of the code
-  pub calls-last-by : K → (mem : Memory → SProp 𝓤) (run : Routine → Fun 𝓤) → FmC 𝓤 H (W .laws) C → (κ₂·nodes : Lft) (q₂·nodes : Share) (b₂·nodes o₂·nodes : ℕ) (γ₂·nodes : GName) (κ·nodes : Lft) (q·nodes : Share) (b·nodes o·nodes : ℕ) (γ·nodes : GName) (nodes : List ℕ) (long·nodes : κ₂·nodes ⊑ κ·nodes) (κ₂·register : Lft) (q₂·register : Share) (b₂·register o₂·register : ℕ) (γ₂·register : GName) (κ·register : Lft) (q·register : Share) (b·register o·register : ℕ) (γ·register : GName) (register : List Record) (long·register : κ₂·register ⊑ κ·register) (c : ℕ) (height : ℕ) (page : PageIndex) (x-to : ℕ) → ent 𝓤 (Asked 𝓤 H A mem run .pre (to 𝓤 H A mem run κ₂·nodes q₂·nodes b₂·nodes o₂·nodes γ₂·nodes κ·nodes q·nodes b·nodes o·nodes γ·nodes nodes long·nodes κ₂·register q₂·register b₂·register o₂·register γ₂·register κ·register q·register b·register o·register γ·register register long·register c height page x-to)) (C #callee (Asked 𝓤 H A mem run .args (to 𝓤 H A mem run κ₂·nodes q₂·nodes b₂·nodes o₂·nodes γ₂·nodes κ·nodes q·nodes b·nodes o·nodes γ·nodes nodes long·nodes κ₂·register q₂·register b₂·register o₂·register γ₂·register κ·register q·register b·register o·register γ·register register long·register c height page x-to)) (Asked 𝓤 H A mem run .post (to 𝓤 H A mem run κ₂·nodes q₂·nodes b₂·nodes o₂·nodes γ₂·nodes κ·nodes q·nodes b·nodes o·nodes γ·nodes nodes long·nodes κ₂·register q₂·register b₂·register o₂·register γ₂·register κ·register q·register b·register o·register γ·register register long·register c height page x-to))) → Is u64 c (uint-vals w64 c) → Is u64 height (uint-vals w64 height) → Is PageIndex′.row page (PageIndex′.vals page) → Is u64 x-to (uint-vals w64 x-to) →
-      Opds K W (raw (Asked 𝓤 H A mem run .pre (to 𝓤 H A mem run κ₂·nodes q₂·nodes b₂·nodes o₂·nodes γ₂·nodes κ·nodes q·nodes b·nodes o·nodes γ·nodes nodes long·nodes κ₂·register q₂·register b₂·register o₂·register γ₂·register κ·register q·register b·register o·register γ·register register long·register c height page x-to)) ∷ ‵ (RefAt u32 κ₂·nodes b₂·nodes o₂·nodes γ₂·nodes κ·nodes b·nodes o·nodes γ·nodes nodes) ∷ ‵ (RefAt Record′.row κ₂·register b₂·register o₂·register γ₂·register κ·register b·register o·register γ·register register) ∷ Γ) E xs (vptr b₂·nodes o₂·nodes ∷ vptr b₂·register o₂·register ∷ vint w64 c ∷ vint w64 height ∷ PageIndex′.mach page ∷ vint w64 x-to ∷ [])
-      → (Is u64 (reach-from″.res nodes register c height page x-to) (uint-vals w64 (reach-from″.res nodes register c height page x-to)) → Seq K W (‵ (flft κ₂·nodes q₂·nodes) ∷ ‵ (RefAt u32 κ₂·nodes b₂·nodes o₂·nodes γ₂·nodes κ·nodes b·nodes o·nodes γ·nodes nodes) ∷ ‵ (flft κ·nodes q·nodes) ∷ ‵ (flft κ₂·register q₂·register) ∷ ‵ (RefAt Record′.row κ₂·register b₂·register o₂·register γ₂·register κ·register b·register o·register γ·register register) ∷ ‵ (flft κ·register q·register) ∷ Γ) (settles E d (vint w64 (reach-from″.res nodes register c height page x-to)) Q))
+  pub calls-last-by : K → (mem : Memory → SProp 𝓤) (run : Routine → Fun 𝓤) → FmC 𝓤 H (W .laws) C → (κ₂·nodes : Lft) (q₂·nodes : Share) (b₂·nodes o₂·nodes : ℕ) (γ₂·nodes : GName) (κ·nodes : Lft) (q·nodes : Share) (b·nodes o·nodes : ℕ) (γ·nodes : GName) (nodes : List ℕ) (long·nodes : κ₂·nodes ⊑ κ·nodes) (κ₂·register : Lft) (q₂·register : Share) (b₂·register o₂·register : ℕ) (γ₂·register : GName) (κ·register : Lft) (q·register : Share) (b·register o·register : ℕ) (γ·register : GName) (register : List Record) (long·register : κ₂·register ⊑ κ·register) (c : ℕ) (span : ℕ) (page : PageIndex) (x-to : ℕ) → ent 𝓤 (Asked 𝓤 H A mem run .pre (to 𝓤 H A mem run κ₂·nodes q₂·nodes b₂·nodes o₂·nodes γ₂·nodes κ·nodes q·nodes b·nodes o·nodes γ·nodes nodes long·nodes κ₂·register q₂·register b₂·register o₂·register γ₂·register κ·register q·register b·register o·register γ·register register long·register c span page x-to)) (C #callee (Asked 𝓤 H A mem run .args (to 𝓤 H A mem run κ₂·nodes q₂·nodes b₂·nodes o₂·nodes γ₂·nodes κ·nodes q·nodes b·nodes o·nodes γ·nodes nodes long·nodes κ₂·register q₂·register b₂·register o₂·register γ₂·register κ·register q·register b·register o·register γ·register register long·register c span page x-to)) (Asked 𝓤 H A mem run .post (to 𝓤 H A mem run κ₂·nodes q₂·nodes b₂·nodes o₂·nodes γ₂·nodes κ·nodes q·nodes b·nodes o·nodes γ·nodes nodes long·nodes κ₂·register q₂·register b₂·register o₂·register γ₂·register κ·register q·register b·register o·register γ·register register long·register c span page x-to))) → Is u64 c (uint-vals w64 c) → Is u64 span (uint-vals w64 span) → Is PageIndex′.row page (PageIndex′.vals page) → Is u64 x-to (uint-vals w64 x-to) → reach-from″.req nodes register c span page x-to →
+      Opds K W (raw (Asked 𝓤 H A mem run .pre (to 𝓤 H A mem run κ₂·nodes q₂·nodes b₂·nodes o₂·nodes γ₂·nodes κ·nodes q·nodes b·nodes o·nodes γ·nodes nodes long·nodes κ₂·register q₂·register b₂·register o₂·register γ₂·register κ·register q·register b·register o·register γ·register register long·register c span page x-to)) ∷ ‵ (RefAt u32 κ₂·nodes b₂·nodes o₂·nodes γ₂·nodes κ·nodes b·nodes o·nodes γ·nodes nodes) ∷ ‵ (RefAt Record′.row κ₂·register b₂·register o₂·register γ₂·register κ·register b·register o·register γ·register register) ∷ Γ) E xs (vptr b₂·nodes o₂·nodes ∷ vptr b₂·register o₂·register ∷ vint w64 c ∷ vint w64 span ∷ PageIndex′.mach page ∷ vint w64 x-to ∷ [])
+      → ((x·res : ℕ) → Is u64 x·res (uint-vals w64 x·res) → reach-from″.ens nodes register c span page x-to x·res → Seq K W (‵ (flft κ₂·nodes q₂·nodes) ∷ ‵ (RefAt u32 κ₂·nodes b₂·nodes o₂·nodes γ₂·nodes κ·nodes b·nodes o·nodes γ·nodes nodes) ∷ ‵ (flft κ·nodes q·nodes) ∷ ‵ (flft κ₂·register q₂·register) ∷ ‵ (RefAt Record′.row κ₂·register b₂·register o₂·register γ₂·register κ·register b·register o·register γ·register register) ∷ ‵ (flft κ·register q·register) ∷ Γ) (settles E d (vint w64 x·res) Q))
       → Seq K W (‵ (flft κ₂·nodes q₂·nodes) ∷ ‵ (RefAt u32 κ₂·nodes b₂·nodes o₂·nodes γ₂·nodes κ·nodes b·nodes o·nodes γ·nodes nodes) ∷ ‵ (flft κ·nodes q·nodes) ∷ ‵ (flft κ₂·register q₂·register) ∷ ‵ (RefAt Record′.row κ₂·register b₂·register o₂·register γ₂·register κ·register b·register o·register γ·register register) ∷ ‵ (flft κ·register q·register) ∷ Γ) (runs C Λ E (call #callee xs d) Q)
-  calls-last-by t mem run fm κ₂·nodes q₂·nodes b₂·nodes o₂·nodes γ₂·nodes κ·nodes q·nodes b·nodes o·nodes γ·nodes nodes long·nodes κ₂·register q₂·register b₂·register o₂·register γ₂·register κ·register q·register b·register o·register γ·register register long·register c height page x-to known ok·c ok·height ok·page ok·x-to os k =
-      core t mem run κ₂·nodes q₂·nodes b₂·nodes o₂·nodes γ₂·nodes κ·nodes q·nodes b·nodes o·nodes γ·nodes nodes long·nodes κ₂·register q₂·register b₂·register o₂·register γ₂·register κ·register q·register b·register o·register γ·register register long·register c height page x-to (runs C Λ E (call #callee xs d) Q) (λ v. settles E d v Q) (λ v. tt)
-      (λ h. calls-from-last t fm (raw (Asked 𝓤 H A mem run .pre (to 𝓤 H A mem run κ₂·nodes q₂·nodes b₂·nodes o₂·nodes γ₂·nodes κ·nodes q·nodes b·nodes o·nodes γ·nodes nodes long·nodes κ₂·register q₂·register b₂·register o₂·register γ₂·register κ·register q·register b·register o·register γ·register register long·register c height page x-to))) (Asked 𝓤 H A mem run .args (to 𝓤 H A mem run κ₂·nodes q₂·nodes b₂·nodes o₂·nodes γ₂·nodes κ·nodes q·nodes b·nodes o·nodes γ·nodes nodes long·nodes κ₂·register q₂·register b₂·register o₂·register γ₂·register κ·register q·register b·register o·register γ·register register long·register c height page x-to)) (Asked 𝓤 H A mem run .post (to 𝓤 H A mem run κ₂·nodes q₂·nodes b₂·nodes o₂·nodes γ₂·nodes κ·nodes q·nodes b·nodes o·nodes γ·nodes nodes long·nodes κ₂·register q₂·register b₂·register o₂·register γ₂·register κ·register q·register b·register o·register γ·register register long·register c height page x-to)) known os h) ok·c ok·height ok·page ok·x-to k
+  calls-last-by t mem run fm κ₂·nodes q₂·nodes b₂·nodes o₂·nodes γ₂·nodes κ·nodes q·nodes b·nodes o·nodes γ·nodes nodes long·nodes κ₂·register q₂·register b₂·register o₂·register γ₂·register κ·register q·register b·register o·register γ·register register long·register c span page x-to known ok·c ok·span ok·page ok·x-to need os k =
+      core t mem run κ₂·nodes q₂·nodes b₂·nodes o₂·nodes γ₂·nodes κ·nodes q·nodes b·nodes o·nodes γ·nodes nodes long·nodes κ₂·register q₂·register b₂·register o₂·register γ₂·register κ·register q·register b·register o·register γ·register register long·register c span page x-to (runs C Λ E (call #callee xs d) Q) (λ v. settles E d v Q) (λ v. tt)
+      (λ h. calls-from-last t fm (raw (Asked 𝓤 H A mem run .pre (to 𝓤 H A mem run κ₂·nodes q₂·nodes b₂·nodes o₂·nodes γ₂·nodes κ·nodes q·nodes b·nodes o·nodes γ·nodes nodes long·nodes κ₂·register q₂·register b₂·register o₂·register γ₂·register κ·register q·register b·register o·register γ·register register long·register c span page x-to))) (Asked 𝓤 H A mem run .args (to 𝓤 H A mem run κ₂·nodes q₂·nodes b₂·nodes o₂·nodes γ₂·nodes κ·nodes q·nodes b·nodes o·nodes γ·nodes nodes long·nodes κ₂·register q₂·register b₂·register o₂·register γ₂·register κ·register q·register b·register o·register γ·register register long·register c span page x-to)) (Asked 𝓤 H A mem run .post (to 𝓤 H A mem run κ₂·nodes q₂·nodes b₂·nodes o₂·nodes γ₂·nodes κ·nodes q·nodes b·nodes o·nodes γ·nodes nodes long·nodes κ₂·register q₂·register b₂·register o₂·register γ₂·register κ·register q·register b·register o·register γ·register register long·register c span page x-to)) known os h) ok·c ok·span ok·page ok·x-to need k
 
-  pub calls-last : K → (mem : Memory → SProp 𝓤) (run : Routine → Fun 𝓤) → FmC 𝓤 H (W .laws) C → Triple 𝓤 (C #callee) (Asked 𝓤 H A mem run) → (κ₂·nodes : Lft) (q₂·nodes : Share) (b₂·nodes o₂·nodes : ℕ) (γ₂·nodes : GName) (κ·nodes : Lft) (q·nodes : Share) (b·nodes o·nodes : ℕ) (γ·nodes : GName) (nodes : List ℕ) (long·nodes : κ₂·nodes ⊑ κ·nodes) (κ₂·register : Lft) (q₂·register : Share) (b₂·register o₂·register : ℕ) (γ₂·register : GName) (κ·register : Lft) (q·register : Share) (b·register o·register : ℕ) (γ·register : GName) (register : List Record) (long·register : κ₂·register ⊑ κ·register) (c : ℕ) (height : ℕ) (page : PageIndex) (x-to : ℕ) → Is u64 c (uint-vals w64 c) → Is u64 height (uint-vals w64 height) → Is PageIndex′.row page (PageIndex′.vals page) → Is u64 x-to (uint-vals w64 x-to) →
-      Opds K W (raw (Asked 𝓤 H A mem run .pre (to 𝓤 H A mem run κ₂·nodes q₂·nodes b₂·nodes o₂·nodes γ₂·nodes κ·nodes q·nodes b·nodes o·nodes γ·nodes nodes long·nodes κ₂·register q₂·register b₂·register o₂·register γ₂·register κ·register q·register b·register o·register γ·register register long·register c height page x-to)) ∷ ‵ (RefAt u32 κ₂·nodes b₂·nodes o₂·nodes γ₂·nodes κ·nodes b·nodes o·nodes γ·nodes nodes) ∷ ‵ (RefAt Record′.row κ₂·register b₂·register o₂·register γ₂·register κ·register b·register o·register γ·register register) ∷ Γ) E xs (vptr b₂·nodes o₂·nodes ∷ vptr b₂·register o₂·register ∷ vint w64 c ∷ vint w64 height ∷ PageIndex′.mach page ∷ vint w64 x-to ∷ [])
-      → (Is u64 (reach-from″.res nodes register c height page x-to) (uint-vals w64 (reach-from″.res nodes register c height page x-to)) → Seq K W (‵ (flft κ₂·nodes q₂·nodes) ∷ ‵ (RefAt u32 κ₂·nodes b₂·nodes o₂·nodes γ₂·nodes κ·nodes b·nodes o·nodes γ·nodes nodes) ∷ ‵ (flft κ·nodes q·nodes) ∷ ‵ (flft κ₂·register q₂·register) ∷ ‵ (RefAt Record′.row κ₂·register b₂·register o₂·register γ₂·register κ·register b·register o·register γ·register register) ∷ ‵ (flft κ·register q·register) ∷ Γ) (settles E d (vint w64 (reach-from″.res nodes register c height page x-to)) Q))
+  pub calls-last : K → (mem : Memory → SProp 𝓤) (run : Routine → Fun 𝓤) → FmC 𝓤 H (W .laws) C → Triple 𝓤 (C #callee) (Asked 𝓤 H A mem run) → (κ₂·nodes : Lft) (q₂·nodes : Share) (b₂·nodes o₂·nodes : ℕ) (γ₂·nodes : GName) (κ·nodes : Lft) (q·nodes : Share) (b·nodes o·nodes : ℕ) (γ·nodes : GName) (nodes : List ℕ) (long·nodes : κ₂·nodes ⊑ κ·nodes) (κ₂·register : Lft) (q₂·register : Share) (b₂·register o₂·register : ℕ) (γ₂·register : GName) (κ·register : Lft) (q·register : Share) (b·register o·register : ℕ) (γ·register : GName) (register : List Record) (long·register : κ₂·register ⊑ κ·register) (c : ℕ) (span : ℕ) (page : PageIndex) (x-to : ℕ) → Is u64 c (uint-vals w64 c) → Is u64 span (uint-vals w64 span) → Is PageIndex′.row page (PageIndex′.vals page) → Is u64 x-to (uint-vals w64 x-to) → reach-from″.req nodes register c span page x-to →
+      Opds K W (raw (Asked 𝓤 H A mem run .pre (to 𝓤 H A mem run κ₂·nodes q₂·nodes b₂·nodes o₂·nodes γ₂·nodes κ·nodes q·nodes b·nodes o·nodes γ·nodes nodes long·nodes κ₂·register q₂·register b₂·register o₂·register γ₂·register κ·register q·register b·register o·register γ·register register long·register c span page x-to)) ∷ ‵ (RefAt u32 κ₂·nodes b₂·nodes o₂·nodes γ₂·nodes κ·nodes b·nodes o·nodes γ·nodes nodes) ∷ ‵ (RefAt Record′.row κ₂·register b₂·register o₂·register γ₂·register κ·register b·register o·register γ·register register) ∷ Γ) E xs (vptr b₂·nodes o₂·nodes ∷ vptr b₂·register o₂·register ∷ vint w64 c ∷ vint w64 span ∷ PageIndex′.mach page ∷ vint w64 x-to ∷ [])
+      → ((x·res : ℕ) → Is u64 x·res (uint-vals w64 x·res) → reach-from″.ens nodes register c span page x-to x·res → Seq K W (‵ (flft κ₂·nodes q₂·nodes) ∷ ‵ (RefAt u32 κ₂·nodes b₂·nodes o₂·nodes γ₂·nodes κ·nodes b·nodes o·nodes γ·nodes nodes) ∷ ‵ (flft κ·nodes q·nodes) ∷ ‵ (flft κ₂·register q₂·register) ∷ ‵ (RefAt Record′.row κ₂·register b₂·register o₂·register γ₂·register κ·register b·register o·register γ·register register) ∷ ‵ (flft κ·register q·register) ∷ Γ) (settles E d (vint w64 x·res) Q))
       → Seq K W (‵ (flft κ₂·nodes q₂·nodes) ∷ ‵ (RefAt u32 κ₂·nodes b₂·nodes o₂·nodes γ₂·nodes κ·nodes b·nodes o·nodes γ·nodes nodes) ∷ ‵ (flft κ·nodes q·nodes) ∷ ‵ (flft κ₂·register q₂·register) ∷ ‵ (RefAt Record′.row κ₂·register b₂·register o₂·register γ₂·register κ·register b·register o·register γ·register register) ∷ ‵ (flft κ·register q·register) ∷ Γ) (runs C Λ E (call #callee xs d) Q)
-  calls-last t mem run fm known κ₂·nodes q₂·nodes b₂·nodes o₂·nodes γ₂·nodes κ·nodes q·nodes b·nodes o·nodes γ·nodes nodes long·nodes κ₂·register q₂·register b₂·register o₂·register γ₂·register κ·register q·register b·register o·register γ·register register long·register c height page x-to = calls-last-by t mem run fm κ₂·nodes q₂·nodes b₂·nodes o₂·nodes γ₂·nodes κ·nodes q·nodes b·nodes o·nodes γ·nodes nodes long·nodes κ₂·register q₂·register b₂·register o₂·register γ₂·register κ·register q·register b·register o·register γ·register register long·register c height page x-to (known (to 𝓤 H A mem run κ₂·nodes q₂·nodes b₂·nodes o₂·nodes γ₂·nodes κ·nodes q·nodes b·nodes o·nodes γ·nodes nodes long·nodes κ₂·register q₂·register b₂·register o₂·register γ₂·register κ·register q·register b·register o·register γ·register register long·register c height page x-to))
+  calls-last t mem run fm known κ₂·nodes q₂·nodes b₂·nodes o₂·nodes γ₂·nodes κ·nodes q·nodes b·nodes o·nodes γ·nodes nodes long·nodes κ₂·register q₂·register b₂·register o₂·register γ₂·register κ·register q·register b·register o·register γ·register register long·register c span page x-to = calls-last-by t mem run fm κ₂·nodes q₂·nodes b₂·nodes o₂·nodes γ₂·nodes κ·nodes q·nodes b·nodes o·nodes γ·nodes nodes long·nodes κ₂·register q₂·register b₂·register o₂·register γ₂·register κ·register q·register b·register o·register γ·register register long·register c span page x-to (known (to 𝓤 H A mem run κ₂·nodes q₂·nodes b₂·nodes o₂·nodes γ₂·nodes κ·nodes q·nodes b·nodes o·nodes γ·nodes nodes long·nodes κ₂·register q₂·register b₂·register o₂·register γ₂·register κ·register q·register b·register o·register γ·register register long·register c span page x-to))

@@ -20,8 +20,6 @@ use denote.Laws.{Is, Tells, Copy, Makes}
 use denote.Plain.{uint-vals, bool-vals, nothing-vals}
 use denote.Builtin.{u8, u16, u32, u64, bool, unit}
 use denote.Enum.Laws as LL
-use Rattle.register.proofs.Generated.Kind.Version as Version′
-use Rattle.tree.specs.declared.Version.{Version}
 use Rattle.tree.specs.declared.Found.{Found}
 use Rattle.tree.proofs.Found as T′
 use Rattle.tree.proofs.Found.Laws as T″
@@ -55,21 +53,21 @@ makes = LL.makes T′.the-type T″.the-plain
 
 -- a value to stand past the end of a list
 abbrev pub none : Found
-none = Found.Leaf Version′.none 0
+none = Found.Leaf 0 0
 
 -- by cases on a value, within a walk
 module _ {M : Type 1} {𝓤 : URA M} {H : Heap 𝓤} {A : Atoms 𝓤} {K : Type 0} {W : Given 𝓤 H A} {Γ : List (Item 𝓤)} {G : Goal 𝓤 H} where
-  pub cases : K → (d : Found) → ((y0 : Version) → (y1 : ℕ) → d ≡ Found.Leaf y0 y1 → Seq K W Γ G) → (d ≡ Found.Lost → Seq K W Γ G) → Seq K W Γ G
+  pub cases : K → (d : Found) → ((y0 : ℕ) → (y1 : ℕ) → d ≡ Found.Leaf y0 y1 → Seq K W Γ G) → (d ≡ Found.Lost → Seq K W Γ G) → Seq K W Γ G
   cases t (Found.Leaf y0 y1) k0 k1 = k0 y0 y1 refl
   cases t (Found.Lost) k0 k1 = k1 refl
 
-pub make-Leaf : (y0 : Version) → (y1 : ℕ) → Is Version′.row y0 (Version′.vals y0) → Is u64 y1 (uint-vals w64 y1) → Ok (Found.Leaf y0 y1)
+pub make-Leaf : (y0 : ℕ) → (y1 : ℕ) → Is u64 y0 (uint-vals w64 y0) → Is u64 y1 (uint-vals w64 y1) → Ok (Found.Leaf y0 y1)
 make-Leaf y0 y1 g0 g1 = LL.owes T′.the-type T″.the-laws (Found.Leaf y0 y1) (g0, (g1, tt))
 
-pub ok-Leaf-0 : (y0 : Version) → (y1 : ℕ) → Ok (Found.Leaf y0 y1) → Is Version′.row y0 (Version′.vals y0)
+pub ok-Leaf-0 : (y0 : ℕ) → (y1 : ℕ) → Ok (Found.Leaf y0 y1) → Is u64 y0 (uint-vals w64 y0)
 ok-Leaf-0 y0 y1 g = LL.owed T′.the-type T″.the-laws (Found.Leaf y0 y1) _ g .0
 
-pub ok-Leaf-1 : (y0 : Version) → (y1 : ℕ) → Ok (Found.Leaf y0 y1) → Is u64 y1 (uint-vals w64 y1)
+pub ok-Leaf-1 : (y0 : ℕ) → (y1 : ℕ) → Ok (Found.Leaf y0 y1) → Is u64 y1 (uint-vals w64 y1)
 ok-Leaf-1 y0 y1 g = LL.owed T′.the-type T″.the-laws (Found.Leaf y0 y1) _ g .1 .0
 
 pub make-Lost : Ok Found.Lost

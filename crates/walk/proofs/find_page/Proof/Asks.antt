@@ -10,8 +10,6 @@ use lib.Dec.{ltb, leb, eqb}
 use lib.ListN.{length, getD, set}
 use Rattle.tree.specs.declared.Found.{Found}
 use Rattle.walk.proofs.Generated.Kind.Found as Found′
-use Rattle.tree.specs.declared.Version.{Version}
-use Rattle.register.proofs.Generated.Kind.Version as Version′
 use Rattle.register.specs.declared.Record.{Record}
 use Rattle.register.proofs.Generated.Kind.Record as Record′
 use Rattle.tree.specs.declared.Ticket.{Ticket}
@@ -34,23 +32,26 @@ use Rattle.walk.proofs.Generated.Say.leaf_of as leaf-of″
 abbrev pub r1 : List ℕ → List Record → ℕ → PageIndex → Part
 r1 nodes register c page = version-part″.res register c
 
-abbrev pub r2 : List ℕ → List Record → ℕ → PageIndex → ℕ
-r2 nodes register c page = reach-from″.res nodes register c ((r1 nodes register c page) .height) page 0
+abbrev pub r3 : List ℕ → List Record → ℕ → PageIndex → ℕ → Part
+r3 nodes register c page r2 = version-part″.res register r2
 
-abbrev pub r3 : List ℕ → List Record → ℕ → PageIndex → Part
-r3 nodes register c page = version-part″.res register (r2 nodes register c page)
+abbrev pub r4 : List ℕ → List Record → ℕ → PageIndex → ℕ → ℕ
+r4 nodes register c page r2 = leaf-place″.res (r3 nodes register c page r2) r2 page
 
-abbrev pub r4 : List ℕ → List Record → ℕ → PageIndex → ℕ
-r4 nodes register c page = leaf-place″.res (r3 nodes register c page) (r2 nodes register c page) page
+abbrev pub r5 : List ℕ → List Record → ℕ → PageIndex → ℕ → NodeAt
+r5 nodes register c page r2 = node-at″.res nodes (r4 nodes register c page r2)
 
-abbrev pub r5 : List ℕ → List Record → ℕ → PageIndex → NodeAt
-r5 nodes register c page = node-at″.res nodes (r4 nodes register c page)
+abbrev pub r6 : List ℕ → List Record → ℕ → PageIndex → ℕ → Found
+r6 nodes register c page r2 = leaf-of″.res (r5 nodes register c page r2) r2
 
-abbrev pub r6 : List ℕ → List Record → ℕ → PageIndex → Found
-r6 nodes register c page = leaf-of″.res (r5 nodes register c page) (r2 nodes register c page)
+-- `reach_from` asks: 0 < to
+abbrev pub reach-from-1 : Type 0
+reach-from-1 =
+    (nodes : List ℕ) (register : List Record) (c : ℕ) (page : PageIndex) (len-nodes : length nodes < 2 ^ 64) (len-register : length register < 2 ^ 64) (fits-c : c < 2 ^ 64) (ok-page : PageIndex′.Ok page) (ok-r1 : Part′.Ok (r1 nodes register c page))
+    → reach-from″.req nodes register c ((r1 nodes register c page) .span) page 1
 
 -- the function ensures: r ≡ findPage (areasOf [] nodes register) c (page .0)
 abbrev pub exit-1 : Type 0
 exit-1 =
-    (nodes : List ℕ) (register : List Record) (c : ℕ) (page : PageIndex) (len-nodes : length nodes < 2 ^ 64) (len-register : length register < 2 ^ 64) (fits-c : c < 2 ^ 64) (ok-page : PageIndex′.Ok page) (ok-r1 : Part′.Ok (r1 nodes register c page)) (fits-r2 : (r2 nodes register c page) < 2 ^ 64) (ok-r3 : Part′.Ok (r3 nodes register c page)) (fits-r4 : (r4 nodes register c page) < 2 ^ 64) (ok-r5 : NodeAt′.Ok (r5 nodes register c page)) (ok-r6 : Found′.Ok (r6 nodes register c page))
-    → find-page″.ens nodes register c page (r6 nodes register c page)
+    (nodes : List ℕ) (register : List Record) (c : ℕ) (page : PageIndex) (len-nodes : length nodes < 2 ^ 64) (len-register : length register < 2 ^ 64) (fits-c : c < 2 ^ 64) (ok-page : PageIndex′.Ok page) (ok-r1 : Part′.Ok (r1 nodes register c page)) (r2 : ℕ) (fits-r2 : r2 < 2 ^ 64) (says2 : reach-from″.ens nodes register c ((r1 nodes register c page) .span) page 1 r2) (ok-r3 : Part′.Ok (r3 nodes register c page r2)) (fits-r4 : (r4 nodes register c page r2) < 2 ^ 64) (ok-r5 : NodeAt′.Ok (r5 nodes register c page r2)) (ok-r6 : Found′.Ok (r6 nodes register c page r2))
+    → find-page″.ens nodes register c page (r6 nodes register c page r2)

@@ -17,46 +17,40 @@ use Rattle.register.proofs.Generated.Kind.PageIndex as PageIndex′
 use Rattle.lines.specs.declared.Entries.{Entries}
 use Rattle.register.proofs.Generated.Kind.Entries as Entries′
 use Rattle.walk.proofs.Generated.Say.reach_from as reach-from″
-use Rattle.walk.proofs.Generated.Say.smaller as smaller″
-use Rattle.walk.proofs.Generated.Say.span_of as span-of″
+use Rattle.walk.proofs.Generated.Say.root_within as root-within″
+use Rattle.walk.proofs.Generated.Say.height_of as height-of″
 use Rattle.walk.proofs.Generated.Say.carried_from as carried-from″
 use Rattle.descent.proofs.Generated.Say.reach as reach″
 
 abbrev pub r1 : List ℕ → List Record → ℕ → ℕ → PageIndex → ℕ → ℕ
-r1 nodes register c height page x-to = smaller″.res height 12
+r1 nodes register c span page x-to = root-within″.res span
 
-abbrev pub r2 : List ℕ → List Record → ℕ → ℕ → PageIndex → ℕ → ℕ
-r2 nodes register c height page x-to = span-of″.res (r1 nodes register c height page x-to)
-
-abbrev pub r4 : List ℕ → List Record → ℕ → ℕ → PageIndex → ℕ → ℕ → ℕ
-r4 nodes register c height page x-to r3 = reach″.res register nodes c (page .0) 0 (r2 nodes register c height page x-to) (r1 nodes register c height page x-to) 0 r3 x-to
-
--- `span_of` asks: height < 64
-abbrev pub span-of-1 : Type 0
-span-of-1 =
-    (nodes : List ℕ) (register : List Record) (c : ℕ) (height : ℕ) (page : PageIndex) (x-to : ℕ) (len-nodes : length nodes < 2 ^ 64) (len-register : length register < 2 ^ 64) (fits-c : c < 2 ^ 64) (fits-height : height < 2 ^ 64) (ok-page : PageIndex′.Ok page) (fits-x-to : x-to < 2 ^ 64) (fits-r1 : (r1 nodes register c height page x-to) < 2 ^ 64)
-    → span-of″.req (r1 nodes register c height page x-to)
-
--- the function ensures: r ≡ orMost (reachFrom (areasOf [] nodes register) c height (page .0) to)
+-- the function ensures: ((j : ℕ) → to ≡ 2 ^ j → r ≡ orMost (reachFrom (areasOf [] nodes register) c span (page .0) j))
 abbrev pub exit-1 : Type 0
 exit-1 =
-    (nodes : List ℕ) (register : List Record) (c : ℕ) (height : ℕ) (page : PageIndex) (x-to : ℕ) (len-nodes : length nodes < 2 ^ 64) (len-register : length register < 2 ^ 64) (fits-c : c < 2 ^ 64) (fits-height : height < 2 ^ 64) (ok-page : PageIndex′.Ok page) (fits-x-to : x-to < 2 ^ 64) (fits-r1 : (r1 nodes register c height page x-to) < 2 ^ 64) (fits-r2 : (r2 nodes register c height page x-to) < 2 ^ 64) (c1 : leb (r2 nodes register c height page x-to) (page .0) ≡ true) (n1 : (r2 nodes register c height page x-to) ≤ (page .0))
-    → reach-from″.ens nodes register c height page x-to 0
+    (nodes : List ℕ) (register : List Record) (c : ℕ) (span : ℕ) (page : PageIndex) (x-to : ℕ) (len-nodes : length nodes < 2 ^ 64) (len-register : length register < 2 ^ 64) (fits-c : c < 2 ^ 64) (fits-span : span < 2 ^ 64) (ok-page : PageIndex′.Ok page) (fits-x-to : x-to < 2 ^ 64) (need : reach-from″.req nodes register c span page x-to) (fits-r1 : (r1 nodes register c span page x-to) < 2 ^ 64) (c1 : leb (r1 nodes register c span page x-to) (page .0) ≡ true) (n1 : (r1 nodes register c span page x-to) ≤ (page .0))
+    → reach-from″.ens nodes register c span page x-to 0
 
--- the function ensures: r ≡ orMost (reachFrom (areasOf [] nodes register) c height (page .0) to)
+-- the function ensures: ((j : ℕ) → to ≡ 2 ^ j → r ≡ orMost (reachFrom (areasOf [] nodes register) c span (page .0) j))
 abbrev pub exit-2 : Type 0
 exit-2 =
-    (nodes : List ℕ) (register : List Record) (c : ℕ) (height : ℕ) (page : PageIndex) (x-to : ℕ) (len-nodes : length nodes < 2 ^ 64) (len-register : length register < 2 ^ 64) (fits-c : c < 2 ^ 64) (fits-height : height < 2 ^ 64) (ok-page : PageIndex′.Ok page) (fits-x-to : x-to < 2 ^ 64) (fits-r1 : (r1 nodes register c height page x-to) < 2 ^ 64) (fits-r2 : (r2 nodes register c height page x-to) < 2 ^ 64) (c1 : leb (r2 nodes register c height page x-to) (page .0) ≡ false) (n1 : (page .0) < (r2 nodes register c height page x-to)) (c2 : eqb c 18446744073709551615 ≡ true) (n2 : c ≡ 18446744073709551615)
-    → reach-from″.ens nodes register c height page x-to 18446744073709551615
+    (nodes : List ℕ) (register : List Record) (c : ℕ) (span : ℕ) (page : PageIndex) (x-to : ℕ) (len-nodes : length nodes < 2 ^ 64) (len-register : length register < 2 ^ 64) (fits-c : c < 2 ^ 64) (fits-span : span < 2 ^ 64) (ok-page : PageIndex′.Ok page) (fits-x-to : x-to < 2 ^ 64) (need : reach-from″.req nodes register c span page x-to) (fits-r1 : (r1 nodes register c span page x-to) < 2 ^ 64) (c1 : leb (r1 nodes register c span page x-to) (page .0) ≡ false) (n1 : (page .0) < (r1 nodes register c span page x-to)) (c2 : eqb c 18446744073709551615 ≡ true) (n2 : c ≡ 18446744073709551615)
+    → reach-from″.ens nodes register c span page x-to 18446744073709551615
 
--- `reach` asks: (c < 2 ^ 64 - 1) × Level first span height halved carried × (first ≡ firstOver page height)
+-- `height_of` asks: 0 < span
+abbrev pub height-of-1 : Type 0
+height-of-1 =
+    (nodes : List ℕ) (register : List Record) (c : ℕ) (span : ℕ) (page : PageIndex) (x-to : ℕ) (len-nodes : length nodes < 2 ^ 64) (len-register : length register < 2 ^ 64) (fits-c : c < 2 ^ 64) (fits-span : span < 2 ^ 64) (ok-page : PageIndex′.Ok page) (fits-x-to : x-to < 2 ^ 64) (need : reach-from″.req nodes register c span page x-to) (fits-r1 : (r1 nodes register c span page x-to) < 2 ^ 64) (c1 : leb (r1 nodes register c span page x-to) (page .0) ≡ false) (n1 : (page .0) < (r1 nodes register c span page x-to)) (c2 : eqb c 18446744073709551615 ≡ false) (n2 : c ≡ 18446744073709551615 → ⊥)
+    → height-of″.req (r1 nodes register c span page x-to)
+
+-- `reach` asks: (c < 2 ^ 64 - 1) × (0 < to) × Level first span halved carried × (first ≡ firstOver page (heightIn span))
 abbrev pub reach-1 : Type 0
 reach-1 =
-    (nodes : List ℕ) (register : List Record) (c : ℕ) (height : ℕ) (page : PageIndex) (x-to : ℕ) (len-nodes : length nodes < 2 ^ 64) (len-register : length register < 2 ^ 64) (fits-c : c < 2 ^ 64) (fits-height : height < 2 ^ 64) (ok-page : PageIndex′.Ok page) (fits-x-to : x-to < 2 ^ 64) (fits-r1 : (r1 nodes register c height page x-to) < 2 ^ 64) (fits-r2 : (r2 nodes register c height page x-to) < 2 ^ 64) (c1 : leb (r2 nodes register c height page x-to) (page .0) ≡ false) (n1 : (page .0) < (r2 nodes register c height page x-to)) (c2 : eqb c 18446744073709551615 ≡ false) (n2 : c ≡ 18446744073709551615 → ⊥) (r3 : ℕ) (fits-r3 : r3 < 2 ^ 64) (says3 : carried-from″.ens (r1 nodes register c height page x-to) r3)
-    → reach″.req register nodes c (page .0) 0 (r2 nodes register c height page x-to) (r1 nodes register c height page x-to) 0 r3 x-to
+    (nodes : List ℕ) (register : List Record) (c : ℕ) (span : ℕ) (page : PageIndex) (x-to : ℕ) (len-nodes : length nodes < 2 ^ 64) (len-register : length register < 2 ^ 64) (fits-c : c < 2 ^ 64) (fits-span : span < 2 ^ 64) (ok-page : PageIndex′.Ok page) (fits-x-to : x-to < 2 ^ 64) (need : reach-from″.req nodes register c span page x-to) (fits-r1 : (r1 nodes register c span page x-to) < 2 ^ 64) (c1 : leb (r1 nodes register c span page x-to) (page .0) ≡ false) (n1 : (page .0) < (r1 nodes register c span page x-to)) (c2 : eqb c 18446744073709551615 ≡ false) (n2 : c ≡ 18446744073709551615 → ⊥) (r2 : ℕ) (fits-r2 : r2 < 2 ^ 64) (says2 : height-of″.ens (r1 nodes register c span page x-to) r2) (r3 : ℕ) (fits-r3 : r3 < 2 ^ 64) (says3 : carried-from″.ens r2 r3)
+    → reach″.req register nodes c (page .0) 0 (r1 nodes register c span page x-to) 0 r3 x-to
 
--- the function ensures: r ≡ orMost (reachFrom (areasOf [] nodes register) c height (page .0) to)
+-- the function ensures: ((j : ℕ) → to ≡ 2 ^ j → r ≡ orMost (reachFrom (areasOf [] nodes register) c span (page .0) j))
 abbrev pub exit-3 : Type 0
 exit-3 =
-    (nodes : List ℕ) (register : List Record) (c : ℕ) (height : ℕ) (page : PageIndex) (x-to : ℕ) (len-nodes : length nodes < 2 ^ 64) (len-register : length register < 2 ^ 64) (fits-c : c < 2 ^ 64) (fits-height : height < 2 ^ 64) (ok-page : PageIndex′.Ok page) (fits-x-to : x-to < 2 ^ 64) (fits-r1 : (r1 nodes register c height page x-to) < 2 ^ 64) (fits-r2 : (r2 nodes register c height page x-to) < 2 ^ 64) (c1 : leb (r2 nodes register c height page x-to) (page .0) ≡ false) (n1 : (page .0) < (r2 nodes register c height page x-to)) (c2 : eqb c 18446744073709551615 ≡ false) (n2 : c ≡ 18446744073709551615 → ⊥) (r3 : ℕ) (fits-r3 : r3 < 2 ^ 64) (says3 : carried-from″.ens (r1 nodes register c height page x-to) r3) (fits-r4 : (r4 nodes register c height page x-to r3) < 2 ^ 64)
-    → reach-from″.ens nodes register c height page x-to (r4 nodes register c height page x-to r3)
+    (nodes : List ℕ) (register : List Record) (c : ℕ) (span : ℕ) (page : PageIndex) (x-to : ℕ) (len-nodes : length nodes < 2 ^ 64) (len-register : length register < 2 ^ 64) (fits-c : c < 2 ^ 64) (fits-span : span < 2 ^ 64) (ok-page : PageIndex′.Ok page) (fits-x-to : x-to < 2 ^ 64) (need : reach-from″.req nodes register c span page x-to) (fits-r1 : (r1 nodes register c span page x-to) < 2 ^ 64) (c1 : leb (r1 nodes register c span page x-to) (page .0) ≡ false) (n1 : (page .0) < (r1 nodes register c span page x-to)) (c2 : eqb c 18446744073709551615 ≡ false) (n2 : c ≡ 18446744073709551615 → ⊥) (r2 : ℕ) (fits-r2 : r2 < 2 ^ 64) (says2 : height-of″.ens (r1 nodes register c span page x-to) r2) (r3 : ℕ) (fits-r3 : r3 < 2 ^ 64) (says3 : carried-from″.ens r2 r3) (r4 : ℕ) (fits-r4 : r4 < 2 ^ 64) (says4 : reach″.ens register nodes c (page .0) 0 (r1 nodes register c span page x-to) 0 r3 x-to r4)
+    → reach-from″.ens nodes register c span page x-to r4

@@ -46,8 +46,6 @@ use Rattle.lines.specs.declared.Entries.{Entries}
 use Rattle.register.proofs.Generated.Kind.Entries as Entries′
 use Rattle.weave.specs.declared.Found.{Found}
 use Rattle.weave.proofs.Generated.Kind.Found as Found′
-use Rattle.register.specs.declared.Part.{Part}
-use Rattle.register.proofs.Generated.Kind.Part as Part′
 use Rattle.weave.specs.declared.WovenNode.{WovenNode}
 use Rattle.weave.proofs.Generated.Kind.WovenNode as WovenNode′
 use Rattle.register.proofs.Generated.Flow.{ref, MutAt, ShrAt, keeps-shr, plus-nothing}

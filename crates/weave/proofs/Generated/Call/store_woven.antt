@@ -32,12 +32,10 @@ use denote.Triple.Clauses.{Lasts, ensured, lasts}
 use denote.Triple.Spec.{tripleOf}
 use denote.Triple.Walked.{says}
 use Rattle.weave.proofs.Generated.Say.store_woven as store-woven″
-use Rattle.register.specs.declared.Part.{Part}
-use Rattle.register.proofs.Generated.Kind.Part as Part′
-use Rattle.tree.specs.declared.PageIndex.{PageIndex}
-use Rattle.register.proofs.Generated.Kind.PageIndex as PageIndex′
 use Rattle.weave.specs.declared.WovenNode.{WovenNode}
 use Rattle.weave.proofs.Generated.Kind.WovenNode as WovenNode′
+use Rattle.tree.specs.declared.PageIndex.{PageIndex}
+use Rattle.register.proofs.Generated.Kind.PageIndex as PageIndex′
 use Rattle.register.proofs.Generated.Flow.{ref, MutAt, ShrAt, keeps-shr, plus-nothing}
 use Rattle.weave.proofs.store_woven as callee
 use Rattle.weave.proofs.store_woven.Symbol.{name as #callee}
@@ -46,53 +44,53 @@ module _ {M : Type 1} (𝓤 : URA M) (H : Heap 𝓤) (A : Atoms 𝓤) (mem : Mem
   abbrev pub Asked : Contract 𝓤
   Asked = tripleOf 𝓤 H A callee.signature (callee.spec 𝓤 H A mem run)
 
-  abbrev pub to : (κ·nodes : Lft) (q·nodes : Share) (b·nodes o·nodes : ℕ) (γ·nodes : GName) (n·nodes : ℕ) (nodes : List ℕ) (x-k : ℕ) (q : Part) (x : WovenNode) → Asked .Ghost
-  to κ·nodes q·nodes b·nodes o·nodes γ·nodes n·nodes nodes x-k q x = (((κ·nodes, tt), (q·nodes, tt), tt, (ref b·nodes o·nodes γ·nodes nodes, (x-k, (q, (x, tt)))), (sliceVal (b·nodes, o·nodes) n·nodes ∷ [], (vint w64 x-k ∷ [], (Part′.mach q ∷ [], (WovenNode′.mach x ∷ [], tt))))), tt)
+  abbrev pub to : (κ·nodes : Lft) (q·nodes : Share) (b·nodes o·nodes : ℕ) (γ·nodes : GName) (n·nodes : ℕ) (nodes : List ℕ) (x-k : ℕ) (x-place : ℕ) (x : WovenNode) → Asked .Ghost
+  to κ·nodes q·nodes b·nodes o·nodes γ·nodes n·nodes nodes x-k x-place x = (((κ·nodes, tt), (q·nodes, tt), tt, (ref b·nodes o·nodes γ·nodes nodes, (x-k, (x-place, (x, tt)))), (sliceVal (b·nodes, o·nodes) n·nodes ∷ [], (vint w64 x-k ∷ [], (vint w64 x-place ∷ [], (WovenNode′.mach x ∷ [], tt))))), tt)
 
 module _ {M : Type 1} {𝓤 : URA M} {H : Heap 𝓤} {A : Atoms 𝓤} {K : Type 0} {W : Given 𝓤 H A} {Γ : List (Item 𝓤)} where
   -- the call itself is made by `by-call`, from what the callee asks to what it has ensured
-  core : K → (mem : Memory → SProp 𝓤) (run : Routine → Fun 𝓤) → (κ·nodes : Lft) (q·nodes : Share) (b·nodes o·nodes : ℕ) (γ·nodes : GName) (n·nodes : ℕ) (nodes : List ℕ) (x-k : ℕ) (q : Part) (x : WovenNode) → (G : Goal 𝓤 H) (after : Val → Goal 𝓤 H) → ((v : Val) → Soaks (after v))
-      → (((v : Val) → Seq K W (raw (Asked 𝓤 H A mem run .post (to 𝓤 H A mem run κ·nodes q·nodes b·nodes o·nodes γ·nodes n·nodes nodes x-k q x) v) ∷ Γ) (after v)) → Seq K W (raw (Asked 𝓤 H A mem run .pre (to 𝓤 H A mem run κ·nodes q·nodes b·nodes o·nodes γ·nodes n·nodes nodes x-k q x)) ∷ Γ) G) → Is u64 x-k (uint-vals w64 x-k) → Is Part′.row q (Part′.vals q) → Is WovenNode′.row x (WovenNode′.vals x) → store-woven″.req nodes x-k q x →
-      (length (store-woven″.out-nodes nodes x-k q x) ≡ length nodes → Seq K W (‵ (flft κ·nodes q·nodes) ∷ ‵ (finally u32 γ·nodes (store-woven″.out-nodes nodes x-k q x)) ∷ Γ) (after (vunit))) → Seq K W (‵ (flft κ·nodes q·nodes) ∷ ‵ (MutAt u32 κ·nodes b·nodes o·nodes γ·nodes n·nodes nodes) ∷ Γ) G
-  core t mem run κ·nodes q·nodes b·nodes o·nodes γ·nodes n·nodes nodes x-k q x G after soaks by-call ok·x-k ok·q ok·x need k =
-      join t $ use1 W (raw (Asked 𝓤 H A mem run .pre (to 𝓤 H A mem run κ·nodes q·nodes b·nodes o·nodes γ·nodes n·nodes nodes x-k q x))) goes $
+  core : K → (mem : Memory → SProp 𝓤) (run : Routine → Fun 𝓤) → (κ·nodes : Lft) (q·nodes : Share) (b·nodes o·nodes : ℕ) (γ·nodes : GName) (n·nodes : ℕ) (nodes : List ℕ) (x-k : ℕ) (x-place : ℕ) (x : WovenNode) → (G : Goal 𝓤 H) (after : Val → Goal 𝓤 H) → ((v : Val) → Soaks (after v))
+      → (((v : Val) → Seq K W (raw (Asked 𝓤 H A mem run .post (to 𝓤 H A mem run κ·nodes q·nodes b·nodes o·nodes γ·nodes n·nodes nodes x-k x-place x) v) ∷ Γ) (after v)) → Seq K W (raw (Asked 𝓤 H A mem run .pre (to 𝓤 H A mem run κ·nodes q·nodes b·nodes o·nodes γ·nodes n·nodes nodes x-k x-place x)) ∷ Γ) G) → Is u64 x-k (uint-vals w64 x-k) → Is u64 x-place (uint-vals w64 x-place) → Is WovenNode′.row x (WovenNode′.vals x) →
+      (length (store-woven″.out-nodes nodes x-k x-place x) ≡ length nodes → Seq K W (‵ (flft κ·nodes q·nodes) ∷ ‵ (finally u32 γ·nodes (store-woven″.out-nodes nodes x-k x-place x)) ∷ Γ) (after (vunit))) → Seq K W (‵ (flft κ·nodes q·nodes) ∷ ‵ (MutAt u32 κ·nodes b·nodes o·nodes γ·nodes n·nodes nodes) ∷ Γ) G
+  core t mem run κ·nodes q·nodes b·nodes o·nodes γ·nodes n·nodes nodes x-k x-place x G after soaks by-call ok·x-k ok·x-place ok·x k =
+      join t $ use1 W (raw (Asked 𝓤 H A mem run .pre (to 𝓤 H A mem run κ·nodes q·nodes b·nodes o·nodes γ·nodes n·nodes nodes x-k x-place x))) goes $
       by-call (λ v.
-      use1 W (later (some (λ (r· : Unit {0}). ((‵ (flft κ·nodes q·nodes) ⊛ ‵ ftrue) ⊛ ‵ (unit .own r· (v ∷ []))) ⊛ raw (ensured 𝓤 H A callee.ended (callee.clauses 𝓤 H A mem run) (κ·nodes, tt) (ref b·nodes o·nodes γ·nodes nodes, (x-k, (q, (x, tt)))) tt r·)))) (id⊢ 𝓤 _) $ await t (soaks v) $ pick t (λ r·. split t $ move t (1 ∷ []) $
-      use1 W (some (λ (ws : Lasts callee.ended (κ·nodes, tt) (ref b·nodes o·nodes γ·nodes nodes, (x-k, (q, (x, tt))))). ‵ (lasts callee.ended (κ·nodes, tt) (ref b·nodes o·nodes γ·nodes nodes, (x-k, (q, (x, tt)))) ws) ⊛ raw (fact 𝓤 (store-woven″.ens nodes x-k q x (ws .0) r·)))) (id⊢ 𝓤 _) $ pick t (λ ws. split t $ move t (1 ∷ []) $
-      heard t (store-woven″.ens nodes x-k q x (ws .0) r·) (λ e. fsplit t $ fsplit t $ move t (1 ∷ []) $ feqL t (λ same·nodes. move t (1 ∷ []) $ fsplit t $ drop t $ fsplit t $ drop t $ fsplit t $ drop t $ drop t $ move t (1 ∷ []) $ split t $ move t (1 ∷ []) $ facts t unit (Is unit) (shows 𝓤 H A unit) r· (v ∷ []) (λ is. split t $ move t (1 ∷ []) $ drop t $
-      rewrite t 1 (λ (zs : List ℕ). ‵ (finally u32 γ·nodes zs)) (e) refl $ subst (λ (u : Val). Seq K W (‵ (flft κ·nodes q·nodes) ∷ ‵ (finally u32 γ·nodes (store-woven″.out-nodes nodes x-k q x)) ∷ Γ) (after u)) (sym (ap only (nothing-tells r· (v ∷ []) is))) (k (subst (λ (zs : List ℕ). length zs ≡ length nodes) (e) same·nodes))))))))
+      use1 W (later (some (λ (r· : Unit {0}). ((‵ (flft κ·nodes q·nodes) ⊛ ‵ ftrue) ⊛ ‵ (unit .own r· (v ∷ []))) ⊛ raw (ensured 𝓤 H A callee.ended (callee.clauses 𝓤 H A mem run) (κ·nodes, tt) (ref b·nodes o·nodes γ·nodes nodes, (x-k, (x-place, (x, tt)))) tt r·)))) (id⊢ 𝓤 _) $ await t (soaks v) $ pick t (λ r·. split t $ move t (1 ∷ []) $
+      use1 W (some (λ (ws : Lasts callee.ended (κ·nodes, tt) (ref b·nodes o·nodes γ·nodes nodes, (x-k, (x-place, (x, tt))))). ‵ (lasts callee.ended (κ·nodes, tt) (ref b·nodes o·nodes γ·nodes nodes, (x-k, (x-place, (x, tt)))) ws) ⊛ raw (fact 𝓤 (store-woven″.ens nodes x-k x-place x (ws .0) r·)))) (id⊢ 𝓤 _) $ pick t (λ ws. split t $ move t (1 ∷ []) $
+      heard t (store-woven″.ens nodes x-k x-place x (ws .0) r·) (λ e. fsplit t $ fsplit t $ move t (1 ∷ []) $ feqL t (λ same·nodes. move t (1 ∷ []) $ fsplit t $ drop t $ fsplit t $ drop t $ fsplit t $ drop t $ drop t $ move t (1 ∷ []) $ split t $ move t (1 ∷ []) $ facts t unit (Is unit) (shows 𝓤 H A unit) r· (v ∷ []) (λ is. split t $ move t (1 ∷ []) $ drop t $
+      rewrite t 1 (λ (zs : List ℕ). ‵ (finally u32 γ·nodes zs)) (e) refl $ subst (λ (u : Val). Seq K W (‵ (flft κ·nodes q·nodes) ∷ ‵ (finally u32 γ·nodes (store-woven″.out-nodes nodes x-k x-place x)) ∷ Γ) (after u)) (sym (ap only (nothing-tells r· (v ∷ []) is))) (k (subst (λ (zs : List ℕ). length zs ≡ length nodes) (e) same·nodes))))))))
     where
-      goes : ent 𝓤 (⋆ 𝓤 H A (‵ (flft κ·nodes q·nodes) ∷ ‵ (MutAt u32 κ·nodes b·nodes o·nodes γ·nodes n·nodes nodes) ∷ [])) (Asked 𝓤 H A mem run .pre (to 𝓤 H A mem run κ·nodes q·nodes b·nodes o·nodes γ·nodes n·nodes nodes x-k q x))
-      goes = qed W (‵ (flft κ·nodes q·nodes) ∷ ‵ (MutAt u32 κ·nodes b·nodes o·nodes γ·nodes n·nodes nodes) ∷ []) ∵ says ! need $ nothing ! $ move ! (1 ∷ 0 ∷ []) $ join ! $ frame ! $ nothing ! $ owned ! WovenNode′.row (Is WovenNode′.row) (WovenNode′.makes 𝓤 H A) x _ ok·x $ fjoin ! $ owned ! Part′.row (Is Part′.row) (Part′.makes 𝓤 H A) q _ ok·q $ fjoin ! $ owned ! u64 (Is u64) (uint-makes 𝓤 H A W w64) x-k _ ok·x-k $ fjoin ! $ move ! (1 ∷ 0 ∷ []) $ fjoin ! $ done !
+      goes : ent 𝓤 (⋆ 𝓤 H A (‵ (flft κ·nodes q·nodes) ∷ ‵ (MutAt u32 κ·nodes b·nodes o·nodes γ·nodes n·nodes nodes) ∷ [])) (Asked 𝓤 H A mem run .pre (to 𝓤 H A mem run κ·nodes q·nodes b·nodes o·nodes γ·nodes n·nodes nodes x-k x-place x))
+      goes = qed W (‵ (flft κ·nodes q·nodes) ∷ ‵ (MutAt u32 κ·nodes b·nodes o·nodes γ·nodes n·nodes nodes) ∷ []) ∵ plus-nothing ! $ nothing ! $ move ! (1 ∷ 0 ∷ []) $ join ! $ frame ! $ nothing ! $ owned ! WovenNode′.row (Is WovenNode′.row) (WovenNode′.makes 𝓤 H A) x _ ok·x $ fjoin ! $ owned ! u64 (Is u64) (uint-makes 𝓤 H A W w64) x-place _ ok·x-place $ fjoin ! $ owned ! u64 (Is u64) (uint-makes 𝓤 H A W w64) x-k _ ok·x-k $ fjoin ! $ move ! (1 ∷ 0 ∷ []) $ fjoin ! $ done !
 
 module _ {M : Type 1} {𝓤 : URA M} {H : Heap 𝓤} {A : Atoms 𝓤} {K : Type 0} {W : Given 𝓤 H A} {Γ : List (Item 𝓤)} {E : Env 𝓤 H} {C : Calls 𝓤 H} {Λ : Loops 𝓤 H} {Q : Post 𝓤 H} {xs : List Operand} {d : Place} {rest : Body} where
   -- by one instance of the callee's contract, which is what a function that calls itself has
-  pub calls-by : K → (mem : Memory → SProp 𝓤) (run : Routine → Fun 𝓤) → FmC 𝓤 H (W .laws) C → (κ·nodes : Lft) (q·nodes : Share) (b·nodes o·nodes : ℕ) (γ·nodes : GName) (n·nodes : ℕ) (nodes : List ℕ) (x-k : ℕ) (q : Part) (x : WovenNode) → ent 𝓤 (Asked 𝓤 H A mem run .pre (to 𝓤 H A mem run κ·nodes q·nodes b·nodes o·nodes γ·nodes n·nodes nodes x-k q x)) (C #callee (Asked 𝓤 H A mem run .args (to 𝓤 H A mem run κ·nodes q·nodes b·nodes o·nodes γ·nodes n·nodes nodes x-k q x)) (Asked 𝓤 H A mem run .post (to 𝓤 H A mem run κ·nodes q·nodes b·nodes o·nodes γ·nodes n·nodes nodes x-k q x))) → Is u64 x-k (uint-vals w64 x-k) → Is Part′.row q (Part′.vals q) → Is WovenNode′.row x (WovenNode′.vals x) → store-woven″.req nodes x-k q x →
-      Opds K W (raw (Asked 𝓤 H A mem run .pre (to 𝓤 H A mem run κ·nodes q·nodes b·nodes o·nodes γ·nodes n·nodes nodes x-k q x)) ∷ Γ) E xs (sliceVal (b·nodes, o·nodes) n·nodes ∷ vint w64 x-k ∷ Part′.mach q ∷ WovenNode′.mach x ∷ [])
-      → (length (store-woven″.out-nodes nodes x-k q x) ≡ length nodes → Seq K W (‵ (flft κ·nodes q·nodes) ∷ ‵ (finally u32 γ·nodes (store-woven″.out-nodes nodes x-k q x)) ∷ Γ) (lands C Λ E d (vunit) rest Q))
+  pub calls-by : K → (mem : Memory → SProp 𝓤) (run : Routine → Fun 𝓤) → FmC 𝓤 H (W .laws) C → (κ·nodes : Lft) (q·nodes : Share) (b·nodes o·nodes : ℕ) (γ·nodes : GName) (n·nodes : ℕ) (nodes : List ℕ) (x-k : ℕ) (x-place : ℕ) (x : WovenNode) → ent 𝓤 (Asked 𝓤 H A mem run .pre (to 𝓤 H A mem run κ·nodes q·nodes b·nodes o·nodes γ·nodes n·nodes nodes x-k x-place x)) (C #callee (Asked 𝓤 H A mem run .args (to 𝓤 H A mem run κ·nodes q·nodes b·nodes o·nodes γ·nodes n·nodes nodes x-k x-place x)) (Asked 𝓤 H A mem run .post (to 𝓤 H A mem run κ·nodes q·nodes b·nodes o·nodes γ·nodes n·nodes nodes x-k x-place x))) → Is u64 x-k (uint-vals w64 x-k) → Is u64 x-place (uint-vals w64 x-place) → Is WovenNode′.row x (WovenNode′.vals x) →
+      Opds K W (raw (Asked 𝓤 H A mem run .pre (to 𝓤 H A mem run κ·nodes q·nodes b·nodes o·nodes γ·nodes n·nodes nodes x-k x-place x)) ∷ Γ) E xs (sliceVal (b·nodes, o·nodes) n·nodes ∷ vint w64 x-k ∷ vint w64 x-place ∷ WovenNode′.mach x ∷ [])
+      → (length (store-woven″.out-nodes nodes x-k x-place x) ≡ length nodes → Seq K W (‵ (flft κ·nodes q·nodes) ∷ ‵ (finally u32 γ·nodes (store-woven″.out-nodes nodes x-k x-place x)) ∷ Γ) (lands C Λ E d (vunit) rest Q))
       → Seq K W (‵ (flft κ·nodes q·nodes) ∷ ‵ (MutAt u32 κ·nodes b·nodes o·nodes γ·nodes n·nodes nodes) ∷ Γ) (runs C Λ E (seq (call #callee xs d) rest) Q)
-  calls-by t mem run fm κ·nodes q·nodes b·nodes o·nodes γ·nodes n·nodes nodes x-k q x known ok·x-k ok·q ok·x need os k =
-      core t mem run κ·nodes q·nodes b·nodes o·nodes γ·nodes n·nodes nodes x-k q x (runs C Λ E (seq (call #callee xs d) rest) Q) (λ v. lands C Λ E d v rest Q) (λ v. tt)
-      (λ h. calls-from t fm (raw (Asked 𝓤 H A mem run .pre (to 𝓤 H A mem run κ·nodes q·nodes b·nodes o·nodes γ·nodes n·nodes nodes x-k q x))) (Asked 𝓤 H A mem run .args (to 𝓤 H A mem run κ·nodes q·nodes b·nodes o·nodes γ·nodes n·nodes nodes x-k q x)) (Asked 𝓤 H A mem run .post (to 𝓤 H A mem run κ·nodes q·nodes b·nodes o·nodes γ·nodes n·nodes nodes x-k q x)) known os h) ok·x-k ok·q ok·x need k
+  calls-by t mem run fm κ·nodes q·nodes b·nodes o·nodes γ·nodes n·nodes nodes x-k x-place x known ok·x-k ok·x-place ok·x os k =
+      core t mem run κ·nodes q·nodes b·nodes o·nodes γ·nodes n·nodes nodes x-k x-place x (runs C Λ E (seq (call #callee xs d) rest) Q) (λ v. lands C Λ E d v rest Q) (λ v. tt)
+      (λ h. calls-from t fm (raw (Asked 𝓤 H A mem run .pre (to 𝓤 H A mem run κ·nodes q·nodes b·nodes o·nodes γ·nodes n·nodes nodes x-k x-place x))) (Asked 𝓤 H A mem run .args (to 𝓤 H A mem run κ·nodes q·nodes b·nodes o·nodes γ·nodes n·nodes nodes x-k x-place x)) (Asked 𝓤 H A mem run .post (to 𝓤 H A mem run κ·nodes q·nodes b·nodes o·nodes γ·nodes n·nodes nodes x-k x-place x)) known os h) ok·x-k ok·x-place ok·x k
 
-  pub calls : K → (mem : Memory → SProp 𝓤) (run : Routine → Fun 𝓤) → FmC 𝓤 H (W .laws) C → Triple 𝓤 (C #callee) (Asked 𝓤 H A mem run) → (κ·nodes : Lft) (q·nodes : Share) (b·nodes o·nodes : ℕ) (γ·nodes : GName) (n·nodes : ℕ) (nodes : List ℕ) (x-k : ℕ) (q : Part) (x : WovenNode) → Is u64 x-k (uint-vals w64 x-k) → Is Part′.row q (Part′.vals q) → Is WovenNode′.row x (WovenNode′.vals x) → store-woven″.req nodes x-k q x →
-      Opds K W (raw (Asked 𝓤 H A mem run .pre (to 𝓤 H A mem run κ·nodes q·nodes b·nodes o·nodes γ·nodes n·nodes nodes x-k q x)) ∷ Γ) E xs (sliceVal (b·nodes, o·nodes) n·nodes ∷ vint w64 x-k ∷ Part′.mach q ∷ WovenNode′.mach x ∷ [])
-      → (length (store-woven″.out-nodes nodes x-k q x) ≡ length nodes → Seq K W (‵ (flft κ·nodes q·nodes) ∷ ‵ (finally u32 γ·nodes (store-woven″.out-nodes nodes x-k q x)) ∷ Γ) (lands C Λ E d (vunit) rest Q))
+  pub calls : K → (mem : Memory → SProp 𝓤) (run : Routine → Fun 𝓤) → FmC 𝓤 H (W .laws) C → Triple 𝓤 (C #callee) (Asked 𝓤 H A mem run) → (κ·nodes : Lft) (q·nodes : Share) (b·nodes o·nodes : ℕ) (γ·nodes : GName) (n·nodes : ℕ) (nodes : List ℕ) (x-k : ℕ) (x-place : ℕ) (x : WovenNode) → Is u64 x-k (uint-vals w64 x-k) → Is u64 x-place (uint-vals w64 x-place) → Is WovenNode′.row x (WovenNode′.vals x) →
+      Opds K W (raw (Asked 𝓤 H A mem run .pre (to 𝓤 H A mem run κ·nodes q·nodes b·nodes o·nodes γ·nodes n·nodes nodes x-k x-place x)) ∷ Γ) E xs (sliceVal (b·nodes, o·nodes) n·nodes ∷ vint w64 x-k ∷ vint w64 x-place ∷ WovenNode′.mach x ∷ [])
+      → (length (store-woven″.out-nodes nodes x-k x-place x) ≡ length nodes → Seq K W (‵ (flft κ·nodes q·nodes) ∷ ‵ (finally u32 γ·nodes (store-woven″.out-nodes nodes x-k x-place x)) ∷ Γ) (lands C Λ E d (vunit) rest Q))
       → Seq K W (‵ (flft κ·nodes q·nodes) ∷ ‵ (MutAt u32 κ·nodes b·nodes o·nodes γ·nodes n·nodes nodes) ∷ Γ) (runs C Λ E (seq (call #callee xs d) rest) Q)
-  calls t mem run fm known κ·nodes q·nodes b·nodes o·nodes γ·nodes n·nodes nodes x-k q x = calls-by t mem run fm κ·nodes q·nodes b·nodes o·nodes γ·nodes n·nodes nodes x-k q x (known (to 𝓤 H A mem run κ·nodes q·nodes b·nodes o·nodes γ·nodes n·nodes nodes x-k q x))
+  calls t mem run fm known κ·nodes q·nodes b·nodes o·nodes γ·nodes n·nodes nodes x-k x-place x = calls-by t mem run fm κ·nodes q·nodes b·nodes o·nodes γ·nodes n·nodes nodes x-k x-place x (known (to 𝓤 H A mem run κ·nodes q·nodes b·nodes o·nodes γ·nodes n·nodes nodes x-k x-place x))
 
 module _ {M : Type 1} {𝓤 : URA M} {H : Heap 𝓤} {A : Atoms 𝓤} {K : Type 0} {W : Given 𝓤 H A} {Γ : List (Item 𝓤)} {E : Env 𝓤 H} {C : Calls 𝓤 H} {Λ : Loops 𝓤 H} {Q : Post 𝓤 H} {xs : List Operand} {d : Place} where
   -- by one instance of the callee's contract, which is what a function that calls itself has. The call ends a part of the code
-  pub calls-last-by : K → (mem : Memory → SProp 𝓤) (run : Routine → Fun 𝓤) → FmC 𝓤 H (W .laws) C → (κ·nodes : Lft) (q·nodes : Share) (b·nodes o·nodes : ℕ) (γ·nodes : GName) (n·nodes : ℕ) (nodes : List ℕ) (x-k : ℕ) (q : Part) (x : WovenNode) → ent 𝓤 (Asked 𝓤 H A mem run .pre (to 𝓤 H A mem run κ·nodes q·nodes b·nodes o·nodes γ·nodes n·nodes nodes x-k q x)) (C #callee (Asked 𝓤 H A mem run .args (to 𝓤 H A mem run κ·nodes q·nodes b·nodes o·nodes γ·nodes n·nodes nodes x-k q x)) (Asked 𝓤 H A mem run .post (to 𝓤 H A mem run κ·nodes q·nodes b·nodes o·nodes γ·nodes n·nodes nodes x-k q x))) → Is u64 x-k (uint-vals w64 x-k) → Is Part′.row q (Part′.vals q) → Is WovenNode′.row x (WovenNode′.vals x) → store-woven″.req nodes x-k q x →
-      Opds K W (raw (Asked 𝓤 H A mem run .pre (to 𝓤 H A mem run κ·nodes q·nodes b·nodes o·nodes γ·nodes n·nodes nodes x-k q x)) ∷ Γ) E xs (sliceVal (b·nodes, o·nodes) n·nodes ∷ vint w64 x-k ∷ Part′.mach q ∷ WovenNode′.mach x ∷ [])
-      → (length (store-woven″.out-nodes nodes x-k q x) ≡ length nodes → Seq K W (‵ (flft κ·nodes q·nodes) ∷ ‵ (finally u32 γ·nodes (store-woven″.out-nodes nodes x-k q x)) ∷ Γ) (settles E d (vunit) Q))
+  pub calls-last-by : K → (mem : Memory → SProp 𝓤) (run : Routine → Fun 𝓤) → FmC 𝓤 H (W .laws) C → (κ·nodes : Lft) (q·nodes : Share) (b·nodes o·nodes : ℕ) (γ·nodes : GName) (n·nodes : ℕ) (nodes : List ℕ) (x-k : ℕ) (x-place : ℕ) (x : WovenNode) → ent 𝓤 (Asked 𝓤 H A mem run .pre (to 𝓤 H A mem run κ·nodes q·nodes b·nodes o·nodes γ·nodes n·nodes nodes x-k x-place x)) (C #callee (Asked 𝓤 H A mem run .args (to 𝓤 H A mem run κ·nodes q·nodes b·nodes o·nodes γ·nodes n·nodes nodes x-k x-place x)) (Asked 𝓤 H A mem run .post (to 𝓤 H A mem run κ·nodes q·nodes b·nodes o·nodes γ·nodes n·nodes nodes x-k x-place x))) → Is u64 x-k (uint-vals w64 x-k) → Is u64 x-place (uint-vals w64 x-place) → Is WovenNode′.row x (WovenNode′.vals x) →
+      Opds K W (raw (Asked 𝓤 H A mem run .pre (to 𝓤 H A mem run κ·nodes q·nodes b·nodes o·nodes γ·nodes n·nodes nodes x-k x-place x)) ∷ Γ) E xs (sliceVal (b·nodes, o·nodes) n·nodes ∷ vint w64 x-k ∷ vint w64 x-place ∷ WovenNode′.mach x ∷ [])
+      → (length (store-woven″.out-nodes nodes x-k x-place x) ≡ length nodes → Seq K W (‵ (flft κ·nodes q·nodes) ∷ ‵ (finally u32 γ·nodes (store-woven″.out-nodes nodes x-k x-place x)) ∷ Γ) (settles E d (vunit) Q))
       → Seq K W (‵ (flft κ·nodes q·nodes) ∷ ‵ (MutAt u32 κ·nodes b·nodes o·nodes γ·nodes n·nodes nodes) ∷ Γ) (runs C Λ E (call #callee xs d) Q)
-  calls-last-by t mem run fm κ·nodes q·nodes b·nodes o·nodes γ·nodes n·nodes nodes x-k q x known ok·x-k ok·q ok·x need os k =
-      core t mem run κ·nodes q·nodes b·nodes o·nodes γ·nodes n·nodes nodes x-k q x (runs C Λ E (call #callee xs d) Q) (λ v. settles E d v Q) (λ v. tt)
-      (λ h. calls-from-last t fm (raw (Asked 𝓤 H A mem run .pre (to 𝓤 H A mem run κ·nodes q·nodes b·nodes o·nodes γ·nodes n·nodes nodes x-k q x))) (Asked 𝓤 H A mem run .args (to 𝓤 H A mem run κ·nodes q·nodes b·nodes o·nodes γ·nodes n·nodes nodes x-k q x)) (Asked 𝓤 H A mem run .post (to 𝓤 H A mem run κ·nodes q·nodes b·nodes o·nodes γ·nodes n·nodes nodes x-k q x)) known os h) ok·x-k ok·q ok·x need k
+  calls-last-by t mem run fm κ·nodes q·nodes b·nodes o·nodes γ·nodes n·nodes nodes x-k x-place x known ok·x-k ok·x-place ok·x os k =
+      core t mem run κ·nodes q·nodes b·nodes o·nodes γ·nodes n·nodes nodes x-k x-place x (runs C Λ E (call #callee xs d) Q) (λ v. settles E d v Q) (λ v. tt)
+      (λ h. calls-from-last t fm (raw (Asked 𝓤 H A mem run .pre (to 𝓤 H A mem run κ·nodes q·nodes b·nodes o·nodes γ·nodes n·nodes nodes x-k x-place x))) (Asked 𝓤 H A mem run .args (to 𝓤 H A mem run κ·nodes q·nodes b·nodes o·nodes γ·nodes n·nodes nodes x-k x-place x)) (Asked 𝓤 H A mem run .post (to 𝓤 H A mem run κ·nodes q·nodes b·nodes o·nodes γ·nodes n·nodes nodes x-k x-place x)) known os h) ok·x-k ok·x-place ok·x k
 
-  pub calls-last : K → (mem : Memory → SProp 𝓤) (run : Routine → Fun 𝓤) → FmC 𝓤 H (W .laws) C → Triple 𝓤 (C #callee) (Asked 𝓤 H A mem run) → (κ·nodes : Lft) (q·nodes : Share) (b·nodes o·nodes : ℕ) (γ·nodes : GName) (n·nodes : ℕ) (nodes : List ℕ) (x-k : ℕ) (q : Part) (x : WovenNode) → Is u64 x-k (uint-vals w64 x-k) → Is Part′.row q (Part′.vals q) → Is WovenNode′.row x (WovenNode′.vals x) → store-woven″.req nodes x-k q x →
-      Opds K W (raw (Asked 𝓤 H A mem run .pre (to 𝓤 H A mem run κ·nodes q·nodes b·nodes o·nodes γ·nodes n·nodes nodes x-k q x)) ∷ Γ) E xs (sliceVal (b·nodes, o·nodes) n·nodes ∷ vint w64 x-k ∷ Part′.mach q ∷ WovenNode′.mach x ∷ [])
-      → (length (store-woven″.out-nodes nodes x-k q x) ≡ length nodes → Seq K W (‵ (flft κ·nodes q·nodes) ∷ ‵ (finally u32 γ·nodes (store-woven″.out-nodes nodes x-k q x)) ∷ Γ) (settles E d (vunit) Q))
+  pub calls-last : K → (mem : Memory → SProp 𝓤) (run : Routine → Fun 𝓤) → FmC 𝓤 H (W .laws) C → Triple 𝓤 (C #callee) (Asked 𝓤 H A mem run) → (κ·nodes : Lft) (q·nodes : Share) (b·nodes o·nodes : ℕ) (γ·nodes : GName) (n·nodes : ℕ) (nodes : List ℕ) (x-k : ℕ) (x-place : ℕ) (x : WovenNode) → Is u64 x-k (uint-vals w64 x-k) → Is u64 x-place (uint-vals w64 x-place) → Is WovenNode′.row x (WovenNode′.vals x) →
+      Opds K W (raw (Asked 𝓤 H A mem run .pre (to 𝓤 H A mem run κ·nodes q·nodes b·nodes o·nodes γ·nodes n·nodes nodes x-k x-place x)) ∷ Γ) E xs (sliceVal (b·nodes, o·nodes) n·nodes ∷ vint w64 x-k ∷ vint w64 x-place ∷ WovenNode′.mach x ∷ [])
+      → (length (store-woven″.out-nodes nodes x-k x-place x) ≡ length nodes → Seq K W (‵ (flft κ·nodes q·nodes) ∷ ‵ (finally u32 γ·nodes (store-woven″.out-nodes nodes x-k x-place x)) ∷ Γ) (settles E d (vunit) Q))
       → Seq K W (‵ (flft κ·nodes q·nodes) ∷ ‵ (MutAt u32 κ·nodes b·nodes o·nodes γ·nodes n·nodes nodes) ∷ Γ) (runs C Λ E (call #callee xs d) Q)
-  calls-last t mem run fm known κ·nodes q·nodes b·nodes o·nodes γ·nodes n·nodes nodes x-k q x = calls-last-by t mem run fm κ·nodes q·nodes b·nodes o·nodes γ·nodes n·nodes nodes x-k q x (known (to 𝓤 H A mem run κ·nodes q·nodes b·nodes o·nodes γ·nodes n·nodes nodes x-k q x))
+  calls-last t mem run fm known κ·nodes q·nodes b·nodes o·nodes γ·nodes n·nodes nodes x-k x-place x = calls-last-by t mem run fm κ·nodes q·nodes b·nodes o·nodes γ·nodes n·nodes nodes x-k x-place x (known (to 𝓤 H A mem run κ·nodes q·nodes b·nodes o·nodes γ·nodes n·nodes nodes x-k x-place x))

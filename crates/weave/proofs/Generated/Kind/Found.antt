@@ -20,8 +20,6 @@ use denote.Laws.{Is, Tells, Copy, Makes}
 use denote.Plain.{uint-vals, bool-vals, nothing-vals}
 use denote.Builtin.{u8, u16, u32, u64, bool, unit}
 use denote.Struct.Laws as LL
-use Rattle.register.proofs.Generated.Kind.Part as Part′
-use Rattle.register.specs.declared.Part.{Part}
 use Rattle.weave.proofs.Generated.Kind.WovenNode as WovenNode′
 use Rattle.weave.specs.declared.WovenNode.{WovenNode}
 use Rattle.weave.specs.declared.Found.{Found}
@@ -57,7 +55,7 @@ makes = LL.makes T′.the-type T″.the-plain
 
 -- a value to stand past the end of a list
 abbrev pub none : Found
-none = record { k = 0; update = 0; part = Part′.none; node = WovenNode′.none }
+none = record { k = 0; update = 0; place = 0; node = WovenNode′.none }
 
 pub ok-k : (d : Found) → Ok d → Is u64 (d .k) (uint-vals w64 (d .k))
 ok-k d g = LL.owed T′.the-type T″.the-laws d _ g .0
@@ -65,20 +63,20 @@ ok-k d g = LL.owed T′.the-type T″.the-laws d _ g .0
 pub ok-update : (d : Found) → Ok d → Is u64 (d .update) (uint-vals w64 (d .update))
 ok-update d g = LL.owed T′.the-type T″.the-laws d _ g .1 .0
 
-pub ok-part : (d : Found) → Ok d → Is Part′.row (d .part) (Part′.vals (d .part))
-ok-part d g = LL.owed T′.the-type T″.the-laws d _ g .1 .1 .0
+pub ok-place : (d : Found) → Ok d → Is u64 (d .place) (uint-vals w64 (d .place))
+ok-place d g = LL.owed T′.the-type T″.the-laws d _ g .1 .1 .0
 
 pub ok-node : (d : Found) → Ok d → Is WovenNode′.row (d .node) (WovenNode′.vals (d .node))
 ok-node d g = LL.owed T′.the-type T″.the-laws d _ g .1 .1 .1 .0
 
-abbrev pub build : ℕ → ℕ → Part → WovenNode → Found
-build y0 y1 y2 y3 = record { k = y0; update = y1; part = y2; node = y3 }
+abbrev pub build : ℕ → ℕ → ℕ → WovenNode → Found
+build y0 y1 y2 y3 = record { k = y0; update = y1; place = y2; node = y3 }
 
-pub make : (y0 : ℕ) (y1 : ℕ) (y2 : Part) (y3 : WovenNode) → Is u64 y0 (uint-vals w64 y0) → Is u64 y1 (uint-vals w64 y1) → Is Part′.row y2 (Part′.vals y2) → Is WovenNode′.row y3 (WovenNode′.vals y3) → Ok (build y0 y1 y2 y3)
+pub make : (y0 : ℕ) (y1 : ℕ) (y2 : ℕ) (y3 : WovenNode) → Is u64 y0 (uint-vals w64 y0) → Is u64 y1 (uint-vals w64 y1) → Is u64 y2 (uint-vals w64 y2) → Is WovenNode′.row y3 (WovenNode′.vals y3) → Ok (build y0 y1 y2 y3)
 make y0 y1 y2 y3 g0 g1 g2 g3 = LL.owes T′.the-type T″.the-laws (build y0 y1 y2 y3) (g0, (g1, (g2, (g3, tt))))
 
 abbrev pub stride : ℕ
-stride = 128
+stride = 64
 
 -- the byte offset of an element of a slice does not wrap
 pub scaled : (n i : ℕ) → i < n → n * stride < 2 ^ 63 → i * stride < 2 ^ 64

@@ -55,7 +55,7 @@ makes = LL.makes T′.the-type T″.the-plain
 
 -- a value to stand past the end of a list
 abbrev pub none : Next
-none = record { first = PageIndex′.none; span = 0; right = PageIndex′.none; half = 0 }
+none = record { first = PageIndex′.none; span = 0; right = PageIndex′.none; half = 0; place = 0 }
 
 pub ok-first : (d : Next) → Ok d → Is PageIndex′.row (d .first) (PageIndex′.vals (d .first))
 ok-first d g = LL.owed T′.the-type T″.the-laws d _ g .0
@@ -69,14 +69,17 @@ ok-right d g = LL.owed T′.the-type T″.the-laws d _ g .1 .1 .0
 pub ok-half : (d : Next) → Ok d → Is u64 (d .half) (uint-vals w64 (d .half))
 ok-half d g = LL.owed T′.the-type T″.the-laws d _ g .1 .1 .1 .0
 
-abbrev pub build : PageIndex → ℕ → PageIndex → ℕ → Next
-build y0 y1 y2 y3 = record { first = y0; span = y1; right = y2; half = y3 }
+pub ok-place : (d : Next) → Ok d → Is u64 (d .place) (uint-vals w64 (d .place))
+ok-place d g = LL.owed T′.the-type T″.the-laws d _ g .1 .1 .1 .1 .0
 
-pub make : (y0 : PageIndex) (y1 : ℕ) (y2 : PageIndex) (y3 : ℕ) → Is PageIndex′.row y0 (PageIndex′.vals y0) → Is u64 y1 (uint-vals w64 y1) → Is PageIndex′.row y2 (PageIndex′.vals y2) → Is u64 y3 (uint-vals w64 y3) → Ok (build y0 y1 y2 y3)
-make y0 y1 y2 y3 g0 g1 g2 g3 = LL.owes T′.the-type T″.the-laws (build y0 y1 y2 y3) (g0, (g1, (g2, (g3, tt))))
+abbrev pub build : PageIndex → ℕ → PageIndex → ℕ → ℕ → Next
+build y0 y1 y2 y3 y4 = record { first = y0; span = y1; right = y2; half = y3; place = y4 }
+
+pub make : (y0 : PageIndex) (y1 : ℕ) (y2 : PageIndex) (y3 : ℕ) (y4 : ℕ) → Is PageIndex′.row y0 (PageIndex′.vals y0) → Is u64 y1 (uint-vals w64 y1) → Is PageIndex′.row y2 (PageIndex′.vals y2) → Is u64 y3 (uint-vals w64 y3) → Is u64 y4 (uint-vals w64 y4) → Ok (build y0 y1 y2 y3 y4)
+make y0 y1 y2 y3 y4 g0 g1 g2 g3 g4 = LL.owes T′.the-type T″.the-laws (build y0 y1 y2 y3 y4) (g0, (g1, (g2, (g3, (g4, tt)))))
 
 abbrev pub stride : ℕ
-stride = 32
+stride = 40
 
 -- the byte offset of an element of a slice does not wrap
 pub scaled : (n i : ℕ) → i < n → n * stride < 2 ^ 63 → i * stride < 2 ^ 64

@@ -84,7 +84,7 @@ pub make : (y0 : ℕ) (y1 : Next) (y2 : Bool) (y3 : Bool) (y4 : PageIndex) (y5 :
 make y0 y1 y2 y3 y4 y5 g0 g1 g2 g3 g4 g5 = LL.owes T′.the-type T″.the-laws (build y0 y1 y2 y3 y4 y5) (g0, (g1, (g2, (g3, (g4, (g5, tt))))))
 
 abbrev pub stride : ℕ
-stride = 64
+stride = 72
 
 -- the byte offset of an element of a slice does not wrap
 pub scaled : (n i : ℕ) → i < n → n * stride < 2 ^ 63 → i * stride < 2 ^ 64

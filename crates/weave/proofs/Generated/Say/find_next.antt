@@ -17,7 +17,6 @@ use Rattle.weave.specs.Plan.{NextOf, spanSought, Planned, Children, lost
 use Rattle.versions.specs.Store.{areasOf}
 use Rattle.weave.specs.Weave.{nextNode, nextPlace, leafPast, weaveRefusal, olderNumber, kept, wovenNode, wove, withWoven, weaveOut, weaveNodes, weaveRegister}
 use Rattle.lines.specs.declared.Entries.{Entries}
-use Rattle.register.specs.declared.Part.{Part}
 use Rattle.tree.specs.declared.PageIndex.{PageIndex}
 use Rattle.tree.specs.declared.Ticket.{Ticket}
 use Rattle.versions.specs.declared.Lengths.{Lengths}

@@ -16,7 +16,6 @@ use Rattle.table.specs.Table.{_≤?_, _or_, holds, unless}
 use Rattle.weave.specs.Plan.{NextOf, spanSought, Planned, Children, lostNumber, FoundBy, NextFound}
 use Rattle.versions.specs.Store.{areasOf}
 use Rattle.weave.specs.Weave.{nextNode, nextPlace, leafPast, weaveRefusal, olderNumber, kept, wovenNode, wove, withWoven, weaveOut, weaveNodes, weaveRegister}
-use Rattle.register.specs.declared.Part.{Part}
 use Rattle.tree.specs.declared.PageIndex.{PageIndex}
 use Rattle.weave.specs.declared.Found.{Found}
 use Rattle.weave.specs.declared.Next.{Next}
@@ -24,11 +23,8 @@ use Rattle.weave.specs.declared.Plan.{Plan}
 use Rattle.weave.specs.declared.Woven.{Woven}
 use Rattle.weave.specs.declared.WovenNode.{WovenNode}
 
-abbrev pub req : List ℕ → ℕ → Part → WovenNode → Type 0
-req nodes k q x = (k ≡ 0 → nextPlace q < 2 ^ 64)
+abbrev pub ens : List ℕ → ℕ → ℕ → WovenNode → List ℕ → Unit {0} → Type 0
+ens nodes k place x nodes′ result = nodes′ ≡ unless k nodes (withNode nodes place (x .left) (x .right))
 
-abbrev pub ens : List ℕ → ℕ → Part → WovenNode → List ℕ → Unit {0} → Type 0
-ens nodes k q x nodes′ result = nodes′ ≡ unless k nodes (withNode nodes (nextPlace q) (x .left) (x .right))
-
-abbrev pub out-nodes : List ℕ → ℕ → Part → WovenNode → List ℕ
-out-nodes nodes k q x = unless k nodes (withNode nodes (nextPlace q) (x .left) (x .right))
+abbrev pub out-nodes : List ℕ → ℕ → ℕ → WovenNode → List ℕ
+out-nodes nodes k place x = unless k nodes (withNode nodes place (x .left) (x .right))

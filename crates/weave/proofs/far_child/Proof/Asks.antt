@@ -34,7 +34,6 @@ use Rattle.register.proofs.Generated.Say.newest_own as newest-own″
 use Rattle.register.proofs.Generated.Say.number_of as number-of″
 use Rattle.versions.proofs.Generated.Say.number_on as number-on″
 use Rattle.register.proofs.Generated.Say.version_part as version-part″
-use Rattle.weave.proofs.Generated.Say.height_of as height-of″
 use Rattle.walk.proofs.Generated.Say.reach_from as reach-from″
 
 abbrev pub r1 : Store → List ℕ → List Record → ℕ → PageIndex → ℕ → Line
@@ -58,9 +57,6 @@ r6 s nodes register c x-first span = number-on″.res s (r1 s nodes register c x
 abbrev pub r7 : Store → List ℕ → List Record → ℕ → PageIndex → ℕ → Part
 r7 s nodes register c x-first span = version-part″.res register (r6 s nodes register c x-first span)
 
-abbrev pub r9 : Store → List ℕ → List Record → ℕ → PageIndex → ℕ → ℕ → ℕ
-r9 s nodes register c x-first span r8 = reach-from″.res nodes register (r6 s nodes register c x-first span) ((r7 s nodes register c x-first span) .height) x-first r8
-
 -- the function ensures: ((h : ℕ) → span ≡ 2 ^ h → r ≡ olderNumber s nodes register c (first .0) h)
 abbrev pub exit-1 : Type 0
 exit-1 =
@@ -79,14 +75,14 @@ exit-2 =
     (s : Store) (nodes : List ℕ) (register : List Record) (c : ℕ) (x-first : PageIndex) (span : ℕ) (ok-s : Store′.Ok s) (len-nodes : length nodes < 2 ^ 64) (len-register : length register < 2 ^ 64) (fits-c : c < 2 ^ 64) (ok-x-first : PageIndex′.Ok x-first) (fits-span : span < 2 ^ 64) (need : far-child″.req s nodes register c x-first span) (c1 : eqb span 0 ≡ false) (n1 : 0 < span) (ok-r1 : Line′.Ok (r1 s nodes register c x-first span)) (ok-r2 : Branch′.Ok (r2 s nodes register c x-first span)) (ok-r3 : Version′.Ok (r3 s nodes register c x-first span)) (ok-r4 : Version′.Ok (r4 s nodes register c x-first span)) (c2 : ltb 0 ((r4 s nodes register c x-first span) .0) ≡ true) (n2 : 0 < ((r4 s nodes register c x-first span) .0)) (fits-r5 : (r5 s nodes register c x-first span) < 2 ^ 64)
     → far-child″.ens s nodes register c x-first span (r5 s nodes register c x-first span)
 
--- `height_of` asks: 0 < span
-abbrev pub height-of-1 : Type 0
-height-of-1 =
+-- `reach_from` asks: 0 < to
+abbrev pub reach-from-1 : Type 0
+reach-from-1 =
     (s : Store) (nodes : List ℕ) (register : List Record) (c : ℕ) (x-first : PageIndex) (span : ℕ) (ok-s : Store′.Ok s) (len-nodes : length nodes < 2 ^ 64) (len-register : length register < 2 ^ 64) (fits-c : c < 2 ^ 64) (ok-x-first : PageIndex′.Ok x-first) (fits-span : span < 2 ^ 64) (need : far-child″.req s nodes register c x-first span) (c1 : eqb span 0 ≡ false) (n1 : 0 < span) (ok-r1 : Line′.Ok (r1 s nodes register c x-first span)) (ok-r2 : Branch′.Ok (r2 s nodes register c x-first span)) (ok-r3 : Version′.Ok (r3 s nodes register c x-first span)) (ok-r4 : Version′.Ok (r4 s nodes register c x-first span)) (c2 : ltb 0 ((r4 s nodes register c x-first span) .0) ≡ false) (n2 : ((r4 s nodes register c x-first span) .0) ≤ 0) (fits-r6 : (r6 s nodes register c x-first span) < 2 ^ 64) (ok-r7 : Part′.Ok (r7 s nodes register c x-first span))
-    → height-of″.req span
+    → reach-from″.req nodes register (r6 s nodes register c x-first span) ((r7 s nodes register c x-first span) .span) x-first span
 
 -- the function ensures: ((h : ℕ) → span ≡ 2 ^ h → r ≡ olderNumber s nodes register c (first .0) h)
 abbrev pub exit-3 : Type 0
 exit-3 =
-    (s : Store) (nodes : List ℕ) (register : List Record) (c : ℕ) (x-first : PageIndex) (span : ℕ) (ok-s : Store′.Ok s) (len-nodes : length nodes < 2 ^ 64) (len-register : length register < 2 ^ 64) (fits-c : c < 2 ^ 64) (ok-x-first : PageIndex′.Ok x-first) (fits-span : span < 2 ^ 64) (need : far-child″.req s nodes register c x-first span) (c1 : eqb span 0 ≡ false) (n1 : 0 < span) (ok-r1 : Line′.Ok (r1 s nodes register c x-first span)) (ok-r2 : Branch′.Ok (r2 s nodes register c x-first span)) (ok-r3 : Version′.Ok (r3 s nodes register c x-first span)) (ok-r4 : Version′.Ok (r4 s nodes register c x-first span)) (c2 : ltb 0 ((r4 s nodes register c x-first span) .0) ≡ false) (n2 : ((r4 s nodes register c x-first span) .0) ≤ 0) (fits-r6 : (r6 s nodes register c x-first span) < 2 ^ 64) (ok-r7 : Part′.Ok (r7 s nodes register c x-first span)) (r8 : ℕ) (fits-r8 : r8 < 2 ^ 64) (says8 : height-of″.ens span r8) (fits-r9 : (r9 s nodes register c x-first span r8) < 2 ^ 64)
-    → far-child″.ens s nodes register c x-first span (r9 s nodes register c x-first span r8)
+    (s : Store) (nodes : List ℕ) (register : List Record) (c : ℕ) (x-first : PageIndex) (span : ℕ) (ok-s : Store′.Ok s) (len-nodes : length nodes < 2 ^ 64) (len-register : length register < 2 ^ 64) (fits-c : c < 2 ^ 64) (ok-x-first : PageIndex′.Ok x-first) (fits-span : span < 2 ^ 64) (need : far-child″.req s nodes register c x-first span) (c1 : eqb span 0 ≡ false) (n1 : 0 < span) (ok-r1 : Line′.Ok (r1 s nodes register c x-first span)) (ok-r2 : Branch′.Ok (r2 s nodes register c x-first span)) (ok-r3 : Version′.Ok (r3 s nodes register c x-first span)) (ok-r4 : Version′.Ok (r4 s nodes register c x-first span)) (c2 : ltb 0 ((r4 s nodes register c x-first span) .0) ≡ false) (n2 : ((r4 s nodes register c x-first span) .0) ≤ 0) (fits-r6 : (r6 s nodes register c x-first span) < 2 ^ 64) (ok-r7 : Part′.Ok (r7 s nodes register c x-first span)) (r8 : ℕ) (fits-r8 : r8 < 2 ^ 64) (says8 : reach-from″.ens nodes register (r6 s nodes register c x-first span) ((r7 s nodes register c x-first span) .span) x-first span r8)
+    → far-child″.ens s nodes register c x-first span r8

@@ -1,4 +1,5 @@
 -- The facts that the walk of `weave::far_child` asks for. The author's file: tools/walkgen wrote its skeleton once, and with --rebind brings the arguments up to date.
+use mathlib.Core.Path.{_∙_}
 use native.Mathlib.Omega.{arith}
 use lib.Pow.{pow-pos}
 use Rattle.weave.proofs.Older.{older-own, older-tree}
@@ -19,12 +20,13 @@ newest-own-1 s nodes register c x-first span ok-s len-nodes len-register fits-c 
 pub exit-2 : Asks.exit-2
 exit-2 s nodes register c x-first span ok-s len-nodes len-register fits-c ok-x-first fits-span need c1 n1 ok-r1 ok-r2 ok-r3 ok-r4 c2 n2 fits-r5 = λ h e. older-own s nodes register c (x-first .0) h span e n2
 
--- `height_of` asks: 0 < span
--- here: height-of″.req span
-pub height-of-1 : Asks.height-of-1
-height-of-1 s nodes register c x-first span ok-s len-nodes len-register fits-c ok-x-first fits-span need c1 n1 ok-r1 ok-r2 ok-r3 ok-r4 c2 n2 fits-r6 ok-r7 = n1
+-- `reach_from` asks: 0 < to
+-- here: reach-from″.req nodes register (r6 s nodes register c x-first span) ((r7 s nodes register c x-first span) .span) x-first span
+pub reach-from-1 : Asks.reach-from-1
+reach-from-1 s nodes register c x-first span ok-s len-nodes len-register fits-c ok-x-first fits-span need c1 n1 ok-r1 ok-r2 ok-r3 ok-r4 c2 n2 fits-r6 ok-r7 = n1
 
 -- the function ensures: ((h : ℕ) → span ≡ 2 ^ h → r ≡ olderNumber s nodes register c (first .0) h)
--- here: far-child″.ens s nodes register c x-first span (r9 s nodes register c x-first span r8)
+-- here: far-child″.ens s nodes register c x-first span r8
 pub exit-3 : Asks.exit-3
-exit-3 s nodes register c x-first span ok-s len-nodes len-register fits-c ok-x-first fits-span need c1 n1 ok-r1 ok-r2 ok-r3 ok-r4 c2 n2 fits-r6 ok-r7 r8 fits-r8 says8 fits-r9 = λ h e. rw (says8 h e) (older-tree s nodes register c (x-first .0) h span e n2)
+exit-3 s nodes register c x-first span ok-s len-nodes len-register fits-c ok-x-first fits-span need c1 n1 ok-r1 ok-r2 ok-r3 ok-r4 c2 n2 fits-r6 ok-r7 r8 fits-r8 says8 =
+    λ h e. says8 h e ∙ older-tree s nodes register c (x-first .0) h span e n2

@@ -20,7 +20,7 @@ exit-1 s g nodes register x-t ok-s ok-g len-nodes len-register ok-x-t ok-r1 ok-r
     let k = number-found s g nodes register _ _ (x-t .0) r3 says3 r4 says4 in
     record {
       update = says5 .update;
-      part = says5 .part;
+      place = says5 .place ∙ says3 .next .place;
       number = says5 .number ∙ k;
       node = λ z. says5 .node s nodes register (children-found s g nodes register _ _ (x-t .0) r3 says3 r4 says4 (both-zero (r3 .k) _ (sym (says5 .number) ∙ z)));
     }

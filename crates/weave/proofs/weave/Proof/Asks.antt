@@ -26,8 +26,6 @@ use Rattle.versions.specs.declared.Lengths.{Lengths}
 use Rattle.versions.proofs.Generated.Kind.Lengths as Lengths′
 use Rattle.weave.specs.declared.Found.{Found}
 use Rattle.weave.proofs.Generated.Kind.Found as Found′
-use Rattle.register.specs.declared.Part.{Part}
-use Rattle.register.proofs.Generated.Kind.Part as Part′
 use Rattle.weave.proofs.Generated.Say.weave as weave″
 use Rattle.versions.proofs.Generated.Say.lengths_of as lengths-of″
 use Rattle.weave.proofs.Generated.Say.find_next as find-next″
@@ -39,19 +37,13 @@ abbrev pub r1 : Store → List ℕ → List ℕ → List Record → Ticket → L
 r1 s pages nodes register x-t = lengths-of″.res pages nodes register
 
 abbrev pub nodes₃ : Store → List ℕ → List ℕ → List Record → Ticket → Found → List ℕ
-nodes₃ s pages nodes register x-t r2 = store-woven″.out-nodes nodes (r2 .k) (r2 .part) (r2 .node)
+nodes₃ s pages nodes register x-t r2 = store-woven″.out-nodes nodes (r2 .k) (r2 .place) (r2 .node)
 
 abbrev pub register₄ : Store → List ℕ → List ℕ → List Record → Ticket → Found → List Record
 register₄ s pages nodes register x-t r2 = count-woven″.out-register register (r2 .k) (r2 .update)
 
 abbrev pub r5 : Store → List ℕ → List ℕ → List Record → Ticket → Found → Woven
 r5 s pages nodes register x-t r2 = woven-answer″.res (r2 .k) (r2 .node)
-
--- `store_woven` asks: (k ≡ 0 → nextPlace q < 2 ^ 64)
-abbrev pub store-woven-1 : Type 0
-store-woven-1 =
-    (s : Store) (pages : List ℕ) (nodes : List ℕ) (register : List Record) (x-t : Ticket) (ok-s : Store′.Ok s) (len-pages : length pages < 2 ^ 64) (len-nodes : length nodes < 2 ^ 64) (len-register : length register < 2 ^ 64) (ok-x-t : Ticket′.Ok x-t) (ok-r1 : Lengths′.Ok (r1 s pages nodes register x-t)) (r2 : Found) (ok-r2 : Found′.Ok r2) (says2 : find-next″.ens s (r1 s pages nodes register x-t) nodes register x-t r2)
-    → store-woven″.req nodes (r2 .k) (r2 .part) (r2 .node)
 
 -- `count_woven` asks: (k ≡ 0 → suc (nth noRecord register update .woven) < 2 ^ 64)
 abbrev pub count-woven-1 : Type 0

@@ -1,16 +1,12 @@
 -- The facts that the walk of `weave::weave` asks for. The author's file: tools/walkgen wrote its skeleton once, and with --rebind brings the arguments up to date.
-use mathlib.Core.Path.{sym, _∙_}
+use mathlib.Core.Path.{_≡_, sym, _∙_}
 use native.Mathlib.Omega.{arith}
 use Rattle.versions.proofs.Generated.Kind.Store as Store′
 use Rattle.table.proofs.Table.{unless-same}
+use Rattle.weave.specs.Weave.{nextPlace}
+use Rattle.weave.specs.Plan.{partFor}
 use Rattle.weave.proofs.Room.{place-low, both-zero, wove-same}
 use Rattle.weave.proofs.weave.Proof.Asks as Asks
-
--- `store_woven` asks: (k ≡ 0 → nextPlace q < 2 ^ 64)
--- here: store-woven″.req nodes (r2 .k) (r2 .part) (r2 .node)
-pub store-woven-1 : Asks.store-woven-1
-store-woven-1 s pages nodes register x-t ok-s len-pages len-nodes len-register ok-x-t ok-r1 r2 ok-r2 says2 =
-    λ z. rw (says2 .part) (omega (arith, place-low s _ _ _ _ (both-zero _ _ (sym (says2 .number) ∙ z)), Store′.ok-nodes s ok-s))
 
 -- `count_woven` asks: (k ≡ 0 → suc (nth noRecord register update .woven) < 2 ^ 64)
 -- here: count-woven″.req register (r2 .k) (r2 .update)
@@ -24,6 +20,9 @@ pub exit-1 : Asks.exit-1
 exit-1 s pages nodes register x-t ok-s len-pages len-nodes len-register ok-x-t ok-r1 r2 ok-r2 says2 same3-nodes same4-register ok-r5 =
     rw (← says2 .number) (
       wove-same (r2 .k) (r2 .node) _ (says2 .node),
-      unless-same (r2 .k) nodes _ _ (λ z. rw (says2 .part, says2 .node z)),
+      unless-same (r2 .k) nodes _ _ (λ z.
+          let fits = place-low s _ _ _ _ (both-zero _ _ (sym (says2 .number) ∙ z)) in
+          let same : r2 .place ≡ nextPlace (partFor register (x-t .0)) = omega (arith, says2 .place, fits, Store′.ok-nodes s ok-s) in
+          rw (same, says2 .node z)),
       rw (says2 .update),
     )
