@@ -4,7 +4,7 @@ ghost use Prim.Native.Nat.{suc, min, max, _+_, _-_, _^_, _<_, _≤_};
 ghost use lib.Dec.{ltb};
 ghost use mathlib.Core.List.{[], _∷_};
 ghost use Rattle.tree.specs.Tree.{countOf};
-ghost use Rattle.table.specs.Table.{_<?_, _gives_, noLine, always, firstRefusal, unless};
+ghost use Rattle.table.specs.Table.{_<?_, _gives_, noSuchLine, always, firstRefusal, unless};
 ghost use Rattle.versions.specs.Store.{areasOf, linesIn, lineIn};
 ghost use Rattle.assign.specs.Assign.{updateAt, numberBy, Roomy, allPut, roomRefusal, assignRefusal, assigned, withUpdate, withUpdateOf, withUpdatePart, withEntryOf, withAssigned, assignOut, assignRegister};
 ghost use Rattle.assign.specs.NewUpdate.{newUpdate, Figured};
@@ -130,7 +130,7 @@ fn past_the_end(s: Store, l: Line, f: PageIndex) -> bool
 
 // Rows 20 and 13 of a ticket whose record lies past the register; 19 where they do not hold.
 fn past_refusal(s: Store, l: Line, f: PageIndex) -> u64
-    ensures { λ k. ⌜ k ≡ firstRefusal ((noLine (l .0) (linesIn s) gives 20) ∷ (lineIn s (l .0) .blob <? f .0 gives 13) ∷ (always gives 19) ∷ []) ⌝ }
+    ensures { λ k. ⌜ k ≡ firstRefusal ((noSuchLine (l .0) (linesIn s) gives 20) ∷ (lineIn s (l .0) .blob <? f .0 gives 13) ∷ (always gives 19) ∷ []) ⌝ }
 {
     if lines_begun(s) <= l.0 {
         return 20;

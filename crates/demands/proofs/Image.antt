@@ -17,8 +17,8 @@ use Rattle.windows.specs.declared.Windows.{Windows}
 use Rattle.windows.specs.Windows.{placed}
 use Rattle.versions.specs.declared.Store.{Store}
 use Rattle.versions.specs.Store.{Areas}
-use Rattle.model.specs.History.{Page, Ticket, Version, pagesOf, taken, updateOf as toUpdate, updates, blobSize, isFilled, bitIf}
-use Rattle.model.specs.Model.{Limits, Model, lineAt, updateAt, history, every, places, updateOf, numbered}
+use Rattle.model.specs.History.{Page, Ticket, Version, pagesOf, taken, toUpdate, updates, blobSize, isFilled, bitIf}
+use Rattle.model.specs.Model.{Limits, Model, lineAt, updateAt, history, every, places, ticketUpdate, numbered}
 use Rattle.model.specs.OnModel.{ticketIn, either}
 use Rattle.model.proofs.Laid.{tab}
 use Rattle.model.proofs.Image.{pagesImage, nodesImage}
@@ -35,8 +35,8 @@ maskOf (x ∷ xs) = bitIf (isFilled x) + 2 * maskOf xs
 abbrev pub numberAt : Model → ℕ → ℕ
 numberAt m i = either (ltb i (length (m .tickets))) (taken (m .tickets) i) 0
 
-abbrev pub placeAt : Model → ℕ → ℕ
-placeAt m i = either (ltb i (length (m .updates))) (used (updates (every m)) i) 0
+abbrev pub firstPlaceAt : Model → ℕ → ℕ
+firstPlaceAt m i = either (ltb i (length (m .updates))) (used (updates (every m)) i) 0
 
 -- The node count of an update of these tickets; 0 where there is none, which has no ticket.
 abbrev pub countBy : List Ticket → Version → ℕ
@@ -54,12 +54,12 @@ recordImage m i =
       n = pagesOf k;
       number = numberAt m i;
       put = maskOf (k .slots);
-      update = updateOf m (suc i);
+      update = ticketUpdate m (suc i);
       ticket = record { 0 = u .ticket };
       name = numbered (u .line) (u .number);
       f = record { 0 = u .f };
       last = record { 0 = toUpdate (m .tickets) u .last };
-      top = placeAt m i + rootHeight (u .size);
+      top = firstPlaceAt m i + rootHeight (u .size);
       past = halvings (u .f);
       span = rootSpan (u .size);
       size = u .size;

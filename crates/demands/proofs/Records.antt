@@ -14,7 +14,7 @@ use Rattle.register.specs.Register.{noRecord, partOf, mostPage, limited, update
 use Rattle.weave.specs.Weave.{placeOf}
 use Rattle.table.specs.Table.{holds}
 use Rattle.versions.specs.Store.{areasDiffer, recordOf}
-use Rattle.model.specs.History.{taken, updateOf as toUpdate, updates}
+use Rattle.model.specs.History.{taken, toUpdate, updates}
 use Rattle.model.specs.Model.{Limits, Model, lineAt, updateAt, history, numbered}
 use Rattle.model.specs.OnModel.{ticketIn}
 use Rattle.model.specs.Snapshot.{firstPlace}

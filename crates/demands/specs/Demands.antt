@@ -3,16 +3,16 @@
 use mathlib.Core.Path.{_≡_}
 use mathlib.Core.Bool.{true}
 use mathlib.Core.List.{List, [], _∷_, _++_}
-use Prim.Native.Nat.{ℕ, zero, suc, _+_, _*_, _≤_, _<_}
+use Prim.Native.Nat.{ℕ, _+_, _*_, _≤_, _<_}
 use lib.ListN.{length, getD, take, drop}
 use Rattle.tree.specs.Tree.{heightOf}
 use Rattle.model.specs.Calls.{Call, on, PUBLISH, BRANCH, READ, SIZE, RECENT, STAMP, VIEW, Answer, refused, waiting, held, lineIs, filled, sizeIs, recentIs, stampIs, partIs, says}
-use Rattle.model.specs.History.{History, versionAt, updates, complete}
-use Rattle.model.specs.Model.{Limits, Model, noModel, lineAt, history, numberIn}
-use Rattle.model.specs.OnModel.{onModel, either}
+use Rattle.model.specs.History.{History, versionAt, updates}
+use Rattle.model.specs.Model.{Limits, noModel, history, numberIn}
+use Rattle.model.specs.OnModel.{onModel}
 use Rattle.model.specs.InTurn.{blobAt, bytesAt}
 use Rattle.model.specs.Stamp.{stampAt, LowestSame}
-use Rattle.model.specs.Snapshot.{treeIn, placeIn, snapshotAt}
+use Rattle.model.specs.Snapshot.{treeIn, placeOfNumber, snapshotAt}
 use Rattle.model.specs.Run.{outcomes, modelAfter}
 use Rattle.model.specs.Due.{publishes, Open, AllOpen, lastDue}
 use Rattle.isolation.specs.Isolation.{IsolatedBy}
@@ -60,7 +60,7 @@ module _ (L : Limits) (a : Areas) where
     pub sizes : asked (storeAfter L a cs) (on l (SIZE k)) ≡ says (sizeIs (L .size * versionAt (historyAfter L cs l) k .size))
     pub whole : length (bytesAt (historyAfter L cs l) k) ≡ L .size * versionAt (historyAfter L cs l) k .size
     pub tree : let h = historyAfter L cs l in
-        treeIn (placeIn (modelAfter L cs)) (storeAfter L a cs .areas .nodes) (heightOf (updates h) k) (numberIn h k) 0
+        treeIn (placeOfNumber (modelAfter L cs)) (storeAfter L a cs .areas .nodes) (heightOf (updates h) k) (numberIn h k) 0
         ≡ snapshotAt (modelAfter L cs) l k .tree
 
   -- All of "Compared", for every line and every k up to its number published.

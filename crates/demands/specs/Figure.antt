@@ -9,7 +9,7 @@ use Rattle.model.specs.Model.{Limits, noModel}
 use Rattle.model.specs.OnModel.{onModel}
 use Rattle.model.specs.Run.{outcomes, modelAfter}
 use Rattle.model.specs.Example.{pageOf}
-use Rattle.model.specs.Snapshot.{Tree, noPage, leaf, inner, treeOf, treeIn, placeIn, treeAt}
+use Rattle.model.specs.Snapshot.{Tree, noPage, leaf, inner, treeOf, treeIn, placeOfNumber, treeAt}
 use Rattle.versions.specs.Store.{Areas}
 use Rattle.demands.specs.Computes.{computes}
 use Rattle.demands.specs.Run.{onStore, formattedState, storeAfter}
@@ -136,6 +136,6 @@ pub tree-by-rule : treeAt (modelAfter limits calls) 0 3 ≡ figure
 unfolding computes limits calls treeOf
 tree-by-rule = refl
 
-pub tree-by-area : treeIn (placeIn (modelAfter limits calls)) (storeAfter limits areas calls .areas .nodes) 3 3 0 ≡ figure
-unfolding computes limits areas calls treeIn placeIn
+pub tree-by-area : treeIn (placeOfNumber (modelAfter limits calls)) (storeAfter limits areas calls .areas .nodes) 3 3 0 ≡ figure
+unfolding computes limits areas calls treeIn placeOfNumber
 tree-by-area = refl

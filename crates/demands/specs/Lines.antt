@@ -9,7 +9,7 @@ use Rattle.model.specs.OnModel.{onModel}
 use Rattle.model.specs.Run.{outcomes, modelAfter}
 use Rattle.model.specs.Example.{limits, pageOf, calls, given, more, givenMore, branches, givenBranches}
 use Rattle.model.specs.Trees.{nodesAfter}
-use Rattle.model.specs.Snapshot.{Tree, noPage, leaf, inner, treeOf, treeIn, placeIn, treeAt}
+use Rattle.model.specs.Snapshot.{Tree, noPage, leaf, inner, treeOf, treeIn, placeOfNumber, treeAt}
 use Rattle.versions.specs.Store.{Areas}
 use Rattle.assign.specs.Assign.{withEntryOf}
 use Rattle.demands.specs.Computes.{computes}
@@ -207,8 +207,8 @@ unfolding computes limits calls more third treeOf
 tree-by-rule = (refl, refl)
 
 pub tree-by-area :
-    treeIn (placeIn (modelAfter limits (calls ++ (more ++ third)))) (storeAfter limits areas (calls ++ (more ++ third)) .areas .nodes) 2 196612 0 ≡ tree
-unfolding computes limits areas calls more third treeIn placeIn
+    treeIn (placeOfNumber (modelAfter limits (calls ++ (more ++ third)))) (storeAfter limits areas (calls ++ (more ++ third)) .areas .nodes) 2 196612 0 ≡ tree
+unfolding computes limits areas calls more third treeIn placeOfNumber
 tree-by-area = refl
 
 -- ---- row 19 by a line's entry

@@ -14,11 +14,11 @@ use Rattle.tree.specs.Tree.{meets}
 use Rattle.tree.specs.NodeArea.{nodeAt}
 use Rattle.tree.specs.Walk.{visit}
 use Rattle.tree.specs.declared.NodeAt.the-variants.{Missing}
-use Rattle.tree.proofs.Area.{placed-out}
+use Rattle.tree.proofs.Area.{has-no-place}
 use Rattle.lines.specs.Lines.{pick}
 use Rattle.register.specs.declared.Record.{Record}
 use Rattle.register.specs.declared.Part.{Part}
-use Rattle.descent.specs.Places.{firstOver, orMost, hasNodeBy, placeBy, placeIn, placeAt, leafPlace}
+use Rattle.descent.specs.Places.{firstOver, orMost, hasNodeBy, placeByPart, placeIn, placeAt, leafPlace}
 
 module _ (q : Part) (c p h : ℕ) where
   pub place-other : q .name ≢ c → orMost (placeIn q c p h) ≡ 2 ^ 64 - 1
@@ -37,7 +37,7 @@ module _ (q : Part) (c p h : ℕ) where
   unfolding placeIn hasNodeBy meets
   place-before l = rw (le-ltb (q .f .0) (firstOver p h + 2 ^ h) l, and-false, and-false)
 
-  pub place-there : 0 < c → c < 2 ^ 64 - 1 → q .name ≡ c → 2 ^ h ≤ q .span → firstOver p h ≤ q .last .0 → q .f .0 < firstOver p h + 2 ^ h → orMost (placeIn q c p h) ≡ placeBy q p h
+  pub place-there : 0 < c → c < 2 ^ 64 - 1 → q .name ≡ c → 2 ^ h ≤ q .span → firstOver p h ≤ q .last .0 → q .f .0 < firstOver p h + 2 ^ h → orMost (placeIn q c p h) ≡ placeByPart q p h
   unfolding placeIn hasNodeBy meets
   place-there o m n k l r =
       rw (lt-ltb 0 c o, lt-ltb c (2 ^ 64 - 1) m, eq-eqb (q .name) c n, le-leb (2 ^ h) (q .span) k, lt-ltb (q .f .0) (firstOver p h + 2 ^ h) r, le-leb (firstOver p h) (q .last .0) l)
@@ -60,7 +60,7 @@ place-sum top past g h carried r low fits f e =
 module _ (area : List ℕ) (fits : length area < 2 ^ 64) where
   pub missing-most : nodeAt area (2 ^ 64 - 1) ≡ Missing
   unfolding nodeAt
-  missing-most = simp (placed-out (length area) (2 ^ 64 - 1) (omega arith))
+  missing-most = simp (has-no-place (length area) (2 ^ 64 - 1) (omega arith))
 
   pub visit-number : (o : Option ℕ) → visit area o ≡ nodeAt area (orMost o)
   visit-number none = sym missing-most

@@ -31,12 +31,12 @@ unfoldable pub hasNodeBy : Part → ℕ → ℕ → Bool
 hasNodeBy q p h = leb (2 ^ h) (q .span) && meets (q .f .0) (q .last .0) (first p h) (2 ^ h)
 
 -- Where it lies, in 64 bits: its first place and its root's height, less the node's, and as many more as its first page has halvings above those of the update's.
-abbrev pub placeBy : Part → ℕ → ℕ → ℕ
-placeBy q p h = (q .top + (2 ^ 64 - h) + (halvings (first p h) - q .past)) % 2 ^ 64
+abbrev pub placeByPart : Part → ℕ → ℕ → ℕ
+placeByPart q p h = (q .top + (2 ^ 64 - h) + (halvings (first p h) - q .past)) % 2 ^ 64
 
 -- The place of the node of height h over page p of the version numbered c, with the part q that its record should have: where it has, and makes such a node.
 unfoldable pub placeIn : Part → ℕ → ℕ → ℕ → Option ℕ
-placeIn q c p h = placeWhere (isNumber c && eqb (q .name) c && hasNodeBy q p h) (placeBy q p h)
+placeIn q c p h = placeWhere (isNumber c && eqb (q .name) c && hasNodeBy q p h) (placeByPart q p h)
 
 abbrev pub placeAt : List Record → ℕ → ℕ → ℕ → Option ℕ
 placeAt rs c p h = placeIn (versionPart rs c) c p h

@@ -11,7 +11,7 @@ use lib.Seq.{drop-cons}
 use lib.Dec.{ltb, eqb}
 use borrow.Author.Tests.{le-leb, lt-leb, lt-ltb, le-ltb}
 use Rattle.text.specs.Text.{pick}
-use Rattle.fields.specs.Fields.{allDigits, startsPlain, valueAfter, numberOf}
+use Rattle.fields.specs.Fields.{allDigits, startsPlain, valueAfter, fieldNumber}
 use Rattle.fields.specs.declared.Number.{Number}
 use Rattle.fields.specs.declared.Number.the-variants.{Is, Not}
 
@@ -34,12 +34,12 @@ plain-more (b ∷ c ∷ f) h k = refl
 abbrev pub finished : ℕ → List ℕ → Number
 finished v f = pick (allDigits f && ltb (valueAfter v f) (2 ^ 64)) (Is (valueAfter v f)) Not
 
-pub number-begins : (f : List ℕ) → startsPlain f ≡ true → numberOf f ≡ finished 0 f
-unfolding numberOf
+pub number-begins : (f : List ℕ) → startsPlain f ≡ true → fieldNumber f ≡ finished 0 f
+unfolding fieldNumber
 number-begins f h = rw h
 
-pub number-not : (f : List ℕ) → startsPlain f ≡ false → numberOf f ≡ Not
-unfolding numberOf
+pub number-not : (f : List ℕ) → startsPlain f ≡ false → fieldNumber f ≡ Not
+unfolding fieldNumber
 number-not f h = rw h
 
 -- more digits make no less

@@ -35,8 +35,8 @@ valueAfter v [] = v
 valueAfter v (b ∷ f) = valueAfter (v * 10 + (b - 48)) f
 
 -- the number that a field is, if it is one: plain digits, no leading zero, in 64 bits
-unfoldable pub numberOf : List ℕ → Number
-numberOf f = pick (startsPlain f && (allDigits f && ltb (valueAfter 0 f) (2 ^ 64))) (Is (valueAfter 0 f)) Not
+unfoldable pub fieldNumber : List ℕ → Number
+fieldNumber f = pick (startsPlain f && (allDigits f && ltb (valueAfter 0 f) (2 ^ 64))) (Is (valueAfter 0 f)) Not
 
 -- the value of a lowercase hexadecimal digit, 0 to 9 or a (97) to f (102); 16 where the byte is none
 unfoldable pub hexValue : ℕ → ℕ

@@ -5,7 +5,7 @@ ghost use mathlib.Core.List.{[]};
 ghost use lib.ListN.{length, getD};
 ghost use Rattle.text.specs.Text.{same};
 ghost use Rattle.text.specs.Buffer.{front};
-ghost use Rattle.fields.specs.Fields.{fieldsOf, startsPlain, numberOf, hexValue, isHex, unhex, decodedIn};
+ghost use Rattle.fields.specs.Fields.{fieldsOf, startsPlain, fieldNumber, hexValue, isHex, unhex, decodedIn};
 
 // A field's number, if it is one.
 pub enum Number {
@@ -91,7 +91,7 @@ fn starts_plain(f: &[u8]) -> bool
 
 // The number that a field is. A value past 64 bits is found before it would wrap.
 pub fn number_in(f: &[u8]) -> Number
-    ensures { λ r. ⌜ r ≡ numberOf (now (f .entry)) ⌝ }
+    ensures { λ r. ⌜ r ≡ fieldNumber (now (f .entry)) ⌝ }
 {
     if !starts_plain(f) {
         return Number::Not;

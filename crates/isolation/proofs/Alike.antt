@@ -5,10 +5,10 @@ use mathlib.Core.List.{List}
 use Prim.Native.Nat.{ℕ, zero, suc, _+_, _-_, _<_}
 use lib.ListN.{length}
 use Rattle.tree.specs.Tree.{Update}
-use Rattle.model.specs.History.{Version, History, noVersion, versionAt, updateOf as toUpdate, updates, blobSize, complete, due}
+use Rattle.model.specs.History.{Version, History, noVersion, versionAt, toUpdate, updates, blobSize, complete, due}
 use Rattle.model.specs.InTurn.{blobAt}
 use Rattle.model.specs.Stamp.{stampAt}
-use Rattle.model.specs.Model.{Limits, Model, updateOf, history}
+use Rattle.model.specs.Model.{Limits, Model, ticketUpdate, history}
 use Rattle.model.specs.OnModel.{ticketIn}
 use Rattle.model.proofs.Updated.{update-ticket, update-le}
 use Rattle.model.proofs.Owner.{own-version}
@@ -51,19 +51,19 @@ module _ {h h′ : History} (X : SameLine h h′) where
 -- ---- a ticket assigned on the line
 
 -- The line shows its version.
-pub own-is : {L : Limits} (l : ℕ) (m : Model) (t : ℕ) → Kept L m → 0 < updateOf m t → versionOf m t .line ≡ l → versionAt (history m l) (versionOf m t .number) ≡ versionOf m t
-own-is {L = L} l m t S o e = rw e at (own-version L m S (updateOf m t) o (update-le m t))
+pub own-is : {L : Limits} (l : ℕ) (m : Model) (t : ℕ) → Kept L m → 0 < ticketUpdate m t → versionOf m t .line ≡ l → versionAt (history m l) (versionOf m t .number) ≡ versionOf m t
+own-is {L = L} l m t S o e = rw e at (own-version L m S (ticketUpdate m t) o (update-le m t))
 
 -- In the other state it is assigned on the matched line, as the same version, and woven as far.
 pub record Own (l l′ : ℕ) (m m′ : Model) (t t′ : ℕ) : Type 0 where
-  pub assigned : 0 < updateOf m′ t′
+  pub assigned : 0 < ticketUpdate m′ t′
   pub line : versionOf m′ t′ .line ≡ l′
   pub number : versionOf m t .number ≡ versionOf m′ t′ .number
   pub update : toUpdate (m .tickets) (versionOf m t) ≡ toUpdate (m′ .tickets) (versionOf m′ t′)
   pub woven : ticketIn m t .woven ≡ ticketIn m′ t′ .woven
 
 pub own : {L : Limits} {l l′ : ℕ} {ts ts′ : List ℕ} {m m′ : Model} (M : Match l l′ ts ts′ m m′) (S : Kept L m) (S′ : Kept L m′) (t t′ : ℕ) → Pair l l′ ts ts′ m m′ t t′
-    → 0 < updateOf m t → versionOf m t .line ≡ l → Own l l′ m m′ t t′
+    → 0 < ticketUpdate m t → versionOf m t .line ≡ l → Own l l′ m m′ t t′
 own {L = L} {l = l} {l′ = l′} {m = m} {m′ = m′} M S S′ t t′ P o e =
     let q = mine-too M S S′ P o e in
     let X = M .lines (rw e at (update-got L m S t o .line)) (rw (q .1) at (update-got L m′ S′ t′ (q .0) .line)) in

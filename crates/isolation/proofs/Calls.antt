@@ -17,7 +17,7 @@ use Rattle.table.specs.Table.{always, holds, firstRefusal, unless, beginRows, p
 use Rattle.windows.specs.Listed.{textNumber}
 use Rattle.model.specs.Calls.{BEGIN, PUT, WEAVE, SETWINDOWS, Answer, ticketIs, putDone, nodeIs, windowsDone}
 use Rattle.model.specs.History.{Ticket, Version, History, noTicket, versionAt, taken, updates}
-use Rattle.model.specs.Model.{Limits, Model, updateOf, history, numberIn}
+use Rattle.model.specs.Model.{Limits, Model, ticketUpdate, history, numberIn}
 use Rattle.model.specs.OnModel.{ticketIn, leftOf, rightOf, firstPage, spanOf, beginNumber, begun as withTicket, putNumber, filledAt, weaveNumber, woven, withWindows, nodeAnswer, onModel}
 use Rattle.model.proofs.Nth.{length-snoc, nth-append, nth-new, nth-set-same, nth-set-other, nth-set-field}
 use Rattle.model.proofs.Updated.{update-ticket}
@@ -143,11 +143,11 @@ module _ (L : Limits) {l l′ : ℕ} {ts ts′ : List ℕ} {m m′ : Model} (M :
     -- ---- PUT and WEAVE
     module _ (t t′ : ℕ) (P : Pair l l′ ts ts′ m m′ t t′) where
       -- Row 8 of a ticket that is to be unassigned, and the rows after it.
-      pub alike-open : {r r′ : ℕ} → Alike l l′ m m′ t t′ r r′ → Alike l l′ m m′ t t′ (cond (not (eqb (updateOf m t) 0)) 8 r) (cond (not (eqb (updateOf m′ t′) 0)) 8 r′)
+      pub alike-open : {r r′ : ℕ} → Alike l l′ m m′ t t′ r r′ → Alike l l′ m m′ t t′ (cond (not (eqb (ticketUpdate m t) 0)) 8 r) (cond (not (eqb (ticketUpdate m′ t′) 0)) 8 r′)
       alike-open d = elim (assigned-cases M S S′ P) [
-        | inl e ↦ rw e (alike-row l l′ m m′ (not (eqb (updateOf m′ t′) 0)) 8 d)
-        | inr (inl e) ↦ rw (ne-eqb (updateOf m t) 0 (elsewhere-line l m t e .0)) (mine (omega arith) (assigned e))
-        | inr (inr e) ↦ rw (ne-eqb (updateOf m′ t′) 0 (elsewhere-line l′ m′ t′ e .0)) (yours (omega arith) (assigned e))
+        | inl e ↦ rw e (alike-row l l′ m m′ (not (eqb (ticketUpdate m′ t′) 0)) 8 d)
+        | inr (inl e) ↦ rw (ne-eqb (ticketUpdate m t) 0 (elsewhere-line l m t e .0)) (mine (omega arith) (assigned e))
+        | inr (inr e) ↦ rw (ne-eqb (ticketUpdate m′ t′) 0 (elsewhere-line l′ m′ t′ e .0)) (yours (omega arith) (assigned e))
       ]
 
       alike-put : (i : ℕ) (bytes : List ℕ) → Alike l l′ m m′ t t′ (putNumber L m t i bytes) (putNumber L m′ t′ i bytes)
@@ -195,21 +195,21 @@ module _ (L : Limits) {l l′ : ℕ} {ts ts′ : List ℕ} {m m′ : Model} (M :
 
       -- WEAVE of a ticket that is assigned on this line, or not at all.
       module _ (on-line : elsewhere l m t ≡ false) (on-line′ : elsewhere l′ m′ t′ ≡ false) where
-        own-too : 0 < updateOf m t → Own l l′ m m′ t t′
+        own-too : 0 < ticketUpdate m t → Own l l′ m m′ t t′
         own-too o = own M S S′ t t′ P o (not-elsewhere l m t on-line o)
 
         -- Then both lines have begun.
-        both-begun : 0 < updateOf m t → SameLine (history m l) (history m′ l′)
+        both-begun : 0 < ticketUpdate m t → SameLine (history m l) (history m′ l′)
         both-begun o =
             let w = own-too o in
             M .lines (rw (not-elsewhere l m t on-line o) at (update-got L m S t o .line)) (rw (w .line) at (update-got L m′ S′ t′ (w .assigned) .line))
 
         weave-same : weaveNumber L m t ≡ weaveNumber L m′ t′
-        weave-same = weave-alike t t′ (length (m .tickets)) (length (m′ .tickets)) (updateOf m t) (updateOf m′ t′) _ _ _ _ (P .there)
+        weave-same = weave-alike t t′ (length (m .tickets)) (length (m′ .tickets)) (ticketUpdate m t) (ticketUpdate m′ t′) _ _ _ _ (P .there)
             (λ o. let w = own-too o in (w .assigned, w .woven, ap countOf (w .update)))
             (λ o. mine-back M S S′ P o (not-elsewhere l′ m′ t′ on-line′ o))
 
-        node-same : 0 < updateOf m t → SameAnswer l l′ m m′ t t′ (nodeAnswer L m t) (nodeAnswer L m′ t′)
+        node-same : 0 < ticketUpdate m t → SameAnswer l l′ m m′ t t′ (nodeAnswer L m t) (nodeAnswer L m′ t′)
         node-same o =
             let w = own-too o in
             node-alike l l′ m m′ t t′ (updates-same (both-begun o)) (versionOf m t .line) (versionOf m′ t′ .line) _ _ _ _ _ _
@@ -253,7 +253,7 @@ module _ (L : Limits) {l l′ : ℕ} {ts ts′ : List ℕ} {m m′ : Model} (M :
             pages m t p u = nth-set-field noTicket (m .tickets) t _ (p .from) (λ (x : Ticket). x .slots) u refl
 
             -- The version of the ticket has one node more; any other has as many.
-            one-more : (m : Model) (l t : ℕ) → WeavePassed m t → Kept L m → 0 < updateOf m t → versionOf m t .line ≡ l → (v : ℕ) → v ≡ versionOf m t .number
+            one-more : (m : Model) (l t : ℕ) → WeavePassed m t → Kept L m → 0 < ticketUpdate m t → versionOf m t .line ≡ l → (v : ℕ) → v ≡ versionOf m t .number
                 → wovenAt (history (woven L m t) l) v ≡ suc (ticketIn m t .woven)
             one-more m l t p S o e v q =
                 ap (λ (u : ℕ). ticketIn (woven L m t) u .woven) (ap (λ (v : ℕ). versionAt (history m l) v .ticket) q ∙ ap (λ (x : Version). x .ticket) (own-is l m t S o e) ∙ update-ticket m t o)

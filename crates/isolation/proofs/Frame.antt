@@ -15,7 +15,7 @@ use Rattle.table.proofs.Table.{unless-keeps}
 use Rattle.windows.specs.Windows.{insideSome}
 use Rattle.model.specs.Calls.{Call, BEGIN, PUT, WEAVE, Act, WRITE, APPEND, PUBLISH, BRANCH, READ, SIZE, RECENT, STAMP, VIEW}
 use Rattle.model.specs.History.{Ticket, Version, History, noTicket, ticketAt, versionAt, blobSize, due}
-use Rattle.model.specs.Model.{Limits, Model, lineAt, updateAt, updateOf, history}
+use Rattle.model.specs.Model.{Limits, Model, lineAt, updateAt, ticketUpdate, history}
 use Rattle.model.specs.OnModel.{ticketIn, either, beginNumber, begun as withTicket, putNumber, filledAt, publishNumber, published, branched, onLine, onModel, weaveNumber, woven, branchNumber, nextVersion, assignNumber, assigned as withAssigned, assignStep}
 use Rattle.model.proofs.Nth.{length-snoc, nth-set-other, nth-set-field}
 use Rattle.model.proofs.Updated.{update-other, update-le}
@@ -33,20 +33,20 @@ use Rattle.isolation.proofs.Tickets.{not-here, own-nowhere, own-away, o
 -- ---- ASSIGN, in the numbers of the versions that tickets got on a line
 
 -- What a ticket's update and its version make of a line's number for it.
-own-by : (l : ℕ) (m m₁ : Model) (t : ℕ) → updateOf m₁ t ≡ updateOf m t → updateAt m₁ (updateOf m t) ≡ updateAt m (updateOf m t) → ownNumber l m₁ t ≡ ownNumber l m t
+own-by : (l : ℕ) (m m₁ : Model) (t : ℕ) → ticketUpdate m₁ t ≡ ticketUpdate m t → updateAt m₁ (ticketUpdate m t) ≡ updateAt m (ticketUpdate m t) → ownNumber l m₁ t ≡ ownNumber l m t
 own-by l m m₁ t e q = rw (e, q)
 
 module _ (L : Limits) (m : Model) (k t f : ℕ) where
   pub own-other : (l u : ℕ) → u ≢ t → ownNumber l (withAssigned L m k t f) u ≡ ownNumber l m u
   own-other l u n =
       own-by l m (withAssigned L m k t f) u (update-other 1 (m .updates) (nextVersion L m k t f) u (λ e. n (sym e)))
-      (assigned-older L m k t f (updateOf m u) (update-le m u))
+      (assigned-older L m k t f (ticketUpdate m u) (update-le m u))
 
-  module _ (free : updateOf m t ≡ 0) where
+  module _ (free : ticketUpdate m t ≡ 0) where
     new-version : versionOf (withAssigned L m k t f) t ≡ nextVersion L m k t f
     new-version = ap (updateAt (withAssigned L m k t f)) (assigned-gets L m k t f free) ∙ assigned-new L m k t f
 
-    new-got : 0 < updateOf (withAssigned L m k t f) t
+    new-got : 0 < ticketUpdate (withAssigned L m k t f) t
     new-got = omega (arith, assigned-gets L m k t f free)
 
     pub own-new : ownNumber k (withAssigned L m k t f) t ≡ suc (length (lineAt m k .shown))

@@ -7,7 +7,7 @@ use native.Mathlib.Omega.{arith}
 use lib.ListN.{length}
 use Rattle.tree.proofs.Meets.{lt-or-le}
 use Rattle.model.specs.History.{Version, noVersion, versionAt}
-use Rattle.model.specs.Model.{Limits, Model, lineAt, updateAt, updateOf, history}
+use Rattle.model.specs.Model.{Limits, Model, lineAt, updateAt, ticketUpdate, history}
 use Rattle.model.specs.OnModel.{ticketIn}
 use Rattle.model.proofs.Sound.{SoundGiven}
 use Rattle.model.proofs.Nth.{nth-past}
@@ -23,8 +23,8 @@ Kept L m = SoundGiven Unit L m
 pub record Shows (m : Model) (l v t : ℕ) : Type 0 where
   pub from : 0 < v
   pub upto : v ≤ length (lineAt m l .shown)
-  pub is : updateOf m t ≡ shownAt m l v
-  pub some : 0 < updateOf m t
+  pub is : ticketUpdate m t ≡ shownAt m l v
+  pub some : 0 < ticketUpdate m t
 
 module _ {L : Limits} {m : Model} (S : Kept L m) (l : ℕ) (there : l < length (m .lines)) where
   -- The update of a ticket that the line shows.
@@ -32,14 +32,14 @@ module _ {L : Limits} {m : Model} (S : Kept L m) (l : ℕ) (there : l < length (
   shows-ticket zero t o e = absurd (omega arith)
   shows-ticket (suc v) t o e = elim (lt-or-le v (length (lineAt m l .shown))) [
     | inl h ↦
-        let q : updateOf m t ≡ shownAt m l (suc v) =
-        ap (updateOf m) (sym e ∙ ap (λ (x : Version). x .ticket) (version-shown m l (suc v))) ∙ shown-sound L m S l there (suc v) (omega arith) h .back in
+        let q : ticketUpdate m t ≡ shownAt m l (suc v) =
+        ap (ticketUpdate m) (sym e ∙ ap (λ (x : Version). x .ticket) (version-shown m l (suc v))) ∙ shown-sound L m S l there (suc v) (omega arith) h .back in
         record { from = omega arith; upto = h; is = q; some = rw q (S .lines l there .some (suc v) (omega arith) h) }
     | inr h ↦ absurd (omega (arith, e, ap (λ (x : Version). x .ticket) (nth-past noVersion (history m l .versions) (suc v) (omega (arith, versions-length m l)))))
   ]
 
   -- It is the version of that number.
-  pub shows-number : (v t : ℕ) → 0 < t → versionAt (history m l) v .ticket ≡ t → updateAt m (updateOf m t) .number ≡ v
+  pub shows-number : (v t : ℕ) → 0 < t → versionAt (history m l) v .ticket ≡ t → updateAt m (ticketUpdate m t) .number ≡ v
   shows-number v t o e =
       let s = shows-ticket v t o e in
       ap (λ (k : ℕ). updateAt m k .number) (s .is) ∙ S .lines l there .number v (s .from) (s .upto)
@@ -59,7 +59,7 @@ module _ {L : Limits} {m : Model} (S : Kept L m) (l : ℕ) (there : l < length (
   ]
 
   -- A ticket that is not assigned is shown by no line.
-  pub open-not-shown : (t : ℕ) → 0 < t → updateOf m t ≡ 0 → (v : ℕ) → versionAt (history m l) v .ticket ≢ t
+  pub open-not-shown : (t : ℕ) → 0 < t → ticketUpdate m t ≡ 0 → (v : ℕ) → versionAt (history m l) v .ticket ≢ t
   open-not-shown t o z v e = omega (arith, shows-ticket v t o e .some)
 
   -- A ticket with nodes left that is not assigned on the line: the line does not show it, since what it shares is complete.

@@ -13,7 +13,7 @@ use lib.ListN.{length}
 use Rattle.tree.specs.Tree.{nth}
 use Rattle.tree.proofs.Meets.{lt-or-le}
 use Rattle.model.specs.History.{Ticket, noTicket}
-use Rattle.model.specs.Model.{Limits, Model, updateOf}
+use Rattle.model.specs.Model.{Limits, Model, ticketUpdate}
 use Rattle.model.specs.OnModel.{ticketIn}
 use Rattle.model.proofs.Nth.{nth-past}
 use Rattle.model.proofs.Facts.{ticket-zero, ticket-past, update-got}
@@ -24,39 +24,39 @@ use Rattle.isolation.proofs.Kept.{Kept}
 -- ---- where a ticket is assigned
 
 pub data Where (l : ℕ) (m : Model) (t : ℕ) : Type 0 where
-  nowhere : updateOf m t ≡ 0 → Where l m t
-  mine : 0 < updateOf m t → versionOf m t .line ≡ l → Where l m t
-  away : 0 < updateOf m t → versionOf m t .line ≢ l → Where l m t
+  nowhere : ticketUpdate m t ≡ 0 → Where l m t
+  mine : 0 < ticketUpdate m t → versionOf m t .line ≡ l → Where l m t
+  away : 0 < ticketUpdate m t → versionOf m t .line ≢ l → Where l m t
 
 module _ (l : ℕ) (m : Model) (t : ℕ) where
   pub where-is : Where l m t
-  where-is = elim (lt-or-le 0 (updateOf m t)) [
+  where-is = elim (lt-or-le 0 (ticketUpdate m t)) [
     | inl o ↦ elim (ℕ-discrete (versionOf m t .line) l) [ yes e ↦ mine o e | no n ↦ away o n ]
     | inr h ↦ nowhere (omega arith)
   ]
 
-  pub elsewhere-line : elsewhere l m t ≡ true → (updateOf m t ≢ 0) × (versionOf m t .line ≢ l)
+  pub elsewhere-line : elsewhere l m t ≡ true → (ticketUpdate m t ≢ 0) × (versionOf m t .line ≢ l)
   elsewhere-line e =
-      let b = and-eq-true-iff (not (eqb (updateOf m t) 0)) (not (eqb (versionOf m t .line) l)) .0 e in
-      (eqb-false (updateOf m t) 0 (not-true _ (b .0)), eqb-false (versionOf m t .line) l (not-true _ (b .1)))
+      let b = and-eq-true-iff (not (eqb (ticketUpdate m t) 0)) (not (eqb (versionOf m t .line) l)) .0 e in
+      (eqb-false (ticketUpdate m t) 0 (not-true _ (b .0)), eqb-false (versionOf m t .line) l (not-true _ (b .1)))
 
-  pub is-elsewhere : 0 < updateOf m t → versionOf m t .line ≢ l → elsewhere l m t ≡ true
-  is-elsewhere o n = rw (ne-eqb (updateOf m t) 0 (λ z. omega arith), ne-eqb (versionOf m t .line) l n)
+  pub is-elsewhere : 0 < ticketUpdate m t → versionOf m t .line ≢ l → elsewhere l m t ≡ true
+  is-elsewhere o n = rw (ne-eqb (ticketUpdate m t) 0 (λ z. omega arith), ne-eqb (versionOf m t .line) l n)
 
-  pub not-elsewhere : elsewhere l m t ≡ false → 0 < updateOf m t → versionOf m t .line ≡ l
+  pub not-elsewhere : elsewhere l m t ≡ false → 0 < ticketUpdate m t → versionOf m t .line ≡ l
   not-elsewhere e o = elim (ℕ-discrete (versionOf m t .line) l) [ yes q ↦ q | no n ↦ absurd (false≢true (sym e ∙ is-elsewhere o n)) ]
 
-  pub not-here : here l m t ≡ false → 0 < updateOf m t → versionOf m t .line ≢ l
-  not-here e o q = false≢true (sym (rw (ne-eqb (updateOf m t) 0 (λ z. omega arith), eq-eqb (versionOf m t .line) l q) at e))
+  pub not-here : here l m t ≡ false → 0 < ticketUpdate m t → versionOf m t .line ≢ l
+  not-here e o q = false≢true (sym (rw (ne-eqb (ticketUpdate m t) 0 (λ z. omega arith), eq-eqb (versionOf m t .line) l q) at e))
 
-  pub own-nowhere : updateOf m t ≡ 0 → ownNumber l m t ≡ 0
-  own-nowhere e = rw (eq-eqb (updateOf m t) 0 e)
+  pub own-nowhere : ticketUpdate m t ≡ 0 → ownNumber l m t ≡ 0
+  own-nowhere e = rw (eq-eqb (ticketUpdate m t) 0 e)
 
-  pub own-away : 0 < updateOf m t → versionOf m t .line ≢ l → ownNumber l m t ≡ 0
-  own-away o n = rw (ne-eqb (updateOf m t) 0 (λ z. omega arith), ne-eqb (versionOf m t .line) l n)
+  pub own-away : 0 < ticketUpdate m t → versionOf m t .line ≢ l → ownNumber l m t ≡ 0
+  own-away o n = rw (ne-eqb (ticketUpdate m t) 0 (λ z. omega arith), ne-eqb (versionOf m t .line) l n)
 
-  pub own-mine : 0 < updateOf m t → versionOf m t .line ≡ l → ownNumber l m t ≡ versionOf m t .number
-  own-mine o e = rw (ne-eqb (updateOf m t) 0 (λ z. omega arith), eq-eqb (versionOf m t .line) l e)
+  pub own-mine : 0 < ticketUpdate m t → versionOf m t .line ≡ l → ownNumber l m t ≡ versionOf m t .number
+  own-mine o e = rw (ne-eqb (ticketUpdate m t) 0 (λ z. omega arith), eq-eqb (versionOf m t .line) l e)
 
 -- ---- a ticket that is there, or not
 
@@ -76,7 +76,7 @@ module _ (ks : List Ticket) (t : ℕ) where
   absent-ticket : absent ks t ≡ true → nth noTicket ks t ≡ noTicket
   absent-ticket e = elim (not-there e) [ inl z ↦ rw z | inr h ↦ nth-past noTicket ks t h ]
 
-absent-nowhere : {L : Limits} (m : Model) (t : ℕ) → Kept L m → absent (m .tickets) t ≡ true → updateOf m t ≡ 0
+absent-nowhere : {L : Limits} (m : Model) (t : ℕ) → Kept L m → absent (m .tickets) t ≡ true → ticketUpdate m t ≡ 0
 absent-nowhere {L = L} m t S e = elim (not-there (m .tickets) t e) [ inl z ↦ rw z (ticket-zero L m S) | inr h ↦ ticket-past L m S t h ]
 
 -- The k-th of some tickets, also where there is none.
@@ -95,7 +95,7 @@ tickets-stay {ts = ts} {ks = ks} ks₁ q T = record {
 }
 
 -- A version that a ticket got is not number 0.
-some-number : {L : Limits} (l : ℕ) (m : Model) (t : ℕ) → Kept L m → 0 < updateOf m t → versionOf m t .line ≡ l → 0 < ownNumber l m t
+some-number : {L : Limits} (l : ℕ) (m : Model) (t : ℕ) → Kept L m → 0 < ticketUpdate m t → versionOf m t .line ≡ l → 0 < ownNumber l m t
 some-number {L = L} l m t S o e = rw (own-mine l m t o e) (omega (arith, update-got L m S t o .own))
 
 -- ---- two tickets that mean the same
@@ -140,31 +140,31 @@ module _ {L : Limits} {l l′ : ℕ} {ts ts′ : List ℕ} {m m′ : Model} (M :
 
   module _ {t t′ : ℕ} (P : Pair l l′ ts ts′ m m′ t t′) where
     -- Assigned in neither state, on the line in both, or elsewhere in one.
-    pub assigned-cases : (eqb (updateOf m t) 0 ≡ eqb (updateOf m′ t′) 0) ⊎ ((elsewhere l m t ≡ true) ⊎ (elsewhere l′ m′ t′ ≡ true))
+    pub assigned-cases : (eqb (ticketUpdate m t) 0 ≡ eqb (ticketUpdate m′ t′) 0) ⊎ ((elsewhere l m t ≡ true) ⊎ (elsewhere l′ m′ t′ ≡ true))
     assigned-cases = go (where-is l m t) (where-is l′ m′ t′)
       where
-        go : Where l m t → Where l′ m′ t′ → (eqb (updateOf m t) 0 ≡ eqb (updateOf m′ t′) 0) ⊎ ((elsewhere l m t ≡ true) ⊎ (elsewhere l′ m′ t′ ≡ true))
-        go (nowhere e) (nowhere e′) = inl (rw (eq-eqb (updateOf m t) 0 e, eq-eqb (updateOf m′ t′) 0 e′))
+        go : Where l m t → Where l′ m′ t′ → (eqb (ticketUpdate m t) 0 ≡ eqb (ticketUpdate m′ t′) 0) ⊎ ((elsewhere l m t ≡ true) ⊎ (elsewhere l′ m′ t′ ≡ true))
+        go (nowhere e) (nowhere e′) = inl (rw (eq-eqb (ticketUpdate m t) 0 e, eq-eqb (ticketUpdate m′ t′) 0 e′))
         go (nowhere e) (mine o q) = absurd (omega (arith, some-number l′ m′ t′ S′ o q, P .own, own-nowhere l m t e))
         go (nowhere e) (away o n) = inr (inr (is-elsewhere l′ m′ t′ o n))
         go (mine o q) (nowhere e) = absurd (omega (arith, some-number l m t S o q, P .own, own-nowhere l′ m′ t′ e))
-        go (mine o q) (mine o′ q′) = inl (rw (ne-eqb (updateOf m t) 0 (λ z. omega arith), ne-eqb (updateOf m′ t′) 0 (λ z. omega arith)))
+        go (mine o q) (mine o′ q′) = inl (rw (ne-eqb (ticketUpdate m t) 0 (λ z. omega arith), ne-eqb (ticketUpdate m′ t′) 0 (λ z. omega arith)))
         go (mine o q) (away o′ n) = inr (inr (is-elsewhere l′ m′ t′ o′ n))
         go (away o n) w = inr (inl (is-elsewhere l m t o n))
 
     -- Assigned on the line in one state, it is so in the other, as the same version.
-    pub mine-too : 0 < updateOf m t → versionOf m t .line ≡ l → (0 < updateOf m′ t′) × (versionOf m′ t′ .line ≡ l′) × (versionOf m t .number ≡ versionOf m′ t′ .number)
+    pub mine-too : 0 < ticketUpdate m t → versionOf m t .line ≡ l → (0 < ticketUpdate m′ t′) × (versionOf m′ t′ .line ≡ l′) × (versionOf m t .number ≡ versionOf m′ t′ .number)
     mine-too o e = go (where-is l′ m′ t′)
       where
-        go : Where l′ m′ t′ → (0 < updateOf m′ t′) × (versionOf m′ t′ .line ≡ l′) × (versionOf m t .number ≡ versionOf m′ t′ .number)
+        go : Where l′ m′ t′ → (0 < ticketUpdate m′ t′) × (versionOf m′ t′ .line ≡ l′) × (versionOf m t .number ≡ versionOf m′ t′ .number)
         go (nowhere z) = absurd (omega (arith, some-number l m t S o e, P .own, own-nowhere l′ m′ t′ z))
         go (mine o′ e′) = (o′, e′, sym (own-mine l m t o e) ∙ P .own ∙ own-mine l′ m′ t′ o′ e′)
         go (away o′ n) = absurd (omega (arith, some-number l m t S o e, P .own, own-away l′ m′ t′ o′ n))
 
-    pub mine-back : 0 < updateOf m′ t′ → versionOf m′ t′ .line ≡ l′ → 0 < updateOf m t
+    pub mine-back : 0 < ticketUpdate m′ t′ → versionOf m′ t′ .line ≡ l′ → 0 < ticketUpdate m t
     mine-back o e = go (where-is l m t)
       where
-        go : Where l m t → 0 < updateOf m t
+        go : Where l m t → 0 < ticketUpdate m t
         go (nowhere z) = absurd (omega (arith, some-number l′ m′ t′ S′ o e, P .own, own-nowhere l m t z))
         go (mine o′ e′) = o′
         go (away o′ n) = o′

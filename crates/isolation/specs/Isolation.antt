@@ -13,7 +13,7 @@ use Rattle.tree.specs.Tree.{nth}
 use Rattle.table.specs.Table.{unless}
 use Rattle.model.specs.Calls.{Call, BEGIN, PUT, WEAVE, SETWINDOWS, on, Act, WRITE, APPEND, PUBLISH, BRANCH, READ, SIZE, RECENT, STAMP, VIEW, Answer, refused, ticketIs, nodeIs, lineIs, partIs, Outcome, says}
 use Rattle.model.specs.History.{Page, Ticket, Version, History, noTicket, ticketAt, versionAt, taken}
-use Rattle.model.specs.Model.{Limits, Model, noModel, updateAt, history, updateOf, numberIn}
+use Rattle.model.specs.Model.{Limits, Model, noModel, updateAt, history, ticketUpdate, numberIn}
 use Rattle.model.specs.OnModel.{either, beginNumber, onModel}
 use Rattle.model.specs.Run.{run}
 
@@ -21,14 +21,14 @@ use Rattle.model.specs.Run.{run}
 
 -- The version that ticket t got, where it has one.
 abbrev pub versionOf : Model → ℕ → Version
-versionOf m t = updateAt m (updateOf m t)
+versionOf m t = updateAt m (ticketUpdate m t)
 
 -- Ticket t is assigned on line l; on another one.
 abbrev pub here : ℕ → Model → ℕ → Bool
-here l m t = not (eqb (updateOf m t) 0) && eqb (versionOf m t .line) l
+here l m t = not (eqb (ticketUpdate m t) 0) && eqb (versionOf m t .line) l
 
 abbrev pub elsewhere : ℕ → Model → ℕ → Bool
-elsewhere l m t = not (eqb (updateOf m t) 0) && not (eqb (versionOf m t .line) l)
+elsewhere l m t = not (eqb (ticketUpdate m t) 0) && not (eqb (versionOf m t .line) l)
 
 -- The number of the version that ticket t got on line l; 0 where it is not assigned there.
 abbrev pub ownNumber : ℕ → Model → ℕ → ℕ

@@ -6,8 +6,8 @@ use native.Mathlib.Omega.{arith}
 use lib.ListN.{length}
 use Rattle.tree.specs.Tree.{countOf, update}
 use Rattle.tree.specs.Walk.{used}
-use Rattle.model.specs.History.{pagesOf, taken, updateOf as toUpdate, updates}
-use Rattle.model.specs.Model.{Limits, Model, lineAt, updateAt, every, updateOf}
+use Rattle.model.specs.History.{pagesOf, taken, toUpdate, updates}
+use Rattle.model.specs.Model.{Limits, Model, lineAt, updateAt, every, ticketUpdate}
 use Rattle.model.specs.OnModel.{ticketIn}
 use Rattle.model.proofs.Sound.{SoundGiven, Sound, UpdateSound}
 use Rattle.model.proofs.Pigeons.{pigeons}
@@ -18,15 +18,15 @@ use Rattle.model.proofs.Shown.{shownAt}
 
 module _ {A : Type 0} (L : Limits) (m : Model) (S : SoundGiven A L m) where
   -- There is no ticket 0, and none past the last: they have no update.
-  pub ticket-zero : updateOf m 0 ≡ 0
+  pub ticket-zero : ticketUpdate m 0 ≡ 0
   ticket-zero = update-past m 0 (λ k o h e. omega (arith, S .updated k o h .from))
 
-  pub ticket-past : (t : ℕ) → length (m .tickets) < t → updateOf m t ≡ 0
+  pub ticket-past : (t : ℕ) → length (m .tickets) < t → ticketUpdate m t ≡ 0
   ticket-past t g = update-past m t (λ k o h e. omega (arith, S .updated k o h .upto))
 
   -- The update that a ticket got is sound.
-  pub update-got : (t : ℕ) → 0 < updateOf m t → UpdateSound m (updateOf m t)
-  update-got t o = S .updated (updateOf m t) o (update-le m t)
+  pub update-got : (t : ℕ) → 0 < ticketUpdate m t → UpdateSound m (ticketUpdate m t)
+  update-got t o = S .updated (ticketUpdate m t) o (update-le m t)
 
   -- A ticket's page numbers are within the pages.
   pub number-room : (t : ℕ) → 0 < t → t ≤ length (m .tickets) → taken (m .tickets) (pred t) + pagesOf (ticketIn m t) ≤ L .pages

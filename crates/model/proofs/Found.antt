@@ -14,7 +14,7 @@ use Rattle.tree.proofs.Walk.{stands-woven, walk-in-turn-by}
 use Rattle.model.specs.History.{versionAt, leafNumber, updates}
 use Rattle.model.specs.InTurn.{blobAt}
 use Rattle.model.specs.Model.{Limits, Model, lineAt, history, numberIn}
-use Rattle.model.specs.Snapshot.{treeIn, numbersOn, placeIn, treeAt}
+use Rattle.model.specs.Snapshot.{treeIn, numbersOn, placeOfNumber, treeAt}
 use Rattle.model.proofs.Image.{pageCell, pagesImage, nodesImage}
 use Rattle.model.proofs.Areas.{slot-cell, cells-length}
 use Rattle.model.proofs.Blocks.{tab-byte, tab-part}
@@ -40,7 +40,7 @@ module _ (L : Limits) (m : Model) (S : Sound L m) (l : ℕ) (there : l < length 
   -- `at` places the nodes of the line's versions up to k where they lie.
   abbrev pub Places : (ℕ → ℕ → ℕ → Option ℕ) → ℕ → Type 0
   Places at k = (v p j : ℕ) → 0 < v → v ≤ k → hasNode (update (updates (history m l)) v) p j ≡ true
-      → at (numberIn (history m l) v) p j ≡ placeIn m (numberIn (history m l) v) p j
+      → at (numberIn (history m l) v) p j ≡ placeOfNumber m (numberIn (history m l) v) p j
 
   module _ (at : ℕ → ℕ → ℕ → Option ℕ) (k : ℕ) (h : k ≤ lineAt m l .published) (agrees : Places at k) where
     places : (v p j : ℕ) → 0 < v → v ≤ k → hasNode (update (updates (history m l)) v) p j ≡ true
@@ -71,8 +71,8 @@ module _ (L : Limits) (m : Model) (S : Sound L m) (l : ℕ) (there : l < length 
 
   -- As the model itself places them.
   pub tree-image : (k : ℕ) → k ≤ lineAt m l .published
-      → treeIn (placeIn m) (nodesImage L m) (heightOf (updates (history m l)) k) (numberIn (history m l) k) 0 ≡ treeAt m l k
-  tree-image k h = tree-found (placeIn m) k h (λ v p j o q e. refl)
+      → treeIn (placeOfNumber m) (nodesImage L m) (heightOf (updates (history m l)) k) (numberIn (history m l) k) 0 ≡ treeAt m l k
+  tree-image k h = tree-found (placeOfNumber m) k h (λ v p j o q e. refl)
 
   -- ---- the bytes of a page
 

@@ -5,8 +5,8 @@ use Prim.Native.Nat.{ℕ, zero, suc, pred, _≤_, _<_}
 use native.Mathlib.Omega.{arith}
 use lib.ListN.{length}
 use Rattle.tree.specs.Tree.{Update, nth, countOf}
-use Rattle.model.specs.History.{Version, taken, updateOf as toUpdate, updates}
-use Rattle.model.specs.Model.{Line, Model, lineAt, updateAt, updateOf}
+use Rattle.model.specs.History.{Version, taken, toUpdate, updates}
+use Rattle.model.specs.Model.{Line, Model, lineAt, updateAt, ticketUpdate}
 use Rattle.model.specs.OnModel.{ticketIn}
 use Rattle.model.proofs.Shown.{Whole}
 
@@ -41,7 +41,7 @@ pub record Grown (m m′ : Model) : Type 0 where
   pub updates : length (m .updates) ≤ length (m′ .updates)
   pub lines : length (m .lines) ≤ length (m′ .lines)
   pub version : (k : ℕ) → k ≤ length (m .updates) → updateAt m′ k ≡ updateAt m k
-  pub got : (t : ℕ) → 0 < updateOf m t → updateOf m′ t ≡ updateOf m t
+  pub got : (t : ℕ) → 0 < ticketUpdate m t → ticketUpdate m′ t ≡ ticketUpdate m t
   -- What was put for an update's ticket stays, and where it lies.
   pub slots : (k : ℕ) → 0 < k → k ≤ length (m .updates) → ticketIn m′ (updateAt m k .ticket) .slots ≡ ticketIn m (updateAt m k .ticket) .slots
   pub numbers : (k : ℕ) → 0 < k → k ≤ length (m .updates)

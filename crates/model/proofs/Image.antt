@@ -6,7 +6,7 @@ use Prim.Native.Nat.{ℕ, pred}
 use lib.Dec.{ltb}
 use lib.ListN.{length, getD, replicate}
 use Rattle.tree.specs.Tree.{Node, node, countOf, weaving, update}
-use Rattle.model.specs.History.{Page, Ticket, pagesOf, taken, updateOf as toUpdate, updates}
+use Rattle.model.specs.History.{Page, Ticket, pagesOf, taken, toUpdate, updates}
 use Rattle.model.specs.InTurn.{joined}
 use Rattle.model.specs.Model.{Limits, Model, updateAt, history, every}
 use Rattle.model.specs.OnModel.{ticketIn, leftOf, rightOf, either}

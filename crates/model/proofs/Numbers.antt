@@ -11,7 +11,7 @@ use Rattle.tree.specs.Tree.{update}
 use Rattle.tree.specs.Walk.{hasNode, placeBy}
 use Rattle.model.specs.History.{updates}
 use Rattle.model.specs.Model.{Limits, Model, lineAt, history, numbered, numberIn}
-use Rattle.model.specs.Snapshot.{numbersOn, placeAt, placeIn}
+use Rattle.model.specs.Snapshot.{numbersOn, placeOfUpdate, placeOfNumber}
 use Rattle.model.proofs.Sound.{Sound}
 use Rattle.model.proofs.Facts.{versions-most}
 use Rattle.model.proofs.Shown.{shownAt, update-shown}
@@ -39,13 +39,13 @@ module _ (L : Limits) (m : Model) (S : Sound L m) (l v : ℕ) (there : l < lengt
   number-low = omega (arith, number-is, versions-most L m S l there, owner-there L m S l v there o h, S .few)
 
   -- Its nodes lie where those of the update do that the line shows.
-  pub number-place : (p j : ℕ) → placeIn m (numberIn (history m l) v) p j ≡ placeAt m (shownAt m l v) p j
-  unfolding placeIn
+  pub number-place : (p j : ℕ) → placeOfNumber m (numberIn (history m l) v) p j ≡ placeOfUpdate m (shownAt m l v) p j
+  unfolding placeOfNumber
   number-place p j =
-      ap (λ (k : ℕ). placeAt m k p j) (ap₂ (shownAt m) number-line number-version ∙ owner-shows L m S l v there o h)
+      ap (λ (k : ℕ). placeOfUpdate m k p j) (ap₂ (shownAt m) number-line number-version ∙ owner-shows L m S l v there o h)
 
   pub place-has : (p j : ℕ) → hasNode (update (updates (history m l)) v) p j ≡ true
-      → placeIn m (numberIn (history m l) v) p j ≡ some (placeBy (updates (history m l)) (numbersOn m l) v p j)
+      → placeOfNumber m (numberIn (history m l) v) p j ≡ some (placeBy (updates (history m l)) (numbersOn m l) v p j)
   unfolding placeBy
   place-has p j e =
       let u = update-shown m l v in

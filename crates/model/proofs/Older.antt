@@ -5,7 +5,7 @@ use Prim.Native.Nat.{ℕ, zero, suc, pred, _+_, _-_, _≤_, _<_}
 use native.Mathlib.Omega.{arith}
 use lib.ListN.{length}
 use Rattle.tree.specs.Tree.{update, sizeAt}
-use Rattle.model.specs.History.{Version, versionAt, taken, updateOf as toUpdate, updates, leafNumber}
+use Rattle.model.specs.History.{Version, versionAt, taken, toUpdate, updates, leafNumber}
 use Rattle.model.specs.Model.{Limits, Model, lineAt, updateAt, history}
 use Rattle.model.specs.OnModel.{ticketIn}
 use Rattle.model.proofs.Sound.{SoundGiven}

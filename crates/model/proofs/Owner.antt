@@ -8,7 +8,7 @@ use lib.ListN.{length}
 use Rattle.tree.specs.Tree.{update}
 use Rattle.tree.proofs.Meets.{lt-or-le}
 use Rattle.table.proofs.Table.{number-cases}
-use Rattle.model.specs.History.{versionAt, updateOf as toUpdate, updates}
+use Rattle.model.specs.History.{versionAt, toUpdate, updates}
 use Rattle.model.specs.Model.{Limits, Model, lineAt, updateAt, history, numbered, numberIn}
 use Rattle.model.proofs.Sound.{SoundGiven}
 use Rattle.model.proofs.Shown.{shownAt, version-shown, update-shown}

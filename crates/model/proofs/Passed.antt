@@ -15,8 +15,8 @@ use Rattle.table.specs.Table.{beginRows, putRows, weaveRows}
 use Rattle.table.specs.Table.{publishRows, branchRows, assignRows, sizeRows, readRows, pageRows}
 use Rattle.table.proofs.Table.{passed}
 use Rattle.model.specs.Calls.{refused, lineIs, stampIs, says, answers}
-use Rattle.model.specs.History.{Page, History, pagesOf, versionAt, taken, updateOf as toUpdate, blobSize, isFilled, bitIf, allFilled, complete, due}
-use Rattle.model.specs.Model.{Limits, Model, lineAt, updateAt, history, places, updateOf}
+use Rattle.model.specs.History.{Page, History, pagesOf, versionAt, taken, toUpdate, blobSize, isFilled, bitIf, allFilled, complete, due}
+use Rattle.model.specs.Model.{Limits, Model, lineAt, updateAt, history, places, ticketUpdate}
 use Rattle.model.specs.OnModel.{ticketIn, beginNumber, putNumber, weaveNumber, nextUpdate, assignNumber, publishNumber, branchNumber, readNumber, sizeNumber, pageNumber}
 
 -- A row that reads a record: in the model the record is there.
@@ -37,7 +37,7 @@ pub record BeginPassed (L : Limits) (m : Model) (n : ℕ) : Type 0 where
 pub record PutPassed (L : Limits) (m : Model) (t i : ℕ) (bytes : List ℕ) : Type 0 where
   pub from : 0 < t
   pub upto : t ≤ length (m .tickets)
-  pub unassigned : updateOf m t ≡ 0
+  pub unassigned : ticketUpdate m t ≡ 0
   pub slot : i < pagesOf (ticketIn m t)
   pub empty : getD (ticketIn m t .slots) i none ≡ none
   pub whole : length bytes ≡ L .size
@@ -45,13 +45,13 @@ pub record PutPassed (L : Limits) (m : Model) (t i : ℕ) (bytes : List ℕ) : T
 pub record WeavePassed (m : Model) (t : ℕ) : Type 0 where
   pub from : 0 < t
   pub upto : t ≤ length (m .tickets)
-  pub assigned : 0 < updateOf m t
-  pub left : ticketIn m t .woven < countOf (toUpdate (m .tickets) (updateAt m (updateOf m t)))
+  pub assigned : 0 < ticketUpdate m t
+  pub left : ticketIn m t .woven < countOf (toUpdate (m .tickets) (updateAt m (ticketUpdate m t)))
 
 pub record AssignPassed (L : Limits) (m : Model) (l t f : ℕ) : Type 0 where
   pub from : 0 < t
   pub upto : t ≤ length (m .tickets)
-  pub unassigned : updateOf m t ≡ 0
+  pub unassigned : ticketUpdate m t ≡ 0
   pub line : l < length (m .lines)
   pub puts : allFilled (ticketIn m t .slots) ≡ true
   pub starts : f ≤ blobSize (history m l)
@@ -110,7 +110,7 @@ module _ (L : Limits) (m : Model) where
   unfolding weaveRows
   weave-passed t e =
       let r = passed _ tt e in
-      let z : (updateOf m t ≡ 0 → ⊥) = there-fails (r .1 .0 .0) in
+      let z : (ticketUpdate m t ≡ 0 → ⊥) = there-fails (r .1 .0 .0) in
       record {
         from = omega arith;
         upto = omega arith;

@@ -6,7 +6,7 @@ use Prim.Native.Nat.{ℕ, zero, suc}
 use borrow.Author.Tests.{eqb-true, eq-eqb}
 use lib.ListN.{length, length-map, List·getD-map}
 use Rattle.tree.specs.Tree.{countOf, nth, update, sizeAt}
-use Rattle.model.specs.History.{Version, History, ticketAt, versionAt, updateOf as toUpdate, updates, blobSize, complete}
+use Rattle.model.specs.History.{Version, History, ticketAt, versionAt, toUpdate, updates, blobSize, complete}
 use Rattle.model.specs.Model.{Model, lineAt, updateAt, history, every}
 use Rattle.model.specs.OnModel.{ticketIn}
 use Rattle.model.proofs.Updates.{update-at, size-at}

@@ -8,8 +8,8 @@ use lib.ListN.{length, getD}
 use Rattle.tree.specs.Tree.{countOf, nth}
 use Rattle.tree.specs.Walk.{Accepted}
 use Rattle.windows.specs.Windows.{inside, insideSome}
-use Rattle.model.specs.History.{Page, pagesOf, taken, updateOf as toUpdate, updates, allFilled, complete}
-use Rattle.model.specs.Model.{Limits, Model, lineAt, updateAt, history, places, updateOf}
+use Rattle.model.specs.History.{Page, pagesOf, taken, toUpdate, updates, allFilled, complete}
+use Rattle.model.specs.Model.{Limits, Model, lineAt, updateAt, history, places, ticketUpdate}
 use Rattle.model.specs.OnModel.{ticketIn}
 
 -- FORMAT's limits, as far as the calls rest on them.
@@ -27,14 +27,14 @@ pub record TicketSound (L : Limits) (m : Model) (t : ℕ) : Type 0 where
   -- Every page put is S bytes long.
   pub bytes : (i : ℕ) (x : Page) → getD (ticketIn m t .slots) i none ≡ some x → length x ≡ L .size
   -- No node is woven before ASSIGN.
-  pub unwoven : updateOf m t ≡ 0 → ticketIn m t .woven ≡ 0
+  pub unwoven : ticketUpdate m t ≡ 0 → ticketIn m t .woven ≡ 0
 
 -- Update number k, in the order of ASSIGN.
 pub record UpdateSound (m : Model) (k : ℕ) : Type 0 where
   pub from : 0 < updateAt m k .ticket
   pub upto : updateAt m k .ticket ≤ length (m .tickets)
   -- A ticket has one update.
-  pub back : updateOf m (updateAt m k .ticket) ≡ k
+  pub back : ticketUpdate m (updateAt m k .ticket) ≡ k
   pub puts : allFilled (ticketIn m (updateAt m k .ticket) .slots) ≡ true
   pub woven : ticketIn m (updateAt m k .ticket) .woven ≤ countOf (toUpdate (m .tickets) (updateAt m k))
   pub inside : toUpdate (m .tickets) (updateAt m k) .last < 4096

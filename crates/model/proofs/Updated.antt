@@ -9,7 +9,7 @@ use native.Mathlib.Omega.{arith}
 use borrow.Author.Tests.{eq-eqb, ne-eqb}
 use lib.ListN.{length, getD}
 use Rattle.model.specs.History.{Version, noVersion}
-use Rattle.model.specs.Model.{Model, updateAt, updateFrom, updateOf}
+use Rattle.model.specs.Model.{Model, updateAt, updateFrom, ticketUpdate}
 
 module _ (k : ℕ) (x : Version) (xs : List Version) (t : ℕ) where
   -- The first update listed is the ticket's, or it is not.
@@ -66,16 +66,16 @@ update-gets k (y ∷ xs) x o z = elim (ℕ-discrete (y .ticket) (x .ticket)) [
 ]
 
 -- On a model: the update is one assigned, and its ticket is this one.
-pub update-le : (m : Model) (t : ℕ) → updateOf m t ≤ length (m .updates)
+pub update-le : (m : Model) (t : ℕ) → ticketUpdate m t ≤ length (m .updates)
 update-le m t = elim (update-cases 1 (m .updates) t) [ inl z ↦ omega arith | inr g ↦ omega arith ]
 
-pub update-ticket : (m : Model) (t : ℕ) → 0 < updateOf m t → updateAt m (updateOf m t) .ticket ≡ t
+pub update-ticket : (m : Model) (t : ℕ) → 0 < ticketUpdate m t → updateAt m (ticketUpdate m t) .ticket ≡ t
 update-ticket m t o = elim (update-cases 1 (m .updates) t) [ inl z ↦ absurd (omega arith) | inr g ↦ at (g .place) (omega (arith, g .is)) (g .ticket) ]
   where
-    at : (i : ℕ) → updateOf m t ≡ suc i → getD (m .updates) i noVersion .ticket ≡ t → updateAt m (updateOf m t) .ticket ≡ t
+    at : (i : ℕ) → ticketUpdate m t ≡ suc i → getD (m .updates) i noVersion .ticket ≡ t → updateAt m (ticketUpdate m t) .ticket ≡ t
     at i e h = rw e h
 
-pub update-past : (m : Model) (t : ℕ) → ((k : ℕ) → 0 < k → k ≤ length (m .updates) → updateAt m k .ticket ≡ t → ⊥) → updateOf m t ≡ 0
+pub update-past : (m : Model) (t : ℕ) → ((k : ℕ) → 0 < k → k ≤ length (m .updates) → updateAt m k .ticket ≡ t → ⊥) → ticketUpdate m t ≡ 0
 update-past m t h = elim (update-cases 1 (m .updates) t) [
   | inl z ↦ z
   | inr g ↦ absurd (h (suc (g .place)) (omega arith) (omega arith) (g .ticket))

@@ -10,7 +10,7 @@ use lib.ListN.{length, getD, set, length-map, List·getD-map}
 use Rattle.tree.specs.Tree.{Update, meets, countOf, nth, update, newest, sizeAt}
 use Rattle.tree.specs.Walk.{Accepted, used}
 use Rattle.tree.proofs.Meets.{lt-or-le}
-use Rattle.model.specs.History.{Ticket, Version, History, noTicket, noVersion, pagesOf, versionAt, updateOf, updates}
+use Rattle.model.specs.History.{Ticket, Version, History, noTicket, noVersion, pagesOf, versionAt, toUpdate, updates}
 use Rattle.model.proofs.Nth.{nth-append, nth-set-field}
 
 -- ---- two lists of updates, the same up to version k
@@ -52,13 +52,13 @@ used-mono us v (suc w) h = elim (lt-or-le v (suc w)) [
 
 module _ (m : History) where
   pub length-updates : length (updates m) ≡ length (m .versions)
-  length-updates = length-map (m .versions) (updateOf (m .tickets))
+  length-updates = length-map (m .versions) (toUpdate (m .tickets))
 
   -- The update of a version, also where there is none.
-  pub update-at : (v : ℕ) → update (updates m) v ≡ updateOf (m .tickets) (versionAt m v)
+  pub update-at : (v : ℕ) → update (updates m) v ≡ toUpdate (m .tickets) (versionAt m v)
   unfolding update
   update-at zero = refl
-  update-at (suc v) = List·getD-map (updateOf (m .tickets)) (m .versions) v noVersion
+  update-at (suc v) = List·getD-map (toUpdate (m .tickets)) (m .versions) v noVersion
 
   pub f-at : (v : ℕ) → update (updates m) v .f ≡ versionAt m v .f
   f-at v = ap (λ (u : Update). u .f) (update-at v)
@@ -69,12 +69,12 @@ module _ (m : History) where
 
 -- A ticket changed, with as many slots as before, and one more ticket leave the updates.
 pub updates-set : (ks : List Ticket) (t : ℕ) (k : Ticket) (vs : List Version) → 0 < t → pagesOf k ≡ pagesOf (nth noTicket ks t)
-    → map (updateOf (set ks (pred t) k)) vs ≡ map (updateOf ks) vs
+    → map (toUpdate (set ks (pred t) k)) vs ≡ map (toUpdate ks) vs
 updates-set ks t k [] o e = refl
 updates-set ks t k (v ∷ vs) o e = rw (nth-set-field noTicket ks t k o pagesOf (v .ticket) e, updates-set ks t k vs o e)
 
 pub updates-append : (ks : List Ticket) (k : Ticket) (vs : List Version) → ((v : ℕ) → v < length vs → getD vs v noVersion .ticket ≤ length ks)
-    → map (updateOf (ks ++ k ∷ [])) vs ≡ map (updateOf ks) vs
+    → map (toUpdate (ks ++ k ∷ [])) vs ≡ map (toUpdate ks) vs
 updates-append ks k [] h = refl
 updates-append ks k (v ∷ vs) h =
     rw (nth-append noTicket ks (k ∷ []) (v .ticket) (h 0 (omega arith)), updates-append ks k vs (λ w l. h (suc w) (omega arith)))

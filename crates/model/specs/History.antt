@@ -6,7 +6,6 @@ use Prim.Native.Nat.{ℕ, zero, suc, pred, _+_, _-_}
 use lib.Dec.{ltb, eqb}
 use lib.ListN.{length}
 use Rattle.tree.specs.Tree.{Update, countOf, nth, update}
-use Rattle.tree.specs.Walk.{used}
 
 -- A page's bytes.
 abbrev pub Page : Type 0
@@ -58,19 +57,16 @@ abbrev pub leafNumber : History → ℕ → ℕ → ℕ
 leafNumber m v a = taken (m .tickets) (pred (versionAt m v .ticket)) + (a - versionAt m v .f)
 
 -- The update of a version: n pages from f on.
-abbrev pub updateOf : List Ticket → Version → Update
-updateOf ks v = record { f = v .f; last = v .f + pagesOf (nth noTicket ks (v .ticket)) - 1; size = v .size }
+abbrev pub toUpdate : List Ticket → Version → Update
+toUpdate ks v = record { f = v .f; last = v .f + pagesOf (nth noTicket ks (v .ticket)) - 1; size = v .size }
 
 -- The updates by version.
 abbrev pub updates : History → List Update
-updates m = map (updateOf (m .tickets)) (m .versions)
+updates m = map (toUpdate (m .tickets)) (m .versions)
 
--- The size in pages of the last assigned version, 0 where there is none, and the node places that all versions use.
+-- The size in pages of the last assigned version, 0 where there is none.
 abbrev pub blobSize : History → ℕ
 blobSize m = versionAt m (length (m .versions)) .size
-
-abbrev pub places : History → ℕ
-places m = used (updates m) (length (m .versions))
 
 abbrev pub isFilled : Option Page → Bool
 isFilled none = false

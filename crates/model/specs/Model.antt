@@ -61,8 +61,8 @@ unfoldable pub updateFrom : ℕ → List Version → ℕ → ℕ
 updateFrom k [] t = 0
 updateFrom k (x ∷ xs) t = elim (eqb (x .ticket) t) [ true ↦ k | false ↦ updateFrom (suc k) xs t ]
 
-abbrev pub updateOf : Model → ℕ → ℕ
-updateOf m t = updateFrom 1 (m .updates) t
+abbrev pub ticketUpdate : Model → ℕ → ℕ
+ticketUpdate m t = updateFrom 1 (m .updates) t
 
 -- A version's number in the node area: line × 65,536 + version, of the line on which it got its number; 0 for none.
 abbrev pub numbered : ℕ → ℕ → ℕ

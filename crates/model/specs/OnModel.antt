@@ -8,10 +8,10 @@ use Rattle.tree.specs.Tree.{Update, Node, node, countOf, weaving, update, newes
 use Rattle.table.specs.Table.{always, firstRefusal, unless, beginRows, putRows, weaveRows}
 use Rattle.table.specs.Table.{lineRows, publishRows, branchRows, assignRows, sizeRows, readRows, pageRows}
 use Rattle.model.specs.Calls.{Call, BEGIN, PUT, WEAVE, SETWINDOWS, on, Act, WRITE, APPEND, PUBLISH, BRANCH, READ, SIZE, RECENT, STAMP, VIEW, Answer, ticketIs, putDone, versionIs, nodeIs, publishedIs, waiting, held, lineIs, windowsDone, filled, sizeIs, recentIs, stampIs, partIs, Outcome, says, answers}
-use Rattle.model.specs.History.{Ticket, Version, History, noTicket, pagesOf, versionAt, taken, updateOf as toUpdate, updates, blobSize, isFilled, bitIf, allFilled, due}
+use Rattle.model.specs.History.{Ticket, Version, History, noTicket, pagesOf, versionAt, taken, toUpdate, updates, blobSize, isFilled, bitIf, allFilled, due}
 use Rattle.model.specs.InTurn.{blobAt, bytesAt}
 use Rattle.model.specs.Stamp.{stampAt}
-use Rattle.model.specs.Model.{Limits, Line, Model, lineAt, updateAt, history, places, updateOf, numberIn}
+use Rattle.model.specs.Model.{Limits, Line, Model, lineAt, updateAt, history, places, ticketUpdate, numberIn}
 use Rattle.tree.specs.Tree.{nth}
 use Rattle.windows.specs.Windows.{insideSome}
 use Rattle.windows.specs.Listed.{windowsOf, textNumber}
@@ -53,12 +53,12 @@ module _ (L : Limits) where
   putNumber m t i bytes =
       let k = ticketIn m t in
       firstRefusal
-      (putRows always t (length (m .tickets)) (updateOf m t) (pagesOf k) i (bitIf (isFilled (getD (k .slots) i none))) (length bytes) (L .size))
+      (putRows always t (length (m .tickets)) (ticketUpdate m t) (pagesOf k) i (bitIf (isFilled (getD (k .slots) i none))) (length bytes) (L .size))
 
   abbrev pub weaveNumber : Model → ℕ → ℕ
   weaveNumber m t =
       firstRefusal
-      (weaveRows always always t (length (m .tickets)) (updateOf m t) (ticketIn m t .woven) (countOf (toUpdate (m .tickets) (updateAt m (updateOf m t)))))
+      (weaveRows always always t (length (m .tickets)) (ticketUpdate m t) (ticketIn m t .woven) (countOf (toUpdate (m .tickets) (updateAt m (ticketUpdate m t)))))
 
   -- BEGIN adds a ticket, its slots empty, woven 0.
   abbrev pub begun : Model → ℕ → Model
@@ -88,7 +88,7 @@ module _ (L : Limits) where
   -- The node that WEAVE stores next for ticket t, with its numbers and how many are left, as the line on which it got its version has it.
   abbrev pub nodeAnswer : Model → ℕ → Answer
   nodeAnswer m t =
-      let x = updateAt m (updateOf m t) in
+      let x = updateAt m (ticketUpdate m t) in
       let h = history m (x .line) in
       let u = toUpdate (m .tickets) x in
       let y = getD (weaving u) (ticketIn m t .woven) (node 0 0) in
@@ -123,7 +123,7 @@ module _ (L : Limits) where
       always
       t
       (length (m .tickets))
-      (updateOf m t)
+      (ticketUpdate m t)
       l
       (length (m .lines))
       (allFilled (k .slots))

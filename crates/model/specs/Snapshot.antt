@@ -9,7 +9,7 @@ use Rattle.tree.specs.Place.{index}
 use Rattle.tree.specs.Walk.{Numbers, hasNode, visit, used, placeWhere}
 use Rattle.tree.specs.declared.NodeAt.{NodeAt}
 use Rattle.tree.specs.declared.NodeAt.the-variants.{Stored, Missing}
-use Rattle.model.specs.History.{Page, versionAt, leafNumber, updateOf as toUpdate, updates}
+use Rattle.model.specs.History.{Page, versionAt, leafNumber, toUpdate, updates}
 use Rattle.model.specs.InTurn.{blobAt}
 use Rattle.model.specs.Stamp.{stampsUpto}
 use Rattle.model.specs.Model.{Model, lineAt, updateAt, history, every, numberIn}
@@ -62,14 +62,14 @@ numbersOn m l = record {
 }
 
 -- Where update k's node of height h over page p lies, where there is such an update with such a node.
-abbrev pub placeAt : Model → ℕ → ℕ → ℕ → Option ℕ
-placeAt m k p h =
+abbrev pub placeOfUpdate : Model → ℕ → ℕ → ℕ → Option ℕ
+placeOfUpdate m k p h =
     let u = toUpdate (m .tickets) (updateAt m k) in
     placeWhere (ltb 0 k && hasNode u p h) (firstPlace m k + index (u .f) (u .last) 0 (rootHeight (u .size)) p h)
 
 -- The same by the number c of its version: of the update that line c / 65536 shows as its version c % 65536.
-unfoldable pub placeIn : Model → ℕ → ℕ → ℕ → Option ℕ
-placeIn m c p h = placeAt m (nth 0 (lineAt m (c / 65536) .shown) (c % 65536)) p h
+unfoldable pub placeOfNumber : Model → ℕ → ℕ → ℕ → Option ℕ
+placeOfNumber m c p h = placeOfUpdate m (nth 0 (lineAt m (c / 65536) .shown) (c % 65536)) p h
 
 -- What stands after the k-th version of a line.
 pub record Snapshot : Type 0 where

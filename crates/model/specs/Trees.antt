@@ -9,7 +9,7 @@ use Rattle.tree.specs.Walk.{hasNode}
 use Rattle.model.specs.Model.{Model}
 use Rattle.model.specs.Run.{run, modelAfter}
 use Rattle.model.specs.Example.{computes, limits, calls, more}
-use Rattle.model.specs.Snapshot.{Tree, noPage, leaf, inner, treeOf, treeIn, placeIn, treeAt}
+use Rattle.model.specs.Snapshot.{Tree, noPage, leaf, inner, treeOf, treeIn, placeOfNumber, treeAt}
 
 unfoldable pub after : Model
 after = modelAfter limits (calls ++ more)
@@ -39,10 +39,10 @@ nodesAfter =
     ∷ 5 ∷ 0
     ∷ replicate 10 allOnes
 
-pub first-found : treeIn (placeIn after) nodesAfter 1 2 0 ≡ onLine0
-unfolding computes limits calls more after run treeIn placeIn nodesAfter nodeAt below first index hasNode
+pub first-found : treeIn (placeOfNumber after) nodesAfter 1 2 0 ≡ onLine0
+unfolding computes limits calls more after run treeIn placeOfNumber nodesAfter nodeAt below first index hasNode
 first-found = refl
 
-pub second-found : treeIn (placeIn after) nodesAfter 2 65539 0 ≡ onLine1
-unfolding computes limits calls more after run treeIn placeIn nodesAfter nodeAt below first index hasNode
+pub second-found : treeIn (placeOfNumber after) nodesAfter 2 65539 0 ≡ onLine1
+unfolding computes limits calls more after run treeIn placeOfNumber nodesAfter nodeAt below first index hasNode
 second-found = refl

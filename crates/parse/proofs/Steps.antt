@@ -6,7 +6,7 @@ use Prim.Native.Nat.{ℕ, _/_, _<_, _≤_}
 use native.Mathlib.Omega.{arith}
 use lib.ListN.{length, getD}
 use borrow.Author.Tests.{le-leb, lt-leb}
-use Rattle.fields.specs.Fields.{fieldsOf, numberOf, isHex, unhex, hexOf, decodedIn}
+use Rattle.fields.specs.Fields.{fieldsOf, fieldNumber, isHex, unhex, hexOf, decodedIn}
 use Rattle.parse.specs.Steps.{Meant, plainly, oneOf, twoOf, putOrThree, fourOf, putOf, meantBy, meantOf}
 use Rattle.text.specs.Buffer.{front}
 use Rattle.fields.specs.declared.Number.{Number}
@@ -55,14 +55,14 @@ unfolding meantOf
 meant-short l h = rw (le-leb (length l) 600 h)
 
 -- what n fields mean
-two-fields : (fs : List (List ℕ)) → length fs ≡ 2 → meantBy fs ≡ plainly (oneOf (getD fs 0 []) (numberOf (getD fs 1 [])))
+two-fields : (fs : List (List ℕ)) → length fs ≡ 2 → meantBy fs ≡ plainly (oneOf (getD fs 0 []) (fieldNumber (getD fs 1 [])))
 unfolding meantBy
 two-fields [] h = let z : ⊥ = omega arith in elim z [ ]
 two-fields (w ∷ []) h = let z : ⊥ = omega arith in elim z [ ]
 two-fields (w ∷ a ∷ []) h = refl
 two-fields (w ∷ a ∷ e ∷ fs) h = let z : ⊥ = omega arith in elim z [ ]
 
-three-fields : (fs : List (List ℕ)) → length fs ≡ 3 → meantBy fs ≡ plainly (twoOf (getD fs 0 []) (numberOf (getD fs 1 [])) (numberOf (getD fs 2 [])))
+three-fields : (fs : List (List ℕ)) → length fs ≡ 3 → meantBy fs ≡ plainly (twoOf (getD fs 0 []) (fieldNumber (getD fs 1 [])) (fieldNumber (getD fs 2 [])))
 unfolding meantBy
 three-fields [] h = let z : ⊥ = omega arith in elim z [ ]
 three-fields (w ∷ []) h = let z : ⊥ = omega arith in elim z [ ]
@@ -79,7 +79,7 @@ four-fields (w ∷ a ∷ b ∷ []) h = let z : ⊥ = omega arith in elim z [ ]
 four-fields (w ∷ a ∷ b ∷ c ∷ []) h = refl
 four-fields (w ∷ a ∷ b ∷ c ∷ e ∷ fs) h = let z : ⊥ = omega arith in elim z [ ]
 
-five-fields : (fs : List (List ℕ)) → length fs ≡ 5 → meantBy fs ≡ plainly (fourOf (getD fs 0 []) (numberOf (getD fs 1 [])) (numberOf (getD fs 2 [])) (numberOf (getD fs 3 [])) (numberOf (getD fs 4 [])))
+five-fields : (fs : List (List ℕ)) → length fs ≡ 5 → meantBy fs ≡ plainly (fourOf (getD fs 0 []) (fieldNumber (getD fs 1 [])) (fieldNumber (getD fs 2 [])) (fieldNumber (getD fs 3 [])) (fieldNumber (getD fs 4 [])))
 unfolding meantBy
 five-fields [] h = let z : ⊥ = omega arith in elim z [ ]
 five-fields (w ∷ []) h = let z : ⊥ = omega arith in elim z [ ]
@@ -104,16 +104,16 @@ module _ (l : List ℕ) (short : length l ≤ 600) where
   abbrev at : ℕ → List ℕ
   at k = getD (fieldsOf l) k []
 
-  pub means-two : length (fieldsOf l) ≡ 2 → meantOf l ≡ plainly (oneOf (at 0) (numberOf (at 1)))
+  pub means-two : length (fieldsOf l) ≡ 2 → meantOf l ≡ plainly (oneOf (at 0) (fieldNumber (at 1)))
   means-two h = meant-short l short ∙ two-fields (fieldsOf l) h
 
-  pub means-three : length (fieldsOf l) ≡ 3 → meantOf l ≡ plainly (twoOf (at 0) (numberOf (at 1)) (numberOf (at 2)))
+  pub means-three : length (fieldsOf l) ≡ 3 → meantOf l ≡ plainly (twoOf (at 0) (fieldNumber (at 1)) (fieldNumber (at 2)))
   means-three h = meant-short l short ∙ three-fields (fieldsOf l) h
 
   pub means-four : length (fieldsOf l) ≡ 4 → meantOf l ≡ putOrThree (at 0) (at 1) (at 2) (at 3)
   means-four h = meant-short l short ∙ four-fields (fieldsOf l) h
 
-  pub means-five : length (fieldsOf l) ≡ 5 → meantOf l ≡ plainly (fourOf (at 0) (numberOf (at 1)) (numberOf (at 2)) (numberOf (at 3)) (numberOf (at 4)))
+  pub means-five : length (fieldsOf l) ≡ 5 → meantOf l ≡ plainly (fourOf (at 0) (fieldNumber (at 1)) (fieldNumber (at 2)) (fieldNumber (at 3)) (fieldNumber (at 4)))
   means-five h = meant-short l short ∙ five-fields (fieldsOf l) h
 
   pub means-none : (length (fieldsOf l) ≡ 2 → ⊥) → (length (fieldsOf l) ≡ 3 → ⊥) → (length (fieldsOf l) ≡ 4 → ⊥) → (length (fieldsOf l) ≡ 5 → ⊥) → meantOf l ≡ plainly Malformed

@@ -6,7 +6,7 @@ use Prim.Native.Nat.{ℕ, _-_, _^_}
 use lib.ListN.{replicate}
 use Rattle.text.specs.Quoted.{text, together}
 use Rattle.text.specs.Text.{textLines}
-use Rattle.fields.specs.Fields.{numberOf, hexValue}
+use Rattle.fields.specs.Fields.{fieldNumber, hexValue}
 use Rattle.parse.specs.Steps.{Meant, plainly, meantOf, putOf, oneOf, twoOf, threeOf, putOrThree, fourOf, meantBy}
 use Rattle.parse.specs.Cut.{fresh, fedBy, keptBy, unendedIn, cutLines}
 use Rattle.parse.specs.declared.Step.{Step}
@@ -59,7 +59,7 @@ document-lines : map meantOf (textLines input) ≡
     plainly (Step.Read 0 2 14 4) ∷
     plainly (Step.Stamp 0 2 0) ∷
     plainly (Step.Begin 1) ∷ []
-unfolding meantOf meantBy oneOf twoOf threeOf putOf putOrThree fourOf numberOf hexValue
+unfolding meantOf meantBy oneOf twoOf threeOf putOf putOrThree fourOf fieldNumber hexValue
 document-lines = refl
 
 -- other lines that mean these steps
@@ -73,7 +73,7 @@ other-lines :
     × (meantOf (text "RECENT,15") ≡ plainly (Step.Recent 15))
     × (meantOf (text "BEGIN,18446744073709551615") ≡ plainly (Step.Begin (2 ^ 64 - 1)))
     × (meantOf (text "PUT,1,0," ++ replicate 592 97) ≡ putting (Step.Put 1 0 296) (replicate 296 170))
-unfolding meantOf meantBy oneOf twoOf threeOf putOf putOrThree fourOf numberOf hexValue
+unfolding meantOf meantBy oneOf twoOf threeOf putOf putOrThree fourOf fieldNumber hexValue
 other-lines = (refl, refl, refl, refl, refl, refl, refl, refl, refl)
 
 -- a malformed line
@@ -104,7 +104,7 @@ malformed :
     × Bad (text "FORMAT,16,4,8")
     × Bad (text "FORMAT,16,4,8,2,1")
     × Bad (text "PUT,1,0," ++ replicate 594 97)
-unfolding meantOf meantBy oneOf twoOf threeOf putOf putOrThree fourOf numberOf hexValue
+unfolding meantOf meantBy oneOf twoOf threeOf putOf putOrThree fourOf fieldNumber hexValue
 malformed = (refl, refl, refl, refl, refl, refl, refl, refl, refl, refl, refl, refl, refl, refl, refl, refl, refl, refl, refl, refl, refl, refl, refl)
 
 -- lines cut with a buffer of four bytes: an empty line, one that fills the buffer, one that is over, and a last one without a line feed

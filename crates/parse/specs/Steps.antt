@@ -10,7 +10,7 @@ use Rattle.fields.specs.declared.Number.{Number}
 use Rattle.fields.specs.declared.Number.the-variants.{Is, Not}
 use Rattle.parse.specs.declared.Step.{Step}
 use Rattle.parse.specs.declared.Step.the-variants.{Format, Begin, Put, Write, Append, Weave, Publish, Branch, Read, Size, Recent, Stamp, Malformed}
-use Rattle.fields.specs.Fields.{fieldsOf, numberOf, hexOf}
+use Rattle.fields.specs.Fields.{fieldsOf, fieldNumber, hexOf}
 
 -- what a line means: its step and, for PUT, the page bytes
 pub record Meant : Type 0 where
@@ -56,8 +56,8 @@ putOf (Is a) (Is b) (some l) = record { step = Put a b (length l); bytes = l }
 -- what a word and three fields mean: PUT's last are its page bytes, and any other word's are numbers
 unfoldable pub putOrThree : List ℕ → List ℕ → List ℕ → List ℕ → Meant
 putOrThree w a b c =
-    pick (same w (text "PUT")) (putOf (numberOf a) (numberOf b) (hexOf c))
-    (plainly (threeOf w (numberOf a) (numberOf b) (numberOf c)))
+    pick (same w (text "PUT")) (putOf (fieldNumber a) (fieldNumber b) (hexOf c))
+    (plainly (threeOf w (fieldNumber a) (fieldNumber b) (fieldNumber c)))
 
 -- the step of a word and four numbers
 unfoldable pub fourOf : List ℕ → Number → Number → Number → Number → Step
@@ -71,10 +71,10 @@ fourOf w (Is a) (Is b) (Is c) (Is d) = pick (same w (text "FORMAT")) (Format a b
 unfoldable pub meantBy : List (List ℕ) → Meant
 meantBy [] = plainly Malformed
 meantBy (w ∷ []) = plainly Malformed
-meantBy (w ∷ a ∷ []) = plainly (oneOf w (numberOf a))
-meantBy (w ∷ a ∷ b ∷ []) = plainly (twoOf w (numberOf a) (numberOf b))
+meantBy (w ∷ a ∷ []) = plainly (oneOf w (fieldNumber a))
+meantBy (w ∷ a ∷ b ∷ []) = plainly (twoOf w (fieldNumber a) (fieldNumber b))
 meantBy (w ∷ a ∷ b ∷ c ∷ []) = putOrThree w a b c
-meantBy (w ∷ a ∷ b ∷ c ∷ d ∷ []) = plainly (fourOf w (numberOf a) (numberOf b) (numberOf c) (numberOf d))
+meantBy (w ∷ a ∷ b ∷ c ∷ d ∷ []) = plainly (fourOf w (fieldNumber a) (fieldNumber b) (fieldNumber c) (fieldNumber d))
 meantBy (w ∷ a ∷ b ∷ c ∷ d ∷ e ∷ fs) = plainly Malformed
 
 -- what a line, without its line feed, means: over 600 bytes it is malformed

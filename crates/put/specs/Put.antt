@@ -32,8 +32,8 @@ abbrev pub putNumber : Store → Areas → ℕ → ℕ → List ℕ → ℕ
 putNumber s a t i bytes = putRefusal s (lengthsOf a) (recordOf a t) t i (length bytes)
 
 -- The page number of page i of ticket t.
-abbrev pub numberOf : Areas → ℕ → ℕ → ℕ
-numberOf a t i = recordOf a t .number + i
+abbrev pub ticketPage : Areas → ℕ → ℕ → ℕ
+ticketPage a t i = recordOf a t .number + i
 
 abbrev pub putIn : ℕ → PutIn
 putIn zero = PutIn.Done
@@ -63,7 +63,7 @@ abbrev pub putOut : Store → Areas → ℕ → ℕ → List ℕ → PutIn
 putOut s a t i bytes = putIn (putNumber s a t i bytes)
 
 abbrev pub putPages : Store → Areas → ℕ → ℕ → List ℕ → List ℕ
-putPages s a t i bytes = unless (putNumber s a t i bytes) (a .pages) (put (a .pages) (s .size * numberOf a t i) bytes)
+putPages s a t i bytes = unless (putNumber s a t i bytes) (a .pages) (put (a .pages) (s .size * ticketPage a t i) bytes)
 
 abbrev pub putRegister : Store → Areas → ℕ → ℕ → List ℕ → List Record
 putRegister s a t i bytes = unless (putNumber s a t i bytes) (a .register) (withRecord (a .register) (pred t) (withPut (recordOf a t) i))

@@ -16,13 +16,13 @@ unfolding heightFrom
 rootHeight s = heightFrom s 0 s
 
 -- A number, or 0 where a test fails.
-abbrev pub orZero : Bool → ℕ → ℕ
-orZero true x = x
-orZero false x = 0
+abbrev pub zeroUnless : Bool → ℕ → ℕ
+zeroUnless true x = x
+zeroUnless false x = 0
 
 -- The root's span for a size in pages, or 0 for a size that no tree has.
 unfoldable pub rootSpan : ℕ → ℕ
-rootSpan s = orZero (ltb 0 s && leb s 4096) (2 ^ rootHeight s)
+rootSpan s = zeroUnless (ltb 0 s && leb s 4096) (2 ^ rootHeight s)
 
 -- x is the smallest power of two not below s: a power of two, not below s, and no power of two that is not below s is smaller.
 pub record SmallestPower (s x : ℕ) : Type 0 where

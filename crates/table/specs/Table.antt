@@ -92,13 +92,13 @@ beginRows n tickets updates taken pages =
 -- ---- PUT, ASSIGN, WEAVE. `there` is that the ticket's record lies within the register: where it does not, a row that reads it does not hold, and 19 does.
 
 -- No such ticket: tickets count from 1.
-abbrev pub noTicket : ℕ → ℕ → Cond
-noTicket t tickets = t ≡? 0 or tickets <? t
+abbrev pub noSuchTicket : ℕ → ℕ → Cond
+noSuchTicket t tickets = t ≡? 0 or tickets <? t
 
 -- PUT ticket t, page i of n, so many bytes for pages of that size; the ticket's version is 0 before ASSIGN, and `bit` is 1 where page i is put.
 unfoldable pub putRows : Cond → ℕ → ℕ → ℕ → ℕ → ℕ → ℕ → ℕ → ℕ → List Row
 putRows there t tickets version n i bit bytes size =
-    (noTicket t tickets gives 7)
+    (noSuchTicket t tickets gives 7)
     ∷ (there and version ≢? 0 gives 8)
     ∷ (there and n ≤? i gives 9)
     ∷ (there and bit ≡? 1 gives 10)
@@ -106,16 +106,16 @@ putRows there t tickets version n i bit bytes size =
     ∷ []
 
 -- No such line, of so many: lines count from 0.
-abbrev pub noLine : ℕ → ℕ → Cond
-noLine l lines = lines ≤? l
+abbrev pub noSuchLine : ℕ → ℕ → Cond
+noSuchLine l lines = lines ≤? l
 
 -- ASSIGN ticket t at page f of line l: `all` where its n pages are put; the size of the line's last assigned version; node places taken, capacity, and the count
 -- wanted. An append's f is that size, so that 13 never holds of it.
 unfoldable pub assignRows : Cond → ℕ → ℕ → ℕ → ℕ → ℕ → Bool → ℕ → ℕ → ℕ → ℕ → ℕ → ℕ → List Row
 assignRows there t tickets version l lines all f blob n places nodes count =
-    (noTicket t tickets gives 7)
+    (noSuchTicket t tickets gives 7)
     ∷ (there and version ≢? 0 gives 8)
-    ∷ (noLine l lines gives 20)
+    ∷ (noSuchLine l lines gives 20)
     ∷ (there and test (not all) gives 12)
     ∷ (blob <? f gives 13)
     ∷ (there and 4096 <? f + n gives 14)
@@ -125,19 +125,19 @@ assignRows there t tickets version l lines all f blob n places nodes count =
 -- WEAVE ticket t: before ASSIGN, or with none left. `kept` is that its version's record lies within the register too.
 unfoldable pub weaveRows : Cond → Cond → ℕ → ℕ → ℕ → ℕ → ℕ → List Row
 weaveRows there kept t tickets version woven count =
-    (noTicket t tickets gives 7)
+    (noSuchTicket t tickets gives 7)
     ∷ (there and version ≡? 0 or there and kept and count ≤? woven gives 8)
     ∷ []
 
 -- ---- RECENT of line l, of so many lines
 
 unfoldable pub lineRows : ℕ → ℕ → List Row
-lineRows l lines = (noLine l lines gives 20) ∷ []
+lineRows l lines = (noSuchLine l lines gives 20) ∷ []
 
 -- ---- PUBLISH of line l at a minute of the week, 0 to 10,079
 
 unfoldable pub publishRows : ℕ → ℕ → ℕ → List Row
-publishRows l lines minute = (noLine l lines gives 20) ∷ (10079 <? minute gives 22) ∷ []
+publishRows l lines minute = (noSuchLine l lines gives 20) ∷ (10079 <? minute gives 22) ∷ []
 
 -- ---- SETWINDOWS by a text of so many lines, at most 32; `wrong` where one of them is no window
 
@@ -148,7 +148,7 @@ windowRows wrong lines = (test wrong gives 23) ∷ (32 <? lines gives 24) ∷ []
 
 unfoldable pub branchRows : ℕ → ℕ → ℕ → ℕ → List Row
 branchRows l lines v published =
-    (noLine l lines gives 20)
+    (noSuchLine l lines gives 20)
     ∷ (published <? v gives 16)
     ∷ (16 ≤? lines gives 21)
     ∷ []
@@ -156,12 +156,12 @@ branchRows l lines v published =
 -- ---- READ, SIZE, STAMP, VIEW of version v of line l. `there` is that the version's record is there (version 0 needs none).
 
 unfoldable pub sizeRows : ℕ → ℕ → ℕ → ℕ → List Row
-sizeRows l lines v published = (noLine l lines gives 20) ∷ (published <? v gives 16) ∷ []
+sizeRows l lines v published = (noSuchLine l lines gives 20) ∷ (published <? v gives 16) ∷ []
 
 -- A range of bytes in a snapshot of so many bytes, and a buffer.
 unfoldable pub readRows : Cond → ℕ → ℕ → ℕ → ℕ → ℕ → ℕ → ℕ → ℕ → List Row
 readRows there l lines v published total offset len buffer =
-    (noLine l lines gives 20)
+    (noSuchLine l lines gives 20)
     ∷ (published <? v gives 16)
     ∷ (there and total <? offset + len gives 17)
     ∷ (buffer <? len gives 18)
@@ -170,7 +170,7 @@ readRows there l lines v published total offset len buffer =
 -- A page of a snapshot of so many pages.
 unfoldable pub pageRows : Cond → ℕ → ℕ → ℕ → ℕ → ℕ → ℕ → List Row
 pageRows there l lines v published pages p =
-    (noLine l lines gives 20)
+    (noSuchLine l lines gives 20)
     ∷ (published <? v gives 16)
     ∷ (there and pages ≤? p gives 17)
     ∷ []

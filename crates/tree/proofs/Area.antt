@@ -5,11 +5,11 @@ use mathlib.Core.Bool.{true, false}
 use Prim.Native.Nat.{ℕ, _+_, _*_, _/_, _≤_, _<_}
 use native.Mathlib.Omega.{arith}
 use borrow.Author.Tests.{lt-ltb, le-ltb}
-use Rattle.tree.specs.NodeArea.{placed}
+use Rattle.tree.specs.NodeArea.{hasPlace}
 
 module _ (len q : ℕ) where
-  pub placed-in : q < len / 2 → placed len q ≡ true
-  placed-in p = lt-ltb (2 * q + 1) len (omega arith)
+  pub has-place : q < len / 2 → hasPlace len q ≡ true
+  has-place p = lt-ltb (2 * q + 1) len (omega arith)
 
-  pub placed-out : len / 2 ≤ q → placed len q ≡ false
-  placed-out p = le-ltb (2 * q + 1) len (omega arith)
+  pub has-no-place : len / 2 ≤ q → hasPlace len q ≡ false
+  has-no-place p = le-ltb (2 * q + 1) len (omega arith)

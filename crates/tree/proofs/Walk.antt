@@ -14,7 +14,7 @@ use lib.ListN.{length}
 use Rattle.tree.specs.declared.Found.the-variants.{Leaf}
 use Rattle.tree.specs.Tree.{Update, node, meets, weaving, update, newest, sizeAt, rootHeight, heightOf}
 use Rattle.tree.specs.Place.{first, index}
-use Rattle.tree.specs.Walk.{Accepted, versionOver, Numbers, placeBy, WovenBy, hasNode, Stands, walkBy, covers, inTurnBy, leafVersion, placeOf}
+use Rattle.tree.specs.Walk.{Accepted, versionOver, Numbers, placeBy, WovenBy, hasNode, Stands, walkBy, covers, inTurnBy, leafVersion, placeOfVersion}
 use Rattle.tree.proofs.Meets.{lt-or-le, within, before, after, meets-within}
 use Rattle.tree.proofs.At.{At, at-getD, at-lt}
 use Rattle.tree.proofs.First.{first-le, lt-first, first-root, first-left, first-right, first-leaf, first-span, lt-root}
@@ -189,8 +189,8 @@ module _ (us : List Update) (k : ℕ) (accepted : (v : ℕ) → v < k → Accept
 
 -- The place of a node that a version of the run has.
 pub place-has : (us : List Update) (base : ℕ → ℕ) (v p h : ℕ) → 0 < v → v ≤ length us → hasNode (update us v) p h ≡ true
-    → placeOf us base v p h ≡ some (base v + index (update us v .f) (update us v .last) 0 (heightOf us v) p h)
-unfolding placeOf
+    → placeOfVersion us base v p h ≡ some (base v + index (update us v .f) (update us v .last) 0 (heightOf us v) p h)
+unfolding placeOfVersion
 place-has us base v p h a b c = rw (lt-ltb 0 v a, le-leb v (length us) b, c)
 
 -- A version is called by its own number, and a leaf's second number is 0.
@@ -199,11 +199,11 @@ alone leaf base = record { code = λ v. v; leaf = leaf; second = λ v p. 0; base
 
 module _ (us : List Update) (k : ℕ) (accepted : (v : ℕ) → v < k → Accepted us v) (fits : k ≤ length us) (leaf : ℕ → ℕ → ℕ) (base : ℕ → ℕ) (area : List ℕ)
     (woven : (v : ℕ) → 0 < v → v ≤ k → WovenBy us (alone leaf base) area v) where
-  places : (v p h : ℕ) → 0 < v → v ≤ k → hasNode (update us v) p h ≡ true → placeOf us base v p h ≡ some (placeBy us (alone leaf base) v p h)
+  places : (v p h : ℕ) → 0 < v → v ≤ k → hasNode (update us v) p h ≡ true → placeOfVersion us base v p h ≡ some (placeBy us (alone leaf base) v p h)
   unfolding placeBy
   places v p h o le e = place-has us base v p h o (omega arith) e
 
   -- The walk from version k's root, in an area where versions 1 .. k are woven whole.
   pub walk-alone : (p : ℕ) → 0 < k → p < sizeAt us k
-      → walkBy (placeOf us base) area (heightOf us k) k p ≡ Leaf (leafVersion us k p) (inTurnBy us leaf k p)
-  walk-alone = let N = alone leaf base in walk-number us k accepted N (placeOf us base) area (stands-woven us k accepted N (placeOf us base) area woven places)
+      → walkBy (placeOfVersion us base) area (heightOf us k) k p ≡ Leaf (leafVersion us k p) (inTurnBy us leaf k p)
+  walk-alone = let N = alone leaf base in walk-number us k accepted N (placeOfVersion us base) area (stands-woven us k accepted N (placeOfVersion us base) area woven places)

@@ -12,8 +12,8 @@ abbrev pub allOnes : ℕ
 allOnes = 4294967295
 
 -- Place q lies within an area of so many numbers.
-abbrev pub placed : ℕ → ℕ → Bool
-placed len q = ltb (2 * q + 1) len
+abbrev pub hasPlace : ℕ → ℕ → Bool
+hasPlace len q = ltb (2 * q + 1) len
 
 -- The two numbers, unless both are all ones.
 abbrev pub unlessOnes : Bool → ℕ → ℕ → NodeAt
@@ -29,7 +29,7 @@ unfoldable pub nodeAt : List ℕ → ℕ → NodeAt
 nodeAt area q =
     let l = getD area (2 * q) 0 in
     let r = getD area (2 * q + 1) 0 in
-    within (placed (length area) q) (unlessOnes (eqb l allOnes && eqb r allOnes) l r)
+    within (hasPlace (length area) q) (unlessOnes (eqb l allOnes && eqb r allOnes) l r)
 
 -- The area with two numbers stored at place q; past its end nothing changes.
 abbrev pub setWithin : Bool → List ℕ → ℕ → ℕ → ℕ → List ℕ
@@ -37,4 +37,4 @@ setWithin true area q l r = set (set area (2 * q) l) (2 * q + 1) r
 setWithin false area q l r = area
 
 unfoldable pub withNode : List ℕ → ℕ → ℕ → ℕ → List ℕ
-withNode area q l r = setWithin (placed (length area) q) area q l r
+withNode area q l r = setWithin (hasPlace (length area) q) area q l r

@@ -126,7 +126,7 @@ abbrev pub placeWhere : Bool → ℕ → Option ℕ
 placeWhere true q = some q
 placeWhere false q = none
 
-unfoldable pub placeOf : List Update → (ℕ → ℕ) → ℕ → ℕ → ℕ → Option ℕ
-placeOf us base v p h =
+unfoldable pub placeOfVersion : List Update → (ℕ → ℕ) → ℕ → ℕ → ℕ → Option ℕ
+placeOfVersion us base v p h =
     placeWhere (ltb 0 v && leb v (length us) && hasNode (update us v) p h)
     (base v + index (update us v .f) (update us v .last) 0 (heightOf us v) p h)

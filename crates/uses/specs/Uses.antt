@@ -11,7 +11,7 @@ use Rattle.model.specs.Model.{Limits}
 use Rattle.model.specs.OnModel.{onModel}
 use Rattle.model.specs.Run.{outcomes, modelAfter}
 use Rattle.model.specs.Due.{publishes}
-use Rattle.model.specs.Snapshot.{Snapshot, noPage, leaf, inner, treeIn, placeIn, snapshotAt}
+use Rattle.model.specs.Snapshot.{Snapshot, noPage, leaf, inner, treeIn, placeOfNumber, snapshotAt}
 use Rattle.model.specs.Example.{pageOf}
 use Rattle.model.specs.Stamps.{sends}
 use Rattle.model.specs.Windows.{twoWindows}
@@ -103,7 +103,7 @@ module _ (a : Areas) where
   pub record Compared : Type 0 where
     pub recent : gives (on 1 RECENT) ≡ says (recentIs 3)
     pub both : Both gives 1
-    pub tree : treeIn (placeIn (modelAfter limits calls)) (storeAfter limits a calls .areas .nodes) 2 65539 0 ≡ version3 .tree
+    pub tree : treeIn (placeOfNumber (modelAfter limits calls)) (storeAfter limits a calls .areas .nodes) 2 65539 0 ≡ version3 .tree
     pub since : (p : ℕ) → p < 4 → SameFrom (historyAfter limits calls 1) (getD (version3 .stamps) p 0) 3 p
     pub lowest : (p : ℕ) → p < 4 → (u : ℕ) → SameFrom (historyAfter limits calls 1) u 3 p → getD (version3 .stamps) p 0 ≤ u
 

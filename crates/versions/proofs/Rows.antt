@@ -3,7 +3,7 @@
 use mathlib.Core.Path.{_≡_}
 use mathlib.Core.List.{List, [], _∷_, _++_}
 use Prim.Native.Nat.{ℕ}
-use Rattle.table.specs.Table.{Cond, _<?_, Row, _gives_, firstRefusal, orElse, everyCall, noLine, lineRows, sizeRows}
+use Rattle.table.specs.Table.{Cond, _<?_, Row, _gives_, firstRefusal, orElse, everyCall, noSuchLine, lineRows, sizeRows}
 use Rattle.table.proofs.Table.{call-parts}
 use Rattle.versions.specs.declared.Store.{Store}
 use Rattle.versions.specs.Store.{Areas, lengthsOf, areasDiffer, linesIn, lineIn}
@@ -13,14 +13,14 @@ use Rattle.versions.specs.Recent.{lineRefusal}
 module _ (s : Store) (a : Areas) (l : ℕ) where
   -- Rows 3 and 20, then more.
   pub line-call : (more : List Row) (lost : Cond)
-      → firstRefusal (everyCall (areasDiffer s a) ((noLine l (linesIn s) gives 20) ∷ more) lost)
+      → firstRefusal (everyCall (areasDiffer s a) ((noSuchLine l (linesIn s) gives 20) ∷ more) lost)
       ≡ orElse (lineRefusal s (lengthsOf a) l) (firstRefusal (more ++ (lost gives 19) ∷ []))
   unfolding lineRefusal lineRows
-  line-call more lost = call-parts (areasDiffer s a) ((noLine l (linesIn s) gives 20) ∷ []) more lost tt
+  line-call more lost = call-parts (areasDiffer s a) ((noSuchLine l (linesIn s) gives 20) ∷ []) more lost tt
 
   -- Rows 3, 20 and 16, then more.
   pub snapshot-call : (v : ℕ) (more : List Row) (lost : Cond)
-      → firstRefusal (everyCall (areasDiffer s a) ((noLine l (linesIn s) gives 20) ∷ (lineIn s l .published .0 <? v gives 16) ∷ more) lost)
+      → firstRefusal (everyCall (areasDiffer s a) ((noSuchLine l (linesIn s) gives 20) ∷ (lineIn s l .published .0 <? v gives 16) ∷ more) lost)
       ≡ orElse (snapshotRefusal s (lengthsOf a) l v) (firstRefusal (more ++ (lost gives 19) ∷ []))
   unfolding refusalBy sizeRows
-  snapshot-call v more lost = call-parts (areasDiffer s a) ((noLine l (linesIn s) gives 20) ∷ (lineIn s l .published .0 <? v gives 16) ∷ []) more lost tt
+  snapshot-call v more lost = call-parts (areasDiffer s a) ((noSuchLine l (linesIn s) gives 20) ∷ (lineIn s l .published .0 <? v gives 16) ∷ []) more lost tt

@@ -7,7 +7,7 @@ ghost use mathlib.Core.List.{[], _∷_};
 ghost use lib.Dec.{eqb};
 ghost use Rattle.lines.specs.Lines.{ownerOf};
 ghost use Rattle.register.specs.Register.{withRecord};
-ghost use Rattle.table.specs.Table.{_gives_, firstRefusal, orElse, holds, noTicket, unless};
+ghost use Rattle.table.specs.Table.{_gives_, firstRefusal, orElse, holds, noSuchTicket, unless};
 ghost use Rattle.versions.specs.Store.{areasOf, lengthsOf, differ, linesIn, lineIn, withLine, numberOn};
 ghost use Rattle.versions.specs.Size.{notThere, refusalBy, snapshotRefusal, openedBy, pagesBy, bytesBy, sized, sizeOut};
 ghost use Rattle.versions.specs.Recent.{lineRefusal, latest, recentOut};
@@ -148,7 +148,7 @@ pub fn capped_sum(a: u64, b: u64) -> u64
 
 // Rows 3 and 7, with which the calls on a ticket begin.
 pub fn ticket_refusal(s: Store, g: Lengths, t: Ticket) -> u64
-    ensures { λ k. ⌜ k ≡ firstRefusal ((differ s g gives 3) ∷ (noTicket (t .0) (s .tickets .0) gives 7) ∷ []) ⌝ }
+    ensures { λ k. ⌜ k ≡ firstRefusal ((differ s g gives 3) ∷ (noSuchTicket (t .0) (s .tickets .0) gives 7) ∷ []) ⌝ }
 {
     if areas_differ(s, g) {
         return 3;

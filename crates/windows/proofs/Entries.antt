@@ -6,7 +6,7 @@ use native.Mathlib.Omega.{arith}
 use lib.ListN.{length, getD}
 use borrow.Author.Tests.{le-leb, lt-leb, eq-eqb, ne-eqb}
 use Rattle.fields.specs.declared.Number.the-variants as Number
-use Rattle.fields.specs.Fields.{numberOf}
+use Rattle.fields.specs.Fields.{fieldNumber}
 use Rattle.windows.specs.declared.Entry.the-variants as Entry
 use Rattle.windows.specs.Listed.{entryOf, entryBy}
 
@@ -28,7 +28,7 @@ module _ (a b : ℕ) where
   window-is h k e = rw (le-leb a 10079 h, le-leb b 10079 k, ne-eqb a b e)
 
 -- a line of two fields
-pub two-fields : (fs : List (List ℕ)) → length fs ≡ 2 → entryOf (numberOf (getD fs 0 [])) (numberOf (getD fs 1 [])) ≡ entryBy fs
+pub two-fields : (fs : List (List ℕ)) → length fs ≡ 2 → entryOf (fieldNumber (getD fs 0 [])) (fieldNumber (getD fs 1 [])) ≡ entryBy fs
 unfolding entryBy
 two-fields [] h = absurd (omega arith)
 two-fields (a ∷ []) h = absurd (omega arith)

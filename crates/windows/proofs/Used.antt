@@ -7,7 +7,7 @@ use lib.Dec.{leb, eqb}
 use Rattle.text.specs.Text.{pick, textLines}
 use Rattle.fields.specs.declared.Number.{Number}
 use Rattle.fields.specs.declared.Number.the-variants as Number
-use Rattle.fields.specs.Fields.{fieldsOf, numberOf}
+use Rattle.fields.specs.Fields.{fieldsOf, fieldNumber}
 use Rattle.windows.specs.declared.Window.{Window}
 use Rattle.windows.specs.declared.Entry.{Entry}
 use Rattle.windows.specs.declared.Entry.the-variants as Entry
@@ -35,7 +35,7 @@ fields-used : (fs : List (List ℕ)) → Used (entryBy fs)
 unfolding entryBy
 fields-used [] = tt
 fields-used (a ∷ []) = tt
-fields-used (a ∷ b ∷ []) = numbers-used (numberOf a) (numberOf b)
+fields-used (a ∷ b ∷ []) = numbers-used (fieldNumber a) (fieldNumber b)
 fields-used (a ∷ b ∷ c ∷ fs) = tt
 
 -- one line more, which is a window or none

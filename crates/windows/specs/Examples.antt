@@ -5,7 +5,7 @@ use mathlib.Core.List.{List, [], _∷_, _++_, map}
 use Prim.Native.Nat.{ℕ}
 use lib.ListN.{replicate}
 use Rattle.text.specs.Quoted.{text, together}
-use Rattle.fields.specs.Fields.{numberOf}
+use Rattle.fields.specs.Fields.{fieldNumber}
 use Rattle.table.specs.Table.{holds, firstRefusal, unless, windowRows}
 use Rattle.windows.specs.declared.Window.{Window}
 use Rattle.windows.specs.Windows.{insideOne, inside, noWindow, placed, noWindows}
@@ -53,7 +53,7 @@ lists :
     (listedOf [] ≡ record { number = 0; windows = noWindows })
     × (listedOf (text "0,1\n10079,0\n0,10079\n")
     ≡ record { number = 0; windows = record { places = between 0 1 ∷ between 10079 0 ∷ between 0 10079 ∷ replicate 29 noWindow } })
-unfolding textNumber ended allWindows windowsIn placed entryOf entryBy numberOf firstRefusal windowRows holds unless
+unfolding textNumber ended allWindows windowsIn placed entryOf entryBy fieldNumber firstRefusal windowRows holds unless
 lists = (refl, refl)
 
 -- so many lines
@@ -64,7 +64,7 @@ lines n = together (replicate n (text "10,20\n"))
 most :
     (listedOf (lines 32) ≡ record { number = 0; windows = record { places = replicate 32 (between 10 20) } })
     × (listedOf (lines 33) ≡ record { number = 24; windows = noWindows })
-unfolding textNumber ended allWindows windowsIn placed entryOf entryBy numberOf firstRefusal windowRows holds unless
+unfolding textNumber ended allWindows windowsIn placed entryOf entryBy fieldNumber firstRefusal windowRows holds unless
 most = (refl, refl)
 
 -- a text with a wrong line
@@ -94,10 +94,10 @@ wrong-lines :
     × Wrong (text "1,2" ++ (13 ∷ 10 ∷ []))
     × Wrong (text "1,2\n" ++ (0 ∷ 10 ∷ []))
     × Wrong (text "x\n1,2\n")
-unfolding textNumber ended allWindows windowsIn placed entryOf entryBy numberOf firstRefusal windowRows holds unless
+unfolding textNumber ended allWindows windowsIn placed entryOf entryBy fieldNumber firstRefusal windowRows holds unless
 wrong-lines = (refl, refl, refl, refl, refl, refl, refl, refl, refl, refl, refl, refl, refl, refl, refl, refl, refl, refl, refl, refl, refl, refl)
 
 -- 23 comes before 24, also where the wrong line is the 33rd
 wrong-first : Wrong (lines 32 ++ text "x\n") × Wrong (lines 33 ++ text "1,2") × Wrong (text "5,5\n" ++ lines 33)
-unfolding textNumber ended allWindows windowsIn placed entryOf entryBy numberOf firstRefusal windowRows holds unless
+unfolding textNumber ended allWindows windowsIn placed entryOf entryBy fieldNumber firstRefusal windowRows holds unless
 wrong-first = (refl, refl, refl)

@@ -8,7 +8,7 @@ use lib.ListN.{length}
 use Rattle.text.specs.Text.{pick, lineFeed, textLines}
 use Rattle.fields.specs.declared.Number.{Number}
 use Rattle.fields.specs.declared.Number.the-variants as Number
-use Rattle.fields.specs.Fields.{fieldsOf, numberOf}
+use Rattle.fields.specs.Fields.{fieldsOf, fieldNumber}
 use Rattle.table.specs.Table.{firstRefusal, unless, windowRows}
 use Rattle.windows.specs.declared.Window.{Window}
 use Rattle.windows.specs.declared.Entry.{Entry}
@@ -26,7 +26,7 @@ entryOf (Number.Is a) (Number.Is b) = pick (leb a 10079 && (leb b 10079 && not (
 unfoldable pub entryBy : List (List ℕ) → Entry
 entryBy [] = Entry.Not
 entryBy (a ∷ []) = Entry.Not
-entryBy (a ∷ b ∷ []) = entryOf (numberOf a) (numberOf b)
+entryBy (a ∷ b ∷ []) = entryOf (fieldNumber a) (fieldNumber b)
 entryBy (a ∷ b ∷ c ∷ fs) = Entry.Not
 
 -- the window that a line, without its line feed, is

@@ -17,7 +17,7 @@ use Rattle.versions.specs.Store.{lengthsOf, recordOf}
 use Rattle.assign.specs.Assign.{updateAt, sizeAfter, allPut, assignRefusal, assigned as assignedCase, withVersion, withUpdate, assignedRegister}
 use Rattle.model.specs.Calls.{on, WRITE, APPEND, versionIs, Outcome, answers}
 use Rattle.model.specs.History.{Version, pagesOf, blobSize, allFilled}
-use Rattle.model.specs.Model.{Limits, Line, Model, noLine, lineAt, updateAt as updateIn, history, places, updateOf}
+use Rattle.model.specs.Model.{Limits, Line, Model, noLine, lineAt, updateAt as updateIn, history, places, ticketUpdate}
 use Rattle.model.specs.OnModel.{either, ticketIn, sizeAfter as sizeIn, nextUpdate, assignNumber, assigned, assignStep, onLine, onModel}
 use Rattle.model.proofs.Laid.{Pair, onesPair, flat}
 use Rattle.model.proofs.Image.{wovenOf, countAt, weaveCell, pagesImage, nodeCell, nodesImage}
@@ -68,7 +68,7 @@ module _ (L : Limits) (m : Model) (S : Sound L m) (l f : ℕ) where
 
   assign-reads : (t : ℕ) → 0 < t → t ≤ length (m .tickets)
       → let r = recordOf (areasImage L m) t in
-      AssignReads t (L .updates) (r .update) (updateOf m t) (allPut r) (allFilled (ticketIn m t .slots)) f (r .n) (pagesOf (ticketIn m t))
+      AssignReads t (L .updates) (r .update) (ticketUpdate m t) (allPut r) (allFilled (ticketIn m t .slots)) f (r .n) (pagesOf (ticketIn m t))
       (countOf (updateAt (blobSize (history m l)) f (r .n))) (countOf (nextUpdate L m l t f))
   assign-reads zero o h = absurd (omega arith)
   assign-reads (suc t) o h =
@@ -94,7 +94,7 @@ module _ (L : Limits) (m : Model) (S : Sound L m) (l f : ℕ) where
       rw (lines-in L m S, line-in L m S l)
       (image-number L m S
       (assignRows (t ≤? L .updates) t (length (m .tickets)) (r .update) l (length (m .lines)) (allPut r) f blob (r .n) (places m) (L .nodes) (countOf (updateAt blob f (r .n))))
-      (assignRows always t (length (m .tickets)) (updateOf m t) l (length (m .lines)) (allFilled (ticketIn m t .slots)) f blob (pagesOf (ticketIn m t)) (places m) (L .nodes)
+      (assignRows always t (length (m .tickets)) (ticketUpdate m t) l (length (m .lines)) (allFilled (ticketIn m t .slots)) f blob (pagesOf (ticketIn m t)) (places m) (L .nodes)
       (countOf (nextUpdate L m l t f)))
       (L .updates <? t or L .updates ≤? length (m .updates) or L .updates ≤? length (lineAt m l .shown))
       (assign-alike _ _ _ _ _ _ _ _ _ _ _ _ _ _ _ _ _ (assign-reads t))

@@ -30,7 +30,7 @@ use Rattle.model.proofs.Updates.{length-updates}
 use Rattle.model.proofs.Updated.{update-other}
 use Rattle.model.proofs.Append.{used-append}
 use Rattle.model.proofs.Kept.Assign.{assigned-length, assigned-updates, assigned-new, assigned-gets, assigned-this, assigned-other, assigned-passed}
-use Rattle.demands.proofs.Image.{maskOf, numberAt, placeAt, ownAt, recordImage, registerImage, storeImage, areasImage}
+use Rattle.demands.proofs.Image.{maskOf, numberAt, firstPlaceAt, ownAt, recordImage, registerImage, storeImage, areasImage}
 use Rattle.demands.proofs.Records.{record-at, limited-same}
 use Rattle.demands.proofs.Lines.{line-in, blob-small, own-low}
 use Rattle.demands.proofs.Puts.{record-put}
@@ -106,7 +106,7 @@ module _ (L : Limits) (m : Model) (S : Sound L m) (l t f : ℕ) (p : AssignPasse
 
   update-new : updatePart after count ≡ limitedPart
   update-new =
-      let place : placeAt after count ≡ places m = rw (assigned-length L m l (suc t) f) (new-begins count _ ∙ place-stays count (omega arith)) in
+      let place : firstPlaceAt after count ≡ places m = rw (assigned-length L m l (suc t) f) (new-begins count _ ∙ place-stays count (omega arith)) in
       let part : partOf (m .tickets) (nextVersion L m l (suc t) f) (places m) ≡ newPart (nextUpdate L m l (suc t) f) =
       rw (S .tickets (suc t) (p .from) (p .upto) .unwoven (p .unassigned), next-number, lt-ltb 0 (suc t) (p .from)) in
       ap₂ (partOf (m .tickets)) (assigned-new L m l (suc t) f) place ∙ part ∙ ap newPart (sym within-limits)

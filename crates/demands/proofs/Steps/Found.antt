@@ -25,14 +25,14 @@ use Rattle.tree.proofs.Word.{root-in-power, height-in-power}
 use Rattle.tree.proofs.Walk.{node-has, size-in-root}
 use Rattle.register.specs.Register.{partOf, updateOf, versionPart}
 use Rattle.register.specs.declared.Part.{Part}
-use Rattle.descent.specs.Places.{hasNodeBy, placeBy, placeIn as placeOn, placeAt}
+use Rattle.descent.specs.Places.{hasNodeBy, placeByPart, placeIn, placeAt}
 use Rattle.descent.proofs.Places.{place-zero}
 use Rattle.walk.specs.FindPage.{findPage, numberWithin, pageNumberOf}
 use Rattle.walk.proofs.FromRoot.{from-root}
-use Rattle.model.specs.History.{versionAt, leafNumber, updateOf as toUpdate, updates}
+use Rattle.model.specs.History.{versionAt, leafNumber, toUpdate, updates}
 use Rattle.model.specs.InTurn.{blobAt}
 use Rattle.model.specs.Model.{Limits, Model, lineAt, updateAt, history, numberIn}
-use Rattle.model.specs.Snapshot.{placeIn, firstPlace}
+use Rattle.model.specs.Snapshot.{placeOfNumber, firstPlace}
 use Rattle.model.proofs.Image.{pageCell, pagesImage, nodesImage}
 use Rattle.model.proofs.Areas.{cells-length}
 use Rattle.model.proofs.Sound.{Sound}
@@ -100,7 +100,7 @@ module _ (L : Limits) (m : Model) (S : Sound L m) (l : ℕ) (there : l < length 
           ∙ rw (span-power L m S its some-update most-update, le-leb (2 ^ j) (2 ^ rootHeight (u .size)) (pow-mono (n .0)), meets-within (u .f) (u .last) (first p j) (2 ^ j) (n .2) (n .3))
 
       -- And its place.
-      sum-found : placeBy (partOf (recordImage m (pred its))) p j
+      sum-found : placeByPart (partOf (recordImage m (pred its))) p j
           ≡ firstPlace m its
           + index (updateAt m its .f) (toUpdate (m .tickets) (updateAt m its) .last) 0 (rootHeight (updateAt m its .size)) p j
       sum-found =
@@ -118,10 +118,10 @@ module _ (L : Limits) (m : Model) (S : Sound L m) (l : ℕ) (there : l < length 
           (place-sums (firstPlace m its) (rootHeight (u .size)) j x (n .0) low near few)
 
       -- The walk places the version's nodes where they lie.
-      pub place-found : placeAt (registerImage L m) code p j ≡ placeIn m code p j
-      unfolding placeOn
+      pub place-found : placeAt (registerImage L m) code p j ≡ placeOfNumber m code p j
+      unfolding placeIn
       place-found =
-          ap (λ (q : Part). placeOn q code p j) part-found
+          ap (λ (q : Part). placeIn q code p j) part-found
           ∙ rw (
             lt-ltb 0 code (number-some L m S l v there o h),
             lt-ltb code (2 ^ 64 - 1) (omega (arith, number-low L m S l v there o h)),

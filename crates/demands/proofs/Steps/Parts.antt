@@ -17,15 +17,15 @@ use Rattle.lines.specs.Lines.{entriesOf}
 use Rattle.lines.specs.declared.Entries.{Entries}
 use Rattle.lines.proofs.Packed.{entries-same}
 use Rattle.register.specs.declared.Record.{Record}
-use Rattle.model.specs.History.{Ticket, Version, noTicket, noVersion, pagesOf, updateOf as toUpdate, updates}
-use Rattle.model.specs.Model.{Limits, Model, updateAt, updateOf, numbered}
+use Rattle.model.specs.History.{Ticket, Version, noTicket, noVersion, pagesOf, toUpdate, updates}
+use Rattle.model.specs.Model.{Limits, Model, updateAt, ticketUpdate, numbered}
 use Rattle.model.specs.OnModel.{ticketIn, either}
 use Rattle.model.proofs.Laid.{Pair, onesPair, cellIn, oneTo}
 use Rattle.model.proofs.Image.{numbersOf, wovenOf, weaveCell, countAt}
 use Rattle.model.proofs.Sound.{Sound}
 use Rattle.model.proofs.Nth.{length-snoc, nth-append, nth-past}
 use Rattle.model.proofs.Cells.{numbered-same}
-use Rattle.demands.proofs.Image.{countBy, maskOf, numberAt, placeAt, ownAt}
+use Rattle.demands.proofs.Image.{countBy, maskOf, numberAt, firstPlaceAt, ownAt}
 
 -- ---- records
 
@@ -73,7 +73,7 @@ all-same a b c = λ i. all (a i) (b i) (c i)
 abbrev pub ticketPart : Model → ℕ → TicketPart
 ticketPart m i =
     let k = ticketIn m (suc i) in
-    record { n = pagesOf k; number = numberAt m i; put = maskOf (k .slots); update = updateOf m (suc i) }
+    record { n = pagesOf k; number = numberAt m i; put = maskOf (k .slots); update = ticketUpdate m (suc i) }
 
 -- The part of an update of these tickets, with the place at which its nodes begin.
 abbrev pub partOf : List Ticket → Version → ℕ → UpdatePart
@@ -91,18 +91,18 @@ partOf ks u place = record {
 }
 
 abbrev pub updatePart : Model → ℕ → UpdatePart
-updatePart m i = partOf (m .tickets) (updateAt m (suc i)) (placeAt m i)
+updatePart m i = partOf (m .tickets) (updateAt m (suc i)) (firstPlaceAt m i)
 
 abbrev pub entriesAt : Model → ℕ → Entries
 entriesAt m i = entriesOf (λ l. ownAt m l (suc i))
 
 module _ (m m′ : Model) (i : ℕ) where
-  pub ticket-part : ticketIn m′ (suc i) .slots ≡ ticketIn m (suc i) .slots → numberAt m′ i ≡ numberAt m i → updateOf m′ (suc i) ≡ updateOf m (suc i)
+  pub ticket-part : ticketIn m′ (suc i) .slots ≡ ticketIn m (suc i) .slots → numberAt m′ i ≡ numberAt m i → ticketUpdate m′ (suc i) ≡ ticketUpdate m (suc i)
       → ticketPart m i ≡ ticketPart m′ i
   ticket-part s n u = rw (s, n, u)
 
   pub update-part : updateAt m′ (suc i) ≡ updateAt m (suc i) → ticketIn m′ (updateAt m (suc i) .ticket) ≡ ticketIn m (updateAt m (suc i) .ticket)
-      → placeAt m′ i ≡ placeAt m i → updatePart m i ≡ updatePart m′ i
+      → firstPlaceAt m′ i ≡ firstPlaceAt m i → updatePart m i ≡ updatePart m′ i
   update-part u t p = rw (u, t, p)
 
   -- The lines' own versions, where each line's is the same.

@@ -14,10 +14,10 @@ use Rattle.register.specs.Register.{withRecord}
 use Rattle.register.specs.declared.Record.{Record}
 use Rattle.table.specs.Table.{_<?_, _≤?_, _or_, always, putRows, unless}
 use Rattle.versions.specs.Store.{lengthsOf, recordOf}
-use Rattle.put.specs.Put.{numberOf, bitOf, putRefusal, putIn, withPut, withBit}
+use Rattle.put.specs.Put.{ticketPage, bitOf, putRefusal, putIn, withPut, withBit}
 use Rattle.model.specs.Calls.{PUT, putDone, answers}
 use Rattle.model.specs.History.{Version, noVersion, pagesOf, isFilled, bitIf}
-use Rattle.model.specs.Model.{Limits, Model, updateAt, updateOf}
+use Rattle.model.specs.Model.{Limits, Model, updateAt, ticketUpdate}
 use Rattle.model.specs.OnModel.{ticketIn, putNumber, filledAt, onModel}
 use Rattle.model.proofs.Image.{pagesImage, nodesImage}
 use Rattle.model.proofs.Sound.{Sound}
@@ -43,7 +43,7 @@ module _ (L : Limits) (m : Model) (S : Sound L m) (i : ℕ) (bytes : List ℕ) w
 
   put-reads : (t : ℕ) → 0 < t → t ≤ length (m .tickets)
       → let r = recordOf (areasImage L m) t in
-      PutReads t (L .updates) (r .update) (updateOf m t) (r .n) (pagesOf (ticketIn m t)) (bitOf (r .put) i) (bitIf (isFilled (getD (ticketIn m t .slots) i none)))
+      PutReads t (L .updates) (r .update) (ticketUpdate m t) (r .n) (pagesOf (ticketIn m t)) (bitOf (r .put) i) (bitIf (isFilled (getD (ticketIn m t .slots) i none)))
   put-reads zero o h = absurd (omega arith)
   put-reads (suc t) o h =
       let e = record-at L m t (omega (arith, S .records)) in
@@ -58,7 +58,7 @@ module _ (L : Limits) (m : Model) (S : Sound L m) (i : ℕ) (bytes : List ℕ) w
       m
       S
       (putRows (t ≤? L .updates) t (length (m .tickets)) (r .update) (r .n) i (bitOf (r .put) i) (length bytes) (L .size))
-      (putRows always t (length (m .tickets)) (updateOf m t) (pagesOf (ticketIn m t)) i (bitIf (isFilled (getD (ticketIn m t .slots) i none))) (length bytes) (L .size))
+      (putRows always t (length (m .tickets)) (ticketUpdate m t) (pagesOf (ticketIn m t)) i (bitIf (isFilled (getD (ticketIn m t .slots) i none))) (length bytes) (L .size))
       (L .updates <? t or L .pages ≤? r .number + i)
       (put-alike _ _ _ _ _ _ _ _ _ _ _ _ (put-reads t))
       (λ z.
@@ -76,7 +76,7 @@ module _ (L : Limits) (m : Model) (S : Sound L m) (i : ℕ) (bytes : List ℕ) w
       | inr l ↦ put-apart L m (suc t) i bytes S p (suc v) (omega arith) l e
     ]
 
-    put-pages : put (pagesImage L m) (L .size * numberOf (areasImage L m) (suc t) i) bytes ≡ pagesImage L (filledAt L m (suc t) i bytes)
+    put-pages : put (pagesImage L m) (L .size * ticketPage (areasImage L m) (suc t) i) bytes ≡ pagesImage L (filledAt L m (suc t) i bytes)
     put-pages = rw (number-of L m S (suc t) (p .from) (p .upto)) (pages-put L m S t i bytes (p .upto) (p .slot) (p .whole))
 
     put-nodes : nodesImage L m ≡ nodesImage L (filledAt L m (suc t) i bytes)
@@ -86,7 +86,7 @@ module _ (L : Limits) (m : Model) (S : Sound L m) (i : ℕ) (bytes : List ℕ) w
 
     -- The ticket's part, with bit i set.
     put-part : ticketPart (filledAt L m (suc t) i bytes) t
-        ≡ record { n = pagesOf (ticketIn m (suc t)); number = numberAt m t; put = withBit (maskOf (ticketIn m (suc t) .slots)) i; update = updateOf m (suc t) }
+        ≡ record { n = pagesOf (ticketIn m (suc t)); number = numberAt m t; put = withBit (maskOf (ticketIn m (suc t) .slots)) i; update = ticketUpdate m (suc t) }
     put-part =
         let s = filled-pages L m (suc t) i bytes in
         rw (
@@ -107,7 +107,7 @@ module _ (L : Limits) (m : Model) (S : Sound L m) (i : ℕ) (bytes : List ℕ) w
         (rw (record-at L m t h) (all-same put-part (sym (updated t)) refl))
 
   put-image : (t : ℕ) → PutPassed L m t i bytes
-      → stateOf (storeImage L m) (windowsImage m) (put (pagesImage L m) (L .size * numberOf (areasImage L m) t i) bytes) (nodesImage L m)
+      → stateOf (storeImage L m) (windowsImage m) (put (pagesImage L m) (L .size * ticketPage (areasImage L m) t i) bytes) (nodesImage L m)
       (withRecord (registerImage L m) (pred t) (withPut (recordOf (areasImage L m) t) i))
       ≡ image L (filledAt L m t i bytes)
   put-image zero p = absurd (omega (arith, p .from))

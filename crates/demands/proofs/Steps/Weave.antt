@@ -32,8 +32,8 @@ use Rattle.versions.specs.declared.Store.{Store}
 use Rattle.versions.specs.Store.{lengthsOf, recordOf}
 use Rattle.weave.specs.Weave.{nextNode, placeOf, nextPlace, leafPast, weaveRefusal, wovenUpdate, wovenRecord, wovenPart, olderNumber, meetsLeft, meetsRight, lostHalf, lostChild, lostBy, weaveNumber, kept, leftNumber, rightNumber, firstPage, spanOf, withWoven, nodeOf}
 use Rattle.model.specs.Calls.{WEAVE, nodeIs, says}
-use Rattle.model.specs.History.{History, pagesOf, taken, updateOf as toUpdate, updates}
-use Rattle.model.specs.Model.{Limits, Model, lineAt, updateAt, history, updateOf as updateIn, numbered, numberIn}
+use Rattle.model.specs.History.{History, pagesOf, taken, toUpdate, updates}
+use Rattle.model.specs.Model.{Limits, Model, lineAt, updateAt, history, ticketUpdate, numbered, numberIn}
 use Rattle.model.specs.OnModel.{ticketIn, leftOf, rightOf, firstPage as pageOf, spanOf as spanIn, weaveNumber as modelNumber, nodeAnswer, woven, onModel}
 use Rattle.model.specs.Snapshot.{firstPlace}
 use Rattle.model.proofs.Image.{pagesImage, nodeOf as nodeIn, nodesImage}
@@ -144,47 +144,47 @@ module _ {s : Store} {nodes : List ℕ} {rs : List Record} {r : Record} {q : Par
 -- ---- the records of the image
 
 module _ (L : Limits) (m : Model) (S : Sound L m) (t : ℕ) (o : 0 < t) (h : t ≤ length (m .tickets)) where
-  update-is : wovenUpdate (areasImage L m) t ≡ updateIn m t
+  update-is : wovenUpdate (areasImage L m) t ≡ ticketUpdate m t
   update-is =
       let n : suc (pred t) ≡ t = omega arith in
-      ap (λ (r : Record). r .update) (record-of L m t o (ticket-room L m S t h)) ∙ ap (updateIn m) n
+      ap (λ (r : Record). r .update) (record-of L m t o (ticket-room L m S t h)) ∙ ap (ticketUpdate m) n
 
-  module _ (got : 0 < updateIn m t) where
-    its-part : wovenPart (areasImage L m) t ≡ partOf (recordImage m (pred (updateIn m t)))
-    its-part = ap (λ (k : ℕ). partOf (recordOf (areasImage L m) k)) update-is ∙ part-image L m S (updateIn m t) got (update-le m t)
+  module _ (got : 0 < ticketUpdate m t) where
+    its-part : wovenPart (areasImage L m) t ≡ partOf (recordImage m (pred (ticketUpdate m t)))
+    its-part = ap (λ (k : ℕ). partOf (recordOf (areasImage L m) k)) update-is ∙ part-image L m S (ticketUpdate m t) got (update-le m t)
 
     its-woven : wovenPart (areasImage L m) t .woven ≡ ticketIn m t .woven
     its-woven =
         ap (λ (q : Part). q .woven) its-part
-        ∙ woven-image L m S (updateIn m t) got (update-le m t)
+        ∙ woven-image L m S (ticketUpdate m t) got (update-le m t)
         ∙ ap (λ (u : ℕ). ticketIn m u .woven) (update-ticket m t got)
 
-    its-update : updateOf (wovenPart (areasImage L m) t) ≡ toUpdate (m .tickets) (updateAt m (updateIn m t))
-    its-update = ap updateOf its-part ∙ update-image L m S (updateIn m t) got (update-le m t)
+    its-update : updateOf (wovenPart (areasImage L m) t) ≡ toUpdate (m .tickets) (updateAt m (ticketUpdate m t))
+    its-update = ap updateOf its-part ∙ update-image L m S (ticketUpdate m t) got (update-le m t)
 
-    its-name : wovenPart (areasImage L m) t .name ≡ numbered (updateAt m (updateIn m t) .line) (updateAt m (updateIn m t) .number)
-    its-name = ap (λ (q : Part). q .name) its-part ∙ name-image L m S (updateIn m t) got (update-le m t)
+    its-name : wovenPart (areasImage L m) t .name ≡ numbered (updateAt m (ticketUpdate m t) .line) (updateAt m (ticketUpdate m t) .number)
+    its-name = ap (λ (q : Part). q .name) its-part ∙ name-image L m S (ticketUpdate m t) got (update-le m t)
 
-    its-height : heightIn (wovenPart (areasImage L m) t .span) ≡ rootHeight (updateAt m (updateIn m t) .size)
-    its-height = ap (λ (q : Part). heightIn (q .span)) its-part ∙ height-image L m S (updateIn m t) got (update-le m t)
+    its-height : heightIn (wovenPart (areasImage L m) t .span) ≡ rootHeight (updateAt m (ticketUpdate m t) .size)
+    its-height = ap (λ (q : Part). heightIn (q .span)) its-part ∙ height-image L m S (ticketUpdate m t) got (update-le m t)
 
-    its-past : wovenPart (areasImage L m) t .past ≡ halvings (updateAt m (updateIn m t) .f)
-    its-past = ap (λ (q : Part). q .past) its-part ∙ past-image L m S (updateIn m t) got (update-le m t)
+    its-past : wovenPart (areasImage L m) t .past ≡ halvings (updateAt m (ticketUpdate m t) .f)
+    its-past = ap (λ (q : Part). q .past) its-part ∙ past-image L m S (ticketUpdate m t) got (update-le m t)
 
-    its-count : wovenPart (areasImage L m) t .count ≡ countOf (toUpdate (m .tickets) (updateAt m (updateIn m t)))
-    its-count = ap (λ (q : Part). q .count) its-part ∙ count-image L m S (updateIn m t) got (update-le m t)
+    its-count : wovenPart (areasImage L m) t .count ≡ countOf (toUpdate (m .tickets) (updateAt m (ticketUpdate m t)))
+    its-count = ap (λ (q : Part). q .count) its-part ∙ count-image L m S (ticketUpdate m t) got (update-le m t)
 
-    its-place : placeOf (wovenPart (areasImage L m) t) ≡ firstPlace m (updateIn m t)
-    its-place = ap placeOf its-part ∙ place-image L m S (updateIn m t) got (update-le m t)
+    its-place : placeOf (wovenPart (areasImage L m) t) ≡ firstPlace m (ticketUpdate m t)
+    its-place = ap placeOf its-part ∙ place-image L m S (ticketUpdate m t) got (update-le m t)
 
   weave-reads :
       let q = wovenPart (areasImage L m) t in
-      WeaveReads t (L .updates) (wovenUpdate (areasImage L m) t) (updateIn m t) (q .woven) (ticketIn m t .woven) (q .count)
-      (countOf (toUpdate (m .tickets) (updateAt m (updateIn m t))))
+      WeaveReads t (L .updates) (wovenUpdate (areasImage L m) t) (ticketUpdate m t) (q .woven) (ticketIn m t .woven) (q .count)
+      (countOf (toUpdate (m .tickets) (updateAt m (ticketUpdate m t))))
   weave-reads = record {
     there = ticket-room L m S t h;
     version = update-is;
-    kept = λ z. update-room L m S (updateIn m t) (update-le m t);
+    kept = λ z. update-room L m S (ticketUpdate m t) (update-le m t);
     woven = its-woven;
     count = its-count;
   }
@@ -194,7 +194,7 @@ module _ (L : Limits) (m : Model) (S : Sound L m) (t : ℕ) (o : 0 < t) (h : t �
 module _ (L : Limits) (m : Model) (S : Sound L m) (t : ℕ) (p : WeavePassed m t) where
   -- The ticket's update, the line on which it got its version, and that.
   abbrev its : ℕ
-  its = updateIn m t
+  its = ticketUpdate m t
 
   abbrev line : ℕ
   line = updateAt m its .line
@@ -349,7 +349,7 @@ module _ (L : Limits) (m : Model) (S : Sound L m) (t : ℕ) where
   table-number =
       let a = areasImage L m in
       let s = storeImage L m in
-      let k = updateIn m t in
+      let k = ticketUpdate m t in
       let r = recordOf a t in
       let q = wovenPart a t in
       let c = countOf (toUpdate (m .tickets) (updateAt m k)) in

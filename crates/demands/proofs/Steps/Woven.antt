@@ -13,8 +13,8 @@ use Rattle.tree.specs.NodeArea.{withNode}
 use Rattle.tree.proofs.Meets.{lt-or-le}
 use Rattle.register.specs.Register.{withRecord}
 use Rattle.weave.specs.Weave.{withWoven}
-use Rattle.model.specs.History.{Ticket, noTicket, noVersion, pagesOf, updateOf as toUpdate}
-use Rattle.model.specs.Model.{Limits, Model, updateAt, updateOf}
+use Rattle.model.specs.History.{Ticket, noTicket, noVersion, pagesOf, toUpdate}
+use Rattle.model.specs.Model.{Limits, Model, updateAt, ticketUpdate}
 use Rattle.model.specs.InTurn.{joined}
 use Rattle.model.specs.OnModel.{ticketIn, woven}
 use Rattle.model.specs.Snapshot.{firstPlace}
@@ -57,8 +57,8 @@ wovenTo u k = record {
 }
 
 -- The update of record i is not t's, where t's is another.
-ticket-not : (m : Model) (t i : ℕ) → 0 < t → ((k : ℕ) → 0 < k → k ≤ length (m .updates) → updateAt m k .ticket ≡ t → k ≡ updateOf m t)
-    → i ≢ pred (updateOf m t) → updateAt m (suc i) .ticket ≢ t
+ticket-not : (m : Model) (t i : ℕ) → 0 < t → ((k : ℕ) → 0 < k → k ≤ length (m .updates) → updateAt m k .ticket ≡ t → k ≡ ticketUpdate m t)
+    → i ≢ pred (ticketUpdate m t) → updateAt m (suc i) .ticket ≢ t
 ticket-not m t i o back n e = elim (lt-or-le i (length (m .updates))) [
   | inl l ↦ n (omega (arith, back (suc i) (omega arith) l e))
   | inr l ↦ omega (arith, rw (nth-past noVersion (m .updates) (suc i) (omega arith)) at e)
@@ -78,7 +78,7 @@ module _ (L : Limits) (m : Model) (t : ℕ) (S : Sound L m) (p : WeavePassed m t
   other-same u n = changed-other m t (wovenTicket L m t) (p .from) refl u n
 
   -- An update whose ticket is t is t's.
-  back : (k : ℕ) → 0 < k → k ≤ length (m .updates) → updateAt m k .ticket ≡ t → k ≡ updateOf m t
+  back : (k : ℕ) → 0 < k → k ≤ length (m .updates) → updateAt m k .ticket ≡ t → k ≡ ticketUpdate m t
   back k o h e = sym (rw e at (S .updated k o h .back))
 
   pub woven-store : storeImage L m ≡ storeImage L (woven L m t)
@@ -110,7 +110,7 @@ module _ (L : Limits) (m : Model) (t : ℕ) (S : Sound L m) (p : WeavePassed m t
   cell-as : (k i : ℕ) → ltb i (wovenOf (woven L m t) k) ≡ ltb i (wovenOf m k) → weaveCell m k i ≡ weaveCell (woven L m t) k i
   cell-as k i e = rw (numbers-same k i, e)
 
-  cells-other : (k i : ℕ) → 0 < k → k ≤ length (m .updates) → i < countAt m k → (k ≡ updateOf m t → i ≡ ticketIn m t .woven → ⊥)
+  cells-other : (k i : ℕ) → 0 < k → k ≤ length (m .updates) → i < countAt m k → (k ≡ ticketUpdate m t → i ≡ ticketIn m t .woven → ⊥)
       → weaveCell m k i ≡ weaveCell (woven L m t) k i
   cells-other k i o h l n = elim (ℕ-discrete (updateAt m k .ticket) t) [
     | yes e ↦ cell-as k i (rw (woven-now k e, woven-was k e) (ltb-other i (ticketIn m t .woven) (n (back k o h e))))
@@ -118,19 +118,19 @@ module _ (L : Limits) (m : Model) (t : ℕ) (S : Sound L m) (p : WeavePassed m t
   ]
 
   -- The update's ticket is t again.
-  its-ticket : updateAt m (updateOf m t) .ticket ≡ t
+  its-ticket : updateAt m (ticketUpdate m t) .ticket ≡ t
   its-ticket = update-ticket m t (p .assigned)
 
-  cell-this : weaveCell (woven L m t) (updateOf m t) (ticketIn m t .woven) ≡ numbersOf m (updateOf m t) (nodeOf m (updateOf m t) (ticketIn m t .woven))
+  cell-this : weaveCell (woven L m t) (ticketUpdate m t) (ticketIn m t .woven) ≡ numbersOf m (ticketUpdate m t) (nodeOf m (ticketUpdate m t) (ticketIn m t .woven))
   cell-this =
       let j = ticketIn m t .woven in
-      rw (woven-now (updateOf m t) its-ticket, lt-ltb j (suc j) (omega arith)) (numbers-same (updateOf m t) j)
+      rw (woven-now (ticketUpdate m t) its-ticket, lt-ltb j (suc j) (omega arith)) (numbers-same (ticketUpdate m t) j)
 
-  pub woven-nodes : (l r : ℕ) → numbersOf m (updateOf m t) (nodeOf m (updateOf m t) (ticketIn m t .woven)) ≡ (l, r)
-      → withNode (nodesImage L m) (firstPlace m (updateOf m t) + ticketIn m t .woven) l r ≡ nodesImage L (woven L m t)
+  pub woven-nodes : (l r : ℕ) → numbersOf m (ticketUpdate m t) (nodeOf m (ticketUpdate m t) (ticketIn m t .woven)) ≡ (l, r)
+      → withNode (nodesImage L m) (firstPlace m (ticketUpdate m t) + ticketIn m t .woven) l r ≡ nodesImage L (woven L m t)
   woven-nodes l r e =
-      nodes-put L m (woven L m t) S refl (λ k x y. rw (woven-updates L m t S p)) (updateOf m t) (ticketIn m t .woven) l r (p .assigned)
-      (update-le m t) (rw (every-update m (updateOf m t)) (p .left)) cells-other (cell-this ∙ e)
+      nodes-put L m (woven L m t) S refl (λ k x y. rw (woven-updates L m t S p)) (ticketUpdate m t) (ticketIn m t .woven) l r (p .assigned)
+      (update-le m t) (rw (every-update m (ticketUpdate m t)) (p .left)) cells-other (cell-this ∙ e)
 
   -- ---- the register
 
@@ -141,10 +141,10 @@ module _ (L : Limits) (m : Model) (t : ℕ) (S : Sound L m) (p : WeavePassed m t
   part-this : (i : ℕ) → updateAt m (suc i) .ticket ≡ t → updatePart (woven L m t) i ≡ wovenTo (updatePart m i) (suc (updatePart m i .woven))
   part-this i e = rw (pages-same (updateAt m (suc i) .ticket), woven-updates L m t S p, woven-now (suc i) e, woven-was (suc i) e)
 
-  pub woven-register : withRecord (registerImage L m) (pred (updateOf m t)) (withWoven (recordImage m (pred (updateOf m t)))) ≡ registerImage L (woven L m t)
+  pub woven-register : withRecord (registerImage L m) (pred (ticketUpdate m t)) (withWoven (recordImage m (pred (ticketUpdate m t)))) ≡ registerImage L (woven L m t)
   woven-register =
-      let i = pred (updateOf m t) in
-      let n : suc i ≡ updateOf m t = omega (arith, p .assigned) in
-      register-put L m (woven L m t) i (withWoven (recordImage m i)) (omega (arith, update-room L m S (updateOf m t) (update-le m t)))
+      let i = pred (ticketUpdate m t) in
+      let n : suc i ≡ ticketUpdate m t = omega (arith, p .assigned) in
+      register-put L m (woven L m t) i (withWoven (recordImage m i)) (omega (arith, update-room L m S (ticketUpdate m t) (update-le m t)))
       (λ j z d. all-same (ticket-same j) (changed-update-part m t (wovenTicket L m t) (p .from) refl j (ticket-not m t j (p .from) back d)) refl)
       (all-same (sym (ticket-same i)) (part-this i (ap (λ (k : ℕ). updateAt m k .ticket) n ∙ its-ticket)) refl)

@@ -1,7 +1,7 @@
 -- `fields::number_in` meets its contract. The invariant: the number is what the digits that are left make after v. Assumes nothing.
 use Prim.Native.Nat.{_≤_, _<_, _-_, _^_}
 use Rattle.fields.proofs.Numbers.{finished, number-begins, number-not, digit-below, digit-above, digit-taken, digit-past, number-ends}
-use Rattle.fields.specs.Fields.{numberOf}
+use Rattle.fields.specs.Fields.{fieldNumber}
 use borrow.Author.Needs.{needs}
 use borrow.Author.Tests.{not-true, not-false}
 use lib.ListN.{length, drop}
@@ -11,7 +11,7 @@ use Rattle.fields.proofs.number_in.Statement.{statement}
 use Rattle.fields.proofs.number_in.Tie as tie
 
 abbrev Inv-loop : tie.InvT-loop
-Inv-loop f v₀ i₀ v i = (i ≤ length f) × (v < 2 ^ 64) × (numberOf f ≡ finished v (drop i f))
+Inv-loop f v₀ i₀ v i = (i ≤ length f) × (v < 2 ^ 64) × (fieldNumber f ≡ finished v (drop i f))
 
 abbrev μ-loop : tie.MeasureT-loop
 μ-loop f v₀ i₀ v i = length f - i

@@ -11,8 +11,8 @@ use Rattle.tree.proofs.Meets.{lt-or-le}
 use Rattle.tree.specs.Tree.{countOf, update, sizeAt}
 use Rattle.tree.specs.Walk.{Accepted}
 use Rattle.table.proofs.Table.{number-cases}
-use Rattle.model.specs.History.{Version, noVersion, updateOf as toUpdate, updates, blobSize}
-use Rattle.model.specs.Model.{Limits, Line, Model, lineAt, updateAt, history, every, places, updateOf}
+use Rattle.model.specs.History.{Version, noVersion, toUpdate, updates, blobSize}
+use Rattle.model.specs.Model.{Limits, Line, Model, lineAt, updateAt, history, every, places, ticketUpdate}
 use Rattle.model.specs.OnModel.{nextVersion, nextUpdate, assignNumber, assigned}
 use Rattle.model.proofs.Sound.{SoundGiven, TicketSound, UpdateSound, LineSound}
 use Rattle.model.proofs.Facts.{shown-small}
@@ -53,10 +53,10 @@ module _ (L : Limits) (m : Model) (l t f : ℕ) where
   pub assigned-new : updateAt (assigned L m l t f) (suc (length (m .updates))) ≡ nextVersion L m l t f
   assigned-new = nth-new noVersion (m .updates) (nextVersion L m l t f)
 
-  pub assigned-had : (u : ℕ) → 0 < updateOf m u → updateOf (assigned L m l t f) u ≡ updateOf m u
+  pub assigned-had : (u : ℕ) → 0 < ticketUpdate m u → ticketUpdate (assigned L m l t f) u ≡ ticketUpdate m u
   assigned-had u h = update-had 1 (m .updates) (nextVersion L m l t f) u h
 
-  pub assigned-gets : updateOf m t ≡ 0 → updateOf (assigned L m l t f) t ≡ suc (length (m .updates))
+  pub assigned-gets : ticketUpdate m t ≡ 0 → ticketUpdate (assigned L m l t f) t ≡ suc (length (m .updates))
   assigned-gets z = omega (arith, update-gets 1 (m .updates) (nextVersion L m l t f) (omega arith) z)
 
   pub assigned-updates : updates (every (assigned L m l t f)) ≡ updates (every m) ++ nextUpdate L m l t f ∷ []
@@ -133,7 +133,7 @@ module _ (L : Limits) (m : Model) (l t f : ℕ) where
           (assigned L m l t f)
           u
           refl
-          (λ z. elim (number-cases (updateOf m u)) [ inl e ↦ e | inr g ↦ absurd (omega (arith, assigned-had u g)) ])
+          (λ z. elim (number-cases (ticketUpdate m u)) [ inl e ↦ e | inr g ↦ absurd (omega (arith, assigned-had u g)) ])
           (S .tickets u o h)
 
       new-update : UpdateSound (assigned L m l t f) (suc (length (m .updates)))

@@ -7,7 +7,7 @@ use native.Mathlib.Omega.{arith}
 use lib.ListN.{length, take, length-take}
 use Rattle.tree.specs.Tree.{nth, update, sizeAt}
 use Rattle.tree.proofs.Meets.{lt-or-le}
-use Rattle.model.specs.History.{updateOf as toUpdate, updates}
+use Rattle.model.specs.History.{toUpdate, updates}
 use Rattle.model.specs.Model.{Limits, Line, Model, lineAt, updateAt, history}
 use Rattle.model.specs.OnModel.{branchNumber, branched}
 use Rattle.model.proofs.Sound.{SoundGiven, LineSound}

@@ -7,7 +7,7 @@ use native.Mathlib.Decide.{ℕ-discrete}
 use native.Mathlib.Omega.{arith}
 use lib.ListN.{length, set, length-set}
 use Rattle.tree.specs.Tree.{countOf}
-use Rattle.model.specs.History.{Ticket, noTicket, pagesOf, taken, updateOf as toUpdate, updates}
+use Rattle.model.specs.History.{Ticket, noTicket, pagesOf, taken, toUpdate, updates}
 use Rattle.model.specs.Model.{Limits, Model, lineAt, updateAt, every}
 use Rattle.model.specs.OnModel.{ticketIn}
 use Rattle.model.proofs.Sound.{SoundGiven, TicketSound, UpdateSound}

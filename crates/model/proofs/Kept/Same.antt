@@ -8,8 +8,8 @@ use lib.ListN.{length}
 use Rattle.tree.specs.Tree.{Update, countOf, nth}
 use Rattle.tree.specs.Walk.{Accepted}
 use Rattle.tree.proofs.Meets.{lt-or-le}
-use Rattle.model.specs.History.{Version, updateOf as toUpdate, updates}
-use Rattle.model.specs.Model.{Limits, Model, Line, lineAt, updateAt, history, updateOf}
+use Rattle.model.specs.History.{Version, toUpdate, updates}
+use Rattle.model.specs.Model.{Limits, Model, Line, lineAt, updateAt, history, ticketUpdate}
 use Rattle.model.specs.OnModel.{ticketIn}
 use Rattle.model.proofs.Sound.{SoundGiven, TicketSound, UpdateSound, LineSound}
 use Rattle.model.proofs.Nth.{nth-past}
@@ -18,7 +18,7 @@ use Rattle.model.proofs.Shown.{shownAt, Whole, complete-whole, whole-co
 use Rattle.model.proofs.Grows.{Grown, update-grown, whole-grown}
 use Rattle.model.proofs.Older.{older, older-version, older-update, older-size}
 
-pub ticket-same : (L : Limits) (m m′ : Model) (t : ℕ) → ticketIn m′ t ≡ ticketIn m t → (updateOf m′ t ≡ 0 → updateOf m t ≡ 0)
+pub ticket-same : (L : Limits) (m m′ : Model) (t : ℕ) → ticketIn m′ t ≡ ticketIn m t → (ticketUpdate m′ t ≡ 0 → ticketUpdate m t ≡ 0)
     → TicketSound L m t → TicketSound L m′ t
 ticket-same L m m′ t e v s = record {
   some-pages = rw e (s .some-pages);

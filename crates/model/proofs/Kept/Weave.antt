@@ -6,8 +6,8 @@ use Prim.Native.Nat.{ℕ, suc, _≤_, _<_}
 use native.Mathlib.Omega.{arith}
 use lib.ListN.{length}
 use Rattle.tree.specs.Tree.{countOf}
-use Rattle.model.specs.History.{Ticket, noTicket, updateOf as toUpdate, updates}
-use Rattle.model.specs.Model.{Limits, Model, updateAt, every, updateOf}
+use Rattle.model.specs.History.{Ticket, noTicket, toUpdate, updates}
+use Rattle.model.specs.Model.{Limits, Model, updateAt, every, ticketUpdate}
 use Rattle.model.specs.OnModel.{ticketIn, weaveNumber, woven}
 use Rattle.model.proofs.Sound.{SoundGiven, TicketSound}
 use Rattle.model.proofs.Passed.{WeavePassed, weave-passed}
@@ -33,7 +33,7 @@ module _ (L : Limits) (m : Model) (t : ℕ) where
     -- The update of the ticket has nodes left.
     pub weave-left : (k : ℕ) → 0 < k → k ≤ length (m .updates) → updateAt m k .ticket ≡ t → ticketIn m t .woven < countOf (toUpdate (m .tickets) (updateAt m k))
     weave-left k o h e =
-        let b : updateOf m t ≡ k = rw e at (S .updated k o h .back) in
+        let b : ticketUpdate m t ≡ k = rw e at (S .updated k o h .back) in
         rw b at (p .left)
 
     pub weave-open : (k : ℕ) → 0 < k → k ≤ length (m .updates) → Whole m k → updateAt m k .ticket ≢ t

@@ -1,6 +1,6 @@
 -- `parse::put_or_three` meets its contract. Assumes nothing.
 use Rattle.parse.proofs.Steps.{leaves}
-use Rattle.fields.specs.Fields.{numberOf}
+use Rattle.fields.specs.Fields.{fieldNumber}
 use Rattle.parse.specs.Steps.{threeOf, putOrThree}
 use borrow.Author.Needs.{needs}
 use Rattle.parse.proofs.put_or_three.Statement.{statement}
@@ -44,7 +44,7 @@ returns-2 : tie.Need-returns-2
 unfolding putOrThree
 returns-2 c =
     let a = c .before .before .before .before .before .before .before .before .before .before .before .before .args in
-    leaves (putOrThree (a .w .now) (a .a .now) (a .b .now) (a .c .now)) _ (threeOf (a .w .now) (numberOf (a .a .now)) (numberOf (a .b .now)) (numberOf (a .c .now))) (a .bytes .now)
+    leaves (putOrThree (a .w .now) (a .a .now) (a .b .now) (a .c .now)) _ (threeOf (a .w .now) (fieldNumber (a .a .now)) (fieldNumber (a .b .now)) (fieldNumber (a .c .now))) (a .bytes .now)
     (rw (← c .before .before .before .number-in3 .ensures, ← c .before .before .number-in4 .ensures, ← c .before .number-in5 .ensures) (c .three .ensures))
     (rw (← c .before .before .before .before .before .word-is .ensures, c .before .before .before .before .if1 .left))
 

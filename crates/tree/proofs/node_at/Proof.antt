@@ -5,13 +5,13 @@ use mathlib.Core.Bool.{and-false}
 use borrow.Author.Needs.{needs}
 use borrow.Author.Tests.{eq-eqb, ne-eqb}
 use Rattle.tree.specs.NodeArea.{nodeAt}
-use Rattle.tree.proofs.Area.{placed-in, placed-out}
+use Rattle.tree.proofs.Area.{has-place, has-no-place}
 use Rattle.tree.proofs.node_at.Statement.{statement}
 use Rattle.tree.proofs.node_at.Tie as tie
 
 returns : tie.Need-returns
 unfolding nodeAt
-returns c = simp (placed-out _ _ (c .if1 .taken))
+returns c = simp (has-no-place _ _ (c .if1 .taken))
 
 mul-left : tie.Need-mul-left
 mul-left c = search needs
@@ -36,12 +36,12 @@ shared-slice-read-right c = search needs
 
 returns-2 : tie.Need-returns-2
 unfolding nodeAt
-returns-2 c = simp (placed-in _ _ (c .before .before .before .before .if1 .left), eq-eqb _ _ (c .before .if2 .taken), c .if3 .taken)
+returns-2 c = simp (has-place _ _ (c .before .before .before .before .if1 .left), eq-eqb _ _ (c .before .if2 .taken), c .if3 .taken)
 
 returns-3 : tie.Need-returns-3
 unfolding nodeAt
 returns-3 c =
-    let p = placed-in _ _ (c .before .before .before .if1 .left) in
+    let p = has-place _ _ (c .before .before .before .if1 .left) in
     ⊎-elim (λ w. simp (p, w .1 .left, and-false)) (λ w. simp (p, ne-eqb _ _ (w .left))) (c .if2 .came)
 
 pub node-at-spec : {M : Type 1} → statement M

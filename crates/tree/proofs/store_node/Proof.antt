@@ -4,13 +4,13 @@ use native.Mathlib.Omega.{arith}
 use lib.ListN.{length-set}
 use borrow.Author.Needs.{needs}
 use Rattle.tree.specs.NodeArea.{withNode}
-use Rattle.tree.proofs.Area.{placed-in, placed-out}
+use Rattle.tree.proofs.Area.{has-place, has-no-place}
 use Rattle.tree.proofs.store_node.Statement.{statement}
 use Rattle.tree.proofs.store_node.Tie as tie
 
 returns : tie.Need-returns
 unfolding withNode
-returns c = simp (placed-out _ _ (c .if1 .taken))
+returns c = simp (has-no-place _ _ (c .if1 .taken))
 
 mul-nodes : tie.Need-mul-nodes
 mul-nodes c = search needs
@@ -38,7 +38,7 @@ same-length c = search needs
 
 returns-2 : tie.Need-returns-2
 unfolding withNode
-returns-2 c = simp (placed-in _ _ (c .if1 .left))
+returns-2 c = simp (has-place _ _ (c .if1 .left))
 
 pub store-node-spec : {M : Type 1} → statement M
 store-node-spec =

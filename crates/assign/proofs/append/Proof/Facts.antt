@@ -30,7 +30,7 @@ use Rattle.assign.proofs.Generated.Say.append as append″
 use Rattle.versions.proofs.Generated.Say.line_state as line-state″
 use Rattle.assign.proofs.Generated.Say.write as write″
 use Rattle.tree.specs.Tree.{countOf}
-use Rattle.table.specs.Table.{_<?_, _gives_, noLine, always, firstRefusal}
+use Rattle.table.specs.Table.{_<?_, _gives_, noSuchLine, always, firstRefusal}
 use Rattle.versions.specs.Store.{areasOf, linesIn, lineIn}
 use Rattle.assign.specs.Assign.{updateAt, numberBy, Roomy, allPut, roomRefusal, assignRefusal, withUpdate, withUpdateOf, withUpdatePart, withEntryOf, assignedBy, assignOut, assignRegister}
 use Rattle.register.proofs.Generated.Flow.{within}
