@@ -18,7 +18,7 @@ use Rattle.model.specs.History.{versionAt}
 use Rattle.model.specs.InTurn.{blobAt, bytesAt}
 use Rattle.model.specs.Stamp.{stampAt}
 use Rattle.model.specs.Model.{Limits, Model, lineAt, history}
-use Rattle.model.specs.OnModel.{lineNumber, readNumber, sizeNumber, pageNumber, onLine, onModel}
+use Rattle.model.specs.OnModel.{lineNumber, readNumber, sizeNumber, pageNumber, modelOutcome, onLine, onModel}
 use Rattle.model.proofs.Passed.{PagePassed, page-passed, stamp-answered}
 use Rattle.model.proofs.Stay.{SameUpTo, blob-stays, stamp-stays}
 
@@ -26,20 +26,20 @@ use Rattle.model.proofs.Stay.{SameUpTo, blob-stays, stamp-stays}
 
 module _ (L : Limits) (m : Model) (l : ℕ) (there : l < length (m .lines)) where
   pub recent-accepted : onModel L m (on l RECENT) .1 ≡ says (recentIs (lineAt m l .published))
-  unfolding onModel onLine lineRows
+  unfolding onModel onLine modelOutcome lineRows
   recent-accepted = let z : lineNumber L m l ≡ 0 = sym (first (skip there none)) in rw z
 
   module _ (v : ℕ) (p : v ≤ lineAt m l .published) where
     pub read-accepted : (offset len : ℕ) (buffer : List ℕ) → offset + len ≤ L .size * versionAt (history m l) v .size → len ≤ length buffer
         → onModel L m (on l (READ v offset len buffer)) .1
         ≡ record { answer = filled; buffer = take len (drop offset (bytesAt (history m l) v)) ++ drop len buffer }
-    unfolding onModel onLine readRows unless
+    unfolding onModel onLine modelOutcome readRows unless
     read-accepted offset len buffer q r =
         let z : readNumber L m l v offset len buffer ≡ 0 = sym (first (skip there (skip p (skip (inr q) (skip r none))))) in
         rw z
 
     pub size-accepted : onModel L m (on l (SIZE v)) .1 ≡ says (sizeIs (L .size * versionAt (history m l) v .size))
-    unfolding onModel onLine sizeRows
+    unfolding onModel onLine modelOutcome sizeRows
     size-accepted = let z : sizeNumber L m l v ≡ 0 = sym (first (skip there (skip p none))) in rw z
 
     module _ (i : ℕ) (q : i < versionAt (history m l) v .size) where
@@ -48,21 +48,21 @@ module _ (L : Limits) (m : Model) (l : ℕ) (there : l < length (m .lines)) wher
       page-there = sym (first (skip there (skip p (skip (inr q) none))))
 
       pub view-accepted : onModel L m (on l (VIEW v i)) .1 ≡ says (partIs (getD (blobAt (history m l) v) i []))
-      unfolding onModel onLine unless
+      unfolding onModel onLine modelOutcome unless
       view-accepted = rw page-there
 
       pub stamp-accepted : onModel L m (on l (STAMP v i)) .1 ≡ says (stampIs (stampAt (history m l) v i))
-      unfolding onModel onLine
+      unfolding onModel onLine modelOutcome
       stamp-accepted = rw page-there
 
     -- A page that the version does not have: VIEW hands out the empty part.
     pub view-refused : (i : ℕ) → versionAt (history m l) v .size ≤ i → onModel L m (on l (VIEW v i)) .1 ≡ says (partIs [])
-    unfolding onModel onLine unless pageRows
+    unfolding onModel onLine modelOutcome unless pageRows
     view-refused i q = let z : pageNumber L m l v i ≡ 17 = sym (first (skip there (skip p (hit (omega arith, q))))) in rw z
 
 -- What an answered STAMP says.
 pub stamp-passed : (L : Limits) (m : Model) (l v p w : ℕ) → onModel L m (on l (STAMP v p)) .1 ≡ says (stampIs w) → PagePassed m l v p × (stampAt (history m l) v p ≡ w)
-unfolding onModel onLine
+unfolding onModel onLine modelOutcome
 stamp-passed L m l v p w e =
     let r = stamp-answered (pageNumber L m l v p) (stampAt (history m l) v p) w e in
     (page-passed L m l v p (r .0), r .1)
@@ -91,18 +91,18 @@ module _ (L : Limits) (m w : Model) (l k v : ℕ) (there : l < length (m .lines)
 
   pub read-alike : (offset len : ℕ) (buffer : List ℕ)
       → onModel L w (on k (READ v offset len buffer)) .1 ≡ onModel L m (on l (READ v offset len buffer)) .1
-  unfolding onModel onLine readRows firstRefusal holds
+  unfolding onModel onLine modelOutcome readRows firstRefusal holds
   read-alike offset len buffer = rw (line-w, line-m, published-w, published-m, blob-alike, version-alike)
 
   pub view-alike : (i : ℕ) → onModel L w (on k (VIEW v i)) .1 ≡ onModel L m (on l (VIEW v i)) .1
-  unfolding onModel onLine pageRows firstRefusal holds
+  unfolding onModel onLine modelOutcome pageRows firstRefusal holds
   view-alike i = rw (line-w, line-m, published-w, published-m, blob-alike, version-alike)
 
   pub stamp-alike : (i : ℕ) → onModel L w (on k (STAMP v i)) .1 ≡ onModel L m (on l (STAMP v i)) .1
-  unfolding onModel onLine pageRows firstRefusal holds
+  unfolding onModel onLine modelOutcome pageRows firstRefusal holds
   stamp-alike i =
       rw (line-w, line-m, published-w, published-m, stamp-stays (history w k) (history m l) v same v (omega arith) i, version-alike)
 
   pub size-alike : onModel L w (on k (SIZE v)) .1 ≡ onModel L m (on l (SIZE v)) .1
-  unfolding onModel onLine sizeRows firstRefusal holds
+  unfolding onModel onLine modelOutcome sizeRows firstRefusal holds
   size-alike = rw (line-w, line-m, published-w, published-m, version-alike)

@@ -8,7 +8,7 @@ use lib.ListN.{length}
 use Rattle.table.proofs.Table.{unless-keeps}
 use Rattle.windows.specs.Windows.{insideSome}
 use Rattle.windows.specs.Listed.{textNumber}
-use Rattle.model.specs.Calls.{Call, BEGIN, PUT, WEAVE, SETWINDOWS, on, Act, WRITE, APPEND, PUBLISH, BRANCH, READ, SIZE, RECENT, STAMP, VIEW}
+use Rattle.model.specs.Calls.{Call, BEGIN, PUT, WEAVE, SETWINDOWS, on, Act, WRITE, APPEND, PUBLISH, BRANCH, ask, READ, SIZE, STAMP, VIEW}
 use Rattle.model.specs.History.{versionAt, blobSize, due}
 use Rattle.model.specs.InTurn.{blobAt, bytesAt}
 use Rattle.model.specs.Model.{Limits, Model, lineAt, history}
@@ -53,11 +53,7 @@ module _ (L : Limits) (m : Model) (S : Sound L m) where
       (grown-same m)
       (λ z. either-keeps (Grown m) (insideSome (m .windows) minute) m now (now-grown l (publish-passed L m l minute z .line)) (λ e. grown-same m))
   line-grown l (BRANCH v) = unless-keeps (Grown m) (branchNumber L m l v) m (branched L m l v) (grown-same m) (λ z. branched-grown L m l v)
-  line-grown l (READ v offset len buffer) = grown-same m
-  line-grown l (SIZE v) = grown-same m
-  line-grown l RECENT = grown-same m
-  line-grown l (STAMP v p) = grown-same m
-  line-grown l (VIEW v p) = grown-same m
+  line-grown l (ask q) = grown-same m
 
   pub step-grown : (c : Call) → Grown m (onModel L m c .0)
   unfolding onModel

@@ -2,17 +2,38 @@
 use Prim.Native.Nat.{ℕ, zero, suc}
 use mathlib.Core.List.{List, []}
 
--- What a call that names a line asks of it. ASSIGN is WRITE or APPEND; PUBLISH is given the minute of the week; the buffer to fill comes with the call.
+-- What a call only asks of a line, which moves nothing: some bytes of a version, its size, the last published one, a page's stamp, or the page. The buffer to
+-- fill comes with the call.
+pub data Query : Type 0 where
+  read : ℕ → ℕ → ℕ → List ℕ → Query
+  size : ℕ → Query
+  recent : Query
+  stamp : ℕ → ℕ → Query
+  view : ℕ → ℕ → Query
+
+-- What a call that names a line does there. ASSIGN is WRITE or APPEND; PUBLISH is given the minute of the week.
 pub data Act : Type 0 where
   WRITE : ℕ → ℕ → Act
   APPEND : ℕ → Act
   PUBLISH : ℕ → Act
   BRANCH : ℕ → Act
-  READ : ℕ → ℕ → ℕ → List ℕ → Act
-  SIZE : ℕ → Act
-  RECENT : Act
-  STAMP : ℕ → ℕ → Act
-  VIEW : ℕ → ℕ → Act
+  ask : Query → Act
+
+-- The documents' names of the queries.
+abbrev pub READ : ℕ → ℕ → ℕ → List ℕ → Act
+READ v offset len buffer = ask (read v offset len buffer)
+
+abbrev pub SIZE : ℕ → Act
+SIZE v = ask (size v)
+
+abbrev pub RECENT : Act
+RECENT = ask recent
+
+abbrev pub STAMP : ℕ → ℕ → Act
+STAMP v p = ask (stamp v p)
+
+abbrev pub VIEW : ℕ → ℕ → Act
+VIEW v p = ask (view v p)
 
 -- A call after FORMAT: one that names no line, with the bytes to put or the windows' text, or one on a line.
 pub data Call : Type 0 where

@@ -15,12 +15,12 @@ use Rattle.model.specs.History.{taken, allFilled, complete, due}
 use Rattle.model.specs.InTurn.{applied, blobAt, joined}
 use Rattle.model.specs.Stamp.{stampAt}
 use Rattle.model.specs.Model.{Limits, noModel, updateFrom}
-use Rattle.model.specs.OnModel.{onLine, onModel}
+use Rattle.model.specs.OnModel.{modelOutcome, onLine, onModel}
 use Rattle.model.specs.Run.{outcomes}
 
 -- All that a list of calls computes with on the model: what unfolds this unfolds every definition listed here.
 unfoldable pub computes : ℕ
-unfolding outcomes onModel onLine unless firstRefusal holds lineRows publishRows windowRows branchRows beginRows putRows assignRows weaveRows sizeRows readRows
+unfolding outcomes onModel onLine modelOutcome unless firstRefusal holds lineRows publishRows windowRows branchRows beginRows putRows assignRows weaveRows sizeRows readRows
     pageRows taken allFilled complete due applied blobAt joined stampAt updateFrom heightFrom rootHeight meets nodes count update newest used fieldNumber insideOne insideSome entryOf
     entryBy allWindows ended windowsIn textNumber
 computes = 0

@@ -7,7 +7,7 @@ use lib.ListN.{length, getD, set, replicate, take, drop}
 use Rattle.tree.specs.Tree.{Update, Node, node, countOf, weaving, update, newest}
 use Rattle.table.specs.Table.{always, firstRefusal, unless, beginRows, putRows, weaveRows}
 use Rattle.table.specs.Table.{lineRows, publishRows, branchRows, assignRows, sizeRows, readRows, pageRows}
-use Rattle.model.specs.Calls.{Call, BEGIN, PUT, WEAVE, SETWINDOWS, on, Act, WRITE, APPEND, PUBLISH, BRANCH, READ, SIZE, RECENT, STAMP, VIEW, Answer, ticketIs, putDone, versionIs, nodeIs, publishedIs, waiting, held, lineIs, windowsDone, filled, sizeIs, recentIs, stampIs, partIs, Outcome, says, answers}
+use Rattle.model.specs.Calls.{Call, BEGIN, PUT, WEAVE, SETWINDOWS, on, Act, WRITE, APPEND, PUBLISH, BRANCH, ask, Query, read, size, recent, stamp, view, Answer, ticketIs, putDone, versionIs, nodeIs, publishedIs, waiting, held, lineIs, windowsDone, filled, sizeIs, recentIs, stampIs, partIs, Outcome, says, answers}
 use Rattle.model.specs.History.{Ticket, Version, History, noTicket, pagesOf, versionAt, taken, toUpdate, updates, blobSize, isFilled, bitIf, allFilled, due}
 use Rattle.model.specs.InTurn.{blobAt, bytesAt}
 use Rattle.model.specs.Stamp.{stampAt}
@@ -186,7 +186,17 @@ module _ (L : Limits) where
       let k = assignNumber m l t f in
       (unless k m (assigned m l t f), says (answers k (versionIs (suc (length (lineAt m l .shown))) (countOf (nextUpdate m l t f)))))
 
-  -- One step on line l.
+  -- What a query of line l gives back.
+  unfoldable pub modelOutcome : Model → ℕ → Query → Outcome
+  modelOutcome m l (read v offset len buffer) =
+      let k = readNumber m l v offset len buffer in
+      record { answer = answers k filled; buffer = unless k buffer (take len (drop offset (bytesAt (history m l) v)) ++ drop len buffer) }
+  modelOutcome m l (size v) = says (answers (sizeNumber m l v) (sizeIs (L .size * versionAt (history m l) v .size)))
+  modelOutcome m l recent = says (answers (lineNumber m l) (recentIs (lineAt m l .published)))
+  modelOutcome m l (stamp v p) = says (answers (pageNumber m l v p) (stampIs (stampAt (history m l) v p)))
+  modelOutcome m l (view v p) = says (partIs (unless (pageNumber m l v p) [] (getD (blobAt (history m l) v) p [])))
+
+  -- One step on line l: a query moves nothing.
   unfoldable pub onLine : Model → ℕ → Act → Stepped
   onLine m l (WRITE t f) = assignStep m l t f
   onLine m l (APPEND t) = assignStep m l t (blobSize (history m l))
@@ -198,13 +208,7 @@ module _ (L : Limits) where
         says (answers k (either h held (either d (publishedIs (suc (lineAt m l .published))) waiting))),
       )
   onLine m l (BRANCH v) = let k = branchNumber m l v in (unless k m (branched m l v), says (answers k (lineIs (length (m .lines)))))
-  onLine m l (READ v offset len buffer) =
-      let k = readNumber m l v offset len buffer in
-      (m, record { answer = answers k filled; buffer = unless k buffer (take len (drop offset (bytesAt (history m l) v)) ++ drop len buffer) })
-  onLine m l (SIZE v) = (m, says (answers (sizeNumber m l v) (sizeIs (L .size * versionAt (history m l) v .size))))
-  onLine m l RECENT = (m, says (answers (lineNumber m l) (recentIs (lineAt m l .published))))
-  onLine m l (STAMP v p) = (m, says (answers (pageNumber m l v p) (stampIs (stampAt (history m l) v p))))
-  onLine m l (VIEW v p) = (m, says (partIs (unless (pageNumber m l v p) [] (getD (blobAt (history m l) v) p []))))
+  onLine m l (ask q) = (m, modelOutcome m l q)
 
   -- One step: where the table refuses, nothing moves.
   unfoldable pub onModel : Model → Call → Stepped

@@ -10,7 +10,7 @@ use Rattle.tree.specs.Walk.{used}
 use Rattle.table.proofs.Table.{unless-keeps}
 use Rattle.windows.specs.Windows.{inside, insideSome}
 use Rattle.windows.specs.Listed.{textNumber}
-use Rattle.model.specs.Calls.{Call, BEGIN, PUT, WEAVE, SETWINDOWS, on, Act, WRITE, APPEND, PUBLISH, BRANCH, READ, SIZE, RECENT, STAMP, VIEW}
+use Rattle.model.specs.Calls.{Call, BEGIN, PUT, WEAVE, SETWINDOWS, on, Act, WRITE, APPEND, PUBLISH, BRANCH, ask}
 use Rattle.model.specs.History.{taken, blobSize, due}
 use Rattle.model.specs.Model.{Limits, Model, noModel, history}
 use Rattle.model.specs.OnModel.{either, beginNumber, putNumber, weaveNumber, assignNumber, publishNumber, branchNumber, begun, filledAt, woven, withWindows, assigned, published, branched, onLine, onModel}
@@ -91,11 +91,7 @@ module _ {A : Type 0} (L : Limits) (m : Model) (S : SoundGiven A L m) where
       S
       (λ z. either-keeps (SoundGiven A L) (insideSome (m .windows) minute) m now (now-sound l (publish-passed L m l minute z .line)) (λ e. S))
   line-sound l (BRANCH v) = unless-keeps (SoundGiven A L) (branchNumber L m l v) m (branched L m l v) S (branch-sound L m l v S)
-  line-sound l (READ v offset len buffer) = S
-  line-sound l (SIZE v) = S
-  line-sound l RECENT = S
-  line-sound l (STAMP v p) = S
-  line-sound l (VIEW v p) = S
+  line-sound l (ask q) = S
 
 pub step-sound : {A : Type 0} (L : Limits) (m : Model) (c : Call) → SoundGiven A L m → SoundGiven A L (onModel L m c .0)
 unfolding onModel
