@@ -1,36 +1,35 @@
--- One call on a line in two matched states.
+-- One call on a line, other than a query, in two matched states.
 -- Assumes nothing.
 use mathlib.Core.Path.{_≡_, refl, sym, ap, ap₂, subst, _∙_}
 use mathlib.Core.Logic.{inl, inr}
 use mathlib.Core.Bool.{Bool, true, false, not, cond}
-use mathlib.Core.List.{List, [], _++_}
-use Prim.Native.Nat.{ℕ, zero, suc, _+_, _*_, _<_, max}
+use mathlib.Core.List.{List}
+use Prim.Native.Nat.{ℕ, suc, _+_, _<_, max}
 use native.Mathlib.Decide.{ℕ-discrete}
 use native.Mathlib.Omega.{arith}
 use borrow.Author.Tests.{le-leb, lt-leb}
 use lib.Dec.{leb, ltb}
-use lib.ListN.{length, getD, take, drop}
+use lib.ListN.{length}
 use Rattle.tree.specs.Tree.{nth, countOf}
 use Rattle.tree.proofs.Meets.{lt-or-le}
 use Rattle.table.specs.Table.{holds, firstRefusal, unless}
-use Rattle.table.specs.Table.{lineRows, publishRows, branchRows, assignRows, sizeRows, readRows, pageRows}
+use Rattle.table.specs.Table.{publishRows, branchRows, assignRows}
 use Rattle.windows.specs.Windows.{insideSome}
-use Rattle.model.specs.Calls.{WRITE, APPEND, PUBLISH, BRANCH, READ, SIZE, RECENT, STAMP, VIEW, Answer, versionIs, publishedIs, waiting, held, lineIs, filled, sizeIs, recentIs, stampIs, partIs, Outcome, says, answers}
+use Rattle.model.specs.Calls.{WRITE, APPEND, PUBLISH, BRANCH, versionIs, publishedIs, waiting, held, lineIs}
 use Rattle.model.specs.History.{Version, noVersion, ticketAt, pagesOf, blobSize, allFilled, due}
-use Rattle.model.specs.InTurn.{joined}
 use Rattle.model.specs.Model.{Limits, Model, lineAt, history, places}
-use Rattle.model.specs.OnModel.{ticketIn, either, lineNumber, publishNumber, published, branchNumber, branched, readNumber, sizeNumber, pageNumber, sizeAfter, nextVersion, nextUpdate, assignNumber, assigned as withAssigned, assignStep, onLine}
+use Rattle.model.specs.OnModel.{ticketIn, either, publishNumber, published, branchNumber, branched, sizeAfter, nextVersion, nextUpdate, assignNumber, assigned as withAssigned, assignStep, onLine}
 use Rattle.model.proofs.Nth.{length-snoc}
 use Rattle.model.proofs.Passed.{AssignPassed, assign-passed, publish-passed, branch-passed}
 use Rattle.model.proofs.Shown.{versions-length}
 use Rattle.model.proofs.Histories.{published-history, assigned-history}
-use Rattle.isolation.specs.Isolation.{ownNumber, absent, Written, SameLine, Match, Excused, byList, notBegun, Numbered, SameAnswer, word, line, Same, Compare}
+use Rattle.isolation.specs.Isolation.{ownNumber, absent, Written, SameLine, Match, byList, SameAnswer, word, line}
 use Rattle.isolation.proofs.Lists.{nth-snocs}
 use Rattle.isolation.proofs.Kept.{Kept}
 use Rattle.isolation.proofs.Match.{line-by, line-between, match-sym, match-framed}
 use Rattle.isolation.proofs.Tickets.{Pair}
 use Rattle.isolation.proofs.Frame.{own-other, own-new, frame-branched}
-use Rattle.isolation.proofs.Alike.{size-same, blob-same, pages-same, stamp-same, due-same}
+use Rattle.isolation.proofs.Alike.{blob-same, due-same}
 use Rattle.isolation.proofs.Refusals.{IsRefusal, no-refusal, fine-row, Alike, alike, mine, yours, alike-row, alike-fine, twin, Step}
 use Rattle.isolation.proofs.Calls.{alike-open, other-left, these-two}
 
@@ -39,11 +38,6 @@ not-refused : (h d : Bool) (v : ℕ) → IsRefusal (either h held (either d (pub
 not-refused true d v = elim [ ]
 not-refused false true v = elim [ ]
 not-refused false false v = elim [ ]
-
--- A refusal tells no number.
-not-numbered : (r : ℕ) {a : Answer} → (Numbered a → ⊥) → Numbered (answers r a) → ⊥
-not-numbered zero f = f
-not-numbered (suc r) f = elim [ ]
 
 module _ (L : Limits) {l l′ : ℕ} {ts ts′ : List ℕ} {m m′ : Model} (M : Match l l′ ts ts′ m m′) where
   -- Row 20, and the rows after it: these are alike where both lines have begun.
@@ -56,64 +50,6 @@ module _ (L : Limits) {l l′ : ℕ} {ts ts′ : List ℕ} {m m′ : Model} (M :
     ]
     | inr h ↦ rw (le-leb (length (m .lines)) l h) (mine (omega arith) (byList refl))
   ]
-
-  -- ---- the calls that move nothing
-
-  -- Where both lines have begun they give back the same; where one has not, its answer is excused.
-  still : (o o′ : Outcome) → (SameLine (history m l) (history m′ l′) → leb (length (m .lines)) l ≡ false → leb (length (m′ .lines)) l′ ≡ false → o ≡ o′)
-      → (Numbered (o .answer) → ⊥) → (leb (length (m .lines)) l ≡ true → Excused l m 0 (o .answer)) → (leb (length (m′ .lines)) l′ ≡ true → Excused l′ m′ 0 (o′ .answer))
-      → Compare l l′ m m′ 0 0 o o′ (Match l l′ ts ts′ m m′)
-  still o o′ f w g g′ = (
-    elim (lt-or-le l (length (m .lines))) [
-      | inl b ↦ elim (lt-or-le l′ (length (m′ .lines))) [
-        | inl b′ ↦ inl (subst (Same l l′ m m′ 0 0 o) (f (M .lines b b′) (lt-leb (length (m .lines)) l b) (lt-leb (length (m′ .lines)) l′ b′)) (word w, refl))
-        | inr h ↦ inr (inr (g′ (le-leb (length (m′ .lines)) l′ h)))
-      ]
-      | inr h ↦ inr (inl (g (le-leb (length (m .lines)) l h)))
-    ],
-    λ s. M,
-  )
-
-  pub twin-read : (v offset len : ℕ) (buffer : List ℕ) → Step l l′ ts ts′ m m′ 0 0 (onLine L m l (READ v offset len buffer)) (onLine L m′ l′ (READ v offset len buffer))
-  unfolding onLine firstRefusal readRows holds
-  twin-read v offset len buffer = still (onLine L m l (READ v offset len buffer) .1) (onLine L m′ l′ (READ v offset len buffer) .1)
-      (λ X e e′.
-      let r : readNumber L m l v offset len buffer ≡ readNumber L m′ l′ v offset len buffer = rw (e, e′, X .published, size-same X v) in
-      ap₂ (λ k pages. record { answer = answers k filled; buffer = unless k buffer (take len (drop offset (joined pages)) ++ drop len buffer) }) r (pages-same X v))
-      (not-numbered (readNumber L m l v offset len buffer) (elim [ ])) (λ e. rw e (byList refl)) (λ e. rw e (byList refl))
-
-  pub twin-size : (v : ℕ) → Step l l′ ts ts′ m m′ 0 0 (onLine L m l (SIZE v)) (onLine L m′ l′ (SIZE v))
-  unfolding onLine firstRefusal sizeRows holds
-  twin-size v = still (onLine L m l (SIZE v) .1) (onLine L m′ l′ (SIZE v) .1)
-      (λ X e e′.
-      let r : sizeNumber L m l v ≡ sizeNumber L m′ l′ v = rw (e, e′, X .published) in
-      ap₂ (λ k n. says (answers k (sizeIs (L .size * n)))) r (size-same X v))
-      (not-numbered (sizeNumber L m l v) (elim [ ])) (λ e. rw e (byList refl)) (λ e. rw e (byList refl))
-
-  pub twin-recent : Step l l′ ts ts′ m m′ 0 0 (onLine L m l RECENT) (onLine L m′ l′ RECENT)
-  unfolding onLine firstRefusal lineRows holds
-  twin-recent = still (onLine L m l RECENT .1) (onLine L m′ l′ RECENT .1)
-      (λ X e e′.
-      let r : lineNumber L m l ≡ lineNumber L m′ l′ = rw (e, e′) in
-      ap₂ (λ k v. says (answers k (recentIs v))) r (X .published))
-      (not-numbered (lineNumber L m l) (elim [ ])) (λ e. rw e (byList refl)) (λ e. rw e (byList refl))
-
-  page-same : SameLine (history m l) (history m′ l′) → leb (length (m .lines)) l ≡ false → leb (length (m′ .lines)) l′ ≡ false → (v p : ℕ)
-      → pageNumber L m l v p ≡ pageNumber L m′ l′ v p
-  unfolding firstRefusal pageRows holds
-  page-same X e e′ v p = rw (e, e′, X .published, size-same X v)
-
-  pub twin-stamp : (v p : ℕ) → Step l l′ ts ts′ m m′ 0 0 (onLine L m l (STAMP v p)) (onLine L m′ l′ (STAMP v p))
-  unfolding onLine firstRefusal pageRows holds
-  twin-stamp v p = still (onLine L m l (STAMP v p) .1) (onLine L m′ l′ (STAMP v p) .1)
-      (λ X e e′. ap₂ (λ k w. says (answers k (stampIs w))) (page-same X e e′ v p) (stamp-same X v p))
-      (not-numbered (pageNumber L m l v p) (elim [ ])) (λ e. rw e (byList refl)) (λ e. rw e (byList refl))
-
-  pub twin-view : (v p : ℕ) → Step l l′ ts ts′ m m′ 0 0 (onLine L m l (VIEW v p)) (onLine L m′ l′ (VIEW v p))
-  unfolding onLine firstRefusal pageRows holds unless
-  twin-view v p = still (onLine L m l (VIEW v p) .1) (onLine L m′ l′ (VIEW v p) .1)
-      (λ X e e′. ap₂ (λ k pages. says (partIs (unless k [] (getD pages p [])))) (page-same X e e′ v p) (pages-same X v))
-      (elim [ ]) (λ e. rw e (notBegun e)) (λ e. rw e (notBegun e))
 
   -- ---- BRANCH
   alike-branch : (v : ℕ) → Alike l l′ m m′ 0 0 (branchNumber L m l v) (branchNumber L m′ l′ v)

@@ -13,7 +13,7 @@ use Rattle.tree.specs.Tree.{nth}
 use Rattle.table.specs.Table.{unless}
 use Rattle.table.proofs.Table.{unless-keeps}
 use Rattle.windows.specs.Windows.{insideSome}
-use Rattle.model.specs.Calls.{Call, BEGIN, PUT, WEAVE, Act, WRITE, APPEND, PUBLISH, BRANCH, READ, SIZE, RECENT, STAMP, VIEW}
+use Rattle.model.specs.Calls.{Call, BEGIN, PUT, WEAVE, Act, WRITE, APPEND, PUBLISH, BRANCH, ask}
 use Rattle.model.specs.History.{Ticket, Version, History, noTicket, ticketAt, versionAt, blobSize, due}
 use Rattle.model.specs.Model.{Limits, Model, lineAt, updateAt, ticketUpdate, history}
 use Rattle.model.specs.OnModel.{ticketIn, either, beginNumber, begun as withTicket, putNumber, filledAt, publishNumber, published, branched, onLine, onModel, weaveNumber, woven, branchNumber, nextVersion, assignNumber, assigned as withAssigned, assignStep}
@@ -161,11 +161,7 @@ module _ (L : Limits) (l : ℕ) (ts : List ℕ) (m : Model) (S : Kept L m) (T : 
         frame-unless (publishNumber L m k minute) (either (insideSome (m .windows) minute) m now) λ z.
         either-keeps (Framed l ts m) (insideSome (m .windows) minute) m now (frame-publish (publish-passed L m k minute z .line)) (λ e. stay)
     frame-act (BRANCH v) = frame-branch k v
-    frame-act (READ v offset len buffer) = stay
-    frame-act (SIZE v) = stay
-    frame-act RECENT = stay
-    frame-act (STAMP v p) = stay
-    frame-act (VIEW v p) = stay
+    frame-act (ask q) = stay
 
   pub frame : {l′ : ℕ} {m′ : Model} {c : Call} → Aside L l l′ ts m m′ c → Framed l ts m (onModel L m c .0)
   unfolding onModel

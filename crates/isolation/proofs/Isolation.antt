@@ -9,7 +9,7 @@ use Rattle.model.specs.OnModel.{onModel}
 use Rattle.model.specs.Run.{run}
 use Rattle.model.proofs.Runs.{run-append}
 use Rattle.model.proofs.Kept.Every.{sound-after}
-use Rattle.isolation.specs.Isolation.{SameCall, put, weave, setWindows, write, append, publish, branch, read, size, recent, stamp, view, modelGives, Twins, end, first, second, begin, both, Agree, Match, after, IsolatedBy, Isolated}
+use Rattle.isolation.specs.Isolation.{SameCall, put, weave, setWindows, write, append, publish, branch, query, modelGives, Twins, end, first, second, begin, both, Agree, Match, after, IsolatedBy, Isolated}
 use Rattle.isolation.proofs.Kept.{Kept}
 use Rattle.isolation.proofs.Match.{match-sym, match-refl}
 use Rattle.isolation.proofs.Tickets.{pair}
@@ -17,7 +17,8 @@ use Rattle.isolation.proofs.Frame.{match-aside}
 use Rattle.isolation.proofs.Begins.{match-branch}
 use Rattle.isolation.proofs.Refusals.{Step}
 use Rattle.isolation.proofs.Calls.{twin-begin, twin-put, twin-windows, twin-weave}
-use Rattle.isolation.proofs.Acts.{twin-read, twin-size, twin-recent, twin-stamp, twin-view, twin-branch, twin-publish, twin-write, twin-append}
+use Rattle.isolation.proofs.Queries.{twin-query}
+use Rattle.isolation.proofs.Acts.{twin-branch, twin-publish, twin-write, twin-append}
 
 step : (L : Limits) {l l′ : ℕ} {ts ts′ : List ℕ} {m m′ : Model} → Kept L m → Kept L m′ → Match l l′ ts ts′ m m′
     → {t t′ : ℕ} {c c′ : Call} → SameCall l l′ ts ts′ m m′ t t′ c c′ → Step l l′ ts ts′ m m′ t t′ (onModel L m c) (onModel L m′ c′)
@@ -29,11 +30,7 @@ step L S S′ M (write {t = t} {t′ = t′} s f) = twin-write L M S S′ t t′
 step L S S′ M (append {t = t} {t′ = t′} s) = twin-append L M S S′ t t′ (pair M S S′ s)
 step L S S′ M (publish minute) = twin-publish L M minute
 step L S S′ M (branch v) = twin-branch L M S S′ v
-step L S S′ M (read v offset len buffer) = twin-read L M v offset len buffer
-step L S S′ M (size v) = twin-size L M v
-step L S S′ M recent = twin-recent L M
-step L S S′ M (stamp v p) = twin-stamp L M v p
-step L S S′ M (view v p) = twin-view L M v p
+step L S S′ M (query q) = twin-query L M q
 
 kept : (L : Limits) (cs : List Call) → Kept L (after L cs)
 kept L cs = sound-after L tt cs

@@ -8,6 +8,7 @@ pub mod Frame
 pub mod Alike
 pub mod Refusals
 pub mod Calls
+pub mod Queries
 pub mod Acts
 pub mod Begins
 pub mod Isolation

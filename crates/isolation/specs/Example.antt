@@ -4,13 +4,13 @@ use mathlib.Core.Path.{_≡_, refl}
 use mathlib.Core.List.{List, [], _∷_, _++_}
 use Prim.Native.Nat.{ℕ, zero, suc}
 use lib.ListN.{replicate}
-use Rattle.model.specs.Calls.{Call, BEGIN, PUT, WEAVE, on, WRITE, APPEND, PUBLISH, BRANCH, READ, RECENT, VIEW, Outcome, says, refused, ticketIs, putDone, versionIs, nodeIs, publishedIs, lineIs, filled, recentIs, partIs}
+use Rattle.model.specs.Calls.{Call, BEGIN, PUT, WEAVE, on, WRITE, APPEND, PUBLISH, BRANCH, READ, RECENT, VIEW, read, recent, view, Outcome, says, refused, ticketIs, putDone, versionIs, nodeIs, publishedIs, lineIs, filled, recentIs, partIs}
 use Rattle.model.specs.Example.{computes, limits, pageOf}
 use Rattle.model.specs.OnModel.{onModel}
 use Rattle.model.specs.Run.{run, outcomes}
 use Rattle.model.specs.History.{History}
 use Rattle.model.specs.Model.{Limits, history}
-use Rattle.isolation.specs.Isolation.{among, writtenAt, wovenAt, SameLine, newTicket, otherPut, otherWeave, otherLine, newLine, kth, put, weave, append, publish, branch, read, recent, view, Twins, end, first, second, begin, both, after}
+use Rattle.isolation.specs.Isolation.{among, writtenAt, wovenAt, SameLine, newTicket, otherPut, otherWeave, otherLine, newLine, kth, put, weave, append, publish, branch, query, Twins, end, first, second, begin, both, after}
 
 -- ---- line 0, and a planner on line 1
 
@@ -45,7 +45,7 @@ unfolding computes run limits before alone beside among
 twins =
     second (newLine tt) (second newTicket (begin 1 (second (otherPut refl) (both (put (kth 1) 0 (pageOf 20)) (second (otherLine refl tt) (both (append (kth 1)) (
     second (otherWeave refl) (both (weave (kth 1) refl refl) (second (otherWeave refl) (second (otherLine refl tt) (both (weave (kth 1) refl refl) (
-    both (publish 0) (both (read 2 15 2 (7 ∷ 7 ∷ [])) end)))))))))))))
+    both (publish 0) (both (query (read 2 15 2 (7 ∷ 7 ∷ []))) end)))))))))))))
 
 -- Line 0's answers, as they come in the first list.
 pub given : outcomes (onModel limits) (after limits before) alone
@@ -205,7 +205,7 @@ pub first-20 : Differ (room 8 8 8) 1
     (says (refused 20) ∷ says (refused 20) ∷ [])
     (says (refused 20) ∷ says (lineIs 1) ∷ says (recentIs 0) ∷ [])
 unfolding computes run
-first-20 = record { twins = both recent (second (newLine tt) (both recent end)); given = refl; given′ = refl }
+first-20 = record { twins = both (query recent) (second (newLine tt) (both (query recent) end)); given = refl; given′ = refl }
 
 -- VIEW tells no number: of a line that has not begun it hands out the empty part.
 pub first-view : Differ (room 8 8 8) 1
@@ -215,7 +215,7 @@ pub first-view : Differ (room 8 8 8) 1
     (says (ticketIs 1) ∷ says putDone ∷ says (versionIs 1 1) ∷ says (nodeIs 1 0 1 0 0 0) ∷ says (publishedIs 1) ∷ says (lineIs 1) ∷ says (partIs (pageOf 10)) ∷ [])
 unfolding computes run before among
 first-view = record {
-  twins = second newTicket (second (otherPut refl) (second (otherLine refl tt) (second (otherWeave refl) (second (otherLine refl tt) (second (newLine tt) (both (view 1 0) end))))));
+  twins = second newTicket (second (otherPut refl) (second (otherLine refl tt) (second (otherWeave refl) (second (otherLine refl tt) (second (newLine tt) (both (query (view 1 0)) end))))));
   given = refl;
   given′ = refl;
 }

@@ -11,7 +11,7 @@ use lib.Dec.{leb, ltb, eqb}
 use lib.ListN.{length}
 use Rattle.tree.specs.Tree.{nth}
 use Rattle.table.specs.Table.{unless}
-use Rattle.model.specs.Calls.{Call, BEGIN, PUT, WEAVE, SETWINDOWS, on, Act, WRITE, APPEND, PUBLISH, BRANCH, READ, SIZE, RECENT, STAMP, VIEW, Answer, refused, ticketIs, nodeIs, lineIs, partIs, Outcome, says}
+use Rattle.model.specs.Calls.{Call, BEGIN, PUT, WEAVE, SETWINDOWS, on, Act, WRITE, APPEND, PUBLISH, BRANCH, ask, Query, Answer, refused, ticketIs, nodeIs, lineIs, partIs, Outcome, says}
 use Rattle.model.specs.History.{Page, Ticket, Version, History, noTicket, ticketAt, versionAt, taken}
 use Rattle.model.specs.Model.{Limits, Model, noModel, updateAt, history, ticketUpdate, numberIn}
 use Rattle.model.specs.OnModel.{either, beginNumber, onModel}
@@ -124,11 +124,7 @@ module _ (l l′ : ℕ) (ts ts′ : List ℕ) (m m′ : Model) where
     append : {t t′ : ℕ} → SameTicket t t′ → SameCall t t′ (on l (APPEND t)) (on l′ (APPEND t′))
     publish : (minute : ℕ) → SameCall 0 0 (on l (PUBLISH minute)) (on l′ (PUBLISH minute))
     branch : (v : ℕ) → SameCall 0 0 (on l (BRANCH v)) (on l′ (BRANCH v))
-    read : (v offset len : ℕ) (buffer : List ℕ) → SameCall 0 0 (on l (READ v offset len buffer)) (on l′ (READ v offset len buffer))
-    size : (v : ℕ) → SameCall 0 0 (on l (SIZE v)) (on l′ (SIZE v))
-    recent : SameCall 0 0 (on l RECENT) (on l′ RECENT)
-    stamp : (v p : ℕ) → SameCall 0 0 (on l (STAMP v p)) (on l′ (STAMP v p))
-    view : (v p : ℕ) → SameCall 0 0 (on l (VIEW v p)) (on l′ (VIEW v p))
+    query : (q : Query) → SameCall 0 0 (on l (ask q)) (on l′ (ask q))
 
 -- ---- answers
 
