@@ -10,10 +10,10 @@ use lib.ListN.{length, getD}
 use Rattle.table.specs.Table.{holds, Row, _gives_, firstRefusal, beginRows, putRows, assignRows, weaveRows, lineRows, publishRows, windowRows, branchRows, sizeRows, readRows, pageRows}
 use Rattle.windows.specs.Windows.{insideSome}
 use Rattle.windows.specs.Listed.{textNumber}
-use Rattle.model.specs.Calls.{Call, BEGIN, PUT, WEAVE, SETWINDOWS, on, Act, WRITE, APPEND, PUBLISH, BRANCH, READ, SIZE, RECENT, STAMP, VIEW, Answer, refused, publishedIs, waiting, held, says, answers}
+use Rattle.model.specs.Calls.{Call, BEGIN, PUT, WEAVE, SETWINDOWS, on, Act, WRITE, APPEND, PUBLISH, BRANCH, ask, Query, read, size, recent, stamp, view, Answer, refused, publishedIs, waiting, held, says, answers}
 use Rattle.model.specs.History.{due}
 use Rattle.model.specs.Model.{Limits, Model, history}
-use Rattle.model.specs.OnModel.{onLine, onModel, either}
+use Rattle.model.specs.OnModel.{modelOutcome, onLine, onModel, either}
 use Rattle.model.specs.Run.{outcomes}
 use Rattle.demands.specs.Demands.{NoFault}
 
@@ -54,17 +54,21 @@ published-fine true b v = fine _ λ k e. zero-one (cc)
 published-fine false true v = fine _ λ k e. zero-one (cc)
 published-fine false false v = fine _ λ k e. zero-one (cc)
 
+query-fine : (L : Limits) (m : Model) (l : ℕ) (q : Query) → NoFault (modelOutcome L m l q .answer)
+unfolding modelOutcome lineRows sizeRows readRows pageRows
+query-fine L m l (read v offset len buffer) = by-rows _ _ (omega arith) (omega arith) (fine _ λ k e. zero-one (cc))
+query-fine L m l (size v) = by-rows _ _ (omega arith) (omega arith) (fine _ λ k e. zero-one (cc))
+query-fine L m l recent = by-rows _ _ (omega arith) (omega arith) (fine _ λ k e. zero-one (cc))
+query-fine L m l (stamp v p) = by-rows _ _ (omega arith) (omega arith) (fine _ λ k e. zero-one (cc))
+query-fine L m l (view v p) = fine _ λ k e. zero-one (cc)
+
 line-fine : (L : Limits) (m : Model) (l : ℕ) (a : Act) → NoFault (onLine L m l a .1 .answer)
-unfolding onLine assignRows lineRows publishRows branchRows sizeRows readRows pageRows
+unfolding onLine assignRows publishRows branchRows
 line-fine L m l (WRITE t f) = by-rows _ _ (omega arith) (omega arith) (fine _ λ k e. zero-one (cc))
 line-fine L m l (APPEND t) = by-rows _ _ (omega arith) (omega arith) (fine _ λ k e. zero-one (cc))
 line-fine L m l (PUBLISH minute) = by-rows _ _ (omega arith) (omega arith) (published-fine (insideSome (m .windows) minute) (due (history m l)) _)
 line-fine L m l (BRANCH v) = by-rows _ _ (omega arith) (omega arith) (fine _ λ k e. zero-one (cc))
-line-fine L m l (READ v offset len buffer) = by-rows _ _ (omega arith) (omega arith) (fine _ λ k e. zero-one (cc))
-line-fine L m l (SIZE v) = by-rows _ _ (omega arith) (omega arith) (fine _ λ k e. zero-one (cc))
-line-fine L m l RECENT = by-rows _ _ (omega arith) (omega arith) (fine _ λ k e. zero-one (cc))
-line-fine L m l (STAMP v p) = by-rows _ _ (omega arith) (omega arith) (fine _ λ k e. zero-one (cc))
-line-fine L m l (VIEW v p) = fine _ λ k e. zero-one (cc)
+line-fine L m l (ask q) = query-fine L m l q
 
 pub step-fine : (L : Limits) (m : Model) (c : Call) → NoFault (onModel L m c .1 .answer)
 unfolding onModel beginRows putRows weaveRows textNumber windowRows

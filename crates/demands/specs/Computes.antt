@@ -28,10 +28,10 @@ use Rattle.descent.specs.Places.{hasNodeBy, placeIn}
 use Rattle.walk.specs.FindPage.{reachFrom, findPage, pageNumberOf}
 use Rattle.read.specs.Read.{someLost, readNumber, byteOf, bytesFrom}
 use Rattle.stamp.specs.Stamp.{stampNumber, leafAsOf, sinceBy}
-use Rattle.demands.specs.Run.{onLineOf, onStore, formattedState}
+use Rattle.demands.specs.Run.{storeOutcome, onLineOf, onStore, formattedState}
 
 unfoldable pub computes : ℕ
-unfolding onTheModel run onLineOf onStore formattedState orElse formatRows formatRefusal beginRefusal bitOf withBit putRefusal assignRefusal nextNode weaveRefusal
+unfolding onTheModel run storeOutcome onLineOf onStore formattedState orElse formatRows formatRefusal beginRefusal bitOf withBit putRefusal assignRefusal nextNode weaveRefusal
     newestOwn olderNumber publishNumber dueBy branchNumber setNumber inside placed bytesBy sizeNumber recentNumber hasNodeBy placeIn reachFrom findPage pageNumberOf someLost
     readNumber byteOf bytesFrom stampNumber leafAsOf sinceBy put part packed lineIn ownerFrom entryAt withEntry updateOf withRecord versionRecord withNode nodeAt hasNode reachBy sizeAt
     below kth first index ones halvings nodeNumbered rootSpan rootIn heightIn

@@ -3,7 +3,7 @@ use mathlib.Core.List.{List}
 use Prim.Native.Nat.{ℕ}
 use Rattle.versions.specs.declared.Store.{Store}
 use Rattle.register.specs.declared.Record.{Record}
-use Rattle.model.specs.Calls.{Call, BEGIN, PUT, WEAVE, SETWINDOWS, on, Act, WRITE, APPEND, PUBLISH, BRANCH, READ, SIZE, RECENT, STAMP, VIEW, partIs, Outcome, says}
+use Rattle.model.specs.Calls.{Call, BEGIN, PUT, WEAVE, SETWINDOWS, on, Act, WRITE, APPEND, PUBLISH, BRANCH, ask, Query, read, size, recent, stamp, view, partIs, Outcome, says}
 use Rattle.model.specs.Model.{Limits}
 use Rattle.model.specs.Run.{run}
 use Rattle.demands.specs.Answers.{begunAnswer, putAnswer, assignedAnswer, wovenAnswer, publishedAnswer, branchedAnswer, windowsAnswer, filledAnswer, sizedAnswer, latestAnswer, stampedAnswer}
@@ -40,7 +40,19 @@ assignCall x l t f =
       says (assignedAnswer (o .answer)),
     )
 
--- One call on line l of a store: what its promise says it answers and leaves.
+-- What a query of line l of a store gives back, as its promise says.
+unfoldable pub storeOutcome : State → ℕ → Query → Outcome
+storeOutcome x l (read v offset len buffer) =
+    record {
+      answer = filledAnswer (readOut (x .store) (x .areas) l v offset len buffer);
+      buffer = readBuffer (x .store) (x .areas) l v offset len buffer;
+    }
+storeOutcome x l (size v) = says (sizedAnswer (sizeOut (x .store) (x .areas) l v))
+storeOutcome x l recent = says (latestAnswer (recentOut (x .store) (x .areas) l))
+storeOutcome x l (stamp v p) = says (stampedAnswer (stampOut (x .store) (x .areas) l v p))
+storeOutcome x l (view v p) = says (partIs (viewPart (x .store) (x .areas) l v p))
+
+-- One call on line l of a store: what its promise says it answers and leaves. A query leaves all as it was.
 unfoldable pub onLineOf : State → ℕ → Act → State × Outcome
 onLineOf x l (WRITE t f) = assignCall x l t f
 onLineOf x l (APPEND t) = assignCall x l t (lineIn (x .store) l .blob)
@@ -50,17 +62,7 @@ onLineOf x l (PUBLISH minute) =
 onLineOf x l (BRANCH v) =
     let o = branchOut (x .store) (x .areas) l v in
     (record { store = o .store; windows = x .windows; areas = x .areas }, says (branchedAnswer (o .answer)))
-onLineOf x l (READ v offset len buffer) = (
-  x,
-  record {
-    answer = filledAnswer (readOut (x .store) (x .areas) l v offset len buffer);
-    buffer = readBuffer (x .store) (x .areas) l v offset len buffer;
-  },
-)
-onLineOf x l (SIZE v) = (x, says (sizedAnswer (sizeOut (x .store) (x .areas) l v)))
-onLineOf x l RECENT = (x, says (latestAnswer (recentOut (x .store) (x .areas) l)))
-onLineOf x l (STAMP v p) = (x, says (stampedAnswer (stampOut (x .store) (x .areas) l v p)))
-onLineOf x l (VIEW v p) = (x, says (partIs (viewPart (x .store) (x .areas) l v p)))
+onLineOf x l (ask q) = (x, storeOutcome x l q)
 
 -- One call on a store.
 unfoldable pub onStore : State → Call → State × Outcome

@@ -13,11 +13,11 @@ use Rattle.versions.specs.Store.{Areas, numberOn, partOn}
 use Rattle.versions.specs.Size.{isThere, notThere, bytesIn}
 use Rattle.walk.specs.FindPage.{pageNumberOf, isLost}
 use Rattle.read.specs.Read.{someLost, pagesTouched, readNumber, byteOf, bytesFrom}
-use Rattle.model.specs.Calls.{on, READ}
+use Rattle.model.specs.Calls.{read}
 use Rattle.model.specs.History.{versionAt}
 use Rattle.model.specs.InTurn.{blobAt, bytesAt}
 use Rattle.model.specs.Model.{Limits, Model, lineAt, history, numberIn}
-use Rattle.model.specs.OnModel.{onLine, onModel, readNumber as modelNumber}
+use Rattle.model.specs.OnModel.{modelOutcome, readNumber as modelNumber}
 use Rattle.model.proofs.Sound.{Sound}
 use Rattle.model.proofs.SoundHistory.{line-history}
 use Rattle.model.proofs.Shown.{versions-length}
@@ -27,7 +27,7 @@ use Rattle.model.proofs.Blob.{bytes-range}
 use Rattle.model.proofs.Found.{page-byte}
 use Rattle.model.proofs.Passed.{read-passed}
 use Rattle.model.proofs.Woven.{published-upto}
-use Rattle.demands.specs.Run.{onLineOf, onStore}
+use Rattle.demands.specs.Run.{storeOutcome}
 use Rattle.demands.proofs.Image.{storeImage, areasImage, image}
 use Rattle.demands.proofs.Lines.{lines-in, line-in, number-on}
 use Rattle.demands.proofs.Readings.{filled-reads}
@@ -104,10 +104,9 @@ module _ (L : Limits) (m : Model) (S : Sound L m) (l v offset len : ℕ) (buffer
       let w = published-upto L m S l (g .line) v (g .published) in
       (name-there L m S l (g .line) v w, rw (number-on L m S l (g .line) v w) (lost-none L m S l (g .line) v offset len (g .published) (g .inside)))))
 
-  pub read-step : onStore (image L m) (on l (READ v offset len buffer))
-      ≡ (image L (onModel L m (on l (READ v offset len buffer)) .0), onModel L m (on l (READ v offset len buffer)) .1)
-  unfolding onStore onLineOf onModel onLine
-  read-step =
+  pub read-outcome : storeOutcome (image L m) l (read v offset len buffer) ≡ modelOutcome L m l (read v offset len buffer)
+  unfolding storeOutcome modelOutcome
+  read-outcome =
       rw (
         read-number,
         filled-reads (modelNumber L m l v offset len buffer),

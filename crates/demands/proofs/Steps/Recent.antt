@@ -6,11 +6,11 @@ use native.Mathlib.Omega.{arith}
 use lib.ListN.{length}
 use Rattle.table.specs.Table.{never, lineRows}
 use Rattle.versions.specs.Recent.{recentNumber}
-use Rattle.model.specs.Calls.{on, RECENT, says}
+use Rattle.model.specs.Calls.{recent, says}
 use Rattle.model.specs.Model.{Limits, Model, lineAt}
-use Rattle.model.specs.OnModel.{onLine, onModel, lineNumber}
+use Rattle.model.specs.OnModel.{modelOutcome, lineNumber}
 use Rattle.model.proofs.Sound.{Sound}
-use Rattle.demands.specs.Run.{onLineOf, onStore}
+use Rattle.demands.specs.Run.{storeOutcome}
 use Rattle.demands.proofs.Image.{storeImage, areasImage, image}
 use Rattle.demands.proofs.Lines.{lines-in, line-in}
 use Rattle.demands.proofs.Readings.{latest-reads}
@@ -22,6 +22,6 @@ module _ (L : Limits) (m : Model) (S : Sound L m) (l : ℕ) where
   recent-number =
       rw (lines-in L m S) (let rows = lineRows l (length (m .lines)) in image-number L m S rows rows never (alike-same rows) (λ z. omega arith))
 
-  pub recent-step : onStore (image L m) (on l RECENT) ≡ (image L (onModel L m (on l RECENT) .0), onModel L m (on l RECENT) .1)
-  unfolding onStore onLineOf onModel onLine
-  recent-step = rw (recent-number, line-in L m S l) (ap (λ x. (image L m, says x)) (latest-reads (lineNumber L m l) (lineAt m l .published)))
+  pub recent-outcome : storeOutcome (image L m) l recent ≡ modelOutcome L m l recent
+  unfolding storeOutcome modelOutcome
+  recent-outcome = rw (recent-number, line-in L m S l) (ap says (latest-reads (lineNumber L m l) (lineAt m l .published)))

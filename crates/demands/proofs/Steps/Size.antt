@@ -12,10 +12,10 @@ use Rattle.register.proofs.Records.{version-own}
 use Rattle.versions.specs.Store.{linesIn, lineIn, numberOn, partOn}
 use Rattle.versions.specs.Size.{pagesBy, pagesIn, bytesBy, bytesIn, notThere, sizeNumber, sized}
 use Rattle.table.specs.Table.{firstRefusal, sizeRows}
-use Rattle.model.specs.Calls.{on, SIZE, sizeIs, says, answers}
+use Rattle.model.specs.Calls.{size, sizeIs, says, answers}
 use Rattle.model.specs.History.{versionAt}
 use Rattle.model.specs.Model.{Limits, Model, lineAt, history, numberIn}
-use Rattle.model.specs.OnModel.{onLine, onModel, sizeNumber as modelNumber}
+use Rattle.model.specs.OnModel.{modelOutcome, sizeNumber as modelNumber}
 use Rattle.model.proofs.Sound.{Sound}
 use Rattle.model.proofs.SoundHistory.{line-history, size-small}
 use Rattle.model.proofs.Shown.{shownAt, versions-length}
@@ -23,7 +23,7 @@ use Rattle.model.proofs.Updates.{update-at}
 use Rattle.model.proofs.Passed.{size-passed}
 use Rattle.model.proofs.Woven.{published-upto}
 use Rattle.demands.specs.Answers.{sizedAnswer}
-use Rattle.demands.specs.Run.{onLineOf, onStore}
+use Rattle.demands.specs.Run.{storeOutcome}
 use Rattle.demands.proofs.Image.{recordImage, registerImage, storeImage, areasImage, image}
 use Rattle.demands.proofs.Lines.{lines-in, line-in, number-on, part-on, name-shown}
 use Rattle.demands.proofs.Readings.{answers-same, sized-reads}
@@ -64,13 +64,13 @@ module _ (L : Limits) (m : Model) (S : Sound L m) (l : ℕ) where
       image-number L m S rows rows (notThere (partOn (storeImage L m) (areasImage L m) l v) (numberOn (storeImage L m) l v)) (alike-same rows)
       (λ z. let p = size-passed L m l v z in name-there L m S l (p .line) v (published-upto L m S l (p .line) v (p .published))))
 
-  pub size-step : (v : ℕ) → onStore (image L m) (on l (SIZE v)) ≡ (image L (onModel L m (on l (SIZE v)) .0), onModel L m (on l (SIZE v)) .1)
-  unfolding onStore onLineOf onModel onLine
-  size-step v =
+  pub size-outcome : (v : ℕ) → storeOutcome (image L m) l (size v) ≡ modelOutcome L m l (size v)
+  unfolding storeOutcome modelOutcome
+  size-outcome v =
       let k = modelNumber L m l v in
       let s = storeImage L m in
       let a = areasImage L m in
       let bytes : k ≡ 0 → bytesIn s a l v ≡ L .size * versionAt (history m l) v .size =
       λ z. let p = size-passed L m l v z in bytes-in L m S l (p .line) v (published-upto L m S l (p .line) v (p .published)) in
       let done = size-answer k (bytesIn s a l v) (L .size * versionAt (history m l) v .size) bytes in
-      rw (size-number v) (ap (λ x. (image L m, says x)) done)
+      rw (size-number v) (ap says done)

@@ -11,11 +11,11 @@ use Rattle.versions.specs.Store.{numberOn, partOn}
 use Rattle.versions.specs.Size.{isThere, notThere, pagesIn}
 use Rattle.walk.specs.FindPage.{findPage, numberWithin, pageNumberOf, isLost}
 use Rattle.stamp.specs.Stamp.{stampNumber, stampBy, stamped}
-use Rattle.model.specs.Calls.{on, STAMP, stampIs, answers}
+use Rattle.model.specs.Calls.{stamp, stampIs, answers}
 use Rattle.model.specs.History.{versionAt, leafNumber, updates}
 use Rattle.model.specs.Stamp.{stampAt}
 use Rattle.model.specs.Model.{Limits, Model, lineAt, history, numberIn}
-use Rattle.model.specs.OnModel.{onLine, onModel, pageNumber}
+use Rattle.model.specs.OnModel.{modelOutcome, pageNumber}
 use Rattle.model.proofs.Sound.{Sound}
 use Rattle.model.proofs.SoundHistory.{line-history}
 use Rattle.model.proofs.Shown.{versions-length}
@@ -25,7 +25,7 @@ use Rattle.model.proofs.Numbers.{number-version}
 use Rattle.model.proofs.Passed.{PagePassed, page-passed}
 use Rattle.model.proofs.Woven.{published-upto}
 use Rattle.demands.specs.Answers.{stampedAnswer}
-use Rattle.demands.specs.Run.{onLineOf, onStore}
+use Rattle.demands.specs.Run.{storeOutcome}
 use Rattle.demands.proofs.Image.{storeImage, areasImage, image}
 use Rattle.demands.proofs.Lines.{lines-in, line-in, number-on}
 use Rattle.demands.proofs.Readings.{answers-same, stamped-reads}
@@ -78,9 +78,9 @@ module _ (L : Limits) (m : Model) (S : Sound L m) (l v p : ℕ) where
       )
       (since-leaf L m S l (g .line) p v (g .published) (g .inside))
 
-  pub stamp-step : onStore (image L m) (on l (STAMP v p)) ≡ (image L (onModel L m (on l (STAMP v p)) .0), onModel L m (on l (STAMP v p)) .1)
-  unfolding onStore onLineOf onModel onLine
-  stamp-step =
+  pub stamp-outcome : storeOutcome (image L m) l (stamp v p) ≡ modelOutcome L m l (stamp v p)
+  unfolding storeOutcome modelOutcome
+  stamp-outcome =
       rw (
         stamp-number L m S l v p,
         stamp-says (pageNumber L m l v p) (stampBy (storeImage L m) (areasImage L m) l p (findPage (areasImage L m) (numberOn (storeImage L m) l v) p)) (stampAt (history m l) v p)

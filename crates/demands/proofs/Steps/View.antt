@@ -8,24 +8,24 @@ use Rattle.pages.specs.Pages.{part}
 use Rattle.table.proofs.Table.{unless-same}
 use Rattle.versions.specs.Store.{numberOn}
 use Rattle.walk.specs.FindPage.{pageNumberOf, orZero}
-use Rattle.model.specs.Calls.{on, VIEW}
+use Rattle.model.specs.Calls.{view}
 use Rattle.model.specs.InTurn.{blobAt}
 use Rattle.model.specs.Model.{Limits, Model, history}
-use Rattle.model.specs.OnModel.{onLine, onModel, pageNumber}
+use Rattle.model.specs.OnModel.{modelOutcome, pageNumber}
 use Rattle.model.proofs.Image.{pagesImage}
 use Rattle.model.proofs.Sound.{Sound}
 use Rattle.model.proofs.Passed.{page-passed}
 use Rattle.model.proofs.Woven.{published-upto}
-use Rattle.demands.specs.Run.{onLineOf, onStore}
+use Rattle.demands.specs.Run.{storeOutcome}
 use Rattle.demands.proofs.Image.{storeImage, areasImage, image}
 use Rattle.demands.proofs.Lines.{number-on}
 use Rattle.demands.proofs.Steps.Found.{page-number, view-bytes}
 use Rattle.demands.proofs.Steps.Stamp.{stamp-number}
 
 module _ (L : Limits) (m : Model) (S : Sound L m) (l v p : ℕ) where
-  pub view-step : onStore (image L m) (on l (VIEW v p)) ≡ (image L (onModel L m (on l (VIEW v p)) .0), onModel L m (on l (VIEW v p)) .1)
-  unfolding onStore onLineOf onModel onLine
-  view-step =
+  pub view-outcome : storeOutcome (image L m) l (view v p) ≡ modelOutcome L m l (view v p)
+  unfolding storeOutcome modelOutcome
+  view-outcome =
       rw (
         stamp-number L m S l v p,
         unless-same (pageNumber L m l v p) []
