@@ -6,7 +6,7 @@ use Prim.Native.Nat.{ℕ, suc, pred, _≤_, _<_}
 use native.Mathlib.Omega.{arith}
 use lib.ListN.{length}
 use Rattle.versions.specs.Store.{Areas}
-use Rattle.model.specs.Calls.{Call, on, PUBLISH, BRANCH, READ, SIZE, RECENT, STAMP, VIEW, held, lineIs, recentIs, stampIs, says}
+use Rattle.model.specs.Calls.{Call, on, PUBLISH, BRANCH, ask, Query, read, size, stamp, view, READ, SIZE, RECENT, STAMP, VIEW, held, lineIs, recentIs, stampIs, says}
 use Rattle.table.proofs.Table.{unless-0}
 use Rattle.model.specs.Model.{Limits, Line, Model, noModel, lineAt, history}
 use Rattle.model.specs.OnModel.{onModel, branched, branchNumber, onLine}
@@ -17,11 +17,11 @@ use Rattle.model.proofs.SoundHistory.{line-history}
 use Rattle.model.proofs.Shown.{versions-length}
 use Rattle.model.proofs.Runs.{run-append, run-image, outcomes-image}
 use Rattle.model.proofs.Kept.Every.{step-sound, empty-sound, sound-after}
-use Rattle.model.proofs.Asked.{recent-accepted, read-accepted, view-accepted, stamp-accepted, size-accepted, read-alike, view-alike, stamp-alike, size-alike}
+use Rattle.model.proofs.Asked.{recent-accepted, read-accepted, view-accepted, stamp-accepted, size-accepted, Reads, query-alike}
 use Rattle.model.proofs.Blob.{bytes-length}
 use Rattle.model.proofs.Since.{stamp-published, stamp-below, view-since, view-before, view-stamped}
 use Rattle.model.proofs.Found.{tree-image}
-use Rattle.model.proofs.Later.{later-line, later-published, later-upto, later-read, later-view, later-stamp, later-sized}
+use Rattle.model.proofs.Later.{later-line, later-published, later-upto, later-query}
 use Rattle.model.proofs.Woven.{published-upto}
 use Rattle.model.proofs.Stay.{SameUpTo, same-less}
 use Rattle.model.proofs.Shared.{branch-reads}
@@ -94,18 +94,20 @@ module _ (L : Limits) (a : Areas) (accepted : Accepted L a) where
       let m = modelAfter L cs in
       let s = sound cs in
       let e = later cs more in
-      let again : (c : Call) → onModel L (run (onModel L) m more) c .1 ≡ onModel L m c .1 → asked (storeAfter L a (cs ++ more)) c ≡ asked (storeAfter L a cs) c =
-      λ c same. as-model (cs ++ more) c ∙ ap (λ (w : Model). onModel L w c .1) e ∙ same ∙ sym (as-model cs c) in
+      let stays : (q : Query) → Reads k q → asked (storeAfter L a (cs ++ more)) (on l (ask q)) ≡ asked (storeAfter L a cs) (on l (ask q)) =
+      λ q r.
+      let c = on l (ask q) in
+      as-model (cs ++ more) c ∙ ap (λ (w : Model). onModel L w c .1) e ∙ later-query L m s more l (p .line) k (p .upto) q r ∙ sym (as-model cs c) in
       record {
         published = record {
           line = rw e (later-line L m s more l (p .line));
           upto = rw e (omega (arith, later-published L m s more l (p .line), p .upto));
         };
         snapshot = rw e (snapshot-stays (run (onModel L) m more) m l k (later-upto L m s more l (p .line) k (p .upto)) k (omega arith));
-        reads = λ offset len buffer. again (on l (READ k offset len buffer)) (later-read L m s more l (p .line) k (p .upto) offset len buffer);
-        views = λ i. again (on l (VIEW k i)) (later-view L m s more l (p .line) k (p .upto) i);
-        stamps = λ i. again (on l (STAMP k i)) (later-stamp L m s more l (p .line) k (p .upto) i);
-        sizes = again (on l (SIZE k)) (later-sized L m s more l (p .line) k (p .upto));
+        reads = λ offset len buffer. stays (read k offset len buffer) refl;
+        views = λ i. stays (view k i) refl;
+        stamps = λ i. stays (stamp k i) refl;
+        sizes = stays (size k) refl;
       }
 
   -- PUBLISH of a line repeated, at any minutes.
@@ -195,28 +197,23 @@ module _ (L : Limits) (a : Areas) (accepted : Accepted L a) where
         same-less (history (branched L before l v) k) (history before l) v w h
         (rw (← answered .1) (branch-reads L before l v))
 
-    -- What the new line's calls give back, from what the model's do.
-    again : (c d : Call) → onModel L (branched L before l v) c .1 ≡ onModel L before d .1 → asked (storeAfter L a (cs ++ call)) c ≡ asked (storeAfter L a cs) d
-    again c d z = as-model (cs ++ call) c ∙ ap (λ (x : Model). onModel L x c .1) begun ∙ z ∙ sym (as-model cs d)
+    -- What the new line's queries give back.
+    reads-alike : (u : ℕ) → u ≤ v → (q : Query) → Reads u q → asked (storeAfter L a (cs ++ call)) (on k (ask q)) ≡ asked (storeAfter L a cs) (on l (ask q))
+    reads-alike u h q r =
+        as-model (cs ++ call) (on k (ask q))
+        ∙ ap (λ (x : Model). onModel L x (on k (ask q)) .1) begun
+        ∙ query-alike L before (branched L before l v) l k u (passed .line) here (omega (arith, passed .published)) (omega (arith, starts)) (same u h) q r
+        ∙ sym (as-model cs (on l (ask q)))
 
     pub begins-from : BeginsFrom L a cs l v k
     begins-from =
-        let m = before in
         let w = branched L before l v in
         record {
           recent = as-model (cs ++ call) (on k RECENT) ∙ ap (λ (x : Model). onModel L x (on k RECENT) .1) begun ∙ recent-accepted L w k here ∙ ap (λ (j : ℕ). says (recentIs j)) starts;
-          reads = λ u offset len buffer h.
-              again (on k (READ u offset len buffer)) (on l (READ u offset len buffer))
-              (read-alike L m w l k u (passed .line) here (omega (arith, passed .published)) (omega (arith, starts)) (same u h) offset len buffer);
-          views = λ u p h.
-              again (on k (VIEW u p)) (on l (VIEW u p))
-              (view-alike L m w l k u (passed .line) here (omega (arith, passed .published)) (omega (arith, starts)) (same u h) p);
-          stamps = λ u p h.
-              again (on k (STAMP u p)) (on l (STAMP u p))
-              (stamp-alike L m w l k u (passed .line) here (omega (arith, passed .published)) (omega (arith, starts)) (same u h) p);
-          sizes = λ u h.
-              again (on k (SIZE u)) (on l (SIZE u))
-              (size-alike L m w l k u (passed .line) here (omega (arith, passed .published)) (omega (arith, starts)) (same u h));
+          reads = λ u offset len buffer h. reads-alike u h (read u offset len buffer) refl;
+          views = λ u p h. reads-alike u h (view u p) refl;
+          stamps = λ u p h. reads-alike u h (stamp u p) refl;
+          sizes = λ u h. reads-alike u h (size u) refl;
         }
 
   pub third-demand : (cs : List Call) → ThirdDemand L a cs

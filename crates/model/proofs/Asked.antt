@@ -13,7 +13,7 @@ use lib.ListN.{length, getD, take, drop}
 use Rattle.table.specs.Table.{holds, firstRefusal, unless}
 use Rattle.table.specs.Table.{sizeRows, readRows, pageRows, lineRows}
 use Rattle.table.proofs.Table.{none, hit, skip, first}
-use Rattle.model.specs.Calls.{on, READ, SIZE, RECENT, STAMP, VIEW, filled, sizeIs, recentIs, stampIs, partIs, says}
+use Rattle.model.specs.Calls.{on, ask, Query, read, size, recent, stamp, view, READ, SIZE, RECENT, STAMP, VIEW, filled, sizeIs, recentIs, stampIs, partIs, says}
 use Rattle.model.specs.History.{versionAt}
 use Rattle.model.specs.InTurn.{blobAt, bytesAt}
 use Rattle.model.specs.Stamp.{stampAt}
@@ -69,6 +69,14 @@ stamp-passed L m l v p w e =
 
 -- ---- version v of line l of one model, and of line k of another or of the same
 
+-- A query reads version v, and nothing else of a line.
+abbrev pub Reads : ℕ → Query → Type 0
+Reads v (read u offset len buffer) = u ≡ v
+Reads v (size u) = u ≡ v
+Reads v recent = ⊥
+Reads v (stamp u p) = u ≡ v
+Reads v (view u p) = u ≡ v
+
 module _ (L : Limits) (m w : Model) (l k v : ℕ) (there : l < length (m .lines)) (here : k < length (w .lines))
     (p : v ≤ lineAt m l .published) (q : v ≤ lineAt w k .published) (same : SameUpTo (history w k) (history m l) v) where
   line-m : leb (length (m .lines)) l ≡ false
@@ -89,20 +97,11 @@ module _ (L : Limits) (m w : Model) (l k v : ℕ) (there : l < length (m .lines)
   blob-alike : blobAt (history w k) v ≡ blobAt (history m l) v
   blob-alike = blob-stays (history w k) (history m l) v same v (omega arith)
 
-  pub read-alike : (offset len : ℕ) (buffer : List ℕ)
-      → onModel L w (on k (READ v offset len buffer)) .1 ≡ onModel L m (on l (READ v offset len buffer)) .1
-  unfolding onModel onLine modelOutcome readRows firstRefusal holds
-  read-alike offset len buffer = rw (line-w, line-m, published-w, published-m, blob-alike, version-alike)
-
-  pub view-alike : (i : ℕ) → onModel L w (on k (VIEW v i)) .1 ≡ onModel L m (on l (VIEW v i)) .1
-  unfolding onModel onLine modelOutcome pageRows firstRefusal holds
-  view-alike i = rw (line-w, line-m, published-w, published-m, blob-alike, version-alike)
-
-  pub stamp-alike : (i : ℕ) → onModel L w (on k (STAMP v i)) .1 ≡ onModel L m (on l (STAMP v i)) .1
-  unfolding onModel onLine modelOutcome pageRows firstRefusal holds
-  stamp-alike i =
-      rw (line-w, line-m, published-w, published-m, stamp-stays (history w k) (history m l) v same v (omega arith) i, version-alike)
-
-  pub size-alike : onModel L w (on k (SIZE v)) .1 ≡ onModel L m (on l (SIZE v)) .1
-  unfolding onModel onLine modelOutcome sizeRows firstRefusal holds
-  size-alike = rw (line-w, line-m, published-w, published-m, version-alike)
+  pub query-alike : (q : Query) → Reads v q → onModel L w (on k (ask q)) .1 ≡ onModel L m (on l (ask q)) .1
+  unfolding onModel onLine modelOutcome readRows sizeRows pageRows firstRefusal holds
+  query-alike (read u offset len buffer) e = rw (e, line-w, line-m, published-w, published-m, blob-alike, version-alike)
+  query-alike (size u) e = rw (e, line-w, line-m, published-w, published-m, version-alike)
+  query-alike recent e = absurd e
+  query-alike (stamp u i) e =
+      rw (e, line-w, line-m, published-w, published-m, stamp-stays (history w k) (history m l) v same v (omega arith) i, version-alike)
+  query-alike (view u i) e = rw (e, line-w, line-m, published-w, published-m, blob-alike, version-alike)

@@ -8,7 +8,7 @@ use lib.ListN.{length}
 use Rattle.table.proofs.Table.{unless-keeps}
 use Rattle.windows.specs.Windows.{insideSome}
 use Rattle.windows.specs.Listed.{textNumber}
-use Rattle.model.specs.Calls.{Call, BEGIN, PUT, WEAVE, SETWINDOWS, on, Act, WRITE, APPEND, PUBLISH, BRANCH, ask, READ, SIZE, STAMP, VIEW}
+use Rattle.model.specs.Calls.{Call, BEGIN, PUT, WEAVE, SETWINDOWS, on, Act, WRITE, APPEND, PUBLISH, BRANCH, ask, Query}
 use Rattle.model.specs.History.{versionAt, blobSize, due}
 use Rattle.model.specs.InTurn.{blobAt, bytesAt}
 use Rattle.model.specs.Model.{Limits, Model, lineAt, history}
@@ -19,7 +19,7 @@ use Rattle.model.proofs.Passed.{put-passed, weave-passed, assign-passed
 use Rattle.model.proofs.Grows.{Grown, grown-same, grown-then}
 use Rattle.model.proofs.Older.{older-same}
 use Rattle.model.proofs.Stay.{SameUpTo, same-less, size-stays, blob-stays, bytes-stay}
-use Rattle.model.proofs.Asked.{read-alike, view-alike, stamp-alike, size-alike}
+use Rattle.model.proofs.Asked.{Reads, query-alike}
 use Rattle.model.proofs.Kept.Begin.{begun-grown}
 use Rattle.model.proofs.Kept.Put.{filled-grown}
 use Rattle.model.proofs.Kept.Weave.{woven-grown}
@@ -101,16 +101,6 @@ module _ (L : Limits) (m : Model) (S : Sound L m) (cs : List Call) (l : ℕ) (th
     pub later-bytes : bytesAt (history (run (onModel L) m cs) l) v ≡ bytesAt (history m l) v
     later-bytes = bytes-stay (history (run (onModel L) m cs) l) (history m l) v later-upto v (omega arith)
 
-    -- So what the calls that read it answer stays.
-    pub later-read : (offset len : ℕ) (buffer : List ℕ)
-        → onModel L (run (onModel L) m cs) (on l (READ v offset len buffer)) .1 ≡ onModel L m (on l (READ v offset len buffer)) .1
-    later-read = read-alike L m (run (onModel L) m cs) l l v there later-line h later-there later-upto
-
-    pub later-view : (i : ℕ) → onModel L (run (onModel L) m cs) (on l (VIEW v i)) .1 ≡ onModel L m (on l (VIEW v i)) .1
-    later-view = view-alike L m (run (onModel L) m cs) l l v there later-line h later-there later-upto
-
-    pub later-stamp : (i : ℕ) → onModel L (run (onModel L) m cs) (on l (STAMP v i)) .1 ≡ onModel L m (on l (STAMP v i)) .1
-    later-stamp = stamp-alike L m (run (onModel L) m cs) l l v there later-line h later-there later-upto
-
-    pub later-sized : onModel L (run (onModel L) m cs) (on l (SIZE v)) .1 ≡ onModel L m (on l (SIZE v)) .1
-    later-sized = size-alike L m (run (onModel L) m cs) l l v there later-line h later-there later-upto
+    -- So what the queries that read it give back stays.
+    pub later-query : (q : Query) → Reads v q → onModel L (run (onModel L) m cs) (on l (ask q)) .1 ≡ onModel L m (on l (ask q)) .1
+    later-query = query-alike L m (run (onModel L) m cs) l l v there later-line h later-there later-upto

@@ -10,12 +10,13 @@ use lib.Dec.{leb, ltb, eqb}
 use lib.ListN.{length}
 use Rattle.tree.specs.Tree.{nth}
 use Rattle.table.specs.Table.{holds, firstRefusal, readRows, sizeRows, lineRows, pageRows}
-use Rattle.model.specs.Calls.{on, READ, SIZE, RECENT, STAMP, VIEW, Answer, refused, nodeIs, filled, sizeIs, recentIs, stampIs, partIs, Outcome, answers}
+use Rattle.model.specs.Calls.{on, ask, Query, read, size, recent, stamp, view, Answer, refused, nodeIs, filled, sizeIs, recentIs, stampIs, partIs, Outcome, answers}
 use Rattle.model.specs.History.{Version, History, noVersion, versionAt}
 use Rattle.model.specs.Stamp.{stampAt}
 use Rattle.model.specs.Model.{Model, lineAt, history, numberIn}
-use Rattle.model.specs.OnModel.{lineNumber, readNumber, sizeNumber, pageNumber, onLine, onModel}
-use Rattle.isolation.specs.Isolation.{listed, Excused, byList, assigned, notBegun, Numbered, ofTicket, ofLine, ofNode, SameAnswer, version, SameVersion, word, ticket, line, inner, leaf, firstNumber, Same, size}
+use Rattle.model.specs.OnModel.{lineNumber, readNumber, sizeNumber, pageNumber, modelOutcome, onLine, onModel}
+use Rattle.isolation.specs.Isolation.{listed, Excused, byList, assigned, notBegun, Numbered, ofTicket, ofLine, ofNode, SameAnswer, version, SameVersion, word, ticket, line, inner, leaf, firstNumber, Same}
+use Rattle.isolation.proofs.Queries.{no-number}
 use Rattle.uses.specs.Accepted.{limits}
 
 -- A number that is no refusal of the request's list, nor 8.
@@ -48,38 +49,29 @@ pub record Clear (l : ℕ) (m : Model) (t : ℕ) (a : Answer) : Type 0 where
   pub words : Numbered a → ⊥
   pub fine : Excused l m t a → ⊥
 
-clear : {l : ℕ} {m : Model} {t : ℕ} (r : ℕ) (a : Answer) → Other r → Clear l m t a → Clear l m t (answers r a)
-clear zero a q f = f
-clear (suc r) a q f = record { words = elim [ ]; fine = λ e. false≢true (sym q ∙ excused-number e) }
+-- A refusal by such a number is not excused.
+not-excused : {l : ℕ} {m : Model} {t : ℕ} (r : ℕ) (a : Answer) → Other r → (Excused l m t a → ⊥) → Excused l m t (answers r a) → ⊥
+not-excused zero a q f e = f e
+not-excused (suc r) a q f e = false≢true (sym q ∙ excused-number e)
 
 -- What reads a line that has begun is not excused: it is refused by 16, 17 or 18, if at all.
 module _ (l : ℕ) (m : Model) (b : leb (length (m .lines)) l ≡ false) where
   unpublished : (v r : ℕ) → Other r → Other (cond (leb (length (m .lines)) l) 20 (cond (ltb (lineAt m l .published) v) 16 r))
   unpublished v r d = rw b (other-row (ltb (lineAt m l .published) v) 16 r refl d)
 
-  pub read-clear : (v offset len : ℕ) (buffer : List ℕ) → Clear l m 0 (onModel limits m (on l (READ v offset len buffer)) .1 .answer)
-  unfolding onModel onLine firstRefusal readRows holds
-  read-clear v offset len buffer = clear (readNumber limits m l v offset len buffer) filled
-      (unpublished v _ (other-row (ltb (limits .size * versionAt (history m l) v .size) (offset + len)) 17 _ refl (other-row (ltb (length buffer) len) 18 0 refl refl)))
-      (record { words = elim [ ]; fine = elim [ ] })
+  query-fine : (q : Query) → Excused l m 0 (modelOutcome limits m l q .answer) → ⊥
+  unfolding modelOutcome firstRefusal readRows sizeRows lineRows pageRows holds
+  query-fine (read v offset len buffer) = not-excused (readNumber limits m l v offset len buffer) filled
+      (unpublished v _ (other-row (ltb (limits .size * versionAt (history m l) v .size) (offset + len)) 17 _ refl (other-row (ltb (length buffer) len) 18 0 refl refl))) (elim [ ])
+  query-fine (size v) = not-excused (sizeNumber limits m l v) (sizeIs (limits .size * versionAt (history m l) v .size)) (unpublished v 0 refl) (elim [ ])
+  query-fine recent = not-excused (lineNumber limits m l) (recentIs (lineAt m l .published)) (rw b) (elim [ ])
+  query-fine (stamp v p) = not-excused (pageNumber limits m l v p) (stampIs (stampAt (history m l) v p))
+      (unpublished v _ (other-row (leb (versionAt (history m l) v .size) p) 17 0 refl refl)) (elim [ ])
+  query-fine (view v p) = λ e. false≢true (sym b ∙ excused-part e)
 
-  pub size-clear : (v : ℕ) → Clear l m 0 (onModel limits m (on l (SIZE v)) .1 .answer)
-  unfolding onModel onLine firstRefusal sizeRows holds
-  size-clear v =
-      clear (sizeNumber limits m l v) (sizeIs (limits .size * versionAt (history m l) v .size)) (unpublished v 0 refl) (record { words = elim [ ]; fine = elim [ ] })
-
-  pub recent-clear : Clear l m 0 (onModel limits m (on l RECENT) .1 .answer)
-  unfolding onModel onLine firstRefusal lineRows holds
-  recent-clear = clear (lineNumber limits m l) (recentIs (lineAt m l .published)) (rw b) (record { words = elim [ ]; fine = elim [ ] })
-
-  pub stamp-clear : (v p : ℕ) → Clear l m 0 (onModel limits m (on l (STAMP v p)) .1 .answer)
-  unfolding onModel onLine firstRefusal pageRows holds
-  stamp-clear v p = clear (pageNumber limits m l v p) (stampIs (stampAt (history m l) v p))
-      (unpublished v _ (other-row (leb (versionAt (history m l) v .size) p) 17 0 refl refl)) (record { words = elim [ ]; fine = elim [ ] })
-
-  pub view-clear : (v p : ℕ) → Clear l m 0 (onModel limits m (on l (VIEW v p)) .1 .answer)
+  pub query-clear : (q : Query) → Clear l m 0 (onModel limits m (on l (ask q)) .1 .answer)
   unfolding onModel onLine
-  view-clear v p = record { words = elim [ ]; fine = λ e. false≢true (sym b ∙ excused-part e) }
+  query-clear q = record { words = no-number limits m l q; fine = query-fine q }
 
 pub outcome : {o o′ : Outcome} → o .answer ≡ o′ .answer → o .buffer ≡ o′ .buffer → o ≡ o′
 outcome e e′ = ap₂ (λ (x : Answer) (b : List ℕ). record { answer = x; buffer = b }) e e′

@@ -8,7 +8,7 @@ use native.Mathlib.Omega.{arith}
 use lib.Dec.{leb}
 use lib.ListN.{length}
 use Rattle.tree.specs.Tree.{nth}
-use Rattle.model.specs.Calls.{Call, BEGIN, PUT, WEAVE, on, WRITE, APPEND, BRANCH, refused, lineIs, Outcome, says}
+use Rattle.model.specs.Calls.{Call, BEGIN, PUT, WEAVE, on, WRITE, APPEND, BRANCH, ask, Query, read, size, recent, stamp, view, refused, lineIs, Outcome, says}
 use Rattle.model.specs.History.{Page, Ticket, Version, noTicket}
 use Rattle.model.specs.Model.{Model, history, updateFrom}
 use Rattle.model.specs.OnModel.{ticketIn, onModel}
@@ -16,12 +16,12 @@ use Rattle.model.specs.Run.{run, modelAfter}
 use Rattle.model.specs.Example.{computes, pageOf}
 use Rattle.model.specs.Stamps.{sends}
 use Rattle.versions.specs.Store.{Areas}
-use Rattle.isolation.specs.Isolation.{among, absent, ownNumber, writtenAt, wovenAt, Tickets, Matched, Match, SameUpTo, kth, SameCall, put, weave, write, append, read, size, recent, stamp, view, newTicket, otherPut, otherWeave, otherLine, newLine, Twins, end, first, second, begin, both, Agree, IsolatedBy}
+use Rattle.isolation.specs.Isolation.{among, absent, ownNumber, writtenAt, wovenAt, Tickets, Matched, Match, SameUpTo, kth, SameCall, put, weave, write, append, query, newTicket, otherPut, otherWeave, otherLine, newLine, Twins, end, first, second, begin, both, Agree, IsolatedBy}
 use Rattle.demands.specs.Demands.{Accepted}
 use Rattle.demands.proofs.Demanded.{as-model, isolated}
 use Rattle.uses.specs.Accepted.{limits}
 use Rattle.uses.specs.Isolated.{shared, alone, beside, opened, openedBeside, gives, FromFormat, ReadAlike, Unreached, Woven, BegunAlike}
-use Rattle.uses.proofs.Agreed.{Clear, excused-number, read-clear, size-clear, recent-clear, stamp-clear, view-clear, outcome, is-same, agreed, allOwn, root-same, leaf-moved}
+use Rattle.uses.proofs.Agreed.{Clear, excused-number, query-clear, outcome, is-same, agreed, allOwn, root-same, leaf-moved}
 
 -- ---- matched states, by computation
 
@@ -173,12 +173,13 @@ module _ (a : Areas) (accepted : Accepted limits a) where
   read-alike {l = l} {l′ = l′} cs cs′ M b b′ =
       let m = modelAfter limits cs in
       let m′ = modelAfter limits cs′ in
+      let same : (q : Query) → gives a cs (on l (ask q)) ≡ gives a cs′ (on l′ (ask q)) = λ q. one cs cs′ M (query q) (query-clear l m b q) (query-clear l′ m′ b′ q) in
       record {
-        reads = λ v offset len buffer. one cs cs′ M (read v offset len buffer) (read-clear l m b v offset len buffer) (read-clear l′ m′ b′ v offset len buffer);
-        sizes = λ v. one cs cs′ M (size v) (size-clear l m b v) (size-clear l′ m′ b′ v);
-        recent = one cs cs′ M recent (recent-clear l m b) (recent-clear l′ m′ b′);
-        stamps = λ v p. one cs cs′ M (stamp v p) (stamp-clear l m b v p) (stamp-clear l′ m′ b′ v p);
-        views = λ v p. one cs cs′ M (view v p) (view-clear l m b v p) (view-clear l′ m′ b′ v p);
+        reads = λ v offset len buffer. same (read v offset len buffer);
+        sizes = λ v. same (size v);
+        recent = same recent;
+        stamps = λ v p. same (stamp v p);
+        views = λ v p. same (view v p);
       }
 
   pub unreached : Unreached a
