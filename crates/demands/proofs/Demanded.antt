@@ -21,7 +21,7 @@ use Rattle.model.proofs.Asked.{recent-accepted, read-accepted, view-accepted, s
 use Rattle.model.proofs.Blob.{bytes-length}
 use Rattle.model.proofs.Since.{stamp-published, stamp-below, view-since, view-before, view-stamped}
 use Rattle.model.proofs.Found.{tree-image}
-use Rattle.model.proofs.Later.{later-line, later-published, later-upto, later-query}
+use Rattle.model.proofs.Later.{run-grown, later-line, later-published, later-query}
 use Rattle.model.proofs.Woven.{published-upto}
 use Rattle.model.proofs.Stay.{SameUpTo, same-less}
 use Rattle.model.proofs.Shared.{branch-reads}
@@ -103,7 +103,7 @@ module _ (L : Limits) (a : Areas) (accepted : Accepted L a) where
           line = rw e (later-line L m s more l (p .line));
           upto = rw e (omega (arith, later-published L m s more l (p .line), p .upto));
         };
-        snapshot = rw e (snapshot-stays (run (onModel L) m more) m l k (later-upto L m s more l (p .line) k (p .upto)) k (omega arith));
+        snapshot = rw e (snapshot-stays L m (run (onModel L) m more) s (run-grown L m s more) l (p .line) k (published-upto L m s l (p .line) k (p .upto)));
         reads = λ offset len buffer. stays (read k offset len buffer) refl;
         views = λ i. stays (view k i) refl;
         stamps = λ i. stays (stamp k i) refl;

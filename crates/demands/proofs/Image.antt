@@ -8,7 +8,6 @@ use lib.ListN.{length}
 use Rattle.tree.specs.Tree.{countOf, nth, rootHeight}
 use Rattle.tree.specs.Contract.{rootSpan}
 use Rattle.tree.specs.Place.{halvings}
-use Rattle.tree.specs.Walk.{used}
 use Rattle.lines.specs.Lines.{packed, entriesOf}
 use Rattle.lines.specs.declared.Branch.{Branch}
 use Rattle.lines.proofs.States.{sourcesOf}
@@ -17,8 +16,9 @@ use Rattle.windows.specs.declared.Windows.{Windows}
 use Rattle.windows.specs.Windows.{placed}
 use Rattle.versions.specs.declared.Store.{Store}
 use Rattle.versions.specs.Store.{Areas}
-use Rattle.model.specs.History.{Page, Ticket, Version, pagesOf, taken, toUpdate, updates, blobSize, isFilled, bitIf}
-use Rattle.model.specs.Model.{Limits, Model, lineAt, updateAt, history, every, places, ticketUpdate, numbered}
+use Rattle.model.specs.History.{Page, Ticket, Version, pagesOf, toUpdate, blobSize, isFilled, bitIf}
+use Rattle.model.specs.Model.{Limits, Model, lineAt, updateAt, history, ticketUpdate, numbered}
+use Rattle.model.specs.Layout.{nodePlace, nodesUsed, pagesUsed, slotNumber}
 use Rattle.model.specs.OnModel.{ticketIn, either}
 use Rattle.model.proofs.Laid.{tab}
 use Rattle.model.proofs.Image.{pagesImage, nodesImage}
@@ -33,10 +33,10 @@ maskOf (x ∷ xs) = bitIf (isFilled x) + 2 * maskOf xs
 
 -- The number at which the pages of the ticket at index i begin, and the place at which the nodes of the update there do; 0 where there is none.
 abbrev pub numberAt : Model → ℕ → ℕ
-numberAt m i = either (ltb i (length (m .tickets))) (taken (m .tickets) i) 0
+numberAt m i = either (ltb i (length (m .tickets))) (slotNumber m (suc i) 0) 0
 
 abbrev pub firstPlaceAt : Model → ℕ → ℕ
-firstPlaceAt m i = either (ltb i (length (m .updates))) (used (updates (every m)) i) 0
+firstPlaceAt m i = either (ltb i (length (m .updates))) (nodePlace m (suc i) 0) 0
 
 -- The node count of an update of these tickets; 0 where there is none, which has no ticket.
 abbrev pub countBy : List Ticket → Version → ℕ
@@ -101,9 +101,9 @@ storeImage L m = record {
   nodes = L .nodes;
   updates = L .updates;
   tickets = record { 0 = length (m .tickets) };
-  taken = taken (m .tickets) (length (m .tickets));
+  taken = pagesUsed m;
   assigned = length (m .updates);
-  places = places m;
+  places = nodesUsed m;
   begun = length (m .lines);
   sources = sourcesImage m;
   lines = linesImage m;

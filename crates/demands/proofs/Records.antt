@@ -1,7 +1,7 @@
 -- What the calls read of a model's image: the areas' lengths, the records, and the updates that the records say.
 -- Assumes nothing.
-use mathlib.Core.Path.{_≡_, ap, _∙_}
-use mathlib.Core.Bool.{false}
+use mathlib.Core.Path.{_≡_, sym, ap, _∙_}
+use mathlib.Core.Bool.{true, false}
 use Prim.Native.Nat.{ℕ, zero, suc, pred, _+_, _*_, _^_, _≤_, _<_, min, max}
 use native.Mathlib.Omega.{arith}
 use borrow.Author.Tests.{lt-ltb, eq-eqb}
@@ -14,12 +14,12 @@ use Rattle.register.specs.Register.{noRecord, partOf, mostPage, limited, update
 use Rattle.weave.specs.Weave.{placeOf}
 use Rattle.table.specs.Table.{holds}
 use Rattle.versions.specs.Store.{areasDiffer, recordOf}
-use Rattle.model.specs.History.{taken, toUpdate, updates}
+use Rattle.model.specs.History.{toUpdate, updates}
 use Rattle.model.specs.Model.{Limits, Model, lineAt, updateAt, history, numbered}
 use Rattle.model.specs.OnModel.{ticketIn}
-use Rattle.model.specs.Snapshot.{firstPlace}
+use Rattle.model.specs.Layout.{nodePlace, slotStands, slotNumber}
 use Rattle.model.proofs.Image.{pagesImage, nodesImage}
-use Rattle.model.proofs.Areas.{length-nodes, length-pages}
+use Rattle.model.proofs.LayoutLaws.{length-nodes, length-pages, number-from}
 use Rattle.model.proofs.Sound.{Sound}
 use Rattle.model.proofs.Tab.{length-tab, getD-tab}
 use Rattle.model.proofs.Kept.Same.{number-upto}
@@ -66,9 +66,14 @@ module _ (L : Limits) (m : Model) (S : Sound L m) where
   update-room k h = omega (arith, S .fewer, S .records)
 
   -- The number at which a ticket's pages begin.
-  pub number-of : (t : ℕ) → 0 < t → t ≤ length (m .tickets) → recordOf (areasImage L m) t .number ≡ taken (m .tickets) (pred t)
+  pub number-of : (t : ℕ) → 0 < t → t ≤ length (m .tickets) → recordOf (areasImage L m) t .number ≡ slotNumber m t 0
   number-of zero p h = absurd (omega arith)
   number-of (suc t) p h = rw (record-of L m (suc t) p (ticket-room (suc t) h), lt-ltb t (length (m .tickets)) h)
+
+  -- The number of the page of slot i, where all pages before it stand.
+  pub slot-number : (t i : ℕ) → 0 < t → t ≤ length (m .tickets) → ((j : ℕ) → j < i → slotStands m t j ≡ true)
+      → recordOf (areasImage L m) t .number + i ≡ slotNumber m t i
+  slot-number t i o h s = rw (number-of t o h) (sym (number-from m t i s))
 
 module _ (L : Limits) (m : Model) (S : Sound L m) (k : ℕ) (o : 0 < k) (h : k ≤ length (m .updates)) where
   -- Update k is a version of its line.
@@ -131,8 +136,8 @@ module _ (L : Limits) (m : Model) (S : Sound L m) (k : ℕ) (o : 0 < k) (h : k �
   count-image = ap (λ (j : ℕ). countBy (m .tickets) (updateAt m j)) at-pred ∙ rw (lt-ltb 0 (updateAt m k .ticket) (S .updated k o h .from))
 
   -- Where its nodes lie.
-  pub top-image : recordImage m (pred k) .top ≡ firstPlace m k + rootHeight (updateAt m k .size)
-  top-image = rw (lt-ltb (pred k) (length (m .updates)) (omega arith)) (ap (λ (j : ℕ). firstPlace m k + rootHeight (updateAt m j .size)) at-pred)
+  pub top-image : recordImage m (pred k) .top ≡ nodePlace m k 0 + rootHeight (updateAt m k .size)
+  top-image = rw (lt-ltb (pred k) (length (m .updates)) (omega arith)) (ap (λ (j : ℕ). nodePlace m j 0 + rootHeight (updateAt m j .size)) at-pred)
 
-  pub place-image : placeOf (partOf (recordImage m (pred k))) ≡ firstPlace m k
+  pub place-image : placeOf (partOf (recordImage m (pred k))) ≡ nodePlace m k 0
   place-image = rw (top-image, height-image) (omega arith)

@@ -17,7 +17,8 @@ use Rattle.table.specs.Table.{publishRows, branchRows, assignRows}
 use Rattle.windows.specs.Windows.{insideSome}
 use Rattle.model.specs.Calls.{WRITE, APPEND, PUBLISH, BRANCH, versionIs, publishedIs, waiting, held, lineIs}
 use Rattle.model.specs.History.{Version, noVersion, ticketAt, pagesOf, blobSize, allFilled, due}
-use Rattle.model.specs.Model.{Limits, Model, lineAt, history, places}
+use Rattle.model.specs.Model.{Limits, Model, lineAt, history}
+use Rattle.model.specs.Layout.{nodesUsed}
 use Rattle.model.specs.OnModel.{ticketIn, either, publishNumber, published, branchNumber, branched, sizeAfter, nextVersion, nextUpdate, assignNumber, assigned as withAssigned, assignStep, onLine}
 use Rattle.model.proofs.Nth.{length-snoc}
 use Rattle.model.proofs.Passed.{AssignPassed, assign-passed, publish-passed, branch-passed}
@@ -161,8 +162,8 @@ module _ (L : Limits) {l l′ : ℕ} {ts ts′ : List ℕ} {m m′ : Model} (M :
           rw (same b b′, count-same (M .lines b b′) f′, P .slots, blob-same (M .lines b b′)) (
           alike-row l l′ m m′ (not (allFilled (ticketIn m′ t′ .slots))) 12 (alike-row l l′ m m′ (ltb (blobSize (history m′ l′)) f′) 13 (
           alike-row l l′ m m′ (ltb 4096 (f′ + pagesOf (ticketIn m′ t′))) 14 (alike-fine l l′ m m′
-          (fine-row (ltb (L .nodes) (places m + countOf (nextUpdate L m′ l′ t′ f′))) 14 refl (no-refusal refl))
-          (fine-row (ltb (L .nodes) (places m′ + countOf (nextUpdate L m′ l′ t′ f′))) 14 refl (no-refusal refl))))
+          (fine-row (ltb (L .nodes) (nodesUsed m + countOf (nextUpdate L m′ l′ t′ f′))) 14 refl (no-refusal refl))
+          (fine-row (ltb (L .nodes) (nodesUsed m′ + countOf (nextUpdate L m′ l′ t′ f′))) 14 refl (no-refusal refl))))
           )))))
 
       twin-assign : Step l l′ ts ts′ m m′ t t′ (assignStep L m l t f) (assignStep L m′ l′ t′ f′)

@@ -1,6 +1,6 @@
 -- One call that names no line in two matched states: it gives back the same and the states stay matched; or one answer is excused.
 -- Assumes nothing.
-use mathlib.Core.Path.{_≡_, refl, sym, ap, _∙_}
+use mathlib.Core.Path.{_≡_, refl, sym, ap, subst₂, _∙_}
 use mathlib.Core.Logic.{inl, inr, _≢_}
 use mathlib.Core.Bool.{false, not, _||_, cond}
 use mathlib.Core.List.{List, [], _∷_, _++_}
@@ -16,11 +16,15 @@ use Rattle.tree.proofs.Meets.{lt-or-le}
 use Rattle.table.specs.Table.{always, holds, firstRefusal, unless, beginRows, putRows, weaveRows}
 use Rattle.windows.specs.Listed.{textNumber}
 use Rattle.model.specs.Calls.{BEGIN, PUT, WEAVE, SETWINDOWS, Answer, ticketIs, putDone, nodeIs, windowsDone}
-use Rattle.model.specs.History.{Ticket, Version, History, noTicket, versionAt, taken, updates}
+use Rattle.model.specs.History.{Ticket, Version, History, noTicket, versionAt, toUpdate, updates}
 use Rattle.model.specs.Model.{Limits, Model, ticketUpdate, history, numberIn}
+use Rattle.model.specs.Layout.{pagesUsed, slotNumber}
 use Rattle.model.specs.OnModel.{ticketIn, leftOf, rightOf, firstPage, spanOf, beginNumber, begun as withTicket, putNumber, filledAt, weaveNumber, woven, withWindows, nodeAnswer, onModel}
 use Rattle.model.proofs.Nth.{length-snoc, nth-append, nth-new, nth-set-same, nth-set-other, nth-set-field}
-use Rattle.model.proofs.Updated.{update-ticket}
+use Rattle.model.proofs.Image.{nodeOf as nodeIn}
+use Rattle.model.proofs.Updated.{update-le, update-ticket}
+use Rattle.model.proofs.Owner.{own-update}
+use Rattle.model.proofs.Leaves.{next-number}
 use Rattle.model.proofs.Facts.{ticket-past, update-got}
 use Rattle.model.proofs.Passed.{PutPassed, put-passed, WeavePassed, weave-passed}
 use Rattle.model.proofs.Kept.Begin.{newTicket as emptyTicket, begun-ticket, begun-new}
@@ -35,23 +39,42 @@ use Rattle.isolation.proofs.Refusals.{Fine, no-refusal, fine-row, Alike
 
 -- ---- WEAVE's answer
 
-abbrev nodeOf : History → ℕ → ℕ → Update → ℕ → Answer
+abbrev nodeOf : History → ℕ → (ℕ → ℕ) → Update → ℕ → Answer
 nodeOf h v p u w =
     let y = getD (weaving u) w (node 0 0) in
     nodeIs (numberIn h v) (firstPage y) (spanOf y) (leftOf h v p y) (rightOf h v y) (countOf u - suc w)
 
 module _ (l l′ : ℕ) (m m′ : Model) (t t′ : ℕ) (same : updates (history m l) ≡ updates (history m′ l′)) where
   by-node : (v left : ℕ) (y : Node) → SameAnswer l l′ m m′ t t′
-      (nodeIs (numberIn (history m l) v) (firstPage y) (spanOf y) (leftOf (history m l) v (firstNumber m t) y) (rightOf (history m l) v y) left)
-      (nodeIs (numberIn (history m′ l′) v) (firstPage y) (spanOf y) (leftOf (history m′ l′) v (firstNumber m′ t′) y) (rightOf (history m′ l′) v y) left)
+      (nodeIs (numberIn (history m l) v) (firstPage y) (spanOf y) (leftOf (history m l) v (λ i. firstNumber m t + i) y) (rightOf (history m l) v y) left)
+      (nodeIs (numberIn (history m′ l′) v) (firstPage y) (spanOf y) (leftOf (history m′ l′) v (λ i. firstNumber m′ t′ + i) y) (rightOf (history m′ l′) v y) left)
   by-node v left (node a zero) = rw same (leaf (version v) a (a - update (updates (history m′ l′)) v .f) left)
   by-node v left (node a (suc k)) =
       let us = updates (history m′ l′) in
       rw same (inner (version v) (version (newest us v a (2 ^ k))) (version (newest us v (a + 2 ^ k) (2 ^ k))) a k left)
 
   node-alike : (i i′ v v′ : ℕ) (u u′ : Update) (w w′ : ℕ) → i ≡ l → i′ ≡ l′ → v ≡ v′ → u ≡ u′ → w ≡ w′
-      → SameAnswer l l′ m m′ t t′ (nodeOf (history m i) v (firstNumber m t) u w) (nodeOf (history m′ i′) v′ (firstNumber m′ t′) u′ w′)
+      → SameAnswer l l′ m m′ t t′ (nodeOf (history m i) v (λ i. firstNumber m t + i) u w) (nodeOf (history m′ i′) v′ (λ i. firstNumber m′ t′ + i) u′ w′)
   node-alike i i′ v v′ u u′ w w′ e e′ ev eu ew = rw (e, e′, ev, eu, ew) (by-node v′ (countOf u′ - suc w′) (getD (weaving u′) w′ (node 0 0)))
+
+-- The page number of a leaf that WEAVE stores next is so many after the ticket's first.
+module _ (L : Limits) (m : Model) (S : Kept L m) (t : ℕ) (p : WeavePassed m t) where
+  abbrev its : Version
+  its = versionOf m t
+
+  left-first : (y : Node) → nodeIn m (ticketUpdate m t) (ticketIn m t .woven) ≡ y
+      → leftOf (history m (its .line)) (its .number) (slotNumber m t) y ≡ leftOf (history m (its .line)) (its .number) (λ i. firstNumber m t + i) y
+  left-first (node a zero) e =
+      let f = ap (λ (u : Update). u .f) (own-update L m S (ticketUpdate m t) (p .assigned) (update-le m t)) in
+      rw f (next-number L m S t p a e)
+  left-first (node a (suc k)) e = refl
+
+  node-first : nodeAnswer L m t ≡ nodeOf (history m (its .line)) (its .number) (λ i. firstNumber m t + i) (toUpdate (m .tickets) its) (ticketIn m t .woven)
+  node-first =
+      let y = nodeIn m (ticketUpdate m t) (ticketIn m t .woven) in
+      ap (λ n. nodeIs (numberIn (history m (its .line)) (its .number)) (firstPage y) (spanOf y) n (rightOf (history m (its .line)) (its .number) y)
+      (countOf (toUpdate (m .tickets) its) - suc (ticketIn m t .woven)))
+      (left-first y refl)
 
 weave-alike : (t t′ T T′ u u′ w w′ n n′ : ℕ) → eqb t 0 || ltb T t ≡ eqb t′ 0 || ltb T′ t′ → (0 < u → (0 < u′) × (w ≡ w′) × (n ≡ n′)) → (0 < u′ → 0 < u)
     → firstRefusal (weaveRows always always t T u w n) ≡ firstRefusal (weaveRows always always t′ T′ u′ w′ n′)
@@ -128,9 +151,9 @@ module _ (L : Limits) {l l′ : ℕ} {ts ts′ : List ℕ} {m m′ : Model} (M :
       unfolding firstRefusal beginRows holds
       alike-begin = alike-row l l′ m m′ (eqb n 0 || ltb 64 n) 4 (alike-fine l l′ m m′ (room m) (room m′))
         where
-          room : (m : Model) → Fine (cond (leb (L .updates) (length (m .tickets))) 5 (cond (ltb (L .pages) (taken (m .tickets) (length (m .tickets)) + n)) 6 0))
+          room : (m : Model) → Fine (cond (leb (L .updates) (length (m .tickets))) 5 (cond (ltb (L .pages) (pagesUsed m + n)) 6 0))
           room m = fine-row (leb (L .updates) (length (m .tickets))) 4 refl
-              (fine-row (ltb (L .pages) (taken (m .tickets) (length (m .tickets)) + n)) 5 refl (no-refusal refl))
+              (fine-row (ltb (L .pages) (pagesUsed m + n)) 5 refl (no-refusal refl))
 
       pub twin-begin : Step l l′ (oneMore L m n ts) (oneMore L m′ n ts′) m m′ 0 0 (onModel L m (BEGIN n)) (onModel L m′ (BEGIN n))
       unfolding onModel unless
@@ -209,11 +232,13 @@ module _ (L : Limits) {l l′ : ℕ} {ts ts′ : List ℕ} {m m′ : Model} (M :
             (λ o. let w = own-too o in (w .assigned, w .woven, ap countOf (w .update)))
             (λ o. mine-back M S S′ P o (not-elsewhere l′ m′ t′ on-line′ o))
 
-        node-same : 0 < ticketUpdate m t → SameAnswer l l′ m m′ t t′ (nodeAnswer L m t) (nodeAnswer L m′ t′)
-        node-same o =
+        node-same : WeavePassed m t → WeavePassed m′ t′ → SameAnswer l l′ m m′ t t′ (nodeAnswer L m t) (nodeAnswer L m′ t′)
+        node-same p p′ =
+            let o = p .assigned in
             let w = own-too o in
-            node-alike l l′ m m′ t t′ (updates-same (both-begun o)) (versionOf m t .line) (versionOf m′ t′ .line) _ _ _ _ _ _
-            (not-elsewhere l m t on-line o) (w .line) (w .number) (w .update) (w .woven)
+            subst₂ (SameAnswer l l′ m m′ t t′) (sym (node-first L m S t p)) (sym (node-first L m′ S′ t′ p′))
+            (node-alike l l′ m m′ t t′ (updates-same (both-begun o)) (versionOf m t .line) (versionOf m′ t′ .line) _ _ _ _ _ _
+            (not-elsewhere l m t on-line o) (w .line) (w .number) (w .update) (w .woven))
 
         match-woven : WeavePassed m t → WeavePassed m′ t′ → Match l l′ ts ts′ (woven L m t) (woven L m′ t′)
         match-woven p p′ =
@@ -270,4 +295,5 @@ module _ (L : Limits) {l l′ : ℕ} {ts ts′ : List ℕ} {m m′ : Model} (M :
             twin l l′ m m′ (λ r r′. Match l l′ ts ts′ (unless r m (woven L m t)) (unless r′ m′ (woven L m′ t′)))
             (weaveNumber L m t) (weaveNumber L m′ t′) (nodeAnswer L m t) (nodeAnswer L m′ t′) (elim [ ]) (elim [ ]) (alike weave-same) (λ k k′. M) λ z z′.
             let p = weave-passed L m t z in
-            (match-woven p (weave-passed L m′ t′ z′), node-same (p .assigned))
+            let p′ = weave-passed L m′ t′ z′ in
+            (match-woven p p′, node-same p p′)

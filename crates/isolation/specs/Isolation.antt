@@ -6,14 +6,15 @@ use mathlib.Core.Logic.{_⊎_}
 use mathlib.Core.Bool.{Bool, true, false, not, _&&_, _||_}
 use mathlib.Core.Option.{Option}
 use mathlib.Core.List.{List, [], _∷_, _++_}
-use Prim.Native.Nat.{ℕ, suc, pred, _+_, _^_, _≤_, _<_}
+use Prim.Native.Nat.{ℕ, suc, _+_, _^_, _≤_, _<_}
 use lib.Dec.{leb, ltb, eqb}
 use lib.ListN.{length}
 use Rattle.tree.specs.Tree.{nth}
 use Rattle.table.specs.Table.{unless}
 use Rattle.model.specs.Calls.{Call, BEGIN, PUT, WEAVE, SETWINDOWS, on, Act, WRITE, APPEND, PUBLISH, BRANCH, ask, Query, Answer, refused, ticketIs, nodeIs, lineIs, partIs, Outcome, says}
-use Rattle.model.specs.History.{Page, Ticket, Version, History, noTicket, ticketAt, versionAt, taken}
+use Rattle.model.specs.History.{Page, Ticket, Version, History, noTicket, ticketAt, versionAt}
 use Rattle.model.specs.Model.{Limits, Model, noModel, updateAt, history, ticketUpdate, numberIn}
+use Rattle.model.specs.Layout.{slotNumber}
 use Rattle.model.specs.OnModel.{either, beginNumber, onModel}
 use Rattle.model.specs.Run.{run}
 
@@ -130,7 +131,7 @@ module _ (l l′ : ℕ) (ts ts′ : List ℕ) (m m′ : Model) where
 
 -- The first page number of ticket t.
 abbrev pub firstNumber : Model → ℕ → ℕ
-firstNumber m t = taken (m .tickets) (pred t)
+firstNumber m t = slotNumber m t 0
 
 -- Refusals 5, 6, 15, 20 and 21.
 abbrev pub listed : ℕ → Bool

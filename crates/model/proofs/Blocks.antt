@@ -65,12 +65,3 @@ blocks-byte S xs sized some j h =
 module _ (S n : ℕ) (g : ℕ → Page) (sized : (i : ℕ) → i < n → length (g i) ≡ S) where
   pub blocks-tab : Blocks S (tab n g)
   blocks-tab i l = let l′ : i < n = rw length-tab at l in rw (getD-tab n g i [] l′) (sized i l′)
-
-  pub length-blocks : length (joined (tab n g)) ≡ S * n
-  length-blocks = length-joined S (tab n g) blocks-tab ∙ rw length-tab
-
-  pub tab-byte : (q j : ℕ) → q < n → j < S → getD (joined (tab n g)) (S * q + j) 0 ≡ getD (g q) j 0
-  tab-byte q j h l = block-byte S (tab n g) blocks-tab q (rw length-tab h) j l ∙ rw (getD-tab n g q [] h)
-
-  pub tab-part : (q : ℕ) → q < n → take S (drop (S * q) (joined (tab n g))) ≡ g q
-  tab-part q h = block-part S (tab n g) blocks-tab q (rw length-tab h) ∙ getD-tab n g q [] h

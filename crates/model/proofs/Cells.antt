@@ -4,17 +4,12 @@ use mathlib.Core.Path.{_≡_, refl, sym, ap, ap₂, _∙_}
 use mathlib.Core.Logic.{inl, inr, _≢_}
 use mathlib.Core.List.{List, [], _∷_, _++_}
 use Prim.Native.Nat.{ℕ, zero, suc, pred, _+_, _-_, _≤_, _<_}
-use native.Mathlib.Nat.{zero-add, suc-inj, eq-or-lt-of-le}
-use native.Mathlib.Decide.{ℕ-discrete}
+use native.Mathlib.Nat.{zero-add, suc-inj}
 use native.Mathlib.Omega.{arith}
 use borrow.Author.Tests.{lt-ltb, le-ltb}
 use lib.Dec.{ltb}
-use lib.ListN.{length, getD, set, length-set}
-use lib.Seq.{getD-set-same, getD-set-other}
-use Rattle.tree.specs.Tree.{Update, countOf, update}
-use Rattle.tree.specs.Walk.{used}
+use lib.ListN.{length, getD}
 use Rattle.tree.proofs.Meets.{lt-or-le}
-use Rattle.model.specs.History.{Ticket, pagesOf, taken}
 use Rattle.model.specs.OnModel.{either}
 use Rattle.model.proofs.Laid.{cellIn, oneTo}
 use Rattle.model.proofs.Tab.{length-tab, getD-tab, tab-more}
@@ -32,17 +27,6 @@ module _ {A : Type 0} (size : A → ℕ) where
   before-more (x ∷ xs) zero z h = omega arith
   before-more (x ∷ xs) (suc t) z h = omega (arith, before-more xs t z (omega arith))
 
-  pub before-append : (xs ys : List A) (t : ℕ) → t ≤ length xs → before size (xs ++ ys) t ≡ before size xs t
-  unfolding before
-  before-append xs ys zero h = refl
-  before-append [] ys (suc t) h = absurd (omega arith)
-  before-append (x ∷ xs) ys (suc t) h = ap (λ n. size x + n) (before-append xs ys t (omega arith))
-
-  pub before-end : (xs : List A) (x : A) → before size (xs ++ x ∷ []) (suc (length xs)) ≡ before size xs (length xs) + size x
-  unfolding before
-  before-end [] x = omega arith
-  before-end (y ∷ xs) x = omega (arith, before-end xs x)
-
   -- The cells of two elements lie apart.
   pub before-lt : (xs : List A) (t u : ℕ) (z : A) → t < u → u ≤ length xs → before size xs t + size (getD xs t z) ≤ before size xs u
   unfolding before
@@ -57,24 +41,6 @@ module _ {A : Type 0} (size : A → ℕ) where
   before-le xs (suc t) zero h = absurd (omega arith)
   before-le [] (suc t) (suc u) h = omega arith
   before-le (x ∷ xs) (suc t) (suc u) h = omega (arith, before-le xs t u (omega arith))
-
-  pub before-set : (xs : List A) (t : ℕ) (x z : A) (u : ℕ) → size x ≡ size (getD xs t z) → before size (set xs t x) u ≡ before size xs u
-  unfolding before
-  before-set xs t x z zero e = refl
-  before-set [] t x z (suc u) e = refl
-  before-set (y ∷ xs) zero x z (suc u) e = rw e
-  before-set (y ∷ xs) (suc t) x z (suc u) e = ap (λ n. size y + n) (before-set xs t x z u e)
-
-  -- Different elements, or different cells of one, have different numbers.
-  pub before-apart : (xs : List A) (t i u j : ℕ) (z : A) → t < length xs → i < size (getD xs t z) → u < length xs → j < size (getD xs u z)
-      → before size xs t + i ≡ before size xs u + j → (t ≡ u) × (i ≡ j)
-  before-apart xs t i u j z h k h′ k′ e = elim (lt-or-le t u) [
-    | inl q ↦ absurd (omega (arith, before-lt xs t u z q (omega arith)))
-    | inr q ↦ elim (eq-or-lt-of-le q) [
-      | inl p ↦ (sym p, omega (arith, ap (before size xs) p))
-      | inr p ↦ absurd (omega (arith, before-lt xs u t z p (omega arith)))
-    ]
-  ]
 
   -- Where number q lies: at cell i of element t, or past the last.
   pub data Where (xs : List A) (z : A) (q : ℕ) : Type 0 where
@@ -92,23 +58,8 @@ module _ {A : Type 0} (size : A → ℕ) where
     ]
   ]
 
--- The two runs of numbers: the tickets' page numbers, and the versions' node places.
-pub taken-before : (ks : List Ticket) (t : ℕ) → taken ks t ≡ before pagesOf ks t
-unfolding taken before
-taken-before ks zero = refl
-taken-before [] (suc t) = refl
-taken-before (k ∷ ks) (suc t) = ap (λ n. pagesOf k + n) (taken-before ks t)
-
 pub numbered-at : (n t z : ℕ) → t < n → getD (oneTo n) t z ≡ suc t
 numbered-at n t z h = getD-tab n suc t z h
-
-pub used-before : (us : List Update) (n v : ℕ) → v ≤ n → used us v ≡ before (λ w. countOf (update us w)) (oneTo n) v
-unfolding used before
-used-before us n zero h = refl
-used-before us n (suc v) h =
-    let r = used-before us n v (omega arith) in
-    let m = before-more (λ w. countOf (update us w)) (oneTo n) v 0 (rw length-tab h) in
-    omega (arith, rw (numbered-at n v 0 h) at m)
 
 -- Two lists whose elements have as many cells begin their elements at the same numbers.
 pub before-same : {A C : Type 0} (size : A → ℕ) (size′ : C → ℕ) (xs : List A) (ys : List C) (z : A) (w : C) → length xs ≡ length ys
@@ -142,7 +93,7 @@ module _ {A B : Type 0} (size : A → ℕ) (get : A → ℕ → B) (d : B) where
   cell-append [] x h q = elim (lt-or-le q (size x)) [ inl l ↦ rw (lt-ltb q (size x) l) (h q l) | inr l ↦ rw (le-ltb q (size x) l) ]
   cell-append (y ∷ xs) x h q = ap (either (ltb q (size y)) (get y q)) (cell-append xs x h (q - size y))
 
--- Two layouts whose elements have as many cells agree wherever their cells do: but at one number, where one cell may differ, and everywhere, where none does.
+-- Two layouts whose elements have as many cells agree wherever their cells do, but at one number, where one cell may differ.
 module _ {A C B : Type 0} (size : A → ℕ) (get : A → ℕ → B) (size′ : C → ℕ) (get′ : C → ℕ → B) (d : B) (xs : List A) (ys : List C) (z : A) (w : C)
     (long : length xs ≡ length ys) (sizes : (t : ℕ) → t < length xs → size (getD xs t z) ≡ size′ (getD ys t w)) where
   pub cell-but : (u j : ℕ) → ((t i : ℕ) → t < length xs → i < size (getD xs t z) → (t ≡ u → i ≡ j → ⊥) → get (getD xs t z) i ≡ get′ (getD ys t w) i)
@@ -155,30 +106,6 @@ module _ {A C B : Type 0} (size : A → ℕ) (get : A → ℕ → B) (size′ : 
     | outside k ↦
         cell-past size get d xs q k ∙ sym (cell-past size′ get′ d ys q (rw (← long, ← before-same size size′ xs ys z w long sizes (length xs)) k))
   ]
-
-  pub cell-same : ((t i : ℕ) → t < length xs → i < size (getD xs t z) → get (getD xs t z) i ≡ get′ (getD ys t w) i)
-      → (q : ℕ) → cellIn size get d xs q ≡ cellIn size′ get′ d ys q
-  cell-same h q = cell-but 0 (suc q) (λ t i l k n. h t i l k) q (λ e. omega arith)
-
--- Element t becomes x, as long, and differs from what it was at most at its cell i.
-module _ {A B : Type 0} (size : A → ℕ) (get : A → ℕ → B) (d : B) (xs : List A) (t i : ℕ) (x z : A) (there : t < length xs) (long : size x ≡ size (getD xs t z)) where
-  pub cell-changed : i < size x → cellIn size get d (set xs t x) (before size xs t + i) ≡ get x i
-  cell-changed h =
-      let s = getD-set-same xs t x z there in
-      rw (← before-set size xs t x z t long) (cell-at size get d (set xs t x) t i z (rw length-set there) (rw s h) ∙ rw s)
-
-  pub cell-unchanged : ((j : ℕ) → j < size x → j ≢ i → get x j ≡ get (getD xs t z) j) → (q : ℕ) → q ≢ before size xs t + i
-      → cellIn size get d (set xs t x) q ≡ cellIn size get d xs q
-  cell-unchanged h q n = sym (cell-but size get size get d xs (set xs t x) z z (sym (length-set xs t x)) sizes t i gets q n)
-    where
-      sizes : (u : ℕ) → u < length xs → size (getD xs u z) ≡ size (getD (set xs t x) u z)
-      sizes u l = elim (ℕ-discrete u t) [ yes e ↦ rw (e, getD-set-same xs t x z there) (sym long) | no k ↦ rw (getD-set-other xs t u x z k) ]
-
-      gets : (u j : ℕ) → u < length xs → j < size (getD xs u z) → (u ≡ t → j ≡ i → ⊥) → get (getD xs u z) j ≡ get (getD (set xs t x) u z) j
-      gets u j l m k = elim (ℕ-discrete u t) [
-        | yes e ↦ rw (e, getD-set-same xs t x z there) (sym (h j (rw (long, ← e) m) (k e)))
-        | no r ↦ rw (getD-set-other xs t u x z r)
-      ]
 
 -- ---- the elements 1 .. n, as the versions are
 

@@ -8,12 +8,12 @@ use Rattle.model.specs.Run.{run}
 use Rattle.model.specs.Example.{computes, limits, pageOf, calls, more}
 use Rattle.model.specs.Trees.{after, nodesAfter}
 use Rattle.model.proofs.Laid.{tab, cellIn, flat}
-use Rattle.model.proofs.Image.{pagesImage, nodesImage}
+use Rattle.model.proofs.Image.{pageList, pagesImage, nodesImage}
 
 pub nodes-drawn : nodesImage limits after ≡ nodesAfter
 unfolding computes limits calls more after run nodesImage tab cellIn flat nodesAfter
 nodes-drawn = refl
 
 pub pages-drawn : pagesImage limits after ≡ pageOf 10 ++ pageOf 11 ++ pageOf 21 ++ pageOf 30 ++ pageOf 42 ++ pageOf 50 ++ replicate 32 0
-unfolding computes limits calls more after run pagesImage tab cellIn joined
+unfolding computes limits calls more after run pagesImage pageList tab cellIn joined
 pages-drawn = refl

@@ -1,18 +1,14 @@
--- What follows of a sound model: of its tickets' updates, of its updates' pages and places, and of how many versions a line has.
+-- What follows of a sound model: of its tickets' updates, of its updates' pages, and of how many versions a line has.
 -- Assumes nothing.
 use mathlib.Core.Path.{_≡_, ap, sym, _∙_}
 use Prim.Native.Nat.{ℕ, zero, suc, pred, _+_, _≤_, _<_}
 use native.Mathlib.Omega.{arith}
 use lib.ListN.{length}
-use Rattle.tree.specs.Tree.{countOf, update}
-use Rattle.tree.specs.Walk.{used}
-use Rattle.model.specs.History.{pagesOf, taken, toUpdate, updates}
-use Rattle.model.specs.Model.{Limits, Model, lineAt, updateAt, every, ticketUpdate}
+use Rattle.model.specs.History.{pagesOf, toUpdate}
+use Rattle.model.specs.Model.{Limits, Model, lineAt, updateAt, ticketUpdate}
 use Rattle.model.specs.OnModel.{ticketIn}
 use Rattle.model.proofs.Sound.{SoundGiven, Sound, UpdateSound}
 use Rattle.model.proofs.Pigeons.{pigeons}
-use Rattle.model.proofs.Tickets.{taken-next, taken-mono}
-use Rattle.model.proofs.Updates.{used-next, used-mono}
 use Rattle.model.proofs.Updated.{update-past, update-le}
 use Rattle.model.proofs.Shown.{shownAt}
 
@@ -28,21 +24,12 @@ module _ {A : Type 0} (L : Limits) (m : Model) (S : SoundGiven A L m) where
   pub update-got : (t : ℕ) → 0 < ticketUpdate m t → UpdateSound m (ticketUpdate m t)
   update-got t o = S .updated (ticketUpdate m t) o (update-le m t)
 
-  -- A ticket's page numbers are within the pages.
-  pub number-room : (t : ℕ) → 0 < t → t ≤ length (m .tickets) → taken (m .tickets) (pred t) + pagesOf (ticketIn m t) ≤ L .pages
-  number-room t o h = omega (arith, taken-next (m .tickets) t o h, taken-mono (m .tickets) t (length (m .tickets)) h, S .pageRoom)
-
   -- An update's pages are those of its ticket, from f on.
   pub pages-end : (k : ℕ) → 0 < k → k ≤ length (m .updates)
       → suc (toUpdate (m .tickets) (updateAt m k) .last) ≡ updateAt m k .f + pagesOf (ticketIn m (updateAt m k .ticket))
   pages-end k o h =
       let s = S .updated k o h in
       omega (arith, S .tickets (updateAt m k .ticket) (s .from) (s .upto) .some-pages)
-
-  -- An update's node places are within the nodes, after those of the updates before it.
-  pub place-room : (k : ℕ) → 0 < k → k ≤ length (m .updates)
-      → used (updates (every m)) (pred k) + countOf (update (updates (every m)) k) ≤ L .nodes
-  place-room k o h = omega (arith, used-next (updates (every m)) k o, used-mono (updates (every m)) k (length (m .updates)) h, S .nodeRoom)
 
   module _ (l : ℕ) (there : l < length (m .lines)) where
     -- A version is a sound update.

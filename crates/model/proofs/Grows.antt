@@ -1,11 +1,11 @@
--- What every call leaves of a model: its updates, the pages of their tickets and their page numbers, and its lines, which show the same and more.
+-- What every call leaves of a model: its updates, the pages of its tickets, and its lines, which show the same and more.
 -- Assumes nothing.
 use mathlib.Core.Path.{_≡_, refl, ap, sym, _∙_}
-use Prim.Native.Nat.{ℕ, zero, suc, pred, _≤_, _<_}
+use Prim.Native.Nat.{ℕ, zero, suc, _≤_, _<_}
 use native.Mathlib.Omega.{arith}
 use lib.ListN.{length}
 use Rattle.tree.specs.Tree.{Update, nth, countOf}
-use Rattle.model.specs.History.{Version, taken, toUpdate, updates}
+use Rattle.model.specs.History.{Version, pagesOf, toUpdate, updates}
 use Rattle.model.specs.Model.{Line, Model, lineAt, updateAt, ticketUpdate}
 use Rattle.model.specs.OnModel.{ticketIn}
 use Rattle.model.proofs.Shown.{Whole}
@@ -42,10 +42,9 @@ pub record Grown (m m′ : Model) : Type 0 where
   pub lines : length (m .lines) ≤ length (m′ .lines)
   pub version : (k : ℕ) → k ≤ length (m .updates) → updateAt m′ k ≡ updateAt m k
   pub got : (t : ℕ) → 0 < ticketUpdate m t → ticketUpdate m′ t ≡ ticketUpdate m t
-  -- What was put for an update's ticket stays, and where it lies.
+  -- A ticket keeps its n, and what was put for an update's ticket stays.
+  pub pages : (t : ℕ) → t ≤ length (m .tickets) → pagesOf (ticketIn m′ t) ≡ pagesOf (ticketIn m t)
   pub slots : (k : ℕ) → 0 < k → k ≤ length (m .updates) → ticketIn m′ (updateAt m k .ticket) .slots ≡ ticketIn m (updateAt m k .ticket) .slots
-  pub numbers : (k : ℕ) → 0 < k → k ≤ length (m .updates)
-      → taken (m′ .tickets) (pred (updateAt m k .ticket)) ≡ taken (m .tickets) (pred (updateAt m k .ticket))
   -- No node is woven past the last.
   pub whole : (k : ℕ) → 0 < k → k ≤ length (m .updates) → Whole m k → ticketIn m′ (updateAt m k .ticket) .woven ≡ ticketIn m (updateAt m k .ticket) .woven
   pub line : (l : ℕ) → l < length (m .lines) → LineGrown (lineAt m l) (lineAt m′ l)
@@ -71,7 +70,7 @@ grown-same m = record {
   version = λ k h. refl;
   got = λ t o. refl;
   slots = λ k o h. refl;
-  numbers = λ k o h. refl;
+  pages = λ t h. refl;
   whole = λ k o h w. refl;
   line = λ l h. line-unmoved (lineAt m l) (lineAt m l) refl;
 }
@@ -84,7 +83,7 @@ grown-then m m′ m″ g h = record {
   version = λ k l. h .version k (omega arith) ∙ g .version k l;
   got = λ t o. h .got t (rw (g .got t o) o) ∙ g .got t o;
   slots = λ k o l. rw (g .version k l) at (h .slots k o (omega arith)) ∙ g .slots k o l;
-  numbers = λ k o l. rw (g .version k l) at (h .numbers k o (omega arith)) ∙ g .numbers k o l;
+  pages = λ t l. h .pages t (omega arith) ∙ g .pages t l;
   whole = λ k o l w. rw (g .version k l) at (h .whole k o (omega arith) (whole-grown m m′ g k o l w)) ∙ g .whole k o l w;
   line = λ l n. line-then (lineAt m l) (lineAt m′ l) (lineAt m″ l) (g .line l n) (h .line l (omega arith));
 }

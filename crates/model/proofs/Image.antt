@@ -2,13 +2,14 @@
 -- Assumes nothing.
 use mathlib.Core.Option.{Option, none, some}
 use mathlib.Core.List.{List}
-use Prim.Native.Nat.{ℕ, pred}
+use Prim.Native.Nat.{ℕ}
 use lib.Dec.{ltb}
 use lib.ListN.{length, getD, replicate}
 use Rattle.tree.specs.Tree.{Node, node, countOf, weaving, update}
-use Rattle.model.specs.History.{Page, Ticket, pagesOf, taken, toUpdate, updates}
+use Rattle.model.specs.History.{Page, Ticket, pagesOf, toUpdate, updates}
 use Rattle.model.specs.InTurn.{joined}
 use Rattle.model.specs.Model.{Limits, Model, updateAt, history, every}
+use Rattle.model.specs.Layout.{slotNumber}
 use Rattle.model.specs.OnModel.{ticketIn, leftOf, rightOf, either}
 use Rattle.model.proofs.Laid.{tab, oneTo, cellIn, Pair, onesPair, flat}
 
@@ -27,8 +28,12 @@ slotCell size k i = orBlank size (getD (k .slots) i none)
 abbrev pub pageCell : ℕ → List Ticket → ℕ → Page
 pageCell size ks q = cellIn pagesOf (slotCell size) (blank size) ks q
 
+-- All pages in the order of their numbers, and as bytes.
+unfoldable pub pageList : Limits → Model → List Page
+pageList L m = tab (L .pages) (pageCell (L .size) (m .tickets))
+
 unfoldable pub pagesImage : Limits → Model → List ℕ
-pagesImage L m = joined (tab (L .pages) (pageCell (L .size) (m .tickets)))
+pagesImage L m = joined (pageList L m)
 
 -- ---- nodes: the updates' nodes in weaving order, one update after another in the order of ASSIGN
 
@@ -37,7 +42,7 @@ abbrev pub numbersOf : Model → ℕ → Node → Pair
 numbersOf m k x =
     let u = updateAt m k in
     let h = history m (u .line) in
-    (leftOf h (u .number) (taken (m .tickets) (pred (u .ticket))) x, rightOf h (u .number) x)
+    (leftOf h (u .number) (slotNumber m (u .ticket)) x, rightOf h (u .number) x)
 
 abbrev pub wovenOf : Model → ℕ → ℕ
 wovenOf m k = ticketIn m (updateAt m k .ticket) .woven

@@ -10,9 +10,7 @@ pub mod Blocks
 pub mod Bytes
 pub mod Runs
 -- Histories: a line's tickets, versions and updates, and its pages.
-pub mod Tickets
 pub mod Updates
-pub mod Append
 pub mod Stay
 -- Model: what is true of it, and what the calls keep of it.
 pub mod Sound
@@ -24,6 +22,7 @@ pub mod Blob
 pub mod Stamps
 pub mod Passed
 pub mod Grows
+pub mod LayoutLaws
 pub mod Older
 pub mod Lines
 pub mod Kept
@@ -39,8 +38,8 @@ pub mod Held
 pub mod Reached
 -- Areas: the pages and nodes that a model stands for, and the trees in them.
 pub mod Image
-pub mod Areas
 pub mod Woven
+pub mod Leaves
 pub mod Trees
 pub mod Found
 pub mod Drawn

@@ -15,8 +15,9 @@ use Rattle.table.specs.Table.{beginRows, putRows, weaveRows}
 use Rattle.table.specs.Table.{publishRows, branchRows, assignRows, sizeRows, readRows, pageRows}
 use Rattle.table.proofs.Table.{passed}
 use Rattle.model.specs.Calls.{refused, lineIs, stampIs, says, answers}
-use Rattle.model.specs.History.{Page, History, pagesOf, versionAt, taken, toUpdate, blobSize, isFilled, bitIf, allFilled, complete, due}
-use Rattle.model.specs.Model.{Limits, Model, lineAt, updateAt, history, places, ticketUpdate}
+use Rattle.model.specs.History.{Page, History, pagesOf, versionAt, toUpdate, blobSize, isFilled, bitIf, allFilled, complete, due}
+use Rattle.model.specs.Model.{Limits, Model, lineAt, updateAt, history, ticketUpdate}
+use Rattle.model.specs.Layout.{nodesUsed, pagesUsed}
 use Rattle.model.specs.OnModel.{ticketIn, beginNumber, putNumber, weaveNumber, nextUpdate, assignNumber, publishNumber, branchNumber, readNumber, sizeNumber, pageNumber}
 
 -- A row that reads a record: in the model the record is there.
@@ -32,7 +33,7 @@ pub record BeginPassed (L : Limits) (m : Model) (n : ℕ) : Type 0 where
   pub some-pages : 0 < n
   pub few : n ≤ 64
   pub record-left : length (m .tickets) < L .updates
-  pub pages-left : taken (m .tickets) (length (m .tickets)) + n ≤ L .pages
+  pub pages-left : pagesUsed m + n ≤ L .pages
 
 pub record PutPassed (L : Limits) (m : Model) (t i : ℕ) (bytes : List ℕ) : Type 0 where
   pub from : 0 < t
@@ -56,7 +57,7 @@ pub record AssignPassed (L : Limits) (m : Model) (l t f : ℕ) : Type 0 where
   pub puts : allFilled (ticketIn m t .slots) ≡ true
   pub starts : f ≤ blobSize (history m l)
   pub inside : f + pagesOf (ticketIn m t) ≤ 4096
-  pub nodes-left : places m + countOf (nextUpdate L m l t f) ≤ L .nodes
+  pub nodes-left : nodesUsed m + countOf (nextUpdate L m l t f) ≤ L .nodes
 
 pub record PublishPassed (m : Model) (l minute : ℕ) : Type 0 where
   pub line : l < length (m .lines)

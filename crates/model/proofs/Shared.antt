@@ -17,7 +17,7 @@ pub same-versions : (h w : History) (k : ℕ) → h .tickets ≡ w .tickets → 
 same-versions h w k e s = record {
   versions = s;
   slots = λ v p. rw e;
-  numbers = λ v a o p. rw (e, s v p);
+  serials = λ v a o p. rw (e, s v p);
 }
 
 -- The line that BRANCH adds.

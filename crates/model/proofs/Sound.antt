@@ -8,8 +8,9 @@ use lib.ListN.{length, getD}
 use Rattle.tree.specs.Tree.{countOf, nth}
 use Rattle.tree.specs.Walk.{Accepted}
 use Rattle.windows.specs.Windows.{inside, insideSome}
-use Rattle.model.specs.History.{Page, pagesOf, taken, toUpdate, updates, allFilled, complete}
-use Rattle.model.specs.Model.{Limits, Model, lineAt, updateAt, history, places, ticketUpdate}
+use Rattle.model.specs.History.{Page, pagesOf, toUpdate, updates, allFilled, complete}
+use Rattle.model.specs.Model.{Limits, Model, lineAt, updateAt, history, ticketUpdate}
+use Rattle.model.specs.Layout.{nodesUsed, pagesUsed}
 use Rattle.model.specs.OnModel.{ticketIn}
 
 -- FORMAT's limits, as far as the calls rest on them.
@@ -67,8 +68,8 @@ pub record SoundGiven (A : Type 0) (L : Limits) (m : Model) : Type 0 where
   pub allowed : A
   pub records : length (m .tickets) ≤ L .updates
   pub fewer : length (m .updates) ≤ length (m .tickets)
-  pub pageRoom : taken (m .tickets) (length (m .tickets)) ≤ L .pages
-  pub nodeRoom : places m ≤ L .nodes
+  pub pageRoom : pagesUsed m ≤ L .pages
+  pub nodeRoom : nodesUsed m ≤ L .nodes
   pub tickets : (t : ℕ) → 0 < t → t ≤ length (m .tickets) → TicketSound L m t
   pub updated : (k : ℕ) → 0 < k → k ≤ length (m .updates) → UpdateSound m k
   pub begun : 0 < length (m .lines)

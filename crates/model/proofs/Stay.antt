@@ -1,14 +1,15 @@
--- A version depends on the versions up to it and on their tickets' slots and page numbers only.
+-- A version depends on the versions up to it and on their tickets' slots and pages only.
 -- Assumes nothing.
 use mathlib.Core.Path.{_≡_, refl, ap, sym, _∙_}
 use Prim.Native.Nat.{ℕ, zero, suc, _+_, _^_, _≤_, _<_}
 use native.Mathlib.Omega.{arith}
 use Rattle.tree.specs.Tree.{Node, node, update, newest}
 use Rattle.tree.proofs.Newest.{newest-le}
-use Rattle.model.specs.History.{Version, History, ticketAt, versionAt, leafNumber, updates}
+use Rattle.model.specs.History.{Version, History, ticketAt, versionAt, updates}
 use Rattle.model.specs.InTurn.{blobAt, bytesAt, joined}
 use Rattle.model.specs.Stamp.{stampAt, stampsUpto}
 use Rattle.model.specs.Model.{numberIn, numbered}
+use Rattle.model.specs.Layout.{leafSerial}
 use Rattle.model.specs.OnModel.{leftOf, rightOf}
 use Rattle.model.proofs.Updates.{newest-same, update-at}
 use Rattle.model.proofs.Stamps.{stamp-by-blobs}
@@ -17,27 +18,27 @@ use Rattle.model.proofs.Stamps.{stamp-by-blobs}
 pub record SameUpTo (h w : History) (k : ℕ) : Type 0 where
   pub versions : (v : ℕ) → v ≤ k → versionAt h v ≡ versionAt w v
   pub slots : (v : ℕ) → v ≤ k → ticketAt h (versionAt h v .ticket) .slots ≡ ticketAt w (versionAt h v .ticket) .slots
-  pub numbers : (v a : ℕ) → 0 < v → v ≤ k → leafNumber h v a ≡ leafNumber w v a
+  pub serials : (v a : ℕ) → 0 < v → v ≤ k → leafSerial h v a ≡ leafSerial w v a
 
 pub same-less : (h w : History) (k j : ℕ) → j ≤ k → SameUpTo h w k → SameUpTo h w j
 same-less h w k j q s = record {
   versions = λ v p. s .versions v (omega arith);
   slots = λ v p. s .slots v (omega arith);
-  numbers = λ v a o p. s .numbers v a o (omega arith);
+  serials = λ v a o p. s .serials v a o (omega arith);
 }
 
 pub same-then : (h w x : History) (k : ℕ) → SameUpTo h w k → SameUpTo w x k → SameUpTo h x k
 same-then h w x k s r = record {
   versions = λ v p. s .versions v p ∙ r .versions v p;
   slots = λ v p. s .slots v p ∙ rw (s .versions v p) (r .slots v p);
-  numbers = λ v a o p. s .numbers v a o p ∙ r .numbers v a o p;
+  serials = λ v a o p. s .serials v a o p ∙ r .serials v a o p;
 }
 
 pub same-back : (h w : History) (k : ℕ) → SameUpTo h w k → SameUpTo w h k
 same-back h w k s = record {
   versions = λ v p. sym (s .versions v p);
   slots = λ v p. sym (rw (s .versions v p) at (s .slots v p));
-  numbers = λ v a o p. sym (s .numbers v a o p);
+  serials = λ v a o p. sym (s .serials v a o p);
 }
 
 module _ (h w : History) (k : ℕ) (same : SameUpTo h w k) where
@@ -52,7 +53,7 @@ module _ (h w : History) (k : ℕ) (same : SameUpTo h w k) where
   number-stays v p = ap (λ (x : Version). numbered (x .line) v) (same .versions v p)
 
   -- The numbers of a version's nodes.
-  pub left-stays : (v number : ℕ) → v ≤ k → (x : Node) → leftOf h v number x ≡ leftOf w v number x
+  pub left-stays : (v : ℕ) (number : ℕ → ℕ) → v ≤ k → (x : Node) → leftOf h v number x ≡ leftOf w v number x
   left-stays v number p (node a zero) = rw (update-stays v p)
   left-stays v number p (node a (suc j)) =
       let le = newest-le (updates h) v a (2 ^ j) in

@@ -1,22 +1,21 @@
--- Where versions 1 .. k are woven whole, the tree that the node area holds from version k's number down is the tree rule's.
+-- Where every node that version k's root leads to stands, the tree that the node area holds from version k's number down is the tree rule's.
 -- Assumes nothing.
 use mathlib.Core.Path.{_≡_, refl, sym, subst₂, _∙_}
 use mathlib.Core.Logic.{inl, inr}
-use mathlib.Core.Bool.{true}
-use mathlib.Core.Option.{Option, some}
+use mathlib.Core.Option.{Option}
 use mathlib.Core.List.{List}
 use Prim.Native.Nat.{ℕ, zero, suc, _+_, _^_, _≤_, _<_}
 use native.Mathlib.Omega.{arith}
 use lib.Pow.{pow-pos}
-use Rattle.tree.specs.Tree.{Update, node, update, newest, heightOf}
+use Rattle.tree.specs.Tree.{Update, node, newest, heightOf}
 use Rattle.tree.specs.Place.{first}
-use Rattle.tree.specs.Walk.{Accepted, Numbers, leftBy, rightBy, placeBy, WovenBy, hasNode, visit, versionOver}
+use Rattle.tree.specs.Walk.{Accepted, Numbers, leftBy, rightBy, Stands, visit, versionOver}
 use Rattle.tree.specs.declared.NodeAt.the-variants.{Stored}
 use Rattle.tree.proofs.Meets.{lt-or-le}
 use Rattle.tree.proofs.First.{first-root, first-nest}
 use Rattle.tree.proofs.Newest.{newest-inside, newest-le}
 use Rattle.tree.proofs.Weaving.{grid-left, grid-right}
-use Rattle.tree.proofs.Walk.{newest-own, stands-woven}
+use Rattle.tree.proofs.Walk.{newest-own}
 use Rattle.model.specs.Snapshot.{treeOf, leafIn, innerIn, treeIn}
 
 -- The tree from a number that is not 0.
@@ -35,14 +34,13 @@ module _ (at : ℕ → ℕ → ℕ → Option ℕ) (area : List ℕ) where
 
 module _ (us : List Update) (k : ℕ) (accepted : (v : ℕ) → v < k → Accepted us v) (N : Numbers) (at : ℕ → ℕ → ℕ → Option ℕ) (area : List ℕ)
     (none-called : N .code 0 ≡ 0) (called : (v : ℕ) → 0 < v → v ≤ k → 0 < N .code v)
-    (woven : (v : ℕ) → 0 < v → v ≤ k → WovenBy us N area v)
-    (places : (v p h : ℕ) → 0 < v → v ≤ k → hasNode (update us v) p h ≡ true → at (N .code v) p h ≡ some (placeBy us N v p h)) where
+    (stands : (p h : ℕ) → 0 < versionOver us k p h → h ≤ heightOf us k → p < 2 ^ heightOf us k → Stands us N at area k p h) where
   -- The two numbers of a node that version k's root leads to.
   stored : (h a w : ℕ) → h ≤ heightOf us k → first a h ≡ a → a < 2 ^ heightOf us k → 0 < w → w ≡ newest us k a (2 ^ h)
       → visit area (at (N .code w) a h) ≡ Stored (leftBy us N w (node a h)) (rightBy us N w (node a h))
   stored h a w q g r o e =
       let over : 0 < versionOver us k a h = rw (g, ← e) o in
-      let s = stands-woven us k accepted N at area woven places a h over q r in
+      let s = stands a h over q r in
       subst₂ (λ (x y : ℕ). visit area (at (N .code y) a h) ≡ Stored (leftBy us N y (node x h)) (rightBy us N y (node x h))) g (rw g (sym e)) s
 
   none-below : (h a : ℕ) → treeIn at area h (N .code 0) a ≡ treeOf us N h 0 a

@@ -4,24 +4,24 @@ use mathlib.Core.List.{List, [], _∷_, _++_}
 use Prim.Native.Nat.{ℕ}
 use lib.ListN.{replicate}
 use Rattle.tree.specs.Tree.{heightFrom, rootHeight, meets, nodes, count, update, newest}
-use Rattle.tree.specs.Walk.{used}
 use Rattle.table.specs.Table.{unless, firstRefusal, holds, beginRows, putRows, weaveRows}
 use Rattle.table.specs.Table.{lineRows, publishRows, windowRows, branchRows, assignRows, sizeRows, readRows, pageRows}
 use Rattle.fields.specs.Fields.{fieldNumber}
 use Rattle.windows.specs.Windows.{insideOne, insideSome}
 use Rattle.windows.specs.Listed.{entryOf, entryBy, allWindows, ended, windowsIn, textNumber}
 use Rattle.model.specs.Calls.{Call, BEGIN, PUT, WEAVE, on, WRITE, APPEND, PUBLISH, BRANCH, READ, SIZE, RECENT, STAMP, VIEW, refused, ticketIs, putDone, versionIs, nodeIs, publishedIs, waiting, lineIs, filled, sizeIs, recentIs, stampIs, partIs, Outcome, says}
-use Rattle.model.specs.History.{taken, allFilled, complete, due}
+use Rattle.model.specs.History.{allFilled, complete, due}
 use Rattle.model.specs.InTurn.{applied, blobAt, joined}
 use Rattle.model.specs.Stamp.{stampAt}
 use Rattle.model.specs.Model.{Limits, noModel, updateFrom}
+use Rattle.model.specs.Layout.{layout}
 use Rattle.model.specs.OnModel.{modelOutcome, onLine, onModel}
 use Rattle.model.specs.Run.{outcomes}
 
 -- All that a list of calls computes with on the model: what unfolds this unfolds every definition listed here.
 unfoldable pub computes : ℕ
 unfolding outcomes onModel onLine modelOutcome unless firstRefusal holds lineRows publishRows windowRows branchRows beginRows putRows assignRows weaveRows sizeRows readRows
-    pageRows taken allFilled complete due applied blobAt joined stampAt updateFrom heightFrom rootHeight meets nodes count update newest used fieldNumber insideOne insideSome entryOf
+    pageRows layout allFilled complete due applied blobAt joined stampAt updateFrom heightFrom rootHeight meets nodes count update newest fieldNumber insideOne insideSome entryOf
     entryBy allWindows ended windowsIn textNumber
 computes = 0
 

@@ -2,7 +2,7 @@
 use mathlib.Core.Bool.{Bool, true, false, _&&_}
 use mathlib.Core.Option.{Option, none, some}
 use mathlib.Core.List.{List, [], _∷_, map}
-use Prim.Native.Nat.{ℕ, zero, suc, pred, _+_, _-_}
+use Prim.Native.Nat.{ℕ, suc, _+_, _-_}
 use lib.Dec.{ltb, eqb}
 use lib.ListN.{length}
 use Rattle.tree.specs.Tree.{Update, countOf, nth, update}
@@ -45,16 +45,6 @@ ticketAt m t = nth noTicket (m .tickets) t
 
 abbrev pub versionAt : History → ℕ → Version
 versionAt m v = nth noVersion (m .versions) v
-
--- The page numbers that the first t tickets use, n each.
-unfoldable pub taken : List Ticket → ℕ → ℕ
-taken ks zero = 0
-taken [] (suc t) = 0
-taken (k ∷ ks) (suc t) = pagesOf k + taken ks t
-
--- The page number of version v's page a: its ticket's pages lie in their order, after those of all lower tickets.
-abbrev pub leafNumber : History → ℕ → ℕ → ℕ
-leafNumber m v a = taken (m .tickets) (pred (versionAt m v .ticket)) + (a - versionAt m v .f)
 
 -- The update of a version: n pages from f on.
 abbrev pub toUpdate : List Ticket → Version → Update

@@ -3,6 +3,7 @@ pub mod History
 pub mod InTurn
 pub mod Stamp
 pub mod Model
+pub mod Layout
 pub mod OnModel
 pub mod Run
 pub mod Due

@@ -4,10 +4,9 @@ use mathlib.Core.Bool.{Bool, true, false}
 use mathlib.Core.List.{List, [], _∷_, map}
 use Prim.Native.Nat.{ℕ, zero, suc, _+_, _*_}
 use lib.Dec.{eqb}
-use lib.ListN.{length, getD}
+use lib.ListN.{getD}
 use Rattle.tree.specs.Tree.{nth}
-use Rattle.model.specs.History.{Ticket, Version, History, noVersion, updates}
-use Rattle.tree.specs.Walk.{used}
+use Rattle.model.specs.History.{Ticket, Version, History, noVersion}
 use Rattle.windows.specs.declared.Window.{Window}
 
 -- S and the three capacities.
@@ -48,13 +47,9 @@ updateAt m k = nth noVersion (m .updates) k
 abbrev pub history : Model → ℕ → History
 history m l = record { tickets = m .tickets; versions = map (updateAt m) (lineAt m l .shown); published = lineAt m l .published }
 
--- All updates in the order of ASSIGN, in which their node places follow each other.
+-- All updates in the order of ASSIGN.
 abbrev pub every : Model → History
 every m = record { tickets = m .tickets; versions = m .updates; published = 0 }
-
--- The node places that all updates use.
-abbrev pub places : Model → ℕ
-places m = used (updates (every m)) (length (m .updates))
 
 -- The update that ticket t got, or 0; k is the number of the first update listed.
 unfoldable pub updateFrom : ℕ → List Version → ℕ → ℕ

@@ -8,10 +8,11 @@ use Rattle.tree.specs.Tree.{Update, Node, node, countOf, weaving, update, newes
 use Rattle.table.specs.Table.{always, firstRefusal, unless, beginRows, putRows, weaveRows}
 use Rattle.table.specs.Table.{lineRows, publishRows, branchRows, assignRows, sizeRows, readRows, pageRows}
 use Rattle.model.specs.Calls.{Call, BEGIN, PUT, WEAVE, SETWINDOWS, on, Act, WRITE, APPEND, PUBLISH, BRANCH, ask, Query, read, size, recent, stamp, view, Answer, ticketIs, putDone, versionIs, nodeIs, publishedIs, waiting, held, lineIs, windowsDone, filled, sizeIs, recentIs, stampIs, partIs, Outcome, says, answers}
-use Rattle.model.specs.History.{Ticket, Version, History, noTicket, pagesOf, versionAt, taken, toUpdate, updates, blobSize, isFilled, bitIf, allFilled, due}
+use Rattle.model.specs.History.{Ticket, Version, History, noTicket, pagesOf, versionAt, toUpdate, updates, blobSize, isFilled, bitIf, allFilled, due}
 use Rattle.model.specs.InTurn.{blobAt, bytesAt}
 use Rattle.model.specs.Stamp.{stampAt}
-use Rattle.model.specs.Model.{Limits, Line, Model, lineAt, updateAt, history, places, ticketUpdate, numberIn}
+use Rattle.model.specs.Model.{Limits, Line, Model, lineAt, updateAt, history, ticketUpdate, numberIn}
+use Rattle.model.specs.Layout.{nodesUsed, pagesUsed, slotNumber}
 use Rattle.tree.specs.Tree.{nth}
 use Rattle.windows.specs.Windows.{insideSome}
 use Rattle.windows.specs.Listed.{windowsOf, textNumber}
@@ -19,9 +20,9 @@ use Rattle.windows.specs.Listed.{windowsOf, textNumber}
 abbrev pub ticketIn : Model → ℕ → Ticket
 ticketIn m t = nth noTicket (m .tickets) t
 
--- The two numbers of a node of version v of a history, whose ticket's first page number is given: its children's numbers, or a leaf's page number and 0.
-abbrev pub leftOf : History → ℕ → ℕ → Node → ℕ
-leftOf h v number (node a zero) = number + (a - update (updates h) v .f)
+-- The two numbers of a node of version v of a history, whose ticket's page numbers are given, by slot: its children's numbers, or a leaf's page number and 0.
+abbrev pub leftOf : History → ℕ → (ℕ → ℕ) → Node → ℕ
+leftOf h v number (node a zero) = number (a - update (updates h) v .f)
 leftOf h v number (node a (suc k)) = numberIn h (newest (updates h) v a (2 ^ k))
 
 abbrev pub rightOf : History → ℕ → Node → ℕ
@@ -47,7 +48,7 @@ module _ (L : Limits) where
   -- ---- the calls that name no line
 
   abbrev pub beginNumber : Model → ℕ → ℕ
-  beginNumber m n = firstRefusal (beginRows n (length (m .tickets)) (L .updates) (taken (m .tickets) (length (m .tickets))) (L .pages))
+  beginNumber m n = firstRefusal (beginRows n (length (m .tickets)) (L .updates) (pagesUsed m) (L .pages))
 
   abbrev pub putNumber : Model → ℕ → ℕ → List ℕ → ℕ
   putNumber m t i bytes =
@@ -96,7 +97,7 @@ module _ (L : Limits) where
       (numberIn h (x .number))
       (firstPage y)
       (spanOf y)
-      (leftOf h (x .number) (taken (m .tickets) (pred t)) y)
+      (leftOf h (x .number) (slotNumber m t) y)
       (rightOf h (x .number) y)
       (countOf u - suc (ticketIn m t .woven))
 
@@ -130,7 +131,7 @@ module _ (L : Limits) where
       f
       (blobSize (history m l))
       (pagesOf k)
-      (places m)
+      (nodesUsed m)
       (L .nodes)
       (countOf (nextUpdate m l t f)))
 

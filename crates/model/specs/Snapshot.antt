@@ -2,17 +2,18 @@
 use mathlib.Core.Bool.{_&&_}
 use mathlib.Core.Option.{Option}
 use mathlib.Core.List.{List}
-use Prim.Native.Nat.{ℕ, zero, suc, pred, _+_, _/_, _%_, _^_}
+use Prim.Native.Nat.{ℕ, zero, suc, _+_, _/_, _%_, _^_}
 use lib.Dec.{ltb}
 use Rattle.tree.specs.Tree.{Update, nth, newest, rootHeight, heightOf}
 use Rattle.tree.specs.Place.{index}
-use Rattle.tree.specs.Walk.{Numbers, hasNode, visit, used, placeWhere}
+use Rattle.tree.specs.Walk.{Numbers, hasNode, visit, placeWhere}
 use Rattle.tree.specs.declared.NodeAt.{NodeAt}
 use Rattle.tree.specs.declared.NodeAt.the-variants.{Stored, Missing}
-use Rattle.model.specs.History.{Page, versionAt, leafNumber, toUpdate, updates}
+use Rattle.model.specs.History.{Page, versionAt, toUpdate, updates}
 use Rattle.model.specs.InTurn.{blobAt}
 use Rattle.model.specs.Stamp.{stampsUpto}
-use Rattle.model.specs.Model.{Model, lineAt, updateAt, history, every, numberIn}
+use Rattle.model.specs.Model.{Model, lineAt, updateAt, history, numberIn}
+use Rattle.model.specs.Layout.{nodePlace, leafNumber}
 
 -- A tree: a leaf has its version's number, its page and its two numbers; an inner node its version's number, first page and height, and both its
 -- children's numbers. Below number 0 there is no page; a node that is not stored is missing.
@@ -48,24 +49,20 @@ treeIn at area (suc h) zero a = noPage
 treeIn at area (suc h) (suc c) a =
     innerIn (visit area (at (suc c) a (suc h))) (suc c) a (suc h) (λ (l : ℕ). treeIn at area h l a) (λ (r : ℕ). treeIn at area h r (a + 2 ^ h))
 
--- The first node place of update k: after the nodes of all updates before it, in the order of ASSIGN.
-abbrev pub firstPlace : Model → ℕ → ℕ
-firstPlace m k = used (updates (every m)) (pred k)
-
--- What the versions and leaves of line l are called in the node area, and where a version's nodes begin.
+-- What the versions and leaves of line l are called in the node area, and where a version's nodes lie.
 abbrev pub numbersOn : Model → ℕ → Numbers
 numbersOn m l = record {
   code = numberIn (history m l);
-  leaf = leafNumber (history m l);
+  leaf = leafNumber m l;
   second = λ v p. 0;
-  base = λ v. firstPlace m (nth 0 (lineAt m l .shown) v);
+  place = λ v. nodePlace m (nth 0 (lineAt m l .shown) v);
 }
 
 -- Where update k's node of height h over page p lies, where there is such an update with such a node.
 abbrev pub placeOfUpdate : Model → ℕ → ℕ → ℕ → Option ℕ
 placeOfUpdate m k p h =
     let u = toUpdate (m .tickets) (updateAt m k) in
-    placeWhere (ltb 0 k && hasNode u p h) (firstPlace m k + index (u .f) (u .last) 0 (rootHeight (u .size)) p h)
+    placeWhere (ltb 0 k && hasNode u p h) (nodePlace m k (index (u .f) (u .last) 0 (rootHeight (u .size)) p h))
 
 -- The same by the number c of its version: of the update that line c / 65536 shows as its version c % 65536.
 unfoldable pub placeOfNumber : Model → ℕ → ℕ → ℕ → Option ℕ

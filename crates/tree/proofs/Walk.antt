@@ -127,27 +127,30 @@ module _ (us : List Update) (k : ℕ) (accepted : (v : ℕ) → v < k → Accept
     | after s ↦ rw newest-after (covered v p (omega arith) (omega (arith, accepted v q)))
   ]
 
+  -- Where it stands in that version's weaving order.
+  pub newest-order : (p h : ℕ) → 0 < versionOver us k p h → h ≤ heightOf us k → p < 2 ^ heightOf us k
+      → At (weaving (update us (versionOver us k p h)))
+      (index (update us (versionOver us k p h) .f) (update us (versionOver us k p h) .last) 0 (heightOf us (versionOver us k p h)) p h) (node (first p h) h)
+  newest-order p h o q r =
+      let v = versionOver us k p h in
+      let m = newest-meets us k (first p h) (2 ^ h) o in
+      let n = newest-in-root p h o q r in
+      index-at (update us v .f) (update us v .last) (some-pages v o (newest-le us k (first p h) (2 ^ h))) 0 (heightOf us v) p h
+      (sym (first-root p (heightOf us v) (n .1))) (n .0) (m .0) (m .1)
+
   module _ (N : Numbers) (at : ℕ → ℕ → ℕ → Option ℕ) (area : List ℕ) where
-    -- Where versions 1 .. k are woven whole, and `at` places each version's nodes by its first place and the weaving order, every node that
+    -- Where versions 1 .. k are woven whole, and `at` places each version's nodes by the weaving order, every node that
     -- version k's root leads to stands.
     module _ (woven : (v : ℕ) → 0 < v → v ≤ k → WovenBy us N area v)
         (places : (v p h : ℕ) → 0 < v → v ≤ k → hasNode (update us v) p h ≡ true → at (N .code v) p h ≡ some (placeBy us N v p h))
         (p h : ℕ) (o : 0 < versionOver us k p h) (q : h ≤ heightOf us k) (r : p < 2 ^ heightOf us k) where
-      in-order : At (weaving (update us (versionOver us k p h)))
-          (index (update us (versionOver us k p h) .f) (update us (versionOver us k p h) .last) 0 (heightOf us (versionOver us k p h)) p h) (node (first p h) h)
-      in-order =
-          let v = versionOver us k p h in
-          let m = newest-meets us k (first p h) (2 ^ h) o in
-          let n = newest-in-root p h o q r in
-          index-at (update us v .f) (update us v .last) (some-pages v o (newest-le us k (first p h) (2 ^ h))) 0 (heightOf us v) p h
-          (sym (first-root p (heightOf us v) (n .1))) (n .0) (m .0) (m .1)
-
       pub stands-woven : Stands us N at area k p h
       unfolding placeBy
       stands-woven =
           let v = versionOver us k p h in
           let le = newest-le us k (first p h) (2 ^ h) in
-          rw (places v p h o le (has-newest p h o q r)) (woven v o le _ (at-lt in-order) ∙ rw (at-getD (node 0 0) in-order))
+          let order = newest-order p h o q r in
+          rw (places v p h o le (has-newest p h o q r)) (woven v o le _ (at-lt order) ∙ rw (at-getD (node 0 0) order))
 
     module _ (stands : (p h : ℕ) → 0 < versionOver us k p h → h ≤ heightOf us k → p < 2 ^ heightOf us k → Stands us N at area k p h)
         (p : ℕ) (o : 0 < k) (q : p < sizeAt us k) where
@@ -195,7 +198,7 @@ place-has us base v p h a b c = rw (lt-ltb 0 v a, le-leb v (length us) b, c)
 
 -- A version is called by its own number, and a leaf's second number is 0.
 abbrev pub alone : (ℕ → ℕ → ℕ) → (ℕ → ℕ) → Numbers
-alone leaf base = record { code = λ v. v; leaf = leaf; second = λ v p. 0; base = base }
+alone leaf base = record { code = λ v. v; leaf = leaf; second = λ v p. 0; place = λ v i. base v + i }
 
 module _ (us : List Update) (k : ℕ) (accepted : (v : ℕ) → v < k → Accepted us v) (fits : k ≤ length us) (leaf : ℕ → ℕ → ℕ) (base : ℕ → ℕ) (area : List ℕ)
     (woven : (v : ℕ) → 0 < v → v ≤ k → WovenBy us (alone leaf base) area v) where

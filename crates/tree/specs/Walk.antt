@@ -6,7 +6,7 @@ use mathlib.Core.List.{List}
 use Prim.Native.Nat.{ℕ, zero, suc, _+_, _^_, _≤_, _<_, max}
 use lib.Dec.{leb, ltb}
 use lib.ListN.{length, getD}
-use Rattle.tree.specs.Tree.{Update, Node, node, countOf, meets, rootHeight, weaving, update, newest, sizeAt, heightOf}
+use Rattle.tree.specs.Tree.{Update, Node, node, meets, rootHeight, weaving, update, newest, sizeAt, heightOf}
 use Rattle.tree.specs.Place.{first, index}
 use Rattle.tree.specs.NodeArea.{nodeAt}
 use Rattle.tree.specs.declared.NodeAt.{NodeAt}
@@ -25,12 +25,12 @@ abbrev pub versionOver : List Update → ℕ → ℕ → ℕ → ℕ
 versionOver us k p h = newest us k (first p h) (2 ^ h)
 
 -- What the versions of a list of updates are called in the node area: the number by which a parent names a version, a leaf's two numbers by version
--- and page, and a version's first node place. The tree asks nothing of them.
+-- and page, and the place of a version's node by its index in weaving order. The tree asks nothing of them.
 pub record Numbers : Type 0 where
   pub code : ℕ → ℕ
   pub leaf : ℕ → ℕ → ℕ
   pub second : ℕ → ℕ → ℕ
-  pub base : ℕ → ℕ
+  pub place : ℕ → ℕ → ℕ
 
 module _ (us : List Update) (N : Numbers) where
   -- The two numbers of a node of version v: its children's versions, or a leaf's page number and 0.
@@ -42,15 +42,15 @@ module _ (us : List Update) (N : Numbers) where
   rightBy v (node a zero) = N .second v a
   rightBy v (node a (suc h)) = N .code (newest us v (a + 2 ^ h) (2 ^ h))
 
-  -- The place of version v's node of height h over page p: the version's first place, and the node's index in weaving order.
+  -- The place of version v's node of height h over page p, by the node's index in weaving order.
   unfoldable pub placeBy : ℕ → ℕ → ℕ → ℕ
-  placeBy v p h = N .base v + index (update us v .f) (update us v .last) 0 (heightOf us v) p h
+  placeBy v p h = N .place v (index (update us v .f) (update us v .last) 0 (heightOf us v) p h)
 
-  -- The area holds all of version v's nodes, in weaving order, from the version's first place on.
+  -- The area holds all of version v's nodes, each at its place.
   abbrev pub WovenBy : List ℕ → ℕ → Type 0
   WovenBy area v =
       (i : ℕ) → i < length (weaving (update us v))
-      → nodeAt area (N .base v + i) ≡ Stored (leftBy v (getD (weaving (update us v)) i (node 0 0))) (rightBy v (getD (weaving (update us v)) i (node 0 0)))
+      → nodeAt area (N .place v i) ≡ Stored (leftBy v (getD (weaving (update us v)) i (node 0 0))) (rightBy v (getD (weaving (update us v)) i (node 0 0)))
 
 -- Version v's tree has a node of height h over page p.
 unfoldable pub hasNode : Update → ℕ → ℕ → Bool
@@ -115,11 +115,6 @@ inTurnBy us leaf (suc k) p = elim (covers (update us (suc k)) p) [ true ↦ leaf
 -- The version of the leaf over page p in version v's tree: the newest up to v whose update covers the page.
 abbrev pub leafVersion : List Update → ℕ → ℕ → ℕ
 leafVersion us v p = newest us v p 1
-
--- The node places of versions 1 .. v. Those of version v + 1 follow them.
-unfoldable pub used : List Update → ℕ → ℕ
-used us zero = 0
-used us (suc v) = used us v + countOf (update us (suc v))
 
 -- The place of a version's node, where versions 1 .. length us are there and their first places are given.
 abbrev pub placeWhere : Bool → ℕ → Option ℕ

@@ -17,18 +17,18 @@ use Rattle.versions.specs.Store.{lengthsOf, recordOf}
 use Rattle.assign.specs.Assign.{updateAt, sizeAfter, allPut, assignRefusal, assigned as assignedCase, withVersion, withUpdate, assignedRegister}
 use Rattle.model.specs.Calls.{on, WRITE, APPEND, versionIs, Outcome, answers}
 use Rattle.model.specs.History.{Version, pagesOf, blobSize, allFilled}
-use Rattle.model.specs.Model.{Limits, Line, Model, noLine, lineAt, updateAt as updateIn, history, places, ticketUpdate}
+use Rattle.model.specs.Model.{Limits, Line, Model, noLine, lineAt, updateAt as updateIn, history, ticketUpdate}
+use Rattle.model.specs.Layout.{nodesUsed}
 use Rattle.model.specs.OnModel.{either, ticketIn, sizeAfter as sizeIn, nextUpdate, assignNumber, assigned, assignStep, onLine, onModel}
-use Rattle.model.proofs.Laid.{Pair, onesPair, flat}
-use Rattle.model.proofs.Image.{wovenOf, countAt, weaveCell, pagesImage, nodeCell, nodesImage}
+use Rattle.model.proofs.Laid.{Pair, onesPair}
+use Rattle.model.proofs.Image.{wovenOf, pagesImage, nodesImage}
 use Rattle.model.proofs.Sound.{Sound}
 use Rattle.model.proofs.Passed.{AssignPassed, assign-passed}
 use Rattle.model.proofs.Nth.{length-snoc}
-use Rattle.model.proofs.Tab.{tab-same}
-use Rattle.model.proofs.Cells.{numbered-more}
+use Rattle.model.proofs.LayoutLaws.{nodes-grow, pages-used-kept, pages-same}
 use Rattle.model.proofs.Shown.{shownAt, blob-shown}
 use Rattle.model.proofs.Histories.{assigned-apart}
-use Rattle.model.proofs.Kept.Assign.{assigned-length, assigned-older, assigned-new, assigned-places, assigned-lines, assigned-this, assigned-other, assigned-versions, assigned-next-version, assigned-grown}
+use Rattle.model.proofs.Kept.Assign.{assigned-length, assigned-new, assigned-used, assigned-lines, assigned-this, assigned-other, assigned-versions, assigned-next-version, assigned-grown}
 use Rattle.demands.specs.Answers.{assignedAnswer}
 use Rattle.demands.specs.Run.{State, assignCall, onLineOf, onStore}
 use Rattle.demands.proofs.Image.{registerImage, branchImage, storeImage, windowsImage, areasImage, image}
@@ -37,8 +37,7 @@ use Rattle.demands.proofs.Records.{record-at, limited-same}
 use Rattle.demands.proofs.Lines.{lines-in, blob-small, line-in, sources-written, words-written}
 use Rattle.demands.proofs.Steps.Numbers.{AssignReads, assign-alike, image-number}
 use Rattle.demands.proofs.Steps.States.{leaves, stateOf, state-same}
-use Rattle.demands.proofs.Steps.Parts.{nodes-stay}
-use Rattle.demands.proofs.Steps.Grown.{numbers-grown}
+use Rattle.demands.proofs.Steps.Grown.{cells-grown}
 use Rattle.demands.proofs.Steps.Assigned.{update-there, version-there, assigned-register}
 
 -- A node of an update that has none woven.
@@ -93,8 +92,8 @@ module _ (L : Limits) (m : Model) (S : Sound L m) (l f : ℕ) where
       let blob = blobSize (history m l) in
       rw (lines-in L m S, line-in L m S l)
       (image-number L m S
-      (assignRows (t ≤? L .updates) t (length (m .tickets)) (r .update) l (length (m .lines)) (allPut r) f blob (r .n) (places m) (L .nodes) (countOf (updateAt blob f (r .n))))
-      (assignRows always t (length (m .tickets)) (ticketUpdate m t) l (length (m .lines)) (allFilled (ticketIn m t .slots)) f blob (pagesOf (ticketIn m t)) (places m) (L .nodes)
+      (assignRows (t ≤? L .updates) t (length (m .tickets)) (r .update) l (length (m .lines)) (allPut r) f blob (r .n) (nodesUsed m) (L .nodes) (countOf (updateAt blob f (r .n))))
+      (assignRows always t (length (m .tickets)) (ticketUpdate m t) l (length (m .lines)) (allFilled (ticketIn m t .slots)) f blob (pagesOf (ticketIn m t)) (nodesUsed m) (L .nodes)
       (countOf (nextUpdate L m l t f)))
       (L .updates <? t or L .updates ≤? length (m .updates) or L .updates ≤? length (lineAt m l .shown))
       (assign-alike _ _ _ _ _ _ _ _ _ _ _ _ _ _ _ _ _ (assign-reads t))
@@ -136,14 +135,14 @@ module _ (L : Limits) (m : Model) (S : Sound L m) (l f : ℕ) where
           line-in L m S l,
           sources-written L m S after l b near line-gets line-stays,
           words-written L m S after l b near line-gets line-stays,
-          assigned-places L m l (suc t) f,
+          assigned-used L m l (suc t) f (p .line) (S .lines l (p .line) .published),
+          pages-used-kept m after (assigned-grown L m l (suc t) f (p .line)) refl,
           assigned-length L m l (suc t) f,
           assigned-lines L m l (suc t) f,
         )
 
     assigned-pages : pagesImage L m ≡ pagesImage L after
-    unfolding pagesImage
-    assigned-pages = refl
+    assigned-pages = pages-same m after (assigned-grown L m l (suc t) f (p .line)) L refl (λ u i o h k s. refl)
 
     -- None of the new update's nodes is woven.
     new-woven : wovenOf after (suc (length (m .updates))) ≡ 0
@@ -151,14 +150,9 @@ module _ (L : Limits) (m : Model) (S : Sound L m) (l f : ℕ) where
         ap (λ (u : Version). ticketIn m (u .ticket) .woven) (assigned-new L m l (suc t) f) ∙ S .tickets (suc t) (p .from) (p .upto) .unwoven (p .unassigned)
 
     assigned-nodes : nodesImage L m ≡ nodesImage L after
-    unfolding nodesImage
     assigned-nodes =
-        ap flat
-        (tab-same (L .nodes) (nodeCell m) (nodeCell after)
-        (λ q h.
-        sym (rw (assigned-length L m l (suc t) f)
-        (numbered-more (countAt after) (weaveCell after) onesPair (length (m .updates)) (λ i s. none-woven i _ _ new-woven) q
-        ∙ nodes-stay m after (λ k o s. assigned-older L m l (suc t) f k s) (λ k o s. refl) (numbers-grown L m after S (assigned-grown L m l (suc t) f (p .line))) q))))
+        let g = assigned-grown L m l (suc t) f (p .line) in
+        nodes-grow m after g L (assigned-length L m l (suc t) f) (cells-grown L m after S g (λ k o h. refl)) (λ i. none-woven i _ _ new-woven)
 
   assign-image : (t : ℕ) → AssignPassed L m l t f
       → stateOf (withUpdate (storeImage L m) l (countOf (nextUpdate L m l t f)) (sizeIn L m l t f)) (windowsImage m) (pagesImage L m) (nodesImage L m)

@@ -2,7 +2,7 @@
 -- Assumes nothing.
 use mathlib.Core.Path.{_≡_, refl, sym, ap, ap₂, _∙_}
 use mathlib.Core.Logic.{_≢_}
-use Prim.Native.Nat.{ℕ, suc, _+_, _-_, _*_, _≤_, _<_}
+use Prim.Native.Nat.{ℕ, suc, _+_, _-_, _*_, _<_}
 use native.Mathlib.Decide.{ℕ-discrete}
 use native.Mathlib.Omega.{arith}
 use borrow.Author.Tests.{lt-ltb}
@@ -10,15 +10,15 @@ use lib.ListN.{length, getD}
 use Rattle.tree.specs.Tree.{Update, countOf, rootHeight}
 use Rattle.tree.specs.Contract.{rootSpan}
 use Rattle.tree.specs.Place.{halvings}
-use Rattle.tree.specs.Walk.{used}
 use Rattle.lines.specs.Lines.{numberOf, withEntry}
 use Rattle.lines.proofs.Numbers.{number-is as code-is}
 use Rattle.lines.proofs.Packed.{with-of}
 use Rattle.register.specs.Register.{noRecord, limited, withRecord}
 use Rattle.register.specs.declared.Record.{Record}
 use Rattle.assign.specs.Assign.{withUpdateOf, withUpdatePart, withEntryOf, assignedRegister}
-use Rattle.model.specs.History.{noVersion, pagesOf, updates}
-use Rattle.model.specs.Model.{Limits, Model, lineAt, every, places}
+use Rattle.model.specs.History.{noVersion, pagesOf}
+use Rattle.model.specs.Model.{Limits, Model, lineAt}
+use Rattle.model.specs.Layout.{nodesUsed}
 use Rattle.model.specs.OnModel.{ticketIn, sizeAfter, nextVersion, nextUpdate, assigned}
 use Rattle.model.proofs.Laid.{tab}
 use Rattle.model.proofs.Sound.{Sound}
@@ -26,14 +26,15 @@ use Rattle.model.proofs.Passed.{AssignPassed}
 use Rattle.model.proofs.Facts.{versions-few, versions-most}
 use Rattle.model.proofs.Nth.{nth-new}
 use Rattle.model.proofs.Tab.{getD-tab}
-use Rattle.model.proofs.Updates.{length-updates}
 use Rattle.model.proofs.Updated.{update-other}
-use Rattle.model.proofs.Append.{used-append}
-use Rattle.model.proofs.Kept.Assign.{assigned-length, assigned-updates, assigned-new, assigned-gets, assigned-this, assigned-other, assigned-passed}
+use Rattle.model.proofs.Grows.{Grown}
+use Rattle.model.proofs.LayoutLaws.{place-kept, place-new}
+use Rattle.model.proofs.Kept.Assign.{assigned-length, assigned-grown, assigned-new, assigned-gets, assigned-this, assigned-other, assigned-passed}
 use Rattle.demands.proofs.Image.{maskOf, numberAt, firstPlaceAt, ownAt, recordImage, registerImage, storeImage, areasImage}
 use Rattle.demands.proofs.Records.{record-at, limited-same}
 use Rattle.demands.proofs.Lines.{line-in, blob-small, own-low}
 use Rattle.demands.proofs.Puts.{record-put}
+use Rattle.demands.proofs.Steps.Grown.{number-at-kept}
 use Rattle.demands.proofs.Steps.Parts.{UpdatePart, all, all-same, ticketPart, partOf, updatePart, entriesAt, ticket-part, update-part, entries-stay, other-at, other-begins, new-begins}
 
 module _ (L : Limits) (m : Model) (S : Sound L m) (l t f : ℕ) (p : AssignPassed L m l (suc t) f) where
@@ -58,25 +59,25 @@ module _ (L : Limits) (m : Model) (S : Sound L m) (l t f : ℕ) (p : AssignPasse
   pub version-there : last < L .updates
   version-there = omega (arith, update-there, versions-few L m S l (p .line))
 
+  -- The numbers and places of what was there stay.
+  grown : Grown m after
+  grown = assigned-grown L m l (suc t) f (p .line)
+
   -- ---- each sort of part changes at one index
 
   -- The ticket gets the update.
   ticket-stays : (j : ℕ) → j ≢ t → ticketPart m j ≡ ticketPart after j
-  ticket-stays j n = ticket-part m after j refl refl (update-other 1 (m .updates) (nextVersion L m l (suc t) f) (suc j) (λ e. n (omega arith)))
+  ticket-stays j n = ticket-part m after j refl (number-at-kept L m after S grown refl j) (update-other 1 (m .updates) (nextVersion L m l (suc t) f) (suc j) (λ e. n (omega arith)))
 
   ticket-gets : ticketPart after t
       ≡ record { n = pagesOf (ticketIn m (suc t)); number = numberAt m t; put = maskOf (ticketIn m (suc t) .slots); update = suc count }
-  ticket-gets = rw (assigned-gets L m l (suc t) f (p .unassigned))
+  ticket-gets = rw (number-at-kept L m after S grown refl t, assigned-gets L m l (suc t) f (p .unassigned))
 
-  -- The update is a new one; the places of those before it stay.
-  place-stays : (j : ℕ) → j ≤ count → used (updates (every after)) j ≡ used (updates (every m)) j
-  place-stays j h =
-      rw (assigned-updates L m l (suc t) f, used-append (updates (every m)) (nextUpdate L m l (suc t) f) j (omega (arith, length-updates (every m))))
-
+  -- The update is a new one.
   update-stays : (j : ℕ) → j ≢ count → updatePart m j ≡ updatePart after j
   update-stays j n =
       update-part m after j (other-at noVersion (m .updates) (nextVersion L m l (suc t) f) j n) refl
-      (rw (assigned-length L m l (suc t) f) (other-begins j count _ _ n (λ h. place-stays j (omega arith))))
+      (rw (assigned-length L m l (suc t) f) (other-begins j count _ _ n (λ h. place-kept m after grown (suc j) 0 h)))
 
   next-number : numberOf l (suc last) ≡ l * 65536 + suc last
   next-number = code-is l (suc last) (omega (arith, p .line, S .few)) (omega arith) (omega (arith, versions-most L m S l (p .line)))
@@ -88,7 +89,7 @@ module _ (L : Limits) (m : Model) (S : Sound L m) (l t f : ℕ) (p : AssignPasse
     name = numberOf l (suc last);
     f = f;
     last = f + pagesOf (ticketIn m (suc t)) - 1;
-    top = places m + rootHeight (u .size);
+    top = nodesUsed m + rootHeight (u .size);
     past = halvings (u .f);
     span = rootSpan (u .size);
     size = sizeAfter L m l (suc t) f;
@@ -106,8 +107,8 @@ module _ (L : Limits) (m : Model) (S : Sound L m) (l t f : ℕ) (p : AssignPasse
 
   update-new : updatePart after count ≡ limitedPart
   update-new =
-      let place : firstPlaceAt after count ≡ places m = rw (assigned-length L m l (suc t) f) (new-begins count _ ∙ place-stays count (omega arith)) in
-      let part : partOf (m .tickets) (nextVersion L m l (suc t) f) (places m) ≡ newPart (nextUpdate L m l (suc t) f) =
+      let place : firstPlaceAt after count ≡ nodesUsed m = rw (assigned-length L m l (suc t) f) (new-begins count _ ∙ place-new m after grown (assigned-length L m l (suc t) f)) in
+      let part : partOf (m .tickets) (nextVersion L m l (suc t) f) (nodesUsed m) ≡ newPart (nextUpdate L m l (suc t) f) =
       rw (S .tickets (suc t) (p .from) (p .upto) .unwoven (p .unassigned), next-number, lt-ltb 0 (suc t) (p .from)) in
       ap₂ (partOf (m .tickets)) (assigned-new L m l (suc t) f) place ∙ part ∙ ap newPart (sym within-limits)
 
@@ -152,7 +153,7 @@ module _ (L : Limits) (m : Model) (S : Sound L m) (l t f : ℕ) (p : AssignPasse
   second-written : withRecord (tab (L .updates) first) count
       (withUpdatePart (getD (tab (L .updates) first) count noRecord) (suc t) (numberOf l (suc last)) f (f + pagesOf (ticketIn m (suc t)) - 1)
       (sizeAfter L m l (suc t) f)
-      (places m + rootHeight (limited f (f + pagesOf (ticketIn m (suc t)) - 1) (sizeAfter L m l (suc t) f) .size)))
+      (nodesUsed m + rootHeight (limited f (f + pagesOf (ticketIn m (suc t)) - 1) (sizeAfter L m l (suc t) f) .size)))
       ≡ tab (L .updates) second
   second-written =
       record-put (L .updates) count first second _ update-there (λ j h n. all-same refl (update-stays j n) refl)

@@ -1,9 +1,9 @@
 -- BEGIN on the image of a sound model is the model's.
 -- Assumes nothing.
-use mathlib.Core.Path.{_≡_, refl, ap, sym, _∙_}
+use mathlib.Core.Path.{_≡_, refl, ap, sym}
 use mathlib.Core.Logic.{_≢_}
 use mathlib.Core.List.{List}
-use Prim.Native.Nat.{ℕ, zero, suc, pred, _≤_}
+use Prim.Native.Nat.{ℕ, zero, suc}
 use native.Mathlib.Omega.{arith}
 use lib.ListN.{length, getD, length-replicate}
 use Rattle.register.specs.Register.{noRecord, withRecord}
@@ -12,20 +12,18 @@ use Rattle.table.specs.Table.{never, beginRows, unless}
 use Rattle.versions.specs.Store.{lengthsOf}
 use Rattle.begin.specs.Begin.{beginRefusal, withTicket, withTicketPart, begun as begunCase}
 use Rattle.model.specs.Calls.{BEGIN, ticketIs, answers}
-use Rattle.model.specs.History.{Ticket, noTicket, pagesOf, taken}
-use Rattle.model.specs.InTurn.{joined}
+use Rattle.model.specs.History.{Ticket, noTicket}
 use Rattle.model.specs.Model.{Limits, Model, updateAt}
+use Rattle.model.specs.Layout.{pagesUsed}
 use Rattle.model.specs.OnModel.{beginNumber, begun, onModel}
-use Rattle.model.proofs.Image.{blank, slotCell, pageCell, pagesImage, nodesImage}
+use Rattle.model.proofs.Image.{orBlank, pagesImage, nodesImage}
 use Rattle.model.proofs.Sound.{Sound}
 use Rattle.model.proofs.Passed.{BeginPassed, begin-passed}
 use Rattle.model.proofs.Facts.{ticket-past}
 use Rattle.model.proofs.Nth.{length-snoc}
-use Rattle.model.proofs.Tab.{tab-same}
-use Rattle.model.proofs.Cells.{cell-append}
+use Rattle.model.proofs.LayoutLaws.{nodes-used-kept, number-new, pages-grow}
 use Rattle.model.proofs.Slots.{none-there}
-use Rattle.model.proofs.Tickets.{taken-append, taken-all}
-use Rattle.model.proofs.Kept.Begin.{newTicket, begun-ticket, begun-new, begun-updates, begun-old, begun-grown}
+use Rattle.model.proofs.Kept.Begin.{newTicket, begun-ticket, begun-new, begun-old, begun-grown, begun-used}
 use Rattle.demands.specs.Answers.{begunAnswer}
 use Rattle.demands.specs.Run.{onStore}
 use Rattle.demands.proofs.Image.{registerImage, sourcesImage, linesImage, storeImage, windowsImage, areasImage, image}
@@ -34,17 +32,15 @@ use Rattle.demands.proofs.Records.{record-at}
 use Rattle.demands.proofs.Puts.{register-put}
 use Rattle.demands.proofs.Steps.Numbers.{alike-same, image-number}
 use Rattle.demands.proofs.Steps.States.{leaves, stateOf, state-same}
-use Rattle.demands.proofs.Steps.Parts.{other-at, other-begins, new-begins, all-same, ticketPart, updatePart, entriesAt, ticket-part, update-part, ticket-within}
-use Rattle.demands.proofs.Steps.Grown.{nodes-grown}
+use Rattle.demands.proofs.Steps.Parts.{other-at, other-begins, new-begins, all-same, ticketPart, updatePart, ticket-part, update-part, ticket-within}
+use Rattle.demands.proofs.Steps.Grown.{number-begins, place-at-kept, nodes-grown}
 
 module _ (L : Limits) (m : Model) (S : Sound L m) (n : ℕ) where
   -- A new ticket's pages are blank.
   begun-pages : pagesImage L m ≡ pagesImage L (begun L m n)
-  unfolding pagesImage
   begun-pages =
-      ap joined
-      (tab-same (L .pages) (pageCell (L .size) (m .tickets)) (pageCell (L .size) (begun L m n .tickets))
-      (λ q h. sym (cell-append pagesOf (slotCell (L .size)) (blank (L .size)) (m .tickets) (newTicket L m n) (λ i l. rw (none-there n i)) q)))
+      pages-grow m (begun L m n) (begun-grown L m n S) L (length-snoc (m .tickets) (newTicket L m n)) (λ t i o h l s. rw (begun-ticket L m n t h))
+      (λ i. rw (begun-new L m n) (ap (orBlank (L .size)) (none-there n i)))
 
   -- The lines do not tell of tickets.
   begun-sources : sourcesImage m ≡ sourcesImage (begun L m n)
@@ -56,25 +52,25 @@ module _ (L : Limits) (m : Model) (S : Sound L m) (n : ℕ) where
   begun-lines = refl
 
   begun-store : withTicket (storeImage L m) n ≡ storeImage L (begun L m n)
-  begun-store = rw (taken-all (m .tickets) (newTicket L m n), length-replicate, length-snoc, begun-updates L m n S, begun-sources, begun-lines)
+  begun-store = rw (begun-used L m n S, length-snoc, nodes-used-kept m (begun L m n) (begun-grown L m n S) refl, begun-sources, begun-lines)
 
   begun-nodes : nodesImage L m ≡ nodesImage L (begun L m n)
-  begun-nodes = nodes-grown L m (begun L m n) S (begun-grown L m n S) refl (begun-old L m n S)
+  begun-nodes = nodes-grown L m (begun L m n) S (begun-grown L m n S) (begun-old L m n S) refl
 
   begun-update-part : (j : ℕ) → updatePart m j ≡ updatePart (begun L m n) j
   begun-update-part j =
-      update-part m (begun L m n) j refl (begun-ticket L m n (updateAt m (suc j) .ticket) (ticket-within L m S (suc j))) (rw (begun-updates L m n S))
+      update-part m (begun L m n) j refl (begun-ticket L m n (updateAt m (suc j) .ticket) (ticket-within L m S (suc j))) (place-at-kept L m (begun L m n) S (begun-grown L m n S) refl j)
 
   begun-ticket-part : (j : ℕ) → j ≢ length (m .tickets) → ticketPart m j ≡ ticketPart (begun L m n) j
   begun-ticket-part j h =
       let k = newTicket L m n in
       ticket-part m (begun L m n) j
       (ap (λ (x : Ticket). x .slots) (other-at noTicket (m .tickets) k j h))
-      (rw (length-snoc (m .tickets) k) (other-begins j (length (m .tickets)) _ _ h (λ l. taken-append (m .tickets) k j (omega arith))))
+      (rw (length-snoc (m .tickets) k) (other-begins j (length (m .tickets)) _ _ h (λ l. number-begins L m (begun L m n) S (begun-grown L m n S) j l)))
       refl
 
   -- The new ticket's part: n pages from a page number on, none put, no update.
-  begun-new-part : ticketPart (begun L m n) (length (m .tickets)) ≡ record { n = n; number = taken (m .tickets) (length (m .tickets)); put = 0; update = 0 }
+  begun-new-part : ticketPart (begun L m n) (length (m .tickets)) ≡ record { n = n; number = pagesUsed m; put = 0; update = 0 }
   begun-new-part =
       let t = length (m .tickets) in
       rw (
@@ -84,11 +80,11 @@ module _ (L : Limits) (m : Model) (S : Sound L m) (n : ℕ) where
         mask-none,
         ticket-past L m S (suc t) (omega arith),
         new-begins,
-        taken-append (m .tickets) (newTicket L m n) t (omega arith),
+        number-new m (begun L m n) (begun-grown L m n S) (length-snoc (m .tickets) (newTicket L m n)),
       )
 
   begun-register : BeginPassed L m n
-      → withRecord (registerImage L m) (length (m .tickets)) (withTicketPart (getD (registerImage L m) (length (m .tickets)) noRecord) n (taken (m .tickets) (length (m .tickets))))
+      → withRecord (registerImage L m) (length (m .tickets)) (withTicketPart (getD (registerImage L m) (length (m .tickets)) noRecord) n (pagesUsed m))
       ≡ registerImage L (begun L m n)
   begun-register p =
       let t = length (m .tickets) in
@@ -97,14 +93,14 @@ module _ (L : Limits) (m : Model) (S : Sound L m) (n : ℕ) where
 
   begun-image : BeginPassed L m n
       → stateOf (withTicket (storeImage L m) n) (windowsImage m) (pagesImage L m) (nodesImage L m)
-      (withRecord (registerImage L m) (length (m .tickets)) (withTicketPart (getD (registerImage L m) (length (m .tickets)) noRecord) n (taken (m .tickets) (length (m .tickets)))))
+      (withRecord (registerImage L m) (length (m .tickets)) (withTicketPart (getD (registerImage L m) (length (m .tickets)) noRecord) n (pagesUsed m)))
       ≡ image L (begun L m n)
   begun-image p = state-same begun-store begun-pages begun-nodes (begun-register p)
 
   begin-number : beginRefusal (storeImage L m) (lengthsOf (areasImage L m)) n ≡ beginNumber L m n
   unfolding beginRefusal
   begin-number =
-      let rows = beginRows n (length (m .tickets)) (L .updates) (taken (m .tickets) (length (m .tickets))) (L .pages) in
+      let rows = beginRows n (length (m .tickets)) (L .updates) (pagesUsed m) (L .pages) in
       image-number L m S rows rows never (alike-same rows) (λ z. omega arith)
 
   begin-leaves : (k : ℕ) (r : List Record) → (k ≡ 0 → stateOf (withTicket (storeImage L m) n) (windowsImage m) (pagesImage L m) (nodesImage L m) r ≡ image L (begun L m n))

@@ -26,6 +26,7 @@ use Rattle.model.specs.OnModel.{branchNumber as modelNumber, branched, either, 
 use Rattle.model.proofs.Tab.{tab-same}
 use Rattle.model.proofs.Nth.{nth-past}
 use Rattle.model.proofs.Image.{pagesImage, nodesImage}
+use Rattle.model.proofs.LayoutLaws.{nodes-used-kept, pages-used-kept, pages-same}
 use Rattle.model.proofs.Sound.{Sound}
 use Rattle.model.proofs.Passed.{BranchPassed, branch-passed}
 use Rattle.model.proofs.Woven.{published-upto}
@@ -37,8 +38,8 @@ use Rattle.demands.proofs.Image.{ownAt, recordImage, registerImage, bra
 use Rattle.demands.proofs.Lines.{lines-in, line-in, sources-written, words-written}
 use Rattle.demands.proofs.Steps.Numbers.{alike-same, image-number}
 use Rattle.demands.proofs.Steps.States.{leaves, stateOf, state-same}
-use Rattle.demands.proofs.Steps.Parts.{all-same, entries-stay}
-use Rattle.demands.proofs.Steps.Grown.{nodes-grown}
+use Rattle.demands.proofs.Steps.Parts.{entries-stay}
+use Rattle.demands.proofs.Steps.Grown.{nodes-grown, record-same}
 use Rattle.demands.proofs.Steps.Size.{name-there, pages-in}
 
 -- A line that shows nothing, or nothing above its start, has no version of its own.
@@ -95,14 +96,13 @@ module _ (L : Limits) (m : Model) (S : Sound L m) (l v : ℕ) where
 
     branched-register : registerImage L m ≡ registerImage L after
     unfolding registerImage
-    branched-register = tab-same (L .updates) (recordImage m) (recordImage after) (λ i h. all-same refl refl (entries-stay m after i (λ j z. own-same j (suc i))))
+    branched-register = tab-same (L .updates) (recordImage m) (recordImage after) (λ i h. record-same L m after S (branched-grown L m l v) refl refl i (entries-stay m after i (λ j z. own-same j (suc i))))
 
     branched-pages : pagesImage L m ≡ pagesImage L after
-    unfolding pagesImage
-    branched-pages = refl
+    branched-pages = pages-same m after (branched-grown L m l v) L refl (λ t i o h k s. refl)
 
     branched-nodes : nodesImage L m ≡ nodesImage L after
-    branched-nodes = nodes-grown L m after S (branched-grown L m l v) refl (λ k o h. refl)
+    branched-nodes = nodes-grown L m after S (branched-grown L m l v) (λ k o h. refl) refl
 
     -- The new line's state: it begins from version v, which is its last.
     new-blob : blobSize (history after (length (m .lines))) ≡ pagesIn (storeImage L m) (areasImage L m) l v
@@ -136,6 +136,8 @@ module _ (L : Limits) (m : Model) (S : Sound L m) (l v : ℕ) where
         rw (
           lines-in L m S,
           branched-length L m l v,
+          pages-used-kept m after (branched-grown L m l v) refl,
+          nodes-used-kept m after (branched-grown L m l v) refl,
           sources-written L m S after n b (p .line-left) branched-state branched-other,
           words-written L m S after n b (p .line-left) branched-state branched-other,
         )

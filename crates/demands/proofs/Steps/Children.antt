@@ -15,12 +15,11 @@ use Rattle.tree.specs.Tree.{Update, meets, update, newest, heightOf}
 use Rattle.tree.specs.Contract.{rootIn, heightIn}
 use Rattle.tree.proofs.Word.{root-in-power, height-in-power}
 use Rattle.tree.specs.Place.{first}
-use Rattle.tree.specs.Walk.{Accepted, WovenBy, versionOver, Stands, hasNode, placeBy}
+use Rattle.tree.specs.Walk.{Accepted, versionOver, Stands}
 use Rattle.tree.proofs.First.{first-root}
 use Rattle.tree.proofs.Meets.{lt-or-le}
 use Rattle.tree.proofs.Newest.{newest-le}
 use Rattle.tree.proofs.Reach.{newest-above, newest-outside, reach-newest}
-use Rattle.tree.proofs.Walk.{stands-woven}
 use Rattle.lines.specs.Lines.{pick, numberOf, lineOf, versionOf}
 use Rattle.lines.specs.declared.Branch.{Branch}
 use Rattle.lines.proofs.Numbers.{number-is as code-is}
@@ -42,8 +41,9 @@ use Rattle.model.proofs.Sound.{Sound}
 use Rattle.model.proofs.Facts.{versions-most}
 use Rattle.model.proofs.Shown.{shownAt, update-shown}
 use Rattle.model.proofs.Owner.{owner-own}
-use Rattle.model.proofs.Numbers.{number-is, number-some, place-has}
-use Rattle.model.proofs.Woven.{published-upto, nodes-woven}
+use Rattle.model.proofs.Numbers.{number-is, number-some}
+use Rattle.model.proofs.Woven.{published-upto}
+use Rattle.model.proofs.Found.{stands-image}
 use Rattle.model.proofs.Stamps.{test-cases}
 use Rattle.demands.proofs.Image.{registerImage, storeImage}
 use Rattle.demands.proofs.Records.{update-image}
@@ -156,18 +156,9 @@ module _ (L : Limits) (m : Model) (S : Sound L m) (l : ℕ) (there : l < length 
     called : (w : ℕ) → 0 < w → w ≤ v → 0 < numberIn (history m l) w
     called w p q = number-some L m S l w there p (omega (arith, published-upto L m S l there v h))
 
-    woven : (w : ℕ) → 0 < w → w ≤ v → WovenBy (updates (history m l)) (numbersOn m l) (nodesImage L m) w
-    woven w p q = nodes-woven L m S l there w p (omega arith)
-
-    places : (w p j : ℕ) → 0 < w → w ≤ v → hasNode (update (updates (history m l)) w) p j ≡ true
-        → at (numberIn (history m l) w) p j ≡ some (placeBy (updates (history m l)) (numbersOn m l) w p j)
-    places w p j q r e =
-        let n : w ≤ length (lineAt m l .shown) = omega (arith, published-upto L m S l there v h) in
-        place-found L m S l there w q n p j e ∙ place-has L m S l w there q n p j e
-
     stands : (p j : ℕ) → 0 < versionOver (updates (history m l)) v p j → j ≤ heightOf (updates (history m l)) v → p < 2 ^ heightOf (updates (history m l)) v
         → Stands (updates (history m l)) (numbersOn m l) at (nodesImage L m) v p j
-    stands = stands-woven (updates (history m l)) v accepted (numbersOn m l) at (nodesImage L m) woven places
+    stands = stands-image L m S l there at v h (λ w p j q r e s. place-found L m S l there w q (omega (arith, published-upto L m S l there v h)) p j e s)
 
     module _ (a j : ℕ) (grid : first a j ≡ a) where
       abbrev us : List Update

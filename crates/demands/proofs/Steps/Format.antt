@@ -14,20 +14,19 @@ use Rattle.lines.specs.Lines.{packed, noLines}
 use Rattle.lines.proofs.States.{sourcesOf}
 use Rattle.lines.proofs.Packed.{entries-same}
 use Rattle.register.specs.Register.{noRecord}
-use Rattle.tree.specs.Walk.{used}
 use Rattle.table.specs.Table.{formatRows}
 use Rattle.windows.specs.Windows.{placed}
 use Rattle.versions.specs.Store.{Areas}
 use Rattle.format.specs.Format.{formatRefusal, formatNumber}
 use Rattle.table.proofs.Table.{passed, unless-0}
-use Rattle.model.specs.History.{taken}
 use Rattle.model.specs.InTurn.{joined}
 use Rattle.model.specs.Model.{Limits, noModel, noLine, lineAt, updateFrom}
 use Rattle.demands.specs.Run.{freshOf, formattedState}
-use Rattle.model.proofs.Laid.{tab, cellIn, onesPair, flat}
+use Rattle.model.proofs.Laid.{tab, onesPair, flat}
 use Rattle.model.proofs.Image.{blank, pagesImage, nodesImage}
 use Rattle.demands.proofs.Image.{maskOf, ownAt, recordImage, registerImage, sourcesImage, linesImage, storeImage, image}
 use Rattle.demands.proofs.Steps.States.{state-same}
+use Rattle.model.proofs.LayoutLaws.{nodes-used-none, pages-used-none, nodes-none, pages-none}
 use Rattle.model.proofs.Tab.{tab-same, replicate-tab}
 
 blanks : (size n : ℕ) → joined (tab n (λ (q : ℕ). blank size)) ≡ replicate (size * n) 0
@@ -54,12 +53,10 @@ own-blank i l = rw (line-blank l, lt-ltb 0 (suc i) (omega arith))
 
 module _ (L : Limits) where
   pages-blank : pagesImage L noModel ≡ replicate (L .size * L .pages) 0
-  unfolding pagesImage cellIn
-  pages-blank = blanks (L .size) (L .pages)
+  pages-blank = pages-none L ∙ blanks (L .size) (L .pages)
 
   nodes-blank : nodesImage L noModel ≡ replicate (2 * L .nodes) allOnes
-  unfolding nodesImage cellIn tab
-  nodes-blank = ones (L .nodes)
+  nodes-blank = nodes-none L ∙ ones (L .nodes)
 
   register-blank : registerImage L noModel ≡ replicate (L .updates) noRecord
   unfolding registerImage updateFrom maskOf rootSpan rootHeight heightFrom
@@ -74,8 +71,7 @@ module _ (L : Limits) where
   lines-blank = refl
 
   store-blank : freshOf L ≡ storeImage L noModel
-  unfolding taken used
-  store-blank = rw (sources-blank, lines-blank)
+  store-blank = rw (sources-blank, lines-blank, nodes-used-none, pages-used-none)
 
   pub format-image : (a : Areas) → formatNumber (freshOf L) a ≡ 0 → formattedState L a ≡ image L noModel
   unfolding formattedState formatRefusal formatRows placed

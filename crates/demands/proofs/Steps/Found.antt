@@ -29,14 +29,15 @@ use Rattle.descent.specs.Places.{hasNodeBy, placeByPart, placeIn, placeAt}
 use Rattle.descent.proofs.Places.{place-zero}
 use Rattle.walk.specs.FindPage.{findPage, numberWithin, pageNumberOf}
 use Rattle.walk.proofs.FromRoot.{from-root}
-use Rattle.model.specs.History.{versionAt, leafNumber, toUpdate, updates}
+use Rattle.model.specs.History.{versionAt, toUpdate, updates}
 use Rattle.model.specs.InTurn.{blobAt}
 use Rattle.model.specs.Model.{Limits, Model, lineAt, updateAt, history, numberIn}
-use Rattle.model.specs.Snapshot.{placeOfNumber, firstPlace}
-use Rattle.model.proofs.Image.{pageCell, pagesImage, nodesImage}
-use Rattle.model.proofs.Areas.{cells-length}
+use Rattle.model.specs.Layout.{nodeStands, nodePlace, leafNumber}
+use Rattle.model.specs.Snapshot.{placeOfNumber}
+use Rattle.model.proofs.Image.{pageList, pagesImage, nodesImage}
+use Rattle.model.proofs.LayoutLaws.{stands-every, stands-few, place-from, place-room, pages-list, list-length, list-blocks}
 use Rattle.model.proofs.Sound.{Sound}
-use Rattle.model.proofs.Facts.{place-room, shown-small}
+use Rattle.model.proofs.Facts.{shown-small}
 use Rattle.model.proofs.Updates.{size-at}
 use Rattle.model.proofs.Shown.{shownAt, update-shown}
 use Rattle.model.proofs.Numbers.{number-some, number-low, number-place}
@@ -45,7 +46,7 @@ use Rattle.model.proofs.Found.{some-version, Places, walk-found, number-within,
 use Rattle.demands.proofs.Image.{recordImage, registerImage, areasImage}
 use Rattle.demands.proofs.Records.{update-image, span-image, span-power, past-image, top-image}
 use Rattle.demands.proofs.Lines.{version-found, name-shown}
-use Rattle.demands.proofs.Blocks.{tab-part}
+use Rattle.demands.proofs.Blocks.{block-part}
 
 -- The sum in 64 bits is the place: nothing is lost, since places, heights and halvings are small.
 place-sums : (place height j x : ℕ) → j ≤ height → height ≤ 12 → place ≤ 131072 → x ≤ 8192 → (place + height + (2 ^ 64 - j) + x) % 2 ^ 64 ≡ place + ((height - j) + x)
@@ -76,7 +77,8 @@ module _ (L : Limits) (m : Model) (S : Sound L m) (l : ℕ) (there : l < length 
     pub height-low : heightOf (updates (history m l)) v ≤ 12
     height-low = root-low (update (updates (history m l)) v .size) (rw (update-shown m l v) (shown-small L m S l there v h))
 
-    module _ (p j : ℕ) (e : hasNode (update (updates (history m l)) v) p j ≡ true) where
+    module _ (p j : ℕ) (e : hasNode (update (updates (history m l)) v) p j ≡ true)
+        (s : let us = updates (history m l) in nodeStands m (shownAt m l v) (index (update us v .f) (update us v .last) 0 (heightOf us v) p j) ≡ true) where
       abbrev its : ℕ
       its = shownAt m l v
 
@@ -88,6 +90,9 @@ module _ (L : Limits) (m : Model) (S : Sound L m) (l : ℕ) (there : l < length 
 
       has-shown : hasNode (toUpdate (m .tickets) (updateAt m its)) p j ≡ true
       has-shown = rw (← update-shown m l v) e
+
+      it-stands : let u = toUpdate (m .tickets) (updateAt m its) in nodeStands m its (index (u .f) (u .last) 0 (rootHeight (u .size)) p j) ≡ true
+      it-stands = ap (λ (u : Update). nodeStands m its (index (u .f) (u .last) 0 (rootHeight (u .size)) p j)) (sym (update-shown m l v)) ∙ s
 
       -- By what the record says the version has the node.
       has-found : hasNodeBy (partOf (recordImage m (pred its))) p j ≡ true
@@ -101,21 +106,23 @@ module _ (L : Limits) (m : Model) (S : Sound L m) (l : ℕ) (there : l < length 
 
       -- And its place.
       sum-found : placeByPart (partOf (recordImage m (pred its))) p j
-          ≡ firstPlace m its
-          + index (updateAt m its .f) (toUpdate (m .tickets) (updateAt m its) .last) 0 (rootHeight (updateAt m its .size)) p j
+          ≡ nodePlace m its (index (updateAt m its .f) (toUpdate (m .tickets) (updateAt m its) .last) 0 (rootHeight (updateAt m its .size)) p j)
       sum-found =
           let u = toUpdate (m .tickets) (updateAt m its) in
           let n = node-has u p j has-shown in
           let low = root-low (u .size) (S .updated its some-update most-update .upward) in
           let x = halvings (first p j) - halvings (u .f) in
           let few : x ≤ 8192 = omega (arith, halved-small (first p j), first-le p j, n .1, pow-mono low) in
-          let near : firstPlace m its ≤ 131072 = omega (arith, place-room L m S its some-update most-update, S .allowed .nodes) in
+          let i = index (u .f) (u .last) 0 (rootHeight (u .size)) p j in
+          let from = place-from m its i (λ n z. stands-every m its n (omega (arith, stands-few m its i it-stands))) in
+          let near : nodePlace m its 0 ≤ 131072 = omega (arith, from, place-room L m S its i some-update most-update it-stands, S .allowed .nodes) in
           rw (
+            from,
             top-image L m S its some-update most-update,
             past-image L m S its some-update most-update,
             index-halved (u .f) (u .last) (rootHeight (u .size)) p j (n .0) (n .1) (n .3),
           )
-          (place-sums (firstPlace m its) (rootHeight (u .size)) j x (n .0) low near few)
+          (place-sums (nodePlace m its 0) (rootHeight (u .size)) j x (n .0) low near few)
 
       -- The walk places the version's nodes where they lie.
       pub place-found : placeAt (registerImage L m) code p j ≡ placeOfNumber m code p j
@@ -141,13 +148,13 @@ module _ (L : Limits) (m : Model) (S : Sound L m) (l : ℕ) (there : l < length 
     upto = published-upto L m S l there v h′
 
     places : Places L m S l there (placeAt (registerImage L m)) v
-    places w q j o k e = place-found w o (omega (arith, upto)) q j e
+    places w q j o k e s = place-found w o (omega (arith, upto)) q j e s
 
     -- The walk on the image.
     pub find-page : findPage (areasImage L m) (numberIn (history m l) v) p
         ≡ Leaf
         (numberIn (history m l) (leafVersion (updates (history m l)) v p))
-        (leafNumber (history m l) (leafVersion (updates (history m l)) v p) p)
+        (leafNumber m l (leafVersion (updates (history m l)) v p) p)
     unfolding findPage
     find-page =
         let us = updates (history m l) in
@@ -164,19 +171,19 @@ module _ (L : Limits) (m : Model) (S : Sound L m) (l : ℕ) (there : l < length 
         ∙ sym (walk-reach at area h c p (place-zero (registerImage L m)))
         ∙ walk-found L m S l there at v h′ places p r)
 
-    pub page-number : pageNumberOf (L .pages) (areasImage L m) (numberIn (history m l) v) p ≡ some (leafNumber (history m l) (leafVersion (updates (history m l)) v p) p)
+    pub page-number : pageNumberOf (L .pages) (areasImage L m) (numberIn (history m l) v) p ≡ some (leafNumber m l (leafVersion (updates (history m l)) v p) p)
     unfolding pageNumberOf
     page-number =
         rw (
           find-page,
-          lt-ltb (leafNumber (history m l) (leafVersion (updates (history m l)) v p) p) (L .pages) (number-within L m S l there v p upto r),
+          lt-ltb (leafNumber m l (leafVersion (updates (history m l)) v p) p) (L .pages) (number-within L m S l there v p upto r),
           numberWithin,
         )
 
     -- The bytes there are the page's.
-    pub view-bytes : part (pagesImage L m) (L .size * leafNumber (history m l) (leafVersion (updates (history m l)) v p) p) (L .size) ≡ getD (blobAt (history m l) v) p []
-    unfolding pagesImage
+    pub view-bytes : part (pagesImage L m) (L .size * leafNumber m l (leafVersion (updates (history m l)) v p) p) (L .size) ≡ getD (blobAt (history m l) v) p []
     view-bytes =
-        tab-part (L .size) (L .pages) (pageCell (L .size) (m .tickets)) (λ q z. cells-length L m S q)
-        (leafNumber (history m l) (leafVersion (updates (history m l)) v p) p) (number-within L m S l there v p upto r)
-        ∙ page-found L m S l there v p upto r
+        rw (pages-list L m)
+        (block-part (L .size) (pageList L m) (list-blocks L m S) (leafNumber m l (leafVersion (updates (history m l)) v p) p)
+        (rw (list-length L m) (number-within L m S l there v p upto r))
+        ∙ page-found L m S l there v p upto r)

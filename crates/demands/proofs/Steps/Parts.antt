@@ -1,30 +1,26 @@
--- The parts of an image that a call leaves as they were: a ticket's part of a record, an update's, the lines' entries, and an update's nodes.
+-- The parts of an image that a call leaves as they were: a ticket's part of a record, an update's, and the lines' entries.
 -- Assumes nothing.
-use mathlib.Core.Path.{_≡_, sym, ap, _∙_}
+use mathlib.Core.Path.{_≡_, sym, _∙_}
 use mathlib.Core.Logic.{inl, inr, _≢_}
 use mathlib.Core.List.{List, [], _∷_, _++_}
 use Prim.Native.Nat.{ℕ, zero, suc, _+_, _≤_, _<_}
 use native.Mathlib.Omega.{arith}
 use borrow.Author.Tests.{lt-ltb, le-ltb}
 use lib.Dec.{ltb}
-use lib.ListN.{length, getD}
+use lib.ListN.{length}
 use Rattle.tree.proofs.Meets.{lt-or-le}
-use Rattle.tree.specs.Tree.{Update, Node, node, countOf, weaving, nth, rootHeight}
+use Rattle.tree.specs.Tree.{nth, rootHeight}
 use Rattle.tree.specs.Place.{halvings}
 use Rattle.tree.specs.Contract.{rootSpan}
-use Rattle.model.proofs.Shown.{every-update}
 use Rattle.lines.specs.Lines.{entriesOf}
 use Rattle.lines.specs.declared.Entries.{Entries}
 use Rattle.lines.proofs.Packed.{entries-same}
 use Rattle.register.specs.declared.Record.{Record}
-use Rattle.model.specs.History.{Ticket, Version, noTicket, noVersion, pagesOf, toUpdate, updates}
+use Rattle.model.specs.History.{Ticket, Version, noTicket, noVersion, pagesOf, toUpdate}
 use Rattle.model.specs.Model.{Limits, Model, updateAt, ticketUpdate, numbered}
 use Rattle.model.specs.OnModel.{ticketIn, either}
-use Rattle.model.proofs.Laid.{Pair, onesPair, cellIn, oneTo}
-use Rattle.model.proofs.Image.{numbersOf, wovenOf, weaveCell, countAt}
 use Rattle.model.proofs.Sound.{Sound}
 use Rattle.model.proofs.Nth.{length-snoc, nth-append, nth-past}
-use Rattle.model.proofs.Cells.{numbered-same}
 use Rattle.demands.proofs.Image.{countBy, maskOf, numberAt, firstPlaceAt, ownAt}
 
 -- ---- records
@@ -134,28 +130,3 @@ ticket-within L m S (suc i) = elim (lt-or-le (length (m .updates)) (suc i)) [
   | inl l ↦ rw (nth-past noVersion (m .updates) (suc i) l) (omega arith)
   | inr l ↦ S .updated (suc i) (omega arith) l .upto
 ]
-
--- ---- nodes
-
-cell-same : (i w w′ : ℕ) (u u′ : Update) (g g′ : Node → Pair) → w ≡ w′ → u ≡ u′ → ((x : Node) → g x ≡ g′ x)
-    → either (ltb i w) (g (getD (weaving u) i (node 0 0))) onesPair ≡ either (ltb i w′) (g′ (getD (weaving u′) i (node 0 0))) onesPair
-cell-same i w w′ u u′ g g′ a b c = λ k. either (ltb i (a k)) (c (getD (weaving (b k)) i (node 0 0)) k) onesPair
-
--- The nodes of updates that stay the same, their tickets too, and have the same numbers, stay the same.
-module _ (m m′ : Model)
-    (same : (k : ℕ) → 0 < k → k ≤ length (m .updates) → updateAt m′ k ≡ updateAt m k)
-    (tickets : (k : ℕ) → 0 < k → k ≤ length (m .updates) → ticketIn m′ (updateAt m k .ticket) ≡ ticketIn m (updateAt m k .ticket))
-    (numbers : (k : ℕ) (x : Node) → 0 < k → k ≤ length (m .updates) → numbersOf m′ k x ≡ numbersOf m k x) where
-  updated : (k : ℕ) → 0 < k → k ≤ length (m .updates) → toUpdate (m′ .tickets) (updateAt m′ k) ≡ toUpdate (m .tickets) (updateAt m k)
-  updated k o h = rw (same k o h, tickets k o h)
-
-  pub nodes-stay : (q : ℕ) → cellIn (countAt m′) (weaveCell m′) onesPair (oneTo (length (m .updates))) q
-      ≡ cellIn (countAt m) (weaveCell m) onesPair (oneTo (length (m .updates))) q
-  nodes-stay q =
-      numbered-same (countAt m′) (weaveCell m′) (countAt m) (weaveCell m) onesPair (length (m .updates))
-      (λ k o h. ap countOf (every-update m′ k ∙ updated k o h ∙ sym (every-update m k)))
-      (λ k i o h l.
-      let w : wovenOf m′ k ≡ wovenOf m k = ap (λ (x : Version). ticketIn m′ (x .ticket) .woven) (same k o h) ∙ ap (λ (t : Ticket). t .woven) (tickets k o h) in
-      cell-same i (wovenOf m′ k) (wovenOf m k) (toUpdate (m′ .tickets) (updateAt m′ k)) (toUpdate (m .tickets) (updateAt m k)) (numbersOf m′ k) (numbersOf m k) w (updated k o h)
-      (λ x. numbers k x o h))
-      q

@@ -26,6 +26,7 @@ use Rattle.model.specs.Model.{Limits, Model, lineAt, history, numberIn}
 use Rattle.model.specs.OnModel.{publishNumber as modelNumber, published as publishedModel, either, onLine, onModel}
 use Rattle.model.proofs.Tab.{tab-same}
 use Rattle.model.proofs.Image.{pagesImage, nodesImage}
+use Rattle.model.proofs.LayoutLaws.{nodes-used-kept, pages-used-kept, pages-same}
 use Rattle.model.proofs.Sound.{Sound}
 use Rattle.model.proofs.Passed.{publish-passed}
 use Rattle.model.proofs.Facts.{versions-most}
@@ -40,8 +41,8 @@ use Rattle.demands.proofs.Records.{woven-image, count-image}
 use Rattle.demands.proofs.Lines.{lines-in, line-in, sources-written, words-written, name-shown}
 use Rattle.demands.proofs.Steps.Numbers.{alike-same, image-number}
 use Rattle.demands.proofs.Steps.States.{leaves, stateOf, state-same}
-use Rattle.demands.proofs.Steps.Parts.{all-same, entries-stay}
-use Rattle.demands.proofs.Steps.Grown.{nodes-grown}
+use Rattle.demands.proofs.Steps.Parts.{entries-stay}
+use Rattle.demands.proofs.Steps.Grown.{nodes-grown, record-same}
 use Rattle.demands.proofs.Steps.Found.{part-found}
 
 module _ (L : Limits) (m : Model) (S : Sound L m) (l : ℕ) where
@@ -134,14 +135,13 @@ module _ (L : Limits) (m : Model) (S : Sound L m) (l : ℕ) where
     unfolding registerImage
     published-register =
         let m′ = publishedModel L m l in
-        tab-same (L .updates) (recordImage m) (recordImage m′) (λ i h. all-same refl refl (entries-stay m m′ i (λ j z. own-same j (suc i))))
+        tab-same (L .updates) (recordImage m) (recordImage m′) (λ i h. record-same L m m′ S (published-grown L m l there) refl refl i (entries-stay m m′ i (λ j z. own-same j (suc i))))
 
     published-pages : pagesImage L m ≡ pagesImage L (publishedModel L m l)
-    unfolding pagesImage
-    published-pages = refl
+    published-pages = pages-same m (publishedModel L m l) (published-grown L m l there) L refl (λ t i o h k s. refl)
 
     published-nodes : nodesImage L m ≡ nodesImage L (publishedModel L m l)
-    published-nodes = nodes-grown L m (publishedModel L m l) S (published-grown L m l there) refl (λ k o h. refl)
+    published-nodes = nodes-grown L m (publishedModel L m l) S (published-grown L m l there) (λ k o h. refl) refl
 
     -- The line's state alone moves.
     published-state : branchImage (publishedModel L m l) l ≡ withPublished (branchImage m l)
@@ -156,6 +156,8 @@ module _ (L : Limits) (m : Model) (S : Sound L m) (l : ℕ) where
         let b = withPublished (branchImage m l) in
         rw (
           published-lines L m l there,
+          pages-used-kept m m′ (published-grown L m l there) refl,
+          nodes-used-kept m m′ (published-grown L m l there) refl,
           sources-written L m S m′ l b (omega (arith, S .few)) published-state state-stays,
           words-written L m S m′ l b (omega (arith, S .few)) published-state state-stays,
         )

@@ -2,6 +2,7 @@
 -- Assumes nothing.
 use mathlib.Core.Path.{_≡_, refl, ap, sym}
 use mathlib.Core.Logic.{inl, inr, _≢_}
+use mathlib.Core.Bool.{true}
 use mathlib.Core.Option.{none}
 use mathlib.Core.List.{List}
 use Prim.Native.Nat.{ℕ, zero, suc, pred, _+_, _*_, _≤_, _<_}
@@ -18,11 +19,12 @@ use Rattle.put.specs.Put.{ticketPage, bitOf, putRefusal, putIn, withPut, withBi
 use Rattle.model.specs.Calls.{PUT, putDone, answers}
 use Rattle.model.specs.History.{Version, noVersion, pagesOf, isFilled, bitIf}
 use Rattle.model.specs.Model.{Limits, Model, updateAt, ticketUpdate}
+use Rattle.model.specs.Layout.{serialOf, slotStands}
 use Rattle.model.specs.OnModel.{ticketIn, putNumber, filledAt, onModel}
 use Rattle.model.proofs.Image.{pagesImage, nodesImage}
 use Rattle.model.proofs.Sound.{Sound}
 use Rattle.model.proofs.Passed.{PutPassed, put-passed}
-use Rattle.model.proofs.Facts.{number-room}
+use Rattle.model.proofs.LayoutLaws.{page-open, page-room}
 use Rattle.model.proofs.Nth.{nth-past}
 use Rattle.model.proofs.Kept.Change.{changed-other}
 use Rattle.model.proofs.Kept.Put.{filledTicket, filled-pages, put-apart, filled-this, filled-grown}
@@ -30,7 +32,7 @@ use Rattle.demands.specs.Answers.{putAnswer}
 use Rattle.demands.specs.Run.{onStore}
 use Rattle.demands.proofs.Image.{maskOf, numberAt, registerImage, storeImage, windowsImage, areasImage, image}
 use Rattle.demands.proofs.Masks.{mask-bit, mask-put}
-use Rattle.demands.proofs.Records.{record-at, number-of}
+use Rattle.demands.proofs.Records.{record-at, slot-number}
 use Rattle.demands.proofs.Puts.{pages-put, register-put}
 use Rattle.demands.proofs.Steps.Numbers.{PutReads, put-alike, image-number}
 use Rattle.demands.proofs.Steps.States.{leaves, stateOf, state-same}
@@ -63,7 +65,8 @@ module _ (L : Limits) (m : Model) (S : Sound L m) (i : ℕ) (bytes : List ℕ) w
       (put-alike _ _ _ _ _ _ _ _ _ _ _ _ (put-reads t))
       (λ z.
       let p = put-passed L m t i bytes z in
-      (omega (arith, p .upto, S .records), omega (arith, number-of L m S t (p .from) (p .upto), number-room L m S t (p .from) (p .upto), p .slot)))
+      let lies : (j : ℕ) → j ≤ i → slotStands m t j ≡ true = λ j h. page-open m t j (p .from) (p .upto) (omega (arith, p .slot)) (p .unassigned) in
+      (omega (arith, p .upto, S .records), omega (arith, slot-number L m S t i (p .from) (p .upto) (λ j h. lies j (omega arith)), page-room L m S (serialOf (m .tickets) t i) (lies i (omega arith)))))
 
   -- ---- what it leaves
 
@@ -77,12 +80,12 @@ module _ (L : Limits) (m : Model) (S : Sound L m) (i : ℕ) (bytes : List ℕ) w
     ]
 
     put-pages : put (pagesImage L m) (L .size * ticketPage (areasImage L m) (suc t) i) bytes ≡ pagesImage L (filledAt L m (suc t) i bytes)
-    put-pages = rw (number-of L m S (suc t) (p .from) (p .upto)) (pages-put L m S t i bytes (p .upto) (p .slot) (p .whole))
+    put-pages = rw (slot-number L m S (suc t) i (p .from) (p .upto) (λ j h. page-open m (suc t) j (p .from) (p .upto) (omega (arith, p .slot)) (p .unassigned))) (pages-put L m S (suc t) i bytes p)
 
     put-nodes : nodesImage L m ≡ nodesImage L (filledAt L m (suc t) i bytes)
     put-nodes =
-        nodes-grown L m (filledAt L m (suc t) i bytes) S (filled-grown L m (suc t) i bytes S p) refl
-        (λ k o h. changed-other m (suc t) (filledTicket L m (suc t) i bytes) (p .from) (filled-pages L m (suc t) i bytes) (updateAt m k .ticket) (apart k))
+        nodes-grown L m (filledAt L m (suc t) i bytes) S (filled-grown L m (suc t) i bytes S p)
+        (λ k o h. changed-other m (suc t) (filledTicket L m (suc t) i bytes) (p .from) (filled-pages L m (suc t) i bytes) (updateAt m k .ticket) (apart k)) refl
 
     -- The ticket's part, with bit i set.
     put-part : ticketPart (filledAt L m (suc t) i bytes) t
@@ -90,7 +93,7 @@ module _ (L : Limits) (m : Model) (S : Sound L m) (i : ℕ) (bytes : List ℕ) w
     put-part =
         let s = filled-pages L m (suc t) i bytes in
         rw (
-          changed-number m (suc t) (filledTicket L m (suc t) i bytes) (p .from) s t,
+          changed-number L m S (suc t) (filledTicket L m (suc t) i bytes) (p .from) s (filled-grown L m (suc t) i bytes S p) t,
           filled-this L m (suc t) i bytes S p,
           s,
           mask-put (ticketIn m (suc t) .slots) i bytes (S .tickets (suc t) (p .from) (p .upto) .few) (p .slot) (p .empty),
@@ -101,9 +104,10 @@ module _ (L : Limits) (m : Model) (S : Sound L m) (i : ℕ) (bytes : List ℕ) w
         let k = filledTicket L m (suc t) i bytes in
         let s = filled-pages L m (suc t) i bytes in
         let h : t < L .updates = omega (arith, p .upto, S .records) in
-        let updated : (j : ℕ) → updatePart m j ≡ updatePart (filledAt L m (suc t) i bytes) j = λ j. changed-update-part m (suc t) k (p .from) s j (apart (suc j)) in
+        let g = filled-grown L m (suc t) i bytes S p in
+        let updated : (j : ℕ) → updatePart m j ≡ updatePart (filledAt L m (suc t) i bytes) j = λ j. changed-update-part L m S (suc t) k (p .from) s g j (apart (suc j)) in
         register-put L m (filledAt L m (suc t) i bytes) t _ h
-        (λ j l n. all-same (changed-ticket-part m (suc t) k (p .from) s j (λ e. n (suc-inj e))) (updated j) refl)
+        (λ j l n. all-same (changed-ticket-part L m S (suc t) k (p .from) s g j (λ e. n (suc-inj e))) (updated j) refl)
         (rw (record-at L m t h) (all-same put-part (sym (updated t)) refl))
 
   put-image : (t : ℕ) → PutPassed L m t i bytes
@@ -113,7 +117,7 @@ module _ (L : Limits) (m : Model) (S : Sound L m) (i : ℕ) (bytes : List ℕ) w
   put-image zero p = absurd (omega (arith, p .from))
   put-image (suc t) p =
       state-same
-      (changed-store m (suc t) (filledTicket L m (suc t) i bytes) (p .from) (filled-pages L m (suc t) i bytes) L)
+      (changed-store L m S (suc t) (filledTicket L m (suc t) i bytes) (p .from) (filled-pages L m (suc t) i bytes) (filled-grown L m (suc t) i bytes S p))
       (put-pages t p)
       (put-nodes t p)
       (put-register t p)

@@ -18,10 +18,11 @@ use Rattle.table.proofs.Table.{none, hit, skip, second}
 use Rattle.versions.specs.Store.{numberOn, partOn}
 use Rattle.walk.specs.FindPage.{findPage, pageNumberOf, isLost}
 use Rattle.stamp.specs.Stamp.{pageRefusal, leafAsOf, sameBelow, onFrom, sinceBy, since}
-use Rattle.model.specs.History.{History, versionAt, leafNumber, updates}
+use Rattle.model.specs.History.{History, versionAt, updates}
 use Rattle.model.specs.InTurn.{blobAt}
 use Rattle.model.specs.Stamp.{stays, stampAt}
 use Rattle.model.specs.Model.{Limits, Model, history, numberIn}
+use Rattle.model.specs.Layout.{leafNumber}
 use Rattle.model.proofs.Image.{pagesImage}
 use Rattle.model.proofs.Sound.{Sound}
 use Rattle.model.proofs.SoundHistory.{line-history}
@@ -63,7 +64,7 @@ module _ (L : Limits) (m : Model) (S : Sound L m) (l : ℕ) (there : l < length 
     newest = leafVersion (updates h) v p
 
     abbrev found : Found
-    found = Leaf (numberIn h newest) (leafNumber h newest p)
+    found = Leaf (numberIn h newest) (leafNumber m l newest p)
 
     upto : v ≤ length (h .versions)
     upto = omega (arith, published-upto L m S l there v q, versions-length m l)
@@ -103,7 +104,7 @@ module _ (L : Limits) (m : Model) (S : Sound L m) (l : ℕ) (there : l < length 
     pub stamp-there : stampAt h newest p ≡ stampAt h v p
     stamp-there = sym (stamp-leaf L h (line-history L m S l there) v p upto r)
 
-    pub bytes-there : Has (leafNumber h newest p) newest
+    pub bytes-there : Has (leafNumber m l newest p) newest
     bytes-there =
         let g = stamp-published L m S l there v q p r in
         view-bytes L m S l there v p q r ∙ sym (g .from .alike newest (omega (arith, stamp-there, stamp-upto h newest p)) (bounds .upto))
@@ -132,8 +133,8 @@ module _ (L : Limits) (m : Model) (S : Sound L m) (l : ℕ) (there : l < length 
             elim (test-cases (stays h v p)) [
               | inl e ↦
                   tested true e
-                  ∙ ap (λ (w : ℕ). sinceBy s a l p i w (leafNumber h x p)) (its-version v below r)
-                  ∙ since-image i x (leafNumber h x p) (omega (arith, b .upto)) (b .above) (omega (arith, b .upto)) (bytes-there v below r)
+                  ∙ ap (λ (w : ℕ). sinceBy s a l p i w (leafNumber m l x p)) (its-version v below r)
+                  ∙ since-image i x (leafNumber m l x p) (omega (arith, b .upto)) (b .above) (omega (arith, b .upto)) (bytes-there v below r)
                   ∙ stamp-there v below r
                   ∙ sym (stamp-on h v p e)
               | inr e ↦ tested false e ∙ sym (stamp-first h v p e)
@@ -145,8 +146,8 @@ module _ (L : Limits) (m : Model) (S : Sound L m) (l : ℕ) (there : l < length 
 
   -- From the leaf of version v.
   pub since-leaf : (v : ℕ) → v ≤ h .published → p < versionAt h v .size
-      → since (storeImage L m) (areasImage L m) l p (leafVersion (updates h) v p) (leafNumber h (leafVersion (updates h) v p) p) ≡ stampAt h v p
+      → since (storeImage L m) (areasImage L m) l p (leafVersion (updates h) v p) (leafNumber m l (leafVersion (updates h) v p) p) ≡ stampAt h v p
   since-leaf v q r =
       let x = leafVersion (updates h) v p in
       let b = bounds v q r in
-      since-image x x (leafNumber h x p) (omega arith) (b .above) (omega (arith, b .upto)) (bytes-there v q r) ∙ stamp-there v q r
+      since-image x x (leafNumber m l x p) (omega arith) (b .above) (omega (arith, b .upto)) (bytes-there v q r) ∙ stamp-there v q r

@@ -12,9 +12,10 @@ use Rattle.versions.specs.Size.{isThere, notThere, pagesIn}
 use Rattle.walk.specs.FindPage.{findPage, numberWithin, pageNumberOf, isLost}
 use Rattle.stamp.specs.Stamp.{stampNumber, stampBy, stamped}
 use Rattle.model.specs.Calls.{stamp, stampIs, answers}
-use Rattle.model.specs.History.{versionAt, leafNumber, updates}
+use Rattle.model.specs.History.{versionAt, updates}
 use Rattle.model.specs.Stamp.{stampAt}
 use Rattle.model.specs.Model.{Limits, Model, lineAt, history, numberIn}
+use Rattle.model.specs.Layout.{leafNumber}
 use Rattle.model.specs.OnModel.{modelOutcome, pageNumber}
 use Rattle.model.proofs.Sound.{Sound}
 use Rattle.model.proofs.SoundHistory.{line-history}
@@ -73,7 +74,7 @@ module _ (L : Limits) (m : Model) (S : Sound L m) (l v p : ℕ) where
         number-on L m S l (g .line) v w,
         find-page L m S l (g .line) v p (g .published) (g .inside),
         number-version L m S l x (g .line) (b .above) (omega arith),
-        lt-ltb (leafNumber (history m l) x p) (L .pages) (number-within L m S l (g .line) v p w (g .inside)),
+        lt-ltb (leafNumber m l x p) (L .pages) (number-within L m S l (g .line) v p w (g .inside)),
         numberWithin,
       )
       (since-leaf L m S l (g .line) p v (g .published) (g .inside))

@@ -14,7 +14,6 @@ use Rattle.tree.specs.Place.{first, halvings, kth}
 use Rattle.tree.specs.Contract.{heightIn}
 use Rattle.tree.specs.Walk.{hasNode}
 use Rattle.tree.specs.NodeArea.{withNode}
-use Rattle.tree.proofs.First.{first-leaf}
 use Rattle.tree.proofs.Meets.{lt-or-le, meets-before, meets-after}
 use Rattle.tree.proofs.Newest.{newest-le, newest-within}
 use Rattle.tree.proofs.Root.{root-low}
@@ -32,15 +31,15 @@ use Rattle.versions.specs.declared.Store.{Store}
 use Rattle.versions.specs.Store.{lengthsOf, recordOf}
 use Rattle.weave.specs.Weave.{nextNode, placeOf, nextPlace, leafPast, weaveRefusal, wovenUpdate, wovenRecord, wovenPart, olderNumber, meetsLeft, meetsRight, lostHalf, lostChild, lostBy, weaveNumber, kept, leftNumber, rightNumber, firstPage, spanOf, withWoven, nodeOf}
 use Rattle.model.specs.Calls.{WEAVE, nodeIs, says}
-use Rattle.model.specs.History.{History, pagesOf, taken, toUpdate, updates}
+use Rattle.model.specs.History.{History, toUpdate, updates}
 use Rattle.model.specs.Model.{Limits, Model, lineAt, updateAt, history, ticketUpdate, numbered, numberIn}
 use Rattle.model.specs.OnModel.{ticketIn, leftOf, rightOf, firstPage as pageOf, spanOf as spanIn, weaveNumber as modelNumber, nodeAnswer, woven, onModel}
-use Rattle.model.specs.Snapshot.{firstPlace}
+use Rattle.model.specs.Layout.{nodePlace, serialOf, slotNumber}
 use Rattle.model.proofs.Image.{pagesImage, nodeOf as nodeIn, nodesImage}
 use Rattle.model.proofs.Sound.{Sound, UpdateSound}
-use Rattle.model.proofs.SoundHistory.{line-history, update-inside}
-use Rattle.model.proofs.Facts.{number-room, pages-end, place-room, versions-most}
-use Rattle.model.proofs.Shown.{versions-length, complete-whole, every-update}
+use Rattle.model.proofs.Facts.{versions-most}
+use Rattle.model.proofs.LayoutLaws.{stands-unpublished, place-from, place-room, page-room}
+use Rattle.model.proofs.Leaves.{own-inside, next-late, next-stands, next-pages, next-slot, next-number}
 use Rattle.model.proofs.Updated.{update-le, update-ticket}
 use Rattle.model.proofs.Owner.{own-version, own-update}
 use Rattle.model.proofs.Numbers.{numbered-is, number-below}
@@ -68,10 +67,10 @@ first-same (node a h) = refl
 span-same : (x : Node) → spanOf x ≡ spanIn x
 span-same (node a h) = refl
 
--- A leaf's page number lies within the pages.
-abbrev LeafIn : Update → ℕ → ℕ → Node → Type 0
-LeafIn u number pages (node p zero) = number + (p - u .f) < pages
-LeafIn u number pages (node p (suc h)) = Unit
+-- A leaf's page number, by the slot, follows the ticket's first, and lies within the pages.
+abbrev LeafIn : Update → ℕ → (ℕ → ℕ) → ℕ → Node → Type 0
+LeafIn u number page pages (node p zero) = (page (p - u .f) ≡ number + (p - u .f)) × (number + (p - u .f) < pages)
+LeafIn u number page pages (node p (suc h)) = Unit
 
 -- A node is one of an update's, named by its first page.
 abbrev NodeIn : Update → Node → Type 0
@@ -87,7 +86,7 @@ record Reads (s : Store) (nodes : List ℕ) (rs : List Record) (r : Record) (q :
       → olderNumber s nodes rs (q .name) a k ≡ numberIn h (newest (updates h) v a (2 ^ k))
   small : (a k : ℕ) → numberIn h (newest (updates h) v a (2 ^ k)) < 1048576
 
-module _ {s : Store} {nodes : List ℕ} {rs : List Record} {r : Record} {q : Part} {h : History} {v number : ℕ} (e : Reads s nodes rs r q h v number) (pages : ℕ) (few : pages ≤ 65535) where
+module _ {s : Store} {nodes : List ℕ} {rs : List Record} {r : Record} {q : Part} {h : History} {v number : ℕ} (e : Reads s nodes rs r q h v number) (page : ℕ → ℕ) (pages : ℕ) (few : pages ≤ 65535) where
   abbrev own : Update
   own = update (updates h) v
 
@@ -125,8 +124,8 @@ module _ {s : Store} {nodes : List ℕ} {rs : List Record} {r : Record} {q : Par
   child-kept : (a k : ℕ) (b : Bool) → Half a k b → kept (pick b (q .name) (olderNumber s nodes rs (q .name) a k)) ≡ numberIn h (newest (updates h) v a (2 ^ k))
   child-kept a k b x = ap kept (x .named) ∙ mod-eq-of-lt (omega (arith, e .small a k))
 
-  left-same : (x : Node) → LeafIn own number pages x → NodeIn own x → leftNumber s nodes rs r q x ≡ leftOf h v number x
-  left-same (node p zero) l i = rw (e .begins, e .its) (mod-eq-of-lt (omega arith))
+  left-same : (x : Node) → LeafIn own number page pages x → NodeIn own x → leftNumber s nodes rs r q x ≡ leftOf h v page x
+  left-same (node p zero) l i = rw (e .begins, e .its) (mod-eq-of-lt (omega (arith, l .1))) ∙ sym (l .0)
   left-same (node p (suc k)) l i = child-kept p k (meetsLeft q (p + 2 ^ k)) (left-half p k i)
 
   right-same : (x : Node) → NodeIn own x → rightNumber s nodes rs q x ≡ rightOf h v x
@@ -137,8 +136,8 @@ module _ {s : Store} {nodes : List ℕ} {rs : List Record} {r : Record} {q : Par
   none-lost (node p zero) i = refl
   none-lost (node p (suc k)) i = rw (left-half p k i .found, right-half p k i .found)
 
-  leaf-fails : s .pages ≡ pages → (x : Node) → LeafIn (update (updates h) v) number pages x → Fails (leafPast s r q x)
-  leaf-fails z (node p zero) l = rw (z, e .begins, e .its) l
+  leaf-fails : s .pages ≡ pages → (x : Node) → LeafIn (update (updates h) v) number page pages x → Fails (leafPast s r q x)
+  leaf-fails z (node p zero) l = rw (z, e .begins, e .its) (l .1)
   leaf-fails z (node p (suc k)) l = omega arith
 
 -- ---- the records of the image
@@ -174,7 +173,7 @@ module _ (L : Limits) (m : Model) (S : Sound L m) (t : ℕ) (o : 0 < t) (h : t �
     its-count : wovenPart (areasImage L m) t .count ≡ countOf (toUpdate (m .tickets) (updateAt m (ticketUpdate m t)))
     its-count = ap (λ (q : Part). q .count) its-part ∙ count-image L m S (ticketUpdate m t) got (update-le m t)
 
-    its-place : placeOf (wovenPart (areasImage L m) t) ≡ firstPlace m (ticketUpdate m t)
+    its-place : placeOf (wovenPart (areasImage L m) t) ≡ nodePlace m (ticketUpdate m t) 0
     its-place = ap placeOf its-part ∙ place-image L m S (ticketUpdate m t) got (update-le m t)
 
   weave-reads :
@@ -221,24 +220,13 @@ module _ (L : Limits) (m : Model) (S : Sound L m) (t : ℕ) (p : WeavePassed m t
   name-sum : part .name ≡ line * 65536 + version
   name-sum = name-is ∙ numbered-is line version (omega (arith, sound .own))
 
-  -- Not all of its nodes are woven, so that it is not published.
-  late : lineAt m line .published < version
-  late = elim (lt-or-le (lineAt m line .published) version) [
-    | inl l ↦ l
-    | inr l ↦
-        let w = complete-whole m line version (S .lines line (sound .line) .woven version (omega (arith, sound .own)) l) in
-        let k = rw (sound .shown) at w in
-        let same = ap (λ (u : ℕ). ticketIn m u .woven) (update-ticket m t (p .assigned)) in
-        absurd (omega (arith, p .left))
-  ]
-
   older-is : (a k : ℕ) → first a k ≡ a → meets (update (updates (history m line)) version .f) (update (updates (history m line)) version .last) a (2 ^ k) ≡ false
       → olderNumber (storeImage L m) (nodesImage L m) (registerImage L m) (part .name) a k ≡ numberIn (history m line) (newest (updates (history m line)) version a (2 ^ k))
   older-is a k g x =
       let most = versions-most L m S line (sound .line) in
       let l : lineOf (part .name) ≡ line = omega (arith, name-sum, upto) in
       let v : versionOf (part .name) ≡ version = omega (arith, name-sum, upto) in
-      older-newest L m S line version (sound .line) late upto a k g x (part .name) l v
+      older-newest L m S line version (sound .line) (next-late L m S t p) upto a k g x (part .name) l v
 
   met-is : (a k : ℕ) → update (updates (history m line)) version .f < a + 2 ^ k → a ≤ update (updates (history m line)) version .last
       → newest (updates (history m line)) version a (2 ^ k) ≡ version
@@ -246,7 +234,7 @@ module _ (L : Limits) (m : Model) (S : Sound L m) (t : ℕ) (p : WeavePassed m t
       let n : suc (pred version) ≡ version = omega (arith, sound .own) in
       rw n at (newest-within (updates (history m line)) (pred version) a (2 ^ k) (rw n x) (rw n y))
 
-  reads : Reads (storeImage L m) (nodesImage L m) (registerImage L m) (recordOf (areasImage L m) t) part (history m line) version (taken (m .tickets) (pred t))
+  reads : Reads (storeImage L m) (nodesImage L m) (registerImage L m) (recordOf (areasImage L m) t) part (history m line) version (slotNumber m t 0)
   reads = record {
     begins = number-of L m S t (p .from) (p .upto);
     its = its-update L m S t (p .from) (p .upto) (p .assigned) ∙ sym (own-update L m S its (p .assigned) (update-le m t));
@@ -265,10 +253,7 @@ module _ (L : Limits) (m : Model) (S : Sound L m) (t : ℕ) (p : WeavePassed m t
   next = nodeIn m its (ticketIn m t .woven)
 
   inside : Inside (toUpdate (m .tickets) (updateAt m its))
-  inside =
-      let n = versions-length m line in
-      let s = line-history L m S line (sound .line) in
-      rw (own-update L m S its (p .assigned) (update-le m t)) at (update-inside L (history m line) s version (omega (arith, sound .own)) (omega (arith, upto)))
+  inside = own-inside L m S its (p .assigned) (update-le m t)
 
   next-node : nextNode part ≡ next
   next-node =
@@ -285,36 +270,32 @@ module _ (L : Limits) (m : Model) (S : Sound L m) (t : ℕ) (p : WeavePassed m t
       let i = ticketIn m t .woven in
       rw (own-update L m S its (p .assigned) (update-le m t)) (kth-node u inside i a k (p .left) (sym (weaving-kth u inside i (p .left)) ∙ e))
 
-  leaf-low : (x : Node) → next ≡ x → LeafIn (update (updates (history m line)) version) (taken (m .tickets) (pred t)) (L .pages) x
+  leaf-low : (x : Node) → next ≡ x → LeafIn (update (updates (history m line)) version) (slotNumber m t 0) (slotNumber m t) (L .pages) x
   leaf-low (node a zero) e =
-      let u = toUpdate (m .tickets) (updateAt m its) in
-      let k = weaving-kth u inside (ticketIn m t .woven) (p .left) in
-      let n = node-has u a 0 (kth-node u inside (ticketIn m t .woven) a 0 (p .left) (sym k ∙ e) .1) in
-      let z = pages-end L m S its (p .assigned) (update-le m t) in
-      let f = ap (λ (x : Update). x .f) (own-update L m S its (p .assigned) (update-le m t)) in
-      let room = number-room L m S t (p .from) (p .upto) in
-      let s = ap (λ (w : ℕ). pagesOf (ticketIn m w)) (update-ticket m t (p .assigned)) in
-      omega (arith, first-leaf a)
+      let i = a - updateAt m its .f in
+      let room = page-room L m S (serialOf (m .tickets) t i) (next-pages L m S t p i (next-slot L m S t p a e)) in
+      let from = next-number L m S t p a e in
+      rw (own-update L m S its (p .assigned) (update-le m t)) (from, omega arith)
   leaf-low (node a (suc h)) e = tt
 
-  next-place : nextPlace part ≡ firstPlace m its + ticketIn m t .woven
-  next-place = rw (its-place L m S t (p .from) (p .upto) (p .assigned), woven-is)
+  next-place : nextPlace part ≡ nodePlace m its (ticketIn m t .woven)
+  next-place = rw (its-place L m S t (p .from) (p .upto) (p .assigned), woven-is) (sym (place-from m its (ticketIn m t .woven) (λ j h. stands-unpublished m its j (next-late L m S t p) (omega (arith, p .left)))))
 
   leaf-not : Fails (leafPast (storeImage L m) (recordOf (areasImage L m) t) part (nextNode part))
-  leaf-not = rw next-node (leaf-fails reads (L .pages) (S .allowed .pages) refl next (leaf-low next refl))
+  leaf-not = rw next-node (leaf-fails reads (slotNumber m t) (L .pages) (S .allowed .pages) refl next (leaf-low next refl))
 
   -- The node's numbers.
-  left-node : nodeOf (storeImage L m) (areasImage L m) t .left ≡ leftOf (history m line) version (taken (m .tickets) (pred t)) next
-  left-node = rw next-node (left-same reads (L .pages) (S .allowed .pages) next (leaf-low next refl) (next-in next refl))
+  left-node : nodeOf (storeImage L m) (areasImage L m) t .left ≡ leftOf (history m line) version (slotNumber m t) next
+  left-node = rw next-node (left-same reads (slotNumber m t) (L .pages) (S .allowed .pages) next (leaf-low next refl) (next-in next refl))
 
   right-node : nodeOf (storeImage L m) (areasImage L m) t .right ≡ rightOf (history m line) version next
-  right-node = rw next-node (right-same reads (L .pages) (S .allowed .pages) next (next-in next refl))
+  right-node = rw next-node (right-same reads (slotNumber m t) (L .pages) (S .allowed .pages) next (next-in next refl))
 
   rest-node : nodeOf (storeImage L m) (areasImage L m) t .rest ≡ countOf (toUpdate (m .tickets) (updateAt m its)) - suc (ticketIn m t .woven)
   rest-node = rw (its-count L m S t (p .from) (p .upto) (p .assigned), woven-is)
 
   not-lost : lostChild (storeImage L m) (nodesImage L m) (registerImage L m) part (nextNode part) ≡ false
-  not-lost = rw next-node (none-lost reads (L .pages) (S .allowed .pages) next (next-in next refl))
+  not-lost = rw next-node (none-lost reads (slotNumber m t) (L .pages) (S .allowed .pages) next (next-in next refl))
 
   node-says : wovenAnswer (Woven.Node (nodeOf (storeImage L m) (areasImage L m) t)) ≡ nodeAnswer L m t
   node-says = λ i. nodeIs (number-is i) (first-node i) (span-node i) (left-node i) (right-node i) (rest-node i)
@@ -327,7 +308,7 @@ module _ (L : Limits) (m : Model) (S : Sound L m) (t : ℕ) (p : WeavePassed m t
 
   nodes-after : withNode (nodesImage L m) (nextPlace part) (nodeOf (storeImage L m) (areasImage L m) t .left) (nodeOf (storeImage L m) (areasImage L m) t .right)
       ≡ nodesImage L (woven L m t)
-  nodes-after = rw (next-place, left-node, right-node) (woven-nodes L m t S p _ _ (rw (update-ticket m t (p .assigned))))
+  nodes-after = rw (next-place, left-node, right-node) (woven-nodes L m t S p (next-stands L m S t p) _ _ (rw (update-ticket m t (p .assigned))))
 
   register-after : withRecord (registerImage L m) (pred (wovenUpdate (areasImage L m) t)) (withWoven (wovenRecord (areasImage L m) t)) ≡ registerImage L (woven L m t)
   register-after =
@@ -361,9 +342,8 @@ module _ (L : Limits) (m : Model) (S : Sound L m) (t : ℕ) where
       (λ z.
       let p = weave-passed L m t z in
       let e = update-is L m S t (p .from) (p .upto) in
-      let room = place-room L m S k (p .assigned) (update-le m t) in
-      let count = ap countOf (every-update m k) in
-      let low : nextPlace q < L .nodes = omega (arith, next-place L m S t p, p .left) in
+      let room = place-room L m S k (ticketIn m t .woven) (p .assigned) (update-le m t) (next-stands L m S t p) in
+      let low : nextPlace q < L .nodes = omega (arith, next-place L m S t p) in
       (ticket-room L m S t (p .upto), (omega (arith, update-room L m S k (update-le m t)), (low, leaf-not L m S t p))))
 
   -- Where the table passes nothing that is looked for is lost.

@@ -2,37 +2,36 @@
 -- Assumes nothing.
 use mathlib.Core.Path.{_≡_, refl, sym, ap, _∙_}
 use mathlib.Core.Logic.{_≢_, inl, inr}
-use Prim.Native.Nat.{ℕ, suc, pred, _+_, _≤_, _<_}
+use mathlib.Core.Bool.{true}
+use Prim.Native.Nat.{ℕ, suc, pred, _≤_, _<_}
 use native.Mathlib.Decide.{ℕ-discrete}
 use native.Mathlib.Omega.{arith}
 use borrow.Author.Tests.{lt-ltb, le-ltb}
 use lib.Dec.{ltb}
-use lib.ListN.{length, getD}
-use Rattle.tree.specs.Tree.{Update, node, weaving}
+use lib.ListN.{length}
 use Rattle.tree.specs.NodeArea.{withNode}
 use Rattle.tree.proofs.Meets.{lt-or-le}
 use Rattle.register.specs.Register.{withRecord}
 use Rattle.weave.specs.Weave.{withWoven}
-use Rattle.model.specs.History.{Ticket, noTicket, noVersion, pagesOf, toUpdate}
+use Rattle.model.specs.History.{Ticket, noTicket, noVersion, pagesOf}
 use Rattle.model.specs.Model.{Limits, Model, updateAt, ticketUpdate}
-use Rattle.model.specs.InTurn.{joined}
 use Rattle.model.specs.OnModel.{ticketIn, woven}
-use Rattle.model.specs.Snapshot.{firstPlace}
-use Rattle.model.proofs.Image.{blank, slotCell, pageCell, pagesImage, numbersOf, wovenOf, nodeOf, weaveCell, countAt, nodesImage}
+use Rattle.model.specs.Layout.{nodeStands, nodePlace}
+use Rattle.model.proofs.Image.{pagesImage, numbersOf, wovenOf, nodeOf, weaveCell, nodesImage}
 use Rattle.model.proofs.Sound.{Sound}
 use Rattle.model.proofs.Nth.{nth-set-field, nth-past}
-use Rattle.model.proofs.Tab.{tab-same}
-use Rattle.model.proofs.Cells.{cell-same}
+use Rattle.model.proofs.Grows.{Grown}
+use Rattle.model.proofs.LayoutLaws.{node-put, pages-same}
 use Rattle.model.proofs.Passed.{WeavePassed}
-use Rattle.model.proofs.Shown.{every-update}
 use Rattle.model.proofs.Updated.{update-le, update-ticket}
 use Rattle.model.proofs.Kept.Change.{changed-length, changed-other}
-use Rattle.model.proofs.Kept.Weave.{wovenTicket, woven-this, woven-updates}
+use Rattle.model.proofs.Kept.Weave.{wovenTicket, woven-this, woven-grown}
 use Rattle.demands.proofs.Image.{recordImage, registerImage, storeImage}
 use Rattle.demands.proofs.Records.{update-room}
-use Rattle.demands.proofs.Puts.{nodes-put, register-put}
+use Rattle.demands.proofs.Puts.{register-put}
 use Rattle.demands.proofs.Steps.Parts.{UpdatePart, all-same, ticketPart, updatePart, ticket-part}
-use Rattle.demands.proofs.Steps.Changed.{changed-store, changed-numbers, changed-number, changed-update-part}
+use Rattle.demands.proofs.Steps.Grown.{place-at-kept, numbers-grown}
+use Rattle.demands.proofs.Steps.Changed.{changed-store, changed-number, changed-update-part}
 
 -- One number more leaves the test of every other number.
 ltb-other : (i n : ℕ) → i ≢ n → ltb i (suc n) ≡ ltb i n
@@ -68,8 +67,8 @@ module _ (L : Limits) (m : Model) (t : ℕ) (S : Sound L m) (p : WeavePassed m t
   slots-same : (u : ℕ) → ticketIn (woven L m t) u .slots ≡ ticketIn m u .slots
   slots-same u = nth-set-field noTicket (m .tickets) t (wovenTicket L m t) (p .from) (λ (x : Ticket). x .slots) u refl
 
-  pages-same : (u : ℕ) → pagesOf (ticketIn (woven L m t) u) ≡ pagesOf (ticketIn m u)
-  pages-same u = nth-set-field noTicket (m .tickets) t (wovenTicket L m t) (p .from) pagesOf u refl
+  count-same : (u : ℕ) → pagesOf (ticketIn (woven L m t) u) ≡ pagesOf (ticketIn m u)
+  count-same u = nth-set-field noTicket (m .tickets) t (wovenTicket L m t) (p .from) pagesOf u refl
 
   long : length (woven L m t .tickets) ≡ length (m .tickets)
   long = changed-length m t (wovenTicket L m t) (p .from) refl
@@ -81,25 +80,16 @@ module _ (L : Limits) (m : Model) (t : ℕ) (S : Sound L m) (p : WeavePassed m t
   back : (k : ℕ) → 0 < k → k ≤ length (m .updates) → updateAt m k .ticket ≡ t → k ≡ ticketUpdate m t
   back k o h e = sym (rw e at (S .updated k o h .back))
 
+  grown : Grown m (woven L m t)
+  grown = woven-grown L m t S p
+
   pub woven-store : storeImage L m ≡ storeImage L (woven L m t)
-  woven-store = changed-store m t (wovenTicket L m t) (p .from) refl L
+  woven-store = changed-store L m S t (wovenTicket L m t) (p .from) refl grown
 
   pub woven-pages : pagesImage L m ≡ pagesImage L (woven L m t)
-  unfolding pagesImage
-  woven-pages =
-      ap joined (tab-same (L .pages) (pageCell (L .size) (m .tickets)) (pageCell (L .size) (woven L m t .tickets)) (λ q z.
-      cell-same pagesOf (slotCell (L .size)) pagesOf (slotCell (L .size)) (blank (L .size)) (m .tickets) (woven L m t .tickets) noTicket noTicket (sym long)
-      (λ u l. ap length (sym (slots-same (suc u)))) (λ u i l k. rw (slots-same (suc u))) q))
+  woven-pages = pages-same m (woven L m t) grown L long (λ u i o h l s. rw (slots-same u))
 
   -- ---- the nodes
-
-  update-same : (k : ℕ) → toUpdate (woven L m t .tickets) (updateAt m k) ≡ toUpdate (m .tickets) (updateAt m k)
-  update-same k = rw (pages-same (updateAt m k .ticket))
-
-  numbers-same : (k i : ℕ) → numbersOf (woven L m t) k (nodeOf (woven L m t) k i) ≡ numbersOf m k (nodeOf m k i)
-  numbers-same k i =
-      ap (λ (u : Update). numbersOf (woven L m t) k (getD (weaving u) i (node 0 0))) (update-same k)
-      ∙ changed-numbers m t (wovenTicket L m t) (p .from) refl k (nodeOf m k i)
 
   woven-was : (k : ℕ) → updateAt m k .ticket ≡ t → wovenOf m k ≡ ticketIn m t .woven
   woven-was k e = ap (λ (u : ℕ). ticketIn m u .woven) e
@@ -107,44 +97,46 @@ module _ (L : Limits) (m : Model) (t : ℕ) (S : Sound L m) (p : WeavePassed m t
   woven-now : (k : ℕ) → updateAt m k .ticket ≡ t → wovenOf (woven L m t) k ≡ suc (ticketIn m t .woven)
   woven-now k e = ap (λ (u : ℕ). ticketIn (woven L m t) u .woven) e ∙ ap (λ (x : Ticket). x .woven) (woven-this L m t S p)
 
-  cell-as : (k i : ℕ) → ltb i (wovenOf (woven L m t) k) ≡ ltb i (wovenOf m k) → weaveCell m k i ≡ weaveCell (woven L m t) k i
-  cell-as k i e = rw (numbers-same k i, e)
-
-  cells-other : (k i : ℕ) → 0 < k → k ≤ length (m .updates) → i < countAt m k → (k ≡ ticketUpdate m t → i ≡ ticketIn m t .woven → ⊥)
+  cell-as : (k i : ℕ) → 0 < k → k ≤ length (m .updates) → nodeStands m k i ≡ true → ltb i (wovenOf (woven L m t) k) ≡ ltb i (wovenOf m k)
       → weaveCell m k i ≡ weaveCell (woven L m t) k i
-  cells-other k i o h l n = elim (ℕ-discrete (updateAt m k .ticket) t) [
-    | yes e ↦ cell-as k i (rw (woven-now k e, woven-was k e) (ltb-other i (ticketIn m t .woven) (n (back k o h e))))
-    | no d ↦ cell-as k i (ap (λ (x : Ticket). ltb i (x .woven)) (other-same (updateAt m k .ticket) d))
+  cell-as k i o h s e = rw (numbers-grown L m (woven L m t) S grown k i o h s, e)
+
+  cells-other : (k i : ℕ) → 0 < k → k ≤ length (m .updates) → nodeStands m k i ≡ true → (k ≡ ticketUpdate m t → i ≡ ticketIn m t .woven → ⊥)
+      → weaveCell m k i ≡ weaveCell (woven L m t) k i
+  cells-other k i o h s n = elim (ℕ-discrete (updateAt m k .ticket) t) [
+    | yes e ↦ cell-as k i o h s (rw (woven-now k e, woven-was k e) (ltb-other i (ticketIn m t .woven) (n (back k o h e))))
+    | no d ↦ cell-as k i o h s (ap (λ (x : Ticket). ltb i (x .woven)) (other-same (updateAt m k .ticket) d))
   ]
 
   -- The update's ticket is t again.
   its-ticket : updateAt m (ticketUpdate m t) .ticket ≡ t
   its-ticket = update-ticket m t (p .assigned)
 
-  cell-this : weaveCell (woven L m t) (ticketUpdate m t) (ticketIn m t .woven) ≡ numbersOf m (ticketUpdate m t) (nodeOf m (ticketUpdate m t) (ticketIn m t .woven))
-  cell-this =
-      let j = ticketIn m t .woven in
-      rw (woven-now (ticketUpdate m t) its-ticket, lt-ltb j (suc j) (omega arith)) (numbers-same (ticketUpdate m t) j)
+  -- The next node stands, and is stored.
+  module _ (s : nodeStands m (ticketUpdate m t) (ticketIn m t .woven) ≡ true) where
+    cell-this : weaveCell (woven L m t) (ticketUpdate m t) (ticketIn m t .woven) ≡ numbersOf m (ticketUpdate m t) (nodeOf m (ticketUpdate m t) (ticketIn m t .woven))
+    cell-this =
+        let j = ticketIn m t .woven in
+        rw (woven-now (ticketUpdate m t) its-ticket, lt-ltb j (suc j) (omega arith)) (numbers-grown L m (woven L m t) S grown (ticketUpdate m t) j (p .assigned) (update-le m t) s)
 
-  pub woven-nodes : (l r : ℕ) → numbersOf m (ticketUpdate m t) (nodeOf m (ticketUpdate m t) (ticketIn m t .woven)) ≡ (l, r)
-      → withNode (nodesImage L m) (firstPlace m (ticketUpdate m t) + ticketIn m t .woven) l r ≡ nodesImage L (woven L m t)
-  woven-nodes l r e =
-      nodes-put L m (woven L m t) S refl (λ k x y. rw (woven-updates L m t S p)) (ticketUpdate m t) (ticketIn m t .woven) l r (p .assigned)
-      (update-le m t) (rw (every-update m (ticketUpdate m t)) (p .left)) cells-other (cell-this ∙ e)
+    pub woven-nodes : (l r : ℕ) → numbersOf m (ticketUpdate m t) (nodeOf m (ticketUpdate m t) (ticketIn m t .woven)) ≡ (l, r)
+        → withNode (nodesImage L m) (nodePlace m (ticketUpdate m t) (ticketIn m t .woven)) l r ≡ nodesImage L (woven L m t)
+    woven-nodes l r e =
+        node-put m (woven L m t) grown L S refl (ticketUpdate m t) (ticketIn m t .woven) l r (p .assigned) (update-le m t) s cells-other (cell-this ∙ e)
 
   -- ---- the register
 
   ticket-same : (i : ℕ) → ticketPart m i ≡ ticketPart (woven L m t) i
-  ticket-same i = ticket-part m (woven L m t) i (slots-same (suc i)) (changed-number m t (wovenTicket L m t) (p .from) refl i) refl
+  ticket-same i = ticket-part m (woven L m t) i (slots-same (suc i)) (changed-number L m S t (wovenTicket L m t) (p .from) refl grown i) refl
 
   -- The part of the ticket's update has one node more woven.
   part-this : (i : ℕ) → updateAt m (suc i) .ticket ≡ t → updatePart (woven L m t) i ≡ wovenTo (updatePart m i) (suc (updatePart m i .woven))
-  part-this i e = rw (pages-same (updateAt m (suc i) .ticket), woven-updates L m t S p, woven-now (suc i) e, woven-was (suc i) e)
+  part-this i e = rw (count-same (updateAt m (suc i) .ticket), place-at-kept L m (woven L m t) S grown refl i, woven-now (suc i) e, woven-was (suc i) e)
 
   pub woven-register : withRecord (registerImage L m) (pred (ticketUpdate m t)) (withWoven (recordImage m (pred (ticketUpdate m t)))) ≡ registerImage L (woven L m t)
   woven-register =
       let i = pred (ticketUpdate m t) in
       let n : suc i ≡ ticketUpdate m t = omega (arith, p .assigned) in
       register-put L m (woven L m t) i (withWoven (recordImage m i)) (omega (arith, update-room L m S (ticketUpdate m t) (update-le m t)))
-      (λ j z d. all-same (ticket-same j) (changed-update-part m t (wovenTicket L m t) (p .from) refl j (ticket-not m t j (p .from) back d)) refl)
+      (λ j z d. all-same (ticket-same j) (changed-update-part L m S t (wovenTicket L m t) (p .from) refl grown j (ticket-not m t j (p .from) back d)) refl)
       (all-same (sym (ticket-same i)) (part-this i (ap (λ (k : ℕ). updateAt m k .ticket) n ∙ its-ticket)) refl)

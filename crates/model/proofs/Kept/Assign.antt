@@ -12,18 +12,18 @@ use Rattle.tree.specs.Tree.{countOf, update, sizeAt}
 use Rattle.tree.specs.Walk.{Accepted}
 use Rattle.table.proofs.Table.{number-cases}
 use Rattle.model.specs.History.{Version, noVersion, toUpdate, updates, blobSize}
-use Rattle.model.specs.Model.{Limits, Line, Model, lineAt, updateAt, history, every, places, ticketUpdate}
+use Rattle.model.specs.Model.{Limits, Line, Model, lineAt, updateAt, history, ticketUpdate}
+use Rattle.model.specs.Layout.{nodesUsed}
 use Rattle.model.specs.OnModel.{nextVersion, nextUpdate, assignNumber, assigned}
 use Rattle.model.proofs.Sound.{SoundGiven, TicketSound, UpdateSound, LineSound}
 use Rattle.model.proofs.Facts.{shown-small}
 use Rattle.model.proofs.Passed.{AssignPassed, assign-passed}
-use Rattle.model.proofs.Nth.{length-snoc, map-snoc, nth-append, nth-new}
-use Rattle.model.proofs.Updates.{length-updates}
+use Rattle.model.proofs.Nth.{length-snoc, nth-append, nth-new}
 use Rattle.model.proofs.Updated.{update-had, update-gets}
-use Rattle.model.proofs.Append.{used-new}
 use Rattle.model.proofs.Pigeons.{pigeons}
 use Rattle.model.proofs.Shown.{shownAt, update-shown, size-shown, blob-shown}
 use Rattle.model.proofs.Grows.{LineGrown, Grown}
+use Rattle.model.proofs.LayoutLaws.{stands-unpublished, nodes-used-more, pages-used-kept}
 use Rattle.model.proofs.Lines.{line-this, line-other, line-set}
 use Rattle.model.proofs.Kept.Same.{NewVersion, ticket-same, update-kept, line-kept, line-same}
 
@@ -58,12 +58,6 @@ module _ (L : Limits) (m : Model) (l t f : ℕ) where
 
   pub assigned-gets : ticketUpdate m t ≡ 0 → ticketUpdate (assigned L m l t f) t ≡ suc (length (m .updates))
   assigned-gets z = omega (arith, update-gets 1 (m .updates) (nextVersion L m l t f) (omega arith) z)
-
-  pub assigned-updates : updates (every (assigned L m l t f)) ≡ updates (every m) ++ nextUpdate L m l t f ∷ []
-  assigned-updates = map-snoc (toUpdate (m .tickets)) (m .updates) (nextVersion L m l t f)
-
-  pub assigned-places : places (assigned L m l t f) ≡ places m + countOf (nextUpdate L m l t f)
-  assigned-places = rw (assigned-length, assigned-updates) (rw (length-updates (every m)) at (used-new (updates (every m)) (nextUpdate L m l t f)))
 
   -- ---- the line
 
@@ -109,10 +103,18 @@ module _ (L : Limits) (m : Model) (l t f : ℕ) where
       version = assigned-older;
       got = assigned-had;
       slots = λ k o h. refl;
-      numbers = λ k o h. refl;
+      pages = λ t h. refl;
       whole = λ k o h w. refl;
       line = λ k h. line-set (m .lines) l assignedLine there assigned-line k;
     }
+
+    -- It uses the places of its update's nodes more.
+    pub assigned-used : lineAt m l .published ≤ length (lineAt m l .shown) → nodesUsed (assigned L m l t f) ≡ nodesUsed m + countOf (nextUpdate L m l t f)
+    assigned-used few =
+        let m′ = assigned L m l t f in
+        let late : lineAt m′ (updateAt m′ (suc (length (m .updates))) .line) .published < updateAt m′ (suc (length (m .updates))) .number =
+        rw (assigned-new, assigned-this) (omega (arith, few)) in
+        nodes-used-more m m′ assigned-grown assigned-length (λ i h. stands-unpublished m′ (suc (length (m .updates))) i late h) ∙ rw assigned-new
 
     pub assigned-next-version : updateAt (assigned L m l t f) (shownAt (assigned L m l t f) l (suc (length (lineAt m l .shown)))) ≡ nextVersion L m l t f
     assigned-next-version = rw assigned-next assigned-new
@@ -209,8 +211,8 @@ module _ (L : Limits) (m : Model) (l t f : ℕ) where
         allowed = S .allowed;
         records = S .records;
         fewer = fewer-updates (assigned L m l t f) assigned-updated;
-        pageRoom = S .pageRoom;
-        nodeRoom = rw assigned-places (p .nodes-left);
+        pageRoom = rw (pages-used-kept m (assigned L m l t f) (assigned-grown (p .line)) refl) (S .pageRoom);
+        nodeRoom = rw (assigned-used (p .line) (x .published)) (p .nodes-left);
         tickets = assigned-tickets;
         updated = assigned-updated;
         begun = rw assigned-lines (S .begun);

@@ -1,22 +1,23 @@
 -- BEGIN keeps the model sound: one more ticket.
 -- Assumes nothing.
-use mathlib.Core.Path.{_≡_, refl, ap}
+use mathlib.Core.Path.{_≡_, refl, ap, _∙_}
 use mathlib.Core.Logic.{inl, inr}
 use mathlib.Core.Option.{none}
 use mathlib.Core.List.{[], _∷_}
-use Prim.Native.Nat.{ℕ, suc, pred, _≤_, _<_}
+use Prim.Native.Nat.{ℕ, suc, _+_, _≤_, _<_}
 use native.Mathlib.Omega.{arith}
 use lib.ListN.{length, replicate, length-replicate}
 use Rattle.tree.proofs.Meets.{lt-or-le}
-use Rattle.model.specs.History.{Ticket, noTicket, updates}
-use Rattle.model.specs.Model.{Limits, Model, lineAt, updateAt, every}
+use Rattle.model.specs.History.{Ticket, noTicket, pagesOf}
+use Rattle.model.specs.Model.{Limits, Model, lineAt, updateAt}
+use Rattle.model.specs.Layout.{pagesUsed}
 use Rattle.model.specs.OnModel.{ticketIn, beginNumber, begun}
 use Rattle.model.proofs.Sound.{SoundGiven, TicketSound}
 use Rattle.model.proofs.Passed.{BeginPassed, begin-passed}
 use Rattle.model.proofs.Slots.{none-there}
 use Rattle.model.proofs.Nth.{length-snoc, nth-append, nth-new}
-use Rattle.model.proofs.Tickets.{taken-all, taken-append}
-use Rattle.model.proofs.Updates.{updates-append}
+use Rattle.model.proofs.LayoutLaws.{page-open, nodes-used-kept, pages-used-more}
+use Rattle.model.proofs.Facts.{ticket-past}
 use Rattle.model.proofs.Grows.{Grown, line-unmoved}
 use Rattle.model.proofs.Kept.Same.{ticket-same, update-kept, line-same}
 
@@ -31,9 +32,6 @@ module _ (L : Limits) (m : Model) (n : ℕ) where
   begun-new = nth-new noTicket (m .tickets) newTicket
 
   module _ {A : Type 0} (S : SoundGiven A L m) where
-    pub begun-updates : updates (every (begun L m n)) ≡ updates (every m)
-    begun-updates = updates-append (m .tickets) newTicket (m .updates) (λ v l. S .updated (suc v) (omega arith) (omega arith) .upto)
-
     -- The ticket of an update is as it was.
     pub begun-old : (k : ℕ) → 0 < k → k ≤ length (m .updates) → ticketIn (begun L m n) (updateAt m k .ticket) ≡ ticketIn m (updateAt m k .ticket)
     begun-old k o h = begun-ticket (updateAt m k .ticket) (S .updated k o h .upto)
@@ -46,10 +44,18 @@ module _ (L : Limits) (m : Model) (n : ℕ) where
       version = λ k h. refl;
       got = λ t o. refl;
       slots = λ k o h. ap (λ (x : Ticket). x .slots) (begun-old k o h);
-      numbers = λ k o h. taken-append (m .tickets) newTicket (pred (updateAt m k .ticket)) (omega (arith, S .updated k o h .upto));
+      pages = λ t h. ap pagesOf (begun-ticket t h);
       whole = λ k o h w. ap (λ (x : Ticket). x .woven) (begun-old k o h);
       line = λ l h. line-unmoved (lineAt m l) (lineAt m l) refl;
     }
+
+    -- It uses n page numbers more.
+    pub begun-used : pagesUsed (begun L m n) ≡ pagesUsed m + n
+    begun-used =
+        let m′ = begun L m n in
+        let k = length-snoc (m .tickets) newTicket in
+        pages-used-more m m′ begun-grown k (λ i h. page-open m′ (suc (length (m .tickets))) i (omega arith) (omega arith) h (ticket-past L m S (suc (length (m .tickets))) (omega arith)))
+        ∙ rw (begun-new, length-replicate)
 
     module _ (p : BeginPassed L m n) where
       new-ticket : TicketSound L (begun L m n) (suc (length (m .tickets)))
@@ -71,8 +77,8 @@ module _ (L : Limits) (m : Model) (n : ℕ) where
         allowed = S .allowed;
         records = rw length-snoc (p .record-left);
         fewer = rw length-snoc (omega (arith, S .fewer));
-        pageRoom = rw (taken-all (m .tickets) newTicket, length-replicate) (p .pages-left);
-        nodeRoom = rw begun-updates (S .nodeRoom);
+        pageRoom = rw begun-used (p .pages-left);
+        nodeRoom = rw (nodes-used-kept m (begun L m n) begun-grown refl) (S .nodeRoom);
         tickets = begun-tickets;
         updated = λ k o h. update-kept L m (begun L m n) S begun-grown k o h (rw (begun-old k o h) (S .updated k o h .woven));
         begun = S .begun;

@@ -17,6 +17,7 @@ use Rattle.model.proofs.Updates.{accepted-same}
 use Rattle.model.proofs.Shown.{shownAt, Whole, update-shown, size-shown, complete-whole, whole-complete}
 use Rattle.model.proofs.Grows.{Grown, line-unmoved}
 use Rattle.model.proofs.Lines.{line-old, line-new}
+use Rattle.model.proofs.LayoutLaws.{nodes-used-kept, pages-used-kept}
 use Rattle.model.proofs.Kept.Same.{ticket-same, update-kept, line-same}
 
 module _ (L : Limits) (m : Model) (l v : ℕ) where
@@ -40,7 +41,7 @@ module _ (L : Limits) (m : Model) (l v : ℕ) where
     version = λ k h. refl;
     got = λ t o. refl;
     slots = λ k o h. refl;
-    numbers = λ k o h. refl;
+    pages = λ t h. refl;
     whole = λ k o h w. refl;
     line = λ k h. line-unmoved (lineAt m k) (lineAt (branched L m l v) k) (branched-old k h);
   }
@@ -114,8 +115,8 @@ module _ (L : Limits) (m : Model) (l v : ℕ) where
         allowed = S .allowed;
         records = S .records;
         fewer = S .fewer;
-        pageRoom = S .pageRoom;
-        nodeRoom = S .nodeRoom;
+        pageRoom = rw (pages-used-kept m (branched L m l v) branched-grown refl) (S .pageRoom);
+        nodeRoom = rw (nodes-used-kept m (branched L m l v) branched-grown refl) (S .nodeRoom);
         tickets = λ t o h. ticket-same L m (branched L m l v) t refl (λ z. z) (S .tickets t o h);
         updated = λ k o h. update-kept L m (branched L m l v) S branched-grown k o h (S .updated k o h .woven);
         begun = omega (arith, branched-length);

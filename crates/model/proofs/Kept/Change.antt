@@ -7,13 +7,12 @@ use native.Mathlib.Decide.{ℕ-discrete}
 use native.Mathlib.Omega.{arith}
 use lib.ListN.{length, set, length-set}
 use Rattle.tree.specs.Tree.{countOf}
-use Rattle.model.specs.History.{Ticket, noTicket, pagesOf, taken, toUpdate, updates}
-use Rattle.model.specs.Model.{Limits, Model, lineAt, updateAt, every}
+use Rattle.model.specs.History.{Ticket, noTicket, pagesOf, toUpdate, updates}
+use Rattle.model.specs.Model.{Limits, Model, lineAt, updateAt}
 use Rattle.model.specs.OnModel.{ticketIn}
 use Rattle.model.proofs.Sound.{SoundGiven, TicketSound, UpdateSound}
-use Rattle.model.proofs.Nth.{nth-set-same, nth-set-other}
-use Rattle.model.proofs.Tickets.{taken-set}
-use Rattle.model.proofs.Updates.{updates-set}
+use Rattle.model.proofs.Nth.{nth-set-same, nth-set-other, nth-set-field}
+use Rattle.model.proofs.LayoutLaws.{nodes-used-kept, pages-used-kept}
 use Rattle.model.proofs.Shown.{Whole}
 use Rattle.model.proofs.Grows.{Grown, line-unmoved}
 use Rattle.model.proofs.Kept.Same.{ticket-same, update-kept, line-same}
@@ -22,11 +21,8 @@ abbrev pub changed : Model → ℕ → Ticket → Model
 changed m t k = record { tickets = set (m .tickets) (pred t) k; updates = m .updates; lines = m .lines; windows = m .windows }
 
 module _ (m : Model) (t : ℕ) (x : Ticket) (o : 0 < t) (same : pagesOf x ≡ pagesOf (ticketIn m t)) where
-  pub changed-updates : updates (every (changed m t x)) ≡ updates (every m)
-  changed-updates = updates-set (m .tickets) t x (m .updates) o same
-
-  pub changed-taken : (u : ℕ) → taken (changed m t x .tickets) u ≡ taken (m .tickets) u
-  changed-taken u = taken-set (m .tickets) t x u o same
+  pub changed-pages : (u : ℕ) → pagesOf (ticketIn (changed m t x) u) ≡ pagesOf (ticketIn m u)
+  changed-pages u = nth-set-field noTicket (m .tickets) t x o pagesOf u same
 
   pub changed-length : length (changed m t x .tickets) ≡ length (m .tickets)
   changed-length = length-set (m .tickets) (pred t) x
@@ -49,7 +45,7 @@ module _ (m : Model) (t : ℕ) (x : Ticket) (o : 0 < t) (same : pagesOf x ≡ pa
       version = λ k h. refl;
       got = λ u p. refl;
       slots = slots;
-      numbers = λ k p h. changed-taken (pred (updateAt m k .ticket));
+      pages = λ u h. changed-pages u;
       whole = λ k p h w. ap (λ (y : Ticket). y .woven) (changed-other (updateAt m k .ticket) (unwhole k p h w));
       line = λ l h. line-unmoved (lineAt m l) (lineAt m l) refl;
     }
@@ -75,8 +71,8 @@ module _ (m : Model) (t : ℕ) (x : Ticket) (o : 0 < t) (same : pagesOf x ≡ pa
         allowed = S .allowed;
         records = rw changed-length (S .records);
         fewer = rw changed-length (S .fewer);
-        pageRoom = rw (changed-length, changed-taken) (S .pageRoom);
-        nodeRoom = rw changed-updates (S .nodeRoom);
+        pageRoom = rw (pages-used-kept m (changed m t x) changed-grown changed-length) (S .pageRoom);
+        nodeRoom = rw (nodes-used-kept m (changed m t x) changed-grown refl) (S .nodeRoom);
         tickets = changed-tickets;
         updated = changed-updated;
         begun = S .begun;

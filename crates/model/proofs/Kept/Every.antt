@@ -6,17 +6,17 @@ use mathlib.Core.List.{List}
 use Prim.Native.Nat.{ℕ, zero, suc, _<_}
 use native.Mathlib.Omega.{arith}
 use lib.ListN.{length}
-use Rattle.tree.specs.Walk.{used}
 use Rattle.table.proofs.Table.{unless-keeps}
 use Rattle.windows.specs.Windows.{inside, insideSome}
 use Rattle.windows.specs.Listed.{textNumber}
 use Rattle.model.specs.Calls.{Call, BEGIN, PUT, WEAVE, SETWINDOWS, on, Act, WRITE, APPEND, PUBLISH, BRANCH, ask}
-use Rattle.model.specs.History.{taken, blobSize, due}
+use Rattle.model.specs.History.{blobSize, due}
 use Rattle.model.specs.Model.{Limits, Model, noModel, history}
 use Rattle.model.specs.OnModel.{either, beginNumber, putNumber, weaveNumber, assignNumber, publishNumber, branchNumber, begun, filledAt, woven, withWindows, assigned, published, branched, onLine, onModel}
 use Rattle.model.specs.Run.{run, modelAfter}
 use Rattle.model.proofs.Sound.{SoundGiven, LineSound}
 use Rattle.model.proofs.Passed.{publish-passed}
+use Rattle.model.proofs.LayoutLaws.{nodes-used-none, pages-used-none}
 use Rattle.model.proofs.Runs.{run-keeps}
 use Rattle.model.proofs.Kept.Begin.{begun-sound}
 use Rattle.model.proofs.Kept.Put.{put-sound}
@@ -47,13 +47,13 @@ empty-line zero h = record {
 empty-line (suc l) h = absurd (omega arith)
 
 pub empty-sound : {A : Type 0} (L : Limits) → A → SoundGiven A L noModel
-unfolding taken used inside insideSome
+unfolding inside insideSome
 empty-sound L a = record {
   allowed = a;
   records = omega arith;
   fewer = omega arith;
-  pageRoom = omega arith;
-  nodeRoom = omega arith;
+  pageRoom = rw pages-used-none (omega arith);
+  nodeRoom = rw nodes-used-none (omega arith);
   tickets = λ t o h. absurd (omega arith);
   updated = λ k o h. absurd (omega arith);
   begun = omega arith;

@@ -14,6 +14,7 @@ use Rattle.model.proofs.Passed.{Due, due-passed}
 use Rattle.model.proofs.Shown.{shownAt, Whole, versions-length, complete-whole}
 use Rattle.model.proofs.Grows.{LineGrown, Grown}
 use Rattle.model.proofs.Lines.{line-this, line-other, line-set}
+use Rattle.model.proofs.LayoutLaws.{nodes-used-kept, pages-used-kept}
 use Rattle.model.proofs.Kept.Same.{ticket-same, update-kept, line-kept, line-same}
 
 module _ (L : Limits) (m : Model) (l : ℕ) (there : l < length (m .lines)) where
@@ -40,7 +41,7 @@ module _ (L : Limits) (m : Model) (l : ℕ) (there : l < length (m .lines)) wher
     version = λ k h. refl;
     got = λ t o. refl;
     slots = λ k o h. refl;
-    numbers = λ k o h. refl;
+    pages = λ t h. refl;
     whole = λ k o h w. refl;
     line = λ k h. line-set (m .lines) l publishedLine there published-line k;
   }
@@ -73,8 +74,8 @@ module _ (L : Limits) (m : Model) (l : ℕ) (there : l < length (m .lines)) wher
         allowed = S .allowed;
         records = S .records;
         fewer = S .fewer;
-        pageRoom = S .pageRoom;
-        nodeRoom = S .nodeRoom;
+        pageRoom = rw (pages-used-kept m (published L m l) published-grown refl) (S .pageRoom);
+        nodeRoom = rw (nodes-used-kept m (published L m l) published-grown refl) (S .nodeRoom);
         tickets = λ t o h. ticket-same L m (published L m l) t refl (λ z. z) (S .tickets t o h);
         updated = λ k o h. update-kept L m (published L m l) S published-grown k o h (S .updated k o h .woven);
         begun = rw published-lines (S .begun);

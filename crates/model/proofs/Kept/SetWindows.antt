@@ -9,6 +9,7 @@ use Rattle.model.specs.Model.{Limits, Model, lineAt}
 use Rattle.model.specs.OnModel.{withWindows}
 use Rattle.model.proofs.Sound.{SoundGiven}
 use Rattle.model.proofs.Grows.{Grown, line-unmoved}
+use Rattle.model.proofs.LayoutLaws.{nodes-used-kept, pages-used-kept}
 use Rattle.model.proofs.Kept.Same.{ticket-same, update-kept, line-same}
 
 module _ (L : Limits) (m : Model) (text : List ℕ) where
@@ -20,7 +21,7 @@ module _ (L : Limits) (m : Model) (text : List ℕ) where
     version = λ k h. refl;
     got = λ t o. refl;
     slots = λ k o h. refl;
-    numbers = λ k o h. refl;
+    pages = λ t h. refl;
     whole = λ k o h w. refl;
     line = λ l h. line-unmoved (lineAt m l) (lineAt m l) refl;
   }
@@ -30,8 +31,8 @@ module _ (L : Limits) (m : Model) (text : List ℕ) where
     allowed = S .allowed;
     records = S .records;
     fewer = S .fewer;
-    pageRoom = S .pageRoom;
-    nodeRoom = S .nodeRoom;
+    pageRoom = rw (pages-used-kept m (withWindows L m text) windows-grown refl) (S .pageRoom);
+    nodeRoom = rw (nodes-used-kept m (withWindows L m text) windows-grown refl) (S .nodeRoom);
     tickets = λ t o h. ticket-same L m (withWindows L m text) t refl (λ z. z) (S .tickets t o h);
     updated = λ k o h. update-kept L m (withWindows L m text) S windows-grown k o h (S .updated k o h .woven);
     begun = S .begun;

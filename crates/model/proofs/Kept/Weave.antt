@@ -6,15 +6,15 @@ use Prim.Native.Nat.{ℕ, suc, _≤_, _<_}
 use native.Mathlib.Omega.{arith}
 use lib.ListN.{length}
 use Rattle.tree.specs.Tree.{countOf}
-use Rattle.model.specs.History.{Ticket, noTicket, toUpdate, updates}
-use Rattle.model.specs.Model.{Limits, Model, updateAt, every, ticketUpdate}
+use Rattle.model.specs.History.{Ticket, noTicket, toUpdate}
+use Rattle.model.specs.Model.{Limits, Model, updateAt, ticketUpdate}
 use Rattle.model.specs.OnModel.{ticketIn, weaveNumber, woven}
 use Rattle.model.proofs.Sound.{SoundGiven, TicketSound}
 use Rattle.model.proofs.Passed.{WeavePassed, weave-passed}
 use Rattle.model.proofs.Nth.{nth-set-field}
 use Rattle.model.proofs.Shown.{Whole}
 use Rattle.model.proofs.Grows.{Grown}
-use Rattle.model.proofs.Kept.Change.{changed-updates, changed-this, changed-grown, changed-sound}
+use Rattle.model.proofs.Kept.Change.{changed-this, changed-grown, changed-sound}
 
 module _ (L : Limits) (m : Model) (t : ℕ) where
   abbrev pub wovenTicket : Ticket
@@ -23,9 +23,6 @@ module _ (L : Limits) (m : Model) (t : ℕ) where
   module _ {A : Type 0} (S : SoundGiven A L m) (p : WeavePassed m t) where
     pub woven-this : ticketIn (woven L m t) t ≡ wovenTicket
     woven-this = changed-this m t wovenTicket (p .from) refl (p .upto)
-
-    pub woven-updates : updates (every (woven L m t)) ≡ updates (every m)
-    woven-updates = changed-updates m t wovenTicket (p .from) refl
 
     woven-slots : (k : ℕ) → 0 < k → k ≤ length (m .updates) → ticketIn (woven L m t) (updateAt m k .ticket) .slots ≡ ticketIn m (updateAt m k .ticket) .slots
     woven-slots k o h = nth-set-field noTicket (m .tickets) t wovenTicket (p .from) (λ (x : Ticket). x .slots) (updateAt m k .ticket) refl
