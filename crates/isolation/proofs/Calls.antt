@@ -16,7 +16,7 @@ use Rattle.tree.proofs.Meets.{lt-or-le}
 use Rattle.table.specs.Table.{always, holds, firstRefusal, unless, beginRows, putRows, weaveRows}
 use Rattle.windows.specs.Listed.{textNumber}
 use Rattle.model.specs.Calls.{BEGIN, PUT, WEAVE, SETWINDOWS, Answer, ticketIs, putDone, nodeIs, windowsDone}
-use Rattle.model.specs.History.{Ticket, Version, History, noTicket, versionAt, toUpdate, updates}
+use Rattle.model.specs.History.{Ticket, Version, History, noTicket, versionAt, toUpdate, updates, withSlots}
 use Rattle.model.specs.Model.{Limits, Model, ticketUpdate, history, numberIn}
 use Rattle.model.specs.Layout.{pagesUsed, slotNumber}
 use Rattle.model.specs.OnModel.{ticketIn, leftOf, rightOf, firstPage, spanOf, beginNumber, begun as withTicket, putNumber, filledAt, weaveNumber, woven, withWindows, nodeAnswer, onModel}
@@ -207,7 +207,7 @@ module _ (L : Limits) {l l′ : ℕ} {ts ts′ : List ℕ} {m m′ : Model} (M :
           }
         where
           new : Model → ℕ → Ticket
-          new m t = record { slots = set (ticketIn m t .slots) i (some bytes); woven = ticketIn m t .woven }
+          new m t = withSlots (ticketIn m t) (set (ticketIn m t .slots) i (some bytes))
 
       pub twin-put : (i : ℕ) (bytes : List ℕ) → Step l l′ ts ts′ m m′ t t′ (onModel L m (PUT t i bytes)) (onModel L m′ (PUT t′ i bytes))
       unfolding onModel unless

@@ -15,7 +15,7 @@ use Rattle.table.proofs.Table.{unless-keeps}
 use Rattle.windows.specs.Windows.{insideSome}
 use Rattle.model.specs.Calls.{Call, BEGIN, PUT, WEAVE, Act, WRITE, APPEND, PUBLISH, BRANCH, ask}
 use Rattle.model.specs.History.{Ticket, Version, History, noTicket, ticketAt, versionAt, blobSize, due}
-use Rattle.model.specs.Model.{Limits, Model, lineAt, updateAt, ticketUpdate, history}
+use Rattle.model.specs.Model.{Limits, Model, withTickets as modelWith, lineAt, updateAt, ticketUpdate, history}
 use Rattle.model.specs.OnModel.{ticketIn, either, beginNumber, begun as withTicket, putNumber, filledAt, publishNumber, published, branched, onLine, onModel, weaveNumber, woven, branchNumber, nextVersion, assignNumber, assigned as withAssigned, assignStep}
 use Rattle.model.proofs.Nth.{length-snoc, nth-set-other, nth-set-field}
 use Rattle.model.proofs.Updated.{update-other, update-le}
@@ -94,7 +94,7 @@ module _ (L : Limits) (l : ℕ) (ts : List ℕ) (m : Model) (S : Kept L m) (T : 
   -- Matched tickets keep their pages, and the line its versions.
   frame-tickets : (ks : List Ticket) → length (m .tickets) ≤ length ks → ((k : ℕ) → nth noTicket ks (nth 0 ts k) .slots ≡ ticketIn m (nth 0 ts k) .slots)
       → (l < length (m .lines) → SameLine (withTickets (history m l) ks) (history m l))
-      → Framed l ts m (record { tickets = ks; updates = m .updates; lines = m .lines; windows = m .windows })
+      → Framed l ts m (modelWith m ks)
   frame-tickets ks q s e = record { tickets = tickets-stay ks q T; slots = s; own = λ k. refl; line = e; windows = refl }
 
   frame-begin : (n : ℕ) → Framed l ts m (onModel L m (BEGIN n) .0)

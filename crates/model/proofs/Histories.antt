@@ -6,7 +6,7 @@ use mathlib.Core.List.{List, [], _∷_, _++_, map}
 use Prim.Native.Nat.{ℕ, suc, _<_}
 use native.Mathlib.Omega.{arith}
 use lib.ListN.{length, getD, take}
-use Rattle.model.specs.History.{Ticket, Version, History}
+use Rattle.model.specs.History.{Ticket, Version, History, historyOf}
 use Rattle.model.specs.Model.{Limits, Line, Model, lineAt, updateAt, history, every}
 use Rattle.model.specs.OnModel.{nextVersion, begun, filledAt, woven, assigned, published, branched}
 use Rattle.model.proofs.Sound.{SoundGiven}
@@ -17,20 +17,20 @@ use Rattle.model.proofs.Kept.Branch.{branched-old, branched-new}
 
 -- A history with other tickets, with one more version, with another number published, and its first v versions, all published.
 abbrev pub withTickets : History → List Ticket → History
-withTickets h ks = record { tickets = ks; versions = h .versions; published = h .published }
+withTickets h ks = historyOf ks (h .versions) (h .published)
 
 abbrev pub withVersion : History → Version → History
-withVersion h x = record { tickets = h .tickets; versions = h .versions ++ x ∷ []; published = h .published }
+withVersion h x = historyOf (h .tickets) (h .versions ++ x ∷ []) (h .published)
 
 abbrev pub upTo : History → ℕ → History
-upTo h k = record { tickets = h .tickets; versions = h .versions; published = k }
+upTo h k = historyOf (h .tickets) (h .versions) k
 
 abbrev pub firstOf : History → ℕ → History
-firstOf h v = record { tickets = h .tickets; versions = take v (h .versions); published = v }
+firstOf h v = historyOf (h .tickets) (take v (h .versions)) v
 
 -- What a line reads as, from the tickets, the updates and the line.
 abbrev pub reads : List Ticket → (ℕ → Version) → Line → History
-reads ks at x = record { tickets = ks; versions = map at (x .shown); published = x .published }
+reads ks at x = historyOf ks (map at (x .shown)) (x .published)
 
 module _ (L : Limits) (m : Model) where
   -- ---- BEGIN, PUT and WEAVE change the tickets alone
@@ -57,7 +57,7 @@ module _ (L : Limits) (m : Model) where
   pub branched-history : (l v : ℕ) → history (branched L m l v) (length (m .lines)) ≡ firstOf (history m l) v
   branched-history l v =
       ap (reads (m .tickets) (updateAt m)) (branched-new L m l v)
-      ∙ ap (λ (vs : List Version). record { tickets = m .tickets; versions = vs; published = v }) (map-take (updateAt m) v (lineAt m l .shown))
+      ∙ ap (λ (vs : List Version). historyOf (m .tickets) vs v) (map-take (updateAt m) v (lineAt m l .shown))
 
   pub branched-apart : (l v k : ℕ) → k < length (m .lines) → history (branched L m l v) k ≡ history m k
   branched-apart l v k h = ap (reads (m .tickets) (updateAt m)) (branched-old L m l v k h)
@@ -81,11 +81,11 @@ module _ (L : Limits) (m : Model) where
     pub assigned-history : history (assigned L m l t f) l ≡ withVersion (history m l) (nextVersion L m l t f)
     assigned-history =
         ap (reads (m .tickets) (updateAt (assigned L m l t f))) (assigned-this L m l t f there)
-        ∙ ap (λ (vs : List Version). record { tickets = m .tickets; versions = vs; published = lineAt m l .published })
+        ∙ ap (λ (vs : List Version). historyOf (m .tickets) vs (lineAt m l .published))
         (map-snoc (updateAt (assigned L m l t f)) (lineAt m l .shown) (suc (length (m .updates)))
         ∙ ap₂ (λ (vs : List Version) (x : Version). vs ++ x ∷ []) (assigned-map l there) (assigned-new L m l t f))
 
     pub assigned-apart : (k : ℕ) → k < length (m .lines) → k ≢ l → history (assigned L m l t f) k ≡ history m k
     assigned-apart k h n =
         ap (reads (m .tickets) (updateAt (assigned L m l t f))) (assigned-other L m l t f there k n)
-        ∙ ap (λ (vs : List Version). record { tickets = m .tickets; versions = vs; published = lineAt m k .published }) (assigned-map k h)
+        ∙ ap (λ (vs : List Version). historyOf (m .tickets) vs (lineAt m k .published)) (assigned-map k h)

@@ -12,7 +12,7 @@ use lib.ListN.{length, set}
 use lib.Seq.{set-getD, set-set}
 use Rattle.tree.proofs.Meets.{lt-or-le}
 use Rattle.model.specs.History.{History, complete, due}
-use Rattle.model.specs.Model.{Limits, Line, Model, noLine, lineAt, updateAt, history}
+use Rattle.model.specs.Model.{Limits, Line, Model, noLine, withPublished, withLines, lineAt, updateAt, history}
 use Rattle.model.specs.OnModel.{published, onModel}
 use Rattle.model.specs.Run.{run}
 use Rattle.model.specs.Due.{publishes, Open, AllOpen, completeUpTo, lastDue}
@@ -49,27 +49,20 @@ pub due-false : (h : History) → due h ≡ false → h .published < length (h .
 unfolding due
 due-false h e l = rw (lt-ltb (h .published) (length (h .versions)) l) at e
 
-abbrev pub lineTo : Line → ℕ → Line
-lineTo x k = record { source = x .source; start = x .start; shown = x .shown; published = k }
-
 abbrev pub publishedTo : Model → ℕ → ℕ → Model
-publishedTo m l k = record { tickets = m .tickets; updates = m .updates; lines = set (m .lines) l (lineTo (lineAt m l) k); windows = m .windows }
-
--- The model with these lines.
-abbrev withLines : Model → List Line → Model
-withLines m ls = record { tickets = m .tickets; updates = m .updates; lines = ls; windows = m .windows }
+publishedTo m l k = withLines m (set (m .lines) l (withPublished (lineAt m l) k))
 
 to-same : (m : Model) (l : ℕ) → publishedTo m l (lineAt m l .published) ≡ m
 to-same m l = ap (withLines m) (set-getD (m .lines) l noLine)
 
 module _ (m : Model) (l : ℕ) (there : l < length (m .lines)) where
-  to-line : (j : ℕ) → lineAt (publishedTo m l j) l ≡ lineTo (lineAt m l) j
-  to-line j = line-this (m .lines) l (lineTo (lineAt m l) j) there
+  to-line : (j : ℕ) → lineAt (publishedTo m l j) l ≡ withPublished (lineAt m l) j
+  to-line j = line-this (m .lines) l (withPublished (lineAt m l) j) there
 
   to-to : (j k : ℕ) → publishedTo (publishedTo m l j) l k ≡ publishedTo m l k
   to-to j k =
-      ap (λ (x : Line). withLines m (set (set (m .lines) l (lineTo (lineAt m l) j)) l (lineTo x k))) (to-line j)
-      ∙ ap (withLines m) (set-set (m .lines) l (lineTo (lineAt m l) j) (lineTo (lineAt m l) k))
+      ap (λ (x : Line). withLines m (set (set (m .lines) l (withPublished (lineAt m l) j)) l (withPublished x k))) (to-line j)
+      ∙ ap (withLines m) (set-set (m .lines) l (withPublished (lineAt m l) j) (withPublished (lineAt m l) k))
 
   pub to-history : (k : ℕ) → history (publishedTo m l k) l ≡ upTo (history m l) k
   to-history k = ap (reads (m .tickets) (updateAt m)) (to-line k)

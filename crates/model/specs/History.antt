@@ -32,8 +32,23 @@ pub record History : Type 0 where
 abbrev pub noTicket : Ticket
 noTicket = record { slots = []; woven = 0 }
 
+-- A ticket with other slots, and with another number of its nodes woven.
+abbrev pub withSlots : Ticket → List (Option Page) → Ticket
+withSlots k slots = record { slots = slots; woven = k .woven }
+
+abbrev pub withWoven : Ticket → ℕ → Ticket
+withWoven k woven = record { slots = k .slots; woven = woven }
+
+-- A version of ticket t, number v of line l, its update from page f on, of so many pages after it.
+abbrev pub versionBy : ℕ → ℕ → ℕ → ℕ → ℕ → Version
+versionBy t l v f size = record { ticket = t; line = l; number = v; f = f; size = size }
+
 abbrev pub noVersion : Version
-noVersion = record { ticket = 0; line = 0; number = 0; f = 0; size = 0 }
+noVersion = versionBy 0 0 0 0 0
+
+-- What a line with these versions reads as, so many of them published.
+abbrev pub historyOf : List Ticket → List Version → ℕ → History
+historyOf tickets versions published = record { tickets = tickets; versions = versions; published = published }
 
 -- A ticket's n.
 abbrev pub pagesOf : Ticket → ℕ

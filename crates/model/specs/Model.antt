@@ -6,7 +6,7 @@ use Prim.Native.Nat.{ℕ, zero, suc, _+_, _*_}
 use lib.Dec.{eqb}
 use lib.ListN.{getD}
 use Rattle.tree.specs.Tree.{nth}
-use Rattle.model.specs.History.{Ticket, Version, History, noVersion}
+use Rattle.model.specs.History.{Ticket, Version, History, noVersion, historyOf}
 use Rattle.windows.specs.declared.Window.{Window}
 
 -- S and the three capacities.
@@ -36,6 +36,29 @@ noLine = record { source = 0; start = 0; shown = []; published = 0 }
 abbrev pub noModel : Model
 noModel = record { tickets = []; updates = []; lines = noLine ∷ []; windows = [] }
 
+-- A line that begins from version v of line l, shows these updates, and has v published; a line that shows others, and one with another number published.
+abbrev pub lineFrom : ℕ → ℕ → List ℕ → Line
+lineFrom l v shown = record { source = l; start = v; shown = shown; published = v }
+
+abbrev pub withShown : Line → List ℕ → Line
+withShown x shown = record { source = x .source; start = x .start; shown = shown; published = x .published }
+
+abbrev pub withPublished : Line → ℕ → Line
+withPublished x published = record { source = x .source; start = x .start; shown = x .shown; published = published }
+
+-- The model with other tickets, updates, lines or windows.
+abbrev pub withTickets : Model → List Ticket → Model
+withTickets m tickets = record { tickets = tickets; updates = m .updates; lines = m .lines; windows = m .windows }
+
+abbrev pub withUpdates : Model → List Version → Model
+withUpdates m updates = record { tickets = m .tickets; updates = updates; lines = m .lines; windows = m .windows }
+
+abbrev pub withLines : Model → List Line → Model
+withLines m lines = record { tickets = m .tickets; updates = m .updates; lines = lines; windows = m .windows }
+
+abbrev pub withSiteWindows : Model → List Window → Model
+withSiteWindows m windows = record { tickets = m .tickets; updates = m .updates; lines = m .lines; windows = windows }
+
 -- Line l, from 0; update k, from 1.
 abbrev pub lineAt : Model → ℕ → Line
 lineAt m l = getD (m .lines) l noLine
@@ -45,11 +68,11 @@ updateAt m k = nth noVersion (m .updates) k
 
 -- What a line reads as: the shared updates followed by its own.
 abbrev pub history : Model → ℕ → History
-history m l = record { tickets = m .tickets; versions = map (updateAt m) (lineAt m l .shown); published = lineAt m l .published }
+history m l = historyOf (m .tickets) (map (updateAt m) (lineAt m l .shown)) (lineAt m l .published)
 
 -- All updates in the order of ASSIGN.
 abbrev pub every : Model → History
-every m = record { tickets = m .tickets; versions = m .updates; published = 0 }
+every m = historyOf (m .tickets) (m .updates) 0
 
 -- The update that ticket t got, or 0; k is the number of the first update listed.
 unfoldable pub updateFrom : ℕ → List Version → ℕ → ℕ

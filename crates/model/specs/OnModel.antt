@@ -8,10 +8,10 @@ use Rattle.tree.specs.Tree.{Update, Node, node, countOf, weaving, update, newes
 use Rattle.table.specs.Table.{always, firstRefusal, unless, beginRows, putRows, weaveRows}
 use Rattle.table.specs.Table.{lineRows, publishRows, branchRows, assignRows, sizeRows, readRows, pageRows}
 use Rattle.model.specs.Calls.{Call, BEGIN, PUT, WEAVE, SETWINDOWS, on, Act, WRITE, APPEND, PUBLISH, BRANCH, ask, Query, read, size, recent, stamp, view, Answer, ticketIs, putDone, versionIs, nodeIs, publishedIs, waiting, held, lineIs, windowsDone, filled, sizeIs, recentIs, stampIs, partIs, Outcome, says, answers}
-use Rattle.model.specs.History.{Ticket, Version, History, noTicket, pagesOf, versionAt, toUpdate, updates, blobSize, isFilled, bitIf, allFilled, due}
+use Rattle.model.specs.History.{Ticket, Version, History, noTicket, pagesOf, versionAt, toUpdate, updates, blobSize, isFilled, bitIf, allFilled, due, withSlots, withWoven, versionBy}
 use Rattle.model.specs.InTurn.{blobAt, bytesAt}
 use Rattle.model.specs.Stamp.{stampAt}
-use Rattle.model.specs.Model.{Limits, Line, Model, lineAt, updateAt, history, ticketUpdate, numberIn}
+use Rattle.model.specs.Model.{Limits, Line, Model, lineAt, updateAt, history, ticketUpdate, numberIn, lineFrom, withShown, withPublished, withTickets, withUpdates, withLines, withSiteWindows}
 use Rattle.model.specs.Layout.{nodesUsed, pagesUsed, slotNumber}
 use Rattle.tree.specs.Tree.{nth}
 use Rattle.windows.specs.Windows.{insideSome}
@@ -63,28 +63,23 @@ module _ (L : Limits) where
 
   -- BEGIN adds a ticket, its slots empty, woven 0.
   abbrev pub begun : Model → ℕ → Model
-  begun m n = record { tickets = m .tickets ++ record { slots = replicate n none; woven = 0 } ∷ []; updates = m .updates; lines = m .lines; windows = m .windows }
+  begun m n = withTickets m (m .tickets ++ withSlots noTicket (replicate n none) ∷ [])
 
   -- PUT fills slot i.
   abbrev pub filledAt : Model → ℕ → ℕ → List ℕ → Model
   filledAt m t i bytes =
       let k = ticketIn m t in
-      record {
-        tickets = set (m .tickets) (pred t) (record { slots = set (k .slots) i (some bytes); woven = k .woven });
-        updates = m .updates;
-        lines = m .lines;
-        windows = m .windows;
-      }
+      withTickets m (set (m .tickets) (pred t) (withSlots k (set (k .slots) i (some bytes))))
 
   -- WEAVE adds 1 to the ticket's woven count.
   abbrev pub woven : Model → ℕ → Model
   woven m t =
       let k = ticketIn m t in
-      record { tickets = set (m .tickets) (pred t) (record { slots = k .slots; woven = suc (k .woven) }); updates = m .updates; lines = m .lines; windows = m .windows }
+      withTickets m (set (m .tickets) (pred t) (withWoven k (suc (k .woven))))
 
   -- SETWINDOWS by a text, whose windows replace those that there were.
   abbrev pub withWindows : Model → List ℕ → Model
-  withWindows m t = record { tickets = m .tickets; updates = m .updates; lines = m .lines; windows = windowsOf t }
+  withWindows m t = withSiteWindows m (windowsOf t)
 
   -- The node that WEAVE stores next for ticket t, with its numbers and how many are left, as the line on which it got its version has it.
   abbrev pub nodeAnswer : Model → ℕ → Answer
@@ -104,14 +99,14 @@ module _ (L : Limits) where
   -- ---- the calls on a line
 
   abbrev pub withLine : Model → ℕ → Line → Model
-  withLine m l x = record { tickets = m .tickets; updates = m .updates; lines = set (m .lines) l x; windows = m .windows }
+  withLine m l x = withLines m (set (m .lines) l x)
 
   -- The size after an update of ticket t at page f of a line, and the update, as the line's next version.
   abbrev pub sizeAfter : Model → ℕ → ℕ → ℕ → ℕ
   sizeAfter m l t f = max (blobSize (history m l)) (f + pagesOf (ticketIn m t))
 
   abbrev pub nextVersion : Model → ℕ → ℕ → ℕ → Version
-  nextVersion m l t f = record { ticket = t; line = l; number = suc (length (lineAt m l .shown)); f = f; size = sizeAfter m l t f }
+  nextVersion m l t f = versionBy t l (suc (length (lineAt m l .shown))) f (sizeAfter m l t f)
 
   abbrev pub nextUpdate : Model → ℕ → ℕ → ℕ → Update
   nextUpdate m l t f = toUpdate (m .tickets) (nextVersion m l t f)
@@ -139,28 +134,17 @@ module _ (L : Limits) where
   abbrev pub assigned : Model → ℕ → ℕ → ℕ → Model
   assigned m l t f =
       let x = lineAt m l in
-      record {
-        tickets = m .tickets;
-        updates = m .updates ++ nextVersion m l t f ∷ [];
-        lines = set (m .lines) l (record { source = x .source; start = x .start; shown = x .shown ++ suc (length (m .updates)) ∷ []; published = x .published });
-        windows = m .windows;
-      }
+      withLine (withUpdates m (m .updates ++ nextVersion m l t f ∷ [])) l (withShown x (x .shown ++ suc (length (m .updates)) ∷ []))
 
   -- PUBLISH adds 1 to the line's number published. Inside a window, by the minute given and nothing else, it is held: it moves nothing, due or not.
   abbrev pub published : Model → ℕ → Model
   published m l =
       let x = lineAt m l in
-      withLine m l (record { source = x .source; start = x .start; shown = x .shown; published = suc (x .published) })
+      withLine m l (withPublished x (suc (x .published)))
 
   -- BRANCH adds a line that shows the source's versions up to v, published there too.
   abbrev pub branched : Model → ℕ → ℕ → Model
-  branched m l v =
-      record {
-        tickets = m .tickets;
-        updates = m .updates;
-        lines = m .lines ++ record { source = l; start = v; shown = take v (lineAt m l .shown); published = v } ∷ [];
-        windows = m .windows;
-      }
+  branched m l v = withLines m (m .lines ++ lineFrom l v (take v (lineAt m l .shown)) ∷ [])
 
   abbrev pub lineNumber : Model → ℕ → ℕ
   lineNumber m l = firstRefusal (lineRows l (length (m .lines)))

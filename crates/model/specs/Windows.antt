@@ -6,7 +6,7 @@ use Prim.Native.Nat.{ℕ}
 use lib.ListN.{replicate}
 use Rattle.text.specs.Quoted.{text, together}
 use Rattle.model.specs.Calls.{Call, BEGIN, PUT, WEAVE, SETWINDOWS, on, APPEND, PUBLISH, RECENT, refused, ticketIs, putDone, versionIs, nodeIs, publishedIs, waiting, held, windowsDone, recentIs, Outcome, says}
-use Rattle.model.specs.Model.{noLine, noModel}
+use Rattle.model.specs.Model.{noModel, withSiteWindows}
 use Rattle.model.specs.OnModel.{onModel}
 use Rattle.model.specs.Run.{outcomes}
 use Rattle.model.specs.Due.{publishes}
@@ -162,7 +162,7 @@ minute-row = refl
 pub some-window :
     outcomes
     (onModel limits)
-    (record { tickets = []; updates = []; lines = noLine ∷ []; windows = record { from = 7; to = 7 } ∷ record { from = 600; to = 660 } ∷ [] })
+    (withSiteWindows noModel (record { from = 7; to = 7 } ∷ record { from = 600; to = 660 } ∷ []))
     (publishes 0 (7 ∷ 599 ∷ 600 ∷ 659 ∷ 660 ∷ []))
     ≡ (says waiting ∷ says waiting ∷ says held ∷ says held ∷ says waiting ∷ [])
 unfolding computes limits

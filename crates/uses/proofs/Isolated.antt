@@ -9,8 +9,8 @@ use lib.Dec.{leb}
 use lib.ListN.{length}
 use Rattle.tree.specs.Tree.{nth}
 use Rattle.model.specs.Calls.{Call, BEGIN, PUT, WEAVE, on, WRITE, APPEND, BRANCH, ask, Query, read, size, recent, stamp, view, refused, lineIs, Outcome, says}
-use Rattle.model.specs.History.{Page, Ticket, Version, noTicket}
-use Rattle.model.specs.Model.{Model, history, updateFrom}
+use Rattle.model.specs.History.{Page, Ticket, Version, noTicket, withSlots, withWoven, versionBy}
+use Rattle.model.specs.Model.{Model, history, updateFrom, Line, noModel, lineFrom, withPublished, withTickets, withUpdates, withLines}
 use Rattle.model.specs.OnModel.{ticketIn, onModel}
 use Rattle.model.specs.Run.{run, modelAfter}
 use Rattle.model.specs.Example.{computes, pageOf}
@@ -34,35 +34,33 @@ lone t ks e = record { there = there; once = λ j k o h p q e. omega arith }
     there (suc zero) o h = e
     there (suc (suc k)) o h = absurd (omega arith)
 
--- A ticket with these pages put, and an update.
+-- A ticket with these pages put, and so many nodes woven.
 abbrev withPages : List Page → ℕ → Ticket
-withPages pages n = record { slots = map some pages; woven = n }
+withPages pages n = withWoven (withSlots noTicket (map some pages)) n
 
-abbrev updateBy : ℕ → ℕ → ℕ → ℕ → ℕ → Version
-updateBy t l v f pages = record { ticket = t; line = l; number = v; f = f; size = pages }
+-- A model of these tickets, updates and lines, with no windows.
+abbrev modelOf : List Ticket → List Version → List Line → Model
+modelOf ks us ls = withLines (withUpdates (withTickets noModel ks) us) ls
 
 -- The model when line 0 is alone, and when it is beside a planner.
 unfoldable modelAlone : Model
-modelAlone = record {
-  tickets = withPages (pageOf 10 ∷ pageOf 11 ∷ []) 3 ∷ withPages (pageOf 21 ∷ []) 2 ∷ withPages (pageOf 30 ∷ []) 0 ∷ [];
-  updates = updateBy 1 0 1 0 2 ∷ updateBy 2 0 2 1 2 ∷ [];
-  lines = record { source = 0; start = 0; shown = 1 ∷ 2 ∷ []; published = 2 } ∷ [];
-  windows = [];
-}
+modelAlone =
+    modelOf
+    (withPages (pageOf 10 ∷ pageOf 11 ∷ []) 3 ∷ withPages (pageOf 21 ∷ []) 2 ∷ withPages (pageOf 30 ∷ []) 0 ∷ [])
+    (versionBy 1 0 1 0 2 ∷ versionBy 2 0 2 1 2 ∷ [])
+    (withPublished (lineFrom 0 0 (1 ∷ 2 ∷ [])) 2 ∷ [])
 
 unfoldable modelBeside : Model
-modelBeside = record {
-  tickets =
-      withPages (pageOf 10 ∷ pageOf 11 ∷ []) 3
-      ∷ withPages (pageOf 90 ∷ pageOf 91 ∷ pageOf 92 ∷ []) 6
-      ∷ withPages (pageOf 21 ∷ []) 2
-      ∷ withPages (pageOf 93 ∷ []) 3
-      ∷ withPages (pageOf 30 ∷ []) 0
-      ∷ [];
-  updates = updateBy 1 0 1 0 2 ∷ updateBy 2 1 2 0 3 ∷ updateBy 3 0 2 1 2 ∷ updateBy 4 1 3 3 4 ∷ [];
-  lines = record { source = 0; start = 0; shown = 1 ∷ 3 ∷ []; published = 2 } ∷ record { source = 0; start = 1; shown = 1 ∷ 2 ∷ 4 ∷ []; published = 3 } ∷ [];
-  windows = [];
-}
+modelBeside =
+    modelOf
+    (withPages (pageOf 10 ∷ pageOf 11 ∷ []) 3
+    ∷ withPages (pageOf 90 ∷ pageOf 91 ∷ pageOf 92 ∷ []) 6
+    ∷ withPages (pageOf 21 ∷ []) 2
+    ∷ withPages (pageOf 93 ∷ []) 3
+    ∷ withPages (pageOf 30 ∷ []) 0
+    ∷ [])
+    (versionBy 1 0 1 0 2 ∷ versionBy 2 1 2 0 3 ∷ versionBy 3 0 2 1 2 ∷ versionBy 4 1 3 3 4 ∷ [])
+    (withPublished (lineFrom 0 0 (1 ∷ 3 ∷ [])) 2 ∷ withPublished (lineFrom 0 1 (1 ∷ 2 ∷ 4 ∷ [])) 3 ∷ [])
 
 is-alone : modelAfter limits alone ≡ modelAlone
 unfolding computes run limits shared alone modelAlone

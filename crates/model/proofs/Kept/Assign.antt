@@ -12,7 +12,7 @@ use Rattle.tree.specs.Tree.{countOf, update, sizeAt}
 use Rattle.tree.specs.Walk.{Accepted}
 use Rattle.table.proofs.Table.{number-cases}
 use Rattle.model.specs.History.{Version, noVersion, toUpdate, updates, blobSize}
-use Rattle.model.specs.Model.{Limits, Line, Model, lineAt, updateAt, history, ticketUpdate}
+use Rattle.model.specs.Model.{Limits, Line, Model, lineAt, updateAt, history, ticketUpdate, withShown}
 use Rattle.model.specs.Layout.{nodesUsed}
 use Rattle.model.specs.OnModel.{nextVersion, nextUpdate, assignNumber, assigned}
 use Rattle.model.proofs.Sound.{SoundGiven, TicketSound, UpdateSound, LineSound}
@@ -64,7 +64,7 @@ module _ (L : Limits) (m : Model) (l t f : ℕ) where
   abbrev pub assignedLine : Line
   assignedLine =
       let x = lineAt m l in
-      record { source = x .source; start = x .start; shown = x .shown ++ suc (length (m .updates)) ∷ []; published = x .published }
+      withShown x (x .shown ++ suc (length (m .updates)) ∷ [])
 
   pub assigned-lines : length (assigned L m l t f .lines) ≡ length (m .lines)
   assigned-lines = length-set (m .lines) l assignedLine

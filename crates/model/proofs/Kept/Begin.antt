@@ -8,7 +8,7 @@ use Prim.Native.Nat.{ℕ, suc, _+_, _≤_, _<_}
 use native.Mathlib.Omega.{arith}
 use lib.ListN.{length, replicate, length-replicate}
 use Rattle.tree.proofs.Meets.{lt-or-le}
-use Rattle.model.specs.History.{Ticket, noTicket, pagesOf}
+use Rattle.model.specs.History.{Ticket, noTicket, pagesOf, withSlots}
 use Rattle.model.specs.Model.{Limits, Model, lineAt, updateAt}
 use Rattle.model.specs.Layout.{pagesUsed}
 use Rattle.model.specs.OnModel.{ticketIn, beginNumber, begun}
@@ -23,7 +23,7 @@ use Rattle.model.proofs.Kept.Same.{ticket-same, update-kept, line-same}
 
 module _ (L : Limits) (m : Model) (n : ℕ) where
   abbrev pub newTicket : Ticket
-  newTicket = record { slots = replicate n none; woven = 0 }
+  newTicket = withSlots noTicket (replicate n none)
 
   pub begun-ticket : (t : ℕ) → t ≤ length (m .tickets) → ticketIn (begun L m n) t ≡ ticketIn m t
   begun-ticket t h = nth-append noTicket (m .tickets) (newTicket ∷ []) t h

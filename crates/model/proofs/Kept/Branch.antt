@@ -8,7 +8,7 @@ use lib.ListN.{length, take, length-take}
 use Rattle.tree.specs.Tree.{nth, update, sizeAt}
 use Rattle.tree.proofs.Meets.{lt-or-le}
 use Rattle.model.specs.History.{toUpdate, updates}
-use Rattle.model.specs.Model.{Limits, Line, Model, lineAt, updateAt, history}
+use Rattle.model.specs.Model.{Limits, Line, Model, lineFrom, lineAt, updateAt, history}
 use Rattle.model.specs.OnModel.{branchNumber, branched}
 use Rattle.model.proofs.Sound.{SoundGiven, LineSound}
 use Rattle.model.proofs.Passed.{BranchPassed, branch-passed}
@@ -22,7 +22,7 @@ use Rattle.model.proofs.Kept.Same.{ticket-same, update-kept, line-same}
 
 module _ (L : Limits) (m : Model) (l v : ℕ) where
   abbrev pub newLine : Line
-  newLine = record { source = l; start = v; shown = take v (lineAt m l .shown); published = v }
+  newLine = lineFrom l v (take v (lineAt m l .shown))
 
   pub branched-length : length (branched L m l v .lines) ≡ suc (length (m .lines))
   branched-length = length-snoc (m .lines) newLine

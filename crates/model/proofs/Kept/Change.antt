@@ -8,7 +8,7 @@ use native.Mathlib.Omega.{arith}
 use lib.ListN.{length, set, length-set}
 use Rattle.tree.specs.Tree.{countOf}
 use Rattle.model.specs.History.{Ticket, noTicket, pagesOf, toUpdate, updates}
-use Rattle.model.specs.Model.{Limits, Model, lineAt, updateAt}
+use Rattle.model.specs.Model.{Limits, Model, lineAt, updateAt, withTickets}
 use Rattle.model.specs.OnModel.{ticketIn}
 use Rattle.model.proofs.Sound.{SoundGiven, TicketSound, UpdateSound}
 use Rattle.model.proofs.Nth.{nth-set-same, nth-set-other, nth-set-field}
@@ -18,7 +18,7 @@ use Rattle.model.proofs.Grows.{Grown, line-unmoved}
 use Rattle.model.proofs.Kept.Same.{ticket-same, update-kept, line-same}
 
 abbrev pub changed : Model → ℕ → Ticket → Model
-changed m t k = record { tickets = set (m .tickets) (pred t) k; updates = m .updates; lines = m .lines; windows = m .windows }
+changed m t k = withTickets m (set (m .tickets) (pred t) k)
 
 module _ (m : Model) (t : ℕ) (x : Ticket) (o : 0 < t) (same : pagesOf x ≡ pagesOf (ticketIn m t)) where
   pub changed-pages : (u : ℕ) → pagesOf (ticketIn (changed m t x) u) ≡ pagesOf (ticketIn m u)

@@ -7,7 +7,7 @@ use native.Mathlib.Decide.{ℕ-discrete}
 use native.Mathlib.Omega.{arith}
 use lib.ListN.{length, length-set}
 use Rattle.model.specs.History.{due}
-use Rattle.model.specs.Model.{Limits, Line, Model, lineAt, history}
+use Rattle.model.specs.Model.{Limits, Line, Model, withPublished, lineAt, history}
 use Rattle.model.specs.OnModel.{published}
 use Rattle.model.proofs.Sound.{SoundGiven, LineSound}
 use Rattle.model.proofs.Passed.{Due, due-passed}
@@ -19,7 +19,7 @@ use Rattle.model.proofs.Kept.Same.{ticket-same, update-kept, line-kept,
 
 module _ (L : Limits) (m : Model) (l : ℕ) (there : l < length (m .lines)) where
   abbrev pub publishedLine : Line
-  publishedLine = let x = lineAt m l in record { source = x .source; start = x .start; shown = x .shown; published = suc (x .published) }
+  publishedLine = let x = lineAt m l in withPublished x (suc (x .published))
 
   pub published-this : lineAt (published L m l) l ≡ publishedLine
   published-this = line-this (m .lines) l publishedLine there

@@ -9,7 +9,7 @@ use native.Mathlib.Decide.{ℕ-discrete}
 use native.Mathlib.Omega.{arith}
 use lib.Seq.{getD-set-same, getD-set-other}
 use lib.ListN.{length, getD, set, length-set}
-use Rattle.model.specs.History.{Page, Ticket, pagesOf}
+use Rattle.model.specs.History.{Page, Ticket, withSlots, pagesOf}
 use Rattle.model.specs.Model.{Limits, Model, updateAt}
 use Rattle.model.specs.OnModel.{ticketIn, putNumber, filledAt}
 use Rattle.model.proofs.Sound.{SoundGiven, TicketSound}
@@ -19,7 +19,7 @@ use Rattle.model.proofs.Kept.Change.{changed-this, changed-other, chang
 
 module _ (L : Limits) (m : Model) (t i : ℕ) (bytes : List ℕ) where
   abbrev pub filledTicket : Ticket
-  filledTicket = record { slots = set (ticketIn m t .slots) i (some bytes); woven = ticketIn m t .woven }
+  filledTicket = withSlots (ticketIn m t) (set (ticketIn m t .slots) i (some bytes))
 
   pub filled-pages : pagesOf filledTicket ≡ pagesOf (ticketIn m t)
   filled-pages = length-set (ticketIn m t .slots) i (some bytes)

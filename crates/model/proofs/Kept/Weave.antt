@@ -6,7 +6,7 @@ use Prim.Native.Nat.{ℕ, suc, _≤_, _<_}
 use native.Mathlib.Omega.{arith}
 use lib.ListN.{length}
 use Rattle.tree.specs.Tree.{countOf}
-use Rattle.model.specs.History.{Ticket, noTicket, toUpdate}
+use Rattle.model.specs.History.{Ticket, noTicket, toUpdate, withWoven}
 use Rattle.model.specs.Model.{Limits, Model, updateAt, ticketUpdate}
 use Rattle.model.specs.OnModel.{ticketIn, weaveNumber, woven}
 use Rattle.model.proofs.Sound.{SoundGiven, TicketSound}
@@ -18,7 +18,7 @@ use Rattle.model.proofs.Kept.Change.{changed-this, changed-grown, chang
 
 module _ (L : Limits) (m : Model) (t : ℕ) where
   abbrev pub wovenTicket : Ticket
-  wovenTicket = record { slots = ticketIn m t .slots; woven = suc (ticketIn m t .woven) }
+  wovenTicket = withWoven (ticketIn m t) (suc (ticketIn m t .woven))
 
   module _ {A : Type 0} (S : SoundGiven A L m) (p : WeavePassed m t) where
     pub woven-this : ticketIn (woven L m t) t ≡ wovenTicket
