@@ -8,17 +8,18 @@ use lib.ListN.{getD}
 use Rattle.tree.specs.Tree.{Update, countOf, rootHeight}
 use Rattle.tree.specs.Place.{halvings}
 use Rattle.tree.specs.Contract.{rootSpan}
-use Rattle.lines.specs.Lines.{numberOf, withEntry}
+use Rattle.lines.specs.Lines.{assignedTo, numberOf, withEntry}
 use Rattle.lines.specs.declared.Branch.{Branch}
-use Rattle.register.specs.Register.{noRecord, limited, withRecord}
+use Rattle.register.specs.Register.{noRecord, withTicketFields, withUpdateFields, withEntries, limited, withRecord}
 use Rattle.register.specs.declared.Record.{Record}
+use Rattle.register.specs.declared.Part.{Part}
 use Rattle.table.specs.Table.{_≤?_, _<?_, _or_, _gives_, everyCall, firstRefusal, unless, assignRows}
 use Rattle.versions.specs.declared.Store.{Store}
 use Rattle.versions.specs.declared.Lengths.{Lengths}
 use Rattle.assign.specs.declared.Assigned.{Assigned}
 use Rattle.assign.specs.declared.Assigned.the-variants as Assigned
 use Rattle.assign.specs.declared.AssignOut.{AssignOut}
-use Rattle.versions.specs.Store.{Areas, lengthsOf, differ, recordOf, linesIn, lineIn, withLine}
+use Rattle.versions.specs.Store.{Areas, lengthsOf, differ, withUpdates, recordOf, linesIn, lineIn, withLine}
 
 -- The size in pages after n pages from f on, of a blob of so many pages.
 abbrev pub sizeAfter : ℕ → ℕ → ℕ → ℕ
@@ -86,88 +87,41 @@ assigned (suc k) v count = Assigned.Refused (suc k)
 
 -- A line's state with one version more, and so many pages after it.
 abbrev pub withVersion : Branch → ℕ → Branch
-withVersion b size = record { source = b .source; start = b .start; assigned = record { 0 = suc (b .assigned .0) }; published = b .published; blob = size }
+withVersion b size = assignedTo b (suc (b .assigned .0)) size
 
 -- The store with one update more, on line l, its node places taken.
 abbrev pub withUpdate : Store → ℕ → ℕ → ℕ → Store
 withUpdate s l count size =
-    let x = withLine s l (withVersion (lineIn s l) size) in
-    record {
-      size = x .size;
-      pages = x .pages;
-      nodes = x .nodes;
-      updates = x .updates;
-      tickets = x .tickets;
-      taken = x .taken;
-      assigned = suc (s .assigned);
-      places = s .places + count;
-      begun = x .begun;
-      sources = x .sources;
-      lines = x .lines;
-    }
+    withUpdates (withLine s l (withVersion (lineIn s l) size)) (suc (s .assigned)) (s .places + count)
 
 -- A record with its ticket's update.
 abbrev pub withUpdateOf : Record → ℕ → Record
-withUpdateOf r k = record {
-  n = r .n;
-  number = r .number;
-  put = r .put;
-  update = k;
-  ticket = r .ticket;
-  name = r .name;
-  f = r .f;
-  last = r .last;
-  top = r .top;
-  past = r .past;
-  span = r .span;
-  size = r .size;
-  count = r .count;
-  woven = r .woven;
-  entries = r .entries;
+withUpdateOf r k = withTicketFields r (r .n) (r .number) (r .put) k
+
+-- What a record says of a new update: its version's number, pages f .. last, size after, the sum of its first node place and its root's height, and what follows from
+-- the update u; none woven.
+abbrev pub partBy : Update → ℕ → ℕ → ℕ → ℕ → ℕ → Part
+partBy u name f last size top = record {
+  name = name;
+  f = record { 0 = f };
+  last = record { 0 = last };
+  top = top;
+  past = halvings (u .f);
+  span = rootSpan (u .size);
+  size = size;
+  count = countOf u;
+  woven = 0;
 }
 
 -- A record with an update's part anew: its ticket, its version's number, pages f .. last, size after, the sum of its first node place and its root's height, and what
 -- follows from its pages and the size; none woven.
 abbrev pub withUpdatePart : Record → ℕ → ℕ → ℕ → ℕ → ℕ → ℕ → Record
 withUpdatePart r t name f last size top =
-    let u = limited f last size in
-    record {
-      n = r .n;
-      number = r .number;
-      put = r .put;
-      update = r .update;
-      ticket = record { 0 = t };
-      name = name;
-      f = record { 0 = f };
-      last = record { 0 = last };
-      top = top;
-      past = halvings (u .f);
-      span = rootSpan (u .size);
-      size = size;
-      count = countOf u;
-      woven = 0;
-      entries = r .entries;
-    }
+    withUpdateFields r (record { 0 = t }) (partBy (limited f last size) name f last size top)
 
 -- A record with update k as line l's own version.
 abbrev pub withEntryOf : Record → ℕ → ℕ → Record
-withEntryOf r l k = record {
-  n = r .n;
-  number = r .number;
-  put = r .put;
-  update = r .update;
-  ticket = r .ticket;
-  name = r .name;
-  f = r .f;
-  last = r .last;
-  top = r .top;
-  past = r .past;
-  span = r .span;
-  size = r .size;
-  count = r .count;
-  woven = r .woven;
-  entries = withEntry (r .entries) l k;
-}
+withEntryOf r l k = withEntries r (withEntry (r .entries) l k)
 
 -- The register with ticket t's update, whose record is r; with that update's part; and with its number in the record of the line's next version. The three records
 -- may be one.

@@ -2,7 +2,7 @@
 use mathlib.Core.List.{List}
 use Prim.Native.Nat.{ℕ, zero, suc, _+_}
 use lib.ListN.{getD}
-use Rattle.register.specs.Register.{noRecord, withRecord}
+use Rattle.register.specs.Register.{noRecord, withTicketFields, withRecord}
 use Rattle.register.specs.declared.Record.{Record}
 use Rattle.table.specs.Table.{never, everyCall, firstRefusal, unless, beginRows}
 use Rattle.versions.specs.declared.Store.{Store}
@@ -10,7 +10,7 @@ use Rattle.versions.specs.declared.Lengths.{Lengths}
 use Rattle.begin.specs.declared.Begun.{Begun}
 use Rattle.begin.specs.declared.Begun.the-variants as Begun
 use Rattle.begin.specs.declared.BeginOut.{BeginOut}
-use Rattle.versions.specs.Store.{Areas, lengthsOf, differ}
+use Rattle.versions.specs.Store.{Areas, lengthsOf, differ, withTickets}
 
 unfoldable pub beginRefusal : Store → Lengths → ℕ → ℕ
 beginRefusal s l n = firstRefusal (everyCall (differ s l) (beginRows n (s .tickets .0) (s .updates) (s .taken) (s .pages)) never)
@@ -24,39 +24,11 @@ begun (suc k) t = Begun.Refused (suc k)
 
 -- The store with one ticket more, and n page numbers more taken.
 abbrev pub withTicket : Store → ℕ → Store
-withTicket s n = record {
-  size = s .size;
-  pages = s .pages;
-  nodes = s .nodes;
-  updates = s .updates;
-  tickets = record { 0 = suc (s .tickets .0) };
-  taken = s .taken + n;
-  assigned = s .assigned;
-  places = s .places;
-  begun = s .begun;
-  sources = s .sources;
-  lines = s .lines;
-}
+withTicket s n = withTickets s (suc (s .tickets .0)) (s .taken + n)
 
 -- A record with a ticket's part anew: n pages from a page number on, none put, no update.
 abbrev pub withTicketPart : Record → ℕ → ℕ → Record
-withTicketPart r n number = record {
-  n = n;
-  number = number;
-  put = 0;
-  update = 0;
-  ticket = r .ticket;
-  name = r .name;
-  f = r .f;
-  last = r .last;
-  top = r .top;
-  past = r .past;
-  span = r .span;
-  size = r .size;
-  count = r .count;
-  woven = r .woven;
-  entries = r .entries;
-}
+withTicketPart r n number = withTicketFields r n number 0 0
 
 -- What BEGIN gives back, by the table's number k.
 abbrev pub begunBy : Store → ℕ → ℕ → BeginOut

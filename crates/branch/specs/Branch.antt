@@ -6,7 +6,7 @@ use Rattle.versions.specs.declared.Store.{Store}
 use Rattle.branch.specs.declared.Branched.{Branched}
 use Rattle.branch.specs.declared.Branched.the-variants as Branched
 use Rattle.branch.specs.declared.BranchOut.{BranchOut}
-use Rattle.versions.specs.Store.{Areas, areasDiffer, linesIn, lineIn, withLine, numberOn, partOn}
+use Rattle.versions.specs.Store.{Areas, areasDiffer, withLines, linesIn, lineIn, withLine, numberOn, partOn}
 use Rattle.versions.specs.Size.{notThere, pagesIn}
 
 unfoldable pub branchNumber : Store → Areas → ℕ → ℕ → ℕ
@@ -21,19 +21,7 @@ begunFrom l v pages = record { source = record { 0 = l }; start = record { 0 = v
 abbrev pub withBranch : Store → Branch → Store
 withBranch s b =
     let x = withLine s (linesIn s) b in
-    record {
-      size = x .size;
-      pages = x .pages;
-      nodes = x .nodes;
-      updates = x .updates;
-      tickets = x .tickets;
-      taken = x .taken;
-      assigned = x .assigned;
-      places = x .places;
-      begun = suc (linesIn s);
-      sources = x .sources;
-      lines = x .lines;
-    }
+    withLines x (suc (linesIn s)) (x .sources) (x .lines)
 
 abbrev pub branched : ℕ → ℕ → Branched
 branched zero l = Branched.Begun (record { 0 = l })

@@ -20,6 +20,13 @@ pick false x y = y
 abbrev pub noBranch : Branch
 noBranch = record { source = record { 0 = 0 }; start = record { 0 = 0 }; assigned = record { 0 = 0 }; published = record { 0 = 0 }; blob = 0 }
 
+-- A line's state with v as its last version, of so many pages; and with v as the last one published.
+abbrev pub assignedTo : Branch → ℕ → ℕ → Branch
+assignedTo b v blob = record { source = b .source; start = b .start; assigned = record { 0 = v }; published = b .published; blob = blob }
+
+abbrev pub publishedTo : Branch → ℕ → Branch
+publishedTo b v = record { source = b .source; start = b .start; assigned = b .assigned; published = record { 0 = v }; blob = b .blob }
+
 -- The line on which version v of line l got its number, by the lines' states b: l where v is above the version that l begins from, else one of those that l comes from.
 unfoldable pub ownerFrom : ℕ → (ℕ → Branch) → ℕ → ℕ → ℕ
 ownerFrom zero b l v = l

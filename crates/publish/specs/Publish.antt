@@ -2,7 +2,7 @@
 use mathlib.Core.Bool.{Bool, true, false, not, _&&_}
 use Prim.Native.Nat.{ℕ, zero, suc, _+_, _-_, _^_, min}
 use lib.Dec.{ltb, eqb}
-use Rattle.lines.specs.Lines.{numberOf}
+use Rattle.lines.specs.Lines.{publishedTo, numberOf}
 use Rattle.lines.specs.declared.Branch.{Branch}
 use Rattle.register.specs.Register.{updateOf, versionPart}
 use Rattle.register.specs.declared.Part.{Part}
@@ -45,7 +45,7 @@ dueBy b q = hasNext b && eqb (q .woven) (q .count)
 
 -- A line's state with one version more published.
 abbrev pub withPublished : Branch → Branch
-withPublished b = record { source = b .source; start = b .start; assigned = b .assigned; published = record { 0 = suc (b .published .0) }; blob = b .blob }
+withPublished b = publishedTo b (suc (b .published .0))
 
 -- The answer, by the table's number, whether the minute is inside a window, and whether version v is due.
 abbrev pub published : ℕ → Bool → Bool → ℕ → Published

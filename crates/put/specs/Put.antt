@@ -3,7 +3,7 @@ use mathlib.Core.List.{List}
 use Prim.Native.Nat.{ℕ, zero, suc, pred, _+_, _*_, _/_, _%_, _^_}
 use lib.ListN.{length}
 use Rattle.pages.specs.Pages.{put}
-use Rattle.register.specs.Register.{withRecord}
+use Rattle.register.specs.Register.{withTicketFields, withRecord}
 use Rattle.register.specs.declared.Record.{Record}
 use Rattle.table.specs.Table.{_≤?_, _<?_, _or_, everyCall, firstRefusal, unless, putRows}
 use Rattle.versions.specs.declared.Store.{Store}
@@ -41,23 +41,7 @@ putIn (suc k) = PutIn.Refused (suc k)
 
 -- A record with page i put.
 abbrev pub withPut : Record → ℕ → Record
-withPut r i = record {
-  n = r .n;
-  number = r .number;
-  put = withBit (r .put) i;
-  update = r .update;
-  ticket = r .ticket;
-  name = r .name;
-  f = r .f;
-  last = r .last;
-  top = r .top;
-  past = r .past;
-  span = r .span;
-  size = r .size;
-  count = r .count;
-  woven = r .woven;
-  entries = r .entries;
-}
+withPut r i = withTicketFields r (r .n) (r .number) (withBit (r .put) i) (r .update)
 
 abbrev pub putOut : Store → Areas → ℕ → ℕ → List ℕ → PutIn
 putOut s a t i bytes = putIn (putNumber s a t i bytes)

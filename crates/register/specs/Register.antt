@@ -6,7 +6,9 @@ use lib.Dec.{leb, ltb, eqb}
 use lib.ListN.{length, set}
 use mathlib.Core.Bool.{Bool, true, false, _&&_}
 use Rattle.tree.specs.Tree.{Update, nth, meets}
+use Rattle.tree.specs.declared.Ticket.{Ticket}
 use Rattle.lines.specs.Lines.{pick, numberOf, lineOf, versionOf, noEntries, entryAt}
+use Rattle.lines.specs.declared.Entries.{Entries}
 use Rattle.register.specs.declared.Record.{Record}
 use Rattle.register.specs.declared.Part.{Part}
 use Rattle.register.specs.declared.Extent.{Extent}
@@ -44,6 +46,80 @@ partOf r = record {
   size = r .size;
   count = r .count;
   woven = r .woven;
+}
+
+-- A part with so many nodes woven.
+abbrev pub wovenTo : Part → ℕ → Part
+wovenTo q woven = record {
+  name = q .name;
+  f = q .f;
+  last = q .last;
+  top = q .top;
+  past = q .past;
+  span = q .span;
+  size = q .size;
+  count = q .count;
+  woven = woven;
+}
+
+-- A record with its ticket's fields anew: its pages, its first page number, which pages are put, and the number of its update.
+abbrev pub withTicketFields : Record → ℕ → ℕ → ℕ → ℕ → Record
+withTicketFields r n number put update = record {
+  n = n;
+  number = number;
+  put = put;
+  update = update;
+  ticket = r .ticket;
+  name = r .name;
+  f = r .f;
+  last = r .last;
+  top = r .top;
+  past = r .past;
+  span = r .span;
+  size = r .size;
+  count = r .count;
+  woven = r .woven;
+  entries = r .entries;
+}
+
+-- A record with its update's fields anew: the update's ticket, and what the record says of it.
+abbrev pub withUpdateFields : Record → Ticket → Part → Record
+withUpdateFields r ticket q = record {
+  n = r .n;
+  number = r .number;
+  put = r .put;
+  update = r .update;
+  ticket = ticket;
+  name = q .name;
+  f = q .f;
+  last = q .last;
+  top = q .top;
+  past = q .past;
+  span = q .span;
+  size = q .size;
+  count = q .count;
+  woven = q .woven;
+  entries = r .entries;
+}
+
+-- A record with the lines' own versions anew.
+abbrev pub withEntries : Record → Entries → Record
+withEntries r entries = record {
+  n = r .n;
+  number = r .number;
+  put = r .put;
+  update = r .update;
+  ticket = r .ticket;
+  name = r .name;
+  f = r .f;
+  last = r .last;
+  top = r .top;
+  past = r .past;
+  span = r .span;
+  size = r .size;
+  count = r .count;
+  woven = r .woven;
+  entries = entries;
 }
 
 -- The last page that a blob can have.

@@ -1,6 +1,8 @@
 -- What each exported call replies, from what the call answers: the number of the refusal, 0 where the call is accepted, and its values.
 use Prim.Native.Nat.{ℕ}
 use Rattle.versions.specs.declared.Store.{Store}
+use Rattle.versions.specs.Store.{withLines}
+use Rattle.format.specs.Format.{fresh}
 use Rattle.format.specs.declared.Formatted.{Formatted}
 use Rattle.format.specs.declared.Formatted.the-variants as Formatted
 use Rattle.begin.specs.declared.Begun.{Begun}
@@ -48,19 +50,7 @@ use Rattle.replies.specs.declared.ViewReply.{ViewReply}
 
 -- A store of all zeros.
 abbrev pub noStore : Store
-noStore = record {
-  size = 0;
-  pages = 0;
-  nodes = 0;
-  updates = 0;
-  tickets = record { 0 = 0 };
-  taken = 0;
-  assigned = 0;
-  places = 0;
-  begun = 0;
-  sources = 0;
-  lines = noLines;
-}
+noStore = withLines (fresh 0 0 0 0) 0 0 noLines
 
 -- FORMAT: the store that it made and its windows; where it is refused, all zeros.
 abbrev pub formatReply : Formatted → FormatReply

@@ -23,6 +23,16 @@ pub record Areas : Type 0 where
 abbrev pub areasOf : List ℕ → List ℕ → List Record → Areas
 areasOf pages nodes register = record { pages = pages; nodes = nodes; register = register }
 
+-- The areas with other pages, nodes or records.
+abbrev pub withPages : Areas → List ℕ → Areas
+withPages a pages = record { pages = pages; nodes = a .nodes; register = a .register }
+
+abbrev pub withNodes : Areas → List ℕ → Areas
+withNodes a nodes = record { pages = a .pages; nodes = nodes; register = a .register }
+
+abbrev pub withRegister : Areas → List Record → Areas
+withRegister a register = record { pages = a .pages; nodes = a .nodes; register = register }
+
 abbrev pub lengthsOf : Areas → Lengths
 lengthsOf a = record { pages = length (a .pages); nodes = length (a .nodes); register = length (a .register) }
 
@@ -32,6 +42,54 @@ differ s g = g .pages ≢? s .size * s .pages or g .nodes ≢? 2 * s .nodes or g
 
 abbrev pub areasDiffer : Store → Areas → Cond
 areasDiffer s a = differ s (lengthsOf a)
+
+-- The store with another number of tickets given and of page numbers taken.
+abbrev pub withTickets : Store → ℕ → ℕ → Store
+withTickets s tickets taken = record {
+  size = s .size;
+  pages = s .pages;
+  nodes = s .nodes;
+  updates = s .updates;
+  tickets = record { 0 = tickets };
+  taken = taken;
+  assigned = s .assigned;
+  places = s .places;
+  begun = s .begun;
+  sources = s .sources;
+  lines = s .lines;
+}
+
+-- The store with another number of updates assigned and of node places taken.
+abbrev pub withUpdates : Store → ℕ → ℕ → Store
+withUpdates s assigned places = record {
+  size = s .size;
+  pages = s .pages;
+  nodes = s .nodes;
+  updates = s .updates;
+  tickets = s .tickets;
+  taken = s .taken;
+  assigned = assigned;
+  places = places;
+  begun = s .begun;
+  sources = s .sources;
+  lines = s .lines;
+}
+
+-- The store with another number of lines begun, their sources and their words.
+abbrev pub withLines : Store → ℕ → ℕ → List ℕ → Store
+withLines s begun sources lines = record {
+  size = s .size;
+  pages = s .pages;
+  nodes = s .nodes;
+  updates = s .updates;
+  tickets = s .tickets;
+  taken = s .taken;
+  assigned = s .assigned;
+  places = s .places;
+  begun = begun;
+  sources = sources;
+  lines = lines;
+}
 
 -- Record k, counted from 1: ticket k's part, and update k's.
 abbrev pub recordOf : Areas → ℕ → Record
@@ -48,19 +106,7 @@ unfoldable pub lineIn : Store → ℕ → Branch
 lineIn s l = pick (ltb l 16) (unpacked (sourceAt (s .sources) l) (getD (s .lines) l 0)) noBranch
 
 abbrev pub withLine : Store → ℕ → Branch → Store
-withLine s l b = record {
-  size = s .size;
-  pages = s .pages;
-  nodes = s .nodes;
-  updates = s .updates;
-  tickets = s .tickets;
-  taken = s .taken;
-  assigned = s .assigned;
-  places = s .places;
-  begun = s .begun;
-  sources = pick (ltb l 16) (withSource (s .sources) l (b .source .0)) (s .sources);
-  lines = set (s .lines) l (packed b);
-}
+withLine s l b = withLines s (s .begun) (pick (ltb l 16) (withSource (s .sources) l (b .source .0)) (s .sources)) (set (s .lines) l (packed b))
 
 -- The number of version v of line l, by the line on which it got its version, and what its record says.
 abbrev pub numberOn : Store → ℕ → ℕ → ℕ

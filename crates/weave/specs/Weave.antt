@@ -8,7 +8,7 @@ use Rattle.tree.specs.Place.{nodeNumbered}
 use Rattle.tree.specs.Contract.{heightIn}
 use Rattle.tree.specs.NodeArea.{withNode}
 use Rattle.lines.specs.Lines.{pick, numberOf, lineOf, versionOf}
-use Rattle.register.specs.Register.{updateOf, partOf, withRecord, versionPart, newestOwn}
+use Rattle.register.specs.Register.{updateOf, partOf, wovenTo, withUpdateFields, withRecord, versionPart, newestOwn}
 use Rattle.register.specs.declared.Record.{Record}
 use Rattle.register.specs.declared.Part.{Part}
 use Rattle.table.specs.Table.{Cond, _≤?_, _<?_, _or_, never, everyCall, firstRefusal, orElse, unless, weaveRows}
@@ -118,23 +118,7 @@ spanOf (node p h) = 2 ^ h
 
 -- A record with one node more woven.
 abbrev pub withWoven : Record → Record
-withWoven r = record {
-  n = r .n;
-  number = r .number;
-  put = r .put;
-  update = r .update;
-  ticket = r .ticket;
-  name = r .name;
-  f = r .f;
-  last = r .last;
-  top = r .top;
-  past = r .past;
-  span = r .span;
-  size = r .size;
-  count = r .count;
-  woven = suc (r .woven);
-  entries = r .entries;
-}
+withWoven r = withUpdateFields r (r .ticket) (wovenTo (partOf r) (suc (r .woven)))
 
 -- The node that is stored, and what is left after it.
 abbrev pub wovenNode : Store → List ℕ → List Record → Record → Part → Node → WovenNode

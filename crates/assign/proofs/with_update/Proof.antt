@@ -4,26 +4,17 @@ use mathlib.Core.Path.{_≡_, ap}
 use Prim.Native.Nat.{ℕ, _+_}
 use native.Mathlib.Numerals.{add-one}
 use native.Mathlib.Omega.{arith}
+use Rattle.lines.specs.Lines.{assignedTo}
 use Rattle.lines.specs.declared.Branch.{Branch}
-use Rattle.versions.specs.Store.{lineIn, withLine}
+use Rattle.versions.specs.Store.{withUpdates, lineIn, withLine}
 use Rattle.versions.specs.declared.Store.{Store}
 use Rattle.assign.specs.Assign.{withUpdate}
-use Rattle.versions.proofs.Generated.Kind.Branch as Branch′
-use Rattle.versions.proofs.Generated.Kind.Store as Store′
 use Rattle.assign.proofs.with_update.Statement.{statement}
 use Rattle.assign.proofs.with_update.Tie as tie
 
--- A store with so many updates and so many node places taken.
-abbrev counted : Store → ℕ → ℕ → Store
-counted s assigned places = Store′.build (s .size) (s .pages) (s .nodes) (s .updates) (s .tickets) (s .taken) assigned places (s .begun) (s .sources) (s .lines)
-
--- A line's state with a last version and a size.
-abbrev lasting : Branch → ℕ → ℕ → Branch
-lasting b v size = Branch′.build (b .source) (b .start) (record { 0 = v }) (b .published) size
-
 done :
-    (s r : Store) (l count size : ℕ) (b : Branch) → b ≡ lineIn s l → r ≡ withLine s l (lasting b (b .assigned .0 + 1) size)
-    → counted r (s .assigned + 1) (s .places + count) ≡ withUpdate s l count size
+    (s r : Store) (l count size : ℕ) (b : Branch) → b ≡ lineIn s l → r ≡ withLine s l (assignedTo b (b .assigned .0 + 1) size)
+    → withUpdates r (s .assigned + 1) (s .places + count) ≡ withUpdate s l count size
 done s r l count size b p q =
     rw (q, add-one (b .assigned .0), add-one (s .assigned), p)
 
