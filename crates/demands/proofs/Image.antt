@@ -11,18 +11,20 @@ use Rattle.tree.specs.Place.{halvings}
 use Rattle.lines.specs.Lines.{packed, entriesOf}
 use Rattle.lines.specs.declared.Branch.{Branch}
 use Rattle.lines.proofs.States.{sourcesOf}
+use Rattle.register.specs.Register.{noRecord, withTicketFields, withUpdateFields, withEntries}
 use Rattle.register.specs.declared.Record.{Record}
+use Rattle.register.specs.declared.Part.{Part}
 use Rattle.windows.specs.declared.Windows.{Windows}
 use Rattle.windows.specs.Windows.{placed}
 use Rattle.versions.specs.declared.Store.{Store}
-use Rattle.versions.specs.Store.{Areas}
-use Rattle.model.specs.History.{Page, Ticket, Version, pagesOf, toUpdate, blobSize, isFilled, bitIf}
-use Rattle.model.specs.Model.{Limits, Model, lineAt, updateAt, history, ticketUpdate, numbered}
+use Rattle.versions.specs.Store.{Areas, areasOf, withTickets, withUpdates, withLines}
+use Rattle.model.specs.History.{Page, Ticket, Version, pagesOf, toUpdate, blobSize, isFilled, bitIf, noTicket}
+use Rattle.model.specs.Model.{Limits, Model, lineAt, updateAt, history, ticketUpdate, numbered, Line}
 use Rattle.model.specs.Layout.{nodePlace, nodesUsed, pagesUsed, slotNumber}
 use Rattle.model.specs.OnModel.{ticketIn, either}
 use Rattle.model.proofs.Laid.{tab}
 use Rattle.model.proofs.Image.{pagesImage, nodesImage}
-use Rattle.demands.specs.Run.{State}
+use Rattle.demands.specs.Run.{State, stateWith, withWindows, freshOf}
 
 -- ---- the register: record i has ticket i + 1's part, update i + 1's, and for each line its own version i + 1
 
@@ -46,44 +48,49 @@ countBy ks u = either (ltb 0 (u .ticket)) (countOf (toUpdate ks u)) 0
 abbrev pub ownAt : Model → ℕ → ℕ → ℕ
 ownAt m l v = either (ltb (lineAt m l .start) v) (nth 0 (lineAt m l .shown) v) 0
 
+-- What a record says of an update of these tickets, with the place at which its nodes begin.
+abbrev pub partImage : List Ticket → Version → ℕ → Part
+partImage ks u place = record {
+  name = numbered (u .line) (u .number);
+  f = record { 0 = u .f };
+  last = record { 0 = toUpdate ks u .last };
+  top = place + rootHeight (u .size);
+  past = halvings (u .f);
+  span = rootSpan (u .size);
+  size = u .size;
+  count = countBy ks u;
+  woven = nth noTicket ks (u .ticket) .woven;
+}
+
 abbrev pub recordImage : Model → ℕ → Record
 recordImage m i =
     let k = ticketIn m (suc i) in
     let u = updateAt m (suc i) in
-    record {
-      n = pagesOf k;
-      number = numberAt m i;
-      put = maskOf (k .slots);
-      update = ticketUpdate m (suc i);
-      ticket = record { 0 = u .ticket };
-      name = numbered (u .line) (u .number);
-      f = record { 0 = u .f };
-      last = record { 0 = toUpdate (m .tickets) u .last };
-      top = firstPlaceAt m i + rootHeight (u .size);
-      past = halvings (u .f);
-      span = rootSpan (u .size);
-      size = u .size;
-      count = countBy (m .tickets) u;
-      woven = ticketIn m (u .ticket) .woven;
-      entries = entriesOf (λ l. ownAt m l (suc i));
-    }
+    withEntries
+    (withUpdateFields
+    (withTicketFields noRecord (pagesOf k) (numberAt m i) (maskOf (k .slots)) (ticketUpdate m (suc i)))
+    (record { 0 = u .ticket })
+    (partImage (m .tickets) u (firstPlaceAt m i)))
+    (entriesOf (λ l. ownAt m l (suc i)))
 
 unfoldable pub registerImage : Limits → Model → List Record
 registerImage L m = tab (L .updates) (recordImage m)
 
 -- ---- the lines
 
--- Line l's state; its source has 4 bits.
+-- The state of a line, with the size of its blob; its source has 4 bits.
+abbrev pub stateBy : Line → ℕ → Branch
+stateBy x blob = record {
+  source = record { 0 = x .source % 16 };
+  start = record { 0 = x .start };
+  assigned = record { 0 = length (x .shown) };
+  published = record { 0 = x .published };
+  blob = blob;
+}
+
 abbrev pub branchImage : Model → ℕ → Branch
 branchImage m l =
-    let x = lineAt m l in
-    record {
-      source = record { 0 = x .source % 16 };
-      start = record { 0 = x .start };
-      assigned = record { 0 = length (x .shown) };
-      published = record { 0 = x .published };
-      blob = blobSize (history m l);
-    }
+    stateBy (lineAt m l) (blobSize (history m l))
 
 -- The states as the store has them: the sources in a word, and a word a line.
 unfoldable pub sourcesImage : Model → ℕ
@@ -95,25 +102,18 @@ linesImage m = tab 16 (λ l. packed (branchImage m l))
 -- ---- the whole
 
 abbrev pub storeImage : Limits → Model → Store
-storeImage L m = record {
-  size = L .size;
-  pages = L .pages;
-  nodes = L .nodes;
-  updates = L .updates;
-  tickets = record { 0 = length (m .tickets) };
-  taken = pagesUsed m;
-  assigned = length (m .updates);
-  places = nodesUsed m;
-  begun = length (m .lines);
-  sources = sourcesImage m;
-  lines = linesImage m;
-}
+storeImage L m =
+    withLines
+    (withUpdates (withTickets (freshOf L) (length (m .tickets)) (pagesUsed m)) (length (m .updates)) (nodesUsed m))
+    (length (m .lines))
+    (sourcesImage m)
+    (linesImage m)
 
 abbrev pub windowsImage : Model → Windows
 windowsImage m = placed (m .windows)
 
 abbrev pub areasImage : Limits → Model → Areas
-areasImage L m = record { pages = pagesImage L m; nodes = nodesImage L m; register = registerImage L m }
+areasImage L m = areasOf (pagesImage L m) (nodesImage L m) (registerImage L m)
 
 abbrev pub image : Limits → Model → State
-image L m = record { store = storeImage L m; windows = windowsImage m; areas = areasImage L m }
+image L m = withWindows (stateWith (storeImage L m) (areasImage L m)) (windowsImage m)

@@ -10,7 +10,7 @@ use lib.Seq.{getD-set-same, getD-set-other}
 use Rattle.pages.specs.Pages.{put}
 use Rattle.register.specs.Register.{withRecord}
 use Rattle.register.specs.declared.Record.{Record}
-use Rattle.model.specs.History.{Page}
+use Rattle.model.specs.History.{Page, withSlots}
 use Rattle.model.specs.InTurn.{joined}
 use Rattle.model.specs.Model.{Limits, Model}
 use Rattle.model.specs.Layout.{serialOf, slotNumber}

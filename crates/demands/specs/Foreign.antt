@@ -5,7 +5,6 @@ use mathlib.Core.List.{List, [], _∷_, _++_}
 use Prim.Native.Nat.{ℕ}
 use lib.ListN.{length, replicate}
 use Rattle.tree.specs.NodeArea.{allOnes, withNode}
-use Rattle.lines.specs.Lines.{packed}
 use Rattle.register.specs.Register.{noRecord}
 use Rattle.register.specs.declared.Record.{Record}
 use Rattle.model.specs.Calls.{Call, BEGIN, PUT, WEAVE, on, WRITE, APPEND, BRANCH, READ, SIZE, versionIs, nodeIs, filled, says}
@@ -13,36 +12,22 @@ use Rattle.model.specs.History.{Page}
 use Rattle.model.specs.Run.{outcomes}
 use Rattle.model.specs.Example.{limits, pageOf, branches}
 use Rattle.model.specs.Stamps.{puts, sends}
-use Rattle.windows.specs.Windows.{noWindows}
+use Rattle.versions.specs.Store.{areasOf, withRegister}
+use Rattle.format.specs.Format.{fresh}
 use Rattle.begin.specs.Begin.{withTicketPart}
 use Rattle.put.specs.Put.{withPut}
 use Rattle.assign.specs.Assign.{withUpdateOf, withUpdatePart}
 use Rattle.demands.specs.Computes.{computes}
-use Rattle.demands.specs.Run.{State, onStore, storeAfter, withRegister, asked}
-use Rattle.demands.specs.Rows.{page, no, noRead, lineWith, withAreas, nodesBy}
+use Rattle.demands.specs.Run.{State, stateWith, onStore, storeAfter, asked}
+use Rattle.demands.specs.Rows.{page, no, noRead, lineWith, storeWith, withAreas, nodesBy}
 use Rattle.demands.specs.Lines.{areas, words}
 
 -- ---- a store of one page, one node place and two records
 
 -- So many tickets, so many updates on all lines, so many versions of line 0, and its register.
 abbrev small : ℕ → ℕ → ℕ → List Record → State
-small tickets updates versions register = record {
-  store = record {
-    size = 16;
-    pages = 1;
-    nodes = 1;
-    updates = 2;
-    tickets = record { 0 = tickets };
-    taken = 1;
-    assigned = updates;
-    places = 0;
-    begun = 1;
-    sources = 0;
-    lines = packed (lineWith versions 0 0) ∷ replicate 15 0;
-  };
-  windows = noWindows;
-  areas = record { pages = page; nodes = 0 ∷ 0 ∷ []; register = register };
-}
+small tickets updates versions register =
+    stateWith (storeWith (fresh 16 1 1 2) tickets 1 updates 0 (lineWith versions 0 0)) (areasOf page (0 ∷ 0 ∷ []) register)
 
 -- A ticket of one page, put, with its page number; and with update k, which is page 0 as version 1 of line 0, its node at a place.
 abbrev putAt : ℕ → Record

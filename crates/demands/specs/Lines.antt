@@ -10,10 +10,10 @@ use Rattle.model.specs.Run.{outcomes, modelAfter}
 use Rattle.model.specs.Example.{limits, pageOf, calls, given, more, givenMore, branches, givenBranches}
 use Rattle.model.specs.Trees.{nodesAfter}
 use Rattle.model.specs.Snapshot.{Tree, noPage, leaf, inner, treeOf, treeIn, placeOfNumber, treeAt}
-use Rattle.versions.specs.Store.{Areas}
+use Rattle.versions.specs.Store.{Areas, withRegister}
 use Rattle.assign.specs.Assign.{withEntryOf}
 use Rattle.demands.specs.Computes.{computes}
-use Rattle.demands.specs.Run.{State, onStore, formattedState, storeAfter, withRegister}
+use Rattle.demands.specs.Run.{State, onStore, formattedState, storeAfter}
 use Rattle.demands.specs.Rows.{no, noRead, withAreas}
 
 unfoldable pub areas : Areas

@@ -5,22 +5,24 @@ use mathlib.Core.Option.{some}
 use mathlib.Core.List.{List, [], _∷_, map}
 use Prim.Native.Nat.{ℕ, _*_}
 use lib.ListN.{replicate}
-use Rattle.lines.specs.Lines.{packed}
+use Rattle.lines.specs.Lines.{noBranch, assignedTo, publishedTo, packed}
 use Rattle.lines.specs.declared.Branch.{Branch}
 use Rattle.register.specs.Register.{noRecord}
 use Rattle.model.specs.Calls.{Call, BEGIN, PUT, WEAVE, SETWINDOWS, on, WRITE, APPEND, PUBLISH, BRANCH, READ, SIZE, RECENT, STAMP, VIEW, refused, ticketIs, putDone, versionIs, nodeIs, publishedIs, waiting, filled, sizeIs, recentIs, partIs, Outcome, says}
-use Rattle.model.specs.Model.{Limits, Model, noModel}
+use Rattle.model.specs.History.{noTicket, withSlots, versionBy}
+use Rattle.model.specs.Model.{Limits, Model, noLine, noModel, withShown, withTickets, withUpdates, withLines}
 use Rattle.model.specs.OnModel.{onModel}
 use Rattle.model.specs.Run.{outcomes}
 use Rattle.model.specs.Example.{pageOf}
 use Rattle.windows.specs.Windows.{noWindows}
-use Rattle.versions.specs.Store.{Areas}
+use Rattle.versions.specs.declared.Store.{Store}
+use Rattle.versions.specs.Store.{Areas, areasOf, withPages, withNodes, withRegister, withTickets as storeTickets, withUpdates as storeUpdates, withLines as storeLines}
 use Rattle.format.specs.declared.Formatted.the-variants as Formatted
 use Rattle.format.specs.Format.{fresh, formatNumber, formatAnswer, formatAreas}
 use Rattle.begin.specs.Begin.{withTicketPart}
 use Rattle.put.specs.Put.{withPut}
 use Rattle.demands.specs.Computes.{computes}
-use Rattle.demands.specs.Run.{State, onStore, formattedState, storeAfter, withRegister}
+use Rattle.demands.specs.Run.{State, stateWith, withStore, withLent, onStore, formattedState, storeAfter}
 
 abbrev pub page : List ℕ
 page = pageOf 5
@@ -193,13 +195,11 @@ rows-by-calls = refl
 
 -- Line 0's state: so many versions assigned, so many published, and so many pages.
 abbrev pub lineWith : ℕ → ℕ → ℕ → Branch
-lineWith assigned published blob = record {
-  source = record { 0 = 0 };
-  start = record { 0 = 0 };
-  assigned = record { 0 = assigned };
-  published = record { 0 = published };
-  blob = blob;
-}
+lineWith assigned published blob = publishedTo (assignedTo noBranch assigned blob) published
+
+-- A store with so many tickets given and page numbers taken, so many updates and node places, and line 0 alone, in this state.
+abbrev pub storeWith : Store → ℕ → ℕ → ℕ → ℕ → Branch → Store
+storeWith s tickets taken assigned places b = storeLines (storeUpdates (storeTickets s tickets taken) assigned places) 1 0 (packed b ∷ replicate 15 0)
 
 -- ---- row 14: a blob of 4,096 pages, given (64 updates of 64 pages lead there), with so many node places. Ticket 1 has one page, put;
 -- version 1 is ticket 2's.
@@ -208,35 +208,15 @@ unfoldable pub fullLimits : ℕ → Limits
 fullLimits nodes = record { size = 16; pages = 5; nodes = nodes; updates = 2 }
 
 unfoldable pub fullModel : Model
-fullModel = record {
-  tickets = record { slots = some page ∷ []; woven = 0 } ∷ record { slots = some page ∷ []; woven = 0 } ∷ [];
-  updates = record { ticket = 2; line = 0; number = 1; f = 0; size = 4096 } ∷ [];
-  lines = record { source = 0; start = 0; shown = 1 ∷ []; published = 0 } ∷ [];
-  windows = [];
-}
+fullModel =
+    let k = withSlots noTicket (some page ∷ []) in
+    withLines (withUpdates (withTickets noModel (k ∷ k ∷ [])) (versionBy 2 0 1 0 4096 ∷ [])) (withShown noLine (1 ∷ []) ∷ [])
 
 unfoldable pub fullState : ℕ → State
-fullState nodes = record {
-  store = record {
-    size = 16;
-    pages = 5;
-    nodes = nodes;
-    updates = 2;
-    tickets = record { 0 = 2 };
-    taken = 2;
-    assigned = 1;
-    places = 1;
-    begun = 1;
-    sources = 0;
-    lines = packed (lineWith 1 0 4096) ∷ replicate 15 0;
-  };
-  windows = noWindows;
-  areas = record {
-    pages = replicate 80 5;
-    nodes = replicate (2 * nodes) 0;
-    register = withPut (withTicketPart noRecord 1 0) 0 ∷ noRecord ∷ [];
-  };
-}
+fullState nodes =
+    stateWith
+    (storeWith (fresh 16 5 nodes 2) 2 2 1 1 (lineWith 1 0 4096))
+    (areasOf (replicate 80 5) (replicate (2 * nodes) 0) (withPut (withTicketPart noRecord 1 0) 0 ∷ noRecord ∷ []))
 
 -- An append and a write past 4,096 pages are refused, a write of the last page has 13 nodes.
 pub row14-by-model : (outcomes (onModel (fullLimits 20)) fullModel (on 0 (APPEND 1) ∷ on 0 (WRITE 1 4097) ∷ []) ≡ (no 14 ∷ no 13 ∷ []))
@@ -251,10 +231,10 @@ row14-by-calls = refl
 
 -- A state with other areas, and areas with other nodes.
 abbrev pub withAreas : State → (Areas → Areas) → State
-withAreas x g = record { store = x .store; windows = x .windows; areas = g (x .areas) }
+withAreas x g = withLent x (g (x .areas))
 
 abbrev pub nodesBy : (List ℕ → List ℕ) → Areas → Areas
-nodesBy g a = record { pages = a .pages; nodes = g (a .nodes); register = a .register }
+nodesBy g a = withNodes a (g (a .nodes))
 
 -- The state that `calls` leave, with other areas.
 abbrev damaged : (Areas → Areas) → State
@@ -282,7 +262,7 @@ abbrev threes : List Outcome
 threes = no 3 ∷ no 3 ∷ no 3 ∷ no 3 ∷ no 3 ∷ no 3 ∷ no 3 ∷ no 3 ∷ no 3 ∷ no 3 ∷ no 3 ∷ no 3 ∷ says (partIs []) ∷ []
 
 pub row3 :
-    outcomes onStore (damaged (λ a. record { pages = 1 ∷ a .pages; nodes = a .nodes; register = a .register })) each ≡ threes
+    outcomes onStore (damaged (λ a. withPages a (1 ∷ a .pages))) each ≡ threes
     × outcomes onStore (damaged (nodesBy (λ x. 1 ∷ x))) each ≡ threes
     × outcomes onStore (damaged (λ a. withRegister a (noRecord ∷ a .register))) each ≡ threes
 unfolding computes limits areas calls
@@ -306,24 +286,8 @@ row19-walks = (refl, refl, refl)
 -- A store that says more tickets and versions than the register has records.
 unfoldable pub overrun : State
 overrun =
-    let s = storeAfter limits areas calls .store in
-    record {
-      store = record {
-        size = s .size;
-        pages = s .pages;
-        nodes = s .nodes;
-        updates = s .updates;
-        tickets = record { 0 = 9 };
-        taken = s .taken;
-        assigned = 9;
-        places = s .places;
-        begun = 1;
-        sources = 0;
-        lines = packed (lineWith 9 8 3) ∷ replicate 15 0;
-      };
-      windows = noWindows;
-      areas = storeAfter limits areas calls .areas;
-    }
+    let x = storeAfter limits areas calls in
+    withStore x (storeWith (x .store) 9 (x .store .taken) 9 (x .store .places) (lineWith 9 8 3))
 
 -- A record past the register; the rows that need no record still come first, and those that need it, 17 of READ and STAMP too, do not hold.
 pub row19-records :

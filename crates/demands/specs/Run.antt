@@ -2,12 +2,11 @@
 use mathlib.Core.List.{List}
 use Prim.Native.Nat.{ℕ}
 use Rattle.versions.specs.declared.Store.{Store}
-use Rattle.register.specs.declared.Record.{Record}
 use Rattle.model.specs.Calls.{Call, BEGIN, PUT, WEAVE, SETWINDOWS, on, Act, WRITE, APPEND, PUBLISH, BRANCH, ask, Query, read, size, recent, stamp, view, partIs, Outcome, says}
 use Rattle.model.specs.Model.{Limits}
 use Rattle.model.specs.Run.{run}
 use Rattle.demands.specs.Answers.{begunAnswer, putAnswer, assignedAnswer, wovenAnswer, publishedAnswer, branchedAnswer, windowsAnswer, filledAnswer, sizedAnswer, latestAnswer, stampedAnswer}
-use Rattle.versions.specs.Store.{Areas, lineIn}
+use Rattle.versions.specs.Store.{Areas, withPages, withNodes, withRegister, lineIn}
 use Rattle.format.specs.Format.{fresh, formatAreas}
 use Rattle.begin.specs.Begin.{beginOut, beginRegister}
 use Rattle.put.specs.Put.{putOut, putPages, putRegister}
@@ -30,15 +29,24 @@ pub record State : Type 0 where
   pub windows : Windows
   pub areas : Areas
 
-abbrev pub withRegister : Areas → List Record → Areas
-withRegister a r = record { pages = a .pages; nodes = a .nodes; register = r }
+-- A store with these areas and no windows.
+abbrev pub stateWith : Store → Areas → State
+stateWith s a = record { store = s; windows = noWindows; areas = a }
+
+-- The state with another store, with other windows, and with other areas.
+abbrev pub withStore : State → Store → State
+withStore x store = record { store = store; windows = x .windows; areas = x .areas }
+
+abbrev pub withWindows : State → Windows → State
+withWindows x windows = record { store = x .store; windows = windows; areas = x .areas }
+
+abbrev pub withLent : State → Areas → State
+withLent x areas = record { store = x .store; windows = x .windows; areas = areas }
 
 abbrev pub assignCall : State → ℕ → ℕ → ℕ → State × Outcome
 assignCall x l t f =
-    let o = assignOut (x .store) (x .areas) l t f in (
-      record { store = o .store; windows = x .windows; areas = withRegister (x .areas) (assignRegister (x .store) (x .areas) l t f) },
-      says (assignedAnswer (o .answer)),
-    )
+    let o = assignOut (x .store) (x .areas) l t f in
+    (withLent (withStore x (o .store)) (withRegister (x .areas) (assignRegister (x .store) (x .areas) l t f)), says (assignedAnswer (o .answer)))
 
 -- What a query of line l of a store gives back, as its promise says.
 unfoldable pub storeOutcome : State → ℕ → Query → Outcome
@@ -58,46 +66,28 @@ onLineOf x l (WRITE t f) = assignCall x l t f
 onLineOf x l (APPEND t) = assignCall x l t (lineIn (x .store) l .blob)
 onLineOf x l (PUBLISH minute) =
     let o = publishOut (x .store) (x .windows) (x .areas) l minute in
-    (record { store = o .store; windows = x .windows; areas = x .areas }, says (publishedAnswer (o .answer)))
+    (withStore x (o .store), says (publishedAnswer (o .answer)))
 onLineOf x l (BRANCH v) =
     let o = branchOut (x .store) (x .areas) l v in
-    (record { store = o .store; windows = x .windows; areas = x .areas }, says (branchedAnswer (o .answer)))
+    (withStore x (o .store), says (branchedAnswer (o .answer)))
 onLineOf x l (ask q) = (x, storeOutcome x l q)
 
 -- One call on a store.
 unfoldable pub onStore : State → Call → State × Outcome
 onStore x (BEGIN n) =
-    let o = beginOut (x .store) (x .areas) n in (
-      record { store = o .store; windows = x .windows; areas = withRegister (x .areas) (beginRegister (x .store) (x .areas) n) },
-      says (begunAnswer (o .answer)),
-    )
+    let o = beginOut (x .store) (x .areas) n in
+    (withLent (withStore x (o .store)) (withRegister (x .areas) (beginRegister (x .store) (x .areas) n)), says (begunAnswer (o .answer)))
 onStore x (PUT t i bytes) = (
-  record {
-    store = x .store;
-    windows = x .windows;
-    areas = record {
-      pages = putPages (x .store) (x .areas) t i bytes;
-      nodes = x .areas .nodes;
-      register = putRegister (x .store) (x .areas) t i bytes;
-    };
-  },
+  withLent x (withRegister (withPages (x .areas) (putPages (x .store) (x .areas) t i bytes)) (putRegister (x .store) (x .areas) t i bytes)),
   says (putAnswer (putOut (x .store) (x .areas) t i bytes)),
 )
 onStore x (WEAVE t) = (
-  record {
-    store = x .store;
-    windows = x .windows;
-    areas = record {
-      pages = x .areas .pages;
-      nodes = weaveNodes (x .store) (x .areas) t;
-      register = weaveRegister (x .store) (x .areas) t;
-    };
-  },
+  withLent x (withRegister (withNodes (x .areas) (weaveNodes (x .store) (x .areas) t)) (weaveRegister (x .store) (x .areas) t)),
   says (wovenAnswer (weaveOut (x .store) (x .areas) t)),
 )
 onStore x (SETWINDOWS t) =
     let o = setOut (x .store) (x .windows) (x .areas) t in
-    (record { store = x .store; windows = o .windows; areas = x .areas }, says (windowsAnswer (o .answer)))
+    (withWindows x (o .windows), says (windowsAnswer (o .answer)))
 onStore x (on l a) = onLineOf x l a
 
 -- The store that FORMAT of these limits makes.
@@ -106,7 +96,7 @@ freshOf L = fresh (L .size) (L .pages) (L .nodes) (L .updates)
 
 -- The store and areas that FORMAT leaves of areas that it is lent, where it accepts, with no windows.
 unfoldable pub formattedState : Limits → Areas → State
-formattedState L a = record { store = freshOf L; windows = noWindows; areas = formatAreas (freshOf L) a }
+formattedState L a = stateWith (freshOf L) (formatAreas (freshOf L) a)
 
 -- The state after a list of calls from FORMAT on.
 abbrev pub storeAfter : Limits → Areas → List Call → State

@@ -11,9 +11,9 @@ use Rattle.model.specs.OnModel.{onModel}
 use Rattle.model.specs.Run.{outcomes, modelAfter}
 use Rattle.model.specs.Example.{limits, pageOf}
 use Rattle.model.specs.Stamps.{sends, again, givenAgain, pairs, givenPairs, apart, givenApart}
-use Rattle.versions.specs.Store.{Areas}
+use Rattle.versions.specs.Store.{Areas, withPages, withRegister}
 use Rattle.demands.specs.Computes.{computes}
-use Rattle.demands.specs.Run.{onStore, formattedState, storeAfter, withRegister}
+use Rattle.demands.specs.Run.{onStore, formattedState, storeAfter}
 use Rattle.demands.specs.Rows.{no, withAreas, nodesBy}
 use Rattle.demands.specs.Lines.{areas}
 
@@ -83,6 +83,6 @@ nodes-astray = (refl, refl, refl, refl)
 
 -- The last byte of page number 2, which is version 2's page 0, is another.
 pub bytes-changed :
-    stampsIn (λ a. record { pages = set (a .pages) 47 0; nodes = a .nodes; register = a .register }) ≡ (is 1 ∷ is 2 ∷ is 3 ∷ is 1 ∷ [])
+    stampsIn (λ a. withPages a (set (a .pages) 47 0)) ≡ (is 1 ∷ is 2 ∷ is 3 ∷ is 1 ∷ [])
 unfolding computes limits areas resent
 bytes-changed = refl

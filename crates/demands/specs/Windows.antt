@@ -5,6 +5,7 @@ use mathlib.Core.List.{List, [], _∷_, _++_}
 use lib.ListN.{replicate}
 use Rattle.text.specs.Quoted.{text}
 use Rattle.register.specs.Register.{noRecord}
+use Rattle.versions.specs.Store.{withRegister}
 use Rattle.model.specs.Calls.{Call, BEGIN, PUT, WEAVE, SETWINDOWS, on, APPEND, PUBLISH, RECENT, ticketIs, putDone, versionIs, nodeIs, waiting, held, windowsDone, recentIs, Outcome, says}
 use Rattle.model.specs.Model.{noModel}
 use Rattle.model.specs.OnModel.{onModel}
@@ -13,7 +14,7 @@ use Rattle.model.specs.Due.{publishes}
 use Rattle.model.specs.Example.{limits, pageOf}
 use Rattle.model.specs.Windows.{twoWindows, lines, edges, givenEdges, due, givenDue, lists, givenLists, minutes, givenMinutes}
 use Rattle.demands.specs.Computes.{computes}
-use Rattle.demands.specs.Run.{State, onStore, formattedState, storeAfter, withRegister}
+use Rattle.demands.specs.Run.{State, onStore, formattedState, storeAfter}
 use Rattle.demands.specs.Rows.{no, withAreas}
 use Rattle.demands.specs.Lines.{areas}
 

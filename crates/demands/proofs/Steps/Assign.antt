@@ -3,7 +3,7 @@
 use mathlib.Core.Path.{_≡_, refl, sym, ap, ap₂, _∙_}
 use mathlib.Core.Logic.{inl, inr, _≢_}
 use mathlib.Core.List.{List}
-use Prim.Native.Nat.{ℕ, zero, suc, _+_, _-_, _%_, _≤_, _<_, max}
+use Prim.Native.Nat.{ℕ, zero, suc, _+_, _-_, _≤_, _<_, max}
 use native.Mathlib.Omega.{arith}
 use borrow.Author.Tests.{le-ltb}
 use lib.Dec.{ltb}
@@ -17,7 +17,7 @@ use Rattle.versions.specs.Store.{lengthsOf, recordOf}
 use Rattle.assign.specs.Assign.{updateAt, sizeAfter, allPut, assignRefusal, assigned as assignedCase, withVersion, withUpdate, assignedRegister}
 use Rattle.model.specs.Calls.{on, WRITE, APPEND, versionIs, Outcome, answers}
 use Rattle.model.specs.History.{Version, pagesOf, blobSize, allFilled}
-use Rattle.model.specs.Model.{Limits, Line, Model, noLine, lineAt, updateAt as updateIn, history, ticketUpdate}
+use Rattle.model.specs.Model.{Limits, Model, noLine, lineAt, updateAt as updateIn, history, ticketUpdate}
 use Rattle.model.specs.Layout.{nodesUsed}
 use Rattle.model.specs.OnModel.{either, ticketIn, sizeAfter as sizeIn, nextUpdate, assignNumber, assigned, assignStep, onLine, onModel}
 use Rattle.model.proofs.Laid.{Pair, onesPair}
@@ -31,7 +31,7 @@ use Rattle.model.proofs.Histories.{assigned-apart}
 use Rattle.model.proofs.Kept.Assign.{assigned-length, assigned-new, assigned-used, assigned-lines, assigned-this, assigned-other, assigned-versions, assigned-next-version, assigned-grown}
 use Rattle.demands.specs.Answers.{assignedAnswer}
 use Rattle.demands.specs.Run.{State, assignCall, onLineOf, onStore}
-use Rattle.demands.proofs.Image.{registerImage, branchImage, storeImage, windowsImage, areasImage, image}
+use Rattle.demands.proofs.Image.{registerImage, stateBy, branchImage, storeImage, windowsImage, areasImage, image}
 use Rattle.demands.proofs.Masks.{mask-all}
 use Rattle.demands.proofs.Records.{record-at, limited-same}
 use Rattle.demands.proofs.Lines.{lines-in, blob-small, line-in, sources-written, words-written}
@@ -43,16 +43,6 @@ use Rattle.demands.proofs.Steps.Assigned.{update-there, version-there, 
 -- A node of an update that has none woven.
 none-woven : (i w : ℕ) (x : Pair) → w ≡ 0 → either (ltb i w) x onesPair ≡ onesPair
 none-woven i w x e = rw (e, le-ltb i 0 (omega arith))
-
--- The state of a line, with the size of its blob.
-abbrev stateBy : Line → ℕ → Branch
-stateBy x blob = record {
-  source = record { 0 = x .source % 16 };
-  start = record { 0 = x .start };
-  assigned = record { 0 = length (x .shown) };
-  published = record { 0 = x .published };
-  blob = blob;
-}
 
 module _ (L : Limits) (m : Model) (S : Sound L m) (l f : ℕ) where
   -- ---- the number

@@ -7,15 +7,13 @@ use native.Mathlib.Decide.{ℕ-discrete}
 use native.Mathlib.Omega.{arith}
 use borrow.Author.Tests.{lt-ltb}
 use lib.ListN.{length, getD}
-use Rattle.tree.specs.Tree.{Update, countOf, rootHeight}
-use Rattle.tree.specs.Contract.{rootSpan}
-use Rattle.tree.specs.Place.{halvings}
+use Rattle.tree.specs.Tree.{Update, rootHeight}
 use Rattle.lines.specs.Lines.{numberOf, withEntry}
 use Rattle.lines.proofs.Numbers.{number-is as code-is}
 use Rattle.lines.proofs.Packed.{with-of}
 use Rattle.register.specs.Register.{noRecord, limited, withRecord}
 use Rattle.register.specs.declared.Record.{Record}
-use Rattle.assign.specs.Assign.{withUpdateOf, withUpdatePart, withEntryOf, assignedRegister}
+use Rattle.assign.specs.Assign.{withUpdateOf, withUpdatePart, withEntryOf, assignedRegister, partBy}
 use Rattle.model.specs.History.{noVersion, pagesOf}
 use Rattle.model.specs.Model.{Limits, Model, lineAt}
 use Rattle.model.specs.Layout.{nodesUsed}
@@ -85,16 +83,8 @@ module _ (L : Limits) (m : Model) (S : Sound L m) (l t f : ℕ) (p : AssignPasse
   -- The update's part, where its pages and its size are brought within the limits, which leaves them as they are.
   abbrev newPart : Update → UpdatePart
   newPart u = record {
-    ticket = suc t;
-    name = numberOf l (suc last);
-    f = f;
-    last = f + pagesOf (ticketIn m (suc t)) - 1;
-    top = nodesUsed m + rootHeight (u .size);
-    past = halvings (u .f);
-    span = rootSpan (u .size);
-    size = sizeAfter L m l (suc t) f;
-    count = countOf u;
-    woven = 0;
+    ticket = record { 0 = suc t };
+    part = partBy u (numberOf l (suc last)) f (f + pagesOf (ticketIn m (suc t)) - 1) (sizeAfter L m l (suc t) f) (nodesUsed m + rootHeight (u .size));
   }
 
   abbrev limitedPart : UpdatePart

@@ -9,19 +9,20 @@ use borrow.Author.Tests.{lt-ltb, le-ltb}
 use lib.Dec.{ltb}
 use lib.ListN.{length}
 use Rattle.tree.proofs.Meets.{lt-or-le}
-use Rattle.tree.specs.Tree.{nth, rootHeight}
-use Rattle.tree.specs.Place.{halvings}
-use Rattle.tree.specs.Contract.{rootSpan}
+use Rattle.tree.specs.Tree.{nth}
+use Rattle.tree.specs.declared.Ticket.{Ticket as Named}
 use Rattle.lines.specs.Lines.{entriesOf}
 use Rattle.lines.specs.declared.Entries.{Entries}
 use Rattle.lines.proofs.Packed.{entries-same}
+use Rattle.register.specs.Register.{noRecord, withTicketFields, withUpdateFields, withEntries}
 use Rattle.register.specs.declared.Record.{Record}
-use Rattle.model.specs.History.{Ticket, Version, noTicket, noVersion, pagesOf, toUpdate}
-use Rattle.model.specs.Model.{Limits, Model, updateAt, ticketUpdate, numbered}
+use Rattle.model.specs.History.{Ticket, Version, noVersion, pagesOf, toUpdate}
+use Rattle.model.specs.Model.{Limits, Model, updateAt, ticketUpdate}
+use Rattle.register.specs.declared.Part.{Part}
 use Rattle.model.specs.OnModel.{ticketIn, either}
 use Rattle.model.proofs.Sound.{Sound}
 use Rattle.model.proofs.Nth.{length-snoc, nth-append, nth-past}
-use Rattle.demands.proofs.Image.{countBy, maskOf, numberAt, firstPlaceAt, ownAt}
+use Rattle.demands.proofs.Image.{maskOf, numberAt, firstPlaceAt, ownAt, partImage}
 
 -- ---- records
 
@@ -32,36 +33,12 @@ pub record TicketPart : Type 0 where
   pub update : ℕ
 
 pub record UpdatePart : Type 0 where
-  pub ticket : ℕ
-  pub name : ℕ
-  pub f : ℕ
-  pub last : ℕ
-  pub top : ℕ
-  pub past : ℕ
-  pub span : ℕ
-  pub size : ℕ
-  pub count : ℕ
-  pub woven : ℕ
+  pub ticket : Named
+  pub part : Part
 
 -- A record of the image has all three: `recordImage m i` is `all (ticketPart m i) (updatePart m i) (entriesAt m i)`.
 abbrev pub all : TicketPart → UpdatePart → Entries → Record
-all k u e = record {
-  n = k .n;
-  number = k .number;
-  put = k .put;
-  update = k .update;
-  ticket = record { 0 = u .ticket };
-  name = u .name;
-  f = record { 0 = u .f };
-  last = record { 0 = u .last };
-  top = u .top;
-  past = u .past;
-  span = u .span;
-  size = u .size;
-  count = u .count;
-  woven = u .woven;
-  entries = e;
-}
+all k u e = withEntries (withUpdateFields (withTicketFields noRecord (k .n) (k .number) (k .put) (k .update)) (u .ticket) (u .part)) e
 
 pub all-same : {k k′ : TicketPart} {u u′ : UpdatePart} {e e′ : Entries} → k ≡ k′ → u ≡ u′ → e ≡ e′ → all k u e ≡ all k′ u′ e′
 all-same a b c = λ i. all (a i) (b i) (c i)
@@ -73,18 +50,7 @@ ticketPart m i =
 
 -- The part of an update of these tickets, with the place at which its nodes begin.
 abbrev pub partOf : List Ticket → Version → ℕ → UpdatePart
-partOf ks u place = record {
-  ticket = u .ticket;
-  name = numbered (u .line) (u .number);
-  f = u .f;
-  last = toUpdate ks u .last;
-  top = place + rootHeight (u .size);
-  past = halvings (u .f);
-  span = rootSpan (u .size);
-  size = u .size;
-  count = countBy ks u;
-  woven = nth noTicket ks (u .ticket) .woven;
-}
+partOf ks u place = record { ticket = record { 0 = u .ticket }; part = partImage ks u place }
 
 abbrev pub updatePart : Model → ℕ → UpdatePart
 updatePart m i = partOf (m .tickets) (updateAt m (suc i)) (firstPlaceAt m i)

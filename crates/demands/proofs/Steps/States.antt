@@ -8,13 +8,13 @@ use Rattle.windows.specs.declared.Windows.{Windows}
 use Rattle.versions.specs.declared.Store.{Store}
 use Rattle.versions.specs.Store.{areasOf}
 use Rattle.model.specs.Calls.{Answer, Outcome, says}
-use Rattle.demands.specs.Run.{State}
+use Rattle.demands.specs.Run.{State, stateWith, withWindows}
 
 abbrev pub leaves : State → Answer → State × Outcome
 leaves x a = (x, says a)
 
 abbrev pub stateOf : Store → Windows → List ℕ → List ℕ → List Record → State
-stateOf s w pages nodes register = record { store = s; windows = w; areas = areasOf pages nodes register }
+stateOf s w pages nodes register = withWindows (stateWith s (areasOf pages nodes register)) w
 
 -- The windows stay.
 pub state-same : {w : Windows} {s s′ : Store} {p p′ n n′ : List ℕ} {r r′ : List Record} → s ≡ s′ → p ≡ p′ → n ≡ n′ → r ≡ r′

@@ -11,7 +11,7 @@ use lib.Dec.{ltb}
 use lib.ListN.{length}
 use Rattle.tree.specs.NodeArea.{withNode}
 use Rattle.tree.proofs.Meets.{lt-or-le}
-use Rattle.register.specs.Register.{withRecord}
+use Rattle.register.specs.Register.{wovenTo as partWoven, withRecord}
 use Rattle.weave.specs.Weave.{withWoven}
 use Rattle.model.specs.History.{Ticket, noTicket, noVersion, pagesOf}
 use Rattle.model.specs.Model.{Limits, Model, updateAt, ticketUpdate}
@@ -42,18 +42,7 @@ ltb-other i n d = elim (lt-or-le i n) [
 
 -- An update's part with so many nodes woven.
 abbrev wovenTo : UpdatePart → ℕ → UpdatePart
-wovenTo u k = record {
-  ticket = u .ticket;
-  name = u .name;
-  f = u .f;
-  last = u .last;
-  top = u .top;
-  past = u .past;
-  span = u .span;
-  size = u .size;
-  count = u .count;
-  woven = k;
-}
+wovenTo u k = record { ticket = u .ticket; part = partWoven (u .part) k }
 
 -- The update of record i is not t's, where t's is another.
 ticket-not : (m : Model) (t i : ℕ) → 0 < t → ((k : ℕ) → 0 < k → k ≤ length (m .updates) → updateAt m k .ticket ≡ t → k ≡ ticketUpdate m t)
@@ -130,7 +119,7 @@ module _ (L : Limits) (m : Model) (t : ℕ) (S : Sound L m) (p : WeavePassed m t
   ticket-same i = ticket-part m (woven L m t) i (slots-same (suc i)) (changed-number L m S t (wovenTicket L m t) (p .from) refl grown i) refl
 
   -- The part of the ticket's update has one node more woven.
-  part-this : (i : ℕ) → updateAt m (suc i) .ticket ≡ t → updatePart (woven L m t) i ≡ wovenTo (updatePart m i) (suc (updatePart m i .woven))
+  part-this : (i : ℕ) → updateAt m (suc i) .ticket ≡ t → updatePart (woven L m t) i ≡ wovenTo (updatePart m i) (suc (updatePart m i .part .woven))
   part-this i e = rw (count-same (updateAt m (suc i) .ticket), place-at-kept L m (woven L m t) S grown refl i, woven-now (suc i) e, woven-was (suc i) e)
 
   pub woven-register : withRecord (registerImage L m) (pred (ticketUpdate m t)) (withWoven (recordImage m (pred (ticketUpdate m t)))) ≡ registerImage L (woven L m t)
