@@ -2,7 +2,7 @@
 """walkgen: writes the walk of a Rattle function over slices of structs.
 
     python3 walkgen.py REPO CRATE F ..      write crates/CRATE/proofs/F/Proof.antt of each F, and all that it cites
-    python3 walkgen.py REPO CRATE --list    the functions of the crate, and which of them take a slice of a struct
+    python3 walkgen.py REPO CRATE --list    the functions of the crate, and which of them want a walk
     --calls                                 also write the call of each F, for the crates above to cite
     +F                                      of the covered function F write the call alone, for the crates above to cite; +C::F: of one of the crate C below
     =T                                      of the declared struct or enum T write what walks cite of it, for the crates above
@@ -29,6 +29,7 @@ sys.dont_write_bytecode = True
 from walks.crate import Crate
 from walks.mir import Unsupported
 from walks.walk import Walk
+from walks.wanted import Wanted
 
 
 def main():
@@ -36,18 +37,18 @@ def main():
     args = [x for x in sys.argv[1:] if x not in flags]
     if len(args) < 3:
         sys.exit(__doc__)
-    c = Crate(os.path.abspath(args[0]), args[1], '--rebind' in flags, '--whole' in flags)
+    root, crate = os.path.abspath(args[0]), args[1]
     if args[2] == '--list':
-        listed(c)
+        listed(root, crate)
         return
-    sys.exit(write(c, args[2:], '--calls' in flags))
+    sys.exit(write(Crate(root, crate, '--rebind' in flags, '--whole' in flags), args[2:], '--calls' in flags))
 
 
-def listed(c):
+def listed(root, crate):
     """prints the functions of a crate, and which of them want a walk"""
-    for path, m in c.mir.items():
-        if path.startswith(c.name + '::'):
-            print(path, 'walked' if any((t.to if t.deep else t).kind == 'slice' and (t.to if t.deep else t).elem.kind == 'named' for t in m.locals[1:1 + m.nparams]) else 'covered?')
+    wanted = Wanted(root)
+    for f in wanted.src[crate].code:
+        print('%s::%s' % (crate, f), 'walked' if (crate, f) in wanted.walks else 'covered')
 
 
 def write(c, names, calls):

@@ -11,6 +11,8 @@ class Src:
     def __init__(self, root, crate):
         self.crate = crate
         self.structs, self.enums, self.fns, self.uses = {}, {}, {}, {}
+        # of each file the names that it brings in, of each type what it holds, and of each function: whether it is pub, its signature and its body, as texts
+        self.brings, self.holds, self.code = {}, {}, {}
         # the MIR does not tell a signed integer from an unsigned one: what names one is refused
         self.odd = set()
         d = os.path.join(root, 'crates', crate, 'src')
@@ -25,24 +27,27 @@ class Src:
     def read(self, path, pre):
         text = re.sub(r'//[^\n]*', '', open(path).read())
         self.uses[pre] = ['use ' + ' '.join(m.split()) for m in re.findall(r'ghost use ([^;]*);', text)]
+        self.brings[pre] = {m.split('::')[-1]: m for m in re.findall(r'^use ([\w:]+);', text, re.M)}
         for m in re.finditer(r'\bstruct (\w+)\s*(\{[^}]*\}|\([^)]*\)\s*;)', text):
             body = m.group(2).strip()
             if body[0] == '{':
                 fs = [re.sub(r'\bpub\b', '', x).split(':')[0].strip() for x in body.strip('{} \n').split(',') if x.strip()]
             else:
                 fs = [str(i) for i, x in enumerate(y for y in body.strip('(); \n').split(',') if y.strip())]
-            self.structs[pre + m.group(1)] = fs
+            self.structs[pre + m.group(1)], self.holds[pre + m.group(1)] = fs, (pre, body)
             if ODD.search(body):
                 self.odd.add(pre + m.group(1))
         for m in re.finditer(r'\benum (\w+)\s*\{', text):
             b, _ = balanced(text, m.end() - 1)
             self.enums[pre + m.group(1)] = [re.split(r'[({=]', v.strip())[0].strip() for v in split_top(b, ',') if v.strip()]
+            self.holds[pre + m.group(1)] = pre, b
             if ODD.search(b):
                 self.odd.add(pre + m.group(1))
         for m in re.finditer(r'\bfn (\w+)\s*(<[^>]*>)?\s*\(', text):
             ps, i = balanced(text, m.end() - 1)
             names = [re.sub(r'\bmut\b', '', p.split(':')[0]).strip() for p in split_top(ps, ',') if p.strip()]
             req, ens = [], []
+            result = re.match(r'\s*(->[^{;]*?)?\s*(?=requires|ensures|measure|decreases|\{|;|$)', text[i:]).group(0)
             if ODD.search(ps) or ODD.search(re.match(r'[^{]*?(?=requires|ensures|\{|;|$)', text[i:], re.S).group(0)):
                 self.odd.add(pre + m.group(1))
             while True:
@@ -55,6 +60,8 @@ class Src:
                 elif k.group(2) == 'ensures':
                     ens.append(' '.join(b.split()))
             self.fns[pre + m.group(1)] = (names, req, ens, pre)
+            # a body ends at the first column
+            self.code[pre + m.group(1)] = bool(re.search(r'\bpub\s+(extern\s+"C"\s+)?$', text[:m.start()])), ps + result, text[i:].split('\n}')[0]
 
 
 def balanced(text, i):
@@ -91,13 +98,15 @@ def split_top(s, sep):
     return out
 
 
+def crate_lines(root):
+    """the crates of the repository in the order of crates.txt, each with those that its line names"""
+    lines = (re.match(r'\s*(\w+)\s*:([^#]*)', line) for line in open(os.path.join(root, 'crates.txt')))
+    return {m.group(1): m.group(2).split() for m in lines if m}
+
+
 def lower_crates(root, name):
     """the crates of the repository below a crate, the lowest first: those in its line of crates.txt, which it may cite, and those that only these name"""
-    deps, out = {}, []
-    for line in open(os.path.join(root, 'crates.txt')):
-        m = re.match(r'\s*(\w+)\s*:([^#]*)', line)
-        if m:
-            deps[m.group(1)] = m.group(2).split()
+    deps, out = crate_lines(root), []
 
     def go(n):
         for d in deps.get(n, []):
