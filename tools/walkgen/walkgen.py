@@ -13,6 +13,7 @@ A function of the file m.rt is m::f.
 What it is made of stands in walks/. Everything it writes is checked by antt, so nothing here is trusted. What it writes, under crates/CRATE/proofs:
     Generated/Again, Flow      of no crate: loans of a slice, and the flow of control (from lib/)
     Generated/Through          the same of a slice behind one reference more, `&&[T]`, where a walk or a call has one
+    Generated/Fields           a store to a field of an element, where one that is stored to is a struct
     Generated/Kind/T           what a walk cites of a declared struct or enum T
     Generated/Say/F            F's contract over plain lists and numbers: req, ens, and where ens fixes them, res and out-P
     Generated/Call/F           the call of F as one step of a walk

@@ -3,7 +3,7 @@ from .contracts import LocalArray
 from .context import Sim
 from .mir import Unsupported
 from .names import loc_name, par
-from .state import Val
+from .state import Stored, Val
 
 
 class Elements:
@@ -11,6 +11,9 @@ class Elements:
         """that i is within the list of a slice, or of its first elements, and so of the list"""
         p = self.P(v.p)
         ys = par(st.list[p.x])
+        s = self.stored(st, p, i)
+        if s and not v.part:
+            return 'subst (λ (m : ℕ). %s < m) (sym (length-set %s %s %s)) (%s)' % (par(i), s.list, par(i), par(s.new.e), s.within)
         if not v.part:
             return self.ask(st, 'index', '%s < length %s' % (par(i), ys), 'the index is within ' + p.name)
         self.lent_parts = True
@@ -96,7 +99,9 @@ class Elements:
             read = read.replace('assigns !', 'assigns-last !', 1) + on
         return m + 'opens-ref ! tt %s (λ q′ _. %s\n      shuts-ref ! tt %s q′ $ %s\n      %s)' % (p.ref_args(), read, p.ref_args(), back, self.go(st, rest, turn))
 
-    def store_elem(self, st, j, rv, rest, turn):
+    # ---- s[i] = x: the element is taken out, stored to, and put back
+    def store_elem(self, st, j, path, rv, rest, turn):
+        """path: where to, of s[i].f = x"""
         c = self.c
         v = st.loc[j]
         p = self.P(v.p)
@@ -104,41 +109,90 @@ class Elements:
         none = c.zero(t)
         m, back = self.to_front(st, p)
         if rv[0] != 'rvOpd':
-            raise Unsupported('a store to an element of what is no local')
+            raise Unsupported('a store to an element, or to a field of one, of what is no local')
         o, x = self.opd(st, rv[1], 5)
-        sa, i = self.slice_args(st, p), par(v.i)
+        if x.kind != 'plain':
+            raise Unsupported('a store to an element of what is not plain')
+        sa, i, old = self.slice_args(st, p), par(v.i), par(st.list[p.x])
         on, rule = '', 'assigns'
         if rest is None:
             (on, rest, turn), rule = self.after_part(turn), 'assigns-last'
-        out = m + 'opens-mut ! tt %s %s %s %s %s %s (%s) (λ _. %s ! (of-opd ! (%s)) (from ! (hop ! (look ! %d refl) (stop !))) (store-raw ! 0 refl %s) $ %s\n      ' % (p.row, par(c.vals(t)), par(c.tells(t)), sa, i, none, v.within, rule, o, self.at(st, j, 5), self.typing(x), on)
-        out += 'puts-mut ! tt %s %s %s %s %s (%s %s) %s (%s) (%s) %s $ %s' % (p.row, c.makes(t), sa, i, par(x.e), c.vals(t), par(x.e), par(x.ok), v.within, st.len[p.x], p.room, back)
-        old = st.list[p.x]
-        st.list[p.x] = 'set %s %s %s' % (par(old), par(v.i), par(x.e))
-        same = 'length-set %s %s %s' % (par(old), par(v.i), par(x.e))
+        was, find, cell, new = '_', 'stop !', 'store-raw ! 0 refl', x
+        if path:
+            self.stores += 1
+            was, e = 'g·s%d' % self.stores, 'getD %s %s %s' % (old, i, none)
+            find, part = self.way_to(path)
+            # behind a reference a field that is a struct stands at the raw form of its type
+            rule_in = 'store-in-raw' if x.ty.kind == 'named' else 'store-in'
+            self.stored_raw |= x.ty.kind == 'named'
+            cell = '%s ! 0 (%s)' % (rule_in, part)
+            new = self.changed(Val('plain', ty=t, e=e, ok=was), path, x)
+            st.lams.append((was, c.okty(t, e)))
+        out = m + 'opens-mut ! tt %s %s %s %s %s %s (%s) (λ %s. %s ! (of-opd ! (%s)) (from ! (hop ! (look ! %d refl) (%s))) (%s %s) $ %s\n      ' % (p.row, par(c.vals(t)), par(c.tells(t)), sa, i, none, v.within, was, rule, o, self.at(st, j, 5), find, cell, self.typing(x), on)
+        out += 'puts-mut ! tt %s %s %s %s %s (%s %s) %s (%s) (%s) %s $ ' % (p.row, c.makes(t), sa, i, par(new.e), c.vals(t), par(new.e), par(new.ok), v.within, st.len[p.x], p.room)
+        if path:
+            out += self.note_store(st, p, v, path, x, new)
+        else:
+            self.now_set(st, p, old, i, new)
+        return out + back + '\n      ' + self.go(st, rest, turn) + ')'
+
+    def now_set(self, st, p, ys, i, new, named=False):
+        """the list of p is now ys with element i anew, and as long"""
+        same = 'length-set %s %s %s' % (ys, i, par(new.e))
+        st.list[p.x] = 'set %s %s %s' % (ys, i, par(new.e))
+        if named:
+            st.list[p.x] = self.name_it(st, '%s-set%d' % (p.x, self.stores), p.D, st.list[p.x])
         st.len[p.x] = '%s ∙ sym (%s)' % (st.len[p.x], same)
-        self.hyp(st, 'same-%s%d' % (p.x, len(st.hyps)), 'length %s ≡ length %s' % (par(st.list[p.x]), par(old)), same)
-        return out + '\n      ' + self.go(st, rest, turn) + ')'
+        self.hyp(st, 'same-%s%d' % (p.x, len(st.hyps)), 'length %s ≡ length %s' % (par(st.list[p.x]), ys), same)
+
+    def note_store(self, st, p, v, path, x, new):
+        """the list after a store to a field, under a name. After another store to the same element it is one element set still: else terms double at each"""
+        c, t, i, old, again = self.c, p.ty.elem, par(v.i), par(st.list[p.x]), ''
+        s = self.stored(st, p, v.i)
+        if s:
+            both = self.changed(s.new, path, x)
+            here = 'set %s %s (%s)' % (old, i, self.changed(Val('plain', ty=t, e='y·', ok='_'), path, x).e)
+            proof = 'ap (λ (y· : %s). %s) (getD-set-same %s %s %s %s (%s)) ∙ set-set %s %s %s %s' % (c.D(t), here, s.list, i, par(s.new.e), c.zero(t), s.within, s.list, i, par(s.new.e), par(both.e))
+            again = 'rewrite ! 1 (λ (ys : %s). %s) (%s) refl $ ' % (p.D, self.f.own(p, 'ys', par(p.cnt)), proof)
+            old, new, st.len[p.x] = s.list, both, s.len
+            st.hyps = [h for h in st.hyps if h[0] != s.hyp]
+            self.stored_again = True
+        len_of, within = st.len[p.x], s.within if s else v.within
+        self.now_set(st, p, old, i, new, True)
+        st.stored[p.x] = Stored(left=st.list[p.x], i=v.i, list=old, len=len_of, within=within, new=new, hyp=st.hyps[-1][0])
+        return again
+
+    def stored(self, st, p, i):
+        """the last store to a field, where it was to element i and the list is as it was left"""
+        s = st.stored.get(p.x)
+        return s if s and s.left == st.list[p.x] and s.i == i else None
+
+    def changed(self, v, path, x):
+        """the struct v with x for the field that the path leads to"""
+        if not path:
+            return x
+        parts = [self.field(v, i) for i in range(len(self.c.fields(v.ty.name)))]
+        parts[path[0]] = self.changed(parts[path[0]], path[1:], x)
+        s = self.c.short(v.ty.name)
+        return Val('plain', ty=v.ty, e=' '.join([s + '′.build'] + [par(y.e) for y in parts]), ok=' '.join([s + '′.make'] + [par(y.e) for y in parts] + [par(y.ok) for y in parts]), parts=parts)
+
+    def way_to(self, path):
+        """the steps to a field, and the field's cell within that of its struct"""
+        find, part = 'stop !', 'whole !'
+        for i in path:
+            find, part = 'fld ! refl (%s)' % find, 'sub ! %d refl (%s)' % (i, part)
+        return find, part
 
     def store_field(self, st, k, path, rv, rest, turn):
         text, x, after = self.rvalue(st, None, rv, rest)
         if x.kind != 'plain':
             raise Unsupported('a store to a field of what is not plain')
 
-        def put(v, path):
-            if not path:
-                return x
-            fs = self.c.fields(v.ty.name)
-            parts = [self.field(v, i) for i in range(len(fs))]
-            parts[path[0]] = put(parts[path[0]], path[1:])
-            s = self.c.short(v.ty.name)
-            return Val('plain', ty=v.ty, e=' '.join([s + '′.build'] + [par(y.e) for y in parts]), ok=' '.join([s + '′.make'] + [par(y.e) for y in parts] + [par(y.ok) for y in parts]), parts=parts)
-        find, part = 'stop !', 'whole !'
-        for i in path:
-            find, part = 'fld ! refl (%s)' % find, 'sub ! %d refl (%s)' % (i, part)
+        find, part = self.way_to(path)
         if st.loc.get(k) is None or st.loc[k].kind != 'plain':
             raise Unsupported('a store to a part of _%d' % k)
         at = self.at(st, k)
-        st.loc[k] = put(st.loc[k], path)
+        st.loc[k] = self.changed(st.loc[k], path, x)
         out = '%s ! (%s) (from ! (%s)) (store-in ! %d (%s) %s) $ %s' % ('assigns' if rest is not None else 'assigns-last', text, find, at, part, self.typing(x), after)
         return out + '\n      ' + (self.go(st, rest, turn) if rest is not None else self.ends(st, turn))
 

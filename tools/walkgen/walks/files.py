@@ -54,7 +54,7 @@ class Files:
                     if d + m not in ('Kind', 'Say', 'Call') and 'Generated/%s%s.antt' % (d, m) not in self.files:
                         os.remove(os.path.join(w, d, m + '.antt'))
         # the roots: every module that stands in the folder, so that a run for one function keeps what others cite
-        tops = [t for t in ('Again', 'Flow', 'Through') if t in modules(w)]
+        tops = [t for t in ('Again', 'Flow', 'Through', 'Fields') if t in modules(w)]
         for k in ('Kind', 'Say', 'Call'):
             ms = modules(os.path.join(w, k))
             if ms:
@@ -88,7 +88,15 @@ Written by `tools/walkgen`, and checked by the prover like any proof: nobody has
                 print('%s: it has copies of what is generated in %s. Name %s in its line of crates.txt, and it cites them' % (self.name, x, x))
 
     def through(self):
-        """the module of what is generated for a `&&[T]`. Like Flow it stands in the lowest crate that needs it"""
-        if not self.elsewhere('Through'):
-            self.put('Generated/Through.antt', open(os.path.join(LIB, 'Through.antt.in')).read().replace('@FLOW@', self.made('Flow')))
-        return self.made('Through')
+        """the module of what is generated for a `&&[T]`"""
+        return self.where_needed('Through')
+
+    def fields_stored(self):
+        """the module of what is generated for a store to a field of an element, where the field is a struct"""
+        return self.where_needed('Fields')
+
+    def where_needed(self, name):
+        """a module of no crate. Like Flow it stands in the lowest crate that needs it"""
+        if not self.elsewhere(name):
+            self.put('Generated/%s.antt' % name, open(os.path.join(LIB, name + '.antt.in')).read().replace('@FLOW@', self.made('Flow')))
+        return self.made(name)

@@ -70,6 +70,10 @@ class Proof(Facts):
         if self.made_arrays:
             us += ['use lib.ListN.{replicate}', 'use base.Fml.{flent, fdies}', 'use denote.Lend.{Held}', 'use mir.Syntax.{tyArray}']
             asks_uses.append('use lib.ListN.{replicate}')
+        if self.stored_raw:
+            us.append('use %s.{store-in-raw}' % c.fields_stored())
+        if self.stored_again:
+            us.append('use lib.Seq.{getD-set-same, set-set}')
         if self.lent_parts:
             us += ['use lib.ListN.{take}', 'use native.Mathlib.Nat.{lt-of-lt-of-le}', 'use borrow.Table.Elements.{length-take-le, take-le}', 'use borrow.Rule.Array.Share.{room-take}', 'use %s.{part-same}' % c.made('Again'), 'use %s.{lend-part-mut, back-part-mut, lend-part-shr, back-part-shr, cut-shr}' % c.made('Flow')]
             asks_uses += ['use mathlib.Core.List.{_++_}', 'use lib.ListN.{take, drop}']

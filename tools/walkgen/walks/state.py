@@ -10,6 +10,12 @@ class Val:
         self.__dict__.update(k)
 
 
+class Stored:
+    """what stores to fields have made of one element. list, len: the list before them and its count; i, within: the element's index, and that it is within; new: the element now; left: the list now; hyp: the fact that it is as long"""
+    def __init__(self, **k):
+        self.__dict__.update(k)
+
+
 class State:
     def __init__(self, w):
         f = w.f
@@ -29,9 +35,11 @@ class State:
         self.lams = []
         # how a test came out on this path: its value, and the name of the fact
         self.tested = {}
+        # of each slice the last store to a field of an element
+        self.stored = {}
 
     def copy(self):
         o = State.__new__(State)
         o.loc, o.list, o.len, o.hyps, o.vars, o.lams = dict(self.loc), dict(self.list), dict(self.len), list(self.hyps), list(self.vars), list(self.lams)
-        o.tested, o.extra, o.arrays = dict(self.tested), list(self.extra), dict(self.arrays)
+        o.tested, o.extra, o.arrays, o.stored = dict(self.tested), list(self.extra), dict(self.arrays), dict(self.stored)
         return o

@@ -25,7 +25,8 @@ class Walk(Operands, Elements, Lending, Loops, Exits, Proof):
         self.tests = 0
         self.loops = 0
         self.blocks = 0
-        self.wrote_context = self.made_arrays = self.lent_parts = self.lent_refs = False
+        self.stores = 0
+        self.wrote_context = self.made_arrays = self.lent_parts = self.lent_refs = self.stored_again = self.stored_raw = False
         self.recursive = calls_in(f.mir.body, f.path)
         self.turns = []
         self.author = []
@@ -244,8 +245,8 @@ class Walk(Operands, Elements, Lending, Loops, Exits, Proof):
         dst, rv = s[1], s[2]
         k, steps = int(dst[1]), lst(dst[2])
         if steps:
-            if len(steps) == 1 and steps[0][0] == 'deref' and st.loc.get(k) is not None and st.loc[k].kind == 'elem':
-                return self.store_elem(st, k, rv, rest, turn)
+            if [x[0] for x in steps] == ['deref'] + ['field'] * (len(steps) - 1) and st.loc.get(k) is not None and st.loc[k].kind == 'elem':
+                return self.store_elem(st, k, [int(x[1]) for x in steps[1:]], rv, rest, turn)
             if all(x[0] == 'field' for x in steps) and st.loc.get(k) is not None and st.loc[k].kind == 'plain':
                 return self.store_field(st, k, [int(x[1]) for x in steps], rv, rest, turn)
             raise Unsupported('a store to a part of _%d' % k)
