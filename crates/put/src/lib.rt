@@ -1,8 +1,10 @@
 // PUT: one page of a ticket's update.
 ghost use mathlib.Core.Path.{_≡_};
-ghost use Prim.Native.Nat.{_*_};
+ghost use Prim.Native.Nat.{pred, _*_, _<_};
 ghost use Rattle.pages.specs.Pages.{put};
 ghost use Rattle.table.specs.Table.{unless};
+ghost use Rattle.tree.specs.Tree.{nth};
+ghost use Rattle.register.specs.Register.{noRecord, withRecord};
 ghost use Rattle.versions.specs.Store.{areasOf};
 ghost use Rattle.put.specs.Put.{bitOf, withBit, putRefusal, withPut, putIn, putOut, putPages, putRegister};
 use register::Record;
@@ -12,7 +14,6 @@ use versions::Lengths;
 use versions::Store;
 use versions::capped_sum;
 use versions::lengths_of;
-use versions::put_record;
 use versions::ticket_index;
 use versions::ticket_refusal;
 
@@ -79,13 +80,16 @@ fn put_bytes(pages: &mut [u8], k: u64, size: u64, number: u64, bytes: &[u8])
     }
 }
 
-// A record with page i put.
-fn with_put(r: Record, i: u64) -> Record
-    ensures { λ q. ⌜ q ≡ withPut r i ⌝ }
+// Notes page i as put in the record r of ticket t where the table's number k is 0: the one field that it changes is written.
+fn note_put(register: &mut [Record], k: u64, t: Ticket, r: Record, i: u64)
+    requires { ⌜ (k ≡ 0 → 0 < t .0) × (r ≡ nth noRecord (now register) (t .0)) ⌝ }
+    ensures { λ _. ⌜ now (register .exit) ≡ unless k (now (register .entry)) (withRecord (now (register .entry)) (pred (t .0)) (withPut r i)) ⌝ }
 {
-    let mut q = r;
-    q.put = with_bit(r.put, i);
-    q
+    let at = ticket_index(t);
+    let mask = with_bit(r.put, i);
+    if k == 0 && at < register.len() {
+        register[at].put = mask;
+    }
 }
 
 // What PUT answers, by the table's number k.
@@ -119,6 +123,6 @@ pub fn put(
     let l = lengths_of(pages, nodes, register);
     let k = put_refusal(s, l, r, t, i, bytes.len());
     put_bytes(pages, k, s.size, capped_sum(r.number, i), bytes);
-    put_record(register, k, ticket_index(t), with_put(r, i));
+    note_put(register, k, t, r, i);
     put_answer(k)
 }

@@ -82,21 +82,11 @@ use Rattle.put.proofs.Generated.Call.put_bytes as Call-put-bytes
 use Rattle.put.proofs.put_bytes.Symbol as def-put-bytes
 use Rattle.put.proofs.put_bytes.Symbol.{name as #put-bytes}
 use Rattle.put.proofs.put_bytes.Met as thm-put-bytes
-use Rattle.versions.proofs.Generated.Say.ticket_index as ticket-index″
-use Rattle.versions.proofs.Generated.Call.ticket_index as Call-ticket-index
-use Rattle.versions.proofs.ticket_index.Symbol as def-ticket-index
-use Rattle.versions.proofs.ticket_index.Symbol.{name as #ticket-index}
-use Rattle.versions.proofs.ticket_index.Met as thm-ticket-index
-use Rattle.put.proofs.Generated.Say.with_put as with-put″
-use Rattle.put.proofs.Generated.Call.with_put as Call-with-put
-use Rattle.put.proofs.with_put.Symbol as def-with-put
-use Rattle.put.proofs.with_put.Symbol.{name as #with-put}
-use Rattle.put.proofs.with_put.Met as thm-with-put
-use Rattle.versions.proofs.Generated.Say.put_record as put-record″
-use Rattle.versions.proofs.Generated.Call.put_record as Call-put-record
-use Rattle.versions.proofs.put_record.Symbol as def-put-record
-use Rattle.versions.proofs.put_record.Symbol.{name as #put-record}
-use Rattle.versions.proofs.put_record.Met as thm-put-record
+use Rattle.put.proofs.Generated.Say.note_put as note-put″
+use Rattle.put.proofs.Generated.Call.note_put as Call-note-put
+use Rattle.put.proofs.note_put.Symbol as def-note-put
+use Rattle.put.proofs.note_put.Symbol.{name as #note-put}
+use Rattle.put.proofs.note_put.Met as thm-note-put
 use Rattle.put.proofs.Generated.Say.put_answer as put-answer″
 use Rattle.put.proofs.Generated.Call.put_answer as Call-put-answer
 use Rattle.put.proofs.put_answer.Symbol as def-put-answer
@@ -108,7 +98,7 @@ use Rattle.put.proofs.put.Statement as stated
 use Rattle.put.proofs.put.Code as code
 use Rattle.put.proofs.put.Proof.Facts as Facts
 use denote.Memory.{pointee}
-use Rattle.put.proofs.put.Proof.Asks.{r1, r2, r3, r4, pages₅, r6, r7, register₈, r9}
+use Rattle.put.proofs.put.Proof.Asks.{r1, r2, r3, r4, pages₅, register₆, r7}
 
 abbrev stayed : Stays (put‴.ended .signature .params) (put‴.ended .kept)
 stayed = (stay-none (λ _. Store′.row) yes, (stay-slice (0 ∷ []) tt (plain (λ _. u8)), (stay-none-slice (1 ∷ []) tt (plain (λ _. u32)) yes, (stay-slice (2 ∷ []) tt (plain (λ _. Record′.row)), (stay-none (λ _. Ticket′.row) yes, (stay-none (λ _. u64) yes, (stay-none-slice (3 ∷ []) tt (plain (λ _. u8)) yes, tt)))))))
@@ -131,68 +121,62 @@ module _ {M : Type 1} (𝓤 : URA M) (H : Heap 𝓤) (A : Atoms 𝓤) (W : Given
       qed W (‵ (flft κ·pages q·pages) ∷ ‵ (MutAt u8 κ·pages b·pages o·pages γ·pages (length pages) zs·pages) ∷ ‵ (flft κ·nodes q·nodes) ∷ ‵ (ShrAt u32 κ·nodes b·nodes o·nodes γ·nodes (length nodes) nodes) ∷ ‵ (flft κ·register q·register) ∷ ‵ (MutAt Record′.row κ·register b·register o·register γ·register (length register) zs·register) ∷ ‵ (flft κ·bytes q·bytes) ∷ ‵ (ShrAt u8 κ·bytes b·bytes o·bytes γ·bytes (length bytes) bytes) ∷ []) ∵ suffices ! _ (ends-at 𝓤 H A put‴.ended stayed (put‴.clauses 𝓤 H A mem run) W bound (PutIn′.mach r) r (tt, (zs·pages, (tt, (zs·register, (tt, (tt, (tt, tt))))))) (tt, (same·pages, (tt, (same·register, (tt, (tt, (tt, tt)))))))) $ says ! said $
       nothing ! $ move ! (7 ∷ 0 ∷ []) $ join ! $ move ! (5 ∷ 0 ∷ []) $ join ! $ move ! (3 ∷ 0 ∷ []) $ join ! $ move ! (1 ∷ 0 ∷ []) $ join ! $ frame ! $ nothing ! $ move ! (4 ∷ 0 ∷ []) $ fjoin ! $ owned ! u64 (Is u64) (uint-makes 𝓤 H A W w64) i _ ok·i $ fjoin ! $ owned ! Ticket′.row (Is Ticket′.row) (Ticket′.makes 𝓤 H A) x-t _ ok·x-t $ fjoin ! $ move ! (3 ∷ 0 ∷ []) $ fjoin ! $ move ! (2 ∷ 0 ∷ []) $ fjoin ! $ move ! (1 ∷ 0 ∷ []) $ fjoin ! $ owned ! Store′.row (Is Store′.row) (Store′.makes 𝓤 H A) s _ ok·s $ fjoin ! $ frame ! $ owned ! PutIn′.row (Is PutIn′.row) (PutIn′.makes 𝓤 H A) r _ ok·r $ done !
 
-  walk : (𝓣 : Tables 𝓤 H) (known-ticket-record : Triple 𝓤 (𝓣 .C #ticket-record) (Call-ticket-record.Asked 𝓤 H A mem run)) (known-lengths-of : Triple 𝓤 (𝓣 .C #lengths-of) (Call-lengths-of.Asked 𝓤 H A mem run)) (known-put-refusal : Triple 𝓤 (𝓣 .C #put-refusal) (Call-put-refusal.Asked 𝓤 H A mem run)) (known-capped-sum : Triple 𝓤 (𝓣 .C #capped-sum) (Call-capped-sum.Asked 𝓤 H A mem run)) (known-put-bytes : Triple 𝓤 (𝓣 .C #put-bytes) (Call-put-bytes.Asked 𝓤 H A mem run)) (known-ticket-index : Triple 𝓤 (𝓣 .C #ticket-index) (Call-ticket-index.Asked 𝓤 H A mem run)) (known-with-put : Triple 𝓤 (𝓣 .C #with-put) (Call-with-put.Asked 𝓤 H A mem run)) (known-put-record : Triple 𝓤 (𝓣 .C #put-record) (Call-put-record.Asked 𝓤 H A mem run)) (known-put-answer : Triple 𝓤 (𝓣 .C #put-answer) (Call-put-answer.Asked 𝓤 H A mem run)) → ent 𝓤 (onEntry 𝓤 H A put‴.signature (κ·pages, (κ·nodes, (κ·register, (κ·bytes, tt)))) (q·pages, (q·nodes, (q·register, (q·bytes, tt)))) all-args all-vals)
+  walk : (𝓣 : Tables 𝓤 H) (known-ticket-record : Triple 𝓤 (𝓣 .C #ticket-record) (Call-ticket-record.Asked 𝓤 H A mem run)) (known-lengths-of : Triple 𝓤 (𝓣 .C #lengths-of) (Call-lengths-of.Asked 𝓤 H A mem run)) (known-put-refusal : Triple 𝓤 (𝓣 .C #put-refusal) (Call-put-refusal.Asked 𝓤 H A mem run)) (known-capped-sum : Triple 𝓤 (𝓣 .C #capped-sum) (Call-capped-sum.Asked 𝓤 H A mem run)) (known-put-bytes : Triple 𝓤 (𝓣 .C #put-bytes) (Call-put-bytes.Asked 𝓤 H A mem run)) (known-note-put : Triple 𝓤 (𝓣 .C #note-put) (Call-note-put.Asked 𝓤 H A mem run)) (known-put-answer : Triple 𝓤 (𝓣 .C #put-answer) (Call-put-answer.Asked 𝓤 H A mem run)) → ent 𝓤 (onEntry 𝓤 H A put‴.signature (κ·pages, (κ·nodes, (κ·register, (κ·bytes, tt)))) (q·pages, (q·nodes, (q·register, (q·bytes, tt)))) all-args all-vals)
       (WpFn 𝓤 H (𝓣 .C) (𝓣 .Λ) code.function (Store′.mach s ∷ sliceVal (b·pages, o·pages) (length pages) ∷ sliceVal (b·nodes, o·nodes) (length nodes) ∷ sliceVal (b·register, o·register) (length register) ∷ Ticket′.mach x-t ∷ vint w64 i ∷ sliceVal (b·bytes, o·bytes) (length bytes) ∷ []) Post)
-  walk 𝓣 known-ticket-record known-lengths-of known-put-refusal known-capped-sum known-put-bytes known-ticket-index known-with-put known-put-record known-put-answer =
+  walk 𝓣 known-ticket-record known-lengths-of known-put-refusal known-capped-sum known-put-bytes known-note-put known-put-answer =
       qed W ((‵ (flft κ·pages q·pages) ⊛ ‵ (flft κ·nodes q·nodes) ⊛ ‵ (flft κ·register q·register) ⊛ ‵ (flft κ·bytes q·bytes) ⊛ ‵ ftrue) ∷ ‵ (owns (Store′.row ∷ MutSlice (named 0) κ·pages u8 ∷ ShrSlice (named 0) κ·nodes u32 ∷ MutSlice (named 0) κ·register Record′.row ∷ Ticket′.row ∷ u64 ∷ ShrSlice (named 0) κ·bytes u8 ∷ []) all-args all-vals) ∷ []) ∵ enter ! (𝓣 .C) (𝓣 .Λ) code.function (Store′.mach s ∷ sliceVal (b·pages, o·pages) (length pages) ∷ sliceVal (b·nodes, o·nodes) (length nodes) ∷ sliceVal (b·register, o·register) (length register) ∷ Ticket′.mach x-t ∷ vint w64 i ∷ sliceVal (b·bytes, o·bytes) (length bytes) ∷ []) _ $
-      alloc1 ! (λ l₀. alloc1 ! (λ l₁. alloc1 ! (λ l₂. alloc1 ! (λ l₃. alloc1 ! (λ l₄. alloc1 ! (λ l₅. alloc1 ! (λ l₆. alloc1 ! (λ l₇. alloc1 ! (λ l₈. alloc1 ! (λ l₉. alloc1 ! (λ l₁₀. alloc1 ! (λ l₁₁. alloc1 ! (λ l₁₂. alloc1 ! (λ l₁₃. alloc1 ! (λ l₁₄. alloc1 ! (λ l₁₅. alloc1 ! (λ l₁₆. alloc1 ! (λ l₁₇. alloc1 ! (λ l₁₈. alloc1 ! (λ l₁₉. alloc1 ! (λ l₂₀. alloc1 ! (λ l₂₁. alloc1 ! (λ l₂₂. alloc1 ! (λ l₂₃. alloc1 ! (λ l₂₄. alloc0 ! $ params1 ! $
-      pass1 ! (init ! 46 refl (Store′.typed 𝓤 H A W s ok·s)) $ pass1 ! (init ! 44 refl (tt, (tt, (record { fits = room·pages .0 }, tt)))) $ pass1 ! (init ! 42 refl (tt, (tt, (record { fits = room·nodes .0 }, tt)))) $ pass1 ! (init ! 40 refl (tt, (tt, (record { fits = room·register .0 }, tt)))) $ pass1 ! (init ! 38 refl (Ticket′.typed 𝓤 H A W x-t ok·x-t)) $ pass1 ! (init ! 36 refl (tt, record { fits = ok·i .1 })) $ pass1 ! (init ! 34 refl (tt, (tt, (record { fits = room·bytes .0 }, tt)))) $ pass0 ! $
-      move ! (51 ∷ []) $ fsplit ! $ drop ! $ fsplit ! $ move ! (1 ∷ []) $ fsplit ! $ move ! (1 ∷ []) $ fsplit ! $ move ! (1 ∷ []) $ fsplit ! $ drop ! $ fsplit ! $ drop ! $ fsplit ! $ move ! (1 ∷ []) $ drop ! $ move ! (54 ∷ []) $ split ! $ move ! (1 ∷ []) $ split ! $ move ! (1 ∷ []) $ split ! $ move ! (1 ∷ []) $ split ! $ move ! (1 ∷ []) $ drop ! $ move ! (3 ∷ 7 ∷ 2 ∷ 6 ∷ 1 ∷ 5 ∷ 0 ∷ 4 ∷ []) $
-      assigns ! (addr ! (from ! (fld ! refl (hop ! (look-in ! 48 (sub ! 0 refl (whole !))) (stop !))))) (from ! (stop !)) (init ! 34 refl (tt, tt)) $
-      assigns ! (agg ! (and-then ! (load ! (from ! (stop !)) (look ! 34 refl)) (and-then ! (load ! (from ! (fld ! refl (stop !))) (look-in ! 48 (sub ! 1 refl (whole !)))) (no-more !)))) (from ! (stop !)) (init ! 32 refl (tt, (tt, (record { fits = room·register .0 }, tt)))) $
+      alloc1 ! (λ l₀. alloc1 ! (λ l₁. alloc1 ! (λ l₂. alloc1 ! (λ l₃. alloc1 ! (λ l₄. alloc1 ! (λ l₅. alloc1 ! (λ l₆. alloc1 ! (λ l₇. alloc1 ! (λ l₈. alloc1 ! (λ l₉. alloc1 ! (λ l₁₀. alloc1 ! (λ l₁₁. alloc1 ! (λ l₁₂. alloc1 ! (λ l₁₃. alloc1 ! (λ l₁₄. alloc1 ! (λ l₁₅. alloc1 ! (λ l₁₆. alloc1 ! (λ l₁₇. alloc1 ! (λ l₁₈. alloc1 ! (λ l₁₉. alloc1 ! (λ l₂₀. alloc1 ! (λ l₂₁. alloc1 ! (λ l₂₂. alloc1 ! (λ l₂₃. alloc0 ! $ params1 ! $
+      pass1 ! (init ! 44 refl (Store′.typed 𝓤 H A W s ok·s)) $ pass1 ! (init ! 42 refl (tt, (tt, (record { fits = room·pages .0 }, tt)))) $ pass1 ! (init ! 40 refl (tt, (tt, (record { fits = room·nodes .0 }, tt)))) $ pass1 ! (init ! 38 refl (tt, (tt, (record { fits = room·register .0 }, tt)))) $ pass1 ! (init ! 36 refl (Ticket′.typed 𝓤 H A W x-t ok·x-t)) $ pass1 ! (init ! 34 refl (tt, record { fits = ok·i .1 })) $ pass1 ! (init ! 32 refl (tt, (tt, (record { fits = room·bytes .0 }, tt)))) $ pass0 ! $
+      move ! (49 ∷ []) $ fsplit ! $ drop ! $ fsplit ! $ move ! (1 ∷ []) $ fsplit ! $ move ! (1 ∷ []) $ fsplit ! $ move ! (1 ∷ []) $ fsplit ! $ drop ! $ fsplit ! $ drop ! $ fsplit ! $ move ! (1 ∷ []) $ drop ! $ move ! (52 ∷ []) $ split ! $ move ! (1 ∷ []) $ split ! $ move ! (1 ∷ []) $ split ! $ move ! (1 ∷ []) $ split ! $ move ! (1 ∷ []) $ drop ! $ move ! (3 ∷ 7 ∷ 2 ∷ 6 ∷ 1 ∷ 5 ∷ 0 ∷ 4 ∷ []) $
+      assigns ! (addr ! (from ! (fld ! refl (hop ! (look-in ! 46 (sub ! 0 refl (whole !))) (stop !))))) (from ! (stop !)) (init ! 32 refl (tt, tt)) $
+      assigns ! (agg ! (and-then ! (load ! (from ! (stop !)) (look ! 32 refl)) (and-then ! (load ! (from ! (fld ! refl (stop !))) (look-in ! 46 (sub ! 1 refl (whole !)))) (no-more !)))) (from ! (stop !)) (init ! 30 refl (tt, (tt, (record { fits = room·register .0 }, tt)))) $
       move ! (4 ∷ 5 ∷ []) $ lend-shr ! tt Record′.row κ·register q·register b·register o·register γ·register (length register) register (refl) (λ ν·1-register γ·1-register.
-      Call-ticket-record.calls ! mem run (fmOf 𝓤 H (W .laws) 𝓣) known-ticket-record (ν·1-register ∷ []) fullShare b·register o·register γ·1-register (length register) register x-t ok·x-t (and-then ! (load ! (from ! (stop !)) (look ! 33 refl)) (and-then ! (load ! (from ! (stop !)) (look ! 47 refl)) (no-more !)))
-      (λ ok·1. back-shr ! tt Record′.row κ·register q·register b·register o·register γ·register (length register) register ν·1-register (refl) room·register $ move ! (2 ∷ 3 ∷ 4 ∷ 5 ∷ 0 ∷ 1 ∷ 6 ∷ 7 ∷ []) $ land ! (from ! (stop !)) (init ! 40 refl (Record′.typed 𝓤 H A W (r1 s pages nodes register x-t i bytes) ok·1)) $
-      here ! (‵ (flft κ·pages q·pages) ∷ ‵ (MutAt u8 κ·pages b·pages o·pages γ·pages (length pages) pages) ∷ ‵ (flft κ·nodes q·nodes) ∷ ‵ (ShrAt u32 κ·nodes b·nodes o·nodes γ·nodes (length nodes) nodes) ∷ ‵ (flft κ·register q·register) ∷ ‵ (MutAt Record′.row κ·register b·register o·register γ·register (length register) register) ∷ ‵ (flft κ·bytes q·bytes) ∷ ‵ (ShrAt u8 κ·bytes b·bytes o·bytes γ·bytes (length bytes) bytes) ∷ empty (tyAt (code.function .locals) 24) l₂₄ (empty (sliceTy (tyRef erased mut (pointee (Record′.row .written)))) l₂₃ (empty (tyRef erased mut (pointee (Record′.row .written))) l₂₂ (empty (tyInt w64) l₂₁ (empty (sliceTy (tyRef erased mut (pointee (u8 .written)))) l₂₀ (empty (tyRef erased mut (pointee (u8 .written))) l₁₉ (empty tyUnit l₁₈ (empty (tyInt w64) l₁₇ (empty (sliceTy (tyRef erased imm (pointee (Record′.row .written)))) l₁₆ (empty (tyRef erased imm (pointee (Record′.row .written))) l₁₅ (empty (sliceTy (tyRef erased imm (pointee (u8 .written)))) l₁₄ (empty (tyRef erased imm (pointee (u8 .written))) l₁₃ (holds (sliceTy (tyRef erased imm (pointee (Record′.row .written)))) l₁₂ (sliceVal (b·register, o·register) (length register)) (holds (tyRef erased imm (pointee (Record′.row .written))) l₁₁ (vptr b·register o·register) (empty (tyInt w64) l₁₀ (empty (tyAt (code.function .locals) 9) l₉ (holds (tyAt (code.function .locals) 8) l₈ (Record′.mach (r1 s pages nodes register x-t i bytes)) (holds (sliceTy (tyRef (named 3) imm (pointee (u8 .written)))) l₇ (sliceVal (b·bytes, o·bytes) (length bytes)) (holds (tyInt w64) l₆ (vint w64 i) (holds (tyAt (code.function .locals) 5) l₅ (Ticket′.mach x-t) (holds (sliceTy (tyRef (named 2) mut (pointee (Record′.row .written)))) l₄ (sliceVal (b·register, o·register) (length register)) (holds (sliceTy (tyRef (named 1) imm (pointee (u32 .written)))) l₃ (sliceVal (b·nodes, o·nodes) (length nodes)) (holds (sliceTy (tyRef (named 0) mut (pointee (u8 .written)))) l₂ (sliceVal (b·pages, o·pages) (length pages)) (holds (tyAt (code.function .locals) 1) l₁ (Store′.mach s) (empty (tyAt (code.function .locals) 0) l₀ []))))))))))))))))))))))))) $
-      assigns ! (addr ! (from ! (fld ! refl (hop ! (look-in ! 52 (sub ! 0 refl (whole !))) (stop !))))) (from ! (stop !)) (init ! 30 refl (tt, tt)) $
-      assigns ! (agg ! (and-then ! (load ! (from ! (stop !)) (look ! 30 refl)) (and-then ! (load ! (from ! (fld ! refl (stop !))) (look-in ! 52 (sub ! 1 refl (whole !)))) (no-more !)))) (from ! (stop !)) (init ! 28 refl (tt, (tt, (record { fits = room·pages .0 }, tt)))) $
-      assigns ! (addr ! (from ! (fld ! refl (hop ! (look-in ! 48 (sub ! 0 refl (whole !))) (stop !))))) (from ! (stop !)) (init ! 26 refl (tt, tt)) $
-      assigns ! (agg ! (and-then ! (load ! (from ! (stop !)) (look ! 26 refl)) (and-then ! (load ! (from ! (fld ! refl (stop !))) (look-in ! 48 (sub ! 1 refl (whole !)))) (no-more !)))) (from ! (stop !)) (init ! 24 refl (tt, (tt, (record { fits = room·register .0 }, tt)))) $
+      Call-ticket-record.calls ! mem run (fmOf 𝓤 H (W .laws) 𝓣) known-ticket-record (ν·1-register ∷ []) fullShare b·register o·register γ·1-register (length register) register x-t ok·x-t (and-then ! (load ! (from ! (stop !)) (look ! 31 refl)) (and-then ! (load ! (from ! (stop !)) (look ! 45 refl)) (no-more !)))
+      (λ ok·1. back-shr ! tt Record′.row κ·register q·register b·register o·register γ·register (length register) register ν·1-register (refl) room·register $ move ! (2 ∷ 3 ∷ 4 ∷ 5 ∷ 0 ∷ 1 ∷ 6 ∷ 7 ∷ []) $ land ! (from ! (stop !)) (init ! 38 refl (Record′.typed 𝓤 H A W (r1 s pages nodes register x-t i bytes) ok·1)) $
+      here ! (‵ (flft κ·pages q·pages) ∷ ‵ (MutAt u8 κ·pages b·pages o·pages γ·pages (length pages) pages) ∷ ‵ (flft κ·nodes q·nodes) ∷ ‵ (ShrAt u32 κ·nodes b·nodes o·nodes γ·nodes (length nodes) nodes) ∷ ‵ (flft κ·register q·register) ∷ ‵ (MutAt Record′.row κ·register b·register o·register γ·register (length register) register) ∷ ‵ (flft κ·bytes q·bytes) ∷ ‵ (ShrAt u8 κ·bytes b·bytes o·bytes γ·bytes (length bytes) bytes) ∷ empty (sliceTy (tyRef erased mut (pointee (Record′.row .written)))) l₂₃ (empty (tyRef erased mut (pointee (Record′.row .written))) l₂₂ (empty (tyInt w64) l₂₁ (empty (sliceTy (tyRef erased mut (pointee (u8 .written)))) l₂₀ (empty (tyRef erased mut (pointee (u8 .written))) l₁₉ (empty tyUnit l₁₈ (empty (tyInt w64) l₁₇ (empty (sliceTy (tyRef erased imm (pointee (Record′.row .written)))) l₁₆ (empty (tyRef erased imm (pointee (Record′.row .written))) l₁₅ (empty (sliceTy (tyRef erased imm (pointee (u8 .written)))) l₁₄ (empty (tyRef erased imm (pointee (u8 .written))) l₁₃ (holds (sliceTy (tyRef erased imm (pointee (Record′.row .written)))) l₁₂ (sliceVal (b·register, o·register) (length register)) (holds (tyRef erased imm (pointee (Record′.row .written))) l₁₁ (vptr b·register o·register) (empty (tyInt w64) l₁₀ (empty (tyAt (code.function .locals) 9) l₉ (holds (tyAt (code.function .locals) 8) l₈ (Record′.mach (r1 s pages nodes register x-t i bytes)) (holds (sliceTy (tyRef (named 3) imm (pointee (u8 .written)))) l₇ (sliceVal (b·bytes, o·bytes) (length bytes)) (holds (tyInt w64) l₆ (vint w64 i) (holds (tyAt (code.function .locals) 5) l₅ (Ticket′.mach x-t) (holds (sliceTy (tyRef (named 2) mut (pointee (Record′.row .written)))) l₄ (sliceVal (b·register, o·register) (length register)) (holds (sliceTy (tyRef (named 1) imm (pointee (u32 .written)))) l₃ (sliceVal (b·nodes, o·nodes) (length nodes)) (holds (sliceTy (tyRef (named 0) mut (pointee (u8 .written)))) l₂ (sliceVal (b·pages, o·pages) (length pages)) (holds (tyAt (code.function .locals) 1) l₁ (Store′.mach s) (empty (tyAt (code.function .locals) 0) l₀ [])))))))))))))))))))))))) $
+      assigns ! (addr ! (from ! (fld ! refl (hop ! (look-in ! 50 (sub ! 0 refl (whole !))) (stop !))))) (from ! (stop !)) (init ! 28 refl (tt, tt)) $
+      assigns ! (agg ! (and-then ! (load ! (from ! (stop !)) (look ! 28 refl)) (and-then ! (load ! (from ! (fld ! refl (stop !))) (look-in ! 50 (sub ! 1 refl (whole !)))) (no-more !)))) (from ! (stop !)) (init ! 26 refl (tt, (tt, (record { fits = room·pages .0 }, tt)))) $
+      assigns ! (addr ! (from ! (fld ! refl (hop ! (look-in ! 46 (sub ! 0 refl (whole !))) (stop !))))) (from ! (stop !)) (init ! 24 refl (tt, tt)) $
+      assigns ! (agg ! (and-then ! (load ! (from ! (stop !)) (look ! 24 refl)) (and-then ! (load ! (from ! (fld ! refl (stop !))) (look-in ! 46 (sub ! 1 refl (whole !)))) (no-more !)))) (from ! (stop !)) (init ! 22 refl (tt, (tt, (record { fits = room·register .0 }, tt)))) $
       lend-shr ! tt u8 κ·pages q·pages b·pages o·pages γ·pages (length pages) pages (refl) (λ ν·2-pages γ·2-pages. move ! (5 ∷ 6 ∷ []) $ lend-shr ! tt Record′.row κ·register q·register b·register o·register γ·register (length register) register (refl) (λ ν·2-register γ·2-register. move ! (3 ∷ 4 ∷ 6 ∷ 7 ∷ 0 ∷ 1 ∷ []) $
-      Call-lengths-of.calls ! mem run (fmOf 𝓤 H (W .laws) 𝓣) known-lengths-of (ν·2-pages ∷ []) fullShare b·pages o·pages γ·2-pages (length pages) pages κ·nodes q·nodes b·nodes o·nodes γ·nodes (length nodes) nodes (ν·2-register ∷ []) fullShare b·register o·register γ·2-register (length register) register (and-then ! (load ! (from ! (stop !)) (look ! 28 refl)) (and-then ! (load ! (from ! (stop !)) (look ! 50 refl)) (and-then ! (load ! (from ! (stop !)) (look ! 24 refl)) (no-more !))))
-      (λ ok·2. move ! (0 ∷ 1 ∷ 7 ∷ []) $ back-shr ! tt u8 κ·pages q·pages b·pages o·pages γ·pages (length pages) pages ν·2-pages (refl) room·pages $ move ! (4 ∷ 5 ∷ 6 ∷ []) $ back-shr ! tt Record′.row κ·register q·register b·register o·register γ·register (length register) register ν·2-register (refl) room·register $ move ! (2 ∷ 3 ∷ 4 ∷ 5 ∷ 0 ∷ 1 ∷ 6 ∷ 7 ∷ []) $ land ! (from ! (stop !)) (init ! 38 refl (Lengths′.typed 𝓤 H A W (r2 s pages nodes register x-t i bytes) ok·2)) $
-      here ! (‵ (flft κ·pages q·pages) ∷ ‵ (MutAt u8 κ·pages b·pages o·pages γ·pages (length pages) pages) ∷ ‵ (flft κ·nodes q·nodes) ∷ ‵ (ShrAt u32 κ·nodes b·nodes o·nodes γ·nodes (length nodes) nodes) ∷ ‵ (flft κ·register q·register) ∷ ‵ (MutAt Record′.row κ·register b·register o·register γ·register (length register) register) ∷ ‵ (flft κ·bytes q·bytes) ∷ ‵ (ShrAt u8 κ·bytes b·bytes o·bytes γ·bytes (length bytes) bytes) ∷ empty (tyAt (code.function .locals) 24) l₂₄ (empty (sliceTy (tyRef erased mut (pointee (Record′.row .written)))) l₂₃ (empty (tyRef erased mut (pointee (Record′.row .written))) l₂₂ (empty (tyInt w64) l₂₁ (empty (sliceTy (tyRef erased mut (pointee (u8 .written)))) l₂₀ (empty (tyRef erased mut (pointee (u8 .written))) l₁₉ (empty tyUnit l₁₈ (empty (tyInt w64) l₁₇ (holds (sliceTy (tyRef erased imm (pointee (Record′.row .written)))) l₁₆ (sliceVal (b·register, o·register) (length register)) (holds (tyRef erased imm (pointee (Record′.row .written))) l₁₅ (vptr b·register o·register) (holds (sliceTy (tyRef erased imm (pointee (u8 .written)))) l₁₄ (sliceVal (b·pages, o·pages) (length pages)) (holds (tyRef erased imm (pointee (u8 .written))) l₁₃ (vptr b·pages o·pages) (holds (sliceTy (tyRef erased imm (pointee (Record′.row .written)))) l₁₂ (sliceVal (b·register, o·register) (length register)) (holds (tyRef erased imm (pointee (Record′.row .written))) l₁₁ (vptr b·register o·register) (empty (tyInt w64) l₁₀ (holds (tyAt (code.function .locals) 9) l₉ (Lengths′.mach (r2 s pages nodes register x-t i bytes)) (holds (tyAt (code.function .locals) 8) l₈ (Record′.mach (r1 s pages nodes register x-t i bytes)) (holds (sliceTy (tyRef (named 3) imm (pointee (u8 .written)))) l₇ (sliceVal (b·bytes, o·bytes) (length bytes)) (holds (tyInt w64) l₆ (vint w64 i) (holds (tyAt (code.function .locals) 5) l₅ (Ticket′.mach x-t) (holds (sliceTy (tyRef (named 2) mut (pointee (Record′.row .written)))) l₄ (sliceVal (b·register, o·register) (length register)) (holds (sliceTy (tyRef (named 1) imm (pointee (u32 .written)))) l₃ (sliceVal (b·nodes, o·nodes) (length nodes)) (holds (sliceTy (tyRef (named 0) mut (pointee (u8 .written)))) l₂ (sliceVal (b·pages, o·pages) (length pages)) (holds (tyAt (code.function .locals) 1) l₁ (Store′.mach s) (empty (tyAt (code.function .locals) 0) l₀ []))))))))))))))))))))))))) $
-      assigns ! (of-opd ! (load ! (from ! (fld ! refl (stop !))) (look-in ! 42 (sub ! 1 refl (whole !))))) (from ! (stop !)) (init ! 22 refl (tt, record { fits = room·bytes .0 })) $
-      Call-put-refusal.calls ! mem run (fmOf 𝓤 H (W .laws) 𝓣) known-put-refusal s (r2 s pages nodes register x-t i bytes) (r1 s pages nodes register x-t i bytes) x-t i (length bytes) ok·s ok·2 ok·1 ok·x-t ok·i (refl, room·bytes .0) (and-then ! (load ! (from ! (stop !)) (look ! 55 refl)) (and-then ! (load ! (from ! (stop !)) (look ! 39 refl)) (and-then ! (load ! (from ! (stop !)) (look ! 41 refl)) (and-then ! (load ! (from ! (stop !)) (look ! 47 refl)) (and-then ! (load ! (from ! (stop !)) (look ! 45 refl)) (and-then ! (load ! (from ! (stop !)) (look ! 23 refl)) (no-more !)))))))
-      (λ ok·3. land ! (from ! (stop !)) (init ! 36 refl (tt, record { fits = ok·3 .1 })) $
-      here ! (‵ (flft κ·pages q·pages) ∷ ‵ (MutAt u8 κ·pages b·pages o·pages γ·pages (length pages) pages) ∷ ‵ (flft κ·nodes q·nodes) ∷ ‵ (ShrAt u32 κ·nodes b·nodes o·nodes γ·nodes (length nodes) nodes) ∷ ‵ (flft κ·register q·register) ∷ ‵ (MutAt Record′.row κ·register b·register o·register γ·register (length register) register) ∷ ‵ (flft κ·bytes q·bytes) ∷ ‵ (ShrAt u8 κ·bytes b·bytes o·bytes γ·bytes (length bytes) bytes) ∷ empty (tyAt (code.function .locals) 24) l₂₄ (empty (sliceTy (tyRef erased mut (pointee (Record′.row .written)))) l₂₃ (empty (tyRef erased mut (pointee (Record′.row .written))) l₂₂ (empty (tyInt w64) l₂₁ (empty (sliceTy (tyRef erased mut (pointee (u8 .written)))) l₂₀ (empty (tyRef erased mut (pointee (u8 .written))) l₁₉ (empty tyUnit l₁₈ (holds (tyInt w64) l₁₇ (vint w64 (length bytes)) (holds (sliceTy (tyRef erased imm (pointee (Record′.row .written)))) l₁₆ (sliceVal (b·register, o·register) (length register)) (holds (tyRef erased imm (pointee (Record′.row .written))) l₁₅ (vptr b·register o·register) (holds (sliceTy (tyRef erased imm (pointee (u8 .written)))) l₁₄ (sliceVal (b·pages, o·pages) (length pages)) (holds (tyRef erased imm (pointee (u8 .written))) l₁₃ (vptr b·pages o·pages) (holds (sliceTy (tyRef erased imm (pointee (Record′.row .written)))) l₁₂ (sliceVal (b·register, o·register) (length register)) (holds (tyRef erased imm (pointee (Record′.row .written))) l₁₁ (vptr b·register o·register) (holds (tyInt w64) l₁₀ (vint w64 (r3 s pages nodes register x-t i bytes)) (holds (tyAt (code.function .locals) 9) l₉ (Lengths′.mach (r2 s pages nodes register x-t i bytes)) (holds (tyAt (code.function .locals) 8) l₈ (Record′.mach (r1 s pages nodes register x-t i bytes)) (holds (sliceTy (tyRef (named 3) imm (pointee (u8 .written)))) l₇ (sliceVal (b·bytes, o·bytes) (length bytes)) (holds (tyInt w64) l₆ (vint w64 i) (holds (tyAt (code.function .locals) 5) l₅ (Ticket′.mach x-t) (holds (sliceTy (tyRef (named 2) mut (pointee (Record′.row .written)))) l₄ (sliceVal (b·register, o·register) (length register)) (holds (sliceTy (tyRef (named 1) imm (pointee (u32 .written)))) l₃ (sliceVal (b·nodes, o·nodes) (length nodes)) (holds (sliceTy (tyRef (named 0) mut (pointee (u8 .written)))) l₂ (sliceVal (b·pages, o·pages) (length pages)) (holds (tyAt (code.function .locals) 1) l₁ (Store′.mach s) (empty (tyAt (code.function .locals) 0) l₀ []))))))))))))))))))))))))) $
-      assigns ! (addr ! (from ! (fld ! refl (hop ! (look-in ! 52 (sub ! 0 refl (whole !))) (stop !))))) (from ! (stop !)) (init ! 18 refl (tt, tt)) $
-      assigns ! (agg ! (and-then ! (load ! (from ! (stop !)) (look ! 18 refl)) (and-then ! (load ! (from ! (fld ! refl (stop !))) (look-in ! 52 (sub ! 1 refl (whole !)))) (no-more !)))) (from ! (stop !)) (init ! 16 refl (tt, (tt, (record { fits = room·pages .0 }, tt)))) $
-      Call-capped-sum.calls ! mem run (fmOf 𝓤 H (W .laws) 𝓣) known-capped-sum ((r1 s pages nodes register x-t i bytes) .number) i (Record′.ok-number (r1 s pages nodes register x-t i bytes) ok·1) ok·i (and-then ! (load ! (from ! (fld ! refl (stop !))) (look-in ! 41 (sub ! 1 refl (whole !)))) (and-then ! (load ! (from ! (stop !)) (look ! 45 refl)) (no-more !)))
-      (λ ok·4. land ! (from ! (stop !)) (init ! 14 refl (tt, record { fits = ok·4 .1 })) $
-      here ! (‵ (flft κ·pages q·pages) ∷ ‵ (MutAt u8 κ·pages b·pages o·pages γ·pages (length pages) pages) ∷ ‵ (flft κ·nodes q·nodes) ∷ ‵ (ShrAt u32 κ·nodes b·nodes o·nodes γ·nodes (length nodes) nodes) ∷ ‵ (flft κ·register q·register) ∷ ‵ (MutAt Record′.row κ·register b·register o·register γ·register (length register) register) ∷ ‵ (flft κ·bytes q·bytes) ∷ ‵ (ShrAt u8 κ·bytes b·bytes o·bytes γ·bytes (length bytes) bytes) ∷ empty (tyAt (code.function .locals) 24) l₂₄ (empty (sliceTy (tyRef erased mut (pointee (Record′.row .written)))) l₂₃ (empty (tyRef erased mut (pointee (Record′.row .written))) l₂₂ (holds (tyInt w64) l₂₁ (vint w64 (r4 s pages nodes register x-t i bytes)) (holds (sliceTy (tyRef erased mut (pointee (u8 .written)))) l₂₀ (sliceVal (b·pages, o·pages) (length pages)) (holds (tyRef erased mut (pointee (u8 .written))) l₁₉ (vptr b·pages o·pages) (empty tyUnit l₁₈ (holds (tyInt w64) l₁₇ (vint w64 (length bytes)) (holds (sliceTy (tyRef erased imm (pointee (Record′.row .written)))) l₁₆ (sliceVal (b·register, o·register) (length register)) (holds (tyRef erased imm (pointee (Record′.row .written))) l₁₅ (vptr b·register o·register) (holds (sliceTy (tyRef erased imm (pointee (u8 .written)))) l₁₄ (sliceVal (b·pages, o·pages) (length pages)) (holds (tyRef erased imm (pointee (u8 .written))) l₁₃ (vptr b·pages o·pages) (holds (sliceTy (tyRef erased imm (pointee (Record′.row .written)))) l₁₂ (sliceVal (b·register, o·register) (length register)) (holds (tyRef erased imm (pointee (Record′.row .written))) l₁₁ (vptr b·register o·register) (holds (tyInt w64) l₁₀ (vint w64 (r3 s pages nodes register x-t i bytes)) (holds (tyAt (code.function .locals) 9) l₉ (Lengths′.mach (r2 s pages nodes register x-t i bytes)) (holds (tyAt (code.function .locals) 8) l₈ (Record′.mach (r1 s pages nodes register x-t i bytes)) (holds (sliceTy (tyRef (named 3) imm (pointee (u8 .written)))) l₇ (sliceVal (b·bytes, o·bytes) (length bytes)) (holds (tyInt w64) l₆ (vint w64 i) (holds (tyAt (code.function .locals) 5) l₅ (Ticket′.mach x-t) (holds (sliceTy (tyRef (named 2) mut (pointee (Record′.row .written)))) l₄ (sliceVal (b·register, o·register) (length register)) (holds (sliceTy (tyRef (named 1) imm (pointee (u32 .written)))) l₃ (sliceVal (b·nodes, o·nodes) (length nodes)) (holds (sliceTy (tyRef (named 0) mut (pointee (u8 .written)))) l₂ (sliceVal (b·pages, o·pages) (length pages)) (holds (tyAt (code.function .locals) 1) l₁ (Store′.mach s) (empty (tyAt (code.function .locals) 0) l₀ []))))))))))))))))))))))))) $
+      Call-lengths-of.calls ! mem run (fmOf 𝓤 H (W .laws) 𝓣) known-lengths-of (ν·2-pages ∷ []) fullShare b·pages o·pages γ·2-pages (length pages) pages κ·nodes q·nodes b·nodes o·nodes γ·nodes (length nodes) nodes (ν·2-register ∷ []) fullShare b·register o·register γ·2-register (length register) register (and-then ! (load ! (from ! (stop !)) (look ! 26 refl)) (and-then ! (load ! (from ! (stop !)) (look ! 48 refl)) (and-then ! (load ! (from ! (stop !)) (look ! 22 refl)) (no-more !))))
+      (λ ok·2. move ! (0 ∷ 1 ∷ 7 ∷ []) $ back-shr ! tt u8 κ·pages q·pages b·pages o·pages γ·pages (length pages) pages ν·2-pages (refl) room·pages $ move ! (4 ∷ 5 ∷ 6 ∷ []) $ back-shr ! tt Record′.row κ·register q·register b·register o·register γ·register (length register) register ν·2-register (refl) room·register $ move ! (2 ∷ 3 ∷ 4 ∷ 5 ∷ 0 ∷ 1 ∷ 6 ∷ 7 ∷ []) $ land ! (from ! (stop !)) (init ! 36 refl (Lengths′.typed 𝓤 H A W (r2 s pages nodes register x-t i bytes) ok·2)) $
+      here ! (‵ (flft κ·pages q·pages) ∷ ‵ (MutAt u8 κ·pages b·pages o·pages γ·pages (length pages) pages) ∷ ‵ (flft κ·nodes q·nodes) ∷ ‵ (ShrAt u32 κ·nodes b·nodes o·nodes γ·nodes (length nodes) nodes) ∷ ‵ (flft κ·register q·register) ∷ ‵ (MutAt Record′.row κ·register b·register o·register γ·register (length register) register) ∷ ‵ (flft κ·bytes q·bytes) ∷ ‵ (ShrAt u8 κ·bytes b·bytes o·bytes γ·bytes (length bytes) bytes) ∷ empty (sliceTy (tyRef erased mut (pointee (Record′.row .written)))) l₂₃ (empty (tyRef erased mut (pointee (Record′.row .written))) l₂₂ (empty (tyInt w64) l₂₁ (empty (sliceTy (tyRef erased mut (pointee (u8 .written)))) l₂₀ (empty (tyRef erased mut (pointee (u8 .written))) l₁₉ (empty tyUnit l₁₈ (empty (tyInt w64) l₁₇ (holds (sliceTy (tyRef erased imm (pointee (Record′.row .written)))) l₁₆ (sliceVal (b·register, o·register) (length register)) (holds (tyRef erased imm (pointee (Record′.row .written))) l₁₅ (vptr b·register o·register) (holds (sliceTy (tyRef erased imm (pointee (u8 .written)))) l₁₄ (sliceVal (b·pages, o·pages) (length pages)) (holds (tyRef erased imm (pointee (u8 .written))) l₁₃ (vptr b·pages o·pages) (holds (sliceTy (tyRef erased imm (pointee (Record′.row .written)))) l₁₂ (sliceVal (b·register, o·register) (length register)) (holds (tyRef erased imm (pointee (Record′.row .written))) l₁₁ (vptr b·register o·register) (empty (tyInt w64) l₁₀ (holds (tyAt (code.function .locals) 9) l₉ (Lengths′.mach (r2 s pages nodes register x-t i bytes)) (holds (tyAt (code.function .locals) 8) l₈ (Record′.mach (r1 s pages nodes register x-t i bytes)) (holds (sliceTy (tyRef (named 3) imm (pointee (u8 .written)))) l₇ (sliceVal (b·bytes, o·bytes) (length bytes)) (holds (tyInt w64) l₆ (vint w64 i) (holds (tyAt (code.function .locals) 5) l₅ (Ticket′.mach x-t) (holds (sliceTy (tyRef (named 2) mut (pointee (Record′.row .written)))) l₄ (sliceVal (b·register, o·register) (length register)) (holds (sliceTy (tyRef (named 1) imm (pointee (u32 .written)))) l₃ (sliceVal (b·nodes, o·nodes) (length nodes)) (holds (sliceTy (tyRef (named 0) mut (pointee (u8 .written)))) l₂ (sliceVal (b·pages, o·pages) (length pages)) (holds (tyAt (code.function .locals) 1) l₁ (Store′.mach s) (empty (tyAt (code.function .locals) 0) l₀ [])))))))))))))))))))))))) $
+      assigns ! (of-opd ! (load ! (from ! (fld ! refl (stop !))) (look-in ! 40 (sub ! 1 refl (whole !))))) (from ! (stop !)) (init ! 20 refl (tt, record { fits = room·bytes .0 })) $
+      Call-put-refusal.calls ! mem run (fmOf 𝓤 H (W .laws) 𝓣) known-put-refusal s (r2 s pages nodes register x-t i bytes) (r1 s pages nodes register x-t i bytes) x-t i (length bytes) ok·s ok·2 ok·1 ok·x-t ok·i (refl, room·bytes .0) (and-then ! (load ! (from ! (stop !)) (look ! 53 refl)) (and-then ! (load ! (from ! (stop !)) (look ! 37 refl)) (and-then ! (load ! (from ! (stop !)) (look ! 39 refl)) (and-then ! (load ! (from ! (stop !)) (look ! 45 refl)) (and-then ! (load ! (from ! (stop !)) (look ! 43 refl)) (and-then ! (load ! (from ! (stop !)) (look ! 21 refl)) (no-more !)))))))
+      (λ ok·3. land ! (from ! (stop !)) (init ! 34 refl (tt, record { fits = ok·3 .1 })) $
+      here ! (‵ (flft κ·pages q·pages) ∷ ‵ (MutAt u8 κ·pages b·pages o·pages γ·pages (length pages) pages) ∷ ‵ (flft κ·nodes q·nodes) ∷ ‵ (ShrAt u32 κ·nodes b·nodes o·nodes γ·nodes (length nodes) nodes) ∷ ‵ (flft κ·register q·register) ∷ ‵ (MutAt Record′.row κ·register b·register o·register γ·register (length register) register) ∷ ‵ (flft κ·bytes q·bytes) ∷ ‵ (ShrAt u8 κ·bytes b·bytes o·bytes γ·bytes (length bytes) bytes) ∷ empty (sliceTy (tyRef erased mut (pointee (Record′.row .written)))) l₂₃ (empty (tyRef erased mut (pointee (Record′.row .written))) l₂₂ (empty (tyInt w64) l₂₁ (empty (sliceTy (tyRef erased mut (pointee (u8 .written)))) l₂₀ (empty (tyRef erased mut (pointee (u8 .written))) l₁₉ (empty tyUnit l₁₈ (holds (tyInt w64) l₁₇ (vint w64 (length bytes)) (holds (sliceTy (tyRef erased imm (pointee (Record′.row .written)))) l₁₆ (sliceVal (b·register, o·register) (length register)) (holds (tyRef erased imm (pointee (Record′.row .written))) l₁₅ (vptr b·register o·register) (holds (sliceTy (tyRef erased imm (pointee (u8 .written)))) l₁₄ (sliceVal (b·pages, o·pages) (length pages)) (holds (tyRef erased imm (pointee (u8 .written))) l₁₃ (vptr b·pages o·pages) (holds (sliceTy (tyRef erased imm (pointee (Record′.row .written)))) l₁₂ (sliceVal (b·register, o·register) (length register)) (holds (tyRef erased imm (pointee (Record′.row .written))) l₁₁ (vptr b·register o·register) (holds (tyInt w64) l₁₀ (vint w64 (r3 s pages nodes register x-t i bytes)) (holds (tyAt (code.function .locals) 9) l₉ (Lengths′.mach (r2 s pages nodes register x-t i bytes)) (holds (tyAt (code.function .locals) 8) l₈ (Record′.mach (r1 s pages nodes register x-t i bytes)) (holds (sliceTy (tyRef (named 3) imm (pointee (u8 .written)))) l₇ (sliceVal (b·bytes, o·bytes) (length bytes)) (holds (tyInt w64) l₆ (vint w64 i) (holds (tyAt (code.function .locals) 5) l₅ (Ticket′.mach x-t) (holds (sliceTy (tyRef (named 2) mut (pointee (Record′.row .written)))) l₄ (sliceVal (b·register, o·register) (length register)) (holds (sliceTy (tyRef (named 1) imm (pointee (u32 .written)))) l₃ (sliceVal (b·nodes, o·nodes) (length nodes)) (holds (sliceTy (tyRef (named 0) mut (pointee (u8 .written)))) l₂ (sliceVal (b·pages, o·pages) (length pages)) (holds (tyAt (code.function .locals) 1) l₁ (Store′.mach s) (empty (tyAt (code.function .locals) 0) l₀ [])))))))))))))))))))))))) $
+      assigns ! (addr ! (from ! (fld ! refl (hop ! (look-in ! 50 (sub ! 0 refl (whole !))) (stop !))))) (from ! (stop !)) (init ! 16 refl (tt, tt)) $
+      assigns ! (agg ! (and-then ! (load ! (from ! (stop !)) (look ! 16 refl)) (and-then ! (load ! (from ! (fld ! refl (stop !))) (look-in ! 50 (sub ! 1 refl (whole !)))) (no-more !)))) (from ! (stop !)) (init ! 14 refl (tt, (tt, (record { fits = room·pages .0 }, tt)))) $
+      Call-capped-sum.calls ! mem run (fmOf 𝓤 H (W .laws) 𝓣) known-capped-sum ((r1 s pages nodes register x-t i bytes) .number) i (Record′.ok-number (r1 s pages nodes register x-t i bytes) ok·1) ok·i (and-then ! (load ! (from ! (fld ! refl (stop !))) (look-in ! 39 (sub ! 1 refl (whole !)))) (and-then ! (load ! (from ! (stop !)) (look ! 43 refl)) (no-more !)))
+      (λ ok·4. land ! (from ! (stop !)) (init ! 12 refl (tt, record { fits = ok·4 .1 })) $
+      here ! (‵ (flft κ·pages q·pages) ∷ ‵ (MutAt u8 κ·pages b·pages o·pages γ·pages (length pages) pages) ∷ ‵ (flft κ·nodes q·nodes) ∷ ‵ (ShrAt u32 κ·nodes b·nodes o·nodes γ·nodes (length nodes) nodes) ∷ ‵ (flft κ·register q·register) ∷ ‵ (MutAt Record′.row κ·register b·register o·register γ·register (length register) register) ∷ ‵ (flft κ·bytes q·bytes) ∷ ‵ (ShrAt u8 κ·bytes b·bytes o·bytes γ·bytes (length bytes) bytes) ∷ empty (sliceTy (tyRef erased mut (pointee (Record′.row .written)))) l₂₃ (empty (tyRef erased mut (pointee (Record′.row .written))) l₂₂ (holds (tyInt w64) l₂₁ (vint w64 (r4 s pages nodes register x-t i bytes)) (holds (sliceTy (tyRef erased mut (pointee (u8 .written)))) l₂₀ (sliceVal (b·pages, o·pages) (length pages)) (holds (tyRef erased mut (pointee (u8 .written))) l₁₉ (vptr b·pages o·pages) (empty tyUnit l₁₈ (holds (tyInt w64) l₁₇ (vint w64 (length bytes)) (holds (sliceTy (tyRef erased imm (pointee (Record′.row .written)))) l₁₆ (sliceVal (b·register, o·register) (length register)) (holds (tyRef erased imm (pointee (Record′.row .written))) l₁₅ (vptr b·register o·register) (holds (sliceTy (tyRef erased imm (pointee (u8 .written)))) l₁₄ (sliceVal (b·pages, o·pages) (length pages)) (holds (tyRef erased imm (pointee (u8 .written))) l₁₃ (vptr b·pages o·pages) (holds (sliceTy (tyRef erased imm (pointee (Record′.row .written)))) l₁₂ (sliceVal (b·register, o·register) (length register)) (holds (tyRef erased imm (pointee (Record′.row .written))) l₁₁ (vptr b·register o·register) (holds (tyInt w64) l₁₀ (vint w64 (r3 s pages nodes register x-t i bytes)) (holds (tyAt (code.function .locals) 9) l₉ (Lengths′.mach (r2 s pages nodes register x-t i bytes)) (holds (tyAt (code.function .locals) 8) l₈ (Record′.mach (r1 s pages nodes register x-t i bytes)) (holds (sliceTy (tyRef (named 3) imm (pointee (u8 .written)))) l₇ (sliceVal (b·bytes, o·bytes) (length bytes)) (holds (tyInt w64) l₆ (vint w64 i) (holds (tyAt (code.function .locals) 5) l₅ (Ticket′.mach x-t) (holds (sliceTy (tyRef (named 2) mut (pointee (Record′.row .written)))) l₄ (sliceVal (b·register, o·register) (length register)) (holds (sliceTy (tyRef (named 1) imm (pointee (u32 .written)))) l₃ (sliceVal (b·nodes, o·nodes) (length nodes)) (holds (sliceTy (tyRef (named 0) mut (pointee (u8 .written)))) l₂ (sliceVal (b·pages, o·pages) (length pages)) (holds (tyAt (code.function .locals) 1) l₁ (Store′.mach s) (empty (tyAt (code.function .locals) 0) l₀ [])))))))))))))))))))))))) $
       lend-mut ! tt u8 κ·pages q·pages b·pages o·pages γ·pages (length pages) pages (refl) (λ ν·5-pages γ·5-pages. move ! (0 ∷ 1 ∷ 7 ∷ 8 ∷ []) $
-      Call-put-bytes.calls ! mem run (fmOf 𝓤 H (W .laws) 𝓣) known-put-bytes (ν·5-pages ∷ []) fullShare b·pages o·pages γ·5-pages (length pages) pages (r3 s pages nodes register x-t i bytes) (s .size) (r4 s pages nodes register x-t i bytes) κ·bytes q·bytes b·bytes o·bytes γ·bytes (length bytes) bytes ok·3 (Store′.ok-size s ok·s) ok·4 (and-then ! (load ! (from ! (stop !)) (look ! 15 refl)) (and-then ! (load ! (from ! (stop !)) (look ! 35 refl)) (and-then ! (load ! (from ! (fld ! refl (stop !))) (look-in ! 53 (sub ! 0 refl (whole !)))) (and-then ! (load ! (from ! (stop !)) (look ! 13 refl)) (and-then ! (load ! (from ! (stop !)) (look ! 41 refl)) (no-more !))))))
-      (λ same·5-pages. move ! (0 ∷ 1 ∷ 4 ∷ []) $ back-mut ! tt u8 κ·pages q·pages b·pages o·pages γ·pages (length pages) pages (pages₅ s pages nodes register x-t i bytes) ν·5-pages γ·5-pages (refl) same·5-pages room·pages $ move ! (0 ∷ 1 ∷ 4 ∷ 5 ∷ 6 ∷ 7 ∷ 2 ∷ 3 ∷ []) $ land ! (from ! (stop !)) (init ! 20 refl (tt, tt)) $
-      here ! (‵ (flft κ·pages q·pages) ∷ ‵ (MutAt u8 κ·pages b·pages o·pages γ·pages (length pages) (pages₅ s pages nodes register x-t i bytes)) ∷ ‵ (flft κ·nodes q·nodes) ∷ ‵ (ShrAt u32 κ·nodes b·nodes o·nodes γ·nodes (length nodes) nodes) ∷ ‵ (flft κ·register q·register) ∷ ‵ (MutAt Record′.row κ·register b·register o·register γ·register (length register) register) ∷ ‵ (flft κ·bytes q·bytes) ∷ ‵ (ShrAt u8 κ·bytes b·bytes o·bytes γ·bytes (length bytes) bytes) ∷ empty (tyAt (code.function .locals) 24) l₂₄ (empty (sliceTy (tyRef erased mut (pointee (Record′.row .written)))) l₂₃ (empty (tyRef erased mut (pointee (Record′.row .written))) l₂₂ (holds (tyInt w64) l₂₁ (vint w64 (r4 s pages nodes register x-t i bytes)) (holds (sliceTy (tyRef erased mut (pointee (u8 .written)))) l₂₀ (sliceVal (b·pages, o·pages) (length pages)) (holds (tyRef erased mut (pointee (u8 .written))) l₁₉ (vptr b·pages o·pages) (holds tyUnit l₁₈ vunit (holds (tyInt w64) l₁₇ (vint w64 (length bytes)) (holds (sliceTy (tyRef erased imm (pointee (Record′.row .written)))) l₁₆ (sliceVal (b·register, o·register) (length register)) (holds (tyRef erased imm (pointee (Record′.row .written))) l₁₅ (vptr b·register o·register) (holds (sliceTy (tyRef erased imm (pointee (u8 .written)))) l₁₄ (sliceVal (b·pages, o·pages) (length pages)) (holds (tyRef erased imm (pointee (u8 .written))) l₁₃ (vptr b·pages o·pages) (holds (sliceTy (tyRef erased imm (pointee (Record′.row .written)))) l₁₂ (sliceVal (b·register, o·register) (length register)) (holds (tyRef erased imm (pointee (Record′.row .written))) l₁₁ (vptr b·register o·register) (holds (tyInt w64) l₁₀ (vint w64 (r3 s pages nodes register x-t i bytes)) (holds (tyAt (code.function .locals) 9) l₉ (Lengths′.mach (r2 s pages nodes register x-t i bytes)) (holds (tyAt (code.function .locals) 8) l₈ (Record′.mach (r1 s pages nodes register x-t i bytes)) (holds (sliceTy (tyRef (named 3) imm (pointee (u8 .written)))) l₇ (sliceVal (b·bytes, o·bytes) (length bytes)) (holds (tyInt w64) l₆ (vint w64 i) (holds (tyAt (code.function .locals) 5) l₅ (Ticket′.mach x-t) (holds (sliceTy (tyRef (named 2) mut (pointee (Record′.row .written)))) l₄ (sliceVal (b·register, o·register) (length register)) (holds (sliceTy (tyRef (named 1) imm (pointee (u32 .written)))) l₃ (sliceVal (b·nodes, o·nodes) (length nodes)) (holds (sliceTy (tyRef (named 0) mut (pointee (u8 .written)))) l₂ (sliceVal (b·pages, o·pages) (length pages)) (holds (tyAt (code.function .locals) 1) l₁ (Store′.mach s) (empty (tyAt (code.function .locals) 0) l₀ []))))))))))))))))))))))))) $
-      assigns ! (addr ! (from ! (fld ! refl (hop ! (look-in ! 48 (sub ! 0 refl (whole !))) (stop !))))) (from ! (stop !)) (init ! 12 refl (tt, tt)) $
-      assigns ! (agg ! (and-then ! (load ! (from ! (stop !)) (look ! 12 refl)) (and-then ! (load ! (from ! (fld ! refl (stop !))) (look-in ! 48 (sub ! 1 refl (whole !)))) (no-more !)))) (from ! (stop !)) (init ! 10 refl (tt, (tt, (record { fits = room·register .0 }, tt)))) $
-      Call-ticket-index.calls ! mem run (fmOf 𝓤 H (W .laws) 𝓣) known-ticket-index x-t ok·x-t (and-then ! (load ! (from ! (stop !)) (look ! 47 refl)) (no-more !))
-      (λ ok·6. land ! (from ! (stop !)) (store ! 22 refl (tt, record { fits = ok·6 .1 })) $
-      here ! (‵ (flft κ·pages q·pages) ∷ ‵ (MutAt u8 κ·pages b·pages o·pages γ·pages (length pages) (pages₅ s pages nodes register x-t i bytes)) ∷ ‵ (flft κ·nodes q·nodes) ∷ ‵ (ShrAt u32 κ·nodes b·nodes o·nodes γ·nodes (length nodes) nodes) ∷ ‵ (flft κ·register q·register) ∷ ‵ (MutAt Record′.row κ·register b·register o·register γ·register (length register) register) ∷ ‵ (flft κ·bytes q·bytes) ∷ ‵ (ShrAt u8 κ·bytes b·bytes o·bytes γ·bytes (length bytes) bytes) ∷ empty (tyAt (code.function .locals) 24) l₂₄ (holds (sliceTy (tyRef erased mut (pointee (Record′.row .written)))) l₂₃ (sliceVal (b·register, o·register) (length register)) (holds (tyRef erased mut (pointee (Record′.row .written))) l₂₂ (vptr b·register o·register) (holds (tyInt w64) l₂₁ (vint w64 (r4 s pages nodes register x-t i bytes)) (holds (sliceTy (tyRef erased mut (pointee (u8 .written)))) l₂₀ (sliceVal (b·pages, o·pages) (length pages)) (holds (tyRef erased mut (pointee (u8 .written))) l₁₉ (vptr b·pages o·pages) (holds tyUnit l₁₈ vunit (holds (tyInt w64) l₁₇ (vint w64 (r6 s pages nodes register x-t i bytes)) (holds (sliceTy (tyRef erased imm (pointee (Record′.row .written)))) l₁₆ (sliceVal (b·register, o·register) (length register)) (holds (tyRef erased imm (pointee (Record′.row .written))) l₁₅ (vptr b·register o·register) (holds (sliceTy (tyRef erased imm (pointee (u8 .written)))) l₁₄ (sliceVal (b·pages, o·pages) (length pages)) (holds (tyRef erased imm (pointee (u8 .written))) l₁₃ (vptr b·pages o·pages) (holds (sliceTy (tyRef erased imm (pointee (Record′.row .written)))) l₁₂ (sliceVal (b·register, o·register) (length register)) (holds (tyRef erased imm (pointee (Record′.row .written))) l₁₁ (vptr b·register o·register) (holds (tyInt w64) l₁₀ (vint w64 (r3 s pages nodes register x-t i bytes)) (holds (tyAt (code.function .locals) 9) l₉ (Lengths′.mach (r2 s pages nodes register x-t i bytes)) (holds (tyAt (code.function .locals) 8) l₈ (Record′.mach (r1 s pages nodes register x-t i bytes)) (holds (sliceTy (tyRef (named 3) imm (pointee (u8 .written)))) l₇ (sliceVal (b·bytes, o·bytes) (length bytes)) (holds (tyInt w64) l₆ (vint w64 i) (holds (tyAt (code.function .locals) 5) l₅ (Ticket′.mach x-t) (holds (sliceTy (tyRef (named 2) mut (pointee (Record′.row .written)))) l₄ (sliceVal (b·register, o·register) (length register)) (holds (sliceTy (tyRef (named 1) imm (pointee (u32 .written)))) l₃ (sliceVal (b·nodes, o·nodes) (length nodes)) (holds (sliceTy (tyRef (named 0) mut (pointee (u8 .written)))) l₂ (sliceVal (b·pages, o·pages) (length pages)) (holds (tyAt (code.function .locals) 1) l₁ (Store′.mach s) (empty (tyAt (code.function .locals) 0) l₀ []))))))))))))))))))))))))) $
-      Call-with-put.calls ! mem run (fmOf 𝓤 H (W .laws) 𝓣) known-with-put (r1 s pages nodes register x-t i bytes) i ok·1 ok·i (and-then ! (load ! (from ! (stop !)) (look ! 41 refl)) (and-then ! (load ! (from ! (stop !)) (look ! 45 refl)) (no-more !)))
-      (λ ok·7. land ! (from ! (stop !)) (init ! 8 refl (Record′.typed 𝓤 H A W (r7 s pages nodes register x-t i bytes) ok·7)) $
-      here ! (‵ (flft κ·pages q·pages) ∷ ‵ (MutAt u8 κ·pages b·pages o·pages γ·pages (length pages) (pages₅ s pages nodes register x-t i bytes)) ∷ ‵ (flft κ·nodes q·nodes) ∷ ‵ (ShrAt u32 κ·nodes b·nodes o·nodes γ·nodes (length nodes) nodes) ∷ ‵ (flft κ·register q·register) ∷ ‵ (MutAt Record′.row κ·register b·register o·register γ·register (length register) register) ∷ ‵ (flft κ·bytes q·bytes) ∷ ‵ (ShrAt u8 κ·bytes b·bytes o·bytes γ·bytes (length bytes) bytes) ∷ holds (tyAt (code.function .locals) 24) l₂₄ (Record′.mach (r7 s pages nodes register x-t i bytes)) (holds (sliceTy (tyRef erased mut (pointee (Record′.row .written)))) l₂₃ (sliceVal (b·register, o·register) (length register)) (holds (tyRef erased mut (pointee (Record′.row .written))) l₂₂ (vptr b·register o·register) (holds (tyInt w64) l₂₁ (vint w64 (r4 s pages nodes register x-t i bytes)) (holds (sliceTy (tyRef erased mut (pointee (u8 .written)))) l₂₀ (sliceVal (b·pages, o·pages) (length pages)) (holds (tyRef erased mut (pointee (u8 .written))) l₁₉ (vptr b·pages o·pages) (holds tyUnit l₁₈ vunit (holds (tyInt w64) l₁₇ (vint w64 (r6 s pages nodes register x-t i bytes)) (holds (sliceTy (tyRef erased imm (pointee (Record′.row .written)))) l₁₆ (sliceVal (b·register, o·register) (length register)) (holds (tyRef erased imm (pointee (Record′.row .written))) l₁₅ (vptr b·register o·register) (holds (sliceTy (tyRef erased imm (pointee (u8 .written)))) l₁₄ (sliceVal (b·pages, o·pages) (length pages)) (holds (tyRef erased imm (pointee (u8 .written))) l₁₃ (vptr b·pages o·pages) (holds (sliceTy (tyRef erased imm (pointee (Record′.row .written)))) l₁₂ (sliceVal (b·register, o·register) (length register)) (holds (tyRef erased imm (pointee (Record′.row .written))) l₁₁ (vptr b·register o·register) (holds (tyInt w64) l₁₀ (vint w64 (r3 s pages nodes register x-t i bytes)) (holds (tyAt (code.function .locals) 9) l₉ (Lengths′.mach (r2 s pages nodes register x-t i bytes)) (holds (tyAt (code.function .locals) 8) l₈ (Record′.mach (r1 s pages nodes register x-t i bytes)) (holds (sliceTy (tyRef (named 3) imm (pointee (u8 .written)))) l₇ (sliceVal (b·bytes, o·bytes) (length bytes)) (holds (tyInt w64) l₆ (vint w64 i) (holds (tyAt (code.function .locals) 5) l₅ (Ticket′.mach x-t) (holds (sliceTy (tyRef (named 2) mut (pointee (Record′.row .written)))) l₄ (sliceVal (b·register, o·register) (length register)) (holds (sliceTy (tyRef (named 1) imm (pointee (u32 .written)))) l₃ (sliceVal (b·nodes, o·nodes) (length nodes)) (holds (sliceTy (tyRef (named 0) mut (pointee (u8 .written)))) l₂ (sliceVal (b·pages, o·pages) (length pages)) (holds (tyAt (code.function .locals) 1) l₁ (Store′.mach s) (empty (tyAt (code.function .locals) 0) l₀ []))))))))))))))))))))))))) $
-      move ! (4 ∷ 5 ∷ []) $ lend-mut ! tt Record′.row κ·register q·register b·register o·register γ·register (length register) register (refl) (λ ν·8-register γ·8-register.
-      Call-put-record.calls ! mem run (fmOf 𝓤 H (W .laws) 𝓣) known-put-record (ν·8-register ∷ []) fullShare b·register o·register γ·8-register (length register) register (r3 s pages nodes register x-t i bytes) (r6 s pages nodes register x-t i bytes) (r7 s pages nodes register x-t i bytes) ok·3 ok·6 ok·7 (and-then ! (load ! (from ! (stop !)) (look ! 10 refl)) (and-then ! (load ! (from ! (stop !)) (look ! 36 refl)) (and-then ! (load ! (from ! (stop !)) (look ! 22 refl)) (and-then ! (load ! (from ! (stop !)) (look ! 8 refl)) (no-more !)))))
-      (λ same·8-register. back-mut ! tt Record′.row κ·register q·register b·register o·register γ·register (length register) register (register₈ s pages nodes register x-t i bytes) ν·8-register γ·8-register (refl) same·8-register room·register $ move ! (2 ∷ 3 ∷ 4 ∷ 5 ∷ 0 ∷ 1 ∷ 6 ∷ 7 ∷ []) $ land ! (from ! (stop !)) (store ! 20 refl (tt, tt)) $
-      here ! (‵ (flft κ·pages q·pages) ∷ ‵ (MutAt u8 κ·pages b·pages o·pages γ·pages (length pages) (pages₅ s pages nodes register x-t i bytes)) ∷ ‵ (flft κ·nodes q·nodes) ∷ ‵ (ShrAt u32 κ·nodes b·nodes o·nodes γ·nodes (length nodes) nodes) ∷ ‵ (flft κ·register q·register) ∷ ‵ (MutAt Record′.row κ·register b·register o·register γ·register (length register) (register₈ s pages nodes register x-t i bytes)) ∷ ‵ (flft κ·bytes q·bytes) ∷ ‵ (ShrAt u8 κ·bytes b·bytes o·bytes γ·bytes (length bytes) bytes) ∷ holds (tyAt (code.function .locals) 24) l₂₄ (Record′.mach (r7 s pages nodes register x-t i bytes)) (holds (sliceTy (tyRef erased mut (pointee (Record′.row .written)))) l₂₃ (sliceVal (b·register, o·register) (length register)) (holds (tyRef erased mut (pointee (Record′.row .written))) l₂₂ (vptr b·register o·register) (holds (tyInt w64) l₂₁ (vint w64 (r4 s pages nodes register x-t i bytes)) (holds (sliceTy (tyRef erased mut (pointee (u8 .written)))) l₂₀ (sliceVal (b·pages, o·pages) (length pages)) (holds (tyRef erased mut (pointee (u8 .written))) l₁₉ (vptr b·pages o·pages) (holds tyUnit l₁₈ vunit (holds (tyInt w64) l₁₇ (vint w64 (r6 s pages nodes register x-t i bytes)) (holds (sliceTy (tyRef erased imm (pointee (Record′.row .written)))) l₁₆ (sliceVal (b·register, o·register) (length register)) (holds (tyRef erased imm (pointee (Record′.row .written))) l₁₅ (vptr b·register o·register) (holds (sliceTy (tyRef erased imm (pointee (u8 .written)))) l₁₄ (sliceVal (b·pages, o·pages) (length pages)) (holds (tyRef erased imm (pointee (u8 .written))) l₁₃ (vptr b·pages o·pages) (holds (sliceTy (tyRef erased imm (pointee (Record′.row .written)))) l₁₂ (sliceVal (b·register, o·register) (length register)) (holds (tyRef erased imm (pointee (Record′.row .written))) l₁₁ (vptr b·register o·register) (holds (tyInt w64) l₁₀ (vint w64 (r3 s pages nodes register x-t i bytes)) (holds (tyAt (code.function .locals) 9) l₉ (Lengths′.mach (r2 s pages nodes register x-t i bytes)) (holds (tyAt (code.function .locals) 8) l₈ (Record′.mach (r1 s pages nodes register x-t i bytes)) (holds (sliceTy (tyRef (named 3) imm (pointee (u8 .written)))) l₇ (sliceVal (b·bytes, o·bytes) (length bytes)) (holds (tyInt w64) l₆ (vint w64 i) (holds (tyAt (code.function .locals) 5) l₅ (Ticket′.mach x-t) (holds (sliceTy (tyRef (named 2) mut (pointee (Record′.row .written)))) l₄ (sliceVal (b·register, o·register) (length register)) (holds (sliceTy (tyRef (named 1) imm (pointee (u32 .written)))) l₃ (sliceVal (b·nodes, o·nodes) (length nodes)) (holds (sliceTy (tyRef (named 0) mut (pointee (u8 .written)))) l₂ (sliceVal (b·pages, o·pages) (length pages)) (holds (tyAt (code.function .locals) 1) l₁ (Store′.mach s) (empty (tyAt (code.function .locals) 0) l₀ []))))))))))))))))))))))))) $
-      Call-put-answer.calls ! mem run (fmOf 𝓤 H (W .laws) 𝓣) known-put-answer (r3 s pages nodes register x-t i bytes) ok·3 (and-then ! (load ! (from ! (stop !)) (look ! 37 refl)) (no-more !))
-      (λ ok·9. land ! (from ! (stop !)) (init ! 56 refl (PutIn′.typed 𝓤 H A W (r9 s pages nodes register x-t i bytes) ok·9)) $
-      here ! (‵ (flft κ·pages q·pages) ∷ ‵ (MutAt u8 κ·pages b·pages o·pages γ·pages (length pages) (pages₅ s pages nodes register x-t i bytes)) ∷ ‵ (flft κ·nodes q·nodes) ∷ ‵ (ShrAt u32 κ·nodes b·nodes o·nodes γ·nodes (length nodes) nodes) ∷ ‵ (flft κ·register q·register) ∷ ‵ (MutAt Record′.row κ·register b·register o·register γ·register (length register) (register₈ s pages nodes register x-t i bytes)) ∷ ‵ (flft κ·bytes q·bytes) ∷ ‵ (ShrAt u8 κ·bytes b·bytes o·bytes γ·bytes (length bytes) bytes) ∷ holds (tyAt (code.function .locals) 24) l₂₄ (Record′.mach (r7 s pages nodes register x-t i bytes)) (holds (sliceTy (tyRef erased mut (pointee (Record′.row .written)))) l₂₃ (sliceVal (b·register, o·register) (length register)) (holds (tyRef erased mut (pointee (Record′.row .written))) l₂₂ (vptr b·register o·register) (holds (tyInt w64) l₂₁ (vint w64 (r4 s pages nodes register x-t i bytes)) (holds (sliceTy (tyRef erased mut (pointee (u8 .written)))) l₂₀ (sliceVal (b·pages, o·pages) (length pages)) (holds (tyRef erased mut (pointee (u8 .written))) l₁₉ (vptr b·pages o·pages) (holds tyUnit l₁₈ vunit (holds (tyInt w64) l₁₇ (vint w64 (r6 s pages nodes register x-t i bytes)) (holds (sliceTy (tyRef erased imm (pointee (Record′.row .written)))) l₁₆ (sliceVal (b·register, o·register) (length register)) (holds (tyRef erased imm (pointee (Record′.row .written))) l₁₅ (vptr b·register o·register) (holds (sliceTy (tyRef erased imm (pointee (u8 .written)))) l₁₄ (sliceVal (b·pages, o·pages) (length pages)) (holds (tyRef erased imm (pointee (u8 .written))) l₁₃ (vptr b·pages o·pages) (holds (sliceTy (tyRef erased imm (pointee (Record′.row .written)))) l₁₂ (sliceVal (b·register, o·register) (length register)) (holds (tyRef erased imm (pointee (Record′.row .written))) l₁₁ (vptr b·register o·register) (holds (tyInt w64) l₁₀ (vint w64 (r3 s pages nodes register x-t i bytes)) (holds (tyAt (code.function .locals) 9) l₉ (Lengths′.mach (r2 s pages nodes register x-t i bytes)) (holds (tyAt (code.function .locals) 8) l₈ (Record′.mach (r1 s pages nodes register x-t i bytes)) (holds (sliceTy (tyRef (named 3) imm (pointee (u8 .written)))) l₇ (sliceVal (b·bytes, o·bytes) (length bytes)) (holds (tyInt w64) l₆ (vint w64 i) (holds (tyAt (code.function .locals) 5) l₅ (Ticket′.mach x-t) (holds (sliceTy (tyRef (named 2) mut (pointee (Record′.row .written)))) l₄ (sliceVal (b·register, o·register) (length register)) (holds (sliceTy (tyRef (named 1) imm (pointee (u32 .written)))) l₃ (sliceVal (b·nodes, o·nodes) (length nodes)) (holds (sliceTy (tyRef (named 0) mut (pointee (u8 .written)))) l₂ (sliceVal (b·pages, o·pages) (length pages)) (holds (tyAt (code.function .locals) 1) l₁ (Store′.mach s) (holds (tyAt (code.function .locals) 0) l₀ (PutIn′.mach (r9 s pages nodes register x-t i bytes)) []))))))))))))))))))))))))) $
-      returns ! (look ! 56 refl) $
-      move ! (56 ∷ 57 ∷ []) $ forget ! 0 refl $ free1 ! $ move ! (54 ∷ 55 ∷ []) $ forget ! 0 refl $ free1 ! $ move ! (52 ∷ 53 ∷ []) $ forget ! 0 refl $ free1 ! $ move ! (50 ∷ 51 ∷ []) $ forget ! 0 refl $ free1 ! $ move ! (48 ∷ 49 ∷ []) $ forget ! 0 refl $ free1 ! $ move ! (46 ∷ 47 ∷ []) $ forget ! 0 refl $ free1 ! $ move ! (44 ∷ 45 ∷ []) $ forget ! 0 refl $ free1 ! $ move ! (42 ∷ 43 ∷ []) $ forget ! 0 refl $ free1 ! $ move ! (40 ∷ 41 ∷ []) $ forget ! 0 refl $ free1 ! $ move ! (38 ∷ 39 ∷ []) $ forget ! 0 refl $ free1 ! $ move ! (36 ∷ 37 ∷ []) $ forget ! 0 refl $ free1 ! $ move ! (34 ∷ 35 ∷ []) $ forget ! 0 refl $ free1 ! $ move ! (32 ∷ 33 ∷ []) $ forget ! 0 refl $ free1 ! $ move ! (30 ∷ 31 ∷ []) $ forget ! 0 refl $ free1 ! $ move ! (28 ∷ 29 ∷ []) $ forget ! 0 refl $ free1 ! $ move ! (26 ∷ 27 ∷ []) $ forget ! 0 refl $ free1 ! $ move ! (24 ∷ 25 ∷ []) $ forget ! 0 refl $ free1 ! $ move ! (22 ∷ 23 ∷ []) $ forget ! 0 refl $ free1 ! $ move ! (20 ∷ 21 ∷ []) $ forget ! 0 refl $ free1 ! $ move ! (18 ∷ 19 ∷ []) $ forget ! 0 refl $ free1 ! $ move ! (16 ∷ 17 ∷ []) $ forget ! 0 refl $ free1 ! $ move ! (14 ∷ 15 ∷ []) $ forget ! 0 refl $ free1 ! $ move ! (12 ∷ 13 ∷ []) $ forget ! 0 refl $ free1 ! $ move ! (10 ∷ 11 ∷ []) $ forget ! 0 refl $ free1 ! $ move ! (8 ∷ 9 ∷ []) $ forget ! 0 refl $ free1 ! $ free0 ! $ by ! (exits (r9 s pages nodes register x-t i bytes) ok·9 (pages₅ s pages nodes register x-t i bytes) (sym (refl ∙ sym same·5-pages)) (register₈ s pages nodes register x-t i bytes) (sym (refl ∙ sym same·8-register)) (Facts.exit-1 s pages nodes register x-t i bytes ok·s (room·pages .0) (room·nodes .0) (room·register .0) ok·x-t (ok·i .1) (room·bytes .0) ok·1 ok·2 (ok·3 .1) (ok·4 .1) same·5-pages (ok·6 .1) ok·7 same·8-register ok·9)))))))))))))))))))))))))))))))))))))))))
+      Call-put-bytes.calls ! mem run (fmOf 𝓤 H (W .laws) 𝓣) known-put-bytes (ν·5-pages ∷ []) fullShare b·pages o·pages γ·5-pages (length pages) pages (r3 s pages nodes register x-t i bytes) (s .size) (r4 s pages nodes register x-t i bytes) κ·bytes q·bytes b·bytes o·bytes γ·bytes (length bytes) bytes ok·3 (Store′.ok-size s ok·s) ok·4 (and-then ! (load ! (from ! (stop !)) (look ! 13 refl)) (and-then ! (load ! (from ! (stop !)) (look ! 33 refl)) (and-then ! (load ! (from ! (fld ! refl (stop !))) (look-in ! 51 (sub ! 0 refl (whole !)))) (and-then ! (load ! (from ! (stop !)) (look ! 11 refl)) (and-then ! (load ! (from ! (stop !)) (look ! 39 refl)) (no-more !))))))
+      (λ same·5-pages. move ! (0 ∷ 1 ∷ 4 ∷ []) $ back-mut ! tt u8 κ·pages q·pages b·pages o·pages γ·pages (length pages) pages (pages₅ s pages nodes register x-t i bytes) ν·5-pages γ·5-pages (refl) same·5-pages room·pages $ move ! (0 ∷ 1 ∷ 4 ∷ 5 ∷ 6 ∷ 7 ∷ 2 ∷ 3 ∷ []) $ land ! (from ! (stop !)) (init ! 18 refl (tt, tt)) $
+      here ! (‵ (flft κ·pages q·pages) ∷ ‵ (MutAt u8 κ·pages b·pages o·pages γ·pages (length pages) (pages₅ s pages nodes register x-t i bytes)) ∷ ‵ (flft κ·nodes q·nodes) ∷ ‵ (ShrAt u32 κ·nodes b·nodes o·nodes γ·nodes (length nodes) nodes) ∷ ‵ (flft κ·register q·register) ∷ ‵ (MutAt Record′.row κ·register b·register o·register γ·register (length register) register) ∷ ‵ (flft κ·bytes q·bytes) ∷ ‵ (ShrAt u8 κ·bytes b·bytes o·bytes γ·bytes (length bytes) bytes) ∷ empty (sliceTy (tyRef erased mut (pointee (Record′.row .written)))) l₂₃ (empty (tyRef erased mut (pointee (Record′.row .written))) l₂₂ (holds (tyInt w64) l₂₁ (vint w64 (r4 s pages nodes register x-t i bytes)) (holds (sliceTy (tyRef erased mut (pointee (u8 .written)))) l₂₀ (sliceVal (b·pages, o·pages) (length pages)) (holds (tyRef erased mut (pointee (u8 .written))) l₁₉ (vptr b·pages o·pages) (holds tyUnit l₁₈ vunit (holds (tyInt w64) l₁₇ (vint w64 (length bytes)) (holds (sliceTy (tyRef erased imm (pointee (Record′.row .written)))) l₁₆ (sliceVal (b·register, o·register) (length register)) (holds (tyRef erased imm (pointee (Record′.row .written))) l₁₅ (vptr b·register o·register) (holds (sliceTy (tyRef erased imm (pointee (u8 .written)))) l₁₄ (sliceVal (b·pages, o·pages) (length pages)) (holds (tyRef erased imm (pointee (u8 .written))) l₁₃ (vptr b·pages o·pages) (holds (sliceTy (tyRef erased imm (pointee (Record′.row .written)))) l₁₂ (sliceVal (b·register, o·register) (length register)) (holds (tyRef erased imm (pointee (Record′.row .written))) l₁₁ (vptr b·register o·register) (holds (tyInt w64) l₁₀ (vint w64 (r3 s pages nodes register x-t i bytes)) (holds (tyAt (code.function .locals) 9) l₉ (Lengths′.mach (r2 s pages nodes register x-t i bytes)) (holds (tyAt (code.function .locals) 8) l₈ (Record′.mach (r1 s pages nodes register x-t i bytes)) (holds (sliceTy (tyRef (named 3) imm (pointee (u8 .written)))) l₇ (sliceVal (b·bytes, o·bytes) (length bytes)) (holds (tyInt w64) l₆ (vint w64 i) (holds (tyAt (code.function .locals) 5) l₅ (Ticket′.mach x-t) (holds (sliceTy (tyRef (named 2) mut (pointee (Record′.row .written)))) l₄ (sliceVal (b·register, o·register) (length register)) (holds (sliceTy (tyRef (named 1) imm (pointee (u32 .written)))) l₃ (sliceVal (b·nodes, o·nodes) (length nodes)) (holds (sliceTy (tyRef (named 0) mut (pointee (u8 .written)))) l₂ (sliceVal (b·pages, o·pages) (length pages)) (holds (tyAt (code.function .locals) 1) l₁ (Store′.mach s) (empty (tyAt (code.function .locals) 0) l₀ [])))))))))))))))))))))))) $
+      assigns ! (addr ! (from ! (fld ! refl (hop ! (look-in ! 46 (sub ! 0 refl (whole !))) (stop !))))) (from ! (stop !)) (init ! 10 refl (tt, tt)) $
+      assigns ! (agg ! (and-then ! (load ! (from ! (stop !)) (look ! 10 refl)) (and-then ! (load ! (from ! (fld ! refl (stop !))) (look-in ! 46 (sub ! 1 refl (whole !)))) (no-more !)))) (from ! (stop !)) (init ! 8 refl (tt, (tt, (record { fits = room·register .0 }, tt)))) $
+      move ! (4 ∷ 5 ∷ []) $ lend-mut ! tt Record′.row κ·register q·register b·register o·register γ·register (length register) register (refl) (λ ν·6-register γ·6-register.
+      Call-note-put.calls ! mem run (fmOf 𝓤 H (W .laws) 𝓣) known-note-put (ν·6-register ∷ []) fullShare b·register o·register γ·6-register (length register) register (r3 s pages nodes register x-t i bytes) x-t (r1 s pages nodes register x-t i bytes) i ok·3 ok·x-t ok·1 ok·i (Facts.note-put-1 s pages nodes register x-t i bytes ok·s (room·pages .0) (room·nodes .0) (room·register .0) ok·x-t (ok·i .1) (room·bytes .0) ok·1 ok·2 (ok·3 .1) (ok·4 .1) same·5-pages) (and-then ! (load ! (from ! (stop !)) (look ! 8 refl)) (and-then ! (load ! (from ! (stop !)) (look ! 34 refl)) (and-then ! (load ! (from ! (stop !)) (look ! 44 refl)) (and-then ! (load ! (from ! (stop !)) (look ! 38 refl)) (and-then ! (load ! (from ! (stop !)) (look ! 42 refl)) (no-more !))))))
+      (λ same·6-register. back-mut ! tt Record′.row κ·register q·register b·register o·register γ·register (length register) register (register₆ s pages nodes register x-t i bytes) ν·6-register γ·6-register (refl) same·6-register room·register $ move ! (2 ∷ 3 ∷ 4 ∷ 5 ∷ 0 ∷ 1 ∷ 6 ∷ 7 ∷ []) $ land ! (from ! (stop !)) (store ! 18 refl (tt, tt)) $
+      here ! (‵ (flft κ·pages q·pages) ∷ ‵ (MutAt u8 κ·pages b·pages o·pages γ·pages (length pages) (pages₅ s pages nodes register x-t i bytes)) ∷ ‵ (flft κ·nodes q·nodes) ∷ ‵ (ShrAt u32 κ·nodes b·nodes o·nodes γ·nodes (length nodes) nodes) ∷ ‵ (flft κ·register q·register) ∷ ‵ (MutAt Record′.row κ·register b·register o·register γ·register (length register) (register₆ s pages nodes register x-t i bytes)) ∷ ‵ (flft κ·bytes q·bytes) ∷ ‵ (ShrAt u8 κ·bytes b·bytes o·bytes γ·bytes (length bytes) bytes) ∷ holds (sliceTy (tyRef erased mut (pointee (Record′.row .written)))) l₂₃ (sliceVal (b·register, o·register) (length register)) (holds (tyRef erased mut (pointee (Record′.row .written))) l₂₂ (vptr b·register o·register) (holds (tyInt w64) l₂₁ (vint w64 (r4 s pages nodes register x-t i bytes)) (holds (sliceTy (tyRef erased mut (pointee (u8 .written)))) l₂₀ (sliceVal (b·pages, o·pages) (length pages)) (holds (tyRef erased mut (pointee (u8 .written))) l₁₉ (vptr b·pages o·pages) (holds tyUnit l₁₈ vunit (holds (tyInt w64) l₁₇ (vint w64 (length bytes)) (holds (sliceTy (tyRef erased imm (pointee (Record′.row .written)))) l₁₆ (sliceVal (b·register, o·register) (length register)) (holds (tyRef erased imm (pointee (Record′.row .written))) l₁₅ (vptr b·register o·register) (holds (sliceTy (tyRef erased imm (pointee (u8 .written)))) l₁₄ (sliceVal (b·pages, o·pages) (length pages)) (holds (tyRef erased imm (pointee (u8 .written))) l₁₃ (vptr b·pages o·pages) (holds (sliceTy (tyRef erased imm (pointee (Record′.row .written)))) l₁₂ (sliceVal (b·register, o·register) (length register)) (holds (tyRef erased imm (pointee (Record′.row .written))) l₁₁ (vptr b·register o·register) (holds (tyInt w64) l₁₀ (vint w64 (r3 s pages nodes register x-t i bytes)) (holds (tyAt (code.function .locals) 9) l₉ (Lengths′.mach (r2 s pages nodes register x-t i bytes)) (holds (tyAt (code.function .locals) 8) l₈ (Record′.mach (r1 s pages nodes register x-t i bytes)) (holds (sliceTy (tyRef (named 3) imm (pointee (u8 .written)))) l₇ (sliceVal (b·bytes, o·bytes) (length bytes)) (holds (tyInt w64) l₆ (vint w64 i) (holds (tyAt (code.function .locals) 5) l₅ (Ticket′.mach x-t) (holds (sliceTy (tyRef (named 2) mut (pointee (Record′.row .written)))) l₄ (sliceVal (b·register, o·register) (length register)) (holds (sliceTy (tyRef (named 1) imm (pointee (u32 .written)))) l₃ (sliceVal (b·nodes, o·nodes) (length nodes)) (holds (sliceTy (tyRef (named 0) mut (pointee (u8 .written)))) l₂ (sliceVal (b·pages, o·pages) (length pages)) (holds (tyAt (code.function .locals) 1) l₁ (Store′.mach s) (empty (tyAt (code.function .locals) 0) l₀ [])))))))))))))))))))))))) $
+      Call-put-answer.calls ! mem run (fmOf 𝓤 H (W .laws) 𝓣) known-put-answer (r3 s pages nodes register x-t i bytes) ok·3 (and-then ! (load ! (from ! (stop !)) (look ! 35 refl)) (no-more !))
+      (λ ok·7. land ! (from ! (stop !)) (init ! 54 refl (PutIn′.typed 𝓤 H A W (r7 s pages nodes register x-t i bytes) ok·7)) $
+      here ! (‵ (flft κ·pages q·pages) ∷ ‵ (MutAt u8 κ·pages b·pages o·pages γ·pages (length pages) (pages₅ s pages nodes register x-t i bytes)) ∷ ‵ (flft κ·nodes q·nodes) ∷ ‵ (ShrAt u32 κ·nodes b·nodes o·nodes γ·nodes (length nodes) nodes) ∷ ‵ (flft κ·register q·register) ∷ ‵ (MutAt Record′.row κ·register b·register o·register γ·register (length register) (register₆ s pages nodes register x-t i bytes)) ∷ ‵ (flft κ·bytes q·bytes) ∷ ‵ (ShrAt u8 κ·bytes b·bytes o·bytes γ·bytes (length bytes) bytes) ∷ holds (sliceTy (tyRef erased mut (pointee (Record′.row .written)))) l₂₃ (sliceVal (b·register, o·register) (length register)) (holds (tyRef erased mut (pointee (Record′.row .written))) l₂₂ (vptr b·register o·register) (holds (tyInt w64) l₂₁ (vint w64 (r4 s pages nodes register x-t i bytes)) (holds (sliceTy (tyRef erased mut (pointee (u8 .written)))) l₂₀ (sliceVal (b·pages, o·pages) (length pages)) (holds (tyRef erased mut (pointee (u8 .written))) l₁₉ (vptr b·pages o·pages) (holds tyUnit l₁₈ vunit (holds (tyInt w64) l₁₇ (vint w64 (length bytes)) (holds (sliceTy (tyRef erased imm (pointee (Record′.row .written)))) l₁₆ (sliceVal (b·register, o·register) (length register)) (holds (tyRef erased imm (pointee (Record′.row .written))) l₁₅ (vptr b·register o·register) (holds (sliceTy (tyRef erased imm (pointee (u8 .written)))) l₁₄ (sliceVal (b·pages, o·pages) (length pages)) (holds (tyRef erased imm (pointee (u8 .written))) l₁₃ (vptr b·pages o·pages) (holds (sliceTy (tyRef erased imm (pointee (Record′.row .written)))) l₁₂ (sliceVal (b·register, o·register) (length register)) (holds (tyRef erased imm (pointee (Record′.row .written))) l₁₁ (vptr b·register o·register) (holds (tyInt w64) l₁₀ (vint w64 (r3 s pages nodes register x-t i bytes)) (holds (tyAt (code.function .locals) 9) l₉ (Lengths′.mach (r2 s pages nodes register x-t i bytes)) (holds (tyAt (code.function .locals) 8) l₈ (Record′.mach (r1 s pages nodes register x-t i bytes)) (holds (sliceTy (tyRef (named 3) imm (pointee (u8 .written)))) l₇ (sliceVal (b·bytes, o·bytes) (length bytes)) (holds (tyInt w64) l₆ (vint w64 i) (holds (tyAt (code.function .locals) 5) l₅ (Ticket′.mach x-t) (holds (sliceTy (tyRef (named 2) mut (pointee (Record′.row .written)))) l₄ (sliceVal (b·register, o·register) (length register)) (holds (sliceTy (tyRef (named 1) imm (pointee (u32 .written)))) l₃ (sliceVal (b·nodes, o·nodes) (length nodes)) (holds (sliceTy (tyRef (named 0) mut (pointee (u8 .written)))) l₂ (sliceVal (b·pages, o·pages) (length pages)) (holds (tyAt (code.function .locals) 1) l₁ (Store′.mach s) (holds (tyAt (code.function .locals) 0) l₀ (PutIn′.mach (r7 s pages nodes register x-t i bytes)) [])))))))))))))))))))))))) $
+      returns ! (look ! 54 refl) $
+      move ! (54 ∷ 55 ∷ []) $ forget ! 0 refl $ free1 ! $ move ! (52 ∷ 53 ∷ []) $ forget ! 0 refl $ free1 ! $ move ! (50 ∷ 51 ∷ []) $ forget ! 0 refl $ free1 ! $ move ! (48 ∷ 49 ∷ []) $ forget ! 0 refl $ free1 ! $ move ! (46 ∷ 47 ∷ []) $ forget ! 0 refl $ free1 ! $ move ! (44 ∷ 45 ∷ []) $ forget ! 0 refl $ free1 ! $ move ! (42 ∷ 43 ∷ []) $ forget ! 0 refl $ free1 ! $ move ! (40 ∷ 41 ∷ []) $ forget ! 0 refl $ free1 ! $ move ! (38 ∷ 39 ∷ []) $ forget ! 0 refl $ free1 ! $ move ! (36 ∷ 37 ∷ []) $ forget ! 0 refl $ free1 ! $ move ! (34 ∷ 35 ∷ []) $ forget ! 0 refl $ free1 ! $ move ! (32 ∷ 33 ∷ []) $ forget ! 0 refl $ free1 ! $ move ! (30 ∷ 31 ∷ []) $ forget ! 0 refl $ free1 ! $ move ! (28 ∷ 29 ∷ []) $ forget ! 0 refl $ free1 ! $ move ! (26 ∷ 27 ∷ []) $ forget ! 0 refl $ free1 ! $ move ! (24 ∷ 25 ∷ []) $ forget ! 0 refl $ free1 ! $ move ! (22 ∷ 23 ∷ []) $ forget ! 0 refl $ free1 ! $ move ! (20 ∷ 21 ∷ []) $ forget ! 0 refl $ free1 ! $ move ! (18 ∷ 19 ∷ []) $ forget ! 0 refl $ free1 ! $ move ! (16 ∷ 17 ∷ []) $ forget ! 0 refl $ free1 ! $ move ! (14 ∷ 15 ∷ []) $ forget ! 0 refl $ free1 ! $ move ! (12 ∷ 13 ∷ []) $ forget ! 0 refl $ free1 ! $ move ! (10 ∷ 11 ∷ []) $ forget ! 0 refl $ free1 ! $ move ! (8 ∷ 9 ∷ []) $ forget ! 0 refl $ free1 ! $ free0 ! $ by ! (exits (r7 s pages nodes register x-t i bytes) ok·7 (pages₅ s pages nodes register x-t i bytes) (sym (refl ∙ sym same·5-pages)) (register₆ s pages nodes register x-t i bytes) (sym (refl ∙ sym same·6-register)) (Facts.exit-1 s pages nodes register x-t i bytes ok·s (room·pages .0) (room·nodes .0) (room·register .0) ok·x-t (ok·i .1) (room·bytes .0) ok·1 ok·2 (ok·3 .1) (ok·4 .1) same·5-pages same·6-register ok·7))))))))))))))))))))))))))))))))))))))
 
 module _ {M : Type 1} (𝓤 : URA M) (H : Heap 𝓤) (A : Atoms 𝓤) (W : Given 𝓤 H A) (mem : Memory → SProp 𝓤) (run : Routine → Fun 𝓤) where
-  walks : (𝓣 : Tables 𝓤 H) → Triple 𝓤 (𝓣 .C #ticket-record) (Call-ticket-record.Asked 𝓤 H A mem run) → Triple 𝓤 (𝓣 .C #lengths-of) (Call-lengths-of.Asked 𝓤 H A mem run) → Triple 𝓤 (𝓣 .C #put-refusal) (Call-put-refusal.Asked 𝓤 H A mem run) → Triple 𝓤 (𝓣 .C #capped-sum) (Call-capped-sum.Asked 𝓤 H A mem run) → Triple 𝓤 (𝓣 .C #put-bytes) (Call-put-bytes.Asked 𝓤 H A mem run) → Triple 𝓤 (𝓣 .C #ticket-index) (Call-ticket-index.Asked 𝓤 H A mem run) → Triple 𝓤 (𝓣 .C #with-put) (Call-with-put.Asked 𝓤 H A mem run) → Triple 𝓤 (𝓣 .C #put-record) (Call-put-record.Asked 𝓤 H A mem run) → Triple 𝓤 (𝓣 .C #put-answer) (Call-put-answer.Asked 𝓤 H A mem run) → Walks 𝓤 H A put‴.ended stayed (WpFn 𝓤 H (𝓣 .C) (𝓣 .Λ) code.function) (put‴.clauses 𝓤 H A mem run)
-  walks 𝓣 known-ticket-record known-lengths-of known-put-refusal known-capped-sum known-put-bytes known-ticket-index known-with-put known-put-record known-put-answer = walked 𝓤 H A put‴.ended stayed (put‴.clauses 𝓤 H A mem run) (WpFn 𝓤 H (𝓣 .C) (𝓣 .Λ) code.function) (λ κs. (Store′.vals, (slice-vals, (slice-vals, (slice-vals, (Ticket′.vals, (uint-vals w64, (slice-vals, tt)))))))) (λ κs. (Store′.tells, (mut-slice-tells (named 0) (κs .0) u8, (shr-slice-tells (named 0) (κs .1 .0) u32, (mut-slice-tells (named 0) (κs .1 .1 .0) Record′.row, (Ticket′.tells, (uint-tells w64, (shr-slice-tells (named 0) (κs .1 .1 .1 .0) u8, tt))))))))
-      (λ κs qs bounds a g are. via 𝓤 _ (fst∗ 𝓤 _ (emp 𝓤)) (walk 𝓤 H A W mem run (a .0) (κs .0) (qs .0) (a .1 .0 .ptr .0) (a .1 .0 .ptr .1) (a .1 .0 .name) (a .1 .0 .now) (κs .1 .0) (qs .1 .0) (a .1 .1 .0 .ptr .0) (a .1 .1 .0 .ptr .1) (a .1 .1 .0 .name) (a .1 .1 .0 .now) (κs .1 .1 .0) (qs .1 .1 .0) (a .1 .1 .1 .0 .ptr .0) (a .1 .1 .1 .0 .ptr .1) (a .1 .1 .1 .0 .name) (a .1 .1 .1 .0 .now) (a .1 .1 .1 .1 .0) (a .1 .1 .1 .1 .1 .0) (κs .1 .1 .1 .0) (qs .1 .1 .1 .0) (a .1 .1 .1 .1 .1 .1 .0 .ptr .0) (a .1 .1 .1 .1 .1 .1 .0 .ptr .1) (a .1 .1 .1 .1 .1 .1 .0 .name) (a .1 .1 .1 .1 .1 .1 .0 .now) (are .0) (are .1 .0 .0 .1) (are .1 .1 .0 .0 .1) (are .1 .1 .1 .0 .0 .1) (are .1 .1 .1 .1 .0) (are .1 .1 .1 .1 .1 .0) (are .1 .1 .1 .1 .1 .1 .0 .0 .1) 𝓣 known-ticket-record known-lengths-of known-put-refusal known-capped-sum known-put-bytes known-ticket-index known-with-put known-put-record known-put-answer))
+  walks : (𝓣 : Tables 𝓤 H) → Triple 𝓤 (𝓣 .C #ticket-record) (Call-ticket-record.Asked 𝓤 H A mem run) → Triple 𝓤 (𝓣 .C #lengths-of) (Call-lengths-of.Asked 𝓤 H A mem run) → Triple 𝓤 (𝓣 .C #put-refusal) (Call-put-refusal.Asked 𝓤 H A mem run) → Triple 𝓤 (𝓣 .C #capped-sum) (Call-capped-sum.Asked 𝓤 H A mem run) → Triple 𝓤 (𝓣 .C #put-bytes) (Call-put-bytes.Asked 𝓤 H A mem run) → Triple 𝓤 (𝓣 .C #note-put) (Call-note-put.Asked 𝓤 H A mem run) → Triple 𝓤 (𝓣 .C #put-answer) (Call-put-answer.Asked 𝓤 H A mem run) → Walks 𝓤 H A put‴.ended stayed (WpFn 𝓤 H (𝓣 .C) (𝓣 .Λ) code.function) (put‴.clauses 𝓤 H A mem run)
+  walks 𝓣 known-ticket-record known-lengths-of known-put-refusal known-capped-sum known-put-bytes known-note-put known-put-answer = walked 𝓤 H A put‴.ended stayed (put‴.clauses 𝓤 H A mem run) (WpFn 𝓤 H (𝓣 .C) (𝓣 .Λ) code.function) (λ κs. (Store′.vals, (slice-vals, (slice-vals, (slice-vals, (Ticket′.vals, (uint-vals w64, (slice-vals, tt)))))))) (λ κs. (Store′.tells, (mut-slice-tells (named 0) (κs .0) u8, (shr-slice-tells (named 0) (κs .1 .0) u32, (mut-slice-tells (named 0) (κs .1 .1 .0) Record′.row, (Ticket′.tells, (uint-tells w64, (shr-slice-tells (named 0) (κs .1 .1 .1 .0) u8, tt))))))))
+      (λ κs qs bounds a g are. via 𝓤 _ (fst∗ 𝓤 _ (emp 𝓤)) (walk 𝓤 H A W mem run (a .0) (κs .0) (qs .0) (a .1 .0 .ptr .0) (a .1 .0 .ptr .1) (a .1 .0 .name) (a .1 .0 .now) (κs .1 .0) (qs .1 .0) (a .1 .1 .0 .ptr .0) (a .1 .1 .0 .ptr .1) (a .1 .1 .0 .name) (a .1 .1 .0 .now) (κs .1 .1 .0) (qs .1 .1 .0) (a .1 .1 .1 .0 .ptr .0) (a .1 .1 .1 .0 .ptr .1) (a .1 .1 .1 .0 .name) (a .1 .1 .1 .0 .now) (a .1 .1 .1 .1 .0) (a .1 .1 .1 .1 .1 .0) (κs .1 .1 .1 .0) (qs .1 .1 .1 .0) (a .1 .1 .1 .1 .1 .1 .0 .ptr .0) (a .1 .1 .1 .1 .1 .1 .0 .ptr .1) (a .1 .1 .1 .1 .1 .1 .0 .name) (a .1 .1 .1 .1 .1 .1 .0 .now) (are .0) (are .1 .0 .0 .1) (are .1 .1 .0 .0 .1) (are .1 .1 .1 .0 .0 .1) (are .1 .1 .1 .1 .0) (are .1 .1 .1 .1 .1 .0) (are .1 .1 .1 .1 .1 .1 .0 .0 .1) 𝓣 known-ticket-record known-lengths-of known-put-refusal known-capped-sum known-put-bytes known-note-put known-put-answer))
 
-meets : {M : Type 1} (𝓤 : URA M) (H : Heap 𝓤) (A : Atoms 𝓤) → Given 𝓤 H A → (mem : Memory → SProp 𝓤) (run : Routine → Fun 𝓤) (𝓣 : Tables 𝓤 H) → Triple 𝓤 (𝓣 .C #ticket-record) (Call-ticket-record.Asked 𝓤 H A mem run) → Triple 𝓤 (𝓣 .C #lengths-of) (Call-lengths-of.Asked 𝓤 H A mem run) → Triple 𝓤 (𝓣 .C #put-refusal) (Call-put-refusal.Asked 𝓤 H A mem run) → Triple 𝓤 (𝓣 .C #capped-sum) (Call-capped-sum.Asked 𝓤 H A mem run) → Triple 𝓤 (𝓣 .C #put-bytes) (Call-put-bytes.Asked 𝓤 H A mem run) → Triple 𝓤 (𝓣 .C #ticket-index) (Call-ticket-index.Asked 𝓤 H A mem run) → Triple 𝓤 (𝓣 .C #with-put) (Call-with-put.Asked 𝓤 H A mem run) → Triple 𝓤 (𝓣 .C #put-record) (Call-put-record.Asked 𝓤 H A mem run) → Triple 𝓤 (𝓣 .C #put-answer) (Call-put-answer.Asked 𝓤 H A mem run)
+meets : {M : Type 1} (𝓤 : URA M) (H : Heap 𝓤) (A : Atoms 𝓤) → Given 𝓤 H A → (mem : Memory → SProp 𝓤) (run : Routine → Fun 𝓤) (𝓣 : Tables 𝓤 H) → Triple 𝓤 (𝓣 .C #ticket-record) (Call-ticket-record.Asked 𝓤 H A mem run) → Triple 𝓤 (𝓣 .C #lengths-of) (Call-lengths-of.Asked 𝓤 H A mem run) → Triple 𝓤 (𝓣 .C #put-refusal) (Call-put-refusal.Asked 𝓤 H A mem run) → Triple 𝓤 (𝓣 .C #capped-sum) (Call-capped-sum.Asked 𝓤 H A mem run) → Triple 𝓤 (𝓣 .C #put-bytes) (Call-put-bytes.Asked 𝓤 H A mem run) → Triple 𝓤 (𝓣 .C #note-put) (Call-note-put.Asked 𝓤 H A mem run) → Triple 𝓤 (𝓣 .C #put-answer) (Call-put-answer.Asked 𝓤 H A mem run)
     → Meets 𝓤 H A put‴.signature (WpFn 𝓤 H (𝓣 .C) (𝓣 .Λ) code.function) (put‴.spec 𝓤 H A mem run)
-meets 𝓤 H A W mem run 𝓣 known-ticket-record known-lengths-of known-put-refusal known-capped-sum known-put-bytes known-ticket-index known-with-put known-put-record known-put-answer =
+meets 𝓤 H A W mem run 𝓣 known-ticket-record known-lengths-of known-put-refusal known-capped-sum known-put-bytes known-note-put known-put-answer =
     walk-meets 𝓤 H A put‴.ended stayed W (goes-none 𝓤 H A W 4 (λ _. Store′.row) yes (λ κs x f. refl), (goes-slice 𝓤 H A W 4 0 tt (plain (λ _. u8)), (goes-none-slice 𝓤 H A W 4 (1 ∷ []) tt (plain (λ _. u32)) yes, (goes-slice 𝓤 H A W 4 2 tt (plain (λ _. Record′.row)), (goes-none 𝓤 H A W 4 (λ _. Ticket′.row) yes (λ κs x f. refl), (goes-none 𝓤 H A W 4 (λ _. u64) yes (λ κs x f. refl), (goes-none-slice 𝓤 H A W 4 (3 ∷ []) tt (plain (λ _. u8)) yes, tt))))))) (put‴.clauses 𝓤 H A mem run)
-    (WpFn 𝓤 H (𝓣 .C) (𝓣 .Λ) code.function) (WpFn-mono 𝓤 H (W .laws) 𝓣 code.function) (walks 𝓤 H A W mem run 𝓣 known-ticket-record known-lengths-of known-put-refusal known-capped-sum known-put-bytes known-ticket-index known-with-put known-put-record known-put-answer)
+    (WpFn 𝓤 H (𝓣 .C) (𝓣 .Λ) code.function) (WpFn-mono 𝓤 H (W .laws) 𝓣 code.function) (walks 𝓤 H A W mem run 𝓣 known-ticket-record known-lengths-of known-put-refusal known-capped-sum known-put-bytes known-note-put known-put-answer)
 
 pub put-spec : {M : Type 1} → stated.statement M
 unfolding code.routine tablesOf
@@ -205,7 +189,5 @@ put-spec 𝓤 H 𝓜 𝓖 𝓡 =
     (cited 𝓤 H (Call-put-refusal.Asked 𝓤 H (𝓖 .A) (𝓜 .mem) (𝓡 .run)) 𝓜 𝓡 code.env #put-refusal def-put-refusal.routine code.calls-put·put-refusal (thm-put-refusal.met 𝓤 H 𝓜 𝓖 𝓡))
     (cited 𝓤 H (Call-capped-sum.Asked 𝓤 H (𝓖 .A) (𝓜 .mem) (𝓡 .run)) 𝓜 𝓡 code.env #capped-sum def-capped-sum.routine code.calls-versions·capped-sum (thm-capped-sum.met 𝓤 H 𝓜 𝓖 𝓡))
     (cited 𝓤 H (Call-put-bytes.Asked 𝓤 H (𝓖 .A) (𝓜 .mem) (𝓡 .run)) 𝓜 𝓡 code.env #put-bytes def-put-bytes.routine code.calls-put·put-bytes (thm-put-bytes.met 𝓤 H 𝓜 𝓖 𝓡))
-    (cited 𝓤 H (Call-ticket-index.Asked 𝓤 H (𝓖 .A) (𝓜 .mem) (𝓡 .run)) 𝓜 𝓡 code.env #ticket-index def-ticket-index.routine code.calls-versions·ticket-index (thm-ticket-index.met 𝓤 H 𝓜 𝓖 𝓡))
-    (cited 𝓤 H (Call-with-put.Asked 𝓤 H (𝓖 .A) (𝓜 .mem) (𝓡 .run)) 𝓜 𝓡 code.env #with-put def-with-put.routine code.calls-put·with-put (thm-with-put.met 𝓤 H 𝓜 𝓖 𝓡))
-    (cited 𝓤 H (Call-put-record.Asked 𝓤 H (𝓖 .A) (𝓜 .mem) (𝓡 .run)) 𝓜 𝓡 code.env #put-record def-put-record.routine code.calls-versions·put-record (thm-put-record.met 𝓤 H 𝓜 𝓖 𝓡))
+    (cited 𝓤 H (Call-note-put.Asked 𝓤 H (𝓖 .A) (𝓜 .mem) (𝓡 .run)) 𝓜 𝓡 code.env #note-put def-note-put.routine code.calls-put·note-put (thm-note-put.met 𝓤 H 𝓜 𝓖 𝓡))
     (cited 𝓤 H (Call-put-answer.Asked 𝓤 H (𝓖 .A) (𝓜 .mem) (𝓡 .run)) 𝓜 𝓡 code.env #put-answer def-put-answer.routine code.calls-put·put-answer (thm-put-answer.met 𝓤 H 𝓜 𝓖 𝓡)))

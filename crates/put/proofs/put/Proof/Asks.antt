@@ -28,9 +28,7 @@ use Rattle.versions.proofs.Generated.Say.lengths_of as lengths-of″
 use Rattle.put.proofs.Generated.Say.put_refusal as put-refusal″
 use Rattle.versions.proofs.Generated.Say.capped_sum as capped-sum″
 use Rattle.put.proofs.Generated.Say.put_bytes as put-bytes″
-use Rattle.versions.proofs.Generated.Say.ticket_index as ticket-index″
-use Rattle.put.proofs.Generated.Say.with_put as with-put″
-use Rattle.versions.proofs.Generated.Say.put_record as put-record″
+use Rattle.put.proofs.Generated.Say.note_put as note-put″
 use Rattle.put.proofs.Generated.Say.put_answer as put-answer″
 
 abbrev pub r1 : Store → List ℕ → List ℕ → List Record → Ticket → ℕ → List ℕ → Record
@@ -48,20 +46,20 @@ r4 s pages nodes register x-t i bytes = capped-sum″.res ((r1 s pages nodes reg
 abbrev pub pages₅ : Store → List ℕ → List ℕ → List Record → Ticket → ℕ → List ℕ → List ℕ
 pages₅ s pages nodes register x-t i bytes = put-bytes″.out-pages pages (r3 s pages nodes register x-t i bytes) (s .size) (r4 s pages nodes register x-t i bytes) bytes
 
-abbrev pub r6 : Store → List ℕ → List ℕ → List Record → Ticket → ℕ → List ℕ → ℕ
-r6 s pages nodes register x-t i bytes = ticket-index″.res x-t
+abbrev pub register₆ : Store → List ℕ → List ℕ → List Record → Ticket → ℕ → List ℕ → List Record
+register₆ s pages nodes register x-t i bytes = note-put″.out-register register (r3 s pages nodes register x-t i bytes) x-t (r1 s pages nodes register x-t i bytes) i
 
-abbrev pub r7 : Store → List ℕ → List ℕ → List Record → Ticket → ℕ → List ℕ → Record
-r7 s pages nodes register x-t i bytes = with-put″.res (r1 s pages nodes register x-t i bytes) i
+abbrev pub r7 : Store → List ℕ → List ℕ → List Record → Ticket → ℕ → List ℕ → PutIn
+r7 s pages nodes register x-t i bytes = put-answer″.res (r3 s pages nodes register x-t i bytes)
 
-abbrev pub register₈ : Store → List ℕ → List ℕ → List Record → Ticket → ℕ → List ℕ → List Record
-register₈ s pages nodes register x-t i bytes = put-record″.out-register register (r3 s pages nodes register x-t i bytes) (r6 s pages nodes register x-t i bytes) (r7 s pages nodes register x-t i bytes)
-
-abbrev pub r9 : Store → List ℕ → List ℕ → List Record → Ticket → ℕ → List ℕ → PutIn
-r9 s pages nodes register x-t i bytes = put-answer″.res (r3 s pages nodes register x-t i bytes)
+-- `note_put` asks: (k ≡ 0 → 0 < t .0) × (r ≡ nth noRecord register (t .0))
+abbrev pub note-put-1 : Type 0
+note-put-1 =
+    (s : Store) (pages : List ℕ) (nodes : List ℕ) (register : List Record) (x-t : Ticket) (i : ℕ) (bytes : List ℕ) (ok-s : Store′.Ok s) (len-pages : length pages < 2 ^ 64) (len-nodes : length nodes < 2 ^ 64) (len-register : length register < 2 ^ 64) (ok-x-t : Ticket′.Ok x-t) (fits-i : i < 2 ^ 64) (len-bytes : length bytes < 2 ^ 64) (ok-r1 : Record′.Ok (r1 s pages nodes register x-t i bytes)) (ok-r2 : Lengths′.Ok (r2 s pages nodes register x-t i bytes)) (fits-r3 : (r3 s pages nodes register x-t i bytes) < 2 ^ 64) (fits-r4 : (r4 s pages nodes register x-t i bytes) < 2 ^ 64) (same5-pages : length (pages₅ s pages nodes register x-t i bytes) ≡ length pages)
+    → note-put″.req register (r3 s pages nodes register x-t i bytes) x-t (r1 s pages nodes register x-t i bytes) i
 
 -- the function ensures: (r ≡ putOut s (areasOf pages nodes register) (t .0) i bytes) × (pages′ ≡ putPages s (areasOf pages nodes register) (t .0) i bytes) × (register′ ≡ putRegister s (areasOf pages nodes register) (t .0) i bytes)
 abbrev pub exit-1 : Type 0
 exit-1 =
-    (s : Store) (pages : List ℕ) (nodes : List ℕ) (register : List Record) (x-t : Ticket) (i : ℕ) (bytes : List ℕ) (ok-s : Store′.Ok s) (len-pages : length pages < 2 ^ 64) (len-nodes : length nodes < 2 ^ 64) (len-register : length register < 2 ^ 64) (ok-x-t : Ticket′.Ok x-t) (fits-i : i < 2 ^ 64) (len-bytes : length bytes < 2 ^ 64) (ok-r1 : Record′.Ok (r1 s pages nodes register x-t i bytes)) (ok-r2 : Lengths′.Ok (r2 s pages nodes register x-t i bytes)) (fits-r3 : (r3 s pages nodes register x-t i bytes) < 2 ^ 64) (fits-r4 : (r4 s pages nodes register x-t i bytes) < 2 ^ 64) (same5-pages : length (pages₅ s pages nodes register x-t i bytes) ≡ length pages) (fits-r6 : (r6 s pages nodes register x-t i bytes) < 2 ^ 64) (ok-r7 : Record′.Ok (r7 s pages nodes register x-t i bytes)) (same8-register : length (register₈ s pages nodes register x-t i bytes) ≡ length register) (ok-r9 : PutIn′.Ok (r9 s pages nodes register x-t i bytes))
-    → put″.ens s pages nodes register x-t i bytes (pages₅ s pages nodes register x-t i bytes) (register₈ s pages nodes register x-t i bytes) (r9 s pages nodes register x-t i bytes)
+    (s : Store) (pages : List ℕ) (nodes : List ℕ) (register : List Record) (x-t : Ticket) (i : ℕ) (bytes : List ℕ) (ok-s : Store′.Ok s) (len-pages : length pages < 2 ^ 64) (len-nodes : length nodes < 2 ^ 64) (len-register : length register < 2 ^ 64) (ok-x-t : Ticket′.Ok x-t) (fits-i : i < 2 ^ 64) (len-bytes : length bytes < 2 ^ 64) (ok-r1 : Record′.Ok (r1 s pages nodes register x-t i bytes)) (ok-r2 : Lengths′.Ok (r2 s pages nodes register x-t i bytes)) (fits-r3 : (r3 s pages nodes register x-t i bytes) < 2 ^ 64) (fits-r4 : (r4 s pages nodes register x-t i bytes) < 2 ^ 64) (same5-pages : length (pages₅ s pages nodes register x-t i bytes) ≡ length pages) (same6-register : length (register₆ s pages nodes register x-t i bytes) ≡ length register) (ok-r7 : PutIn′.Ok (r7 s pages nodes register x-t i bytes))
+    → put″.ens s pages nodes register x-t i bytes (pages₅ s pages nodes register x-t i bytes) (register₆ s pages nodes register x-t i bytes) (r7 s pages nodes register x-t i bytes)
