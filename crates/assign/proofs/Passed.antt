@@ -40,6 +40,10 @@ assign-passed s g r l t f e =
       version = lost .1 .1;
     }
 
+pub assign-ticket : (s : Store) (g : Lengths) (r : Record) (l t f : ℕ) → assignRefusal s g r l t f ≡ 0 → 0 < t
+unfolding assignRefusal assignRows
+assign-ticket s g r l t f e = let p = passed _ tt e in omega (arith, p .1 .0)
+
 -- Where the next version has a number in 64 bits, that is its number.
 pub number-next : (l : ℕ) (b : Branch) → b .assigned .0 < 2 ^ 64 - 1 → numberBy l b ≡ numberOf l (suc (b .assigned .0))
 number-next l b h = let e : min (b .assigned .0 + 1) (2 ^ 64 - 1) ≡ suc (b .assigned .0) = omega arith in ap (numberOf l) e

@@ -1,9 +1,11 @@
 // ASSIGN, as a write or an append: the next version of a line and its node count.
 ghost use mathlib.Core.Path.{_≡_};
-ghost use Prim.Native.Nat.{suc, min, max, _+_, _-_, _^_, _<_, _≤_};
+ghost use Prim.Native.Nat.{suc, pred, min, max, _+_, _-_, _^_, _<_, _≤_};
 ghost use lib.Dec.{ltb};
+ghost use lib.ListN.{getD};
 ghost use mathlib.Core.List.{[], _∷_};
-ghost use Rattle.tree.specs.Tree.{countOf};
+ghost use Rattle.tree.specs.Tree.{countOf, nth};
+ghost use Rattle.register.specs.Register.{noRecord, withRecord};
 ghost use Rattle.table.specs.Table.{_<?_, _gives_, noSuchLine, always, firstRefusal, unless};
 ghost use Rattle.versions.specs.Store.{areasOf, linesIn, lineIn};
 ghost use Rattle.assign.specs.Assign.{updateAt, numberBy, Roomy, allPut, roomRefusal, assignRefusal, assigned, withUpdate, withUpdateOf, withUpdatePart, withEntryOf, withAssigned, assignOut, assignRegister};
@@ -13,7 +15,6 @@ use lines::Line;
 use lines::number_of;
 use lines::with_entry;
 use register::Record;
-use register::record_at;
 use register::ticket_record;
 use register::within_limits;
 use spans::root_span;
@@ -29,7 +30,6 @@ use versions::capped_sum;
 use versions::lengths_of;
 use versions::line_state;
 use versions::lines_begun;
-use versions::put_record;
 use versions::ticket_index;
 use versions::ticket_refusal;
 use versions::with_line;
@@ -222,52 +222,67 @@ fn assigned_by(s: Store, l: Line, u: NewUpdate, k: u64) -> AssignOut
     }
 }
 
-// A record with its ticket's update.
-fn ticket_part(r: Record, k: u64) -> Record
-    ensures { λ q. ⌜ q ≡ withUpdateOf r k ⌝ }
-{
-    let mut q = r;
-    q.update = k;
-    q
-}
-
-// A record with update u's part anew, of ticket t, numbered c, its first node place, none woven.
-fn update_part(r: Record, t: Ticket, c: u64, u: NewUpdate, place: u64) -> Record
-    requires { ⌜ Figured u ⌝ }
-    ensures { λ q. ⌜ q ≡ withUpdatePart r (t .0) c (u .f .0) (u .last .0) (u .size) (min (place + u .height) (2 ^ 64 - 1)) ⌝ }
-{
-    let f = u.f;
-    let last = u.last;
-    let top = capped_sum(place, u.height);
-    let mut q = r;
-    q.ticket = t;
-    q.name = c;
-    q.f = f;
-    q.last = last;
-    q.top = top;
-    q.past = u.past;
-    q.span = u.span;
-    q.size = u.size;
-    q.count = u.count;
-    q.woven = 0;
-    q
-}
-
-// A record with update k as line l's own version.
-fn entry_part(r: Record, l: Line, k: u64) -> Record
-    ensures { λ q. ⌜ q ≡ withEntryOf r (l .0) k ⌝ }
-{
-    let entries = with_entry(r.entries, l, k);
-    let mut q = r;
-    q.entries = entries;
-    q
-}
-
 // The number of the version after the last assigned one of line l, whose state is b.
 fn next_number(l: Line, b: Branch) -> u64
     ensures { λ r. ⌜ r ≡ numberBy (l .0) b ⌝ }
 {
     number_of(l, Version(capped_sum(b.assigned.0, 1)))
+}
+
+// Notes the update of this number in the record of ticket t where the table's number k is 0: the one field that it changes is written.
+fn note_ticket(register: &mut [Record], k: u64, t: Ticket, update: u64)
+    requires { ⌜ (k ≡ 0 → 0 < t .0) ⌝ }
+    ensures { λ _.
+        let rs = now (register .entry) in
+        ⌜ now (register .exit) ≡ unless k rs (withRecord rs (pred (t .0)) (withUpdateOf (nth noRecord rs (t .0)) update)) ⌝ }
+{
+    let at = ticket_index(t);
+    if k == 0 && at < register.len() {
+        register[at].update = update;
+    }
+}
+
+// Writes update u's part anew, of ticket t, numbered c, its first node place, none woven, in the record at an index where the table's number k is 0.
+fn note_part(
+    register: &mut [Record],
+    k: u64,
+    at: usize,
+    t: Ticket,
+    c: u64,
+    u: NewUpdate,
+    place: u64,
+)
+    requires { ⌜ Figured u ⌝ }
+    ensures { λ _.
+        let rs = now (register .entry) in
+        ⌜ now (register .exit) ≡ unless k rs (withRecord rs at (withUpdatePart (getD rs at noRecord) (t .0) c (u .f .0) (u .last .0) (u .size) (min (place + u .height) (2 ^ 64 - 1)))) ⌝ }
+{
+    let top = capped_sum(place, u.height);
+    if k == 0 && at < register.len() {
+        register[at].ticket = t;
+        register[at].name = c;
+        register[at].f = u.f;
+        register[at].last = u.last;
+        register[at].top = top;
+        register[at].past = u.past;
+        register[at].span = u.span;
+        register[at].size = u.size;
+        register[at].count = u.count;
+        register[at].woven = 0;
+    }
+}
+
+// Notes the update of this number as line l's own version in the record at an index where the table's number k is 0.
+fn note_entry(register: &mut [Record], k: u64, at: usize, l: Line, update: u64)
+    ensures { λ _.
+        let rs = now (register .entry) in
+        ⌜ now (register .exit) ≡ unless k rs (withRecord rs at (withEntryOf (getD rs at noRecord) (l .0) update)) ⌝ }
+{
+    if k == 0 && at < register.len() {
+        let r = register[at];
+        let entries = with_entry(r.entries, l, update);
+        register[at].entries = entries;
+    }
 }
 
 // Writes what update u of ticket t, whose record is r, leaves in the register, where the table's number k is 0: the ticket's record gets the number of the next
@@ -281,23 +296,22 @@ fn note_update(
     r: Record,
     u: NewUpdate,
 )
-    requires { ⌜ (k ≡ 0 → Roomy s (l .0) (u .f .0) (r .n)) × (u ≡ newUpdate (lineIn s (l .0) .blob) (u .f .0) (r .n)) ⌝ }
+    requires { ⌜ (k ≡ 0 → Roomy s (l .0) (u .f .0) (r .n)) × (u ≡ newUpdate (lineIn s (l .0) .blob) (u .f .0) (r .n)) × (k ≡ 0 → 0 < t .0) × (r ≡ nth noRecord (now register) (t .0)) ⌝ }
     ensures { λ _. ⌜ now (register .exit) ≡ unless k (now (register .entry)) (withAssigned s (now (register .entry)) r (l .0) (t .0) (u .f .0)) ⌝ }
 {
     let b = line_state(s, l);
     let next = capped_sum(s.assigned, 1);
-    put_record(register, k, ticket_index(t), ticket_part(r, next));
-    let i = s.assigned as usize;
-    let q = record_at(register, i);
-    put_record(
+    note_ticket(register, k, t, next);
+    note_part(
         register,
         k,
-        i,
-        update_part(q, t, next_number(l, b), u, s.places),
+        s.assigned as usize,
+        t,
+        next_number(l, b),
+        u,
+        s.places,
     );
-    let j = b.assigned.0 as usize;
-    let e = record_at(register, j);
-    put_record(register, k, j, entry_part(e, l, next));
+    note_entry(register, k, b.assigned.0 as usize, l, next);
 }
 
 // ASSIGN ticket to line l as a write at page f.

@@ -71,48 +71,33 @@ use Rattle.versions.proofs.Generated.Call.capped_sum as Call-capped-sum
 use Rattle.versions.proofs.capped_sum.Symbol as def-capped-sum
 use Rattle.versions.proofs.capped_sum.Symbol.{name as #capped-sum}
 use Rattle.versions.proofs.capped_sum.Met as thm-capped-sum
-use Rattle.versions.proofs.Generated.Say.ticket_index as ticket-index″
-use Rattle.versions.proofs.Generated.Call.ticket_index as Call-ticket-index
-use Rattle.versions.proofs.ticket_index.Symbol as def-ticket-index
-use Rattle.versions.proofs.ticket_index.Symbol.{name as #ticket-index}
-use Rattle.versions.proofs.ticket_index.Met as thm-ticket-index
-use Rattle.assign.proofs.Generated.Say.ticket_part as ticket-part″
-use Rattle.assign.proofs.Generated.Call.ticket_part as Call-ticket-part
-use Rattle.assign.proofs.ticket_part.Symbol as def-ticket-part
-use Rattle.assign.proofs.ticket_part.Symbol.{name as #ticket-part}
-use Rattle.assign.proofs.ticket_part.Met as thm-ticket-part
-use Rattle.versions.proofs.Generated.Say.put_record as put-record″
-use Rattle.versions.proofs.Generated.Call.put_record as Call-put-record
-use Rattle.versions.proofs.put_record.Symbol as def-put-record
-use Rattle.versions.proofs.put_record.Symbol.{name as #put-record}
-use Rattle.versions.proofs.put_record.Met as thm-put-record
-use Rattle.register.proofs.Generated.Say.record_at as record-at″
-use Rattle.register.proofs.Generated.Call.record_at as Call-record-at
-use Rattle.register.proofs.record_at.Symbol as def-record-at
-use Rattle.register.proofs.record_at.Symbol.{name as #record-at}
-use Rattle.register.proofs.record_at.Met as thm-record-at
+use Rattle.assign.proofs.Generated.Say.note_ticket as note-ticket″
+use Rattle.assign.proofs.Generated.Call.note_ticket as Call-note-ticket
+use Rattle.assign.proofs.note_ticket.Symbol as def-note-ticket
+use Rattle.assign.proofs.note_ticket.Symbol.{name as #note-ticket}
+use Rattle.assign.proofs.note_ticket.Met as thm-note-ticket
 use Rattle.assign.proofs.Generated.Say.next_number as next-number″
 use Rattle.assign.proofs.Generated.Call.next_number as Call-next-number
 use Rattle.assign.proofs.next_number.Symbol as def-next-number
 use Rattle.assign.proofs.next_number.Symbol.{name as #next-number}
 use Rattle.assign.proofs.next_number.Met as thm-next-number
-use Rattle.assign.proofs.Generated.Say.update_part as update-part″
-use Rattle.assign.proofs.Generated.Call.update_part as Call-update-part
-use Rattle.assign.proofs.update_part.Symbol as def-update-part
-use Rattle.assign.proofs.update_part.Symbol.{name as #update-part}
-use Rattle.assign.proofs.update_part.Met as thm-update-part
-use Rattle.assign.proofs.Generated.Say.entry_part as entry-part″
-use Rattle.assign.proofs.Generated.Call.entry_part as Call-entry-part
-use Rattle.assign.proofs.entry_part.Symbol as def-entry-part
-use Rattle.assign.proofs.entry_part.Symbol.{name as #entry-part}
-use Rattle.assign.proofs.entry_part.Met as thm-entry-part
+use Rattle.assign.proofs.Generated.Say.note_part as note-part″
+use Rattle.assign.proofs.Generated.Call.note_part as Call-note-part
+use Rattle.assign.proofs.note_part.Symbol as def-note-part
+use Rattle.assign.proofs.note_part.Symbol.{name as #note-part}
+use Rattle.assign.proofs.note_part.Met as thm-note-part
+use Rattle.assign.proofs.Generated.Say.note_entry as note-entry″
+use Rattle.assign.proofs.Generated.Call.note_entry as Call-note-entry
+use Rattle.assign.proofs.note_entry.Symbol as def-note-entry
+use Rattle.assign.proofs.note_entry.Symbol.{name as #note-entry}
+use Rattle.assign.proofs.note_entry.Met as thm-note-entry
 use Rattle.assign.proofs.note_update.Key.{name as #self}
 use Rattle.assign.proofs.note_update as note-update‴
 use Rattle.assign.proofs.note_update.Statement as stated
 use Rattle.assign.proofs.note_update.Code as code
 use Rattle.assign.proofs.note_update.Proof.Facts as Facts
 use denote.Memory.{pointee}
-use Rattle.assign.proofs.note_update.Proof.Asks.{r1, r2, r3, r4, register₅, r6, r7, r8, register₉, r10, r11, register₁₂}
+use Rattle.assign.proofs.note_update.Proof.Asks.{r1, r2, register₃, r4, register₅, register₆}
 
 abbrev stayed : Stays (note-update‴.ended .signature .params) (note-update‴.ended .kept)
 stayed = (stay-slice (0 ∷ []) tt (plain (λ _. Record′.row)), (stay-none (λ _. u64) yes, (stay-none (λ _. Store′.row) yes, (stay-none (λ _. Line′.row) yes, (stay-none (λ _. Ticket′.row) yes, (stay-none (λ _. Record′.row) yes, (stay-none (λ _. NewUpdate′.row) yes, tt)))))))
@@ -135,80 +120,56 @@ module _ {M : Type 1} (𝓤 : URA M) (H : Heap 𝓤) (A : Atoms 𝓤) (W : Given
       qed W (‵ (flft κ·register q·register) ∷ ‵ (MutAt Record′.row κ·register b·register o·register γ·register (length register) zs·register) ∷ []) ∵ suffices ! _ (ends-at 𝓤 H A note-update‴.ended stayed (note-update‴.clauses 𝓤 H A mem run) W bound (vunit) tt (zs·register, (tt, (tt, (tt, (tt, (tt, (tt, tt))))))) (same·register, (tt, (tt, (tt, (tt, (tt, (tt, tt)))))))) $ says ! said $
       nothing ! $ move ! (1 ∷ 0 ∷ []) $ join ! $ frame ! $ nothing ! $ owned ! NewUpdate′.row (Is NewUpdate′.row) (NewUpdate′.makes 𝓤 H A) x-u _ ok·x-u $ fjoin ! $ owned ! Record′.row (Is Record′.row) (Record′.makes 𝓤 H A) x-r _ ok·x-r $ fjoin ! $ owned ! Ticket′.row (Is Ticket′.row) (Ticket′.makes 𝓤 H A) x-t _ ok·x-t $ fjoin ! $ owned ! Line′.row (Is Line′.row) (Line′.makes 𝓤 H A) x-l _ ok·x-l $ fjoin ! $ owned ! Store′.row (Is Store′.row) (Store′.makes 𝓤 H A) s _ ok·s $ fjoin ! $ owned ! u64 (Is u64) (uint-makes 𝓤 H A W w64) x-k _ ok·x-k $ fjoin ! $ move ! (1 ∷ 0 ∷ []) $ fjoin ! $ frame ! $ feqI ! (List Val) (vunit ∷ []) (vunit ∷ []) refl $ done !
 
-  walk : (𝓣 : Tables 𝓤 H) (known-line-state : Triple 𝓤 (𝓣 .C #line-state) (Call-line-state.Asked 𝓤 H A mem run)) (known-capped-sum : Triple 𝓤 (𝓣 .C #capped-sum) (Call-capped-sum.Asked 𝓤 H A mem run)) (known-ticket-index : Triple 𝓤 (𝓣 .C #ticket-index) (Call-ticket-index.Asked 𝓤 H A mem run)) (known-ticket-part : Triple 𝓤 (𝓣 .C #ticket-part) (Call-ticket-part.Asked 𝓤 H A mem run)) (known-put-record : Triple 𝓤 (𝓣 .C #put-record) (Call-put-record.Asked 𝓤 H A mem run)) (known-record-at : Triple 𝓤 (𝓣 .C #record-at) (Call-record-at.Asked 𝓤 H A mem run)) (known-next-number : Triple 𝓤 (𝓣 .C #next-number) (Call-next-number.Asked 𝓤 H A mem run)) (known-update-part : Triple 𝓤 (𝓣 .C #update-part) (Call-update-part.Asked 𝓤 H A mem run)) (known-entry-part : Triple 𝓤 (𝓣 .C #entry-part) (Call-entry-part.Asked 𝓤 H A mem run)) → ent 𝓤 (onEntry 𝓤 H A note-update‴.signature (κ·register, tt) (q·register, tt) all-args all-vals)
+  walk : (𝓣 : Tables 𝓤 H) (known-line-state : Triple 𝓤 (𝓣 .C #line-state) (Call-line-state.Asked 𝓤 H A mem run)) (known-capped-sum : Triple 𝓤 (𝓣 .C #capped-sum) (Call-capped-sum.Asked 𝓤 H A mem run)) (known-note-ticket : Triple 𝓤 (𝓣 .C #note-ticket) (Call-note-ticket.Asked 𝓤 H A mem run)) (known-next-number : Triple 𝓤 (𝓣 .C #next-number) (Call-next-number.Asked 𝓤 H A mem run)) (known-note-part : Triple 𝓤 (𝓣 .C #note-part) (Call-note-part.Asked 𝓤 H A mem run)) (known-note-entry : Triple 𝓤 (𝓣 .C #note-entry) (Call-note-entry.Asked 𝓤 H A mem run)) → ent 𝓤 (onEntry 𝓤 H A note-update‴.signature (κ·register, tt) (q·register, tt) all-args all-vals)
       (WpFn 𝓤 H (𝓣 .C) (𝓣 .Λ) code.function (sliceVal (b·register, o·register) (length register) ∷ vint w64 x-k ∷ Store′.mach s ∷ Line′.mach x-l ∷ Ticket′.mach x-t ∷ Record′.mach x-r ∷ NewUpdate′.mach x-u ∷ []) Post)
-  walk 𝓣 known-line-state known-capped-sum known-ticket-index known-ticket-part known-put-record known-record-at known-next-number known-update-part known-entry-part =
+  walk 𝓣 known-line-state known-capped-sum known-note-ticket known-next-number known-note-part known-note-entry =
       qed W ((‵ (flft κ·register q·register) ⊛ ‵ ftrue) ∷ ‵ (owns (MutSlice (named 0) κ·register Record′.row ∷ u64 ∷ Store′.row ∷ Line′.row ∷ Ticket′.row ∷ Record′.row ∷ NewUpdate′.row ∷ []) all-args all-vals) ∷ []) ∵ enter ! (𝓣 .C) (𝓣 .Λ) code.function (sliceVal (b·register, o·register) (length register) ∷ vint w64 x-k ∷ Store′.mach s ∷ Line′.mach x-l ∷ Ticket′.mach x-t ∷ Record′.mach x-r ∷ NewUpdate′.mach x-u ∷ []) _ $
-      alloc1 ! (λ l₀. alloc1 ! (λ l₁. alloc1 ! (λ l₂. alloc1 ! (λ l₃. alloc1 ! (λ l₄. alloc1 ! (λ l₅. alloc1 ! (λ l₆. alloc1 ! (λ l₇. alloc1 ! (λ l₈. alloc1 ! (λ l₉. alloc1 ! (λ l₁₀. alloc1 ! (λ l₁₁. alloc1 ! (λ l₁₂. alloc1 ! (λ l₁₃. alloc1 ! (λ l₁₄. alloc1 ! (λ l₁₅. alloc1 ! (λ l₁₆. alloc1 ! (λ l₁₇. alloc1 ! (λ l₁₈. alloc1 ! (λ l₁₉. alloc1 ! (λ l₂₀. alloc1 ! (λ l₂₁. alloc1 ! (λ l₂₂. alloc1 ! (λ l₂₃. alloc1 ! (λ l₂₄. alloc1 ! (λ l₂₅. alloc1 ! (λ l₂₆. alloc1 ! (λ l₂₇. alloc0 ! $ params1 ! $
-      pass1 ! (init ! 52 refl (tt, (tt, (record { fits = room·register .0 }, tt)))) $ pass1 ! (init ! 50 refl (tt, record { fits = ok·x-k .1 })) $ pass1 ! (init ! 48 refl (Store′.typed 𝓤 H A W s ok·s)) $ pass1 ! (init ! 46 refl (Line′.typed 𝓤 H A W x-l ok·x-l)) $ pass1 ! (init ! 44 refl (Ticket′.typed 𝓤 H A W x-t ok·x-t)) $ pass1 ! (init ! 42 refl (Record′.typed 𝓤 H A W x-r ok·x-r)) $ pass1 ! (init ! 40 refl (NewUpdate′.typed 𝓤 H A W x-u ok·x-u)) $ pass0 ! $
-      move ! (57 ∷ []) $ fsplit ! $ move ! (1 ∷ []) $ fsplit ! $ drop ! $ fsplit ! $ drop ! $ fsplit ! $ drop ! $ fsplit ! $ drop ! $ fsplit ! $ drop ! $ fsplit ! $ drop ! $ drop ! $ move ! (57 ∷ []) $ split ! $ move ! (1 ∷ []) $ drop ! $
-      Call-line-state.calls ! mem run (fmOf 𝓤 H (W .laws) 𝓣) known-line-state s x-l ok·s ok·x-l (and-then ! (load ! (from ! (stop !)) (look ! 51 refl)) (and-then ! (load ! (from ! (stop !)) (look ! 49 refl)) (no-more !)))
-      (λ ok·1. land ! (from ! (stop !)) (init ! 40 refl (Branch′.typed 𝓤 H A W (r1 register x-k s x-l x-t x-r x-u) ok·1)) $
-      here ! (‵ (flft κ·register q·register) ∷ ‵ (MutAt Record′.row κ·register b·register o·register γ·register (length register) register) ∷ empty (sliceTy (tyRef erased mut (pointee (Record′.row .written)))) l₂₇ (empty (tyRef erased mut (pointee (Record′.row .written))) l₂₆ (empty (sliceTy (tyRef erased imm (pointee (Record′.row .written)))) l₂₅ (empty (tyRef erased imm (pointee (Record′.row .written))) l₂₄ (empty (tyInt w64) l₂₃ (empty (sliceTy (tyRef erased mut (pointee (Record′.row .written)))) l₂₂ (empty (tyRef erased mut (pointee (Record′.row .written))) l₂₁ (empty (sliceTy (tyRef erased imm (pointee (Record′.row .written)))) l₂₀ (empty (tyRef erased imm (pointee (Record′.row .written))) l₁₉ (empty (tyAt (code.function .locals) 18) l₁₈ (empty (tyInt w64) l₁₇ (empty (sliceTy (tyRef erased mut (pointee (Record′.row .written)))) l₁₆ (empty (tyRef erased mut (pointee (Record′.row .written))) l₁₅ (empty tyUnit l₁₄ (empty (tyAt (code.function .locals) 13) l₁₃ (empty (tyInt w64) l₁₂ (empty (tyAt (code.function .locals) 11) l₁₁ (empty (tyInt w64) l₁₀ (empty (tyInt w64) l₉ (holds (tyAt (code.function .locals) 8) l₈ (Branch′.mach (r1 register x-k s x-l x-t x-r x-u)) (holds (tyAt (code.function .locals) 7) l₇ (NewUpdate′.mach x-u) (holds (tyAt (code.function .locals) 6) l₆ (Record′.mach x-r) (holds (tyAt (code.function .locals) 5) l₅ (Ticket′.mach x-t) (holds (tyAt (code.function .locals) 4) l₄ (Line′.mach x-l) (holds (tyAt (code.function .locals) 3) l₃ (Store′.mach s) (holds (tyInt w64) l₂ (vint w64 x-k) (holds (sliceTy (tyRef (named 0) mut (pointee (Record′.row .written)))) l₁ (sliceVal (b·register, o·register) (length register)) (empty tyUnit l₀ [])))))))))))))))))))))))))))) $
-      Call-capped-sum.calls ! mem run (fmOf 𝓤 H (W .laws) 𝓣) known-capped-sum (s .assigned) 1 (Store′.ok-assigned s ok·s) (refl, lit< tt) (and-then ! (load ! (from ! (fld ! refl (stop !))) (look-in ! 51 (sub ! 6 refl (whole !)))) (and-then ! (lit ! tt) (no-more !)))
-      (λ ok·2. land ! (from ! (stop !)) (init ! 38 refl (tt, record { fits = ok·2 .1 })) $
-      here ! (‵ (flft κ·register q·register) ∷ ‵ (MutAt Record′.row κ·register b·register o·register γ·register (length register) register) ∷ empty (sliceTy (tyRef erased mut (pointee (Record′.row .written)))) l₂₇ (empty (tyRef erased mut (pointee (Record′.row .written))) l₂₆ (empty (sliceTy (tyRef erased imm (pointee (Record′.row .written)))) l₂₅ (empty (tyRef erased imm (pointee (Record′.row .written))) l₂₄ (empty (tyInt w64) l₂₃ (empty (sliceTy (tyRef erased mut (pointee (Record′.row .written)))) l₂₂ (empty (tyRef erased mut (pointee (Record′.row .written))) l₂₁ (empty (sliceTy (tyRef erased imm (pointee (Record′.row .written)))) l₂₀ (empty (tyRef erased imm (pointee (Record′.row .written))) l₁₉ (empty (tyAt (code.function .locals) 18) l₁₈ (empty (tyInt w64) l₁₇ (empty (sliceTy (tyRef erased mut (pointee (Record′.row .written)))) l₁₆ (empty (tyRef erased mut (pointee (Record′.row .written))) l₁₅ (empty tyUnit l₁₄ (empty (tyAt (code.function .locals) 13) l₁₃ (empty (tyInt w64) l₁₂ (empty (tyAt (code.function .locals) 11) l₁₁ (empty (tyInt w64) l₁₀ (holds (tyInt w64) l₉ (vint w64 (r2 register x-k s x-l x-t x-r x-u)) (holds (tyAt (code.function .locals) 8) l₈ (Branch′.mach (r1 register x-k s x-l x-t x-r x-u)) (holds (tyAt (code.function .locals) 7) l₇ (NewUpdate′.mach x-u) (holds (tyAt (code.function .locals) 6) l₆ (Record′.mach x-r) (holds (tyAt (code.function .locals) 5) l₅ (Ticket′.mach x-t) (holds (tyAt (code.function .locals) 4) l₄ (Line′.mach x-l) (holds (tyAt (code.function .locals) 3) l₃ (Store′.mach s) (holds (tyInt w64) l₂ (vint w64 x-k) (holds (sliceTy (tyRef (named 0) mut (pointee (Record′.row .written)))) l₁ (sliceVal (b·register, o·register) (length register)) (empty tyUnit l₀ [])))))))))))))))))))))))))))) $
-      assigns ! (addr ! (from ! (fld ! refl (hop ! (look-in ! 54 (sub ! 0 refl (whole !))) (stop !))))) (from ! (stop !)) (init ! 26 refl (tt, tt)) $
-      assigns ! (agg ! (and-then ! (load ! (from ! (stop !)) (look ! 26 refl)) (and-then ! (load ! (from ! (fld ! refl (stop !))) (look-in ! 54 (sub ! 1 refl (whole !)))) (no-more !)))) (from ! (stop !)) (init ! 24 refl (tt, (tt, (record { fits = room·register .0 }, tt)))) $
-      Call-ticket-index.calls ! mem run (fmOf 𝓤 H (W .laws) 𝓣) known-ticket-index x-t ok·x-t (and-then ! (load ! (from ! (stop !)) (look ! 47 refl)) (no-more !))
-      (λ ok·3. land ! (from ! (stop !)) (init ! 22 refl (tt, record { fits = ok·3 .1 })) $
-      here ! (‵ (flft κ·register q·register) ∷ ‵ (MutAt Record′.row κ·register b·register o·register γ·register (length register) register) ∷ empty (sliceTy (tyRef erased mut (pointee (Record′.row .written)))) l₂₇ (empty (tyRef erased mut (pointee (Record′.row .written))) l₂₆ (empty (sliceTy (tyRef erased imm (pointee (Record′.row .written)))) l₂₅ (empty (tyRef erased imm (pointee (Record′.row .written))) l₂₄ (empty (tyInt w64) l₂₃ (empty (sliceTy (tyRef erased mut (pointee (Record′.row .written)))) l₂₂ (empty (tyRef erased mut (pointee (Record′.row .written))) l₂₁ (empty (sliceTy (tyRef erased imm (pointee (Record′.row .written)))) l₂₀ (empty (tyRef erased imm (pointee (Record′.row .written))) l₁₉ (empty (tyAt (code.function .locals) 18) l₁₈ (holds (tyInt w64) l₁₇ (vint w64 (r3 register x-k s x-l x-t x-r x-u)) (holds (sliceTy (tyRef erased mut (pointee (Record′.row .written)))) l₁₆ (sliceVal (b·register, o·register) (length register)) (holds (tyRef erased mut (pointee (Record′.row .written))) l₁₅ (vptr b·register o·register) (empty tyUnit l₁₄ (empty (tyAt (code.function .locals) 13) l₁₃ (empty (tyInt w64) l₁₂ (empty (tyAt (code.function .locals) 11) l₁₁ (empty (tyInt w64) l₁₀ (holds (tyInt w64) l₉ (vint w64 (r2 register x-k s x-l x-t x-r x-u)) (holds (tyAt (code.function .locals) 8) l₈ (Branch′.mach (r1 register x-k s x-l x-t x-r x-u)) (holds (tyAt (code.function .locals) 7) l₇ (NewUpdate′.mach x-u) (holds (tyAt (code.function .locals) 6) l₆ (Record′.mach x-r) (holds (tyAt (code.function .locals) 5) l₅ (Ticket′.mach x-t) (holds (tyAt (code.function .locals) 4) l₄ (Line′.mach x-l) (holds (tyAt (code.function .locals) 3) l₃ (Store′.mach s) (holds (tyInt w64) l₂ (vint w64 x-k) (holds (sliceTy (tyRef (named 0) mut (pointee (Record′.row .written)))) l₁ (sliceVal (b·register, o·register) (length register)) (empty tyUnit l₀ [])))))))))))))))))))))))))))) $
-      Call-ticket-part.calls ! mem run (fmOf 𝓤 H (W .laws) 𝓣) known-ticket-part x-r (r2 register x-k s x-l x-t x-r x-u) ok·x-r ok·2 (and-then ! (load ! (from ! (stop !)) (look ! 45 refl)) (and-then ! (load ! (from ! (stop !)) (look ! 39 refl)) (no-more !)))
-      (λ ok·4. land ! (from ! (stop !)) (init ! 20 refl (Record′.typed 𝓤 H A W (r4 register x-k s x-l x-t x-r x-u) ok·4)) $
-      here ! (‵ (flft κ·register q·register) ∷ ‵ (MutAt Record′.row κ·register b·register o·register γ·register (length register) register) ∷ empty (sliceTy (tyRef erased mut (pointee (Record′.row .written)))) l₂₇ (empty (tyRef erased mut (pointee (Record′.row .written))) l₂₆ (empty (sliceTy (tyRef erased imm (pointee (Record′.row .written)))) l₂₅ (empty (tyRef erased imm (pointee (Record′.row .written))) l₂₄ (empty (tyInt w64) l₂₃ (empty (sliceTy (tyRef erased mut (pointee (Record′.row .written)))) l₂₂ (empty (tyRef erased mut (pointee (Record′.row .written))) l₂₁ (empty (sliceTy (tyRef erased imm (pointee (Record′.row .written)))) l₂₀ (empty (tyRef erased imm (pointee (Record′.row .written))) l₁₉ (holds (tyAt (code.function .locals) 18) l₁₈ (Record′.mach (r4 register x-k s x-l x-t x-r x-u)) (holds (tyInt w64) l₁₇ (vint w64 (r3 register x-k s x-l x-t x-r x-u)) (holds (sliceTy (tyRef erased mut (pointee (Record′.row .written)))) l₁₆ (sliceVal (b·register, o·register) (length register)) (holds (tyRef erased mut (pointee (Record′.row .written))) l₁₅ (vptr b·register o·register) (empty tyUnit l₁₄ (empty (tyAt (code.function .locals) 13) l₁₃ (empty (tyInt w64) l₁₂ (empty (tyAt (code.function .locals) 11) l₁₁ (empty (tyInt w64) l₁₀ (holds (tyInt w64) l₉ (vint w64 (r2 register x-k s x-l x-t x-r x-u)) (holds (tyAt (code.function .locals) 8) l₈ (Branch′.mach (r1 register x-k s x-l x-t x-r x-u)) (holds (tyAt (code.function .locals) 7) l₇ (NewUpdate′.mach x-u) (holds (tyAt (code.function .locals) 6) l₆ (Record′.mach x-r) (holds (tyAt (code.function .locals) 5) l₅ (Ticket′.mach x-t) (holds (tyAt (code.function .locals) 4) l₄ (Line′.mach x-l) (holds (tyAt (code.function .locals) 3) l₃ (Store′.mach s) (holds (tyInt w64) l₂ (vint w64 x-k) (holds (sliceTy (tyRef (named 0) mut (pointee (Record′.row .written)))) l₁ (sliceVal (b·register, o·register) (length register)) (empty tyUnit l₀ [])))))))))))))))))))))))))))) $
-      lend-mut ! tt Record′.row κ·register q·register b·register o·register γ·register (length register) register (refl) (λ ν·5-register γ·5-register.
-      Call-put-record.calls ! mem run (fmOf 𝓤 H (W .laws) 𝓣) known-put-record (ν·5-register ∷ []) fullShare b·register o·register γ·5-register (length register) register x-k (r3 register x-k s x-l x-t x-r x-u) (r4 register x-k s x-l x-t x-r x-u) ok·x-k ok·3 ok·4 (and-then ! (load ! (from ! (stop !)) (look ! 24 refl)) (and-then ! (load ! (from ! (stop !)) (look ! 52 refl)) (and-then ! (load ! (from ! (stop !)) (look ! 22 refl)) (and-then ! (load ! (from ! (stop !)) (look ! 20 refl)) (no-more !)))))
-      (λ same·5-register. back-mut ! tt Record′.row κ·register q·register b·register o·register γ·register (length register) register (register₅ register x-k s x-l x-t x-r x-u) ν·5-register γ·5-register (refl) same·5-register room·register $ land ! (from ! (stop !)) (init ! 28 refl (tt, tt)) $
-      here ! (‵ (flft κ·register q·register) ∷ ‵ (MutAt Record′.row κ·register b·register o·register γ·register (length register) (register₅ register x-k s x-l x-t x-r x-u)) ∷ empty (sliceTy (tyRef erased mut (pointee (Record′.row .written)))) l₂₇ (empty (tyRef erased mut (pointee (Record′.row .written))) l₂₆ (empty (sliceTy (tyRef erased imm (pointee (Record′.row .written)))) l₂₅ (empty (tyRef erased imm (pointee (Record′.row .written))) l₂₄ (empty (tyInt w64) l₂₃ (empty (sliceTy (tyRef erased mut (pointee (Record′.row .written)))) l₂₂ (empty (tyRef erased mut (pointee (Record′.row .written))) l₂₁ (empty (sliceTy (tyRef erased imm (pointee (Record′.row .written)))) l₂₀ (empty (tyRef erased imm (pointee (Record′.row .written))) l₁₉ (holds (tyAt (code.function .locals) 18) l₁₈ (Record′.mach (r4 register x-k s x-l x-t x-r x-u)) (holds (tyInt w64) l₁₇ (vint w64 (r3 register x-k s x-l x-t x-r x-u)) (holds (sliceTy (tyRef erased mut (pointee (Record′.row .written)))) l₁₆ (sliceVal (b·register, o·register) (length register)) (holds (tyRef erased mut (pointee (Record′.row .written))) l₁₅ (vptr b·register o·register) (holds tyUnit l₁₄ vunit (empty (tyAt (code.function .locals) 13) l₁₃ (empty (tyInt w64) l₁₂ (empty (tyAt (code.function .locals) 11) l₁₁ (empty (tyInt w64) l₁₀ (holds (tyInt w64) l₉ (vint w64 (r2 register x-k s x-l x-t x-r x-u)) (holds (tyAt (code.function .locals) 8) l₈ (Branch′.mach (r1 register x-k s x-l x-t x-r x-u)) (holds (tyAt (code.function .locals) 7) l₇ (NewUpdate′.mach x-u) (holds (tyAt (code.function .locals) 6) l₆ (Record′.mach x-r) (holds (tyAt (code.function .locals) 5) l₅ (Ticket′.mach x-t) (holds (tyAt (code.function .locals) 4) l₄ (Line′.mach x-l) (holds (tyAt (code.function .locals) 3) l₃ (Store′.mach s) (holds (tyInt w64) l₂ (vint w64 x-k) (holds (sliceTy (tyRef (named 0) mut (pointee (Record′.row .written)))) l₁ (sliceVal (b·register, o·register) (length register)) (empty tyUnit l₀ [])))))))))))))))))))))))))))) $
-      assigns ! (of-opd ! (load ! (from ! (fld ! refl (stop !))) (look-in ! 50 (sub ! 6 refl (whole !))))) (from ! (stop !)) (init ! 36 refl (tt, record { fits = (Store′.ok-assigned s ok·s) .1 })) $
-      assigns ! (addr ! (from ! (fld ! refl (hop ! (look-in ! 54 (sub ! 0 refl (whole !))) (stop !))))) (from ! (stop !)) (init ! 18 refl (tt, tt)) $
-      assigns ! (agg ! (and-then ! (load ! (from ! (stop !)) (look ! 18 refl)) (and-then ! (load ! (from ! (fld ! refl (stop !))) (look-in ! 54 (sub ! 1 refl (whole !)))) (no-more !)))) (from ! (stop !)) (init ! 16 refl (tt, (tt, (record { fits = room·register .0 }, tt)))) $
-      lend-shr ! tt Record′.row κ·register q·register b·register o·register γ·register (length register) (register₅ register x-k s x-l x-t x-r x-u) (refl ∙ sym same·5-register) (λ ν·6-register γ·6-register.
-      Call-record-at.calls ! mem run (fmOf 𝓤 H (W .laws) 𝓣) known-record-at (ν·6-register ∷ []) fullShare b·register o·register γ·6-register (length register) (register₅ register x-k s x-l x-t x-r x-u) (s .assigned) (Store′.ok-assigned s ok·s) (and-then ! (load ! (from ! (stop !)) (look ! 17 refl)) (and-then ! (load ! (from ! (stop !)) (look ! 37 refl)) (no-more !)))
-      (λ ok·6. back-shr ! tt Record′.row κ·register q·register b·register o·register γ·register (length register) (register₅ register x-k s x-l x-t x-r x-u) ν·6-register (refl ∙ sym same·5-register) room·register $ land ! (from ! (stop !)) (init ! 34 refl (Record′.typed 𝓤 H A W (r6 register x-k s x-l x-t x-r x-u) ok·6)) $
-      here ! (‵ (flft κ·register q·register) ∷ ‵ (MutAt Record′.row κ·register b·register o·register γ·register (length register) (register₅ register x-k s x-l x-t x-r x-u)) ∷ empty (sliceTy (tyRef erased mut (pointee (Record′.row .written)))) l₂₇ (empty (tyRef erased mut (pointee (Record′.row .written))) l₂₆ (empty (sliceTy (tyRef erased imm (pointee (Record′.row .written)))) l₂₅ (empty (tyRef erased imm (pointee (Record′.row .written))) l₂₄ (empty (tyInt w64) l₂₃ (empty (sliceTy (tyRef erased mut (pointee (Record′.row .written)))) l₂₂ (empty (tyRef erased mut (pointee (Record′.row .written))) l₂₁ (holds (sliceTy (tyRef erased imm (pointee (Record′.row .written)))) l₂₀ (sliceVal (b·register, o·register) (length register)) (holds (tyRef erased imm (pointee (Record′.row .written))) l₁₉ (vptr b·register o·register) (holds (tyAt (code.function .locals) 18) l₁₈ (Record′.mach (r4 register x-k s x-l x-t x-r x-u)) (holds (tyInt w64) l₁₇ (vint w64 (r3 register x-k s x-l x-t x-r x-u)) (holds (sliceTy (tyRef erased mut (pointee (Record′.row .written)))) l₁₆ (sliceVal (b·register, o·register) (length register)) (holds (tyRef erased mut (pointee (Record′.row .written))) l₁₅ (vptr b·register o·register) (holds tyUnit l₁₄ vunit (empty (tyAt (code.function .locals) 13) l₁₃ (empty (tyInt w64) l₁₂ (holds (tyAt (code.function .locals) 11) l₁₁ (Record′.mach (r6 register x-k s x-l x-t x-r x-u)) (holds (tyInt w64) l₁₀ (vint w64 (s .assigned)) (holds (tyInt w64) l₉ (vint w64 (r2 register x-k s x-l x-t x-r x-u)) (holds (tyAt (code.function .locals) 8) l₈ (Branch′.mach (r1 register x-k s x-l x-t x-r x-u)) (holds (tyAt (code.function .locals) 7) l₇ (NewUpdate′.mach x-u) (holds (tyAt (code.function .locals) 6) l₆ (Record′.mach x-r) (holds (tyAt (code.function .locals) 5) l₅ (Ticket′.mach x-t) (holds (tyAt (code.function .locals) 4) l₄ (Line′.mach x-l) (holds (tyAt (code.function .locals) 3) l₃ (Store′.mach s) (holds (tyInt w64) l₂ (vint w64 x-k) (holds (sliceTy (tyRef (named 0) mut (pointee (Record′.row .written)))) l₁ (sliceVal (b·register, o·register) (length register)) (empty tyUnit l₀ [])))))))))))))))))))))))))))) $
-      assigns ! (addr ! (from ! (fld ! refl (hop ! (look-in ! 54 (sub ! 0 refl (whole !))) (stop !))))) (from ! (stop !)) (init ! 14 refl (tt, tt)) $
-      assigns ! (agg ! (and-then ! (load ! (from ! (stop !)) (look ! 14 refl)) (and-then ! (load ! (from ! (fld ! refl (stop !))) (look-in ! 54 (sub ! 1 refl (whole !)))) (no-more !)))) (from ! (stop !)) (init ! 12 refl (tt, (tt, (record { fits = room·register .0 }, tt)))) $
-      Call-next-number.calls ! mem run (fmOf 𝓤 H (W .laws) 𝓣) known-next-number x-l (r1 register x-k s x-l x-t x-r x-u) ok·x-l ok·1 (and-then ! (load ! (from ! (stop !)) (look ! 49 refl)) (and-then ! (load ! (from ! (stop !)) (look ! 41 refl)) (no-more !)))
-      (λ ok·7. land ! (from ! (stop !)) (init ! 10 refl (tt, record { fits = ok·7 .1 })) $
-      here ! (‵ (flft κ·register q·register) ∷ ‵ (MutAt Record′.row κ·register b·register o·register γ·register (length register) (register₅ register x-k s x-l x-t x-r x-u)) ∷ empty (sliceTy (tyRef erased mut (pointee (Record′.row .written)))) l₂₇ (empty (tyRef erased mut (pointee (Record′.row .written))) l₂₆ (empty (sliceTy (tyRef erased imm (pointee (Record′.row .written)))) l₂₅ (empty (tyRef erased imm (pointee (Record′.row .written))) l₂₄ (holds (tyInt w64) l₂₃ (vint w64 (r7 register x-k s x-l x-t x-r x-u)) (holds (sliceTy (tyRef erased mut (pointee (Record′.row .written)))) l₂₂ (sliceVal (b·register, o·register) (length register)) (holds (tyRef erased mut (pointee (Record′.row .written))) l₂₁ (vptr b·register o·register) (holds (sliceTy (tyRef erased imm (pointee (Record′.row .written)))) l₂₀ (sliceVal (b·register, o·register) (length register)) (holds (tyRef erased imm (pointee (Record′.row .written))) l₁₉ (vptr b·register o·register) (holds (tyAt (code.function .locals) 18) l₁₈ (Record′.mach (r4 register x-k s x-l x-t x-r x-u)) (holds (tyInt w64) l₁₇ (vint w64 (r3 register x-k s x-l x-t x-r x-u)) (holds (sliceTy (tyRef erased mut (pointee (Record′.row .written)))) l₁₆ (sliceVal (b·register, o·register) (length register)) (holds (tyRef erased mut (pointee (Record′.row .written))) l₁₅ (vptr b·register o·register) (holds tyUnit l₁₄ vunit (empty (tyAt (code.function .locals) 13) l₁₃ (empty (tyInt w64) l₁₂ (holds (tyAt (code.function .locals) 11) l₁₁ (Record′.mach (r6 register x-k s x-l x-t x-r x-u)) (holds (tyInt w64) l₁₀ (vint w64 (s .assigned)) (holds (tyInt w64) l₉ (vint w64 (r2 register x-k s x-l x-t x-r x-u)) (holds (tyAt (code.function .locals) 8) l₈ (Branch′.mach (r1 register x-k s x-l x-t x-r x-u)) (holds (tyAt (code.function .locals) 7) l₇ (NewUpdate′.mach x-u) (holds (tyAt (code.function .locals) 6) l₆ (Record′.mach x-r) (holds (tyAt (code.function .locals) 5) l₅ (Ticket′.mach x-t) (holds (tyAt (code.function .locals) 4) l₄ (Line′.mach x-l) (holds (tyAt (code.function .locals) 3) l₃ (Store′.mach s) (holds (tyInt w64) l₂ (vint w64 x-k) (holds (sliceTy (tyRef (named 0) mut (pointee (Record′.row .written)))) l₁ (sliceVal (b·register, o·register) (length register)) (empty tyUnit l₀ [])))))))))))))))))))))))))))) $
-      Call-update-part.calls ! mem run (fmOf 𝓤 H (W .laws) 𝓣) known-update-part (r6 register x-k s x-l x-t x-r x-u) x-t (r7 register x-k s x-l x-t x-r x-u) x-u (s .places) ok·6 ok·x-t ok·7 ok·x-u (Store′.ok-places s ok·s) (Facts.update-part-1 register x-k s x-l x-t x-r x-u (room·register .0) (ok·x-k .1) ok·s ok·x-l ok·x-t ok·x-r ok·x-u need ok·1 (ok·2 .1) (ok·3 .1) ok·4 same·5-register ok·6 (ok·7 .1)) (and-then ! (load ! (from ! (stop !)) (look ! 35 refl)) (and-then ! (load ! (from ! (stop !)) (look ! 47 refl)) (and-then ! (load ! (from ! (stop !)) (look ! 11 refl)) (and-then ! (load ! (from ! (stop !)) (look ! 43 refl)) (and-then ! (load ! (from ! (fld ! refl (stop !))) (look-in ! 51 (sub ! 7 refl (whole !)))) (no-more !))))))
-      (λ ok·8. land ! (from ! (stop !)) (store ! 20 refl (Record′.typed 𝓤 H A W (r8 register x-k s x-l x-t x-r x-u) ok·8)) $
-      here ! (‵ (flft κ·register q·register) ∷ ‵ (MutAt Record′.row κ·register b·register o·register γ·register (length register) (register₅ register x-k s x-l x-t x-r x-u)) ∷ empty (sliceTy (tyRef erased mut (pointee (Record′.row .written)))) l₂₇ (empty (tyRef erased mut (pointee (Record′.row .written))) l₂₆ (empty (sliceTy (tyRef erased imm (pointee (Record′.row .written)))) l₂₅ (empty (tyRef erased imm (pointee (Record′.row .written))) l₂₄ (holds (tyInt w64) l₂₃ (vint w64 (r7 register x-k s x-l x-t x-r x-u)) (holds (sliceTy (tyRef erased mut (pointee (Record′.row .written)))) l₂₂ (sliceVal (b·register, o·register) (length register)) (holds (tyRef erased mut (pointee (Record′.row .written))) l₂₁ (vptr b·register o·register) (holds (sliceTy (tyRef erased imm (pointee (Record′.row .written)))) l₂₀ (sliceVal (b·register, o·register) (length register)) (holds (tyRef erased imm (pointee (Record′.row .written))) l₁₉ (vptr b·register o·register) (holds (tyAt (code.function .locals) 18) l₁₈ (Record′.mach (r8 register x-k s x-l x-t x-r x-u)) (holds (tyInt w64) l₁₇ (vint w64 (r3 register x-k s x-l x-t x-r x-u)) (holds (sliceTy (tyRef erased mut (pointee (Record′.row .written)))) l₁₆ (sliceVal (b·register, o·register) (length register)) (holds (tyRef erased mut (pointee (Record′.row .written))) l₁₅ (vptr b·register o·register) (holds tyUnit l₁₄ vunit (empty (tyAt (code.function .locals) 13) l₁₃ (empty (tyInt w64) l₁₂ (holds (tyAt (code.function .locals) 11) l₁₁ (Record′.mach (r6 register x-k s x-l x-t x-r x-u)) (holds (tyInt w64) l₁₀ (vint w64 (s .assigned)) (holds (tyInt w64) l₉ (vint w64 (r2 register x-k s x-l x-t x-r x-u)) (holds (tyAt (code.function .locals) 8) l₈ (Branch′.mach (r1 register x-k s x-l x-t x-r x-u)) (holds (tyAt (code.function .locals) 7) l₇ (NewUpdate′.mach x-u) (holds (tyAt (code.function .locals) 6) l₆ (Record′.mach x-r) (holds (tyAt (code.function .locals) 5) l₅ (Ticket′.mach x-t) (holds (tyAt (code.function .locals) 4) l₄ (Line′.mach x-l) (holds (tyAt (code.function .locals) 3) l₃ (Store′.mach s) (holds (tyInt w64) l₂ (vint w64 x-k) (holds (sliceTy (tyRef (named 0) mut (pointee (Record′.row .written)))) l₁ (sliceVal (b·register, o·register) (length register)) (empty tyUnit l₀ [])))))))))))))))))))))))))))) $
-      lend-mut ! tt Record′.row κ·register q·register b·register o·register γ·register (length register) (register₅ register x-k s x-l x-t x-r x-u) (refl ∙ sym same·5-register) (λ ν·9-register γ·9-register.
-      Call-put-record.calls ! mem run (fmOf 𝓤 H (W .laws) 𝓣) known-put-record (ν·9-register ∷ []) fullShare b·register o·register γ·9-register (length register) (register₅ register x-k s x-l x-t x-r x-u) x-k (s .assigned) (r8 register x-k s x-l x-t x-r x-u) ok·x-k (Store′.ok-assigned s ok·s) ok·8 (and-then ! (load ! (from ! (stop !)) (look ! 12 refl)) (and-then ! (load ! (from ! (stop !)) (look ! 52 refl)) (and-then ! (load ! (from ! (stop !)) (look ! 36 refl)) (and-then ! (load ! (from ! (stop !)) (look ! 20 refl)) (no-more !)))))
-      (λ same·9-register. back-mut ! tt Record′.row κ·register q·register b·register o·register γ·register (length register) (register₅ register x-k s x-l x-t x-r x-u) (register₉ register x-k s x-l x-t x-r x-u) ν·9-register γ·9-register (refl ∙ sym same·5-register) same·9-register room·register $ land ! (from ! (stop !)) (store ! 28 refl (tt, tt)) $
-      here ! (‵ (flft κ·register q·register) ∷ ‵ (MutAt Record′.row κ·register b·register o·register γ·register (length register) (register₉ register x-k s x-l x-t x-r x-u)) ∷ empty (sliceTy (tyRef erased mut (pointee (Record′.row .written)))) l₂₇ (empty (tyRef erased mut (pointee (Record′.row .written))) l₂₆ (empty (sliceTy (tyRef erased imm (pointee (Record′.row .written)))) l₂₅ (empty (tyRef erased imm (pointee (Record′.row .written))) l₂₄ (holds (tyInt w64) l₂₃ (vint w64 (r7 register x-k s x-l x-t x-r x-u)) (holds (sliceTy (tyRef erased mut (pointee (Record′.row .written)))) l₂₂ (sliceVal (b·register, o·register) (length register)) (holds (tyRef erased mut (pointee (Record′.row .written))) l₂₁ (vptr b·register o·register) (holds (sliceTy (tyRef erased imm (pointee (Record′.row .written)))) l₂₀ (sliceVal (b·register, o·register) (length register)) (holds (tyRef erased imm (pointee (Record′.row .written))) l₁₉ (vptr b·register o·register) (holds (tyAt (code.function .locals) 18) l₁₈ (Record′.mach (r8 register x-k s x-l x-t x-r x-u)) (holds (tyInt w64) l₁₇ (vint w64 (r3 register x-k s x-l x-t x-r x-u)) (holds (sliceTy (tyRef erased mut (pointee (Record′.row .written)))) l₁₆ (sliceVal (b·register, o·register) (length register)) (holds (tyRef erased mut (pointee (Record′.row .written))) l₁₅ (vptr b·register o·register) (holds tyUnit l₁₄ vunit (empty (tyAt (code.function .locals) 13) l₁₃ (empty (tyInt w64) l₁₂ (holds (tyAt (code.function .locals) 11) l₁₁ (Record′.mach (r6 register x-k s x-l x-t x-r x-u)) (holds (tyInt w64) l₁₀ (vint w64 (s .assigned)) (holds (tyInt w64) l₉ (vint w64 (r2 register x-k s x-l x-t x-r x-u)) (holds (tyAt (code.function .locals) 8) l₈ (Branch′.mach (r1 register x-k s x-l x-t x-r x-u)) (holds (tyAt (code.function .locals) 7) l₇ (NewUpdate′.mach x-u) (holds (tyAt (code.function .locals) 6) l₆ (Record′.mach x-r) (holds (tyAt (code.function .locals) 5) l₅ (Ticket′.mach x-t) (holds (tyAt (code.function .locals) 4) l₄ (Line′.mach x-l) (holds (tyAt (code.function .locals) 3) l₃ (Store′.mach s) (holds (tyInt w64) l₂ (vint w64 x-k) (holds (sliceTy (tyRef (named 0) mut (pointee (Record′.row .written)))) l₁ (sliceVal (b·register, o·register) (length register)) (empty tyUnit l₀ [])))))))))))))))))))))))))))) $
-      assigns ! (of-opd ! (load ! (from ! (fld ! refl (fld ! refl (stop !)))) (look-in ! 40 (sub ! 0 refl (sub ! 2 refl (whole !)))))) (from ! (stop !)) (init ! 32 refl (tt, record { fits = (Version′.ok-0 ((r1 register x-k s x-l x-t x-r x-u) .assigned) (Branch′.ok-assigned (r1 register x-k s x-l x-t x-r x-u) ok·1)) .1 })) $
-      assigns ! (addr ! (from ! (fld ! refl (hop ! (look-in ! 54 (sub ! 0 refl (whole !))) (stop !))))) (from ! (stop !)) (init ! 8 refl (tt, tt)) $
-      assigns ! (agg ! (and-then ! (load ! (from ! (stop !)) (look ! 8 refl)) (and-then ! (load ! (from ! (fld ! refl (stop !))) (look-in ! 54 (sub ! 1 refl (whole !)))) (no-more !)))) (from ! (stop !)) (init ! 6 refl (tt, (tt, (record { fits = room·register .0 }, tt)))) $
-      lend-shr ! tt Record′.row κ·register q·register b·register o·register γ·register (length register) (register₉ register x-k s x-l x-t x-r x-u) (refl ∙ sym same·5-register ∙ sym same·9-register) (λ ν·10-register γ·10-register.
-      Call-record-at.calls ! mem run (fmOf 𝓤 H (W .laws) 𝓣) known-record-at (ν·10-register ∷ []) fullShare b·register o·register γ·10-register (length register) (register₉ register x-k s x-l x-t x-r x-u) (((r1 register x-k s x-l x-t x-r x-u) .assigned) .0) (Version′.ok-0 ((r1 register x-k s x-l x-t x-r x-u) .assigned) (Branch′.ok-assigned (r1 register x-k s x-l x-t x-r x-u) ok·1)) (and-then ! (load ! (from ! (stop !)) (look ! 7 refl)) (and-then ! (load ! (from ! (stop !)) (look ! 33 refl)) (no-more !)))
-      (λ ok·10. back-shr ! tt Record′.row κ·register q·register b·register o·register γ·register (length register) (register₉ register x-k s x-l x-t x-r x-u) ν·10-register (refl ∙ sym same·5-register ∙ sym same·9-register) room·register $ land ! (from ! (stop !)) (init ! 30 refl (Record′.typed 𝓤 H A W (r10 register x-k s x-l x-t x-r x-u) ok·10)) $
-      here ! (‵ (flft κ·register q·register) ∷ ‵ (MutAt Record′.row κ·register b·register o·register γ·register (length register) (register₉ register x-k s x-l x-t x-r x-u)) ∷ empty (sliceTy (tyRef erased mut (pointee (Record′.row .written)))) l₂₇ (empty (tyRef erased mut (pointee (Record′.row .written))) l₂₆ (holds (sliceTy (tyRef erased imm (pointee (Record′.row .written)))) l₂₅ (sliceVal (b·register, o·register) (length register)) (holds (tyRef erased imm (pointee (Record′.row .written))) l₂₄ (vptr b·register o·register) (holds (tyInt w64) l₂₃ (vint w64 (r7 register x-k s x-l x-t x-r x-u)) (holds (sliceTy (tyRef erased mut (pointee (Record′.row .written)))) l₂₂ (sliceVal (b·register, o·register) (length register)) (holds (tyRef erased mut (pointee (Record′.row .written))) l₂₁ (vptr b·register o·register) (holds (sliceTy (tyRef erased imm (pointee (Record′.row .written)))) l₂₀ (sliceVal (b·register, o·register) (length register)) (holds (tyRef erased imm (pointee (Record′.row .written))) l₁₉ (vptr b·register o·register) (holds (tyAt (code.function .locals) 18) l₁₈ (Record′.mach (r8 register x-k s x-l x-t x-r x-u)) (holds (tyInt w64) l₁₇ (vint w64 (r3 register x-k s x-l x-t x-r x-u)) (holds (sliceTy (tyRef erased mut (pointee (Record′.row .written)))) l₁₆ (sliceVal (b·register, o·register) (length register)) (holds (tyRef erased mut (pointee (Record′.row .written))) l₁₅ (vptr b·register o·register) (holds tyUnit l₁₄ vunit (holds (tyAt (code.function .locals) 13) l₁₃ (Record′.mach (r10 register x-k s x-l x-t x-r x-u)) (holds (tyInt w64) l₁₂ (vint w64 (((r1 register x-k s x-l x-t x-r x-u) .assigned) .0)) (holds (tyAt (code.function .locals) 11) l₁₁ (Record′.mach (r6 register x-k s x-l x-t x-r x-u)) (holds (tyInt w64) l₁₀ (vint w64 (s .assigned)) (holds (tyInt w64) l₉ (vint w64 (r2 register x-k s x-l x-t x-r x-u)) (holds (tyAt (code.function .locals) 8) l₈ (Branch′.mach (r1 register x-k s x-l x-t x-r x-u)) (holds (tyAt (code.function .locals) 7) l₇ (NewUpdate′.mach x-u) (holds (tyAt (code.function .locals) 6) l₆ (Record′.mach x-r) (holds (tyAt (code.function .locals) 5) l₅ (Ticket′.mach x-t) (holds (tyAt (code.function .locals) 4) l₄ (Line′.mach x-l) (holds (tyAt (code.function .locals) 3) l₃ (Store′.mach s) (holds (tyInt w64) l₂ (vint w64 x-k) (holds (sliceTy (tyRef (named 0) mut (pointee (Record′.row .written)))) l₁ (sliceVal (b·register, o·register) (length register)) (empty tyUnit l₀ [])))))))))))))))))))))))))))) $
-      assigns ! (addr ! (from ! (fld ! refl (hop ! (look-in ! 54 (sub ! 0 refl (whole !))) (stop !))))) (from ! (stop !)) (init ! 4 refl (tt, tt)) $
-      assigns ! (agg ! (and-then ! (load ! (from ! (stop !)) (look ! 4 refl)) (and-then ! (load ! (from ! (fld ! refl (stop !))) (look-in ! 54 (sub ! 1 refl (whole !)))) (no-more !)))) (from ! (stop !)) (init ! 2 refl (tt, (tt, (record { fits = room·register .0 }, tt)))) $
-      Call-entry-part.calls ! mem run (fmOf 𝓤 H (W .laws) 𝓣) known-entry-part (r10 register x-k s x-l x-t x-r x-u) x-l (r2 register x-k s x-l x-t x-r x-u) ok·10 ok·x-l ok·2 (and-then ! (load ! (from ! (stop !)) (look ! 31 refl)) (and-then ! (load ! (from ! (stop !)) (look ! 49 refl)) (and-then ! (load ! (from ! (stop !)) (look ! 39 refl)) (no-more !))))
-      (λ ok·11. land ! (from ! (stop !)) (store ! 20 refl (Record′.typed 𝓤 H A W (r11 register x-k s x-l x-t x-r x-u) ok·11)) $
-      here ! (‵ (flft κ·register q·register) ∷ ‵ (MutAt Record′.row κ·register b·register o·register γ·register (length register) (register₉ register x-k s x-l x-t x-r x-u)) ∷ holds (sliceTy (tyRef erased mut (pointee (Record′.row .written)))) l₂₇ (sliceVal (b·register, o·register) (length register)) (holds (tyRef erased mut (pointee (Record′.row .written))) l₂₆ (vptr b·register o·register) (holds (sliceTy (tyRef erased imm (pointee (Record′.row .written)))) l₂₅ (sliceVal (b·register, o·register) (length register)) (holds (tyRef erased imm (pointee (Record′.row .written))) l₂₄ (vptr b·register o·register) (holds (tyInt w64) l₂₃ (vint w64 (r7 register x-k s x-l x-t x-r x-u)) (holds (sliceTy (tyRef erased mut (pointee (Record′.row .written)))) l₂₂ (sliceVal (b·register, o·register) (length register)) (holds (tyRef erased mut (pointee (Record′.row .written))) l₂₁ (vptr b·register o·register) (holds (sliceTy (tyRef erased imm (pointee (Record′.row .written)))) l₂₀ (sliceVal (b·register, o·register) (length register)) (holds (tyRef erased imm (pointee (Record′.row .written))) l₁₉ (vptr b·register o·register) (holds (tyAt (code.function .locals) 18) l₁₈ (Record′.mach (r11 register x-k s x-l x-t x-r x-u)) (holds (tyInt w64) l₁₇ (vint w64 (r3 register x-k s x-l x-t x-r x-u)) (holds (sliceTy (tyRef erased mut (pointee (Record′.row .written)))) l₁₆ (sliceVal (b·register, o·register) (length register)) (holds (tyRef erased mut (pointee (Record′.row .written))) l₁₅ (vptr b·register o·register) (holds tyUnit l₁₄ vunit (holds (tyAt (code.function .locals) 13) l₁₃ (Record′.mach (r10 register x-k s x-l x-t x-r x-u)) (holds (tyInt w64) l₁₂ (vint w64 (((r1 register x-k s x-l x-t x-r x-u) .assigned) .0)) (holds (tyAt (code.function .locals) 11) l₁₁ (Record′.mach (r6 register x-k s x-l x-t x-r x-u)) (holds (tyInt w64) l₁₀ (vint w64 (s .assigned)) (holds (tyInt w64) l₉ (vint w64 (r2 register x-k s x-l x-t x-r x-u)) (holds (tyAt (code.function .locals) 8) l₈ (Branch′.mach (r1 register x-k s x-l x-t x-r x-u)) (holds (tyAt (code.function .locals) 7) l₇ (NewUpdate′.mach x-u) (holds (tyAt (code.function .locals) 6) l₆ (Record′.mach x-r) (holds (tyAt (code.function .locals) 5) l₅ (Ticket′.mach x-t) (holds (tyAt (code.function .locals) 4) l₄ (Line′.mach x-l) (holds (tyAt (code.function .locals) 3) l₃ (Store′.mach s) (holds (tyInt w64) l₂ (vint w64 x-k) (holds (sliceTy (tyRef (named 0) mut (pointee (Record′.row .written)))) l₁ (sliceVal (b·register, o·register) (length register)) (empty tyUnit l₀ [])))))))))))))))))))))))))))) $
-      lend-mut ! tt Record′.row κ·register q·register b·register o·register γ·register (length register) (register₉ register x-k s x-l x-t x-r x-u) (refl ∙ sym same·5-register ∙ sym same·9-register) (λ ν·12-register γ·12-register.
-      Call-put-record.calls ! mem run (fmOf 𝓤 H (W .laws) 𝓣) known-put-record (ν·12-register ∷ []) fullShare b·register o·register γ·12-register (length register) (register₉ register x-k s x-l x-t x-r x-u) x-k (((r1 register x-k s x-l x-t x-r x-u) .assigned) .0) (r11 register x-k s x-l x-t x-r x-u) ok·x-k (Version′.ok-0 ((r1 register x-k s x-l x-t x-r x-u) .assigned) (Branch′.ok-assigned (r1 register x-k s x-l x-t x-r x-u) ok·1)) ok·11 (and-then ! (load ! (from ! (stop !)) (look ! 2 refl)) (and-then ! (load ! (from ! (stop !)) (look ! 52 refl)) (and-then ! (load ! (from ! (stop !)) (look ! 32 refl)) (and-then ! (load ! (from ! (stop !)) (look ! 20 refl)) (no-more !)))))
-      (λ same·12-register. back-mut ! tt Record′.row κ·register q·register b·register o·register γ·register (length register) (register₉ register x-k s x-l x-t x-r x-u) (register₁₂ register x-k s x-l x-t x-r x-u) ν·12-register γ·12-register (refl ∙ sym same·5-register ∙ sym same·9-register) same·12-register room·register $ land ! (from ! (stop !)) (store ! 28 refl (tt, tt)) $
-      here ! (‵ (flft κ·register q·register) ∷ ‵ (MutAt Record′.row κ·register b·register o·register γ·register (length register) (register₁₂ register x-k s x-l x-t x-r x-u)) ∷ holds (sliceTy (tyRef erased mut (pointee (Record′.row .written)))) l₂₇ (sliceVal (b·register, o·register) (length register)) (holds (tyRef erased mut (pointee (Record′.row .written))) l₂₆ (vptr b·register o·register) (holds (sliceTy (tyRef erased imm (pointee (Record′.row .written)))) l₂₅ (sliceVal (b·register, o·register) (length register)) (holds (tyRef erased imm (pointee (Record′.row .written))) l₂₄ (vptr b·register o·register) (holds (tyInt w64) l₂₃ (vint w64 (r7 register x-k s x-l x-t x-r x-u)) (holds (sliceTy (tyRef erased mut (pointee (Record′.row .written)))) l₂₂ (sliceVal (b·register, o·register) (length register)) (holds (tyRef erased mut (pointee (Record′.row .written))) l₂₁ (vptr b·register o·register) (holds (sliceTy (tyRef erased imm (pointee (Record′.row .written)))) l₂₀ (sliceVal (b·register, o·register) (length register)) (holds (tyRef erased imm (pointee (Record′.row .written))) l₁₉ (vptr b·register o·register) (holds (tyAt (code.function .locals) 18) l₁₈ (Record′.mach (r11 register x-k s x-l x-t x-r x-u)) (holds (tyInt w64) l₁₇ (vint w64 (r3 register x-k s x-l x-t x-r x-u)) (holds (sliceTy (tyRef erased mut (pointee (Record′.row .written)))) l₁₆ (sliceVal (b·register, o·register) (length register)) (holds (tyRef erased mut (pointee (Record′.row .written))) l₁₅ (vptr b·register o·register) (holds tyUnit l₁₄ vunit (holds (tyAt (code.function .locals) 13) l₁₃ (Record′.mach (r10 register x-k s x-l x-t x-r x-u)) (holds (tyInt w64) l₁₂ (vint w64 (((r1 register x-k s x-l x-t x-r x-u) .assigned) .0)) (holds (tyAt (code.function .locals) 11) l₁₁ (Record′.mach (r6 register x-k s x-l x-t x-r x-u)) (holds (tyInt w64) l₁₀ (vint w64 (s .assigned)) (holds (tyInt w64) l₉ (vint w64 (r2 register x-k s x-l x-t x-r x-u)) (holds (tyAt (code.function .locals) 8) l₈ (Branch′.mach (r1 register x-k s x-l x-t x-r x-u)) (holds (tyAt (code.function .locals) 7) l₇ (NewUpdate′.mach x-u) (holds (tyAt (code.function .locals) 6) l₆ (Record′.mach x-r) (holds (tyAt (code.function .locals) 5) l₅ (Ticket′.mach x-t) (holds (tyAt (code.function .locals) 4) l₄ (Line′.mach x-l) (holds (tyAt (code.function .locals) 3) l₃ (Store′.mach s) (holds (tyInt w64) l₂ (vint w64 x-k) (holds (sliceTy (tyRef (named 0) mut (pointee (Record′.row .written)))) l₁ (sliceVal (b·register, o·register) (length register)) (empty tyUnit l₀ [])))))))))))))))))))))))))))) $
-      assigns ! (of-opd ! (unit-lit !)) (from ! (stop !)) (init ! 56 refl (tt, tt)) $
-      returns ! (look ! 56 refl) $
-      move ! (56 ∷ 57 ∷ []) $ forget ! 0 refl $ free1 ! $ move ! (54 ∷ 55 ∷ []) $ forget ! 0 refl $ free1 ! $ move ! (52 ∷ 53 ∷ []) $ forget ! 0 refl $ free1 ! $ move ! (50 ∷ 51 ∷ []) $ forget ! 0 refl $ free1 ! $ move ! (48 ∷ 49 ∷ []) $ forget ! 0 refl $ free1 ! $ move ! (46 ∷ 47 ∷ []) $ forget ! 0 refl $ free1 ! $ move ! (44 ∷ 45 ∷ []) $ forget ! 0 refl $ free1 ! $ move ! (42 ∷ 43 ∷ []) $ forget ! 0 refl $ free1 ! $ move ! (40 ∷ 41 ∷ []) $ forget ! 0 refl $ free1 ! $ move ! (38 ∷ 39 ∷ []) $ forget ! 0 refl $ free1 ! $ move ! (36 ∷ 37 ∷ []) $ forget ! 0 refl $ free1 ! $ move ! (34 ∷ 35 ∷ []) $ forget ! 0 refl $ free1 ! $ move ! (32 ∷ 33 ∷ []) $ forget ! 0 refl $ free1 ! $ move ! (30 ∷ 31 ∷ []) $ forget ! 0 refl $ free1 ! $ move ! (28 ∷ 29 ∷ []) $ forget ! 0 refl $ free1 ! $ move ! (26 ∷ 27 ∷ []) $ forget ! 0 refl $ free1 ! $ move ! (24 ∷ 25 ∷ []) $ forget ! 0 refl $ free1 ! $ move ! (22 ∷ 23 ∷ []) $ forget ! 0 refl $ free1 ! $ move ! (20 ∷ 21 ∷ []) $ forget ! 0 refl $ free1 ! $ move ! (18 ∷ 19 ∷ []) $ forget ! 0 refl $ free1 ! $ move ! (16 ∷ 17 ∷ []) $ forget ! 0 refl $ free1 ! $ move ! (14 ∷ 15 ∷ []) $ forget ! 0 refl $ free1 ! $ move ! (12 ∷ 13 ∷ []) $ forget ! 0 refl $ free1 ! $ move ! (10 ∷ 11 ∷ []) $ forget ! 0 refl $ free1 ! $ move ! (8 ∷ 9 ∷ []) $ forget ! 0 refl $ free1 ! $ move ! (6 ∷ 7 ∷ []) $ forget ! 0 refl $ free1 ! $ move ! (4 ∷ 5 ∷ []) $ forget ! 0 refl $ free1 ! $ move ! (2 ∷ 3 ∷ []) $ forget ! 0 refl $ free1 ! $ free0 ! $ by ! (exits (register₁₂ register x-k s x-l x-t x-r x-u) (sym (refl ∙ sym same·5-register ∙ sym same·9-register ∙ sym same·12-register)) (Facts.exit-1 register x-k s x-l x-t x-r x-u (room·register .0) (ok·x-k .1) ok·s ok·x-l ok·x-t ok·x-r ok·x-u need ok·1 (ok·2 .1) (ok·3 .1) ok·4 same·5-register ok·6 (ok·7 .1) ok·8 same·9-register ok·10 ok·11 same·12-register)))))))))))))))))))))))))))))))))))))))))))))))
+      alloc1 ! (λ l₀. alloc1 ! (λ l₁. alloc1 ! (λ l₂. alloc1 ! (λ l₃. alloc1 ! (λ l₄. alloc1 ! (λ l₅. alloc1 ! (λ l₆. alloc1 ! (λ l₇. alloc1 ! (λ l₈. alloc1 ! (λ l₉. alloc1 ! (λ l₁₀. alloc1 ! (λ l₁₁. alloc1 ! (λ l₁₂. alloc1 ! (λ l₁₃. alloc1 ! (λ l₁₄. alloc1 ! (λ l₁₅. alloc1 ! (λ l₁₆. alloc1 ! (λ l₁₇. alloc1 ! (λ l₁₈. alloc0 ! $ params1 ! $
+      pass1 ! (init ! 34 refl (tt, (tt, (record { fits = room·register .0 }, tt)))) $ pass1 ! (init ! 32 refl (tt, record { fits = ok·x-k .1 })) $ pass1 ! (init ! 30 refl (Store′.typed 𝓤 H A W s ok·s)) $ pass1 ! (init ! 28 refl (Line′.typed 𝓤 H A W x-l ok·x-l)) $ pass1 ! (init ! 26 refl (Ticket′.typed 𝓤 H A W x-t ok·x-t)) $ pass1 ! (init ! 24 refl (Record′.typed 𝓤 H A W x-r ok·x-r)) $ pass1 ! (init ! 22 refl (NewUpdate′.typed 𝓤 H A W x-u ok·x-u)) $ pass0 ! $
+      move ! (39 ∷ []) $ fsplit ! $ move ! (1 ∷ []) $ fsplit ! $ drop ! $ fsplit ! $ drop ! $ fsplit ! $ drop ! $ fsplit ! $ drop ! $ fsplit ! $ drop ! $ fsplit ! $ drop ! $ drop ! $ move ! (39 ∷ []) $ split ! $ move ! (1 ∷ []) $ drop ! $
+      Call-line-state.calls ! mem run (fmOf 𝓤 H (W .laws) 𝓣) known-line-state s x-l ok·s ok·x-l (and-then ! (load ! (from ! (stop !)) (look ! 33 refl)) (and-then ! (load ! (from ! (stop !)) (look ! 31 refl)) (no-more !)))
+      (λ ok·1. land ! (from ! (stop !)) (init ! 22 refl (Branch′.typed 𝓤 H A W (r1 register x-k s x-l x-t x-r x-u) ok·1)) $
+      here ! (‵ (flft κ·register q·register) ∷ ‵ (MutAt Record′.row κ·register b·register o·register γ·register (length register) register) ∷ empty (sliceTy (tyRef erased mut (pointee (Record′.row .written)))) l₁₈ (empty (tyRef erased mut (pointee (Record′.row .written))) l₁₇ (empty (tyInt w64) l₁₆ (empty (tyInt w64) l₁₅ (empty (sliceTy (tyRef erased mut (pointee (Record′.row .written)))) l₁₄ (empty (tyRef erased mut (pointee (Record′.row .written))) l₁₃ (empty (sliceTy (tyRef erased mut (pointee (Record′.row .written)))) l₁₂ (empty (tyRef erased mut (pointee (Record′.row .written))) l₁₁ (empty tyUnit l₁₀ (empty (tyInt w64) l₉ (holds (tyAt (code.function .locals) 8) l₈ (Branch′.mach (r1 register x-k s x-l x-t x-r x-u)) (holds (tyAt (code.function .locals) 7) l₇ (NewUpdate′.mach x-u) (holds (tyAt (code.function .locals) 6) l₆ (Record′.mach x-r) (holds (tyAt (code.function .locals) 5) l₅ (Ticket′.mach x-t) (holds (tyAt (code.function .locals) 4) l₄ (Line′.mach x-l) (holds (tyAt (code.function .locals) 3) l₃ (Store′.mach s) (holds (tyInt w64) l₂ (vint w64 x-k) (holds (sliceTy (tyRef (named 0) mut (pointee (Record′.row .written)))) l₁ (sliceVal (b·register, o·register) (length register)) (empty tyUnit l₀ []))))))))))))))))))) $
+      Call-capped-sum.calls ! mem run (fmOf 𝓤 H (W .laws) 𝓣) known-capped-sum (s .assigned) 1 (Store′.ok-assigned s ok·s) (refl, lit< tt) (and-then ! (load ! (from ! (fld ! refl (stop !))) (look-in ! 33 (sub ! 6 refl (whole !)))) (and-then ! (lit ! tt) (no-more !)))
+      (λ ok·2. land ! (from ! (stop !)) (init ! 20 refl (tt, record { fits = ok·2 .1 })) $
+      here ! (‵ (flft κ·register q·register) ∷ ‵ (MutAt Record′.row κ·register b·register o·register γ·register (length register) register) ∷ empty (sliceTy (tyRef erased mut (pointee (Record′.row .written)))) l₁₈ (empty (tyRef erased mut (pointee (Record′.row .written))) l₁₇ (empty (tyInt w64) l₁₆ (empty (tyInt w64) l₁₅ (empty (sliceTy (tyRef erased mut (pointee (Record′.row .written)))) l₁₄ (empty (tyRef erased mut (pointee (Record′.row .written))) l₁₃ (empty (sliceTy (tyRef erased mut (pointee (Record′.row .written)))) l₁₂ (empty (tyRef erased mut (pointee (Record′.row .written))) l₁₁ (empty tyUnit l₁₀ (holds (tyInt w64) l₉ (vint w64 (r2 register x-k s x-l x-t x-r x-u)) (holds (tyAt (code.function .locals) 8) l₈ (Branch′.mach (r1 register x-k s x-l x-t x-r x-u)) (holds (tyAt (code.function .locals) 7) l₇ (NewUpdate′.mach x-u) (holds (tyAt (code.function .locals) 6) l₆ (Record′.mach x-r) (holds (tyAt (code.function .locals) 5) l₅ (Ticket′.mach x-t) (holds (tyAt (code.function .locals) 4) l₄ (Line′.mach x-l) (holds (tyAt (code.function .locals) 3) l₃ (Store′.mach s) (holds (tyInt w64) l₂ (vint w64 x-k) (holds (sliceTy (tyRef (named 0) mut (pointee (Record′.row .written)))) l₁ (sliceVal (b·register, o·register) (length register)) (empty tyUnit l₀ []))))))))))))))))))) $
+      assigns ! (addr ! (from ! (fld ! refl (hop ! (look-in ! 36 (sub ! 0 refl (whole !))) (stop !))))) (from ! (stop !)) (init ! 16 refl (tt, tt)) $
+      assigns ! (agg ! (and-then ! (load ! (from ! (stop !)) (look ! 16 refl)) (and-then ! (load ! (from ! (fld ! refl (stop !))) (look-in ! 36 (sub ! 1 refl (whole !)))) (no-more !)))) (from ! (stop !)) (init ! 14 refl (tt, (tt, (record { fits = room·register .0 }, tt)))) $
+      lend-mut ! tt Record′.row κ·register q·register b·register o·register γ·register (length register) register (refl) (λ ν·3-register γ·3-register.
+      Call-note-ticket.calls ! mem run (fmOf 𝓤 H (W .laws) 𝓣) known-note-ticket (ν·3-register ∷ []) fullShare b·register o·register γ·3-register (length register) register x-k x-t (r2 register x-k s x-l x-t x-r x-u) ok·x-k ok·x-t ok·2 (Facts.note-ticket-1 register x-k s x-l x-t x-r x-u (room·register .0) (ok·x-k .1) ok·s ok·x-l ok·x-t ok·x-r ok·x-u need ok·1 (ok·2 .1)) (and-then ! (load ! (from ! (stop !)) (look ! 14 refl)) (and-then ! (load ! (from ! (stop !)) (look ! 34 refl)) (and-then ! (load ! (from ! (stop !)) (look ! 28 refl)) (and-then ! (load ! (from ! (stop !)) (look ! 20 refl)) (no-more !)))))
+      (λ same·3-register. back-mut ! tt Record′.row κ·register q·register b·register o·register γ·register (length register) register (register₃ register x-k s x-l x-t x-r x-u) ν·3-register γ·3-register (refl) same·3-register room·register $ land ! (from ! (stop !)) (init ! 18 refl (tt, tt)) $
+      here ! (‵ (flft κ·register q·register) ∷ ‵ (MutAt Record′.row κ·register b·register o·register γ·register (length register) (register₃ register x-k s x-l x-t x-r x-u)) ∷ empty (sliceTy (tyRef erased mut (pointee (Record′.row .written)))) l₁₈ (empty (tyRef erased mut (pointee (Record′.row .written))) l₁₇ (empty (tyInt w64) l₁₆ (empty (tyInt w64) l₁₅ (empty (sliceTy (tyRef erased mut (pointee (Record′.row .written)))) l₁₄ (empty (tyRef erased mut (pointee (Record′.row .written))) l₁₃ (holds (sliceTy (tyRef erased mut (pointee (Record′.row .written)))) l₁₂ (sliceVal (b·register, o·register) (length register)) (holds (tyRef erased mut (pointee (Record′.row .written))) l₁₁ (vptr b·register o·register) (holds tyUnit l₁₀ vunit (holds (tyInt w64) l₉ (vint w64 (r2 register x-k s x-l x-t x-r x-u)) (holds (tyAt (code.function .locals) 8) l₈ (Branch′.mach (r1 register x-k s x-l x-t x-r x-u)) (holds (tyAt (code.function .locals) 7) l₇ (NewUpdate′.mach x-u) (holds (tyAt (code.function .locals) 6) l₆ (Record′.mach x-r) (holds (tyAt (code.function .locals) 5) l₅ (Ticket′.mach x-t) (holds (tyAt (code.function .locals) 4) l₄ (Line′.mach x-l) (holds (tyAt (code.function .locals) 3) l₃ (Store′.mach s) (holds (tyInt w64) l₂ (vint w64 x-k) (holds (sliceTy (tyRef (named 0) mut (pointee (Record′.row .written)))) l₁ (sliceVal (b·register, o·register) (length register)) (empty tyUnit l₀ []))))))))))))))))))) $
+      assigns ! (addr ! (from ! (fld ! refl (hop ! (look-in ! 36 (sub ! 0 refl (whole !))) (stop !))))) (from ! (stop !)) (init ! 12 refl (tt, tt)) $
+      assigns ! (agg ! (and-then ! (load ! (from ! (stop !)) (look ! 12 refl)) (and-then ! (load ! (from ! (fld ! refl (stop !))) (look-in ! 36 (sub ! 1 refl (whole !)))) (no-more !)))) (from ! (stop !)) (init ! 10 refl (tt, (tt, (record { fits = room·register .0 }, tt)))) $
+      assigns ! (of-opd ! (load ! (from ! (fld ! refl (stop !))) (look-in ! 32 (sub ! 6 refl (whole !))))) (from ! (stop !)) (init ! 8 refl (tt, record { fits = (Store′.ok-assigned s ok·s) .1 })) $
+      Call-next-number.calls ! mem run (fmOf 𝓤 H (W .laws) 𝓣) known-next-number x-l (r1 register x-k s x-l x-t x-r x-u) ok·x-l ok·1 (and-then ! (load ! (from ! (stop !)) (look ! 31 refl)) (and-then ! (load ! (from ! (stop !)) (look ! 23 refl)) (no-more !)))
+      (λ ok·4. land ! (from ! (stop !)) (init ! 6 refl (tt, record { fits = ok·4 .1 })) $
+      here ! (‵ (flft κ·register q·register) ∷ ‵ (MutAt Record′.row κ·register b·register o·register γ·register (length register) (register₃ register x-k s x-l x-t x-r x-u)) ∷ empty (sliceTy (tyRef erased mut (pointee (Record′.row .written)))) l₁₈ (empty (tyRef erased mut (pointee (Record′.row .written))) l₁₇ (holds (tyInt w64) l₁₆ (vint w64 (r4 register x-k s x-l x-t x-r x-u)) (holds (tyInt w64) l₁₅ (vint w64 (s .assigned)) (holds (sliceTy (tyRef erased mut (pointee (Record′.row .written)))) l₁₄ (sliceVal (b·register, o·register) (length register)) (holds (tyRef erased mut (pointee (Record′.row .written))) l₁₃ (vptr b·register o·register) (holds (sliceTy (tyRef erased mut (pointee (Record′.row .written)))) l₁₂ (sliceVal (b·register, o·register) (length register)) (holds (tyRef erased mut (pointee (Record′.row .written))) l₁₁ (vptr b·register o·register) (holds tyUnit l₁₀ vunit (holds (tyInt w64) l₉ (vint w64 (r2 register x-k s x-l x-t x-r x-u)) (holds (tyAt (code.function .locals) 8) l₈ (Branch′.mach (r1 register x-k s x-l x-t x-r x-u)) (holds (tyAt (code.function .locals) 7) l₇ (NewUpdate′.mach x-u) (holds (tyAt (code.function .locals) 6) l₆ (Record′.mach x-r) (holds (tyAt (code.function .locals) 5) l₅ (Ticket′.mach x-t) (holds (tyAt (code.function .locals) 4) l₄ (Line′.mach x-l) (holds (tyAt (code.function .locals) 3) l₃ (Store′.mach s) (holds (tyInt w64) l₂ (vint w64 x-k) (holds (sliceTy (tyRef (named 0) mut (pointee (Record′.row .written)))) l₁ (sliceVal (b·register, o·register) (length register)) (empty tyUnit l₀ []))))))))))))))))))) $
+      lend-mut ! tt Record′.row κ·register q·register b·register o·register γ·register (length register) (register₃ register x-k s x-l x-t x-r x-u) (refl ∙ sym same·3-register) (λ ν·5-register γ·5-register.
+      Call-note-part.calls ! mem run (fmOf 𝓤 H (W .laws) 𝓣) known-note-part (ν·5-register ∷ []) fullShare b·register o·register γ·5-register (length register) (register₃ register x-k s x-l x-t x-r x-u) x-k (s .assigned) x-t (r4 register x-k s x-l x-t x-r x-u) x-u (s .places) ok·x-k (Store′.ok-assigned s ok·s) ok·x-t ok·4 ok·x-u (Store′.ok-places s ok·s) (Facts.note-part-1 register x-k s x-l x-t x-r x-u (room·register .0) (ok·x-k .1) ok·s ok·x-l ok·x-t ok·x-r ok·x-u need ok·1 (ok·2 .1) same·3-register (ok·4 .1)) (and-then ! (load ! (from ! (stop !)) (look ! 10 refl)) (and-then ! (load ! (from ! (stop !)) (look ! 34 refl)) (and-then ! (load ! (from ! (stop !)) (look ! 8 refl)) (and-then ! (load ! (from ! (stop !)) (look ! 28 refl)) (and-then ! (load ! (from ! (stop !)) (look ! 6 refl)) (and-then ! (load ! (from ! (stop !)) (look ! 24 refl)) (and-then ! (load ! (from ! (fld ! refl (stop !))) (look-in ! 32 (sub ! 7 refl (whole !)))) (no-more !))))))))
+      (λ same·5-register. back-mut ! tt Record′.row κ·register q·register b·register o·register γ·register (length register) (register₃ register x-k s x-l x-t x-r x-u) (register₅ register x-k s x-l x-t x-r x-u) ν·5-register γ·5-register (refl ∙ sym same·3-register) same·5-register room·register $ land ! (from ! (stop !)) (store ! 18 refl (tt, tt)) $
+      here ! (‵ (flft κ·register q·register) ∷ ‵ (MutAt Record′.row κ·register b·register o·register γ·register (length register) (register₅ register x-k s x-l x-t x-r x-u)) ∷ empty (sliceTy (tyRef erased mut (pointee (Record′.row .written)))) l₁₈ (empty (tyRef erased mut (pointee (Record′.row .written))) l₁₇ (holds (tyInt w64) l₁₆ (vint w64 (r4 register x-k s x-l x-t x-r x-u)) (holds (tyInt w64) l₁₅ (vint w64 (s .assigned)) (holds (sliceTy (tyRef erased mut (pointee (Record′.row .written)))) l₁₄ (sliceVal (b·register, o·register) (length register)) (holds (tyRef erased mut (pointee (Record′.row .written))) l₁₃ (vptr b·register o·register) (holds (sliceTy (tyRef erased mut (pointee (Record′.row .written)))) l₁₂ (sliceVal (b·register, o·register) (length register)) (holds (tyRef erased mut (pointee (Record′.row .written))) l₁₁ (vptr b·register o·register) (holds tyUnit l₁₀ vunit (holds (tyInt w64) l₉ (vint w64 (r2 register x-k s x-l x-t x-r x-u)) (holds (tyAt (code.function .locals) 8) l₈ (Branch′.mach (r1 register x-k s x-l x-t x-r x-u)) (holds (tyAt (code.function .locals) 7) l₇ (NewUpdate′.mach x-u) (holds (tyAt (code.function .locals) 6) l₆ (Record′.mach x-r) (holds (tyAt (code.function .locals) 5) l₅ (Ticket′.mach x-t) (holds (tyAt (code.function .locals) 4) l₄ (Line′.mach x-l) (holds (tyAt (code.function .locals) 3) l₃ (Store′.mach s) (holds (tyInt w64) l₂ (vint w64 x-k) (holds (sliceTy (tyRef (named 0) mut (pointee (Record′.row .written)))) l₁ (sliceVal (b·register, o·register) (length register)) (empty tyUnit l₀ []))))))))))))))))))) $
+      assigns ! (addr ! (from ! (fld ! refl (hop ! (look-in ! 36 (sub ! 0 refl (whole !))) (stop !))))) (from ! (stop !)) (init ! 4 refl (tt, tt)) $
+      assigns ! (agg ! (and-then ! (load ! (from ! (stop !)) (look ! 4 refl)) (and-then ! (load ! (from ! (fld ! refl (stop !))) (look-in ! 36 (sub ! 1 refl (whole !)))) (no-more !)))) (from ! (stop !)) (init ! 2 refl (tt, (tt, (record { fits = room·register .0 }, tt)))) $
+      assigns ! (of-opd ! (load ! (from ! (fld ! refl (fld ! refl (stop !)))) (look-in ! 22 (sub ! 0 refl (sub ! 2 refl (whole !)))))) (from ! (stop !)) (store ! 8 refl (tt, record { fits = (Version′.ok-0 ((r1 register x-k s x-l x-t x-r x-u) .assigned) (Branch′.ok-assigned (r1 register x-k s x-l x-t x-r x-u) ok·1)) .1 })) $
+      lend-mut ! tt Record′.row κ·register q·register b·register o·register γ·register (length register) (register₅ register x-k s x-l x-t x-r x-u) (refl ∙ sym same·3-register ∙ sym same·5-register) (λ ν·6-register γ·6-register.
+      Call-note-entry.calls ! mem run (fmOf 𝓤 H (W .laws) 𝓣) known-note-entry (ν·6-register ∷ []) fullShare b·register o·register γ·6-register (length register) (register₅ register x-k s x-l x-t x-r x-u) x-k (((r1 register x-k s x-l x-t x-r x-u) .assigned) .0) x-l (r2 register x-k s x-l x-t x-r x-u) ok·x-k (Version′.ok-0 ((r1 register x-k s x-l x-t x-r x-u) .assigned) (Branch′.ok-assigned (r1 register x-k s x-l x-t x-r x-u) ok·1)) ok·x-l ok·2 (and-then ! (load ! (from ! (stop !)) (look ! 2 refl)) (and-then ! (load ! (from ! (stop !)) (look ! 34 refl)) (and-then ! (load ! (from ! (stop !)) (look ! 8 refl)) (and-then ! (load ! (from ! (stop !)) (look ! 30 refl)) (and-then ! (load ! (from ! (stop !)) (look ! 20 refl)) (no-more !))))))
+      (λ same·6-register. back-mut ! tt Record′.row κ·register q·register b·register o·register γ·register (length register) (register₅ register x-k s x-l x-t x-r x-u) (register₆ register x-k s x-l x-t x-r x-u) ν·6-register γ·6-register (refl ∙ sym same·3-register ∙ sym same·5-register) same·6-register room·register $ land ! (from ! (stop !)) (store ! 18 refl (tt, tt)) $
+      here ! (‵ (flft κ·register q·register) ∷ ‵ (MutAt Record′.row κ·register b·register o·register γ·register (length register) (register₆ register x-k s x-l x-t x-r x-u)) ∷ holds (sliceTy (tyRef erased mut (pointee (Record′.row .written)))) l₁₈ (sliceVal (b·register, o·register) (length register)) (holds (tyRef erased mut (pointee (Record′.row .written))) l₁₇ (vptr b·register o·register) (holds (tyInt w64) l₁₆ (vint w64 (r4 register x-k s x-l x-t x-r x-u)) (holds (tyInt w64) l₁₅ (vint w64 (((r1 register x-k s x-l x-t x-r x-u) .assigned) .0)) (holds (sliceTy (tyRef erased mut (pointee (Record′.row .written)))) l₁₄ (sliceVal (b·register, o·register) (length register)) (holds (tyRef erased mut (pointee (Record′.row .written))) l₁₃ (vptr b·register o·register) (holds (sliceTy (tyRef erased mut (pointee (Record′.row .written)))) l₁₂ (sliceVal (b·register, o·register) (length register)) (holds (tyRef erased mut (pointee (Record′.row .written))) l₁₁ (vptr b·register o·register) (holds tyUnit l₁₀ vunit (holds (tyInt w64) l₉ (vint w64 (r2 register x-k s x-l x-t x-r x-u)) (holds (tyAt (code.function .locals) 8) l₈ (Branch′.mach (r1 register x-k s x-l x-t x-r x-u)) (holds (tyAt (code.function .locals) 7) l₇ (NewUpdate′.mach x-u) (holds (tyAt (code.function .locals) 6) l₆ (Record′.mach x-r) (holds (tyAt (code.function .locals) 5) l₅ (Ticket′.mach x-t) (holds (tyAt (code.function .locals) 4) l₄ (Line′.mach x-l) (holds (tyAt (code.function .locals) 3) l₃ (Store′.mach s) (holds (tyInt w64) l₂ (vint w64 x-k) (holds (sliceTy (tyRef (named 0) mut (pointee (Record′.row .written)))) l₁ (sliceVal (b·register, o·register) (length register)) (empty tyUnit l₀ []))))))))))))))))))) $
+      assigns ! (of-opd ! (unit-lit !)) (from ! (stop !)) (init ! 38 refl (tt, tt)) $
+      returns ! (look ! 38 refl) $
+      move ! (38 ∷ 39 ∷ []) $ forget ! 0 refl $ free1 ! $ move ! (36 ∷ 37 ∷ []) $ forget ! 0 refl $ free1 ! $ move ! (34 ∷ 35 ∷ []) $ forget ! 0 refl $ free1 ! $ move ! (32 ∷ 33 ∷ []) $ forget ! 0 refl $ free1 ! $ move ! (30 ∷ 31 ∷ []) $ forget ! 0 refl $ free1 ! $ move ! (28 ∷ 29 ∷ []) $ forget ! 0 refl $ free1 ! $ move ! (26 ∷ 27 ∷ []) $ forget ! 0 refl $ free1 ! $ move ! (24 ∷ 25 ∷ []) $ forget ! 0 refl $ free1 ! $ move ! (22 ∷ 23 ∷ []) $ forget ! 0 refl $ free1 ! $ move ! (20 ∷ 21 ∷ []) $ forget ! 0 refl $ free1 ! $ move ! (18 ∷ 19 ∷ []) $ forget ! 0 refl $ free1 ! $ move ! (16 ∷ 17 ∷ []) $ forget ! 0 refl $ free1 ! $ move ! (14 ∷ 15 ∷ []) $ forget ! 0 refl $ free1 ! $ move ! (12 ∷ 13 ∷ []) $ forget ! 0 refl $ free1 ! $ move ! (10 ∷ 11 ∷ []) $ forget ! 0 refl $ free1 ! $ move ! (8 ∷ 9 ∷ []) $ forget ! 0 refl $ free1 ! $ move ! (6 ∷ 7 ∷ []) $ forget ! 0 refl $ free1 ! $ move ! (4 ∷ 5 ∷ []) $ forget ! 0 refl $ free1 ! $ move ! (2 ∷ 3 ∷ []) $ forget ! 0 refl $ free1 ! $ free0 ! $ by ! (exits (register₆ register x-k s x-l x-t x-r x-u) (sym (refl ∙ sym same·3-register ∙ sym same·5-register ∙ sym same·6-register)) (Facts.exit-1 register x-k s x-l x-t x-r x-u (room·register .0) (ok·x-k .1) ok·s ok·x-l ok·x-t ok·x-r ok·x-u need ok·1 (ok·2 .1) same·3-register (ok·4 .1) same·5-register same·6-register))))))))))))))))))))))))))))))
 
 module _ {M : Type 1} (𝓤 : URA M) (H : Heap 𝓤) (A : Atoms 𝓤) (W : Given 𝓤 H A) (mem : Memory → SProp 𝓤) (run : Routine → Fun 𝓤) where
-  walks : (𝓣 : Tables 𝓤 H) → Triple 𝓤 (𝓣 .C #line-state) (Call-line-state.Asked 𝓤 H A mem run) → Triple 𝓤 (𝓣 .C #capped-sum) (Call-capped-sum.Asked 𝓤 H A mem run) → Triple 𝓤 (𝓣 .C #ticket-index) (Call-ticket-index.Asked 𝓤 H A mem run) → Triple 𝓤 (𝓣 .C #ticket-part) (Call-ticket-part.Asked 𝓤 H A mem run) → Triple 𝓤 (𝓣 .C #put-record) (Call-put-record.Asked 𝓤 H A mem run) → Triple 𝓤 (𝓣 .C #record-at) (Call-record-at.Asked 𝓤 H A mem run) → Triple 𝓤 (𝓣 .C #next-number) (Call-next-number.Asked 𝓤 H A mem run) → Triple 𝓤 (𝓣 .C #update-part) (Call-update-part.Asked 𝓤 H A mem run) → Triple 𝓤 (𝓣 .C #entry-part) (Call-entry-part.Asked 𝓤 H A mem run) → Walks 𝓤 H A note-update‴.ended stayed (WpFn 𝓤 H (𝓣 .C) (𝓣 .Λ) code.function) (note-update‴.clauses 𝓤 H A mem run)
-  walks 𝓣 known-line-state known-capped-sum known-ticket-index known-ticket-part known-put-record known-record-at known-next-number known-update-part known-entry-part = walked 𝓤 H A note-update‴.ended stayed (note-update‴.clauses 𝓤 H A mem run) (WpFn 𝓤 H (𝓣 .C) (𝓣 .Λ) code.function) (λ κs. (slice-vals, (uint-vals w64, (Store′.vals, (Line′.vals, (Ticket′.vals, (Record′.vals, (NewUpdate′.vals, tt)))))))) (λ κs. (mut-slice-tells (named 0) (κs .0) Record′.row, (uint-tells w64, (Store′.tells, (Line′.tells, (Ticket′.tells, (Record′.tells, (NewUpdate′.tells, tt))))))))
-      (λ κs qs bounds a g are. needs 𝓤 (note-update″.req (a .0 .now) (a .1 .0) (a .1 .1 .0) (a .1 .1 .1 .0) (a .1 .1 .1 .1 .0) (a .1 .1 .1 .1 .1 .0) (a .1 .1 .1 .1 .1 .1 .0)) _ (λ need. walk 𝓤 H A W mem run (κs .0) (qs .0) (a .0 .ptr .0) (a .0 .ptr .1) (a .0 .name) (a .0 .now) (a .1 .0) (a .1 .1 .0) (a .1 .1 .1 .0) (a .1 .1 .1 .1 .0) (a .1 .1 .1 .1 .1 .0) (a .1 .1 .1 .1 .1 .1 .0) (are .0 .0 .1) (are .1 .0) (are .1 .1 .0) (are .1 .1 .1 .0) (are .1 .1 .1 .1 .0) (are .1 .1 .1 .1 .1 .0) (are .1 .1 .1 .1 .1 .1 .0) need 𝓣 known-line-state known-capped-sum known-ticket-index known-ticket-part known-put-record known-record-at known-next-number known-update-part known-entry-part))
+  walks : (𝓣 : Tables 𝓤 H) → Triple 𝓤 (𝓣 .C #line-state) (Call-line-state.Asked 𝓤 H A mem run) → Triple 𝓤 (𝓣 .C #capped-sum) (Call-capped-sum.Asked 𝓤 H A mem run) → Triple 𝓤 (𝓣 .C #note-ticket) (Call-note-ticket.Asked 𝓤 H A mem run) → Triple 𝓤 (𝓣 .C #next-number) (Call-next-number.Asked 𝓤 H A mem run) → Triple 𝓤 (𝓣 .C #note-part) (Call-note-part.Asked 𝓤 H A mem run) → Triple 𝓤 (𝓣 .C #note-entry) (Call-note-entry.Asked 𝓤 H A mem run) → Walks 𝓤 H A note-update‴.ended stayed (WpFn 𝓤 H (𝓣 .C) (𝓣 .Λ) code.function) (note-update‴.clauses 𝓤 H A mem run)
+  walks 𝓣 known-line-state known-capped-sum known-note-ticket known-next-number known-note-part known-note-entry = walked 𝓤 H A note-update‴.ended stayed (note-update‴.clauses 𝓤 H A mem run) (WpFn 𝓤 H (𝓣 .C) (𝓣 .Λ) code.function) (λ κs. (slice-vals, (uint-vals w64, (Store′.vals, (Line′.vals, (Ticket′.vals, (Record′.vals, (NewUpdate′.vals, tt)))))))) (λ κs. (mut-slice-tells (named 0) (κs .0) Record′.row, (uint-tells w64, (Store′.tells, (Line′.tells, (Ticket′.tells, (Record′.tells, (NewUpdate′.tells, tt))))))))
+      (λ κs qs bounds a g are. needs 𝓤 (note-update″.req (a .0 .now) (a .1 .0) (a .1 .1 .0) (a .1 .1 .1 .0) (a .1 .1 .1 .1 .0) (a .1 .1 .1 .1 .1 .0) (a .1 .1 .1 .1 .1 .1 .0)) _ (λ need. walk 𝓤 H A W mem run (κs .0) (qs .0) (a .0 .ptr .0) (a .0 .ptr .1) (a .0 .name) (a .0 .now) (a .1 .0) (a .1 .1 .0) (a .1 .1 .1 .0) (a .1 .1 .1 .1 .0) (a .1 .1 .1 .1 .1 .0) (a .1 .1 .1 .1 .1 .1 .0) (are .0 .0 .1) (are .1 .0) (are .1 .1 .0) (are .1 .1 .1 .0) (are .1 .1 .1 .1 .0) (are .1 .1 .1 .1 .1 .0) (are .1 .1 .1 .1 .1 .1 .0) need 𝓣 known-line-state known-capped-sum known-note-ticket known-next-number known-note-part known-note-entry))
 
-meets : {M : Type 1} (𝓤 : URA M) (H : Heap 𝓤) (A : Atoms 𝓤) → Given 𝓤 H A → (mem : Memory → SProp 𝓤) (run : Routine → Fun 𝓤) (𝓣 : Tables 𝓤 H) → Triple 𝓤 (𝓣 .C #line-state) (Call-line-state.Asked 𝓤 H A mem run) → Triple 𝓤 (𝓣 .C #capped-sum) (Call-capped-sum.Asked 𝓤 H A mem run) → Triple 𝓤 (𝓣 .C #ticket-index) (Call-ticket-index.Asked 𝓤 H A mem run) → Triple 𝓤 (𝓣 .C #ticket-part) (Call-ticket-part.Asked 𝓤 H A mem run) → Triple 𝓤 (𝓣 .C #put-record) (Call-put-record.Asked 𝓤 H A mem run) → Triple 𝓤 (𝓣 .C #record-at) (Call-record-at.Asked 𝓤 H A mem run) → Triple 𝓤 (𝓣 .C #next-number) (Call-next-number.Asked 𝓤 H A mem run) → Triple 𝓤 (𝓣 .C #update-part) (Call-update-part.Asked 𝓤 H A mem run) → Triple 𝓤 (𝓣 .C #entry-part) (Call-entry-part.Asked 𝓤 H A mem run)
+meets : {M : Type 1} (𝓤 : URA M) (H : Heap 𝓤) (A : Atoms 𝓤) → Given 𝓤 H A → (mem : Memory → SProp 𝓤) (run : Routine → Fun 𝓤) (𝓣 : Tables 𝓤 H) → Triple 𝓤 (𝓣 .C #line-state) (Call-line-state.Asked 𝓤 H A mem run) → Triple 𝓤 (𝓣 .C #capped-sum) (Call-capped-sum.Asked 𝓤 H A mem run) → Triple 𝓤 (𝓣 .C #note-ticket) (Call-note-ticket.Asked 𝓤 H A mem run) → Triple 𝓤 (𝓣 .C #next-number) (Call-next-number.Asked 𝓤 H A mem run) → Triple 𝓤 (𝓣 .C #note-part) (Call-note-part.Asked 𝓤 H A mem run) → Triple 𝓤 (𝓣 .C #note-entry) (Call-note-entry.Asked 𝓤 H A mem run)
     → Meets 𝓤 H A note-update‴.signature (WpFn 𝓤 H (𝓣 .C) (𝓣 .Λ) code.function) (note-update‴.spec 𝓤 H A mem run)
-meets 𝓤 H A W mem run 𝓣 known-line-state known-capped-sum known-ticket-index known-ticket-part known-put-record known-record-at known-next-number known-update-part known-entry-part =
+meets 𝓤 H A W mem run 𝓣 known-line-state known-capped-sum known-note-ticket known-next-number known-note-part known-note-entry =
     walk-meets 𝓤 H A note-update‴.ended stayed W (goes-slice 𝓤 H A W 1 0 tt (plain (λ _. Record′.row)), (goes-none 𝓤 H A W 1 (λ _. u64) yes (λ κs x f. refl), (goes-none 𝓤 H A W 1 (λ _. Store′.row) yes (λ κs x f. refl), (goes-none 𝓤 H A W 1 (λ _. Line′.row) yes (λ κs x f. refl), (goes-none 𝓤 H A W 1 (λ _. Ticket′.row) yes (λ κs x f. refl), (goes-none 𝓤 H A W 1 (λ _. Record′.row) yes (λ κs x f. refl), (goes-none 𝓤 H A W 1 (λ _. NewUpdate′.row) yes (λ κs x f. refl), tt))))))) (note-update‴.clauses 𝓤 H A mem run)
-    (WpFn 𝓤 H (𝓣 .C) (𝓣 .Λ) code.function) (WpFn-mono 𝓤 H (W .laws) 𝓣 code.function) (walks 𝓤 H A W mem run 𝓣 known-line-state known-capped-sum known-ticket-index known-ticket-part known-put-record known-record-at known-next-number known-update-part known-entry-part)
+    (WpFn 𝓤 H (𝓣 .C) (𝓣 .Λ) code.function) (WpFn-mono 𝓤 H (W .laws) 𝓣 code.function) (walks 𝓤 H A W mem run 𝓣 known-line-state known-capped-sum known-note-ticket known-next-number known-note-part known-note-entry)
 
 pub note-update-spec : {M : Type 1} → stated.statement M
 unfolding code.routine tablesOf
@@ -218,10 +179,7 @@ note-update-spec 𝓤 H 𝓜 𝓖 𝓡 =
     (meets 𝓤 H (𝓖 .A) (givenOf 𝓤 H 𝓜 𝓖) (𝓜 .mem) (𝓡 .run) (tablesOf 𝓤 H 𝓜 (tables 𝓤 H 𝓜 𝓡 code.env))
     (cited 𝓤 H (Call-line-state.Asked 𝓤 H (𝓖 .A) (𝓜 .mem) (𝓡 .run)) 𝓜 𝓡 code.env #line-state def-line-state.routine code.calls-versions·line-state (thm-line-state.met 𝓤 H 𝓜 𝓖 𝓡))
     (cited 𝓤 H (Call-capped-sum.Asked 𝓤 H (𝓖 .A) (𝓜 .mem) (𝓡 .run)) 𝓜 𝓡 code.env #capped-sum def-capped-sum.routine code.calls-versions·capped-sum (thm-capped-sum.met 𝓤 H 𝓜 𝓖 𝓡))
-    (cited 𝓤 H (Call-ticket-index.Asked 𝓤 H (𝓖 .A) (𝓜 .mem) (𝓡 .run)) 𝓜 𝓡 code.env #ticket-index def-ticket-index.routine code.calls-versions·ticket-index (thm-ticket-index.met 𝓤 H 𝓜 𝓖 𝓡))
-    (cited 𝓤 H (Call-ticket-part.Asked 𝓤 H (𝓖 .A) (𝓜 .mem) (𝓡 .run)) 𝓜 𝓡 code.env #ticket-part def-ticket-part.routine code.calls-assign·ticket-part (thm-ticket-part.met 𝓤 H 𝓜 𝓖 𝓡))
-    (cited 𝓤 H (Call-put-record.Asked 𝓤 H (𝓖 .A) (𝓜 .mem) (𝓡 .run)) 𝓜 𝓡 code.env #put-record def-put-record.routine code.calls-versions·put-record (thm-put-record.met 𝓤 H 𝓜 𝓖 𝓡))
-    (cited 𝓤 H (Call-record-at.Asked 𝓤 H (𝓖 .A) (𝓜 .mem) (𝓡 .run)) 𝓜 𝓡 code.env #record-at def-record-at.routine code.calls-register·record-at (thm-record-at.met 𝓤 H 𝓜 𝓖 𝓡))
+    (cited 𝓤 H (Call-note-ticket.Asked 𝓤 H (𝓖 .A) (𝓜 .mem) (𝓡 .run)) 𝓜 𝓡 code.env #note-ticket def-note-ticket.routine code.calls-assign·note-ticket (thm-note-ticket.met 𝓤 H 𝓜 𝓖 𝓡))
     (cited 𝓤 H (Call-next-number.Asked 𝓤 H (𝓖 .A) (𝓜 .mem) (𝓡 .run)) 𝓜 𝓡 code.env #next-number def-next-number.routine code.calls-assign·next-number (thm-next-number.met 𝓤 H 𝓜 𝓖 𝓡))
-    (cited 𝓤 H (Call-update-part.Asked 𝓤 H (𝓖 .A) (𝓜 .mem) (𝓡 .run)) 𝓜 𝓡 code.env #update-part def-update-part.routine code.calls-assign·update-part (thm-update-part.met 𝓤 H 𝓜 𝓖 𝓡))
-    (cited 𝓤 H (Call-entry-part.Asked 𝓤 H (𝓖 .A) (𝓜 .mem) (𝓡 .run)) 𝓜 𝓡 code.env #entry-part def-entry-part.routine code.calls-assign·entry-part (thm-entry-part.met 𝓤 H 𝓜 𝓖 𝓡)))
+    (cited 𝓤 H (Call-note-part.Asked 𝓤 H (𝓖 .A) (𝓜 .mem) (𝓡 .run)) 𝓜 𝓡 code.env #note-part def-note-part.routine code.calls-assign·note-part (thm-note-part.met 𝓤 H 𝓜 𝓖 𝓡))
+    (cited 𝓤 H (Call-note-entry.Asked 𝓤 H (𝓖 .A) (𝓜 .mem) (𝓡 .run)) 𝓜 𝓡 code.env #note-entry def-note-entry.routine code.calls-assign·note-entry (thm-note-entry.met 𝓤 H 𝓜 𝓖 𝓡)))

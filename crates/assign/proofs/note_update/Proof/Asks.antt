@@ -29,13 +29,10 @@ use Rattle.register.proofs.Generated.Kind.Version as Version′
 use Rattle.assign.proofs.Generated.Say.note_update as note-update″
 use Rattle.versions.proofs.Generated.Say.line_state as line-state″
 use Rattle.versions.proofs.Generated.Say.capped_sum as capped-sum″
-use Rattle.versions.proofs.Generated.Say.ticket_index as ticket-index″
-use Rattle.assign.proofs.Generated.Say.ticket_part as ticket-part″
-use Rattle.versions.proofs.Generated.Say.put_record as put-record″
-use Rattle.register.proofs.Generated.Say.record_at as record-at″
+use Rattle.assign.proofs.Generated.Say.note_ticket as note-ticket″
 use Rattle.assign.proofs.Generated.Say.next_number as next-number″
-use Rattle.assign.proofs.Generated.Say.update_part as update-part″
-use Rattle.assign.proofs.Generated.Say.entry_part as entry-part″
+use Rattle.assign.proofs.Generated.Say.note_part as note-part″
+use Rattle.assign.proofs.Generated.Say.note_entry as note-entry″
 
 abbrev pub r1 : List Record → ℕ → Store → Line → Ticket → Record → NewUpdate → Branch
 r1 register x-k s x-l x-t x-r x-u = line-state″.res s x-l
@@ -43,44 +40,32 @@ r1 register x-k s x-l x-t x-r x-u = line-state″.res s x-l
 abbrev pub r2 : List Record → ℕ → Store → Line → Ticket → Record → NewUpdate → ℕ
 r2 register x-k s x-l x-t x-r x-u = capped-sum″.res (s .assigned) 1
 
-abbrev pub r3 : List Record → ℕ → Store → Line → Ticket → Record → NewUpdate → ℕ
-r3 register x-k s x-l x-t x-r x-u = ticket-index″.res x-t
+abbrev pub register₃ : List Record → ℕ → Store → Line → Ticket → Record → NewUpdate → List Record
+register₃ register x-k s x-l x-t x-r x-u = note-ticket″.out-register register x-k x-t (r2 register x-k s x-l x-t x-r x-u)
 
-abbrev pub r4 : List Record → ℕ → Store → Line → Ticket → Record → NewUpdate → Record
-r4 register x-k s x-l x-t x-r x-u = ticket-part″.res x-r (r2 register x-k s x-l x-t x-r x-u)
+abbrev pub r4 : List Record → ℕ → Store → Line → Ticket → Record → NewUpdate → ℕ
+r4 register x-k s x-l x-t x-r x-u = next-number″.res x-l (r1 register x-k s x-l x-t x-r x-u)
 
 abbrev pub register₅ : List Record → ℕ → Store → Line → Ticket → Record → NewUpdate → List Record
-register₅ register x-k s x-l x-t x-r x-u = put-record″.out-register register x-k (r3 register x-k s x-l x-t x-r x-u) (r4 register x-k s x-l x-t x-r x-u)
+register₅ register x-k s x-l x-t x-r x-u = note-part″.out-register (register₃ register x-k s x-l x-t x-r x-u) x-k (s .assigned) x-t (r4 register x-k s x-l x-t x-r x-u) x-u (s .places)
 
-abbrev pub r6 : List Record → ℕ → Store → Line → Ticket → Record → NewUpdate → Record
-r6 register x-k s x-l x-t x-r x-u = record-at″.res (register₅ register x-k s x-l x-t x-r x-u) (s .assigned)
+abbrev pub register₆ : List Record → ℕ → Store → Line → Ticket → Record → NewUpdate → List Record
+register₆ register x-k s x-l x-t x-r x-u = note-entry″.out-register (register₅ register x-k s x-l x-t x-r x-u) x-k (((r1 register x-k s x-l x-t x-r x-u) .assigned) .0) x-l (r2 register x-k s x-l x-t x-r x-u)
 
-abbrev pub r7 : List Record → ℕ → Store → Line → Ticket → Record → NewUpdate → ℕ
-r7 register x-k s x-l x-t x-r x-u = next-number″.res x-l (r1 register x-k s x-l x-t x-r x-u)
+-- `note_ticket` asks: (k ≡ 0 → 0 < t .0)
+abbrev pub note-ticket-1 : Type 0
+note-ticket-1 =
+    (register : List Record) (x-k : ℕ) (s : Store) (x-l : Line) (x-t : Ticket) (x-r : Record) (x-u : NewUpdate) (len-register : length register < 2 ^ 64) (fits-x-k : x-k < 2 ^ 64) (ok-s : Store′.Ok s) (ok-x-l : Line′.Ok x-l) (ok-x-t : Ticket′.Ok x-t) (ok-x-r : Record′.Ok x-r) (ok-x-u : NewUpdate′.Ok x-u) (need : note-update″.req register x-k s x-l x-t x-r x-u) (ok-r1 : Branch′.Ok (r1 register x-k s x-l x-t x-r x-u)) (fits-r2 : (r2 register x-k s x-l x-t x-r x-u) < 2 ^ 64)
+    → note-ticket″.req register x-k x-t (r2 register x-k s x-l x-t x-r x-u)
 
-abbrev pub r8 : List Record → ℕ → Store → Line → Ticket → Record → NewUpdate → Record
-r8 register x-k s x-l x-t x-r x-u = update-part″.res (r6 register x-k s x-l x-t x-r x-u) x-t (r7 register x-k s x-l x-t x-r x-u) x-u (s .places)
-
-abbrev pub register₉ : List Record → ℕ → Store → Line → Ticket → Record → NewUpdate → List Record
-register₉ register x-k s x-l x-t x-r x-u = put-record″.out-register (register₅ register x-k s x-l x-t x-r x-u) x-k (s .assigned) (r8 register x-k s x-l x-t x-r x-u)
-
-abbrev pub r10 : List Record → ℕ → Store → Line → Ticket → Record → NewUpdate → Record
-r10 register x-k s x-l x-t x-r x-u = record-at″.res (register₉ register x-k s x-l x-t x-r x-u) (((r1 register x-k s x-l x-t x-r x-u) .assigned) .0)
-
-abbrev pub r11 : List Record → ℕ → Store → Line → Ticket → Record → NewUpdate → Record
-r11 register x-k s x-l x-t x-r x-u = entry-part″.res (r10 register x-k s x-l x-t x-r x-u) x-l (r2 register x-k s x-l x-t x-r x-u)
-
-abbrev pub register₁₂ : List Record → ℕ → Store → Line → Ticket → Record → NewUpdate → List Record
-register₁₂ register x-k s x-l x-t x-r x-u = put-record″.out-register (register₉ register x-k s x-l x-t x-r x-u) x-k (((r1 register x-k s x-l x-t x-r x-u) .assigned) .0) (r11 register x-k s x-l x-t x-r x-u)
-
--- `update_part` asks: Figured u
-abbrev pub update-part-1 : Type 0
-update-part-1 =
-    (register : List Record) (x-k : ℕ) (s : Store) (x-l : Line) (x-t : Ticket) (x-r : Record) (x-u : NewUpdate) (len-register : length register < 2 ^ 64) (fits-x-k : x-k < 2 ^ 64) (ok-s : Store′.Ok s) (ok-x-l : Line′.Ok x-l) (ok-x-t : Ticket′.Ok x-t) (ok-x-r : Record′.Ok x-r) (ok-x-u : NewUpdate′.Ok x-u) (need : note-update″.req register x-k s x-l x-t x-r x-u) (ok-r1 : Branch′.Ok (r1 register x-k s x-l x-t x-r x-u)) (fits-r2 : (r2 register x-k s x-l x-t x-r x-u) < 2 ^ 64) (fits-r3 : (r3 register x-k s x-l x-t x-r x-u) < 2 ^ 64) (ok-r4 : Record′.Ok (r4 register x-k s x-l x-t x-r x-u)) (same5-register : length (register₅ register x-k s x-l x-t x-r x-u) ≡ length register) (ok-r6 : Record′.Ok (r6 register x-k s x-l x-t x-r x-u)) (fits-r7 : (r7 register x-k s x-l x-t x-r x-u) < 2 ^ 64)
-    → update-part″.req (r6 register x-k s x-l x-t x-r x-u) x-t (r7 register x-k s x-l x-t x-r x-u) x-u (s .places)
+-- `note_part` asks: Figured u
+abbrev pub note-part-1 : Type 0
+note-part-1 =
+    (register : List Record) (x-k : ℕ) (s : Store) (x-l : Line) (x-t : Ticket) (x-r : Record) (x-u : NewUpdate) (len-register : length register < 2 ^ 64) (fits-x-k : x-k < 2 ^ 64) (ok-s : Store′.Ok s) (ok-x-l : Line′.Ok x-l) (ok-x-t : Ticket′.Ok x-t) (ok-x-r : Record′.Ok x-r) (ok-x-u : NewUpdate′.Ok x-u) (need : note-update″.req register x-k s x-l x-t x-r x-u) (ok-r1 : Branch′.Ok (r1 register x-k s x-l x-t x-r x-u)) (fits-r2 : (r2 register x-k s x-l x-t x-r x-u) < 2 ^ 64) (same3-register : length (register₃ register x-k s x-l x-t x-r x-u) ≡ length register) (fits-r4 : (r4 register x-k s x-l x-t x-r x-u) < 2 ^ 64)
+    → note-part″.req (register₃ register x-k s x-l x-t x-r x-u) x-k (s .assigned) x-t (r4 register x-k s x-l x-t x-r x-u) x-u (s .places)
 
 -- the function ensures: register′ ≡ unless k register (withAssigned s register r (l .0) (t .0) (u .f .0))
 abbrev pub exit-1 : Type 0
 exit-1 =
-    (register : List Record) (x-k : ℕ) (s : Store) (x-l : Line) (x-t : Ticket) (x-r : Record) (x-u : NewUpdate) (len-register : length register < 2 ^ 64) (fits-x-k : x-k < 2 ^ 64) (ok-s : Store′.Ok s) (ok-x-l : Line′.Ok x-l) (ok-x-t : Ticket′.Ok x-t) (ok-x-r : Record′.Ok x-r) (ok-x-u : NewUpdate′.Ok x-u) (need : note-update″.req register x-k s x-l x-t x-r x-u) (ok-r1 : Branch′.Ok (r1 register x-k s x-l x-t x-r x-u)) (fits-r2 : (r2 register x-k s x-l x-t x-r x-u) < 2 ^ 64) (fits-r3 : (r3 register x-k s x-l x-t x-r x-u) < 2 ^ 64) (ok-r4 : Record′.Ok (r4 register x-k s x-l x-t x-r x-u)) (same5-register : length (register₅ register x-k s x-l x-t x-r x-u) ≡ length register) (ok-r6 : Record′.Ok (r6 register x-k s x-l x-t x-r x-u)) (fits-r7 : (r7 register x-k s x-l x-t x-r x-u) < 2 ^ 64) (ok-r8 : Record′.Ok (r8 register x-k s x-l x-t x-r x-u)) (same9-register : length (register₉ register x-k s x-l x-t x-r x-u) ≡ length (register₅ register x-k s x-l x-t x-r x-u)) (ok-r10 : Record′.Ok (r10 register x-k s x-l x-t x-r x-u)) (ok-r11 : Record′.Ok (r11 register x-k s x-l x-t x-r x-u)) (same12-register : length (register₁₂ register x-k s x-l x-t x-r x-u) ≡ length (register₉ register x-k s x-l x-t x-r x-u))
-    → note-update″.ens register x-k s x-l x-t x-r x-u (register₁₂ register x-k s x-l x-t x-r x-u) tt
+    (register : List Record) (x-k : ℕ) (s : Store) (x-l : Line) (x-t : Ticket) (x-r : Record) (x-u : NewUpdate) (len-register : length register < 2 ^ 64) (fits-x-k : x-k < 2 ^ 64) (ok-s : Store′.Ok s) (ok-x-l : Line′.Ok x-l) (ok-x-t : Ticket′.Ok x-t) (ok-x-r : Record′.Ok x-r) (ok-x-u : NewUpdate′.Ok x-u) (need : note-update″.req register x-k s x-l x-t x-r x-u) (ok-r1 : Branch′.Ok (r1 register x-k s x-l x-t x-r x-u)) (fits-r2 : (r2 register x-k s x-l x-t x-r x-u) < 2 ^ 64) (same3-register : length (register₃ register x-k s x-l x-t x-r x-u) ≡ length register) (fits-r4 : (r4 register x-k s x-l x-t x-r x-u) < 2 ^ 64) (same5-register : length (register₅ register x-k s x-l x-t x-r x-u) ≡ length (register₃ register x-k s x-l x-t x-r x-u)) (same6-register : length (register₆ register x-k s x-l x-t x-r x-u) ≡ length (register₅ register x-k s x-l x-t x-r x-u))
+    → note-update″.ens register x-k s x-l x-t x-r x-u (register₆ register x-k s x-l x-t x-r x-u) tt

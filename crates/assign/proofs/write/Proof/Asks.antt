@@ -68,7 +68,7 @@ assign-refusal-1 =
     (s : Store) (pages : List ℕ) (nodes : List ℕ) (register : List Record) (x-l : Line) (x-t : Ticket) (f : PageIndex) (ok-s : Store′.Ok s) (len-pages : length pages < 2 ^ 64) (len-nodes : length nodes < 2 ^ 64) (len-register : length register < 2 ^ 64) (ok-x-l : Line′.Ok x-l) (ok-x-t : Ticket′.Ok x-t) (ok-f : PageIndex′.Ok f) (ok-r1 : Record′.Ok (r1 s pages nodes register x-l x-t f)) (ok-r2 : Lengths′.Ok (r2 s pages nodes register x-l x-t f)) (ok-r3 : Branch′.Ok (r3 s pages nodes register x-l x-t f)) (ok-r4 : NewUpdate′.Ok (r4 s pages nodes register x-l x-t f))
     → assign-refusal″.req s (r2 s pages nodes register x-l x-t f) (r1 s pages nodes register x-l x-t f) x-l x-t (r4 s pages nodes register x-l x-t f)
 
--- `note_update` asks: (k ≡ 0 → Roomy s (l .0) (u .f .0) (r .n)) × (u ≡ newUpdate (lineIn s (l .0) .blob) (u .f .0) (r .n))
+-- `note_update` asks: (k ≡ 0 → Roomy s (l .0) (u .f .0) (r .n)) × (u ≡ newUpdate (lineIn s (l .0) .blob) (u .f .0) (r .n)) × (k ≡ 0 → 0 < t .0) × (r ≡ nth noRecord register (t .0))
 abbrev pub note-update-1 : Type 0
 note-update-1 =
     (s : Store) (pages : List ℕ) (nodes : List ℕ) (register : List Record) (x-l : Line) (x-t : Ticket) (f : PageIndex) (ok-s : Store′.Ok s) (len-pages : length pages < 2 ^ 64) (len-nodes : length nodes < 2 ^ 64) (len-register : length register < 2 ^ 64) (ok-x-l : Line′.Ok x-l) (ok-x-t : Ticket′.Ok x-t) (ok-f : PageIndex′.Ok f) (ok-r1 : Record′.Ok (r1 s pages nodes register x-l x-t f)) (ok-r2 : Lengths′.Ok (r2 s pages nodes register x-l x-t f)) (ok-r3 : Branch′.Ok (r3 s pages nodes register x-l x-t f)) (ok-r4 : NewUpdate′.Ok (r4 s pages nodes register x-l x-t f)) (fits-r5 : (r5 s pages nodes register x-l x-t f) < 2 ^ 64)

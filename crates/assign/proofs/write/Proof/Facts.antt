@@ -4,13 +4,18 @@ use mathlib.Core.Path.{refl}
 use Rattle.tree.specs.Tree.{nth}
 use Rattle.register.specs.Register.{noRecord}
 use Rattle.versions.specs.Store.{areasOf, lengthsOf}
-use Rattle.assign.proofs.Passed.{assign-passed, given-by}
+use Rattle.assign.proofs.Passed.{assign-passed, assign-ticket, given-by}
 use Rattle.assign.proofs.write.Proof.Asks as Asks
 
--- `note_update` asks: (k ≡ 0 → Roomy s (l .0) (u .f .0) (r .n)) × (u ≡ newUpdate (lineIn s (l .0) .blob) (u .f .0) (r .n))
+-- `note_update` asks: (k ≡ 0 → Roomy s (l .0) (u .f .0) (r .n)) × (u ≡ newUpdate (lineIn s (l .0) .blob) (u .f .0) (r .n)) × (k ≡ 0 → 0 < t .0) × (r ≡ nth noRecord register (t .0))
 -- here: note-update″.req register (r5 s pages nodes register x-l x-t f) s x-l x-t (r1 s pages nodes register x-l x-t f) (r4 s pages nodes register x-l x-t f)
 pub note-update-1 : Asks.note-update-1
-note-update-1 s pages nodes register x-l x-t f ok-s len-pages len-nodes len-register ok-x-l ok-x-t ok-f ok-r1 ok-r2 ok-r3 ok-r4 fits-r5 = (assign-passed s (lengthsOf (areasOf pages nodes register)) (nth noRecord register (x-t .0)) (x-l .0) (x-t .0) (f .0), refl)
+note-update-1 s pages nodes register x-l x-t f ok-s len-pages len-nodes len-register ok-x-l ok-x-t ok-f ok-r1 ok-r2 ok-r3 ok-r4 fits-r5 = (
+  assign-passed s (lengthsOf (areasOf pages nodes register)) (nth noRecord register (x-t .0)) (x-l .0) (x-t .0) (f .0),
+  refl,
+  assign-ticket s (lengthsOf (areasOf pages nodes register)) (nth noRecord register (x-t .0)) (x-l .0) (x-t .0) (f .0),
+  refl,
+)
 
 -- `assigned_by` asks: (k ≡ 0 → (s .assigned < s .updates) × (lineIn s (l .0) .assigned .0 < s .updates) × (s .places + u .count ≤ s .nodes))
 -- here: assigned-by″.req s x-l (r4 s pages nodes register x-l x-t f) (r5 s pages nodes register x-l x-t f)
