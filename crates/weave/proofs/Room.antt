@@ -33,6 +33,16 @@ module _ (s : Store) (g : Lengths) (r : Record) (q : Part) (t : ℕ) where
   unfolding weaveRefusal weaveRows
   place-low e = let p = passed _ tt e in p .1 .1 .1 .0 .1 .1 .0
 
+  -- The ticket's record names its update.
+  pub update-noted : weaveRefusal s g r q t ≡ 0 → 0 < r .update
+  unfolding weaveRefusal weaveRows
+  update-noted e =
+      let p = passed _ tt e in
+      elim (p .1 .1 .0 .0) [
+        | inl h ↦ absurd (omega (arith, h, p .1 .1 .1 .0 .0))
+        | inr h ↦ omega (arith, h)
+      ]
+
 -- Where the number with what is looked for is 0, so is the table's.
 pub both-zero : (k n : ℕ) → orElse k n ≡ 0 → k ≡ 0
 unfolding orElse

@@ -39,7 +39,6 @@ use versions::capped_sum;
 use versions::lengths_of;
 use versions::line_state;
 use versions::number_on;
-use versions::put_record;
 use versions::record_index;
 use walk::reach_from;
 
@@ -355,27 +354,19 @@ fn store_woven(nodes: &mut [u32], k: u64, place: u64, x: WovenNode)
     }
 }
 
-// A record with one node more woven where the number k is 0.
-fn with_woven(k: u64, q: Record) -> Record
-    requires { ⌜ (k ≡ 0 → suc (q .woven) < 2 ^ 64) ⌝ }
-    ensures { λ r. ⌜ r ≡ unless k q (withWoven q) ⌝ }
-{
-    let mut next = q;
-    if k == 0 {
-        next.woven = q.woven + 1;
-    }
-    next
-}
-
-// Counts one node more as woven in the record of the update of this number where the number k is 0.
+// Counts one node more as woven in the record of the update of this number where the number k is 0: the one field that it changes is written.
 fn count_woven(register: &mut [Record], k: u64, update: u64)
-    requires { ⌜ (k ≡ 0 → suc (nth noRecord (now register) update .woven) < 2 ^ 64) ⌝ }
+    requires { ⌜ (k ≡ 0 → (0 < update) × (suc (nth noRecord (now register) update .woven) < 2 ^ 64)) ⌝ }
     ensures { λ _.
         let rs = now (register .entry) in
         ⌜ now (register .exit) ≡ unless k rs (withRecord rs (pred update) (withWoven (nth noRecord rs update))) ⌝ }
 {
-    let u = nth_record(register, update);
-    put_record(register, k, record_index(update), with_woven(k, u));
+    let at = record_index(update);
+    if k == 0 && at < register.len() {
+        let u = register[at];
+        let woven = u.woven + 1;
+        register[at].woven = woven;
+    }
 }
 
 // What WEAVE answers, by the number k.

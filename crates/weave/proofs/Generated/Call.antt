@@ -7,5 +7,4 @@ pub mod store_woven
 pub mod version_before
 pub mod weave
 pub mod weave_plan
-pub mod with_woven
 pub mod woven_answer

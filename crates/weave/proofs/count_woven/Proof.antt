@@ -25,7 +25,7 @@ use contract.Running.{givenOf, tables, tablesOf}
 use types.Kit.{Given, ‵, _⊛_, ⋆, _$_, _∵_, !, qed, by, move, drop, split, join, rewrite, fsplit, fjoin, feqI, suffices, frame, done}
 use types.Part.{agg, whole, sub, look-in, store-in}
 use types.Match.{vrt, look-tag, in-variant}
-use types.Run.{look, look-raw, store-raw, init, store, forget, stop, hop, fld, from, load, lit, neg-lit, unit-lit, true-lit, false-lit, addr, of-opd, bin, un, and-then, no-more, assigns, land, returns, enter, alloc1, alloc0, params1, pass1, pass0, free1, free0}
+use types.Run.{look, look-raw, store-raw, init, store, forget, stop, hop, fld, from, load, lit, neg-lit, unit-lit, true-lit, false-lit, addr, of-opd, bin, un, and-then, no-more, assigns, land, returns, enter, alloc1, alloc0, params1, pass1, pass0, free1, free0, first, blocks, assigns-last, land-last, branches, skips, jumps, returns-within}
 use sound.WpLaws.{FmC, fmOf, WpFn-mono}
 use denote.Exit.{yes}
 use denote.RattleType.{owns}
@@ -51,33 +51,18 @@ use Rattle.lines.specs.declared.Entries.{Entries}
 use Rattle.register.proofs.Generated.Kind.Entries as Entries′
 use Rattle.register.proofs.Generated.Flow.{ref, MutAt, ShrAt, lend-mut, back-mut, lend-shr, back-shr, branches-on, regroup, skips-on, returns-on, plus-nothing, holds, empty, less-fits, is-true, is-false, differ, above-0, twice-not, switches-to, switches-last, big-lit, here, blocks-on, resume, scaled-2, scaled-4, scaled-8, opens-shr, shuts-shr, opens-mut, shuts-mut, puts-mut, keeps-shr, fills, empties, tyAt}
 use Rattle.weave.proofs.Generated.Say.count_woven as count-woven″
-use Rattle.register.proofs.Generated.Say.nth_record as nth-record″
-use Rattle.register.proofs.Generated.Call.nth_record as Call-nth-record
-use Rattle.register.proofs.nth_record.Symbol as def-nth-record
-use Rattle.register.proofs.nth_record.Symbol.{name as #nth-record}
-use Rattle.register.proofs.nth_record.Met as thm-nth-record
 use Rattle.versions.proofs.Generated.Say.record_index as record-index″
 use Rattle.versions.proofs.Generated.Call.record_index as Call-record-index
 use Rattle.versions.proofs.record_index.Symbol as def-record-index
 use Rattle.versions.proofs.record_index.Symbol.{name as #record-index}
 use Rattle.versions.proofs.record_index.Met as thm-record-index
-use Rattle.weave.proofs.Generated.Say.with_woven as with-woven″
-use Rattle.weave.proofs.Generated.Call.with_woven as Call-with-woven
-use Rattle.weave.proofs.with_woven.Symbol as def-with-woven
-use Rattle.weave.proofs.with_woven.Symbol.{name as #with-woven}
-use Rattle.weave.proofs.with_woven.Met as thm-with-woven
-use Rattle.versions.proofs.Generated.Say.put_record as put-record″
-use Rattle.versions.proofs.Generated.Call.put_record as Call-put-record
-use Rattle.versions.proofs.put_record.Symbol as def-put-record
-use Rattle.versions.proofs.put_record.Symbol.{name as #put-record}
-use Rattle.versions.proofs.put_record.Met as thm-put-record
 use Rattle.weave.proofs.count_woven.Key.{name as #self}
 use Rattle.weave.proofs.count_woven as count-woven‴
 use Rattle.weave.proofs.count_woven.Statement as stated
 use Rattle.weave.proofs.count_woven.Code as code
 use Rattle.weave.proofs.count_woven.Proof.Facts as Facts
 use denote.Memory.{pointee}
-use Rattle.weave.proofs.count_woven.Proof.Asks.{r1, r2, r3, register₄}
+use Rattle.weave.proofs.count_woven.Proof.Asks.{r1, register-set1}
 
 abbrev stayed : Stays (count-woven‴.ended .signature .params) (count-woven‴.ended .kept)
 stayed = (stay-slice (0 ∷ []) tt (plain (λ _. Record′.row)), (stay-none (λ _. u64) yes, (stay-none (λ _. u64) yes, tt)))
@@ -100,45 +85,66 @@ module _ {M : Type 1} (𝓤 : URA M) (H : Heap 𝓤) (A : Atoms 𝓤) (W : Given
       qed W (‵ (flft κ·register q·register) ∷ ‵ (MutAt Record′.row κ·register b·register o·register γ·register (length register) zs·register) ∷ []) ∵ suffices ! _ (ends-at 𝓤 H A count-woven‴.ended stayed (count-woven‴.clauses 𝓤 H A mem run) W bound (vunit) tt (zs·register, (tt, (tt, tt))) (same·register, (tt, (tt, tt)))) $ says ! said $
       nothing ! $ move ! (1 ∷ 0 ∷ []) $ join ! $ frame ! $ nothing ! $ owned ! u64 (Is u64) (uint-makes 𝓤 H A W w64) update _ ok·update $ fjoin ! $ owned ! u64 (Is u64) (uint-makes 𝓤 H A W w64) x-k _ ok·x-k $ fjoin ! $ move ! (1 ∷ 0 ∷ []) $ fjoin ! $ frame ! $ feqI ! (List Val) (vunit ∷ []) (vunit ∷ []) refl $ done !
 
-  walk : (𝓣 : Tables 𝓤 H) (known-nth-record : Triple 𝓤 (𝓣 .C #nth-record) (Call-nth-record.Asked 𝓤 H A mem run)) (known-record-index : Triple 𝓤 (𝓣 .C #record-index) (Call-record-index.Asked 𝓤 H A mem run)) (known-with-woven : Triple 𝓤 (𝓣 .C #with-woven) (Call-with-woven.Asked 𝓤 H A mem run)) (known-put-record : Triple 𝓤 (𝓣 .C #put-record) (Call-put-record.Asked 𝓤 H A mem run)) → ent 𝓤 (onEntry 𝓤 H A count-woven‴.signature (κ·register, tt) (q·register, tt) all-args all-vals)
+  walk : (𝓣 : Tables 𝓤 H) (known-record-index : Triple 𝓤 (𝓣 .C #record-index) (Call-record-index.Asked 𝓤 H A mem run)) → ent 𝓤 (onEntry 𝓤 H A count-woven‴.signature (κ·register, tt) (q·register, tt) all-args all-vals)
       (WpFn 𝓤 H (𝓣 .C) (𝓣 .Λ) code.function (sliceVal (b·register, o·register) (length register) ∷ vint w64 x-k ∷ vint w64 update ∷ []) Post)
-  walk 𝓣 known-nth-record known-record-index known-with-woven known-put-record =
+  walk 𝓣 known-record-index =
       qed W ((‵ (flft κ·register q·register) ⊛ ‵ ftrue) ∷ ‵ (owns (MutSlice (named 0) κ·register Record′.row ∷ u64 ∷ u64 ∷ []) all-args all-vals) ∷ []) ∵ enter ! (𝓣 .C) (𝓣 .Λ) code.function (sliceVal (b·register, o·register) (length register) ∷ vint w64 x-k ∷ vint w64 update ∷ []) _ $
-      alloc1 ! (λ l₀. alloc1 ! (λ l₁. alloc1 ! (λ l₂. alloc1 ! (λ l₃. alloc1 ! (λ l₄. alloc1 ! (λ l₅. alloc1 ! (λ l₆. alloc1 ! (λ l₇. alloc1 ! (λ l₈. alloc1 ! (λ l₉. alloc1 ! (λ l₁₀. alloc1 ! (λ l₁₁. alloc0 ! $ params1 ! $
-      pass1 ! (init ! 20 refl (tt, (tt, (record { fits = room·register .0 }, tt)))) $ pass1 ! (init ! 18 refl (tt, record { fits = ok·x-k .1 })) $ pass1 ! (init ! 16 refl (tt, record { fits = ok·update .1 })) $ pass0 ! $
-      move ! (25 ∷ []) $ fsplit ! $ move ! (1 ∷ []) $ fsplit ! $ drop ! $ fsplit ! $ drop ! $ drop ! $ move ! (25 ∷ []) $ split ! $ move ! (1 ∷ []) $ drop ! $
-      assigns ! (addr ! (from ! (fld ! refl (hop ! (look-in ! 22 (sub ! 0 refl (whole !))) (stop !))))) (from ! (stop !)) (init ! 14 refl (tt, tt)) $
-      assigns ! (agg ! (and-then ! (load ! (from ! (stop !)) (look ! 14 refl)) (and-then ! (load ! (from ! (fld ! refl (stop !))) (look-in ! 22 (sub ! 1 refl (whole !)))) (no-more !)))) (from ! (stop !)) (init ! 12 refl (tt, (tt, (record { fits = room·register .0 }, tt)))) $
-      lend-shr ! tt Record′.row κ·register q·register b·register o·register γ·register (length register) register (refl) (λ ν·1-register γ·1-register.
-      Call-nth-record.calls ! mem run (fmOf 𝓤 H (W .laws) 𝓣) known-nth-record (ν·1-register ∷ []) fullShare b·register o·register γ·1-register (length register) register update ok·update (and-then ! (load ! (from ! (stop !)) (look ! 13 refl)) (and-then ! (load ! (from ! (stop !)) (look ! 19 refl)) (no-more !)))
-      (λ ok·1. back-shr ! tt Record′.row κ·register q·register b·register o·register γ·register (length register) register ν·1-register (refl) room·register $ land ! (from ! (stop !)) (init ! 16 refl (Record′.typed 𝓤 H A W (r1 register x-k update) ok·1)) $
-      here ! (‵ (flft κ·register q·register) ∷ ‵ (MutAt Record′.row κ·register b·register o·register γ·register (length register) register) ∷ empty (tyAt (code.function .locals) 11) l₁₁ (empty (tyInt w64) l₁₀ (empty (sliceTy (tyRef erased mut (pointee (Record′.row .written)))) l₉ (empty (tyRef erased mut (pointee (Record′.row .written))) l₈ (empty tyUnit l₇ (holds (sliceTy (tyRef erased imm (pointee (Record′.row .written)))) l₆ (sliceVal (b·register, o·register) (length register)) (holds (tyRef erased imm (pointee (Record′.row .written))) l₅ (vptr b·register o·register) (holds (tyAt (code.function .locals) 4) l₄ (Record′.mach (r1 register x-k update)) (holds (tyInt w64) l₃ (vint w64 update) (holds (tyInt w64) l₂ (vint w64 x-k) (holds (sliceTy (tyRef (named 0) mut (pointee (Record′.row .written)))) l₁ (sliceVal (b·register, o·register) (length register)) (empty tyUnit l₀ [])))))))))))) $
-      assigns ! (addr ! (from ! (fld ! refl (hop ! (look-in ! 22 (sub ! 0 refl (whole !))) (stop !))))) (from ! (stop !)) (init ! 8 refl (tt, tt)) $
-      assigns ! (agg ! (and-then ! (load ! (from ! (stop !)) (look ! 8 refl)) (and-then ! (load ! (from ! (fld ! refl (stop !))) (look-in ! 22 (sub ! 1 refl (whole !)))) (no-more !)))) (from ! (stop !)) (init ! 6 refl (tt, (tt, (record { fits = room·register .0 }, tt)))) $
-      Call-record-index.calls ! mem run (fmOf 𝓤 H (W .laws) 𝓣) known-record-index update ok·update (and-then ! (load ! (from ! (stop !)) (look ! 19 refl)) (no-more !))
-      (λ ok·2. land ! (from ! (stop !)) (init ! 4 refl (tt, record { fits = ok·2 .1 })) $
-      here ! (‵ (flft κ·register q·register) ∷ ‵ (MutAt Record′.row κ·register b·register o·register γ·register (length register) register) ∷ empty (tyAt (code.function .locals) 11) l₁₁ (holds (tyInt w64) l₁₀ (vint w64 (r2 register x-k update)) (holds (sliceTy (tyRef erased mut (pointee (Record′.row .written)))) l₉ (sliceVal (b·register, o·register) (length register)) (holds (tyRef erased mut (pointee (Record′.row .written))) l₈ (vptr b·register o·register) (empty tyUnit l₇ (holds (sliceTy (tyRef erased imm (pointee (Record′.row .written)))) l₆ (sliceVal (b·register, o·register) (length register)) (holds (tyRef erased imm (pointee (Record′.row .written))) l₅ (vptr b·register o·register) (holds (tyAt (code.function .locals) 4) l₄ (Record′.mach (r1 register x-k update)) (holds (tyInt w64) l₃ (vint w64 update) (holds (tyInt w64) l₂ (vint w64 x-k) (holds (sliceTy (tyRef (named 0) mut (pointee (Record′.row .written)))) l₁ (sliceVal (b·register, o·register) (length register)) (empty tyUnit l₀ [])))))))))))) $
-      Call-with-woven.calls ! mem run (fmOf 𝓤 H (W .laws) 𝓣) known-with-woven x-k (r1 register x-k update) ok·x-k ok·1 (Facts.with-woven-1 register x-k update (room·register .0) (ok·x-k .1) (ok·update .1) need ok·1 (ok·2 .1)) (and-then ! (load ! (from ! (stop !)) (look ! 21 refl)) (and-then ! (load ! (from ! (stop !)) (look ! 17 refl)) (no-more !)))
-      (λ ok·3. land ! (from ! (stop !)) (init ! 2 refl (Record′.typed 𝓤 H A W (r3 register x-k update) ok·3)) $
-      here ! (‵ (flft κ·register q·register) ∷ ‵ (MutAt Record′.row κ·register b·register o·register γ·register (length register) register) ∷ holds (tyAt (code.function .locals) 11) l₁₁ (Record′.mach (r3 register x-k update)) (holds (tyInt w64) l₁₀ (vint w64 (r2 register x-k update)) (holds (sliceTy (tyRef erased mut (pointee (Record′.row .written)))) l₉ (sliceVal (b·register, o·register) (length register)) (holds (tyRef erased mut (pointee (Record′.row .written))) l₈ (vptr b·register o·register) (empty tyUnit l₇ (holds (sliceTy (tyRef erased imm (pointee (Record′.row .written)))) l₆ (sliceVal (b·register, o·register) (length register)) (holds (tyRef erased imm (pointee (Record′.row .written))) l₅ (vptr b·register o·register) (holds (tyAt (code.function .locals) 4) l₄ (Record′.mach (r1 register x-k update)) (holds (tyInt w64) l₃ (vint w64 update) (holds (tyInt w64) l₂ (vint w64 x-k) (holds (sliceTy (tyRef (named 0) mut (pointee (Record′.row .written)))) l₁ (sliceVal (b·register, o·register) (length register)) (empty tyUnit l₀ [])))))))))))) $
-      lend-mut ! tt Record′.row κ·register q·register b·register o·register γ·register (length register) register (refl) (λ ν·4-register γ·4-register.
-      Call-put-record.calls ! mem run (fmOf 𝓤 H (W .laws) 𝓣) known-put-record (ν·4-register ∷ []) fullShare b·register o·register γ·4-register (length register) register x-k (r2 register x-k update) (r3 register x-k update) ok·x-k ok·2 ok·3 (and-then ! (load ! (from ! (stop !)) (look ! 6 refl)) (and-then ! (load ! (from ! (stop !)) (look ! 20 refl)) (and-then ! (load ! (from ! (stop !)) (look ! 4 refl)) (and-then ! (load ! (from ! (stop !)) (look ! 2 refl)) (no-more !)))))
-      (λ same·4-register. back-mut ! tt Record′.row κ·register q·register b·register o·register γ·register (length register) register (register₄ register x-k update) ν·4-register γ·4-register (refl) same·4-register room·register $ land ! (from ! (stop !)) (init ! 10 refl (tt, tt)) $
-      here ! (‵ (flft κ·register q·register) ∷ ‵ (MutAt Record′.row κ·register b·register o·register γ·register (length register) (register₄ register x-k update)) ∷ holds (tyAt (code.function .locals) 11) l₁₁ (Record′.mach (r3 register x-k update)) (holds (tyInt w64) l₁₀ (vint w64 (r2 register x-k update)) (holds (sliceTy (tyRef erased mut (pointee (Record′.row .written)))) l₉ (sliceVal (b·register, o·register) (length register)) (holds (tyRef erased mut (pointee (Record′.row .written))) l₈ (vptr b·register o·register) (holds tyUnit l₇ vunit (holds (sliceTy (tyRef erased imm (pointee (Record′.row .written)))) l₆ (sliceVal (b·register, o·register) (length register)) (holds (tyRef erased imm (pointee (Record′.row .written))) l₅ (vptr b·register o·register) (holds (tyAt (code.function .locals) 4) l₄ (Record′.mach (r1 register x-k update)) (holds (tyInt w64) l₃ (vint w64 update) (holds (tyInt w64) l₂ (vint w64 x-k) (holds (sliceTy (tyRef (named 0) mut (pointee (Record′.row .written)))) l₁ (sliceVal (b·register, o·register) (length register)) (empty tyUnit l₀ [])))))))))))) $
-      assigns ! (of-opd ! (unit-lit !)) (from ! (stop !)) (init ! 24 refl (tt, tt)) $
-      returns ! (look ! 24 refl) $
-      move ! (24 ∷ 25 ∷ []) $ forget ! 0 refl $ free1 ! $ move ! (22 ∷ 23 ∷ []) $ forget ! 0 refl $ free1 ! $ move ! (20 ∷ 21 ∷ []) $ forget ! 0 refl $ free1 ! $ move ! (18 ∷ 19 ∷ []) $ forget ! 0 refl $ free1 ! $ move ! (16 ∷ 17 ∷ []) $ forget ! 0 refl $ free1 ! $ move ! (14 ∷ 15 ∷ []) $ forget ! 0 refl $ free1 ! $ move ! (12 ∷ 13 ∷ []) $ forget ! 0 refl $ free1 ! $ move ! (10 ∷ 11 ∷ []) $ forget ! 0 refl $ free1 ! $ move ! (8 ∷ 9 ∷ []) $ forget ! 0 refl $ free1 ! $ move ! (6 ∷ 7 ∷ []) $ forget ! 0 refl $ free1 ! $ move ! (4 ∷ 5 ∷ []) $ forget ! 0 refl $ free1 ! $ move ! (2 ∷ 3 ∷ []) $ forget ! 0 refl $ free1 ! $ free0 ! $ by ! (exits (register₄ register x-k update) (sym (refl ∙ sym same·4-register)) (Facts.exit-1 register x-k update (room·register .0) (ok·x-k .1) (ok·update .1) need ok·1 (ok·2 .1) ok·3 same·4-register))))))))))))))))))))
+      alloc1 ! (λ l₀. alloc1 ! (λ l₁. alloc1 ! (λ l₂. alloc1 ! (λ l₃. alloc1 ! (λ l₄. alloc1 ! (λ l₅. alloc1 ! (λ l₆. alloc1 ! (λ l₇. alloc1 ! (λ l₈. alloc1 ! (λ l₉. alloc1 ! (λ l₁₀. alloc1 ! (λ l₁₁. alloc1 ! (λ l₁₂. alloc1 ! (λ l₁₃. alloc0 ! $ params1 ! $
+      pass1 ! (init ! 24 refl (tt, (tt, (record { fits = room·register .0 }, tt)))) $ pass1 ! (init ! 22 refl (tt, record { fits = ok·x-k .1 })) $ pass1 ! (init ! 20 refl (tt, record { fits = ok·update .1 })) $ pass0 ! $
+      move ! (29 ∷ []) $ fsplit ! $ move ! (1 ∷ []) $ fsplit ! $ drop ! $ fsplit ! $ drop ! $ drop ! $ move ! (29 ∷ []) $ split ! $ move ! (1 ∷ []) $ drop ! $
+      Call-record-index.calls ! mem run (fmOf 𝓤 H (W .laws) 𝓣) known-record-index update ok·update (and-then ! (load ! (from ! (stop !)) (look ! 23 refl)) (no-more !))
+      (λ ok·1. land ! (from ! (stop !)) (init ! 20 refl (tt, record { fits = ok·1 .1 })) $
+      here ! (‵ (flft κ·register q·register) ∷ ‵ (MutAt Record′.row κ·register b·register o·register γ·register (length register) register) ∷ empty tyPtr l₁₃ (empty (tyAt (code.function .locals) 12) l₁₂ (empty tyPtr l₁₁ (empty (tyInt w64) l₁₀ (empty tyBool l₉ (empty (tyInt w64) l₈ (empty tyBool l₇ (empty (tyInt w64) l₆ (empty (tyAt (code.function .locals) 5) l₅ (holds (tyInt w64) l₄ (vint w64 (r1 register x-k update)) (holds (tyInt w64) l₃ (vint w64 update) (holds (tyInt w64) l₂ (vint w64 x-k) (holds (sliceTy (tyRef (named 0) mut (pointee (Record′.row .written)))) l₁ (sliceVal (b·register, o·register) (length register)) (empty tyUnit l₀ [])))))))))))))) $
+      blocks-on ! (λ back·1.
+      assigns ! (bin ! (load ! (from ! (stop !)) (look ! 24 refl)) (lit ! tt) tt) (from ! (stop !)) (init ! 14 refl (tt, tt)) $
+      branches-on ! (load ! (from ! (stop !)) (look ! 14 refl))
+      (λ h·1. regroup ! $
+      assigns ! (of-opd ! (load ! (from ! (fld ! refl (stop !))) (look-in ! 26 (sub ! 1 refl (whole !))))) (from ! (stop !)) (init ! 12 refl (tt, record { fits = room·register .0 })) $
+      regroup ! $
+      assigns ! (bin ! (load ! (from ! (stop !)) (look ! 20 refl)) (load ! (from ! (stop !)) (look ! 12 refl)) tt) (from ! (stop !)) (store ! 14 refl (tt, tt)) $
+      regroup ! $
+      assigns ! (of-opd ! (load ! (from ! (stop !)) (look ! 14 refl))) (from ! (stop !)) (init ! 10 refl (tt, tt)) $
+      branches-on ! (load ! (from ! (stop !)) (look ! 10 refl))
+      (λ h·2. regroup ! $
+      assigns ! (bin ! (load ! (from ! (stop !)) (look ! 20 refl)) (lit ! tt) record { fits = Record′.scaled (length register) (r1 register x-k update) (subst (λ (m : ℕ). (r1 register x-k update) < m) (sym (refl)) (Facts.index-1 register x-k update (room·register .0) (ok·x-k .1) (ok·update .1) need (ok·1 .1) (is-true (eqb x-k 0) h·1) (eqb→eq x-k 0 h·1) (is-true (ltb (r1 register x-k update) (length register)) h·2) (ltb→lt (r1 register x-k update) (length register) h·2))) (room·register .1) }) (from ! (stop !)) (init ! 8 refl (tt, record { fits = Record′.scaled (length register) (r1 register x-k update) (subst (λ (m : ℕ). (r1 register x-k update) < m) (sym (refl)) (Facts.index-1 register x-k update (room·register .0) (ok·x-k .1) (ok·update .1) need (ok·1 .1) (is-true (eqb x-k 0) h·1) (eqb→eq x-k 0 h·1) (is-true (ltb (r1 register x-k update) (length register)) h·2) (ltb→lt (r1 register x-k update) (length register) h·2))) (room·register .1) })) $
+      regroup ! $
+      assigns ! (bin ! (load ! (from ! (fld ! refl (stop !))) (look-in ! 26 (sub ! 0 refl (whole !)))) (load ! (from ! (stop !)) (look ! 8 refl)) tt) (from ! (stop !)) (init ! 6 refl (tt, tt)) $ rewrite ! 6 (λ (z : ℕ). ‵ (fat fullShare tyPtr l₁₁ 0 (vptr b·register z))) (sym (place-is 144 o·register (r1 register x-k update))) refl $
+      regroup ! $
+      opens-mut ! tt Record′.row Record′.vals Record′.tells κ·register q·register b·register o·register γ·register (length register) register (r1 register x-k update) Record′.none (Facts.index-1 register x-k update (room·register .0) (ok·x-k .1) (ok·update .1) need (ok·1 .1) (is-true (eqb x-k 0) h·1) (eqb→eq x-k 0 h·1) (is-true (ltb (r1 register x-k update) (length register)) h·2) (ltb→lt (r1 register x-k update) (length register) h·2)) (λ g·12. assigns ! (of-opd ! (load ! (from ! (hop ! (look ! 11 refl) (stop !))) (look-raw ! 0 refl))) (from ! (stop !)) (init ! 9 refl (Record′.typed 𝓤 H A W (getD register (r1 register x-k update) Record′.none) g·12)) $
+      shuts-mut ! tt Record′.row κ·register q·register b·register o·register γ·register (length register) register (r1 register x-k update) Record′.none (Record′.vals (getD register (r1 register x-k update) Record′.none)) (Facts.index-1 register x-k update (room·register .0) (ok·x-k .1) (ok·update .1) need (ok·1 .1) (is-true (eqb x-k 0) h·1) (eqb→eq x-k 0 h·1) (is-true (ltb (r1 register x-k update) (length register)) h·2) (ltb→lt (r1 register x-k update) (length register) h·2)) $ regroup ! $
+      assigns ! (of-opd ! (load ! (from ! (stop !)) (look ! 4 refl))) (from ! (stop !)) (init ! 18 refl (Record′.typed 𝓤 H A W (getD register (r1 register x-k update) Record′.none) g·12)) $
+      regroup ! $
+      assigns ! (bin ! (load ! (from ! (fld ! refl (stop !))) (look-in ! 18 (sub ! 13 refl (whole !)))) (lit ! tt) record { fits = Facts.add-1 register x-k update (room·register .0) (ok·x-k .1) (ok·update .1) need (ok·1 .1) (is-true (eqb x-k 0) h·1) (eqb→eq x-k 0 h·1) (is-true (ltb (r1 register x-k update) (length register)) h·2) (ltb→lt (r1 register x-k update) (length register) h·2) g·12 }) (from ! (stop !)) (init ! 16 refl (tt, record { fits = Facts.add-1 register x-k update (room·register .0) (ok·x-k .1) (ok·update .1) need (ok·1 .1) (is-true (eqb x-k 0) h·1) (eqb→eq x-k 0 h·1) (is-true (ltb (r1 register x-k update) (length register)) h·2) (ltb→lt (r1 register x-k update) (length register) h·2) g·12 })) $
+      regroup ! $
+      assigns ! (bin ! (load ! (from ! (stop !)) (look ! 20 refl)) (lit ! tt) record { fits = Record′.scaled (length register) (r1 register x-k update) (subst (λ (m : ℕ). (r1 register x-k update) < m) (sym (refl)) (Facts.index-2 register x-k update (room·register .0) (ok·x-k .1) (ok·update .1) need (ok·1 .1) (is-true (eqb x-k 0) h·1) (eqb→eq x-k 0 h·1) (is-true (ltb (r1 register x-k update) (length register)) h·2) (ltb→lt (r1 register x-k update) (length register) h·2) g·12)) (room·register .1) }) (from ! (stop !)) (store ! 8 refl (tt, record { fits = Record′.scaled (length register) (r1 register x-k update) (subst (λ (m : ℕ). (r1 register x-k update) < m) (sym (refl)) (Facts.index-2 register x-k update (room·register .0) (ok·x-k .1) (ok·update .1) need (ok·1 .1) (is-true (eqb x-k 0) h·1) (eqb→eq x-k 0 h·1) (is-true (ltb (r1 register x-k update) (length register)) h·2) (ltb→lt (r1 register x-k update) (length register) h·2) g·12)) (room·register .1) })) $
+      regroup ! $
+      assigns ! (bin ! (load ! (from ! (fld ! refl (stop !))) (look-in ! 26 (sub ! 0 refl (whole !)))) (load ! (from ! (stop !)) (look ! 8 refl)) tt) (from ! (stop !)) (init ! 2 refl (tt, tt)) $ rewrite ! 2 (λ (z : ℕ). ‵ (fat fullShare tyPtr l₁₃ 0 (vptr b·register z))) (sym (place-is 144 o·register (r1 register x-k update))) refl $
+      regroup ! $
+      opens-mut ! tt Record′.row Record′.vals Record′.tells κ·register q·register b·register o·register γ·register (length register) register (r1 register x-k update) Record′.none (Facts.index-2 register x-k update (room·register .0) (ok·x-k .1) (ok·update .1) need (ok·1 .1) (is-true (eqb x-k 0) h·1) (eqb→eq x-k 0 h·1) (is-true (ltb (r1 register x-k update) (length register)) h·2) (ltb→lt (r1 register x-k update) (length register) h·2) g·12) (λ g·s1. assigns ! (of-opd ! (load ! (from ! (stop !)) (look ! 21 refl))) (from ! (hop ! (look ! 7 refl) (fld ! refl (stop !)))) (store-in ! 0 (sub ! 13 refl (whole !)) (tt, record { fits = Facts.add-1 register x-k update (room·register .0) (ok·x-k .1) (ok·update .1) need (ok·1 .1) (is-true (eqb x-k 0) h·1) (eqb→eq x-k 0 h·1) (is-true (ltb (r1 register x-k update) (length register)) h·2) (ltb→lt (r1 register x-k update) (length register) h·2) g·12 })) $
+      puts-mut ! tt Record′.row (Record′.makes 𝓤 H A) κ·register q·register b·register o·register γ·register (length register) register (r1 register x-k update) (Record′.build ((getD register (r1 register x-k update) Record′.none) .n) ((getD register (r1 register x-k update) Record′.none) .number) ((getD register (r1 register x-k update) Record′.none) .put) ((getD register (r1 register x-k update) Record′.none) .update) ((getD register (r1 register x-k update) Record′.none) .ticket) ((getD register (r1 register x-k update) Record′.none) .name) ((getD register (r1 register x-k update) Record′.none) .f) ((getD register (r1 register x-k update) Record′.none) .last) ((getD register (r1 register x-k update) Record′.none) .top) ((getD register (r1 register x-k update) Record′.none) .past) ((getD register (r1 register x-k update) Record′.none) .span) ((getD register (r1 register x-k update) Record′.none) .size) ((getD register (r1 register x-k update) Record′.none) .count) (((getD register (r1 register x-k update) Record′.none) .woven) + 1) ((getD register (r1 register x-k update) Record′.none) .entries)) (Record′.vals (Record′.build ((getD register (r1 register x-k update) Record′.none) .n) ((getD register (r1 register x-k update) Record′.none) .number) ((getD register (r1 register x-k update) Record′.none) .put) ((getD register (r1 register x-k update) Record′.none) .update) ((getD register (r1 register x-k update) Record′.none) .ticket) ((getD register (r1 register x-k update) Record′.none) .name) ((getD register (r1 register x-k update) Record′.none) .f) ((getD register (r1 register x-k update) Record′.none) .last) ((getD register (r1 register x-k update) Record′.none) .top) ((getD register (r1 register x-k update) Record′.none) .past) ((getD register (r1 register x-k update) Record′.none) .span) ((getD register (r1 register x-k update) Record′.none) .size) ((getD register (r1 register x-k update) Record′.none) .count) (((getD register (r1 register x-k update) Record′.none) .woven) + 1) ((getD register (r1 register x-k update) Record′.none) .entries))) (Record′.make ((getD register (r1 register x-k update) Record′.none) .n) ((getD register (r1 register x-k update) Record′.none) .number) ((getD register (r1 register x-k update) Record′.none) .put) ((getD register (r1 register x-k update) Record′.none) .update) ((getD register (r1 register x-k update) Record′.none) .ticket) ((getD register (r1 register x-k update) Record′.none) .name) ((getD register (r1 register x-k update) Record′.none) .f) ((getD register (r1 register x-k update) Record′.none) .last) ((getD register (r1 register x-k update) Record′.none) .top) ((getD register (r1 register x-k update) Record′.none) .past) ((getD register (r1 register x-k update) Record′.none) .span) ((getD register (r1 register x-k update) Record′.none) .size) ((getD register (r1 register x-k update) Record′.none) .count) (((getD register (r1 register x-k update) Record′.none) .woven) + 1) ((getD register (r1 register x-k update) Record′.none) .entries) (Record′.ok-n (getD register (r1 register x-k update) Record′.none) g·s1) (Record′.ok-number (getD register (r1 register x-k update) Record′.none) g·s1) (Record′.ok-put (getD register (r1 register x-k update) Record′.none) g·s1) (Record′.ok-update (getD register (r1 register x-k update) Record′.none) g·s1) (Record′.ok-ticket (getD register (r1 register x-k update) Record′.none) g·s1) (Record′.ok-name (getD register (r1 register x-k update) Record′.none) g·s1) (Record′.ok-f (getD register (r1 register x-k update) Record′.none) g·s1) (Record′.ok-last (getD register (r1 register x-k update) Record′.none) g·s1) (Record′.ok-top (getD register (r1 register x-k update) Record′.none) g·s1) (Record′.ok-past (getD register (r1 register x-k update) Record′.none) g·s1) (Record′.ok-span (getD register (r1 register x-k update) Record′.none) g·s1) (Record′.ok-size (getD register (r1 register x-k update) Record′.none) g·s1) (Record′.ok-count (getD register (r1 register x-k update) Record′.none) g·s1) (refl, Facts.add-1 register x-k update (room·register .0) (ok·x-k .1) (ok·update .1) need (ok·1 .1) (is-true (eqb x-k 0) h·1) (eqb→eq x-k 0 h·1) (is-true (ltb (r1 register x-k update) (length register)) h·2) (ltb→lt (r1 register x-k update) (length register) h·2) g·12) (Record′.ok-entries (getD register (r1 register x-k update) Record′.none) g·s1)) (Facts.index-2 register x-k update (room·register .0) (ok·x-k .1) (ok·update .1) need (ok·1 .1) (is-true (eqb x-k 0) h·1) (eqb→eq x-k 0 h·1) (is-true (ltb (r1 register x-k update) (length register)) h·2) (ltb→lt (r1 register x-k update) (length register) h·2) g·12) (refl) room·register $
+      first ! $ jumps ! $ resume back·1 $
+      assigns ! (of-opd ! (unit-lit !)) (from ! (stop !)) (init ! 28 refl (tt, tt)) $
+      returns ! (look ! 28 refl) $
+      move ! (28 ∷ 29 ∷ []) $ forget ! 0 refl $ free1 ! $ move ! (26 ∷ 27 ∷ []) $ forget ! 0 refl $ free1 ! $ move ! (24 ∷ 25 ∷ []) $ forget ! 0 refl $ free1 ! $ move ! (22 ∷ 23 ∷ []) $ forget ! 0 refl $ free1 ! $ move ! (20 ∷ 21 ∷ []) $ forget ! 0 refl $ free1 ! $ move ! (18 ∷ 19 ∷ []) $ forget ! 0 refl $ free1 ! $ move ! (16 ∷ 17 ∷ []) $ forget ! 0 refl $ free1 ! $ move ! (14 ∷ 15 ∷ []) $ forget ! 0 refl $ free1 ! $ move ! (12 ∷ 13 ∷ []) $ forget ! 0 refl $ free1 ! $ move ! (10 ∷ 11 ∷ []) $ forget ! 0 refl $ free1 ! $ move ! (8 ∷ 9 ∷ []) $ forget ! 0 refl $ free1 ! $ move ! (6 ∷ 7 ∷ []) $ forget ! 0 refl $ free1 ! $ move ! (4 ∷ 5 ∷ []) $ forget ! 0 refl $ free1 ! $ move ! (2 ∷ 3 ∷ []) $ forget ! 0 refl $ free1 ! $ free0 ! $ by ! (exits (register-set1 register x-k update) (sym (refl ∙ sym (length-set register (r1 register x-k update) (Record′.build ((getD register (r1 register x-k update) Record′.none) .n) ((getD register (r1 register x-k update) Record′.none) .number) ((getD register (r1 register x-k update) Record′.none) .put) ((getD register (r1 register x-k update) Record′.none) .update) ((getD register (r1 register x-k update) Record′.none) .ticket) ((getD register (r1 register x-k update) Record′.none) .name) ((getD register (r1 register x-k update) Record′.none) .f) ((getD register (r1 register x-k update) Record′.none) .last) ((getD register (r1 register x-k update) Record′.none) .top) ((getD register (r1 register x-k update) Record′.none) .past) ((getD register (r1 register x-k update) Record′.none) .span) ((getD register (r1 register x-k update) Record′.none) .size) ((getD register (r1 register x-k update) Record′.none) .count) (((getD register (r1 register x-k update) Record′.none) .woven) + 1) ((getD register (r1 register x-k update) Record′.none) .entries))))) (Facts.exit-1 register x-k update (room·register .0) (ok·x-k .1) (ok·update .1) need (ok·1 .1) (is-true (eqb x-k 0) h·1) (eqb→eq x-k 0 h·1) (is-true (ltb (r1 register x-k update) (length register)) h·2) (ltb→lt (r1 register x-k update) (length register) h·2) g·12 (length-set register (r1 register x-k update) (Record′.build ((getD register (r1 register x-k update) Record′.none) .n) ((getD register (r1 register x-k update) Record′.none) .number) ((getD register (r1 register x-k update) Record′.none) .put) ((getD register (r1 register x-k update) Record′.none) .update) ((getD register (r1 register x-k update) Record′.none) .ticket) ((getD register (r1 register x-k update) Record′.none) .name) ((getD register (r1 register x-k update) Record′.none) .f) ((getD register (r1 register x-k update) Record′.none) .last) ((getD register (r1 register x-k update) Record′.none) .top) ((getD register (r1 register x-k update) Record′.none) .past) ((getD register (r1 register x-k update) Record′.none) .span) ((getD register (r1 register x-k update) Record′.none) .size) ((getD register (r1 register x-k update) Record′.none) .count) (((getD register (r1 register x-k update) Record′.none) .woven) + 1) ((getD register (r1 register x-k update) Record′.none) .entries))))))))
+      (λ h·2. skips-on ! $ blocks ! $ skips ! $ resume back·1 $
+      assigns ! (of-opd ! (unit-lit !)) (from ! (stop !)) (init ! 28 refl (tt, tt)) $
+      returns ! (look ! 28 refl) $
+      move ! (28 ∷ 29 ∷ []) $ forget ! 0 refl $ free1 ! $ move ! (26 ∷ 27 ∷ []) $ forget ! 0 refl $ free1 ! $ move ! (24 ∷ 25 ∷ []) $ forget ! 0 refl $ free1 ! $ move ! (22 ∷ 23 ∷ []) $ forget ! 0 refl $ free1 ! $ move ! (20 ∷ 21 ∷ []) $ forget ! 0 refl $ free1 ! $ move ! (18 ∷ 19 ∷ []) $ free1 ! $ move ! (16 ∷ 17 ∷ []) $ free1 ! $ move ! (14 ∷ 15 ∷ []) $ forget ! 0 refl $ free1 ! $ move ! (12 ∷ 13 ∷ []) $ forget ! 0 refl $ free1 ! $ move ! (10 ∷ 11 ∷ []) $ forget ! 0 refl $ free1 ! $ move ! (8 ∷ 9 ∷ []) $ free1 ! $ move ! (6 ∷ 7 ∷ []) $ free1 ! $ move ! (4 ∷ 5 ∷ []) $ free1 ! $ move ! (2 ∷ 3 ∷ []) $ free1 ! $ free0 ! $ by ! (exits register (sym (refl)) (Facts.exit-2 register x-k update (room·register .0) (ok·x-k .1) (ok·update .1) need (ok·1 .1) (is-true (eqb x-k 0) h·1) (eqb→eq x-k 0 h·1) (is-false (ltb (r1 register x-k update) (length register)) h·2) (nltb→le (r1 register x-k update) (length register) h·2)))))
+      (λ h·1. skips-on ! $ blocks ! $ skips ! $ resume back·1 $
+      assigns ! (of-opd ! (unit-lit !)) (from ! (stop !)) (init ! 28 refl (tt, tt)) $
+      returns ! (look ! 28 refl) $
+      move ! (28 ∷ 29 ∷ []) $ forget ! 0 refl $ free1 ! $ move ! (26 ∷ 27 ∷ []) $ forget ! 0 refl $ free1 ! $ move ! (24 ∷ 25 ∷ []) $ forget ! 0 refl $ free1 ! $ move ! (22 ∷ 23 ∷ []) $ forget ! 0 refl $ free1 ! $ move ! (20 ∷ 21 ∷ []) $ forget ! 0 refl $ free1 ! $ move ! (18 ∷ 19 ∷ []) $ free1 ! $ move ! (16 ∷ 17 ∷ []) $ free1 ! $ move ! (14 ∷ 15 ∷ []) $ forget ! 0 refl $ free1 ! $ move ! (12 ∷ 13 ∷ []) $ free1 ! $ move ! (10 ∷ 11 ∷ []) $ free1 ! $ move ! (8 ∷ 9 ∷ []) $ free1 ! $ move ! (6 ∷ 7 ∷ []) $ free1 ! $ move ! (4 ∷ 5 ∷ []) $ free1 ! $ move ! (2 ∷ 3 ∷ []) $ free1 ! $ free0 ! $ by ! (exits register (sym (refl)) (Facts.exit-3 register x-k update (room·register .0) (ok·x-k .1) (ok·update .1) need (ok·1 .1) (is-false (eqb x-k 0) h·1) (above-0 x-k h·1))))))))))))))))))))
 
 module _ {M : Type 1} (𝓤 : URA M) (H : Heap 𝓤) (A : Atoms 𝓤) (W : Given 𝓤 H A) (mem : Memory → SProp 𝓤) (run : Routine → Fun 𝓤) where
-  walks : (𝓣 : Tables 𝓤 H) → Triple 𝓤 (𝓣 .C #nth-record) (Call-nth-record.Asked 𝓤 H A mem run) → Triple 𝓤 (𝓣 .C #record-index) (Call-record-index.Asked 𝓤 H A mem run) → Triple 𝓤 (𝓣 .C #with-woven) (Call-with-woven.Asked 𝓤 H A mem run) → Triple 𝓤 (𝓣 .C #put-record) (Call-put-record.Asked 𝓤 H A mem run) → Walks 𝓤 H A count-woven‴.ended stayed (WpFn 𝓤 H (𝓣 .C) (𝓣 .Λ) code.function) (count-woven‴.clauses 𝓤 H A mem run)
-  walks 𝓣 known-nth-record known-record-index known-with-woven known-put-record = walked 𝓤 H A count-woven‴.ended stayed (count-woven‴.clauses 𝓤 H A mem run) (WpFn 𝓤 H (𝓣 .C) (𝓣 .Λ) code.function) (λ κs. (slice-vals, (uint-vals w64, (uint-vals w64, tt)))) (λ κs. (mut-slice-tells (named 0) (κs .0) Record′.row, (uint-tells w64, (uint-tells w64, tt))))
-      (λ κs qs bounds a g are. needs 𝓤 (count-woven″.req (a .0 .now) (a .1 .0) (a .1 .1 .0)) _ (λ need. walk 𝓤 H A W mem run (κs .0) (qs .0) (a .0 .ptr .0) (a .0 .ptr .1) (a .0 .name) (a .0 .now) (a .1 .0) (a .1 .1 .0) (are .0 .0 .1) (are .1 .0) (are .1 .1 .0) need 𝓣 known-nth-record known-record-index known-with-woven known-put-record))
+  walks : (𝓣 : Tables 𝓤 H) → Triple 𝓤 (𝓣 .C #record-index) (Call-record-index.Asked 𝓤 H A mem run) → Walks 𝓤 H A count-woven‴.ended stayed (WpFn 𝓤 H (𝓣 .C) (𝓣 .Λ) code.function) (count-woven‴.clauses 𝓤 H A mem run)
+  walks 𝓣 known-record-index = walked 𝓤 H A count-woven‴.ended stayed (count-woven‴.clauses 𝓤 H A mem run) (WpFn 𝓤 H (𝓣 .C) (𝓣 .Λ) code.function) (λ κs. (slice-vals, (uint-vals w64, (uint-vals w64, tt)))) (λ κs. (mut-slice-tells (named 0) (κs .0) Record′.row, (uint-tells w64, (uint-tells w64, tt))))
+      (λ κs qs bounds a g are. needs 𝓤 (count-woven″.req (a .0 .now) (a .1 .0) (a .1 .1 .0)) _ (λ need. walk 𝓤 H A W mem run (κs .0) (qs .0) (a .0 .ptr .0) (a .0 .ptr .1) (a .0 .name) (a .0 .now) (a .1 .0) (a .1 .1 .0) (are .0 .0 .1) (are .1 .0) (are .1 .1 .0) need 𝓣 known-record-index))
 
-meets : {M : Type 1} (𝓤 : URA M) (H : Heap 𝓤) (A : Atoms 𝓤) → Given 𝓤 H A → (mem : Memory → SProp 𝓤) (run : Routine → Fun 𝓤) (𝓣 : Tables 𝓤 H) → Triple 𝓤 (𝓣 .C #nth-record) (Call-nth-record.Asked 𝓤 H A mem run) → Triple 𝓤 (𝓣 .C #record-index) (Call-record-index.Asked 𝓤 H A mem run) → Triple 𝓤 (𝓣 .C #with-woven) (Call-with-woven.Asked 𝓤 H A mem run) → Triple 𝓤 (𝓣 .C #put-record) (Call-put-record.Asked 𝓤 H A mem run)
+meets : {M : Type 1} (𝓤 : URA M) (H : Heap 𝓤) (A : Atoms 𝓤) → Given 𝓤 H A → (mem : Memory → SProp 𝓤) (run : Routine → Fun 𝓤) (𝓣 : Tables 𝓤 H) → Triple 𝓤 (𝓣 .C #record-index) (Call-record-index.Asked 𝓤 H A mem run)
     → Meets 𝓤 H A count-woven‴.signature (WpFn 𝓤 H (𝓣 .C) (𝓣 .Λ) code.function) (count-woven‴.spec 𝓤 H A mem run)
-meets 𝓤 H A W mem run 𝓣 known-nth-record known-record-index known-with-woven known-put-record =
+meets 𝓤 H A W mem run 𝓣 known-record-index =
     walk-meets 𝓤 H A count-woven‴.ended stayed W (goes-slice 𝓤 H A W 1 0 tt (plain (λ _. Record′.row)), (goes-none 𝓤 H A W 1 (λ _. u64) yes (λ κs x f. refl), (goes-none 𝓤 H A W 1 (λ _. u64) yes (λ κs x f. refl), tt))) (count-woven‴.clauses 𝓤 H A mem run)
-    (WpFn 𝓤 H (𝓣 .C) (𝓣 .Λ) code.function) (WpFn-mono 𝓤 H (W .laws) 𝓣 code.function) (walks 𝓤 H A W mem run 𝓣 known-nth-record known-record-index known-with-woven known-put-record)
+    (WpFn 𝓤 H (𝓣 .C) (𝓣 .Λ) code.function) (WpFn-mono 𝓤 H (W .laws) 𝓣 code.function) (walks 𝓤 H A W mem run 𝓣 known-record-index)
 
 pub count-woven-spec : {M : Type 1} → stated.statement M
 unfolding code.routine tablesOf
@@ -146,7 +152,4 @@ count-woven-spec 𝓤 H 𝓜 𝓖 𝓡 =
     entered 𝓤 H (tripleOf 𝓤 H (𝓖 .A) count-woven‴.signature (count-woven‴.spec 𝓤 H (𝓖 .A) (𝓜 .mem) (𝓡 .run)))
     (tables 𝓤 H 𝓜 𝓡 code.env .C) (tables 𝓤 H 𝓜 𝓡 code.env .Λ) #self code.function (code.unfolded 𝓤 H 𝓜 𝓡)
     (meets 𝓤 H (𝓖 .A) (givenOf 𝓤 H 𝓜 𝓖) (𝓜 .mem) (𝓡 .run) (tablesOf 𝓤 H 𝓜 (tables 𝓤 H 𝓜 𝓡 code.env))
-    (cited 𝓤 H (Call-nth-record.Asked 𝓤 H (𝓖 .A) (𝓜 .mem) (𝓡 .run)) 𝓜 𝓡 code.env #nth-record def-nth-record.routine code.calls-register·nth-record (thm-nth-record.met 𝓤 H 𝓜 𝓖 𝓡))
-    (cited 𝓤 H (Call-record-index.Asked 𝓤 H (𝓖 .A) (𝓜 .mem) (𝓡 .run)) 𝓜 𝓡 code.env #record-index def-record-index.routine code.calls-versions·record-index (thm-record-index.met 𝓤 H 𝓜 𝓖 𝓡))
-    (cited 𝓤 H (Call-with-woven.Asked 𝓤 H (𝓖 .A) (𝓜 .mem) (𝓡 .run)) 𝓜 𝓡 code.env #with-woven def-with-woven.routine code.calls-weave·with-woven (thm-with-woven.met 𝓤 H 𝓜 𝓖 𝓡))
-    (cited 𝓤 H (Call-put-record.Asked 𝓤 H (𝓖 .A) (𝓜 .mem) (𝓡 .run)) 𝓜 𝓡 code.env #put-record def-put-record.routine code.calls-versions·put-record (thm-put-record.met 𝓤 H 𝓜 𝓖 𝓡)))
+    (cited 𝓤 H (Call-record-index.Asked 𝓤 H (𝓖 .A) (𝓜 .mem) (𝓡 .run)) 𝓜 𝓡 code.env #record-index def-record-index.routine code.calls-versions·record-index (thm-record-index.met 𝓤 H 𝓜 𝓖 𝓡)))

@@ -26,7 +26,7 @@ use Rattle.weave.specs.declared.Woven.{Woven}
 use Rattle.weave.specs.declared.WovenNode.{WovenNode}
 
 abbrev pub req : List Record → ℕ → ℕ → Type 0
-req register k update = (k ≡ 0 → suc (nth noRecord register update .woven) < 2 ^ 64)
+req register k update = (k ≡ 0 → (0 < update) × (suc (nth noRecord register update .woven) < 2 ^ 64))
 
 abbrev pub ens : List Record → ℕ → ℕ → List Record → Unit {0} → Type 0
 ens register k update register′ result = register′ ≡ unless k register (withRecord register (pred update) (withWoven (nth noRecord register update)))

@@ -17,31 +17,46 @@ use Rattle.register.proofs.Generated.Kind.PageIndex as PageIndex′
 use Rattle.lines.specs.declared.Entries.{Entries}
 use Rattle.register.proofs.Generated.Kind.Entries as Entries′
 use Rattle.weave.proofs.Generated.Say.count_woven as count-woven″
-use Rattle.register.proofs.Generated.Say.nth_record as nth-record″
 use Rattle.versions.proofs.Generated.Say.record_index as record-index″
-use Rattle.weave.proofs.Generated.Say.with_woven as with-woven″
-use Rattle.versions.proofs.Generated.Say.put_record as put-record″
 
-abbrev pub r1 : List Record → ℕ → ℕ → Record
-r1 register x-k update = nth-record″.res register update
+abbrev pub r1 : List Record → ℕ → ℕ → ℕ
+r1 register x-k update = record-index″.res update
 
-abbrev pub r2 : List Record → ℕ → ℕ → ℕ
-r2 register x-k update = record-index″.res update
+abbrev pub register-set1 : List Record → ℕ → ℕ → List Record
+register-set1 register x-k update = set register (r1 register x-k update) (Record′.build ((getD register (r1 register x-k update) Record′.none) .n) ((getD register (r1 register x-k update) Record′.none) .number) ((getD register (r1 register x-k update) Record′.none) .put) ((getD register (r1 register x-k update) Record′.none) .update) ((getD register (r1 register x-k update) Record′.none) .ticket) ((getD register (r1 register x-k update) Record′.none) .name) ((getD register (r1 register x-k update) Record′.none) .f) ((getD register (r1 register x-k update) Record′.none) .last) ((getD register (r1 register x-k update) Record′.none) .top) ((getD register (r1 register x-k update) Record′.none) .past) ((getD register (r1 register x-k update) Record′.none) .span) ((getD register (r1 register x-k update) Record′.none) .size) ((getD register (r1 register x-k update) Record′.none) .count) (((getD register (r1 register x-k update) Record′.none) .woven) + 1) ((getD register (r1 register x-k update) Record′.none) .entries))
 
-abbrev pub r3 : List Record → ℕ → ℕ → Record
-r3 register x-k update = with-woven″.res x-k (r1 register x-k update)
+-- the index is within register
+abbrev pub index-1 : Type 0
+index-1 =
+    (register : List Record) (x-k : ℕ) (update : ℕ) (len-register : length register < 2 ^ 64) (fits-x-k : x-k < 2 ^ 64) (fits-update : update < 2 ^ 64) (need : count-woven″.req register x-k update) (fits-r1 : (r1 register x-k update) < 2 ^ 64) (c1 : eqb x-k 0 ≡ true) (n1 : x-k ≡ 0) (c2 : ltb (r1 register x-k update) (length register) ≡ true) (n2 : (r1 register x-k update) < (length register))
+    → (r1 register x-k update) < length register
 
-abbrev pub register₄ : List Record → ℕ → ℕ → List Record
-register₄ register x-k update = put-record″.out-register register x-k (r2 register x-k update) (r3 register x-k update)
+-- the sum does not wrap
+abbrev pub add-1 : Type 0
+add-1 =
+    (register : List Record) (x-k : ℕ) (update : ℕ) (len-register : length register < 2 ^ 64) (fits-x-k : x-k < 2 ^ 64) (fits-update : update < 2 ^ 64) (need : count-woven″.req register x-k update) (fits-r1 : (r1 register x-k update) < 2 ^ 64) (c1 : eqb x-k 0 ≡ true) (n1 : x-k ≡ 0) (c2 : ltb (r1 register x-k update) (length register) ≡ true) (n2 : (r1 register x-k update) < (length register)) (ok-elem12 : Record′.Ok (getD register (r1 register x-k update) Record′.none))
+    → ((getD register (r1 register x-k update) Record′.none) .woven) + 1 < 2 ^ 64
 
--- `with_woven` asks: (k ≡ 0 → suc (q .woven) < 2 ^ 64)
-abbrev pub with-woven-1 : Type 0
-with-woven-1 =
-    (register : List Record) (x-k : ℕ) (update : ℕ) (len-register : length register < 2 ^ 64) (fits-x-k : x-k < 2 ^ 64) (fits-update : update < 2 ^ 64) (need : count-woven″.req register x-k update) (ok-r1 : Record′.Ok (r1 register x-k update)) (fits-r2 : (r2 register x-k update) < 2 ^ 64)
-    → with-woven″.req x-k (r1 register x-k update)
+-- the index is within register
+abbrev pub index-2 : Type 0
+index-2 =
+    (register : List Record) (x-k : ℕ) (update : ℕ) (len-register : length register < 2 ^ 64) (fits-x-k : x-k < 2 ^ 64) (fits-update : update < 2 ^ 64) (need : count-woven″.req register x-k update) (fits-r1 : (r1 register x-k update) < 2 ^ 64) (c1 : eqb x-k 0 ≡ true) (n1 : x-k ≡ 0) (c2 : ltb (r1 register x-k update) (length register) ≡ true) (n2 : (r1 register x-k update) < (length register)) (ok-elem12 : Record′.Ok (getD register (r1 register x-k update) Record′.none))
+    → (r1 register x-k update) < length register
 
 -- the function ensures: register′ ≡ unless k register (withRecord register (pred update) (withWoven (nth noRecord register update)))
 abbrev pub exit-1 : Type 0
 exit-1 =
-    (register : List Record) (x-k : ℕ) (update : ℕ) (len-register : length register < 2 ^ 64) (fits-x-k : x-k < 2 ^ 64) (fits-update : update < 2 ^ 64) (need : count-woven″.req register x-k update) (ok-r1 : Record′.Ok (r1 register x-k update)) (fits-r2 : (r2 register x-k update) < 2 ^ 64) (ok-r3 : Record′.Ok (r3 register x-k update)) (same4-register : length (register₄ register x-k update) ≡ length register)
-    → count-woven″.ens register x-k update (register₄ register x-k update) tt
+    (register : List Record) (x-k : ℕ) (update : ℕ) (len-register : length register < 2 ^ 64) (fits-x-k : x-k < 2 ^ 64) (fits-update : update < 2 ^ 64) (need : count-woven″.req register x-k update) (fits-r1 : (r1 register x-k update) < 2 ^ 64) (c1 : eqb x-k 0 ≡ true) (n1 : x-k ≡ 0) (c2 : ltb (r1 register x-k update) (length register) ≡ true) (n2 : (r1 register x-k update) < (length register)) (ok-elem12 : Record′.Ok (getD register (r1 register x-k update) Record′.none)) (same-register13 : length (register-set1 register x-k update) ≡ length register)
+    → count-woven″.ens register x-k update (register-set1 register x-k update) tt
+
+-- the function ensures: register′ ≡ unless k register (withRecord register (pred update) (withWoven (nth noRecord register update)))
+abbrev pub exit-2 : Type 0
+exit-2 =
+    (register : List Record) (x-k : ℕ) (update : ℕ) (len-register : length register < 2 ^ 64) (fits-x-k : x-k < 2 ^ 64) (fits-update : update < 2 ^ 64) (need : count-woven″.req register x-k update) (fits-r1 : (r1 register x-k update) < 2 ^ 64) (c1 : eqb x-k 0 ≡ true) (n1 : x-k ≡ 0) (c2 : ltb (r1 register x-k update) (length register) ≡ false) (n2 : (length register) ≤ (r1 register x-k update))
+    → count-woven″.ens register x-k update register tt
+
+-- the function ensures: register′ ≡ unless k register (withRecord register (pred update) (withWoven (nth noRecord register update)))
+abbrev pub exit-3 : Type 0
+exit-3 =
+    (register : List Record) (x-k : ℕ) (update : ℕ) (len-register : length register < 2 ^ 64) (fits-x-k : x-k < 2 ^ 64) (fits-update : update < 2 ^ 64) (need : count-woven″.req register x-k update) (fits-r1 : (r1 register x-k update) < 2 ^ 64) (c1 : eqb x-k 0 ≡ false) (n1 : 0 < x-k)
+    → count-woven″.ens register x-k update register tt

@@ -45,7 +45,7 @@ register₄ s pages nodes register x-t r2 = count-woven″.out-register register
 abbrev pub r5 : Store → List ℕ → List ℕ → List Record → Ticket → Found → Woven
 r5 s pages nodes register x-t r2 = woven-answer″.res (r2 .k) (r2 .node)
 
--- `count_woven` asks: (k ≡ 0 → suc (nth noRecord register update .woven) < 2 ^ 64)
+-- `count_woven` asks: (k ≡ 0 → (0 < update) × (suc (nth noRecord register update .woven) < 2 ^ 64))
 abbrev pub count-woven-1 : Type 0
 count-woven-1 =
     (s : Store) (pages : List ℕ) (nodes : List ℕ) (register : List Record) (x-t : Ticket) (ok-s : Store′.Ok s) (len-pages : length pages < 2 ^ 64) (len-nodes : length nodes < 2 ^ 64) (len-register : length register < 2 ^ 64) (ok-x-t : Ticket′.Ok x-t) (ok-r1 : Lengths′.Ok (r1 s pages nodes register x-t)) (r2 : Found) (ok-r2 : Found′.Ok r2) (says2 : find-next″.ens s (r1 s pages nodes register x-t) nodes register x-t r2) (same3-nodes : length (nodes₃ s pages nodes register x-t r2) ≡ length nodes)

@@ -5,14 +5,16 @@ use Rattle.versions.proofs.Generated.Kind.Store as Store′
 use Rattle.table.proofs.Table.{unless-same}
 use Rattle.weave.specs.Weave.{nextPlace}
 use Rattle.weave.specs.Plan.{partFor}
-use Rattle.weave.proofs.Room.{place-low, both-zero, wove-same}
+use Rattle.weave.proofs.Room.{place-low, update-noted, both-zero, wove-same}
 use Rattle.weave.proofs.weave.Proof.Asks as Asks
 
--- `count_woven` asks: (k ≡ 0 → suc (nth noRecord register update .woven) < 2 ^ 64)
+-- `count_woven` asks: (k ≡ 0 → (0 < update) × (suc (nth noRecord register update .woven) < 2 ^ 64))
 -- here: count-woven″.req register (r2 .k) (r2 .update)
 pub count-woven-1 : Asks.count-woven-1
 count-woven-1 s pages nodes register x-t ok-s len-pages len-nodes len-register ok-x-t ok-r1 r2 ok-r2 says2 same3-nodes =
-    λ z. rw (says2 .update) (omega (arith, place-low s _ _ _ _ (both-zero _ _ (sym (says2 .number) ∙ z)), Store′.ok-nodes s ok-s))
+    λ z.
+    let passes = both-zero _ _ (sym (says2 .number) ∙ z) in
+    rw (says2 .update) (update-noted s _ _ _ _ passes, omega (arith, place-low s _ _ _ _ passes, Store′.ok-nodes s ok-s))
 
 -- the function ensures: (r ≡ weaveOut s (areasOf pages nodes register) (t .0)) × (nodes′ ≡ weaveNodes s (areasOf pages nodes register) (t .0)) × (register′ ≡ weaveRegister s (areasOf pages nodes register) (t .0))
 -- here: weave″.ens s pages nodes register x-t (nodes₃ s pages nodes register x-t r2) (register₄ s pages nodes register x-t r2) (r5 s pages nodes register x-t r2)
