@@ -3,7 +3,7 @@
 use mathlib.Core.Path.{_≡_, refl, ap, _∙_}
 use mathlib.Core.Bool.{true, false}
 use mathlib.Core.List.{List}
-use Prim.Native.Nat.{ℕ, zero, suc, _-_, _^_, _≤_, _<_}
+use Prim.Native.Nat.{ℕ, zero, suc, pred, _-_, _^_, _≤_, _<_}
 use native.Mathlib.Decide.{ℕ-discrete}
 use native.Mathlib.Numerals.{sub-one}
 use native.Mathlib.Omega.{arith}
@@ -15,6 +15,7 @@ use Rattle.lines.proofs.Packed.{entry-none}
 use Rattle.register.specs.Register.{noRecord, updateOf, versionRecord, versionPart, newestOwn}
 use Rattle.register.specs.declared.Record.{Record}
 use Rattle.register.specs.declared.Part.{Part}
+use Rattle.register.proofs.Generated.Flow.{within}
 
 pub updateOf-inside : (q : Part) → (updateOf q .f ≤ updateOf q .last) × (updateOf q .last < updateOf q .size) × (updateOf q .size ≤ 4096)
 unfolding updateOf
@@ -24,6 +25,12 @@ updateOf-inside q = (omega arith, omega arith, omega arith)
 pub nth-before : (rs : List Record) (k : ℕ) → 0 < k → getD rs (k - 1) noRecord ≡ nth noRecord rs k
 nth-before rs zero p = absurd (omega arith)
 nth-before rs (suc i) p = simp sub-one
+
+-- The same of an index within the register, whatever stands past its end.
+pub nth-pred : (rs : List Record) (k : ℕ) (past : Record) → 0 < k → pred k < length rs → getD rs (pred k) past ≡ nth noRecord rs k
+nth-pred rs k past p h =
+    let before : pred k ≡ k - 1 = omega arith in
+    within rs (pred k) past noRecord h ∙ ap (λ (j : ℕ). getD rs j noRecord) before ∙ nth-before rs k p
 
 -- The index of record k, which past any register stands for record 0.
 abbrev pub Indexes : ℕ → ℕ → Type 0

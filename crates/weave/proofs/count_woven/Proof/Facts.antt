@@ -1,24 +1,14 @@
 -- The facts that the walk of `weave::count_woven` asks for. The author's file: tools/walkgen wrote its skeleton once, and with --rebind brings the arguments up to date.
 -- Assumes nothing.
-use mathlib.Core.Path.{_≡_, sym, ap, _∙_}
-use Prim.Native.Nat.{ℕ, suc, pred, _+_, _-_, _<_}
+use mathlib.Core.Path.{_≡_, sym}
+use Prim.Native.Nat.{suc, _+_}
 use native.Mathlib.Omega.{arith}
-use mathlib.Core.List.{List}
-use lib.ListN.{length, getD}
 use Rattle.tree.specs.Tree.{nth}
 use Rattle.register.specs.Register.{noRecord, withRecord}
-use Rattle.register.specs.declared.Record.{Record}
 use Rattle.register.proofs.Generated.Kind.Record as Record′
-use Rattle.register.proofs.Generated.Flow.{within}
-use Rattle.register.proofs.Records.{nth-before}
+use Rattle.register.proofs.Records.{nth-pred}
 use Rattle.table.proofs.Table.{unless-0, unless-suc}
 use Rattle.weave.proofs.count_woven.Proof.Asks as Asks
-
--- The record of an update, by its index.
-held : (rs : List Record) (k : ℕ) → 0 < k → pred k < length rs → getD rs (pred k) Record′.none ≡ nth noRecord rs k
-held rs k p h =
-    let before : pred k ≡ k - 1 = omega arith in
-    within rs (pred k) Record′.none noRecord h ∙ ap (λ (j : ℕ). getD rs j noRecord) before ∙ nth-before rs k p
 
 -- the function ensures: register′ ≡ unless k register (withRecord register (pred update) (withWoven (nth noRecord register update)))
 -- here: count-woven″.ens register x-k update (register-set1 register x-k update) tt
@@ -27,7 +17,7 @@ unfolding withRecord
 exit-1 register x-k update len-register fits-x-k fits-update need fits-r1 c1 n1 c2 n2 ok-elem12 same-register13 =
     let w = nth noRecord register update .woven in
     let more : w + 1 ≡ suc w = omega arith in
-    rw (held register update (need n1 .0) n2, more, c2) (sym (unless-0 x-k register _ n1))
+    rw (nth-pred register update Record′.none (need n1 .0) n2, more, c2) (sym (unless-0 x-k register _ n1))
 
 -- the index is within register
 -- here: (r1 register x-k update) < length register
@@ -37,7 +27,7 @@ index-1 register x-k update len-register fits-x-k fits-update need fits-r1 c1 n1
 -- the sum does not wrap
 -- here: ((getD register (r1 register x-k update) Record′.none) .woven) + 1 < 2 ^ 64
 pub add-1 : Asks.add-1
-add-1 register x-k update len-register fits-x-k fits-update need fits-r1 c1 n1 c2 n2 ok-elem12 = rw (held register update (need n1 .0) n2) (omega (arith, need n1 .1))
+add-1 register x-k update len-register fits-x-k fits-update need fits-r1 c1 n1 c2 n2 ok-elem12 = rw (nth-pred register update Record′.none (need n1 .0) n2) (omega (arith, need n1 .1))
 
 -- the index is within register
 -- here: (r1 register x-k update) < length register
