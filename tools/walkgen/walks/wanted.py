@@ -27,7 +27,11 @@ class Wanted:
         above = any(c in line for line in self.lines.values())
         calls = [f for f in walked if self.src[c].code[f][0]] if above else []
         here = [x for x, by in self.needed.items() if x[-2] == c and not self.lowest(by)]
-        return walked + ['+' + f for f in calls + [x[1] for x in here if x[0] != 'type']] + ['=' + x[2] for x in here if x[0] == 'type']
+        return walked + ['+' + f for f in calls + [x[1] for x in here if x[0] != 'type']] + ['=' + x[2] for x in here if x[0] == 'type' and self.has_type(c, x[2])]
+
+    def has_type(self, c, t):
+        """whether a function of the crate names its type t: else its MIR does not have it, and each crate that needs t writes its own"""
+        return any((c, t) in self.types(c, self.src[c].fns[f][3], ' '.join(self.src[c].code[f][1:])) for f in self.src[c].code)
 
     def lowest(self, crates):
         """whether one of the crates is named by all others, so that what stands there can be cited by them"""

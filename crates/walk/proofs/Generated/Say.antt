@@ -4,6 +4,7 @@ pub mod find_page
 pub mod height_of
 pub mod is_lost
 pub mod leaf_of
+pub mod leaf_place
 pub mod number_found
 pub mod reach_from
 pub mod root_within

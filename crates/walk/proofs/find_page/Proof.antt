@@ -67,8 +67,8 @@ use Rattle.walk.proofs.Generated.Call.reach_from as Call-reach-from
 use Rattle.walk.proofs.reach_from.Symbol as def-reach-from
 use Rattle.walk.proofs.reach_from.Symbol.{name as #reach-from}
 use Rattle.walk.proofs.reach_from.Met as thm-reach-from
-use Rattle.descent.proofs.Generated.Say.leaf_place as leaf-place″
-use Rattle.descent.proofs.Generated.Call.leaf_place as Call-leaf-place
+use Rattle.walk.proofs.Generated.Say.leaf_place as leaf-place″
+use Rattle.walk.proofs.Generated.Call.leaf_place as Call-leaf-place
 use Rattle.descent.proofs.leaf_place.Symbol as def-leaf-place
 use Rattle.descent.proofs.leaf_place.Symbol.{name as #leaf-place}
 use Rattle.descent.proofs.leaf_place.Met as thm-leaf-place

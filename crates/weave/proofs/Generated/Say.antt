@@ -3,6 +3,7 @@ pub mod count_woven
 pub mod far_child
 pub mod find_next
 pub mod found_by
+pub mod record_index
 pub mod store_woven
 pub mod version_before
 pub mod weave

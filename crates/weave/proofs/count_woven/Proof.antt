@@ -51,8 +51,8 @@ use Rattle.lines.specs.declared.Entries.{Entries}
 use Rattle.register.proofs.Generated.Kind.Entries as Entries′
 use Rattle.register.proofs.Generated.Flow.{ref, MutAt, ShrAt, lend-mut, back-mut, lend-shr, back-shr, branches-on, regroup, skips-on, returns-on, plus-nothing, holds, empty, less-fits, is-true, is-false, differ, above-0, twice-not, switches-to, switches-last, big-lit, here, blocks-on, resume, scaled-2, scaled-4, scaled-8, opens-shr, shuts-shr, opens-mut, shuts-mut, puts-mut, keeps-shr, fills, empties, tyAt}
 use Rattle.weave.proofs.Generated.Say.count_woven as count-woven″
-use Rattle.versions.proofs.Generated.Say.record_index as record-index″
-use Rattle.versions.proofs.Generated.Call.record_index as Call-record-index
+use Rattle.weave.proofs.Generated.Say.record_index as record-index″
+use Rattle.weave.proofs.Generated.Call.record_index as Call-record-index
 use Rattle.versions.proofs.record_index.Symbol as def-record-index
 use Rattle.versions.proofs.record_index.Symbol.{name as #record-index}
 use Rattle.versions.proofs.record_index.Met as thm-record-index

@@ -33,7 +33,7 @@ use denote.Triple.Spec.{tripleOf}
 use denote.Triple.Walked.{says}
 use Rattle.set_windows.proofs.Generated.Say.read_list as read-list″
 use Rattle.windows.specs.declared.Listed.{Listed}
-use Rattle.windows.proofs.Generated.Kind.Listed as Listed′
+use Rattle.set_windows.proofs.Generated.Kind.Listed as Listed′
 use Rattle.windows.specs.declared.Windows.{Windows}
 use Rattle.windows.proofs.Generated.Kind.Windows as Windows′
 use Rattle.windows.specs.declared.Window.{Window}

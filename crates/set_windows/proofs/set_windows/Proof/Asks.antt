@@ -27,7 +27,7 @@ use Rattle.register.proofs.Generated.Kind.PageIndex as PageIndex′
 use Rattle.lines.specs.declared.Entries.{Entries}
 use Rattle.register.proofs.Generated.Kind.Entries as Entries′
 use Rattle.windows.specs.declared.Listed.{Listed}
-use Rattle.windows.proofs.Generated.Kind.Listed as Listed′
+use Rattle.set_windows.proofs.Generated.Kind.Listed as Listed′
 use Rattle.versions.specs.declared.Lengths.{Lengths}
 use Rattle.versions.proofs.Generated.Kind.Lengths as Lengths′
 use Rattle.set_windows.proofs.Generated.Say.set_windows as set-windows″

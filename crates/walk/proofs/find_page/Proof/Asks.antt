@@ -25,7 +25,7 @@ use Rattle.descent.proofs.Generated.Kind.NodeAt as NodeAt′
 use Rattle.walk.proofs.Generated.Say.find_page as find-page″
 use Rattle.register.proofs.Generated.Say.version_part as version-part″
 use Rattle.walk.proofs.Generated.Say.reach_from as reach-from″
-use Rattle.descent.proofs.Generated.Say.leaf_place as leaf-place″
+use Rattle.walk.proofs.Generated.Say.leaf_place as leaf-place″
 use Rattle.descent.proofs.Generated.Say.node_at as node-at″
 use Rattle.walk.proofs.Generated.Say.leaf_of as leaf-of″
 

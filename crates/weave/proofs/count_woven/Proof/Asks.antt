@@ -17,7 +17,7 @@ use Rattle.register.proofs.Generated.Kind.PageIndex as PageIndex′
 use Rattle.lines.specs.declared.Entries.{Entries}
 use Rattle.register.proofs.Generated.Kind.Entries as Entries′
 use Rattle.weave.proofs.Generated.Say.count_woven as count-woven″
-use Rattle.versions.proofs.Generated.Say.record_index as record-index″
+use Rattle.weave.proofs.Generated.Say.record_index as record-index″
 
 abbrev pub r1 : List Record → ℕ → ℕ → ℕ
 r1 register x-k update = record-index″.res update
