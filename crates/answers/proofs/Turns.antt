@@ -12,12 +12,12 @@ use Rattle.text.specs.Text.{pick}
 use Rattle.text.specs.Buffer.{front, wrote}
 use Rattle.answers.specs.declared.Kept.{Kept}
 use Rattle.answers.specs.declared.Turn.{Turn}
-use Rattle.answers.specs.Answers.{Said, turned, written, refusedSaid, whenOpen}
+use Rattle.answers.specs.Answers.{Said, blank, turned, refusedSaid, whenOpen}
 
-pub turns-so : (k : Kept) (l out : List ℕ) {n : ℕ} {after : List ℕ} → (n ≡ wrote l out) × (after ≡ front l out)
-    → (_≡_ {A = Turn} (record { kept = k; len = n }) (turned (record { kept = k; line = l }) out)) × (after ≡ written (record { kept = k; line = l }) out)
-unfolding turned written
-turns-so k l out e = (ap (λ (m : ℕ). record { kept = k; len = m }) (e .0), e .1)
+pub turns-so : (k : Kept) (l : List ℕ) {n : ℕ} {after : List ℕ} → (n ≡ wrote l blank) × (after ≡ front l blank)
+    → _≡_ {A = Turn} (record { kept = k; line = after; len = n }) (turned (record { kept = k; line = l }))
+unfolding turned
+turns-so k l {n} {after} e = rw (e .0, e .1)
 
 pub by-open : (k : Kept) {b : Bool} → k .«open» ≡ b → (x : Said) → pick b x (refusedSaid k) ≡ whenOpen k x
 unfolding whenOpen

@@ -2,7 +2,7 @@
 use Prim.Native.Nat.{ℕ}
 use mathlib.Core.Bool.{true}
 use mathlib.Core.List.{List}
-use lib.ListN.{take}
+use lib.ListN.{take, replicate}
 use Rattle.text.specs.Text.{pick}
 use Rattle.text.specs.Buffer.{front, wrote}
 use Rattle.print.specs.Print.{replyLine, bytesLine}
@@ -11,16 +11,20 @@ use Rattle.print.specs.declared.Reply.the-variants as Reply
 use Rattle.versions.specs.declared.Store.{Store}
 use Rattle.format.specs.declared.Formatted.{Formatted}
 use Rattle.format.specs.declared.Formatted.the-variants as Formatted
+use Rattle.begin.specs.declared.BeginOut.{BeginOut}
 use Rattle.begin.specs.declared.Begun.{Begun}
 use Rattle.begin.specs.declared.Begun.the-variants as Begun
 use Rattle.put.specs.declared.PutIn.{PutIn}
 use Rattle.put.specs.declared.PutIn.the-variants as PutIn
+use Rattle.assign.specs.declared.AssignOut.{AssignOut}
 use Rattle.assign.specs.declared.Assigned.{Assigned}
 use Rattle.assign.specs.declared.Assigned.the-variants as Assigned
 use Rattle.weave.specs.declared.Woven.{Woven}
 use Rattle.weave.specs.declared.Woven.the-variants as Woven
+use Rattle.publish.specs.declared.PublishOut.{PublishOut}
 use Rattle.publish.specs.declared.Published.{Published}
 use Rattle.publish.specs.declared.Published.the-variants as Published
+use Rattle.branch.specs.declared.BranchOut.{BranchOut}
 use Rattle.branch.specs.declared.Branched.{Branched}
 use Rattle.branch.specs.declared.Branched.the-variants as Branched
 use Rattle.versions.specs.declared.Sized.{Sized}
@@ -39,13 +43,13 @@ pub record Said : Type 0 where
   pub kept : Kept
   pub line : List ℕ
 
--- Its turn: the line's length, or 0 where the buffer is too short for it.
-unfoldable pub turned : Said → List ℕ → Turn
-turned x out = record { kept = x .kept; len = wrote (x .line) out }
+-- No line: zeros, as many as a line may have bytes.
+unfoldable pub blank : List ℕ
+blank = replicate 520 0
 
--- The buffer after it: the line at its front, or as it was where that is too short.
-unfoldable pub written : Said → List ℕ → List ℕ
-written x out = front (x .line) out
+-- Its turn: the line at the front of a blank one, and its length.
+unfoldable pub turned : Said → Turn
+turned x = record { kept = x .kept; line = front (x .line) blank; len = wrote (x .line) blank }
 
 -- This reply, whether a store is open or not.
 unfoldable pub plainly : Kept → Reply → Said
@@ -80,6 +84,10 @@ formatSaid k (Formatted.Refused n) = plainly k (Reply.Refused n)
 unfoldable pub bytesSaid : Kept → ℕ → List ℕ → Said
 bytesSaid k n bytes = record { kept = k; line = bytesLine (take n bytes) }
 
+-- The buffer that READ fills: zeros, as many as it gives at most.
+unfoldable pub noBytes : List ℕ
+noBytes = replicate 256 0
+
 -- READ n bytes: the first n of the buffer that it filled.
 unfoldable pub readSaid : Kept → ℕ → List ℕ → Filled → Said
 readSaid k n bytes Filled.Done = whenOpen k (bytesSaid k n bytes)
@@ -90,20 +98,32 @@ unfoldable pub begunReply : Begun → Reply
 begunReply (Begun.Given t) = Reply.Ticket (t .0)
 begunReply (Begun.Refused k) = Reply.Refused k
 
+unfoldable pub beginSaid : Kept → BeginOut → Said
+beginSaid k o = replied (holding k (o .store)) (begunReply (o .answer))
+
 -- PUT: that it is done.
 unfoldable pub putReply : PutIn → Reply
 putReply PutIn.Done = Reply.Put
 putReply (PutIn.Refused k) = Reply.Refused k
+
+unfoldable pub putSaid : Kept → PutIn → Said
+putSaid k a = replied k (putReply a)
 
 -- ASSIGN, as a write or an append: the version on the line that was named, and its node count.
 unfoldable pub assignedReply : Assigned → Reply
 assignedReply (Assigned.Given v n) = Reply.Version (v .0) n
 assignedReply (Assigned.Refused k) = Reply.Refused k
 
+unfoldable pub assignSaid : Kept → AssignOut → Said
+assignSaid k o = replied (holding k (o .store)) (assignedReply (o .answer))
+
 -- WEAVE: the node's name, with its line in the version's number, its two numbers and how many nodes are left.
 unfoldable pub wovenReply : Woven → Reply
 wovenReply (Woven.Node x) = Reply.Node (x .version) (x .first .0) (x .span) (x .left) (x .right) (x .rest)
 wovenReply (Woven.Refused k) = Reply.Refused k
+
+unfoldable pub weaveSaid : Kept → Woven → Said
+weaveSaid k a = replied k (wovenReply a)
 
 -- PUBLISH: the version that is now published, that none is due, or that the minute is inside a window.
 unfoldable pub publishedReply : Published → Reply
@@ -112,22 +132,37 @@ publishedReply Published.Waiting = Reply.Waiting
 publishedReply Published.Held = Reply.Held
 publishedReply (Published.Refused k) = Reply.Refused k
 
+unfoldable pub publishSaid : Kept → PublishOut → Said
+publishSaid k o = replied (holding k (o .store)) (publishedReply (o .answer))
+
 -- BRANCH: the line that begins.
 unfoldable pub branchedReply : Branched → Reply
 branchedReply (Branched.Begun l) = Reply.Line (l .0)
 branchedReply (Branched.Refused k) = Reply.Refused k
+
+unfoldable pub branchSaid : Kept → BranchOut → Said
+branchSaid k o = replied (holding k (o .store)) (branchedReply (o .answer))
 
 -- SIZE: the bytes.
 unfoldable pub sizedReply : Sized → Reply
 sizedReply (Sized.Bytes n) = Reply.Size n
 sizedReply (Sized.Refused k) = Reply.Refused k
 
+unfoldable pub sizeSaid : Kept → Sized → Said
+sizeSaid k a = replied k (sizedReply a)
+
 -- RECENT: the last version published.
 unfoldable pub latestReply : Latest → Reply
 latestReply (Latest.Is v) = Reply.Recent (v .0)
 latestReply (Latest.Refused k) = Reply.Refused k
 
+unfoldable pub recentSaid : Kept → Latest → Said
+recentSaid k a = replied k (latestReply a)
+
 -- STAMP: the lowest version from which on the page has had its bytes.
 unfoldable pub stampedReply : Stamped → Reply
 stampedReply (Stamped.Is v) = Reply.Stamp (v .0)
 stampedReply (Stamped.Refused k) = Reply.Refused k
+
+unfoldable pub stampSaid : Kept → Stamped → Said
+stampSaid k a = replied k (stampedReply a)

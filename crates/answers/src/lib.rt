@@ -1,7 +1,7 @@
 // What the store answers to a step of the step program, written as a line of text; and what is kept between steps.
 ghost use mathlib.Core.Path.{_≡_};
 ghost use Prim.Native.Nat.{min};
-ghost use Rattle.answers.specs.Answers.{turned, written, refusedSaid, replied, holding, opening, formatSaid, bytesSaid, readSaid, begunReply, putReply, assignedReply, wovenReply, publishedReply, branchedReply, sizedReply, latestReply, stampedReply};
+ghost use Rattle.answers.specs.Answers.{turned, plainly, refusedSaid, replied, opening, formatSaid, beginSaid, putSaid, assignSaid, weaveSaid, publishSaid, branchSaid, sizeSaid, recentSaid, stampSaid, bytesSaid, readSaid};
 use assign::AssignOut;
 use assign::Assigned;
 use begin::BeginOut;
@@ -27,35 +27,39 @@ pub struct Kept {
     pub store: Store,
 }
 
-// What a step leaves: what is kept, and how many bytes its answer has.
+// What a step leaves: what is kept, and its answer, the first `len` bytes of `line`. The longest is READ's, with 256 bytes: 519.
 pub struct Turn {
     pub kept: Kept,
+    pub line: [u8; 520],
     pub len: usize,
 }
 
-// Each answer is written to the front of out. With no store open every step but FORMAT is refused.
+// With no store open every step but FORMAT is refused.
 
-// The turn that keeps this and replies so.
-fn reply_turn(kept: Kept, reply: Reply, out: &mut [u8]) -> Turn
-    ensures { λ r.
-        let x = replied kept reply in
-        ⌜ (r ≡ turned x (now (out .entry))) × (now (out .exit) ≡ written x (now (out .entry))) ⌝ }
+// The turn that keeps this and replies so, whether a store is open or not.
+fn plain_turn(kept: Kept, reply: Reply) -> Turn
+    ensures { λ r. ⌜ r ≡ turned (plainly kept reply) ⌝ }
 {
-    if !kept.open {
-        return refused_turn(kept, out);
-    }
-    let len = print::write_reply(reply, out);
-    Turn { kept, len }
+    let mut line = [0u8; 520];
+    let len = print::write_reply(reply, &mut line);
+    Turn { kept, line, len }
 }
 
 // `refused,0`: the line is malformed, or beyond the program's own limits.
-pub fn refused_turn(kept: Kept, out: &mut [u8]) -> Turn
-    ensures { λ r.
-        let x = refusedSaid kept in
-        ⌜ (r ≡ turned x (now (out .entry))) × (now (out .exit) ≡ written x (now (out .entry))) ⌝ }
+pub fn refused_turn(kept: Kept) -> Turn
+    ensures { λ r. ⌜ r ≡ turned (refusedSaid kept) ⌝ }
 {
-    let len = print::write_reply(Reply::Refused(0), out);
-    Turn { kept, len }
+    plain_turn(kept, Reply::Refused(0))
+}
+
+// The turn that replies so where a store is open.
+fn reply_turn(kept: Kept, reply: Reply) -> Turn
+    ensures { λ r. ⌜ r ≡ turned (replied kept reply) ⌝ }
+{
+    if !kept.open {
+        return refused_turn(kept);
+    }
+    plain_turn(kept, reply)
 }
 
 // What is kept with the store that FORMAT made: it is open.
@@ -66,24 +70,17 @@ fn opened(store: Store) -> Kept
 }
 
 // FORMAT keeps the store that it made, or else what there was.
-pub fn format_turn(kept: Kept, a: Formatted, out: &mut [u8]) -> Turn
-    ensures { λ r.
-        let x = formatSaid kept a in
-        ⌜ (r ≡ turned x (now (out .entry))) × (now (out .exit) ≡ written x (now (out .entry))) ⌝ }
+pub fn format_turn(kept: Kept, a: Formatted) -> Turn
+    ensures { λ r. ⌜ r ≡ turned (formatSaid kept a) ⌝ }
 {
     match a {
-        Formatted::Made(store, _) => reply_turn(opened(store), Reply::Ok, out),
-        Formatted::Refused(k) => {
-            let len = print::write_reply(Reply::Refused(k), out);
-            Turn { kept, len }
-        }
+        Formatted::Made(store, _) => plain_turn(opened(store), Reply::Ok),
+        Formatted::Refused(k) => plain_turn(kept, Reply::Refused(k)),
     }
 }
 
-pub fn begin_turn(kept: Kept, a: BeginOut, out: &mut [u8]) -> Turn
-    ensures { λ r.
-        let x = replied (holding kept (a .store)) (begunReply (a .answer)) in
-        ⌜ (r ≡ turned x (now (out .entry))) × (now (out .exit) ≡ written x (now (out .entry))) ⌝ }
+pub fn begin_turn(kept: Kept, a: BeginOut) -> Turn
+    ensures { λ r. ⌜ r ≡ turned (beginSaid kept a) ⌝ }
 {
     let store = a.store;
     let after = Kept {
@@ -92,26 +89,22 @@ pub fn begin_turn(kept: Kept, a: BeginOut, out: &mut [u8]) -> Turn
     };
     let answer = a.answer;
     match answer {
-        Begun::Given(t) => reply_turn(after, Reply::Ticket(t.0), out),
-        Begun::Refused(k) => reply_turn(after, Reply::Refused(k), out),
+        Begun::Given(t) => reply_turn(after, Reply::Ticket(t.0)),
+        Begun::Refused(k) => reply_turn(after, Reply::Refused(k)),
     }
 }
 
-pub fn put_turn(kept: Kept, a: PutIn, out: &mut [u8]) -> Turn
-    ensures { λ r.
-        let x = replied kept (putReply a) in
-        ⌜ (r ≡ turned x (now (out .entry))) × (now (out .exit) ≡ written x (now (out .entry))) ⌝ }
+pub fn put_turn(kept: Kept, a: PutIn) -> Turn
+    ensures { λ r. ⌜ r ≡ turned (putSaid kept a) ⌝ }
 {
     match a {
-        PutIn::Done => reply_turn(kept, Reply::Put, out),
-        PutIn::Refused(k) => reply_turn(kept, Reply::Refused(k), out),
+        PutIn::Done => reply_turn(kept, Reply::Put),
+        PutIn::Refused(k) => reply_turn(kept, Reply::Refused(k)),
     }
 }
 
-pub fn assign_turn(kept: Kept, a: AssignOut, out: &mut [u8]) -> Turn
-    ensures { λ r.
-        let x = replied (holding kept (a .store)) (assignedReply (a .answer)) in
-        ⌜ (r ≡ turned x (now (out .entry))) × (now (out .exit) ≡ written x (now (out .entry))) ⌝ }
+pub fn assign_turn(kept: Kept, a: AssignOut) -> Turn
+    ensures { λ r. ⌜ r ≡ turned (assignSaid kept a) ⌝ }
 {
     let store = a.store;
     let after = Kept {
@@ -120,15 +113,13 @@ pub fn assign_turn(kept: Kept, a: AssignOut, out: &mut [u8]) -> Turn
     };
     let answer = a.answer;
     match answer {
-        Assigned::Given(v, n) => reply_turn(after, Reply::Version(v.0, n), out),
-        Assigned::Refused(k) => reply_turn(after, Reply::Refused(k), out),
+        Assigned::Given(v, n) => reply_turn(after, Reply::Version(v.0, n)),
+        Assigned::Refused(k) => reply_turn(after, Reply::Refused(k)),
     }
 }
 
-pub fn weave_turn(kept: Kept, a: Woven, out: &mut [u8]) -> Turn
-    ensures { λ r.
-        let x = replied kept (wovenReply a) in
-        ⌜ (r ≡ turned x (now (out .entry))) × (now (out .exit) ≡ written x (now (out .entry))) ⌝ }
+pub fn weave_turn(kept: Kept, a: Woven) -> Turn
+    ensures { λ r. ⌜ r ≡ turned (weaveSaid kept a) ⌝ }
 {
     match a {
         Woven::Node(x) => {
@@ -140,16 +131,14 @@ pub fn weave_turn(kept: Kept, a: Woven, out: &mut [u8]) -> Turn
                 x.right as u64,
                 x.rest,
             );
-            reply_turn(kept, reply, out)
+            reply_turn(kept, reply)
         }
-        Woven::Refused(k) => reply_turn(kept, Reply::Refused(k), out),
+        Woven::Refused(k) => reply_turn(kept, Reply::Refused(k)),
     }
 }
 
-pub fn publish_turn(kept: Kept, a: PublishOut, out: &mut [u8]) -> Turn
-    ensures { λ r.
-        let x = replied (holding kept (a .store)) (publishedReply (a .answer)) in
-        ⌜ (r ≡ turned x (now (out .entry))) × (now (out .exit) ≡ written x (now (out .entry))) ⌝ }
+pub fn publish_turn(kept: Kept, a: PublishOut) -> Turn
+    ensures { λ r. ⌜ r ≡ turned (publishSaid kept a) ⌝ }
 {
     let store = a.store;
     let after = Kept {
@@ -158,17 +147,15 @@ pub fn publish_turn(kept: Kept, a: PublishOut, out: &mut [u8]) -> Turn
     };
     let answer = a.answer;
     match answer {
-        Published::Now(v) => reply_turn(after, Reply::Published(v.0), out),
-        Published::Waiting => reply_turn(after, Reply::Waiting, out),
-        Published::Held => reply_turn(after, Reply::Held, out),
-        Published::Refused(k) => reply_turn(after, Reply::Refused(k), out),
+        Published::Now(v) => reply_turn(after, Reply::Published(v.0)),
+        Published::Waiting => reply_turn(after, Reply::Waiting),
+        Published::Held => reply_turn(after, Reply::Held),
+        Published::Refused(k) => reply_turn(after, Reply::Refused(k)),
     }
 }
 
-pub fn branch_turn(kept: Kept, a: BranchOut, out: &mut [u8]) -> Turn
-    ensures { λ r.
-        let x = replied (holding kept (a .store)) (branchedReply (a .answer)) in
-        ⌜ (r ≡ turned x (now (out .entry))) × (now (out .exit) ≡ written x (now (out .entry))) ⌝ }
+pub fn branch_turn(kept: Kept, a: BranchOut) -> Turn
+    ensures { λ r. ⌜ r ≡ turned (branchSaid kept a) ⌝ }
 {
     let store = a.store;
     let after = Kept {
@@ -177,58 +164,50 @@ pub fn branch_turn(kept: Kept, a: BranchOut, out: &mut [u8]) -> Turn
     };
     let answer = a.answer;
     match answer {
-        Branched::Begun(l) => reply_turn(after, Reply::Line(l.0), out),
-        Branched::Refused(k) => reply_turn(after, Reply::Refused(k), out),
+        Branched::Begun(l) => reply_turn(after, Reply::Line(l.0)),
+        Branched::Refused(k) => reply_turn(after, Reply::Refused(k)),
     }
 }
 
-pub fn size_turn(kept: Kept, a: Sized, out: &mut [u8]) -> Turn
-    ensures { λ r.
-        let x = replied kept (sizedReply a) in
-        ⌜ (r ≡ turned x (now (out .entry))) × (now (out .exit) ≡ written x (now (out .entry))) ⌝ }
+pub fn size_turn(kept: Kept, a: Sized) -> Turn
+    ensures { λ r. ⌜ r ≡ turned (sizeSaid kept a) ⌝ }
 {
     match a {
-        Sized::Bytes(n) => reply_turn(kept, Reply::Size(n), out),
-        Sized::Refused(k) => reply_turn(kept, Reply::Refused(k), out),
+        Sized::Bytes(n) => reply_turn(kept, Reply::Size(n)),
+        Sized::Refused(k) => reply_turn(kept, Reply::Refused(k)),
     }
 }
 
-pub fn recent_turn(kept: Kept, a: Latest, out: &mut [u8]) -> Turn
-    ensures { λ r.
-        let x = replied kept (latestReply a) in
-        ⌜ (r ≡ turned x (now (out .entry))) × (now (out .exit) ≡ written x (now (out .entry))) ⌝ }
+pub fn recent_turn(kept: Kept, a: Latest) -> Turn
+    ensures { λ r. ⌜ r ≡ turned (recentSaid kept a) ⌝ }
 {
     match a {
-        Latest::Is(v) => reply_turn(kept, Reply::Recent(v.0), out),
-        Latest::Refused(k) => reply_turn(kept, Reply::Refused(k), out),
+        Latest::Is(v) => reply_turn(kept, Reply::Recent(v.0)),
+        Latest::Refused(k) => reply_turn(kept, Reply::Refused(k)),
     }
 }
 
-pub fn stamp_turn(kept: Kept, a: Stamped, out: &mut [u8]) -> Turn
-    ensures { λ r.
-        let x = replied kept (stampedReply a) in
-        ⌜ (r ≡ turned x (now (out .entry))) × (now (out .exit) ≡ written x (now (out .entry))) ⌝ }
+pub fn stamp_turn(kept: Kept, a: Stamped) -> Turn
+    ensures { λ r. ⌜ r ≡ turned (stampSaid kept a) ⌝ }
 {
     match a {
-        Stamped::Is(v) => reply_turn(kept, Reply::Stamp(v.0), out),
-        Stamped::Refused(k) => reply_turn(kept, Reply::Refused(k), out),
+        Stamped::Is(v) => reply_turn(kept, Reply::Stamp(v.0)),
+        Stamped::Refused(k) => reply_turn(kept, Reply::Refused(k)),
     }
 }
 
 // READ's answer is the first n bytes of the buffer that it filled.
-pub fn read_turn(kept: Kept, n: u64, a: Filled, bytes: &[u8], out: &mut [u8]) -> Turn
-    ensures { λ r.
-        let x = readSaid kept n (now (bytes .entry)) a in
-        ⌜ (r ≡ turned x (now (out .entry))) × (now (out .exit) ≡ written x (now (out .entry))) ⌝ }
+pub fn read_turn(kept: Kept, n: u64, a: Filled, bytes: &[u8]) -> Turn
+    ensures { λ r. ⌜ r ≡ turned (readSaid kept n (now (bytes .entry)) a) ⌝ }
 {
     match a {
         Filled::Done => {
             if !kept.open {
-                return refused_turn(kept, out);
+                return refused_turn(kept);
             }
-            bytes_turn(kept, n, bytes, out)
+            bytes_turn(kept, n, bytes)
         }
-        Filled::Refused(k) => reply_turn(kept, Reply::Refused(k), out),
+        Filled::Refused(k) => reply_turn(kept, Reply::Refused(k)),
     }
 }
 
@@ -240,12 +219,11 @@ pub fn capped(x: u64, most: usize) -> usize
 }
 
 // Answers the first n bytes, or all where there are fewer.
-fn bytes_turn(kept: Kept, n: u64, bytes: &[u8], out: &mut [u8]) -> Turn
-    ensures { λ r.
-        let x = bytesSaid kept n (now (bytes .entry)) in
-        ⌜ (r ≡ turned x (now (out .entry))) × (now (out .exit) ≡ written x (now (out .entry))) ⌝ }
+fn bytes_turn(kept: Kept, n: u64, bytes: &[u8]) -> Turn
+    ensures { λ r. ⌜ r ≡ turned (bytesSaid kept n (now (bytes .entry))) ⌝ }
 {
+    let mut line = [0u8; 520];
     let m = capped(n, bytes.len());
-    let len = print::write_bytes(&bytes[..m], out);
-    Turn { kept, len }
+    let len = print::write_bytes(&bytes[..m], &mut line);
+    Turn { kept, line, len }
 }

@@ -3,7 +3,9 @@
 ghost use mathlib.Core.Path.{_≡_};
 ghost use Prim.Native.Nat.{_≤_};
 ghost use lib.ListN.{length};
-ghost use Rattle.steps.specs.Places.{nextPlace, samePlace, isDue};
+ghost use mathlib.Core.Bool.{not};
+ghost use Rattle.versions.specs.Store.{areasOf};
+ghost use Rattle.steps.specs.Places.{nextPlace, samePlace, isDue, lineSaid, lineAreas};
 use answers::Kept;
 use answers::Turn;
 use parse::Cutter;
@@ -45,6 +47,15 @@ fn next_place(kept: Kept, written: bool) -> Place
     }
 }
 
+// The place after a turn, whose answer it writes out.
+fn place_after(t: Turn) -> Place
+    ensures { λ r. ⌜ r ≡ nextPlace (t .kept) (not (r .ended)) ⌝ }
+{
+    let line = t.line;
+    let written = write_out(&line, t.len);
+    next_place(t.kept, written)
+}
+
 // The place where the line goes on.
 fn same_place(kept: Kept, cutter: Cutter) -> Place
     ensures { λ r. ⌜ r ≡ samePlace kept cutter ⌝ }
@@ -56,21 +67,8 @@ fn same_place(kept: Kept, cutter: Cutter) -> Place
     }
 }
 
-// The turn of the line that the cutter holds, with its answer at the front of out.
-fn turn(
-    kept: Kept,
-    c: Cutter,
-    text: &[u8],
-    pages: &mut [u8],
-    nodes: &mut [u32],
-    register: &mut [Record],
-    out: &mut [u8],
-) -> Turn {
-    let wanted = wanted::wanted_cut(c, text, out);
-    respond::respond(kept, wanted, pages, nodes, register, out)
-}
-
-// Answers the line that the cutter holds, and writes the answer out.
+// Answers the line that the cutter holds, and writes the answer out. The store's areas are the first parts of the arrays lent. A line's page bytes are fewer
+// than its own, of which there are at most 600.
 fn answer(
     kept: Kept,
     c: Cutter,
@@ -78,11 +76,27 @@ fn answer(
     pages: &mut [u8],
     nodes: &mut [u32],
     register: &mut [Record],
-) -> Place {
-    let mut out = [0u8; 1024];
-    let t = turn(kept, c, text, pages, nodes, register, &mut out);
-    let written = write_out(&out, t.len);
-    next_place(t.kept, written)
+) -> Place
+    ensures { λ r.
+        let a = areasOf (now (pages .entry)) (now (nodes .entry)) (now (register .entry)) in
+        let x = now (text .entry) in
+        ⌜ (r ≡ nextPlace (lineSaid kept c x a .kept) (not (r .ended)))
+        × (now (pages .exit) ≡ lineAreas kept c x a .pages)
+        × (now (nodes .exit) ≡ lineAreas kept c x a .nodes)
+        × (now (register .exit) ≡ lineAreas kept c x a .register) ⌝ }
+{
+    let mut bytes = [0u8; 600];
+    let wanted = wanted::wanted_cut(c, text, &mut bytes);
+    let l = wanted::lent_lengths(kept, wanted, pages.len(), nodes.len(), register.len());
+    let t = respond::respond(
+        kept,
+        wanted,
+        &mut pages[..l.pages],
+        &mut nodes[..l.nodes],
+        &mut register[..l.register],
+        &bytes,
+    );
+    place_after(t)
 }
 
 // Takes one byte of the input, which may end a line.

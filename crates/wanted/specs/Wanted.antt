@@ -26,11 +26,11 @@ beyond size pages nodes updates = ltb 256 size || (ltb 32768 (size * pages) || (
 -- FORMAT holds the limits of the store that it would make.
 unfoldable pub formatWanted : ℕ → ℕ → ℕ → ℕ → Wanted
 formatWanted size pages nodes updates =
-    pick (beyond size pages nodes updates) Wanted.Nothing (Wanted.Fill (Fill.Format size pages nodes updates))
+    pick (beyond size pages nodes updates) (Wanted.Look Look.Nothing) (Wanted.Fill (Fill.Format size pages nodes updates))
 
 -- READ gives at most 256 bytes.
 unfoldable pub readWanted : ℕ → ℕ → ℕ → ℕ → Wanted
-readWanted l v offset n = pick (ltb 256 n) Wanted.Nothing (Wanted.Look (Look.Read l v offset n))
+readWanted l v offset n = pick (ltb 256 n) (Wanted.Look Look.Nothing) (Wanted.Look (Look.Read l v offset n))
 
 -- What a step asks for.
 unfoldable pub wantedBy : Step → Wanted
@@ -46,7 +46,7 @@ wantedBy (Step.Read l v o n) = readWanted l v o n
 wantedBy (Step.Size l v) = Wanted.Look (Look.Size l v)
 wantedBy (Step.Recent l) = Wanted.Look (Look.Recent l)
 wantedBy (Step.Stamp l v p) = Wanted.Look (Look.Stamp l v p)
-wantedBy Step.Malformed = Wanted.Nothing
+wantedBy Step.Malformed = Wanted.Look Look.Nothing
 
 -- The store whose areas a step is lent: the one that is kept, and for FORMAT the one that it would make.
 unfoldable pub storeFor : Kept → Wanted → Store
@@ -55,7 +55,6 @@ storeFor k (Wanted.Fill (Fill.Put t i n)) = k .store
 storeFor k (Wanted.Fill (Fill.Weave t)) = k .store
 storeFor k (Wanted.Note w) = k .store
 storeFor k (Wanted.Look w) = k .store
-storeFor k Wanted.Nothing = k .store
 
 -- The lengths of a store's areas, none past the array that it lies in.
 unfoldable pub lengthsFor : Store → ℕ → ℕ → ℕ → Lengths
@@ -64,3 +63,7 @@ lengthsFor s pages nodes register = record {
   nodes = min (2 * s .nodes) nodes;
   register = min (s .updates) register;
 }
+
+-- The lengths of the areas that a step is lent.
+unfoldable pub lentLengths : Kept → Wanted → ℕ → ℕ → ℕ → Lengths
+lentLengths k w pages nodes register = lengthsFor (storeFor k w) pages nodes register

@@ -3,7 +3,7 @@ ghost use mathlib.Core.Path.{_≡_};
 ghost use Prim.Native.Nat.{_*_, min};
 ghost use Rattle.text.specs.Buffer.{front};
 ghost use Rattle.parse.specs.Cut.{cutMeant};
-ghost use Rattle.wanted.specs.Wanted.{nothingKept, beyond, formatWanted, readWanted, wantedBy, storeFor, lengthsFor};
+ghost use Rattle.wanted.specs.Wanted.{nothingKept, beyond, formatWanted, readWanted, wantedBy, storeFor, lengthsFor, lentLengths};
 use answers::Kept;
 use answers::capped;
 use format::fresh_store;
@@ -19,7 +19,6 @@ pub enum Wanted {
     Fill(Fill),
     Note(Note),
     Look(Look),
-    Nothing,
 }
 
 // The steps that change pages or nodes. FORMAT holds the limits of the store that it would make, PUT how many page bytes the line has.
@@ -36,7 +35,7 @@ pub enum Note {
     Append(u64, u64),
 }
 
-// Those that change no area.
+// Those that change no area; Nothing is refused.
 pub enum Look {
     Publish(u64, u64),
     Branch(u64, u64),
@@ -44,6 +43,7 @@ pub enum Look {
     Size(u64, u64),
     Recent(u64),
     Stamp(u64, u64, u64),
+    Nothing,
 }
 
 // The program's own limits: page size, page bytes, nodes and updates of a store.
@@ -88,7 +88,7 @@ fn format_wanted(size: u64, pages: u64, nodes: u64, updates: u64) -> Wanted
     ensures { λ r. ⌜ r ≡ formatWanted size pages nodes updates ⌝ }
 {
     if is_beyond(size, pages, nodes, updates) {
-        return Wanted::Nothing;
+        return Wanted::Look(Look::Nothing);
     }
     Wanted::Fill(Fill::Format(size, pages, nodes, updates))
 }
@@ -98,7 +98,7 @@ fn read_wanted(l: u64, v: u64, offset: u64, n: u64) -> Wanted
     ensures { λ r. ⌜ r ≡ readWanted l v offset n ⌝ }
 {
     if n > MOST_READ {
-        return Wanted::Nothing;
+        return Wanted::Look(Look::Nothing);
     }
     Wanted::Look(Look::Read(l, v, offset, n))
 }
@@ -120,7 +120,7 @@ fn wanted_by(step: Step) -> Wanted
         Step::Size(l, v) => Wanted::Look(Look::Size(l, v)),
         Step::Recent(l) => Wanted::Look(Look::Recent(l)),
         Step::Stamp(l, v, p) => Wanted::Look(Look::Stamp(l, v, p)),
-        Step::Malformed => Wanted::Nothing,
+        Step::Malformed => Wanted::Look(Look::Nothing),
     }
 }
 
@@ -148,7 +148,7 @@ fn capped_product(a: u64, b: u64, most: usize) -> usize
 }
 
 // The lengths of the areas of a store, none past the array it lies in. A store that this program formats fits the arrays, so these are exact.
-pub fn lengths_for(s: Store, pages: usize, nodes: usize, register: usize) -> Lengths
+fn lengths_for(s: Store, pages: usize, nodes: usize, register: usize) -> Lengths
     ensures { λ l. ⌜ l ≡ lengthsFor s pages nodes register ⌝ }
 {
     Lengths {
@@ -159,7 +159,7 @@ pub fn lengths_for(s: Store, pages: usize, nodes: usize, register: usize) -> Len
 }
 
 // The store whose areas a step is lent: the one that is kept, and for FORMAT the one that it would make.
-pub fn store_for(kept: Kept, wanted: Wanted) -> Store
+fn store_for(kept: Kept, wanted: Wanted) -> Store
     ensures { λ r. ⌜ r ≡ storeFor kept wanted ⌝ }
 {
     let store = kept.store;
@@ -171,6 +171,19 @@ pub fn store_for(kept: Kept, wanted: Wanted) -> Store
         },
         Wanted::Note(_) => store,
         Wanted::Look(_) => store,
-        Wanted::Nothing => store,
     }
+}
+
+// The lengths of the areas that a step is lent, of arrays of these lengths.
+pub fn lent_lengths(
+    kept: Kept,
+    wanted: Wanted,
+    pages: usize,
+    nodes: usize,
+    register: usize,
+) -> Lengths
+    ensures { λ l. ⌜ l ≡ lentLengths kept wanted pages nodes register ⌝ }
+{
+    let store = store_for(kept, wanted);
+    lengths_for(store, pages, nodes, register)
 }

@@ -1,5 +1,5 @@
 -- `answers::publish_turn` meets its contract. Assumes nothing.
-use Rattle.answers.specs.Answers.{publishedReply, holding}
+use Rattle.answers.specs.Answers.{publishSaid, publishedReply, holding}
 use borrow.Author.Needs.{needs}
 use Rattle.answers.proofs.publish_turn.Statement.{statement}
 use Rattle.answers.proofs.publish_turn.Tie as tie
@@ -28,51 +28,21 @@ enum-known-answer-2 c = search needs
 reply-turn-requires-4 : tie.Need-reply-turn-requires-4
 reply-turn-requires-4 c κs = search needs
 
-same-length : tie.Need-same-length
-same-length c = search needs
-
 returns : tie.Need-returns
-unfolding publishedReply holding
-returns c = rw (c .before .before .before .before .before .answer .given .1) (c .before .before .reply-turn .ensures)
-
-same-length-2 : tie.Need-same-length-2
-same-length-2 c = search needs
+unfolding publishSaid publishedReply holding
+returns c = rw (c .before .before .answer .given .1) (c .reply-turn .ensures)
 
 returns-2 : tie.Need-returns-2
-unfolding publishedReply holding
-returns-2 c = rw (c .before .before .before .before .enum-told .given .1) (c .before .before .reply-turn2 .ensures)
-
-same-length-3 : tie.Need-same-length-3
-same-length-3 c = search needs
+unfolding publishSaid publishedReply holding
+returns-2 c = rw (c .before .enum-told .given .1) (c .reply-turn2 .ensures)
 
 returns-3 : tie.Need-returns-3
-unfolding publishedReply holding
-returns-3 c = rw (c .before .before .before .before .enum-told2 .given .1) (c .before .before .reply-turn3 .ensures)
-
-same-length-4 : tie.Need-same-length-4
-same-length-4 c = search needs
+unfolding publishSaid publishedReply holding
+returns-3 c = rw (c .before .enum-told2 .given .1) (c .reply-turn3 .ensures)
 
 returns-4 : tie.Need-returns-4
-unfolding publishedReply holding
-returns-4 c = rw (c .before .before .before .before .before .answer2 .given .1) (c .before .before .reply-turn4 .ensures)
+unfolding publishSaid publishedReply holding
+returns-4 c = rw (c .before .before .answer2 .given .1) (c .reply-turn4 .ensures)
 
 pub publish-turn-spec : {M : Type 1} → statement M
-publish-turn-spec =
-    tie.close
-    (tie.spec
-    enum-known-answer
-    reply-turn-requires
-    enum-told
-    reply-turn-requires-2
-    enum-told-2
-    reply-turn-requires-3
-    enum-known-answer-2
-    reply-turn-requires-4
-    same-length
-    returns
-    same-length-2
-    returns-2
-    same-length-3
-    returns-3
-    same-length-4
-    returns-4)
+publish-turn-spec = tie.close (tie.spec enum-known-answer reply-turn-requires enum-told reply-turn-requires-2 enum-told-2 reply-turn-requires-3 enum-known-answer-2 reply-turn-requires-4 returns returns-2 returns-3 returns-4)

@@ -1,5 +1,5 @@
 -- `answers::put_turn` meets its contract. Assumes nothing.
-use Rattle.answers.specs.Answers.{putReply}
+use Rattle.answers.specs.Answers.{putSaid, putReply}
 use borrow.Author.Needs.{needs}
 use Rattle.answers.proofs.put_turn.Statement.{statement}
 use Rattle.answers.proofs.put_turn.Tie as tie
@@ -16,29 +16,13 @@ enum-known-a c = search needs
 reply-turn-requires-2 : tie.Need-reply-turn-requires-2
 reply-turn-requires-2 c κs = search needs
 
-same-length : tie.Need-same-length
-same-length c = search needs
-
 returns : tie.Need-returns
-unfolding putReply
-returns c = rw (c .before .before .before .before .enum-told .given .1) (c .before .before .reply-turn .ensures)
-
-same-length-2 : tie.Need-same-length-2
-same-length-2 c = search needs
+unfolding putSaid putReply
+returns c = rw (c .before .enum-told .given .1) (c .reply-turn .ensures)
 
 returns-2 : tie.Need-returns-2
-unfolding putReply
-returns-2 c = rw (c .before .before .before .before .before .a .given .1) (c .before .before .reply-turn2 .ensures)
+unfolding putSaid putReply
+returns-2 c = rw (c .before .before .a .given .1) (c .reply-turn2 .ensures)
 
 pub put-turn-spec : {M : Type 1} → statement M
-put-turn-spec =
-    tie.close
-    (tie.spec
-    enum-told
-    reply-turn-requires
-    enum-known-a
-    reply-turn-requires-2
-    same-length
-    returns
-    same-length-2
-    returns-2)
+put-turn-spec = tie.close (tie.spec enum-told reply-turn-requires enum-known-a reply-turn-requires-2 returns returns-2)

@@ -1,5 +1,5 @@
 -- `answers::stamp_turn` meets its contract. Assumes nothing.
-use Rattle.answers.specs.Answers.{stampedReply}
+use Rattle.answers.specs.Answers.{stampSaid, stampedReply}
 use borrow.Author.Needs.{needs}
 use Rattle.answers.proofs.stamp_turn.Statement.{statement}
 use Rattle.answers.proofs.stamp_turn.Tie as tie
@@ -16,29 +16,13 @@ enum-known-a-2 c = search needs
 reply-turn-requires-2 : tie.Need-reply-turn-requires-2
 reply-turn-requires-2 c κs = search needs
 
-same-length : tie.Need-same-length
-same-length c = search needs
-
 returns : tie.Need-returns
-unfolding stampedReply
-returns c = rw (c .before .before .before .before .before .a .given .1) (c .before .before .reply-turn .ensures)
-
-same-length-2 : tie.Need-same-length-2
-same-length-2 c = search needs
+unfolding stampSaid stampedReply
+returns c = rw (c .before .before .a .given .1) (c .reply-turn .ensures)
 
 returns-2 : tie.Need-returns-2
-unfolding stampedReply
-returns-2 c = rw (c .before .before .before .before .before .a2 .given .1) (c .before .before .reply-turn2 .ensures)
+unfolding stampSaid stampedReply
+returns-2 c = rw (c .before .before .a2 .given .1) (c .reply-turn2 .ensures)
 
 pub stamp-turn-spec : {M : Type 1} → statement M
-stamp-turn-spec =
-    tie.close
-    (tie.spec
-    enum-known-a
-    reply-turn-requires
-    enum-known-a-2
-    reply-turn-requires-2
-    same-length
-    returns
-    same-length-2
-    returns-2)
+stamp-turn-spec = tie.close (tie.spec enum-known-a reply-turn-requires enum-known-a-2 reply-turn-requires-2 returns returns-2)

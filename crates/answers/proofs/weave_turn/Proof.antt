@@ -1,5 +1,5 @@
 -- `answers::weave_turn` meets its contract. Assumes nothing.
-use Rattle.answers.specs.Answers.{wovenReply}
+use Rattle.answers.specs.Answers.{weaveSaid, wovenReply}
 use borrow.Author.Needs.{needs}
 use Rattle.answers.proofs.weave_turn.Statement.{statement}
 use Rattle.answers.proofs.weave_turn.Tie as tie
@@ -7,11 +7,11 @@ use Rattle.answers.proofs.weave_turn.Tie as tie
 enum-known-a : tie.Need-enum-known-a
 enum-known-a c = search needs
 
+cast-t7 : tie.Need-cast-t7
+cast-t7 c = search needs
+
 cast-t8 : tie.Need-cast-t8
 cast-t8 c = search needs
-
-cast-t9 : tie.Need-cast-t9
-cast-t9 c = search needs
 
 reply-turn-requires : tie.Need-reply-turn-requires
 reply-turn-requires c κs = search needs
@@ -22,31 +22,13 @@ enum-known-a-2 c = search needs
 reply-turn-requires-2 : tie.Need-reply-turn-requires-2
 reply-turn-requires-2 c κs = search needs
 
-same-length : tie.Need-same-length
-same-length c = search needs
-
 returns : tie.Need-returns
-unfolding wovenReply
-returns c = rw (c .before .before .before .before .before .before .before .a .given .1) (c .before .before .reply-turn .ensures)
-
-same-length-2 : tie.Need-same-length-2
-same-length-2 c = search needs
+unfolding weaveSaid wovenReply
+returns c = rw (c .before .before .before .before .a .given .1) (c .reply-turn .ensures)
 
 returns-2 : tie.Need-returns-2
-unfolding wovenReply
-returns-2 c = rw (c .before .before .before .before .before .a2 .given .1) (c .before .before .reply-turn2 .ensures)
+unfolding weaveSaid wovenReply
+returns-2 c = rw (c .before .before .a2 .given .1) (c .reply-turn2 .ensures)
 
 pub weave-turn-spec : {M : Type 1} → statement M
-weave-turn-spec =
-    tie.close
-    (tie.spec
-    enum-known-a
-    cast-t8
-    cast-t9
-    reply-turn-requires
-    enum-known-a-2
-    reply-turn-requires-2
-    same-length
-    returns
-    same-length-2
-    returns-2)
+weave-turn-spec = tie.close (tie.spec enum-known-a cast-t7 cast-t8 reply-turn-requires enum-known-a-2 reply-turn-requires-2 returns returns-2)

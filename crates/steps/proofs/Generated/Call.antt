@@ -2,13 +2,13 @@
 pub mod answer
 pub mod feed
 pub mod is_due
+pub mod lent_lengths
 pub mod next_place
 pub mod nothing_kept
+pub mod place_after
 pub mod read_block
 pub mod same_place
 pub mod take_all
 pub mod take_block
 pub mod take_byte
-pub mod turn
 pub mod wanted_cut
-pub mod write_out

@@ -171,7 +171,7 @@ module _ {M : Type 1} (𝓤 : URA M) (H : Heap 𝓤) (A : Atoms 𝓤) (W : Given
       assigns ! (agg ! (and-then ! (load ! (from ! (stop !)) (look ! 14 refl)) (and-then ! (lit ! tt) (no-more !)))) (from ! (stop !)) (init ! 12 refl (tt, (tt, (record { fits = room·arr5 .0 }, tt)))) $
       lend-shr ! tt u8 (ν·arr1 ∷ []) fullShare l₁ 0 γ·arr1 600 arr1₄ (count·arr1 ∙ sym same·4-arr1) (λ ν·6-arr1 γ·6-arr1. move ! (4 ∷ 5 ∷ []) $ lend-mut ! tt u8 (ν·arr2 ∷ []) fullShare l₂ 0 γ·arr2 32768 arr2₄ (count·arr2 ∙ sym same·4-arr2) (λ ν·6-arr2 γ·6-arr2. move ! (8 ∷ 9 ∷ []) $ lend-mut ! tt u32 (ν·arr3 ∷ []) fullShare l₃ 0 γ·arr3 4096 arr3₄ (count·arr3 ∙ sym same·4-arr3) (λ ν·6-arr3 γ·6-arr3. move ! (12 ∷ 13 ∷ []) $ lend-mut ! tt Record′.row (ν·arr5 ∷ []) fullShare l₅ 0 γ·arr5 256 arr5₄ (count·arr5 ∙ sym same·4-arr5) (λ ν·6-arr5 γ·6-arr5. move ! (9 ∷ 10 ∷ 6 ∷ 7 ∷ 3 ∷ 4 ∷ 0 ∷ 1 ∷ []) $
       Call-answer.calls ! mem run (fmOf 𝓤 H (W .laws) 𝓣) known-answer (r4 .kept) (r4 .cutter) (ν·6-arr1 ∷ []) fullShare l₁ 0 γ·6-arr1 600 arr1₄ (ν·6-arr2 ∷ []) fullShare l₂ 0 γ·6-arr2 32768 arr2₄ (ν·6-arr3 ∷ []) fullShare l₃ 0 γ·6-arr3 4096 arr3₄ (ν·6-arr5 ∷ []) fullShare l₅ 0 γ·6-arr5 256 arr5₄ (Place′.ok-kept r4 ok·4) (Place′.ok-cutter r4 ok·4) (and-then ! (load ! (from ! (fld ! refl (stop !))) (look-in ! 48 (sub ! 0 refl (whole !)))) (and-then ! (load ! (from ! (fld ! refl (stop !))) (look-in ! 48 (sub ! 1 refl (whole !)))) (and-then ! (load ! (from ! (stop !)) (look ! 22 refl)) (and-then ! (load ! (from ! (stop !)) (look ! 18 refl)) (and-then ! (load ! (from ! (stop !)) (look ! 14 refl)) (and-then ! (load ! (from ! (stop !)) (look ! 10 refl)) (no-more !)))))))
-      (λ r6 arr2₆ arr3₆ arr5₆ ok·6 same·6-arr2 same·6-arr3 same·6-arr5. move ! (0 ∷ 1 ∷ 11 ∷ []) $ back-shr ! tt u8 (ν·arr1 ∷ []) fullShare l₁ 0 γ·arr1 600 arr1₄ ν·6-arr1 (count·arr1 ∙ sym same·4-arr1) room·arr1 $ move ! (2 ∷ 3 ∷ 10 ∷ []) $ back-mut ! tt u8 (ν·arr2 ∷ []) fullShare l₂ 0 γ·arr2 32768 arr2₄ arr2₆ ν·6-arr2 γ·6-arr2 (count·arr2 ∙ sym same·4-arr2) same·6-arr2 room·arr2 $ move ! (4 ∷ 5 ∷ 9 ∷ []) $ back-mut ! tt u32 (ν·arr3 ∷ []) fullShare l₃ 0 γ·arr3 4096 arr3₄ arr3₆ ν·6-arr3 γ·6-arr3 (count·arr3 ∙ sym same·4-arr3) same·6-arr3 room·arr3 $ move ! (6 ∷ 7 ∷ 8 ∷ []) $ back-mut ! tt Record′.row (ν·arr5 ∷ []) fullShare l₅ 0 γ·arr5 256 arr5₄ arr5₆ ν·6-arr5 γ·6-arr5 (count·arr5 ∙ sym same·4-arr5) same·6-arr5 room·arr5 $ move ! (6 ∷ 7 ∷ 8 ∷ 4 ∷ 5 ∷ 9 ∷ 2 ∷ 3 ∷ 10 ∷ 0 ∷ 1 ∷ 11 ∷ []) $ land ! (from ! (stop !)) (init ! 28 refl (Place′.typed 𝓤 H A W r6 ok·6)) $
+      (λ r6 arr2₆ arr3₆ arr5₆ ok·6 same·6-arr2 same·6-arr3 same·6-arr5 says·6. move ! (0 ∷ 1 ∷ 11 ∷ []) $ back-shr ! tt u8 (ν·arr1 ∷ []) fullShare l₁ 0 γ·arr1 600 arr1₄ ν·6-arr1 (count·arr1 ∙ sym same·4-arr1) room·arr1 $ move ! (2 ∷ 3 ∷ 10 ∷ []) $ back-mut ! tt u8 (ν·arr2 ∷ []) fullShare l₂ 0 γ·arr2 32768 arr2₄ arr2₆ ν·6-arr2 γ·6-arr2 (count·arr2 ∙ sym same·4-arr2) same·6-arr2 room·arr2 $ move ! (4 ∷ 5 ∷ 9 ∷ []) $ back-mut ! tt u32 (ν·arr3 ∷ []) fullShare l₃ 0 γ·arr3 4096 arr3₄ arr3₆ ν·6-arr3 γ·6-arr3 (count·arr3 ∙ sym same·4-arr3) same·6-arr3 room·arr3 $ move ! (6 ∷ 7 ∷ 8 ∷ []) $ back-mut ! tt Record′.row (ν·arr5 ∷ []) fullShare l₅ 0 γ·arr5 256 arr5₄ arr5₆ ν·6-arr5 γ·6-arr5 (count·arr5 ∙ sym same·4-arr5) same·6-arr5 room·arr5 $ move ! (6 ∷ 7 ∷ 8 ∷ 4 ∷ 5 ∷ 9 ∷ 2 ∷ 3 ∷ 10 ∷ 0 ∷ 1 ∷ 11 ∷ []) $ land ! (from ! (stop !)) (init ! 28 refl (Place′.typed 𝓤 H A W r6 ok·6)) $
       here ! (‵ (flft (ν·arr1 ∷ []) fullShare) ∷ ‵ (MutAt u8 (ν·arr1 ∷ []) l₁ 0 γ·arr1 600 arr1₄) ∷ ‵ (flent (ν·arr1 ∷ []) (Held u8 600 l₁ 0 γ·arr1)) ∷ ‵ (flft (ν·arr2 ∷ []) fullShare) ∷ ‵ (MutAt u8 (ν·arr2 ∷ []) l₂ 0 γ·arr2 32768 arr2₆) ∷ ‵ (flent (ν·arr2 ∷ []) (Held u8 32768 l₂ 0 γ·arr2)) ∷ ‵ (flft (ν·arr3 ∷ []) fullShare) ∷ ‵ (MutAt u32 (ν·arr3 ∷ []) l₃ 0 γ·arr3 4096 arr3₆) ∷ ‵ (flent (ν·arr3 ∷ []) (Held u32 4096 l₃ 0 γ·arr3)) ∷ ‵ (flft (ν·arr5 ∷ []) fullShare) ∷ ‵ (MutAt Record′.row (ν·arr5 ∷ []) l₅ 0 γ·arr5 256 arr5₆) ∷ ‵ (flent (ν·arr5 ∷ []) (Held Record′.row 256 l₅ 0 γ·arr5)) ∷ holds (sliceTy (tyRef erased mut (pointee (Record′.row .written)))) l₂₆ (sliceVal (l₅, 0) 256) (holds (tyRef erased mut (tyArray (pointee (Record′.row .written)) 256)) l₂₅ (vptr l₅ 0) (holds (sliceTy (tyRef erased mut (pointee (u32 .written)))) l₂₄ (sliceVal (l₃, 0) 4096) (holds (tyRef erased mut (tyArray (pointee (u32 .written)) 4096)) l₂₃ (vptr l₃ 0) (holds (sliceTy (tyRef erased mut (pointee (u8 .written)))) l₂₂ (sliceVal (l₂, 0) 32768) (holds (tyRef erased mut (tyArray (pointee (u8 .written)) 32768)) l₂₁ (vptr l₂ 0) (holds (sliceTy (tyRef erased imm (pointee (u8 .written)))) l₂₀ (sliceVal (l₁, 0) 600) (holds (tyRef erased imm (tyArray (pointee (u8 .written)) 600)) l₁₉ (vptr l₁ 0) (holds (tyAt (code.function .locals) 18) l₁₈ (Place′.mach r6) (holds tyBool l₁₇ (vbool (r5 arr1 arr2 arr3 arr5 r4 arr1₄ arr2₄ arr3₄ arr5₄)) (holds (sliceTy (tyRef erased mut (pointee (Record′.row .written)))) l₁₆ (sliceVal (l₅, 0) 256) (holds (tyRef erased mut (tyArray (pointee (Record′.row .written)) 256)) l₁₅ (vptr l₅ 0) (holds (sliceTy (tyRef erased mut (pointee (u32 .written)))) l₁₄ (sliceVal (l₃, 0) 4096) (holds (tyRef erased mut (tyArray (pointee (u32 .written)) 4096)) l₁₃ (vptr l₃ 0) (holds (sliceTy (tyRef erased mut (pointee (u8 .written)))) l₁₂ (sliceVal (l₂, 0) 32768) (holds (tyRef erased mut (tyArray (pointee (u8 .written)) 32768)) l₁₁ (vptr l₂ 0) (holds (sliceTy (tyRef erased mut (pointee (u8 .written)))) l₁₀ (sliceVal (l₁, 0) 600) (holds (tyRef erased mut (tyArray (pointee (u8 .written)) 600)) l₉ (vptr l₁ 0) (holds (tyAt (code.function .locals) 8) l₈ (Kept′.mach (r2 arr1 arr2 arr3 arr5)) (holds (tyAt (code.function .locals) 7) l₇ (Place′.mach r4) (holds (tyAt (code.function .locals) 6) l₆ (Place′.mach (r3 arr1 arr2 arr3 arr5)) (‵ (fdies (tyAt (code.function .locals) 5) l₅) ∷ holds (tyAt (code.function .locals) 4) l₄ (Record′.mach (r1 arr1 arr2 arr3)) (‵ (fdies (tyAt (code.function .locals) 3) l₃) ∷ ‵ (fdies (tyAt (code.function .locals) 2) l₂) ∷ ‵ (fdies (tyAt (code.function .locals) 1) l₁) ∷ empty tyUnit l₀ []))))))))))))))))))))))) $
       assigns ! (of-opd ! (unit-lit !)) (from ! (stop !)) (init ! 60 refl (tt, tt)) $
       empties ! tt u8 600 l₁ γ·arr1 arr1₄ ν·arr1 $ move ! (1 ∷ 2 ∷ 3 ∷ []) $ empties ! tt u8 32768 l₂ γ·arr2 arr2₆ ν·arr2 $ move ! (2 ∷ 3 ∷ 4 ∷ []) $ empties ! tt u32 4096 l₃ γ·arr3 arr3₆ ν·arr3 $ move ! (3 ∷ 4 ∷ 5 ∷ []) $ empties ! tt Record′.row 256 l₅ γ·arr5 arr5₆ ν·arr5 $ move ! (4 ∷ 5 ∷ 6 ∷ 7 ∷ 8 ∷ 9 ∷ 10 ∷ 11 ∷ 12 ∷ 13 ∷ 14 ∷ 15 ∷ 16 ∷ 17 ∷ 18 ∷ 19 ∷ 20 ∷ 21 ∷ 22 ∷ 23 ∷ 24 ∷ 25 ∷ 26 ∷ 27 ∷ 28 ∷ 29 ∷ 30 ∷ 31 ∷ 32 ∷ 33 ∷ 34 ∷ 35 ∷ 36 ∷ 37 ∷ 38 ∷ 39 ∷ 40 ∷ 41 ∷ 42 ∷ 43 ∷ 44 ∷ 45 ∷ 0 ∷ 46 ∷ 47 ∷ 48 ∷ 1 ∷ 49 ∷ 2 ∷ 50 ∷ 3 ∷ 51 ∷ 52 ∷ 53 ∷ []) $

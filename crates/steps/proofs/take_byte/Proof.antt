@@ -147,7 +147,7 @@ module _ {M : Type 1} (𝓤 : URA M) (H : Heap 𝓤) (A : Atoms 𝓤) (W : Given
       assigns ! (agg ! (and-then ! (load ! (from ! (stop !)) (look ! 10 refl)) (and-then ! (load ! (from ! (fld ! refl (stop !))) (look-in ! 36 (sub ! 1 refl (whole !)))) (no-more !)))) (from ! (stop !)) (init ! 8 refl (tt, (tt, (record { fits = room·register .0 }, tt)))) $
       lend-shr ! tt u8 κ·text q·text b·text o·text γ·text (length text) (text₁ x-at b text pages nodes register) (refl ∙ sym same·1-text) (λ ν·3-text γ·3-text. move ! (3 ∷ 4 ∷ []) $ lend-mut ! tt u8 κ·pages q·pages b·pages o·pages γ·pages (length pages) pages (refl) (λ ν·3-pages γ·3-pages. move ! (6 ∷ 7 ∷ []) $ lend-mut ! tt u32 κ·nodes q·nodes b·nodes o·nodes γ·nodes (length nodes) nodes (refl) (λ ν·3-nodes γ·3-nodes. move ! (9 ∷ 10 ∷ []) $ lend-mut ! tt Record′.row κ·register q·register b·register o·register γ·register (length register) register (refl) (λ ν·3-register γ·3-register. move ! (9 ∷ 10 ∷ 6 ∷ 7 ∷ 3 ∷ 4 ∷ 0 ∷ 1 ∷ []) $
       Call-answer.calls ! mem run (fmOf 𝓤 H (W .laws) 𝓣) known-answer (x-at .kept) y1-0 (ν·3-text ∷ []) fullShare b·text o·text γ·3-text (length text) (text₁ x-at b text pages nodes register) (ν·3-pages ∷ []) fullShare b·pages o·pages γ·3-pages (length pages) pages (ν·3-nodes ∷ []) fullShare b·nodes o·nodes γ·3-nodes (length nodes) nodes (ν·3-register ∷ []) fullShare b·register o·register γ·3-register (length register) register (Place′.ok-kept x-at ok·x-at) (Fed′.ok-Ended-0 y1-0 (subst Fed′.Ok m·1 ok·1)) (and-then ! (load ! (from ! (fld ! refl (stop !))) (look-in ! 44 (sub ! 0 refl (whole !)))) (and-then ! (load ! (from ! (stop !)) (look ! 28 refl)) (and-then ! (load ! (from ! (stop !)) (look ! 18 refl)) (and-then ! (load ! (from ! (stop !)) (look ! 14 refl)) (and-then ! (load ! (from ! (stop !)) (look ! 10 refl)) (and-then ! (load ! (from ! (stop !)) (look ! 6 refl)) (no-more !)))))))
-      (λ r3 pages₃ nodes₃ register₃ ok·3 same·3-pages same·3-nodes same·3-register. move ! (0 ∷ 1 ∷ 11 ∷ []) $ back-shr ! tt u8 κ·text q·text b·text o·text γ·text (length text) (text₁ x-at b text pages nodes register) ν·3-text (refl ∙ sym same·1-text) room·text $ move ! (2 ∷ 3 ∷ 10 ∷ []) $ back-mut ! tt u8 κ·pages q·pages b·pages o·pages γ·pages (length pages) pages pages₃ ν·3-pages γ·3-pages (refl) same·3-pages room·pages $ move ! (4 ∷ 5 ∷ 9 ∷ []) $ back-mut ! tt u32 κ·nodes q·nodes b·nodes o·nodes γ·nodes (length nodes) nodes nodes₃ ν·3-nodes γ·3-nodes (refl) same·3-nodes room·nodes $ move ! (6 ∷ 7 ∷ 8 ∷ []) $ back-mut ! tt Record′.row κ·register q·register b·register o·register γ·register (length register) register register₃ ν·3-register γ·3-register (refl) same·3-register room·register $ move ! (6 ∷ 7 ∷ 4 ∷ 5 ∷ 2 ∷ 3 ∷ 0 ∷ 1 ∷ []) $ land ! (from ! (stop !)) (init ! 24 refl (Place′.typed 𝓤 H A W r3 ok·3)) $
+      (λ r3 pages₃ nodes₃ register₃ ok·3 same·3-pages same·3-nodes same·3-register says·3. move ! (0 ∷ 1 ∷ 11 ∷ []) $ back-shr ! tt u8 κ·text q·text b·text o·text γ·text (length text) (text₁ x-at b text pages nodes register) ν·3-text (refl ∙ sym same·1-text) room·text $ move ! (2 ∷ 3 ∷ 10 ∷ []) $ back-mut ! tt u8 κ·pages q·pages b·pages o·pages γ·pages (length pages) pages pages₃ ν·3-pages γ·3-pages (refl) same·3-pages room·pages $ move ! (4 ∷ 5 ∷ 9 ∷ []) $ back-mut ! tt u32 κ·nodes q·nodes b·nodes o·nodes γ·nodes (length nodes) nodes nodes₃ ν·3-nodes γ·3-nodes (refl) same·3-nodes room·nodes $ move ! (6 ∷ 7 ∷ 8 ∷ []) $ back-mut ! tt Record′.row κ·register q·register b·register o·register γ·register (length register) register register₃ ν·3-register γ·3-register (refl) same·3-register room·register $ move ! (6 ∷ 7 ∷ 4 ∷ 5 ∷ 2 ∷ 3 ∷ 0 ∷ 1 ∷ []) $ land ! (from ! (stop !)) (init ! 24 refl (Place′.typed 𝓤 H A W r3 ok·3)) $
       here ! (‵ (flft κ·text q·text) ∷ ‵ (MutAt u8 κ·text b·text o·text γ·text (length text) (text₁ x-at b text pages nodes register)) ∷ ‵ (flft κ·pages q·pages) ∷ ‵ (MutAt u8 κ·pages b·pages o·pages γ·pages (length pages) pages₃) ∷ ‵ (flft κ·nodes q·nodes) ∷ ‵ (MutAt u32 κ·nodes b·nodes o·nodes γ·nodes (length nodes) nodes₃) ∷ ‵ (flft κ·register q·register) ∷ ‵ (MutAt Record′.row κ·register b·register o·register γ·register (length register) register₃) ∷ holds (sliceTy (tyRef erased mut (pointee (Record′.row .written)))) l₂₀ (sliceVal (b·register, o·register) (length register)) (holds (tyRef erased mut (pointee (Record′.row .written))) l₁₉ (vptr b·register o·register) (holds (sliceTy (tyRef erased mut (pointee (u32 .written)))) l₁₈ (sliceVal (b·nodes, o·nodes) (length nodes)) (holds (tyRef erased mut (pointee (u32 .written))) l₁₇ (vptr b·nodes o·nodes) (holds (sliceTy (tyRef erased mut (pointee (u8 .written)))) l₁₆ (sliceVal (b·pages, o·pages) (length pages)) (holds (tyRef erased mut (pointee (u8 .written))) l₁₅ (vptr b·pages o·pages) (holds (sliceTy (tyRef erased imm (pointee (u8 .written)))) l₁₄ (sliceVal (b·text, o·text) (length text)) (holds (tyRef erased imm (pointee (u8 .written))) l₁₃ (vptr b·text o·text) (holds (tyAt (code.function .locals) 12) l₁₂ (Place′.mach r3) (holds (sliceTy (tyRef erased mut (pointee (u8 .written)))) l₁₁ (sliceVal (b·text, o·text) (length text)) (holds (tyRef erased mut (pointee (u8 .written))) l₁₀ (vptr b·text o·text) (holds (tyAt (code.function .locals) 9) l₉ (Cutter′.mach y1-0) (empty (tyAt (code.function .locals) 8) l₈ (holds (tyAt (code.function .locals) 7) l₇ (Fed′.mach (Fed.Ended y1-0)) (holds (sliceTy (tyRef (named 3) mut (pointee (Record′.row .written)))) l₆ (sliceVal (b·register, o·register) (length register)) (holds (sliceTy (tyRef (named 2) mut (pointee (u32 .written)))) l₅ (sliceVal (b·nodes, o·nodes) (length nodes)) (holds (sliceTy (tyRef (named 1) mut (pointee (u8 .written)))) l₄ (sliceVal (b·pages, o·pages) (length pages)) (holds (sliceTy (tyRef (named 0) mut (pointee (u8 .written)))) l₃ (sliceVal (b·text, o·text) (length text)) (holds (tyInt w8) l₂ (vint w8 b) (holds (tyAt (code.function .locals) 1) l₁ (Place′.mach x-at) (empty (tyAt (code.function .locals) 0) l₀ []))))))))))))))))))))) $
       assigns ! (of-opd ! (load ! (from ! (stop !)) (look ! 24 refl))) (from ! (stop !)) (init ! 48 refl (Place′.typed 𝓤 H A W r3 ok·3)) $
       returns ! (look ! 48 refl) $

@@ -25,9 +25,6 @@ enum-told-3 c = search needs
 enum-told-4 : tie.Need-enum-told-4
 enum-told-4 c = search needs
 
-enum-told-5 : tie.Need-enum-told-5
-enum-told-5 c = search needs
-
 returns : tie.Need-returns
 unfolding storeFor
 returns c = rw (c .before .before .before .before .before .wanted .given .1, c .before .before .step .given .1, c .fresh-store .ensures)
@@ -48,10 +45,6 @@ returns-5 : tie.Need-returns-5
 unfolding storeFor
 returns-5 c = rw (c .enum-told4 .given .1)
 
-returns-6 : tie.Need-returns-6
-unfolding storeFor
-returns-6 c = rw (c .enum-told5 .given .1)
-
 pub store-for-spec : {M : Type 1} → statement M
 store-for-spec =
     tie.close
@@ -63,10 +56,8 @@ store-for-spec =
     enum-told-2
     enum-told-3
     enum-told-4
-    enum-told-5
     returns
     returns-2
     returns-3
     returns-4
-    returns-5
-    returns-6)
+    returns-5)

@@ -54,53 +54,53 @@ module _ {M : Type 1} (𝓤 : URA M) (H : Heap 𝓤) (A : Atoms 𝓤) (mem : Mem
   abbrev pub Asked : Contract 𝓤
   Asked = tripleOf 𝓤 H A callee.signature (callee.spec 𝓤 H A mem run)
 
-  abbrev pub to : (kept : Kept) (x-a : Formatted) (κ·out : Lft) (q·out : Share) (b·out o·out : ℕ) (γ·out : GName) (n·out : ℕ) (out : List ℕ) → Asked .Ghost
-  to kept x-a κ·out q·out b·out o·out γ·out n·out out = (((κ·out, tt), (q·out, tt), tt, (kept, (x-a, (ref b·out o·out γ·out out, tt))), (Kept′.mach kept ∷ [], (Formatted′.mach x-a ∷ [], (sliceVal (b·out, o·out) n·out ∷ [], tt)))), tt)
+  abbrev pub to : (kept : Kept) (x-a : Formatted) → Asked .Ghost
+  to kept x-a = ((tt, tt, tt, (kept, (x-a, tt)), (Kept′.mach kept ∷ [], (Formatted′.mach x-a ∷ [], tt))), tt)
 
 module _ {M : Type 1} {𝓤 : URA M} {H : Heap 𝓤} {A : Atoms 𝓤} {K : Type 0} {W : Given 𝓤 H A} {Γ : List (Item 𝓤)} where
   -- the call itself is made by `by-call`, from what the callee asks to what it has ensured
-  core : K → (mem : Memory → SProp 𝓤) (run : Routine → Fun 𝓤) → (kept : Kept) (x-a : Formatted) (κ·out : Lft) (q·out : Share) (b·out o·out : ℕ) (γ·out : GName) (n·out : ℕ) (out : List ℕ) → (G : Goal 𝓤 H) (after : Val → Goal 𝓤 H) → ((v : Val) → Soaks (after v))
-      → (((v : Val) → Seq K W (raw (Asked 𝓤 H A mem run .post (to 𝓤 H A mem run kept x-a κ·out q·out b·out o·out γ·out n·out out) v) ∷ Γ) (after v)) → Seq K W (raw (Asked 𝓤 H A mem run .pre (to 𝓤 H A mem run kept x-a κ·out q·out b·out o·out γ·out n·out out)) ∷ Γ) G) → Is Kept′.row kept (Kept′.vals kept) → Is Formatted′.row x-a (Formatted′.vals x-a) →
-      (Is Turn′.row (format-turn″.res kept x-a out) (Turn′.vals (format-turn″.res kept x-a out)) → length (format-turn″.out-out kept x-a out) ≡ length out → Seq K W (‵ (flft κ·out q·out) ∷ ‵ (finally u8 γ·out (format-turn″.out-out kept x-a out)) ∷ Γ) (after (Turn′.mach (format-turn″.res kept x-a out)))) → Seq K W (‵ (flft κ·out q·out) ∷ ‵ (MutAt u8 κ·out b·out o·out γ·out n·out out) ∷ Γ) G
-  core t mem run kept x-a κ·out q·out b·out o·out γ·out n·out out G after soaks by-call ok·kept ok·x-a k =
-      join t $ use1 W (raw (Asked 𝓤 H A mem run .pre (to 𝓤 H A mem run kept x-a κ·out q·out b·out o·out γ·out n·out out))) goes $
+  core : K → (mem : Memory → SProp 𝓤) (run : Routine → Fun 𝓤) → (kept : Kept) (x-a : Formatted) → (G : Goal 𝓤 H) (after : Val → Goal 𝓤 H) → ((v : Val) → Soaks (after v))
+      → (((v : Val) → Seq K W (raw (Asked 𝓤 H A mem run .post (to 𝓤 H A mem run kept x-a) v) ∷ Γ) (after v)) → Seq K W (raw (Asked 𝓤 H A mem run .pre (to 𝓤 H A mem run kept x-a)) ∷ Γ) G) → Is Kept′.row kept (Kept′.vals kept) → Is Formatted′.row x-a (Formatted′.vals x-a) →
+      (Is Turn′.row (format-turn″.res kept x-a) (Turn′.vals (format-turn″.res kept x-a)) → Seq K W (Γ) (after (Turn′.mach (format-turn″.res kept x-a)))) → Seq K W (Γ) G
+  core t mem run kept x-a G after soaks by-call ok·kept ok·x-a k =
+      use0 W (raw (Asked 𝓤 H A mem run .pre (to 𝓤 H A mem run kept x-a))) goes $
       by-call (λ v.
-      use1 W (later (some (λ (r· : Turn). ((‵ (flft κ·out q·out) ⊛ ‵ ftrue) ⊛ ‵ (Turn′.row .own r· (v ∷ []))) ⊛ raw (ensured 𝓤 H A callee.ended (callee.clauses 𝓤 H A mem run) (κ·out, tt) (kept, (x-a, (ref b·out o·out γ·out out, tt))) tt r·)))) (id⊢ 𝓤 _) $ await t (soaks v) $ pick t (λ r·. split t $ move t (1 ∷ []) $
-      use1 W (some (λ (ws : Lasts callee.ended (κ·out, tt) (kept, (x-a, (ref b·out o·out γ·out out, tt)))). ‵ (lasts callee.ended (κ·out, tt) (kept, (x-a, (ref b·out o·out γ·out out, tt))) ws) ⊛ raw (fact 𝓤 (format-turn″.ens kept x-a out (ws .1 .1 .0) r·)))) (id⊢ 𝓤 _) $ pick t (λ ws. split t $ move t (1 ∷ []) $
-      heard t (format-turn″.ens kept x-a out (ws .1 .1 .0) r·) (λ e. fsplit t $ drop t $ fsplit t $ drop t $ fsplit t $ fsplit t $ move t (1 ∷ []) $ feqL t (λ same·out. move t (1 ∷ []) $ drop t $ move t (1 ∷ []) $ split t $ move t (1 ∷ []) $ facts t Turn′.row (Is Turn′.row) (shows 𝓤 H A Turn′.row) r· (v ∷ []) (λ is. split t $ move t (1 ∷ []) $ drop t $
-      rewrite t 1 (λ (zs : List ℕ). ‵ (finally u8 γ·out zs)) (e .1) refl $ subst (λ (u : Val). Seq K W (‵ (flft κ·out q·out) ∷ ‵ (finally u8 γ·out (format-turn″.out-out kept x-a out)) ∷ Γ) (after u)) (sym (ap only (Turn′.tells r· (v ∷ []) is) ∙ ap (λ (z : Turn). Turn′.mach z) (e .0))) (k (subst (λ (z : Turn). Is Turn′.row z (Turn′.vals z)) (e .0) (subst (Is Turn′.row r·) (Turn′.tells r· (v ∷ []) is) is)) (subst (λ (zs : List ℕ). length zs ≡ length out) (e .1) same·out))))))))
+      use1 W (later (some (λ (r· : Turn). ((‵ ftrue) ⊛ ‵ (Turn′.row .own r· (v ∷ []))) ⊛ raw (ensured 𝓤 H A callee.ended (callee.clauses 𝓤 H A mem run) tt (kept, (x-a, tt)) tt r·)))) (id⊢ 𝓤 _) $ await t (soaks v) $ pick t (λ r·. split t $ move t (1 ∷ []) $
+      use1 W (some (λ (ws : Lasts callee.ended tt (kept, (x-a, tt))). ‵ (lasts callee.ended tt (kept, (x-a, tt)) ws) ⊛ raw (fact 𝓤 (format-turn″.ens kept x-a r·)))) (id⊢ 𝓤 _) $ pick t (λ ws. split t $ move t (1 ∷ []) $
+      heard t (format-turn″.ens kept x-a r·) (λ e. drop t $ split t $ move t (1 ∷ []) $ facts t Turn′.row (Is Turn′.row) (shows 𝓤 H A Turn′.row) r· (v ∷ []) (λ is. drop t $
+      subst (λ (u : Val). Seq K W (Γ) (after u)) (sym (ap only (Turn′.tells r· (v ∷ []) is) ∙ ap (λ (z : Turn). Turn′.mach z) (e))) (k (subst (λ (z : Turn). Is Turn′.row z (Turn′.vals z)) (e) (subst (Is Turn′.row r·) (Turn′.tells r· (v ∷ []) is) is))))))))
     where
-      goes : ent 𝓤 (⋆ 𝓤 H A (‵ (flft κ·out q·out) ∷ ‵ (MutAt u8 κ·out b·out o·out γ·out n·out out) ∷ [])) (Asked 𝓤 H A mem run .pre (to 𝓤 H A mem run kept x-a κ·out q·out b·out o·out γ·out n·out out))
-      goes = qed W (‵ (flft κ·out q·out) ∷ ‵ (MutAt u8 κ·out b·out o·out γ·out n·out out) ∷ []) ∵ plus-nothing ! $ nothing ! $ move ! (1 ∷ 0 ∷ []) $ join ! $ frame ! $ nothing ! $ move ! (1 ∷ 0 ∷ []) $ fjoin ! $ owned ! Formatted′.row (Is Formatted′.row) (Formatted′.makes 𝓤 H A) x-a _ ok·x-a $ fjoin ! $ owned ! Kept′.row (Is Kept′.row) (Kept′.makes 𝓤 H A) kept _ ok·kept $ fjoin ! $ done !
+      goes : ent 𝓤 (⋆ 𝓤 H A ([])) (Asked 𝓤 H A mem run .pre (to 𝓤 H A mem run kept x-a))
+      goes = qed W ([]) ∵ plus-nothing ! $ nothing ! $ frame ! $ nothing ! $ owned ! Formatted′.row (Is Formatted′.row) (Formatted′.makes 𝓤 H A) x-a _ ok·x-a $ fjoin ! $ owned ! Kept′.row (Is Kept′.row) (Kept′.makes 𝓤 H A) kept _ ok·kept $ fjoin ! $ done !
 
 module _ {M : Type 1} {𝓤 : URA M} {H : Heap 𝓤} {A : Atoms 𝓤} {K : Type 0} {W : Given 𝓤 H A} {Γ : List (Item 𝓤)} {E : Env 𝓤 H} {C : Calls 𝓤 H} {Λ : Loops 𝓤 H} {Q : Post 𝓤 H} {xs : List Operand} {d : Place} {rest : Body} where
   -- by one instance of the callee's contract, which is what a function that calls itself has
-  pub calls-by : K → (mem : Memory → SProp 𝓤) (run : Routine → Fun 𝓤) → FmC 𝓤 H (W .laws) C → (kept : Kept) (x-a : Formatted) (κ·out : Lft) (q·out : Share) (b·out o·out : ℕ) (γ·out : GName) (n·out : ℕ) (out : List ℕ) → ent 𝓤 (Asked 𝓤 H A mem run .pre (to 𝓤 H A mem run kept x-a κ·out q·out b·out o·out γ·out n·out out)) (C #callee (Asked 𝓤 H A mem run .args (to 𝓤 H A mem run kept x-a κ·out q·out b·out o·out γ·out n·out out)) (Asked 𝓤 H A mem run .post (to 𝓤 H A mem run kept x-a κ·out q·out b·out o·out γ·out n·out out))) → Is Kept′.row kept (Kept′.vals kept) → Is Formatted′.row x-a (Formatted′.vals x-a) →
-      Opds K W (raw (Asked 𝓤 H A mem run .pre (to 𝓤 H A mem run kept x-a κ·out q·out b·out o·out γ·out n·out out)) ∷ Γ) E xs (Kept′.mach kept ∷ Formatted′.mach x-a ∷ sliceVal (b·out, o·out) n·out ∷ [])
-      → (Is Turn′.row (format-turn″.res kept x-a out) (Turn′.vals (format-turn″.res kept x-a out)) → length (format-turn″.out-out kept x-a out) ≡ length out → Seq K W (‵ (flft κ·out q·out) ∷ ‵ (finally u8 γ·out (format-turn″.out-out kept x-a out)) ∷ Γ) (lands C Λ E d (Turn′.mach (format-turn″.res kept x-a out)) rest Q))
-      → Seq K W (‵ (flft κ·out q·out) ∷ ‵ (MutAt u8 κ·out b·out o·out γ·out n·out out) ∷ Γ) (runs C Λ E (seq (call #callee xs d) rest) Q)
-  calls-by t mem run fm kept x-a κ·out q·out b·out o·out γ·out n·out out known ok·kept ok·x-a os k =
-      core t mem run kept x-a κ·out q·out b·out o·out γ·out n·out out (runs C Λ E (seq (call #callee xs d) rest) Q) (λ v. lands C Λ E d v rest Q) (λ v. tt)
-      (λ h. calls-from t fm (raw (Asked 𝓤 H A mem run .pre (to 𝓤 H A mem run kept x-a κ·out q·out b·out o·out γ·out n·out out))) (Asked 𝓤 H A mem run .args (to 𝓤 H A mem run kept x-a κ·out q·out b·out o·out γ·out n·out out)) (Asked 𝓤 H A mem run .post (to 𝓤 H A mem run kept x-a κ·out q·out b·out o·out γ·out n·out out)) known os h) ok·kept ok·x-a k
+  pub calls-by : K → (mem : Memory → SProp 𝓤) (run : Routine → Fun 𝓤) → FmC 𝓤 H (W .laws) C → (kept : Kept) (x-a : Formatted) → ent 𝓤 (Asked 𝓤 H A mem run .pre (to 𝓤 H A mem run kept x-a)) (C #callee (Asked 𝓤 H A mem run .args (to 𝓤 H A mem run kept x-a)) (Asked 𝓤 H A mem run .post (to 𝓤 H A mem run kept x-a))) → Is Kept′.row kept (Kept′.vals kept) → Is Formatted′.row x-a (Formatted′.vals x-a) →
+      Opds K W (raw (Asked 𝓤 H A mem run .pre (to 𝓤 H A mem run kept x-a)) ∷ Γ) E xs (Kept′.mach kept ∷ Formatted′.mach x-a ∷ [])
+      → (Is Turn′.row (format-turn″.res kept x-a) (Turn′.vals (format-turn″.res kept x-a)) → Seq K W (Γ) (lands C Λ E d (Turn′.mach (format-turn″.res kept x-a)) rest Q))
+      → Seq K W (Γ) (runs C Λ E (seq (call #callee xs d) rest) Q)
+  calls-by t mem run fm kept x-a known ok·kept ok·x-a os k =
+      core t mem run kept x-a (runs C Λ E (seq (call #callee xs d) rest) Q) (λ v. lands C Λ E d v rest Q) (λ v. tt)
+      (λ h. calls-from t fm (raw (Asked 𝓤 H A mem run .pre (to 𝓤 H A mem run kept x-a))) (Asked 𝓤 H A mem run .args (to 𝓤 H A mem run kept x-a)) (Asked 𝓤 H A mem run .post (to 𝓤 H A mem run kept x-a)) known os h) ok·kept ok·x-a k
 
-  pub calls : K → (mem : Memory → SProp 𝓤) (run : Routine → Fun 𝓤) → FmC 𝓤 H (W .laws) C → Triple 𝓤 (C #callee) (Asked 𝓤 H A mem run) → (kept : Kept) (x-a : Formatted) (κ·out : Lft) (q·out : Share) (b·out o·out : ℕ) (γ·out : GName) (n·out : ℕ) (out : List ℕ) → Is Kept′.row kept (Kept′.vals kept) → Is Formatted′.row x-a (Formatted′.vals x-a) →
-      Opds K W (raw (Asked 𝓤 H A mem run .pre (to 𝓤 H A mem run kept x-a κ·out q·out b·out o·out γ·out n·out out)) ∷ Γ) E xs (Kept′.mach kept ∷ Formatted′.mach x-a ∷ sliceVal (b·out, o·out) n·out ∷ [])
-      → (Is Turn′.row (format-turn″.res kept x-a out) (Turn′.vals (format-turn″.res kept x-a out)) → length (format-turn″.out-out kept x-a out) ≡ length out → Seq K W (‵ (flft κ·out q·out) ∷ ‵ (finally u8 γ·out (format-turn″.out-out kept x-a out)) ∷ Γ) (lands C Λ E d (Turn′.mach (format-turn″.res kept x-a out)) rest Q))
-      → Seq K W (‵ (flft κ·out q·out) ∷ ‵ (MutAt u8 κ·out b·out o·out γ·out n·out out) ∷ Γ) (runs C Λ E (seq (call #callee xs d) rest) Q)
-  calls t mem run fm known kept x-a κ·out q·out b·out o·out γ·out n·out out = calls-by t mem run fm kept x-a κ·out q·out b·out o·out γ·out n·out out (known (to 𝓤 H A mem run kept x-a κ·out q·out b·out o·out γ·out n·out out))
+  pub calls : K → (mem : Memory → SProp 𝓤) (run : Routine → Fun 𝓤) → FmC 𝓤 H (W .laws) C → Triple 𝓤 (C #callee) (Asked 𝓤 H A mem run) → (kept : Kept) (x-a : Formatted) → Is Kept′.row kept (Kept′.vals kept) → Is Formatted′.row x-a (Formatted′.vals x-a) →
+      Opds K W (raw (Asked 𝓤 H A mem run .pre (to 𝓤 H A mem run kept x-a)) ∷ Γ) E xs (Kept′.mach kept ∷ Formatted′.mach x-a ∷ [])
+      → (Is Turn′.row (format-turn″.res kept x-a) (Turn′.vals (format-turn″.res kept x-a)) → Seq K W (Γ) (lands C Λ E d (Turn′.mach (format-turn″.res kept x-a)) rest Q))
+      → Seq K W (Γ) (runs C Λ E (seq (call #callee xs d) rest) Q)
+  calls t mem run fm known kept x-a = calls-by t mem run fm kept x-a (known (to 𝓤 H A mem run kept x-a))
 
 module _ {M : Type 1} {𝓤 : URA M} {H : Heap 𝓤} {A : Atoms 𝓤} {K : Type 0} {W : Given 𝓤 H A} {Γ : List (Item 𝓤)} {E : Env 𝓤 H} {C : Calls 𝓤 H} {Λ : Loops 𝓤 H} {Q : Post 𝓤 H} {xs : List Operand} {d : Place} where
   -- by one instance of the callee's contract, which is what a function that calls itself has. The call ends a part of the code
-  pub calls-last-by : K → (mem : Memory → SProp 𝓤) (run : Routine → Fun 𝓤) → FmC 𝓤 H (W .laws) C → (kept : Kept) (x-a : Formatted) (κ·out : Lft) (q·out : Share) (b·out o·out : ℕ) (γ·out : GName) (n·out : ℕ) (out : List ℕ) → ent 𝓤 (Asked 𝓤 H A mem run .pre (to 𝓤 H A mem run kept x-a κ·out q·out b·out o·out γ·out n·out out)) (C #callee (Asked 𝓤 H A mem run .args (to 𝓤 H A mem run kept x-a κ·out q·out b·out o·out γ·out n·out out)) (Asked 𝓤 H A mem run .post (to 𝓤 H A mem run kept x-a κ·out q·out b·out o·out γ·out n·out out))) → Is Kept′.row kept (Kept′.vals kept) → Is Formatted′.row x-a (Formatted′.vals x-a) →
-      Opds K W (raw (Asked 𝓤 H A mem run .pre (to 𝓤 H A mem run kept x-a κ·out q·out b·out o·out γ·out n·out out)) ∷ Γ) E xs (Kept′.mach kept ∷ Formatted′.mach x-a ∷ sliceVal (b·out, o·out) n·out ∷ [])
-      → (Is Turn′.row (format-turn″.res kept x-a out) (Turn′.vals (format-turn″.res kept x-a out)) → length (format-turn″.out-out kept x-a out) ≡ length out → Seq K W (‵ (flft κ·out q·out) ∷ ‵ (finally u8 γ·out (format-turn″.out-out kept x-a out)) ∷ Γ) (settles E d (Turn′.mach (format-turn″.res kept x-a out)) Q))
-      → Seq K W (‵ (flft κ·out q·out) ∷ ‵ (MutAt u8 κ·out b·out o·out γ·out n·out out) ∷ Γ) (runs C Λ E (call #callee xs d) Q)
-  calls-last-by t mem run fm kept x-a κ·out q·out b·out o·out γ·out n·out out known ok·kept ok·x-a os k =
-      core t mem run kept x-a κ·out q·out b·out o·out γ·out n·out out (runs C Λ E (call #callee xs d) Q) (λ v. settles E d v Q) (λ v. tt)
-      (λ h. calls-from-last t fm (raw (Asked 𝓤 H A mem run .pre (to 𝓤 H A mem run kept x-a κ·out q·out b·out o·out γ·out n·out out))) (Asked 𝓤 H A mem run .args (to 𝓤 H A mem run kept x-a κ·out q·out b·out o·out γ·out n·out out)) (Asked 𝓤 H A mem run .post (to 𝓤 H A mem run kept x-a κ·out q·out b·out o·out γ·out n·out out)) known os h) ok·kept ok·x-a k
+  pub calls-last-by : K → (mem : Memory → SProp 𝓤) (run : Routine → Fun 𝓤) → FmC 𝓤 H (W .laws) C → (kept : Kept) (x-a : Formatted) → ent 𝓤 (Asked 𝓤 H A mem run .pre (to 𝓤 H A mem run kept x-a)) (C #callee (Asked 𝓤 H A mem run .args (to 𝓤 H A mem run kept x-a)) (Asked 𝓤 H A mem run .post (to 𝓤 H A mem run kept x-a))) → Is Kept′.row kept (Kept′.vals kept) → Is Formatted′.row x-a (Formatted′.vals x-a) →
+      Opds K W (raw (Asked 𝓤 H A mem run .pre (to 𝓤 H A mem run kept x-a)) ∷ Γ) E xs (Kept′.mach kept ∷ Formatted′.mach x-a ∷ [])
+      → (Is Turn′.row (format-turn″.res kept x-a) (Turn′.vals (format-turn″.res kept x-a)) → Seq K W (Γ) (settles E d (Turn′.mach (format-turn″.res kept x-a)) Q))
+      → Seq K W (Γ) (runs C Λ E (call #callee xs d) Q)
+  calls-last-by t mem run fm kept x-a known ok·kept ok·x-a os k =
+      core t mem run kept x-a (runs C Λ E (call #callee xs d) Q) (λ v. settles E d v Q) (λ v. tt)
+      (λ h. calls-from-last t fm (raw (Asked 𝓤 H A mem run .pre (to 𝓤 H A mem run kept x-a))) (Asked 𝓤 H A mem run .args (to 𝓤 H A mem run kept x-a)) (Asked 𝓤 H A mem run .post (to 𝓤 H A mem run kept x-a)) known os h) ok·kept ok·x-a k
 
-  pub calls-last : K → (mem : Memory → SProp 𝓤) (run : Routine → Fun 𝓤) → FmC 𝓤 H (W .laws) C → Triple 𝓤 (C #callee) (Asked 𝓤 H A mem run) → (kept : Kept) (x-a : Formatted) (κ·out : Lft) (q·out : Share) (b·out o·out : ℕ) (γ·out : GName) (n·out : ℕ) (out : List ℕ) → Is Kept′.row kept (Kept′.vals kept) → Is Formatted′.row x-a (Formatted′.vals x-a) →
-      Opds K W (raw (Asked 𝓤 H A mem run .pre (to 𝓤 H A mem run kept x-a κ·out q·out b·out o·out γ·out n·out out)) ∷ Γ) E xs (Kept′.mach kept ∷ Formatted′.mach x-a ∷ sliceVal (b·out, o·out) n·out ∷ [])
-      → (Is Turn′.row (format-turn″.res kept x-a out) (Turn′.vals (format-turn″.res kept x-a out)) → length (format-turn″.out-out kept x-a out) ≡ length out → Seq K W (‵ (flft κ·out q·out) ∷ ‵ (finally u8 γ·out (format-turn″.out-out kept x-a out)) ∷ Γ) (settles E d (Turn′.mach (format-turn″.res kept x-a out)) Q))
-      → Seq K W (‵ (flft κ·out q·out) ∷ ‵ (MutAt u8 κ·out b·out o·out γ·out n·out out) ∷ Γ) (runs C Λ E (call #callee xs d) Q)
-  calls-last t mem run fm known kept x-a κ·out q·out b·out o·out γ·out n·out out = calls-last-by t mem run fm kept x-a κ·out q·out b·out o·out γ·out n·out out (known (to 𝓤 H A mem run kept x-a κ·out q·out b·out o·out γ·out n·out out))
+  pub calls-last : K → (mem : Memory → SProp 𝓤) (run : Routine → Fun 𝓤) → FmC 𝓤 H (W .laws) C → Triple 𝓤 (C #callee) (Asked 𝓤 H A mem run) → (kept : Kept) (x-a : Formatted) → Is Kept′.row kept (Kept′.vals kept) → Is Formatted′.row x-a (Formatted′.vals x-a) →
+      Opds K W (raw (Asked 𝓤 H A mem run .pre (to 𝓤 H A mem run kept x-a)) ∷ Γ) E xs (Kept′.mach kept ∷ Formatted′.mach x-a ∷ [])
+      → (Is Turn′.row (format-turn″.res kept x-a) (Turn′.vals (format-turn″.res kept x-a)) → Seq K W (Γ) (settles E d (Turn′.mach (format-turn″.res kept x-a)) Q))
+      → Seq K W (Γ) (runs C Λ E (call #callee xs d) Q)
+  calls-last t mem run fm known kept x-a = calls-last-by t mem run fm kept x-a (known (to 𝓤 H A mem run kept x-a))

@@ -5,7 +5,7 @@ use Prim.Native.Nat.{ℕ, min}
 use mathlib.Core.List.{List}
 use mathlib.Core.Bool.{Bool}
 use mathlib.Core.Path.{_≡_}
-use Rattle.answers.specs.Answers.{turned, written, refusedSaid, replied, holding, opening, formatSaid, bytesSaid, readSaid, begunReply, putReply, assignedReply, wovenReply, publishedReply, branchedReply, sizedReply, latestReply, stampedReply}
+use Rattle.answers.specs.Answers.{turned, plainly, refusedSaid, replied, opening, formatSaid, beginSaid, putSaid, assignSaid, weaveSaid, publishSaid, branchSaid, sizeSaid, recentSaid, stampSaid, bytesSaid, readSaid}
 use Rattle.answers.specs.declared.Kept.{Kept}
 use Rattle.answers.specs.declared.Turn.{Turn}
 use Rattle.format.specs.declared.Formatted.{Formatted}
@@ -14,11 +14,8 @@ use Rattle.versions.specs.declared.Store.{Store}
 use Rattle.windows.specs.declared.Window.{Window}
 use Rattle.windows.specs.declared.Windows.{Windows}
 
-abbrev pub ens : Kept → Formatted → List ℕ → List ℕ → Turn → Type 0
-ens kept a out out′ r = (r ≡ turned (formatSaid kept a) out) × (out′ ≡ written (formatSaid kept a) out)
+abbrev pub ens : Kept → Formatted → Turn → Type 0
+ens kept a r = r ≡ turned (formatSaid kept a)
 
-abbrev pub res : Kept → Formatted → List ℕ → Turn
-res kept a out = turned (formatSaid kept a) out
-
-abbrev pub out-out : Kept → Formatted → List ℕ → List ℕ
-out-out kept a out = written (formatSaid kept a) out
+abbrev pub res : Kept → Formatted → Turn
+res kept a = turned (formatSaid kept a)

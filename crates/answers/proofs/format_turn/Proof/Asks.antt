@@ -26,32 +26,25 @@ use Rattle.print.specs.declared.Reply.{Reply}
 use Rattle.answers.proofs.Generated.Kind.Reply as Reply′
 use Rattle.answers.proofs.Generated.Say.format_turn as format-turn″
 use Rattle.answers.proofs.Generated.Say.opened as opened″
-use Rattle.answers.proofs.Generated.Say.reply_turn as reply-turn″
-use Rattle.answers.proofs.Generated.Say.write_reply as write-reply″
+use Rattle.answers.proofs.Generated.Say.plain_turn as plain-turn″
 
-abbrev pub r1 : Kept → Formatted → List ℕ → Store → Windows → Kept
-r1 kept x-a out y1-0 y1-1 = opened″.res y1-0
+abbrev pub r1 : Kept → Formatted → Store → Windows → Kept
+r1 kept x-a y1-0 y1-1 = opened″.res y1-0
 
-abbrev pub r2 : Kept → Formatted → List ℕ → Store → Windows → Turn
-r2 kept x-a out y1-0 y1-1 = reply-turn″.res (r1 kept x-a out y1-0 y1-1) Reply.Ok out
+abbrev pub r2 : Kept → Formatted → Store → Windows → Turn
+r2 kept x-a y1-0 y1-1 = plain-turn″.res (r1 kept x-a y1-0 y1-1) Reply.Ok
 
-abbrev pub out₂ : Kept → Formatted → List ℕ → Store → Windows → List ℕ
-out₂ kept x-a out y1-0 y1-1 = reply-turn″.out-out (r1 kept x-a out y1-0 y1-1) Reply.Ok out
+abbrev pub r3 : Kept → Formatted → ℕ → Turn
+r3 kept x-a y1-0 = plain-turn″.res kept (Reply.Refused y1-0)
 
-abbrev pub r3 : Kept → Formatted → List ℕ → ℕ → ℕ
-r3 kept x-a out y1-0 = write-reply″.res (Reply.Refused y1-0) out
-
-abbrev pub out₃ : Kept → Formatted → List ℕ → ℕ → List ℕ
-out₃ kept x-a out y1-0 = write-reply″.out-out (Reply.Refused y1-0) out
-
--- the function ensures: (r ≡ turned (formatSaid kept a) out) × (out′ ≡ written (formatSaid kept a) out)
+-- the function ensures: r ≡ turned (formatSaid kept a)
 abbrev pub exit-1 : Type 0
 exit-1 =
-    (kept : Kept) (x-a : Formatted) (out : List ℕ) (ok-kept : Kept′.Ok kept) (ok-x-a : Formatted′.Ok x-a) (len-out : length out < 2 ^ 64) (y1-0 : Store) (y1-1 : Windows) (m1 : x-a ≡ Formatted.Made y1-0 y1-1) (ok-y1-0 : Store′.Ok y1-0) (ok-y1-1 : Windows′.Ok y1-1) (ok-r1 : Kept′.Ok (r1 kept x-a out y1-0 y1-1)) (ok-r2 : Turn′.Ok (r2 kept x-a out y1-0 y1-1)) (same2-out : length (out₂ kept x-a out y1-0 y1-1) ≡ length out)
-    → format-turn″.ens kept x-a out (out₂ kept x-a out y1-0 y1-1) (r2 kept x-a out y1-0 y1-1)
+    (kept : Kept) (x-a : Formatted) (ok-kept : Kept′.Ok kept) (ok-x-a : Formatted′.Ok x-a) (y1-0 : Store) (y1-1 : Windows) (m1 : x-a ≡ Formatted.Made y1-0 y1-1) (ok-y1-0 : Store′.Ok y1-0) (ok-y1-1 : Windows′.Ok y1-1) (ok-r1 : Kept′.Ok (r1 kept x-a y1-0 y1-1)) (ok-r2 : Turn′.Ok (r2 kept x-a y1-0 y1-1))
+    → format-turn″.ens kept x-a (r2 kept x-a y1-0 y1-1)
 
--- the function ensures: (r ≡ turned (formatSaid kept a) out) × (out′ ≡ written (formatSaid kept a) out)
+-- the function ensures: r ≡ turned (formatSaid kept a)
 abbrev pub exit-2 : Type 0
 exit-2 =
-    (kept : Kept) (x-a : Formatted) (out : List ℕ) (ok-kept : Kept′.Ok kept) (ok-x-a : Formatted′.Ok x-a) (len-out : length out < 2 ^ 64) (y1-0 : ℕ) (m1 : x-a ≡ Formatted.Refused y1-0) (fits-y1-0 : y1-0 < 2 ^ 64) (fits-r3 : (r3 kept x-a out y1-0) < 2 ^ 64) (same3-out : length (out₃ kept x-a out y1-0) ≡ length out)
-    → format-turn″.ens kept x-a out (out₃ kept x-a out y1-0) (Turn′.build kept (r3 kept x-a out y1-0))
+    (kept : Kept) (x-a : Formatted) (ok-kept : Kept′.Ok kept) (ok-x-a : Formatted′.Ok x-a) (y1-0 : ℕ) (m1 : x-a ≡ Formatted.Refused y1-0) (fits-y1-0 : y1-0 < 2 ^ 64) (ok-r3 : Turn′.Ok (r3 kept x-a y1-0))
+    → format-turn″.ens kept x-a (r3 kept x-a y1-0)

@@ -56,53 +56,54 @@ module _ {M : Type 1} (𝓤 : URA M) (H : Heap 𝓤) (A : Atoms 𝓤) (mem : Mem
   abbrev pub Asked : Contract 𝓤
   Asked = tripleOf 𝓤 H A callee.signature (callee.spec 𝓤 H A mem run)
 
-  abbrev pub to : (kept : Kept) (step : Fill) (κ·pages : Lft) (q·pages : Share) (b·pages o·pages : ℕ) (γ·pages : GName) (n·pages : ℕ) (pages : List ℕ) (κ·nodes : Lft) (q·nodes : Share) (b·nodes o·nodes : ℕ) (γ·nodes : GName) (n·nodes : ℕ) (nodes : List ℕ) (κ·register : Lft) (q·register : Share) (b·register o·register : ℕ) (γ·register : GName) (n·register : ℕ) (register : List Record) (κ·out : Lft) (q·out : Share) (b·out o·out : ℕ) (γ·out : GName) (n·out : ℕ) (out : List ℕ) → Asked .Ghost
-  to kept step κ·pages q·pages b·pages o·pages γ·pages n·pages pages κ·nodes q·nodes b·nodes o·nodes γ·nodes n·nodes nodes κ·register q·register b·register o·register γ·register n·register register κ·out q·out b·out o·out γ·out n·out out = (((κ·pages, (κ·nodes, (κ·register, (κ·out, tt)))), (q·pages, (q·nodes, (q·register, (q·out, tt)))), tt, (kept, (step, (ref b·pages o·pages γ·pages pages, (ref b·nodes o·nodes γ·nodes nodes, (ref b·register o·register γ·register register, (ref b·out o·out γ·out out, tt)))))), (Kept′.mach kept ∷ [], (Fill′.mach step ∷ [], (sliceVal (b·pages, o·pages) n·pages ∷ [], (sliceVal (b·nodes, o·nodes) n·nodes ∷ [], (sliceVal (b·register, o·register) n·register ∷ [], (sliceVal (b·out, o·out) n·out ∷ [], tt))))))), tt)
+  abbrev pub to : (kept : Kept) (step : Fill) (κ·pages : Lft) (q·pages : Share) (b·pages o·pages : ℕ) (γ·pages : GName) (n·pages : ℕ) (pages : List ℕ) (κ·nodes : Lft) (q·nodes : Share) (b·nodes o·nodes : ℕ) (γ·nodes : GName) (n·nodes : ℕ) (nodes : List ℕ) (κ·register : Lft) (q·register : Share) (b·register o·register : ℕ) (γ·register : GName) (n·register : ℕ) (register : List Record) (κ·bytes : Lft) (q·bytes : Share) (b·bytes o·bytes : ℕ) (γ·bytes : GName) (n·bytes : ℕ) (bytes : List ℕ) → Asked .Ghost
+  to kept step κ·pages q·pages b·pages o·pages γ·pages n·pages pages κ·nodes q·nodes b·nodes o·nodes γ·nodes n·nodes nodes κ·register q·register b·register o·register γ·register n·register register κ·bytes q·bytes b·bytes o·bytes γ·bytes n·bytes bytes = (((κ·pages, (κ·nodes, (κ·register, (κ·bytes, tt)))), (q·pages, (q·nodes, (q·register, (q·bytes, tt)))), tt, (kept, (step, (ref b·pages o·pages γ·pages pages, (ref b·nodes o·nodes γ·nodes nodes, (ref b·register o·register γ·register register, (ref b·bytes o·bytes γ·bytes bytes, tt)))))), (Kept′.mach kept ∷ [], (Fill′.mach step ∷ [], (sliceVal (b·pages, o·pages) n·pages ∷ [], (sliceVal (b·nodes, o·nodes) n·nodes ∷ [], (sliceVal (b·register, o·register) n·register ∷ [], (sliceVal (b·bytes, o·bytes) n·bytes ∷ [], tt))))))), tt)
 
 module _ {M : Type 1} {𝓤 : URA M} {H : Heap 𝓤} {A : Atoms 𝓤} {K : Type 0} {W : Given 𝓤 H A} {Γ : List (Item 𝓤)} where
   -- the call itself is made by `by-call`, from what the callee asks to what it has ensured
-  core : K → (mem : Memory → SProp 𝓤) (run : Routine → Fun 𝓤) → (kept : Kept) (step : Fill) (κ·pages : Lft) (q·pages : Share) (b·pages o·pages : ℕ) (γ·pages : GName) (n·pages : ℕ) (pages : List ℕ) (κ·nodes : Lft) (q·nodes : Share) (b·nodes o·nodes : ℕ) (γ·nodes : GName) (n·nodes : ℕ) (nodes : List ℕ) (κ·register : Lft) (q·register : Share) (b·register o·register : ℕ) (γ·register : GName) (n·register : ℕ) (register : List Record) (κ·out : Lft) (q·out : Share) (b·out o·out : ℕ) (γ·out : GName) (n·out : ℕ) (out : List ℕ) → (G : Goal 𝓤 H) (after : Val → Goal 𝓤 H) → ((v : Val) → Soaks (after v))
-      → (((v : Val) → Seq K W (raw (Asked 𝓤 H A mem run .post (to 𝓤 H A mem run kept step κ·pages q·pages b·pages o·pages γ·pages n·pages pages κ·nodes q·nodes b·nodes o·nodes γ·nodes n·nodes nodes κ·register q·register b·register o·register γ·register n·register register κ·out q·out b·out o·out γ·out n·out out) v) ∷ Γ) (after v)) → Seq K W (raw (Asked 𝓤 H A mem run .pre (to 𝓤 H A mem run kept step κ·pages q·pages b·pages o·pages γ·pages n·pages pages κ·nodes q·nodes b·nodes o·nodes γ·nodes n·nodes nodes κ·register q·register b·register o·register γ·register n·register register κ·out q·out b·out o·out γ·out n·out out)) ∷ Γ) G) → Is Kept′.row kept (Kept′.vals kept) → Is Fill′.row step (Fill′.vals step) →
-      ((x·res : Turn) → (zs·pages : List ℕ) → (zs·nodes : List ℕ) → (zs·register : List Record) → (zs·out : List ℕ) → Is Turn′.row x·res (Turn′.vals x·res) → length zs·pages ≡ length pages → length zs·nodes ≡ length nodes → length zs·register ≡ length register → length zs·out ≡ length out → Seq K W (‵ (flft κ·pages q·pages) ∷ ‵ (finally u8 γ·pages zs·pages) ∷ ‵ (flft κ·nodes q·nodes) ∷ ‵ (finally u32 γ·nodes zs·nodes) ∷ ‵ (flft κ·register q·register) ∷ ‵ (finally Record′.row γ·register zs·register) ∷ ‵ (flft κ·out q·out) ∷ ‵ (finally u8 γ·out zs·out) ∷ Γ) (after (Turn′.mach x·res))) → Seq K W (‵ (flft κ·pages q·pages) ∷ ‵ (MutAt u8 κ·pages b·pages o·pages γ·pages n·pages pages) ∷ ‵ (flft κ·nodes q·nodes) ∷ ‵ (MutAt u32 κ·nodes b·nodes o·nodes γ·nodes n·nodes nodes) ∷ ‵ (flft κ·register q·register) ∷ ‵ (MutAt Record′.row κ·register b·register o·register γ·register n·register register) ∷ ‵ (flft κ·out q·out) ∷ ‵ (MutAt u8 κ·out b·out o·out γ·out n·out out) ∷ Γ) G
-  core t mem run kept step κ·pages q·pages b·pages o·pages γ·pages n·pages pages κ·nodes q·nodes b·nodes o·nodes γ·nodes n·nodes nodes κ·register q·register b·register o·register γ·register n·register register κ·out q·out b·out o·out γ·out n·out out G after soaks by-call ok·kept ok·step k =
-      move t (6 ∷ 7 ∷ []) $ join t $ move t (6 ∷ 0 ∷ []) $ join t $ move t (5 ∷ 0 ∷ []) $ join t $ move t (4 ∷ 0 ∷ []) $ join t $ move t (3 ∷ 0 ∷ []) $ join t $ move t (2 ∷ 0 ∷ []) $ join t $ move t (1 ∷ 0 ∷ []) $ join t $ use1 W (raw (Asked 𝓤 H A mem run .pre (to 𝓤 H A mem run kept step κ·pages q·pages b·pages o·pages γ·pages n·pages pages κ·nodes q·nodes b·nodes o·nodes γ·nodes n·nodes nodes κ·register q·register b·register o·register γ·register n·register register κ·out q·out b·out o·out γ·out n·out out))) goes $
+  core : K → (mem : Memory → SProp 𝓤) (run : Routine → Fun 𝓤) → (kept : Kept) (step : Fill) (κ·pages : Lft) (q·pages : Share) (b·pages o·pages : ℕ) (γ·pages : GName) (n·pages : ℕ) (pages : List ℕ) (κ·nodes : Lft) (q·nodes : Share) (b·nodes o·nodes : ℕ) (γ·nodes : GName) (n·nodes : ℕ) (nodes : List ℕ) (κ·register : Lft) (q·register : Share) (b·register o·register : ℕ) (γ·register : GName) (n·register : ℕ) (register : List Record) (κ·bytes : Lft) (q·bytes : Share) (b·bytes o·bytes : ℕ) (γ·bytes : GName) (n·bytes : ℕ) (bytes : List ℕ) → (G : Goal 𝓤 H) (after : Val → Goal 𝓤 H) → ((v : Val) → Soaks (after v))
+      → (((v : Val) → Seq K W (raw (Asked 𝓤 H A mem run .post (to 𝓤 H A mem run kept step κ·pages q·pages b·pages o·pages γ·pages n·pages pages κ·nodes q·nodes b·nodes o·nodes γ·nodes n·nodes nodes κ·register q·register b·register o·register γ·register n·register register κ·bytes q·bytes b·bytes o·bytes γ·bytes n·bytes bytes) v) ∷ ‵ (ShrAt u8 κ·bytes b·bytes o·bytes γ·bytes n·bytes bytes) ∷ Γ) (after v)) → Seq K W (raw (Asked 𝓤 H A mem run .pre (to 𝓤 H A mem run kept step κ·pages q·pages b·pages o·pages γ·pages n·pages pages κ·nodes q·nodes b·nodes o·nodes γ·nodes n·nodes nodes κ·register q·register b·register o·register γ·register n·register register κ·bytes q·bytes b·bytes o·bytes γ·bytes n·bytes bytes)) ∷ ‵ (ShrAt u8 κ·bytes b·bytes o·bytes γ·bytes n·bytes bytes) ∷ Γ) G) → Is Kept′.row kept (Kept′.vals kept) → Is Fill′.row step (Fill′.vals step) →
+      (Is Turn′.row (fill-step″.res kept step pages nodes register bytes) (Turn′.vals (fill-step″.res kept step pages nodes register bytes)) → length (fill-step″.out-pages kept step pages nodes register bytes) ≡ length pages → length (fill-step″.out-nodes kept step pages nodes register bytes) ≡ length nodes → length (fill-step″.out-register kept step pages nodes register bytes) ≡ length register → Seq K W (‵ (flft κ·pages q·pages) ∷ ‵ (finally u8 γ·pages (fill-step″.out-pages kept step pages nodes register bytes)) ∷ ‵ (flft κ·nodes q·nodes) ∷ ‵ (finally u32 γ·nodes (fill-step″.out-nodes kept step pages nodes register bytes)) ∷ ‵ (flft κ·register q·register) ∷ ‵ (finally Record′.row γ·register (fill-step″.out-register kept step pages nodes register bytes)) ∷ ‵ (flft κ·bytes q·bytes) ∷ ‵ (ShrAt u8 κ·bytes b·bytes o·bytes γ·bytes n·bytes bytes) ∷ Γ) (after (Turn′.mach (fill-step″.res kept step pages nodes register bytes)))) → Seq K W (‵ (flft κ·pages q·pages) ∷ ‵ (MutAt u8 κ·pages b·pages o·pages γ·pages n·pages pages) ∷ ‵ (flft κ·nodes q·nodes) ∷ ‵ (MutAt u32 κ·nodes b·nodes o·nodes γ·nodes n·nodes nodes) ∷ ‵ (flft κ·register q·register) ∷ ‵ (MutAt Record′.row κ·register b·register o·register γ·register n·register register) ∷ ‵ (flft κ·bytes q·bytes) ∷ ‵ (ShrAt u8 κ·bytes b·bytes o·bytes γ·bytes n·bytes bytes) ∷ Γ) G
+  core t mem run kept step κ·pages q·pages b·pages o·pages γ·pages n·pages pages κ·nodes q·nodes b·nodes o·nodes γ·nodes n·nodes nodes κ·register q·register b·register o·register γ·register n·register register κ·bytes q·bytes b·bytes o·bytes γ·bytes n·bytes bytes G after soaks by-call ok·kept ok·step k =
+      move t (7 ∷ []) $ keeps-shr t u8 κ·bytes b·bytes o·bytes γ·bytes n·bytes bytes $ move t (2 ∷ 3 ∷ 4 ∷ 5 ∷ 6 ∷ 7 ∷ 8 ∷ 0 ∷ 1 ∷ []) $
+      move t (6 ∷ 7 ∷ []) $ join t $ move t (6 ∷ 0 ∷ []) $ join t $ move t (5 ∷ 0 ∷ []) $ join t $ move t (4 ∷ 0 ∷ []) $ join t $ move t (3 ∷ 0 ∷ []) $ join t $ move t (2 ∷ 0 ∷ []) $ join t $ move t (1 ∷ 0 ∷ []) $ join t $ use1 W (raw (Asked 𝓤 H A mem run .pre (to 𝓤 H A mem run kept step κ·pages q·pages b·pages o·pages γ·pages n·pages pages κ·nodes q·nodes b·nodes o·nodes γ·nodes n·nodes nodes κ·register q·register b·register o·register γ·register n·register register κ·bytes q·bytes b·bytes o·bytes γ·bytes n·bytes bytes))) goes $
       by-call (λ v.
-      use1 W (later (some (λ (r· : Turn). ((‵ (flft κ·pages q·pages) ⊛ ‵ (flft κ·nodes q·nodes) ⊛ ‵ (flft κ·register q·register) ⊛ ‵ (flft κ·out q·out) ⊛ ‵ ftrue) ⊛ ‵ (Turn′.row .own r· (v ∷ []))) ⊛ raw (ensured 𝓤 H A callee.ended (callee.clauses 𝓤 H A mem run) (κ·pages, (κ·nodes, (κ·register, (κ·out, tt)))) (kept, (step, (ref b·pages o·pages γ·pages pages, (ref b·nodes o·nodes γ·nodes nodes, (ref b·register o·register γ·register register, (ref b·out o·out γ·out out, tt)))))) tt r·)))) (id⊢ 𝓤 _) $ await t (soaks v) $ pick t (λ r·. split t $ move t (1 ∷ []) $
-      use1 W (some (λ (ws : Lasts callee.ended (κ·pages, (κ·nodes, (κ·register, (κ·out, tt)))) (kept, (step, (ref b·pages o·pages γ·pages pages, (ref b·nodes o·nodes γ·nodes nodes, (ref b·register o·register γ·register register, (ref b·out o·out γ·out out, tt))))))). ‵ (lasts callee.ended (κ·pages, (κ·nodes, (κ·register, (κ·out, tt)))) (kept, (step, (ref b·pages o·pages γ·pages pages, (ref b·nodes o·nodes γ·nodes nodes, (ref b·register o·register γ·register register, (ref b·out o·out γ·out out, tt)))))) ws) ⊛ raw (emp 𝓤))) (id⊢ 𝓤 _) $ pick t (λ ws. split t $ move t (1 ∷ []) $
-      drop t $ fsplit t $ drop t $ fsplit t $ drop t $ fsplit t $ fsplit t $ move t (1 ∷ []) $ feqL t (λ same·pages. move t (1 ∷ []) $ fsplit t $ fsplit t $ move t (1 ∷ []) $ feqL t (λ same·nodes. move t (1 ∷ []) $ fsplit t $ fsplit t $ move t (1 ∷ []) $ feqL t (λ same·register. move t (1 ∷ []) $ fsplit t $ fsplit t $ move t (1 ∷ []) $ feqL t (λ same·out. move t (1 ∷ []) $ drop t $ move t (4 ∷ []) $ split t $ move t (1 ∷ []) $ facts t Turn′.row (Is Turn′.row) (shows 𝓤 H A Turn′.row) r· (v ∷ []) (λ is. split t $ move t (1 ∷ []) $ split t $ move t (1 ∷ []) $ split t $ move t (1 ∷ []) $ split t $ move t (1 ∷ []) $ drop t $ move t (3 ∷ 7 ∷ 2 ∷ 6 ∷ 1 ∷ 5 ∷ 0 ∷ 4 ∷ []) $
-      subst (λ (u : Val). Seq K W (‵ (flft κ·pages q·pages) ∷ ‵ (finally u8 γ·pages (ws .1 .1 .0)) ∷ ‵ (flft κ·nodes q·nodes) ∷ ‵ (finally u32 γ·nodes (ws .1 .1 .1 .0)) ∷ ‵ (flft κ·register q·register) ∷ ‵ (finally Record′.row γ·register (ws .1 .1 .1 .1 .0)) ∷ ‵ (flft κ·out q·out) ∷ ‵ (finally u8 γ·out (ws .1 .1 .1 .1 .1 .0)) ∷ Γ) (after u)) (sym (ap only (Turn′.tells r· (v ∷ []) is))) (k r· (ws .1 .1 .0) (ws .1 .1 .1 .0) (ws .1 .1 .1 .1 .0) (ws .1 .1 .1 .1 .1 .0) (subst (Is Turn′.row r·) (Turn′.tells r· (v ∷ []) is) is) same·pages same·nodes same·register same·out)))))))))
+      use1 W (later (some (λ (r· : Turn). ((‵ (flft κ·pages q·pages) ⊛ ‵ (flft κ·nodes q·nodes) ⊛ ‵ (flft κ·register q·register) ⊛ ‵ (flft κ·bytes q·bytes) ⊛ ‵ ftrue) ⊛ ‵ (Turn′.row .own r· (v ∷ []))) ⊛ raw (ensured 𝓤 H A callee.ended (callee.clauses 𝓤 H A mem run) (κ·pages, (κ·nodes, (κ·register, (κ·bytes, tt)))) (kept, (step, (ref b·pages o·pages γ·pages pages, (ref b·nodes o·nodes γ·nodes nodes, (ref b·register o·register γ·register register, (ref b·bytes o·bytes γ·bytes bytes, tt)))))) tt r·)))) (id⊢ 𝓤 _) $ await t (soaks v) $ pick t (λ r·. split t $ move t (1 ∷ []) $
+      use1 W (some (λ (ws : Lasts callee.ended (κ·pages, (κ·nodes, (κ·register, (κ·bytes, tt)))) (kept, (step, (ref b·pages o·pages γ·pages pages, (ref b·nodes o·nodes γ·nodes nodes, (ref b·register o·register γ·register register, (ref b·bytes o·bytes γ·bytes bytes, tt))))))). ‵ (lasts callee.ended (κ·pages, (κ·nodes, (κ·register, (κ·bytes, tt)))) (kept, (step, (ref b·pages o·pages γ·pages pages, (ref b·nodes o·nodes γ·nodes nodes, (ref b·register o·register γ·register register, (ref b·bytes o·bytes γ·bytes bytes, tt)))))) ws) ⊛ raw (fact 𝓤 (fill-step″.ens kept step pages nodes register bytes (ws .1 .1 .0) (ws .1 .1 .1 .0) (ws .1 .1 .1 .1 .0) r·)))) (id⊢ 𝓤 _) $ pick t (λ ws. split t $ move t (1 ∷ []) $
+      heard t (fill-step″.ens kept step pages nodes register bytes (ws .1 .1 .0) (ws .1 .1 .1 .0) (ws .1 .1 .1 .1 .0) r·) (λ e. fsplit t $ drop t $ fsplit t $ drop t $ fsplit t $ fsplit t $ move t (1 ∷ []) $ feqL t (λ same·pages. move t (1 ∷ []) $ fsplit t $ fsplit t $ move t (1 ∷ []) $ feqL t (λ same·nodes. move t (1 ∷ []) $ fsplit t $ fsplit t $ move t (1 ∷ []) $ feqL t (λ same·register. move t (1 ∷ []) $ fsplit t $ drop t $ drop t $ move t (3 ∷ []) $ split t $ move t (1 ∷ []) $ facts t Turn′.row (Is Turn′.row) (shows 𝓤 H A Turn′.row) r· (v ∷ []) (λ is. split t $ move t (1 ∷ []) $ split t $ move t (1 ∷ []) $ split t $ move t (1 ∷ []) $ split t $ move t (1 ∷ []) $ drop t $ move t (3 ∷ 6 ∷ 2 ∷ 5 ∷ 1 ∷ 4 ∷ 0 ∷ 7 ∷ []) $
+      rewrite t 1 (λ (zs : List ℕ). ‵ (finally u8 γ·pages zs)) (e .1) refl $ rewrite t 3 (λ (zs : List ℕ). ‵ (finally u32 γ·nodes zs)) (e .2) refl $ rewrite t 5 (λ (zs : List Record). ‵ (finally Record′.row γ·register zs)) (e .3) refl $ subst (λ (u : Val). Seq K W (‵ (flft κ·pages q·pages) ∷ ‵ (finally u8 γ·pages (fill-step″.out-pages kept step pages nodes register bytes)) ∷ ‵ (flft κ·nodes q·nodes) ∷ ‵ (finally u32 γ·nodes (fill-step″.out-nodes kept step pages nodes register bytes)) ∷ ‵ (flft κ·register q·register) ∷ ‵ (finally Record′.row γ·register (fill-step″.out-register kept step pages nodes register bytes)) ∷ ‵ (flft κ·bytes q·bytes) ∷ ‵ (ShrAt u8 κ·bytes b·bytes o·bytes γ·bytes n·bytes bytes) ∷ Γ) (after u)) (sym (ap only (Turn′.tells r· (v ∷ []) is) ∙ ap (λ (z : Turn). Turn′.mach z) (e .0))) (k (subst (λ (z : Turn). Is Turn′.row z (Turn′.vals z)) (e .0) (subst (Is Turn′.row r·) (Turn′.tells r· (v ∷ []) is) is)) (subst (λ (zs : List ℕ). length zs ≡ length pages) (e .1) same·pages) (subst (λ (zs : List ℕ). length zs ≡ length nodes) (e .2) same·nodes) (subst (λ (zs : List Record). length zs ≡ length register) (e .3) same·register))))))))))
     where
-      goes : ent 𝓤 (⋆ 𝓤 H A (‵ (flft κ·pages q·pages) ∷ ‵ (MutAt u8 κ·pages b·pages o·pages γ·pages n·pages pages) ∷ ‵ (flft κ·nodes q·nodes) ∷ ‵ (MutAt u32 κ·nodes b·nodes o·nodes γ·nodes n·nodes nodes) ∷ ‵ (flft κ·register q·register) ∷ ‵ (MutAt Record′.row κ·register b·register o·register γ·register n·register register) ∷ ‵ (flft κ·out q·out) ∷ ‵ (MutAt u8 κ·out b·out o·out γ·out n·out out) ∷ [])) (Asked 𝓤 H A mem run .pre (to 𝓤 H A mem run kept step κ·pages q·pages b·pages o·pages γ·pages n·pages pages κ·nodes q·nodes b·nodes o·nodes γ·nodes n·nodes nodes κ·register q·register b·register o·register γ·register n·register register κ·out q·out b·out o·out γ·out n·out out))
-      goes = qed W (‵ (flft κ·pages q·pages) ∷ ‵ (MutAt u8 κ·pages b·pages o·pages γ·pages n·pages pages) ∷ ‵ (flft κ·nodes q·nodes) ∷ ‵ (MutAt u32 κ·nodes b·nodes o·nodes γ·nodes n·nodes nodes) ∷ ‵ (flft κ·register q·register) ∷ ‵ (MutAt Record′.row κ·register b·register o·register γ·register n·register register) ∷ ‵ (flft κ·out q·out) ∷ ‵ (MutAt u8 κ·out b·out o·out γ·out n·out out) ∷ []) ∵ plus-nothing ! $ nothing ! $ move ! (7 ∷ 0 ∷ []) $ join ! $ move ! (5 ∷ 0 ∷ []) $ join ! $ move ! (3 ∷ 0 ∷ []) $ join ! $ move ! (1 ∷ 0 ∷ []) $ join ! $ frame ! $ nothing ! $ move ! (4 ∷ 0 ∷ []) $ fjoin ! $ move ! (3 ∷ 0 ∷ []) $ fjoin ! $ move ! (2 ∷ 0 ∷ []) $ fjoin ! $ move ! (1 ∷ 0 ∷ []) $ fjoin ! $ owned ! Fill′.row (Is Fill′.row) (Fill′.makes 𝓤 H A) step _ ok·step $ fjoin ! $ owned ! Kept′.row (Is Kept′.row) (Kept′.makes 𝓤 H A) kept _ ok·kept $ fjoin ! $ done !
+      goes : ent 𝓤 (⋆ 𝓤 H A (‵ (flft κ·pages q·pages) ∷ ‵ (MutAt u8 κ·pages b·pages o·pages γ·pages n·pages pages) ∷ ‵ (flft κ·nodes q·nodes) ∷ ‵ (MutAt u32 κ·nodes b·nodes o·nodes γ·nodes n·nodes nodes) ∷ ‵ (flft κ·register q·register) ∷ ‵ (MutAt Record′.row κ·register b·register o·register γ·register n·register register) ∷ ‵ (flft κ·bytes q·bytes) ∷ ‵ (ShrAt u8 κ·bytes b·bytes o·bytes γ·bytes n·bytes bytes) ∷ [])) (Asked 𝓤 H A mem run .pre (to 𝓤 H A mem run kept step κ·pages q·pages b·pages o·pages γ·pages n·pages pages κ·nodes q·nodes b·nodes o·nodes γ·nodes n·nodes nodes κ·register q·register b·register o·register γ·register n·register register κ·bytes q·bytes b·bytes o·bytes γ·bytes n·bytes bytes))
+      goes = qed W (‵ (flft κ·pages q·pages) ∷ ‵ (MutAt u8 κ·pages b·pages o·pages γ·pages n·pages pages) ∷ ‵ (flft κ·nodes q·nodes) ∷ ‵ (MutAt u32 κ·nodes b·nodes o·nodes γ·nodes n·nodes nodes) ∷ ‵ (flft κ·register q·register) ∷ ‵ (MutAt Record′.row κ·register b·register o·register γ·register n·register register) ∷ ‵ (flft κ·bytes q·bytes) ∷ ‵ (ShrAt u8 κ·bytes b·bytes o·bytes γ·bytes n·bytes bytes) ∷ []) ∵ plus-nothing ! $ nothing ! $ move ! (7 ∷ 0 ∷ []) $ join ! $ move ! (5 ∷ 0 ∷ []) $ join ! $ move ! (3 ∷ 0 ∷ []) $ join ! $ move ! (1 ∷ 0 ∷ []) $ join ! $ frame ! $ nothing ! $ move ! (4 ∷ 0 ∷ []) $ fjoin ! $ move ! (3 ∷ 0 ∷ []) $ fjoin ! $ move ! (2 ∷ 0 ∷ []) $ fjoin ! $ move ! (1 ∷ 0 ∷ []) $ fjoin ! $ owned ! Fill′.row (Is Fill′.row) (Fill′.makes 𝓤 H A) step _ ok·step $ fjoin ! $ owned ! Kept′.row (Is Kept′.row) (Kept′.makes 𝓤 H A) kept _ ok·kept $ fjoin ! $ done !
 
 module _ {M : Type 1} {𝓤 : URA M} {H : Heap 𝓤} {A : Atoms 𝓤} {K : Type 0} {W : Given 𝓤 H A} {Γ : List (Item 𝓤)} {E : Env 𝓤 H} {C : Calls 𝓤 H} {Λ : Loops 𝓤 H} {Q : Post 𝓤 H} {xs : List Operand} {d : Place} {rest : Body} where
   -- by one instance of the callee's contract, which is what a function that calls itself has
-  pub calls-by : K → (mem : Memory → SProp 𝓤) (run : Routine → Fun 𝓤) → FmC 𝓤 H (W .laws) C → (kept : Kept) (step : Fill) (κ·pages : Lft) (q·pages : Share) (b·pages o·pages : ℕ) (γ·pages : GName) (n·pages : ℕ) (pages : List ℕ) (κ·nodes : Lft) (q·nodes : Share) (b·nodes o·nodes : ℕ) (γ·nodes : GName) (n·nodes : ℕ) (nodes : List ℕ) (κ·register : Lft) (q·register : Share) (b·register o·register : ℕ) (γ·register : GName) (n·register : ℕ) (register : List Record) (κ·out : Lft) (q·out : Share) (b·out o·out : ℕ) (γ·out : GName) (n·out : ℕ) (out : List ℕ) → ent 𝓤 (Asked 𝓤 H A mem run .pre (to 𝓤 H A mem run kept step κ·pages q·pages b·pages o·pages γ·pages n·pages pages κ·nodes q·nodes b·nodes o·nodes γ·nodes n·nodes nodes κ·register q·register b·register o·register γ·register n·register register κ·out q·out b·out o·out γ·out n·out out)) (C #callee (Asked 𝓤 H A mem run .args (to 𝓤 H A mem run kept step κ·pages q·pages b·pages o·pages γ·pages n·pages pages κ·nodes q·nodes b·nodes o·nodes γ·nodes n·nodes nodes κ·register q·register b·register o·register γ·register n·register register κ·out q·out b·out o·out γ·out n·out out)) (Asked 𝓤 H A mem run .post (to 𝓤 H A mem run kept step κ·pages q·pages b·pages o·pages γ·pages n·pages pages κ·nodes q·nodes b·nodes o·nodes γ·nodes n·nodes nodes κ·register q·register b·register o·register γ·register n·register register κ·out q·out b·out o·out γ·out n·out out))) → Is Kept′.row kept (Kept′.vals kept) → Is Fill′.row step (Fill′.vals step) →
-      Opds K W (raw (Asked 𝓤 H A mem run .pre (to 𝓤 H A mem run kept step κ·pages q·pages b·pages o·pages γ·pages n·pages pages κ·nodes q·nodes b·nodes o·nodes γ·nodes n·nodes nodes κ·register q·register b·register o·register γ·register n·register register κ·out q·out b·out o·out γ·out n·out out)) ∷ Γ) E xs (Kept′.mach kept ∷ Fill′.mach step ∷ sliceVal (b·pages, o·pages) n·pages ∷ sliceVal (b·nodes, o·nodes) n·nodes ∷ sliceVal (b·register, o·register) n·register ∷ sliceVal (b·out, o·out) n·out ∷ [])
-      → ((x·res : Turn) → (zs·pages : List ℕ) → (zs·nodes : List ℕ) → (zs·register : List Record) → (zs·out : List ℕ) → Is Turn′.row x·res (Turn′.vals x·res) → length zs·pages ≡ length pages → length zs·nodes ≡ length nodes → length zs·register ≡ length register → length zs·out ≡ length out → Seq K W (‵ (flft κ·pages q·pages) ∷ ‵ (finally u8 γ·pages zs·pages) ∷ ‵ (flft κ·nodes q·nodes) ∷ ‵ (finally u32 γ·nodes zs·nodes) ∷ ‵ (flft κ·register q·register) ∷ ‵ (finally Record′.row γ·register zs·register) ∷ ‵ (flft κ·out q·out) ∷ ‵ (finally u8 γ·out zs·out) ∷ Γ) (lands C Λ E d (Turn′.mach x·res) rest Q))
-      → Seq K W (‵ (flft κ·pages q·pages) ∷ ‵ (MutAt u8 κ·pages b·pages o·pages γ·pages n·pages pages) ∷ ‵ (flft κ·nodes q·nodes) ∷ ‵ (MutAt u32 κ·nodes b·nodes o·nodes γ·nodes n·nodes nodes) ∷ ‵ (flft κ·register q·register) ∷ ‵ (MutAt Record′.row κ·register b·register o·register γ·register n·register register) ∷ ‵ (flft κ·out q·out) ∷ ‵ (MutAt u8 κ·out b·out o·out γ·out n·out out) ∷ Γ) (runs C Λ E (seq (call #callee xs d) rest) Q)
-  calls-by t mem run fm kept step κ·pages q·pages b·pages o·pages γ·pages n·pages pages κ·nodes q·nodes b·nodes o·nodes γ·nodes n·nodes nodes κ·register q·register b·register o·register γ·register n·register register κ·out q·out b·out o·out γ·out n·out out known ok·kept ok·step os k =
-      core t mem run kept step κ·pages q·pages b·pages o·pages γ·pages n·pages pages κ·nodes q·nodes b·nodes o·nodes γ·nodes n·nodes nodes κ·register q·register b·register o·register γ·register n·register register κ·out q·out b·out o·out γ·out n·out out (runs C Λ E (seq (call #callee xs d) rest) Q) (λ v. lands C Λ E d v rest Q) (λ v. tt)
-      (λ h. calls-from t fm (raw (Asked 𝓤 H A mem run .pre (to 𝓤 H A mem run kept step κ·pages q·pages b·pages o·pages γ·pages n·pages pages κ·nodes q·nodes b·nodes o·nodes γ·nodes n·nodes nodes κ·register q·register b·register o·register γ·register n·register register κ·out q·out b·out o·out γ·out n·out out))) (Asked 𝓤 H A mem run .args (to 𝓤 H A mem run kept step κ·pages q·pages b·pages o·pages γ·pages n·pages pages κ·nodes q·nodes b·nodes o·nodes γ·nodes n·nodes nodes κ·register q·register b·register o·register γ·register n·register register κ·out q·out b·out o·out γ·out n·out out)) (Asked 𝓤 H A mem run .post (to 𝓤 H A mem run kept step κ·pages q·pages b·pages o·pages γ·pages n·pages pages κ·nodes q·nodes b·nodes o·nodes γ·nodes n·nodes nodes κ·register q·register b·register o·register γ·register n·register register κ·out q·out b·out o·out γ·out n·out out)) known os h) ok·kept ok·step k
+  pub calls-by : K → (mem : Memory → SProp 𝓤) (run : Routine → Fun 𝓤) → FmC 𝓤 H (W .laws) C → (kept : Kept) (step : Fill) (κ·pages : Lft) (q·pages : Share) (b·pages o·pages : ℕ) (γ·pages : GName) (n·pages : ℕ) (pages : List ℕ) (κ·nodes : Lft) (q·nodes : Share) (b·nodes o·nodes : ℕ) (γ·nodes : GName) (n·nodes : ℕ) (nodes : List ℕ) (κ·register : Lft) (q·register : Share) (b·register o·register : ℕ) (γ·register : GName) (n·register : ℕ) (register : List Record) (κ·bytes : Lft) (q·bytes : Share) (b·bytes o·bytes : ℕ) (γ·bytes : GName) (n·bytes : ℕ) (bytes : List ℕ) → ent 𝓤 (Asked 𝓤 H A mem run .pre (to 𝓤 H A mem run kept step κ·pages q·pages b·pages o·pages γ·pages n·pages pages κ·nodes q·nodes b·nodes o·nodes γ·nodes n·nodes nodes κ·register q·register b·register o·register γ·register n·register register κ·bytes q·bytes b·bytes o·bytes γ·bytes n·bytes bytes)) (C #callee (Asked 𝓤 H A mem run .args (to 𝓤 H A mem run kept step κ·pages q·pages b·pages o·pages γ·pages n·pages pages κ·nodes q·nodes b·nodes o·nodes γ·nodes n·nodes nodes κ·register q·register b·register o·register γ·register n·register register κ·bytes q·bytes b·bytes o·bytes γ·bytes n·bytes bytes)) (Asked 𝓤 H A mem run .post (to 𝓤 H A mem run kept step κ·pages q·pages b·pages o·pages γ·pages n·pages pages κ·nodes q·nodes b·nodes o·nodes γ·nodes n·nodes nodes κ·register q·register b·register o·register γ·register n·register register κ·bytes q·bytes b·bytes o·bytes γ·bytes n·bytes bytes))) → Is Kept′.row kept (Kept′.vals kept) → Is Fill′.row step (Fill′.vals step) →
+      Opds K W (raw (Asked 𝓤 H A mem run .pre (to 𝓤 H A mem run kept step κ·pages q·pages b·pages o·pages γ·pages n·pages pages κ·nodes q·nodes b·nodes o·nodes γ·nodes n·nodes nodes κ·register q·register b·register o·register γ·register n·register register κ·bytes q·bytes b·bytes o·bytes γ·bytes n·bytes bytes)) ∷ ‵ (ShrAt u8 κ·bytes b·bytes o·bytes γ·bytes n·bytes bytes) ∷ Γ) E xs (Kept′.mach kept ∷ Fill′.mach step ∷ sliceVal (b·pages, o·pages) n·pages ∷ sliceVal (b·nodes, o·nodes) n·nodes ∷ sliceVal (b·register, o·register) n·register ∷ sliceVal (b·bytes, o·bytes) n·bytes ∷ [])
+      → (Is Turn′.row (fill-step″.res kept step pages nodes register bytes) (Turn′.vals (fill-step″.res kept step pages nodes register bytes)) → length (fill-step″.out-pages kept step pages nodes register bytes) ≡ length pages → length (fill-step″.out-nodes kept step pages nodes register bytes) ≡ length nodes → length (fill-step″.out-register kept step pages nodes register bytes) ≡ length register → Seq K W (‵ (flft κ·pages q·pages) ∷ ‵ (finally u8 γ·pages (fill-step″.out-pages kept step pages nodes register bytes)) ∷ ‵ (flft κ·nodes q·nodes) ∷ ‵ (finally u32 γ·nodes (fill-step″.out-nodes kept step pages nodes register bytes)) ∷ ‵ (flft κ·register q·register) ∷ ‵ (finally Record′.row γ·register (fill-step″.out-register kept step pages nodes register bytes)) ∷ ‵ (flft κ·bytes q·bytes) ∷ ‵ (ShrAt u8 κ·bytes b·bytes o·bytes γ·bytes n·bytes bytes) ∷ Γ) (lands C Λ E d (Turn′.mach (fill-step″.res kept step pages nodes register bytes)) rest Q))
+      → Seq K W (‵ (flft κ·pages q·pages) ∷ ‵ (MutAt u8 κ·pages b·pages o·pages γ·pages n·pages pages) ∷ ‵ (flft κ·nodes q·nodes) ∷ ‵ (MutAt u32 κ·nodes b·nodes o·nodes γ·nodes n·nodes nodes) ∷ ‵ (flft κ·register q·register) ∷ ‵ (MutAt Record′.row κ·register b·register o·register γ·register n·register register) ∷ ‵ (flft κ·bytes q·bytes) ∷ ‵ (ShrAt u8 κ·bytes b·bytes o·bytes γ·bytes n·bytes bytes) ∷ Γ) (runs C Λ E (seq (call #callee xs d) rest) Q)
+  calls-by t mem run fm kept step κ·pages q·pages b·pages o·pages γ·pages n·pages pages κ·nodes q·nodes b·nodes o·nodes γ·nodes n·nodes nodes κ·register q·register b·register o·register γ·register n·register register κ·bytes q·bytes b·bytes o·bytes γ·bytes n·bytes bytes known ok·kept ok·step os k =
+      core t mem run kept step κ·pages q·pages b·pages o·pages γ·pages n·pages pages κ·nodes q·nodes b·nodes o·nodes γ·nodes n·nodes nodes κ·register q·register b·register o·register γ·register n·register register κ·bytes q·bytes b·bytes o·bytes γ·bytes n·bytes bytes (runs C Λ E (seq (call #callee xs d) rest) Q) (λ v. lands C Λ E d v rest Q) (λ v. tt)
+      (λ h. calls-from t fm (raw (Asked 𝓤 H A mem run .pre (to 𝓤 H A mem run kept step κ·pages q·pages b·pages o·pages γ·pages n·pages pages κ·nodes q·nodes b·nodes o·nodes γ·nodes n·nodes nodes κ·register q·register b·register o·register γ·register n·register register κ·bytes q·bytes b·bytes o·bytes γ·bytes n·bytes bytes))) (Asked 𝓤 H A mem run .args (to 𝓤 H A mem run kept step κ·pages q·pages b·pages o·pages γ·pages n·pages pages κ·nodes q·nodes b·nodes o·nodes γ·nodes n·nodes nodes κ·register q·register b·register o·register γ·register n·register register κ·bytes q·bytes b·bytes o·bytes γ·bytes n·bytes bytes)) (Asked 𝓤 H A mem run .post (to 𝓤 H A mem run kept step κ·pages q·pages b·pages o·pages γ·pages n·pages pages κ·nodes q·nodes b·nodes o·nodes γ·nodes n·nodes nodes κ·register q·register b·register o·register γ·register n·register register κ·bytes q·bytes b·bytes o·bytes γ·bytes n·bytes bytes)) known os h) ok·kept ok·step k
 
-  pub calls : K → (mem : Memory → SProp 𝓤) (run : Routine → Fun 𝓤) → FmC 𝓤 H (W .laws) C → Triple 𝓤 (C #callee) (Asked 𝓤 H A mem run) → (kept : Kept) (step : Fill) (κ·pages : Lft) (q·pages : Share) (b·pages o·pages : ℕ) (γ·pages : GName) (n·pages : ℕ) (pages : List ℕ) (κ·nodes : Lft) (q·nodes : Share) (b·nodes o·nodes : ℕ) (γ·nodes : GName) (n·nodes : ℕ) (nodes : List ℕ) (κ·register : Lft) (q·register : Share) (b·register o·register : ℕ) (γ·register : GName) (n·register : ℕ) (register : List Record) (κ·out : Lft) (q·out : Share) (b·out o·out : ℕ) (γ·out : GName) (n·out : ℕ) (out : List ℕ) → Is Kept′.row kept (Kept′.vals kept) → Is Fill′.row step (Fill′.vals step) →
-      Opds K W (raw (Asked 𝓤 H A mem run .pre (to 𝓤 H A mem run kept step κ·pages q·pages b·pages o·pages γ·pages n·pages pages κ·nodes q·nodes b·nodes o·nodes γ·nodes n·nodes nodes κ·register q·register b·register o·register γ·register n·register register κ·out q·out b·out o·out γ·out n·out out)) ∷ Γ) E xs (Kept′.mach kept ∷ Fill′.mach step ∷ sliceVal (b·pages, o·pages) n·pages ∷ sliceVal (b·nodes, o·nodes) n·nodes ∷ sliceVal (b·register, o·register) n·register ∷ sliceVal (b·out, o·out) n·out ∷ [])
-      → ((x·res : Turn) → (zs·pages : List ℕ) → (zs·nodes : List ℕ) → (zs·register : List Record) → (zs·out : List ℕ) → Is Turn′.row x·res (Turn′.vals x·res) → length zs·pages ≡ length pages → length zs·nodes ≡ length nodes → length zs·register ≡ length register → length zs·out ≡ length out → Seq K W (‵ (flft κ·pages q·pages) ∷ ‵ (finally u8 γ·pages zs·pages) ∷ ‵ (flft κ·nodes q·nodes) ∷ ‵ (finally u32 γ·nodes zs·nodes) ∷ ‵ (flft κ·register q·register) ∷ ‵ (finally Record′.row γ·register zs·register) ∷ ‵ (flft κ·out q·out) ∷ ‵ (finally u8 γ·out zs·out) ∷ Γ) (lands C Λ E d (Turn′.mach x·res) rest Q))
-      → Seq K W (‵ (flft κ·pages q·pages) ∷ ‵ (MutAt u8 κ·pages b·pages o·pages γ·pages n·pages pages) ∷ ‵ (flft κ·nodes q·nodes) ∷ ‵ (MutAt u32 κ·nodes b·nodes o·nodes γ·nodes n·nodes nodes) ∷ ‵ (flft κ·register q·register) ∷ ‵ (MutAt Record′.row κ·register b·register o·register γ·register n·register register) ∷ ‵ (flft κ·out q·out) ∷ ‵ (MutAt u8 κ·out b·out o·out γ·out n·out out) ∷ Γ) (runs C Λ E (seq (call #callee xs d) rest) Q)
-  calls t mem run fm known kept step κ·pages q·pages b·pages o·pages γ·pages n·pages pages κ·nodes q·nodes b·nodes o·nodes γ·nodes n·nodes nodes κ·register q·register b·register o·register γ·register n·register register κ·out q·out b·out o·out γ·out n·out out = calls-by t mem run fm kept step κ·pages q·pages b·pages o·pages γ·pages n·pages pages κ·nodes q·nodes b·nodes o·nodes γ·nodes n·nodes nodes κ·register q·register b·register o·register γ·register n·register register κ·out q·out b·out o·out γ·out n·out out (known (to 𝓤 H A mem run kept step κ·pages q·pages b·pages o·pages γ·pages n·pages pages κ·nodes q·nodes b·nodes o·nodes γ·nodes n·nodes nodes κ·register q·register b·register o·register γ·register n·register register κ·out q·out b·out o·out γ·out n·out out))
+  pub calls : K → (mem : Memory → SProp 𝓤) (run : Routine → Fun 𝓤) → FmC 𝓤 H (W .laws) C → Triple 𝓤 (C #callee) (Asked 𝓤 H A mem run) → (kept : Kept) (step : Fill) (κ·pages : Lft) (q·pages : Share) (b·pages o·pages : ℕ) (γ·pages : GName) (n·pages : ℕ) (pages : List ℕ) (κ·nodes : Lft) (q·nodes : Share) (b·nodes o·nodes : ℕ) (γ·nodes : GName) (n·nodes : ℕ) (nodes : List ℕ) (κ·register : Lft) (q·register : Share) (b·register o·register : ℕ) (γ·register : GName) (n·register : ℕ) (register : List Record) (κ·bytes : Lft) (q·bytes : Share) (b·bytes o·bytes : ℕ) (γ·bytes : GName) (n·bytes : ℕ) (bytes : List ℕ) → Is Kept′.row kept (Kept′.vals kept) → Is Fill′.row step (Fill′.vals step) →
+      Opds K W (raw (Asked 𝓤 H A mem run .pre (to 𝓤 H A mem run kept step κ·pages q·pages b·pages o·pages γ·pages n·pages pages κ·nodes q·nodes b·nodes o·nodes γ·nodes n·nodes nodes κ·register q·register b·register o·register γ·register n·register register κ·bytes q·bytes b·bytes o·bytes γ·bytes n·bytes bytes)) ∷ ‵ (ShrAt u8 κ·bytes b·bytes o·bytes γ·bytes n·bytes bytes) ∷ Γ) E xs (Kept′.mach kept ∷ Fill′.mach step ∷ sliceVal (b·pages, o·pages) n·pages ∷ sliceVal (b·nodes, o·nodes) n·nodes ∷ sliceVal (b·register, o·register) n·register ∷ sliceVal (b·bytes, o·bytes) n·bytes ∷ [])
+      → (Is Turn′.row (fill-step″.res kept step pages nodes register bytes) (Turn′.vals (fill-step″.res kept step pages nodes register bytes)) → length (fill-step″.out-pages kept step pages nodes register bytes) ≡ length pages → length (fill-step″.out-nodes kept step pages nodes register bytes) ≡ length nodes → length (fill-step″.out-register kept step pages nodes register bytes) ≡ length register → Seq K W (‵ (flft κ·pages q·pages) ∷ ‵ (finally u8 γ·pages (fill-step″.out-pages kept step pages nodes register bytes)) ∷ ‵ (flft κ·nodes q·nodes) ∷ ‵ (finally u32 γ·nodes (fill-step″.out-nodes kept step pages nodes register bytes)) ∷ ‵ (flft κ·register q·register) ∷ ‵ (finally Record′.row γ·register (fill-step″.out-register kept step pages nodes register bytes)) ∷ ‵ (flft κ·bytes q·bytes) ∷ ‵ (ShrAt u8 κ·bytes b·bytes o·bytes γ·bytes n·bytes bytes) ∷ Γ) (lands C Λ E d (Turn′.mach (fill-step″.res kept step pages nodes register bytes)) rest Q))
+      → Seq K W (‵ (flft κ·pages q·pages) ∷ ‵ (MutAt u8 κ·pages b·pages o·pages γ·pages n·pages pages) ∷ ‵ (flft κ·nodes q·nodes) ∷ ‵ (MutAt u32 κ·nodes b·nodes o·nodes γ·nodes n·nodes nodes) ∷ ‵ (flft κ·register q·register) ∷ ‵ (MutAt Record′.row κ·register b·register o·register γ·register n·register register) ∷ ‵ (flft κ·bytes q·bytes) ∷ ‵ (ShrAt u8 κ·bytes b·bytes o·bytes γ·bytes n·bytes bytes) ∷ Γ) (runs C Λ E (seq (call #callee xs d) rest) Q)
+  calls t mem run fm known kept step κ·pages q·pages b·pages o·pages γ·pages n·pages pages κ·nodes q·nodes b·nodes o·nodes γ·nodes n·nodes nodes κ·register q·register b·register o·register γ·register n·register register κ·bytes q·bytes b·bytes o·bytes γ·bytes n·bytes bytes = calls-by t mem run fm kept step κ·pages q·pages b·pages o·pages γ·pages n·pages pages κ·nodes q·nodes b·nodes o·nodes γ·nodes n·nodes nodes κ·register q·register b·register o·register γ·register n·register register κ·bytes q·bytes b·bytes o·bytes γ·bytes n·bytes bytes (known (to 𝓤 H A mem run kept step κ·pages q·pages b·pages o·pages γ·pages n·pages pages κ·nodes q·nodes b·nodes o·nodes γ·nodes n·nodes nodes κ·register q·register b·register o·register γ·register n·register register κ·bytes q·bytes b·bytes o·bytes γ·bytes n·bytes bytes))
 
 module _ {M : Type 1} {𝓤 : URA M} {H : Heap 𝓤} {A : Atoms 𝓤} {K : Type 0} {W : Given 𝓤 H A} {Γ : List (Item 𝓤)} {E : Env 𝓤 H} {C : Calls 𝓤 H} {Λ : Loops 𝓤 H} {Q : Post 𝓤 H} {xs : List Operand} {d : Place} where
   -- by one instance of the callee's contract, which is what a function that calls itself has. The call ends a part of the code
-  pub calls-last-by : K → (mem : Memory → SProp 𝓤) (run : Routine → Fun 𝓤) → FmC 𝓤 H (W .laws) C → (kept : Kept) (step : Fill) (κ·pages : Lft) (q·pages : Share) (b·pages o·pages : ℕ) (γ·pages : GName) (n·pages : ℕ) (pages : List ℕ) (κ·nodes : Lft) (q·nodes : Share) (b·nodes o·nodes : ℕ) (γ·nodes : GName) (n·nodes : ℕ) (nodes : List ℕ) (κ·register : Lft) (q·register : Share) (b·register o·register : ℕ) (γ·register : GName) (n·register : ℕ) (register : List Record) (κ·out : Lft) (q·out : Share) (b·out o·out : ℕ) (γ·out : GName) (n·out : ℕ) (out : List ℕ) → ent 𝓤 (Asked 𝓤 H A mem run .pre (to 𝓤 H A mem run kept step κ·pages q·pages b·pages o·pages γ·pages n·pages pages κ·nodes q·nodes b·nodes o·nodes γ·nodes n·nodes nodes κ·register q·register b·register o·register γ·register n·register register κ·out q·out b·out o·out γ·out n·out out)) (C #callee (Asked 𝓤 H A mem run .args (to 𝓤 H A mem run kept step κ·pages q·pages b·pages o·pages γ·pages n·pages pages κ·nodes q·nodes b·nodes o·nodes γ·nodes n·nodes nodes κ·register q·register b·register o·register γ·register n·register register κ·out q·out b·out o·out γ·out n·out out)) (Asked 𝓤 H A mem run .post (to 𝓤 H A mem run kept step κ·pages q·pages b·pages o·pages γ·pages n·pages pages κ·nodes q·nodes b·nodes o·nodes γ·nodes n·nodes nodes κ·register q·register b·register o·register γ·register n·register register κ·out q·out b·out o·out γ·out n·out out))) → Is Kept′.row kept (Kept′.vals kept) → Is Fill′.row step (Fill′.vals step) →
-      Opds K W (raw (Asked 𝓤 H A mem run .pre (to 𝓤 H A mem run kept step κ·pages q·pages b·pages o·pages γ·pages n·pages pages κ·nodes q·nodes b·nodes o·nodes γ·nodes n·nodes nodes κ·register q·register b·register o·register γ·register n·register register κ·out q·out b·out o·out γ·out n·out out)) ∷ Γ) E xs (Kept′.mach kept ∷ Fill′.mach step ∷ sliceVal (b·pages, o·pages) n·pages ∷ sliceVal (b·nodes, o·nodes) n·nodes ∷ sliceVal (b·register, o·register) n·register ∷ sliceVal (b·out, o·out) n·out ∷ [])
-      → ((x·res : Turn) → (zs·pages : List ℕ) → (zs·nodes : List ℕ) → (zs·register : List Record) → (zs·out : List ℕ) → Is Turn′.row x·res (Turn′.vals x·res) → length zs·pages ≡ length pages → length zs·nodes ≡ length nodes → length zs·register ≡ length register → length zs·out ≡ length out → Seq K W (‵ (flft κ·pages q·pages) ∷ ‵ (finally u8 γ·pages zs·pages) ∷ ‵ (flft κ·nodes q·nodes) ∷ ‵ (finally u32 γ·nodes zs·nodes) ∷ ‵ (flft κ·register q·register) ∷ ‵ (finally Record′.row γ·register zs·register) ∷ ‵ (flft κ·out q·out) ∷ ‵ (finally u8 γ·out zs·out) ∷ Γ) (settles E d (Turn′.mach x·res) Q))
-      → Seq K W (‵ (flft κ·pages q·pages) ∷ ‵ (MutAt u8 κ·pages b·pages o·pages γ·pages n·pages pages) ∷ ‵ (flft κ·nodes q·nodes) ∷ ‵ (MutAt u32 κ·nodes b·nodes o·nodes γ·nodes n·nodes nodes) ∷ ‵ (flft κ·register q·register) ∷ ‵ (MutAt Record′.row κ·register b·register o·register γ·register n·register register) ∷ ‵ (flft κ·out q·out) ∷ ‵ (MutAt u8 κ·out b·out o·out γ·out n·out out) ∷ Γ) (runs C Λ E (call #callee xs d) Q)
-  calls-last-by t mem run fm kept step κ·pages q·pages b·pages o·pages γ·pages n·pages pages κ·nodes q·nodes b·nodes o·nodes γ·nodes n·nodes nodes κ·register q·register b·register o·register γ·register n·register register κ·out q·out b·out o·out γ·out n·out out known ok·kept ok·step os k =
-      core t mem run kept step κ·pages q·pages b·pages o·pages γ·pages n·pages pages κ·nodes q·nodes b·nodes o·nodes γ·nodes n·nodes nodes κ·register q·register b·register o·register γ·register n·register register κ·out q·out b·out o·out γ·out n·out out (runs C Λ E (call #callee xs d) Q) (λ v. settles E d v Q) (λ v. tt)
-      (λ h. calls-from-last t fm (raw (Asked 𝓤 H A mem run .pre (to 𝓤 H A mem run kept step κ·pages q·pages b·pages o·pages γ·pages n·pages pages κ·nodes q·nodes b·nodes o·nodes γ·nodes n·nodes nodes κ·register q·register b·register o·register γ·register n·register register κ·out q·out b·out o·out γ·out n·out out))) (Asked 𝓤 H A mem run .args (to 𝓤 H A mem run kept step κ·pages q·pages b·pages o·pages γ·pages n·pages pages κ·nodes q·nodes b·nodes o·nodes γ·nodes n·nodes nodes κ·register q·register b·register o·register γ·register n·register register κ·out q·out b·out o·out γ·out n·out out)) (Asked 𝓤 H A mem run .post (to 𝓤 H A mem run kept step κ·pages q·pages b·pages o·pages γ·pages n·pages pages κ·nodes q·nodes b·nodes o·nodes γ·nodes n·nodes nodes κ·register q·register b·register o·register γ·register n·register register κ·out q·out b·out o·out γ·out n·out out)) known os h) ok·kept ok·step k
+  pub calls-last-by : K → (mem : Memory → SProp 𝓤) (run : Routine → Fun 𝓤) → FmC 𝓤 H (W .laws) C → (kept : Kept) (step : Fill) (κ·pages : Lft) (q·pages : Share) (b·pages o·pages : ℕ) (γ·pages : GName) (n·pages : ℕ) (pages : List ℕ) (κ·nodes : Lft) (q·nodes : Share) (b·nodes o·nodes : ℕ) (γ·nodes : GName) (n·nodes : ℕ) (nodes : List ℕ) (κ·register : Lft) (q·register : Share) (b·register o·register : ℕ) (γ·register : GName) (n·register : ℕ) (register : List Record) (κ·bytes : Lft) (q·bytes : Share) (b·bytes o·bytes : ℕ) (γ·bytes : GName) (n·bytes : ℕ) (bytes : List ℕ) → ent 𝓤 (Asked 𝓤 H A mem run .pre (to 𝓤 H A mem run kept step κ·pages q·pages b·pages o·pages γ·pages n·pages pages κ·nodes q·nodes b·nodes o·nodes γ·nodes n·nodes nodes κ·register q·register b·register o·register γ·register n·register register κ·bytes q·bytes b·bytes o·bytes γ·bytes n·bytes bytes)) (C #callee (Asked 𝓤 H A mem run .args (to 𝓤 H A mem run kept step κ·pages q·pages b·pages o·pages γ·pages n·pages pages κ·nodes q·nodes b·nodes o·nodes γ·nodes n·nodes nodes κ·register q·register b·register o·register γ·register n·register register κ·bytes q·bytes b·bytes o·bytes γ·bytes n·bytes bytes)) (Asked 𝓤 H A mem run .post (to 𝓤 H A mem run kept step κ·pages q·pages b·pages o·pages γ·pages n·pages pages κ·nodes q·nodes b·nodes o·nodes γ·nodes n·nodes nodes κ·register q·register b·register o·register γ·register n·register register κ·bytes q·bytes b·bytes o·bytes γ·bytes n·bytes bytes))) → Is Kept′.row kept (Kept′.vals kept) → Is Fill′.row step (Fill′.vals step) →
+      Opds K W (raw (Asked 𝓤 H A mem run .pre (to 𝓤 H A mem run kept step κ·pages q·pages b·pages o·pages γ·pages n·pages pages κ·nodes q·nodes b·nodes o·nodes γ·nodes n·nodes nodes κ·register q·register b·register o·register γ·register n·register register κ·bytes q·bytes b·bytes o·bytes γ·bytes n·bytes bytes)) ∷ ‵ (ShrAt u8 κ·bytes b·bytes o·bytes γ·bytes n·bytes bytes) ∷ Γ) E xs (Kept′.mach kept ∷ Fill′.mach step ∷ sliceVal (b·pages, o·pages) n·pages ∷ sliceVal (b·nodes, o·nodes) n·nodes ∷ sliceVal (b·register, o·register) n·register ∷ sliceVal (b·bytes, o·bytes) n·bytes ∷ [])
+      → (Is Turn′.row (fill-step″.res kept step pages nodes register bytes) (Turn′.vals (fill-step″.res kept step pages nodes register bytes)) → length (fill-step″.out-pages kept step pages nodes register bytes) ≡ length pages → length (fill-step″.out-nodes kept step pages nodes register bytes) ≡ length nodes → length (fill-step″.out-register kept step pages nodes register bytes) ≡ length register → Seq K W (‵ (flft κ·pages q·pages) ∷ ‵ (finally u8 γ·pages (fill-step″.out-pages kept step pages nodes register bytes)) ∷ ‵ (flft κ·nodes q·nodes) ∷ ‵ (finally u32 γ·nodes (fill-step″.out-nodes kept step pages nodes register bytes)) ∷ ‵ (flft κ·register q·register) ∷ ‵ (finally Record′.row γ·register (fill-step″.out-register kept step pages nodes register bytes)) ∷ ‵ (flft κ·bytes q·bytes) ∷ ‵ (ShrAt u8 κ·bytes b·bytes o·bytes γ·bytes n·bytes bytes) ∷ Γ) (settles E d (Turn′.mach (fill-step″.res kept step pages nodes register bytes)) Q))
+      → Seq K W (‵ (flft κ·pages q·pages) ∷ ‵ (MutAt u8 κ·pages b·pages o·pages γ·pages n·pages pages) ∷ ‵ (flft κ·nodes q·nodes) ∷ ‵ (MutAt u32 κ·nodes b·nodes o·nodes γ·nodes n·nodes nodes) ∷ ‵ (flft κ·register q·register) ∷ ‵ (MutAt Record′.row κ·register b·register o·register γ·register n·register register) ∷ ‵ (flft κ·bytes q·bytes) ∷ ‵ (ShrAt u8 κ·bytes b·bytes o·bytes γ·bytes n·bytes bytes) ∷ Γ) (runs C Λ E (call #callee xs d) Q)
+  calls-last-by t mem run fm kept step κ·pages q·pages b·pages o·pages γ·pages n·pages pages κ·nodes q·nodes b·nodes o·nodes γ·nodes n·nodes nodes κ·register q·register b·register o·register γ·register n·register register κ·bytes q·bytes b·bytes o·bytes γ·bytes n·bytes bytes known ok·kept ok·step os k =
+      core t mem run kept step κ·pages q·pages b·pages o·pages γ·pages n·pages pages κ·nodes q·nodes b·nodes o·nodes γ·nodes n·nodes nodes κ·register q·register b·register o·register γ·register n·register register κ·bytes q·bytes b·bytes o·bytes γ·bytes n·bytes bytes (runs C Λ E (call #callee xs d) Q) (λ v. settles E d v Q) (λ v. tt)
+      (λ h. calls-from-last t fm (raw (Asked 𝓤 H A mem run .pre (to 𝓤 H A mem run kept step κ·pages q·pages b·pages o·pages γ·pages n·pages pages κ·nodes q·nodes b·nodes o·nodes γ·nodes n·nodes nodes κ·register q·register b·register o·register γ·register n·register register κ·bytes q·bytes b·bytes o·bytes γ·bytes n·bytes bytes))) (Asked 𝓤 H A mem run .args (to 𝓤 H A mem run kept step κ·pages q·pages b·pages o·pages γ·pages n·pages pages κ·nodes q·nodes b·nodes o·nodes γ·nodes n·nodes nodes κ·register q·register b·register o·register γ·register n·register register κ·bytes q·bytes b·bytes o·bytes γ·bytes n·bytes bytes)) (Asked 𝓤 H A mem run .post (to 𝓤 H A mem run kept step κ·pages q·pages b·pages o·pages γ·pages n·pages pages κ·nodes q·nodes b·nodes o·nodes γ·nodes n·nodes nodes κ·register q·register b·register o·register γ·register n·register register κ·bytes q·bytes b·bytes o·bytes γ·bytes n·bytes bytes)) known os h) ok·kept ok·step k
 
-  pub calls-last : K → (mem : Memory → SProp 𝓤) (run : Routine → Fun 𝓤) → FmC 𝓤 H (W .laws) C → Triple 𝓤 (C #callee) (Asked 𝓤 H A mem run) → (kept : Kept) (step : Fill) (κ·pages : Lft) (q·pages : Share) (b·pages o·pages : ℕ) (γ·pages : GName) (n·pages : ℕ) (pages : List ℕ) (κ·nodes : Lft) (q·nodes : Share) (b·nodes o·nodes : ℕ) (γ·nodes : GName) (n·nodes : ℕ) (nodes : List ℕ) (κ·register : Lft) (q·register : Share) (b·register o·register : ℕ) (γ·register : GName) (n·register : ℕ) (register : List Record) (κ·out : Lft) (q·out : Share) (b·out o·out : ℕ) (γ·out : GName) (n·out : ℕ) (out : List ℕ) → Is Kept′.row kept (Kept′.vals kept) → Is Fill′.row step (Fill′.vals step) →
-      Opds K W (raw (Asked 𝓤 H A mem run .pre (to 𝓤 H A mem run kept step κ·pages q·pages b·pages o·pages γ·pages n·pages pages κ·nodes q·nodes b·nodes o·nodes γ·nodes n·nodes nodes κ·register q·register b·register o·register γ·register n·register register κ·out q·out b·out o·out γ·out n·out out)) ∷ Γ) E xs (Kept′.mach kept ∷ Fill′.mach step ∷ sliceVal (b·pages, o·pages) n·pages ∷ sliceVal (b·nodes, o·nodes) n·nodes ∷ sliceVal (b·register, o·register) n·register ∷ sliceVal (b·out, o·out) n·out ∷ [])
-      → ((x·res : Turn) → (zs·pages : List ℕ) → (zs·nodes : List ℕ) → (zs·register : List Record) → (zs·out : List ℕ) → Is Turn′.row x·res (Turn′.vals x·res) → length zs·pages ≡ length pages → length zs·nodes ≡ length nodes → length zs·register ≡ length register → length zs·out ≡ length out → Seq K W (‵ (flft κ·pages q·pages) ∷ ‵ (finally u8 γ·pages zs·pages) ∷ ‵ (flft κ·nodes q·nodes) ∷ ‵ (finally u32 γ·nodes zs·nodes) ∷ ‵ (flft κ·register q·register) ∷ ‵ (finally Record′.row γ·register zs·register) ∷ ‵ (flft κ·out q·out) ∷ ‵ (finally u8 γ·out zs·out) ∷ Γ) (settles E d (Turn′.mach x·res) Q))
-      → Seq K W (‵ (flft κ·pages q·pages) ∷ ‵ (MutAt u8 κ·pages b·pages o·pages γ·pages n·pages pages) ∷ ‵ (flft κ·nodes q·nodes) ∷ ‵ (MutAt u32 κ·nodes b·nodes o·nodes γ·nodes n·nodes nodes) ∷ ‵ (flft κ·register q·register) ∷ ‵ (MutAt Record′.row κ·register b·register o·register γ·register n·register register) ∷ ‵ (flft κ·out q·out) ∷ ‵ (MutAt u8 κ·out b·out o·out γ·out n·out out) ∷ Γ) (runs C Λ E (call #callee xs d) Q)
-  calls-last t mem run fm known kept step κ·pages q·pages b·pages o·pages γ·pages n·pages pages κ·nodes q·nodes b·nodes o·nodes γ·nodes n·nodes nodes κ·register q·register b·register o·register γ·register n·register register κ·out q·out b·out o·out γ·out n·out out = calls-last-by t mem run fm kept step κ·pages q·pages b·pages o·pages γ·pages n·pages pages κ·nodes q·nodes b·nodes o·nodes γ·nodes n·nodes nodes κ·register q·register b·register o·register γ·register n·register register κ·out q·out b·out o·out γ·out n·out out (known (to 𝓤 H A mem run kept step κ·pages q·pages b·pages o·pages γ·pages n·pages pages κ·nodes q·nodes b·nodes o·nodes γ·nodes n·nodes nodes κ·register q·register b·register o·register γ·register n·register register κ·out q·out b·out o·out γ·out n·out out))
+  pub calls-last : K → (mem : Memory → SProp 𝓤) (run : Routine → Fun 𝓤) → FmC 𝓤 H (W .laws) C → Triple 𝓤 (C #callee) (Asked 𝓤 H A mem run) → (kept : Kept) (step : Fill) (κ·pages : Lft) (q·pages : Share) (b·pages o·pages : ℕ) (γ·pages : GName) (n·pages : ℕ) (pages : List ℕ) (κ·nodes : Lft) (q·nodes : Share) (b·nodes o·nodes : ℕ) (γ·nodes : GName) (n·nodes : ℕ) (nodes : List ℕ) (κ·register : Lft) (q·register : Share) (b·register o·register : ℕ) (γ·register : GName) (n·register : ℕ) (register : List Record) (κ·bytes : Lft) (q·bytes : Share) (b·bytes o·bytes : ℕ) (γ·bytes : GName) (n·bytes : ℕ) (bytes : List ℕ) → Is Kept′.row kept (Kept′.vals kept) → Is Fill′.row step (Fill′.vals step) →
+      Opds K W (raw (Asked 𝓤 H A mem run .pre (to 𝓤 H A mem run kept step κ·pages q·pages b·pages o·pages γ·pages n·pages pages κ·nodes q·nodes b·nodes o·nodes γ·nodes n·nodes nodes κ·register q·register b·register o·register γ·register n·register register κ·bytes q·bytes b·bytes o·bytes γ·bytes n·bytes bytes)) ∷ ‵ (ShrAt u8 κ·bytes b·bytes o·bytes γ·bytes n·bytes bytes) ∷ Γ) E xs (Kept′.mach kept ∷ Fill′.mach step ∷ sliceVal (b·pages, o·pages) n·pages ∷ sliceVal (b·nodes, o·nodes) n·nodes ∷ sliceVal (b·register, o·register) n·register ∷ sliceVal (b·bytes, o·bytes) n·bytes ∷ [])
+      → (Is Turn′.row (fill-step″.res kept step pages nodes register bytes) (Turn′.vals (fill-step″.res kept step pages nodes register bytes)) → length (fill-step″.out-pages kept step pages nodes register bytes) ≡ length pages → length (fill-step″.out-nodes kept step pages nodes register bytes) ≡ length nodes → length (fill-step″.out-register kept step pages nodes register bytes) ≡ length register → Seq K W (‵ (flft κ·pages q·pages) ∷ ‵ (finally u8 γ·pages (fill-step″.out-pages kept step pages nodes register bytes)) ∷ ‵ (flft κ·nodes q·nodes) ∷ ‵ (finally u32 γ·nodes (fill-step″.out-nodes kept step pages nodes register bytes)) ∷ ‵ (flft κ·register q·register) ∷ ‵ (finally Record′.row γ·register (fill-step″.out-register kept step pages nodes register bytes)) ∷ ‵ (flft κ·bytes q·bytes) ∷ ‵ (ShrAt u8 κ·bytes b·bytes o·bytes γ·bytes n·bytes bytes) ∷ Γ) (settles E d (Turn′.mach (fill-step″.res kept step pages nodes register bytes)) Q))
+      → Seq K W (‵ (flft κ·pages q·pages) ∷ ‵ (MutAt u8 κ·pages b·pages o·pages γ·pages n·pages pages) ∷ ‵ (flft κ·nodes q·nodes) ∷ ‵ (MutAt u32 κ·nodes b·nodes o·nodes γ·nodes n·nodes nodes) ∷ ‵ (flft κ·register q·register) ∷ ‵ (MutAt Record′.row κ·register b·register o·register γ·register n·register register) ∷ ‵ (flft κ·bytes q·bytes) ∷ ‵ (ShrAt u8 κ·bytes b·bytes o·bytes γ·bytes n·bytes bytes) ∷ Γ) (runs C Λ E (call #callee xs d) Q)
+  calls-last t mem run fm known kept step κ·pages q·pages b·pages o·pages γ·pages n·pages pages κ·nodes q·nodes b·nodes o·nodes γ·nodes n·nodes nodes κ·register q·register b·register o·register γ·register n·register register κ·bytes q·bytes b·bytes o·bytes γ·bytes n·bytes bytes = calls-last-by t mem run fm kept step κ·pages q·pages b·pages o·pages γ·pages n·pages pages κ·nodes q·nodes b·nodes o·nodes γ·nodes n·nodes nodes κ·register q·register b·register o·register γ·register n·register register κ·bytes q·bytes b·bytes o·bytes γ·bytes n·bytes bytes (known (to 𝓤 H A mem run kept step κ·pages q·pages b·pages o·pages γ·pages n·pages pages κ·nodes q·nodes b·nodes o·nodes γ·nodes n·nodes nodes κ·register q·register b·register o·register γ·register n·register register κ·bytes q·bytes b·bytes o·bytes γ·bytes n·bytes bytes))

@@ -2,8 +2,19 @@
 -- The contract of `changes::fill_step`, over lists and plain values: a slice stands for its list, and P′ is the list of P at exit.
 -- Assumes nothing.
 use Prim.Native.Nat.{ℕ}
-use mathlib.Core.List.{List}
+use mathlib.Core.List.{List, []}
 use mathlib.Core.Bool.{Bool}
+use mathlib.Core.Path.{_≡_}
+use lib.ListN.{take}
+use Rattle.versions.specs.Store.{areasOf, lineIn}
+use Rattle.format.specs.Format.{fresh, formatAnswer, formatAreas}
+use Rattle.begin.specs.Begin.{beginOut, beginRegister}
+use Rattle.put.specs.Put.{putOut, putPages, putRegister}
+use Rattle.assign.specs.Assign.{assignOut, assignRegister}
+use Rattle.weave.specs.Weave.{weaveOut, weaveNodes, weaveRegister}
+use Rattle.answers.specs.Answers.{turned, formatSaid, beginSaid, putSaid, assignSaid, weaveSaid}
+use Rattle.wanted.specs.declared.Wanted.the-variants as Wanted
+use Rattle.wanted.specs.Steps.{stepSaid, stepAreas}
 use Rattle.answers.specs.declared.Kept.{Kept}
 use Rattle.answers.specs.declared.Turn.{Turn}
 use Rattle.lines.specs.declared.Entries.{Entries}
@@ -12,3 +23,18 @@ use Rattle.tree.specs.declared.PageIndex.{PageIndex}
 use Rattle.tree.specs.declared.Ticket.{Ticket}
 use Rattle.versions.specs.declared.Store.{Store}
 use Rattle.wanted.specs.declared.Fill.{Fill}
+
+abbrev pub ens : Kept → Fill → List ℕ → List ℕ → List Record → List ℕ → List ℕ → List ℕ → List Record → Turn → Type 0
+ens kept step pages nodes register bytes pages′ nodes′ register′ r = (r ≡ turned (stepSaid kept (Wanted.Fill step) (areasOf pages nodes register) bytes)) × (pages′ ≡ stepAreas kept (Wanted.Fill step) (areasOf pages nodes register) bytes .pages) × (nodes′ ≡ stepAreas kept (Wanted.Fill step) (areasOf pages nodes register) bytes .nodes) × (register′ ≡ stepAreas kept (Wanted.Fill step) (areasOf pages nodes register) bytes .register)
+
+abbrev pub res : Kept → Fill → List ℕ → List ℕ → List Record → List ℕ → Turn
+res kept step pages nodes register bytes = turned (stepSaid kept (Wanted.Fill step) (areasOf pages nodes register) bytes)
+
+abbrev pub out-pages : Kept → Fill → List ℕ → List ℕ → List Record → List ℕ → List ℕ
+out-pages kept step pages nodes register bytes = stepAreas kept (Wanted.Fill step) (areasOf pages nodes register) bytes .pages
+
+abbrev pub out-nodes : Kept → Fill → List ℕ → List ℕ → List Record → List ℕ → List ℕ
+out-nodes kept step pages nodes register bytes = stepAreas kept (Wanted.Fill step) (areasOf pages nodes register) bytes .nodes
+
+abbrev pub out-register : Kept → Fill → List ℕ → List ℕ → List Record → List ℕ → List Record
+out-register kept step pages nodes register bytes = stepAreas kept (Wanted.Fill step) (areasOf pages nodes register) bytes .register

@@ -21,8 +21,8 @@ use denote.Plain.{uint-vals, bool-vals, nothing-vals}
 use denote.Builtin.{u8, u16, u32, u64, bool, unit}
 use denote.Enum.Laws as LL
 use Rattle.changes.proofs.Generated.Kind.Fill as Fill′
-use Rattle.changes.proofs.Generated.Kind.Look as Look′
 use Rattle.changes.proofs.Generated.Kind.Note as Note′
+use Rattle.looks.proofs.Generated.Kind.Look as Look′
 use Rattle.wanted.specs.declared.Fill.{Fill}
 use Rattle.wanted.specs.declared.Look.{Look}
 use Rattle.wanted.specs.declared.Note.{Note}
@@ -63,11 +63,10 @@ none = Wanted.Fill Fill′.none
 
 -- by cases on a value, within a walk
 module _ {M : Type 1} {𝓤 : URA M} {H : Heap 𝓤} {A : Atoms 𝓤} {K : Type 0} {W : Given 𝓤 H A} {Γ : List (Item 𝓤)} {G : Goal 𝓤 H} where
-  pub cases : K → (d : Wanted) → ((y0 : Fill) → d ≡ Wanted.Fill y0 → Seq K W Γ G) → ((y0 : Note) → d ≡ Wanted.Note y0 → Seq K W Γ G) → ((y0 : Look) → d ≡ Wanted.Look y0 → Seq K W Γ G) → (d ≡ Wanted.Nothing → Seq K W Γ G) → Seq K W Γ G
-  cases t (Wanted.Fill y0) k0 k1 k2 k3 = k0 y0 refl
-  cases t (Wanted.Note y0) k0 k1 k2 k3 = k1 y0 refl
-  cases t (Wanted.Look y0) k0 k1 k2 k3 = k2 y0 refl
-  cases t (Wanted.Nothing) k0 k1 k2 k3 = k3 refl
+  pub cases : K → (d : Wanted) → ((y0 : Fill) → d ≡ Wanted.Fill y0 → Seq K W Γ G) → ((y0 : Note) → d ≡ Wanted.Note y0 → Seq K W Γ G) → ((y0 : Look) → d ≡ Wanted.Look y0 → Seq K W Γ G) → Seq K W Γ G
+  cases t (Wanted.Fill y0) k0 k1 k2 = k0 y0 refl
+  cases t (Wanted.Note y0) k0 k1 k2 = k1 y0 refl
+  cases t (Wanted.Look y0) k0 k1 k2 = k2 y0 refl
 
 pub make-Fill : (y0 : Fill) → Is Fill′.row y0 (Fill′.vals y0) → Ok (Wanted.Fill y0)
 make-Fill y0 g0 = LL.owes T′.the-type T″.the-laws (Wanted.Fill y0) (g0, tt)
@@ -86,9 +85,6 @@ make-Look y0 g0 = LL.owes T′.the-type T″.the-laws (Wanted.Look y0) (g0, tt)
 
 pub ok-Look-0 : (y0 : Look) → Ok (Wanted.Look y0) → Is Look′.row y0 (Look′.vals y0)
 ok-Look-0 y0 g = LL.owed T′.the-type T″.the-laws (Wanted.Look y0) _ g .0
-
-pub make-Nothing : Ok Wanted.Nothing
-make-Nothing = LL.owes T′.the-type T″.the-laws Wanted.Nothing tt
 
 abbrev pub stride : ℕ
 stride = 48

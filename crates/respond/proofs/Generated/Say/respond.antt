@@ -4,6 +4,10 @@
 use Prim.Native.Nat.{ℕ}
 use mathlib.Core.List.{List}
 use mathlib.Core.Bool.{Bool}
+use mathlib.Core.Path.{_≡_}
+use Rattle.versions.specs.Store.{areasOf}
+use Rattle.answers.specs.Answers.{turned}
+use Rattle.wanted.specs.Steps.{stepSaid, stepAreas}
 use Rattle.answers.specs.declared.Kept.{Kept}
 use Rattle.answers.specs.declared.Turn.{Turn}
 use Rattle.lines.specs.declared.Entries.{Entries}
@@ -15,3 +19,18 @@ use Rattle.wanted.specs.declared.Fill.{Fill}
 use Rattle.wanted.specs.declared.Look.{Look}
 use Rattle.wanted.specs.declared.Note.{Note}
 use Rattle.wanted.specs.declared.Wanted.{Wanted}
+
+abbrev pub ens : Kept → Wanted → List ℕ → List ℕ → List Record → List ℕ → List ℕ → List ℕ → List Record → Turn → Type 0
+ens kept wanted pages nodes register bytes pages′ nodes′ register′ r = (r ≡ turned (stepSaid kept wanted (areasOf pages nodes register) bytes)) × (pages′ ≡ stepAreas kept wanted (areasOf pages nodes register) bytes .pages) × (nodes′ ≡ stepAreas kept wanted (areasOf pages nodes register) bytes .nodes) × (register′ ≡ stepAreas kept wanted (areasOf pages nodes register) bytes .register)
+
+abbrev pub res : Kept → Wanted → List ℕ → List ℕ → List Record → List ℕ → Turn
+res kept wanted pages nodes register bytes = turned (stepSaid kept wanted (areasOf pages nodes register) bytes)
+
+abbrev pub out-pages : Kept → Wanted → List ℕ → List ℕ → List Record → List ℕ → List ℕ
+out-pages kept wanted pages nodes register bytes = stepAreas kept wanted (areasOf pages nodes register) bytes .pages
+
+abbrev pub out-nodes : Kept → Wanted → List ℕ → List ℕ → List Record → List ℕ → List ℕ
+out-nodes kept wanted pages nodes register bytes = stepAreas kept wanted (areasOf pages nodes register) bytes .nodes
+
+abbrev pub out-register : Kept → Wanted → List ℕ → List ℕ → List Record → List ℕ → List Record
+out-register kept wanted pages nodes register bytes = stepAreas kept wanted (areasOf pages nodes register) bytes .register

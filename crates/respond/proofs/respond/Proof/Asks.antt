@@ -4,10 +4,10 @@
 use mathlib.Core.Path.{_≡_, refl, sym, _∙_, ap, subst}
 use Prim.Native.Nat.{ℕ, _+_, _-_, _*_, _<_, _≤_, _^_}
 use native.Mathlib.Omega.{arith}
-use mathlib.Core.List.{List, [], _∷_, _++_}
+use mathlib.Core.List.{List, [], _∷_}
 use mathlib.Core.Bool.{Bool, true, false, not}
 use lib.Dec.{ltb, leb, eqb}
-use lib.ListN.{length, getD, set, take, drop}
+use lib.ListN.{length, getD, set}
 use Rattle.answers.specs.declared.Turn.{Turn}
 use Rattle.answers.proofs.Generated.Kind.Turn as Turn′
 use Rattle.answers.specs.declared.Kept.{Kept}
@@ -23,49 +23,53 @@ use Rattle.changes.proofs.Generated.Kind.Fill as Fill′
 use Rattle.wanted.specs.declared.Note.{Note}
 use Rattle.changes.proofs.Generated.Kind.Note as Note′
 use Rattle.wanted.specs.declared.Look.{Look}
-use Rattle.changes.proofs.Generated.Kind.Look as Look′
+use Rattle.looks.proofs.Generated.Kind.Look as Look′
 use Rattle.register.specs.declared.Record.{Record}
 use Rattle.register.proofs.Generated.Kind.Record as Record′
 use Rattle.tree.specs.declared.PageIndex.{PageIndex}
 use Rattle.register.proofs.Generated.Kind.PageIndex as PageIndex′
 use Rattle.lines.specs.declared.Entries.{Entries}
 use Rattle.register.proofs.Generated.Kind.Entries as Entries′
-use Rattle.versions.specs.declared.Lengths.{Lengths}
-use Rattle.versions.proofs.Generated.Kind.Lengths as Lengths′
 use Rattle.respond.proofs.Generated.Say.respond as respond″
-use Rattle.respond.proofs.Generated.Say.store_for as store-for″
-use Rattle.respond.proofs.Generated.Say.lengths_for as lengths-for″
-use Rattle.respond.proofs.Generated.Say.step_within as step-within″
+use Rattle.changes.proofs.Generated.Say.fill_step as fill-step″
+use Rattle.changes.proofs.Generated.Say.note_step as note-step″
+use Rattle.looks.proofs.Generated.Say.look_step as look-step″
 
-abbrev pub r1 : Kept → Wanted → List ℕ → List ℕ → List Record → List ℕ → Store
-r1 kept wanted pages nodes register out = store-for″.res kept wanted
+abbrev pub r1 : Kept → Wanted → List ℕ → List ℕ → List Record → List ℕ → Fill → Turn
+r1 kept wanted pages nodes register bytes y1-0 = fill-step″.res kept y1-0 pages nodes register bytes
 
-abbrev pub r2 : Kept → Wanted → List ℕ → List ℕ → List Record → List ℕ → Lengths
-r2 kept wanted pages nodes register out = lengths-for″.res (r1 kept wanted pages nodes register out) (length pages) (length nodes) (length register)
+abbrev pub pages₁ : Kept → Wanted → List ℕ → List ℕ → List Record → List ℕ → Fill → List ℕ
+pages₁ kept wanted pages nodes register bytes y1-0 = fill-step″.out-pages kept y1-0 pages nodes register bytes
 
-abbrev pub pages₃ : Kept → Wanted → List ℕ → List ℕ → List Record → List ℕ → Turn → List ℕ → List ℕ → List Record → List ℕ → List ℕ
-pages₃ kept wanted pages nodes register out r3 part-pages₃ part-nodes₃ part-register₃ out₃ = part-pages₃ ++ drop ((r2 kept wanted pages nodes register out) .pages) pages
+abbrev pub nodes₁ : Kept → Wanted → List ℕ → List ℕ → List Record → List ℕ → Fill → List ℕ
+nodes₁ kept wanted pages nodes register bytes y1-0 = fill-step″.out-nodes kept y1-0 pages nodes register bytes
 
-abbrev pub nodes₃ : Kept → Wanted → List ℕ → List ℕ → List Record → List ℕ → Turn → List ℕ → List ℕ → List Record → List ℕ → List ℕ
-nodes₃ kept wanted pages nodes register out r3 part-pages₃ part-nodes₃ part-register₃ out₃ = part-nodes₃ ++ drop ((r2 kept wanted pages nodes register out) .nodes) nodes
+abbrev pub register₁ : Kept → Wanted → List ℕ → List ℕ → List Record → List ℕ → Fill → List Record
+register₁ kept wanted pages nodes register bytes y1-0 = fill-step″.out-register kept y1-0 pages nodes register bytes
 
-abbrev pub register₃ : Kept → Wanted → List ℕ → List ℕ → List Record → List ℕ → Turn → List ℕ → List ℕ → List Record → List ℕ → List Record
-register₃ kept wanted pages nodes register out r3 part-pages₃ part-nodes₃ part-register₃ out₃ = part-register₃ ++ drop ((r2 kept wanted pages nodes register out) .register) register
+abbrev pub r2 : Kept → Wanted → List ℕ → List ℕ → List Record → List ℕ → Note → Turn
+r2 kept wanted pages nodes register bytes y1-0 = note-step″.res kept y1-0 pages nodes register
 
--- pages has as many elements as are lent of it
-abbrev pub part-1 : Type 0
-part-1 =
-    (kept : Kept) (wanted : Wanted) (pages : List ℕ) (nodes : List ℕ) (register : List Record) (out : List ℕ) (ok-kept : Kept′.Ok kept) (ok-wanted : Wanted′.Ok wanted) (len-pages : length pages < 2 ^ 64) (len-nodes : length nodes < 2 ^ 64) (len-register : length register < 2 ^ 64) (len-out : length out < 2 ^ 64) (ok-r1 : Store′.Ok (r1 kept wanted pages nodes register out)) (ok-r2 : Lengths′.Ok (r2 kept wanted pages nodes register out))
-    → ((r2 kept wanted pages nodes register out) .pages) ≤ length pages
+abbrev pub register₂ : Kept → Wanted → List ℕ → List ℕ → List Record → List ℕ → Note → List Record
+register₂ kept wanted pages nodes register bytes y1-0 = note-step″.out-register kept y1-0 pages nodes register
 
--- nodes has as many elements as are lent of it
-abbrev pub part-2 : Type 0
-part-2 =
-    (kept : Kept) (wanted : Wanted) (pages : List ℕ) (nodes : List ℕ) (register : List Record) (out : List ℕ) (ok-kept : Kept′.Ok kept) (ok-wanted : Wanted′.Ok wanted) (len-pages : length pages < 2 ^ 64) (len-nodes : length nodes < 2 ^ 64) (len-register : length register < 2 ^ 64) (len-out : length out < 2 ^ 64) (ok-r1 : Store′.Ok (r1 kept wanted pages nodes register out)) (ok-r2 : Lengths′.Ok (r2 kept wanted pages nodes register out)) (part3-pages : ((r2 kept wanted pages nodes register out) .pages) ≤ length pages) (cut3-pages : length (take ((r2 kept wanted pages nodes register out) .pages) pages) ≡ ((r2 kept wanted pages nodes register out) .pages))
-    → ((r2 kept wanted pages nodes register out) .nodes) ≤ length nodes
+abbrev pub r3 : Kept → Wanted → List ℕ → List ℕ → List Record → List ℕ → Look → Turn
+r3 kept wanted pages nodes register bytes y1-0 = look-step″.res kept y1-0 pages nodes register
 
--- register has as many elements as are lent of it
-abbrev pub part-3 : Type 0
-part-3 =
-    (kept : Kept) (wanted : Wanted) (pages : List ℕ) (nodes : List ℕ) (register : List Record) (out : List ℕ) (ok-kept : Kept′.Ok kept) (ok-wanted : Wanted′.Ok wanted) (len-pages : length pages < 2 ^ 64) (len-nodes : length nodes < 2 ^ 64) (len-register : length register < 2 ^ 64) (len-out : length out < 2 ^ 64) (ok-r1 : Store′.Ok (r1 kept wanted pages nodes register out)) (ok-r2 : Lengths′.Ok (r2 kept wanted pages nodes register out)) (part3-pages : ((r2 kept wanted pages nodes register out) .pages) ≤ length pages) (cut3-pages : length (take ((r2 kept wanted pages nodes register out) .pages) pages) ≡ ((r2 kept wanted pages nodes register out) .pages)) (part3-nodes : ((r2 kept wanted pages nodes register out) .nodes) ≤ length nodes) (cut3-nodes : length (take ((r2 kept wanted pages nodes register out) .nodes) nodes) ≡ ((r2 kept wanted pages nodes register out) .nodes))
-    → ((r2 kept wanted pages nodes register out) .register) ≤ length register
+-- the function ensures: (r ≡ turned (stepSaid kept wanted (areasOf pages nodes register) bytes)) × (pages′ ≡ stepAreas kept wanted (areasOf pages nodes register) bytes .pages) × (nodes′ ≡ stepAreas kept wanted (areasOf pages nodes register) bytes .nodes) × (register′ ≡ stepAreas kept wanted (areasOf pages nodes register) bytes .register)
+abbrev pub exit-1 : Type 0
+exit-1 =
+    (kept : Kept) (wanted : Wanted) (pages : List ℕ) (nodes : List ℕ) (register : List Record) (bytes : List ℕ) (ok-kept : Kept′.Ok kept) (ok-wanted : Wanted′.Ok wanted) (len-pages : length pages < 2 ^ 64) (len-nodes : length nodes < 2 ^ 64) (len-register : length register < 2 ^ 64) (len-bytes : length bytes < 2 ^ 64) (y1-0 : Fill) (m1 : wanted ≡ Wanted.Fill y1-0) (ok-y1-0 : Fill′.Ok y1-0) (ok-r1 : Turn′.Ok (r1 kept wanted pages nodes register bytes y1-0)) (same1-pages : length (pages₁ kept wanted pages nodes register bytes y1-0) ≡ length pages) (same1-nodes : length (nodes₁ kept wanted pages nodes register bytes y1-0) ≡ length nodes) (same1-register : length (register₁ kept wanted pages nodes register bytes y1-0) ≡ length register)
+    → respond″.ens kept wanted pages nodes register bytes (pages₁ kept wanted pages nodes register bytes y1-0) (nodes₁ kept wanted pages nodes register bytes y1-0) (register₁ kept wanted pages nodes register bytes y1-0) (r1 kept wanted pages nodes register bytes y1-0)
+
+-- the function ensures: (r ≡ turned (stepSaid kept wanted (areasOf pages nodes register) bytes)) × (pages′ ≡ stepAreas kept wanted (areasOf pages nodes register) bytes .pages) × (nodes′ ≡ stepAreas kept wanted (areasOf pages nodes register) bytes .nodes) × (register′ ≡ stepAreas kept wanted (areasOf pages nodes register) bytes .register)
+abbrev pub exit-2 : Type 0
+exit-2 =
+    (kept : Kept) (wanted : Wanted) (pages : List ℕ) (nodes : List ℕ) (register : List Record) (bytes : List ℕ) (ok-kept : Kept′.Ok kept) (ok-wanted : Wanted′.Ok wanted) (len-pages : length pages < 2 ^ 64) (len-nodes : length nodes < 2 ^ 64) (len-register : length register < 2 ^ 64) (len-bytes : length bytes < 2 ^ 64) (y1-0 : Note) (m1 : wanted ≡ Wanted.Note y1-0) (ok-y1-0 : Note′.Ok y1-0) (ok-r2 : Turn′.Ok (r2 kept wanted pages nodes register bytes y1-0)) (same2-register : length (register₂ kept wanted pages nodes register bytes y1-0) ≡ length register)
+    → respond″.ens kept wanted pages nodes register bytes pages nodes (register₂ kept wanted pages nodes register bytes y1-0) (r2 kept wanted pages nodes register bytes y1-0)
+
+-- the function ensures: (r ≡ turned (stepSaid kept wanted (areasOf pages nodes register) bytes)) × (pages′ ≡ stepAreas kept wanted (areasOf pages nodes register) bytes .pages) × (nodes′ ≡ stepAreas kept wanted (areasOf pages nodes register) bytes .nodes) × (register′ ≡ stepAreas kept wanted (areasOf pages nodes register) bytes .register)
+abbrev pub exit-3 : Type 0
+exit-3 =
+    (kept : Kept) (wanted : Wanted) (pages : List ℕ) (nodes : List ℕ) (register : List Record) (bytes : List ℕ) (ok-kept : Kept′.Ok kept) (ok-wanted : Wanted′.Ok wanted) (len-pages : length pages < 2 ^ 64) (len-nodes : length nodes < 2 ^ 64) (len-register : length register < 2 ^ 64) (len-bytes : length bytes < 2 ^ 64) (y1-0 : Look) (m1 : wanted ≡ Wanted.Look y1-0) (ok-y1-0 : Look′.Ok y1-0) (ok-r3 : Turn′.Ok (r3 kept wanted pages nodes register bytes y1-0))
+    → respond″.ens kept wanted pages nodes register bytes pages nodes register (r3 kept wanted pages nodes register bytes y1-0)

@@ -1,22 +1,22 @@
 -- The facts that the walk of `respond::respond` asks for. The author's file: tools/walkgen wrote its skeleton once, and with --rebind brings the arguments up to date.
-use native.Mathlib.Nat.{min-le-right}
-use Rattle.wanted.specs.Wanted.{lengthsFor}
+use mathlib.Core.Path.{refl}
+use Rattle.versions.specs.Store.{areasOf}
+use Rattle.wanted.specs.Steps.{stepAreas}
+use Rattle.respond.proofs.Bytes.{note-said, note-areas, look-said}
 use Rattle.respond.proofs.respond.Proof.Asks as Asks
 
--- pages has as many elements as are lent of it
--- here: ((r2 kept wanted pages nodes register out) .pages) ≤ length pages
-pub part-1 : Asks.part-1
-unfolding lengthsFor
-part-1 kept wanted pages nodes register out ok-kept ok-wanted len-pages len-nodes len-register len-out ok-r1 ok-r2 = min-le-right _ _
+-- the function ensures: (r ≡ turned (stepSaid kept wanted (areasOf pages nodes register) bytes)) × (pages′ ≡ stepAreas kept wanted (areasOf pages nodes register) bytes .pages) × (nodes′ ≡ stepAreas kept wanted (areasOf pages nodes register) bytes .nodes) × (register′ ≡ stepAreas kept wanted (areasOf pages nodes register) bytes .register)
+-- here: respond″.ens kept wanted pages nodes register bytes (pages₁ kept wanted pages nodes register bytes y1-0) (nodes₁ kept wanted pages nodes register bytes y1-0) (register₁ kept wanted pages nodes register bytes y1-0) (r1 kept wanted pages nodes register bytes y1-0)
+pub exit-1 : Asks.exit-1
+exit-1 kept wanted pages nodes register bytes ok-kept ok-wanted len-pages len-nodes len-register len-bytes y1-0 m1 ok-y1-0 ok-r1 same1-pages same1-nodes same1-register = rw m1 (refl, refl, refl, refl)
 
--- nodes has as many elements as are lent of it
--- here: ((r2 kept wanted pages nodes register out) .nodes) ≤ length nodes
-pub part-2 : Asks.part-2
-unfolding lengthsFor
-part-2 kept wanted pages nodes register out ok-kept ok-wanted len-pages len-nodes len-register len-out ok-r1 ok-r2 part3-pages cut3-pages = min-le-right _ _
+-- the function ensures: (r ≡ turned (stepSaid kept wanted (areasOf pages nodes register) bytes)) × (pages′ ≡ stepAreas kept wanted (areasOf pages nodes register) bytes .pages) × (nodes′ ≡ stepAreas kept wanted (areasOf pages nodes register) bytes .nodes) × (register′ ≡ stepAreas kept wanted (areasOf pages nodes register) bytes .register)
+-- here: respond″.ens kept wanted pages nodes register bytes pages nodes (register₂ kept wanted pages nodes register bytes y1-0) (r2 kept wanted pages nodes register bytes y1-0)
+pub exit-2 : Asks.exit-2
+exit-2 kept wanted pages nodes register bytes ok-kept ok-wanted len-pages len-nodes len-register len-bytes y1-0 m1 ok-y1-0 ok-r2 same2-register = rw (m1, note-said kept y1-0 (areasOf pages nodes register) bytes, note-areas kept y1-0 (areasOf pages nodes register) bytes) (refl, refl, refl, refl)
 
--- register has as many elements as are lent of it
--- here: ((r2 kept wanted pages nodes register out) .register) ≤ length register
-pub part-3 : Asks.part-3
-unfolding lengthsFor
-part-3 kept wanted pages nodes register out ok-kept ok-wanted len-pages len-nodes len-register len-out ok-r1 ok-r2 part3-pages cut3-pages part3-nodes cut3-nodes = min-le-right _ _
+-- the function ensures: (r ≡ turned (stepSaid kept wanted (areasOf pages nodes register) bytes)) × (pages′ ≡ stepAreas kept wanted (areasOf pages nodes register) bytes .pages) × (nodes′ ≡ stepAreas kept wanted (areasOf pages nodes register) bytes .nodes) × (register′ ≡ stepAreas kept wanted (areasOf pages nodes register) bytes .register)
+-- here: respond″.ens kept wanted pages nodes register bytes pages nodes register (r3 kept wanted pages nodes register bytes y1-0)
+pub exit-3 : Asks.exit-3
+unfolding stepAreas
+exit-3 kept wanted pages nodes register bytes ok-kept ok-wanted len-pages len-nodes len-register len-bytes y1-0 m1 ok-y1-0 ok-r3 = rw (m1, look-said kept y1-0 (areasOf pages nodes register) bytes) (refl, refl, refl, refl)

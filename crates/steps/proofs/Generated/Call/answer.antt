@@ -63,15 +63,15 @@ module _ {M : Type 1} {𝓤 : URA M} {H : Heap 𝓤} {A : Atoms 𝓤} {K : Type 
   -- the call itself is made by `by-call`, from what the callee asks to what it has ensured
   core : K → (mem : Memory → SProp 𝓤) (run : Routine → Fun 𝓤) → (kept : Kept) (c : Cutter) (κ·text : Lft) (q·text : Share) (b·text o·text : ℕ) (γ·text : GName) (n·text : ℕ) (text : List ℕ) (κ·pages : Lft) (q·pages : Share) (b·pages o·pages : ℕ) (γ·pages : GName) (n·pages : ℕ) (pages : List ℕ) (κ·nodes : Lft) (q·nodes : Share) (b·nodes o·nodes : ℕ) (γ·nodes : GName) (n·nodes : ℕ) (nodes : List ℕ) (κ·register : Lft) (q·register : Share) (b·register o·register : ℕ) (γ·register : GName) (n·register : ℕ) (register : List Record) → (G : Goal 𝓤 H) (after : Val → Goal 𝓤 H) → ((v : Val) → Soaks (after v))
       → (((v : Val) → Seq K W (raw (Asked 𝓤 H A mem run .post (to 𝓤 H A mem run kept c κ·text q·text b·text o·text γ·text n·text text κ·pages q·pages b·pages o·pages γ·pages n·pages pages κ·nodes q·nodes b·nodes o·nodes γ·nodes n·nodes nodes κ·register q·register b·register o·register γ·register n·register register) v) ∷ ‵ (ShrAt u8 κ·text b·text o·text γ·text n·text text) ∷ Γ) (after v)) → Seq K W (raw (Asked 𝓤 H A mem run .pre (to 𝓤 H A mem run kept c κ·text q·text b·text o·text γ·text n·text text κ·pages q·pages b·pages o·pages γ·pages n·pages pages κ·nodes q·nodes b·nodes o·nodes γ·nodes n·nodes nodes κ·register q·register b·register o·register γ·register n·register register)) ∷ ‵ (ShrAt u8 κ·text b·text o·text γ·text n·text text) ∷ Γ) G) → Is Kept′.row kept (Kept′.vals kept) → Is Cutter′.row c (Cutter′.vals c) →
-      ((x·res : Place‴) → (zs·pages : List ℕ) → (zs·nodes : List ℕ) → (zs·register : List Record) → Is Place′.row x·res (Place′.vals x·res) → length zs·pages ≡ length pages → length zs·nodes ≡ length nodes → length zs·register ≡ length register → Seq K W (‵ (flft κ·text q·text) ∷ ‵ (ShrAt u8 κ·text b·text o·text γ·text n·text text) ∷ ‵ (flft κ·pages q·pages) ∷ ‵ (finally u8 γ·pages zs·pages) ∷ ‵ (flft κ·nodes q·nodes) ∷ ‵ (finally u32 γ·nodes zs·nodes) ∷ ‵ (flft κ·register q·register) ∷ ‵ (finally Record′.row γ·register zs·register) ∷ Γ) (after (Place′.mach x·res))) → Seq K W (‵ (flft κ·text q·text) ∷ ‵ (ShrAt u8 κ·text b·text o·text γ·text n·text text) ∷ ‵ (flft κ·pages q·pages) ∷ ‵ (MutAt u8 κ·pages b·pages o·pages γ·pages n·pages pages) ∷ ‵ (flft κ·nodes q·nodes) ∷ ‵ (MutAt u32 κ·nodes b·nodes o·nodes γ·nodes n·nodes nodes) ∷ ‵ (flft κ·register q·register) ∷ ‵ (MutAt Record′.row κ·register b·register o·register γ·register n·register register) ∷ Γ) G
+      ((x·res : Place‴) → (zs·pages : List ℕ) → (zs·nodes : List ℕ) → (zs·register : List Record) → Is Place′.row x·res (Place′.vals x·res) → length zs·pages ≡ length pages → length zs·nodes ≡ length nodes → length zs·register ≡ length register → answer″.ens kept c text pages nodes register zs·pages zs·nodes zs·register x·res → Seq K W (‵ (flft κ·text q·text) ∷ ‵ (ShrAt u8 κ·text b·text o·text γ·text n·text text) ∷ ‵ (flft κ·pages q·pages) ∷ ‵ (finally u8 γ·pages zs·pages) ∷ ‵ (flft κ·nodes q·nodes) ∷ ‵ (finally u32 γ·nodes zs·nodes) ∷ ‵ (flft κ·register q·register) ∷ ‵ (finally Record′.row γ·register zs·register) ∷ Γ) (after (Place′.mach x·res))) → Seq K W (‵ (flft κ·text q·text) ∷ ‵ (ShrAt u8 κ·text b·text o·text γ·text n·text text) ∷ ‵ (flft κ·pages q·pages) ∷ ‵ (MutAt u8 κ·pages b·pages o·pages γ·pages n·pages pages) ∷ ‵ (flft κ·nodes q·nodes) ∷ ‵ (MutAt u32 κ·nodes b·nodes o·nodes γ·nodes n·nodes nodes) ∷ ‵ (flft κ·register q·register) ∷ ‵ (MutAt Record′.row κ·register b·register o·register γ·register n·register register) ∷ Γ) G
   core t mem run kept c κ·text q·text b·text o·text γ·text n·text text κ·pages q·pages b·pages o·pages γ·pages n·pages pages κ·nodes q·nodes b·nodes o·nodes γ·nodes n·nodes nodes κ·register q·register b·register o·register γ·register n·register register G after soaks by-call ok·kept ok·c k =
       move t (1 ∷ []) $ keeps-shr t u8 κ·text b·text o·text γ·text n·text text $ move t (2 ∷ 0 ∷ 3 ∷ 4 ∷ 5 ∷ 6 ∷ 7 ∷ 8 ∷ 1 ∷ []) $
       move t (6 ∷ 7 ∷ []) $ join t $ move t (6 ∷ 0 ∷ []) $ join t $ move t (5 ∷ 0 ∷ []) $ join t $ move t (4 ∷ 0 ∷ []) $ join t $ move t (3 ∷ 0 ∷ []) $ join t $ move t (2 ∷ 0 ∷ []) $ join t $ move t (1 ∷ 0 ∷ []) $ join t $ use1 W (raw (Asked 𝓤 H A mem run .pre (to 𝓤 H A mem run kept c κ·text q·text b·text o·text γ·text n·text text κ·pages q·pages b·pages o·pages γ·pages n·pages pages κ·nodes q·nodes b·nodes o·nodes γ·nodes n·nodes nodes κ·register q·register b·register o·register γ·register n·register register))) goes $
       by-call (λ v.
       use1 W (later (some (λ (r· : Place‴). ((‵ (flft κ·text q·text) ⊛ ‵ (flft κ·pages q·pages) ⊛ ‵ (flft κ·nodes q·nodes) ⊛ ‵ (flft κ·register q·register) ⊛ ‵ ftrue) ⊛ ‵ (Place′.row .own r· (v ∷ []))) ⊛ raw (ensured 𝓤 H A callee.ended (callee.clauses 𝓤 H A mem run) (κ·text, (κ·pages, (κ·nodes, (κ·register, tt)))) (kept, (c, (ref b·text o·text γ·text text, (ref b·pages o·pages γ·pages pages, (ref b·nodes o·nodes γ·nodes nodes, (ref b·register o·register γ·register register, tt)))))) tt r·)))) (id⊢ 𝓤 _) $ await t (soaks v) $ pick t (λ r·. split t $ move t (1 ∷ []) $
-      use1 W (some (λ (ws : Lasts callee.ended (κ·text, (κ·pages, (κ·nodes, (κ·register, tt)))) (kept, (c, (ref b·text o·text γ·text text, (ref b·pages o·pages γ·pages pages, (ref b·nodes o·nodes γ·nodes nodes, (ref b·register o·register γ·register register, tt))))))). ‵ (lasts callee.ended (κ·text, (κ·pages, (κ·nodes, (κ·register, tt)))) (kept, (c, (ref b·text o·text γ·text text, (ref b·pages o·pages γ·pages pages, (ref b·nodes o·nodes γ·nodes nodes, (ref b·register o·register γ·register register, tt)))))) ws) ⊛ raw (emp 𝓤))) (id⊢ 𝓤 _) $ pick t (λ ws. split t $ move t (1 ∷ []) $
-      drop t $ fsplit t $ drop t $ fsplit t $ drop t $ fsplit t $ drop t $ fsplit t $ fsplit t $ move t (1 ∷ []) $ feqL t (λ same·pages. move t (1 ∷ []) $ fsplit t $ fsplit t $ move t (1 ∷ []) $ feqL t (λ same·nodes. move t (1 ∷ []) $ fsplit t $ fsplit t $ move t (1 ∷ []) $ feqL t (λ same·register. move t (1 ∷ []) $ drop t $ move t (3 ∷ []) $ split t $ move t (1 ∷ []) $ facts t Place′.row (Is Place′.row) (shows 𝓤 H A Place′.row) r· (v ∷ []) (λ is. split t $ move t (1 ∷ []) $ split t $ move t (1 ∷ []) $ split t $ move t (1 ∷ []) $ split t $ move t (1 ∷ []) $ drop t $ move t (3 ∷ 7 ∷ 2 ∷ 6 ∷ 1 ∷ 5 ∷ 0 ∷ 4 ∷ []) $
-      subst (λ (u : Val). Seq K W (‵ (flft κ·text q·text) ∷ ‵ (ShrAt u8 κ·text b·text o·text γ·text n·text text) ∷ ‵ (flft κ·pages q·pages) ∷ ‵ (finally u8 γ·pages (ws .1 .1 .1 .0)) ∷ ‵ (flft κ·nodes q·nodes) ∷ ‵ (finally u32 γ·nodes (ws .1 .1 .1 .1 .0)) ∷ ‵ (flft κ·register q·register) ∷ ‵ (finally Record′.row γ·register (ws .1 .1 .1 .1 .1 .0)) ∷ Γ) (after u)) (sym (ap only (Place′.tells r· (v ∷ []) is))) (k r· (ws .1 .1 .1 .0) (ws .1 .1 .1 .1 .0) (ws .1 .1 .1 .1 .1 .0) (subst (Is Place′.row r·) (Place′.tells r· (v ∷ []) is) is) same·pages same·nodes same·register))))))))
+      use1 W (some (λ (ws : Lasts callee.ended (κ·text, (κ·pages, (κ·nodes, (κ·register, tt)))) (kept, (c, (ref b·text o·text γ·text text, (ref b·pages o·pages γ·pages pages, (ref b·nodes o·nodes γ·nodes nodes, (ref b·register o·register γ·register register, tt))))))). ‵ (lasts callee.ended (κ·text, (κ·pages, (κ·nodes, (κ·register, tt)))) (kept, (c, (ref b·text o·text γ·text text, (ref b·pages o·pages γ·pages pages, (ref b·nodes o·nodes γ·nodes nodes, (ref b·register o·register γ·register register, tt)))))) ws) ⊛ raw (fact 𝓤 (answer″.ens kept c text pages nodes register (ws .1 .1 .1 .0) (ws .1 .1 .1 .1 .0) (ws .1 .1 .1 .1 .1 .0) r·)))) (id⊢ 𝓤 _) $ pick t (λ ws. split t $ move t (1 ∷ []) $
+      heard t (answer″.ens kept c text pages nodes register (ws .1 .1 .1 .0) (ws .1 .1 .1 .1 .0) (ws .1 .1 .1 .1 .1 .0) r·) (λ e. fsplit t $ drop t $ fsplit t $ drop t $ fsplit t $ drop t $ fsplit t $ fsplit t $ move t (1 ∷ []) $ feqL t (λ same·pages. move t (1 ∷ []) $ fsplit t $ fsplit t $ move t (1 ∷ []) $ feqL t (λ same·nodes. move t (1 ∷ []) $ fsplit t $ fsplit t $ move t (1 ∷ []) $ feqL t (λ same·register. move t (1 ∷ []) $ drop t $ move t (3 ∷ []) $ split t $ move t (1 ∷ []) $ facts t Place′.row (Is Place′.row) (shows 𝓤 H A Place′.row) r· (v ∷ []) (λ is. split t $ move t (1 ∷ []) $ split t $ move t (1 ∷ []) $ split t $ move t (1 ∷ []) $ split t $ move t (1 ∷ []) $ drop t $ move t (3 ∷ 7 ∷ 2 ∷ 6 ∷ 1 ∷ 5 ∷ 0 ∷ 4 ∷ []) $
+      subst (λ (u : Val). Seq K W (‵ (flft κ·text q·text) ∷ ‵ (ShrAt u8 κ·text b·text o·text γ·text n·text text) ∷ ‵ (flft κ·pages q·pages) ∷ ‵ (finally u8 γ·pages (ws .1 .1 .1 .0)) ∷ ‵ (flft κ·nodes q·nodes) ∷ ‵ (finally u32 γ·nodes (ws .1 .1 .1 .1 .0)) ∷ ‵ (flft κ·register q·register) ∷ ‵ (finally Record′.row γ·register (ws .1 .1 .1 .1 .1 .0)) ∷ Γ) (after u)) (sym (ap only (Place′.tells r· (v ∷ []) is))) (k r· (ws .1 .1 .1 .0) (ws .1 .1 .1 .1 .0) (ws .1 .1 .1 .1 .1 .0) (subst (Is Place′.row r·) (Place′.tells r· (v ∷ []) is) is) same·pages same·nodes same·register e)))))))))
     where
       goes : ent 𝓤 (⋆ 𝓤 H A (‵ (flft κ·text q·text) ∷ ‵ (ShrAt u8 κ·text b·text o·text γ·text n·text text) ∷ ‵ (flft κ·pages q·pages) ∷ ‵ (MutAt u8 κ·pages b·pages o·pages γ·pages n·pages pages) ∷ ‵ (flft κ·nodes q·nodes) ∷ ‵ (MutAt u32 κ·nodes b·nodes o·nodes γ·nodes n·nodes nodes) ∷ ‵ (flft κ·register q·register) ∷ ‵ (MutAt Record′.row κ·register b·register o·register γ·register n·register register) ∷ [])) (Asked 𝓤 H A mem run .pre (to 𝓤 H A mem run kept c κ·text q·text b·text o·text γ·text n·text text κ·pages q·pages b·pages o·pages γ·pages n·pages pages κ·nodes q·nodes b·nodes o·nodes γ·nodes n·nodes nodes κ·register q·register b·register o·register γ·register n·register register))
       goes = qed W (‵ (flft κ·text q·text) ∷ ‵ (ShrAt u8 κ·text b·text o·text γ·text n·text text) ∷ ‵ (flft κ·pages q·pages) ∷ ‵ (MutAt u8 κ·pages b·pages o·pages γ·pages n·pages pages) ∷ ‵ (flft κ·nodes q·nodes) ∷ ‵ (MutAt u32 κ·nodes b·nodes o·nodes γ·nodes n·nodes nodes) ∷ ‵ (flft κ·register q·register) ∷ ‵ (MutAt Record′.row κ·register b·register o·register γ·register n·register register) ∷ []) ∵ plus-nothing ! $ nothing ! $ move ! (7 ∷ 0 ∷ []) $ join ! $ move ! (5 ∷ 0 ∷ []) $ join ! $ move ! (3 ∷ 0 ∷ []) $ join ! $ move ! (1 ∷ 0 ∷ []) $ join ! $ frame ! $ nothing ! $ move ! (4 ∷ 0 ∷ []) $ fjoin ! $ move ! (3 ∷ 0 ∷ []) $ fjoin ! $ move ! (2 ∷ 0 ∷ []) $ fjoin ! $ move ! (1 ∷ 0 ∷ []) $ fjoin ! $ owned ! Cutter′.row (Is Cutter′.row) (Cutter′.makes 𝓤 H A) c _ ok·c $ fjoin ! $ owned ! Kept′.row (Is Kept′.row) (Kept′.makes 𝓤 H A) kept _ ok·kept $ fjoin ! $ done !
@@ -80,7 +80,7 @@ module _ {M : Type 1} {𝓤 : URA M} {H : Heap 𝓤} {A : Atoms 𝓤} {K : Type 
   -- by one instance of the callee's contract, which is what a function that calls itself has
   pub calls-by : K → (mem : Memory → SProp 𝓤) (run : Routine → Fun 𝓤) → FmC 𝓤 H (W .laws) C → (kept : Kept) (c : Cutter) (κ·text : Lft) (q·text : Share) (b·text o·text : ℕ) (γ·text : GName) (n·text : ℕ) (text : List ℕ) (κ·pages : Lft) (q·pages : Share) (b·pages o·pages : ℕ) (γ·pages : GName) (n·pages : ℕ) (pages : List ℕ) (κ·nodes : Lft) (q·nodes : Share) (b·nodes o·nodes : ℕ) (γ·nodes : GName) (n·nodes : ℕ) (nodes : List ℕ) (κ·register : Lft) (q·register : Share) (b·register o·register : ℕ) (γ·register : GName) (n·register : ℕ) (register : List Record) → ent 𝓤 (Asked 𝓤 H A mem run .pre (to 𝓤 H A mem run kept c κ·text q·text b·text o·text γ·text n·text text κ·pages q·pages b·pages o·pages γ·pages n·pages pages κ·nodes q·nodes b·nodes o·nodes γ·nodes n·nodes nodes κ·register q·register b·register o·register γ·register n·register register)) (C #callee (Asked 𝓤 H A mem run .args (to 𝓤 H A mem run kept c κ·text q·text b·text o·text γ·text n·text text κ·pages q·pages b·pages o·pages γ·pages n·pages pages κ·nodes q·nodes b·nodes o·nodes γ·nodes n·nodes nodes κ·register q·register b·register o·register γ·register n·register register)) (Asked 𝓤 H A mem run .post (to 𝓤 H A mem run kept c κ·text q·text b·text o·text γ·text n·text text κ·pages q·pages b·pages o·pages γ·pages n·pages pages κ·nodes q·nodes b·nodes o·nodes γ·nodes n·nodes nodes κ·register q·register b·register o·register γ·register n·register register))) → Is Kept′.row kept (Kept′.vals kept) → Is Cutter′.row c (Cutter′.vals c) →
       Opds K W (raw (Asked 𝓤 H A mem run .pre (to 𝓤 H A mem run kept c κ·text q·text b·text o·text γ·text n·text text κ·pages q·pages b·pages o·pages γ·pages n·pages pages κ·nodes q·nodes b·nodes o·nodes γ·nodes n·nodes nodes κ·register q·register b·register o·register γ·register n·register register)) ∷ ‵ (ShrAt u8 κ·text b·text o·text γ·text n·text text) ∷ Γ) E xs (Kept′.mach kept ∷ Cutter′.mach c ∷ sliceVal (b·text, o·text) n·text ∷ sliceVal (b·pages, o·pages) n·pages ∷ sliceVal (b·nodes, o·nodes) n·nodes ∷ sliceVal (b·register, o·register) n·register ∷ [])
-      → ((x·res : Place‴) → (zs·pages : List ℕ) → (zs·nodes : List ℕ) → (zs·register : List Record) → Is Place′.row x·res (Place′.vals x·res) → length zs·pages ≡ length pages → length zs·nodes ≡ length nodes → length zs·register ≡ length register → Seq K W (‵ (flft κ·text q·text) ∷ ‵ (ShrAt u8 κ·text b·text o·text γ·text n·text text) ∷ ‵ (flft κ·pages q·pages) ∷ ‵ (finally u8 γ·pages zs·pages) ∷ ‵ (flft κ·nodes q·nodes) ∷ ‵ (finally u32 γ·nodes zs·nodes) ∷ ‵ (flft κ·register q·register) ∷ ‵ (finally Record′.row γ·register zs·register) ∷ Γ) (lands C Λ E d (Place′.mach x·res) rest Q))
+      → ((x·res : Place‴) → (zs·pages : List ℕ) → (zs·nodes : List ℕ) → (zs·register : List Record) → Is Place′.row x·res (Place′.vals x·res) → length zs·pages ≡ length pages → length zs·nodes ≡ length nodes → length zs·register ≡ length register → answer″.ens kept c text pages nodes register zs·pages zs·nodes zs·register x·res → Seq K W (‵ (flft κ·text q·text) ∷ ‵ (ShrAt u8 κ·text b·text o·text γ·text n·text text) ∷ ‵ (flft κ·pages q·pages) ∷ ‵ (finally u8 γ·pages zs·pages) ∷ ‵ (flft κ·nodes q·nodes) ∷ ‵ (finally u32 γ·nodes zs·nodes) ∷ ‵ (flft κ·register q·register) ∷ ‵ (finally Record′.row γ·register zs·register) ∷ Γ) (lands C Λ E d (Place′.mach x·res) rest Q))
       → Seq K W (‵ (flft κ·text q·text) ∷ ‵ (ShrAt u8 κ·text b·text o·text γ·text n·text text) ∷ ‵ (flft κ·pages q·pages) ∷ ‵ (MutAt u8 κ·pages b·pages o·pages γ·pages n·pages pages) ∷ ‵ (flft κ·nodes q·nodes) ∷ ‵ (MutAt u32 κ·nodes b·nodes o·nodes γ·nodes n·nodes nodes) ∷ ‵ (flft κ·register q·register) ∷ ‵ (MutAt Record′.row κ·register b·register o·register γ·register n·register register) ∷ Γ) (runs C Λ E (seq (call #callee xs d) rest) Q)
   calls-by t mem run fm kept c κ·text q·text b·text o·text γ·text n·text text κ·pages q·pages b·pages o·pages γ·pages n·pages pages κ·nodes q·nodes b·nodes o·nodes γ·nodes n·nodes nodes κ·register q·register b·register o·register γ·register n·register register known ok·kept ok·c os k =
       core t mem run kept c κ·text q·text b·text o·text γ·text n·text text κ·pages q·pages b·pages o·pages γ·pages n·pages pages κ·nodes q·nodes b·nodes o·nodes γ·nodes n·nodes nodes κ·register q·register b·register o·register γ·register n·register register (runs C Λ E (seq (call #callee xs d) rest) Q) (λ v. lands C Λ E d v rest Q) (λ v. tt)
@@ -88,7 +88,7 @@ module _ {M : Type 1} {𝓤 : URA M} {H : Heap 𝓤} {A : Atoms 𝓤} {K : Type 
 
   pub calls : K → (mem : Memory → SProp 𝓤) (run : Routine → Fun 𝓤) → FmC 𝓤 H (W .laws) C → Triple 𝓤 (C #callee) (Asked 𝓤 H A mem run) → (kept : Kept) (c : Cutter) (κ·text : Lft) (q·text : Share) (b·text o·text : ℕ) (γ·text : GName) (n·text : ℕ) (text : List ℕ) (κ·pages : Lft) (q·pages : Share) (b·pages o·pages : ℕ) (γ·pages : GName) (n·pages : ℕ) (pages : List ℕ) (κ·nodes : Lft) (q·nodes : Share) (b·nodes o·nodes : ℕ) (γ·nodes : GName) (n·nodes : ℕ) (nodes : List ℕ) (κ·register : Lft) (q·register : Share) (b·register o·register : ℕ) (γ·register : GName) (n·register : ℕ) (register : List Record) → Is Kept′.row kept (Kept′.vals kept) → Is Cutter′.row c (Cutter′.vals c) →
       Opds K W (raw (Asked 𝓤 H A mem run .pre (to 𝓤 H A mem run kept c κ·text q·text b·text o·text γ·text n·text text κ·pages q·pages b·pages o·pages γ·pages n·pages pages κ·nodes q·nodes b·nodes o·nodes γ·nodes n·nodes nodes κ·register q·register b·register o·register γ·register n·register register)) ∷ ‵ (ShrAt u8 κ·text b·text o·text γ·text n·text text) ∷ Γ) E xs (Kept′.mach kept ∷ Cutter′.mach c ∷ sliceVal (b·text, o·text) n·text ∷ sliceVal (b·pages, o·pages) n·pages ∷ sliceVal (b·nodes, o·nodes) n·nodes ∷ sliceVal (b·register, o·register) n·register ∷ [])
-      → ((x·res : Place‴) → (zs·pages : List ℕ) → (zs·nodes : List ℕ) → (zs·register : List Record) → Is Place′.row x·res (Place′.vals x·res) → length zs·pages ≡ length pages → length zs·nodes ≡ length nodes → length zs·register ≡ length register → Seq K W (‵ (flft κ·text q·text) ∷ ‵ (ShrAt u8 κ·text b·text o·text γ·text n·text text) ∷ ‵ (flft κ·pages q·pages) ∷ ‵ (finally u8 γ·pages zs·pages) ∷ ‵ (flft κ·nodes q·nodes) ∷ ‵ (finally u32 γ·nodes zs·nodes) ∷ ‵ (flft κ·register q·register) ∷ ‵ (finally Record′.row γ·register zs·register) ∷ Γ) (lands C Λ E d (Place′.mach x·res) rest Q))
+      → ((x·res : Place‴) → (zs·pages : List ℕ) → (zs·nodes : List ℕ) → (zs·register : List Record) → Is Place′.row x·res (Place′.vals x·res) → length zs·pages ≡ length pages → length zs·nodes ≡ length nodes → length zs·register ≡ length register → answer″.ens kept c text pages nodes register zs·pages zs·nodes zs·register x·res → Seq K W (‵ (flft κ·text q·text) ∷ ‵ (ShrAt u8 κ·text b·text o·text γ·text n·text text) ∷ ‵ (flft κ·pages q·pages) ∷ ‵ (finally u8 γ·pages zs·pages) ∷ ‵ (flft κ·nodes q·nodes) ∷ ‵ (finally u32 γ·nodes zs·nodes) ∷ ‵ (flft κ·register q·register) ∷ ‵ (finally Record′.row γ·register zs·register) ∷ Γ) (lands C Λ E d (Place′.mach x·res) rest Q))
       → Seq K W (‵ (flft κ·text q·text) ∷ ‵ (ShrAt u8 κ·text b·text o·text γ·text n·text text) ∷ ‵ (flft κ·pages q·pages) ∷ ‵ (MutAt u8 κ·pages b·pages o·pages γ·pages n·pages pages) ∷ ‵ (flft κ·nodes q·nodes) ∷ ‵ (MutAt u32 κ·nodes b·nodes o·nodes γ·nodes n·nodes nodes) ∷ ‵ (flft κ·register q·register) ∷ ‵ (MutAt Record′.row κ·register b·register o·register γ·register n·register register) ∷ Γ) (runs C Λ E (seq (call #callee xs d) rest) Q)
   calls t mem run fm known kept c κ·text q·text b·text o·text γ·text n·text text κ·pages q·pages b·pages o·pages γ·pages n·pages pages κ·nodes q·nodes b·nodes o·nodes γ·nodes n·nodes nodes κ·register q·register b·register o·register γ·register n·register register = calls-by t mem run fm kept c κ·text q·text b·text o·text γ·text n·text text κ·pages q·pages b·pages o·pages γ·pages n·pages pages κ·nodes q·nodes b·nodes o·nodes γ·nodes n·nodes nodes κ·register q·register b·register o·register γ·register n·register register (known (to 𝓤 H A mem run kept c κ·text q·text b·text o·text γ·text n·text text κ·pages q·pages b·pages o·pages γ·pages n·pages pages κ·nodes q·nodes b·nodes o·nodes γ·nodes n·nodes nodes κ·register q·register b·register o·register γ·register n·register register))
 
@@ -96,7 +96,7 @@ module _ {M : Type 1} {𝓤 : URA M} {H : Heap 𝓤} {A : Atoms 𝓤} {K : Type 
   -- by one instance of the callee's contract, which is what a function that calls itself has. The call ends a part of the code
   pub calls-last-by : K → (mem : Memory → SProp 𝓤) (run : Routine → Fun 𝓤) → FmC 𝓤 H (W .laws) C → (kept : Kept) (c : Cutter) (κ·text : Lft) (q·text : Share) (b·text o·text : ℕ) (γ·text : GName) (n·text : ℕ) (text : List ℕ) (κ·pages : Lft) (q·pages : Share) (b·pages o·pages : ℕ) (γ·pages : GName) (n·pages : ℕ) (pages : List ℕ) (κ·nodes : Lft) (q·nodes : Share) (b·nodes o·nodes : ℕ) (γ·nodes : GName) (n·nodes : ℕ) (nodes : List ℕ) (κ·register : Lft) (q·register : Share) (b·register o·register : ℕ) (γ·register : GName) (n·register : ℕ) (register : List Record) → ent 𝓤 (Asked 𝓤 H A mem run .pre (to 𝓤 H A mem run kept c κ·text q·text b·text o·text γ·text n·text text κ·pages q·pages b·pages o·pages γ·pages n·pages pages κ·nodes q·nodes b·nodes o·nodes γ·nodes n·nodes nodes κ·register q·register b·register o·register γ·register n·register register)) (C #callee (Asked 𝓤 H A mem run .args (to 𝓤 H A mem run kept c κ·text q·text b·text o·text γ·text n·text text κ·pages q·pages b·pages o·pages γ·pages n·pages pages κ·nodes q·nodes b·nodes o·nodes γ·nodes n·nodes nodes κ·register q·register b·register o·register γ·register n·register register)) (Asked 𝓤 H A mem run .post (to 𝓤 H A mem run kept c κ·text q·text b·text o·text γ·text n·text text κ·pages q·pages b·pages o·pages γ·pages n·pages pages κ·nodes q·nodes b·nodes o·nodes γ·nodes n·nodes nodes κ·register q·register b·register o·register γ·register n·register register))) → Is Kept′.row kept (Kept′.vals kept) → Is Cutter′.row c (Cutter′.vals c) →
       Opds K W (raw (Asked 𝓤 H A mem run .pre (to 𝓤 H A mem run kept c κ·text q·text b·text o·text γ·text n·text text κ·pages q·pages b·pages o·pages γ·pages n·pages pages κ·nodes q·nodes b·nodes o·nodes γ·nodes n·nodes nodes κ·register q·register b·register o·register γ·register n·register register)) ∷ ‵ (ShrAt u8 κ·text b·text o·text γ·text n·text text) ∷ Γ) E xs (Kept′.mach kept ∷ Cutter′.mach c ∷ sliceVal (b·text, o·text) n·text ∷ sliceVal (b·pages, o·pages) n·pages ∷ sliceVal (b·nodes, o·nodes) n·nodes ∷ sliceVal (b·register, o·register) n·register ∷ [])
-      → ((x·res : Place‴) → (zs·pages : List ℕ) → (zs·nodes : List ℕ) → (zs·register : List Record) → Is Place′.row x·res (Place′.vals x·res) → length zs·pages ≡ length pages → length zs·nodes ≡ length nodes → length zs·register ≡ length register → Seq K W (‵ (flft κ·text q·text) ∷ ‵ (ShrAt u8 κ·text b·text o·text γ·text n·text text) ∷ ‵ (flft κ·pages q·pages) ∷ ‵ (finally u8 γ·pages zs·pages) ∷ ‵ (flft κ·nodes q·nodes) ∷ ‵ (finally u32 γ·nodes zs·nodes) ∷ ‵ (flft κ·register q·register) ∷ ‵ (finally Record′.row γ·register zs·register) ∷ Γ) (settles E d (Place′.mach x·res) Q))
+      → ((x·res : Place‴) → (zs·pages : List ℕ) → (zs·nodes : List ℕ) → (zs·register : List Record) → Is Place′.row x·res (Place′.vals x·res) → length zs·pages ≡ length pages → length zs·nodes ≡ length nodes → length zs·register ≡ length register → answer″.ens kept c text pages nodes register zs·pages zs·nodes zs·register x·res → Seq K W (‵ (flft κ·text q·text) ∷ ‵ (ShrAt u8 κ·text b·text o·text γ·text n·text text) ∷ ‵ (flft κ·pages q·pages) ∷ ‵ (finally u8 γ·pages zs·pages) ∷ ‵ (flft κ·nodes q·nodes) ∷ ‵ (finally u32 γ·nodes zs·nodes) ∷ ‵ (flft κ·register q·register) ∷ ‵ (finally Record′.row γ·register zs·register) ∷ Γ) (settles E d (Place′.mach x·res) Q))
       → Seq K W (‵ (flft κ·text q·text) ∷ ‵ (ShrAt u8 κ·text b·text o·text γ·text n·text text) ∷ ‵ (flft κ·pages q·pages) ∷ ‵ (MutAt u8 κ·pages b·pages o·pages γ·pages n·pages pages) ∷ ‵ (flft κ·nodes q·nodes) ∷ ‵ (MutAt u32 κ·nodes b·nodes o·nodes γ·nodes n·nodes nodes) ∷ ‵ (flft κ·register q·register) ∷ ‵ (MutAt Record′.row κ·register b·register o·register γ·register n·register register) ∷ Γ) (runs C Λ E (call #callee xs d) Q)
   calls-last-by t mem run fm kept c κ·text q·text b·text o·text γ·text n·text text κ·pages q·pages b·pages o·pages γ·pages n·pages pages κ·nodes q·nodes b·nodes o·nodes γ·nodes n·nodes nodes κ·register q·register b·register o·register γ·register n·register register known ok·kept ok·c os k =
       core t mem run kept c κ·text q·text b·text o·text γ·text n·text text κ·pages q·pages b·pages o·pages γ·pages n·pages pages κ·nodes q·nodes b·nodes o·nodes γ·nodes n·nodes nodes κ·register q·register b·register o·register γ·register n·register register (runs C Λ E (call #callee xs d) Q) (λ v. settles E d v Q) (λ v. tt)
@@ -104,6 +104,6 @@ module _ {M : Type 1} {𝓤 : URA M} {H : Heap 𝓤} {A : Atoms 𝓤} {K : Type 
 
   pub calls-last : K → (mem : Memory → SProp 𝓤) (run : Routine → Fun 𝓤) → FmC 𝓤 H (W .laws) C → Triple 𝓤 (C #callee) (Asked 𝓤 H A mem run) → (kept : Kept) (c : Cutter) (κ·text : Lft) (q·text : Share) (b·text o·text : ℕ) (γ·text : GName) (n·text : ℕ) (text : List ℕ) (κ·pages : Lft) (q·pages : Share) (b·pages o·pages : ℕ) (γ·pages : GName) (n·pages : ℕ) (pages : List ℕ) (κ·nodes : Lft) (q·nodes : Share) (b·nodes o·nodes : ℕ) (γ·nodes : GName) (n·nodes : ℕ) (nodes : List ℕ) (κ·register : Lft) (q·register : Share) (b·register o·register : ℕ) (γ·register : GName) (n·register : ℕ) (register : List Record) → Is Kept′.row kept (Kept′.vals kept) → Is Cutter′.row c (Cutter′.vals c) →
       Opds K W (raw (Asked 𝓤 H A mem run .pre (to 𝓤 H A mem run kept c κ·text q·text b·text o·text γ·text n·text text κ·pages q·pages b·pages o·pages γ·pages n·pages pages κ·nodes q·nodes b·nodes o·nodes γ·nodes n·nodes nodes κ·register q·register b·register o·register γ·register n·register register)) ∷ ‵ (ShrAt u8 κ·text b·text o·text γ·text n·text text) ∷ Γ) E xs (Kept′.mach kept ∷ Cutter′.mach c ∷ sliceVal (b·text, o·text) n·text ∷ sliceVal (b·pages, o·pages) n·pages ∷ sliceVal (b·nodes, o·nodes) n·nodes ∷ sliceVal (b·register, o·register) n·register ∷ [])
-      → ((x·res : Place‴) → (zs·pages : List ℕ) → (zs·nodes : List ℕ) → (zs·register : List Record) → Is Place′.row x·res (Place′.vals x·res) → length zs·pages ≡ length pages → length zs·nodes ≡ length nodes → length zs·register ≡ length register → Seq K W (‵ (flft κ·text q·text) ∷ ‵ (ShrAt u8 κ·text b·text o·text γ·text n·text text) ∷ ‵ (flft κ·pages q·pages) ∷ ‵ (finally u8 γ·pages zs·pages) ∷ ‵ (flft κ·nodes q·nodes) ∷ ‵ (finally u32 γ·nodes zs·nodes) ∷ ‵ (flft κ·register q·register) ∷ ‵ (finally Record′.row γ·register zs·register) ∷ Γ) (settles E d (Place′.mach x·res) Q))
+      → ((x·res : Place‴) → (zs·pages : List ℕ) → (zs·nodes : List ℕ) → (zs·register : List Record) → Is Place′.row x·res (Place′.vals x·res) → length zs·pages ≡ length pages → length zs·nodes ≡ length nodes → length zs·register ≡ length register → answer″.ens kept c text pages nodes register zs·pages zs·nodes zs·register x·res → Seq K W (‵ (flft κ·text q·text) ∷ ‵ (ShrAt u8 κ·text b·text o·text γ·text n·text text) ∷ ‵ (flft κ·pages q·pages) ∷ ‵ (finally u8 γ·pages zs·pages) ∷ ‵ (flft κ·nodes q·nodes) ∷ ‵ (finally u32 γ·nodes zs·nodes) ∷ ‵ (flft κ·register q·register) ∷ ‵ (finally Record′.row γ·register zs·register) ∷ Γ) (settles E d (Place′.mach x·res) Q))
       → Seq K W (‵ (flft κ·text q·text) ∷ ‵ (ShrAt u8 κ·text b·text o·text γ·text n·text text) ∷ ‵ (flft κ·pages q·pages) ∷ ‵ (MutAt u8 κ·pages b·pages o·pages γ·pages n·pages pages) ∷ ‵ (flft κ·nodes q·nodes) ∷ ‵ (MutAt u32 κ·nodes b·nodes o·nodes γ·nodes n·nodes nodes) ∷ ‵ (flft κ·register q·register) ∷ ‵ (MutAt Record′.row κ·register b·register o·register γ·register n·register register) ∷ Γ) (runs C Λ E (call #callee xs d) Q)
   calls-last t mem run fm known kept c κ·text q·text b·text o·text γ·text n·text text κ·pages q·pages b·pages o·pages γ·pages n·pages pages κ·nodes q·nodes b·nodes o·nodes γ·nodes n·nodes nodes κ·register q·register b·register o·register γ·register n·register register = calls-last-by t mem run fm kept c κ·text q·text b·text o·text γ·text n·text text κ·pages q·pages b·pages o·pages γ·pages n·pages pages κ·nodes q·nodes b·nodes o·nodes γ·nodes n·nodes nodes κ·register q·register b·register o·register γ·register n·register register (known (to 𝓤 H A mem run kept c κ·text q·text b·text o·text γ·text n·text text κ·pages q·pages b·pages o·pages γ·pages n·pages pages κ·nodes q·nodes b·nodes o·nodes γ·nodes n·nodes nodes κ·register q·register b·register o·register γ·register n·register register))

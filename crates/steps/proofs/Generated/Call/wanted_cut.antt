@@ -41,7 +41,7 @@ use Rattle.changes.proofs.Generated.Kind.Fill as Fill′
 use Rattle.wanted.specs.declared.Note.{Note}
 use Rattle.changes.proofs.Generated.Kind.Note as Note′
 use Rattle.wanted.specs.declared.Look.{Look}
-use Rattle.changes.proofs.Generated.Kind.Look as Look′
+use Rattle.looks.proofs.Generated.Kind.Look as Look′
 use Rattle.register.proofs.Generated.Flow.{ref, MutAt, ShrAt, keeps-shr, plus-nothing}
 use Rattle.wanted.proofs.wanted_cut as callee
 use Rattle.wanted.proofs.wanted_cut.Symbol.{name as #callee}

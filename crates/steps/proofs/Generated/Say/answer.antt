@@ -3,10 +3,11 @@
 -- Assumes nothing.
 use Prim.Native.Nat.{ℕ, _≤_}
 use mathlib.Core.List.{List}
-use mathlib.Core.Bool.{Bool}
+use mathlib.Core.Bool.{Bool, not}
 use mathlib.Core.Path.{_≡_}
 use lib.ListN.{length}
-use Rattle.steps.specs.Places.{nextPlace, samePlace, isDue}
+use Rattle.versions.specs.Store.{areasOf}
+use Rattle.steps.specs.Places.{nextPlace, samePlace, isDue, lineSaid, lineAreas}
 use Rattle.answers.specs.declared.Kept.{Kept}
 use Rattle.lines.specs.declared.Entries.{Entries}
 use Rattle.parse.specs.declared.Cutter.{Cutter}
@@ -15,3 +16,6 @@ use Rattle.steps.specs.declared.Place.{Place as Place‴, Place}
 use Rattle.tree.specs.declared.PageIndex.{PageIndex}
 use Rattle.tree.specs.declared.Ticket.{Ticket}
 use Rattle.versions.specs.declared.Store.{Store}
+
+abbrev pub ens : Kept → Cutter → List ℕ → List ℕ → List ℕ → List Record → List ℕ → List ℕ → List Record → Place‴ → Type 0
+ens kept c text pages nodes register pages′ nodes′ register′ r = (r ≡ nextPlace (lineSaid kept c text (areasOf pages nodes register) .kept) (not (r .ended))) × (pages′ ≡ lineAreas kept c text (areasOf pages nodes register) .pages) × (nodes′ ≡ lineAreas kept c text (areasOf pages nodes register) .nodes) × (register′ ≡ lineAreas kept c text (areasOf pages nodes register) .register)

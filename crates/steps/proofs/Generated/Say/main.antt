@@ -3,8 +3,9 @@
 -- Assumes nothing.
 use Prim.Native.Nat.{ℕ, _≤_}
 use mathlib.Core.List.{List}
-use mathlib.Core.Bool.{Bool}
+use mathlib.Core.Bool.{Bool, not}
 use mathlib.Core.Path.{_≡_}
 use lib.ListN.{length}
-use Rattle.steps.specs.Places.{nextPlace, samePlace, isDue}
+use Rattle.versions.specs.Store.{areasOf}
+use Rattle.steps.specs.Places.{nextPlace, samePlace, isDue, lineSaid, lineAreas}
 use Rattle.steps.specs.declared.Place.{Place as Place‴, Place}

@@ -7,7 +7,7 @@ use mathlib.Core.Bool.{Bool}
 use mathlib.Core.Path.{_≡_}
 use Rattle.text.specs.Buffer.{front}
 use Rattle.parse.specs.Cut.{cutMeant}
-use Rattle.wanted.specs.Wanted.{nothingKept, beyond, formatWanted, readWanted, wantedBy, storeFor, lengthsFor}
+use Rattle.wanted.specs.Wanted.{nothingKept, beyond, formatWanted, readWanted, wantedBy, storeFor, lengthsFor, lentLengths}
 use Rattle.parse.specs.declared.Cutter.{Cutter}
 use Rattle.wanted.specs.declared.Fill.{Fill}
 use Rattle.wanted.specs.declared.Look.{Look}

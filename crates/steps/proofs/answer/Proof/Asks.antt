@@ -4,10 +4,10 @@
 use mathlib.Core.Path.{_≡_, refl, sym, _∙_, ap, subst}
 use Prim.Native.Nat.{ℕ, _+_, _-_, _*_, _<_, _≤_, _^_}
 use native.Mathlib.Omega.{arith}
-use mathlib.Core.List.{List, [], _∷_}
+use mathlib.Core.List.{List, [], _∷_, _++_}
 use mathlib.Core.Bool.{Bool, true, false, not}
 use lib.Dec.{ltb, leb, eqb}
-use lib.ListN.{length, getD, set, replicate}
+use lib.ListN.{length, getD, set, replicate, take, drop}
 use Rattle.steps.specs.declared.Place.{Place as Place‴}
 use Rattle.steps.proofs.Generated.Kind.Place as Place′
 use Rattle.answers.specs.declared.Kept.{Kept}
@@ -24,12 +24,74 @@ use Rattle.tree.specs.declared.PageIndex.{PageIndex}
 use Rattle.register.proofs.Generated.Kind.PageIndex as PageIndex′
 use Rattle.lines.specs.declared.Entries.{Entries}
 use Rattle.register.proofs.Generated.Kind.Entries as Entries′
+use Rattle.wanted.specs.declared.Wanted.{Wanted}
+use Rattle.respond.proofs.Generated.Kind.Wanted as Wanted′
+use Rattle.wanted.specs.declared.Fill.{Fill}
+use Rattle.changes.proofs.Generated.Kind.Fill as Fill′
+use Rattle.wanted.specs.declared.Note.{Note}
+use Rattle.changes.proofs.Generated.Kind.Note as Note′
+use Rattle.wanted.specs.declared.Look.{Look}
+use Rattle.looks.proofs.Generated.Kind.Look as Look′
+use Rattle.versions.specs.declared.Lengths.{Lengths}
+use Rattle.versions.proofs.Generated.Kind.Lengths as Lengths′
 use Rattle.answers.specs.declared.Turn.{Turn}
 use Rattle.answers.proofs.Generated.Kind.Turn as Turn′
 use Rattle.steps.proofs.Generated.Say.answer as answer″
-use Rattle.steps.proofs.Generated.Say.turn as turn″
-use Rattle.steps.proofs.Generated.Say.write_out as write-out″
-use Rattle.steps.proofs.Generated.Say.next_place as next-place″
+use Rattle.steps.proofs.Generated.Say.wanted_cut as wanted-cut″
+use Rattle.steps.proofs.Generated.Say.lent_lengths as lent-lengths″
+use Rattle.respond.proofs.Generated.Say.respond as respond″
+use Rattle.steps.proofs.Generated.Say.place_after as place-after″
 
-abbrev pub r3 : Kept → Cutter → List ℕ → List ℕ → List ℕ → List Record → List ℕ → Turn → List ℕ → List ℕ → List Record → List ℕ → Bool → Place‴
-r3 kept c text pages nodes register arr7 r1 pages₁ nodes₁ register₁ arr7₁ r2 = next-place″.res (r1 .kept) r2
+abbrev pub r1 : Kept → Cutter → List ℕ → List ℕ → List ℕ → List Record → List ℕ → Wanted
+r1 kept c text pages nodes register arr7 = wanted-cut″.res c text arr7
+
+abbrev pub arr7₁ : Kept → Cutter → List ℕ → List ℕ → List ℕ → List Record → List ℕ → List ℕ
+arr7₁ kept c text pages nodes register arr7 = wanted-cut″.out-out c text arr7
+
+abbrev pub r2 : Kept → Cutter → List ℕ → List ℕ → List ℕ → List Record → List ℕ → Lengths
+r2 kept c text pages nodes register arr7 = lent-lengths″.res kept (r1 kept c text pages nodes register arr7) (length pages) (length nodes) (length register)
+
+abbrev pub r3 : Kept → Cutter → List ℕ → List ℕ → List ℕ → List Record → List ℕ → Turn
+r3 kept c text pages nodes register arr7 = respond″.res kept (r1 kept c text pages nodes register arr7) (take ((r2 kept c text pages nodes register arr7) .pages) pages) (take ((r2 kept c text pages nodes register arr7) .nodes) nodes) (take ((r2 kept c text pages nodes register arr7) .register) register) (arr7₁ kept c text pages nodes register arr7)
+
+abbrev pub part-pages₃ : Kept → Cutter → List ℕ → List ℕ → List ℕ → List Record → List ℕ → List ℕ
+part-pages₃ kept c text pages nodes register arr7 = respond″.out-pages kept (r1 kept c text pages nodes register arr7) (take ((r2 kept c text pages nodes register arr7) .pages) pages) (take ((r2 kept c text pages nodes register arr7) .nodes) nodes) (take ((r2 kept c text pages nodes register arr7) .register) register) (arr7₁ kept c text pages nodes register arr7)
+
+abbrev pub part-nodes₃ : Kept → Cutter → List ℕ → List ℕ → List ℕ → List Record → List ℕ → List ℕ
+part-nodes₃ kept c text pages nodes register arr7 = respond″.out-nodes kept (r1 kept c text pages nodes register arr7) (take ((r2 kept c text pages nodes register arr7) .pages) pages) (take ((r2 kept c text pages nodes register arr7) .nodes) nodes) (take ((r2 kept c text pages nodes register arr7) .register) register) (arr7₁ kept c text pages nodes register arr7)
+
+abbrev pub part-register₃ : Kept → Cutter → List ℕ → List ℕ → List ℕ → List Record → List ℕ → List Record
+part-register₃ kept c text pages nodes register arr7 = respond″.out-register kept (r1 kept c text pages nodes register arr7) (take ((r2 kept c text pages nodes register arr7) .pages) pages) (take ((r2 kept c text pages nodes register arr7) .nodes) nodes) (take ((r2 kept c text pages nodes register arr7) .register) register) (arr7₁ kept c text pages nodes register arr7)
+
+abbrev pub pages₃ : Kept → Cutter → List ℕ → List ℕ → List ℕ → List Record → List ℕ → List ℕ
+pages₃ kept c text pages nodes register arr7 = (part-pages₃ kept c text pages nodes register arr7) ++ drop ((r2 kept c text pages nodes register arr7) .pages) pages
+
+abbrev pub nodes₃ : Kept → Cutter → List ℕ → List ℕ → List ℕ → List Record → List ℕ → List ℕ
+nodes₃ kept c text pages nodes register arr7 = (part-nodes₃ kept c text pages nodes register arr7) ++ drop ((r2 kept c text pages nodes register arr7) .nodes) nodes
+
+abbrev pub register₃ : Kept → Cutter → List ℕ → List ℕ → List ℕ → List Record → List ℕ → List Record
+register₃ kept c text pages nodes register arr7 = (part-register₃ kept c text pages nodes register arr7) ++ drop ((r2 kept c text pages nodes register arr7) .register) register
+
+-- pages has as many elements as are lent of it
+abbrev pub part-1 : Type 0
+part-1 =
+    (kept : Kept) (c : Cutter) (text : List ℕ) (pages : List ℕ) (nodes : List ℕ) (register : List Record) (ok-kept : Kept′.Ok kept) (ok-c : Cutter′.Ok c) (len-text : length text < 2 ^ 64) (len-pages : length pages < 2 ^ 64) (len-nodes : length nodes < 2 ^ 64) (len-register : length register < 2 ^ 64) (arr7 : List ℕ) (made-arr7 : arr7 ≡ replicate 600 0) (len-arr7 : 600 ≡ length arr7) (ok-r1 : Wanted′.Ok (r1 kept c text pages nodes register arr7)) (same1-arr7 : length (arr7₁ kept c text pages nodes register arr7) ≡ length arr7) (ok-r2 : Lengths′.Ok (r2 kept c text pages nodes register arr7))
+    → ((r2 kept c text pages nodes register arr7) .pages) ≤ length pages
+
+-- nodes has as many elements as are lent of it
+abbrev pub part-2 : Type 0
+part-2 =
+    (kept : Kept) (c : Cutter) (text : List ℕ) (pages : List ℕ) (nodes : List ℕ) (register : List Record) (ok-kept : Kept′.Ok kept) (ok-c : Cutter′.Ok c) (len-text : length text < 2 ^ 64) (len-pages : length pages < 2 ^ 64) (len-nodes : length nodes < 2 ^ 64) (len-register : length register < 2 ^ 64) (arr7 : List ℕ) (made-arr7 : arr7 ≡ replicate 600 0) (len-arr7 : 600 ≡ length arr7) (ok-r1 : Wanted′.Ok (r1 kept c text pages nodes register arr7)) (same1-arr7 : length (arr7₁ kept c text pages nodes register arr7) ≡ length arr7) (ok-r2 : Lengths′.Ok (r2 kept c text pages nodes register arr7)) (part3-pages : ((r2 kept c text pages nodes register arr7) .pages) ≤ length pages) (cut3-pages : length (take ((r2 kept c text pages nodes register arr7) .pages) pages) ≡ ((r2 kept c text pages nodes register arr7) .pages))
+    → ((r2 kept c text pages nodes register arr7) .nodes) ≤ length nodes
+
+-- register has as many elements as are lent of it
+abbrev pub part-3 : Type 0
+part-3 =
+    (kept : Kept) (c : Cutter) (text : List ℕ) (pages : List ℕ) (nodes : List ℕ) (register : List Record) (ok-kept : Kept′.Ok kept) (ok-c : Cutter′.Ok c) (len-text : length text < 2 ^ 64) (len-pages : length pages < 2 ^ 64) (len-nodes : length nodes < 2 ^ 64) (len-register : length register < 2 ^ 64) (arr7 : List ℕ) (made-arr7 : arr7 ≡ replicate 600 0) (len-arr7 : 600 ≡ length arr7) (ok-r1 : Wanted′.Ok (r1 kept c text pages nodes register arr7)) (same1-arr7 : length (arr7₁ kept c text pages nodes register arr7) ≡ length arr7) (ok-r2 : Lengths′.Ok (r2 kept c text pages nodes register arr7)) (part3-pages : ((r2 kept c text pages nodes register arr7) .pages) ≤ length pages) (cut3-pages : length (take ((r2 kept c text pages nodes register arr7) .pages) pages) ≡ ((r2 kept c text pages nodes register arr7) .pages)) (part3-nodes : ((r2 kept c text pages nodes register arr7) .nodes) ≤ length nodes) (cut3-nodes : length (take ((r2 kept c text pages nodes register arr7) .nodes) nodes) ≡ ((r2 kept c text pages nodes register arr7) .nodes))
+    → ((r2 kept c text pages nodes register arr7) .register) ≤ length register
+
+-- the function ensures: (r ≡ nextPlace (lineSaid kept c text (areasOf pages nodes register) .kept) (not (r .ended))) × (pages′ ≡ lineAreas kept c text (areasOf pages nodes register) .pages) × (nodes′ ≡ lineAreas kept c text (areasOf pages nodes register) .nodes) × (register′ ≡ lineAreas kept c text (areasOf pages nodes register) .register)
+abbrev pub exit-1 : Type 0
+exit-1 =
+    (kept : Kept) (c : Cutter) (text : List ℕ) (pages : List ℕ) (nodes : List ℕ) (register : List Record) (ok-kept : Kept′.Ok kept) (ok-c : Cutter′.Ok c) (len-text : length text < 2 ^ 64) (len-pages : length pages < 2 ^ 64) (len-nodes : length nodes < 2 ^ 64) (len-register : length register < 2 ^ 64) (arr7 : List ℕ) (made-arr7 : arr7 ≡ replicate 600 0) (len-arr7 : 600 ≡ length arr7) (ok-r1 : Wanted′.Ok (r1 kept c text pages nodes register arr7)) (same1-arr7 : length (arr7₁ kept c text pages nodes register arr7) ≡ length arr7) (ok-r2 : Lengths′.Ok (r2 kept c text pages nodes register arr7)) (part3-pages : ((r2 kept c text pages nodes register arr7) .pages) ≤ length pages) (cut3-pages : length (take ((r2 kept c text pages nodes register arr7) .pages) pages) ≡ ((r2 kept c text pages nodes register arr7) .pages)) (part3-nodes : ((r2 kept c text pages nodes register arr7) .nodes) ≤ length nodes) (cut3-nodes : length (take ((r2 kept c text pages nodes register arr7) .nodes) nodes) ≡ ((r2 kept c text pages nodes register arr7) .nodes)) (part3-register : ((r2 kept c text pages nodes register arr7) .register) ≤ length register) (cut3-register : length (take ((r2 kept c text pages nodes register arr7) .register) register) ≡ ((r2 kept c text pages nodes register arr7) .register)) (ok-r3 : Turn′.Ok (r3 kept c text pages nodes register arr7)) (kept3-pages : length (part-pages₃ kept c text pages nodes register arr7) ≡ ((r2 kept c text pages nodes register arr7) .pages)) (same3-pages : length (pages₃ kept c text pages nodes register arr7) ≡ length pages) (kept3-nodes : length (part-nodes₃ kept c text pages nodes register arr7) ≡ ((r2 kept c text pages nodes register arr7) .nodes)) (same3-nodes : length (nodes₃ kept c text pages nodes register arr7) ≡ length nodes) (kept3-register : length (part-register₃ kept c text pages nodes register arr7) ≡ ((r2 kept c text pages nodes register arr7) .register)) (same3-register : length (register₃ kept c text pages nodes register arr7) ≡ length register) (r4 : Place‴) (ok-r4 : Place′.Ok r4) (says4 : place-after″.ens (r3 kept c text pages nodes register arr7) r4)
+    → answer″.ens kept c text pages nodes register (pages₃ kept c text pages nodes register arr7) (nodes₃ kept c text pages nodes register arr7) (register₃ kept c text pages nodes register arr7) r4
