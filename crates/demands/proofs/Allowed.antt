@@ -11,7 +11,7 @@ use Rattle.table.proofs.Table.{passed}
 use Rattle.versions.specs.Store.{Areas}
 use Rattle.format.specs.Format.{formatRefusal}
 use Rattle.model.specs.Model.{Limits}
-use Rattle.model.proofs.Sound.{Allowed}
+use Rattle.model.proofs.Model.Sound.{Allowed}
 use Rattle.demands.specs.Demands.{Accepted}
 
 divisor-le : (s : ℕ) → 4096 % s ≡ 0 → s ≤ 4096

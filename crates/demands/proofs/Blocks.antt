@@ -9,7 +9,7 @@ use lib.Seq.{set-split, take-at, drop-at, drop-drop}
 use Rattle.pages.specs.Pages.{put, part}
 use Rattle.model.specs.History.{Page}
 use Rattle.model.specs.InTurn.{joined}
-use Rattle.model.proofs.Blocks.{Blocks, joined-append, joined-split, length-front, block-drop, block-room, block-part as block-taken}
+use Rattle.model.proofs.Lists.Blocks.{Blocks, joined-append, joined-split, length-front, block-drop, block-room, block-part as block-taken}
 
 module _ (S : ℕ) (xs : List Page) (sized : Blocks S xs) (q : ℕ) (there : q < length xs) where
   pub block-part : part (joined xs) (S * q) S ≡ getD xs q []

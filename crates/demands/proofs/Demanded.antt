@@ -12,23 +12,23 @@ use Rattle.model.specs.Model.{Limits, Line, Model, noModel, lineAt, history}
 use Rattle.model.specs.OnModel.{onModel, branched, branchNumber, onLine}
 use Rattle.model.specs.Run.{run, outcomes, modelAfter}
 use Rattle.model.specs.Due.{publishes}
-use Rattle.model.proofs.Sound.{Sound}
-use Rattle.model.proofs.SoundHistory.{line-history}
-use Rattle.model.proofs.Shown.{versions-length}
-use Rattle.model.proofs.Runs.{run-append, run-image, outcomes-image}
-use Rattle.model.proofs.Kept.Every.{step-sound, empty-sound, sound-after}
-use Rattle.model.proofs.Asked.{recent-accepted, read-accepted, view-accepted, stamp-accepted, size-accepted, Reads, query-alike}
-use Rattle.model.proofs.Blob.{bytes-length}
-use Rattle.model.proofs.Since.{stamp-published, stamp-below, view-since, view-before, view-stamped}
-use Rattle.model.proofs.Found.{tree-image}
-use Rattle.model.proofs.Later.{run-grown, later-line, later-published, later-query}
-use Rattle.model.proofs.Woven.{published-upto}
-use Rattle.model.proofs.Stay.{SameUpTo, same-less}
-use Rattle.model.proofs.Shared.{branch-reads}
-use Rattle.model.proofs.Passed.{BranchPassed, branch-passed, line-answered}
-use Rattle.model.proofs.Kept.Branch.{branched-length, branched-new}
-use Rattle.model.proofs.Reached.{reached-windows, reached-exact, reached-comes}
-use Rattle.model.proofs.Held.{waits, waits-back, publish-held, held-inside, held-still}
+use Rattle.model.proofs.Model.Sound.{Sound}
+use Rattle.model.proofs.History.SoundHistory.{line-history}
+use Rattle.model.proofs.Model.Shown.{versions-length}
+use Rattle.model.proofs.Lists.Runs.{run-append, run-image, outcomes-image}
+use Rattle.model.proofs.Calls.Kept.Every.{step-sound, empty-sound, sound-after}
+use Rattle.model.proofs.Line.Asked.{recent-accepted, read-accepted, view-accepted, stamp-accepted, size-accepted, Reads, query-alike}
+use Rattle.model.proofs.History.Blob.{bytes-length}
+use Rattle.model.proofs.Line.Since.{stamp-published, stamp-below, view-since, view-before, view-stamped}
+use Rattle.model.proofs.Area.Found.{tree-image}
+use Rattle.model.proofs.Calls.Later.{run-grown, later-line, later-published, later-query}
+use Rattle.model.proofs.Area.Woven.{published-upto}
+use Rattle.model.proofs.History.Stay.{SameUpTo, same-less}
+use Rattle.model.proofs.Line.Shared.{branch-reads}
+use Rattle.model.proofs.Model.Passed.{BranchPassed, branch-passed, line-answered}
+use Rattle.model.proofs.Calls.Kept.Branch.{branched-length, branched-new}
+use Rattle.model.proofs.Calls.Reached.{reached-windows, reached-exact, reached-comes}
+use Rattle.model.proofs.Calls.Held.{waits, waits-back, publish-held, held-inside, held-still}
 use Rattle.isolation.proofs.Isolation.{isolated as isolated-model}
 use Rattle.demands.specs.Run.{State, onStore, formattedState, storeAfter, asked}
 use Rattle.demands.specs.Demands.{Accepted, Published, AnswersAsModel, ReadsInTurn, Compared, Kept, Reaches, Held, Fetches, BeginsFrom, ThirdDemand, Demanded, Isolated}

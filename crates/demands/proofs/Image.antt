@@ -22,8 +22,8 @@ use Rattle.model.specs.History.{Page, Ticket, Version, pagesOf, toUpdate, blobS
 use Rattle.model.specs.Model.{Limits, Model, lineAt, updateAt, history, ticketUpdate, numbered, Line}
 use Rattle.model.specs.Layout.{nodePlace, nodesUsed, pagesUsed, slotNumber}
 use Rattle.model.specs.OnModel.{ticketIn, either}
-use Rattle.model.proofs.Laid.{tab}
-use Rattle.model.proofs.Image.{pagesImage, nodesImage}
+use Rattle.model.proofs.Lists.Laid.{tab}
+use Rattle.model.proofs.Area.Image.{pagesImage, nodesImage}
 use Rattle.demands.specs.Run.{State, stateWith, withWindows, freshOf}
 
 -- ---- the register: record i has ticket i + 1's part, update i + 1's, and for each line its own version i + 1

@@ -26,13 +26,13 @@ use Rattle.versions.proofs.Own.{line-there, line-past}
 use Rattle.model.specs.History.{blobSize}
 use Rattle.model.specs.Model.{Limits, Line, Model, noLine, lineAt, updateAt, history, numbered, numberIn}
 use Rattle.model.specs.OnModel.{either}
-use Rattle.model.proofs.Sound.{Sound}
-use Rattle.model.proofs.Tab.{getD-tab, tab-set}
-use Rattle.model.proofs.Nth.{nth-past}
-use Rattle.model.proofs.Facts.{versions-few, versions-most, shown-sound, shown-small}
-use Rattle.model.proofs.Shown.{shownAt, blob-shown}
-use Rattle.model.proofs.Owner.{ownerOf as ownerIn, owner-there, owner-starts, owner-shows, owner-number, source-there, source-has, owner-own as own-here, owner-shared as own-there}
-use Rattle.model.proofs.Numbers.{numbered-is, number-is, number-line, number-version}
+use Rattle.model.proofs.Model.Sound.{Sound}
+use Rattle.model.proofs.Lists.Tab.{getD-tab, tab-set}
+use Rattle.model.proofs.Lists.Nth.{nth-past}
+use Rattle.model.proofs.Model.Facts.{versions-few, versions-most, shown-sound, shown-small}
+use Rattle.model.proofs.Model.Shown.{shownAt, blob-shown}
+use Rattle.model.proofs.Line.Owner.{ownerOf as ownerIn, owner-there, owner-starts, owner-shows, owner-number, source-there, source-has, owner-own as own-here, owner-shared as own-there}
+use Rattle.model.proofs.Line.Numbers.{numbered-is, number-is, number-line, number-version}
 use Rattle.demands.proofs.Image.{ownAt, recordImage, registerImage, branchImage, sourcesImage, linesImage, storeImage, areasImage}
 use Rattle.demands.proofs.Records.{record-of, own-upto, name-image, update-room}
 

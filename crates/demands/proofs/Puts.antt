@@ -15,14 +15,14 @@ use Rattle.model.specs.InTurn.{joined}
 use Rattle.model.specs.Model.{Limits, Model}
 use Rattle.model.specs.Layout.{serialOf, slotNumber}
 use Rattle.model.specs.OnModel.{ticketIn, filledAt}
-use Rattle.model.proofs.Laid.{tab}
-use Rattle.model.proofs.Image.{orBlank, slotCell, pageList, pagesImage}
-use Rattle.model.proofs.LayoutLaws.{page-open, page-room, page-put, pages-list, list-length, list-blocks}
-use Rattle.model.proofs.Sound.{Sound}
-use Rattle.model.proofs.Passed.{PutPassed}
-use Rattle.model.proofs.Tab.{length-tab, tab-set}
-use Rattle.model.proofs.Kept.Change.{changed-length, changed-other}
-use Rattle.model.proofs.Kept.Put.{filledTicket, filled-pages, filled-this, filled-grown}
+use Rattle.model.proofs.Lists.Laid.{tab}
+use Rattle.model.proofs.Area.Image.{orBlank, slotCell, pageList, pagesImage}
+use Rattle.model.proofs.Area.LayoutLaws.{page-open, page-room, page-put, pages-list, list-length, list-blocks}
+use Rattle.model.proofs.Model.Sound.{Sound}
+use Rattle.model.proofs.Model.Passed.{PutPassed}
+use Rattle.model.proofs.Lists.Tab.{length-tab, tab-set}
+use Rattle.model.proofs.Calls.Kept.Change.{changed-length, changed-other}
+use Rattle.model.proofs.Calls.Kept.Put.{filledTicket, filled-pages, filled-this, filled-grown}
 use Rattle.demands.proofs.Image.{recordImage, registerImage}
 use Rattle.demands.proofs.Blocks.{block-put}
 

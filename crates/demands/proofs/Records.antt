@@ -18,12 +18,12 @@ use Rattle.model.specs.History.{toUpdate, updates}
 use Rattle.model.specs.Model.{Limits, Model, lineAt, updateAt, history, numbered}
 use Rattle.model.specs.OnModel.{ticketIn}
 use Rattle.model.specs.Layout.{nodePlace, slotStands, slotNumber}
-use Rattle.model.proofs.Image.{pagesImage, nodesImage}
-use Rattle.model.proofs.LayoutLaws.{length-nodes, length-pages, number-from}
-use Rattle.model.proofs.Sound.{Sound}
-use Rattle.model.proofs.Tab.{length-tab, getD-tab}
-use Rattle.model.proofs.Kept.Same.{number-upto}
-use Rattle.model.proofs.Owner.{own-update}
+use Rattle.model.proofs.Area.Image.{pagesImage, nodesImage}
+use Rattle.model.proofs.Area.LayoutLaws.{length-nodes, length-pages, number-from}
+use Rattle.model.proofs.Model.Sound.{Sound}
+use Rattle.model.proofs.Lists.Tab.{length-tab, getD-tab}
+use Rattle.model.proofs.Calls.Kept.Same.{number-upto}
+use Rattle.model.proofs.Line.Owner.{own-update}
 use Rattle.demands.proofs.Image.{countBy, registerImage, recordImage, storeImage, areasImage}
 
 module _ (L : Limits) (m : Model) where

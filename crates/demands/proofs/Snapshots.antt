@@ -13,14 +13,14 @@ use Rattle.model.specs.History.{Version, pagesOf, ticketAt, versionAt, updates}
 use Rattle.model.specs.Model.{Limits, Model, lineAt, history}
 use Rattle.model.specs.Layout.{slotNumber, leafNumber}
 use Rattle.model.specs.Snapshot.{treeOf, numbersOn, treeAt, snapshotAt}
-use Rattle.model.proofs.Sound.{Sound}
-use Rattle.model.proofs.SoundHistory.{line-history, update-end}
-use Rattle.model.proofs.Shown.{versions-length}
-use Rattle.model.proofs.Updates.{newest-same, f-at}
-use Rattle.model.proofs.Grows.{Grown}
-use Rattle.model.proofs.LayoutLaws.{number-kept}
-use Rattle.model.proofs.Older.{older-same}
-use Rattle.model.proofs.Stay.{SameUpTo, update-stays, number-stays, blob-stays, stamps-stay}
+use Rattle.model.proofs.Model.Sound.{Sound}
+use Rattle.model.proofs.History.SoundHistory.{line-history, update-end}
+use Rattle.model.proofs.Model.Shown.{versions-length}
+use Rattle.model.proofs.History.Updates.{newest-same, f-at}
+use Rattle.model.proofs.Calls.Grows.{Grown}
+use Rattle.model.proofs.Area.LayoutLaws.{number-kept}
+use Rattle.model.proofs.Calls.Older.{older-same}
+use Rattle.model.proofs.History.Stay.{SameUpTo, update-stays, number-stays, blob-stays, stamps-stay}
 
 -- Two lists of updates and two numberings, the same up to version k: of a leaf as far as its version has the page.
 module _ (us ws : List Update) (N M : Numbers) (k : ℕ) (same : (v : ℕ) → v ≤ k → update us v ≡ update ws v) (codes : (v : ℕ) → v ≤ k → N .code v ≡ M .code v)

@@ -20,10 +20,10 @@ use Rattle.model.specs.History.{Version, noVersion, ticketAt, pagesOf, blobSize
 use Rattle.model.specs.Model.{Limits, Model, lineAt, history}
 use Rattle.model.specs.Layout.{nodesUsed}
 use Rattle.model.specs.OnModel.{ticketIn, either, publishNumber, published, branchNumber, branched, sizeAfter, nextVersion, nextUpdate, assignNumber, assigned as withAssigned, assignStep, onLine}
-use Rattle.model.proofs.Nth.{length-snoc}
-use Rattle.model.proofs.Passed.{AssignPassed, assign-passed, publish-passed, branch-passed}
-use Rattle.model.proofs.Shown.{versions-length}
-use Rattle.model.proofs.Histories.{published-history, assigned-history}
+use Rattle.model.proofs.Lists.Nth.{length-snoc}
+use Rattle.model.proofs.Model.Passed.{AssignPassed, assign-passed, publish-passed, branch-passed}
+use Rattle.model.proofs.Model.Shown.{versions-length}
+use Rattle.model.proofs.Calls.Histories.{published-history, assigned-history}
 use Rattle.isolation.specs.Isolation.{ownNumber, absent, Written, SameLine, Match, byList, SameAnswer, word, line}
 use Rattle.isolation.proofs.Lists.{nth-snocs}
 use Rattle.isolation.proofs.Kept.{Kept}

@@ -10,10 +10,10 @@ use Rattle.model.specs.InTurn.{blobAt}
 use Rattle.model.specs.Stamp.{stampAt}
 use Rattle.model.specs.Model.{Limits, Model, ticketUpdate, history}
 use Rattle.model.specs.OnModel.{ticketIn}
-use Rattle.model.proofs.Updated.{update-ticket, update-le}
-use Rattle.model.proofs.Owner.{own-version}
-use Rattle.model.proofs.Facts.{update-got}
-use Rattle.model.proofs.Stamps.{stamp-by-blobs}
+use Rattle.model.proofs.Model.Updated.{update-ticket, update-le}
+use Rattle.model.proofs.Line.Owner.{own-version}
+use Rattle.model.proofs.Model.Facts.{update-got}
+use Rattle.model.proofs.History.Stamps.{stamp-by-blobs}
 use Rattle.isolation.specs.Isolation.{versionOf, Written, SameLine, Match}
 use Rattle.isolation.proofs.Lists.{map-pair}
 use Rattle.isolation.proofs.Kept.{Kept}

@@ -13,12 +13,12 @@ use Rattle.model.specs.Calls.{on, BRANCH, lineIs, says}
 use Rattle.model.specs.History.{Version, History, noVersion, ticketAt, versionAt}
 use Rattle.model.specs.Model.{Limits, Model, history}
 use Rattle.model.specs.OnModel.{branchNumber, branched, onLine, onModel}
-use Rattle.model.proofs.Nth.{nth-take, nth-past}
-use Rattle.model.proofs.Updates.{update-at}
-use Rattle.model.proofs.Shown.{versions-length, complete-count}
-use Rattle.model.proofs.Facts.{update-got}
-use Rattle.model.proofs.Passed.{BranchPassed, branch-passed, line-answered}
-use Rattle.model.proofs.Histories.{firstOf, branched-history}
+use Rattle.model.proofs.Lists.Nth.{nth-take, nth-past}
+use Rattle.model.proofs.History.Updates.{update-at}
+use Rattle.model.proofs.Model.Shown.{versions-length, complete-count}
+use Rattle.model.proofs.Model.Facts.{update-got}
+use Rattle.model.proofs.Model.Passed.{BranchPassed, branch-passed, line-answered}
+use Rattle.model.proofs.Calls.Histories.{firstOf, branched-history}
 use Rattle.isolation.specs.Isolation.{ownNumber, Written, writtenAt, wovenAt, Matched, SameUpTo, SameLine, Match}
 use Rattle.isolation.proofs.Kept.{Kept}
 use Rattle.isolation.proofs.Tickets.{Where, nowhere, mine, away, where-is, own-nowhere, own-away}

@@ -20,14 +20,14 @@ use Rattle.model.specs.History.{Ticket, Version, History, noTicket, versionAt, 
 use Rattle.model.specs.Model.{Limits, Model, ticketUpdate, history, numberIn}
 use Rattle.model.specs.Layout.{pagesUsed, slotNumber}
 use Rattle.model.specs.OnModel.{ticketIn, leftOf, rightOf, firstPage, spanOf, beginNumber, begun as withTicket, putNumber, filledAt, weaveNumber, woven, withWindows, nodeAnswer, onModel}
-use Rattle.model.proofs.Nth.{length-snoc, nth-append, nth-new, nth-set-same, nth-set-other, nth-set-field}
-use Rattle.model.proofs.Image.{nodeOf as nodeIn}
-use Rattle.model.proofs.Updated.{update-le, update-ticket}
-use Rattle.model.proofs.Owner.{own-update}
-use Rattle.model.proofs.Leaves.{next-number}
-use Rattle.model.proofs.Facts.{ticket-past, update-got}
-use Rattle.model.proofs.Passed.{PutPassed, put-passed, WeavePassed, weave-passed}
-use Rattle.model.proofs.Kept.Begin.{newTicket as emptyTicket, begun-ticket, begun-new}
+use Rattle.model.proofs.Lists.Nth.{length-snoc, nth-append, nth-new, nth-set-same, nth-set-other, nth-set-field}
+use Rattle.model.proofs.Area.Image.{nodeOf as nodeIn}
+use Rattle.model.proofs.Model.Updated.{update-le, update-ticket}
+use Rattle.model.proofs.Line.Owner.{own-update}
+use Rattle.model.proofs.Area.Leaves.{next-number}
+use Rattle.model.proofs.Model.Facts.{ticket-past, update-got}
+use Rattle.model.proofs.Model.Passed.{PutPassed, put-passed, WeavePassed, weave-passed}
+use Rattle.model.proofs.Calls.Kept.Begin.{newTicket as emptyTicket, begun-ticket, begun-new}
 use Rattle.isolation.specs.Isolation.{versionOf, elsewhere, ownNumber, absent, firstNumber, Tickets, wovenAt, SameLine, Match, assigned, version, SameAnswer, word, ticket, inner, leaf, oneMore}
 use Rattle.isolation.proofs.Lists.{nth-snocs, in-list-at}
 use Rattle.isolation.proofs.Kept.{Kept, shows-number}

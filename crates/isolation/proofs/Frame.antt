@@ -17,13 +17,13 @@ use Rattle.model.specs.Calls.{Call, BEGIN, PUT, WEAVE, Act, WRITE, APPEND, PUBL
 use Rattle.model.specs.History.{Ticket, Version, History, noTicket, ticketAt, versionAt, blobSize, due}
 use Rattle.model.specs.Model.{Limits, Model, withTickets as modelWith, lineAt, updateAt, ticketUpdate, history}
 use Rattle.model.specs.OnModel.{ticketIn, either, beginNumber, begun as withTicket, putNumber, filledAt, publishNumber, published, branched, onLine, onModel, weaveNumber, woven, branchNumber, nextVersion, assignNumber, assigned as withAssigned, assignStep}
-use Rattle.model.proofs.Nth.{length-snoc, nth-set-other, nth-set-field}
-use Rattle.model.proofs.Updated.{update-other, update-le}
-use Rattle.model.proofs.Passed.{PutPassed, put-passed, weave-passed, assign-passed, publish-passed}
-use Rattle.model.proofs.Histories.{withTickets, published-apart, branched-apart, assigned-apart}
-use Rattle.model.proofs.Kept.Begin.{newTicket as emptyTicket, begun-ticket}
-use Rattle.model.proofs.Kept.Assign.{assigned-older, assigned-new, assigned-gets}
-use Rattle.model.proofs.Kept.Every.{either-keeps}
+use Rattle.model.proofs.Lists.Nth.{length-snoc, nth-set-other, nth-set-field}
+use Rattle.model.proofs.Model.Updated.{update-other, update-le}
+use Rattle.model.proofs.Model.Passed.{PutPassed, put-passed, weave-passed, assign-passed, publish-passed}
+use Rattle.model.proofs.Calls.Histories.{withTickets, published-apart, branched-apart, assigned-apart}
+use Rattle.model.proofs.Calls.Kept.Begin.{newTicket as emptyTicket, begun-ticket}
+use Rattle.model.proofs.Calls.Kept.Assign.{assigned-older, assigned-new, assigned-gets}
+use Rattle.model.proofs.Calls.Kept.Every.{either-keeps}
 use Rattle.isolation.specs.Isolation.{versionOf, here, ownNumber, among, Tickets, SameLine, Match, BeginsSame, Aside, newTicket, otherPut, otherWeave, otherLine, newLine}
 use Rattle.isolation.proofs.Lists.{among-not}
 use Rattle.isolation.proofs.Kept.{Kept, shown-upto, open-not-shown, not-shown}

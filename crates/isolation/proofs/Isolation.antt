@@ -7,8 +7,8 @@ use Rattle.model.specs.Calls.{Call, BEGIN, on, BRANCH}
 use Rattle.model.specs.Model.{Limits, Model, noModel}
 use Rattle.model.specs.OnModel.{onModel}
 use Rattle.model.specs.Run.{run}
-use Rattle.model.proofs.Runs.{run-append}
-use Rattle.model.proofs.Kept.Every.{sound-after}
+use Rattle.model.proofs.Lists.Runs.{run-append}
+use Rattle.model.proofs.Calls.Kept.Every.{sound-after}
 use Rattle.isolation.specs.Isolation.{SameCall, put, weave, setWindows, write, append, publish, branch, query, modelGives, Twins, end, first, second, begin, both, Agree, Match, after, IsolatedBy, Isolated}
 use Rattle.isolation.proofs.Kept.{Kept}
 use Rattle.isolation.proofs.Match.{match-sym, match-refl}

@@ -9,11 +9,11 @@ use Rattle.tree.proofs.Meets.{lt-or-le}
 use Rattle.model.specs.History.{Version, noVersion, versionAt}
 use Rattle.model.specs.Model.{Limits, Model, lineAt, updateAt, ticketUpdate, history}
 use Rattle.model.specs.OnModel.{ticketIn}
-use Rattle.model.proofs.Sound.{SoundGiven}
-use Rattle.model.proofs.Nth.{nth-past}
-use Rattle.model.proofs.Shown.{shownAt, Whole, versions-length, version-shown, complete-whole}
-use Rattle.model.proofs.Facts.{shown-sound}
-use Rattle.model.proofs.Passed.{WeavePassed}
+use Rattle.model.proofs.Model.Sound.{SoundGiven}
+use Rattle.model.proofs.Lists.Nth.{nth-past}
+use Rattle.model.proofs.Model.Shown.{shownAt, Whole, versions-length, version-shown, complete-whole}
+use Rattle.model.proofs.Model.Facts.{shown-sound}
+use Rattle.model.proofs.Model.Passed.{WeavePassed}
 use Rattle.isolation.specs.Isolation.{versionOf}
 
 abbrev pub Kept : Limits → Model → Type 0

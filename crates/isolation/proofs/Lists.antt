@@ -12,7 +12,7 @@ use lib.Dec.{eqb}
 use lib.ListN.{length}
 use Rattle.tree.specs.Tree.{nth}
 use Rattle.tree.proofs.Meets.{lt-or-le}
-use Rattle.model.proofs.Nth.{length-snoc, nth-append, nth-new, nth-past}
+use Rattle.model.proofs.Lists.Nth.{length-snoc, nth-append, nth-new, nth-past}
 use Rattle.isolation.specs.Isolation.{among}
 
 -- The images of two lists by two rules that agree on their elements.

@@ -15,8 +15,8 @@ use Rattle.tree.proofs.Meets.{lt-or-le}
 use Rattle.model.specs.History.{Ticket, noTicket}
 use Rattle.model.specs.Model.{Limits, Model, ticketUpdate}
 use Rattle.model.specs.OnModel.{ticketIn}
-use Rattle.model.proofs.Nth.{nth-past}
-use Rattle.model.proofs.Facts.{ticket-zero, ticket-past, update-got}
+use Rattle.model.proofs.Lists.Nth.{nth-past}
+use Rattle.model.proofs.Model.Facts.{ticket-zero, ticket-past, update-got}
 use Rattle.isolation.specs.Isolation.{versionOf, here, elsewhere, ownNumber, absent, Tickets, Match, SameTicket, kth, neither}
 use Rattle.isolation.proofs.Lists.{or-split}
 use Rattle.isolation.proofs.Kept.{Kept}

@@ -20,15 +20,15 @@ use Rattle.model.specs.History.{Version, pagesOf, blobSize, allFilled}
 use Rattle.model.specs.Model.{Limits, Model, noLine, lineAt, updateAt as updateIn, history, ticketUpdate}
 use Rattle.model.specs.Layout.{nodesUsed}
 use Rattle.model.specs.OnModel.{either, ticketIn, sizeAfter as sizeIn, nextUpdate, assignNumber, assigned, assignStep, onLine, onModel}
-use Rattle.model.proofs.Laid.{Pair, onesPair}
-use Rattle.model.proofs.Image.{wovenOf, pagesImage, nodesImage}
-use Rattle.model.proofs.Sound.{Sound}
-use Rattle.model.proofs.Passed.{AssignPassed, assign-passed}
-use Rattle.model.proofs.Nth.{length-snoc}
-use Rattle.model.proofs.LayoutLaws.{nodes-grow, pages-used-kept, pages-same}
-use Rattle.model.proofs.Shown.{shownAt, blob-shown}
-use Rattle.model.proofs.Histories.{assigned-apart}
-use Rattle.model.proofs.Kept.Assign.{assigned-length, assigned-new, assigned-used, assigned-lines, assigned-this, assigned-other, assigned-versions, assigned-next-version, assigned-grown}
+use Rattle.model.proofs.Lists.Laid.{Pair, onesPair}
+use Rattle.model.proofs.Area.Image.{wovenOf, pagesImage, nodesImage}
+use Rattle.model.proofs.Model.Sound.{Sound}
+use Rattle.model.proofs.Model.Passed.{AssignPassed, assign-passed}
+use Rattle.model.proofs.Lists.Nth.{length-snoc}
+use Rattle.model.proofs.Area.LayoutLaws.{nodes-grow, pages-used-kept, pages-same}
+use Rattle.model.proofs.Model.Shown.{shownAt, blob-shown}
+use Rattle.model.proofs.Calls.Histories.{assigned-apart}
+use Rattle.model.proofs.Calls.Kept.Assign.{assigned-length, assigned-new, assigned-used, assigned-lines, assigned-this, assigned-other, assigned-versions, assigned-next-version, assigned-grown}
 use Rattle.demands.specs.Answers.{assignedAnswer}
 use Rattle.demands.specs.Run.{State, assignCall, onLineOf, onStore}
 use Rattle.demands.proofs.Image.{registerImage, stateBy, branchImage, storeImage, windowsImage, areasImage, image}

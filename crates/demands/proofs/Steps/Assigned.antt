@@ -18,16 +18,16 @@ use Rattle.model.specs.History.{noVersion, pagesOf}
 use Rattle.model.specs.Model.{Limits, Model, lineAt}
 use Rattle.model.specs.Layout.{nodesUsed}
 use Rattle.model.specs.OnModel.{ticketIn, sizeAfter, nextVersion, nextUpdate, assigned}
-use Rattle.model.proofs.Laid.{tab}
-use Rattle.model.proofs.Sound.{Sound}
-use Rattle.model.proofs.Passed.{AssignPassed}
-use Rattle.model.proofs.Facts.{versions-few, versions-most}
-use Rattle.model.proofs.Nth.{nth-new}
-use Rattle.model.proofs.Tab.{getD-tab}
-use Rattle.model.proofs.Updated.{update-other}
-use Rattle.model.proofs.Grows.{Grown}
-use Rattle.model.proofs.LayoutLaws.{place-kept, place-new}
-use Rattle.model.proofs.Kept.Assign.{assigned-length, assigned-grown, assigned-new, assigned-gets, assigned-this, assigned-other, assigned-passed}
+use Rattle.model.proofs.Lists.Laid.{tab}
+use Rattle.model.proofs.Model.Sound.{Sound}
+use Rattle.model.proofs.Model.Passed.{AssignPassed}
+use Rattle.model.proofs.Model.Facts.{versions-few, versions-most}
+use Rattle.model.proofs.Lists.Nth.{nth-new}
+use Rattle.model.proofs.Lists.Tab.{getD-tab}
+use Rattle.model.proofs.Model.Updated.{update-other}
+use Rattle.model.proofs.Calls.Grows.{Grown}
+use Rattle.model.proofs.Area.LayoutLaws.{place-kept, place-new}
+use Rattle.model.proofs.Calls.Kept.Assign.{assigned-length, assigned-grown, assigned-new, assigned-gets, assigned-this, assigned-other, assigned-passed}
 use Rattle.demands.proofs.Image.{maskOf, numberAt, firstPlaceAt, ownAt, recordImage, registerImage, storeImage, areasImage}
 use Rattle.demands.proofs.Records.{record-at, limited-same}
 use Rattle.demands.proofs.Lines.{line-in, blob-small, own-low}

@@ -16,14 +16,14 @@ use Rattle.model.specs.History.{Ticket, noTicket}
 use Rattle.model.specs.Model.{Limits, Model, updateAt}
 use Rattle.model.specs.Layout.{pagesUsed}
 use Rattle.model.specs.OnModel.{beginNumber, begun, onModel}
-use Rattle.model.proofs.Image.{orBlank, pagesImage, nodesImage}
-use Rattle.model.proofs.Sound.{Sound}
-use Rattle.model.proofs.Passed.{BeginPassed, begin-passed}
-use Rattle.model.proofs.Facts.{ticket-past}
-use Rattle.model.proofs.Nth.{length-snoc}
-use Rattle.model.proofs.LayoutLaws.{nodes-used-kept, number-new, pages-grow}
-use Rattle.model.proofs.Slots.{none-there}
-use Rattle.model.proofs.Kept.Begin.{newTicket, begun-ticket, begun-new, begun-old, begun-grown, begun-used}
+use Rattle.model.proofs.Area.Image.{orBlank, pagesImage, nodesImage}
+use Rattle.model.proofs.Model.Sound.{Sound}
+use Rattle.model.proofs.Model.Passed.{BeginPassed, begin-passed}
+use Rattle.model.proofs.Model.Facts.{ticket-past}
+use Rattle.model.proofs.Lists.Nth.{length-snoc}
+use Rattle.model.proofs.Area.LayoutLaws.{nodes-used-kept, number-new, pages-grow}
+use Rattle.model.proofs.Lists.Slots.{none-there}
+use Rattle.model.proofs.Calls.Kept.Begin.{newTicket, begun-ticket, begun-new, begun-old, begun-grown, begun-used}
 use Rattle.demands.specs.Answers.{begunAnswer}
 use Rattle.demands.specs.Run.{onStore}
 use Rattle.demands.proofs.Image.{registerImage, sourcesImage, linesImage, storeImage, windowsImage, areasImage, image}

@@ -23,15 +23,15 @@ use Rattle.model.specs.Calls.{on, BRANCH, lineIs, answers}
 use Rattle.model.specs.History.{Version, blobSize}
 use Rattle.model.specs.Model.{Limits, Line, Model, noLine, lineAt, updateAt, history}
 use Rattle.model.specs.OnModel.{branchNumber as modelNumber, branched, either, onLine, onModel}
-use Rattle.model.proofs.Tab.{tab-same}
-use Rattle.model.proofs.Nth.{nth-past}
-use Rattle.model.proofs.Image.{pagesImage, nodesImage}
-use Rattle.model.proofs.LayoutLaws.{nodes-used-kept, pages-used-kept, pages-same}
-use Rattle.model.proofs.Sound.{Sound}
-use Rattle.model.proofs.Passed.{BranchPassed, branch-passed}
-use Rattle.model.proofs.Woven.{published-upto}
-use Rattle.model.proofs.Shown.{shownAt, version-shown, blob-shown}
-use Rattle.model.proofs.Kept.Branch.{branched-length, branched-old, branched-new, branched-shown, branched-grown}
+use Rattle.model.proofs.Lists.Tab.{tab-same}
+use Rattle.model.proofs.Lists.Nth.{nth-past}
+use Rattle.model.proofs.Area.Image.{pagesImage, nodesImage}
+use Rattle.model.proofs.Area.LayoutLaws.{nodes-used-kept, pages-used-kept, pages-same}
+use Rattle.model.proofs.Model.Sound.{Sound}
+use Rattle.model.proofs.Model.Passed.{BranchPassed, branch-passed}
+use Rattle.model.proofs.Area.Woven.{published-upto}
+use Rattle.model.proofs.Model.Shown.{shownAt, version-shown, blob-shown}
+use Rattle.model.proofs.Calls.Kept.Branch.{branched-length, branched-old, branched-new, branched-shown, branched-grown}
 use Rattle.demands.specs.Answers.{branchedAnswer}
 use Rattle.demands.specs.Run.{onLineOf, onStore}
 use Rattle.demands.proofs.Image.{ownAt, recordImage, registerImage, branchImage, storeImage, windowsImage, areasImage, image}

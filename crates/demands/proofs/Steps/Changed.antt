@@ -6,10 +6,10 @@ use Prim.Native.Nat.{ℕ, suc, _<_}
 use Rattle.model.specs.History.{Ticket, pagesOf}
 use Rattle.model.specs.Model.{Limits, Model, updateAt}
 use Rattle.model.specs.OnModel.{ticketIn}
-use Rattle.model.proofs.Sound.{Sound}
-use Rattle.model.proofs.Grows.{Grown}
-use Rattle.model.proofs.LayoutLaws.{nodes-used-kept, pages-used-kept}
-use Rattle.model.proofs.Kept.Change.{changed, changed-length, changed-other}
+use Rattle.model.proofs.Model.Sound.{Sound}
+use Rattle.model.proofs.Calls.Grows.{Grown}
+use Rattle.model.proofs.Area.LayoutLaws.{nodes-used-kept, pages-used-kept}
+use Rattle.model.proofs.Calls.Kept.Change.{changed, changed-length, changed-other}
 use Rattle.demands.proofs.Image.{numberAt, sourcesImage, linesImage, storeImage}
 use Rattle.demands.proofs.Steps.Grown.{number-at-kept, place-at-kept}
 use Rattle.demands.proofs.Steps.Parts.{ticketPart, updatePart, ticket-part, update-part}

@@ -36,15 +36,15 @@ use Rattle.weave.specs.Weave.{olderNumber}
 use Rattle.model.specs.History.{updates}
 use Rattle.model.specs.Model.{Limits, Model, lineAt, history, numberIn}
 use Rattle.model.specs.Snapshot.{numbersOn}
-use Rattle.model.proofs.Image.{nodesImage}
-use Rattle.model.proofs.Sound.{Sound}
-use Rattle.model.proofs.Facts.{versions-most}
-use Rattle.model.proofs.Shown.{shownAt, update-shown}
-use Rattle.model.proofs.Owner.{owner-own}
-use Rattle.model.proofs.Numbers.{number-is, number-some}
-use Rattle.model.proofs.Woven.{published-upto}
-use Rattle.model.proofs.Found.{stands-image}
-use Rattle.model.proofs.Stamps.{test-cases}
+use Rattle.model.proofs.Area.Image.{nodesImage}
+use Rattle.model.proofs.Model.Sound.{Sound}
+use Rattle.model.proofs.Model.Facts.{versions-most}
+use Rattle.model.proofs.Model.Shown.{shownAt, update-shown}
+use Rattle.model.proofs.Line.Owner.{owner-own}
+use Rattle.model.proofs.Line.Numbers.{number-is, number-some}
+use Rattle.model.proofs.Area.Woven.{published-upto}
+use Rattle.model.proofs.Area.Found.{stands-image}
+use Rattle.model.proofs.History.Stamps.{test-cases}
 use Rattle.demands.proofs.Image.{registerImage, storeImage}
 use Rattle.demands.proofs.Records.{update-image}
 use Rattle.demands.proofs.Lines.{line-in, number-on, version-found}

@@ -5,7 +5,7 @@ use Prim.Native.Nat.{ℕ}
 use Rattle.model.specs.Calls.{Call, BEGIN, PUT, WEAVE, SETWINDOWS, on, Act, WRITE, APPEND, PUBLISH, BRANCH, ask, Query, read, size, recent, stamp, view}
 use Rattle.model.specs.Model.{Limits, Model}
 use Rattle.model.specs.OnModel.{modelOutcome, onLine, onModel}
-use Rattle.model.proofs.Sound.{Sound}
+use Rattle.model.proofs.Model.Sound.{Sound}
 use Rattle.demands.specs.Run.{storeOutcome, onLineOf, onStore}
 use Rattle.demands.proofs.Image.{image}
 use Rattle.demands.proofs.Steps.Size.{size-outcome}

@@ -22,12 +22,12 @@ use Rattle.table.proofs.Table.{passed, unless-0}
 use Rattle.model.specs.InTurn.{joined}
 use Rattle.model.specs.Model.{Limits, noModel, noLine, lineAt, updateFrom}
 use Rattle.demands.specs.Run.{freshOf, formattedState}
-use Rattle.model.proofs.Laid.{tab, onesPair, flat}
-use Rattle.model.proofs.Image.{blank, pagesImage, nodesImage}
+use Rattle.model.proofs.Lists.Laid.{tab, onesPair, flat}
+use Rattle.model.proofs.Area.Image.{blank, pagesImage, nodesImage}
 use Rattle.demands.proofs.Image.{maskOf, ownAt, recordImage, registerImage, sourcesImage, linesImage, storeImage, image}
 use Rattle.demands.proofs.Steps.States.{state-same}
-use Rattle.model.proofs.LayoutLaws.{nodes-used-none, pages-used-none, nodes-none, pages-none}
-use Rattle.model.proofs.Tab.{tab-same, replicate-tab}
+use Rattle.model.proofs.Area.LayoutLaws.{nodes-used-none, pages-used-none, nodes-none, pages-none}
+use Rattle.model.proofs.Lists.Tab.{tab-same, replicate-tab}
 
 blanks : (size n : ℕ) → joined (tab n (λ (q : ℕ). blank size)) ≡ replicate (size * n) 0
 unfolding joined tab

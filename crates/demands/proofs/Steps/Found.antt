@@ -34,15 +34,15 @@ use Rattle.model.specs.InTurn.{blobAt}
 use Rattle.model.specs.Model.{Limits, Model, lineAt, updateAt, history, numberIn}
 use Rattle.model.specs.Layout.{nodeStands, nodePlace, leafNumber}
 use Rattle.model.specs.Snapshot.{placeOfNumber}
-use Rattle.model.proofs.Image.{pageList, pagesImage, nodesImage}
-use Rattle.model.proofs.LayoutLaws.{stands-every, stands-few, place-from, place-room, pages-list, list-length, list-blocks}
-use Rattle.model.proofs.Sound.{Sound}
-use Rattle.model.proofs.Facts.{shown-small}
-use Rattle.model.proofs.Updates.{size-at}
-use Rattle.model.proofs.Shown.{shownAt, update-shown}
-use Rattle.model.proofs.Numbers.{number-some, number-low, number-place}
-use Rattle.model.proofs.Woven.{published-upto}
-use Rattle.model.proofs.Found.{some-version, Places, walk-found, number-within, page-found}
+use Rattle.model.proofs.Area.Image.{pageList, pagesImage, nodesImage}
+use Rattle.model.proofs.Area.LayoutLaws.{stands-every, stands-few, place-from, place-room, pages-list, list-length, list-blocks}
+use Rattle.model.proofs.Model.Sound.{Sound}
+use Rattle.model.proofs.Model.Facts.{shown-small}
+use Rattle.model.proofs.History.Updates.{size-at}
+use Rattle.model.proofs.Model.Shown.{shownAt, update-shown}
+use Rattle.model.proofs.Line.Numbers.{number-some, number-low, number-place}
+use Rattle.model.proofs.Area.Woven.{published-upto}
+use Rattle.model.proofs.Area.Found.{some-version, Places, walk-found, number-within, page-found}
 use Rattle.demands.proofs.Image.{recordImage, registerImage, areasImage}
 use Rattle.demands.proofs.Records.{update-image, span-image, span-power, past-image, top-image}
 use Rattle.demands.proofs.Lines.{version-found, name-shown}

@@ -15,15 +15,15 @@ use Rattle.model.specs.History.{Ticket, Version, noTicket, noVersion, updates}
 use Rattle.model.specs.Model.{Limits, Model, lineAt, updateAt, history, updateFrom}
 use Rattle.model.specs.Layout.{nodeStands, slotNumber}
 use Rattle.model.specs.OnModel.{ticketIn, leftOf, rightOf, either}
-use Rattle.model.proofs.Laid.{Pair, onesPair}
-use Rattle.model.proofs.Image.{numbersOf, wovenOf, nodeOf, nodesImage}
-use Rattle.model.proofs.Sound.{Sound}
-use Rattle.model.proofs.Grows.{Grown, update-grown}
-use Rattle.model.proofs.LayoutLaws.{NodesSame, place-kept, number-kept, nodes-same}
-use Rattle.model.proofs.Older.{older-same}
-use Rattle.model.proofs.Owner.{own-update}
-use Rattle.model.proofs.Stay.{update-stays, left-stays, right-stays}
-use Rattle.model.proofs.Leaves.{leaf-slot}
+use Rattle.model.proofs.Lists.Laid.{Pair, onesPair}
+use Rattle.model.proofs.Area.Image.{numbersOf, wovenOf, nodeOf, nodesImage}
+use Rattle.model.proofs.Model.Sound.{Sound}
+use Rattle.model.proofs.Calls.Grows.{Grown, update-grown}
+use Rattle.model.proofs.Area.LayoutLaws.{NodesSame, place-kept, number-kept, nodes-same}
+use Rattle.model.proofs.Calls.Older.{older-same}
+use Rattle.model.proofs.Line.Owner.{own-update}
+use Rattle.model.proofs.History.Stay.{update-stays, left-stays, right-stays}
+use Rattle.model.proofs.Area.Leaves.{leaf-slot}
 use Rattle.demands.proofs.Image.{numberAt, firstPlaceAt, recordImage}
 use Rattle.demands.proofs.Records.{own-upto}
 use Rattle.demands.proofs.Steps.Parts.{all-same, entriesAt, ticket-part, update-part}

@@ -11,7 +11,7 @@ use Rattle.table.specs.Table.{Cond, _≤?_, _≡?_, always, holds, Row, _gives_
 use Rattle.versions.specs.Store.{areasDiffer}
 use Rattle.table.proofs.Table.{Fails, holds-true, holds-false, fails, every-call, number-cases}
 use Rattle.model.specs.Model.{Limits, Model}
-use Rattle.model.proofs.Sound.{Sound}
+use Rattle.model.proofs.Model.Sound.{Sound}
 use Rattle.demands.proofs.Image.{storeImage, areasImage}
 use Rattle.demands.proofs.Records.{areas-agree}
 

@@ -20,8 +20,8 @@ use Rattle.model.specs.History.{Ticket, Version, noVersion, pagesOf, toUpdate}
 use Rattle.model.specs.Model.{Limits, Model, updateAt, ticketUpdate}
 use Rattle.register.specs.declared.Part.{Part}
 use Rattle.model.specs.OnModel.{ticketIn, either}
-use Rattle.model.proofs.Sound.{Sound}
-use Rattle.model.proofs.Nth.{length-snoc, nth-append, nth-past}
+use Rattle.model.proofs.Model.Sound.{Sound}
+use Rattle.model.proofs.Lists.Nth.{length-snoc, nth-append, nth-past}
 use Rattle.demands.proofs.Image.{maskOf, numberAt, firstPlaceAt, ownAt, partImage}
 
 -- ---- records

@@ -24,16 +24,16 @@ use Rattle.model.specs.Calls.{on, PUBLISH, publishedIs, waiting, held, answers}
 use Rattle.model.specs.History.{updates, complete, due}
 use Rattle.model.specs.Model.{Limits, Model, lineAt, history, numberIn}
 use Rattle.model.specs.OnModel.{publishNumber as modelNumber, published as publishedModel, either, onLine, onModel}
-use Rattle.model.proofs.Tab.{tab-same}
-use Rattle.model.proofs.Image.{pagesImage, nodesImage}
-use Rattle.model.proofs.LayoutLaws.{nodes-used-kept, pages-used-kept, pages-same}
-use Rattle.model.proofs.Sound.{Sound}
-use Rattle.model.proofs.Passed.{publish-passed}
-use Rattle.model.proofs.Facts.{versions-most}
-use Rattle.model.proofs.Shown.{shownAt, versions-length, version-shown, update-shown}
-use Rattle.model.proofs.Numbers.{number-is}
-use Rattle.model.proofs.Owner.{owner-own}
-use Rattle.model.proofs.Kept.Publish.{published-this, published-other, published-lines, published-grown}
+use Rattle.model.proofs.Lists.Tab.{tab-same}
+use Rattle.model.proofs.Area.Image.{pagesImage, nodesImage}
+use Rattle.model.proofs.Area.LayoutLaws.{nodes-used-kept, pages-used-kept, pages-same}
+use Rattle.model.proofs.Model.Sound.{Sound}
+use Rattle.model.proofs.Model.Passed.{publish-passed}
+use Rattle.model.proofs.Model.Facts.{versions-most}
+use Rattle.model.proofs.Model.Shown.{shownAt, versions-length, version-shown, update-shown}
+use Rattle.model.proofs.Line.Numbers.{number-is}
+use Rattle.model.proofs.Line.Owner.{owner-own}
+use Rattle.model.proofs.Calls.Kept.Publish.{published-this, published-other, published-lines, published-grown}
 use Rattle.demands.specs.Answers.{publishedAnswer}
 use Rattle.demands.specs.Run.{onLineOf, onStore}
 use Rattle.demands.proofs.Image.{ownAt, recordImage, registerImage, branchImage, storeImage, windowsImage, areasImage, image}

@@ -21,13 +21,13 @@ use Rattle.model.specs.History.{Version, noVersion, pagesOf, isFilled, bitIf}
 use Rattle.model.specs.Model.{Limits, Model, updateAt, ticketUpdate}
 use Rattle.model.specs.Layout.{serialOf, slotStands}
 use Rattle.model.specs.OnModel.{ticketIn, putNumber, filledAt, onModel}
-use Rattle.model.proofs.Image.{pagesImage, nodesImage}
-use Rattle.model.proofs.Sound.{Sound}
-use Rattle.model.proofs.Passed.{PutPassed, put-passed}
-use Rattle.model.proofs.LayoutLaws.{page-open, page-room}
-use Rattle.model.proofs.Nth.{nth-past}
-use Rattle.model.proofs.Kept.Change.{changed-other}
-use Rattle.model.proofs.Kept.Put.{filledTicket, filled-pages, put-apart, filled-this, filled-grown}
+use Rattle.model.proofs.Area.Image.{pagesImage, nodesImage}
+use Rattle.model.proofs.Model.Sound.{Sound}
+use Rattle.model.proofs.Model.Passed.{PutPassed, put-passed}
+use Rattle.model.proofs.Area.LayoutLaws.{page-open, page-room}
+use Rattle.model.proofs.Lists.Nth.{nth-past}
+use Rattle.model.proofs.Calls.Kept.Change.{changed-other}
+use Rattle.model.proofs.Calls.Kept.Put.{filledTicket, filled-pages, put-apart, filled-this, filled-grown}
 use Rattle.demands.specs.Answers.{putAnswer}
 use Rattle.demands.specs.Run.{onStore}
 use Rattle.demands.proofs.Image.{maskOf, numberAt, registerImage, storeImage, windowsImage, areasImage, image}

@@ -18,15 +18,15 @@ use Rattle.model.specs.History.{versionAt}
 use Rattle.model.specs.InTurn.{blobAt, bytesAt}
 use Rattle.model.specs.Model.{Limits, Model, lineAt, history, numberIn}
 use Rattle.model.specs.OnModel.{modelOutcome, readNumber as modelNumber}
-use Rattle.model.proofs.Sound.{Sound}
-use Rattle.model.proofs.SoundHistory.{line-history}
-use Rattle.model.proofs.Shown.{versions-length}
-use Rattle.model.proofs.Blocks.{pageByte}
-use Rattle.model.proofs.Bytes.{bytesBy}
-use Rattle.model.proofs.Blob.{bytes-range}
-use Rattle.model.proofs.Found.{page-byte}
-use Rattle.model.proofs.Passed.{read-passed}
-use Rattle.model.proofs.Woven.{published-upto}
+use Rattle.model.proofs.Model.Sound.{Sound}
+use Rattle.model.proofs.History.SoundHistory.{line-history}
+use Rattle.model.proofs.Model.Shown.{versions-length}
+use Rattle.model.proofs.Lists.Blocks.{pageByte}
+use Rattle.model.proofs.Lists.Bytes.{bytesBy}
+use Rattle.model.proofs.History.Blob.{bytes-range}
+use Rattle.model.proofs.Area.Found.{page-byte}
+use Rattle.model.proofs.Model.Passed.{read-passed}
+use Rattle.model.proofs.Area.Woven.{published-upto}
 use Rattle.demands.specs.Run.{storeOutcome}
 use Rattle.demands.proofs.Image.{storeImage, areasImage, image}
 use Rattle.demands.proofs.Lines.{lines-in, line-in, number-on}

@@ -9,7 +9,7 @@ use Rattle.versions.specs.Recent.{recentNumber}
 use Rattle.model.specs.Calls.{recent, says}
 use Rattle.model.specs.Model.{Limits, Model, lineAt}
 use Rattle.model.specs.OnModel.{modelOutcome, lineNumber}
-use Rattle.model.proofs.Sound.{Sound}
+use Rattle.model.proofs.Model.Sound.{Sound}
 use Rattle.demands.specs.Run.{storeOutcome}
 use Rattle.demands.proofs.Image.{storeImage, areasImage, image}
 use Rattle.demands.proofs.Lines.{lines-in, line-in}

@@ -13,11 +13,11 @@ use Rattle.set_windows.specs.SetWindows.{setNumber, windowsSet}
 use Rattle.model.specs.Calls.{SETWINDOWS, windowsDone, answers}
 use Rattle.model.specs.Model.{Limits, Model}
 use Rattle.model.specs.OnModel.{withWindows, onModel}
-use Rattle.model.proofs.Image.{pagesImage, nodesImage}
-use Rattle.model.proofs.LayoutLaws.{nodes-used-kept, pages-used-kept, pages-same}
-use Rattle.model.proofs.Sound.{Sound}
-use Rattle.model.proofs.Tab.{tab-same}
-use Rattle.model.proofs.Kept.SetWindows.{windows-grown}
+use Rattle.model.proofs.Area.Image.{pagesImage, nodesImage}
+use Rattle.model.proofs.Area.LayoutLaws.{nodes-used-kept, pages-used-kept, pages-same}
+use Rattle.model.proofs.Model.Sound.{Sound}
+use Rattle.model.proofs.Lists.Tab.{tab-same}
+use Rattle.model.proofs.Calls.Kept.SetWindows.{windows-grown}
 use Rattle.demands.specs.Answers.{windowsAnswer}
 use Rattle.demands.specs.Run.{onStore}
 use Rattle.demands.proofs.Image.{recordImage, registerImage, sourcesImage, linesImage, storeImage, windowsImage, areasImage, image}

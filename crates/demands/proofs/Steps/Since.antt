@@ -23,15 +23,15 @@ use Rattle.model.specs.InTurn.{blobAt}
 use Rattle.model.specs.Stamp.{stays, stampAt}
 use Rattle.model.specs.Model.{Limits, Model, history, numberIn}
 use Rattle.model.specs.Layout.{leafNumber}
-use Rattle.model.proofs.Image.{pagesImage}
-use Rattle.model.proofs.Sound.{Sound}
-use Rattle.model.proofs.SoundHistory.{line-history}
-use Rattle.model.proofs.Shown.{versions-length}
-use Rattle.model.proofs.Blob.{LeafBounds, leaf-bounds}
-use Rattle.model.proofs.Numbers.{number-version}
-use Rattle.model.proofs.Since.{line-blob-length, stamp-published}
-use Rattle.model.proofs.Stamps.{test-cases, stamp-upto, stamp-first, stamp-on, stamp-leaf}
-use Rattle.model.proofs.Woven.{published-upto}
+use Rattle.model.proofs.Area.Image.{pagesImage}
+use Rattle.model.proofs.Model.Sound.{Sound}
+use Rattle.model.proofs.History.SoundHistory.{line-history}
+use Rattle.model.proofs.Model.Shown.{versions-length}
+use Rattle.model.proofs.History.Blob.{LeafBounds, leaf-bounds}
+use Rattle.model.proofs.Line.Numbers.{number-version}
+use Rattle.model.proofs.Line.Since.{line-blob-length, stamp-published}
+use Rattle.model.proofs.History.Stamps.{test-cases, stamp-upto, stamp-first, stamp-on, stamp-leaf}
+use Rattle.model.proofs.Area.Woven.{published-upto}
 use Rattle.demands.proofs.Image.{storeImage, areasImage}
 use Rattle.demands.proofs.Lines.{number-on}
 use Rattle.demands.proofs.Steps.Found.{find-page, page-number, view-bytes}

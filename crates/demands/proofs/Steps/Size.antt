@@ -16,12 +16,12 @@ use Rattle.model.specs.Calls.{size, sizeIs, says, answers}
 use Rattle.model.specs.History.{versionAt}
 use Rattle.model.specs.Model.{Limits, Model, lineAt, history, numberIn}
 use Rattle.model.specs.OnModel.{modelOutcome, sizeNumber as modelNumber}
-use Rattle.model.proofs.Sound.{Sound}
-use Rattle.model.proofs.SoundHistory.{line-history, size-small}
-use Rattle.model.proofs.Shown.{shownAt, versions-length}
-use Rattle.model.proofs.Updates.{update-at}
-use Rattle.model.proofs.Passed.{size-passed}
-use Rattle.model.proofs.Woven.{published-upto}
+use Rattle.model.proofs.Model.Sound.{Sound}
+use Rattle.model.proofs.History.SoundHistory.{line-history, size-small}
+use Rattle.model.proofs.Model.Shown.{shownAt, versions-length}
+use Rattle.model.proofs.History.Updates.{update-at}
+use Rattle.model.proofs.Model.Passed.{size-passed}
+use Rattle.model.proofs.Area.Woven.{published-upto}
 use Rattle.demands.specs.Answers.{sizedAnswer}
 use Rattle.demands.specs.Run.{storeOutcome}
 use Rattle.demands.proofs.Image.{recordImage, registerImage, storeImage, areasImage, image}

@@ -17,14 +17,14 @@ use Rattle.model.specs.Stamp.{stampAt}
 use Rattle.model.specs.Model.{Limits, Model, lineAt, history, numberIn}
 use Rattle.model.specs.Layout.{leafNumber}
 use Rattle.model.specs.OnModel.{modelOutcome, pageNumber}
-use Rattle.model.proofs.Sound.{Sound}
-use Rattle.model.proofs.SoundHistory.{line-history}
-use Rattle.model.proofs.Shown.{versions-length}
-use Rattle.model.proofs.Blob.{leaf-bounds}
-use Rattle.model.proofs.Found.{number-within}
-use Rattle.model.proofs.Numbers.{number-version}
-use Rattle.model.proofs.Passed.{PagePassed, page-passed}
-use Rattle.model.proofs.Woven.{published-upto}
+use Rattle.model.proofs.Model.Sound.{Sound}
+use Rattle.model.proofs.History.SoundHistory.{line-history}
+use Rattle.model.proofs.Model.Shown.{versions-length}
+use Rattle.model.proofs.History.Blob.{leaf-bounds}
+use Rattle.model.proofs.Area.Found.{number-within}
+use Rattle.model.proofs.Line.Numbers.{number-version}
+use Rattle.model.proofs.Model.Passed.{PagePassed, page-passed}
+use Rattle.model.proofs.Area.Woven.{published-upto}
 use Rattle.demands.specs.Answers.{stampedAnswer}
 use Rattle.demands.specs.Run.{storeOutcome}
 use Rattle.demands.proofs.Image.{storeImage, areasImage, image}

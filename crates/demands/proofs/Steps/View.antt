@@ -12,10 +12,10 @@ use Rattle.model.specs.Calls.{view}
 use Rattle.model.specs.InTurn.{blobAt}
 use Rattle.model.specs.Model.{Limits, Model, history}
 use Rattle.model.specs.OnModel.{modelOutcome, pageNumber}
-use Rattle.model.proofs.Image.{pagesImage}
-use Rattle.model.proofs.Sound.{Sound}
-use Rattle.model.proofs.Passed.{page-passed}
-use Rattle.model.proofs.Woven.{published-upto}
+use Rattle.model.proofs.Area.Image.{pagesImage}
+use Rattle.model.proofs.Model.Sound.{Sound}
+use Rattle.model.proofs.Model.Passed.{page-passed}
+use Rattle.model.proofs.Area.Woven.{published-upto}
 use Rattle.demands.specs.Run.{storeOutcome}
 use Rattle.demands.proofs.Image.{storeImage, areasImage, image}
 use Rattle.demands.proofs.Lines.{number-on}

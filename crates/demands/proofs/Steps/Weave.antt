@@ -35,15 +35,15 @@ use Rattle.model.specs.History.{History, toUpdate, updates}
 use Rattle.model.specs.Model.{Limits, Model, lineAt, updateAt, history, ticketUpdate, numbered, numberIn}
 use Rattle.model.specs.OnModel.{ticketIn, leftOf, rightOf, firstPage as pageOf, spanOf as spanIn, weaveNumber as modelNumber, nodeAnswer, woven, onModel}
 use Rattle.model.specs.Layout.{nodePlace, serialOf, slotNumber}
-use Rattle.model.proofs.Image.{pagesImage, nodeOf as nodeIn, nodesImage}
-use Rattle.model.proofs.Sound.{Sound, UpdateSound}
-use Rattle.model.proofs.Facts.{versions-most}
-use Rattle.model.proofs.LayoutLaws.{stands-unpublished, place-from, place-room, page-room}
-use Rattle.model.proofs.Leaves.{own-inside, next-late, next-stands, next-pages, next-slot, next-number}
-use Rattle.model.proofs.Updated.{update-le, update-ticket}
-use Rattle.model.proofs.Owner.{own-version, own-update}
-use Rattle.model.proofs.Numbers.{numbered-is, number-below}
-use Rattle.model.proofs.Passed.{WeavePassed, weave-passed}
+use Rattle.model.proofs.Area.Image.{pagesImage, nodeOf as nodeIn, nodesImage}
+use Rattle.model.proofs.Model.Sound.{Sound, UpdateSound}
+use Rattle.model.proofs.Model.Facts.{versions-most}
+use Rattle.model.proofs.Area.LayoutLaws.{stands-unpublished, place-from, place-room, page-room}
+use Rattle.model.proofs.Area.Leaves.{own-inside, next-late, next-stands, next-pages, next-slot, next-number}
+use Rattle.model.proofs.Model.Updated.{update-le, update-ticket}
+use Rattle.model.proofs.Line.Owner.{own-version, own-update}
+use Rattle.model.proofs.Line.Numbers.{numbered-is, number-below}
+use Rattle.model.proofs.Model.Passed.{WeavePassed, weave-passed}
 use Rattle.demands.specs.Answers.{wovenAnswer}
 use Rattle.demands.specs.Run.{onStore}
 use Rattle.demands.proofs.Image.{recordImage, registerImage, storeImage, windowsImage, areasImage, image}

@@ -17,15 +17,15 @@ use Rattle.model.specs.History.{Ticket, noTicket, noVersion, pagesOf}
 use Rattle.model.specs.Model.{Limits, Model, updateAt, ticketUpdate}
 use Rattle.model.specs.OnModel.{ticketIn, woven}
 use Rattle.model.specs.Layout.{nodeStands, nodePlace}
-use Rattle.model.proofs.Image.{pagesImage, numbersOf, wovenOf, nodeOf, weaveCell, nodesImage}
-use Rattle.model.proofs.Sound.{Sound}
-use Rattle.model.proofs.Nth.{nth-set-field, nth-past}
-use Rattle.model.proofs.Grows.{Grown}
-use Rattle.model.proofs.LayoutLaws.{node-put, pages-same}
-use Rattle.model.proofs.Passed.{WeavePassed}
-use Rattle.model.proofs.Updated.{update-le, update-ticket}
-use Rattle.model.proofs.Kept.Change.{changed-length, changed-other}
-use Rattle.model.proofs.Kept.Weave.{wovenTicket, woven-this, woven-grown}
+use Rattle.model.proofs.Area.Image.{pagesImage, numbersOf, wovenOf, nodeOf, weaveCell, nodesImage}
+use Rattle.model.proofs.Model.Sound.{Sound}
+use Rattle.model.proofs.Lists.Nth.{nth-set-field, nth-past}
+use Rattle.model.proofs.Calls.Grows.{Grown}
+use Rattle.model.proofs.Area.LayoutLaws.{node-put, pages-same}
+use Rattle.model.proofs.Model.Passed.{WeavePassed}
+use Rattle.model.proofs.Model.Updated.{update-le, update-ticket}
+use Rattle.model.proofs.Calls.Kept.Change.{changed-length, changed-other}
+use Rattle.model.proofs.Calls.Kept.Weave.{wovenTicket, woven-this, woven-grown}
 use Rattle.demands.proofs.Image.{recordImage, registerImage, storeImage}
 use Rattle.demands.proofs.Records.{update-room}
 use Rattle.demands.proofs.Puts.{register-put}
