@@ -191,17 +191,7 @@ class CallStep:
         lhs = cons(x for p in S for x in self.passed(p))
         g = 'qed W (%s) ∵ %s $ nothing ! $ ' % (lhs, 'says ! need' if self.req is not None else 'plus-nothing !')
         sim.l.insert(0, 'toks')
-        for p in reversed(self.by_lft):
-            g += sim.move('tok ' + p.x, 'toks') + 'join ! $ '
-            sim.l[0:2] = ['toks']
-        g += 'frame ! $ nothing ! $ '
-        sim.l[0] = 'owns'
-        for p in reversed(P):
-            if p.slice:
-                g += sim.move('own ' + p.owner(), 'owns') + 'fjoin ! $ '
-                sim.l[0:2] = ['owns']
-            else:
-                g += 'owned ! %s (Is %s) %s %s _ %s $ fjoin ! $ ' % (c.row(p.ty), c.row(p.ty), c.makes(p.ty), p.x, p.ok)
+        g += sim.joined(self.by_lft, P, c)
         g += 'done !'
         L += ['    where', '      goes : ent 𝓤 (%s) (%s .pre %s)' % ('⋆ 𝓤 H A (%s)' % lhs, asked, to), '      goes = ' + g]
         sp = names_ + ' ' if names_ else ''

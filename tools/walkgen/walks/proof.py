@@ -116,17 +116,7 @@ class Proof(Facts):
         g = '  exits %s%s%s=\n      qed W (%s) ∵ suffices ! _ (ends-at 𝓤 H A %s.ended stayed (%s.clauses 𝓤 H A mem run) W bound (%s) %s %s %s) $ %s $\n      ' % ('' if unit else 'b·r o·r γ·r r room·r ' if f.rslice else 'r ok·r ', ''.join('zs·%s same·%s ' % (p.x, p.x) for p in f.muts), 'said ' if f.ens is not None else '', head, me, me, rv, 'tt' if unit else '(ref b·r o·r γ·r r)' if f.rslice else 'r', lasts, fits, 'says ! said' if f.ens is not None else 'plus-nothing !')
         sim = Sim(['toks'] + [w for p in f.slices for w in p.labels()], '!')
         g += 'nothing ! $ '
-        for p in reversed(f.by_lft):
-            g += sim.move('tok ' + p.x, 'toks') + 'join ! $ '
-            sim.l[0:2] = ['toks']
-        g += 'frame ! $ nothing ! $ '
-        sim.l[0] = 'owns'
-        for p in reversed(P):
-            if p.slice:
-                g += sim.move('own ' + p.owner(), 'owns') + 'fjoin ! $ '
-                sim.l[0:2] = ['owns']
-            else:
-                g += 'owned ! %s (Is %s) %s %s _ %s $ fjoin ! $ ' % (c.row(p.ty), c.row(p.ty), c.makes(p.ty), p.x, p.ok)
+        g += sim.joined(f.by_lft, P, c)
         g += 'frame ! $ '
         g += 'done !' if f.rslice else 'feqI ! (List Val) (vunit ∷ []) (vunit ∷ []) refl $ done !' if unit else 'owned ! %s (Is %s) %s r _ ok·r $ done !' % (c.row(f.ret), c.row(f.ret), c.makes(f.ret))
         L += [g, '']
