@@ -1,11 +1,10 @@
--- Where the program stands between two bytes of its input.
+-- Where the program stands between two lines of its input.
 use Prim.Native.Nat.{ℕ}
-use mathlib.Core.Bool.{Bool, false, not}
+use mathlib.Core.Bool.{Bool, not}
 use mathlib.Core.List.{List, _++_}
 use lib.ListN.{length, take, drop, replicate}
-use Rattle.text.specs.Text.{pick}
 use Rattle.text.specs.Buffer.{front}
-use Rattle.parse.specs.Cut.{fresh, unendedIn, cutMeant}
+use Rattle.parse.specs.Cut.{cutMeant}
 use Rattle.parse.specs.declared.Cutter.{Cutter}
 use Rattle.versions.specs.Store.{Areas, areasOf}
 use Rattle.versions.specs.declared.Lengths.{Lengths}
@@ -18,15 +17,7 @@ use Rattle.steps.specs.declared.Place.{Place}
 
 -- At the start of a line. Where the answer before it could not be written the program is to end.
 unfoldable pub nextPlace : Kept → Bool → Place
-nextPlace k written = record { kept = k; cutter = fresh; ended = not written }
-
--- Where the line goes on.
-unfoldable pub samePlace : Kept → Cutter → Place
-samePlace k c = record { kept = k; cutter = c; ended = false }
-
--- Whether, at the end of the text, a last line without its line feed is to be answered.
-unfoldable pub isDue : Place → Bool
-isDue p = pick (p .ended) false (unendedIn (p .cutter))
+nextPlace k written = record { kept = k; ended = not written }
 
 -- What the line of text in the cutter asks for.
 unfoldable pub lineWanted : Cutter → List ℕ → Wanted

@@ -42,8 +42,6 @@ use Rattle.tree.specs.declared.Ticket.{Ticket}
 use Rattle.register.proofs.Generated.Kind.Ticket as Ticket′
 use Rattle.steps.specs.declared.Place.{Place as Place‴}
 use Rattle.steps.proofs.Generated.Kind.Place as Place′
-use Rattle.parse.specs.declared.Cutter.{Cutter}
-use Rattle.steps.proofs.Generated.Kind.Cutter as Cutter′
 use Rattle.register.proofs.Generated.Flow.{ref, MutAt, ShrAt, keeps-shr, plus-nothing}
 use Rattle.steps.proofs.place_after as callee
 use Rattle.steps.proofs.place_after.Symbol.{name as #callee}

@@ -22,8 +22,6 @@ use denote.Builtin.{u8, u16, u32, u64, bool, unit}
 use denote.Struct.Laws as LL
 use Rattle.answers.proofs.Generated.Kind.Kept as Kept′
 use Rattle.answers.specs.declared.Kept.{Kept}
-use Rattle.parse.specs.declared.Cutter.{Cutter}
-use Rattle.steps.proofs.Generated.Kind.Cutter as Cutter′
 use Rattle.steps.specs.declared.Place.{Place as Place‴}
 use Rattle.steps.proofs.Place as T′
 use Rattle.steps.proofs.Place.Laws as T″
@@ -57,25 +55,22 @@ makes = LL.makes T′.the-type T″.the-plain
 
 -- a value to stand past the end of a list
 abbrev pub none : Place‴
-none = record { kept = Kept′.none; cutter = Cutter′.none; ended = false }
+none = record { kept = Kept′.none; ended = false }
 
 pub ok-kept : (d : Place‴) → Ok d → Is Kept′.row (d .kept) (Kept′.vals (d .kept))
 ok-kept d g = LL.owed T′.the-type T″.the-laws d _ g .0
 
-pub ok-cutter : (d : Place‴) → Ok d → Is Cutter′.row (d .cutter) (Cutter′.vals (d .cutter))
-ok-cutter d g = LL.owed T′.the-type T″.the-laws d _ g .1 .0
-
 pub ok-ended : (d : Place‴) → Ok d → Is bool (d .ended) (bool-vals (d .ended))
-ok-ended d g = LL.owed T′.the-type T″.the-laws d _ g .1 .1 .0
+ok-ended d g = LL.owed T′.the-type T″.the-laws d _ g .1 .0
 
-abbrev pub build : Kept → Cutter → Bool → Place‴
-build y0 y1 y2 = record { kept = y0; cutter = y1; ended = y2 }
+abbrev pub build : Kept → Bool → Place‴
+build y0 y1 = record { kept = y0; ended = y1 }
 
-pub make : (y0 : Kept) (y1 : Cutter) (y2 : Bool) → Is Kept′.row y0 (Kept′.vals y0) → Is Cutter′.row y1 (Cutter′.vals y1) → Is bool y2 (bool-vals y2) → Ok (build y0 y1 y2)
-make y0 y1 y2 g0 g1 g2 = LL.owes T′.the-type T″.the-laws (build y0 y1 y2) (g0, (g1, (g2, tt)))
+pub make : (y0 : Kept) (y1 : Bool) → Is Kept′.row y0 (Kept′.vals y0) → Is bool y1 (bool-vals y1) → Ok (build y0 y1)
+make y0 y1 g0 g1 = LL.owes T′.the-type T″.the-laws (build y0 y1) (g0, (g1, tt))
 
 abbrev pub stride : ℕ
-stride = 240
+stride = 224
 
 -- the byte offset of an element of a slice does not wrap
 pub scaled : (n i : ℕ) → i < n → n * stride < 2 ^ 63 → i * stride < 2 ^ 64

@@ -22,24 +22,53 @@ use Rattle.answers.specs.declared.Kept.{Kept}
 use Rattle.answers.proofs.Generated.Kind.Kept as Kept′
 use Rattle.versions.specs.declared.Store.{Store}
 use Rattle.versions.proofs.Generated.Kind.Store as Store′
+use Rattle.steps.specs.declared.Input.{Input}
+use Rattle.steps.proofs.Generated.Kind.Input as Input′
 use Rattle.parse.specs.declared.Cutter.{Cutter}
 use Rattle.steps.proofs.Generated.Kind.Cutter as Cutter′
 use Rattle.steps.proofs.Generated.Say.main as main″
 use Rattle.register.proofs.Generated.Say.no_record as no-record″
-use Rattle.steps.proofs.Generated.Say.nothing_kept as nothing-kept″
-use Rattle.steps.proofs.Generated.Say.next_place as next-place″
-use Rattle.steps.proofs.Generated.Say.take_all as take-all″
-use Rattle.steps.proofs.Generated.Say.is_due as is-due″
+use Rattle.steps.proofs.Generated.Say.first_place as first-place″
+use Rattle.steps.proofs.Generated.Say.no_input as no-input″
+use Rattle.steps.proofs.Generated.Say.next_line as next-line″
 use Rattle.steps.proofs.Generated.Say.answer as answer″
+use Rattle.steps.proofs.main.Proof.Loop as Loop
 
-abbrev pub r1 : List ℕ → List ℕ → List ℕ → Record
-r1 arr1 arr2 arr3 = no-record″.res
+abbrev pub r1 : List ℕ → List ℕ → List ℕ → List ℕ → Record
+r1 arr1 arr2 arr3 arr4 = no-record″.res
 
-abbrev pub r2 : List ℕ → List ℕ → List ℕ → List Record → Kept
-r2 arr1 arr2 arr3 arr5 = nothing-kept″.res
+abbrev pub r2 : List ℕ → List ℕ → List ℕ → List ℕ → List Record → Place‴
+r2 arr1 arr2 arr3 arr4 arr6 = first-place″.res
 
-abbrev pub r3 : List ℕ → List ℕ → List ℕ → List Record → Place‴
-r3 arr1 arr2 arr3 arr5 = next-place″.res (r2 arr1 arr2 arr3 arr5) true
+abbrev pub r3 : List ℕ → List ℕ → List ℕ → List ℕ → List Record → Input
+r3 arr1 arr2 arr3 arr4 arr6 = no-input″.res
 
-abbrev pub r5 : List ℕ → List ℕ → List ℕ → List Record → Place‴ → List ℕ → List ℕ → List ℕ → List Record → Bool
-r5 arr1 arr2 arr3 arr5 r4 arr1₄ arr2₄ arr3₄ arr5₄ = is-due″.res r4
+-- `next_line` asks: from .end ≤ length block
+abbrev pub next-line-1 : Type 0
+next-line-1 =
+    (arr1 : List ℕ) (made-arr1 : arr1 ≡ replicate 4096 0) (len-arr1 : 4096 ≡ length arr1) (arr2 : List ℕ) (made-arr2 : arr2 ≡ replicate 600 0) (len-arr2 : 600 ≡ length arr2) (arr3 : List ℕ) (made-arr3 : arr3 ≡ replicate 32768 0) (len-arr3 : 32768 ≡ length arr3) (arr4 : List ℕ) (made-arr4 : arr4 ≡ replicate 4096 0) (len-arr4 : 4096 ≡ length arr4) (ok-r1 : Record′.Ok (r1 arr1 arr2 arr3 arr4)) (arr6 : List Record) (made-arr6 : arr6 ≡ replicate 256 (r1 arr1 arr2 arr3 arr4)) (len-arr6 : 256 ≡ length arr6) (ok-r2 : Place′.Ok (r2 arr1 arr2 arr3 arr4 arr6)) (ok-r3 : Input′.Ok (r3 arr1 arr2 arr3 arr4 arr6)) (v7 : Place‴) (v8 : Input) (v9 : ℕ) (arr1-now : List ℕ) (arr2-now : List ℕ) (arr3-now : List ℕ) (arr4-now : List ℕ) (arr6-now : List Record) (ok-v7 : Place′.Ok v7) (ok-v8 : Input′.Ok v8) (fits-v9 : v9 < 2 ^ 64) (same-arr1-now : 4096 ≡ length arr1-now) (same-arr2-now : 600 ≡ length arr2-now) (same-arr3-now : 32768 ≡ length arr3-now) (same-arr4-now : 4096 ≡ length arr4-now) (same-arr6-now : 256 ≡ length arr6-now) (inv1 : Loop.inv-1 arr1 arr2 arr3 arr4 arr6 v7 v8 v9 arr1-now arr2-now arr3-now arr4-now arr6-now) (c1 : ltb 0 v9 ≡ true) (n1 : 0 < v9)
+    → next-line″.req v8 arr1-now arr2-now
+
+-- a difference does not fall below 0
+abbrev pub sub-1 : Type 0
+sub-1 =
+    (arr1 : List ℕ) (made-arr1 : arr1 ≡ replicate 4096 0) (len-arr1 : 4096 ≡ length arr1) (arr2 : List ℕ) (made-arr2 : arr2 ≡ replicate 600 0) (len-arr2 : 600 ≡ length arr2) (arr3 : List ℕ) (made-arr3 : arr3 ≡ replicate 32768 0) (len-arr3 : 32768 ≡ length arr3) (arr4 : List ℕ) (made-arr4 : arr4 ≡ replicate 4096 0) (len-arr4 : 4096 ≡ length arr4) (ok-r1 : Record′.Ok (r1 arr1 arr2 arr3 arr4)) (arr6 : List Record) (made-arr6 : arr6 ≡ replicate 256 (r1 arr1 arr2 arr3 arr4)) (len-arr6 : 256 ≡ length arr6) (ok-r2 : Place′.Ok (r2 arr1 arr2 arr3 arr4 arr6)) (ok-r3 : Input′.Ok (r3 arr1 arr2 arr3 arr4 arr6)) (v7 : Place‴) (v8 : Input) (v9 : ℕ) (arr1-now : List ℕ) (arr2-now : List ℕ) (arr3-now : List ℕ) (arr4-now : List ℕ) (arr6-now : List Record) (ok-v7 : Place′.Ok v7) (ok-v8 : Input′.Ok v8) (fits-v9 : v9 < 2 ^ 64) (same-arr1-now : 4096 ≡ length arr1-now) (same-arr2-now : 600 ≡ length arr2-now) (same-arr3-now : 32768 ≡ length arr3-now) (same-arr4-now : 4096 ≡ length arr4-now) (same-arr6-now : 256 ≡ length arr6-now) (inv1 : Loop.inv-1 arr1 arr2 arr3 arr4 arr6 v7 v8 v9 arr1-now arr2-now arr3-now arr4-now arr6-now) (c1 : ltb 0 v9 ≡ true) (n1 : 0 < v9) (r4 : Input) (arr1₄ : List ℕ) (arr2₄ : List ℕ) (ok-r4 : Input′.Ok r4) (same4-arr1 : length arr1₄ ≡ length arr1-now) (same4-arr2 : length arr2₄ ≡ length arr2-now) (says4 : next-line″.ens v8 arr1-now arr2-now arr1₄ arr2₄ r4) (c2 : not (r4 .due) ≡ false) (r5 : Place‴) (arr3₅ : List ℕ) (arr4₅ : List ℕ) (arr6₅ : List Record) (ok-r5 : Place′.Ok r5) (same5-arr3 : length arr3₅ ≡ length arr3-now) (same5-arr4 : length arr4₅ ≡ length arr4-now) (same5-arr6 : length arr6₅ ≡ length arr6-now) (says5 : answer″.ens (v7 .kept) (r4 .cutter) arr2₄ arr3-now arr4-now arr6-now arr3₅ arr4₅ arr6₅ r5) (c3 : r5 .ended ≡ false)
+    → 1 ≤ v9
+
+-- the invariant holds after a turn
+abbrev pub again-1 : Type 0
+again-1 =
+    (arr1 : List ℕ) (made-arr1 : arr1 ≡ replicate 4096 0) (len-arr1 : 4096 ≡ length arr1) (arr2 : List ℕ) (made-arr2 : arr2 ≡ replicate 600 0) (len-arr2 : 600 ≡ length arr2) (arr3 : List ℕ) (made-arr3 : arr3 ≡ replicate 32768 0) (len-arr3 : 32768 ≡ length arr3) (arr4 : List ℕ) (made-arr4 : arr4 ≡ replicate 4096 0) (len-arr4 : 4096 ≡ length arr4) (ok-r1 : Record′.Ok (r1 arr1 arr2 arr3 arr4)) (arr6 : List Record) (made-arr6 : arr6 ≡ replicate 256 (r1 arr1 arr2 arr3 arr4)) (len-arr6 : 256 ≡ length arr6) (ok-r2 : Place′.Ok (r2 arr1 arr2 arr3 arr4 arr6)) (ok-r3 : Input′.Ok (r3 arr1 arr2 arr3 arr4 arr6)) (v7 : Place‴) (v8 : Input) (v9 : ℕ) (arr1-now : List ℕ) (arr2-now : List ℕ) (arr3-now : List ℕ) (arr4-now : List ℕ) (arr6-now : List Record) (ok-v7 : Place′.Ok v7) (ok-v8 : Input′.Ok v8) (fits-v9 : v9 < 2 ^ 64) (same-arr1-now : 4096 ≡ length arr1-now) (same-arr2-now : 600 ≡ length arr2-now) (same-arr3-now : 32768 ≡ length arr3-now) (same-arr4-now : 4096 ≡ length arr4-now) (same-arr6-now : 256 ≡ length arr6-now) (inv1 : Loop.inv-1 arr1 arr2 arr3 arr4 arr6 v7 v8 v9 arr1-now arr2-now arr3-now arr4-now arr6-now) (c1 : ltb 0 v9 ≡ true) (n1 : 0 < v9) (r4 : Input) (arr1₄ : List ℕ) (arr2₄ : List ℕ) (ok-r4 : Input′.Ok r4) (same4-arr1 : length arr1₄ ≡ length arr1-now) (same4-arr2 : length arr2₄ ≡ length arr2-now) (says4 : next-line″.ens v8 arr1-now arr2-now arr1₄ arr2₄ r4) (c2 : not (r4 .due) ≡ false) (r5 : Place‴) (arr3₅ : List ℕ) (arr4₅ : List ℕ) (arr6₅ : List Record) (ok-r5 : Place′.Ok r5) (same5-arr3 : length arr3₅ ≡ length arr3-now) (same5-arr4 : length arr4₅ ≡ length arr4-now) (same5-arr6 : length arr6₅ ≡ length arr6-now) (says5 : answer″.ens (v7 .kept) (r4 .cutter) arr2₄ arr3-now arr4-now arr6-now arr3₅ arr4₅ arr6₅ r5) (c3 : r5 .ended ≡ false)
+    → Loop.inv-1 arr1 arr2 arr3 arr4 arr6 r5 r4 (v9 - 1) arr1₄ arr2₄ arr3₅ arr4₅ arr6₅
+
+-- the measure falls
+abbrev pub less-1 : Type 0
+less-1 =
+    (arr1 : List ℕ) (made-arr1 : arr1 ≡ replicate 4096 0) (len-arr1 : 4096 ≡ length arr1) (arr2 : List ℕ) (made-arr2 : arr2 ≡ replicate 600 0) (len-arr2 : 600 ≡ length arr2) (arr3 : List ℕ) (made-arr3 : arr3 ≡ replicate 32768 0) (len-arr3 : 32768 ≡ length arr3) (arr4 : List ℕ) (made-arr4 : arr4 ≡ replicate 4096 0) (len-arr4 : 4096 ≡ length arr4) (ok-r1 : Record′.Ok (r1 arr1 arr2 arr3 arr4)) (arr6 : List Record) (made-arr6 : arr6 ≡ replicate 256 (r1 arr1 arr2 arr3 arr4)) (len-arr6 : 256 ≡ length arr6) (ok-r2 : Place′.Ok (r2 arr1 arr2 arr3 arr4 arr6)) (ok-r3 : Input′.Ok (r3 arr1 arr2 arr3 arr4 arr6)) (v7 : Place‴) (v8 : Input) (v9 : ℕ) (arr1-now : List ℕ) (arr2-now : List ℕ) (arr3-now : List ℕ) (arr4-now : List ℕ) (arr6-now : List Record) (ok-v7 : Place′.Ok v7) (ok-v8 : Input′.Ok v8) (fits-v9 : v9 < 2 ^ 64) (same-arr1-now : 4096 ≡ length arr1-now) (same-arr2-now : 600 ≡ length arr2-now) (same-arr3-now : 32768 ≡ length arr3-now) (same-arr4-now : 4096 ≡ length arr4-now) (same-arr6-now : 256 ≡ length arr6-now) (inv1 : Loop.inv-1 arr1 arr2 arr3 arr4 arr6 v7 v8 v9 arr1-now arr2-now arr3-now arr4-now arr6-now) (c1 : ltb 0 v9 ≡ true) (n1 : 0 < v9) (r4 : Input) (arr1₄ : List ℕ) (arr2₄ : List ℕ) (ok-r4 : Input′.Ok r4) (same4-arr1 : length arr1₄ ≡ length arr1-now) (same4-arr2 : length arr2₄ ≡ length arr2-now) (says4 : next-line″.ens v8 arr1-now arr2-now arr1₄ arr2₄ r4) (c2 : not (r4 .due) ≡ false) (r5 : Place‴) (arr3₅ : List ℕ) (arr4₅ : List ℕ) (arr6₅ : List Record) (ok-r5 : Place′.Ok r5) (same5-arr3 : length arr3₅ ≡ length arr3-now) (same5-arr4 : length arr4₅ ≡ length arr4-now) (same5-arr6 : length arr6₅ ≡ length arr6-now) (says5 : answer″.ens (v7 .kept) (r4 .cutter) arr2₄ arr3-now arr4-now arr6-now arr3₅ arr4₅ arr6₅ r5) (c3 : r5 .ended ≡ false)
+    → Loop.measure-1 arr1 arr2 arr3 arr4 arr6 r5 r4 (v9 - 1) arr1₄ arr2₄ arr3₅ arr4₅ arr6₅ < Loop.measure-1 arr1 arr2 arr3 arr4 arr6 v7 v8 v9 arr1-now arr2-now arr3-now arr4-now arr6-now
+
+-- the invariant holds where the loop begins
+abbrev pub start-1 : Type 0
+start-1 =
+    (arr1 : List ℕ) (made-arr1 : arr1 ≡ replicate 4096 0) (len-arr1 : 4096 ≡ length arr1) (arr2 : List ℕ) (made-arr2 : arr2 ≡ replicate 600 0) (len-arr2 : 600 ≡ length arr2) (arr3 : List ℕ) (made-arr3 : arr3 ≡ replicate 32768 0) (len-arr3 : 32768 ≡ length arr3) (arr4 : List ℕ) (made-arr4 : arr4 ≡ replicate 4096 0) (len-arr4 : 4096 ≡ length arr4) (ok-r1 : Record′.Ok (r1 arr1 arr2 arr3 arr4)) (arr6 : List Record) (made-arr6 : arr6 ≡ replicate 256 (r1 arr1 arr2 arr3 arr4)) (len-arr6 : 256 ≡ length arr6) (ok-r2 : Place′.Ok (r2 arr1 arr2 arr3 arr4 arr6)) (ok-r3 : Input′.Ok (r3 arr1 arr2 arr3 arr4 arr6))
+    → Loop.inv-1 arr1 arr2 arr3 arr4 arr6 (r2 arr1 arr2 arr3 arr4 arr6) (r3 arr1 arr2 arr3 arr4 arr6) 18446744073709551615 arr1 arr2 arr3 arr4 arr6
