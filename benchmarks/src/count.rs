@@ -18,9 +18,7 @@ mod random;
 mod shape;
 
 use opaque::opaque;
-use pit_host::{
-    ByteOffset, Keeper, Limits, Line, LineState, Minute, PageIndex, Store, Ticket, Version,
-};
+use pit_host::{ByteOffset, Limits, Line, LineState, Minute, PageIndex, Store, Ticket, Version};
 use shape::{Shape, Source, Update, MOST};
 use std::env;
 use std::process::ExitCode;
@@ -241,7 +239,7 @@ impl Scene {
         let (mut state, windows, areas) = self.store.clone().into_parts();
         state.begun = room;
         state.set_line(Line(15), LineState::default());
-        let mut store = Keeper::resume(state, windows, areas);
+        let mut store = Store::resume(state, windows, areas);
         for k in 0..BRANCHES as u64 {
             let line = Line(k % room);
             let version = self.version(line);
@@ -249,7 +247,7 @@ impl Scene {
             let (mut state, windows, areas) = store.into_parts();
             state.begun = room;
             state.set_line(Line(room), LineState::default());
-            store = Keeper::resume(state, windows, areas);
+            store = Store::resume(state, windows, areas);
         }
     }
 

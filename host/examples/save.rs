@@ -50,7 +50,7 @@ fn main() -> Result<(), Failure> {
             .map(|file| file.len())
     };
     let small = length()?;
-    model.carry(Limits::new(256, 65_535, 131_072, 4_096), &[])?;
+    model.rebuild(Limits::new(256, 65_535, 131_072, 4_096), &[])?;
     assert_eq!(model.save(path)?, saved);
     assert!(length()? <= small);
     println!(

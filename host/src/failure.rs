@@ -1,9 +1,9 @@
 //! One error over all those of this crate.
 
-use crate::areas::LimitsError;
-use crate::error::Error;
-use crate::file::FileError;
-use crate::windows::WindowsError;
+use crate::calls::areas::LimitsError;
+use crate::calls::error::Error;
+use crate::calls::windows::WindowsError;
+use crate::disk::file::FileError;
 use std::fmt;
 
 /// Why a call did not do what it should: one error over all others of this crate, so that `?` works in a function that returns
@@ -100,8 +100,8 @@ impl std::error::Error for Failure {
 #[cfg(test)]
 mod tests {
     use super::*;
-    use crate::areas::Limits;
-    use crate::keeper::Store;
+    use crate::calls::areas::Limits;
+    use crate::calls::store::Store;
     use std::error::Error as _;
 
     /// One failure of each kind, as `?` makes it, with the refusal that it holds.

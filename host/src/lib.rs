@@ -2,9 +2,9 @@
 //! in common, on up to sixteen lines. The calls are proved, and linked as static libraries; this crate is the Rust over
 //! them.
 //!
-//! - [`Store`] owns its areas, [`Lent`] works in areas that the host lends; both are a [`Keeper`].
+//! - [`Store`] owns its areas, or works in areas of any kind that the host has: see [`Storage`].
 //! - [`Shared`] is a store for threads: writers each on a ticket, readers beside each other. [`Durable`] is one that is kept in a
-//!   folder. Both are a [`Handle`], which also has whole updates in one call, and carries a store that is full over into another one.
+//!   folder. Both are a [`Handle`], which also has whole updates in one call, and rebuilds a store that is full into another one.
 //! - [`Snapshot`] is a published version, held for reading without a lock.
 //! - [`Store::save`] and [`Store::load`] keep a store in a file. [`inspect`](fn@inspect) looks at a folder without opening it, as the tool `pit`
 //!   does.
@@ -42,53 +42,31 @@
 
 #![deny(unsafe_code, missing_docs)]
 
-mod areas;
-mod carry;
-mod checksum;
-mod counters;
-mod difference;
-mod durable;
-mod error;
+mod calls;
+mod disk;
 mod failure;
-#[allow(unsafe_code)]
-mod ffi;
-mod file;
-mod folder;
-mod inspect;
-mod journal;
-mod keeper;
-mod live;
-mod log;
-#[allow(unsafe_code)]
-mod memory;
-mod numbering;
-mod room;
-mod seen;
 mod shared;
-mod snapshot;
-mod updates;
-mod windows;
 
-pub use areas::{
-    Areas, Capacity, Lend, LentAreas, Limits, LimitsError, Parts, Planned, WrongUpdate,
+pub use calls::areas::{
+    Areas, Capacity, Limits, LimitsError, Parts, PartsMut, Planned, Storage, WrongUpdate,
 };
-pub use counters::{ByteOffset, Line, LineVersion, Minute, PageIndex, Ticket, Version};
-pub use difference::Difference;
-pub use durable::{Durable, InFolder};
-pub use error::Error;
+pub use calls::counters::{ByteOffset, Line, LineVersion, Minute, PageIndex, Ticket, Version};
+pub use calls::difference::Difference;
+pub use calls::error::Error;
+pub use calls::ffi::{node_count, root_span, Entries, LineState, Record, State, Window, Windows};
+pub use calls::store::{Assigned, Node, Published, Store};
+pub use calls::windows::{Why, WindowsError, WrongLine};
+pub use disk::durable::{Durable, InFolder};
+pub use disk::file::FileError;
+pub use disk::folder::{Comparison, Earlier, OpenBy, Opened, Options};
+pub use disk::inspect::{inspect, inspect_earlier, Inspection};
+pub use disk::journal::{Cut, JournalError, JournalErrorKind, ReplayError, SyncAt};
 pub use failure::Failure;
-pub use ffi::{node_count, root_span, Entries, LineState, Record, State, Window, Windows};
-pub use file::FileError;
-pub use folder::{Comparison, Earlier, OpenBy, Opened, Options};
-pub use inspect::{inspect, inspect_earlier, Inspection};
-pub use journal::{Cut, Flaw, JournalError, Misfit, SyncAt};
-pub use keeper::{Assigned, Keeper, Lent, Node, Published, Store};
-pub use log::{Log, Memory};
-pub use room::Room;
-pub use shared::{Handle, Shared};
-pub use snapshot::Snapshot;
-pub use updates::OpenTicket;
-pub use windows::{Why, WindowsError, WrongLine};
+pub use shared::handle::{Handle, Shared};
+pub use shared::log::{Log, Memory};
+pub use shared::room::Room;
+pub use shared::snapshot::Snapshot;
+pub use shared::updates::OpenTicket;
 
 /// The Rust in the repository's README, run as a test.
 #[cfg(doctest)]

@@ -9,7 +9,9 @@ use calls::files::{ahead, entries, Entry, HEADER};
 use calls::model::Model;
 use calls::{make_durable, Call, Script};
 use folder::Folder;
-use pit_host::{Durable, Failure, FileError, Flaw, JournalError, Limits, Opened, Options, Store};
+use pit_host::{
+    Durable, Failure, FileError, JournalError, JournalErrorKind, Limits, Opened, Options, Store,
+};
 use random::{first_seed, named};
 use std::fs;
 
@@ -142,7 +144,7 @@ fn a_journal_that_is_cut_at_any_byte_gives_the_store_of_its_whole_entries() {
             continue;
         }
         // no crash leaves that: the header is on the disk before there is a store
-        assert_eq!(flaw_of(run.open()).flaw, Flaw::Header);
+        assert_eq!(flaw_of(run.open()).kind, JournalErrorKind::Header);
         assert_eq!(fs::read(&path).unwrap(), &journal[..length]);
     }
     println!("{} bytes, {} entries", journal.len(), run.model.entries);
@@ -210,11 +212,11 @@ fn assert_not_cut(run: &Run, generation: u64, all: u64) {
         }
         let error = flaw_of(opened);
         let due = if length < HEADER {
-            Flaw::Header
+            JournalErrorKind::Header
         } else {
-            Flaw::Ended
+            JournalErrorKind::Ended
         };
-        assert_eq!((error.generation, error.flaw), (generation, due));
+        assert_eq!((error.generation, error.kind), (generation, due));
         assert_eq!(fs::read(&path).unwrap(), &journal[..length]);
     }
     fs::write(&path, journal).unwrap();
@@ -265,19 +267,19 @@ fn a_checkpoint_that_is_broken_off_at_any_byte_changes_nothing() {
     println!("a saved store of {} bytes", saved.len());
 }
 
-/// A carry broken off at every byte that it writes. Its journal is no use without its store, and is not read after the one before.
+/// A rebuild broken off at every byte that it writes. Its journal is no use without its store, and is not read after the one before.
 #[test]
-fn a_carry_that_is_broken_off_at_any_byte_changes_nothing() {
-    let mut run = Run::new("a_carry_that_is_broken_off");
+fn a_rebuild_that_is_broken_off_at_any_byte_changes_nothing() {
+    let mut run = Run::new("a_rebuild_that_is_broken_off");
     run.make_part(4);
     let durable = run.durable.as_ref().unwrap();
     durable.sync().unwrap();
     let (before, in_work) = (run.folder.files(), durable.to_store());
     let mut limits = durable.limits();
     limits.pages += 1;
-    let carry = Call::Carry(limits, vec![], vec![]);
-    let answer = make_durable(durable, &carry).unwrap();
-    assert_eq!(answer, run.model.make(&carry));
+    let rebuild = Call::Rebuild(limits, vec![], vec![]);
+    let answer = make_durable(durable, &rebuild).unwrap();
+    assert_eq!(answer, run.model.make(&rebuild));
     let saved = fs::read(run.folder.path("store-2")).unwrap();
     run.make_part(20);
     let journal = run.close(2);
@@ -295,7 +297,7 @@ fn a_carry_that_is_broken_off_at_any_byte_changes_nothing() {
         assert_eq!(run.folder.names(), names(&[1]));
     }
     fs::write(run.journal(2), &journal).unwrap();
-    assert_eq!(flaw_of(run.open()).flaw, Flaw::OtherStore);
+    assert_eq!(flaw_of(run.open()).kind, JournalErrorKind::OtherStore);
     fs::write(run.folder.path("store-2"), &saved).unwrap();
     run.assert_after(&run.open().unwrap().0, run.model.entries);
 }

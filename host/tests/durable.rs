@@ -163,7 +163,7 @@ fn nothing_is_saved_where_another_folder_stands() {
 
     let is_moved = |failure| matches!(failure, Failure::File(FileError::FolderMoved));
     assert!(is_moved(moved.checkpoint().unwrap_err()));
-    assert!(is_moved(moved.carry(moved.limits(), &[]).unwrap_err()));
+    assert!(is_moved(moved.rebuild(moved.limits(), &[]).unwrap_err()));
     moved.append_pages(LIVE, &[&[4; 16]]).unwrap();
     let (was, others) = (moved.to_store(), other.to_store());
     drop((moved, other));

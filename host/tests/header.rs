@@ -85,7 +85,10 @@ fn the_header_is_as(side: &str, declared: &[String]) {
 
 #[test]
 fn the_header_declares_what_the_rust_side_declares() {
-    the_header_is_as("Rust", &declared::in_rust(include_str!("../src/ffi.rs")));
+    the_header_is_as(
+        "Rust",
+        &declared::in_rust(include_str!("../src/calls/ffi.rs")),
+    );
 }
 
 /// Every file of Rattle code, one after the other.

@@ -3,8 +3,8 @@
 mod updates;
 
 use pit_host::{
-    Areas, ByteOffset, Error, Keeper, Lend, Lent, LentAreas, Limits, Line, Minute, PageIndex,
-    Published, Record, State, Store, Ticket, Version,
+    Areas, ByteOffset, Error, Limits, Line, Minute, PageIndex, PartsMut, Published, Record, State,
+    Storage, Store, Ticket, Version,
 };
 use updates::{assign, limits, of_three_versions, put_all, update, ANY_TIME, LIVE};
 
@@ -118,12 +118,12 @@ fn row_3_in_format_leaves_the_areas() {
         record.n = 7;
         let mut register = vec![record; records];
         let kept = (pages.clone(), nodes.clone(), register.clone());
-        let areas = LentAreas {
+        let areas = PartsMut {
             pages: &mut pages,
             nodes: &mut nodes,
             register: &mut register,
         };
-        let refused = Lent::format(limits(4, 8, 2), areas).unwrap_err();
+        let refused = Store::format_in(limits(4, 8, 2), areas).unwrap_err();
         assert_eq!((refused, refused.number()), (Error::AreaLength, 3));
         assert!(
             (pages, nodes, register) == kept,
@@ -144,7 +144,7 @@ fn row_3_in_every_call() {
     for spoil in wrong {
         let (mut state, windows, areas) = at_all_stages().into_parts();
         spoil(&mut state);
-        let mut store = Keeper::resume(state, windows, areas);
+        let mut store = Store::resume(state, windows, areas);
         for (_, call) in CALLS {
             refused(&mut store, 3, call);
         }
@@ -437,10 +437,10 @@ fn read_fills_the_whole_buffer() {
 }
 
 /// The store of all stages, its state and areas spoilt.
-fn spoilt(spoil: impl FnOnce(&mut State, LentAreas<'_>)) -> Store {
+fn spoilt(spoil: impl FnOnce(&mut State, PartsMut<'_>)) -> Store {
     let (mut state, windows, mut areas) = at_all_stages().into_parts();
-    spoil(&mut state, areas.lend());
-    Keeper::resume(state, windows, areas)
+    spoil(&mut state, areas.parts_mut());
+    Store::resume(state, windows, areas)
 }
 
 /// In a register that no run left: the low n bits of a ticket's mask decide, whatever stands above them.

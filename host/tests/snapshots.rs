@@ -322,7 +322,7 @@ fn what_a_snapshot_shows_stays() {
             advance_to_newest(&twins, &mut snapshot.clone(), true);
         }
         let limits = Limits::new(PAGE as u64, 2_000, 20_000, 500);
-        twins.shared.carry(limits, &[]).expect("room for all");
+        twins.shared.rebuild(limits, &[]).expect("room for all");
         while twins
             .shared
             .append_pages(Line(0), &[&[9; PAGE][..]; 40])
@@ -356,7 +356,7 @@ fn another_store_takes_the_place() {
     let unfilled = shared.snapshot(live, Version(3)).expect("published");
     let filled = unfilled.clone().filled().expect("published");
     let replaced: [&dyn Fn(); 2] = [&|| shared.reload(&file).expect("the file"), &|| {
-        drop(shared.carry(shared.limits(), &[]).expect("room"))
+        drop(shared.rebuild(shared.limits(), &[]).expect("room"))
     }];
     for replace in replaced {
         replace();

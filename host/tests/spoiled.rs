@@ -82,7 +82,7 @@ impl Scene {
             }
             let answer = make_durable(durable, &call).unwrap();
             assert_eq!(answer, self.model.make(&call), "{call:?}");
-            if random.one_in(20) || matches!(call, Call::Carry(..)) {
+            if random.one_in(20) || matches!(call, Call::Rebuild(..)) {
                 self.past.push(files_of(&self.folder));
             }
         }
@@ -159,9 +159,9 @@ fn kind_of(failure: Failure) -> String {
     };
     match error {
         FileError::Journal(error) => {
-            let flaw = format!("{:?}", error.flaw);
-            let end = flaw.find(|c: char| !c.is_alphanumeric());
-            format!("journal: {}", &flaw[..end.unwrap_or(flaw.len())])
+            let kind = format!("{:?}", error.kind);
+            let end = kind.find(|c: char| !c.is_alphanumeric());
+            format!("journal: {}", &kind[..end.unwrap_or(kind.len())])
         }
         FileError::Saved { error, .. } => format!("store: {}", words(&error)),
         error => words(&error),

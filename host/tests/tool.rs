@@ -5,8 +5,8 @@ mod random;
 
 use folder::Folder;
 use pit_host::{
-    inspect, inspect_earlier, Comparison, Durable, Keeper, Lend, LentAreas, Limits, Line, Minute,
-    OpenBy, Options, PageIndex, Store, Ticket, Version,
+    inspect, inspect_earlier, Comparison, Durable, Limits, Line, Minute, OpenBy, Options,
+    PageIndex, PartsMut, Storage, Store, Ticket, Version,
 };
 use std::collections::BTreeMap;
 use std::ffi::OsStr;
@@ -377,10 +377,10 @@ fn a_closed_pipe_ends_it_quietly() {
 fn areas_that_no_calls_leave_are_found() {
     let (place, folder) = &place("areas");
     let made = make(&place.0.join("made")).to_store();
-    let verified = |change: fn(&mut LentAreas<'_>)| {
+    let verified = |change: fn(&mut PartsMut<'_>)| {
         let (state, windows, mut areas) = made.clone().into_parts();
-        change(&mut areas.lend());
-        let store = Keeper::resume(state, windows, areas);
+        change(&mut areas.parts_mut());
+        let store = Store::resume(state, windows, areas);
         drop(Durable::create(folder, store, Options::new()).unwrap());
         let answer = asked(&["verify", "F"], folder);
         fs::remove_dir_all(folder).unwrap();
@@ -470,17 +470,17 @@ fn an_earlier_generation_is_compared() {
 
 #[test]
 fn versions_that_were_not_kept_are_counted() {
-    let (_place, folder) = &place("carried");
+    let (_place, folder) = &place("rebuilt");
     let store = Store::format(Limits::new(16, 8, 8, 8)).unwrap();
     let durable = Durable::create(folder, store, Options::new()).unwrap();
     fill(&durable, &[1, 2, 3, 4, 5]);
     let first = aside(folder, ["store-1", "journal-1"]);
     durable
-        .carry(durable.limits(), &[(LIVE, Version(2))])
+        .rebuild(durable.limits(), &[(LIVE, Version(2))])
         .unwrap();
     fill(&durable, &[5, 6]);
     drop(durable);
-    let not_kept = "3 versions were not kept when the store was carried over\n";
+    let not_kept = "3 versions were not kept when the store was rebuilt\n";
     let due = format!("{not_kept}verified: 4 versions, 4 pages, 10 entries\n");
     assert_eq!(asked(&["verify", "F"], folder), (0, due, String::new()));
     let told = asked(&["info", "F"], folder).1;
@@ -494,7 +494,7 @@ fn versions_that_were_not_kept_are_counted() {
     );
 
     put_back(&first);
-    let due = "store-1 was carried over into store-2\n";
+    let due = "store-1 was rebuilt into store-2\n";
     assert!(asked(&["verify", "F"], folder).1.starts_with(due));
 }
 

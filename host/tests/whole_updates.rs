@@ -169,12 +169,15 @@ fn areas_of_another_store_are_refused() {
         .expect("in range")
         .into_parts();
     let state = Store::format(limits(9, 16, 4)).expect("in range").state();
-    let shared = Shared::new(pit_host::Keeper::resume(state, windows, areas));
+    let shared = Shared::new(pit_host::Store::resume(state, windows, areas));
     let refused = Err(Error::AreaLength);
     assert_eq!(shared.append_pages(LIVE, &[]), refused);
     assert_eq!(shared.update(Line(7), PageIndex(9), &[&[1; 3]]), refused);
     assert_eq!(shared.finish(Ticket(1)), refused);
-    assert_eq!(shared.carry(limits(8, 16, 4), &[]), Err(Error::AreaLength));
+    assert_eq!(
+        shared.rebuild(limits(8, 16, 4), &[]),
+        Err(Error::AreaLength)
+    );
     assert_eq!(shared.open_tickets(), []);
 }
 
@@ -282,8 +285,8 @@ fn a_ticket_is_abandoned_when_no_call_is_made_on_it() {
     assert_eq!(shared.abandoned(hour), []);
     assert!(idle(&shared)[0] >= idle(&shared)[1]);
 
-    // a store that is carried over goes on counting
-    shared.carry(limits(20, 64, 9), &[]).expect("room");
+    // a store that is rebuilt goes on counting
+    shared.rebuild(limits(20, 64, 9), &[]).expect("room");
     assert_eq!(shared.abandoned(pause)[0].ticket, first);
 
     // each call on it counts, and those that are refused do not

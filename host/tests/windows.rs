@@ -2,9 +2,7 @@
 
 mod updates;
 
-use pit_host::{
-    Error, Keeper, Minute, Published, Store, Version, Why, Window, Windows, WindowsError,
-};
+use pit_host::{Error, Minute, Published, Store, Version, Why, Window, Windows, WindowsError};
 use std::time::{Duration, SystemTime, UNIX_EPOCH};
 use updates::{assign, limits, LIVE};
 
@@ -84,7 +82,7 @@ fn windows_that_no_call_left() {
     windows.places[2] = Window { from: 7, to: 7 };
     windows.places[3] = Window { from: 1, to: 2 };
     assert_eq!(windows.list(), &windows.places[..2]);
-    let mut store = Keeper::resume(state, windows, areas);
+    let mut store = Store::resume(state, windows, areas);
     for held in [3, 5, 10_079] {
         assert_eq!(store.publish(LIVE, Minute(held)), Ok(Published::Held));
     }
@@ -211,7 +209,7 @@ fn other_refusals_of_set_windows() {
     }
     let (mut state, windows, areas) = store().into_parts();
     state.pages += 1;
-    let mut other = Keeper::resume(state, windows, areas);
+    let mut other = Store::resume(state, windows, areas);
     let refused = other.set_windows("1,1\n").unwrap_err();
     assert_eq!(
         (refused.error(), refused.wrong()),

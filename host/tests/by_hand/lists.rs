@@ -3,7 +3,7 @@
 use super::windows::{host_same_as_model, list};
 use crate::scripts::windows::{text_of, FAULTS};
 use crate::updates::{assign, limits, ANY_TIME, LIVE};
-use pit_host::{Areas, Error, Keeper, Lend, Line, Minute, Published, State, Store, Version};
+use pit_host::{Areas, Error, Line, Minute, Published, State, Storage, Store, Version};
 use pit_host::{Window, Windows};
 
 /// An empty store.
@@ -147,10 +147,10 @@ fn long_texts() {
 }
 
 /// A store's parts with one more update than the register has.
-fn with_a_record_too_few(store: Store) -> Keeper<Areas> {
+fn with_a_record_too_few(store: Store) -> Store<Areas> {
     let (mut state, windows, areas) = store.into_parts();
     state.updates += 1;
-    Keeper::resume(state, windows, areas)
+    Store::resume(state, windows, areas)
 }
 
 /// 3 comes before 23 and 24, and before 20, 22 and held.
@@ -173,8 +173,8 @@ fn row_3_comes_first() {
 #[test]
 fn row_19_comes_after_held() {
     let (state, windows, mut areas) = with_one_due("100,200\n").into_parts();
-    areas.lend().register[0].name = 7;
-    let mut store = Keeper::resume(state, windows, areas);
+    areas.parts_mut().register[0].name = 7;
+    let mut store = Store::resume(state, windows, areas);
     let before = store.clone();
     assert_eq!(store.publish(LIVE, Minute(99)), Err(Error::Damaged));
     assert_eq!(store.publish(LIVE, Minute(100)), Ok(Published::Held));
@@ -194,7 +194,7 @@ fn windows_of_any_store_whose_areas_fit() {
     let areas = Areas::new(&limits(4, 8, 2)).expect("limits in range");
     let mut state = State::default();
     (state.size, state.pages, state.nodes, state.updates) = (16, 4, 8, 2);
-    let mut store = Keeper::resume(state, Windows::default(), areas);
+    let mut store = Store::resume(state, Windows::default(), areas);
     assert_eq!(store.publish(LIVE, ANY_TIME), Err(Error::NoSuchLine));
     assert_eq!(row_of(&mut store, "1,2\n"), 0);
     assert_eq!(store.windows().list(), [Window { from: 1, to: 2 }]);

@@ -27,7 +27,7 @@ pub enum Call {
     SetWindows(String),
     Update(Update),
     Finish(Ticket, Minute),
-    Carry(Limits, Vec<(Line, Version)>, Vec<Ticket>),
+    Rebuild(Limits, Vec<(Line, Version)>, Vec<Ticket>),
     Checkpoint,
     Sync,
 }
@@ -72,8 +72,8 @@ where
         Call::Publish(line, minute) => answer(store.publish(*line, *minute)),
         Call::Branch(line, version) => answer(store.branch(*line, *version)),
         Call::SetWindows(text) => answer(store.set_windows(text)),
-        Call::Carry(limits, versions, given_up) => {
-            answer(store.carry_without(*limits, versions, given_up))
+        Call::Rebuild(limits, versions, given_up) => {
+            answer(store.rebuild_without(*limits, versions, given_up))
         }
         Call::Checkpoint | Call::Sync => Ok("()".to_string()),
         Call::Finish(ticket, minute) => {
@@ -124,7 +124,7 @@ pub fn small_store(random: &mut Random) -> Store {
 /// Calls drawn from a seed and the store as they find it, so that equal stores get equal calls. One in some is refused.
 pub struct Script {
     random: Random,
-    /// Whether stores are saved and carried over in between.
+    /// Whether stores are saved and rebuilt in between.
     pub with_files: bool,
 }
 
@@ -142,8 +142,8 @@ impl Script {
             open: store.open_tickets(),
             store,
         };
-        if self.with_files && draw.is_to_carry() {
-            return draw.carry();
+        if self.with_files && draw.is_to_rebuild() {
+            return draw.rebuild();
         }
         match draw.random.below(26) {
             0..=2 => draw.begin(),
@@ -299,14 +299,14 @@ impl<L: Log> Draw<'_, L> {
     }
 
     /// Most often when there is little room left.
-    fn is_to_carry(&mut self) -> bool {
+    fn is_to_rebuild(&mut self) -> bool {
         let room = self.store.room();
         let is_low = room.updates < 4 || room.pages < 12 || room.nodes < 40;
         self.random.one_in(if is_low { 3 } else { 150 })
     }
 
     /// Into limits that are mostly somewhat larger.
-    fn carry(&mut self) -> Call {
+    fn rebuild(&mut self) -> Call {
         let mut limits = self.store.limits();
         let mut other = |now: u64, by: u64| now * (2 + self.random.below(4)) / 4 + by;
         limits.pages = other(limits.pages, 20).min(65_535);
@@ -314,7 +314,7 @@ impl<L: Log> Draw<'_, L> {
         limits.updates = other(limits.updates, 8).min(4_096);
         let kept = self.random.below(3);
         let versions = (0..kept).map(|_| self.version()).collect();
-        Call::Carry(limits, versions, self.given_up())
+        Call::Rebuild(limits, versions, self.given_up())
     }
 
     /// Now and then some tickets that have no version; and one that has, or is none.

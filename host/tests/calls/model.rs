@@ -14,7 +14,7 @@ pub struct Model {
     pub entries: u64,
     /// The last entry that is relied on: it shows readers something new, or sets windows.
     pub relied_on: u64,
-    /// The stores after each entry, from none on, where that is wanted: also that which was carried over there.
+    /// The stores after each entry, from none on, where that is wanted: also that which was rebuilt there.
     pub after: Option<Vec<Vec<Store>>>,
     /// The entry after which a call is broken off.
     upto: u64,
@@ -61,7 +61,7 @@ impl Model {
             Call::Finish(ticket, minute) => self.finish(*ticket, *minute),
             call => {
                 let answer = make(&self.store, call).expect("nothing fails in memory");
-                if let (Call::Carry(..), Some(after)) = (call, &mut self.after) {
+                if let (Call::Rebuild(..), Some(after)) = (call, &mut self.after) {
                     let last = after.last_mut().expect("that of no entry");
                     last.push(self.store.to_store());
                 }
@@ -148,7 +148,7 @@ impl Model {
 /// Whether a call of one entry at most was accepted and changed the store.
 fn is_entry(call: &Call, answer: &str) -> bool {
     match call {
-        Call::Carry(..) | Call::Checkpoint | Call::Sync => false,
+        Call::Rebuild(..) | Call::Checkpoint | Call::Sync => false,
         Call::Publish(..) => answer.starts_with("Now"),
         _ => !answer.starts_with("refused"),
     }

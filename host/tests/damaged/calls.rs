@@ -4,8 +4,8 @@ use crate::memory::{Fenced, Memory};
 use crate::stamps;
 use crate::windows::{inside, listed, Window, WEEK};
 use pit_host::{
-    ByteOffset, Error, Keeper, Lent, LentAreas, Limits, Line, LineVersion, Minute, PageIndex,
-    Published, Record, State, Ticket, Version, Windows,
+    ByteOffset, Error, Limits, Line, LineVersion, Minute, PageIndex, PartsMut, Published, Record,
+    State, Store, Ticket, Version, Windows,
 };
 
 /// A call with its arguments, the line first and the minute last. PUT and READ come with the length of their bytes or
@@ -374,7 +374,7 @@ impl Scene {
         if let Call::Put(ticket, i, room) = *call {
             let number = old.register.part()[ticket as usize - 1].number + i;
             let mut pages = old.pages.clone();
-            let page = pages.lend()[(before.state.size * number) as usize..].iter_mut();
+            let page = pages.parts_mut()[(before.state.size * number) as usize..].iter_mut();
             page.take(room).for_each(|byte| *byte = BYTE);
             claim(*new.pages.part() == *pages.part(), "not the page put")?;
         }
@@ -390,7 +390,7 @@ impl Scene {
         if let Call::Format(limits) = *call {
             return self.format(limits);
         }
-        let mut store = Keeper::resume(self.state, self.windows, self.memory.lend());
+        let mut store = Store::resume(self.state, self.windows, self.memory.parts_mut());
         let done = match *call {
             Call::Begin(n) => store.begin(n).map(drop),
             Call::Put(t, i, _) => store.put(Ticket(t), i, buffer.part()),
@@ -400,7 +400,7 @@ impl Scene {
             Call::Publish(l, minute) => publish(&mut store, Line(l), Minute(minute))?,
             Call::SetWindows(_) => store.set_windows(buffer.part()).map_err(Error::from),
             Call::Branch(l, v) => store.branch(Line(l), Version(v)).map(drop),
-            Call::Read(range, _) => read(&store, range, buffer.lend())?,
+            Call::Read(range, _) => read(&store, range, buffer.parts_mut())?,
             Call::Size(l, v) => store.size(Line(l), Version(v)).map(drop),
             Call::Stamp(l, v, page) => {
                 let stamp = store.stamp(Line(l), Version(v), PageIndex(page));
@@ -425,7 +425,7 @@ impl Scene {
 
     /// FORMAT, over whatever stands in the areas. Accepted, it leaves nothing of that.
     fn format(&mut self, limits: Limits) -> Result<u64, String> {
-        match Lent::format(limits, self.memory.lend()) {
+        match Store::format_in(limits, self.memory.parts_mut()) {
             Err(refused) => return Ok(refused.number()),
             Ok(store) => (self.state, self.windows) = (store.state(), store.windows()),
         }
@@ -446,11 +446,11 @@ impl Scene {
 }
 
 type Outcome = Result<Result<(), Error>, String>;
-type Store<'a> = Keeper<LentAreas<'a>>;
+type InMemory<'a> = Store<PartsMut<'a>>;
 
 /// WEAVE. Accepted, the node stands at its place, and a leaf's page lies in the page area.
-fn weave(store: &mut Store<'_>, ticket: u64) -> Outcome {
-    let record_of = |store: &Store<'_>, number: u64| {
+fn weave(store: &mut InMemory<'_>, ticket: u64) -> Outcome {
+    let record_of = |store: &InMemory<'_>, number: u64| {
         let at = number.checked_sub(1)? as usize;
         store.areas().register.get(at).copied()
     };
@@ -475,7 +475,7 @@ fn weave(store: &mut Store<'_>, ticket: u64) -> Outcome {
 }
 
 /// PUBLISH. Accepted, it is held just where the minute is inside what stands in a place, and else says what it moved.
-fn publish(store: &mut Store<'_>, line: Line, minute: Minute) -> Outcome {
+fn publish(store: &mut InMemory<'_>, line: Line, minute: Minute) -> Outcome {
     let (windows, before) = (ends(&store.windows()), store.state().line(line));
     let done = store.publish(line, minute);
     let moved = store.state().line(line) != before;
@@ -490,7 +490,7 @@ fn publish(store: &mut Store<'_>, line: Line, minute: Minute) -> Outcome {
 }
 
 /// READ. Accepted, it gives the bytes that VIEW shows, whatever the areas hold.
-fn read(store: &Store<'_>, range: [u64; 4], buffer: &mut [u8]) -> Outcome {
+fn read(store: &InMemory<'_>, range: [u64; 4], buffer: &mut [u8]) -> Outcome {
     let [line, v, offset, len] = range;
     let (line, version) = (Line(line), Version(v));
     let done = store.read_front(line, version, ByteOffset(offset), len, buffer);
@@ -506,7 +506,7 @@ fn read(store: &Store<'_>, range: [u64; 4], buffer: &mut [u8]) -> Outcome {
 }
 
 /// VIEW. It gives a page of the page area, and refuses as STAMP does.
-fn view(store: &Store<'_>, line: Line, version: Version, page: PageIndex) -> Outcome {
+fn view(store: &InMemory<'_>, line: Line, version: Version, page: PageIndex) -> Outcome {
     let (view, size) = (store.view(line, version, page), store.state().size);
     let stamp = store.stamp(line, version, page);
     claim(view.err() == stamp.err(), "VIEW and STAMP differ")?;

@@ -5,7 +5,9 @@ use crate::memory::{Memory, Numbers};
 use crate::random::Random;
 use crate::stamps;
 use crate::windows::WEEK;
-use pit_host::{Error, Lent, Limits, Line, Minute, PageIndex, Record, State, Version, Windows};
+use pit_host::{
+    Error, Limits, Line, Minute, PageIndex, PartsMut, Record, State, Store, Version, Windows,
+};
 
 /// Numbers at which a limit, a width or a sum can go wrong.
 const EDGES: [u64; 22] = [
@@ -233,7 +235,7 @@ pub fn valid_scene(random: &mut Random, limits: Limits) -> Scene {
         limits.updates,
     ];
     let mut memory = any_memory(random, lengths);
-    let mut store = Lent::format(limits, memory.lend()).expect("limits in range");
+    let mut store = Store::format_in(limits, memory.parts_mut()).expect("limits in range");
     while update(random, &mut store).is_ok() && !random.one_in(8) {}
     Scene {
         state: store.state(),
@@ -244,7 +246,7 @@ pub fn valid_scene(random: &mut Random, limits: Limits) -> Scene {
 
 /// An update on one of the lines, which may stop at any stage; now and then a new line before. An error where the store is
 /// full.
-fn update(random: &mut Random, store: &mut Lent<'_>) -> Result<(), Error> {
+fn update(random: &mut Random, store: &mut Store<PartsMut<'_>>) -> Result<(), Error> {
     let line = random.below(2) * random.below(store.state().begun);
     let mut line = Line(line);
     if random.one_in(3) && store.state().begun < 16 {
@@ -283,7 +285,7 @@ fn update(random: &mut Random, store: &mut Lent<'_>) -> Result<(), Error> {
 pub fn resent_scene(random: &mut Random) -> Scene {
     let limits = Limits::new(16, 40, 160, 12);
     let mut memory = any_memory(random, [16 * 40, 2 * 160, 12]);
-    let mut store = Lent::format(limits, memory.lend()).expect("limits in range");
+    let mut store = Store::format_in(limits, memory.parts_mut()).expect("limits in range");
     let fill = 1 + random.below(2) as u8;
     whole_update(&mut store, Line(0), 0, &[fill; 4]);
     for _ in 0..8 {
@@ -321,7 +323,7 @@ pub fn every_page(scene: &Scene) -> Vec<(u64, u64, u64)> {
 }
 
 /// An update from BEGIN to PUBLISH, each page filled with its byte.
-fn whole_update(store: &mut Lent<'_>, line: Line, first: u64, fills: &[u8]) {
+fn whole_update(store: &mut Store<PartsMut<'_>>, line: Line, first: u64, fills: &[u8]) {
     let ticket = store.begin(fills.len() as u64).expect("room for all");
     for (i, fill) in (0..).zip(fills) {
         let done = store.put(ticket, i, &[*fill; 16]);
@@ -349,12 +351,12 @@ fn change_a_walk(random: &mut Random, scene: &mut Scene) {
             s.set_line(line, of);
         }
         1..=3 => {
-            let record = pick_mut(random, &mut scene.memory.register.lend()[..9]);
+            let record = pick_mut(random, &mut scene.memory.register.parts_mut()[..9]);
             change_one(random, &mut record.each()[5..]); // what is before has no part in a walk
         }
         _ => {
             let used = 2 * s.places as usize;
-            let number = pick_mut(random, &mut scene.memory.nodes.lend()[..used]);
+            let number = pick_mut(random, &mut scene.memory.nodes.parts_mut()[..used]);
             *number = match random.below(4) {
                 0 => any_node(random),
                 1 => any_name(random) as u32,
@@ -394,10 +396,10 @@ fn change(random: &mut Random, scene: &mut Scene) {
             s.set_line(line, of);
         }
         6..=12 => {
-            let record = pick_mut(random, scene.memory.register.lend());
+            let record = pick_mut(random, scene.memory.register.parts_mut());
             change_one(random, &mut record.each());
         }
-        _ => *pick_mut(random, scene.memory.nodes.lend()) = any_node(random),
+        _ => *pick_mut(random, scene.memory.nodes.parts_mut()) = any_node(random),
     }
 }
 

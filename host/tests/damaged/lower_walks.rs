@@ -4,14 +4,14 @@
 use crate::calls::{Call, Scene};
 use crate::memory::Memory;
 use crate::stamps::{stamp, LOST, NOT_LOWER, NOT_THERE, NO_SUCH_PAGE, OTHER_BYTES, PAST, REFUSED};
-use pit_host::{Lent, Limits, Line, Minute, PageIndex, Record, Version, Windows};
+use pit_host::{Limits, Line, Minute, PageIndex, PartsMut, Record, Store, Version, Windows};
 
 /// Four versions of two pages. The first writes both, the others resend page 0, and page 1 with it. Version k's root lies at
 /// place 3 (k - 1), its leaves at the two places after it.
 fn resent() -> Scene {
     let limits = Limits::new(16, 16, 32, 8);
     let mut memory = Memory::new(&[0; 256], &[0; 64], &[Record::default(); 8]);
-    let mut store = Lent::format(limits, memory.lend()).expect("limits in range");
+    let mut store = Store::format_in(limits, memory.parts_mut()).expect("limits in range");
     for k in 1..=4 {
         update(&mut store, Line(0), k);
     }
@@ -24,7 +24,7 @@ fn resent() -> Scene {
 }
 
 /// An update of both pages, which becomes version k.
-fn update(store: &mut Lent<'_>, line: Line, k: u64) {
+fn update(store: &mut Store<PartsMut<'_>>, line: Line, k: u64) {
     let ticket = store.begin(2).expect("room for all");
     for i in 0..2 {
         let done = store.put(ticket, i, &[7; 16]);
@@ -54,7 +54,7 @@ fn due_of(scene: &mut Scene, of: (u64, u64, u64), answer: Result<u64, u64>, end:
 
 /// Changes one of the two numbers of the node at a place.
 fn change(scene: &mut Scene, place: usize, right: usize, to: u32) {
-    scene.memory.nodes.lend()[2 * place + right] = to;
+    scene.memory.nodes.parts_mut()[2 * place + right] = to;
 }
 
 #[test]
@@ -65,7 +65,7 @@ fn nothing_is_damaged() {
     }
     due(&mut scene, 0, 0, Err(17), REFUSED);
     due(&mut scene, 0, 5, Err(16), REFUSED);
-    scene.memory.pages.lend()[2 * 16 + 15] ^= 1; // the last byte of version 2's page 0
+    scene.memory.pages.parts_mut()[2 * 16 + 15] ^= 1; // the last byte of version 2's page 0
     due(&mut scene, 0, 4, Ok(3), OTHER_BYTES);
     due(&mut scene, 0, 2, Ok(2), OTHER_BYTES);
     due(&mut scene, 0, 1, Ok(1), NO_SUCH_PAGE);
@@ -108,7 +108,7 @@ fn a_lower_leaf_has_a_page_past_the_area() {
 #[test]
 fn a_lower_version_is_not_in_the_register() {
     let mut scene = resent();
-    scene.memory.register.lend()[1].name = 7;
+    scene.memory.register.parts_mut()[1].name = 7;
     due(&mut scene, 0, 4, Ok(3), NOT_THERE);
     due(&mut scene, 0, 2, Err(19), REFUSED);
     due(&mut scene, 0, 1, Ok(1), NO_SUCH_PAGE);
@@ -118,7 +118,7 @@ fn a_lower_version_is_not_in_the_register() {
 #[test]
 fn a_lower_version_has_fewer_pages() {
     let mut scene = resent();
-    let record = &mut scene.memory.register.lend()[1];
+    let record = &mut scene.memory.register.parts_mut()[1];
     (record.last, record.size) = (0, 1);
     due_of(&mut scene, (0, 4, 1), Ok(3), NO_SUCH_PAGE);
     due_of(&mut scene, (0, 2, 1), Err(17), REFUSED);
@@ -156,7 +156,7 @@ fn a_version_leads_to_a_later_one() {
 #[test]
 fn a_line_that_comes_from_itself() {
     let mut scene = resent();
-    let mut store = Lent::resume(scene.state, scene.windows, scene.memory.lend());
+    let mut store = Store::resume(scene.state, scene.windows, scene.memory.parts_mut());
     let plan = store.branch(Line(0), Version(4)).expect("room for a line");
     update(&mut store, plan, 5);
     scene.state = store.state();

@@ -1,7 +1,7 @@
 //! Memory to lend: each area is the middle of a longer run, and what stands around it must stay.
 
 use crate::random::named;
-use pit_host::{LentAreas, LineState, Record, State};
+use pit_host::{LineState, PartsMut, Record, State};
 use std::mem::size_of;
 
 /// How many elements stand before and after an area, in bytes about 400. With a `PIT_FENCE` of 0 the memory ends where
@@ -33,7 +33,7 @@ impl<T: Copy + PartialEq> Fenced<T> {
         &self.whole[fence::<T>()..self.end()]
     }
 
-    pub fn lend(&mut self) -> &mut [T] {
+    pub fn parts_mut(&mut self) -> &mut [T] {
         let end = self.end();
         &mut self.whole[fence::<T>()..end]
     }
@@ -72,11 +72,11 @@ impl Memory {
         }
     }
 
-    pub fn lend(&mut self) -> LentAreas<'_> {
-        LentAreas {
-            pages: self.pages.lend(),
-            nodes: self.nodes.lend(),
-            register: self.register.lend(),
+    pub fn parts_mut(&mut self) -> PartsMut<'_> {
+        PartsMut {
+            pages: self.pages.parts_mut(),
+            nodes: self.nodes.parts_mut(),
+            register: self.register.parts_mut(),
         }
     }
 

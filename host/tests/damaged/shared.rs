@@ -5,8 +5,8 @@ use crate::calls::{Call, Scene};
 use crate::drawn;
 use crate::random::Random;
 use pit_host::{
-    Areas, ByteOffset, Error, Keeper, Lend, Limits, Line, Minute, PageIndex, Record, Shared,
-    Snapshot, Store, Ticket, Version,
+    Areas, ByteOffset, Error, Limits, Line, Minute, PageIndex, Record, Shared, Snapshot, Storage,
+    Store, Ticket, Version,
 };
 use std::path::Path;
 
@@ -22,11 +22,11 @@ fn store_of(scene: &Scene) -> Store {
     memory.register.resize(updates, Record::default());
     let limits = Limits::new(16, pages as u64 / 16, nodes as u64 / 2, updates as u64);
     let mut areas = Areas::new(&limits).expect("within the limits");
-    let lent = areas.lend();
+    let lent = areas.parts_mut();
     lent.pages.copy_from_slice(memory.pages.part());
     lent.nodes.copy_from_slice(memory.nodes.part());
     lent.register.copy_from_slice(memory.register.part());
-    Keeper::resume(scene.state, scene.windows, areas)
+    Store::resume(scene.state, scene.windows, areas)
 }
 
 /// What a call answers, in words.
@@ -168,7 +168,7 @@ pub fn try_scene(random: &mut Random, scene: &mut Scene, calls: u64, file: &Path
         both.check_held();
         both.go_on();
     }
-    carry(random, &both.shared, scene);
+    rebuild(random, &both.shared, scene);
     both.check_held();
     both.go_on();
     keep(&both.shared, file);
@@ -200,12 +200,12 @@ fn whole_updates(random: &mut Random, shared: &Shared, scene: &Scene) {
     let _ = (shared.room(), shared.abandoned(Default::default()));
 }
 
-/// A damaged store is refused; or it is carried over, where nothing is found.
-fn carry(random: &mut Random, shared: &Shared, scene: &Scene) {
+/// A damaged store is refused; or it is rebuilt, where nothing is found.
+fn rebuild(random: &mut Random, shared: &Shared, scene: &Scene) {
     let line = Line(random.below(scene.state.begun.clamp(1, 17)));
     let version = Version(random.below(scene.state.line(line).published + 2));
     let limits = Limits::new(scene.state.size, 400, 4_000, 200);
-    match shared.carry(limits, &[(line, version)]) {
+    match shared.rebuild(limits, &[(line, version)]) {
         Ok(_) => assert!(shared.size(line, version).is_ok()),
         Err(refused) => assert!(
             [1, 3, 16, 19, 20].contains(&refused.number()),
@@ -217,7 +217,7 @@ fn carry(random: &mut Random, shared: &Shared, scene: &Scene) {
 /// Some tickets get page numbers that others have, and may be put anew.
 pub fn overlap(random: &mut Random, scene: &mut Scene) {
     let pages = scene.state.pages.clamp(1, 64);
-    for record in scene.memory.register.lend() {
+    for record in scene.memory.register.parts_mut() {
         if random.one_in(2) {
             (record.number, record.put, record.update) = (random.below(pages), 0, 0);
         }
@@ -235,8 +235,8 @@ fn a_page_that_is_put_is_not_written_again() {
     store.publish(Line(0), Minute(0)).expect("a line");
     let other = store.begin(2).expect("room");
     let (state, windows, mut areas) = store.into_parts();
-    areas.lend().register[1].number = 0;
-    let mut store = Keeper::resume(state, windows, areas);
+    areas.parts_mut().register[1].number = 0;
+    let mut store = Store::resume(state, windows, areas);
     let shared = Shared::new(store.clone());
 
     let snapshot = shared.snapshot(Line(0), Version(1)).expect("published");

@@ -6,7 +6,7 @@ use crate::scene::{
 };
 use crate::updates::{assign, fills, limits, of_three_versions, put_all, update, ANY_TIME, LIVE};
 use pit_host::{
-    Error, FileError, Keeper, Lend, Lent, Limits, Line, Minute, Published, Shared, Store, Ticket,
+    Error, FileError, Limits, Line, Minute, PartsMut, Published, Shared, Storage, Store, Ticket,
     Version,
 };
 use std::fs;
@@ -212,11 +212,11 @@ fn what_is_not_taken_comes_back_as_format_leaves_it() {
     let folder = Folder::new("untaken");
     let store = in_work();
     let (state, windows, mut areas) = store.clone().into_parts();
-    let lent = areas.lend();
+    let lent = areas.parts_mut();
     lent.pages[4 * 16..5 * 16].fill(9); // of the open ticket, whose other page is put
     lent.nodes[2 * state.places as usize..].fill(9);
     lent.register[state.tickets as usize].n = 9;
-    let by_hand = Keeper::resume(state, windows, areas);
+    let by_hand = Store::resume(state, windows, areas);
     assert!(by_hand != store);
     by_hand.save(folder.file()).unwrap();
     assert!(Store::load(folder.file()).unwrap() == store);
@@ -228,15 +228,15 @@ fn a_store_is_not_loaded_without_its_callers_numbers() {
     let folder = Folder::new("numbering");
     let shared = Shared::new(of_three_versions());
     let larger = limits(40, 80, 30);
-    shared.carry(larger, &[(LIVE, Version(2))]).unwrap();
+    shared.rebuild(larger, &[(LIVE, Version(2))]).unwrap();
     shared.save(folder.file()).unwrap();
     let refused = Store::load(folder.file());
-    assert!(matches!(refused, Err(FileError::CarriedOver)));
+    assert!(matches!(refused, Err(FileError::Rebuilt)));
     let loaded = Shared::load(folder.file()).unwrap();
     assert!(loaded.to_store() == shared.to_store());
     assert_eq!(loaded.versions(LIVE), Ok(vec![Version(2), Version(3)]));
 
-    // numbers that no carry writes
+    // numbers that no rebuild writes
     for length in [1, 7, 9, 5_000] {
         let last_part = vec![length as u8; length];
         fs::write(folder.file(), in_form_5(&in_work(), &last_part)).unwrap();
@@ -363,7 +363,7 @@ fn a_lent_store_is_saved_too() {
     let mut store = in_work();
     store.set_windows("600,660\n").unwrap();
     let (state, windows, mut areas) = store.clone().into_parts();
-    let lent: Lent<'_> = Keeper::resume(state, windows, areas.lend());
+    let lent: Store<PartsMut<'_>> = Store::resume(state, windows, areas.parts_mut());
     lent.save(folder.file()).unwrap();
     assert!(Store::load(folder.file()).unwrap() == store);
 }

@@ -6,7 +6,7 @@ use crate::scene::{
     HEADER_3, HEADER_4, RECORD, WINDOWS,
 };
 use crate::updates::{limits, update, LIVE};
-use pit_host::{Areas, Error, FileError, Keeper, Lend, Limits, Record, State, Store, Window};
+use pit_host::{Areas, Error, FileError, Limits, Record, State, Storage, Store, Window};
 use std::fs;
 
 /// The same store in each of the earlier forms, with the header's length.
@@ -176,7 +176,7 @@ fn counters_that_no_calls_leave_are_refused() {
 fn by_hand(store: Store, change: impl FnOnce(&mut State, &mut Areas)) -> Vec<u8> {
     let (mut state, windows, mut areas) = store.into_parts();
     change(&mut state, &mut areas);
-    in_form_5(&Keeper::resume(state, windows, areas), &[])
+    in_form_5(&Store::resume(state, windows, areas), &[])
 }
 
 /// The same where the file has as much as the counters say: as a counter alone they do not go with the lengths.
@@ -224,12 +224,14 @@ fn tickets_pages_that_no_calls_leave_are_refused() {
         |r| r.put |= 1 << 63,
     ];
     for (at, change) in (0..5).flat_map(|at| changes.map(|change| (at, change))) {
-        let bytes = by_hand(store(), |_, areas| change(&mut areas.lend().register[at]));
+        let bytes = by_hand(store(), |_, areas| {
+            change(&mut areas.parts_mut().register[at])
+        });
         let error = refused(&folder, &bytes);
         assert!(matches!(error, FileError::Counters), "record {at}: {error}");
     }
     for at in 0..4 {
-        let bytes = by_hand(store(), |_, areas| areas.lend().register[at].put &= !1);
+        let bytes = by_hand(store(), |_, areas| areas.parts_mut().register[at].put &= !1);
         let error = refused(&folder, &bytes);
         assert!(matches!(error, FileError::Counters), "record {at}: {error}");
     }
@@ -351,7 +353,7 @@ fn spans_that_no_calls_leave_are_not_saved() {
     for record in 0..5 {
         for span in &spans {
             let (state, windows, mut areas) = in_work_on_lines().into_parts();
-            let due = std::mem::replace(&mut areas.lend().register[record].span, *span);
+            let due = std::mem::replace(&mut areas.parts_mut().register[record].span, *span);
             let saved = Store::resume(state, windows, areas).save(folder.file());
             assert_eq!(saved.is_ok(), *span == due, "{span} in record {record}");
         }

@@ -3,8 +3,7 @@
 use crate::scene::{in_work, saved, Folder};
 use crate::updates::{fills, limits, of_three_versions, ANY_TIME, LIVE};
 use pit_host::{
-    Error, FileError, Keeper, Lend, PageIndex, Published, Record, State, Store, Ticket, Version,
-    Window,
+    Error, FileError, PageIndex, Published, Record, State, Storage, Store, Ticket, Version, Window,
 };
 use std::fs;
 use std::path::Path;
@@ -19,7 +18,7 @@ fn what_would_not_load_is_not_saved() {
     let save = |spoil: fn(&mut State)| {
         let (mut state, windows, areas) = in_work().into_parts();
         spoil(&mut state);
-        Keeper::resume(state, windows, areas)
+        Store::resume(state, windows, areas)
             .save(folder.file())
             .unwrap_err()
     };
@@ -50,14 +49,14 @@ fn what_would_not_load_is_not_saved() {
     let records: [fn(&mut Record); 3] = [|r| r.past += 1, |r| r.number += 1, |r| r.put = 1];
     for spoil in records {
         let (state, windows, mut areas) = in_work().into_parts();
-        spoil(&mut areas.lend().register[1]);
-        let damaged = Keeper::resume(state, windows, areas);
+        spoil(&mut areas.parts_mut().register[1]);
+        let damaged = Store::resume(state, windows, areas);
         let error = damaged.save(folder.file()).unwrap_err();
         assert!(matches!(error, FileError::Counters));
     }
     let (state, mut windows, areas) = in_work().into_parts();
     windows.places[1] = Window { from: 1, to: 2 };
-    let damaged = Keeper::resume(state, windows, areas);
+    let damaged = Store::resume(state, windows, areas);
     assert!(matches!(
         damaged.save(folder.file()),
         Err(FileError::Windows)

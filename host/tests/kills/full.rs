@@ -83,7 +83,7 @@ fn refuses_all(durable: &Durable, words: &str) {
         durable.append_pages(line, &[&bytes]).map(drop),
         durable.finish(Ticket(1)).map(drop),
         durable.checkpoint().map(drop),
-        durable.carry(durable.limits(), &[]).map(drop),
+        durable.rebuild(durable.limits(), &[]).map(drop),
     ];
     for result in refused {
         assert_eq!(result.unwrap_err().to_string(), words);
@@ -118,7 +118,7 @@ fn with_checkpoints(seed: u64) -> (Script, Options) {
     (Script::new(seed), options.checkpoint_at(2_000))
 }
 
-/// A store whose last version no file has room for: with it no store is saved, or carried over.
+/// A store whose last version no file has room for: with it no store is saved, or rebuilt.
 fn large_store() -> Store {
     let store = Store::format(Limits::new(64, 2_000, 20_000, 300)).unwrap();
     let shared = Shared::new(store);
@@ -130,7 +130,7 @@ fn large_store() -> Store {
     shared.to_store()
 }
 
-/// Makes calls while checkpoints and carries fail.
+/// Makes calls while checkpoints and rebuilds fail.
 pub fn fill_the_disk(part: &Part<'_>) {
     let (mut script, options) = with_checkpoints(part.seed);
     let (durable, _) = Durable::open(part.folder, options).unwrap();
@@ -141,11 +141,11 @@ pub fn fill_the_disk(part: &Part<'_>) {
             durable.checkpoint().unwrap_err();
         }
         if at % 100 == 50 {
-            durable.carry(durable.limits(), &[]).unwrap_err();
+            durable.rebuild(durable.limits(), &[]).unwrap_err();
         }
         let call = script.next(&durable);
         let answer = make_durable(&durable, &call).unwrap_or_else(|failure| {
-            let is_saved = matches!(call, Call::Checkpoint | Call::Carry(..));
+            let is_saved = matches!(call, Call::Checkpoint | Call::Rebuild(..));
             assert!(is_saved, "{failure}");
             assert!(matches!(failure, Failure::File(FileError::Io(_))));
             FAILED.to_string()

@@ -105,7 +105,7 @@ impl Site {
             assert_eq!(opened.written, self.model.entries, "as it was opened");
         }
         let returned = there.map(|told| self.make(script, told)).count();
-        // an entry may leave the store as it was, and a carry has none
+        // an entry may leave the store as it was, and a rebuild has none
         let has_more = self.model.entries < entries || !self.is_as(found);
         if has_more {
             let call = script.next(&self.model.store);

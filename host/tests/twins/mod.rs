@@ -141,7 +141,7 @@ impl Twins {
         }
     }
 
-    /// A node or some; the numbers in it are not those of a store that was carried over.
+    /// A node or some; the numbers in it are not those of a store that was rebuilt.
     fn weave(&mut self) -> Result<(), Full> {
         let ticket = self.ticket(|work| work.left.is_some());
         let place = |node: pit_host::Node| (node.first, node.span, node.rest);
@@ -165,7 +165,7 @@ impl Twins {
     fn branch(&mut self) -> Result<(), Full> {
         let line = self.line();
         let version = self.version(line);
-        // one that was not carried over is only known alone
+        // one that was not rebuilt is only known alone
         if self.shared.size(line, version).is_err() && self.alone.size(line, version).is_ok() {
             return Ok(());
         }

@@ -2,8 +2,7 @@
 #![allow(dead_code)] // each test program uses some of it
 
 use pit_host::{
-    Assigned, Error, Keeper, Lend, Limits, Line, Minute, PageIndex, Published, Store, Ticket,
-    Version,
+    Assigned, Error, Limits, Line, Minute, PageIndex, Published, Storage, Store, Ticket, Version,
 };
 
 /// The line that begins with the store.
@@ -17,7 +16,7 @@ pub fn limits(pages: u64, nodes: u64, updates: u64) -> Limits {
 }
 
 /// A ticket whose pages are all put, each filled with its byte.
-pub fn put_all<A: Lend>(store: &mut Keeper<A>, fills: &[u8]) -> Result<Ticket, Error> {
+pub fn put_all<A: Storage>(store: &mut Store<A>, fills: &[u8]) -> Result<Ticket, Error> {
     let ticket = store.begin(fills.len() as u64)?;
     let page_size = store.state().size as usize;
     for (i, fill) in (0..).zip(fills) {
@@ -27,8 +26,8 @@ pub fn put_all<A: Lend>(store: &mut Keeper<A>, fills: &[u8]) -> Result<Ticket, E
 }
 
 /// A write at page `at`, or an append where there is none, with every page put.
-pub fn assign<A: Lend>(
-    store: &mut Keeper<A>,
+pub fn assign<A: Storage>(
+    store: &mut Store<A>,
     line: Line,
     at: Option<u64>,
     fills: &[u8],
@@ -42,8 +41,8 @@ pub fn assign<A: Lend>(
 }
 
 /// An update from BEGIN to PUBLISH.
-pub fn update<A: Lend>(
-    store: &mut Keeper<A>,
+pub fn update<A: Storage>(
+    store: &mut Store<A>,
     line: Line,
     at: Option<u64>,
     fills: &[u8],
@@ -58,7 +57,7 @@ pub fn update<A: Lend>(
 }
 
 /// The first byte of each page of a version.
-pub fn fills<A: Lend>(store: &Keeper<A>, line: Line, version: Version) -> Result<Vec<u8>, Error> {
+pub fn fills<A: Storage>(store: &Store<A>, line: Line, version: Version) -> Result<Vec<u8>, Error> {
     let pages = store.size(line, version)? / store.state().size;
     (0..pages)
         .map(|page| Ok(store.view(line, version, PageIndex(page))?[0]))

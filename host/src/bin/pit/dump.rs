@@ -18,7 +18,7 @@ pub fn dump(folder: &Path, asked: &Page) -> Result<Vec<u8>, Fault> {
     let shown = store.with_view(asked.line, asked.version, asked.page, show);
     shown.map_err(|error| match error {
         Error::NotPublished if was_published(&store, asked) => {
-            "the version was not kept when the store was carried over".into()
+            "the version was not kept when the store was rebuilt".into()
         }
         other => other.into(),
     })

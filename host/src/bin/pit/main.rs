@@ -4,9 +4,9 @@
 
 mod dump;
 mod info;
+mod progress;
 mod reading;
 mod remake;
-mod telling;
 mod verify;
 mod words;
 

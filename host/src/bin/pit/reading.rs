@@ -1,6 +1,6 @@
 //! Versions read whole, and checked.
 
-use crate::telling::Telling;
+use crate::progress::Progress;
 use pit_host::{ByteOffset, Line, PageIndex, Shared, Version};
 use std::sync::atomic::{AtomicU64, AtomicUsize, Ordering::Relaxed};
 use std::sync::{Mutex, PoisonError};
@@ -15,7 +15,7 @@ pub struct Reading<'a> {
     all: &'a [(Line, Version)],
     page_size: u64,
     /// Is told of each that is read.
-    telling: &'a Telling,
+    progress: &'a Progress,
     /// The next one to be read.
     next: AtomicUsize,
     pages: AtomicU64,
@@ -24,12 +24,16 @@ pub struct Reading<'a> {
 }
 
 impl<'a> Reading<'a> {
-    pub fn new(store: &'a Shared, all: &'a [(Line, Version)], telling: &'a Telling) -> Reading<'a> {
+    pub fn new(
+        store: &'a Shared,
+        all: &'a [(Line, Version)],
+        progress: &'a Progress,
+    ) -> Reading<'a> {
         Reading {
             store,
             all,
             page_size: store.limits().page_size,
-            telling,
+            progress,
             next: AtomicUsize::new(0),
             pages: AtomicU64::new(0),
             fault: Mutex::new(None),
@@ -38,7 +42,7 @@ impl<'a> Reading<'a> {
 
     /// Reads all of them, and gives how many pages that were.
     pub fn run(self) -> Result<u64, String> {
-        self.telling.goes_on("versions read", self.all.len());
+        self.progress.goes_on("versions read", self.all.len());
         let threads = thread::available_parallelism().map_or(1, |n| n.get());
         thread::scope(|scope| {
             for _ in 0..threads {
@@ -67,7 +71,7 @@ impl<'a> Reading<'a> {
                     return self.found(at, format!("line {line}, version {version}{words}"))
                 }
             };
-            self.telling.has_done_one();
+            self.progress.has_done_one();
         }
     }
 
@@ -146,7 +150,7 @@ impl<'a> Reading<'a> {
 #[cfg(test)]
 mod tests {
     use super::*;
-    use pit_host::{Keeper, Lend, Limits, Store};
+    use pit_host::{Limits, Storage, Store};
 
     #[test]
     fn versions_are_read_and_the_first_fault_is_told() {
@@ -157,18 +161,18 @@ mod tests {
             shared.update(live, PageIndex(0), &pages).unwrap();
         }
         let all: Vec<_> = (1..=20).map(|version| (live, Version(version))).collect();
-        let telling = &Telling::new("reading");
-        assert_eq!(Reading::new(&shared, &all, telling).run(), Ok(40));
+        let progress = &Progress::new("reading");
+        assert_eq!(Reading::new(&shared, &all, progress).run(), Ok(40));
 
         // the nodes of all versions but the first two, three each
         let (state, windows, mut areas) = shared.to_store().into_parts();
-        areas.lend().nodes[12..].fill(u32::MAX);
-        let damaged = Shared::new(Keeper::resume(state, windows, areas));
-        let fault = Reading::new(&damaged, &all, telling).run().unwrap_err();
+        areas.parts_mut().nodes[12..].fill(u32::MAX);
+        let damaged = Shared::new(Store::resume(state, windows, areas));
+        let fault = Reading::new(&damaged, &all, progress).run().unwrap_err();
         let words = "line 0, version 3, from byte 0 on: READ: refused: the areas are damaged";
         assert!(fault.starts_with(words), "{fault}");
         let beyond = [(live, Version(21))];
-        let fault = Reading::new(&damaged, &beyond, telling).run().unwrap_err();
+        let fault = Reading::new(&damaged, &beyond, progress).run().unwrap_err();
         assert!(
             fault.starts_with("line 0, version 21: SIZE: refused"),
             "{fault}"

@@ -1,16 +1,16 @@
 //! `pit verify`: everything in a folder read and checked.
 
 use crate::info::{at_end, many};
+use crate::progress::Progress;
 use crate::reading::Reading;
 use crate::remake::remade;
-use crate::telling::Telling;
 use crate::Fault;
 use pit_host::{inspect, inspect_earlier, Comparison, Earlier, Inspection, Line, Shared, Version};
 use std::path::Path;
 
 /// What was checked, a line each; or the first fault.
 pub fn verify(folder: &Path) -> Result<String, Fault> {
-    let telling = Telling::new("the journal's calls are made again");
+    let progress = Progress::new("the journal's calls are made again");
     let seen = inspect(folder)?;
     let mut lines = Vec::new();
     if let Some(cut) = &seen.found.cut {
@@ -22,14 +22,14 @@ pub fn verify(folder: &Path) -> Result<String, Fault> {
         lines.push(compared(&earlier)?);
         entries += earlier.entries;
     }
-    telling.goes_on("all updates are made again", 0);
+    progress.goes_on("all updates are made again", 0);
     check_areas(&seen.store)?;
     let (all, gone) = versions(&seen)?;
     if gone > 0 {
         let gone = many(gone, "version was", "versions were");
-        lines.push(format!("{gone} not kept when the store was carried over"));
+        lines.push(format!("{gone} not kept when the store was rebuilt"));
     }
-    let pages = Reading::new(&seen.store, &all, &telling).run()?;
+    let pages = Reading::new(&seen.store, &all, &progress).run()?;
     let versions = all.len();
     let verdict = format!("verified: {versions} versions, {pages} pages, {entries} entries\n");
     lines.push(verdict);
@@ -51,8 +51,8 @@ fn compared(earlier: &Earlier) -> Result<String, String> {
         Comparison::Differs(difference) => Err(format!(
             "store-{generation} and {entries} entries after it do not make store-{next}: {difference}"
         )),
-        Comparison::CarriedOver => Ok(format!(
-            "store-{generation} was carried over into store-{next}"
+        Comparison::Rebuilt => Ok(format!(
+            "store-{generation} was rebuilt into store-{next}"
         )),
         Comparison::NoJournal(journal) => Ok(format!(
             "store-{generation} is left over, and journal-{journal} is gone: not compared"

@@ -1,0 +1,319 @@
+//! A folder that keeps a store: nothing that returned is lost with the process.
+//!
+//! ```text
+//! lock         locked by the process that has the folder open, with its number in it
+//! store-G      the saved store of generation G
+//! journal-G    the calls since then, in order
+//! ```
+//!
+//! A checkpoint begins generation G+1. What it does, in this order:
+//!
+//! 1. It syncs journal-G, makes the file journal-(G+1), empty, and forces its name to the disk.
+//! 2. At one moment, under the store's lock, it copies the store, and says that all later entries are the next journal's.
+//! 3. Whoever writes next, or [`Folder::settle`], writes the entries before that moment to journal-G and syncs it; then writes
+//!    the header of journal-(G+1) and syncs that; and only then writes entries behind it. Writers wait for these two syncs, of
+//!    which the first has little left to do.
+//! 4. After `settle`, the copy is saved: written beside, synced, renamed to store-(G+1), and the name forced to the disk.
+//! 5. All files of earlier generations are removed.
+//!
+//! Opening takes the highest saved store, H, and the journals H, H+1 and so on up to the last, in turn. At whatever point a process
+//! dies or the power is cut, that is the store with all that was kept:
+//!
+//! - Up to step 4's rename, H is G. After step 1 a journal-(G+1) is there without a whole header: it counts as not there.
+//! - A whole header of journal-(G+1) is there only after journal-G was synced to its last entry. So of all journals but the
+//!   last nothing may be cut off, and each goes on with the number after the last of the one before. Anything else is
+//!   damage, and an error. Only the last journal may be torn.
+//! - From the rename on H is G+1. Its journal has a whole header, since that was synced before; journal-G is not read, and
+//!   whatever of step 5 was done makes no difference. The copy is of the moment at which journal-(G+1) begins, so that nothing is
+//!   done twice or left out.
+//! - A saved store has the salt of its journal in it, and a journal that of the one before it. So no file of another folder, or of
+//!   another time, is taken for this folder's.
+//! - A store that is rebuilt is no copy: its journal does not go on after the one before, and has a header that says so. Without
+//!   its saved store such a journal has no entries, and counts as not there. Where that store could not be saved, the header is
+//!   written anew, before there are entries.
+//! - A name store-H is there only when the file is whole and synced. One that cannot be loaded is damage, and an error: the
+//!   generation before it may be gone already, and no older one is taken in silence.
+//! - A checkpoint that fails after step 2 leaves the later entries in journal-(G+1), and the next one begins generation G+2. So
+//!   there may be any number of journals after the saved store. No journal is made before the header of the one before is
+//!   on the disk, so that only the last can lack one.
+//! - A folder is made in this order too: journal-1 with its header, then store-1. Without the latter there is no store, and
+//!   making one may begin anew.
+//!
+//! What opening cuts off or removes, it does after everything has been read and checked. Opened after a crash in the middle
+//! of that, the folder is what it was.
+
+mod earlier;
+mod files;
+mod look;
+mod open;
+mod options;
+#[cfg(test)]
+mod tests;
+
+use crate::calls::areas::Storage;
+use crate::calls::counters::Version;
+use crate::calls::store::Store;
+use crate::disk::file::lock::Held;
+use crate::disk::file::{FileError, SavePlace};
+use crate::disk::journal::{new_salt, Header, Journal};
+use std::fmt;
+use std::fs::{self, File};
+use std::io;
+use std::path::{Path, PathBuf};
+use std::sync::{Mutex, MutexGuard, PoisonError};
+
+pub(crate) use earlier::earlier;
+pub use earlier::{Comparison, Earlier};
+pub(crate) use files::open_by;
+pub use files::OpenBy;
+pub(crate) use look::Look;
+pub use open::{Found, Opened};
+pub use options::Options;
+
+/// The first generation of a folder.
+const FIRST: u64 = 1;
+
+/// A folder that keeps a store, open: no other process can open it until this is dropped.
+pub struct Folder {
+    path: PathBuf,
+    options: Options,
+    journal: Journal,
+    generations: Mutex<Generations>,
+    /// Given back last.
+    lock: Held,
+}
+
+/// Which saved store a folder is opened from, and which journal is written.
+#[derive(Clone, Copy, Debug, PartialEq, Eq)]
+pub struct Place {
+    store: u64,
+    journal: u64,
+}
+
+struct Generations {
+    now: Place,
+    /// The salt of the journal that is written, and of the one before it.
+    salt: u64,
+    before: u64,
+    /// The journal of the next generation, begun and not yet written.
+    next: Option<File>,
+}
+
+impl Folder {
+    /// A folder with this store, which stays the caller's. Refused where a store is there already; where there is no folder,
+    /// it is made.
+    pub(crate) fn create<A: Storage>(
+        path: impl AsRef<Path>,
+        store: &Store<A>,
+        options: Options,
+    ) -> Result<Folder, FileError> {
+        Folder::create_by(path.as_ref(), options, |place| store.save_at(place))
+    }
+
+    /// The same with the store that is saved when this is called with its place.
+    pub(crate) fn create_by(
+        path: &Path,
+        options: Options,
+        save: impl FnOnce(&SavePlace) -> Result<Version, FileError>,
+    ) -> Result<Folder, FileError> {
+        files::make_folder(path).map_err(FileError::Folder)?;
+        let path = &files::found(path)?;
+        let lock = files::lock(path)?;
+        clear_for_new(path)?;
+
+        let header = Header {
+            generation: FIRST,
+            first: 1,
+            salt: new_salt(),
+            before: 0,
+        };
+        let file = files::new_journal(path, FIRST)?;
+        let journal = Journal::begin(file, header, options.sync)?;
+        let generations = Generations {
+            now: Place {
+                store: FIRST,
+                journal: FIRST,
+            },
+            salt: header.salt,
+            before: 0,
+            next: None,
+        };
+        let folder = Folder::new(path, journal, options, generations, lock);
+        save(&folder.save_place())?;
+        Ok(folder)
+    }
+
+    /// Opens a folder. One that another process has open, or this one, is refused.
+    pub fn open(path: impl AsRef<Path>, options: Options) -> Result<Found, FileError> {
+        open::open(path.as_ref(), options)
+    }
+
+    fn new(
+        path: &Path,
+        journal: Journal,
+        options: Options,
+        generations: Generations,
+        lock: Held,
+    ) -> Folder {
+        Folder {
+            path: path.to_path_buf(),
+            options,
+            journal,
+            generations: Mutex::new(generations),
+            lock,
+        }
+    }
+
+    fn generations(&self) -> MutexGuard<'_, Generations> {
+        let held = self.generations.lock();
+        held.unwrap_or_else(PoisonError::into_inner)
+    }
+
+    /// Makes the next generation's journal ready, with no lock of the store held. One thread at a time makes a checkpoint.
+    pub(crate) fn begin_generation(&self) -> Result<(), FileError> {
+        self.check_place()?;
+        self.journal.settle()?;
+        self.journal.sync()?; // next to nothing is left to be synced while writers wait
+        let mut generations = self.generations();
+        if generations.next.is_none() {
+            let next = files::new_journal(&self.path, generations.now.journal + 1)?;
+            generations.next = Some(next);
+        }
+        Ok(())
+    }
+
+    /// Checks that the folder is still where it was: what is there now may be another's.
+    fn check_place(&self) -> Result<(), FileError> {
+        match files::is_locked_by(&self.path, &self.lock.0)? {
+            true => Ok(()),
+            false => Err(FileError::FolderMoved),
+        }
+    }
+
+    /// Called under the store's lock, at the moment whose store is saved: all later entries are the next generation's. Gives
+    /// that generation; none where it was not begun, and then nothing has changed. Waits for no disk.
+    pub(crate) fn switch(&self) -> Option<u64> {
+        self.begin_journal(false)
+    }
+
+    /// The same where another store is to take the place of the one that there was: the next journal does not go on after this one.
+    pub(crate) fn switch_to_another(&self) -> Option<u64> {
+        self.begin_journal(true)
+    }
+
+    fn begin_journal(&self, alone: bool) -> Option<u64> {
+        let mut generations = self.generations();
+        let next = generations.next.take()?;
+        generations.now.journal += 1;
+        generations.before = generations.salt;
+        generations.salt = new_salt();
+        let header = Header {
+            generation: generations.now.journal,
+            first: 0, // known to the journal
+            salt: generations.salt,
+            before: if alone { 0 } else { generations.before },
+        };
+        self.journal.switch(next, header);
+        Some(header.generation)
+    }
+
+    /// Returns when the journal that the last switch ended is synced, and the one that it began has its header on the disk: before
+    /// that no store is put in the place that this gives.
+    pub(crate) fn settle(&self) -> Result<SavePlace, FileError> {
+        self.journal.settle()?;
+        Ok(self.save_place())
+    }
+
+    /// The place of the saved store that the journal which is written goes on after.
+    fn save_place(&self) -> SavePlace {
+        let generations = self.generations();
+        SavePlace {
+            path: files::store_in(&self.path, generations.now.journal),
+            journal: generations.salt,
+        }
+    }
+
+    /// Takes back another store that was to be saved there, whether it is there or not: the journal goes on after the one before it
+    /// after all.
+    pub(crate) fn take_back(&self, place: &SavePlace) -> io::Result<()> {
+        match fs::remove_file(&place.path) {
+            Ok(()) => files::sync_folder(&self.path)?,
+            Err(e) if e.kind() == io::ErrorKind::NotFound => (),
+            Err(e) => return Err(e),
+        }
+        let before = self.generations().before;
+        self.journal.go_on_after(before)
+    }
+
+    /// Called when the store of the last switch is saved, in the place that [`settle`](Folder::settle) gave: removes what was
+    /// needed only without it.
+    pub(crate) fn end_generation(&self) -> Result<(), FileError> {
+        self.check_place()?;
+        let place = {
+            let mut generations = self.generations();
+            let journal = generations.now.journal;
+            let saved = files::store_in(&self.path, journal);
+            if !saved.is_file() {
+                return Err(FileError::NoStore);
+            }
+            generations.now.store = journal;
+            generations.now
+        };
+        files::clear(&self.path, place.store..=place.journal)
+    }
+
+    /// The generation whose journal is written.
+    pub(crate) fn generation(&self) -> u64 {
+        self.generations().now.journal
+    }
+
+    /// Whether the journal is as long as it should get.
+    pub(crate) fn is_due(&self) -> bool {
+        self.is_due_after(0)
+    }
+
+    /// Whether it has grown by as much since it had this length.
+    pub(crate) fn is_due_after(&self, length: u64) -> bool {
+        let at = self.options.checkpoint_at;
+        at != 0 && self.journal.length() >= length.saturating_add(at)
+    }
+
+    /// The journal.
+    pub(crate) fn journal(&self) -> &Journal {
+        &self.journal
+    }
+
+    /// The folder's path.
+    pub(crate) fn path(&self) -> &Path {
+        &self.path
+    }
+}
+
+/// Where making a folder was broken off before its store was there, what is left is removed. A store that is there, or a
+/// journal with entries, is not.
+fn clear_for_new(path: &Path) -> Result<(), FileError> {
+    let listing = files::list(path)?;
+    let is_begun =
+        |g: &u64| fs::metadata(files::journal_in(path, *g)).map(|m| m.len() > Header::LENGTH);
+    let begun: Vec<bool> = listing
+        .journals
+        .iter()
+        .map(is_begun)
+        .collect::<io::Result<_>>()?;
+    if !listing.stores.is_empty() || begun.contains(&true) {
+        return Err(FileError::StoreThere);
+    }
+    let journals = listing.journals.iter();
+    Ok(journals
+        .map(|g| files::journal_in(path, *g))
+        .try_for_each(fs::remove_file)?)
+}
+
+impl fmt::Debug for Folder {
+    fn fmt(&self, f: &mut fmt::Formatter<'_>) -> fmt::Result {
+        f.debug_struct("Folder")
+            .field("path", &self.path)
+            .field("generation", &self.generation())
+            .finish()
+    }
+}

@@ -1,0 +1,170 @@
+//! The entries of a journal as bytes.
+
+use super::call::Call;
+use crate::disk::checksum::Checksum;
+
+/// The first bytes of every entry. The first of them stands in no text.
+pub const MAGIC: [u8; 4] = [0xe7, b'P', b'I', b'T'];
+/// The bytes before the payload: magic, the payload's length, the entry's number, the checksum.
+pub const FRONT: usize = 4 + 4 + 8 + 8;
+const CHECKSUM_AT: usize = 16;
+/// A payload begins with so many numbers: the kind, and up to three arguments. A page or a text follows.
+const NUMBERS: usize = 4;
+/// The shortest payload and the longest, which has a page of the greatest size.
+const LEAST: usize = 8 * NUMBERS;
+const MOST: usize = LEAST + 4_096;
+
+/// What an entry holds.
+#[derive(Clone, Copy, Debug, PartialEq, Eq)]
+pub enum Content<'a> {
+    /// A call, with a number of its own.
+    Call(Call<'a>),
+    /// No call: all entries up to this number were on the disk when this was written.
+    Synced,
+}
+
+/// A whole entry.
+pub struct Entry<'a> {
+    pub number: u64,
+    payload: &'a [u8],
+}
+
+/// Appends an entry. Its checksum is left open, for [`seal`].
+pub fn encode(content: &Content<'_>, number: u64, to: &mut Vec<u8>) {
+    let (numbers, bytes) = parts(content);
+    let length = LEAST + bytes.len(); // of an accepted call, at most MOST
+    to.reserve(FRONT + length);
+    to.extend_from_slice(&MAGIC);
+    to.extend_from_slice(&(length as u32).to_le_bytes());
+    to.extend_from_slice(&number.to_le_bytes());
+    to.extend_from_slice(&[0; 8]);
+    for number in numbers {
+        to.extend_from_slice(&number.to_le_bytes());
+    }
+    to.extend_from_slice(bytes);
+}
+
+/// Fills in the checksums of encoded entries, of a journal with this salt.
+pub fn seal(entries: &mut [u8], salt: u64) {
+    let mut rest = entries;
+    while rest.len() >= FRONT {
+        let end = FRONT + u32_at(rest, 4) as usize;
+        let (entry, after) = rest.split_at_mut(end.min(rest.len()));
+        let sum = checksum(entry, salt);
+        entry[CHECKSUM_AT..FRONT].copy_from_slice(&sum.to_le_bytes());
+        rest = after;
+    }
+}
+
+impl<'a> Entry<'a> {
+    /// The entry at the front of these bytes, if it is whole and of the journal with this salt.
+    pub fn at_front(bytes: &'a [u8], salt: u64) -> Option<Entry<'a>> {
+        let front = bytes.get(..FRONT)?;
+        let length = length_in(front)?;
+        let entry = bytes.get(..FRONT + length)?;
+        if u64_at(entry, CHECKSUM_AT) != checksum(entry, salt) {
+            return None;
+        }
+        Some(Entry {
+            number: u64_at(entry, 8),
+            payload: &entry[FRONT..],
+        })
+    }
+
+    /// Its length in bytes.
+    pub fn length(&self) -> usize {
+        FRONT + self.payload.len()
+    }
+
+    /// What it holds; its kind, where that is not known here.
+    pub fn content(&self) -> Result<Content<'a>, u64> {
+        let number = |k: usize| u64_at(self.payload, 8 * k);
+        let (a, b, c) = (number(1), number(2), number(3));
+        let bytes = &self.payload[LEAST..];
+        #[rustfmt::skip]
+        let call = match number(0) {
+            SYNCED => return Ok(Content::Synced),
+            BEGIN => Call::Begin { n: a },
+            PUT => Call::Put { ticket: a, i: b, bytes },
+            WRITE => Call::Write { line: a, ticket: b, first: c },
+            APPEND => Call::Append { line: a, ticket: b },
+            WEAVE => Call::Weave { ticket: a, count: b },
+            PUBLISH => Call::Publish { line: a, minute: b },
+            SET_WINDOWS => Call::SetWindows { text: bytes },
+            BRANCH => Call::Branch { line: a, version: b },
+            kind => return Err(kind),
+        };
+        Ok(Content::Call(call))
+    }
+}
+
+/// The number and length of the entry that these bytes begin with, by what it says itself.
+pub fn said_at_front(bytes: &[u8]) -> Option<(u64, usize)> {
+    let front = bytes.get(..FRONT)?;
+    Some((u64_at(front, 8), FRONT + length_in(front)?))
+}
+
+/// Whether these bytes end before an entry that begins with them would, as far as they say.
+pub fn is_cut_off(bytes: &[u8]) -> bool {
+    match bytes.get(..FRONT) {
+        Some(front) => length_in(front).map_or(false, |length| bytes.len() < FRONT + length),
+        None => true,
+    }
+}
+
+const SYNCED: u64 = 0;
+const BEGIN: u64 = 1;
+const PUT: u64 = 2;
+const WRITE: u64 = 3;
+const APPEND: u64 = 4;
+const WEAVE: u64 = 5;
+const PUBLISH: u64 = 6;
+const SET_WINDOWS: u64 = 7;
+const BRANCH: u64 = 8;
+
+/// An entry's numbers, the kind first, and the bytes after them.
+#[rustfmt::skip]
+fn parts<'a>(content: &Content<'a>) -> ([u64; NUMBERS], &'a [u8]) {
+    let call = match content {
+        Content::Call(call) => *call,
+        Content::Synced => return ([SYNCED, 0, 0, 0], &[]),
+    };
+    match call {
+        Call::Begin { n } => ([BEGIN, n, 0, 0], &[]),
+        Call::Put { ticket, i, bytes } => ([PUT, ticket, i, 0], bytes),
+        Call::Write { line, ticket, first } => ([WRITE, line, ticket, first], &[]),
+        Call::Append { line, ticket } => ([APPEND, line, ticket, 0], &[]),
+        Call::Weave { ticket, count } => ([WEAVE, ticket, count, 0], &[]),
+        Call::Publish { line, minute } => ([PUBLISH, line, minute, 0], &[]),
+        Call::SetWindows { text } => ([SET_WINDOWS, 0, 0, 0], text),
+        Call::Branch { line, version } => ([BRANCH, line, version, 0], &[]),
+    }
+}
+
+/// The payload's length that the front of an entry says, if it is such a front.
+fn length_in(front: &[u8]) -> Option<usize> {
+    let length = u32_at(front, 4) as usize;
+    (front.starts_with(&MAGIC) && (LEAST..=MOST).contains(&length)).then_some(length)
+}
+
+/// The checksum of an entry: over the salt, the length, the number and the payload.
+fn checksum(entry: &[u8], salt: u64) -> u64 {
+    let mut sum = Checksum::new();
+    sum.add(&salt.to_le_bytes());
+    sum.add(&entry[4..CHECKSUM_AT]);
+    sum.add(&entry[FRONT..]);
+    sum.value()
+}
+
+fn u32_at(bytes: &[u8], at: usize) -> u32 {
+    let mut four = [0; 4];
+    four.copy_from_slice(&bytes[at..at + 4]);
+    u32::from_le_bytes(four)
+}
+
+/// The number of 64 bits that stands there.
+pub fn u64_at(bytes: &[u8], at: usize) -> u64 {
+    let mut eight = [0; 8];
+    eight.copy_from_slice(&bytes[at..at + 8]);
+    u64::from_le_bytes(eight)
+}
