@@ -42,6 +42,7 @@ pub(crate) use taken::{put_pages, Taken};
 ///         Form(_) | Limits(_) | AreaLengths | Counters | Windows | Numbers | Rebuilt => true,
 ///         Journal(_) | JournalIo { .. } | JournalFailed { .. } | NoJournal(_) => false,
 ///         Folder(_) | FolderMoved | NoStore | StoreThere | InUse { .. } | Saved { .. } => false,
+///         Closed => false,
 ///     }
 /// }
 /// ```
@@ -102,6 +103,8 @@ pub enum FileError {
     },
     /// The journal of this generation is not in the folder, and the store cannot be made without it.
     NoJournal(u64),
+    /// The folder was closed, and takes no more calls that change the store.
+    Closed,
     /// The system could not open the folder, or list what is in it.
     Folder(io::Error),
     /// The folder is no longer where it was opened, or its lock is gone: what is there may be another's, and nothing is saved there.
@@ -159,6 +162,7 @@ impl fmt::Display for FileError {
                 )
             }
             NoJournal(generation) => write!(f, "journal-{generation} is not in the folder"),
+            Closed => f.write_str("the folder was closed"),
             JournalIo { generation, error } => {
                 write!(f, "journal-{generation} could not be opened, read or written: {error}")
             }

@@ -42,6 +42,7 @@
 //! What opening cuts off or removes, it does after everything has been read and checked. Opened after a crash in the middle
 //! of that, the folder is what it was.
 
+mod closed;
 mod earlier;
 mod files;
 mod look;
@@ -55,12 +56,14 @@ use crate::calls::counters::Version;
 use crate::calls::store::Store;
 use crate::disk::file::lock::Held;
 use crate::disk::file::{FileError, SavePlace};
-use crate::disk::journal::{new_salt, Header, Journal};
+use crate::disk::journal::{is_no_room, new_salt, Header, Journal};
+use crate::shared::numbering::Numbering;
+use closed::Closed;
 use std::fmt;
 use std::fs::{self, File};
 use std::io;
 use std::path::{Path, PathBuf};
-use std::sync::{Mutex, MutexGuard, PoisonError};
+use std::sync::{Arc, Mutex, MutexGuard, PoisonError, RwLock};
 
 pub(crate) use earlier::earlier;
 pub use earlier::{Comparison, Earlier};
@@ -77,7 +80,8 @@ const FIRST: u64 = 1;
 pub struct Folder {
     path: PathBuf,
     options: Options,
-    journal: Journal,
+    /// Another one, where the folder was opened anew.
+    journal: RwLock<Arc<Journal>>,
     generations: Mutex<Generations>,
     /// Given back last.
     lock: Held,
@@ -158,7 +162,7 @@ impl Folder {
         Folder {
             path: path.to_path_buf(),
             options,
-            journal,
+            journal: RwLock::new(Arc::new(journal)),
             generations: Mutex::new(generations),
             lock,
         }
@@ -172,8 +176,9 @@ impl Folder {
     /// Makes the next generation's journal ready, with no lock of the store held. One thread at a time makes a checkpoint.
     pub(crate) fn begin_generation(&self) -> Result<(), FileError> {
         self.check_place()?;
-        self.journal.settle()?;
-        self.journal.sync()?; // next to nothing is left to be synced while writers wait
+        let journal = self.journal();
+        journal.settle()?;
+        journal.sync()?; // next to nothing is left to be synced while writers wait
         let mut generations = self.generations();
         if generations.next.is_none() {
             let next = files::new_journal(&self.path, generations.now.journal + 1)?;
@@ -213,14 +218,14 @@ impl Folder {
             salt: generations.salt,
             before: if alone { 0 } else { generations.before },
         };
-        self.journal.switch(next, header);
+        self.journal().switch(next, header);
         Some(header.generation)
     }
 
     /// Returns when the journal that the last switch ended is synced, and the one that it began has its header on the disk: before
     /// that no store is put in the place that this gives.
     pub(crate) fn settle(&self) -> Result<SavePlace, FileError> {
-        self.journal.settle()?;
+        self.journal().settle()?;
         Ok(self.save_place())
     }
 
@@ -242,7 +247,7 @@ impl Folder {
             Err(e) => return Err(e),
         }
         let before = self.generations().before;
-        self.journal.go_on_after(before)
+        self.journal().go_on_after(before)
     }
 
     /// Called when the store of the last switch is saved, in the place that [`settle`](Folder::settle) gave: removes what was
@@ -275,12 +280,48 @@ impl Folder {
     /// Whether it has grown by as much since it had this length.
     pub(crate) fn is_due_after(&self, length: u64) -> bool {
         let at = self.options.checkpoint_at;
-        at != 0 && self.journal.length() >= length.saturating_add(at)
+        at != 0 && self.journal().length() >= length.saturating_add(at)
     }
 
-    /// The journal.
-    pub(crate) fn journal(&self) -> &Journal {
-        &self.journal
+    /// The journal that is written.
+    pub(crate) fn journal(&self) -> Arc<Journal> {
+        let held = self.journal.read();
+        Arc::clone(&held.unwrap_or_else(PoisonError::into_inner))
+    }
+
+    /// Closes the journal in order, and notes beside it how far it goes. All that returned is on the disk then, and no more is taken:
+    /// [`FileError::Closed`]. The lock stays until this is dropped. After a failure nothing is noted, and it is given. Closing twice does
+    /// no harm.
+    pub(crate) fn close(&self) -> Result<(), FileError> {
+        let (length, last) = self.journal().close()?;
+        let closed = {
+            let generations = self.generations();
+            Closed {
+                generation: generations.now.journal,
+                salt: generations.salt,
+                length,
+                last,
+            }
+        };
+        self.check_place()?;
+        let journal = fs::metadata(files::journal_in(&self.path, closed.generation))?;
+        match closed.write(&self.path, journal.permissions()) {
+            Err(error) if is_no_room(&error) => Ok(()), // all is kept, and the note can be done without
+            written => Ok(written?),
+        }
+    }
+
+    /// Opens the folder anew, as [`open`](Folder::open) does, with the lock still held: after a failure of the journal, or when it was
+    /// closed. The journal that there was writes no more. After an error all is as it was, and this can be called again. Nobody makes a
+    /// checkpoint meanwhile.
+    pub(crate) fn reopen(&self) -> Result<(Store, Numbering, Opened), FileError> {
+        self.check_place()?;
+        let _ = self.journal().close(); // what failed, failed before
+        let (found, opened) = open::read(&self.path, self.options)?;
+        *self.generations() = found.generations;
+        let mut journal = self.journal.write().unwrap_or_else(PoisonError::into_inner);
+        *journal = Arc::new(found.journal);
+        Ok((found.store, found.numbers, opened))
     }
 
     /// The folder's path.
@@ -307,6 +348,13 @@ fn clear_for_new(path: &Path) -> Result<(), FileError> {
     Ok(journals
         .map(|g| files::journal_in(path, *g))
         .try_for_each(fs::remove_file)?)
+}
+
+/// Whoever wants to know what comes of it calls [`close`](Folder::close) before.
+impl Drop for Folder {
+    fn drop(&mut self) {
+        let _ = self.close();
+    }
 }
 
 impl fmt::Debug for Folder {

@@ -40,5 +40,6 @@ pub use error::{Cut, JournalError, JournalErrorKind};
 pub use policy::SyncAt;
 
 pub(crate) use header::{new_salt, Header};
+pub(crate) use output::is_no_room;
 pub(crate) use replay::{replay, Replayed};
 pub(crate) use writer::Journal;

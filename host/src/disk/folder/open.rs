@@ -49,6 +49,21 @@ pub fn open(path: &Path, options: Options) -> Result<Found, FileError> {
     let path = &files::found(path)?;
     look::latest(&files::list(path)?)?; // before a lock is left where there is no store
     let lock = files::lock(path)?;
+    let (read, opened) = read(path, options)?;
+    let folder = Folder::new(path, read.journal, options, read.generations, lock);
+    Ok((read.store, read.numbers, folder, opened))
+}
+
+/// A folder's store, and the journal that goes on.
+pub struct Read {
+    pub store: Store,
+    pub numbers: Numbering,
+    pub journal: Journal,
+    pub generations: Generations,
+}
+
+/// Reads a folder that is locked, and makes it ready to go on.
+pub fn read(path: &Path, options: Options) -> Result<(Read, Opened), FileError> {
     let found = Look::at(path)?;
     let opened = found.opened();
     let place = Place {
@@ -67,8 +82,13 @@ pub fn open(path: &Path, options: Options) -> Result<Found, FileError> {
         .map_err(|error| FileError::JournalIo { generation, error })?;
     let _ = files::clear(path, place.store..=place.journal); // what is left does no harm, and the next checkpoint tries again
     new::clear(path);
-    let folder = Folder::new(path, journal, options, generations, lock);
-    Ok((found.store, found.numbers, folder, opened))
+    let read = Read {
+        store: found.store,
+        numbers: found.numbers,
+        journal,
+        generations,
+    };
+    Ok((read, opened))
 }
 
 /// Goes on in the last journal, which has these bytes, after what is whole.

@@ -33,6 +33,11 @@ pub enum JournalErrorKind {
     Damaged,
     /// The journal ends here, or is damaged from here on, and another goes on after it.
     Ended,
+    /// The journal ends here, and went on when it was closed in order.
+    ShorterThanClosed {
+        /// The number of the last entry that it had then.
+        last: u64,
+    },
     /// The entry that stands there has another number.
     OutOfTurn(u64),
     /// The entry is of a kind that is not known here.
@@ -91,6 +96,10 @@ impl fmt::Display for JournalErrorKind {
             ),
             JournalErrorKind::Ended => f.write_str(
                 "the journal is cut off or damaged here, and another one goes on after it",
+            ),
+            JournalErrorKind::ShorterThanClosed { last } => write!(
+                f,
+                "the journal ends before this entry, and had entries up to {last} when it was closed in order"
             ),
             JournalErrorKind::OutOfTurn(found) => write!(f, "the entry that stands there has number {found}"),
             JournalErrorKind::EntryKind(kind) => write!(f, "the entry is of kind {kind}, which is not known here"),

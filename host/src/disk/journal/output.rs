@@ -22,10 +22,15 @@ const AGAIN_AFTER: [u64; 4] = [1, 10, 100, 500];
 /// The system's number for that. `ErrorKind` has a name for it only since Rust 1.83.
 const NO_ROOM: i32 = 28;
 
+/// Whether a write failed since the disk has no room.
+pub fn is_no_room(error: &io::Error) -> bool {
+    error.raw_os_error() == Some(NO_ROOM)
+}
+
 fn write_at(file: &File, bytes: &[u8], at: u64) -> io::Result<()> {
     for pause in AGAIN_AFTER {
         match file.write_all_at(bytes, at) {
-            Err(e) if e.raw_os_error() == Some(NO_ROOM) => (),
+            Err(e) if is_no_room(&e) => (),
             done => return done,
         }
         thread::sleep(Duration::from_millis(pause));

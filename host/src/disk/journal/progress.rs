@@ -20,6 +20,8 @@ pub struct Progress {
     pub failed: Option<(ErrorKind, String)>,
     /// Whether the journal is being closed.
     pub closing: bool,
+    /// Whether it takes no entries any more.
+    pub closed: bool,
 }
 
 impl Progress {
@@ -33,6 +35,16 @@ impl Progress {
             unsynced_since: None,
             failed: None,
             closing: false,
+            closed: false,
+        }
+    }
+
+    /// An error where no more entries are taken: something failed, or the journal was closed.
+    pub fn check_open(&self) -> Result<(), FileError> {
+        self.check()?;
+        match self.closed {
+            true => Err(FileError::Closed),
+            false => Ok(()),
         }
     }
 

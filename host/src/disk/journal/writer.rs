@@ -24,7 +24,9 @@ use std::time::Duration;
 pub struct Journal {
     shared: Arc<Shared>,
     /// The thread that syncs in the background, where the policy wants one.
-    syncer: Option<JoinHandle<()>>,
+    syncer: Mutex<Option<JoinHandle<()>>>,
+    /// The process that has it open. One that was forked off has neither its threads nor a right to its file.
+    process: u32,
 }
 
 struct Shared {
@@ -78,12 +80,16 @@ impl Journal {
             SyncAt::Every(wait) => Some(syncer(Arc::clone(&shared), wait)?),
             _ => None,
         };
-        Ok(Journal { shared, syncer })
+        Ok(Journal {
+            shared,
+            syncer: Mutex::new(syncer),
+            process: std::process::id(),
+        })
     }
 
-    /// Whether it still takes entries. After the first write or sync that fails it does not.
+    /// Whether it still takes entries. After the first write or sync that fails it does not, and once it is closed.
     pub fn ready(&self) -> Result<(), FileError> {
-        hold(&self.shared.progress).check()
+        hold(&self.shared.progress).check_open()
     }
 
     /// Takes no entry any more, as after a write that failed.
@@ -127,6 +133,21 @@ impl Journal {
         hold(&self.shared.output).go_on_after(before)
     }
 
+    /// Writes and syncs all that was taken, and takes away what was written ahead. From then on nothing is written any more: neither
+    /// entries nor notes, by whichever thread. Gives the length in bytes and the number of the last entry; the failure, where there
+    /// was one. Closing it twice does no harm.
+    pub fn close(&self) -> Result<(u64, u64), FileError> {
+        if self.process != std::process::id() {
+            return Err(FileError::Closed); // by fork: it is the other process's
+        }
+        hold(&self.shared.progress).closing = true;
+        self.shared.unsynced.notify_all();
+        if let Some(syncer) = hold(&self.syncer).take() {
+            let _ = syncer.join(); // what it failed by is kept
+        }
+        self.shared.close()
+    }
+
     /// Returns when all entries before the last switch are synced, and the header of the journal after it is.
     pub fn settle(&self) -> Result<(), FileError> {
         self.shared.write(&mut hold(&self.shared.output))
@@ -151,15 +172,7 @@ impl Journal {
 /// What was taken is written, and all is synced once more.
 impl Drop for Journal {
     fn drop(&mut self) {
-        hold(&self.shared.progress).closing = true;
-        self.shared.unsynced.notify_all();
-        if let Some(syncer) = self.syncer.take() {
-            let _ = syncer.join();
-        }
-        // nobody is left to be told; after a failure all stays as it is
-        if self.shared.sync().is_ok() {
-            let _ = hold(&self.shared.output).trim();
-        }
+        let _ = self.close(); // nobody is left to be told; after a failure all stays as it is
     }
 }
 
@@ -178,7 +191,7 @@ impl Shared {
 
     /// Writes all that was taken.
     fn write(&self, output: &mut Output) -> Result<(), FileError> {
-        hold(&self.progress).check()?;
+        hold(&self.progress).check_open()?;
         let batch = hold(&self.taken).take(mem::take(&mut output.room));
         let (last, ends) = (batch.last, !batch.ended.is_empty());
         if ends {
@@ -251,8 +264,8 @@ impl Shared {
 
     fn note_synced(&self, number: u64) {
         let mut output = hold(&self.output);
-        if hold(&self.progress).failed.is_some() {
-            return; // what was half written stays the last
+        if hold(&self.progress).check_open().is_err() {
+            return; // what was half written stays the last; and a journal that is closed may be another's by now
         }
         if let Err(error) = output.note_synced(number) {
             hold(&self.progress).fail(&error);
@@ -264,6 +277,36 @@ impl Shared {
         let last = hold(&self.taken).last;
         self.write_up_to(last)?;
         self.sync_up_to(last)
+    }
+
+    /// See [`Journal::close`]. All who write hold `output`, and look first whether it is closed: so nobody does once this has set it.
+    fn close(&self) -> Result<(u64, u64), FileError> {
+        let synced = if hold(&self.progress).closed {
+            Ok(())
+        } else {
+            self.sync()
+        };
+        let mut output = hold(&self.output);
+        let (was_closed, written) = {
+            let mut progress = hold(&self.progress);
+            (mem::replace(&mut progress.closed, true), progress.written)
+        };
+        synced?;
+        if !was_closed {
+            self.end(&mut output, written)?;
+        }
+        hold(&self.progress).check()?;
+        Ok((output.length, written))
+    }
+
+    /// Syncs what others have written since the last sync, without what was written ahead.
+    fn end(&self, output: &mut Output, written: u64) -> Result<(), FileError> {
+        self.begin_syncing_alone()?;
+        let trimmed = output.trim();
+        let result = trimmed.and_then(|()| output.file.sync_data());
+        hold(&self.progress).end_sync(written, &result);
+        self.synced.notify_all();
+        hold(&self.progress).check()
     }
 }
 
