@@ -2,6 +2,11 @@
 
 use crate::calls::ffi::{node_count, root_span, Record, State};
 
+/// The height of a tree whose root has this span. The span is a power of two, or 0 for a size that no tree has: that one's height is 0.
+pub fn height_of(span: u64) -> u64 {
+    span.max(1).trailing_zeros().into()
+}
+
 /// A record with what follows from the rest of it and its first node place. Without an update that is zeros.
 pub fn derive(mut record: Record, place: u64) -> Record {
     // any numbers may stand in a file: what would wrap is none of a store's, and the count is then 0
@@ -9,12 +14,10 @@ pub fn derive(mut record: Record, place: u64) -> Record {
     let derived = if record.name == 0 {
         [0; 4]
     } else {
-        // the span is a power of two, or 0 for a size that no tree has: that one's height is 0
         let span = root_span(size);
-        let height = span.max(1).trailing_zeros();
         let pages = record.last.wrapping_sub(f).wrapping_add(1);
         [
-            place.wrapping_add(height.into()),
+            place.wrapping_add(height_of(span)),
             f.wrapping_mul(2).wrapping_sub(f.count_ones().into()),
             span,
             node_count(f, pages, size),

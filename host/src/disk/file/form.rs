@@ -1,5 +1,6 @@
 //! The form of a store's file: the header, and the areas as bytes. [`Store::save`](crate::Store::save) shows it.
 
+use super::derived::height_of;
 use super::summed::Summed;
 use super::taken::{pages_agree, Taken};
 use super::FileError;
@@ -416,13 +417,6 @@ fn windows_of(numbers: [u64; WINDOWS]) -> Windows {
     windows
 }
 
-/// What a file has where a record has its root's span: the root's height, as records had it when form 3 came. So files from
-/// before there were spans load, and files written here load there. Without an update both are 0. Only records that have what
-/// follows from the rest of them are written.
-fn height_of(span: u64) -> u64 {
-    span.max(1).trailing_zeros().into()
-}
-
 /// The root's span of a record in a file: that of its size, by the table, or none without an update. Any number may stand
 /// where the height does: where it is not that span's, the record gets a span that none has.
 fn span_of(name: u64, size: u64, height: u64) -> u64 {
@@ -434,6 +428,9 @@ fn span_of(name: u64, size: u64, height: u64) -> u64 {
     }
 }
 
+/// A file has the root's height where a record has its span, as records had it when form 3 came. So files from before there were
+/// spans load, and files written here load there. Without an update both are 0. Only records that have what follows from the rest
+/// of them are written.
 #[rustfmt::skip]
 fn numbers_of_record(r: &Record) -> [u64; RECORD] {
     let e = &r.entries;
