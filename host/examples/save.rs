@@ -1,5 +1,5 @@
 //! Saves beside writers: each file is the whole model as it was at one moment, and nobody waits for the disk.
-use pit_host::{Failure, FileError, Limits, Line, PageIndex, Shared, Store, Version};
+use pit_host::{Failure, Limits, Line, PageIndex, Shared, Store, Version};
 use std::{env, fs, process, thread};
 
 const LIVE: Line = Line(0);
@@ -44,19 +44,15 @@ fn main() -> Result<(), Failure> {
     println!("saved six times beside {CREWS} crews; the file has version {saved}");
 
     // only what is taken is written: with far more room, and the last version alone, the file is shorter
-    let length = || {
-        fs::metadata(path)
-            .map_err(FileError::Io)
-            .map(|file| file.len())
-    };
-    let small = length()?;
+    let length = || fs::metadata(path).expect("it is saved").len();
+    let small = length();
     model.rebuild(Limits::new(256, 65_535, 131_072, 4_096), &[])?;
     assert_eq!(model.save(path)?, saved);
-    assert!(length()? <= small);
+    assert!(length() <= small);
     println!(
         "the file of a store with room for 4,096 updates has {} bytes",
-        length()?
+        length()
     );
-    fs::remove_file(path).map_err(FileError::Io)?;
+    fs::remove_file(path).expect("it is saved");
     Ok(())
 }

@@ -131,7 +131,11 @@ mod tests {
         }
         let missing = std::io::Error::from(std::io::ErrorKind::NotFound);
         let words = missing.to_string();
-        let missing = Failure::from(FileError::Io(missing));
+        let path = "some/file".into();
+        let missing = Failure::from(FileError::Io {
+            path,
+            error: missing,
+        });
         assert_eq!(missing.source().map(|e| e.to_string()), Some(words));
     }
 

@@ -295,7 +295,7 @@ fn a_reload_is_whole_or_not_at_all() {
     assert!(matches!(shared.reload(&bad), Err(FileError::Checksum)));
     assert!(matches!(
         shared.reload(folder.0.join("none")),
-        Err(FileError::Io(_))
+        Err(FileError::Io { .. })
     ));
     assert!(shared.to_store() == running);
     assert!(shared.write(LIVE, ticket, PageIndex(0)).is_ok());

@@ -112,11 +112,12 @@ impl Durable {
     fn start(core: Core, folder: Folder) -> Result<Durable, Failure> {
         let (core, folder) = (Arc::new(core), Arc::new(folder));
         let checkpoints = Arc::new(Checkpoints::default());
-        let checkpointer = checkpointer(core.clone(), folder.clone(), checkpoints.clone());
+        let checkpointer = checkpointer(core.clone(), folder.clone(), checkpoints.clone())
+            .map_err(file::at_folder(folder.path()))?;
         let log = InFolder {
             folder,
             checkpoints,
-            checkpointer: Some(checkpointer.map_err(FileError::Io)?),
+            checkpointer: Some(checkpointer),
         };
         Ok(Handle {
             core,

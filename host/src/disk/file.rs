@@ -29,7 +29,8 @@ pub(crate) use taken::{put_pages, Taken};
 /// ```
 /// use pit_host::{FileError, Store};
 /// let refused = Store::load("no/such/file").unwrap_err();
-/// assert!(matches!(refused, FileError::Io(_)));
+/// assert!(matches!(refused, FileError::Io { .. }));
+/// assert!(refused.to_string().starts_with("no/such/file: "));
 /// ```
 ///
 /// Later files may be refused for more reasons, so a `match` has an arm for these. Without it:
@@ -38,19 +39,24 @@ pub(crate) use taken::{put_pages, Taken};
 /// use pit_host::FileError::{self, *};
 /// fn is_whole(error: FileError) -> bool {
 ///     match error {
-///         Io(_) | Foreign | Truncated { .. } | TooLong { .. } | Checksum => false,
+///         Io { .. } | Foreign | Truncated { .. } | TooLong { .. } | Checksum => false,
 ///         Form(_) | Limits(_) | AreaLengths | Counters | Windows | Numbers | Rebuilt => true,
 ///         Journal(_) | JournalIo { .. } | JournalFailed { .. } | NoJournal(_) => false,
-///         Folder(_) | FolderMoved | NoStore | StoreThere | InUse { .. } | Saved { .. } => false,
 ///         Closed => false,
+///         Folder { .. } | FolderMoved | NoStore | StoreThere | InUse { .. } | Saved { .. } => false,
 ///     }
 /// }
 /// ```
 #[derive(Debug)]
 #[non_exhaustive]
 pub enum FileError {
-    /// The system could not open, read, write or rename.
-    Io(io::Error),
+    /// The system could not open, read, write or rename a file; or what is there is no plain file.
+    Io {
+        /// The file.
+        path: PathBuf,
+        /// Why not.
+        error: io::Error,
+    },
     /// The file does not begin as a store's file does: it is some other file.
     Foreign,
     /// The file is a store's, of a form that is not known here.
@@ -105,8 +111,13 @@ pub enum FileError {
     NoJournal(u64),
     /// The folder was closed, and takes no more calls that change the store.
     Closed,
-    /// The system could not open the folder, or list what is in it.
-    Folder(io::Error),
+    /// The system could not make, open or lock the folder, or list what is in it.
+    Folder {
+        /// The folder.
+        path: PathBuf,
+        /// Why not.
+        error: io::Error,
+    },
     /// The folder is no longer where it was opened, or its lock is gone: what is there may be another's, and nothing is saved there.
     FolderMoved,
     /// No saved store is in the folder.
@@ -127,11 +138,25 @@ pub enum FileError {
     },
 }
 
+impl FileError {
+    /// The file or folder that its words begin with: where the system could not do what was asked for.
+    pub fn path(&self) -> Option<&Path> {
+        match self {
+            FileError::Io { path, .. } | FileError::Folder { path, .. } => Some(path),
+            FileError::Saved { error, .. } => error.path(),
+            _ => None,
+        }
+    }
+}
+
 impl fmt::Display for FileError {
     fn fmt(&self, f: &mut fmt::Formatter<'_>) -> fmt::Result {
         use FileError::*;
         match self {
-            Io(e) => write!(f, "the file could not be opened, read or written: {e}"),
+            Io { path, error } => {
+                let path = path.display();
+                write!(f, "{path}: could not be opened, read or written: {error}")
+            }
             Foreign => f.write_str("the file is no store's: it begins otherwise"),
             Form(form) => write!(f, "the file has form {form}; only forms 1 to 5 are known"),
             Limits(e) => write!(f, "the store's limits are not allowed; {e}"),
@@ -166,13 +191,19 @@ impl fmt::Display for FileError {
             JournalIo { generation, error } => {
                 write!(f, "journal-{generation} could not be opened, read or written: {error}")
             }
-            Folder(e) => write!(f, "the folder could not be opened or read: {e}"),
+            Folder { path, error } => {
+                let path = path.display();
+                write!(f, "{path}: the folder could not be opened or read: {error}")
+            }
             FolderMoved => f.write_str("the folder is no longer where it was opened, or its lock is gone"),
             NoStore => f.write_str("no saved store is in the folder"),
             StoreThere => f.write_str("a store, or a journal with entries, is in the folder already"),
             InUse { process: Some(id) } => write!(f, "the folder is open already, by process {id}"),
             InUse { process: None } => f.write_str("the folder is open already"),
-            Saved { generation, error } => write!(f, "store-{generation}: {error}"),
+            Saved { generation, error } => match error.path() {
+                Some(_) => error.fmt(f),
+                None => write!(f, "store-{generation}: {error}"),
+            },
         }
     }
 }
@@ -180,8 +211,8 @@ impl fmt::Display for FileError {
 impl std::error::Error for FileError {
     fn source(&self) -> Option<&(dyn std::error::Error + 'static)> {
         match self {
-            FileError::Io(e) | FileError::Folder(e) => Some(e),
-            FileError::JournalIo { error, .. } => Some(error),
+            FileError::Io { error, .. } => Some(error),
+            FileError::Folder { error, .. } | FileError::JournalIo { error, .. } => Some(error),
             FileError::Limits(e) => Some(e),
             FileError::Saved { error, .. } => error.source(),
             _ => None,
@@ -189,9 +220,19 @@ impl std::error::Error for FileError {
     }
 }
 
-impl From<io::Error> for FileError {
-    fn from(e: io::Error) -> FileError {
-        FileError::Io(e)
+/// The error of the file at a path.
+pub(crate) fn at(path: &Path) -> impl FnOnce(io::Error) -> FileError + '_ {
+    move |error| FileError::Io {
+        path: path.to_path_buf(),
+        error,
+    }
+}
+
+/// The error of the folder at a path.
+pub(crate) fn at_folder(path: &Path) -> impl FnOnce(io::Error) -> FileError + '_ {
+    move |error| FileError::Folder {
+        path: path.to_path_buf(),
+        error,
     }
 }
 
@@ -361,13 +402,13 @@ impl Loaded {
 
 /// Loads what [`Taken::save`] has saved, or a file of an earlier form.
 pub fn load(path: &Path) -> Result<Loaded, FileError> {
-    load_from(File::open(path)?)
+    load_from(File::open(path).map_err(at(path))?, path)
 }
 
 /// The same from a file that is open, at its front.
-pub fn load_from(file: File) -> Result<Loaded, FileError> {
-    let found = file.metadata()?.len();
-    let mut file = Summed::new(BufReader::new(file));
+pub fn load_from(file: File, path: &Path) -> Result<Loaded, FileError> {
+    let found = file.metadata().map_err(at(path))?.len();
+    let mut file = Summed::new(BufReader::new(file), path);
     let header = Header::read(&mut file, found)?;
     header.check_lengths()?;
     header.check_length(found)?;

@@ -55,7 +55,7 @@ use crate::calls::areas::Storage;
 use crate::calls::counters::Version;
 use crate::calls::store::Store;
 use crate::disk::file::lock::Held;
-use crate::disk::file::{FileError, SavePlace};
+use crate::disk::file::{at, at_folder, FileError, SavePlace};
 use crate::disk::journal::{is_no_room, new_salt, Header, Journal};
 use crate::shared::numbering::Numbering;
 use closed::Closed;
@@ -120,7 +120,7 @@ impl Folder {
         options: Options,
         save: impl FnOnce(&SavePlace) -> Result<Version, FileError>,
     ) -> Result<Folder, FileError> {
-        files::make_folder(path).map_err(FileError::Folder)?;
+        files::make_folder(path).map_err(at_folder(path))?;
         let path = &files::found(path)?;
         let lock = files::lock(path)?;
         clear_for_new(path)?;
@@ -132,7 +132,8 @@ impl Folder {
             before: 0,
         };
         let file = files::new_journal(path, FIRST)?;
-        let journal = Journal::begin(file, header, options.sync)?;
+        let journal = Journal::begin(file, header, options.sync)
+            .map_err(at(&files::journal_in(path, FIRST)))?;
         let generations = Generations {
             now: Place {
                 store: FIRST,
@@ -304,10 +305,11 @@ impl Folder {
             }
         };
         self.check_place()?;
-        let journal = fs::metadata(files::journal_in(&self.path, closed.generation))?;
-        match closed.write(&self.path, journal.permissions()) {
+        let journal = files::journal_in(&self.path, closed.generation);
+        let permissions = fs::metadata(&journal).map_err(at(&journal))?.permissions();
+        match closed.write(&self.path, permissions) {
             Err(error) if is_no_room(&error) => Ok(()), // all is kept, and the note can be done without
-            written => Ok(written?),
+            written => written.map_err(at(&self.path)),
         }
     }
 
@@ -334,20 +336,22 @@ impl Folder {
 /// journal with entries, is not.
 fn clear_for_new(path: &Path) -> Result<(), FileError> {
     let listing = files::list(path)?;
-    let is_begun =
-        |g: &u64| fs::metadata(files::journal_in(path, *g)).map(|m| m.len() > Header::LENGTH);
-    let begun: Vec<bool> = listing
-        .journals
+    let journals = listing.journals.iter();
+    let journals: Vec<PathBuf> = journals.map(|g| files::journal_in(path, *g)).collect();
+    let has_entries = |path: &PathBuf| {
+        let length = fs::metadata(path).map_err(at(path))?.len();
+        Ok(length > Header::LENGTH)
+    };
+    let has_entries: Vec<bool> = journals
         .iter()
-        .map(is_begun)
-        .collect::<io::Result<_>>()?;
-    if !listing.stores.is_empty() || begun.contains(&true) {
+        .map(has_entries)
+        .collect::<Result<_, FileError>>()?;
+    if !listing.stores.is_empty() || has_entries.contains(&true) {
         return Err(FileError::StoreThere);
     }
-    let journals = listing.journals.iter();
-    Ok(journals
-        .map(|g| files::journal_in(path, *g))
-        .try_for_each(fs::remove_file)?)
+    journals
+        .iter()
+        .try_for_each(|path| fs::remove_file(path).map_err(at(path)))
 }
 
 /// Whoever wants to know what comes of it calls [`close`](Folder::close) before.

@@ -457,8 +457,10 @@ fn other_files_are_refused() {
         assert!(matches!(error, FileError::Form(f) if f == form));
     }
     let missing = Store::load(folder.0.join("none")).unwrap_err();
-    assert!(matches!(missing, FileError::Io(e) if e.kind() == std::io::ErrorKind::NotFound));
-    assert!(matches!(Store::load(&folder.0), Err(FileError::Io(_))));
+    assert!(
+        matches!(missing, FileError::Io { error: e, .. } if e.kind() == std::io::ErrorKind::NotFound)
+    );
+    assert!(matches!(Store::load(&folder.0), Err(FileError::Io { .. })));
 }
 
 /// A header that asks for 268 MB, and nothing after it: refused by the file's length, before memory is taken.

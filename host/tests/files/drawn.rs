@@ -170,7 +170,7 @@ fn no_damage_of_a_drawn_store_is_unseen() {
                     let as_it_was = damaged == bytes && last_part > 0;
                     assert!(as_it_was, "PIT_SEED={seed}: unseen");
                 }
-                Err(FileError::Io(error)) => panic!("PIT_SEED={seed}: {error}"),
+                Err(FileError::Io { error, .. }) => panic!("PIT_SEED={seed}: {error}"),
                 Err(_) => assert!(damaged != bytes, "PIT_SEED={seed}: refused undamaged"),
             }
         }
@@ -199,7 +199,7 @@ fn sealed_damage_does_no_harm() {
                     counts[0] += 1;
                 }
                 Err(FileError::Checksum) => panic!("PIT_SEED={seed}: the checksum is right"),
-                Err(FileError::Io(error)) => panic!("PIT_SEED={seed}: {error}"),
+                Err(FileError::Io { error, .. }) => panic!("PIT_SEED={seed}: {error}"),
                 Err(_) => counts[1] += 1,
             }
         }

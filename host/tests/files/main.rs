@@ -19,8 +19,13 @@ use pit_host::{Error, FileError};
 #[test]
 fn words_and_causes() {
     use std::error::Error as _;
+    let no_disk = || std::io::Error::new(std::io::ErrorKind::Other, "no disk");
+    let path = || std::path::PathBuf::from("at/some/path");
     let errors = [
-        FileError::Io(std::io::Error::new(std::io::ErrorKind::Other, "no disk")),
+        FileError::Io {
+            path: path(),
+            error: no_disk(),
+        },
         FileError::Foreign,
         FileError::Form(7),
         FileError::Limits(Error::PageSize),
@@ -36,10 +41,13 @@ fn words_and_causes() {
         FileError::Checksum,
         FileError::Counters,
         FileError::Windows,
-        FileError::Folder(std::io::Error::new(std::io::ErrorKind::Other, "no disk")),
+        FileError::Folder {
+            path: path(),
+            error: no_disk(),
+        },
         FileError::JournalIo {
             generation: 3,
-            error: std::io::Error::new(std::io::ErrorKind::Other, "no disk"),
+            error: no_disk(),
         },
         FileError::FolderMoved,
     ];
@@ -50,6 +58,25 @@ fn words_and_causes() {
             && words[2].contains("form 7")
             && words[5].contains("3 bytes of 128")
     );
+    let of_path = words.iter().filter(|w| w.starts_with("at/some/path: "));
+    assert_eq!(of_path.count(), 2);
     let with_cause = errors.iter().filter(|e| e.source().is_some()).count();
     assert_eq!(with_cause, 4);
+
+    // the file of a folder is named once
+    let saved = |error| FileError::Saved {
+        generation: 2,
+        error: Box::new(error),
+    };
+    assert_eq!(
+        saved(FileError::Foreign).to_string(),
+        "store-2: the file is no store's: it begins otherwise"
+    );
+    let unread = saved(FileError::Io {
+        path: "at/store-2".into(),
+        error: no_disk(),
+    });
+    let words = "at/store-2: could not be opened, read or written: no disk";
+    assert_eq!(unread.to_string(), words);
+    assert!(unread.source().is_some());
 }

@@ -70,7 +70,7 @@ fn links_in_a_ring_are_refused() {
     symlink("other", folder.file()).unwrap();
     assert!(matches!(
         in_work().save(folder.file()),
-        Err(FileError::Io(_))
+        Err(FileError::Io { .. })
     ));
     assert_eq!(folder.names(), ["other", "store"]);
 }
@@ -86,7 +86,7 @@ fn what_is_no_file_is_not_replaced() {
     pipe(&folder.file());
     assert!(matches!(
         in_work().save(folder.file()),
-        Err(FileError::Io(_))
+        Err(FileError::Io { .. })
     ));
     let there = fs::symlink_metadata(folder.file()).unwrap();
     assert!(there.file_type().is_fifo());

@@ -70,13 +70,16 @@ fn a_save_that_fails_leaves_nothing_behind() {
     let folder = Folder::new("fails");
     fs::create_dir_all(folder.file().join("full")).unwrap();
     let store = in_work();
-    assert!(matches!(store.save(folder.file()), Err(FileError::Io(_)))); // a folder stands there
+    assert!(matches!(
+        store.save(folder.file()),
+        Err(FileError::Io { .. })
+    )); // a folder stands there
     assert!(matches!(
         store.save(folder.0.join("none/store")),
-        Err(FileError::Io(_))
+        Err(FileError::Io { .. })
     ));
-    assert!(matches!(store.save("/"), Err(FileError::Io(_))));
-    assert!(matches!(store.save(""), Err(FileError::Io(_))));
+    assert!(matches!(store.save("/"), Err(FileError::Io { .. })));
+    assert!(matches!(store.save(""), Err(FileError::Io { .. })));
     assert_eq!(folder.names(), ["store"]);
 }
 
@@ -131,7 +134,7 @@ fn as_a_child() {
     let ticket = store.begin(1).unwrap();
     store.put(ticket, 0, &[8; 16]).unwrap();
     match part.as_str() {
-        "has no room" => assert!(matches!(store.save(&file), Err(FileError::Io(_)))),
+        "has no room" => assert!(matches!(store.save(&file), Err(FileError::Io { .. }))),
         "dies" => {
             store.save(&file).unwrap();
             store.append(LIVE, ticket).unwrap();

@@ -147,7 +147,7 @@ pub fn fill_the_disk(part: &Part<'_>) {
         let answer = make_durable(&durable, &call).unwrap_or_else(|failure| {
             let is_saved = matches!(call, Call::Checkpoint | Call::Rebuild(..));
             assert!(is_saved, "{failure}");
-            assert!(matches!(failure, Failure::File(FileError::Io(_))));
+            assert!(matches!(failure, Failure::File(FileError::Io { .. })));
             FAILED.to_string()
         });
         tell(&durable, &answer);

@@ -10,6 +10,7 @@ mod remake;
 mod verify;
 mod words;
 
+use pit_host::Failure;
 use std::env;
 use std::io::{self, ErrorKind, Write};
 use std::process::ExitCode;
@@ -37,10 +38,22 @@ fn main() -> ExitCode {
     };
     match answer {
         Ok(bytes) => written(&bytes),
+        Err(why) if has_path(&why) => {
+            tell(&format!("pit: {why}"));
+            ExitCode::FAILURE
+        }
         Err(why) => {
             tell(&format!("pit: {}: {why}", folder.display()));
             ExitCode::FAILURE
         }
+    }
+}
+
+/// Whether the words name a file of the folder, or the folder, by its path.
+fn has_path(why: &Fault) -> bool {
+    match why.downcast_ref() {
+        Some(Failure::File(error)) => error.path().is_some(),
+        _ => false,
     }
 }
 

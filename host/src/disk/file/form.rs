@@ -8,7 +8,7 @@ use super::{derived, old};
 use crate::calls::areas::{Areas, Limits, Storage, MOST_PAGES};
 use crate::calls::counters::Line;
 use crate::calls::ffi::{root_span, Entries, LineState, Record, State, Window, Windows, LINES};
-use std::io::{self, Read, Write};
+use std::io::{Read, Write};
 
 /// The first eight bytes of every file.
 const MAGIC: [u8; 8] = *b"PITSTORE";
@@ -107,9 +107,9 @@ impl Header {
     }
 
     /// The header at the front of a file of `found` bytes.
-    pub fn read(file: &mut Summed<impl Read>, found: u64) -> Result<Header, FileError> {
+    pub fn read(file: &mut Summed<'_, impl Read>, found: u64) -> Result<Header, FileError> {
         let mut bytes = Vec::with_capacity(HEADER);
-        file.file.by_ref().take(16).read_to_end(&mut bytes)?;
+        file.read_beside(16, &mut bytes)?;
         let magic = bytes.len().min(MAGIC.len());
         if bytes[..magic] != MAGIC[..magic] {
             return Err(FileError::Foreign);
@@ -118,8 +118,7 @@ impl Header {
             Some(number) => Form::of(number).ok_or(FileError::Form(number))?,
             None => Form::Taken, // cut off before it
         };
-        let rest = (form.header() - bytes.len()) as u64;
-        file.file.by_ref().take(rest).read_to_end(&mut bytes)?;
+        file.read_beside(form.header() - bytes.len(), &mut bytes)?;
         if bytes.len() < form.header() {
             let expected = form.header() as u64;
             return Err(FileError::Truncated { expected, found });
@@ -250,7 +249,7 @@ impl Header {
     }
 
     /// Areas of these limits, filled from a file that stands where they begin. What it has nothing of is as FORMAT leaves it.
-    pub fn read_areas(&self, file: &mut Summed<impl Read>) -> Result<Areas, FileError> {
+    pub fn read_areas(&self, file: &mut Summed<'_, impl Read>) -> Result<Areas, FileError> {
         let mut areas = Areas::new(&self.limits()).map_err(FileError::Limits)?;
         let lent = areas.parts_mut();
         // each within its area, by `check_lengths`
@@ -266,8 +265,8 @@ impl Header {
     fn read_register(
         &self,
         register: &mut [Record],
-        file: &mut Summed<impl Read>,
-    ) -> io::Result<()> {
+        file: &mut Summed<'_, impl Read>,
+    ) -> Result<(), FileError> {
         let mut bytes = vec![0; self.form.record() as usize];
         for (number, record) in (1..).zip(register) {
             file.read(&mut bytes)?;
@@ -282,7 +281,7 @@ impl Header {
     }
 
     /// The last part, from a file that stands where it begins.
-    pub fn read_last_part(&self, file: &mut Summed<impl Read>) -> io::Result<Vec<u8>> {
+    pub fn read_last_part(&self, file: &mut Summed<'_, impl Read>) -> Result<Vec<u8>, FileError> {
         let [.., length] = self.lengths;
         let mut last_part = vec![0; length as usize];
         file.read(&mut last_part)?;
@@ -319,7 +318,7 @@ fn lines_agree(s: &State, lines: &[LineState; LINES]) -> bool {
 }
 
 /// Writes nodes' numbers, some at a time.
-pub fn write_nodes(nodes: &[u32], out: &mut Summed<impl Write>) -> io::Result<()> {
+pub fn write_nodes(nodes: &[u32], out: &mut Summed<'_, impl Write>) -> Result<(), FileError> {
     let mut piece = Vec::with_capacity(4 * NUMBERS_AT_A_TIME);
     for numbers in nodes.chunks(NUMBERS_AT_A_TIME) {
         piece.clear();
@@ -330,7 +329,7 @@ pub fn write_nodes(nodes: &[u32], out: &mut Summed<impl Write>) -> io::Result<()
 }
 
 /// Reads nodes' numbers, as many as there are places for.
-fn read_nodes(nodes: &mut [u32], file: &mut Summed<impl Read>) -> io::Result<()> {
+fn read_nodes(nodes: &mut [u32], file: &mut Summed<'_, impl Read>) -> Result<(), FileError> {
     let mut piece = [0; 4 * NUMBERS_AT_A_TIME];
     for numbers in nodes.chunks_mut(NUMBERS_AT_A_TIME) {
         let piece = &mut piece[..4 * numbers.len()];
@@ -346,7 +345,10 @@ fn read_nodes(nodes: &mut [u32], file: &mut Summed<impl Read>) -> io::Result<()>
 }
 
 /// Writes records.
-pub fn write_register(register: &[Record], out: &mut Summed<impl Write>) -> io::Result<()> {
+pub fn write_register(
+    register: &[Record],
+    out: &mut Summed<'_, impl Write>,
+) -> Result<(), FileError> {
     for record in register {
         let bytes: [u8; 8 * RECORD] = to_bytes(&numbers_of_record(record));
         out.write(&bytes)?;

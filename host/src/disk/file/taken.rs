@@ -3,7 +3,7 @@
 use super::form::{write_nodes, write_register, Header, CHECKSUM_AT};
 use super::new::NewFile;
 use super::summed::Summed;
-use super::FileError;
+use super::{at, FileError};
 use crate::calls::counters::{Line, Version};
 use crate::calls::ffi::{Record, State, Windows};
 use std::fs::File;
@@ -32,11 +32,10 @@ impl Taken<'_> {
     /// Saves it, as [`Store::save`](crate::Store::save) says.
     pub fn save(&self, path: &Path) -> Result<Version, FileError> {
         let header = self.check()?;
-        let new = NewFile::for_place_of(path)?;
-        let checksum = self.write(&header, &new.file)?;
-        new.file
-            .write_all_at(&checksum.to_le_bytes(), CHECKSUM_AT as u64)?;
-        new.replace()?;
+        let new = NewFile::for_place_of(path).map_err(at(path))?;
+        let checksum = self.write(&header, &new.file, path)?.to_le_bytes();
+        let written = new.file.write_all_at(&checksum, CHECKSUM_AT as u64);
+        written.and_then(|()| new.replace()).map_err(at(path))?;
         Ok(Version(self.state.line(Line(0)).published))
     }
 
@@ -50,20 +49,21 @@ impl Taken<'_> {
         Ok(header)
     }
 
-    /// Writes it to an empty file, and gives the checksum: its place in the header is left, since all else comes first.
-    fn write(&self, header: &Header, file: &File) -> Result<u64, FileError> {
-        let mut out = Summed::new(BufWriter::with_capacity(AT_A_TIME, file));
+    /// Writes it to an empty file that is to be at this path, and gives the checksum: its place in the header is left, since all else
+    /// comes first.
+    fn write(&self, header: &Header, file: &File, path: &Path) -> Result<u64, FileError> {
+        let mut out = Summed::new(BufWriter::with_capacity(AT_A_TIME, file), path);
         out.write(&header.to_bytes())?;
-        out.file.write_all(&[0; 8])?;
+        out.write_beside(&[0; 8])?;
         self.write_pages(&mut out)?;
         write_nodes(self.nodes, &mut out)?;
         write_register(self.register, &mut out)?;
         out.write(self.last_part)?;
-        out.file.flush()?;
+        out.flush()?;
         Ok(out.sum.value())
     }
 
-    fn write_pages(&self, out: &mut Summed<impl Write>) -> Result<(), FileError> {
+    fn write_pages(&self, out: &mut Summed<'_, impl Write>) -> Result<(), FileError> {
         for number in 0..self.state.taken {
             let bytes = (self.page)(number);
             if bytes.len() as u64 != self.state.size {

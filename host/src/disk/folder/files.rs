@@ -2,7 +2,7 @@
 
 use crate::disk::file::lock::{try_hold, Held};
 use crate::disk::file::new::is_at;
-use crate::disk::file::FileError;
+use crate::disk::file::{at, at_folder, FileError};
 use std::fs::{self, File, OpenOptions};
 use std::io::{self, Read, Write};
 use std::ops::RangeInclusive;
@@ -30,8 +30,8 @@ pub struct Listing {
 
 pub fn list(folder: &Path) -> Result<Listing, FileError> {
     let mut listing = Listing::default();
-    for entry in fs::read_dir(folder).map_err(FileError::Folder)? {
-        let name = entry.map_err(FileError::Folder)?.file_name();
+    for entry in fs::read_dir(folder).map_err(at_folder(folder))? {
+        let name = entry.map_err(at_folder(folder))?.file_name();
         let name = name.to_str().unwrap_or_default();
         listing.stores.extend(generation_in(name, STORE));
         listing.journals.extend(generation_in(name, JOURNAL));
@@ -51,17 +51,17 @@ fn generation_in(name: &str, before: &str) -> Option<u64> {
 /// Removes the files of a folder that are needed no more: all stores but that of the first of these generations, and all journals of
 /// others. The names of those that stay are on the disk before. What cannot be removed keeps nothing else from being so.
 pub fn clear(folder: &Path, needed: RangeInclusive<u64>) -> Result<(), FileError> {
-    sync_folder(folder)?;
+    sync_folder(folder).map_err(at_folder(folder))?;
     let listing = list(folder)?;
     let stores = listing.stores.into_iter().filter(|g| g != needed.start());
     let journals = listing.journals.into_iter().filter(|g| !needed.contains(g));
     let removed = stores
         .map(|g| store_in(folder, g))
         .chain(journals.map(|g| journal_in(folder, g)))
-        .map(fs::remove_file);
-    let removed: Vec<io::Result<()>> = removed.collect(); // each is tried
-    sync_folder(folder)?;
-    Ok(removed.into_iter().collect::<io::Result<()>>()?)
+        .map(|path| fs::remove_file(&path).map_err(at(&path)));
+    let removed: Vec<Result<(), FileError>> = removed.collect(); // each is tried
+    sync_folder(folder).map_err(at_folder(folder))?;
+    removed.into_iter().collect()
 }
 
 /// Makes a folder, where there is none, and those that it is in; the names of those that it makes are then on the disk.
@@ -80,7 +80,7 @@ pub fn make_folder(path: &Path) -> io::Result<()> {
 
 /// A folder's own path, which names it wherever the process goes: by a relative one it would later name another.
 pub fn found(path: &Path) -> Result<PathBuf, FileError> {
-    fs::canonicalize(path).map_err(FileError::Folder)
+    fs::canonicalize(path).map_err(at_folder(path))
 }
 
 /// Forces the names in a folder to the disk.
@@ -89,23 +89,22 @@ pub fn sync_folder(folder: &Path) -> io::Result<()> {
 }
 
 /// A new, empty journal, whose name is on the disk.
-pub fn new_journal(folder: &Path, generation: u64) -> io::Result<File> {
+pub fn new_journal(folder: &Path, generation: u64) -> Result<File, FileError> {
     let mut options = OpenOptions::new();
     options.read(true).write(true).create(true).truncate(true);
-    let file = options.open(journal_in(folder, generation))?;
-    sync_folder(folder)?;
+    let path = journal_in(folder, generation);
+    let file = options.open(&path).map_err(at(&path))?;
+    sync_folder(folder).map_err(at_folder(folder))?;
     Ok(file)
 }
 
 /// Locks a folder until this is dropped, and writes down for whom.
 pub fn lock(folder: &Path) -> Result<Held, FileError> {
     let mut options = OpenOptions::new();
-    let mut file = options
-        .read(true)
-        .write(true)
-        .create(true)
-        .open(folder.join(LOCK))?;
-    if !try_hold(&file)? {
+    let path = folder.join(LOCK);
+    options.read(true).write(true).create(true);
+    let mut file = options.open(&path).map_err(at(&path))?;
+    if !try_hold(&file).map_err(at(&path))? {
         let process = process_in(&mut file);
         return Err(FileError::InUse { process });
     }
@@ -118,8 +117,9 @@ pub fn lock(folder: &Path) -> Result<Held, FileError> {
 }
 
 /// Whether a folder is the one with this lock.
-pub fn is_locked_by(folder: &Path, lock: &File) -> io::Result<bool> {
-    is_at(lock, &folder.join(LOCK))
+pub fn is_locked_by(folder: &Path, lock: &File) -> Result<bool, FileError> {
+    let path = folder.join(LOCK);
+    is_at(lock, &path).map_err(at(&path))
 }
 
 /// Which process has a folder open.

@@ -9,7 +9,7 @@ use crate::shared::numbering::Numbering;
 use std::fs::File;
 use std::io::Read;
 use std::ops::RangeInclusive;
-use std::path::Path;
+use std::path::{Path, PathBuf};
 
 /// So many journals are opened beside each other.
 const MOST_OPEN: usize = 100;
@@ -96,9 +96,12 @@ fn generations(listing: &Listing) -> Result<RangeInclusive<u64>, FileError> {
     Ok(first..=newest.max(first))
 }
 
-pub fn open_saved(path: &Path, generation: u64) -> Result<File, FileError> {
-    let file = File::open(files::store_in(path, generation));
-    file.map_err(|e| of_saved(generation, e.into()))
+pub fn open_saved(path: &Path, generation: u64) -> Result<(File, PathBuf), FileError> {
+    let path = files::store_in(path, generation);
+    match File::open(&path) {
+        Ok(file) => Ok((file, path)),
+        Err(error) => Err(of_saved(generation, file::at(&path)(error))),
+    }
 }
 
 /// A saved store of a folder.
@@ -109,8 +112,8 @@ pub struct Saved {
     journal: u64,
 }
 
-pub fn load_saved(file: File, generation: u64) -> Result<Saved, FileError> {
-    let loaded = file::load_from(file).and_then(Loaded::parts);
+pub fn load_saved((file, path): (File, PathBuf), generation: u64) -> Result<Saved, FileError> {
+    let loaded = file::load_from(file, &path).and_then(Loaded::parts);
     let (store, numbers, journal) = loaded.map_err(|e| of_saved(generation, e))?;
     Ok(Saved {
         store,

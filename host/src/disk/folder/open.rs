@@ -4,7 +4,7 @@ use super::files;
 use super::look::{self, Look};
 use super::{Folder, Generations, Options, Place};
 use crate::calls::store::Store;
-use crate::disk::file::{new, FileError};
+use crate::disk::file::{at_folder, new, FileError};
 use crate::disk::journal::{Cut, Journal, Replayed};
 use crate::shared::numbering::Numbering;
 use std::fmt;
@@ -76,7 +76,7 @@ pub fn read(path: &Path, options: Options) -> Result<(Read, Opened), FileError> 
         before: found.last.header.before,
         next: None,
     };
-    files::sync_folder(path)?; // a process that died may not have got so far with the store's name
+    files::sync_folder(path).map_err(at_folder(path))?; // a process that died may not have got so far with the store's name
     let generation = place.journal;
     let journal = resume(path, &found.last, &found.bytes, options)
         .map_err(|error| FileError::JournalIo { generation, error })?;

@@ -90,10 +90,10 @@ fn where_there_is_no_store_nothing_is_left() {
     assert!(matches!(open(scratch.path()), Err(FileError::NoStore)));
     assert_eq!(names(scratch.path()), [""; 0]);
     let refused = open(&scratch.file("nowhere"));
-    assert!(matches!(refused, Err(FileError::Folder(_))));
+    assert!(matches!(refused, Err(FileError::Folder { .. })));
     File::create(scratch.file("file")).unwrap();
     let refused = Folder::create(scratch.file("file"), &empty_store(), Options::new());
-    assert!(matches!(refused, Err(FileError::Folder(_))));
+    assert!(matches!(refused, Err(FileError::Folder { .. })));
 }
 
 #[test]
