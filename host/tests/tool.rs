@@ -263,7 +263,8 @@ fn what_is_missing_is_told() {
     let told = tool([OsStr::new("info"), folder.as_os_str()])
         .output()
         .unwrap();
-    let words = "journal-1 could not be opened, read or written: Is a directory (os error 21)\n";
+    let words =
+        "journal-1 could not be opened, read or written: it is a folder, and no plain file\n";
     let told = String::from_utf8(told.stderr).unwrap();
     assert!(told.ends_with(words), "{told}");
     fs::remove_dir(journal).unwrap();

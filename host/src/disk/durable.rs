@@ -53,14 +53,15 @@ pub struct InFolder {
 }
 
 impl Durable {
-    /// Makes a folder with this store. Where there is no folder by that name, one is made; where it has a store already, it is refused.
+    /// Makes a folder with this store. Where there is no folder by that name, one is made; where it has a store already, it is refused,
+    /// with [`FileError::StoreThere`]. Where it fails, no store is in the folder, as before, and it can be made again.
     pub fn create(
         folder: impl AsRef<Path>,
         store: Store,
         options: Options,
     ) -> Result<Durable, Failure> {
         let folder = Folder::create(folder, &store, options)?;
-        Durable::start(Core::new(store, Numbering::default()), folder)
+        Durable::start_new(Core::new(store, Numbering::default()), folder)
     }
 
     /// Makes a folder with the store in a file, as [`create`](Durable::create) does. The file is one that was [saved](Handle::save), and stays; a
@@ -96,7 +97,7 @@ impl Durable {
         let folder = Folder::create_by(folder.as_ref(), options, |place| {
             core.image().save_at(place)
         })?;
-        Durable::start(core, folder)
+        Durable::start_new(core, folder)
     }
 
     /// Opens a folder: the saved store, and the calls of the journal made again. They are proved to be a function of what they are
@@ -106,11 +107,22 @@ impl Durable {
     /// and nothing is changed.
     pub fn open(folder: impl AsRef<Path>, options: Options) -> Result<(Durable, Opened), Failure> {
         let (store, numbers, folder, opened) = Folder::open(folder, options)?;
-        Ok((Durable::start(Core::new(store, numbers), folder)?, opened))
+        let core = Core::new(store, numbers);
+        Ok((Durable::start(core, Arc::new(folder))?, opened))
     }
 
-    fn start(core: Core, folder: Folder) -> Result<Durable, Failure> {
-        let (core, folder) = (Arc::new(core), Arc::new(folder));
+    /// Starts with a folder that was just made, which is unmade where that fails.
+    fn start_new(core: Core, folder: Folder) -> Result<Durable, Failure> {
+        let folder = Arc::new(folder);
+        let started = Durable::start(core, Arc::clone(&folder));
+        if started.is_err() {
+            folder.unmake();
+        }
+        started
+    }
+
+    fn start(core: Core, folder: Arc<Folder>) -> Result<Durable, Failure> {
+        let core = Arc::new(core);
         let checkpoints = Arc::new(Checkpoints::default());
         let checkpointer = checkpointer(core.clone(), folder.clone(), checkpoints.clone())
             .map_err(file::at_folder(folder.path()))?;

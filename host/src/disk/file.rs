@@ -6,6 +6,7 @@ mod form;
 pub(crate) mod lock;
 pub(crate) mod new;
 mod old;
+pub(crate) mod plain;
 mod summed;
 mod taken;
 
@@ -289,15 +290,11 @@ impl<A: Storage> Store<A> {
     /// # }
     /// ```
     pub fn save(&self, path: impl AsRef<Path>) -> Result<Version, FileError> {
-        self.save_with(path.as_ref(), &[])
+        self.save_at(&SavePlace::of(path.as_ref()))
     }
 
-    /// Saves the store of a folder.
+    /// Saves it in a place.
     pub(crate) fn save_at(&self, place: &SavePlace) -> Result<Version, FileError> {
-        self.save_with(&place.path, &last_part(place.journal, &[]))
-    }
-
-    fn save_with(&self, path: &Path, last_part: &[u8]) -> Result<Version, FileError> {
         let (state, areas) = (self.state(), self.areas().parts());
         check_areas(&state, areas)?;
         let size = state.size as usize;
@@ -316,9 +313,9 @@ impl<A: Storage> Store<A> {
             page: &page,
             nodes: front(areas.nodes, state.places.saturating_mul(2)),
             register: front(areas.register, state.tickets),
-            last_part,
+            last_part: &last_part(place.journal, &[]),
         };
-        taken.save(path)
+        taken.save(place)
     }
 }
 
@@ -341,7 +338,8 @@ fn front<T>(all: &[T], count: u64) -> &[T] {
 
 impl Store {
     /// Loads a store just as [`save`](Store::save) found it. Everything is checked before there is a store, and the
-    /// lengths before memory is taken; [`FileError`] says what can be wrong.
+    /// lengths before memory is taken; [`FileError`] says what can be wrong. Links are followed; what is no plain file at their end is refused,
+    /// with [`FileError::Io`].
     ///
     /// A file of an earlier form is loaded as just the store that the same calls leave now. One of form 1, from before there
     /// were lines, has line 0 alone; one of form 1, 2 or 3 has no windows.
@@ -357,11 +355,24 @@ impl Store {
     }
 }
 
-/// Where a folder's store is saved, and the salt of the journal that goes on after it: a saved store is never taken for that of
-/// another journal.
+/// Where a store is saved.
 pub struct SavePlace {
     pub path: PathBuf,
+    /// The salt of the journal that goes on after it: a folder's saved store is never taken for that of another journal. 0 where none does.
     pub journal: u64,
+    /// The mode of a folder's files. None where it is the user's own file: it keeps its mode, and is found by links.
+    pub mode: Option<u32>,
+}
+
+impl SavePlace {
+    /// The user's own file.
+    pub fn of(path: &Path) -> SavePlace {
+        SavePlace {
+            path: path.to_path_buf(),
+            journal: 0,
+            mode: None,
+        }
+    }
 }
 
 /// The last part of a file: the salt of the journal that goes on after the store, 0 where none does, and how callers' numbers
@@ -402,7 +413,8 @@ impl Loaded {
 
 /// Loads what [`Taken::save`] has saved, or a file of an earlier form.
 pub fn load(path: &Path) -> Result<Loaded, FileError> {
-    load_from(File::open(path).map_err(at(path))?, path)
+    let file = plain::to_read_by_links(path);
+    load_from(file.map_err(at(path))?, path)
 }
 
 /// The same from a file that is open, at its front.

@@ -1,7 +1,7 @@
 //! A folder that keeps a store: nothing that returned is lost with the process.
 //!
 //! ```text
-//! lock         locked by the process that has the folder open, with its number in it
+//! lock         locked by the process that has the folder open, as the folder itself is, with its number in it
 //! store-G      the saved store of generation G
 //! journal-G    the calls since then, in order
 //! ```
@@ -37,7 +37,7 @@
 //!   there may be any number of journals after the saved store. No journal is made before the header of the one before is
 //!   on the disk, so that only the last can lack one.
 //! - A folder is made in this order too: journal-1 with its header, then store-1. Without the latter there is no store, and
-//!   making one may begin anew.
+//!   making one may begin anew. Where it fails, what was made is removed in the other order.
 //!
 //! What opening cuts off or removes, it does after everything has been read and checked. Opened after a crash in the middle
 //! of that, the folder is what it was.
@@ -45,6 +45,7 @@
 mod closed;
 mod earlier;
 mod files;
+mod lock;
 mod look;
 mod open;
 mod options;
@@ -54,8 +55,7 @@ mod tests;
 use crate::calls::areas::Storage;
 use crate::calls::counters::Version;
 use crate::calls::store::Store;
-use crate::disk::file::lock::Held;
-use crate::disk::file::{at, at_folder, FileError, SavePlace};
+use crate::disk::file::{at, at_folder, plain, FileError, SavePlace};
 use crate::disk::journal::{is_no_room, new_salt, Header, Journal};
 use crate::shared::numbering::Numbering;
 use closed::Closed;
@@ -67,8 +67,9 @@ use std::sync::{Arc, Mutex, MutexGuard, PoisonError, RwLock};
 
 pub(crate) use earlier::earlier;
 pub use earlier::{Comparison, Earlier};
-pub(crate) use files::open_by;
-pub use files::OpenBy;
+pub(crate) use lock::open_by;
+use lock::FolderLock;
+pub use lock::OpenBy;
 pub(crate) use look::Look;
 pub use open::{Found, Opened};
 pub use options::Options;
@@ -84,7 +85,7 @@ pub struct Folder {
     journal: RwLock<Arc<Journal>>,
     generations: Mutex<Generations>,
     /// Given back last.
-    lock: Held,
+    lock: FolderLock,
 }
 
 /// Which saved store a folder is opened from, and which journal is written.
@@ -101,6 +102,31 @@ struct Generations {
     before: u64,
     /// The journal of the next generation, begun and not yet written.
     next: Option<File>,
+}
+
+impl Generations {
+    /// Those of a folder that is being made, whose journal has this salt.
+    fn first(salt: u64) -> Generations {
+        let now = Place {
+            store: FIRST,
+            journal: FIRST,
+        };
+        Generations {
+            now,
+            salt,
+            before: 0,
+            next: None,
+        }
+    }
+
+    /// The place of the saved store that the journal which is written goes on after.
+    fn save_place(&self, folder: &Path, options: &Options) -> SavePlace {
+        SavePlace {
+            path: files::store_in(folder, self.now.journal),
+            journal: self.salt,
+            mode: Some(options.file_mode()),
+        }
+    }
 }
 
 impl Folder {
@@ -120,9 +146,9 @@ impl Folder {
         options: Options,
         save: impl FnOnce(&SavePlace) -> Result<Version, FileError>,
     ) -> Result<Folder, FileError> {
-        files::make_folder(path).map_err(at_folder(path))?;
+        files::make_folder(path, options.folder_mode()).map_err(at_folder(path))?;
         let path = &files::found(path)?;
-        let lock = files::lock(path)?;
+        let lock = FolderLock::of(path, options.file_mode())?;
         clear_for_new(path)?;
 
         let header = Header {
@@ -131,21 +157,23 @@ impl Folder {
             salt: new_salt(),
             before: 0,
         };
-        let file = files::new_journal(path, FIRST)?;
-        let journal = Journal::begin(file, header, options.sync)
-            .map_err(at(&files::journal_in(path, FIRST)))?;
-        let generations = Generations {
-            now: Place {
-                store: FIRST,
-                journal: FIRST,
-            },
-            salt: header.salt,
-            before: 0,
-            next: None,
-        };
-        let folder = Folder::new(path, journal, options, generations, lock);
-        save(&folder.save_place())?;
-        Ok(folder)
+        let generations = Generations::first(header.salt);
+        let begun = begin_first(path, header, options).and_then(|journal| {
+            save(&generations.save_place(path, &options))?;
+            Ok(journal)
+        });
+        match begun {
+            Ok(journal) => Ok(Folder::new(path, journal, options, generations, lock)),
+            Err(error) => {
+                files::unmake(path, FIRST); // as long as it is locked
+                Err(error)
+            }
+        }
+    }
+
+    /// Takes away the store of a folder that was just made, where it could not be started after all.
+    pub(crate) fn unmake(&self) {
+        files::unmake(&self.path, FIRST);
     }
 
     /// Opens a folder. One that another process has open, or this one, is refused.
@@ -158,7 +186,7 @@ impl Folder {
         journal: Journal,
         options: Options,
         generations: Generations,
-        lock: Held,
+        lock: FolderLock,
     ) -> Folder {
         Folder {
             path: path.to_path_buf(),
@@ -182,15 +210,15 @@ impl Folder {
         journal.sync()?; // next to nothing is left to be synced while writers wait
         let mut generations = self.generations();
         if generations.next.is_none() {
-            let next = files::new_journal(&self.path, generations.now.journal + 1)?;
-            generations.next = Some(next);
+            let (next, mode) = (generations.now.journal + 1, self.options.file_mode());
+            generations.next = Some(files::new_journal(&self.path, next, mode)?);
         }
         Ok(())
     }
 
     /// Checks that the folder is still where it was: what is there now may be another's.
     fn check_place(&self) -> Result<(), FileError> {
-        match files::is_locked_by(&self.path, &self.lock.0)? {
+        match self.lock.is_at(&self.path)? {
             true => Ok(()),
             false => Err(FileError::FolderMoved),
         }
@@ -232,11 +260,7 @@ impl Folder {
 
     /// The place of the saved store that the journal which is written goes on after.
     fn save_place(&self) -> SavePlace {
-        let generations = self.generations();
-        SavePlace {
-            path: files::store_in(&self.path, generations.now.journal),
-            journal: generations.salt,
-        }
+        self.generations().save_place(&self.path, &self.options)
     }
 
     /// Takes back another store that was to be saved there, whether it is there or not: the journal goes on after the one before it
@@ -259,7 +283,7 @@ impl Folder {
             let mut generations = self.generations();
             let journal = generations.now.journal;
             let saved = files::store_in(&self.path, journal);
-            if !saved.is_file() {
+            if plain::found(&saved).map_err(at(&saved))?.is_none() {
                 return Err(FileError::NoStore);
             }
             generations.now.store = journal;
@@ -305,9 +329,7 @@ impl Folder {
             }
         };
         self.check_place()?;
-        let journal = files::journal_in(&self.path, closed.generation);
-        let permissions = fs::metadata(&journal).map_err(at(&journal))?.permissions();
-        match closed.write(&self.path, permissions) {
+        match closed.write(&self.path, self.options.file_mode()) {
             Err(error) if is_no_room(&error) => Ok(()), // all is kept, and the note can be done without
             written => written.map_err(at(&self.path)),
         }
@@ -332,6 +354,13 @@ impl Folder {
     }
 }
 
+/// A folder's first journal, with its header on the disk.
+fn begin_first(path: &Path, header: Header, options: Options) -> Result<Journal, FileError> {
+    let file = files::new_journal(path, FIRST, options.file_mode())?;
+    let begun = Journal::begin(file, header, options.sync);
+    begun.map_err(at(&files::journal_in(path, FIRST)))
+}
+
 /// Where making a folder was broken off before its store was there, what is left is removed. A store that is there, or a
 /// journal with entries, is not.
 fn clear_for_new(path: &Path) -> Result<(), FileError> {
@@ -339,8 +368,8 @@ fn clear_for_new(path: &Path) -> Result<(), FileError> {
     let journals = listing.journals.iter();
     let journals: Vec<PathBuf> = journals.map(|g| files::journal_in(path, *g)).collect();
     let has_entries = |path: &PathBuf| {
-        let length = fs::metadata(path).map_err(at(path))?.len();
-        Ok(length > Header::LENGTH)
+        let file = plain::found(path).map_err(at(path))?;
+        Ok(file.map_or(false, |file| file.len() > Header::LENGTH))
     };
     let has_entries: Vec<bool> = journals
         .iter()

@@ -64,7 +64,7 @@ pub fn inspect(folder: impl AsRef<Path>) -> Result<Inspection, Failure> {
         journal_length: found.last.length,
         last_entry: found.last.last,
         store: Shared::numbered(found.store, found.numbers),
-        open_by: folder::open_by(path),
+        open_by: folder::open_by(path)?,
     })
 }
 

@@ -28,15 +28,11 @@ pub struct Image {
 impl Image {
     /// Saves it, as [`Store::save`] says, and gives the last published version of line 0 as callers count.
     pub fn save(&self, path: &Path) -> Result<Version, FileError> {
-        self.save_with(path, 0)
+        self.save_at(&SavePlace::of(path))
     }
 
-    /// Saves it as a folder's store.
+    /// Saves it in a place.
     pub fn save_at(&self, place: &SavePlace) -> Result<Version, FileError> {
-        self.save_with(&place.path, place.journal)
-    }
-
-    fn save_with(&self, path: &Path, journal: u64) -> Result<Version, FileError> {
         self.state.limits().check().map_err(FileError::Limits)?;
         if !self.has_its_areas {
             return Err(FileError::AreaLengths);
@@ -60,9 +56,9 @@ impl Image {
             page: &page,
             nodes: &self.nodes,
             register: &self.register,
-            last_part: &last_part(journal, &self.numbers),
+            last_part: &last_part(place.journal, &self.numbers),
         };
-        taken.save(path).map(|_| self.recent)
+        taken.save(place).map(|_| self.recent)
     }
 
     /// The store. What is not taken is as FORMAT leaves it.

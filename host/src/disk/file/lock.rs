@@ -31,14 +31,28 @@ pub fn try_hold(file: &File) -> io::Result<bool> {
     }
 }
 
-/// A file whose lock is held, until this is dropped. To close the file is not enough: a process that was just started from this one has it open
-/// too, until it runs its own program, and would hold the lock for as long.
-pub struct Held(pub File);
+/// A file whose lock is held, until this is dropped. To close the file is not enough: a process that was just started from this one
+/// has it open too, until it runs its own program, and would hold the lock for as long.
+pub struct Held {
+    pub file: File,
+    /// The process that holds it. One that was forked from it has the lock too, and gives nothing back that is not its own.
+    process: u32,
+}
+
+impl Held {
+    /// A file whose lock was just taken.
+    pub fn new(file: File) -> Held {
+        let process = std::process::id();
+        Held { file, process }
+    }
+}
 
 impl Drop for Held {
     fn drop(&mut self) {
-        // SAFETY: as above. Where it fails, the lock ends when the file is closed.
-        unsafe { flock(self.0.as_raw_fd(), NOBODY) };
+        if self.process == std::process::id() {
+            // SAFETY: as above. Where it fails, the lock ends when the file is closed.
+            unsafe { flock(self.file.as_raw_fd(), NOBODY) };
+        }
     }
 }
 
@@ -52,9 +66,10 @@ mod tests {
     fn a_lock_that_is_dropped_is_free_also_where_the_file_is_still_open() {
         let folder = Folder::new("lock");
         let path = folder.0.join("lock");
-        let held = Held(File::create(&path).unwrap());
-        assert!(try_hold(&held.0).unwrap());
-        let (copy, other) = (held.0.try_clone().unwrap(), File::open(&path).unwrap());
+        let held = Held::new(File::create(&path).unwrap());
+        assert!(try_hold(&held.file).unwrap());
+        let copy = held.file.try_clone().unwrap();
+        let other = File::open(&path).unwrap();
         assert!(!try_hold(&other).unwrap());
         drop(held);
         assert!(try_hold(&other).unwrap());

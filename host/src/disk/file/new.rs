@@ -1,6 +1,8 @@
 //! A file that takes another's place only when it is whole and on the disk.
 
 use super::lock::try_hold;
+use super::plain::{self, AS_IT_IS};
+use super::SavePlace;
 use std::ffi::OsStr;
 use std::fs::{self, File, OpenOptions, Permissions};
 use std::io::{self, ErrorKind};
@@ -13,8 +15,6 @@ const MOST_LINKS: usize = 40;
 const TOO_MANY_LINKS: i32 = 40;
 /// The system's errors where a file system has no locks.
 const NO_LOCKS: [Option<i32>; 2] = [Some(38), Some(95)];
-/// The system's flags for a file that is opened whatever it is: no link is followed, and no pipe waited for.
-const AS_IT_IS: i32 = 0o400_000 | 0o4_000;
 
 /// A new file in the folder of the one that it is to replace. It is removed again unless it does.
 ///
@@ -30,20 +30,42 @@ pub struct NewFile {
 }
 
 impl NewFile {
-    /// A new file for the place of the one that a path names, or leads to by links.
-    pub fn for_place_of(path: &Path) -> io::Result<NewFile> {
+    /// A new file for a place.
+    pub fn at(place: &SavePlace) -> io::Result<NewFile> {
+        match place.mode {
+            None => NewFile::for_place_of(&place.path),
+            Some(mode) => NewFile::in_folder(&place.path, mode),
+        }
+    }
+
+    /// One for the place of the file that a path names, or leads to by links, with its mode.
+    fn for_place_of(path: &Path) -> io::Result<NewFile> {
         let target = followed(path)?;
-        let folder = folder_of(&target)?;
         let permissions = old_permissions(&target)?;
         // nobody else reads what may have been closed to them
         let mode = permissions.as_ref().map_or(0o666, |_| 0o600);
+        let mut new = NewFile::made(target, mode)?;
+        new.permissions = permissions;
+        Ok(new)
+    }
+
+    /// One for the place of the plain file that a path names, with this mode. No link is followed, and none replaced.
+    pub fn in_folder(path: &Path, mode: u32) -> io::Result<NewFile> {
+        plain::found(path)?;
+        let new = NewFile::made(path.to_path_buf(), mode)?;
+        plain::set_mode(&new.file, mode)?;
+        Ok(new)
+    }
+
+    fn made(target: PathBuf, mode: u32) -> io::Result<NewFile> {
+        let folder = folder_of(&target)?;
         clear(folder);
         let (path, file) = made_in(folder, mode)?;
         Ok(NewFile {
             target,
             path,
             file,
-            permissions,
+            permissions: None,
             in_place: false,
         })
     }

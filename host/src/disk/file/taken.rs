@@ -3,7 +3,7 @@
 use super::form::{write_nodes, write_register, Header, CHECKSUM_AT};
 use super::new::NewFile;
 use super::summed::Summed;
-use super::{at, FileError};
+use super::{at, FileError, SavePlace};
 use crate::calls::counters::{Line, Version};
 use crate::calls::ffi::{Record, State, Windows};
 use std::fs::File;
@@ -30,9 +30,9 @@ pub struct Taken<'a> {
 
 impl Taken<'_> {
     /// Saves it, as [`Store::save`](crate::Store::save) says.
-    pub fn save(&self, path: &Path) -> Result<Version, FileError> {
-        let header = self.check()?;
-        let new = NewFile::for_place_of(path).map_err(at(path))?;
+    pub fn save(&self, place: &SavePlace) -> Result<Version, FileError> {
+        let (header, path) = (self.check()?, &place.path);
+        let new = NewFile::at(place).map_err(at(path))?;
         let checksum = self.write(&header, &new.file, path)?.to_le_bytes();
         let written = new.file.write_all_at(&checksum, CHECKSUM_AT as u64);
         written.and_then(|()| new.replace()).map_err(at(path))?;
@@ -151,7 +151,7 @@ mod tests {
             last_part,
         };
         change(&mut taken);
-        taken.save(path)
+        taken.save(&SavePlace::of(path))
     }
 
     #[test]

@@ -10,11 +10,9 @@
 
 use crate::disk::checksum::Checksum;
 use crate::disk::file::new::NewFile;
-use crate::disk::file::FileError;
+use crate::disk::file::{plain, FileError};
 use crate::disk::journal::{JournalError, JournalErrorKind, Replayed};
-use std::fs::{self, OpenOptions, Permissions};
-use std::io::{self, ErrorKind, Read, Write};
-use std::os::unix::fs::OpenOptionsExt;
+use std::io::{self, Read, Write};
 use std::path::Path;
 
 const NAME: &str = "closed";
@@ -22,8 +20,6 @@ const MAGIC: [u8; 8] = *b"PITCLOSE";
 const FORM: u64 = 1;
 const LENGTH: usize = 56;
 const CHECKSUM_AT: usize = LENGTH - 8;
-/// The system's flags for a file that is opened whatever it is: no link is followed, and no pipe waited for.
-const AS_IT_IS: i32 = 0o400_000 | 0o4_000;
 
 /// What a journal held when it was closed in order.
 #[derive(Clone, Copy, Debug, PartialEq, Eq)]
@@ -70,30 +66,19 @@ impl Closed {
     /// What is noted in a folder. None where there is no such file, or it cannot be read or is damaged: it is a second witness of
     /// what the journals say themselves, and a folder whose journals are whole is not refused for want of it.
     pub fn read(folder: &Path) -> Option<Closed> {
-        let mut options = OpenOptions::new();
-        options.read(true).custom_flags(AS_IT_IS);
-        let file = options.open(folder.join(NAME)).ok()?;
-        if !file.metadata().ok()?.is_file() {
-            return None;
-        }
+        let file = plain::to_read(&folder.join(NAME)).ok()?;
         let mut bytes = Vec::new();
         file.take(LENGTH as u64 + 1).read_to_end(&mut bytes).ok()?;
         Closed::of(&bytes)
     }
 
-    /// Notes it in a folder, unless that is noted already, in a file with these permissions. The old note stands until the new one is
-    /// whole and on the disk. A link is not followed: what it leads to may be another's.
-    pub fn write(self, folder: &Path, permissions: Permissions) -> io::Result<()> {
+    /// Notes it in a folder, unless that is noted already, in a file with this mode. The old note stands until the new one is whole
+    /// and on the disk.
+    pub fn write(self, folder: &Path, mode: u32) -> io::Result<()> {
         if Closed::read(folder) == Some(self) {
             return Ok(());
         }
-        let path = folder.join(NAME);
-        match fs::symlink_metadata(&path) {
-            Ok(old) if !old.is_file() => return Err(ErrorKind::AlreadyExists.into()),
-            _ => (),
-        }
-        let mut new = NewFile::for_place_of(&path)?;
-        new.file.set_permissions(permissions)?;
+        let mut new = NewFile::in_folder(&folder.join(NAME), mode)?;
         new.file.write_all(&self.to_bytes())?;
         new.replace()
     }

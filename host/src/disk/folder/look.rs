@@ -3,7 +3,7 @@
 use super::files::{self, Listing};
 use super::open::Opened;
 use crate::calls::store::Store;
-use crate::disk::file::{self, FileError, Loaded};
+use crate::disk::file::{self, plain, FileError, Loaded};
 use crate::disk::journal::{replay, Header, JournalError, JournalErrorKind, Replayed};
 use crate::shared::numbering::Numbering;
 use std::fs::File;
@@ -98,7 +98,7 @@ fn generations(listing: &Listing) -> Result<RangeInclusive<u64>, FileError> {
 
 pub fn open_saved(path: &Path, generation: u64) -> Result<(File, PathBuf), FileError> {
     let path = files::store_in(path, generation);
-    match File::open(&path) {
+    match plain::to_read(&path) {
         Ok(file) => Ok((file, path)),
         Err(error) => Err(of_saved(generation, file::at(&path)(error))),
     }
@@ -133,7 +133,7 @@ fn open_journal(path: &Path, listing: &Listing, generation: u64) -> Result<File,
     if !listing.journals.contains(&generation) {
         return Err(FileError::NoJournal(generation));
     }
-    let file = File::open(files::journal_in(path, generation));
+    let file = plain::to_read(&files::journal_in(path, generation));
     file.map_err(|error| FileError::JournalIo { generation, error })
 }
 
@@ -193,7 +193,7 @@ pub fn replay_all(
 }
 
 /// Whether a journal has no whole header; or one that is read after its own saved store alone, and no entries: that store was not saved.
-fn is_only_begun(header: Option<&Header>, bytes: &[u8]) -> bool {
+pub fn is_only_begun(header: Option<&Header>, bytes: &[u8]) -> bool {
     let is_alone = |header: &Header| header.before == 0;
     header.map_or(true, is_alone) && bytes.len() as u64 <= Header::LENGTH
 }

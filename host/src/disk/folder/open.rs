@@ -1,14 +1,14 @@
 //! Opening a folder: the saved store, and the journals after it.
 
 use super::files;
+use super::lock::FolderLock;
 use super::look::{self, Look};
 use super::{Folder, Generations, Options, Place};
 use crate::calls::store::Store;
-use crate::disk::file::{at_folder, new, FileError};
+use crate::disk::file::{at_folder, new, plain, FileError};
 use crate::disk::journal::{Cut, Journal, Replayed};
 use crate::shared::numbering::Numbering;
 use std::fmt;
-use std::fs::OpenOptions;
 use std::io;
 use std::os::unix::fs::FileExt;
 use std::path::Path;
@@ -48,7 +48,7 @@ pub type Found = (Store, Numbering, Folder, Opened);
 pub fn open(path: &Path, options: Options) -> Result<Found, FileError> {
     let path = &files::found(path)?;
     look::latest(&files::list(path)?)?; // before a lock is left where there is no store
-    let lock = files::lock(path)?;
+    let lock = FolderLock::of(path, options.file_mode())?;
     let (read, opened) = read(path, options)?;
     let folder = Folder::new(path, read.journal, options, read.generations, lock);
     Ok((read.store, read.numbers, folder, opened))
@@ -97,7 +97,7 @@ pub fn read(path: &Path, options: Options) -> Result<(Read, Opened), FileError> 
 /// alone: such bytes can be read, and no later sync writes them.
 fn resume(path: &Path, last: &Replayed, bytes: &[u8], options: Options) -> io::Result<Journal> {
     let path = files::journal_in(path, last.header.generation);
-    let file = OpenOptions::new().read(true).write(true).open(path)?;
+    let file = plain::to_write(&path)?;
     if last.cut.is_some() {
         file.set_len(last.length)?;
     }
