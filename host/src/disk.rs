@@ -6,3 +6,4 @@ pub mod file;
 pub mod folder;
 pub mod inspect;
 pub mod journal;
+pub mod read_only;

@@ -4,7 +4,8 @@
 //!
 //! - [`Store`] owns its areas, or works in areas of any kind that the host has: see [`Storage`].
 //! - [`Shared`] is a store for threads: writers each on a ticket, readers beside each other. [`Durable`] is one that is kept in a
-//!   folder. Both are a [`Handle`], which also has whole updates in one call, and rebuilds a store that is full into another one.
+//!   folder, and [`Reader`] one that is read there alone. All are a [`Handle`], which also has whole updates in one call, and rebuilds a
+//!   store that is full into another one.
 //! - [`Snapshot`] is a published version, held for reading without a lock.
 //! - [`Store::save`] and [`Store::load`] keep a store in a file. [`inspect`](fn@inspect) looks at a folder without opening it, as the tool `pit`
 //!   does.
@@ -61,6 +62,7 @@ pub use disk::file::FileError;
 pub use disk::folder::{Comparison, Earlier, OpenBy, Opened, Options};
 pub use disk::inspect::{inspect, inspect_earlier, Inspection};
 pub use disk::journal::{Cut, JournalError, JournalErrorKind, ReplayError, SyncAt};
+pub use disk::read_only::{ReadOnly, Reader};
 pub use failure::Failure;
 pub use shared::handle::{Handle, Shared};
 pub use shared::log::{Log, Memory};

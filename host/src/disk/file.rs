@@ -45,6 +45,7 @@ pub(crate) use taken::{put_pages, Taken};
 ///         Journal(_) | JournalIo { .. } | JournalFailed { .. } | NoJournal(_) => false,
 ///         Closed => false,
 ///         Folder { .. } | FolderMoved | NoStore | StoreThere | InUse { .. } | Saved { .. } => false,
+///         ReadOnly => true,
 ///     }
 /// }
 /// ```
@@ -130,6 +131,8 @@ pub enum FileError {
         /// The process, as far as it could be read.
         process: Option<u32>,
     },
+    /// The folder was opened to read alone, by a [`Reader`](crate::Reader), and a call would have changed the store.
+    ReadOnly,
     /// The folder's saved store of this generation could not be loaded.
     Saved {
         /// The generation: the number in the file's name.
@@ -199,6 +202,7 @@ impl fmt::Display for FileError {
             FolderMoved => f.write_str("the folder is no longer where it was opened, or its lock is gone"),
             NoStore => f.write_str("no saved store is in the folder"),
             StoreThere => f.write_str("a store, or a journal with entries, is in the folder already"),
+            ReadOnly => f.write_str("the folder was opened to read alone"),
             InUse { process: Some(id) } => write!(f, "the folder is open already, by process {id}"),
             InUse { process: None } => f.write_str("the folder is open already"),
             Saved { generation, error } => match error.path() {

@@ -34,7 +34,7 @@ pub struct Inspection {
 
 /// Looks at the folder of a [`Durable`](crate::Durable) store: the saved store, with the calls of the journals made again. Nothing is changed and
 /// nothing locked, so it may be open meanwhile, in this process or another one; what is at the journal's end may then be just being written, and a
-/// version be there whose writer still waits for the disk.
+/// version be there whose writer still waits for the disk. To read a folder and do no more with it, there is [`Reader`](crate::Reader).
 ///
 /// ```
 /// use pit_host::{inspect, Durable, Limits, Line, OpenBy, Options, PageIndex, Store, Version};
@@ -57,7 +57,7 @@ pub struct Inspection {
 /// ```
 pub fn inspect(folder: impl AsRef<Path>) -> Result<Inspection, Failure> {
     let path = folder.as_ref();
-    let found = steady(|| Look::beside(path))?;
+    let found = look(path)?;
     Ok(Inspection {
         state: found.store.state(),
         found: found.opened(),
@@ -72,6 +72,11 @@ pub fn inspect(folder: impl AsRef<Path>) -> Result<Inspection, Failure> {
 /// again, and must have left these to the last byte. Nothing is changed and nothing locked, as in [`inspect`].
 pub fn inspect_earlier(folder: impl AsRef<Path>) -> Result<Vec<Earlier>, Failure> {
     Ok(steady(|| folder::earlier(folder.as_ref()))?)
+}
+
+/// The store that a folder holds, whoever has it open. Nothing is changed.
+pub(crate) fn look(folder: &Path) -> Result<Look, FileError> {
+    steady(|| Look::beside(folder))
 }
 
 /// Looks until two looks in a row fail alike. Files that another process replaces meanwhile make one fail, and not the next.

@@ -7,7 +7,7 @@ use crate::disk::journal::Call;
 use crate::shared::image::Image;
 
 /// Where the changes of a store that threads share are kept: in [`Memory`] alone, or in the journal of a
-/// folder: [`InFolder`](crate::InFolder).
+/// folder: [`InFolder`](crate::InFolder). [`ReadOnly`](crate::ReadOnly) takes none.
 pub trait Log: Send + Sync + 'static {
     /// Why a call was not done: refused, or not kept.
     type Failure: From<Error>;
