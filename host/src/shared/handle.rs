@@ -71,12 +71,12 @@ impl<L: Log> Handle<L> {
         ticket: Ticket,
         first: PageIndex,
     ) -> Result<Assigned, L::Failure> {
-        self.alone(|writer| writer.write(line, ticket, first))
+        self.alone(|writer| writer.assign(line, ticket, Some(first)))
     }
 
     /// [`Store::append`](crate::Store::append).
     pub fn append(&self, line: Line, ticket: Ticket) -> Result<Assigned, L::Failure> {
-        self.alone(|writer| writer.append(line, ticket))
+        self.alone(|writer| writer.assign(line, ticket, None))
     }
 
     /// [`Store::weave`](crate::Store::weave).

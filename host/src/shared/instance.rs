@@ -3,7 +3,7 @@
 use super::epoch::Epoch;
 use super::image::Image;
 use crate::calls::areas::{place_of, record, Areas, Storage};
-use crate::calls::counters::{Line, Minute, PageIndex, Ticket, Version};
+use crate::calls::counters::{Line, LineVersion, Minute, PageIndex, Ticket, Version};
 use crate::calls::error::Error;
 use crate::calls::ffi::Record;
 use crate::calls::store::{Assigned, Node, Published, Store};
@@ -65,10 +65,32 @@ impl Instance {
         published.map_while(|version| version).collect()
     }
 
-    /// The number of a ticket's page. None where the register has no such ticket.
+    /// What the register has of a ticket. Here and below, tickets are the store's own numbers.
+    pub fn record(&self, ticket: u64) -> Option<&Record> {
+        record(self.store.areas().parts().register, ticket)
+    }
+
+    /// What it has of the update of a ticket; none where that has no version.
+    fn update_of(&self, ticket: u64) -> Option<&Record> {
+        self.record(self.record(ticket)?.update)
+    }
+
+    /// The line and version that a ticket's update got, as callers count.
+    pub fn version_of(&self, ticket: u64) -> Option<(Line, Version)> {
+        let name = LineVersion(self.update_of(ticket)?.name);
+        let (line, own) = (name.line(), name.version().0);
+        Some((line, self.numbers.version(line, own)))
+    }
+
+    /// How many nodes of a ticket's version are left to weave; none where it has no version.
+    pub fn nodes_left(&self, ticket: u64) -> Option<u64> {
+        let update = self.update_of(ticket)?;
+        Some(update.count.saturating_sub(update.woven))
+    }
+
+    /// The number of a ticket's page, and whether it is put. None where the register has no such ticket.
     fn page_of(&self, ticket: u64, i: u64) -> Option<(u64, bool)> {
-        let register = self.store.areas().parts().register;
-        let record = record(register, ticket)?;
+        let record = self.record(ticket)?;
         let bit = u32::try_from(i)
             .ok()
             .and_then(|i| record.put.checked_shr(i));
@@ -78,9 +100,7 @@ impl Instance {
 
     /// BEGIN. Here and in the calls below, tickets and versions are the store's own numbers.
     pub fn begin(&mut self, n: u64) -> Result<u64, Error> {
-        let ticket = self.store.begin(n)?.0;
-        self.touch(ticket);
-        Ok(ticket)
+        Ok(self.store.begin(n)?.0)
     }
 
     /// PUT. A page that is put is never written again, also where a register that no run of calls left says that it may be. Bytes
@@ -109,7 +129,6 @@ impl Instance {
         if let Some((number, _)) = page {
             self.store.areas_mut().set_put(number);
         }
-        self.touch(ticket);
         Ok(())
     }
 
@@ -126,15 +145,12 @@ impl Instance {
         }?;
         let update = self.store.state().assigned;
         self.epoch.note(update, self.store.areas().parts().register);
-        self.touch(ticket);
         Ok(assigned)
     }
 
     /// WEAVE.
     pub fn weave(&mut self, ticket: u64) -> Result<Node, Error> {
-        let node = self.store.weave(Ticket(ticket))?;
-        self.touch(ticket);
-        Ok(node)
+        self.store.weave(Ticket(ticket))
     }
 
     /// PUBLISH.
@@ -152,11 +168,6 @@ impl Instance {
     /// SETWINDOWS.
     pub fn set_windows(&mut self, text: &[u8]) -> Result<(), WindowsError> {
         self.store.set_windows(text)
-    }
-
-    /// Notes that a call was just made on a ticket.
-    fn touch(&mut self, ticket: u64) {
-        self.set_touched(ticket, Some(Instant::now()));
     }
 
     /// Notes when a call was last made on a ticket, where that is known.
@@ -178,7 +189,7 @@ impl Instance {
         is_right && self.store.recent(Line(0)) != Err(Error::AreaLength)
     }
 
-    /// The whole store, copied, where it is one that no run of calls left; of others [`moment`](Instance::image) is enough.
+    /// The whole store, copied, where it is one that no run of calls left; of others [`image`](Instance::image) is enough.
     pub fn copied(&self) -> Option<Store> {
         let parts = self.store.areas().parts();
         (!self.has_its_areas()).then(|| {

@@ -1,9 +1,9 @@
 //! Whole updates in one call, and those that somebody has begun and not finished.
 
-use crate::calls::areas::{record, Storage, MOST_OF_UPDATE, MOST_PAGES};
-use crate::calls::counters::{Line, LineVersion, Minute, PageIndex, Ticket, Version};
+use crate::calls::areas::{Storage, MOST_OF_UPDATE, MOST_PAGES};
+use crate::calls::counters::{Line, Minute, PageIndex, Ticket, Version};
 use crate::calls::error::Error;
-use crate::calls::ffi::{node_count, Record, State};
+use crate::calls::ffi::{node_count, State};
 use crate::shared::instance::Instance;
 use crate::shared::log::Log;
 use crate::shared::{Handle, Writer};
@@ -175,11 +175,11 @@ impl<L: Log> Writer<'_, L> {
     /// Weaves what is left of a ticket's version, and publishes what is then due on its line.
     fn finish(&mut self, ticket: Ticket, minute: Minute) -> Result<Version, Error> {
         let own = self.instance().numbers.own_ticket(ticket);
-        let is_woven = nodes_left(self.instance(), own) == Some(0);
+        let is_woven = self.instance().nodes_left(own) == Some(0);
         if !is_woven {
             self.weave(ticket, u64::MAX)?;
         }
-        let (line, version) = version_of(self.instance(), own).ok_or(Error::Damaged)?;
+        let (line, version) = self.instance().version_of(own).ok_or(Error::Damaged)?;
         let last = self.publish_due(line, minute)?;
         if is_woven {
             self.show_others(line, last);
@@ -199,10 +199,7 @@ fn put_together<L: Log>(
     for (i, page) in (0..).zip(pages) {
         writer.put(ticket, i, page)?;
     }
-    let assigned = match at {
-        Some(first) => writer.write(line, ticket, first)?,
-        None => writer.append(line, ticket)?,
-    };
+    let assigned = writer.assign(line, ticket, at)?;
     writer.weave(ticket, assigned.nodes)?;
     Ok(assigned.version)
 }
@@ -240,31 +237,10 @@ fn check(
     }
 }
 
-/// What the register has of the update of a ticket, by the store's own number; none where it has no version.
-fn update_of(instance: &Instance, own: u64) -> Option<&Record> {
-    let register = instance.store().areas().parts().register;
-    record(register, record(register, own)?.update)
-}
-
-/// The line and version that a ticket's update got.
-fn version_of(instance: &Instance, own: u64) -> Option<(Line, Version)> {
-    let name = LineVersion(update_of(instance, own)?.name);
-    Some((
-        name.line(),
-        instance.numbers.version(name.line(), name.version().0),
-    ))
-}
-
-/// How many nodes of a ticket's version are left to weave; none where it has no version.
-fn nodes_left(instance: &Instance, own: u64) -> Option<u64> {
-    let update = update_of(instance, own)?;
-    Some(update.count.saturating_sub(update.woven))
-}
-
 /// A ticket, by the store's own number, if its update is in work.
 fn open_ticket(instance: &Instance, own: u64, now: Instant) -> Option<OpenTicket> {
-    let begun = record(instance.store().areas().parts().register, own)?;
-    let left = nodes_left(instance, own);
+    let begun = instance.record(own)?;
+    let left = instance.nodes_left(own);
     if left == Some(0) {
         return None;
     }
@@ -272,7 +248,7 @@ fn open_ticket(instance: &Instance, own: u64, now: Instant) -> Option<OpenTicket
         ticket: instance.numbers.ticket(own),
         pages: begun.n,
         put: begun.put.count_ones().into(),
-        version: version_of(instance, own),
+        version: instance.version_of(own),
         nodes_left: left.unwrap_or(0),
         idle: now.saturating_duration_since(instance.touched(own)?),
     })

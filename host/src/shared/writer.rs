@@ -9,6 +9,7 @@ use crate::disk::journal::Call;
 use crate::shared::instance::Instance;
 use crate::shared::log::Log;
 use std::sync::{MutexGuard, RwLockWriteGuard};
+use std::time::Instant;
 
 /// The one writer at a time: the store's lock, and the entries of the calls that were accepted under it.
 pub struct Writer<'a, L: Log> {
@@ -16,6 +17,8 @@ pub struct Writer<'a, L: Log> {
     // given back before the lock of the writers
     instance: RwLockWriteGuard<'a, Instance>,
     writer: MutexGuard<'a, ()>,
+    /// The time of all calls on tickets: the clock is looked at once, since each look takes as long as a short call.
+    now: Option<Instant>,
     /// The last entry, where there is one.
     last: Option<u64>,
     /// Which lines readers may then see up to where.
@@ -29,55 +32,53 @@ impl<L: Log> Writer<'_, L> {
         self.last = Some(self.handle.log.take(call));
     }
 
+    /// The same of a call on a ticket.
+    fn took_of(&mut self, ticket: u64, call: &Call<'_>) {
+        let now = *self.now.get_or_insert_with(Instant::now);
+        self.instance.set_touched(ticket, Some(now));
+        self.took(call);
+    }
+
     pub fn instance(&self) -> &Instance {
         &self.instance
     }
 
     pub fn begin(&mut self, n: u64) -> Result<Ticket, Error> {
         let ticket = self.instance.begin(n)?;
-        self.took(&Call::Begin { n });
+        self.took_of(ticket, &Call::Begin { n });
         Ok(self.instance.numbers.ticket(ticket))
     }
 
     pub fn put(&mut self, ticket: Ticket, i: u64, bytes: &[u8]) -> Result<(), Error> {
         let ticket = self.instance.numbers.own_ticket(ticket);
         self.instance.put(ticket, i, bytes)?;
-        self.took(&Call::Put { ticket, i, bytes });
+        self.took_of(ticket, &Call::Put { ticket, i, bytes });
         Ok(())
     }
 
-    pub fn write(
+    /// ASSIGN: as a write, or where it says no page as an append.
+    pub fn assign(
         &mut self,
         line: Line,
         ticket: Ticket,
-        first: PageIndex,
+        first: Option<PageIndex>,
     ) -> Result<Assigned, Error> {
         let ticket = self.instance.numbers.own_ticket(ticket);
-        let assigned = self.instance.assign(line, ticket, Some(first))?;
-        self.took(&Call::Write {
-            line: line.0,
-            ticket,
-            first: first.0,
-        });
-        Ok(self.assigned(line, assigned))
-    }
-
-    pub fn append(&mut self, line: Line, ticket: Ticket) -> Result<Assigned, Error> {
-        let ticket = self.instance.numbers.own_ticket(ticket);
-        let assigned = self.instance.assign(line, ticket, None)?;
-        self.took(&Call::Append {
-            line: line.0,
-            ticket,
-        });
-        Ok(self.assigned(line, assigned))
-    }
-
-    /// The same, as callers count.
-    fn assigned(&self, line: Line, assigned: Assigned) -> Assigned {
-        Assigned {
-            version: self.instance.numbers.version(line, assigned.version.0),
-            ..assigned
-        }
+        let mut assigned = self.instance.assign(line, ticket, first)?;
+        let call = match first {
+            Some(first) => Call::Write {
+                line: line.0,
+                ticket,
+                first: first.0,
+            },
+            None => Call::Append {
+                line: line.0,
+                ticket,
+            },
+        };
+        self.took_of(ticket, &call);
+        assigned.version = self.instance.numbers.version(line, assigned.version.0);
+        Ok(assigned)
     }
 
     /// Up to so many WEAVEs, until no node is left; gives the last node.
@@ -93,7 +94,7 @@ impl<L: Log> Writer<'_, L> {
             }
             count += 1;
         }
-        self.took(&Call::Weave { ticket, count });
+        self.took_of(ticket, &Call::Weave { ticket, count });
         woven
     }
 
@@ -156,6 +157,7 @@ impl<L: Log> Writer<'_, L> {
             last,
             shown,
             relied_on,
+            ..
         } = self;
         let visible = &handle.core.visible;
         let show = || {
@@ -185,6 +187,7 @@ impl<L: Log> Handle<L> {
             handle: self,
             instance: self.core.writing(),
             writer,
+            now: None,
             last: None,
             shown: Vec::new(),
             relied_on: false,
