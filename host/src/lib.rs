@@ -66,6 +66,7 @@ pub use disk::read_only::{ReadOnly, Reader};
 pub use failure::Failure;
 pub use shared::handle::{Handle, Shared};
 pub use shared::log::{Log, Memory};
+pub use shared::rebuild::Rebuilt;
 pub use shared::room::Room;
 pub use shared::snapshot::Snapshot;
 pub use shared::updates::OpenTicket;

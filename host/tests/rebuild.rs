@@ -14,6 +14,7 @@ use random::{scenes, Random};
 use road::{Road, BLOB};
 use std::collections::BTreeSet;
 use std::path::Path;
+use std::time::Duration;
 use twins::{bytes_of, published, Twins, PAGE};
 
 const SCENES: u64 = 40;
@@ -453,20 +454,21 @@ fn tickets_that_are_given_up_are_left_out() {
         (assigned, Error::OutOfTurn),
     ];
     for (ticket, due) in refused {
-        let rebuilt = shared.rebuild_without(limits, &[], &[dead, ticket]);
+        let rebuilt = shared.rebuild_without(limits, &[], &[dead, ticket], Duration::ZERO);
         assert_eq!(rebuilt, Err(due), "{ticket}");
         assert!(shared.to_store() == before);
     }
     let room = shared.room();
-    let kept = shared.rebuild_without(limits, &[], &[dead, dead]);
-    assert_eq!(kept, Ok(vec![(live, Version(1))]));
+    let rebuilt = shared.rebuild_without(limits, &[], &[dead, dead], Duration::ZERO);
+    let rebuilt = rebuilt.map(|rebuilt| (rebuilt.versions, rebuilt.left_out));
+    assert_eq!(rebuilt, Ok((vec![(live, Version(1))], vec![dead])));
     let more = shared.room();
     assert_eq!(
         (more.updates, more.pages),
         (room.updates + 1, room.pages + 9)
     );
     assert_eq!(shared.put(dead, 0, &page), Err(Error::NoSuchTicket));
-    let again = shared.rebuild_without(limits, &[], &[dead]);
+    let again = shared.rebuild_without(limits, &[], &[dead], Duration::ZERO);
     assert_eq!(again, Err(Error::NoSuchTicket));
     assert_eq!(shared.finish(assigned), Ok(Version(2)));
     assert_eq!(shared.put(in_work, 0, &page), Ok(()));

@@ -14,7 +14,7 @@ use crate::shared::page_area::{PageWriter, SharedAreas};
 use crate::shared::room::Mix;
 use std::borrow::Cow;
 use std::sync::Arc;
-use std::time::Instant;
+use std::time::{Duration, Instant};
 
 /// A store that threads share, with its callers' numbers.
 pub struct Instance {
@@ -181,6 +181,11 @@ impl Instance {
     /// When a call was last made on a ticket, or the store was taken up.
     pub fn touched(&self, ticket: u64) -> Option<Instant> {
         self.touched.get(place_of(ticket)?).copied()
+    }
+
+    /// For how long no call was made on a ticket by then.
+    pub fn idle(&self, ticket: u64, now: Instant) -> Option<Duration> {
+        Some(now.saturating_duration_since(self.touched(ticket)?))
     }
 
     /// Whether FORMAT could have made the areas.

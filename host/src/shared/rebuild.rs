@@ -12,6 +12,7 @@ use crate::shared::Handle;
 use crate::Minute;
 use std::collections::{BTreeMap, BTreeSet};
 use std::ops::Range;
+use std::time::{Duration, Instant};
 
 impl<L: Log> Handle<L> {
     /// Rebuilds the store into a new one with these limits, which takes its place for every handle. Kept are the versions named,
@@ -55,13 +56,18 @@ impl<L: Log> Handle<L> {
         limits: Limits,
         versions: &[(Line, Version)],
     ) -> Result<Vec<(Line, Version)>, L::Failure> {
-        self.rebuild_without(limits, versions, &[])
+        let rebuilt = self.rebuild_without(limits, versions, &[], Duration::ZERO)?;
+        Ok(rebuilt.versions)
     }
 
-    /// [`rebuild`](Handle::rebuild) without these tickets, which have no version: updates that their writers have begun and given up. The
-    /// pages and records that they took are not rebuilt, and calls on them are then refused with 7. Refused besides, and nothing has
-    /// changed: 7 where there is no such ticket, 8 where it has a version, since later ones need that: it can be
-    /// [finished](Handle::finish).
+    /// [`rebuild`](Handle::rebuild) without those of these tickets on which no call was made for so long: updates that their writers have
+    /// begun and given up before they had a version. The pages and records that they took are not rebuilt, and calls on them are then
+    /// refused with 7. A ticket that was [abandoned](Handle::abandoned) a moment ago may be in use again: how long it was idle is looked at
+    /// when no other call can be made any more, and one that is not left out stays in work. [`Rebuilt`] has those that were left out. With
+    /// [`Duration::ZERO`] all that are named are.
+    ///
+    /// Refused besides, and nothing has changed: 7 where there is no such ticket, 8 where one that was idle for so long has a version, since
+    /// later ones need that: it can be [finished](Handle::finish).
     ///
     /// ```
     /// use pit_host::{Error, Limits, Shared, Store};
@@ -72,9 +78,11 @@ impl<L: Log> Handle<L> {
     /// shared.put(ticket, 0, &[1; 16])?; // and here its writer dies
     /// assert_eq!(shared.room().pages, 2);
     ///
-    /// let dead = shared.abandoned(Duration::ZERO); // in a running store after an hour, say
+    /// let idle = Duration::ZERO; // in a running store an hour, say
+    /// let dead = shared.abandoned(idle);
     /// let dead: Vec<_> = dead.iter().filter(|open| open.version.is_none()).map(|open| open.ticket).collect();
-    /// shared.rebuild_without(shared.limits(), &[], &dead)?;
+    /// let rebuilt = shared.rebuild_without(shared.limits(), &[], &dead, idle)?;
+    /// assert_eq!(rebuilt.left_out, [ticket]);
     /// assert_eq!(shared.room().pages, 8);
     /// assert_eq!(shared.put(ticket, 1, &[1; 16]), Err(Error::NoSuchTicket));
     /// # Ok(())
@@ -84,16 +92,17 @@ impl<L: Log> Handle<L> {
         &self,
         limits: Limits,
         versions: &[(Line, Version)],
-        given_up: &[Ticket],
-    ) -> Result<Vec<(Line, Version)>, L::Failure> {
+        tickets: &[Ticket],
+        idle: Duration,
+    ) -> Result<Rebuilt, L::Failure> {
         let _alone = self.core.keeping();
         let writer = self.core.writer_lock();
         self.log.ready()?;
-        let (instance, kept) = {
+        let (instance, rebuilt) = {
             let old = self.core.reading(); // no writer waits for it: none has the lock
             let mut rebuild = Rebuild::new(&old, limits)?;
             rebuild.choose(versions)?;
-            rebuild.give_up(given_up)?;
+            rebuild.leave_out(tickets, idle)?;
             rebuild.make().map_err(|refusal| match refusal {
                 Error::RegisterFull | Error::PagesFull | Error::NodesFull => refusal,
                 _ => Error::Damaged, // what calls left, the calls accept again
@@ -101,8 +110,18 @@ impl<L: Log> Handle<L> {
         };
         self.log.replace(&instance.image())?;
         self.core.replace(instance, writer);
-        Ok(kept)
+        Ok(rebuilt)
     }
+}
+
+/// What a store was rebuilt with, and without.
+#[derive(Clone, Debug, PartialEq, Eq)]
+#[non_exhaustive]
+pub struct Rebuilt {
+    /// The versions that are kept, of each line in turn.
+    pub versions: Vec<(Line, Version)>,
+    /// The tickets that were left out, of those that were named.
+    pub left_out: Vec<Ticket>,
 }
 
 /// A store on its way into another one. Versions and tickets are the old store's own numbers, but where it is said.
@@ -117,8 +136,8 @@ struct Rebuild<'a> {
     kept: Vec<BTreeMap<u64, u64>>,
     /// The tickets in work, and their numbers in the new store.
     tickets: BTreeMap<u64, u64>,
-    /// Those in work that are not rebuilt.
-    given_up: BTreeSet<u64>,
+    /// Those in work that are left out.
+    left_out: BTreeSet<u64>,
 }
 
 impl<'a> Rebuild<'a> {
@@ -142,7 +161,7 @@ impl<'a> Rebuild<'a> {
             updates: updates.collect(),
             kept: vec![BTreeMap::new(); state.begun as usize],
             tickets: BTreeMap::new(),
-            given_up: BTreeSet::new(),
+            left_out: BTreeSet::new(),
         })
     }
 
@@ -183,22 +202,25 @@ impl<'a> Rebuild<'a> {
         Ok(())
     }
 
-    /// Which tickets are not rebuilt.
-    fn give_up(&mut self, tickets: &[Ticket]) -> Result<(), Error> {
+    /// Which tickets are left out: of these the ones that were idle for so long. The time is looked at here, under the lock of the writers.
+    fn leave_out(&mut self, tickets: &[Ticket], idle: Duration) -> Result<(), Error> {
+        let now = Instant::now();
         for ticket in tickets {
             let own = self.old.numbers.own_ticket(*ticket);
             let given = (1..=self.old.store().state().tickets).contains(&own);
-            match record(self.register, own).filter(|_| given) {
-                None => return Err(Error::NoSuchTicket),
-                Some(record) if record.update > 0 => return Err(Error::OutOfTurn),
-                Some(_) => self.given_up.insert(own),
-            };
+            let record = self.old.record(own).filter(|_| given);
+            let update = record.ok_or(Error::NoSuchTicket)?.update;
+            match self.old.idle(own, now) {
+                Some(idle_for) if idle_for < idle => (), // somebody is at work on it
+                _ if update > 0 => return Err(Error::OutOfTurn),
+                _ => drop(self.left_out.insert(own)),
+            }
         }
         Ok(())
     }
 
     /// Makes the new store.
-    fn make(mut self) -> Result<(Instance, Vec<(Line, Version)>), Error> {
+    fn make(mut self) -> Result<(Instance, Rebuilt), Error> {
         self.versions()?;
         self.in_work()?;
         self.end()
@@ -281,7 +303,7 @@ impl<'a> Rebuild<'a> {
                 }
                 assigned.insert(begun.update, (own, update));
             }
-            if !self.given_up.contains(&own) {
+            if !self.left_out.contains(&own) {
                 self.ticket(own, begun)?;
             }
         }
@@ -308,13 +330,15 @@ impl<'a> Rebuild<'a> {
         Ok(())
     }
 
-    /// The new store with its callers' numbers; and the versions kept, as callers count.
-    fn end(self) -> Result<(Instance, Vec<(Line, Version)>), Error> {
+    /// The new store with its callers' numbers; and what it was rebuilt with, as callers count.
+    fn end(self) -> Result<(Instance, Rebuilt), Error> {
         let numbers = &self.old.numbers;
-        let (mut lines, mut all) = (Vec::new(), Vec::new());
+        let left_out = self.left_out.iter().map(|own| numbers.ticket(*own));
+        let left_out = left_out.collect();
+        let (mut lines, mut versions) = (Vec::new(), Vec::new());
         for line in self.lines() {
             let kept = self.numbers_of(line)?;
-            all.extend(kept.iter().map(|k| (Line(line), Version(k.0))));
+            versions.extend(kept.iter().map(|k| (Line(line), Version(k.0))));
             let (callers, last) = kept.last().copied().unwrap_or_default();
             lines.push(Numbers::new(kept, last, callers).ok_or(Error::Damaged)?);
         }
@@ -328,7 +352,7 @@ impl<'a> Rebuild<'a> {
         for (own, new) in &self.tickets {
             instance.set_touched(*new, self.old.touched(*own));
         }
-        Ok((instance, all))
+        Ok((instance, Rebuilt { versions, left_out }))
     }
 
     /// The versions of a line that are kept, those that it shares included, up to its last published one: as callers count, and in the new store.
@@ -371,4 +395,38 @@ fn rows(mut written: Vec<Range<u64>>) -> Vec<Range<u64>> {
         }
     }
     rows
+}
+
+#[cfg(test)]
+mod tests {
+    use super::*;
+    use crate::shared::Shared;
+
+    /// Between the look at what is abandoned and the rebuild one of the writers goes on: its ticket stays in work, and the other's is left
+    /// out. With a version it stays too, and is no reason to refuse.
+    #[test]
+    fn a_ticket_that_is_in_use_again_stays_in_work() {
+        let limits = Limits::new(16, 40, 80, 8);
+        let shared = Shared::new(Store::format(limits).expect("limits in range"));
+        let (live, page, hour) = (Line(0), [7; 16], Duration::from_secs(3_600));
+        let [put, assigned, dead] = [1, 1, 2].map(|n| shared.begin(n).expect("room"));
+        shared.put(assigned, 0, &page).expect("a page of it");
+        for ticket in [put, assigned, dead] {
+            let then = Instant::now().checked_sub(hour);
+            shared.core.writing().set_touched(ticket.0, then);
+        }
+        let abandoned = shared.abandoned(hour).into_iter();
+        let abandoned: Vec<Ticket> = abandoned.map(|open| open.ticket).collect();
+        assert_eq!(abandoned, [put, assigned, dead]);
+
+        shared.put(put, 0, &page).expect("a page of it");
+        shared.append(live, assigned).expect("it is put");
+        let rebuilt = shared.rebuild_without(limits, &[], &abandoned, hour);
+        let left_out = rebuilt.map(|rebuilt| rebuilt.left_out);
+        assert_eq!(left_out, Ok(vec![dead]));
+        assert_eq!(shared.finish(assigned), Ok(Version(1)));
+        let next = shared.append(live, put).map(|assigned| assigned.version);
+        assert_eq!(next, Ok(Version(2)));
+        assert_eq!(shared.put(dead, 0, &page), Err(Error::NoSuchTicket));
+    }
 }

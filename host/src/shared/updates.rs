@@ -250,6 +250,6 @@ fn open_ticket(instance: &Instance, own: u64, now: Instant) -> Option<OpenTicket
         put: begun.put.count_ones().into(),
         version: instance.version_of(own),
         nodes_left: left.unwrap_or(0),
-        idle: now.saturating_duration_since(instance.touched(own)?),
+        idle: instance.idle(own, now)?,
     })
 }

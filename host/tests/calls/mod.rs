@@ -73,7 +73,8 @@ where
         Call::Branch(line, version) => answer(store.branch(*line, *version)),
         Call::SetWindows(text) => answer(store.set_windows(text)),
         Call::Rebuild(limits, versions, given_up) => {
-            answer(store.rebuild_without(*limits, versions, given_up))
+            let rebuilt = store.rebuild_without(*limits, versions, given_up, Duration::ZERO);
+            answer(rebuilt.map(|rebuilt| rebuilt.versions))
         }
         Call::Checkpoint | Call::Sync => Ok("()".to_string()),
         Call::Finish(ticket, minute) => {
