@@ -183,7 +183,8 @@ fn disturb(random: &mut Random, store: &mut Store, planner: Option<Line>) {
         store.weave(ticket).expect("a node is left");
     }
     let minute = Minute(random.below(WEEK));
-    store.publish(line, minute).expect("a line that has begun");
+    let published = store.publish(line, minute);
+    published.map(drop).expect("a line that has begun"); // or it is held
 }
 
 /// The planner's answers in a run of a seed: alone, or among others.

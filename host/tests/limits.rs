@@ -18,11 +18,7 @@ const MOST: [(Capacity, u64); 3] = [
 ];
 
 fn planned(f: u64, n: u64, size: u64) -> Planned {
-    Planned {
-        first: PageIndex(f),
-        pages: n,
-        size_after: size,
-    }
+    Planned::new(PageIndex(f), n, size)
 }
 
 /// The refusal of a planned update.

@@ -45,6 +45,7 @@ pub struct Store<A = Areas> {
 
 /// What ASSIGN gave: the line's next version, and how many nodes are to be woven for it.
 #[derive(Clone, Copy, Debug, PartialEq, Eq, Hash)]
+#[non_exhaustive]
 pub struct Assigned {
     /// The version.
     pub version: Version,
@@ -53,7 +54,23 @@ pub struct Assigned {
 }
 
 /// What PUBLISH did.
+///
+/// Nothing is published where it says [`Waiting`](Published::Waiting) or [`Held`](Published::Held): somebody has to call again. So one who
+/// drops it is warned:
+///
+/// ```compile_fail
+/// #![deny(unused_must_use)]
+/// # use pit_host::{Error, Line, Minute, Store};
+/// fn publish(store: &mut Store) -> Result<(), Error> {
+///     store.publish(Line(0), Minute(0))?;
+///     Ok(())
+/// }
+/// ```
+///
+/// Later calls may have more to tell, so a `match` has an arm for the rest.
 #[derive(Clone, Copy, Debug, PartialEq, Eq, Hash)]
+#[must_use = "where it is held or waits, nothing is published, and PUBLISH is to be called again"]
+#[non_exhaustive]
 pub enum Published {
     /// It published this version.
     Now(Version),
@@ -96,6 +113,7 @@ impl Published {
 /// # }
 /// ```
 #[derive(Clone, Copy, Debug, PartialEq, Eq, Hash)]
+#[non_exhaustive]
 pub struct Node {
     /// The version it belongs to, with its line.
     pub version: LineVersion,

@@ -5,8 +5,8 @@ use crate::calls::{Call, Scene};
 use crate::drawn;
 use crate::random::Random;
 use pit_host::{
-    Areas, ByteOffset, Error, Limits, Line, Minute, PageIndex, Record, Shared, Snapshot, Storage,
-    Store, Ticket, Version,
+    Areas, ByteOffset, Error, Limits, Line, Minute, PageIndex, Published, Record, Shared, Snapshot,
+    Storage, Store, Ticket, Version,
 };
 use std::path::Path;
 
@@ -232,7 +232,8 @@ fn a_page_that_is_put_is_not_written_again() {
     store.put(ticket, 0, &[1; 16]).expect("a page");
     store.append(Line(0), ticket).expect("room");
     store.weave(ticket).expect("a node");
-    store.publish(Line(0), Minute(0)).expect("a line");
+    let published = store.publish(Line(0), Minute(0));
+    assert_eq!(published, Ok(Published::Now(Version(1))));
     let other = store.begin(2).expect("room");
     let (state, windows, mut areas) = store.into_parts();
     areas.parts_mut().register[1].number = 0;

@@ -34,7 +34,8 @@ fn a_store_comes_back_at_every_stage() {
         store.weave(ticket).unwrap();
     }
     again(&store);
-    store.publish(LIVE, ANY_TIME).unwrap();
+    let published = store.publish(LIVE, ANY_TIME).unwrap();
+    assert!(published.version().is_some());
     again(&store);
 }
 
@@ -195,7 +196,8 @@ fn a_files_length_goes_with_what_is_taken() {
         for _ in 0..nodes {
             store.weave(ticket).unwrap();
         }
-        store.publish(LIVE, ANY_TIME).unwrap();
+        let published = store.publish(LIVE, ANY_TIME).unwrap();
+        assert!(published.version().is_some());
         store.branch(LIVE, Version(1)).unwrap();
         store.set_windows("600,660\n").unwrap();
         saves_as(&store, due);
@@ -267,7 +269,8 @@ fn a_file_of_form_1_is_loaded_with_line_0_alone() {
     again(&store);
     while store.weave(Ticket(2)).unwrap().rest > 0 {}
     again(&store);
-    store.publish(LIVE, ANY_TIME).unwrap();
+    let published = store.publish(LIVE, ANY_TIME).unwrap();
+    assert!(published.version().is_some());
     again(&store);
 
     fs::write(folder.file(), in_form_1(&store)).unwrap();

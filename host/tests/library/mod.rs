@@ -97,6 +97,7 @@ fn make_on_line(store: &mut Store, line: Line, step: OnLine) -> Result<String, E
             Published::Now(version) => format!("published,{version}"),
             Published::Waiting => "waiting".to_string(),
             Published::Held => "held".to_string(),
+            other => panic!("{other:?}"),
         },
         OnLine::Branch(v) => format!("line,{}", store.branch(line, Version(v))?),
         OnLine::Read(v, offset, length) => {

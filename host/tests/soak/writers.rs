@@ -305,6 +305,7 @@ impl<'a> Writer<'a> {
                     self.log().held += 1;
                     return;
                 }
+                other => panic!("{other:?}"),
             }
         }
     }

@@ -37,6 +37,7 @@ pub struct Limits {
 
 /// An update that is planned: of `pages` pages from page `first` on, where the blob has `size_after` pages after it.
 #[derive(Clone, Copy, Debug, PartialEq, Eq, Hash)]
+#[non_exhaustive]
 pub struct Planned {
     /// The update's first page.
     pub first: PageIndex,
@@ -78,11 +79,8 @@ impl Limits {
     /// ```
     /// use pit_host::{Limits, LimitsError, PageIndex, Planned};
     /// # fn main() -> Result<(), LimitsError> {
-    /// let mut planned = [(0, 4, 4), (1, 2, 4), (4, 1, 5)].map(|(first, pages, size_after)| Planned {
-    ///     first: PageIndex(first),
-    ///     pages,
-    ///     size_after,
-    /// });
+    /// let planned = [(0, 4, 4), (1, 2, 4), (4, 1, 5)];
+    /// let mut planned = planned.map(|(first, pages, size_after)| Planned::new(PageIndex(first), pages, size_after));
     /// let limits = Limits::for_updates(256, &planned)?;
     /// assert_eq!((limits.pages, limits.nodes, limits.updates), (4 + 2 + 1, 7 + 5 + 4, 3));
     ///
@@ -124,11 +122,7 @@ impl Limits {
         updates: u64,
         pages_per_update: u64,
     ) -> Result<Limits, LimitsError> {
-        let update = |first| Planned {
-            first: PageIndex(first),
-            pages: pages_per_update,
-            size_after: blob_pages,
-        };
+        let update = |first| Planned::new(PageIndex(first), pages_per_update, blob_pages);
         // Fewer pages, or a smaller blob, never make more nodes: their range or tree is a part of the larger one.
         let mut most = update(0).node_count(None)?;
         for first in 1..=blob_pages - pages_per_update {
@@ -209,6 +203,16 @@ impl Limits {
 }
 
 impl Planned {
+    /// An update of `pages` pages from page `first` on, where the blob has `size_after` pages after it. Whether a store takes it,
+    /// [`Limits::for_updates`] says.
+    pub fn new(first: PageIndex, pages: u64, size_after: u64) -> Planned {
+        Planned {
+            first,
+            pages,
+            size_after,
+        }
+    }
+
     /// How many nodes it makes. The proved count decides whether a store takes it, and is 0 where none does.
     fn node_count(&self, number: Option<u64>) -> Result<u64, LimitsError> {
         match ffi::node_count(self.first.0, self.pages, self.size_after) {
