@@ -59,7 +59,7 @@ fn main() -> Result<(), Failure> {
             assert_eq!(left.version, Some((LIVE, Version(22))));
             assert_eq!(model.finish(left.ticket)?, Version(22));
         }
-        assert!(truck.join().expect("no panic"));
+        assert!(truck.join().expect("no panic")?);
         Ok::<_, Failure>(())
     })?;
     assert_eq!(model.recent(LIVE)?, Version(23));
@@ -69,10 +69,10 @@ fn main() -> Result<(), Failure> {
     model.set_clock(|| Minute(2_285)); // Tuesday, 14:05
     model.set_windows("2280,2300\n")?; // a bench is fired on Tuesdays from 14:00 until 14:20
     let held = model.update(LIVE, PageIndex(0), &[&[80; 256]])?;
-    assert!(!model.wait_published_for(LIVE, held, Duration::from_millis(1)));
+    assert!(!model.wait_published_for(LIVE, held, Duration::from_millis(1))?);
     model.set_clock(|| Minute(2_300));
     model.update(LIVE, PageIndex(0), &[&[81; 256]])?; // publishes what is due
-    assert!(model.wait_published_for(LIVE, held, Duration::ZERO));
+    assert!(model.wait_published_for(LIVE, held, Duration::ZERO)?);
     println!("version {held} was held until after the blast");
     Ok(())
 }

@@ -321,13 +321,13 @@ fn a_version_is_waited_for() {
     let shared = &Shared::new(Store::format(limits(40, 160, 20)).expect("in range"));
     shared.set_clock(|| Minute(0));
     let page = [1; PAGE];
-    shared.wait_published(LIVE, Version(0)); // it always is
+    assert_eq!(shared.wait_published(LIVE, Version(0)), Ok(())); // it always is
     thread::scope(|threads| {
         let waiting = [1, 1, 2, 3, 5].map(Version).map(|version| {
             threads.spawn(move || {
-                shared.wait_published(LIVE, version);
+                assert_eq!(shared.wait_published(LIVE, version), Ok(()));
                 let by_then = shared.recent(LIVE).expect("a line") >= version;
-                by_then && shared.wait_published_for(LIVE, version, Duration::ZERO)
+                by_then && shared.wait_published_for(LIVE, version, Duration::ZERO) == Ok(true)
             })
         });
         let until = threads.spawn(|| shared.wait_published_for(LIVE, Version(4), LONG));
@@ -338,7 +338,7 @@ fn a_version_is_waited_for() {
         for waiting in waiting {
             assert!(waiting.join().expect("no complaint"));
         }
-        assert!(until.join().expect("no complaint"));
+        assert_eq!(until.join().expect("no complaint"), Ok(true));
     });
 }
 
@@ -350,15 +350,18 @@ fn waiting_ends_when_its_time_has_come() {
     for (line, version) in [(LIVE, 1), (LIVE, u64::MAX), (Line(1), 0), (Line(16), 0)] {
         let begun = Instant::now();
         let version = Version(version);
-        assert!(!shared.wait_published_for(line, version, SHORT));
+        let waited = shared.wait_published_for(line, version, SHORT);
+        assert_eq!(waited, Ok(false));
         assert!(begun.elapsed() >= SHORT);
-        assert!(!shared.wait_published_for(line, version, Duration::ZERO));
+        let waited = shared.wait_published_for(line, version, Duration::ZERO);
+        assert_eq!(waited, Ok(false));
     }
-    assert!(shared.wait_published_for(LIVE, Version(0), Duration::ZERO));
+    let is_published =
+        |version, most| shared.wait_published_for(LIVE, Version(version), most) == Ok(true);
+    assert!(is_published(0, Duration::ZERO));
     shared.finish(Ticket(1)).expect("a version");
-    assert!(shared.wait_published_for(LIVE, Version(1), Duration::ZERO));
-    assert!(shared.wait_published_for(LIVE, Version(1), Duration::MAX));
-    shared.wait_published(LIVE, Version(1));
+    assert!(is_published(1, Duration::ZERO) && is_published(1, Duration::MAX));
+    assert_eq!(shared.wait_published(LIVE, Version(1)), Ok(()));
 }
 
 /// A line that begins is seen by those who wait for it.
@@ -368,7 +371,7 @@ fn a_line_is_waited_for() {
     thread::scope(|threads| {
         let waiting = threads.spawn(|| shared.wait_published_for(Line(1), Version(0), LONG));
         shared.branch(LIVE, Version(0)).expect("a line");
-        assert!(waiting.join().expect("no complaint"));
+        assert_eq!(waiting.join().expect("no complaint"), Ok(true));
     });
 }
 

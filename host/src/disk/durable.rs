@@ -4,14 +4,17 @@ use crate::calls::counters::Version;
 use crate::calls::store::Store;
 use crate::disk::file::{self, FileError};
 use crate::disk::folder::{Folder, Opened, Options};
-use crate::disk::journal::Call;
+use crate::disk::journal::{Call, Journal};
 use crate::failure::Failure;
 use crate::shared::image::Image;
+use crate::shared::instance::Instance;
 use crate::shared::log::Log;
 use crate::shared::numbering::Numbering;
 use crate::shared::{Core, Handle};
 use std::io;
+use std::mem;
 use std::path::Path;
+use std::sync::atomic::{AtomicBool, Ordering::SeqCst};
 use std::sync::{Arc, Condvar, Mutex, MutexGuard, PoisonError};
 use std::thread::{self, JoinHandle};
 
@@ -22,7 +25,10 @@ use std::thread::{self, JoinHandle};
 /// after its PUBLISH is kept: what they have seen is not gone after a crash, nor, but by [`SyncAt::Every`](crate::SyncAt), after a power cut.
 ///
 /// The journal is followed by another, and the store saved anew, when it has reached the size in the [`Options`]. One process at a time
-/// has a folder open, until it ends or drops the last handle.
+/// has a folder open, until it ends, [closes](Durable::close) it or drops the last handle.
+///
+/// After the first write or sync of the journal that fails, no call that changes the store is made any more, and those who
+/// [wait](Handle::wait_published) for a version are told. [`reopen`](Durable::reopen) takes the folder up again.
 ///
 /// ```
 /// use pit_host::{Durable, Limits, Line, Options, PageIndex, Store, Version};
@@ -50,6 +56,8 @@ pub struct InFolder {
     folder: Arc<Folder>,
     checkpoints: Arc<Checkpoints>,
     checkpointer: Option<JoinHandle<()>>,
+    /// The folder is being opened anew: those who wait for a version wait for that too.
+    reopening: AtomicBool,
 }
 
 impl Durable {
@@ -108,7 +116,9 @@ impl Durable {
     pub fn open(folder: impl AsRef<Path>, options: Options) -> Result<(Durable, Opened), Failure> {
         let (store, numbers, folder, opened) = Folder::open(folder, options)?;
         let core = Core::new(store, numbers);
-        Ok((Durable::start(core, Arc::new(folder))?, opened))
+        let durable = Durable::start(core, Arc::new(folder))?;
+        durable.log.ask_after(&opened);
+        Ok((durable, opened))
     }
 
     /// Starts with a folder that was just made, which is unmade where that fails.
@@ -130,11 +140,76 @@ impl Durable {
             folder,
             checkpoints,
             checkpointer: Some(checkpointer),
+            reopening: AtomicBool::new(false),
         };
+        log.watch(&core);
         Ok(Handle {
             core,
             log: Arc::new(log),
         })
+    }
+
+    /// Takes the folder up again under the running callers: after the journal has failed, as on a disk that was full, or when the folder was
+    /// [closed](Durable::close). It is read anew, as [`open`](Durable::open) does, and the store that it holds takes the place of the running one,
+    /// for every handle and every [`Snapshot`](crate::Snapshot). Calls go on from there. The lock on the folder is kept, or taken again.
+    ///
+    /// What returned is there, and so is what readers were shown; but by [`SyncAt::Every`](crate::SyncAt), where the disk may have lost what
+    /// was not yet synced, as after a power cut. A call that ended with the journal's failure is not there where its entry could not be
+    /// written; where it was written and not synced, it may be.
+    ///
+    /// Calls that change the store wait meanwhile; readers do not. Those who [wait](Handle::wait_published) for a version wait on. Refused
+    /// as by `open`; and then the folder stays as it was, failed or closed, and this can be called again.
+    ///
+    /// ```
+    /// use pit_host::{Durable, FileError, Failure, Limits, Line, Options, Store, Version};
+    /// # fn main() -> Result<(), Failure> {
+    /// # let folder = std::env::temp_dir().join(format!("pit-reopen-{}", std::process::id()));
+    /// # let folder = &folder;
+    /// let live = Line(0);
+    /// let store = Durable::create(folder, Store::format(Limits::new(16, 8, 16, 4))?, Options::new())?;
+    /// store.append_pages(live, &[&[1; 16]])?;
+    /// store.close()?; // from here on another process may open it
+    /// let refused = store.append_pages(live, &[&[2; 16]]).unwrap_err();
+    /// assert!(matches!(refused, Failure::File(FileError::Closed)));
+    /// assert_eq!(store.recent(live)?, Version(1)); // readers go on
+    ///
+    /// store.reopen()?;
+    /// assert_eq!(store.append_pages(live, &[&[2; 16]])?, Version(2));
+    /// # drop(store);
+    /// # std::fs::remove_dir_all(folder).unwrap();
+    /// # Ok(())
+    /// # }
+    /// ```
+    pub fn reopen(&self) -> Result<Opened, Failure> {
+        let _alone = self.core.keeping();
+        let writer = self.core.writer_lock();
+        self.log.reopening.store(true, SeqCst);
+        let reopened = self.log.folder.reopen();
+        let replaced = reopened.map(|(store, numbers, opened)| {
+            self.core.replace(Instance::new(store, numbers), writer);
+            opened
+        });
+        self.log.reopening.store(false, SeqCst);
+        self.log.watch(&self.core); // also of a journal that failed meanwhile, or was closed and stays so
+        let opened = replaced?;
+        self.log.checkpoints.succeeded();
+        self.log.ask_after(&opened);
+        Ok(opened)
+    }
+
+    /// Closes the folder, for every handle: waits for a checkpoint that is being made, syncs all that returned, and gives the lock back. Then
+    /// another process may open it. Readers go on in memory; calls that change the store, and those who wait for a version, are refused with
+    /// [`FileError::Closed`](crate::FileError), until [`reopen`](Durable::reopen) takes the folder up again.
+    ///
+    /// Dropping the last handle does the same. This says what came of it: the error of the last sync, or the failure that the journal had
+    /// before. The folder is closed then too. To close it twice does no harm.
+    pub fn close(&self) -> Result<(), Failure> {
+        let _alone = self.core.keeping();
+        let writer = self.core.writer_lock();
+        let closed = self.log.folder.leave();
+        drop(writer);
+        self.core.visible.notify();
+        Ok(closed?)
     }
 
     /// Saves the store as it is at one moment of this call, and begins a new journal from there. Readers do not wait for it, and writers not for
@@ -176,34 +251,70 @@ impl Durable {
     }
 }
 
+impl InFolder {
+    /// Those who wait for a version are woken when the journal fails; now too, where it has failed.
+    fn watch(&self, core: &Arc<Core>) {
+        let core = Arc::clone(core);
+        core.visible.notify();
+        let on_failure = move || core.visible.notify();
+        self.folder.journal().on_failure(Arc::new(on_failure));
+    }
+
+    /// Asks for a checkpoint where the folder had more than one journal.
+    fn ask_after(&self, opened: &Opened) {
+        if opened.journals > 1 && self.folder.makes_checkpoints() {
+            self.checkpoints.ask_anyway();
+        }
+    }
+}
+
 impl Log for InFolder {
     type Failure = Failure;
     type WindowsFailure = Failure;
+    type Journal = Arc<Journal>;
 
     const AT_ONCE: bool = false;
 
-    fn ready(&self) -> Result<(), Failure> {
-        Ok(self.folder.journal().ready()?)
+    fn journal(&self) -> Arc<Journal> {
+        self.folder.journal()
     }
 
-    fn take(&self, call: &Call<'_>) -> u64 {
-        self.folder.journal().take(call)
+    fn ready(&self, journal: &Arc<Journal>) -> Result<(), Failure> {
+        Ok(journal.ready()?)
     }
 
-    fn last(&self) -> u64 {
-        self.folder.journal().last()
+    fn take(&self, journal: &Arc<Journal>, call: &Call<'_>) -> u64 {
+        journal.take(call)
     }
 
-    fn keep(&self, number: u64, relied_on: bool) -> Result<(), Failure> {
-        self.folder.journal().keep(number, relied_on)?;
+    fn last(&self, journal: &Arc<Journal>) -> u64 {
+        journal.last()
+    }
+
+    fn keep(&self, journal: &Arc<Journal>, number: u64, relied_on: bool) -> Result<(), Failure> {
+        journal.keep(number, relied_on)?;
         if self.folder.is_due() {
             self.checkpoints.ask();
         }
         Ok(())
     }
 
-    fn settle(&self) -> Result<(), FileError> {
-        self.folder.journal().sync()
+    /// A journal that is closed to be opened anew is no reason to end, and is followed by another before `reopening` is taken back.
+    fn check_awaited(&self) -> Result<(), Failure> {
+        loop {
+            let journal = self.folder.journal();
+            let ready = journal.ready();
+            if ready.is_ok() || self.reopening.load(SeqCst) {
+                return Ok(());
+            }
+            if Arc::ptr_eq(&journal, &self.folder.journal()) {
+                return Ok(ready?);
+            }
+        }
+    }
+
+    fn settle(&self, journal: &Arc<Journal>) -> Result<(), FileError> {
+        journal.sync()
     }
 
     fn replace(&self, image: &Image) -> Result<(), Failure> {
@@ -260,6 +371,8 @@ struct Checkpoints {
 #[derive(Default)]
 struct Asked {
     is_due: bool,
+    /// However long the journal is.
+    anyway: bool,
     closing: bool,
     /// Why the last one failed, and how long the journal was then.
     failure: Option<String>,
@@ -274,6 +387,18 @@ impl Checkpoints {
     fn ask(&self) {
         self.hold().is_due = true;
         self.asked.notify_all();
+    }
+
+    /// The same however long the journal is.
+    fn ask_anyway(&self) {
+        self.hold().anyway = true;
+        self.ask();
+    }
+
+    /// The journal's length when the last one failed, and whether one is to be made anyway: by the one that asks.
+    fn take(&self) -> (u64, bool) {
+        let mut asked = self.hold();
+        (asked.failed_at, mem::take(&mut asked.anyway))
     }
 
     /// One has failed, when the journal had this length.
@@ -310,8 +435,9 @@ fn checkpointer(
     thread::Builder::new().name(name).spawn(move || {
         while checkpoints.wait() {
             let _alone = core.keeping(); // another one may be making one just now
-            let since = checkpoints.hold().failed_at;
-            if !folder.is_due_after(since) {
+            let (since, anyway) = checkpoints.take();
+            let is_due = anyway || folder.is_due_after(since);
+            if !is_due || folder.journal().ready().is_err() {
                 continue;
             }
             match checkpoint(&core, &folder) {
@@ -320,4 +446,173 @@ fn checkpointer(
             }
         }
     })
+}
+
+#[cfg(test)]
+mod tests {
+    use super::*;
+    use crate::calls::areas::Limits;
+    use crate::calls::counters::{Line, PageIndex};
+    use crate::disk::file::new::tests::Folder as Scratch;
+    use crate::{Minute, SyncAt};
+    use std::sync::mpsc::{channel, Receiver};
+    use std::time::Duration;
+
+    const LIVE: Line = Line(0);
+    /// Longer than anybody here takes, where nothing is wrong.
+    const LONG: Duration = Duration::from_secs(60);
+
+    fn durable(scratch: &Scratch) -> Durable {
+        let store = Store::format(Limits::new(16, 40, 160, 20)).expect("limits in range");
+        let options = Options::new().sync(SyncAt::EachPublish);
+        let durable = Durable::create(scratch.0.join("folder"), store, options).unwrap();
+        durable.set_clock(|| Minute(0));
+        durable
+    }
+
+    fn fail(durable: &Durable) {
+        let error = io::Error::from(io::ErrorKind::Other);
+        durable.log.folder.journal().fail(&error);
+    }
+
+    type Waited = Receiver<(Result<(), Failure>, Result<bool, Failure>)>;
+
+    /// Two who wait for a version: without an end, and for long. They wait when this returns.
+    fn waiting(durable: &Durable, version: u64) -> Waited {
+        let (told, waited) = channel();
+        let (one, other) = (durable.clone(), durable.clone());
+        let other = thread::spawn(move || other.wait_published_for(LIVE, Version(version), LONG));
+        thread::spawn(move || {
+            let one = one.wait_published(LIVE, Version(version));
+            let _ = told.send((one, other.join().expect("no panic"))); // if somebody still listens
+        });
+        while durable.core.visible.waiting() < 2 {
+            thread::yield_now();
+        }
+        waited
+    }
+
+    fn of_file(failure: Failure) -> FileError {
+        match failure {
+            Failure::File(error) => error,
+            other => panic!("{other:?}"),
+        }
+    }
+
+    #[test]
+    fn those_who_wait_are_told_of_a_failure() {
+        let scratch = Scratch::new("durable-failed");
+        let durable = durable(&scratch);
+        let waited = waiting(&durable, 1);
+        fail(&durable);
+        let (one, other) = waited.recv_timeout(LONG / 2).expect("they are woken");
+        let failures = [one.unwrap_err(), other.unwrap_err()].map(of_file);
+        let is_failed = |error: &FileError| matches!(error, FileError::JournalFailed { .. });
+        assert!(failures.iter().all(is_failed));
+        assert!(durable.wait_published(LIVE, Version(1)).is_err());
+        durable.wait_published(LIVE, Version(0)).unwrap(); // it is shown
+    }
+
+    #[test]
+    fn those_who_wait_are_told_that_the_folder_is_closed() {
+        let scratch = Scratch::new("durable-closed");
+        let durable = durable(&scratch);
+        let waited = waiting(&durable, 1);
+        durable.close().unwrap();
+        let (one, other) = waited.recv_timeout(LONG / 2).expect("they are woken");
+        let failures = [one.unwrap_err(), other.unwrap_err()].map(of_file);
+        let is_closed = |error: &FileError| matches!(error, FileError::Closed);
+        assert!(failures.iter().all(is_closed));
+        durable.close().unwrap(); // once more
+        durable.sync().unwrap(); // all is
+    }
+
+    /// Also where the folder is opened anew again and again, and one begins to wait just then.
+    #[test]
+    fn those_who_wait_wait_on_while_the_folder_is_opened_anew() {
+        let scratch = Scratch::new("durable-anew");
+        let durable = durable(&scratch);
+        let (waited, ended) = (waiting(&durable, 2), AtomicBool::new(false));
+        let wait = || durable.wait_published_for(LIVE, Version(2), Duration::ZERO);
+        thread::scope(|threads| {
+            let looking = threads.spawn(|| {
+                while !ended.load(SeqCst) {
+                    assert!(!wait().expect("the folder is not closed"));
+                }
+            });
+            for _ in 0..200 {
+                durable.reopen().unwrap();
+            }
+            ended.store(true, SeqCst);
+            looking.join().unwrap();
+        });
+        durable.append_pages(LIVE, &[&[1; 16]]).unwrap();
+        durable.reopen().unwrap();
+        assert!(waited.try_recv().is_err());
+        durable.append_pages(LIVE, &[&[2; 16]]).unwrap();
+        let (one, other) = waited.recv_timeout(LONG / 2).expect("they are woken");
+        assert!(one.is_ok() && other.unwrap());
+    }
+
+    #[test]
+    fn a_folder_whose_journal_has_failed_is_taken_up_again() {
+        let scratch = Scratch::new("durable-again");
+        let durable = durable(&scratch);
+        durable.append_pages(LIVE, &[&[1; 16]]).unwrap();
+        let before = durable.to_store();
+        let ticket = {
+            // a call that is made, and cannot be kept
+            let mut writer = durable.writer().unwrap();
+            let ticket = writer.begin(1).unwrap();
+            fail(&durable);
+            assert!(writer.commit().is_err());
+            ticket
+        };
+        assert!(durable.to_store() != before);
+        assert!(matches!(
+            of_file(durable.close().unwrap_err()),
+            FileError::JournalFailed { .. }
+        ));
+        durable.reopen().unwrap();
+        assert!(durable.to_store() == before);
+        assert!(durable
+            .put(ticket, 0, &[2; 16])
+            .unwrap_err()
+            .error()
+            .is_some());
+        let done = durable.update(LIVE, PageIndex(0), &[&[2; 16]]).unwrap();
+        assert_eq!(done, Version(2));
+        durable.wait_published(LIVE, done).unwrap();
+        durable.checkpoint().unwrap();
+        durable.close().unwrap();
+    }
+
+    /// An entry that a journal did not keep is not taken for kept by the number of one that the next journal has.
+    #[test]
+    fn an_entry_is_kept_by_its_own_journal() {
+        let scratch = Scratch::new("durable-own");
+        let durable = durable(&scratch);
+        let journal = durable.log.journal();
+        let number = durable.log.take(&journal, &Call::Begin { n: 1 });
+        fail(&durable);
+        durable.reopen().unwrap();
+        durable.append_pages(LIVE, &[&[1; 16]]).unwrap();
+        assert!(durable.entries().1 >= number);
+        assert!(durable.log.keep(&journal, number, true).is_err());
+    }
+
+    /// A save goes by the journal of the store that is saved: not by one that took its place since.
+    #[test]
+    fn nothing_is_saved_that_the_folder_does_not_have() {
+        let scratch = Scratch::new("durable-unsaved");
+        let durable = durable(&scratch);
+        let mut writer = durable.writer().unwrap();
+        writer.begin(1).unwrap();
+        fail(&durable);
+        assert!(writer.commit().is_err());
+        let file = scratch.0.join("file");
+        assert!(durable.save(&file).is_err() && !file.exists());
+        durable.reopen().unwrap();
+        durable.save(&file).unwrap();
+    }
 }

@@ -102,7 +102,7 @@ pub enum FileError {
         error: io::Error,
     },
     /// A journal could not be written or synced: what returned before that is kept, and no call that changes the store is
-    /// made any more. To go on, the folder is opened anew.
+    /// made any more. To go on, the folder is opened anew, by [`Durable::reopen`](crate::Durable::reopen) under its running callers.
     JournalFailed {
         /// The first error's kind.
         kind: io::ErrorKind,

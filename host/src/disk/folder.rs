@@ -84,8 +84,8 @@ pub struct Folder {
     /// Another one, where the folder was opened anew.
     journal: RwLock<Arc<Journal>>,
     generations: Mutex<Generations>,
-    /// Given back last.
-    lock: FolderLock,
+    /// Given back last; none while the folder is left.
+    lock: Mutex<Option<FolderLock>>,
 }
 
 /// Which saved store a folder is opened from, and which journal is written.
@@ -193,8 +193,12 @@ impl Folder {
             options,
             journal: RwLock::new(Arc::new(journal)),
             generations: Mutex::new(generations),
-            lock,
+            lock: Mutex::new(Some(lock)),
         }
+    }
+
+    fn lock(&self) -> MutexGuard<'_, Option<FolderLock>> {
+        self.lock.lock().unwrap_or_else(PoisonError::into_inner)
     }
 
     fn generations(&self) -> MutexGuard<'_, Generations> {
@@ -218,9 +222,10 @@ impl Folder {
 
     /// Checks that the folder is still where it was: what is there now may be another's.
     fn check_place(&self) -> Result<(), FileError> {
-        match self.lock.is_at(&self.path)? {
-            true => Ok(()),
-            false => Err(FileError::FolderMoved),
+        match &*self.lock() {
+            None => Err(FileError::Closed),
+            Some(lock) if lock.is_at(&self.path)? => Ok(()),
+            Some(_) => Err(FileError::FolderMoved),
         }
     }
 
@@ -297,6 +302,11 @@ impl Folder {
         self.generations().now.journal
     }
 
+    /// Whether checkpoints are made by themselves.
+    pub(crate) fn makes_checkpoints(&self) -> bool {
+        self.options.checkpoint_at != 0
+    }
+
     /// Whether the journal is as long as it should get.
     pub(crate) fn is_due(&self) -> bool {
         self.is_due_after(0)
@@ -335,10 +345,33 @@ impl Folder {
         }
     }
 
-    /// Opens the folder anew, as [`open`](Folder::open) does, with the lock still held: after a failure of the journal, or when it was
-    /// closed. The journal that there was writes no more. After an error all is as it was, and this can be called again. Nobody makes a
-    /// checkpoint meanwhile.
+    /// The same, and gives the lock back, whatever came of it: another process may open the folder then. Where that was done already,
+    /// gives what came of it then. Nobody makes a checkpoint meanwhile.
+    pub(crate) fn leave(&self) -> Result<(), FileError> {
+        if self.lock().is_none() {
+            return self.journal().close().map(drop);
+        }
+        let closed = self.close();
+        drop(self.lock().take());
+        closed
+    }
+
+    /// Opens the folder anew, as [`open`](Folder::open) does, with the lock still held, or taken again where the folder was left: after a
+    /// failure of the journal, or when it was closed. The journal that there was writes no more. After an error all is as it was, and this
+    /// can be called again. Nobody makes a checkpoint meanwhile.
     pub(crate) fn reopen(&self) -> Result<(Store, Numbering, Opened), FileError> {
+        let was_left = self.lock().is_none();
+        if was_left {
+            *self.lock() = Some(FolderLock::of(&self.path, self.options.file_mode())?);
+        }
+        let reopened = self.reopen_locked();
+        if was_left && reopened.is_err() {
+            drop(self.lock().take());
+        }
+        reopened
+    }
+
+    fn reopen_locked(&self) -> Result<(Store, Numbering, Opened), FileError> {
         self.check_place()?;
         let _ = self.journal().close(); // what failed, failed before
         let (found, opened) = open::read(&self.path, self.options)?;

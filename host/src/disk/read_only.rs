@@ -68,30 +68,38 @@ impl Reader {
 impl Log for ReadOnly {
     type Failure = Failure;
     type WindowsFailure = Failure;
+    type Journal = ();
 
     const AT_ONCE: bool = true;
 
-    fn ready(&self) -> Result<(), Failure> {
+    fn journal(&self) {}
+
+    fn ready(&self, _: &()) -> Result<(), Failure> {
         Err(FileError::ReadOnly.into())
     }
 
-    fn take(&self, _: &Call<'_>) -> u64 {
+    fn take(&self, _: &(), _: &Call<'_>) -> u64 {
         0
     }
 
-    fn last(&self) -> u64 {
+    fn last(&self, _: &()) -> u64 {
         0
     }
 
-    fn keep(&self, _: u64, _: bool) -> Result<(), Failure> {
+    fn keep(&self, _: &(), _: u64, _: bool) -> Result<(), Failure> {
         Ok(())
     }
 
-    fn settle(&self) -> Result<(), FileError> {
+    /// Nothing new is ever shown: a version that is not there is not waited for.
+    fn check_awaited(&self) -> Result<(), Failure> {
+        self.ready(&())
+    }
+
+    fn settle(&self, _: &()) -> Result<(), FileError> {
         Ok(())
     }
 
     fn replace(&self, _: &Image) -> Result<(), Failure> {
-        self.ready()
+        self.ready(&())
     }
 }

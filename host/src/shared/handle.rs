@@ -228,8 +228,11 @@ impl<L: Log> Handle<L> {
     /// an older one.
     pub fn save(&self, path: impl AsRef<Path>) -> Result<Version, FileError> {
         let _alone = self.core.saving();
-        let image = self.core.image();
-        self.log.settle()?;
+        let (image, journal) = {
+            let _writer = self.core.writer_lock(); // so that the one is of the other, also where a folder is opened anew
+            (self.core.image(), self.log.journal())
+        };
+        self.log.settle(&journal)?;
         image.save(path.as_ref())
     }
 }

@@ -97,7 +97,7 @@ impl<L: Log> Handle<L> {
     ) -> Result<Rebuilt, L::Failure> {
         let _alone = self.core.keeping();
         let writer = self.core.writer_lock();
-        self.log.ready()?;
+        self.log.ready(&self.log.journal())?;
         let (instance, rebuilt) = {
             let old = self.core.reading(); // no writer waits for it: none has the lock
             let mut rebuild = Rebuild::new(&old, limits)?;

@@ -153,14 +153,25 @@ impl<L: Log> Handle<L> {
 
     /// Waits until a version is published on a line, for readers to see. One that nobody ever completes, or publishes after a window has
     /// ended, is waited for for ever.
-    pub fn wait_published(&self, line: Line, version: Version) {
-        self.core.visible.wait(line, version, None);
+    ///
+    /// Of a store in a folder it ends with the journal's failure, at once, where that comes before the version; and with
+    /// [`FileError::Closed`](crate::FileError) where the folder is closed. A store in memory refuses nothing.
+    pub fn wait_published(&self, line: Line, version: Version) -> Result<(), L::Failure> {
+        let check = || self.log.check_awaited();
+        let waited = self.core.visible.wait(line, version, None, check);
+        waited.map(drop)
     }
 
     /// The same for at most so long; tells whether the version is published.
-    pub fn wait_published_for(&self, line: Line, version: Version, most: Duration) -> bool {
+    pub fn wait_published_for(
+        &self,
+        line: Line,
+        version: Version,
+        most: Duration,
+    ) -> Result<bool, L::Failure> {
         let until = Instant::now().checked_add(most);
-        self.core.visible.wait(line, version, until)
+        let check = || self.log.check_awaited();
+        self.core.visible.wait(line, version, until, check)
     }
 }
 

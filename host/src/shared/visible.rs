@@ -60,15 +60,23 @@ impl Visible {
         }
     }
 
-    /// Waits until readers may see a version of a line, or the time has come; tells whether they may.
-    pub fn wait(&self, line: Line, version: Version, until: Option<Instant>) -> bool {
+    /// Waits until readers may see a version of a line, or the time has come; tells whether they may. Where they may not, it ends with the
+    /// error of `check`, which is asked before each wait, with no lock held but this one's own.
+    pub fn wait<E>(
+        &self,
+        line: Line,
+        version: Version,
+        until: Option<Instant>,
+        check: impl Fn() -> Result<(), E>,
+    ) -> Result<bool, E> {
         let is_seen = || self.last(line).map_or(false, |last| last >= version);
         if is_seen() {
-            return true;
+            return Ok(true);
         }
         self.waiting.fetch_add(1, SeqCst);
         let mut lock = self.lock.lock().unwrap_or_else(PoisonError::into_inner);
-        while !is_seen() {
+        let mut checked = check();
+        while checked.is_ok() && !is_seen() {
             lock = match until.map(|until| until.saturating_duration_since(Instant::now())) {
                 None => {
                     let woken = self.raised.wait(lock);
@@ -80,10 +88,22 @@ impl Visible {
                     woken.unwrap_or_else(PoisonError::into_inner).0
                 }
             };
+            checked = check();
         }
-        drop(lock);
         self.waiting.fetch_sub(1, SeqCst);
-        is_seen()
+        match is_seen() {
+            true => Ok(true),
+            false => checked.map(|()| false),
+        }
+    }
+}
+
+#[cfg(test)]
+impl Visible {
+    /// How many threads wait for a version.
+    pub fn waiting(&self) -> usize {
+        let _lock = self.lock.lock().unwrap_or_else(PoisonError::into_inner); // they have given it back: they wait
+        self.waiting.load(SeqCst)
     }
 }
 

@@ -17,6 +17,8 @@ pub struct Writer<'a, L: Log> {
     // given back before the lock of the writers
     instance: RwLockWriteGuard<'a, Instance>,
     writer: MutexGuard<'a, ()>,
+    /// What the entries go to, to the end: also where another journal takes its place before they are kept.
+    journal: L::Journal,
     /// The time of all calls on tickets: the clock is looked at once, since each look takes as long as a short call.
     now: Option<Instant>,
     /// The last entry, where there is one.
@@ -29,7 +31,7 @@ pub struct Writer<'a, L: Log> {
 
 impl<L: Log> Writer<'_, L> {
     fn took(&mut self, call: &Call<'_>) {
-        self.last = Some(self.handle.log.take(call));
+        self.last = Some(self.handle.log.take(&self.journal, call));
     }
 
     /// The same of a call on a ticket.
@@ -144,7 +146,7 @@ impl<L: Log> Writer<'_, L> {
     /// The same of a version that another writer may have published, and not yet shown: this one ends only when all that was taken
     /// before it is kept too.
     pub fn show_others(&mut self, line: Line, version: Version) {
-        self.last = Some(self.handle.log.last());
+        self.last = Some(self.handle.log.last(&self.journal));
         self.show(line, version);
     }
 
@@ -154,6 +156,7 @@ impl<L: Log> Writer<'_, L> {
             handle,
             instance,
             writer,
+            journal,
             last,
             shown,
             relied_on,
@@ -169,7 +172,7 @@ impl<L: Log> Writer<'_, L> {
         }
         drop((instance, writer));
         if let (false, Some(last)) = (L::AT_ONCE, last) {
-            handle.log.keep(last, relied_on)?;
+            handle.log.keep(&journal, last, relied_on)?;
             show();
         }
         if !shown.is_empty() {
@@ -182,11 +185,13 @@ impl<L: Log> Writer<'_, L> {
 impl<L: Log> Handle<L> {
     pub(crate) fn writer(&self) -> Result<Writer<'_, L>, L::Failure> {
         let writer = self.core.writer_lock();
-        self.log.ready()?;
+        let journal = self.log.journal();
+        self.log.ready(&journal)?;
         Ok(Writer {
             handle: self,
             instance: self.core.writing(),
             writer,
+            journal,
             now: None,
             last: None,
             shown: Vec::new(),

@@ -182,7 +182,8 @@ fn tell(durable: &Durable, fact: Fact) {
 /// A reader's look at line 0, told where there is something new. Also waits a little, for that.
 fn look(durable: &Durable, seen: Version) -> Version {
     let next = Version(seen.0 + 1);
-    durable.wait_published_for(Line(0), next, std::time::Duration::from_millis(2));
+    let waited = durable.wait_published_for(Line(0), next, std::time::Duration::from_millis(2));
+    waited.unwrap();
     let recent = durable.recent(Line(0)).unwrap();
     if recent > seen {
         tell(durable, Fact::Published(0, recent.0));

@@ -132,6 +132,11 @@ impl Output {
         self.begin_file()
     }
 
+    /// After a write that failed: takes away what it may have left. No call has returned by any of it.
+    pub fn cut_unkept(&mut self) -> io::Result<()> {
+        self.file.set_len(self.length)
+    }
+
     /// Takes away what was written ahead.
     pub fn trim(&mut self) -> io::Result<()> {
         if self.end > self.length {

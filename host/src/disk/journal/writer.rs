@@ -43,7 +43,12 @@ struct Shared {
     unsynced: Condvar,
     /// The bytes of the file so far.
     length: AtomicU64,
+    /// Called, with no lock that is held for moments, when something has failed.
+    on_failure: Mutex<Option<OnFailure>>,
 }
+
+/// What is to be done when a journal has failed.
+pub type OnFailure = Arc<dyn Fn() + Send + Sync>;
 
 /// The lock, poisoned or not: what it guards is whole at every moment.
 fn hold<T>(mutex: &Mutex<T>) -> MutexGuard<'_, T> {
@@ -75,6 +80,7 @@ impl Journal {
             taken: Mutex::new(taken),
             synced: Condvar::new(),
             unsynced: Condvar::new(),
+            on_failure: Mutex::new(None),
         });
         let syncer = match policy {
             SyncAt::Every(wait) => Some(syncer(Arc::clone(&shared), wait)?),
@@ -96,6 +102,20 @@ impl Journal {
     pub fn fail(&self, error: &io::Error) {
         hold(&self.shared.progress).fail(error);
         self.shared.synced.notify_all();
+        self.shared.tell_failure();
+    }
+
+    /// Has this called whenever a write or sync has failed; at once, where one has already.
+    pub fn on_failure(&self, call: OnFailure) {
+        *hold(&self.shared.on_failure) = Some(call);
+        if self.failure().is_err() {
+            self.shared.tell_failure();
+        }
+    }
+
+    /// The failure, where there is one. One that was closed has none by that.
+    pub fn failure(&self) -> Result<(), FileError> {
+        hold(&self.shared.progress).check()
     }
 
     /// Takes an entry into memory, and gives its number.
@@ -216,6 +236,7 @@ impl Shared {
                 progress.fail(&error);
                 let (failed, file) = (progress.check(), Arc::clone(&progress.file));
                 drop(progress);
+                self.tell_failure();
                 let _ = file.sync_data(); // nobody will do it later for what was written before
                 failed
             }
@@ -257,8 +278,9 @@ impl Shared {
         let result = file.sync_data();
         hold(&self.progress).end_sync(written, &result);
         self.synced.notify_all();
-        if result.is_ok() {
-            self.note_synced(written);
+        match result {
+            Ok(()) => self.note_synced(written),
+            Err(_) => self.tell_failure(),
         }
     }
 
@@ -269,6 +291,7 @@ impl Shared {
         }
         if let Err(error) = output.note_synced(number) {
             hold(&self.progress).fail(&error);
+            self.tell_failure();
         }
         self.length.store(output.length, Ordering::Relaxed);
     }
@@ -291,6 +314,9 @@ impl Shared {
             let mut progress = hold(&self.progress);
             (mem::replace(&mut progress.closed, true), progress.written)
         };
+        if !was_closed && hold(&self.progress).check().is_err() {
+            let _ = output.cut_unkept(); // what is left does no harm
+        }
         synced?;
         if !was_closed {
             self.end(&mut output, written)?;
@@ -306,7 +332,18 @@ impl Shared {
         let result = trimmed.and_then(|()| output.file.sync_data());
         hold(&self.progress).end_sync(written, &result);
         self.synced.notify_all();
+        if result.is_err() {
+            self.tell_failure();
+        }
         hold(&self.progress).check()
+    }
+
+    /// Called after a failure is noted, without `progress`.
+    fn tell_failure(&self) {
+        let call = hold(&self.on_failure).clone();
+        if let Some(call) = call {
+            call();
+        }
     }
 }
 

@@ -7,6 +7,7 @@ use crate::disk::journal::header::Header;
 use crate::disk::journal::output::Output;
 use crate::disk::journal::{Call, Journal, Replayed, SyncAt};
 use std::fs::{self, File, OpenOptions};
+use std::io::ErrorKind;
 use std::path::Path;
 use std::sync::atomic::{AtomicBool, Ordering};
 use std::sync::Arc;
@@ -350,4 +351,64 @@ fn all_that_wait_for_a_sync_are_told_that_it_failed() {
             refused(thread.join().unwrap());
         }
     });
+}
+
+/// By a write, by the sync that somebody waits for, by that in the background and by the last; and where it has failed before.
+#[test]
+fn whoever_watches_is_told_of_a_failure() {
+    let told = Arc::new(AtomicBool::new(false));
+    let watch = |journal: &Journal| {
+        let told = Arc::clone(&told);
+        told.store(false, Ordering::SeqCst);
+        journal.on_failure(Arc::new(move || told.store(true, Ordering::SeqCst)));
+    };
+    let is_told = || told.load(Ordering::SeqCst);
+    let scratch = Scratch::new("watched");
+    let path = scratch.file("journal");
+    drop(begin(&path, SyncAt::EachCall));
+    let file = File::open(&path).unwrap();
+    let unwritten = Journal::resume(file, &found(&path, 40), LATER).unwrap();
+    watch(&unwritten);
+    assert!(!is_told());
+    refused(unwritten.keep(unwritten.take(&call(1)), false));
+    assert!(is_told());
+    watch(&unwritten);
+    assert!(is_told());
+
+    let unsynced = never_synced(SyncAt::EachCall);
+    watch(&unsynced);
+    refused(unsynced.keep(unsynced.take(&call(1)), false));
+    assert!(is_told());
+
+    let background = never_synced(SyncAt::Every(Duration::ZERO));
+    watch(&background);
+    background.keep(background.take(&call(1)), false).unwrap();
+    while !is_told() {
+        thread::yield_now();
+    }
+
+    let last = never_synced(LATER);
+    watch(&last);
+    last.keep(last.take(&call(1)), false).unwrap();
+    assert!(!is_told());
+    refused(last.close().map(drop));
+    assert!(is_told());
+}
+
+/// A write of which a part got to the file: when the journal is closed, nothing is left of it.
+#[test]
+fn what_a_failed_write_has_left_is_cut_off() {
+    let scratch = Scratch::new("unkept");
+    let path = scratch.file("journal");
+    let journal = begin(&path, SyncAt::EachCall);
+    journal.keep(journal.take(&call(1)), false).unwrap();
+    let length = journal.length();
+    journal.fail(&ErrorKind::Other.into());
+    let mut bytes = fs::read(&path).unwrap();
+    let entries = bytes[64..length as usize].to_vec();
+    bytes.truncate(length as usize);
+    bytes.extend(entries); // as if it had got so far
+    fs::write(&path, bytes).unwrap();
+    refused(journal.close().map(drop));
+    assert_eq!(fs::metadata(&path).unwrap().len(), length);
 }
