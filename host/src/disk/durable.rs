@@ -25,7 +25,8 @@ use std::thread::{self, JoinHandle};
 /// after its PUBLISH is kept: what they have seen is not gone after a crash, nor, but by [`SyncAt::Every`](crate::SyncAt), after a power cut.
 ///
 /// The journal is followed by another, and the store saved anew, when it has reached the size in the [`Options`]. One process at a time
-/// has a folder open, until it ends, [closes](Durable::close) it or drops the last handle.
+/// has a folder open, until it ends, [closes](Durable::close) it or drops the last handle. A process that is forked off it has none of it: calls
+/// that change the store are refused there with [`FileError::OtherProcess`](crate::FileError), and dropping a handle does nothing to the folder.
 ///
 /// After the first write or sync of the journal that fails, no call that changes the store is made any more, and those who
 /// [wait](Handle::wait_published) for a version are told. [`reopen`](Durable::reopen) takes the folder up again.
@@ -58,6 +59,8 @@ pub struct InFolder {
     checkpointer: Option<JoinHandle<()>>,
     /// The folder is being opened anew: those who wait for a version wait for that too.
     reopening: AtomicBool,
+    /// The process that opened it. One that is forked off has none of its threads.
+    process: u32,
 }
 
 impl Durable {
@@ -141,6 +144,7 @@ impl Durable {
             checkpoints,
             checkpointer: Some(checkpointer),
             reopening: AtomicBool::new(false),
+            process: std::process::id(),
         };
         log.watch(&core);
         Ok(Handle {
@@ -181,6 +185,7 @@ impl Durable {
     /// # }
     /// ```
     pub fn reopen(&self) -> Result<Opened, Failure> {
+        self.log.check_process()?;
         let _alone = self.core.keeping();
         let writer = self.core.writer_lock();
         self.log.reopening.store(true, SeqCst);
@@ -204,6 +209,7 @@ impl Durable {
     /// Dropping the last handle does the same. This says what came of it: the error of the last sync, or the failure that the journal had
     /// before. The folder is closed then too. To close it twice does no harm.
     pub fn close(&self) -> Result<(), Failure> {
+        self.log.check_process()?;
         let _alone = self.core.keeping();
         let writer = self.core.writer_lock();
         let closed = self.log.folder.leave();
@@ -216,6 +222,7 @@ impl Durable {
     /// the saving: only for two short syncs, of the end of the one journal and the beginning of the next. At every byte of it the folder opens
     /// to the same store. Gives the last published version of line 0 in it.
     pub fn checkpoint(&self) -> Result<Version, Failure> {
+        self.log.check_process()?;
         let _alone = self.core.keeping();
         let version = checkpoint(&self.core, &self.log.folder)?;
         self.log.checkpoints.succeeded();
@@ -230,6 +237,7 @@ impl Durable {
 
     /// Returns when all calls that have returned are synced to the disk.
     pub fn sync(&self) -> Result<(), Failure> {
+        self.log.check_process()?;
         Ok(self.log.folder.journal().sync()?)
     }
 
@@ -252,6 +260,13 @@ impl Durable {
 }
 
 impl InFolder {
+    fn check_is_opener(&self) -> Result<(), FileError> {
+        match self.process == std::process::id() {
+            true => Ok(()),
+            false => Err(FileError::OtherProcess),
+        }
+    }
+
     /// Those who wait for a version are woken when the journal fails; now too, where it has failed.
     fn watch(&self, core: &Arc<Core>) {
         let core = Arc::clone(core);
@@ -274,6 +289,10 @@ impl Log for InFolder {
     type Journal = Arc<Journal>;
 
     const AT_ONCE: bool = false;
+
+    fn check_process(&self) -> Result<(), Failure> {
+        Ok(self.check_is_opener()?)
+    }
 
     fn journal(&self) -> Arc<Journal> {
         self.folder.journal()
@@ -301,6 +320,7 @@ impl Log for InFolder {
 
     /// A journal that is closed to be opened anew is no reason to end, and is followed by another before `reopening` is taken back.
     fn check_awaited(&self) -> Result<(), Failure> {
+        self.check_process()?;
         loop {
             let journal = self.folder.journal();
             let ready = journal.ready();
@@ -314,6 +334,7 @@ impl Log for InFolder {
     }
 
     fn settle(&self, journal: &Arc<Journal>) -> Result<(), FileError> {
+        self.check_is_opener()?;
         journal.sync()
     }
 
@@ -334,9 +355,14 @@ impl Log for InFolder {
     }
 }
 
-/// The thread that makes checkpoints ends before the folder is closed.
+/// The thread that makes checkpoints ends before the folder is closed. In a process that was forked off there is no such thread, and
+/// its folder, which the thread has too, is never dropped.
 impl Drop for InFolder {
     fn drop(&mut self) {
+        if self.check_is_opener().is_err() {
+            mem::forget(self.checkpointer.take());
+            return;
+        }
         self.checkpoints.hold().closing = true;
         self.checkpoints.asked.notify_all();
         if let Some(checkpointer) = self.checkpointer.take() {

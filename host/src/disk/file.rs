@@ -43,7 +43,7 @@ pub(crate) use taken::{put_pages, Taken};
 ///         Io { .. } | Foreign | Truncated { .. } | TooLong { .. } | Checksum => false,
 ///         Form(_) | Limits(_) | AreaLengths | Counters | Windows | Numbers | Rebuilt => true,
 ///         Journal(_) | JournalIo { .. } | JournalFailed { .. } | NoJournal(_) => false,
-///         Closed => false,
+///         Closed | OtherProcess => false,
 ///         Folder { .. } | FolderMoved | NoStore | StoreThere | InUse { .. } | Saved { .. } => false,
 ///         ReadOnly => true,
 ///     }
@@ -113,6 +113,8 @@ pub enum FileError {
     NoJournal(u64),
     /// The folder was closed, and takes no more calls that change the store.
     Closed,
+    /// The folder was opened by another process, from which this one was forked: it is that one's.
+    OtherProcess,
     /// The system could not make, open or lock the folder, or list what is in it.
     Folder {
         /// The folder.
@@ -192,6 +194,9 @@ impl fmt::Display for FileError {
             }
             NoJournal(generation) => write!(f, "journal-{generation} is not in the folder"),
             Closed => f.write_str("the folder was closed"),
+            OtherProcess => {
+                f.write_str("the folder was opened by the process from which this one was forked")
+            }
             JournalIo { generation, error } => {
                 write!(f, "journal-{generation} could not be opened, read or written: {error}")
             }

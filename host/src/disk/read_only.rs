@@ -72,6 +72,11 @@ impl Log for ReadOnly {
 
     const AT_ONCE: bool = true;
 
+    /// A forked process reads what its parent does, and nothing is changed.
+    fn check_process(&self) -> Result<(), Failure> {
+        Ok(())
+    }
+
     fn journal(&self) {}
 
     fn ready(&self, _: &()) -> Result<(), Failure> {

@@ -57,6 +57,11 @@ pub trait Log: Send + Sync + 'static {
     #[doc(hidden)]
     const AT_ONCE: bool;
 
+    /// Refuses a process that was forked off the one that opened it; asked before any lock is taken, since one that another thread held
+    /// is held there for ever.
+    #[doc(hidden)]
+    fn check_process(&self) -> Result<(), Self::Failure>;
+
     /// The journal as it is now; asked under the lock of the writers.
     #[doc(hidden)]
     fn journal(&self) -> Self::Journal;
@@ -107,6 +112,11 @@ impl Log for Memory {
     type Journal = ();
 
     const AT_ONCE: bool = true;
+
+    #[inline]
+    fn check_process(&self) -> Result<(), Error> {
+        Ok(())
+    }
 
     #[inline]
     fn journal(&self) {}

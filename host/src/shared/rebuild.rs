@@ -95,6 +95,7 @@ impl<L: Log> Handle<L> {
         tickets: &[Ticket],
         idle: Duration,
     ) -> Result<Rebuilt, L::Failure> {
+        self.log.check_process()?;
         let _alone = self.core.keeping();
         let writer = self.core.writer_lock();
         self.log.ready(&self.log.journal())?;

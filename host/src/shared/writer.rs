@@ -184,6 +184,7 @@ impl<L: Log> Writer<'_, L> {
 
 impl<L: Log> Handle<L> {
     pub(crate) fn writer(&self) -> Result<Writer<'_, L>, L::Failure> {
+        self.log.check_process()?;
         let writer = self.core.writer_lock();
         let journal = self.log.journal();
         self.log.ready(&journal)?;

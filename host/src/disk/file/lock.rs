@@ -47,6 +47,7 @@ impl Held {
     }
 }
 
+/// A process that was forked off has the same open file: there the lock is not given back, since it is the other process's.
 impl Drop for Held {
     fn drop(&mut self) {
         if self.process == std::process::id() {
@@ -74,5 +75,23 @@ mod tests {
         drop(held);
         assert!(try_hold(&other).unwrap());
         drop(copy);
+    }
+
+    /// A process that was forked off has a copy of what says so.
+    #[test]
+    fn a_lock_that_is_another_processs_is_not_given_back() {
+        let folder = Folder::new("lock-of-another");
+        let path = folder.0.join("lock");
+        let held = Held::new(File::create(&path).unwrap());
+        assert!(try_hold(&held.file).unwrap());
+        let forked = Held {
+            file: held.file.try_clone().unwrap(),
+            process: held.process + 1,
+        };
+        let other = File::open(&path).unwrap();
+        drop(forked);
+        assert!(!try_hold(&other).unwrap());
+        drop(held);
+        assert!(try_hold(&other).unwrap());
     }
 }

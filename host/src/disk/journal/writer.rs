@@ -193,6 +193,8 @@ impl Journal {
 impl Drop for Journal {
     fn drop(&mut self) {
         let _ = self.close(); // nobody is left to be told; after a failure all stays as it is
+        let syncer = self.syncer.get_mut();
+        mem::forget(syncer.unwrap_or_else(PoisonError::into_inner).take()); // in another process there is no such thread
     }
 }
 
