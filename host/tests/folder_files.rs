@@ -4,8 +4,8 @@ mod folder;
 
 use folder::Folder;
 use pit_host::{
-    inspect, Durable, Failure, FileError, Limits, Line, Minute, OpenBy, Options, PageIndex, Reader,
-    Shared, Store, Ticket, Version,
+    inspect, ByteOffset, Durable, Failure, FileError, Limits, Line, Minute, OpenBy, Options,
+    PageIndex, Reader, Shared, Store, Ticket, Version,
 };
 use std::collections::BTreeMap;
 use std::fs::{self, Permissions};
@@ -14,7 +14,7 @@ use std::path::{Path, PathBuf};
 use std::process::{Command, Stdio};
 use std::sync::mpsc;
 use std::thread;
-use std::time::{Duration, SystemTime};
+use std::time::Duration;
 
 const LIVE: Line = Line(0);
 
@@ -25,12 +25,17 @@ fn store() -> Store {
 /// A place for folders; and one in it with a store of two versions.
 fn made(name: &str, options: Options) -> (Folder, PathBuf, Durable) {
     let place = Folder::new(&format!("folder-files-{name}"));
-    let path = place.path("folder");
+    let path = fs::canonicalize(&place.0).unwrap().join("folder");
     let durable = Durable::create(&path, store(), options).unwrap();
+    fill(&durable);
+    (place, path, durable)
+}
+
+/// Makes two versions.
+fn fill(durable: &Durable) {
     durable.set_clock(|| Minute(0));
     durable.append_pages(LIVE, &[&[1; 16], &[2; 16]]).unwrap();
     durable.update(LIVE, PageIndex(1), &[&[3; 16]]).unwrap();
-    (place, path, durable)
 }
 
 fn open(path: &Path) -> Result<Durable, Failure> {
@@ -185,9 +190,10 @@ fn the_next_journal_is_a_new_file() {
     for there in [&[7; 65][..], &[7; 1_000]] {
         fs::write(&next, there).unwrap();
         let refused = durable.checkpoint().unwrap_err();
-        assert!(
-            matches!(&refused, Failure::File(FileError::Io { path, .. }) if path.ends_with("journal-2"))
-        );
+        match refused {
+            Failure::File(FileError::Io { path, .. }) => assert_eq!(path, next),
+            other => panic!("{other}"),
+        }
         assert_eq!(fs::read(&next).unwrap(), there);
     }
     fs::write(&next, [7; 64]).unwrap();
@@ -235,6 +241,14 @@ fn looks(path: &Path) -> [Option<String>; 3] {
     ]
 }
 
+/// What the tool says is wrong with a folder.
+fn tool_fails(command: &str, folder: &Path) -> String {
+    let mut tool = Command::new(env!("CARGO_BIN_EXE_pit"));
+    let answer = tool.arg(command).arg(folder).output().unwrap();
+    assert_eq!(answer.status.code(), Some(1));
+    String::from_utf8(answer.stderr).unwrap()
+}
+
 #[test]
 fn a_pipe_is_not_waited_for() {
     let (place, path, durable) = made("pipes", Options::new());
@@ -257,13 +271,7 @@ fn a_pipe_is_not_waited_for() {
         assert_eq!(inspected.as_ref(), Some(&words));
         assert_eq!(read, Some(words.clone()).filter(|_| name != "lock"));
         for command in ["info", "verify"] {
-            let tool = Command::new(env!("CARGO_BIN_EXE_pit"))
-                .arg(command)
-                .arg(&path)
-                .output();
-            let tool = tool.unwrap();
-            assert_eq!(tool.status.code(), Some(1));
-            let told = String::from_utf8(tool.stderr).unwrap();
+            let told = tool_fails(command, &path);
             assert!(told.ends_with(&format!("{words}\n")), "{told}");
             assert_eq!(told.matches(path.to_str().unwrap()).count(), 1, "{told}");
         }
@@ -405,23 +413,20 @@ fn an_old_lock_is_closed_to_others_and_the_next_generation_too() {
 
 // Reading alone.
 
-/// Everything of a folder that a look could change: names, bytes, modes and times.
-type Whole = BTreeMap<PathBuf, (Vec<u8>, u32, SystemTime, i64)>;
+/// Everything of a folder that a look could change: names, bytes, modes, and when a file and what is known of it last changed.
+type Whole = BTreeMap<PathBuf, (Vec<u8>, u32, [i64; 4])>;
 
 fn whole(folder: &Path) -> Whole {
     let of = |path: PathBuf| {
         let found = fs::metadata(&path).unwrap();
+        let written = [found.mtime(), found.mtime_nsec()];
+        let times = [written[0], written[1], found.ctime(), found.ctime_nsec()];
         let bytes = fs::read(&path).unwrap_or_default(); // none of the folder itself
-        let times = (found.modified().unwrap(), found.ctime_nsec());
-        (path, (bytes, mode_of(&found), times.0, times.1))
+        (path, (bytes, found.mode(), times))
     };
     let entries = fs::read_dir(folder).unwrap();
     let paths = entries.map(|entry| entry.unwrap().path());
     paths.chain([folder.to_path_buf()]).map(of).collect()
-}
-
-fn mode_of(found: &fs::Metadata) -> u32 {
-    found.permissions().mode()
 }
 
 /// All calls that would change the store.
@@ -456,7 +461,7 @@ fn read_alone(path: &Path, place: &Folder) -> (Version, Vec<u8>) {
     let last = reader.recent(LIVE).unwrap();
     let snapshot = reader.snapshot(LIVE, last).unwrap();
     let mut bytes = vec![0; snapshot.size() as usize];
-    snapshot.read(pit_host::ByteOffset(0), &mut bytes).unwrap();
+    snapshot.read(ByteOffset(0), &mut bytes).unwrap();
 
     assert_eq!(reader.save(place.path("saved")).unwrap(), last);
     let saved = Shared::load(place.path("saved")).unwrap();
@@ -468,20 +473,15 @@ fn read_alone(path: &Path, place: &Folder) -> (Version, Vec<u8>) {
     (last, bytes)
 }
 
-const PAGES: [u8; 32] = {
-    let mut pages = [1; 32];
-    let mut at = 16;
-    while at < 32 {
-        pages[at] = 3;
-        at += 1;
-    }
-    pages
-};
+/// What is read of a folder that [`fill`] was called on.
+fn due() -> (Version, Vec<u8>) {
+    (Version(2), [[1; 16], [3; 16]].concat())
+}
 
 #[test]
 fn a_folder_is_read_alone_and_nothing_in_it_changes() {
     let (place, path, durable) = made("reader", Options::new());
-    let due = (Version(2), PAGES.to_vec());
+    let due = due();
     assert_eq!(read_alone(&path, &place), due); // while it is open
     drop(durable);
     assert_eq!(read_alone(&path, &place), due);
@@ -528,13 +528,23 @@ struct Disk(Folder);
 
 impl Disk {
     fn new(name: &str, files: u64) -> Option<Disk> {
+        let size = format!("size=1m,nr_inodes={files}");
+        Disk::mounted(name, &["-t", "tmpfs", "-o", &size, "none"])
+    }
+
+    /// The same disk in another place, where nothing can be written.
+    fn read_only(&self, name: &str) -> Disk {
+        let place = self.0 .0.to_str().unwrap();
+        let disk = Disk::mounted(name, &["--bind", "-o", "ro", place]).unwrap();
+        assert!(fs::write(disk.0.path("new"), "").is_err());
+        disk
+    }
+
+    fn mounted(name: &str, what: &[&str]) -> Option<Disk> {
         let at = Folder::new(&format!("folder-files-{name}"));
-        let options = format!("size=1m,nr_inodes={files}");
         let mut mount = Command::new("mount");
-        mount
-            .args(["-t", "tmpfs", "-o", &options, "none"])
-            .arg(&at.0);
-        match mount.stderr(Stdio::null()).status() {
+        mount.args(what).arg(&at.0).stderr(Stdio::null());
+        match mount.status() {
             Ok(status) if status.success() => Some(Disk(at)),
             _ => {
                 eprintln!("{name}: not run, since no disk can be mounted here");
@@ -543,35 +553,25 @@ impl Disk {
         }
     }
 
-    fn remount(&self, how: &str) {
-        let how = format!("remount,{how}");
-        let mut mount = Command::new("mount");
-        let done = mount.args(["-o", &how]).arg(&self.0 .0).status();
-        assert!(done.unwrap().success());
-    }
-
     /// Makes files, each in this many bytes, until there is no room for another.
     fn fill(&self, bytes: usize) {
-        let made = (0..10_000).map(|k| {
-            let name = format!("{bytes}-{k}");
-            fs::write(self.0.path(&name), vec![0; bytes])
-        });
-        assert!(made.map(|made| made.is_err()).any(|is_full| is_full));
+        let is_full = |k| {
+            let path = self.0.path(&format!("{bytes}-{k}"));
+            fs::write(path, vec![0; bytes]).is_err()
+        };
+        assert!((0..10_000).any(is_full));
     }
 }
 
 impl Drop for Disk {
     fn drop(&mut self) {
-        let _ = Command::new("umount").arg(&self.0 .0).status();
+        let _ = Command::new("umount").arg("-l").arg(&self.0 .0).status();
     }
 }
 
 fn made_on(disk: &Disk) -> PathBuf {
     let path = disk.0.path("folder");
-    let durable = Durable::create(&path, store(), Options::new()).unwrap();
-    durable.set_clock(|| Minute(0));
-    durable.append_pages(LIVE, &[&[1; 16], &[2; 16]]).unwrap();
-    durable.update(LIVE, PageIndex(1), &[&[3; 16]]).unwrap();
+    fill(&Durable::create(&path, store(), Options::new()).unwrap());
     path
 }
 
@@ -592,9 +592,9 @@ fn a_disk_without_room_for_another_file_is_opened() {
     let version = durable.update(LIVE, PageIndex(0), &[&[4; 16]]).unwrap();
     assert!(durable.checkpoint().is_err());
     drop(durable);
-    fs::remove_file(disk.0.path("0-0")).unwrap();
-    fs::remove_file(disk.0.path("0-1")).unwrap();
-    fs::remove_file(disk.0.path("0-2")).unwrap();
+    for name in ["0-0", "0-1", "0-2"] {
+        fs::remove_file(disk.0.path(name)).unwrap();
+    }
     let durable = open(&path).unwrap();
     assert_eq!(durable.recent(LIVE), Ok(version));
     durable.checkpoint().unwrap();
@@ -602,18 +602,17 @@ fn a_disk_without_room_for_another_file_is_opened() {
 
 #[test]
 fn a_full_disk_and_one_that_is_read_only_are_read() {
-    let disk = match Disk::new("full", 100) {
+    let disk = match Disk::new("full", 1_000) {
         Some(disk) => disk,
         None => return,
     };
     let elsewhere = Folder::new("folder-files-elsewhere");
     let path = made_on(&disk);
-    let due = (Version(2), PAGES.to_vec());
+    let due = due();
     disk.fill(4_096);
     assert_eq!(read_alone(&path, &elsewhere), due);
-    disk.remount("ro");
+    let read_only = disk.read_only("read-only");
+    let path = read_only.0.path("folder");
     assert_eq!(read_alone(&path, &elsewhere), due);
     assert!(open(&path).is_err());
-    disk.remount("rw");
-    assert_eq!(read_alone(&path, &elsewhere), due);
 }

@@ -25,8 +25,9 @@ use std::thread::{self, JoinHandle};
 /// after its PUBLISH is kept: what they have seen is not gone after a crash, nor, but by [`SyncAt::Every`](crate::SyncAt), after a power cut.
 ///
 /// The journal is followed by another, and the store saved anew, when it has reached the size in the [`Options`]. One process at a time
-/// has a folder open, until it ends, [closes](Durable::close) it or drops the last handle. A process that is forked off it has none of it: calls
-/// that change the store are refused there with [`FileError::OtherProcess`](crate::FileError), and dropping a handle does nothing to the folder.
+/// has a folder open, until it ends, [closes](Durable::close) it or drops the last handle. A process that is forked off it has none of
+/// it: calls that change the store are refused there with [`FileError::OtherProcess`](crate::FileError), and dropping a handle does
+/// nothing to the folder.
 ///
 /// After the first write or sync of the journal that fails, no call that changes the store is made any more, and those who
 /// [wait](Handle::wait_published) for a version are told. [`reopen`](Durable::reopen) takes the folder up again.
@@ -153,16 +154,18 @@ impl Durable {
         })
     }
 
-    /// Takes the folder up again under the running callers: after the journal has failed, as on a disk that was full, or when the folder was
-    /// [closed](Durable::close). It is read anew, as [`open`](Durable::open) does, and the store that it holds takes the place of the running one,
-    /// for every handle and every [`Snapshot`](crate::Snapshot). Calls go on from there. The lock on the folder is kept, or taken again.
+    /// Takes the folder up again under the running callers: after the journal has failed, as on a disk that was full, or when the
+    /// folder was [closed](Durable::close). It is read anew, as [`open`](Durable::open) does, and the store that it holds takes the
+    /// place of the running one, for every handle and every [`Snapshot`](crate::Snapshot). Calls go on from there. The lock on the
+    /// folder is kept, or taken again.
     ///
-    /// What returned is there, and so is what readers were shown; but by [`SyncAt::Every`](crate::SyncAt), where the disk may have lost what
-    /// was not yet synced, as after a power cut. A call that ended with the journal's failure is not there where its entry could not be
-    /// written; where it was written and not synced, it may be.
+    /// What returned is there, and so is what readers were shown; but by [`SyncAt::Every`](crate::SyncAt), where the disk may have lost
+    /// what was not yet synced, as after a power cut. A call that ended with the journal's failure is not there where its entry could
+    /// not be written; where it was written and not synced, it may be.
     ///
-    /// Calls that change the store wait meanwhile; readers do not. Those who [wait](Handle::wait_published) for a version wait on. Refused
-    /// as by `open`; and then the folder stays as it was, failed or closed, and this can be called again.
+    /// Calls that change the store wait meanwhile; readers do not. Those who [wait](Handle::wait_published) for a version wait on.
+    /// Refused as by `open`, and where the folder was moved, or another process has it by now: then it is as it was, or closed, and
+    /// this can be called again.
     ///
     /// ```
     /// use pit_host::{Durable, FileError, Failure, Limits, Line, Options, Store, Version};
@@ -202,9 +205,9 @@ impl Durable {
         Ok(opened)
     }
 
-    /// Closes the folder, for every handle: waits for a checkpoint that is being made, syncs all that returned, and gives the lock back. Then
-    /// another process may open it. Readers go on in memory; calls that change the store, and those who wait for a version, are refused with
-    /// [`FileError::Closed`](crate::FileError), until [`reopen`](Durable::reopen) takes the folder up again.
+    /// Closes the folder, for every handle: waits for a checkpoint that is being made, syncs all that returned, and gives the lock
+    /// back. Then another process may open it. Readers go on in memory; calls that change the store, and those who wait for a version,
+    /// are refused with [`FileError::Closed`](crate::FileError), until [`reopen`](Durable::reopen) takes the folder up again.
     ///
     /// Dropping the last handle does the same. This says what came of it: the error of the last sync, or the failure that the journal had
     /// before. The folder is closed then too. To close it twice does no harm.
@@ -212,7 +215,7 @@ impl Durable {
         self.log.check_process()?;
         let _alone = self.core.keeping();
         let writer = self.core.writer_lock();
-        let closed = self.log.folder.leave();
+        let closed = self.log.folder.close_and_unlock();
         drop(writer);
         self.core.visible.notify();
         Ok(closed?)
@@ -229,8 +232,9 @@ impl Durable {
         Ok(version)
     }
 
-    /// Why the last checkpoint that was begun by itself failed; none where it did not, or another one has succeeded since. The journal
-    /// goes on then, and another is begun when it has grown by its size once more.
+    /// Why the last checkpoint that was begun by itself failed; none where it did not, or another one has succeeded since, or the
+    /// folder was [opened anew](Durable::reopen). The journal goes on then, and another is begun when it has grown by its size once
+    /// more.
     pub fn checkpoint_failure(&self) -> Option<String> {
         self.log.checkpoints.hold().failure.clone()
     }
@@ -278,7 +282,7 @@ impl InFolder {
     /// Asks for a checkpoint where the folder had more than one journal.
     fn ask_after(&self, opened: &Opened) {
         if opened.journals > 1 && self.folder.makes_checkpoints() {
-            self.checkpoints.ask_anyway();
+            self.checkpoints.ask_at_once();
         }
     }
 }
@@ -397,8 +401,8 @@ struct Checkpoints {
 #[derive(Default)]
 struct Asked {
     is_due: bool,
-    /// However long the journal is.
-    anyway: bool,
+    /// Whether one is wanted however short the journal is.
+    at_once: bool,
     closing: bool,
     /// Why the last one failed, and how long the journal was then.
     failure: Option<String>,
@@ -415,16 +419,16 @@ impl Checkpoints {
         self.asked.notify_all();
     }
 
-    /// The same however long the journal is.
-    fn ask_anyway(&self) {
-        self.hold().anyway = true;
+    /// Asks for one however short the journal is.
+    fn ask_at_once(&self) {
+        self.hold().at_once = true;
         self.ask();
     }
 
-    /// The journal's length when the last one failed, and whether one is to be made anyway: by the one that asks.
-    fn take(&self) -> (u64, bool) {
+    /// Whether one was asked for however short the journal is; and how long the journal was when the last one failed.
+    fn taken(&self) -> (bool, u64) {
         let mut asked = self.hold();
-        (asked.failed_at, mem::take(&mut asked.anyway))
+        (mem::take(&mut asked.at_once), asked.failed_at)
     }
 
     /// One has failed, when the journal had this length.
@@ -461,8 +465,8 @@ fn checkpointer(
     thread::Builder::new().name(name).spawn(move || {
         while checkpoints.wait() {
             let _alone = core.keeping(); // another one may be making one just now
-            let (since, anyway) = checkpoints.take();
-            let is_due = anyway || folder.is_due_after(since);
+            let (at_once, since) = checkpoints.taken();
+            let is_due = at_once || folder.is_due_after(since);
             if !is_due || folder.journal().ready().is_err() {
                 continue;
             }

@@ -262,7 +262,8 @@ impl<A: Storage> Store<A> {
     /// run of calls leaves, is not saved.
     ///
     /// The new file has the old one's mode. Where the path is a link, the file that it leads to is replaced, or made
-    /// where there is none, and the link stays. A folder, a device or the like is not replaced.
+    /// where there is none, and the link stays. A folder, a device or the like is not replaced. What the system refuses is a
+    /// [`FileError::Io`], with the path.
     ///
     /// Until it is renamed the new file has a name like `.pit-4711-0.new`, with the process and a count. A process that
     /// is killed leaves it; the next save in that folder, by any process that may, clears what no living one holds.
@@ -347,8 +348,8 @@ fn front<T>(all: &[T], count: u64) -> &[T] {
 
 impl Store {
     /// Loads a store just as [`save`](Store::save) found it. Everything is checked before there is a store, and the
-    /// lengths before memory is taken; [`FileError`] says what can be wrong. Links are followed; what is no plain file at their end is refused,
-    /// with [`FileError::Io`].
+    /// lengths before memory is taken; [`FileError`] says what can be wrong. Links are followed; what is no plain file at their
+    /// end is refused, with [`FileError::Io`].
     ///
     /// A file of an earlier form is loaded as just the store that the same calls leave now. One of form 1, from before there
     /// were lines, has line 0 alone; one of form 1, 2 or 3 has no windows.

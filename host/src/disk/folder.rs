@@ -39,6 +39,9 @@
 //! - A folder is made in this order too: journal-1 with its header, then store-1. Without the latter there is no store, and
 //!   making one may begin anew. Where it fails, what was made is removed in the other order.
 //!
+//! All of them are plain files: nothing in a folder is opened through a link, and a pipe or the like in a file's place is an error. A new
+//! one is new: nothing that is there is overwritten. They have the mode in the [`Options`].
+//!
 //! What opening cuts off or removes, it does after everything has been read and checked. Opened after a crash in the middle
 //! of that, the folder is what it was.
 
@@ -84,7 +87,7 @@ pub struct Folder {
     /// Another one, where the folder was opened anew.
     journal: RwLock<Arc<Journal>>,
     generations: Mutex<Generations>,
-    /// Given back last; none while the folder is left.
+    /// Given back last; none while the folder is closed for all handles.
     lock: Mutex<Option<FolderLock>>,
 }
 
@@ -347,7 +350,7 @@ impl Folder {
 
     /// The same, and gives the lock back, whatever came of it: another process may open the folder then. Where that was done already,
     /// gives what came of it then. Nobody makes a checkpoint meanwhile.
-    pub(crate) fn leave(&self) -> Result<(), FileError> {
+    pub(crate) fn close_and_unlock(&self) -> Result<(), FileError> {
         if self.lock().is_none() {
             return self.journal().close().map(drop);
         }
@@ -356,16 +359,16 @@ impl Folder {
         closed
     }
 
-    /// Opens the folder anew, as [`open`](Folder::open) does, with the lock still held, or taken again where the folder was left: after a
+    /// Opens the folder anew, as [`open`](Folder::open) does, with the lock still held, or taken again where it was given back: after a
     /// failure of the journal, or when it was closed. The journal that there was writes no more. After an error all is as it was, and this
     /// can be called again. Nobody makes a checkpoint meanwhile.
     pub(crate) fn reopen(&self) -> Result<(Store, Numbering, Opened), FileError> {
-        let was_left = self.lock().is_none();
-        if was_left {
+        let was_unlocked = self.lock().is_none();
+        if was_unlocked {
             *self.lock() = Some(FolderLock::of(&self.path, self.options.file_mode())?);
         }
         let reopened = self.reopen_locked();
-        if was_left && reopened.is_err() {
+        if was_unlocked && reopened.is_err() {
             drop(self.lock().take());
         }
         reopened

@@ -14,9 +14,9 @@ use std::sync::Arc;
 /// A folder's store, opened to read alone. It has all calls of a [`Handle`]; those that change the store are refused, with
 /// [`FileError::ReadOnly`].
 ///
-/// Nothing at all is written, and nothing locked: a folder can be read that is on a full disk or one that is mounted to be read, whose files
-/// nobody may write, or that is [open](crate::Durable) meanwhile, in this process or another one. The store is as it was at one moment of
-/// [`open`](Reader::open); what is published later is seen by those who open the folder then.
+/// Nothing at all is written, and nothing locked: a folder can be read that is on a full disk or on one that is mounted to be read,
+/// whose files nobody may write, or that is [open](crate::Durable) meanwhile, in this process or another one. The store is as it was
+/// at one moment of [`open`](Reader::open); what is published later is seen by those who open the folder then.
 ///
 /// ```
 /// use pit_host::{Durable, Failure, FileError, Limits, Line, Options, PageIndex, Reader, Store, Version};
@@ -48,9 +48,9 @@ pub type Reader = Handle<ReadOnly>;
 pub struct ReadOnly;
 
 impl Reader {
-    /// Opens a folder to read alone: the saved store, with the calls of the journals made again. What is not whole at the last one's end stays
-    /// there: [`Opened::cut`] is what [`Durable::open`](crate::Durable::open) would cut off. Where another process has the folder open, that may be
-    /// just being written, and a version be there whose writer still waits for the disk.
+    /// Opens a folder to read alone: the saved store, with the calls of the journals made again. What is not whole at the last one's
+    /// end stays there: [`Opened::cut`] is what [`Durable::open`](crate::Durable::open) would cut off. Where another process has the
+    /// folder open, that may be just being written, and a version be there whose writer still waits for the disk.
     ///
     /// Refused as that is, with [`Failure::File`], but never since the folder is open.
     pub fn open(folder: impl AsRef<Path>) -> Result<(Reader, Opened), Failure> {

@@ -229,7 +229,8 @@ impl<L: Log> Handle<L> {
     pub fn save(&self, path: impl AsRef<Path>) -> Result<Version, FileError> {
         let _alone = self.core.saving();
         let (image, journal) = {
-            let _writer = self.core.writer_lock(); // so that the one is of the other, also where a folder is opened anew
+            // so that the one is of the other, also where a folder is opened anew
+            let _writer = (!L::AT_ONCE).then(|| self.core.writer_lock());
             (self.core.image(), self.log.journal())
         };
         self.log.settle(&journal)?;

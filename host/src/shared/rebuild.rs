@@ -60,14 +60,14 @@ impl<L: Log> Handle<L> {
         Ok(rebuilt.versions)
     }
 
-    /// [`rebuild`](Handle::rebuild) without those of these tickets on which no call was made for so long: updates that their writers have
-    /// begun and given up before they had a version. The pages and records that they took are not rebuilt, and calls on them are then
-    /// refused with 7. A ticket that was [abandoned](Handle::abandoned) a moment ago may be in use again: how long it was idle is looked at
-    /// when no other call can be made any more, and one that is not left out stays in work. [`Rebuilt`] has those that were left out. With
-    /// [`Duration::ZERO`] all that are named are.
+    /// [`rebuild`](Handle::rebuild) without those of these tickets on which no call was made for so long: updates that their writers
+    /// have begun and given up before they had a version. The pages and records that they took are not rebuilt, and calls on them are
+    /// then refused with 7. A ticket that was [abandoned](Handle::abandoned) a moment ago may be in use again: how long it was idle is
+    /// looked at when no other call can be made any more, and one that is not left out stays in work. [`Rebuilt`] has those that were
+    /// left out. With [`Duration::ZERO`] all that are named are.
     ///
-    /// Refused besides, and nothing has changed: 7 where there is no such ticket, 8 where one that was idle for so long has a version, since
-    /// later ones need that: it can be [finished](Handle::finish).
+    /// Refused besides, and nothing has changed: 7 where there is no such ticket, 8 where one that was idle for so long has a version,
+    /// since later ones need that: it can be [finished](Handle::finish).
     ///
     /// ```
     /// use pit_host::{Error, Limits, Shared, Store};
@@ -203,7 +203,7 @@ impl<'a> Rebuild<'a> {
         Ok(())
     }
 
-    /// Which tickets are left out: of these the ones that were idle for so long. The time is looked at here, under the lock of the writers.
+    /// Which tickets are left out: of these the ones that were idle for so long. The time is looked at here, under the writers' lock.
     fn leave_out(&mut self, tickets: &[Ticket], idle: Duration) -> Result<(), Error> {
         let now = Instant::now();
         for ticket in tickets {

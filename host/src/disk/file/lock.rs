@@ -72,6 +72,10 @@ mod tests {
         let copy = held.file.try_clone().unwrap();
         let other = File::open(&path).unwrap();
         assert!(!try_hold(&other).unwrap());
+        // as in a process that was forked: it is not its own to be given back
+        let file = held.file.try_clone().unwrap();
+        drop(Held { file, process: 0 });
+        assert!(!try_hold(&other).unwrap());
         drop(held);
         assert!(try_hold(&other).unwrap());
         drop(copy);

@@ -54,13 +54,13 @@ impl Options {
         self
     }
 
-    /// These, with another mode of the files that are made in the folder: who may read and write them. They get just this one, whatever the
-    /// process's mask is; the owner reads and writes them at any rate, and no bits above 0o777 count. A folder that is made gets it too, and
-    /// whoever may read it may also search it: 0o700 for 0o600. A folder and a journal that are there keep theirs; a file system that has but
-    /// one mode keeps that.
+    /// These, with another mode of the files that are made in the folder: who may read and write them. They get just this one,
+    /// whatever the process's mask is; the owner reads and writes them at any rate, and no bits above 0o777 count. A folder that is
+    /// made gets it too, and whoever may read it may also search it: 0o700 for 0o600. A folder and a journal that are there keep
+    /// theirs; a file system that has but one mode keeps that.
     ///
-    /// Whoever may read the file `lock` can hold it, and keep the folder from being opened; so what it has above this mode is taken from it when its
-    /// owner opens the folder. The folder itself is locked too: whoever may list it can hold that lock.
+    /// Whoever may read the file `lock` can hold it, and keep the folder from being opened; so what it has above this mode is
+    /// taken from it when its owner opens the folder. The folder itself is locked too: whoever may list it can hold that lock.
     ///
     /// ```
     /// use pit_host::{Durable, Limits, Options, Store};
