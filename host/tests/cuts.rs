@@ -17,6 +17,8 @@ use std::fs;
 
 /// How many calls a journal has where nothing else is said.
 const CALLS: u64 = 240;
+/// The length of a note.
+const NOTE: usize = 56;
 
 /// Just what the calls ask for: a journal is followed by the next where a test says so.
 fn options() -> Options {
@@ -75,7 +77,9 @@ impl Run {
         self.folder.path(&format!("journal-{generation}"))
     }
 
+    /// Opens it as after a crash: it was not closed.
     fn open(&self) -> Result<(Durable, Opened), Failure> {
+        let _ = fs::remove_file(self.folder.path("closed"));
         Durable::open(&self.folder.0, options())
     }
 
@@ -185,29 +189,40 @@ fn the_last_of_three_journals_may_be_cut_at_any_byte_and_no_other() {
             assert_cut(&run, &last, length, before);
             continue;
         }
-        // it was only being begun
+        // the one before says that this one goes on after it
+        let error = flaw_of(run.open());
+        assert_eq!(
+            (error.generation, error.kind),
+            (3, JournalErrorKind::Header)
+        );
+        // while this one was only being begun, it did not
+        let ended = fs::read(run.journal(2)).unwrap();
+        fs::write(run.journal(2), &ended[..ended.len() - NOTE]).unwrap();
         let (durable, opened) = run.open().unwrap();
         run.assert_after(&durable, before);
         assert_eq!((opened.journals, opened.cut), (2, None));
         assert!(!path.exists());
+        fs::write(run.journal(2), ended).unwrap();
     }
     fs::write(&path, &last).unwrap();
     let all = run.model.entries;
     (1..=2).for_each(|generation| assert_not_cut(&run, generation, all));
 }
 
-/// A journal that another goes on after is not cut in silence at any byte; only a note of what was synced may be gone.
+/// A journal that another goes on after is not cut in silence at any byte; only notes may be gone, and that it has ended is noted anew.
 fn assert_not_cut(run: &Run, generation: u64, all: u64) {
     let path = run.journal(generation);
     let journal = fs::read(&path).unwrap();
     let each = entries(&journal);
-    let ends = |length: usize| each.iter().any(|entry| entry.end == length);
     let last_call = each.iter().rev().find(|entry| entry.is_call()).unwrap().end;
     for length in 0..=journal.len() {
         fs::write(&path, &journal[..length]).unwrap();
         let opened = run.open();
-        if length >= last_call && ends(length) {
+        if length >= last_call {
             run.assert_after(&opened.unwrap().0, all);
+            let (end, _) = whole(&each, length.min(journal.len() - 1), 0);
+            let noted = [&journal[..end], &journal[journal.len() - NOTE..]].concat();
+            assert_eq!(fs::read(&path).unwrap(), noted);
             continue;
         }
         let error = flaw_of(opened);

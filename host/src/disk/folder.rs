@@ -1,9 +1,11 @@
 //! A folder that keeps a store: nothing that returned is lost with the process.
 //!
 //! ```text
-//! lock         locked by the process that has the folder open, as the folder itself is, with its number in it
-//! store-G      the saved store of generation G
-//! journal-G    the calls since then, in order
+//! lock               locked by the process that has the folder open, as the folder itself is, with its number in it
+//! store-G            the saved store of generation G
+//! journal-G          the calls since then, in order
+//! closed             how far the journal went when the folder was last closed in order
+//! journal-G.cut-N    what opening has cut off journal-G, where whole entries were in it
 //! ```
 //!
 //! A checkpoint begins generation G+1. What it does, in this order:
@@ -11,26 +13,32 @@
 //! 1. It syncs journal-G, makes the file journal-(G+1), empty, and forces its name to the disk.
 //! 2. At one moment, under the store's lock, it copies the store, and says that all later entries are the next journal's.
 //! 3. Whoever writes next, or [`Folder::settle`], writes the entries before that moment to journal-G and syncs it; then writes
-//!    the header of journal-(G+1) and syncs that; and only then writes entries behind it. Writers wait for these two syncs, of
-//!    which the first has little left to do.
+//!    the header of journal-(G+1) and syncs that; then notes at the end of journal-G that it has ended, and syncs it once more; and
+//!    only then writes entries behind that header. Writers wait for these three syncs, of which the first has little left to do.
 //! 4. After `settle`, the copy is saved: written beside, synced, renamed to store-(G+1), and the name forced to the disk.
 //! 5. All files of earlier generations are removed.
 //!
 //! Opening takes the highest saved store, H, and the journals H, H+1 and so on up to the last, in turn. At whatever point a process
 //! dies or the power is cut, that is the store with all that was kept:
 //!
-//! - Up to step 4's rename, H is G. After step 1 a journal-(G+1) is there without a whole header: it counts as not there.
+//! - Up to step 4's rename, H is G. After step 1 a journal-(G+1) is there without a whole header: it counts as not there, unless
+//!   journal-G says that it has ended.
 //! - A whole header of journal-(G+1) is there only after journal-G was synced to its last entry. So of all journals but the
 //!   last nothing may be cut off, and each goes on with the number after the last of the one before. Anything else is
-//!   damage, and an error. Only the last journal may be torn.
+//!   damage, and an error. Only the last journal may be torn, and the note at the end of the one before it.
+//! - Journal-G says that it has ended only when that header is on the disk, and before there are entries behind it. So where it says so,
+//!   a journal-(G+1) that is missing, or has no whole header, was lost, and that is an error. Where it does not, and its next one has
+//!   its header, a process died between the two: nothing is lost, and opening writes the note before it goes on, if there is room.
+//!   Without it, as in a folder from before there were such notes, a next journal that is lost goes unseen. So where more than one
+//!   journal was read, a checkpoint is made at once: then there is one again.
 //! - From the rename on H is G+1. Its journal has a whole header, since that was synced before; journal-G is not read, and
 //!   whatever of step 5 was done makes no difference. The copy is of the moment at which journal-(G+1) begins, so that nothing is
 //!   done twice or left out.
 //! - A saved store has the salt of its journal in it, and a journal that of the one before it. So no file of another folder, or of
 //!   another time, is taken for this folder's.
-//! - A store that is rebuilt is no copy: its journal does not go on after the one before, and has a header that says so. Without
-//!   its saved store such a journal has no entries, and counts as not there. Where that store could not be saved, the header is
-//!   written anew, before there are entries.
+//! - A store that is rebuilt is no copy: its journal does not go on after the one before, and has a header that says so; the one before
+//!   does not say that it has ended. Without its saved store such a journal has no entries, and counts as not there. Where that store could
+//!   not be saved, the header is written anew and synced, and then the one before says that it has ended, before there are entries.
 //! - A name store-H is there only when the file is whole and synced. One that cannot be loaded is damage, and an error: the
 //!   generation before it may be gone already, and no older one is taken in silence.
 //! - A checkpoint that fails after step 2 leaves the later entries in journal-(G+1), and the next one begins generation G+2. So
@@ -43,11 +51,19 @@
 //! one is new: nothing that is there is overwritten. They have the mode in the [`Options`].
 //!
 //! What opening cuts off or removes, it does after everything has been read and checked. Opened after a crash in the middle
-//! of that, the folder is what it was.
+//! of that, the folder is what it was. Where there are whole entries in what it cuts off, that is copied to a new file first, and on the
+//! disk before anything is cut: none of these entries is known to have been synced, but somebody may want to look. Nothing removes such a
+//! file. A note that has no room is not written.
+//!
+//! At a close all is written and synced, what was written ahead is taken away, and `closed` is written beside, synced and renamed over
+//! the old one: generation, salt, length and last entry of the journal. A journal only grows, so that stays true, and a journal with that
+//! generation and salt which has fewer entries was cut, if by whole entries: an error. After a crash there is an older such file, or none,
+//! and a power cut may have taken what was not synced: not more than what was written since. It is read before the journals are.
 
 mod closed;
 mod earlier;
 mod files;
+mod kept;
 mod lock;
 mod look;
 mod open;
@@ -63,7 +79,7 @@ use crate::disk::journal::{is_no_room, new_salt, Header, Journal};
 use crate::shared::numbering::Numbering;
 use closed::Closed;
 use std::fmt;
-use std::fs::{self, File};
+use std::fs::{self, File, OpenOptions};
 use std::io;
 use std::path::{Path, PathBuf};
 use std::sync::{Arc, Mutex, MutexGuard, PoisonError, RwLock};
@@ -279,8 +295,14 @@ impl Folder {
             Err(e) if e.kind() == io::ErrorKind::NotFound => (),
             Err(e) => return Err(e),
         }
-        let before = self.generations().before;
-        self.journal().go_on_after(before)
+        let (before, generation) = {
+            let generations = self.generations();
+            (generations.before, generations.now.journal - 1)
+        };
+        let ended = OpenOptions::new()
+            .write(true)
+            .open(files::journal_in(&self.path, generation))?;
+        self.journal().go_on_after(before, &ended)
     }
 
     /// Called when the store of the last switch is saved, in the place that [`settle`](Folder::settle) gave: removes what was
@@ -331,15 +353,12 @@ impl Folder {
     /// [`FileError::Closed`]. The lock stays until this is dropped. After a failure nothing is noted, and it is given. Closing twice does
     /// no harm.
     pub(crate) fn close(&self) -> Result<(), FileError> {
-        let (length, last) = self.journal().close()?;
-        let closed = {
-            let generations = self.generations();
-            Closed {
-                generation: generations.now.journal,
-                salt: generations.salt,
-                length,
-                last,
-            }
+        let end = self.journal().close()?;
+        let closed = Closed {
+            generation: end.header.generation,
+            salt: end.header.salt,
+            length: end.length,
+            last: end.last,
         };
         self.check_place()?;
         match closed.write(&self.path, self.options.file_mode()) {

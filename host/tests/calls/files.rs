@@ -13,12 +13,18 @@ pub struct Entry {
     pub end: usize,
     pub number: u64,
     kind: u64,
+    argument: u64,
 }
 
 impl Entry {
     /// Whether it is a call, and no note of what was synced.
     pub fn is_call(&self) -> bool {
         self.kind != SYNCED
+    }
+
+    /// Whether it is the note that the journal has ended, and another goes on after it.
+    pub fn is_end(&self) -> bool {
+        self.kind == SYNCED && self.argument == 1
     }
 }
 
@@ -51,11 +57,13 @@ pub fn entries(journal: &[u8]) -> Vec<Entry> {
             break;
         }
         let (number, kind) = (number_at(front, 8), number_at(journal, begin + FRONT));
+        let argument = number_at(journal, begin + FRONT + 8);
         entries.push(Entry {
             begin,
             end,
             number,
             kind,
+            argument,
         });
         begin = end;
     }

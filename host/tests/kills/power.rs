@@ -1,9 +1,10 @@
 //! What a power cut leaves of a folder: all that was synced, and any part of what was written after that.
 
-use crate::calls::files::{ahead, entries, first_entry, HEADER};
+use crate::calls::files::{ahead, entries, first_entry, Entry, HEADER};
 use crate::folder::Folder;
 use crate::random::Random;
 use std::fs;
+use std::path::Path;
 
 /// Cuts the power of a folder that no process has open. All entries up to `synced` are on the disk, and so are those that the
 /// journal says are. Gives the last of them.
@@ -17,6 +18,9 @@ pub fn cut(folder: &Folder, synced: u64, random: &mut Random) -> u64 {
     let path = |generation| folder.path(&format!("journal-{generation}"));
     let mut journal = fs::read(path(newest)).unwrap();
     if journal.len() <= HEADER && newest > store {
+        if let Some(last) = cut_note(&path(newest - 1), random) {
+            return last;
+        }
         // the one before it is synced as far as this one has a header; else it is the last
         let is_whole = journal.len() == HEADER;
         let length = random.below(journal.len() as u64 + 1);
@@ -31,6 +35,21 @@ pub fn cut(folder: &Folder, synced: u64, random: &mut Random) -> u64 {
         return cut_in(folder, newest - 1, synced, random);
     }
     cut_in(folder, newest, synced, random)
+}
+
+/// The same where a journal says that it has ended, and the next has no entries yet: the header of that one was synced before, and of
+/// the note there may be any part. Gives the last entry; none where it does not say so.
+fn cut_note(path: &Path, random: &mut Random) -> Option<u64> {
+    let mut journal = fs::read(path).unwrap();
+    let note = entries(&journal).last().copied().filter(Entry::is_end)?;
+    let (length, zeros) = (random.below(57) as usize, random.below(57) as usize);
+    let note_at = note.begin;
+    if random.one_in(2) {
+        journal[note_at + zeros.min(56)..].fill(0);
+    }
+    journal.truncate(note_at + length);
+    fs::write(path, journal).unwrap();
+    Some(note.number)
 }
 
 /// The same of one journal, the last with a header.

@@ -11,7 +11,7 @@
 use crate::disk::checksum::Checksum;
 use crate::disk::file::new::NewFile;
 use crate::disk::file::{plain, FileError};
-use crate::disk::journal::{JournalError, JournalErrorKind, Replayed};
+use crate::disk::journal::{Header, JournalError, JournalErrorKind, Replayed};
 use std::io::{self, Read, Write};
 use std::path::Path;
 
@@ -83,16 +83,19 @@ impl Closed {
         new.replace()
     }
 
-    /// Refuses a journal that this is about, where it holds fewer entries than it did.
+    /// Whether it is about the journal with this header.
+    pub fn is_of(&self, header: &Header) -> bool {
+        (self.generation, self.salt) == (header.generation, header.salt)
+    }
+
+    /// Refuses a journal that this is about, where it holds fewer entries than it did. It may end sooner by a note, which is no entry.
     pub fn check(&self, found: &Replayed) -> Result<(), FileError> {
-        let header = &found.header;
-        if (self.generation, self.salt) != (header.generation, header.salt)
-            || found.last >= self.last
-        {
+        if !self.is_of(&found.header) || found.last >= self.last {
             return Ok(());
         }
         let kind = JournalErrorKind::ShorterThanClosed { last: self.last };
-        Err(JournalError::new(header.generation, found.length, found.last + 1, kind).into())
+        let generation = found.header.generation;
+        Err(JournalError::new(generation, found.length, found.last + 1, kind).into())
     }
 }
 

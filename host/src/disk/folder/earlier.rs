@@ -1,11 +1,11 @@
 //! What is left of earlier generations, compared with the saved store that came after.
 
 use super::files::{self, Listing};
-use super::look::{load_saved, open_saved, read_journals, replay_all, Saved};
+use super::look::{load_saved, open_journals, open_saved, replay_all, Saved};
 use crate::calls::difference::Difference;
 use crate::calls::store::Store;
 use crate::disk::file::FileError;
-use crate::disk::journal::{Header, JournalError, JournalErrorKind};
+use crate::disk::journal::{Input, JournalError, JournalErrorKind};
 use std::path::Path;
 
 /// An earlier saved store that a folder still has, as where a process died before it was removed. Opening does not read it.
@@ -62,7 +62,7 @@ fn compare(
         return Ok(answer(0, Comparison::NoJournal(missing)));
     }
     let (before, after) = (open_saved(path, generation)?, open_saved(path, next)?);
-    let journals = read_journals(path, listing, generation..=next)?;
+    let journals = open_journals(path, listing, generation..=next)?;
     let (mut before, after) = (load_saved(before, generation)?, load_saved(after, next)?);
     let (entries, rebuilt) = replay_up_to(next, journals, &mut before)?;
     Ok(match rebuilt {
@@ -75,27 +75,27 @@ fn compare(
 /// what its header says was true when it was written. Gives how many calls that were, and whether the next store was rebuilt.
 fn replay_up_to(
     next: u64,
-    mut journals: Vec<Vec<u8>>,
+    mut journals: Vec<Input>,
     saved: &mut Saved,
 ) -> Result<(u64, bool), FileError> {
-    let header = |g: u64, bytes: &[u8]| {
-        let header = Header::of(bytes, g)?;
+    let header = |g: u64, journal: &Input| {
+        let header = journal.header(g)?;
         header.ok_or_else(|| JournalError::new(g, 0, 0, JournalErrorKind::Header))
     };
     let last = journals.pop().ok_or(FileError::NoJournal(next))?;
     let first = next - journals.len() as u64;
-    for (g, bytes) in (first..).zip(&journals) {
-        header(g, bytes)?;
+    for (g, journal) in (first..).zip(&journals) {
+        header(g, journal)?;
     }
     let mut journals = journals.into_iter();
-    let read = |_| Ok(journals.next().unwrap_or_default());
-    let (replayed, _, entries) = replay_all(first..=next - 1, read, saved)?;
+    let read = |g| journals.next().ok_or(FileError::NoJournal(g));
+    let replayed = replay_all(first..=next - 1, read, saved, None)?;
     let last = header(next, &last)?;
     let rebuilt = last.before == 0;
     if !rebuilt {
-        replayed.goes_on_in(&last)?;
+        replayed.last.goes_on_in(&last)?;
     }
-    Ok((entries, rebuilt))
+    Ok((replayed.entries, rebuilt))
 }
 
 fn compared(before: &Store, after: &Store) -> Comparison {

@@ -2,9 +2,9 @@
 
 use super::look;
 use crate::disk::file::{at, at_folder, plain, FileError};
-use crate::disk::journal::Header;
+use crate::disk::journal::Input;
 use std::fs::{self, DirBuilder, File};
-use std::io::{self, Read};
+use std::io;
 use std::ops::RangeInclusive;
 use std::os::unix::fs::DirBuilderExt;
 use std::path::{Path, PathBuf};
@@ -135,11 +135,9 @@ fn is_only_begun(path: &Path, generation: u64) -> io::Result<bool> {
     if plain::found(path)?.is_none() {
         return Ok(false);
     }
-    let mut bytes = Vec::new();
-    let file = plain::to_read(path)?;
-    file.take(Header::LENGTH + 1).read_to_end(&mut bytes)?;
-    Ok(match Header::of(&bytes, generation) {
-        Ok(header) => look::is_only_begun(header.as_ref(), &bytes),
+    let journal = Input::new(plain::to_read(path)?)?;
+    Ok(match journal.header(generation) {
+        Ok(header) => look::is_only_begun(header.as_ref(), &journal),
         Err(_) => false,
     })
 }

@@ -1,13 +1,13 @@
 //! A folder's store made again from its files. Nothing is changed.
 
+use super::closed::Closed;
 use super::files::{self, Listing};
 use super::open::Opened;
 use crate::calls::store::Store;
 use crate::disk::file::{self, plain, FileError, Loaded};
-use crate::disk::journal::{replay, Header, JournalError, JournalErrorKind, Replayed};
+use crate::disk::journal::{replay, Header, Input, JournalError, JournalErrorKind, Replayed};
 use crate::shared::numbering::Numbering;
 use std::fs::File;
-use std::io::Read;
 use std::ops::RangeInclusive;
 use std::path::{Path, PathBuf};
 
@@ -20,56 +20,66 @@ pub struct Look {
     pub numbers: Numbering,
     /// The generation of the saved store.
     pub generation: u64,
-    /// The last journal, and all its bytes.
+    /// The last journal.
     pub last: Replayed,
-    pub bytes: Vec<u8>,
+    /// The journals before it that do not say that they have ended.
+    pub unended: Vec<Replayed>,
     /// How many calls were made again, of all journals.
     pub entries: u64,
+    /// What is noted of a journal that was closed in order.
+    pub closed: Option<Closed>,
 }
 
 impl Look {
-    /// The store that a folder holds, which nobody else changes. Journals are read one by one: failed checkpoints may have left many.
+    /// The store that a folder holds, which nobody else changes. Journals are opened one by one: failed checkpoints may have left many.
     pub fn at(path: &Path) -> Result<Look, FileError> {
-        let listing = files::list(path)?;
+        let (closed, listing) = (Closed::read(path), files::list(path)?);
         let generations = generations(&listing)?;
         let saved = load_saved(
             open_saved(path, *generations.start())?,
             *generations.start(),
         )?;
-        let read = |g| read_journal(open_journal(path, &listing, g)?, g);
-        Look::from(saved, generations, read)
+        let read = |g| input(open_journal(path, &listing, g)?, g);
+        Look::from(saved, generations, read, closed)
     }
 
     /// The store that a folder holds which another process may be changing. All files are opened before one is read: one that is then
     /// removed can still be read. Of very many each is read by itself, and where one is gone, whoever looks does so again.
+    ///
+    /// What is noted of a close is read before: the journal has only grown since.
     pub fn beside(path: &Path) -> Result<Look, FileError> {
-        let listing = files::list(path)?;
+        let (closed, listing) = (Closed::read(path), files::list(path)?);
         let generations = generations(&listing)?;
         if listing.journals.len() > MOST_OPEN {
             return Look::at(path);
         }
         let saved = open_saved(path, *generations.start())?;
-        let mut journals = read_journals(path, &listing, generations.clone())?.into_iter();
+        let mut journals = open_journals(path, &listing, generations.clone())?.into_iter();
         let saved = load_saved(saved, *generations.start())?;
-        Look::from(saved, generations, |_| {
-            Ok(journals.next().unwrap_or_default())
-        })
+        let next = |g| journals.next().ok_or(FileError::NoJournal(g));
+        Look::from(saved, generations, next, closed)
     }
 
     fn from(
         mut saved: Saved,
         generations: RangeInclusive<u64>,
-        read: impl FnMut(u64) -> Result<Vec<u8>, FileError>,
+        read: impl FnMut(u64) -> Result<Input, FileError>,
+        closed: Option<Closed>,
     ) -> Result<Look, FileError> {
         let generation = *generations.start();
-        let (last, bytes, entries) = replay_all(generations, read, &mut saved)?;
+        let journals = replay_all(generations, read, &mut saved, closed.as_ref())?;
+        let last = journals.last;
+        if last.ended {
+            return Err(FileError::NoJournal(last.header.generation + 1));
+        }
         Ok(Look {
             store: saved.store,
             numbers: saved.numbers,
             generation,
             last,
-            bytes,
-            entries,
+            unended: journals.unended,
+            entries: journals.entries,
+            closed,
         })
     }
 
@@ -137,63 +147,77 @@ fn open_journal(path: &Path, listing: &Listing, generation: u64) -> Result<File,
     file.map_err(|error| FileError::JournalIo { generation, error })
 }
 
-/// All bytes of a journal.
-fn read_journal(mut file: File, generation: u64) -> Result<Vec<u8>, FileError> {
-    let mut bytes = Vec::new();
-    let read = file.read_to_end(&mut bytes);
-    let bytes = read.map(|_| bytes);
-    bytes.map_err(|error| FileError::JournalIo { generation, error })
+/// A journal to be read, as long as it is now.
+fn input(file: File, generation: u64) -> Result<Input, FileError> {
+    Input::new(file).map_err(|error| FileError::JournalIo { generation, error })
 }
 
-/// All bytes of these journals. The last is read first: where another process writes, a journal that has its header was begun
-/// when the one before had ended.
-pub fn read_journals(
+/// These journals, to be read. Where another process writes, the length and the header of the last are taken first: a journal that has
+/// its header then was begun when the one before had ended, and of that one the length is taken after. So no journal is read up to a
+/// place before its end while the next is taken to go on after it.
+pub fn open_journals(
     path: &Path,
     listing: &Listing,
     generations: RangeInclusive<u64>,
-) -> Result<Vec<Vec<u8>>, FileError> {
+) -> Result<Vec<Input>, FileError> {
     let open = |g| Ok((open_journal(path, listing, g)?, g));
     let opened: Vec<(File, u64)> = generations.map(open).collect::<Result<_, FileError>>()?;
     let each = opened.into_iter().rev();
-    let mut journals: Vec<Vec<u8>> = each
-        .map(|(file, g)| read_journal(file, g))
+    let mut journals: Vec<Input> = each
+        .map(|(file, g)| input(file, g))
         .collect::<Result<_, FileError>>()?;
     journals.reverse();
     Ok(journals)
 }
 
-/// Makes the calls of these journals again, on the saved store of the first one's generation. Each is read when its turn comes. Gives
-/// what was found of the last, its bytes, and how many calls in all.
+/// What was found of a folder's journals.
+pub struct Journals {
+    pub last: Replayed,
+    /// Those before it that do not say that they have ended.
+    pub unended: Vec<Replayed>,
+    /// How many calls were made again.
+    pub entries: u64,
+}
+
+/// Makes the calls of these journals again, on the saved store of the first one's generation. Each is opened when its turn comes. One that
+/// was closed in order holds no fewer entries than it did then.
 pub fn replay_all(
     generations: RangeInclusive<u64>,
-    mut read: impl FnMut(u64) -> Result<Vec<u8>, FileError>,
+    mut read: impl FnMut(u64) -> Result<Input, FileError>,
     saved: &mut Saved,
-) -> Result<(Replayed, Vec<u8>, u64), FileError> {
+    closed: Option<&Closed>,
+) -> Result<Journals, FileError> {
     let (first, newest) = (*generations.start(), *generations.end());
-    let mut last: Option<(Replayed, Vec<u8>)> = None;
-    let mut entries = 0;
+    let mut last: Option<Replayed> = None;
+    let (mut unended, mut entries) = (Vec::new(), 0);
     for g in generations {
-        let bytes = read(g)?;
-        let header = Header::of(&bytes, g)?;
-        if g > first && g == newest && is_only_begun(header.as_ref(), &bytes) {
+        let input = read(g)?;
+        let header = input.header(g)?;
+        let is_needed = last.as_ref().map_or(true, |last| last.ended);
+        if g == newest && !is_needed && is_only_begun(header.as_ref(), &input) {
             break;
         }
         let header = header.ok_or_else(|| JournalError::new(g, 0, 0, JournalErrorKind::Header))?;
         match &last {
-            Some((last, _)) => last.goes_on_in(&header)?,
+            Some(last) => last.goes_on_in(&header)?,
             None if header.salt == saved.journal => (),
             None => return Err(header.error(JournalErrorKind::OtherStore).into()),
         }
-        let replayed = replay(&bytes, &header, &mut saved.store)?;
+        let replayed = replay(&input, &header, &mut saved.store)?;
+        closed.map_or(Ok(()), |closed| closed.check(&replayed))?;
         entries += replayed.entries();
-        last = Some((replayed, bytes));
+        unended.extend(last.replace(replayed).filter(|before| !before.ended));
     }
-    let (last, bytes) = last.ok_or(FileError::NoJournal(first))?;
-    Ok((last, bytes, entries))
+    let last = last.ok_or(FileError::NoJournal(first))?;
+    Ok(Journals {
+        last,
+        unended,
+        entries,
+    })
 }
 
 /// Whether a journal has no whole header; or one that is read after its own saved store alone, and no entries: that store was not saved.
-pub fn is_only_begun(header: Option<&Header>, bytes: &[u8]) -> bool {
+pub fn is_only_begun(header: Option<&Header>, input: &Input) -> bool {
     let is_alone = |header: &Header| header.before == 0;
-    header.map_or(true, is_alone) && bytes.len() as u64 <= Header::LENGTH
+    header.map_or(true, is_alone) && input.length <= Header::LENGTH
 }

@@ -1,14 +1,16 @@
 //! Opening a folder: the saved store, and the journals after it.
 
 use super::files;
+use super::kept;
 use super::lock::FolderLock;
 use super::look::{self, Look};
 use super::{Folder, Generations, Options, Place};
 use crate::calls::store::Store;
 use crate::disk::file::{at_folder, new, plain, FileError};
-use crate::disk::journal::{Cut, Journal, Replayed};
+use crate::disk::journal::{self, is_no_room, Cut, Input, Journal, Replayed, PART};
 use crate::shared::numbering::Numbering;
 use std::fmt;
+use std::fs::File;
 use std::io;
 use std::os::unix::fs::FileExt;
 use std::path::Path;
@@ -65,7 +67,7 @@ pub struct Read {
 /// Reads a folder that is locked, and makes it ready to go on.
 pub fn read(path: &Path, options: Options) -> Result<(Read, Opened), FileError> {
     let found = Look::at(path)?;
-    let opened = found.opened();
+    let mut opened = found.opened();
     let place = Place {
         store: found.generation,
         journal: found.last.header.generation,
@@ -78,8 +80,12 @@ pub fn read(path: &Path, options: Options) -> Result<(Read, Opened), FileError> 
     };
     files::sync_folder(path).map_err(at_folder(path))?; // a process that died may not have got so far with the store's name
     let generation = place.journal;
-    let journal = resume(path, &found.last, &found.bytes, options)
-        .map_err(|error| FileError::JournalIo { generation, error })?;
+    let of_io = |error| FileError::JournalIo { generation, error };
+    if let Some(cut) = &mut opened.cut {
+        kept::keep(path, cut, options.file_mode()).map_err(of_io)?;
+    }
+    note_ended(path, &found.unended)?;
+    let journal = resume(path, &found, options).map_err(of_io)?;
     let _ = files::clear(path, place.store..=place.journal); // what is left does no harm, and the next checkpoint tries again
     new::clear(path);
     let read = Read {
@@ -91,17 +97,53 @@ pub fn read(path: &Path, options: Options) -> Result<(Read, Opened), FileError> 
     Ok((read, opened))
 }
 
-/// Goes on in the last journal, which has these bytes, after what is whole.
+/// A process that died may not have got so far as to note that a journal has ended. That is done before the next one goes on, if there is
+/// room.
+fn note_ended(path: &Path, unended: &[Replayed]) -> Result<(), FileError> {
+    for found in unended {
+        let generation = found.header.generation;
+        let file = open_to_write(path, generation);
+        let noted = file.and_then(|file| {
+            journal::note_ended(&file, found.length, found.last, found.header.salt)
+        });
+        match noted {
+            Ok(()) => (),
+            Err(error) if is_no_room(&error) => return Ok(()), // a part of it counts as none
+            Err(error) => return Err(FileError::JournalIo { generation, error }),
+        }
+    }
+    Ok(())
+}
+
+fn open_to_write(path: &Path, generation: u64) -> io::Result<File> {
+    plain::to_write(&files::journal_in(path, generation))
+}
+
+/// Goes on in the last journal, after what is whole.
 ///
 /// What is not known to have been synced is written anew. After a sync that failed, a system may call clean what it has in memory
 /// alone: such bytes can be read, and no later sync writes them.
-fn resume(path: &Path, last: &Replayed, bytes: &[u8], options: Options) -> io::Result<Journal> {
-    let path = files::journal_in(path, last.header.generation);
-    let file = plain::to_write(&path)?;
+fn resume(path: &Path, found: &Look, options: Options) -> io::Result<Journal> {
+    let last = &found.last;
+    let file = open_to_write(path, last.header.generation)?;
     if last.cut.is_some() {
         file.set_len(last.length)?;
     }
-    let from = last.noted_bytes(bytes);
-    file.write_all_at(&bytes[from..last.length as usize], from as u64)?;
+    let noted = last.noted_bytes(&Input::new(file.try_clone()?)?)?;
+    let closed = found.closed.filter(|closed| closed.is_of(&last.header));
+    let from = closed.map_or(noted, |closed| noted.max(closed.length));
+    write_anew(&file, from, last.length)?;
     Journal::resume(file, last, options.sync)
+}
+
+/// Writes what stands from one place of a file to another there once more.
+fn write_anew(file: &File, from: u64, to: u64) -> io::Result<()> {
+    let (mut place, mut part) = (from, vec![0; PART]);
+    while place < to {
+        let count = (to - place).min(PART as u64) as usize;
+        file.read_exact_at(&mut part[..count], place)?;
+        file.write_all_at(&part[..count], place)?;
+        place += count as u64;
+    }
+    Ok(())
 }

@@ -1,6 +1,9 @@
 //! Bytes written ahead of the entries. A sync of bytes that stand in the place of others takes half the time of one that has to
 //! note a new length of the file too.
 
+use super::input::{Input, PART};
+use std::io;
+
 /// So many bytes are written ahead; not beside a batch that is no small part of them itself.
 const AHEAD: usize = 1 << 20;
 const SMALL: usize = AHEAD / 16;
@@ -21,22 +24,48 @@ pub fn ahead_of(end: u64, batch: usize, salt: u64) -> Vec<u8> {
     eight.repeat(AHEAD / eight.len())
 }
 
-/// How many of these bytes, which end a journal and begin at this place, are there before those that were written ahead. Fewer than
-/// eight of these may be an entry's.
-pub fn used(bytes: &[u8], place: u64, salt: u64) -> usize {
-    let nothing = nothing(salt);
-    let is_used = |(at, byte): &(usize, &u8)| **byte != nothing[(place as usize + at) % 8];
-    let last = bytes.iter().enumerate().rev().find(is_used);
-    let used = last.map_or(0, |(at, _)| at + 1);
-    if bytes.len() - used < nothing.len() {
-        return bytes.len();
+/// How many of a journal's bytes from a place on are there before those that were written ahead. Fewer than eight of these may be an
+/// entry's. What ends the journal is read first.
+pub fn used(input: &Input, place: u64, salt: u64) -> io::Result<u64> {
+    let (length, mut end) = (input.length, input.length);
+    let left = length.saturating_sub(place);
+    let mut part = vec![0; left.min(PART as u64) as usize];
+    while end > place {
+        let begin = end.saturating_sub(PART as u64).max(place);
+        let room = (end - begin) as usize;
+        let count = input.fill(&mut part[..room], begin)?;
+        if let Some(used) = used_of(&part[..count], begin, salt) {
+            end = begin + used as u64;
+            break;
+        }
+        end = begin;
     }
-    used
+    match length.saturating_sub(end) {
+        0..=7 => Ok(left),
+        _ => Ok(end - place),
+    }
+}
+
+/// How many of these bytes, which stand at this place, are there up to the last that was not written ahead; none where all were.
+fn used_of(bytes: &[u8], place: u64, salt: u64) -> Option<usize> {
+    let nothing = nothing(salt);
+    let first = (place % 8) as usize;
+    let is_used = |(at, byte): &(usize, &u8)| **byte != nothing[(first + at) % 8];
+    let last = bytes.iter().enumerate().rev().find(is_used)?;
+    Some(last.0 + 1)
 }
 
 #[cfg(test)]
 mod tests {
     use super::*;
+
+    /// How many of these bytes are used, which end a journal and begin at a place of it.
+    fn used_after(before: usize, bytes: &[u8], salt: u64) -> usize {
+        let all = [&vec![0; before], bytes].concat();
+        let length = all.len() as u64;
+        let input = Input::of(Box::new(all), length).unwrap();
+        used(&input, before as u64, salt).unwrap() as usize
+    }
 
     /// What was written ahead is told from entries wherever these end, and from what a disk may leave in its place.
     #[test]
@@ -48,14 +77,26 @@ mod tests {
             assert_eq!(ahead.len(), AHEAD);
             let bytes = [&entries[..], &ahead[..100]].concat();
             for begin in 0..=end {
-                assert_eq!(used(&bytes[begin..], begin as u64, salt), end - begin);
+                assert_eq!(used_after(begin, &bytes[begin..], salt), end - begin);
             }
-            assert_eq!(used(&bytes, 1, salt), bytes.len());
-            assert_eq!(used(&bytes, 0, salt + 1), bytes.len());
+            assert_eq!(used_after(1, &bytes, salt), bytes.len());
+            assert_eq!(used_after(0, &bytes, salt + 1), bytes.len());
         }
-        assert_eq!(used(&[0; 64], 64, salt), 64);
+        assert_eq!(used_after(64, &[0; 64], salt), 64);
         assert!(ahead_of(64, SMALL + 1, salt).is_empty());
-        assert_eq!(used(&[], 64, salt), 0);
-        assert_eq!(used(&nothing(salt)[..3], 64, salt), 3);
+        assert_eq!(used_after(64, &[], salt), 0);
+        assert_eq!(used_after(64, &nothing(salt)[..3], salt), 3);
+    }
+
+    /// However many parts it is read in.
+    #[test]
+    fn what_was_written_ahead_is_seen_over_all_parts() {
+        let salt = 0x0123_4567_89ab_cdef;
+        for end in [1, 100, PART - 1, PART, PART + 1, 3 * PART + 5] {
+            let ahead = ahead_of(end as u64, 100, salt);
+            let bytes = [&vec![7; end][..], &ahead].concat();
+            assert_eq!(used_after(0, &bytes, salt), end);
+            assert_eq!(used_after(1, &bytes[1..], salt), end - 1);
+        }
     }
 }

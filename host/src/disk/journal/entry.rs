@@ -8,11 +8,18 @@ pub const MAGIC: [u8; 4] = [0xe7, b'P', b'I', b'T'];
 /// The bytes before the payload: magic, the payload's length, the entry's number, the checksum.
 pub const FRONT: usize = 4 + 4 + 8 + 8;
 const CHECKSUM_AT: usize = 16;
-/// A payload begins with so many numbers: the kind, and up to three arguments. A page or a text follows.
-const NUMBERS: usize = 4;
-/// The shortest payload and the longest, which has a page of the greatest size.
-const LEAST: usize = 8 * NUMBERS;
+/// The shortest payload, of the kind and three arguments, and the longest: as many, and a page of the greatest size.
+const LEAST: usize = 8 * 4;
 const MOST: usize = LEAST + 4_096;
+/// The longest payload of an entry without a page or a text: the kind and five arguments.
+const MOST_NUMBERS: usize = 8 * NUMBERS;
+/// The length of the longest entry, and of one that notes something.
+pub const MOST_ENTRY: usize = FRONT + MOST;
+pub const NOTE: usize = FRONT + LEAST;
+
+/// The kind of an entry and its arguments; those that it does not have are 0.
+const NUMBERS: usize = 6;
+pub type Numbers = [u64; NUMBERS];
 
 /// What an entry holds.
 #[derive(Clone, Copy, Debug, PartialEq, Eq)]
@@ -21,6 +28,9 @@ pub enum Content<'a> {
     Call(Call<'a>),
     /// No call: all entries up to this number were on the disk when this was written.
     Synced,
+    /// No call: this is the number of the journal's last entry. All were on the disk when this was written, and so was the header of
+    /// the journal that goes on after this one.
+    Ended,
 }
 
 /// A whole entry.
@@ -32,13 +42,22 @@ pub struct Entry<'a> {
 /// Appends an entry. Its checksum is left open, for [`seal`].
 pub fn encode(content: &Content<'_>, number: u64, to: &mut Vec<u8>) {
     let (numbers, bytes) = parts(content);
-    let length = LEAST + bytes.len(); // of an accepted call, at most MOST
+    encode_parts(&numbers, bytes, number, to);
+}
+
+/// The same of these numbers, the kind first, and bytes: three arguments, or five where one of the last two is not 0.
+pub fn encode_parts(numbers: &Numbers, bytes: &[u8], number: u64, to: &mut Vec<u8>) {
+    let count = match numbers {
+        [.., 0, 0] => LEAST,
+        _ => MOST_NUMBERS,
+    };
+    let length = count + bytes.len(); // of an accepted call, at most MOST
     to.reserve(FRONT + length);
     to.extend_from_slice(&MAGIC);
     to.extend_from_slice(&(length as u32).to_le_bytes());
     to.extend_from_slice(&number.to_le_bytes());
     to.extend_from_slice(&[0; 8]);
-    for number in numbers {
+    for number in &numbers[..count / 8] {
         to.extend_from_slice(&number.to_le_bytes());
     }
     to.extend_from_slice(bytes);
@@ -76,25 +95,44 @@ impl<'a> Entry<'a> {
         FRONT + self.payload.len()
     }
 
-    /// What it holds; its kind, where that is not known here.
+    /// What it holds; its kind, where that or its form is not known here.
     pub fn content(&self) -> Result<Content<'a>, u64> {
-        let number = |k: usize| u64_at(self.payload, 8 * k);
-        let (a, b, c) = (number(1), number(2), number(3));
-        let bytes = &self.payload[LEAST..];
+        let (numbers, bytes) = self.parts()?;
+        let [kind, a, b, c, ..] = numbers;
         #[rustfmt::skip]
-        let call = match number(0) {
-            SYNCED => return Ok(Content::Synced),
-            BEGIN => Call::Begin { n: a },
-            PUT => Call::Put { ticket: a, i: b, bytes },
-            WRITE => Call::Write { line: a, ticket: b, first: c },
-            APPEND => Call::Append { line: a, ticket: b },
-            WEAVE => Call::Weave { ticket: a, count: b },
-            PUBLISH => Call::Publish { line: a, minute: b },
-            SET_WINDOWS => Call::SetWindows { text: bytes },
-            BRANCH => Call::Branch { line: a, version: b },
-            kind => return Err(kind),
+        let call = match numbers {
+            // calls with five arguments have their arms here
+            [.., d, e] if (d, e) != (0, 0) => return Err(kind),
+            [SYNCED, 1, ..] => return Ok(Content::Ended),
+            [SYNCED, ..] => return Ok(Content::Synced),
+            [BEGIN, ..] => Call::Begin { n: a },
+            [PUT, ..] => Call::Put { ticket: a, i: b, bytes },
+            [WRITE, ..] => Call::Write { line: a, ticket: b, first: c },
+            [APPEND, ..] => Call::Append { line: a, ticket: b },
+            [WEAVE, ..] => Call::Weave { ticket: a, count: b },
+            [PUBLISH, ..] => Call::Publish { line: a, minute: b },
+            [SET_WINDOWS, ..] => Call::SetWindows { text: bytes },
+            [BRANCH, ..] => Call::Branch { line: a, version: b },
+            _ => return Err(kind),
         };
         Ok(Content::Call(call))
+    }
+
+    /// Its numbers, the kind first, and the bytes after them; the kind, where it has no such form.
+    pub fn parts(&self) -> Result<(Numbers, &'a [u8]), u64> {
+        let kind = u64_at(self.payload, 0);
+        let (of_numbers, bytes) = match kind {
+            PUT | SET_WINDOWS => self.payload.split_at(LEAST),
+            _ => (self.payload, &[][..]),
+        };
+        if of_numbers.len() > MOST_NUMBERS || of_numbers.len() % 8 != 0 {
+            return Err(kind);
+        }
+        let mut numbers = [0; NUMBERS];
+        for (number, at) in numbers.iter_mut().zip((0..of_numbers.len()).step_by(8)) {
+            *number = u64_at(of_numbers, at);
+        }
+        Ok((numbers, bytes))
     }
 }
 
@@ -124,20 +162,21 @@ const BRANCH: u64 = 8;
 
 /// An entry's numbers, the kind first, and the bytes after them.
 #[rustfmt::skip]
-fn parts<'a>(content: &Content<'a>) -> ([u64; NUMBERS], &'a [u8]) {
+fn parts<'a>(content: &Content<'a>) -> (Numbers, &'a [u8]) {
     let call = match content {
         Content::Call(call) => *call,
-        Content::Synced => return ([SYNCED, 0, 0, 0], &[]),
+        Content::Synced => return ([SYNCED, 0, 0, 0, 0, 0], &[]),
+        Content::Ended => return ([SYNCED, 1, 0, 0, 0, 0], &[]),
     };
     match call {
-        Call::Begin { n } => ([BEGIN, n, 0, 0], &[]),
-        Call::Put { ticket, i, bytes } => ([PUT, ticket, i, 0], bytes),
-        Call::Write { line, ticket, first } => ([WRITE, line, ticket, first], &[]),
-        Call::Append { line, ticket } => ([APPEND, line, ticket, 0], &[]),
-        Call::Weave { ticket, count } => ([WEAVE, ticket, count, 0], &[]),
-        Call::Publish { line, minute } => ([PUBLISH, line, minute, 0], &[]),
-        Call::SetWindows { text } => ([SET_WINDOWS, 0, 0, 0], text),
-        Call::Branch { line, version } => ([BRANCH, line, version, 0], &[]),
+        Call::Begin { n } => ([BEGIN, n, 0, 0, 0, 0], &[]),
+        Call::Put { ticket, i, bytes } => ([PUT, ticket, i, 0, 0, 0], bytes),
+        Call::Write { line, ticket, first } => ([WRITE, line, ticket, first, 0, 0], &[]),
+        Call::Append { line, ticket } => ([APPEND, line, ticket, 0, 0, 0], &[]),
+        Call::Weave { ticket, count } => ([WEAVE, ticket, count, 0, 0, 0], &[]),
+        Call::Publish { line, minute } => ([PUBLISH, line, minute, 0, 0, 0], &[]),
+        Call::SetWindows { text } => ([SET_WINDOWS, 0, 0, 0, 0, 0], text),
+        Call::Branch { line, version } => ([BRANCH, line, version, 0, 0, 0], &[]),
     }
 }
 

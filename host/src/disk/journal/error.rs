@@ -131,6 +131,8 @@ pub struct Cut {
     /// How many whole entries were cut off with it, since one before them is damaged. None of them is known to have been on
     /// the disk: a power cut leaves what was not yet synced in any order.
     pub whole: u64,
+    /// The name of the file in the folder that what was cut off is kept in: where whole entries are in it, and the folder was opened.
+    pub kept: Option<String>,
 }
 
 impl fmt::Display for Cut {
@@ -147,12 +149,16 @@ impl fmt::Display for Cut {
             f,
             "{bytes} bytes were cut off journal-{generation} from byte {offset} on: the entry after entry {after} is {how}"
         )?;
-        match self.whole {
-            0 => Ok(()),
-            whole => write!(
+        if self.whole > 0 {
+            let whole = self.whole;
+            write!(
                 f,
                 ", and {whole} whole ones behind it were never known to be on the disk"
-            ),
+            )?;
+        }
+        match &self.kept {
+            None => Ok(()),
+            Some(name) => write!(f, "; what was cut off is kept in {name}"),
         }
     }
 }

@@ -21,21 +21,39 @@ const KEPT_ROOM: usize = 1 << 20;
 const AGAIN_AFTER: [u64; 4] = [1, 10, 100, 500];
 /// The system's number for that. `ErrorKind` has a name for it only since Rust 1.83.
 const NO_ROOM: i32 = 28;
+/// And those of a quota, and of the length that a file may have.
+const NO_MORE: [i32; 2] = [122, 27];
 
-/// Whether a write failed since the disk has no room.
+/// Whether a write failed since there is no room: on the disk, or for this user or this process.
 pub fn is_no_room(error: &io::Error) -> bool {
-    error.raw_os_error() == Some(NO_ROOM)
+    let is_no_room = |number: i32| number == NO_ROOM || NO_MORE.contains(&number);
+    error.raw_os_error().map_or(false, is_no_room)
 }
 
 fn write_at(file: &File, bytes: &[u8], at: u64) -> io::Result<()> {
     for pause in AGAIN_AFTER {
         match file.write_all_at(bytes, at) {
-            Err(e) if is_no_room(&e) => (),
+            Err(e) if e.raw_os_error() == Some(NO_ROOM) => (),
             done => return done,
         }
         thread::sleep(Duration::from_millis(pause));
     }
     file.write_all_at(bytes, at)
+}
+
+/// An entry by itself.
+fn sealed(content: &Content<'_>, number: u64, salt: u64) -> Vec<u8> {
+    let mut entry = Vec::new();
+    encode(content, number, &mut entry);
+    seal(&mut entry, salt);
+    entry
+}
+
+/// Notes at the end of a journal with this salt, whose last entry has this number, that it has ended: from here on the next one, whose
+/// header is on the disk, is not to be missed. Without that its loss would go unseen.
+pub fn note_ended(file: &File, end: u64, last: u64, salt: u64) -> io::Result<()> {
+    write_at(file, &sealed(&Content::Ended, last, salt), end)?;
+    file.sync_data()
 }
 
 /// A journal's file, and how far it is written.
@@ -75,7 +93,7 @@ impl Output {
         };
         output.file.sync_all()?;
         if found.noted < found.last {
-            output.note_synced(found.last)?;
+            output.note_synced_if_room(found.last)?;
         }
         Ok(output)
     }
@@ -108,14 +126,38 @@ impl Output {
         self.write(&mut entry)
     }
 
+    /// The same, unless the disk has no room for it: the store is the same without.
+    fn note_synced_if_room(&mut self, number: u64) -> io::Result<()> {
+        if number < self.header.first {
+            return Ok(());
+        }
+        let note = sealed(&Content::Synced, number, self.header.salt);
+        match self.file.write_all_at(&note, self.length) {
+            Err(error) if is_no_room(&error) => {
+                let _ = self.file.set_len(self.length); // what is left is cut off at the next opening
+                self.end = self.length;
+                return Ok(());
+            }
+            written => written?,
+        }
+        self.length += note.len() as u64;
+        self.end = self.end.max(self.length);
+        Ok(())
+    }
+
     fn go_on_in(&mut self, mut ended: Ended) -> io::Result<()> {
         self.write(&mut ended.entries)?;
         self.trim()?;
         self.file.sync_data()?;
+        let (file, salt, end) = (Arc::clone(&self.file), self.header.salt, self.length);
         self.file = Arc::new(ended.next);
         self.header = ended.header;
         self.length = 0;
-        self.begin_file()
+        self.begin_file()?;
+        match self.header.before {
+            0 => Ok(()), // a store that was rebuilt: the journal counts only with its saved store
+            _ => note_ended(&file, end, self.header.first - 1, salt),
+        }
     }
 
     fn begin_file(&mut self) -> io::Result<()> {
@@ -126,10 +168,12 @@ impl Output {
         Ok(())
     }
 
-    /// Says that the journal, which has nothing but its header yet, goes on after the one with this salt.
-    pub fn go_on_after(&mut self, before: u64) -> io::Result<()> {
+    /// Says that the journal, which has nothing but its header yet, goes on after the one with this salt, which is in this file.
+    pub fn go_on_after(&mut self, before: u64, file: &File) -> io::Result<()> {
+        let end = file.metadata()?.len();
         self.header.before = before;
-        self.begin_file()
+        self.begin_file()?;
+        note_ended(file, end, self.header.first - 1, before)
     }
 
     /// After a write that failed: takes away what it may have left. No call has returned by any of it.

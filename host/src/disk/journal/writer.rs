@@ -29,6 +29,14 @@ pub struct Journal {
     process: u32,
 }
 
+/// Where a journal ends that was closed: its header, its length in bytes, and the number of its last entry.
+#[derive(Clone, Copy, Debug, PartialEq, Eq)]
+pub struct End {
+    pub header: Header,
+    pub length: u64,
+    pub last: u64,
+}
+
 struct Shared {
     policy: SyncAt,
     /// Held by the one that writes.
@@ -148,15 +156,18 @@ impl Journal {
         hold(&self.shared.taken).switch(next, header);
     }
 
-    /// Says that this journal, which has nothing but its header yet, goes on after the one with this salt. Called after `settle`.
-    pub fn go_on_after(&self, before: u64) -> io::Result<()> {
-        hold(&self.shared.output).go_on_after(before)
+    /// Says that this journal, which has nothing but its header yet, goes on after the one with this salt, which is in this file and has
+    /// ended. Called after `settle`.
+    pub fn go_on_after(&self, before: u64, file: &File) -> io::Result<()> {
+        let mut output = hold(&self.shared.output);
+        let ready = hold(&self.shared.progress).check_open();
+        ready.map_err(|e| io::Error::new(io::ErrorKind::Other, e.to_string()))?;
+        output.go_on_after(before, file)
     }
 
     /// Writes and syncs all that was taken, and takes away what was written ahead. From then on nothing is written any more: neither
-    /// entries nor notes, by whichever thread. Gives the length in bytes and the number of the last entry; the failure, where there
-    /// was one. Closing it twice does no harm.
-    pub fn close(&self) -> Result<(u64, u64), FileError> {
+    /// entries nor notes, by whichever thread. Gives where it ends; the failure, where there was one. Closing it twice does no harm.
+    pub fn close(&self) -> Result<End, FileError> {
         if self.process != std::process::id() {
             return Err(FileError::Closed); // by fork: it is the other process's
         }
@@ -168,7 +179,8 @@ impl Journal {
         self.shared.close()
     }
 
-    /// Returns when all entries before the last switch are synced, and the header of the journal after it is.
+    /// Returns when all entries before the last switch are synced, the header of the journal after it is, and so is the note that the
+    /// one before it has ended.
     pub fn settle(&self) -> Result<(), FileError> {
         self.shared.write(&mut hold(&self.shared.output))
     }
@@ -305,7 +317,7 @@ impl Shared {
     }
 
     /// See [`Journal::close`]. All who write hold `output`, and look first whether it is closed: so nobody does once this has set it.
-    fn close(&self) -> Result<(u64, u64), FileError> {
+    fn close(&self) -> Result<End, FileError> {
         let synced = if hold(&self.progress).closed {
             Ok(())
         } else {
@@ -324,7 +336,11 @@ impl Shared {
             self.end(&mut output, written)?;
         }
         hold(&self.progress).check()?;
-        Ok((output.length, written))
+        Ok(End {
+            header: output.header,
+            length: output.length,
+            last: written,
+        })
     }
 
     /// Syncs what others have written since the last sync, without what was written ahead.

@@ -1,9 +1,14 @@
 use super::run::{copy, names, open, Run, Scratch};
 use crate::calls::difference::Difference;
+use crate::disk::file::FileError;
 use crate::disk::folder::{earlier, Comparison, Folder, Options};
 use crate::disk::journal::tests::random::first_seed;
+use crate::disk::journal::JournalErrorKind;
 use std::fs;
 use std::path::PathBuf;
+
+/// The length of the note at the end of a journal that has ended.
+const NOTE: usize = 56;
 
 /// Copies of a folder at each step, each with the store that it must open to.
 struct Copies {
@@ -77,7 +82,8 @@ fn nothing_is_saved_before_the_next_journal_has_begun() {
     copies.check(&run);
 }
 
-/// The header of the next journal is torn at every byte.
+/// The header of the next journal is torn at every byte: the one before does not yet say that it has ended. Where it does, the next one
+/// was lost.
 #[test]
 fn a_journal_that_was_only_being_begun_counts_as_none() {
     let (mut run, copies) = begin("begun");
@@ -91,6 +97,11 @@ fn a_journal_that_was_only_being_begun_counts_as_none() {
         let path = copies.scratch.file(&format!("torn-{length}"));
         copy(&run.folder.path, &path);
         fs::write(path.join("journal-2"), &header[..length]).unwrap();
+        let refused = open(&path).unwrap_err();
+        assert!(matches!(refused, FileError::Journal(e) if e.kind == JournalErrorKind::Header));
+
+        let before = fs::read(path.join("journal-1")).unwrap();
+        fs::write(path.join("journal-1"), &before[..before.len() - NOTE]).unwrap();
         let (store, opened) = open(&path).unwrap();
         assert!(store == run.store);
         assert_eq!((opened.journals, opened.cut), (1, None));

@@ -93,14 +93,15 @@ fn a_missing_journal_is_an_error() {
     assert_eq!(refused.to_string(), "journal-2 is not in the folder");
 }
 
-/// Of a journal that another goes on after, nothing may be cut off.
+/// Of a journal that another goes on after, nothing may be cut off but notes: the last is that it has ended, and before it stands one
+/// of its last sync.
 #[test]
 fn a_journal_that_ends_before_the_next_begins_is_an_error() {
     let scene = Scene::new("ended");
     let length = fs::metadata(scene.0.file("folder/journal-3"))
         .unwrap()
         .len();
-    for cut in [1, 60, length - 64] {
+    for cut in [113, 120, length - 64] {
         let error = scene.journal_refused(&format!("cut-{cut}"), |path| {
             edit(&path.join("journal-3"), |bytes| {
                 bytes.truncate((length - cut) as usize);

@@ -178,7 +178,8 @@ fn a_torn_entry_is_cut_off_and_the_journal_goes_on_there() {
     run.folder = folder;
     run.calls(1);
     drop(run);
-    // within the entry after what was there
+    // within the entry after what was there, as where it was not closed
+    fs::remove_file(path.join("closed")).unwrap();
     let file = OpenOptions::new().write(true).open(&journal).unwrap();
     file.set_len(length + 40).unwrap();
     let (store, _, folder, opened) = Folder::open(&path, Options::new()).unwrap();

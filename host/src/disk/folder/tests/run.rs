@@ -68,12 +68,13 @@ pub fn open(path: &Path) -> Result<(Store, Opened), FileError> {
     Ok((store, opened))
 }
 
-/// The names of a folder's files, in order.
+/// The names of a folder's files, in order; but for the note of a close, which says nothing of other journals.
 pub fn names(path: &Path) -> Vec<String> {
     let entries = fs::read_dir(path).unwrap();
     let name = |entry: std::io::Result<fs::DirEntry>| entry.unwrap().file_name();
     let mut names: Vec<_> = entries
         .map(|entry| name(entry).into_string().unwrap())
+        .filter(|name| name != "closed")
         .collect();
     names.sort();
     names

@@ -4,16 +4,27 @@ use super::random::{first_seed, Random};
 use super::scene::{empty_store, Scene, HEADER};
 use crate::calls::error::Error;
 use crate::calls::store::{Published, Store};
+use crate::disk::file::FileError;
 use crate::disk::journal::entry::{encode, seal, Content};
+use crate::disk::journal::input::{Input, ReadAt};
 use crate::disk::journal::{replay, Call, JournalError, JournalErrorKind, ReplayError, Replayed};
+use std::cell::Cell;
+use std::io;
 
 const CALLS: u64 = 150;
 
 /// The store that a journal makes, and what was found.
 fn replayed(bytes: &[u8]) -> Result<(Store, Replayed), JournalError> {
     let mut store = empty_store();
-    let replayed = replay(bytes, &HEADER, &mut store)?;
-    Ok((store, replayed))
+    match replay(&input(bytes), &HEADER, &mut store) {
+        Ok(replayed) => Ok((store, replayed)),
+        Err(FileError::Journal(error)) => Err(error),
+        Err(other) => panic!("{other}"),
+    }
+}
+
+fn input(bytes: &[u8]) -> Input {
+    Input::of(Box::new(bytes.to_vec()), bytes.len() as u64).unwrap()
 }
 
 /// Checks that a journal gives the store after its first entries, so many, and is cut just behind them.
@@ -56,7 +67,7 @@ fn what_was_synced_is_known_to_the_byte() {
     let seed = first_seed("what_was_synced_is_known_to_the_byte");
     let whole = Scene::new(seed, CALLS);
     let (_, found) = replayed(&whole.bytes).unwrap();
-    assert_eq!(found.noted_bytes(&whole.bytes), 0);
+    assert_eq!(found.noted_bytes(&input(&whole.bytes)).unwrap(), 0);
     for synced in [1, 40, CALLS as usize] {
         let mut note = Vec::new();
         let number = HEADER.first - 1 + synced as u64;
@@ -66,8 +77,8 @@ fn what_was_synced_is_known_to_the_byte() {
             let mut bytes = whole.bytes.clone();
             bytes.splice(whole.begins[at]..whole.begins[at], note.clone());
             let (_, found) = replayed(&bytes).unwrap();
-            let end = whole.begins[synced];
-            assert_eq!(found.noted_bytes(&bytes), end, "{synced} noted after {at}");
+            let (end, noted) = (whole.begins[synced], found.noted_bytes(&input(&bytes)));
+            assert_eq!(noted.unwrap() as usize, end, "{synced} noted after {at}");
         }
     }
 }
@@ -165,6 +176,75 @@ fn a_power_cut_loses_nothing_that_was_synced() {
         let entries = replayed.entries() as usize;
         assert!(entries >= synced, "PIT_SEED={seed}");
         assert!(store == scene.stores[entries], "PIT_SEED={seed}");
+    }
+}
+
+/// A journal that another process is writing: what is read of it is at first so much, and all of it later.
+struct InWork {
+    now: Vec<u8>,
+    later: Vec<u8>,
+    reads: Cell<usize>,
+}
+
+impl ReadAt for InWork {
+    fn read_at(&self, to: &mut [u8], place: u64) -> io::Result<usize> {
+        let reads = self.reads.replace(self.reads.get() + 1);
+        // the header, and the entries
+        let bytes = if reads < 2 { &self.now } else { &self.later };
+        bytes.read_at(to, place)
+    }
+}
+
+/// What is behind an entry that was not whole when it was read may be newer, and say that it was synced.
+#[test]
+fn an_entry_that_becomes_whole_while_the_journal_is_read_is_not_damaged() {
+    let scene = Scene::new(first_seed("becomes_whole"), 40).synced();
+    for end in (scene.begins[0]..scene.begins[40]).step_by(37) {
+        let mut now = scene.bytes.clone();
+        now[end..].fill(0);
+        let in_work = InWork {
+            now,
+            later: scene.bytes.clone(),
+            reads: Cell::new(0),
+        };
+        let input = Input::of(Box::new(in_work), scene.bytes.len() as u64).unwrap();
+        let mut store = empty_store();
+        let found = replay(&input, &HEADER, &mut store).unwrap();
+        assert_eq!((found.entries(), found.cut), (40, None));
+        assert!(store == scene.stores[40]);
+    }
+}
+
+/// A journal that says that it has ended has nothing behind that; and where what stands before it is damaged, it has not been cut off.
+#[test]
+fn a_journal_that_has_ended_goes_no_further() {
+    let scene = Scene::new(5, 10).synced();
+    let note = |number: u64| {
+        let mut note = Vec::new();
+        encode(&Content::Ended, number, &mut note);
+        seal(&mut note, HEADER.salt);
+        note
+    };
+    let ended = [&scene.bytes[..], &note(scene.last())].concat();
+    let (_, found) = replayed(&ended).unwrap();
+    assert!(found.ended && found.cut.is_none());
+    assert_eq!(
+        (found.last, found.length),
+        (scene.last(), ended.len() as u64)
+    );
+    for more in [&note(scene.last()), &scene.bytes[scene.begins[10]..]] {
+        let error = replayed(&[&ended[..], more].concat()).unwrap_err();
+        assert_eq!(error.kind, JournalErrorKind::OutOfTurn(scene.last()));
+    }
+    let early = [&scene.bytes[..scene.begins[9]], &note(scene.last())].concat();
+    let error = replayed(&early).unwrap_err();
+    assert_eq!(error.kind, JournalErrorKind::OutOfTurn(scene.last()));
+    // any byte, also of the note of the sync before
+    for at in scene.begins[0]..scene.bytes.len() {
+        let mut damaged = ended.clone();
+        damaged[at] ^= 4;
+        let error = replayed(&damaged).unwrap_err();
+        assert_eq!(error.kind, JournalErrorKind::Damaged, "byte {at}");
     }
 }
 

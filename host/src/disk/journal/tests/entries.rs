@@ -1,5 +1,7 @@
 use super::scene::{Scene, HEADER};
-use crate::disk::journal::entry::{encode, is_cut_off, seal, Content, Entry};
+use crate::disk::journal::entry::{
+    encode, encode_parts, is_cut_off, seal, Content, Entry, Numbers,
+};
 use crate::disk::journal::header::{new_salt, Header};
 use crate::disk::journal::{Call, JournalErrorKind};
 
@@ -47,7 +49,7 @@ fn sealed(content: &Content<'_>, number: u64) -> Vec<u8> {
 #[test]
 fn every_call_is_read_as_it_was_written() {
     let calls = CALLS.iter().map(|call| Content::Call(*call));
-    for (number, content) in (1..).zip(calls.chain([Content::Synced])) {
+    for (number, content) in (1..).zip(calls.chain([Content::Synced, Content::Ended])) {
         let mut bytes = sealed(&content, number);
         let length = bytes.len();
         bytes.extend([0xe7; 40]);
@@ -60,6 +62,46 @@ fn every_call_is_read_as_it_was_written() {
             assert!(is_cut_off(&bytes[..cut]), "{cut} of {length}");
         }
     }
+}
+
+/// A call may have five arguments. Those of the calls that there are have three, as ever: a journal of theirs is the same as before.
+#[test]
+fn an_entry_has_three_to_five_arguments() {
+    let raw = |numbers: &Numbers, bytes: &[u8]| {
+        let mut entry = Vec::new();
+        encode_parts(numbers, bytes, 7, &mut entry);
+        seal(&mut entry, SALT);
+        entry
+    };
+    // 99 stands for a call that is not known here
+    for (numbers, length) in [
+        ([99, 1, 2, 3, 4, 5], 24 + 48),
+        ([99, 1, 2, 3, 0, u64::MAX], 24 + 48),
+        ([99, 0, 0, 0, 4, 0], 24 + 48),
+        ([99, 1, 2, 3, 0, 0], 24 + 32),
+    ] {
+        let bytes = raw(&numbers, &[]);
+        assert_eq!(bytes.len(), length);
+        let entry = Entry::at_front(&bytes, SALT).unwrap();
+        assert_eq!(entry.parts(), Ok((numbers, &[][..])));
+        assert_eq!((entry.number, entry.content()), (7, Err(99)));
+    }
+    // with four, the fifth is 0
+    let four = &[99, 1, 2, 3, 4].map(u64::to_le_bytes).concat()[8..];
+    let mut bytes = raw(&[99, 1, 2, 3, 0, 0], &four[24..]);
+    let entry = Entry::at_front(&bytes, SALT).unwrap();
+    assert_eq!(entry.parts(), Ok(([99, 1, 2, 3, 4, 0], &[][..])));
+    // a page stands behind three; what has none has whole numbers, and no more than five
+    bytes = raw(&[2, 1, 2, 3, 0, 0], &[9; 16]);
+    let entry = Entry::at_front(&bytes, SALT).unwrap();
+    assert_eq!(entry.parts(), Ok(([2, 1, 2, 3, 0, 0], &[9; 16][..])));
+    for more in [1, 7, 9, 24] {
+        bytes = raw(&[1, 1, 2, 3, 0, 0], &vec![9; more]);
+        assert_eq!(Entry::at_front(&bytes, SALT).unwrap().content(), Err(1));
+    }
+    // and the calls of three have no others
+    bytes = raw(&[1, 1, 2, 3, 0, 1], &[]);
+    assert_eq!(Entry::at_front(&bytes, SALT).unwrap().content(), Err(1));
 }
 
 #[test]

@@ -31,6 +31,7 @@ fn header(generation: u64) -> Header {
     Header {
         generation,
         salt: generation,
+        before: generation - 1,
         ..HEADER
     }
 }
@@ -45,6 +46,9 @@ fn found(path: &Path, last: u64) -> Replayed {
         header: HEADER,
         last,
         noted: last,
+        noted_end: (HEADER.first - 1, 64),
+        call_end: 64,
+        ended: false,
         length: fs::metadata(path).unwrap().len(),
         cut: None,
     }
@@ -58,13 +62,21 @@ fn entries_in(path: &Path, generation: u64) -> (Header, Vec<(u64, u64)>, u64) {
     while let Some(entry) = Entry::at_front(rest, header.salt) {
         match entry.content().unwrap() {
             Content::Call(Call::Begin { n }) => entries.push((entry.number, n)),
-            Content::Synced => synced = entry.number,
+            Content::Synced | Content::Ended => synced = entry.number,
             other => panic!("{other:?}"),
         }
         rest = &rest[entry.length()..];
     }
     assert!(rest.is_empty());
     (header, entries, synced)
+}
+
+/// Whether a journal, which has no pages, says at its end that another goes on after it.
+fn has_ended(path: &Path) -> bool {
+    let bytes = fs::read(path).unwrap();
+    let salt = Header::of(&bytes, bytes[16].into()).unwrap().unwrap().salt;
+    let note = Entry::at_front(&bytes[bytes.len() - 56..], salt);
+    note.map_or(false, |note| note.content() == Ok(Content::Ended))
 }
 
 /// Takes and keeps so many entries, of which each says what was taken; every third shows something.
@@ -198,6 +210,7 @@ fn the_next_journal_goes_on_under_load() {
     for generation in 3..=last {
         let (header, entries, _) = entries_in(&path(generation), generation);
         assert_eq!(header.first, next);
+        assert_eq!(has_ended(&path(generation)), generation < last);
         check_in_order(&entries, next, entries.len() as u64);
         next += entries.len() as u64;
     }
@@ -248,6 +261,82 @@ fn refused(result: Result<(), FileError>) -> String {
         Err(FileError::JournalFailed { words, .. }) => words,
         other => panic!("{other:?}"),
     }
+}
+
+/// What was taken is on the disk, and whoever takes more is told.
+#[test]
+fn a_journal_that_is_closed_takes_no_more() {
+    let scratch = Scratch::new("closed");
+    let every = SyncAt::Every(Duration::from_millis(1));
+    for (k, policy) in [SyncAt::EachCall, LATER, every].into_iter().enumerate() {
+        let path = scratch.file(&k.to_string());
+        let journal = begin(&path, policy);
+        assert_eq!([0, 1, 2].map(|n| journal.take(&call(n))), [41, 42, 43]);
+        let closed = journal.close().unwrap();
+        let length = fs::metadata(&path).unwrap().len();
+        assert_eq!((closed.header, closed.last), (HEADER, 43));
+        assert_eq!(closed.length, length);
+        assert_eq!((journal.written(), journal.synced()), (43, 43));
+        let is_closed = |result| matches!(result, Err(FileError::Closed));
+        assert!(is_closed(journal.ready()));
+        let number = journal.take(&call(4));
+        assert!(is_closed(journal.keep(number, true)));
+        assert!(is_closed(journal.sync()));
+        journal.keep(43, true).unwrap();
+        assert_eq!(journal.close().unwrap(), closed);
+        drop(journal);
+        assert_eq!(fs::metadata(&path).unwrap().len(), length);
+        let (_, entries, synced) = entries_in(&path, 3);
+        assert_eq!((entries, synced), (vec![(41, 0), (42, 1), (43, 2)], 43));
+    }
+}
+
+/// Each entry whose writer was told that it is kept is there, and nothing is written after the close.
+#[test]
+fn a_journal_is_closed_under_load() {
+    let scratch = Scratch::new("closed-load");
+    for (k, policy) in [SyncAt::EachCall, SyncAt::Every(Duration::ZERO)]
+        .into_iter()
+        .enumerate()
+    {
+        let path = scratch.file(&k.to_string());
+        let journal = begin(&path, policy);
+        let (kept, closed) = thread::scope(|threads| {
+            let kept = || {
+                let numbers = (0..).map(|n| journal.take(&call(n)));
+                let kept = numbers.take_while(|number| journal.keep(*number, true).is_ok());
+                kept.last().unwrap_or(0)
+            };
+            let writers = [(); 3].map(|()| threads.spawn(kept));
+            while journal.synced() < 100 {
+                thread::yield_now();
+            }
+            let closed = journal.close().unwrap();
+            assert_eq!(fs::metadata(&path).unwrap().len(), closed.length);
+            let kept = writers.map(|writer| writer.join().unwrap());
+            (kept.into_iter().max().unwrap(), closed)
+        });
+        assert!(kept <= closed.last);
+        assert_eq!(fs::metadata(&path).unwrap().len(), closed.length);
+        let (_, entries, _) = entries_in(&path, 3);
+        check_in_order(&entries, 41, closed.last - 40);
+        assert_eq!(journal.close().unwrap(), closed);
+    }
+}
+
+/// A failure is told also by closing, and nothing more is written.
+#[test]
+fn a_journal_that_has_failed_is_closed_with_its_failure() {
+    let journal = never_synced(SyncAt::EachCall);
+    let number = journal.take(&call(1));
+    let words = refused(journal.keep(number, true));
+    for _ in 0..2 {
+        assert_eq!(refused(journal.close().map(drop)), words);
+    }
+    let journal = never_synced(SyncAt::EachPublish);
+    journal.take(&call(1));
+    refused(journal.close().map(drop));
+    refused(journal.ready());
 }
 
 /// A file that can only be read stands for one that fails.
