@@ -115,8 +115,12 @@ impl Durable {
     /// Opens a folder: the saved store, and the calls of the journal made again. They are proved to be a function of what they are
     /// given, so the store is the same to the last byte. Also tells what it was opened from.
     ///
-    /// What is not whole at the journal's end, as a crash leaves it, is cut off, and [`Opened`] says so. Damage before that is an error,
-    /// and nothing is changed.
+    /// What is not whole at the journal's end, as a crash leaves it, is cut off, and [`Opened`] says so. Where whole entries are in it, it is
+    /// kept in a file beside. Damage before that is an error, and nothing is changed; so is a last journal that is missing, or that holds
+    /// fewer entries than when it was closed in order.
+    ///
+    /// Where there was more than one journal, as after a checkpoint that failed, the store is saved anew at once, in the background, unless
+    /// the [`Options`] say that it never is by itself; [`checkpoint_failure`](Durable::checkpoint_failure) tells where that failed.
     pub fn open(folder: impl AsRef<Path>, options: Options) -> Result<(Durable, Opened), Failure> {
         let (store, numbers, folder, opened) = Folder::open(folder, options)?;
         let core = Core::new(store, numbers);
@@ -222,8 +226,8 @@ impl Durable {
     }
 
     /// Saves the store as it is at one moment of this call, and begins a new journal from there. Readers do not wait for it, and writers not for
-    /// the saving: only for two short syncs, of the end of the one journal and the beginning of the next. At every byte of it the folder opens
-    /// to the same store. Gives the last published version of line 0 in it.
+    /// the saving: only for three short syncs, of the end of the one journal, the beginning of the next, and the note that the one has
+    /// ended. At every byte of it the folder opens to the same store. Gives the last published version of line 0 in it.
     pub fn checkpoint(&self) -> Result<Version, Failure> {
         self.log.check_process()?;
         let _alone = self.core.keeping();
