@@ -2,7 +2,7 @@
 
 mod damage;
 mod entries;
-#[path = "../../../tests/random/mod.rs"]
+#[path = "../../../tests/support/random.rs"]
 pub mod random;
 pub mod scene;
 mod writing;

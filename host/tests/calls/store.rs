@@ -1,0 +1,393 @@
+//! The calls over owned and lent areas: the same answers, states and areas, also across a handing over of the parts.
+
+use crate::updates::{assign, fills, limits, of_three_versions, put_all, update, ANY_TIME, LIVE};
+use pit_host::{
+    Areas, Assigned, ByteOffset, Error, Line, LineVersion, Minute, Node, PageIndex, Parts,
+    PartsMut, Published, Record, State, Storage, Store, Ticket, Version, WindowsError,
+};
+
+/// A 64-bit xorshift generator.
+struct Random(u64);
+
+impl Random {
+    fn below(&mut self, end: u64) -> u64 {
+        self.0 ^= self.0 << 13;
+        self.0 ^= self.0 >> 7;
+        self.0 ^= self.0 << 17;
+        self.0 % end
+    }
+}
+
+/// What a call answered, with the buffer of a READ as it left it.
+#[derive(Debug, PartialEq)]
+enum Answer {
+    Ticket(Result<Ticket, Error>),
+    Put(Result<(), Error>),
+    Assigned(Result<Assigned, Error>),
+    Node(Result<Node, Error>),
+    Published(Result<Published, Error>),
+    Windows(Result<(), WindowsError>),
+    Begun(Result<Line, Error>),
+    Read(Result<(), Error>, Vec<u8>),
+    Size(Result<u64, Error>),
+    Version(Result<Version, Error>),
+    View(Result<Vec<u8>, Error>),
+}
+
+/// Lists of windows, and texts that are none.
+const LISTS: [&str; 3] = ["", "2016,2017\n9000,1000\n", "1,2\n1,1\n"];
+
+/// One call, chosen and filled in by the numbers.
+fn call<A: Storage>(store: &mut Store<A>, kind: u64, numbers: [u64; 4], fill: u8) -> Answer {
+    let [l, a, b, c] = numbers;
+    let (line, ticket, version, page) = (Line(l), Ticket(a), Version(a), PageIndex(b));
+    match kind {
+        0 => Answer::Ticket(store.begin(b)),
+        1 | 2 => Answer::Put(store.put(ticket, b, &[fill; 16])),
+        3 => Answer::Assigned(store.append(line, ticket)),
+        4 => Answer::Assigned(store.write(line, ticket, page)),
+        5..=8 => Answer::Node(store.weave(ticket)),
+        9 => Answer::Published(store.publish(line, Minute(2_016 * c))), // of the six the last is past the week
+        10 => {
+            let mut buffer = vec![fill; 40];
+            let done = store.read_front(line, version, ByteOffset(8 * b), 8 * c, &mut buffer);
+            Answer::Read(done, buffer)
+        }
+        11 => Answer::Size(store.size(line, version)),
+        12 => Answer::Version(store.recent(line)),
+        13 => Answer::Version(store.stamp(line, version, page)),
+        14 => Answer::Begun(store.branch(line, Version(b))),
+        15 => Answer::Windows(store.set_windows(LISTS[b as usize])),
+        _ => Answer::View(store.view(line, version, page).map(<[u8]>::to_vec)),
+    }
+}
+
+#[test]
+fn owned_and_lent_stores_do_the_same() {
+    let (mut published, mut random) = ([0; 3], Random(20_260_401));
+    for _ in 0..40 {
+        let mut owned = Store::format(limits(24, 60, 10)).unwrap();
+        // what stands in lent areas before FORMAT makes no difference
+        let mut record = Record::default();
+        record.n = 9;
+        let (mut pages, mut nodes, mut register) = ([7; 16 * 24], [8; 120], [record; 10]);
+        let areas = PartsMut {
+            pages: &mut pages,
+            nodes: &mut nodes,
+            register: &mut register,
+        };
+        let mut lent = Store::format_in(limits(24, 60, 10), areas).unwrap();
+        for step in 0..600 {
+            let kind = random.below(17);
+            let line = [0, 0, 1, 2][random.below(4) as usize];
+            let numbers = [line, 1 + random.below(8), random.below(3), random.below(6)];
+            let answer = call(&mut owned, kind, numbers, step as u8);
+            assert_eq!(answer, call(&mut lent, kind, numbers, step as u8));
+            assert_eq!(owned.state(), lent.state());
+            assert_eq!(owned.windows(), lent.windows());
+        }
+        assert!(owned.areas().parts() == lent.areas().parts());
+        for (published, line) in published.iter_mut().zip((0..).map(Line)) {
+            let line = owned.state().line(line);
+            *published += line.published - line.start;
+        }
+    }
+    let [live, first, second] = published;
+    assert!(live > 60 && first > 20 && second > 10, "{published:?}");
+}
+
+/// Each line has its own bits: what is packed comes back, and nothing else changes.
+#[test]
+fn lines_are_packed_beside_each_other() {
+    let (mut state, mut random) = (State::default(), Random(20_260_402));
+    let mut lines = [state.line(LIVE); 16];
+    for _ in 0..500 {
+        let at = random.below(16) as usize;
+        let line = &mut lines[at];
+        line.source = random.below(16);
+        (line.start, line.assigned) = (random.below(65_536), random.below(65_536));
+        (line.published, line.blob) = (random.below(65_536), random.below(65_536));
+        state.set_line(Line(at as u64), *line);
+        for (at, line) in (0..).zip(lines) {
+            assert_eq!(state.line(Line(at)), line, "line {at}");
+        }
+    }
+    // there are no others, and nothing is kept of a bit too many
+    let (kept, mut wide) = (state, lines[3]);
+    for line in [16, 1 << 32, u64::MAX].map(Line) {
+        state.set_line(line, lines[0]);
+        assert_eq!(
+            (state, state.line(line)),
+            (kept, State::default().line(LIVE))
+        );
+    }
+    wide.source += 16;
+    wide.blob += 1 << 16;
+    wide.start += 1 << 63;
+    state.set_line(Line(3), wide);
+    assert_eq!(state, kept);
+    // the last bits are line 15's
+    assert_eq!(state.sources >> 60, lines[15].source);
+    assert_eq!(state.lines[15] >> 48, lines[15].blob);
+}
+
+#[test]
+fn a_store_goes_on_in_the_parts_it_gave() {
+    let mut store = of_three_versions();
+    let (ticket, assigned) = assign(&mut store, LIVE, Some(0), &[8, 9]).unwrap();
+    let mut other = store.clone();
+    store.set_windows("600,660\n").unwrap();
+    for _ in 0..assigned.nodes {
+        let (state, windows, areas) = store.into_parts();
+        store = Store::resume(state, windows, areas);
+        assert_eq!(store.weave(ticket), other.weave(ticket));
+    }
+    assert_eq!(store.publish(LIVE, Minute(600)), Ok(Published::Held));
+    assert_eq!(
+        store.publish(LIVE, ANY_TIME),
+        Ok(Published::Now(Version(4)))
+    );
+    assert_eq!(fills(&store, LIVE, Version(4)), Ok(vec![8, 9, 6, 4, 7]));
+}
+
+#[test]
+fn areas_of_the_hosts_own_kind() {
+    /// Areas in vectors, such as a host may have.
+    struct Vectors(Vec<u8>, Vec<u32>, Vec<Record>);
+    impl Storage for Vectors {
+        fn parts(&self) -> Parts<'_> {
+            Parts {
+                pages: &self.0,
+                nodes: &self.1,
+                register: &self.2,
+            }
+        }
+        fn parts_mut(&mut self) -> PartsMut<'_> {
+            PartsMut {
+                pages: &mut self.0,
+                nodes: &mut self.1,
+                register: &mut self.2,
+            }
+        }
+    }
+    let vectors = Vectors(vec![1; 64], vec![1; 16], vec![Record::default(); 2]);
+    let mut store = Store::format_in(limits(4, 8, 2), vectors).unwrap();
+    assert_eq!(update(&mut store, LIVE, None, &[5, 6]), Ok(Version(1)));
+    assert_eq!(fills(&store, LIVE, Version(1)), Ok(vec![5, 6]));
+}
+
+#[test]
+fn a_published_version_never_changes() {
+    let mut store = of_three_versions();
+    let before: Vec<_> = (0..=3)
+        .map(|v| fills(&store, LIVE, Version(v)).unwrap())
+        .collect();
+    assert_eq!(
+        before,
+        [&[][..], &[1, 2, 3, 4], &[1, 5, 6, 4], &[1, 5, 6, 4, 7]]
+    );
+    for fill in 20..24 {
+        update(&mut store, LIVE, Some(u64::from(fill) - 20), &[fill]).unwrap();
+        let after: Vec<_> = (0..=3)
+            .map(|v| fills(&store, LIVE, Version(v)).unwrap())
+            .collect();
+        assert_eq!(before, after);
+    }
+}
+
+#[test]
+fn a_view_is_a_part_of_the_page_area() {
+    let store = of_three_versions();
+    let view = store.view(LIVE, Version(3), PageIndex(2)).unwrap();
+    let area = store.areas().pages().as_ptr_range();
+    assert!(area.contains(&view.as_ptr()) && view.len() == 16);
+    assert_eq!(view, [6; 16]);
+}
+
+#[test]
+fn stamps_say_which_pages_to_fetch_again() {
+    let store = of_three_versions();
+    let stamps = |v| [0, 1, 2, 3].map(|page| store.stamp(LIVE, Version(v), PageIndex(page)));
+    assert_eq!(stamps(1), [1, 1, 1, 1].map(|v| Ok(Version(v))));
+    assert_eq!(stamps(3), [1, 2, 2, 1].map(|v| Ok(Version(v))));
+}
+
+/// The step program's example, call by call: two appends, the second ticket's first.
+#[test]
+fn the_example() {
+    let node = |version, first, span, left, right, rest| {
+        let (version, first) = (LineVersion(version), PageIndex(first));
+        Ok(((version, first, span), (left, right, rest)))
+    };
+    let numbers = |woven: Result<Node, Error>| {
+        woven.map(|n| ((n.version, n.first, n.span), (n.left, n.right, n.rest)))
+    };
+    let assigned = |assigned: Result<Assigned, Error>| assigned.map(|a| (a.version, a.nodes));
+    let mut store = Store::format(limits(4, 8, 2)).unwrap();
+    let (one, two) = (
+        put_all(&mut store, &[0x11]).unwrap(),
+        put_all(&mut store, &[0x22]).unwrap(),
+    );
+    assert_eq!((one, two), (Ticket(1), Ticket(2)));
+    assert_eq!(assigned(store.append(LIVE, two)), Ok((Version(1), 1)));
+    assert_eq!(assigned(store.append(LIVE, one)), Ok((Version(2), 2)));
+    assert_eq!(numbers(store.weave(one)), node(2, 0, 2, 1, 2, 1));
+    assert_eq!(store.publish(LIVE, ANY_TIME), Ok(Published::Waiting));
+    assert_eq!(numbers(store.weave(two)), node(1, 0, 1, 1, 0, 0));
+    assert_eq!(
+        store.publish(LIVE, ANY_TIME),
+        Ok(Published::Now(Version(1)))
+    );
+    assert_eq!(
+        store.read(LIVE, Version(2), ByteOffset(0), &mut []),
+        Err(Error::NotPublished)
+    );
+    assert_eq!(numbers(store.weave(one)), node(2, 1, 1, 0, 0, 0));
+    assert_eq!(
+        store.publish(LIVE, ANY_TIME),
+        Ok(Published::Now(Version(2)))
+    );
+    let mut bytes = [0; 4];
+    assert_eq!(
+        store.read(LIVE, Version(2), ByteOffset(14), &mut bytes),
+        Ok(())
+    );
+    assert_eq!(bytes, [0x22, 0x22, 0x11, 0x11]);
+    assert_eq!(store.stamp(LIVE, Version(2), PageIndex(0)), Ok(Version(1)));
+    assert_eq!(store.begin(1), Err(Error::RegisterFull));
+}
+
+#[test]
+fn versions_are_published_in_their_order() {
+    let mut store = Store::format(limits(8, 16, 4)).unwrap();
+    let (first, one) = assign(&mut store, LIVE, None, &[1]).unwrap();
+    let (second, two) = assign(&mut store, LIVE, None, &[2]).unwrap();
+    for _ in 0..two.nodes {
+        store.weave(second).unwrap();
+    }
+    assert_eq!(store.publish(LIVE, ANY_TIME), Ok(Published::Waiting));
+    let node = store.weave(first).unwrap();
+    assert_eq!(
+        (node.version, node.first, node.span, node.rest),
+        (LineVersion::new(LIVE, one.version), PageIndex(0), 1, 0)
+    );
+    assert_eq!(
+        store.publish(LIVE, ANY_TIME),
+        Ok(Published::Now(Version(1)))
+    );
+    assert_eq!(
+        store.publish(LIVE, ANY_TIME),
+        Ok(Published::Now(Version(2)))
+    );
+    assert_eq!(store.publish(LIVE, ANY_TIME), Ok(Published::Waiting));
+}
+
+// Lines.
+
+/// A branch from version 2 of the three: it reads as its source up to there, and then each goes on by itself.
+#[test]
+fn a_branch_reads_as_its_source_and_goes_on_by_itself() {
+    let mut store = of_three_versions();
+    let plan = store.branch(LIVE, Version(2)).unwrap();
+    assert_eq!((plan, store.recent(plan)), (Line(1), Ok(Version(2))));
+    for v in (0..=2).map(Version) {
+        assert_eq!(fills(&store, plan, v), fills(&store, LIVE, v));
+    }
+    assert_eq!(store.size(plan, Version(3)), Err(Error::NotPublished));
+
+    assert_eq!(update(&mut store, plan, None, &[20, 21]), Ok(Version(3)));
+    assert_eq!(update(&mut store, LIVE, Some(0), &[8]), Ok(Version(4)));
+    assert_eq!(update(&mut store, plan, Some(3), &[22]), Ok(Version(4)));
+    let pages = |line, version| fills(&store, line, Version(version)).unwrap();
+    assert_eq!(pages(plan, 2), [1, 5, 6, 4]);
+    assert_eq!(pages(plan, 3), [1, 5, 6, 4, 20, 21]);
+    assert_eq!(pages(plan, 4), [1, 5, 6, 22, 20, 21]);
+    assert_eq!(pages(LIVE, 3), [1, 5, 6, 4, 7]);
+    assert_eq!(pages(LIVE, 4), [8, 5, 6, 4, 7]);
+    let stamps = [0, 1, 3, 4].map(|page| store.stamp(plan, Version(4), PageIndex(page)));
+    assert_eq!(stamps, [1, 2, 4, 3].map(|v| Ok(Version(v))));
+    let of_live = store.view(LIVE, Version(3), PageIndex(1)).unwrap();
+    let of_plan = store.view(plan, Version(4), PageIndex(1)).unwrap();
+    assert!(std::ptr::eq(of_live, of_plan), "the page is shared");
+}
+
+/// A node's numbers say on which line an update got its version, whichever line weaves over it.
+#[test]
+fn child_numbers_name_the_line_of_their_update() {
+    let mut store = of_three_versions();
+    let plan = store.branch(LIVE, Version(1)).unwrap();
+    update(&mut store, plan, Some(0), &[9]).unwrap();
+    let other = store.branch(plan, Version(2)).unwrap();
+    let (ticket, assigned) = assign(&mut store, other, Some(3), &[10]).unwrap();
+    assert_eq!(assigned.version, Version(3));
+    let root = store.weave(ticket).unwrap();
+    assert_eq!(
+        (root.version.line(), root.version.version()),
+        (other, Version(3))
+    );
+    let number = |line, version| LineVersion::new(line, Version(version)).0 as u32;
+    assert_eq!((root.left, root.right), (number(plan, 2), number(other, 3)));
+    let inner = store.weave(ticket).unwrap();
+    assert_eq!(
+        (inner.left, inner.right),
+        (number(LIVE, 1), number(other, 3))
+    );
+}
+
+/// Lines wait for no other: each publishes its own versions in their order.
+#[test]
+fn lines_publish_by_themselves() {
+    let mut store = Store::format(limits(8, 16, 4)).unwrap();
+    let plan = store.branch(LIVE, Version(0)).unwrap();
+    let (slow, _) = assign(&mut store, LIVE, None, &[1]).unwrap();
+    assert_eq!(update(&mut store, plan, None, &[2]), Ok(Version(1)));
+    assert_eq!(update(&mut store, plan, None, &[3]), Ok(Version(2)));
+    assert_eq!(store.publish(LIVE, ANY_TIME), Ok(Published::Waiting));
+    assert_eq!(store.recent(LIVE), Ok(Version(0)));
+    store.weave(slow).unwrap();
+    assert_eq!(store.publish(plan, ANY_TIME), Ok(Published::Waiting));
+    assert_eq!(
+        store.publish(LIVE, ANY_TIME),
+        Ok(Published::Now(Version(1)))
+    );
+    assert_eq!(fills(&store, LIVE, Version(1)), Ok(vec![1]));
+    assert_eq!(fills(&store, plan, Version(2)), Ok(vec![2, 3]));
+}
+
+#[test]
+fn areas_have_the_lengths_of_the_limits() {
+    let areas = Areas::new(&limits(3, 5, 7)).unwrap();
+    let parts = areas.parts();
+    assert_eq!(
+        (parts.pages.len(), parts.nodes.len(), parts.register.len()),
+        (48, 10, 7)
+    );
+    assert_eq!(
+        format!("{areas:?}"),
+        "Areas { pages: 48, nodes: 10, register: 7 }"
+    );
+    let store = Store::format(limits(3, 5, 7)).unwrap();
+    assert_eq!(store.limits(), limits(3, 5, 7));
+    assert!(store
+        .areas()
+        .nodes()
+        .iter()
+        .all(|number| *number == u32::MAX));
+}
+
+#[test]
+fn pages_are_put_in_any_order() {
+    let mut store = Store::format(limits(4, 8, 2)).unwrap();
+    let ticket = store.begin(3).unwrap();
+    for i in [2, 0, 1] {
+        store.put(ticket, i, &[i as u8; 16]).unwrap();
+    }
+    let assigned = store.append(LIVE, ticket).unwrap();
+    for _ in 0..assigned.nodes {
+        store.weave(ticket).unwrap();
+    }
+    let published = store.publish(LIVE, ANY_TIME).unwrap();
+    assert!(published.version().is_some());
+    assert_eq!(fills(&store, LIVE, Version(1)), Ok(vec![0, 1, 2]));
+    assert_eq!(put_all(&mut store, &[9, 9]), Err(Error::PagesFull));
+}

@@ -1,0 +1,177 @@
+//! The library, called as a host's lines say, its answers in the step program's words; and what its store, its windows and
+//! its areas hold, beside the model's.
+
+use crate::mismatch;
+use crate::model;
+use crate::model::text::{hexadecimal, hosts_step, OnLine, Program, Step};
+use crate::model::windows::MOST_WINDOWS;
+use crate::scripts::Script;
+use pit_host::{
+    Areas, ByteOffset, Error, Limits, Line, Minute, Node, PageIndex, Published, Record, State,
+    Store, Ticket, Version, Windows,
+};
+
+/// Makes the calls of a host's script, and compares every answer and what stands after it. A line that the step program
+/// refuses by itself is no call.
+pub fn check(script: &Script) {
+    let (mut library, mut model) = (None, Program::default());
+    for (at, (line, wanted)) in script.lines.iter().zip(&script.answers).enumerate() {
+        let due = model.answer_to_host(line);
+        assert_eq!(due, *wanted, "the model, at line {at} of {}", script.name);
+        if wanted == "refused,0" {
+            continue;
+        }
+        let got = answer(&mut library, line);
+        if got != *wanted {
+            mismatch(script, at, wanted, &got);
+        }
+        if let (Some(store), Some(model)) = (&library, &model.store) {
+            let whole = at % 16 == 0 || at + 1 == script.lines.len();
+            if let Err(differs) = compare(store, model, whole) {
+                mismatch(script, at, wanted, &format!("{got}, and then {differs}"));
+            }
+        }
+    }
+}
+
+fn answer(library: &mut Option<Store>, line: &[u8]) -> String {
+    let step = hosts_step(line).expect("a step that is answered");
+    let done = match (step, &mut *library) {
+        (Step::Format(limits), _) => format(limits).map(|store| *library = Some(store)),
+        (step, Some(store)) => return told(store, line, step),
+        _ => panic!("FORMAT comes first"),
+    };
+    done.map_or_else(refused, |()| "ok".to_string())
+}
+
+/// The answer of a call other than FORMAT. Refused, it leaves the store as it was; and only five calls write an area.
+fn told(store: &mut Store, line: &[u8], step: Step) -> String {
+    let before = store.clone();
+    let done = make(store, step);
+    let writes = [&b"BEGIN"[..], b"PUT", b"WRITE", b"APPEND", b"WEAVE"];
+    let may_write = done.is_ok() && writes.iter().any(|word| line.starts_with(word));
+    if !may_write && store.areas() != before.areas() {
+        return "areas that have changed".to_string();
+    }
+    if done.is_err() && *store != before {
+        return "a store that has changed".to_string();
+    }
+    done.unwrap_or_else(refused)
+}
+
+fn refused(error: Error) -> String {
+    format!("refused,{}", error.number())
+}
+
+fn format([size, pages, nodes, updates]: [u64; 4]) -> Result<Store, Error> {
+    Store::format(Limits::new(size, pages, nodes, updates))
+}
+
+fn make(store: &mut Store, step: Step) -> Result<String, Error> {
+    Ok(match step {
+        Step::Format(_) => unreachable!("FORMAT starts a store"),
+        Step::Begin(n) => format!("ticket,{}", store.begin(n)?),
+        Step::Put(ticket, i, bytes) => {
+            store.put(Ticket(ticket), i, &bytes)?;
+            "put".to_string()
+        }
+        Step::Weave(ticket) => node_line(store.weave(Ticket(ticket))?),
+        Step::SetWindows(text) => {
+            store.set_windows(text)?;
+            "done".to_string()
+        }
+        Step::On(line, step) => make_on_line(store, Line(line), step)?,
+    })
+}
+
+fn make_on_line(store: &mut Store, line: Line, step: OnLine) -> Result<String, Error> {
+    Ok(match step {
+        OnLine::Assign(ticket, f) => {
+            let assigned = match f {
+                Some(f) => store.write(line, Ticket(ticket), PageIndex(f))?,
+                None => store.append(line, Ticket(ticket))?,
+            };
+            format!("version,{},{}", assigned.version, assigned.nodes)
+        }
+        OnLine::Publish(minute) => match store.publish(line, Minute(minute))? {
+            Published::Now(version) => format!("published,{version}"),
+            Published::Waiting => "waiting".to_string(),
+            Published::Held => "held".to_string(),
+            other => panic!("{other:?}"),
+        },
+        OnLine::Branch(v) => format!("line,{}", store.branch(line, Version(v))?),
+        OnLine::Read(v, offset, length) => {
+            let mut buffer = vec![0; length as usize];
+            store.read(line, Version(v), ByteOffset(offset), &mut buffer)?;
+            format!("bytes,{}", hexadecimal(&buffer))
+        }
+        OnLine::Size(v) => format!("size,{}", store.size(line, Version(v))?),
+        OnLine::Recent => format!("recent,{}", store.recent(line)?),
+        OnLine::Stamp(v, page) => {
+            let stamp = store.stamp(line, Version(v), PageIndex(page))?;
+            format!("stamp,{stamp}")
+        }
+    })
+}
+
+fn node_line(node: Node) -> String {
+    let (version, first, span) = (node.version.0, node.first, node.span);
+    let (left, right, rest) = (node.left, node.right, node.rest);
+    format!("node,{version},{first},{span},{left},{right},{rest}")
+}
+
+// What stands after a call.
+
+/// Compares a store with the model: its numbers, its windows and, where the whole of it is asked for, its areas.
+fn compare(store: &Store, model: &model::Store, whole: bool) -> Result<(), String> {
+    let (got, due) = (numbers(&store.state()), model.numbers());
+    if got != due {
+        return Err(format!("the store's numbers {got:?}, not {due:?}"));
+    }
+    let (got, due) = (places(&store.windows()), due_places(model));
+    if got != due {
+        return Err(format!("the windows {got:?}, not {due:?}"));
+    }
+    if whole && areas(store.areas()) != model.areas() {
+        return Err("areas that differ".to_string());
+    }
+    Ok(())
+}
+
+fn numbers(s: &State) -> Vec<u64> {
+    let mut numbers = vec![s.size, s.pages, s.nodes, s.updates, s.tickets];
+    numbers.extend([s.taken, s.assigned, s.places, s.begun, s.sources]);
+    numbers.extend(s.lines);
+    numbers
+}
+
+/// The ends of the windows, place by place, those not in use too.
+fn places(windows: &Windows) -> Vec<(u64, u64)> {
+    let ends = windows
+        .places
+        .iter()
+        .map(|w| (u64::from(w.from), u64::from(w.to)));
+    ends.collect()
+}
+
+fn due_places(model: &model::Store) -> Vec<(u64, u64)> {
+    let mut ends: Vec<_> = model.windows.iter().map(|w| (w.from, w.to)).collect();
+    ends.resize(MOST_WINDOWS, (0, 0));
+    ends
+}
+
+fn areas(areas: &Areas) -> model::image::Areas {
+    model::image::Areas {
+        pages: areas.pages().to_vec(),
+        nodes: areas.nodes().to_vec(),
+        records: areas.register().iter().map(record).collect(),
+    }
+}
+
+fn record(r: &Record) -> Vec<u64> {
+    let mut numbers = vec![r.n, r.number, r.put, r.update, r.ticket, r.name, r.f];
+    numbers.extend([r.last, r.top, r.past, r.span, r.size, r.count, r.woven]);
+    let e = &r.entries;
+    numbers.extend([e.from0, e.from4, e.from8, e.from12]);
+    numbers
+}
