@@ -262,44 +262,33 @@ mod tests {
     use super::*;
     use crate::calls::areas::Limits;
     use crate::calls::store::Store;
+    use crate::disk::journal::tests::random::Random;
 
-    /// A 64-bit xorshift generator.
-    struct Random(u64);
+    fn minute(random: &mut Random) -> u64 {
+        let most = random.pick(&[10, 100, 1_000, 10_080]);
+        random.below(most)
+    }
 
-    impl Random {
-        fn below(&mut self, end: usize) -> usize {
-            self.0 ^= self.0 << 13;
-            self.0 ^= self.0 >> 7;
-            self.0 ^= self.0 << 17;
-            (self.0 % end as u64) as usize
-        }
+    /// A list of up to 35 windows, now and then with equal ends.
+    fn list(random: &mut Random) -> Vec<u8> {
+        let lines = match random.below(3) {
+            0 => 30 + random.below(6),
+            _ => random.below(4),
+        };
+        let lines = (0..lines).map(|_| format!("{},{}\n", minute(random), minute(random)));
+        lines.collect::<String>().into_bytes()
+    }
 
-        fn minute(&mut self) -> usize {
-            let most = [10, 100, 1_000, 10_080][self.below(4)];
-            self.below(most)
-        }
-
-        /// A list of up to 35 windows, now and then with equal ends.
-        fn list(&mut self) -> Vec<u8> {
-            let lines = match self.below(3) {
-                0 => 30 + self.below(6),
-                _ => self.below(4),
-            };
-            let lines = (0..lines).map(|_| format!("{},{}\n", self.minute(), self.minute()));
-            lines.collect::<String>().into_bytes()
-        }
-
-        /// Takes a byte away, puts one in, or changes one; or ends the text there.
-        fn change(&mut self, text: &mut Vec<u8>) {
-            let byte = b"0123456789,,\n\n\r -+x\0\xff"[self.below(21)];
-            let at = self.below(text.len() + 1);
-            match self.below(8) {
-                0 => text.truncate(at),
-                1..=3 => text.insert(at, byte),
-                _ if at == text.len() => text.push(byte),
-                4 | 5 => drop(text.remove(at)),
-                _ => text[at] = byte,
-            }
+    /// Takes a byte away, puts one in, or changes one; or ends the text there.
+    fn change(random: &mut Random, text: &mut Vec<u8>) {
+        let byte = random.pick(b"0123456789,,\n\n\r -+x\0\xff");
+        let at = random.below(text.len() as u64 + 1) as usize;
+        match random.below(8) {
+            0 => text.truncate(at),
+            1..=3 => text.insert(at, byte),
+            _ if at == text.len() => text.push(byte),
+            4 | 5 => drop(text.remove(at)),
+            _ => text[at] = byte,
         }
     }
 
@@ -308,10 +297,10 @@ mod tests {
     #[test]
     fn a_wrong_line_is_found_just_where_the_call_refuses() {
         let mut store = Store::format(Limits::new(16, 4, 8, 2)).expect("limits in range");
-        let (mut counts, mut random) = ([0; 3], Random(20_260_403));
+        let (mut counts, mut random) = ([0; 3], Random::new(20_260_403));
         for _ in 0..30_000 {
-            let mut text = random.list();
-            (0..random.below(3)).for_each(|_| random.change(&mut text));
+            let mut text = list(&mut random);
+            (0..random.below(3)).for_each(|_| change(&mut random, &mut text));
             let before = store.windows();
             let (wrong, lines) = (first_wrong(&text), lines_of(&text).count());
             match store.set_windows(&text).map_err(|refused| refused.error) {

@@ -1,5 +1,6 @@
 //! The two C functions against a plain model, for every kind of argument inside and outside the limits.
 
+use crate::random::{first_seed, Random};
 use crate::trees::{self, sum_over_spans, within_limits, Trees};
 use pit_host::{node_count, root_span};
 
@@ -46,38 +47,13 @@ fn compare(trees: &Trees, f: u64, n: u64, size: u64) {
     );
 }
 
-/// A 64-bit xorshift generator.
-struct Random(u64);
-
-impl Random {
-    /// The generator of a test. `PIT_SEED` sets another seed than the usual one; it is never 0.
-    fn seeded() -> Random {
-        let seed = std::env::var("PIT_SEED").map_or(0x9e37_79b9_7f4a_7c15, |s| {
-            s.parse::<u64>().expect("PIT_SEED is a decimal number")
-        });
-        println!("PIT_SEED={seed}");
-        Random(seed.max(1))
-    }
-
-    fn next(&mut self) -> u64 {
-        self.0 ^= self.0 << 13;
-        self.0 ^= self.0 >> 7;
-        self.0 ^= self.0 << 17;
-        self.0
-    }
-
-    fn below(&mut self, end: u64) -> u64 {
-        self.next() % end
-    }
-
-    /// An argument: an edge, one near `most`, such a one with high bits, or any number of any length in bits.
-    fn argument(&mut self, most: u64) -> u64 {
-        match self.below(8) {
-            0 => EDGES[self.below(EDGES.len() as u64) as usize],
-            1..=4 => self.below(most + 3),
-            5 => self.below(most + 1) + (1 << (13 + self.below(51))),
-            _ => self.next() >> self.below(64),
-        }
+/// An argument: an edge, one near `most`, such a one with high bits, or any number of any length in bits.
+fn argument(random: &mut Random, most: u64) -> u64 {
+    match random.below(8) {
+        0 => random.pick(&EDGES),
+        1..=4 => random.below(most + 3),
+        5 => random.below(most + 1) + (1 << (13 + random.below(51))),
+        _ => random.next() >> random.below(64),
     }
 }
 
@@ -116,9 +92,9 @@ fn root_span_of_edges_and_random_numbers() {
             assert_eq!(root_span(size), trees::root_span(size), "root_span({size})");
         }
     }
-    let mut random = Random::seeded();
+    let mut random = Random::new(first_seed("root_span_of_edges_and_random_numbers"));
     for _ in 0..200_000 {
-        let size = random.argument(4096);
+        let size = argument(&mut random, 4096);
         assert_eq!(root_span(size), trees::root_span(size), "root_span({size})");
     }
 }
@@ -270,13 +246,13 @@ fn every_combination_of_edges() {
 #[test]
 fn random_updates() {
     let trees = Trees::new();
-    let mut random = Random::seeded();
+    let mut random = Random::new(first_seed("random_updates"));
     let (mut inside, mut outside) = (0, 0);
     for _ in 0..300_000 {
         let (f, n, size) = (
-            random.argument(4096),
-            random.argument(64),
-            random.argument(4096),
+            argument(&mut random, 4096),
+            argument(&mut random, 64),
+            argument(&mut random, 4096),
         );
         compare(&trees, f, n, size);
         if within_limits(f, n, size) {

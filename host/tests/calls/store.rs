@@ -1,22 +1,11 @@
 //! The calls over owned and lent areas: the same answers, states and areas, also across a handing over of the parts.
 
+use crate::random::Random;
 use crate::updates::{assign, fills, limits, of_three_versions, put_all, update, ANY_TIME, LIVE};
 use pit_host::{
     Areas, Assigned, ByteOffset, Error, Line, LineVersion, Minute, Node, PageIndex, Parts,
     PartsMut, Published, Record, State, Storage, Store, Ticket, Version, WindowsError,
 };
-
-/// A 64-bit xorshift generator.
-struct Random(u64);
-
-impl Random {
-    fn below(&mut self, end: u64) -> u64 {
-        self.0 ^= self.0 << 13;
-        self.0 ^= self.0 >> 7;
-        self.0 ^= self.0 << 17;
-        self.0 % end
-    }
-}
 
 /// What a call answered, with the buffer of a READ as it left it.
 #[derive(Debug, PartialEq)]
@@ -64,7 +53,7 @@ fn call<A: Storage>(store: &mut Store<A>, kind: u64, numbers: [u64; 4], fill: u8
 
 #[test]
 fn owned_and_lent_stores_do_the_same() {
-    let (mut published, mut random) = ([0; 3], Random(20_260_401));
+    let (mut published, mut random) = ([0; 3], Random::new(20_260_401));
     for _ in 0..40 {
         let mut owned = Store::format(limits(24, 60, 10)).unwrap();
         // what stands in lent areas before FORMAT makes no difference
@@ -99,7 +88,7 @@ fn owned_and_lent_stores_do_the_same() {
 /// Each line has its own bits: what is packed comes back, and nothing else changes.
 #[test]
 fn lines_are_packed_beside_each_other() {
-    let (mut state, mut random) = (State::default(), Random(20_260_402));
+    let (mut state, mut random) = (State::default(), Random::new(20_260_402));
     let mut lines = [state.line(LIVE); 16];
     for _ in 0..500 {
         let at = random.below(16) as usize;

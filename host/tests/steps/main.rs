@@ -14,10 +14,10 @@ mod support;
 use by_hand::{agree, transcript};
 use model::text::lines_of;
 use program::{run, Session};
-use scripts::{random, random_from_the_start, random_of_a_host, Random, Script};
+use scripts::{random, random_from_the_start, random_of_a_host, Script};
 use std::collections::BTreeMap;
-use std::io::Write;
 use std::process::Command;
+use support::random::{first_seed, Random};
 
 /// Whether the program has the lines READ and STAMP. Without them, it answers these with `refused,0`.
 const READ_AND_STAMP: bool = true;
@@ -148,7 +148,7 @@ fn each_line_is_answered_before_the_next_is_sent() {
 fn lines_cut_between_blocks() {
     let (lines, answers) = transcript(EXAMPLE);
     let input = [lines.join(&b"\n"[..]), b"\n".to_vec()].concat();
-    let mut random = Random(7);
+    let mut random = Random::new(7);
     for step in [1, 7, 33, 40, 50] {
         let (mut session, mut sent, mut asked) = (Session::start(), 0, 0);
         while sent < input.len() {
@@ -211,15 +211,6 @@ fn input_of_any_length_in_bounded_memory() {
 }
 
 // Random scripts.
-
-/// The first seed, shown even when the test passes.
-fn first_seed(what: &str) -> u64 {
-    let seed = std::env::var("PIT_SEED").map_or(20_260_401, |named| {
-        named.parse().expect("PIT_SEED is a decimal number")
-    });
-    let _ = writeln!(std::io::stderr(), "{what}: PIT_SEED={seed}");
-    seed
-}
 
 /// How often each answer came, by its word, or its number where refused.
 fn tally(scripts: &[Script], counts: &mut BTreeMap<String, u64>) {

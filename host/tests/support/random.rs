@@ -28,12 +28,25 @@ impl Random {
         (self.next() >> 16) % end
     }
 
+    /// Both ends are drawn too.
+    pub fn between(&mut self, low: u64, high: u64) -> u64 {
+        low + self.below(high - low + 1)
+    }
+
     pub fn one_in(&mut self, times: u64) -> bool {
         self.below(times) == 0
     }
 
     pub fn pick<T: Copy>(&mut self, from: &[T]) -> T {
         from[self.below(from.len() as u64) as usize]
+    }
+
+    pub fn shuffled<T>(&mut self, from: impl Iterator<Item = T>) -> Vec<T> {
+        let mut items: Vec<T> = from.collect();
+        for i in (1..items.len()).rev() {
+            items.swap(i, self.below(i as u64 + 1) as usize);
+        }
+        items
     }
 
     pub fn bytes(&mut self, length: usize) -> Vec<u8> {

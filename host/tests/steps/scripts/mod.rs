@@ -7,6 +7,7 @@ use crate::model::text::{
     hexadecimal, Program, LONGEST_LINE, LONGEST_READ, MOST_NODES, MOST_PAGE_BYTES, MOST_UPDATES,
 };
 use crate::model::Store;
+use crate::support::random::Random;
 use std::collections::HashMap;
 
 /// Numbers at which a limit, a width or a sum can go wrong.
@@ -81,43 +82,6 @@ pub struct Stamps {
     pub across: u64,
 }
 
-/// The splitmix64 generator.
-pub struct Random(pub u64);
-
-impl Random {
-    pub fn next(&mut self) -> u64 {
-        self.0 = self.0.wrapping_add(0x9e37_79b9_7f4a_7c15);
-        let mut z = self.0;
-        z = (z ^ (z >> 30)).wrapping_mul(0xbf58_476d_1ce4_e5b9);
-        z = (z ^ (z >> 27)).wrapping_mul(0x94d0_49bb_1331_11eb);
-        z ^ (z >> 31)
-    }
-
-    pub fn below(&mut self, end: u64) -> u64 {
-        self.next() % end
-    }
-
-    fn between(&mut self, low: u64, high: u64) -> u64 {
-        low + self.below(high - low + 1)
-    }
-
-    fn one_in(&mut self, times: u64) -> bool {
-        self.below(times) == 0
-    }
-
-    fn pick<T: Copy>(&mut self, from: &[T]) -> T {
-        from[self.below(from.len() as u64) as usize]
-    }
-
-    fn shuffled<T>(&mut self, from: impl Iterator<Item = T>) -> Vec<T> {
-        let mut items: Vec<T> = from.collect();
-        for i in (1..items.len()).rev() {
-            items.swap(i, self.below(i as u64 + 1) as usize);
-        }
-        items
-    }
-}
-
 /// The script of a seed, from an accepted FORMAT on.
 pub fn random(seed: u64) -> Script {
     let mut author = Author::new(seed);
@@ -165,7 +129,7 @@ impl Author {
     fn new(seed: u64) -> Author {
         Author {
             host: false,
-            random: Random(seed),
+            random: Random::new(seed),
             model: Program::default(),
             script: Script::default(),
             plans: HashMap::new(),

@@ -1,7 +1,8 @@
 //! The windows of random scripts: good lists, lists with one fault, and the minutes of PUBLISH.
 
-use super::{Author, Random};
+use super::Author;
 use crate::model::windows::{inside, Window, WEEK};
+use crate::support::random::Random;
 
 /// Lines that are no window, each for one reason.
 pub const FAULTS: [&[u8]; 48] = [
