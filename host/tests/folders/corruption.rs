@@ -4,13 +4,14 @@
 
 mod damage;
 
-use crate::calls::files::{entries, HEADER};
-use crate::calls::model::Model;
-use crate::calls::{make_durable, small_store, Call, Script, SyncAt};
 use crate::folder::Folder;
 use crate::random::{named, scenes, Random};
+use crate::support::call::{make_durable, words, Call};
+use crate::support::entries::{entries, HEADER};
+use crate::support::in_memory::Model;
+use crate::support::script::{small_store, Script};
 use damage::{spoil, Files, Sources};
-use pit_host::{Durable, Failure, FileError, Opened, Options};
+use pit_host::{Durable, Failure, FileError, Opened, Options, SyncAt};
 use std::collections::BTreeMap;
 use std::fs;
 use std::time::Duration;
@@ -75,7 +76,7 @@ impl Scene {
             if random.one_in(20) {
                 self.fail_a_checkpoint(durable);
             }
-            let answer = make_durable(durable, &call).unwrap();
+            let answer = words(make_durable(durable, &call)).unwrap();
             assert_eq!(answer, self.model.make(&call), "{call:?}");
             if random.one_in(20) || matches!(call, Call::Rebuild(..)) {
                 self.past.push(files_of(&self.folder));

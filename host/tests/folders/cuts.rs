@@ -1,11 +1,12 @@
 //! Journals cut off at every byte, and checkpoints broken off at every byte: the folder opens to the store that the whole entries
 //! leave. `PIT_CALLS` is how many calls the journals have, `PIT_SEED` the seed.
 
-use crate::calls::files::{ahead, entries, Entry, HEADER};
-use crate::calls::model::Model;
-use crate::calls::{make_durable, Call, Script};
 use crate::folder::Folder;
 use crate::random::{first_seed, named};
+use crate::support::call::{make_durable, words, Call};
+use crate::support::entries::{ahead, entries, Entry, HEADER};
+use crate::support::in_memory::Model;
+use crate::support::script::Script;
 use pit_host::{
     Durable, Failure, FileError, JournalError, JournalErrorKind, Limits, Opened, Options, Store,
 };
@@ -35,8 +36,7 @@ impl Run {
         let limits = Limits::new(16, calls, 5 * calls, calls.min(8_000) / 2);
         let store = Store::format(limits).unwrap();
         let folder = Folder::in_memory(&format!("cuts-{test}"));
-        let mut script = Script::new(first_seed(test));
-        script.with_files = false;
+        let script = Script::without_files(first_seed(test));
         Run {
             durable: Some(Durable::create(&folder.0, store.clone(), options()).unwrap()),
             model: Model::keeping(store),
@@ -50,7 +50,7 @@ impl Run {
         let durable = self.durable.as_ref().unwrap();
         for _ in 0..named("PIT_CALLS", CALLS) / parts {
             let call = self.script.next(durable);
-            let answer = make_durable(durable, &call).unwrap();
+            let answer = words(make_durable(durable, &call)).unwrap();
             assert_eq!(answer, self.model.make(&call), "{call:?}");
         }
     }
@@ -289,7 +289,7 @@ fn a_rebuild_that_is_broken_off_at_any_byte_changes_nothing() {
     let mut limits = durable.limits();
     limits.pages += 1;
     let rebuild = Call::Rebuild(limits, vec![], vec![]);
-    let answer = make_durable(durable, &rebuild).unwrap();
+    let answer = words(make_durable(durable, &rebuild)).unwrap();
     assert_eq!(answer, run.model.make(&rebuild));
     let saved = fs::read(run.folder.path("store-2")).unwrap();
     run.make_part(20);

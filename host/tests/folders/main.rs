@@ -8,4 +8,4 @@ mod kills;
 #[path = "../support/mod.rs"]
 mod support;
 
-use support::{calls, folder, random, updates};
+use support::{folder, random, updates};

@@ -1,7 +1,7 @@
 //! Damage to the files of a folder, of every kind: to bytes, to entries of a journal, and to whole files.
 
-use crate::calls::files::{entries, Entry, HEADER};
 use crate::random::Random;
+use crate::support::entries::{entries, Entry, HEADER};
 use std::collections::BTreeMap;
 
 /// Files by their names.

@@ -3,9 +3,10 @@
 use super::child::{kill, start, Moment, Part};
 use super::site::{open, tell, Site, Told};
 use super::{kill_all, power, IN_A_FOLDER};
-use crate::calls::{make_durable, options, small_store, Script, SyncAt};
 use crate::random::Random;
-use pit_host::{Options, Store};
+use crate::support::call::{make_durable, words};
+use crate::support::script::{options, small_store, Script};
+use pit_host::{Options, Store, SyncAt};
 
 /// A process makes at most so many calls, and is killed within half of them most often.
 const CALLS: u64 = 120;
@@ -28,7 +29,7 @@ pub fn work(part: &Part<'_>) {
     let mut script = script(part);
     for _ in 0..CALLS {
         let call = script.next(&durable);
-        tell(&durable, &make_durable(&durable, &call).unwrap());
+        tell(&durable, &words(make_durable(&durable, &call)).unwrap());
     }
 }
 
@@ -86,7 +87,11 @@ fn kill_one(site: &mut Site, run: u64, random: &mut Random, counts: &mut Counts)
 
 /// The last entry that must be there after a power cut by the answers alone, whatever was said of syncs.
 fn due_after_a_power_cut(sync: SyncAt, told: &[Told]) -> u64 {
-    let shows = |told: &&Told| ["Now(", "Line("].iter().any(|w| told.answer.starts_with(w));
+    let shows = |told: &&Told| {
+        ["Published(Now(", "Line("]
+            .iter()
+            .any(|w| told.answer.starts_with(w))
+    };
     let last = match sync {
         SyncAt::EachCall => told.last(),
         SyncAt::EachPublish => told.iter().rev().find(shows),

@@ -2,12 +2,12 @@
 
 use super::child::{kill, say, start, Moment, Part};
 use super::{kill_all, power, IN_A_FOLDER};
-use crate::calls::{options, SyncAt};
 use crate::folder::Folder;
 use crate::random::Random;
+use crate::support::script::options;
 use pit_host::{
     Durable, Error, Failure, FileError, Limits, Line, LineVersion, Minute, Options, PageIndex,
-    Record, Store, Ticket, Version,
+    Record, Store, SyncAt, Ticket, Version,
 };
 use std::thread;
 

@@ -3,11 +3,12 @@
 
 use super::child::{kill, start, Moment, Part};
 use super::site::{open, tell, Site, Told, FAILED};
-use crate::calls::{make_durable, Call, Script, SyncAt};
 use crate::random::{first_seed, ShownSeed};
+use crate::support::call::{make_durable, words, Call};
+use crate::support::script::Script;
 use pit_host::{
     ByteOffset, Durable, Failure, FileError, Limits, Line, Minute, Options, PageIndex, Shared,
-    Store, Ticket, Version,
+    Store, SyncAt, Ticket, Version,
 };
 
 /// No file may be longer than some dozen kilobytes, and a write that would make one so is an error.
@@ -25,9 +26,10 @@ fn store() -> Store {
 /// Nothing but the journal.
 fn journal_alone(seed: u64) -> (Script, Options) {
     let sync = [SyncAt::EachCall, SyncAt::EachPublish][(seed % 2) as usize];
-    let mut script = Script::new(seed);
-    script.with_files = false;
-    (script, Options::new().sync(sync).checkpoint_at(0))
+    (
+        Script::without_files(seed),
+        Options::new().sync(sync).checkpoint_at(0),
+    )
 }
 
 /// Makes calls until the journal has no room, and then finds every other refused in the same words, and readers going on.
@@ -38,7 +40,7 @@ pub fn fill_the_journal(part: &Part<'_>) {
     for _ in 0..CALLS {
         let seen = seen(&durable);
         let call = script.next(&durable);
-        match make_durable(&durable, &call) {
+        match words(make_durable(&durable, &call)) {
             Ok(answer) => tell(&durable, &answer),
             Err(failure) => {
                 assert!(matches!(
@@ -144,7 +146,7 @@ pub fn fill_the_disk(part: &Part<'_>) {
             durable.rebuild(durable.limits(), &[]).unwrap_err();
         }
         let call = script.next(&durable);
-        let answer = make_durable(&durable, &call).unwrap_or_else(|failure| {
+        let answer = words(make_durable(&durable, &call)).unwrap_or_else(|failure| {
             let is_saved = matches!(call, Call::Checkpoint | Call::Rebuild(..));
             assert!(is_saved, "{failure}");
             assert!(matches!(failure, Failure::File(FileError::Io { .. })));

@@ -1,8 +1,8 @@
 //! What a power cut leaves of a folder: all that was synced, and any part of what was written after that.
 
-use crate::calls::files::{ahead, entries, first_entry, Entry, HEADER};
 use crate::folder::Folder;
 use crate::random::Random;
+use crate::support::entries::{ahead, entries, first_entry, Entry, HEADER};
 use std::fs;
 use std::path::Path;
 

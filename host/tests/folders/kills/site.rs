@@ -1,10 +1,10 @@
 //! A folder in which a process with one thread has worked, and the store that its calls leave in memory.
 
 use super::child::{say, Part};
-use crate::calls::model::{as_seen, Model};
-use crate::calls::{Script, SyncAt};
 use crate::folder::Folder;
-use pit_host::{Durable, Failure, FileError, Opened, Options, Store};
+use crate::support::in_memory::{as_seen, Model};
+use crate::support::script::Script;
+use pit_host::{Durable, Failure, FileError, Opened, Options, Store, SyncAt};
 
 fn is_none_yet(failure: &Failure) -> bool {
     matches!(failure, Failure::File(FileError::NoStore))

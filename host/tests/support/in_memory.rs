@@ -1,8 +1,8 @@
 //! The store in memory that the same calls leave, entry by entry of the journal.
 
-use super::{make, Call, Update};
+use super::call::{assigned, make_on, refusal, words, Answer, Call, Update};
 use pit_host::{
-    Error, Handle, Limits, Line, Log, Minute, PageIndex, Shared, Store, Ticket, Version,
+    Error, Failure, Handle, Limits, Line, Log, Minute, PageIndex, Shared, Store, Ticket, Version,
 };
 
 /// The minutes of a week.
@@ -60,18 +60,19 @@ impl Model {
             Call::Update(update) => self.update(update),
             Call::Finish(ticket, minute) => self.finish(*ticket, *minute),
             call => {
-                let answer = make(&self.store, call).expect("nothing fails in memory");
+                let answer = make_on(&self.store, call);
+                let is_entry = is_entry(call, &answer);
                 if let (Call::Rebuild(..), Some(after)) = (call, &mut self.after) {
                     let last = after.last_mut().expect("that of no entry");
                     last.push(self.store.to_store());
                 }
-                if is_entry(call, &answer) {
+                if is_entry {
                     self.entry(); // the only one of this call
-                    if let Call::Publish(..) | Call::Branch(..) | Call::SetWindows(_) = call {
+                    if call.is_relied_on() {
                         self.relied_on = self.entries;
                     }
                 }
-                Some(answer)
+                Some(words(answer).expect("nothing fails in memory"))
             }
         }
     }
@@ -103,13 +104,13 @@ impl Model {
         while self.store.weave(ticket).unwrap().rest > 0 {}
         self.entry()?;
         self.publish_due(line, minute)?;
-        Some(format!("{version:?}"))
+        Some(shown(version))
     }
 
     /// A whole update by its calls.
     fn update(&mut self, update: &Update) -> Option<String> {
         let n = update.pages.len() as u64;
-        if let Err(refused) = calls_of(&mut self.store.to_store(), update) {
+        if let Err(refused) = assigned(&mut self.store.to_store(), update) {
             return Some(refusal(refused));
         }
         let ticket = self.store.begin(n).unwrap();
@@ -127,7 +128,7 @@ impl Model {
         while self.store.weave(ticket).unwrap().rest > 0 {}
         self.entry()?;
         self.publish_due(update.line, update.minute)?;
-        Some(format!("{:?}", assigned.version))
+        Some(shown(assigned.version))
     }
 
     fn publish_due(&mut self, line: Line, minute: Minute) -> Option<()> {
@@ -146,29 +147,16 @@ impl Model {
 }
 
 /// Whether a call of one entry at most was accepted and changed the store.
-fn is_entry(call: &Call, answer: &str) -> bool {
-    match call {
-        Call::Rebuild(..) | Call::Checkpoint | Call::Sync => false,
-        Call::Publish(..) => answer.starts_with("Now"),
-        _ => !answer.starts_with("refused"),
+fn is_entry(call: &Call, answer: &Result<Answer, Failure>) -> bool {
+    match (call, answer) {
+        (Call::Rebuild(..) | Call::Checkpoint | Call::Sync, _) => false,
+        (_, Ok(Answer::Published(published))) => published.version().is_some(),
+        _ => answer.is_ok(),
     }
 }
 
-fn refusal(error: Error) -> String {
-    format!("refused: {}", error.number())
-}
-
-/// The calls of an update up to its version, one by one.
-fn calls_of(store: &mut Store, update: &Update) -> Result<(), Error> {
-    let ticket = store.begin(update.pages.len() as u64)?;
-    for (i, bytes) in (0..).zip(&update.pages) {
-        store.put(ticket, i, bytes)?;
-    }
-    let assigned = match update.at {
-        Some(first) => store.write(update.line, ticket, first),
-        None => store.append(update.line, ticket),
-    };
-    assigned.map(drop)
+fn shown(version: Version) -> String {
+    format!("{:?}", Answer::Version(version))
 }
 
 /// All that a store's callers can find out of it by their numbers, but for the bytes: these `to_store` has.
