@@ -88,9 +88,15 @@ macro_rules! made {
     };
 }
 
-/// Makes a call on a store of one's own. What a handle makes of several calls is made by these, one by one.
+/// The minutes of a week.
+pub const WEEK: u64 = 10_080;
+
+/// Makes a call on a store of one's own. What a handle makes of several calls is made by these, one by one, after a look at the clock.
 pub fn make<A: Storage + Clone>(store: &mut Store<A>, call: &Call) -> Result<Answer, Error> {
     Ok(match call {
+        Call::Update(Update { minute, .. }) | Call::Finish(_, minute) if minute.0 >= WEEK => {
+            return Err(Error::NoSuchMinute);
+        }
         Call::Update(update) => {
             let mut tried = store.clone();
             let version = one_by_one(&mut tried, update)?;

@@ -1,15 +1,12 @@
 //! Calls that are drawn: which one, by the weights of a mix, and with what, by what a store shows. So equal stores get equal calls of
 //! equal random numbers. One argument in some is wrong.
 
-use super::call::{Call, Update};
+use super::call::{Call, Update, WEEK};
 use super::random::Random;
 use pit_host::{
     ByteOffset, Handle, Limits, Line, Log, Minute, PageIndex, Record, Storage, Store, Ticket,
     Version,
 };
-
-/// The minutes of a week.
-const WEEK: u64 = 10_080;
 
 /// How often each call is drawn beside the others, and with what.
 #[derive(Clone, Copy, Debug)]
@@ -262,17 +259,23 @@ impl Drawing<'_> {
         )
     }
 
-    /// A page's bytes: half of the time one byte all over, of a few, so that pages are resent and changed back. Now and then too
-    /// many or too few.
+    /// So many pages; now and then one of them has too many bytes or too few.
+    fn pages(&mut self, n: u64) -> Vec<Vec<u8>> {
+        let mut pages: Vec<Vec<u8>> = (0..n).map(|_| self.page()).collect();
+        if n > 0 && self.is_wrong() {
+            let (at, size) = (self.random.below(n), self.shown.page_size);
+            let length = self.random.pick(&[0, 1, size - 1, size + 1, 2 * size]);
+            pages[at as usize].resize(length, 0);
+        }
+        pages
+    }
+
+    /// A page's bytes: half of the time one byte all over, of a few, so that pages are resent and changed back.
     fn page(&mut self) -> Vec<u8> {
         let size = self.shown.page_size;
-        let length = match self.is_wrong() {
-            true => self.random.pick(&[0, 1, size - 1, size + 1, 2 * size]),
-            false => size,
-        };
         match self.random.below(2) {
-            0 => vec![self.random.below(4) as u8; length],
-            _ => self.random.bytes(length),
+            0 => vec![self.random.below(4) as u8; size],
+            _ => self.random.bytes(size),
         }
     }
 
@@ -312,7 +315,8 @@ impl Drawing<'_> {
             _ if self.is_wrong() => pages,
             _ => self.random.below(pages.max(1)),
         };
-        Call::Put(ticket, i, self.page())
+        let mut pages = self.pages(1);
+        Call::Put(ticket, i, pages.remove(0))
     }
 
     fn assign(&mut self) -> Call {
@@ -355,7 +359,7 @@ impl Drawing<'_> {
         let line = self.line();
         let n = self.page_count().min(65);
         let at = self.random.one_in(2).then(|| self.first(line));
-        let pages = (0..n).map(|_| self.page()).collect();
+        let pages = self.pages(n);
         let minute = self.minute();
         Call::Update(Update {
             line,

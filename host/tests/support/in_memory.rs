@@ -1,12 +1,9 @@
 //! The store in memory that the same calls leave, entry by entry of the journal.
 
-use super::call::{assigned, make_on, refusal, words, Answer, Call, Update};
+use super::call::{assigned, make_on, refusal, words, Answer, Call, Update, WEEK};
 use pit_host::{
     Error, Failure, Handle, Limits, Line, Log, Minute, PageIndex, Shared, Store, Ticket, Version,
 };
-
-/// The minutes of a week.
-const WEEK: u64 = 10_080;
 
 /// A store in memory, and how many entries a journal of its calls has.
 pub struct Model {

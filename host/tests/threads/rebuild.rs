@@ -1,12 +1,13 @@
 //! Stores that are rebuilt into others, again and again, under callers that go on: beside each a store that never is,
 //! which makes the same calls. `PIT_SEED` names the first seed, `PIT_SCENES` how many scenes each test has.
 
-use crate::differential::{bytes_of, published, Twins, PAGE};
+use crate::differential::{bytes_of, published, Pair, PAGE};
 use crate::folder::Folder;
 use crate::random::{scenes, Random};
 use crate::road::{Road, BLOB};
 use pit_host::{
-    ByteOffset, Error, Limits, Line, PageIndex, Shared, Snapshot, State, Store, Ticket, Version,
+    ByteOffset, Error, Limits, Line, Minute, PageIndex, Shared, Snapshot, State, Store, Ticket,
+    Version,
 };
 use std::collections::BTreeSet;
 use std::path::Path;
@@ -14,7 +15,7 @@ use std::time::Duration;
 
 const SCENES: u64 = 40;
 /// How often a store is rebuilt in a scene, and how many calls there may be before.
-const CARRIES: u64 = 4;
+const REBUILDS: u64 = 4;
 const CALLS: [u64; 3] = [8, 40, 100];
 
 /// What there is to know of a line of a store that was rebuilt.
@@ -42,7 +43,7 @@ impl Rebuilt {
 }
 
 struct Site {
-    twins: Twins,
+    pair: Pair,
     lines: Vec<Rebuilt>,
     /// The tickets that were done with when the store was last rebuilt.
     done: Vec<Ticket>,
@@ -82,10 +83,10 @@ impl Site {
         let pages = pages + random.below(10 * pages);
         let limits = Limits::new(PAGE as u64, pages, nodes + random.below(nodes), 40);
         let room = Limits::new(PAGE as u64, 20_000, 60_000, 1_000);
-        let mut twins = Twins::with_room(random, limits, room);
-        twins.most = most;
+        let mut pair = Pair::with_room(random, limits, room);
+        pair.most = most;
         Site {
-            twins,
+            pair,
             lines: vec![],
             done: vec![],
             held: vec![],
@@ -94,11 +95,11 @@ impl Site {
     }
 
     fn alone(&self) -> State {
-        self.twins.alone.state()
+        self.pair.alone.state()
     }
 
     fn shared(&self) -> &Shared {
-        &self.twins.shared
+        &self.pair.shared
     }
 
     /// What a line was rebuilt with; a line that has begun since has what it begins from.
@@ -122,7 +123,7 @@ impl Site {
 
     fn check(&mut self) {
         self.complete();
-        for (line, version) in published(&self.twins.alone) {
+        for (line, version) in published(&self.pair.alone) {
             if self.has(line, version) {
                 self.reads_alike(line, version);
             } else {
@@ -131,20 +132,20 @@ impl Site {
             }
         }
         for (line, of) in (0..).map(Line).zip(&self.lines) {
-            let recent = self.twins.alone.recent(line).expect("a line");
+            let recent = self.pair.alone.recent(line).expect("a line");
             assert_eq!(self.shared().recent(line), Ok(recent));
             let versions = (1..=recent.0).filter(|version| of.has(*version));
             let versions: Vec<Version> = versions.map(Version).collect();
             assert_eq!(self.shared().versions(line), Ok(versions));
         }
-        self.twins.same_windows();
-        self.twins.same_open_tickets();
+        self.pair.same_windows();
+        self.pair.same_open_tickets();
         self.done_tickets();
         self.snapshots();
     }
 
     fn reads_alike(&self, line: Line, version: Version) {
-        let (shared, alone) = (self.shared(), &self.twins.alone);
+        let (shared, alone) = (self.shared(), &self.pair.alone);
         let due = bytes_of(alone, line, version).expect("published");
         assert_eq!(shared.size(line, version), Ok(due.len() as u64));
         let mut bytes = vec![0; due.len()];
@@ -174,8 +175,9 @@ impl Site {
     }
 
     fn done_tickets(&mut self) {
+        self.shared().set_clock(|| Minute(0)); // the last call's may have been past the week
         for ticket in self.done.iter().copied() {
-            let (shared, refused) = (&self.twins.shared, Error::NoSuchTicket);
+            let (shared, refused) = (&self.pair.shared, Error::NoSuchTicket);
             assert_eq!(shared.put(ticket, 0, &[1; PAGE]), Err(refused));
             assert_eq!(shared.append(Line(0), ticket), Err(refused));
             assert_eq!(shared.weave(ticket), Err(refused));
@@ -189,32 +191,32 @@ impl Site {
             let mut read = vec![0; bytes.len()];
             let done = snapshot.read(ByteOffset(0), &mut read);
             assert_eq!((done, &read), (Ok(()), &*bytes));
-            if self.twins.random.one_in(4) {
+            if self.pair.random.one_in(4) {
                 snapshot.advance().expect("a line that has begun");
-                let recent = self.twins.alone.recent(snapshot.line());
+                let recent = self.pair.alone.recent(snapshot.line());
                 assert_eq!(Ok(snapshot.version()), recent);
-                let now = bytes_of(&self.twins.alone, snapshot.line(), snapshot.version());
+                let now = bytes_of(&self.pair.alone, snapshot.line(), snapshot.version());
                 *bytes = now.expect("published");
             }
         }
-        let versions = published(&self.twins.alone);
-        let (line, version) = self.twins.random.pick(&versions);
+        let versions = published(&self.pair.alone);
+        let (line, version) = self.pair.random.pick(&versions);
         if self.has(line, version) {
-            let snapshot = self.twins.shared.snapshot(line, version);
+            let snapshot = self.pair.shared.snapshot(line, version);
             let snapshot = snapshot.and_then(Snapshot::filled).expect("published");
-            let bytes = bytes_of(&self.twins.alone, line, version);
+            let bytes = bytes_of(&self.pair.alone, line, version);
             self.held.push((snapshot, bytes.expect("published")));
         }
     }
 
-    // Rebuild over.
+    // Rebuilding.
 
     /// Some of the versions that there are, or none, or all.
     fn choose(&mut self) -> Vec<(Line, Version)> {
-        let one_in = self.twins.random.pick(&[1, 3, 8, 1_000]);
-        let mut versions = published(&self.twins.alone);
+        let one_in = self.pair.random.pick(&[1, 3, 8, 1_000]);
+        let mut versions = published(&self.pair.alone);
         versions.retain(|(line, version)| self.has(*line, *version));
-        versions.retain(|_| self.twins.random.one_in(one_in));
+        versions.retain(|_| self.pair.random.one_in(one_in));
         versions
     }
 
@@ -238,29 +240,29 @@ impl Site {
         let of_lines = of_lines.map(|(line, version)| (line, Version(version)));
         let all = chosen.iter().copied().chain(of_lines);
         let owners: BTreeSet<_> = all.map(|(line, v)| self.owner(line, v)).collect();
-        let mut kept = published(&self.twins.alone);
+        let mut kept = published(&self.pair.alone);
         kept.retain(|(line, v)| v.0 > 0 && owners.contains(&self.owner(*line, *v)));
         kept
     }
 
-    /// Carries over what is chosen, into a store with these limits.
+    /// Rebuilds what is chosen into a store with these limits.
     fn rebuild(&mut self, limits: Limits, chosen: &[(Line, Version)]) {
         let kept = self.kept(chosen);
         assert_eq!(self.shared().rebuild(limits, chosen), Ok(kept.clone()));
         assert_eq!(self.shared().limits(), limits);
         for (at, line) in (0..).zip(&mut self.lines) {
             let is_kept = |v: &u64| kept.contains(&(Line(at), Version(*v)));
-            line.last = self.twins.alone.state().line(Line(at)).published;
+            line.last = self.pair.alone.state().line(Line(at)).published;
             line.gone = (1..=line.last).filter(|v| !is_kept(v)).collect();
         }
-        let work: BTreeSet<_> = self.twins.in_work().iter().map(|w| w.ticket).collect();
+        let work: BTreeSet<_> = self.pair.in_work().iter().map(|w| w.ticket).collect();
         let tickets = (1..=self.alone().tickets).map(Ticket);
         self.done = tickets.filter(|t| !work.contains(t)).collect();
         self.count(&kept);
     }
 
     fn count(&mut self, kept: &[(Line, Version)]) {
-        let work = self.twins.in_work();
+        let work = self.pair.in_work();
         let assigned = work.iter().filter(|work| work.left.is_some()).count();
         self.tally.assigned += assigned;
         self.tally.unassigned += work.len() - assigned;
@@ -328,8 +330,8 @@ impl Site {
     /// The store is saved, and its callers go on with the one that is loaded.
     fn reload(&mut self, file: &Path) {
         let saved = self.shared().save(file).expect("a file");
-        assert_eq!(Ok(saved), self.twins.alone.recent(Line(0)));
-        let other = if self.twins.random.one_in(2) {
+        assert_eq!(Ok(saved), self.pair.alone.recent(Line(0)));
+        let other = if self.pair.random.one_in(2) {
             Shared::load(file).expect("the file")
         } else {
             let limits = Limits::new(PAGE as u64, 1, 1, 1);
@@ -338,18 +340,18 @@ impl Site {
             other
         };
         assert!(other.to_store() == self.shared().to_store());
-        self.twins.take(other);
+        self.pair.shared = other;
         self.held.clear(); // they would go on with the other one
     }
 }
 
 /// A store is rebuilt again and again: into just what it has used, which is always enough; into just what it then needs; and
 /// into a larger one.
-fn carries(random: Random, file: &Path) -> Tally {
+fn rebuilds(random: Random, file: &Path) -> Tally {
     let mut site = Site::new(random);
-    for _ in 0..CARRIES {
-        let calls = site.twins.random.pick(&CALLS);
-        site.twins.run(calls);
+    for _ in 0..REBUILDS {
+        let calls = site.pair.random.pick(&CALLS);
+        site.pair.run(calls);
         site.check();
         site.refusals();
         let chosen = site.choose();
@@ -361,7 +363,7 @@ fn carries(random: Random, file: &Path) -> Tally {
         site.rebuild(enough, &chosen);
         site.check();
         let more = |limit: u64, random: &mut Random| limit + random.below(2 * limit + 20);
-        let random = &mut site.twins.random;
+        let random = &mut site.pair.random;
         let larger = Limits::new(
             PAGE as u64,
             more(enough.pages, random),
@@ -370,12 +372,12 @@ fn carries(random: Random, file: &Path) -> Tally {
         );
         site.rebuild(larger, &chosen);
         site.check();
-        if site.twins.random.one_in(2) {
+        if site.pair.random.one_in(2) {
             site.reload(file);
             site.check();
         }
     }
-    site.twins.run(CALLS[1]);
+    site.pair.run(CALLS[1]);
     site.check();
     site.tally
 }
@@ -385,7 +387,7 @@ fn callers_go_on_as_if_nothing_had_been() {
     let folder = Folder::new("rebuild");
     let (file, mut tallies) = (folder.0.join("store"), vec![]);
     scenes("callers_go_on_as_if_nothing_had_been", SCENES, |random| {
-        tallies.push(carries(random, &file));
+        tallies.push(rebuilds(random, &file));
     });
     let few = |at: usize| tallies.iter().filter(|t| t.counts()[at] > 0).count() < 5;
     let rare: Vec<usize> = (0..5).filter(|at| few(*at)).collect();
@@ -487,7 +489,7 @@ fn room_is_told_in_callers_updates_after_a_rebuild() {
     for at in 0..128 {
         update(2 * at).expect("room");
     }
-    let folder = Folder::new("carry-room");
+    let folder = Folder::new("rebuild-room");
     let file = folder.0.join("store");
     for _ in 0..3 {
         shared.rebuild(limits, &[]).expect("room");
@@ -503,7 +505,7 @@ fn room_is_told_in_callers_updates_after_a_rebuild() {
 /// A store that has room for few updates is rebuilt, into one that has room for as many, while a writer and readers go on: the
 /// writer waits where it is full, and the readers never.
 #[test]
-fn readers_and_a_writer_beside_carries() {
+fn readers_and_a_writer_beside_rebuilds() {
     let limits = Limits::worst(PAGE as u64, BLOB, 20, BLOB).expect("in range");
     let shared = Shared::new(Store::format(limits).expect("in range"));
     Road::new(400).run(&shared, || {

@@ -1,7 +1,7 @@
 //! Snapshots: what they read, how they go on, what they say has changed, and that nothing changes what they show. `PIT_SEED`
 //! names the first seed, `PIT_SCENES` how many scenes each test has.
 
-use crate::differential::{bytes_of, published, Twins, PAGE};
+use crate::differential::{bytes_of, published, Pair, PAGE};
 use crate::folder::Folder;
 use crate::random::{scenes, Random};
 use crate::road::{pause, Road, BLOB};
@@ -19,17 +19,17 @@ fn some_limits(random: &mut Random) -> Limits {
     Limits::new(PAGE as u64, pages, nodes, 12 + random.below(60))
 }
 
-fn some_twins(mut random: Random) -> Twins {
+fn some_pair(mut random: Random) -> Pair {
     let limits = some_limits(&mut random);
-    let mut twins = Twins::new(random, limits);
-    twins.most = twins.random.pick(&[3, 4, 9]);
-    twins
+    let mut pair = Pair::new(random, limits);
+    pair.most = pair.random.pick(&[3, 4, 9]);
+    pair
 }
 
 /// A snapshot, filled half the time.
-fn some_snapshot(twins: &mut Twins, line: Line, version: Version) -> Result<Snapshot, Error> {
-    let snapshot = twins.shared.snapshot(line, version)?;
-    if twins.random.one_in(2) {
+fn some_snapshot(pair: &mut Pair, line: Line, version: Version) -> Result<Snapshot, Error> {
+    let snapshot = pair.shared.snapshot(line, version)?;
+    if pair.random.one_in(2) {
         snapshot.filled()
     } else {
         Ok(snapshot)
@@ -122,14 +122,14 @@ fn a_view_is_put_again() {
 fn a_snapshot_reads_as_the_calls_do() {
     let mut refusals = BTreeMap::new();
     scenes("a_snapshot_reads_as_the_calls_do", SCENES, |random| {
-        let mut twins = some_twins(random);
+        let mut pair = some_pair(random);
         for _ in 0..ROUNDS {
-            twins.run(CALLS);
-            assert!(twins.shared.to_store() == twins.alone);
+            pair.run(CALLS);
+            assert!(pair.shared.to_store() == pair.alone);
             for _ in 0..8 {
-                let line = twins.line();
-                let version = twins.version(line);
-                let refusal = look(&mut twins, line, version);
+                let line = pair.line();
+                let version = pair.version(line);
+                let refusal = look(&mut pair, line, version);
                 *refusals.entry(refusal).or_insert(0) += 1;
             }
         }
@@ -141,9 +141,9 @@ fn a_snapshot_reads_as_the_calls_do() {
 }
 
 /// Compares a snapshot with the calls; gives the number of the refusal where it was refused.
-fn look(twins: &mut Twins, line: Line, version: Version) -> Option<u64> {
-    let snapshot = twins.shared.snapshot(line, version);
-    let snapshot = match (snapshot, bytes_of(&twins.alone, line, version)) {
+fn look(pair: &mut Pair, line: Line, version: Version) -> Option<u64> {
+    let snapshot = pair.shared.snapshot(line, version);
+    let snapshot = match (snapshot, bytes_of(&pair.alone, line, version)) {
         (Ok(snapshot), Ok(bytes)) => {
             assert_eq!(snapshot.size(), bytes.len() as u64);
             assert_eq!(snapshot.pages(), (bytes.len() / PAGE) as u64);
@@ -151,22 +151,22 @@ fn look(twins: &mut Twins, line: Line, version: Version) -> Option<u64> {
         }
         (refused, due) => {
             assert_eq!(refused.err(), due.err());
-            return due_number(twins, line, version);
+            return due_number(pair, line, version);
         }
     };
     assert_eq!((snapshot.line(), snapshot.version()), (line, version));
     let filled = snapshot.clone().filled().expect("a published version");
     for snapshot in [snapshot, filled] {
-        views_alike(&twins.alone, &snapshot);
+        views_alike(&pair.alone, &snapshot);
         for _ in 0..6 {
-            reads_alike(twins, &snapshot);
+            reads_alike(pair, &snapshot);
         }
     }
     None
 }
 
-fn due_number(twins: &Twins, line: Line, version: Version) -> Option<u64> {
-    let due = twins.alone.size(line, version);
+fn due_number(pair: &Pair, line: Line, version: Version) -> Option<u64> {
+    let due = pair.alone.size(line, version);
     due.err().map(|refused| refused.number())
 }
 
@@ -179,8 +179,8 @@ fn views_alike(store: &Store, snapshot: &Snapshot) {
 }
 
 /// A read of any range, into a buffer that was not empty.
-fn reads_alike(twins: &mut Twins, snapshot: &Snapshot) {
-    let random = &mut twins.random;
+fn reads_alike(pair: &mut Pair, snapshot: &Snapshot) {
+    let random = &mut pair.random;
     let offset = match random.below(12) {
         0 => u64::MAX - random.below(20),
         _ => random.below(snapshot.size() + 3),
@@ -190,9 +190,7 @@ fn reads_alike(twins: &mut Twins, snapshot: &Snapshot) {
     let (mut buffer, mut due) = (vec![0xee; length], vec![0xee; length]);
     let read = snapshot.read(ByteOffset(offset), &mut buffer);
     let (line, version) = (snapshot.line(), snapshot.version());
-    let alone = twins
-        .alone
-        .read(line, version, ByteOffset(offset), &mut due);
+    let alone = pair.alone.read(line, version, ByteOffset(offset), &mut due);
     assert_eq!((read, buffer), (alone, due), "{length} bytes from {offset}");
 }
 
@@ -205,17 +203,17 @@ fn an_advanced_snapshot_is_just_the_newest() {
         "an_advanced_snapshot_is_just_the_newest",
         SCENES,
         |random| {
-            let (mut twins, mut held) = (some_twins(random), vec![]);
+            let (mut pair, mut held) = (some_pair(random), vec![]);
             for _ in 0..ROUNDS {
-                twins.run(CALLS);
-                for (line, version) in published(&twins.alone) {
-                    if twins.random.one_in(4) {
-                        held.push(some_snapshot(&mut twins, line, version).expect("published"));
+                pair.run(CALLS);
+                for (line, version) in published(&pair.alone) {
+                    if pair.random.one_in(4) {
+                        held.push(some_snapshot(&mut pair, line, version).expect("published"));
                     }
                 }
                 for snapshot in &mut held {
-                    if twins.random.one_in(3) {
-                        advanced += u64::from(advance(&twins, snapshot));
+                    if pair.random.one_in(3) {
+                        advanced += u64::from(advance(&pair, snapshot));
                     }
                 }
             }
@@ -226,22 +224,22 @@ fn an_advanced_snapshot_is_just_the_newest() {
 }
 
 /// Advances a snapshot of the store that is there; tells whether it is another version then.
-fn advance(twins: &Twins, snapshot: &mut Snapshot) -> bool {
+fn advance(pair: &Pair, snapshot: &mut Snapshot) -> bool {
     let before = snapshot.version();
-    let newest = twins.alone.recent(snapshot.line());
-    advance_to_newest(twins, snapshot, newest != Ok(before));
+    let newest = pair.alone.recent(snapshot.line());
+    advance_to_newest(pair, snapshot, newest != Ok(before));
     newest != Ok(before)
 }
 
 /// Advances a snapshot of any store, which tells that it is then another.
-fn advance_to_newest(twins: &Twins, snapshot: &mut Snapshot, is_other: bool) {
+fn advance_to_newest(pair: &Pair, snapshot: &mut Snapshot, is_other: bool) {
     let line = snapshot.line();
-    let newest = twins.alone.recent(line).expect("a line that has begun");
+    let newest = pair.alone.recent(line).expect("a line that has begun");
     assert_eq!(snapshot.advance(), Ok(is_other));
     assert_eq!((snapshot.line(), snapshot.version()), (line, newest));
-    assert_eq!(Ok(snapshot.size()), twins.alone.size(line, newest));
-    views_alike(&twins.alone, snapshot);
-    assert_eq!(Ok(all(snapshot)), bytes_of(&twins.alone, line, newest));
+    assert_eq!(Ok(snapshot.size()), pair.alone.size(line, newest));
+    views_alike(&pair.alone, snapshot);
+    assert_eq!(Ok(all(snapshot)), bytes_of(&pair.alone, line, newest));
     assert_eq!(snapshot.advance(), Ok(false));
 }
 
@@ -251,17 +249,17 @@ fn advance_to_newest(twins: &Twins, snapshot: &mut Snapshot, is_other: bool) {
 fn the_changed_pages_of_every_pair() {
     let mut changed = [0; 2];
     scenes("the_changed_pages_of_every_pair", SCENES / 2, |random| {
-        let mut twins = some_twins(random);
-        twins.run(CALLS * ROUNDS);
+        let mut pair = some_pair(random);
+        pair.run(CALLS * ROUNDS);
         let mut held = vec![];
-        let versions = published(&twins.alone);
+        let versions = published(&pair.alone);
         for _ in 0..16 {
-            let (line, version) = twins.random.pick(&versions);
-            held.push(some_snapshot(&mut twins, line, version).expect("published"));
+            let (line, version) = pair.random.pick(&versions);
+            held.push(some_snapshot(&mut pair, line, version).expect("published"));
         }
         for one in &held {
             for other in &held {
-                let due = due_changes(&twins.alone, one, other);
+                let due = due_changes(&pair.alone, one, other);
                 changed[usize::from(one.line() == other.line())] += due.len();
                 assert_eq!(one.changed(other), Ok(due), "{one:?} after {other:?}");
             }
@@ -296,35 +294,35 @@ fn what_a_snapshot_shows_stays() {
     let folder = Folder::new("stays");
     let file = folder.0.join("store");
     scenes("what_a_snapshot_shows_stays", SCENES / 2, |random| {
-        let mut twins = some_twins(random);
-        twins.run(CALLS * 4);
+        let mut pair = some_pair(random);
+        pair.run(CALLS * 4);
         let mut snapshots = vec![];
-        for (line, version) in published(&twins.alone) {
-            snapshots.push(some_snapshot(&mut twins, line, version).expect("published"));
+        for (line, version) in published(&pair.alone) {
+            snapshots.push(some_snapshot(&mut pair, line, version).expect("published"));
         }
         let views = snapshots.iter().flat_map(views);
         let views: Vec<(&[u8], Vec<u8>)> = views.map(|view| (view, view.to_vec())).collect();
         let same = || assert!(views.iter().all(|(view, bytes)| view == bytes));
 
-        twins.shared.save(&file).expect("a file");
-        twins.run(CALLS * 2);
+        pair.shared.save(&file).expect("a file");
+        pair.run(CALLS * 2);
         same();
-        twins.shared.reload(&file).expect("the file");
-        twins.alone = twins.shared.to_store();
-        twins.run(CALLS * 2);
+        pair.shared.reload(&file).expect("the file");
+        pair.alone = pair.shared.to_store();
+        pair.run(CALLS * 2);
         same();
         for snapshot in &snapshots {
-            advance_to_newest(&twins, &mut snapshot.clone(), true);
+            advance_to_newest(&pair, &mut snapshot.clone(), true);
         }
         let limits = Limits::new(PAGE as u64, 2_000, 20_000, 500);
-        twins.shared.rebuild(limits, &[]).expect("room for all");
-        while twins
+        pair.shared.rebuild(limits, &[]).expect("room for all");
+        while pair
             .shared
             .append_pages(Line(0), &[&[9; PAGE][..]; 40])
             .is_ok()
         {}
         same();
-        drop(twins);
+        drop(pair);
         same();
     });
 }

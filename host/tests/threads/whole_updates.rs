@@ -1,8 +1,10 @@
 //! Whole updates in one call beside the calls that they are made of; updates that somebody has left in work; and waiting for a
 //! version. `PIT_SEED` names the first seed, `PIT_SCENES` how many scenes each test has.
 
-use crate::differential::{one_by_one, whole, Twins, PAGE};
+use crate::differential::{Pair, PAGE};
 use crate::random::{scenes, Random};
+use crate::support::call::{make, make_on, one_by_one, Begin, Call, Update};
+use crate::support::draw::{draw, Mix, Shown, UPDATES};
 use crate::updates::{limits, LIVE};
 use pit_host::{Error, Limits, Line, Minute, PageIndex, Shared, Store, Ticket, Version};
 use std::collections::BTreeMap;
@@ -25,8 +27,9 @@ fn an_update_is_its_calls_in_one() {
     scenes("an_update_is_its_calls_in_one", SCENES, |mut random| {
         let mut store = some_store(&mut random);
         for _ in 0..TRIES {
-            let update = Update::draw(&mut random, &store);
-            let (number, after) = update.compare(&store);
+            let mix = mix(&mut random);
+            let update = draw(&mut random, &Shown::of(&store), &mix);
+            let (number, after) = compare(&update, &store);
             *answers.entry(number).or_default() += 1;
             if random.one_in(2) {
                 store = after;
@@ -38,6 +41,12 @@ fn an_update_is_its_calls_in_one() {
         let fewer = crate::random::named("PIT_SCENES", SCENES) < SCENES;
         assert!(fewer || answers.contains_key(&number), "{number}");
     }
+}
+
+/// Mostly a few pages, now and then up to as many as an update may have.
+fn mix(random: &mut Random) -> Mix {
+    let most = if random.one_in(10) { 64 } else { 6 };
+    Mix { most, ..UPDATES }
 }
 
 /// A store in work with little room, or one whose blob is nearly as large as can be.
@@ -53,91 +62,43 @@ fn some_store(random: &mut Random) -> Store {
         nodes + random.below(nodes),
         8 + random.below(20),
     );
-    let mut twins = Twins::new(Random::new(random.next()), limits);
-    twins.most = most;
-    twins.run(40);
-    twins.alone
+    let mut pair = Pair::new(Random::new(random.next()), limits);
+    pair.most = most;
+    pair.run(40);
+    pair.alone
 }
 
 fn large_store(random: &mut Random) -> Store {
     let mut store = Store::format(Limits::new(PAGE as u64, 4_400, 12_000, 80)).expect("in range");
     let line = match random.below(2) {
         0 => Line(0),
-        _ => store.branch(Line(0), Version(0)).expect("a line"),
+        _ => store.line_from(Line(0), Version(0)),
     };
-    let page = [1; PAGE];
     let mut append = |n: u64| {
-        let pages = vec![&page[..]; n as usize];
-        let done = one_by_one(&mut store, line, None, &pages, Minute(0));
-        done.expect("room for all");
+        let update = Update {
+            line,
+            at: None,
+            pages: vec![vec![1; PAGE]; n as usize],
+            minute: Minute(0),
+        };
+        one_by_one(&mut store, &update).expect("room for all");
     };
     (0..63).for_each(|_| append(64));
     append(1 + random.below(64));
     store
 }
 
-/// An update to be made at a minute: a write, or an append where there is no first page.
-#[derive(Debug)]
-struct Update {
-    line: Line,
-    first: Option<PageIndex>,
-    pages: Vec<Vec<u8>>,
-    minute: Minute,
-}
-
-impl Update {
-    fn draw(random: &mut Random, store: &Store) -> Update {
-        let state = store.state();
-        let line = match random.below(12) {
-            0 => random.pick(&[state.begun, 15, 16, 17, u64::MAX]),
-            1..=6 => 0,
-            _ => random.below(state.begun),
-        };
-        let n = match random.below(10) {
-            0 => random.pick(&[0, 63, 64, 65]),
-            1 => 1 + random.below(64),
-            _ => 1 + random.below(6),
-        };
-        let mut pages: Vec<_> = (0..n).map(|_| random.bytes(PAGE)).collect();
-        if n > 0 && random.one_in(12) {
-            let at = random.below(n) as usize;
-            pages[at].resize(random.pick(&[0, 1, PAGE - 1, PAGE + 1, 2 * PAGE]), 0);
-        }
-        Update {
-            line: Line(line),
-            first: Update::first(random, state.line(Line(line)).blob),
-            pages,
-            minute: Minute(random.pick(&[0, 100, 350])),
-        }
-    }
-
-    /// A page of the blob or the one after it, most often; or past that.
-    fn first(random: &mut Random, blob: u64) -> Option<PageIndex> {
-        let first = match random.below(12) {
-            0 => random.pick(&[blob + 1, 4_096, 4_097, u64::MAX]),
-            1 | 2 => blob,
-            3..=8 => random.below(blob + 1),
-            _ => return None,
-        };
-        Some(PageIndex(first))
-    }
-
-    /// Makes it in one call and in many, on copies of a store. Gives the number of the refusal, 0 for none, and the store after it.
-    fn compare(&self, store: &Store) -> (u64, Store) {
-        let (shared, mut calls) = (Shared::new(store.clone()), store.clone());
-        let minute = self.minute;
-        shared.set_clock(move || minute);
-        let pages: Vec<&[u8]> = self.pages.iter().map(|page| &page[..]).collect();
-        let due = one_by_one(&mut calls, self.line, self.first, &pages, minute);
-        let done = whole(&shared, self.line, self.first, &pages);
-        assert_eq!(done, due, "{self:?}");
-        let after = shared.to_store();
-        let due_after = if due.is_ok() { &calls } else { store };
-        assert!(after == *due_after, "{self:?}");
-        let recent = shared.recent(Line(0));
-        assert_eq!(recent, after.recent(Line(0)));
-        (due.err().map_or(0, |refused| refused.number()), after)
-    }
+/// Makes an update in one call and in many, on copies of a store. Gives the number of the refusal, 0 for none, and the store after it.
+fn compare(update: &Call, store: &Store) -> (u64, Store) {
+    let (shared, mut calls) = (Shared::new(store.clone()), store.clone());
+    let due = make(&mut calls, update);
+    let done = make_on(&shared, update).map_err(|failure| failure.error().expect("a refusal"));
+    assert_eq!(done, due, "{update:?}");
+    let after = shared.to_store();
+    assert!(after == calls, "{update:?}");
+    let recent = shared.recent(Line(0));
+    assert_eq!(recent, after.recent(Line(0)));
+    (due.err().map_or(0, |refused| refused.number()), after)
 }
 
 /// A clock that gives no minute of the week: nothing is done.
@@ -181,7 +142,7 @@ fn areas_of_another_store_are_refused() {
 #[test]
 fn a_window_holds_what_an_update_publishes() {
     let shared = Shared::new(Store::format(limits(8, 32, 8)).expect("in range"));
-    shared.set_windows("600,660\n").expect("a list");
+    shared.windows_are("600,660\n");
     let page = [1; PAGE];
     let append_at = |minute: u64| {
         shared.set_clock(move || Minute(minute));
@@ -221,13 +182,13 @@ fn in_work(shared: &Shared, pages: u64, woven: u64) -> Ticket {
 fn open_tickets_are_those_of_the_register() {
     scenes("open_tickets_are_those_of_the_register", SCENES, |random| {
         let limits = Limits::new(PAGE as u64, 200, 1_000, 40);
-        let mut twins = Twins::new(random, limits);
+        let mut pair = Pair::new(random, limits);
         for _ in 0..6 {
-            twins.run(10);
-            twins.same_open_tickets();
+            pair.run(10);
+            pair.same_open_tickets();
             assert_eq!(
-                twins.shared.abandoned(Duration::ZERO).len(),
-                twins.shared.open_tickets().len()
+                pair.shared.abandoned(Duration::ZERO).len(),
+                pair.shared.open_tickets().len()
             );
         }
     });
@@ -366,7 +327,7 @@ fn a_line_is_waited_for() {
     let shared = &Shared::new(Store::format(limits(40, 160, 20)).expect("in range"));
     thread::scope(|threads| {
         let waiting = threads.spawn(|| shared.wait_published_for(Line(1), Version(0), LONG));
-        shared.branch(LIVE, Version(0)).expect("a line");
+        shared.line_from(LIVE, Version(0));
         assert_eq!(waiting.join().expect("no complaint"), Ok(true));
     });
 }
