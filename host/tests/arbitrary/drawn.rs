@@ -2,11 +2,13 @@
 
 use crate::memory::{Memory, Numbers};
 use crate::random::Random;
-use crate::scene::{Call, Scene};
+use crate::scene::{Scene, BYTE};
 use crate::stamps;
+use crate::support::call::Call;
 use crate::windows::WEEK;
 use pit_host::{
-    Error, Limits, Line, Minute, PageIndex, PartsMut, Record, State, Store, Version, Windows,
+    ByteOffset, Error, Limits, Line, Minute, PageIndex, PartsMut, Record, State, Store, Ticket,
+    Version, Windows,
 };
 
 /// Numbers at which a limit, a width or a sum can go wrong.
@@ -522,26 +524,26 @@ pub fn call(random: &mut Random, scene: &Scene) -> Call {
     let line = some_line(random, scene);
     let published = s.line(Line(line)).published;
     let (ticket, version) = (
-        up_to(random, scene, s.tickets),
-        up_to(random, scene, published),
+        Ticket(up_to(random, scene, s.tickets)),
+        Version(up_to(random, scene, published)),
     );
-    let other = argument(random, scene);
+    let (line, other) = (Line(line), argument(random, scene));
     match random.below(29) {
         0 if random.one_in(4) => Call::Format(limits_of(random, scene)),
         0 | 1 => Call::Begin(up_to(random, scene, 6)),
-        2..=4 => Call::Put(ticket, other, bytes_length(random, s)),
-        5 | 6 => Call::Write(line, ticket, other),
+        2..=4 => Call::Put(ticket, other, vec![BYTE; bytes_length(random, s)]),
+        5 | 6 => Call::Write(line, ticket, PageIndex(other)),
         7 | 8 => Call::Append(line, ticket),
         9..=12 => Call::Weave(ticket),
-        13 | 14 | 26 => Call::Publish(line, some_minute(random, scene)),
+        13 | 14 | 26 => Call::Publish(line, Minute(some_minute(random, scene))),
         27 | 28 => Call::SetWindows(some_text(random)),
         15..=17 => read(random, scene, line, version),
         18 => Call::Size(line, version),
         19 => Call::Recent(line),
-        20 | 21 => Call::Stamp(line, version, other),
-        22 if random.one_in(2) => Call::Branch(line, 0),
+        20 | 21 => Call::Stamp(line, version, PageIndex(other)),
+        22 if random.one_in(2) => Call::Branch(line, Version(0)),
         22 | 23 => Call::Branch(line, version),
-        _ => Call::View(line, version, other),
+        _ => Call::View(line, version, PageIndex(other)),
     }
 }
 
@@ -602,7 +604,7 @@ fn bytes_length(random: &mut Random, s: &State) -> usize {
 }
 
 /// A range within a page or over some, or any; a buffer that has room for it, or not.
-fn read(random: &mut Random, scene: &Scene, line: u64, version: u64) -> Call {
+fn read(random: &mut Random, scene: &Scene, line: Line, version: Version) -> Call {
     let size = scene.state.size.clamp(1, 4_096);
     let (offset, len) = match random.below(4) {
         0 => (argument(random, scene), argument(random, scene)),
@@ -617,6 +619,6 @@ fn read(random: &mut Random, scene: &Scene, line: u64, version: u64) -> Call {
     } else {
         len
     };
-    let range = [line, version, offset, len];
-    Call::Read(range, room.min(300) as usize)
+    let offset = ByteOffset(offset);
+    Call::Read(line, version, offset, len, room.min(300) as usize)
 }

@@ -2,8 +2,9 @@
 //! that it has reached is answered; only where the walk of the version asked for is lost, the call is refused.
 
 use crate::memory::Memory;
-use crate::scene::{Call, Scene};
+use crate::scene::Scene;
 use crate::stamps::{stamp, LOST, NOT_LOWER, NOT_THERE, NO_SUCH_PAGE, OTHER_BYTES, PAST, REFUSED};
+use crate::support::call::{Begin, Call};
 use pit_host::{Limits, Line, Minute, PageIndex, PartsMut, Record, Store, Version, Windows};
 
 /// Four versions of two pages. The first writes both, the others resend page 0, and page 1 with it. Version k's root lies at
@@ -48,7 +49,7 @@ fn due_of(scene: &mut Scene, of: (u64, u64, u64), answer: Result<u64, u64>, end:
     let (line, v, page) = of;
     let defined = stamp(scene, line, v, page);
     assert_eq!((defined.answer, defined.end), (answer, end), "{of:?}");
-    let made = scene.make(&Call::Stamp(line, v, page)); // which compares the version answered
+    let made = scene.make(&Call::Stamp(Line(line), Version(v), PageIndex(page))); // which compares the version answered
     assert_eq!(made, Ok(answer.err().unwrap_or(0)), "{of:?}");
 }
 
@@ -157,7 +158,7 @@ fn a_version_leads_to_a_later_one() {
 fn a_line_that_comes_from_itself() {
     let mut scene = resent();
     let mut store = Store::resume(scene.state, scene.windows, scene.memory.parts_mut());
-    let plan = store.branch(Line(0), Version(4)).expect("room for a line");
+    let plan = store.line_from(Line(0), Version(4));
     update(&mut store, plan, 5);
     scene.state = store.state();
     due(&mut scene, 1, 5, Ok(1), NO_SUCH_PAGE);

@@ -13,9 +13,11 @@ mod support;
 #[path = "../model/windows.rs"]
 mod windows;
 
+use pit_host::{Line, PageIndex, Version};
 use random::{first_seed, named, Random};
-use scene::{Call, Scene};
+use scene::{Scene, FIND_DAMAGE, LAST_ROWS, NAME_LINES, OTHERS};
 use std::collections::BTreeMap;
+use support::call::Call;
 use support::{folder, random};
 
 /// How many scenes each test has, and how many calls a scene.
@@ -38,7 +40,7 @@ fn try_all(test: &str, draw: fn(&mut Random) -> Scene) -> Answers {
                 Ok(refusal) => {
                     *answers.entry((call.name(), refusal)).or_default() += 1;
                     if let Call::Stamp(line, v, page) = call {
-                        let end = stamps::stamp(&scene, line, v, page).end;
+                        let end = stamps::stamp(&scene, line.0, v.0, page.0).end;
                         *answers.entry((end, 0)).or_default() += 1;
                     }
                 }
@@ -62,16 +64,6 @@ fn came(answers: &Answers, number: u64, calls: &[&'static str]) {
     assert!(fewer || missing.is_empty(), "{number} of {missing:?}");
 }
 
-/// The calls that may find damage, row 19.
-const FIND_DAMAGE: [&str; 10] = [
-    "PUT", "WRITE", "APPEND", "WEAVE", "PUBLISH", "BRANCH", "READ", "SIZE", "STAMP", "VIEW",
-];
-const OTHERS: [&str; 3] = ["BEGIN", "RECENT", "SETWINDOWS"];
-/// The calls that name a line, row 20.
-const NAME_LINES: [&str; 9] = [
-    "WRITE", "APPEND", "PUBLISH", "BRANCH", "READ", "SIZE", "RECENT", "STAMP", "VIEW",
-];
-
 #[test]
 fn random_areas_and_a_random_state() {
     let answers = try_all("random_areas_and_a_random_state", drawn::random_scene);
@@ -87,10 +79,9 @@ fn random_areas_of_the_lengths_that_the_state_says() {
     came(&answers, 0, &OTHERS);
     came(&answers, 19, &FIND_DAMAGE);
     came(&answers, 20, &NAME_LINES);
-    came(&answers, 21, &["BRANCH"]);
-    came(&answers, 22, &["PUBLISH"]);
-    came(&answers, 23, &["SETWINDOWS"]);
-    came(&answers, 24, &["SETWINDOWS"]);
+    for (row, call) in LAST_ROWS {
+        came(&answers, row, &[call]);
+    }
 }
 
 #[test]
@@ -128,7 +119,7 @@ fn stores_that_threads_share() {
         drawn::mixed_scene,
         drawn::resent_scene,
     ];
-    let folder = folder::Folder::new("damaged");
+    let folder = folder::Folder::new("arbitrary");
     let file = folder.0.join("store");
     random::scenes("stores_that_threads_share", SCENES / 2, |mut random| {
         let mut scene = random.pick(&draws)(&mut random);
@@ -149,7 +140,8 @@ fn stamps_of_resent_pages() {
         for (line, v, page) in drawn::every_page(&scene) {
             let end = stamps::stamp(&scene, line, v, page).end;
             *ends.entry(end).or_insert(0) += 1;
-            if let Err(complaint) = scene.make(&Call::Stamp(line, v, page)) {
+            let call = Call::Stamp(Line(line), Version(v), PageIndex(page));
+            if let Err(complaint) = scene.make(&call) {
                 panic!("{complaint}\nPIT_SEED={seed}: STAMP {line} {v} {page}");
             }
         }

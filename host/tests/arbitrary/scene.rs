@@ -2,52 +2,31 @@
 
 use crate::memory::{Fenced, Memory};
 use crate::stamps;
+use crate::support::call::{make_one, Call};
 use crate::windows::{inside, listed, Window, WEEK};
 use pit_host::{
     ByteOffset, Error, Limits, Line, LineVersion, Minute, PageIndex, PartsMut, Published, Record,
     State, Store, Ticket, Version, Windows,
 };
 
-/// A call with its arguments, the line first and the minute last. PUT and READ come with the length of their bytes or
-/// buffer.
-#[derive(Clone, Debug)]
-pub enum Call {
-    Format(Limits),
-    Begin(u64),
-    Put(u64, u64, usize),
-    Write(u64, u64, u64),
-    Append(u64, u64),
-    Weave(u64),
-    Publish(u64, u64),
-    SetWindows(Vec<u8>),
-    Branch(u64, u64),
-    Read([u64; 4], usize),
-    Size(u64, u64),
-    Recent(u64),
-    Stamp(u64, u64, u64),
-    View(u64, u64, u64),
-}
+/// The calls that may find damage, row 19.
+pub const FIND_DAMAGE: [&str; 10] = [
+    "PUT", "WRITE", "APPEND", "WEAVE", "PUBLISH", "BRANCH", "READ", "SIZE", "STAMP", "VIEW",
+];
+pub const OTHERS: [&str; 3] = ["BEGIN", "RECENT", "SETWINDOWS"];
+/// The calls that name a line, row 20.
+pub const NAME_LINES: [&str; 9] = [
+    "WRITE", "APPEND", "PUBLISH", "BRANCH", "READ", "SIZE", "RECENT", "STAMP", "VIEW",
+];
+/// The rows from 21 on, and the call that each is of.
+pub const LAST_ROWS: [(u64, &str); 4] = [
+    (21, "BRANCH"),
+    (22, "PUBLISH"),
+    (23, "SETWINDOWS"),
+    (24, "SETWINDOWS"),
+];
 
 impl Call {
-    pub fn name(&self) -> &'static str {
-        match self {
-            Call::Format(..) => "FORMAT",
-            Call::Begin(..) => "BEGIN",
-            Call::Put(..) => "PUT",
-            Call::Write(..) => "WRITE",
-            Call::Append(..) => "APPEND",
-            Call::Weave(..) => "WEAVE",
-            Call::Publish(..) => "PUBLISH",
-            Call::SetWindows(..) => "SETWINDOWS",
-            Call::Branch(..) => "BRANCH",
-            Call::Read(..) => "READ",
-            Call::Size(..) => "SIZE",
-            Call::Recent(..) => "RECENT",
-            Call::Stamp(..) => "STAMP",
-            Call::View(..) => "VIEW",
-        }
-    }
-
     /// Whether it may write pages, nodes and the register.
     fn writes(&self) -> [bool; 3] {
         match self {
@@ -71,20 +50,21 @@ impl Call {
             Call::Write(line, ..) | Call::Append(line, _) => {
                 due.assigned += 1;
                 due.places = after.places.max(before.places + 1);
-                let (mut of, after) = (due.line(Line(line)), after.line(Line(line)));
+                let (mut of, after) = (due.line(line), after.line(line));
                 of.assigned += 1;
                 of.blob = after.blob.max(of.blob);
-                due.set_line(Line(line), of);
+                due.set_line(line, of);
             }
             Call::Publish(line, _) => {
-                let mut of = due.line(Line(line));
+                let mut of = due.line(line);
                 of.published += 1; // if it is neither waiting nor held
-                due.set_line(Line(line), of);
+                due.set_line(line, of);
             }
             Call::Branch(line, v) => {
                 let new = Line(before.begun);
                 let mut of = after.line(new); // its size in pages
-                (of.source, of.start, of.assigned, of.published) = (line, v, v, v);
+                (of.source, of.start) = (line.0, v.0);
+                (of.assigned, of.published) = (v.0, v.0);
                 due.set_line(new, of);
                 due.begun += 1;
             }
@@ -96,7 +76,8 @@ impl Call {
     /// Its bytes, its text, or its buffer before it.
     fn bytes(&self) -> Vec<u8> {
         match self {
-            Call::Put(_, _, room) | Call::Read(_, room) => vec![BYTE; *room],
+            Call::Put(_, _, bytes) => bytes.clone(),
+            Call::Read(.., room) => vec![BYTE; *room],
             Call::SetWindows(text) => text.clone(),
             _ => vec![],
         }
@@ -119,17 +100,16 @@ impl Call {
             Call::Format(limits) => vec![format_row(&limits, memory)],
             _ if lengths_differ(s, memory) => vec![3],
             Call::Begin(n) => vec![begin_row(s, n)],
-            Call::Recent(line) => vec![if no_line(s, line) { 20 } else { 0 }],
-            Call::Publish(line, minute) => publish_rows(scene, line, minute),
+            Call::Recent(line) => vec![if no_line(s, line.0) { 20 } else { 0 }],
+            Call::Publish(line, minute) => publish_rows(scene, line.0, minute.0),
             Call::SetWindows(ref text) => vec![listed(text).err().unwrap_or(0)],
             Call::Put(t, ..) | Call::Write(_, t, _) | Call::Append(_, t) | Call::Weave(t) => {
-                self.may_answer_for_ticket(t, s, memory)
+                self.may_answer_for_ticket(t.0, s, memory)
             }
-            Call::Read([line, v, ..], _)
-            | Call::Branch(line, v)
-            | Call::Size(line, v)
-            | Call::Stamp(line, v, _)
-            | Call::View(line, v, _) => self.may_answer_for_version(line, v, s, memory),
+            _ => match self.version() {
+                Some((line, v)) => self.may_answer_for_version(line.0, v.0, s, memory),
+                None => unreachable!("{self:?} is not made here"),
+            },
         }
     }
 
@@ -144,9 +124,9 @@ impl Call {
             return vec![8];
         }
         match *self {
-            Call::Write(line, ..) | Call::Append(line, _) if no_line(s, line) => vec![20],
-            Call::Put(_, _, room) if past && room as u64 != s.size => vec![11],
-            Call::Write(line, _, f) if past && s.line(Line(line)).blob < f => vec![13],
+            Call::Write(line, ..) | Call::Append(line, _) if no_line(s, line.0) => vec![20],
+            Call::Put(_, _, ref bytes) if past && bytes.len() as u64 != s.size => vec![11],
+            Call::Write(line, _, f) if past && s.line(line).blob < f.0 => vec![13],
             _ if past => vec![19],
             Call::Put(..) => vec![0, 9, 10, 11, 19],
             Call::Write(..) => vec![0, 12, 13, 14, 15, 19],
@@ -171,7 +151,7 @@ impl Call {
         match *self {
             _ if s.line(Line(line)).published < version => vec![16],
             Call::Branch(..) if s.begun >= 16 => vec![21],
-            Call::Read([.., len], room) if past && (room as u64) < len => vec![18],
+            Call::Read(_, _, _, len, room) if past && (room as u64) < len => vec![18],
             _ if past => vec![19],
             Call::Read(..) => vec![0, 17, 18, 19],
             Call::Size(..) | Call::Branch(..) if at_once(s, memory, line, version) => vec![0],
@@ -294,7 +274,7 @@ fn fresh(limits: &Limits) -> State {
 }
 
 /// What the bytes to put are, and a buffer before READ.
-const BYTE: u8 = 0xb5;
+pub const BYTE: u8 = 0xb5;
 
 /// Where two areas differ.
 fn differing<T: PartialEq>(old: &[T], new: &[T]) -> Vec<usize> {
@@ -346,7 +326,7 @@ impl Scene {
         };
         claim(self.windows == windows, "not the windows that are due")?;
         let filled = match *call {
-            Call::Read([.., len], _) if refusal == 0 => len as usize,
+            Call::Read(_, _, _, len, _) if refusal == 0 => len as usize,
             _ => 0,
         };
         claim(
@@ -371,11 +351,11 @@ impl Scene {
             _ => 1,
         };
         claim(records.len() <= most, "too many records changed")?;
-        if let Call::Put(ticket, i, room) = *call {
-            let number = old.register.part()[ticket as usize - 1].number + i;
+        if let Call::Put(ticket, i, bytes) = call {
+            let number = old.register.part()[ticket.0 as usize - 1].number + i;
             let mut pages = old.pages.clone();
             let page = pages.parts_mut()[(before.state.size * number) as usize..].iter_mut();
-            page.take(room).for_each(|byte| *byte = BYTE);
+            page.take(bytes.len()).for_each(|byte| *byte = BYTE);
             claim(*new.pages.part() == *pages.part(), "not the page put")?;
         }
         let nodes = differing(old.nodes.part(), new.nodes.part());
@@ -392,24 +372,20 @@ impl Scene {
         }
         let mut store = Store::resume(self.state, self.windows, self.memory.parts_mut());
         let done = match *call {
-            Call::Begin(n) => store.begin(n).map(drop),
-            Call::Put(t, i, _) => store.put(Ticket(t), i, buffer.part()),
-            Call::Write(l, t, f) => store.write(Line(l), Ticket(t), PageIndex(f)).map(drop),
-            Call::Append(l, t) => store.append(Line(l), Ticket(t)).map(drop),
-            Call::Weave(t) => weave(&mut store, t)?,
-            Call::Publish(l, minute) => publish(&mut store, Line(l), Minute(minute))?,
+            Call::Put(t, i, _) => store.put(t, i, buffer.part()),
             Call::SetWindows(_) => store.set_windows(buffer.part()).map_err(Error::from),
-            Call::Branch(l, v) => store.branch(Line(l), Version(v)).map(drop),
-            Call::Read(range, _) => read(&store, range, buffer.parts_mut())?,
-            Call::Size(l, v) => store.size(Line(l), Version(v)).map(drop),
-            Call::Stamp(l, v, page) => {
-                let stamp = store.stamp(Line(l), Version(v), PageIndex(page));
-                self.compare_stamp(stamp, [l, v, page])?;
+            Call::Weave(t) => weave(&mut store, t)?,
+            Call::Publish(line, minute) => publish(&mut store, line, minute)?,
+            Call::Read(line, v, offset, len, _) => {
+                read(&store, [line.0, v.0, offset.0, len], buffer.parts_mut())?
+            }
+            Call::Stamp(line, v, page) => {
+                let stamp = store.stamp(line, v, page);
+                self.compare_stamp(stamp, [line.0, v.0, page.0])?;
                 return Ok(stamp.err().map_or(0, |refused| refused.number()));
             }
-            Call::View(l, v, page) => view(&store, Line(l), Version(v), PageIndex(page))?,
-            Call::Recent(l) => store.recent(Line(l)).map(drop),
-            Call::Format(..) => unreachable!("it has its own way"),
+            Call::View(line, v, page) => view(&store, line, v, page)?,
+            ref call => make_one(&mut store, call).map(drop),
         };
         (self.state, self.windows) = (store.state(), store.windows());
         Ok(done.err().map_or(0, |refused| refused.number()))
@@ -449,14 +425,14 @@ type Outcome = Result<Result<(), Error>, String>;
 type InMemory<'a> = Store<PartsMut<'a>>;
 
 /// WEAVE. Accepted, the node stands at its place, and a leaf's page lies in the page area.
-fn weave(store: &mut InMemory<'_>, ticket: u64) -> Outcome {
+fn weave(store: &mut InMemory<'_>, ticket: Ticket) -> Outcome {
     let record_of = |store: &InMemory<'_>, number: u64| {
         let at = number.checked_sub(1)? as usize;
         store.areas().register.get(at).copied()
     };
-    let update = record_of(store, ticket).map_or(0, |r| r.update);
+    let update = record_of(store, ticket.0).map_or(0, |r| r.update);
     let record = record_of(store, update).unwrap_or_default();
-    let woven = store.weave(Ticket(ticket));
+    let woven = store.weave(ticket);
     if let Ok(node) = woven {
         let height = stamps::root_height(record.span);
         let place = record.top.saturating_sub(height);

@@ -3,10 +3,11 @@
 
 use crate::drawn;
 use crate::random::Random;
-use crate::scene::{Call, Scene};
+use crate::scene::Scene;
+use crate::support::call::{make_on, make_one, Answer, Call};
 use pit_host::{
-    Areas, ByteOffset, Error, Limits, Line, Minute, PageIndex, Published, Record, Shared, Snapshot,
-    Storage, Store, Ticket, Version,
+    Areas, ByteOffset, Error, Limits, Line, Minute, PageIndex, Record, Shared, Snapshot, Storage,
+    Store, Version,
 };
 use std::path::Path;
 
@@ -29,36 +30,6 @@ fn store_of(scene: &Scene) -> Store {
     Store::resume(scene.state, scene.windows, areas)
 }
 
-/// What a call answers, in words.
-fn told<T: std::fmt::Debug>(answer: Result<T, Error>) -> String {
-    format!("{answer:?}")
-}
-
-/// A call that a shared store and one's own have alike, and what it answers; none where there is no such call.
-macro_rules! perform {
-    ($store:expr, $call:expr) => {
-        match *$call {
-            Call::Begin(n) => told($store.begin(n)),
-            Call::Put(t, i, room) => told($store.put(Ticket(t), i, &vec![0xb5; room])),
-            Call::Write(l, t, f) => told($store.write(Line(l), Ticket(t), PageIndex(f))),
-            Call::Append(l, t) => told($store.append(Line(l), Ticket(t))),
-            Call::Weave(t) => told($store.weave(Ticket(t))),
-            Call::Publish(l, minute) => told($store.publish(Line(l), Minute(minute))),
-            Call::SetWindows(ref text) => told($store.set_windows(text).map_err(Error::from)),
-            Call::Branch(l, v) => told($store.branch(Line(l), Version(v))),
-            Call::Read([l, v, offset, _], room) => {
-                let mut buffer = vec![0xee; room];
-                let offset = ByteOffset(offset);
-                told($store.read(Line(l), Version(v), offset, &mut buffer)) + &told(Ok(buffer))
-            }
-            Call::Size(l, v) => told($store.size(Line(l), Version(v))),
-            Call::Recent(l) => told($store.recent(Line(l))),
-            Call::Stamp(l, v, page) => told($store.stamp(Line(l), Version(v), PageIndex(page))),
-            Call::Format(..) | Call::View(..) => String::new(),
-        }
-    };
-}
-
 /// A shared store and one's own, over the same areas, and filled snapshots, each with its pages.
 struct Both {
     shared: Shared,
@@ -76,21 +47,24 @@ impl Both {
         }
     }
 
-    /// Makes a call on both.
+    /// Makes a call on both. FORMAT is none that a shared store has.
     fn make(&mut self, call: &Call) {
-        let answer = perform!(self.shared, call);
-        let is_refused = answer == told::<()>(Err(Error::Damaged));
-        if matches!(call, Call::Put(..)) && is_refused {
+        let call = match call {
+            Call::Format(..) => return,
+            Call::Read(line, v, offset, _, room) => {
+                &Call::Read(*line, *v, *offset, *room as u64, *room)
+            }
+            call => call,
+        };
+        let answer = make_on(&self.shared, call);
+        let answer = answer.map_err(|failure| failure.error().expect("a refusal"));
+        if matches!(call, Call::Put(..)) && answer == Err(Error::Damaged) {
             // also where the page is put already, which only the shared store knows
-            let alone = perform!(self.own.clone(), call);
-            return assert!(alone == answer || alone == told(Ok(())), "{alone}");
+            let alone = make_one(&mut self.own.clone(), call);
+            return assert!(alone == answer || alone == Ok(Answer::Done), "{alone:?}");
         }
-        assert_eq!(answer, perform!(self.own, call));
-        if let Call::View(l, v, page) = *call {
-            let (line, version, page) = (Line(l), Version(v), PageIndex(page));
-            let shared = self.shared.with_view(line, version, page, told_page);
-            let own = self.own.view(line, version, page);
-            assert_eq!(shared, own.map(told_page));
+        assert_eq!(answer, make_one(&mut self.own, call));
+        if let Call::View(line, version, _) = *call {
             self.look(line, version);
         }
     }
@@ -135,10 +109,6 @@ impl Both {
             }
         }
     }
-}
-
-fn told_page(page: &[u8]) -> Vec<u8> {
-    page.to_vec()
 }
 
 /// All pages of a filled snapshot, which READ gives too.

@@ -1,55 +1,13 @@
 //! The calls over owned and lent areas: the same answers, states and areas, also across a handing over of the parts.
 
 use crate::random::Random;
+use crate::support::call::make_one;
+use crate::support::draw::{draw, Shown, SINGLE};
 use crate::updates::{assign, fills, limits, of_three_versions, put_all, update, ANY_TIME, LIVE};
 use pit_host::{
     Areas, Assigned, ByteOffset, Error, Line, LineVersion, Minute, Node, PageIndex, Parts,
-    PartsMut, Published, Record, State, Storage, Store, Ticket, Version, WindowsError,
+    PartsMut, Published, Record, State, Storage, Store, Ticket, Version,
 };
-
-/// What a call answered, with the buffer of a READ as it left it.
-#[derive(Debug, PartialEq)]
-enum Answer {
-    Ticket(Result<Ticket, Error>),
-    Put(Result<(), Error>),
-    Assigned(Result<Assigned, Error>),
-    Node(Result<Node, Error>),
-    Published(Result<Published, Error>),
-    Windows(Result<(), WindowsError>),
-    Begun(Result<Line, Error>),
-    Read(Result<(), Error>, Vec<u8>),
-    Size(Result<u64, Error>),
-    Version(Result<Version, Error>),
-    View(Result<Vec<u8>, Error>),
-}
-
-/// Lists of windows, and texts that are none.
-const LISTS: [&str; 3] = ["", "2016,2017\n9000,1000\n", "1,2\n1,1\n"];
-
-/// One call, chosen and filled in by the numbers.
-fn call<A: Storage>(store: &mut Store<A>, kind: u64, numbers: [u64; 4], fill: u8) -> Answer {
-    let [l, a, b, c] = numbers;
-    let (line, ticket, version, page) = (Line(l), Ticket(a), Version(a), PageIndex(b));
-    match kind {
-        0 => Answer::Ticket(store.begin(b)),
-        1 | 2 => Answer::Put(store.put(ticket, b, &[fill; 16])),
-        3 => Answer::Assigned(store.append(line, ticket)),
-        4 => Answer::Assigned(store.write(line, ticket, page)),
-        5..=8 => Answer::Node(store.weave(ticket)),
-        9 => Answer::Published(store.publish(line, Minute(2_016 * c))), // of the six the last is past the week
-        10 => {
-            let mut buffer = vec![fill; 40];
-            let done = store.read_front(line, version, ByteOffset(8 * b), 8 * c, &mut buffer);
-            Answer::Read(done, buffer)
-        }
-        11 => Answer::Size(store.size(line, version)),
-        12 => Answer::Version(store.recent(line)),
-        13 => Answer::Version(store.stamp(line, version, page)),
-        14 => Answer::Begun(store.branch(line, Version(b))),
-        15 => Answer::Windows(store.set_windows(LISTS[b as usize])),
-        _ => Answer::View(store.view(line, version, page).map(<[u8]>::to_vec)),
-    }
-}
 
 #[test]
 fn owned_and_lent_stores_do_the_same() {
@@ -66,12 +24,10 @@ fn owned_and_lent_stores_do_the_same() {
             register: &mut register,
         };
         let mut lent = Store::format_in(limits(24, 60, 10), areas).unwrap();
-        for step in 0..600 {
-            let kind = random.below(17);
-            let line = [0, 0, 1, 2][random.below(4) as usize];
-            let numbers = [line, 1 + random.below(8), random.below(3), random.below(6)];
-            let answer = call(&mut owned, kind, numbers, step as u8);
-            assert_eq!(answer, call(&mut lent, kind, numbers, step as u8));
+        for _ in 0..600 {
+            let call = draw(&mut random, &Shown::of(&owned), &SINGLE);
+            let answer = make_one(&mut owned, &call);
+            assert_eq!(answer, make_one(&mut lent, &call), "{call:?}");
             assert_eq!(owned.state(), lent.state());
             assert_eq!(owned.windows(), lent.windows());
         }

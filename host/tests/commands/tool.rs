@@ -2,9 +2,11 @@
 
 use crate::folder::Folder;
 use crate::random::{first_seed, named, Random};
+use crate::support::call::{self, Begin};
+use crate::support::draw::{draw, Shown, CALLS};
 use pit_host::{
-    inspect, inspect_earlier, Comparison, Durable, Limits, Line, Minute, OpenBy, Options,
-    PageIndex, PartsMut, Storage, Store, Ticket, Version,
+    inspect, inspect_earlier, Comparison, Durable, Limits, Line, OpenBy, Options, PageIndex,
+    PartsMut, Storage, Store, Version,
 };
 use std::collections::BTreeMap;
 use std::ffi::OsStr;
@@ -101,9 +103,9 @@ fn make(folder: &Path) -> Durable {
     durable
         .update(LIVE, PageIndex(1), &[b"a page of bytes."])
         .unwrap();
-    let plan = durable.branch(LIVE, Version(2)).unwrap();
+    let plan = durable.line_from(LIVE, Version(2));
     durable.update(plan, PageIndex(3), &[&[5; 16]]).unwrap();
-    durable.set_windows("600,660\n10000,30\n").unwrap();
+    durable.windows_are("600,660\n10000,30\n");
     let ticket = durable.begin(3).unwrap();
     durable.put(ticket, 1, &[6; 16]).unwrap();
     let ticket = durable.begin(1).unwrap();
@@ -516,24 +518,8 @@ fn drawn(seed: u64) -> Store {
     let mut random = Random::new(seed);
     let mut store = Store::format(Limits::new(16, 120, 400, 30)).unwrap();
     for _ in 0..random.below(400) {
-        let line = Line(random.below(store.state().begun));
-        let ticket = Ticket(1 + random.below(store.state().tickets.max(1)));
-        let _ = match random.below(8) {
-            0 => store.begin(1 + random.below(5)).map(drop),
-            1 | 2 => store.put(ticket, random.below(5), &[random.below(3) as u8; 16]),
-            3 => store
-                .write(line, ticket, PageIndex(random.below(6)))
-                .map(drop),
-            4 => store.append(line, ticket).map(drop),
-            5 => (0..random.below(9)).try_for_each(|_| store.weave(ticket).map(drop)),
-            6 => store.publish(line, Minute(0)).map(drop),
-            _ if random.one_in(8) => {
-                let recent = store.recent(line).unwrap();
-                let version = Version(random.below(recent.0 + 1));
-                store.branch(line, version).map(drop)
-            }
-            _ => Ok(()),
-        };
+        let call = draw(&mut random, &Shown::of(&store), &CALLS);
+        let _ = call::make(&mut store, &call);
     }
     store
 }

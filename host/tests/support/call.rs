@@ -29,6 +29,8 @@ pub enum Call {
     Rebuild(Limits, Vec<(Line, Version)>, Vec<Ticket>),
     Checkpoint,
     Sync,
+    /// Over areas that are there already.
+    Format(Limits),
 }
 
 /// A whole update in one call; at the line's end, where it says no page.
@@ -266,6 +268,7 @@ impl Call {
             Call::Recent(..) => "RECENT",
             Call::Stamp(..) => "STAMP",
             Call::View(..) => "VIEW",
+            Call::Format(..) => "FORMAT",
             _ => "",
         }
     }

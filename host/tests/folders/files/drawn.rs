@@ -2,7 +2,9 @@
 
 use super::scene::{in_form_4, in_form_5, saved, sealed, Folder, HEADER};
 use crate::random::{first_seed, named, Random};
-use pit_host::{Error, FileError, Limits, Line, Minute, PageIndex, Store, Ticket, Version};
+use crate::support::call::make;
+use crate::support::draw::{draw as draw_call, Shown, CALLS};
+use pit_host::{FileError, Limits, Store};
 use std::fs;
 
 /// How many stores each test draws.
@@ -22,54 +24,10 @@ fn draw(random: &mut Random) -> Store {
     let [pages, nodes, updates] = [150, 600, 40].map(|most| 1 + random.below(most));
     let mut store = Store::format(Limits::new(page_size, pages, nodes, updates)).unwrap();
     for _ in 0..random.below(150) {
-        let _ = call(random, &mut store); // refused, it has changed nothing
+        let call = draw_call(random, &Shown::of(&store), &CALLS);
+        let _ = make(&mut store, &call); // refused, it has changed nothing
     }
     store
-}
-
-/// A random call, or some in a row on one ticket.
-fn call(random: &mut Random, store: &mut Store) -> Result<(), Error> {
-    let s = store.state();
-    let line = Line(random.below(s.begun));
-    let ticket = Ticket(1 + random.below(s.tickets + 1));
-    match random.below(12) {
-        0 | 1 => store.begin(1 + random.below(6)).map(drop),
-        2 => put(random, store, ticket, 3),
-        3 | 4 => put(random, store, ticket, u64::MAX),
-        5 => store.append(line, ticket).map(drop),
-        6 => {
-            let first = PageIndex(random.below(s.line(line).blob + 1));
-            store.write(line, ticket, first).map(drop)
-        }
-        7 => (0..random.below(4)).try_for_each(|_| store.weave(ticket).map(drop)),
-        8 => (0..200).try_for_each(|_| store.weave(ticket).map(drop)),
-        9 => store.publish(line, Minute(random.below(10_080))).map(drop),
-        10 if random.one_in(3) => {
-            let version = Version(random.below(s.line(line).published + 1));
-            store.branch(line, version).map(drop)
-        }
-        10 => Ok(()),
-        _ => {
-            let minutes = [random.below(10_080), random.below(10_080)];
-            let list = format!("{},{}\n", minutes[0], minutes[1]);
-            store.set_windows(list).map_err(|refused| refused.error())
-        }
-    }
-}
-
-/// Puts each page of a ticket, but for one in so many, which stay as they are.
-fn put(random: &mut Random, store: &mut Store, ticket: Ticket, but: u64) -> Result<(), Error> {
-    let page_size = store.state().size as usize;
-    for i in 0..64 {
-        if random.one_in(but) {
-            continue;
-        }
-        match store.put(ticket, i, &random.bytes(page_size)) {
-            Err(Error::AlreadyPut) => (),
-            other => other?,
-        }
-    }
-    Ok(())
 }
 
 /// Which of what can be in work in a store is: a ticket partly put, a tree half woven, lines, windows; and whether one of its
