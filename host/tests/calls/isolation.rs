@@ -3,86 +3,27 @@
 //! The windows are the site's and no line's: a call that sets them is in both runs. `PIT_SEED` names the first seed.
 
 use crate::random::{first_seed, Random};
+use crate::support::call::{make_one, Answer, Begin, Call};
+use crate::support::draw::{draw, Mix, Open, Shown, SINGLE};
 use crate::updates::{limits, update, LIVE};
-use pit_host::{ByteOffset, Error, Line, LineVersion, Minute, PageIndex, Store, Ticket, Version};
+use pit_host::{Line, LineVersion, Minute, Node, PageIndex, Store, Ticket, Version};
 
 const RUNS: u64 = 300;
 const ACTS: u64 = 120;
 
-/// What the planner does on its line, and the windows that the site sets meanwhile. Its tickets are counted from 0.
-#[derive(Clone, Copy, Debug)]
-enum Act {
-    Begin(u64),
-    Put(usize, u64, u8),
-    Write(usize, u64),
-    Append(usize),
-    Weave(usize),
-    Publish(u64),
-    SetWindows(&'static str),
-    Read(u64, u64, u64),
-    Size(u64),
-    Recent,
-    Stamp(u64, u64),
-    View(u64, u64),
-}
-
-/// How many acts an update takes when nothing comes between.
-const AN_UPDATE: u64 = 16;
-
-/// Lists of windows, most of them of the first half of the week; and one that is refused.
-const LISTS: [&str; 5] = [
-    "",
-    "0,2520\n",
-    "1260,5040\n",
-    "9000,600\n2000,3000\n",
-    "0,0\n",
-];
+/// What the planner does: single calls on its own line, which it knows as line 0, and its tickets, which it counts from 1; and the
+/// windows that the site sets meanwhile.
+const MIX: Mix = Mix {
+    branch: 0,
+    assign: 12,
+    weave: 40,
+    publish: 24,
+    windows: 14,
+    reads: 24,
+    most: 2,
+    ..SINGLE
+};
 const WEEK: u64 = 10_080;
-
-/// Most often the next act of an update, else any.
-fn draw(random: &mut Random, at: u64) -> Act {
-    let (ticket, stage) = ((at / AN_UPDATE) as usize, at % AN_UPDATE);
-    if random.one_in(3) {
-        return draw_any(random, ticket as u64 + 1);
-    }
-    match stage {
-        0 => Act::Begin(1 + random.below(2)),
-        1 | 2 => Act::Put(ticket, stage - 1, fill(random)),
-        3 if random.one_in(2) => Act::Append(ticket),
-        3 | 4 => Act::Write(ticket, random.below(4)),
-        5..=13 => Act::Weave(ticket),
-        _ => Act::Publish(random.below(WEEK)),
-    }
-}
-
-/// What a page is filled with: mostly one of a few bytes, some of them those of the versions that are shared, so that pages
-/// are often resent.
-fn fill(random: &mut Random) -> u8 {
-    match random.below(4) {
-        0 => random.next() as u8,
-        _ => random.pick(&[1, 2, 9, 10]),
-    }
-}
-
-/// Any act, on one of so many tickets and versions.
-fn draw_any(random: &mut Random, most: u64) -> Act {
-    let (ticket, page) = (random.below(most) as usize, random.below(9));
-    let version = random.below(most + 3);
-    match random.below(18) {
-        0 => Act::Begin(1 + random.below(3)),
-        1 => Act::Put(ticket, random.below(3), fill(random)),
-        2 => Act::Append(ticket),
-        3 => Act::Write(ticket, page),
-        4..=6 => Act::Weave(ticket),
-        7 => Act::Publish(random.below(WEEK + 100)),
-        8 | 9 => Act::Read(version, 4 * random.below(40), random.below(64)),
-        10 => Act::Size(version),
-        11 => Act::Recent,
-        12 | 13 => Act::Stamp(version, page),
-        14 | 15 => Act::View(version, page),
-        _ => Act::SetWindows(random.pick(&LISTS)),
-    }
-}
 
 /// The planner on its line, with its tickets and what it was answered.
 struct Planner {
@@ -91,62 +32,78 @@ struct Planner {
     answers: Vec<String>,
 }
 
-/// An answer in words, or a refusal's number.
-fn told<T: std::fmt::Debug>(answer: Result<T, Error>) -> String {
-    match answer {
-        Ok(answer) => format!("{answer:?}"),
-        Err(refused) => format!("refused {}", refused.number()),
-    }
-}
-
 impl Planner {
-    fn act(&mut self, store: &mut Store, act: Act) {
-        let line = self.line;
-        let ticket = |k: usize| self.tickets.get(k).copied().unwrap_or(Ticket(0));
-        let answer = match act {
-            Act::Begin(n) => {
-                let begun = store.begin(n);
-                self.tickets.extend(begun);
-                told(begun.map(drop))
-            }
-            Act::Put(k, i, fill) => told(store.put(ticket(k), i, &[fill; 16])),
-            Act::Write(k, first) => told(store.write(line, ticket(k), PageIndex(first))),
-            Act::Append(k) => told(store.append(line, ticket(k))),
-            Act::Weave(k) => self.weave(store, ticket(k)),
-            Act::Publish(minute) => told(store.publish(line, Minute(minute))),
-            Act::SetWindows(text) => told(store.set_windows(text).map_err(Error::from)),
-            Act::Read(v, offset, len) => {
-                let mut buffer = [0xee; 48];
-                let done = store.read_front(line, Version(v), ByteOffset(offset), len, &mut buffer);
-                told(done) + &format!("{buffer:?}")
-            }
-            Act::Size(v) => told(store.size(line, Version(v))),
-            Act::Recent => told(store.recent(line)),
-            Act::Stamp(v, page) => told(store.stamp(line, Version(v), PageIndex(page))),
-            Act::View(v, page) => told(store.view(line, Version(v), PageIndex(page))),
-        };
-        self.answers.push(format!("{act:?}: {answer}"));
+    /// What it knows of the store, in its own numbers.
+    fn shown(&self, store: &Store) -> Shown {
+        let (of, register) = (store.state().line(self.line), store.areas().register());
+        let open = (1..)
+            .map(Ticket)
+            .zip(&self.tickets)
+            .filter_map(|(own, ticket)| {
+                let open = Open::of(register, *ticket)?;
+                Some(Open {
+                    ticket: own,
+                    ..open
+                })
+            });
+        Shown {
+            lines: vec![(of.published, of.blob)],
+            open: open.collect(),
+            ..Shown::of(store)
+        }
     }
 
-    /// WEAVE's answer with the numbers matched: its own line has no number, and a leaf's page number is counted from its
-    /// ticket's first.
-    fn weave(&self, store: &mut Store, ticket: Ticket) -> String {
+    /// A call in the store's numbers. Another line than its own is none that has begun.
+    fn in_the_store(&self, call: &Call) -> Call {
+        let line = |line: Line| match line.0 {
+            0 => self.line,
+            other => Line(other.saturating_add(16)),
+        };
+        let ticket = |ticket: Ticket| {
+            let at = (ticket.0 as usize).wrapping_sub(1);
+            self.tickets.get(at).copied().unwrap_or(ticket)
+        };
+        call.renumbered(line, ticket)
+    }
+
+    fn act(&mut self, store: &mut Store, call: &Call) {
+        let made = self.in_the_store(call);
+        let answer = match make_one(store, &made) {
+            Ok(Answer::Ticket(ticket)) => {
+                self.tickets.push(ticket);
+                "begun".to_string()
+            }
+            Ok(Answer::Node(node)) => self.matched(store, &made, &node),
+            Ok(answer) => format!("{answer:?}"),
+            Err(refused) => format!("refused {}", refused.number()),
+        };
+        self.answers.push(format!("{call:?}: {answer}"));
+    }
+
+    /// A node with the numbers matched: its own line has no number, and a leaf's page number is counted from its ticket's first.
+    fn matched(&self, store: &Store, weave: &Call, node: &Node) -> String {
         let matched = |number: LineVersion| match number.line() {
             line if line == self.line => format!("own {}", number.version()),
             _ => number.to_string(),
         };
-        let woven = store.weave(ticket).map(|node| {
-            let (left, right) = (u64::from(node.left), u64::from(node.right));
-            let numbers = if node.span == 1 {
-                let first = store.areas().register()[ticket.0 as usize - 1].number;
-                format!("page {}, {right}", left - first)
-            } else {
-                [left, right].map(|n| matched(LineVersion(n))).join(", ")
-            };
-            let (first, span, rest) = (node.first, node.span, node.rest);
-            (matched(node.version), first, span, numbers, rest)
-        });
-        told(woven)
+        let (left, right) = (u64::from(node.left), u64::from(node.right));
+        let numbers = if node.span == 1 {
+            let ticket = weave.numbers()[0];
+            let first = store.areas().register()[ticket as usize - 1].number;
+            format!("page {}, {right}", left - first)
+        } else {
+            [left, right].map(|n| matched(LineVersion(n))).join(", ")
+        };
+        let (first, span, rest) = (node.first, node.span, node.rest);
+        format!("{:?}", (matched(node.version), first, span, numbers, rest))
+    }
+}
+
+/// What a page is filled with: mostly one of a few bytes, so that pages are often resent.
+fn fill(random: &mut Random) -> u8 {
+    match random.below(4) {
+        0 => random.next() as u8,
+        _ => random.pick(&[1, 2, 9, 10]),
     }
 }
 
@@ -160,7 +117,7 @@ fn disturb(random: &mut Random, store: &mut Store, planner: Option<Line>) {
     let recent = store.recent(line).expect("a line that has begun");
     if random.one_in(6) && begun < 15 {
         let version = Version(random.below(recent.0 + 1));
-        store.branch(line, version).expect("room for a line");
+        store.line_from(line, version);
         return;
     }
     let n = 1 + random.below(3);
@@ -195,7 +152,7 @@ fn run(seed: u64, among_others: bool) -> Vec<String> {
         let line = lines[random.below(lines.len() as u64) as usize];
         update(&mut store, line, at, &[k as u8 + 1, k as u8 + 9]).expect("room for all");
         if k == 1 {
-            lines.push(store.branch(LIVE, Version(1)).expect("room for a line"));
+            lines.push(store.line_from(LIVE, Version(1)));
         }
     }
     let source = lines[random.below(2) as usize];
@@ -203,20 +160,22 @@ fn run(seed: u64, among_others: bool) -> Vec<String> {
     for _ in 0..others.below(6) * u64::from(among_others) {
         disturb(&mut others, &mut store, None);
     }
-    let line = store.branch(source, start).expect("room for a line");
+    let line = store.line_from(source, start);
     let mut planner = Planner {
         line,
         tickets: vec![],
         answers: vec![],
     };
-    for at in 0..ACTS {
-        planner.act(&mut store, draw(&mut random, at));
+    for _ in 0..ACTS {
+        let call = draw(&mut random, &planner.shown(&store), &MIX);
+        planner.act(&mut store, &call);
         if among_others && others.one_in(3) {
             disturb(&mut others, &mut store, Some(line));
         }
     }
     for (version, page) in (1..8).flat_map(|v| (0..4).map(move |page| (v, page))) {
-        planner.act(&mut store, Act::Stamp(version, page));
+        let stamp = Call::Stamp(Line(0), Version(version), PageIndex(page));
+        planner.act(&mut store, &stamp);
     }
     planner.answers
 }
@@ -231,8 +190,8 @@ fn others_reach_a_lines_answers_only_by_numbers() {
             assert_eq!(alone[at], *answer, "PIT_SEED={seed}, answer {at}");
         }
         let with = |end: &str| alone.iter().filter(|answer| answer.contains(end)).count();
-        published += with(": Now(");
-        held += with(": Held");
+        published += with(": Published(Now(");
+        held += with(": Published(Held");
         let stamps = alone.iter().filter(|answer| answer.starts_with("Stamp"));
         stamped += stamps
             .filter(|answer| answer.contains(": Version("))

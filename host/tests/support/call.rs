@@ -293,6 +293,28 @@ impl Call {
         }
     }
 
+    /// The same call with other numbers for its line and its ticket.
+    pub fn renumbered(
+        &self,
+        line: impl Fn(Line) -> Line,
+        ticket: impl Fn(Ticket) -> Ticket,
+    ) -> Call {
+        match self.clone() {
+            Call::Put(t, i, bytes) => Call::Put(ticket(t), i, bytes),
+            Call::Write(l, t, first) => Call::Write(line(l), ticket(t), first),
+            Call::Append(l, t) => Call::Append(line(l), ticket(t)),
+            Call::Weave(t) => Call::Weave(ticket(t)),
+            Call::Publish(l, minute) => Call::Publish(line(l), minute),
+            Call::Branch(l, v) => Call::Branch(line(l), v),
+            Call::Read(l, v, offset, len, room) => Call::Read(line(l), v, offset, len, room),
+            Call::Size(l, v) => Call::Size(line(l), v),
+            Call::Recent(l) => Call::Recent(line(l)),
+            Call::Stamp(l, v, page) => Call::Stamp(line(l), v, page),
+            Call::View(l, v, page) => Call::View(line(l), v, page),
+            other => other,
+        }
+    }
+
     /// Its numbers, in the order of the step program's lines.
     pub fn numbers(&self) -> Vec<u64> {
         match self {
