@@ -4,7 +4,7 @@ use crate::memory::{Memory, Numbers};
 use crate::random::Random;
 use crate::scene::{Scene, BYTE};
 use crate::stamps;
-use crate::support::call::Call;
+use crate::support::call::{Begin, Call};
 use crate::windows::WEEK;
 use pit_host::{
     ByteOffset, Error, Limits, Line, Minute, PageIndex, PartsMut, Record, State, Store, Ticket,
@@ -295,7 +295,7 @@ pub fn resent_scene(random: &mut Random) -> Scene {
             let source = Line(random.below(store.state().begun));
             let recent = store.recent(source).expect("a line that has begun");
             let version = Version(random.below(recent.0 + 1).max(1));
-            store.branch(source, version).expect("room for a line");
+            store.line_from(source, version);
         }
         let line = Line(random.below(store.state().begun));
         let (first, n) = (random.below(4), 1 + random.below(2));

@@ -14,7 +14,7 @@ const ACTS: u64 = 120;
 /// What the planner does: single calls on its own line, which it knows as line 0, and its tickets, which it counts from 1; and the
 /// windows that the site sets meanwhile.
 const MIX: Mix = Mix {
-    branch: 0,
+    lines: 0,
     assign: 12,
     weave: 40,
     publish: 24,

@@ -7,6 +7,7 @@ mod trees;
 mod header;
 mod isolation;
 mod limits;
+mod lines;
 mod refusals;
 mod sizing;
 mod stamps;

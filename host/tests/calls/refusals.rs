@@ -1,17 +1,15 @@
 //! Every row of the table of refusals, met through the library; and that a refused call changes nothing.
 
+use crate::support::call::{each, make_one, windows_of, Begin, Call};
 use crate::updates::{assign, limits, of_three_versions, put_all, update, ANY_TIME, LIVE};
 use pit_host::{
     Areas, ByteOffset, Error, Limits, Line, Minute, PageIndex, PartsMut, Published, Record, State,
     Storage, Store, Ticket, Version,
 };
 
-/// A call on a store, its answer dropped.
-type Call = fn(&mut Store) -> Result<(), Error>;
-
 /// The call is refused with the number, and the store is as it was.
 #[track_caller]
-fn refused(store: &mut Store, number: u64, call: impl FnOnce(&mut Store) -> Result<(), Error>) {
+pub fn refused(store: &mut Store, number: u64, call: impl FnOnce(&mut Store) -> Result<(), Error>) {
     let before = store.clone();
     let error = call(store).expect_err("a refusal");
     assert_eq!(error.number(), number, "{error}");
@@ -19,29 +17,13 @@ fn refused(store: &mut Store, number: u64, call: impl FnOnce(&mut Store) -> Resu
 }
 
 /// Every call but FORMAT, with arguments that the store of three versions accepts.
-const CALLS: [(&str, Call); 12] = [
-    ("begin", |s| s.begin(1).map(drop)),
-    ("put", |s| s.put(Ticket(4), 0, &[9; 16])),
-    ("write", |s| {
-        s.write(LIVE, Ticket(5), PageIndex(0)).map(drop)
-    }),
-    ("append", |s| s.append(LIVE, Ticket(5)).map(drop)),
-    ("weave", |s| s.weave(Ticket(6)).map(drop)),
-    ("publish", |s| s.publish(LIVE, ANY_TIME).map(drop)),
-    ("set_windows", |s| Ok(s.set_windows("600,660\n")?)),
-    ("branch", |s| s.branch(LIVE, Version(3)).map(drop)),
-    ("read", |s| {
-        s.read(LIVE, Version(3), ByteOffset(8), &mut [0; 64])
-    }),
-    ("size", |s| s.size(LIVE, Version(3)).map(drop)),
-    ("stamp", |s| {
-        s.stamp(LIVE, Version(3), PageIndex(2)).map(drop)
-    }),
-    ("view", |s| s.view(LIVE, Version(3), PageIndex(2)).map(drop)),
-];
+fn calls() -> Vec<Call> {
+    let tickets = [Ticket(4), Ticket(5), Ticket(6)];
+    each(LIVE, Version(3), tickets, &[9; 16])
+}
 
 /// Three versions published; ticket 4 open, ticket 5 put, ticket 6 assigned as version 4.
-fn at_all_stages() -> Store {
+pub fn at_all_stages() -> Store {
     let mut store = of_three_versions();
     assert_eq!(store.begin(1), Ok(Ticket(4)));
     assert_eq!(put_all(&mut store, &[8]), Ok(Ticket(5)));
@@ -52,8 +34,9 @@ fn at_all_stages() -> Store {
 
 #[test]
 fn the_calls_are_accepted_where_nothing_is_wrong() {
-    for (name, call) in CALLS {
-        assert_eq!(call(&mut at_all_stages()), Ok(()), "{name}");
+    for call in calls() {
+        let made = make_one(&mut at_all_stages(), &call);
+        assert!(made.is_ok(), "{call:?}");
     }
     assert_eq!(at_all_stages().recent(LIVE), Ok(Version(3)));
 }
@@ -139,17 +122,19 @@ fn row_3_in_every_call() {
         |s| s.updates += 1,
         |s| s.pages = u64::MAX,
     ];
-    for spoil in wrong {
+    for change in wrong {
         let (mut state, windows, areas) = at_all_stages().into_parts();
-        spoil(&mut state);
+        change(&mut state);
         let mut store = Store::resume(state, windows, areas);
-        for (_, call) in CALLS {
-            refused(&mut store, 3, call);
+        for call in calls() {
+            refused(&mut store, 3, |s| make_one(s, &call).map(drop));
         }
         assert_eq!(store.recent(LIVE), Err(Error::AreaLength));
         // 3 comes first, whatever the minute and the text
-        refused(&mut store, 3, |s| s.publish(LIVE, Minute(10_080)).map(drop));
-        refused(&mut store, 3, |s| Ok(s.set_windows("x")?));
+        let wrong = [Call::Publish(LIVE, Minute(10_080)), windows_of("x")];
+        for call in wrong {
+            refused(&mut store, 3, |s| make_one(s, &call).map(drop));
+        }
     }
 }
 
@@ -295,7 +280,10 @@ fn row_20_of_lines() {
         refused(&mut store, 20, |s| s.publish(line, ANY_TIME).map(drop));
         refused(&mut store, 20, |s| s.recent(line).map(drop));
         for version in [0, 3, 9].map(Version) {
-            refused(&mut store, 20, |s| s.branch(line, version).map(drop));
+            let of_a_version = each(line, version, [Ticket(0); 3], &[]).into_iter();
+            for call in of_a_version.filter(|call| call.version().is_some()) {
+                refused(&mut store, 20, |s| make_one(s, &call).map(drop));
+            }
             refused(&mut store, 20, |s| s.size(line, version).map(drop));
             refused(&mut store, 20, |s| {
                 s.stamp(line, version, PageIndex(99)).map(drop)
@@ -308,38 +296,17 @@ fn row_20_of_lines() {
             });
         }
     }
-    assert_eq!(store.branch(LIVE, Version(0)), Ok(Line(1)));
+    assert_eq!(store.line_from(LIVE, Version(0)), Line(1));
     assert_eq!(store.recent(Line(1)), Ok(Version(0)));
     refused(&mut store, 20, |s| s.recent(Line(2)).map(drop));
-}
-
-/// 21 stands last in BRANCH, before 19.
-#[test]
-fn rows_16_and_21_of_branch() {
-    let mut store = at_all_stages();
-    for version in [4, 5, u64::MAX].map(Version) {
-        refused(&mut store, 16, |s| s.branch(LIVE, version).map(drop));
-    }
-    for line in 1..16 {
-        let (from, version) = (Line(line / 2), Version(3 * (line % 2)));
-        let version = version.min(store.recent(from).unwrap());
-        assert_eq!(store.branch(from, version), Ok(Line(line)));
-    }
-    for line in (0..16).map(Line) {
-        refused(&mut store, 21, |s| s.branch(line, Version(0)).map(drop));
-        let above = Version(store.recent(line).unwrap().0 + 1);
-        refused(&mut store, 16, |s| s.branch(line, above).map(drop));
-    }
-    refused(&mut store, 20, |s| s.branch(Line(16), Version(9)).map(drop));
-    assert!(store.append(Line(15), Ticket(5)).is_ok());
 }
 
 /// 13 and an append's place go by the line's own last assigned version, and 16 by what it has published.
 #[test]
 fn rows_13_and_16_are_read_on_their_line() {
     let mut store = at_all_stages(); // line 0 has 5 pages
-    let plan = store.branch(LIVE, Version(2)).unwrap(); // and this one 4
-    let empty = store.branch(LIVE, Version(0)).unwrap();
+    let plan = store.line_from(LIVE, Version(2)); // and this one 4
+    let empty = store.line_from(LIVE, Version(0));
     let write = |s: &mut Store, line, first| s.write(line, Ticket(5), PageIndex(first)).map(drop);
     refused(&mut store, 13, |s| write(s, plan, 5));
     refused(&mut store, 13, |s| write(s, empty, 1));
@@ -363,7 +330,7 @@ fn rows_13_and_16_are_read_on_their_line() {
 #[test]
 fn row_22_of_publish() {
     let mut store = at_all_stages();
-    store.set_windows("10079,600\n").unwrap();
+    store.windows_are("10079,600\n");
     for minute in [10_080, 65_536, 65_536 + 30, 1 << 32, u64::MAX].map(Minute) {
         refused(&mut store, 22, |s| s.publish(LIVE, minute).map(drop));
         refused(&mut store, 20, |s| s.publish(Line(1), minute).map(drop));
@@ -373,27 +340,6 @@ fn row_22_of_publish() {
     refused(&mut store, 20, |s| {
         s.publish(Line(1), Minute(10_079)).map(drop)
     });
-}
-
-/// 23 stands before 24; the windows that there were stay.
-#[test]
-fn rows_23_and_24_of_windows() {
-    let mut store = at_all_stages();
-    store.set_windows("600,660\n").unwrap();
-    let set = |s: &mut Store, text: &str| Ok(s.set_windows(text)?);
-    let list = "1,2\n".repeat(32);
-    for wrong in [
-        "", "1", "1,", ",1", "1,2,3", "1,1", "0,10080", "01,2", "1 ,2",
-    ] {
-        refused(&mut store, 23, |s| set(s, &format!("{wrong}\n")));
-        refused(&mut store, 23, |s| set(s, &format!("{list}{wrong}\n")));
-    }
-    refused(&mut store, 23, |s| set(s, "1,2"));
-    refused(&mut store, 23, |s| set(s, &format!("{list}1,2")));
-    refused(&mut store, 24, |s| set(s, &format!("{list}1,2\n")));
-    refused(&mut store, 24, |s| set(s, &list.repeat(100)));
-    assert_eq!(set(&mut store, &list), Ok(()));
-    assert_eq!(store.windows().to_string(), list);
 }
 
 #[test]
@@ -434,20 +380,20 @@ fn read_fills_the_whole_buffer() {
     assert_eq!(met, [0, 16, 17]);
 }
 
-/// The store of all stages, its state and areas spoilt.
-fn spoilt(spoil: impl FnOnce(&mut State, PartsMut<'_>)) -> Store {
+/// The store of all stages, its state and areas changed.
+fn changed(change: impl FnOnce(&mut State, PartsMut<'_>)) -> Store {
     let (mut state, windows, mut areas) = at_all_stages().into_parts();
-    spoil(&mut state, areas.parts_mut());
+    change(&mut state, areas.parts_mut());
     Store::resume(state, windows, areas)
 }
 
 /// In a register that no run left: the low n bits of a ticket's mask decide, whatever stands above them.
 #[test]
 fn rows_10_and_12_over_stray_bits() {
-    let mut store = spoilt(|_, areas| areas.register[4].put = 3);
+    let mut store = changed(|_, areas| areas.register[4].put = 3);
     refused(&mut store, 10, |s| s.put(Ticket(5), 0, &[9; 16]));
     assert_eq!(store.append(LIVE, Ticket(5)).map(drop), Ok(()));
-    let mut store = spoilt(|_, areas| areas.register[3].put = 2);
+    let mut store = changed(|_, areas| areas.register[3].put = 2);
     refused(&mut store, 12, |s| s.append(LIVE, Ticket(4)).map(drop));
     assert_eq!(store.put(Ticket(4), 0, &[9; 16]), Ok(()));
     assert_eq!(store.append(LIVE, Ticket(4)).map(drop), Ok(()));
@@ -455,7 +401,7 @@ fn rows_10_and_12_over_stray_bits() {
 
 #[test]
 fn row_19_of_nodes_not_stored() {
-    let mut store = spoilt(|_, areas| areas.nodes.fill(u32::MAX));
+    let mut store = changed(|_, areas| areas.nodes.fill(u32::MAX));
     refused(&mut store, 19, |s| {
         s.stamp(LIVE, Version(3), PageIndex(2)).map(drop)
     });
@@ -471,18 +417,18 @@ fn row_19_of_nodes_not_stored() {
 
 #[test]
 fn row_19_of_page_numbers_places_and_records_past_their_areas() {
-    let mut store = spoilt(|_, areas| areas.register[3].number = 16);
+    let mut store = changed(|_, areas| areas.register[3].number = 16);
     refused(&mut store, 19, |s| s.put(Ticket(4), 0, &[9; 16]));
-    let mut store = spoilt(|_, areas| {
+    let mut store = changed(|_, areas| {
         let update = &mut areas.register[3];
         update.top = 64 + u64::from(update.span.trailing_zeros());
     });
     refused(&mut store, 19, |s| s.weave(Ticket(6)).map(drop));
-    let mut store = spoilt(|state, _| state.tickets = u64::MAX);
+    let mut store = changed(|state, _| state.tickets = u64::MAX);
     refused(&mut store, 19, |s| s.put(Ticket(9), 0, &[9; 16]));
     refused(&mut store, 19, |s| s.append(LIVE, Ticket(9)).map(drop));
     refused(&mut store, 19, |s| s.weave(Ticket(9)).map(drop));
-    let mut store = spoilt(|state, _| {
+    let mut store = changed(|state, _| {
         let mut live = state.line(LIVE);
         (live.assigned, live.published) = (10, 9);
         state.set_line(LIVE, live);
@@ -492,9 +438,11 @@ fn row_19_of_page_numbers_places_and_records_past_their_areas() {
         s.publish(LIVE, Minute(10_080)).map(drop)
     });
     // inside a window no record is looked at
-    store.set_windows("0,1\n").unwrap();
+    store.windows_are("0,1\n");
     assert_eq!(store.publish(LIVE, Minute(0)), Ok(Published::Held));
     refused(&mut store, 19, |s| s.publish(LIVE, Minute(1)).map(drop));
-    refused(&mut store, 19, |s| s.size(LIVE, Version(9)).map(drop));
-    refused(&mut store, 19, |s| s.branch(LIVE, Version(9)).map(drop));
+    let of_a_version = each(LIVE, Version(9), [Ticket(0); 3], &[]).into_iter();
+    for call in of_a_version.filter(|call| call.version().is_some()) {
+        refused(&mut store, 19, |s| make_one(s, &call).map(drop));
+    }
 }

@@ -2,6 +2,7 @@
 //! version asked for. By hand where the step program's limits are too small, and over random stores by what trucks rely on.
 
 use crate::random::{first_seed, Random};
+use crate::support::call::Begin;
 use crate::updates::{limits, update, ANY_TIME, LIVE};
 use pit_host::{Error, Limits, Line, PageIndex, Published, Store, Version};
 
@@ -22,7 +23,7 @@ fn update_of(store: &mut Store, line: Line, at: u64, pages: &[&[u8]]) -> Version
 }
 
 /// The stamps of a version's pages.
-fn stamps(store: &Store, line: Line, v: u64) -> Vec<u64> {
+pub fn stamps(store: &Store, line: Line, v: u64) -> Vec<u64> {
     let pages = store.size(line, Version(v)).expect("published") / store.state().size;
     let stamp = |page| store.stamp(line, Version(v), PageIndex(page));
     let stamps = (0..pages).map(|page| stamp(page).map(|stamp| stamp.0));
@@ -56,29 +57,6 @@ fn a_page_past_the_end_of_the_version_before() {
     assert_eq!(stamps(&store, LIVE, 2), [1, 1, 1, 2]);
     assert_eq!(stamps(&store, LIVE, 3), [1, 1, 1, 2, 3, 3]);
     assert_eq!(stamps(&store, LIVE, 4), [1, 1, 1, 2, 3, 3, 4, 4]);
-}
-
-/// A branch goes on from what it shares: a page that it resends has the stamp that its source gives. What the source does
-/// later makes no difference to it.
-#[test]
-fn across_a_branch() {
-    let mut store = Store::format(limits(64, 256, 32)).unwrap();
-    update(&mut store, LIVE, None, &[1, 2, 3]).unwrap();
-    update(&mut store, LIVE, Some(1), &[2]).unwrap();
-    update(&mut store, LIVE, Some(2), &[4]).unwrap();
-    let plan = store.branch(LIVE, Version(3)).unwrap();
-    let early = store.branch(LIVE, Version(1)).unwrap();
-    update(&mut store, LIVE, Some(0), &[9, 9, 9]).unwrap();
-    update(&mut store, plan, Some(0), &[1, 2, 4]).unwrap();
-    update(&mut store, early, Some(0), &[1, 2, 4]).unwrap();
-    let later = store.branch(plan, Version(4)).unwrap();
-    update(&mut store, later, Some(0), &[1, 9, 4]).unwrap();
-    assert_eq!(stamps(&store, LIVE, 4), [4, 4, 4]);
-    assert_eq!(stamps(&store, plan, 3), [1, 1, 3]);
-    assert_eq!(stamps(&store, plan, 4), [1, 1, 3]);
-    assert_eq!(stamps(&store, early, 2), [1, 1, 2]);
-    assert_eq!(stamps(&store, later, 4), [1, 1, 3]);
-    assert_eq!(stamps(&store, later, 5), [1, 5, 3]);
 }
 
 /// Pages of every size: one byte differs, the first, the last, and those at which blocks of any size begin and end. The pages
@@ -130,7 +108,7 @@ fn four_thousand_resent_updates() {
             assert_eq!(stamps(&store, LIVE, v), due, "version {v}");
         }
         let before = store.clone();
-        let plan = store.branch(LIVE, Version(4_096)).unwrap();
+        let plan = store.line_from(LIVE, Version(4_096));
         assert_eq!(stamps(&store, plan, 4_096), stamps(&before, LIVE, 4_096));
     }
 }
@@ -180,7 +158,7 @@ fn random_store(random: &mut Random) -> Store {
         let recent = store.recent(line).unwrap();
         if random.one_in(5) {
             let version = Version(random.below(recent.0 + 1));
-            line = store.branch(line, version).unwrap();
+            line = store.line_from(line, version);
         }
         let size = store.state().line(line).blob;
         let fills: Vec<u8> = (0..1 + random.below(3))

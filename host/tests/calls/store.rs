@@ -1,7 +1,7 @@
 //! The calls over owned and lent areas: the same answers, states and areas, also across a handing over of the parts.
 
 use crate::random::Random;
-use crate::support::call::make_one;
+use crate::support::call::{make_one, Begin};
 use crate::support::draw::{draw, Shown, SINGLE};
 use crate::updates::{assign, fills, limits, of_three_versions, put_all, update, ANY_TIME, LIVE};
 use pit_host::{
@@ -81,7 +81,7 @@ fn a_store_goes_on_in_the_parts_it_gave() {
     let mut store = of_three_versions();
     let (ticket, assigned) = assign(&mut store, LIVE, Some(0), &[8, 9]).unwrap();
     let mut other = store.clone();
-    store.set_windows("600,660\n").unwrap();
+    store.windows_are("600,660\n");
     for _ in 0..assigned.nodes {
         let (state, windows, areas) = store.into_parts();
         store = Store::resume(state, windows, areas);
@@ -225,78 +225,6 @@ fn versions_are_published_in_their_order() {
         Ok(Published::Now(Version(2)))
     );
     assert_eq!(store.publish(LIVE, ANY_TIME), Ok(Published::Waiting));
-}
-
-// Lines.
-
-/// A branch from version 2 of the three: it reads as its source up to there, and then each goes on by itself.
-#[test]
-fn a_branch_reads_as_its_source_and_goes_on_by_itself() {
-    let mut store = of_three_versions();
-    let plan = store.branch(LIVE, Version(2)).unwrap();
-    assert_eq!((plan, store.recent(plan)), (Line(1), Ok(Version(2))));
-    for v in (0..=2).map(Version) {
-        assert_eq!(fills(&store, plan, v), fills(&store, LIVE, v));
-    }
-    assert_eq!(store.size(plan, Version(3)), Err(Error::NotPublished));
-
-    assert_eq!(update(&mut store, plan, None, &[20, 21]), Ok(Version(3)));
-    assert_eq!(update(&mut store, LIVE, Some(0), &[8]), Ok(Version(4)));
-    assert_eq!(update(&mut store, plan, Some(3), &[22]), Ok(Version(4)));
-    let pages = |line, version| fills(&store, line, Version(version)).unwrap();
-    assert_eq!(pages(plan, 2), [1, 5, 6, 4]);
-    assert_eq!(pages(plan, 3), [1, 5, 6, 4, 20, 21]);
-    assert_eq!(pages(plan, 4), [1, 5, 6, 22, 20, 21]);
-    assert_eq!(pages(LIVE, 3), [1, 5, 6, 4, 7]);
-    assert_eq!(pages(LIVE, 4), [8, 5, 6, 4, 7]);
-    let stamps = [0, 1, 3, 4].map(|page| store.stamp(plan, Version(4), PageIndex(page)));
-    assert_eq!(stamps, [1, 2, 4, 3].map(|v| Ok(Version(v))));
-    let of_live = store.view(LIVE, Version(3), PageIndex(1)).unwrap();
-    let of_plan = store.view(plan, Version(4), PageIndex(1)).unwrap();
-    assert!(std::ptr::eq(of_live, of_plan), "the page is shared");
-}
-
-/// A node's numbers say on which line an update got its version, whichever line weaves over it.
-#[test]
-fn child_numbers_name_the_line_of_their_update() {
-    let mut store = of_three_versions();
-    let plan = store.branch(LIVE, Version(1)).unwrap();
-    update(&mut store, plan, Some(0), &[9]).unwrap();
-    let other = store.branch(plan, Version(2)).unwrap();
-    let (ticket, assigned) = assign(&mut store, other, Some(3), &[10]).unwrap();
-    assert_eq!(assigned.version, Version(3));
-    let root = store.weave(ticket).unwrap();
-    assert_eq!(
-        (root.version.line(), root.version.version()),
-        (other, Version(3))
-    );
-    let number = |line, version| LineVersion::new(line, Version(version)).0 as u32;
-    assert_eq!((root.left, root.right), (number(plan, 2), number(other, 3)));
-    let inner = store.weave(ticket).unwrap();
-    assert_eq!(
-        (inner.left, inner.right),
-        (number(LIVE, 1), number(other, 3))
-    );
-}
-
-/// Lines wait for no other: each publishes its own versions in their order.
-#[test]
-fn lines_publish_by_themselves() {
-    let mut store = Store::format(limits(8, 16, 4)).unwrap();
-    let plan = store.branch(LIVE, Version(0)).unwrap();
-    let (slow, _) = assign(&mut store, LIVE, None, &[1]).unwrap();
-    assert_eq!(update(&mut store, plan, None, &[2]), Ok(Version(1)));
-    assert_eq!(update(&mut store, plan, None, &[3]), Ok(Version(2)));
-    assert_eq!(store.publish(LIVE, ANY_TIME), Ok(Published::Waiting));
-    assert_eq!(store.recent(LIVE), Ok(Version(0)));
-    store.weave(slow).unwrap();
-    assert_eq!(store.publish(plan, ANY_TIME), Ok(Published::Waiting));
-    assert_eq!(
-        store.publish(LIVE, ANY_TIME),
-        Ok(Published::Now(Version(1)))
-    );
-    assert_eq!(fills(&store, LIVE, Version(1)), Ok(vec![1]));
-    assert_eq!(fills(&store, plan, Version(2)), Ok(vec![2, 3]));
 }
 
 #[test]

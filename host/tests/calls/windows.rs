@@ -1,5 +1,7 @@
 //! A site's windows from its text, what is said of a wrong one, and the minute of the week by a clock.
 
+use crate::refusals::{self, at_all_stages};
+use crate::support::call::Begin;
 use crate::updates::{assign, limits, LIVE};
 use pit_host::{Error, Minute, Published, Store, Version, Why, Window, Windows, WindowsError};
 use std::time::{Duration, SystemTime, UNIX_EPOCH};
@@ -299,4 +301,25 @@ fn every_time_has_a_minute() {
             assert_eq!(store().publish(LIVE, minute), Ok(Published::Waiting));
         }
     }
+}
+
+/// 23 stands before 24; the windows that there were stay.
+#[test]
+fn rows_23_and_24_of_windows() {
+    let mut store = at_all_stages();
+    store.windows_are("600,660\n");
+    let set = |s: &mut Store, text: &str| Ok(s.set_windows(text)?);
+    let list = "1,2\n".repeat(32);
+    for wrong in [
+        "", "1", "1,", ",1", "1,2,3", "1,1", "0,10080", "01,2", "1 ,2",
+    ] {
+        refusals::refused(&mut store, 23, |s| set(s, &format!("{wrong}\n")));
+        refusals::refused(&mut store, 23, |s| set(s, &format!("{list}{wrong}\n")));
+    }
+    refusals::refused(&mut store, 23, |s| set(s, "1,2"));
+    refusals::refused(&mut store, 23, |s| set(s, &format!("{list}1,2")));
+    refusals::refused(&mut store, 24, |s| set(s, &format!("{list}1,2\n")));
+    refusals::refused(&mut store, 24, |s| set(s, &list.repeat(100)));
+    assert_eq!(set(&mut store, &list), Ok(()));
+    assert_eq!(store.windows().to_string(), list);
 }

@@ -3,7 +3,7 @@
 
 use crate::folder::Folder;
 use crate::random::{first_seed, named};
-use crate::support::call::{make_durable, words, Call};
+use crate::support::call::{make_durable, words, Begin, Call};
 use crate::support::entries::{ahead, entries, Entry, HEADER};
 use crate::support::in_memory::Model;
 use crate::support::script::Script;
@@ -125,7 +125,7 @@ fn assert_cut(run: &Run, journal: &[u8], length: usize, before: u64) {
 
 /// What is written next is there at the next opening, and nothing of what was cut off.
 fn assert_goes_on(run: &Run, durable: Durable, last: u64) {
-    durable.set_windows("1,2\n").unwrap();
+    durable.windows_are("1,2\n");
     drop(durable);
     let (again, opened) = run.open().unwrap();
     assert!(opened.cut.is_none() && again.entries().0 == last + 1);

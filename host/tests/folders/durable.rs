@@ -1,6 +1,7 @@
 //! A store in a folder: what its calls wait for, and what is done where the folder is not as it was.
 
 use crate::folder::Folder;
+use crate::support::call::Begin;
 use pit_host::{
     Durable, Failure, FileError, Limits, Line, Minute, Options, PageIndex, Shared, Store, SyncAt,
     Ticket, Version,
@@ -64,7 +65,7 @@ fn a_saved_file_has_nothing_that_the_folder_can_lose() {
 fn what_is_finished_is_kept() {
     let place = Folder::new("durable-finish");
     let durable = durable(&place, "folder", SyncAt::EachPublish);
-    durable.set_windows("0,10\n").unwrap();
+    durable.windows_are("0,10\n");
     let (ticket, nodes) = assign(&durable);
     for _ in 0..nodes {
         durable.weave(ticket).unwrap();

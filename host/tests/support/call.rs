@@ -251,7 +251,34 @@ pub fn refusal(error: Error) -> String {
     format!("refused: {}", error.number())
 }
 
+/// One call of each kind on a store of one's own but FORMAT, with these numbers: on a ticket that is to be put, one that is put, and one
+/// that has a version.
+pub fn each(line: Line, version: Version, tickets: [Ticket; 3], page: &[u8]) -> Vec<Call> {
+    let [begun, put, assigned] = tickets;
+    vec![
+        Call::Begin(1),
+        Call::Put(begun, 0, page.to_vec()),
+        Call::Write(line, put, PageIndex(0)),
+        Call::Append(line, put),
+        Call::Weave(assigned),
+        Call::Publish(line, Minute(0)),
+        Call::Branch(line, version),
+        Call::SetWindows(b"600,660\n".to_vec()),
+        Call::Read(line, version, ByteOffset(8), 64, 64),
+        Call::Size(line, version),
+        Call::Recent(line),
+        Call::Stamp(line, version, PageIndex(2)),
+        Call::View(line, version, PageIndex(2)),
+    ]
+}
+
 impl Call {
+    /// Whether it changes the store where it is accepted; but for PUBLISH, always.
+    pub fn changes(&self) -> bool {
+        let reads = ["READ", "SIZE", "RECENT", "STAMP", "VIEW"];
+        !reads.contains(&self.name())
+    }
+
     /// The word of the step program's line and of the table; none of a call that is made of several.
     pub fn name(&self) -> &'static str {
         match self {
@@ -333,6 +360,11 @@ impl Call {
             _ => vec![],
         }
     }
+}
+
+/// The call that sets the windows of a list.
+pub fn windows_of(list: &str) -> Call {
+    Call::SetWindows(list.as_bytes().to_vec())
 }
 
 /// What a test's store begins with, alike on a store of one's own and on a handle.

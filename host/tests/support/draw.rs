@@ -16,7 +16,8 @@ pub struct Mix {
     pub assign: u64,
     pub weave: u64,
     pub publish: u64,
-    pub branch: u64,
+    /// New lines.
+    pub lines: u64,
     pub windows: u64,
     /// The calls that change nothing.
     pub reads: u64,
@@ -37,7 +38,7 @@ pub const CALLS: Mix = Mix {
     assign: 6,
     weave: 12,
     publish: 9,
-    branch: 1,
+    lines: 1,
     windows: 2,
     reads: 0,
     update: 9,
@@ -55,7 +56,7 @@ pub const SINGLE: Mix = Mix {
     update: 0,
     finish: 0,
     reads: 9,
-    branch: 2,
+    lines: 2,
     ..CALLS
 };
 
@@ -66,7 +67,7 @@ pub const UPDATES: Mix = Mix {
     assign: 0,
     weave: 0,
     publish: 0,
-    branch: 0,
+    lines: 0,
     windows: 0,
     finish: 0,
     wrong: 12,
@@ -176,7 +177,7 @@ impl Drawing<'_> {
             (mix.assign, Self::assign),
             (mix.weave, Self::weave),
             (mix.publish, |d| Call::Publish(d.line(), d.minute())),
-            (mix.branch, Self::branch),
+            (mix.lines, Self::branch),
             (mix.windows, |d| Call::SetWindows(d.list().into_bytes())),
             (mix.reads, Self::read),
             (mix.update, Self::update),

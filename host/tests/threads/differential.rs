@@ -11,7 +11,7 @@ pub const PAGE: usize = 16;
 /// More whole updates, and more lines.
 const MIX: Mix = Mix {
     update: 20,
-    branch: 3,
+    lines: 3,
     windows: 3,
     assign: 12,
     ..CALLS

@@ -5,6 +5,7 @@ use crate::differential::{bytes_of, published, Pair, PAGE};
 use crate::folder::Folder;
 use crate::random::{scenes, Random};
 use crate::road::{Road, BLOB};
+use crate::support::call::{each, make_on};
 use pit_host::{
     ByteOffset, Error, Limits, Line, Minute, PageIndex, Shared, Snapshot, State, Store, Ticket,
     Version,
@@ -166,12 +167,12 @@ impl Site {
 
     fn is_refused(&self, line: Line, version: Version) {
         let (shared, refused) = (self.shared(), Error::NotPublished);
-        assert_eq!(shared.size(line, version), Err(refused));
         assert_eq!(shared.snapshot(line, version).err(), Some(refused));
-        assert_eq!(shared.branch(line, version), Err(refused));
-        let page = PageIndex(0);
-        assert_eq!(shared.stamp(line, version, page), Err(refused));
-        assert_eq!(shared.with_view(line, version, page, |_| ()), Err(refused));
+        let of_a_version = each(line, version, [Ticket(0); 3], &[]).into_iter();
+        for call in of_a_version.filter(|call| call.version().is_some()) {
+            let failure = make_on(shared, &call).expect_err("a refusal");
+            assert_eq!(failure.error(), Some(refused), "{call:?}");
+        }
     }
 
     fn done_tickets(&mut self) {

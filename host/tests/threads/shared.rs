@@ -1,6 +1,7 @@
 //! A store shared by threads: writers beside readers, writers that die, readers that panic.
 
 use crate::folder::Folder;
+use crate::support::call::{make_on, windows_of, Begin};
 use crate::updates::{fills, limits, of_three_versions, ANY_TIME, LIVE};
 use pit_host::{
     ByteOffset, Error, FileError, Limits, Minute, PageIndex, Published, Shared, Store, Ticket,
@@ -215,14 +216,14 @@ fn windows_set_by_one_thread_hold_anothers_publish() {
         is_set.recv().unwrap();
         crew.publish(LIVE, Minute(610))
     });
-    blaster.set_windows("600,660\n").unwrap();
+    blaster.windows_are("600,660\n");
     set.send(()).unwrap();
     assert_eq!(is_held.recv().unwrap(), Ok(Published::Held));
     assert_eq!(shared.recent(LIVE), Ok(Version(1)));
-    let refused = blaster.set_windows("600,600\n").unwrap_err();
-    assert_eq!(refused.error(), Error::WrongWindow);
+    let refused = make_on(&blaster, &windows_of("600,600\n")).unwrap_err();
+    assert_eq!(refused.error(), Some(Error::WrongWindow));
     assert_eq!(shared.windows().to_string(), "600,660\n");
-    blaster.set_windows("").unwrap();
+    blaster.windows_are("");
     set.send(()).unwrap();
     let published = Ok(Published::Now(Version(2)));
     assert_eq!(working.join().unwrap(), published);

@@ -7,6 +7,7 @@ mod verdict;
 mod writers;
 
 use crate::random::{first_seed, Random};
+use crate::support::call::Begin;
 use pit_host::{Limits, Minute, Shared, Store};
 use readers::{Answer, Asked, Reader};
 use std::collections::BTreeSet;
@@ -147,7 +148,7 @@ impl Site {
         drop(self.gathering.read());
         while self.writing.try_read().is_err() {
             for list in [WINDOW, ""] {
-                self.shared.set_windows(list).expect("a list");
+                self.shared.windows_are(list);
                 thread::sleep(Duration::from_millis(1));
             }
         }

@@ -4,6 +4,7 @@ use super::scene::{
     checksum, in_form_1, in_form_2, in_form_3, in_form_4, in_form_5, in_work, in_work_on_lines,
     number, saved, Folder, HEADER, RECORD, WINDOWS,
 };
+use crate::support::call::Begin;
 use crate::updates::{assign, fills, limits, of_three_versions, put_all, update, ANY_TIME, LIVE};
 use pit_host::{
     Error, FileError, Limits, Line, Minute, PartsMut, Published, Shared, Storage, Store, Ticket,
@@ -85,7 +86,7 @@ fn lines_come_back_and_go_on() {
             store.publish(Line(2), ANY_TIME),
             Ok(Published::Now(Version(1)))
         );
-        assert_eq!(store.branch(Line(1), Version(2)), Ok(Line(3)));
+        assert_eq!(store.line_from(Line(1), Version(2)), Line(3));
         let pages = [(0, 2, &[1, 3, 4][..]), (1, 2, &[1, 2, 5]), (2, 1, &[6, 7])];
         for (line, version, pages) in pages.into_iter().chain([(3, 2, &[1, 2, 5][..])]) {
             let read = fills(store, Line(line), Version(version));
@@ -101,7 +102,7 @@ fn windows_come_back_and_hold() {
     let folder = Folder::new("windows");
     let mut store = in_work_on_lines();
     while store.weave(Ticket(2)).unwrap().rest > 0 {}
-    store.set_windows("600,660\n10000,30\n").unwrap();
+    store.windows_are("600,660\n10000,30\n");
     store.save(folder.file()).unwrap();
     let mut loaded = Store::load(folder.file()).unwrap();
     assert!(loaded == store);
@@ -124,13 +125,13 @@ fn every_number_of_windows_comes_back() {
     for windows in 0..=32 {
         let lines = (0..windows).map(|k| format!("{},{}\n", 325 * k, 10_079 - 325 * k));
         let list: String = lines.collect();
-        store.set_windows(&list).unwrap();
+        store.windows_are(&list);
         store.save(folder.file()).unwrap();
         let loaded = Store::load(folder.file()).unwrap();
         assert!(loaded == store, "{windows} windows");
         assert_eq!(loaded.windows().to_string(), list);
     }
-    store.set_windows("").unwrap();
+    store.windows_are("");
     store.save(folder.file()).unwrap();
     assert!(Store::load(folder.file()).unwrap() == in_work());
 }
@@ -139,7 +140,7 @@ fn every_number_of_windows_comes_back() {
 fn the_file_is_as_documented() {
     let folder = Folder::new("documented");
     let mut store = in_work_on_lines();
-    store.set_windows("600,660\n10000,30\n1,2\n").unwrap();
+    store.windows_are("600,660\n10000,30\n1,2\n");
     let bytes = saved(&folder, &store);
     let (s, areas) = (store.state(), store.areas());
     assert_eq!(&bytes[..8], b"PITSTORE");
@@ -198,8 +199,9 @@ fn a_files_length_goes_with_what_is_taken() {
         }
         let published = store.publish(LIVE, ANY_TIME).unwrap();
         assert!(published.version().is_some());
-        store.branch(LIVE, Version(1)).unwrap();
-        store.set_windows("600,660\n").unwrap();
+        store.line_from(LIVE, Version(1));
+        store.windows_are("600,660
+");
         saves_as(&store, due);
     }
     assert!(
@@ -276,7 +278,7 @@ fn a_file_of_form_1_is_loaded_with_line_0_alone() {
     fs::write(folder.file(), in_form_1(&store)).unwrap();
     let mut loaded = Store::load(folder.file()).unwrap();
     for store in [&mut store, &mut loaded] {
-        let plan = store.branch(LIVE, Version(1)).unwrap();
+        let plan = store.line_from(LIVE, Version(1));
         assert_eq!(plan, Line(1));
         store.put(Ticket(3), 0, &[6; 16]).unwrap();
         for _ in 0..store.append(plan, Ticket(3)).unwrap().nodes {
@@ -312,7 +314,7 @@ fn a_file_of_form_2_is_loaded() {
         let whole = update(&mut store, line, None, &[7; 9]).unwrap();
         assign(&mut store, line, Some(line.0), &[8]).unwrap();
         if line < Line(15) {
-            store.branch(line, whole).unwrap();
+            store.line_from(line, whole);
         }
         again(&store);
     }
@@ -329,7 +331,7 @@ fn a_file_of_form_3_is_loaded_without_windows() {
         for store in [&mut store, &mut loaded] {
             let published = store.publish(LIVE, Minute(600));
             assert_eq!(published, Ok(Published::Waiting));
-            store.set_windows("600,660\n").unwrap();
+            store.windows_are("600,660\n");
             let published = store.publish(LIVE, Minute(600));
             assert_eq!(published, Ok(Published::Held));
         }
@@ -343,7 +345,7 @@ fn a_file_of_form_3_is_loaded_without_windows() {
 fn a_file_of_form_4_is_loaded() {
     let folder = Folder::new("form-4");
     let mut with_windows = in_work_on_lines();
-    with_windows.set_windows("600,660\n10000,30\n").unwrap();
+    with_windows.windows_are("600,660\n10000,30\n");
     let new = Store::format(limits(1, 1, 1)).unwrap();
     let stores = [new, of_three_versions(), in_work(), with_windows];
     for store in stores {
@@ -364,7 +366,7 @@ fn a_file_of_form_4_is_loaded() {
 fn a_lent_store_is_saved_too() {
     let folder = Folder::new("lent");
     let mut store = in_work();
-    store.set_windows("600,660\n").unwrap();
+    store.windows_are("600,660\n");
     let (state, windows, mut areas) = store.clone().into_parts();
     let lent: Store<PartsMut<'_>> = Store::resume(state, windows, areas.parts_mut());
     lent.save(folder.file()).unwrap();

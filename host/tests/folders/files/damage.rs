@@ -5,6 +5,7 @@ use super::scene::{
     number, refused, saved, sealed, sealed_after, set_number, Folder, HEADER, HEADER_1, HEADER_2,
     HEADER_3, HEADER_4, RECORD, WINDOWS,
 };
+use crate::support::call::Begin;
 use crate::updates::{limits, update, LIVE};
 use pit_host::{Areas, Error, FileError, Limits, Record, State, Storage, Store, Window};
 use std::fs;
@@ -293,7 +294,7 @@ fn with_window(bytes: &[u8], place: usize, window: Window) -> Vec<u8> {
 fn windows_that_no_call_leaves_are_refused() {
     let folder = Folder::new("damaged-windows");
     let mut store = in_work();
-    store.set_windows("1,2\n3,4\n").unwrap();
+    store.windows_are("1,2\n3,4\n");
     let bytes = saved(&folder, &store);
     let ends = [(5, 5), (0, 10_080), (10_080, 0), (3, 65_535), (65_535, 3)];
     let ends = (0..3).flat_map(|place| ends.map(|(from, to)| (place, from, to)));

@@ -1,6 +1,7 @@
 //! What the tests share: a store in work, and the file's numbers and checksum as documented.
 
 pub use crate::folder::Folder;
+use crate::support::call::Begin;
 use crate::updates::{assign, limits, update, LIVE};
 use pit_host::{FileError, Limits, Line, Record, Store, Version, Window, Windows};
 use std::fs;
@@ -196,8 +197,8 @@ pub fn in_work_of(limits: Limits) -> Store {
 pub fn in_work_on_lines() -> Store {
     let mut store = Store::format(limits(12, 32, 6)).unwrap();
     update(&mut store, LIVE, None, &[1, 2]).unwrap();
-    let plan = store.branch(LIVE, Version(1)).unwrap();
-    let other = store.branch(plan, Version(0)).unwrap();
+    let plan = store.line_from(LIVE, Version(1));
+    let other = store.line_from(plan, Version(0));
     assert_eq!((plan, other), (Line(1), Line(2)));
     assign(&mut store, LIVE, Some(1), &[3, 4]).unwrap();
     update(&mut store, plan, None, &[5]).unwrap();

@@ -4,6 +4,7 @@ use super::child::{kill, say, start, Moment, Part};
 use super::{kill_all, power, IN_A_FOLDER};
 use crate::folder::Folder;
 use crate::random::Random;
+use crate::support::call::Begin;
 use crate::support::script::options;
 use pit_host::{
     Durable, Error, Failure, FileError, Limits, Line, LineVersion, Minute, Options, PageIndex,
@@ -143,7 +144,7 @@ pub fn work(part: &Part<'_>) {
         finish_all(durable);
     }
     if durable.recent(Line(1)) == Err(Error::NoSuchLine) {
-        durable.branch(Line(0), Version(0)).unwrap();
+        durable.line_from(Line(0), Version(0));
         tell(durable, Fact::Published(1, 0));
     }
     thread::scope(|threads| {

@@ -4,11 +4,11 @@
 use super::child::{kill, start, Moment, Part};
 use super::site::{open, tell, Site, Told, FAILED};
 use crate::random::{first_seed, ShownSeed};
-use crate::support::call::{make_durable, words, Call};
+use crate::support::call::{each, make_durable, words, Call, Update};
 use crate::support::script::Script;
 use pit_host::{
-    ByteOffset, Durable, Failure, FileError, Limits, Line, Minute, Options, PageIndex, Shared,
-    Store, SyncAt, Ticket, Version,
+    ByteOffset, Durable, Failure, FileError, Limits, Line, Minute, Options, Shared, Store, SyncAt,
+    Ticket, Version,
 };
 
 /// No file may be longer than some dozen kilobytes, and a write that would make one so is an error.
@@ -72,23 +72,24 @@ fn seen(durable: &Durable) -> Vec<(Line, Version, Vec<u8>)> {
 }
 
 fn refuses_all(durable: &Durable, words: &str) {
-    let (line, version, bytes) = (Line(0), Version(0), [7; 64]);
-    let refused: [Result<(), Failure>; 12] = [
-        durable.begin(1).map(drop),
-        durable.begin(0).map(drop),
-        durable.put(Ticket(1), 0, &bytes),
-        durable.write(line, Ticket(1), PageIndex(0)).map(drop),
-        durable.append(line, Ticket(1)).map(drop),
-        durable.weave(Ticket(1)).map(drop),
-        durable.branch(line, version).map(drop),
-        durable.set_windows(""),
-        durable.append_pages(line, &[&bytes]).map(drop),
-        durable.finish(Ticket(1)).map(drop),
-        durable.checkpoint().map(drop),
-        durable.rebuild(durable.limits(), &[]).map(drop),
-    ];
-    for result in refused {
-        assert_eq!(result.unwrap_err().to_string(), words);
+    let (line, ticket, page) = (Line(0), Ticket(1), vec![7; 64]);
+    let mut calls = each(line, Version(0), [ticket; 3], &page);
+    calls.retain(|call| call.changes() && !matches!(call, Call::Publish(..))); // nothing is due there
+    calls.extend([
+        Call::Begin(0),
+        Call::Update(Update {
+            line,
+            at: None,
+            pages: vec![page],
+            minute: Minute(0),
+        }),
+        Call::Finish(ticket, Minute(0)),
+        Call::Checkpoint,
+        Call::Rebuild(durable.limits(), vec![], vec![]),
+    ]);
+    for call in calls {
+        let failure = make_durable(durable, &call).expect_err("the journal has failed");
+        assert_eq!(failure.to_string(), words, "{call:?}");
     }
     // what returned is synced, where the policy is so
     let (written, synced) = durable.entries();
