@@ -227,12 +227,12 @@ fn tally(scripts: &[Script], counts: &mut BTreeMap<String, u64>) {
     }
 }
 
-/// The stamps that are counted by what they tell: those of pages that were resent, and those of branches.
+/// The stamps that are counted by what they tell: those of pages that were resent, and those of other lines.
 const STAMPS: [&str; 4] = [
     "stamp below the covering version",
     "stamp between the first version of a page and the covering one",
     "stamp of a shared version",
-    "stamp of a shared version, resent on the branch",
+    "stamp of a shared version, resent on the line",
 ];
 
 /// The answers that the program can give: their words, and the rows of the table.

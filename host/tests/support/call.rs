@@ -133,8 +133,8 @@ where
     Ok(match call {
         Call::Read(line, version, offset, len, room) => {
             assert_eq!(*len, *room as u64, "a handle fills the whole buffer");
-            let buffer = &mut vec![UNFILLED; *room];
-            let done = store.read(*line, *version, *offset, buffer);
+            let buffer = &mut vec![UNFILLED; *room + 5]; // which stay as they are
+            let done = store.read(*line, *version, *offset, &mut buffer[..*room]);
             Answer::Bytes(filled(buffer, done, *room)?)
         }
         Call::View(line, version, page) => {
@@ -251,6 +251,21 @@ pub fn refusal(error: Error) -> String {
     format!("refused: {}", error.number())
 }
 
+fn node_line(node: &Node) -> String {
+    let (version, first, span) = (node.version.0, node.first, node.span);
+    let (left, right, rest) = (node.left, node.right, node.rest);
+    format!("node,{version},{first},{span},{left},{right},{rest}")
+}
+
+/// The bytes that a line has in hexadecimal digits.
+fn bytes_of(digits: &str) -> Option<Vec<u8>> {
+    let pairs = (0..digits.len())
+        .step_by(2)
+        .map(|at| digits.get(at..at + 2));
+    let byte = |pair: Option<&str>| u8::from_str_radix(pair?, 16).ok();
+    pairs.map(byte).collect()
+}
+
 /// One call of each kind on a store of one's own but FORMAT, with these numbers: on a ticket that is to be put, one that is put, and one
 /// that has a version.
 pub fn each(line: Line, version: Version, tickets: [Ticket; 3], page: &[u8]) -> Vec<Call> {
@@ -342,6 +357,61 @@ impl Call {
         }
     }
 
+    /// The call that a line of the step program or of a host asks for; the line is one that is answered.
+    pub fn of_line(line: &[u8]) -> Option<Call> {
+        if let Some(text) = line.strip_prefix(b"SETWINDOWS,") {
+            return Some(Call::SetWindows(text.to_vec()));
+        }
+        let (word, fields) = std::str::from_utf8(line).ok()?.split_once(',')?;
+        let fields: Vec<&str> = fields.split(',').collect();
+        let number = |at: usize| fields.get(at)?.parse::<u64>().ok();
+        let (line, version) = (number(0).map(Line), number(1).map(Version));
+        let (ticket, page) = (number(1).map(Ticket), number(2).map(PageIndex));
+        Some(match word {
+            "FORMAT" => Call::Format(Limits::new(number(0)?, number(1)?, number(2)?, number(3)?)),
+            "BEGIN" => Call::Begin(number(0)?),
+            "PUT" => Call::Put(Ticket(number(0)?), number(1)?, bytes_of(fields.get(2)?)?),
+            "WRITE" => Call::Write(line?, ticket?, page?),
+            "APPEND" => Call::Append(line?, ticket?),
+            "WEAVE" => Call::Weave(Ticket(number(0)?)),
+            "PUBLISH" => Call::Publish(line?, Minute(number(1)?)),
+            "BRANCH" => Call::Branch(line?, version?),
+            "READ" => {
+                let (offset, len) = (ByteOffset(number(2)?), number(3)?);
+                Call::Read(line?, version?, offset, len, len as usize)
+            }
+            "SIZE" => Call::Size(line?, version?),
+            "RECENT" => Call::Recent(line?),
+            "STAMP" => Call::Stamp(line?, version?, page?),
+            _ => return None,
+        })
+    }
+
+    /// An answer to it in the step program's words.
+    pub fn answered(&self, answer: &Answer) -> String {
+        let word = self.name().to_lowercase();
+        match answer {
+            Answer::Done if word == "put" => word,
+            Answer::Done => "done".to_string(),
+            Answer::Ticket(ticket) => format!("ticket,{ticket}"),
+            Answer::Assigned(assigned) => {
+                format!("version,{},{}", assigned.version, assigned.nodes)
+            }
+            Answer::Node(node) => node_line(node),
+            Answer::Published(Published::Now(version)) => format!("published,{version}"),
+            Answer::Published(Published::Waiting) => "waiting".to_string(),
+            Answer::Published(_) => "held".to_string(),
+            Answer::Line(line) => format!("line,{line}"),
+            Answer::Version(version) => format!("{word},{version}"),
+            Answer::Size(size) => format!("size,{size}"),
+            Answer::Bytes(bytes) => {
+                let digits = bytes.iter().map(|byte| format!("{byte:02x}"));
+                format!("bytes,{}", digits.collect::<String>())
+            }
+            Answer::Kept(_) => unreachable!("no line asks for that"),
+        }
+    }
+
     /// Its numbers, in the order of the step program's lines.
     pub fn numbers(&self) -> Vec<u64> {
         match self {
@@ -369,15 +439,22 @@ pub fn windows_of(list: &str) -> Call {
 
 /// What a test's store begins with, alike on a store of one's own and on a handle.
 pub trait Begin: Sized {
+    /// A new line from a version of another; an error where it is refused.
+    fn try_line_from(self, source: Line, version: Version) -> Result<Line, Failure>;
+
     /// A new line from a version of another.
-    fn line_from(self, source: Line, version: Version) -> Line;
+    fn line_from(self, source: Line, version: Version) -> Line {
+        let line = self.try_line_from(source, version);
+        line.expect("room for a line")
+    }
+
     /// The site's windows are these from here on.
     fn windows_are(self, list: &str);
 }
 
 impl<A: Storage> Begin for &mut Store<A> {
-    fn line_from(self, source: Line, version: Version) -> Line {
-        self.branch(source, version).expect("room for a line")
+    fn try_line_from(self, source: Line, version: Version) -> Result<Line, Failure> {
+        Ok(self.branch(source, version)?)
     }
 
     fn windows_are(self, list: &str) {
@@ -389,9 +466,8 @@ impl<L: Log> Begin for &Handle<L>
 where
     Failure: From<L::Failure> + From<L::WindowsFailure>,
 {
-    fn line_from(self, source: Line, version: Version) -> Line {
-        let line = self.branch(source, version).map_err(Failure::from);
-        line.expect("room for a line")
+    fn try_line_from(self, source: Line, version: Version) -> Result<Line, Failure> {
+        Ok(self.branch(source, version)?)
     }
 
     fn windows_are(self, list: &str) {

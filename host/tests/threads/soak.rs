@@ -7,9 +7,9 @@ mod verdict;
 mod writers;
 
 use crate::random::{first_seed, Random};
-use crate::support::call::Begin;
+use crate::support::call::{Begin, Call};
 use pit_host::{Limits, Minute, Shared, Store};
-use readers::{Answer, Asked, Reader};
+use readers::{Answered, Reader};
 use std::collections::BTreeSet;
 use std::panic::resume_unwind;
 use std::sync::mpsc::{channel, Receiver, Sender};
@@ -98,7 +98,7 @@ impl Site {
     }
 
     /// Starts all threads, waits for their end, and gives what the readers were answered.
-    fn run(&self, random: &mut Random) -> Vec<(Asked, Answer)> {
+    fn run(&self, random: &mut Random) -> Vec<(Call, Answered)> {
         thread::scope(|threads| {
             let (gathering, writing) = (self.gathering.write(), self.writing.write());
             let (sender, ended) = channel();
@@ -138,7 +138,7 @@ impl Site {
         }
     }
 
-    fn read(&self, random: Random) -> Vec<(Asked, Answer)> {
+    fn read(&self, random: Random) -> Vec<(Call, Answered)> {
         drop(self.gathering.read());
         Reader::new(&self.shared, random).ride(READS, &self.writing)
     }
@@ -165,14 +165,14 @@ impl Site {
     }
 
     /// Compares all that was answered with the model. Gives how many versions are published, of all lines.
-    fn judge(&self, answers: &[(Asked, Answer)]) -> usize {
+    fn judge(&self, answers: &[(Call, Answered)]) -> usize {
         let logs: Vec<_> = self.logs.iter().map(|log| log.lock().unwrap()).collect();
         let logs: Vec<&Log> = logs.iter().map(|log| &**log).collect();
         let model = verdict::replayed(self.shared.to_store().limits(), &logs);
         verdict::published(&self.shared, &model, &logs);
         let snapshots = verdict::snapshots(&model);
         for (asked, answer) in answers {
-            assert_eq!(*answer, verdict::due(&snapshots, *asked), "{asked:?}");
+            assert_eq!(*answer, verdict::due(&snapshots, asked), "{asked:?}");
         }
         verdict::compare_all(&self.shared, &snapshots);
         assert_eq!(snapshots.len(), 16, "lines");
@@ -194,7 +194,7 @@ fn soak(seed: u64) {
         site.writer(number, Random::new(0)).finish();
     }
     let all = site.judge(&answers);
-    let read = answers.iter().map(|(asked, _)| (asked.line, asked.version));
+    let read = answers.iter().map(|(asked, _)| asked.version());
     let (read, calls) = (read.collect::<BTreeSet<_>>().len(), answers.len());
     let held = site.logs.iter().map(|log| log.lock().unwrap().held);
     let held: u64 = held.sum();

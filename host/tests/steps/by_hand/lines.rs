@@ -1,5 +1,6 @@
 //! Lines: rows 20 and 21 in their places, what a branch shares, and what it does not.
 
+use super::stamps::Resent;
 use super::{agree_on, count, same_as_model, transcript, update};
 
 #[test]
@@ -415,4 +416,37 @@ fn lines_and_format() {
         BRANCH,0,0 > line,1",
     );
     super::agree(lines, answers);
+}
+
+fn branch(script: &mut Resent, line: u64, v: u64) {
+    script.lines.push(format!("BRANCH,{line},{v}"));
+}
+
+/// The versions that a branch shares count as its own, also past a branch of a branch; another line's do not.
+#[test]
+fn a_page_resent_on_a_branch() {
+    let mut script = Resent::new(16);
+    script.update(0, 0, &[1, 2]);
+    script.update(0, 0, &[1, 3]);
+    branch(&mut script, 0, 2);
+    script.update(0, 0, &[5, 3]);
+    script.update(1, 0, &[1, 2]);
+    script.update(1, 1, &[2]);
+    branch(&mut script, 1, 4);
+    script.update(2, 0, &[1, 2, 2]);
+    branch(&mut script, 0, 1);
+    script.update(3, 0, &[1, 2]);
+    branch(&mut script, 0, 0);
+    script.update(4, 0, &[1, 2]);
+    script.stamps(0, 2, &[1, 2]);
+    script.stamps(1, 2, &[1, 2]);
+    script.stamps(0, 3, &[3, 2]);
+    script.stamps(1, 3, &[1, 3]);
+    script.stamps(1, 4, &[1, 3]);
+    script.stamps(2, 4, &[1, 3]);
+    script.stamps(2, 5, &[1, 3, 5]);
+    script.stamps(3, 1, &[1, 1]);
+    script.stamps(3, 2, &[1, 1]);
+    script.stamps(4, 1, &[1, 1]);
+    script.agree();
 }

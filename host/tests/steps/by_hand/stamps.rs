@@ -4,8 +4,8 @@ use super::same_as_model;
 use crate::model::text::hexadecimal;
 
 /// Lines of a script in which every update is whole, and the stamps that are due.
-struct Resent {
-    lines: Vec<String>,
+pub struct Resent {
+    pub lines: Vec<String>,
     due: Vec<String>,
     page_size: usize,
     tickets: u64,
@@ -13,7 +13,7 @@ struct Resent {
 
 impl Resent {
     /// In a store with pages of this size, and the most that the program keeps of all else.
-    fn new(page_size: usize) -> Resent {
+    pub fn new(page_size: usize) -> Resent {
         let pages = (32_768 / page_size).min(256);
         Resent {
             lines: vec![format!("FORMAT,{page_size},{pages},2048,256")],
@@ -24,7 +24,7 @@ impl Resent {
     }
 
     /// An update of a line from page `f` on, each page filled with its byte.
-    fn update(&mut self, line: u64, f: u64, fills: &[u8]) {
+    pub fn update(&mut self, line: u64, f: u64, fills: &[u8]) {
         let page = |fill: &u8| vec![*fill; self.page_size];
         let pages: Vec<Vec<u8>> = fills.iter().map(page).collect();
         let pages: Vec<&[u8]> = pages.iter().map(|page| &page[..]).collect();
@@ -45,12 +45,8 @@ impl Resent {
         self.lines.push(format!("PUBLISH,{line},0"));
     }
 
-    fn branch(&mut self, line: u64, v: u64) {
-        self.lines.push(format!("BRANCH,{line},{v}"));
-    }
-
     /// These are the stamps of a version's pages, from page 0 on; and there is no page more.
-    fn stamps(&mut self, line: u64, v: u64, due: &[u64]) {
+    pub fn stamps(&mut self, line: u64, v: u64, due: &[u64]) {
         for page in 0..=due.len() {
             self.lines.push(format!("STAMP,{line},{v},{page}"));
         }
@@ -60,7 +56,7 @@ impl Resent {
     }
 
     /// Compares the program with the model, and the model with what is due by hand.
-    fn agree(self) {
+    pub fn agree(self) {
         let stamps: Vec<usize> = (0..self.lines.len())
             .filter(|at| self.lines[*at].starts_with("STAMP"))
             .collect();
@@ -129,35 +125,6 @@ fn an_update_of_which_one_page_is_unchanged() {
     script.stamps(0, 3, &[1, 3, 2, 1]);
     script.stamps(0, 4, &[1, 3, 2, 1]);
     script.stamps(0, 5, &[1, 3, 2, 5]);
-    script.agree();
-}
-
-/// The versions that a branch shares count as its own, also past a branch of a branch; another line's do not.
-#[test]
-fn a_page_resent_on_a_branch() {
-    let mut script = Resent::new(16);
-    script.update(0, 0, &[1, 2]);
-    script.update(0, 0, &[1, 3]);
-    script.branch(0, 2);
-    script.update(0, 0, &[5, 3]);
-    script.update(1, 0, &[1, 2]);
-    script.update(1, 1, &[2]);
-    script.branch(1, 4);
-    script.update(2, 0, &[1, 2, 2]);
-    script.branch(0, 1);
-    script.update(3, 0, &[1, 2]);
-    script.branch(0, 0);
-    script.update(4, 0, &[1, 2]);
-    script.stamps(0, 2, &[1, 2]);
-    script.stamps(1, 2, &[1, 2]);
-    script.stamps(0, 3, &[3, 2]);
-    script.stamps(1, 3, &[1, 3]);
-    script.stamps(1, 4, &[1, 3]);
-    script.stamps(2, 4, &[1, 3]);
-    script.stamps(2, 5, &[1, 3, 5]);
-    script.stamps(3, 1, &[1, 1]);
-    script.stamps(3, 2, &[1, 1]);
-    script.stamps(4, 1, &[1, 1]);
     script.agree();
 }
 

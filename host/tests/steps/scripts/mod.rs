@@ -221,7 +221,7 @@ impl Author {
 
     fn step(&mut self) {
         if self.host && self.random.one_in(8) {
-            self.set_windows();
+            self.list_of_windows();
         }
         match self.random.below(48) {
             0..=5 => self.begin(),

@@ -123,7 +123,7 @@ fn bent(random: &mut Random) -> Vec<u8> {
 }
 
 impl Author {
-    pub(super) fn set_windows(&mut self) {
+    pub(super) fn list_of_windows(&mut self) {
         let text = match self.random.below(8) {
             0..=1 => faulty(&mut self.random),
             2 => bent(&mut self.random),

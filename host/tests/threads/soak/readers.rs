@@ -2,66 +2,17 @@
 
 use super::PAGE_SIZE;
 use crate::random::Random;
+use crate::support::call::{make_on, Answer, Call};
 use pit_host::{ByteOffset, Error, Line, PageIndex, Shared, Version};
 use std::sync::RwLock;
 use std::thread;
 
-/// A reader's call, on a version that was published then.
-#[derive(Clone, Copy, Debug)]
-pub struct Asked {
-    pub line: u64,
-    pub version: u64,
-    pub what: What,
-}
+/// What a reader's call answers, on a version that was published then.
+pub type Answered = Result<Answer, Error>;
 
-#[derive(Clone, Copy, Debug)]
-pub enum What {
-    Size,
-    Stamp(u64),
-    View(u64),
-    Read(u64, u64),
-}
-
-/// What it answered: a number or bytes.
-#[derive(Clone, Debug, PartialEq)]
-pub enum Answer {
-    Number(u64),
-    Bytes(Vec<u8>),
-    Refused(u64),
-}
-
-/// Bytes that no call has filled.
-const UNFILLED: u8 = 0xee;
-
-impl Asked {
-    pub fn of(&self, shared: &Shared) -> Answer {
-        let (line, version) = (Line(self.line), Version(self.version));
-        let answer = match self.what {
-            What::Size => shared.size(line, version).map(Answer::Number),
-            What::Stamp(page) => {
-                let stamp = shared.stamp(line, version, PageIndex(page));
-                stamp.map(|stamp| Answer::Number(stamp.0))
-            }
-            What::View(page) => {
-                let bytes = shared.with_view(line, version, PageIndex(page), <[u8]>::to_vec);
-                bytes.map(Answer::Bytes)
-            }
-            What::Read(offset, len) => self.read(shared, offset, len).map(Answer::Bytes),
-        };
-        answer.unwrap_or_else(|refused| Answer::Refused(refused.number()))
-    }
-
-    /// READ into the front of a longer buffer; the rest of it stays.
-    fn read(&self, shared: &Shared, offset: u64, len: u64) -> Result<Vec<u8>, Error> {
-        let (line, version) = (Line(self.line), Version(self.version));
-        let len = len as usize;
-        let mut buffer = vec![UNFILLED; len + 5];
-        let done = shared.read(line, version, ByteOffset(offset), &mut buffer[..len]);
-        let filled = if done.is_ok() { len } else { 0 };
-        assert_eq!(buffer[filled..], vec![UNFILLED; buffer.len() - filled]);
-        buffer.truncate(filled);
-        done.map(|()| buffer)
-    }
+/// Makes it.
+pub fn ask(shared: &Shared, asked: &Call) -> Answered {
+    make_on(shared, asked).map_err(|failure| failure.error().expect("a refusal"))
 }
 
 pub struct Reader<'a> {
@@ -69,7 +20,7 @@ pub struct Reader<'a> {
     random: Random,
     /// For each line that it has met, the last version that was published.
     newest: Vec<Version>,
-    answers: Vec<(Asked, Answer)>,
+    answers: Vec<(Call, Answered)>,
 }
 
 impl<'a> Reader<'a> {
@@ -83,7 +34,7 @@ impl<'a> Reader<'a> {
     }
 
     /// Makes so many reads beside the writers, and as many after the last of them has ended; then all of them again.
-    pub fn ride(mut self, reads: u64, writing: &RwLock<()>) -> Vec<(Asked, Answer)> {
+    pub fn ride(mut self, reads: u64, writing: &RwLock<()>) -> Vec<(Call, Answered)> {
         for _ in 0..reads {
             self.look();
         }
@@ -92,7 +43,7 @@ impl<'a> Reader<'a> {
             self.look();
         }
         for (asked, answer) in &self.answers {
-            assert_eq!(asked.of(self.shared), *answer, "{asked:?} a second time");
+            assert_eq!(ask(self.shared, asked), *answer, "{asked:?} a second time");
         }
         self.answers
     }
@@ -110,11 +61,11 @@ impl<'a> Reader<'a> {
             self.random.below(recent.0 + 1)
         };
         let asked = self.draw(line, version);
-        let answer = asked.of(self.shared);
+        let answer = ask(self.shared, &asked);
         self.answers.push((asked, answer));
         let at = self.random.below(self.answers.len() as u64);
         let (asked, answer) = &self.answers[at as usize];
-        assert_eq!(asked.of(self.shared), *answer, "{asked:?} a second time");
+        assert_eq!(ask(self.shared, asked), *answer, "{asked:?} a second time");
     }
 
     /// Line 0 half the time, else any that has begun. A line that it has met is there for good.
@@ -141,7 +92,7 @@ impl<'a> Reader<'a> {
     }
 
     /// A call on a version; its page or range is inside the version, but for one in ten.
-    fn draw(&mut self, line: Line, version: u64) -> Asked {
+    fn draw(&mut self, line: Line, version: u64) -> Call {
         let size = self.shared.size(line, Version(version));
         let size = size.expect("a published version");
         let outside = u64::from(self.random.one_in(10));
@@ -149,17 +100,12 @@ impl<'a> Reader<'a> {
         let page = page.saturating_sub(1 - outside);
         let offset = self.random.below(size + 1);
         let len = self.random.below(size - offset + 1) + outside;
-        let what = match self.random.below(8) {
-            0 => What::Size,
-            1 | 2 => What::Stamp(page),
-            3 | 4 => What::View(page),
-            _ => What::Read(offset, len),
-        };
-        let line = line.0;
-        Asked {
-            line,
-            version,
-            what,
+        let (version, page) = (Version(version), PageIndex(page));
+        match self.random.below(8) {
+            0 => Call::Size(line, version),
+            1 | 2 => Call::Stamp(line, version, page),
+            3 | 4 => Call::View(line, version, page),
+            _ => Call::Read(line, version, ByteOffset(offset), len, len as usize),
         }
     }
 }

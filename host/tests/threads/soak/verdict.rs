@@ -1,10 +1,13 @@
 //! The verdict: all that writers, planners and readers were answered, against the plain model.
 
-use super::readers::{Answer, Asked, What};
+use super::readers::{ask, Answered};
 use super::writers::{Begun, Log, Update};
 use super::PAGE_SIZE;
 use crate::model;
-use pit_host::{Error, Limits, Line, Minute, Node, Published, Shared, Version};
+use crate::support::call::{Answer, Call};
+use pit_host::{
+    ByteOffset, Error, Limits, Line, Minute, Node, PageIndex, Published, Shared, Version,
+};
 
 /// The model after what the logs tell, each answer in them compared with its own. Tickets and versions are told in the
 /// order of their numbers, and lines one after the other, each when its source is there whole; when a node was woven makes
@@ -127,7 +130,7 @@ fn stamps(v: u64, bytes: &[u8], before: Option<&Snapshot>) -> Vec<u64> {
     let stamp = |(page, bytes): (u64, &[u8])| {
         let unchanged = |before: &&Snapshot| {
             let old = before.part(page * PAGE_SIZE, PAGE_SIZE);
-            old == Answer::Bytes(bytes.to_vec())
+            old == Ok(Answer::Bytes(bytes.to_vec()))
         };
         let before = before.filter(unchanged);
         before.map_or(v, |before| before.stamps[page as usize])
@@ -152,43 +155,43 @@ pub fn resent(model: &model::Store, snapshots: &[Vec<Snapshot>]) -> usize {
 }
 
 impl Snapshot {
-    fn part(&self, offset: u64, len: u64) -> Answer {
+    fn part(&self, offset: u64, len: u64) -> Answered {
         let part = self.bytes.get(offset as usize..);
         let part = part.and_then(|rest| rest.get(..len as usize));
-        part.map_or(Answer::Refused(17), |part| Answer::Bytes(part.to_vec()))
+        let part = part.ok_or(Error::OutsideSnapshot);
+        part.map(|part| Answer::Bytes(part.to_vec()))
     }
 }
 
 /// What the model answers.
-pub fn due(snapshots: &[Vec<Snapshot>], asked: Asked) -> Answer {
-    let of = &snapshots[asked.line as usize][asked.version as usize];
-    match asked.what {
-        What::Size => Answer::Number(of.bytes.len() as u64),
-        What::Stamp(page) => {
-            let stamp = of.stamps.get(page as usize);
-            stamp.map_or(Answer::Refused(17), |stamp| Answer::Number(*stamp))
+pub fn due(snapshots: &[Vec<Snapshot>], asked: &Call) -> Answered {
+    let (line, version) = asked.version().expect("a reader's call");
+    let of = &snapshots[line.0 as usize][version.0 as usize];
+    match *asked {
+        Call::Stamp(_, _, page) => {
+            let stamp = of.stamps.get(page.0 as usize);
+            let stamp = stamp.ok_or(Error::OutsideSnapshot);
+            stamp.map(|stamp| Answer::Version(Version(*stamp)))
         }
-        What::View(page) => of.part(page * PAGE_SIZE, PAGE_SIZE),
-        What::Read(offset, len) => of.part(offset, len),
+        Call::View(_, _, page) => of.part(page.0 * PAGE_SIZE, PAGE_SIZE),
+        Call::Read(_, _, offset, len, _) => of.part(offset.0, len),
+        _ => Ok(Answer::Size(of.bytes.len() as u64)),
     }
 }
 
 /// Every published version of every line, whole.
 pub fn compare_all(shared: &Shared, snapshots: &[Vec<Snapshot>]) {
-    for (line, versions) in (0..).zip(snapshots) {
-        for (version, snapshot) in (0..).zip(versions) {
-            let size = snapshot.bytes.len() as u64;
-            let mut calls = vec![What::Size, What::Read(0, size)];
-            for page in 0..=size / PAGE_SIZE {
-                calls.extend([What::Stamp(page), What::View(page)]);
+    for (line, versions) in (0..).map(Line).zip(snapshots) {
+        for (version, snapshot) in (0..).map(Version).zip(versions) {
+            let size = snapshot.bytes.len();
+            let whole = Call::Read(line, version, ByteOffset(0), size as u64, size);
+            let mut calls = vec![Call::Size(line, version), whole];
+            for page in (0..=size as u64 / PAGE_SIZE).map(PageIndex) {
+                calls.push(Call::Stamp(line, version, page));
+                calls.push(Call::View(line, version, page));
             }
-            for what in calls {
-                let asked = Asked {
-                    line,
-                    version,
-                    what,
-                };
-                assert_eq!(asked.of(shared), due(snapshots, asked), "{asked:?}");
+            for asked in &calls {
+                assert_eq!(ask(shared, asked), due(snapshots, asked), "{asked:?}");
             }
         }
     }

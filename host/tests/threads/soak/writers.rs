@@ -3,6 +3,7 @@
 
 use super::{FIRED, PAGE_SIZE};
 use crate::random::Random;
+use crate::support::call::Begin;
 use pit_host::{
     Assigned, Error, Line, Minute, Node, PageIndex, Published, Shared, Ticket, Version,
 };
@@ -107,7 +108,7 @@ impl<'a> Writer<'a> {
             thread::yield_now();
         }
         let (source, version) = self.some_version();
-        match self.shared.branch(source, version) {
+        match self.shared.try_line_from(source, version) {
             Ok(line) => {
                 self.line = line;
                 self.log().begun = Some(Begun {
@@ -117,7 +118,7 @@ impl<'a> Writer<'a> {
                 });
             }
             Err(refused) => {
-                assert_eq!(refused, Error::LinesFull);
+                assert_eq!(refused.error(), Some(Error::LinesFull));
                 self.line = Line(15);
             }
         }

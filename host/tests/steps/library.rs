@@ -3,13 +3,11 @@
 
 use crate::mismatch;
 use crate::model;
-use crate::model::text::{hexadecimal, hosts_step, OnLine, Program, Step};
+use crate::model::text::Program;
 use crate::model::windows::MOST_WINDOWS;
 use crate::scripts::Script;
-use pit_host::{
-    Areas, ByteOffset, Error, Limits, Line, Minute, Node, PageIndex, Published, Record, State,
-    Store, Ticket, Version, Windows,
-};
+use crate::support::call::{make_one, Call};
+use pit_host::{Areas, Error, Record, State, Store, Windows};
 
 /// Makes the calls of a host's script, and compares every answer and what stands after it. A line that the step program
 /// refuses by itself is no call.
@@ -35,89 +33,37 @@ pub fn check(script: &Script) {
 }
 
 fn answer(library: &mut Option<Store>, line: &[u8]) -> String {
-    let step = hosts_step(line).expect("a step that is answered");
-    let done = match (step, &mut *library) {
-        (Step::Format(limits), _) => format(limits).map(|store| *library = Some(store)),
-        (step, Some(store)) => return told(store, line, step),
+    let call = Call::of_line(line).expect("a line that is answered");
+    match (&call, &mut *library) {
+        (Call::Format(limits), _) => match Store::format(*limits) {
+            Ok(store) => {
+                *library = Some(store);
+                "ok".to_string()
+            }
+            Err(error) => refused(error),
+        },
+        (call, Some(store)) => answer_of(store, call),
         _ => panic!("FORMAT comes first"),
-    };
-    done.map_or_else(refused, |()| "ok".to_string())
+    }
 }
 
 /// The answer of a call other than FORMAT. Refused, it leaves the store as it was; and only five calls write an area.
-fn told(store: &mut Store, line: &[u8], step: Step) -> String {
+fn answer_of(store: &mut Store, call: &Call) -> String {
     let before = store.clone();
-    let done = make(store, step);
-    let writes = [&b"BEGIN"[..], b"PUT", b"WRITE", b"APPEND", b"WEAVE"];
-    let may_write = done.is_ok() && writes.iter().any(|word| line.starts_with(word));
+    let done = make_one(store, call);
+    let writes = ["BEGIN", "PUT", "WRITE", "APPEND", "WEAVE"];
+    let may_write = done.is_ok() && writes.contains(&call.name());
     if !may_write && store.areas() != before.areas() {
         return "areas that have changed".to_string();
     }
     if done.is_err() && *store != before {
         return "a store that has changed".to_string();
     }
-    done.unwrap_or_else(refused)
+    done.map_or_else(refused, |answer| call.answered(&answer))
 }
 
 fn refused(error: Error) -> String {
     format!("refused,{}", error.number())
-}
-
-fn format([size, pages, nodes, updates]: [u64; 4]) -> Result<Store, Error> {
-    Store::format(Limits::new(size, pages, nodes, updates))
-}
-
-fn make(store: &mut Store, step: Step) -> Result<String, Error> {
-    Ok(match step {
-        Step::Format(_) => unreachable!("FORMAT starts a store"),
-        Step::Begin(n) => format!("ticket,{}", store.begin(n)?),
-        Step::Put(ticket, i, bytes) => {
-            store.put(Ticket(ticket), i, &bytes)?;
-            "put".to_string()
-        }
-        Step::Weave(ticket) => node_line(store.weave(Ticket(ticket))?),
-        Step::SetWindows(text) => {
-            store.set_windows(text)?;
-            "done".to_string()
-        }
-        Step::On(line, step) => make_on_line(store, Line(line), step)?,
-    })
-}
-
-fn make_on_line(store: &mut Store, line: Line, step: OnLine) -> Result<String, Error> {
-    Ok(match step {
-        OnLine::Assign(ticket, f) => {
-            let assigned = match f {
-                Some(f) => store.write(line, Ticket(ticket), PageIndex(f))?,
-                None => store.append(line, Ticket(ticket))?,
-            };
-            format!("version,{},{}", assigned.version, assigned.nodes)
-        }
-        OnLine::Publish(minute) => match store.publish(line, Minute(minute))? {
-            Published::Now(version) => format!("published,{version}"),
-            Published::Waiting => "waiting".to_string(),
-            Published::Held => "held".to_string(),
-            other => panic!("{other:?}"),
-        },
-        OnLine::Branch(v) => format!("line,{}", store.branch(line, Version(v))?),
-        OnLine::Read(v, offset, length) => {
-            let mut buffer = vec![0; length as usize];
-            store.read(line, Version(v), ByteOffset(offset), &mut buffer)?;
-            format!("bytes,{}", hexadecimal(&buffer))
-        }
-        OnLine::Size(v) => format!("size,{}", store.size(line, Version(v))?),
-        OnLine::Recent => format!("recent,{}", store.recent(line)?),
-        OnLine::Stamp(v, page) => {
-            let stamp = store.stamp(line, Version(v), PageIndex(page))?;
-            format!("stamp,{stamp}")
-        }
-    })
-}
-
-fn node_line(node: Node) -> String {
-    let (version, first, span) = (node.version.0, node.first, node.span);
-    let (left, right, rest) = (node.left, node.right, node.rest);
-    format!("node,{version},{first},{span},{left},{right},{rest}")
 }
 
 // What stands after a call.
