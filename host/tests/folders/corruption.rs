@@ -10,7 +10,7 @@ use crate::support::call::{make_durable, words, Call};
 use crate::support::entries::{entries, HEADER};
 use crate::support::in_memory::Model;
 use crate::support::script::{small_store, Script};
-use damage::{spoil, Files, Sources};
+use damage::{corrupt, Files, Sources};
 use pit_host::{Durable, Failure, FileError, Opened, Options, SyncAt};
 use std::collections::BTreeMap;
 use std::fs;
@@ -179,7 +179,7 @@ const KINDS: [&str; 9] = [
 
 #[test]
 fn damaged_folders_open_to_the_store_after_some_of_the_calls_or_not_at_all() {
-    let folder = Folder::in_memory("spoiled");
+    let folder = Folder::in_memory("corruption");
     let mut counts = BTreeMap::new();
     scenes("damaged_folders", SCENES, |mut random| {
         let [scene, other] = [(); 2].map(|()| Scene::draw(&folder, &mut random));
@@ -193,7 +193,7 @@ fn damaged_folders_open_to_the_store_after_some_of_the_calls_or_not_at_all() {
         for _ in 0..DAMAGES {
             let mut files = scene.files.clone();
             for _ in 0..=random.below(2) {
-                spoil(&mut files, &sources, &mut random);
+                corrupt(&mut files, &sources, &mut random);
             }
             scene.look_at(&files, &other, &mut counts);
         }

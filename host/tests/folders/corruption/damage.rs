@@ -14,20 +14,20 @@ pub struct Sources<'a> {
 }
 
 /// Damages files in one way.
-pub fn spoil(files: &mut Files, sources: &Sources<'_>, random: &mut Random) {
+pub fn corrupt(files: &mut Files, sources: &Sources<'_>, random: &mut Random) {
     let names: Vec<String> = files.keys().cloned().collect();
     if names.is_empty() {
         return;
     }
     let name = &names[random.below(names.len() as u64) as usize];
     match random.below(4) {
-        0 => spoil_names(files, name, sources, random),
+        0 => corrupt_names(files, name, sources, random),
         1 if name.starts_with("journal-") => {
             let from = some_file(sources, "journal-", random);
             let bytes = files.get_mut(name).unwrap();
             *bytes = with_entries_changed(bytes, &from, random);
         }
-        _ => spoil_bytes(files.get_mut(name).unwrap(), random),
+        _ => corrupt_bytes(files.get_mut(name).unwrap(), random),
     }
 }
 
@@ -44,7 +44,7 @@ fn range(bytes: &[u8], random: &mut Random) -> std::ops::Range<usize> {
     begin as usize..end as usize
 }
 
-fn spoil_bytes(bytes: &mut Vec<u8>, random: &mut Random) {
+fn corrupt_bytes(bytes: &mut Vec<u8>, random: &mut Random) {
     if bytes.is_empty() {
         return;
     }
@@ -119,7 +119,7 @@ fn with_entries_changed(journal: &[u8], from: &[u8], random: &mut Random) -> Vec
 }
 
 /// Removes, renames or replaces a file, or puts one beside it.
-fn spoil_names(files: &mut Files, name: &str, sources: &Sources<'_>, random: &mut Random) {
+fn corrupt_names(files: &mut Files, name: &str, sources: &Sources<'_>, random: &mut Random) {
     let (of, generation) = name.split_once('-').unwrap_or((name, "0"));
     let generation: u64 = generation.parse().unwrap_or(0);
     let another = some_file(sources, of, random);

@@ -15,9 +15,9 @@ use std::time::{Duration, Instant};
 fn what_would_not_load_is_not_saved() {
     let folder = Folder::new("unsaved");
     let kept = saved(&folder, &in_work());
-    let save = |spoil: fn(&mut State)| {
+    let save = |change: fn(&mut State)| {
         let (mut state, windows, areas) = in_work().into_parts();
-        spoil(&mut state);
+        change(&mut state);
         Store::resume(state, windows, areas)
             .save(folder.file())
             .unwrap_err()
@@ -43,13 +43,13 @@ fn what_would_not_load_is_not_saved() {
         |s| s.places += 1,
         |s| s.places = u64::MAX,
     ];
-    for spoil in counters {
-        assert!(matches!(save(spoil), FileError::Counters));
+    for change in counters {
+        assert!(matches!(save(change), FileError::Counters));
     }
     let records: [fn(&mut Record); 3] = [|r| r.past += 1, |r| r.number += 1, |r| r.put = 1];
-    for spoil in records {
+    for change in records {
         let (state, windows, mut areas) = in_work().into_parts();
-        spoil(&mut areas.parts_mut().register[1]);
+        change(&mut areas.parts_mut().register[1]);
         let damaged = Store::resume(state, windows, areas);
         let error = damaged.save(folder.file()).unwrap_err();
         assert!(matches!(error, FileError::Counters));

@@ -1,7 +1,7 @@
 //! A process with one thread: the store that it leaves is, to the last byte, the one that its calls leave in memory.
 
-use super::child::{kill, start, Moment, Part};
-use super::site::{open, tell, Site, Told};
+use super::child::{kill, start, KillPoint, Part};
+use super::site::{open, report, Report, Site};
 use super::{kill_all, power, IN_A_FOLDER};
 use crate::random::Random;
 use crate::support::call::{make_durable, words};
@@ -25,11 +25,11 @@ fn script(part: &Part<'_>) -> Script {
 pub fn work(part: &Part<'_>) {
     let (store, options) = beginning(part.seed);
     let durable = open(part, store, options);
-    tell(&durable, "opened");
+    report(&durable, "opened");
     let mut script = script(part);
     for _ in 0..CALLS {
         let call = script.next(&durable);
-        tell(&durable, &words(make_durable(&durable, &call)).unwrap());
+        report(&durable, &words(make_durable(&durable, &call)).unwrap());
     }
 }
 
@@ -58,26 +58,26 @@ impl Counts {
 /// Starts a process, kills it, and looks at what it has left.
 fn kill_one(site: &mut Site, run: u64, random: &mut Random, counts: &mut Counts) {
     let part = site.part("alone", run);
-    let (said, was_killed) = kill(start(&part, ""), Moment::draw(random, CALLS / 2));
-    let (mut script, told) = (script(&part), Told::all(&said));
+    let (said, was_killed) = kill(start(&part, ""), KillPoint::draw(random, CALLS / 2));
+    let (mut script, reports) = (script(&part), Report::all(&said));
     counts.kills += u64::from(was_killed);
     counts.count_files(&site.folder.names());
     // only once it has opened the folder: what there was before is synced then, and the model need not go back
-    let due = match told.last() {
+    let due = match reports.last() {
         Some(_) if random.one_in(3) => {
             counts.power_cuts += 1;
-            let synced = told.iter().map(|told| told.synced).max();
+            let synced = reports.iter().map(|report| report.synced).max();
             let kept = power::cut(&site.folder, synced.unwrap_or(0), random);
-            kept.max(due_after_a_power_cut(site.options.sync, &told))
+            kept.max(due_after_a_power_cut(site.options.sync, &reports))
         }
         last => last.map_or(0, |last| last.written),
     };
     match site.opened() {
-        None => assert!(told.is_empty() && site.model.entries == 0),
+        None => assert!(reports.is_empty() && site.model.entries == 0),
         Some((found, opened)) => {
             let entries = found.entries().0;
             assert!(entries >= due, "{entries} of {due} entries");
-            let (returned, has_more) = site.follow(&found, &mut script, &told);
+            let (returned, has_more) = site.follow(&found, &mut script, &reports);
             counts.calls += returned;
             counts.unreturned += u64::from(has_more);
             counts.cut += u64::from(opened.cut.is_some());
@@ -86,18 +86,18 @@ fn kill_one(site: &mut Site, run: u64, random: &mut Random, counts: &mut Counts)
 }
 
 /// The last entry that must be there after a power cut by the answers alone, whatever was said of syncs.
-fn due_after_a_power_cut(sync: SyncAt, told: &[Told]) -> u64 {
-    let shows = |told: &&Told| {
+fn due_after_a_power_cut(sync: SyncAt, reports: &[Report]) -> u64 {
+    let shows = |report: &&Report| {
         ["Published(Now(", "Line("]
             .iter()
-            .any(|w| told.answer.starts_with(w))
+            .any(|w| report.answer.starts_with(w))
     };
     let last = match sync {
-        SyncAt::EachCall => told.last(),
-        SyncAt::EachPublish => told.iter().rev().find(shows),
+        SyncAt::EachCall => reports.last(),
+        SyncAt::EachPublish => reports.iter().rev().find(shows),
         _ => None,
     };
-    last.map_or(0, |told| told.written)
+    last.map_or(0, |report| report.written)
 }
 
 #[test]

@@ -68,20 +68,20 @@ pub fn say(words: &str) {
 
 /// When a process is killed: after it has said so much, and some time.
 #[derive(Clone, Copy, Debug)]
-pub struct Moment {
+pub struct KillPoint {
     said: usize,
     then: Duration,
 }
 
-impl Moment {
+impl KillPoint {
     /// When it has ended.
-    pub const NEVER: Moment = Moment {
+    pub const NEVER: KillPoint = KillPoint {
         said: usize::MAX,
         then: Duration::ZERO,
     };
 
     /// Also while it starts; now and then never, if it ends before.
-    pub fn draw(random: &mut Random, most: u64) -> Moment {
+    pub fn draw(random: &mut Random, most: u64) -> KillPoint {
         let said = match random.below(8) {
             0 => random.below(3),
             1 => 2 * most,
@@ -89,7 +89,7 @@ impl Moment {
         };
         let scale = 1 << random.below(13);
         let micros = random.below(scale);
-        Moment {
+        KillPoint {
             said: said as usize,
             then: Duration::from_micros(micros),
         }
@@ -97,12 +97,12 @@ impl Moment {
 }
 
 /// Kills a process at some moment. Gives what it has said up to its end, and whether it was killed.
-pub fn kill(mut child: Child, moment: Moment) -> (Vec<String>, bool) {
+pub fn kill(mut child: Child, at: KillPoint) -> (Vec<String>, bool) {
     let out = BufReader::new(child.stdout.take().unwrap());
     let lines = out.lines().map(|line| line.unwrap());
     let mut said = lines.filter_map(|line| line.strip_prefix('@').map(str::to_string));
-    let mut all: Vec<String> = said.by_ref().take(moment.said).collect();
-    thread::sleep(moment.then);
+    let mut all: Vec<String> = said.by_ref().take(at.said).collect();
+    thread::sleep(at.then);
     let _ = child.kill(); // it may have ended
     all.extend(said);
     let end = child.wait().unwrap();

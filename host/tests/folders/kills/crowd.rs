@@ -1,6 +1,6 @@
 //! A process with several writers and a reader: everything that each of them was told is there, and nothing that nobody wrote.
 
-use super::child::{kill, say, start, Moment, Part};
+use super::child::{kill, say, start, KillPoint, Part};
 use super::{kill_all, power, IN_A_FOLDER};
 use crate::folder::Folder;
 use crate::random::Random;
@@ -139,13 +139,13 @@ pub fn work(part: &Part<'_>) {
     };
     let durable = &durable;
     durable.set_clock(|| Minute(0));
-    tell(durable, Fact::Published(0, 0));
+    report(durable, Fact::Published(0, 0));
     if part.run % 2 == 0 {
         finish_all(durable);
     }
     if durable.recent(Line(1)) == Err(Error::NoSuchLine) {
         durable.line_from(Line(0), Version(0));
-        tell(durable, Fact::Published(1, 0));
+        report(durable, Fact::Published(1, 0));
     }
     thread::scope(|threads| {
         let writers: Vec<_> = (0..WRITERS)
@@ -166,28 +166,28 @@ fn finish_all(durable: &Durable) {
     for open in durable.open_tickets() {
         if let Some((line, version)) = open.version {
             assert_eq!(durable.finish(open.ticket).unwrap(), version);
-            tell(durable, Fact::Woven(open.ticket.0, open.nodes_left));
+            report(durable, Fact::Woven(open.ticket.0, open.nodes_left));
             let recent = durable.recent(line).unwrap();
-            tell(durable, Fact::Published(line.0, recent.0));
+            report(durable, Fact::Published(line.0, recent.0));
         }
     }
 }
 
-fn tell(durable: &Durable, fact: Fact) {
+fn report(durable: &Durable, fact: Fact) {
     let (written, synced) = durable.entries();
     let numbers = [vec![written, synced], fact.numbers()].concat();
     let words: Vec<String> = numbers.iter().map(u64::to_string).collect();
     say(&words.join(" "));
 }
 
-/// A reader's look at line 0, told where there is something new. Also waits a little, for that.
+/// A reader's look at line 0, reported where there is something new. Also waits a little, for that.
 fn look(durable: &Durable, seen: Version) -> Version {
     let next = Version(seen.0 + 1);
     let waited = durable.wait_published_for(Line(0), next, std::time::Duration::from_millis(2));
     waited.unwrap();
     let recent = durable.recent(Line(0)).unwrap();
     if recent > seen {
-        tell(durable, Fact::Published(0, recent.0));
+        report(durable, Fact::Published(0, recent.0));
     }
     recent
 }
@@ -210,8 +210,8 @@ impl<'a> Writer<'a> {
         }
     }
 
-    fn tell(&self, fact: Fact) {
-        tell(self.durable, fact);
+    fn report(&self, fact: Fact) {
+        report(self.durable, fact);
     }
 
     /// A page of the line's last published version, or the one after its end, where there is room.
@@ -239,24 +239,24 @@ impl<'a> Writer<'a> {
         let pages: Vec<&[u8]> = pages.iter().map(|page| &page[..]).collect();
         let version = self.durable.update(self.line, first, &pages).unwrap();
         let to = [self.line.0, version.0, first.0];
-        self.tell(Fact::Whole(to, [self.number, update, n]));
+        self.report(Fact::Whole(to, [self.number, update, n]));
     }
 
     fn by_calls(&mut self, update: u64, n: u64, first: PageIndex) {
         let (durable, line) = (self.durable, self.line);
         let ticket = durable.begin(n).unwrap();
-        self.tell(Fact::Begun(ticket.0, n));
+        self.report(Fact::Begun(ticket.0, n));
         for i in 0..n {
             let bytes = page(self.number, update, i);
             durable.put(ticket, i, &bytes).unwrap();
-            self.tell(Fact::Put(ticket.0, [i, self.number, update]));
+            self.report(Fact::Put(ticket.0, [i, self.number, update]));
         }
         let assigned = durable.write(line, ticket, first).unwrap();
         let to = [line.0, assigned.version.0, first.0];
-        self.tell(Fact::Assigned(ticket.0, to));
+        self.report(Fact::Assigned(ticket.0, to));
         self.weave(ticket, assigned.nodes);
         while let Some(version) = durable.publish(line, Minute(0)).unwrap().version() {
-            self.tell(Fact::Published(line.0, version.0));
+            self.report(Fact::Published(line.0, version.0));
         }
     }
 
@@ -266,28 +266,28 @@ impl<'a> Writer<'a> {
             if self.random.one_in(6) {
                 let version = self.durable.finish(ticket).unwrap();
                 assert!(version > Version(0));
-                return self.tell(Fact::Woven(ticket.0, nodes));
+                return self.report(Fact::Woven(ticket.0, nodes));
             }
             self.durable.weave(ticket).unwrap();
-            self.tell(Fact::Woven(ticket.0, count));
+            self.report(Fact::Woven(ticket.0, count));
         }
     }
 }
 
 // The process that kills.
 
-/// A fact, and how many entries were written and synced when it was told.
+/// A fact, and how many entries were written and synced when it was reported.
 #[derive(Clone, Copy, Debug)]
-struct Told {
+struct Report {
     written: u64,
     synced: u64,
     fact: Fact,
 }
 
-fn told(words: &str) -> Option<Told> {
+fn report_of(words: &str) -> Option<Report> {
     let numbers: Result<Vec<u64>, _> = words.split(' ').map(str::parse).collect();
     match numbers.ok()?.as_slice() {
-        [written, synced, fact @ ..] => Some(Told {
+        [written, synced, fact @ ..] => Some(Report {
             written: *written,
             synced: *synced,
             fact: Fact::of(fact)?,
@@ -296,13 +296,13 @@ fn told(words: &str) -> Option<Told> {
     }
 }
 
-/// A folder, and all that was ever told of it and may not be lost.
+/// A folder, and all that was ever reported of it and may not be lost.
 struct Site {
     seed: u64,
     folder: Folder,
     beside: Folder,
     options: Options,
-    told: Vec<Told>,
+    reports: Vec<Report>,
 }
 
 impl Site {
@@ -312,7 +312,7 @@ impl Site {
             folder: Folder::new(&format!("kills-crowd-{seed}")),
             beside: Folder::in_memory(&format!("kills-crowd-beside-{seed}")),
             options: beginning(seed).1,
-            told: Vec::new(),
+            reports: Vec::new(),
         }
     }
 
@@ -324,17 +324,20 @@ impl Site {
             seed: self.seed,
             run,
         };
-        let (said, was_killed) = kill(start(&part, ""), Moment::draw(random, 200));
-        let before = self.told.len();
-        self.told
-            .extend(said.iter().filter_map(|words| told(words)));
-        let all = self.told.iter().map(|told| (told.written, told.synced));
+        let (said, was_killed) = kill(start(&part, ""), KillPoint::draw(random, 200));
+        let before = self.reports.len();
+        self.reports
+            .extend(said.iter().filter_map(|words| report_of(words)));
+        let all = self
+            .reports
+            .iter()
+            .map(|report| (report.written, report.synced));
         let (mut due, synced) = all.fold((0, 0), |a, b| (a.0.max(b.0), a.1.max(b.1)));
-        let power = random.one_in(3) && self.told.len() > before;
+        let power = random.one_in(3) && self.reports.len() > before;
         if power {
             due = power::cut(&self.folder, synced, random);
         }
-        if self.told.is_empty() {
+        if self.reports.is_empty() {
             return was_killed; // there may be no store yet
         }
         self.beside.set(&self.folder.files());
@@ -348,19 +351,19 @@ impl Site {
     /// All that may not be lost is there, and what is there was written.
     fn check(&mut self, store: &Store, entries: u64, power: bool) {
         let sync = self.options.sync;
-        let may_be_lost = |told: &Told| match sync {
+        let may_be_lost = |report: &Report| match sync {
             SyncAt::EachCall => false,
-            SyncAt::EachPublish => !matches!(told.fact, Fact::Published(..)),
+            SyncAt::EachPublish => !matches!(report.fact, Fact::Published(..)),
             _ => true,
         };
-        self.told.retain(|told| {
-            let is_there = told.fact.is_in(store);
-            let is_due = told.written <= entries || !power || !may_be_lost(told);
-            assert!(is_there || !is_due, "{told:?} of {entries} entries");
+        self.reports.retain(|report| {
+            let is_there = report.fact.is_in(store);
+            let is_due = report.written <= entries || !power || !may_be_lost(report);
+            assert!(is_there || !is_due, "{report:?} of {entries} entries");
             is_there
         });
-        for told in &mut self.told {
-            told.written = told.written.min(entries); // of others' entries after it some may be lost
+        for report in &mut self.reports {
+            report.written = report.written.min(entries); // of others' entries after it some may be lost
         }
         let state = store.state();
         for ticket in &store.areas().register()[..state.tickets as usize] {
@@ -384,13 +387,13 @@ fn assert_written(store: &Store, ticket: &Record) {
 
 #[test]
 fn what_each_thread_of_a_killed_process_was_told_is_there() {
-    let mut told = 0;
+    let mut reports = 0;
     kill_all("what_each_thread_of_a_killed_process_was_told", |seed| {
         let (mut site, mut random) = (Site::new(seed), Random::new(!seed));
         let kills = (0..IN_A_FOLDER).filter(|run| site.kill_one(*run, &mut random));
         let kills = kills.count() as u64;
-        told += site.told.len();
+        reports += site.reports.len();
         kills
     });
-    println!("{told} answers, all there in the end");
+    println!("{reports} answers, all there in the end");
 }

@@ -1,8 +1,8 @@
 //! A disk that is full, as a process finds it that may write no longer files: what returned is kept, and what could not be
 //! kept has not returned.
 
-use super::child::{kill, start, Moment, Part};
-use super::site::{open, tell, Site, Told, FAILED};
+use super::child::{kill, start, KillPoint, Part};
+use super::site::{open, report, Report, Site, FAILED};
 use crate::random::{first_seed, ShownSeed};
 use crate::support::call::{each, make_durable, words, Call, Update};
 use crate::support::script::Script;
@@ -36,12 +36,12 @@ fn journal_alone(seed: u64) -> (Script, Options) {
 pub fn fill_the_journal(part: &Part<'_>) {
     let (mut script, options) = journal_alone(part.seed);
     let durable = open(part, store(), options);
-    tell(&durable, "opened");
+    report(&durable, "opened");
     for _ in 0..CALLS {
         let seen = seen(&durable);
         let call = script.next(&durable);
         match words(make_durable(&durable, &call)) {
-            Ok(answer) => tell(&durable, &answer),
+            Ok(answer) => report(&durable, &answer),
             Err(failure) => {
                 assert!(matches!(
                     failure,
@@ -104,12 +104,12 @@ fn a_journal_that_cannot_grow_keeps_what_returned() {
         let (mut script, options) = journal_alone(seed);
         let mut site = Site::new("kills-full", seed, store(), options);
         let child = start(&site.part("full journal", 0), NO_ROOM);
-        let (said, _) = kill(child, Moment::NEVER);
-        let told = Told::all(&said);
+        let (said, _) = kill(child, KillPoint::NEVER);
+        let reports = Report::all(&said);
         let (found, _) = site.opened().unwrap();
-        assert!(found.entries().0 >= told.last().unwrap().written);
-        let (returned, _) = site.follow(&found, &mut script, &told);
-        assert_eq!(returned + 1, told.len());
+        assert!(found.entries().0 >= reports.last().unwrap().written);
+        let (returned, _) = site.follow(&found, &mut script, &reports);
+        assert_eq!(returned + 1, reports.len());
         found.begin(1).unwrap(); // with room again it goes on
     }
 }
@@ -137,7 +137,7 @@ fn large_store() -> Store {
 pub fn fill_the_disk(part: &Part<'_>) {
     let (mut script, options) = with_checkpoints(part.seed);
     let (durable, _) = Durable::open(part.folder, options).unwrap();
-    tell(&durable, "opened");
+    report(&durable, "opened");
     for at in 0..CALLS_UNSAVED {
         // also so that no journal gets too long, whatever the thread does that makes checkpoints by itself
         if at % 20 == 0 {
@@ -153,7 +153,7 @@ pub fn fill_the_disk(part: &Part<'_>) {
             assert!(matches!(failure, Failure::File(FileError::Io { .. })));
             FAILED.to_string()
         });
-        tell(&durable, &answer);
+        report(&durable, &answer);
     }
 }
 
@@ -166,12 +166,12 @@ fn a_store_that_cannot_be_saved_goes_on_in_its_journals() {
         let mut site = Site::new("kills-unsaved", seed, large_store(), options);
         drop(Durable::create(&site.folder.0, large_store(), options).unwrap());
         let child = start(&site.part("full disk", 0), NO_ROOM);
-        let (said, _) = kill(child, Moment::NEVER);
-        let told = Told::all(&said);
+        let (said, _) = kill(child, KillPoint::NEVER);
+        let reports = Report::all(&said);
         let (found, opened) = site.opened().unwrap();
         assert!(opened.journals > 2, "{opened}");
-        let (returned, has_more) = site.follow(&found, &mut script, &told);
-        assert_eq!((returned + 1, has_more), (told.len(), false));
+        let (returned, has_more) = site.follow(&found, &mut script, &reports);
+        assert_eq!((returned + 1, has_more), (reports.len(), false));
         found.checkpoint().unwrap(); // with room again it is saved, and all else is needed no more
         let names = site.names(); // with the note of the first close
         assert_eq!(names.len(), 4, "{names:?}");

@@ -21,32 +21,32 @@ pub fn open(part: &Part<'_>, store: Store, options: Options) -> Durable {
 }
 
 /// Says what a call was answered, and how far the journal is then.
-pub fn tell(durable: &Durable, answer: &str) {
+pub fn report(durable: &Durable, answer: &str) {
     let (written, synced) = durable.entries();
     say(&format!("{written} {synced} {answer}"));
 }
 
-/// What a process has told of a call that has returned; first of all, of the opening.
-pub struct Told {
+/// What a process has reported of a call that has returned; first of all, of the opening.
+pub struct Report {
     pub written: u64,
     pub synced: u64,
     pub answer: String,
 }
 
-impl Told {
-    fn of(words: &str) -> Option<Told> {
+impl Report {
+    fn of(words: &str) -> Option<Report> {
         let mut parts = words.splitn(3, ' ');
         let written = parts.next()?.parse().ok()?;
-        Some(Told {
+        Some(Report {
             written,
             synced: parts.next()?.parse().ok()?,
             answer: parts.next()?.to_string(),
         })
     }
 
-    /// All that was told.
-    pub fn all(said: &[String]) -> Vec<Told> {
-        said.iter().filter_map(|words| Told::of(words)).collect()
+    /// All that was reported.
+    pub fn all(said: &[String]) -> Vec<Report> {
+        said.iter().filter_map(|words| Report::of(words)).collect()
     }
 }
 
@@ -98,13 +98,20 @@ impl Site {
 
     /// Makes the calls that have returned, as far as they are in the store that was found, and what is there of the next one: then
     /// the stores are equal. Gives how many have returned, and whether there was something of the next.
-    pub fn follow(&mut self, found: &Durable, script: &mut Script, told: &[Told]) -> (usize, bool) {
+    pub fn follow(
+        &mut self,
+        found: &Durable,
+        script: &mut Script,
+        reports: &[Report],
+    ) -> (usize, bool) {
         let entries = found.entries().0;
-        let mut there = told.iter().take_while(|told| told.written <= entries);
+        let mut there = reports
+            .iter()
+            .take_while(|report| report.written <= entries);
         if let Some(opened) = there.next() {
             assert_eq!(opened.written, self.model.entries, "as it was opened");
         }
-        let returned = there.map(|told| self.make(script, told)).count();
+        let returned = there.map(|report| self.make(script, report)).count();
         // an entry may leave the store as it was, and a rebuild has none
         let has_more = self.model.entries < entries || !self.is_as(found);
         if has_more {
@@ -117,14 +124,14 @@ impl Site {
     }
 
     /// Makes a call that has returned.
-    fn make(&mut self, script: &mut Script, told: &Told) {
+    fn make(&mut self, script: &mut Script, report: &Report) {
         let call = script.next(&self.model.store);
-        if told.answer != FAILED {
+        if report.answer != FAILED {
             let answer = self.model.make(&call);
-            assert_eq!(answer, told.answer, "{call:?}");
+            assert_eq!(answer, report.answer, "{call:?}");
         }
-        assert_eq!(self.model.entries, told.written, "{call:?}");
-        assert!(told.synced >= self.promised(), "{call:?}");
+        assert_eq!(self.model.entries, report.written, "{call:?}");
+        assert!(report.synced >= self.promised(), "{call:?}");
     }
 
     /// The last entry that is synced by the policy when a call has returned.
