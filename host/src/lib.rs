@@ -43,6 +43,10 @@
 
 #![deny(unsafe_code, missing_docs)]
 
+// what the tests share names the package as its users do
+#[cfg(test)]
+extern crate self as pit_host;
+
 mod calls;
 mod disk;
 mod failure;

@@ -2,7 +2,9 @@
 
 mod damage;
 mod entries;
-#[path = "../../../tests/support/random.rs"]
-pub mod random;
 pub mod scene;
+#[path = "../../../tests/support/mod.rs"]
+pub mod support;
 mod writing;
+
+pub use support::random;

@@ -1,7 +1,10 @@
 //! Random calls, and the journals that they make.
 
 use super::random::Random;
+use super::support::call::Call as Drawn;
+use super::support::draw::{draw, Mix, Shown, SINGLE};
 use crate::calls::areas::Limits;
+use crate::calls::counters::Ticket;
 use crate::calls::store::Store;
 use crate::disk::journal::entry::{encode, seal, Content};
 use crate::disk::journal::header::Header;
@@ -22,63 +25,61 @@ pub fn empty_store() -> Store {
     Store::format(Limits::new(PAGE as u64, 600, 4_000, 200)).expect("limits in range")
 }
 
+/// Single calls, each of which is one entry.
+const MIX: Mix = Mix { reads: 0, ..SINGLE };
+
 /// Makes one random call that the store accepts, and gives it to `log`.
 pub fn change(store: &mut Store, random: &mut Random, log: impl FnOnce(&Call<'_>)) {
-    let bytes = random.bytes(PAGE);
-    let text = windows(random);
     loop {
-        let call = draw(store, random, &bytes, &text);
+        let shown = Shown::of(store);
+        let drawn = draw(random, &shown, &MIX);
+        let call = entry_of(&drawn, &shown, random);
         if call.apply(store).is_ok() {
             return log(&call);
         }
     }
 }
 
-fn windows(random: &mut Random) -> Vec<u8> {
-    let texts = ["", "0,600\n", "600,660\n10000,30\n"];
-    random.pick(&texts).as_bytes().to_vec()
-}
-
-fn draw<'a>(store: &Store, random: &mut Random, bytes: &'a [u8], text: &'a [u8]) -> Call<'a> {
-    // the last few tickets, and now and then one that is not given
-    let ticket = (store.state().tickets + 1).saturating_sub(random.below(5));
-    let line = random.below(store.state().begun);
-    match random.below(40) {
-        0 => Call::Begin {
-            n: 1 + random.below(3),
-        },
-        1..=12 => Call::Put {
-            ticket,
-            i: random.below(3),
+/// A drawn call as a journal has it. Of a ticket's nodes some are woven in a row.
+fn entry_of<'a>(call: &'a Drawn, shown: &Shown, random: &mut Random) -> Call<'a> {
+    match call {
+        Drawn::Begin(n) => Call::Begin { n: *n },
+        Drawn::Put(ticket, i, bytes) => Call::Put {
+            ticket: ticket.0,
+            i: *i,
             bytes,
         },
-        13..=16 => Call::Write {
-            line,
-            ticket,
-            first: random.below(6),
+        Drawn::Write(line, ticket, first) => Call::Write {
+            line: line.0,
+            ticket: ticket.0,
+            first: first.0,
         },
-        17..=20 => Call::Append { line, ticket },
-        21..=30 => weave(store, random, ticket),
-        31..=37 => Call::Publish {
-            line,
-            minute: random.below(10_080),
+        Drawn::Append(line, ticket) => Call::Append {
+            line: line.0,
+            ticket: ticket.0,
         },
-        38 => Call::SetWindows { text },
-        _ => Call::Branch {
-            line,
-            version: random.below(4),
+        Drawn::Weave(ticket) => Call::Weave {
+            ticket: ticket.0,
+            count: some_nodes(shown, *ticket, random),
         },
+        Drawn::Publish(line, minute) => Call::Publish {
+            line: line.0,
+            minute: minute.0,
+        },
+        Drawn::SetWindows(text) => Call::SetWindows { text },
+        Drawn::Branch(line, version) => Call::Branch {
+            line: line.0,
+            version: version.0,
+        },
+        other => unreachable!("{other:?} is not drawn"),
     }
 }
 
-/// Some of the WEAVEs that a ticket has left; one too many where it has none, which is refused.
-fn weave(store: &Store, random: &mut Random, ticket: u64) -> Call<'static> {
-    let register = store.areas().register();
-    let record = |number: u64| register.get((number as usize).wrapping_sub(1));
-    let update = record(ticket).and_then(|ticket| record(ticket.update));
-    let left = update.map_or(0, |update| update.count - update.woven);
-    let count = 1 + random.below(left.max(1));
-    Call::Weave { ticket, count }
+/// Some of the nodes that a ticket has left; one too many where it has none, which is refused.
+fn some_nodes(shown: &Shown, ticket: Ticket, random: &mut Random) -> u64 {
+    let mut open = shown.open.iter().filter(|open| open.ticket == ticket);
+    let left = open.next().and_then(|open| open.left);
+    1 + random.below(left.unwrap_or(0).max(1))
 }
 
 /// A journal, with the store that each of its entries leaves.
