@@ -1,5 +1,4 @@
 //! Seeded random numbers, for the tests that draw what they do.
-#![allow(dead_code)] // each test program uses some of it
 
 use std::io::Write;
 

@@ -3,6 +3,7 @@ use crate::calls::difference::Difference;
 use crate::disk::file::FileError;
 use crate::disk::folder::{earlier, Comparison, Folder, Options};
 use crate::disk::journal::tests::random::first_seed;
+use crate::disk::journal::tests::support::call::Begin;
 use crate::disk::journal::JournalErrorKind;
 use std::fs;
 use std::path::PathBuf;
@@ -194,7 +195,7 @@ fn a_saved_store_that_the_calls_before_it_do_not_make_is_told() {
     let compared = || earlier(&path).unwrap()[0].comparison;
     assert_eq!(compared(), Comparison::Same);
     let mut other = run.store.clone();
-    other.set_windows("1,2\n3,4\n5,6\n").unwrap();
+    other.windows_are("1,2\n3,4\n5,6\n");
     other.save_at(&place).unwrap();
     assert_eq!(compared(), Comparison::Differs(Difference::Windows));
 }

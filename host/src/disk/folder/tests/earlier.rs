@@ -4,6 +4,7 @@ use crate::calls::difference::Difference;
 use crate::calls::store::Store;
 use crate::disk::folder::{earlier, Comparison, Earlier};
 use crate::disk::journal::tests::random::first_seed;
+use crate::disk::journal::tests::support::call::Begin;
 use std::fs;
 
 /// A run with a checkpoint that was broken off before it removed what went before: a store was saved, this one by the run's.
@@ -56,7 +57,7 @@ fn another_store_is_seen() {
     let scratch = Scratch::new("earlier-other");
     let windows = |store: &Store| {
         let mut other = store.clone();
-        other.set_windows("7,8\n").unwrap();
+        other.windows_are("7,8\n");
         other
     };
     let run = broken_off(&scratch, 1, windows);
