@@ -6,8 +6,8 @@ use crate::random::Random;
 use crate::scene::Scene;
 use crate::support::call::{make_on, make_one, Answer, Call};
 use pit_host::{
-    Areas, ByteOffset, Error, Limits, Line, Minute, PageIndex, Record, Shared, Snapshot, Storage,
-    Store, Version,
+    Areas, ByteOffset, Error, Limits, Line, Minute, PageIndex, Published, Record, Shared, Snapshot,
+    Storage, Store, Version,
 };
 use std::path::Path;
 

@@ -5,6 +5,7 @@ use pit_host::{
     Assigned, ByteOffset, Durable, Error, Failure, Handle, Limits, Line, LineVersion, Log, Minute,
     Node, PageIndex, Published, Storage, Store, Ticket, Version,
 };
+use std::time::Duration;
 
 /// The line comes first, and the minute last.
 #[derive(Clone, Debug, PartialEq)]

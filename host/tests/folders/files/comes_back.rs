@@ -200,8 +200,10 @@ fn a_files_length_goes_with_what_is_taken() {
         let published = store.publish(LIVE, ANY_TIME).unwrap();
         assert!(published.version().is_some());
         store.line_from(LIVE, Version(1));
-        store.windows_are("600,660
-");
+        store.windows_are(
+            "600,660
+",
+        );
         saves_as(&store, due);
     }
     assert!(

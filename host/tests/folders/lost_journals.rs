@@ -1,8 +1,6 @@
 //! A folder with several journals, as a checkpoint leaves it whose save failed, or a crash inside one: none of them can be lost in silence.
 
-mod folder;
-
-use folder::Folder;
+use crate::folder::Folder;
 use pit_host::{
     inspect, Durable, Failure, FileError, JournalErrorKind, Limits, Line, Options, Store, Version,
 };

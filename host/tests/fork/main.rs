@@ -1,13 +1,14 @@
 //! A process that is forked off one that has a folder open: it has none of that one's threads, and no right to its files.
 
-mod folder;
+#[path = "../support/mod.rs"]
+mod support;
 
-use folder::Folder;
 use pit_host::{
     Durable, Failure, FileError, Limits, Line, Minute, Options, PageIndex, Store, SyncAt, Version,
 };
 use std::panic::{catch_unwind, AssertUnwindSafe};
 use std::time::Duration;
+use support::folder::Folder;
 
 extern "C" {
     fn fork() -> i32;

@@ -1,11 +1,7 @@
 //! A folder that was closed in order: its last journal is not shortened in silence, not even by whole entries.
 
-mod calls;
-mod folder;
-mod random;
-
-use calls::files::{entries, HEADER};
-use folder::Folder;
+use crate::folder::Folder;
+use crate::support::entries::{entries, HEADER};
 use pit_host::{
     inspect, Durable, Failure, FileError, JournalError, JournalErrorKind, Limits, Line, Options,
     PageIndex, Store, SyncAt,

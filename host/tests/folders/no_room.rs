@@ -1,8 +1,6 @@
 //! A folder on a disk that is full, as a process finds it that may write no longer files: it opens, and what could not be written is told.
 
-mod folder;
-
-use folder::Folder;
+use crate::folder::Folder;
 use pit_host::{
     inspect, Durable, Failure, FileError, Limits, Line, Options, Store, SyncAt, Version,
 };
@@ -48,7 +46,7 @@ fn run(part: &str, folder: &Folder, most: u64) {
     let status = Command::new("sh")
         .args(["-c", &limit, "sh"])
         .arg(std::env::current_exe().unwrap())
-        .args(["--ignored", "--exact", "as_a_child"])
+        .args(["--ignored", "--exact", "no_room::as_a_child"])
         .env("PIT_CHILD", part)
         .env("PIT_CHILD_FOLDER", &folder.0)
         .status();

@@ -1,11 +1,7 @@
 //! What opening cuts off a journal: where whole entries are in it, it is kept beside. And however long it is, little memory is taken.
 
-mod calls;
-mod folder;
-mod random;
-
-use calls::files::entries;
-use folder::Folder;
+use crate::folder::Folder;
+use crate::support::entries::entries;
 use pit_host::{inspect, Cut, Durable, Limits, Opened, Options, Store, SyncAt, Ticket};
 use std::fs::{self, OpenOptions};
 use std::os::unix::fs::{FileExt, MetadataExt, PermissionsExt};

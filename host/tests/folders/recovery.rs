@@ -1,8 +1,6 @@
 //! A folder whose journal cannot be written goes on in the same process, once there is room again; and a folder that is closed.
 
-mod folder;
-
-use folder::Folder;
+use crate::folder::Folder;
 use pit_host::{
     Durable, Error, Failure, FileError, Limits, Line, Minute, Opened, Options, PageIndex, Shared,
     Store, SyncAt, Ticket, Version,
@@ -96,7 +94,7 @@ fn in_a_process(test: &str) {
 
 #[test]
 fn a_folder_is_taken_up_again_after_its_journal_failed() {
-    in_a_process("fails_and_goes_on");
+    in_a_process("recovery::fails_and_goes_on");
 }
 
 #[test]
@@ -166,7 +164,7 @@ fn fail_and_go_on(place: &Folder, durable: &Durable, round: u8) {
 
 #[test]
 fn a_close_tells_what_drop_does_not() {
-    in_a_process("cannot_be_closed");
+    in_a_process("recovery::cannot_be_closed");
 }
 
 /// What is noted of the last sync cannot be written.

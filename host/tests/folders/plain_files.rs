@@ -1,8 +1,6 @@
 //! The files of a folder: its locks, plain files alone, their modes, and a folder that is read alone.
 
-mod folder;
-
-use folder::Folder;
+use crate::folder::Folder;
 use pit_host::{
     inspect, ByteOffset, Durable, Failure, FileError, Limits, Line, Minute, OpenBy, Options,
     PageIndex, Reader, Shared, Store, Ticket, Version,
@@ -49,7 +47,12 @@ fn as_another(part: &str, folder: &Path, before: &str) -> String {
     let mut command = Command::new("sh");
     command.args(["-c", &format!("{before}exec \"$@\""), "sh"]);
     command.arg(std::env::current_exe().unwrap());
-    command.args(["--ignored", "--exact", "--nocapture", "as_a_child"]);
+    command.args([
+        "--ignored",
+        "--exact",
+        "--nocapture",
+        "plain_files::as_a_child",
+    ]);
     command.env("PIT_CHILD", part).env("PIT_FOLDER", folder);
     let output = command.stdin(Stdio::null()).output().unwrap();
     assert!(output.status.success(), "{output:?}");
