@@ -6,5 +6,7 @@ pub mod difference;
 pub mod error;
 #[allow(unsafe_code)]
 pub mod ffi;
+#[allow(unsafe_code)]
+pub mod hints;
 pub mod store;
 pub mod windows;

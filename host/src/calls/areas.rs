@@ -5,6 +5,7 @@ mod limits_error;
 
 use crate::calls::error::Error;
 use crate::calls::ffi::{RawAreas, Record};
+use crate::calls::hints;
 use std::fmt;
 
 pub use limits::{Limits, Planned};
@@ -68,14 +69,14 @@ pub struct PartsMut<'a> {
     pub register: &'a mut [Record],
 }
 
-/// The three areas of a store, owned.
+/// The three areas of a store, owned. A page area of 4 MiB and more is to lie in huge pages, where the system has them.
 ///
 /// ```
 /// use pit_host::{Areas, Limits};
 /// let areas = Areas::new(&Limits::new(16, 4, 8, 2)).unwrap();
 /// assert_eq!((areas.pages().len(), areas.nodes().len(), areas.register().len()), (64, 16, 2));
 /// ```
-#[derive(Clone, PartialEq, Eq)]
+#[derive(PartialEq, Eq)]
 pub struct Areas {
     pages: Box<[u8]>,
     nodes: Box<[u32]>,
@@ -93,7 +94,7 @@ impl Areas {
         // Accepted, the longest area has less than 2^28 bytes.
         let length = |elements: u64| elements as usize;
         Ok(Areas {
-            pages: vec![0; length(limits.page_size * limits.pages)].into(),
+            pages: hints::zeros(length(limits.page_size * limits.pages)),
             nodes: vec![0; length(2 * limits.nodes)].into(),
             register: vec![Record::default(); length(limits.updates)].into(),
         })
@@ -102,7 +103,7 @@ impl Areas {
     /// Copies of these.
     pub(crate) fn from_parts(parts: Parts<'_>) -> Areas {
         Areas {
-            pages: parts.pages.into(),
+            pages: hints::copy_of(parts.pages),
             nodes: parts.nodes.into(),
             register: parts.register.into(),
         }
@@ -125,6 +126,12 @@ impl Areas {
     /// The register of updates.
     pub fn register(&self) -> &[Record] {
         &self.register
+    }
+}
+
+impl Clone for Areas {
+    fn clone(&self) -> Areas {
+        Areas::from_parts(self.parts())
     }
 }
 

@@ -1,5 +1,5 @@
 //! The C functions of the proved static libraries, and a safe function over each. All `unsafe` of the crate is here, but
-//! for the lock on a file and the page memory that threads share.
+//! for the lock on a file, hints about memory, and the page memory that threads share.
 //!
 //! The proved functions are total: they end and stay inside the areas they are lent, whatever store, numbers and
 //! bytes they are given. So nothing is asked of a caller here but slices, whose borrows keep the areas of one call
