@@ -1,5 +1,6 @@
-//! Hints about memory, to the system. They change no answer, only the time that it takes.
+//! Hints about memory, to the system and to the processor. They change no answer, only the time that it takes.
 
+use std::arch::x86_64::{_mm_prefetch, _MM_HINT_T0};
 use std::ops::Range;
 use std::os::raw::{c_int, c_void};
 
@@ -43,6 +44,13 @@ fn whole_pages(address: usize, length: usize) -> Option<Range<usize>> {
     let begin = address.checked_add(SYSTEM_PAGE - 1)? / SYSTEM_PAGE * SYSTEM_PAGE;
     let end = address.checked_add(length)? / SYSTEM_PAGE * SYSTEM_PAGE;
     (begin < end).then(|| begin..end)
+}
+
+/// These bytes are read soon: the processor is to fetch the first of them, and with that their page's address. It goes on by itself then.
+#[inline]
+pub fn prefetch(bytes: &[u8]) {
+    // SAFETY: the hint reads nothing that a program could see, from any address.
+    unsafe { _mm_prefetch::<_MM_HINT_T0>(bytes.as_ptr().cast()) };
 }
 
 #[cfg(test)]

@@ -353,7 +353,11 @@ impl<A: Storage> Store<A> {
         offset: ByteOffset,
         buffer: &mut [u8],
     ) -> Result<(), Error> {
-        self.read_front(line, version, offset, buffer.len() as u64, buffer)
+        let numbers = self.numbers_of_many(line, version, offset, buffer.len());
+        match numbers.and_then(|numbers| self.copy_numbered(numbers, offset, buffer)) {
+            Some(()) => Ok(()),
+            None => self.read_front(line, version, offset, buffer.len() as u64, buffer),
+        }
     }
 
     /// READ with a length of its own, as the table of refusals and the C interface have it: fills the front of `buffer` with

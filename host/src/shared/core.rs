@@ -33,8 +33,6 @@ pub struct Core {
 /// A reader that finds a writer's call running looks again so often before it sleeps: some 20 microseconds. To be woken takes longer
 /// than most calls.
 const LOOKS: usize = 400;
-/// A READ of so many bytes is copied without the lock: that takes longer than its pages to be looked up.
-const LONG: usize = 256 << 10;
 /// A writer that finds readers waiting looks so often whether they have gone: at most some microseconds.
 const LOOKS_OF_A_WRITER: usize = 64;
 
@@ -168,7 +166,7 @@ impl Core {
         self.read_by(self.reading(), line, version, offset, buffer)
     }
 
-    /// READ by a lock that is held. Of a long one only where its pages lie is looked up under it: they are copied without.
+    /// READ by a lock that is held. Of many pages only where they lie is looked up under it: they are copied without.
     pub fn read_by(
         &self,
         instance: RwLockReadGuard<'_, Instance>,
@@ -177,20 +175,20 @@ impl Core {
         offset: ByteOffset,
         buffer: &mut [u8],
     ) -> Result<(), Error> {
-        if buffer.len() >= LONG {
-            // what is refused here, READ refuses by its own rows
-            if let Ok(numbers) = self.page_numbers(&instance, line, version, offset, buffer.len()) {
+        let own = self.own(&instance, line, version)?;
+        let (store, pages) = (instance.store(), &instance.epoch.pages);
+        let numbers = store.numbers_of_many(line, own, offset, buffer.len());
+        let are_put = |numbers: &Vec<u64>| numbers.iter().all(|number| pages.is_put(*number));
+        match numbers.filter(are_put) {
+            Some(numbers) => {
                 let epoch = Arc::clone(&instance.epoch);
                 drop(instance);
                 let skip = offset.0 as usize % epoch.pages.page_size();
-                return epoch
-                    .pages
-                    .read(numbers, skip, buffer)
-                    .ok_or(Error::Damaged);
+                let read = epoch.pages.read(numbers, skip, buffer);
+                read.ok_or(Error::Damaged)
             }
+            None => store.read_front(line, own, offset, buffer.len() as u64, buffer),
         }
-        let own = self.own(&instance, line, version)?;
-        instance.store().read(line, own, offset, buffer)
     }
 
     pub fn size_in(&self, instance: &Instance, line: Line, version: Version) -> Result<u64, Error> {
@@ -232,23 +230,6 @@ impl Core {
         let instance = self.reading();
         let own = self.own(&instance, line, version)?;
         instance.store().view(line, own, page).map(look)
-    }
-
-    /// The numbers of the pages that so many bytes of a version, at least one, lie in.
-    fn page_numbers(
-        &self,
-        instance: &Instance,
-        line: Line,
-        version: Version,
-        from: ByteOffset,
-        length: usize,
-    ) -> Result<Vec<u64>, Error> {
-        let page = instance.epoch.pages.page_size() as u64;
-        let last = from.0.checked_add(length as u64 - 1);
-        let pages = from.0 / page..=last.ok_or(Error::OutsideSnapshot)? / page;
-        pages
-            .map(|page| self.page_number(instance, line, version, PageIndex(page)))
-            .collect()
     }
 
     /// The number of a page of a version.

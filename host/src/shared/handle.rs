@@ -113,7 +113,7 @@ impl<L: Log> Handle<L> {
         self.alone(|writer| writer.branch(line, version))
     }
 
-    /// [`Store::read`](crate::Store::read). A long one, of 256 KiB and more, is copied without the lock.
+    /// [`Store::read`](crate::Store::read). One of two pages' bytes and more is copied without the lock.
     pub fn read(
         &self,
         line: Line,

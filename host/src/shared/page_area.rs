@@ -7,6 +7,7 @@
 
 use crate::calls::areas::{Parts, PartsMut, Storage};
 use crate::calls::ffi::{RawAreas, Record};
+use crate::calls::long_read::copy_pages;
 use std::cell::UnsafeCell;
 use std::sync::atomic::{AtomicU64, Ordering};
 use std::sync::Arc;
@@ -45,17 +46,11 @@ impl PageArea {
     pub fn read(
         &self,
         numbers: impl IntoIterator<Item = u64>,
-        mut skip: usize,
+        skip: usize,
         buffer: &mut [u8],
     ) -> Option<()> {
-        let (mut numbers, mut rest) = (numbers.into_iter(), buffer);
-        while !rest.is_empty() {
-            let from = self.page(numbers.next()?)?.get(skip..)?;
-            let (front, after) = rest.split_at_mut(from.len().min(rest.len()));
-            front.copy_from_slice(&from[..front.len()]);
-            (rest, skip) = (after, 0);
-        }
-        Some(())
+        let pages = numbers.into_iter().map(|number| self.page(number));
+        copy_pages(pages, self.page, skip, buffer)
     }
 
     /// Whether some of these bytes lie in it.
