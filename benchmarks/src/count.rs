@@ -8,20 +8,20 @@
 //! With `resent` there is one line too, on which so many of the updates after the filling, spread evenly, have resent one page
 //! unchanged; with `resent 0` the last update has written it anew. Of that page STAMP is counted, and nothing else.
 
-#[allow(dead_code)]
-mod grouped;
 #[allow(unsafe_code)]
-mod opaque;
+mod black_box;
+#[allow(dead_code)]
+mod numbers;
 #[allow(dead_code)]
 mod random;
 #[allow(dead_code)]
-mod shape;
+mod workload;
 
-use opaque::opaque;
+use black_box::black_box;
 use pit_host::{ByteOffset, Limits, Line, LineState, Minute, PageIndex, Store, Ticket, Version};
-use shape::{Shape, Source, Update, MOST};
 use std::env;
 use std::process::ExitCode;
+use workload::{Shape, Source, Update, MOST};
 
 const PAGE_SIZE: usize = 4_096;
 const BLOB: usize = 4_096;
@@ -212,11 +212,11 @@ impl Scene {
             };
             let (version, page) = (self.version(line), page as u64);
             let view = self.store.view(line, version, PageIndex(page));
-            opaque(view.expect(ACCEPTED));
+            black_box(view.expect(ACCEPTED));
             let offset = ByteOffset(page * PAGE_SIZE as u64);
             let read = self.store.read(line, version, offset, &mut to);
             read.expect(ACCEPTED);
-            opaque(&mut to);
+            black_box(&mut to);
         }
     }
 
@@ -229,7 +229,7 @@ impl Scene {
         };
         for _ in 0..STAMPS {
             let stamp = self.store.stamp(Line(0), recent, PageIndex(PAGE as u64));
-            assert_eq!(opaque(stamp), Ok(due));
+            assert_eq!(black_box(stamp), Ok(due));
         }
     }
 

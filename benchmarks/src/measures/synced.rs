@@ -4,15 +4,14 @@
 //! third policy an update returns when it is written, and is synced within 10 ms: a power cut may take it, the end of a process
 //! does not. That sync is waited for after a turn, so that it falls into nobody's time.
 
-use crate::contender::Contender;
-use crate::in_folder::{InFolder, Plain};
-use crate::lmdb::Commit;
-use crate::lmdb_pages::LmdbPages;
-use crate::measure::median;
-use crate::scratch::Scratch;
-use crate::shape::{Source, Update, MOST};
-use crate::sharing::{Sharing, Writing};
-use crate::targets::SHAPE;
+use crate::contenders::durable::{OursDurable, PlainFile};
+use crate::contenders::lmdb::Commit;
+use crate::contenders::lmdb_pages::LmdbPages;
+use crate::contenders::shared::{Sharing, Writing};
+use crate::contenders::Contender;
+use crate::measures::scratch::Scratch;
+use crate::measures::timing::median;
+use crate::workload::{Source, Update, MOST, TARGET_SHAPE as SHAPE};
 use pit_host::SyncAt;
 use std::path::Path;
 use std::sync::Barrier;
@@ -77,7 +76,7 @@ pub fn rows(disk: &Path) -> Vec<Row> {
     let room = ROUNDS * (OF_ONE * (1 + 8 + MOST) + THREADS * OF_EACH);
     let folder = |k: usize| {
         let path = scratch.path(&format!("folder-{k}"));
-        InFolder::new(path, POLICIES[k], &SHAPE, room)
+        OursDurable::new(path, POLICIES[k], &SHAPE, room)
     };
     let database = |name, commit| {
         let mut database = LmdbPages::on_disk(&SHAPE, &scratch.path(name), commit);
@@ -88,7 +87,7 @@ pub fn rows(disk: &Path) -> Vec<Row> {
     let mut by_calls = database("lmdb", Commit::Synced);
     let mut by_map = database("lmdb-map", Commit::SyncedMap);
     let (by_calls, by_map) = (by_calls.shared(), by_map.shared());
-    let plain = Plain::new(&scratch.path("plain"));
+    let plain = PlainFile::new(&scratch.path("plain"));
     let contenders: Contenders<'_> = [&ours[0], &ours[1], &ours[2], &by_calls, &by_map, &plain];
 
     let whats = [What::One(1), What::One(8), What::One(64), What::Many];

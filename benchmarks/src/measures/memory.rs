@@ -1,10 +1,10 @@
 //! The memory that a version's bookkeeping takes: all that is kept for it, without the bytes of its own pages.
 
-use crate::arc_table::ArcTable;
-use crate::contender::Contender;
-use crate::heap;
-use crate::ours::Ours;
-use crate::shape::{Shape, Source};
+use crate::contenders::arc_table::ArcTable;
+use crate::contenders::ours::Ours;
+use crate::contenders::Contender;
+use crate::measures::heap;
+use crate::workload::{Shape, Source};
 
 /// Updates measured, on top of those that stand.
 const COUNT: usize = 64;

@@ -1,30 +1,32 @@
 //! Views a second of reader threads, without a writer and beside one: this store by the host's `Shared` and by its snapshots,
 //! and LMDB.
 //!
-//! All turns of a row have the same updates at the same places. A writer that makes them flat out would fill this store within some
-//! milliseconds: its register has room for 4,096 updates. So a turn flat out is just the updates that there is room for, at
-//! each store's own pace, and ends with the last of them; the store is then put back, which is not timed. Several such turns
-//! make one figure: the views of all of them in the time of all of them. LMDB, which never fills, has the same turns.
-//! Views count only while the turn's time runs: readers begin before it and end after it.
+//! All trials of a row have the same updates at the same places. A writer that makes them flat out would fill this store within some
+//! milliseconds: its register has room for 4,096 updates. So a trial flat out is just the updates that there is room for, at
+//! each store's own pace, and ends with the last of them; the store is then put back, which is not timed. Several such trials
+//! make one figure: the views of all of them in the time of all of them. LMDB, which never fills, has the same trials.
+//! Views count only while the trial's time runs: readers begin before it and end after it.
 
-use crate::contender::Contender;
-use crate::lmdb_pages::LmdbPages;
-use crate::shape::{Shape, Source};
-use crate::sharing::{By, OursShared, Sharing};
-use crate::turn::{Counts, Work};
+mod trial;
+
+use crate::contenders::lmdb_pages::LmdbPages;
+use crate::contenders::shared::{By, OursShared, Sharing};
+use crate::contenders::Contender;
+use crate::workload::{Shape, Source};
 use std::time::Duration;
+use trial::{Counts, Workload};
 
 /// A reader views so many pages of one version, then of the newest.
 pub const PAGES_A_VERSION: usize = 16;
 /// A paced writer makes so many updates a second, of one page each.
 pub const UPDATES_A_SECOND: u32 = 3_600;
 
-/// A turn without a writer, or with a paced one, takes so long.
-pub const TURN: Duration = Duration::from_millis(100);
-/// A turn flat out has so many updates, which with those that stand are most of what the register has room for; a paced one fewer.
-pub const UPDATES_A_TURN: usize = 3_900;
-/// So many turns flat out make one figure.
-const TURNS_FLAT_OUT: usize = 4;
+/// A trial without a writer, or with a paced one, takes so long.
+pub const TRIAL: Duration = Duration::from_millis(100);
+/// A trial flat out has so many updates, which with those that stand are most of what the register has room for; a paced one fewer.
+pub const UPDATES_A_TRIAL: usize = 3_900;
+/// So many trials flat out make one figure.
+const TRIALS_FLAT_OUT: usize = 4;
 const ROUNDS: usize = 9;
 
 /// Readers by the store, by a snapshot and by a filled one; and LMDB.
@@ -62,7 +64,7 @@ pub type Row = (Setting, [Rates; CONTENDERS]);
 
 /// The rows of all settings.
 pub fn rows(shape: Shape) -> Vec<Row> {
-    let mut field = Field::new(shape);
+    let mut stores = Stores::new(shape);
     let mut settings = Vec::new();
     for readers in [1, 2] {
         for writer in [Writer::None, Writer::Paced, Writer::FlatOut] {
@@ -74,11 +76,11 @@ pub fn rows(shape: Shape) -> Vec<Row> {
         for (setting, figures) in &mut settings {
             for place in 0..CONTENDERS {
                 let at = (round + place) % CONTENDERS;
-                figures[at].push(field.figure(at, *setting));
+                figures[at].push(stores.figure(at, *setting));
             }
         }
     }
-    field.check();
+    stores.check();
     let medians = |(setting, figures): (Setting, [Vec<Rates>; CONTENDERS])| {
         let medians = figures.map(median);
         (setting, medians)
@@ -87,39 +89,39 @@ pub fn rows(shape: Shape) -> Vec<Row> {
 }
 
 /// The two stores, holding the same blob.
-struct Field {
+struct Stores {
     ours: OursShared,
     lmdb: LmdbPages,
-    work: Work,
+    workload: Workload,
 }
 
-impl Field {
-    fn new(shape: Shape) -> Field {
+impl Stores {
+    fn new(shape: Shape) -> Stores {
         let source = Source::new(shape.page_size);
         let mut lmdb = LmdbPages::new(&shape);
         lmdb.updates(&shape.standing(), &source);
-        let mut field = Field {
+        let mut stores = Stores {
             ours: OursShared::new(&shape, &source),
             lmdb,
-            work: Work {
+            workload: Workload {
                 shape,
                 source,
-                updates: shape.random_updates(9, UPDATES_A_TURN, 1),
+                updates: shape.random_updates(9, UPDATES_A_TRIAL, 1),
             },
         };
-        field.check();
-        field
+        stores.check();
+        stores
     }
 
     /// One figure of a contender.
     fn figure(&mut self, at: usize, setting: Setting) -> Rates {
-        let turns = match setting.writer {
-            Writer::FlatOut => TURNS_FLAT_OUT,
+        let trials = match setting.writer {
+            Writer::FlatOut => TRIALS_FLAT_OUT,
             Writer::None | Writer::Paced => 1,
         };
         let mut counts = Counts::default();
-        for _ in 0..turns {
-            counts += self.turn(at, setting);
+        for _ in 0..trials {
+            counts += self.trial(at, setting);
         }
         Rates {
             views: counts.views as f64 / counts.seconds,
@@ -127,18 +129,18 @@ impl Field {
         }
     }
 
-    fn turn(&mut self, at: usize, setting: Setting) -> Counts {
+    fn trial(&mut self, at: usize, setting: Setting) -> Counts {
         if at == LMDB {
-            return self.work.turn(&self.lmdb.shared(), setting);
+            return self.workload.run(&self.lmdb.shared(), setting);
         }
         self.ours.begin_anew();
         let ours = self.ours.read_by(BY[at]);
-        self.work.turn(&ours, setting)
+        self.workload.run(&ours, setting)
     }
 
-    /// Both give the same bytes: after the updates that stand, and after those of a turn.
+    /// Both give the same bytes: after the updates that stand, and after those of a trial.
     fn check(&mut self) {
-        let pages = self.work.shape.blob;
+        let pages = self.workload.shape.blob;
         let right = self.lmdb.shared().copied(pages);
         for by in BY {
             let is_right = self.ours.read_by(by).copied(pages) == right;
@@ -147,7 +149,7 @@ impl Field {
     }
 }
 
-/// By views; the updates are those of the same turns.
+/// By views; the updates are those of the same trials.
 fn median(mut rates: Vec<Rates>) -> Rates {
     rates.sort_by(|one, other| one.views.total_cmp(&other.views));
     rates[rates.len() / 2]

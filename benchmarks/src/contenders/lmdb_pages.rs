@@ -1,9 +1,9 @@
 //! What a user would pick: LMDB, a value a page under the page's index, a write transaction an update.
 
-use crate::contender::Contender;
-use crate::lmdb::{Commit, Database};
-use crate::shape::Shape;
-use crate::sharing::LmdbShared;
+use crate::contenders::lmdb::{Commit, Database};
+use crate::contenders::shared::LmdbShared;
+use crate::contenders::Contender;
+use crate::workload::Shape;
 use std::path::Path;
 use std::sync::atomic::{AtomicU32, Ordering};
 use std::{fs, process};

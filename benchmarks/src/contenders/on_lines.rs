@@ -1,8 +1,8 @@
 //! The store of this repository with 16 lines whose updates interleave.
 
-use crate::contender::Contender;
-use crate::measure::BATCH;
-use crate::shape::{Shape, Source, MOST};
+use crate::contenders::Contender;
+use crate::measures::timing::BATCH;
+use crate::workload::{Shape, Source, MOST};
 use pit_host::{ByteOffset, Limits, Line, Minute, PageIndex, Store, Version};
 
 const LINES: usize = 16;

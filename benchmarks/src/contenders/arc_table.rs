@@ -1,7 +1,7 @@
 //! What a user would write: a table of all pages for each version, copied by each update, every page behind an `Arc`.
 
-use crate::contender::Contender;
-use crate::shape::Shape;
+use crate::contenders::Contender;
+use crate::workload::Shape;
 use std::sync::Arc;
 
 struct Table {

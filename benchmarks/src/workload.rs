@@ -1,6 +1,6 @@
 //! What is measured: a blob's shape, the updates that made it, and the bytes they bring.
 
-use crate::grouped::grouped;
+use crate::numbers::with_commas;
 use crate::random::Random;
 use std::fmt;
 
@@ -15,6 +15,13 @@ pub struct Shape {
     pub updates: usize,
 }
 
+/// Where the targets are set: 4,096 pages of 4,096 bytes, 100 updates standing; some with more.
+pub const TARGET_SHAPE: Shape = Shape {
+    page_size: 4_096,
+    blob: 4_096,
+    updates: 100,
+};
+
 /// An update of `pages` pages from page `first` on.
 #[derive(Clone, Copy, Debug)]
 pub struct Update {
@@ -24,8 +31,8 @@ pub struct Update {
 
 impl fmt::Display for Shape {
     fn fmt(&self, f: &mut fmt::Formatter<'_>) -> fmt::Result {
-        let (blob, bytes) = (grouped(self.blob), grouped(self.page_size));
-        let updates = grouped(self.updates);
+        let (blob, bytes) = (with_commas(self.blob), with_commas(self.page_size));
+        let updates = with_commas(self.updates);
         write!(f, "{blob} pages of {bytes} bytes, {updates} updates")
     }
 }

@@ -1,7 +1,18 @@
-//! What every store under test does, and the loops that are timed.
+//! The stores under test: what each of them does, and the loops that are timed.
 
-use crate::opaque::opaque;
-use crate::shape::{Source, Update};
+pub mod arc_table;
+pub mod durable;
+pub mod in_work;
+#[allow(unsafe_code)]
+pub mod lmdb;
+pub mod lmdb_pages;
+pub mod memcpy;
+pub mod on_lines;
+pub mod ours;
+pub mod shared;
+
+use crate::black_box::black_box;
+use crate::workload::{Source, Update};
 
 /// A store under test. Versions are counted from 1, an update each.
 ///
@@ -39,21 +50,21 @@ pub trait Contender {
     fn reads(&self, version: usize, pages: &[usize], to: &mut [u8]) {
         for &page in pages {
             self.read(version, page, to);
-            opaque(&mut *to);
+            black_box(&mut *to);
         }
     }
 
     /// Timed: VIEW of each page.
     fn views(&self, version: usize, pages: &[usize]) {
         for &page in pages {
-            opaque(self.view(version, page));
+            black_box(self.view(version, page));
         }
     }
 
     /// Timed: each update, whole. The k-th takes the source's k-th bytes.
     fn updates(&mut self, updates: &[Update], source: &Source) {
         for (k, update) in updates.iter().enumerate() {
-            self.update(update.first, opaque(source.bytes(k, update.pages)));
+            self.update(update.first, black_box(source.bytes(k, update.pages)));
         }
     }
 }

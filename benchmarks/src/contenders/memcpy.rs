@@ -1,23 +1,23 @@
 //! The bytes alone: one run of memory, copied from and to. It keeps no versions; it is the floor.
 
-use crate::contender::Contender;
-use crate::shape::Shape;
+use crate::contenders::Contender;
+use crate::workload::Shape;
 
-pub struct Flat {
+pub struct Memcpy {
     page_size: usize,
     bytes: Vec<u8>,
 }
 
-impl Flat {
-    pub fn new(shape: &Shape) -> Flat {
-        Flat {
+impl Memcpy {
+    pub fn new(shape: &Shape) -> Memcpy {
+        Memcpy {
             page_size: shape.page_size,
             bytes: vec![0; shape.page_size * shape.blob],
         }
     }
 }
 
-impl Contender for Flat {
+impl Contender for Memcpy {
     fn update(&mut self, first: usize, bytes: &[u8]) {
         self.bytes[first * self.page_size..][..bytes.len()].copy_from_slice(bytes);
     }

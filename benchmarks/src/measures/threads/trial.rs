@@ -1,8 +1,8 @@
-//! One turn of threads that read, and of one that may write beside them.
+//! One trial of threads that read, and of one that may write beside them.
 
-use crate::shape::{Shape, Source, Update};
-use crate::sharing::{Sharing, Views};
-use crate::threads::{Setting, Writer, PAGES_A_VERSION, TURN, UPDATES_A_SECOND};
+use crate::contenders::shared::{Sharing, Views};
+use crate::measures::threads::{Setting, Writer, PAGES_A_VERSION, TRIAL, UPDATES_A_SECOND};
+use crate::workload::{Shape, Source, Update};
 use std::ops::AddAssign;
 use std::sync::atomic::{AtomicBool, Ordering::Relaxed};
 use std::sync::Barrier;
@@ -25,28 +25,28 @@ impl AddAssign for Counts {
     }
 }
 
-/// What is read and written in every turn.
-pub struct Work {
+/// What is read and written in every trial.
+pub struct Workload {
     pub shape: Shape,
     pub source: Source,
     pub updates: Vec<Update>,
 }
 
-impl Work {
+impl Workload {
     /// Readers on threads of their own, and the writer, or whoever waits for the time to pass, on this one.
-    pub fn turn(&self, store: &dyn Sharing, setting: Setting) -> Counts {
-        let watch = &Watch::new(setting.readers);
+    pub fn run(&self, store: &dyn Sharing, setting: Setting) -> Counts {
+        let stopwatch = &Stopwatch::new(setting.readers);
         thread::scope(|threads| {
             let reading = |seed| {
                 let pages = self.shape.random_pages(seed, 512 * PAGES_A_VERSION);
-                threads.spawn(move || watch.count(store.reader(), &pages))
+                threads.spawn(move || stopwatch.count(store.reader(), &pages))
             };
             let reading: Vec<_> = (0..setting.readers as u64)
                 .map(|k| reading(6 + k))
                 .collect();
             let mut updates = 0;
-            let seconds = watch.time(|begin| match setting.writer {
-                Writer::None => thread::sleep(TURN),
+            let seconds = stopwatch.time(|begin| match setting.writer {
+                Writer::None => thread::sleep(TRIAL),
                 Writer::Paced => updates = self.paced(store, begin),
                 Writer::FlatOut => updates = self.flat_out(store),
             });
@@ -61,7 +61,7 @@ impl Work {
         })
     }
 
-    /// Makes each update as soon as it is due, until the turn is over; gives how many.
+    /// Makes each update as soon as it is due, until the trial is over; gives how many.
     fn paced(&self, store: &dyn Sharing, begin: Instant) -> usize {
         let second = Duration::from_secs(1);
         let wait_until = |due: Duration| {
@@ -69,12 +69,12 @@ impl Work {
                 thread::sleep(early);
             }
         };
-        let most = TURN.as_millis() as usize * UPDATES_A_SECOND as usize / 1_000;
+        let most = TRIAL.as_millis() as usize * UPDATES_A_SECOND as usize / 1_000;
         for k in 0..most {
             wait_until(second * k as u32 / UPDATES_A_SECOND);
             self.update(store, k);
         }
-        wait_until(TURN);
+        wait_until(TRIAL);
         most
     }
 
@@ -91,15 +91,15 @@ impl Work {
 }
 
 /// Tells readers when the time runs in which their views count.
-struct Watch {
+struct Stopwatch {
     start: Barrier,
     runs: AtomicBool,
     is_over: AtomicBool,
 }
 
-impl Watch {
-    fn new(readers: usize) -> Watch {
-        Watch {
+impl Stopwatch {
+    fn new(readers: usize) -> Stopwatch {
+        Stopwatch {
             start: Barrier::new(readers + 1),
             runs: AtomicBool::new(false),
             is_over: AtomicBool::new(false),

@@ -3,11 +3,11 @@
 //! The saved store is the same in all rows, of the largest limits and with the blob filled; then come so many updates of random
 //! pages. The files have just been written, so they are read from memory: a disk's time to read them comes on top.
 
-use crate::in_folder::InFolder;
-use crate::measure::median;
-use crate::scratch::Scratch;
-use crate::shape::{Shape, Source};
-use crate::sharing::Writing;
+use crate::contenders::durable::OursDurable;
+use crate::contenders::shared::Writing;
+use crate::measures::scratch::Scratch;
+use crate::measures::timing::median;
+use crate::workload::{Shape, Source};
 use pit_host::SyncAt;
 use std::path::Path;
 use std::time::{Duration, Instant};
@@ -53,7 +53,7 @@ fn row(scratch: &Scratch, updates: usize, pages: usize) -> Row {
     let path = scratch.path(&format!("{updates}-{pages}"));
     let all_room = 65_535 - SHAPE.blob;
     let sync = SyncAt::Every(Duration::from_millis(10));
-    let mut store = InFolder::new(path, sync, &SHAPE, all_room);
+    let mut store = OursDurable::new(path, sync, &SHAPE, all_room);
     let source = Source::new(SHAPE.page_size);
     for (k, update) in SHAPE.random_updates(5, updates, pages).iter().enumerate() {
         let first = update.first / pages * pages;

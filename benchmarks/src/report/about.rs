@@ -1,10 +1,10 @@
 //! What is said above the table: of the machine, the contenders and the buffers.
 
-use crate::grouped::grouped;
-use crate::in_work::IN_WORK;
-use crate::lmdb;
-use crate::measure::ROUNDS;
-use crate::threads::{PAGES_A_VERSION, UPDATES_A_SECOND, UPDATES_A_TURN};
+use crate::contenders::in_work::IN_WORK;
+use crate::contenders::lmdb;
+use crate::measures::threads::{PAGES_A_VERSION, UPDATES_A_SECOND, UPDATES_A_TRIAL};
+use crate::measures::timing::ROUNDS;
+use crate::numbers::with_commas;
 use std::fs;
 use std::path::Path;
 
@@ -52,8 +52,8 @@ o/..       Ours as a multiple of the other: below 1, ours takes less.
         caches(),
         file_system(disk),
         lmdb::version(),
-        grouped(UPDATES_A_SECOND as usize),
-        grouped(UPDATES_A_TURN),
+        with_commas(UPDATES_A_SECOND as usize),
+        with_commas(UPDATES_A_TRIAL),
     )
 }
 

@@ -5,7 +5,7 @@ use std::arch::asm;
 /// The value itself. Whatever it points to counts as read and written: an empty piece of assembly takes its address. It
 /// is what `std::hint::black_box` does, which Debian 12's Rust does not have yet.
 #[inline]
-pub fn opaque<T>(mut value: T) -> T {
+pub fn black_box<T>(mut value: T) -> T {
     // SAFETY: the assembly is empty, so it touches nothing; the compiler has to assume that it may.
     unsafe { asm!("/* {0} */", in(reg) &mut value, options(nostack, preserves_flags)) };
     value

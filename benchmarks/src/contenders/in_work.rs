@@ -1,8 +1,8 @@
 //! The store of this repository with tickets in work: versions of its line that wait for their last node.
 
-use crate::contender::Contender;
-use crate::measure::BATCH;
-use crate::shape::{Shape, Source, MOST};
+use crate::contenders::Contender;
+use crate::measures::timing::BATCH;
+use crate::workload::{Shape, Source, MOST};
 use pit_host::{ByteOffset, Limits, Line, Minute, PageIndex, Store, Ticket, Version};
 use std::collections::VecDeque;
 

@@ -1,8 +1,8 @@
 //! The table of views by threads.
 
 use super::{shown, shown_ratio};
-use crate::grouped::grouped;
-use crate::threads::{Row, Setting, Writer, LMDB, UPDATES_A_SECOND};
+use crate::measures::threads::{Row, Setting, Writer, LMDB, UPDATES_A_SECOND};
+use crate::numbers::with_commas;
 
 const NAMES: [&str; 4] = ["by calls", "snapshot", "filled", "LMDB"];
 
@@ -31,7 +31,7 @@ pub fn line((setting, rates): &Row) -> String {
 pub fn front(setting: Setting) -> String {
     let writer = match setting.writer {
         Writer::None => "none".into(),
-        Writer::Paced => format!("{}/s", grouped(UPDATES_A_SECOND as usize)),
+        Writer::Paced => format!("{}/s", with_commas(UPDATES_A_SECOND as usize)),
         Writer::FlatOut => "flat out".into(),
     };
     format!("{:<9}{writer:<10}", setting.readers)

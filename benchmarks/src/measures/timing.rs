@@ -1,13 +1,13 @@
 //! One shape of blob, measured: all contenders made alike, checked, and timed in rounds that take turns.
 
-use crate::arc_table::ArcTable;
-use crate::contender::Contender;
-use crate::flat::Flat;
-use crate::in_work::{self, InWork};
-use crate::lmdb_pages::LmdbPages;
-use crate::on_lines::OnLines;
-use crate::ours::Ours;
-use crate::shape::{Shape, Source, Update};
+use crate::contenders::arc_table::ArcTable;
+use crate::contenders::in_work::{self, InWork};
+use crate::contenders::lmdb_pages::LmdbPages;
+use crate::contenders::memcpy::Memcpy;
+use crate::contenders::on_lines::OnLines;
+use crate::contenders::ours::Ours;
+use crate::contenders::Contender;
+use crate::workload::{Shape, Source, Update};
 use std::time::Instant;
 
 /// The contenders, in the table's order.
@@ -41,7 +41,7 @@ const TIMED: usize = 64;
 pub const ROUNDS: usize = 41;
 
 /// Some contenders, holding the same blob.
-pub struct Field<const N: usize> {
+pub struct Benchmark<const N: usize> {
     shape: Shape,
     source: Source,
     /// How many updates of a round are timed.
@@ -49,39 +49,39 @@ pub struct Field<const N: usize> {
     contenders: [Box<dyn Contender>; N],
 }
 
-impl Field<CONTENDERS> {
-    pub fn new(shape: Shape) -> Field<CONTENDERS> {
-        let mut field = Field {
+impl Benchmark<CONTENDERS> {
+    pub fn new(shape: Shape) -> Benchmark<CONTENDERS> {
+        let mut benchmark = Benchmark {
             shape,
             source: Source::new(shape.page_size),
             timed: TIMED,
             contenders: [
                 Box::new(Ours::new(&shape)),
-                Box::new(Flat::new(&shape)),
+                Box::new(Memcpy::new(&shape)),
                 Box::new(ArcTable::new(&shape)),
                 Box::new(LmdbPages::new(&shape)),
             ],
         };
         let standing = shape.standing();
-        for contender in &mut field.contenders {
-            contender.updates(&standing, &field.source);
+        for contender in &mut benchmark.contenders {
+            contender.updates(&standing, &benchmark.source);
             contender.settle();
         }
-        field.check_standing(&standing);
-        field
+        benchmark.check_standing(&standing);
+        benchmark
     }
 }
 
-impl Field<3> {
+impl Benchmark<3> {
     /// This repository's store on one line, and with 16.
-    pub fn of_lines(shape: Shape) -> Field<3> {
+    pub fn of_lines(shape: Shape) -> Benchmark<3> {
         let source = Source::new(shape.page_size);
         let mut one = Ours::new(&shape);
         one.updates(&shape.standing(), &source);
         one.settle();
         let on_one = OnLines::new(&shape, &source, Some(READ_LINE));
         let on_all = OnLines::new(&shape, &source, None);
-        Field {
+        Benchmark {
             shape,
             source,
             timed: TIMED,
@@ -90,12 +90,12 @@ impl Field<3> {
     }
 }
 
-impl Field<1> {
+impl Benchmark<1> {
     /// This repository's store with tickets in work.
-    pub fn in_work(shape: Shape) -> Field<1> {
+    pub fn in_work(shape: Shape) -> Benchmark<1> {
         let source = Source::new(shape.page_size);
         let in_work = InWork::new(&shape, &source);
-        Field {
+        Benchmark {
             shape,
             source,
             timed: in_work::TIMED,
@@ -104,7 +104,7 @@ impl Field<1> {
     }
 }
 
-impl<const N: usize> Field<N> {
+impl<const N: usize> Benchmark<N> {
     /// READ of random pages of the newest version.
     pub fn reads(&mut self) -> [f64; N] {
         let pages = self.shape.random_pages(3, READS);

@@ -1,9 +1,9 @@
 //! The store of this repository in a folder, and a plain file: what is written is synced.
 
-use crate::contender::Contender;
-use crate::ours::Ours;
-use crate::shape::{Shape, Source};
-use crate::sharing::{update, Writing};
+use crate::contenders::ours::Ours;
+use crate::contenders::shared::{update, Writing};
+use crate::contenders::Contender;
+use crate::workload::{Shape, Source};
 use pit_host::{ByteOffset, Durable, Line, Opened, Options, SyncAt};
 use std::fs::File;
 use std::os::unix::fs::FileExt;
@@ -20,22 +20,22 @@ pub struct Closed {
 }
 
 impl Closed {
-    pub fn open(self) -> (InFolder, Opened) {
+    pub fn open(self) -> (OursDurable, Opened) {
         let opened = Durable::open(&self.path, self.options);
         let (store, opened) = opened.expect("the folder opens");
-        (InFolder { about: self, store }, opened)
+        (OursDurable { about: self, store }, opened)
     }
 }
 
 /// The store of this repository in a folder. It makes no checkpoint by itself.
-pub struct InFolder {
+pub struct OursDurable {
     about: Closed,
     store: Durable,
 }
 
-impl InFolder {
+impl OursDurable {
     /// In a new folder, with the updates that stand in its saved store, and room for so many pages more.
-    pub fn new(path: PathBuf, sync: SyncAt, shape: &Shape, more: usize) -> InFolder {
+    pub fn new(path: PathBuf, sync: SyncAt, shape: &Shape, more: usize) -> OursDurable {
         let mut ours = Ours::with_room(shape, more);
         ours.updates(&shape.standing(), &Source::new(shape.page_size));
         let about = Closed {
@@ -44,7 +44,7 @@ impl InFolder {
             options: Options::new().sync(sync).checkpoint_at(0),
         };
         let store = Durable::create(&about.path, ours.into_store(), about.options);
-        InFolder {
+        OursDurable {
             store: store.expect("there can be a folder on the disk"),
             about,
         }
@@ -69,7 +69,7 @@ impl InFolder {
     }
 }
 
-impl Writing for InFolder {
+impl Writing for OursDurable {
     fn update(&self, first: usize, bytes: &[u8]) {
         update(&self.store, self.about.page_size, first, bytes);
     }
@@ -80,21 +80,21 @@ impl Writing for InFolder {
 }
 
 /// A file to whose end the bytes of each update are written, and then synced.
-pub struct Plain {
+pub struct PlainFile {
     file: File,
     length: AtomicU64,
 }
 
-impl Plain {
-    pub fn new(path: &Path) -> Plain {
-        Plain {
+impl PlainFile {
+    pub fn new(path: &Path) -> PlainFile {
+        PlainFile {
             file: File::create(path).expect("there can be a file on the disk"),
             length: AtomicU64::new(0),
         }
     }
 }
 
-impl Writing for Plain {
+impl Writing for PlainFile {
     fn update(&self, _first: usize, bytes: &[u8]) {
         let end = self.length.fetch_add(bytes.len() as u64, Relaxed);
         let written = self.file.write_all_at(bytes, end);

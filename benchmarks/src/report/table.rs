@@ -3,11 +3,11 @@
 pub mod disk;
 pub mod threads;
 
-use crate::grouped::grouped;
-use crate::in_work::IN_WORK;
-use crate::measure::{LineTimes, ARC, CONTENDERS, LMDB, MEMCPY, OURS};
-use crate::shape::Shape;
-use crate::stamps;
+use crate::contenders::in_work::IN_WORK;
+use crate::measures::stamps;
+use crate::measures::timing::{LineTimes, ARC, CONTENDERS, LMDB, MEMCPY, OURS};
+use crate::numbers::with_commas;
+use crate::workload::Shape;
 
 /// What is measured.
 #[derive(Clone, Copy, Debug, PartialEq, Eq, PartialOrd, Ord)]
@@ -69,9 +69,9 @@ fn front(what: What, shape: Shape) -> String {
     format!(
         "{:<21}{:>6}{:>7}{:>9}  ",
         what.name(),
-        grouped(shape.page_size),
-        grouped(shape.blob),
-        grouped(shape.updates),
+        with_commas(shape.page_size),
+        with_commas(shape.blob),
+        with_commas(shape.updates),
     )
 }
 
@@ -103,10 +103,10 @@ pub fn line_of_stamps(setting: stamps::Setting, time: f64) -> String {
     format!(
         "{:<21}{:>6}{:>7}{:>9}  {:>9}{:>12}{:>12}",
         "STAMP",
-        grouped(shape.page_size),
-        grouped(shape.blob),
-        grouped(shape.updates),
-        grouped(setting.resent),
+        with_commas(shape.page_size),
+        with_commas(shape.blob),
+        with_commas(shape.updates),
+        with_commas(setting.resent),
         shown(time),
         each,
     )
@@ -134,7 +134,7 @@ pub fn shown(figure: f64) -> String {
     if figure < 100.0 {
         format!("{figure:.1}")
     } else {
-        grouped(figure.round() as usize)
+        with_commas(figure.round() as usize)
     }
 }
 
@@ -144,6 +144,6 @@ pub fn shown_ratio(ratio: f64) -> String {
         r if r < 0.1 => format!("{r:.4}"),
         r if r < 10.0 => format!("{r:.2}"),
         r if r < 100.0 => format!("{r:.1}"),
-        r => grouped(r.round() as usize),
+        r => with_commas(r.round() as usize),
     }
 }

@@ -1,15 +1,15 @@
 //! The tables of what is on a disk: waits beside a save, synced updates, and recovery.
 
 use super::{shown, shown_ratio};
-use crate::grouped::grouped;
-use crate::measure::median;
-use crate::recovery;
-use crate::synced::{self, What, NAMES, OURS, THREADS};
-use crate::waits::{Longest, Saved, BESIDE};
+use crate::measures::latency::{Longest, Saved, BESIDE};
+use crate::measures::recovery;
+use crate::measures::synced::{self, What, NAMES, OURS, THREADS};
+use crate::measures::timing::median;
+use crate::numbers::with_commas;
 use std::time::Duration;
 
 /// A sort of call: the median and the greatest of its longest times, in milliseconds; and the lines above these rows.
-pub fn line_of_waits(longest: &Longest) -> String {
+pub fn line_of_latencies(longest: &Longest) -> String {
     let mut line = format!("{:<21}", longest.call);
     for times in &longest.beside {
         let times: Vec<f64> = times.iter().map(milliseconds).collect();
@@ -19,7 +19,7 @@ pub fn line_of_waits(longest: &Longest) -> String {
     line
 }
 
-pub fn heading_of_waits() -> String {
+pub fn heading_of_latencies() -> String {
     let beside = BESIDE.map(|beside| format!("{beside:>20}")).concat();
     let columns = BESIDE.map(|_| format!("{:>10}{:>10}", "median", "most"));
     let columns = columns.concat();
@@ -29,7 +29,7 @@ pub fn heading_of_waits() -> String {
 pub fn line_of_save(what: &str, saved: Saved) -> String {
     let (time, bytes) = (
         shown(milliseconds(&saved.took)),
-        grouped(saved.bytes as usize),
+        with_commas(saved.bytes as usize),
     );
     format!("{what:<61}{time:>10} ms{bytes:>15} bytes")
 }
@@ -79,10 +79,10 @@ pub fn heading_of_synced() -> String {
 pub fn line_of_recovery(row: &recovery::Row) -> String {
     format!(
         "{:<21}{:>10}{:>10}{:>15}{:>15}",
-        grouped(row.updates),
+        with_commas(row.updates),
         row.pages,
-        grouped(row.entries as usize),
-        grouped(row.bytes as usize),
+        with_commas(row.entries as usize),
+        with_commas(row.bytes as usize),
         shown(row.seconds * 1e3),
     )
 }

@@ -1,19 +1,12 @@
 //! The targets, each against its row of the table.
 
-use crate::grouped::grouped;
-use crate::measure::{LineTimes, ARC, LMDB, MEMCPY};
-use crate::shape::Shape;
-use crate::table::disk::milliseconds;
-use crate::table::{shown_ratio, threads as thread_table, Row, What};
-use crate::threads;
-use crate::waits::Waits;
-
-/// Where the targets are set: 4,096 pages of 4,096 bytes, 100 updates standing; some with more.
-pub const SHAPE: Shape = Shape {
-    page_size: 4_096,
-    blob: 4_096,
-    updates: 100,
-};
+use crate::measures::latency::Latencies;
+use crate::measures::threads;
+use crate::measures::timing::{LineTimes, ARC, LMDB, MEMCPY};
+use crate::numbers::with_commas;
+use crate::report::table::disk::milliseconds;
+use crate::report::table::{shown_ratio, threads as thread_table, Row, What};
+use crate::workload::{Shape, TARGET_SHAPE};
 
 /// What may, with so many updates standing, be at most how many times what.
 const TARGETS: [(What, usize, usize, f64); 10] = [
@@ -33,13 +26,16 @@ const TARGETS: [(What, usize, usize, f64); 10] = [
 const VIEW_ON_LINES: f64 = 1.5;
 
 /// No call may take longer than so many milliseconds while the largest store is saved.
-const WAIT: f64 = 5.0;
+const LATENCY: f64 = 5.0;
 
 /// A line a target: what was asked, what was measured, and whether it was met.
 pub fn lines(rows: &[Row], on_lines: &[(What, Shape, LineTimes)]) -> Vec<String> {
     let mut lines = Vec::new();
     for (what, updates, to, most) in TARGETS {
-        let shape = Shape { updates, ..SHAPE };
+        let shape = Shape {
+            updates,
+            ..TARGET_SHAPE
+        };
         let row = rows.iter().find(|r| r.what == what && r.shape == shape);
         let measured = row.and_then(|row| row.ratio(to));
         let measured = measured.expect("the targets' rows are in the table");
@@ -57,7 +53,7 @@ pub fn lines(rows: &[Row], on_lines: &[(What, Shape, LineTimes)]) -> Vec<String>
 }
 
 fn line(what: What, updates: usize, other: &str, most: f64, measured: f64) -> String {
-    let what = format!("{:<21}{:>7}", what.name(), grouped(updates));
+    let what = format!("{:<21}{:>7}", what.name(), with_commas(updates));
     of(&what, other, most, measured)
 }
 
@@ -72,17 +68,17 @@ pub fn of_threads(rows: &[threads::Row]) -> Vec<String> {
 }
 
 /// No call waits for a save.
-pub fn of_waits(waits: &Waits) -> Vec<String> {
-    let line = |longest: &crate::waits::Longest| {
+pub fn of_latencies(latencies: &Latencies) -> Vec<String> {
+    let line = |longest: &crate::measures::latency::Longest| {
         let most = longest.beside_its_save().iter().map(milliseconds);
         of(
             longest.call,
             "ms, beside a save",
-            WAIT,
+            LATENCY,
             most.fold(0.0, f64::max),
         )
     };
-    waits.calls.iter().map(line).collect()
+    latencies.calls.iter().map(line).collect()
 }
 
 fn of(what: &str, other: &str, most: f64, measured: f64) -> String {

@@ -1,11 +1,11 @@
 //! Stores that threads share, as a user would: this one by the host's `Shared` and its snapshots, and LMDB.
 
-use crate::contender::Contender;
-use crate::lmdb::Threads;
-use crate::opaque::opaque;
-use crate::ours::Ours;
-use crate::shape::{Shape, Source};
-use crate::threads::UPDATES_A_TURN;
+use crate::black_box::black_box;
+use crate::contenders::lmdb::Threads;
+use crate::contenders::ours::Ours;
+use crate::contenders::Contender;
+use crate::measures::threads::UPDATES_A_TRIAL;
+use crate::workload::{Shape, Source};
 use pit_host::{ByteOffset, Handle, Line, Log, PageIndex, Shared, Snapshot, Store};
 use std::fmt::Debug;
 
@@ -40,7 +40,7 @@ where
 {
     let pages: Vec<&[u8]> = bytes.chunks_exact(page_size).collect();
     let updated = store.update(LIVE, PageIndex(first as u64), &pages);
-    opaque(updated.expect(ACCEPTED));
+    black_box(updated.expect(ACCEPTED));
 }
 
 /// By what a reader of this store views.
@@ -62,9 +62,9 @@ pub struct OursShared {
 }
 
 impl OursShared {
-    /// With the updates that stand, and room for those of a turn.
+    /// With the updates that stand, and room for those of a trial.
     pub fn new(shape: &Shape, source: &Source) -> OursShared {
-        let mut ours = Ours::with_room(shape, UPDATES_A_TURN);
+        let mut ours = Ours::with_room(shape, UPDATES_A_TRIAL);
         ours.updates(&shape.standing(), source);
         let standing = ours.into_store();
         OursShared {
@@ -94,7 +94,7 @@ impl OursShared {
             let version = self.shared.recent(LIVE).expect(ACCEPTED);
             for &page in pages {
                 let look = |bytes: &[u8]| {
-                    opaque(bytes);
+                    black_box(bytes);
                 };
                 let page = PageIndex(page as u64);
                 let view = self.shared.with_view(LIVE, version, page, look);
@@ -108,7 +108,7 @@ fn views_by(mut snapshot: Snapshot) -> Views<'static> {
     Box::new(move |pages| {
         snapshot.advance().expect(ACCEPTED);
         for &page in pages {
-            opaque(snapshot.view(PageIndex(page as u64)).expect(ACCEPTED));
+            black_box(snapshot.view(PageIndex(page as u64)).expect(ACCEPTED));
         }
     })
 }
@@ -163,7 +163,7 @@ impl Sharing for LmdbShared<'_> {
         let mut reader = self.database.reader();
         Box::new(move |pages| {
             reader.each(pages, |bytes| {
-                opaque(bytes);
+                black_box(bytes);
             })
         })
     }

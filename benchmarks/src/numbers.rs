@@ -1,7 +1,7 @@
 //! Numbers as they are shown.
 
 /// A number with commas: 4,096.
-pub fn grouped(number: usize) -> String {
+pub fn with_commas(number: usize) -> String {
     let digits = number.to_string();
     let mut text = String::new();
     for (i, digit) in digits.chars().enumerate() {

@@ -1,8 +1,8 @@
 //! The store of this repository, by the host library's calls.
 
-use crate::contender::Contender;
-use crate::measure::BATCH;
-use crate::shape::{Shape, MOST};
+use crate::contenders::Contender;
+use crate::measures::timing::BATCH;
+use crate::workload::{Shape, MOST};
 use pit_host::{ByteOffset, Limits, Line, Minute, PageIndex, Record, State, Store, Version};
 use std::mem::size_of;
 

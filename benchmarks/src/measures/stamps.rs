@@ -1,11 +1,11 @@
 //! STAMP of a page that updates have resent unchanged. No other contender has such a call.
 
-use crate::contender::Contender;
-use crate::measure::{median, time, ROUNDS};
-use crate::opaque::opaque;
-use crate::ours::Ours;
+use crate::black_box::black_box;
+use crate::contenders::ours::Ours;
+use crate::contenders::Contender;
+use crate::measures::timing::{median, time, ROUNDS};
 use crate::random::Random;
-use crate::shape::{Shape, Source, MOST};
+use crate::workload::{Shape, Source, MOST};
 use pit_host::{Line, PageIndex, Store, Version};
 
 /// The page that is asked for, of the blob's last append.
@@ -80,8 +80,8 @@ impl Setting {
         let calls = (4_096 / (self.resent + 1)).max(1);
         let stamps = || {
             for _ in 0..calls {
-                let stamp = store.stamp(Line(0), opaque(newest), page);
-                assert_eq!(opaque(stamp), Ok(Version(FILLING as u64)));
+                let stamp = store.stamp(Line(0), black_box(newest), page);
+                assert_eq!(black_box(stamp), Ok(Version(FILLING as u64)));
             }
         };
         stamps();

@@ -8,9 +8,9 @@
 //! saved, and while a copy of the store is that nobody shares: what is longer beside the store's own save than beside the
 //! copy's is waited for.
 
-use crate::opaque::opaque;
-use crate::scratch::Scratch;
-use crate::shape::Source;
+use crate::black_box::black_box;
+use crate::measures::scratch::Scratch;
+use crate::workload::Source;
 use pit_host::{FileError, Limits, Line, Minute, PageIndex, Shared, Snapshot, Store, Version};
 use std::path::Path;
 use std::sync::atomic::{AtomicBool, Ordering::Relaxed};
@@ -64,7 +64,7 @@ pub struct Saved {
 }
 
 /// What was measured: the calls, the last save of the full store, and one of a store with the same limits and few updates.
-pub struct Waits {
+pub struct Latencies {
     pub calls: Vec<Longest>,
     pub full: Saved,
     pub few: Saved,
@@ -74,7 +74,7 @@ pub struct Waits {
 type Call<'a> = &'a (dyn Fn(PageIndex) + Sync);
 
 /// All that is measured, with the files on this disk.
-pub fn measure(disk: &Path) -> Waits {
+pub fn measure(disk: &Path) -> Latencies {
     let scratch = Scratch::new(disk, "saving");
     let (place, shared) = (scratch.path("full"), store_of(UPDATES));
     let full = saved(&place, || shared.save(&place));
@@ -90,7 +90,7 @@ pub fn measure(disk: &Path) -> Waits {
     let calls = calls_beside(beside, &shared);
     let (place, shared) = (scratch.path("few"), store_of(FEW));
     let few = saved(&place, || shared.save(&place));
-    Waits { calls, full, few }
+    Latencies { calls, full, few }
 }
 
 /// A store of the largest limits after so many updates.
@@ -130,10 +130,10 @@ fn calls_beside(beside: Beside<'_>, shared: &Shared) -> Vec<Longest> {
     let snapshot = || shared.snapshot(LIVE, newest).expect(ACCEPTED);
     let (unfilled, filled) = (snapshot(), snapshot().filled().expect(ACCEPTED));
     let view = |snapshot: &Snapshot, page| {
-        opaque(snapshot.view(page).expect(ACCEPTED));
+        black_box(snapshot.view(page).expect(ACCEPTED));
     };
     let look = |bytes: &[u8]| {
-        opaque(bytes);
+        black_box(bytes);
     };
     let with_view = |page| shared.with_view(LIVE, newest, page, look).expect(ACCEPTED);
     let readers: [(_, Call<'_>); 3] = [

@@ -1,9 +1,9 @@
 //! The plot: cost against the number of updates.
 
-use crate::grouped::grouped;
-use crate::measure::{ARC, LMDB, MEMCPY, OURS};
-use crate::svg::{frame, line, rule, text, Point};
-use crate::table::{Row, What};
+use crate::measures::timing::{ARC, LMDB, MEMCPY, OURS};
+use crate::numbers::with_commas;
+use crate::report::svg::{frame, line, rule, text, Point};
+use crate::report::table::{Row, What};
 
 const SIZE: Point = (1080.0, 700.0);
 /// Panels stand in cells of this size, the first of them below the title; how far inside, and how large they are.
@@ -155,7 +155,7 @@ fn grid(scale: &Scale) -> String {
     for updates in UPDATES {
         let x = scale.x(updates);
         svg += &rule((x, top), (x, bottom));
-        svg += &text((x, bottom + 16.0), "middle", 12, &grouped(updates));
+        svg += &text((x, bottom + 16.0), "middle", 12, &with_commas(updates));
     }
     let middle = (left + right) / 2.0;
     svg += &text((middle, bottom + 34.0), "middle", 12, "updates");
@@ -183,7 +183,7 @@ fn legend(corner: Point) -> String {
     }
     for (blob, dashed) in BLOBS {
         let line = if dashed { "dashed" } else { "solid" };
-        let words = format!("{line}: a blob of {} pages", grouped(blob));
+        let words = format!("{line}: a blob of {} pages", with_commas(blob));
         entry("#222222", dashed, &words);
     }
     svg
