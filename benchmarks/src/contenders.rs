@@ -29,6 +29,14 @@ pub trait Contender {
         to.copy_from_slice(self.view(version, page));
     }
 
+    /// So many pages of a version that follow each other, copied into `to`, which is as long as they are.
+    fn read_run(&self, version: usize, run: Update, to: &mut [u8]) {
+        let page_size = to.len() / run.pages;
+        for (page, to) in (run.first..).zip(to.chunks_exact_mut(page_size)) {
+            self.read(version, page, to);
+        }
+    }
+
     /// Whether older versions can still be read. Where not, the version asked for is passed over.
     fn keeps_versions(&self) -> bool;
 
@@ -50,6 +58,14 @@ pub trait Contender {
     fn reads(&self, version: usize, pages: &[usize], to: &mut [u8]) {
         for &page in pages {
             self.read(version, page, to);
+            black_box(&mut *to);
+        }
+    }
+
+    /// Timed: READ of each run of pages.
+    fn long_reads(&self, version: usize, runs: &[Update], to: &mut [u8]) {
+        for &run in runs {
+            self.read_run(version, run, to);
             black_box(&mut *to);
         }
     }

@@ -1,7 +1,7 @@
 //! The bytes alone: one run of memory, copied from and to. It keeps no versions; it is the floor.
 
 use crate::contenders::Contender;
-use crate::workload::Shape;
+use crate::workload::{Shape, Update};
 
 pub struct Memcpy {
     page_size: usize,
@@ -24,6 +24,10 @@ impl Contender for Memcpy {
 
     fn view(&self, _version: usize, page: usize) -> &[u8] {
         &self.bytes[page * self.page_size..][..self.page_size]
+    }
+
+    fn read_run(&self, _version: usize, run: Update, to: &mut [u8]) {
+        to.copy_from_slice(&self.bytes[run.first * self.page_size..][..to.len()]);
     }
 
     fn keeps_versions(&self) -> bool {

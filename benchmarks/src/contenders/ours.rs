@@ -2,7 +2,7 @@
 
 use crate::contenders::Contender;
 use crate::measures::timing::BATCH;
-use crate::workload::{Shape, MOST};
+use crate::workload::{Shape, Update, MOST};
 use pit_host::{ByteOffset, Limits, Line, Minute, PageIndex, Record, State, Store, Version};
 use std::mem::size_of;
 
@@ -74,6 +74,10 @@ impl Contender for Ours {
         self.store
             .read(LIVE, Version(version as u64), offset, to)
             .expect(ACCEPTED);
+    }
+
+    fn read_run(&self, version: usize, run: Update, to: &mut [u8]) {
+        self.read(version, run.first, to); // in one call
     }
 
     fn keeps_versions(&self) -> bool {

@@ -119,6 +119,25 @@ impl<const N: usize> Benchmark<N> {
         })
     }
 
+    /// READ of `pages` pages of the newest version that follow each other, at random places. A round reads as many pages as one of READ of
+    /// single pages does.
+    pub fn long_reads(&mut self, pages: usize) -> [f64; N] {
+        let runs = self.shape.random_updates(3, READS / pages, pages);
+        let (version, length) = (self.shape.updates, pages * self.shape.page_size);
+        let mut to = vec![0; length];
+        rounds(&mut self.contenders, |contender, round, times| {
+            contender.before_reads();
+            if round == 0 {
+                check_run(contender, version, runs[0], length);
+            }
+            contender.long_reads(version, &runs[..WARM_READS / pages], &mut to);
+            for piece in runs.chunks_exact(READ_PIECE / pages) {
+                let reads = || contender.long_reads(version, piece, &mut to);
+                times.push(time(piece.len(), reads));
+            }
+        })
+    }
+
     /// VIEW of random pages of the newest version.
     pub fn views(&mut self) -> [f64; N] {
         let pages = self.shape.random_pages(3, READS);
@@ -174,6 +193,15 @@ impl<const N: usize> Benchmark<N> {
             }
         }
     }
+}
+
+/// A run of pages has the bytes of its pages.
+fn check_run(contender: &dyn Contender, version: usize, run: Update, length: usize) {
+    let mut to = vec![0; length];
+    contender.read_run(version, run, &mut to);
+    let pages = run.first..run.first + run.pages;
+    let views: Vec<&[u8]> = pages.map(|page| contender.view(version, page)).collect();
+    assert!(to == views.concat(), "READ of {run:?}");
 }
 
 /// The median of each contender's times. In each round every contender has its turn, and another is first.

@@ -24,6 +24,7 @@ Times      in nanoseconds a call, on one thread: the median of pieces timed in {
 Buffers    All memory has been touched before: page area, heap, LMDB's file. READ and memcpy copy random pages of the
            newest version, in the cache only as far as the whole blob fits, to one page that is in the cache.
            VIEW gives a page's slice and touches no byte of it. An update's bytes come from 128 pages in the cache.
+           READ of several pages: those that follow a random one. Ours and memcpy in one call, the others page by page.
 Blob       Filled by appends of 64 pages, then writes of one random page up to the number of updates. Updates are
            timed on top of these, 64 at random places; then ours and Arc go back to just these for the next round.
 In work    Updates beside {IN_WORK} tickets: each is woven but for its last node, and then the oldest in work gets its last

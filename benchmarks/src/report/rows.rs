@@ -29,6 +29,11 @@ pub fn shapes(page_size: usize) -> Vec<Shape> {
     shapes
 }
 
+/// Whether reads of several pages are measured: in the largest blob, with few updates and with many.
+fn has_long_reads(shape: Shape) -> bool {
+    shape.page_size >= 256 && shape.blob == TARGET_SHAPE.blob && shape.updates != 1_000
+}
+
 /// The rows of one blob's times.
 pub fn times(shape: Shape) -> Vec<Row> {
     eprintln!("pit-bench: measuring {shape}");
@@ -37,6 +42,10 @@ pub fn times(shape: Shape) -> Vec<Row> {
     let mut views = benchmark.views();
     views[MEMCPY] = reads[MEMCPY];
     let mut times = vec![(What::Read, reads), (What::View, views)];
+    if has_long_reads(shape) {
+        let mut row = |pages| (What::LongRead(pages), benchmark.long_reads(pages));
+        times.extend([4, 16, 64].map(&mut row));
+    }
     for pages in [1, 8, 64] {
         times.push((What::Update(pages), benchmark.updates(pages)));
     }

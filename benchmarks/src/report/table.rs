@@ -13,6 +13,8 @@ use crate::workload::Shape;
 #[derive(Clone, Copy, Debug, PartialEq, Eq, PartialOrd, Ord)]
 pub enum What {
     Read,
+    /// READ of so many pages that follow each other.
+    LongRead(usize),
     View,
     /// A whole update of so many pages.
     Update(usize),
@@ -26,6 +28,7 @@ impl What {
     pub fn name(self) -> String {
         match self {
             What::Read => "READ".into(),
+            What::LongRead(pages) => format!("READ of {pages} pages"),
             What::View => "VIEW".into(),
             What::Update(1) => "update of 1 page".into(),
             What::Update(pages) => format!("update of {pages} pages"),
