@@ -2,9 +2,10 @@
 
 use crate::folder::Folder;
 use crate::support::entries::entries;
+use crate::support::process::in_a_process;
 use pit_host::{inspect, Cut, Durable, Limits, Opened, Options, Store, SyncAt, Ticket};
 use std::fs::{self, OpenOptions};
-use std::os::unix::fs::{FileExt, MetadataExt, PermissionsExt};
+use std::os::unix::fs::{FileExt, MetadataExt};
 use std::time::{Duration, Instant};
 
 const ENTRIES: u64 = 20;
@@ -56,8 +57,6 @@ fn whole_entries_that_are_cut_off_are_kept_beside() {
     let place = Folder::new("kept");
     let journal = killed(&place);
     let (damaged, begin) = damaged(&journal);
-    let private = fs::Permissions::from_mode(0o640);
-    fs::set_permissions(place.path("journal-1"), private).unwrap();
     for round in 1..=3 {
         fs::write(place.path("journal-1"), &damaged).unwrap();
         let _ = fs::remove_file(place.path("closed")); // as where it was not closed
@@ -74,7 +73,7 @@ fn whole_entries_that_are_cut_off_are_kept_beside() {
         assert!(cut.to_string().ends_with(&words), "{cut}");
         assert!(fs::read(place.path(&name)).unwrap() == damaged[begin..]);
         let mode = fs::metadata(place.path(&name)).unwrap().mode();
-        assert_eq!(mode & 0o777, 0o640);
+        assert_eq!(mode & 0o777, 0o600);
         assert_eq!(durable.entries().0, 4);
     }
     // nothing removes them, and they are no journals
@@ -134,6 +133,12 @@ fn opened_with_little(place: &Folder) -> Cut {
 /// A journal with a hole of 8 GiB behind its entries; and with an entry behind the hole, of which a copy is kept with the hole in it.
 #[test]
 fn a_sparse_journal_takes_little_memory() {
+    in_a_process("kept_cuts::opens_a_sparse_journal");
+}
+
+#[test]
+#[ignore = "a part that another test runs in a process of its own"]
+fn opens_a_sparse_journal() {
     const HOLE: u64 = 8 << 30;
     let place = Folder::in_memory("kept-sparse");
     let journal = killed(&place);

@@ -43,14 +43,16 @@ fn set_length(place: &Folder, name: &str, length: usize) {
 fn run(part: &str, folder: &Folder, most: u64) {
     let blocks = most / bytes_of_a_block(folder);
     let limit = format!("trap '' XFSZ; ulimit -f {blocks}; exec \"$@\"");
-    let status = Command::new("sh")
+    // what it says is read here: a file that it went to would be under the limit too
+    let output = Command::new("sh")
         .args(["-c", &limit, "sh"])
         .arg(std::env::current_exe().unwrap())
         .args(["--ignored", "--exact", "no_room::as_a_child"])
         .env("PIT_CHILD", part)
         .env("PIT_CHILD_FOLDER", &folder.0)
-        .status();
-    assert!(status.unwrap().success());
+        .output()
+        .unwrap();
+    assert!(output.status.success(), "{output:?}");
 }
 
 /// Shells count in blocks of 512 or 1,024 bytes.

@@ -348,24 +348,26 @@ fn modes(folder: &Path) -> BTreeMap<String, u32> {
 
 /// A folder of four generations, each with files of just this mode. Gives the folder's own.
 fn make_generations(folder: &Path, options: Options) -> String {
-    let check = |generation: u64| {
+    let check = |generation: u64, was_closed: bool| {
         let store = format!("store-{generation}");
         let journal = format!("journal-{generation}");
-        let due = [journal, "lock".into(), store].map(|name| (name, options.mode));
-        assert_eq!(modes(folder), BTreeMap::from(due));
+        let mut due = vec![journal, "lock".into(), store];
+        due.extend(was_closed.then(|| "closed".to_string()));
+        let due = due.into_iter().map(|name| (name, options.mode));
+        assert_eq!(modes(folder), due.collect());
     };
     let durable = Durable::create(folder, store(), options).unwrap();
-    check(1);
+    check(1, false);
     durable.append_pages(LIVE, &[&[1; 16]]).unwrap();
     durable.checkpoint().unwrap();
-    check(2);
+    check(2, false);
     durable.rebuild(durable.limits(), &[]).unwrap();
-    check(3);
+    check(3, false);
     drop(durable);
     let (durable, _) = Durable::open(folder, options).unwrap();
-    check(3);
+    check(3, true);
     durable.checkpoint().unwrap();
-    check(4);
+    check(4, true);
     format!("{:o}", mode(folder))
 }
 

@@ -1,11 +1,11 @@
 //! A folder whose journal cannot be written goes on in the same process, once there is room again; and a folder that is closed.
 
 use crate::folder::Folder;
+use crate::support::process::in_a_process;
 use pit_host::{
     Durable, Error, Failure, FileError, Limits, Line, Minute, Opened, Options, PageIndex, Shared,
     Store, SyncAt, Ticket, Version,
 };
-use std::process::Command;
 use std::sync::atomic::{AtomicBool, Ordering};
 use std::thread;
 use std::time::{Duration, Instant};
@@ -77,19 +77,6 @@ fn limit(bytes: u64) {
 fn end_after(seconds: u32) {
     // SAFETY: it takes a number.
     unsafe { alarm(seconds) };
-}
-
-/// Runs a test of this program in a process of its own: the limit is that of all its threads.
-fn in_a_process(test: &str) {
-    let mut command = Command::new(std::env::current_exe().unwrap());
-    command.args(["--ignored", "--exact", "--nocapture", test]);
-    let output = command.output().unwrap();
-    let said = String::from_utf8_lossy(&output.stdout);
-    let complaint = String::from_utf8_lossy(&output.stderr);
-    assert!(
-        output.status.success() && said.contains("1 passed"),
-        "{said}{complaint}"
-    );
 }
 
 #[test]

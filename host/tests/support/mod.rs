@@ -7,6 +7,7 @@ pub mod draw;
 pub mod entries;
 pub mod folder;
 pub mod in_memory;
+pub mod process;
 pub mod random;
 pub mod script;
 pub mod updates;

@@ -114,6 +114,7 @@ impl Site {
             });
             let trucks: Vec<_> = trucks.collect();
             threads.spawn(|| self.fire());
+            self.shared.windows_are(WINDOW); // whichever thread comes first finds it
             drop(gathering);
             self.finish_some(ended);
             drop(writing);
@@ -143,15 +144,16 @@ impl Site {
         Reader::new(&self.shared, random).ride(READS, &self.writing)
     }
 
-    /// Sets a window and takes it away again, as long as anybody writes.
+    /// Takes the window away and sets it again, as long as anybody writes.
     fn fire(&self) {
         drop(self.gathering.read());
         while self.writing.try_read().is_err() {
-            for list in [WINDOW, ""] {
-                self.shared.windows_are(list);
+            for list in ["", WINDOW] {
                 thread::sleep(Duration::from_millis(1));
+                self.shared.windows_are(list);
             }
         }
+        self.shared.windows_are("");
     }
 
     /// As writers end, finishes the first versions that are left unfinished.

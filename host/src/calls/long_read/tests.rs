@@ -1,15 +1,12 @@
 //! READ of many pages answers as the proved READ does, over stores that calls left and over others. `PIT_SEED` names
 //! the first seed, `PIT_SCENES` how many scenes there are.
 
-#[path = "../../../tests/random/mod.rs"]
-mod random;
-
 use super::*;
 use crate::calls::areas::Limits;
 use crate::calls::counters::Minute;
 use crate::calls::error::Error;
+use crate::disk::journal::tests::random::Random;
 use crate::shared::Shared;
-use random::Random;
 
 const SIZE: u64 = 16;
 const BLOB: u64 = 24;
@@ -42,7 +39,8 @@ fn update(store: &mut Store, random: &mut Random, line: Line, pages: std::ops::R
     let first = PageIndex(pages.start);
     store.write(line, ticket, first).expect(ACCEPTED);
     while store.weave(ticket).expect(ACCEPTED).rest > 0 {}
-    store.publish(line, Minute(0)).expect(ACCEPTED);
+    let published = store.publish(line, Minute(0)).expect(ACCEPTED);
+    assert!(published.version().is_some());
 }
 
 /// The same with a number of its nodes, of its register or of its state changed, or several.
@@ -109,7 +107,7 @@ fn try_read(random: &mut Random, store: &Store, shared: &Shared) -> Answer {
 #[test]
 fn a_read_of_many_pages_answers_as_read() {
     let mut counts = [0; 5];
-    random::scenes("a_read_of_many_pages", SCENES, |mut random| {
+    crate::disk::journal::tests::random::scenes("a_read_of_many_pages", SCENES, |mut random| {
         let whole = store(&mut random);
         let store = damaged(whole, &mut random);
         let shared = Shared::new(store.clone());
@@ -125,7 +123,7 @@ fn a_read_of_many_pages_answers_as_read() {
             counts[at] += 1;
         }
     });
-    let fewer = random::named("PIT_SCENES", SCENES) < SCENES;
+    let fewer = crate::disk::journal::tests::random::named("PIT_SCENES", SCENES) < SCENES;
     assert!(fewer || counts.iter().all(|count| *count > 0), "{counts:?}");
 }
 
