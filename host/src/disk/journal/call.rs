@@ -1,5 +1,6 @@
 //! The calls that change a store.
 
+use super::entry::Numbers;
 use crate::calls::areas::Storage;
 use crate::calls::counters::{Line, Minute, PageIndex, Ticket, Version};
 use crate::calls::error::Error;
@@ -77,7 +78,53 @@ pub enum ReplayError {
     NotPublished(Published),
 }
 
-impl Call<'_> {
+// The kinds of entries that are calls.
+const BEGIN: u64 = 1;
+const PUT: u64 = 2;
+const WRITE: u64 = 3;
+const APPEND: u64 = 4;
+const WEAVE: u64 = 5;
+const PUBLISH: u64 = 6;
+const SET_WINDOWS: u64 = 7;
+const BRANCH: u64 = 8;
+
+impl<'a> Call<'a> {
+    /// Its kind and its arguments, and its page or text, as an entry has them.
+    #[rustfmt::skip]
+    pub(super) fn parts(&self) -> (Numbers, &'a [u8]) {
+        match *self {
+            Call::Begin { n } => ([BEGIN, n, 0, 0, 0, 0], &[]),
+            Call::Put { ticket, i, bytes } => ([PUT, ticket, i, 0, 0, 0], bytes),
+            Call::Write { line, ticket, first } => ([WRITE, line, ticket, first, 0, 0], &[]),
+            Call::Append { line, ticket } => ([APPEND, line, ticket, 0, 0, 0], &[]),
+            Call::Weave { ticket, count } => ([WEAVE, ticket, count, 0, 0, 0], &[]),
+            Call::Publish { line, minute } => ([PUBLISH, line, minute, 0, 0, 0], &[]),
+            Call::SetWindows { text } => ([SET_WINDOWS, 0, 0, 0, 0, 0], text),
+            Call::Branch { line, version } => ([BRANCH, line, version, 0, 0, 0], &[]),
+        }
+    }
+
+    /// The call of such an entry. None where it is not known here.
+    #[rustfmt::skip]
+    pub(super) fn of(numbers: &Numbers, bytes: &'a [u8]) -> Option<Call<'a>> {
+        Some(match *numbers {
+            [BEGIN, n, .., 0, 0] => Call::Begin { n },
+            [PUT, ticket, i, .., 0, 0] => Call::Put { ticket, i, bytes },
+            [WRITE, line, ticket, first, 0, 0] => Call::Write { line, ticket, first },
+            [APPEND, line, ticket, .., 0, 0] => Call::Append { line, ticket },
+            [WEAVE, ticket, count, .., 0, 0] => Call::Weave { ticket, count },
+            [PUBLISH, line, minute, .., 0, 0] => Call::Publish { line, minute },
+            [SET_WINDOWS, .., 0, 0] => Call::SetWindows { text: bytes },
+            [BRANCH, line, version, .., 0, 0] => Call::Branch { line, version },
+            _ => return None,
+        })
+    }
+
+    /// Whether a page or a text follows the arguments in an entry of this kind.
+    pub(super) fn has_bytes(kind: u64) -> bool {
+        matches!(kind, PUT | SET_WINDOWS)
+    }
+
     /// Makes the call again, on the store as it was before it.
     pub fn apply<A: Storage>(&self, store: &mut Store<A>) -> Result<(), ReplayError> {
         let done = match *self {

@@ -98,32 +98,19 @@ impl<'a> Entry<'a> {
     /// What it holds; its kind, where that or its form is not known here.
     pub fn content(&self) -> Result<Content<'a>, u64> {
         let (numbers, bytes) = self.parts()?;
-        let [kind, a, b, c, ..] = numbers;
-        #[rustfmt::skip]
-        let call = match numbers {
-            // calls with five arguments have their arms here
-            [.., d, e] if (d, e) != (0, 0) => return Err(kind),
-            [SYNCED, 1, ..] => return Ok(Content::Ended),
-            [SYNCED, ..] => return Ok(Content::Synced),
-            [BEGIN, ..] => Call::Begin { n: a },
-            [PUT, ..] => Call::Put { ticket: a, i: b, bytes },
-            [WRITE, ..] => Call::Write { line: a, ticket: b, first: c },
-            [APPEND, ..] => Call::Append { line: a, ticket: b },
-            [WEAVE, ..] => Call::Weave { ticket: a, count: b },
-            [PUBLISH, ..] => Call::Publish { line: a, minute: b },
-            [SET_WINDOWS, ..] => Call::SetWindows { text: bytes },
-            [BRANCH, ..] => Call::Branch { line: a, version: b },
-            _ => return Err(kind),
-        };
-        Ok(Content::Call(call))
+        match numbers {
+            [NOTE_KIND, 0, 0, 0, 0, 0] => Ok(Content::Synced),
+            [NOTE_KIND, 1, 0, 0, 0, 0] => Ok(Content::Ended),
+            [kind, ..] => Call::of(&numbers, bytes).map(Content::Call).ok_or(kind),
+        }
     }
 
     /// Its numbers, the kind first, and the bytes after them; the kind, where it has no such form.
     pub fn parts(&self) -> Result<(Numbers, &'a [u8]), u64> {
         let kind = u64_at(self.payload, 0);
-        let (of_numbers, bytes) = match kind {
-            PUT | SET_WINDOWS => self.payload.split_at(LEAST),
-            _ => (self.payload, &[][..]),
+        let (of_numbers, bytes) = match Call::has_bytes(kind) {
+            true => self.payload.split_at(LEAST),
+            false => (self.payload, &[][..]),
         };
         if of_numbers.len() > MOST_NUMBERS || of_numbers.len() % 8 != 0 {
             return Err(kind);
@@ -150,33 +137,15 @@ pub fn is_cut_off(bytes: &[u8]) -> bool {
     }
 }
 
-const SYNCED: u64 = 0;
-const BEGIN: u64 = 1;
-const PUT: u64 = 2;
-const WRITE: u64 = 3;
-const APPEND: u64 = 4;
-const WEAVE: u64 = 5;
-const PUBLISH: u64 = 6;
-const SET_WINDOWS: u64 = 7;
-const BRANCH: u64 = 8;
+/// The kind of an entry that is no call.
+const NOTE_KIND: u64 = 0;
 
 /// An entry's numbers, the kind first, and the bytes after them.
-#[rustfmt::skip]
 fn parts<'a>(content: &Content<'a>) -> (Numbers, &'a [u8]) {
-    let call = match content {
-        Content::Call(call) => *call,
-        Content::Synced => return ([SYNCED, 0, 0, 0, 0, 0], &[]),
-        Content::Ended => return ([SYNCED, 1, 0, 0, 0, 0], &[]),
-    };
-    match call {
-        Call::Begin { n } => ([BEGIN, n, 0, 0, 0, 0], &[]),
-        Call::Put { ticket, i, bytes } => ([PUT, ticket, i, 0, 0, 0], bytes),
-        Call::Write { line, ticket, first } => ([WRITE, line, ticket, first, 0, 0], &[]),
-        Call::Append { line, ticket } => ([APPEND, line, ticket, 0, 0, 0], &[]),
-        Call::Weave { ticket, count } => ([WEAVE, ticket, count, 0, 0, 0], &[]),
-        Call::Publish { line, minute } => ([PUBLISH, line, minute, 0, 0, 0], &[]),
-        Call::SetWindows { text } => ([SET_WINDOWS, 0, 0, 0, 0, 0], text),
-        Call::Branch { line, version } => ([BRANCH, line, version, 0, 0, 0], &[]),
+    match content {
+        Content::Call(call) => call.parts(),
+        Content::Synced => ([NOTE_KIND, 0, 0, 0, 0, 0], &[]),
+        Content::Ended => ([NOTE_KIND, 1, 0, 0, 0, 0], &[]),
     }
 }
 
