@@ -205,6 +205,19 @@ pub struct Record {
     pub entries: Entries,
 }
 
+impl Record {
+    /// The number of the ticket's page i. None past the last number.
+    pub(crate) fn page_number(&self, i: u64) -> Option<u64> {
+        self.number.checked_add(i)
+    }
+
+    /// Whether the ticket's page i is put.
+    pub(crate) fn is_put(&self, i: u64) -> bool {
+        let bit = u32::try_from(i).ok().and_then(|i| self.put.checked_shr(i));
+        bit.unwrap_or(0) & 1 == 1
+    }
+}
+
 /// A weekly window, during which no version is published, in minutes of the week 0 to 10,079: `from` is inside, `to` is
 /// outside. Where `from` is above `to` it runs over the week's end. One with equal ends has no minute.
 #[repr(C)]

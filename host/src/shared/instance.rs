@@ -91,11 +91,7 @@ impl Instance {
     /// The number of a ticket's page, and whether it is put. None where the register has no such ticket.
     fn page_of(&self, ticket: u64, i: u64) -> Option<(u64, bool)> {
         let record = self.record(ticket)?;
-        let bit = u32::try_from(i)
-            .ok()
-            .and_then(|i| record.put.checked_shr(i));
-        let is_noted = bit.unwrap_or(0) & 1 == 1;
-        Some((record.number.checked_add(i)?, is_noted))
+        Some((record.page_number(i)?, record.is_put(i)))
     }
 
     /// BEGIN. Here and in the calls below, tickets and versions are the store's own numbers.

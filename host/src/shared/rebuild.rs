@@ -322,8 +322,8 @@ impl<'a> Rebuild<'a> {
     /// A ticket in work, with those of its pages that are put.
     fn ticket(&mut self, own: u64, record: &Record) -> Result<(), Error> {
         let ticket = self.new.begin(record.n)?;
-        for i in (0..record.n).filter(|i| record.put >> i & 1 == 1) {
-            let number = record.number.checked_add(i);
+        for i in (0..record.n).filter(|i| record.is_put(*i)) {
+            let number = record.page_number(i);
             let page = number.and_then(|number| self.old.epoch.pages.page(number));
             self.new.put(ticket, i, page.ok_or(Error::Damaged)?)?;
         }

@@ -352,16 +352,16 @@ mod tests {
         (3..=4).for_each(|version| update(&shared, version));
 
         let alone = shared.core.writing();
-        let (tell, told) = channel();
+        let (sender, sent) = channel();
         thread::spawn(move || {
             let (mut bytes, before) = ([0; 32], snapshot.clone());
             let advanced = snapshot.advance();
             let read = snapshot.read(ByteOffset(0), &mut bytes);
             let views = [before.view(PageIndex(1)), snapshot.view(PageIndex(1))];
             let views = views.map(|view| view.map(<[u8]>::to_vec));
-            let _ = tell.send((advanced, read, bytes, views)); // if somebody still listens
+            let _ = sender.send((advanced, read, bytes, views)); // if somebody still listens
         });
-        let told = told.recv_timeout(Duration::from_secs(10));
+        let told = sent.recv_timeout(Duration::from_secs(10));
         drop(alone);
         let views = [Ok(vec![1; 16]), Ok(vec![4; 16])];
         assert_eq!(told, Ok((Ok(true), Ok(()), [4; 32], views)));

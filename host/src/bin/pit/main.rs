@@ -26,7 +26,7 @@ fn main() -> ExitCode {
     let asked = match words::read(env::args_os().skip(1)) {
         Ok(asked) => asked,
         Err(why) => {
-            tell(&format!("pit: {why}\n{USAGE}"));
+            report(&format!("pit: {why}\n{USAGE}"));
             return ExitCode::from(MISUSED);
         }
     };
@@ -39,11 +39,11 @@ fn main() -> ExitCode {
     match answer {
         Ok(bytes) => written(&bytes),
         Err(why) if has_path(&why) => {
-            tell(&format!("pit: {why}"));
+            report(&format!("pit: {why}"));
             ExitCode::FAILURE
         }
         Err(why) => {
-            tell(&format!("pit: {}: {why}", folder.display()));
+            report(&format!("pit: {}: {why}", folder.display()));
             ExitCode::FAILURE
         }
     }
@@ -62,7 +62,7 @@ fn written(bytes: &[u8]) -> ExitCode {
     let mut out = io::stdout();
     match out.write_all(bytes).and_then(|()| out.flush()) {
         Err(e) if e.kind() != ErrorKind::BrokenPipe => {
-            tell(&format!("pit: standard output: {e}"));
+            report(&format!("pit: standard output: {e}"));
             ExitCode::FAILURE
         }
         _ => ExitCode::SUCCESS,
@@ -70,6 +70,6 @@ fn written(bytes: &[u8]) -> ExitCode {
 }
 
 /// A line on standard error; where that is closed, nobody is to be told.
-fn tell(line: &str) {
+fn report(line: &str) {
     let _ = writeln!(io::stderr(), "{line}");
 }

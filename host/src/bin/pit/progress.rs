@@ -13,7 +13,7 @@ const TOLD_EVERY: Duration = Duration::from_secs(1);
 /// Tells now and then what is being done, and how far it is, until it is dropped.
 pub struct Progress {
     now: Arc<Now>,
-    teller: Option<JoinHandle<()>>,
+    reporter: Option<JoinHandle<()>>,
 }
 
 /// What is being done, and nothing once it is over; so much of so much, where it is counted.
@@ -32,11 +32,11 @@ impl Progress {
             done: AtomicUsize::new(0),
             all: AtomicUsize::new(0),
         });
-        let told = Arc::clone(&now);
-        let teller = thread::Builder::new().spawn(move || told.tell());
+        let shown = Arc::clone(&now);
+        let reporter = thread::Builder::new().spawn(move || shown.report());
         Progress {
             now,
-            teller: teller.ok(), // without it nothing is told
+            reporter: reporter.ok(), // without it nothing is told
         }
     }
 
@@ -57,8 +57,8 @@ impl Drop for Progress {
     fn drop(&mut self) {
         *self.now.what() = None;
         self.now.over.notify_all();
-        if let Some(teller) = self.teller.take() {
-            let _ = teller.join();
+        if let Some(reporter) = self.reporter.take() {
+            let _ = reporter.join();
         }
     }
 }
@@ -81,7 +81,7 @@ impl Now {
     }
 
     /// On a terminal in one line, which is cleared in the end.
-    fn tell(&self) {
+    fn report(&self) {
         let (before, after) = match is_terminal() {
             true => ("\r\x1b[K", ""),
             false => ("", "\n"),

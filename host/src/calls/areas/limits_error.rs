@@ -127,7 +127,7 @@ impl fmt::Display for LimitsError {
                     Some(number) => write!(f, "planned update {} ", Grouped(*number))?,
                     None => f.write_str("each update ")?,
                 }
-                wrong.tell(planned, f)
+                wrong.describe(planned, f)
             }
         }
     }
@@ -135,7 +135,7 @@ impl fmt::Display for LimitsError {
 
 impl WrongUpdate {
     /// What is wrong with the update, after the words that name it.
-    fn tell(self, update: &Planned, f: &mut fmt::Formatter<'_>) -> fmt::Result {
+    fn describe(self, update: &Planned, f: &mut fmt::Formatter<'_>) -> fmt::Result {
         let (first, pages) = (update.first.0, update.pages);
         let last = first.saturating_add(pages.saturating_sub(1));
         let [last, pages, size] = [last, pages, update.size_after].map(Grouped);

@@ -85,9 +85,8 @@ fn of_tickets<'a>(register: &'a [Record], state: &State) -> impl Iterator<Item =
 pub fn put_pages<'a>(register: &'a [Record], state: &State) -> impl Iterator<Item = u64> + 'a {
     let (records, pages) = (of_tickets(register, state), state.pages);
     let put = |record: &'a Record| {
-        let is_put = move |i: &u64| (record.put >> i) & 1 == 1;
-        let number = move |i| record.number.checked_add(i);
-        (0..record.n.min(64)).filter(is_put).filter_map(number)
+        let put = (0..record.n.min(64)).filter(move |i| record.is_put(*i));
+        put.filter_map(move |i| record.page_number(i))
     };
     records.flat_map(put).filter(move |number| *number < pages)
 }
