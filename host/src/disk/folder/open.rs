@@ -84,8 +84,8 @@ pub fn read(path: &Path, options: Options) -> Result<(Read, Opened), FileError> 
     if let Some(cut) = &mut opened.cut {
         kept::keep(path, cut, options.file_mode()).map_err(of_io)?;
     }
-    note_ended(path, &found.unended)?;
     let journal = resume(path, &found, options).map_err(of_io)?;
+    note_ended(path, &found.unended)?; // the next one's header is on the disk now
     let _ = files::clear(path, place.store..=place.journal); // what is left does no harm, and the next checkpoint tries again
     new::clear(path);
     let read = Read {
