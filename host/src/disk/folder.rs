@@ -79,7 +79,7 @@ use crate::disk::journal::{is_no_room, new_salt, Header, Journal};
 use crate::shared::numbering::Numbering;
 use closed::Closed;
 use std::fmt;
-use std::fs::{self, File, OpenOptions};
+use std::fs::{self, File};
 use std::io;
 use std::path::{Path, PathBuf};
 use std::sync::{Arc, Mutex, MutexGuard, PoisonError, RwLock};
@@ -299,9 +299,7 @@ impl Folder {
             let generations = self.generations();
             (generations.before, generations.now.journal - 1)
         };
-        let ended = OpenOptions::new()
-            .write(true)
-            .open(files::journal_in(&self.path, generation))?;
+        let ended = plain::to_write(&files::journal_in(&self.path, generation))?;
         self.journal().go_on_after(before, &ended)
     }
 

@@ -185,6 +185,28 @@ fn no_link_is_followed_where_a_folder_goes_on() {
     assert_eq!(generation(), 4);
 }
 
+/// A rebuild that fails notes in the journal before it that it has ended: in that file itself.
+#[test]
+fn no_link_is_followed_where_a_rebuild_fails() {
+    let (place, path, durable) = made("rebuild-links", Options::new());
+    let (journal, aside) = (path.join("journal-1"), place.path("aside"));
+    symlink("nowhere", path.join("store-2")).unwrap(); // so that no store is saved there
+    fs::rename(&journal, &aside).unwrap();
+    links_to_precious(&place, &journal);
+    let rebuilt = durable.rebuild(durable.limits(), &[]);
+    let words = format!("folder/store-2: {IS_A_LINK}");
+    refused_and_untouched(&place, rebuilt.unwrap_err(), &words);
+    let failed = durable.begin(1).unwrap_err();
+    assert!(matches!(
+        failed,
+        Failure::File(FileError::JournalFailed { .. })
+    ));
+    fs::rename(&aside, &journal).unwrap();
+    durable.reopen().unwrap();
+    assert_eq!(durable.recent(LIVE), Ok(Version(2)));
+    durable.rebuild(durable.limits(), &[]).unwrap();
+}
+
 /// What is left of a journal that was only begun makes room for the next one; no other file does.
 #[test]
 fn the_next_journal_is_a_new_file() {
