@@ -621,6 +621,45 @@ mod tests {
         durable.close().unwrap();
     }
 
+    /// In a process that was forked off, a lock that another thread held is held for ever: what is refused there waits for none.
+    #[test]
+    fn what_a_forked_process_is_refused_waits_for_no_lock() {
+        let scratch = Scratch::new("durable-forked");
+        let mut durable = durable(&scratch);
+        let as_of = |process: u32, durable: &mut Durable| {
+            Arc::get_mut(&mut durable.log).expect("one handle").process = process;
+        };
+        as_of(std::process::id() + 1, &mut durable);
+        let (told, refused) = channel();
+        let (other, file) = (durable.clone(), scratch.0.join("file"));
+        let held = (durable.core.saving(), durable.core.keeping());
+        let held = (
+            held,
+            durable.core.writer_lock(),
+            durable.core.visible.held(),
+        );
+        let refuse = thread::spawn(move || {
+            let refused = [
+                other.save(file).map(drop).map_err(Failure::from),
+                other.wait_published(LIVE, Version(1)),
+                other.begin(1).map(drop),
+                other.rebuild(other.limits(), &[]).map(drop),
+                other.checkpoint().map(drop),
+                other.reopen().map(drop),
+                other.close(),
+                other.sync(),
+            ];
+            drop(other);
+            let _ = told.send(refused.map(|refused| of_file(refused.unwrap_err())));
+        });
+        let refused = refused.recv_timeout(LONG / 2);
+        drop(held);
+        refuse.join().expect("no panic");
+        as_of(std::process::id(), &mut durable);
+        let is_right = |error: &FileError| matches!(error, FileError::OtherProcess);
+        assert!(refused.expect("no lock is waited for").iter().all(is_right));
+    }
+
     /// An entry that a journal did not keep is not taken for kept by the number of one that the next journal has.
     #[test]
     fn an_entry_is_kept_by_its_own_journal() {

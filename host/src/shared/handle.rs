@@ -227,6 +227,9 @@ impl<L: Log> Handle<L> {
     /// One thread saves at a time, and others that save wait for it. So what a finished save has left is never replaced by
     /// an older one.
     pub fn save(&self, path: impl AsRef<Path>) -> Result<Version, FileError> {
+        if self.log.check_process().is_err() {
+            return Err(FileError::OtherProcess); // before a lock is waited for
+        }
         let _alone = self.core.saving();
         let (image, journal) = {
             // so that the one is of the other, also where a folder is opened anew

@@ -61,7 +61,8 @@ impl Visible {
     }
 
     /// Waits until readers may see a version of a line, or the time has come; tells whether they may. Where they may not, it ends with the
-    /// error of `check`, which is asked before each wait, with no lock held but this one's own.
+    /// error of `check`, which is asked before each wait, with no lock held but this one's own; and first without that: a process that was
+    /// forked off may never get it.
     pub fn wait<E>(
         &self,
         line: Line,
@@ -72,6 +73,9 @@ impl Visible {
         let is_seen = || self.last(line).map_or(false, |last| last >= version);
         if is_seen() {
             return Ok(true);
+        }
+        if let (Err(error), false) = (check(), is_seen()) {
+            return Err(error);
         }
         self.waiting.fetch_add(1, SeqCst);
         let mut lock = self.lock.lock().unwrap_or_else(PoisonError::into_inner);
@@ -100,6 +104,11 @@ impl Visible {
 
 #[cfg(test)]
 impl Visible {
+    /// The lock of those who wait.
+    pub fn held(&self) -> std::sync::MutexGuard<'_, ()> {
+        self.lock.lock().unwrap_or_else(PoisonError::into_inner)
+    }
+
     /// How many threads wait for a version.
     pub fn waiting(&self) -> usize {
         let _lock = self.lock.lock().unwrap_or_else(PoisonError::into_inner); // they have given it back: they wait
