@@ -3,15 +3,13 @@
 use crate::disk::file::lock::{try_hold, Held};
 use crate::disk::file::new::is_at;
 use crate::disk::file::{at, at_folder, plain, FileError};
+use crate::disk::journal::is_no_room;
 use std::fs::{self, File};
 use std::io::{self, Read, Write};
 use std::os::unix::fs::MetadataExt;
 use std::path::Path;
 
 const LOCK: &str = "lock";
-
-/// The system's number where a disk has no room. `ErrorKind` has a name for it only since Rust 1.83.
-const NO_ROOM: i32 = 28;
 
 /// The locks of a folder that is open, given back together.
 pub struct FolderLock {
@@ -33,7 +31,7 @@ impl FolderLock {
         let path = folder.join(LOCK);
         let mut file = match open_or_make(&path, mode) {
             // with no room for it the folder's own lock is enough
-            Err(e) if e.raw_os_error() == Some(NO_ROOM) => {
+            Err(e) if is_no_room(&e) => {
                 return Ok(FolderLock {
                     file: None,
                     folder: itself,
