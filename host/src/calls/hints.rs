@@ -43,7 +43,7 @@ fn advise(address: usize, length: usize) {
 fn whole_pages(address: usize, length: usize) -> Option<Range<usize>> {
     let begin = address.checked_add(SYSTEM_PAGE - 1)? / SYSTEM_PAGE * SYSTEM_PAGE;
     let end = address.checked_add(length)? / SYSTEM_PAGE * SYSTEM_PAGE;
-    (begin < end).then(|| begin..end)
+    (begin < end).then_some(begin..end)
 }
 
 /// These bytes are read soon: the processor is to fetch the first of them, and with that their page's address. It goes on by itself then.

@@ -55,7 +55,7 @@ fn a_journal_that_is_cut_anywhere_after_a_close_is_an_error() {
             place.path("journal-1"),
         );
         let each = entries(&journal);
-        let last_call = each.iter().filter(|e| e.is_call()).last().unwrap().end;
+        let last_call = each.iter().rfind(|e| e.is_call()).unwrap().end;
         for length in HEADER..journal.len() {
             fs::write(&path, &journal[..length]).unwrap();
             if length >= last_call {

@@ -169,7 +169,7 @@ fn set_clock<L: Log>(store: &Handle<L>, minute: Minute) {
 }
 
 /// A buffer after READ: filled up to its length and no further; where the call was refused, not at all.
-fn filled(buffer: &mut Vec<u8>, done: Result<(), Error>, len: usize) -> Result<Vec<u8>, Error> {
+fn filled(buffer: &[u8], done: Result<(), Error>, len: usize) -> Result<Vec<u8>, Error> {
     let filled = if done.is_ok() { len } else { 0 };
     let rest = buffer[filled..].iter();
     assert!(rest.copied().all(|byte| byte == UNFILLED), "{done:?}");

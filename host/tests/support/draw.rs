@@ -164,6 +164,9 @@ struct Drawing<'a> {
     mix: &'a Mix,
 }
 
+/// Draws a call of one kind.
+type Draw<D> = fn(&mut D) -> Call;
+
 impl Drawing<'_> {
     fn call(&mut self) -> Call {
         let mix = self.mix;
@@ -171,7 +174,7 @@ impl Drawing<'_> {
         if mix.files > 0 && self.random.one_in(rebuilds) {
             return self.rebuild();
         }
-        let kinds: [(u64, fn(&mut Self) -> Call); 11] = [
+        let kinds: [(u64, Draw<Self>); 11] = [
             (mix.begin, |d| Call::Begin(d.page_count())),
             (mix.put, Self::put),
             (mix.assign, Self::assign),
