@@ -28,7 +28,8 @@
 //!   damage, and an error. Only the last journal may be torn, and the note at the end of the one before it.
 //! - Journal-G says that it has ended only when that header is on the disk, and before there are entries behind it. So where it says so,
 //!   a journal-(G+1) that is missing, or has no whole header, was lost, and that is an error. Where it does not, and its next one has
-//!   its header, a process died between the two: nothing is lost, and opening writes the note before it goes on, if there is room.
+//!   its header, a process died between the two: nothing is lost, and opening syncs the one, then notes the other before it goes on, if
+//!   there is room.
 //!   Without it, as in a folder from before there were such notes, a next journal that is lost goes unseen. So where more than one
 //!   journal was read, a checkpoint is made at once: then there is one again.
 //! - From the rename on H is G+1. Its journal has a whole header, since that was synced before; journal-G is not read, and

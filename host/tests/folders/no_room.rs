@@ -79,6 +79,7 @@ fn as_a_child() {
     let folder = Path::new(&folder);
     match &variable("PIT_CHILD")[..] {
         "open" => drop(Durable::open(folder, options()).unwrap()),
+        "open in vain" => drop(Durable::open(folder, options()).map(drop).unwrap_err()),
         "checkpoint" => checkpoint_after_opening(folder),
         "rebuild" => rebuild_in_vain(folder, 0),
         "rebuild and go on" => rebuild_in_vain(folder, 1),
@@ -143,6 +144,31 @@ fn a_folder_opens_where_the_note_of_an_end_has_no_room() {
     let (_, opened) = Durable::open(&place.0, options()).unwrap();
     assert_eq!((opened.journals, opened.entries), (2, 17));
     assert_eq!(fs::metadata(place.path("journal-1")).unwrap().len(), 1_072);
+}
+
+/// What a process that died has left unsynced is written anew. Where that fails, the next journal may not be on the disk, and the one before
+/// does not say that it is.
+#[test]
+fn no_end_is_noted_before_the_next_journal_is_on_the_disk() {
+    let place = Folder::new("no-room-next");
+    let durable = Durable::create(&place.0, store(), options()).unwrap();
+    durable.begin(1).unwrap();
+    fs::create_dir(place.path("store-2")).unwrap();
+    durable.checkpoint().unwrap_err();
+    fs::remove_dir(place.path("store-2")).unwrap();
+    (0..40).for_each(|_| drop(durable.begin(1)));
+    let (files, length) = (place.files(), durable.journal_length() as usize);
+    drop(durable);
+    place.set(&files);
+    set_length(&place, "journal-1", 64 + NOTE);
+    set_length(&place, "journal-2", length);
+    let files = place.files();
+    run("open in vain", &place, 1_024);
+    assert!(place.files() == files);
+    let (_, opened) = Durable::open(&place.0, options()).unwrap();
+    assert_eq!((opened.journals, opened.entries), (2, 41));
+    let noted = 64 + 2 * NOTE as u64;
+    assert_eq!(fs::metadata(place.path("journal-1")).unwrap().len(), noted);
 }
 
 /// The checkpoint after opening several journals fails; opening does not, and the store goes on.

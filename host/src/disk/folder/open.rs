@@ -97,8 +97,8 @@ pub fn read(path: &Path, options: Options) -> Result<(Read, Opened), FileError> 
     Ok((read, opened))
 }
 
-/// A process that died may not have got so far as to note that a journal has ended. That is done before the next one goes on, if there is
-/// room.
+/// A process that died may not have got so far as to note that a journal has ended. That is done when the next one is on the disk for sure,
+/// as the last is once it is resumed, and before it has more entries; if there is room.
 fn note_ended(path: &Path, unended: &[Replayed]) -> Result<(), FileError> {
     for found in unended {
         let generation = found.header.generation;
