@@ -163,9 +163,9 @@ impl Durable {
     /// place of the running one, for every handle and every [`Snapshot`](crate::Snapshot). Calls go on from there. The lock on the
     /// folder is kept, or taken again.
     ///
-    /// What returned is there, and so is what readers were shown; but by [`SyncAt::Every`](crate::SyncAt), where the disk may have lost
-    /// what was not yet synced, as after a power cut. A call that ended with the journal's failure is not there where its entry could
-    /// not be written; where it was written and not synced, it may be.
+    /// What returned is there, and so is what readers were shown; but for what was not yet synced, by the choice of
+    /// [`SyncAt`](crate::SyncAt), where the disk has lost that, as after a power cut. A call that ended with the journal's failure is
+    /// not there where its entry could not be written; where it was written and not synced, it may be.
     ///
     /// Calls that change the store wait meanwhile; readers do not. Those who [wait](Handle::wait_published) for a version wait on.
     /// Refused as by `open`, and where the folder was moved, or another process has it by now: then it is as it was, or closed, and

@@ -362,7 +362,7 @@ impl Folder {
         self.check_place()?;
         match closed.write(&self.path, self.options.file_mode()) {
             Err(error) if is_no_room(&error) => Ok(()), // all is kept, and the note can be done without
-            written => written.map_err(at(&self.path)),
+            written => written.map_err(at(&Closed::path_in(&self.path))),
         }
     }
 

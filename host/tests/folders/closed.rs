@@ -178,6 +178,12 @@ fn the_note_is_as_private_as_the_journal_and_no_link_is_followed() {
     symlink(&target, place.path("closed")).unwrap();
     let durable = open(&place.0).unwrap();
     update(&durable, 1);
+    match durable.close().unwrap_err() {
+        Failure::File(error) => {
+            assert!(error.path().map_or(false, |path| path.ends_with("closed")))
+        }
+        other => panic!("{other}"),
+    }
     drop(durable);
     assert_eq!(fs::read(&target).unwrap(), b"another's");
     open(&place.0).unwrap();

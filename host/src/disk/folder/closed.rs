@@ -13,7 +13,7 @@ use crate::disk::file::new::NewFile;
 use crate::disk::file::{plain, FileError};
 use crate::disk::journal::{Header, JournalError, JournalErrorKind, Replayed};
 use std::io::{self, Read, Write};
-use std::path::Path;
+use std::path::{Path, PathBuf};
 
 const NAME: &str = "closed";
 const MAGIC: [u8; 8] = *b"PITCLOSE";
@@ -63,10 +63,15 @@ impl Closed {
         })
     }
 
+    /// The file in which it is noted.
+    pub fn path_in(folder: &Path) -> PathBuf {
+        folder.join(NAME)
+    }
+
     /// What is noted in a folder. None where there is no such file, or it cannot be read or is damaged: it is a second witness of
     /// what the journals say themselves, and a folder whose journals are whole is not refused for want of it.
     pub fn read(folder: &Path) -> Option<Closed> {
-        let file = plain::to_read(&folder.join(NAME)).ok()?;
+        let file = plain::to_read(&Closed::path_in(folder)).ok()?;
         let mut bytes = Vec::new();
         file.take(LENGTH as u64 + 1).read_to_end(&mut bytes).ok()?;
         Closed::of(&bytes)
@@ -78,7 +83,7 @@ impl Closed {
         if Closed::read(folder) == Some(self) {
             return Ok(());
         }
-        let mut new = NewFile::in_folder(&folder.join(NAME), mode)?;
+        let mut new = NewFile::in_folder(&Closed::path_in(folder), mode)?;
         new.file.write_all(&self.to_bytes())?;
         new.replace()
     }
