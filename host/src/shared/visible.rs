@@ -70,17 +70,17 @@ impl Visible {
         until: Option<Instant>,
         check: impl Fn() -> Result<(), E>,
     ) -> Result<bool, E> {
-        let is_seen = || self.last(line).map_or(false, |last| last >= version);
-        if is_seen() {
+        let is_visible = || self.last(line).map_or(false, |last| last >= version);
+        if is_visible() {
             return Ok(true);
         }
-        if let (Err(error), false) = (check(), is_seen()) {
+        if let (Err(error), false) = (check(), is_visible()) {
             return Err(error);
         }
         self.waiting.fetch_add(1, SeqCst);
         let mut lock = self.lock.lock().unwrap_or_else(PoisonError::into_inner);
         let mut checked = check();
-        while checked.is_ok() && !is_seen() {
+        while checked.is_ok() && !is_visible() {
             lock = match until.map(|until| until.saturating_duration_since(Instant::now())) {
                 None => {
                     let woken = self.raised.wait(lock);
@@ -95,7 +95,7 @@ impl Visible {
             checked = check();
         }
         self.waiting.fetch_sub(1, SeqCst);
-        match is_seen() {
+        match is_visible() {
             true => Ok(true),
             false => checked.map(|()| false),
         }

@@ -110,14 +110,14 @@ impl Journal {
     pub fn fail(&self, error: &io::Error) {
         hold(&self.shared.progress).fail(error);
         self.shared.synced.notify_all();
-        self.shared.tell_failure();
+        self.shared.notify_failure();
     }
 
     /// Has this called whenever a write or sync has failed; at once, where one has already.
     pub fn on_failure(&self, call: OnFailure) {
         *hold(&self.shared.on_failure) = Some(call);
         if self.failure().is_err() {
-            self.shared.tell_failure();
+            self.shared.notify_failure();
         }
     }
 
@@ -250,7 +250,7 @@ impl Shared {
                 progress.fail(&error);
                 let (failed, file) = (progress.check(), Arc::clone(&progress.file));
                 drop(progress);
-                self.tell_failure();
+                self.notify_failure();
                 let _ = file.sync_data(); // nobody will do it later for what was written before
                 failed
             }
@@ -294,7 +294,7 @@ impl Shared {
         self.synced.notify_all();
         match result {
             Ok(()) => self.note_synced(written),
-            Err(_) => self.tell_failure(),
+            Err(_) => self.notify_failure(),
         }
     }
 
@@ -305,7 +305,7 @@ impl Shared {
         }
         if let Err(error) = output.note_synced(number) {
             hold(&self.progress).fail(&error);
-            self.tell_failure();
+            self.notify_failure();
         }
         self.length.store(output.length, Ordering::Relaxed);
     }
@@ -351,13 +351,13 @@ impl Shared {
         hold(&self.progress).end_sync(written, &result);
         self.synced.notify_all();
         if result.is_err() {
-            self.tell_failure();
+            self.notify_failure();
         }
         hold(&self.progress).check()
     }
 
     /// Called after a failure is noted, without `progress`.
-    fn tell_failure(&self) {
+    fn notify_failure(&self) {
         let call = hold(&self.on_failure).clone();
         if let Some(call) = call {
             call();
