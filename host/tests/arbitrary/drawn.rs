@@ -2,13 +2,13 @@
 
 use crate::memory::{Memory, Numbers};
 use crate::random::Random;
-use crate::scene::{Scene, BYTE};
+use crate::scene::Scene;
 use crate::stamps;
 use crate::support::call::{Begin, Call};
 use crate::windows::WEEK;
 use pit_host::{
-    ByteOffset, Error, Limits, Line, Minute, PageIndex, PartsMut, Record, State, Store, Ticket,
-    Version, Windows,
+    ByteOffset, Error, Limits, Line, Minute, PageIndex, PartsMut, Record, State, Store, Version,
+    Windows,
 };
 
 /// Numbers at which a limit, a width or a sum can go wrong.
@@ -253,7 +253,7 @@ fn update(random: &mut Random, store: &mut Store<PartsMut<'_>>) -> Result<(), Er
     let mut line = Line(line);
     if random.one_in(3) && store.state().begun < 16 {
         let recent = store.recent(line)?;
-        line = store.branch(line, Version(random.below(recent.0 + 1)))?;
+        line = store.line_from(line, Version(random.below(recent.0 + 1)));
     }
     let (n, size) = (1 + random.below(4), store.state().size as usize);
     let ticket = store.begin(n)?;
@@ -481,10 +481,10 @@ pub fn mixed_scene(random: &mut Random) -> Scene {
     }
 }
 
-// Calls.
+// What calls are given.
 
 /// An argument: small, or a number of the state or of a record or near it, or any other.
-fn argument(random: &mut Random, scene: &Scene) -> u64 {
+pub fn argument(random: &mut Random, scene: &Scene) -> u64 {
     let register = scene.memory.register.part();
     let known = match random.below(8) {
         0..=2 => return random.below(7),
@@ -501,7 +501,7 @@ fn argument(random: &mut Random, scene: &Scene) -> u64 {
 }
 
 /// A version, ticket or count: mostly one that is there.
-fn up_to(random: &mut Random, scene: &Scene, last: u64) -> u64 {
+pub fn up_to(random: &mut Random, scene: &Scene, last: u64) -> u64 {
     if random.one_in(3) {
         argument(random, scene)
     } else {
@@ -510,7 +510,7 @@ fn up_to(random: &mut Random, scene: &Scene, last: u64) -> u64 {
 }
 
 /// A line: mostly one that has begun, the first one most.
-fn some_line(random: &mut Random, scene: &Scene) -> u64 {
+pub fn some_line(random: &mut Random, scene: &Scene) -> u64 {
     match random.below(8) {
         0 => argument(random, scene),
         1 => random.below(17),
@@ -519,36 +519,8 @@ fn some_line(random: &mut Random, scene: &Scene) -> u64 {
     }
 }
 
-pub fn call(random: &mut Random, scene: &Scene) -> Call {
-    let s = &scene.state;
-    let line = some_line(random, scene);
-    let published = s.line(Line(line)).published;
-    let (ticket, version) = (
-        Ticket(up_to(random, scene, s.tickets)),
-        Version(up_to(random, scene, published)),
-    );
-    let (line, other) = (Line(line), argument(random, scene));
-    match random.below(29) {
-        0 if random.one_in(4) => Call::Format(limits_of(random, scene)),
-        0 | 1 => Call::Begin(up_to(random, scene, 6)),
-        2..=4 => Call::Put(ticket, other, vec![BYTE; bytes_length(random, s)]),
-        5 | 6 => Call::Write(line, ticket, PageIndex(other)),
-        7 | 8 => Call::Append(line, ticket),
-        9..=12 => Call::Weave(ticket),
-        13 | 14 | 26 => Call::Publish(line, Minute(some_minute(random, scene))),
-        27 | 28 => Call::SetWindows(some_text(random)),
-        15..=17 => read(random, scene, line, version),
-        18 => Call::Size(line, version),
-        19 => Call::Recent(line),
-        20 | 21 => Call::Stamp(line, version, PageIndex(other)),
-        22 if random.one_in(2) => Call::Branch(line, Version(0)),
-        22 | 23 => Call::Branch(line, version),
-        _ => Call::View(line, version, PageIndex(other)),
-    }
-}
-
 /// A minute of the week, mostly a low one or an end of a window; or no minute.
-fn some_minute(random: &mut Random, scene: &Scene) -> u64 {
+pub fn some_minute(random: &mut Random, scene: &Scene) -> u64 {
     let places = scene.windows.places.iter();
     let ends = places.flat_map(|w| [w.from, w.to]).map(u64::from);
     let ends: Vec<u64> = ends.filter(|end| *end != 0).collect();
@@ -563,7 +535,7 @@ fn some_minute(random: &mut Random, scene: &Scene) -> u64 {
 }
 
 /// The text of a list; mostly a good one, else with a line of any ends, a byte changed, or any bytes.
-fn some_text(random: &mut Random) -> Vec<u8> {
+pub fn some_text(random: &mut Random) -> Vec<u8> {
     let count = random.pick(&[0, 1, 2, 3, 31, 32, 33, 40]);
     let mut text = vec![];
     for _ in 0..count {
@@ -585,7 +557,7 @@ fn some_text(random: &mut Random) -> Vec<u8> {
 }
 
 /// Mostly the limits that the areas have, which FORMAT accepts if it accepts any.
-fn limits_of(random: &mut Random, scene: &Scene) -> Limits {
+pub fn limits_of(random: &mut Random, scene: &Scene) -> Limits {
     let mut numbers = scene.state.numbers();
     if random.one_in(2) {
         numbers[random.below(4) as usize] = argument(random, scene);
@@ -593,7 +565,7 @@ fn limits_of(random: &mut Random, scene: &Scene) -> Limits {
     Limits::new(numbers[0], numbers[1], numbers[2], numbers[3])
 }
 
-fn bytes_length(random: &mut Random, s: &State) -> usize {
+pub fn bytes_length(random: &mut Random, s: &State) -> usize {
     let page = s.size.min(100);
     let length = match random.below(8) {
         0 => page + 1,
@@ -604,7 +576,7 @@ fn bytes_length(random: &mut Random, s: &State) -> usize {
 }
 
 /// A range within a page or over some, or any; a buffer that has room for it, or not.
-fn read(random: &mut Random, scene: &Scene, line: Line, version: Version) -> Call {
+pub fn read_of(random: &mut Random, scene: &Scene, line: Line, version: Version) -> Call {
     let size = scene.state.size.clamp(1, 4_096);
     let (offset, len) = match random.below(4) {
         0 => (argument(random, scene), argument(random, scene)),

@@ -2,6 +2,7 @@
 //! table, and changes nothing when it refuses. `PIT_SEED` names the first seed, `PIT_SCENES` how many scenes each test has;
 //! with the seed of a scene that failed, it comes first.
 
+mod calls;
 mod drawn;
 mod lower_walks;
 mod memory;
@@ -13,9 +14,10 @@ mod support;
 #[path = "../model/windows.rs"]
 mod windows;
 
+use calls::{FIND_DAMAGE, LAST_ROWS, NAME_LINES, OTHERS};
 use pit_host::{Line, PageIndex, Version};
 use random::{first_seed, named, Random};
-use scene::{Scene, FIND_DAMAGE, LAST_ROWS, NAME_LINES, OTHERS};
+use scene::Scene;
 use std::collections::BTreeMap;
 use support::call::Call;
 use support::{folder, random};
@@ -35,7 +37,7 @@ fn try_all(test: &str, draw: fn(&mut Random) -> Scene) -> Answers {
         let mut scene = draw(&mut random);
         for at in 0..CALLS {
             let (state, windows) = (scene.state, scene.windows);
-            let call = drawn::call(&mut random, &scene);
+            let call = calls::draw(&mut random, &scene);
             match scene.make(&call) {
                 Ok(refusal) => {
                     *answers.entry((call.name(), refusal)).or_default() += 1;

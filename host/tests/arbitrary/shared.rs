@@ -1,7 +1,7 @@
 //! The same states, windows and areas in a store that threads share: its calls answer as those on a store of one's own, but that no
 //! page is put twice; and what a snapshot shows stays.
 
-use crate::drawn;
+use crate::calls;
 use crate::random::Random;
 use crate::scene::Scene;
 use crate::support::call::{make_on, make_one, Answer, Call};
@@ -126,7 +126,7 @@ fn pages(snapshot: &Snapshot) -> Vec<Vec<u8>> {
 pub fn try_scene(random: &mut Random, scene: &mut Scene, calls: u64, file: &Path) {
     let mut both = Both::new(scene);
     for _ in 0..calls {
-        let call = drawn::call(random, scene);
+        let call = calls::draw(random, scene);
         both.make(&call);
         both.check_held();
         (scene.state, scene.windows) = (both.own.state(), both.own.windows());

@@ -1,7 +1,8 @@
 //! STAMP over any state and any areas, written from the definitions alone: crates/stamp/specs/Stamp.antt, and those of the
 //! walk and of the lines that it rests on.
 
-use crate::scene::{lengths_differ, no_line, owner_of, Scene};
+use crate::calls::{lengths_differ, no_line, owner_of};
+use crate::scene::Scene;
 use pit_host::{Line, Record};
 
 /// What STAMP answers, and why its search for a lower version has ended.

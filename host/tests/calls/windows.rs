@@ -70,6 +70,29 @@ fn from_is_inside_and_to_is_outside() {
     }
 }
 
+/// The windows are the site's: what is due on a line that began before or after them waits for their end.
+#[test]
+fn a_window_holds_what_is_due_on_every_line() {
+    let mut store = store();
+    let before = store.line_from(LIVE, Version(0));
+    store.set_windows("100,200\n").unwrap();
+    let after = store.line_from(LIVE, Version(0));
+    for line in [before, after] {
+        let (ticket, _) = assign(&mut store, line, None, &[7]).unwrap();
+        store.weave(ticket).unwrap();
+        for minute in [100, 199].map(Minute) {
+            assert_eq!(store.publish(line, minute), Ok(Published::Held));
+            assert_eq!(store.publish(LIVE, minute), Ok(Published::Held)); // nothing is due there
+        }
+        assert_eq!(store.recent(line), Ok(Version(0)));
+        assert_eq!(store.publish(LIVE, Minute(200)), Ok(Published::Waiting));
+        let published = Ok(Published::Now(Version(1)));
+        assert_eq!(store.publish(line, Minute(200)), published);
+        assert_eq!(store.publish(line, Minute(150)), Ok(Published::Held));
+        assert_eq!(store.publish(line, Minute(99)), Ok(Published::Waiting));
+    }
+}
+
 /// Over windows that no call left, the first place with equal ends ends them, for `held` and for what is listed.
 #[test]
 fn windows_that_no_call_left() {

@@ -1,6 +1,7 @@
 //! The files of a folder: its locks, plain files alone, their modes, and a folder that is read alone.
 
 use crate::folder::Folder;
+use crate::support::call::{each, make_on, Call, Update};
 use pit_host::{
     inspect, ByteOffset, Durable, Failure, FileError, Limits, Line, Minute, OpenBy, Options,
     PageIndex, Reader, Shared, Store, Ticket, Version,
@@ -456,24 +457,25 @@ fn whole(folder: &Path) -> Whole {
     paths.chain([folder.to_path_buf()]).map(of).collect()
 }
 
-/// All calls that would change the store.
-fn changes(reader: &Reader) -> [Result<(), Failure>; 13] {
-    let (ticket, page) = (Ticket(1), [7; 16]);
-    [
-        reader.begin(1).map(drop),
-        reader.begin(0).map(drop),
-        reader.put(ticket, 0, &page),
-        reader.write(LIVE, ticket, PageIndex(0)).map(drop),
-        reader.append(LIVE, ticket).map(drop),
-        reader.weave(ticket).map(drop),
-        reader.publish(LIVE, Minute(0)).map(drop),
-        reader.branch(LIVE, Version(1)).map(drop),
-        reader.set_windows("1,2\n"),
-        reader.append_pages(LIVE, &[&page]).map(drop),
-        reader.finish(ticket).map(drop),
-        reader.publish_due(LIVE).map(drop),
-        reader.rebuild(reader.limits(), &[]).map(drop),
-    ]
+/// What all calls that would change the store answer.
+fn changes(reader: &Reader) -> Vec<Result<(), Failure>> {
+    let (ticket, page, minute) = (Ticket(1), vec![7; 16], Minute(0));
+    let mut calls = each(LIVE, Version(1), [ticket; 3], &page);
+    calls.retain(Call::changes);
+    calls.extend([
+        Call::Begin(0),
+        Call::Update(Update {
+            line: LIVE,
+            at: None,
+            pages: vec![page],
+            minute,
+        }),
+        Call::Finish(ticket, minute),
+        Call::Rebuild(reader.limits(), vec![], vec![]),
+    ]);
+    let made = calls.iter().map(|call| make_on(reader, call).map(drop));
+    let due = reader.publish_due(LIVE).map(drop);
+    made.chain([due]).collect()
 }
 
 /// The folder is read, and nothing in it changes. Gives what is read of its last version.

@@ -1,6 +1,7 @@
 //! A folder whose journal cannot be written goes on in the same process, once there is room again; and a folder that is closed.
 
 use crate::folder::Folder;
+use crate::support::call::{each, make_durable, Call};
 use crate::support::process::in_a_process;
 use pit_host::{
     Durable, Error, Failure, FileError, Limits, Line, Minute, Opened, Options, PageIndex, Shared,
@@ -179,30 +180,45 @@ fn cannot_be_closed() {
 
 // A folder that is closed.
 
+/// A ticket that is to be put, one that is put, and one that has a version.
+fn at_each_stage(durable: &Durable) -> [Ticket; 3] {
+    [0, 1, 2].map(|stage| {
+        let ticket = durable.begin(1).unwrap();
+        if stage > 0 {
+            durable.put(ticket, 0, &[3; 16]).unwrap();
+        }
+        if stage > 1 {
+            durable.append(LIVE, ticket).unwrap();
+        }
+        ticket
+    })
+}
+
 #[test]
 fn a_closed_folder_can_be_read_and_opened_anew() {
     let place = Folder::new("recovery-closed");
     let durable = create(&place, Options::new().sync(SyncAt::Every(LONG)));
     let other = durable.clone();
     append(&durable, 1).unwrap();
-    let ticket = durable.begin(1).unwrap();
+    let tickets = at_each_stage(&durable);
     let last = durable.to_store();
     other.close().unwrap();
     other.close().unwrap();
     assert_eq!(durable.entries().0, durable.entries().1);
     assert!(found(&place).0 == last); // with the handles still there
 
-    let refused = [
-        append(&durable, 2).map(drop),
-        durable.put(ticket, 0, &[2; 16]),
-        durable.set_windows(""),
-        durable.branch(LIVE, Version(0)).map(drop),
-        durable.finish(Ticket(1)).map(drop),
-        durable.checkpoint().map(drop),
-        durable.rebuild(durable.limits(), &[]).map(drop),
-        durable.wait_published(LIVE, Version(2)),
-    ];
-    assert!(refused.into_iter().all(is_closed));
+    let mut calls = each(LIVE, Version(0), tickets, &[2; 16]);
+    calls.retain(|call| call.changes() && call.name() != "PUBLISH"); // nothing is due
+    calls.extend([
+        Call::Finish(tickets[2], Minute(0)),
+        Call::Rebuild(durable.limits(), vec![], vec![]),
+        Call::Checkpoint,
+    ]);
+    for call in calls {
+        assert!(is_closed(make_durable(&durable, &call)), "{call:?}");
+    }
+    assert!(is_closed(append(&durable, 2)));
+    assert!(is_closed(durable.wait_published(LIVE, Version(9))));
     assert_eq!(durable.recent(LIVE), Ok(Version(1)));
     assert!(durable.snapshot(LIVE, Version(1)).is_ok());
     durable.save(place.path("file")).unwrap();
@@ -213,12 +229,12 @@ fn a_closed_folder_can_be_read_and_opened_anew() {
     another.set_clock(|| Minute(0));
     assert!(matches!(of_file(durable.reopen()), FileError::InUse { .. }));
     assert!(is_closed(append(&durable, 2)));
-    assert_eq!(append(&another, 3).unwrap(), Version(2));
+    assert_eq!(another.finish(tickets[2]).unwrap(), Version(2));
     another.close().unwrap();
     durable.reopen().unwrap();
     assert!(matches!(of_file(another.reopen()), FileError::InUse { .. }));
     assert_eq!(durable.recent(LIVE), Ok(Version(2)));
-    durable.put(ticket, 0, &[2; 16]).unwrap();
+    durable.put(tickets[0], 0, &[2; 16]).unwrap();
     assert_eq!(append(&other, 4).unwrap(), Version(3));
     let last = durable.to_store();
     drop((durable, other, another));

@@ -292,17 +292,17 @@ impl Drawing<'_> {
         })
     }
 
-    /// The text of a list of windows: none, one or two of any length; now and then one with equal ends.
+    /// The text of a list of windows: one or two of any length, now and then none; or one with equal ends.
     fn list(&mut self) -> String {
         let from = self.random.below(WEEK);
         let length = match self.is_wrong() {
             true => 0,
-            false => 1 + self.random.pick(&[30, 400, 2_500]),
+            false => 1 + self.random.pick(&[30, 400, 5_000]),
         };
         let to = (from + length) % WEEK;
-        match self.random.below(3) {
+        match self.random.below(8) {
             0 => String::new(),
-            1 => format!("{from},{to}\n"),
+            1..=4 => format!("{from},{to}\n"),
             _ => format!("{from},{to}\n1,2\n"),
         }
     }
@@ -362,7 +362,7 @@ impl Drawing<'_> {
     fn update(&mut self) -> Call {
         let line = self.line();
         let n = self.page_count().min(65);
-        let at = self.random.one_in(2).then(|| self.first(line));
+        let at = (!self.random.one_in(3)).then(|| self.first(line));
         let pages = self.pages(n);
         let minute = self.minute();
         Call::Update(Update {

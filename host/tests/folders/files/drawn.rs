@@ -3,7 +3,7 @@
 use super::scene::{in_form_4, in_form_5, saved, sealed, Folder, HEADER};
 use crate::random::{first_seed, named, Random};
 use crate::support::call::make;
-use crate::support::draw::{draw as draw_call, Shown, CALLS};
+use crate::support::draw::{draw as draw_call, Mix, Shown, CALLS};
 use pit_host::{FileError, Limits, Store};
 use std::fs;
 
@@ -11,6 +11,13 @@ use std::fs;
 const SCENES: u64 = 200;
 /// How often each store's file is damaged.
 const DAMAGES: u64 = 60;
+
+/// Calls with more lines and windows than elsewhere, and more that is left in work: a store has few calls.
+const MIX: Mix = Mix {
+    lines: 4,
+    windows: 8,
+    ..CALLS
+};
 
 /// The seeds of a test's stores.
 fn seeds(test: &str) -> impl Iterator<Item = u64> {
@@ -24,7 +31,7 @@ fn draw(random: &mut Random) -> Store {
     let [pages, nodes, updates] = [150, 600, 40].map(|most| 1 + random.below(most));
     let mut store = Store::format(Limits::new(page_size, pages, nodes, updates)).unwrap();
     for _ in 0..random.below(150) {
-        let call = draw_call(random, &Shown::of(&store), &CALLS);
+        let call = draw_call(random, &Shown::of(&store), &MIX);
         let _ = make(&mut store, &call); // refused, it has changed nothing
     }
     store

@@ -1,7 +1,8 @@
 //! Lines: rows 20 and 21 in their places, what a branch shares, and what it does not.
 
+use super::malformed::agree_on_largest;
 use super::stamps::Resent;
-use super::{agree_on, count, same_as_model, transcript, update};
+use super::{agree_on, all_refused_with_0, count, same_as_model, transcript, update};
 
 #[test]
 fn row_20_no_such_line() {
@@ -449,4 +450,28 @@ fn a_page_resent_on_a_branch() {
     script.stamps(3, 2, &[1, 1]);
     script.stamps(4, 1, &[1, 1]);
     script.agree();
+}
+
+#[test]
+fn malformed_lines_of_branch() {
+    let (words, numbers) = (
+        ["BRANCH", "BRANCH,", "branch,0,0"],
+        ["0", "0,", "0,0,0", ",0"],
+    );
+    let with_numbers = numbers.map(|numbers| format!("BRANCH,{numbers}"));
+    all_refused_with_0(words.map(String::from).into_iter().chain(with_numbers));
+}
+
+#[test]
+fn the_largest_numbers_of_branch() {
+    agree_on_largest(
+        "
+        FORMAT,16,4,8,2 > ok
+        BRANCH,M,0 > refused,20
+        BRANCH,0,M > refused,16
+        BRANCH,M,M > refused,20
+        BRANCH,Z,0 > refused,0
+        BRANCH,0,Z > refused,0
+        BRANCH,0,0 > line,1",
+    );
 }

@@ -1,6 +1,7 @@
 //! Malformed lines of every sort.
 
-use super::{agree_on, all_refused_with_0, same_as_model};
+use super::{agree_on, all_refused_with_0, count, same_as_model};
+use crate::scripts::WORDS;
 
 /// 2^64 - 1, the largest number, and 2^64, which is none.
 const LARGEST: &str = "18446744073709551615";
@@ -8,7 +9,7 @@ const TOO_LARGE: &str = "18446744073709551616";
 
 #[test]
 fn malformed_lines() {
-    let bad: [&[u8]; 99] = [
+    let bad: [&[u8]; 89] = [
         b"",
         b",",
         b"\0",
@@ -46,16 +47,6 @@ fn malformed_lines() {
         b"PUBLISH,0 0",
         b"publish,0,0",
         b"HELD,0,0",
-        b"SETWINDOWS",
-        b"SETWINDOWS,",
-        b"SETWINDOWS,0,1",
-        b"BRANCH",
-        b"BRANCH,",
-        b"BRANCH,0",
-        b"BRANCH,0,",
-        b"BRANCH,0,0,0",
-        b"BRANCH,,0",
-        b"branch,0,0",
         b"LINE,0,0",
         b"BEGIN",
         b"BEGIN,",
@@ -130,37 +121,18 @@ fn malformed_page_bytes() {
     ));
 }
 
-/// Lines of every word that is read as numbers, in the state that `all_refused_with_0` makes.
-const NUMBERED: [&str; 12] = [
-    "FORMAT,16,4,8,2",
-    "BEGIN,1",
-    "PUT,1,0,11111111111111111111111111111111",
-    "WRITE,0,1,0",
-    "APPEND,0,1",
-    "WEAVE,1",
-    "PUBLISH,0,0",
-    "BRANCH,0,0",
-    "READ,0,0,0,0",
-    "SIZE,0,0",
-    "RECENT,0",
-    "STAMP,0,0,0",
-];
-
-/// The numbered lines with one number after the other replaced.
+/// A line of every word with one number after the other replaced; as they are, none is refused with 0.
 fn with_number(replaced: &[u8]) -> Vec<Vec<u8>> {
     let mut lines = vec![];
-    for line in NUMBERED {
-        let fields: Vec<&[u8]> = line.as_bytes().split(|b| *b == b',').collect();
-        let numbers = if line.starts_with("PUT") {
-            2
-        } else {
-            fields.len() - 1
-        };
-        for at in 1..=numbers {
+    for (word, count) in WORDS {
+        let mut fields = vec![word.as_bytes()];
+        fields.extend(vec![&b"1"[..]; count]);
+        fields.extend((word == "PUT").then_some(&b"11"[..]));
+        lines.extend((1..=count).map(|at| {
             let mut fields = fields.clone();
             fields[at] = replaced;
-            lines.push(fields.join(&b","[..]));
-        }
+            fields.join(&b","[..])
+        }));
     }
     lines
 }
@@ -195,6 +167,8 @@ fn malformed_numbers_in_every_field() {
         b"99999999999999999999",
         b"184467440737095516150000000000000000000000000000000000000000001",
     ];
+    let right = [vec![b"FORMAT,16,4,8,2".to_vec()], with_number(b"1")].concat();
+    assert_eq!(count(&same_as_model(right), "refused,0"), 0);
     let lines = bad.iter().flat_map(|number| with_number(number));
     all_refused_with_0(lines);
     let zeros = [b"0".repeat(20), b"0".repeat(500), b"9".repeat(500)];
@@ -227,8 +201,6 @@ fn the_largest_number_in_every_field() {
         PUBLISH,M,0 > refused,20
         PUBLISH,0,M > refused,22
         PUBLISH,M,M > refused,20
-        BRANCH,M,0 > refused,20
-        BRANCH,0,M > refused,16
         APPEND,0,1 > version,1,1
         WEAVE,1 > node,1,0,1,0,0,0
         PUBLISH,0,0 > published,1
@@ -250,13 +222,16 @@ fn the_largest_number_in_every_field() {
         WEAVE,Z > refused,0
         PUBLISH,Z,0 > refused,0
         PUBLISH,0,Z > refused,0
-        BRANCH,Z,0 > refused,0
-        BRANCH,0,Z > refused,0
         RECENT,Z > refused,0
         SIZE,0,Z > refused,0
         READ,Z,1,0,0 > refused,0
         READ,0,1,Z,0 > refused,0
         STAMP,0,1,Z > refused,0";
+    agree_on_largest(text);
+}
+
+/// Compares with a script by hand, in which `M` is the largest number, and `Z` the one after it.
+pub fn agree_on_largest(text: &str) {
     agree_on(
         &text
             .replace(",M", &format!(",{LARGEST}"))

@@ -1,6 +1,6 @@
 //! Blast windows. The step program has no line that sets them, so a host's scripts do, and the library answers.
 
-use super::{agree_on, transcript};
+use super::{agree_on, all_refused_with_0, transcript};
 use crate::library;
 use crate::model::text::Program;
 use crate::scripts::Script;
@@ -225,14 +225,13 @@ fn a_new_list_replaces_the_old_one_whole_and_a_refused_one_leaves_it() {
     );
 }
 
-/// A version that is due waits for the window's end, on every line; only the minute given decides, not the ones before it.
+/// A version that is due waits for the window's end; only the minute given decides, not the ones before it.
 #[test]
 fn a_due_version_is_held_and_published_after() {
     host_agrees_on(
         "
         FORMAT,16,4,8,2 > ok
         SETWINDOWS,100,200; > done
-        BRANCH,0,0 > line,1
         BEGIN,1 > ticket,1
         PUT,1,0,<11> > put
         APPEND,0,1 > version,1,1
@@ -241,7 +240,6 @@ fn a_due_version_is_held_and_published_after() {
         WEAVE,1 > node,1,0,1,0,0,0
         PUBLISH,0,100 > held
         PUBLISH,0,199 > held
-        PUBLISH,1,199 > held
         RECENT,0 > recent,0
         READ,0,1,0,1 > refused,16
         PUBLISH,0,200 > published,1
@@ -249,16 +247,12 @@ fn a_due_version_is_held_and_published_after() {
         PUBLISH,0,200 > waiting
         PUBLISH,0,150 > held
         READ,0,1,0,1 > bytes,11
-        BEGIN,1 > ticket,2
-        PUT,2,0,<22> > put
-        APPEND,1,2 > version,1,1
-        WEAVE,2 > node,65537,0,1,1,0,0
-        PUBLISH,1,5000 > published,1
-        PUBLISH,1,150 > held
-        PUBLISH,1,99 > waiting
-        BRANCH,0,1 > line,2
-        PUBLISH,2,150 > held
-        PUBLISH,2,99 > waiting
-        RECENT,1 > recent,1",
+        RECENT,0 > recent,1",
     );
+}
+
+/// The step program has no line that sets them.
+#[test]
+fn the_step_program_sets_no_windows() {
+    all_refused_with_0(["SETWINDOWS", "SETWINDOWS,", "SETWINDOWS,0,1"]);
 }

@@ -45,7 +45,7 @@ const EDGES: [u64; 30] = [
 ];
 
 /// Each word, with how many numbers follow it.
-const WORDS: [(&str, usize); 12] = [
+pub const WORDS: [(&str, usize); 12] = [
     ("FORMAT", 4),
     ("BEGIN", 1),
     ("PUT", 2),
