@@ -2,7 +2,7 @@
 //! is added to.
 
 use crate::drawn::{
-    argument, bytes_length, limits_of, read_of, some_line, some_minute, some_text, up_to,
+    argument, bytes_length, limits_of, read_of, some_line, some_minute, some_page, some_text, up_to,
 };
 use crate::memory::{Fenced, Memory};
 use crate::random::Random;
@@ -202,10 +202,17 @@ pub fn draw(random: &mut Random, scene: &Scene) -> Call {
         15..=17 => read_of(random, scene, line, version),
         18 => Call::Size(line, version),
         19 => Call::Recent(line),
-        20 | 21 => Call::Stamp(line, version, PageIndex(other)),
+        20 | 21 => {
+            let page = PageIndex(some_page(random, scene, version.0));
+            Call::Stamp(line, version, page)
+        }
         22 if random.one_in(2) => Call::Branch(line, Version(0)),
         22 | 23 => Call::Branch(line, version),
-        _ => Call::View(line, version, PageIndex(other)),
+        _ => Call::View(
+            line,
+            version,
+            PageIndex(some_page(random, scene, version.0)),
+        ),
     }
 }
 

@@ -210,7 +210,11 @@ pub fn random_scene(random: &mut Random) -> Scene {
 /// Random bytes of the lengths that the state says; its counters are random.
 pub fn fitting_scene(random: &mut Random) -> Scene {
     let size = random.pick(&[0, 1, 2, 3, 7, 16, 16, 16, 24, 64]);
-    let capacities = [9, 40, 9].map(|above| random.below(above));
+    let half = random.below(2); // of the scenes have more than half of what may be
+    let capacities = [9, 40, 9].map(|above| {
+        let least = half * above / 2;
+        random.between(least, above - 1)
+    });
     let mut s = any_state(random);
     s.size = size;
     [s.pages, s.nodes, s.updates] = capacities;
@@ -516,6 +520,15 @@ pub fn some_line(random: &mut Random, scene: &Scene) -> u64 {
         1 => random.below(17),
         2..=4 => 0,
         _ => random.below(scene.state.begun.clamp(1, 16)),
+    }
+}
+
+/// A page, half of the time one that the version's update has put, by the record of its number, or beside it.
+pub fn some_page(random: &mut Random, scene: &Scene, version: u64) -> u64 {
+    let at = (version as usize).wrapping_sub(1);
+    match scene.memory.register.part().get(at) {
+        Some(record) if random.one_in(2) => record.f.saturating_add(random.below(2)),
+        _ => argument(random, scene),
     }
 }
 

@@ -103,10 +103,10 @@ fn whole(all: &[Entry], length: usize, before: u64) -> (usize, u64) {
     (end.unwrap_or(HEADER), last.map_or(before, |e| e.number))
 }
 
-/// Opens a folder whose last journal has so many bytes of `journal`, the header among them, and behind them, where it is so, what was
-/// written ahead.
-fn assert_cut(run: &Run, journal: &[u8], length: usize, before: u64) {
-    let (end, last) = whole(&entries(journal), length, before);
+/// Opens a folder whose last journal has so many bytes of all of its entries, the header among them, and behind them, where it is so,
+/// what was written ahead.
+fn assert_cut(run: &Run, all: &[Entry], length: usize, before: u64) {
+    let (end, last) = whole(all, length, before);
     let (durable, opened) = run.open().unwrap();
     run.assert_after(&durable, last);
     match opened.cut {
@@ -137,10 +137,11 @@ fn a_journal_that_is_cut_at_any_byte_gives_the_store_of_its_whole_entries() {
     let mut run = Run::new("a_journal_that_is_cut_at_any_byte");
     run.make_part(1);
     let (journal, path) = (run.close(1), run.journal(1));
+    let all = entries(&journal);
     for length in 0..=journal.len() {
         fs::write(&path, &journal[..length]).unwrap();
         if length >= HEADER {
-            assert_cut(&run, &journal, length, 0);
+            assert_cut(&run, &all, length, 0);
             continue;
         }
         // no crash leaves that: the header is on the disk before there is a store
@@ -156,15 +157,16 @@ fn a_journal_that_is_written_up_to_any_byte_gives_the_store_of_its_whole_entries
     let mut run = Run::new("a_journal_that_is_written_up_to_any_byte");
     run.make_part(2);
     let (journal, path) = (run.close(1), run.journal(1));
+    let all = entries(&journal);
     for length in HEADER..=journal.len() {
         let rest = ahead(&journal, length, 50);
         fs::write(&path, [&journal[..length], &rest].concat()).unwrap();
         // bytes that happen to be those that were written ahead are neither missed nor left
         let is_same = |at: &usize| journal[*at] == ahead(&journal, *at, 1)[0];
         let upto = length + (length..journal.len()).take_while(is_same).count();
-        let (end, _) = whole(&entries(&journal), upto, 0);
+        let (end, _) = whole(&all, upto, 0);
         let upto = upto - (end..upto).rev().take_while(is_same).count();
-        assert_cut(&run, &journal, upto, 0);
+        assert_cut(&run, &all, upto, 0);
     }
 }
 
@@ -179,10 +181,11 @@ fn the_last_of_three_journals_may_be_cut_at_any_byte_and_no_other() {
     let before = run.model.entries;
     run.make_part(6);
     let (last, path) = (run.close(3), run.journal(3));
+    let each = entries(&last);
     for length in 0..=last.len() {
         fs::write(&path, &last[..length]).unwrap();
         if length >= HEADER {
-            assert_cut(&run, &last, length, before);
+            assert_cut(&run, &each, length, before);
             continue;
         }
         // the one before says that this one goes on after it

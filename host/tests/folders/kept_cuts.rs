@@ -130,7 +130,7 @@ fn opened_with_little(place: &Folder) -> Cut {
     cut
 }
 
-/// A journal with a hole of 8 GiB behind its entries; and with an entry behind the hole, of which a copy is kept with the hole in it.
+/// A journal with a hole behind its entries; and with an entry behind one of 4 GiB, of which a copy is kept with the hole in it.
 #[test]
 fn a_sparse_journal_takes_little_memory() {
     in_a_process("kept_cuts::opens_a_sparse_journal");
@@ -139,25 +139,26 @@ fn a_sparse_journal_takes_little_memory() {
 #[test]
 #[ignore = "a part that another test runs in a process of its own"]
 fn opens_a_sparse_journal() {
-    const HOLE: u64 = 8 << 30;
+    const HOLES: [u64; 2] = [1 << 30, 4 << 30];
     let place = Folder::in_memory("kept-sparse");
     let journal = killed(&place);
     let path = place.path("journal-1");
     let length = journal.len() as u64;
     let file = OpenOptions::new().write(true).open(&path).unwrap();
-    file.set_len(length + HOLE).unwrap();
+    file.set_len(length + HOLES[0]).unwrap();
     let cut = opened_with_little(&place);
-    assert_eq!((cut.offset, cut.bytes, cut.whole), (length, HOLE, 0));
+    assert_eq!((cut.offset, cut.bytes, cut.whole), (length, HOLES[0], 0));
     assert_eq!(cut.kept, None);
 
     fs::remove_file(place.path("closed")).unwrap();
     let last = entries(&journal).pop().unwrap();
     file.set_len(last.begin as u64).unwrap();
     let entry = &journal[last.begin..];
-    file.write_all_at(entry, last.begin as u64 + HOLE).unwrap();
+    let begin = last.begin as u64 + HOLES[1];
+    file.write_all_at(entry, begin).unwrap();
     let cut = opened_with_little(&place);
     assert_eq!((cut.offset, cut.whole), (last.begin as u64, 1));
     let kept = fs::metadata(place.path(&cut.kept.unwrap())).unwrap();
-    assert_eq!(kept.len(), HOLE + entry.len() as u64);
+    assert_eq!(kept.len(), HOLES[1] + entry.len() as u64);
     assert!(kept.blocks() * 512 < 1 << 20);
 }

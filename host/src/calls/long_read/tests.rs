@@ -6,6 +6,7 @@ use crate::calls::areas::Limits;
 use crate::calls::counters::Minute;
 use crate::calls::error::Error;
 use crate::disk::journal::tests::random::Random;
+use crate::disk::journal::tests::support::call::Begin;
 use crate::shared::Shared;
 
 const SIZE: u64 = 16;
@@ -18,7 +19,7 @@ fn store(random: &mut Random) -> Store {
     let limits = Limits::new(SIZE, 120, 600, 30);
     let mut store = Store::format(limits).expect("limits in range");
     update(&mut store, random, Line(0), 0..BLOB);
-    store.branch(Line(0), Version(1)).expect(ACCEPTED);
+    store.line_from(Line(0), Version(1));
     for _ in 0..12 {
         let (line, first) = (Line(random.below(2)), random.below(BLOB - 4));
         let end = first + 1 + random.below(4);
