@@ -1,6 +1,6 @@
 //! The calls over owned and lent areas: the same answers, states and areas, also across a handing over of the parts.
 
-use crate::random::Random;
+use crate::random::{first_seed, Random};
 use crate::support::call::{make_one, Begin};
 use crate::support::draw::{draw, Shown, SINGLE};
 use crate::updates::{assign, fills, limits, of_three_versions, put_all, update, ANY_TIME, LIVE};
@@ -11,8 +11,9 @@ use pit_host::{
 
 #[test]
 fn owned_and_lent_stores_do_the_same() {
-    let (mut published, mut random) = ([0; 3], Random::new(20_260_401));
-    for _ in 0..40 {
+    let seed = first_seed("owned_and_lent_stores_do_the_same");
+    let (mut published, mut random) = ([0; 3], Random::new(seed));
+    for _ in 0..100 {
         let mut owned = Store::format(limits(24, 60, 10)).unwrap();
         // what stands in lent areas before FORMAT makes no difference
         let mut record = Record::default();
@@ -38,6 +39,7 @@ fn owned_and_lent_stores_do_the_same() {
         }
     }
     let [live, first, second] = published;
+    println!("{published:?} versions published on the first lines");
     assert!(live > 60 && first > 20 && second > 10, "{published:?}");
 }
 

@@ -13,7 +13,7 @@ use pit_host::{
 use std::fs;
 
 /// How many calls a journal has where nothing else is said.
-const CALLS: u64 = 240;
+const CALLS: u64 = 160;
 /// The length of a note.
 const NOTE: usize = 56;
 
