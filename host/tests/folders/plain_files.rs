@@ -161,6 +161,21 @@ fn no_link_is_followed_where_a_folder_is_opened() {
     }
 }
 
+/// A second name of somebody's file cannot be told from the file, so it is locked, and not written.
+#[test]
+fn nothing_is_written_to_a_lock_with_another_name() {
+    let (place, path, durable) = made("hard-link", Options::new());
+    drop(durable);
+    fs::write(place.path("precious"), PRECIOUS).unwrap();
+    fs::remove_file(path.join("lock")).unwrap();
+    fs::hard_link(place.path("precious"), path.join("lock")).unwrap();
+    open(&path).unwrap();
+    assert_eq!(
+        fs::read_to_string(place.path("precious")).unwrap(),
+        PRECIOUS
+    );
+}
+
 #[test]
 fn no_link_is_followed_where_a_folder_goes_on() {
     let (place, path, durable) = made("next-links", Options::new());

@@ -68,8 +68,12 @@ fn open_or_make(path: &Path, mode: u32) -> io::Result<File> {
     }
 }
 
-/// Writes down for whom a lock is held. A full disk keeps nobody out: the lock is what counts.
+/// Writes down for whom a lock is held. A full disk keeps nobody out: the lock is what counts. Where the file has another name too,
+/// which may be somebody's, nothing is written.
 fn write_process(file: &mut File) {
+    if file.metadata().map_or(true, |file| file.nlink() > 1) {
+        return;
+    }
     let process = format!("{}\n", std::process::id());
     let _ = file
         .write_all(process.as_bytes())
