@@ -1,4 +1,4 @@
-//! Random scenes, from wholly random ones to a valid store with one number changed, and random calls on them.
+//! Random scenes, from wholly random ones to a valid store with one number changed, and what the calls on them are given.
 
 use crate::memory::{Memory, Numbers};
 use crate::random::Random;
