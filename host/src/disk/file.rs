@@ -42,7 +42,7 @@ pub(crate) use taken::{put_pages, Taken};
 ///     match error {
 ///         Io { .. } | Foreign | Truncated { .. } | TooLong { .. } | Checksum => false,
 ///         Form(_) | Limits(_) | AreaLengths | Counters | Windows | Numbers | Rebuilt => true,
-///         Journal(_) | JournalIo { .. } | JournalFailed { .. } | NoJournal(_) => false,
+///         Journal(_) | JournalFailed { .. } | NoJournal(_) => false,
 ///         Closed | OtherProcess => false,
 ///         Folder { .. } | FolderMoved | NoStore | StoreThere | InUse { .. } | Saved { .. } => false,
 ///         ReadOnly => true,
@@ -94,13 +94,6 @@ pub enum FileError {
     Rebuilt,
     /// A journal is damaged, or does not fit the saved store; with what is wrong, and where.
     Journal(JournalError),
-    /// The system could not open, read, write or sync the journal of a folder that is being opened.
-    JournalIo {
-        /// The generation: the number in the file's name.
-        generation: u64,
-        /// Why not.
-        error: io::Error,
-    },
     /// A journal could not be written or synced: what returned before that is kept, and no call that changes the store is
     /// made any more. To go on, the folder is opened anew, by [`Durable::reopen`](crate::Durable::reopen) under its running callers.
     JournalFailed {
@@ -197,9 +190,6 @@ impl fmt::Display for FileError {
             OtherProcess => {
                 f.write_str("the folder was opened by the process from which this one was forked")
             }
-            JournalIo { generation, error } => {
-                write!(f, "journal-{generation} could not be opened, read or written: {error}")
-            }
             Folder { path, error } => {
                 let path = path.display();
                 write!(f, "{path}: the folder could not be opened or read: {error}")
@@ -222,7 +212,7 @@ impl std::error::Error for FileError {
     fn source(&self) -> Option<&(dyn std::error::Error + 'static)> {
         match self {
             FileError::Io { error, .. } => Some(error),
-            FileError::Folder { error, .. } | FileError::JournalIo { error, .. } => Some(error),
+            FileError::Folder { error, .. } => Some(error),
             FileError::Limits(e) => Some(e),
             FileError::Saved { error, .. } => error.source(),
             _ => None,

@@ -264,7 +264,7 @@ fn what_is_missing_is_told() {
         .output()
         .unwrap();
     let words =
-        "journal-1 could not be opened, read or written: it is a folder, and no plain file\n";
+        "/journal-1: could not be opened, read or written: it is a folder, and no plain file\n";
     let told = String::from_utf8(told.stderr).unwrap();
     assert!(told.ends_with(words), "{told}");
     fs::remove_dir(journal).unwrap();

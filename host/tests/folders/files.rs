@@ -39,10 +39,6 @@ fn words_and_causes() {
             path: path(),
             error: no_disk(),
         },
-        FileError::JournalIo {
-            generation: 3,
-            error: no_disk(),
-        },
         FileError::FolderMoved,
     ];
     let words: Vec<String> = errors.iter().map(FileError::to_string).collect();
@@ -55,7 +51,7 @@ fn words_and_causes() {
     let of_path = words.iter().filter(|w| w.starts_with("at/some/path: "));
     assert_eq!(of_path.count(), 2);
     let with_cause = errors.iter().filter(|e| e.source().is_some()).count();
-    assert_eq!(with_cause, 4);
+    assert_eq!(with_cause, 3);
 
     // the file of a folder is named once
     let saved = |error| FileError::Saved {

@@ -142,7 +142,7 @@ fn no_link_is_followed_where_a_folder_is_opened() {
     drop(durable);
     for (name, words) in [
         ("lock", format!("folder/lock: {IS_A_LINK}")),
-        ("journal-1", format!("journal-1 {IS_A_LINK}")),
+        ("journal-1", format!("folder/journal-1: {IS_A_LINK}")),
         ("store-1", format!("folder/store-1: {IS_A_LINK}")),
     ] {
         let (at, aside) = (path.join(name), place.path("aside"));
@@ -301,7 +301,10 @@ fn a_pipe_is_not_waited_for() {
             "store-1",
             format!("{}: {what}", path.join("store-1").display()),
         ),
-        ("journal-1", format!("journal-1 {what}")),
+        (
+            "journal-1",
+            format!("{}: {what}", path.join("journal-1").display()),
+        ),
     ] {
         let (at, aside) = (path.join(name), place.path("aside"));
         fs::rename(&at, &aside).unwrap();

@@ -135,7 +135,7 @@ fn is_only_begun(path: &Path, generation: u64) -> io::Result<bool> {
     if plain::found(path)?.is_none() {
         return Ok(false);
     }
-    let journal = Input::new(plain::to_read(path)?)?;
+    let journal = Input::new(plain::to_read(path)?, path)?;
     Ok(match journal.header(generation) {
         Ok(header) => look::is_only_begun(header.as_ref(), &journal),
         Err(_) => false,

@@ -4,7 +4,7 @@ use super::closed::Closed;
 use super::files::{self, Listing};
 use super::open::Opened;
 use crate::calls::store::Store;
-use crate::disk::file::{self, plain, FileError, Loaded};
+use crate::disk::file::{self, at, plain, FileError, Loaded};
 use crate::disk::journal::{replay, Header, Input, JournalError, JournalErrorKind, Replayed};
 use crate::shared::numbering::Numbering;
 use std::fs::File;
@@ -39,7 +39,7 @@ impl Look {
             open_saved(path, *generations.start())?,
             *generations.start(),
         )?;
-        let read = |g| input(open_journal(path, &listing, g)?, g);
+        let read = |g| input(open_journal(path, &listing, g)?, path, g);
         Look::from(saved, generations, read, closed)
     }
 
@@ -143,13 +143,14 @@ fn open_journal(path: &Path, listing: &Listing, generation: u64) -> Result<File,
     if !listing.journals.contains(&generation) {
         return Err(FileError::NoJournal(generation));
     }
-    let file = plain::to_read(&files::journal_in(path, generation));
-    file.map_err(|error| FileError::JournalIo { generation, error })
+    let path = files::journal_in(path, generation);
+    plain::to_read(&path).map_err(at(&path))
 }
 
-/// A journal to be read, as long as it is now.
-fn input(file: File, generation: u64) -> Result<Input, FileError> {
-    Input::new(file).map_err(|error| FileError::JournalIo { generation, error })
+/// A journal of a folder to be read, as long as it is now.
+fn input(file: File, path: &Path, generation: u64) -> Result<Input, FileError> {
+    let path = files::journal_in(path, generation);
+    Input::new(file, &path).map_err(at(&path))
 }
 
 /// These journals, to be read. Where another process writes, the length and the header of the last are taken first: a journal that has
@@ -164,7 +165,7 @@ pub fn open_journals(
     let opened: Vec<(File, u64)> = generations.map(open).collect::<Result<_, FileError>>()?;
     let each = opened.into_iter().rev();
     let mut journals: Vec<Input> = each
-        .map(|(file, g)| input(file, g))
+        .map(|(file, g)| input(file, path, g))
         .collect::<Result<_, FileError>>()?;
     journals.reverse();
     Ok(journals)

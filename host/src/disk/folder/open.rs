@@ -6,7 +6,7 @@ use super::lock::FolderLock;
 use super::look::{self, Look};
 use super::{Folder, Generations, Options, Place};
 use crate::calls::store::Store;
-use crate::disk::file::{at_folder, new, plain, FileError};
+use crate::disk::file::{at, at_folder, new, plain, FileError};
 use crate::disk::journal::{self, is_no_room, Cut, Input, Journal, Replayed, PART};
 use crate::shared::numbering::Numbering;
 use std::fmt;
@@ -79,12 +79,11 @@ pub fn read(path: &Path, options: Options) -> Result<(Read, Opened), FileError> 
         next: None,
     };
     files::sync_folder(path).map_err(at_folder(path))?; // a process that died may not have got so far with the store's name
-    let generation = place.journal;
-    let of_io = |error| FileError::JournalIo { generation, error };
+    let last = files::journal_in(path, place.journal);
     if let Some(cut) = &mut opened.cut {
-        kept::keep(path, cut, options.file_mode()).map_err(of_io)?;
+        kept::keep(path, cut, options.file_mode()).map_err(at(&last))?;
     }
-    let journal = resume(path, &found, options).map_err(of_io)?;
+    let journal = resume(&last, &found, options).map_err(at(&last))?;
     note_ended(path, &found.unended)?; // the next one's header is on the disk now
     let _ = files::clear(path, place.store..=place.journal); // what is left does no harm, and the next checkpoint tries again
     new::clear(path);
@@ -101,35 +100,30 @@ pub fn read(path: &Path, options: Options) -> Result<(Read, Opened), FileError> 
 /// as the last is once it is resumed, and before it has more entries; if there is room.
 fn note_ended(path: &Path, unended: &[Replayed]) -> Result<(), FileError> {
     for found in unended {
-        let generation = found.header.generation;
-        let file = open_to_write(path, generation);
-        let noted = file.and_then(|file| {
+        let path = files::journal_in(path, found.header.generation);
+        let noted = plain::to_write(&path).and_then(|file| {
             journal::note_ended(&file, found.length, found.last, found.header.salt)
         });
         match noted {
             Ok(()) => (),
             Err(error) if is_no_room(&error) => return Ok(()), // a part of it counts as none
-            Err(error) => return Err(FileError::JournalIo { generation, error }),
+            Err(error) => return Err(at(&path)(error)),
         }
     }
     Ok(())
 }
 
-fn open_to_write(path: &Path, generation: u64) -> io::Result<File> {
-    plain::to_write(&files::journal_in(path, generation))
-}
-
-/// Goes on in the last journal, after what is whole.
+/// Goes on in the last journal, which is at this path, after what is whole.
 ///
 /// What is not known to have been synced is written anew. After a sync that failed, a system may call clean what it has in memory
 /// alone: such bytes can be read, and no later sync writes them.
 fn resume(path: &Path, found: &Look, options: Options) -> io::Result<Journal> {
     let last = &found.last;
-    let file = open_to_write(path, last.header.generation)?;
+    let file = plain::to_write(path)?;
     if last.cut.is_some() {
         file.set_len(last.length)?;
     }
-    let noted = last.noted_bytes(&Input::new(file.try_clone()?)?)?;
+    let noted = last.noted_bytes(&Input::new(file.try_clone()?, path)?)?;
     let closed = found.closed.filter(|closed| closed.is_of(&last.header));
     let from = closed.map_or(noted, |closed| noted.max(closed.length));
     write_anew(&file, from, last.length)?;

@@ -3,9 +3,11 @@
 use super::entry::MOST_ENTRY;
 use super::error::JournalError;
 use super::header::{Header, HEADER};
+use crate::disk::file::{at, FileError};
 use std::fs::File;
 use std::io::{self, ErrorKind};
 use std::os::unix::fs::FileExt;
+use std::path::{Path, PathBuf};
 
 /// So many bytes are read at once.
 pub const PART: usize = 1 << 18;
@@ -34,6 +36,8 @@ impl ReadAt for Vec<u8> {
 
 /// A journal that is read, no further than it was long when this was made.
 pub struct Input {
+    /// Where it is, for errors.
+    path: PathBuf,
     bytes: Box<dyn ReadAt>,
     /// Its length in bytes.
     pub length: u64,
@@ -42,14 +46,22 @@ pub struct Input {
 }
 
 impl Input {
-    /// Of this file, as long as it is now.
-    pub fn new(file: File) -> io::Result<Input> {
+    /// Of this file at a path, as long as it is now.
+    pub fn new(file: File, path: &Path) -> io::Result<Input> {
         let length = file.metadata()?.len();
-        Input::of(Box::new(file), length)
+        let mut input = Input::of(Box::new(file), length)?;
+        input.path = path.to_path_buf();
+        Ok(input)
+    }
+
+    /// An error of reading it.
+    pub fn error(&self, error: io::Error) -> FileError {
+        at(&self.path)(error)
     }
 
     pub(super) fn of(bytes: Box<dyn ReadAt>, length: u64) -> io::Result<Input> {
         let mut input = Input {
+            path: PathBuf::new(),
             bytes,
             length,
             front: Vec::new(),

@@ -118,11 +118,6 @@ impl Replayed {
         JournalError::new(generation, self.length, self.last + 1, kind)
     }
 
-    fn io_error(&self, error: io::Error) -> FileError {
-        let generation = self.header.generation;
-        FileError::JournalIo { generation, error }
-    }
-
     /// Takes the next entries, up to the first that is not whole.
     fn take_whole<A: Storage>(
         &mut self,
@@ -131,7 +126,7 @@ impl Replayed {
     ) -> Result<(), FileError> {
         let mut reader = input.from(self.length);
         loop {
-            let rest = reader.rest().map_err(|e| self.io_error(e))?;
+            let rest = reader.rest().map_err(|e| input.error(e))?;
             let entry = match Entry::at_front(rest, self.header.salt) {
                 Some(entry) => entry,
                 None => return Ok(()),
@@ -180,14 +175,14 @@ impl Replayed {
     fn is_whole_now(&self, input: &Input) -> Result<bool, FileError> {
         let mut bytes = vec![0; MOST_ENTRY];
         let filled = input.fill(&mut bytes, self.length);
-        let count = filled.map_err(|e| self.io_error(e))?;
+        let count = filled.map_err(|e| input.error(e))?;
         Ok(Entry::at_front(&bytes[..count], self.header.salt).is_some())
     }
 
     /// What is cut off where the rest of the journal, but for what was written ahead, begins with no whole entry; an error where more was
     /// synced.
     fn cut_off(&self, input: &Input) -> Result<Option<Cut>, FileError> {
-        let of_io = |e| self.io_error(e);
+        let of_io = |e| input.error(e);
         let used = used(input, self.length, self.header.salt).map_err(of_io)?;
         if used == 0 {
             return Ok(None);
