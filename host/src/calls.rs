@@ -8,6 +8,6 @@ pub mod error;
 pub mod ffi;
 #[allow(unsafe_code)]
 pub mod hints;
-pub mod long_read;
+pub mod read_by_view;
 pub mod store;
 pub mod windows;

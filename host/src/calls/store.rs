@@ -353,6 +353,9 @@ impl<A: Storage> Store<A> {
         offset: ByteOffset,
         buffer: &mut [u8],
     ) -> Result<(), Error> {
+        if let Some(()) = self.read_in_page(line, version, offset, buffer) {
+            return Ok(());
+        }
         let numbers = self.numbers_of_many(line, version, offset, buffer.len());
         match numbers.and_then(|numbers| self.copy_numbered(numbers, offset, buffer)) {
             Some(()) => Ok(()),

@@ -177,6 +177,9 @@ impl Core {
     ) -> Result<(), Error> {
         let own = self.own(&instance, line, version)?;
         let (store, pages) = (instance.store(), &instance.epoch.pages);
+        if let Some(()) = store.read_in_page(line, own, offset, buffer) {
+            return Ok(());
+        }
         let numbers = store.numbers_of_many(line, own, offset, buffer.len());
         let are_put = |numbers: &Vec<u64>| numbers.iter().all(|number| pages.is_put(*number));
         match numbers.filter(are_put) {

@@ -7,7 +7,7 @@
 
 use crate::calls::areas::{Parts, PartsMut, Storage};
 use crate::calls::ffi::{RawAreas, Record};
-use crate::calls::long_read::copy_pages;
+use crate::calls::read_by_view::copy_pages;
 use std::cell::UnsafeCell;
 use std::sync::atomic::{AtomicU64, Ordering};
 use std::sync::Arc;

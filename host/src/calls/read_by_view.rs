@@ -1,5 +1,5 @@
-//! READ of many pages. The proved READ looks each page up twice, the first time to refuse before it has copied any. Here each is looked up
-//! once, by VIEW, and all are copied then.
+//! READ by VIEW. The proved READ copies by its own loops, and looks each of several pages up twice, the first time to refuse before it has
+//! copied any. Here each is looked up once, by VIEW, and all are copied then. Where VIEW refuses a page, READ answers, by its own rows.
 
 use crate::calls::areas::{Storage, MOST_PAGES};
 use crate::calls::counters::{ByteOffset, Line, PageIndex, Version};
@@ -13,6 +13,26 @@ const MANY: u64 = 2;
 const PREFETCHED: usize = 1_024;
 
 impl<A: Storage> Store<A> {
+    /// READ of bytes that lie within one page. None where they do not, or VIEW does not have that page.
+    #[inline]
+    pub(crate) fn read_in_page(
+        &self,
+        line: Line,
+        version: Version,
+        from: ByteOffset,
+        buffer: &mut [u8],
+    ) -> Option<()> {
+        let size = self.state().size;
+        let (page, skip) = (from.0.checked_div(size)?, from.0.checked_rem(size)?);
+        let end = skip.checked_add(buffer.len() as u64)?;
+        if buffer.is_empty() || end > size {
+            return None;
+        }
+        let bytes = self.view(line, version, PageIndex(page)).ok()?;
+        buffer.copy_from_slice(bytes.get(skip as usize..end as usize)?);
+        Some(())
+    }
+
     /// The numbers of the pages that so many bytes of a version lie in, where these are many and VIEW has all of them. Where it refuses one
     /// of them, READ refuses all, by its own rows.
     pub(crate) fn numbers_of_many(
