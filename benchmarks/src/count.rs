@@ -214,7 +214,11 @@ impl Scene {
             let view = self.store.view(line, version, PageIndex(page));
             black_box(view.expect(ACCEPTED));
             let offset = ByteOffset(page * PAGE_SIZE as u64);
-            let read = self.store.read(line, version, offset, &mut to);
+            // the proved call: `read` is made of VIEWs
+            let length = to.len() as u64;
+            let read = self
+                .store
+                .read_front(line, version, offset, length, &mut to);
             read.expect(ACCEPTED);
             black_box(&mut to);
         }
