@@ -124,6 +124,20 @@ impl<L: Log> Handle<L> {
         self.core.read(line, version, offset, buffer)
     }
 
+    /// [`Store::read_front`](crate::Store::read_front): the proved READ itself, with a length of its own.
+    pub fn read_front(
+        &self,
+        line: Line,
+        version: Version,
+        offset: ByteOffset,
+        len: u64,
+        buffer: &mut [u8],
+    ) -> Result<(), Error> {
+        let instance = self.core.reading();
+        let own = self.core.own(&instance, line, version)?;
+        instance.store().read_front(line, own, offset, len, buffer)
+    }
+
     /// [`Store::size`](crate::Store::size).
     pub fn size(&self, line: Line, version: Version) -> Result<u64, Error> {
         self.core.size_in(&self.core.reading(), line, version)

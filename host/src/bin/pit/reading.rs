@@ -106,7 +106,9 @@ impl<'a> Reading<'a> {
         from: ByteOffset,
         buffer: &mut [u8],
     ) -> Result<(), String> {
-        let read = self.store.read(line, version, from, buffer);
+        // the proved READ: `read` is made of VIEWs, with which it is compared
+        let length = buffer.len() as u64;
+        let read = self.store.read_front(line, version, from, length, buffer);
         read.map_err(|error| format!(", from byte {from} on: READ: {error}"))?;
         let pages = (from.0 / self.page_size..).map(PageIndex);
         for (page, bytes) in pages.zip(buffer.chunks(self.page_size as usize)) {

@@ -98,6 +98,10 @@ fn try_read(random: &mut Random, store: &Store, shared: &Shared) -> Answer {
     assert_eq!(read, due);
     let read = answer(length, |buffer| shared.read(line, version, offset, buffer));
     assert_eq!(read, due);
+    let read = answer(length, |buffer| {
+        shared.read_front(line, version, offset, length as u64, buffer)
+    });
+    assert_eq!(read, due);
     if let Ok(snapshot) = shared.snapshot(line, version) {
         let read = answer(length, |buffer| snapshot.read(offset, buffer));
         assert_eq!(read, due);
