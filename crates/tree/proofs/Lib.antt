@@ -18,3 +18,4 @@ pub mod Reach
 pub mod Weaving
 pub mod Whole
 pub mod Numbering
+pub mod Costliest

@@ -4,3 +4,5 @@ pub mod NodeArea
 pub mod Walk
 pub mod Contract
 pub mod Cases
+pub mod Worst
+pub mod Examples

@@ -6,6 +6,7 @@ ghost use lib.Count.{ones};
 ghost use Rattle.tree.specs.Place.{kth, first, halvings, nodeNumbered};
 ghost use Rattle.tree.specs.NodeArea.{nodeAt, withNode};
 ghost use Rattle.tree.specs.Cases.{table, every};
+ghost use Rattle.tree.specs.Worst.{worstFor, WorstCases};
 ghost use Rattle.tree.specs.Contract.{rootSpan, rootIn, heightIn, heightFor, nodesFor, Pages, Counted, Names};
 use spans::root_span;
 
@@ -105,6 +106,26 @@ pub fn smaller(a: u64, b: u64) -> u64
     ensures { λ r. ⌜ r ≡ min a b ⌝ }
 {
     if a < b { a } else { b }
+}
+
+// The worst node count of a write of n pages into a blob of exactly r pages that stays inside them, or 0 for an r or n that it is not asked for. It is the count of the
+// write from page r / 2 - 1 on, so that no sum is made.
+pub fn worst(r: u64, n: u64) -> u64
+    ensures { λ w. ⌜ w ≡ worstFor r n ⌝ }
+{
+    let half = r / 2;
+    if n == 0 {
+        return 0;
+    }
+    if n > smaller(MOST_UPDATED, half) {
+        return 0;
+    }
+    if root_within(r) != r {
+        return 0;
+    }
+    let f = half - 1;
+    let last = f + n - 1;
+    node_count(PageIndex(f), PageIndex(last), height_of(r))
 }
 
 // The first page of the node of a height over page p.
@@ -217,7 +238,20 @@ pub extern "C" fn pit_node_count(f: u64, n: u64, size: u64) -> u64
     node_count(PageIndex(f), PageIndex(last), root_height(size))
 }
 
+// For C: the worst node count of a write of n pages into a blob of exactly r pages that stays inside them, or 0 for an r or n that it is not asked for.
+#[no_mangle]
+pub extern "C" fn pit_worst(r: u64, n: u64) -> u64
+    ensures { λ w. ⌜ w ≡ worstFor r n ⌝ }
+{
+    worst(r, n)
+}
+
 // The twelve proved cases of the tree rule, as a promise: a function is what the prover's verdict counts, so that a theorem that is gone is seen.
 pub fn twelve_cases()
     ensures { λ _. ⌜ every table ≡ true ⌝ }
+{}
+
+// That a write reaches the worst count and none exceeds it, for every r and n that it is asked for: a theorem as a promise, likewise.
+pub fn worst_cases()
+    ensures { λ _. ⌜ WorstCases ⌝ }
 {}
