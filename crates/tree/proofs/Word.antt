@@ -20,7 +20,7 @@ unfolding rootSpan
 no-span s p = rw (lt-ltb 0 s (omega arith), lt-leb s 4096 p)
 
 -- A number of pages that is its own root's span is a power of two, up to 4,096.
-own-span : (s : ℕ) → 0 < s → rootSpan s ≡ s → (rootHeight s ≤ 12) × (s ≡ 2 ^ rootHeight s)
+pub own-span : (s : ℕ) → 0 < s → rootSpan s ≡ s → (rootHeight s ≤ 12) × (s ≡ 2 ^ rootHeight s)
 own-span s p e = elim (lt-or-le 4096 s) [
   | inl q ↦ absurd (omega (arith, no-span s q))
   | inr q ↦ (root-low s q, sym e ∙ span-power s p q)
@@ -38,12 +38,14 @@ word-holds s = go (ltb 0 s && eqb (rootSpan s) s) refl
         inl (rootHeight s, o .0, o .1)
     go false e = inr (rw (e, rootIn))
 
+-- And such a power is its own root's span.
+pub power-span : (h : ℕ) → h ≤ 12 → rootSpan (2 ^ h) ≡ 2 ^ h
+power-span h p = span-power (2 ^ h) (pow-pos h) (pow-mono p) ∙ ap (λ (n : ℕ). 2 ^ n) (root-of-power h)
+
 -- What a word holds that is such a power: itself.
 pub root-in-power : (h : ℕ) → h ≤ 12 → rootIn (2 ^ h) ≡ 2 ^ h
 unfolding rootIn
-root-in-power h p =
-    let e = span-power (2 ^ h) (pow-pos h) (pow-mono p) ∙ ap (λ (n : ℕ). 2 ^ n) (root-of-power h) in
-    rw (lt-ltb 0 (2 ^ h) (pow-pos h), eq-eqb (rootSpan (2 ^ h)) (2 ^ h) e, rootIn)
+root-in-power h p = rw (lt-ltb 0 (2 ^ h) (pow-pos h), eq-eqb (rootSpan (2 ^ h)) (2 ^ h) (power-span h p), rootIn)
 
 pub height-in-power : (h : ℕ) → h ≤ 12 → heightIn (2 ^ h) ≡ h
 unfolding heightIn

@@ -108,8 +108,8 @@ pub fn smaller(a: u64, b: u64) -> u64
     if a < b { a } else { b }
 }
 
-// The worst node count of a write of n pages into a blob of exactly r pages that stays inside them, or 0 for an r or n that it is not asked for. It is the count of the
-// write from page r / 2 - 1 on, so that no sum is made.
+// The worst node count of a write of n pages into a blob of exactly r pages that stays inside them, or 0 for an r or n that it is not asked for. Blobs of a power of two of
+// pages are those that are their own root's span. It is the count of the write from page r / 2 - 1 on, so that no sum is made.
 pub fn worst(r: u64, n: u64) -> u64
     ensures { λ w. ⌜ w ≡ worstFor r n ⌝ }
 {
@@ -120,7 +120,7 @@ pub fn worst(r: u64, n: u64) -> u64
     if n > smaller(MOST_UPDATED, half) {
         return 0;
     }
-    if root_within(r) != r {
+    if root_span(r) != r {
         return 0;
     }
     let f = half - 1;

@@ -4,8 +4,9 @@ use mathlib.Core.Path.{_≡_, sym, ap, _∙_}
 use Prim.Native.Nat.{ℕ, suc, _/_, _≤_, _<_, min}
 use native.Mathlib.Omega.{arith}
 use borrow.Author.Needs.{needs}
-use Rattle.tree.specs.Contract.{rootIn, heightIn}
-use Rattle.tree.proofs.Word.{root-in-power, own-power, height-in-low}
+use Rattle.tree.specs.Tree.{rootHeight}
+use Rattle.tree.specs.Contract.{rootSpan}
+use Rattle.tree.proofs.Word.{own-span, power-span}
 use Rattle.tree.proofs.Costliest.{Asked, asked-by, worst-none, worst-counted}
 use Rattle.tree.proofs.worst.Statement.{statement}
 use Rattle.tree.proofs.worst.Tie as tie
@@ -22,15 +23,15 @@ returns-2 c =
     let t = c .if2 .taken in
     worst-none _ _ (λ a. omega (arith, a .power, a .few, a .half, s, t))
 
-root-within-requires : tie.Need-root-within-requires
-root-within-requires c κs = search needs
+root-span-requires : tie.Need-root-span-requires
+root-span-requires c κs = search needs
 
--- Such a power a word holds as it is.
+-- Such a power is its own root's span.
 returns-3 : tie.Need-returns-3
 returns-3 c =
-    let w = c .before .root-within .ensures in
+    let w = c .before .root-span .ensures in
     let t = c .if3 .taken in
-    worst-none _ _ (λ a. t (w ∙ ap rootIn (a .power) ∙ root-in-power (suc (a .height)) (omega (arith, a .low)) ∙ sym (a .power)))
+    worst-none _ _ (λ a. t (w ∙ ap rootSpan (a .power) ∙ power-span (suc (a .height)) (omega (arith, a .low)) ∙ sym (a .power)))
 
 sub-f : tie.Need-sub-f
 sub-f c = search needs
@@ -45,21 +46,21 @@ height-of-requires : tie.Need-height-of-requires
 height-of-requires c κs = search needs
 
 -- What the tests leave.
-tested : (r n x : ℕ) → x ≡ rootIn r → x ≡ r → 0 < n → n ≤ min 64 (r / 2) → Asked r n
-tested r n x e q o p = asked-by r n (heightIn r) (own-power r (sym e ∙ q)) (height-in-low r) o p
+tested : (r n x : ℕ) → x ≡ rootSpan r → x ≡ r → 0 < n → n ≤ min 64 (r / 2) → Asked r n
+tested r n x e q o p = let s = own-span r (omega arith) (sym e ∙ q) in asked-by r n (rootHeight r) (s .1) (s .0) o p
 
 node-count-requires : tie.Need-node-count-requires
 node-count-requires c κs =
     let b = c .before .before in
     let a = b .before .before .before .before .args in
-    let t = tested (a .r) (a .n) _ (b .root-within .ensures) (c .before .if3 .left) (omega arith) (omega (arith, b .before .before .smaller .ensures)) in
+    let t = tested (a .r) (a .n) _ (b .root-span .ensures) (c .before .if3 .left) (omega arith) (omega (arith, b .before .before .smaller .ensures)) in
     rw (c .height-of .ensures (suc (t .height)) (t .power)) (record { order = omega arith; inside = omega (arith, t .power, t .half); low = omega (arith, t .low) })
 
 returns-4 : tie.Need-returns-4
 returns-4 c =
     let b = c .before .before .before in
     let a = b .before .before .before .before .args in
-    let t = tested (a .r) (a .n) _ (b .root-within .ensures) (c .before .before .if3 .left) (omega arith) (omega (arith, b .before .before .smaller .ensures)) in
+    let t = tested (a .r) (a .n) _ (b .root-span .ensures) (c .before .before .if3 .left) (omega arith) (omega (arith, b .before .before .smaller .ensures)) in
     c .node-count .ensures .exact ∙ worst-counted (a .r) (a .n) _ t (c .before .height-of .ensures (suc (t .height)) (t .power))
 
 pub worst-spec : {M : Type 1} → statement M
@@ -69,7 +70,7 @@ worst-spec =
     returns
     smaller-requires
     returns-2
-    root-within-requires
+    root-span-requires
     returns-3
     sub-f
     add-last
