@@ -2,6 +2,7 @@
 use Prim.Native.Nat.{ℕ}
 use mathlib.Core.Bool.{true}
 use mathlib.Core.List.{List}
+use lib.Dec.{eqb}
 use lib.ListN.{take, replicate}
 use Rattle.text.specs.Text.{pick}
 use Rattle.text.specs.Buffer.{front, wrote}
@@ -166,3 +167,7 @@ stampedReply (Stamped.Refused k) = Reply.Refused k
 
 unfoldable pub stampSaid : Kept → Stamped → Said
 stampSaid k a = replied k (stampedReply a)
+
+-- WORST: the count, whether a store is open or not; 0 is none.
+unfoldable pub worstSaid : Kept → ℕ → Said
+worstSaid k n = pick (eqb n 0) (refusedSaid k) (plainly k (Reply.Worst n))

@@ -1,7 +1,7 @@
 // What the store answers to a step of the step program, written as a line of text; and what is kept between steps.
 ghost use mathlib.Core.Path.{_≡_};
 ghost use Prim.Native.Nat.{min};
-ghost use Rattle.answers.specs.Answers.{turned, plainly, refusedSaid, replied, opening, formatSaid, beginSaid, putSaid, assignSaid, weaveSaid, publishSaid, branchSaid, sizeSaid, recentSaid, stampSaid, bytesSaid, readSaid};
+ghost use Rattle.answers.specs.Answers.{turned, plainly, refusedSaid, replied, opening, formatSaid, beginSaid, putSaid, assignSaid, weaveSaid, publishSaid, branchSaid, sizeSaid, recentSaid, stampSaid, worstSaid, bytesSaid, readSaid};
 use assign::AssignOut;
 use assign::Assigned;
 use begin::BeginOut;
@@ -34,7 +34,7 @@ pub struct Turn {
     pub len: usize,
 }
 
-// With no store open every step but FORMAT is refused.
+// With no store open every step but FORMAT and WORST is refused.
 
 // The turn that keeps this and replies so, whether a store is open or not.
 fn plain_turn(kept: Kept, reply: Reply) -> Turn
@@ -194,6 +194,16 @@ pub fn stamp_turn(kept: Kept, a: Stamped) -> Turn
         Stamped::Is(v) => reply_turn(kept, Reply::Stamp(v.0)),
         Stamped::Refused(k) => reply_turn(kept, Reply::Refused(k)),
     }
+}
+
+// WORST's count needs no store; 0 is none.
+pub fn worst_turn(kept: Kept, n: u64) -> Turn
+    ensures { λ r. ⌜ r ≡ turned (worstSaid kept n) ⌝ }
+{
+    if n == 0 {
+        return refused_turn(kept);
+    }
+    plain_turn(kept, Reply::Worst(n))
 }
 
 // READ's answer is the first n bytes of the buffer that it filled.

@@ -1,6 +1,7 @@
 // The steps of the step program that change no area, each by its call: the crates of the calls decide, and `answers` writes the answer.
 ghost use mathlib.Core.Path.{_≡_};
 ghost use mathlib.Core.List.{[]};
+ghost use Rattle.tree.specs.Worst.{worstFor};
 ghost use Rattle.windows.specs.Windows.{noWindows};
 ghost use Rattle.versions.specs.Store.{areasOf};
 ghost use Rattle.versions.specs.Size.{sizeOut};
@@ -9,7 +10,7 @@ ghost use Rattle.publish.specs.Publish.{publishOut};
 ghost use Rattle.branch.specs.Branch.{branchOut};
 ghost use Rattle.read.specs.Read.{readOut, readBuffer};
 ghost use Rattle.stamp.specs.Stamp.{stampOut};
-ghost use Rattle.answers.specs.Answers.{turned, publishSaid, branchSaid, noBytes, readSaid, sizeSaid, recentSaid, stampSaid};
+ghost use Rattle.answers.specs.Answers.{turned, publishSaid, branchSaid, noBytes, readSaid, sizeSaid, recentSaid, stampSaid, worstSaid};
 ghost use Rattle.wanted.specs.declared.Wanted.the-variants as Wanted;
 ghost use Rattle.wanted.specs.Steps.{stepSaid};
 use answers::Kept;
@@ -21,6 +22,7 @@ use answers::recent_turn;
 use answers::refused_turn;
 use answers::size_turn;
 use answers::stamp_turn;
+use answers::worst_turn;
 use lines::Line;
 use register::Record;
 use tree::PageIndex;
@@ -149,6 +151,13 @@ pub fn stamp_step(
     stamp_turn(kept, a)
 }
 
+// It needs no store.
+pub fn worst_step(kept: Kept, r: u64, n: u64) -> Turn
+    ensures { λ t. ⌜ t ≡ turned (worstSaid kept (worstFor r n)) ⌝ }
+{
+    worst_turn(kept, tree::worst(r, n))
+}
+
 // One that changes no area.
 pub fn look_step(kept: Kept, step: Look, pages: &[u8], nodes: &[u32], register: &[Record]) -> Turn
     ensures { λ r.
@@ -162,6 +171,7 @@ pub fn look_step(kept: Kept, step: Look, pages: &[u8], nodes: &[u32], register: 
         Look::Size(l, v) => size_step(kept, l, v, pages, nodes, register),
         Look::Recent(l) => recent_step(kept, l, pages, nodes, register),
         Look::Stamp(l, v, p) => stamp_step(kept, l, v, p, pages, nodes, register),
+        Look::Worst(r, n) => worst_step(kept, r, n),
         Look::Nothing => refused_turn(kept),
     }
 }

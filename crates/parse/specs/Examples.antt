@@ -71,10 +71,11 @@ other-lines :
     × (meantOf (text "PUBLISH,15,10080") ≡ plainly (Step.Publish 15 10080))
     × (meantOf (text "SIZE,1,0") ≡ plainly (Step.Size 1 0))
     × (meantOf (text "RECENT,15") ≡ plainly (Step.Recent 15))
+    × (meantOf (text "WORST,4096,64") ≡ plainly (Step.Worst 4096 64))
     × (meantOf (text "BEGIN,18446744073709551615") ≡ plainly (Step.Begin (2 ^ 64 - 1)))
     × (meantOf (text "PUT,1,0," ++ replicate 592 97) ≡ putting (Step.Put 1 0 296) (replicate 296 170))
 unfolding meantOf meantBy oneOf twoOf threeOf putOf putOrThree fourOf fieldNumber hexValue
-other-lines = (refl, refl, refl, refl, refl, refl, refl, refl, refl)
+other-lines = (refl, refl, refl, refl, refl, refl, refl, refl, refl, refl)
 
 -- a malformed line
 abbrev Bad : List ℕ → Type 0
@@ -101,11 +102,13 @@ malformed :
     × Bad (text "PUBLISH,0,0,0")
     × Bad (text "READ,2,0,0")
     × Bad (text "BRANCH,0")
+    × Bad (text "WORST,64")
+    × Bad (text "WORST,64,2,0")
     × Bad (text "FORMAT,16,4,8")
     × Bad (text "FORMAT,16,4,8,2,1")
     × Bad (text "PUT,1,0," ++ replicate 594 97)
 unfolding meantOf meantBy oneOf twoOf threeOf putOf putOrThree fourOf fieldNumber hexValue
-malformed = (refl, refl, refl, refl, refl, refl, refl, refl, refl, refl, refl, refl, refl, refl, refl, refl, refl, refl, refl, refl, refl, refl, refl)
+malformed = (refl, refl, refl, refl, refl, refl, refl, refl, refl, refl, refl, refl, refl, refl, refl, refl, refl, refl, refl, refl, refl, refl, refl, refl, refl)
 
 -- lines cut with a buffer of four bytes: an empty line, one that fills the buffer, one that is over, and a last one without a line feed
 cutting :

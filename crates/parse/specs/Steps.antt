@@ -9,7 +9,7 @@ use Rattle.text.specs.Text.{pick, same}
 use Rattle.fields.specs.declared.Number.{Number}
 use Rattle.fields.specs.declared.Number.the-variants.{Is, Not}
 use Rattle.parse.specs.declared.Step.{Step}
-use Rattle.parse.specs.declared.Step.the-variants.{Format, Begin, Put, Write, Append, Weave, Publish, Branch, Read, Size, Recent, Stamp, Malformed}
+use Rattle.parse.specs.declared.Step.the-variants.{Format, Begin, Put, Write, Append, Weave, Publish, Branch, Read, Size, Recent, Stamp, Worst, Malformed}
 use Rattle.fields.specs.Fields.{fieldsOf, fieldNumber, hexOf}
 
 -- what a line means: its step and, for PUT, the page bytes
@@ -37,7 +37,8 @@ twoOf w (Is a) (Is b) =
     pick (same w (text "APPEND")) (Append a b)
     (pick (same w (text "PUBLISH")) (Publish a b)
     (pick (same w (text "BRANCH")) (Branch a b)
-    (pick (same w (text "SIZE")) (Size a b) Malformed)))
+    (pick (same w (text "SIZE")) (Size a b)
+    (pick (same w (text "WORST")) (Worst a b) Malformed))))
 
 -- the step of a word and three numbers
 unfoldable pub threeOf : List ℕ → Number → Number → Number → Step

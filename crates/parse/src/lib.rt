@@ -26,6 +26,7 @@ pub enum Step {
     Size(u64, u64),
     Recent(u64),
     Stamp(u64, u64, u64),
+    Worst(u64, u64),
     Malformed,
 }
 
@@ -88,6 +89,9 @@ fn two(w: &[u8], a: Number, b: Number) -> Step
     }
     if word_is(w, b"SIZE") {
         return Step::Size(a, b);
+    }
+    if word_is(w, b"WORST") {
+        return Step::Worst(a, b);
     }
     Step::Malformed
 }

@@ -56,9 +56,10 @@ other-answers :
     (replyLine (Reply.Line 15) ≡ text "line,15\n")
     × (replyLine Reply.Held ≡ text "held\n")
     × (replyLine (Reply.Recent 10) ≡ text "recent,10\n")
+    × (replyLine (Reply.Worst 144) ≡ text "worst,144\n")
     × (replyLine (Reply.Node 65537 0 2 65537 2 2) ≡ text "node,65537,0,2,65537,2,2\n")
     × (replyLine (Reply.Size (2 ^ 64 - 1)) ≡ text "size,18446744073709551615\n")
     × (bytesLine (10 ∷ 255 ∷ 175 ∷ []) ≡ text "bytes,0affaf\n")
     × (bytesLine [] ≡ text "bytes,\n")
 unfolding replyLine bytesLine decimal digits
-other-answers = (refl, refl, refl, refl, refl, refl, refl)
+other-answers = (refl, refl, refl, refl, refl, refl, refl, refl)

@@ -5,7 +5,7 @@ use lib.Dec.{ltb}
 use Rattle.text.specs.Quoted.{text}
 use Rattle.text.specs.Text.{pick, comma, lineFeed}
 use Rattle.print.specs.declared.Reply.{Reply}
-use Rattle.print.specs.declared.Reply.the-variants.{Ok, Ticket, Put, Version, Node, Published, Waiting, Held, Line, Size, Recent, Stamp, Refused}
+use Rattle.print.specs.declared.Reply.the-variants.{Ok, Ticket, Put, Version, Node, Published, Waiting, Held, Line, Size, Recent, Stamp, Worst, Refused}
 
 -- n in at most k decimal digits
 unfoldable pub digits : ℕ → ℕ → List ℕ
@@ -39,6 +39,7 @@ replyLine (Line l) = lineOf (text "line") (l ∷ [])
 replyLine (Size n) = lineOf (text "size") (n ∷ [])
 replyLine (Recent v) = lineOf (text "recent") (v ∷ [])
 replyLine (Stamp v) = lineOf (text "stamp") (v ∷ [])
+replyLine (Worst n) = lineOf (text "worst") (n ∷ [])
 replyLine (Refused n) = lineOf (text "refused") (n ∷ [])
 
 -- the lowercase hexadecimal digit of a number below 16

@@ -19,6 +19,7 @@ pub enum Reply {
     Size(u64),
     Recent(u64),
     Stamp(u64),
+    Worst(u64),
     Refused(u64),
 }
 
@@ -127,6 +128,7 @@ pub fn write_reply(r: Reply, out: &mut [u8]) -> usize
         Reply::Size(n) => write_line(b"size", &[n], out),
         Reply::Recent(v) => write_line(b"recent", &[v], out),
         Reply::Stamp(v) => write_line(b"stamp", &[v], out),
+        Reply::Worst(n) => write_line(b"worst", &[n], out),
         Reply::Refused(n) => write_line(b"refused", &[n], out),
     }
 }

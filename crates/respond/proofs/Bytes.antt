@@ -32,4 +32,5 @@ look-said k (Look.Read l v o n) a b = refl
 look-said k (Look.Size l v) a b = refl
 look-said k (Look.Recent l) a b = refl
 look-said k (Look.Stamp l v p) a b = refl
+look-said k (Look.Worst r n) a b = refl
 look-said k Look.Nothing a b = refl

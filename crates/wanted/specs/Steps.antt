@@ -2,6 +2,7 @@
 use Prim.Native.Nat.{ℕ}
 use mathlib.Core.List.{List}
 use lib.ListN.{take}
+use Rattle.tree.specs.Worst.{worstFor}
 use Rattle.windows.specs.Windows.{noWindows}
 use Rattle.versions.specs.Store.{Areas, areasOf, lineIn}
 use Rattle.versions.specs.Size.{sizeOut}
@@ -16,7 +17,7 @@ use Rattle.branch.specs.Branch.{branchOut}
 use Rattle.read.specs.Read.{readOut, readBuffer}
 use Rattle.stamp.specs.Stamp.{stampOut}
 use Rattle.answers.specs.declared.Kept.{Kept}
-use Rattle.answers.specs.Answers.{Said, refusedSaid, formatSaid, beginSaid, putSaid, assignSaid, weaveSaid, publishSaid, branchSaid, noBytes, readSaid, sizeSaid, recentSaid, stampSaid}
+use Rattle.answers.specs.Answers.{Said, refusedSaid, formatSaid, beginSaid, putSaid, assignSaid, weaveSaid, publishSaid, branchSaid, noBytes, readSaid, sizeSaid, recentSaid, stampSaid, worstSaid}
 use Rattle.wanted.specs.declared.Wanted.{Wanted}
 use Rattle.wanted.specs.declared.Wanted.the-variants.{Fill as fill, Note as note, Look as look}
 use Rattle.wanted.specs.declared.Fill.the-variants as Fill
@@ -38,6 +39,7 @@ stepSaid k (look (Look.Read l v o n)) a b =
 stepSaid k (look (Look.Size l v)) a b = sizeSaid k (sizeOut (k .store) a l v)
 stepSaid k (look (Look.Recent l)) a b = recentSaid k (recentOut (k .store) a l)
 stepSaid k (look (Look.Stamp l v p)) a b = stampSaid k (stampOut (k .store) a l v p)
+stepSaid k (look (Look.Worst r n)) a b = worstSaid k (worstFor r n)
 stepSaid k (look Look.Nothing) a b = refusedSaid k
 
 -- The areas after it.

@@ -46,6 +46,7 @@ wantedBy (Step.Read l v o n) = readWanted l v o n
 wantedBy (Step.Size l v) = Wanted.Look (Look.Size l v)
 wantedBy (Step.Recent l) = Wanted.Look (Look.Recent l)
 wantedBy (Step.Stamp l v p) = Wanted.Look (Look.Stamp l v p)
+wantedBy (Step.Worst r n) = Wanted.Look (Look.Worst r n)
 wantedBy Step.Malformed = Wanted.Look Look.Nothing
 
 -- The store whose areas a step is lent: the one that is kept, and for FORMAT the one that it would make.

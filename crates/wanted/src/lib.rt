@@ -43,6 +43,7 @@ pub enum Look {
     Size(u64, u64),
     Recent(u64),
     Stamp(u64, u64, u64),
+    Worst(u64, u64),
     Nothing,
 }
 
@@ -120,6 +121,7 @@ fn wanted_by(step: Step) -> Wanted
         Step::Size(l, v) => Wanted::Look(Look::Size(l, v)),
         Step::Recent(l) => Wanted::Look(Look::Recent(l)),
         Step::Stamp(l, v, p) => Wanted::Look(Look::Stamp(l, v, p)),
+        Step::Worst(r, n) => Wanted::Look(Look::Worst(r, n)),
         Step::Malformed => Wanted::Look(Look::Nothing),
     }
 }

@@ -14,3 +14,4 @@ pub mod size_step
 pub mod size_turn
 pub mod stamp_step
 pub mod stamp_turn
+pub mod worst_step

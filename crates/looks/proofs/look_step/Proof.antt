@@ -89,6 +89,11 @@ use Rattle.looks.proofs.Generated.Call.stamp_step as Call-stamp-step
 use Rattle.looks.proofs.stamp_step.Symbol as def-stamp-step
 use Rattle.looks.proofs.stamp_step.Symbol.{name as #stamp-step}
 use Rattle.looks.proofs.stamp_step.Met as thm-stamp-step
+use Rattle.looks.proofs.Generated.Say.worst_step as worst-step″
+use Rattle.looks.proofs.Generated.Call.worst_step as Call-worst-step
+use Rattle.looks.proofs.worst_step.Symbol as def-worst-step
+use Rattle.looks.proofs.worst_step.Symbol.{name as #worst-step}
+use Rattle.looks.proofs.worst_step.Met as thm-worst-step
 use Rattle.looks.proofs.Generated.Say.refused_turn as refused-turn″
 use Rattle.looks.proofs.Generated.Call.refused_turn as Call-refused-turn
 use Rattle.answers.proofs.refused_turn.Symbol as def-refused-turn
@@ -100,7 +105,7 @@ use Rattle.looks.proofs.look_step.Statement as stated
 use Rattle.looks.proofs.look_step.Code as code
 use Rattle.looks.proofs.look_step.Proof.Facts as Facts
 use denote.Memory.{pointee}
-use Rattle.looks.proofs.look_step.Proof.Asks.{r1, r2, r3, r4, r5, r6, r7}
+use Rattle.looks.proofs.look_step.Proof.Asks.{r1, r2, r3, r4, r5, r6, r7, r8}
 
 abbrev stayed : Stays (look-step‴.ended .signature .params) (look-step‴.ended .kept)
 stayed = (stay-none (λ _. Kept′.row) yes, (stay-none (λ _. Look′.row) yes, (stay-none-slice (0 ∷ []) tt (plain (λ _. u8)) yes, (stay-none-slice (1 ∷ []) tt (plain (λ _. u32)) yes, (stay-none-slice (2 ∷ []) tt (plain (λ _. Record′.row)) yes, tt)))))
@@ -123,102 +128,113 @@ module _ {M : Type 1} (𝓤 : URA M) (H : Heap 𝓤) (A : Atoms 𝓤) (W : Given
       qed W (‵ (flft κ·pages q·pages) ∷ ‵ (ShrAt u8 κ·pages b·pages o·pages γ·pages (length pages) pages) ∷ ‵ (flft κ·nodes q·nodes) ∷ ‵ (ShrAt u32 κ·nodes b·nodes o·nodes γ·nodes (length nodes) nodes) ∷ ‵ (flft κ·register q·register) ∷ ‵ (ShrAt Record′.row κ·register b·register o·register γ·register (length register) register) ∷ []) ∵ suffices ! _ (ends-at 𝓤 H A look-step‴.ended stayed (look-step‴.clauses 𝓤 H A mem run) W bound (Turn′.mach r) r (tt, (tt, (tt, (tt, (tt, tt))))) (tt, (tt, (tt, (tt, (tt, tt)))))) $ says ! said $
       nothing ! $ move ! (5 ∷ 0 ∷ []) $ join ! $ move ! (3 ∷ 0 ∷ []) $ join ! $ move ! (1 ∷ 0 ∷ []) $ join ! $ frame ! $ nothing ! $ move ! (3 ∷ 0 ∷ []) $ fjoin ! $ move ! (2 ∷ 0 ∷ []) $ fjoin ! $ move ! (1 ∷ 0 ∷ []) $ fjoin ! $ owned ! Look′.row (Is Look′.row) (Look′.makes 𝓤 H A) step _ ok·step $ fjoin ! $ owned ! Kept′.row (Is Kept′.row) (Kept′.makes 𝓤 H A) kept _ ok·kept $ fjoin ! $ frame ! $ owned ! Turn′.row (Is Turn′.row) (Turn′.makes 𝓤 H A) r _ ok·r $ done !
 
-  walk : (𝓣 : Tables 𝓤 H) (known-publish-step : Triple 𝓤 (𝓣 .C #publish-step) (Call-publish-step.Asked 𝓤 H A mem run)) (known-branch-step : Triple 𝓤 (𝓣 .C #branch-step) (Call-branch-step.Asked 𝓤 H A mem run)) (known-read-step : Triple 𝓤 (𝓣 .C #read-step) (Call-read-step.Asked 𝓤 H A mem run)) (known-size-step : Triple 𝓤 (𝓣 .C #size-step) (Call-size-step.Asked 𝓤 H A mem run)) (known-recent-step : Triple 𝓤 (𝓣 .C #recent-step) (Call-recent-step.Asked 𝓤 H A mem run)) (known-stamp-step : Triple 𝓤 (𝓣 .C #stamp-step) (Call-stamp-step.Asked 𝓤 H A mem run)) (known-refused-turn : Triple 𝓤 (𝓣 .C #refused-turn) (Call-refused-turn.Asked 𝓤 H A mem run)) → ent 𝓤 (onEntry 𝓤 H A look-step‴.signature (κ·pages, (κ·nodes, (κ·register, tt))) (q·pages, (q·nodes, (q·register, tt))) all-args all-vals)
+  walk : (𝓣 : Tables 𝓤 H) (known-publish-step : Triple 𝓤 (𝓣 .C #publish-step) (Call-publish-step.Asked 𝓤 H A mem run)) (known-branch-step : Triple 𝓤 (𝓣 .C #branch-step) (Call-branch-step.Asked 𝓤 H A mem run)) (known-read-step : Triple 𝓤 (𝓣 .C #read-step) (Call-read-step.Asked 𝓤 H A mem run)) (known-size-step : Triple 𝓤 (𝓣 .C #size-step) (Call-size-step.Asked 𝓤 H A mem run)) (known-recent-step : Triple 𝓤 (𝓣 .C #recent-step) (Call-recent-step.Asked 𝓤 H A mem run)) (known-stamp-step : Triple 𝓤 (𝓣 .C #stamp-step) (Call-stamp-step.Asked 𝓤 H A mem run)) (known-worst-step : Triple 𝓤 (𝓣 .C #worst-step) (Call-worst-step.Asked 𝓤 H A mem run)) (known-refused-turn : Triple 𝓤 (𝓣 .C #refused-turn) (Call-refused-turn.Asked 𝓤 H A mem run)) → ent 𝓤 (onEntry 𝓤 H A look-step‴.signature (κ·pages, (κ·nodes, (κ·register, tt))) (q·pages, (q·nodes, (q·register, tt))) all-args all-vals)
       (WpFn 𝓤 H (𝓣 .C) (𝓣 .Λ) code.function (Kept′.mach kept ∷ Look′.mach step ∷ sliceVal (b·pages, o·pages) (length pages) ∷ sliceVal (b·nodes, o·nodes) (length nodes) ∷ sliceVal (b·register, o·register) (length register) ∷ []) Post)
-  walk 𝓣 known-publish-step known-branch-step known-read-step known-size-step known-recent-step known-stamp-step known-refused-turn =
+  walk 𝓣 known-publish-step known-branch-step known-read-step known-size-step known-recent-step known-stamp-step known-worst-step known-refused-turn =
       qed W ((‵ (flft κ·pages q·pages) ⊛ ‵ (flft κ·nodes q·nodes) ⊛ ‵ (flft κ·register q·register) ⊛ ‵ ftrue) ∷ ‵ (owns (Kept′.row ∷ Look′.row ∷ ShrSlice (named 0) κ·pages u8 ∷ ShrSlice (named 0) κ·nodes u32 ∷ ShrSlice (named 0) κ·register Record′.row ∷ []) all-args all-vals) ∷ []) ∵ enter ! (𝓣 .C) (𝓣 .Λ) code.function (Kept′.mach kept ∷ Look′.mach step ∷ sliceVal (b·pages, o·pages) (length pages) ∷ sliceVal (b·nodes, o·nodes) (length nodes) ∷ sliceVal (b·register, o·register) (length register) ∷ []) _ $
-      alloc1 ! (λ l₀. alloc1 ! (λ l₁. alloc1 ! (λ l₂. alloc1 ! (λ l₃. alloc1 ! (λ l₄. alloc1 ! (λ l₅. alloc1 ! (λ l₆. alloc1 ! (λ l₇. alloc1 ! (λ l₈. alloc1 ! (λ l₉. alloc1 ! (λ l₁₀. alloc1 ! (λ l₁₁. alloc1 ! (λ l₁₂. alloc1 ! (λ l₁₃. alloc1 ! (λ l₁₄. alloc1 ! (λ l₁₅. alloc1 ! (λ l₁₆. alloc1 ! (λ l₁₇. alloc1 ! (λ l₁₈. alloc1 ! (λ l₁₉. alloc1 ! (λ l₂₀. alloc0 ! $ params1 ! $
-      pass1 ! (init ! 38 refl (Kept′.typed 𝓤 H A W kept ok·kept)) $ pass1 ! (init ! 36 refl (Look′.typed 𝓤 H A W step ok·step)) $ pass1 ! (init ! 34 refl (tt, (tt, (record { fits = room·pages .0 }, tt)))) $ pass1 ! (init ! 32 refl (tt, (tt, (record { fits = room·nodes .0 }, tt)))) $ pass1 ! (init ! 30 refl (tt, (tt, (record { fits = room·register .0 }, tt)))) $ pass0 ! $
-      move ! (43 ∷ []) $ fsplit ! $ drop ! $ fsplit ! $ drop ! $ fsplit ! $ move ! (1 ∷ []) $ fsplit ! $ move ! (1 ∷ []) $ fsplit ! $ move ! (1 ∷ []) $ drop ! $ move ! (45 ∷ []) $ split ! $ move ! (1 ∷ []) $ split ! $ move ! (1 ∷ []) $ split ! $ move ! (1 ∷ []) $ drop ! $ move ! (2 ∷ 5 ∷ 1 ∷ 4 ∷ 0 ∷ 3 ∷ []) $
+      alloc1 ! (λ l₀. alloc1 ! (λ l₁. alloc1 ! (λ l₂. alloc1 ! (λ l₃. alloc1 ! (λ l₄. alloc1 ! (λ l₅. alloc1 ! (λ l₆. alloc1 ! (λ l₇. alloc1 ! (λ l₈. alloc1 ! (λ l₉. alloc1 ! (λ l₁₀. alloc1 ! (λ l₁₁. alloc1 ! (λ l₁₂. alloc1 ! (λ l₁₃. alloc1 ! (λ l₁₄. alloc1 ! (λ l₁₅. alloc1 ! (λ l₁₆. alloc1 ! (λ l₁₇. alloc1 ! (λ l₁₈. alloc1 ! (λ l₁₉. alloc1 ! (λ l₂₀. alloc1 ! (λ l₂₁. alloc1 ! (λ l₂₂. alloc0 ! $ params1 ! $
+      pass1 ! (init ! 42 refl (Kept′.typed 𝓤 H A W kept ok·kept)) $ pass1 ! (init ! 40 refl (Look′.typed 𝓤 H A W step ok·step)) $ pass1 ! (init ! 38 refl (tt, (tt, (record { fits = room·pages .0 }, tt)))) $ pass1 ! (init ! 36 refl (tt, (tt, (record { fits = room·nodes .0 }, tt)))) $ pass1 ! (init ! 34 refl (tt, (tt, (record { fits = room·register .0 }, tt)))) $ pass0 ! $
+      move ! (47 ∷ []) $ fsplit ! $ drop ! $ fsplit ! $ drop ! $ fsplit ! $ move ! (1 ∷ []) $ fsplit ! $ move ! (1 ∷ []) $ fsplit ! $ move ! (1 ∷ []) $ drop ! $ move ! (49 ∷ []) $ split ! $ move ! (1 ∷ []) $ split ! $ move ! (1 ∷ []) $ split ! $ move ! (1 ∷ []) $ drop ! $ move ! (2 ∷ 5 ∷ 1 ∷ 4 ∷ 0 ∷ 3 ∷ []) $
       Look′.cases ! step
-      (λ y1-0 y1-1 m·1. rewrite ! 42 (λ (u : Look). ‵ (fat fullShare Look′.ty l₂ 0 (Look′.mach u))) m·1 refl $ switches-to ! 0 (load ! (from ! (vrt ! refl (fld ! refl (stop !)))) (look-tag ! 42 (whole !))) (
+      (λ y1-0 y1-1 m·1. rewrite ! 46 (λ (u : Look). ‵ (fat fullShare Look′.ty l₂ 0 (Look′.mach u))) m·1 refl $ switches-to ! 0 (load ! (from ! (vrt ! refl (fld ! refl (stop !)))) (look-tag ! 46 (whole !))) (
       regroup ! $
-      assigns ! (of-opd ! (load ! (from ! (vrt ! refl (fld ! refl (stop !)))) (look-in ! 42 (in-variant ! 0 0 refl refl (whole !))))) (from ! (stop !)) (init ! 34 refl (tt, record { fits = (Look′.ok-Publish-0 y1-0 y1-1 (subst Look′.Ok m·1 ok·step)) .1 })) $
+      assigns ! (of-opd ! (load ! (from ! (vrt ! refl (fld ! refl (stop !)))) (look-in ! 46 (in-variant ! 0 0 refl refl (whole !))))) (from ! (stop !)) (init ! 38 refl (tt, record { fits = (Look′.ok-Publish-0 y1-0 y1-1 (subst Look′.Ok m·1 ok·step)) .1 })) $
       regroup ! $
-      assigns ! (of-opd ! (load ! (from ! (vrt ! refl (fld ! refl (stop !)))) (look-in ! 42 (in-variant ! 0 1 refl refl (whole !))))) (from ! (stop !)) (init ! 32 refl (tt, record { fits = (Look′.ok-Publish-1 y1-0 y1-1 (subst Look′.Ok m·1 ok·step)) .1 })) $
-      Call-publish-step.calls ! mem run (fmOf 𝓤 H (W .laws) 𝓣) known-publish-step kept y1-0 y1-1 κ·pages q·pages b·pages o·pages γ·pages (length pages) pages κ·nodes q·nodes b·nodes o·nodes γ·nodes (length nodes) nodes κ·register q·register b·register o·register γ·register (length register) register ok·kept (Look′.ok-Publish-0 y1-0 y1-1 (subst Look′.Ok m·1 ok·step)) (Look′.ok-Publish-1 y1-0 y1-1 (subst Look′.Ok m·1 ok·step)) (and-then ! (load ! (from ! (stop !)) (look ! 42 refl)) (and-then ! (load ! (from ! (stop !)) (look ! 32 refl)) (and-then ! (load ! (from ! (stop !)) (look ! 30 refl)) (and-then ! (load ! (from ! (stop !)) (look ! 38 refl)) (and-then ! (load ! (from ! (stop !)) (look ! 36 refl)) (and-then ! (load ! (from ! (stop !)) (look ! 34 refl)) (no-more !)))))))
+      assigns ! (of-opd ! (load ! (from ! (vrt ! refl (fld ! refl (stop !)))) (look-in ! 46 (in-variant ! 0 1 refl refl (whole !))))) (from ! (stop !)) (init ! 36 refl (tt, record { fits = (Look′.ok-Publish-1 y1-0 y1-1 (subst Look′.Ok m·1 ok·step)) .1 })) $
+      Call-publish-step.calls ! mem run (fmOf 𝓤 H (W .laws) 𝓣) known-publish-step kept y1-0 y1-1 κ·pages q·pages b·pages o·pages γ·pages (length pages) pages κ·nodes q·nodes b·nodes o·nodes γ·nodes (length nodes) nodes κ·register q·register b·register o·register γ·register (length register) register ok·kept (Look′.ok-Publish-0 y1-0 y1-1 (subst Look′.Ok m·1 ok·step)) (Look′.ok-Publish-1 y1-0 y1-1 (subst Look′.Ok m·1 ok·step)) (and-then ! (load ! (from ! (stop !)) (look ! 46 refl)) (and-then ! (load ! (from ! (stop !)) (look ! 36 refl)) (and-then ! (load ! (from ! (stop !)) (look ! 34 refl)) (and-then ! (load ! (from ! (stop !)) (look ! 42 refl)) (and-then ! (load ! (from ! (stop !)) (look ! 40 refl)) (and-then ! (load ! (from ! (stop !)) (look ! 38 refl)) (no-more !)))))))
       (λ ok·1. land ! (from ! (stop !)) (init ! 6 refl (Turn′.typed 𝓤 H A W (r1 kept step pages nodes register y1-0 y1-1) ok·1)) $
-      here ! (‵ (flft κ·pages q·pages) ∷ ‵ (ShrAt u8 κ·pages b·pages o·pages γ·pages (length pages) pages) ∷ ‵ (flft κ·nodes q·nodes) ∷ ‵ (ShrAt u32 κ·nodes b·nodes o·nodes γ·nodes (length nodes) nodes) ∷ ‵ (flft κ·register q·register) ∷ ‵ (ShrAt Record′.row κ·register b·register o·register γ·register (length register) register) ∷ holds (tyAt (code.function .locals) 20) l₂₀ (Turn′.mach (r1 kept step pages nodes register y1-0 y1-1)) (empty (tyInt w64) l₁₉ (empty (tyInt w64) l₁₈ (empty (tyInt w64) l₁₇ (empty (tyInt w64) l₁₆ (empty (tyInt w64) l₁₅ (empty (tyInt w64) l₁₄ (empty (tyInt w64) l₁₃ (empty (tyInt w64) l₁₂ (empty (tyInt w64) l₁₁ (empty (tyInt w64) l₁₀ (empty (tyInt w64) l₉ (empty (tyInt w64) l₈ (holds (tyInt w64) l₇ (vint w64 y1-1) (holds (tyInt w64) l₆ (vint w64 y1-0) (holds (sliceTy (tyRef (named 2) imm (pointee (Record′.row .written)))) l₅ (sliceVal (b·register, o·register) (length register)) (holds (sliceTy (tyRef (named 1) imm (pointee (u32 .written)))) l₄ (sliceVal (b·nodes, o·nodes) (length nodes)) (holds (sliceTy (tyRef (named 0) imm (pointee (u8 .written)))) l₃ (sliceVal (b·pages, o·pages) (length pages)) (holds (tyAt (code.function .locals) 2) l₂ (Look′.mach (Look.Publish y1-0 y1-1)) (holds (tyAt (code.function .locals) 1) l₁ (Kept′.mach kept) (empty (tyAt (code.function .locals) 0) l₀ []))))))))))))))))))))) $
-      assigns ! (of-opd ! (load ! (from ! (stop !)) (look ! 6 refl))) (from ! (stop !)) (init ! 46 refl (Turn′.typed 𝓤 H A W (r1 kept step pages nodes register y1-0 y1-1) ok·1)) $
-      returns ! (look ! 46 refl) $
-      move ! (46 ∷ 47 ∷ []) $ forget ! 0 refl $ free1 ! $ move ! (44 ∷ 45 ∷ []) $ forget ! 0 refl $ free1 ! $ move ! (42 ∷ 43 ∷ []) $ forget ! 0 refl $ free1 ! $ move ! (40 ∷ 41 ∷ []) $ forget ! 0 refl $ free1 ! $ move ! (38 ∷ 39 ∷ []) $ forget ! 0 refl $ free1 ! $ move ! (36 ∷ 37 ∷ []) $ forget ! 0 refl $ free1 ! $ move ! (34 ∷ 35 ∷ []) $ forget ! 0 refl $ free1 ! $ move ! (32 ∷ 33 ∷ []) $ forget ! 0 refl $ free1 ! $ move ! (30 ∷ 31 ∷ []) $ free1 ! $ move ! (28 ∷ 29 ∷ []) $ free1 ! $ move ! (26 ∷ 27 ∷ []) $ free1 ! $ move ! (24 ∷ 25 ∷ []) $ free1 ! $ move ! (22 ∷ 23 ∷ []) $ free1 ! $ move ! (20 ∷ 21 ∷ []) $ free1 ! $ move ! (18 ∷ 19 ∷ []) $ free1 ! $ move ! (16 ∷ 17 ∷ []) $ free1 ! $ move ! (14 ∷ 15 ∷ []) $ free1 ! $ move ! (12 ∷ 13 ∷ []) $ free1 ! $ move ! (10 ∷ 11 ∷ []) $ free1 ! $ move ! (8 ∷ 9 ∷ []) $ free1 ! $ move ! (6 ∷ 7 ∷ []) $ forget ! 0 refl $ free1 ! $ free0 ! $ by ! (exits (r1 kept step pages nodes register y1-0 y1-1) ok·1 (Facts.exit-1 kept step pages nodes register ok·kept ok·step (room·pages .0) (room·nodes .0) (room·register .0) y1-0 y1-1 m·1 ((Look′.ok-Publish-0 y1-0 y1-1 (subst Look′.Ok m·1 ok·step)) .1) ((Look′.ok-Publish-1 y1-0 y1-1 (subst Look′.Ok m·1 ok·step)) .1) ok·1)))))
-      (λ y1-0 y1-1 m·1. rewrite ! 42 (λ (u : Look). ‵ (fat fullShare Look′.ty l₂ 0 (Look′.mach u))) m·1 refl $ switches-to ! 1 (load ! (from ! (vrt ! refl (fld ! refl (stop !)))) (look-tag ! 42 (whole !))) (
+      here ! (‵ (flft κ·pages q·pages) ∷ ‵ (ShrAt u8 κ·pages b·pages o·pages γ·pages (length pages) pages) ∷ ‵ (flft κ·nodes q·nodes) ∷ ‵ (ShrAt u32 κ·nodes b·nodes o·nodes γ·nodes (length nodes) nodes) ∷ ‵ (flft κ·register q·register) ∷ ‵ (ShrAt Record′.row κ·register b·register o·register γ·register (length register) register) ∷ holds (tyAt (code.function .locals) 22) l₂₂ (Turn′.mach (r1 kept step pages nodes register y1-0 y1-1)) (empty (tyInt w64) l₂₁ (empty (tyInt w64) l₂₀ (empty (tyInt w64) l₁₉ (empty (tyInt w64) l₁₈ (empty (tyInt w64) l₁₇ (empty (tyInt w64) l₁₆ (empty (tyInt w64) l₁₅ (empty (tyInt w64) l₁₄ (empty (tyInt w64) l₁₃ (empty (tyInt w64) l₁₂ (empty (tyInt w64) l₁₁ (empty (tyInt w64) l₁₀ (empty (tyInt w64) l₉ (empty (tyInt w64) l₈ (holds (tyInt w64) l₇ (vint w64 y1-1) (holds (tyInt w64) l₆ (vint w64 y1-0) (holds (sliceTy (tyRef (named 2) imm (pointee (Record′.row .written)))) l₅ (sliceVal (b·register, o·register) (length register)) (holds (sliceTy (tyRef (named 1) imm (pointee (u32 .written)))) l₄ (sliceVal (b·nodes, o·nodes) (length nodes)) (holds (sliceTy (tyRef (named 0) imm (pointee (u8 .written)))) l₃ (sliceVal (b·pages, o·pages) (length pages)) (holds (tyAt (code.function .locals) 2) l₂ (Look′.mach (Look.Publish y1-0 y1-1)) (holds (tyAt (code.function .locals) 1) l₁ (Kept′.mach kept) (empty (tyAt (code.function .locals) 0) l₀ []))))))))))))))))))))))) $
+      assigns ! (of-opd ! (load ! (from ! (stop !)) (look ! 6 refl))) (from ! (stop !)) (init ! 50 refl (Turn′.typed 𝓤 H A W (r1 kept step pages nodes register y1-0 y1-1) ok·1)) $
+      returns ! (look ! 50 refl) $
+      move ! (50 ∷ 51 ∷ []) $ forget ! 0 refl $ free1 ! $ move ! (48 ∷ 49 ∷ []) $ forget ! 0 refl $ free1 ! $ move ! (46 ∷ 47 ∷ []) $ forget ! 0 refl $ free1 ! $ move ! (44 ∷ 45 ∷ []) $ forget ! 0 refl $ free1 ! $ move ! (42 ∷ 43 ∷ []) $ forget ! 0 refl $ free1 ! $ move ! (40 ∷ 41 ∷ []) $ forget ! 0 refl $ free1 ! $ move ! (38 ∷ 39 ∷ []) $ forget ! 0 refl $ free1 ! $ move ! (36 ∷ 37 ∷ []) $ forget ! 0 refl $ free1 ! $ move ! (34 ∷ 35 ∷ []) $ free1 ! $ move ! (32 ∷ 33 ∷ []) $ free1 ! $ move ! (30 ∷ 31 ∷ []) $ free1 ! $ move ! (28 ∷ 29 ∷ []) $ free1 ! $ move ! (26 ∷ 27 ∷ []) $ free1 ! $ move ! (24 ∷ 25 ∷ []) $ free1 ! $ move ! (22 ∷ 23 ∷ []) $ free1 ! $ move ! (20 ∷ 21 ∷ []) $ free1 ! $ move ! (18 ∷ 19 ∷ []) $ free1 ! $ move ! (16 ∷ 17 ∷ []) $ free1 ! $ move ! (14 ∷ 15 ∷ []) $ free1 ! $ move ! (12 ∷ 13 ∷ []) $ free1 ! $ move ! (10 ∷ 11 ∷ []) $ free1 ! $ move ! (8 ∷ 9 ∷ []) $ free1 ! $ move ! (6 ∷ 7 ∷ []) $ forget ! 0 refl $ free1 ! $ free0 ! $ by ! (exits (r1 kept step pages nodes register y1-0 y1-1) ok·1 (Facts.exit-1 kept step pages nodes register ok·kept ok·step (room·pages .0) (room·nodes .0) (room·register .0) y1-0 y1-1 m·1 ((Look′.ok-Publish-0 y1-0 y1-1 (subst Look′.Ok m·1 ok·step)) .1) ((Look′.ok-Publish-1 y1-0 y1-1 (subst Look′.Ok m·1 ok·step)) .1) ok·1)))))
+      (λ y1-0 y1-1 m·1. rewrite ! 46 (λ (u : Look). ‵ (fat fullShare Look′.ty l₂ 0 (Look′.mach u))) m·1 refl $ switches-to ! 1 (load ! (from ! (vrt ! refl (fld ! refl (stop !)))) (look-tag ! 46 (whole !))) (
       regroup ! $
-      assigns ! (of-opd ! (load ! (from ! (vrt ! refl (fld ! refl (stop !)))) (look-in ! 42 (in-variant ! 1 0 refl refl (whole !))))) (from ! (stop !)) (init ! 30 refl (tt, record { fits = (Look′.ok-Branch-0 y1-0 y1-1 (subst Look′.Ok m·1 ok·step)) .1 })) $
+      assigns ! (of-opd ! (load ! (from ! (vrt ! refl (fld ! refl (stop !)))) (look-in ! 46 (in-variant ! 1 0 refl refl (whole !))))) (from ! (stop !)) (init ! 34 refl (tt, record { fits = (Look′.ok-Branch-0 y1-0 y1-1 (subst Look′.Ok m·1 ok·step)) .1 })) $
       regroup ! $
-      assigns ! (of-opd ! (load ! (from ! (vrt ! refl (fld ! refl (stop !)))) (look-in ! 42 (in-variant ! 1 1 refl refl (whole !))))) (from ! (stop !)) (init ! 28 refl (tt, record { fits = (Look′.ok-Branch-1 y1-0 y1-1 (subst Look′.Ok m·1 ok·step)) .1 })) $
-      Call-branch-step.calls ! mem run (fmOf 𝓤 H (W .laws) 𝓣) known-branch-step kept y1-0 y1-1 κ·pages q·pages b·pages o·pages γ·pages (length pages) pages κ·nodes q·nodes b·nodes o·nodes γ·nodes (length nodes) nodes κ·register q·register b·register o·register γ·register (length register) register ok·kept (Look′.ok-Branch-0 y1-0 y1-1 (subst Look′.Ok m·1 ok·step)) (Look′.ok-Branch-1 y1-0 y1-1 (subst Look′.Ok m·1 ok·step)) (and-then ! (load ! (from ! (stop !)) (look ! 42 refl)) (and-then ! (load ! (from ! (stop !)) (look ! 28 refl)) (and-then ! (load ! (from ! (stop !)) (look ! 26 refl)) (and-then ! (load ! (from ! (stop !)) (look ! 38 refl)) (and-then ! (load ! (from ! (stop !)) (look ! 36 refl)) (and-then ! (load ! (from ! (stop !)) (look ! 34 refl)) (no-more !)))))))
+      assigns ! (of-opd ! (load ! (from ! (vrt ! refl (fld ! refl (stop !)))) (look-in ! 46 (in-variant ! 1 1 refl refl (whole !))))) (from ! (stop !)) (init ! 32 refl (tt, record { fits = (Look′.ok-Branch-1 y1-0 y1-1 (subst Look′.Ok m·1 ok·step)) .1 })) $
+      Call-branch-step.calls ! mem run (fmOf 𝓤 H (W .laws) 𝓣) known-branch-step kept y1-0 y1-1 κ·pages q·pages b·pages o·pages γ·pages (length pages) pages κ·nodes q·nodes b·nodes o·nodes γ·nodes (length nodes) nodes κ·register q·register b·register o·register γ·register (length register) register ok·kept (Look′.ok-Branch-0 y1-0 y1-1 (subst Look′.Ok m·1 ok·step)) (Look′.ok-Branch-1 y1-0 y1-1 (subst Look′.Ok m·1 ok·step)) (and-then ! (load ! (from ! (stop !)) (look ! 46 refl)) (and-then ! (load ! (from ! (stop !)) (look ! 32 refl)) (and-then ! (load ! (from ! (stop !)) (look ! 30 refl)) (and-then ! (load ! (from ! (stop !)) (look ! 42 refl)) (and-then ! (load ! (from ! (stop !)) (look ! 40 refl)) (and-then ! (load ! (from ! (stop !)) (look ! 38 refl)) (no-more !)))))))
       (λ ok·2. land ! (from ! (stop !)) (init ! 6 refl (Turn′.typed 𝓤 H A W (r2 kept step pages nodes register y1-0 y1-1) ok·2)) $
-      here ! (‵ (flft κ·pages q·pages) ∷ ‵ (ShrAt u8 κ·pages b·pages o·pages γ·pages (length pages) pages) ∷ ‵ (flft κ·nodes q·nodes) ∷ ‵ (ShrAt u32 κ·nodes b·nodes o·nodes γ·nodes (length nodes) nodes) ∷ ‵ (flft κ·register q·register) ∷ ‵ (ShrAt Record′.row κ·register b·register o·register γ·register (length register) register) ∷ holds (tyAt (code.function .locals) 20) l₂₀ (Turn′.mach (r2 kept step pages nodes register y1-0 y1-1)) (empty (tyInt w64) l₁₉ (empty (tyInt w64) l₁₈ (empty (tyInt w64) l₁₇ (empty (tyInt w64) l₁₆ (empty (tyInt w64) l₁₅ (empty (tyInt w64) l₁₄ (empty (tyInt w64) l₁₃ (empty (tyInt w64) l₁₂ (empty (tyInt w64) l₁₁ (empty (tyInt w64) l₁₀ (holds (tyInt w64) l₉ (vint w64 y1-1) (holds (tyInt w64) l₈ (vint w64 y1-0) (empty (tyInt w64) l₇ (empty (tyInt w64) l₆ (holds (sliceTy (tyRef (named 2) imm (pointee (Record′.row .written)))) l₅ (sliceVal (b·register, o·register) (length register)) (holds (sliceTy (tyRef (named 1) imm (pointee (u32 .written)))) l₄ (sliceVal (b·nodes, o·nodes) (length nodes)) (holds (sliceTy (tyRef (named 0) imm (pointee (u8 .written)))) l₃ (sliceVal (b·pages, o·pages) (length pages)) (holds (tyAt (code.function .locals) 2) l₂ (Look′.mach (Look.Branch y1-0 y1-1)) (holds (tyAt (code.function .locals) 1) l₁ (Kept′.mach kept) (empty (tyAt (code.function .locals) 0) l₀ []))))))))))))))))))))) $
-      assigns ! (of-opd ! (load ! (from ! (stop !)) (look ! 6 refl))) (from ! (stop !)) (init ! 46 refl (Turn′.typed 𝓤 H A W (r2 kept step pages nodes register y1-0 y1-1) ok·2)) $
-      returns ! (look ! 46 refl) $
-      move ! (46 ∷ 47 ∷ []) $ forget ! 0 refl $ free1 ! $ move ! (44 ∷ 45 ∷ []) $ forget ! 0 refl $ free1 ! $ move ! (42 ∷ 43 ∷ []) $ forget ! 0 refl $ free1 ! $ move ! (40 ∷ 41 ∷ []) $ forget ! 0 refl $ free1 ! $ move ! (38 ∷ 39 ∷ []) $ forget ! 0 refl $ free1 ! $ move ! (36 ∷ 37 ∷ []) $ forget ! 0 refl $ free1 ! $ move ! (34 ∷ 35 ∷ []) $ free1 ! $ move ! (32 ∷ 33 ∷ []) $ free1 ! $ move ! (30 ∷ 31 ∷ []) $ forget ! 0 refl $ free1 ! $ move ! (28 ∷ 29 ∷ []) $ forget ! 0 refl $ free1 ! $ move ! (26 ∷ 27 ∷ []) $ free1 ! $ move ! (24 ∷ 25 ∷ []) $ free1 ! $ move ! (22 ∷ 23 ∷ []) $ free1 ! $ move ! (20 ∷ 21 ∷ []) $ free1 ! $ move ! (18 ∷ 19 ∷ []) $ free1 ! $ move ! (16 ∷ 17 ∷ []) $ free1 ! $ move ! (14 ∷ 15 ∷ []) $ free1 ! $ move ! (12 ∷ 13 ∷ []) $ free1 ! $ move ! (10 ∷ 11 ∷ []) $ free1 ! $ move ! (8 ∷ 9 ∷ []) $ free1 ! $ move ! (6 ∷ 7 ∷ []) $ forget ! 0 refl $ free1 ! $ free0 ! $ by ! (exits (r2 kept step pages nodes register y1-0 y1-1) ok·2 (Facts.exit-2 kept step pages nodes register ok·kept ok·step (room·pages .0) (room·nodes .0) (room·register .0) y1-0 y1-1 m·1 ((Look′.ok-Branch-0 y1-0 y1-1 (subst Look′.Ok m·1 ok·step)) .1) ((Look′.ok-Branch-1 y1-0 y1-1 (subst Look′.Ok m·1 ok·step)) .1) ok·2)))))
-      (λ y1-0 y1-1 y1-2 y1-3 m·1. rewrite ! 42 (λ (u : Look). ‵ (fat fullShare Look′.ty l₂ 0 (Look′.mach u))) m·1 refl $ switches-to ! 2 (load ! (from ! (vrt ! refl (fld ! refl (stop !)))) (look-tag ! 42 (whole !))) (
+      here ! (‵ (flft κ·pages q·pages) ∷ ‵ (ShrAt u8 κ·pages b·pages o·pages γ·pages (length pages) pages) ∷ ‵ (flft κ·nodes q·nodes) ∷ ‵ (ShrAt u32 κ·nodes b·nodes o·nodes γ·nodes (length nodes) nodes) ∷ ‵ (flft κ·register q·register) ∷ ‵ (ShrAt Record′.row κ·register b·register o·register γ·register (length register) register) ∷ holds (tyAt (code.function .locals) 22) l₂₂ (Turn′.mach (r2 kept step pages nodes register y1-0 y1-1)) (empty (tyInt w64) l₂₁ (empty (tyInt w64) l₂₀ (empty (tyInt w64) l₁₉ (empty (tyInt w64) l₁₈ (empty (tyInt w64) l₁₇ (empty (tyInt w64) l₁₆ (empty (tyInt w64) l₁₅ (empty (tyInt w64) l₁₄ (empty (tyInt w64) l₁₃ (empty (tyInt w64) l₁₂ (empty (tyInt w64) l₁₁ (empty (tyInt w64) l₁₀ (holds (tyInt w64) l₉ (vint w64 y1-1) (holds (tyInt w64) l₈ (vint w64 y1-0) (empty (tyInt w64) l₇ (empty (tyInt w64) l₆ (holds (sliceTy (tyRef (named 2) imm (pointee (Record′.row .written)))) l₅ (sliceVal (b·register, o·register) (length register)) (holds (sliceTy (tyRef (named 1) imm (pointee (u32 .written)))) l₄ (sliceVal (b·nodes, o·nodes) (length nodes)) (holds (sliceTy (tyRef (named 0) imm (pointee (u8 .written)))) l₃ (sliceVal (b·pages, o·pages) (length pages)) (holds (tyAt (code.function .locals) 2) l₂ (Look′.mach (Look.Branch y1-0 y1-1)) (holds (tyAt (code.function .locals) 1) l₁ (Kept′.mach kept) (empty (tyAt (code.function .locals) 0) l₀ []))))))))))))))))))))))) $
+      assigns ! (of-opd ! (load ! (from ! (stop !)) (look ! 6 refl))) (from ! (stop !)) (init ! 50 refl (Turn′.typed 𝓤 H A W (r2 kept step pages nodes register y1-0 y1-1) ok·2)) $
+      returns ! (look ! 50 refl) $
+      move ! (50 ∷ 51 ∷ []) $ forget ! 0 refl $ free1 ! $ move ! (48 ∷ 49 ∷ []) $ forget ! 0 refl $ free1 ! $ move ! (46 ∷ 47 ∷ []) $ forget ! 0 refl $ free1 ! $ move ! (44 ∷ 45 ∷ []) $ forget ! 0 refl $ free1 ! $ move ! (42 ∷ 43 ∷ []) $ forget ! 0 refl $ free1 ! $ move ! (40 ∷ 41 ∷ []) $ forget ! 0 refl $ free1 ! $ move ! (38 ∷ 39 ∷ []) $ free1 ! $ move ! (36 ∷ 37 ∷ []) $ free1 ! $ move ! (34 ∷ 35 ∷ []) $ forget ! 0 refl $ free1 ! $ move ! (32 ∷ 33 ∷ []) $ forget ! 0 refl $ free1 ! $ move ! (30 ∷ 31 ∷ []) $ free1 ! $ move ! (28 ∷ 29 ∷ []) $ free1 ! $ move ! (26 ∷ 27 ∷ []) $ free1 ! $ move ! (24 ∷ 25 ∷ []) $ free1 ! $ move ! (22 ∷ 23 ∷ []) $ free1 ! $ move ! (20 ∷ 21 ∷ []) $ free1 ! $ move ! (18 ∷ 19 ∷ []) $ free1 ! $ move ! (16 ∷ 17 ∷ []) $ free1 ! $ move ! (14 ∷ 15 ∷ []) $ free1 ! $ move ! (12 ∷ 13 ∷ []) $ free1 ! $ move ! (10 ∷ 11 ∷ []) $ free1 ! $ move ! (8 ∷ 9 ∷ []) $ free1 ! $ move ! (6 ∷ 7 ∷ []) $ forget ! 0 refl $ free1 ! $ free0 ! $ by ! (exits (r2 kept step pages nodes register y1-0 y1-1) ok·2 (Facts.exit-2 kept step pages nodes register ok·kept ok·step (room·pages .0) (room·nodes .0) (room·register .0) y1-0 y1-1 m·1 ((Look′.ok-Branch-0 y1-0 y1-1 (subst Look′.Ok m·1 ok·step)) .1) ((Look′.ok-Branch-1 y1-0 y1-1 (subst Look′.Ok m·1 ok·step)) .1) ok·2)))))
+      (λ y1-0 y1-1 y1-2 y1-3 m·1. rewrite ! 46 (λ (u : Look). ‵ (fat fullShare Look′.ty l₂ 0 (Look′.mach u))) m·1 refl $ switches-to ! 2 (load ! (from ! (vrt ! refl (fld ! refl (stop !)))) (look-tag ! 46 (whole !))) (
       regroup ! $
-      assigns ! (of-opd ! (load ! (from ! (vrt ! refl (fld ! refl (stop !)))) (look-in ! 42 (in-variant ! 2 0 refl refl (whole !))))) (from ! (stop !)) (init ! 26 refl (tt, record { fits = (Look′.ok-Read-0 y1-0 y1-1 y1-2 y1-3 (subst Look′.Ok m·1 ok·step)) .1 })) $
+      assigns ! (of-opd ! (load ! (from ! (vrt ! refl (fld ! refl (stop !)))) (look-in ! 46 (in-variant ! 2 0 refl refl (whole !))))) (from ! (stop !)) (init ! 30 refl (tt, record { fits = (Look′.ok-Read-0 y1-0 y1-1 y1-2 y1-3 (subst Look′.Ok m·1 ok·step)) .1 })) $
       regroup ! $
-      assigns ! (of-opd ! (load ! (from ! (vrt ! refl (fld ! refl (stop !)))) (look-in ! 42 (in-variant ! 2 1 refl refl (whole !))))) (from ! (stop !)) (init ! 24 refl (tt, record { fits = (Look′.ok-Read-1 y1-0 y1-1 y1-2 y1-3 (subst Look′.Ok m·1 ok·step)) .1 })) $
+      assigns ! (of-opd ! (load ! (from ! (vrt ! refl (fld ! refl (stop !)))) (look-in ! 46 (in-variant ! 2 1 refl refl (whole !))))) (from ! (stop !)) (init ! 28 refl (tt, record { fits = (Look′.ok-Read-1 y1-0 y1-1 y1-2 y1-3 (subst Look′.Ok m·1 ok·step)) .1 })) $
       regroup ! $
-      assigns ! (of-opd ! (load ! (from ! (vrt ! refl (fld ! refl (stop !)))) (look-in ! 42 (in-variant ! 2 2 refl refl (whole !))))) (from ! (stop !)) (init ! 22 refl (tt, record { fits = (Look′.ok-Read-2 y1-0 y1-1 y1-2 y1-3 (subst Look′.Ok m·1 ok·step)) .1 })) $
+      assigns ! (of-opd ! (load ! (from ! (vrt ! refl (fld ! refl (stop !)))) (look-in ! 46 (in-variant ! 2 2 refl refl (whole !))))) (from ! (stop !)) (init ! 26 refl (tt, record { fits = (Look′.ok-Read-2 y1-0 y1-1 y1-2 y1-3 (subst Look′.Ok m·1 ok·step)) .1 })) $
       regroup ! $
-      assigns ! (of-opd ! (load ! (from ! (vrt ! refl (fld ! refl (stop !)))) (look-in ! 42 (in-variant ! 2 3 refl refl (whole !))))) (from ! (stop !)) (init ! 20 refl (tt, record { fits = (Look′.ok-Read-3 y1-0 y1-1 y1-2 y1-3 (subst Look′.Ok m·1 ok·step)) .1 })) $
-      Call-read-step.calls ! mem run (fmOf 𝓤 H (W .laws) 𝓣) known-read-step kept y1-0 y1-1 y1-2 y1-3 κ·pages q·pages b·pages o·pages γ·pages (length pages) pages κ·nodes q·nodes b·nodes o·nodes γ·nodes (length nodes) nodes κ·register q·register b·register o·register γ·register (length register) register ok·kept (Look′.ok-Read-0 y1-0 y1-1 y1-2 y1-3 (subst Look′.Ok m·1 ok·step)) (Look′.ok-Read-1 y1-0 y1-1 y1-2 y1-3 (subst Look′.Ok m·1 ok·step)) (Look′.ok-Read-2 y1-0 y1-1 y1-2 y1-3 (subst Look′.Ok m·1 ok·step)) (Look′.ok-Read-3 y1-0 y1-1 y1-2 y1-3 (subst Look′.Ok m·1 ok·step)) (and-then ! (load ! (from ! (stop !)) (look ! 42 refl)) (and-then ! (load ! (from ! (stop !)) (look ! 24 refl)) (and-then ! (load ! (from ! (stop !)) (look ! 22 refl)) (and-then ! (load ! (from ! (stop !)) (look ! 20 refl)) (and-then ! (load ! (from ! (stop !)) (look ! 18 refl)) (and-then ! (load ! (from ! (stop !)) (look ! 38 refl)) (and-then ! (load ! (from ! (stop !)) (look ! 36 refl)) (and-then ! (load ! (from ! (stop !)) (look ! 34 refl)) (no-more !)))))))))
+      assigns ! (of-opd ! (load ! (from ! (vrt ! refl (fld ! refl (stop !)))) (look-in ! 46 (in-variant ! 2 3 refl refl (whole !))))) (from ! (stop !)) (init ! 24 refl (tt, record { fits = (Look′.ok-Read-3 y1-0 y1-1 y1-2 y1-3 (subst Look′.Ok m·1 ok·step)) .1 })) $
+      Call-read-step.calls ! mem run (fmOf 𝓤 H (W .laws) 𝓣) known-read-step kept y1-0 y1-1 y1-2 y1-3 κ·pages q·pages b·pages o·pages γ·pages (length pages) pages κ·nodes q·nodes b·nodes o·nodes γ·nodes (length nodes) nodes κ·register q·register b·register o·register γ·register (length register) register ok·kept (Look′.ok-Read-0 y1-0 y1-1 y1-2 y1-3 (subst Look′.Ok m·1 ok·step)) (Look′.ok-Read-1 y1-0 y1-1 y1-2 y1-3 (subst Look′.Ok m·1 ok·step)) (Look′.ok-Read-2 y1-0 y1-1 y1-2 y1-3 (subst Look′.Ok m·1 ok·step)) (Look′.ok-Read-3 y1-0 y1-1 y1-2 y1-3 (subst Look′.Ok m·1 ok·step)) (and-then ! (load ! (from ! (stop !)) (look ! 46 refl)) (and-then ! (load ! (from ! (stop !)) (look ! 28 refl)) (and-then ! (load ! (from ! (stop !)) (look ! 26 refl)) (and-then ! (load ! (from ! (stop !)) (look ! 24 refl)) (and-then ! (load ! (from ! (stop !)) (look ! 22 refl)) (and-then ! (load ! (from ! (stop !)) (look ! 42 refl)) (and-then ! (load ! (from ! (stop !)) (look ! 40 refl)) (and-then ! (load ! (from ! (stop !)) (look ! 38 refl)) (no-more !)))))))))
       (λ ok·3. land ! (from ! (stop !)) (init ! 6 refl (Turn′.typed 𝓤 H A W (r3 kept step pages nodes register y1-0 y1-1 y1-2 y1-3) ok·3)) $
-      here ! (‵ (flft κ·pages q·pages) ∷ ‵ (ShrAt u8 κ·pages b·pages o·pages γ·pages (length pages) pages) ∷ ‵ (flft κ·nodes q·nodes) ∷ ‵ (ShrAt u32 κ·nodes b·nodes o·nodes γ·nodes (length nodes) nodes) ∷ ‵ (flft κ·register q·register) ∷ ‵ (ShrAt Record′.row κ·register b·register o·register γ·register (length register) register) ∷ holds (tyAt (code.function .locals) 20) l₂₀ (Turn′.mach (r3 kept step pages nodes register y1-0 y1-1 y1-2 y1-3)) (empty (tyInt w64) l₁₉ (empty (tyInt w64) l₁₈ (empty (tyInt w64) l₁₇ (empty (tyInt w64) l₁₆ (empty (tyInt w64) l₁₅ (empty (tyInt w64) l₁₄ (holds (tyInt w64) l₁₃ (vint w64 y1-3) (holds (tyInt w64) l₁₂ (vint w64 y1-2) (holds (tyInt w64) l₁₁ (vint w64 y1-1) (holds (tyInt w64) l₁₀ (vint w64 y1-0) (empty (tyInt w64) l₉ (empty (tyInt w64) l₈ (empty (tyInt w64) l₇ (empty (tyInt w64) l₆ (holds (sliceTy (tyRef (named 2) imm (pointee (Record′.row .written)))) l₅ (sliceVal (b·register, o·register) (length register)) (holds (sliceTy (tyRef (named 1) imm (pointee (u32 .written)))) l₄ (sliceVal (b·nodes, o·nodes) (length nodes)) (holds (sliceTy (tyRef (named 0) imm (pointee (u8 .written)))) l₃ (sliceVal (b·pages, o·pages) (length pages)) (holds (tyAt (code.function .locals) 2) l₂ (Look′.mach (Look.Read y1-0 y1-1 y1-2 y1-3)) (holds (tyAt (code.function .locals) 1) l₁ (Kept′.mach kept) (empty (tyAt (code.function .locals) 0) l₀ []))))))))))))))))))))) $
-      assigns ! (of-opd ! (load ! (from ! (stop !)) (look ! 6 refl))) (from ! (stop !)) (init ! 46 refl (Turn′.typed 𝓤 H A W (r3 kept step pages nodes register y1-0 y1-1 y1-2 y1-3) ok·3)) $
-      returns ! (look ! 46 refl) $
-      move ! (46 ∷ 47 ∷ []) $ forget ! 0 refl $ free1 ! $ move ! (44 ∷ 45 ∷ []) $ forget ! 0 refl $ free1 ! $ move ! (42 ∷ 43 ∷ []) $ forget ! 0 refl $ free1 ! $ move ! (40 ∷ 41 ∷ []) $ forget ! 0 refl $ free1 ! $ move ! (38 ∷ 39 ∷ []) $ forget ! 0 refl $ free1 ! $ move ! (36 ∷ 37 ∷ []) $ forget ! 0 refl $ free1 ! $ move ! (34 ∷ 35 ∷ []) $ free1 ! $ move ! (32 ∷ 33 ∷ []) $ free1 ! $ move ! (30 ∷ 31 ∷ []) $ free1 ! $ move ! (28 ∷ 29 ∷ []) $ free1 ! $ move ! (26 ∷ 27 ∷ []) $ forget ! 0 refl $ free1 ! $ move ! (24 ∷ 25 ∷ []) $ forget ! 0 refl $ free1 ! $ move ! (22 ∷ 23 ∷ []) $ forget ! 0 refl $ free1 ! $ move ! (20 ∷ 21 ∷ []) $ forget ! 0 refl $ free1 ! $ move ! (18 ∷ 19 ∷ []) $ free1 ! $ move ! (16 ∷ 17 ∷ []) $ free1 ! $ move ! (14 ∷ 15 ∷ []) $ free1 ! $ move ! (12 ∷ 13 ∷ []) $ free1 ! $ move ! (10 ∷ 11 ∷ []) $ free1 ! $ move ! (8 ∷ 9 ∷ []) $ free1 ! $ move ! (6 ∷ 7 ∷ []) $ forget ! 0 refl $ free1 ! $ free0 ! $ by ! (exits (r3 kept step pages nodes register y1-0 y1-1 y1-2 y1-3) ok·3 (Facts.exit-3 kept step pages nodes register ok·kept ok·step (room·pages .0) (room·nodes .0) (room·register .0) y1-0 y1-1 y1-2 y1-3 m·1 ((Look′.ok-Read-0 y1-0 y1-1 y1-2 y1-3 (subst Look′.Ok m·1 ok·step)) .1) ((Look′.ok-Read-1 y1-0 y1-1 y1-2 y1-3 (subst Look′.Ok m·1 ok·step)) .1) ((Look′.ok-Read-2 y1-0 y1-1 y1-2 y1-3 (subst Look′.Ok m·1 ok·step)) .1) ((Look′.ok-Read-3 y1-0 y1-1 y1-2 y1-3 (subst Look′.Ok m·1 ok·step)) .1) ok·3)))))
-      (λ y1-0 y1-1 m·1. rewrite ! 42 (λ (u : Look). ‵ (fat fullShare Look′.ty l₂ 0 (Look′.mach u))) m·1 refl $ switches-to ! 3 (load ! (from ! (vrt ! refl (fld ! refl (stop !)))) (look-tag ! 42 (whole !))) (
+      here ! (‵ (flft κ·pages q·pages) ∷ ‵ (ShrAt u8 κ·pages b·pages o·pages γ·pages (length pages) pages) ∷ ‵ (flft κ·nodes q·nodes) ∷ ‵ (ShrAt u32 κ·nodes b·nodes o·nodes γ·nodes (length nodes) nodes) ∷ ‵ (flft κ·register q·register) ∷ ‵ (ShrAt Record′.row κ·register b·register o·register γ·register (length register) register) ∷ holds (tyAt (code.function .locals) 22) l₂₂ (Turn′.mach (r3 kept step pages nodes register y1-0 y1-1 y1-2 y1-3)) (empty (tyInt w64) l₂₁ (empty (tyInt w64) l₂₀ (empty (tyInt w64) l₁₉ (empty (tyInt w64) l₁₈ (empty (tyInt w64) l₁₇ (empty (tyInt w64) l₁₆ (empty (tyInt w64) l₁₅ (empty (tyInt w64) l₁₄ (holds (tyInt w64) l₁₃ (vint w64 y1-3) (holds (tyInt w64) l₁₂ (vint w64 y1-2) (holds (tyInt w64) l₁₁ (vint w64 y1-1) (holds (tyInt w64) l₁₀ (vint w64 y1-0) (empty (tyInt w64) l₉ (empty (tyInt w64) l₈ (empty (tyInt w64) l₇ (empty (tyInt w64) l₆ (holds (sliceTy (tyRef (named 2) imm (pointee (Record′.row .written)))) l₅ (sliceVal (b·register, o·register) (length register)) (holds (sliceTy (tyRef (named 1) imm (pointee (u32 .written)))) l₄ (sliceVal (b·nodes, o·nodes) (length nodes)) (holds (sliceTy (tyRef (named 0) imm (pointee (u8 .written)))) l₃ (sliceVal (b·pages, o·pages) (length pages)) (holds (tyAt (code.function .locals) 2) l₂ (Look′.mach (Look.Read y1-0 y1-1 y1-2 y1-3)) (holds (tyAt (code.function .locals) 1) l₁ (Kept′.mach kept) (empty (tyAt (code.function .locals) 0) l₀ []))))))))))))))))))))))) $
+      assigns ! (of-opd ! (load ! (from ! (stop !)) (look ! 6 refl))) (from ! (stop !)) (init ! 50 refl (Turn′.typed 𝓤 H A W (r3 kept step pages nodes register y1-0 y1-1 y1-2 y1-3) ok·3)) $
+      returns ! (look ! 50 refl) $
+      move ! (50 ∷ 51 ∷ []) $ forget ! 0 refl $ free1 ! $ move ! (48 ∷ 49 ∷ []) $ forget ! 0 refl $ free1 ! $ move ! (46 ∷ 47 ∷ []) $ forget ! 0 refl $ free1 ! $ move ! (44 ∷ 45 ∷ []) $ forget ! 0 refl $ free1 ! $ move ! (42 ∷ 43 ∷ []) $ forget ! 0 refl $ free1 ! $ move ! (40 ∷ 41 ∷ []) $ forget ! 0 refl $ free1 ! $ move ! (38 ∷ 39 ∷ []) $ free1 ! $ move ! (36 ∷ 37 ∷ []) $ free1 ! $ move ! (34 ∷ 35 ∷ []) $ free1 ! $ move ! (32 ∷ 33 ∷ []) $ free1 ! $ move ! (30 ∷ 31 ∷ []) $ forget ! 0 refl $ free1 ! $ move ! (28 ∷ 29 ∷ []) $ forget ! 0 refl $ free1 ! $ move ! (26 ∷ 27 ∷ []) $ forget ! 0 refl $ free1 ! $ move ! (24 ∷ 25 ∷ []) $ forget ! 0 refl $ free1 ! $ move ! (22 ∷ 23 ∷ []) $ free1 ! $ move ! (20 ∷ 21 ∷ []) $ free1 ! $ move ! (18 ∷ 19 ∷ []) $ free1 ! $ move ! (16 ∷ 17 ∷ []) $ free1 ! $ move ! (14 ∷ 15 ∷ []) $ free1 ! $ move ! (12 ∷ 13 ∷ []) $ free1 ! $ move ! (10 ∷ 11 ∷ []) $ free1 ! $ move ! (8 ∷ 9 ∷ []) $ free1 ! $ move ! (6 ∷ 7 ∷ []) $ forget ! 0 refl $ free1 ! $ free0 ! $ by ! (exits (r3 kept step pages nodes register y1-0 y1-1 y1-2 y1-3) ok·3 (Facts.exit-3 kept step pages nodes register ok·kept ok·step (room·pages .0) (room·nodes .0) (room·register .0) y1-0 y1-1 y1-2 y1-3 m·1 ((Look′.ok-Read-0 y1-0 y1-1 y1-2 y1-3 (subst Look′.Ok m·1 ok·step)) .1) ((Look′.ok-Read-1 y1-0 y1-1 y1-2 y1-3 (subst Look′.Ok m·1 ok·step)) .1) ((Look′.ok-Read-2 y1-0 y1-1 y1-2 y1-3 (subst Look′.Ok m·1 ok·step)) .1) ((Look′.ok-Read-3 y1-0 y1-1 y1-2 y1-3 (subst Look′.Ok m·1 ok·step)) .1) ok·3)))))
+      (λ y1-0 y1-1 m·1. rewrite ! 46 (λ (u : Look). ‵ (fat fullShare Look′.ty l₂ 0 (Look′.mach u))) m·1 refl $ switches-to ! 3 (load ! (from ! (vrt ! refl (fld ! refl (stop !)))) (look-tag ! 46 (whole !))) (
       regroup ! $
-      assigns ! (of-opd ! (load ! (from ! (vrt ! refl (fld ! refl (stop !)))) (look-in ! 42 (in-variant ! 3 0 refl refl (whole !))))) (from ! (stop !)) (init ! 18 refl (tt, record { fits = (Look′.ok-Size-0 y1-0 y1-1 (subst Look′.Ok m·1 ok·step)) .1 })) $
+      assigns ! (of-opd ! (load ! (from ! (vrt ! refl (fld ! refl (stop !)))) (look-in ! 46 (in-variant ! 3 0 refl refl (whole !))))) (from ! (stop !)) (init ! 22 refl (tt, record { fits = (Look′.ok-Size-0 y1-0 y1-1 (subst Look′.Ok m·1 ok·step)) .1 })) $
       regroup ! $
-      assigns ! (of-opd ! (load ! (from ! (vrt ! refl (fld ! refl (stop !)))) (look-in ! 42 (in-variant ! 3 1 refl refl (whole !))))) (from ! (stop !)) (init ! 16 refl (tt, record { fits = (Look′.ok-Size-1 y1-0 y1-1 (subst Look′.Ok m·1 ok·step)) .1 })) $
-      Call-size-step.calls ! mem run (fmOf 𝓤 H (W .laws) 𝓣) known-size-step kept y1-0 y1-1 κ·pages q·pages b·pages o·pages γ·pages (length pages) pages κ·nodes q·nodes b·nodes o·nodes γ·nodes (length nodes) nodes κ·register q·register b·register o·register γ·register (length register) register ok·kept (Look′.ok-Size-0 y1-0 y1-1 (subst Look′.Ok m·1 ok·step)) (Look′.ok-Size-1 y1-0 y1-1 (subst Look′.Ok m·1 ok·step)) (and-then ! (load ! (from ! (stop !)) (look ! 42 refl)) (and-then ! (load ! (from ! (stop !)) (look ! 16 refl)) (and-then ! (load ! (from ! (stop !)) (look ! 14 refl)) (and-then ! (load ! (from ! (stop !)) (look ! 38 refl)) (and-then ! (load ! (from ! (stop !)) (look ! 36 refl)) (and-then ! (load ! (from ! (stop !)) (look ! 34 refl)) (no-more !)))))))
+      assigns ! (of-opd ! (load ! (from ! (vrt ! refl (fld ! refl (stop !)))) (look-in ! 46 (in-variant ! 3 1 refl refl (whole !))))) (from ! (stop !)) (init ! 20 refl (tt, record { fits = (Look′.ok-Size-1 y1-0 y1-1 (subst Look′.Ok m·1 ok·step)) .1 })) $
+      Call-size-step.calls ! mem run (fmOf 𝓤 H (W .laws) 𝓣) known-size-step kept y1-0 y1-1 κ·pages q·pages b·pages o·pages γ·pages (length pages) pages κ·nodes q·nodes b·nodes o·nodes γ·nodes (length nodes) nodes κ·register q·register b·register o·register γ·register (length register) register ok·kept (Look′.ok-Size-0 y1-0 y1-1 (subst Look′.Ok m·1 ok·step)) (Look′.ok-Size-1 y1-0 y1-1 (subst Look′.Ok m·1 ok·step)) (and-then ! (load ! (from ! (stop !)) (look ! 46 refl)) (and-then ! (load ! (from ! (stop !)) (look ! 20 refl)) (and-then ! (load ! (from ! (stop !)) (look ! 18 refl)) (and-then ! (load ! (from ! (stop !)) (look ! 42 refl)) (and-then ! (load ! (from ! (stop !)) (look ! 40 refl)) (and-then ! (load ! (from ! (stop !)) (look ! 38 refl)) (no-more !)))))))
       (λ ok·4. land ! (from ! (stop !)) (init ! 6 refl (Turn′.typed 𝓤 H A W (r4 kept step pages nodes register y1-0 y1-1) ok·4)) $
-      here ! (‵ (flft κ·pages q·pages) ∷ ‵ (ShrAt u8 κ·pages b·pages o·pages γ·pages (length pages) pages) ∷ ‵ (flft κ·nodes q·nodes) ∷ ‵ (ShrAt u32 κ·nodes b·nodes o·nodes γ·nodes (length nodes) nodes) ∷ ‵ (flft κ·register q·register) ∷ ‵ (ShrAt Record′.row κ·register b·register o·register γ·register (length register) register) ∷ holds (tyAt (code.function .locals) 20) l₂₀ (Turn′.mach (r4 kept step pages nodes register y1-0 y1-1)) (empty (tyInt w64) l₁₉ (empty (tyInt w64) l₁₈ (empty (tyInt w64) l₁₇ (empty (tyInt w64) l₁₆ (holds (tyInt w64) l₁₅ (vint w64 y1-1) (holds (tyInt w64) l₁₄ (vint w64 y1-0) (empty (tyInt w64) l₁₃ (empty (tyInt w64) l₁₂ (empty (tyInt w64) l₁₁ (empty (tyInt w64) l₁₀ (empty (tyInt w64) l₉ (empty (tyInt w64) l₈ (empty (tyInt w64) l₇ (empty (tyInt w64) l₆ (holds (sliceTy (tyRef (named 2) imm (pointee (Record′.row .written)))) l₅ (sliceVal (b·register, o·register) (length register)) (holds (sliceTy (tyRef (named 1) imm (pointee (u32 .written)))) l₄ (sliceVal (b·nodes, o·nodes) (length nodes)) (holds (sliceTy (tyRef (named 0) imm (pointee (u8 .written)))) l₃ (sliceVal (b·pages, o·pages) (length pages)) (holds (tyAt (code.function .locals) 2) l₂ (Look′.mach (Look.Size y1-0 y1-1)) (holds (tyAt (code.function .locals) 1) l₁ (Kept′.mach kept) (empty (tyAt (code.function .locals) 0) l₀ []))))))))))))))))))))) $
-      assigns ! (of-opd ! (load ! (from ! (stop !)) (look ! 6 refl))) (from ! (stop !)) (init ! 46 refl (Turn′.typed 𝓤 H A W (r4 kept step pages nodes register y1-0 y1-1) ok·4)) $
-      returns ! (look ! 46 refl) $
-      move ! (46 ∷ 47 ∷ []) $ forget ! 0 refl $ free1 ! $ move ! (44 ∷ 45 ∷ []) $ forget ! 0 refl $ free1 ! $ move ! (42 ∷ 43 ∷ []) $ forget ! 0 refl $ free1 ! $ move ! (40 ∷ 41 ∷ []) $ forget ! 0 refl $ free1 ! $ move ! (38 ∷ 39 ∷ []) $ forget ! 0 refl $ free1 ! $ move ! (36 ∷ 37 ∷ []) $ forget ! 0 refl $ free1 ! $ move ! (34 ∷ 35 ∷ []) $ free1 ! $ move ! (32 ∷ 33 ∷ []) $ free1 ! $ move ! (30 ∷ 31 ∷ []) $ free1 ! $ move ! (28 ∷ 29 ∷ []) $ free1 ! $ move ! (26 ∷ 27 ∷ []) $ free1 ! $ move ! (24 ∷ 25 ∷ []) $ free1 ! $ move ! (22 ∷ 23 ∷ []) $ free1 ! $ move ! (20 ∷ 21 ∷ []) $ free1 ! $ move ! (18 ∷ 19 ∷ []) $ forget ! 0 refl $ free1 ! $ move ! (16 ∷ 17 ∷ []) $ forget ! 0 refl $ free1 ! $ move ! (14 ∷ 15 ∷ []) $ free1 ! $ move ! (12 ∷ 13 ∷ []) $ free1 ! $ move ! (10 ∷ 11 ∷ []) $ free1 ! $ move ! (8 ∷ 9 ∷ []) $ free1 ! $ move ! (6 ∷ 7 ∷ []) $ forget ! 0 refl $ free1 ! $ free0 ! $ by ! (exits (r4 kept step pages nodes register y1-0 y1-1) ok·4 (Facts.exit-4 kept step pages nodes register ok·kept ok·step (room·pages .0) (room·nodes .0) (room·register .0) y1-0 y1-1 m·1 ((Look′.ok-Size-0 y1-0 y1-1 (subst Look′.Ok m·1 ok·step)) .1) ((Look′.ok-Size-1 y1-0 y1-1 (subst Look′.Ok m·1 ok·step)) .1) ok·4)))))
-      (λ y1-0 m·1. rewrite ! 42 (λ (u : Look). ‵ (fat fullShare Look′.ty l₂ 0 (Look′.mach u))) m·1 refl $ switches-to ! 4 (load ! (from ! (vrt ! refl (fld ! refl (stop !)))) (look-tag ! 42 (whole !))) (
+      here ! (‵ (flft κ·pages q·pages) ∷ ‵ (ShrAt u8 κ·pages b·pages o·pages γ·pages (length pages) pages) ∷ ‵ (flft κ·nodes q·nodes) ∷ ‵ (ShrAt u32 κ·nodes b·nodes o·nodes γ·nodes (length nodes) nodes) ∷ ‵ (flft κ·register q·register) ∷ ‵ (ShrAt Record′.row κ·register b·register o·register γ·register (length register) register) ∷ holds (tyAt (code.function .locals) 22) l₂₂ (Turn′.mach (r4 kept step pages nodes register y1-0 y1-1)) (empty (tyInt w64) l₂₁ (empty (tyInt w64) l₂₀ (empty (tyInt w64) l₁₉ (empty (tyInt w64) l₁₈ (empty (tyInt w64) l₁₇ (empty (tyInt w64) l₁₆ (holds (tyInt w64) l₁₅ (vint w64 y1-1) (holds (tyInt w64) l₁₄ (vint w64 y1-0) (empty (tyInt w64) l₁₃ (empty (tyInt w64) l₁₂ (empty (tyInt w64) l₁₁ (empty (tyInt w64) l₁₀ (empty (tyInt w64) l₉ (empty (tyInt w64) l₈ (empty (tyInt w64) l₇ (empty (tyInt w64) l₆ (holds (sliceTy (tyRef (named 2) imm (pointee (Record′.row .written)))) l₅ (sliceVal (b·register, o·register) (length register)) (holds (sliceTy (tyRef (named 1) imm (pointee (u32 .written)))) l₄ (sliceVal (b·nodes, o·nodes) (length nodes)) (holds (sliceTy (tyRef (named 0) imm (pointee (u8 .written)))) l₃ (sliceVal (b·pages, o·pages) (length pages)) (holds (tyAt (code.function .locals) 2) l₂ (Look′.mach (Look.Size y1-0 y1-1)) (holds (tyAt (code.function .locals) 1) l₁ (Kept′.mach kept) (empty (tyAt (code.function .locals) 0) l₀ []))))))))))))))))))))))) $
+      assigns ! (of-opd ! (load ! (from ! (stop !)) (look ! 6 refl))) (from ! (stop !)) (init ! 50 refl (Turn′.typed 𝓤 H A W (r4 kept step pages nodes register y1-0 y1-1) ok·4)) $
+      returns ! (look ! 50 refl) $
+      move ! (50 ∷ 51 ∷ []) $ forget ! 0 refl $ free1 ! $ move ! (48 ∷ 49 ∷ []) $ forget ! 0 refl $ free1 ! $ move ! (46 ∷ 47 ∷ []) $ forget ! 0 refl $ free1 ! $ move ! (44 ∷ 45 ∷ []) $ forget ! 0 refl $ free1 ! $ move ! (42 ∷ 43 ∷ []) $ forget ! 0 refl $ free1 ! $ move ! (40 ∷ 41 ∷ []) $ forget ! 0 refl $ free1 ! $ move ! (38 ∷ 39 ∷ []) $ free1 ! $ move ! (36 ∷ 37 ∷ []) $ free1 ! $ move ! (34 ∷ 35 ∷ []) $ free1 ! $ move ! (32 ∷ 33 ∷ []) $ free1 ! $ move ! (30 ∷ 31 ∷ []) $ free1 ! $ move ! (28 ∷ 29 ∷ []) $ free1 ! $ move ! (26 ∷ 27 ∷ []) $ free1 ! $ move ! (24 ∷ 25 ∷ []) $ free1 ! $ move ! (22 ∷ 23 ∷ []) $ forget ! 0 refl $ free1 ! $ move ! (20 ∷ 21 ∷ []) $ forget ! 0 refl $ free1 ! $ move ! (18 ∷ 19 ∷ []) $ free1 ! $ move ! (16 ∷ 17 ∷ []) $ free1 ! $ move ! (14 ∷ 15 ∷ []) $ free1 ! $ move ! (12 ∷ 13 ∷ []) $ free1 ! $ move ! (10 ∷ 11 ∷ []) $ free1 ! $ move ! (8 ∷ 9 ∷ []) $ free1 ! $ move ! (6 ∷ 7 ∷ []) $ forget ! 0 refl $ free1 ! $ free0 ! $ by ! (exits (r4 kept step pages nodes register y1-0 y1-1) ok·4 (Facts.exit-4 kept step pages nodes register ok·kept ok·step (room·pages .0) (room·nodes .0) (room·register .0) y1-0 y1-1 m·1 ((Look′.ok-Size-0 y1-0 y1-1 (subst Look′.Ok m·1 ok·step)) .1) ((Look′.ok-Size-1 y1-0 y1-1 (subst Look′.Ok m·1 ok·step)) .1) ok·4)))))
+      (λ y1-0 m·1. rewrite ! 46 (λ (u : Look). ‵ (fat fullShare Look′.ty l₂ 0 (Look′.mach u))) m·1 refl $ switches-to ! 4 (load ! (from ! (vrt ! refl (fld ! refl (stop !)))) (look-tag ! 46 (whole !))) (
       regroup ! $
-      assigns ! (of-opd ! (load ! (from ! (vrt ! refl (fld ! refl (stop !)))) (look-in ! 42 (in-variant ! 4 0 refl refl (whole !))))) (from ! (stop !)) (init ! 14 refl (tt, record { fits = (Look′.ok-Recent-0 y1-0 (subst Look′.Ok m·1 ok·step)) .1 })) $
-      Call-recent-step.calls ! mem run (fmOf 𝓤 H (W .laws) 𝓣) known-recent-step kept y1-0 κ·pages q·pages b·pages o·pages γ·pages (length pages) pages κ·nodes q·nodes b·nodes o·nodes γ·nodes (length nodes) nodes κ·register q·register b·register o·register γ·register (length register) register ok·kept (Look′.ok-Recent-0 y1-0 (subst Look′.Ok m·1 ok·step)) (and-then ! (load ! (from ! (stop !)) (look ! 42 refl)) (and-then ! (load ! (from ! (stop !)) (look ! 12 refl)) (and-then ! (load ! (from ! (stop !)) (look ! 38 refl)) (and-then ! (load ! (from ! (stop !)) (look ! 36 refl)) (and-then ! (load ! (from ! (stop !)) (look ! 34 refl)) (no-more !))))))
+      assigns ! (of-opd ! (load ! (from ! (vrt ! refl (fld ! refl (stop !)))) (look-in ! 46 (in-variant ! 4 0 refl refl (whole !))))) (from ! (stop !)) (init ! 18 refl (tt, record { fits = (Look′.ok-Recent-0 y1-0 (subst Look′.Ok m·1 ok·step)) .1 })) $
+      Call-recent-step.calls ! mem run (fmOf 𝓤 H (W .laws) 𝓣) known-recent-step kept y1-0 κ·pages q·pages b·pages o·pages γ·pages (length pages) pages κ·nodes q·nodes b·nodes o·nodes γ·nodes (length nodes) nodes κ·register q·register b·register o·register γ·register (length register) register ok·kept (Look′.ok-Recent-0 y1-0 (subst Look′.Ok m·1 ok·step)) (and-then ! (load ! (from ! (stop !)) (look ! 46 refl)) (and-then ! (load ! (from ! (stop !)) (look ! 16 refl)) (and-then ! (load ! (from ! (stop !)) (look ! 42 refl)) (and-then ! (load ! (from ! (stop !)) (look ! 40 refl)) (and-then ! (load ! (from ! (stop !)) (look ! 38 refl)) (no-more !))))))
       (λ ok·5. land ! (from ! (stop !)) (init ! 6 refl (Turn′.typed 𝓤 H A W (r5 kept step pages nodes register y1-0) ok·5)) $
-      here ! (‵ (flft κ·pages q·pages) ∷ ‵ (ShrAt u8 κ·pages b·pages o·pages γ·pages (length pages) pages) ∷ ‵ (flft κ·nodes q·nodes) ∷ ‵ (ShrAt u32 κ·nodes b·nodes o·nodes γ·nodes (length nodes) nodes) ∷ ‵ (flft κ·register q·register) ∷ ‵ (ShrAt Record′.row κ·register b·register o·register γ·register (length register) register) ∷ holds (tyAt (code.function .locals) 20) l₂₀ (Turn′.mach (r5 kept step pages nodes register y1-0)) (empty (tyInt w64) l₁₉ (empty (tyInt w64) l₁₈ (empty (tyInt w64) l₁₇ (holds (tyInt w64) l₁₆ (vint w64 y1-0) (empty (tyInt w64) l₁₅ (empty (tyInt w64) l₁₄ (empty (tyInt w64) l₁₃ (empty (tyInt w64) l₁₂ (empty (tyInt w64) l₁₁ (empty (tyInt w64) l₁₀ (empty (tyInt w64) l₉ (empty (tyInt w64) l₈ (empty (tyInt w64) l₇ (empty (tyInt w64) l₆ (holds (sliceTy (tyRef (named 2) imm (pointee (Record′.row .written)))) l₅ (sliceVal (b·register, o·register) (length register)) (holds (sliceTy (tyRef (named 1) imm (pointee (u32 .written)))) l₄ (sliceVal (b·nodes, o·nodes) (length nodes)) (holds (sliceTy (tyRef (named 0) imm (pointee (u8 .written)))) l₃ (sliceVal (b·pages, o·pages) (length pages)) (holds (tyAt (code.function .locals) 2) l₂ (Look′.mach (Look.Recent y1-0)) (holds (tyAt (code.function .locals) 1) l₁ (Kept′.mach kept) (empty (tyAt (code.function .locals) 0) l₀ []))))))))))))))))))))) $
-      assigns ! (of-opd ! (load ! (from ! (stop !)) (look ! 6 refl))) (from ! (stop !)) (init ! 46 refl (Turn′.typed 𝓤 H A W (r5 kept step pages nodes register y1-0) ok·5)) $
-      returns ! (look ! 46 refl) $
-      move ! (46 ∷ 47 ∷ []) $ forget ! 0 refl $ free1 ! $ move ! (44 ∷ 45 ∷ []) $ forget ! 0 refl $ free1 ! $ move ! (42 ∷ 43 ∷ []) $ forget ! 0 refl $ free1 ! $ move ! (40 ∷ 41 ∷ []) $ forget ! 0 refl $ free1 ! $ move ! (38 ∷ 39 ∷ []) $ forget ! 0 refl $ free1 ! $ move ! (36 ∷ 37 ∷ []) $ forget ! 0 refl $ free1 ! $ move ! (34 ∷ 35 ∷ []) $ free1 ! $ move ! (32 ∷ 33 ∷ []) $ free1 ! $ move ! (30 ∷ 31 ∷ []) $ free1 ! $ move ! (28 ∷ 29 ∷ []) $ free1 ! $ move ! (26 ∷ 27 ∷ []) $ free1 ! $ move ! (24 ∷ 25 ∷ []) $ free1 ! $ move ! (22 ∷ 23 ∷ []) $ free1 ! $ move ! (20 ∷ 21 ∷ []) $ free1 ! $ move ! (18 ∷ 19 ∷ []) $ free1 ! $ move ! (16 ∷ 17 ∷ []) $ free1 ! $ move ! (14 ∷ 15 ∷ []) $ forget ! 0 refl $ free1 ! $ move ! (12 ∷ 13 ∷ []) $ free1 ! $ move ! (10 ∷ 11 ∷ []) $ free1 ! $ move ! (8 ∷ 9 ∷ []) $ free1 ! $ move ! (6 ∷ 7 ∷ []) $ forget ! 0 refl $ free1 ! $ free0 ! $ by ! (exits (r5 kept step pages nodes register y1-0) ok·5 (Facts.exit-5 kept step pages nodes register ok·kept ok·step (room·pages .0) (room·nodes .0) (room·register .0) y1-0 m·1 ((Look′.ok-Recent-0 y1-0 (subst Look′.Ok m·1 ok·step)) .1) ok·5)))))
-      (λ y1-0 y1-1 y1-2 m·1. rewrite ! 42 (λ (u : Look). ‵ (fat fullShare Look′.ty l₂ 0 (Look′.mach u))) m·1 refl $ switches-to ! 5 (load ! (from ! (vrt ! refl (fld ! refl (stop !)))) (look-tag ! 42 (whole !))) (
+      here ! (‵ (flft κ·pages q·pages) ∷ ‵ (ShrAt u8 κ·pages b·pages o·pages γ·pages (length pages) pages) ∷ ‵ (flft κ·nodes q·nodes) ∷ ‵ (ShrAt u32 κ·nodes b·nodes o·nodes γ·nodes (length nodes) nodes) ∷ ‵ (flft κ·register q·register) ∷ ‵ (ShrAt Record′.row κ·register b·register o·register γ·register (length register) register) ∷ holds (tyAt (code.function .locals) 22) l₂₂ (Turn′.mach (r5 kept step pages nodes register y1-0)) (empty (tyInt w64) l₂₁ (empty (tyInt w64) l₂₀ (empty (tyInt w64) l₁₉ (empty (tyInt w64) l₁₈ (empty (tyInt w64) l₁₇ (holds (tyInt w64) l₁₆ (vint w64 y1-0) (empty (tyInt w64) l₁₅ (empty (tyInt w64) l₁₄ (empty (tyInt w64) l₁₃ (empty (tyInt w64) l₁₂ (empty (tyInt w64) l₁₁ (empty (tyInt w64) l₁₀ (empty (tyInt w64) l₉ (empty (tyInt w64) l₈ (empty (tyInt w64) l₇ (empty (tyInt w64) l₆ (holds (sliceTy (tyRef (named 2) imm (pointee (Record′.row .written)))) l₅ (sliceVal (b·register, o·register) (length register)) (holds (sliceTy (tyRef (named 1) imm (pointee (u32 .written)))) l₄ (sliceVal (b·nodes, o·nodes) (length nodes)) (holds (sliceTy (tyRef (named 0) imm (pointee (u8 .written)))) l₃ (sliceVal (b·pages, o·pages) (length pages)) (holds (tyAt (code.function .locals) 2) l₂ (Look′.mach (Look.Recent y1-0)) (holds (tyAt (code.function .locals) 1) l₁ (Kept′.mach kept) (empty (tyAt (code.function .locals) 0) l₀ []))))))))))))))))))))))) $
+      assigns ! (of-opd ! (load ! (from ! (stop !)) (look ! 6 refl))) (from ! (stop !)) (init ! 50 refl (Turn′.typed 𝓤 H A W (r5 kept step pages nodes register y1-0) ok·5)) $
+      returns ! (look ! 50 refl) $
+      move ! (50 ∷ 51 ∷ []) $ forget ! 0 refl $ free1 ! $ move ! (48 ∷ 49 ∷ []) $ forget ! 0 refl $ free1 ! $ move ! (46 ∷ 47 ∷ []) $ forget ! 0 refl $ free1 ! $ move ! (44 ∷ 45 ∷ []) $ forget ! 0 refl $ free1 ! $ move ! (42 ∷ 43 ∷ []) $ forget ! 0 refl $ free1 ! $ move ! (40 ∷ 41 ∷ []) $ forget ! 0 refl $ free1 ! $ move ! (38 ∷ 39 ∷ []) $ free1 ! $ move ! (36 ∷ 37 ∷ []) $ free1 ! $ move ! (34 ∷ 35 ∷ []) $ free1 ! $ move ! (32 ∷ 33 ∷ []) $ free1 ! $ move ! (30 ∷ 31 ∷ []) $ free1 ! $ move ! (28 ∷ 29 ∷ []) $ free1 ! $ move ! (26 ∷ 27 ∷ []) $ free1 ! $ move ! (24 ∷ 25 ∷ []) $ free1 ! $ move ! (22 ∷ 23 ∷ []) $ free1 ! $ move ! (20 ∷ 21 ∷ []) $ free1 ! $ move ! (18 ∷ 19 ∷ []) $ forget ! 0 refl $ free1 ! $ move ! (16 ∷ 17 ∷ []) $ free1 ! $ move ! (14 ∷ 15 ∷ []) $ free1 ! $ move ! (12 ∷ 13 ∷ []) $ free1 ! $ move ! (10 ∷ 11 ∷ []) $ free1 ! $ move ! (8 ∷ 9 ∷ []) $ free1 ! $ move ! (6 ∷ 7 ∷ []) $ forget ! 0 refl $ free1 ! $ free0 ! $ by ! (exits (r5 kept step pages nodes register y1-0) ok·5 (Facts.exit-5 kept step pages nodes register ok·kept ok·step (room·pages .0) (room·nodes .0) (room·register .0) y1-0 m·1 ((Look′.ok-Recent-0 y1-0 (subst Look′.Ok m·1 ok·step)) .1) ok·5)))))
+      (λ y1-0 y1-1 y1-2 m·1. rewrite ! 46 (λ (u : Look). ‵ (fat fullShare Look′.ty l₂ 0 (Look′.mach u))) m·1 refl $ switches-to ! 5 (load ! (from ! (vrt ! refl (fld ! refl (stop !)))) (look-tag ! 46 (whole !))) (
       regroup ! $
-      assigns ! (of-opd ! (load ! (from ! (vrt ! refl (fld ! refl (stop !)))) (look-in ! 42 (in-variant ! 5 0 refl refl (whole !))))) (from ! (stop !)) (init ! 12 refl (tt, record { fits = (Look′.ok-Stamp-0 y1-0 y1-1 y1-2 (subst Look′.Ok m·1 ok·step)) .1 })) $
+      assigns ! (of-opd ! (load ! (from ! (vrt ! refl (fld ! refl (stop !)))) (look-in ! 46 (in-variant ! 5 0 refl refl (whole !))))) (from ! (stop !)) (init ! 16 refl (tt, record { fits = (Look′.ok-Stamp-0 y1-0 y1-1 y1-2 (subst Look′.Ok m·1 ok·step)) .1 })) $
       regroup ! $
-      assigns ! (of-opd ! (load ! (from ! (vrt ! refl (fld ! refl (stop !)))) (look-in ! 42 (in-variant ! 5 1 refl refl (whole !))))) (from ! (stop !)) (init ! 10 refl (tt, record { fits = (Look′.ok-Stamp-1 y1-0 y1-1 y1-2 (subst Look′.Ok m·1 ok·step)) .1 })) $
+      assigns ! (of-opd ! (load ! (from ! (vrt ! refl (fld ! refl (stop !)))) (look-in ! 46 (in-variant ! 5 1 refl refl (whole !))))) (from ! (stop !)) (init ! 14 refl (tt, record { fits = (Look′.ok-Stamp-1 y1-0 y1-1 y1-2 (subst Look′.Ok m·1 ok·step)) .1 })) $
       regroup ! $
-      assigns ! (of-opd ! (load ! (from ! (vrt ! refl (fld ! refl (stop !)))) (look-in ! 42 (in-variant ! 5 2 refl refl (whole !))))) (from ! (stop !)) (init ! 8 refl (tt, record { fits = (Look′.ok-Stamp-2 y1-0 y1-1 y1-2 (subst Look′.Ok m·1 ok·step)) .1 })) $
-      Call-stamp-step.calls ! mem run (fmOf 𝓤 H (W .laws) 𝓣) known-stamp-step kept y1-0 y1-1 y1-2 κ·pages q·pages b·pages o·pages γ·pages (length pages) pages κ·nodes q·nodes b·nodes o·nodes γ·nodes (length nodes) nodes κ·register q·register b·register o·register γ·register (length register) register ok·kept (Look′.ok-Stamp-0 y1-0 y1-1 y1-2 (subst Look′.Ok m·1 ok·step)) (Look′.ok-Stamp-1 y1-0 y1-1 y1-2 (subst Look′.Ok m·1 ok·step)) (Look′.ok-Stamp-2 y1-0 y1-1 y1-2 (subst Look′.Ok m·1 ok·step)) (and-then ! (load ! (from ! (stop !)) (look ! 42 refl)) (and-then ! (load ! (from ! (stop !)) (look ! 10 refl)) (and-then ! (load ! (from ! (stop !)) (look ! 8 refl)) (and-then ! (load ! (from ! (stop !)) (look ! 6 refl)) (and-then ! (load ! (from ! (stop !)) (look ! 38 refl)) (and-then ! (load ! (from ! (stop !)) (look ! 36 refl)) (and-then ! (load ! (from ! (stop !)) (look ! 34 refl)) (no-more !))))))))
+      assigns ! (of-opd ! (load ! (from ! (vrt ! refl (fld ! refl (stop !)))) (look-in ! 46 (in-variant ! 5 2 refl refl (whole !))))) (from ! (stop !)) (init ! 12 refl (tt, record { fits = (Look′.ok-Stamp-2 y1-0 y1-1 y1-2 (subst Look′.Ok m·1 ok·step)) .1 })) $
+      Call-stamp-step.calls ! mem run (fmOf 𝓤 H (W .laws) 𝓣) known-stamp-step kept y1-0 y1-1 y1-2 κ·pages q·pages b·pages o·pages γ·pages (length pages) pages κ·nodes q·nodes b·nodes o·nodes γ·nodes (length nodes) nodes κ·register q·register b·register o·register γ·register (length register) register ok·kept (Look′.ok-Stamp-0 y1-0 y1-1 y1-2 (subst Look′.Ok m·1 ok·step)) (Look′.ok-Stamp-1 y1-0 y1-1 y1-2 (subst Look′.Ok m·1 ok·step)) (Look′.ok-Stamp-2 y1-0 y1-1 y1-2 (subst Look′.Ok m·1 ok·step)) (and-then ! (load ! (from ! (stop !)) (look ! 46 refl)) (and-then ! (load ! (from ! (stop !)) (look ! 14 refl)) (and-then ! (load ! (from ! (stop !)) (look ! 12 refl)) (and-then ! (load ! (from ! (stop !)) (look ! 10 refl)) (and-then ! (load ! (from ! (stop !)) (look ! 42 refl)) (and-then ! (load ! (from ! (stop !)) (look ! 40 refl)) (and-then ! (load ! (from ! (stop !)) (look ! 38 refl)) (no-more !))))))))
       (λ ok·6. land ! (from ! (stop !)) (init ! 6 refl (Turn′.typed 𝓤 H A W (r6 kept step pages nodes register y1-0 y1-1 y1-2) ok·6)) $
-      here ! (‵ (flft κ·pages q·pages) ∷ ‵ (ShrAt u8 κ·pages b·pages o·pages γ·pages (length pages) pages) ∷ ‵ (flft κ·nodes q·nodes) ∷ ‵ (ShrAt u32 κ·nodes b·nodes o·nodes γ·nodes (length nodes) nodes) ∷ ‵ (flft κ·register q·register) ∷ ‵ (ShrAt Record′.row κ·register b·register o·register γ·register (length register) register) ∷ holds (tyAt (code.function .locals) 20) l₂₀ (Turn′.mach (r6 kept step pages nodes register y1-0 y1-1 y1-2)) (holds (tyInt w64) l₁₉ (vint w64 y1-2) (holds (tyInt w64) l₁₈ (vint w64 y1-1) (holds (tyInt w64) l₁₇ (vint w64 y1-0) (empty (tyInt w64) l₁₆ (empty (tyInt w64) l₁₅ (empty (tyInt w64) l₁₄ (empty (tyInt w64) l₁₃ (empty (tyInt w64) l₁₂ (empty (tyInt w64) l₁₁ (empty (tyInt w64) l₁₀ (empty (tyInt w64) l₉ (empty (tyInt w64) l₈ (empty (tyInt w64) l₇ (empty (tyInt w64) l₆ (holds (sliceTy (tyRef (named 2) imm (pointee (Record′.row .written)))) l₅ (sliceVal (b·register, o·register) (length register)) (holds (sliceTy (tyRef (named 1) imm (pointee (u32 .written)))) l₄ (sliceVal (b·nodes, o·nodes) (length nodes)) (holds (sliceTy (tyRef (named 0) imm (pointee (u8 .written)))) l₃ (sliceVal (b·pages, o·pages) (length pages)) (holds (tyAt (code.function .locals) 2) l₂ (Look′.mach (Look.Stamp y1-0 y1-1 y1-2)) (holds (tyAt (code.function .locals) 1) l₁ (Kept′.mach kept) (empty (tyAt (code.function .locals) 0) l₀ []))))))))))))))))))))) $
-      assigns ! (of-opd ! (load ! (from ! (stop !)) (look ! 6 refl))) (from ! (stop !)) (init ! 46 refl (Turn′.typed 𝓤 H A W (r6 kept step pages nodes register y1-0 y1-1 y1-2) ok·6)) $
-      returns ! (look ! 46 refl) $
-      move ! (46 ∷ 47 ∷ []) $ forget ! 0 refl $ free1 ! $ move ! (44 ∷ 45 ∷ []) $ forget ! 0 refl $ free1 ! $ move ! (42 ∷ 43 ∷ []) $ forget ! 0 refl $ free1 ! $ move ! (40 ∷ 41 ∷ []) $ forget ! 0 refl $ free1 ! $ move ! (38 ∷ 39 ∷ []) $ forget ! 0 refl $ free1 ! $ move ! (36 ∷ 37 ∷ []) $ forget ! 0 refl $ free1 ! $ move ! (34 ∷ 35 ∷ []) $ free1 ! $ move ! (32 ∷ 33 ∷ []) $ free1 ! $ move ! (30 ∷ 31 ∷ []) $ free1 ! $ move ! (28 ∷ 29 ∷ []) $ free1 ! $ move ! (26 ∷ 27 ∷ []) $ free1 ! $ move ! (24 ∷ 25 ∷ []) $ free1 ! $ move ! (22 ∷ 23 ∷ []) $ free1 ! $ move ! (20 ∷ 21 ∷ []) $ free1 ! $ move ! (18 ∷ 19 ∷ []) $ free1 ! $ move ! (16 ∷ 17 ∷ []) $ free1 ! $ move ! (14 ∷ 15 ∷ []) $ free1 ! $ move ! (12 ∷ 13 ∷ []) $ forget ! 0 refl $ free1 ! $ move ! (10 ∷ 11 ∷ []) $ forget ! 0 refl $ free1 ! $ move ! (8 ∷ 9 ∷ []) $ forget ! 0 refl $ free1 ! $ move ! (6 ∷ 7 ∷ []) $ forget ! 0 refl $ free1 ! $ free0 ! $ by ! (exits (r6 kept step pages nodes register y1-0 y1-1 y1-2) ok·6 (Facts.exit-6 kept step pages nodes register ok·kept ok·step (room·pages .0) (room·nodes .0) (room·register .0) y1-0 y1-1 y1-2 m·1 ((Look′.ok-Stamp-0 y1-0 y1-1 y1-2 (subst Look′.Ok m·1 ok·step)) .1) ((Look′.ok-Stamp-1 y1-0 y1-1 y1-2 (subst Look′.Ok m·1 ok·step)) .1) ((Look′.ok-Stamp-2 y1-0 y1-1 y1-2 (subst Look′.Ok m·1 ok·step)) .1) ok·6)))))
-      (λ m·1. rewrite ! 42 (λ (u : Look). ‵ (fat fullShare Look′.ty l₂ 0 (Look′.mach u))) m·1 refl $ switches-to ! 6 (load ! (from ! (vrt ! refl (fld ! refl (stop !)))) (look-tag ! 42 (whole !))) (
-      Call-refused-turn.calls ! mem run (fmOf 𝓤 H (W .laws) 𝓣) known-refused-turn kept ok·kept (and-then ! (load ! (from ! (stop !)) (look ! 45 refl)) (no-more !))
-      (λ ok·7. land ! (from ! (stop !)) (init ! 6 refl (Turn′.typed 𝓤 H A W (r7 kept step pages nodes register) ok·7)) $
-      here ! (‵ (flft κ·pages q·pages) ∷ ‵ (ShrAt u8 κ·pages b·pages o·pages γ·pages (length pages) pages) ∷ ‵ (flft κ·nodes q·nodes) ∷ ‵ (ShrAt u32 κ·nodes b·nodes o·nodes γ·nodes (length nodes) nodes) ∷ ‵ (flft κ·register q·register) ∷ ‵ (ShrAt Record′.row κ·register b·register o·register γ·register (length register) register) ∷ holds (tyAt (code.function .locals) 20) l₂₀ (Turn′.mach (r7 kept step pages nodes register)) (empty (tyInt w64) l₁₉ (empty (tyInt w64) l₁₈ (empty (tyInt w64) l₁₇ (empty (tyInt w64) l₁₆ (empty (tyInt w64) l₁₅ (empty (tyInt w64) l₁₄ (empty (tyInt w64) l₁₃ (empty (tyInt w64) l₁₂ (empty (tyInt w64) l₁₁ (empty (tyInt w64) l₁₀ (empty (tyInt w64) l₉ (empty (tyInt w64) l₈ (empty (tyInt w64) l₇ (empty (tyInt w64) l₆ (holds (sliceTy (tyRef (named 2) imm (pointee (Record′.row .written)))) l₅ (sliceVal (b·register, o·register) (length register)) (holds (sliceTy (tyRef (named 1) imm (pointee (u32 .written)))) l₄ (sliceVal (b·nodes, o·nodes) (length nodes)) (holds (sliceTy (tyRef (named 0) imm (pointee (u8 .written)))) l₃ (sliceVal (b·pages, o·pages) (length pages)) (holds (tyAt (code.function .locals) 2) l₂ (Look′.mach Look.Nothing) (holds (tyAt (code.function .locals) 1) l₁ (Kept′.mach kept) (empty (tyAt (code.function .locals) 0) l₀ []))))))))))))))))))))) $
-      assigns ! (of-opd ! (load ! (from ! (stop !)) (look ! 6 refl))) (from ! (stop !)) (init ! 46 refl (Turn′.typed 𝓤 H A W (r7 kept step pages nodes register) ok·7)) $
-      returns ! (look ! 46 refl) $
-      move ! (46 ∷ 47 ∷ []) $ forget ! 0 refl $ free1 ! $ move ! (44 ∷ 45 ∷ []) $ forget ! 0 refl $ free1 ! $ move ! (42 ∷ 43 ∷ []) $ forget ! 0 refl $ free1 ! $ move ! (40 ∷ 41 ∷ []) $ forget ! 0 refl $ free1 ! $ move ! (38 ∷ 39 ∷ []) $ forget ! 0 refl $ free1 ! $ move ! (36 ∷ 37 ∷ []) $ forget ! 0 refl $ free1 ! $ move ! (34 ∷ 35 ∷ []) $ free1 ! $ move ! (32 ∷ 33 ∷ []) $ free1 ! $ move ! (30 ∷ 31 ∷ []) $ free1 ! $ move ! (28 ∷ 29 ∷ []) $ free1 ! $ move ! (26 ∷ 27 ∷ []) $ free1 ! $ move ! (24 ∷ 25 ∷ []) $ free1 ! $ move ! (22 ∷ 23 ∷ []) $ free1 ! $ move ! (20 ∷ 21 ∷ []) $ free1 ! $ move ! (18 ∷ 19 ∷ []) $ free1 ! $ move ! (16 ∷ 17 ∷ []) $ free1 ! $ move ! (14 ∷ 15 ∷ []) $ free1 ! $ move ! (12 ∷ 13 ∷ []) $ free1 ! $ move ! (10 ∷ 11 ∷ []) $ free1 ! $ move ! (8 ∷ 9 ∷ []) $ free1 ! $ move ! (6 ∷ 7 ∷ []) $ forget ! 0 refl $ free1 ! $ free0 ! $ by ! (exits (r7 kept step pages nodes register) ok·7 (Facts.exit-7 kept step pages nodes register ok·kept ok·step (room·pages .0) (room·nodes .0) (room·register .0) m·1 ok·7))))))))))))))))))))))))))
+      here ! (‵ (flft κ·pages q·pages) ∷ ‵ (ShrAt u8 κ·pages b·pages o·pages γ·pages (length pages) pages) ∷ ‵ (flft κ·nodes q·nodes) ∷ ‵ (ShrAt u32 κ·nodes b·nodes o·nodes γ·nodes (length nodes) nodes) ∷ ‵ (flft κ·register q·register) ∷ ‵ (ShrAt Record′.row κ·register b·register o·register γ·register (length register) register) ∷ holds (tyAt (code.function .locals) 22) l₂₂ (Turn′.mach (r6 kept step pages nodes register y1-0 y1-1 y1-2)) (empty (tyInt w64) l₂₁ (empty (tyInt w64) l₂₀ (holds (tyInt w64) l₁₉ (vint w64 y1-2) (holds (tyInt w64) l₁₈ (vint w64 y1-1) (holds (tyInt w64) l₁₇ (vint w64 y1-0) (empty (tyInt w64) l₁₆ (empty (tyInt w64) l₁₅ (empty (tyInt w64) l₁₄ (empty (tyInt w64) l₁₃ (empty (tyInt w64) l₁₂ (empty (tyInt w64) l₁₁ (empty (tyInt w64) l₁₀ (empty (tyInt w64) l₉ (empty (tyInt w64) l₈ (empty (tyInt w64) l₇ (empty (tyInt w64) l₆ (holds (sliceTy (tyRef (named 2) imm (pointee (Record′.row .written)))) l₅ (sliceVal (b·register, o·register) (length register)) (holds (sliceTy (tyRef (named 1) imm (pointee (u32 .written)))) l₄ (sliceVal (b·nodes, o·nodes) (length nodes)) (holds (sliceTy (tyRef (named 0) imm (pointee (u8 .written)))) l₃ (sliceVal (b·pages, o·pages) (length pages)) (holds (tyAt (code.function .locals) 2) l₂ (Look′.mach (Look.Stamp y1-0 y1-1 y1-2)) (holds (tyAt (code.function .locals) 1) l₁ (Kept′.mach kept) (empty (tyAt (code.function .locals) 0) l₀ []))))))))))))))))))))))) $
+      assigns ! (of-opd ! (load ! (from ! (stop !)) (look ! 6 refl))) (from ! (stop !)) (init ! 50 refl (Turn′.typed 𝓤 H A W (r6 kept step pages nodes register y1-0 y1-1 y1-2) ok·6)) $
+      returns ! (look ! 50 refl) $
+      move ! (50 ∷ 51 ∷ []) $ forget ! 0 refl $ free1 ! $ move ! (48 ∷ 49 ∷ []) $ forget ! 0 refl $ free1 ! $ move ! (46 ∷ 47 ∷ []) $ forget ! 0 refl $ free1 ! $ move ! (44 ∷ 45 ∷ []) $ forget ! 0 refl $ free1 ! $ move ! (42 ∷ 43 ∷ []) $ forget ! 0 refl $ free1 ! $ move ! (40 ∷ 41 ∷ []) $ forget ! 0 refl $ free1 ! $ move ! (38 ∷ 39 ∷ []) $ free1 ! $ move ! (36 ∷ 37 ∷ []) $ free1 ! $ move ! (34 ∷ 35 ∷ []) $ free1 ! $ move ! (32 ∷ 33 ∷ []) $ free1 ! $ move ! (30 ∷ 31 ∷ []) $ free1 ! $ move ! (28 ∷ 29 ∷ []) $ free1 ! $ move ! (26 ∷ 27 ∷ []) $ free1 ! $ move ! (24 ∷ 25 ∷ []) $ free1 ! $ move ! (22 ∷ 23 ∷ []) $ free1 ! $ move ! (20 ∷ 21 ∷ []) $ free1 ! $ move ! (18 ∷ 19 ∷ []) $ free1 ! $ move ! (16 ∷ 17 ∷ []) $ forget ! 0 refl $ free1 ! $ move ! (14 ∷ 15 ∷ []) $ forget ! 0 refl $ free1 ! $ move ! (12 ∷ 13 ∷ []) $ forget ! 0 refl $ free1 ! $ move ! (10 ∷ 11 ∷ []) $ free1 ! $ move ! (8 ∷ 9 ∷ []) $ free1 ! $ move ! (6 ∷ 7 ∷ []) $ forget ! 0 refl $ free1 ! $ free0 ! $ by ! (exits (r6 kept step pages nodes register y1-0 y1-1 y1-2) ok·6 (Facts.exit-6 kept step pages nodes register ok·kept ok·step (room·pages .0) (room·nodes .0) (room·register .0) y1-0 y1-1 y1-2 m·1 ((Look′.ok-Stamp-0 y1-0 y1-1 y1-2 (subst Look′.Ok m·1 ok·step)) .1) ((Look′.ok-Stamp-1 y1-0 y1-1 y1-2 (subst Look′.Ok m·1 ok·step)) .1) ((Look′.ok-Stamp-2 y1-0 y1-1 y1-2 (subst Look′.Ok m·1 ok·step)) .1) ok·6)))))
+      (λ y1-0 y1-1 m·1. rewrite ! 46 (λ (u : Look). ‵ (fat fullShare Look′.ty l₂ 0 (Look′.mach u))) m·1 refl $ switches-to ! 6 (load ! (from ! (vrt ! refl (fld ! refl (stop !)))) (look-tag ! 46 (whole !))) (
+      regroup ! $
+      assigns ! (of-opd ! (load ! (from ! (vrt ! refl (fld ! refl (stop !)))) (look-in ! 46 (in-variant ! 6 0 refl refl (whole !))))) (from ! (stop !)) (init ! 10 refl (tt, record { fits = (Look′.ok-Worst-0 y1-0 y1-1 (subst Look′.Ok m·1 ok·step)) .1 })) $
+      regroup ! $
+      assigns ! (of-opd ! (load ! (from ! (vrt ! refl (fld ! refl (stop !)))) (look-in ! 46 (in-variant ! 6 1 refl refl (whole !))))) (from ! (stop !)) (init ! 8 refl (tt, record { fits = (Look′.ok-Worst-1 y1-0 y1-1 (subst Look′.Ok m·1 ok·step)) .1 })) $
+      Call-worst-step.calls ! mem run (fmOf 𝓤 H (W .laws) 𝓣) known-worst-step kept y1-0 y1-1 ok·kept (Look′.ok-Worst-0 y1-0 y1-1 (subst Look′.Ok m·1 ok·step)) (Look′.ok-Worst-1 y1-0 y1-1 (subst Look′.Ok m·1 ok·step)) (and-then ! (load ! (from ! (stop !)) (look ! 49 refl)) (and-then ! (load ! (from ! (stop !)) (look ! 11 refl)) (and-then ! (load ! (from ! (stop !)) (look ! 9 refl)) (no-more !))))
+      (λ ok·7. land ! (from ! (stop !)) (init ! 6 refl (Turn′.typed 𝓤 H A W (r7 kept step pages nodes register y1-0 y1-1) ok·7)) $
+      here ! (‵ (flft κ·pages q·pages) ∷ ‵ (ShrAt u8 κ·pages b·pages o·pages γ·pages (length pages) pages) ∷ ‵ (flft κ·nodes q·nodes) ∷ ‵ (ShrAt u32 κ·nodes b·nodes o·nodes γ·nodes (length nodes) nodes) ∷ ‵ (flft κ·register q·register) ∷ ‵ (ShrAt Record′.row κ·register b·register o·register γ·register (length register) register) ∷ holds (tyAt (code.function .locals) 22) l₂₂ (Turn′.mach (r7 kept step pages nodes register y1-0 y1-1)) (holds (tyInt w64) l₂₁ (vint w64 y1-1) (holds (tyInt w64) l₂₀ (vint w64 y1-0) (empty (tyInt w64) l₁₉ (empty (tyInt w64) l₁₈ (empty (tyInt w64) l₁₇ (empty (tyInt w64) l₁₆ (empty (tyInt w64) l₁₅ (empty (tyInt w64) l₁₄ (empty (tyInt w64) l₁₃ (empty (tyInt w64) l₁₂ (empty (tyInt w64) l₁₁ (empty (tyInt w64) l₁₀ (empty (tyInt w64) l₉ (empty (tyInt w64) l₈ (empty (tyInt w64) l₇ (empty (tyInt w64) l₆ (holds (sliceTy (tyRef (named 2) imm (pointee (Record′.row .written)))) l₅ (sliceVal (b·register, o·register) (length register)) (holds (sliceTy (tyRef (named 1) imm (pointee (u32 .written)))) l₄ (sliceVal (b·nodes, o·nodes) (length nodes)) (holds (sliceTy (tyRef (named 0) imm (pointee (u8 .written)))) l₃ (sliceVal (b·pages, o·pages) (length pages)) (holds (tyAt (code.function .locals) 2) l₂ (Look′.mach (Look.Worst y1-0 y1-1)) (holds (tyAt (code.function .locals) 1) l₁ (Kept′.mach kept) (empty (tyAt (code.function .locals) 0) l₀ []))))))))))))))))))))))) $
+      assigns ! (of-opd ! (load ! (from ! (stop !)) (look ! 6 refl))) (from ! (stop !)) (init ! 50 refl (Turn′.typed 𝓤 H A W (r7 kept step pages nodes register y1-0 y1-1) ok·7)) $
+      returns ! (look ! 50 refl) $
+      move ! (50 ∷ 51 ∷ []) $ forget ! 0 refl $ free1 ! $ move ! (48 ∷ 49 ∷ []) $ forget ! 0 refl $ free1 ! $ move ! (46 ∷ 47 ∷ []) $ forget ! 0 refl $ free1 ! $ move ! (44 ∷ 45 ∷ []) $ forget ! 0 refl $ free1 ! $ move ! (42 ∷ 43 ∷ []) $ forget ! 0 refl $ free1 ! $ move ! (40 ∷ 41 ∷ []) $ forget ! 0 refl $ free1 ! $ move ! (38 ∷ 39 ∷ []) $ free1 ! $ move ! (36 ∷ 37 ∷ []) $ free1 ! $ move ! (34 ∷ 35 ∷ []) $ free1 ! $ move ! (32 ∷ 33 ∷ []) $ free1 ! $ move ! (30 ∷ 31 ∷ []) $ free1 ! $ move ! (28 ∷ 29 ∷ []) $ free1 ! $ move ! (26 ∷ 27 ∷ []) $ free1 ! $ move ! (24 ∷ 25 ∷ []) $ free1 ! $ move ! (22 ∷ 23 ∷ []) $ free1 ! $ move ! (20 ∷ 21 ∷ []) $ free1 ! $ move ! (18 ∷ 19 ∷ []) $ free1 ! $ move ! (16 ∷ 17 ∷ []) $ free1 ! $ move ! (14 ∷ 15 ∷ []) $ free1 ! $ move ! (12 ∷ 13 ∷ []) $ free1 ! $ move ! (10 ∷ 11 ∷ []) $ forget ! 0 refl $ free1 ! $ move ! (8 ∷ 9 ∷ []) $ forget ! 0 refl $ free1 ! $ move ! (6 ∷ 7 ∷ []) $ forget ! 0 refl $ free1 ! $ free0 ! $ by ! (exits (r7 kept step pages nodes register y1-0 y1-1) ok·7 (Facts.exit-7 kept step pages nodes register ok·kept ok·step (room·pages .0) (room·nodes .0) (room·register .0) y1-0 y1-1 m·1 ((Look′.ok-Worst-0 y1-0 y1-1 (subst Look′.Ok m·1 ok·step)) .1) ((Look′.ok-Worst-1 y1-0 y1-1 (subst Look′.Ok m·1 ok·step)) .1) ok·7)))))
+      (λ m·1. rewrite ! 46 (λ (u : Look). ‵ (fat fullShare Look′.ty l₂ 0 (Look′.mach u))) m·1 refl $ switches-to ! 7 (load ! (from ! (vrt ! refl (fld ! refl (stop !)))) (look-tag ! 46 (whole !))) (
+      Call-refused-turn.calls ! mem run (fmOf 𝓤 H (W .laws) 𝓣) known-refused-turn kept ok·kept (and-then ! (load ! (from ! (stop !)) (look ! 49 refl)) (no-more !))
+      (λ ok·8. land ! (from ! (stop !)) (init ! 6 refl (Turn′.typed 𝓤 H A W (r8 kept step pages nodes register) ok·8)) $
+      here ! (‵ (flft κ·pages q·pages) ∷ ‵ (ShrAt u8 κ·pages b·pages o·pages γ·pages (length pages) pages) ∷ ‵ (flft κ·nodes q·nodes) ∷ ‵ (ShrAt u32 κ·nodes b·nodes o·nodes γ·nodes (length nodes) nodes) ∷ ‵ (flft κ·register q·register) ∷ ‵ (ShrAt Record′.row κ·register b·register o·register γ·register (length register) register) ∷ holds (tyAt (code.function .locals) 22) l₂₂ (Turn′.mach (r8 kept step pages nodes register)) (empty (tyInt w64) l₂₁ (empty (tyInt w64) l₂₀ (empty (tyInt w64) l₁₉ (empty (tyInt w64) l₁₈ (empty (tyInt w64) l₁₇ (empty (tyInt w64) l₁₆ (empty (tyInt w64) l₁₅ (empty (tyInt w64) l₁₄ (empty (tyInt w64) l₁₃ (empty (tyInt w64) l₁₂ (empty (tyInt w64) l₁₁ (empty (tyInt w64) l₁₀ (empty (tyInt w64) l₉ (empty (tyInt w64) l₈ (empty (tyInt w64) l₇ (empty (tyInt w64) l₆ (holds (sliceTy (tyRef (named 2) imm (pointee (Record′.row .written)))) l₅ (sliceVal (b·register, o·register) (length register)) (holds (sliceTy (tyRef (named 1) imm (pointee (u32 .written)))) l₄ (sliceVal (b·nodes, o·nodes) (length nodes)) (holds (sliceTy (tyRef (named 0) imm (pointee (u8 .written)))) l₃ (sliceVal (b·pages, o·pages) (length pages)) (holds (tyAt (code.function .locals) 2) l₂ (Look′.mach Look.Nothing) (holds (tyAt (code.function .locals) 1) l₁ (Kept′.mach kept) (empty (tyAt (code.function .locals) 0) l₀ []))))))))))))))))))))))) $
+      assigns ! (of-opd ! (load ! (from ! (stop !)) (look ! 6 refl))) (from ! (stop !)) (init ! 50 refl (Turn′.typed 𝓤 H A W (r8 kept step pages nodes register) ok·8)) $
+      returns ! (look ! 50 refl) $
+      move ! (50 ∷ 51 ∷ []) $ forget ! 0 refl $ free1 ! $ move ! (48 ∷ 49 ∷ []) $ forget ! 0 refl $ free1 ! $ move ! (46 ∷ 47 ∷ []) $ forget ! 0 refl $ free1 ! $ move ! (44 ∷ 45 ∷ []) $ forget ! 0 refl $ free1 ! $ move ! (42 ∷ 43 ∷ []) $ forget ! 0 refl $ free1 ! $ move ! (40 ∷ 41 ∷ []) $ forget ! 0 refl $ free1 ! $ move ! (38 ∷ 39 ∷ []) $ free1 ! $ move ! (36 ∷ 37 ∷ []) $ free1 ! $ move ! (34 ∷ 35 ∷ []) $ free1 ! $ move ! (32 ∷ 33 ∷ []) $ free1 ! $ move ! (30 ∷ 31 ∷ []) $ free1 ! $ move ! (28 ∷ 29 ∷ []) $ free1 ! $ move ! (26 ∷ 27 ∷ []) $ free1 ! $ move ! (24 ∷ 25 ∷ []) $ free1 ! $ move ! (22 ∷ 23 ∷ []) $ free1 ! $ move ! (20 ∷ 21 ∷ []) $ free1 ! $ move ! (18 ∷ 19 ∷ []) $ free1 ! $ move ! (16 ∷ 17 ∷ []) $ free1 ! $ move ! (14 ∷ 15 ∷ []) $ free1 ! $ move ! (12 ∷ 13 ∷ []) $ free1 ! $ move ! (10 ∷ 11 ∷ []) $ free1 ! $ move ! (8 ∷ 9 ∷ []) $ free1 ! $ move ! (6 ∷ 7 ∷ []) $ forget ! 0 refl $ free1 ! $ free0 ! $ by ! (exits (r8 kept step pages nodes register) ok·8 (Facts.exit-8 kept step pages nodes register ok·kept ok·step (room·pages .0) (room·nodes .0) (room·register .0) m·1 ok·8))))))))))))))))))))))))))))
 
 module _ {M : Type 1} (𝓤 : URA M) (H : Heap 𝓤) (A : Atoms 𝓤) (W : Given 𝓤 H A) (mem : Memory → SProp 𝓤) (run : Routine → Fun 𝓤) where
-  walks : (𝓣 : Tables 𝓤 H) → Triple 𝓤 (𝓣 .C #publish-step) (Call-publish-step.Asked 𝓤 H A mem run) → Triple 𝓤 (𝓣 .C #branch-step) (Call-branch-step.Asked 𝓤 H A mem run) → Triple 𝓤 (𝓣 .C #read-step) (Call-read-step.Asked 𝓤 H A mem run) → Triple 𝓤 (𝓣 .C #size-step) (Call-size-step.Asked 𝓤 H A mem run) → Triple 𝓤 (𝓣 .C #recent-step) (Call-recent-step.Asked 𝓤 H A mem run) → Triple 𝓤 (𝓣 .C #stamp-step) (Call-stamp-step.Asked 𝓤 H A mem run) → Triple 𝓤 (𝓣 .C #refused-turn) (Call-refused-turn.Asked 𝓤 H A mem run) → Walks 𝓤 H A look-step‴.ended stayed (WpFn 𝓤 H (𝓣 .C) (𝓣 .Λ) code.function) (look-step‴.clauses 𝓤 H A mem run)
-  walks 𝓣 known-publish-step known-branch-step known-read-step known-size-step known-recent-step known-stamp-step known-refused-turn = walked 𝓤 H A look-step‴.ended stayed (look-step‴.clauses 𝓤 H A mem run) (WpFn 𝓤 H (𝓣 .C) (𝓣 .Λ) code.function) (λ κs. (Kept′.vals, (Look′.vals, (slice-vals, (slice-vals, (slice-vals, tt)))))) (λ κs. (Kept′.tells, (Look′.tells, (shr-slice-tells (named 0) (κs .0) u8, (shr-slice-tells (named 0) (κs .1 .0) u32, (shr-slice-tells (named 0) (κs .1 .1 .0) Record′.row, tt))))))
-      (λ κs qs bounds a g are. via 𝓤 _ (fst∗ 𝓤 _ (emp 𝓤)) (walk 𝓤 H A W mem run (a .0) (a .1 .0) (κs .0) (qs .0) (a .1 .1 .0 .ptr .0) (a .1 .1 .0 .ptr .1) (a .1 .1 .0 .name) (a .1 .1 .0 .now) (κs .1 .0) (qs .1 .0) (a .1 .1 .1 .0 .ptr .0) (a .1 .1 .1 .0 .ptr .1) (a .1 .1 .1 .0 .name) (a .1 .1 .1 .0 .now) (κs .1 .1 .0) (qs .1 .1 .0) (a .1 .1 .1 .1 .0 .ptr .0) (a .1 .1 .1 .1 .0 .ptr .1) (a .1 .1 .1 .1 .0 .name) (a .1 .1 .1 .1 .0 .now) (are .0) (are .1 .0) (are .1 .1 .0 .0 .1) (are .1 .1 .1 .0 .0 .1) (are .1 .1 .1 .1 .0 .0 .1) 𝓣 known-publish-step known-branch-step known-read-step known-size-step known-recent-step known-stamp-step known-refused-turn))
+  walks : (𝓣 : Tables 𝓤 H) → Triple 𝓤 (𝓣 .C #publish-step) (Call-publish-step.Asked 𝓤 H A mem run) → Triple 𝓤 (𝓣 .C #branch-step) (Call-branch-step.Asked 𝓤 H A mem run) → Triple 𝓤 (𝓣 .C #read-step) (Call-read-step.Asked 𝓤 H A mem run) → Triple 𝓤 (𝓣 .C #size-step) (Call-size-step.Asked 𝓤 H A mem run) → Triple 𝓤 (𝓣 .C #recent-step) (Call-recent-step.Asked 𝓤 H A mem run) → Triple 𝓤 (𝓣 .C #stamp-step) (Call-stamp-step.Asked 𝓤 H A mem run) → Triple 𝓤 (𝓣 .C #worst-step) (Call-worst-step.Asked 𝓤 H A mem run) → Triple 𝓤 (𝓣 .C #refused-turn) (Call-refused-turn.Asked 𝓤 H A mem run) → Walks 𝓤 H A look-step‴.ended stayed (WpFn 𝓤 H (𝓣 .C) (𝓣 .Λ) code.function) (look-step‴.clauses 𝓤 H A mem run)
+  walks 𝓣 known-publish-step known-branch-step known-read-step known-size-step known-recent-step known-stamp-step known-worst-step known-refused-turn = walked 𝓤 H A look-step‴.ended stayed (look-step‴.clauses 𝓤 H A mem run) (WpFn 𝓤 H (𝓣 .C) (𝓣 .Λ) code.function) (λ κs. (Kept′.vals, (Look′.vals, (slice-vals, (slice-vals, (slice-vals, tt)))))) (λ κs. (Kept′.tells, (Look′.tells, (shr-slice-tells (named 0) (κs .0) u8, (shr-slice-tells (named 0) (κs .1 .0) u32, (shr-slice-tells (named 0) (κs .1 .1 .0) Record′.row, tt))))))
+      (λ κs qs bounds a g are. via 𝓤 _ (fst∗ 𝓤 _ (emp 𝓤)) (walk 𝓤 H A W mem run (a .0) (a .1 .0) (κs .0) (qs .0) (a .1 .1 .0 .ptr .0) (a .1 .1 .0 .ptr .1) (a .1 .1 .0 .name) (a .1 .1 .0 .now) (κs .1 .0) (qs .1 .0) (a .1 .1 .1 .0 .ptr .0) (a .1 .1 .1 .0 .ptr .1) (a .1 .1 .1 .0 .name) (a .1 .1 .1 .0 .now) (κs .1 .1 .0) (qs .1 .1 .0) (a .1 .1 .1 .1 .0 .ptr .0) (a .1 .1 .1 .1 .0 .ptr .1) (a .1 .1 .1 .1 .0 .name) (a .1 .1 .1 .1 .0 .now) (are .0) (are .1 .0) (are .1 .1 .0 .0 .1) (are .1 .1 .1 .0 .0 .1) (are .1 .1 .1 .1 .0 .0 .1) 𝓣 known-publish-step known-branch-step known-read-step known-size-step known-recent-step known-stamp-step known-worst-step known-refused-turn))
 
-meets : {M : Type 1} (𝓤 : URA M) (H : Heap 𝓤) (A : Atoms 𝓤) → Given 𝓤 H A → (mem : Memory → SProp 𝓤) (run : Routine → Fun 𝓤) (𝓣 : Tables 𝓤 H) → Triple 𝓤 (𝓣 .C #publish-step) (Call-publish-step.Asked 𝓤 H A mem run) → Triple 𝓤 (𝓣 .C #branch-step) (Call-branch-step.Asked 𝓤 H A mem run) → Triple 𝓤 (𝓣 .C #read-step) (Call-read-step.Asked 𝓤 H A mem run) → Triple 𝓤 (𝓣 .C #size-step) (Call-size-step.Asked 𝓤 H A mem run) → Triple 𝓤 (𝓣 .C #recent-step) (Call-recent-step.Asked 𝓤 H A mem run) → Triple 𝓤 (𝓣 .C #stamp-step) (Call-stamp-step.Asked 𝓤 H A mem run) → Triple 𝓤 (𝓣 .C #refused-turn) (Call-refused-turn.Asked 𝓤 H A mem run)
+meets : {M : Type 1} (𝓤 : URA M) (H : Heap 𝓤) (A : Atoms 𝓤) → Given 𝓤 H A → (mem : Memory → SProp 𝓤) (run : Routine → Fun 𝓤) (𝓣 : Tables 𝓤 H) → Triple 𝓤 (𝓣 .C #publish-step) (Call-publish-step.Asked 𝓤 H A mem run) → Triple 𝓤 (𝓣 .C #branch-step) (Call-branch-step.Asked 𝓤 H A mem run) → Triple 𝓤 (𝓣 .C #read-step) (Call-read-step.Asked 𝓤 H A mem run) → Triple 𝓤 (𝓣 .C #size-step) (Call-size-step.Asked 𝓤 H A mem run) → Triple 𝓤 (𝓣 .C #recent-step) (Call-recent-step.Asked 𝓤 H A mem run) → Triple 𝓤 (𝓣 .C #stamp-step) (Call-stamp-step.Asked 𝓤 H A mem run) → Triple 𝓤 (𝓣 .C #worst-step) (Call-worst-step.Asked 𝓤 H A mem run) → Triple 𝓤 (𝓣 .C #refused-turn) (Call-refused-turn.Asked 𝓤 H A mem run)
     → Meets 𝓤 H A look-step‴.signature (WpFn 𝓤 H (𝓣 .C) (𝓣 .Λ) code.function) (look-step‴.spec 𝓤 H A mem run)
-meets 𝓤 H A W mem run 𝓣 known-publish-step known-branch-step known-read-step known-size-step known-recent-step known-stamp-step known-refused-turn =
+meets 𝓤 H A W mem run 𝓣 known-publish-step known-branch-step known-read-step known-size-step known-recent-step known-stamp-step known-worst-step known-refused-turn =
     walk-meets 𝓤 H A look-step‴.ended stayed W (goes-none 𝓤 H A W 3 (λ _. Kept′.row) yes (λ κs x f. refl), (goes-none 𝓤 H A W 3 (λ _. Look′.row) yes (λ κs x f. refl), (goes-none-slice 𝓤 H A W 3 (0 ∷ []) tt (plain (λ _. u8)) yes, (goes-none-slice 𝓤 H A W 3 (1 ∷ []) tt (plain (λ _. u32)) yes, (goes-none-slice 𝓤 H A W 3 (2 ∷ []) tt (plain (λ _. Record′.row)) yes, tt))))) (look-step‴.clauses 𝓤 H A mem run)
-    (WpFn 𝓤 H (𝓣 .C) (𝓣 .Λ) code.function) (WpFn-mono 𝓤 H (W .laws) 𝓣 code.function) (walks 𝓤 H A W mem run 𝓣 known-publish-step known-branch-step known-read-step known-size-step known-recent-step known-stamp-step known-refused-turn)
+    (WpFn 𝓤 H (𝓣 .C) (𝓣 .Λ) code.function) (WpFn-mono 𝓤 H (W .laws) 𝓣 code.function) (walks 𝓤 H A W mem run 𝓣 known-publish-step known-branch-step known-read-step known-size-step known-recent-step known-stamp-step known-worst-step known-refused-turn)
 
 pub look-step-spec : {M : Type 1} → stated.statement M
 unfolding code.routine tablesOf
@@ -232,4 +248,5 @@ look-step-spec 𝓤 H 𝓜 𝓖 𝓡 =
     (cited 𝓤 H (Call-size-step.Asked 𝓤 H (𝓖 .A) (𝓜 .mem) (𝓡 .run)) 𝓜 𝓡 code.env #size-step def-size-step.routine code.calls-looks·size-step (thm-size-step.met 𝓤 H 𝓜 𝓖 𝓡))
     (cited 𝓤 H (Call-recent-step.Asked 𝓤 H (𝓖 .A) (𝓜 .mem) (𝓡 .run)) 𝓜 𝓡 code.env #recent-step def-recent-step.routine code.calls-looks·recent-step (thm-recent-step.met 𝓤 H 𝓜 𝓖 𝓡))
     (cited 𝓤 H (Call-stamp-step.Asked 𝓤 H (𝓖 .A) (𝓜 .mem) (𝓡 .run)) 𝓜 𝓡 code.env #stamp-step def-stamp-step.routine code.calls-looks·stamp-step (thm-stamp-step.met 𝓤 H 𝓜 𝓖 𝓡))
+    (cited 𝓤 H (Call-worst-step.Asked 𝓤 H (𝓖 .A) (𝓜 .mem) (𝓡 .run)) 𝓜 𝓡 code.env #worst-step def-worst-step.routine code.calls-looks·worst-step (thm-worst-step.met 𝓤 H 𝓜 𝓖 𝓡))
     (cited 𝓤 H (Call-refused-turn.Asked 𝓤 H (𝓖 .A) (𝓜 .mem) (𝓡 .run)) 𝓜 𝓡 code.env #refused-turn def-refused-turn.routine code.calls-answers·refused-turn (thm-refused-turn.met 𝓤 H 𝓜 𝓖 𝓡)))

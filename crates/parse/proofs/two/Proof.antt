@@ -64,9 +64,19 @@ returns-6 : tie.Need-returns-6
 unfolding twoOf
 returns-6 c = rw (c .before .before .before .before .before .before .before .before .before .before .before .before .before .before .before .before .a .given .1, c .before .before .before .before .before .before .before .before .before .before .before .before .before .b .given .1, ← c .before .before .before .before .before .before .before .before .before .before .word-is .ensures, c .before .before .before .before .before .before .before .before .before .if1 .left, ← c .before .before .before .before .before .before .before .word-is2 .ensures, c .before .before .before .before .before .before .if2 .left, ← c .before .before .before .before .word-is3 .ensures, c .before .before .before .if3 .left, ← c .before .word-is4 .ensures, c .if4 .taken)
 
+slice-aggregate-word-is-5 : tie.Need-slice-aggregate-word-is-5
+slice-aggregate-word-is-5 c = search needs
+
+word-is-requires-5 : tie.Need-word-is-requires-5
+word-is-requires-5 c κs = search needs
+
 returns-7 : tie.Need-returns-7
 unfolding twoOf
-returns-7 c = rw (c .before .before .before .before .before .before .before .before .before .before .before .before .before .before .before .before .a .given .1, c .before .before .before .before .before .before .before .before .before .before .before .before .before .b .given .1, ← c .before .before .before .before .before .before .before .before .before .before .word-is .ensures, c .before .before .before .before .before .before .before .before .before .if1 .left, ← c .before .before .before .before .before .before .before .word-is2 .ensures, c .before .before .before .before .before .before .if2 .left, ← c .before .before .before .before .word-is3 .ensures, c .before .before .before .if3 .left, ← c .before .word-is4 .ensures, c .if4 .left)
+returns-7 c = rw (c .before .before .before .before .before .before .before .before .before .before .before .before .before .before .before .before .before .before .before .a .given .1, c .before .before .before .before .before .before .before .before .before .before .before .before .before .before .before .before .b .given .1, ← c .before .before .before .before .before .before .before .before .before .before .before .before .before .word-is .ensures, c .before .before .before .before .before .before .before .before .before .before .before .before .if1 .left, ← c .before .before .before .before .before .before .before .before .before .before .word-is2 .ensures, c .before .before .before .before .before .before .before .before .before .if2 .left, ← c .before .before .before .before .before .before .before .word-is3 .ensures, c .before .before .before .before .before .before .if3 .left, ← c .before .before .before .before .word-is4 .ensures, c .before .before .before .if4 .left, ← c .before .word-is5 .ensures, c .if5 .taken)
+
+returns-8 : tie.Need-returns-8
+unfolding twoOf
+returns-8 c = rw (c .before .before .before .before .before .before .before .before .before .before .before .before .before .before .before .before .before .before .before .a .given .1, c .before .before .before .before .before .before .before .before .before .before .before .before .before .before .before .before .b .given .1, ← c .before .before .before .before .before .before .before .before .before .before .before .before .before .word-is .ensures, c .before .before .before .before .before .before .before .before .before .before .before .before .if1 .left, ← c .before .before .before .before .before .before .before .before .before .before .word-is2 .ensures, c .before .before .before .before .before .before .before .before .before .if2 .left, ← c .before .before .before .before .before .before .before .word-is3 .ensures, c .before .before .before .before .before .before .if3 .left, ← c .before .before .before .before .word-is4 .ensures, c .before .before .before .if4 .left, ← c .before .word-is5 .ensures, c .if5 .left)
 
 pub two-spec : {M : Type 1} → statement M
 two-spec =
@@ -90,4 +100,7 @@ two-spec =
     slice-aggregate-word-is-4
     word-is-requires-4
     returns-6
-    returns-7)
+    slice-aggregate-word-is-5
+    word-is-requires-5
+    returns-7
+    returns-8)

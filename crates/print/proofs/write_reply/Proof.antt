@@ -160,6 +160,18 @@ slice-aggregate-write-line-26 c = search needs
 write-line-requires-13 : tie.Need-write-line-requires-13
 write-line-requires-13 c κs = search needs
 
+enum-known-r-10 : tie.Need-enum-known-r-10
+enum-known-r-10 c = search needs
+
+slice-aggregate-write-line-27 : tie.Need-slice-aggregate-write-line-27
+slice-aggregate-write-line-27 c = search needs
+
+slice-aggregate-write-line-28 : tie.Need-slice-aggregate-write-line-28
+slice-aggregate-write-line-28 c = search needs
+
+write-line-requires-14 : tie.Need-write-line-requires-14
+write-line-requires-14 c κs = search needs
+
 same-length : tie.Need-same-length
 same-length c = search needs
 
@@ -251,6 +263,13 @@ returns-13 : tie.Need-returns-13
 unfolding replyLine
 returns-13 c = rw (c .before .before .before .before .before .before .before .r9 .given .1) (c .before .before .write-line13 .ensures)
 
+same-length-14 : tie.Need-same-length-14
+same-length-14 c = search needs
+
+returns-14 : tie.Need-returns-14
+unfolding replyLine
+returns-14 c = rw (c .before .before .before .before .before .before .before .r10 .given .1) (c .before .before .write-line14 .ensures)
+
 pub write-reply-spec : {M : Type 1} → statement M
 write-reply-spec =
     tie.close
@@ -307,6 +326,10 @@ write-reply-spec =
     slice-aggregate-write-line-25
     slice-aggregate-write-line-26
     write-line-requires-13
+    enum-known-r-10
+    slice-aggregate-write-line-27
+    slice-aggregate-write-line-28
+    write-line-requires-14
     same-length
     returns
     same-length-2
@@ -332,4 +355,6 @@ write-reply-spec =
     same-length-12
     returns-12
     same-length-13
-    returns-13)
+    returns-13
+    same-length-14
+    returns-14)

@@ -1,4 +1,4 @@
--- `respond::wanted_by` meets its contract. Assumes nothing.
+-- `wanted::wanted_by` meets its contract. Assumes nothing.
 use Rattle.wanted.specs.Wanted.{wantedBy}
 use borrow.Author.Needs.{needs}
 use Rattle.wanted.proofs.wanted_by.Statement.{statement}
@@ -45,6 +45,9 @@ enum-known-step-11 c = search needs
 
 enum-known-step-12 : tie.Need-enum-known-step-12
 enum-known-step-12 c = search needs
+
+enum-known-step-13 : tie.Need-enum-known-step-13
+enum-known-step-13 c = search needs
 
 enum-told : tie.Need-enum-told
 enum-told c = search needs
@@ -99,7 +102,11 @@ returns-12 c = rw (c .before .step12 .given .1)
 
 returns-13 : tie.Need-returns-13
 unfolding wantedBy
-returns-13 c = rw (c .enum-told .given .1)
+returns-13 c = rw (c .before .step13 .given .1)
+
+returns-14 : tie.Need-returns-14
+unfolding wantedBy
+returns-14 c = rw (c .enum-told .given .1)
 
 pub wanted-by-spec : {M : Type 1} → statement M
 wanted-by-spec =
@@ -119,6 +126,7 @@ wanted-by-spec =
     enum-known-step-10
     enum-known-step-11
     enum-known-step-12
+    enum-known-step-13
     enum-told
     returns
     returns-2
@@ -132,4 +140,5 @@ wanted-by-spec =
     returns-10
     returns-11
     returns-12
-    returns-13)
+    returns-13
+    returns-14)

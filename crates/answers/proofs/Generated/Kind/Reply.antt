@@ -57,20 +57,21 @@ none = Reply.Ok
 
 -- by cases on a value, within a walk
 module _ {M : Type 1} {𝓤 : URA M} {H : Heap 𝓤} {A : Atoms 𝓤} {K : Type 0} {W : Given 𝓤 H A} {Γ : List (Item 𝓤)} {G : Goal 𝓤 H} where
-  pub cases : K → (d : Reply) → (d ≡ Reply.Ok → Seq K W Γ G) → ((y0 : ℕ) → d ≡ Reply.Ticket y0 → Seq K W Γ G) → (d ≡ Reply.Put → Seq K W Γ G) → ((y0 : ℕ) → (y1 : ℕ) → d ≡ Reply.Version y0 y1 → Seq K W Γ G) → ((y0 : ℕ) → (y1 : ℕ) → (y2 : ℕ) → (y3 : ℕ) → (y4 : ℕ) → (y5 : ℕ) → d ≡ Reply.Node y0 y1 y2 y3 y4 y5 → Seq K W Γ G) → ((y0 : ℕ) → d ≡ Reply.Published y0 → Seq K W Γ G) → (d ≡ Reply.Waiting → Seq K W Γ G) → (d ≡ Reply.Held → Seq K W Γ G) → ((y0 : ℕ) → d ≡ Reply.Line y0 → Seq K W Γ G) → ((y0 : ℕ) → d ≡ Reply.Size y0 → Seq K W Γ G) → ((y0 : ℕ) → d ≡ Reply.Recent y0 → Seq K W Γ G) → ((y0 : ℕ) → d ≡ Reply.Stamp y0 → Seq K W Γ G) → ((y0 : ℕ) → d ≡ Reply.Refused y0 → Seq K W Γ G) → Seq K W Γ G
-  cases t (Reply.Ok) k0 k1 k2 k3 k4 k5 k6 k7 k8 k9 k10 k11 k12 = k0 refl
-  cases t (Reply.Ticket y0) k0 k1 k2 k3 k4 k5 k6 k7 k8 k9 k10 k11 k12 = k1 y0 refl
-  cases t (Reply.Put) k0 k1 k2 k3 k4 k5 k6 k7 k8 k9 k10 k11 k12 = k2 refl
-  cases t (Reply.Version y0 y1) k0 k1 k2 k3 k4 k5 k6 k7 k8 k9 k10 k11 k12 = k3 y0 y1 refl
-  cases t (Reply.Node y0 y1 y2 y3 y4 y5) k0 k1 k2 k3 k4 k5 k6 k7 k8 k9 k10 k11 k12 = k4 y0 y1 y2 y3 y4 y5 refl
-  cases t (Reply.Published y0) k0 k1 k2 k3 k4 k5 k6 k7 k8 k9 k10 k11 k12 = k5 y0 refl
-  cases t (Reply.Waiting) k0 k1 k2 k3 k4 k5 k6 k7 k8 k9 k10 k11 k12 = k6 refl
-  cases t (Reply.Held) k0 k1 k2 k3 k4 k5 k6 k7 k8 k9 k10 k11 k12 = k7 refl
-  cases t (Reply.Line y0) k0 k1 k2 k3 k4 k5 k6 k7 k8 k9 k10 k11 k12 = k8 y0 refl
-  cases t (Reply.Size y0) k0 k1 k2 k3 k4 k5 k6 k7 k8 k9 k10 k11 k12 = k9 y0 refl
-  cases t (Reply.Recent y0) k0 k1 k2 k3 k4 k5 k6 k7 k8 k9 k10 k11 k12 = k10 y0 refl
-  cases t (Reply.Stamp y0) k0 k1 k2 k3 k4 k5 k6 k7 k8 k9 k10 k11 k12 = k11 y0 refl
-  cases t (Reply.Refused y0) k0 k1 k2 k3 k4 k5 k6 k7 k8 k9 k10 k11 k12 = k12 y0 refl
+  pub cases : K → (d : Reply) → (d ≡ Reply.Ok → Seq K W Γ G) → ((y0 : ℕ) → d ≡ Reply.Ticket y0 → Seq K W Γ G) → (d ≡ Reply.Put → Seq K W Γ G) → ((y0 : ℕ) → (y1 : ℕ) → d ≡ Reply.Version y0 y1 → Seq K W Γ G) → ((y0 : ℕ) → (y1 : ℕ) → (y2 : ℕ) → (y3 : ℕ) → (y4 : ℕ) → (y5 : ℕ) → d ≡ Reply.Node y0 y1 y2 y3 y4 y5 → Seq K W Γ G) → ((y0 : ℕ) → d ≡ Reply.Published y0 → Seq K W Γ G) → (d ≡ Reply.Waiting → Seq K W Γ G) → (d ≡ Reply.Held → Seq K W Γ G) → ((y0 : ℕ) → d ≡ Reply.Line y0 → Seq K W Γ G) → ((y0 : ℕ) → d ≡ Reply.Size y0 → Seq K W Γ G) → ((y0 : ℕ) → d ≡ Reply.Recent y0 → Seq K W Γ G) → ((y0 : ℕ) → d ≡ Reply.Stamp y0 → Seq K W Γ G) → ((y0 : ℕ) → d ≡ Reply.Worst y0 → Seq K W Γ G) → ((y0 : ℕ) → d ≡ Reply.Refused y0 → Seq K W Γ G) → Seq K W Γ G
+  cases t (Reply.Ok) k0 k1 k2 k3 k4 k5 k6 k7 k8 k9 k10 k11 k12 k13 = k0 refl
+  cases t (Reply.Ticket y0) k0 k1 k2 k3 k4 k5 k6 k7 k8 k9 k10 k11 k12 k13 = k1 y0 refl
+  cases t (Reply.Put) k0 k1 k2 k3 k4 k5 k6 k7 k8 k9 k10 k11 k12 k13 = k2 refl
+  cases t (Reply.Version y0 y1) k0 k1 k2 k3 k4 k5 k6 k7 k8 k9 k10 k11 k12 k13 = k3 y0 y1 refl
+  cases t (Reply.Node y0 y1 y2 y3 y4 y5) k0 k1 k2 k3 k4 k5 k6 k7 k8 k9 k10 k11 k12 k13 = k4 y0 y1 y2 y3 y4 y5 refl
+  cases t (Reply.Published y0) k0 k1 k2 k3 k4 k5 k6 k7 k8 k9 k10 k11 k12 k13 = k5 y0 refl
+  cases t (Reply.Waiting) k0 k1 k2 k3 k4 k5 k6 k7 k8 k9 k10 k11 k12 k13 = k6 refl
+  cases t (Reply.Held) k0 k1 k2 k3 k4 k5 k6 k7 k8 k9 k10 k11 k12 k13 = k7 refl
+  cases t (Reply.Line y0) k0 k1 k2 k3 k4 k5 k6 k7 k8 k9 k10 k11 k12 k13 = k8 y0 refl
+  cases t (Reply.Size y0) k0 k1 k2 k3 k4 k5 k6 k7 k8 k9 k10 k11 k12 k13 = k9 y0 refl
+  cases t (Reply.Recent y0) k0 k1 k2 k3 k4 k5 k6 k7 k8 k9 k10 k11 k12 k13 = k10 y0 refl
+  cases t (Reply.Stamp y0) k0 k1 k2 k3 k4 k5 k6 k7 k8 k9 k10 k11 k12 k13 = k11 y0 refl
+  cases t (Reply.Worst y0) k0 k1 k2 k3 k4 k5 k6 k7 k8 k9 k10 k11 k12 k13 = k12 y0 refl
+  cases t (Reply.Refused y0) k0 k1 k2 k3 k4 k5 k6 k7 k8 k9 k10 k11 k12 k13 = k13 y0 refl
 
 pub make-Ok : Ok Reply.Ok
 make-Ok = LL.owes T′.the-type T″.the-laws Reply.Ok tt
@@ -149,6 +150,12 @@ make-Stamp y0 g0 = LL.owes T′.the-type T″.the-laws (Reply.Stamp y0) (g0, tt)
 
 pub ok-Stamp-0 : (y0 : ℕ) → Ok (Reply.Stamp y0) → Is u64 y0 (uint-vals w64 y0)
 ok-Stamp-0 y0 g = LL.owed T′.the-type T″.the-laws (Reply.Stamp y0) _ g .0
+
+pub make-Worst : (y0 : ℕ) → Is u64 y0 (uint-vals w64 y0) → Ok (Reply.Worst y0)
+make-Worst y0 g0 = LL.owes T′.the-type T″.the-laws (Reply.Worst y0) (g0, tt)
+
+pub ok-Worst-0 : (y0 : ℕ) → Ok (Reply.Worst y0) → Is u64 y0 (uint-vals w64 y0)
+ok-Worst-0 y0 g = LL.owed T′.the-type T″.the-laws (Reply.Worst y0) _ g .0
 
 pub make-Refused : (y0 : ℕ) → Is u64 y0 (uint-vals w64 y0) → Ok (Reply.Refused y0)
 make-Refused y0 g0 = LL.owes T′.the-type T″.the-laws (Reply.Refused y0) (g0, tt)

@@ -57,14 +57,15 @@ none = Look.Publish 0 0
 
 -- by cases on a value, within a walk
 module _ {M : Type 1} {𝓤 : URA M} {H : Heap 𝓤} {A : Atoms 𝓤} {K : Type 0} {W : Given 𝓤 H A} {Γ : List (Item 𝓤)} {G : Goal 𝓤 H} where
-  pub cases : K → (d : Look) → ((y0 : ℕ) → (y1 : ℕ) → d ≡ Look.Publish y0 y1 → Seq K W Γ G) → ((y0 : ℕ) → (y1 : ℕ) → d ≡ Look.Branch y0 y1 → Seq K W Γ G) → ((y0 : ℕ) → (y1 : ℕ) → (y2 : ℕ) → (y3 : ℕ) → d ≡ Look.Read y0 y1 y2 y3 → Seq K W Γ G) → ((y0 : ℕ) → (y1 : ℕ) → d ≡ Look.Size y0 y1 → Seq K W Γ G) → ((y0 : ℕ) → d ≡ Look.Recent y0 → Seq K W Γ G) → ((y0 : ℕ) → (y1 : ℕ) → (y2 : ℕ) → d ≡ Look.Stamp y0 y1 y2 → Seq K W Γ G) → (d ≡ Look.Nothing → Seq K W Γ G) → Seq K W Γ G
-  cases t (Look.Publish y0 y1) k0 k1 k2 k3 k4 k5 k6 = k0 y0 y1 refl
-  cases t (Look.Branch y0 y1) k0 k1 k2 k3 k4 k5 k6 = k1 y0 y1 refl
-  cases t (Look.Read y0 y1 y2 y3) k0 k1 k2 k3 k4 k5 k6 = k2 y0 y1 y2 y3 refl
-  cases t (Look.Size y0 y1) k0 k1 k2 k3 k4 k5 k6 = k3 y0 y1 refl
-  cases t (Look.Recent y0) k0 k1 k2 k3 k4 k5 k6 = k4 y0 refl
-  cases t (Look.Stamp y0 y1 y2) k0 k1 k2 k3 k4 k5 k6 = k5 y0 y1 y2 refl
-  cases t (Look.Nothing) k0 k1 k2 k3 k4 k5 k6 = k6 refl
+  pub cases : K → (d : Look) → ((y0 : ℕ) → (y1 : ℕ) → d ≡ Look.Publish y0 y1 → Seq K W Γ G) → ((y0 : ℕ) → (y1 : ℕ) → d ≡ Look.Branch y0 y1 → Seq K W Γ G) → ((y0 : ℕ) → (y1 : ℕ) → (y2 : ℕ) → (y3 : ℕ) → d ≡ Look.Read y0 y1 y2 y3 → Seq K W Γ G) → ((y0 : ℕ) → (y1 : ℕ) → d ≡ Look.Size y0 y1 → Seq K W Γ G) → ((y0 : ℕ) → d ≡ Look.Recent y0 → Seq K W Γ G) → ((y0 : ℕ) → (y1 : ℕ) → (y2 : ℕ) → d ≡ Look.Stamp y0 y1 y2 → Seq K W Γ G) → ((y0 : ℕ) → (y1 : ℕ) → d ≡ Look.Worst y0 y1 → Seq K W Γ G) → (d ≡ Look.Nothing → Seq K W Γ G) → Seq K W Γ G
+  cases t (Look.Publish y0 y1) k0 k1 k2 k3 k4 k5 k6 k7 = k0 y0 y1 refl
+  cases t (Look.Branch y0 y1) k0 k1 k2 k3 k4 k5 k6 k7 = k1 y0 y1 refl
+  cases t (Look.Read y0 y1 y2 y3) k0 k1 k2 k3 k4 k5 k6 k7 = k2 y0 y1 y2 y3 refl
+  cases t (Look.Size y0 y1) k0 k1 k2 k3 k4 k5 k6 k7 = k3 y0 y1 refl
+  cases t (Look.Recent y0) k0 k1 k2 k3 k4 k5 k6 k7 = k4 y0 refl
+  cases t (Look.Stamp y0 y1 y2) k0 k1 k2 k3 k4 k5 k6 k7 = k5 y0 y1 y2 refl
+  cases t (Look.Worst y0 y1) k0 k1 k2 k3 k4 k5 k6 k7 = k6 y0 y1 refl
+  cases t (Look.Nothing) k0 k1 k2 k3 k4 k5 k6 k7 = k7 refl
 
 pub make-Publish : (y0 : ℕ) → (y1 : ℕ) → Is u64 y0 (uint-vals w64 y0) → Is u64 y1 (uint-vals w64 y1) → Ok (Look.Publish y0 y1)
 make-Publish y0 y1 g0 g1 = LL.owes T′.the-type T″.the-laws (Look.Publish y0 y1) (g0, (g1, tt))
@@ -125,6 +126,15 @@ ok-Stamp-1 y0 y1 y2 g = LL.owed T′.the-type T″.the-laws (Look.Stamp y0 y1 y2
 
 pub ok-Stamp-2 : (y0 : ℕ) → (y1 : ℕ) → (y2 : ℕ) → Ok (Look.Stamp y0 y1 y2) → Is u64 y2 (uint-vals w64 y2)
 ok-Stamp-2 y0 y1 y2 g = LL.owed T′.the-type T″.the-laws (Look.Stamp y0 y1 y2) _ g .1 .1 .0
+
+pub make-Worst : (y0 : ℕ) → (y1 : ℕ) → Is u64 y0 (uint-vals w64 y0) → Is u64 y1 (uint-vals w64 y1) → Ok (Look.Worst y0 y1)
+make-Worst y0 y1 g0 g1 = LL.owes T′.the-type T″.the-laws (Look.Worst y0 y1) (g0, (g1, tt))
+
+pub ok-Worst-0 : (y0 : ℕ) → (y1 : ℕ) → Ok (Look.Worst y0 y1) → Is u64 y0 (uint-vals w64 y0)
+ok-Worst-0 y0 y1 g = LL.owed T′.the-type T″.the-laws (Look.Worst y0 y1) _ g .0
+
+pub ok-Worst-1 : (y0 : ℕ) → (y1 : ℕ) → Ok (Look.Worst y0 y1) → Is u64 y1 (uint-vals w64 y1)
+ok-Worst-1 y0 y1 g = LL.owed T′.the-type T″.the-laws (Look.Worst y0 y1) _ g .1 .0
 
 pub make-Nothing : Ok Look.Nothing
 make-Nothing = LL.owes T′.the-type T″.the-laws Look.Nothing tt

@@ -31,6 +31,7 @@ use Rattle.looks.proofs.Generated.Say.read_step as read-step″
 use Rattle.looks.proofs.Generated.Say.size_step as size-step″
 use Rattle.looks.proofs.Generated.Say.recent_step as recent-step″
 use Rattle.looks.proofs.Generated.Say.stamp_step as stamp-step″
+use Rattle.looks.proofs.Generated.Say.worst_step as worst-step″
 use Rattle.looks.proofs.Generated.Say.refused_turn as refused-turn″
 
 abbrev pub r1 : Kept → Look → List ℕ → List ℕ → List Record → ℕ → ℕ → Turn
@@ -51,8 +52,11 @@ r5 kept step pages nodes register y1-0 = recent-step″.res kept y1-0 pages node
 abbrev pub r6 : Kept → Look → List ℕ → List ℕ → List Record → ℕ → ℕ → ℕ → Turn
 r6 kept step pages nodes register y1-0 y1-1 y1-2 = stamp-step″.res kept y1-0 y1-1 y1-2 pages nodes register
 
-abbrev pub r7 : Kept → Look → List ℕ → List ℕ → List Record → Turn
-r7 kept step pages nodes register = refused-turn″.res kept
+abbrev pub r7 : Kept → Look → List ℕ → List ℕ → List Record → ℕ → ℕ → Turn
+r7 kept step pages nodes register y1-0 y1-1 = worst-step″.res kept y1-0 y1-1
+
+abbrev pub r8 : Kept → Look → List ℕ → List ℕ → List Record → Turn
+r8 kept step pages nodes register = refused-turn″.res kept
 
 -- the function ensures: r ≡ turned (stepSaid kept (Wanted.Look step) (areasOf pages nodes register) [])
 abbrev pub exit-1 : Type 0
@@ -93,5 +97,11 @@ exit-6 =
 -- the function ensures: r ≡ turned (stepSaid kept (Wanted.Look step) (areasOf pages nodes register) [])
 abbrev pub exit-7 : Type 0
 exit-7 =
-    (kept : Kept) (step : Look) (pages : List ℕ) (nodes : List ℕ) (register : List Record) (ok-kept : Kept′.Ok kept) (ok-step : Look′.Ok step) (len-pages : length pages < 2 ^ 64) (len-nodes : length nodes < 2 ^ 64) (len-register : length register < 2 ^ 64) (m1 : step ≡ Look.Nothing) (ok-r7 : Turn′.Ok (r7 kept step pages nodes register))
-    → look-step″.ens kept step pages nodes register (r7 kept step pages nodes register)
+    (kept : Kept) (step : Look) (pages : List ℕ) (nodes : List ℕ) (register : List Record) (ok-kept : Kept′.Ok kept) (ok-step : Look′.Ok step) (len-pages : length pages < 2 ^ 64) (len-nodes : length nodes < 2 ^ 64) (len-register : length register < 2 ^ 64) (y1-0 : ℕ) (y1-1 : ℕ) (m1 : step ≡ Look.Worst y1-0 y1-1) (fits-y1-0 : y1-0 < 2 ^ 64) (fits-y1-1 : y1-1 < 2 ^ 64) (ok-r7 : Turn′.Ok (r7 kept step pages nodes register y1-0 y1-1))
+    → look-step″.ens kept step pages nodes register (r7 kept step pages nodes register y1-0 y1-1)
+
+-- the function ensures: r ≡ turned (stepSaid kept (Wanted.Look step) (areasOf pages nodes register) [])
+abbrev pub exit-8 : Type 0
+exit-8 =
+    (kept : Kept) (step : Look) (pages : List ℕ) (nodes : List ℕ) (register : List Record) (ok-kept : Kept′.Ok kept) (ok-step : Look′.Ok step) (len-pages : length pages < 2 ^ 64) (len-nodes : length nodes < 2 ^ 64) (len-register : length register < 2 ^ 64) (m1 : step ≡ Look.Nothing) (ok-r8 : Turn′.Ok (r8 kept step pages nodes register))
+    → look-step″.ens kept step pages nodes register (r8 kept step pages nodes register)

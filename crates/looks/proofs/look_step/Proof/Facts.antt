@@ -40,7 +40,13 @@ unfolding stepSaid
 exit-6 kept step pages nodes register ok-kept ok-step len-pages len-nodes len-register y1-0 y1-1 y1-2 m1 fits-y1-0 fits-y1-1 fits-y1-2 ok-r6 = rw m1 refl
 
 -- the function ensures: r ≡ turned (stepSaid kept (Wanted.Look step) (areasOf pages nodes register) [])
--- here: look-step″.ens kept step pages nodes register (r7 kept step pages nodes register)
+-- here: look-step″.ens kept step pages nodes register (r7 kept step pages nodes register y1-0 y1-1)
 pub exit-7 : Asks.exit-7
 unfolding stepSaid
-exit-7 kept step pages nodes register ok-kept ok-step len-pages len-nodes len-register m1 ok-r7 = rw m1 refl
+exit-7 kept step pages nodes register ok-kept ok-step len-pages len-nodes len-register y1-0 y1-1 m1 fits-y1-0 fits-y1-1 ok-r7 = rw m1 refl
+
+-- the function ensures: r ≡ turned (stepSaid kept (Wanted.Look step) (areasOf pages nodes register) [])
+-- here: look-step″.ens kept step pages nodes register (r8 kept step pages nodes register)
+pub exit-8 : Asks.exit-8
+unfolding stepSaid
+exit-8 kept step pages nodes register ok-kept ok-step len-pages len-nodes len-register m1 ok-r8 = rw m1 refl
