@@ -1,3 +1,5 @@
 pub mod Accepted
 pub mod Uses
 pub mod Isolated
+pub mod Sized
+pub mod Plan

@@ -3,6 +3,7 @@
 ghost use Rattle.uses.specs.Accepted.{InAll};
 ghost use Rattle.uses.specs.Uses.{ExampleAnswers, EveryAnswer, Compared, AllKept, Reaches, Held, Fetches, Begins};
 ghost use Rattle.uses.specs.Isolated.{FromFormat, Unreached, Woven, BegunAlike};
+ghost use Rattle.uses.specs.Sized.{AllSized};
 
 // Document 01's example.
 pub fn example_answers()
@@ -62,4 +63,9 @@ pub fn woven()
 // Two lines that begin from one version of sources that went on differently.
 pub fn begun_alike()
     ensures { λ _. ⌜ InAll BegunAlike ⌝ }
+{}
+
+// The node count of an update, and a store with room for every one.
+pub fn sized()
+    ensures { λ _. ⌜ AllSized ⌝ }
 {}
