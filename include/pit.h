@@ -318,6 +318,10 @@ uint64_t pit_root_span(uint64_t size);
    above 64, size is 0 or above 4,096, or f + n is above size. */
 uint64_t pit_node_count(uint64_t f, uint64_t n, uint64_t size);
 
+/* The most nodes that a write of n pages makes in a blob of exactly r pages, the write inside them. 0 unless r is a power
+   of two from 2 to 4,096 and n is 1 to the lesser of 64 and r / 2. */
+uint64_t pit_worst(uint64_t r, uint64_t n);
+
 #ifdef __cplusplus
 }
 #endif

@@ -9,7 +9,7 @@
 //! - [`Snapshot`] is a published version, held for reading without a lock.
 //! - [`Store::save`] and [`Store::load`] keep a store in a file. [`inspect`](fn@inspect) looks at a folder without opening it, as the tool `pit`
 //!   does.
-//! - [`Limits`], [`root_span`] and [`node_count`] size the areas.
+//! - [`Limits`], [`root_span`], [`node_count`] and [`worst_node_count`] size the areas.
 //! - [`Windows`] are the times of the week during which nothing is published; [`Minute::of`] is a time's minute.
 //! - A refused call gives an [`Error`], with the number of its row in the table of refusals; where it is a text of windows
 //!   that is refused, a [`WindowsError`], with the line that is wrong; where it is limits, a [`LimitsError`], in numbers. A
@@ -58,7 +58,9 @@ pub use calls::areas::{
 pub use calls::counters::{ByteOffset, Line, LineVersion, Minute, PageIndex, Ticket, Version};
 pub use calls::difference::Difference;
 pub use calls::error::Error;
-pub use calls::ffi::{node_count, root_span, Entries, LineState, Record, State, Window, Windows};
+pub use calls::ffi::{
+    node_count, root_span, worst_node_count, Entries, LineState, Record, State, Window, Windows,
+};
 pub use calls::store::{Assigned, Node, Published, Store};
 pub use calls::windows::{Why, WindowsError, WrongLine};
 pub use disk::durable::{Durable, InFolder};

@@ -349,6 +349,7 @@ const _: () = assert!(
 extern "C" {
     fn pit_root_span(size: u64) -> u64;
     fn pit_node_count(f: u64, n: u64, size: u64) -> u64;
+    fn pit_worst(r: u64, n: u64) -> u64;
 
     fn pit_format(
         size: u64, page_count: u64, node_count: u64, updates: u64,
@@ -478,6 +479,24 @@ pub fn root_span(size: u64) -> u64 {
 pub fn node_count(f: u64, n: u64, size: u64) -> u64 {
     // SAFETY: it takes and returns plain numbers, is proved for all arguments, and touches no memory of ours.
     unsafe { pit_node_count(f, n, size) }
+}
+
+/// The most nodes that a write of `n` pages makes in a blob of exactly `r` pages, the write inside them: 1 and the sum, over
+/// q = 1, 2, 4 up to r/2, of floor((n+q-2)/q) + 1. The write from page r/2 - 1 on makes so many; an update of fewer pages, or
+/// one that leaves a smaller blob, makes no more. It is 0 unless `r` is a power of two from 2 to 4,096 and `n` is 1 to the
+/// lesser of 64 and r/2.
+///
+/// ```
+/// use pit_host::{node_count, worst_node_count};
+/// assert_eq!(worst_node_count(64, 2), 13);
+/// assert_eq!(node_count(31, 2, 64), 13);
+/// assert_eq!(worst_node_count(4096, 64), 144);
+/// assert_eq!(worst_node_count(4096, 65), 0);
+/// assert_eq!(worst_node_count(6, 1), 0);
+/// ```
+pub fn worst_node_count(r: u64, n: u64) -> u64 {
+    // SAFETY: it takes and returns plain numbers, is proved for all arguments, and touches no memory of ours.
+    unsafe { pit_worst(r, n) }
 }
 
 /// Areas lent to one call that changes them, as pointers. Nobody else writes them meanwhile, or reads what the call writes; of a store that

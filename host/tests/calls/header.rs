@@ -65,8 +65,8 @@ fn the_header_is_as(side: &str, declared: &[String]) {
     let header = declared::in_c(include_str!("../../../include/pit.h"));
     assert_eq!(
         header.len(),
-        15 + 16,
-        "fifteen structs and sixteen functions"
+        15 + 17,
+        "fifteen structs and seventeen functions"
     );
     for declaration in &header {
         assert!(

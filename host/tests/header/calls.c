@@ -702,6 +702,21 @@ static void blasting(void)
     free_host(&h);
 }
 
+/* A row inside the limits, then two outside, the last with numbers above 32 bits. */
+static void worst_counts(void)
+{
+    static const uint64_t cases[][2] = {
+        {2, 1}, {64, 2}, {64, 32}, {128, 64}, {4096, 1}, {4096, 64},
+        {0, 0}, {1, 1}, {2, 0}, {2, 2}, {6, 1}, {64, 33}, {128, 65}, {4096, 65}, {8192, 1},
+        {UINT64_C(4294967360), 2}, {64, UINT64_C(4294967298)}, {UINT64_MAX, UINT64_MAX},
+    };
+    size_t i;
+    for (i = 0; i < sizeof cases / sizeof *cases; i++) {
+        uint64_t r = cases[i][0], n = cases[i][1];
+        printf("worst of %" PRIu64 " %" PRIu64 ": %" PRIu64 "\n", r, n, pit_worst(r, n));
+    }
+}
+
 int main(void)
 {
     layout_of_stores();
@@ -716,5 +731,6 @@ int main(void)
     blasting();
     printf("root span of 5 and 4097: %" PRIu64 " %" PRIu64 "\n", pit_root_span(5), pit_root_span(4097));
     printf("nodes of 31 2 64 and 31 2 32: %" PRIu64 " %" PRIu64 "\n", pit_node_count(31, 2, 64), pit_node_count(31, 2, 32));
+    worst_counts();
     return 0;
 }
