@@ -15,5 +15,6 @@ mod store;
 #[path = "../support/mod.rs"]
 mod support;
 mod windows;
+mod worst;
 
 use support::{random, updates};

@@ -1,11 +1,11 @@
-//! The two C functions against a plain model, for every kind of argument inside and outside the limits.
+//! The root span and the node count against a plain model, for every kind of argument inside and outside the limits.
 
 use crate::random::{first_seed, Random};
 use crate::trees::{self, sum_over_spans, within_limits, Trees};
 use pit_host::{node_count, root_span};
 
 /// Numbers at which a limit, a width or a sum can go wrong, each tried in every place.
-const EDGES: [u64; 30] = [
+pub const EDGES: [u64; 30] = [
     0,
     1,
     2,
@@ -48,7 +48,7 @@ fn compare(trees: &Trees, f: u64, n: u64, size: u64) {
 }
 
 /// An argument: an edge, one near `most`, such a one with high bits, or any number of any length in bits.
-fn argument(random: &mut Random, most: u64) -> u64 {
+pub fn argument(random: &mut Random, most: u64) -> u64 {
     match random.below(8) {
         0 => random.pick(&EDGES),
         1..=4 => random.below(most + 3),

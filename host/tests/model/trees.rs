@@ -87,6 +87,17 @@ pub fn sum_over_spans(f: u64, n: u64, size: u64) -> u64 {
     u64::try_from(sum).expect("a tree of 4,096 pages has 8,191 nodes")
 }
 
+/// The most nodes that a write of `n` pages makes in a blob of exactly `r` pages, the write inside them: every first page is
+/// tried. 0 unless `r` is one of 2, 4, 8 .. 4,096 and `n` is from 1 to 64 and at most half of `r`.
+pub fn worst(r: u64, n: u64) -> u64 {
+    let size_asked = (1..=12).any(|height| r == 1 << height);
+    if !size_asked || n == 0 || n > MOST_UPDATE || n > r / 2 {
+        return 0;
+    }
+    let counts = (0..=r - n).map(|f| sum_over_spans(f, n, r));
+    counts.max().expect("page 0 is a first page")
+}
+
 /// The trees of all root spans: 1, 2, 4 .. 4,096 pages.
 pub struct Trees(Vec<Node>);
 
