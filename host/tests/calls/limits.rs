@@ -2,9 +2,11 @@
 //! `PIT_SEED` names the seed.
 
 use crate::random::{first_seed, Random};
-use crate::updates::{limits, update, LIVE};
+use crate::updates::{assign, limits, update, LIVE};
+use crate::worst::asked;
 use pit_host::{
-    node_count, Capacity, Error, Limits, LimitsError, PageIndex, Planned, Store, WrongUpdate,
+    node_count, root_span, worst_node_count, Capacity, Error, Limits, LimitsError, Line, PageIndex,
+    Planned, Store, WrongUpdate,
 };
 
 /// The most of each capacity, as the paper has it.
@@ -255,5 +257,115 @@ fn worst_limits_hold_every_update() {
                 .max();
             assert_eq!(Some(room), most, "{n} pages in {blob}");
         }
+    }
+}
+
+/// The most pages of a blob and of an update: powers of two and others, up to half of the blob and more.
+fn drawn_sizes(random: &mut Random) -> (u64, u64) {
+    let blob = match random.below(4) {
+        0 => random.between(1, 4_096),
+        1 => random.between(1, 130),
+        _ => 1 << random.below(13),
+    };
+    let n = match random.below(4) {
+        0 => blob,
+        1 => random.between(1, blob),
+        _ => random.between(1, blob / 2 + 1),
+    };
+    (blob, n.min(blob).min(64))
+}
+
+/// Where an update of so many pages goes that leaves at most `blob`, from a blob of so many on; nowhere is at its end.
+fn drawn_first(random: &mut Random, size: u64, pages: u64, blob: u64) -> Option<u64> {
+    let last = size.min(blob - pages);
+    match random.below(8) {
+        0..=3 if last == size => None,
+        4 => Some(last),
+        5 => Some(random.between(0, last)),
+        _ => Some((root_span(size) / 2).saturating_sub(1).min(last)),
+    }
+}
+
+/// Updates of 1 to n pages that leave at most `blob`, from empty on, and from some version on along two lines: a store with the
+/// limits of `worst` accepts all of them, and none makes more nodes than there is room for in each. Whether one made as many.
+fn drawn_updates(random: &mut Random, blob: u64, n: u64) -> bool {
+    let updates = random.between(1, 60) + (blob / n).min(200);
+    let room = Limits::worst(16, blob, updates, n).unwrap();
+    let mut store = Store::format(room).unwrap();
+    let (mut reached, branched) = (false, random.below(updates + 1));
+    for at in 0..updates {
+        let mut line = LIVE;
+        if at >= branched {
+            if at == branched {
+                let version = store.recent(LIVE).unwrap();
+                assert_eq!(store.branch(LIVE, version), Ok(Line(1)));
+            }
+            line = Line(random.below(2));
+        }
+        let before = store.state();
+        let pages = match random.below(4) {
+            0 => random.between(1, n),
+            _ => n,
+        };
+        let first = drawn_first(random, before.line(line).blob, pages, blob);
+        let done = update(&mut store, line, first, &vec![at as u8; pages as usize]);
+        assert!(done.is_ok(), "{done:?}: update {at} of {room:?}");
+        let after = store.state();
+        assert!(after.line(line).blob <= blob && after.places <= room.nodes);
+        let made = after.places - before.places;
+        assert!(made * updates <= room.nodes, "{made} nodes, of {room:?}");
+        reached |= made * updates == room.nodes;
+    }
+    reached
+}
+
+/// No plan of updates needs more than `worst`; and most plans, where it is proved and where each first page is tried, have an
+/// update that makes as many nodes as there is room for in each.
+#[test]
+fn worst_limits_hold_every_plan_of_updates() {
+    let seed = first_seed("worst_limits_hold_every_plan_of_updates");
+    let (mut random, mut met) = (Random::new(seed), [[0; 2]; 2]);
+    for _ in 0..2_000 {
+        let (blob, n) = drawn_sizes(&mut random);
+        let proved = worst_node_count(blob, n) != 0;
+        let reached = drawn_updates(&mut random, blob, n);
+        met[usize::from(proved)][usize::from(reached)] += 1;
+    }
+    assert!(met.iter().all(|[not, reached]| not < reached), "{met:?}");
+}
+
+/// Fills a blob of r pages by appends, then writes n pages from page r/2 - 1 on, three times, with so many nodes left for these:
+/// how many were accepted, and why not the next.
+fn writes_in_the_middle(r: u64, n: u64, left: u64) -> (u64, Result<(), Error>) {
+    let appends = (0..r).step_by(64).map(|first| (first, r.min(first + 64)));
+    let appends: Vec<Planned> = appends.map(|(f, end)| planned(f, end - f, end)).collect();
+    let mut room = Limits::for_updates(16, &appends).unwrap();
+    room.pages += 3 * n;
+    room.nodes += left;
+    room.updates += 3;
+    let mut store = Store::format(room).unwrap();
+    for append in appends {
+        assign(&mut store, LIVE, None, &vec![1; append.pages as usize]).unwrap();
+    }
+    for accepted in 0..3 {
+        let write = assign(&mut store, LIVE, Some(r / 2 - 1), &vec![2; n as usize]);
+        if let Err(refused) = write {
+            return (accepted, Err(refused));
+        }
+    }
+    assert_eq!(store.state().line(LIVE).blob, r);
+    assert_eq!(store.state().places, room.nodes);
+    (3, Ok(()))
+}
+
+/// Once the blob has r pages, each write of n pages from page r/2 - 1 on makes all the nodes that `worst` has room for: with one
+/// fewer, the last is refused.
+#[test]
+fn worst_limits_are_just_enough() {
+    for (r, n) in asked() {
+        let worst = Limits::worst(16, r, 3, n).unwrap().nodes;
+        assert_eq!(writes_in_the_middle(r, n, worst), (3, Ok(())), "({r}, {n})");
+        let refused = (2, Err(Error::NodesFull));
+        assert_eq!(writes_in_the_middle(r, n, worst - 1), refused, "({r}, {n})");
     }
 }

@@ -101,14 +101,23 @@ impl Limits {
     }
 
     /// Enough for any `updates` updates of up to `pages_per_update` pages each, in a blob of up to `blob_pages`
-    /// pages: for each, the most nodes that one of that many pages makes in such a blob. Refused where there is no such
-    /// update, or where FORMAT would not accept what they need together; the [`LimitsError`] says why.
+    /// pages, from empty on: for each, the most nodes that one of that many pages makes in such a blob. Refused where there is
+    /// no such update, or where FORMAT would not accept what they need together; the [`LimitsError`] says why.
+    ///
+    /// Where `blob_pages` is a power of two and `pages_per_update` at most half of it, the most is
+    /// [`worst_node_count`](crate::worst_node_count), that of a blob of exactly so many pages. It is proved that updates of
+    /// fewer pages, or that leave a smaller blob, make no more. For any other size of the blob, and for updates of more than
+    /// half of it, each first page is tried: one update of 64 pages that fills a blob of 64 makes 127 nodes.
     ///
     /// ```
-    /// use pit_host::{Capacity, Limits, LimitsError};
+    /// use pit_host::{worst_node_count, Capacity, Limits, LimitsError};
     /// # fn main() -> Result<(), LimitsError> {
     /// let limits = Limits::worst(4096, 1024, 100, 2)?;
     /// assert_eq!((limits.pages, limits.nodes, limits.updates), (200, 100 * 21, 100));
+    /// assert_eq!(worst_node_count(1024, 2), 21);
+    ///
+    /// assert_eq!(Limits::worst(4096, 1000, 100, 2)?.nodes, 100 * 21);
+    /// assert_eq!(Limits::worst(4096, 64, 100, 64)?.nodes, 100 * 127);
     ///
     /// let refused = Limits::worst(4096, 4096, 4096, 64).unwrap_err();
     /// assert_eq!(refused, LimitsError::Capacity { of: Capacity::Pages, asked: 262_144, most: 65_535 });
@@ -122,12 +131,10 @@ impl Limits {
         updates: u64,
         pages_per_update: u64,
     ) -> Result<Limits, LimitsError> {
-        let update = |first| Planned::new(PageIndex(first), pages_per_update, blob_pages);
-        // Fewer pages, or a smaller blob, never make more nodes: their range or tree is a part of the larger one.
-        let mut most = update(0).node_count(None)?;
-        for first in 1..=blob_pages - pages_per_update {
-            most = most.max(update(first).node_count(None)?);
-        }
+        let most = match ffi::worst_node_count(blob_pages, pages_per_update) {
+            0 => most_from_each_page(blob_pages, pages_per_update)?,
+            proved => proved,
+        };
         let pages = updates.saturating_mul(pages_per_update);
         let nodes = updates.saturating_mul(most);
         Limits::new(page_size, pages, nodes, updates).explained()
@@ -200,6 +207,17 @@ impl Limits {
     pub(crate) fn numbers(&self) -> [u64; 4] {
         [self.page_size, self.pages, self.nodes, self.updates]
     }
+}
+
+/// The most nodes that an update of so many pages makes in a blob of so many, each first page tried. Fewer pages, or a smaller
+/// blob, never make more: their range or tree is a part of the larger one.
+fn most_from_each_page(blob_pages: u64, pages: u64) -> Result<u64, LimitsError> {
+    let update = |first| Planned::new(PageIndex(first), pages, blob_pages);
+    let mut most = update(0).node_count(None)?;
+    for first in 1..=blob_pages - pages {
+        most = most.max(update(first).node_count(None)?);
+    }
+    Ok(most)
 }
 
 impl Planned {
