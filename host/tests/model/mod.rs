@@ -7,6 +7,7 @@ pub mod image;
 #[cfg(test)]
 mod tests;
 pub mod text;
+pub mod trees;
 pub mod windows;
 
 use windows::{inside, listed, Window, WEEK};

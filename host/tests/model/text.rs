@@ -1,6 +1,7 @@
 //! The step program's lines: their form, the program's own limits, and the answers, on top of the model. And one line that
 //! only a host has: `SETWINDOWS,` and the text of a list, with its line feeds.
 
+use super::trees::worst;
 use super::{Answer, Node, Published, Refused, Store};
 
 /// The program's own limits. What is beyond them, it refuses with 0.
@@ -20,6 +21,7 @@ pub enum Step {
     Put(u64, u64, Vec<u8>),
     Weave(u64),
     SetWindows(Vec<u8>),
+    Worst(u64, u64),
     On(u64, OnLine),
 }
 
@@ -72,6 +74,7 @@ fn step(line: &[u8]) -> Option<Step> {
         [b"BEGIN", n] => Step::Begin(number(n)?),
         [b"PUT", ticket, i, bytes] => Step::Put(number(ticket)?, number(i)?, page_bytes(bytes)?),
         [b"WEAVE", ticket] => Step::Weave(number(ticket)?),
+        [b"WORST", r, n] => Step::Worst(number(r)?, number(n)?),
         [word, line, ref rest @ ..] => {
             let on = step_on_a_line(word, rest)?;
             Step::On(number(line)?, on)
@@ -135,10 +138,19 @@ fn read_line(store: &Store, line: u64, v: u64, offset: u64, length: u64) -> Answ
     Ok(format!("bytes,{bytes}"))
 }
 
-/// A step other than FORMAT.
+/// The WORST line, for which there need be no store.
+fn worst_line(r: u64, n: u64) -> Answer<String> {
+    match worst(r, n) {
+        0 => Err(BEYOND),
+        count => Ok(format!("worst,{count}")),
+    }
+}
+
+/// A step other than FORMAT and WORST.
 fn step_on(store: &mut Store, step: Step) -> Answer<String> {
     Ok(match step {
         Step::Format(_) => unreachable!("FORMAT starts a store"),
+        Step::Worst(..) => unreachable!("WORST needs no store"),
         Step::Begin(n) => format!("ticket,{}", store.begin(n)?),
         Step::Put(ticket, i, bytes) => {
             store.put(ticket, i, &bytes)?;
@@ -194,6 +206,7 @@ impl Program {
         let answer = match step {
             None => Err(BEYOND),
             Some(Step::Format(fields)) => self.format(fields),
+            Some(Step::Worst(r, n)) => worst_line(r, n),
             Some(step) => match &mut self.store {
                 None => Err(BEYOND),
                 Some(store) => step_on(store, step),

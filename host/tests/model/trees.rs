@@ -1,5 +1,6 @@
 //! The tree as the paper tells it, with no thought of the library's code: a root, its halves down to
 //! single pages, and the nodes that meet an update, counted one by one.
+#![allow(dead_code)] // each test program uses some of it
 
 /// A blob has at most this many pages.
 pub const MOST_PAGES: u64 = 4096;

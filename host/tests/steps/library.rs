@@ -7,7 +7,7 @@ use crate::model::text::Program;
 use crate::model::windows::MOST_WINDOWS;
 use crate::scripts::Script;
 use crate::support::call::{make_one, Call};
-use pit_host::{Areas, Error, Record, State, Store, Windows};
+use pit_host::{worst_node_count, Areas, Error, Record, State, Store, Windows};
 
 /// Makes the calls of a host's script, and compares every answer and what stands after it. A line that the step program
 /// refuses by itself is no call.
@@ -32,7 +32,17 @@ pub fn check(script: &Script) {
     }
 }
 
+/// The numbers of a WORST line, which is no call on a store.
+fn worst_asked(line: &[u8]) -> Option<(u64, u64)> {
+    let numbers = std::str::from_utf8(line).ok()?.strip_prefix("WORST,")?;
+    let (r, n) = numbers.split_once(',')?;
+    Some((r.parse().ok()?, n.parse().ok()?))
+}
+
 fn answer(library: &mut Option<Store>, line: &[u8]) -> String {
+    if let Some((r, n)) = worst_asked(line) {
+        return format!("worst,{}", worst_node_count(r, n));
+    }
     let call = Call::of_line(line).expect("a line that is answered");
     match (&call, &mut *library) {
         (Call::Format(limits), _) => match Store::format(*limits) {

@@ -236,7 +236,7 @@ const STAMPS: [&str; 4] = [
 ];
 
 /// The answers that the program can give: their words, and the rows of the table.
-const WORDS: [&str; 12] = [
+const WORDS: [&str; 13] = [
     "ok",
     "ticket",
     "put",
@@ -249,6 +249,7 @@ const WORDS: [&str; 12] = [
     "size",
     "recent",
     "stamp",
+    "worst",
 ];
 const ROWS: [u64; 19] = [
     0, 1, 2, 4, 5, 6, 7, 8, 9, 10, 11, 12, 13, 15, 16, 17, 20, 21, 22,
@@ -284,9 +285,14 @@ fn random_scripts() {
 #[test]
 fn random_scripts_from_a_fresh_start() {
     let seed = first_seed("random_scripts_from_a_fresh_start");
+    let mut worst = 0;
     for i in 0..100 {
-        check(&[random_from_the_start(seed.wrapping_add(i))]);
+        let script = random_from_the_start(seed.wrapping_add(i));
+        let before_ok = script.answers.iter().take_while(|answer| *answer != "ok");
+        worst += before_ok.filter(|a| a.starts_with("worst,")).count();
+        check(&[script]);
     }
+    assert!(worst >= 100, "{worst} worst counts before a FORMAT");
 }
 
 #[test]

@@ -121,12 +121,15 @@ fn malformed_page_bytes() {
     ));
 }
 
-/// A line of every word with one number after the other replaced; as they are, none is refused with 0.
+/// A line of every word with one number after the other replaced; with 2, none is refused with 0.
 fn with_number(replaced: &[u8]) -> Vec<Vec<u8>> {
     let mut lines = vec![];
     for (word, count) in WORDS {
         let mut fields = vec![word.as_bytes()];
         fields.extend(vec![&b"1"[..]; count]);
+        if word == "WORST" {
+            fields[1] = b"4"; // of one page it is refused with 0
+        }
         fields.extend((word == "PUT").then_some(&b"11"[..]));
         lines.extend((1..=count).map(|at| {
             let mut fields = fields.clone();
@@ -167,7 +170,7 @@ fn malformed_numbers_in_every_field() {
         b"99999999999999999999",
         b"184467440737095516150000000000000000000000000000000000000000001",
     ];
-    let right = [vec![b"FORMAT,16,4,8,2".to_vec()], with_number(b"1")].concat();
+    let right = [vec![b"FORMAT,16,4,8,2".to_vec()], with_number(b"2")].concat();
     assert_eq!(count(&same_as_model(right), "refused,0"), 0);
     let lines = bad.iter().flat_map(|number| with_number(number));
     all_refused_with_0(lines);
@@ -244,7 +247,13 @@ fn every_byte_at_every_place_of_a_line() {
     let mut lines = vec![b"FORMAT,16,4,8,2".to_vec()];
     for byte in (0..=255).filter(|byte| *byte != b'\n') {
         lines.push(vec![byte]);
-        for line in [&b"SIZE,0,0"[..], b"RECENT,0", b"PUBLISH,0,9", b"PUT,0,0,1f"] {
+        for line in [
+            &b"SIZE,0,0"[..],
+            b"RECENT,0",
+            b"PUBLISH,0,9",
+            b"PUT,0,0,1f",
+            b"WORST,64,2",
+        ] {
             for at in 0..=line.len() {
                 lines.push([&line[..at], &[byte], &line[at..]].concat());
                 lines.push([&line[..at], &[byte], &line[(at + 1).min(line.len())..]].concat());

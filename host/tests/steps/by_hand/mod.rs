@@ -10,6 +10,7 @@ mod malformed;
 mod rows;
 mod stamps;
 mod windows;
+mod worst;
 
 use crate::model::text::Program;
 use crate::program::run;

@@ -45,7 +45,7 @@ const EDGES: [u64; 30] = [
 ];
 
 /// Each word, with how many numbers follow it.
-pub const WORDS: [(&str, usize); 12] = [
+pub const WORDS: [(&str, usize); 13] = [
     ("FORMAT", 4),
     ("BEGIN", 1),
     ("PUT", 2),
@@ -58,6 +58,7 @@ pub const WORDS: [(&str, usize); 12] = [
     ("SIZE", 2),
     ("RECENT", 1),
     ("STAMP", 3),
+    ("WORST", 2),
 ];
 
 /// Lines without their line feed, and their answers.
@@ -95,9 +96,10 @@ pub fn random_from_the_start(seed: u64) -> Script {
     let mut author = Author::new(seed);
     author.script.name = format!("PIT_SEED={seed}, for a fresh program");
     for _ in 0..author.random.below(30) {
-        match author.random.below(4) {
+        match author.random.below(5) {
             0 => author.damaged(),
             1 => author.odd_format(),
+            2 => author.worst(),
             _ => author.any_numbers(),
         }
     }
@@ -223,7 +225,7 @@ impl Author {
         if self.host && self.random.one_in(8) {
             self.list_of_windows();
         }
-        match self.random.below(48) {
+        match self.random.below(49) {
             0..=5 => self.begin(),
             6..=9 => self.put_one(),
             10..=12 => self.put_all(),
@@ -239,6 +241,7 @@ impl Author {
             37 => self.branch(),
             38 => self.any_numbers(),
             39 => self.damaged(),
+            40 => self.worst(),
             _ => self.whole_update(),
         }
     }
@@ -541,6 +544,25 @@ impl Author {
         let v = self.published_version(line);
         let line = self.bent(line);
         self.say(format!("SIZE,{line},{v}"));
+    }
+
+    /// A worst count, mostly of numbers inside its limits; also just past them, and of sizes that are no power of two.
+    fn worst(&mut self) {
+        let r = 1 << self.random.between(1, 12);
+        let most = 64.min(r / 2);
+        let n = match self.random.below(8) {
+            0 => most,
+            1 => most + 1,
+            2 => self.random.below(r + 1),
+            _ => self.random.between(1, most),
+        };
+        let r = match self.random.below(8) {
+            0 => r + 1,
+            1 => self.random.below(4_100),
+            _ => self.bent(r),
+        };
+        let n = self.bent(n);
+        self.say(format!("WORST,{r},{n}"));
     }
 
     /// A FORMAT that is refused, most often; the store goes on then.
