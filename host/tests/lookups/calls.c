@@ -33,6 +33,14 @@ static int counts(void)
     return pit_node_count(0, 1, MOST + 1) != 0;
 }
 
+static int worsts(void)
+{
+    for (uint64_t size = 0; size <= MOST; size++) {
+        pit_worst(size, 1);
+    }
+    return pit_worst(MOST + 1, 1) != 0;
+}
+
 /* An update of one page at the end of the blob, so that each size comes once, as a write or an append. */
 static int updates(int append)
 {
@@ -63,12 +71,15 @@ int main(int argc, char **argv)
     if (!strcmp(name, "pit_node_count")) {
         return counts();
     }
+    if (!strcmp(name, "pit_worst")) {
+        return worsts();
+    }
     if (!strcmp(name, "pit_write")) {
         return updates(0);
     }
     if (!strcmp(name, "pit_append")) {
         return updates(1);
     }
-    fputs("usage: calls (pit_root_span|pit_node_count|pit_write|pit_append)\n", stderr);
+    fputs("usage: calls (pit_root_span|pit_node_count|pit_worst|pit_write|pit_append)\n", stderr);
     return 2;
 }
