@@ -21,7 +21,7 @@ use Rattle.register.specs.Register.{no_record, part_of, version_record, version_
 use Rattle.register.specs.declared.Record.{Record}
 use Rattle.register.proofs.Records.{version-own, version-entry}
 use Rattle.table.proofs.Table.{number-cases}
-use Rattle.versions.specs.Store.{record-of, lines_in, line_in, with_line, number_on, part_on}
+use Rattle.versions.specs.Store.{record_of, lines_in, line_in, with_line, number_on, part_on}
 use Rattle.versions.proofs.Own.{line-there, line-past}
 use Rattle.model.specs.History.{blob_size}
 use Rattle.model.specs.Model.{Limits, Line, Model, no_line, line_at, update_at, history, numbered, number_in}

@@ -13,7 +13,7 @@ use Rattle.tree.proofs.Word.{own_power, root-in-span}
 use Rattle.register.specs.Register.{no_record, part_of, most_page, limited, update_of}
 use Rattle.weave.specs.Weave.{place_of}
 use Rattle.table.specs.Table.{holds}
-use Rattle.versions.specs.Store.{areas_differ, record-of}
+use Rattle.versions.specs.Store.{areas_differ, record_of}
 use Rattle.model.specs.History.{to_update, updates}
 use Rattle.model.specs.Model.{Limits, Model, line_at, update_at, history, numbered}
 use Rattle.model.specs.OnModel.{ticket_in}
@@ -35,7 +35,7 @@ module _ (L : Limits) (m : Model) where
   unfolding register_image
   record-at i h = get_or-tab L.updates (record_image m) i no_record h
 
-  pub record-of : (k : ℕ) → 0 < k → k ≤ L.updates → record-of (areas_image L m) k ≡ record_image m (pred k)
+  pub record-of : (k : ℕ) → 0 < k → k ≤ L.updates → record_of (areas_image L m) k ≡ record_image m (pred k)
   record-of zero p h = absurd (omega arith)
   record-of (suc k) p h = record-at k h
 
@@ -66,13 +66,13 @@ module _ (L : Limits) (m : Model) (S : Sound L m) where
   update-room k h = omega (arith, S.fewer, S.records)
 
   -- The number at which a ticket's pages begin.
-  pub number-of : (t : ℕ) → 0 < t → t ≤ length m.tickets → (record-of (areas_image L m) t).number ≡ slot_number m t 0
+  pub number-of : (t : ℕ) → 0 < t → t ≤ length m.tickets → (record_of (areas_image L m) t).number ≡ slot_number m t 0
   number-of zero p h = absurd (omega arith)
   number-of (suc t) p h = rw (record-of L m (suc t) p (ticket-room (suc t) h), lt-ltb t (length m.tickets) h)
 
   -- The number of the page of slot i, where all pages before it stand.
   pub slot-number : (t i : ℕ) → 0 < t → t ≤ length m.tickets → ((j : ℕ) → j < i → slot_stands m t j ≡ true)
-      → (record-of (areas_image L m) t).number + i ≡ slot_number m t i
+      → (record_of (areas_image L m) t).number + i ≡ slot_number m t i
   slot-number t i o h s = rw (number-of t o h) (sym (number-from m t i s))
 
 module _ (L : Limits) (m : Model) (S : Sound L m) (k : ℕ) (o : 0 < k) (h : k ≤ length m.updates) where
@@ -96,7 +96,7 @@ module _ (L : Limits) (m : Model) (S : Sound L m) (k : ℕ) (o : 0 < k) (h : k �
       omega arith
 
   -- What its record says.
-  pub part-image : part_of (record-of (areas_image L m) k) ≡ part_of (record_image m (pred k))
+  pub part-image : part_of (record_of (areas_image L m) k) ≡ part_of (record_image m (pred k))
   part-image = ap part_of (record-of L m k o (update-room L m S k h))
 
   at-pred : suc (pred k) ≡ k

@@ -5,7 +5,7 @@ use Rattle.std.proofs.Common.{◌≡◌, ℕ, zero, suc, ◌+◌, ◌-◌, ◌/�
 use mathlib.Core.Option.{Option, none, some}
 use Rattle.tree.specs.Place.{first, halvings}
 use Rattle.tree.specs.Walk.{reach_by, visit, turns}
-use Rattle.tree.specs.Contract.{root-in, height_in}
+use Rattle.tree.specs.Contract.{root_in, height_in}
 use Rattle.tree.specs.declared.NodeAt.{NodeAt}
 use Rattle.tree.specs.declared.NodeAt.TheVariants.{Stored, Missing}
 use Rattle.tree.proofs.First.{first-root}
@@ -99,7 +99,7 @@ module _ (p a span halved carried : ℕ) (o : Level a span halved carried) where
     low : h ≤ 12
     low = omega (arith, height-in-low span)
 
-    root_below : root-in (span / 2) ≡ span / 2
+    root_below : root_in (span / 2) ≡ span / 2
     root_below = rw half (root-in-power h low)
 
     height-below : height_in (span / 2) ≡ h
@@ -148,7 +148,7 @@ module _ (p a span halved carried : ℕ) (o : Level a span halved carried) where
       (d.0, below, rw below d.1)
 
 -- What the root carries.
-pub level-root : (p span carried : ℕ) → root-in span ≡ span → p < span → carried < 2 ^ 64 → (carried + height_in span) % 2 ^ 64 ≡ 0
+pub level-root : (p span carried : ℕ) → root_in span ≡ span → p < span → carried < 2 ^ 64 → (carried + height_in span) % 2 ^ 64 ≡ 0
     → Level 0 span 0 carried × (0 ≡ first_over p (height_in span))
 level-root p span carried root r fits e =
     let power = own_power span root in (

@@ -2,13 +2,13 @@
 
 use Rattle.std.specs.Prelude.{◌≡◌, ℕ, ◌+◌, ◌-◌, ◌%◌, ◌^◌, ◌≤◌, Bool, true, false}
 use Rattle.tree.specs.Place.{halvings}
-use Rattle.tree.specs.Contract.{root-in, height_in}
+use Rattle.tree.specs.Contract.{root_in, height_in}
 use Rattle.tree.specs.declared.NodeAt.{NodeAt}
 use Rattle.tree.specs.declared.NodeAt.TheVariants.{Stored, Missing}
 
 -- What a level carries: the first page of its node, the node's span, the halvings of that page, and these less the node's height.
 pub record Level (a span halved carried : ℕ) : Type 0 where
-  pub spans : root-in span ≡ span
+  pub spans : root_in span ≡ span
   pub inside : a + span ≤ 4096
   pub halvings-of : halved ≡ halvings a
   pub carries : carried ≡ (halvings a + (2 ^ 64 - height_in span)) % 2 ^ 64

@@ -28,7 +28,7 @@ use Rattle.model.proofs.Area.Leaves.{next-number}
 use Rattle.model.proofs.Model.Facts.{ticket-past, update-got}
 use Rattle.model.proofs.Model.Passed.{PutPassed, put-passed, WeavePassed, weave-passed}
 use Rattle.model.proofs.Calls.Kept.Begin.{new_ticket as empty_ticket, begun-ticket, begun-new}
-use Rattle.isolation.specs.Isolation.{version_of, elsewhere, own_number, absent, first_number, Tickets, woven_at, SameLine, Match, assigned, version, SameAnswer, word, ticket, inner, leaf, one-more}
+use Rattle.isolation.specs.Isolation.{version_of, elsewhere, own_number, absent, first_number, Tickets, woven_at, SameLine, Match, assigned, version, SameAnswer, word, ticket, inner, leaf, one_more}
 use Rattle.isolation.proofs.Lists.{nth-snocs, in-list-at}
 use Rattle.isolation.proofs.Kept.{Kept, shows-number}
 use Rattle.isolation.proofs.Tickets.{elsewhere-line, not-elsewhere, own-nowhere, is-there, there-is, ticket-upto, tickets-stay, Pair, assigned-cases, mine-back}
@@ -155,7 +155,7 @@ module _ (L : Limits) {l l' : ℕ} {ts ts' : List ℕ} {m m' : Model} (M : Match
           room m = fine-row (leb L.updates (length m.tickets)) 4 refl
               (fine-row (ltb L.pages (pages_used m + n)) 5 refl (no-refusal refl))
 
-      pub twin-begin : Step l l' (one-more L m n ts) (one-more L m' n ts') m m' 0 0 (on_model L m (BEGIN n)) (on_model L m' (BEGIN n))
+      pub twin-begin : Step l l' (one_more L m n ts) (one_more L m' n ts') m m' 0 0 (on_model L m (BEGIN n)) (on_model L m' (BEGIN n))
       unfolding on_model unless
       twin-begin =
           let x = suc (length m.tickets) in

@@ -180,8 +180,8 @@ model_gives L cs c = (on_model L (after L cs) c).1
 
 module _ (L : Limits) where
   -- The matched tickets after BEGIN n in both lists: one more where it gives one.
-  abbrev pub one-more : Model → ℕ → List ℕ → List ℕ
-  one-more m n ts = unless (begin_number L m n) ts (ts ++ suc (length m.tickets) ∷ [])
+  abbrev pub one_more : Model → ℕ → List ℕ → List ℕ
+  one_more m n ts = unless (begin_number L m n) ts (ts ++ suc (length m.tickets) ∷ [])
 
   -- Two lists, each after the calls made before it, that differ only in calls of other lines (than l in the first, than l' in the second).
   pub data Twins (l l' : ℕ) : List ℕ → List ℕ → List Call → List Call → List Call → List Call → Type 0 where
@@ -191,7 +191,7 @@ module _ (L : Limits) where
     second : {ts ts' : List ℕ} {before before' : List Call} {c : Call} {cs cs' : List Call} → Aside L l' l ts' (after L before') (after L before) c
         → Twins l l' ts ts' before (before' ++ c ∷ []) cs cs' → Twins l l' ts ts' before before' cs (c ∷ cs')
     begin : {ts ts' : List ℕ} {before before' : List Call} (n : ℕ) {cs cs' : List Call}
-        → Twins l l' (one-more (after L before) n ts) (one-more (after L before') n ts') (before ++ BEGIN n ∷ []) (before' ++ BEGIN n ∷ []) cs cs'
+        → Twins l l' (one_more (after L before) n ts) (one_more (after L before') n ts') (before ++ BEGIN n ∷ []) (before' ++ BEGIN n ∷ []) cs cs'
         → Twins l l' ts ts' before before' (BEGIN n ∷ cs) (BEGIN n ∷ cs')
     both : {ts ts' : List ℕ} {before before' : List Call} {t t' : ℕ} {c c' : Call} {cs cs' : List Call}
         → SameCall l l' ts ts' (after L before) (after L before') t t' c c'

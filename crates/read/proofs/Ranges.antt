@@ -10,7 +10,7 @@ use lib.ListN.{length}
 use Rattle.table.specs.Table.{Cond, ◌and◌, ◌or◌, test, ◌<?◌, holds, Row, ◌gives◌, first_refusal, unless, every_call, size_rows, read_rows}
 use Rattle.versions.specs.Store.{Areas, areas_differ, lines_in, line_in, number_on, part_on}
 use Rattle.versions.specs.Size.{is_there, not_there, refusal_by, pages_in, bytes_by, bytes_in}
-use Rattle.read.specs.Read.{pages_touched, some_lost, read-number}
+use Rattle.read.specs.Read.{pages_touched, some_lost, read_number}
 use Rattle.read.specs.Range.{range_number, Ranged, or_lost}
 use Rattle.versions.specs.declared.Store.{Store}
 use Rattle.table.proofs.Table.{Fails, Numbered, passed, call-parts}
@@ -52,9 +52,9 @@ module _ (s : Store) (a : Areas) (l v offset len room : ℕ) where
       tt
 
 pub read-number : (s : Store) (a : Areas) (l v offset len : ℕ) (buffer : List ℕ)
-    → read-number s a l v offset len buffer
+    → read_number s a l v offset len buffer
     ≡ or_lost (range_number s a l v (number_on s l v) offset len (length buffer)) (some_lost s.pages a (number_on s l v) (offset / s.size) (pages_touched s.size offset len))
-unfolding read-number read_rows
+unfolding read_number read_rows
 read-number s a l v offset len buffer =
     let lost = some_lost s.pages a (number_on s l v) (offset / s.size) (pages_touched s.size offset len) in
     or-last ((areas_differ s a gives 3) ∷ rows s a l v offset len (length buffer)) tt (not_there (part_on s a l v) (number_on s l v)) lost

@@ -11,7 +11,7 @@ use Rattle.register.specs.declared.Record.{Record}
 use Rattle.table.specs.Table.{unless}
 use Rattle.versions.specs.Store.{areas_of, number_on}
 use Rattle.walk.specs.FindPage.{find_page, number_within, or_zero}
-use Rattle.read.specs.Read.{pages_touched, some_lost, bytes_from, read-number}
+use Rattle.read.specs.Read.{pages_touched, some_lost, bytes_from, read_number}
 use Rattle.read.specs.Range.{range_number, Ranged, or_lost, Readable}
 use Rattle.versions.specs.declared.Store.{Store}
 use Rattle.table.proofs.Table.{unless-0}
@@ -37,7 +37,7 @@ module _ (s : Store) (pages nodes : List ℕ) (register : List Record) (l v offs
   abbrev pub walks : Bool
   walks = some_lost s.pages (areas_of [] nodes register) c (offset / s.size) (unless rows 0 (pages_touched s.size offset len))
 
-  pub number_is : or_lost rows walks ≡ read-number s (areas_of pages nodes register) l v offset len buffer
+  pub number_is : or_lost rows walks ≡ read_number s (areas_of pages nodes register) l v offset len buffer
   number_is =
       let n = pages_touched s.size offset len in
       let p = offset / s.size in

@@ -18,8 +18,8 @@ abbrev pub pages_touched : ℕ → ℕ → ℕ → ℕ
 pages_touched size offset zero = 0
 pages_touched size offset (suc len) = suc ((offset + len) / size) - offset / size
 
-unfoldable pub read-number : Store → Areas → ℕ → ℕ → ℕ → ℕ → List ℕ → ℕ
-read-number s a l v offset len buffer =
+unfoldable pub read_number : Store → Areas → ℕ → ℕ → ℕ → ℕ → List ℕ → ℕ
+read_number s a l v offset len buffer =
     let c = number_on s l v in
     let q = part_on s a l v in
     first_refusal
@@ -42,9 +42,9 @@ filled_by zero = Filled.Done
 filled_by (suc k) = Filled.Refused (suc k)
 
 abbrev pub read_out : Store → Areas → ℕ → ℕ → ℕ → ℕ → List ℕ → Filled
-read_out s a l v offset len buffer = filled_by (read-number s a l v offset len buffer)
+read_out s a l v offset len buffer = filled_by (read_number s a l v offset len buffer)
 
 -- READ fills the front of the buffer; the rest stays.
 abbrev pub read_buffer : Store → Areas → ℕ → ℕ → ℕ → ℕ → List ℕ → List ℕ
 read_buffer s a l v offset len buffer =
-    unless (read-number s a l v offset len buffer) buffer (bytes_from s.size s.pages a (number_on s l v) offset len ++ drop len buffer)
+    unless (read_number s a l v offset len buffer) buffer (bytes_from s.size s.pages a (number_on s l v) offset len ++ drop len buffer)

@@ -7,7 +7,7 @@ use mathlib.Core.Logic.{◌⊎◌, inl, inr, ⊎_map}
 use Prim.Native.Nat.{ℕ, zero, suc, ◌≤◌, ◌<◌}
 use native.Mathlib.Omega.{arith}
 use borrow.Author.Tests.{le-leb, lt-leb, lt-ltb, le-ltb, eq-eqb, ne_eqb, leb-false, ltb-false, eqb-false, eqb-true, not-false}
-use Rattle.table.specs.Table.{Cond, ◌≤?◌, ◌<?◌, ◌≡?◌, ◌≢?◌, ◌and◌, ◌or◌, test, holds, Row, ◌gives◌, first_refusal, or_else, unless, every-call}
+use Rattle.table.specs.Table.{Cond, ◌≤?◌, ◌<?◌, ◌≡?◌, ◌≢?◌, ◌and◌, ◌or◌, test, holds, Row, ◌gives◌, first_refusal, or_else, unless, every_call}
 
 -- A condition as a statement, and its denial: what `omega` and the code's tests speak of.
 abbrev pub Holds : Cond → Type 0
@@ -144,7 +144,7 @@ second {k} {r} {rows} e f = first f ∙ sym (or_else-0 k (first_refusal rows) e)
 
 -- A call's rows, where a callee has tested row 3 and the rows after it that several calls share. (Written-out rows are `rows ++ more` by computing.)
 pub call-parts : (differ : Cond) (rows more : List Row) (lost : Cond) → Numbered rows
-    → first_refusal (every-call differ (rows ++ more) lost) ≡ or_else (first_refusal ((differ gives 3) ∷ rows)) (first_refusal (more ++ (lost gives 19) ∷ []))
+    → first_refusal (every_call differ (rows ++ more) lost) ≡ or_else (first_refusal ((differ gives 3) ∷ rows)) (first_refusal (more ++ (lost gives 19) ∷ []))
 call-parts differ rows more lost t = rw (append_assoc rows more ((lost gives 19) ∷ [])) (parts ((differ gives 3) ∷ rows) (more ++ (lost gives 19) ∷ []) t)
 
 -- ---- where rows 3 and 19 fail, a call's number is that of its own rows
@@ -156,7 +156,7 @@ last-fails [] c k e = rw e
 last-fails ((d gives r) ∷ rows) c k e = rw (last-fails rows c k e)
 
 pub every-call : (differ : Cond) (rows : List Row) (lost : Cond) → holds differ ≡ false → holds lost ≡ false
-    → first_refusal (every-call differ rows lost) ≡ first_refusal rows
+    → first_refusal (every_call differ rows lost) ≡ first_refusal rows
 unfolding first_refusal
 every-call differ rows lost d l = rw d (last-fails rows lost 19 l)
 

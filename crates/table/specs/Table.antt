@@ -74,8 +74,8 @@ never = 1 ≤? 0
 abbrev pub always : Cond
 always = 0 ≤? 0
 
-abbrev pub every-call : Cond → List Row → Cond → List Row
-every-call differ rows lost = (differ gives 3) ∷ (rows ++ ((lost gives 19) ∷ []))
+abbrev pub every_call : Cond → List Row → Cond → List Row
+every_call differ rows lost = (differ gives 3) ∷ (rows ++ ((lost gives 19) ∷ []))
 
 -- ---- BEGIN n, with so many tickets given of so many updates, and so many page numbers taken of so many pages
 

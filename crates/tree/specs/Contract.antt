@@ -10,12 +10,12 @@ unfoldable pub height_for : ℕ → ℕ
 height_for s = zero_unless (nat_le s 4096) (root_height s)
 
 -- The root's span that a word holds: the word itself where it is the root's span of so many pages, else 4,096, that of the largest blob. No call leaves a word of the second kind.
-unfoldable pub root-in : ℕ → ℕ
-root-in s = elim (nat_lt 0 s && root_span s == s) [ true ↦ s | false ↦ 4096 ]
+unfoldable pub root_in : ℕ → ℕ
+root_in s = elim (nat_lt 0 s && root_span s == s) [ true ↦ s | false ↦ 4096 ]
 
 -- The height of that root.
 unfoldable pub height_in : ℕ → ℕ
-height_in s = root_height (root-in s)
+height_in s = root_height (root_in s)
 
 -- The node count of (f, n, size after), or 0 outside the limits and where the update runs past the size.
 unfoldable pub nodes_for : ℕ → ℕ → ℕ → ℕ

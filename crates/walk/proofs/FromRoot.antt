@@ -4,7 +4,7 @@ use Rattle.std.proofs.Common.{◌≡◌, ℕ, zero, suc, ◌-◌, ◌^◌, ◌<�
 use mathlib.Core.Option.{Option, none, some}
 use Rattle.tree.specs.NodeArea.{node_at}
 use Rattle.tree.specs.Walk.{reach_by, leaf_of, visit, ends}
-use Rattle.tree.specs.Contract.{root-in, height_in}
+use Rattle.tree.specs.Contract.{root_in, height_in}
 use Rattle.tree.specs.declared.Found.{Found}
 use Rattle.tree.proofs.Meets.{lt-or-le}
 use Rattle.tree.proofs.Word.{root-in, height-in-low}
@@ -18,13 +18,13 @@ use Rattle.walk.specs.FindPage.{reach_from, find_page}
 -- ---- from the root
 
 module _ (a : Areas) (c span p j : ℕ) where
-  pub from-root : p < root-in span → reach_from a c span p j ≡ reach_by (place_at a.register) a.nodes j (height_in span - j) c p
+  pub from-root : p < root_in span → reach_from a c span p j ≡ reach_by (place_at a.register) a.nodes j (height_in span - j) c p
   unfolding reach_from
-  from-root l = rw (lt-ltb p (root-in span) l)
+  from-root l = rw (lt-ltb p (root_in span) l)
 
-  pub from_past : root-in span ≤ p → reach_from a c span p j ≡ some 0
+  pub from_past : root_in span ≤ p → reach_from a c span p j ≡ some 0
   unfolding reach_from
-  from_past l = rw (le-ltb p (root-in span) l)
+  from_past l = rw (le-ltb p (root_in span) l)
 
 -- From the largest number nothing is reached.
 reach-most : (rs : List Record) (nodes : List ℕ) (j n p : ℕ) → or_most (reach_by (place_at rs) nodes j n (2 ^ 64 - 1) p) ≡ 2 ^ 64 - 1
@@ -32,7 +32,7 @@ unfolding reach_by place_in
 reach-most rs nodes j zero p = refl
 reach-most rs nodes j (suc n) p = refl
 
-pub from-most : (nodes : List ℕ) (rs : List Record) (span p j : ℕ) → p < root-in span → or_most (reach_from (areas_of [] nodes rs) (2 ^ 64 - 1) span p j) ≡ 2 ^ 64 - 1
+pub from-most : (nodes : List ℕ) (rs : List Record) (span p j : ℕ) → p < root_in span → or_most (reach_from (areas_of [] nodes rs) (2 ^ 64 - 1) span p j) ≡ 2 ^ 64 - 1
 from-most nodes rs span p j l = rw (from-root (areas_of [] nodes rs) (2 ^ 64 - 1) span p j l) (reach-most rs nodes j (height_in span - j) p)
 
 -- ---- the end of a walk

@@ -2,7 +2,7 @@
 use Rattle.std.specs.Prelude.{ℕ, ◌-◌, Bool, true, false, nat_lt}
 use Rattle.std.proofs.Math.Option.{Option, none, some}
 use Rattle.tree.specs.Walk.{reach_by, leaf_of}
-use Rattle.tree.specs.Contract.{root-in, height_in}
+use Rattle.tree.specs.Contract.{root_in, height_in}
 use Rattle.lines.specs.Lines.{pick}
 use Rattle.register.specs.Register.{version_part}
 use Rattle.tree.specs.declared.Found.{Found}
@@ -12,7 +12,7 @@ use Rattle.descent.specs.Places.{place_at}
 
 -- From the root of the version numbered c, of the span that its record keeps, to the node of height j over page p: its version's number; 0 past the root.
 unfoldable pub reach_from : Areas → ℕ → ℕ → ℕ → ℕ → Option ℕ
-reach_from a c span p j = pick (nat_lt p (root-in span)) (reach_by (place_at a.register) a.nodes j (height_in span - j) c p) (some 0)
+reach_from a c span p j = pick (nat_lt p (root_in span)) (reach_by (place_at a.register) a.nodes j (height_in span - j) c p) (some 0)
 
 -- The walk from the root of the version numbered c to page p. Its end has the number of the leaf's version.
 unfoldable pub find_page : Areas → ℕ → ℕ → Found

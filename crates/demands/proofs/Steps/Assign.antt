@@ -13,7 +13,7 @@ use Rattle.tree.proofs.Meets.{lt-or-le}
 use Rattle.lines.specs.declared.Branch.{Branch}
 use Rattle.register.specs.declared.Record.{Record}
 use Rattle.table.specs.Table.{◌<?◌, ◌≤?◌, ◌or◌, always, assign_rows, unless}
-use Rattle.versions.specs.Store.{lengths_of, record-of}
+use Rattle.versions.specs.Store.{lengths_of, record_of}
 use Rattle.assign.specs.Assign.{update_at, size_after, all_put, assign_refusal, assigned as assigned_case, with_version, with_update, assigned_register}
 use Rattle.model.specs.Calls.{on, WRITE, APPEND, version_is, Outcome, answers}
 use Rattle.model.specs.History.{Version, pages_of, blob_size, all_filled}
@@ -56,7 +56,7 @@ module _ (L : Limits) (m : Model) (S : Sound L m) (l f : ℕ) where
       limited-same f (f + n - 1) (max (blob_size (history m l)) (f + n)) (omega arith) (omega arith) (omega (arith, blob-small L m S l))
 
   assign_reads : (t : ℕ) → 0 < t → t ≤ length m.tickets
-      → let r = record-of (areas_image L m) t in
+      → let r = record_of (areas_image L m) t in
       AssignReads t L.updates r.update (ticket_update m t) (all_put r) (all_filled (ticket_in m t).slots) f r.n (pages_of (ticket_in m t))
       (count_of (update_at (blob_size (history m l)) f r.n)) (count_of (next_update L m l t f))
   assign_reads zero o h = absurd (omega arith)
@@ -75,10 +75,10 @@ module _ (L : Limits) (m : Model) (S : Sound L m) (l f : ℕ) where
   record-left zero p = absurd (omega (arith, p.from))
   record-left (suc t) p = (update-there L m S l t f p, version-there L m S l t f p)
 
-  assign-number : (t : ℕ) → assign_refusal (store_image L m) (lengths_of (areas_image L m)) (record-of (areas_image L m) t) l t f ≡ assign_number L m l t f
+  assign-number : (t : ℕ) → assign_refusal (store_image L m) (lengths_of (areas_image L m)) (record_of (areas_image L m) t) l t f ≡ assign_number L m l t f
   unfolding assign_refusal
   assign-number t =
-      let r = record-of (areas_image L m) t in
+      let r = record_of (areas_image L m) t in
       let blob = blob_size (history m l) in
       rw (lines-in L m S, line-in L m S l)
       (image-number L m S
@@ -152,10 +152,10 @@ module _ (L : Limits) (m : Model) (S : Sound L m) (l f : ℕ) where
   assign-image (suc t) p = state-same (assigned-store t p) (assigned-pages t p) (assigned-nodes t p) (assigned-register L m S l t f p)
 
   -- The pages and the count of nodes that the record says, where the table accepts.
-  pages-said : (t : ℕ) → AssignPassed L m l t f → (record-of (areas_image L m) t).n ≡ pages_of (ticket_in m t)
+  pages-said : (t : ℕ) → AssignPassed L m l t f → (record_of (areas_image L m) t).n ≡ pages_of (ticket_in m t)
   pages-said t p = (assign_reads t p.from p.upto).pages
 
-  count-said : (t : ℕ) → AssignPassed L m l t f → count_of (update_at (blob_size (history m l)) f (record-of (areas_image L m) t).n) ≡ count_of (next_update L m l t f)
+  count-said : (t : ℕ) → AssignPassed L m l t f → count_of (update_at (blob_size (history m l)) f (record_of (areas_image L m) t).n) ≡ count_of (next_update L m l t f)
   count-said t p = (assign_reads t p.from p.upto).count p.inside
 
   -- What it leaves and answers by the table's number.
@@ -174,7 +174,7 @@ module _ (L : Limits) (m : Model) (S : Sound L m) (l f : ℕ) where
   -- What ASSIGN leaves and answers, by the line's state and the table's number.
   abbrev left_by : ℕ → Branch → ℕ → State × Outcome
   left_by t b k =
-      let n = (record-of (areas_image L m) t).n in
+      let n = (record_of (areas_image L m) t).n in
       let c = count_of (update_at b.blob f n) in
       leaves
       (state_of (unless k (store_image L m) (with_update (store_image L m) l c (size_after b.blob f n))) (windows_image m) (pages_image L m) (nodes_image L m)
@@ -185,7 +185,7 @@ module _ (L : Limits) (m : Model) (S : Sound L m) (l f : ℕ) where
   assign-step t =
       let p : assign_number L m l t f ≡ 0 → AssignPassed L m l t f = assign-passed L m l t f in
       ap₂ (left_by t) (line-in L m S l) (assign-number t)
-      ∙ assign-leaves t (assign_number L m l t f) (record-of (areas_image L m) t).n _ _ (λ z. pages-said t (p z)) (λ z. count-said t (p z)) (λ z. assign-image t (p z))
+      ∙ assign-leaves t (assign_number L m l t f) (record_of (areas_image L m) t).n _ _ (λ z. pages-said t (p z)) (λ z. count-said t (p z)) (λ z. assign-image t (p z))
 
 module _ (L : Limits) (m : Model) (S : Sound L m) where
   pub write_step : (l t f : ℕ) → on_store (image L m) (on l (WRITE t f)) ≡ (image L (on_model L m (on l (WRITE t f))).0, (on_model L m (on l (WRITE t f))).1)

@@ -12,7 +12,7 @@ use lib.Dec.{ltb}
 use lib.ListN.{length}
 use lib.Pow.{pow_mono}
 use Rattle.tree.specs.Tree.{Update, meets, update, newest, height_of}
-use Rattle.tree.specs.Contract.{root-in, height_in}
+use Rattle.tree.specs.Contract.{root_in, height_in}
 use Rattle.tree.proofs.Word.{root-in-power, height-in-power}
 use Rattle.tree.specs.Place.{first}
 use Rattle.tree.specs.Walk.{Accepted, version_over, Stands}
@@ -131,7 +131,7 @@ module _ (L : Limits) (m : Model) (S : Sound L m) (l : ℕ) (there : l < length 
 
 -- From no version nothing is reached.
 from_zero : (x : Areas) (span p j : ℕ) → reach_from x 0 span p j ≡ some 0
-from_zero x span p j = elim (lt-or-le p (root-in span)) [
+from_zero x span p j = elim (lt-or-le p (root_in span)) [
   | inl q ↦ from-root x 0 span p j q ∙ reach-none (place_at x.register) x.nodes j p (height_in span - j)
   | inr q ↦ from_past x 0 span p j q
 ]
@@ -147,7 +147,7 @@ module _ (L : Limits) (m : Model) (S : Sound L m) (l : ℕ) (there : l < length 
     low : height_of (updates (history m l)) v ≤ 12
     low = height-low L m S l there v o (published-upto L m S l there v h)
 
-    root : root-in (2 ^ height_of (updates (history m l)) v) ≡ 2 ^ height_of (updates (history m l)) v
+    root : root_in (2 ^ height_of (updates (history m l)) v) ≡ 2 ^ height_of (updates (history m l)) v
     root = root-in-power (height_of (updates (history m l)) v) low
 
     high : height_in (2 ^ height_of (updates (history m l)) v) ≡ height_of (updates (history m l)) v

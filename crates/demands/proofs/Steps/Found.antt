@@ -14,7 +14,7 @@ use Rattle.pages.specs.Pages.{part}
 use Rattle.tree.specs.Tree.{Update, meets, update, root_height, height_of}
 use Rattle.tree.specs.Place.{first, index, halvings}
 use Rattle.tree.specs.Walk.{has_node, leaf_version, reach_by, leaf_of}
-use Rattle.tree.specs.Contract.{root_span, root-in, height_in}
+use Rattle.tree.specs.Contract.{root_span, root_in, height_in}
 use Rattle.tree.specs.declared.Found.TheVariants.{Leaf}
 use Rattle.tree.proofs.First.{first-le}
 use Rattle.tree.proofs.Halved.{halved-small, index-halved}
@@ -163,7 +163,7 @@ module _ (L : Limits) (m : Model) (S : Sound L m) (l : ℕ) (there : l < length 
         let c = number_in (history m l) v in
         let h = height_of us v in
         let low = height-low v above upto in
-        let root : root-in (2 ^ h) ≡ 2 ^ h = root-in-power h low in
+        let root : root_in (2 ^ h) ≡ 2 ^ h = root-in-power h low in
         let down : height_in (2 ^ h) - 0 ≡ h = omega (arith, height-in-power h low) in
         let inside : p < 2 ^ h = omega (arith, size-in-root us v, size-at (history m l) v) in
         rw (span-found v above upto)

@@ -7,7 +7,7 @@ use mathlib.Core.List.{List, [], ◌∷◌, ◌++◌}
 use Prim.Native.Nat.{ℕ, ◌+◌, ◌≤◌, ◌<◌}
 use native.Mathlib.Omega.{arith}
 use borrow.Author.Tests.{eq-eqb}
-use Rattle.table.specs.Table.{Cond, ◌≤?◌, ◌≡?◌, always, holds, Row, ◌gives◌, first_refusal, every-call, put_rows, assign_rows, weave_rows, read_rows, page_rows}
+use Rattle.table.specs.Table.{Cond, ◌≤?◌, ◌≡?◌, always, holds, Row, ◌gives◌, first_refusal, every_call, put_rows, assign_rows, weave_rows, read_rows, page_rows}
 use Rattle.versions.specs.Store.{areas_differ}
 use Rattle.table.proofs.Table.{Fails, holds-true, holds-false, fails, every-call, number-cases}
 use Rattle.model.specs.Model.{Limits, Model}
@@ -57,7 +57,7 @@ rows_then ((c gives k) ∷ rows) more h =
 
 -- Row 3 does not hold, the call's own rows agree, and where they pass row 19 does not hold: the number is that of the model's rows.
 pub number_same : (differ : Cond) (rows rest : List Row) (lost : Cond) → holds differ ≡ false → Alike rows rest → (first_refusal rest ≡ 0 → Fails lost)
-    → first_refusal (every-call differ rows lost) ≡ first_refusal rest
+    → first_refusal (every_call differ rows lost) ≡ first_refusal rest
 unfolding first_refusal
 number_same differ rows rest lost e a h =
     let s = alike rows rest a in
@@ -68,7 +68,7 @@ number_same differ rows rest lost e a h =
 
 -- On the image of a sound model row 3 never holds.
 pub image-number : (L : Limits) (m : Model) → Sound L m → (rows rest : List Row) (lost : Cond) → Alike rows rest → (first_refusal rest ≡ 0 → Fails lost)
-    → first_refusal (every-call (areas_differ (store_image L m) (areas_image L m)) rows lost) ≡ first_refusal rest
+    → first_refusal (every_call (areas_differ (store_image L m) (areas_image L m)) rows lost) ≡ first_refusal rest
 image-number L m S rows rest lost a h = number_same (areas_differ (store_image L m) (areas_image L m)) rows rest lost (areas-agree L m S) a h
 
 -- ---- the calls' own rows: what they read need agree only where no row has decided

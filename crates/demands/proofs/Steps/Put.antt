@@ -14,7 +14,7 @@ use Rattle.tree.proofs.Meets.{lt-or-le}
 use Rattle.register.specs.Register.{with_record}
 use Rattle.register.specs.declared.Record.{Record}
 use Rattle.table.specs.Table.{◌<?◌, ◌≤?◌, ◌or◌, always, put_rows, unless}
-use Rattle.versions.specs.Store.{lengths_of, record-of}
+use Rattle.versions.specs.Store.{lengths_of, record_of}
 use Rattle.put.specs.Put.{ticket_page, bit_of, put_refusal, put_in, with_put, with_bit}
 use Rattle.model.specs.Calls.{PUT, put_done, answers}
 use Rattle.model.specs.History.{Version, no_version, pages_of, is_filled, bit_if}
@@ -44,17 +44,17 @@ module _ (L : Limits) (m : Model) (S : Sound L m) (i : ℕ) (bytes : List ℕ) w
   -- ---- the number
 
   put_reads : (t : ℕ) → 0 < t → t ≤ length m.tickets
-      → let r = record-of (areas_image L m) t in
+      → let r = record_of (areas_image L m) t in
       PutReads t L.updates r.update (ticket_update m t) r.n (pages_of (ticket_in m t)) (bit_of r.put i) (bit_if (is_filled (get_or (ticket_in m t).slots i none)))
   put_reads zero o h = absurd (omega arith)
   put_reads (suc t) o h =
       let e = record-at L m t (omega (arith, S.records)) in
       record { there = omega (arith, S.records); version = rw e; pages = rw e; bit = rw e (mask-bit (ticket_in m (suc t)).slots i) }
 
-  put-number : (t : ℕ) → put_refusal (store_image L m) (lengths_of (areas_image L m)) (record-of (areas_image L m) t) t i (length bytes) ≡ put_number L m t i bytes
+  put-number : (t : ℕ) → put_refusal (store_image L m) (lengths_of (areas_image L m)) (record_of (areas_image L m) t) t i (length bytes) ≡ put_number L m t i bytes
   unfolding put_refusal
   put-number t =
-      let r = record-of (areas_image L m) t in
+      let r = record_of (areas_image L m) t in
       image-number
       L
       m
@@ -99,7 +99,7 @@ module _ (L : Limits) (m : Model) (S : Sound L m) (i : ℕ) (bytes : List ℕ) w
           mask-put (ticket_in m (suc t)).slots i bytes (S.tickets (suc t) p.from p.upto).few p.slot p.empty,
         )
 
-    put-register : with_record (register_image L m) t (with_put (record-of (areas_image L m) (suc t)) i) ≡ register_image L (filled_at L m (suc t) i bytes)
+    put-register : with_record (register_image L m) t (with_put (record_of (areas_image L m) (suc t)) i) ≡ register_image L (filled_at L m (suc t) i bytes)
     put-register =
         let k = filled_ticket L m (suc t) i bytes in
         let s = filled-pages L m (suc t) i bytes in
@@ -112,7 +112,7 @@ module _ (L : Limits) (m : Model) (S : Sound L m) (i : ℕ) (bytes : List ℕ) w
 
   put-image : (t : ℕ) → PutPassed L m t i bytes
       → state_of (store_image L m) (windows_image m) (put (pages_image L m) (L.size * ticket_page (areas_image L m) t i) bytes) (nodes_image L m)
-      (with_record (register_image L m) (pred t) (with_put (record-of (areas_image L m) t) i))
+      (with_record (register_image L m) (pred t) (with_put (record_of (areas_image L m) t) i))
       ≡ image L (filled_at L m t i bytes)
   put-image zero p = absurd (omega (arith, p.from))
   put-image (suc t) p =

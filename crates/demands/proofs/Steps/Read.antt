@@ -12,12 +12,12 @@ use Rattle.table.proofs.Table.{unless-same}
 use Rattle.versions.specs.Store.{Areas, number_on, part_on}
 use Rattle.versions.specs.Size.{is_there, not_there, bytes_in}
 use Rattle.walk.specs.FindPage.{page_number_of, is_lost}
-use Rattle.read.specs.Read.{some_lost, pages_touched, read-number, byte_of, bytes_from}
+use Rattle.read.specs.Read.{some_lost, pages_touched, read_number, byte_of, bytes_from}
 use Rattle.model.specs.Calls.{read}
 use Rattle.model.specs.History.{version_at}
 use Rattle.model.specs.InTurn.{blob_at, bytes_at}
 use Rattle.model.specs.Model.{Limits, Model, line_at, history, number_in}
-use Rattle.model.specs.OnModel.{model_outcome, read-number as model_number}
+use Rattle.model.specs.OnModel.{model_outcome, read_number as model_number}
 use Rattle.model.proofs.Model.Sound.{Sound}
 use Rattle.model.proofs.History.SoundHistory.{line-history}
 use Rattle.model.proofs.Model.Shown.{versions-length}
@@ -83,8 +83,8 @@ module _ (L : Limits) (m : Model) (S : Sound L m) (l : ℕ) (there : l < length 
       ∙ sym (bytes-range L (history m l) (line-history L m S l there) v offset len (omega (arith, published-upto L m S l there v h, versions-length m l)) r)
 
 module _ (L : Limits) (m : Model) (S : Sound L m) (l v offset len : ℕ) (buffer : List ℕ) where
-  pub read-number : read-number (store_image L m) (areas_image L m) l v offset len buffer ≡ model_number L m l v offset len buffer
-  unfolding read-number
+  pub read-number : read_number (store_image L m) (areas_image L m) l v offset len buffer ≡ model_number L m l v offset len buffer
+  unfolding read_number
   read-number =
       let s = store_image L m in
       let a = areas_image L m in

@@ -10,12 +10,12 @@ use Rattle.register.specs.Register.{no_record, part_of, version_record}
 use Rattle.register.specs.declared.Part.{Part}
 use Rattle.register.proofs.Records.{version-own}
 use Rattle.versions.specs.Store.{lines_in, line_in, number_on, part_on}
-use Rattle.versions.specs.Size.{pages_by, pages_in, bytes_by, bytes_in, not_there, size-number, sized}
+use Rattle.versions.specs.Size.{pages_by, pages_in, bytes_by, bytes_in, not_there, size_number, sized}
 use Rattle.table.specs.Table.{first_refusal, size_rows}
 use Rattle.model.specs.Calls.{size, size_is, says, answers}
 use Rattle.model.specs.History.{version_at}
 use Rattle.model.specs.Model.{Limits, Model, line_at, history, number_in}
-use Rattle.model.specs.OnModel.{model_outcome, size-number as model_number}
+use Rattle.model.specs.OnModel.{model_outcome, size_number as model_number}
 use Rattle.model.proofs.Model.Sound.{Sound}
 use Rattle.model.proofs.History.SoundHistory.{line-history, size_small}
 use Rattle.model.proofs.Model.Shown.{shown_at, versions-length}
@@ -56,8 +56,8 @@ module _ (L : Limits) (m : Model) (S : Sound L m) (l : ℕ) (there : l < length 
       (omega (arith, mul-le-mul S.allowed.page_size (size_small L (history m l) (line-history L m S l there) v (omega (arith, versions-length m l)))))
 
 module _ (L : Limits) (m : Model) (S : Sound L m) (l : ℕ) where
-  size-number : (v : ℕ) → size-number (store_image L m) (areas_image L m) l v ≡ model_number L m l v
-  unfolding size-number
+  size-number : (v : ℕ) → size_number (store_image L m) (areas_image L m) l v ≡ model_number L m l v
+  unfolding size_number
   size-number v =
       rw (lines-in L m S, line-in L m S l)
       (let rows = size_rows l (length m.lines) v (line_at m l).published in

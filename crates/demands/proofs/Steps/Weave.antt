@@ -28,8 +28,8 @@ use Rattle.table.specs.Table.{◌≤?◌, ◌<?◌, ◌or◌, always, unless, we
 use Rattle.table.proofs.Table.{Fails, number-cases, or_else-0, or_else-suc}
 use Rattle.weave.specs.declared.Woven.TheVariants as Woven
 use Rattle.versions.specs.declared.Store.{Store}
-use Rattle.versions.specs.Store.{lengths_of, record-of}
-use Rattle.weave.specs.Weave.{next_node, place_of, next-place, leaf_past, weave_refusal, woven_update, woven_record, woven_part, older_number, meets_left, meets_right, lost_half, lost_child, lost_by, weave_number, kept, left_number, right_number, first_page, span_of, with_woven, node_of}
+use Rattle.versions.specs.Store.{lengths_of, record_of}
+use Rattle.weave.specs.Weave.{next_node, place_of, next_place, leaf_past, weave_refusal, woven_update, woven_record, woven_part, older_number, meets_left, meets_right, lost_half, lost_child, lost_by, weave_number, kept, left_number, right_number, first_page, span_of, with_woven, node_of}
 use Rattle.model.specs.Calls.{WEAVE, node_is, says}
 use Rattle.model.specs.History.{History, to_update, updates}
 use Rattle.model.specs.Model.{Limits, Model, line_at, update_at, history, ticket_update, numbered, number_in}
@@ -150,7 +150,7 @@ module _ (L : Limits) (m : Model) (S : Sound L m) (t : ℕ) (o : 0 < t) (h : t �
 
   module _ (got : 0 < ticket_update m t) where
     its-part : woven_part (areas_image L m) t ≡ part_of (record_image m (pred (ticket_update m t)))
-    its-part = ap (λ (k : ℕ). part_of (record-of (areas_image L m) k)) update-is ∙ part-image L m S (ticket_update m t) got (update-le m t)
+    its-part = ap (λ (k : ℕ). part_of (record_of (areas_image L m) k)) update-is ∙ part-image L m S (ticket_update m t) got (update-le m t)
 
     its-woven : (woven_part (areas_image L m) t).woven ≡ (ticket_in m t).woven
     its-woven =
@@ -234,7 +234,7 @@ module _ (L : Limits) (m : Model) (S : Sound L m) (t : ℕ) (p : WeavePassed m t
       let n : suc (pred version) ≡ version = omega (arith, sound.own) in
       rw n at (newest-within (updates (history m line)) (pred version) a (2 ^ k) (rw n x) (rw n y))
 
-  reads : Reads (store_image L m) (nodes_image L m) (register_image L m) (record-of (areas_image L m) t) part (history m line) version (slot_number m t 0)
+  reads : Reads (store_image L m) (nodes_image L m) (register_image L m) (record_of (areas_image L m) t) part (history m line) version (slot_number m t 0)
   reads = record {
     begins = number-of L m S t p.from p.upto;
     its = its-update L m S t p.from p.upto p.assigned ∙ sym (own-update L m S its p.assigned (update-le m t));
@@ -278,10 +278,10 @@ module _ (L : Limits) (m : Model) (S : Sound L m) (t : ℕ) (p : WeavePassed m t
       rw (own-update L m S its p.assigned (update-le m t)) (from, omega arith)
   leaf-low (node a (suc h)) e = tt
 
-  next-place : next-place part ≡ node_place m its (ticket_in m t).woven
+  next-place : next_place part ≡ node_place m its (ticket_in m t).woven
   next-place = rw (its-place L m S t p.from p.upto p.assigned, woven-is) (sym (place-from m its (ticket_in m t).woven (λ j h. stands-unpublished m its j (next-late L m S t p) (omega (arith, p.left)))))
 
-  leaf-not : Fails (leaf_past (store_image L m) (record-of (areas_image L m) t) part (next_node part))
+  leaf-not : Fails (leaf_past (store_image L m) (record_of (areas_image L m) t) part (next_node part))
   leaf-not = rw next-node (leaf-fails reads (slot_number m t) L.pages S.allowed.pages refl next (leaf-low next refl))
 
   -- The node's numbers.
@@ -306,7 +306,7 @@ module _ (L : Limits) (m : Model) (S : Sound L m) (t : ℕ) (p : WeavePassed m t
       span-node : span_of (next_node part) ≡ span_in next
       span-node = rw next-node (span_same next)
 
-  nodes-after : with_node (nodes_image L m) (next-place part) (node_of (store_image L m) (areas_image L m) t).left (node_of (store_image L m) (areas_image L m) t).right
+  nodes-after : with_node (nodes_image L m) (next_place part) (node_of (store_image L m) (areas_image L m) t).left (node_of (store_image L m) (areas_image L m) t).right
       ≡ nodes_image L (woven L m t)
   nodes-after = rw (next-place, left-node, right-node) (woven-nodes L m t S p (next-stands L m S t p) _ _ (rw (update-ticket m t p.assigned)))
 
@@ -325,25 +325,25 @@ unless-state L m m' (suc k) nodes register e = refl
 
 module _ (L : Limits) (m : Model) (S : Sound L m) (t : ℕ) where
   -- The table's number, before the search.
-  table-number : weave_refusal (store_image L m) (lengths_of (areas_image L m)) (record-of (areas_image L m) t) (woven_part (areas_image L m) t) t ≡ model_number L m t
+  table-number : weave_refusal (store_image L m) (lengths_of (areas_image L m)) (record_of (areas_image L m) t) (woven_part (areas_image L m) t) t ≡ model_number L m t
   unfolding weave_refusal
   table-number =
       let a = areas_image L m in
       let s = store_image L m in
       let k = ticket_update m t in
-      let r = record-of a t in
+      let r = record_of a t in
       let q = woven_part a t in
       let c = count_of (to_update m.tickets (update_at m k)) in
       image-number L m S
       (weave_rows (t ≤? L.updates) (woven_update a t ≤? L.updates) t (length m.tickets) (woven_update a t) q.woven q.count)
       (weave_rows always always t (length m.tickets) k (ticket_in m t).woven c)
-      (L.updates <? t or L.updates <? woven_update a t or L.nodes ≤? next-place q or leaf_past s r q (next_node q))
+      (L.updates <? t or L.updates <? woven_update a t or L.nodes ≤? next_place q or leaf_past s r q (next_node q))
       (weave-alike t (length m.tickets) L.updates (woven_update a t) k q.woven (ticket_in m t).woven q.count c (weave-reads L m S t))
       (λ z.
       let p = weave-passed L m t z in
       let e = update-is L m S t p.from p.upto in
       let room = place-room L m S k (ticket_in m t).woven p.assigned (update-le m t) (next-stands L m S t p) in
-      let low : next-place q < L.nodes = omega (arith, next-place L m S t p) in
+      let low : next_place q < L.nodes = omega (arith, next-place L m S t p) in
       (ticket-room L m S t p.upto, (omega (arith, update-room L m S k (update-le m t)), (low, leaf-not L m S t p))))
 
   -- Where the table passes nothing that is looked for is lost.
@@ -355,7 +355,7 @@ module _ (L : Limits) (m : Model) (S : Sound L m) (t : ℕ) where
 
   state-after : WeavePassed m t
       → state_of (store_image L m) (windows_image m) (pages_image L m)
-      (with_node (nodes_image L m) (next-place (woven_part (areas_image L m) t)) (node_of (store_image L m) (areas_image L m) t).left (node_of (store_image L m) (areas_image L m) t).right)
+      (with_node (nodes_image L m) (next_place (woven_part (areas_image L m) t)) (node_of (store_image L m) (areas_image L m) t).left (node_of (store_image L m) (areas_image L m) t).right)
       (with_record (register_image L m) (pred (woven_update (areas_image L m) t)) (with_woven (woven_record (areas_image L m) t)))
       ≡ image L (woven L m t)
   state-after p = state-same (woven-store L m t S p) (woven-pages L m t S p) (nodes-after L m S t p) (register-after L m S t p)

@@ -1,7 +1,7 @@
 -- `tree::node_by_number` meets its contract: the node over the first page, or the one at its number in the whole tree.
 -- Assumes nothing.
 use Rattle.std.proofs.Common.{◌≡◌, ℕ, ◌-◌, ◌/◌, ◌^◌, ◌≤◌, ap, ◌∙◌, arith, pow_pos, rules}
-use Rattle.tree.specs.Contract.{root-in, height_in}
+use Rattle.tree.specs.Contract.{root_in, height_in}
 use Rattle.tree.proofs.Root.{halved-span}
 use Rattle.tree.proofs.Word.{own_power, height-in-low}
 use Rattle.tree.proofs.Whole.{numbered-early, numbered-late}
@@ -9,7 +9,7 @@ use Rattle.tree.proofs.node_by_number.Statement.{statement}
 use Rattle.tree.proofs.node_by_number.Tie as tie
 
 -- The span of the node so many heights below the root.
-span_below : (s k : ℕ) → root-in s ≡ s → k ≤ height_in s → s / 2 ^ k ≡ 2 ^ (height_in s - k)
+span_below : (s k : ℕ) → root_in s ≡ s → k ≤ height_in s → s / 2 ^ k ≡ 2 ^ (height_in s - k)
 span_below s k e p = ap (λ (n : ℕ). n / 2 ^ k) (own_power s e) ∙ halved-span (height_in s) k p
 
 height-of-requires : tie.Need-height-of-requires

@@ -3,7 +3,7 @@
 use Rattle.std.proofs.Common.{◌≡◌, ℕ, ◌+◌, ◌-◌, ◌%◌, ◌^◌, ◌<◌, ◌≤◌, ◌⊎◌, sym, ap, ◌∙◌, inl, inr, ⊎_elim, arith, pow_pos, pow_mono, rules, eqb-true}
 use borrow.Author.Tests.{eqb-false}
 use lib.Bits.{bit_and}
-use Rattle.tree.specs.Contract.{root-in}
+use Rattle.tree.specs.Contract.{root_in}
 use Rattle.tree.proofs.Root.{height-le}
 use Rattle.tree.proofs.Word.{word_holds, root-in-power}
 use Rattle.tree.proofs.Power.{power-shares-none, shares-none-power}
@@ -14,15 +14,15 @@ wrapping-sub-u64-requires : tie.Need-wrapping-sub-u64-requires
 wrapping-sub-u64-requires c κs = search rules
 
 -- The word is above 0 where the number below it is small: so nothing wrapped.
-passes : (s below : ℕ) → (below + 1) % 2 ^ 64 ≡ s → below < 4096 → bit_and s below ≡ 0 → s ≡ root-in s
+passes : (s below : ℕ) → (below + 1) % 2 ^ 64 ≡ s → below < 4096 → bit_and s below ≡ 0 → s ≡ root_in s
 passes s below e p q =
     let b : below ≡ s - 1 = omega arith in
     let t = shares-none-power s s (omega arith) (omega arith) (rw b at q) in
     let low = height-le 12 t.0 (omega (arith, t.1)) in
-    t.1 ∙ sym (ap root-in t.1 ∙ root-in-power t.0 low)
+    t.1 ∙ sym (ap root_in t.1 ∙ root-in-power t.0 low)
 
 -- A power of two up to 4,096 passes.
-fails : (s below : ℕ) → below < 2 ^ 64 → (below + 1) % 2 ^ 64 ≡ s → (4096 ≤ below) ⊎ (bit_and s below ≡ 0 → ⊥) → 4096 ≡ root-in s
+fails : (s below : ℕ) → below < 2 ^ 64 → (below + 1) % 2 ^ 64 ≡ s → (4096 ≤ below) ⊎ (bit_and s below ≡ 0 → ⊥) → 4096 ≡ root_in s
 fails s below w e none = elim (word_holds s) [
   | inl t ↦
       let m = pow_mono t.1 in

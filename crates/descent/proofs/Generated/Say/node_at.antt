@@ -6,7 +6,7 @@ use lib.Count.{ones}
 use Rattle.tree.specs.Place.{kth, first, halvings, node_numbered}
 use Rattle.tree.specs.NodeArea.{node_at, with_node}
 use Rattle.tree.specs.Cases.{table, every}
-use Rattle.tree.specs.Contract.{root_span, root-in, height_in, height_for, nodes_for, Pages, Counted, Names}
+use Rattle.tree.specs.Contract.{root_span, root_in, height_in, height_for, nodes_for, Pages, Counted, Names}
 use Rattle.tree.specs.declared.NodeAt.{NodeAt}
 use Rattle.tree.specs.declared.PageIndex.{PageIndex}
 use Rattle.tree.specs.declared.Ticket.{Ticket}

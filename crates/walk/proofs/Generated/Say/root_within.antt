@@ -6,7 +6,7 @@ use lib.Count.{ones}
 use Rattle.tree.specs.Place.{kth, first, halvings, node_numbered}
 use Rattle.tree.specs.NodeArea.{node_at, with_node}
 use Rattle.tree.specs.Cases.{table, every}
-use Rattle.tree.specs.Contract.{root_span, root-in, height_in, height_for, nodes_for, Pages, Counted, Names}
+use Rattle.tree.specs.Contract.{root_span, root_in, height_in, height_for, nodes_for, Pages, Counted, Names}
 use Rattle.tree.specs.declared.Found.{Found}
 use Rattle.tree.specs.declared.NodeAt.{NodeAt}
 use Rattle.tree.specs.declared.PageIndex.{PageIndex}
@@ -14,7 +14,7 @@ use Rattle.tree.specs.declared.Ticket.{Ticket}
 use Rattle.tree.specs.declared.Version.{Version}
 
 abbrev pub ens : ℕ → ℕ → Type 0
-ens span r = r ≡ root-in span
+ens span r = r ≡ root_in span
 
 abbrev pub res : ℕ → ℕ
-res span = root-in span
+res span = root_in span
