@@ -1,4 +1,5 @@
 // What the store answers to a step of the step program, written as a line of text; and what is kept between steps.
+#![tactic(auto)]
 ghost use Rattle.std.specs.Prelude.{◌≡◌, min};
 ghost use Rattle.answers.specs.Answers.{turned, plainly, refused_said, replied, opening, format_said, begin_said, put_said, assign_said, weave_said, publish_said, branch_said, size_said, recent_said, stamp_said, worst_said, bytes_said, read_said};
 
@@ -16,14 +17,14 @@ use weave::Woven;
 
 // What is kept between steps: whether a store is open, and the store. Where none is open the store has no pages, nodes or updates, so that the
 // areas that it is lent are empty and no call writes to them.
-#[derive(Drop)]
+#[derive(Clone, Copy)]
 pub struct Kept {
     pub open: bool,
     pub store: Store,
 }
 
 // What a step leaves: what is kept, and its answer, the first `len` bytes of `line`. The longest is READ's, with 256 bytes: 519.
-#[derive(Drop)]
+#[derive(Clone, Copy)]
 pub struct Turn {
     pub kept: Kept,
     pub line: [u8; 520],

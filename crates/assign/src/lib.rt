@@ -1,4 +1,5 @@
 // ASSIGN, as a write or an append: the next version of a line and its node count.
+#![tactic(auto)]
 ghost use Rattle.std.specs.Prelude.{◌≡◌, suc, pred, min, max, ◌+◌, ◌-◌, ◌^◌, ◌<◌, ◌≤◌, ltb, get_or, [], ◌∷◌};
 ghost use Rattle.tree.specs.Tree.{count_of, nth};
 ghost use Rattle.register.specs.Register.{no_record, with_record};
@@ -17,20 +18,20 @@ use versions::{
 };
 
 // What ASSIGN answers: the version and its node count.
-#[derive(Drop)]
+#[derive(Clone, Copy)]
 pub enum Assigned {
     Given(Version, u64),
     Refused(u64),
 }
 
-#[derive(Drop)]
+#[derive(Clone, Copy)]
 pub struct AssignOut {
     pub store: Store,
     pub answer: Assigned,
 }
 
 // An update that is to be: its pages and the size in pages after it, as its record keeps them, and what follows from these.
-#[derive(Drop)]
+#[derive(Clone, Copy)]
 struct NewUpdate {
     f: PageIndex,
     last: PageIndex,

@@ -1,4 +1,5 @@
 // BEGIN: the next ticket, with the next page numbers.
+#![tactic(auto)]
 ghost use Rattle.std.specs.Prelude.{◌≡◌, ◌+◌, ◌^◌, ◌<◌};
 ghost use Rattle.versions.specs.Store.{areas_of};
 ghost use Rattle.begin.specs.Begin.{begin_refusal, with_ticket_part, begun_by, begin_out, begin_register};
@@ -8,13 +9,13 @@ use tree::Ticket;
 use versions::{Lengths, Store, areas_differ, lengths_of, put_record};
 
 // What BEGIN answers.
-#[derive(Drop)]
+#[derive(Clone, Copy)]
 pub enum Begun {
     Given(Ticket),
     Refused(u64),
 }
 
-#[derive(Drop)]
+#[derive(Clone, Copy)]
 pub struct BeginOut {
     pub store: Store,
     pub answer: Begun,

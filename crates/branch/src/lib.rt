@@ -1,4 +1,5 @@
 // BRANCH: a new line from a published version of a line, sharing all up to it.
+#![tactic(auto)]
 ghost use Rattle.std.specs.Prelude.{◌≡◌, [], ◌∷◌};
 ghost use Rattle.table.specs.Table.{◌≤?◌, ◌gives◌, first_refusal, or_else};
 ghost use Rattle.versions.specs.Store.{areas_of};
@@ -11,13 +12,13 @@ use tree::Version;
 use versions::{Store, lengths_of, lines_begun, number_on, pages_by, snapshot_refusal, with_line};
 
 // What BRANCH answers.
-#[derive(Drop)]
+#[derive(Clone, Copy)]
 pub enum Branched {
     Begun(Line),
     Refused(u64),
 }
 
-#[derive(Drop)]
+#[derive(Clone, Copy)]
 pub struct BranchOut {
     pub store: Store,
     pub answer: Branched,

@@ -45,8 +45,8 @@ abbrev pub count_by : List Ticket → Version → ℕ
 count_by ks u = either (ltb 0 u.ticket) (count_of (to_update ks u)) 0
 
 -- The update that is line l's own version v; 0 where that is shared or not there.
-abbrev pub field_own : Model → ℕ → ℕ → ℕ
-field_own m l v = either (ltb (line_at m l).start v) (nth 0 (line_at m l).shown v) 0
+abbrev pub own_at : Model → ℕ → ℕ → ℕ
+own_at m l v = either (ltb (line_at m l).start v) (nth 0 (line_at m l).shown v) 0
 
 -- What a record says of an update of these tickets, with the place at which its nodes begin.
 abbrev pub part_image : List Ticket → Version → ℕ → Part
@@ -71,7 +71,7 @@ record_image m i =
     (with_ticket_fields no_record (pages_of k) (number_at m i) (mask_of k.slots) (ticket_update m (suc i)))
     (record { 0 = u.ticket })
     (part_image m.tickets u (first_place_at m i)))
-    (entries_of (λ l. field_own m l (suc i)))
+    (entries_of (λ l. own_at m l (suc i)))
 
 unfoldable pub register_image : Limits → Model → List Record
 register_image L m = tab L.updates (record_image m)

@@ -1,4 +1,5 @@
 // Where a version's nodes lie, and the walk from a node down the halves to a node of a smaller span.
+#![tactic(auto)]
 
 ghost use Rattle.std.specs.Prelude.{◌≡◌, ℕ, ◌+◌, ◌-◌, ◌/◌, ◌%◌, ◌^◌, ◌<◌, nat_lt};
 ghost use Rattle.tree.specs.Walk.{reach_by};

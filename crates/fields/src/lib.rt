@@ -1,11 +1,13 @@
 // The fields of a line of text: what stands between its commas, a field's number, and page bytes in hexadecimal. No public function has a `requires`.
+#![tactic(auto)]
+
 ghost use Rattle.std.specs.Prelude.{◌≡◌, true, [], length, get_or};
 ghost use Rattle.text.specs.Text.{same};
 ghost use Rattle.text.specs.Buffer.{front};
 ghost use Rattle.fields.specs.Fields.{fields_of, starts_plain, field_number, hex_value, is_hex, unhex, decoded_in};
 
 // A field's number, if it is one.
-#[derive(Drop)]
+#[derive(Clone, Copy)]
 pub enum Number {
     Is(u64),
     Not,

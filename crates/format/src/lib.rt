@@ -1,4 +1,5 @@
 // FORMAT: the store that limits make, and its areas filled.
+#![tactic(auto)]
 ghost use Rattle.std.specs.Prelude.{◌≡◌, length, replicate};
 ghost use Rattle.tree.specs.NodeArea.{all_ones};
 ghost use Rattle.register.specs.Register.{no_record};
@@ -12,7 +13,7 @@ use versions::{Lengths, Store, areas_differ, lengths_of};
 use windows::{Windows, no_windows};
 
 // What FORMAT answers: a store, and no windows. Here and below, the number of a refusal is that of the table of refusals.
-#[derive(Drop)]
+#[derive(Clone, Copy)]
 pub enum Formatted {
     Made(Store, Windows),
     Refused(u64),

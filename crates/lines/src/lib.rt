@@ -1,5 +1,7 @@
 // Planning lines: a line's state, the numbers that name a version of a line, and for each line the record of its own version. A store holds sixteen states in
 // words; what packs and unpacks one stands here, and what reads the store's where the store does.
+#![tactic(auto)]
+
 ghost use Rattle.std.specs.Prelude.{◌≡◌, ◌<◌};
 ghost use Rattle.lines.specs.Lines.{no_branch, line_of, version_of, number_of, field_of, with_field, packed, unpacked, source_at, with_source, no_entries, entry_at, with_entry};
 
@@ -7,12 +9,12 @@ use tree::Version;
 
 // A line, counted from 0 in the order in which they begin.
 #[repr(C)]
-#[derive(Drop)]
+#[derive(Clone, Copy)]
 pub struct Line(pub u64);
 
 // A line's state: the line and the version that it begins from, the last version assigned, the last one published, and the size in pages of the last
 // assigned one.
-#[derive(Drop)]
+#[derive(Clone, Copy)]
 pub struct Branch {
     pub source: Line,
     pub start: Version,
@@ -23,7 +25,7 @@ pub struct Branch {
 
 // For each line the number of the update that is its own version, 16 bits a line, four lines a word; 0 where it has none.
 #[repr(C)]
-#[derive(Drop)]
+#[derive(Clone, Copy)]
 pub struct Entries {
     pub from0: u64,
     pub from4: u64,

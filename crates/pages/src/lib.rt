@@ -1,5 +1,7 @@
 // The page area: a lent run of bytes in which page `number` of `size` bytes begins at size * number.
 // No public function has a `requires`: what runs past the area or a buffer is neither stored nor handed out, and what was to be written is left as it was.
+#![tactic(auto)]
+
 ghost use Rattle.std.specs.Prelude.{◌≡◌, ◌-◌, ◌*◌, ◌^◌, ◌≤◌, min, length, take};
 ghost use Rattle.text.specs.Text.{same};
 ghost use Rattle.pages.specs.Pages.{over, fits, put, part};

@@ -1,4 +1,5 @@
 // The step program's text, read: lines cut out of a stream of bytes, and the step that a line means. No public function has a `requires`.
+#![tactic(auto)]
 ghost use Rattle.std.specs.Prelude.{◌≡◌, length};
 ghost use Rattle.text.specs.Buffer.{front};
 ghost use Rattle.fields.specs.Fields.{hex_of};
@@ -8,7 +9,7 @@ ghost use Rattle.parse.specs.Cut.{fresh, fed_by, kept_by, unended_in, cut_meant,
 use fields::{Number, decode, field, field_count, number_in, word_is};
 
 // What a line of text asks for. A step that names a planning line has it first, and Publish the minute of the week last. Put holds how many page bytes the text has.
-#[derive(Drop)]
+#[derive(Clone, Copy)]
 pub enum Step {
     Format(u64, u64, u64, u64),
     Begin(u64),
@@ -27,7 +28,7 @@ pub enum Step {
 }
 
 // Where the cutting of lines stands: how many bytes of the line are kept in the buffer, and whether the line has more than the buffer holds.
-#[derive(Drop)]
+#[derive(Clone, Copy)]
 pub struct Cutter {
     pub len: usize,
     pub over: bool,
@@ -35,7 +36,7 @@ pub struct Cutter {
 
 // What a byte brought: the line goes on, or its line feed ended it. A line that ended is the first len bytes of the buffer, or over; the next
 // begins with a fresh cutter.
-#[derive(Drop)]
+#[derive(Clone, Copy)]
 pub enum Fed {
     More(Cutter),
     Ended(Cutter),

@@ -1,4 +1,5 @@
 // PUBLISH: the version after a line's last published one, if it is woven whole; inside a window none.
+#![tactic(auto)]
 ghost use Rattle.std.specs.Prelude.{◌≡◌, true, not, ◌&&◌, [], ◌∷◌};
 ghost use Rattle.table.specs.Table.{◌<?◌, ◌gives◌, first_refusal, or_else};
 ghost use Rattle.versions.specs.Store.{areas_of, line_in};
@@ -11,7 +12,7 @@ use versions::{Store, capped_sum, lengths_of, line_refusal, line_state, with_lin
 use windows::{Windows, is_inside};
 
 // What PUBLISH answers.
-#[derive(Drop)]
+#[derive(Clone, Copy)]
 pub enum Published {
     Now(Version),
     Waiting,
@@ -19,7 +20,7 @@ pub enum Published {
     Refused(u64),
 }
 
-#[derive(Drop)]
+#[derive(Clone, Copy)]
 pub struct PublishOut {
     pub store: Store,
     pub answer: Published,

@@ -1,4 +1,5 @@
 // PUT: one page of a ticket's update.
+#![tactic(auto)]
 ghost use Rattle.std.specs.Prelude.{◌≡◌, pred, ◌*◌, ◌<◌};
 ghost use Rattle.pages.specs.Pages.{put};
 ghost use Rattle.table.specs.Table.{unless};
@@ -12,7 +13,7 @@ use tree::Ticket;
 use versions::{Lengths, Store, capped_sum, lengths_of, ticket_index, ticket_refusal};
 
 // What PUT answers.
-#[derive(Drop)]
+#[derive(Clone, Copy)]
 pub enum PutIn {
     Done,
     Refused(u64),

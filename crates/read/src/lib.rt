@@ -1,4 +1,5 @@
 // READ: a range of a version's bytes, copied to the front of a buffer.
+#![tactic(auto)]
 ghost use Rattle.std.specs.Prelude.{◌≡◌, ◌+◌, ◌^◌, ◌<◌, ◌≤◌, [], ◌++◌, ltb, length, drop};
 ghost use Rattle.table.specs.Table.{unless};
 ghost use Rattle.read.specs.Range.{range_refusal, range_number, Ranged, or_lost, chunk_at, Readable};
@@ -14,14 +15,14 @@ use versions::{ByteOffset, Store, bytes_by, lengths_of, number_on, pages_by, sna
 use walk::{find_page, is_lost, number_found};
 
 // What READ answers.
-#[derive(Drop)]
+#[derive(Clone, Copy)]
 pub enum Filled {
     Done,
     Refused(u64),
 }
 
 // A range of bytes of the blob, and how many the buffer has room for.
-#[derive(Drop)]
+#[derive(Clone, Copy)]
 struct Range {
     offset: ByteOffset,
     len: u64,
@@ -29,7 +30,7 @@ struct Range {
 }
 
 // What one page has of a range: the page, the first byte within it, and how many.
-#[derive(Drop)]
+#[derive(Clone, Copy)]
 struct Chunk {
     page: PageIndex,
     from: u64,

@@ -15,7 +15,7 @@ use Rattle.lines.proofs.Packed.{entry-none}
 use Rattle.register.specs.Register.{no_record, update_of, version_record, version_part, newest_own}
 use Rattle.register.specs.declared.Record.{Record}
 use Rattle.register.specs.declared.Part.{Part}
-use Rattle.register.proofs.Generated.Flow.{within}
+use Rattle.std.proofs.lemmas.List.{get_or_default}
 
 pub update_of-inside : (q : Part) → ((update_of q).f ≤ (update_of q).last) × ((update_of q).last < (update_of q).size) × ((update_of q).size ≤ 4096)
 unfolding update_of
@@ -30,7 +30,7 @@ nth-before rs (suc i) p = simp sub-one
 pub nth-pred : (rs : List Record) (k : ℕ) (past : Record) → 0 < k → pred k < length rs → get_or rs (pred k) past ≡ nth no_record rs k
 nth-pred rs k past p h =
     let before : pred k ≡ k - 1 = omega arith in
-    within rs (pred k) past no_record h ∙ ap (λ (j : ℕ). get_or rs j no_record) before ∙ nth-before rs k p
+    get_or_default rs (pred k) past no_record h ∙ ap (λ (j : ℕ). get_or rs j no_record) before ∙ nth-before rs k p
 
 -- The index of record k, which past any register stands for record 0.
 abbrev pub Indexes : ℕ → ℕ → Type 0

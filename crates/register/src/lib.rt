@@ -1,4 +1,5 @@
 // The register of updates: a lent run of records, one an update, and the search in it for the newest update over a range.
+#![tactic(auto)]
 ghost use Rattle.std.specs.Prelude.{◌≡◌, ◌+◌, ◌-◌, ◌^◌, ◌<◌, min, max, leb, get_or};
 ghost use Rattle.tree.specs.Tree.{nth};
 ghost use Rattle.register.specs.Register.{no_record, part_of, in_limits, limited, update_of, extent_of, with_record, version_part, newest_own, highest};
@@ -9,7 +10,7 @@ use tree::{LAST_PAGE, MOST_PAGES, PageIndex, Ticket, Version, saturating_sub, sm
 // A record of the register. Record k holds the k-th ticket's part, the part of the k-th update in the order of ASSIGN on all lines, and for each line which update is
 // its own version k. Each is counted up to the number of updates, so all fit, and each is found with no search.
 #[repr(C)]
-#[derive(Drop)]
+#[derive(Clone, Copy)]
 pub struct Record {
     // The ticket's pages, its first page number, which pages are put (bit i for page i), and the number of its update (0: none yet).
     pub n: u64,
@@ -33,7 +34,7 @@ pub struct Record {
 }
 
 // What a record says of its update: what a reader needs, so that no record is copied on the way to it.
-#[derive(Drop)]
+#[derive(Clone, Copy)]
 pub struct Part {
     pub name: u64,
     pub f: PageIndex,
@@ -47,7 +48,7 @@ pub struct Part {
 }
 
 // An update within the limits: its first and last page, and the size in pages after it.
-#[derive(Drop)]
+#[derive(Clone, Copy)]
 pub struct Extent {
     pub f: PageIndex,
     pub last: PageIndex,

@@ -1,5 +1,6 @@
 // What each call replies to C: structs of plain numbers, from the call's own answer, each by its definition in specs/Replies.
 // A reply begins with the number of the refusal, 0 where the call was accepted.
+#![tactic(auto)]
 ghost use Rattle.std.specs.Prelude.{◌≡◌};
 ghost use Rattle.replies.specs.Replies.{no_store, format_reply, begin_reply, put_reply, assign_reply, weave_reply, publish_reply, windows_reply, branch_reply, read_reply, size_reply, recent_reply, stamp_reply, view_reply};
 
@@ -19,7 +20,7 @@ use windows::{Windows, no_windows};
 
 // What FORMAT replies: the store, which is all zeros where FORMAT is refused, and its windows, of which there are none.
 #[repr(C)]
-#[derive(Drop)]
+#[derive(Clone, Copy)]
 pub struct FormatReply {
     pub refusal: u64,
     pub store: Store,
@@ -28,7 +29,7 @@ pub struct FormatReply {
 
 // What BEGIN replies. The ticket is 0 where BEGIN is refused.
 #[repr(C)]
-#[derive(Drop)]
+#[derive(Clone, Copy)]
 pub struct BeginReply {
     pub refusal: u64,
     pub store: Store,
@@ -37,7 +38,7 @@ pub struct BeginReply {
 
 // What ASSIGN replies: the version and its node count, both 0 where it is refused.
 #[repr(C)]
-#[derive(Drop)]
+#[derive(Clone, Copy)]
 pub struct AssignReply {
     pub refusal: u64,
     pub store: Store,
@@ -47,7 +48,7 @@ pub struct AssignReply {
 
 // What WEAVE replies: the node's name, its version as line x 65,536 + version; its two numbers and how many nodes are left; all 0 where it is refused.
 #[repr(C)]
-#[derive(Drop)]
+#[derive(Clone, Copy)]
 pub struct WeaveReply {
     pub refusal: u64,
     pub version: u64,
@@ -60,7 +61,7 @@ pub struct WeaveReply {
 
 // What PUBLISH replies: the version that it published, and 1 where it is held; both 0 is "waiting", or a refusal.
 #[repr(C)]
-#[derive(Drop)]
+#[derive(Clone, Copy)]
 pub struct PublishReply {
     pub refusal: u64,
     pub store: Store,
@@ -70,7 +71,7 @@ pub struct PublishReply {
 
 // What SETWINDOWS replies: the windows as it leaves them.
 #[repr(C)]
-#[derive(Drop)]
+#[derive(Clone, Copy)]
 pub struct WindowsReply {
     pub refusal: u64,
     pub windows: Windows,
@@ -78,7 +79,7 @@ pub struct WindowsReply {
 
 // What BRANCH replies: the new line; 0 where it is refused.
 #[repr(C)]
-#[derive(Drop)]
+#[derive(Clone, Copy)]
 pub struct BranchReply {
     pub refusal: u64,
     pub store: Store,
@@ -87,7 +88,7 @@ pub struct BranchReply {
 
 // What SIZE replies, in bytes.
 #[repr(C)]
-#[derive(Drop)]
+#[derive(Clone, Copy)]
 pub struct SizeReply {
     pub refusal: u64,
     pub bytes: u64,
@@ -95,7 +96,7 @@ pub struct SizeReply {
 
 // What RECENT and STAMP reply.
 #[repr(C)]
-#[derive(Drop)]
+#[derive(Clone, Copy)]
 pub struct VersionReply {
     pub refusal: u64,
     pub version: u64,
@@ -103,7 +104,7 @@ pub struct VersionReply {
 
 // What VIEW replies: where in the page area the part begins, and how long it is; both 0 where VIEW is refused.
 #[repr(C)]
-#[derive(Drop)]
+#[derive(Clone, Copy)]
 pub struct ViewReply {
     pub refusal: u64,
     pub begin: u64,

@@ -1,4 +1,5 @@
 // SETWINDOWS: a new list of windows, from its text, in place of the old one.
+#![tactic(auto)]
 ghost use Rattle.std.specs.Prelude.{◌≡◌, [], ◌∷◌};
 ghost use Rattle.table.specs.Table.{◌gives◌, first_refusal, or_else};
 ghost use Rattle.versions.specs.Store.{differ, areas_of};
@@ -9,13 +10,13 @@ use versions::{Lengths, Store, areas_differ, lengths_of};
 use windows::{Listed, Windows, read_list};
 
 // What SETWINDOWS answers.
-#[derive(Drop)]
+#[derive(Clone, Copy)]
 pub enum WindowsSet {
     Done,
     Refused(u64),
 }
 
-#[derive(Drop)]
+#[derive(Clone, Copy)]
 pub struct WindowsOut {
     pub windows: Windows,
     pub answer: WindowsSet,

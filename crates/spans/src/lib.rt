@@ -1,4 +1,6 @@
 // The root span of a size in pages, read from a table.
+#![tactic(auto)]
+
 ghost use Rattle.std.specs.Prelude.{◌≡◌, ℕ, ◌+◌, ◌*◌, ◌<◌, ◌≤◌, get_or};
 ghost use Rattle.spans.specs.Span.{root_span, SmallestPower};
 

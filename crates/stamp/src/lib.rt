@@ -1,4 +1,5 @@
 // STAMP: the version of a line since which a page has had the bytes that it has in a version.
+#![tactic(auto)]
 ghost use Rattle.std.specs.Prelude.{◌≡◌, []};
 ghost use Rattle.stamp.specs.Stamp.{page_refusal, version_found, found_by, leaf_as_of, same_below, since, stamped, stamp_out};
 ghost use Rattle.versions.specs.Store.{areas_of};
@@ -11,7 +12,7 @@ use versions::{Store, lengths_of, number_on, pages_by, snapshot_refusal};
 use walk::{find_page, is_lost, number_found};
 
 // What STAMP answers.
-#[derive(Drop)]
+#[derive(Clone, Copy)]
 pub enum Stamped {
     Is(Version),
     Refused(u64),

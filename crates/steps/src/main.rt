@@ -1,5 +1,6 @@
 // The step program: it reads steps from standard input, a line each, and writes one answer line each. `main` lends the arrays; `parse` cuts lines out of
 // what is read, and `respond` answers them.
+#![tactic(auto)]
 ghost use Rattle.std.specs.Prelude.{◌≡◌, ◌≤◌, length, true, not};
 ghost use Rattle.versions.specs.Store.{areas_of};
 ghost use Rattle.wanted.specs.Wanted.{nothing_kept};
@@ -11,7 +12,7 @@ use parse::{Cutter, Fed};
 use register::Record;
 
 // Where the program stands between two lines: what is kept, and whether it is to end, since an answer could not be written.
-#[derive(Drop)]
+#[derive(Clone, Copy)]
 struct Place {
     kept: Kept,
     ended: bool,
@@ -19,7 +20,7 @@ struct Place {
 
 // What is read of the input: the line so far, where the bytes of the block that are not yet taken begin and end, whether the line is to be answered, and
 // whether the input has ended.
-#[derive(Drop)]
+#[derive(Clone, Copy)]
 struct Input {
     cutter: Cutter,
     at: usize,

@@ -1,1 +1,2 @@
 // The table of refusals: definitions alone, in specs/, that the calls and the model cite.
+#![tactic(auto)]

@@ -93,12 +93,20 @@ grows-within h n f (suc m) s o p q r =
     let up : suc h - root_height s + root_height s ≡ suc h = omega (arith, low) in
     rw last (omega (arith, rw up at (count-higher f (f + m) (root_height s) (suc h - root_height s)), count-root f m h (omega arith), count_most f m h, more-pages (suc m) n h p))
 
-worst-reached : (h n : ℕ) → 0 < n → n ≤ 2 ^ h → node_count (2 ^ h - 1) n (2 ^ suc h) ≡ 1 + most_up_to n h
+count-is : (f n s : ℕ) → node_count f n s ≡ count f (f + n - 1) (root_height s)
 unfolding node_count
+count-is f n s = refl
+
+worst-reached : (h n : ℕ) → 0 < n → n ≤ 2 ^ h → node_count (2 ^ h - 1) n (2 ^ suc h) ≡ 1 + most_up_to n h
 worst-reached h zero o p = absurd (omega arith)
 worst-reached h (suc m) o p =
     let last : 2 ^ h - 1 + suc m - 1 ≡ 2 ^ h - 1 + m = omega arith in
-    rw (root-of-power (suc h), last) (omega (arith, count-root (2 ^ h - 1) m h (omega (arith, pow_pos h)), count-reached h m h (omega arith)))
+    let root : root_height (2 ^ suc h) ≡ suc h = root-of-power (suc h) in
+    let whole : count (2 ^ h - 1) (2 ^ h - 1 + suc m - 1) (root_height (2 ^ suc h)) ≡ count (2 ^ h - 1) (2 ^ h - 1 + m) (suc h) =
+    ap (λ (l : ℕ). count (2 ^ h - 1) l (root_height (2 ^ suc h))) last ∙ ap (count (2 ^ h - 1) (2 ^ h - 1 + m)) root in
+    count-is (2 ^ h - 1) (suc m) (2 ^ suc h)
+    ∙ whole
+    ∙ omega (arith, count-root (2 ^ h - 1) m h (omega (arith, pow_pos h)), count-reached h m h (omega arith))
 
 half : (h : ℕ) → 2 ^ suc h / 2 ≡ 2 ^ h
 half h = omega arith
@@ -157,8 +165,20 @@ worst-none r n none = go (asked r n) refl
     go true e = absurd (none (asked-true r n e))
     go false e = refl
 
+worst-for-is : (r n : ℕ) → asked r n ≡ true → worst r n ≡ worst_for r n
+unfolding worst_for
+worst-for-is r n e = sym (ap (λ (b : Bool). zero_unless b (worst r n)) e)
+
 pub worst-counted : (r n k : ℕ) (a : Asked r n) → k ≡ suc a.height → count (r / 2 - 1) (r / 2 - 1 + n - 1) k ≡ worst_for r n
-unfolding worst_for node_count
 worst-counted r n k a e =
     let h = a.height in
-    rw (e, a.power, half h, true-asked h n a.low a.some a.few a.half, worst-is h n) (rw (root-of-power (suc h)) at (worst-reached h n a.some a.half))
+    let asked-so : asked r n ≡ true = ap (λ (x : ℕ). asked x n) a.power ∙ true-asked h n a.low a.some a.few a.half in
+    let at : r / 2 ≡ 2 ^ h = ap (λ (x : ℕ). x / 2) a.power ∙ half h in
+    let same-height : k ≡ root_height (2 ^ suc h) = e ∙ sym (root-of-power (suc h)) in
+    ap (λ (q : ℕ). count (q - 1) (q - 1 + n - 1) k) at
+    ∙ ap (count (2 ^ h - 1) (2 ^ h - 1 + n - 1)) same-height
+    ∙ sym (count-is (2 ^ h - 1) n (2 ^ suc h))
+    ∙ worst-reached h n a.some a.half
+    ∙ sym (worst-is h n)
+    ∙ ap (λ (x : ℕ). worst x n) (sym a.power)
+    ∙ worst-for-is r n asked-so

@@ -26,9 +26,13 @@ module _ (f l a : ℕ) where
 
   pub kth-left : (h i : ℕ) → 0 < h → 0 < i → i - 1 < below f l a (h - 1) → kth f l a (h - 1) (i - 1) ≡ kth f l a h i
   unfolding kth
+  kth-left zero i p q r = elim p [ ]
+  kth-left (suc h) zero p q r = elim q [ ]
   kth-left (suc h) (suc i) p q r = simp sub-one (rw (lt-ltb i (below f l a h) (simp sub-one at r), kth))
 
   pub kth-right : (h i : ℕ) → 0 < h → 0 < i → below f l a (h - 1) ≤ i - 1
       → kth f l (a + 2 ^ (h - 1)) (h - 1) (i - 1 - below f l a (h - 1)) ≡ kth f l a h i
   unfolding kth
+  kth-right zero i p q r = elim p [ ]
+  kth-right (suc h) zero p q r = elim q [ ]
   kth-right (suc h) (suc i) p q r = simp sub-one (rw (le-ltb i (below f l a h) (simp sub-one at r), kth))

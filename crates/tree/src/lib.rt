@@ -1,4 +1,5 @@
 // The tree of a version: spans, the nodes that an update makes and their order, and the node area.
+#![tactic(auto)]
 ghost use Rattle.std.specs.Prelude.{◌≡◌, ℕ, ◌+◌, ◌-◌, ◌*◌, ◌^◌, ◌<◌, min, true, count_ones};
 ghost use Rattle.tree.specs.Place.{kth, first, halvings, node_numbered};
 ghost use Rattle.tree.specs.NodeArea.{node_at, with_node};
@@ -10,33 +11,33 @@ use spans::root_span;
 
 // A version, a page's index in the blob and a ticket are counters of different sorts, and each has a type of its own.
 #[repr(C)]
-#[derive(Drop)]
+#[derive(Clone, Copy)]
 pub struct Version(pub u64);
 
 #[repr(C)]
-#[derive(Drop)]
+#[derive(Clone, Copy)]
 pub struct PageIndex(pub u64);
 
 #[repr(C)]
-#[derive(Drop)]
+#[derive(Clone, Copy)]
 pub struct Ticket(pub u64);
 
 // What stands at a node place: a node's two numbers, or no node.
-#[derive(Drop)]
+#[derive(Clone, Copy)]
 pub enum NodeAt {
     Stored(u32, u32),
     Missing,
 }
 
 // Where a walk ends: at a leaf, with the number of its version, line x 65,536 + version, and its page number, or at a node that is not there.
-#[derive(Drop)]
+#[derive(Clone, Copy)]
 pub enum Found {
     Leaf(u64, u64),
     Lost,
 }
 
 // The name of a node: its first page and its span.
-#[derive(Drop)]
+#[derive(Clone, Copy)]
 pub struct Named {
     pub first: PageIndex,
     pub span: u64,

@@ -1,6 +1,7 @@
 // The version keeper: the store, its lines, areas and records, and what every call asks of them; SIZE and RECENT. The other calls stand above, a crate each.
 // A call takes the store by value and its areas lent, and hands the store back. No call has a `requires`. A covered function finds the refusal, by the rows
 // of the table in their order; the call acts where it finds none.
+#![tactic(auto)]
 ghost use Rattle.std.specs.Prelude.{◌≡◌, pred, min, ◌+◌, ◌-◌, ◌*◌, ◌^◌, [], ◌∷◌, eqb};
 ghost use Rattle.lines.specs.Lines.{owner_of};
 ghost use Rattle.register.specs.Register.{with_record};
@@ -17,13 +18,13 @@ use register::{Part, Record, extent_of, set_record, version_part};
 use tree::{Ticket, Version, smaller};
 
 // A byte's place in the blob.
-#[derive(Drop)]
+#[derive(Clone, Copy)]
 pub struct ByteOffset(pub u64);
 
 // One store: page size and capacities; the last ticket given and how many page numbers are taken; how many updates are assigned, on all lines, and how many node
 // places are taken; how many lines have begun, and their states: the sources, 4 bits a line, and for each line a word with the rest.
 #[repr(C)]
-#[derive(Drop)]
+#[derive(Clone, Copy)]
 pub struct Store {
     pub size: u64,
     pub pages: u64,
@@ -39,7 +40,7 @@ pub struct Store {
 }
 
 // The lengths of the areas that a call is lent: bytes, numbers and records.
-#[derive(Drop)]
+#[derive(Clone, Copy)]
 pub struct Lengths {
     pub pages: usize,
     pub nodes: usize,
@@ -47,21 +48,21 @@ pub struct Lengths {
 }
 
 // What a call on a version begins with: the number of its refusal by rows 3, 20 and 16, and the version's number.
-#[derive(Drop)]
+#[derive(Clone, Copy)]
 pub struct Opened {
     pub refusal: u64,
     pub number: u64,
 }
 
 // What SIZE answers, in bytes.
-#[derive(Drop)]
+#[derive(Clone, Copy)]
 pub enum Sized {
     Bytes(u64),
     Refused(u64),
 }
 
 // What RECENT answers.
-#[derive(Drop)]
+#[derive(Clone, Copy)]
 pub enum Latest {
     Is(Version),
     Refused(u64),

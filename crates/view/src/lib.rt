@@ -1,4 +1,5 @@
 // VIEW: the bytes of a page as of a version of a line, as a part of the page area.
+#![tactic(auto)]
 ghost use Rattle.std.specs.Prelude.{◌≡◌, ◌*◌, ◌^◌, ◌<◌, []};
 ghost use Rattle.pages.specs.Pages.{part};
 ghost use Rattle.table.specs.Table.{unless};
@@ -14,7 +15,7 @@ use versions::{Store, lengths_of, open_version};
 use walk::{find_page, number_found};
 
 // What VIEW answers a caller that is handed no part: the byte of the page area where the part begins.
-#[derive(Drop)]
+#[derive(Clone, Copy)]
 pub enum Viewed {
     At(u64),
     Refused(u64),

@@ -1,4 +1,5 @@
 // The walk from a version's root down the halves: to a page, for READ, STAMP and VIEW; to a node of a span, for WEAVE.
+#![tactic(auto)]
 
 ghost use Rattle.std.specs.Prelude.{◌≡◌, ℕ, ◌+◌, ◌%◌, ◌^◌, ◌<◌, []};
 ghost use Rattle.tree.specs.Walk.{ends};

@@ -1,4 +1,5 @@
 // What a line of the step program asks for, within the program's own limits, and the lengths of the areas that it is lent. `parse` has read the text; `respond` does it.
+#![tactic(auto)]
 ghost use Rattle.std.specs.Prelude.{◌≡◌, ◌*◌, min};
 ghost use Rattle.text.specs.Buffer.{front};
 ghost use Rattle.parse.specs.Cut.{cut_meant};
@@ -11,7 +12,7 @@ use versions::{Lengths, Store};
 
 // What a step asks for, by the areas that it changes. The numbers get their sorts where the call is made: with structs in an enum in an enum the proof of
 // `step_within` takes more steps than antt allows.
-#[derive(Drop)]
+#[derive(Clone, Copy)]
 pub enum Wanted {
     Fill(Fill),
     Note(Note),
@@ -19,7 +20,7 @@ pub enum Wanted {
 }
 
 // The steps that change pages or nodes. FORMAT holds the limits of the store that it would make, PUT how many page bytes the line has.
-#[derive(Drop)]
+#[derive(Clone, Copy)]
 pub enum Fill {
     Format(u64, u64, u64, u64),
     Put(u64, u64, usize),
@@ -27,7 +28,7 @@ pub enum Fill {
 }
 
 // Those that change the register alone.
-#[derive(Drop)]
+#[derive(Clone, Copy)]
 pub enum Note {
     Begin(u64),
     Write(u64, u64, u64),
@@ -35,7 +36,7 @@ pub enum Note {
 }
 
 // Those that change no area; Nothing is refused.
-#[derive(Drop)]
+#[derive(Clone, Copy)]
 pub enum Look {
     Publish(u64, u64),
     Branch(u64, u64),

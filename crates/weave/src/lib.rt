@@ -1,4 +1,5 @@
 // WEAVE: one node of a version's tree, stored at its place.
+#![tactic(auto)]
 ghost use Rattle.std.specs.Prelude.{◌≡◌, ℕ, suc, pred, ◌+◌, ◌-◌, ◌^◌, ◌<◌, List, leb};
 ghost use Rattle.tree.specs.Tree.{nth};
 ghost use Rattle.tree.specs.NodeArea.{with_node};
@@ -24,7 +25,7 @@ use versions::{
 use walk::reach_from;
 
 // A node that was stored: its name, its version as line x 65,536 + version; its two numbers, and how many nodes of its version are left.
-#[derive(Drop)]
+#[derive(Clone, Copy)]
 pub struct WovenNode {
     pub version: u64,
     pub first: PageIndex,
@@ -35,7 +36,7 @@ pub struct WovenNode {
 }
 
 // What WEAVE answers.
-#[derive(Drop)]
+#[derive(Clone, Copy)]
 pub enum Woven {
     Node(WovenNode),
     Refused(u64),
@@ -43,7 +44,7 @@ pub enum Woven {
 
 // The next node of a version: its first page and span, its right half's first page, and the span of a half, which is 0 of a leaf; and its place, or the largest number where
 // that is more than 64 bits hold.
-#[derive(Drop)]
+#[derive(Clone, Copy)]
 struct Next {
     first: PageIndex,
     span: u64,
@@ -54,7 +55,7 @@ struct Next {
 
 // What WEAVE is to do: the number of its refusal so far, the next node, whether the update meets the node's halves, left and right, and the half that it does not, for which an
 // older version is looked for: its first page and span, of 0 where the call is refused, the node is a leaf, or the update meets both.
-#[derive(Drop)]
+#[derive(Clone, Copy)]
 struct Plan {
     k: u64,
     next: Next,
@@ -65,7 +66,7 @@ struct Plan {
 }
 
 // What WEAVE has found: the number of its refusal, the ticket's update, and that update's next node, with its place and its numbers.
-#[derive(Drop)]
+#[derive(Clone, Copy)]
 struct Found {
     k: u64,
     update: u64,

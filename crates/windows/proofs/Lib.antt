@@ -1,4 +1,3 @@
-pub mod Places
 pub mod Inside
 pub mod Entries
 pub mod LineEnd
@@ -7,4 +6,3 @@ pub mod Placed
 pub mod Reading
 pub mod Passed
 pub mod Used
-pub mod Generated

@@ -6,11 +6,9 @@ use Prim.Native.Nat.{ℕ}
 use lib.Dec.{leb, eqb}
 use Rattle.text.specs.Text.{pick, text_lines}
 use Rattle.fields.specs.declared.Number.{Number}
-use Rattle.fields.specs.declared.Number.TheVariants as Number
 use Rattle.fields.specs.Fields.{fields_of, field_number}
 use Rattle.windows.specs.declared.Window.{Window}
 use Rattle.windows.specs.declared.Entry.{Entry}
-use Rattle.windows.specs.declared.Entry.TheVariants as Entry
 use Rattle.windows.specs.Windows.{inside, inside_some}
 use Rattle.windows.specs.Listed.{entry_of, entry_by, line_entry, entered, windows_in, InsideMeans}
 

@@ -2,12 +2,10 @@
 use Rattle.std.specs.Prelude.{◌≡◌, ℕ, suc, Bool, true, false, not, ◌&&◌, List, [], ◌∷◌, leb, eqb, length}
 use Rattle.text.specs.Text.{pick, line_feed, text_lines}
 use Rattle.fields.specs.declared.Number.{Number}
-use Rattle.fields.specs.declared.Number.TheVariants as Number
 use Rattle.fields.specs.Fields.{fields_of, field_number}
 use Rattle.table.specs.Table.{first_refusal, unless, window_rows}
 use Rattle.windows.specs.declared.Window.{Window}
 use Rattle.windows.specs.declared.Entry.{Entry}
-use Rattle.windows.specs.declared.Entry.TheVariants as Entry
 use Rattle.windows.specs.declared.Listed.{Listed}
 use Rattle.windows.specs.Windows.{inside, inside_some, no_windows, placed}
 

@@ -1,5 +1,7 @@
 // Blast windows, while which no new version may be published: a site's windows by value, whether a minute is inside one, and the text of a list. No public function
 // has a `requires`.
+#![tactic(auto)]
+
 ghost use Rattle.std.specs.Prelude.{◌≡◌, ◌+◌, drop};
 ghost use Rattle.windows.specs.Windows.{inside_one, inside, no_windows};
 ghost use Rattle.windows.specs.Listed.{entry_of, line_entry, line_end, listed_of, InsideMeans};
@@ -14,7 +16,7 @@ const LINE_FEED: u8 = 10;
 
 // A weekly window, in minutes of the week 0 to 10,079. One with equal ends has no minute.
 #[repr(C)]
-#[derive(Drop)]
+#[derive(Clone, Copy)]
 pub struct Window {
     pub from: u16,
     pub to: u16,
@@ -22,20 +24,20 @@ pub struct Window {
 
 // A site's windows: at most 32, in the order of their list; the places after them are 0.
 #[repr(C)]
-#[derive(Drop)]
+#[derive(Clone, Copy)]
 pub struct Windows {
     pub places: [Window; 32],
 }
 
 // The window that a line of text is, if it is one.
-#[derive(Drop)]
+#[derive(Clone, Copy)]
 pub enum Entry {
     Is(Window),
     Not,
 }
 
 // A text, read: the number of its refusal and, where that is 0, its windows.
-#[derive(Drop)]
+#[derive(Clone, Copy)]
 pub struct Listed {
     pub number: u64,
     pub windows: Windows,

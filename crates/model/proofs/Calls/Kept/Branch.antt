@@ -70,8 +70,8 @@ module _ (L : Limits) (m : Model) (l v : ℕ) where
       pub branched-versions : length (line_at (branched L m l v) (length m.lines)).shown ≡ v
       branched-versions = rw (branched-new, length-take) (omega (arith, x.published, p.published))
 
-      new_line : LineSound (branched L m l v) (length m.lines)
-      new_line =
+      new-line : LineSound (branched L m l v) (length m.lines)
+      new-line =
           let n = branched-versions in
           record {
             first = λ z. absurd (omega (arith, S.begun));
@@ -107,7 +107,7 @@ module _ (L : Limits) (m : Model) (l v : ℕ) where
       branched-lines : (k : ℕ) → k < length (branched L m l v).lines → LineSound (branched L m l v) k
       branched-lines k h = elim (lt-or-le k (length m.lines)) [
         | inl q ↦ line_same L m (branched L m l v) S branched-grown k q (branched-old k q)
-        | inr q ↦ let e : k ≡ length m.lines = omega (arith, branched-length) in rw e new_line
+        | inr q ↦ let e : k ≡ length m.lines = omega (arith, branched-length) in rw e new-line
       ]
 
       pub branched-passed : SoundGiven A L (branched L m l v)
