@@ -4,34 +4,22 @@ use Rattle.text.specs.Text.{pick}
 use Rattle.text.specs.Buffer.{front, wrote}
 use Rattle.print.specs.Print.{reply_line, bytes_line}
 use Rattle.print.specs.declared.Reply.{Reply}
-use Rattle.print.specs.declared.Reply.TheVariants as Reply
 use Rattle.versions.specs.declared.Store.{Store}
 use Rattle.format.specs.declared.Formatted.{Formatted}
-use Rattle.format.specs.declared.Formatted.TheVariants as Formatted
 use Rattle.begin.specs.declared.BeginOut.{BeginOut}
 use Rattle.begin.specs.declared.Begun.{Begun}
-use Rattle.begin.specs.declared.Begun.TheVariants as Begun
 use Rattle.put.specs.declared.PutIn.{PutIn}
-use Rattle.put.specs.declared.PutIn.TheVariants as PutIn
 use Rattle.assign.specs.declared.AssignOut.{AssignOut}
 use Rattle.assign.specs.declared.Assigned.{Assigned}
-use Rattle.assign.specs.declared.Assigned.TheVariants as Assigned
 use Rattle.weave.specs.declared.Woven.{Woven}
-use Rattle.weave.specs.declared.Woven.TheVariants as Woven
 use Rattle.publish.specs.declared.PublishOut.{PublishOut}
 use Rattle.publish.specs.declared.Published.{Published}
-use Rattle.publish.specs.declared.Published.TheVariants as Published
 use Rattle.branch.specs.declared.BranchOut.{BranchOut}
 use Rattle.branch.specs.declared.Branched.{Branched}
-use Rattle.branch.specs.declared.Branched.TheVariants as Branched
 use Rattle.versions.specs.declared.Sized.{Sized}
-use Rattle.versions.specs.declared.Sized.TheVariants as Sized
 use Rattle.versions.specs.declared.Latest.{Latest}
-use Rattle.versions.specs.declared.Latest.TheVariants as Latest
 use Rattle.stamp.specs.declared.Stamped.{Stamped}
-use Rattle.stamp.specs.declared.Stamped.TheVariants as Stamped
 use Rattle.read.specs.declared.Filled.{Filled}
-use Rattle.read.specs.declared.Filled.TheVariants as Filled
 use Rattle.answers.specs.declared.Kept.{Kept}
 use Rattle.answers.specs.declared.Turn.{Turn}
 

@@ -1,5 +1,6 @@
 // What the store answers to a step of the step program, written as a line of text; and what is kept between steps.
 #![tactic(auto)]
+
 ghost use Rattle.std.specs.Prelude.{◌≡◌, min};
 ghost use Rattle.answers.specs.Answers.{turned, plainly, refused_said, replied, opening, format_said, begin_said, put_said, assign_said, weave_said, publish_said, branch_said, size_said, recent_said, stamp_said, worst_said, bytes_said, read_said};
 

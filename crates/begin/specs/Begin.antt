@@ -6,7 +6,6 @@ use Rattle.table.specs.Table.{never, every_call, first_refusal, unless, begin_ro
 use Rattle.versions.specs.declared.Store.{Store}
 use Rattle.versions.specs.declared.Lengths.{Lengths}
 use Rattle.begin.specs.declared.Begun.{Begun}
-use Rattle.begin.specs.declared.Begun.TheVariants as Begun
 use Rattle.begin.specs.declared.BeginOut.{BeginOut}
 use Rattle.versions.specs.Store.{Areas, lengths_of, differ, with_tickets}
 

@@ -1,5 +1,6 @@
 // BEGIN: the next ticket, with the next page numbers.
 #![tactic(auto)]
+
 ghost use Rattle.std.specs.Prelude.{◌≡◌, ◌+◌, ◌^◌, ◌<◌};
 ghost use Rattle.versions.specs.Store.{areas_of};
 ghost use Rattle.begin.specs.Begin.{begin_refusal, with_ticket_part, begun_by, begin_out, begin_register};

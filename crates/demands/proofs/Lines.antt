@@ -8,10 +8,10 @@ use native.Mathlib.Decide.{ℕ_discrete}
 use native.Mathlib.Omega.{arith}
 use borrow.Author.Tests.{lt-ltb, le-ltb}
 use lib.Dec.{ltb}
-use lib.ListN.{length, get_or, get_or-eq_default}
+use lib.ListN.{length, get_or-eq_default}
 use Rattle.tree.specs.Tree.{nth}
 use Rattle.tree.proofs.Meets.{lt-or-le}
-use Rattle.lines.specs.Lines.{no_branch, packed, unpacked, owner_of, Rooted, number_of, line_of, version_of, entry_at, entries_of}
+use Rattle.lines.specs.Lines.{no_branch, packed, unpacked, owner_of, Rooted, number_of, line_of, version_of, entry_at}
 use Rattle.lines.specs.declared.Branch.{Branch}
 use Rattle.lines.proofs.Numbers.{number_is as code_is}
 use Rattle.lines.proofs.Owner.{owner-own, owner-shared, owner-induction}
@@ -21,15 +21,15 @@ use Rattle.register.specs.Register.{no_record, part_of, version_record, version_
 use Rattle.register.specs.declared.Record.{Record}
 use Rattle.register.proofs.Records.{version-own, version-entry}
 use Rattle.table.proofs.Table.{number-cases}
-use Rattle.versions.specs.Store.{record_of, lines_in, line_in, with_line, number_on, part_on}
+use Rattle.versions.specs.Store.{lines_in, line_in, with_line, number_on, part_on}
 use Rattle.versions.proofs.Own.{line-there, line-past}
 use Rattle.model.specs.History.{blob_size}
-use Rattle.model.specs.Model.{Limits, Line, Model, no_line, line_at, update_at, history, numbered, number_in}
+use Rattle.model.specs.Model.{Limits, Model, no_line, line_at, update_at, history, numbered, number_in}
 use Rattle.model.specs.OnModel.{either}
 use Rattle.model.proofs.Model.Sound.{Sound}
 use Rattle.model.proofs.Lists.Tab.{get_or-tab, tab-set}
 use Rattle.model.proofs.Lists.Nth.{nth_past}
-use Rattle.model.proofs.Model.Facts.{versions-few, versions-most, shown-sound, shown-small}
+use Rattle.model.proofs.Model.Facts.{versions-few, versions-most, shown-small}
 use Rattle.model.proofs.Model.Shown.{shown_at, blob-shown}
 use Rattle.model.proofs.Line.Owner.{owner_of as owner_in, owner-there, owner-starts, owner_shows, owner-number, source-there, source-has, owner-own as own-here, owner-shared as own-there}
 use Rattle.model.proofs.Line.Numbers.{numbered_is, number_is, number-line, number-version}

@@ -10,7 +10,7 @@ use lib.Seq.{get_or-set_same, get_or-set_other}
 use Rattle.pages.specs.Pages.{put}
 use Rattle.register.specs.Register.{with_record}
 use Rattle.register.specs.declared.Record.{Record}
-use Rattle.model.specs.History.{Page, with_slots}
+use Rattle.model.specs.History.{Page}
 use Rattle.model.specs.InTurn.{joined}
 use Rattle.model.specs.Model.{Limits, Model}
 use Rattle.model.specs.Layout.{serial_of, slot_number}

@@ -1,30 +1,17 @@
 -- The number and values of each case of the code's answers, as the documents have them.
 use Rattle.format.specs.declared.Formatted.{Formatted}
-use Rattle.format.specs.declared.Formatted.TheVariants as Formatted
 use Rattle.begin.specs.declared.Begun.{Begun}
-use Rattle.begin.specs.declared.Begun.TheVariants as Begun
 use Rattle.put.specs.declared.PutIn.{PutIn}
-use Rattle.put.specs.declared.PutIn.TheVariants as PutIn
 use Rattle.assign.specs.declared.Assigned.{Assigned}
-use Rattle.assign.specs.declared.Assigned.TheVariants as Assigned
 use Rattle.weave.specs.declared.Woven.{Woven}
-use Rattle.weave.specs.declared.Woven.TheVariants as Woven
 use Rattle.publish.specs.declared.Published.{Published}
-use Rattle.publish.specs.declared.Published.TheVariants as Published
 use Rattle.branch.specs.declared.Branched.{Branched}
-use Rattle.branch.specs.declared.Branched.TheVariants as Branched
 use Rattle.set_windows.specs.declared.WindowsSet.{WindowsSet}
-use Rattle.set_windows.specs.declared.WindowsSet.TheVariants as WindowsSet
 use Rattle.read.specs.declared.Filled.{Filled}
-use Rattle.read.specs.declared.Filled.TheVariants as Filled
 use Rattle.versions.specs.declared.Sized.{Sized}
-use Rattle.versions.specs.declared.Sized.TheVariants as Sized
 use Rattle.versions.specs.declared.Latest.{Latest}
-use Rattle.versions.specs.declared.Latest.TheVariants as Latest
 use Rattle.stamp.specs.declared.Stamped.{Stamped}
-use Rattle.stamp.specs.declared.Stamped.TheVariants as Stamped
 use Rattle.view.specs.declared.Viewed.{Viewed}
-use Rattle.view.specs.declared.Viewed.TheVariants as Viewed
 use Rattle.model.specs.Calls.{Answer, refused, format_done, ticket_is, put_done, version_is, node_is, published_is, waiting, held, line_is, windows_done, filled, size_is, recent_is, stamp_is, part_at}
 
 abbrev pub formatted_answer : Formatted → Answer

@@ -2,6 +2,7 @@
 // A reply begins with the number of the refusal, 0 where the call was accepted. No function has a `requires`; C must keep what references say in Rattle:
 // no pointer is null, and the areas of one call do not overlap.
 #![tactic(auto)]
+
 ghost use Rattle.std.specs.Prelude.{◌≡◌};
 ghost use Rattle.pages.specs.Pages.{part};
 ghost use Rattle.versions.specs.Store.{areas_of, line_in};

@@ -116,6 +116,7 @@ pub fn number_in(f: &[u8]) -> Number
 }
 
 // The value of a lowercase hexadecimal digit; 16 for any other byte.
+#[tactic(auto, unfolding(crate::specs::Fields::hex_value))]
 fn hex_value(b: u8) -> u8
     ensures { result ≡ hex_value b }
 {

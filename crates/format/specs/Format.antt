@@ -7,7 +7,6 @@ use Rattle.table.specs.Table.{first_refusal, unless, format_rows}
 use Rattle.versions.specs.declared.Store.{Store}
 use Rattle.versions.specs.declared.Lengths.{Lengths}
 use Rattle.format.specs.declared.Formatted.{Formatted}
-use Rattle.format.specs.declared.Formatted.TheVariants as Formatted
 use Rattle.versions.specs.Store.{Areas, lengths_of, differ}
 use Rattle.windows.specs.Windows.{no_windows}
 

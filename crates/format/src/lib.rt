@@ -1,5 +1,6 @@
 // FORMAT: the store that limits make, and its areas filled.
 #![tactic(auto)]
+
 ghost use Rattle.std.specs.Prelude.{◌≡◌, length, replicate};
 ghost use Rattle.tree.specs.NodeArea.{all_ones};
 ghost use Rattle.register.specs.Register.{no_record};

@@ -12,3 +12,4 @@ pub mod Queries
 pub mod Acts
 pub mod Begins
 pub mod Isolation
+mod Example

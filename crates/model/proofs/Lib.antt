@@ -5,3 +5,7 @@ pub mod Model
 pub mod Calls
 pub mod Line
 pub mod Area
+mod Example
+mod Trees
+mod Windows
+mod Stamps

@@ -1,5 +1,5 @@
 -- Two lines from one shared version, a line from version 0, and the sixteenth line, by computation on the model.
-use Rattle.std.specs.Prelude.{◌≡◌, refl, List, [], ◌∷◌, ◌++◌, ℕ, replicate}
+use Rattle.std.specs.Prelude.{List, [], ◌∷◌, ◌++◌, ℕ, replicate}
 use Rattle.tree.specs.Tree.{height_from, root_height, meets, nodes, count, update, newest}
 use Rattle.table.specs.Table.{unless, first_refusal, holds, begin_rows, put_rows, weave_rows}
 use Rattle.table.specs.Table.{line_rows, publish_rows, window_rows, branch_rows, assign_rows, size_rows, read_rows, page_rows}
@@ -10,7 +10,7 @@ use Rattle.model.specs.Calls.{Call, BEGIN, PUT, WEAVE, on, WRITE, APPEND, PUBLIS
 use Rattle.model.specs.History.{all_filled, complete, due}
 use Rattle.model.specs.InTurn.{applied, blob_at, joined}
 use Rattle.model.specs.Stamp.{stamp_at}
-use Rattle.model.specs.Model.{Limits, no_model, update_from}
+use Rattle.model.specs.Model.{Limits, update_from}
 use Rattle.model.specs.Layout.{layout}
 use Rattle.model.specs.OnModel.{model_outcome, on_line, on_model}
 use Rattle.model.specs.Run.{outcomes}
@@ -96,10 +96,6 @@ given =
     ∷ says (node_is 2 0 1 3 0 0)
     ∷ says (published_is 2)
     ∷ []
-
-pub two-lines : outcomes (on_model limits) no_model calls ≡ given
-unfolding computes limits calls given
-two-lines = refl
 
 -- What the two lines then read as, and a page appended on line 1.
 unfoldable pub more : List Call
@@ -210,10 +206,6 @@ given_more =
     ∷ says (part_is (page_of 50))
     ∷ []
 
-pub reading : outcomes (on_model limits) no_model (calls ++ more) ≡ given ++ given_more
-unfolding computes limits calls given more given_more
-reading = refl
-
 -- Sixteen lines at most; a version that is not published is refused before.
 unfoldable pub branches : List Call
 branches = replicate 15 (on 0 (BRANCH 0)) ++ on 15 (BRANCH 0) ∷ on 15 (BRANCH 1) ∷ on 16 (BRANCH 0) ∷ []
@@ -239,7 +231,3 @@ given_branches =
     ∷ says (refused 16)
     ∷ says (refused 20)
     ∷ []
-
-pub sixteen : outcomes (on_model limits) no_model branches ≡ given_branches
-unfolding computes limits branches given_branches
-sixteen = refl

@@ -1,6 +1,6 @@
 -- The plain model with lines: the tickets in order, all updates in the order of ASSIGN, the lines in the order in which they begin, and the site's windows. A line
 -- shows its versions, the shared ones and then its own, by their updates' numbers in that order. It is fed S, the capacities and the steps' arguments only.
-use Rattle.std.specs.Prelude.{Bool, true, false, List, [], ◌∷◌, map, ℕ, zero, suc, ◌+◌, ◌*◌, eqb, get_or}
+use Rattle.std.specs.Prelude.{true, false, List, [], ◌∷◌, map, ℕ, zero, suc, ◌+◌, ◌*◌, eqb, get_or}
 use Rattle.tree.specs.Tree.{nth}
 use Rattle.model.specs.History.{Ticket, Version, History, no_version, history_of}
 use Rattle.windows.specs.declared.Window.{Window}

@@ -1,12 +1,9 @@
 -- Slip 4's stamps, by computation on the model: a page sent again unchanged, changed and changed back, changed in its last byte; a page past the end of the version
 -- before; updates of two pages of which one is unchanged; and a page that two lines share.
-use Rattle.std.specs.Prelude.{◌≡◌, refl, List, [], ◌∷◌, ◌++◌, ℕ, suc, length, replicate}
+use Rattle.std.specs.Prelude.{List, [], ◌∷◌, ◌++◌, ℕ, suc, length, replicate}
 use Rattle.model.specs.Calls.{Call, BEGIN, PUT, WEAVE, on, WRITE, PUBLISH, BRANCH, STAMP, refused, ticket_is, put_done, version_is, node_is, published_is, line_is, stamp_is, Outcome, says}
 use Rattle.model.specs.History.{Page}
-use Rattle.model.specs.Model.{no_model}
-use Rattle.model.specs.OnModel.{on_model}
-use Rattle.model.specs.Run.{outcomes}
-use Rattle.model.specs.Example.{computes, limits, page_of}
+use Rattle.model.specs.Example.{page_of}
 
 -- An update of these pages from page f of line l on, by ticket t, woven in n calls and published; and what these calls give back where it is version v and those are its
 -- nodes.
@@ -64,10 +61,6 @@ given_again =
     ∷ says (refused 17)
     ∷ []
 
-pub sent-again : outcomes (on_model limits) no_model again ≡ given_again
-unfolding computes limits again given_again
-sent-again = refl
-
 -- Page 1 is first in version 2, which sends page 0 unchanged. Version 3 changes page 0 and not page 1, version 4 has page 1 alone, and version 5 sends page 0 as version 3
 -- has it.
 unfoldable pub pairs : List Call
@@ -108,10 +101,6 @@ given_pairs =
     ∷ says (stamp_is 4)
     ∷ []
 
-pub of-two-pages : outcomes (on_model limits) no_model pairs ≡ given_pairs
-unfolding computes limits pairs given_pairs
-of-two-pages = refl
-
 -- Line 1 begins from version 1 and sends its page 0 unchanged, so that its stamp is the shared version's; the live line changes it meanwhile, and changes it back.
 unfoldable pub apart : List Call
 apart =
@@ -148,7 +137,3 @@ given_apart =
     ∷ says (stamp_is 3)
     ∷ says (stamp_is 1)
     ∷ []
-
-pub on-two-lines : outcomes (on_model limits) no_model apart ≡ given_apart
-unfolding computes limits apart given_apart
-on-two-lines = refl

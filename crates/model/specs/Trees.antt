@@ -1,30 +1,20 @@
 -- The trees of two lines from one shared version, by the rule and from a node area, by computation: a shared version has one number, whichever line reads it.
-use Rattle.std.specs.Prelude.{◌≡◌, refl, List, ◌∷◌, ◌++◌, ℕ, replicate}
-use Rattle.tree.specs.NodeArea.{all_ones, node_at}
-use Rattle.tree.specs.Place.{below, first, index}
-use Rattle.tree.specs.Walk.{has_node}
+use Rattle.std.specs.Prelude.{List, ◌∷◌, ◌++◌, ℕ, replicate}
+use Rattle.tree.specs.NodeArea.{all_ones}
 use Rattle.model.specs.Model.{Model}
-use Rattle.model.specs.Run.{run, model_after}
-use Rattle.model.specs.Example.{computes, limits, calls, more}
-use Rattle.model.specs.Snapshot.{Tree, no_page, leaf, inner, tree_of, tree_in, place_of_number, tree_at}
+use Rattle.model.specs.Run.{model_after}
+use Rattle.model.specs.Example.{limits, calls, more}
+use Rattle.model.specs.Snapshot.{Tree, no_page, leaf, inner}
 
 unfoldable pub after : Model
 after = model_after limits (calls ++ more)
 
 -- Version 2 of line 0 and version 3 of line 1; a leaf's page number is by its ticket: 0 and 1 are ticket 1's, 2 ticket 2's, 3 ticket 3's, 4 ticket 4's.
-abbrev on_line0 : Tree
+abbrev pub on_line0 : Tree
 on_line0 = inner 2 0 1 2 1 (leaf 2 0 3 0) (leaf 1 1 1 0)
 
-abbrev on_line1 : Tree
+abbrev pub on_line1 : Tree
 on_line1 = inner 65539 0 2 65538 65539 (inner 65538 0 1 1 65538 (leaf 1 0 0 0) (leaf 65538 1 2 0)) (inner 65539 2 1 65539 0 (leaf 65539 2 4 0) no_page)
-
-pub first-tree : tree_at after 0 2 ≡ on_line0
-unfolding computes limits calls more after run tree_of
-first-tree = refl
-
-pub second-tree : tree_at after 1 3 ≡ on_line1
-unfolding computes limits calls more after run tree_of
-second-tree = refl
 
 -- The nodes in the order of ASSIGN: version 1 of line 0, version 2 of line 1, version 2 of line 0, version 3 of line 1, version 1 of line 2; then none.
 unfoldable pub nodes_after : List ℕ
@@ -35,11 +25,3 @@ nodes_after =
     ∷ 65538 ∷ 65539 ∷ 65539 ∷ 0 ∷ 4 ∷ 0
     ∷ 5 ∷ 0
     ∷ replicate 10 all_ones
-
-pub first_found : tree_in (place_of_number after) nodes_after 1 2 0 ≡ on_line0
-unfolding computes limits calls more after run tree_in place_of_number nodes_after node_at below first index has_node
-first_found = refl
-
-pub second-found : tree_in (place_of_number after) nodes_after 2 65539 0 ≡ on_line1
-unfolding computes limits calls more after run tree_in place_of_number nodes_after node_at below first index has_node
-second-found = refl

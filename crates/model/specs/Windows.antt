@@ -1,13 +1,10 @@
 -- Blast windows, by computation on the model: PUBLISH at the edges of a window in the week and of one over its end, a due version held and then published, lists that
 -- are refused, the empty list, the minute's row, and a window behind one with equal ends.
-use Rattle.std.specs.Prelude.{◌≡◌, refl, List, [], ◌∷◌, ◌++◌, ℕ, replicate}
+use Rattle.std.specs.Prelude.{List, [], ◌∷◌, ◌++◌, ℕ, replicate}
 use Rattle.text.specs.Quoted.{text, together}
 use Rattle.model.specs.Calls.{Call, BEGIN, PUT, WEAVE, SETWINDOWS, on, APPEND, PUBLISH, RECENT, refused, ticket_is, put_done, version_is, node_is, published_is, waiting, held, windows_done, recent_is, Outcome, says}
-use Rattle.model.specs.Model.{no_model, with_site_windows}
-use Rattle.model.specs.OnModel.{on_model}
-use Rattle.model.specs.Run.{outcomes}
 use Rattle.model.specs.Due.{publishes}
-use Rattle.model.specs.Example.{computes, limits, page_of}
+use Rattle.model.specs.Example.{page_of}
 
 -- A window in the week, and one over its end.
 abbrev pub two_windows : List ℕ
@@ -32,10 +29,6 @@ given_edges =
     ∷ says waiting
     ∷ says held
     ∷ []
-
-pub at-edges : outcomes (on_model limits) no_model edges ≡ given_edges
-unfolding computes limits edges given_edges
-at-edges = refl
 
 -- A complete version is held inside a window, and published outside it.
 unfoldable pub due : List Call
@@ -67,10 +60,6 @@ given_due =
     ∷ says held
     ∷ says waiting
     ∷ []
-
-pub held-then-published : outcomes (on_model limits) no_model due ≡ given_due
-unfolding computes limits due given_due
-held-then-published = refl
 
 -- So many lines of one window.
 abbrev pub lines : ℕ → List ℕ
@@ -122,10 +111,6 @@ given_lists =
     ∷ says waiting
     ∷ []
 
-pub replaced-whole : outcomes (on_model limits) no_model lists ≡ given_lists
-unfolding computes limits lists given_lists
-replaced-whole = refl
-
 -- Minute 10,079 is the last; one past it is refused, also where a window runs over the week's end, and the line's row comes before.
 unfoldable pub minutes : List Call
 minutes =
@@ -150,17 +135,3 @@ given_minutes =
     ∷ says (refused 22)
     ∷ says (refused 20)
     ∷ []
-
-pub minute-row : outcomes (on_model limits) no_model minutes ≡ given_minutes
-unfolding computes limits minutes given_minutes
-minute-row = refl
-
--- Some window of the list holds the minute, whatever stands before it: also behind one with equal ends, which no text has and in which no minute is.
-pub some-window :
-    outcomes
-    (on_model limits)
-    (with_site_windows no_model (record { from = 7; to = 7 } ∷ record { from = 600; to = 660 } ∷ []))
-    (publishes 0 (7 ∷ 599 ∷ 600 ∷ 659 ∷ 660 ∷ []))
-    ≡ (says waiting ∷ says waiting ∷ says held ∷ says held ∷ says waiting ∷ [])
-unfolding computes limits
-some-window = refl

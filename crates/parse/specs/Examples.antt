@@ -7,7 +7,6 @@ use Rattle.fields.specs.Fields.{field_number, hex_value}
 use Rattle.parse.specs.Steps.{Meant, plainly, meant_of, put_of, one_of, two_of, three_of, put_or_three, four_of, meant_by}
 use Rattle.parse.specs.Cut.{fresh, fed_by, kept_by, unended_in, cut_lines}
 use Rattle.parse.specs.declared.Step.{Step}
-use Rattle.parse.specs.declared.Step.TheVariants as Step
 
 -- the document's input
 abbrev input : List ℕ

@@ -1,5 +1,6 @@
 // The step program's text, read: lines cut out of a stream of bytes, and the step that a line means. No public function has a `requires`.
 #![tactic(auto)]
+
 ghost use Rattle.std.specs.Prelude.{◌≡◌, length};
 ghost use Rattle.text.specs.Buffer.{front};
 ghost use Rattle.fields.specs.Fields.{hex_of};
@@ -49,6 +50,7 @@ const MOST: usize = 600;
 const LINE_FEED: u8 = 10;
 
 // The step of a word and a number.
+#[tactic(auto, unfolding(crate::specs::Steps::one_of))]
 fn one(w: &[u8], a: Number) -> Step
     ensures { result ≡ one_of w.now a }
 {
@@ -68,6 +70,7 @@ fn one(w: &[u8], a: Number) -> Step
 }
 
 // The step of a word and two numbers.
+#[tactic(auto, unfolding(crate::specs::Steps::two_of))]
 fn two(w: &[u8], a: Number, b: Number) -> Step
     ensures { result ≡ two_of w.now a b }
 {
@@ -96,6 +99,7 @@ fn two(w: &[u8], a: Number, b: Number) -> Step
 }
 
 // The step of a word and three numbers.
+#[tactic(auto, unfolding(crate::specs::Steps::three_of))]
 fn three(w: &[u8], a: Number, b: Number, c: Number) -> Step
     ensures { result ≡ three_of w.now a b c }
 {
@@ -144,6 +148,7 @@ fn put_or_three(w: &[u8], a: &[u8], b: &[u8], c: &[u8], bytes: &mut [u8]) -> Ste
 }
 
 // The step of a word and four numbers.
+#[tactic(auto, unfolding(crate::specs::Steps::four_of))]
 fn four(w: &[u8], a: Number, b: Number, c: Number, d: Number) -> Step
     ensures { result ≡ four_of w.now a b c d }
 {
@@ -225,6 +230,7 @@ pub fn feed(c: Cutter, line: &mut [u8], b: u8) -> Fed
 }
 
 // Whether, at the end of the text, a last line without a line feed stands in the buffer.
+#[tactic(auto, unfolding(crate::specs::Cut::unended_in))]
 pub fn unended(c: Cutter) -> bool
     ensures { result ≡ unended_in c }
 {

@@ -1,5 +1,6 @@
 // The step program's text, written: the line of an answer. No public function has a `requires`.
 #![tactic(auto)]
+
 ghost use Rattle.std.specs.Prelude.{◌≡◌, ◌+◌, ◌≤◌, ◌<◌, length};
 ghost use Rattle.print.specs.Print.{decimal, line_of, reply_line, bytes_line, hex_digit};
 ghost use Rattle.text.specs.Buffer.{put_at, front, wrote};

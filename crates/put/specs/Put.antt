@@ -7,7 +7,6 @@ use Rattle.table.specs.Table.{◌≤?◌, ◌<?◌, ◌or◌, every_call, first_
 use Rattle.versions.specs.declared.Store.{Store}
 use Rattle.versions.specs.declared.Lengths.{Lengths}
 use Rattle.put.specs.declared.PutIn.{PutIn}
-use Rattle.put.specs.declared.PutIn.TheVariants as PutIn
 use Rattle.versions.specs.Store.{Areas, lengths_of, differ, record_of}
 
 -- Bit i of a mask, and the mask with one added there; bits from 64 up are not kept.

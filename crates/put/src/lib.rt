@@ -1,5 +1,6 @@
 // PUT: one page of a ticket's update.
 #![tactic(auto)]
+
 ghost use Rattle.std.specs.Prelude.{◌≡◌, pred, ◌*◌, ◌<◌};
 ghost use Rattle.pages.specs.Pages.{put};
 ghost use Rattle.table.specs.Table.{unless};

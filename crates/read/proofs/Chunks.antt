@@ -5,19 +5,17 @@ use mathlib.Core.List.{List, [], ◌++◌}
 use Prim.Native.Nat.{ℕ, zero, suc, ◌+◌, ◌*◌, ◌-◌, ◌/◌, ◌%◌, ◌≤◌, ◌<◌, min}
 use native.Mathlib.Nat.{add-zero, zero-add, suc-add, sub-zero, mod-lt, div-add-mod', mul-suc, mul-le-mul_left}
 use native.Mathlib.Omega.{arith}
-use borrow.Author.Tests.{le-leb, lt-ltb, le-ltb}
+use borrow.Author.Tests.{le-leb}
 use lib.Dec.{leb}
 use lib.ListN.{length, take, drop, length-append, length-drop, take-append-drop}
 use lib.Seq.{drop-cons, take-append_seam, drop-drop, drop-append-add, drop-append-le, take-append-le, length-take-le}
 use lib.Arith.{digits_div, digits_mod}
 use Rattle.pages.specs.Pages.{pick, put, part}
 use Rattle.register.specs.declared.Record.{Record}
-use Rattle.tree.specs.declared.Found.{Found}
-use Rattle.tree.specs.declared.Found.TheVariants.{Leaf, Lost}
 use Rattle.tree.proofs.Meets.{lt-or-le}
 use mathlib.Core.Logic.{inl, inr}
 use Rattle.versions.specs.Store.{Areas, areas_of}
-use Rattle.walk.specs.FindPage.{number_within, is_lost, or_zero, page_number_of, reach_from, find_page}
+use Rattle.walk.specs.FindPage.{number_within, or_zero, page_number_of, reach_from, find_page}
 use Rattle.read.specs.Read.{byte_of, bytes_from}
 use Rattle.read.specs.Range.{Readable}
 use Rattle.walk.proofs.Ends.{found_inside}

@@ -1,6 +1,5 @@
 -- What the functions of READ ask and give: a range of bytes one page at a time.
 use Rattle.std.specs.Prelude.{◌≡◌, Bool, true, false, List, [], ◌∷◌, ℕ, zero, suc, ◌+◌, ◌-◌, ◌*◌, ◌/◌, ◌%◌, ◌^◌, ◌≤◌, ◌<◌, min, length}
-use Rattle.std.proofs.Math.Option.{some}
 use Rattle.register.specs.Register.{version_part}
 use Rattle.register.specs.declared.Record.{Record}
 use Rattle.register.specs.declared.Part.{Part}

@@ -3,7 +3,6 @@ use Rattle.std.specs.Prelude.{Bool, false, ◌||◌, List, [], ◌∷◌, ◌++�
 use Rattle.table.specs.Table.{◌or◌, test, every_call, first_refusal, unless, read_rows}
 use Rattle.versions.specs.declared.Store.{Store}
 use Rattle.read.specs.declared.Filled.{Filled}
-use Rattle.read.specs.declared.Filled.TheVariants as Filled
 use Rattle.versions.specs.Store.{Areas, areas_differ, lines_in, line_in, number_on, part_on}
 use Rattle.versions.specs.Size.{is_there, not_there, bytes_in}
 use Rattle.walk.specs.FindPage.{page_number_of, is_lost, or_zero}

@@ -1,5 +1,6 @@
 // READ: a range of a version's bytes, copied to the front of a buffer.
 #![tactic(auto)]
+
 ghost use Rattle.std.specs.Prelude.{◌≡◌, ◌+◌, ◌^◌, ◌<◌, ◌≤◌, [], ◌++◌, ltb, length, drop};
 ghost use Rattle.table.specs.Table.{unless};
 ghost use Rattle.read.specs.Range.{range_refusal, range_number, Ranged, or_lost, chunk_at, Readable};

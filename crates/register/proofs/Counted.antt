@@ -1,6 +1,6 @@
 -- The node count of an update: its pages lie within the limits, and capped sums say the same of it. Assumes nothing.
 use mathlib.Core.Path.{◌≡◌}
-use Prim.Native.Nat.{ℕ, ◌+◌, ◌-◌, ◌^◌, ◌≤◌, min, max}
+use Prim.Native.Nat.{ℕ, ◌-◌, ◌^◌, min, max}
 use native.Mathlib.Omega.{arith}
 use Rattle.tree.specs.Tree.{root_height}
 use Rattle.register.specs.Register.{limited}

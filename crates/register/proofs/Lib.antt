@@ -1,4 +1,3 @@
 pub mod Records
 pub mod Within
 pub mod Counted
-pub mod Generated

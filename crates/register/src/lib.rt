@@ -1,5 +1,6 @@
 // The register of updates: a lent run of records, one an update, and the search in it for the newest update over a range.
 #![tactic(auto)]
+
 ghost use Rattle.std.specs.Prelude.{◌≡◌, ◌+◌, ◌-◌, ◌^◌, ◌<◌, min, max, leb, get_or};
 ghost use Rattle.tree.specs.Tree.{nth};
 ghost use Rattle.register.specs.Register.{no_record, part_of, in_limits, limited, update_of, extent_of, with_record, version_part, newest_own, highest};

@@ -4,38 +4,25 @@ use Rattle.versions.specs.declared.Store.{Store}
 use Rattle.versions.specs.Store.{with_lines}
 use Rattle.format.specs.Format.{fresh}
 use Rattle.format.specs.declared.Formatted.{Formatted}
-use Rattle.format.specs.declared.Formatted.TheVariants as Formatted
 use Rattle.begin.specs.declared.Begun.{Begun}
-use Rattle.begin.specs.declared.Begun.TheVariants as Begun
 use Rattle.begin.specs.declared.BeginOut.{BeginOut}
 use Rattle.put.specs.declared.PutIn.{PutIn}
-use Rattle.put.specs.declared.PutIn.TheVariants as PutIn
 use Rattle.assign.specs.declared.Assigned.{Assigned}
-use Rattle.assign.specs.declared.Assigned.TheVariants as Assigned
 use Rattle.assign.specs.declared.AssignOut.{AssignOut}
 use Rattle.weave.specs.declared.Woven.{Woven}
-use Rattle.weave.specs.declared.Woven.TheVariants as Woven
 use Rattle.publish.specs.declared.Published.{Published}
-use Rattle.publish.specs.declared.Published.TheVariants as Published
 use Rattle.publish.specs.declared.PublishOut.{PublishOut}
 use Rattle.branch.specs.declared.Branched.{Branched}
-use Rattle.branch.specs.declared.Branched.TheVariants as Branched
 use Rattle.branch.specs.declared.BranchOut.{BranchOut}
 use Rattle.read.specs.declared.Filled.{Filled}
-use Rattle.read.specs.declared.Filled.TheVariants as Filled
 use Rattle.versions.specs.declared.Sized.{Sized}
-use Rattle.versions.specs.declared.Sized.TheVariants as Sized
 use Rattle.versions.specs.declared.Latest.{Latest}
-use Rattle.versions.specs.declared.Latest.TheVariants as Latest
 use Rattle.stamp.specs.declared.Stamped.{Stamped}
-use Rattle.stamp.specs.declared.Stamped.TheVariants as Stamped
 use Rattle.view.specs.declared.Viewed.{Viewed}
-use Rattle.view.specs.declared.Viewed.TheVariants as Viewed
 use Rattle.lines.specs.Lines.{no_lines}
 use Rattle.windows.specs.declared.Windows.{Windows}
 use Rattle.windows.specs.Windows.{no_windows}
 use Rattle.set_windows.specs.declared.WindowsSet.{WindowsSet}
-use Rattle.set_windows.specs.declared.WindowsSet.TheVariants as WindowsSet
 use Rattle.set_windows.specs.declared.WindowsOut.{WindowsOut}
 use Rattle.replies.specs.declared.FormatReply.{FormatReply}
 use Rattle.replies.specs.declared.BeginReply.{BeginReply}

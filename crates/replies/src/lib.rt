@@ -1,6 +1,7 @@
 // What each call replies to C: structs of plain numbers, from the call's own answer, each by its definition in specs/Replies.
 // A reply begins with the number of the refusal, 0 where the call was accepted.
 #![tactic(auto)]
+
 ghost use Rattle.std.specs.Prelude.{◌≡◌};
 ghost use Rattle.replies.specs.Replies.{no_store, format_reply, begin_reply, put_reply, assign_reply, weave_reply, publish_reply, windows_reply, branch_reply, read_reply, size_reply, recent_reply, stamp_reply, view_reply};
 

@@ -9,7 +9,6 @@ use Rattle.tree.specs.declared.Found.TheVariants.{Leaf, Lost}
 use Rattle.table.specs.Table.{◌≤?◌, ◌and◌, ◌or◌, test, ◌gives◌, every_call, first_refusal, or_else, page_rows}
 use Rattle.versions.specs.declared.Store.{Store}
 use Rattle.stamp.specs.declared.Stamped.{Stamped}
-use Rattle.stamp.specs.declared.Stamped.TheVariants as Stamped
 use Rattle.versions.specs.Store.{Areas, areas_differ, lines_in, line_in, number_on, part_on}
 use Rattle.versions.specs.Size.{is_there, not_there, pages_by, pages_in}
 use Rattle.walk.specs.FindPage.{find_page, number_within, page_number_of, is_lost, or_zero}

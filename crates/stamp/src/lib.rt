@@ -1,5 +1,6 @@
 // STAMP: the version of a line since which a page has had the bytes that it has in a version.
 #![tactic(auto)]
+
 ghost use Rattle.std.specs.Prelude.{◌≡◌, []};
 ghost use Rattle.stamp.specs.Stamp.{page_refusal, version_found, found_by, leaf_as_of, same_below, since, stamped, stamp_out};
 ghost use Rattle.versions.specs.Store.{areas_of};

@@ -1,6 +1,6 @@
 -- What the test `meets` says, and the equations of `nodes` by it.
 -- Assumes nothing.
-use Rattle.std.proofs.Common.{◌≡◌, ℕ, zero, suc, ◌+◌, ◌^◌, ◌<◌, ◌≤◌, Bool, true, false, ◌&&◌, ltb, leb, ◌⊎◌, [], ◌∷◌, ◌++◌, refl, inl, inr, arith, ltb-false, ltb-true, le-ltb, lt-ltb, le-leb, leb-true}
+use Rattle.std.proofs.Common.{◌≡◌, ℕ, zero, suc, ◌+◌, ◌^◌, ◌<◌, ◌≤◌, true, false, ◌&&◌, ltb, leb, [], ◌∷◌, ◌++◌, refl, inl, inr, arith, ltb-true, le-ltb, lt-ltb, le-leb, leb-true}
 use mathlib.Core.Bool.{and-eq-true_iff}
 use borrow.Author.Tests.{lt-leb}
 use Rattle.tree.specs.Tree.{node, meets, nodes}

@@ -1,5 +1,6 @@
 // The tree of a version: spans, the nodes that an update makes and their order, and the node area.
 #![tactic(auto)]
+
 ghost use Rattle.std.specs.Prelude.{◌≡◌, ℕ, ◌+◌, ◌-◌, ◌*◌, ◌^◌, ◌<◌, min, true, count_ones};
 ghost use Rattle.tree.specs.Place.{kth, first, halvings, node_numbered};
 ghost use Rattle.tree.specs.NodeArea.{node_at, with_node};
@@ -211,16 +212,14 @@ pub fn store_node(nodes: &mut [u32], place: u64, left: u32, right: u32)
 }
 
 // For C: the span of the root for a size in pages, or 0.
-#[unsafe(no_mangle)]
-pub extern "C" fn pit_root_span(size: u64) -> u64
+pub fn pit_root_span(size: u64) -> u64
     ensures { result ≡ root_span size }
 {
     root_span(size)
 }
 
 // For C: the node count of an update of n pages from f on that leaves the blob at a size in pages, or 0 where there is no such update.
-#[unsafe(no_mangle)]
-pub extern "C" fn pit_node_count(f: u64, n: u64, size: u64) -> u64
+pub fn pit_node_count(f: u64, n: u64, size: u64) -> u64
     ensures { result ≡ nodes_for f n size }
 {
     if n == 0 {
@@ -244,8 +243,7 @@ pub extern "C" fn pit_node_count(f: u64, n: u64, size: u64) -> u64
 }
 
 // For C: the worst node count of a write of n pages into a blob of exactly r pages that stays inside them, or 0 for an r or n that it is not asked for.
-#[unsafe(no_mangle)]
-pub extern "C" fn pit_worst(r: u64, n: u64) -> u64
+pub fn pit_worst(r: u64, n: u64) -> u64
     ensures { result ≡ worst_for r n }
 {
     worst(r, n)

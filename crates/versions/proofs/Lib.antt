@@ -3,4 +3,3 @@ pub mod Bits
 pub mod Ticket
 pub mod Rows
 pub mod Own
-pub mod Generated

@@ -4,7 +4,6 @@ use Rattle.table.specs.Table.{◌gives◌, never, every_call, first_refusal, lin
 use Rattle.versions.specs.declared.Store.{Store}
 use Rattle.versions.specs.declared.Lengths.{Lengths}
 use Rattle.versions.specs.declared.Latest.{Latest}
-use Rattle.versions.specs.declared.Latest.TheVariants as Latest
 use Rattle.versions.specs.Store.{Areas, differ, areas_differ, lines_in, line_in}
 
 -- Rows 3 and 20, with which PUBLISH and RECENT begin.

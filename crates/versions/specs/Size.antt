@@ -7,7 +7,6 @@ use Rattle.versions.specs.declared.Store.{Store}
 use Rattle.versions.specs.declared.Lengths.{Lengths}
 use Rattle.versions.specs.declared.Opened.{Opened}
 use Rattle.versions.specs.declared.Sized.{Sized}
-use Rattle.versions.specs.declared.Sized.TheVariants as Sized
 use Rattle.versions.specs.Store.{Areas, differ, areas_differ, lines_in, line_in, number_on, part_on}
 
 -- The size in pages of version v, as its record's part q says; version 0 is empty.

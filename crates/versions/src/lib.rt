@@ -2,6 +2,7 @@
 // A call takes the store by value and its areas lent, and hands the store back. No call has a `requires`. A covered function finds the refusal, by the rows
 // of the table in their order; the call acts where it finds none.
 #![tactic(auto)]
+
 ghost use Rattle.std.specs.Prelude.{◌≡◌, pred, min, ◌+◌, ◌-◌, ◌*◌, ◌^◌, [], ◌∷◌, eqb};
 ghost use Rattle.lines.specs.Lines.{owner_of};
 ghost use Rattle.register.specs.Register.{with_record};

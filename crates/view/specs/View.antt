@@ -4,7 +4,6 @@ use Rattle.pages.specs.Pages.{part}
 use Rattle.table.specs.Table.{unless}
 use Rattle.versions.specs.declared.Store.{Store}
 use Rattle.view.specs.declared.Viewed.{Viewed}
-use Rattle.view.specs.declared.Viewed.TheVariants as Viewed
 use Rattle.versions.specs.Store.{Areas, number_on}
 use Rattle.walk.specs.FindPage.{page_number_of, or_zero}
 use Rattle.stamp.specs.Stamp.{stamp_number}

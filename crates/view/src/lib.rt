@@ -1,5 +1,6 @@
 // VIEW: the bytes of a page as of a version of a line, as a part of the page area.
 #![tactic(auto)]
+
 ghost use Rattle.std.specs.Prelude.{◌≡◌, ◌*◌, ◌^◌, ◌<◌, []};
 ghost use Rattle.pages.specs.Pages.{part};
 ghost use Rattle.table.specs.Table.{unless};

@@ -1,3 +1,2 @@
 pub mod FromRoot
 pub mod Ends
-pub mod Generated

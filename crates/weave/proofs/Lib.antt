@@ -2,4 +2,3 @@ pub mod NextNode
 pub mod Numbers
 pub mod Older
 pub mod Room
-pub mod Generated

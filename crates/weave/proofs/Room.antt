@@ -4,12 +4,11 @@ use mathlib.Core.Path.{◌≡◌, refl, sym, ap, ◌∙◌}
 use mathlib.Core.Bool.{Bool, true, false, ◌&&◌, ◌||◌, or-false}
 use mathlib.Core.Logic.{inl, inr}
 use mathlib.Core.List.{List}
-use Prim.Native.Nat.{ℕ, zero, suc, ◌+◌, ◌-◌, ◌^◌, ◌≤◌, ◌<◌}
+use Prim.Native.Nat.{ℕ, zero, suc, ◌+◌, ◌-◌, ◌^◌, ◌<◌}
 use native.Mathlib.Omega.{arith}
-use borrow.Author.Tests.{lt-ltb, le-ltb, le-leb, lt-leb}
-use lib.Dec.{ltb, leb, eqb}
+use borrow.Author.Tests.{lt-ltb, le-leb}
+use lib.Dec.{ltb, eqb}
 use lib.Pow.{pow_pos}
-use Rattle.tree.specs.Tree.{Node, node}
 use Rattle.tree.proofs.Meets.{lt-or-le}
 use Rattle.lines.specs.Lines.{pick}
 use Rattle.register.specs.Register.{update_of}
@@ -18,7 +17,7 @@ use Rattle.register.specs.declared.Part.{Part}
 use Rattle.register.proofs.Records.{update_of-inside}
 use Rattle.table.specs.Table.{or_else, unless, weave_rows}
 use Rattle.weave.specs.Weave.{next_node, next_place, weave_refusal, older_number, meets_left, meets_right, lost_half, lost_child, lost_by, wove}
-use Rattle.weave.specs.Plan.{NextOf, span_sought, Planned, Children, lost_number}
+use Rattle.weave.specs.Plan.{span_sought, Planned, Children, lost_number}
 use Rattle.versions.specs.declared.Store.{Store}
 use Rattle.versions.specs.declared.Lengths.{Lengths}
 use Rattle.weave.specs.declared.Next.{Next}

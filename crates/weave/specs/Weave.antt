@@ -13,7 +13,6 @@ use Rattle.versions.specs.declared.Store.{Store}
 use Rattle.versions.specs.declared.Lengths.{Lengths}
 use Rattle.weave.specs.declared.WovenNode.{WovenNode}
 use Rattle.weave.specs.declared.Woven.{Woven}
-use Rattle.weave.specs.declared.Woven.TheVariants as Woven
 use Rattle.versions.specs.Store.{Areas, areas_of, lengths_of, differ, record_of, line_in, number_on}
 use Rattle.walk.specs.FindPage.{reach_from}
 use Rattle.descent.specs.Places.{or_most}

@@ -1,5 +1,6 @@
 // WEAVE: one node of a version's tree, stored at its place.
 #![tactic(auto)]
+
 ghost use Rattle.std.specs.Prelude.{◌≡◌, ℕ, suc, pred, ◌+◌, ◌-◌, ◌^◌, ◌<◌, List, leb};
 ghost use Rattle.tree.specs.Tree.{nth};
 ghost use Rattle.tree.specs.NodeArea.{with_node};

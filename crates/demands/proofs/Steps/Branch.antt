@@ -13,10 +13,9 @@ use lib.ListN.{length, take, get_or-eq_default}
 use lib.Seq.{length-take-le}
 use Rattle.tree.specs.Tree.{nth}
 use Rattle.tree.proofs.Meets.{lt-or-le}
-use Rattle.lines.specs.declared.Branch.{Branch}
 use Rattle.table.specs.Table.{unless, branch_rows}
 use Rattle.versions.specs.declared.Store.{Store}
-use Rattle.versions.specs.Store.{lines_in, line_in, number_on, part_on}
+use Rattle.versions.specs.Store.{lines_in, number_on, part_on}
 use Rattle.versions.specs.Size.{not_there, pages_in}
 use Rattle.branch.specs.Branch.{branch_number, begun_from, with_branch, branched as branched_case}
 use Rattle.model.specs.Calls.{on, BRANCH, line_is, answers}

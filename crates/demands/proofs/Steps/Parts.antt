@@ -3,7 +3,7 @@
 use mathlib.Core.Path.{◌≡◌, sym, ◌∙◌}
 use mathlib.Core.Logic.{inl, inr, ◌≢◌}
 use mathlib.Core.List.{List, [], ◌∷◌, ◌++◌}
-use Prim.Native.Nat.{ℕ, zero, suc, ◌+◌, ◌≤◌, ◌<◌}
+use Prim.Native.Nat.{ℕ, zero, suc, ◌≤◌, ◌<◌}
 use native.Mathlib.Omega.{arith}
 use borrow.Author.Tests.{lt-ltb, le-ltb}
 use lib.Dec.{ltb}
@@ -16,7 +16,7 @@ use Rattle.lines.specs.declared.Entries.{Entries}
 use Rattle.lines.proofs.Packed.{entries-same}
 use Rattle.register.specs.Register.{no_record, with_ticket_fields, with_update_fields, with_entries}
 use Rattle.register.specs.declared.Record.{Record}
-use Rattle.model.specs.History.{Ticket, Version, no_version, pages_of, to_update}
+use Rattle.model.specs.History.{Ticket, Version, no_version, pages_of}
 use Rattle.model.specs.Model.{Limits, Model, update_at, ticket_update}
 use Rattle.register.specs.declared.Part.{Part}
 use Rattle.model.specs.OnModel.{ticket_in, either}

@@ -21,7 +21,7 @@ use Rattle.windows.proofs.Placed.{placed-inside}
 use Rattle.versions.specs.Store.{line_in, with_line}
 use Rattle.publish.specs.Publish.{has_next, number_by, next_number, next_part, lost, publish_number, due_by, with_published, published, store_if}
 use Rattle.model.specs.Calls.{on, PUBLISH, published_is, waiting, held, answers}
-use Rattle.model.specs.History.{updates, complete, due}
+use Rattle.model.specs.History.{complete, due}
 use Rattle.model.specs.Model.{Limits, Model, line_at, history, number_in}
 use Rattle.model.specs.OnModel.{publish_number as model_number, published as published_model, either, on_line, on_model}
 use Rattle.model.proofs.Lists.Tab.{tab-same}

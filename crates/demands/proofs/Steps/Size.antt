@@ -6,25 +6,25 @@ use native.Mathlib.Nat.{mul-le-mul}
 use native.Mathlib.Omega.{arith}
 use lib.ListN.{length}
 use Rattle.tree.specs.Tree.{Update}
-use Rattle.register.specs.Register.{no_record, part_of, version_record}
+use Rattle.register.specs.Register.{part_of}
 use Rattle.register.specs.declared.Part.{Part}
 use Rattle.register.proofs.Records.{version-own}
-use Rattle.versions.specs.Store.{lines_in, line_in, number_on, part_on}
+use Rattle.versions.specs.Store.{number_on, part_on}
 use Rattle.versions.specs.Size.{pages_by, pages_in, bytes_by, bytes_in, not_there, size_number, sized}
-use Rattle.table.specs.Table.{first_refusal, size_rows}
+use Rattle.table.specs.Table.{size_rows}
 use Rattle.model.specs.Calls.{size, size_is, says, answers}
 use Rattle.model.specs.History.{version_at}
-use Rattle.model.specs.Model.{Limits, Model, line_at, history, number_in}
+use Rattle.model.specs.Model.{Limits, Model, line_at, history}
 use Rattle.model.specs.OnModel.{model_outcome, size_number as model_number}
 use Rattle.model.proofs.Model.Sound.{Sound}
 use Rattle.model.proofs.History.SoundHistory.{line-history, size_small}
-use Rattle.model.proofs.Model.Shown.{shown_at, versions-length}
+use Rattle.model.proofs.Model.Shown.{versions-length}
 use Rattle.model.proofs.History.Updates.{update-at}
 use Rattle.model.proofs.Model.Passed.{size-passed}
 use Rattle.model.proofs.Area.Woven.{published-upto}
 use Rattle.demands.specs.Answers.{sized_answer}
 use Rattle.demands.specs.Run.{store_outcome}
-use Rattle.demands.proofs.Image.{record_image, register_image, store_image, areas_image, image}
+use Rattle.demands.proofs.Image.{register_image, store_image, areas_image, image}
 use Rattle.demands.proofs.Lines.{lines-in, line-in, number-on, part-on, name-shown}
 use Rattle.demands.proofs.Readings.{answers-same, sized_reads}
 use Rattle.demands.proofs.Steps.Numbers.{alike_same, image-number}

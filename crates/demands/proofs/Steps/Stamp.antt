@@ -1,7 +1,7 @@
 -- STAMP on a model's image: the number and the version are the model's.
 -- Assumes nothing.
 use mathlib.Core.Path.{◌≡◌, ap, ◌∙◌}
-use Prim.Native.Nat.{ℕ, ◌≤◌, ◌<◌}
+use Prim.Native.Nat.{ℕ}
 use native.Mathlib.Omega.{arith}
 use borrow.Author.Tests.{lt-ltb}
 use lib.ListN.{length}
@@ -14,7 +14,7 @@ use Rattle.stamp.specs.Stamp.{stamp_number, stamp_by, stamped}
 use Rattle.model.specs.Calls.{stamp, stamp_is, answers}
 use Rattle.model.specs.History.{version_at, updates}
 use Rattle.model.specs.Stamp.{stamp_at}
-use Rattle.model.specs.Model.{Limits, Model, line_at, history, number_in}
+use Rattle.model.specs.Model.{Limits, Model, line_at, history}
 use Rattle.model.specs.Layout.{leaf_number}
 use Rattle.model.specs.OnModel.{model_outcome, page_number}
 use Rattle.model.proofs.Model.Sound.{Sound}

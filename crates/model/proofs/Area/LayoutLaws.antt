@@ -10,7 +10,6 @@ use Prim.Native.Nat.{ℕ, zero, suc, pred, ◌+◌, ◌-◌, ◌*◌, ◌^◌, �
 use native.Mathlib.Nat.{suc_inj, add-zero}
 use native.Mathlib.Omega.{arith}
 use borrow.Author.Tests.{lt-ltb, ltb-true}
-use lib.Dec.{ltb}
 use lib.ListN.{length, get_or, set, length-replicate}
 use Rattle.tree.specs.Tree.{Update, count_of, nth, update, height_of}
 use Rattle.tree.specs.Place.{first, index}

@@ -5,7 +5,7 @@ use Prim.Native.Nat.{ℕ, zero, suc, ◌≤◌, ◌<◌}
 use native.Mathlib.Omega.{arith}
 use lib.ListN.{length}
 use Rattle.tree.specs.Tree.{Update, nth, count_of}
-use Rattle.model.specs.History.{Version, pages_of, to_update, updates}
+use Rattle.model.specs.History.{Version, pages_of, to_update}
 use Rattle.model.specs.Model.{Line, Model, line_at, update_at, ticket_update}
 use Rattle.model.specs.OnModel.{ticket_in}
 use Rattle.model.proofs.Model.Shown.{Whole}

@@ -7,7 +7,7 @@ use native.Mathlib.Decide.{ℕ_discrete}
 use native.Mathlib.Omega.{arith}
 use lib.ListN.{length, set, length-set}
 use Rattle.tree.specs.Tree.{count_of}
-use Rattle.model.specs.History.{Ticket, no_ticket, pages_of, to_update, updates}
+use Rattle.model.specs.History.{Ticket, no_ticket, pages_of, to_update}
 use Rattle.model.specs.Model.{Limits, Model, line_at, update_at, with_tickets}
 use Rattle.model.specs.OnModel.{ticket_in}
 use Rattle.model.proofs.Model.Sound.{SoundGiven, TicketSound, UpdateSound}
