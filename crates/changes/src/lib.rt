@@ -1,6 +1,7 @@
 // The steps of the step program that change an area, each by its call, on areas of the store's lengths: the crates of the calls decide, and `answers` writes the
 // answer.
 #![tactic(auto)]
+
 ghost use Rattle.std.specs.Prelude.{◌≡◌, [], take};
 ghost use Rattle.versions.specs.Store.{areas_of, line_in};
 ghost use Rattle.format.specs.Format.{fresh, format_answer, format_areas};

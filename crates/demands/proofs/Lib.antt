@@ -14,3 +14,5 @@ pub mod Puts
 pub mod Steps
 -- Theorem: the three demands, and the isolation of lines.
 pub mod Demanded
+mod Example
+mod LinesByCalls

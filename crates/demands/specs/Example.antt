@@ -73,7 +73,3 @@ format-accepts = refl
 pub by-model : outcomes (on_model limits) no_model calls ≡ given
 unfolding computes limits calls given
 by-model = refl
-
-pub by-calls : outcomes on_store (formatted_state limits areas) calls ≡ given
-unfolding computes limits areas calls given
-by-calls = refl

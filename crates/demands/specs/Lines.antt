@@ -17,10 +17,6 @@ use Rattle.demands.specs.Rows.{no, no_read, with_areas}
 unfoldable pub areas : Areas
 areas = record { pages = replicate 128 1; nodes = replicate 32 1; register = replicate 8 no_record }
 
-pub two-lines : outcomes on_store (formatted_state limits areas) (calls ++ more) ≡ given ++ given_more
-unfolding computes limits areas calls given more given_more
-two-lines = refl
-
 pub sixteen : outcomes on_store (formatted_state limits areas) branches ≡ given_branches
 unfolding computes limits areas branches given_branches
 sixteen = refl
@@ -84,10 +80,6 @@ given_words =
 pub words-by-model : outcomes (on_model limits) (model_after limits branches) words ≡ given_words
 unfolding computes limits branches words given_words
 words-by-model = refl
-
-pub words-by-calls : outcomes on_store (store_after limits areas branches) words ≡ given_words
-unfolding computes limits areas branches words given_words
-words-by-calls = refl
 
 -- ---- what lines 0 and 1 share, and line 3 from version 3 of line 1
 
@@ -186,10 +178,6 @@ given_third =
 pub third-by-model : outcomes (on_model limits) (model_after limits (calls ++ more)) third ≡ given_third
 unfolding computes limits calls more third given_third
 third-by-model = refl
-
-pub third-by-calls : outcomes on_store (store_after limits areas (calls ++ more)) third ≡ given_third
-unfolding computes limits areas calls more third given_third
-third-by-calls = refl
 
 -- The tree of version 4 of line 3, which is version 4 of line 4 too: nodes of lines 3, 0 and 1, each by its own number.
 abbrev tree : Tree

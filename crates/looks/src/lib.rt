@@ -1,5 +1,6 @@
 // The steps of the step program that change no area, each by its call: the crates of the calls decide, and `answers` writes the answer.
 #![tactic(auto)]
+
 ghost use Rattle.std.specs.Prelude.{◌≡◌, []};
 ghost use Rattle.tree.specs.Worst.{worst_for};
 ghost use Rattle.windows.specs.Windows.{no_windows};

@@ -6,9 +6,7 @@ use Rattle.versions.specs.Store.{Areas, areas_of}
 use Rattle.answers.specs.declared.Kept.{Kept}
 use Rattle.wanted.specs.declared.Wanted.TheVariants as Wanted
 use Rattle.wanted.specs.declared.Note.{Note}
-use Rattle.wanted.specs.declared.Note.TheVariants as Note
 use Rattle.wanted.specs.declared.Look.{Look}
-use Rattle.wanted.specs.declared.Look.TheVariants as Look
 use Rattle.wanted.specs.Steps.{step_said, step_areas}
 
 pub note-said : (k : Kept) (s : Note) (a : Areas) (b : List ℕ) → step_said k (Wanted.Note s) a [] ≡ step_said k (Wanted.Note s) a b

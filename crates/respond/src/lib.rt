@@ -1,5 +1,6 @@
 // One step of the step program, lent its store's areas. `wanted` has said what it asks for; `changes` and `looks` make the call.
 #![tactic(auto)]
+
 ghost use Rattle.std.specs.Prelude.{◌≡◌};
 ghost use Rattle.versions.specs.Store.{areas_of};
 ghost use Rattle.answers.specs.Answers.{turned};

@@ -1,6 +1,7 @@
 // The step program: it reads steps from standard input, a line each, and writes one answer line each. `main` lends the arrays; `parse` cuts lines out of
 // what is read, and `respond` answers them.
 #![tactic(auto)]
+
 ghost use Rattle.std.specs.Prelude.{◌≡◌, ◌≤◌, length, true, not};
 ghost use Rattle.versions.specs.Store.{areas_of};
 ghost use Rattle.wanted.specs.Wanted.{nothing_kept};
@@ -10,6 +11,7 @@ ghost use Rattle.steps.specs.Places.{next_place, line_said, line_areas};
 use answers::{Kept, Turn};
 use parse::{Cutter, Fed};
 use register::Record;
+use std::io::{Read, Stdin, Stdout};
 
 // Where the program stands between two lines: what is kept, and whether it is to end, since an answer could not be written.
 #[derive(Clone, Copy)]
@@ -55,20 +57,23 @@ fn line_start(from: Input) -> Input
     }
 }
 
-// Reads what is there of standard input, at most a block, and waits where nothing is; 0 at its end.
-fn read_block(block: &mut [u8]) -> usize
+// Reads what is there of standard input, at most a block, and waits where nothing is; 0 at its end, or where it cannot be read.
+fn read_block(stdin: Stdin, block: &mut [u8]) -> usize
     ensures { result ≤ length block.old }
 {
-    let got = libc::read(libc::STDIN_FILENO, block);
-    io::count(got, block)
+    let mut reader = stdin;
+    match reader.read(block) {
+        Ok(n) => n,
+        Err(_) => 0,
+    }
 }
 
 // Reads the next block. At the end of the input a last line without its line feed is to be answered.
-fn read_on(from: Input, block: &mut [u8]) -> Input
+fn read_on(from: Input, stdin: Stdin, block: &mut [u8]) -> Input
     ensures { (result ≡ block_read from result.end) × (result.end ≤ length block.old) }
 {
     let cutter = from.cutter;
-    let n = read_block(block);
+    let n = read_block(stdin, block);
     if n == 0 {
         return Input {
             cutter,
@@ -112,25 +117,25 @@ fn take_line(from: Input, block: &[u8], text: &mut [u8]) -> Input
 
 // Takes the next line of the input, which may have to be read first; none is due where the input has ended. A proved loop has to end, and nothing says that
 // the input does, so the turns count down from a number that no run uses up.
-fn next_line(from: Input, block: &mut [u8], text: &mut [u8]) -> Input
+fn next_line(from: Input, stdin: Stdin, block: &mut [u8], text: &mut [u8]) -> Input
     requires { from.end ≤ length block.old }
     ensures { result.end ≤ length block.old }
 {
     let mut input = take_line(line_start(from), block, text);
     let mut turns = u64::MAX;
     while turns > 0 && !input.due && !input.closed {
-        input = take_line(read_on(input, block), block, text);
+        input = take_line(read_on(input, stdin, block), block, text);
         turns -= 1;
     }
     input
 }
 
 // Writes the first n bytes to standard output; false where it cannot.
-fn write_out(out: &[u8], n: usize) -> bool {
+fn write_out(stdout: Stdout, out: &[u8], n: usize) -> bool {
     if n > out.len() {
         return false;
     }
-    io::write_all(libc::STDOUT_FILENO, &out[..n])
+    stdout.write_all(&out[..n]).is_ok()
 }
 
 // The place at the start of a line.
@@ -152,11 +157,11 @@ fn first_place() -> Place
 }
 
 // The place after a turn, whose answer it writes out.
-fn place_after(t: Turn) -> Place
+fn place_after(stdout: Stdout, t: Turn) -> Place
     ensures { result ≡ next_place t.kept (not result.ended) }
 {
     let line = t.line;
-    let written = write_out(&line, t.len);
+    let written = write_out(stdout, &line, t.len);
     next_place(t.kept, written)
 }
 
@@ -169,6 +174,7 @@ fn answer(
     pages: &mut [u8],
     nodes: &mut [u32],
     register: &mut [Record],
+    stdout: Stdout,
 ) -> Place
     ensures { let a = areas_of pages.old nodes.old register.old in
         let x = text.now in
@@ -188,11 +194,13 @@ fn answer(
         &mut register[..l.register],
         &bytes,
     );
-    place_after(t)
+    place_after(stdout, t)
 }
 
 // A proved loop has to end: the turns count down as in `next_line`.
-fn main() {
+fn main(rt: HostRuntime) {
+    let stdin = rt.stdin();
+    let stdout = rt.stdout();
     let mut block = [0u8; 4096];
     let mut text = [0u8; 600];
     let mut pages = [0u8; 32768];
@@ -203,7 +211,7 @@ fn main() {
     let mut input = no_input();
     let mut turns = u64::MAX;
     while turns > 0 {
-        input = next_line(input, &mut block, &mut text);
+        input = next_line(input, stdin, &mut block, &mut text);
         if !input.due {
             return;
         }
@@ -214,6 +222,7 @@ fn main() {
             &mut pages,
             &mut nodes,
             &mut register,
+            stdout,
         );
         if place.ended {
             return;

@@ -1,6 +1,6 @@
 -- What the isolation of lines gives of two lists of calls. Assumes nothing.
 use mathlib.Core.Path.{◌≡◌, refl, sym, ap, ◌∙◌}
-use mathlib.Core.Bool.{true, false, false≢true}
+use mathlib.Core.Bool.{false, false≢true}
 use mathlib.Core.Option.{some}
 use mathlib.Core.List.{List, [], ◌∷◌, ◌++◌, map}
 use Prim.Native.Nat.{ℕ, zero, suc, ◌≤◌, ◌<◌}
@@ -16,7 +16,7 @@ use Rattle.model.specs.Run.{run, model_after}
 use Rattle.model.specs.Example.{computes, page_of}
 use Rattle.model.specs.Stamps.{sends}
 use Rattle.versions.specs.Store.{Areas}
-use Rattle.isolation.specs.Isolation.{among, absent, own_number, written_at, woven_at, Tickets, Matched, Match, SameUpTo, kth, SameCall, put, weave, write, append, query, new_ticket, other_put, other_weave, other_line, new_line, Twins, end, first, second, begin, both, Agree, IsolatedBy}
+use Rattle.isolation.specs.Isolation.{among, absent, own_number, written_at, woven_at, Tickets, Matched, Match, SameUpTo, kth, SameCall, put, weave, write, append, query, new_ticket, other_put, other_weave, other_line, new_line, Twins, end, second, begin, both, Agree, IsolatedBy}
 use Rattle.demands.specs.Demands.{Accepted}
 use Rattle.demands.proofs.Demanded.{as-model, isolated}
 use Rattle.uses.specs.Accepted.{limits}

@@ -5,10 +5,8 @@ use Rattle.versions.specs.declared.Store.{Store}
 use Rattle.versions.specs.declared.Lengths.{Lengths}
 use Rattle.format.specs.Format.{fresh}
 use Rattle.parse.specs.declared.Step.{Step}
-use Rattle.parse.specs.declared.Step.TheVariants as Step
 use Rattle.answers.specs.declared.Kept.{Kept}
 use Rattle.wanted.specs.declared.Wanted.{Wanted}
-use Rattle.wanted.specs.declared.Wanted.TheVariants as Wanted
 use Rattle.wanted.specs.declared.Fill.TheVariants as Fill
 use Rattle.wanted.specs.declared.Note.TheVariants as Note
 use Rattle.wanted.specs.declared.Look.TheVariants as Look

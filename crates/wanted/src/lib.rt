@@ -1,5 +1,6 @@
 // What a line of the step program asks for, within the program's own limits, and the lengths of the areas that it is lent. `parse` has read the text; `respond` does it.
 #![tactic(auto)]
+
 ghost use Rattle.std.specs.Prelude.{◌≡◌, ◌*◌, min};
 ghost use Rattle.text.specs.Buffer.{front};
 ghost use Rattle.parse.specs.Cut.{cut_meant};

@@ -1,8 +1,0 @@
--- The facts that the walk of `looks::size_step` asks for. The author's file: tools/walkgen wrote its skeleton once, and with --rebind brings the arguments up to date.
-use mathlib.Core.Path.{refl}
-use Rattle.looks.proofs.size_step.Proof.Asks as Asks
-
--- the function ensures: r ≡ turned (size_said kept (size_out kept.store (areas_of pages nodes register) l v))
--- here: size-step''.ens kept x-l x-v pages nodes register (r2 kept x-l x-v pages nodes register)
-pub exit-1 : Asks.exit-1
-exit-1 kept x-l x-v pages nodes register ok-kept fits-x-l fits-x-v len-pages len-nodes len-register ok-r1 ok-r2 = refl
