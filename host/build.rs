@@ -1,6 +1,6 @@
 //! Links the proved static libraries, `libexports.a` (the store's calls) and `libtree.a` (the sizes):
 //! from the folder that `PIT_LIB_DIR` names, else from `target/staticlib` at the top of the repository,
-//! where `rt staticlib exports` and `rt staticlib tree` write them.
+//! where `tools/build exports tree` writes them.
 //!
 //! Where one is missing, that is a warning: `cargo check` and `cargo doc` link nothing and do without. What links
 //! fails then, at the library.
@@ -34,7 +34,7 @@ fn link(folder: &Path, name: &str) {
     println!("cargo:rerun-if-changed={}", library.display());
     if !library.is_file() {
         println!(
-            "cargo:warning={} is missing, so nothing links: run ./test, or `rt staticlib {name}`, at the top of the repository",
+            "cargo:warning={} is missing, so nothing links: run ./test, or `tools/build {name}`, at the top of the repository",
             library.display()
         );
     }

@@ -13,7 +13,6 @@ use Rattle.table.specs.Table.{◌≤?◌, ◌<?◌, ◌or◌, ◌gives◌, every
 use Rattle.versions.specs.declared.Store.{Store}
 use Rattle.versions.specs.declared.Lengths.{Lengths}
 use Rattle.assign.specs.declared.Assigned.{Assigned}
-use Rattle.assign.specs.declared.Assigned.TheVariants as Assigned
 use Rattle.assign.specs.declared.AssignOut.{AssignOut}
 use Rattle.versions.specs.Store.{Areas, lengths_of, differ, with_updates, record_of, lines_in, line_in, with_line}
 

@@ -1,5 +1,6 @@
 // ASSIGN, as a write or an append: the next version of a line and its node count.
 #![tactic(auto)]
+
 ghost use Rattle.std.specs.Prelude.{◌≡◌, suc, pred, min, max, ◌+◌, ◌-◌, ◌^◌, ◌<◌, ◌≤◌, ltb, get_or, [], ◌∷◌};
 ghost use Rattle.tree.specs.Tree.{count_of, nth};
 ghost use Rattle.register.specs.Register.{no_record, with_record};

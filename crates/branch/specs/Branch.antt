@@ -4,7 +4,6 @@ use Rattle.lines.specs.declared.Branch.{Branch}
 use Rattle.table.specs.Table.{every_call, first_refusal, unless, branch_rows}
 use Rattle.versions.specs.declared.Store.{Store}
 use Rattle.branch.specs.declared.Branched.{Branched}
-use Rattle.branch.specs.declared.Branched.TheVariants as Branched
 use Rattle.branch.specs.declared.BranchOut.{BranchOut}
 use Rattle.versions.specs.Store.{Areas, areas_differ, with_lines, lines_in, line_in, with_line, number_on, part_on}
 use Rattle.versions.specs.Size.{not_there, pages_in}

@@ -1,5 +1,6 @@
 // BRANCH: a new line from a published version of a line, sharing all up to it.
 #![tactic(auto)]
+
 ghost use Rattle.std.specs.Prelude.{◌≡◌, [], ◌∷◌};
 ghost use Rattle.table.specs.Table.{◌≤?◌, ◌gives◌, first_refusal, or_else};
 ghost use Rattle.versions.specs.Store.{areas_of};

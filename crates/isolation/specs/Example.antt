@@ -8,6 +8,7 @@ use Rattle.model.specs.Run.{outcomes}
 use Rattle.model.specs.History.{History}
 use Rattle.model.specs.Model.{Limits, history}
 use Rattle.isolation.specs.Isolation.{Twins, after}
+
 -- ---- line 0, and a planner on line 1
 
 -- A page as version 1 of line 0.

@@ -2,14 +2,13 @@
 use Rattle.std.specs.Prelude.{Bool, true, false, not, ◌&&◌, ℕ, zero, suc, ◌+◌, ◌-◌, ◌^◌, min, ltb, eqb}
 use Rattle.lines.specs.Lines.{published_to, number_of}
 use Rattle.lines.specs.declared.Branch.{Branch}
-use Rattle.register.specs.Register.{update_of, version_part}
+use Rattle.register.specs.Register.{version_part}
 use Rattle.register.specs.declared.Part.{Part}
 use Rattle.table.specs.Table.{Cond, ◌and◌, test, every_call, first_refusal, unless, publish_rows}
 use Rattle.versions.specs.declared.Store.{Store}
 use Rattle.windows.specs.declared.Windows.{Windows}
 use Rattle.windows.specs.Windows.{inside}
 use Rattle.publish.specs.declared.Published.{Published}
-use Rattle.publish.specs.declared.Published.TheVariants as Published
 use Rattle.publish.specs.declared.PublishOut.{PublishOut}
 use Rattle.versions.specs.Store.{Areas, areas_differ, lines_in, line_in, with_line}
 use Rattle.versions.specs.Size.{not_there}

@@ -1,5 +1,6 @@
 // PUBLISH: the version after a line's last published one, if it is woven whole; inside a window none.
 #![tactic(auto)]
+
 ghost use Rattle.std.specs.Prelude.{◌≡◌, true, not, ◌&&◌, [], ◌∷◌};
 ghost use Rattle.table.specs.Table.{◌<?◌, ◌gives◌, first_refusal, or_else};
 ghost use Rattle.versions.specs.Store.{areas_of, line_in};

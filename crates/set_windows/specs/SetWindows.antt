@@ -8,7 +8,6 @@ use Rattle.windows.specs.Listed.{wrong, windows_of}
 use Rattle.versions.specs.declared.Store.{Store}
 use Rattle.versions.specs.Store.{Areas, areas_differ}
 use Rattle.set_windows.specs.declared.WindowsSet.{WindowsSet}
-use Rattle.set_windows.specs.declared.WindowsSet.TheVariants as WindowsSet
 use Rattle.set_windows.specs.declared.WindowsOut.{WindowsOut}
 
 -- Rows 3, 23 and 24.

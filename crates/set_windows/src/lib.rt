@@ -1,5 +1,6 @@
 // SETWINDOWS: a new list of windows, from its text, in place of the old one.
 #![tactic(auto)]
+
 ghost use Rattle.std.specs.Prelude.{◌≡◌, [], ◌∷◌};
 ghost use Rattle.table.specs.Table.{◌gives◌, first_refusal, or_else};
 ghost use Rattle.versions.specs.Store.{differ, areas_of};

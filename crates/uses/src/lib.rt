@@ -1,6 +1,7 @@
 // The theorems as a client uses them. specs/ has the corollaries as types; each function has one as its promise, which only a theorem can give, since the areas are any
 // that FORMAT accepts: where a theorem is weakened, the proofs here no longer hold.
 #![tactic(auto)]
+
 ghost use Rattle.uses.specs.Accepted.{InAll};
 ghost use Rattle.uses.specs.Uses.{ExampleAnswers, EveryAnswer, Compared, AllKept, Reaches, Held, Fetches, Begins};
 ghost use Rattle.uses.specs.Isolated.{FromFormat, Unreached, Woven, BegunAlike};
