@@ -15,7 +15,7 @@ use Rattle.lines.specs.Lines.{no_branch, packed, unpacked, owner_of, Rooted, num
 use Rattle.lines.specs.declared.Branch.{Branch}
 use Rattle.lines.proofs.Numbers.{number_is as code_is}
 use Rattle.lines.proofs.Owner.{owner-own, owner-shared, owner-induction}
-use Rattle.lines.proofs.Packed.{entry_of}
+use Rattle.lines.proofs.Packed.{entry-of}
 use Rattle.lines.proofs.States.{Fits, unpacked-packed, source_of, with-source-of}
 use Rattle.register.specs.Register.{no_record, part_of, version_record, version_part}
 use Rattle.register.specs.declared.Record.{Record}
@@ -193,7 +193,7 @@ module _ (L : Limits) (m : Model) (S : Sound L m) where
         let w = owner-there L m S l v there o h in
         let n : suc (pred v) ≡ v = omega arith in
         ap (entry_at (record_image m (pred v)).entries) (number-line L m S l v there o h)
-        ∙ entry_of (λ j. own_at m j (suc (pred v))) (λ j z. own-low j (suc (pred v))) (owner_in m l v) (omega (arith, S.few))
+        ∙ entry-of (λ j. own_at m j (suc (pred v))) (λ j z. own-low j (suc (pred v))) (owner_in m l v) (omega (arith, S.few))
         ∙ ap (own_at m (owner_in m l v)) n
         ∙ rw (lt-ltb (line_at m (owner_in m l v)).start v (owner-starts L m S l v there o h)) (owner_shows L m S l v there o h)
 

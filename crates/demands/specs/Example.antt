@@ -1,4 +1,5 @@
 -- Document 01's example input as a list of calls, all on line 0: its answers, by computation, on the model and on the calls' definitions.
+-- The theorem by-calls stands in proofs/Example.
 use Rattle.std.specs.Prelude.{◌≡◌, refl, List, [], ◌∷◌, replicate}
 use Rattle.register.specs.Register.{no_record}
 use Rattle.model.specs.Calls.{Call, BEGIN, PUT, WEAVE, on, APPEND, PUBLISH, READ, STAMP, VIEW, SIZE, RECENT, refused, ticket_is, put_done, version_is, node_is, published_is, waiting, filled, size_is, recent_is, stamp_is, part_is, Outcome, says}

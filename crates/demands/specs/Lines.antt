@@ -1,5 +1,6 @@
 -- The lines of the model's example on the calls' definitions, by computation: two lines from one shared version, a line from version 0, and the sixteenth line;
 -- then, on both, a line from a line, and what both lines give back of what they share.
+-- The theorems two-lines, words-by-calls and third-by-calls stand in proofs/LinesByCalls.
 use Rattle.std.specs.Prelude.{◌≡◌, refl, List, [], ◌∷◌, ◌++◌, get_or, replicate}
 use Rattle.register.specs.Register.{no_record, with_record}
 use Rattle.model.specs.Calls.{Call, BEGIN, PUT, WEAVE, on, WRITE, APPEND, PUBLISH, BRANCH, READ, SIZE, RECENT, STAMP, VIEW, ticket_is, put_done, version_is, node_is, published_is, waiting, line_is, filled, size_is, recent_is, stamp_is, part_is, Outcome, says}

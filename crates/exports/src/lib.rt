@@ -34,8 +34,7 @@ use versions::{ByteOffset, Store};
 use windows::Windows;
 
 // FORMAT.
-#[unsafe(no_mangle)]
-pub extern "C" fn pit_format(
+pub fn pit_format(
     size: u64,
     page_count: u64,
     node_count: u64,
@@ -57,8 +56,7 @@ pub extern "C" fn pit_format(
 }
 
 // BEGIN.
-#[unsafe(no_mangle)]
-pub extern "C" fn pit_begin(
+pub fn pit_begin(
     s: Store,
     pages: &[u8],
     nodes: &[u32],
@@ -72,8 +70,7 @@ pub extern "C" fn pit_begin(
 }
 
 // PUT: the number of the refusal, or 0.
-#[unsafe(no_mangle)]
-pub extern "C" fn pit_put(
+pub fn pit_put(
     s: Store,
     pages: &mut [u8],
     nodes: &[u32],
@@ -91,8 +88,7 @@ pub extern "C" fn pit_put(
 }
 
 // ASSIGN as a write at page f.
-#[unsafe(no_mangle)]
-pub extern "C" fn pit_write(
+pub fn pit_write(
     s: Store,
     pages: &[u8],
     nodes: &[u32],
@@ -116,8 +112,7 @@ pub extern "C" fn pit_write(
 }
 
 // ASSIGN as an append.
-#[unsafe(no_mangle)]
-pub extern "C" fn pit_append(
+pub fn pit_append(
     s: Store,
     pages: &[u8],
     nodes: &[u32],
@@ -133,8 +128,7 @@ pub extern "C" fn pit_append(
 }
 
 // WEAVE.
-#[unsafe(no_mangle)]
-pub extern "C" fn pit_weave(
+pub fn pit_weave(
     s: Store,
     pages: &[u8],
     nodes: &mut [u32],
@@ -148,8 +142,7 @@ pub extern "C" fn pit_weave(
 }
 
 // PUBLISH.
-#[unsafe(no_mangle)]
-pub extern "C" fn pit_publish(
+pub fn pit_publish(
     s: Store,
     w: Windows,
     pages: &[u8],
@@ -165,8 +158,7 @@ pub extern "C" fn pit_publish(
 }
 
 // SETWINDOWS.
-#[unsafe(no_mangle)]
-pub extern "C" fn pit_set_windows(
+pub fn pit_set_windows(
     s: Store,
     w: Windows,
     pages: &[u8],
@@ -181,8 +173,7 @@ pub extern "C" fn pit_set_windows(
 }
 
 // BRANCH.
-#[unsafe(no_mangle)]
-pub extern "C" fn pit_branch(
+pub fn pit_branch(
     s: Store,
     pages: &[u8],
     nodes: &[u32],
@@ -197,8 +188,7 @@ pub extern "C" fn pit_branch(
 }
 
 // READ: the number of the refusal, or 0.
-#[unsafe(no_mangle)]
-pub extern "C" fn pit_read(
+pub fn pit_read(
     s: Store,
     pages: &[u8],
     nodes: &[u32],
@@ -227,8 +217,7 @@ pub extern "C" fn pit_read(
 }
 
 // SIZE.
-#[unsafe(no_mangle)]
-pub extern "C" fn pit_size(
+pub fn pit_size(
     s: Store,
     pages: &[u8],
     nodes: &[u32],
@@ -243,8 +232,7 @@ pub extern "C" fn pit_size(
 }
 
 // RECENT.
-#[unsafe(no_mangle)]
-pub extern "C" fn pit_recent(
+pub fn pit_recent(
     s: Store,
     pages: &[u8],
     nodes: &[u32],
@@ -258,8 +246,7 @@ pub extern "C" fn pit_recent(
 }
 
 // STAMP.
-#[unsafe(no_mangle)]
-pub extern "C" fn pit_stamp(
+pub fn pit_stamp(
     s: Store,
     pages: &[u8],
     nodes: &[u32],
@@ -283,8 +270,7 @@ pub extern "C" fn pit_stamp(
 }
 
 // VIEW: an exported function hands out no part of an area, so this says where the part begins.
-#[unsafe(no_mangle)]
-pub extern "C" fn pit_view(
+pub fn pit_view(
     s: Store,
     pages: &[u8],
     nodes: &[u32],

@@ -217,15 +217,15 @@ module _ (L : Limits) {l l' : ℕ} {ts ts' : List ℕ} {m m' : Model} (M : Match
           (match-put i bytes (put-passed L m t i bytes z) (put-passed L m' t' i bytes z'), word (elim [ ]))
 
       -- WEAVE of a ticket that is assigned on this line, or not at all.
-      module _ (on_line : elsewhere l m t ≡ false) (on-line' : elsewhere l' m' t' ≡ false) where
+      module _ (on-line : elsewhere l m t ≡ false) (on-line' : elsewhere l' m' t' ≡ false) where
         own-too : 0 < ticket_update m t → Own l l' m m' t t'
-        own-too o = own M S S' t t' P o (not-elsewhere l m t on_line o)
+        own-too o = own M S S' t t' P o (not-elsewhere l m t on-line o)
 
         -- Then both lines have begun.
         both-begun : 0 < ticket_update m t → SameLine (history m l) (history m' l')
         both-begun o =
             let w = own-too o in
-            M.lines (rw (not-elsewhere l m t on_line o) at (update-got L m S t o).line) (rw w.line at (update-got L m' S' t' w.assigned).line)
+            M.lines (rw (not-elsewhere l m t on-line o) at (update-got L m S t o).line) (rw w.line at (update-got L m' S' t' w.assigned).line)
 
         weave-same : weave_number L m t ≡ weave_number L m' t'
         weave-same = weave-alike t t' (length m.tickets) (length m'.tickets) (ticket_update m t) (ticket_update m' t') _ _ _ _ P.there
@@ -238,7 +238,7 @@ module _ (L : Limits) {l l' : ℕ} {ts ts' : List ℕ} {m m' : Model} (M : Match
             let w = own-too o in
             subst₂ (SameAnswer l l' m m' t t') (sym (node-first L m S t p)) (sym (node-first L m' S' t' p'))
             (node_alike l l' m m' t t' (updates-same (both-begun o)) (version_of m t).line (version_of m' t').line _ _ _ _ _ _
-            (not-elsewhere l m t on_line o) w.line w.number w.update w.woven)
+            (not-elsewhere l m t on-line o) w.line w.number w.update w.woven)
 
         match-woven : WeavePassed m t → WeavePassed m' t' → Match l l' ts ts' (woven L m t) (woven L m' t')
         match-woven p p' =
@@ -264,7 +264,7 @@ module _ (L : Limits) {l l' : ℕ} {ts ts' : List ℕ} {m m' : Model} (M : Match
                         ∙ sym (ap (λ s. record { f = x'.f; size = x'.size; slots = s }) (pages m' t' p' x'.ticket));
                     woven = λ v. elim (ℕ_discrete v (version_of m t).number) [
                       | yes q ↦
-                          one-more m l t p S o (not-elsewhere l m t on_line o) v q
+                          one-more m l t p S o (not-elsewhere l m t on-line o) v q
                           ∙ ap suc w.woven
                           ∙ sym (one-more m' l' t' p' S' w.assigned w.line v (q ∙ w.number))
                       | no d ↦ as-far m l t p S b v (λ q. d (sym q)) ∙ X.woven v ∙ sym (as-far m' l' t' p' S' b' v (λ q. d (sym (w.number ∙ q))))

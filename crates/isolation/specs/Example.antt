@@ -1,5 +1,6 @@
 -- Lists that differ only in calls of other lines, by computation: line 0 alone, and line 0 while a planner begins line 1 and works there with tickets of its own; and, for
 -- each refusal that the request lists, two lists in which it is the first difference.
+-- The theorems that compute them stand in proofs/Example.
 use Rattle.std.specs.Prelude.{◌≡◌, List, [], ◌∷◌, ◌++◌, ℕ}
 use Rattle.model.specs.Calls.{Call, BEGIN, PUT, WEAVE, on, WRITE, APPEND, PUBLISH, BRANCH, READ, Outcome}
 use Rattle.model.specs.Example.{limits, page_of}

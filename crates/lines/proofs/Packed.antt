@@ -77,8 +77,8 @@ module _ (g : ℕ → ℕ) where
     at-word n a b c = word_at (λ j. g (n + j)) (λ j h. low (n + j) (omega arith)) (l - n) (omega arith) ∙ ap g (omega arith)
 
     -- A line's entry is its number.
-    pub entry_of : entry_at (entries_of g) l ≡ g l
-    entry_of = let e = entries_of g in
+    pub entry-of : entry_at (entries_of g) l ≡ g l
+    entry-of = let e = entries_of g in
         by_word l
         (λ a. entry-0 e l a ∙ word_at g (λ j h. low j (omega arith)) l a)
         (λ a b. entry-4 e l a b ∙ at-word 4 (omega arith) a b)
@@ -110,4 +110,4 @@ module _ (g : ℕ → ℕ) where
 
 -- No line has an entry in the empty entries.
 pub entry-none : (l : ℕ) → entry_at no_entries l ≡ 0
-entry-none l = elim (lt-or-le l 16) [ inl h ↦ entry_of (λ _. 0) (λ j k. omega arith) l h | inr h ↦ entry_past no_entries l h ]
+entry-none l = elim (lt-or-le l 16) [ inl h ↦ entry-of (λ _. 0) (λ j k. omega arith) l h | inr h ↦ entry_past no_entries l h ]

@@ -1,4 +1,5 @@
 -- Two lines from one shared version, a line from version 0, and the sixteenth line, by computation on the model.
+-- The theorems that compute them stand in proofs/Example.
 use Rattle.std.specs.Prelude.{List, [], ◌∷◌, ◌++◌, ℕ, replicate}
 use Rattle.tree.specs.Tree.{height_from, root_height, meets, nodes, count, update, newest}
 use Rattle.table.specs.Table.{unless, first_refusal, holds, begin_rows, put_rows, weave_rows}

@@ -1,5 +1,6 @@
 -- Slip 4's stamps, by computation on the model: a page sent again unchanged, changed and changed back, changed in its last byte; a page past the end of the version
 -- before; updates of two pages of which one is unchanged; and a page that two lines share.
+-- The theorems that compute them stand in proofs/Stamps.
 use Rattle.std.specs.Prelude.{List, [], ◌∷◌, ◌++◌, ℕ, suc, length, replicate}
 use Rattle.model.specs.Calls.{Call, BEGIN, PUT, WEAVE, on, WRITE, PUBLISH, BRANCH, STAMP, refused, ticket_is, put_done, version_is, node_is, published_is, line_is, stamp_is, Outcome, says}
 use Rattle.model.specs.History.{Page}

@@ -1,4 +1,5 @@
 -- The trees of two lines from one shared version, by the rule and from a node area, by computation: a shared version has one number, whichever line reads it.
+-- The theorems that compute them stand in proofs/Trees.
 use Rattle.std.specs.Prelude.{List, ◌∷◌, ◌++◌, ℕ, replicate}
 use Rattle.tree.specs.NodeArea.{all_ones}
 use Rattle.model.specs.Model.{Model}

@@ -1,5 +1,6 @@
 -- Blast windows, by computation on the model: PUBLISH at the edges of a window in the week and of one over its end, a due version held and then published, lists that
 -- are refused, the empty list, the minute's row, and a window behind one with equal ends.
+-- The theorems that compute them stand in proofs/Windows.
 use Rattle.std.specs.Prelude.{List, [], ◌∷◌, ◌++◌, ℕ, replicate}
 use Rattle.text.specs.Quoted.{text, together}
 use Rattle.model.specs.Calls.{Call, BEGIN, PUT, WEAVE, SETWINDOWS, on, APPEND, PUBLISH, RECENT, refused, ticket_is, put_done, version_is, node_is, published_is, waiting, held, windows_done, recent_is, Outcome, says}

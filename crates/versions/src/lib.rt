@@ -1,5 +1,5 @@
 // The version keeper: the store, its lines, areas and records, and what every call asks of them; SIZE and RECENT. The other calls stand above, a crate each.
-// A call takes the store by value and its areas lent, and hands the store back. No call has a `requires`. A covered function finds the refusal, by the rows
+// A call takes the store by value and its areas lent, and hands the store back. No call has a `requires`. A function of its own finds the refusal, by the rows
 // of the table in their order; the call acts where it finds none.
 #![tactic(auto)]
 
