@@ -137,6 +137,7 @@ pub fn weave_step(
 }
 
 // A step that changes pages or nodes.
+#[tactic(auto, unfolding(wanted::specs::Steps::step_said, wanted::specs::Steps::step_areas))]
 pub fn fill_step(
     kept: Kept,
     step: Fill,
@@ -161,6 +162,7 @@ pub fn fill_step(
 }
 
 // One that changes the register alone.
+#[tactic(auto, unfolding(wanted::specs::Steps::step_said, wanted::specs::Steps::step_areas))]
 pub fn note_step(
     kept: Kept,
     step: Note,

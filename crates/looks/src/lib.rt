@@ -148,6 +148,7 @@ pub fn worst_step(kept: Kept, r: u64, n: u64) -> Turn
 }
 
 // One that changes no area.
+#[tactic(auto, unfolding(wanted::specs::Steps::step_said))]
 pub fn look_step(kept: Kept, step: Look, pages: &[u8], nodes: &[u32], register: &[Record]) -> Turn
     ensures { let a = areas_of pages.now nodes.now register.now in
         result ≡ turned (step_said kept (Wanted.Look step) a []) }

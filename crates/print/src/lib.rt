@@ -113,6 +113,7 @@ fn write_line(word: &[u8], numbers: &[u64], out: &mut [u8]) -> usize
 }
 
 // Writes the line of a reply to the front of out, and answers its length; nothing and 0 where it does not fit.
+#[tactic(auto, unfolding(crate::specs::Print::reply_line))]
 pub fn write_reply(r: Reply, out: &mut [u8]) -> usize
     ensures { (result ≡ wrote (reply_line r) out.old) × (out.new ≡ front (reply_line r) out.old) }
 {

@@ -107,6 +107,7 @@ fn read_wanted(l: u64, v: u64, offset: u64, n: u64) -> Wanted
 }
 
 // What a step asks for.
+#[tactic(auto, unfolding(crate::specs::Wanted::wanted_by))]
 fn wanted_by(step: Step) -> Wanted
     ensures { result ≡ wanted_by step }
 {
@@ -163,6 +164,7 @@ fn lengths_for(s: Store, pages: usize, nodes: usize, register: usize) -> Lengths
 }
 
 // The store whose areas a step is lent: the one that is kept, and for FORMAT the one that it would make.
+#[tactic(auto, unfolding(crate::specs::Wanted::store_for))]
 fn store_for(kept: Kept, wanted: Wanted) -> Store
     ensures { result ≡ store_for kept wanted }
 {
