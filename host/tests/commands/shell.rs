@@ -2,7 +2,7 @@
 //! before anything is built, and `./steps --try`.
 
 use std::fs;
-use std::io::Write;
+use std::io::{BufRead, BufReader, Write};
 use std::path::{Path, PathBuf};
 use std::process::{Command, Output, Stdio};
 
@@ -151,4 +151,21 @@ fn a_try_answers_ones_own_input_without_proof() {
     assert_eq!(answers, "ok\nticket,1\nrefused,11\nrecent,0\n");
     let last = told.lines().last().expect("it tells");
     assert!(last.starts_with("steps: NOT PROVED"), "{told}");
+}
+
+/// Each answer comes before the next line is asked for, so that a person can go on from it.
+#[test]
+fn a_try_answers_line_by_line() {
+    let mut steps = Command::new(top("steps"));
+    steps.arg("--try").stdin(Stdio::piped());
+    steps.stdout(Stdio::piped()).stderr(Stdio::null());
+    let mut steps = steps.spawn().unwrap();
+    let mut input = steps.stdin.take().unwrap();
+    let mut answers = BufReader::new(steps.stdout.take().unwrap()).lines();
+    for (line, answer) in [("FORMAT,16,2,2,2", "ok"), ("BEGIN,1", "ticket,1")] {
+        writeln!(input, "{line}").unwrap();
+        assert_eq!(answers.next().unwrap().unwrap(), answer);
+    }
+    drop(input);
+    assert!(answers.next().is_none() && steps.wait().unwrap().success());
 }
