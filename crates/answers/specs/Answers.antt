@@ -1,157 +1,152 @@
--- What each step of the step program answers, by the answer of its call, and what is kept after it.
-use Rattle.std.specs.Prelude.{ℕ, true, List, eqb, take, replicate}
+-- What each step of the step program answers, by the answer of its call, and what is kept after it: the store that is open, if one is.
+use Rattle.std.specs.Prelude.{ℕ, List, eqb, take, replicate, Result, Ok, Err, Option, None, Some}
 use Rattle.text.specs.Text.{pick}
 use Rattle.text.specs.Buffer.{front, wrote}
 use Rattle.print.specs.Print.{reply_line, bytes_line}
 use Rattle.print.specs.declared.Reply.{Reply}
+use Rattle.table.specs.declared.Refusal.{Refusal}
+use Rattle.table.specs.Refused.{number}
 use Rattle.versions.specs.declared.Store.{Store}
 use Rattle.format.specs.declared.Formatted.{Formatted}
-use Rattle.begin.specs.declared.BeginOut.{BeginOut}
-use Rattle.begin.specs.declared.Begun.{Begun}
-use Rattle.put.specs.declared.PutIn.{PutIn}
-use Rattle.assign.specs.declared.AssignOut.{AssignOut}
 use Rattle.assign.specs.declared.Assigned.{Assigned}
-use Rattle.weave.specs.declared.Woven.{Woven}
-use Rattle.publish.specs.declared.PublishOut.{PublishOut}
 use Rattle.publish.specs.declared.Published.{Published}
-use Rattle.branch.specs.declared.BranchOut.{BranchOut}
-use Rattle.branch.specs.declared.Branched.{Branched}
-use Rattle.versions.specs.declared.Sized.{Sized}
-use Rattle.versions.specs.declared.Latest.{Latest}
-use Rattle.stamp.specs.declared.Stamped.{Stamped}
-use Rattle.read.specs.declared.Filled.{Filled}
-use Rattle.answers.specs.declared.Kept.{Kept}
-use Rattle.answers.specs.declared.Turn.{Turn}
+use Rattle.answers.specs.declared.AnswerLine.{AnswerLine}
+use Rattle.tree.specs.declared.Version.{Version}
+use Rattle.tree.specs.declared.Ticket.{Ticket}
+use Rattle.lines.specs.declared.Line.{Line}
+use Rattle.weave.specs.declared.WovenNode.{WovenNode}
+use Rattle.versions.specs.Store.{Out}
 
--- What a step comes to: what is kept after it, and the line of its answer.
+-- What a step comes to: the store that is open after it, if one is, and the line of its answer.
 pub record Said : Type 0 where
-  pub kept : Kept
+  pub kept : Option Store
   pub line : List ℕ
 
 -- No line: zeros, as many as a line may have bytes.
 unfoldable pub blank : List ℕ
 blank = replicate 520 0
 
--- Its turn: the line at the front of a blank one, and its length.
-unfoldable pub turned : Said → Turn
-turned x = record { kept = x.kept; line = front x.line blank; len = wrote x.line blank }
+-- A line at the front of a blank one, and its length.
+unfoldable pub written : List ℕ → AnswerLine
+written l = record { bytes = front l blank; len = wrote l blank }
 
 -- This reply, whether a store is open or not.
-unfoldable pub plainly : Kept → Reply → Said
+abbrev pub plainly : Option Store → Reply → Said
 plainly k r = record { kept = k; line = reply_line r }
 
 -- `refused,0`: the line is malformed, or beyond the program's own limits, or no store is open.
-unfoldable pub refused_said : Kept → Said
+abbrev pub refused_said : Option Store → Said
 refused_said k = plainly k (Reply.Refused 0)
 
+-- One of two, by whether a store is open.
+abbrev pub by_open : {A : Type 0} → Option Store → A → (Store → A) → A
+by_open None x f = x
+by_open (Some s) x f = f s
+
 -- This with a store open; with none `refused,0`.
-unfoldable pub when_open : Kept → Said → Said
-when_open k x = pick k.«open» x (refused_said k)
+abbrev pub when_open : Option Store → (Store → Said) → Said
+when_open k f = by_open k (refused_said k) f
 
--- A reply so.
-abbrev pub replied : Kept → Reply → Said
-replied k r = when_open k (plainly k r)
+-- A reply so, which leaves this store open.
+abbrev pub replied : Store → Reply → Said
+replied s r = plainly (Some s) r
 
--- What is kept, with the store that a call handed back.
-unfoldable pub holding : Kept → Store → Kept
-holding k s = record { «open» = k.«open»; store = s }
-
--- What is kept with the store that FORMAT made: it is open.
-unfoldable pub opening : Store → Kept
-opening s = record { «open» = true; store = s }
+-- The reply of a call, by its refusal's number where it is refused.
+abbrev pub reply_of : Result Reply Refusal → Reply
+reply_of (Ok r) = r
+reply_of (Err e) = Reply.Refused (number e)
 
 -- FORMAT: the store that it made is open from now on; where it is refused, what there was is kept.
-unfoldable pub format_said : Kept → Formatted → Said
-format_said k (Formatted.Made s w) = plainly (opening s) Reply.Ok
-format_said k (Formatted.Refused n) = plainly k (Reply.Refused n)
-
--- The first n bytes, or all where there are fewer.
-unfoldable pub bytes_said : Kept → ℕ → List ℕ → Said
-bytes_said k n bytes = record { kept = k; line = bytes_line (take n bytes) }
+abbrev pub format_said : Option Store → Result Formatted ℕ → Said
+format_said k (Ok x) = plainly (Some x.store) Reply.Ok
+format_said k (Err n) = plainly k (Reply.Refused n)
 
 -- The buffer that READ fills: zeros, as many as it gives at most.
 unfoldable pub no_bytes : List ℕ
 no_bytes = replicate 256 0
 
--- READ n bytes: the first n of the buffer that it filled.
-unfoldable pub read_said : Kept → ℕ → List ℕ → Filled → Said
-read_said k n bytes Filled.Done = when_open k (bytes_said k n bytes)
-read_said k n bytes (Filled.Refused m) = replied k (Reply.Refused m)
+-- READ n bytes: the first n of the buffer that it filled, or all where there are fewer.
+abbrev pub read_line : ℕ → List ℕ → Result Unit ℕ → List ℕ
+read_line n bytes (Ok x) = bytes_line (take n bytes)
+read_line n bytes (Err m) = reply_line (Reply.Refused m)
+
+abbrev pub read_said : Store → ℕ → List ℕ → Result Unit ℕ → Said
+read_said s n bytes a = record { kept = Some s; line = read_line n bytes a }
 
 -- BEGIN: the ticket. Here and below a refused call's reply is its number.
-unfoldable pub begun_reply : Begun → Reply
-begun_reply (Begun.Given t) = Reply.Ticket t.0
-begun_reply (Begun.Refused k) = Reply.Refused k
+abbrev pub begun_reply : Result Ticket ℕ → Reply
+begun_reply (Ok t) = Reply.Ticket t.0
+begun_reply (Err k) = Reply.Refused k
 
-unfoldable pub begin_said : Kept → BeginOut → Said
-begin_said k o = replied (holding k o.store) (begun_reply o.answer)
+abbrev pub begin_said : Out Ticket → Said
+begin_said o = replied o.store (begun_reply o.answer)
 
 -- PUT: that it is done.
-unfoldable pub put_reply : PutIn → Reply
-put_reply PutIn.Done = Reply.Put
-put_reply (PutIn.Refused k) = Reply.Refused k
+abbrev pub put_reply : Result Unit ℕ → Reply
+put_reply (Ok x) = Reply.Put
+put_reply (Err k) = Reply.Refused k
 
-unfoldable pub put_said : Kept → PutIn → Said
-put_said k a = replied k (put_reply a)
+abbrev pub put_said : Store → Result Unit ℕ → Said
+put_said s a = replied s (put_reply a)
 
 -- ASSIGN, as a write or an append: the version on the line that was named, and its node count.
-unfoldable pub assigned_reply : Assigned → Reply
-assigned_reply (Assigned.Given v n) = Reply.Version v.0 n
-assigned_reply (Assigned.Refused k) = Reply.Refused k
+abbrev pub assigned_reply : Result Assigned ℕ → Reply
+assigned_reply (Ok x) = Reply.Version x.version.0 x.nodes
+assigned_reply (Err k) = Reply.Refused k
 
-unfoldable pub assign_said : Kept → AssignOut → Said
-assign_said k o = replied (holding k o.store) (assigned_reply o.answer)
+abbrev pub assign_said : Out Assigned → Said
+assign_said o = replied o.store (assigned_reply o.answer)
 
 -- WEAVE: the node's name, with its line in the version's number, its two numbers and how many nodes are left.
-unfoldable pub woven_reply : Woven → Reply
-woven_reply (Woven.Node x) = Reply.Node x.version x.first.0 x.span x.left x.right x.rest
-woven_reply (Woven.Refused k) = Reply.Refused k
+abbrev pub woven_reply : Result WovenNode ℕ → Reply
+woven_reply (Ok x) = Reply.Node x.version x.first.0 x.span x.left x.right x.rest
+woven_reply (Err k) = Reply.Refused k
 
-unfoldable pub weave_said : Kept → Woven → Said
-weave_said k a = replied k (woven_reply a)
+abbrev pub weave_said : Store → Result WovenNode ℕ → Said
+weave_said s a = replied s (woven_reply a)
 
 -- PUBLISH: the version that is now published, that none is due, or that the minute is inside a window.
-unfoldable pub published_reply : Published → Reply
-published_reply (Published.Now v) = Reply.Published v.0
-published_reply Published.Waiting = Reply.Waiting
-published_reply Published.Held = Reply.Held
-published_reply (Published.Refused k) = Reply.Refused k
+abbrev pub published_reply : Result Published ℕ → Reply
+published_reply (Ok (Published.Now v)) = Reply.Published v.0
+published_reply (Ok Published.Waiting) = Reply.Waiting
+published_reply (Ok Published.Held) = Reply.Held
+published_reply (Err k) = Reply.Refused k
 
-unfoldable pub publish_said : Kept → PublishOut → Said
-publish_said k o = replied (holding k o.store) (published_reply o.answer)
+abbrev pub publish_said : Out Published → Said
+publish_said o = replied o.store (published_reply o.answer)
 
 -- BRANCH: the line that begins.
-unfoldable pub branched_reply : Branched → Reply
-branched_reply (Branched.Begun l) = Reply.Line l.0
-branched_reply (Branched.Refused k) = Reply.Refused k
+abbrev pub branched_reply : Result Line ℕ → Reply
+branched_reply (Ok l) = Reply.Line l.0
+branched_reply (Err k) = Reply.Refused k
 
-unfoldable pub branch_said : Kept → BranchOut → Said
-branch_said k o = replied (holding k o.store) (branched_reply o.answer)
+abbrev pub branch_said : Out Line → Said
+branch_said o = replied o.store (branched_reply o.answer)
 
 -- SIZE: the bytes.
-unfoldable pub sized_reply : Sized → Reply
-sized_reply (Sized.Bytes n) = Reply.Size n
-sized_reply (Sized.Refused k) = Reply.Refused k
+abbrev pub sized_reply : Result ℕ ℕ → Reply
+sized_reply (Ok n) = Reply.Size n
+sized_reply (Err k) = Reply.Refused k
 
-unfoldable pub size_said : Kept → Sized → Said
-size_said k a = replied k (sized_reply a)
+abbrev pub size_said : Store → Result ℕ ℕ → Said
+size_said s a = replied s (sized_reply a)
 
 -- RECENT: the last version published.
-unfoldable pub latest_reply : Latest → Reply
-latest_reply (Latest.Is v) = Reply.Recent v.0
-latest_reply (Latest.Refused k) = Reply.Refused k
+abbrev pub latest_reply : Result Version ℕ → Reply
+latest_reply (Ok v) = Reply.Recent v.0
+latest_reply (Err k) = Reply.Refused k
 
-unfoldable pub recent_said : Kept → Latest → Said
-recent_said k a = replied k (latest_reply a)
+abbrev pub recent_said : Store → Result Version ℕ → Said
+recent_said s a = replied s (latest_reply a)
 
 -- STAMP: the lowest version from which on the page has had its bytes.
-unfoldable pub stamped_reply : Stamped → Reply
-stamped_reply (Stamped.Is v) = Reply.Stamp v.0
-stamped_reply (Stamped.Refused k) = Reply.Refused k
+abbrev pub stamped_reply : Result Version ℕ → Reply
+stamped_reply (Ok v) = Reply.Stamp v.0
+stamped_reply (Err k) = Reply.Refused k
 
-unfoldable pub stamp_said : Kept → Stamped → Said
-stamp_said k a = replied k (stamped_reply a)
+abbrev pub stamp_said : Store → Result Version ℕ → Said
+stamp_said s a = replied s (stamped_reply a)
 
 -- WORST: the count, whether a store is open or not; 0 is none.
-unfoldable pub worst_said : Kept → ℕ → Said
+abbrev pub worst_said : Option Store → ℕ → Said
 worst_said k n = pick (eqb n 0) (refused_said k) (plainly k (Reply.Worst n))

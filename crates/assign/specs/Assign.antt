@@ -1,6 +1,6 @@
 -- ASSIGN ticket to a line, as a write at page f: what it answers and leaves, over any store and areas. An append is a write at the size of the line's last
 -- assigned version.
-use Rattle.std.specs.Prelude.{Bool, List, [], ◌∷◌, ℕ, zero, suc, pred, ◌+◌, ◌-◌, ◌%◌, ◌^◌, ◌≤◌, ◌<◌, min, max, eqb, get_or}
+use Rattle.std.specs.Prelude.{Bool, List, [], ◌∷◌, ℕ, suc, pred, ◌+◌, ◌-◌, ◌%◌, ◌^◌, ◌≤◌, ◌<◌, min, max, eqb, get_or, Result}
 use Rattle.tree.specs.Tree.{Update, count_of, root_height}
 use Rattle.tree.specs.Place.{halvings}
 use Rattle.tree.specs.Contract.{root_span}
@@ -13,8 +13,8 @@ use Rattle.table.specs.Table.{◌≤?◌, ◌<?◌, ◌or◌, ◌gives◌, every
 use Rattle.versions.specs.declared.Store.{Store}
 use Rattle.versions.specs.declared.Lengths.{Lengths}
 use Rattle.assign.specs.declared.Assigned.{Assigned}
-use Rattle.assign.specs.declared.AssignOut.{AssignOut}
-use Rattle.versions.specs.Store.{Areas, lengths_of, differ, with_updates, record_of, lines_in, line_in, with_line}
+use Rattle.versions.specs.Store.{Areas, lengths_of, differ, with_updates, record_of, lines_in, line_in, with_line, Out}
+use Rattle.table.specs.Refused.{answered}
 
 -- The size in pages after n pages from f on, of a blob of so many pages.
 abbrev pub size_after : ℕ → ℕ → ℕ → ℕ
@@ -28,15 +28,14 @@ update_at blob f n = limited f (f + n - 1) (size_after blob f n)
 abbrev pub all_put : Record → Bool
 all_put r = eqb (r.put % 2 ^ r.n) (2 ^ r.n - 1)
 
--- The rows from 14 on, for n pages at page f of line l, where the ticket's record is there. The next update's record, and that of the line's next version, must lie
--- within the register.
-unfoldable pub room_refusal : Store → ℕ → ℕ → ℕ → ℕ
-room_refusal s l f n =
-    let b = line_in s l in
+-- The rows from 14 on, for n pages at page f of line l that make so many nodes, where the ticket's record is there. The next update's record, and that of the line's
+-- next version, must lie within the register.
+abbrev pub room_by : Store → ℕ → ℕ → ℕ → ℕ → ℕ
+room_by s l f n count =
     first_refusal
     ((4096 <? f + n gives 14)
-    ∷ (s.nodes <? s.places + count_of (update_at b.blob f n) gives 15)
-    ∷ (s.updates ≤? s.assigned or s.updates ≤? b.assigned.0 gives 19)
+    ∷ (s.nodes <? s.places + count gives 15)
+    ∷ (s.updates ≤? s.assigned or s.updates ≤? (line_in s l).assigned.0 gives 19)
     ∷ [])
 
 -- What these rows leave where none of them holds: there is room for n pages at page f of line l.
@@ -50,9 +49,9 @@ pub record Roomy (s : Store) (l f n : ℕ) : Type 0 where
 abbrev pub number_by : ℕ → Branch → ℕ
 number_by l b = number_of l (min (b.assigned.0 + 1) (2 ^ 64 - 1))
 
--- ASSIGN, with the ticket's record r. The next update's record, and that of the line's next version, must lie within the register too.
-unfoldable pub assign_refusal : Store → Lengths → Record → ℕ → ℕ → ℕ → ℕ
-assign_refusal s g r l t f =
+-- ASSIGN of so many nodes, with the ticket's record r. The next update's record, and that of the line's next version, must lie within the register too.
+abbrev pub refusal_by : Store → Lengths → Record → ℕ → ℕ → ℕ → ℕ → ℕ
+refusal_by s g r l t f count =
     let b = line_in s l in
     first_refusal
     (every_call
@@ -70,15 +69,17 @@ assign_refusal s g r l t f =
     r.n
     s.places
     s.nodes
-    (count_of (update_at b.blob f r.n)))
+    count)
     (s.updates <? t or s.updates ≤? s.assigned or s.updates ≤? b.assigned.0))
+
+unfoldable pub assign_refusal : Store → Lengths → Record → ℕ → ℕ → ℕ → ℕ
+assign_refusal s g r l t f = refusal_by s g r l t f (count_of (update_at (line_in s l).blob f r.n))
 
 abbrev pub assign_number : Store → Areas → ℕ → ℕ → ℕ → ℕ
 assign_number s a l t f = assign_refusal s (lengths_of a) (record_of a t) l t f
 
-abbrev pub assigned : ℕ → ℕ → ℕ → Assigned
-assigned zero v count = Assigned.Given (record { 0 = v }) count
-assigned (suc k) v count = Assigned.Refused (suc k)
+abbrev pub assigned : ℕ → ℕ → ℕ → Result Assigned ℕ
+assigned k v count = answered k (record { version = record { 0 = v }; nodes = count })
 
 -- A line's state with one version more, and so many pages after it.
 abbrev pub with_version : Branch → ℕ → Branch
@@ -141,13 +142,13 @@ abbrev pub assigned_register : Store → Areas → ℕ → ℕ → ℕ → List 
 assigned_register s a l t f = with_assigned s a.register (record_of a t) l t f
 
 -- What ASSIGN gives back for n pages at page f of line l, by the table's number k.
-abbrev pub assigned_by : Store → ℕ → ℕ → ℕ → ℕ → AssignOut
+abbrev pub assigned_by : Store → ℕ → ℕ → ℕ → ℕ → Out Assigned
 assigned_by s l f n k =
     let b = line_in s l in
     let count = count_of (update_at b.blob f n) in
     record { store = unless k s (with_update s l count (size_after b.blob f n)); answer = assigned k (suc b.assigned.0) count }
 
-abbrev pub assign_out : Store → Areas → ℕ → ℕ → ℕ → AssignOut
+abbrev pub assign_out : Store → Areas → ℕ → ℕ → ℕ → Out Assigned
 assign_out s a l t f = assigned_by s l f (record_of a t).n (assign_number s a l t f)
 
 abbrev pub assign_register : Store → Areas → ℕ → ℕ → ℕ → List Record

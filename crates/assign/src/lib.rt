@@ -1,337 +1,210 @@
 // ASSIGN, as a write or an append: the next version of a line and its node count.
 #![tactic(auto)]
 
-ghost use Rattle.std.specs.Prelude.{◌≡◌, suc, pred, min, max, ◌+◌, ◌-◌, ◌^◌, ◌<◌, ◌≤◌, ltb, get_or, [], ◌∷◌};
-ghost use Rattle.tree.specs.Tree.{count_of, nth};
-ghost use Rattle.register.specs.Register.{no_record, with_record};
-ghost use Rattle.table.specs.Table.{◌<?◌, ◌gives◌, no_such_line, always, first_refusal, unless};
-ghost use Rattle.versions.specs.Store.{areas_of, lines_in, line_in};
-ghost use Rattle.assign.specs.Assign.{update_at, number_by, Roomy, all_put, room_refusal, assign_refusal, assigned, with_update, with_update_of, with_update_part, with_entry_of, with_assigned, assign_out, assign_register};
-ghost use Rattle.assign.specs.NewUpdate.{new_update, Figured};
+ghost use Rattle.std.specs.Prelude.{◌≡◌, suc, ◌+◌, ◌^◌, ◌<◌};
+ghost use Rattle.tree.specs.Tree.{nth};
+ghost use Rattle.register.specs.Register.{no_record, with_update_fields};
+ghost use Rattle.table.specs.Refused.{number_in, numbered};
+ghost use Rattle.versions.specs.Store.{areas_of, line_in};
+ghost use Rattle.assign.specs.Assign.{all_put, room_by, refusal_by, with_update, with_assigned, assign_out, assign_register};
+ghost use Rattle.assign.specs.NewUpdate.{new_update, Fits, Known};
 
-use lines::{Branch, Line, number_of, with_entry};
-use register::{Record, ticket_record, within_limits};
+use lines::{Line, number_of, with_entry};
+use register::{Part, Record, ticket_record, within_limits};
 use spans::root_span;
+use table::Refusal;
 use tree::{PageIndex, Ticket, Version, halvings, height_of, node_count};
 use versions::{
-    Lengths, Store, capped_sum, lengths_of, line_state, lines_begun, ticket_index, ticket_refusal,
-    with_line,
+    Lengths, Store, lengths_of, line_state, lines_begun, record_index, set_line, ticket_refusal,
 };
 
-// What ASSIGN answers: the version and its node count.
+// What ASSIGN gives: the version and its node count.
 #[derive(Clone, Copy)]
-pub enum Assigned {
-    Given(Version, u64),
-    Refused(u64),
+pub struct Assigned {
+    pub version: Version,
+    pub nodes: u64,
 }
 
-#[derive(Clone, Copy)]
-pub struct AssignOut {
-    pub store: Store,
-    pub answer: Assigned,
-}
-
-// An update that is to be: its pages and the size in pages after it, as its record keeps them, and what follows from these.
+// An update that is to be: its line, its ticket and how many pages that has, and what its record will say of it.
 #[derive(Clone, Copy)]
 struct NewUpdate {
-    f: PageIndex,
-    last: PageIndex,
-    past: u64,
-    span: u64,
-    height: u64,
-    size: u64,
-    count: u64,
+    line: Line,
+    ticket: Ticket,
+    n: u64,
+    part: Part,
 }
 
 // Whether all n pages of a ticket are put: the low n bits of its mask decide, as in PUT. A mask has 64 bits.
 fn all_put(r: Record) -> bool
     ensures { result ≡ all_put r }
 {
-    let n = r.n;
-    if n > 64 {
-        return false;
-    }
-    if n == 64 {
-        return r.put == u64::MAX;
-    }
-    let full = 1u64 << n;
-    r.put % full == full - 1
+    u64::from(r.put.trailing_ones()) >= r.n
 }
 
-// The last of n pages from f on; a sum that would wrap is capped.
-fn last_page(f: PageIndex, n: u64) -> PageIndex
-    ensures { result ≡ record { 0 = min (f.0 + n) (2 ^ 64 - 1) - 1 } }
+// The update of a ticket's n pages at page f of a line. The root's span is looked up here, once for a call. A sum that would wrap is capped: the rows refuse it.
+fn new_update(s: &Store, l: Line, t: Ticket, f: PageIndex, n: u64) -> NewUpdate
+    ensures { result ≡ new_update s.now l.0 t.0 f.0 n }
 {
-    let end = capped_sum(f.0, n);
-    PageIndex(if end == 0 { 0 } else { end - 1 })
-}
-
-// The size in pages after n pages from f on, of a blob of so many pages; a sum that would wrap is capped.
-fn size_after(blob: u64, f: PageIndex, n: u64) -> u64
-    ensures { result ≡ max blob (min (f.0 + n) (2 ^ 64 - 1)) }
-{
-    let end = capped_sum(f.0, n);
-    if blob < end { end } else { blob }
-}
-
-// The update of n pages at page f of a blob of so many pages. The root's span is looked up here, once for a call.
-fn new_update(blob: u64, f: PageIndex, n: u64) -> NewUpdate
-    ensures { result ≡ new_update blob f.0 n }
-{
-    let last = last_page(f, n);
-    let size = size_after(blob, f, n);
+    let b = line_state(s, l);
+    let end = f.0.saturating_add(n);
+    let last = PageIndex(end.saturating_sub(1));
+    let size = b.blob.max(end);
     let e = within_limits(f, last, size);
     let span = root_span(e.size);
     let height = height_of(span);
-    let first = e.f;
-    let past = halvings(first.0);
-    let count = node_count(e.f, e.last, height);
-    NewUpdate {
+    let part = Part {
+        name: number_of(l, Version(b.assigned.0.saturating_add(1))),
         f,
         last,
-        past,
+        top: s.places.saturating_add(height),
+        past: halvings(e.f.0),
         span,
-        height,
         size,
-        count,
+        count: node_count(e.f, e.last, height),
+        woven: 0,
+    };
+    NewUpdate {
+        line: l,
+        ticket: t,
+        n,
+        part,
     }
 }
 
-// Row 15: too few node places are left for so many nodes.
-fn no_places(s: Store, count: u64) -> bool
-    ensures { result ≡ ltb s.nodes (s.places + count) }
+// The refusal of ASSIGN as update u, with its ticket's record r. Where that lies past the register no row that reads it holds, and 19 does.
+fn assign_refusal(s: &Store, g: Lengths, r: Record, u: NewUpdate) -> Result<(), Refusal>
+    ensures refused { number_in result ≡ refusal_by s.now g r u.line.0 u.ticket.0 u.part.f.0 u.part.count }
+    ensures accepted { number_in result ≡ 0 → s.now.places + u.part.count < 2 ^ 64 }
 {
-    if s.nodes < s.places {
-        return true;
+    ticket_refusal(s, g, u.ticket)?;
+    let there = u.ticket.0 <= s.updates;
+    if there && r.update != 0 {
+        return Err(Refusal::OutOfTurn);
     }
-    s.nodes - s.places < count
+    if lines_begun(s) <= u.line.0 {
+        return Err(Refusal::NoSuchLine);
+    }
+    let full = all_put(r);
+    if there && !full {
+        return Err(Refusal::NotAllPut);
+    }
+    let end = line_state(s, u.line).blob;
+    if end < u.part.f.0 {
+        return Err(Refusal::PastEnd);
+    }
+    if !there {
+        return Err(Refusal::Damaged);
+    }
+    room_refusal(s, r.n, u)
 }
 
-// Row 13: page f lies past the end of line l's last assigned version.
-fn past_the_end(s: Store, l: Line, f: PageIndex) -> bool
-    ensures { result ≡ ltb (line_in s l.0).blob f.0 }
+// The rows from 14 on, for the n pages of update u.
+fn room_refusal(s: &Store, n: u64, u: NewUpdate) -> Result<(), Refusal>
+    ensures refused { number_in result ≡ room_by s.now u.line.0 u.part.f.0 n u.part.count }
+    ensures accepted { number_in result ≡ 0 → s.now.places + u.part.count < 2 ^ 64 }
 {
-    let own = line_state(s, l);
-    own.blob < f.0
+    if 4096 < u.part.f.0.saturating_add(n) {
+        return Err(Refusal::BlobFull);
+    }
+    if u128::from(s.nodes) < u128::from(s.places) + u128::from(u.part.count) {
+        return Err(Refusal::NodesFull);
+    }
+    let own = line_state(s, u.line);
+    if s.updates <= s.assigned || s.updates <= own.assigned.0 {
+        return Err(Refusal::Damaged);
+    }
+    Ok(())
 }
 
-// Rows 20 and 13 of a ticket whose record lies past the register; 19 where they do not hold.
-fn past_refusal(s: Store, l: Line, f: PageIndex) -> u64
-    ensures { result ≡ first_refusal ((no_such_line l.0 (lines_in s) gives 20) ∷ ((line_in s l.0).blob <? f.0 gives 13) ∷ (always gives 19) ∷ []) }
+// Writes an update's part in a record.
+fn note_part(r: &mut Record, t: Ticket, q: Part)
+    ensures { r.new ≡ with_update_fields r.old t q }
 {
-    if lines_begun(s) <= l.0 {
-        return 20;
-    }
-    if past_the_end(s, l, f) { 13 } else { 19 }
+    r.ticket = t;
+    r.name = q.name;
+    r.f = q.f;
+    r.last = q.last;
+    r.top = q.top;
+    r.past = q.past;
+    r.span = q.span;
+    r.size = q.size;
+    r.count = q.count;
+    r.woven = q.woven;
 }
 
-// The rows from 14 on, for the n pages of update u on line l.
-fn room_refusal(s: Store, l: Line, n: u64, u: NewUpdate) -> u64
-    requires { u.count ≡ count_of (update_at (line_in s l.0).blob u.f.0 n) }
-    ensures { result ≡ room_refusal s l.0 u.f.0 n }
-{
-    let b = line_state(s, l);
-    let f = u.f;
-    if 4096 < capped_sum(f.0, n) {
-        return 14;
-    }
-    if no_places(s, u.count) {
-        return 15;
-    }
-    if s.updates <= s.assigned {
-        return 19;
-    }
-    if s.updates <= b.assigned.0 {
-        return 19;
-    }
-    0
-}
-
-// The refusal of ASSIGN as update u of line l, with the ticket's record r.
-fn assign_refusal(s: Store, g: Lengths, r: Record, l: Line, t: Ticket, u: NewUpdate) -> u64
-    requires { u.count ≡ count_of (update_at (line_in s l.0).blob u.f.0 r.n) }
-    ensures { result ≡ assign_refusal s g r l.0 t.0 u.f.0 }
-{
-    let k = ticket_refusal(s, g, t);
-    if k != 0 {
-        return k;
-    }
-    if s.updates < t.0 {
-        return past_refusal(s, l, u.f);
-    }
-    if r.update != 0 {
-        return 8;
-    }
-    if lines_begun(s) <= l.0 {
-        return 20;
-    }
-    if !all_put(r) {
-        return 12;
-    }
-    if past_the_end(s, l, u.f) {
-        return 13;
-    }
-    room_refusal(s, l, r.n, u)
-}
-
-// The store with one update more, on line l: so many nodes, and so many pages after it.
-fn with_update(s: Store, l: Line, count: u64, size: u64) -> Store
-    requires { (s.assigned < s.updates) × ((line_in s l.0).assigned.0 < s.updates) × (s.places + count ≤ s.nodes) }
-    ensures { result ≡ with_update s l.0 count size }
-{
-    let mut b = line_state(s, l);
-    let next = Version(b.assigned.0 + 1);
-    b.assigned = next;
-    b.blob = size;
-    let mut done = with_line(s, l, b);
-    done.assigned = s.assigned + 1;
-    done.places = s.places + count;
-    done
-}
-
-// What ASSIGN gives back for update u of line l, by the table's number k.
-fn assigned_by(s: Store, l: Line, u: NewUpdate, k: u64) -> AssignOut
-    requires { k ≡ 0 → (s.assigned < s.updates) × ((line_in s l.0).assigned.0 < s.updates) × (s.places + u.count ≤ s.nodes) }
-    ensures { let x = with_update s l.0 u.count u.size in
-        result ≡ record { store = unless k s x; answer = assigned k (suc (line_in s l.0).assigned.0) u.count } }
-{
-    if k != 0 {
-        return AssignOut {
-            store: s,
-            answer: Assigned::Refused(k),
-        };
-    }
-    let b = line_state(s, l);
-    AssignOut {
-        store: with_update(s, l, u.count, u.size),
-        answer: Assigned::Given(Version(b.assigned.0 + 1), u.count),
-    }
-}
-
-// The number of the version after the last assigned one of line l, whose state is b.
-fn next_number(l: Line, b: Branch) -> u64
-    ensures { result ≡ number_by l.0 b }
-{
-    number_of(l, Version(capped_sum(b.assigned.0, 1)))
-}
-
-// Notes the update of this number in the record of ticket t where the table's number k is 0: the one field that it changes is written.
-fn note_ticket(register: &mut [Record], k: u64, t: Ticket, update: u64)
-    requires { k ≡ 0 → 0 < t.0 }
+// Writes what update u leaves in the register: its ticket's record gets the number of the next update, that update's record its part, and the record of the line's
+// next version the number. The three may be one.
+fn note_update(register: &mut [Record], s: &Store, u: NewUpdate)
+    requires known { Known s.now register.old u }
+    requires fits { Fits s.now u }
     ensures { let rs = register.old in
-        register.new ≡ unless k rs (with_record rs (pred t.0) (with_update_of (nth no_record rs t.0) update)) }
+        register.new ≡ with_assigned s.now rs (nth no_record rs u.ticket.0) u.line.0 u.ticket.0 u.part.f.0 }
 {
-    let at = ticket_index(t);
-    if k == 0 && at < register.len() {
-        register[at].update = update;
+    let number = s.assigned + 1;
+    let version = line_state(s, u.line).assigned;
+    register[record_index(u.ticket.0)].update = number;
+    note_part(&mut register[s.assigned as usize], u.ticket, u.part);
+    let r = &mut register[version.0 as usize];
+    r.entries = with_entry(r.entries, u.line, number);
+}
+
+// Adds update u to its line and to the store's counts, and answers what ASSIGN gives.
+fn add_update(s: &mut Store, u: NewUpdate) -> Assigned
+    requires { Fits s.old u }
+    ensures { let v = suc (line_in s.old u.line.0).assigned.0 in
+        (s.new ≡ with_update s.old u.line.0 u.part.count u.part.size)
+        × (result ≡ record { version = record { 0 = v }; nodes = u.part.count }) }
+{
+    let mut b = line_state(s, u.line);
+    b.assigned = Version(b.assigned.0 + 1);
+    b.blob = u.part.size;
+    set_line(s, u.line, b);
+    s.assigned += 1;
+    s.places += u.part.count;
+    Assigned {
+        version: b.assigned,
+        nodes: u.part.count,
     }
 }
 
-// Writes update u's part anew, of ticket t, numbered c, its first node place, none woven, in the record at an index where the table's number k is 0.
-fn note_part(
-    register: &mut [Record],
-    k: u64,
-    at: usize,
-    t: Ticket,
-    c: u64,
-    u: NewUpdate,
-    place: u64,
-)
-    requires { Figured u }
-    ensures { let rs = register.old in
-        register.new ≡ unless k rs (with_record rs at (with_update_part (get_or rs at no_record) t.0 c u.f.0 u.last.0 u.size (min (place + u.height) (2 ^ 64 - 1)))) }
-{
-    let top = capped_sum(place, u.height);
-    if k == 0 && at < register.len() {
-        register[at].ticket = t;
-        register[at].name = c;
-        register[at].f = u.f;
-        register[at].last = u.last;
-        register[at].top = top;
-        register[at].past = u.past;
-        register[at].span = u.span;
-        register[at].size = u.size;
-        register[at].count = u.count;
-        register[at].woven = 0;
-    }
-}
-
-// Notes the update of this number as line l's own version in the record at an index where the table's number k is 0.
-fn note_entry(register: &mut [Record], k: u64, at: usize, l: Line, update: u64)
-    ensures { let rs = register.old in
-        register.new ≡ unless k rs (with_record rs at (with_entry_of (get_or rs at no_record) l.0 update)) }
-{
-    if k == 0 && at < register.len() {
-        let r = register[at];
-        let entries = with_entry(r.entries, l, update);
-        register[at].entries = entries;
-    }
-}
-
-// Writes what update u of ticket t, whose record is r, leaves in the register, where the table's number k is 0: the ticket's record gets the number of the next
-// update, that update's record its part, and the record of the line's next version the number. The three may be one.
-fn note_update(
-    register: &mut [Record],
-    k: u64,
-    s: Store,
-    l: Line,
-    t: Ticket,
-    r: Record,
-    u: NewUpdate,
-)
-    requires { (k ≡ 0 → Roomy s l.0 u.f.0 r.n) × (u ≡ new_update (line_in s l.0).blob u.f.0 r.n) × (k ≡ 0 → 0 < t.0) × (r ≡ nth no_record register.old t.0) }
-    ensures { register.new ≡ unless k register.old (with_assigned s register.old r l.0 t.0 u.f.0) }
-{
-    let b = line_state(s, l);
-    let next = capped_sum(s.assigned, 1);
-    note_ticket(register, k, t, next);
-    note_part(
-        register,
-        k,
-        s.assigned as usize,
-        t,
-        next_number(l, b),
-        u,
-        s.places,
-    );
-    note_entry(register, k, b.assigned.0 as usize, l, next);
-}
-
-// ASSIGN ticket to line l as a write at page f.
+// ASSIGN ticket to line l as a write at page f. The areas come apart here and below: C lends the pages and nodes as const, and the register to be written.
 pub fn write(
-    s: Store,
+    s: &mut Store,
     pages: &[u8],
     nodes: &[u32],
     register: &mut [Record],
     l: Line,
     t: Ticket,
     f: PageIndex,
-) -> AssignOut
+) -> Result<Assigned, Refusal>
     ensures { let a = areas_of pages.now nodes.now register.old in
-        (result ≡ assign_out s a l.0 t.0 f.0) × (register.new ≡ assign_register s a l.0 t.0 f.0) }
+        (numbered result ≡ (assign_out s.old a l.0 t.0 f.0).answer)
+        × (s.new ≡ (assign_out s.old a l.0 t.0 f.0).store)
+        × (register.new ≡ assign_register s.old a l.0 t.0 f.0) }
 {
     let r = ticket_record(register, t);
     let g = lengths_of(pages, nodes, register);
-    let b = line_state(s, l);
-    let u = new_update(b.blob, f, r.n);
-    let k = assign_refusal(s, g, r, l, t, u);
-    note_update(register, k, s, l, t, r, u);
-    assigned_by(s, l, u, k)
+    let u = new_update(s, l, t, f, r.n);
+    assign_refusal(s, g, r, u)?;
+    note_update(register, s, u);
+    Ok(add_update(s, u))
 }
 
 // ASSIGN ticket to line l as an append: a write at the size of the line's last assigned version.
 pub fn append(
-    s: Store,
+    s: &mut Store,
     pages: &[u8],
     nodes: &[u32],
     register: &mut [Record],
     l: Line,
     t: Ticket,
-) -> AssignOut
+) -> Result<Assigned, Refusal>
     ensures { let a = areas_of pages.now nodes.now register.old in
-        let f = (line_in s l.0).blob in
-        (result ≡ assign_out s a l.0 t.0 f) × (register.new ≡ assign_register s a l.0 t.0 f) }
+        let f = (line_in s.old l.0).blob in
+        (numbered result ≡ (assign_out s.old a l.0 t.0 f).answer)
+        × (s.new ≡ (assign_out s.old a l.0 t.0 f).store)
+        × (register.new ≡ assign_register s.old a l.0 t.0 f) }
 {
-    let b = line_state(s, l);
-    write(s, pages, nodes, register, l, t, PageIndex(b.blob))
+    let f = PageIndex(line_state(s, l).blob);
+    write(s, pages, nodes, register, l, t, f)
 }

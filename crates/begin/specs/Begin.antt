@@ -1,13 +1,13 @@
 -- BEGIN n: what it answers and leaves, over any store and areas.
-use Rattle.std.specs.Prelude.{List, ℕ, zero, suc, ◌+◌, get_or}
+use Rattle.std.specs.Prelude.{List, ℕ, suc, ◌+◌, get_or, Result}
 use Rattle.register.specs.Register.{no_record, with_ticket_fields, with_record}
 use Rattle.register.specs.declared.Record.{Record}
 use Rattle.table.specs.Table.{never, every_call, first_refusal, unless, begin_rows}
 use Rattle.versions.specs.declared.Store.{Store}
 use Rattle.versions.specs.declared.Lengths.{Lengths}
-use Rattle.begin.specs.declared.Begun.{Begun}
-use Rattle.begin.specs.declared.BeginOut.{BeginOut}
-use Rattle.versions.specs.Store.{Areas, lengths_of, differ, with_tickets}
+use Rattle.versions.specs.Store.{Areas, lengths_of, differ, with_tickets, Out}
+use Rattle.table.specs.Refused.{answered}
+use Rattle.tree.specs.declared.Ticket.{Ticket}
 
 unfoldable pub begin_refusal : Store → Lengths → ℕ → ℕ
 begin_refusal s l n = first_refusal (every_call (differ s l) (begin_rows n s.tickets.0 s.updates s.taken s.pages) never)
@@ -15,9 +15,8 @@ begin_refusal s l n = first_refusal (every_call (differ s l) (begin_rows n s.tic
 abbrev pub begin_number : Store → Areas → ℕ → ℕ
 begin_number s a n = begin_refusal s (lengths_of a) n
 
-abbrev pub begun : ℕ → ℕ → Begun
-begun zero t = Begun.Given (record { 0 = t })
-begun (suc k) t = Begun.Refused (suc k)
+abbrev pub begun : ℕ → ℕ → Result Ticket ℕ
+begun k t = answered k (record { 0 = t })
 
 -- The store with one ticket more, and n page numbers more taken.
 abbrev pub with_ticket : Store → ℕ → Store
@@ -28,10 +27,10 @@ abbrev pub with_ticket_part : Record → ℕ → ℕ → Record
 with_ticket_part r n number = with_ticket_fields r n number 0 0
 
 -- What BEGIN gives back, by the table's number k.
-abbrev pub begun_by : Store → ℕ → ℕ → BeginOut
+abbrev pub begun_by : Store → ℕ → ℕ → Out Ticket
 begun_by s n k = record { store = unless k s (with_ticket s n); answer = begun k (suc s.tickets.0) }
 
-abbrev pub begin_out : Store → Areas → ℕ → BeginOut
+abbrev pub begin_out : Store → Areas → ℕ → Out Ticket
 begin_out s a n = begun_by s n (begin_number s a n)
 
 abbrev pub begin_register : Store → Areas → ℕ → List Record

@@ -1,93 +1,60 @@
 // BEGIN: the next ticket, with the next page numbers.
-#![tactic(auto)]
+#![tactic(auto, using(table::proofs::Refused::tells), unfolding(crate::specs::Begin::begin_refusal, table::specs::Table::begin_rows, table::specs::Table::first_refusal, table::specs::Table::holds))]
 
-ghost use Rattle.std.specs.Prelude.{◌≡◌, ◌+◌, ◌^◌, ◌<◌};
+ghost use Rattle.std.specs.Prelude.{◌≡◌, ◌+◌};
+ghost use Rattle.table.specs.Refused.{numbered, answered};
 ghost use Rattle.versions.specs.Store.{areas_of};
-ghost use Rattle.begin.specs.Begin.{begin_refusal, with_ticket_part, begun_by, begin_out, begin_register};
+ghost use Rattle.begin.specs.Begin.{begin_refusal, begin_out, begin_register};
 
-use register::{Record, record_at};
-use tree::Ticket;
-use versions::{Lengths, Store, areas_differ, lengths_of, put_record};
+use register::{Record, record_at, set_record};
+use table::Refusal;
+use tree::{MOST_UPDATED, Ticket};
+use versions::{Lengths, Store, areas_differ, lengths_of};
 
-// What BEGIN answers.
-#[derive(Clone, Copy)]
-pub enum Begun {
-    Given(Ticket),
-    Refused(u64),
-}
-
-#[derive(Clone, Copy)]
-pub struct BeginOut {
-    pub store: Store,
-    pub answer: Begun,
-}
-
-// The refusal of BEGIN.
-fn begin_refusal(s: Store, l: Lengths, n: u64) -> u64
-    ensures { result ≡ begin_refusal s l n }
+// The refusal of BEGIN, or how many page numbers are taken with its own.
+fn taken_with(s: &Store, l: Lengths, n: u64) -> Result<u64, Refusal>
+    ensures { numbered result ≡ answered (begin_refusal s.now l n) (s.now.taken + n) }
 {
     if areas_differ(s, l) {
-        return 3;
+        return Err(Refusal::AreaLength);
     }
-    if n == 0 {
-        return 4;
-    }
-    if n > 64 {
-        return 4;
+    if n == 0 || n > MOST_UPDATED {
+        return Err(Refusal::UpdateSize);
     }
     if s.updates <= s.tickets.0 {
-        return 5;
+        return Err(Refusal::RegisterFull);
     }
-    if s.taken > s.pages {
-        return 6;
+    if n > s.pages.saturating_sub(s.taken) {
+        return Err(Refusal::PagesFull);
     }
-    if n > s.pages - s.taken {
-        return 6;
-    }
-    0
-}
-
-// A record with a ticket's part anew: n pages from a page number on, none put, no update.
-fn ticket_part(r: Record, n: u64, number: u64) -> Record
-    ensures { result ≡ with_ticket_part r n number }
-{
-    let mut q = r;
-    q.n = n;
-    q.number = number;
-    q.put = 0;
-    q.update = 0;
-    q
-}
-
-// What BEGIN gives back, by the table's number k.
-fn begun_by(s: Store, n: u64, k: u64) -> BeginOut
-    requires { k ≡ 0 → (s.tickets.0 + 1 < 2 ^ 64) × (s.taken + n < 2 ^ 64) }
-    ensures { result ≡ begun_by s n k }
-{
-    if k != 0 {
-        return BeginOut {
-            store: s,
-            answer: Begun::Refused(k),
-        };
-    }
-    let next = Ticket(s.tickets.0 + 1);
-    let mut store = s;
-    store.tickets = next;
-    store.taken = s.taken + n;
-    BeginOut {
-        store,
-        answer: Begun::Given(next),
-    }
+    Ok(s.taken + n)
 }
 
 // BEGIN n: the next ticket, with the next n page numbers.
-pub fn begin(s: Store, pages: &[u8], nodes: &[u32], register: &mut [Record], n: u64) -> BeginOut
+// (Three areas, and no struct of them: C lends the register to be changed, and the others to be read.)
+pub fn begin(
+    s: &mut Store,
+    pages: &[u8],
+    nodes: &[u32],
+    register: &mut [Record],
+    n: u64,
+) -> Result<Ticket, Refusal>
     ensures { let a = areas_of pages.now nodes.now register.old in
-        (result ≡ begin_out s a n) × (register.new ≡ begin_register s a n) }
+        (numbered result ≡ (begin_out s.old a n).answer)
+        × (s.new ≡ (begin_out s.old a n).store)
+        × (register.new ≡ begin_register s.old a n) }
 {
-    let k = begin_refusal(s, lengths_of(pages, nodes, register), n);
+    let taken = taken_with(s, lengths_of(pages, nodes, register), n)?;
     let i = s.tickets.0 as usize;
-    let r = record_at(register, i);
-    put_record(register, k, i, ticket_part(r, n, s.taken));
-    begun_by(s, n, k)
+    let r = Record {
+        n,
+        number: s.taken,
+        put: 0,
+        update: 0,
+        ..record_at(register, i)
+    };
+    set_record(register, i, r);
+    s.tickets = Ticket(s.tickets.0 + 1);
+    s.taken = taken;
+    Ok(s.tickets)
 }

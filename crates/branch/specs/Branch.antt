@@ -1,12 +1,12 @@
 -- BRANCH line, v: what it answers and leaves, over any store and areas. (The thesis' branching: a new line that shares all up to a published version.)
-use Rattle.std.specs.Prelude.{ℕ, zero, suc}
+use Rattle.std.specs.Prelude.{ℕ, suc, Result}
 use Rattle.lines.specs.declared.Branch.{Branch}
 use Rattle.table.specs.Table.{every_call, first_refusal, unless, branch_rows}
 use Rattle.versions.specs.declared.Store.{Store}
-use Rattle.branch.specs.declared.Branched.{Branched}
-use Rattle.branch.specs.declared.BranchOut.{BranchOut}
-use Rattle.versions.specs.Store.{Areas, areas_differ, with_lines, lines_in, line_in, with_line, number_on, part_on}
+use Rattle.versions.specs.Store.{Areas, areas_differ, with_lines, lines_in, line_in, with_line, number_on, part_on, Out}
 use Rattle.versions.specs.Size.{not_there, pages_in}
+use Rattle.table.specs.Refused.{answered}
+use Rattle.lines.specs.declared.Line.{Line}
 
 unfoldable pub branch_number : Store → Areas → ℕ → ℕ → ℕ
 branch_number s a l v =
@@ -22,13 +22,12 @@ with_branch s b =
     let x = with_line s (lines_in s) b in
     with_lines x (suc (lines_in s)) x.sources x.lines
 
-abbrev pub branched : ℕ → ℕ → Branched
-branched zero l = Branched.Begun (record { 0 = l })
-branched (suc k) l = Branched.Refused (suc k)
+abbrev pub branched : ℕ → ℕ → Result Line ℕ
+branched k l = answered k (record { 0 = l })
 
 -- What BRANCH gives back of a line's state, by the table's number k.
-abbrev pub branched_by : Store → Branch → ℕ → BranchOut
+abbrev pub branched_by : Store → Branch → ℕ → Out Line
 branched_by s b k = record { store = unless k s (with_branch s b); answer = branched k (lines_in s) }
 
-abbrev pub branch_out : Store → Areas → ℕ → ℕ → BranchOut
+abbrev pub branch_out : Store → Areas → ℕ → ℕ → Out Line
 branch_out s a l v = branched_by s (begun_from l v (pages_in s a l v)) (branch_number s a l v)

@@ -1,6 +1,6 @@
 -- The store that a model stands for, to the last byte: counters, lines, windows, register, pages and nodes.
 -- Assumes nothing.
-use mathlib.Core.Option.{Option}
+use Rattle.std.proofs.Common.{Option}
 use mathlib.Core.List.{List, [], ◌∷◌}
 use Prim.Native.Nat.{ℕ, suc, ◌+◌, ◌*◌, ◌%◌}
 use lib.Dec.{ltb}

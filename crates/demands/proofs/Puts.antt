@@ -1,8 +1,8 @@
 -- One page or one record written, as PUT and the register's calls do: the area is the image of the model after.
 -- Assumes nothing.
+use Rattle.std.proofs.Common.{None, Some}
 use mathlib.Core.Path.{◌≡◌, sym, ap, ◌∙◌}
 use mathlib.Core.Logic.{◌≢◌}
-use mathlib.Core.Option.{none, some}
 use Prim.Native.Nat.{ℕ, ◌*◌, ◌<◌}
 use native.Mathlib.Decide.{ℕ_discrete}
 use borrow.Author.Tests.{lt-ltb}
@@ -36,14 +36,14 @@ pages-put L m S t i x p =
     let this = filled-this L m t i x S p in
     let lies = page-open m t i p.from p.upto p.slot p.unassigned in
     let others : (u j : ℕ) → (u ≡ t → j ≡ i → ⊥) → slot_cell L.size (ticket_in m u) j ≡ slot_cell L.size (ticket_in m' u) j = λ u j n. elim (ℕ_discrete u t) [
-      | yes z ↦ rw (z, this) (ap (or_blank L.size) (sym (get_or-set_other (ticket_in m t).slots i j (some x) none (n z))))
+      | yes z ↦ rw (z, this) (ap (or_blank L.size) (sym (get_or-set_other (ticket_in m t).slots i j (Some x) None (n z))))
       | no z ↦ rw (changed-other m t k p.from e u z)
     ] in
     rw (pages-list L m, pages-list L m')
     (block-put L.size (page_list L m) (list-blocks L m S) (slot_number m t i) (rw (list_length L m) (page-room L m S (serial_of m.tickets t i) lies)) x p.whole
     ∙ ap joined
     (page-put m m' (filled-grown L m t i x S p) L S (changed-length m t k p.from e) t i x p.from p.upto p.slot lies (λ u j a b c s n. others u j n)
-    (rw this (ap (or_blank L.size) (get_or-set_same (ticket_in m t).slots i (some x) none p.slot)))))
+    (rw this (ap (or_blank L.size) (get_or-set_same (ticket_in m t).slots i (Some x) None p.slot)))))
 
 -- A record written into records by a rule of their index, and into the register.
 pub record-put : (n i : ℕ) (g h : ℕ → Record) (r : Record) → i < n → ((j : ℕ) → j < n → j ≢ i → g j ≡ h j) → h i ≡ r → with_record (tab n g) i r ≡ tab n h

@@ -1,69 +1,60 @@
 -- The number and values of each case of the code's answers, as the documents have them.
+use Rattle.std.specs.Prelude.{ℕ, Result, Ok, Err}
+use Rattle.tree.specs.declared.Version.{Version}
+use Rattle.tree.specs.declared.Ticket.{Ticket}
+use Rattle.lines.specs.declared.Line.{Line}
 use Rattle.format.specs.declared.Formatted.{Formatted}
-use Rattle.begin.specs.declared.Begun.{Begun}
-use Rattle.put.specs.declared.PutIn.{PutIn}
 use Rattle.assign.specs.declared.Assigned.{Assigned}
-use Rattle.weave.specs.declared.Woven.{Woven}
+use Rattle.weave.specs.declared.WovenNode.{WovenNode}
 use Rattle.publish.specs.declared.Published.{Published}
-use Rattle.branch.specs.declared.Branched.{Branched}
-use Rattle.set_windows.specs.declared.WindowsSet.{WindowsSet}
-use Rattle.read.specs.declared.Filled.{Filled}
-use Rattle.versions.specs.declared.Sized.{Sized}
-use Rattle.versions.specs.declared.Latest.{Latest}
-use Rattle.stamp.specs.declared.Stamped.{Stamped}
-use Rattle.view.specs.declared.Viewed.{Viewed}
 use Rattle.model.specs.Calls.{Answer, refused, format_done, ticket_is, put_done, version_is, node_is, published_is, waiting, held, line_is, windows_done, filled, size_is, recent_is, stamp_is, part_at}
 
-abbrev pub formatted_answer : Formatted → Answer
-formatted_answer (Formatted.Made s w) = format_done
-formatted_answer (Formatted.Refused k) = refused k
+-- The answer of a call: its values where it is accepted, and else the refusal's number.
+abbrev pub answer_by : {A : Type 0} → (A → Answer) → Result A ℕ → Answer
+answer_by f (Ok x) = f x
+answer_by f (Err k) = refused k
 
-abbrev pub begun_answer : Begun → Answer
-begun_answer (Begun.Given t) = ticket_is t.0
-begun_answer (Begun.Refused k) = refused k
+-- What PUBLISH comes to where it is accepted.
+abbrev pub published_as : Published → Answer
+published_as (Published.Now v) = published_is v.0
+published_as Published.Waiting = waiting
+published_as Published.Held = held
 
-abbrev pub put_answer : PutIn → Answer
-put_answer PutIn.Done = put_done
-put_answer (PutIn.Refused k) = refused k
+abbrev pub formatted_answer : Result Formatted ℕ → Answer
+formatted_answer = answer_by (λ x. format_done)
 
-abbrev pub assigned_answer : Assigned → Answer
-assigned_answer (Assigned.Given v count) = version_is v.0 count
-assigned_answer (Assigned.Refused k) = refused k
+abbrev pub begun_answer : Result Ticket ℕ → Answer
+begun_answer = answer_by (λ t. ticket_is t.0)
 
-abbrev pub woven_answer : Woven → Answer
-woven_answer (Woven.Node x) = node_is x.version x.first.0 x.span x.left x.right x.rest
-woven_answer (Woven.Refused k) = refused k
+abbrev pub put_answer : Result Unit ℕ → Answer
+put_answer = answer_by (λ x. put_done)
 
-abbrev pub published_answer : Published → Answer
-published_answer (Published.Now v) = published_is v.0
-published_answer Published.Waiting = waiting
-published_answer Published.Held = held
-published_answer (Published.Refused k) = refused k
+abbrev pub assigned_answer : Result Assigned ℕ → Answer
+assigned_answer = answer_by (λ x. version_is x.version.0 x.nodes)
 
-abbrev pub branched_answer : Branched → Answer
-branched_answer (Branched.Begun l) = line_is l.0
-branched_answer (Branched.Refused k) = refused k
+abbrev pub woven_answer : Result WovenNode ℕ → Answer
+woven_answer = answer_by (λ x. node_is x.version x.first.0 x.span x.left x.right x.rest)
 
-abbrev pub windows_answer : WindowsSet → Answer
-windows_answer WindowsSet.Done = windows_done
-windows_answer (WindowsSet.Refused k) = refused k
+abbrev pub published_answer : Result Published ℕ → Answer
+published_answer = answer_by published_as
 
-abbrev pub filled_answer : Filled → Answer
-filled_answer Filled.Done = filled
-filled_answer (Filled.Refused k) = refused k
+abbrev pub branched_answer : Result Line ℕ → Answer
+branched_answer = answer_by (λ l. line_is l.0)
 
-abbrev pub sized_answer : Sized → Answer
-sized_answer (Sized.Bytes n) = size_is n
-sized_answer (Sized.Refused k) = refused k
+abbrev pub windows_answer : Result Unit ℕ → Answer
+windows_answer = answer_by (λ x. windows_done)
 
-abbrev pub latest_answer : Latest → Answer
-latest_answer (Latest.Is v) = recent_is v.0
-latest_answer (Latest.Refused k) = refused k
+abbrev pub filled_answer : Result Unit ℕ → Answer
+filled_answer = answer_by (λ x. filled)
 
-abbrev pub stamped_answer : Stamped → Answer
-stamped_answer (Stamped.Is v) = stamp_is v.0
-stamped_answer (Stamped.Refused k) = refused k
+abbrev pub sized_answer : Result ℕ ℕ → Answer
+sized_answer = answer_by size_is
 
-abbrev pub viewed_answer : Viewed → Answer
-viewed_answer (Viewed.At at) = part_at at
-viewed_answer (Viewed.Refused k) = refused k
+abbrev pub latest_answer : Result Version ℕ → Answer
+latest_answer = answer_by (λ v. recent_is v.0)
+
+abbrev pub stamped_answer : Result Version ℕ → Answer
+stamped_answer = answer_by (λ v. stamp_is v.0)
+
+abbrev pub viewed_answer : Result ℕ ℕ → Answer
+viewed_answer = answer_by part_at

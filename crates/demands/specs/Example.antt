@@ -10,7 +10,7 @@ use Rattle.model.specs.Example.{page_of}
 use Rattle.versions.specs.Store.{Areas}
 use Rattle.format.specs.Format.{format_number}
 use Rattle.demands.specs.Computes.{computes}
-use Rattle.demands.specs.Run.{on_store, fresh_of, formatted_state}
+use Rattle.demands.specs.Run.{fresh_of}
 
 -- FORMAT,16,4,8,2 and areas of its lengths, with anything in them.
 unfoldable pub limits : Limits

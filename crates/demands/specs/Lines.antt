@@ -6,7 +6,7 @@ use Rattle.register.specs.Register.{no_record, with_record}
 use Rattle.model.specs.Calls.{Call, BEGIN, PUT, WEAVE, on, WRITE, APPEND, PUBLISH, BRANCH, READ, SIZE, RECENT, STAMP, VIEW, ticket_is, put_done, version_is, node_is, published_is, waiting, line_is, filled, size_is, recent_is, stamp_is, part_is, Outcome, says}
 use Rattle.model.specs.OnModel.{on_model}
 use Rattle.model.specs.Run.{outcomes, model_after}
-use Rattle.model.specs.Example.{limits, page_of, calls, given, more, given_more, branches, given_branches}
+use Rattle.model.specs.Example.{limits, page_of, calls, more, branches, given_branches}
 use Rattle.model.specs.Trees.{nodes_after}
 use Rattle.model.specs.Snapshot.{Tree, no_page, leaf, inner, tree_of, tree_in, place_of_number, tree_at}
 use Rattle.versions.specs.Store.{Areas, with_register}

@@ -1,7 +1,6 @@
 -- Every row of the table of refusals but 20 to 24, by computation: on the model and on the calls' definitions where a formatted store can give it, and 3 and 19 on
 -- areas that no run left; and what FORMAT leaves.
-use Rattle.std.specs.Prelude.{◌≡◌, refl, List, [], ◌∷◌, map, ℕ, ◌*◌, replicate}
-use Rattle.std.proofs.Math.Option.{some}
+use Rattle.std.specs.Prelude.{◌≡◌, refl, List, [], ◌∷◌, map, ℕ, ◌*◌, replicate, Some, Ok, Err}
 use Rattle.lines.specs.Lines.{no_branch, assigned_to, published_to, packed}
 use Rattle.lines.specs.declared.Branch.{Branch}
 use Rattle.register.specs.Register.{no_record}
@@ -14,7 +13,6 @@ use Rattle.model.specs.Example.{page_of}
 use Rattle.windows.specs.Windows.{no_windows}
 use Rattle.versions.specs.declared.Store.{Store}
 use Rattle.versions.specs.Store.{Areas, areas_of, with_pages, with_nodes, with_register, with_tickets as store_tickets, with_updates as store_updates, with_lines as store_lines}
-use Rattle.format.specs.declared.Formatted.TheVariants as Formatted
 use Rattle.format.specs.Format.{fresh, format_number, format_answer, format_areas}
 use Rattle.begin.specs.Begin.{with_ticket_part}
 use Rattle.put.specs.Put.{with_put}
@@ -65,14 +63,14 @@ lent = record { pages = replicate 16 7; nodes = 7 ∷ 7 ∷ []; register = with_
 -- What FORMAT fills: pages of 0, nodes of all ones, an empty record; and it answers the store, with no windows.
 pub format-fills :
     format_areas (fresh 16 1 1 1) lent ≡ record { pages = replicate 16 0; nodes = 4294967295 ∷ 4294967295 ∷ []; register = no_record ∷ [] }
-    × format_answer (fresh 16 1 1 1) lent ≡ Formatted.Made (fresh 16 1 1 1) no_windows
+    × format_answer (fresh 16 1 1 1) lent ≡ Ok (record { store = fresh 16 1 1 1; windows = no_windows })
 unfolding computes lent
 format-fills = (refl, refl)
 
 -- A refused FORMAT, by row 1, 2 or 3, leaves the areas and answers no store.
 pub format-leaves :
     map (λ s. format_areas s lent) (fresh 17 1 1 1 ∷ fresh 16 1 0 1 ∷ fresh 16 1 1 2 ∷ []) ≡ replicate 3 lent
-    × map (λ s. format_answer s lent) (fresh 17 1 1 1 ∷ fresh 16 1 0 1 ∷ fresh 16 1 1 2 ∷ []) ≡ Formatted.Refused 1 ∷ Formatted.Refused 2 ∷ Formatted.Refused 3 ∷ []
+    × map (λ s. format_answer s lent) (fresh 17 1 1 1 ∷ fresh 16 1 0 1 ∷ fresh 16 1 1 2 ∷ []) ≡ Err 1 ∷ Err 2 ∷ Err 3 ∷ []
 unfolding computes lent
 format-leaves = (refl, refl)
 
@@ -206,7 +204,7 @@ full_limits nodes = record { size = 16; pages = 5; nodes = nodes; updates = 2 }
 
 unfoldable pub full_model : Model
 full_model =
-    let k = with_slots no_ticket (some page ∷ []) in
+    let k = with_slots no_ticket (Some page ∷ []) in
     with_lines (with_updates (with_tickets no_model (k ∷ k ∷ [])) (version_by 2 0 1 0 4096 ∷ [])) (with_shown no_line (1 ∷ []) ∷ [])
 
 unfoldable pub full_state : ℕ → State

@@ -1,7 +1,6 @@
 -- Where a version's node lies, by the part that its record has.
 
-use Rattle.std.specs.Prelude.{ℕ, ◌+◌, ◌-◌, ◌%◌, ◌^◌, Bool, ◌&&◌, List, ◌==◌, nat_le, nat_lt}
-use Rattle.std.proofs.Math.Option.{Option, none, some}
+use Rattle.std.specs.Prelude.{ℕ, ◌+◌, ◌-◌, ◌%◌, ◌^◌, Bool, ◌&&◌, List, ◌==◌, nat_le, nat_lt, Option, None, Some}
 use Rattle.tree.specs.Tree.{meets}
 use Rattle.tree.specs.Place.{first, halvings}
 use Rattle.tree.specs.Walk.{place_where}
@@ -12,8 +11,12 @@ use Rattle.register.specs.declared.Part.{Part}
 
 -- A number, or where there is none the largest of 64 bits, which lies past any area and is no version's.
 abbrev pub or_most : Option ℕ → ℕ
-or_most none = 2 ^ 64 - 1
-or_most (some n) = n
+or_most None = 2 ^ 64 - 1
+or_most (Some n) = n
+
+-- Back: none for the largest number.
+abbrev pub unless_most : ℕ → Option ℕ
+unless_most n = pick (n == 2 ^ 64 - 1) None (Some n)
 
 -- The first page of the node of height h over page p.
 abbrev pub first_over : ℕ → ℕ → ℕ
@@ -40,4 +43,4 @@ place_at rs c p h = place_in (version_part rs c) c p h
 
 -- The place of the leaf over page p of the version numbered c, with the part q that its record should have: no blob has a page past 4,095.
 abbrev pub leaf_place : Part → ℕ → ℕ → Option ℕ
-leaf_place q c p = pick (nat_lt p 4096) (place_in q c p 0) none
+leaf_place q c p = pick (nat_lt p 4096) (place_in q c p 0) None

@@ -1,150 +1,166 @@
-// Where a version's nodes lie, and the walk from a node down the halves to a node of a smaller span.
+// Where a version's nodes lie, and the walk from a root down the halves to a node of a smaller span. The tree is held in the areas that C lends, its nodes by the numbers of
+// their versions and by places: there is no heap.
 #![tactic(auto)]
 
-ghost use Rattle.std.specs.Prelude.{◌≡◌, ℕ, ◌+◌, ◌-◌, ◌/◌, ◌%◌, ◌^◌, ◌<◌, nat_lt};
-ghost use Rattle.tree.specs.Walk.{reach_by};
-ghost use Rattle.tree.specs.Contract.{height_in};
+ghost use Rattle.std.specs.Prelude.{◌≡◌, ℕ, ◌+◌, ◌-◌, ◌/◌, ◌^◌, ◌<◌, nat_lt};
+ghost use Rattle.tree.specs.Walk.{visit, reach_by};
+ghost use Rattle.tree.specs.Contract.{root_in, height_in};
 ghost use Rattle.lines.specs.Lines.{pick};
-ghost use Rattle.descent.specs.Places.{first_over, or_most, place_in, place_at, leaf_place};
-ghost use Rattle.descent.specs.Level.{Level, child_number};
+ghost use Rattle.descent.specs.Level.{Carries};
+ghost use Rattle.descent.specs.Places.{unless_most, has_node_by, place_in, place_at, leaf_place};
 
-use register::{Part, Record, version_part};
-use tree::{MOST_PAGES, NodeAt, PageIndex, halvings, node_at, smaller};
+use register::{Areas, Part, version_part};
+use tree::{MOST_PAGES, PageIndex, Stored, halvings, height_of, node_at};
 
-// The place of the node that begins at a first page and has a span, in the version numbered c, whose part q should be; the largest number, which lies past any area,
-// where it is not, or has no such node. `halved` are the halvings of the first page, and `carried` is these less the height: so two words of the part give the place.
-// Over areas that no call left the sums may wrap.
-fn place_of(q: Part, c: u64, first: u64, span: u64, halved: u64, carried: u64) -> u64
-    requires { (0 < c) × (c < 2 ^ 64 - 1) × Level first span halved carried }
-    ensures { (p : ℕ) → first ≡ first_over p (height_in span) → result ≡ or_most (place_in q c p (height_in span)) }
+// Where a walk to a page stands: the node over the page at a level, by its first page and its span, and what its place asks, the halvings of that first page,
+// and these less its height, in 64 bits.
+#[derive(Clone, Copy)]
+pub struct Level {
+    pub page: u64,
+    pub first: u64,
+    pub span: u64,
+    pub halved: u64,
+    pub carried: u64,
+    ghost carries: { Carries page first span halved carried },
+}
+
+impl Level {
+    // At the root of a span, over a page within it.
+    fn of_root(span: u64, page: u64) -> Level
+        requires { (root_in span ≡ span) × (page < span) }
+        ensures { (result.page ≡ page) × (result.span ≡ span) }
+    {
+        Level {
+            page,
+            first: 0,
+            span,
+            halved: 0,
+            carried: 0_u64.wrapping_sub(height_of(span)),
+        }
+    }
+
+    // At the leaf over a page.
+    fn of_leaf(page: u64) -> Level
+        requires { page < 4096 }
+        ensures { (result.page ≡ page) × (result.span ≡ 1) }
+    {
+        let halved = halvings(page);
+        Level {
+            page,
+            first: page,
+            span: 1,
+            halved,
+            carried: halved,
+        }
+    }
+
+    // Whether the page lies in the node's left half.
+    fn is_left(self) -> bool
+        ensures { result ≡ nat_lt self.page (self.first + self.span / 2) }
+    {
+        self.page < self.first + self.span / 2
+    }
+
+    // At the node's half that the page lies in. One comparison chooses each number that a level carries down, so that there is no branch to foresee.
+    fn below(self) -> Level
+        requires { 1 < self.span }
+        ensures { (result.page ≡ self.page) × (result.span ≡ self.span / 2) }
+    {
+        let left = self.is_left();
+        let half = self.span / 2;
+        Level {
+            page: self.page,
+            first: if left { self.first } else { self.first + half },
+            span: half,
+            halved: if left {
+                self.halved
+            } else {
+                self.halved + (self.span - 1)
+            },
+            carried: self.carried.wrapping_add(if left { 1 } else { self.span }),
+        }
+    }
+}
+
+// Whether an update has a node at a level, by what its part says.
+fn has_node(q: Part, at: Level) -> bool
+    ensures { result ≡ has_node_by q at.page (height_in at.span) }
 {
-    if q.name != c {
-        return u64::MAX;
+    at.span <= q.span && q.f.0 < at.first + at.span && at.first <= q.last.0
+}
+
+// The place of the node at a level in the version numbered c, whose part q should be; none where it is not, or has no such node. Two words of the part give the
+// place. Over areas that no call left the sums may wrap.
+fn place_of(q: Part, c: u64, at: Level) -> Option<u64>
+    requires { (0 < c) × (c < 2 ^ 64 - 1) }
+    ensures { result ≡ place_in q c at.page (height_in at.span) }
+{
+    if q.name != c || !has_node(q, at) {
+        return None;
     }
-    if q.span < span {
-        return u64::MAX;
-    }
-    let last = q.last;
-    if last.0 < first {
-        return u64::MAX;
-    }
-    let f = q.f;
-    if first + span <= f.0 {
-        return u64::MAX;
-    }
-    std::num::wrapping_sub_u64(
-        std::num::wrapping_add_u64(q.top, carried),
-        smaller(halved, q.past),
+    Some(
+        q.top
+            .wrapping_add(at.carried)
+            .wrapping_sub(at.halved.min(q.past)),
     )
 }
 
-// The place of the leaf over a page of the version numbered c, whose part q should be; the largest number where there is none.
-pub fn leaf_place(q: Part, c: u64, page: PageIndex) -> u64
-    ensures { result ≡ or_most (leaf_place q c page.0) }
+// The place of the leaf over a page of the version numbered c, whose part q should be; none where there is none.
+pub fn leaf_place(q: Part, c: u64, page: PageIndex) -> Option<u64>
+    ensures { result ≡ leaf_place q c page.0 }
 {
-    if c == 0 {
-        return u64::MAX;
+    if c == 0 || c == u64::MAX || page.0 >= MOST_PAGES {
+        return None;
     }
-    if c == u64::MAX {
-        return u64::MAX;
-    }
-    if page.0 >= MOST_PAGES {
-        return u64::MAX;
-    }
-    let halved = halvings(page.0);
-    place_of(q, c, page.0, 1, halved, halved)
+    place_of(q, c, Level::of_leaf(page.0))
 }
 
-// Whether a page lies in the left half of the node at a first page, with halves of this span.
-fn is_left(page: u64, first: u64, half: u64) -> bool
-    requires { first + half < 2 ^ 64 }
-    ensures { result ≡ nat_lt page (first + half) }
+// The number that a node has for one of its halves.
+fn child_at(x: Stored, left: bool) -> u64
+    ensures { (result ≡ pick left x.left x.right) × (result < 2 ^ 32) }
 {
-    page < first + half
+    u64::from(if left { x.left } else { x.right })
 }
 
-// The number that a node has for one of its halves; the largest number where there is no node.
-fn child_at(x: NodeAt, left: bool) -> u64
-    ensures { result ≡ child_number x left }
+// The node at a level in the version numbered c; none where it is not stored.
+fn node_over(areas: &Areas, c: u64, at: Level) -> Option<Stored>
+    requires { (0 < c) × (c < 2 ^ 64 - 1) }
+    ensures { result ≡ visit areas.now.nodes.now (place_at areas.now.register.now c at.page (height_in at.span)) }
 {
-    match x {
-        NodeAt::Missing => u64::MAX,
-        NodeAt::Stored(l, r) => if left { l as u64 } else { r as u64 },
-    }
+    let place = place_of(version_part(areas.register, c), c, at)?;
+    node_at(areas.nodes, place)
 }
 
-// A number to the left, and so much more to the right. One comparison chooses all that a level carries down, so that there is no branch to foresee.
-fn on_to(left: bool, x: u64, more: u64) -> u64
-    requires { x + more < 2 ^ 64 }
-    ensures { result ≡ pick left x (x + more) }
+// The number of the node of span `to` over a page, from the node at a level in the version numbered c: 0 where no version has pages there, and the largest
+// number, which is no version's, where a node is not stored. One record and one place a level. A recursion, the form that document 01 names: the span halves at
+// each call. The compiler makes a loop of it where the level is lent and the answer is a number: with an `Option` here a walk to a page took an eighth to a
+// third longer.
+pub fn descend(areas: &Areas, c: u64, at: &mut Level, to: u64) -> u64
+    requires { (c < 2 ^ 64 - 1) × (0 < to) }
+    ensures { (j : ℕ) → to ≡ 2 ^ j → unless_most result ≡ reach_by (place_at areas.now.register.now) areas.now.nodes.now j (height_in at.old.span - j) c at.old.page }
 {
-    if left { x } else { x + more }
-}
-
-// The halvings less the height, a level further down: one more, and to the right the span less one.
-fn carried_on(left: bool, carried: u64, span: u64) -> u64
-    ensures { result ≡ (carried + pick left 1 span) % 2 ^ 64 }
-{
-    if left {
-        return std::num::wrapping_add_u64(carried, 1);
-    }
-    std::num::wrapping_add_u64(carried, span)
-}
-
-// Half of a span.
-fn half_of(span: u64) -> u64
-    ensures { result ≡ span / 2 }
-{
-    span / 2
-}
-
-// x - 1, or 0.
-fn less_one(x: u64) -> u64
-    ensures { result ≡ x - 1 }
-{
-    if x == 0 { 0 } else { x - 1 }
-}
-
-// The number of the node of span `to` over a page, from the node of a larger span over it of the version numbered c: 0 where no version has pages there, and the largest
-// number where a node is not stored. The span halves at each call: one record and one place a level. It takes the slices by reference, and numbers, so that the compiler
-// makes a loop of it.
-pub fn reach(
-    register: &&[Record],
-    nodes: &&[u32],
-    c: u64,
-    page: u64,
-    first: u64,
-    span: u64,
-    halved: u64,
-    carried: u64,
-    to: u64,
-) -> u64
-    requires { (c < 2 ^ 64 - 1) × (0 < to) × Level first span halved carried × (first ≡ first_over page (height_in span)) }
-    ensures { (j : ℕ) → to ≡ 2 ^ j → result ≡ or_most (reach_by (place_at register.now.now) nodes.now.now j (height_in span - j) c page) }
-{
-    if span <= to {
+    if c == 0 || at.span <= to {
         return c;
     }
-    if c == 0 {
-        return 0;
+    let Some(x) = node_over(areas, c, *at) else {
+        return u64::MAX;
+    };
+    let child = child_at(x, at.is_left());
+    *at = at.below();
+    descend(areas, child, at, to)
+}
+
+// The same from the root, of its span, of the version numbered c; none where a node is not stored, as of the largest number, which is no version's.
+pub fn reach(areas: &Areas, c: u64, page: PageIndex, root: u64, to: u64) -> Option<u64>
+    requires { (root_in root ≡ root) × (page.0 < root) × (0 < to) }
+    ensures { (j : ℕ) → to ≡ 2 ^ j → result ≡ reach_by (place_at areas.now.register.now) areas.now.nodes.now j (height_in root - j) c page.0 }
+{
+    if root <= to {
+        return Some(c);
     }
-    let q = version_part(*register, c);
-    let x = node_at(*nodes, place_of(q, c, first, span, halved, carried));
-    let half = half_of(span);
-    let left = is_left(page, first, half);
-    let below = child_at(x, left);
-    if below == 18446744073709551615 {
-        return 18446744073709551615;
+    if c == u64::MAX {
+        return None;
     }
-    reach(
-        register,
-        nodes,
-        below,
-        page,
-        on_to(left, first, half),
-        half,
-        on_to(left, halved, less_one(span)),
-        carried_on(left, carried, span),
-        to,
-    )
+    let d = descend(areas, c, &mut Level::of_root(root, page.0), to);
+    if d == u64::MAX { None } else { Some(d) }
 }

@@ -1,6 +1,6 @@
 // The store for C: every call on plain numbers, structs of numbers by value, and areas as pointer and length.
 // A reply begins with the number of the refusal, 0 where the call was accepted. No function has a `requires`; C must keep what references say in Rattle:
-// no pointer is null, and the areas of one call do not overlap.
+// no pointer is null, and the areas of one call do not overlap. `exports_c` has each call once more, under its name in C: a crate is a library or a static library.
 #![tactic(auto)]
 
 ghost use Rattle.std.specs.Prelude.{◌≡◌};
@@ -19,15 +19,14 @@ ghost use Rattle.versions.specs.Size.{size_out};
 ghost use Rattle.versions.specs.Recent.{recent_out};
 ghost use Rattle.stamp.specs.Stamp.{stamp_out};
 ghost use Rattle.view.specs.View.{view_part, view_at};
-ghost use Rattle.replies.specs.Replies.{format_reply, begin_reply, put_reply, assign_reply, weave_reply, publish_reply, windows_reply, branch_reply, read_reply, size_reply, recent_reply, stamp_reply, view_reply};
+ghost use Rattle.replies.specs.Replies.{format_reply, begin_reply, done_reply, assign_reply, weave_reply, publish_reply, windows_reply, branch_reply, size_reply, version_reply, view_reply};
 
 use lines::Line;
-use register::Record;
+use register::{Areas, Record};
 use replies::{
     AssignReply, BeginReply, BranchReply, FormatReply, PublishReply, SizeReply, VersionReply,
-    ViewReply, WeaveReply, WindowsReply, assign_reply, begin_reply, branch_reply, format_reply,
-    publish_reply, put_reply, read_reply, recent_reply, size_reply, stamp_reply, view_reply,
-    weave_reply, windows_reply,
+    ViewReply, WeaveReply, WindowsReply, assign_reply, begin_reply, branch_reply, done_reply,
+    format_reply, publish_reply, size_reply, version_reply, view_reply, weave_reply, windows_reply,
 };
 use tree::{PageIndex, Ticket, Version};
 use versions::{ByteOffset, Store};
@@ -66,7 +65,9 @@ pub fn pit_begin(
     ensures { let a = areas_of pages.now nodes.now register.old in
         (result ≡ begin_reply (begin_out s a n)) × (register.new ≡ begin_register s a n) }
 {
-    begin_reply(begin::begin(s, pages, nodes, register, n))
+    let mut store = s;
+    let out = begin::begin(&mut store, pages, nodes, register, n);
+    begin_reply(store, out)
 }
 
 // PUT: the number of the refusal, or 0.
@@ -80,11 +81,11 @@ pub fn pit_put(
     bytes: &[u8],
 ) -> u64
     ensures { let a = areas_of pages.old nodes.now register.old in
-        (result ≡ put_reply (put_out s a ticket i bytes.now))
+        (result ≡ done_reply (put_out s a ticket i bytes.now))
         × (pages.new ≡ put_pages s a ticket i bytes.now)
         × (register.new ≡ put_register s a ticket i bytes.now) }
 {
-    put_reply(put::put(s, pages, nodes, register, Ticket(ticket), i, bytes))
+    done_reply(put::put(&s, pages, nodes, register, Ticket(ticket), i, bytes))
 }
 
 // ASSIGN as a write at page f.
@@ -100,15 +101,17 @@ pub fn pit_write(
     ensures { let a = areas_of pages.now nodes.now register.old in
         (result ≡ assign_reply (assign_out s a line ticket f)) × (register.new ≡ assign_register s a line ticket f) }
 {
-    assign_reply(assign::write(
-        s,
+    let mut store = s;
+    let out = assign::write(
+        &mut store,
         pages,
         nodes,
         register,
         Line(line),
         Ticket(ticket),
         PageIndex(f),
-    ))
+    );
+    assign_reply(store, out)
 }
 
 // ASSIGN as an append.
@@ -124,7 +127,16 @@ pub fn pit_append(
         let f = (line_in s line).blob in
         (result ≡ assign_reply (assign_out s a line ticket f)) × (register.new ≡ assign_register s a line ticket f) }
 {
-    assign_reply(assign::append(s, pages, nodes, register, Line(line), Ticket(ticket)))
+    let mut store = s;
+    let out = assign::append(
+        &mut store,
+        pages,
+        nodes,
+        register,
+        Line(line),
+        Ticket(ticket),
+    );
+    assign_reply(store, out)
 }
 
 // WEAVE.
@@ -138,7 +150,7 @@ pub fn pit_weave(
     ensures { let a = areas_of pages.now nodes.old register.old in
         (result ≡ weave_reply (weave_out s a ticket)) × (nodes.new ≡ weave_nodes s a ticket) × (register.new ≡ weave_register s a ticket) }
 {
-    weave_reply(weave::weave(s, pages, nodes, register, Ticket(ticket)))
+    weave_reply(weave::weave(&s, pages, nodes, register, Ticket(ticket)))
 }
 
 // PUBLISH.
@@ -154,7 +166,14 @@ pub fn pit_publish(
     ensures { let a = areas_of pages.now nodes.now register.now in
         result ≡ publish_reply (publish_out s w a line minute) }
 {
-    publish_reply(publish::publish(s, w, pages, nodes, register, Line(line), minute))
+    let mut store = s;
+    let areas = Areas {
+        pages,
+        nodes,
+        register,
+    };
+    let out = publish::publish(&mut store, &w, &areas, Line(line), minute);
+    publish_reply(store, out)
 }
 
 // SETWINDOWS.
@@ -169,7 +188,14 @@ pub fn pit_set_windows(
     ensures { let a = areas_of pages.now nodes.now register.now in
         result ≡ windows_reply (set_out s w a text.now) }
 {
-    windows_reply(set_windows::set_windows(s, w, pages, nodes, register, text))
+    let mut windows = w;
+    let areas = Areas {
+        pages,
+        nodes,
+        register,
+    };
+    let out = set_windows::set_windows(&s, &mut windows, &areas, text);
+    windows_reply(windows, out)
 }
 
 // BRANCH.
@@ -184,7 +210,14 @@ pub fn pit_branch(
     ensures { let a = areas_of pages.now nodes.now register.now in
         result ≡ branch_reply (branch_out s a line version) }
 {
-    branch_reply(branch::branch(s, pages, nodes, register, Line(line), Version(version)))
+    let mut store = s;
+    let areas = Areas {
+        pages,
+        nodes,
+        register,
+    };
+    let out = branch::branch(&mut store, &areas, Line(line), Version(version));
+    branch_reply(store, out)
 }
 
 // READ: the number of the refusal, or 0.
@@ -200,20 +233,16 @@ pub fn pit_read(
     buffer: &mut [u8],
 ) -> u64
     ensures { let a = areas_of pages.now nodes.now register.now in
-        (result ≡ read_reply (read_out s a line version offset len buffer.old))
+        (result ≡ done_reply (read_out s a line version offset len buffer.old))
         × (buffer.new ≡ read_buffer s a line version offset len buffer.old) }
 {
-    read_reply(read::read(
-        s,
+    let areas = Areas {
         pages,
         nodes,
         register,
-        Line(line),
-        Version(version),
-        ByteOffset(offset),
-        len,
-        buffer,
-    ))
+    };
+    let from = ByteOffset(offset);
+    done_reply(read::read(&s, &areas, Line(line), Version(version), from, len, buffer))
 }
 
 // SIZE.
@@ -228,7 +257,12 @@ pub fn pit_size(
     ensures { let a = areas_of pages.now nodes.now register.now in
         result ≡ size_reply (size_out s a line version) }
 {
-    size_reply(versions::size(s, pages, nodes, register, Line(line), Version(version)))
+    let areas = Areas {
+        pages,
+        nodes,
+        register,
+    };
+    size_reply(versions::size(&s, &areas, Line(line), Version(version)))
 }
 
 // RECENT.
@@ -240,9 +274,14 @@ pub fn pit_recent(
     line: u64,
 ) -> VersionReply
     ensures { let a = areas_of pages.now nodes.now register.now in
-        result ≡ recent_reply (recent_out s a line) }
+        result ≡ version_reply (recent_out s a line) }
 {
-    recent_reply(versions::recent(s, pages, nodes, register, Line(line)))
+    let areas = Areas {
+        pages,
+        nodes,
+        register,
+    };
+    version_reply(versions::recent(&s, &areas, Line(line)))
 }
 
 // STAMP.
@@ -256,17 +295,14 @@ pub fn pit_stamp(
     page: u64,
 ) -> VersionReply
     ensures { let a = areas_of pages.now nodes.now register.now in
-        result ≡ stamp_reply (stamp_out s a line version page) }
+        result ≡ version_reply (stamp_out s a line version page) }
 {
-    stamp_reply(stamp::stamp(
-        s,
+    let areas = Areas {
         pages,
         nodes,
         register,
-        Line(line),
-        Version(version),
-        PageIndex(page),
-    ))
+    };
+    version_reply(stamp::stamp(&s, &areas, Line(line), Version(version), PageIndex(page)))
 }
 
 // VIEW: an exported function hands out no part of an area, so this says where the part begins.
@@ -282,16 +318,11 @@ pub fn pit_view(
     ensures { let a = areas_of pages.now nodes.now register.now in
         (result ≡ view_reply s.size (view_at s a line version page)) × (part pages.now result.begin result.length ≡ view_part s a line version page) }
 {
-    view_reply(
-        s.size,
-        view::view_at(
-            s,
-            pages,
-            nodes,
-            register,
-            Line(line),
-            Version(version),
-            PageIndex(page),
-        ),
-    )
+    let areas = Areas {
+        pages,
+        nodes,
+        register,
+    };
+    let out = view::view_at(&s, &areas, Line(line), Version(version), PageIndex(page));
+    view_reply(s.size, out)
 }

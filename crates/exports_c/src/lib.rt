@@ -19,7 +19,7 @@ ghost use Rattle.versions.specs.Size.{size_out};
 ghost use Rattle.versions.specs.Recent.{recent_out};
 ghost use Rattle.stamp.specs.Stamp.{stamp_out};
 ghost use Rattle.view.specs.View.{view_part, view_at};
-ghost use Rattle.replies.specs.Replies.{format_reply, begin_reply, put_reply, assign_reply, weave_reply, publish_reply, windows_reply, branch_reply, read_reply, size_reply, recent_reply, stamp_reply, view_reply};
+ghost use Rattle.replies.specs.Replies.{format_reply, begin_reply, done_reply, assign_reply, weave_reply, publish_reply, windows_reply, branch_reply, size_reply, version_reply, view_reply};
 
 use register::Record;
 use replies::{
@@ -79,7 +79,7 @@ pub extern "C" fn pit_put(
     bytes: &[u8],
 ) -> u64
     ensures { let a = areas_of pages.old nodes.now register.old in
-        (result ≡ put_reply (put_out s a ticket i bytes.now))
+        (result ≡ done_reply (put_out s a ticket i bytes.now))
         × (pages.new ≡ put_pages s a ticket i bytes.now)
         × (register.new ≡ put_register s a ticket i bytes.now) }
 {
@@ -198,7 +198,7 @@ pub extern "C" fn pit_read(
     buffer: &mut [u8],
 ) -> u64
     ensures { let a = areas_of pages.now nodes.now register.now in
-        (result ≡ read_reply (read_out s a line version offset len buffer.old))
+        (result ≡ done_reply (read_out s a line version offset len buffer.old))
         × (buffer.new ≡ read_buffer s a line version offset len buffer.old) }
 {
     exports::pit_read(
@@ -232,7 +232,7 @@ pub extern "C" fn pit_recent(
     line: u64,
 ) -> VersionReply
     ensures { let a = areas_of pages.now nodes.now register.now in
-        result ≡ recent_reply (recent_out s a line) }
+        result ≡ version_reply (recent_out s a line) }
 {
     exports::pit_recent(s, pages, nodes, register, line)
 }
@@ -249,7 +249,7 @@ pub extern "C" fn pit_stamp(
     page: u64,
 ) -> VersionReply
     ensures { let a = areas_of pages.now nodes.now register.now in
-        result ≡ stamp_reply (stamp_out s a line version page) }
+        result ≡ version_reply (stamp_out s a line version page) }
 {
     exports::pit_stamp(s, pages, nodes, register, line, version, page)
 }

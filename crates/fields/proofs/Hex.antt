@@ -1,83 +1,92 @@
 -- Hexadecimal, two digits at a time. Assumes nothing.
-use mathlib.Core.Path.{◌≡◌, refl}
-use mathlib.Core.Bool.{Bool, true, false, ◌&&◌, false≢true}
-use mathlib.Core.List.{List, [], ◌∷◌}
-use Prim.Native.Nat.{ℕ, suc, ◌+◌, ◌-◌, ◌*◌, ◌<◌, ◌≤◌}
+use mathlib.Core.Path.{◌≡◌, refl, ap}
+use mathlib.Core.Bool.{Bool, true, false, ◌&&◌, false≢true, and-false}
+use mathlib.Core.List.{List, [], ◌∷◌, ◌++◌}
+use Prim.Native.Nat.{ℕ, zero, suc, ◌+◌, ◌*◌, ◌%◌, ◌<◌, ◌≤◌}
 use native.Mathlib.Numerals.{add-one}
 use native.Mathlib.Omega.{arith}
-use lib.ListN.{length, get_or, drop, drop_of_length-le, length-drop}
-use lib.Seq.{drop-cons}
+use lib.ListN.{length, get_or, take, drop, set}
+use lib.Seq.{take-length}
 use lib.Dec.{ltb}
-use borrow.Author.Tests.{le-leb, lt-leb, lt-ltb, le-ltb, ltb-true}
+use borrow.Author.Tests.{le-leb, ltb-true}
+use Rattle.std.specs.List.{list_all}
+use Rattle.text.specs.Buffer.{front}
 use Rattle.fields.specs.Fields.{hex_value, is_hex, unhex}
 
--- one digit
-module _ (b : ℕ) where
-  pub hex-low : b < 48 → 16 ≡ hex_value b
-  unfolding hex_value
-  hex-low h = rw (lt-leb 48 b h, lt-leb 97 b (omega arith))
+-- whether a byte is such a digit
+abbrev pub digit : ℕ → Bool
+digit b = ltb (hex_value b) 16
 
-  pub hex-ten : 48 ≤ b → b ≤ 57 → b - 48 ≡ hex_value b
-  unfolding hex_value
-  hex-ten h k = rw (le-leb 48 b h, le-leb b 57 k)
+-- bytes are hexadecimal where their count is even and each is a digit
+pub hex-even : (f : List ℕ) → length f % 2 ≡ 0 → list_all digit f ≡ is_hex f
+hex-even [] h = refl
+hex-even (a ∷ []) h = absurd (omega arith)
+hex-even (a ∷ b ∷ f) h = let r : length f % 2 ≡ 0 = omega arith in rw (hex-even f r)
 
-  pub hex-mid : 57 < b → b < 97 → 16 ≡ hex_value b
-  unfolding hex_value
-  hex-mid h k = rw (le-leb 48 b (omega arith), lt-leb b 57 h, lt-leb 97 b k)
-
-  pub hex-six : 97 ≤ b → b ≤ 102 → b - 87 ≡ hex_value b
-  unfolding hex_value
-  hex-six h k = rw (le-leb 48 b (omega arith), lt-leb b 57 (omega arith), le-leb 97 b h, le-leb b 102 k)
-
-  pub hex-high : 102 < b → 16 ≡ hex_value b
-  unfolding hex_value
-  hex-high h = rw (le-leb 48 b (omega arith), lt-leb b 57 (omega arith), le-leb 97 b (omega arith), lt-leb b 102 h)
+pub hex-odd : (f : List ℕ) → (length f % 2 ≡ 0 → ⊥) → false ≡ is_hex f
+hex-odd [] h = absurd (h refl)
+hex-odd (a ∷ []) h = refl
+hex-odd (a ∷ b ∷ f) h = let r : length f % 2 ≡ 0 → ⊥ = λ e. omega arith in rw (← hex-odd f r, and-false, and-false)
 
 both : (x y : Bool) → x && y ≡ true → (x ≡ true) × (y ≡ true)
 both true y h = (refl, h)
-both false y h = elim (false≢true h) [ ]
+both false y h = absurd (false≢true h)
+
+-- two digits and what follows them
+module _ (a b : ℕ) (f : List ℕ) (h : is_hex (a ∷ b ∷ f) ≡ true) where
+  first-good : hex_value a < 16
+  first-good = ltb-true (hex_value a) 16 (both (digit a) (digit b && is_hex f) h).0
+
+  second-good : hex_value b < 16
+  second-good = ltb-true (hex_value b) 16 (both (digit b) (is_hex f) (both (digit a) (digit b && is_hex f) h).1).0
+
+  rest-good : is_hex f ≡ true
+  rest-good = (both (digit b) (is_hex f) (both (digit a) (digit b && is_hex f) h).1).1
 
 -- the bytes of hexadecimal digits are half as many
 pub unhex-length : (f : List ℕ) → is_hex f ≡ true → length f ≡ length (unhex f) + length (unhex f)
 unhex-length [] h = refl
-unhex-length (a ∷ []) h = elim (false≢true h) [ ]
-unhex-length (a ∷ b ∷ f) h = let rest = (both (ltb (hex_value b) 16) (is_hex f) (both (ltb (hex_value a) 16) (ltb (hex_value b) 16 && is_hex f) h).1).1 in omega (arith, unhex-length f rest)
+unhex-length (a ∷ []) h = absurd (false≢true h)
+unhex-length (a ∷ b ∷ f) h = omega (arith, unhex-length f (rest-good a b f h))
 
-module _ (f : List ℕ) (i : ℕ) where
-  -- a last digit alone
-  pub odd-at : i < length f → length f - i < 2 → is_hex (drop i f) ≡ false
-  odd-at h k = rw (drop-cons f i 0 h, drop_of_length-le f {i = suc i} (omega arith))
+-- the digits of the byte at index i, and that byte
+abbrev Pair : List ℕ → ℕ → Type 0
+Pair f i =
+    (hex_value (get_or f (2 * i) 0) < 16)
+    × (hex_value (get_or f (2 * i + 1) 0) < 16)
+    × (get_or (unhex f) i 0 ≡ hex_value (get_or f (2 * i) 0) * 16 + hex_value (get_or f (2 * i + 1) 0))
 
-  -- digits are left, so there are two
-  pub two-left : is_hex (drop i f) ≡ true → i < length f → i + 1 < length f
-  two-left h k = omega (arith, unhex-length (drop i f) h, length-drop i f)
+pair-at : (f : List ℕ) (i : ℕ) → is_hex f ≡ true → 2 * i < length f → Pair f i
+pair-at [] i h k = absurd (omega arith)
+pair-at (a ∷ []) i h k = absurd (false≢true h)
+pair-at (a ∷ b ∷ f) zero h k = (first-good a b f h, second-good a b f h, refl)
+pair-at (a ∷ b ∷ f) (suc i) h k =
+    let m : 2 * suc i ≡ suc (suc (2 * i)) = omega arith in
+    let n : 2 * suc i + 1 ≡ suc (suc (2 * i + 1)) = omega arith in
+    rw (n, m) (pair-at f i (rest-good a b f h) (omega arith))
 
-  module _ (h : i + 1 < length f) where
-    pair-at : drop i f ≡ get_or f i 0 ∷ get_or f (i + 1) 0 ∷ drop (i + 2) f
-    pair-at =
-        let n : i + 2 ≡ suc (suc i) = omega arith in
-        rw (add-one, n, drop-cons f i 0 (omega arith), drop-cons f (suc i) 0 (omega arith))
+pub high_digit : (f : List ℕ) (i : ℕ) → is_hex f ≡ true → 2 * i < length f → hex_value (get_or f (2 * i) 0) < 16
+high_digit f i h k = (pair-at f i h k).0
 
-    pub first-bad : 15 < hex_value (get_or f i 0) → is_hex (drop i f) ≡ false
-    first-bad k = rw (pair-at, le-ltb (hex_value (get_or f i 0)) 16 (omega arith))
+pub low_digit : (f : List ℕ) (i : ℕ) → is_hex f ≡ true → 2 * i < length f → hex_value (get_or f (2 * i + 1) 0) < 16
+low_digit f i h k = (pair-at f i h k).1
 
-    pub second-bad : hex_value (get_or f i 0) ≤ 15 → 15 < hex_value (get_or f (i + 1) 0) → is_hex (drop i f) ≡ false
-    second-bad j k = rw (pair-at, lt-ltb (hex_value (get_or f i 0)) 16 (omega arith), le-ltb (hex_value (get_or f (i + 1) 0)) 16 (omega arith))
+pub pair_byte : (f : List ℕ) (i : ℕ) → is_hex f ≡ true → 2 * i < length f
+    → get_or (unhex f) i 0 ≡ hex_value (get_or f (2 * i) 0) * 16 + hex_value (get_or f (2 * i + 1) 0)
+pair_byte f i h k = (pair-at f i h k).2
 
-    pub both-good : hex_value (get_or f i 0) ≤ 15 → hex_value (get_or f (i + 1) 0) ≤ 15 → is_hex (drop i f) ≡ is_hex (drop (i + 2) f)
-    both-good j k = rw (pair-at, lt-ltb (hex_value (get_or f i 0)) 16 (omega arith), lt-ltb (hex_value (get_or f (i + 1) 0)) 16 (omega arith))
+-- the byte at index i of u put over b
+put-suc : (i x : ℕ) (u b : List ℕ) → i < length u → i < length b → x ≡ get_or u i 0 → set (take i u ++ drop i b) i x ≡ take (suc i) u ++ drop (suc i) b
+put-suc i x [] b h k e = absurd (omega arith)
+put-suc i x (a ∷ u) [] h k e = absurd (omega arith)
+put-suc zero x (a ∷ u) (y ∷ b) h k e = rw e
+put-suc (suc i) x (a ∷ u) (y ∷ b) h k e = ap (λ (t : List ℕ). a ∷ t) (put-suc i x u b (omega arith) (omega arith) e)
 
-    -- what hexadecimal says of its first two digits
-    pub pair-good : is_hex (drop i f) ≡ true → (hex_value (get_or f i 0) < 16) × (hex_value (get_or f (i + 1) 0) < 16) × (is_hex (drop (i + 2) f) ≡ true)
-    pair-good k =
-        let x = hex_value (get_or f i 0) in
-        let y = hex_value (get_or f (i + 1) 0) in
-        let a = both (ltb x 16) (ltb y 16 && is_hex (drop (i + 2) f)) (rw pair-at at k) in
-        let b = both (ltb y 16) (is_hex (drop (i + 2) f)) a.1 in
-        (ltb-true x 16 a.0, ltb-true y 16 b.0, b.1)
+pub put_next : (i x : ℕ) (u b : List ℕ) → i < length u → i < length b → x ≡ get_or u i 0 → set (take i u ++ drop i b) i x ≡ take (i + 1) u ++ drop (i + 1) b
+put_next i x u b h k e = rw add-one (put-suc i x u b h k e)
 
-    pub unhex-pair : unhex (drop i f) ≡ (hex_value (get_or f i 0) * 16 + hex_value (get_or f (i + 1) 0)) ∷ unhex (drop (i + 2) f)
-    unhex-pair = rw pair-at
+pub put_whole : (u b : List ℕ) (i : ℕ) → i ≡ length u → length u ≤ length b → take i u ++ drop i b ≡ front u b
+unfolding front
+put_whole u b i e h = rw (e, le-leb (length u) (length b) h, take-length)
 
-pub hex-end : (f : List ℕ) (i : ℕ) → length f ≤ i → (is_hex (drop i f) ≡ true) × (unhex (drop i f) ≡ [])
-hex-end f i h = (rw (drop_of_length-le f h), rw (drop_of_length-le f h))
+pub ruleset put_hex_steps = (unhex-length, high_digit, low_digit, pair_byte)

@@ -1,10 +1,7 @@
 -- The fields of a line of text: numbers, and page bytes in hexadecimal. Each definition is total.
-use Rattle.std.specs.Prelude.{ℕ, ◌+◌, ◌-◌, ◌*◌, ◌^◌, Bool, true, false, not, ◌&&◌, List, [], ◌∷◌, leb, ltb, eqb}
-use Rattle.std.proofs.Math.Option.{Option, none, some}
+use Rattle.std.specs.Prelude.{ℕ, ◌+◌, ◌-◌, ◌*◌, ◌^◌, Bool, true, false, not, ◌&&◌, List, [], ◌∷◌, leb, ltb, eqb, Option, None, Some}
 use Rattle.text.specs.Text.{pick, comma, joined}
 use Rattle.text.specs.Buffer.{front}
-use Rattle.fields.specs.declared.Number.{Number}
-use Rattle.fields.specs.declared.Number.TheVariants.{Is, Not}
 
 -- the fields of a line: what stands between its commas
 abbrev pub fields_of : List ℕ → List (List ℕ)
@@ -32,8 +29,8 @@ value_after v [] = v
 value_after v (b ∷ f) = value_after (v * 10 + (b - 48)) f
 
 -- the number that a field is, if it is one: plain digits, no leading zero, in 64 bits
-unfoldable pub field_number : List ℕ → Number
-field_number f = pick (starts_plain f && (all_digits f && ltb (value_after 0 f) (2 ^ 64))) (Is (value_after 0 f)) Not
+unfoldable pub field_number : List ℕ → Option ℕ
+field_number f = pick (starts_plain f && (all_digits f && ltb (value_after 0 f) (2 ^ 64))) (Some (value_after 0 f)) None
 
 -- the value of a lowercase hexadecimal digit, 0 to 9 or a (97) to f (102); 16 where the byte is none
 unfoldable pub hex_value : ℕ → ℕ
@@ -53,7 +50,7 @@ unhex (a ∷ b ∷ f) = (hex_value a * 16 + hex_value b) ∷ unhex f
 
 -- the page bytes that a field is, if it is hexadecimal
 abbrev pub hex_of : List ℕ → Option (List ℕ)
-hex_of f = pick (is_hex f) (some (unhex f)) none
+hex_of f = pick (is_hex f) (Some (unhex f)) None
 
 -- a buffer with the bytes that a field is at its front; as it was where the field is not hexadecimal, or they do not fit
 abbrev pub decoded_in : List ℕ → List ℕ → List ℕ

@@ -1,10 +1,10 @@
 -- One call that names no line in two matched states: it gives back the same and the states stay matched; or one answer is excused.
 -- Assumes nothing.
+use Rattle.std.proofs.Common.{Some}
 use mathlib.Core.Path.{◌≡◌, refl, sym, ap, subst₂, ◌∙◌}
 use mathlib.Core.Logic.{inl, inr, ◌≢◌}
 use mathlib.Core.Bool.{false, not, ◌||◌, cond}
 use mathlib.Core.List.{List, [], ◌∷◌, ◌++◌}
-use mathlib.Core.Option.{some}
 use Prim.Native.Nat.{ℕ, zero, suc, ◌+◌, ◌-◌, ◌^◌, ◌<◌}
 use native.Mathlib.Decide.{ℕ_discrete}
 use native.Mathlib.Omega.{arith}
@@ -195,7 +195,7 @@ module _ (L : Limits) {l l' : ℕ} {ts ts' : List ℕ} {m m' : Model} (M : Match
               slots = λ j. elim (ℕ_discrete (nth 0 ts j) t) [
                 | yes q ↦
                     rw (q, these-two j p.from q, nth-set-same no_ticket m.tickets t (new m t) p.from p.upto, nth-set-same no_ticket m'.tickets t' (new m' t') p'.from p'.upto)
-                    (ap (λ s. set s i (some bytes)) P.slots)
+                    (ap (λ s. set s i (Some bytes)) P.slots)
                 | no d ↦
                     rw (nth-set-other no_ticket m.tickets t (new m t) p.from (nth 0 ts j) d, nth-set-other no_ticket m'.tickets t' (new m' t') p'.from (nth 0 ts' j) (other-left j p'.from d))
                     (M.matched.slots j)
@@ -207,7 +207,7 @@ module _ (L : Limits) {l l' : ℕ} {ts ts' : List ℕ} {m m' : Model} (M : Match
           }
         where
           new : Model → ℕ → Ticket
-          new m t = with_slots (ticket_in m t) (set (ticket_in m t).slots i (some bytes))
+          new m t = with_slots (ticket_in m t) (set (ticket_in m t).slots i (Some bytes))
 
       pub twin-put : (i : ℕ) (bytes : List ℕ) → Step l l' ts ts' m m' t t' (on_model L m (PUT t i bytes)) (on_model L m' (PUT t' i bytes))
       unfolding on_model unless

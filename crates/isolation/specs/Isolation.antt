@@ -1,8 +1,7 @@
 -- Slip 1's isolation of lines, over the model: what is done on other lines reaches a line's answers only through the numbers, places and refusals that the
 -- request lists. Two runs are compared, each of a line of its own. Tickets have other numbers in the two: two lists of ticket numbers match them, so that the k-th of
 -- the first list is in the first run what the k-th of the second is in the second run. All other tickets belong to one of the runs alone.
-use Rattle.std.specs.Prelude.{◌≡◌, ◌⊎◌, Bool, true, false, not, ◌&&◌, ◌||◌, List, [], ◌∷◌, ◌++◌, ℕ, suc, ◌+◌, ◌^◌, ◌≤◌, ◌<◌, leb, ltb, eqb, length}
-use Rattle.std.proofs.Math.Option.{Option}
+use Rattle.std.specs.Prelude.{◌≡◌, ◌⊎◌, Bool, true, false, not, ◌&&◌, ◌||◌, List, [], ◌∷◌, ◌++◌, ℕ, suc, ◌+◌, ◌^◌, ◌≤◌, ◌<◌, leb, ltb, eqb, length, Option}
 use Rattle.tree.specs.Tree.{nth}
 use Rattle.table.specs.Table.{unless}
 use Rattle.model.specs.Calls.{Call, BEGIN, PUT, WEAVE, SETWINDOWS, on, Act, WRITE, APPEND, PUBLISH, BRANCH, ask, Query, Answer, refused, ticket_is, node_is, line_is, part_is, Outcome, says}

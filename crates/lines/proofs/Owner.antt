@@ -1,7 +1,7 @@
 -- The line on which a version got its number: the code's steps, and the laws of sound lines. Assumes nothing.
 use mathlib.Core.Path.{◌≡◌, refl, sym, ◌∙◌, ap}
 use mathlib.Core.Logic.{inl, inr}
-use Prim.Native.Nat.{ℕ, zero, suc, ◌-◌, ◌<◌, ◌≤◌, min}
+use Prim.Native.Nat.{ℕ, zero, suc, ◌+◌, ◌<◌, ◌≤◌, min}
 use native.Mathlib.Nat.{min-eq_left}
 use native.Mathlib.Omega.{arith}
 use borrow.Author.Tests.{lt-ltb, le-ltb}
@@ -41,11 +41,13 @@ module _ (ls : ℕ → Branch) (l v : ℕ) (b : Branch) (read : b ≡ ls l) wher
   turn-ends (suc n) some h = from-own ls l v n (rw read at h)
 
   -- Else it goes on at the source with a step less, for the same line in the end.
-  pub turn_on : (left at : ℕ) → 0 < left → v ≤ b.start.0 → at ≡ min b.source.0 15 → owner_from (left - 1) ls at v ≡ owner_from left ls l v
-  turn_on zero at some h e = absurd (omega arith)
-  turn_on (suc n) at some h e =
-      let less : suc n - 1 ≡ n = omega arith in
-      rw (less, e, read) (sym (from-shared ls l v n (rw read at h)))
+  pub turn_on : (left more at : ℕ) → left + 1 ≡ more → v ≤ b.start.0 → at ≡ min b.source.0 15 → owner_from left ls at v ≡ owner_from more ls l v
+  turn_on left zero at less h e = absurd (omega arith)
+  turn_on left (suc n) at less h e =
+      let same : left ≡ n = omega arith in
+      rw (same, e, read) (sym (from-shared ls l v n (rw read at h)))
+
+pub ruleset turns = (from-none, turn-ends, turn_on)
 
 -- ---- sound lines
 

@@ -1,5 +1,5 @@
 -- The entries as sixteen numbers: reading one gives it back, and writing one changes just that one. Assumes nothing.
-use mathlib.Core.Path.{◌≡◌, refl, sym, ap, ◌∙◌}
+use mathlib.Core.Path.{◌≡◌, sym, ap, ◌∙◌}
 use mathlib.Core.Logic.{◌≢◌, inl, inr}
 use Prim.Native.Nat.{ℕ, ◌+◌, ◌-◌, ◌<◌, ◌≤◌}
 use native.Mathlib.Omega.{arith}
@@ -56,10 +56,6 @@ by_word l p0 p4 p8 p12 h = elim (lt-or-le l 4) [
 by-words : {a b c d a' b' c' d' : ℕ} → a ≡ a' → b ≡ b' → c ≡ c' → d ≡ d'
     → ◌≡◌ {A = Entries} (record { from0 = a; from4 = b; from8 = c; from12 = d }) (record { from0 = a'; from4 = b'; from8 = c'; from12 = d' })
 by-words p q r s = λ i. record { from0 = p i; from4 = q i; from8 = r i; from12 = s i }
-
--- The empty entries are those of sixteen zeros.
-pub entries_none : entries_of (λ _. 0) ≡ no_entries
-entries_none = refl
 
 module _ (g : ℕ → ℕ) where
   -- Only the numbers of the sixteen lines count.

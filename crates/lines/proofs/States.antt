@@ -2,20 +2,15 @@
 -- Assumes nothing.
 use mathlib.Core.Path.{◌≡◌, refl, sym, ap, ◌∙◌}
 use mathlib.Core.Logic.{◌≢◌}
-use Prim.Native.Nat.{ℕ, zero, suc, ◌+◌, ◌*◌, ◌/◌, ◌%◌, ◌^◌, ◌<◌, ◌≤◌}
-use native.Mathlib.Nat.{le_trans, mod-le, mod-eq_of_lt, mul-le-mul_right, div-mul-le_self, mul_left_comm}
+use Prim.Native.Nat.{ℕ, zero, suc, ◌+◌, ◌*◌, ◌/◌, ◌%◌, ◌^◌, ◌<◌}
+use native.Mathlib.Nat.{mod-eq_of_lt, mul_left_comm}
 use native.Mathlib.Omega.{arith}
-use lib.Pow.{pow-add, shr-shr, shl_exact}
+use lib.Pow.{pow-add, shr-shr}
+use Rattle.lines.proofs.Bits.{bits-within}
 use Rattle.lines.specs.Lines.{field_of, packed, unpacked, source_at, with_source}
 use Rattle.lines.specs.declared.Branch.{Branch}
 
 -- ---- a state in a word
-
--- The code's sum is the definition's.
-pub packed-is : (b : Branch)
-    → b.start.0 % 65536 + b.assigned.0 % 65536 * 65536 + b.published.0 % 65536 * 4294967296 + b.blob % 65536 * 281474976710656 ≡ packed b
-unfolding packed
-packed-is b = omega arith
 
 -- Numbers of 16 bits.
 pub record Fits (b : Branch) : Type 0 where
@@ -37,15 +32,7 @@ unpacked-packed b h =
     (let e = four-fields b.start.0 b.assigned.0 b.published.0 b.blob h.start h.assigned h.published h.blob in
     λ i. record { source = b.source; start = record { 0 = e.0 i }; assigned = record { 0 = e.1 i }; published = record { 0 = e.2 i }; blob = e.3 i })
 
--- ---- a source in a word, as the code computes it
-
--- 4 bits shifted to a line's place stay within 64.
-pub source-shifted : (x i : ℕ) → x < 16 → i < 16 → x * 2 ^ (4 * i) % 2 ^ 64 ≡ x * 2 ^ (4 * i)
-source-shifted x i h k = shl_exact 4 (4 * i) 64 h (omega arith)
-
--- A source in its place is part of the word, so that taking it out does not wrap.
-pub source-within : (w i : ℕ) → source_at w i * 2 ^ (4 * i) ≤ w
-source-within w i = le_trans (mul-le-mul_right (2 ^ (4 * i)) (mod-le (w / 2 ^ (4 * i)) 16)) (div-mul-le_self w (2 ^ (4 * i)))
+-- ---- a source in a word
 
 -- A line's place is 16 times the one before it.
 place-next : (i : ℕ) → 2 ^ (4 * suc i) ≡ 16 * 2 ^ (4 * i)
@@ -68,23 +55,10 @@ with-next : (x y i k : ℕ) → x < 16 → with_source (x + 16 * y) (suc i) k �
 with-next x y i k h =
     let P = 2 ^ (4 * i) in
     rw (source-next x y i h, place-next i, mul_left_comm (source_at y i) 16 P, mul_left_comm (k % 16) 16 P)
-    (omega (arith, source-within y i))
+    (omega (arith, bits-within y P 16))
 
 with_first : (x y k : ℕ) → x < 16 → with_source (x + 16 * y) 0 k ≡ k % 16 + 16 * y
 with_first x y k h = omega arith
-
--- A word with a source anew is a word.
-source-below : (n i w k : ℕ) → i < n → w < 2 ^ (4 * n) → with_source w i k < 2 ^ (4 * n)
-source-below zero i w k h f = absurd (omega arith)
-source-below (suc n) zero w k h f = omega (arith, place-next n)
-source-below (suc n) (suc i) w k h f =
-    let e : w % 16 + 16 * (w / 16) ≡ w = omega arith in
-    let g : w / 16 < 2 ^ (4 * n) = omega (arith, place-next n) in
-    let d = ap (λ (x : ℕ). with_source x (suc i) k) (sym e) ∙ with-next (w % 16) (w / 16) i k (omega arith) in
-    rw d (omega (arith, place-next n, source-below n i (w / 16) k (omega arith) g))
-
-pub source_fits : (w l : ℕ) → w < 2 ^ 64 → (i : ℕ) → i < 16 → with_source w i l < 2 ^ 64
-source_fits w l h i k = source-below 16 i w l k h
 
 -- ---- the sources of n lines in a word
 

@@ -1,6 +1,6 @@
--- The 16 bits of a word that are one line's, and which word has a line's: what the code computes is what the definitions say. Assumes nothing.
+-- Which word has a line's 16 bits: what the code computes is what the definitions say. Assumes nothing.
 use mathlib.Core.Path.{◌≡◌}
-use Prim.Native.Nat.{ℕ, zero, suc, ◌-◌, ◌*◌, ◌%◌, ◌^◌, ◌<◌, ◌≤◌}
+use Prim.Native.Nat.{ℕ, zero, suc, ◌-◌, ◌/◌, ◌%◌, ◌<◌, ◌≤◌}
 use native.Mathlib.Omega.{arith}
 use borrow.Author.Tests.{lt-ltb, le-ltb}
 use Rattle.lines.specs.Lines.{field_of, with_field, entry_at, with_entry}
@@ -13,18 +13,6 @@ four P a b c d (suc zero) h = b
 four P a b c d (suc (suc zero)) h = c
 four P a b c d (suc (suc (suc zero))) h = d
 four P a b c d (suc (suc (suc (suc i)))) h = absurd (omega arith)
-
--- 16 bits shifted to a field stay within 64.
-pub shifted : (x : ℕ) → x < 65536 → (i : ℕ) → i < 4 → x * 2 ^ (16 * i) % 2 ^ 64 ≡ x * 2 ^ (16 * i)
-shifted x h = four (λ i. x * 2 ^ (16 * i) % 2 ^ 64 ≡ x * 2 ^ (16 * i)) (omega arith) (omega arith) (omega arith) (omega arith)
-
--- A field in its place is part of the word, so that taking it out does not wrap.
-pub field-within : (w i : ℕ) → i < 4 → field_of w i * 2 ^ (16 * i) ≤ w
-field-within w = four (λ i. field_of w i * 2 ^ (16 * i) ≤ w) (omega arith) (omega arith) (omega arith) (omega arith)
-
--- A word with a field anew is a word.
-pub with-fits : (w k : ℕ) → w < 2 ^ 64 → (i : ℕ) → i < 4 → with_field w i k < 2 ^ 64
-with-fits w k h = four (λ i. with_field w i k < 2 ^ 64) (omega arith) (omega arith) (omega arith) (omega arith)
 
 -- ---- the word of a line
 
@@ -54,6 +42,19 @@ module _ (e : Entries) (l : ℕ) where
   unfolding entry_at
   entry_past h = rw (le-ltb l 4 (omega arith), le-ltb l 8 (omega arith), le-ltb l 12 (omega arith), le-ltb l 16 h)
 
+  -- The code finds the word by the line's quotient, and the field by its rest.
+  pub quarter-0 : l / 4 ≡ 0 → field_of e.from0 (l % 4) ≡ entry_at e l
+  quarter-0 h = let i : l % 4 ≡ l = omega arith in rw (i, entry-0 (omega arith))
+
+  pub quarter-1 : l / 4 ≡ 1 → field_of e.from4 (l % 4) ≡ entry_at e l
+  quarter-1 h = let i : l % 4 ≡ l - 4 = omega arith in rw (i, entry-4 (omega arith) (omega arith))
+
+  pub quarter-2 : l / 4 ≡ 2 → field_of e.from8 (l % 4) ≡ entry_at e l
+  quarter-2 h = let i : l % 4 ≡ l - 8 = omega arith in rw (i, entry-8 (omega arith) (omega arith))
+
+  pub quarter-3 : l / 4 ≡ 3 → field_of e.from12 (l % 4) ≡ entry_at e l
+  quarter-3 h = let i : l % 4 ≡ l - 12 = omega arith in rw (i, entry-12 (omega arith) (omega arith))
+
   module _ (k : ℕ) where
     -- A write for one of the first four lines changes the first word alone.
     pub with-0 : l < 4 → with_entry e l k ≡ record { from0 = with_field e.from0 l k; from4 = e.from4; from8 = e.from8; from12 = e.from12 }
@@ -79,3 +80,18 @@ module _ (e : Entries) (l : ℕ) where
     pub with-past : 16 ≤ l → with_entry e l k ≡ e
     unfolding with_entry
     with-past h = rw (le-ltb l 4 (omega arith), le-ltb l 8 (omega arith), le-ltb l 12 (omega arith), le-ltb l 16 h)
+
+    -- The code finds the word, and in it the field, as it does to read it.
+    pub with-quarter-0 : l / 4 ≡ 0 → record { from0 = with_field e.from0 (l % 4) k; from4 = e.from4; from8 = e.from8; from12 = e.from12 } ≡ with_entry e l k
+    with-quarter-0 h = let i : l % 4 ≡ l = omega arith in rw (i, with-0 (omega arith))
+
+    pub with-quarter-1 : l / 4 ≡ 1 → record { from0 = e.from0; from4 = with_field e.from4 (l % 4) k; from8 = e.from8; from12 = e.from12 } ≡ with_entry e l k
+    with-quarter-1 h = let i : l % 4 ≡ l - 4 = omega arith in rw (i, with-4 (omega arith) (omega arith))
+
+    pub with-quarter-2 : l / 4 ≡ 2 → record { from0 = e.from0; from4 = e.from4; from8 = with_field e.from8 (l % 4) k; from12 = e.from12 } ≡ with_entry e l k
+    with-quarter-2 h = let i : l % 4 ≡ l - 8 = omega arith in rw (i, with-8 (omega arith) (omega arith))
+
+    pub with-quarter-3 : l / 4 ≡ 3 → record { from0 = e.from0; from4 = e.from4; from8 = e.from8; from12 = with_field e.from12 (l % 4) k } ≡ with_entry e l k
+    with-quarter-3 h = let i : l % 4 ≡ l - 12 = omega arith in rw (i, with-12 (omega arith) (omega arith))
+
+pub ruleset quarters = (quarter-0, quarter-1, quarter-2, quarter-3, entry_past, with-quarter-0, with-quarter-1, with-quarter-2, with-quarter-3, with-past)

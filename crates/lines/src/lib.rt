@@ -2,19 +2,19 @@
 // words; what packs and unpacks one stands here, and what reads the store's where the store does.
 #![tactic(auto)]
 
-ghost use Rattle.std.specs.Prelude.{◌≡◌, ◌<◌};
-ghost use Rattle.lines.specs.Lines.{no_branch, line_of, version_of, number_of, field_of, with_field, packed, unpacked, source_at, with_source, no_entries, entry_at, with_entry};
+ghost use Rattle.std.specs.Prelude.{◌≡◌, ◌+◌, ◌-◌, ◌*◌, ◌/◌, ◌%◌, ◌^◌, ◌<◌, ◌≤◌};
+ghost use Rattle.lines.specs.Lines.{no_branch, line_of, version_of, number_of, field_of, packed, unpacked, source_at, with_source, no_entries, entry_at, with_entry};
 
 use tree::Version;
 
 // A line, counted from 0 in the order in which they begin.
 #[repr(C)]
-#[derive(Clone, Copy)]
+#[derive(Clone, Copy, PartialEq, Eq, PartialOrd, Ord, Default)]
 pub struct Line(pub u64);
 
 // A line's state: the line and the version that it begins from, the last version assigned, the last one published, and the size in pages of the last
 // assigned one.
-#[derive(Clone, Copy)]
+#[derive(Clone, Copy, Default)]
 pub struct Branch {
     pub source: Line,
     pub start: Version,
@@ -23,9 +23,10 @@ pub struct Branch {
     pub blob: u64,
 }
 
-// For each line the number of the update that is its own version, 16 bits a line, four lines a word; 0 where it has none.
+// For each line the number of the update that is its own version, 16 bits a line, four lines a word; 0 where it has none. C lends the records that hold
+// these, so that their layout is C's: four words by name and no array, which the code picks from by an arm each.
 #[repr(C)]
-#[derive(Clone, Copy)]
+#[derive(Clone, Copy, Default)]
 pub struct Entries {
     pub from0: u64,
     pub from4: u64,
@@ -39,69 +40,74 @@ pub struct Entries {
 pub fn no_branch() -> Branch
     ensures { result ≡ no_branch }
 {
-    Branch {
-        source: Line(0),
-        start: Version(0),
-        assigned: Version(0),
-        published: Version(0),
-        blob: 0,
-    }
+    Branch::default()
 }
 
-// ---- the numbers of versions
+// ---- the numbers of versions: plain words, as the node area keeps them, which a `From` could not tell from a line's or a version's own
 
-// A version's number: line x 65,536 + version, of the line on which it got its number; 0 for no version. Each has 16 bits.
+// How many lines, and versions of a line, a number has room for: each has 16 bits of it.
+const ROOM: u64 = 65536;
+
+// A version's number: line x 65,536 + version, of the line on which it got its number; 0 for no version, as C and the node area have it.
 pub fn number_of(l: Line, v: Version) -> u64
     ensures { result ≡ number_of l.0 v.0 }
 {
     if v.0 == 0 {
         return 0;
     }
-    l.0 % 65536 * 65536 + v.0 % 65536
+    l.0 % ROOM * ROOM + v.0 % ROOM
 }
 
 // The line in a version's number.
 pub fn line_of(number: u64) -> Line
     ensures { result ≡ record { 0 = line_of number } }
 {
-    Line(number / 65536)
+    Line(number / ROOM)
 }
 
 // The version in a version's number.
 pub fn version_of(number: u64) -> Version
     ensures { result ≡ record { 0 = version_of number } }
 {
-    Version(number % 65536)
+    Version(number % ROOM)
 }
 
 // ---- numbers in a word
+
+// The i-th W bits of a word.
+fn bits_of<const W: u64>(word: u64, i: u64) -> u64
+    requires { (W < 64) × (W * i + W ≤ 64) }
+    ensures { result ≡ word / 2 ^ (W * i) % 2 ^ W }
+{
+    (word >> (W * i)) % (1 << W)
+}
+
+// The word with its i-th W bits anew.
+#[tactic(auto, using(crate::proofs::Bits::anew))]
+fn with_bits<const W: u64>(word: u64, i: u64, k: u64) -> u64
+    requires { (W < 64) × (W * i + W ≤ 64) }
+    ensures { result ≡ word - word / 2 ^ (W * i) % 2 ^ W * 2 ^ (W * i) + k % 2 ^ W * 2 ^ (W * i) }
+{
+    word - (bits_of::<W>(word, i) << (W * i)) + ((k % (1 << W)) << (W * i))
+}
 
 // The i-th 16 bits of a word.
 pub fn field_of(word: u64, i: u64) -> u64
     requires { i < 4 }
     ensures { result ≡ field_of word i }
 {
-    (word >> (16 * i)) % 65536
-}
-
-// The word with its i-th 16 bits anew.
-fn with_field(word: u64, i: u64, k: u64) -> u64
-    requires { i < 4 }
-    ensures { result ≡ with_field word i k }
-{
-    word - (field_of(word, i) << (16 * i)) + ((k % 65536) << (16 * i))
+    bits_of::<16>(word, i)
 }
 
 // ---- the lines in a store
 
 // A line's state but its source in a word: start, assigned, published and blob, 16 bits each.
+#[tactic(auto, unfolding(crate::specs::Lines::packed))]
 pub fn packed_state(b: Branch) -> u64
     ensures { result ≡ packed b }
 {
-    b.start.0 % 65536
-        + b.assigned.0 % 65536 * 65536
-        + b.published.0 % 65536 * 4294967296
-        + b.blob % 65536 * 281474976710656
+    b.start.0 % ROOM
+        + ROOM * (b.assigned.0 % ROOM + ROOM * (b.published.0 % ROOM + ROOM * (b.blob % ROOM)))
 }
 
 // The state that a source and such a word say.
@@ -122,7 +128,7 @@ pub fn source_at(word: u64, i: u64) -> u64
     requires { i < 16 }
     ensures { result ≡ source_at word i }
 {
-    (word >> (4 * i)) % 16
+    bits_of::<4>(word, i)
 }
 
 // The word with line i's source anew.
@@ -130,7 +136,7 @@ pub fn with_source(word: u64, i: u64, l: u64) -> u64
     requires { i < 16 }
     ensures { result ≡ with_source word i l }
 {
-    word - (source_at(word, i) << (4 * i)) + ((l % 16) << (4 * i))
+    with_bits::<4>(word, i, l)
 }
 
 // ---- the records of a line's own versions
@@ -139,55 +145,47 @@ pub fn with_source(word: u64, i: u64, l: u64) -> u64
 pub fn no_entries() -> Entries
     ensures { result ≡ no_entries }
 {
-    Entries {
-        from0: 0,
-        from4: 0,
-        from8: 0,
-        from12: 0,
-    }
+    Entries::default()
 }
 
-// A line's entry; 0 past the sixteen.
+// A line's entry; 0 past the sixteen, as where it has none.
+#[tactic(auto, using(crate::proofs::Words::quarters))]
 pub fn entry_at(e: Entries, l: Line) -> u64
     ensures { result ≡ entry_at e l.0 }
 {
-    let i = l.0;
-    if i < 4 {
-        return field_of(e.from0, i);
+    let i = l.0 % 4;
+    match l.0 / 4 {
+        0 => field_of(e.from0, i),
+        1 => field_of(e.from4, i),
+        2 => field_of(e.from8, i),
+        3 => field_of(e.from12, i),
+        _ => 0,
     }
-    if i < 8 {
-        return field_of(e.from4, i - 4);
-    }
-    if i < 12 {
-        return field_of(e.from8, i - 8);
-    }
-    if i < 16 {
-        return field_of(e.from12, i - 12);
-    }
-    0
 }
 
 // The entries with one line's anew; past the sixteen nothing changes.
+#[tactic(auto, using(crate::proofs::Words::quarters))]
 pub fn with_entry(e: Entries, l: Line, k: u64) -> Entries
     ensures { result ≡ with_entry e l.0 k }
 {
-    let i = l.0;
-    let mut done = e;
-    if i < 4 {
-        done.from0 = with_field(e.from0, i, k);
-        return done;
+    let i = l.0 % 4;
+    match l.0 / 4 {
+        0 => Entries {
+            from0: with_bits::<16>(e.from0, i, k),
+            ..e
+        },
+        1 => Entries {
+            from4: with_bits::<16>(e.from4, i, k),
+            ..e
+        },
+        2 => Entries {
+            from8: with_bits::<16>(e.from8, i, k),
+            ..e
+        },
+        3 => Entries {
+            from12: with_bits::<16>(e.from12, i, k),
+            ..e
+        },
+        _ => e,
     }
-    if i < 8 {
-        done.from4 = with_field(e.from4, i - 4, k);
-        return done;
-    }
-    if i < 12 {
-        done.from8 = with_field(e.from8, i - 8, k);
-        return done;
-    }
-    if i < 16 {
-        done.from12 = with_field(e.from12, i - 12, k);
-        return done;
-    }
-    done
 }

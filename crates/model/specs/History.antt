@@ -1,6 +1,5 @@
 -- What one line reads as, document 01's plain model of one line: the tickets in order, its versions in order, and the number published.
-use Rattle.std.specs.Prelude.{Bool, true, false, ◌&&◌, List, [], ◌∷◌, map, ℕ, suc, ◌+◌, ◌-◌, ltb, eqb, length}
-use Rattle.std.proofs.Math.Option.{Option, none, some}
+use Rattle.std.specs.Prelude.{Bool, true, false, ◌&&◌, List, [], ◌∷◌, map, ℕ, suc, ◌+◌, ◌-◌, ltb, eqb, length, Option, None, Some}
 use Rattle.tree.specs.Tree.{Update, count_of, nth, update}
 
 -- A page's bytes.
@@ -70,8 +69,8 @@ abbrev pub blob_size : History → ℕ
 blob_size m = (version_at m (length m.versions)).size
 
 abbrev pub is_filled : Option Page → Bool
-is_filled none = false
-is_filled (some x) = true
+is_filled None = false
+is_filled (Some x) = true
 
 abbrev pub bit_if : Bool → ℕ
 bit_if true = 1

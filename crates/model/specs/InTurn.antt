@@ -1,11 +1,10 @@
 -- The one-after-the-other run of document 01: version k is version k - 1 with update k applied, and version 0 is empty.
-use Rattle.std.proofs.Math.Option.{Option, none, some}
-use Rattle.std.specs.Prelude.{List, [], ◌∷◌, ◌++◌, map, ℕ, zero, suc, ◌+◌, length, take, drop}
+use Rattle.std.specs.Prelude.{List, [], ◌∷◌, ◌++◌, map, ℕ, zero, suc, ◌+◌, length, take, drop, Option, None, Some}
 use Rattle.model.specs.History.{Page, History, ticket_at, version_at}
 
 abbrev pub content : Option Page → Page
-content none = []
-content (some x) = x
+content None = []
+content (Some x) = x
 
 -- The blob's pages with new ones from page f on: slot i goes to page f + i.
 unfoldable pub applied : List Page → ℕ → List Page → List Page

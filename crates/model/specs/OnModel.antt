@@ -1,6 +1,5 @@
 -- One step of the plain model: each call by the documents, the table read on the model.
-use Rattle.std.specs.Prelude.{Bool, true, false, List, [], ◌∷◌, ◌++◌, ℕ, zero, suc, pred, ◌+◌, ◌-◌, ◌*◌, ◌^◌, max, length, get_or, set, replicate, take, drop}
-use Rattle.std.proofs.Math.Option.{none, some}
+use Rattle.std.specs.Prelude.{Bool, true, false, List, [], ◌∷◌, ◌++◌, ℕ, zero, suc, pred, ◌+◌, ◌-◌, ◌*◌, ◌^◌, max, length, get_or, set, replicate, take, drop, None, Some}
 use Rattle.tree.specs.Tree.{Update, Node, node, count_of, weaving, update, newest}
 use Rattle.table.specs.Table.{always, first_refusal, unless, begin_rows, put_rows, weave_rows}
 use Rattle.table.specs.Table.{line_rows, publish_rows, branch_rows, assign_rows, size_rows, read_rows, page_rows}
@@ -51,7 +50,7 @@ module _ (L : Limits) where
   put_number m t i bytes =
       let k = ticket_in m t in
       first_refusal
-      (put_rows always t (length m.tickets) (ticket_update m t) (pages_of k) i (bit_if (is_filled (get_or k.slots i none))) (length bytes) L.size)
+      (put_rows always t (length m.tickets) (ticket_update m t) (pages_of k) i (bit_if (is_filled (get_or k.slots i None))) (length bytes) L.size)
 
   abbrev pub weave_number : Model → ℕ → ℕ
   weave_number m t =
@@ -60,13 +59,13 @@ module _ (L : Limits) where
 
   -- BEGIN adds a ticket, its slots empty, woven 0.
   abbrev pub begun : Model → ℕ → Model
-  begun m n = with_tickets m (m.tickets ++ with_slots no_ticket (replicate n none) ∷ [])
+  begun m n = with_tickets m (m.tickets ++ with_slots no_ticket (replicate n None) ∷ [])
 
   -- PUT fills slot i.
   abbrev pub filled_at : Model → ℕ → ℕ → List ℕ → Model
   filled_at m t i bytes =
       let k = ticket_in m t in
-      with_tickets m (set m.tickets (pred t) (with_slots k (set k.slots i (some bytes))))
+      with_tickets m (set m.tickets (pred t) (with_slots k (set k.slots i (Some bytes))))
 
   -- WEAVE adds 1 to the ticket's woven count.
   abbrev pub woven : Model → ℕ → Model

@@ -1,16 +1,14 @@
 -- A version of a line as it is compared: its size, its pages with their stamps, and its tree from the root down through the children's numbers.
-use Rattle.std.specs.Prelude.{◌&&◌, List, ℕ, zero, suc, ◌+◌, ◌/◌, ◌%◌, ◌^◌, ltb}
-use Rattle.std.proofs.Math.Option.{Option}
+use Rattle.std.specs.Prelude.{◌&&◌, List, ℕ, zero, suc, ◌+◌, ◌/◌, ◌%◌, ◌^◌, ltb, Option, Some, None}
 use Rattle.tree.specs.Tree.{Update, nth, newest, root_height, height_of}
 use Rattle.tree.specs.Place.{index}
 use Rattle.tree.specs.Walk.{Numbers, has_node, visit, place_where}
-use Rattle.tree.specs.declared.NodeAt.{NodeAt}
-use Rattle.tree.specs.declared.NodeAt.TheVariants.{Stored, Missing}
 use Rattle.model.specs.History.{Page, version_at, to_update, updates}
 use Rattle.model.specs.InTurn.{blob_at}
 use Rattle.model.specs.Stamp.{stamps_upto}
 use Rattle.model.specs.Model.{Model, line_at, update_at, history, number_in}
 use Rattle.model.specs.Layout.{node_place, leaf_number}
+use Rattle.tree.specs.declared.Stored.{Stored}
 
 -- A tree: a leaf has its version's number, its page and its two numbers; an inner node its version's number, first page and height, and both its
 -- children's numbers. Below number 0 there is no page; a node that is not stored is missing.
@@ -30,13 +28,13 @@ tree_of us N (suc h) (suc v) a =
     let r = newest us (suc v) (a + 2 ^ h) (2 ^ h) in
     inner (N.code (suc v)) a (suc h) (N.code l) (N.code r) (tree_of us N h l a) (tree_of us N h r (a + 2 ^ h))
 
-abbrev pub leaf_in : NodeAt → ℕ → ℕ → Tree
-leaf_in Missing c a = missing
-leaf_in (Stored l r) c a = leaf c a l r
+abbrev pub leaf_in : Option Stored → ℕ → ℕ → Tree
+leaf_in None c a = missing
+leaf_in (Some x) c a = leaf c a x.left x.right
 
-abbrev pub inner_in : NodeAt → ℕ → ℕ → ℕ → (ℕ → Tree) → (ℕ → Tree) → Tree
-inner_in Missing c a h left right = missing
-inner_in (Stored l r) c a h left right = inner c a h l r (left l) (right r)
+abbrev pub inner_in : Option Stored → ℕ → ℕ → ℕ → (ℕ → Tree) → (ℕ → Tree) → Tree
+inner_in None c a h left right = missing
+inner_in (Some x) c a h left right = inner c a h x.left x.right (left x.left) (right x.right)
 
 -- The tree that the node area holds from number c down, node by node, each child's number as its parent has it; `at` gives a number's node's place.
 unfoldable pub tree_in : (ℕ → ℕ → ℕ → Option ℕ) → List ℕ → ℕ → ℕ → ℕ → Tree

@@ -1,6 +1,5 @@
 pub mod Capped
-pub mod CopyTurn
+pub mod Equal
 pub mod PartLaws
 pub mod Product
 pub mod PutLaws
-pub mod SameTurn

@@ -1,8 +1,8 @@
 -- Feeding a text byte by byte hands out its lines. Assumes nothing.
+use Rattle.std.proofs.Common.{Option, None, Some}
 use mathlib.Core.Path.{◌≡◌, refl, sym, ap, ◌∙◌}
 use mathlib.Core.Bool.{Bool, true, false}
 use mathlib.Core.List.{List, [], ◌∷◌, ◌++◌, map, append-nil}
-use mathlib.Core.Option.{Option, none, some}
 use Prim.Native.Nat.{ℕ, ◌+◌, ◌<◌, ◌≤◌}
 use native.Mathlib.Nat.{lt_of_not-le}
 use native.Mathlib.Decide.{dec_le}
@@ -11,8 +11,8 @@ use lib.ListN.{length, set, length-append}
 use lib.Seq.{take-append_seam, set-append_seam, append_snoc, set_out}
 use lib.Dec.{ltb, eqb, eqb-suc-zero}
 use borrow.Author.Tests.{le-leb, lt-leb, lt-ltb, le-ltb}
-use Rattle.text.specs.Text.{pick, line_feed, joined, text_lines}
-use Rattle.parse.specs.Cut.{fresh, grown, fed_by, kept_by, unended_in, handed, held, meant_handed, cut_lines, CutMeans}
+use Rattle.text.specs.Text.{line_feed, joined, text_lines}
+use Rattle.parse.specs.Cut.{fresh, keeping, over, stored, grown, fed_by, kept_by, unended_in, handed, held, meant_handed, cut_lines, CutMeans}
 use Rattle.parse.specs.Steps.{meant_of}
 use Rattle.parse.specs.declared.Cutter.{Cutter}
 
@@ -37,12 +37,9 @@ begun-nil : (ls : List (List ℕ)) → begun ls [] ≡ ls
 begun-nil [] = refl
 begun-nil (f ∷ fs) = refl
 
--- the cutter with the bytes w kept, and a cutter of a line that is over
+-- the cutter with the bytes w kept
 abbrev kept : List ℕ → Cutter
-kept w = record { len = length w; over = false }
-
-abbrev past : ℕ → Cutter
-past n = record { len = n; over = true }
+kept w = keeping (length w)
 
 -- one byte, at a line feed and elsewhere
 module _ (b : ℕ) (t : List ℕ) (c : Cutter) (l : List ℕ) where
@@ -50,7 +47,7 @@ module _ (b : ℕ) (t : List ℕ) (c : Cutter) (l : List ℕ) where
   unfolding fed_by kept_by
   fed-end e = simp e
 
-  fed-more : eqb b line_feed ≡ false → cut_lines (b ∷ t) c l ≡ cut_lines t (grown c (length l)) (pick c.over l (set l c.len b))
+  fed-more : eqb b line_feed ≡ false → cut_lines (b ∷ t) c l ≡ cut_lines t (grown c.kept (length l)) (stored c.kept b l)
   unfolding fed_by kept_by
   fed-more e = simp e
 
@@ -60,10 +57,10 @@ lines_end b t e = rw e
 lines_more : (b : ℕ) (t : List ℕ) → eqb b line_feed ≡ false → text_lines (b ∷ t) ≡ joined b (text_lines t)
 lines_more b t e = rw e
 
-handed-some : (w : List ℕ) (room : ℕ) → length w ≤ room → handed room w ≡ some w
+handed-some : (w : List ℕ) (room : ℕ) → length w ≤ room → handed room w ≡ Some w
 handed-some w room h = rw (le-leb (length w) room h)
 
-handed-none : (w : List ℕ) (room : ℕ) → room < length w → handed room w ≡ none
+handed-none : (w : List ℕ) (room : ℕ) → room < length w → handed room w ≡ None
 handed-none w room h = rw (lt-leb (length w) room h)
 
 held_kept : (w r : List ℕ) → held (kept w) (w ++ r) ≡ handed (length (w ++ r)) w
@@ -74,7 +71,7 @@ abbrev Keeps : List ℕ → Type 0
 Keeps t = (w r : List ℕ) → cut_lines t (kept w) (w ++ r) ≡ map (handed (length (w ++ r))) (begun (text_lines t) w)
 
 abbrev Overs : List ℕ → Type 0
-Overs t = (w l : List ℕ) (n : ℕ) → length l < length w → cut_lines t (past n) l ≡ map (handed (length l)) (begun (text_lines t) w)
+Overs t = (w l : List ℕ) → length l < length w → cut_lines t over l ≡ map (handed (length l)) (begun (text_lines t) w)
 
 keeps-none : Keeps []
 unfolding unended_in
@@ -83,8 +80,8 @@ keeps-none (a ∷ w) r = rw (eqb-suc-zero (length w)) (ap {B = List (Option (Lis
 
 overs-none : Overs []
 unfolding unended_in
-overs-none [] l n h = let z : ⊥ = omega arith in elim z [ ]
-overs-none (a ∷ w) l n h = rw (handed-none (a ∷ w) (length l) h)
+overs-none [] l h = let z : ⊥ = omega arith in elim z [ ]
+overs-none (a ∷ w) l h = rw (handed-none (a ∷ w) (length l) h)
 
 module _ (b : ℕ) (t : List ℕ) (keeps : Keeps t) (overs : Overs t) where
   -- the next line begins
@@ -99,7 +96,7 @@ module _ (b : ℕ) (t : List ℕ) (keeps : Keeps t) (overs : Overs t) where
       let full : set (w ++ []) (length w) b ≡ w ++ [] = set_out (w ++ []) (length w) b (simp append-nil (omega arith)) in
       let past-now : ltb (length w) (length (w ++ [])) ≡ false = le-ltb (length w) (length (w ++ [])) (simp append-nil (omega arith)) in
       fed-more b t (kept w) (w ++ []) e
-      ∙ rw (lines_more b t e, past-now, full, begun-joined (text_lines t) w b) (overs (w ++ (b ∷ [])) (w ++ []) (length w) (simp length-append (omega arith)))
+      ∙ rw (lines_more b t e, past-now, full, begun-joined (text_lines t) w b) (overs (w ++ (b ∷ [])) (w ++ []) (simp length-append (omega arith)))
   keeps-more w (x ∷ r) false e =
       let stored : set (w ++ (x ∷ r)) (length w) b ≡ (w ++ (b ∷ [])) ++ r = set-append_seam w x r b ∙ sym (append_snoc w b r) in
       let room : ltb (length w) (length (w ++ (x ∷ r))) ≡ true = lt-ltb (length w) (length (w ++ (x ∷ r))) (simp length-append (omega arith)) in
@@ -108,18 +105,18 @@ module _ (b : ℕ) (t : List ℕ) (keeps : Keeps t) (overs : Overs t) where
       fed-more b t (kept w) (w ++ (x ∷ r)) e
       ∙ rw (lines_more b t e, room, stored, one, long, begun-joined (text_lines t) w b) (keeps (w ++ (b ∷ [])) r)
 
-  overs-more : (w l : List ℕ) (n : ℕ) → length l < length w → (e : Bool) → eqb b line_feed ≡ e → cut_lines (b ∷ t) (past n) l ≡ map (handed (length l)) (begun (text_lines (b ∷ t)) w)
-  overs-more w l n h true e = fed-end b t (past n) l e ∙ rw (lines_end b t e, append-nil w, handed-none w (length l) h, next l)
-  overs-more w l n h false e =
-      fed-more b t (past n) l e
-      ∙ rw (lines_more b t e, begun-joined (text_lines t) w b) (overs (w ++ (b ∷ [])) l n (simp length-append (omega arith)))
+  overs-more : (w l : List ℕ) → length l < length w → (e : Bool) → eqb b line_feed ≡ e → cut_lines (b ∷ t) over l ≡ map (handed (length l)) (begun (text_lines (b ∷ t)) w)
+  overs-more w l h true e = fed-end b t over l e ∙ rw (lines_end b t e, append-nil w, handed-none w (length l) h, next l)
+  overs-more w l h false e =
+      fed-more b t over l e
+      ∙ rw (lines_more b t e, begun-joined (text_lines t) w b) (overs (w ++ (b ∷ [])) l (simp length-append (omega arith)))
 
 both : (t : List ℕ) → Keeps t × Overs t
 both [] = (keeps-none, overs-none)
 both (b ∷ t) =
     let k = (both t).0 in
     let o = (both t).1 in
-    (λ w r. keeps-more b t k o w r (eqb b line_feed) refl, λ w l n h. overs-more b t k o w l n h (eqb b line_feed) refl)
+    (λ w r. keeps-more b t k o w r (eqb b line_feed) refl, λ w l h. overs-more b t k o w l h (eqb b line_feed) refl)
 
 -- Feeding a text from a fresh cutter hands out the text's lines in order, each with its bytes or, where it is longer than the buffer, as over.
 pub cut-lines : (t l : List ℕ) → cut_lines t fresh l ≡ map (handed (length l)) (text_lines t)

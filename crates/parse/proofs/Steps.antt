@@ -1,52 +1,20 @@
--- What a line means, by the number of its fields; and the buffer of a line that has no page bytes. Assumes nothing.
+-- What a line means, by the number of its fields. Assumes nothing.
 use mathlib.Core.Path.{◌≡◌, refl, ◌∙◌}
-use mathlib.Core.Bool.{true, false}
 use mathlib.Core.List.{List, [], ◌∷◌}
-use Prim.Native.Nat.{ℕ, ◌/◌, ◌<◌, ◌≤◌}
+use Prim.Native.Nat.{ℕ, ◌<◌, ◌≤◌}
 use native.Mathlib.Omega.{arith}
 use lib.ListN.{length, get_or}
 use borrow.Author.Tests.{le-leb, lt-leb}
-use Rattle.fields.specs.Fields.{fields_of, field_number, is_hex, unhex, hex_of, decoded_in}
-use Rattle.parse.specs.Steps.{Meant, plainly, one_of, two_of, put_or_three, four_of, put_of, meant_by, meant_of}
-use Rattle.text.specs.Buffer.{front}
-use Rattle.fields.specs.declared.Number.{Number}
-use Rattle.fields.specs.declared.Number.TheVariants.{Is}
-use Rattle.parse.specs.declared.Step.{Step}
-use Rattle.parse.specs.declared.Step.TheVariants.{Put, Malformed}
+use Rattle.fields.specs.Fields.{fields_of, field_number}
+use Rattle.parse.specs.Steps.{plainly, no_step, one_of, two_of, put_or_three, four_of, meant_by, meant_of}
 use Rattle.fields.proofs.Hex.{unhex-length}
 use Rattle.text.proofs.Buffer.{front-none}
 
--- a step that has no page bytes leaves the buffer
-pub leaves : (m : Meant) (r s : Step) (bytes : List ℕ) → r ≡ s → m ≡ plainly s → (r ≡ m.step) × (bytes ≡ front m.bytes bytes)
-leaves m r s bytes q e = (rw (e, q), rw e (front-none bytes))
-
--- one meaning answers what the other does
-pub passes : (m n : Meant) (r : Step) (bytes after : List ℕ) → m ≡ n → (r ≡ n.step) × (after ≡ front n.bytes bytes)
-    → (r ≡ m.step) × (after ≡ front m.bytes bytes)
-passes m n r bytes after e q = rw e q
-
--- PUT's page bytes
-module _ (a b : Number) (x y : ℕ) (h : List ℕ) (ea : a ≡ Is x) (eb : b ≡ Is y) where
-  put-none : is_hex h ≡ false → put_of a b (hex_of h) ≡ plainly Malformed
-  unfolding put_of
-  put-none e = rw (ea, eb, e)
-
-  put_some : is_hex h ≡ true → put_of a b (hex_of h) ≡ record { step = Put x y (length (unhex h)); bytes = unhex h }
-  unfolding put_of
-  put_some e = rw (ea, eb, e)
-
-  pub put-bad : (bytes after : List ℕ) → is_hex h ≡ false → after ≡ decoded_in h bytes
-      → (Malformed ≡ (put_of a b (hex_of h)).step) × (after ≡ front (put_of a b (hex_of h)).bytes bytes)
-  put-bad bytes after e f = (rw (put-none e), rw (put-none e) (rw e at f ∙ front-none bytes))
-
-  pub put-done : (bytes after : List ℕ) → is_hex h ≡ true → after ≡ decoded_in h bytes
-      → (Put x y (length h / 2) ≡ (put_of a b (hex_of h)).step) × (after ≡ front (put_of a b (hex_of h)).bytes bytes)
-  put-done bytes after e f =
-      let half : length h / 2 ≡ length (unhex h) = omega (arith, unhex-length h e) in
-      (rw (put_some e, half), rw (put_some e) (rw e at f))
+-- a line that has no page bytes leaves the buffer, and page bytes are half as many as their digits
+pub ruleset puts = (front-none, unhex-length)
 
 -- a line over 600 bytes, and one that is not
-pub meant-long : (l : List ℕ) → 600 < length l → meant_of l ≡ plainly Malformed
+pub meant-long : (l : List ℕ) → 600 < length l → meant_of l ≡ no_step
 unfolding meant_of
 meant-long l h = rw (lt-leb (length l) 600 h)
 
@@ -89,7 +57,7 @@ five-fields (w ∷ a ∷ b ∷ c ∷ []) h = let z : ⊥ = omega arith in elim z
 five-fields (w ∷ a ∷ b ∷ c ∷ d ∷ []) h = refl
 five-fields (w ∷ a ∷ b ∷ c ∷ d ∷ e ∷ fs) h = let z : ⊥ = omega arith in elim z [ ]
 
-other-fields : (fs : List (List ℕ)) → (length fs ≡ 2 → ⊥) → (length fs ≡ 3 → ⊥) → (length fs ≡ 4 → ⊥) → (length fs ≡ 5 → ⊥) → meant_by fs ≡ plainly Malformed
+other-fields : (fs : List (List ℕ)) → (length fs ≡ 2 → ⊥) → (length fs ≡ 3 → ⊥) → (length fs ≡ 4 → ⊥) → (length fs ≡ 5 → ⊥) → meant_by fs ≡ no_step
 unfolding meant_by
 other-fields [] h2 h3 h4 h5 = refl
 other-fields (w ∷ []) h2 h3 h4 h5 = refl
@@ -116,5 +84,8 @@ module _ (l : List ℕ) (short : length l ≤ 600) where
   pub means-five : length (fields_of l) ≡ 5 → meant_of l ≡ plainly (four_of (at 0) (field_number (at 1)) (field_number (at 2)) (field_number (at 3)) (field_number (at 4)))
   means-five h = meant-short l short ∙ five-fields (fields_of l) h
 
-  pub means-none : (length (fields_of l) ≡ 2 → ⊥) → (length (fields_of l) ≡ 3 → ⊥) → (length (fields_of l) ≡ 4 → ⊥) → (length (fields_of l) ≡ 5 → ⊥) → meant_of l ≡ plainly Malformed
+  pub means-none : (length (fields_of l) ≡ 2 → ⊥) → (length (fields_of l) ≡ 3 → ⊥) → (length (fields_of l) ≡ 4 → ⊥) → (length (fields_of l) ≡ 5 → ⊥) → meant_of l ≡ no_step
   means-none h2 h3 h4 h5 = meant-short l short ∙ other-fields (fields_of l) h2 h3 h4 h5
+
+-- what a line means, and that most lines leave the buffer
+pub ruleset means = (front-none, meant-long, means-two, means-three, means-four, means-five, means-none)

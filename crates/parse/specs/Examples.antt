@@ -1,10 +1,9 @@
 -- The document's example, malformed lines, and the cutting of lines, computed.
-use Rattle.std.specs.Prelude.{◌≡◌, refl, List, [], ◌∷◌, ◌++◌, map, ℕ, ◌-◌, ◌^◌, replicate}
-use Rattle.std.proofs.Math.Option.{none, some}
+use Rattle.std.specs.Prelude.{◌≡◌, refl, List, [], ◌∷◌, ◌++◌, map, ℕ, ◌-◌, ◌^◌, replicate, None, Some}
 use Rattle.text.specs.Quoted.{text, together}
 use Rattle.text.specs.Text.{text_lines}
 use Rattle.fields.specs.Fields.{field_number, hex_value}
-use Rattle.parse.specs.Steps.{Meant, plainly, meant_of, put_of, one_of, two_of, three_of, put_or_three, four_of, meant_by}
+use Rattle.parse.specs.Steps.{Meant, plainly, no_step, meant_of, put_of, one_of, two_of, three_of, put_or_three, four_of, meant_by}
 use Rattle.parse.specs.Cut.{fresh, fed_by, kept_by, unended_in, cut_lines}
 use Rattle.parse.specs.declared.Step.{Step}
 
@@ -34,27 +33,27 @@ input =
 
 -- a PUT line of page bytes
 abbrev putting : Step → List ℕ → Meant
-putting s l = record { step = s; bytes = l }
+putting s l = record { step = Some s; bytes = l }
 
 -- the steps that it means
 document-lines : map meant_of (text_lines input) ≡
-    plainly (Step.Format 16 4 8 2) ∷
-    plainly (Step.Begin 1) ∷
-    plainly (Step.Begin 1) ∷
+    plainly (Some (Step.Format 16 4 8 2)) ∷
+    plainly (Some (Step.Begin 1)) ∷
+    plainly (Some (Step.Begin 1)) ∷
     putting (Step.Put 2 0 16) (replicate 16 34) ∷
     putting (Step.Put 1 0 16) (replicate 16 17) ∷
-    plainly (Step.Append 0 2) ∷
-    plainly (Step.Append 0 1) ∷
-    plainly (Step.Weave 1) ∷
-    plainly (Step.Publish 0 0) ∷
-    plainly (Step.Weave 2) ∷
-    plainly (Step.Publish 0 0) ∷
-    plainly (Step.Read 0 2 0 0) ∷
-    plainly (Step.Weave 1) ∷
-    plainly (Step.Publish 0 0) ∷
-    plainly (Step.Read 0 2 14 4) ∷
-    plainly (Step.Stamp 0 2 0) ∷
-    plainly (Step.Begin 1) ∷ []
+    plainly (Some (Step.Append 0 2)) ∷
+    plainly (Some (Step.Append 0 1)) ∷
+    plainly (Some (Step.Weave 1)) ∷
+    plainly (Some (Step.Publish 0 0)) ∷
+    plainly (Some (Step.Weave 2)) ∷
+    plainly (Some (Step.Publish 0 0)) ∷
+    plainly (Some (Step.Read 0 2 0 0)) ∷
+    plainly (Some (Step.Weave 1)) ∷
+    plainly (Some (Step.Publish 0 0)) ∷
+    plainly (Some (Step.Read 0 2 14 4)) ∷
+    plainly (Some (Step.Stamp 0 2 0)) ∷
+    plainly (Some (Step.Begin 1)) ∷ []
 unfolding meant_of meant_by one_of two_of three_of put_of put_or_three four_of field_number hex_value
 document-lines = refl
 
@@ -62,20 +61,20 @@ document-lines = refl
 other-lines :
     (meant_of (text "PUT,2,0,0aff") ≡ putting (Step.Put 2 0 2) (10 ∷ 255 ∷ []))
     × (meant_of (text "PUT,2,0,") ≡ putting (Step.Put 2 0 0) [])
-    × (meant_of (text "WRITE,1,3,4") ≡ plainly (Step.Write 1 3 4))
-    × (meant_of (text "BRANCH,1,9") ≡ plainly (Step.Branch 1 9))
-    × (meant_of (text "PUBLISH,15,10080") ≡ plainly (Step.Publish 15 10080))
-    × (meant_of (text "SIZE,1,0") ≡ plainly (Step.Size 1 0))
-    × (meant_of (text "RECENT,15") ≡ plainly (Step.Recent 15))
-    × (meant_of (text "WORST,4096,64") ≡ plainly (Step.Worst 4096 64))
-    × (meant_of (text "BEGIN,18446744073709551615") ≡ plainly (Step.Begin (2 ^ 64 - 1)))
+    × (meant_of (text "WRITE,1,3,4") ≡ plainly (Some (Step.Write 1 3 4)))
+    × (meant_of (text "BRANCH,1,9") ≡ plainly (Some (Step.Branch 1 9)))
+    × (meant_of (text "PUBLISH,15,10080") ≡ plainly (Some (Step.Publish 15 10080)))
+    × (meant_of (text "SIZE,1,0") ≡ plainly (Some (Step.Size 1 0)))
+    × (meant_of (text "RECENT,15") ≡ plainly (Some (Step.Recent 15)))
+    × (meant_of (text "WORST,4096,64") ≡ plainly (Some (Step.Worst 4096 64)))
+    × (meant_of (text "BEGIN,18446744073709551615") ≡ plainly (Some (Step.Begin (2 ^ 64 - 1))))
     × (meant_of (text "PUT,1,0," ++ replicate 592 97) ≡ putting (Step.Put 1 0 296) (replicate 296 170))
 unfolding meant_of meant_by one_of two_of three_of put_of put_or_three four_of field_number hex_value
 other-lines = (refl, refl, refl, refl, refl, refl, refl, refl, refl, refl)
 
 -- a malformed line
 abbrev Bad : List ℕ → Type 0
-Bad l = meant_of l ≡ plainly Step.Malformed
+Bad l = meant_of l ≡ no_step
 
 malformed :
     Bad []
@@ -109,11 +108,11 @@ malformed = (refl, refl, refl, refl, refl, refl, refl, refl, refl, refl, refl, r
 -- lines cut with a buffer of four bytes: an empty line, one that fills the buffer, one that is over, and a last one without a line feed
 cutting :
     cut_lines (text "ab\n\nabcd\nabcde\nabc") fresh (replicate 4 0)
-    ≡ some (text "ab") ∷ some [] ∷ some (text "abcd") ∷ none ∷ some (text "abc") ∷ []
+    ≡ Some (text "ab") ∷ Some [] ∷ Some (text "abcd") ∷ None ∷ Some (text "abc") ∷ []
 unfolding fed_by kept_by unended_in
 cutting = refl
 
 -- a text that ends in a line feed has no line after it
-ending : cut_lines (text "ab\n") fresh (replicate 4 0) ≡ some (text "ab") ∷ []
+ending : cut_lines (text "ab\n") fresh (replicate 4 0) ≡ Some (text "ab") ∷ []
 unfolding fed_by kept_by unended_in
 ending = refl

@@ -1,7 +1,9 @@
 -- An answer line, one number or one byte at a time. Assumes nothing.
 use mathlib.Core.Path.{◌≡◌, refl, sym, ap, ◌∙◌}
 use mathlib.Core.List.{List, [], ◌∷◌, ◌++◌}
-use Prim.Native.Nat.{ℕ, ◌+◌, ◌/◌, ◌%◌, ◌^◌, ◌<◌, ◌≤◌}
+use Prim.Native.Nat.{ℕ, ◌+◌, ◌-◌, ◌/◌, ◌%◌, ◌^◌, ◌<◌, ◌≤◌}
+use native.Mathlib.Nat.{lt_of_not-le}
+use native.Mathlib.Decide.{dec_le}
 use native.Mathlib.Numerals.{add-one}
 use native.Mathlib.Omega.{arith}
 use lib.ListN.{length, get_or, drop, set, length-append, length-set, drop_of_length-le}
@@ -9,7 +11,7 @@ use lib.Seq.{drop-cons}
 use Rattle.print.specs.Print.{decimal, numbers_line, hex_digit, hex_text, bytes_line}
 use Rattle.text.specs.Buffer.{put_at}
 use Rattle.text.proofs.Buffer.{put-nil, put-cons, put-append, put-snoc}
-use Rattle.print.proofs.Decimal.{decimal-one, decimal-more, length-one, length_more}
+use Rattle.print.proofs.Decimal.{decimal-length, decimal-one, decimal-more, length-one, length_more, length_some}
 
 module _ (ns : List ℕ) (i : ℕ) (h : i < length ns) where
   pub line-turn : numbers_line (drop i ns) ≡ 44 ∷ (decimal (get_or ns i 0) ++ numbers_line (drop (i + 1) ns))
@@ -88,3 +90,38 @@ module _ (at n i x : ℕ) (out : List ℕ) (place : i + 1 ≡ at + length (decim
   digit-last h e =
       let p : i ≡ at = omega (arith, length-one n h) in
       rw (p, e, decimal-one n h) (put_last at (48 + n) out (omega arith))
+
+-- digits of a number n at index `at` of a buffer, where those from index i on are put and `rest` is what is left of n
+pub record Left (at n : ℕ) (was : List ℕ) (rest i : ℕ) (out : List ℕ) : Type 0 where
+  pub above : at ≤ i
+  pub more : at < i → (i ≡ at + length (decimal rest)) × (put_at at (decimal rest) out ≡ put_at at (decimal n) was)
+  pub done : i ≡ at → out ≡ put_at at (decimal n) was
+
+pub left_all : (at n : ℕ) (was : List ℕ) (i : ℕ) → n < 2 ^ 64 → i ≡ at + length (decimal n) → Left at n was n i was
+left_all at n was i h e = record { above = omega arith; more = λ _. (e, refl); done = λ z. absurd (omega (arith, length_some n h)) }
+
+module _ {at n : ℕ} {was : List ℕ} {rest i : ℕ} {out : List ℕ} (l : Left at n was rest i out) (h : rest < 2 ^ 64) (k : at < i) (room : i ≤ length out) (x : ℕ) (e : x ≡ 48 + rest % 10) where
+  here : i - 1 + 1 ≡ at + length (decimal rest)
+  here = let p = (l.more k).0 in omega arith
+
+  pub left_more : Left at n was (rest / 10) (i - 1) (set out (i - 1) x)
+  left_more = elim (dec_le 10 rest) [
+    | yes p ↦
+        let q = length_more rest h p in
+        let some = length_some (rest / 10) (omega arith) in
+        record {
+          above = omega arith;
+          more = λ _. (omega (arith, here), digit-put at rest (i - 1) x out here (omega arith) h p e ∙ (l.more k).1);
+          done = λ z. absurd (omega (arith, here));
+        }
+    | no p ↦
+        let p = lt_of_not-le p in
+        let q = length-one rest p in
+        record {
+          above = omega arith;
+          more = λ j. absurd (omega (arith, here));
+          done = λ _. digit-last at rest (i - 1) x out here (omega arith) p (omega arith) ∙ (l.more k).1;
+        }
+  ]
+
+pub ruleset line_steps = (decimal-length, line-turn-length)

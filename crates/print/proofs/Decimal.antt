@@ -1,7 +1,7 @@
 -- A number's decimal digits, the last one first. Assumes nothing.
 use mathlib.Core.Path.{◌≡◌, sym, ap, ◌∙◌}
 use mathlib.Core.List.{List, [], ◌∷◌, ◌++◌}
-use Prim.Native.Nat.{ℕ, zero, suc, ◌+◌, ◌/◌, ◌%◌, ◌^◌, ◌<◌, ◌≤◌}
+use Prim.Native.Nat.{ℕ, zero, suc, max, ◌+◌, ◌*◌, ◌/◌, ◌%◌, ◌^◌, ◌<◌, ◌≤◌}
 use native.Mathlib.Nat.{lt_of_not-le, div-lt_iff_lt-mul, pow-suc}
 use native.Mathlib.Decide.{dec_le}
 use native.Mathlib.Omega.{arith}
@@ -61,3 +61,13 @@ length_some n h = elim (dec_le 10 n) [
   | no p ↦ omega (arith, length-one n (lt_of_not-le p))
   | yes p ↦ omega (arith, length_more n h p)
 ]
+
+-- a number between two powers of ten; 0 has one digit, as 1 has
+pub length_by_power : (k n : ℕ) → n < 2 ^ 64 → 10 ^ k ≤ max n 1 → max n 1 < 10 * 10 ^ k → length (decimal n) ≡ k + 1
+length_by_power zero n h low high = length-one n (omega arith)
+length_by_power (suc k) n h low high =
+    let low : 10 ^ k * 10 ≤ max n 1 = rw (pow-suc 10 k) at low in
+    let high : max n 1 < 10 * (10 ^ k * 10) = rw (pow-suc 10 k) at high in
+    let more = length_more n h (omega arith) in
+    let rest = length_by_power k (n / 10) (omega arith) (omega arith) (omega arith) in
+    omega arith

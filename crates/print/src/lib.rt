@@ -5,7 +5,8 @@ ghost use Rattle.std.specs.Prelude.{◌≡◌, ◌+◌, ◌≤◌, ◌<◌, leng
 ghost use Rattle.print.specs.Print.{decimal, line_of, reply_line, bytes_line, hex_digit};
 ghost use Rattle.text.specs.Buffer.{put_at, front, wrote};
 
-// An answer but that of READ.
+// An answer but that of READ. `Refused` holds the number that is printed, 0 too, which no row of the table has, so that it is no `table::Refusal`.
+// No `Display`: a formatter writes piece by piece, and a line is written whole or not at all, to a buffer that is lent.
 #[derive(Clone, Copy)]
 pub enum Reply {
     Ok,
@@ -25,19 +26,14 @@ pub enum Reply {
 }
 
 // The byte that ends a line.
-const LINE_FEED: u8 = 10;
+const LINE_FEED: u8 = b'\n';
 
 // How many decimal digits a number has.
+#[tactic(auto, using(crate::proofs::Decimal::length_by_power))]
 fn number_length(n: u64) -> usize
     ensures { result ≡ length (decimal n) }
 {
-    let mut count: usize = 1;
-    let mut rest = n;
-    while rest >= 10 {
-        rest = rest / 10;
-        count += 1;
-    }
-    count
+    n.max(1).ilog10() as usize + 1
 }
 
 // A digit's byte.
@@ -45,54 +41,50 @@ fn digit(n: u64) -> u8
     requires { n < 10 }
     ensures { result ≡ 48 + n }
 {
-    (48 + n) as u8
+    b'0' + n as u8
 }
 
-// Writes a number from index at on, its last digit first, and answers the index after it.
+// Writes a number from index at on, its last digit first, and answers the index after it: the line is put together in the buffer that is lent.
 fn put_number(out: &mut [u8], at: usize, n: u64) -> usize
     requires { at + length (decimal n) ≤ length out.old }
     ensures { (result ≡ at + length (decimal n)) × (out.new ≡ put_at at (decimal n) out.old) }
 {
     let end = at + number_length(n);
-    let mut i = end - 1;
     let mut rest = n;
-    while rest >= 10 {
+    for i in (at..end).rev() {
         out[i] = digit(rest % 10);
-        rest = rest / 10;
-        i -= 1;
+        rest /= 10;
     }
-    out[i] = digit(rest);
     end
 }
 
 // Writes a word from the front on, and answers the index after it.
+#[tactic(auto, unfolding(text::specs::Buffer::put_at))]
 fn put_word(out: &mut [u8], word: &[u8]) -> usize
     requires { length word.now ≤ length out.old }
     ensures { (result ≡ length word.now) × (out.new ≡ put_at 0 word.now out.old) }
 {
-    let mut i = 0;
-    while i < word.len() {
-        out[i] = word[i];
-        i += 1;
-    }
-    i
+    let n = word.len();
+    out[..n].copy_from_slice(word);
+    n
 }
 
-// The length of the line of a word and numbers. The longest word is "published", and no answer has more than 6 numbers.
+// The length of the line of a word and numbers, which comes first, as a line is written whole or not at all. The longest word is "published", and no
+// answer has more than 6 numbers.
+#[tactic(auto, using(crate::proofs::Answering::line_steps))]
 fn line_length(word: &[u8], numbers: &[u64]) -> usize
     requires { (length word.now ≤ 9) × (length numbers.now ≤ 6) }
     ensures { result ≡ length (line_of word.now numbers.now) }
 {
-    let mut n = word.len() + 1;
-    let mut i = 0;
-    while i < numbers.len() {
-        n = n + 1 + number_length(numbers[i]);
-        i += 1;
+    let mut length = word.len() + 1;
+    for n in numbers {
+        length += 1 + number_length(*n);
     }
-    n
+    length
 }
 
 // Writes the line of a word and numbers to the front of out, and answers its length; nothing and 0 where it does not fit.
+#[tactic(auto, using(crate::proofs::Answering::line_steps))]
 fn write_line(word: &[u8], numbers: &[u64], out: &mut [u8]) -> usize
     requires { (length word.now ≤ 9) × (length numbers.now ≤ 6) }
     ensures { (result ≡ wrote (line_of word.now numbers.now) out.old) × (out.new ≡ front (line_of word.now numbers.now) out.old) }
@@ -102,17 +94,16 @@ fn write_line(word: &[u8], numbers: &[u64], out: &mut [u8]) -> usize
         return 0;
     }
     let mut at = put_word(out, word);
-    let mut i = 0;
-    while i < numbers.len() {
+    for number in numbers {
         out[at] = b',';
-        at = put_number(out, at + 1, numbers[i]);
-        i += 1;
+        at = put_number(out, at + 1, *number);
     }
     out[at] = LINE_FEED;
     n
 }
 
 // Writes the line of a reply to the front of out, and answers its length; nothing and 0 where it does not fit.
+// No `Option`: 0 is how many bytes were written then, and no line is that short.
 #[tactic(auto, unfolding(crate::specs::Print::reply_line))]
 pub fn write_reply(r: Reply, out: &mut [u8]) -> usize
     ensures { (result ≡ wrote (reply_line r) out.old) × (out.new ≡ front (reply_line r) out.old) }
@@ -135,12 +126,12 @@ pub fn write_reply(r: Reply, out: &mut [u8]) -> usize
     }
 }
 
-// The lowercase hexadecimal digit of a number below 16.
+// The lowercase hexadecimal digit of a number below 16. A table of the sixteen bytes would be no shorter.
 fn hex_digit(n: u8) -> u8
     requires { n < 16 }
     ensures { result ≡ hex_digit n }
 {
-    if n < 10 { 48 + n } else { 87 + n }
+    if n < 10 { b'0' + n } else { b'a' + (n - 10) }
 }
 
 // Writes the line of the bytes that were read to the front of out, and answers its length; nothing and 0 where it does not fit.
@@ -154,12 +145,10 @@ pub fn write_bytes(bytes: &[u8], out: &mut [u8]) -> usize
         return 0;
     }
     let mut at = put_word(out, b"bytes,");
-    let mut i = 0;
-    while i < bytes.len() {
-        out[at] = hex_digit(bytes[i] / 16);
-        out[at + 1] = hex_digit(bytes[i] % 16);
+    for b in bytes {
+        out[at] = hex_digit(*b / 16);
+        out[at + 1] = hex_digit(*b % 16);
         at += 2;
-        i += 1;
     }
     out[at] = LINE_FEED;
     at + 1

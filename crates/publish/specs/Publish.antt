@@ -1,5 +1,5 @@
 -- PUBLISH line minute: what it answers and leaves, over any store, windows and areas.
-use Rattle.std.specs.Prelude.{Bool, true, false, not, ◌&&◌, ℕ, zero, suc, ◌+◌, ◌-◌, ◌^◌, min, ltb, eqb}
+use Rattle.std.specs.Prelude.{Bool, true, false, not, ◌&&◌, ℕ, suc, ◌+◌, ◌-◌, ◌^◌, min, ltb, eqb}
 use Rattle.lines.specs.Lines.{published_to, number_of}
 use Rattle.lines.specs.declared.Branch.{Branch}
 use Rattle.register.specs.Register.{version_part}
@@ -9,15 +9,15 @@ use Rattle.versions.specs.declared.Store.{Store}
 use Rattle.windows.specs.declared.Windows.{Windows}
 use Rattle.windows.specs.Windows.{inside}
 use Rattle.publish.specs.declared.Published.{Published}
-use Rattle.publish.specs.declared.PublishOut.{PublishOut}
-use Rattle.versions.specs.Store.{Areas, areas_differ, lines_in, line_in, with_line}
+use Rattle.versions.specs.Store.{Areas, areas_differ, lines_in, line_in, with_line, Out}
 use Rattle.versions.specs.Size.{not_there}
+use Rattle.table.specs.Refused.{answered}
 
 -- There is a version after the line's last published one.
 abbrev pub has_next : Branch → Bool
 has_next b = ltb b.published.0 b.assigned.0
 
--- Its number, in 64 bits as the code has it, and what its record says: what is published on a line reaches at least to where it begins, so that the next version is the line's own.
+-- Its number, within 64 bits, and what its record says: what is published on a line reaches at least to where it begins, so that the next version is the line's own.
 abbrev pub number_by : ℕ → Branch → ℕ
 number_by l b = number_of l (min (b.published.0 + 1) (2 ^ 64 - 1))
 
@@ -44,24 +44,23 @@ due_by b q = has_next b && eqb q.woven q.count
 abbrev pub with_published : Branch → Branch
 with_published b = published_to b (suc b.published.0)
 
--- The answer, by the table's number, whether the minute is inside a window, and whether version v is due.
-abbrev pub published : ℕ → Bool → Bool → ℕ → Published
-published zero true d v = Published.Held
-published zero false true v = Published.Now (record { 0 = v })
-published zero false false v = Published.Waiting
-published (suc k) h d v = Published.Refused (suc k)
+-- What is answered, by whether the minute is inside a window, and whether version v is due.
+abbrev pub published : Bool → Bool → ℕ → Published
+published true d v = Published.Held
+published false true v = Published.Now (record { 0 = v })
+published false false v = Published.Waiting
 
 abbrev pub store_if : Bool → Store → Store → Store
 store_if true s r = s
 store_if false s r = r
 
 -- What PUBLISH gives back, by the table's number k, whether the minute is inside a window, and whether the next version is due: inside one nothing moves.
-abbrev pub published_by : Store → ℕ → ℕ → Bool → Bool → PublishOut
+abbrev pub published_by : Store → ℕ → ℕ → Bool → Bool → Out Published
 published_by s l k held due = record {
   store = unless k s (store_if (not held && due) (with_line s l (with_published (line_in s l))) s);
-  answer = published k held due (suc (line_in s l).published.0);
+  answer = answered k (published held due (suc (line_in s l).published.0));
 }
 
-abbrev pub publish_out : Store → Windows → Areas → ℕ → ℕ → PublishOut
+abbrev pub publish_out : Store → Windows → Areas → ℕ → ℕ → Out Published
 publish_out s w a l minute =
     published_by s l (publish_number s w a l minute) (inside w.places minute) (due_by (line_in s l) (next_part s a l))

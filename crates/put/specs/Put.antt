@@ -1,13 +1,13 @@
 -- PUT ticket, i, bytes: what it answers and leaves, over any store and areas.
-use Rattle.std.specs.Prelude.{ℕ, zero, suc, pred, ◌+◌, ◌*◌, ◌/◌, ◌%◌, ◌^◌, List, length}
+use Rattle.std.specs.Prelude.{ℕ, pred, ◌+◌, ◌*◌, ◌/◌, ◌%◌, ◌^◌, List, length, Result}
 use Rattle.pages.specs.Pages.{put}
 use Rattle.register.specs.Register.{with_ticket_fields, with_record}
 use Rattle.register.specs.declared.Record.{Record}
 use Rattle.table.specs.Table.{◌≤?◌, ◌<?◌, ◌or◌, every_call, first_refusal, unless, put_rows}
 use Rattle.versions.specs.declared.Store.{Store}
 use Rattle.versions.specs.declared.Lengths.{Lengths}
-use Rattle.put.specs.declared.PutIn.{PutIn}
 use Rattle.versions.specs.Store.{Areas, lengths_of, differ, record_of}
+use Rattle.table.specs.Refused.{answered}
 
 -- Bit i of a mask, and the mask with one added there; bits from 64 up are not kept.
 unfoldable pub bit_of : ℕ → ℕ → ℕ
@@ -32,16 +32,12 @@ put_number s a t i bytes = put_refusal s (lengths_of a) (record_of a t) t i (len
 abbrev pub ticket_page : Areas → ℕ → ℕ → ℕ
 ticket_page a t i = (record_of a t).number + i
 
-abbrev pub put_in : ℕ → PutIn
-put_in zero = PutIn.Done
-put_in (suc k) = PutIn.Refused (suc k)
-
 -- A record with page i put.
 abbrev pub with_put : Record → ℕ → Record
 with_put r i = with_ticket_fields r r.n r.number (with_bit r.put i) r.update
 
-abbrev pub put_out : Store → Areas → ℕ → ℕ → List ℕ → PutIn
-put_out s a t i bytes = put_in (put_number s a t i bytes)
+abbrev pub put_out : Store → Areas → ℕ → ℕ → List ℕ → Result Unit ℕ
+put_out s a t i bytes = answered (put_number s a t i bytes) tt
 
 abbrev pub put_pages : Store → Areas → ℕ → ℕ → List ℕ → List ℕ
 put_pages s a t i bytes = unless (put_number s a t i bytes) a.pages (put a.pages (s.size * ticket_page a t i) bytes)

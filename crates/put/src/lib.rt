@@ -1,124 +1,100 @@
 // PUT: one page of a ticket's update.
 #![tactic(auto)]
 
-ghost use Rattle.std.specs.Prelude.{◌≡◌, pred, ◌*◌, ◌<◌};
-ghost use Rattle.pages.specs.Pages.{put};
-ghost use Rattle.table.specs.Table.{unless};
-ghost use Rattle.tree.specs.Tree.{nth};
-ghost use Rattle.register.specs.Register.{no_record, with_record};
+ghost use Rattle.std.specs.Prelude.{◌≡◌, ◌+◌};
+ghost use Rattle.table.specs.Refused.{numbered, answered};
 ghost use Rattle.versions.specs.Store.{areas_of};
-ghost use Rattle.put.specs.Put.{bit_of, with_bit, put_refusal, with_put, put_in, put_out, put_pages, put_register};
+ghost use Rattle.put.specs.Put.{bit_of, with_bit, put_refusal, put_out, put_pages, put_register};
 
 use register::{Record, ticket_record};
+use table::Refusal;
 use tree::Ticket;
-use versions::{Lengths, Store, capped_sum, lengths_of, ticket_index, ticket_refusal};
+use versions::{Lengths, Store, lengths_of, record_index, ticket_refusal};
 
-// What PUT answers.
-#[derive(Clone, Copy)]
-pub enum PutIn {
-    Done,
-    Refused(u64),
-}
+// The pages that a record's mask has a bit for, one a page: the record's layout gives it a `u64`.
+const MASK_BITS: u64 = 64;
 
-// Bit i of a mask.
+// Bit i of a mask, 0 past its end. (std has no word for one bit of a number.)
+#[tactic(auto, using(crate::proofs::Bits::bits))]
 fn bit_of(mask: u64, i: u64) -> u64
     ensures { result ≡ bit_of mask i }
 {
-    if i < 64 { (mask >> i) % 2 } else { 0 }
+    if i < MASK_BITS { (mask >> i) % 2 } else { 0 }
 }
 
-// The mask with 1 added at bit i.
+// The mask with 1 added at bit i, none past its end: likewise.
+#[tactic(auto, using(crate::proofs::Bits::bits))]
 fn with_bit(mask: u64, i: u64) -> u64
     ensures { result ≡ with_bit mask i }
 {
-    if i < 64 {
-        std::num::wrapping_add_u64(mask, 1 << i)
+    if i < MASK_BITS {
+        mask.wrapping_add(1 << i)
     } else {
         mask
     }
 }
 
-// The refusal of PUT, with the ticket's record r.
-fn put_refusal(s: Store, l: Lengths, r: Record, t: Ticket, i: u64, bytes: usize) -> u64
-    ensures { result ≡ put_refusal s l r t.0 i bytes }
+// The refusal of PUT, or the number of page i, with the ticket's record r.
+#[tactic(auto, using(table::proofs::Refused::number_positive), unfolding(crate::specs::Put::put_refusal, table::specs::Table::put_rows, table::specs::Table::first_refusal, table::specs::Table::holds))]
+fn page_number(
+    s: &Store,
+    l: Lengths,
+    r: Record,
+    t: Ticket,
+    i: u64,
+    bytes: usize,
+) -> Result<u64, Refusal>
+    ensures { numbered result ≡ answered (put_refusal s.now l r t.0 i bytes) (r.number + i) }
 {
-    let k = ticket_refusal(s, l, t);
-    if k != 0 {
-        return k;
-    }
+    ticket_refusal(s, l, t)?;
+    let whole = bytes as u64 == s.size;
     // The record lies past the register.
     if s.updates < t.0 {
-        return if bytes as u64 != s.size { 11 } else { 19 };
+        return Err(if whole {
+            Refusal::Damaged
+        } else {
+            Refusal::PageLength
+        });
     }
     if r.update != 0 {
-        return 8;
+        return Err(Refusal::OutOfTurn);
     }
     if r.n <= i {
-        return 9;
+        return Err(Refusal::NoSuchPage);
     }
     if bit_of(r.put, i) == 1 {
-        return 10;
+        return Err(Refusal::AlreadyPut);
     }
-    if bytes as u64 != s.size {
-        return 11;
+    if !whole {
+        return Err(Refusal::PageLength);
     }
-    if s.pages <= capped_sum(r.number, i) {
-        return 19;
+    if s.pages <= r.number.saturating_add(i) {
+        return Err(Refusal::Damaged);
     }
-    0
+    Ok(r.number + i)
 }
 
-// Stores the bytes as page `number` where the table's number k is 0.
-fn put_bytes(pages: &mut [u8], k: u64, size: u64, number: u64, bytes: &[u8])
-    ensures { pages.new ≡ unless k pages.old (put pages.old (size * number) bytes.now) }
-{
-    if k == 0 {
-        pages::put_page(pages, size, number, bytes);
-    }
-}
-
-// Notes page i as put in the record r of ticket t where the table's number k is 0: the one field that it changes is written.
-fn note_put(register: &mut [Record], k: u64, t: Ticket, r: Record, i: u64)
-    requires { (k ≡ 0 → 0 < t.0) × (r ≡ nth no_record register.old t.0) }
-    ensures { register.new ≡ unless k register.old (with_record register.old (pred t.0) (with_put r i)) }
-{
-    let at = ticket_index(t);
-    let mask = with_bit(r.put, i);
-    if k == 0 && at < register.len() {
-        register[at].put = mask;
-    }
-}
-
-// What PUT answers, by the table's number k.
-fn put_answer(k: u64) -> PutIn
-    ensures { result ≡ put_in k }
-{
-    if k == 0 {
-        PutIn::Done
-    } else {
-        PutIn::Refused(k)
-    }
-}
-
-// PUT ticket, i, bytes: stores page i of the update. The store stays as it is.
+// PUT ticket, i, bytes: stores page i of the update. The store stays as it is, and of the ticket's record the one field that changes is written.
+// (Three areas, and no struct of them: C lends two to be changed and one to be read.)
+#[tactic(auto, using(table::proofs::Refused::tells, crate::proofs::Passed::put_ticket), unfolding(register::specs::Register::with_record))]
 pub fn put(
-    s: Store,
+    s: &Store,
     pages: &mut [u8],
     nodes: &[u32],
     register: &mut [Record],
     t: Ticket,
     i: u64,
     bytes: &[u8],
-) -> PutIn
+) -> Result<(), Refusal>
     ensures { let a = areas_of pages.old nodes.now register.old in
-        (result ≡ put_out s a t.0 i bytes.now)
-        × (pages.new ≡ put_pages s a t.0 i bytes.now)
-        × (register.new ≡ put_register s a t.0 i bytes.now) }
+        (numbered result ≡ put_out s.now a t.0 i bytes.now)
+        × (pages.new ≡ put_pages s.now a t.0 i bytes.now)
+        × (register.new ≡ put_register s.now a t.0 i bytes.now) }
 {
     let r = ticket_record(register, t);
     let l = lengths_of(pages, nodes, register);
-    let k = put_refusal(s, l, r, t, i, bytes.len());
-    put_bytes(pages, k, s.size, capped_sum(r.number, i), bytes);
-    note_put(register, k, t, r, i);
-    put_answer(k)
+    let number = page_number(s, l, r, t, i, bytes.len())?;
+    pages::put_page(pages, s.size, number, bytes);
+    register[record_index(t.0)].put = with_bit(r.put, i);
+    Ok(())
 }

@@ -1,26 +1,28 @@
 -- The bytes of a version, by chunks that lie within a page, and a buffer that they fill from its front on. Assumes nothing.
 use mathlib.Core.Path.{◌≡◌, refl, sym, ap, ◌∙◌}
-use mathlib.Core.Bool.{Bool, true, false}
-use mathlib.Core.List.{List, [], ◌++◌}
-use Prim.Native.Nat.{ℕ, zero, suc, ◌+◌, ◌*◌, ◌-◌, ◌/◌, ◌%◌, ◌≤◌, ◌<◌, min}
-use native.Mathlib.Nat.{add-zero, zero-add, suc-add, sub-zero, mod-lt, div-add-mod', mul-suc, mul-le-mul_left}
+use mathlib.Core.Bool.{false}
+use mathlib.Core.List.{List, ◌++◌}
+use Prim.Native.Nat.{ℕ, zero, suc, ◌+◌, ◌*◌, ◌-◌, ◌≤◌, ◌<◌, min}
+use native.Mathlib.Nat.{add-zero, zero-add, suc-add, mul-suc, mul-one, mul-le-mul_left, mul-add, add-mul, mul_comm}
 use native.Mathlib.Omega.{arith}
 use borrow.Author.Tests.{le-leb}
-use lib.Dec.{leb}
 use lib.ListN.{length, take, drop, length-append, length-drop, take-append-drop}
-use lib.Seq.{drop-cons, take-append_seam, drop-drop, drop-append-add, drop-append-le, take-append-le, length-take-le}
+use mathlib.Core.List.{append-nil}
+use lib.Seq.{drop-cons, take-append_seam, drop-drop, drop-append-add, drop-append-le, take-append-le, length-take-le, drop-length}
 use lib.Arith.{digits_div, digits_mod}
-use Rattle.pages.specs.Pages.{pick, put, part}
-use Rattle.register.specs.declared.Record.{Record}
-use Rattle.tree.proofs.Meets.{lt-or-le}
-use mathlib.Core.Logic.{inl, inr}
-use Rattle.versions.specs.Store.{Areas, areas_of}
-use Rattle.walk.specs.FindPage.{number_within, or_zero, page_number_of, reach_from, find_page}
+use Rattle.pages.specs.Pages.{put, part}
+use Rattle.std.proofs.Common.{Option, Some, None, Result, Ok, Err}
+use Rattle.std.specs.Result.{IsOk}
+use Rattle.table.specs.declared.Refusal.{Refusal}
+use Rattle.table.specs.Refused.{numbered}
+use Rattle.versions.specs.declared.Store.{Store}
+use Rattle.versions.specs.Store.{Areas}
+use Rattle.walk.specs.FindPage.{or_zero, page_number_of, find_page, is_lost}
 use Rattle.read.specs.Read.{byte_of, bytes_from}
-use Rattle.read.specs.Range.{Readable}
+use Rattle.read.specs.Range.{Readable, found_out}
+use Rattle.read.specs.declared.Pages.{Pages}
 use Rattle.walk.proofs.Ends.{found_inside}
 use Rattle.read.proofs.Lost.{none-lost}
-use Rattle.read.proofs.Ranges.{touches}
 
 -- A buffer whose front is x, of d elements, with y put after it.
 grow : (x b y : List ℕ) (d n : ℕ) → length x ≡ d → length y ≡ n → d + n ≤ length b → put (x ++ drop d b) d y ≡ (x ++ y) ++ drop (d + n) b
@@ -28,16 +30,6 @@ unfolding put
 grow x b y d n ex ey h =
     let fit : length x + n ≤ length (x ++ drop (length x) b) = simp (length-append, length-drop) (omega arith) in
     rw (← ex, ey, le-leb (length x + n) (length (x ++ drop (length x) b)) fit, take-append_seam, drop-append-add, drop-drop)
-
--- What lies behind that front is as it was.
-pub behind : (x b : List ℕ) (d n : ℕ) → length x ≡ d → d ≤ n → drop n (x ++ drop d b) ≡ drop n b
-behind x b d n ex h =
-    let e : length x + (n - length x) ≡ n = omega (arith, ex) in
-    rw (← ex)
-    (ap (λ (k : ℕ). drop k (x ++ drop (length x) b)) (sym e)
-    ∙ drop-append-add x (drop (length x) b) (n - length x)
-    ∙ drop-drop (n - length x) (length x) b
-    ∙ ap (λ (k : ℕ). drop k b) e)
 
 module _ (size count : ℕ) (a : Areas) (c : ℕ) where
   pub length-bytes : (j n : ℕ) → length (bytes_from size count a c j n) ≡ n
@@ -85,63 +77,72 @@ part-in-part l at size r n h k =
     rw (le-leb (at + size) (length l) h, length-take-le size (drop at l) long, le-leb (r + n) size k)
     (sym (front (drop at l) size r n long k) ∙ ap (take n) (drop-drop r at l))
 
-no_part : (l : List ℕ) (at : ℕ) → part l at 0 ≡ []
-unfolding part
-no_part l at = go (leb (at + 0) (length l))
-  where
-    go : (b : Bool) → pick b [] [] ≡ []
-    go true = refl
-    go false = refl
+found_number : (x : Option ℕ) (n : ℕ) → found_out x ≡ Ok n → n ≡ or_zero x
+found_number None n e = cc
+found_number (Some m) n e = cc
 
-module _ (size count : ℕ) (pages nodes : List ℕ) (register : List Record) (c offset len room : ℕ) (need : Readable size count pages nodes register c offset len room)
-    (done : ℕ) (below : done < len) where
-  some_size : 0 < size
-  some_size = need.range.some (omega arith)
+found_is : (x : Option ℕ) (r : Result ℕ Refusal) → numbered r ≡ found_out x → is_lost x ≡ false → IsOk r
+found_is None r e f = cc
+found_is (Some n) (Ok m) e f = refl
+found_is (Some n) (Err k) e f = cc
 
-  -- The page of the next byte is found, and lies within the page area.
-  page-in : size * or_zero (page_number_of count (areas_of [] nodes register) c ((offset + done) / size)) + size ≤ length pages
-  unfolding page_number_of
-  page-in =
-      let j = offset + done in
-      let x = find_page (areas_of [] nodes register) c (j / size) in
-      let t = touches size offset len some_size (omega arith) j (omega arith) (omega arith) in
-      let e : offset / size + (j / size - offset / size) ≡ j / size = omega arith in
-      let f = rw e at (none-lost count (areas_of [] nodes register) c (offset / size) _ (j / size - offset / size) need.found t.1) in
-      let k = mul-le-mul_left size (found_inside count x f) in
-      omega (arith, rw mul-suc at k, need.area (omega arith))
+module _ (s : Store) (a : Areas) (c : ℕ) (t : Pages) (b : List ℕ) where
+  abbrev S : ℕ
+  S = s.size
 
-  -- What is copied of the page of the next byte are the bytes from there on.
-  pub next-bytes : let j = offset + done in let n = min (size - j % size) (len - done) in
-      part (part pages (size * or_zero (number_within count (find_page (areas_of [] nodes register) c (j / size)))) size) (j % size) n
-      ≡ bytes_from size count (areas_of pages nodes register) c j n
-  unfolding page_number_of find_page reach_from
-  next-bytes =
-      let j = offset + done in
-      let n = min (size - j % size) (len - done) in
-      let m = mod-lt j some_size in
-      let number = or_zero (page_number_of count (areas_of [] nodes register) c (j / size)) in
-      part-in-part pages (size * number) size (j % size) n page-in (omega arith)
-      ∙ chunk size count (areas_of pages nodes register) c (j / size) (j % size) n (omega arith) (omega (arith, page-in))
-      ∙ ap (λ (i : ℕ). bytes_from size count (areas_of pages nodes register) c i n) (div-add-mod' j size)
+  -- The first byte, and how many are copied before the page after i pages.
+  abbrev j : ℕ
+  j = t.first.0 * S + t.from
 
--- The first page's bytes of a range, copied to the front of a buffer; of an empty range, none.
-module _ (size count : ℕ) (pages nodes : List ℕ) (register : List Record) (c offset len : ℕ) (buffer : List ℕ)
-    (need : Readable size count pages nodes register c offset len (length buffer)) where
-  first_part : let n = min (size - offset % size) len in
-      part (part pages (size * or_zero (number_within count (find_page (areas_of [] nodes register) c (offset / size)))) size) (offset % size) n
-      ≡ bytes_from size count (areas_of pages nodes register) c offset n
-  unfolding bytes_from
-  first_part = elim (lt-or-le 0 len) [
-    | inl h ↦ rw (add-zero, sub-zero) at (next-bytes size count pages nodes register c offset len (length buffer) need 0 h)
-    | inr h ↦ let none : min (size - offset % size) len ≡ 0 = omega arith in rw none (no_part _ _)
-  ]
+  abbrev done : ℕ → ℕ
+  done i = min (S * i - t.from) (length b)
 
-  pub first-bytes : let n = min (size - offset % size) len in
-      put buffer 0
-      (part (part pages (size * or_zero (number_within count (find_page (areas_of [] nodes register) c (offset / size)))) size) (offset % size) n)
-      ≡ bytes_from size count (areas_of pages nodes register) c offset n ++ drop n buffer
-  unfolding bytes_from
-  first-bytes =
-      let n = min (size - offset % size) len in
-      rw first_part
-      (rw (add-zero, zero-add) at (grow-bytes size count (areas_of pages nodes register) c buffer 0 n offset (omega (arith, need.within))))
+  -- The buffer then.
+  abbrev pub filled : ℕ → List ℕ
+  filled i = bytes_from S s.pages a c j (done i) ++ drop (done i) b
+
+  module _ (number : ℕ) (need : Readable s a c t number (length b)) where
+    -- A page of the range is found, and lies within the page area.
+    page-in : (i : ℕ) → i < t.count → S * or_zero (page_number_of s.pages a c (t.first.0 + i)) + S ≤ length a.pages
+    unfolding page_number_of
+    page-in i h =
+        let x = find_page a c (t.first.0 + i) in
+        let k = mul-le-mul_left S (found_inside s.pages x (none-lost s.pages a c t.first.0 t.count i need.found h)) in
+        omega (arith, rw mul-suc at k, need.area)
+
+    -- n bytes of it, from its byte r on, put behind those that are there.
+    turn : (i r n d : ℕ) → i < t.count → r + n ≤ S → j + d ≡ (t.first.0 + i) * S + r → d + n ≤ length b
+        → put (bytes_from S s.pages a c j d ++ drop d b) d (part (part a.pages (S * or_zero (page_number_of s.pages a c (t.first.0 + i))) S) r n)
+        ≡ bytes_from S s.pages a c j (d + n) ++ drop (d + n) b
+    turn i r n d h k e f =
+        let m = or_zero (page_number_of s.pages a c (t.first.0 + i)) in
+        let p = page-in i h in
+        rw (part-in-part a.pages (S * m) S r n p k, chunk S s.pages a c (t.first.0 + i) r n k (omega (arith, p)), ← e)
+        (grow-bytes S s.pages a c b d n j f)
+
+    pub next_found : (i : ℕ) (r : Result ℕ Refusal) → i < t.count → numbered r ≡ found_out (page_number_of s.pages a c (t.first.0 + i)) → IsOk r
+    next_found i r h e = found_is (page_number_of s.pages a c (t.first.0 + i)) r e (none-lost s.pages a c t.first.0 t.count i need.found h)
+
+    pub first_turn : put b 0 (part (part a.pages (S * number) S) t.from (min (length b) (S - t.from))) ≡ filled 1
+    unfolding bytes_from
+    first_turn =
+        let n = min (length b) (S - t.from) in
+        let some : n ≡ done 1 = rw mul-one (omega (arith, need.begins)) in
+        let place : j + 0 ≡ (t.first.0 + 0) * S + t.from = let page : t.first.0 + 0 ≡ t.first.0 = omega arith in rw page (omega arith) in
+        rw (need.first, ← some) (rw (add-zero, zero-add) at (turn 0 t.from n 0 need.some (omega (arith, need.begins)) place (omega arith)))
+
+    pub next_turn : (i x : ℕ) → 1 ≤ i → i < t.count → found_out (page_number_of s.pages a c (t.first.0 + i)) ≡ Ok x
+        → put (filled i) (S * i - t.from) (part (part a.pages (S * x) S) 0 (min S (length b - (S * i - t.from)))) ≡ filled (i + 1)
+    next_turn i x o h e =
+        let n = min S (length b - (S * i - t.from)) in
+        let behind = need.ends i h in
+        let whole : S ≤ S * i = omega (arith, rw mul-one at (mul-le-mul_left S o)) in
+        let more : S * (i + 1) ≡ S * i + S = mul-add S i 1 ∙ ap (λ (k : ℕ). S * i + k) (mul-one S) in
+        let d = S * i - t.from in
+        let here : done i ≡ d = omega (arith, behind) in
+        let there : d + n ≡ done (i + 1) = omega (arith, behind, whole, more, need.begins) in
+        let place : j + d ≡ (t.first.0 + i) * S + 0 = rw add-mul (omega (arith, mul_comm S i, whole, need.begins)) in
+        rw (here, ← there, found_number (page_number_of s.pages a c (t.first.0 + i)) x e) (turn i 0 n d h (omega arith) place (omega (arith, behind)))
+
+    pub last_turn : (i : ℕ) → i ≡ t.count → filled i ≡ bytes_from S s.pages a c j (length b)
+    last_turn i e = let all : done i ≡ length b = rw e (omega (arith, need.within)) in rw (all, drop-length b, append-nil (bytes_from S s.pages a c j (length b))) refl

@@ -1,4 +1,3 @@
 pub mod Lost
 pub mod Ranges
 pub mod Chunks
-pub mod Reading

@@ -1,11 +1,11 @@
 -- READ line, v, offset, length: what it answers, and the buffer as it leaves it, over any store and areas.
-use Rattle.std.specs.Prelude.{Bool, false, ◌||◌, List, [], ◌∷◌, ◌++◌, ℕ, zero, suc, ◌+◌, ◌-◌, ◌*◌, ◌/◌, ◌%◌, length, get_or, drop}
+use Rattle.std.specs.Prelude.{Bool, false, ◌||◌, List, [], ◌∷◌, ◌++◌, ℕ, zero, suc, ◌+◌, ◌-◌, ◌*◌, ◌/◌, ◌%◌, length, get_or, drop, Result}
 use Rattle.table.specs.Table.{◌or◌, test, every_call, first_refusal, unless, read_rows}
 use Rattle.versions.specs.declared.Store.{Store}
-use Rattle.read.specs.declared.Filled.{Filled}
 use Rattle.versions.specs.Store.{Areas, areas_differ, lines_in, line_in, number_on, part_on}
 use Rattle.versions.specs.Size.{is_there, not_there, bytes_in}
 use Rattle.walk.specs.FindPage.{page_number_of, is_lost, or_zero}
+use Rattle.table.specs.Refused.{answered}
 
 -- One of the n pages from p on of the version numbered c is not found, in a page area of so many pages.
 unfoldable pub some_lost : ℕ → Areas → ℕ → ℕ → ℕ → Bool
@@ -36,12 +36,8 @@ unfoldable pub bytes_from : ℕ → ℕ → Areas → ℕ → ℕ → ℕ → Li
 bytes_from size pages a c j zero = []
 bytes_from size pages a c j (suc len) = byte_of size pages a c j ∷ bytes_from size pages a c (suc j) len
 
-abbrev pub filled_by : ℕ → Filled
-filled_by zero = Filled.Done
-filled_by (suc k) = Filled.Refused (suc k)
-
-abbrev pub read_out : Store → Areas → ℕ → ℕ → ℕ → ℕ → List ℕ → Filled
-read_out s a l v offset len buffer = filled_by (read_number s a l v offset len buffer)
+abbrev pub read_out : Store → Areas → ℕ → ℕ → ℕ → ℕ → List ℕ → Result Unit ℕ
+read_out s a l v offset len buffer = answered (read_number s a l v offset len buffer) tt
 
 -- READ fills the front of the buffer; the rest stays.
 abbrev pub read_buffer : Store → Areas → ℕ → ℕ → ℕ → ℕ → List ℕ → List ℕ

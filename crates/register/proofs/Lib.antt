@@ -1,3 +1,4 @@
 pub mod Records
 pub mod Within
 pub mod Counted
+pub mod Newest

@@ -3,7 +3,7 @@
 use mathlib.Core.Path.{◌≡◌, refl, ap, ◌∙◌}
 use mathlib.Core.Bool.{true, false}
 use mathlib.Core.List.{List}
-use Prim.Native.Nat.{ℕ, zero, suc, pred, ◌-◌, ◌^◌, ◌≤◌, ◌<◌}
+use Prim.Native.Nat.{ℕ, zero, suc, pred, ◌+◌, ◌-◌, ◌%◌, ◌^◌, ◌≤◌, ◌<◌}
 use native.Mathlib.Decide.{ℕ_discrete}
 use native.Mathlib.Numerals.{sub-one}
 use native.Mathlib.Omega.{arith}
@@ -12,7 +12,7 @@ use lib.ListN.{length, get_or, get_or-eq_default}
 use Rattle.tree.specs.Tree.{Update, meets, nth}
 use Rattle.lines.specs.Lines.{number_of, line_of, version_of, entry_at}
 use Rattle.lines.proofs.Packed.{entry-none}
-use Rattle.register.specs.Register.{no_record, update_of, version_record, version_part, newest_own}
+use Rattle.register.specs.Register.{no_record, part_of, update_of, version_record, version_part, newest_own}
 use Rattle.register.specs.declared.Record.{Record}
 use Rattle.register.specs.declared.Part.{Part}
 use Rattle.std.proofs.lemmas.List.{get_or_default}
@@ -32,17 +32,10 @@ nth-pred rs k past p h =
     let before : pred k ≡ k - 1 = omega arith in
     get_or_default rs (pred k) past no_record h ∙ ap (λ (j : ℕ). get_or rs j no_record) before ∙ nth-before rs k p
 
--- The index of record k, which past any register stands for record 0.
-abbrev pub Indexes : ℕ → ℕ → Type 0
-Indexes k i = (0 < k → i ≡ k - 1) × (k ≡ 0 → i ≡ 2 ^ 64 - 1)
-
-pub nth-index : (rs : List Record) (k i : ℕ) → length rs < 2 ^ 64 → Indexes k i → i < length rs → get_or rs i no_record ≡ nth no_record rs k
-nth-index rs zero i long e h = absurd (omega (arith, e.1 refl))
-nth-index rs (suc k) i long e h = ap (λ (j : ℕ). get_or rs j no_record) (e.0 (omega arith)) ∙ nth-before rs (suc k) (omega arith)
-
-pub nth-none : (rs : List Record) (k i : ℕ) → Indexes k i → length rs ≤ i → nth no_record rs k ≡ no_record
-nth-none rs zero i e h = refl
-nth-none rs (suc k) i e h = get_or-eq_default rs no_record (omega (arith, e.0 (omega arith)))
+-- Past the register there is no record: that of 0 has an index that wraps, as the code computes it.
+nth-none : (rs : List Record) (k : ℕ) → length rs ≤ (k + (2 ^ 64 - 1)) % 2 ^ 64 → nth no_record rs k ≡ no_record
+nth-none rs zero h = refl
+nth-none rs (suc k) h = get_or-eq_default rs no_record (omega arith)
 
 -- ---- the record of the version numbered c
 
@@ -62,7 +55,7 @@ module _ (rs : List Record) (c : ℕ) where
   version-entry n = rw (ne_eqb here.name c n)
 
   -- Past the register there is none.
-  pub version-none : here ≡ no_record → version_record rs c ≡ no_record
+  version-none : here ≡ no_record → version_record rs c ≡ no_record
   version-none e = elim (ℕ_discrete here.name c) [
     | yes n ↦ version-own n ∙ e
     | no n ↦
@@ -70,6 +63,11 @@ module _ (rs : List Record) (c : ℕ) where
         ∙ ap (λ (r : Record). nth no_record rs (entry_at r.entries (line_of c))) e
         ∙ ap (λ (k : ℕ). nth no_record rs k) (entry-none (line_of c))
   ]
+
+  pub version-past : length rs ≤ (version_of c + (2 ^ 64 - 1)) % 2 ^ 64 → version_part rs c ≡ part_of no_record
+  version-past h = ap part_of (version-none (nth-none rs (version_of c) h))
+
+pub ruleset past = (version-past)
 
 -- ---- the newest of a line's own versions that meets some pages
 

@@ -25,6 +25,8 @@ module _ (a s : ℕ) where
   unfolding highest
   highest-last p q = rw (le-ltb 4095 a p, le-ltb 4095 (a + s) q, highest)
 
+  pub ruleset highs = (highest-past, highest-free, highest-last)
+
   before-end : 0 < s → a + s ≤ 4095 → highest a s + 1 ≡ a + s
   before-end p q = omega (arith, highest-last (omega arith) q)
 

@@ -5,13 +5,14 @@ ghost use Rattle.std.specs.Prelude.{◌≡◌, ◌+◌, ◌-◌, ◌^◌, ◌<�
 ghost use Rattle.tree.specs.Tree.{nth};
 ghost use Rattle.register.specs.Register.{no_record, part_of, in_limits, limited, update_of, extent_of, with_record, version_part, newest_own, highest};
 
-use lines::{Entries, Line, entry_at, line_of, no_entries, number_of, version_of};
-use tree::{LAST_PAGE, MOST_PAGES, PageIndex, Ticket, Version, saturating_sub, smaller};
+use lines::{Entries, Line, entry_at, line_of, number_of, version_of};
+use tree::{LAST_PAGE, MOST_PAGES, PageIndex, Ticket, Version};
 
-// A record of the register. Record k holds the k-th ticket's part, the part of the k-th update in the order of ASSIGN on all lines, and for each line which update is
-// its own version k. Each is counted up to the number of updates, so all fit, and each is found with no search.
+// A record of the register. Record k holds the k-th ticket's part, the part of the k-th update in the order of ASSIGN on all lines, and for each line which
+// update is its own version k. Each is counted up to the number of updates, so all fit, and each is found with no search. C lends the records, and their
+// layout is C's.
 #[repr(C)]
-#[derive(Clone, Copy)]
+#[derive(Clone, Copy, Default)]
 pub struct Record {
     // The ticket's pages, its first page number, which pages are put (bit i for page i), and the number of its update (0: none yet).
     pub n: u64,
@@ -34,7 +35,15 @@ pub struct Record {
     pub entries: Entries,
 }
 
-// What a record says of its update: what a reader needs, so that no record is copied on the way to it.
+// The areas that a call is lent and changes none of: the bytes of pages, the numbers of nodes, and the register.
+#[derive(Clone, Copy)]
+pub struct Areas<'a> {
+    pub pages: &'a [u8],
+    pub nodes: &'a [u32],
+    pub register: &'a [Record],
+}
+
+// What a record says of its update, by the same names: what a reader needs, so that no record is copied on the way to it.
 #[derive(Clone, Copy)]
 pub struct Part {
     pub name: u64,
@@ -56,67 +65,49 @@ pub struct Extent {
     pub size: u64,
 }
 
-// The larger of two numbers.
-fn larger(a: u64, b: u64) -> u64
-    ensures { result ≡ max a b }
-{
-    if a < b { b } else { a }
-}
-
 // Whether pages and a size are within the limits: f <= last < size <= 4,096.
+#[tactic(auto, unfolding(crate::specs::Register::in_limits))]
 fn in_limits(f: PageIndex, last: PageIndex, size: u64) -> bool
     ensures { result ≡ in_limits f.0 last.0 size }
 {
-    if last.0 < f.0 {
-        return false;
-    }
-    if size <= last.0 {
-        return false;
-    }
-    size <= MOST_PAGES
+    f <= last && last.0 < size && size <= MOST_PAGES
 }
 
-// Pages and a size brought within the limits.
-fn brought_within(f: PageIndex, last: PageIndex, size: u64) -> Extent
-    ensures { result ≡ extent_of (limited f.0 last.0 size) }
-{
-    let from = smaller(f.0, LAST_PAGE);
-    let to = larger(from, smaller(last.0, LAST_PAGE));
-    let pages = larger(to + 1, smaller(size, LAST_PAGE + 1));
-    Extent {
-        f: PageIndex(from),
-        last: PageIndex(to),
-        size: pages,
-    }
-}
-
-// The same. What the calls accepted is within the limits, and is handed on as it is: that is one branch foreseen, where bounds are a chain of steps.
+// Pages and a size brought within the limits. What the calls accepted is within them, and is handed on as it is: one branch foreseen, where the bounds alone
+// are a chain of steps.
+#[tactic(auto, unfolding(crate::specs::Register::in_limits))]
 pub fn within_limits(f: PageIndex, last: PageIndex, size: u64) -> Extent
     ensures { result ≡ extent_of (limited f.0 last.0 size) }
 {
     if in_limits(f, last, size) {
         return Extent { f, last, size };
     }
-    brought_within(f, last, size)
+    let from = f.0.min(LAST_PAGE);
+    let to = from.max(last.0.min(LAST_PAGE));
+    let size = (to + 1).max(size.min(MOST_PAGES));
+    Extent {
+        f: PageIndex(from),
+        last: PageIndex(to),
+        size,
+    }
 }
 
-// The update of a record's part.
+// The update of a record's part. It brings the pages within the limits, and so is more than a `From`.
+#[tactic(auto, unfolding(crate::specs::Register::update_of))]
 pub fn extent_of(q: Part) -> Extent
     ensures { result ≡ extent_of (update_of q) }
 {
     within_limits(q.f, q.last, q.size)
 }
 
-// What a record says of its update.
-pub fn part_of(r: Record) -> Part
-    ensures { result ≡ part_of r }
+// What a record says of its update; a record says other things too, and so this is no `From`.
+pub fn part_of(r: &Record) -> Part
+    ensures { result ≡ part_of r.now }
 {
-    let f = r.f;
-    let last = r.last;
     Part {
         name: r.name,
-        f,
-        last,
+        f: r.f,
+        last: r.last,
         top: r.top,
         past: r.past,
         span: r.span,
@@ -130,49 +121,27 @@ pub fn part_of(r: Record) -> Part
 pub fn no_record() -> Record
     ensures { result ≡ no_record }
 {
-    let entries = no_entries();
-    Record {
-        n: 0,
-        number: 0,
-        put: 0,
-        update: 0,
-        ticket: Ticket(0),
-        name: 0,
-        f: PageIndex(0),
-        last: PageIndex(0),
-        top: 0,
-        past: 0,
-        span: 0,
-        size: 0,
-        count: 0,
-        woven: 0,
-        entries,
-    }
+    Record::default()
 }
 
-// The record at an index, and the empty one past the register's end.
+// The record at an index, and past the register's end the empty one: a record that is not there reads as one that FORMAT left, as the definitions have it.
 pub fn record_at(register: &[Record], i: usize) -> Record
     ensures { result ≡ get_or register.now i no_record }
 {
-    if i < register.len() {
-        register[i]
-    } else {
-        no_record()
+    match register.get(i) {
+        Some(r) => *r,
+        None => no_record(),
     }
 }
 
-// The k-th record, counted from 1; the empty one where there is none.
+// The k-th record, counted from 1; the empty one where there is none. The index of record 0 wraps past any register.
 pub fn nth_record(register: &[Record], k: u64) -> Record
     ensures { result ≡ nth no_record register.now k }
 {
-    if k == 0 {
-        no_record()
-    } else {
-        record_at(register, (k - 1) as usize)
-    }
+    record_at(register, k.wrapping_sub(1) as usize)
 }
 
-// The record that has a ticket's part.
+// The record that has a ticket's part. A record has parts of a ticket, an update and a line's versions: each is read by a name of its own.
 pub fn ticket_record(register: &[Record], t: Ticket) -> Record
     ensures { result ≡ nth no_record register.now t.0 }
 {
@@ -183,38 +152,27 @@ pub fn ticket_record(register: &[Record], t: Ticket) -> Record
 pub fn update_part(register: &[Record], k: u64) -> Part
     ensures { result ≡ part_of (nth no_record register.now k) }
 {
-    part_of(nth_record(register, k))
+    part_of(&nth_record(register, k))
 }
 
-// The index of the k-th record. There is no record 0, and no register reaches its index.
-fn index_of(k: u64) -> usize
-    ensures { (0 < k → result ≡ k - 1) × (k ≡ 0 → result ≡ 2 ^ 64 - 1) }
-{
-    if k == 0 {
-        u64::MAX as usize
-    } else {
-        (k - 1) as usize
-    }
-}
-
-// The part of the version numbered c: the record of the version's own number is tried first, so that a store with one line reads one record, and no more of it than
-// the part.
+// The part of the version numbered c: the record of the version's own number is tried first, so that a store with one line reads one record, and no more of
+// it than the part.
+#[tactic(auto, using(crate::proofs::Records::past), unfolding(crate::specs::Register::version_record))]
 pub fn version_part(register: &[Record], c: u64) -> Part
     ensures { result ≡ version_part register.now c }
 {
     let v = version_of(c);
-    let i = index_of(v.0);
-    if i < register.len() {
-        let r = register[i];
-        if r.name == c {
-            return part_of(r);
-        }
-        return update_part(register, entry_at(r.entries, line_of(c)));
+    let Some(r) = register.get(v.0.wrapping_sub(1) as usize) else {
+        return part_of(&no_record());
+    };
+    if r.name == c {
+        return part_of(r);
     }
-    part_of(no_record())
+    update_part(register, entry_at(r.entries, line_of(c)))
 }
 
-// Writes the record at an index; past the register's end nothing changes.
+// Writes the record at an index; past the register's end nothing changes. By its index: after a slice's `get_mut` a proof knows the slice's length and no record.
+#[tactic(auto, unfolding(crate::specs::Register::with_record))]
 pub fn set_record(register: &mut [Record], i: usize, r: Record)
     ensures { register.new ≡ with_record register.old i r }
 {
@@ -223,7 +181,9 @@ pub fn set_record(register: &mut [Record], i: usize, r: Record)
     }
 }
 
-// The highest page that a record may begin at to meet the `span` pages from `first` on: past the last page of any blob it is no bound.
+// The highest page that a record may begin at to meet the `span` pages from `first` on: past the last page of any blob it is no bound. Pages 0 and the largest
+// stand for none and any, so that `part_within` is one comparison.
+#[tactic(auto, using(crate::proofs::Within::highs))]
 fn highest(first: PageIndex, span: u64) -> PageIndex
     requires { first.0 + span < 2 ^ 64 }
     ensures { result ≡ record { 0 = highest first.0 span } }
@@ -234,7 +194,7 @@ fn highest(first: PageIndex, span: u64) -> PageIndex
     if first.0 + span > LAST_PAGE {
         return PageIndex(u64::MAX);
     }
-    PageIndex(saturating_sub(first.0 + span, 1))
+    PageIndex((first.0 + span).saturating_sub(1))
 }
 
 // Whether a record's update, its pages as they stand in the record, meets the pages lo .. hi. One comparison of a larger and a smaller number is one
@@ -242,10 +202,12 @@ fn highest(first: PageIndex, span: u64) -> PageIndex
 fn part_within(q: Part, lo: PageIndex, hi: PageIndex) -> bool
     ensures { result ≡ leb (max q.f.0 lo.0) (min (max q.f.0 q.last.0) hi.0) }
 {
-    larger(q.f.0, lo.0) <= smaller(larger(q.f.0, q.last.0), hi.0)
+    q.f.0.max(lo.0) <= q.f.0.max(q.last.0).min(hi.0)
 }
 
-// The newest of line l's own versions above `start` and up to `below` whose update meets the `span` pages from `first` on, or 0.
+// The newest of line l's own versions above `start` and up to `below` whose update meets the `span` pages from `first` on; version 0, which in a
+// number too stands for none, where there is none.
+#[tactic(auto, using(crate::proofs::Newest::newest))]
 pub fn newest_own(
     register: &[Record],
     l: Line,
@@ -258,13 +220,12 @@ pub fn newest_own(
     ensures { result ≡ record { 0 = newest_own register.now l.0 start.0 below.0 first.0 span } }
 {
     let hi = highest(first, span);
-    let mut v = below.0;
-    while v > start.0 {
-        let q = version_part(register, number_of(l, Version(v)));
+    for v in (start.0..below.0).rev() {
+        let own = Version(v + 1);
+        let q = version_part(register, number_of(l, own));
         if part_within(q, first, hi) {
-            return Version(v);
+            return own;
         }
-        v = v - 1;
     }
     Version(0)
 }

@@ -10,7 +10,8 @@ use Rattle.table.specs.Table.{unless}
 use Rattle.versions.specs.Store.{Areas, number_on}
 use Rattle.walk.specs.FindPage.{or_zero, page_number_of}
 use Rattle.stamp.specs.Stamp.{stamp_number}
-use Rattle.view.specs.View.{view_part, viewed, view_at}
+use Rattle.view.specs.View.{view_part, view_at}
+use Rattle.table.specs.Refused.{answered}
 use Rattle.versions.specs.declared.Store.{Store}
 use Rattle.replies.specs.Replies.{view_reply}
 
@@ -20,7 +21,7 @@ unfolding part
 no_part l = rw (le-leb 0 (length l) (omega arith))
 
 -- By the table's number k, for a part of n bytes at index at.
-by_number : (l : List ℕ) (k at n : ℕ) → part l (view_reply n (viewed k at)).begin (view_reply n (viewed k at)).length ≡ unless k [] (part l at n)
+by_number : (l : List ℕ) (k at n : ℕ) → part l (view_reply n (answered k at)).begin (view_reply n (answered k at)).length ≡ unless k [] (part l at n)
 unfolding unless
 by_number l zero at n = refl
 by_number l (suc k) at n = no_part l

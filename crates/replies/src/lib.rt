@@ -1,22 +1,19 @@
 // What each call replies to C: structs of plain numbers, from the call's own answer, each by its definition in specs/Replies.
-// A reply begins with the number of the refusal, 0 where the call was accepted.
+// A reply begins with the number of the refusal, 0 where the call was accepted. No `From`: most replies are of a store and an answer, and a name says which call's it is.
 #![tactic(auto)]
 
 ghost use Rattle.std.specs.Prelude.{◌≡◌};
-ghost use Rattle.replies.specs.Replies.{no_store, format_reply, begin_reply, put_reply, assign_reply, weave_reply, publish_reply, windows_reply, branch_reply, read_reply, size_reply, recent_reply, stamp_reply, view_reply};
+ghost use Rattle.table.specs.Refused.{numbered};
+ghost use Rattle.replies.specs.Replies.{no_store, format_reply, begin_reply, done_reply, assign_reply, weave_reply, publish_reply, windows_reply, branch_reply, size_reply, version_reply, view_reply};
 
-use assign::{AssignOut, Assigned};
-use begin::{BeginOut, Begun};
-use branch::{BranchOut, Branched};
+use assign::Assigned;
 use format::{Formatted, fresh_store};
-use publish::{PublishOut, Published};
-use put::PutIn;
-use read::Filled;
-use set_windows::{WindowsOut, WindowsSet};
-use stamp::Stamped;
-use versions::{Latest, Sized, Store};
-use view::Viewed;
-use weave::Woven;
+use lines::Line;
+use publish::Published;
+use table::Refusal;
+use tree::{Ticket, Version};
+use versions::Store;
+use weave::WovenNode;
 use windows::{Windows, no_windows};
 
 // What FORMAT replies: the store, which is all zeros where FORMAT is refused, and its windows, of which there are none.
@@ -121,65 +118,62 @@ fn no_store() -> Store
     store
 }
 
-pub fn format_reply(out: Formatted) -> FormatReply
-    ensures { result ≡ format_reply out }
+pub fn format_reply(out: Result<Formatted, Refusal>) -> FormatReply
+    ensures { result ≡ format_reply (numbered out) }
 {
     match out {
-        Formatted::Made(store, windows) => FormatReply {
+        Ok(made) => FormatReply {
             refusal: 0,
-            store,
-            windows,
+            store: made.store,
+            windows: made.windows,
         },
-        Formatted::Refused(k) => FormatReply {
-            refusal: k,
+        Err(e) => FormatReply {
+            refusal: e.number(),
             store: no_store(),
             windows: no_windows(),
         },
     }
 }
 
-pub fn begin_reply(out: BeginOut) -> BeginReply
-    ensures { result ≡ begin_reply out }
+pub fn begin_reply(store: Store, out: Result<Ticket, Refusal>) -> BeginReply
+    ensures { result ≡ begin_reply (record { store = store; answer = numbered out }) }
 {
-    let store = out.store;
-    let answer = out.answer;
-    match answer {
-        Begun::Given(t) => BeginReply {
+    match out {
+        Ok(t) => BeginReply {
             refusal: 0,
             store,
             ticket: t.0,
         },
-        Begun::Refused(k) => BeginReply {
-            refusal: k,
+        Err(e) => BeginReply {
+            refusal: e.number(),
             store,
             ticket: 0,
         },
     }
 }
 
-pub fn put_reply(out: PutIn) -> u64
-    ensures { result ≡ put_reply out }
+// The number alone: what PUT and READ reply.
+pub fn done_reply(out: Result<(), Refusal>) -> u64
+    ensures { result ≡ done_reply (numbered out) }
 {
     match out {
-        PutIn::Done => 0,
-        PutIn::Refused(k) => k,
+        Ok(()) => 0,
+        Err(e) => e.number(),
     }
 }
 
-pub fn assign_reply(out: AssignOut) -> AssignReply
-    ensures { result ≡ assign_reply out }
+pub fn assign_reply(store: Store, out: Result<Assigned, Refusal>) -> AssignReply
+    ensures { result ≡ assign_reply (record { store = store; answer = numbered out }) }
 {
-    let store = out.store;
-    let answer = out.answer;
-    match answer {
-        Assigned::Given(v, nodes) => AssignReply {
+    match out {
+        Ok(x) => AssignReply {
             refusal: 0,
             store,
-            version: v.0,
-            nodes,
+            version: x.version.0,
+            nodes: x.nodes,
         },
-        Assigned::Refused(k) => AssignReply {
-            refusal: k,
+        Err(e) => AssignReply {
+            refusal: e.number(),
             store,
             version: 0,
             nodes: 0,
@@ -187,21 +181,21 @@ pub fn assign_reply(out: AssignOut) -> AssignReply
     }
 }
 
-pub fn weave_reply(out: Woven) -> WeaveReply
-    ensures { result ≡ weave_reply out }
+pub fn weave_reply(out: Result<WovenNode, Refusal>) -> WeaveReply
+    ensures { result ≡ weave_reply (numbered out) }
 {
     match out {
-        Woven::Node(x) => WeaveReply {
+        Ok(x) => WeaveReply {
             refusal: 0,
             version: x.version,
             first: x.first.0,
             span: x.span,
-            left: x.left as u64,
-            right: x.right as u64,
+            left: u64::from(x.left),
+            right: u64::from(x.right),
             rest: x.rest,
         },
-        Woven::Refused(k) => WeaveReply {
-            refusal: k,
+        Err(e) => WeaveReply {
+            refusal: e.number(),
             version: 0,
             first: 0,
             span: 0,
@@ -212,137 +206,89 @@ pub fn weave_reply(out: Woven) -> WeaveReply
     }
 }
 
-pub fn publish_reply(out: PublishOut) -> PublishReply
-    ensures { result ≡ publish_reply out }
+pub fn publish_reply(store: Store, out: Result<Published, Refusal>) -> PublishReply
+    ensures { result ≡ publish_reply (record { store = store; answer = numbered out }) }
 {
-    let store = out.store;
-    let answer = out.answer;
-    match answer {
-        Published::Now(v) => PublishReply {
-            refusal: 0,
-            store,
-            version: v.0,
-            held: 0,
-        },
-        Published::Waiting => PublishReply {
-            refusal: 0,
-            store,
-            version: 0,
-            held: 0,
-        },
-        Published::Held => PublishReply {
-            refusal: 0,
-            store,
-            version: 0,
-            held: 1,
-        },
-        Published::Refused(k) => PublishReply {
-            refusal: k,
-            store,
-            version: 0,
-            held: 0,
-        },
+    let mut reply = PublishReply {
+        refusal: 0,
+        store,
+        version: 0,
+        held: 0,
+    };
+    match out {
+        Ok(Published::Now(v)) => reply.version = v.0,
+        Ok(Published::Waiting) => {}
+        Ok(Published::Held) => reply.held = 1,
+        Err(e) => reply.refusal = e.number(),
+    }
+    reply
+}
+
+pub fn windows_reply(windows: Windows, out: Result<(), Refusal>) -> WindowsReply
+    ensures { result ≡ windows_reply (record { windows = windows; answer = numbered out }) }
+{
+    WindowsReply {
+        refusal: done_reply(out),
+        windows,
     }
 }
 
-pub fn windows_reply(out: WindowsOut) -> WindowsReply
-    ensures { result ≡ windows_reply out }
+pub fn branch_reply(store: Store, out: Result<Line, Refusal>) -> BranchReply
+    ensures { result ≡ branch_reply (record { store = store; answer = numbered out }) }
 {
-    let windows = out.windows;
-    let answer = out.answer;
-    match answer {
-        WindowsSet::Done => WindowsReply {
-            refusal: 0,
-            windows,
-        },
-        WindowsSet::Refused(k) => WindowsReply {
-            refusal: k,
-            windows,
-        },
-    }
-}
-
-pub fn branch_reply(out: BranchOut) -> BranchReply
-    ensures { result ≡ branch_reply out }
-{
-    let store = out.store;
-    let answer = out.answer;
-    match answer {
-        Branched::Begun(l) => BranchReply {
+    match out {
+        Ok(l) => BranchReply {
             refusal: 0,
             store,
             line: l.0,
         },
-        Branched::Refused(k) => BranchReply {
-            refusal: k,
+        Err(e) => BranchReply {
+            refusal: e.number(),
             store,
             line: 0,
         },
     }
 }
 
-pub fn read_reply(out: Filled) -> u64
-    ensures { result ≡ read_reply out }
+pub fn size_reply(out: Result<u64, Refusal>) -> SizeReply
+    ensures { result ≡ size_reply (numbered out) }
 {
     match out {
-        Filled::Done => 0,
-        Filled::Refused(k) => k,
-    }
-}
-
-pub fn size_reply(out: Sized) -> SizeReply
-    ensures { result ≡ size_reply out }
-{
-    match out {
-        Sized::Bytes(bytes) => SizeReply { refusal: 0, bytes },
-        Sized::Refused(k) => SizeReply {
-            refusal: k,
+        Ok(bytes) => SizeReply { refusal: 0, bytes },
+        Err(e) => SizeReply {
+            refusal: e.number(),
             bytes: 0,
         },
     }
 }
 
-pub fn recent_reply(out: Latest) -> VersionReply
-    ensures { result ≡ recent_reply out }
+// What RECENT and STAMP reply.
+pub fn version_reply(out: Result<Version, Refusal>) -> VersionReply
+    ensures { result ≡ version_reply (numbered out) }
 {
     match out {
-        Latest::Is(v) => VersionReply {
+        Ok(v) => VersionReply {
             refusal: 0,
             version: v.0,
         },
-        Latest::Refused(k) => VersionReply {
-            refusal: k,
+        Err(e) => VersionReply {
+            refusal: e.number(),
             version: 0,
         },
     }
 }
 
-pub fn stamp_reply(out: Stamped) -> VersionReply
-    ensures { result ≡ stamp_reply out }
+pub fn view_reply(size: u64, out: Result<u64, Refusal>) -> ViewReply
+    ensures { result ≡ view_reply size (numbered out) }
 {
     match out {
-        Stamped::Is(v) => VersionReply {
-            refusal: 0,
-            version: v.0,
-        },
-        Stamped::Refused(k) => VersionReply {
-            refusal: k,
-            version: 0,
-        },
-    }
-}
-
-pub fn view_reply(size: u64, out: Viewed) -> ViewReply
-    ensures { result ≡ view_reply size out }
-{
-    match out {
-        Viewed::At(begin) => ViewReply {
+        Ok(begin) => ViewReply {
             refusal: 0,
             begin,
             length: size,
         },
-        Viewed::Refused(k) => ViewReply {
-            refusal: k,
+        Err(e) => ViewReply {
+            refusal: e.number(),
             begin: 0,
             length: 0,
         },

@@ -1,164 +1,102 @@
 // STAMP: the version of a line since which a page has had the bytes that it has in a version.
 #![tactic(auto)]
 
-ghost use Rattle.std.specs.Prelude.{◌≡◌, []};
-ghost use Rattle.stamp.specs.Stamp.{page_refusal, version_found, found_by, leaf_as_of, same_below, since, stamped, stamp_out};
-ghost use Rattle.versions.specs.Store.{areas_of};
+ghost use Rattle.std.specs.Prelude.{◌≡◌, ◌-◌};
+ghost use Rattle.lines.specs.Lines.{version_of};
+ghost use Rattle.table.specs.Refused.{numbered};
+ghost use Rattle.stamp.specs.Stamp.{page_found, leaf_out, leaf_as_of, same_below, since, stamp_out};
+ghost use Rattle.versions.specs.Store.{lent};
 
 use lines::{Line, version_of};
 use pages::same_page;
-use register::{Part, Record, version_part};
-use tree::{Found, PageIndex, Version};
-use versions::{Store, lengths_of, number_on, pages_by, snapshot_refusal};
-use walk::{find_page, is_lost, number_found};
+use register::{Areas, version_part};
+use table::Refusal;
+use tree::{Leaf, PageIndex, Version};
+use versions::{Store, lengths_in, number_on, open_version, pages_by};
+use walk::find_page;
 
-// What STAMP answers.
-#[derive(Clone, Copy)]
-pub enum Stamped {
-    Is(Version),
-    Refused(u64),
-}
-
-// The refusal of STAMP and of VIEW in a page area of so many pages, by the number k of the rows up to 16, with the part q of version v, numbered c, and where the walk
-// ends.
-pub fn page_refusal(
-    k: u64,
-    pages: u64,
-    q: Part,
+// The leaf of a page of version v, numbered c; refused where the version's record is not there, the version has no such page, or the walk is lost.
+#[tactic(auto, using(crate::proofs::Pages::pages))]
+fn page_found(
+    s: &Store,
+    areas: &Areas,
     c: u64,
     v: Version,
     page: PageIndex,
-    x: Found,
-) -> u64
-    ensures { result ≡ page_refusal k pages q c v.0 page.0 x }
+) -> Result<Leaf, Refusal>
+    ensures { numbered result ≡ page_found s.now (lent areas.now) c v.0 page.0 }
 {
-    if k != 0 {
-        return k;
-    }
+    let q = version_part(areas.register, c);
     if q.name != c {
-        return 19;
+        return Err(Refusal::Damaged);
     }
     if pages_by(v, q) <= page.0 {
-        return 17;
+        return Err(Refusal::OutsideSnapshot);
     }
-    if is_lost(pages, x) {
-        return 19;
-    }
-    0
-}
-
-// The version of the leaf that a walk ends at.
-fn version_found(x: Found) -> Version
-    ensures { result.0 ≡ version_found x }
-{
-    match x {
-        Found::Lost => Version(0),
-        Found::Leaf(c, _) => version_of(c),
+    match find_page(areas, c, page) {
+        Some(leaf) if leaf.page < s.pages => Ok(leaf),
+        _ => Err(Refusal::Damaged),
     }
 }
 
-// Where a walk ends, if the table's number k is 0; else lost.
-fn found_by(k: u64, x: Found) -> Found
-    ensures { result ≡ found_by k x }
-{
-    if k == 0 { x } else { Found::Lost }
-}
-
-// The leaf of a page as of version v of a line, as VIEW finds it.
-fn leaf_as_of(
-    s: Store,
-    nodes: &[u32],
-    register: &[Record],
+// The leaf of a page of version v of a line, with which STAMP and VIEW begin: line, version and page are these calls' own, each of a type of its own.
+#[tactic(auto, using(crate::proofs::Pages::leaves))]
+pub fn leaf_of(
+    s: &Store,
+    areas: &Areas,
     l: Line,
     v: Version,
     page: PageIndex,
-) -> Found
-    ensures { result ≡ leaf_as_of s (areas_of [] nodes.now register.now) l.0 v.0 page.0 }
+) -> Result<Leaf, Refusal>
+    ensures { numbered result ≡ leaf_out s.now (lent areas.now) l.0 v.0 page.0 }
 {
-    let c = number_on(s, l, v);
-    let q = version_part(register, c);
-    let x = find_page(&nodes, &register, c, page);
-    found_by(page_refusal(0, s.pages, q, c, v, page, x), x)
+    let c = open_version(s, lengths_in(areas), l, v)?;
+    page_found(s, areas, c, v, page)
 }
 
-// A leaf whose version is below w and whose page, of so many bytes, has the bytes of page n; else lost.
-fn same_below(pages: &[u8], size: u64, w: Version, n: u64, x: Found) -> Found
-    ensures { result ≡ same_below pages.now size w.0 n x }
+// The leaf of a page as of a version of a line; none where the version has no such page.
+#[tactic(auto, using(crate::proofs::Pages::as_of))]
+fn leaf_as_of(s: &Store, areas: &Areas, l: Line, v: Version, page: PageIndex) -> Option<Leaf>
+    ensures { result ≡ leaf_as_of s.now (lent areas.now) l.0 v.0 page.0 }
 {
-    match x {
-        Found::Lost => Found::Lost,
-        Found::Leaf(c, m) => {
-            let lower = version_of(c);
-            if lower.0 >= w.0 {
-                return Found::Lost;
-            }
-            if !same_page(pages, size, m, n) {
-                return Found::Lost;
-            }
-            x
-        }
-    }
+    page_found(s, areas, number_on(s, l, v), v, page).ok()
 }
 
-// The version since which a page has had the bytes of page `number` of the page area, which version `from` has there: down the versions that cover it, while the page as of the
-// version before has the same bytes.
-fn since(
-    s: Store,
-    pages: &[u8],
-    nodes: &[u32],
-    register: &[Record],
-    l: Line,
-    page: PageIndex,
-    from: Version,
-    number: u64,
-) -> Version
-    ensures { let a = areas_of pages.now nodes.now register.now in
-        result.0 ≡ since s a l.0 page.0 from.0 number }
+// The leaf of the page as of the version before a leaf's, where it is of a lower version and has the same bytes. Below version 0 there is none.
+fn same_below(s: &Store, areas: &Areas, l: Line, page: PageIndex, leaf: Leaf) -> Option<Leaf>
+    ensures { let a = lent areas.now in let w = version_of leaf.version in
+        result ≡ same_below a.pages s.now.size w leaf.page (leaf_as_of s.now a l.0 (w - 1) page.0) }
 {
-    let mut w = from.0;
-    let mut n = number;
-    while w > 0 {
-        let x = leaf_as_of(s, nodes, register, l, Version(w - 1), page);
-        let y = same_below(pages, s.size, Version(w), n, x);
-        if is_lost(s.pages, y) {
-            return Version(w);
-        }
-        let lower = version_found(y);
-        w = lower.0;
-        n = number_found(s.pages, y);
+    let w = version_of(leaf.version);
+    let before = Version(w.0.saturating_sub(1));
+    leaf_as_of(s, areas, l, before, page).filter(|lower| {
+        version_of(lower.version) < w && same_page(areas.pages, s.size, lower.page, leaf.page)
+    })
+}
+
+// The version since which the page has had the bytes of a leaf: down the versions that cover it, while the page as of the version before has the same bytes.
+#[tactic(auto, using(crate::proofs::SinceLaws::steps))]
+fn since(s: &Store, areas: &Areas, l: Line, page: PageIndex, leaf: Leaf) -> Version
+    ensures { result.0 ≡ since s.now (lent areas.now) l.0 page.0 (version_of leaf.version) leaf.page }
+{
+    let mut first = leaf;
+    while let Some(lower) = same_below(s, areas, l, page, first) {
+        first = lower;
     }
-    Version(w)
+    version_of(first.version)
 }
 
 // STAMP line, v, page: the lowest version of the line from which on the page has the same bytes up to version v.
+#[tactic(auto, using(crate::proofs::Pages::stamp_of_leaf))]
 pub fn stamp(
-    s: Store,
-    pages: &[u8],
-    nodes: &[u32],
-    register: &[Record],
+    s: &Store,
+    areas: &Areas,
     l: Line,
     v: Version,
     page: PageIndex,
-) -> Stamped
-    ensures { let a = areas_of pages.now nodes.now register.now in
-        result ≡ stamp_out s a l.0 v.0 page.0 }
+) -> Result<Version, Refusal>
+    ensures { numbered result ≡ stamp_out s.now (lent areas.now) l.0 v.0 page.0 }
 {
-    let g = lengths_of(pages, nodes, register);
-    let c = number_on(s, l, v);
-    let q = version_part(register, c);
-    let x = find_page(&nodes, &register, c, page);
-    let k = page_refusal(snapshot_refusal(s, g, l, v), s.pages, q, c, v, page, x);
-    if k != 0 {
-        return Stamped::Refused(k);
-    }
-    Stamped::Is(since(
-        s,
-        pages,
-        nodes,
-        register,
-        l,
-        page,
-        version_found(x),
-        number_found(s.pages, x),
-    ))
+    let leaf = leaf_of(s, areas, l, v, page)?;
+    Ok(since(s, areas, l, page, leaf))
 }

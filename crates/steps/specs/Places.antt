@@ -1,23 +1,18 @@
--- Where the program stands between two lines of its input.
-use Rattle.std.specs.Prelude.{ℕ, Bool, not, List, ◌++◌, length, take, drop, replicate}
+-- What a line of the input answers and leaves, on the program's arrays.
+use Rattle.std.specs.Prelude.{ℕ, List, ◌++◌, take, drop, replicate, Option}
 use Rattle.text.specs.Buffer.{front}
 use Rattle.parse.specs.Cut.{cut_meant}
 use Rattle.parse.specs.declared.Cutter.{Cutter}
-use Rattle.versions.specs.Store.{Areas, areas_of}
+use Rattle.versions.specs.Store.{Areas, areas_of, lengths_of}
 use Rattle.versions.specs.declared.Lengths.{Lengths}
-use Rattle.answers.specs.declared.Kept.{Kept}
+use Rattle.versions.specs.declared.Store.{Store}
 use Rattle.answers.specs.Answers.{Said}
 use Rattle.wanted.specs.declared.Wanted.{Wanted}
 use Rattle.wanted.specs.Wanted.{wanted_by, lent_lengths}
 use Rattle.wanted.specs.Steps.{step_said, step_areas}
-use Rattle.steps.specs.declared.Place.{Place}
-
--- At the start of a line. Where the answer before it could not be written the program is to end.
-unfoldable pub next_place : Kept → Bool → Place
-next_place k written = record { kept = k; ended = not written }
 
 -- What the line of text in the cutter asks for.
-unfoldable pub line_wanted : Cutter → List ℕ → Wanted
+abbrev pub line_wanted : Cutter → List ℕ → Option Wanted
 line_wanted c text = wanted_by (cut_meant c text).step
 
 -- Its page bytes, at the front of a buffer of zeros.
@@ -25,11 +20,11 @@ unfoldable pub line_bytes : Cutter → List ℕ → List ℕ
 line_bytes c text = front (cut_meant c text).bytes (replicate 600 0)
 
 -- The areas of these lengths: the arrays' first parts.
-unfoldable pub lent : Lengths → Areas → Areas
+abbrev pub lent : Lengths → Areas → Areas
 lent l a = areas_of (take l.pages a.pages) (take l.nodes a.nodes) (take l.register a.register)
 
 -- The arrays with these areas as their first parts.
-unfoldable pub returned : Lengths → Areas → Areas → Areas
+abbrev pub returned : Lengths → Areas → Areas → Areas
 returned l z a =
     areas_of
     (z.pages ++ drop l.pages a.pages)
@@ -37,17 +32,17 @@ returned l z a =
     (z.register ++ drop l.register a.register)
 
 -- The lengths of the areas that a step is lent of these arrays.
-unfoldable pub lent_of : Kept → Wanted → Areas → Lengths
-lent_of k w a = lent_lengths k w (length a.pages) (length a.nodes) (length a.register)
+abbrev pub lent_of : Option Store → Option Wanted → Areas → Lengths
+lent_of k w a = lent_lengths k w (lengths_of a)
 
 -- What the line leaves of what is kept, and its answer.
-unfoldable pub line_said : Kept → Cutter → List ℕ → Areas → Said
+unfoldable pub line_said : Option Store → Cutter → List ℕ → Areas → Said
 line_said k c text a =
     let w = line_wanted c text in
     step_said k w (lent (lent_of k w a) a) (line_bytes c text)
 
 -- The arrays after it.
-unfoldable pub line_areas : Kept → Cutter → List ℕ → Areas → Areas
+unfoldable pub line_areas : Option Store → Cutter → List ℕ → Areas → Areas
 line_areas k c text a =
     let w = line_wanted c text in
     let l = lent_of k w a in

@@ -2,202 +2,126 @@
 // what is read, and `respond` answers them.
 #![tactic(auto)]
 
-ghost use Rattle.std.specs.Prelude.{◌≡◌, ◌≤◌, length, true, not};
+ghost use Rattle.std.specs.Prelude.{◌≡◌, ◌≤◌, length};
 ghost use Rattle.versions.specs.Store.{areas_of};
-ghost use Rattle.wanted.specs.Wanted.{nothing_kept};
-ghost use Rattle.steps.specs.Inputs.{no_input, line_start, block_read, line_taken};
-ghost use Rattle.steps.specs.Places.{next_place, line_said, line_areas};
+ghost use Rattle.answers.specs.Answers.{written};
+ghost use Rattle.steps.specs.Inputs.{line_taken, last_line, within, anew};
+ghost use Rattle.steps.specs.Places.{line_said, line_areas};
 
-use answers::{Kept, Turn};
-use parse::{Cutter, Fed};
+use answers::AnswerLine;
+use parse::Cutter;
 use register::Record;
-use std::io::{Read, Stdin, Stdout};
+use std::io::{Read, Stdin};
+use versions::{Store, lengths_of};
 
-// Where the program stands between two lines: what is kept, and whether it is to end, since an answer could not be written.
+// What is read of the input and not yet taken: the bytes of the block from index `at` up to `end`. The block is lent: fixed memory.
 #[derive(Clone, Copy)]
-struct Place {
-    kept: Kept,
-    ended: bool,
-}
-
-// What is read of the input: the line so far, where the bytes of the block that are not yet taken begin and end, whether the line is to be answered, and
-// whether the input has ended.
-#[derive(Clone, Copy)]
-struct Input {
-    cutter: Cutter,
+struct Unread {
     at: usize,
     end: usize,
-    due: bool,
-    closed: bool,
 }
 
-// The input before anything is read.
-fn no_input() -> Input
-    ensures { result ≡ no_input }
-{
-    Input {
-        cutter: parse::fresh_cutter(),
-        at: 0,
-        end: 0,
-        due: false,
-        closed: false,
-    }
-}
-
-// The input at the start of the next line.
-fn line_start(from: Input) -> Input
-    ensures { result ≡ line_start from }
-{
-    Input {
-        cutter: parse::fresh_cutter(),
-        at: from.at,
-        end: from.end,
-        due: false,
-        closed: from.closed,
-    }
-}
-
-// Reads what is there of standard input, at most a block, and waits where nothing is; 0 at its end, or where it cannot be read.
-fn read_block(stdin: Stdin, block: &mut [u8]) -> usize
-    ensures { result ≤ length block.old }
+// Reads what is there of standard input, at most a block, and waits where nothing is; none at its end, or where it cannot be read.
+fn read_on(stdin: Stdin, block: &mut [u8]) -> Option<Unread>
+    ensures within { within result (length block.old) }
+    ensures anew { anew result }
 {
     let mut reader = stdin;
     match reader.read(block) {
-        Ok(n) => n,
-        Err(_) => 0,
+        Ok(0) => None,
+        Ok(n) => Some(Unread { at: 0, end: n }),
+        Err(_) => None,
     }
 }
 
-// Reads the next block. At the end of the input a last line without its line feed is to be answered.
-fn read_on(from: Input, stdin: Stdin, block: &mut [u8]) -> Input
-    ensures { (result ≡ block_read from result.end) × (result.end ≤ length block.old) }
+// Takes the bytes that were read, to the end of a line or of the block, and says whether the line ended.
+fn take_line(unread: &mut Unread, cutter: &mut Cutter, block: &[u8], text: &mut [u8]) -> bool
+    requires { unread.old.end ≤ length block.now }
+    ensures { let z = line_taken unread.old cutter.old block.now text.old in
+        (result ≡ z.ended)
+        × (cutter.new ≡ z.cutter)
+        × (text.new ≡ z.text)
+        × (unread.new.at ≡ z.at)
+        × (unread.new.end ≡ unread.old.end) }
 {
-    let cutter = from.cutter;
-    let n = read_block(stdin, block);
-    if n == 0 {
-        return Input {
-            cutter,
-            at: 0,
-            end: 0,
-            due: parse::unended(cutter),
-            closed: true,
-        };
-    }
-    Input {
-        cutter,
-        at: 0,
-        end: n,
-        due: false,
-        closed: false,
-    }
-}
-
-// Takes the bytes that were read, to the end of a line or of the block.
-fn take_line(from: Input, block: &[u8], text: &mut [u8]) -> Input
-    requires { from.end ≤ length block.now }
-    ensures { let z = line_taken from block.now text.old in (result ≡ z.input) × (text.new ≡ z.text) × (result.end ≡ from.end) }
-{
-    let mut input = from;
-    while input.at < input.end {
-        let cutter = input.cutter;
-        let at = input.at;
-        let fed = parse::feed(cutter, text, block[at]);
-        input.at = at + 1;
-        match fed {
-            Fed::More(c) => input.cutter = c,
-            Fed::Ended(c) => {
-                input.cutter = c;
-                input.due = true;
-                return input;
-            }
+    for at in unread.at..unread.end {
+        unread.at = at + 1;
+        if cutter.feed(text, block[at]) {
+            return true;
         }
     }
-    input
+    false
 }
 
-// Takes the next line of the input, which may have to be read first; none is due where the input has ended. A proved loop has to end, and nothing says that
-// the input does, so the turns count down from a number that no run uses up.
-fn next_line(from: Input, stdin: Stdin, block: &mut [u8], text: &mut [u8]) -> Input
-    requires { from.end ≤ length block.old }
-    ensures { result.end ≤ length block.old }
+// What the cutter holds at the end of the input: a last line without its line feed is to be answered.
+#[tactic(auto, unfolding(crate::specs::Inputs::last_line))]
+fn last_line(cutter: Cutter) -> Option<Cutter>
+    ensures { result ≡ last_line cutter }
 {
-    let mut input = take_line(line_start(from), block, text);
-    let mut turns = u64::MAX;
-    while turns > 0 && !input.due && !input.closed {
-        input = take_line(read_on(input, stdin, block), block, text);
-        turns -= 1;
+    if cutter.unended() { Some(cutter) } else { None }
+}
+
+// Takes the next line of the input, which may have to be read first; none where the input has ended, after which nothing more is read. A proved loop has to
+// end, and nothing says that the input does, so the turns count up to a number that no run reaches.
+fn next_line(
+    unread: &mut Option<Unread>,
+    stdin: Stdin,
+    block: &mut [u8],
+    text: &mut [u8],
+) -> Option<Cutter>
+    requires { within unread.old (length block.old) }
+    ensures { within unread.new (length block.old) }
+{
+    let mut cutter = Cutter::fresh();
+    for _turn in 0..u64::MAX {
+        let Some(left) = unread else {
+            return None;
+        };
+        if take_line(left, &mut cutter, block, text) {
+            return Some(cutter);
+        }
+        *unread = read_on(stdin, block);
+        if unread.is_none() {
+            return last_line(cutter);
+        }
     }
-    input
+    None
 }
 
-// Writes the first n bytes to standard output; false where it cannot.
-fn write_out(stdout: Stdout, out: &[u8], n: usize) -> bool {
-    if n > out.len() {
-        return false;
-    }
-    stdout.write_all(&out[..n]).is_ok()
-}
-
-// The place at the start of a line.
-fn next_place(kept: Kept, written: bool) -> Place
-    ensures { result ≡ next_place kept written }
-{
-    Place {
-        kept,
-        ended: !written,
-    }
-}
-
-// The place where the program begins, with no store.
-fn first_place() -> Place
-    ensures { result ≡ next_place nothing_kept true }
-{
-    let kept = wanted::nothing_kept();
-    next_place(kept, true)
-}
-
-// The place after a turn, whose answer it writes out.
-fn place_after(stdout: Stdout, t: Turn) -> Place
-    ensures { result ≡ next_place t.kept (not result.ended) }
-{
-    let line = t.line;
-    let written = write_out(stdout, &line, t.len);
-    next_place(t.kept, written)
-}
-
-// Answers the line that the cutter holds, and writes the answer out. The store's areas are the first parts of the arrays lent. A line's page bytes are fewer
-// than its own, of which there are at most 600.
+// Answers the line that the cutter holds. The store's areas are the first parts of the arrays lent. A line's page bytes are fewer than its own, of which
+// there are at most 600.
+#[tactic(auto, unfolding(crate::specs::Places::line_said, crate::specs::Places::line_areas, crate::specs::Places::line_bytes))]
 fn answer(
-    kept: Kept,
+    kept: &mut Option<Store>,
     c: Cutter,
     text: &[u8],
     pages: &mut [u8],
     nodes: &mut [u32],
     register: &mut [Record],
-    stdout: Stdout,
-) -> Place
+) -> AnswerLine
     ensures { let a = areas_of pages.old nodes.old register.old in
         let x = text.now in
-        (result ≡ next_place (line_said kept c x a).kept (not result.ended))
-        × (pages.new ≡ (line_areas kept c x a).pages)
-        × (nodes.new ≡ (line_areas kept c x a).nodes)
-        × (register.new ≡ (line_areas kept c x a).register) }
+        (kept.new ≡ (line_said kept.old c x a).kept)
+        × (result ≡ written (line_said kept.old c x a).line)
+        × (pages.new ≡ (line_areas kept.old c x a).pages)
+        × (nodes.new ≡ (line_areas kept.old c x a).nodes)
+        × (register.new ≡ (line_areas kept.old c x a).register) }
 {
     let mut bytes = [0u8; 600];
     let wanted = wanted::wanted_cut(c, text, &mut bytes);
-    let l = wanted::lent_lengths(kept, wanted, pages.len(), nodes.len(), register.len());
-    let t = respond::respond(
+    let l = wanted::lent_lengths(*kept, wanted, lengths_of(pages, nodes, register));
+    respond::respond(
         kept,
         wanted,
         &mut pages[..l.pages],
         &mut nodes[..l.nodes],
         &mut register[..l.register],
         &bytes,
-    );
-    place_after(stdout, t)
+    )
 }
 
-// A proved loop has to end: the turns count down as in `next_line`.
+// The turns count up as in `next_line`. An answer that cannot be written ends the program.
+#[tactic(auto, using(answers::proofs::Written::written_fits))]
 fn main(rt: HostRuntime) {
     let stdin = rt.stdin();
     let stdout = rt.stdout();
@@ -207,26 +131,22 @@ fn main(rt: HostRuntime) {
     let mut nodes = [0u32; 4096];
     let empty = register::no_record();
     let mut register = [empty; 256];
-    let mut place = first_place();
-    let mut input = no_input();
-    let mut turns = u64::MAX;
-    while turns > 0 {
-        input = next_line(input, stdin, &mut block, &mut text);
-        if !input.due {
+    let mut kept = None;
+    let mut unread = Some(Unread { at: 0, end: 0 });
+    for _turn in 0..u64::MAX {
+        let Some(cutter) = next_line(&mut unread, stdin, &mut block, &mut text) else {
             return;
-        }
-        place = answer(
-            place.kept,
-            input.cutter,
+        };
+        let line = answer(
+            &mut kept,
+            cutter,
             &text,
             &mut pages,
             &mut nodes,
             &mut register,
-            stdout,
         );
-        if place.ended {
+        if stdout.write_all(&line.bytes[..line.len]).is_err() {
             return;
         }
-        turns = turns - 1;
     }
 }

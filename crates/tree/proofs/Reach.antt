@@ -1,10 +1,6 @@
 -- The walk down to a height: a walk to a leaf goes by it, and it reaches the newest version over the page at that height.
 -- Assumes nothing.
-use Rattle.std.proofs.Common.{◌≡◌, ℕ, zero, suc, ◌+◌, ◌^◌, ◌<◌, ◌≤◌, Bool, true, false, ltb, List, refl, ap, ◌∙◌, inl, inr, add-zero, suc-add, zero-add, arith, pow_mono, le-ltb, lt-ltb}
-use mathlib.Core.Option.{Option, none, some}
-use Rattle.tree.specs.declared.NodeAt.{NodeAt}
-use Rattle.tree.specs.declared.NodeAt.TheVariants.{Stored, Missing}
-use Rattle.tree.specs.declared.Found.{Found}
+use Rattle.std.proofs.Common.{◌≡◌, ℕ, zero, suc, ◌+◌, ◌^◌, ◌<◌, ◌≤◌, Bool, true, false, ltb, List, refl, ap, ◌∙◌, inl, inr, add-zero, suc-add, zero-add, arith, pow_mono, le-ltb, lt-ltb, Option, None, Some}
 use Rattle.tree.specs.Tree.{Update, newest, size_at, height_of}
 use Rattle.tree.specs.Place.{first}
 use Rattle.tree.specs.Walk.{Accepted, version_over, Numbers, Stands, visit, goes, turns, walk_by, reach_by, leaf_of}
@@ -12,17 +8,19 @@ use Rattle.tree.proofs.Meets.{lt-or-le}
 use Rattle.tree.proofs.First.{first-root, first-left, first-right, first-nest}
 use Rattle.tree.proofs.Newest.{newest-after, newest-le, newest-inside}
 use Rattle.tree.proofs.Walk.{size-in-root, newest-own}
+use Rattle.tree.specs.declared.Stored.{Stored}
+use Rattle.tree.specs.declared.Leaf.{Leaf}
 
 -- ---- the walk to a leaf
 
 module _ (at : ℕ → ℕ → ℕ → Option ℕ) (area : List ℕ) where
   -- Into the same half, and on the same way.
-  turned : (p : ℕ) (x : NodeAt) (b : Bool) (k : ℕ → Found) (m : ℕ → Option ℕ) → ((d : ℕ) → k d ≡ leaf_of at area p (m d)) → goes x b k ≡ leaf_of at area p (turns x b m)
-  turned p Missing b k m e = refl
-  turned p (Stored l r) true k m e = e l
-  turned p (Stored l r) false k m e = e r
+  turned : (p : ℕ) (x : Option Stored) (b : Bool) (k : ℕ → Option Leaf) (m : ℕ → Option ℕ) → ((d : ℕ) → k d ≡ leaf_of at area p (m d)) → goes x b k ≡ leaf_of at area p (turns x b m)
+  turned p None b k m e = refl
+  turned p (Some x) true k m e = e x.left
+  turned p (Some x) false k m e = e x.right
 
-  pub walk-reach : (h c p : ℕ) → ((q i : ℕ) → at 0 q i ≡ none) → walk_by at area h c p ≡ leaf_of at area p (reach_by at area 0 h c p)
+  pub walk-reach : (h c p : ℕ) → ((q i : ℕ) → at 0 q i ≡ None) → walk_by at area h c p ≡ leaf_of at area p (reach_by at area 0 h c p)
   unfolding walk_by reach_by
   walk-reach zero c p none-at = refl
   walk-reach (suc h) zero p none-at = rw (none-at p (suc h), none-at p 0)
@@ -32,7 +30,7 @@ module _ (at : ℕ → ℕ → ℕ → Option ℕ) (area : List ℕ) where
       (λ d. walk-reach h d p none-at))
 
   -- At the height itself, the step from a number that is not 0, and from 0.
-  reach_here : (j c p : ℕ) → reach_by at area j 0 c p ≡ some c
+  reach_here : (j c p : ℕ) → reach_by at area j 0 c p ≡ Some c
   unfolding reach_by
   reach_here j c p = refl
 
@@ -43,7 +41,7 @@ module _ (at : ℕ → ℕ → ℕ → Option ℕ) (area : List ℕ) where
   reach-inner j n zero p o = absurd (omega arith)
   reach-inner j n (suc c) p o = refl
 
-  reach-none : (j n p : ℕ) → reach_by at area j n 0 p ≡ some 0
+  reach-none : (j n p : ℕ) → reach_by at area j n 0 p ≡ Some 0
   unfolding reach_by
   reach-none j zero p = refl
   reach-none j (suc n) p = refl
@@ -82,7 +80,7 @@ module _ (us : List Update) (k : ℕ) (accepted : (v : ℕ) → v < k → Accept
       (j p : ℕ) (r : p < 2 ^ height_of us k) where
     -- Down from the node n levels above, which is numbered by the newest version over it.
     reach-from : (n : ℕ) → n + j ≤ height_of us k
-        → reach_by at area j n (N.code (version_over us k p (n + j))) p ≡ some (N.code (version_over us k p j))
+        → reach_by at area j n (N.code (version_over us k p (n + j))) p ≡ Some (N.code (version_over us k p j))
     reach-from zero q = rw (zero-add j) (reach_here at area j (N.code (version_over us k p j)) p)
     reach-from (suc n) q = rw (suc-add n j) (elim (lt-or-le 0 (version_over us k p (suc (n + j)))) [
       | inl o ↦
@@ -106,7 +104,7 @@ module _ (us : List Update) (k : ℕ) (accepted : (v : ℕ) → v < k → Accept
           rw (z, y, none-called) (reach-none at area j (suc n) p)
     ])
 
-    pub reach-newest : (n : ℕ) → j + n ≡ height_of us k → reach_by at area j n (N.code k) p ≡ some (N.code (newest us k (first p j) (2 ^ j)))
+    pub reach-newest : (n : ℕ) → j + n ≡ height_of us k → reach_by at area j n (N.code k) p ≡ Some (N.code (newest us k (first p j) (2 ^ j)))
     reach-newest n e =
         let d : n + j ≡ height_of us k = omega arith in
         rw (d, root-newest p r) at (reach-from n (omega arith))

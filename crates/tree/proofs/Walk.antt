@@ -1,13 +1,11 @@
 -- The walk from version k's root ends at the page number that updates 1 .. k, applied in turn, leave at the page.
 -- Assumes nothing.
-use Rattle.std.proofs.Common.{◌≡◌, ℕ, zero, suc, ◌+◌, ◌^◌, ◌<◌, ◌≤◌, true, false, ◌&&◌, ltb, leb, ◌⊎◌, List, length, sym, refl, ap, ◌∙◌, inl, inr, eq-or-lt_of_le, arith, ltb-true, le-ltb, lt-ltb, le-leb, leb-true}
+use Rattle.std.proofs.Common.{◌≡◌, ℕ, zero, suc, ◌+◌, ◌^◌, ◌<◌, ◌≤◌, true, false, ◌&&◌, ltb, leb, ◌⊎◌, List, length, sym, refl, ap, ◌∙◌, inl, inr, eq-or-lt_of_le, arith, ltb-true, le-ltb, lt-ltb, le-leb, leb-true, Option, Some}
 use mathlib.Core.Bool.{and-eq-true_iff}
-use mathlib.Core.Option.{Option, some}
 use borrow.Author.Tests.{lt-leb}
-use Rattle.tree.specs.declared.Found.TheVariants.{Leaf}
 use Rattle.tree.specs.Tree.{Update, node, meets, weaving, update, newest, size_at, root_height, height_of}
 use Rattle.tree.specs.Place.{first, index}
-use Rattle.tree.specs.Walk.{Accepted, version_over, Numbers, place_by, WovenBy, has_node, Stands, walk_by, covers, in_turn_by, leaf_version, place_of_version}
+use Rattle.tree.specs.Walk.{Accepted, version_over, Numbers, place_by, WovenBy, has_node, Stands, walk_by, covers, in_turn_by, leaf_version, place_of_version, leaf_at}
 use Rattle.tree.proofs.Meets.{lt-or-le, within, before, after, meets-within}
 use Rattle.tree.proofs.At.{At, at-get_or, at_lt}
 use Rattle.tree.proofs.First.{first-le, lt-first, first-root, first-left, first-right, first_leaf, first-span, lt-root}
@@ -135,7 +133,7 @@ module _ (us : List Update) (k : ℕ) (accepted : (v : ℕ) → v < k → Accept
     -- Where versions 1 .. k are woven whole, and `at` places each version's nodes by the weaving order, every node that
     -- version k's root leads to stands.
     module _ (woven : (v : ℕ) → 0 < v → v ≤ k → WovenBy us N area v)
-        (places : (v p h : ℕ) → 0 < v → v ≤ k → has_node (update us v) p h ≡ true → at (N.code v) p h ≡ some (place_by us N v p h))
+        (places : (v p h : ℕ) → 0 < v → v ≤ k → has_node (update us v) p h ≡ true → at (N.code v) p h ≡ Some (place_by us N v p h))
         (p h : ℕ) (o : 0 < version_over us k p h) (q : h ≤ height_of us k) (r : p < 2 ^ height_of us k) where
       pub stands-woven : Stands us N at area k p h
       unfolding place_by
@@ -158,7 +156,7 @@ module _ (us : List Update) (k : ℕ) (accepted : (v : ℕ) → v < k → Accept
           omega (arith, newest-le us (version_over us k p h) p 1)
 
       walk_from : (h : ℕ) → h ≤ height_of us k
-          → walk_by at area h (N.code (version_over us k p h)) p ≡ Leaf (N.code (leaf_version us k p)) (N.leaf (leaf_version us k p) p)
+          → walk_by at area h (N.code (version_over us k p h)) p ≡ leaf_at (N.code (leaf_version us k p)) (N.leaf (leaf_version us k p) p)
       unfolding walk_by
       walk_from zero r = rw (stands p 0 (there 0) r in-k, first_leaf p)
       walk_from (suc h) r =
@@ -174,18 +172,18 @@ module _ (us : List Update) (k : ℕ) (accepted : (v : ℕ) → v < k → Accept
           ]
 
       -- The walk from version k's root ends at the leaf of the newest version that covers the page.
-      pub walk-in-turn-by : walk_by at area (height_of us k) (N.code k) p ≡ Leaf (N.code (leaf_version us k p)) (N.leaf (leaf_version us k p) p)
+      pub walk-in-turn-by : walk_by at area (height_of us k) (N.code k) p ≡ leaf_at (N.code (leaf_version us k p)) (N.leaf (leaf_version us k p) p)
       walk-in-turn-by = rw (first-root p (height_of us k) in-k, newest-own k o (omega arith)) at (walk_from (height_of us k) (omega arith))
 
       -- The page number there is the one that updates 1 .. k, applied in turn, leave.
-      pub walk-number : walk_by at area (height_of us k) (N.code k) p ≡ Leaf (N.code (leaf_version us k p)) (in_turn_by us N.leaf k p)
+      pub walk-number : walk_by at area (height_of us k) (N.code k) p ≡ leaf_at (N.code (leaf_version us k p)) (in_turn_by us N.leaf k p)
       walk-number = rw (set-by-newest us N.leaf k p (covered k p (omega arith) q)) walk-in-turn-by
 
 -- ---- one run of versions
 
 -- The place of a node that a version of the run has.
 pub place-has : (us : List Update) (base : ℕ → ℕ) (v p h : ℕ) → 0 < v → v ≤ length us → has_node (update us v) p h ≡ true
-    → place_of_version us base v p h ≡ some (base v + index (update us v).f (update us v).last 0 (height_of us v) p h)
+    → place_of_version us base v p h ≡ Some (base v + index (update us v).f (update us v).last 0 (height_of us v) p h)
 unfolding place_of_version
 place-has us base v p h a b c = rw (lt-ltb 0 v a, le-leb v (length us) b, c)
 
@@ -195,11 +193,11 @@ alone leaf base = record { code = λ v. v; leaf = leaf; second = λ v p. 0; plac
 
 module _ (us : List Update) (k : ℕ) (accepted : (v : ℕ) → v < k → Accepted us v) (fits : k ≤ length us) (leaf : ℕ → ℕ → ℕ) (base : ℕ → ℕ) (area : List ℕ)
     (woven : (v : ℕ) → 0 < v → v ≤ k → WovenBy us (alone leaf base) area v) where
-  places : (v p h : ℕ) → 0 < v → v ≤ k → has_node (update us v) p h ≡ true → place_of_version us base v p h ≡ some (place_by us (alone leaf base) v p h)
+  places : (v p h : ℕ) → 0 < v → v ≤ k → has_node (update us v) p h ≡ true → place_of_version us base v p h ≡ Some (place_by us (alone leaf base) v p h)
   unfolding place_by
   places v p h o le e = place-has us base v p h o (omega arith) e
 
   -- The walk from version k's root, in an area where versions 1 .. k are woven whole.
   pub walk-alone : (p : ℕ) → 0 < k → p < size_at us k
-      → walk_by (place_of_version us base) area (height_of us k) k p ≡ Leaf (leaf_version us k p) (in_turn_by us leaf k p)
+      → walk_by (place_of_version us base) area (height_of us k) k p ≡ leaf_at (leaf_version us k p) (in_turn_by us leaf k p)
   walk-alone = let N = alone leaf base in walk-number us k accepted N (place_of_version us base) area (stands-woven us k accepted N (place_of_version us base) area woven places)

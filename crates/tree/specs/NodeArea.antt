@@ -1,7 +1,6 @@
 -- The node area: place q is the two 32-bit numbers at 2q and 2q + 1; all ones in both mean that no node is stored there.
-use Rattle.std.specs.Prelude.{ℕ, ◌+◌, ◌*◌, Bool, true, false, ◌&&◌, List, length, ◌==◌, nat_lt, slice_index_or, slice_set}
-use Rattle.tree.specs.declared.NodeAt.{NodeAt}
-use Rattle.tree.specs.declared.NodeAt.TheVariants.{Stored, Missing}
+use Rattle.std.specs.Prelude.{ℕ, ◌+◌, ◌*◌, Bool, true, false, ◌&&◌, List, length, ◌==◌, nat_lt, slice_index_or, slice_set, Option, None, Some}
+use Rattle.tree.specs.declared.Stored.{Stored}
 
 -- A 32-bit number of all ones.
 abbrev pub all_ones : ℕ
@@ -11,17 +10,21 @@ all_ones = 4294967295
 abbrev pub has_place : ℕ → ℕ → Bool
 has_place len q = nat_lt (2 * q + 1) len
 
--- The two numbers, unless both are all ones.
-abbrev pub unless_ones : Bool → ℕ → ℕ → NodeAt
-unless_ones true l r = Missing
-unless_ones false l r = Stored l r
+-- A stored node, by its two numbers.
+abbrev pub stored : ℕ → ℕ → Option Stored
+stored l r = Some (record { left = l; right = r })
 
-abbrev pub within : Bool → NodeAt → NodeAt
+-- The two numbers, unless both are all ones.
+abbrev pub unless_ones : Bool → ℕ → ℕ → Option Stored
+unless_ones true l r = None
+unless_ones false l r = stored l r
+
+abbrev pub within : Bool → Option Stored → Option Stored
 within true x = x
-within false x = Missing
+within false x = None
 
 -- What stands at place q: a node's two numbers, or nothing, also past the area's end.
-unfoldable pub node_at : List ℕ → ℕ → NodeAt
+unfoldable pub node_at : List ℕ → ℕ → Option Stored
 node_at area q =
     let l = slice_index_or area (2 * q) 0 in
     let r = slice_index_or area (2 * q + 1) 0 in

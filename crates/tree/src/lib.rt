@@ -12,29 +12,29 @@ use spans::root_span;
 
 // A version, a page's index in the blob and a ticket are counters of different sorts, and each has a type of its own.
 #[repr(C)]
-#[derive(Clone, Copy)]
+#[derive(Clone, Copy, PartialEq, Eq, PartialOrd, Ord, Default)]
 pub struct Version(pub u64);
 
 #[repr(C)]
-#[derive(Clone, Copy)]
+#[derive(Clone, Copy, PartialEq, Eq, PartialOrd, Ord, Default)]
 pub struct PageIndex(pub u64);
 
 #[repr(C)]
-#[derive(Clone, Copy)]
+#[derive(Clone, Copy, PartialEq, Eq, PartialOrd, Ord, Default)]
 pub struct Ticket(pub u64);
 
-// What stands at a node place: a node's two numbers, or no node.
+// A stored node's two numbers: its children's versions, or a leaf's page number and 0.
 #[derive(Clone, Copy)]
-pub enum NodeAt {
-    Stored(u32, u32),
-    Missing,
+pub struct Stored {
+    pub left: u32,
+    pub right: u32,
 }
 
-// Where a walk ends: at a leaf, with the number of its version, line x 65,536 + version, and its page number, or at a node that is not there.
+// A leaf that a walk ends at: the number of its version, line x 65,536 + version, and its page number.
 #[derive(Clone, Copy)]
-pub enum Found {
-    Leaf(u64, u64),
-    Lost,
+pub struct Leaf {
+    pub version: u64,
+    pub page: u64,
 }
 
 // The name of a node: its first page and its span.
@@ -48,7 +48,7 @@ pub struct Named {
 const NO_NODE: u32 = 4294967295;
 
 // The most pages that an update has.
-const MOST_UPDATED: u64 = 64;
+pub const MOST_UPDATED: u64 = 64;
 
 // The most pages that a blob has, and the last page of such a blob.
 pub const MOST_PAGES: u64 = 4096;
@@ -60,7 +60,7 @@ pub fn height_of(span: u64) -> u64
     requires { 0 < span }
     ensures { (h : ℕ) → span ≡ 2 ^ h → result ≡ h }
 {
-    u64::trailing_zeros(span) as u64
+    span.trailing_zeros() as u64
 }
 
 // The root's span that a word holds, or that of the largest blob where it holds none. A power of two shares no bit with the number below it, and of the numbers above 0
@@ -68,7 +68,7 @@ pub fn height_of(span: u64) -> u64
 pub fn root_within(span: u64) -> u64
     ensures { result ≡ root_in span }
 {
-    let below = std::num::wrapping_sub_u64(span, 1);
+    let below = span.wrapping_sub(1);
     if below < MOST_PAGES && span & below == 0 {
         span
     } else {
@@ -89,7 +89,7 @@ pub fn halvings(x: u64) -> u64
     requires { x < 2 ^ 63 }
     ensures { (result ≡ halvings x) × (result + count_ones x ≡ 2 * x) }
 {
-    2 * x - u64::count_ones(x) as u64
+    2 * x - x.count_ones() as u64
 }
 
 // The number of nodes of an update of the pages f .. last, in a tree whose root has this height.
@@ -98,20 +98,6 @@ pub fn node_count(f: PageIndex, last: PageIndex, height: u64) -> u64
     ensures { Counted f.0 last.0 height result }
 {
     halvings(last.0) - halvings(f.0) + height + 1
-}
-
-// x - y, or 0 where that is below 0.
-pub fn saturating_sub(x: u64, y: u64) -> u64
-    ensures { result ≡ x - y }
-{
-    if x < y { 0 } else { x - y }
-}
-
-// The smaller of two numbers.
-pub fn smaller(a: u64, b: u64) -> u64
-    ensures { result ≡ min a b }
-{
-    if a < b { a } else { b }
 }
 
 // The worst node count of a write of n pages into a blob of exactly r pages that stays inside them, or 0 for an r or n that it is not asked for. Blobs of a power of two of
@@ -123,7 +109,7 @@ pub fn worst(r: u64, n: u64) -> u64
     if n == 0 {
         return 0;
     }
-    if n > smaller(MOST_UPDATED, half) {
+    if n > MOST_UPDATED.min(half) {
         return 0;
     }
     if root_span(r) != r {
@@ -162,7 +148,7 @@ fn numbered(root: u64, i: u64) -> Named
     }
     Named {
         first: PageIndex(a),
-        span: span,
+        span,
     }
 }
 
@@ -174,7 +160,7 @@ pub fn node_by_number(f: PageIndex, span: u64, past: u64, k: u64) -> Named
 {
     let height = height_of(span);
     if k > height {
-        return numbered(span, std::num::wrapping_add_u64(k, past));
+        return numbered(span, k.wrapping_add(past));
     }
     Named {
         first: first_over(f, height - k),
@@ -182,20 +168,20 @@ pub fn node_by_number(f: PageIndex, span: u64, past: u64, k: u64) -> Named
     }
 }
 
-// What stands at a node place: its two numbers, or no node where both are all ones or the place is past the area's end.
-pub fn node_at(nodes: &[u32], place: u64) -> NodeAt
+// The node stored at a place; none where both its numbers are all ones, or the place is past the area's end. C lends the area as a run of numbers, two a node.
+pub fn node_at(nodes: &[u32], place: u64) -> Option<Stored>
     ensures { result ≡ node_at nodes.now place }
 {
     let q = place as usize;
     if q >= nodes.len() / 2 {
-        return NodeAt::Missing;
+        return None;
     }
     let left = nodes[2 * q];
     let right = nodes[2 * q + 1];
     if left == NO_NODE && right == NO_NODE {
-        NodeAt::Missing
+        None
     } else {
-        NodeAt::Stored(left, right)
+        Some(Stored { left, right })
     }
 }
 
@@ -211,15 +197,8 @@ pub fn store_node(nodes: &mut [u32], place: u64, left: u32, right: u32)
     nodes[2 * q + 1] = right;
 }
 
-// For C: the span of the root for a size in pages, or 0.
-pub fn pit_root_span(size: u64) -> u64
-    ensures { result ≡ root_span size }
-{
-    root_span(size)
-}
-
-// For C: the node count of an update of n pages from f on that leaves the blob at a size in pages, or 0 where there is no such update.
-pub fn pit_node_count(f: u64, n: u64, size: u64) -> u64
+// The node count of an update of n pages from f on that leaves the blob at a size in pages, or 0 where there is no such update, as C has it.
+pub fn nodes_for(f: u64, n: u64, size: u64) -> u64
     ensures { result ≡ nodes_for f n size }
 {
     if n == 0 {
@@ -240,13 +219,6 @@ pub fn pit_node_count(f: u64, n: u64, size: u64) -> u64
     }
     let last = f + n - 1;
     node_count(PageIndex(f), PageIndex(last), root_height(size))
-}
-
-// For C: the worst node count of a write of n pages into a blob of exactly r pages that stays inside them, or 0 for an r or n that it is not asked for.
-pub fn pit_worst(r: u64, n: u64) -> u64
-    ensures { result ≡ worst_for r n }
-{
-    worst(r, n)
 }
 
 // The twelve proved cases of the tree rule, as a promise: a function is what the prover's verdict counts, so that a theorem that is gone is seen.

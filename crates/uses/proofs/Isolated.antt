@@ -1,7 +1,7 @@
 -- What the isolation of lines gives of two lists of calls. Assumes nothing.
+use Rattle.std.proofs.Common.{Some}
 use mathlib.Core.Path.{◌≡◌, refl, sym, ap, ◌∙◌}
 use mathlib.Core.Bool.{false, false≢true}
-use mathlib.Core.Option.{some}
 use mathlib.Core.List.{List, [], ◌∷◌, ◌++◌, map}
 use Prim.Native.Nat.{ℕ, zero, suc, ◌≤◌, ◌<◌}
 use native.Mathlib.Omega.{arith}
@@ -36,7 +36,7 @@ lone t ks e = record { there = there; once = λ j k o h p q e. omega arith }
 
 -- A ticket with these pages put, and so many nodes woven.
 abbrev with_pages : List Page → ℕ → Ticket
-with_pages pages n = with_woven (with_slots no_ticket (map some pages)) n
+with_pages pages n = with_woven (with_slots no_ticket (map Some pages)) n
 
 -- A model of these tickets, updates and lines, with no windows.
 abbrev model_of : List Ticket → List Version → List Line → Model
@@ -140,11 +140,11 @@ twins =
     second (other_weave refl) (second (other_line refl tt) (begin 1 (both (put (kth 1) 0 (page_of 10)) (both (append (kth 1)) end)))))))))))
 
 -- No tickets.
-none : (ks : List Ticket) → Tickets [] ks
-none ks = record { there = λ k o h. absurd (omega arith); once = λ j k o h p q e. absurd (omega arith) }
+None : (ks : List Ticket) → Tickets [] ks
+None ks = record { there = λ k o h. absurd (omega arith); once = λ j k o h p q e. absurd (omega arith) }
 
 none-matched : (ks ks' : List Ticket) → Matched [] [] ks ks'
-none-matched ks ks' = record { tickets = none ks; tickets' = none ks'; count = refl; slots = slots }
+none-matched ks ks' = record { tickets = None ks; tickets' = None ks'; count = refl; slots = slots }
   where
     slots : (k : ℕ) → (nth no_ticket ks (nth 0 [] k)).slots ≡ (nth no_ticket ks' (nth 0 [] k)).slots
     slots zero = refl
@@ -203,7 +203,7 @@ module _ (a : Areas) (accepted : Accepted limits a) where
   unfolding computes run limits opened opened_beside among twins Agree
   from-format =
       let planned = on 0 (BRANCH 0) ∷ sends 1 1 0 (page_of 90 ∷ page_of 91 ∷ []) 3 in
-      let x = by_lines.agree 0 0 [] [] [] [] (by_lines.itself 0 [] [] (none [])) (opened ++ on 0 (APPEND 1) ∷ []) (opened_beside ++ on 0 (APPEND 2) ∷ []) twins in
+      let x = by_lines.agree 0 0 [] [] [] [] (by_lines.itself 0 [] [] (None [])) (opened ++ on 0 (APPEND 1) ∷ []) (opened_beside ++ on 0 (APPEND 2) ∷ []) twins in
       let y = x.1 (is_same (model [] (BEGIN 1)) (model planned (BEGIN 1)) (elim [ ]) (elim [ ]) x.0) in
       let first = model (BEGIN 1 ∷ []) (PUT 1 0 (page_of 10)) in
       let second = model (planned ++ BEGIN 1 ∷ []) (PUT 2 0 (page_of 10)) in

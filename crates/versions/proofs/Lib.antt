@@ -1,4 +1,3 @@
-pub mod Product
 pub mod Bits
 pub mod Ticket
 pub mod Rows

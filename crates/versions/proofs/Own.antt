@@ -27,3 +27,5 @@ module _ (s : Store) (l : ℕ) where
   -- The start is the lowest number of the line's word.
   pub own-by-word : (v : ℕ) → l < 16 → field_of (get_or s.lines l 0) 0 < v → number_of l v ≡ number_on s l v
   own-by-word v h k = own-number v (rw (line-there h) k)
+
+pub ruleset own = (own-by-word)

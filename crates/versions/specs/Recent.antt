@@ -1,10 +1,11 @@
 -- RECENT line: what it answers, over any store and areas.
-use Rattle.std.specs.Prelude.{◌∷◌, ℕ, zero, suc}
+use Rattle.std.specs.Prelude.{◌∷◌, ℕ, Result}
 use Rattle.table.specs.Table.{◌gives◌, never, every_call, first_refusal, line_rows}
 use Rattle.versions.specs.declared.Store.{Store}
 use Rattle.versions.specs.declared.Lengths.{Lengths}
-use Rattle.versions.specs.declared.Latest.{Latest}
 use Rattle.versions.specs.Store.{Areas, differ, areas_differ, lines_in, line_in}
+use Rattle.table.specs.Refused.{answered}
+use Rattle.tree.specs.declared.Version.{Version}
 
 -- Rows 3 and 20, with which PUBLISH and RECENT begin.
 unfoldable pub line_refusal : Store → Lengths → ℕ → ℕ
@@ -13,9 +14,5 @@ line_refusal s g l = first_refusal ((differ s g gives 3) ∷ line_rows l (lines_
 unfoldable pub recent_number : Store → Areas → ℕ → ℕ
 recent_number s a l = first_refusal (every_call (areas_differ s a) (line_rows l (lines_in s)) never)
 
-abbrev pub latest : ℕ → ℕ → Latest
-latest zero v = Latest.Is (record { 0 = v })
-latest (suc k) v = Latest.Refused (suc k)
-
-abbrev pub recent_out : Store → Areas → ℕ → Latest
-recent_out s a l = latest (recent_number s a l) (line_in s l).published.0
+abbrev pub recent_out : Store → Areas → ℕ → Result Version ℕ
+recent_out s a l = answered (recent_number s a l) (line_in s l).published

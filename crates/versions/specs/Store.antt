@@ -1,12 +1,13 @@
 -- The areas that a call is lent, row 3, the lines, and the records of tickets, updates and versions: what every call reads.
 -- Where a row reads a record that lies past its area the row does not hold, and 19 does; a number past a limit is read as within it (`update_of`).
-use Rattle.std.specs.Prelude.{List, ℕ, ◌*◌, min, ltb, length, get_or, set}
+use Rattle.std.specs.Prelude.{List, ℕ, ◌*◌, min, ltb, length, get_or, set, Result}
 use Rattle.tree.specs.Tree.{nth}
 use Rattle.lines.specs.Lines.{pick, no_branch, owner_of, number_of, packed, unpacked, source_at, with_source}
 use Rattle.lines.specs.declared.Branch.{Branch}
 use Rattle.register.specs.Register.{no_record, version_part}
 use Rattle.register.specs.declared.Record.{Record}
 use Rattle.register.specs.declared.Part.{Part}
+use Rattle.register.specs.declared.Areas.{Areas as Lent}
 use Rattle.table.specs.Table.{Cond, ◌≢?◌, ◌or◌}
 use Rattle.versions.specs.declared.Store.{Store}
 use Rattle.versions.specs.declared.Lengths.{Lengths}
@@ -19,6 +20,15 @@ pub record Areas : Type 0 where
 
 abbrev pub areas_of : List ℕ → List ℕ → List Record → Areas
 areas_of pages nodes register = record { pages = pages; nodes = nodes; register = register }
+
+-- The areas as the code is lent them.
+abbrev pub lent : Lent → Areas
+lent x = areas_of x.pages.now x.nodes.now x.register.now
+
+-- What a call that changes the store leaves of it, and answers, its refusal as the table numbers it.
+pub record Out (A : Type 0) : Type 0 where
+  pub store : Store
+  pub answer : Result A ℕ
 
 -- The areas with other pages, nodes or records.
 abbrev pub with_pages : Areas → List ℕ → Areas

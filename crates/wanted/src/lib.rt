@@ -1,52 +1,45 @@
-// What a line of the step program asks for, within the program's own limits, and the lengths of the areas that it is lent. `parse` has read the text; `respond` does it.
+// What a line of the step program asks for, within the program's own limits, and the lengths of the areas that it is lent. `parse` has read the text;
+// `respond` does it.
 #![tactic(auto)]
 
-ghost use Rattle.std.specs.Prelude.{◌≡◌, ◌*◌, min};
+ghost use Rattle.std.specs.Prelude.{◌≡◌, ◌≤◌};
 ghost use Rattle.text.specs.Buffer.{front};
 ghost use Rattle.parse.specs.Cut.{cut_meant};
-ghost use Rattle.wanted.specs.Wanted.{nothing_kept, beyond, format_wanted, read_wanted, wanted_by, store_for, lengths_for, lent_lengths};
+ghost use Rattle.wanted.specs.Wanted.{beyond, format_wanted, read_wanted, wanted_by, store_for, lengths_for, lent_lengths};
 
-use answers::{Kept, capped};
 use format::fresh_store;
-use parse::{Cutter, Step, step_cut};
+use parse::{Cutter, Step};
 use versions::{Lengths, Store};
 
-// What a step asks for, by the areas that it changes. The numbers get their sorts where the call is made: with structs in an enum in an enum the proof of
-// `step_within` takes more steps than antt allows.
+// What a step asks for, by whether it needs an open store and changes areas; `Format` holds the limits of the store that it would make. The numbers get their
+// sorts where the call is made: here they would be one more struct in every pattern.
 #[derive(Clone, Copy)]
 pub enum Wanted {
-    Fill(Fill),
-    Note(Note),
+    Format(u64, u64, u64, u64),
+    Worst(u64, u64),
+    Read(u64, u64, u64, u64),
+    Change(Change),
     Look(Look),
 }
 
-// The steps that change pages or nodes. FORMAT holds the limits of the store that it would make, PUT how many page bytes the line has.
+// The steps that change pages, nodes or the register of the open store. `Put` holds how many page bytes the line has; they stand in a buffer that is lent.
 #[derive(Clone, Copy)]
-pub enum Fill {
-    Format(u64, u64, u64, u64),
+pub enum Change {
     Put(u64, u64, usize),
     Weave(u64),
-}
-
-// Those that change the register alone.
-#[derive(Clone, Copy)]
-pub enum Note {
     Begin(u64),
     Write(u64, u64, u64),
     Append(u64, u64),
 }
 
-// Those that change no area; Nothing is refused.
+// Those that change no area and answer no bytes.
 #[derive(Clone, Copy)]
 pub enum Look {
     Publish(u64, u64),
     Branch(u64, u64),
-    Read(u64, u64, u64, u64),
     Size(u64, u64),
     Recent(u64),
     Stamp(u64, u64, u64),
-    Worst(u64, u64),
-    Nothing,
 }
 
 // The program's own limits: page size, page bytes, nodes and updates of a store.
@@ -63,133 +56,107 @@ const MOST_READ: u64 = 256;
 
 // ---- what a step asks for
 
-// No store.
-pub fn nothing_kept() -> Kept
-    ensures { result ≡ nothing_kept }
-{
-    let store = fresh_store(0, 0, 0, 0);
-    Kept { open: false, store }
-}
-
 // Whether a store is beyond the program's own limits.
+#[tactic(auto, unfolding(crate::specs::Wanted::beyond))]
 fn is_beyond(size: u64, pages: u64, nodes: u64, updates: u64) -> bool
     ensures { result ≡ beyond size pages nodes updates }
 {
-    if size > MOST_SIZE {
+    if size > MOST_SIZE || size.saturating_mul(pages) > MOST_BYTES {
         return true;
-    }
-    if size > 0 {
-        if pages > MOST_BYTES / size {
-            return true;
-        }
     }
     nodes > MOST_NODES || updates > MOST_UPDATES
 }
 
 // FORMAT is asked only within the program's own limits.
-fn format_wanted(size: u64, pages: u64, nodes: u64, updates: u64) -> Wanted
+#[tactic(auto, unfolding(crate::specs::Wanted::format_wanted))]
+fn format_wanted(size: u64, pages: u64, nodes: u64, updates: u64) -> Option<Wanted>
     ensures { result ≡ format_wanted size pages nodes updates }
 {
     if is_beyond(size, pages, nodes, updates) {
-        return Wanted::Look(Look::Nothing);
+        return None;
     }
-    Wanted::Fill(Fill::Format(size, pages, nodes, updates))
+    Some(Wanted::Format(size, pages, nodes, updates))
 }
 
 // READ is asked only within the program's own limit.
-fn read_wanted(l: u64, v: u64, offset: u64, n: u64) -> Wanted
+#[tactic(auto, unfolding(crate::specs::Wanted::read_wanted))]
+fn read_wanted(l: u64, v: u64, offset: u64, n: u64) -> Option<Wanted>
     ensures { result ≡ read_wanted l v offset n }
 {
     if n > MOST_READ {
-        return Wanted::Look(Look::Nothing);
+        return None;
     }
-    Wanted::Look(Look::Read(l, v, offset, n))
+    Some(Wanted::Read(l, v, offset, n))
 }
 
-// What a step asks for.
+// What a step asks for; nothing where its line is malformed, or it is beyond the program's own limits.
 #[tactic(auto, unfolding(crate::specs::Wanted::wanted_by))]
-fn wanted_by(step: Step) -> Wanted
+fn wanted_by(step: Option<Step>) -> Option<Wanted>
     ensures { result ≡ wanted_by step }
 {
-    match step {
+    match step? {
         Step::Format(s, p, n, u) => format_wanted(s, p, n, u),
-        Step::Begin(n) => Wanted::Note(Note::Begin(n)),
-        Step::Put(t, i, n) => Wanted::Fill(Fill::Put(t, i, n)),
-        Step::Write(l, t, f) => Wanted::Note(Note::Write(l, t, f)),
-        Step::Append(l, t) => Wanted::Note(Note::Append(l, t)),
-        Step::Weave(t) => Wanted::Fill(Fill::Weave(t)),
-        Step::Publish(l, k) => Wanted::Look(Look::Publish(l, k)),
-        Step::Branch(l, v) => Wanted::Look(Look::Branch(l, v)),
+        Step::Begin(n) => Some(Wanted::Change(Change::Begin(n))),
+        Step::Put(t, i, n) => Some(Wanted::Change(Change::Put(t, i, n))),
+        Step::Write(l, t, f) => Some(Wanted::Change(Change::Write(l, t, f))),
+        Step::Append(l, t) => Some(Wanted::Change(Change::Append(l, t))),
+        Step::Weave(t) => Some(Wanted::Change(Change::Weave(t))),
+        Step::Publish(l, k) => Some(Wanted::Look(Look::Publish(l, k))),
+        Step::Branch(l, v) => Some(Wanted::Look(Look::Branch(l, v))),
         Step::Read(l, v, o, n) => read_wanted(l, v, o, n),
-        Step::Size(l, v) => Wanted::Look(Look::Size(l, v)),
-        Step::Recent(l) => Wanted::Look(Look::Recent(l)),
-        Step::Stamp(l, v, p) => Wanted::Look(Look::Stamp(l, v, p)),
-        Step::Worst(r, n) => Wanted::Look(Look::Worst(r, n)),
-        Step::Malformed => Wanted::Look(Look::Nothing),
+        Step::Size(l, v) => Some(Wanted::Look(Look::Size(l, v))),
+        Step::Recent(l) => Some(Wanted::Look(Look::Recent(l))),
+        Step::Stamp(l, v, p) => Some(Wanted::Look(Look::Stamp(l, v, p))),
+        Step::Worst(r, n) => Some(Wanted::Worst(r, n)),
     }
 }
 
 // What the line of text that the cutter holds asks for; its page bytes go to the front of the buffer, where they fit.
-pub fn wanted_cut(c: Cutter, text: &[u8], out: &mut [u8]) -> Wanted
+pub fn wanted_cut(c: Cutter, text: &[u8], out: &mut [u8]) -> Option<Wanted>
     ensures { (result ≡ wanted_by (cut_meant c text.now).step) × (out.new ≡ front (cut_meant c text.now).bytes out.old) }
 {
-    let step = step_cut(c, text, out);
-    wanted_by(step)
+    wanted_by(c.step(text, out))
 }
 
 // ---- the areas that a step is lent
 
-// a times b, or `most` where that is less. The product may be more than 64 bits hold.
-fn capped_product(a: u64, b: u64, most: usize) -> usize
-    ensures { result ≡ min (a * b) most }
-{
-    if a == 0 {
-        return 0;
-    }
-    if b > most as u64 / a {
-        return most;
-    }
-    (a * b) as usize
-}
-
-// The lengths of the areas of a store, none past the array it lies in. A store that this program formats fits the arrays, so these are exact.
-fn lengths_for(s: Store, pages: usize, nodes: usize, register: usize) -> Lengths
-    ensures { result ≡ lengths_for s pages nodes register }
-{
-    Lengths {
-        pages: capped_product(s.size, s.pages, pages),
-        nodes: capped_product(2, s.nodes, nodes),
-        register: capped(s.updates, register),
-    }
-}
-
-// The store whose areas a step is lent: the one that is kept, and for FORMAT the one that it would make.
+// The store whose areas a step is lent: the one that is open, if one is, and for FORMAT the one that it would make.
 #[tactic(auto, unfolding(crate::specs::Wanted::store_for))]
-fn store_for(kept: Kept, wanted: Wanted) -> Store
+fn store_for(kept: Option<Store>, wanted: Option<Wanted>) -> Option<Store>
     ensures { result ≡ store_for kept wanted }
 {
-    let store = kept.store;
     match wanted {
-        Wanted::Fill(step) => match step {
-            Fill::Format(s, p, n, u) => fresh_store(s, p, n, u),
-            Fill::Put(_, _, _) => store,
-            Fill::Weave(_) => store,
-        },
-        Wanted::Note(_) => store,
-        Wanted::Look(_) => store,
+        Some(Wanted::Format(s, p, n, u)) => Some(fresh_store(s, p, n, u)),
+        _ => kept,
+    }
+}
+
+// The lengths of the areas of a store, none past the array it lies in; with no store nothing is lent. A store that this program formats fits the arrays, so
+// these are exact.
+#[tactic(auto, unfolding(crate::specs::Wanted::lengths_for))]
+fn lengths_for(store: Option<Store>, most: Lengths) -> Lengths
+    ensures exact { result ≡ lengths_for store most }
+    ensures within { (result.pages ≤ most.pages) × (result.nodes ≤ most.nodes) × (result.register ≤ most.register) }
+{
+    let Some(s) = store else {
+        return Lengths {
+            pages: 0,
+            nodes: 0,
+            register: 0,
+        };
+    };
+    Lengths {
+        pages: s.size.saturating_mul(s.pages).min(most.pages as u64) as usize,
+        nodes: s.nodes.saturating_mul(2).min(most.nodes as u64) as usize,
+        register: s.updates.min(most.register as u64) as usize,
     }
 }
 
 // The lengths of the areas that a step is lent, of arrays of these lengths.
-pub fn lent_lengths(
-    kept: Kept,
-    wanted: Wanted,
-    pages: usize,
-    nodes: usize,
-    register: usize,
-) -> Lengths
-    ensures { result ≡ lent_lengths kept wanted pages nodes register }
+#[tactic(auto, unfolding(crate::specs::Wanted::lent_lengths))]
+pub fn lent_lengths(kept: Option<Store>, wanted: Option<Wanted>, most: Lengths) -> Lengths
+    ensures exact { result ≡ lent_lengths kept wanted most }
+    ensures within { (result.pages ≤ most.pages) × (result.nodes ≤ most.nodes) × (result.register ≤ most.register) }
 {
-    let store = store_for(kept, wanted);
-    lengths_for(store, pages, nodes, register)
+    lengths_for(store_for(kept, wanted), most)
 }

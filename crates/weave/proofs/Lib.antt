@@ -1,4 +1,2 @@
-pub mod NextNode
-pub mod Numbers
-pub mod Older
 pub mod Room
+pub mod Older

@@ -1,141 +1,115 @@
--- What the rows of WEAVE, passed, say of the store, and what is found of the half that is looked for.
+-- The next node as the code finds it: it lies within the largest root, so that sums of its pages have room; its halves; and whether it lies past an area.
 -- Assumes nothing.
-use mathlib.Core.Path.{◌≡◌, refl, sym, ap, ◌∙◌}
-use mathlib.Core.Bool.{Bool, true, false, ◌&&◌, ◌||◌, or-false}
-use mathlib.Core.Logic.{inl, inr}
-use mathlib.Core.List.{List}
-use Prim.Native.Nat.{ℕ, zero, suc, ◌+◌, ◌-◌, ◌^◌, ◌<◌}
-use native.Mathlib.Omega.{arith}
-use borrow.Author.Tests.{lt-ltb, le-leb}
-use lib.Dec.{ltb, eqb}
-use lib.Pow.{pow_pos}
-use Rattle.tree.proofs.Meets.{lt-or-le}
-use Rattle.lines.specs.Lines.{pick}
-use Rattle.register.specs.Register.{update_of}
+use Rattle.std.proofs.Common.{◌≡◌, ◌≢◌, ℕ, zero, suc, ◌+◌, ◌-◌, ◌/◌, ◌^◌, ◌<◌, ◌≤◌, min, refl, sym, ap, ◌∙◌, inl, inr, arith, pow_pos, Bool, true, false, Option, None, Some, leb, le-leb}
+use Rattle.std.proofs.lemmas.Bool.{lt-leb}
+use Rattle.std.specs.Option.{is_some}
+use Rattle.std.proofs.lemmas.Option.{same_Some, none-some}
+use Rattle.tree.specs.Tree.{Node, node}
+use Rattle.tree.specs.Contract as Contract
+use Rattle.tree.specs.Contract.{Names, first_of, root_in, height_in}
+use Rattle.tree.specs.Place.{node_numbered}
+use Rattle.tree.specs.declared.Named.{Named}
+use Rattle.tree.proofs.Whole.{numbered_within}
+use Rattle.tree.proofs.Word.{height-in-low, root-in, root-in-held}
+use Rattle.register.specs.Register.{update_of, extent_of}
+use Rattle.register.specs.declared.Extent.{Extent}
 use Rattle.register.specs.declared.Record.{Record}
 use Rattle.register.specs.declared.Part.{Part}
-use Rattle.register.proofs.Records.{update_of-inside}
-use Rattle.table.specs.Table.{or_else, unless, weave_rows}
-use Rattle.weave.specs.Weave.{next_node, next_place, weave_refusal, older_number, meets_left, meets_right, lost_half, lost_child, lost_by, wove}
-use Rattle.weave.specs.Plan.{span_sought, Planned, Children, lost_number}
+use Rattle.tree.proofs.Meets.{lt-or-le}
+use Rattle.table.specs.Table.{holds}
 use Rattle.versions.specs.declared.Store.{Store}
-use Rattle.versions.specs.declared.Lengths.{Lengths}
+use Rattle.register.proofs.Records.{update_of-inside}
+use Rattle.weave.specs.Weave.{next_node, leaf_past, first_page, span_of}
+use Rattle.weave.specs.Next.{name_of, halves_of}
+use Rattle.weave.specs.declared.Halves.{Halves}
 use Rattle.weave.specs.declared.Next.{Next}
-use Rattle.weave.specs.declared.Plan.{Plan}
-use Rattle.weave.specs.declared.WovenNode.{WovenNode}
-use Rattle.table.proofs.Table.{passed}
-use Rattle.weave.proofs.NextNode.{leaf, inner, shape}
 
-module _ (s : Store) (g : Lengths) (r : Record) (q : Part) (t : ℕ) where
-  -- The next node has a place, which bounds the count after it too.
-  pub place-low : weave_refusal s g r q t ≡ 0 → next_place q < s.nodes
-  unfolding weave_refusal weave_rows
-  place-low e = let p = passed _ tt e in p.1.1.1.0.1.1.0
+same_first : (x : Node) → first_of x ≡ first_page x
+same_first (node a h) = refl
 
-  -- The ticket's record names its update.
-  pub update-noted : weave_refusal s g r q t ≡ 0 → 0 < r.update
-  unfolding weave_refusal weave_rows
-  update-noted e =
-      let p = passed _ tt e in
-      elim p.1.1.0.0 [
-        | inl h ↦ absurd (omega (arith, h, p.1.1.1.0.0))
-        | inr h ↦ omega (arith, h)
-      ]
+same_span : (x : Node) → Contract.span_of x ≡ span_of x
+same_span (node a h) = refl
 
--- Where the number with what is looked for is 0, so is the table's.
-pub both_zero : (k n : ℕ) → or_else k n ≡ 0 → k ≡ 0
-unfolding or_else
-both_zero zero n e = refl
-both_zero (suc k) n e = e
+-- The node that the code finds by the number of nodes that are woven is the next one.
+module _ (q : Part) (x : Named) (e : Extent) (root : ℕ) where
+  pub next-named : e ≡ extent_of (update_of q) → root ≡ root_in q.span
+      → Names (node_numbered e.f.0 (height_in root) q.past q.woven) x.first.0 x.span → x ≡ name_of (next_node q)
+  unfolding next_node
+  next-named f r w =
+      let y = node_numbered (update_of q).f (height_in q.span) q.past q.woven in
+      let found : Names y x.first.0 x.span = rw (f, r, (root-in-held q.span).1) at w in
+      rw (← same_first y, ← same_span y, ← found.first, ← found.spans)
 
--- ---- the half that is looked for
+pub next-inside : (q : Part) → first_page (next_node q) + span_of (next_node q) ≤ 4096
+unfolding next_node
+next-inside q =
+    let y = node_numbered (update_of q).f (height_in q.span) q.past q.woven in
+    let within = numbered_within (update_of q).f (height_in q.span) q.past q.woven (omega (arith, update_of-inside q)) (height-in-low q.span) in
+    rw (← same_first y, ← same_span y) (omega (arith, within))
 
--- The update meets one half of its node at least: it has a page.
-one-met : (q : Part) (m : ℕ) → meets_left q m ≡ false → meets_right q m ≡ false → ⊥
-one-met q m a b = elim (lt-or-le (update_of q).f m) [
-  | inl l ↦ let z = sym (lt-ltb (update_of q).f m l) ∙ a in let y : ◌≡◌ {A = ℕ} 0 1 = cc in omega arith
-  | inr l ↦ let z = sym (le-leb m (update_of q).last (omega (arith, update_of-inside q))) ∙ b in let y : ◌≡◌ {A = ℕ} 0 1 = cc in omega arith
+pub named-inside : (q : Part) (x : Named) (e : Extent) (root : ℕ) → e ≡ extent_of (update_of q) → root ≡ root_in q.span
+    → Names (node_numbered e.f.0 (height_in root) q.past q.woven) x.first.0 x.span → x.first.0 + x.span < 2 ^ 64
+named-inside q x e root f r w = rw (next-named q x e root f r w) (omega (arith, next-inside q))
+
+-- Its halves have pages, and sums of these have room.
+abbrev HasRoom : Named → Type 0
+HasRoom x = (x.first.0 + x.span < 2 ^ 64) × (0 < x.span)
+
+halves-room : (y : Node) (h : Halves) → first_page y + span_of y ≤ 4096 → Some h ≡ halves_of y → HasRoom h.left × HasRoom h.right
+halves-room (node p zero) h i e = absurd (none-some h (sym e))
+halves-room (node p (suc k)) h i e =
+    let within : p + 2 ^ suc k ≤ 4096 = i in
+    let left : p + 2 ^ k < 2 ^ 64 = omega arith in
+    let right : p + 2 ^ k + 2 ^ k < 2 ^ 64 = omega arith in
+    rw (same_Some h _ e) ((left, pow_pos k), (right, pow_pos k))
+
+pub room : (x : Next) (h : Halves) → x.halves ≡ Some h → HasRoom h.left × HasRoom h.right
+room x h e = halves-room (next_node x.part) h (next-inside x.part) (sym e ∙ x.parted)
+
+-- ---- whether the next node lies past
+
+-- A number of 64 bits reaches a sum where it reaches the largest number of them that is no larger.
+pub capped : (n m : ℕ) → n < 2 ^ 64 → leb n (min m (2 ^ 64 - 1)) ≡ leb n m
+capped n m l = elim (lt-or-le m n) [
+  | inl p ↦ lt-leb n (min m (2 ^ 64 - 1)) (omega arith) ∙ sym (lt-leb n m p)
+  | inr p ↦ le-leb n (min m (2 ^ 64 - 1)) (omega arith) ∙ sym (le-leb n m p)
 ]
 
-module _ (s : Store) (nodes : List ℕ) (rs : List Record) (q : Part) (x : Next) (far : ℕ) where
-  abbrev older : ℕ → ℕ → ℕ
-  older a h = older_number s nodes rs q.name a h
+module _ (s : Store) (r : Record) (q : Part) where
+  pub inner-not-past : (y : Node) → is_some (halves_of y) ≡ true → holds (leaf_past s r q y) ≡ false
+  unfolding holds
+  inner-not-past (node p zero) e = absurd (grind arith)
+  inner-not-past (node p (suc h)) e = refl
 
-  -- By the halves that the update meets: what is found is the number of the half that is looked for.
-  abbrev Sought : Bool → Bool → Type 0
-  Sought l r = (h : ℕ) → pick (l && r) 0 x.half ≡ 2 ^ h → far ≡ older (pick l x.right x.first).0 h
+  pub leaf-past : (y : Node) → is_some (halves_of y) ≡ false → holds (leaf_past s r q y) ≡ leb s.pages (r.number + (first_page y - (update_of q).f))
+  unfolding holds
+  leaf-past (node p zero) e = refl
+  leaf-past (node p (suc h)) e = absurd (grind arith)
 
-  left_is : (l r : Bool) → Sought l r → (h : ℕ) → x.half ≡ 2 ^ h → pick l q.name far ≡ pick l q.name (older x.first.0 h)
-  left_is true r found h z = refl
-  left_is false r found h z = found h z
+pub ruleset past_rules = (capped, inner-not-past, leaf-past)
 
-  right_is : (l r : Bool) → meets_left q x.right.0 ≡ l → meets_right q x.right.0 ≡ r → Sought l r → (h : ℕ) → x.half ≡ 2 ^ h
-      → pick r q.name far ≡ pick r q.name (older x.right.0 h)
-  right_is l true a b found h z = refl
-  right_is true false a b found h z = found h z
-  right_is false false a b found h z = absurd (one-met q x.right.0 a b)
+-- ---- the halves of a node by its name
 
-  lost-is : (l r : Bool) → meets_left q x.right.0 ≡ l → meets_right q x.right.0 ≡ r → Sought l r → (h : ℕ) → x.half ≡ 2 ^ h
-      → (ltb 0 (pick (l && r) 0 x.half) && eqb far (2 ^ 64 - 1)) ≡ (lost_half l (older x.first.0 h) || lost_half r (older x.right.0 h))
-  lost-is true true a b found h z = refl
-  lost-is true false a b found h z = rw (lt-ltb 0 x.half (omega (arith, pow_pos h)), found h z)
-  lost-is false true a b found h z = rw (lt-ltb 0 x.half (omega (arith, pow_pos h)), found h z) (sym (or-false _))
-  lost-is false false a b found h z = absurd (one-met q x.right.0 a b)
+-- The halves that the code names.
+abbrev pub parted : Named → Halves
+parted x = record {
+  left = record { first = x.first; span = x.span / 2 };
+  right = record { first = record { 0 = x.first.0 + x.span / 2 }; span = x.span / 2 };
+}
 
-no_span : (b : Bool) → ◌≡◌ {A = ℕ} (pick b 0 0) 0
-no_span true = refl
-no_span false = refl
+span_is : (x : Named) (y : Node) → x ≡ name_of y → x.span ≡ (name_of y).span
+span_is x y e = ap (λ (n : Named). n.span) e
 
-module _ (s : Store) (g : Lengths) (nodes : List ℕ) (rs : List Record) (r : Record) (q : Part) (t : ℕ) (p : Plan) (planned : Planned s g r q t p) (far : ℕ)
-    (found : (h : ℕ) → p.span ≡ 2 ^ h → far ≡ older_number s nodes rs q.name p.first.0 h) where
-  -- The half that is looked for where the table does not refuse.
-  sought : p.k ≡ 0 → Sought s nodes rs q p.next far p.left p.right
-  unfolding unless
-  sought z h e = rw (← planned.first) (found h (planned.span ∙ rw z e))
+pub halves-none : (x : Named) (y : Node) → x ≡ name_of y → x.span ≡ 1 → None ≡ halves_of y
+halves-none x (node p zero) e s = refl
+halves-none x (node p (suc h)) e s = let d : x.span ≡ 2 ^ suc h = span_is x (node p (suc h)) e in absurd (omega (arith, pow_pos h))
 
-  -- The children's numbers.
-  pub children-found : p.k ≡ 0 → Children s nodes rs q p.next (pick p.left q.name far) (pick p.right q.name far)
-  children-found z = record {
-    left = λ h e. rw (← planned.left) (left_is s nodes rs q p.next far p.left p.right (sought z) h e);
-    right = λ h e. rw (← planned.right) (right_is s nodes rs q p.next far p.left p.right (sym planned.left) (sym planned.right) (sought z) h e);
-  }
+pub halves-parted : (x : Named) (y : Node) → x ≡ name_of y → x.span ≢ 1 → Some (parted x) ≡ halves_of y
+halves-parted x (node p zero) e s = absurd (s (span_is x (node p zero) e))
+halves-parted x (node p (suc h)) e s =
+    let d : 2 ^ suc h / 2 ≡ 2 ^ h = omega arith in
+    rw (e, d)
 
-  -- What is lost, in the terms of the next node.
-  lost-same : p.k ≡ 0 → (ltb 0 p.span && eqb far (2 ^ 64 - 1)) ≡ lost_child s nodes rs q (next_node q)
-  unfolding unless
-  lost-same z = elim (shape q p.next planned.next) [
-    | leaf e d y ↦ rw (e, planned.span, z, y, no_span (p.left && p.right))
-    | inner h e d y ↦
-        let m : p.next.first.0 + 2 ^ h ≡ p.next.right.0 = omega (arith, planned.next.right) in
-        rw (e, m, planned.span, z, ← planned.left, ← planned.right)
-        (lost-is s nodes rs q p.next far p.left p.right (sym planned.left) (sym planned.right) (sought z) h y)
-  ]
+pub ruleset halves_rules = (halves-none, halves-parted)
 
-  number-by : (k : ℕ) → p.k ≡ k → lost_number k p.span far ≡ or_else k (lost_by (lost_child s nodes rs q (next_node q)))
-  unfolding or_else
-  number-by zero z = ap lost_by (lost-same z)
-  number-by (suc k) z = refl
-
-  pub number-found : lost_number p.k p.span far ≡ or_else (weave_refusal s g r q t) (lost_by (lost_child s nodes rs q (next_node q)))
-  number-found = number-by p.k refl ∙ ap (λ (k : ℕ). or_else k (lost_by (lost_child s nodes rs q (next_node q)))) planned.number
-
-module _ (s : Store) (g : Lengths) (r : Record) (q : Part) (t : ℕ) (p : Plan) (planned : Planned s g r q t p) where
-  -- The pages that are looked for lie where sums have room.
-  room_by : (l r : Bool) (k : ℕ) → (pick l p.next.right p.next.first).0 + span_sought k l r p.next.half < 2 ^ 64
-  unfolding unless
-  room_by l r (suc k) = side l
-    where
-      side : (b : Bool) → (pick b p.next.right p.next.first).0 + 0 < 2 ^ 64
-      side true = let n = planned.next in omega (arith, n.halves, n.right, n.inside)
-      side false = let n = planned.next in omega (arith, n.inside)
-  room_by true true zero = let n = planned.next in omega (arith, n.halves, n.right, n.inside)
-  room_by true false zero = let n = planned.next in omega (arith, n.halves, n.right, n.inside)
-  room_by false r zero = let n = planned.next in omega (arith, n.halves, n.right, n.inside)
-
-  pub room-found : p.first.0 + p.span < 2 ^ 64
-  room-found = rw (planned.first, planned.span) (room_by p.left p.right p.k)
-
--- Outcomes that agree where the number is 0 agree.
-pub wove-same : (k : ℕ) (x y : WovenNode) → (k ≡ 0 → x ≡ y) → wove k x ≡ wove k y
-wove-same zero x y e = ap (wove 0) (e refl)
-wove-same (suc k) x y e = refl
+pub ruleset root_rules = (root-in, root-in-held, pow_pos)

@@ -1,2 +1,2 @@
 pub mod Weave
-pub mod Plan
+pub mod Next

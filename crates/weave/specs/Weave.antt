@@ -1,5 +1,5 @@
 -- WEAVE ticket, with the ticket's record r and the part q of its update: what it answers and leaves, over any store and areas.
-use Rattle.std.specs.Prelude.{Bool, true, false, ◌||◌, List, [], ℕ, zero, suc, pred, ◌+◌, ◌-◌, ◌%◌, ◌^◌, leb, ltb, eqb}
+use Rattle.std.specs.Prelude.{Bool, true, false, ◌||◌, List, [], ℕ, zero, suc, pred, ◌+◌, ◌-◌, ◌%◌, ◌^◌, leb, ltb, eqb, Result}
 use Rattle.tree.specs.Tree.{Node, node}
 use Rattle.tree.specs.Place.{node_numbered}
 use Rattle.tree.specs.Contract.{height_in}
@@ -12,10 +12,10 @@ use Rattle.table.specs.Table.{Cond, ◌≤?◌, ◌<?◌, ◌or◌, never, every
 use Rattle.versions.specs.declared.Store.{Store}
 use Rattle.versions.specs.declared.Lengths.{Lengths}
 use Rattle.weave.specs.declared.WovenNode.{WovenNode}
-use Rattle.weave.specs.declared.Woven.{Woven}
 use Rattle.versions.specs.Store.{Areas, areas_of, lengths_of, differ, record_of, line_in, number_on}
 use Rattle.walk.specs.FindPage.{reach_from}
 use Rattle.descent.specs.Places.{or_most}
+use Rattle.table.specs.Refused.{answered}
 
 -- The next node in weaving order, by what the part says of its tree.
 unfoldable pub next_node : Part → Node
@@ -127,15 +127,11 @@ woven_node s nodes rs r q x = record {
   rest = q.count - suc q.woven;
 }
 
-abbrev pub wove : ℕ → WovenNode → Woven
-wove zero x = Woven.Node x
-wove (suc k) x = Woven.Refused (suc k)
-
 abbrev pub node_of : Store → Areas → ℕ → WovenNode
 node_of s a t = woven_node s a.nodes a.register (record_of a t) (woven_part a t) (next_node (woven_part a t))
 
-abbrev pub weave_out : Store → Areas → ℕ → Woven
-weave_out s a t = wove (weave_number s a t) (node_of s a t)
+abbrev pub weave_out : Store → Areas → ℕ → Result WovenNode ℕ
+weave_out s a t = answered (weave_number s a t) (node_of s a t)
 
 abbrev pub weave_nodes : Store → Areas → ℕ → List ℕ
 weave_nodes s a t =

@@ -1,5 +1,5 @@
 -- Minutes in and out of windows, and texts accepted and refused, computed.
-use Rattle.std.specs.Prelude.{◌≡◌, refl, true, false, List, [], ◌∷◌, ◌++◌, map, ℕ, replicate}
+use Rattle.std.specs.Prelude.{◌≡◌, refl, true, false, List, [], ◌∷◌, ◌++◌, map, ℕ, replicate, Ok, Err}
 use Rattle.text.specs.Quoted.{text, together}
 use Rattle.fields.specs.Fields.{field_number}
 use Rattle.table.specs.Table.{holds, first_refusal, unless, window_rows}
@@ -46,9 +46,9 @@ ends = refl
 
 -- the empty text is the empty list, and a list's windows stand in its order
 lists :
-    (listed_of [] ≡ record { number = 0; windows = no_windows })
+    (listed_of [] ≡ Ok no_windows)
     × (listed_of (text "0,1\n10079,0\n0,10079\n")
-    ≡ record { number = 0; windows = record { places = between 0 1 ∷ between 10079 0 ∷ between 0 10079 ∷ replicate 29 no_window } })
+    ≡ Ok (record { places = between 0 1 ∷ between 10079 0 ∷ between 0 10079 ∷ replicate 29 no_window }))
 unfolding text_number ended all_windows windows_in placed entry_of entry_by field_number first_refusal window_rows holds unless
 lists = (refl, refl)
 
@@ -58,14 +58,14 @@ lines n = together (replicate n (text "10,20\n"))
 
 -- 32 lines, and 33
 most :
-    (listed_of (lines 32) ≡ record { number = 0; windows = record { places = replicate 32 (between 10 20) } })
-    × (listed_of (lines 33) ≡ record { number = 24; windows = no_windows })
+    (listed_of (lines 32) ≡ Ok (record { places = replicate 32 (between 10 20) }))
+    × (listed_of (lines 33) ≡ Err 24)
 unfolding text_number ended all_windows windows_in placed entry_of entry_by field_number first_refusal window_rows holds unless
 most = (refl, refl)
 
 -- a text with a wrong line
 abbrev Wrong : List ℕ → Type 0
-Wrong t = listed_of t ≡ record { number = 23; windows = no_windows }
+Wrong t = listed_of t ≡ Err 23
 
 wrong-lines :
     Wrong (text "5,5\n")

@@ -2,19 +2,18 @@
 // has a `requires`.
 #![tactic(auto)]
 
-ghost use Rattle.std.specs.Prelude.{◌≡◌, ◌+◌, drop};
+ghost use Rattle.std.specs.Prelude.{◌≡◌, [], ◌∷◌, ◌++◌};
+ghost use Rattle.table.specs.Refused.{numbered};
 ghost use Rattle.windows.specs.Windows.{inside_one, inside, no_windows};
-ghost use Rattle.windows.specs.Listed.{entry_of, line_entry, line_end, listed_of, InsideMeans};
+ghost use Rattle.windows.specs.Listed.{entry_of, line_entry, listed_of, InsideMeans};
 
-use fields::{Number, field, field_count, number_in};
+use fields::{field, field_count, number_in};
+use table::Refusal;
 
 // The last minute of the week.
-const LAST_MINUTE: u64 = 10079;
+const LAST_MINUTE: u16 = 10079;
 
-// The byte that ends a line.
-const LINE_FEED: u8 = 10;
-
-// A weekly window, in minutes of the week 0 to 10,079. One with equal ends has no minute.
+// A weekly window, in minutes of the week 0 to 10,079. One with equal ends has no minute. No `PartialEq`: nothing compares two windows.
 #[repr(C)]
 #[derive(Clone, Copy)]
 pub struct Window {
@@ -22,28 +21,14 @@ pub struct Window {
     pub to: u16,
 }
 
-// A site's windows: at most 32, in the order of their list; the places after them are 0.
+// A site's windows: at most 32, in the order of their list; the places after them are 0. C has it by value, so that it is an array and no list.
 #[repr(C)]
 #[derive(Clone, Copy)]
 pub struct Windows {
     pub places: [Window; 32],
 }
 
-// The window that a line of text is, if it is one.
-#[derive(Clone, Copy)]
-pub enum Entry {
-    Is(Window),
-    Not,
-}
-
-// A text, read: the number of its refusal and, where that is 0, its windows.
-#[derive(Clone, Copy)]
-pub struct Listed {
-    pub number: u64,
-    pub windows: Windows,
-}
-
-// No windows.
+// No windows. No `Default`: callers read this name, and a derive would not show that an unused place has equal ends.
 pub fn no_windows() -> Windows
     ensures { result ≡ no_windows }
 {
@@ -53,129 +38,91 @@ pub fn no_windows() -> Windows
 }
 
 // Whether a minute is inside a window.
+#[tactic(auto, unfolding(crate::specs::Windows::inside_one))]
 fn inside_one(w: Window, minute: u64) -> bool
     ensures { result ≡ inside_one w minute }
 {
-    let from = w.from as u64;
-    let to = w.to as u64;
+    let from = u64::from(w.from);
+    let to = u64::from(w.to);
     if from <= to {
-        if minute < from {
-            return false;
-        }
-        return minute < to;
+        from <= minute && minute < to
+    } else {
+        from <= minute || minute < to
     }
-    if from <= minute {
-        return true;
-    }
-    minute < to
 }
 
 // Whether a minute is inside one of the windows. The first place that is not used ends them, so that a short list costs little.
-pub fn is_inside(w: Windows, minute: u64) -> bool
-    ensures { result ≡ inside w.places minute }
+#[tactic(auto, unfolding(crate::specs::Windows::inside))]
+pub fn is_inside(w: &Windows, minute: u64) -> bool
+    ensures { result ≡ inside w.now.places minute }
 {
-    let places = w.places;
-    let mut i = 0;
-    while i < 32 {
-        let place = places[i];
+    for place in &w.places {
         if place.from == place.to {
             return false;
         }
-        if inside_one(place, minute) {
+        if inside_one(*place, minute) {
             return true;
         }
-        i += 1;
     }
     false
 }
 
 // The window of two numbers, if they are minutes of the week and differ.
-fn entry_of(a: Number, b: Number) -> Entry
+#[tactic(auto, unfolding(crate::specs::Listed::entry_of))]
+fn entry_of(a: Option<u64>, b: Option<u64>) -> Option<Window>
     ensures { result ≡ entry_of a b }
 {
-    let Number::Is(from) = a else {
-        return Entry::Not;
-    };
-    let Number::Is(to) = b else {
-        return Entry::Not;
-    };
-    if from > LAST_MINUTE {
-        return Entry::Not;
+    let from = u16::try_from(a?).ok()?;
+    let to = u16::try_from(b?).ok()?;
+    if from > LAST_MINUTE || to > LAST_MINUTE || from == to {
+        return None;
     }
-    if to > LAST_MINUTE {
-        return Entry::Not;
-    }
-    if from == to {
-        return Entry::Not;
-    }
-    Entry::Is(Window {
-        from: from as u16,
-        to: to as u16,
-    })
+    Some(Window { from, to })
 }
 
 // The window that a line is, if it is one: its line feed is no part of it.
-fn line_entry(line: &[u8]) -> Entry
+#[tactic(auto, using(crate::proofs::Entries::entries))]
+fn line_entry(line: &[u8]) -> Option<Window>
     ensures { result ≡ line_entry line.now }
 {
     if field_count(line) != 2 {
-        return Entry::Not;
+        return None;
     }
     entry_of(number_in(field(line, 0)), number_in(field(line, 1)))
 }
 
-// Where a line that begins at index `from` ends: the index of its line feed, or the text's length where there is none.
-fn line_end(text: &[u8], from: usize) -> usize
-    ensures { result ≡ from + line_end (drop from text.now) }
+// The windows of lines, without the line feed that ends the last one. A window past the 32nd place is counted and not stored, so that a wrong line
+// after it is still found.
+fn read_lines(lines: &[u8]) -> Result<Windows, Refusal>
+    ensures { numbered result ≡ listed_of (lines.now ++ (10 ∷ [])) }
 {
-    let mut i = from;
-    while i < text.len() {
-        if text[i] == LINE_FEED {
-            return i;
-        }
-        i += 1;
-    }
-    i
-}
-
-// A text refused with a number: no windows.
-fn refused(number: u64) -> Listed
-    ensures { result ≡ record { number = number; windows = no_windows } }
-{
-    Listed {
-        number,
-        windows: no_windows(),
-    }
-}
-
-// The windows of a text, line by line. A window past the 32nd place is counted and not stored, so that a wrong line after it is still found.
-pub fn read_list(text: &[u8]) -> Listed
-    ensures { result ≡ listed_of text.now }
-{
-    let mut places = [Window { from: 0, to: 0 }; 32];
+    let mut windows = no_windows();
     let mut n: usize = 0;
-    let mut at = 0;
-    while at < text.len() {
-        let end = line_end(text, at);
-        if end == text.len() {
-            return refused(23);
-        }
-        let Entry::Is(w) = line_entry(&text[at..end]) else {
-            return refused(23);
-        };
+    for line in lines.split(|b| *b == b'\n') {
+        let w = line_entry(line).ok_or(Refusal::WrongWindow)?;
         if n < 32 {
-            places[n] = w;
+            windows.places[n] = w;
         }
         n += 1;
-        at = end + 1;
     }
     if n > 32 {
-        return refused(24);
+        return Err(Refusal::TooManyWindows);
     }
-    Listed {
-        number: 0,
-        windows: Windows { places },
+    Ok(windows)
+}
+
+// The windows of a text, line by line: each line ends in a line feed, and the empty text is the empty list.
+#[tactic(auto, using(crate::proofs::Lines::reads))]
+pub fn read_list(text: &[u8]) -> Result<Windows, Refusal>
+    ensures { numbered result ≡ listed_of text.now }
+{
+    let Some((last, lines)) = text.split_last() else {
+        return Ok(no_windows());
+    };
+    if *last != b'\n' {
+        return Err(Refusal::WrongWindow);
     }
+    read_lines(lines)
 }
 
 // The theorem of a text's windows, as a promise: a function is what the prover's verdict counts, so that a theorem that is gone is seen.

@@ -1,5 +1,4 @@
-//! READ by VIEW. The proved READ copies by its own loops, and looks each of several pages up twice, the first time to refuse before it has
-//! copied any. Here each is looked up once, by VIEW, and all are copied then. Where VIEW refuses a page, READ answers, by its own rows.
+//! READ by VIEW. The proved READ looks each of several pages up twice, the first time to refuse before it has copied any. Here each is looked up once, by VIEW, and all are copied then. Where VIEW refuses a page, READ answers, by its own rows.
 
 use crate::calls::areas::{Storage, MOST_PAGES};
 use crate::calls::counters::{ByteOffset, Line, PageIndex, Version};

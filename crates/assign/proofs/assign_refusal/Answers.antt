@@ -1,58 +1,74 @@
 -- At each return, the rows passed and the row stopped at.
-use Rattle.std.proofs.Common.{ℕ, Bool, true, false, not, ◌≡◌, ◌<◌, ◌≤◌, [], ◌∷◌, rules, sym, ◌∙◌, inr}
-use borrow.Author.Tests.{le-leb, lt-leb, lt-ltb, le-ltb}
-use Rattle.table.specs.Table.{Cond, ◌≤?◌, ◌<?◌, ◌and◌, ◌or◌, ◌gives◌, always, holds, first_refusal, assign_rows}
-use Rattle.assign.specs.Assign.{room_refusal, assign_refusal}
-use Rattle.table.proofs.Table.{hit, skip, hit-flag, skip-flag, rest, first}
+use Rattle.std.proofs.Common.{◌≡◌, ℕ, ◌≤◌, Bool, true, false, not, ◌⊎◌, inl, inr, ◌∷◌, [], sym, ◌∙◌, rules, arith, le-leb, le-ltb}
+use Rattle.table.specs.Table.{Cond, ◌≤?◌, ◌<?◌, ◌and◌, ◌or◌, ◌gives◌, holds, first_refusal, assign_rows}
+use Rattle.table.specs.Refused.{number, number_in}
+use Rattle.table.specs.declared.Refusal.{Refusal}
+use Rattle.table.proofs.Refused.{number_stands}
+use Rattle.table.proofs.Table.{hit, skip, rest, first, or_else-0}
 use Rattle.versions.proofs.Ticket.{stop, go_on}
 use Rattle.assign.proofs.assign_refusal.Goals as goal
 
--- The ticket's record lies past the register: a row that reads it does not hold, and 19 does.
-past :
-    (a b c d e f g : Cond) (t u k : ℕ) → u < t → k ≡ first_refusal ((b gives 20) ∷ (d gives 13) ∷ (always gives 19) ∷ [])
-    → k
-    ≡ first_refusal
-    ((t ≤? u and a gives 8) ∷ (b gives 20) ∷ (t ≤? u and c gives 12) ∷ (d gives 13) ∷ (t ≤? u and e gives 14) ∷ (t ≤? u and f gives 15) ∷ (u <? t or g gives 19) ∷ [])
-unfolding first_refusal holds
-past a b c d e f g t u k h z = z ∙ rw (lt-leb t u h, lt-ltb u t h)
+-- A refusal's number is not 0.
+some : (e : Refusal) → number e ≡ 0 → ⊥
+some e z = omega (arith, number_stands e 1, or_else-0 (number e) 1 z)
 
--- It lies within: the rows that read it say what they read.
+-- A row that reads the ticket's record has failed: that lies past the register, or does not say so.
+new : {A B C : Type 0} → (A × B) ⊎ C → C ⊎ B
+new (inl p) = inr p.1
+new (inr q) = inl q
+
+filled : {A C : Type 0} (a b : Bool) → a ≡ b → (A × (a ≡ true)) ⊎ C → C ⊎ (not b ≡ false)
+filled a b e (inl p) = inr (rw (← e, p.1))
+filled a b e (inr q) = inl q
+
+-- The rows from 14 on where the record lies within the register.
 within :
     (a b c : Cond) (t u k : ℕ) → t ≤ u → k ≡ first_refusal ((a gives 14) ∷ (b gives 15) ∷ (c gives 19) ∷ [])
     → k ≡ first_refusal ((t ≤? u and a gives 14) ∷ (t ≤? u and b gives 15) ∷ (u <? t or c gives 19) ∷ [])
 unfolding first_refusal holds
 within a b c t u k h z = z ∙ rw (le-leb t u h, le-ltb u t h)
 
-not-put : (a b : Bool) → a ≡ b → a ≡ false → not b ≡ true
-not-put a b e h = rw (← e, h)
+pub returns-in_err-ticket_refusal-clause-refused : goal.returns-in_err-ticket_refusal-clause-refused
+unfolding assign_rows
+returns-in_err-ticket_refusal-clause-refused c =
+    let e = c.in_err-ticket_refusal.field-0.0 in
+    let same : number_in c.from_residual.result ≡ number e = search rules in
+    same ∙ first (stop c.in_err-ticket_refusal.ensures (some e))
 
-put : (a b : Bool) → a ≡ b → a ≡ true → not b ≡ false
-put a b e h = rw (← e, h)
+pub returns-in_err-ticket_refusal-clause-accepted : goal.returns-in_err-ticket_refusal-clause-accepted
+returns-in_err-ticket_refusal-clause-accepted c =
+    let e = c.in_err-ticket_refusal.field-0.0 in
+    let same : number_in c.from_residual.result ≡ number e = search rules in
+    λ z. absurd (some e (sym same ∙ z))
 
-pub returns-then-k-ne0 : goal.returns-then-k-ne0
-unfolding assign_refusal assign_rows
-returns-then-k-ne0 c = first (stop c.ticket_refusal-k.ensures c.if-k-ne0.true)
+pub returns-then-r-ne0-clause-refused : goal.returns-then-r-ne0-clause-refused
+unfolding assign_rows
+returns-then-r-ne0-clause-refused c = first (go_on (search rules) (hit (omega arith, omega arith)))
 
-pub returns-then-s-t : goal.returns-then-s-t
-unfolding assign_refusal assign_rows
-returns-then-s-t c = first (go_on (sym c.ticket_refusal-k.ensures ∙ c.if-k-ne0.false) (rest (past _ _ _ _ _ _ _ _ _ _ c.if-s-t.true c.past_refusal.ensures)))
+pub returns-then-lines_begun-u-clause-refused : goal.returns-then-lines_begun-u-clause-refused
+unfolding assign_rows
+returns-then-lines_begun-u-clause-refused c = first (go_on (search rules) (skip (new c.else-there.either) (hit (search rules))))
 
-pub returns-then-r-ne0 : goal.returns-then-r-ne0
-unfolding assign_refusal assign_rows
-returns-then-r-ne0 c = first (go_on (sym c.ticket_refusal-k.ensures ∙ c.if-k-ne0.false) (hit (search rules)))
+pub returns-then-not-full-clause-refused : goal.returns-then-not-full-clause-refused
+unfolding assign_rows
+returns-then-not-full-clause-refused c =
+    first (go_on (search rules) (skip (new c.else-there.either) (skip (search rules) (hit (c.if-there-2.true, rw (← c.if-not-full.ensures))))))
 
-pub returns-then-lines_begun-l : goal.returns-then-lines_begun-l
-unfolding assign_refusal assign_rows
-returns-then-lines_begun-l c = first (go_on (sym c.ticket_refusal-k.ensures ∙ c.if-k-ne0.false) (skip (inr (search rules)) (hit (search rules))))
+pub returns-then-end-u-clause-refused : goal.returns-then-end-u-clause-refused
+unfolding assign_rows
+returns-then-end-u-clause-refused c =
+    let put = filled _ _ c.all_put-full.ensures c.else-there-2.either in
+    first (go_on (search rules) (skip (new c.else-there.either) (skip (search rules) (skip put (hit (grind (arith, rules)))))))
 
-pub returns-then-not-all_put : goal.returns-then-not-all_put
-unfolding assign_refusal assign_rows
-returns-then-not-all_put c = first (go_on (sym c.ticket_refusal-k.ensures ∙ c.if-k-ne0.false) (skip (inr (search rules)) (skip (search rules) (hit (c.if-s-t.false, not-put _ _ c.all_put.ensures c.if-not-all_put.true)))))
+pub returns-then-not-there-clause-refused : goal.returns-then-not-there-clause-refused
+unfolding assign_rows
+returns-then-not-there-clause-refused c =
+    let put = filled _ _ c.all_put-full.ensures c.else-there-2.either in
+    let past = c.if-not-there.true in
+    first (go_on (search rules) (skip (new c.else-there.either) (skip (search rules) (skip put (skip (grind (arith, rules)) (skip (inl past) (skip (inl past) (hit (inl past)))))))))
 
-pub returns-then-past_the_end : goal.returns-then-past_the_end
-unfolding assign_refusal assign_rows holds
-returns-then-past_the_end c = first (go_on (sym c.ticket_refusal-k.ensures ∙ c.if-k-ne0.false) (skip (inr (search rules)) (skip (search rules) (skip (inr (put _ _ c.all_put.ensures c.if-not-all_put.false)) (hit-flag (sym c.past_the_end.ensures ∙ c.if-past_the_end.true))))))
-
-pub returns : goal.returns
-unfolding assign_refusal assign_rows room_refusal holds
-returns c = first (go_on (sym c.ticket_refusal-k.ensures ∙ c.if-k-ne0.false) (skip (inr (search rules)) (skip (search rules) (skip (inr (put _ _ c.all_put.ensures c.if-not-all_put.false)) (skip-flag (sym c.past_the_end.ensures ∙ c.if-past_the_end.false) (rest (within _ _ _ _ _ _ c.if-s-t.false c.room_refusal.ensures)))))))
+pub returns-clause-refused : goal.returns-clause-refused
+unfolding assign_rows
+returns-clause-refused c =
+    let put = filled _ _ c.all_put-full.ensures c.else-there-2.either in
+    first (go_on (search rules) (skip (new c.else-there.either) (skip (search rules) (skip put (skip (grind (arith, rules)) (rest (within _ _ _ _ _ _ c.if-not-there.false c.room_refusal.ensures.refused)))))))

@@ -1,33 +1,25 @@
 -- At each return, the rows passed and the row stopped at.
-use Rattle.std.proofs.Common.{ℕ, Bool, true, false, ◌≡◌, ◌<◌, ◌≤◌, ltb, sym, ◌∙◌, inl, inr, ◌+◌, arith}
-use borrow.Author.Tests.{ltb-true, ltb-false}
-use Rattle.assign.specs.Assign.{room_refusal}
+use Rattle.std.proofs.Common.{◌⊎◌, ◌≤◌, inl, inr, arith}
 use Rattle.table.proofs.Table.{none, hit, skip, first}
+use Rattle.versions.specs.Store.{line_in}
 use Rattle.assign.proofs.room_refusal.Goals as goal
+use Rattle.assign.proofs.room_refusal.Goals.{then-s-via-then-s, then-s-via-else-s+then-s-own}
 
--- There are too few node places left for the count, or enough.
-few-places : (b : Bool) (m p u v : ℕ) → b ≡ ltb m (p + u) → b ≡ true → u ≡ v → m < p + v
-few-places b m p u v e h q = let k = ltb-true m (p + u) (sym e ∙ h) in omega arith
+pub returns-then-saturating_add-gt4096-clause-refused : goal.returns-then-saturating_add-gt4096-clause-refused
+returns-then-saturating_add-gt4096-clause-refused c = first (hit (omega arith))
 
-enough-places : (b : Bool) (m p u v : ℕ) → b ≡ ltb m (p + u) → b ≡ false → u ≡ v → p + v ≤ m
-enough-places b m p u v e h q = let k = ltb-false m (p + u) (sym e ∙ h) in omega arith
+pub returns-then-from-clause-refused : goal.returns-then-from-clause-refused
+returns-then-from-clause-refused c = first (skip (omega arith) (hit (omega arith)))
 
-pub returns-then-capped_sum-gt4096 : goal.returns-then-capped_sum-gt4096
-unfolding room_refusal
-returns-then-capped_sum-gt4096 c = first (hit (omega arith))
+pub returns-then-s-clause-refused : goal.returns-then-s-clause-refused
+returns-then-s-clause-refused c =
+    let s = c.args.s.now in
+    let lost : (s.updates ≤ s.assigned) ⊎ (s.updates ≤ (line_in s c.args.u.line.0).assigned.0) = elim c.then-s.branch [
+      | then-s-via-then-s w ↦ inl w.if-s.true
+      | then-s-via-else-s+then-s-own w ↦ inr (rw (← c.line_state-own.ensures) w.if-s-own.true)
+    ] in
+    first (skip (omega arith) (skip (omega arith) (hit lost)))
 
-pub returns-then-no_places : goal.returns-then-no_places
-unfolding room_refusal
-returns-then-no_places c = first (skip (omega arith) (hit (few-places _ _ _ _ _ c.no_places.ensures c.if-no_places.true c.requires)))
-
-pub returns-then-s : goal.returns-then-s
-unfolding room_refusal
-returns-then-s c = first (skip (omega arith) (skip (enough-places _ _ _ _ _ c.no_places.ensures c.if-no_places.false c.requires) (hit (inl c.if-s.true))))
-
-pub returns-then-s-b : goal.returns-then-s-b
-unfolding room_refusal
-returns-then-s-b c = first (skip (omega arith) (skip (enough-places _ _ _ _ _ c.no_places.ensures c.if-no_places.false c.requires) (hit (inr (rw (← c.line_state-b.ensures) c.if-s-b.true)))))
-
-pub returns : goal.returns
-unfolding room_refusal
-returns c = first (skip (omega arith) (skip (enough-places _ _ _ _ _ c.no_places.ensures c.if-no_places.false c.requires) (skip (c.if-s.false, rw (← c.line_state-b.ensures) c.if-s-b.false) none)))
+pub returns-clause-refused : goal.returns-clause-refused
+returns-clause-refused c =
+    first (skip (omega arith) (skip (omega arith) (skip (c.if-s.false, rw (← c.line_state-own.ensures) c.if-s-own.false) none)))

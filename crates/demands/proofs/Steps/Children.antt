@@ -1,9 +1,9 @@
 -- WEAVE's search for a child's number on a model's image: the newest of a line's versions after its last published one, else what that one's tree has, is the model's newest.
 -- Assumes nothing.
+use Rattle.std.proofs.Common.{Option, Some}
 use mathlib.Core.Path.{◌≡◌, refl, sym, ap, ◌∙◌}
 use mathlib.Core.Logic.{inl, inr}
 use mathlib.Core.Bool.{true, false}
-use mathlib.Core.Option.{Option, some}
 use mathlib.Core.List.{List, []}
 use Prim.Native.Nat.{ℕ, zero, suc, ◌-◌, ◌^◌, ◌≤◌, ◌<◌, min}
 use native.Mathlib.Omega.{arith}
@@ -130,7 +130,7 @@ module _ (L : Limits) (m : Model) (S : Sound L m) (l : ℕ) (there : l < length 
 -- ---- the tree of a published version
 
 -- From no version nothing is reached.
-from_zero : (x : Areas) (span p j : ℕ) → reach_from x 0 span p j ≡ some 0
+from_zero : (x : Areas) (span p j : ℕ) → reach_from x 0 span p j ≡ Some 0
 from_zero x span p j = elim (lt-or-le p (root_in span)) [
   | inl q ↦ from-root x 0 span p j q ∙ reach-none (place_at x.register) x.nodes j p (height_in span - j)
   | inr q ↦ from_past x 0 span p j q
@@ -166,7 +166,7 @@ module _ (L : Limits) (m : Model) (S : Sound L m) (l : ℕ) (there : l < length 
 
       -- Within the root, down from it; from a height above the root's the version itself.
       reach-inside : a < 2 ^ height_of us v → reach_from (areas_of [] (nodes_image L m) (register_image L m)) (number_in (history m l) v) (2 ^ height_of us v) a j
-          ≡ some (number_in (history m l) (newest us v a (2 ^ j)))
+          ≡ Some (number_in (history m l) (newest us v a (2 ^ j)))
       reach-inside r =
           let x = areas_of [] (nodes_image L m) (register_image L m) in
           let d = number_in (history m l) v in
@@ -176,28 +176,28 @@ module _ (L : Limits) (m : Model) (S : Sound L m) (l : ℕ) (there : l < length 
             | inl q ↦
                 let zero-first : a ≡ 0 = sym grid ∙ first-root a j (omega (arith, pow_mono {i = H} {j = j} (omega arith))) in
                 let top : newest us v a (2 ^ j) ≡ v = rw zero-first (newest-above us v accepted j o (omega arith)) in
-                reach_here at (nodes_image L m) j a (height_in (2 ^ H)) d (omega (arith, high)) ∙ sym (ap (λ (w : ℕ). some (number_in (history m l) w)) top)
+                reach_here at (nodes_image L m) j a (height_in (2 ^ H)) d (omega (arith, high)) ∙ sym (ap (λ (w : ℕ). Some (number_in (history m l) w)) top)
             | inr q ↦
                 rw high
                 (reach-newest us v accepted (numbers_on m l) at (nodes_image L m) refl called stands j a r (H - j) (omega arith)
-                ∙ ap (λ (b : ℕ). some (number_in (history m l) (newest us v b (2 ^ j)))) grid)
+                ∙ ap (λ (b : ℕ). Some (number_in (history m l) (newest us v b (2 ^ j)))) grid)
           ]
 
       reach-outside : 2 ^ height_of us v ≤ a → reach_from (areas_of [] (nodes_image L m) (register_image L m)) (number_in (history m l) v) (2 ^ height_of us v) a j
-          ≡ some (number_in (history m l) (newest us v a (2 ^ j)))
+          ≡ Some (number_in (history m l) (newest us v a (2 ^ j)))
       reach-outside r =
           from_past (areas_of [] (nodes_image L m) (register_image L m)) (number_in (history m l) v) (2 ^ height_of us v) a j (rw root r)
-          ∙ sym (ap (λ (w : ℕ). some (number_in (history m l) w)) (newest-outside us v accepted a (2 ^ j) r))
+          ∙ sym (ap (λ (w : ℕ). Some (number_in (history m l) w)) (newest-outside us v accepted a (2 ^ j) r))
 
       reach-published : reach_from (areas_of [] (nodes_image L m) (register_image L m)) (number_in (history m l) v) (2 ^ height_of us v) a j
-          ≡ some (number_in (history m l) (newest us v a (2 ^ j)))
+          ≡ Some (number_in (history m l) (newest us v a (2 ^ j)))
       reach-published = elim (lt-or-le a (2 ^ height_of us v)) [ inl r ↦ reach-inside r | inr r ↦ reach-outside r ]
 
   -- The node over a page that stands at a height in the tree of a published version, or of version 0, is the newest's.
   tree-newest : (v a j : ℕ) → v ≤ (line_at m l).published → first a j ≡ a
       → let d = number_in (history m l) v in
       reach_from (areas_of [] (nodes_image L m) (register_image L m)) d (version_part (register_image L m) d).span a j
-      ≡ some (number_in (history m l) (newest (updates (history m l)) v a (2 ^ j)))
+      ≡ Some (number_in (history m l) (newest (updates (history m l)) v a (2 ^ j)))
   tree-newest zero a j h grid =
       let none : newest (updates (history m l)) 0 a (2 ^ j) ≡ 0 = omega (arith, newest-le (updates (history m l)) 0 a (2 ^ j)) in
       rw none (from_zero (areas_of [] (nodes_image L m) (register_image L m)) (version_part (register_image L m) 0).span a j)

@@ -1,8 +1,8 @@
 -- The walk on a model's image: it ends at the leaf of the newest version that covers the page, and its page number is that version's.
 -- Assumes nothing.
+use Rattle.std.proofs.Common.{Some}
 use mathlib.Core.Path.{◌≡◌, sym, ap, ◌∙◌}
 use mathlib.Core.Bool.{true, ◌&&◌}
-use mathlib.Core.Option.{some}
 use mathlib.Core.List.{[]}
 use Prim.Native.Nat.{ℕ, suc, pred, ◌+◌, ◌-◌, ◌*◌, ◌%◌, ◌^◌, ◌≤◌, ◌<◌}
 use native.Mathlib.Omega.{arith}
@@ -13,9 +13,8 @@ use lib.Pow.{pow_mono}
 use Rattle.pages.specs.Pages.{part}
 use Rattle.tree.specs.Tree.{Update, meets, update, root_height, height_of}
 use Rattle.tree.specs.Place.{first, index, halvings}
-use Rattle.tree.specs.Walk.{has_node, leaf_version, reach_by, leaf_of}
+use Rattle.tree.specs.Walk.{has_node, leaf_version, reach_by, leaf_of, leaf_at}
 use Rattle.tree.specs.Contract.{root_span, root_in, height_in}
-use Rattle.tree.specs.declared.Found.TheVariants.{Leaf}
 use Rattle.tree.proofs.First.{first-le}
 use Rattle.tree.proofs.Halved.{halved-small, index-halved}
 use Rattle.tree.proofs.Meets.{meets-within}
@@ -138,7 +137,7 @@ module _ (L : Limits) (m : Model) (S : Sound L m) (l : ℕ) (there : l < length 
             lt-ltb 0 its some-update,
             has-shown,
           )
-          (ap some sum-found)
+          (ap Some sum-found)
 
   module _ (v p : ℕ) (h' : v ≤ (line_at m l).published) (r : p < (version_at (history m l) v).size) where
     above : 0 < v
@@ -152,7 +151,7 @@ module _ (L : Limits) (m : Model) (S : Sound L m) (l : ℕ) (there : l < length 
 
     -- The walk on the image.
     pub find-page : find_page (areas_image L m) (number_in (history m l) v) p
-        ≡ Leaf
+        ≡ leaf_at
         (number_in (history m l) (leaf_version (updates (history m l)) v p))
         (leaf_number m l (leaf_version (updates (history m l)) v p) p)
     unfolding find_page
@@ -171,7 +170,7 @@ module _ (L : Limits) (m : Model) (S : Sound L m) (l : ℕ) (there : l < length 
         ∙ sym (walk-reach at area h c p (place-zero (register_image L m)))
         ∙ walk-found L m S l there at v h' places p r)
 
-    pub page-number : page_number_of L.pages (areas_image L m) (number_in (history m l) v) p ≡ some (leaf_number m l (leaf_version (updates (history m l)) v p) p)
+    pub page-number : page_number_of L.pages (areas_image L m) (number_in (history m l) v) p ≡ Some (leaf_number m l (leaf_version (updates (history m l)) v p) p)
     unfolding page_number_of
     page-number =
         rw (

@@ -44,6 +44,7 @@ use Rattle.demands.proofs.Steps.States.{leaves, state_of, state-same}
 use Rattle.demands.proofs.Steps.Parts.{entries-stay}
 use Rattle.demands.proofs.Steps.Grown.{nodes-grown, record_same}
 use Rattle.demands.proofs.Steps.Found.{part-found}
+use Rattle.table.specs.Refused.{answered}
 
 module _ (L : Limits) (m : Model) (S : Sound L m) (l : ℕ) where
   -- ---- the next version
@@ -174,7 +175,7 @@ module _ (L : Limits) (m : Model) (S : Sound L m) (l : ℕ) where
       → leaves
       (state_of (unless k (store_image L m) (store_if (not h && b) (with_line (store_image L m) l (with_published (line_in (store_image L m) l))) (store_image L m))) (windows_image m)
       (pages_image L m) (nodes_image L m) (register_image L m))
-      (published_answer (published k h b (suc v)))
+      (published_answer (answered k (published h b (suc v))))
       ≡ leaves
       (image L (unless k m (either h m (either b' (published_model L m l) m))))
       (answers k (either h held (either b' (published_is (suc (line_at m l).published)) waiting)))

@@ -1,9 +1,9 @@
 -- PUT on the image of a sound model is the model's.
 -- Assumes nothing.
+use Rattle.std.proofs.Common.{None}
 use mathlib.Core.Path.{◌≡◌, refl, ap, sym}
 use mathlib.Core.Logic.{inl, inr, ◌≢◌}
 use mathlib.Core.Bool.{true}
-use mathlib.Core.Option.{none}
 use mathlib.Core.List.{List}
 use Prim.Native.Nat.{ℕ, zero, suc, pred, ◌+◌, ◌*◌, ◌≤◌, ◌<◌}
 use native.Mathlib.Nat.{suc_inj}
@@ -15,7 +15,7 @@ use Rattle.register.specs.Register.{with_record}
 use Rattle.register.specs.declared.Record.{Record}
 use Rattle.table.specs.Table.{◌<?◌, ◌≤?◌, ◌or◌, always, put_rows, unless}
 use Rattle.versions.specs.Store.{lengths_of, record_of}
-use Rattle.put.specs.Put.{ticket_page, bit_of, put_refusal, put_in, with_put, with_bit}
+use Rattle.put.specs.Put.{ticket_page, bit_of, put_refusal, with_put, with_bit}
 use Rattle.model.specs.Calls.{PUT, put_done, answers}
 use Rattle.model.specs.History.{Version, no_version, pages_of, is_filled, bit_if}
 use Rattle.model.specs.Model.{Limits, Model, update_at, ticket_update}
@@ -39,13 +39,14 @@ use Rattle.demands.proofs.Steps.States.{leaves, state_of, state-same}
 use Rattle.demands.proofs.Steps.Parts.{all_same, ticket_part, update_part}
 use Rattle.demands.proofs.Steps.Changed.{changed-store, changed-number, changed-ticket-part, changed-update-part}
 use Rattle.demands.proofs.Steps.Grown.{nodes-grown}
+use Rattle.table.specs.Refused.{answered}
 
 module _ (L : Limits) (m : Model) (S : Sound L m) (i : ℕ) (bytes : List ℕ) where
   -- ---- the number
 
   put_reads : (t : ℕ) → 0 < t → t ≤ length m.tickets
       → let r = record_of (areas_image L m) t in
-      PutReads t L.updates r.update (ticket_update m t) r.n (pages_of (ticket_in m t)) (bit_of r.put i) (bit_if (is_filled (get_or (ticket_in m t).slots i none)))
+      PutReads t L.updates r.update (ticket_update m t) r.n (pages_of (ticket_in m t)) (bit_of r.put i) (bit_if (is_filled (get_or (ticket_in m t).slots i None)))
   put_reads zero o h = absurd (omega arith)
   put_reads (suc t) o h =
       let e = record-at L m t (omega (arith, S.records)) in
@@ -60,7 +61,7 @@ module _ (L : Limits) (m : Model) (S : Sound L m) (i : ℕ) (bytes : List ℕ) w
       m
       S
       (put_rows (t ≤? L.updates) t (length m.tickets) r.update r.n i (bit_of r.put i) (length bytes) L.size)
-      (put_rows always t (length m.tickets) (ticket_update m t) (pages_of (ticket_in m t)) i (bit_if (is_filled (get_or (ticket_in m t).slots i none))) (length bytes) L.size)
+      (put_rows always t (length m.tickets) (ticket_update m t) (pages_of (ticket_in m t)) i (bit_if (is_filled (get_or (ticket_in m t).slots i None))) (length bytes) L.size)
       (L.updates <? t or L.pages ≤? r.number + i)
       (put-alike _ _ _ _ _ _ _ _ _ _ _ _ (put_reads t))
       (λ z.
@@ -123,7 +124,7 @@ module _ (L : Limits) (m : Model) (S : Sound L m) (i : ℕ) (bytes : List ℕ) w
       (put-register t p)
 
   put-leaves : (t k : ℕ) (x : List ℕ) (r : List Record) → (k ≡ 0 → state_of (store_image L m) (windows_image m) x (nodes_image L m) r ≡ image L (filled_at L m t i bytes))
-      → leaves (state_of (store_image L m) (windows_image m) (unless k (pages_image L m) x) (nodes_image L m) (unless k (register_image L m) r)) (put_answer (put_in k))
+      → leaves (state_of (store_image L m) (windows_image m) (unless k (pages_image L m) x) (nodes_image L m) (unless k (register_image L m) r)) (put_answer (answered k tt))
       ≡ leaves (image L (unless k m (filled_at L m t i bytes))) (answers k put_done)
   unfolding unless
   put-leaves t zero x r h = ap (λ y. leaves y put_done) (h refl)

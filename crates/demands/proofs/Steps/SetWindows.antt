@@ -9,7 +9,7 @@ use Rattle.text.specs.Text.{text_lines}
 use Rattle.table.specs.Table.{never, unless, window_rows}
 use Rattle.windows.specs.Windows.{placed}
 use Rattle.windows.specs.Listed.{wrong, windows_of, text_number}
-use Rattle.set_windows.specs.SetWindows.{set_number, windows_set}
+use Rattle.set_windows.specs.SetWindows.{set_number}
 use Rattle.model.specs.Calls.{SETWINDOWS, windows_done, answers}
 use Rattle.model.specs.Model.{Limits, Model}
 use Rattle.model.specs.OnModel.{with_windows, on_model}
@@ -24,6 +24,7 @@ use Rattle.demands.proofs.Image.{record_image, register_image, sources_image, li
 use Rattle.demands.proofs.Steps.Numbers.{alike_same, image-number}
 use Rattle.demands.proofs.Steps.States.{leaves, state_of, state-same}
 use Rattle.demands.proofs.Steps.Grown.{nodes-grown, record_same}
+use Rattle.table.specs.Refused.{answered}
 
 module _ (L : Limits) (m : Model) (S : Sound L m) (t : List ℕ) where
   windows-number : set_number (store_image L m) (areas_image L m) t ≡ text_number t
@@ -48,7 +49,7 @@ module _ (L : Limits) (m : Model) (S : Sound L m) (t : List ℕ) where
       state-same windows-store (pages-same m m' g L refl (λ u i o h l s. refl)) (nodes-grown L m m' S g (λ k o h. refl) refl) windows-register
 
   windows-leaves : (k : ℕ)
-      → leaves (state_of (store_image L m) (unless k (windows_image m) (placed (windows_of t))) (pages_image L m) (nodes_image L m) (register_image L m)) (windows_answer (windows_set k))
+      → leaves (state_of (store_image L m) (unless k (windows_image m) (placed (windows_of t))) (pages_image L m) (nodes_image L m) (register_image L m)) (windows_answer (answered k tt))
       ≡ leaves (image L (unless k m (with_windows L m t))) (answers k windows_done)
   unfolding unless
   windows-leaves zero = λ i. leaves (windows-image i) windows_done

@@ -1,6 +1,6 @@
 -- The way down the versions that cover a page, on a model's image: it ends at the model's stamp.
 -- Assumes nothing.
-use mathlib.Core.Path.{◌≡◌, refl, sym, ap, ◌∙◌}
+use mathlib.Core.Path.{◌≡◌, sym, ap, ◌∙◌}
 use mathlib.Core.Logic.{inl, inr}
 use mathlib.Core.Bool.{Bool, true, false}
 use mathlib.Core.List.{[]}
@@ -10,11 +10,9 @@ use borrow.Author.Tests.{lt-ltb, le-ltb}
 use lib.ListN.{length, get_or}
 use Rattle.text.specs.Text.{pick}
 use Rattle.pages.specs.Pages.{part}
-use Rattle.tree.specs.Walk.{leaf_version}
-use Rattle.tree.specs.declared.Found.{Found}
-use Rattle.tree.specs.declared.Found.TheVariants.{Leaf, Lost}
+use Rattle.tree.specs.Walk.{leaf_version, leaf_at}
 use Rattle.tree.proofs.Meets.{lt-or-le}
-use Rattle.table.proofs.Table.{none, hit, skip, second}
+use Rattle.table.proofs.Table.{none, hit, skip, first}
 use Rattle.versions.specs.Store.{number_on, part_on}
 use Rattle.walk.specs.FindPage.{find_page, page_number_of, is_lost}
 use Rattle.stamp.specs.Stamp.{page_refusal, leaf_as_of, same_below, on_from, since_by, since}
@@ -36,6 +34,8 @@ use Rattle.demands.proofs.Image.{store_image, areas_image}
 use Rattle.demands.proofs.Lines.{number-on}
 use Rattle.demands.proofs.Steps.Found.{find-page, page-number, view-bytes}
 use Rattle.demands.proofs.Steps.Size.{name-there, pages-in}
+use Rattle.std.proofs.Common.{Option, None}
+use Rattle.tree.specs.declared.Leaf.{Leaf}
 
 module _ (L : Limits) (m : Model) (S : Sound L m) (l : ℕ) (there : l < length m.lines) (p : ℕ) where
   abbrev h : History
@@ -46,15 +46,15 @@ module _ (L : Limits) (m : Model) (S : Sound L m) (l : ℕ) (there : l < length 
   Has n v = part (pages_image L m) (L.size * n) L.size ≡ get_or (blob_at h v) p []
 
   -- A page that version v does not have.
-  none-as-of : (v : ℕ) → v ≤ h.published → (version_at h v).size ≤ p → leaf_as_of (store_image L m) (areas_image L m) l v p ≡ Lost
+  none-as-of : (v : ℕ) → v ≤ h.published → (version_at h v).size ≤ p → leaf_as_of (store_image L m) (areas_image L m) l v p ≡ None
   unfolding leaf_as_of
   none-as-of v q r =
       let s = store_image L m in
       let a = areas_image L m in
       let c = number_on s l v in
       let w = published-upto L m S l there v q in
-      let z : page_refusal 0 L.pages (part_on s a l v) c v p (find_page a c p) ≡ 17 =
-      sym (second refl (hit (name-there L m S l there v w, omega (arith, pages-in L m S l there v w)))) in
+      let z : page_refusal L.pages (part_on s a l v) c v p (find_page a c p) ≡ 17 =
+      sym (first (hit (name-there L m S l there v w, omega (arith, pages-in L m S l there v w)))) in
       rw z
 
   -- ---- a page that it has
@@ -63,8 +63,8 @@ module _ (L : Limits) (m : Model) (S : Sound L m) (l : ℕ) (there : l < length 
     abbrev pub newest : ℕ
     newest = leaf_version (updates h) v p
 
-    abbrev found : Found
-    found = Leaf (number_in h newest) (leaf_number m l newest p)
+    abbrev found : Option Leaf
+    found = leaf_at (number_in h newest) (leaf_number m l newest p)
 
     upto : v ≤ length h.versions
     upto = omega (arith, published-upto L m S l there v q, versions-length m l)
@@ -83,13 +83,13 @@ module _ (L : Limits) (m : Model) (S : Sound L m) (l : ℕ) (there : l < length 
         let c = number_on s l v in
         let w = published-upto L m S l there v q in
         let lost : is_lost (page_number_of L.pages a c p) ≡ false = rw (number-on L m S l there v w, page-number L m S l there v p q r) in
-        let z : page_refusal 0 L.pages (part_on s a l v) c v p (find_page a c p) ≡ 0 =
-        sym (second refl (skip (inr (omega (arith, pages-in L m S l there v w))) (skip (name-there L m S l there v w, lost) none))) in
+        let z : page_refusal L.pages (part_on s a l v) c v p (find_page a c p) ≡ 0 =
+        sym (first (skip (inr (omega (arith, pages-in L m S l there v w))) (skip (name-there L m S l there v w, lost) none))) in
         rw (z, number-on L m S l there v w) (find-page L m S l there v p q r)
 
     -- Whether the way goes on to its leaf from a page with the bytes of version v + 1 is the model's test.
     goes-on : (n : ℕ) → Has n (suc v)
-        → same_below (pages_image L m) L.size (suc v) n (leaf_as_of (store_image L m) (areas_image L m) l v p) ≡ pick (stays h v p) found Lost
+        → same_below (pages_image L m) L.size (suc v) n (leaf_as_of (store_image L m) (areas_image L m) l v p) ≡ pick (stays h v p) found None
     goes-on n bytes =
         rw (
           found-as-of,
@@ -122,14 +122,14 @@ module _ (L : Limits) (m : Model) (S : Sound L m) (l : ℕ) (there : l < length 
       let x = leaf_version (updates h) v p in
       let below : v ≤ h.published = omega arith in
       let before : suc v - 1 ≡ v = omega arith in
-      let next : Found → ℕ = λ y. on_from (suc v) y (λ w k. since_by s a l p i w k) in
-      let step : Found → ℕ = λ y. next (same_below (pages_image L m) L.size (suc v) n y) in
+      let next : Option Leaf → ℕ = λ y. on_from (suc v) y (λ w k. since_by s a l p i w k) in
+      let step : Option Leaf → ℕ = λ y. next (same_below (pages_image L m) L.size (suc v) n y) in
       ap (λ (u : ℕ). step (leaf_as_of s a l u p)) before
       ∙ elim (lt-or-le p (version_at h v).size) [
         | inl r ↦
             let b = bounds v below r in
-            let tested : (t : Bool) → stays h v p ≡ t → step (leaf_as_of s a l v p) ≡ next (pick t (found v below r) Lost) =
-            λ t e. ap next (goes-on v below r n bytes ∙ ap (λ (y : Bool). pick y (found v below r) Lost) e) in
+            let tested : (t : Bool) → stays h v p ≡ t → step (leaf_as_of s a l v p) ≡ next (pick t (found v below r) None) =
+            λ t e. ap next (goes-on v below r n bytes ∙ ap (λ (y : Bool). pick y (found v below r) None) e) in
             elim (test-cases (stays h v p)) [
               | inl e ↦
                   tested true e

@@ -10,7 +10,7 @@ use Rattle.register.specs.Register.{part_of}
 use Rattle.register.specs.declared.Part.{Part}
 use Rattle.register.proofs.Records.{version-own}
 use Rattle.versions.specs.Store.{number_on, part_on}
-use Rattle.versions.specs.Size.{pages_by, pages_in, bytes_by, bytes_in, not_there, size_number, sized}
+use Rattle.versions.specs.Size.{pages_by, pages_in, bytes_by, bytes_in, not_there, size_number}
 use Rattle.table.specs.Table.{size_rows}
 use Rattle.model.specs.Calls.{size, size_is, says, answers}
 use Rattle.model.specs.History.{version_at}
@@ -29,8 +29,9 @@ use Rattle.demands.proofs.Lines.{lines-in, line-in, number-on, part-on, name-sho
 use Rattle.demands.proofs.Readings.{answers-same, sized_reads}
 use Rattle.demands.proofs.Steps.Numbers.{alike_same, image-number}
 use Rattle.demands.proofs.Steps.Found.{update_found}
+use Rattle.table.specs.Refused.{answered}
 
-size-answer : (k a b : ℕ) → (k ≡ 0 → a ≡ b) → sized_answer (sized k a) ≡ answers k (size_is b)
+size-answer : (k a b : ℕ) → (k ≡ 0 → a ≡ b) → sized_answer (answered k a) ≡ answers k (size_is b)
 size-answer k a b h = sized_reads k a ∙ answers-same k (size_is a) (size_is b) (λ z. ap size_is (h z))
 
 module _ (L : Limits) (m : Model) (S : Sound L m) (l : ℕ) (there : l < length m.lines) where

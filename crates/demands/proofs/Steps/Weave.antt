@@ -26,7 +26,6 @@ use Rattle.register.specs.declared.Record.{Record}
 use Rattle.register.specs.declared.Part.{Part}
 use Rattle.table.specs.Table.{◌≤?◌, ◌<?◌, ◌or◌, always, unless, weave_rows}
 use Rattle.table.proofs.Table.{Fails, number-cases, or_else-0, or_else-suc}
-use Rattle.weave.specs.declared.Woven.TheVariants as Woven
 use Rattle.versions.specs.declared.Store.{Store}
 use Rattle.versions.specs.Store.{lengths_of, record_of}
 use Rattle.weave.specs.Weave.{next_node, place_of, next_place, leaf_past, weave_refusal, woven_update, woven_record, woven_part, older_number, meets_left, meets_right, lost_half, lost_child, lost_by, weave_number, kept, left_number, right_number, first_page, span_of, with_woven, node_of}
@@ -53,6 +52,7 @@ use Rattle.demands.proofs.Steps.Numbers.{image-number, WeaveReads, weave-alike}
 use Rattle.demands.proofs.Steps.States.{state_of, state-same}
 use Rattle.demands.proofs.Steps.Children.{older-newest}
 use Rattle.demands.proofs.Steps.Woven.{woven-store, woven-pages, woven-nodes, woven-register}
+use Rattle.std.proofs.Common.{Ok}
 
 -- ---- the node, over any records
 
@@ -297,7 +297,7 @@ module _ (L : Limits) (m : Model) (S : Sound L m) (t : ℕ) (p : WeavePassed m t
   not-lost : lost_child (store_image L m) (nodes_image L m) (register_image L m) part (next_node part) ≡ false
   not-lost = rw next-node (none-lost reads (slot_number m t) L.pages S.allowed.pages next (next-in next refl))
 
-  node-says : woven_answer (Woven.Node (node_of (store_image L m) (areas_image L m) t)) ≡ node_answer L m t
+  node-says : woven_answer (Ok (node_of (store_image L m) (areas_image L m) t)) ≡ node_answer L m t
   node-says = λ i. node_is (number_is i) (first-node i) (span-node i) (left-node i) (right-node i) (rest-node i)
     where
       first-node : first_page (next_node part) ≡ page_of next
@@ -366,5 +366,5 @@ module _ (L : Limits) (m : Model) (S : Sound L m) (t : ℕ) where
       let k = model_number L m t in
       let states = unless-state L m (woven L m t) k _ _ (λ z. state-after (weave-passed L m t z)) in
       let x = node_of (store_image L m) (areas_image L m) t in
-      let said = woven-reads k x ∙ answers-same k (woven_answer (Woven.Node x)) (node_answer L m t) (λ z. node-says L m S t (weave-passed L m t z)) in
+      let said = woven-reads k x ∙ answers-same k (woven_answer (Ok x)) (node_answer L m t) (λ z. node-says L m S t (weave-passed L m t z)) in
       rw weave-number (λ i. (states i, says (said i)))

@@ -1,31 +1,27 @@
--- Two words of the part give the place, and there is no node where a comparison fails.
-use Rattle.std.proofs.Common.{◌≡◌, ◌+◌, ◌-◌, ◌%◌, ◌^◌, ℕ, min, sym, ap, ◌∙◌, arith}
+-- Two words of the part give the place.
+use Rattle.std.proofs.Common.{◌≡◌, ◌+◌, ◌-◌, ◌%◌, ◌^◌, ◌<◌, sym, ap, ◌∙◌, arith, Some}
 use Rattle.tree.specs.Place.{halvings}
 use Rattle.tree.specs.Contract.{height_in}
-use Rattle.tree.proofs.Word.{own_power, height-in-low}
-use Rattle.descent.proofs.Places.{place_other, place-high, place_after, place-before, place-there, place-sum}
+use Rattle.tree.proofs.Halved.{halved-small}
+use Rattle.tree.proofs.Word.{height-in-low}
+use Rattle.descent.specs.Places.{first_over}
+use Rattle.descent.proofs.Places.{place_other, place-none, place-there, place-sum}
+use Rattle.descent.proofs.place_of.Goals.{then-q-c-via-then-q-c, then-q-c-via-else-q-c+then-not-has_node}
 use Rattle.descent.proofs.place_of.Goals as goal
 
 pub returns-then-q-c : goal.returns-then-q-c
-returns-then-q-c c p e = sym (place_other _ _ p _ c.if-q-c.true)
-
-pub returns-then-q-span : goal.returns-then-q-span
-returns-then-q-span c p e = sym (place-high _ _ p _ (omega (arith, own_power c.args.span c.requires.2.spans, c.if-q-span.true)))
-
-pub returns-then-last-first : goal.returns-then-last-first
-returns-then-last-first c p e = sym (place_after _ _ p _ (omega (arith, e, c.requires.2.inside, c.if-last-first.true)))
-
-pub returns-then-first-span : goal.returns-then-first-span
-returns-then-first-span c p e = sym (place-before _ _ p _ (omega (arith, e, own_power c.args.span c.requires.2.spans, c.if-first-span.true)))
+returns-then-q-c c = elim c.then-q-c.branch [
+  | then-q-c-via-then-q-c w ↦ place_other _ _ _ _ w.if-q-c.true
+  | then-q-c-via-else-q-c+then-not-has_node w ↦ place-none _ _ _ _ (sym w.has_node.ensures ∙ w.if-not-has_node.true)
+]
 
 pub returns : goal.returns
-returns c p e =
-    let a = c.args in
-    let o = c.requires.2 in
-    let power = own_power a.span o.spans in
-    let sum : (c.wrapping_sub_u64.result + min a.halved a.q.past) % 2 ^ 64 ≡ (a.q.top + a.carried) % 2 ^ 64 =
-    rw (← c.smaller.ensures, ← c.wrapping_add_u64.ensures.value) c.wrapping_sub_u64.ensures.value in
-    place-sum a.q.top a.q.past a.halved (height_in a.span) a.carried c.wrapping_sub_u64.result (height-in-low a.span) (omega arith)
-    (o.carries ∙ ap (λ (x : ℕ). (x + (2 ^ 64 - height_in a.span)) % 2 ^ 64) (sym o.halvings-of)) sum
-    ∙ ap (λ (x : ℕ). (a.q.top + (2 ^ 64 - height_in a.span) + (x - a.q.past)) % 2 ^ 64) (o.halvings-of ∙ ap halvings e)
-    ∙ sym (place-there a.q a.c p (height_in a.span) c.requires.0 c.requires.1 c.if-q-c.false (omega (arith, power, c.if-q-span.false)) (omega (arith, e, c.if-last-first.false)) (omega (arith, e, power, c.if-first-span.false)))
+returns c =
+    let q = c.args.q in
+    let l = c.args.at in
+    let o = l.carries in
+    let h = height_in l.span in
+    let small : l.halved < 2 ^ 64 = omega (arith, o.inside, o.halvings-of, halved-small l.first) in
+    let place : ((q.top + l.carried) % 2 ^ 64 + (2 ^ 64 - c.min.result)) % 2 ^ 64 ≡ (q.top + (2 ^ 64 - h) + (halvings (first_over l.page h) - q.past)) % 2 ^ 64 =
+    rw (c.min.ensures, ← o.over, ← o.halvings-of) (place-sum q.top q.past l.halved h l.carried (height-in-low l.span) small (rw o.halvings-of o.less-height)) in
+    ap Some place ∙ place-there q c.args.c l.page h c.requires.0 c.requires.1 c.if-q-c.false (sym c.has_node.ensures ∙ c.if-not-has_node.false)

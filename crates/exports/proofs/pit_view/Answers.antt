@@ -12,7 +12,7 @@ pub returns : goal.returns
 returns c =
     let a = areas_of c.args.pages.now c.args.nodes.now c.args.register.now in
     let reply : c.view_reply.result ≡ view_reply c.args.s.size (view_at c.args.s a c.args.line c.args.version c.args.page) =
-    c.view_reply.ensures ∙ ap (view_reply c.args.s.size) c.view_at.ensures in (
+    c.view_reply.ensures ∙ ap (view_reply c.args.s.size) c.view_at-out.ensures in (
       reply,
       ap (λ (r : ViewReply). part c.args.pages.now r.begin r.length) reply
           ∙ view-part c.args.s a c.args.line c.args.version c.args.page,

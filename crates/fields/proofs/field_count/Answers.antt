@@ -1,14 +1,14 @@
--- The next byte in `fields::field_count`: a comma, or a byte of a field.
-use Rattle.std.proofs.Common.{arith}
-use Rattle.fields.proofs.Fields.{count-comma, count-other}
+-- The parts at the commas are the fields.
+use Rattle.std.proofs.Common.{ap, ◌∙◌, length, rules}
+use Rattle.std.proofs.lemmas.Iterator.Consumers.{count_from_yields_List}
+use Rattle.std.proofs.lemmas.Iterator.Splits.{YieldsList-from_slice_split}
+use lib.Dec.{eqb}
+use Rattle.fields.proofs.Fields.{parts-fields}
 use Rattle.fields.proofs.field_count.Goals as goal
-use Rattle.fields.proofs.field_count.Goals.{then-line-i-eq44, else-line-i-eq44}
 
-pub loop-i-preserved : goal.loop-i-preserved
-loop-i-preserved c =
+pub returns : goal.returns
+returns c =
+    let e = c.split.ensures in
     let line = c.args.line.now in
-    let i = c.loop-i.i in
-    elim c.if-line-i-eq44.branch [
-      | then-line-i-eq44 w ↦ omega (arith, count-comma line i (omega arith) w.if-line-i-eq44.true)
-      | else-line-i-eq44 w ↦ omega (arith, count-other line i (omega arith) w.if-line-i-eq44.false)
-    ]
+    count_from_yields_List _ _ c.count.ensures.ran (YieldsList-from_slice_split _ (λ b. eqb b 44) line e.rest e.done e.closure (λ x b q k. search rules))
+    ∙ ap length (parts-fields line)

@@ -1,14 +1,15 @@
--- A last digit alone, and a first byte that is no digit, in `fields::is_hex`.
-use Rattle.std.proofs.Common.{sym, ◌∙◌, arith}
-use Rattle.fields.proofs.Hex.{odd-at, first-bad}
+-- An even number of digits, or an odd one.
+use Rattle.std.proofs.Common.{rules, ◌∙◌}
+use Rattle.std.proofs.lemmas.Iterator.{YieldsList-from_slice}
+use Rattle.std.proofs.lemmas.Iterator.Search.{all_from_yields_List}
+use borrow.Author.Tests.{ne_eqb}
+use Rattle.fields.proofs.Hex.{digit, hex-even, hex-odd}
 use Rattle.fields.proofs.is_hex.Goals as goal
 
-pub returns-then-f-i-lt2 : goal.returns-then-f-i-lt2
-returns-then-f-i-lt2 c =
-    let l = c.loop-i in
-    sym (l.invariant.1 ∙ odd-at c.args.f.now l.i (omega arith) (omega arith))
+pub returns-then-f-eq0 : goal.returns-then-f-eq0
+returns-then-f-eq0 c =
+    all_from_yields_List digit _ _ _ c.all.ensures.ran (YieldsList-from_slice c.args.f.now c.iter.ensures.rest) (λ x b q k. search rules)
+    ∙ hex-even c.args.f.now c.if-f-eq0.true
 
-pub returns-then-hex_value-gt15 : goal.returns-then-hex_value-gt15
-returns-then-hex_value-gt15 c =
-    let l = c.loop-i in
-    sym (l.invariant.1 ∙ first-bad c.args.f.now l.i (omega arith) (omega arith))
+pub returns-else-f-eq0 : goal.returns-else-f-eq0
+returns-else-f-eq0 c = rw (ne_eqb _ _ c.if-f-eq0.false) (hex-odd c.args.f.now c.if-f-eq0.false)

@@ -1,16 +1,15 @@
 -- A published version of a line in the areas of a model: its tree, the walk to a page, and the page's bytes.
 -- Assumes nothing.
+use Rattle.std.proofs.Common.{Option}
 use mathlib.Core.Path.{◌≡◌, refl, sym, ap, ◌∙◌}
 use mathlib.Core.Bool.{true}
-use mathlib.Core.Option.{Option}
 use mathlib.Core.List.{[]}
 use Prim.Native.Nat.{ℕ, zero, suc, ◌+◌, ◌-◌, ◌*◌, ◌^◌, ◌≤◌, ◌<◌}
 use native.Mathlib.Omega.{arith}
 use lib.ListN.{length, get_or, take, drop}
 use Rattle.tree.specs.Tree.{Update, node, weaving, update, height_of}
 use Rattle.tree.specs.Place.{first, index}
-use Rattle.tree.specs.Walk.{Accepted, place_by, has_node, walk_by, leaf_version, version_over, Stands}
-use Rattle.tree.specs.declared.Found.TheVariants.{Leaf}
+use Rattle.tree.specs.Walk.{Accepted, place_by, has_node, walk_by, leaf_version, version_over, Stands, leaf_at}
 use Rattle.tree.proofs.At.{at-get_or}
 use Rattle.tree.proofs.Newest.{newest-le}
 use Rattle.tree.proofs.Walk.{has-newest, newest-order, walk-in-turn-by}
@@ -72,7 +71,7 @@ module _ (L : Limits) (m : Model) (S : Sound L m) (l : ℕ) (there : l < length 
     -- The walk to a page ends at the leaf of the newest version that covers it, by that version's number, and its page number is that version's.
     pub walk-found : (p : ℕ) → p < (version_at (history m l) k).size
         → walk_by at (nodes_image L m) (height_of (updates (history m l)) k) (number_in (history m l) k) p
-        ≡ Leaf
+        ≡ leaf_at
         (number_in (history m l) (leaf_version (updates (history m l)) k p))
         (leaf_number m l (leaf_version (updates (history m l)) k p) p)
     walk-found p r =

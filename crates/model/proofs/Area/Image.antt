@@ -1,6 +1,6 @@
 -- The page area and the node area that a model with lines stands for, to the last byte. A page not put is zeros, a node not woven all ones.
 -- Assumes nothing.
-use mathlib.Core.Option.{Option, none, some}
+use Rattle.std.proofs.Common.{Option, None, Some}
 use mathlib.Core.List.{List}
 use Prim.Native.Nat.{ℕ}
 use lib.Dec.{ltb}
@@ -19,11 +19,11 @@ abbrev pub blank : ℕ → Page
 blank size = replicate size 0
 
 abbrev pub or_blank : ℕ → Option Page → Page
-or_blank size none = blank size
-or_blank size (some x) = x
+or_blank size None = blank size
+or_blank size (Some x) = x
 
 abbrev pub slot_cell : ℕ → Ticket → ℕ → Page
-slot_cell size k i = or_blank size (get_or k.slots i none)
+slot_cell size k i = or_blank size (get_or k.slots i None)
 
 abbrev pub page_cell : ℕ → List Ticket → ℕ → Page
 page_cell size ks q = cell_in pages_of (slot_cell size) (blank size) ks q

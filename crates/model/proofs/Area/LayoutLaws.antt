@@ -1,10 +1,10 @@
 -- Where things lie: the laws by which a call reads and changes the areas, and by which what lies there stays. What rests on the layout cites these alone, and
 -- they ask of a node or page that it stands, also where today all do: so a layout in which some do not changes this file and the definitions, and no other.
 -- Assumes nothing.
+use Rattle.std.proofs.Common.{Option, None, Some}
 use mathlib.Core.Path.{◌≡◌, refl, sym, ap, ◌∙◌}
 use mathlib.Core.Logic.{◌⊎◌, inl, inr}
 use mathlib.Core.Bool.{true}
-use mathlib.Core.Option.{Option, none, some}
 use mathlib.Core.List.{List, [], ◌∷◌}
 use Prim.Native.Nat.{ℕ, zero, suc, pred, ◌+◌, ◌-◌, ◌*◌, ◌^◌, ◌≤◌, ◌<◌}
 use native.Mathlib.Nat.{suc_inj, add-zero}
@@ -13,9 +13,8 @@ use borrow.Author.Tests.{lt-ltb, ltb-true}
 use lib.ListN.{length, get_or, set, length-replicate}
 use Rattle.tree.specs.Tree.{Update, count_of, nth, update, height_of}
 use Rattle.tree.specs.Place.{first, index}
-use Rattle.tree.specs.NodeArea.{all_ones, node_at, with_node}
+use Rattle.tree.specs.NodeArea.{all_ones, node_at, with_node, stored}
 use Rattle.tree.specs.Walk.{version_over, leaf_version}
-use Rattle.tree.specs.declared.NodeAt.TheVariants.{Stored}
 use Rattle.tree.proofs.At.{at_lt}
 use Rattle.tree.proofs.Meets.{lt-or-le}
 use Rattle.tree.proofs.Newest.{newest-le}
@@ -118,7 +117,7 @@ length-nodes L m = length_pairs L.nodes (node_cell m)
 
 -- A node that stands is read at its place.
 pub node-read : {A : Type 0} (L : Limits) (m : Model) → SoundGiven A L m → (k i l r : ℕ) → 0 < k → k ≤ length m.updates → node_stands m k i ≡ true
-    → weave_cell m k i ≡ (l, r) → (l ≡ all_ones → ⊥) ⊎ (r ≡ all_ones → ⊥) → node_at (nodes_image L m) (node_place m k i) ≡ Stored l r
+    → weave_cell m k i ≡ (l, r) → (l ≡ all_ones → ⊥) ⊎ (r ≡ all_ones → ⊥) → node_at (nodes_image L m) (node_place m k i) ≡ stored l r
 unfolding nodes_image
 node-read L m S k i l r o h s e d =
     let n = length m.updates in
@@ -245,9 +244,9 @@ page-room L m S s e = omega (arith, ltb-true s (pages_upto m.tickets (length m.t
 
 -- ---- the page area
 
-length-slot : (size : ℕ) (o : Option Page) → ((x : Page) → o ≡ some x → length x ≡ size) → length (or_blank size o) ≡ size
-length-slot size none h = length-replicate size 0
-length-slot size (some x) h = h x refl
+length-slot : (size : ℕ) (o : Option Page) → ((x : Page) → o ≡ Some x → length x ≡ size) → length (or_blank size o) ≡ size
+length-slot size None h = length-replicate size 0
+length-slot size (Some x) h = h x refl
 
 pub pages-list : (L : Limits) (m : Model) → pages_image L m ≡ joined (page_list L m)
 unfolding pages_image
@@ -262,7 +261,7 @@ module _ {A : Type 0} (L : Limits) (m : Model) (S : SoundGiven A L m) where
   cells-length q = elim (locate pages_of m.tickets no_ticket q) [
     | inside t i l k e ↦
         rw (e, cell_at pages_of (slot_cell L.size) (blank L.size) m.tickets t i no_ticket l k)
-        (length-slot L.size (get_or (get_or m.tickets t no_ticket).slots i none) ((S.tickets (suc t) (omega arith) l).bytes i))
+        (length-slot L.size (get_or (get_or m.tickets t no_ticket).slots i None) ((S.tickets (suc t) (omega arith) l).bytes i))
     | outside k ↦ rw (cell-past pages_of (slot_cell L.size) (blank L.size) m.tickets q k) (length-replicate L.size 0)
   ]
 

@@ -1,8 +1,8 @@
 -- Where every node that version k's root leads to stands, the tree that the node area holds from version k's number down is the tree rule's.
 -- Assumes nothing.
+use Rattle.std.proofs.Common.{Option}
 use mathlib.Core.Path.{◌≡◌, refl, sym, subst₂, ◌∙◌}
 use mathlib.Core.Logic.{inl, inr}
-use mathlib.Core.Option.{Option}
 use mathlib.Core.List.{List}
 use Prim.Native.Nat.{ℕ, zero, suc, ◌+◌, ◌^◌, ◌≤◌, ◌<◌}
 use native.Mathlib.Omega.{arith}
@@ -10,13 +10,13 @@ use lib.Pow.{pow_pos}
 use Rattle.tree.specs.Tree.{Update, node, newest, height_of}
 use Rattle.tree.specs.Place.{first}
 use Rattle.tree.specs.Walk.{Accepted, Numbers, left_by, right_by, Stands, visit, version_over}
-use Rattle.tree.specs.declared.NodeAt.TheVariants.{Stored}
 use Rattle.tree.proofs.Meets.{lt-or-le}
 use Rattle.tree.proofs.First.{first-root, first-nest}
 use Rattle.tree.proofs.Newest.{newest-inside, newest-le}
 use Rattle.tree.proofs.Weaving.{grid-left, grid-right}
 use Rattle.tree.proofs.Walk.{newest-own}
 use Rattle.model.specs.Snapshot.{tree_of, leaf_in, inner_in, tree_in}
+use Rattle.tree.specs.NodeArea.{stored}
 
 -- The tree from a number that is not 0.
 module _ (at : ℕ → ℕ → ℕ → Option ℕ) (area : List ℕ) where
@@ -36,12 +36,12 @@ module _ (us : List Update) (k : ℕ) (accepted : (v : ℕ) → v < k → Accept
     (none-called : N.code 0 ≡ 0) (called : (v : ℕ) → 0 < v → v ≤ k → 0 < N.code v)
     (stands : (p h : ℕ) → 0 < version_over us k p h → h ≤ height_of us k → p < 2 ^ height_of us k → Stands us N at area k p h) where
   -- The two numbers of a node that version k's root leads to.
-  stored : (h a w : ℕ) → h ≤ height_of us k → first a h ≡ a → a < 2 ^ height_of us k → 0 < w → w ≡ newest us k a (2 ^ h)
-      → visit area (at (N.code w) a h) ≡ Stored (left_by us N w (node a h)) (right_by us N w (node a h))
-  stored h a w q g r o e =
+  node-stored : (h a w : ℕ) → h ≤ height_of us k → first a h ≡ a → a < 2 ^ height_of us k → 0 < w → w ≡ newest us k a (2 ^ h)
+      → visit area (at (N.code w) a h) ≡ stored (left_by us N w (node a h)) (right_by us N w (node a h))
+  node-stored h a w q g r o e =
       let over : 0 < version_over us k a h = rw (g, ← e) o in
       let s = stands a h over q r in
-      subst₂ (λ (x y : ℕ). visit area (at (N.code y) a h) ≡ Stored (left_by us N y (node x h)) (right_by us N y (node x h))) g (rw g (sym e)) s
+      subst₂ (λ (x y : ℕ). visit area (at (N.code y) a h) ≡ stored (left_by us N y (node x h)) (right_by us N y (node x h))) g (rw g (sym e)) s
 
   none_below : (h a : ℕ) → tree_in at area h (N.code 0) a ≡ tree_of us N h 0 a
   unfolding tree_in tree_of
@@ -55,7 +55,7 @@ module _ (us : List Update) (k : ℕ) (accepted : (v : ℕ) → v < k → Accept
   tree-from (suc h) a zero q g r e = none_below (suc h) a
   tree-from zero a (suc w) q g r e =
       let s = newest-le us k a (2 ^ 0) in
-      leaf-in at area (N.code (suc w)) a (called (suc w) (omega arith) (omega arith)) ∙ rw (stored 0 a (suc w) q g r (omega arith) e)
+      leaf-in at area (N.code (suc w)) a (called (suc w) (omega arith) (omega arith)) ∙ rw (node-stored 0 a (suc w) q g r (omega arith) e)
   tree-from (suc h) a (suc w) q g r e =
       let s = newest-le us k a (2 ^ suc h) in
       let n = first-nest a (height_of us k) (suc h) q in
@@ -67,7 +67,7 @@ module _ (us : List Update) (k : ℕ) (accepted : (v : ℕ) → v < k → Accept
       let f = sym (rw (← e) at (inside (a + 2 ^ h) (2 ^ h) (omega arith) (omega arith))) in
       inner-in at area h (N.code (suc w)) a (called (suc w) (omega arith) (omega arith))
       ∙ rw (
-        stored (suc h) a (suc w) q g r (omega arith) e,
+        node-stored (suc h) a (suc w) q g r (omega arith) e,
         tree-from h a l (omega arith) (grid-left a h g) r d,
         tree-from h (a + 2 ^ h) m (omega arith) (grid-right a h g) (omega (arith, pow_pos h)) f,
       )

@@ -8,9 +8,8 @@ use native.Mathlib.Omega.{arith}
 use borrow.Author.Tests.{lt-ltb}
 use lib.ListN.{length}
 use Rattle.tree.specs.Tree.{Node, node, newest}
-use Rattle.tree.specs.NodeArea.{node_at}
+use Rattle.tree.specs.NodeArea.{node_at, stored}
 use Rattle.tree.specs.Walk.{left_by, right_by}
-use Rattle.tree.specs.declared.NodeAt.TheVariants.{Stored}
 use Rattle.tree.proofs.Newest.{newest-le}
 use Rattle.model.specs.History.{updates}
 use Rattle.model.specs.Model.{Limits, Model, line_at, update_at, history}
@@ -76,7 +75,7 @@ module _ (L : Limits) (m : Model) (S : Sound L m) (l : ℕ) (there : l < length 
 
     -- Each of its nodes that stands has its numbers as the line has them.
     pub node-there : node_at (nodes_image L m) (node_place m (shown_at m l v) i)
-        ≡ Stored
+        ≡ stored
         (left_by (updates (history m l)) (numbers_on m l) v (node_of m (shown_at m l v) i))
         (right_by (updates (history m l)) (numbers_on m l) v (node_of m (shown_at m l v) i))
     node-there =

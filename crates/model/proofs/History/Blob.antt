@@ -1,7 +1,7 @@
 -- Version k's pages: how many there are, which update each is from, and how long each is.
 -- Assumes nothing.
+use Rattle.std.proofs.Common.{Option, None, Some}
 use mathlib.Core.Path.{◌≡◌, refl, ap, ◌∙◌}
-use mathlib.Core.Option.{Option, none, some}
 use mathlib.Core.List.{List, [], ◌++◌, append_assoc, map}
 use Prim.Native.Nat.{ℕ, zero, suc, ◌+◌, ◌-◌, ◌*◌, ◌≤◌, ◌<◌, max}
 use native.Mathlib.Omega.{arith}
@@ -62,7 +62,7 @@ abbrev pub slots_of : History → ℕ → List (Option Page)
 slots_of h v = (ticket_at h (version_at h v).ticket).slots
 
 abbrev pub slot_of : History → ℕ → ℕ → Option Page
-slot_of h k p = let w = leaf_version (updates h) k p in get_or (slots_of h w) (p - (version_at h w).f) none
+slot_of h k p = let w = leaf_version (updates h) k p in get_or (slots_of h w) (p - (version_at h w).f) None
 
 -- The version that page p of version k is from, the newest up to k that covers it: its pages reach p, in a slot of its ticket.
 pub record LeafBounds (h : History) (k p : ℕ) : Type 0 where
@@ -95,7 +95,7 @@ module _ (L : Limits) (h : History) (sound : SoundHistory L h) where
       let l = update-end L h sound (suc k) (omega arith) q in
       elim (sides (updates h) k p 1) [
         | within t u ↦
-            rw (newest-within (updates h) k p 1 t u, applied-within b f new s p (omega arith) (omega arith)) (get_or-map content xs (p - f) none)
+            rw (newest-within (updates h) k p 1 t u, applied-within b f new s p (omega arith) (omega arith)) (get_or-map content xs (p - f) None)
         | before t ↦
             rw (newest-before (updates h) k p 1 t, applied-before b f new s p (omega arith)) (blob-page k p (omega arith) (omega arith))
         | after t ↦
@@ -114,7 +114,7 @@ module _ (L : Limits) (h : History) (sound : SoundHistory L h) where
         record { above = o; upto = le; from = omega arith; slot = omega arith }
 
     -- That slot is filled, by the page.
-    pub page-filled : slot_of h k p ≡ some (get_or (blob_at h k) p [])
+    pub page-filled : slot_of h k p ≡ Some (get_or (blob_at h k) p [])
     page-filled =
         let w = leaf_version (updates h) k p in
         let b = leaf-bounds in

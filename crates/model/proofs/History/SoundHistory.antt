@@ -1,8 +1,8 @@
 -- A sound history: what is true of a line as it reads, whichever line it is.
 -- Assumes nothing.
+use Rattle.std.proofs.Common.{None, Some}
 use mathlib.Core.Path.{◌≡◌}
 use mathlib.Core.Bool.{true}
-use mathlib.Core.Option.{none, some}
 use Prim.Native.Nat.{ℕ, zero, suc, ◌+◌, ◌≤◌, ◌<◌, max}
 use native.Mathlib.Omega.{arith}
 use lib.ListN.{length, get_or}
@@ -20,7 +20,7 @@ use Rattle.model.proofs.Model.Facts.{shown-sound}
 pub record SoundTicket (L : Limits) (h : History) (t : ℕ) : Type 0 where
   pub some-pages : 0 < pages_of (ticket_at h t)
   pub few : pages_of (ticket_at h t) ≤ 64
-  pub bytes : (i : ℕ) (x : Page) → get_or (ticket_at h t).slots i none ≡ some x → length x ≡ L.size
+  pub bytes : (i : ℕ) (x : Page) → get_or (ticket_at h t).slots i None ≡ Some x → length x ≡ L.size
 
 -- Version number v.
 pub record SoundVersion (h : History) (v : ℕ) : Type 0 where

@@ -1,8 +1,8 @@
 -- The number of a version of a line in the node area: it is not 0, it says its line and its version, and so where the version's nodes lie.
 -- Assumes nothing.
+use Rattle.std.proofs.Common.{Some}
 use mathlib.Core.Path.{◌≡◌, refl, ap, ap₂, ◌∙◌}
 use mathlib.Core.Bool.{true}
-use mathlib.Core.Option.{some}
 use Prim.Native.Nat.{ℕ, zero, suc, ◌+◌, ◌*◌, ◌/◌, ◌%◌, ◌≤◌, ◌<◌}
 use native.Mathlib.Omega.{arith}
 use borrow.Author.Tests.{lt-ltb}
@@ -45,7 +45,7 @@ module _ (L : Limits) (m : Model) (S : Sound L m) (l v : ℕ) (there : l < lengt
       ap (λ (k : ℕ). place_of_update m k p j) (ap₂ (shown_at m) number-line number-version ∙ owner_shows L m S l v there o h)
 
   pub place-has : (p j : ℕ) → has_node (update (updates (history m l)) v) p j ≡ true
-      → place_of_number m (number_in (history m l) v) p j ≡ some (place_by (updates (history m l)) (numbers_on m l) v p j)
+      → place_of_number m (number_in (history m l) v) p j ≡ Some (place_by (updates (history m l)) (numbers_on m l) v p j)
   unfolding place_by
   place-has p j e =
       let u = update-shown m l v in

@@ -9,10 +9,10 @@ use native.Mathlib.Omega.{arith}
 use borrow.Author.Tests.{lt-ltb, le-ltb, ne_eqb}
 use lib.Dec.{eqb}
 use lib.ListN.{length, get_or, set}
-use Rattle.tree.specs.NodeArea.{all_ones, unless_ones, node_at, with_node}
-use Rattle.tree.specs.declared.NodeAt.TheVariants.{Stored, Missing}
+use Rattle.tree.specs.NodeArea.{all_ones, unless_ones, node_at, with_node, stored}
 use Rattle.model.proofs.Lists.Laid.{tab, Pair, ones_pair, flat}
 use Rattle.model.proofs.Lists.Tab.{length-tab, get_or-tab, tab-set}
+use Rattle.std.proofs.Common.{None}
 
 double-suc : (q : ℕ) → 2 * suc q ≡ suc (suc (2 * q))
 double-suc q = omega arith
@@ -43,9 +43,9 @@ flat-set [] q l r = refl
 flat-set (x ∷ xs) zero l r = refl
 flat-set (x ∷ xs) (suc q) l r = rw (after-suc, double-suc) (ap (λ (z : List ℕ). x.0 ∷ x.1 ∷ z) (flat-set xs q l r))
 
-unless_ones-not : (l r : ℕ) → (l ≡ all_ones → ⊥) ⊎ (r ≡ all_ones → ⊥) → unless_ones (eqb l all_ones && eqb r all_ones) l r ≡ Stored l r
+unless_ones-not : (l r : ℕ) → (l ≡ all_ones → ⊥) ⊎ (r ≡ all_ones → ⊥) → unless_ones (eqb l all_ones && eqb r all_ones) l r ≡ stored l r
 unless_ones-not l r (inl h) = rw (ne_eqb l all_ones h)
-unless_ones-not l r (inr h) = rw (ne_eqb r all_ones h) (elim (eqb l all_ones) as (λ b. unless_ones (b && false) l r ≡ Stored l r) [ true ↦ refl | false ↦ refl ])
+unless_ones-not l r (inr h) = rw (ne_eqb r all_ones h) (elim (eqb l all_ones) as (λ b. unless_ones (b && false) l r ≡ stored l r) [ true ↦ refl | false ↦ refl ])
 
 module _ (n : ℕ) (g : ℕ → Pair) where
   pub length_pairs : length (flat (tab n g)) ≡ 2 * n
@@ -62,13 +62,13 @@ module _ (n : ℕ) (g : ℕ → Pair) where
   unfolding node_at
   node-pair q h = rw (pairs-left q h, pairs-right q h, length_pairs, lt-ltb (2 * q + 1) (2 * n) (omega arith))
 
-  pub node-missing : (q : ℕ) → q < n → g q ≡ ones_pair → node_at (flat (tab n g)) q ≡ Missing
+  pub node-missing : (q : ℕ) → q < n → g q ≡ ones_pair → node_at (flat (tab n g)) q ≡ None
   node-missing q h e = rw (node-pair q h, e)
 
-  pub node-stored : (q : ℕ) → q < n → ((g q).0 ≡ all_ones → ⊥) ⊎ ((g q).1 ≡ all_ones → ⊥) → node_at (flat (tab n g)) q ≡ Stored (g q).0 (g q).1
+  pub node-stored : (q : ℕ) → q < n → ((g q).0 ≡ all_ones → ⊥) ⊎ ((g q).1 ≡ all_ones → ⊥) → node_at (flat (tab n g)) q ≡ stored (g q).0 (g q).1
   node-stored q h e = node-pair q h ∙ unless_ones-not (g q).0 (g q).1 e
 
-  pub node-past : (q : ℕ) → n ≤ q → node_at (flat (tab n g)) q ≡ Missing
+  pub node-past : (q : ℕ) → n ≤ q → node_at (flat (tab n g)) q ≡ None
   unfolding node_at
   node-past q h = rw (length_pairs, le-ltb (2 * q + 1) (2 * n) (omega arith))
 

@@ -1,9 +1,9 @@
 -- What the rows of a call, passed, say of the model: the facts that number 0 gives.
 -- Assumes nothing.
+use Rattle.std.proofs.Common.{Option, None, Some}
 use mathlib.Core.Path.{◌≡◌, refl, ap}
 use mathlib.Core.Logic.{◌⊎◌, inl, inr}
 use mathlib.Core.Bool.{true, and-eq-true_iff}
-use mathlib.Core.Option.{Option, none, some}
 use mathlib.Core.List.{List}
 use Prim.Native.Nat.{ℕ, suc, ◌+◌, ◌*◌, ◌≤◌, ◌<◌, zero}
 use native.Mathlib.Omega.{arith}
@@ -25,9 +25,9 @@ there-fails : {A : Type 0} → (0 < 0) ⊎ A → A
 there-fails (inl h) = absurd (omega arith)
 there-fails (inr a) = a
 
-unfilled : (x : Option Page) → (bit_if (is_filled x) ≡ 1 → ⊥) → x ≡ none
-unfilled none h = refl
-unfilled (some x) h = absurd (h refl)
+unfilled : (x : Option Page) → (bit_if (is_filled x) ≡ 1 → ⊥) → x ≡ None
+unfilled None h = refl
+unfilled (Some x) h = absurd (h refl)
 
 pub record BeginPassed (L : Limits) (m : Model) (n : ℕ) : Type 0 where
   pub some-pages : 0 < n
@@ -40,7 +40,7 @@ pub record PutPassed (L : Limits) (m : Model) (t i : ℕ) (bytes : List ℕ) : T
   pub upto : t ≤ length m.tickets
   pub unassigned : ticket_update m t ≡ 0
   pub slot : i < pages_of (ticket_in m t)
-  pub empty : get_or (ticket_in m t).slots i none ≡ none
+  pub empty : get_or (ticket_in m t).slots i None ≡ None
   pub whole : length bytes ≡ L.size
 
 pub record WeavePassed (m : Model) (t : ℕ) : Type 0 where
@@ -103,7 +103,7 @@ module _ (L : Limits) (m : Model) where
         upto = omega arith;
         unassigned = there-fails r.1.0;
         slot = there-fails r.1.1.0;
-        empty = unfilled (get_or (ticket_in m t).slots i none) (there-fails r.1.1.1.0);
+        empty = unfilled (get_or (ticket_in m t).slots i None) (there-fails r.1.1.1.0);
         whole = r.1.1.1.1.0;
       }
 

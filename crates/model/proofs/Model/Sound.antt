@@ -1,8 +1,8 @@
 -- What every call keeps true of the model with lines.
 -- Assumes nothing.
+use Rattle.std.proofs.Common.{None, Some}
 use mathlib.Core.Path.{◌≡◌}
 use mathlib.Core.Bool.{true}
-use mathlib.Core.Option.{none, some}
 use Prim.Native.Nat.{ℕ, ◌≤◌, ◌<◌}
 use lib.ListN.{length, get_or}
 use Rattle.tree.specs.Tree.{count_of, nth}
@@ -26,7 +26,7 @@ pub record TicketSound (L : Limits) (m : Model) (t : ℕ) : Type 0 where
   pub some-pages : 0 < pages_of (ticket_in m t)
   pub few : pages_of (ticket_in m t) ≤ 64
   -- Every page put is S bytes long.
-  pub bytes : (i : ℕ) (x : Page) → get_or (ticket_in m t).slots i none ≡ some x → length x ≡ L.size
+  pub bytes : (i : ℕ) (x : Page) → get_or (ticket_in m t).slots i None ≡ Some x → length x ≡ L.size
   -- No node is woven before ASSIGN.
   pub unwoven : ticket_update m t ≡ 0 → (ticket_in m t).woven ≡ 0
 

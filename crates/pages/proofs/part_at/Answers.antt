@@ -6,8 +6,5 @@ use Rattle.pages.proofs.part_at.Goals as goal
 pub returns-then-at-area : goal.returns-then-at-area
 returns-then-at-area c = part-past _ _ _ (omega arith)
 
-pub returns-then-n-area : goal.returns-then-n-area
-returns-then-n-area c = part-past _ _ _ (omega arith)
-
 pub returns : goal.returns
 returns c = part-within _ _ _ (omega arith)

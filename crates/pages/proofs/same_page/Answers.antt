@@ -1,10 +1,7 @@
--- Two pages of other lengths are not the same, in `pages::same_page`.
-use Rattle.std.proofs.Common.{sym}
-use Rattle.text.proofs.Same.{same-lengths}
+-- The two pages are compared as the library compares slices, in `pages::same_page`.
+use Rattle.std.proofs.Common.{◌∙◌}
+use Rattle.pages.proofs.Equal.{equal_same}
 use Rattle.pages.proofs.same_page.Goals as goal
 
-pub returns-then-a-b : goal.returns-then-a-b
-returns-then-a-b c =
-    let a = c.view_page-a in
-    let b = c.view_page-b in
-    sym (rw (← a.ensures, ← b.ensures) (same-lengths a.result.now b.result.now c.if-a-b.true))
+pub returns : goal.returns
+returns c = rw (← c.view_page.ensures, ← c.view_page-2.ensures) (c.eq.ensures ∙ equal_same c.view_page.result.now c.view_page-2.result.now)

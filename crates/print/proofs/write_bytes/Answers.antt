@@ -12,39 +12,38 @@ returns-then-out-lt7 c = front-past (bytes_line c.args.bytes.now) c.args.out.now
 pub returns-then-bytes-out : goal.returns-then-bytes-out
 returns-then-bytes-out c = front-past (bytes_line c.args.bytes.now) c.args.out.now (omega (arith, bytes-length c.args.bytes.now))
 
-pub loop-i-init : goal.loop-i-init
-loop-i-init c =
+pub loop-b-init : goal.loop-b-init
+loop-b-init c =
     let line = hex_line-length c.args.bytes.now in
-    (omega arith, refl, refl, omega (arith, c.put_word-at.auto.out), refl)
+    (refl, refl, omega (arith, c.put_word-at.auto.out), refl)
 
-pub loop-i-preserved : goal.loop-i-preserved
-loop-i-preserved c =
+pub loop-b-preserved : goal.loop-b-preserved
+loop-b-preserved c =
     let bytes = c.args.bytes.now in
-    let l = c.loop-i in
-    let now = hex_line-length (drop l.i bytes) in
-    let next = hex_line-length (drop (l.i + 1) bytes) in
-    let n = length-drop l.i bytes in
-    let m = length-drop (l.i + 1) bytes in (
-      omega arith,
+    let l = c.loop-b in
+    let now = hex_line-length (drop l.b-index bytes) in
+    let next = hex_line-length (drop (l.b-index + 1) bytes) in
+    let n = length-drop l.b-index bytes in
+    let m = length-drop (l.b-index + 1) bytes in (
       simp length-set (omega arith),
       omega arith,
       omega arith,
-      hex-put bytes l.i (omega arith) _ _ c.hex_digit.ensures c.hex_digit-in-loop-i.ensures l.at l.out (omega arith) ∙ l.invariant.4,
+      hex-put bytes l.b-index (omega arith) _ _ c.hex_digit.ensures c.hex_digit-in-loop-b.ensures l.at l.out (omega arith) ∙ l.invariant.3,
     )
 
 pub returns : goal.returns
 unfolding bytes_line
 returns c =
     let bytes = c.args.bytes.now in
-    let l = c.loop-i in
+    let l = c.loop-b in
     let put = c.put_word-at in
-    let end = hex-close bytes l.i (omega arith) in
+    let end = hex-close bytes l.b-index (omega arith) in
     let last = ap length end in
     let all = bytes-length bytes in
     let line = hex_line-length bytes in
     let wrote = wrote-fits (bytes_line bytes) c.args.out.now (omega arith) in (
       omega arith,
       put-line (text "bytes,") (hex_line bytes) c.args.out.now put.new.out _ put.result put.ensures.0 (omega arith) put.ensures.1
-          (put-close l.at (hex_line (drop l.i bytes)) l.out (omega arith) end ∙ l.invariant.4)
+          (put-close l.at (hex_line (drop l.b-index bytes)) l.out (omega arith) end ∙ l.invariant.3)
           ∙ front_fits (bytes_line bytes) c.args.out.now (omega arith),
     )

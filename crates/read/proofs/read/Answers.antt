@@ -1,53 +1,86 @@
--- The whole range is copied where the number is 0, else none.
-use Rattle.std.proofs.Common.{◌≡◌, refl, ◌∙◌, ap, ℕ, ◌++◌, ◌^◌, ◌<◌, length, drop, arith}
-use Rattle.table.specs.Table.{unless}
-use Rattle.read.specs.Read.{bytes_from, filled_by}
-use Rattle.versions.specs.Store.{areas_of, number_on}
-use Rattle.read.specs.Range.{or_lost}
-use Rattle.read.proofs.Ranges.{range-ranged}
-use Rattle.read.proofs.Reading.{walked-fit, rows, walks, number_is, readable, ready-within, begun, begun-front, read_is}
+-- By where READ is refused, and by what its rows say of the range where it is not.
+use Rattle.std.proofs.Common.{refl, sym, length, arith}
+use native.Mathlib.Nat.{div-add-mod'}
+use lib.Seq.{length-take-le}
+use Rattle.versions.specs.Store.{lent}
+use Rattle.std.proofs.lemmas.Grind.{common_steps}
+use Rattle.read.proofs.Ranges.{out_refused, buffer_refused, out_empty, buffer_empty, out_lost, buffer_lost, out_read, buffer_read, has_room, ranged, opened_area, walked_fit, walks-found, range_readable}
 use Rattle.read.proofs.read.Goals as goal
 
-pub touched-n-requires : goal.touched-n-requires
-touched-n-requires c = λ e.
+pub returns-in_err-range_refusal : goal.returns-in_err-range_refusal
+returns-in_err-range_refusal c =
     let a = c.args in
-    range-ranged a.s (areas_of a.pages.now a.nodes.now a.register.now) a.l.0 a.v.0 a.offset.0 a.len (length a.buffer.now)
-    (rw c.number_on-c.ensures at (rw c.range_number-k.ensures at e))
+    let o = sym (rw (c.lengths_in.ensures, c.in_ok-c.was) at c.open_version.ensures) in
+    let q = sym (rw (c.bytes_there.ensures, c.in_err-range_refusal.was) at c.range_refusal.ensures) in
+    let f = buffer_refused a.s.now (lent a.areas.now) a.l.0 a.v.0 a.offset.0 a.len a.buffer.now c.in_ok-c.c o _ q in
+    let g = out_refused a.s.now (lent a.areas.now) a.l.0 a.v.0 a.offset.0 a.len a.buffer.now c.in_ok-c.c o _ q in
+    (grind (arith, common_steps, g), sym f)
 
-pub some_lost-lost-requires : goal.some_lost-lost-requires
-some_lost-lost-requires c =
+pub returns-then-len-eq0 : goal.returns-then-len-eq0
+returns-then-len-eq0 c =
     let a = c.args in
-    rw (c.is_lost.ensures, c.find_page-x.ensures, c.touched-n.ensures, c.chunk_at-part.ensures, c.range_number-k.ensures, c.number_on-c.ensures) (
-      walked-fit (rows a.s a.pages.now a.nodes.now a.register.now a.l.0 a.v.0 a.offset.0 a.len a.buffer.now) a.s.size a.offset.0 a.len
-          (λ e. range-ranged a.s (areas_of a.pages.now a.nodes.now a.register.now) a.l.0 a.v.0 a.offset.0 a.len (length a.buffer.now) e) (omega arith),
-      refl,
+    let o = sym (rw (c.lengths_in.ensures, c.in_ok-c.was) at c.open_version.ensures) in
+    let q = sym (rw (c.bytes_there.ensures, c.in_ok-range_refusal.was) at c.range_refusal.ensures) in (
+      sym (out_empty a.s.now (lent a.areas.now) a.l.0 a.v.0 a.offset.0 a.len a.buffer.now c.in_ok-c.c o _ q c.if-len-eq0.true),
+      sym (buffer_empty a.s.now (lent a.areas.now) a.l.0 a.v.0 a.offset.0 a.len a.buffer.now c.in_ok-c.c o _ q c.if-len-eq0.true),
     )
 
-pub copy_range-requires : goal.copy_range-requires
-copy_range-requires c =
+pub touched-t-requires : goal.touched-t-requires
+touched-t-requires c =
     let a = c.args in
-    let number = or_lost (rows a.s a.pages.now a.nodes.now a.register.now a.l.0 a.v.0 a.offset.0 a.len a.buffer.now) (walks a.s a.pages.now a.nodes.now a.register.now a.l.0 a.v.0 a.offset.0 a.len a.buffer.now) in
-    let fits : a.offset.0 < 2 ^ 64 = omega arith in
-    let copied : c.copy_page.new.buf ≡ begun a.s a.pages.now a.nodes.now a.register.now a.l.0 a.v.0 a.offset.0 a.len a.buffer.now number =
-    c.copy_page.ensures.1
-    ∙ rw (c.number_found.ensures, c.find_page-x.ensures, c.copied-count.ensures, c.or_lost-number.ensures, c.some_lost-lost.ensures, c.touched-n.ensures, c.chunk_at-part.ensures, c.range_number-k.ensures, c.number_on-c.ensures) refl in
-    rw (c.copied.ensures, c.copied-count.ensures, c.or_lost-number.ensures, c.some_lost-lost.ensures, c.touched-n.ensures, c.chunk_at-part.ensures, c.range_number-k.ensures, c.number_on-c.ensures) (
-      rw c.copy_page.auto.buf (readable a.s a.pages.now a.nodes.now a.register.now a.l.0 a.v.0 a.offset.0 a.len a.buffer.now fits number refl),
-      ready-within a.s a.pages.now a.nodes.now a.register.now a.l.0 a.v.0 a.offset.0 a.len a.buffer.now number,
-      rw copied (begun-front a.s a.pages.now a.nodes.now a.register.now a.l.0 a.v.0 a.offset.0 a.len a.buffer.now number fits refl),
-    )
+    let q = sym (rw (c.bytes_there.ensures, c.in_ok-range_refusal.was) at c.range_refusal.ensures) in
+    ranged a.s.now (lent a.areas.now) a.v.0 a.offset.0 a.len (length a.buffer.now) c.in_ok-c.c _ q (omega arith)
+
+pub first_number-requires : goal.first_number-requires
+first_number-requires c =
+    let a = c.args in
+    let q = sym (rw (c.bytes_there.ensures, c.in_ok-range_refusal.was) at c.range_refusal.ensures) in
+    let r = ranged a.s.now (lent a.areas.now) a.v.0 a.offset.0 a.len (length a.buffer.now) c.in_ok-c.c _ q (omega arith) in
+    rw c.touched-t.ensures (walked_fit a.s.now.size a.offset.0 a.len r)
+
+pub slice_bounds-copy_pages-end : goal.slice_bounds-copy_pages-end
+slice_bounds-copy_pages-end c =
+    let a = c.args in
+    let q = sym (rw (c.bytes_there.ensures, c.in_ok-range_refusal.was) at c.range_refusal.ensures) in
+    omega (arith, has_room a.s.now (lent a.areas.now) a.v.0 a.offset.0 a.len (length a.buffer.now) c.in_ok-c.c _ q)
+
+pub returns-in_err-number : goal.returns-in_err-number
+returns-in_err-number c =
+    let a = c.args in
+    let o = sym (rw (c.lengths_in.ensures, c.in_ok-c.was) at c.open_version.ensures) in
+    let q = sym (rw (c.bytes_there.ensures, c.in_ok-range_refusal.was) at c.range_refusal.ensures) in
+    let w = sym (rw (c.touched-t.ensures, c.in_err-number.was) at c.first_number.ensures) in
+    let g = out_lost a.s.now (lent a.areas.now) a.l.0 a.v.0 a.offset.0 a.len a.buffer.now c.in_ok-c.c o _ q _ w in
+    (grind (arith, common_steps, g), sym (buffer_lost a.s.now (lent a.areas.now) a.l.0 a.v.0 a.offset.0 a.len a.buffer.now c.in_ok-c.c o _ q _ w))
+
+pub slice_bounds-copy_pages-end-2 : goal.slice_bounds-copy_pages-end-2
+slice_bounds-copy_pages-end-2 c =
+    let a = c.args in
+    let q = sym (rw (c.bytes_there.ensures, c.in_ok-range_refusal.was) at c.range_refusal.ensures) in
+    let h = has_room a.s.now (lent a.areas.now) a.v.0 a.offset.0 a.len (length a.buffer.now) c.in_ok-c.c _ q in
+    sym (length-take-le _ a.buffer.now (omega (arith, h)))
+
+pub copy_pages-requires : goal.copy_pages-requires
+copy_pages-requires c =
+    let a = c.args in
+    let o = sym (rw (c.lengths_in.ensures, c.in_ok-c.was) at c.open_version.ensures) in
+    let q = sym (rw (c.bytes_there.ensures, c.in_ok-range_refusal.was) at c.range_refusal.ensures) in
+    let h = has_room a.s.now (lent a.areas.now) a.v.0 a.offset.0 a.len (length a.buffer.now) c.in_ok-c.c _ q in
+    let r = ranged a.s.now (lent a.areas.now) a.v.0 a.offset.0 a.len (length a.buffer.now) c.in_ok-c.c _ q (omega arith) in
+    let w = sym (rw (c.touched-t.ensures, c.in_ok-number.was) at c.first_number.ensures) in
+    let f = walks-found a.s.now (lent a.areas.now) a.l.0 a.v.0 a.offset.0 a.len a.buffer.now c.in_ok-c.c o _ q _ w in
+    rw (c.touched-t.ensures, length-take-le a.len a.buffer.now h)
+    (range_readable a.s.now.size a.offset.0 a.len r a.s.now (lent a.areas.now) c.in_ok-c.c c.in_ok-number.number refl
+    (opened_area a.s.now (lent a.areas.now) a.l.0 a.v.0 c.in_ok-c.c o) f.0 f.1)
 
 pub returns : goal.returns
 returns c =
     let a = c.args in
-    let number = or_lost (rows a.s a.pages.now a.nodes.now a.register.now a.l.0 a.v.0 a.offset.0 a.len a.buffer.now) (walks a.s a.pages.now a.nodes.now a.register.now a.l.0 a.v.0 a.offset.0 a.len a.buffer.now) in
-    let fits : a.offset.0 < 2 ^ 64 = omega arith in
-    let copied : c.copy_page.new.buf ≡ begun a.s a.pages.now a.nodes.now a.register.now a.l.0 a.v.0 a.offset.0 a.len a.buffer.now number =
-    c.copy_page.ensures.1
-    ∙ rw (c.number_found.ensures, c.find_page-x.ensures, c.copied-count.ensures, c.or_lost-number.ensures, c.some_lost-lost.ensures, c.touched-n.ensures, c.chunk_at-part.ensures, c.range_number-k.ensures, c.number_on-c.ensures) refl in
-    let e = number_is a.s a.pages.now a.nodes.now a.register.now a.l.0 a.v.0 a.offset.0 a.len a.buffer.now in
-    rw (c.filled_by.ensures, c.copy_range.ensures, copied, c.copied.ensures, c.or_lost-number.ensures, c.some_lost-lost.ensures, c.touched-n.ensures, c.chunk_at-part.ensures, c.range_number-k.ensures, c.number_on-c.ensures) (
-      ap filled_by e,
-      read_is a.s a.pages.now a.nodes.now a.register.now a.l.0 a.v.0 a.offset.0 a.len a.buffer.now number fits refl
-          ∙ ap (λ (k : ℕ). unless k a.buffer.now (bytes_from a.s.size a.s.pages (areas_of a.pages.now a.nodes.now a.register.now) (number_on a.s a.l.0 a.v.0) a.offset.0 a.len ++ drop a.len a.buffer.now)) e,
+    let o = sym (rw (c.lengths_in.ensures, c.in_ok-c.was) at c.open_version.ensures) in
+    let q = sym (rw (c.bytes_there.ensures, c.in_ok-range_refusal.was) at c.range_refusal.ensures) in
+    let h = has_room a.s.now (lent a.areas.now) a.v.0 a.offset.0 a.len (length a.buffer.now) c.in_ok-c.c _ q in
+    let w = sym (rw (c.touched-t.ensures, c.in_ok-number.was) at c.first_number.ensures) in
+    let filled = rw (c.touched-t.ensures, length-take-le a.len a.buffer.now h, div-add-mod' a.offset.0 a.s.now.size) at c.copy_pages.ensures in (
+      sym (out_read a.s.now (lent a.areas.now) a.l.0 a.v.0 a.offset.0 a.len a.buffer.now c.in_ok-c.c o _ q _ w),
+      rw filled (sym (buffer_read a.s.now (lent a.areas.now) a.l.0 a.v.0 a.offset.0 a.len a.buffer.now c.in_ok-c.c o _ q _ w)),
     )

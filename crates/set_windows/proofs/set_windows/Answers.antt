@@ -1,34 +1,32 @@
--- The rows of the areas and of the text, one after the other, are those of SETWINDOWS.
-use Rattle.std.proofs.Common.{ℕ, List, [], ◌∷◌, ◌≡◌, sym, ap, ◌∙◌}
-use Rattle.table.specs.Table.{◌gives◌, first_refusal, or_else}
-use Rattle.windows.specs.declared.Windows.{Windows}
-use Rattle.windows.specs.declared.Listed.{Listed}
-use Rattle.windows.specs.Windows.{no_windows, placed}
-use Rattle.windows.specs.Listed.{windows_of, text_number, listed_of}
-use Rattle.versions.specs.Store.{Areas, areas_differ, areas_of, differ, lengths_of}
-use Rattle.versions.specs.declared.Store.{Store}
-use Rattle.versions.specs.declared.Lengths.{Lengths}
-use Rattle.set_windows.specs.SetWindows.{windows_set, set_by, set_out}
-use Rattle.set_windows.specs.declared.WindowsOut.{WindowsOut}
-use Rattle.set_windows.proofs.Read.{set-number, by-second}
+-- The areas' lengths refuse, or the text does, or it is read.
+use Rattle.std.proofs.Common.{◌≡◌, ◌∙◌, true, false, Ok, Err, arith}
+use Rattle.std.proofs.lemmas.Grind.{common_steps}
+use Rattle.table.specs.Refused.{number, numbered}
+use Rattle.table.specs.Table.{holds}
+use Rattle.versions.specs.Store.{lent, areas_differ}
+use Rattle.windows.specs.Listed.{listed_of}
+use Rattle.set_windows.proofs.Read.{areas_refuse, text_refuses, text_read}
 use Rattle.set_windows.proofs.set_windows.Goals as goal
 
-answered :
-    (s : Store) (w : Windows) (a : Areas) (t : List ℕ) (x : Listed) (g : Lengths) (k : ℕ) (out : WindowsOut)
-    → x ≡ listed_of t → g ≡ lengths_of a → k ≡ or_else (first_refusal ((differ s g gives 3) ∷ [])) x.number → out ≡ set_by k w x.windows
-    → out ≡ set_out s w a t
-answered s w a t x g k out xe ge ke oe =
-    let new = placed (windows_of t) in
-    let m = first_refusal ((areas_differ s a gives 3) ∷ []) in
-    let n = text_number t in
-    rw (oe, ke, xe, ge)
-    (ap (λ (y : Windows). record { windows = y; answer = windows_set (or_else m n) }) (by-second m n w no_windows new)
-    ∙ sym (ap (λ (r : ℕ). set_by r w new) (set-number s a t)))
+pub returns-then-areas_differ : goal.returns-then-areas_differ
+returns-then-areas_differ c =
+    let a = lent c.args.areas.now in
+    let d : holds (areas_differ c.args.s.now a) ≡ true = grind (arith, common_steps) in
+    areas_refuse c.args.s.now c.args.w.now a c.args.text.now d
+
+pub returns-in_err-w : goal.returns-in_err-w
+returns-in_err-w c =
+    let a = lent c.args.areas.now in
+    let k = number c.in_err-w.field-0.0 in
+    let d : holds (areas_differ c.args.s.now a) ≡ false = grind (arith, common_steps) in
+    let e : listed_of c.args.text.now ≡ Err k = grind (arith, common_steps) in
+    let answer : numbered c.from_residual.result ≡ Err k = grind (arith, common_steps) in
+    let out = text_refuses c.args.s.now c.args.w.now a c.args.text.now k d e in
+    (answer ∙ out.0, out.1)
 
 pub returns : goal.returns
 returns c =
-    answered c.args.s c.args.w (areas_of c.args.pages.now c.args.nodes.now c.args.register.now) c.args.text.now _ _ _ _
-    c.read_list-x.ensures
-    c.lengths_of.ensures
-    c.set_refusal-k.ensures
-    c.set_by.ensures
+    let a = lent c.args.areas.now in
+    let d : holds (areas_differ c.args.s.now a) ≡ false = grind (arith, common_steps) in
+    let e : listed_of c.args.text.now ≡ Ok c.in_ok-w.field-0 = grind (arith, common_steps) in
+    text_read c.args.s.now c.args.w.now a c.args.text.now c.in_ok-w.field-0 d e

@@ -1,12 +1,13 @@
 use Rattle.std.proofs.Common.{◌≡◌}
+use Rattle.lines.specs.Lines.{version_of}
 use Rattle.stamp.specs.Stamp.{since}
-use Rattle.versions.specs.Store.{areas_of}
+use Rattle.versions.specs.Store.{lent}
 use Rattle.stamp.proofs.since.Given as goal
 
-abbrev pub invariant-loop-w : goal.invariant-loop-w
-invariant-loop-w l =
-    let a = areas_of l.pages l.nodes l.register in
-    since l.s a l.l.0 l.page.0 l.w l.n ≡ since l.s a l.l.0 l.page.0 l.fn.from.0 l.fn.number
+abbrev pub invariant-loop-lower : goal.invariant-loop-lower
+invariant-loop-lower l =
+    since l.s (lent l.areas) l.l.0 l.page.0 (version_of l.first.version) l.first.page
+    ≡ since l.s (lent l.areas) l.l.0 l.page.0 (version_of l.fn.leaf.version) l.fn.leaf.page
 
-abbrev pub decreases-loop-w : goal.decreases-loop-w
-decreases-loop-w l = l.w
+abbrev pub decreases-loop-lower : goal.decreases-loop-lower
+decreases-loop-lower l = version_of l.first.version

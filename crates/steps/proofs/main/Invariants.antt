@@ -1,9 +1,7 @@
--- What is to be taken stands in the block; the turns count down. Assumes nothing.
-use Rattle.std.proofs.Common.{◌≤◌, length}
+-- What is to be taken stands in the block. Assumes nothing.
+use Rattle.std.proofs.Common.{length}
+use Rattle.steps.specs.Inputs.{within}
 use Rattle.steps.proofs.main.Given as goal
 
-abbrev pub invariant-loop-turns : goal.invariant-loop-turns
-invariant-loop-turns l = l.input.end ≤ length l.block
-
-abbrev pub decreases-loop-turns : goal.decreases-loop-turns
-decreases-loop-turns l = l.turns
+abbrev pub invariant-loop-turn : goal.invariant-loop-turn
+invariant-loop-turn l = within l.unread (length l.block)

@@ -17,7 +17,7 @@ pub returns-then-k-height : goal.returns-then-k-height
 returns-then-k-height c =
     let a = c.args in
     let e = c.height_of-height.ensures (height_in a.span) (own_power a.span c.requires) in
-    rw (numbered-late a.f.0 (height_in a.span) a.past a.k (omega (arith, e))) (rw c.wrapping_add_u64.ensures.value at c.numbered.ensures)
+    rw (numbered-late a.f.0 (height_in a.span) a.past a.k (omega (arith, e))) c.numbered.ensures
 
 pub first_over-requires : goal.first_over-requires
 first_over-requires c =

@@ -28,13 +28,13 @@ fails s below w e none = elim (word_holds s) [
 
 pub returns-then-span-below-eq0 : goal.returns-then-span-below-eq0
 returns-then-span-below-eq0 c =
-    let n = c.wrapping_sub_u64-below in
-    passes c.args.span n.result n.ensures.value c.if-below-lt-MOST_PAGES.true c.if-span-below-eq0.true
+    let s = c.args.span in
+    passes s ((s + 18446744073709551615) % 2 ^ 64) (omega arith) c.if-below-lt-MOST_PAGES.true c.if-span-below-eq0.true
 
 pub returns-else-below-lt-MOST_PAGES : goal.returns-else-below-lt-MOST_PAGES
 returns-else-below-lt-MOST_PAGES c =
-    let n = c.wrapping_sub_u64-below in
-    fails c.args.span n.result (omega arith) n.ensures.value (
+    let s = c.args.span in
+    fails s ((s + 18446744073709551615) % 2 ^ 64) (omega arith) (omega arith) (
     elim c.else-below-lt-MOST_PAGES.branch [
       | else-below-lt-MOST_PAGES-via-then-below-lt-MOST_PAGES+else-span-below-eq0 w ↦ inr w.if-span-below-eq0.false
       | else-below-lt-MOST_PAGES-via-else-below-lt-MOST_PAGES w ↦ inl w.if-below-lt-MOST_PAGES.false

@@ -9,10 +9,10 @@ use Rattle.tree.proofs.worst.Goals as goal
 pub returns-then-n-eq0 : goal.returns-then-n-eq0
 returns-then-n-eq0 c = worst-none _ _ (λ a. omega (arith, a.some))
 
-pub returns-then-n-smaller : goal.returns-then-n-smaller
-returns-then-n-smaller c =
-    let s = c.smaller.ensures in
-    let t = c.if-n-smaller.true in
+pub returns-then-n-min : goal.returns-then-n-min
+returns-then-n-min c =
+    let s = c.min.ensures in
+    let t = c.if-n-min.true in
     worst-none _ _ (λ a. omega (arith, a.power, a.few, a.half, s, t))
 
 -- Such a power is its own root's span.
@@ -29,11 +29,11 @@ tested r n x e q o p = let s = own-span r (omega arith) (sym e ∙ q) in asked_b
 pub node_count-requires : goal.node_count-requires
 node_count-requires c =
     let a = c.args in
-    let t = tested a.r a.n _ c.root_span.ensures c.if-root_span-r.false (omega arith) (omega (arith, c.smaller.ensures)) in
+    let t = tested a.r a.n _ c.root_span.ensures c.if-root_span-r.false (omega arith) (omega (arith, c.min.ensures)) in
     rw (c.height_of.ensures (suc t.height) t.power) (record { order = omega arith; inside = omega (arith, t.power, t.half); low = omega (arith, t.low) })
 
 pub returns : goal.returns
 returns c =
     let a = c.args in
-    let t = tested a.r a.n _ c.root_span.ensures c.if-root_span-r.false (omega arith) (omega (arith, c.smaller.ensures)) in
+    let t = tested a.r a.n _ c.root_span.ensures c.if-root_span-r.false (omega arith) (omega (arith, c.min.ensures)) in
     c.node_count.ensures.exact ∙ worst-counted a.r a.n _ t (c.height_of.ensures (suc t.height) t.power)

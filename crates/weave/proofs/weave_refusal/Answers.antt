@@ -1,52 +1,21 @@
--- At each return, the rows passed and the row stopped at.
-use mathlib.Core.Path.{◌≡◌, sym, ◌∙◌}
-use mathlib.Core.Bool.{Bool}
-use mathlib.Core.Logic.{inl, inr}
-use Prim.Native.Nat.{ℕ, ◌≤◌}
-use native.Mathlib.Omega.{arith}
-use borrow.Author.Tests.{le-ltb}
-use Rattle.table.specs.Table.{Cond, holds, weave_rows, ◌<?◌, ◌or◌}
+-- Where rows 3 and 7 refuse, the rows after them do not count.
+use Rattle.std.proofs.Common.{rules, ◌≡◌, ◌∙◌, arith}
+use Rattle.table.specs.Table.{weave_rows}
+use Rattle.table.specs.Refused.{number, number_in}
+use Rattle.table.specs.declared.Refusal.{Refusal}
+use Rattle.table.proofs.Refused.{number_stands}
+use Rattle.table.proofs.Table.{first, or_else-0}
+use Rattle.versions.proofs.Ticket.{stop}
 use Rattle.weave.specs.Weave.{weave_refusal}
-use Rattle.table.proofs.Table.{none, hit, skip, hit-flag, skip-flag, first}
 use Rattle.weave.proofs.weave_refusal.Goals as goal
 
--- Row 19 where the two records lie within the register.
-lost : (updates t v : ℕ) (c : Cond) (b : Bool) → t ≤ updates → v ≤ updates → holds c ≡ b → holds (updates <? t or updates <? v or c) ≡ b
-unfolding holds
-lost updates t v c b p q e = rw (le-ltb updates t p, le-ltb updates v q) e
+-- A refusal's number is not 0.
+some : (e : Refusal) → number e ≡ 0 → ⊥
+some e z = omega (arith, number_stands e 1, or_else-0 (number e) 1 z)
 
-pub returns-then-areas_differ : goal.returns-then-areas_differ
+pub returns-in_err-ticket_refusal-clause-number : goal.returns-in_err-ticket_refusal-clause-number
 unfolding weave_refusal weave_rows
-returns-then-areas_differ c = first (hit-flag (sym c.areas_differ.ensures ∙ c.if-areas_differ.true))
-
-pub returns-then-t-eq0 : goal.returns-then-t-eq0
-unfolding weave_refusal weave_rows
-returns-then-t-eq0 c = first (skip-flag (sym c.areas_differ.ensures ∙ c.if-areas_differ.false) (hit (inl (omega arith))))
-
-pub returns-then-last-t : goal.returns-then-last-t
-unfolding weave_refusal weave_rows
-returns-then-last-t c = first (skip-flag (sym c.areas_differ.ensures ∙ c.if-areas_differ.false) (hit (inr (omega arith))))
-
-pub returns-then-s-t : goal.returns-then-s-t
-unfolding weave_refusal weave_rows
-returns-then-s-t c = first (skip-flag (sym c.areas_differ.ensures ∙ c.if-areas_differ.false) (skip (omega arith, omega arith) (skip (inl (omega arith), inl (omega arith)) (hit (inl (omega arith))))))
-
-pub returns-then-update-eq0 : goal.returns-then-update-eq0
-unfolding weave_refusal weave_rows
-returns-then-update-eq0 c = first (skip-flag (sym c.areas_differ.ensures ∙ c.if-areas_differ.false) (skip (omega arith, omega arith) (hit (inl (omega arith, omega arith)))))
-
-pub returns-then-s-update : goal.returns-then-s-update
-unfolding weave_refusal weave_rows
-returns-then-s-update c = first (skip-flag (sym c.areas_differ.ensures ∙ c.if-areas_differ.false) (skip (omega arith, omega arith) (skip (inr (omega arith), inr (inl (omega arith))) (hit (inr (inl (omega arith)))))))
-
-pub returns-then-q : goal.returns-then-q
-unfolding weave_refusal weave_rows
-returns-then-q c = first (skip-flag (sym c.areas_differ.ensures ∙ c.if-areas_differ.false) (skip (omega arith, omega arith) (hit (inr (omega arith, (omega arith, omega arith))))))
-
-pub returns-then-node_lost : goal.returns-then-node_lost
-unfolding weave_refusal weave_rows
-returns-then-node_lost c = first (skip-flag (sym c.areas_differ.ensures ∙ c.if-areas_differ.false) (skip (omega arith, omega arith) (skip (inr (omega arith), inr (inr (omega arith))) (hit-flag (lost _ _ _ _ _ (omega arith) (omega arith) (sym c.node_lost.ensures ∙ c.if-node_lost.true))))))
-
-pub returns-else-node_lost : goal.returns-else-node_lost
-unfolding weave_refusal weave_rows
-returns-else-node_lost c = first (skip-flag (sym c.areas_differ.ensures ∙ c.if-areas_differ.false) (skip (omega arith, omega arith) (skip (inr (omega arith), inr (inr (omega arith))) (skip-flag (lost _ _ _ _ _ (omega arith) (omega arith) (sym c.node_lost.ensures ∙ c.if-node_lost.false)) none))))
+returns-in_err-ticket_refusal-clause-number c =
+    let e = c.in_err-ticket_refusal.field-0.0 in
+    let same : number_in c.from_residual.result ≡ number e = search rules in
+    same ∙ first (stop c.in_err-ticket_refusal.ensures (some e))

@@ -1,12 +1,9 @@
--- The numbers are those of a node with halves, or of a leaf.
-use native.Mathlib.Omega.{arith}
-use Rattle.weave.proofs.Numbers.{inner-numbers, leaf-numbers}
+-- The halves have pages, and sums of these have room.
+use Rattle.weave.proofs.Room.{room}
 use Rattle.weave.proofs.woven_node.Goals as goal
 
-pub returns-then-x-gt0 : goal.returns-then-x-gt0
-returns-then-x-gt0 c = λ s nodes rs d. rw (c.nodes_left-rest.ensures, c.kept_of.ensures, c.kept_of-then-x-gt0.ensures)
-    (inner-numbers c.args.r c.args.q c.args.x c.requires s nodes rs _ _ d (omega arith))
+pub half_number-requires : goal.half_number-requires
+half_number-requires c = (room c.args.x.now c.in-Some.h c.in-Some.is).0
 
-pub returns : goal.returns
-returns c = λ s nodes rs d. rw (c.nodes_left-rest.ensures, c.kept_of-2.ensures, c.pages_from.ensures)
-    (leaf-numbers c.args.r c.args.q c.args.x c.requires s nodes rs _ _ d (omega arith))
+pub half_number-requires-in-Some : goal.half_number-requires-in-Some
+half_number-requires-in-Some c = (room c.args.x.now c.in-Some.h c.in-Some.is).1

@@ -38,7 +38,11 @@ pub fn in_rust(file: &str) -> Vec<String> {
 /// The structs with C's layout and the functions for C that Rattle files have. A tuple struct is to C what it holds.
 pub fn in_rattle(files: &str) -> Vec<String> {
     // what is derived stands between the mark of C's layout and the struct
-    let text = without_comments(files).replace("# [ derive ( Clone , Copy ) ]", "");
+    let text = without_comments(files);
+    let derived = parts(&text, "# [ derive (", ") ]");
+    let text = derived.iter().fold(text.clone(), |code, names| {
+        code.replace(&format!("# [ derive ({names}) ]"), "")
+    });
     let (tuples, structs): (Vec<_>, Vec<_>) = structs(&text)
         .into_iter()
         .partition(|text| cut(text, "{").0.contains('('));

@@ -1,8 +1,8 @@
 -- BEGIN keeps the model sound: one more ticket.
 -- Assumes nothing.
+use Rattle.std.proofs.Common.{None}
 use mathlib.Core.Path.{◌≡◌, refl, ap, ◌∙◌}
 use mathlib.Core.Logic.{inl, inr}
-use mathlib.Core.Option.{none}
 use mathlib.Core.List.{[], ◌∷◌}
 use Prim.Native.Nat.{ℕ, suc, ◌+◌, ◌≤◌, ◌<◌}
 use native.Mathlib.Omega.{arith}
@@ -23,7 +23,7 @@ use Rattle.model.proofs.Calls.Kept.Same.{ticket-same, update-kept, line_same}
 
 module _ (L : Limits) (m : Model) (n : ℕ) where
   abbrev pub new_ticket : Ticket
-  new_ticket = with_slots no_ticket (replicate n none)
+  new_ticket = with_slots no_ticket (replicate n None)
 
   pub begun-ticket : (t : ℕ) → t ≤ length m.tickets → ticket_in (begun L m n) t ≡ ticket_in m t
   begun-ticket t h = nth-append no_ticket m.tickets (new_ticket ∷ []) t h

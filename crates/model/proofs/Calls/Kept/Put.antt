@@ -1,8 +1,8 @@
 -- PUT keeps the model sound.
 -- Assumes nothing.
+use Rattle.std.proofs.Common.{None, Some}
 use mathlib.Core.Path.{◌≡◌, ap, sym, ◌∙◌}
 use mathlib.Core.Logic.{◌≢◌}
-use mathlib.Core.Option.{none, some}
 use mathlib.Core.List.{List}
 use Prim.Native.Nat.{ℕ, ◌≤◌, ◌<◌}
 use native.Mathlib.Decide.{ℕ_discrete}
@@ -19,10 +19,10 @@ use Rattle.model.proofs.Calls.Kept.Change.{changed-this, changed-other, changed-
 
 module _ (L : Limits) (m : Model) (t i : ℕ) (bytes : List ℕ) where
   abbrev pub filled_ticket : Ticket
-  filled_ticket = with_slots (ticket_in m t) (set (ticket_in m t).slots i (some bytes))
+  filled_ticket = with_slots (ticket_in m t) (set (ticket_in m t).slots i (Some bytes))
 
   pub filled-pages : pages_of filled_ticket ≡ pages_of (ticket_in m t)
-  filled-pages = length-set (ticket_in m t).slots i (some bytes)
+  filled-pages = length-set (ticket_in m t).slots i (Some bytes)
 
   module _ {A : Type 0} (S : SoundGiven A L m) (p : PutPassed L m t i bytes) where
     -- The ticket is of no update.
@@ -38,13 +38,13 @@ module _ (L : Limits) (m : Model) (t i : ℕ) (bytes : List ℕ) where
     pub filled-grown : Grown m (filled_at L m t i bytes)
     filled-grown = changed-grown m t filled_ticket p.from filled-pages filled-slots (λ k o h w. put-apart k o h)
 
-    filled-bytes : (j : ℕ) (x : Page) → get_or (set (ticket_in m t).slots i (some bytes)) j none ≡ some x → length x ≡ L.size
+    filled-bytes : (j : ℕ) (x : Page) → get_or (set (ticket_in m t).slots i (Some bytes)) j None ≡ Some x → length x ≡ L.size
     filled-bytes j x e = elim (ℕ_discrete j i) [
       | yes q ↦
-          let s : get_or (set (ticket_in m t).slots i (some bytes)) j none ≡ some bytes = rw q (get_or-set_same (ticket_in m t).slots i (some bytes) none p.slot) in
+          let s : get_or (set (ticket_in m t).slots i (Some bytes)) j None ≡ Some bytes = rw q (get_or-set_same (ticket_in m t).slots i (Some bytes) None p.slot) in
           let y : x ≡ bytes = cc in
           rw y p.whole
-      | no n ↦ (S.tickets t p.from p.upto).bytes j x (sym (get_or-set_other (ticket_in m t).slots i j (some bytes) none n) ∙ e)
+      | no n ↦ (S.tickets t p.from p.upto).bytes j x (sym (get_or-set_other (ticket_in m t).slots i j (Some bytes) None n) ∙ e)
     ]
 
     filled-ticket : TicketSound L (filled_at L m t i bytes) t
