@@ -14,14 +14,12 @@ use table::Refusal;
 use versions::Store;
 
 // The line of an answer: the first `len` bytes. The longest is READ's, with 256 bytes: 519. There is no heap, so it is an array with its length;
-// that the length is within it is `proofs/Written`, as a ghost field would cite the definition that cites the type.
+// that the length is within it is `proofs/Written`: with a ghost field for it `written`, which builds such a line, would have to carry the proof.
 #[derive(Clone, Copy)]
 pub struct AnswerLine {
     pub bytes: [u8; 520],
     pub len: usize,
 }
-
-// With no store open every step but FORMAT and WORST is refused.
 
 // The line of a reply.
 #[tactic(auto, unfolding(crate::specs::Answers::written, crate::specs::Answers::blank))]

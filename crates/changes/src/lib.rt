@@ -16,7 +16,8 @@ use versions::Store;
 use wanted::Change;
 use weave::WovenNode;
 
-// PUT's page bytes stand at the front of the buffer. The areas are three parameters, since each call is lent some as `&` and some as `&mut`.
+// A step by its call, a `match`: each arm is one call with its own parameters, where a table of functions would need one type for all. PUT's page
+// bytes stand at the front of the buffer. The areas are three parameters, since each call is lent some as `&` and some as `&mut`.
 #[tactic(auto, unfolding(wanted::specs::Steps::change_said, wanted::specs::Steps::change_areas))]
 pub fn change_step(
     s: &mut Store,
@@ -62,7 +63,7 @@ pub fn change_step(
 fn node_reply(x: WovenNode) -> Reply
     ensures { result ≡ woven_reply (Ok x) }
 {
-    let left = x.left as u64;
-    let right = x.right as u64;
+    let left = u64::from(x.left);
+    let right = u64::from(x.right);
     Reply::Node(x.version, x.first.0, x.span, left, right, x.rest)
 }

@@ -3,6 +3,7 @@
 use Rattle.std.proofs.Common.{◌≡◌, ℕ, ◌+◌, ◌-◌, ◌%◌, ◌^◌, ◌<◌, ◌≤◌, min, Bool, true, false, ltb, ◌≢◌, List, refl, ap, ◌∙◌, arith, le-ltb, lt-ltb, eq-eqb, ne_eqb, Option, None, Some}
 use mathlib.Core.Bool.{and-false}
 use Rattle.lines.specs.Lines.{pick}
+use Rattle.register.specs.Register.{version_part}
 use Rattle.register.specs.declared.Record.{Record}
 use Rattle.register.specs.declared.Part.{Part}
 use Rattle.descent.specs.Places.{unless_most, has_node_by, place_by_part, place_in, place_at, leaf_place}
@@ -39,15 +40,20 @@ place-sum top past g h carried low fits f =
 pub below-most : (n : ℕ) → n < 2 ^ 64 - 1 → unless_most n ≡ Some n
 below-most n l = rw (ne_eqb n (2 ^ 64 - 1) (λ e. omega (arith, e, l)))
 
--- No version is numbered 0.
-pub place-zero : (rs : List Record) (p h : ℕ) → place_at rs 0 p h ≡ None
+-- No version is numbered 0, and none with the largest number of 64 bits.
+pub part-zero : (q : Part) (p h : ℕ) → place_in q 0 p h ≡ None
 unfolding place_in
-place-zero rs p h = refl
+part-zero q p h = refl
 
--- None is numbered with the largest number of 64 bits.
-pub place-most : (rs : List Record) (p h : ℕ) → place_at rs (2 ^ 64 - 1) p h ≡ None
+pub part-most : (q : Part) (p h : ℕ) → place_in q (2 ^ 64 - 1) p h ≡ None
 unfolding place_in
-place-most rs p h = refl
+part-most q p h = refl
+
+pub place-zero : (rs : List Record) (p h : ℕ) → place_at rs 0 p h ≡ None
+place-zero rs p h = part-zero (version_part rs 0) p h
+
+pub place-most : (rs : List Record) (p h : ℕ) → place_at rs (2 ^ 64 - 1) p h ≡ None
+place-most rs p h = part-most (version_part rs (2 ^ 64 - 1)) p h
 
 -- ---- the leaf
 
@@ -65,7 +71,3 @@ either-none false = refl
 pub leaf-zero : (q : Part) (p : ℕ) → leaf_place q 0 p ≡ None
 unfolding place_in
 leaf-zero q p = either-none (ltb p 4096)
-
-pub leaf-most : (q : Part) (p : ℕ) → leaf_place q (2 ^ 64 - 1) p ≡ None
-unfolding place_in
-leaf-most q p = either-none (ltb p 4096)

@@ -2,15 +2,15 @@
 // their versions and by places: there is no heap.
 #![tactic(auto)]
 
-ghost use Rattle.std.specs.Prelude.{◌≡◌, ℕ, ◌+◌, ◌-◌, ◌/◌, ◌^◌, ◌<◌, nat_lt};
+ghost use Rattle.std.specs.Prelude.{◌≡◌, ℕ, ◌+◌, ◌-◌, ◌/◌, ◌^◌, ◌<◌, nat_lt, IfSome};
 ghost use Rattle.tree.specs.Walk.{visit, reach_by};
-ghost use Rattle.tree.specs.Contract.{root_in, height_in};
+ghost use Rattle.tree.specs.Contract.{height_in};
 ghost use Rattle.lines.specs.Lines.{pick};
 ghost use Rattle.descent.specs.Level.{Carries};
 ghost use Rattle.descent.specs.Places.{unless_most, has_node_by, place_in, place_at, leaf_place};
 
 use register::{Areas, Part, version_part};
-use tree::{MOST_PAGES, PageIndex, Stored, halvings, height_of, node_at};
+use tree::{MOST_PAGES, PageIndex, RootSpan, Stored, halvings, height_of, node_at};
 
 // Where a walk to a page stands: the node over the page at a level, by its first page and its span, and what its place asks, the halvings of that first page,
 // and these less its height, in 64 bits.
@@ -25,17 +25,17 @@ pub struct Level {
 }
 
 impl Level {
-    // At the root of a span, over a page within it.
-    fn of_root(span: u64, page: u64) -> Level
-        requires { (root_in span ≡ span) × (page < span) }
-        ensures { (result.page ≡ page) × (result.span ≡ span) }
+    // At the root, over a page within it.
+    fn of_root(root: RootSpan, page: u64) -> Level
+        requires { page < root.span }
+        ensures { (result.page ≡ page) × (result.span ≡ root.span) }
     {
         Level {
             page,
             first: 0,
-            span,
+            span: root.span,
             halved: 0,
-            carried: 0_u64.wrapping_sub(height_of(span)),
+            carried: 0_u64.wrapping_sub(height_of(root.span)),
         }
     }
 
@@ -89,12 +89,14 @@ fn has_node(q: Part, at: Level) -> bool
     at.span <= q.span && q.f.0 < at.first + at.span && at.first <= q.last.0
 }
 
-// The place of the node at a level in the version numbered c, whose part q should be; none where it is not, or has no such node. Two words of the part give the
-// place. Over areas that no call left the sums may wrap.
+// The place of the node at a level in the version numbered c, whose part q should be; none where c is no version's number, or q another's, or the version has no
+// such node. Two words of the part give the place. Over areas that no call left the sums may wrap.
 fn place_of(q: Part, c: u64, at: Level) -> Option<u64>
-    requires { (0 < c) × (c < 2 ^ 64 - 1) }
     ensures { result ≡ place_in q c at.page (height_in at.span) }
 {
+    if c == 0 || c == u64::MAX {
+        return None;
+    }
     if q.name != c || !has_node(q, at) {
         return None;
     }
@@ -109,7 +111,7 @@ fn place_of(q: Part, c: u64, at: Level) -> Option<u64>
 pub fn leaf_place(q: Part, c: u64, page: PageIndex) -> Option<u64>
     ensures { result ≡ leaf_place q c page.0 }
 {
-    if c == 0 || c == u64::MAX || page.0 >= MOST_PAGES {
+    if page.0 >= MOST_PAGES {
         return None;
     }
     place_of(q, c, Level::of_leaf(page.0))
@@ -124,7 +126,6 @@ fn child_at(x: Stored, left: bool) -> u64
 
 // The node at a level in the version numbered c; none where it is not stored.
 fn node_over(areas: &Areas, c: u64, at: Level) -> Option<Stored>
-    requires { (0 < c) × (c < 2 ^ 64 - 1) }
     ensures { result ≡ visit areas.now.nodes.now (place_at areas.now.register.now c at.page (height_in at.span)) }
 {
     let place = place_of(version_part(areas.register, c), c, at)?;
@@ -150,12 +151,13 @@ pub fn descend(areas: &Areas, c: u64, at: &mut Level, to: u64) -> u64
     descend(areas, child, at, to)
 }
 
-// The same from the root, of its span, of the version numbered c; none where a node is not stored, as of the largest number, which is no version's.
-pub fn reach(areas: &Areas, c: u64, page: PageIndex, root: u64, to: u64) -> Option<u64>
-    requires { (root_in root ≡ root) × (page.0 < root) × (0 < to) }
-    ensures { (j : ℕ) → to ≡ 2 ^ j → result ≡ reach_by (place_at areas.now.register.now) areas.now.nodes.now j (height_in root - j) c page.0 }
+// The same from the root of the version numbered c; none where a node is not stored, as of the largest number, which is no version's.
+pub fn reach(areas: &Areas, c: u64, page: PageIndex, root: RootSpan, to: u64) -> Option<u64>
+    requires { (page.0 < root.span) × (0 < to) }
+    ensures found { (j : ℕ) → to ≡ 2 ^ j → result ≡ reach_by (place_at areas.now.register.now) areas.now.nodes.now j (height_in root.span - j) c page.0 }
+    ensures small { c < 2 ^ 64 - 1 → IfSome result (λ n. n < 2 ^ 64 - 1) }
 {
-    if root <= to {
+    if root.span <= to {
         return Some(c);
     }
     if c == u64::MAX {

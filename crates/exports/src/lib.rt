@@ -1,6 +1,7 @@
 // The store for C: every call on plain numbers, structs of numbers by value, and areas as pointer and length.
 // A reply begins with the number of the refusal, 0 where the call was accepted. No function has a `requires`; C must keep what references say in Rattle:
-// no pointer is null, and the areas of one call do not overlap. `exports_c` has each call once more, under its name in C: a crate is a library or a static library.
+// no pointer is null, and the areas of one call do not overlap. `exports_c` has each call once more, under its name in C: a crate is a library or a
+// static library. Where a call takes `Areas`, the literal stands at it and says which slice is which.
 #![tactic(auto)]
 
 ghost use Rattle.std.specs.Prelude.{◌≡◌};

@@ -6,7 +6,7 @@ ghost use Rattle.text.specs.Text.{same};
 ghost use Rattle.text.specs.Buffer.{front};
 ghost use Rattle.fields.specs.Fields.{fields_of, starts_plain, field_number, hex_value, is_hex, unhex, decoded_in};
 
-// Whether a field is this word.
+// Whether a field is this word. The `==` has a function of its own, whose promise says `same`, which `parse` cites.
 #[tactic(auto, using(crate::proofs::Words::same_pointwise))]
 pub fn word_is(w: &[u8], word: &[u8]) -> bool
     ensures { result ≡ same w.now word.now }
@@ -59,7 +59,7 @@ pub fn number_in(f: &[u8]) -> Option<u64>
 
 // Whether a byte is a lowercase hexadecimal digit: `to_digit(16)` and `from_str_radix` would take uppercase letters too.
 #[tactic(auto, unfolding(crate::specs::Fields::hex_value))]
-fn is_digit(b: u8) -> bool
+fn is_hex_digit(b: u8) -> bool
     ensures { result ≡ ltb (hex_value b) 16 }
 {
     matches!(b, b'0'..=b'9' | b'a'..=b'f')
@@ -78,7 +78,7 @@ fn digit_value(b: u8) -> u8
 fn is_hex(f: &[u8]) -> bool
     ensures { result ≡ is_hex f.now }
 {
-    f.len() % 2 == 0 && f.iter().all(|b| is_digit(*b))
+    f.len() % 2 == 0 && f.iter().all(|b| is_hex_digit(*b))
 }
 
 // Puts the bytes of a hexadecimal field at the front of a buffer; leaves a buffer that is too short.

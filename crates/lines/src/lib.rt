@@ -36,7 +36,7 @@ pub struct Entries {
 
 // ---- the lines
 
-// The state of a line that has not begun; line 0 begins with it.
+// The state of a line that has not begun; line 0 begins with it. It is `default()`, by the definition's name.
 pub fn no_branch() -> Branch
     ensures { result ≡ no_branch }
 {
@@ -101,7 +101,8 @@ pub fn field_of(word: u64, i: u64) -> u64
 
 // ---- the lines in a store
 
-// A line's state but its source in a word: start, assigned, published and blob, 16 bits each.
+// A line's state but its source in a word: start, assigned, published and blob, 16 bits each. Packed by hand, here and below: the words are the layout of the
+// store, which C has by value.
 #[tactic(auto, unfolding(crate::specs::Lines::packed))]
 pub fn packed_state(b: Branch) -> u64
     ensures { result ≡ packed b }
@@ -141,7 +142,7 @@ pub fn with_source(word: u64, i: u64, l: u64) -> u64
 
 // ---- the records of a line's own versions
 
-// The empty entries.
+// The empty entries: `default()`, by the definition's name.
 pub fn no_entries() -> Entries
     ensures { result ≡ no_entries }
 {

@@ -18,7 +18,8 @@ use versions::{ByteOffset, Store};
 use wanted::Look;
 use windows::no_windows;
 
-// One that answers no bytes. The program has no line that sets windows: there are none.
+// A step that answers no bytes. The program has no line that sets windows: there are none. A `match`: each arm is one call with its own parameters,
+// where a table of functions would need one type for all.
 #[tactic(auto, unfolding(wanted::specs::Steps::look_said))]
 pub fn look_step(s: &mut Store, step: Look, areas: &Areas) -> Result<Reply, Refusal>
     ensures { plainly (Some s.new) (reply_of result) ≡ look_said s.old step (lent areas.now) }

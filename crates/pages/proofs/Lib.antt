@@ -1,5 +1,4 @@
 pub mod Capped
 pub mod Equal
 pub mod PartLaws
-pub mod Product
 pub mod PutLaws

@@ -1,5 +1,7 @@
 // The page area: a lent run of bytes in which page `number` of `size` bytes begins at size * number.
 // No public function has a `requires`: what runs past the area or a buffer is neither stored nor handed out, and what was to be written is left as it was.
+// So a bool says whether bytes were stored, and a part that is not there is the empty one: `fits` and `part` have it so, and a part for C has no none.
+// Pages and page size stay two parameters: C lends the bytes, and the store has the size.
 #![tactic(auto)]
 
 ghost use Rattle.std.specs.Prelude.{◌≡◌, ◌-◌, ◌*◌, ◌^◌, min, length};
@@ -13,7 +15,7 @@ fn begins(size: u64, number: u64) -> usize
     size.saturating_mul(number) as usize
 }
 
-// Stores bytes from index at on, and answers whether they lie within the area.
+// Stores bytes from index at on, and answers whether they lie within the area. The lengths are compared, here and below: at + n could wrap.
 fn put_at(area: &mut [u8], at: usize, bytes: &[u8]) -> bool
     ensures { (result ≡ fits (length area.old) at (length bytes.now)) × (area.new ≡ put area.old at bytes.now) }
 {
@@ -67,7 +69,7 @@ pub fn copy_page(
     put_at(buf, to as usize, part_at(page, from as usize, n as usize))
 }
 
-// Whether pages m and n have the same bytes. One that runs past the area has none.
+// Whether pages m and n have the same bytes. One that runs past the area has none. The `==` has a function of its own, whose promise says `same`.
 pub fn same_page(pages: &[u8], size: u64, m: u64, n: u64) -> bool
     ensures { let area = pages.now in
         result ≡ same (part area (size * m) size) (part area (size * n) size) }

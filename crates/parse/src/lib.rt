@@ -32,7 +32,7 @@ pub enum Step {
 // The most bytes of a line, its line feed not counted.
 const MOST: usize = 600;
 
-// The byte that ends a line; `print` and `windows` have their own, since `text` below them has definitions alone.
+// The byte that ends a line; `print` has its own, since `text` below both has definitions alone.
 const LINE_FEED: u8 = 10;
 
 // Here and below the words are tested one after another by `word_is`: of a `match` on the bytes the proof did not close, since in its last arm nothing is
@@ -141,7 +141,8 @@ fn four(w: &[u8], a: Option<u64>, b: Option<u64>, c: Option<u64>, d: Option<u64>
 }
 
 // The step of a line, without its line feed; none where the line is malformed. The page bytes of a PUT line go to the front of the buffer; where they do not
-// fit, and for any other line, the buffer is as it was. No `FromStr`: a line is bytes, and a step's page bytes go to a buffer that is lent.
+// fit, and for any other line, the buffer is as it was. No `FromStr`: a line is bytes, and a step's page bytes go to a buffer that is lent. By how
+// many fields there are a `match` decides: each arm is one call with its own parameters, where a table of functions would need one type for all.
 #[tactic(auto, using(crate::proofs::Steps::means))]
 pub fn step_of(line: &[u8], bytes: &mut [u8]) -> Option<Step>
     ensures { (result ≡ step_of line.now) × (bytes.new ≡ front (bytes_of line.now) bytes.old) }

@@ -83,7 +83,7 @@ fn line_length(word: &[u8], numbers: &[u64]) -> usize
     length
 }
 
-// Writes the line of a word and numbers to the front of out, and answers its length; nothing and 0 where it does not fit.
+// Writes the line of a word and numbers to the front of out, and answers its length; nothing and 0 where it does not fit, as in `write_reply`.
 #[tactic(auto, using(crate::proofs::Answering::line_steps))]
 fn write_line(word: &[u8], numbers: &[u64], out: &mut [u8]) -> usize
     requires { (length word.now ≤ 9) × (length numbers.now ≤ 6) }
@@ -134,7 +134,8 @@ fn hex_digit(n: u8) -> u8
     if n < 10 { b'0' + n } else { b'a' + (n - 10) }
 }
 
-// Writes the line of the bytes that were read to the front of out, and answers its length; nothing and 0 where it does not fit.
+// Writes the line of the bytes that were read to the front of out, and answers its length; nothing and 0 where it does not fit, as in `write_reply`.
+// The place is counted by hand, since that of the line feed is asked after the loop.
 pub fn write_bytes(bytes: &[u8], out: &mut [u8]) -> usize
     ensures { (result ≡ wrote (bytes_line bytes.now) out.old) × (out.new ≡ front (bytes_line bytes.now) out.old) }
 {

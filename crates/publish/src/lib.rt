@@ -11,7 +11,7 @@ use register::{Areas, version_part};
 use table::Refusal;
 use tree::Version;
 use versions::{Store, lengths_in, line_refusal, line_state, set_line};
-use windows::{Windows, is_inside};
+use windows::{LAST_MINUTE, Windows, is_inside};
 
 // What PUBLISH comes to: a version that is published now, or that none is due, or that the minute is inside a window.
 #[derive(Clone, Copy)]
@@ -20,9 +20,6 @@ pub enum Published {
     Waiting,
     Held,
 }
-
-// The last minute of a week, which counts them from 0.
-const LAST_MINUTE: u64 = 10079;
 
 // PUBLISH line, minute: the version after the last published one of the line, if it is woven whole and the minute is inside no window.
 pub fn publish(
@@ -37,7 +34,7 @@ pub fn publish(
         × (s.new ≡ (publish_out s.old w.now a l.0 minute).store) }
 {
     line_refusal(s, lengths_in(areas), l)?;
-    if minute > LAST_MINUTE {
+    if minute > u64::from(LAST_MINUTE) {
         return Err(Refusal::NoSuchMinute);
     }
     if is_inside(w, minute) {

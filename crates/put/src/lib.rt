@@ -22,7 +22,7 @@ fn bit_of(mask: u64, i: u64) -> u64
     if i < MASK_BITS { (mask >> i) % 2 } else { 0 }
 }
 
-// The mask with 1 added at bit i, none past its end: likewise.
+// The mask with 1 added at bit i, none past its end. (For this too std has no word.)
 #[tactic(auto, using(crate::proofs::Bits::bits))]
 fn with_bit(mask: u64, i: u64) -> u64
     ensures { result ≡ with_bit mask i }

@@ -7,8 +7,7 @@ use native.Mathlib.Nat.{add-zero, zero-add, suc-add, mul-suc, mul-one, mul-le-mu
 use native.Mathlib.Omega.{arith}
 use borrow.Author.Tests.{le-leb}
 use lib.ListN.{length, take, drop, length-append, length-drop, take-append-drop}
-use mathlib.Core.List.{append-nil}
-use lib.Seq.{drop-cons, take-append_seam, drop-drop, drop-append-add, drop-append-le, take-append-le, length-take-le, drop-length}
+use lib.Seq.{drop-cons, take-append_seam, drop-drop, drop-append-add, drop-append-le, take-append-le, length-take-le}
 use lib.Arith.{digits_div, digits_mod}
 use Rattle.pages.specs.Pages.{put, part}
 use Rattle.std.proofs.Common.{Option, Some, None, Result, Ok, Err}
@@ -143,6 +142,3 @@ module _ (s : Store) (a : Areas) (c : ℕ) (t : Pages) (b : List ℕ) where
         let there : d + n ≡ done (i + 1) = omega (arith, behind, whole, more, need.begins) in
         let place : j + d ≡ (t.first.0 + i) * S + 0 = rw add-mul (omega (arith, mul_comm S i, whole, need.begins)) in
         rw (here, ← there, found_number (page_number_of s.pages a c (t.first.0 + i)) x e) (turn i 0 n d h (omega arith) place (omega (arith, behind)))
-
-    pub last_turn : (i : ℕ) → i ≡ t.count → filled i ≡ bytes_from S s.pages a c j (length b)
-    last_turn i e = let all : done i ≡ length b = rw e (omega (arith, need.within)) in rw (all, drop-length b, append-nil (bytes_from S s.pages a c j (length b))) refl

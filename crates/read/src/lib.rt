@@ -32,7 +32,7 @@ fn runs_past(total: u64, offset: ByteOffset, len: u64) -> bool
     total < offset.0 || total - offset.0 < len
 }
 
-// The bytes of version v, numbered c; none where its record is not there.
+// The bytes of version v, numbered c; none where its record is not there. Both come from the call, which finds the number once.
 #[tactic(auto, unfolding(crate::specs::Range::bytes_there))]
 fn bytes_there(s: &Store, areas: &Areas, c: u64, v: Version) -> Option<u64>
     ensures { result ≡ bytes_there s.now.size (version_part (lent areas.now).register c) c v.0 }
@@ -98,7 +98,7 @@ fn first_number(s: &Store, areas: &Areas, c: u64, first: PageIndex, n: u64) -> R
 }
 
 // Fills the buffer with bytes of the version numbered c, page by page. The first page's number is given, so that for a range within one page one walk is made.
-// What `copy_page` says of the room is known: all bytes fit.
+// What `copy_page` says of the room is known: all bytes fit. So is what `unwrap` asks: `first_number` has found every page.
 fn copy_pages(s: &Store, areas: &Areas, c: u64, t: Pages, number: u64, buffer: &mut [u8])
     requires { Readable s.now (lent areas.now) c t number (length buffer.old) }
     ensures { buffer.new ≡ bytes_from s.now.size s.now.pages (lent areas.now) c (t.first.0 * s.now.size + t.from) (length buffer.old) }

@@ -19,8 +19,9 @@ pub struct Record {
     pub number: u64,
     pub put: u64,
     pub update: u64,
-    // The update's ticket, its version as line x 65,536 + version, its first and last page; where its nodes lie: its first node place and its root's height together,
-    // the halvings of its first page, and its root's span, as the table of root spans has it; the size in pages after it, its node count, and how many of its nodes are woven.
+    // The update's ticket, its version as line x 65,536 + version, its first and last page; where its nodes lie: its first node place and its root's
+    // height together, the halvings of its first page, and its root's span, as the table of root spans has it; the size in pages after it, its node
+    // count, and how many of its nodes are woven.
     pub ticket: Ticket,
     pub name: u64,
     pub f: PageIndex,
@@ -65,7 +66,7 @@ pub struct Extent {
     pub size: u64,
 }
 
-// Whether pages and a size are within the limits: f <= last < size <= 4,096.
+// Whether pages and a size are within the limits: f <= last < size <= 4,096. Three parameters: an `Extent` is what this test, or the bounds, have let pass.
 #[tactic(auto, unfolding(crate::specs::Register::in_limits))]
 fn in_limits(f: PageIndex, last: PageIndex, size: u64) -> bool
     ensures { result ≡ in_limits f.0 last.0 size }
@@ -92,7 +93,7 @@ pub fn within_limits(f: PageIndex, last: PageIndex, size: u64) -> Extent
     }
 }
 
-// The update of a record's part. It brings the pages within the limits, and so is more than a `From`.
+// The update of a record's part. No `From`: an `into` would not say at the call that the pages are brought within the limits.
 #[tactic(auto, unfolding(crate::specs::Register::update_of))]
 pub fn extent_of(q: Part) -> Extent
     ensures { result ≡ extent_of (update_of q) }
@@ -100,7 +101,7 @@ pub fn extent_of(q: Part) -> Extent
     within_limits(q.f, q.last, q.size)
 }
 
-// What a record says of its update; a record says other things too, and so this is no `From`.
+// What a record says of its update. No `From`: an `into` would not say at the call which part of a record is read.
 pub fn part_of(r: &Record) -> Part
     ensures { result ≡ part_of r.now }
 {
@@ -117,7 +118,7 @@ pub fn part_of(r: &Record) -> Part
     }
 }
 
-// The empty record.
+// The empty record: `default()`, by the definition's name.
 pub fn no_record() -> Record
     ensures { result ≡ no_record }
 {
@@ -156,7 +157,8 @@ pub fn update_part(register: &[Record], k: u64) -> Part
 }
 
 // The part of the version numbered c: the record of the version's own number is tried first, so that a store with one line reads one record, and no more of
-// it than the part.
+// it than the part. Where there is none it is the empty part, as in `record_at`. Whether it is the version's own, its name says: each call compares
+// it at the place of row 19 among its own, READ after the row of its buffer.
 #[tactic(auto, using(crate::proofs::Records::past), unfolding(crate::specs::Register::version_record))]
 pub fn version_part(register: &[Record], c: u64) -> Part
     ensures { result ≡ version_part register.now c }
@@ -171,7 +173,8 @@ pub fn version_part(register: &[Record], c: u64) -> Part
     update_part(register, entry_at(r.entries, line_of(c)))
 }
 
-// Writes the record at an index; past the register's end nothing changes. By its index: after a slice's `get_mut` a proof knows the slice's length and no record.
+// Writes the record at an index; past the register's end nothing changes. By its index: after a slice's `get_mut` a proof knows the slice's length
+// and no record.
 #[tactic(auto, unfolding(crate::specs::Register::with_record))]
 pub fn set_record(register: &mut [Record], i: usize, r: Record)
     ensures { register.new ≡ with_record register.old i r }
@@ -205,8 +208,8 @@ fn part_within(q: Part, lo: PageIndex, hi: PageIndex) -> bool
     q.f.0.max(lo.0) <= q.f.0.max(q.last.0).min(hi.0)
 }
 
-// The newest of line l's own versions above `start` and up to `below` whose update meets the `span` pages from `first` on; version 0, which in a
-// number too stands for none, where there is none.
+// The newest of line l's own versions above `start` and up to `below` whose update meets the `span` pages from `first` on; version 0 where there is
+// none, as the definition and the node area have it. First page and span stay two here and in `highest`: they are two in the definitions.
 #[tactic(auto, using(crate::proofs::Newest::newest))]
 pub fn newest_own(
     register: &[Record],

@@ -1,5 +1,7 @@
 // What each call replies to C: structs of plain numbers, from the call's own answer, each by its definition in specs/Replies.
-// A reply begins with the number of the refusal, 0 where the call was accepted. No `From`: most replies are of a store and an answer, and a name says which call's it is.
+// C has a struct a call, with fields of its own, so that each reply is made by a function of its own.
+// A reply begins with the number of the refusal, 0 where the call was accepted. No `From`: most replies are of a store and an answer, and a name says
+// which call's it is.
 #![tactic(auto)]
 
 ghost use Rattle.std.specs.Prelude.{◌≡◌};
@@ -109,7 +111,7 @@ pub struct ViewReply {
     pub length: u64,
 }
 
-// A store of all zeros: not even line 0 has begun.
+// A store of all zeros: not even line 0 has begun. By the definition's name: `Store` has no `Default`, since FORMAT makes none of zeros.
 fn no_store() -> Store
     ensures { result ≡ no_store }
 {

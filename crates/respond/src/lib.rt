@@ -13,8 +13,9 @@ use register::{Areas, Record};
 use versions::Store;
 use wanted::Wanted;
 
-// Answers a step, on the store that is open, if one is. PUT's page bytes stand at the front of the buffer. The areas come as three slices, and go on as three or as `Areas`,
-// by what the step changes.
+// Answers a step, on the store that is open, if one is: with none open every step but FORMAT and WORST is refused. PUT's page bytes stand at the
+// front of the buffer. The areas come as three slices, and go on as three or as `Areas`, by what the step changes. A `match`: each arm is one call
+// with its own parameters, where a table of functions would need one type for all.
 #[tactic(auto, using(crate::proofs::Kept::worst_keeps), unfolding(wanted::specs::Steps::step_said, wanted::specs::Steps::step_areas))]
 pub fn respond(
     kept: &mut Option<Store>,

@@ -8,7 +8,8 @@ mod entries;
 
 use entries::SPANS;
 
-// The span of the root for a size in pages: the smallest power of two not below it, or 0 for a size that no tree has.
+// The span of the root for a size in pages: the smallest power of two not below it, or 0 for a size that no tree has: no `Option`, as the record that
+// C lends keeps it.
 pub fn root_span(size: u64) -> u64
     ensures { result ≡ root_span size }
 {

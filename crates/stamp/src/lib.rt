@@ -16,6 +16,7 @@ use versions::{Store, lengths_in, number_on, open_version, pages_by};
 use walk::find_page;
 
 // The leaf of a page of version v, numbered c; refused where the version's record is not there, the version has no such page, or the walk is lost.
+// Version and number stay two, as in the definition: the number is found once, and the size asks for the version.
 #[tactic(auto, using(crate::proofs::Pages::pages))]
 fn page_found(
     s: &Store,
@@ -39,7 +40,8 @@ fn page_found(
     }
 }
 
-// The leaf of a page of version v of a line, with which STAMP and VIEW begin: line, version and page are these calls' own, each of a type of its own.
+// The leaf of a page of version v of a line, with which STAMP and VIEW begin. Line, version and page are three parameters here as in the calls: each
+// is one field of STAMP and VIEW.
 #[tactic(auto, using(crate::proofs::Pages::leaves))]
 pub fn leaf_of(
     s: &Store,

@@ -120,7 +120,7 @@ fn answer(
     )
 }
 
-// The turns count up as in `next_line`. An answer that cannot be written ends the program.
+// The turns count up as in `next_line`. An answer that cannot be written ends the program. The arrays are fixed memory: there is no heap.
 #[tactic(auto, using(answers::proofs::Written::written_fits))]
 fn main(rt: HostRuntime) {
     let stdin = rt.stdin();

@@ -5,7 +5,7 @@ use Prim.Native.Nat.{ℕ, suc, ◌+◌, ◌<◌, ◌≤◌}
 use native.Mathlib.Nat.{add-zero, zero-add, add_assoc}
 use native.Mathlib.Numerals.{add-one}
 use native.Mathlib.Omega.{arith}
-use lib.ListN.{length, take, drop, get_or, set, drop_of_length-le, length-append, take-append-drop}
+use lib.ListN.{length, take, drop, get_or, set, length-append, take-append-drop}
 use lib.Seq.{drop-cons, take-suc-set, drop-set-lt, take-set-le, drop-drop, drop_at, take_at, set_split, length-take-le, append_snoc, drop-append-add}
 use borrow.Author.Tests.{le-leb, lt-leb}
 use Rattle.text.specs.Buffer.{put_at, front, wrote}
@@ -27,10 +27,6 @@ pub put-turn : (w l : List ℕ) (i : ℕ) → i < length w → i < length l → 
 put-turn w l i h k =
     put-cons i (get_or w i 0) (drop (i + 1) w) l k
     ∙ ap (λ (s : List ℕ). put_at i s l) (let e : get_or w i 0 ∷ drop (i + 1) w ≡ drop i w = rw (add-one, drop-cons w i 0 h) in e)
-
--- all of w is put
-pub put-end : (w l : List ℕ) (i : ℕ) → length w ≤ i → l ≡ put_at i (drop i w) l
-put-end w l i h = rw (drop_of_length-le w h) (sym (put-nil i l))
 
 -- a piece, and another after it
 pub put-append : (at : ℕ) (p q l : List ℕ) → at + length p ≤ length l → put_at (at + length p) q (put_at at p l) ≡ put_at at (p ++ q) l

@@ -37,15 +37,22 @@ pub struct Leaf {
     pub page: u64,
 }
 
-// The name of a node: its first page and its span.
+// The name of a node: its first page and its span. The span and not the height, which the definitions have: halves are by it, and C's answer has it.
 #[derive(Clone, Copy)]
 pub struct Named {
     pub first: PageIndex,
     pub span: u64,
 }
 
+// The root's span of a tree: a power of two, up to that of the largest blob.
+#[derive(Clone, Copy)]
+pub struct RootSpan {
+    pub span: u64,
+    ghost is_root: { root_in span ≡ span },
+}
+
 // The number that a place of the node area holds twice where no node is stored.
-const NO_NODE: u32 = 4294967295;
+const NO_NODE: u32 = u32::MAX;
 
 // The most pages that an update has.
 pub const MOST_UPDATED: u64 = 64;
@@ -60,23 +67,24 @@ pub fn height_of(span: u64) -> u64
     requires { 0 < span }
     ensures { (h : ℕ) → span ≡ 2 ^ h → result ≡ h }
 {
-    span.trailing_zeros() as u64
+    u64::from(span.trailing_zeros())
 }
 
 // The root's span that a word holds, or that of the largest blob where it holds none. A power of two shares no bit with the number below it, and of the numbers above 0
 // no other does.
-pub fn root_within(span: u64) -> u64
-    ensures { result ≡ root_in span }
+pub fn root_within(span: u64) -> RootSpan
+    ensures { result.span ≡ root_in span }
 {
     let below = span.wrapping_sub(1);
-    if below < MOST_PAGES && span & below == 0 {
+    let held = if below < MOST_PAGES && span & below == 0 {
         span
     } else {
         MOST_PAGES
-    }
+    };
+    RootSpan { span: held }
 }
 
-// The height of the root for a size in pages, that of the root's span, or 0 for a size that no tree has.
+// The height of the root for a size in pages, that of the root's span, or 0 for a size that no tree has: there `root_span`, which C calls too, answers 0.
 pub fn root_height(size: u64) -> u64
     ensures { result ≡ height_for size }
 {
@@ -89,7 +97,7 @@ pub fn halvings(x: u64) -> u64
     requires { x < 2 ^ 63 }
     ensures { (result ≡ halvings x) × (result + count_ones x ≡ 2 * x) }
 {
-    2 * x - x.count_ones() as u64
+    2 * x - u64::from(x.count_ones())
 }
 
 // The number of nodes of an update of the pages f .. last, in a tree whose root has this height.
@@ -100,8 +108,8 @@ pub fn node_count(f: PageIndex, last: PageIndex, height: u64) -> u64
     halvings(last.0) - halvings(f.0) + height + 1
 }
 
-// The worst node count of a write of n pages into a blob of exactly r pages that stays inside them, or 0 for an r or n that it is not asked for. Blobs of a power of two of
-// pages are those that are their own root's span. It is the count of the write from page r / 2 - 1 on, so that no sum is made.
+// The worst node count of a write of n pages into a blob of exactly r pages that stays inside them, or 0, as C has it, for an r or n that it is not asked for.
+// Blobs of a power of two of pages are those that are their own root's span. It is the count of the write from page r / 2 - 1 on, so that no sum is made.
 pub fn worst(r: u64, n: u64) -> u64
     ensures { result ≡ worst_for r n }
 {
@@ -128,22 +136,21 @@ fn first_over(p: PageIndex, height: u64) -> PageIndex
     PageIndex((p.0 >> height) << height)
 }
 
-// The node at number i, root first, of the whole tree of a root's span. Each turn goes into the half that the number lies in: a node's left half has one node
-// less than the node has pages.
-fn numbered(root: u64, i: u64) -> Named
-    requires { root_in root ≡ root }
-    ensures { Names (kth 0 (2 ^ height_in root - 1) 0 (height_in root) i) result.first.0 result.span }
+// The node at number i, root first, of the whole tree of a root. Each turn goes into the half that the number lies in: a node's left half has one node
+// less than the node has pages. A `while`, since no index is counted: the span halves.
+fn numbered(root: RootSpan, i: u64) -> Named
+    ensures { Names (kth 0 (2 ^ height_in root.span - 1) 0 (height_in root.span) i) result.first.0 result.span }
 {
     let mut a = 0;
-    let mut span = root;
+    let mut span = root.span;
     let mut k = i;
     while span > 1 && k > 0 {
         let left = span - 1;
-        span = span / 2;
-        k = k - 1;
+        span /= 2;
+        k -= 1;
         if k >= left {
-            k = k - left;
-            a = a + span;
+            k -= left;
+            a += span;
         }
     }
     Named {
@@ -152,19 +159,18 @@ fn numbered(root: u64, i: u64) -> Named
     }
 }
 
-// The k-th node, in weaving order, of an update from page f on in a tree of a root's span; `past` is the halvings of f. The order begins with the nodes over
+// The k-th node, in weaving order, of an update from page f on in a tree of a root; `past` is the halvings of f. The order begins with the nodes over
 // page f, root first: of these no search is made.
-pub fn node_by_number(f: PageIndex, span: u64, past: u64, k: u64) -> Named
-    requires { root_in span ≡ span }
-    ensures { Names (node_numbered f.0 (height_in span) past k) result.first.0 result.span }
+pub fn node_by_number(f: PageIndex, root: RootSpan, past: u64, k: u64) -> Named
+    ensures { Names (node_numbered f.0 (height_in root.span) past k) result.first.0 result.span }
 {
-    let height = height_of(span);
+    let height = height_of(root.span);
     if k > height {
-        return numbered(span, k.wrapping_add(past));
+        return numbered(root, k.wrapping_add(past));
     }
     Named {
         first: first_over(f, height - k),
-        span: span >> k,
+        span: root.span >> k,
     }
 }
 

@@ -14,13 +14,6 @@ use Rattle.versions.specs.Size.{refusal_by, snapshot_refusal, size_number}
 use Rattle.versions.specs.Recent.{line_refusal, recent_number}
 
 module _ (s : Store) (a : Areas) (l : ℕ) where
-  -- Rows 3 and 20, then more.
-  pub line-call : (more : List Row) (lost : Cond)
-      → first_refusal (every_call (areas_differ s a) ((no_such_line l (lines_in s) gives 20) ∷ more) lost)
-      ≡ or_else (line_refusal s (lengths_of a) l) (first_refusal (more ++ (lost gives 19) ∷ []))
-  unfolding line_refusal line_rows
-  line-call more lost = call-parts (areas_differ s a) ((no_such_line l (lines_in s) gives 20) ∷ []) more lost tt
-
   -- Rows 3, 20 and 16, then more.
   pub snapshot-call : (v : ℕ) (more : List Row) (lost : Cond)
       → first_refusal (every_call (areas_differ s a) ((no_such_line l (lines_in s) gives 20) ∷ ((line_in s l).published.0 <? v gives 16) ∷ more) lost)

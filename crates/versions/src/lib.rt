@@ -1,6 +1,6 @@
 // The version keeper: the store, its lines, areas and records, and what every call asks of them; SIZE and RECENT. The other calls stand above, a crate each.
-// A call takes the store and its areas lent. No call has a `requires`. A function of its own finds the refusal, by the rows of the table in their order; the call
-// acts where it finds none.
+// A call takes the store and its areas lent. No call has a `requires`. A call refuses first, by the rows of the table in their order, each with `?`; then it
+// acts.
 #![tactic(auto)]
 
 ghost use Rattle.std.specs.Prelude.{◌≡◌, pred, ◌*◌, [], ◌∷◌, eqb};
@@ -23,8 +23,9 @@ use tree::{Ticket, Version};
 #[derive(Clone, Copy, PartialEq, Eq, PartialOrd, Ord, Default)]
 pub struct ByteOffset(pub u64);
 
-// One store: page size and capacities; the last ticket given and how many page numbers are taken; how many updates are assigned, on all lines, and how many node
-// places are taken; how many lines have begun, and their states: the sources, 4 bits a line, and for each line a word with the rest.
+// One store: page size and capacities; the last ticket given and how many page numbers are taken; how many updates are assigned, on all lines, and
+// how many node places are taken; how many lines have begun, and their states: the sources, 4 bits a line, and for each line a word with the rest. C
+// has it by value: words, and no array of states.
 #[repr(C)]
 #[derive(Clone, Copy)]
 pub struct Store {
@@ -41,8 +42,8 @@ pub struct Store {
     pub lines: [u64; 16],
 }
 
-// The lengths of the areas that a call is lent: bytes, numbers and records. They go beside the store, and not in one struct with it: a call that changes the store borrows
-// it anew for each function.
+// The lengths of the areas that a call is lent: bytes, numbers and records. They go beside the store, and not in one struct with it: a call that
+// changes the store borrows it anew for each function.
 #[derive(Clone, Copy)]
 pub struct Lengths {
     pub pages: usize,
@@ -89,7 +90,7 @@ pub fn lengths_of(pages: &[u8], nodes: &[u32], register: &[Record]) -> Lengths
     }
 }
 
-// The lengths of areas that a call changes none of.
+// The lengths of areas that a call changes none of. No `From`: it goes by a name as `lengths_of` does, and has the same definition.
 pub fn lengths_in(areas: &Areas) -> Lengths
     ensures { result ≡ lengths_of (lent areas.now) }
 {
@@ -110,7 +111,7 @@ pub fn ticket_refusal(s: &Store, g: Lengths, t: Ticket) -> Result<(), Refusal>
     Ok(())
 }
 
-// ---- the lines
+// ---- the lines: a line and a version stay two parameters, here and in the calls, as each is one field of the call
 
 // How many lines have begun: at most sixteen.
 pub fn lines_begun(s: &Store) -> u64
@@ -119,7 +120,8 @@ pub fn lines_begun(s: &Store) -> u64
     s.begun.min(LINES)
 }
 
-// A line's state; past the sixteen that of a line that has not begun.
+// A line's state; past the sixteen that of a line that has not begun. By the index, here and below: after the test `get` would answer an `Option`
+// that cannot be none.
 #[tactic(auto, unfolding(crate::specs::Store::line_in))]
 pub fn line_state(s: &Store, l: Line) -> Branch
     ensures { result ≡ line_in s.now l.0 }

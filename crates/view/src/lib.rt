@@ -15,7 +15,7 @@ use tree::{PageIndex, Version};
 use versions::Store;
 
 // VIEW line, v, page: the bytes of the page as of version v, as a part of the page area; the empty part where STAMP refuses.
-// A part is always handed out, as docs/PROMISES.md has it; `view_at` says why there is none.
+// A part is always handed out, as docs/PROMISES.md has it; `view_at` says why there is none. Line, version and page are its fields.
 pub fn view<'a>(s: &Store, areas: &Areas<'a>, l: Line, v: Version, page: PageIndex) -> &'a [u8]
     ensures { result.now ≡ view_part s.now (lent areas.now) l.0 v.0 page.0 }
 {

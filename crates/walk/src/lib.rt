@@ -1,7 +1,7 @@
 // The walk from a version's root down the halves: to a page, for READ, STAMP and VIEW; to a node of a span, for WEAVE.
 #![tactic(auto)]
 
-ghost use Rattle.std.specs.Prelude.{◌≡◌, ℕ, ◌^◌, ◌<◌};
+ghost use Rattle.std.specs.Prelude.{◌≡◌, ℕ, ◌-◌, ◌^◌, ◌<◌, IfSome};
 ghost use Rattle.tree.specs.Walk.{visit, ends};
 ghost use Rattle.register.specs.Register.{version_part};
 ghost use Rattle.versions.specs.Store.{lent};
@@ -12,14 +12,15 @@ use descent::{leaf_place, reach};
 use register::{Areas, version_part};
 use tree::{Leaf, PageIndex, node_at, root_within};
 
-// The number of the node of span `to` over a page, from the root of the version numbered c, of the span that its record keeps: 0 where the page lies past the
-// root, and none where a node is not stored.
+// The number of the node of span `to` over a page, from the root of the version numbered c, of the span that its record keeps: 0, which is no version's, as in
+// the node area, where the page lies past the root, and none where a node is not stored.
 pub fn reach_from(areas: &Areas, c: u64, span: u64, page: PageIndex, to: u64) -> Option<u64>
     requires { 0 < to }
-    ensures { (j : ℕ) → to ≡ 2 ^ j → result ≡ reach_from (lent areas.now) c span page.0 j }
+    ensures found { (j : ℕ) → to ≡ 2 ^ j → result ≡ reach_from (lent areas.now) c span page.0 j }
+    ensures small { c < 2 ^ 64 - 1 → IfSome result (λ n. n < 2 ^ 64 - 1) }
 {
     let root = root_within(span);
-    if page.0 >= root {
+    if page.0 >= root.span {
         return Some(0);
     }
     reach(areas, c, page, root, to)

@@ -11,8 +11,9 @@ use format::fresh_store;
 use parse::{Cutter, Step};
 use versions::{Lengths, Store};
 
-// What a step asks for, by whether it needs an open store and changes areas; `Format` holds the limits of the store that it would make. The numbers get their
-// sorts where the call is made: here they would be one more struct in every pattern.
+// What a step asks for, by whether it needs an open store and changes areas; `Format` holds the limits of the store that it would make. The numbers
+// get their sorts where the call is made: here they would be one more struct in every pattern. `parse::Step` is what the text says, of which
+// `cut_means` speaks; these stand by what the call needs.
 #[derive(Clone, Copy)]
 pub enum Wanted {
     Format(u64, u64, u64, u64),
@@ -89,7 +90,8 @@ fn read_wanted(l: u64, v: u64, offset: u64, n: u64) -> Option<Wanted>
     Some(Wanted::Read(l, v, offset, n))
 }
 
-// What a step asks for; nothing where its line is malformed, or it is beyond the program's own limits.
+// What a step asks for; nothing where its line is malformed, or it is beyond the program's own limits. No `From`: both ends are an `Option`,
+// which is std's. A `match`, since each step has numbers of its own.
 #[tactic(auto, unfolding(crate::specs::Wanted::wanted_by))]
 fn wanted_by(step: Option<Step>) -> Option<Wanted>
     ensures { result ≡ wanted_by step }

@@ -1,7 +1,7 @@
 // WEAVE: one node of a version's tree, stored at its place.
 #![tactic(auto)]
 
-ghost use Rattle.std.specs.Prelude.{◌≡◌, false, ℕ, suc, pred, ◌+◌, ◌-◌, ◌^◌, ◌<◌, min, IfOk, IfSome, slice_index_or};
+ghost use Rattle.std.specs.Prelude.{◌≡◌, false, ℕ, suc, pred, ◌+◌, ◌-◌, ◌^◌, ◌<◌, min, IfOk, IfSome};
 ghost use Rattle.tree.specs.Tree.{Node, nth};
 ghost use Rattle.lines.specs.Lines.{pick};
 ghost use Rattle.descent.specs.Places.{or_most};
@@ -60,7 +60,8 @@ struct NextFound {
     node: WovenNode,
 }
 
-// The halves of a node.
+// The halves of a node. That its pages end within 64 bits is asked here, and of a half below: `Named` has it as no ghost field, since `node_by_number` names nodes
+// over any first page.
 #[tactic(auto, using(crate::proofs::Room::halves_rules))]
 fn halves_of(x: Named) -> Option<Halves>
     requires { x.first.0 + x.span < 2 ^ 64 }
@@ -88,7 +89,7 @@ fn next_node(part: Part) -> Next
 {
     let root = root_within(part.span);
     let node = node_by_number(extent_of(part).f, root, part.past, part.woven);
-    let start = part.top.saturating_sub(height_of(root));
+    let start = part.top.saturating_sub(height_of(root.span));
     Next {
         part,
         node,
@@ -143,14 +144,6 @@ fn weave_refusal(s: &Store, g: Lengths, r: &Record, x: &Next, t: Ticket) -> Resu
     Ok(())
 }
 
-// The numbers of a node area are of 32 bits. It does nothing: a proof has the type of a slice's numbers only in a function that is lent the slice itself, and
-// `far_child` needs it, since the number that `older_number` has for what is lost must be no child's.
-fn of_32_bits(nodes: &[u32])
-    ensures { (k : ℕ) → slice_index_or nodes.now k 0 < 2 ^ 32 }
-{
-    let _ = nodes;
-}
-
 // The number of the newest update below the version numbered c, on its line, that meets the pages of node x, as the node area keeps it: 0 where there is no
 // such update. Updates after the last published version are in work, or complete and not yet due: the register is walked over these. Where none of them meets
 // the pages, the last published version's tree has the answer; none where a node of it is not there.
@@ -168,7 +161,6 @@ fn far_child(s: &Store, areas: &Areas, c: u64, x: Named) -> Option<u64>
     if own.0 > 0 {
         return Some(number_of(l, own));
     }
-    of_32_bits(areas.nodes);
     let d = number_on(s, l, last);
     let root = version_part(areas.register, d).span;
     reach_from(areas, d, root, x.first, x.span)

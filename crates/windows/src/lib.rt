@@ -1,5 +1,5 @@
-// Blast windows, while which no new version may be published: a site's windows by value, whether a minute is inside one, and the text of a list. No public function
-// has a `requires`.
+// Blast windows, while which no new version may be published: a site's windows by value, whether a minute is inside one, and the text of a list. No
+// public function has a `requires`.
 #![tactic(auto)]
 
 ghost use Rattle.std.specs.Prelude.{◌≡◌, [], ◌∷◌, ◌++◌};
@@ -10,8 +10,8 @@ ghost use Rattle.windows.specs.Listed.{entry_of, line_entry, listed_of, InsideMe
 use fields::{field, field_count, number_in};
 use table::Refusal;
 
-// The last minute of the week.
-const LAST_MINUTE: u16 = 10079;
+// The last minute of the week, which counts them from 0.
+pub const LAST_MINUTE: u16 = 10079;
 
 // A weekly window, in minutes of the week 0 to 10,079. One with equal ends has no minute. No `PartialEq`: nothing compares two windows.
 #[repr(C)]
@@ -37,7 +37,7 @@ pub fn no_windows() -> Windows
     }
 }
 
-// Whether a minute is inside a window.
+// Whether a minute is inside a window. Both cases are comparisons: of a window that goes on over the week's end no range speaks.
 #[tactic(auto, unfolding(crate::specs::Windows::inside_one))]
 fn inside_one(w: Window, minute: u64) -> bool
     ensures { result ≡ inside_one w minute }
@@ -92,7 +92,7 @@ fn line_entry(line: &[u8]) -> Option<Window>
 }
 
 // The windows of lines, without the line feed that ends the last one. A window past the 32nd place is counted and not stored, so that a wrong line
-// after it is still found.
+// after it is still found. They are counted by hand, since how many they are is asked after the loop.
 fn read_lines(lines: &[u8]) -> Result<Windows, Refusal>
     ensures { numbered result ≡ listed_of (lines.now ++ (10 ∷ [])) }
 {

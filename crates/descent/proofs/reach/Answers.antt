@@ -6,14 +6,14 @@ use Rattle.descent.specs.Places.{place_at}
 use Rattle.descent.proofs.Levels.{height-lt, reach_here, reach-most}
 use Rattle.descent.proofs.reach.Goals as goal
 
-pub returns-then-root-to : goal.returns-then-root-to
-returns-then-root-to c j e =
+pub returns-then-root-to-clause-found : goal.returns-then-root-to-clause-found
+returns-then-root-to-clause-found c j e =
     let a = c.args in
-    let low = height-le j (height_in a.root) (omega (arith, own_power a.root c.requires.0, e, c.if-root-to.true)) in
-    sym (reach_here (place_at a.areas.now.register.now) a.areas.now.nodes.now j a.page.0 (height_in a.root) a.c low)
+    let low = height-le j (height_in a.root.span) (omega (arith, own_power a.root.span a.root.is_root, e, c.if-root-to.true)) in
+    sym (reach_here (place_at a.areas.now.register.now) a.areas.now.nodes.now j a.page.0 (height_in a.root.span) a.c low)
 
-pub returns-then-c-eq18446744073709551615 : goal.returns-then-c-eq18446744073709551615
-returns-then-c-eq18446744073709551615 c j e =
+pub returns-then-c-eq18446744073709551615-clause-found : goal.returns-then-c-eq18446744073709551615-clause-found
+returns-then-c-eq18446744073709551615-clause-found c j e =
     let a = c.args in
-    let low = height-lt j (height_in a.root) (omega (arith, own_power a.root c.requires.0, e, c.if-root-to.false)) in
-    sym (rw c.if-c-eq18446744073709551615.true (reach-most a.areas.now.register.now a.areas.now.nodes.now j (height_in a.root) a.page.0 low))
+    let low = height-lt j (height_in a.root.span) (omega (arith, own_power a.root.span a.root.is_root, e, c.if-root-to.false)) in
+    sym (rw c.if-c-eq18446744073709551615.true (reach-most a.areas.now.register.now a.areas.now.nodes.now j (height_in a.root.span) a.page.0 low))

@@ -6,4 +6,4 @@ use Rattle.tree.proofs.halvings.Goals as goal
 
 pub returns : goal.returns
 unfolding halvings
-returns c = (refl, omega (arith, ones-le-twice c.args.x))
+returns c = let e = c.from.ensures in (rw e refl, omega (arith, e, ones-le-twice c.args.x))

@@ -6,10 +6,10 @@ use Rattle.tree.proofs.Numbering.{number-begins, number-left, number-right, numb
 use Rattle.tree.proofs.numbered.Goals as goal
 
 pub loop-span-init : goal.loop-span-init
-loop-span-init c = number-begins (height_in c.args.root) c.args.i c.args.root (own_power c.args.root c.requires)
+loop-span-init c = number-begins (height_in c.args.root.span) c.args.i c.args.root.span (own_power c.args.root.span c.args.root.is_root)
 
 pub overflow_add-a : goal.overflow_add-a
-overflow_add-a c = record { fits = omega (arith, c.loop-span.invariant.inside, pow_mono (height-in-low c.args.root)) }
+overflow_add-a c = record { fits = omega (arith, c.loop-span.invariant.inside, pow_mono (height-in-low c.args.root.span)) }
 
 pub loop-span-preserved-then-k-left : goal.loop-span-preserved-then-k-left
 loop-span-preserved-then-k-left c = number-right c.loop-span.invariant (omega arith) c.if-k-gt0.true (omega arith)

@@ -4,7 +4,7 @@ use Rattle.tree.proofs.Numbering.{Numbering}
 use Rattle.tree.proofs.numbered.Given as goal
 
 abbrev pub invariant-loop-span : goal.invariant-loop-span
-invariant-loop-span l = Numbering (height_in l.root) l.i l.a l.span l.k
+invariant-loop-span l = Numbering (height_in l.fn.root.span) l.i l.a l.span l.k
 
 abbrev pub decreases-loop-span : goal.decreases-loop-span
 decreases-loop-span l = l.span

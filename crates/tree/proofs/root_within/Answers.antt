@@ -3,10 +3,10 @@ use Rattle.std.proofs.Common.{◌≡◌, ℕ, ◌+◌, ◌-◌, ◌%◌, ◌^◌
 use lib.Bits.{bit_and}
 use Rattle.tree.specs.Contract.{root_in}
 use Rattle.tree.proofs.Root.{height-le}
-use Rattle.tree.proofs.Word.{word_holds, root-in-power}
+use Rattle.tree.proofs.Word.{word_holds, root-in-power, root-in-held}
 use Rattle.tree.proofs.Power.{power-shares-none, shares-none-power}
 use Rattle.tree.proofs.root_within.Goals as goal
-use Rattle.tree.proofs.root_within.Goals.{else-below-lt-MOST_PAGES-via-then-below-lt-MOST_PAGES+else-span-below-eq0, else-below-lt-MOST_PAGES-via-else-below-lt-MOST_PAGES}
+use Rattle.tree.proofs.root_within.Goals.{then-below-lt-MOST_PAGES+then-span-below-eq0, else-below-lt-MOST_PAGES, else-below-lt-MOST_PAGES-via-then-below-lt-MOST_PAGES+else-span-below-eq0, else-below-lt-MOST_PAGES-via-else-below-lt-MOST_PAGES}
 
 -- The word is above 0 where the number below it is small: so nothing wrapped.
 passes : (s below : ℕ) → (below + 1) % 2 ^ 64 ≡ s → below < 4096 → bit_and s below ≡ 0 → s ≡ root_in s
@@ -26,16 +26,30 @@ fails s below w e none = elim (word_holds s) [
   | inr h ↦ sym h
 ]
 
-pub returns-then-span-below-eq0 : goal.returns-then-span-below-eq0
-returns-then-span-below-eq0 c =
+pub invariant_of-result : goal.invariant_of-result
+invariant_of-result c =
     let s = c.args.span in
-    passes s ((s + 18446744073709551615) % 2 ^ 64) (omega arith) c.if-below-lt-MOST_PAGES.true c.if-span-below-eq0.true
+    let b = (s + 18446744073709551615) % 2 ^ 64 in
+    let e : c.if-below-lt-MOST_PAGES.held ≡ root_in s =
+    elim c.if-below-lt-MOST_PAGES.branch [
+      | then-below-lt-MOST_PAGES+then-span-below-eq0 w ↦ w.held-is ∙ passes s b (omega arith) w.if-below-lt-MOST_PAGES.true w.if-span-below-eq0.true
+      | else-below-lt-MOST_PAGES w ↦ w.held-is ∙ fails s b (omega arith) (omega arith) (
+          elim w.else-below-lt-MOST_PAGES.branch [
+            | else-below-lt-MOST_PAGES-via-then-below-lt-MOST_PAGES+else-span-below-eq0 v ↦ inr v.if-span-below-eq0.false
+            | else-below-lt-MOST_PAGES-via-else-below-lt-MOST_PAGES v ↦ inl v.if-below-lt-MOST_PAGES.false
+          ])
+    ] in
+    record { is_root = rw e (root-in-held s).0 }
 
-pub returns-else-below-lt-MOST_PAGES : goal.returns-else-below-lt-MOST_PAGES
-returns-else-below-lt-MOST_PAGES c =
+pub returns : goal.returns
+returns c =
     let s = c.args.span in
-    fails s ((s + 18446744073709551615) % 2 ^ 64) (omega arith) (omega arith) (
-    elim c.else-below-lt-MOST_PAGES.branch [
-      | else-below-lt-MOST_PAGES-via-then-below-lt-MOST_PAGES+else-span-below-eq0 w ↦ inr w.if-span-below-eq0.false
-      | else-below-lt-MOST_PAGES-via-else-below-lt-MOST_PAGES w ↦ inl w.if-below-lt-MOST_PAGES.false
-    ])
+    let b = (s + 18446744073709551615) % 2 ^ 64 in
+    elim c.if-below-lt-MOST_PAGES.branch [
+      | then-below-lt-MOST_PAGES+then-span-below-eq0 w ↦ w.held-is ∙ passes s b (omega arith) w.if-below-lt-MOST_PAGES.true w.if-span-below-eq0.true
+      | else-below-lt-MOST_PAGES w ↦ w.held-is ∙ fails s b (omega arith) (omega arith) (
+          elim w.else-below-lt-MOST_PAGES.branch [
+            | else-below-lt-MOST_PAGES-via-then-below-lt-MOST_PAGES+else-span-below-eq0 v ↦ inr v.if-span-below-eq0.false
+            | else-below-lt-MOST_PAGES-via-else-below-lt-MOST_PAGES v ↦ inl v.if-below-lt-MOST_PAGES.false
+          ])
+    ]

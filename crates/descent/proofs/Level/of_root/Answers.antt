@@ -6,5 +6,5 @@ use Rattle.descent.proofs.Level.of_root.Goals as goal
 
 pub invariant_of-result : goal.invariant_of-result
 invariant_of-result c =
-    let s = c.args.span in
-    record { carries = level-root c.args.page s _ c.requires.0 c.requires.1 (ap (λ (h : ℕ). (0 + (2 ^ 64 - h)) % 2 ^ 64) (c.height_of.ensures (height_in s) (own_power s c.requires.0))) }
+    let s = c.args.root.span in
+    record { carries = level-root c.args.page s _ c.args.root.is_root c.requires (ap (λ (h : ℕ). (0 + (2 ^ 64 - h)) % 2 ^ 64) (c.height_of.ensures (height_in s) (own_power s c.args.root.is_root))) }
