@@ -10,7 +10,7 @@ use lines::{Branch, Line};
 use register::{Areas, version_part};
 use table::Refusal;
 use tree::Version;
-use versions::{LINES, Store, lengths_in, lines_begun, open_version, pages_by, set_line};
+use versions::{LINES, Store, lengths_in, lines_begun, opened_number, pages_by, set_line};
 
 // BRANCH line, v: a new line that shares the line's versions up to v, published there too. Nothing is copied: the new line goes on with version v + 1.
 pub fn branch(s: &mut Store, areas: &Areas, l: Line, v: Version) -> Result<Line, Refusal>
@@ -18,7 +18,7 @@ pub fn branch(s: &mut Store, areas: &Areas, l: Line, v: Version) -> Result<Line,
         (numbered result ≡ (branch_out s.old a l.0 v.0).answer)
         × (s.new ≡ (branch_out s.old a l.0 v.0).store) }
 {
-    let c = open_version(s, lengths_in(areas), l, v)?;
+    let c = opened_number(s, lengths_in(areas), l, v)?;
     let new = Line(lines_begun(s));
     if new.0 >= LINES {
         return Err(Refusal::LinesFull);

@@ -1,10 +1,10 @@
 // The steps of the step program that change no area, each by its call: the crates of the calls decide, and `answers` writes the answer.
 #![tactic(auto)]
 
-ghost use Rattle.std.specs.Prelude.{◌≡◌, Some};
+ghost use Rattle.std.specs.Prelude.{◌≡◌, Some, Ok};
 ghost use Rattle.versions.specs.Store.{lent};
 ghost use Rattle.read.specs.Read.{read_out, read_buffer};
-ghost use Rattle.answers.specs.Answers.{plainly, reply_of, written, no_bytes, read_said};
+ghost use Rattle.answers.specs.Answers.{plainly, reply_of, published_reply, written, no_bytes, read_said};
 ghost use Rattle.wanted.specs.Steps.{look_said};
 
 use answers::{AnswerLine, read_line};
@@ -18,6 +18,17 @@ use versions::{ByteOffset, Store};
 use wanted::Look;
 use windows::no_windows;
 
+// The reply of what PUBLISH comes to. A function of its own: the program has no windows, so that no step comes to `Held`, and its promise says of that too.
+fn published_reply(published: Published) -> Reply
+    ensures { result ≡ published_reply (Ok published) }
+{
+    match published {
+        Published::Now(v) => Reply::Published(v.0),
+        Published::Waiting => Reply::Waiting,
+        Published::Held => Reply::Held,
+    }
+}
+
 // A step that answers no bytes. The program has no line that sets windows: there are none. A `match`: each arm is one call with its own parameters,
 // where a table of functions would need one type for all.
 #[tactic(auto, unfolding(wanted::specs::Steps::look_said))]
@@ -27,11 +38,7 @@ pub fn look_step(s: &mut Store, step: Look, areas: &Areas) -> Result<Reply, Refu
     match step {
         Look::Publish(l, minute) => {
             let published = publish::publish(s, &no_windows(), areas, Line(l), minute)?;
-            Ok(match published {
-                Published::Now(v) => Reply::Published(v.0),
-                Published::Waiting => Reply::Waiting,
-                Published::Held => Reply::Held,
-            })
+            Ok(published_reply(published))
         }
         Look::Branch(l, v) => {
             let line = branch::branch(s, areas, Line(l), Version(v))?;

@@ -4,9 +4,17 @@
 // Pages and page size stay two parameters: C lends the bytes, and the store has the size.
 #![tactic(auto)]
 
-ghost use Rattle.std.specs.Prelude.{◌≡◌, ◌-◌, ◌*◌, ◌^◌, min, length};
+ghost use Rattle.std.specs.Prelude.{◌≡◌, ◌-◌, ◌*◌, ◌^◌, ◌≤◌, min, length};
 ghost use Rattle.text.specs.Text.{same};
-ghost use Rattle.pages.specs.Pages.{fits, put, part};
+ghost use Rattle.pages.specs.Pages.{over, fits, put, part};
+
+// The copier: copies src over the front of dst.
+fn copy_in(dst: &mut [u8], src: &[u8])
+    requires { length src.now ≤ length dst.old }
+    ensures { dst.new ≡ over dst.old src.now }
+{
+    dst[..src.len()].copy_from_slice(src);
+}
 
 // Where page `number` begins. A product that would wrap answers the largest number, which lies past any area.
 fn begins(size: u64, number: u64) -> usize
@@ -15,14 +23,15 @@ fn begins(size: u64, number: u64) -> usize
     size.saturating_mul(number) as usize
 }
 
-// Stores bytes from index at on, and answers whether they lie within the area. The lengths are compared, here and below: at + n could wrap.
+// Stores bytes from index at on: the part from there on is handed to the copier. Answers whether they lie within the area. The lengths are compared,
+// here and below: at + n could wrap.
 fn put_at(area: &mut [u8], at: usize, bytes: &[u8]) -> bool
     ensures { (result ≡ fits (length area.old) at (length bytes.now)) × (area.new ≡ put area.old at bytes.now) }
 {
     if at > area.len() || bytes.len() > area.len() - at {
         return false;
     }
-    area[at..at + bytes.len()].copy_from_slice(bytes);
+    copy_in(&mut area[at..], bytes);
     true
 }
 
@@ -70,6 +79,7 @@ pub fn copy_page(
 }
 
 // Whether pages m and n have the same bytes. One that runs past the area has none. The `==` has a function of its own, whose promise says `same`.
+#[tactic(auto, using(crate::proofs::Equal::equal_same))]
 pub fn same_page(pages: &[u8], size: u64, m: u64, n: u64) -> bool
     ensures { let area = pages.now in
         result ≡ same (part area (size * m) size) (part area (size * n) size) }

@@ -14,7 +14,7 @@ use pages::copy_page;
 use register::{Areas, version_part};
 use table::Refusal;
 use tree::{PageIndex, Version};
-use versions::{ByteOffset, Store, bytes_by, lengths_in, open_version, pages_by};
+use versions::{ByteOffset, Store, bytes_by, lengths_in, opened_number, pages_by};
 use walk::{find_page, number_within};
 
 // The pages that a range of bytes touches: the first, the range's first byte within it, and how many.
@@ -144,7 +144,7 @@ pub fn read(
         (numbered result ≡ read_out s.now a l.0 v.0 offset.0 len buffer.old)
         × (buffer.new ≡ read_buffer s.now a l.0 v.0 offset.0 len buffer.old) }
 {
-    let c = open_version(s, lengths_in(areas), l, v)?;
+    let c = opened_number(s, lengths_in(areas), l, v)?;
     range_refusal(bytes_there(s, areas, c, v), offset, len, buffer.len())?;
     if len == 0 {
         return Ok(());

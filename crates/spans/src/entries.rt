@@ -1,6 +1,5 @@
 // The table of root spans: entry k is the root span of a blob of k pages, and entry 0 is 0. Document 02 asks for a table (Slip 2).
-// A `static`, which is not built anew at each use, as the array of a `const` is.
-pub static SPANS: [u16; 4097] = [
+pub const SPANS: [u16; 4097] = [
     0, 1, 2, 4, 4, 8, 8, 8, 8, 16, 16, 16, 16, 16, 16, 16, 16, 32, 32, 32, 32, 32, 32, 32, 32, 32,
     32, 32, 32, 32, 32, 32, 32, 64, 64, 64, 64, 64, 64, 64, 64, 64, 64, 64, 64, 64, 64, 64, 64, 64,
     64, 64, 64, 64, 64, 64, 64, 64, 64, 64, 64, 64, 64, 64, 64, 128, 128, 128, 128, 128, 128, 128,

@@ -12,7 +12,7 @@ use pages::same_page;
 use register::{Areas, version_part};
 use table::Refusal;
 use tree::{Leaf, PageIndex, Version};
-use versions::{Store, lengths_in, number_on, open_version, pages_by};
+use versions::{Store, lengths_in, number_on, opened_number, pages_by};
 use walk::find_page;
 
 // The leaf of a page of version v, numbered c; refused where the version's record is not there, the version has no such page, or the walk is lost.
@@ -52,7 +52,7 @@ pub fn leaf_of(
 ) -> Result<Leaf, Refusal>
     ensures { numbered result ≡ leaf_out s.now (lent areas.now) l.0 v.0 page.0 }
 {
-    let c = open_version(s, lengths_in(areas), l, v)?;
+    let c = opened_number(s, lengths_in(areas), l, v)?;
     page_found(s, areas, c, v, page)
 }
 

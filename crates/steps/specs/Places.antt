@@ -1,5 +1,5 @@
--- What a line of the input answers and leaves, on the program's arrays.
-use Rattle.std.specs.Prelude.{ℕ, List, ◌++◌, take, drop, replicate, Option}
+-- Where the program begins, and what a line of the input answers and leaves, on the program's arrays.
+use Rattle.std.specs.Prelude.{ℕ, Bool, true, false, List, ◌++◌, take, drop, replicate, Option, None, Some}
 use Rattle.text.specs.Buffer.{front}
 use Rattle.parse.specs.Cut.{cut_meant}
 use Rattle.parse.specs.declared.Cutter.{Cutter}
@@ -10,6 +10,17 @@ use Rattle.answers.specs.Answers.{Said}
 use Rattle.wanted.specs.declared.Wanted.{Wanted}
 use Rattle.wanted.specs.Wanted.{wanted_by, lent_lengths}
 use Rattle.wanted.specs.Steps.{step_said, step_areas}
+use Rattle.steps.specs.declared.Place.{Place}
+use Rattle.steps.specs.declared.Unread.{Unread}
+
+-- The place where the program begins: no store is open, nothing is read, and the input has not ended.
+abbrev pub first_place : Place
+first_place = record { kept = None; unread = Some (record { at = 0; end = 0 }) }
+
+-- What is left of the input after an answer: nothing where it could not be written.
+abbrev pub unread_after : Option Unread → Bool → Option Unread
+unread_after u true = u
+unread_after u false = None
 
 -- What the line of text in the cutter asks for.
 abbrev pub line_wanted : Cutter → List ℕ → Option Wanted

@@ -5,8 +5,8 @@
 ghost use Rattle.std.specs.Prelude.{◌≡◌, ◌≤◌, length};
 ghost use Rattle.versions.specs.Store.{areas_of};
 ghost use Rattle.answers.specs.Answers.{written};
-ghost use Rattle.steps.specs.Inputs.{line_taken, last_line, within, anew};
-ghost use Rattle.steps.specs.Places.{line_said, line_areas};
+ghost use Rattle.steps.specs.Inputs.{line_taken, line_begun, line_at_end, within, anew};
+ghost use Rattle.steps.specs.Places.{first_place, unread_after, line_said, line_areas};
 
 use answers::AnswerLine;
 use parse::Cutter;
@@ -21,16 +21,20 @@ struct Unread {
     end: usize,
 }
 
-// Reads what is there of standard input, at most a block, and waits where nothing is; none at its end, or where it cannot be read.
-fn read_on(stdin: Stdin, block: &mut [u8]) -> Option<Unread>
-    ensures within { within result (length block.old) }
-    ensures anew { anew result }
+// Where the program stands between two lines: the store that is open, if one is, and what is read of the input; none where it has ended.
+#[derive(Clone, Copy)]
+struct Place {
+    kept: Option<Store>,
+    unread: Option<Unread>,
+}
+
+// The place where the program begins: no store is open, and nothing is read.
+fn first_place() -> Place
+    ensures { result ≡ first_place }
 {
-    let mut reader = stdin;
-    match reader.read(block) {
-        Ok(0) => None,
-        Ok(n) => Some(Unread { at: 0, end: n }),
-        Err(_) => None,
+    Place {
+        kept: None,
+        unread: Some(Unread { at: 0, end: 0 }),
     }
 }
 
@@ -53,16 +57,33 @@ fn take_line(unread: &mut Unread, cutter: &mut Cutter, block: &[u8], text: &mut 
     false
 }
 
-// What the cutter holds at the end of the input: a last line without its line feed is to be answered.
+// Reads on in a line: at most a block of standard input, and waits where nothing is there. At its end, or where it cannot be read, none is unread from
+// here on, and a last line without its line feed is to be answered.
 #[tactic(auto, unfolding(crate::specs::Inputs::last_line))]
-fn last_line(cutter: Cutter) -> Option<Cutter>
-    ensures { result ≡ last_line cutter }
+fn read_on(
+    unread: &mut Option<Unread>,
+    stdin: Stdin,
+    block: &mut [u8],
+    cutter: Cutter,
+) -> Option<Cutter>
+    ensures within { within unread.new (length block.old) }
+    ensures anew { anew unread.new }
+    ensures last { result ≡ line_at_end unread.new cutter }
 {
-    if cutter.unended() { Some(cutter) } else { None }
+    let mut reader = stdin;
+    *unread = match reader.read(block) {
+        Ok(0) => None,
+        Ok(n) => Some(Unread { at: 0, end: n }),
+        Err(_) => None,
+    };
+    if unread.is_none() && cutter.unended() {
+        Some(cutter)
+    } else {
+        None
+    }
 }
 
-// Takes the next line of the input, which may have to be read first; none where the input has ended, after which nothing more is read. A proved loop has to
-// end, and nothing says that the input does, so the turns count up to a number that no run reaches.
+// Takes the next line of the input, of what was read or of what is read on; none where the input has ended, after which nothing more is read.
 fn next_line(
     unread: &mut Option<Unread>,
     stdin: Stdin,
@@ -70,19 +91,39 @@ fn next_line(
     text: &mut [u8],
 ) -> Option<Cutter>
     requires { within unread.old (length block.old) }
-    ensures { within unread.new (length block.old) }
+    ensures within { within unread.new (length block.old) }
+    ensures begun { line_begun unread.old block.old text.old result unread.new text.new }
 {
     let mut cutter = Cutter::fresh();
+    let Some(left) = unread else {
+        return None;
+    };
+    if take_line(left, &mut cutter, block, text) {
+        return Some(cutter);
+    }
+    rest_of_line(unread, stdin, block, text, cutter)
+}
+
+// Takes the rest of a line, of which the cutter holds the beginning, as often as it has to be read on. A proved loop has to end, and nothing says that the
+// input does, so the turns count up to a number that no run reaches.
+fn rest_of_line(
+    unread: &mut Option<Unread>,
+    stdin: Stdin,
+    block: &mut [u8],
+    text: &mut [u8],
+    begun: Cutter,
+) -> Option<Cutter>
+    requires { within unread.old (length block.old) }
+    ensures { within unread.new (length block.old) }
+{
+    let mut cutter = begun;
     for _turn in 0..u64::MAX {
+        let last = read_on(unread, stdin, block, cutter);
         let Some(left) = unread else {
-            return None;
+            return last;
         };
         if take_line(left, &mut cutter, block, text) {
             return Some(cutter);
-        }
-        *unread = read_on(stdin, block);
-        if unread.is_none() {
-            return last_line(cutter);
         }
     }
     None
@@ -120,7 +161,14 @@ fn answer(
     )
 }
 
-// The turns count up as in `next_line`. An answer that cannot be written ends the program. The arrays are fixed memory: there is no heap.
+// What is left of the input after an answer: nothing where it could not be written, which ends the program.
+fn unread_after(unread: Option<Unread>, written: bool) -> Option<Unread>
+    ensures { result ≡ unread_after unread written }
+{
+    if written { unread } else { None }
+}
+
+// The turns count up as in `rest_of_line`. The arrays are fixed memory: there is no heap.
 #[tactic(auto, using(answers::proofs::Written::written_fits))]
 fn main(rt: HostRuntime) {
     let stdin = rt.stdin();
@@ -131,22 +179,20 @@ fn main(rt: HostRuntime) {
     let mut nodes = [0u32; 4096];
     let empty = register::no_record();
     let mut register = [empty; 256];
-    let mut kept = None;
-    let mut unread = Some(Unread { at: 0, end: 0 });
+    let mut place = first_place();
     for _turn in 0..u64::MAX {
-        let Some(cutter) = next_line(&mut unread, stdin, &mut block, &mut text) else {
+        let Some(cutter) = next_line(&mut place.unread, stdin, &mut block, &mut text) else {
             return;
         };
         let line = answer(
-            &mut kept,
+            &mut place.kept,
             cutter,
             &text,
             &mut pages,
             &mut nodes,
             &mut register,
         );
-        if stdout.write_all(&line.bytes[..line.len]).is_err() {
-            return;
-        }
+        let written = stdout.write_all(&line.bytes[..line.len]).is_ok();
+        place.unread = unread_after(place.unread, written);
     }
 }

@@ -1,6 +1,5 @@
 // The version keeper: the store, its lines, areas and records, and what every call asks of them; SIZE and RECENT. The other calls stand above, a crate each.
-// A call takes the store and its areas lent. No call has a `requires`. A call refuses first, by the rows of the table in their order, each with `?`; then it
-// acts.
+// A call takes the store and its areas lent. No call has a `requires`. A call refuses first, by the rows of the table in their order; then it acts.
 #![tactic(auto)]
 
 ghost use Rattle.std.specs.Prelude.{◌≡◌, pred, ◌*◌, [], ◌∷◌, eqb};
@@ -200,12 +199,31 @@ pub fn snapshot_refusal(s: &Store, g: Lengths, l: Line, v: Version) -> Result<()
     Ok(())
 }
 
+// Whether the rows with which a call on a version begins refuse it, and the version's number, which is there in any case.
+#[derive(Clone, Copy)]
+pub struct Opened {
+    pub refusal: Result<(), Refusal>,
+    pub number: u64,
+}
+
+// A version of a line, opened: its number, and whether a call on it is refused.
+pub fn open_version(s: &Store, g: Lengths, l: Line, v: Version) -> Opened
+    ensures refusal { number_in result.refusal ≡ snapshot_refusal s.now g l.0 v.0 }
+    ensures number { result.number ≡ number_on s.now l.0 v.0 }
+{
+    Opened {
+        refusal: snapshot_refusal(s, g, l, v),
+        number: number_on(s, l, v),
+    }
+}
+
 // What every call on a version begins with: refused by these rows, or the version's number.
-pub fn open_version(s: &Store, g: Lengths, l: Line, v: Version) -> Result<u64, Refusal>
+pub fn opened_number(s: &Store, g: Lengths, l: Line, v: Version) -> Result<u64, Refusal>
     ensures { numbered result ≡ opened_by s.now g l.0 v.0 }
 {
-    snapshot_refusal(s, g, l, v)?;
-    Ok(number_on(s, l, v))
+    let opened = open_version(s, g, l, v);
+    opened.refusal?;
+    Ok(opened.number)
 }
 
 // ---- SIZE
@@ -231,7 +249,7 @@ pub fn size(s: &Store, areas: &Areas, l: Line, v: Version) -> Result<u64, Refusa
     ensures { let a = lent areas.now in
         numbered result ≡ size_out s.now a l.0 v.0 }
 {
-    let c = open_version(s, lengths_in(areas), l, v)?;
+    let c = opened_number(s, lengths_in(areas), l, v)?;
     let q = version_part(areas.register, c);
     if q.name != c {
         return Err(Refusal::Damaged);

@@ -10,7 +10,7 @@ use Rattle.read.proofs.read.Goals as goal
 pub returns-in_err-range_refusal : goal.returns-in_err-range_refusal
 returns-in_err-range_refusal c =
     let a = c.args in
-    let o = sym (rw (c.lengths_in.ensures, c.in_ok-c.was) at c.open_version.ensures) in
+    let o = sym (rw (c.lengths_in.ensures, c.in_ok-c.was) at c.opened_number.ensures) in
     let q = sym (rw (c.bytes_there.ensures, c.in_err-range_refusal.was) at c.range_refusal.ensures) in
     let f = buffer_refused a.s.now (lent a.areas.now) a.l.0 a.v.0 a.offset.0 a.len a.buffer.now c.in_ok-c.c o _ q in
     let g = out_refused a.s.now (lent a.areas.now) a.l.0 a.v.0 a.offset.0 a.len a.buffer.now c.in_ok-c.c o _ q in
@@ -19,7 +19,7 @@ returns-in_err-range_refusal c =
 pub returns-then-len-eq0 : goal.returns-then-len-eq0
 returns-then-len-eq0 c =
     let a = c.args in
-    let o = sym (rw (c.lengths_in.ensures, c.in_ok-c.was) at c.open_version.ensures) in
+    let o = sym (rw (c.lengths_in.ensures, c.in_ok-c.was) at c.opened_number.ensures) in
     let q = sym (rw (c.bytes_there.ensures, c.in_ok-range_refusal.was) at c.range_refusal.ensures) in (
       sym (out_empty a.s.now (lent a.areas.now) a.l.0 a.v.0 a.offset.0 a.len a.buffer.now c.in_ok-c.c o _ q c.if-len-eq0.true),
       sym (buffer_empty a.s.now (lent a.areas.now) a.l.0 a.v.0 a.offset.0 a.len a.buffer.now c.in_ok-c.c o _ q c.if-len-eq0.true),
@@ -47,7 +47,7 @@ slice_bounds-copy_pages-end c =
 pub returns-in_err-number : goal.returns-in_err-number
 returns-in_err-number c =
     let a = c.args in
-    let o = sym (rw (c.lengths_in.ensures, c.in_ok-c.was) at c.open_version.ensures) in
+    let o = sym (rw (c.lengths_in.ensures, c.in_ok-c.was) at c.opened_number.ensures) in
     let q = sym (rw (c.bytes_there.ensures, c.in_ok-range_refusal.was) at c.range_refusal.ensures) in
     let w = sym (rw (c.touched-t.ensures, c.in_err-number.was) at c.first_number.ensures) in
     let g = out_lost a.s.now (lent a.areas.now) a.l.0 a.v.0 a.offset.0 a.len a.buffer.now c.in_ok-c.c o _ q _ w in
@@ -63,7 +63,7 @@ slice_bounds-copy_pages-end-2 c =
 pub copy_pages-requires : goal.copy_pages-requires
 copy_pages-requires c =
     let a = c.args in
-    let o = sym (rw (c.lengths_in.ensures, c.in_ok-c.was) at c.open_version.ensures) in
+    let o = sym (rw (c.lengths_in.ensures, c.in_ok-c.was) at c.opened_number.ensures) in
     let q = sym (rw (c.bytes_there.ensures, c.in_ok-range_refusal.was) at c.range_refusal.ensures) in
     let h = has_room a.s.now (lent a.areas.now) a.v.0 a.offset.0 a.len (length a.buffer.now) c.in_ok-c.c _ q in
     let r = ranged a.s.now (lent a.areas.now) a.v.0 a.offset.0 a.len (length a.buffer.now) c.in_ok-c.c _ q (omega arith) in
@@ -76,7 +76,7 @@ copy_pages-requires c =
 pub returns : goal.returns
 returns c =
     let a = c.args in
-    let o = sym (rw (c.lengths_in.ensures, c.in_ok-c.was) at c.open_version.ensures) in
+    let o = sym (rw (c.lengths_in.ensures, c.in_ok-c.was) at c.opened_number.ensures) in
     let q = sym (rw (c.bytes_there.ensures, c.in_ok-range_refusal.was) at c.range_refusal.ensures) in
     let h = has_room a.s.now (lent a.areas.now) a.v.0 a.offset.0 a.len (length a.buffer.now) c.in_ok-c.c _ q in
     let w = sym (rw (c.touched-t.ensures, c.in_ok-number.was) at c.first_number.ensures) in

@@ -4,4 +4,4 @@ use Rattle.steps.specs.Inputs.{within}
 use Rattle.steps.proofs.main.Given as goal
 
 abbrev pub invariant-loop-turn : goal.invariant-loop-turn
-invariant-loop-turn l = within l.unread (length l.block)
+invariant-loop-turn l = within l.place.unread (length l.block)

@@ -1,7 +1,7 @@
 -- What is to be taken stands in the block. Assumes nothing.
 use Rattle.std.proofs.Common.{length}
 use Rattle.steps.specs.Inputs.{within}
-use Rattle.steps.proofs.next_line.Given as goal
+use Rattle.steps.proofs.rest_of_line.Given as goal
 
 abbrev pub invariant-loop-turn : goal.invariant-loop-turn
 invariant-loop-turn l = within l.unread (length l.block)
